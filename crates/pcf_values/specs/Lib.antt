@@ -1,0 +1,6 @@
+pub mod Codes
+pub mod Named
+pub mod Terms
+pub mod Typing
+pub mod Values
+pub mod Views
