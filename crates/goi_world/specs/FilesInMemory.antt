@@ -1,0 +1,54 @@
+-- Files in memory, and what a read of them gives.
+--
+-- They are a list of names with bytes, of which nothing ever changes, beside the numbers of the calls that fail and two
+-- counts. A call on a name that no file has fails in any case: it counts as a call, but never as a fault.
+use Rattle.std.specs.Prelude.{ℕ, ◌-◌, min, Bool, ◌&&◌, ◌||◌, List, ◌++◌, length, map, take, drop, Option, is_none, is_some, if◌then◌else◌, Vec}
+use Rattle.std.specs.declared.alloc.Global.{Global}
+use Rattle.goi_world.specs.Outside.{bytes_of, count_after, listed}
+
+-- the files, how many bytes a read gives at most, which calls fail, and how many calls and faults there were
+pub record FilesInMemory : Type 0 where
+  pub files : List (List ℕ × List ℕ)
+  pub most : ℕ
+  pub fails : List ℕ
+  pub calls : ℕ
+  pub faults : ℕ
+
+-- names with bytes, seen without where the bytes lie in memory
+abbrev pub files_of : List (List ℕ × Vec ℕ Global) → List (List ℕ × List ℕ)
+files_of files = map (λ file. (file.0, file.1.items)) files
+
+-- the files before the first call
+abbrev pub new_files : List (List ℕ × List ℕ) → ℕ → List ℕ → FilesInMemory
+new_files files most fails = record { files = files; most = most; fails = fails; calls = 0; faults = 0 }
+
+-- the bytes of a file, where there is one of this name
+abbrev pub told_by : FilesInMemory → List ℕ → Option (List ℕ)
+told_by m name = bytes_of m.files name
+
+-- no file has this name
+abbrev pub lacked_by : FilesInMemory → List ℕ → Bool
+lacked_by m name = is_none (bytes_of m.files name)
+
+-- the next call is listed to fail
+abbrev pub next_fails : FilesInMemory → Bool
+next_fails m = listed m.fails (count_after m.calls)
+
+-- a read of this name fails
+abbrev pub read_fails : FilesInMemory → List ℕ → Bool
+read_fails m name = lacked_by m name || next_fails m
+
+-- how many bytes a read gives of these: as many as are left, as there is room for and as a read gives at most
+abbrev pub read_length : FilesInMemory → List ℕ → ℕ → List ℕ → ℕ
+read_length m bytes at buf = min (length bytes - at) (min (length buf) m.most)
+
+-- the buffer after a read of these bytes: what was read, and behind it what stood there before
+abbrev pub read_into : FilesInMemory → List ℕ → ℕ → List ℕ → List ℕ
+read_into m bytes at buf = let n = read_length m bytes at buf in take n (drop at bytes) ++ drop n buf
+
+-- the files after a read of this name: a call more, and a fault more exactly where it was listed and the name is there
+abbrev pub after_read : FilesInMemory → List ℕ → FilesInMemory
+after_read m name = record m {
+  calls = count_after m.calls;
+  faults = if next_fails m && is_some (bytes_of m.files name) then count_after m.faults else m.faults;
+}

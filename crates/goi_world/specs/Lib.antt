@@ -1,0 +1,4 @@
+pub mod FilesInMemory
+pub mod NamedFiles
+pub mod Outside
+pub mod SinkInMemory

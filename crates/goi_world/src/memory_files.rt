@@ -1,0 +1,153 @@
+// Files in memory, which fail where they are told to.
+ghost use Rattle.std.specs.Prelude.{◌≡◌, ◌↔◌, ◌-◌, ◌++◌, ◌≤◌, IsTrue, length, min, take, drop, IsErr, OnErr, IfOk, IfSome, MatchOption, None, Some};
+ghost use Rattle.goi_world.specs.Outside.{bytes_of, IsPiece};
+ghost use Rattle.goi_world.specs.FilesInMemory.{files_of, new_files, told_by, read_fails, read_length, read_into, after_read};
+
+use crate::{Failed, Files};
+use pcf_values::Ident;
+use std::marker::Model;
+
+/// Files in memory. Each read gives at most so many bytes, and the calls of some numbers fail.
+///
+/// A read of a name that no file has fails too. It is a call like any other, but never a fault.
+#[derive(Drop)]
+pub struct MemoryFiles {
+    files: Vec<(Ident, Vec<u8>)>,
+    most: u64,
+    fails: Vec<u64>,
+    calls: u64,
+    faults: u64,
+}
+
+impl Model for MemoryFiles {
+    ghost use Rattle.std.specs.Prelude.{◌≤◌};
+    ghost use Rattle.goi_world.specs.FilesInMemory.{FilesInMemory, files_of};
+
+    ghost Value = { FilesInMemory };
+
+    ghost view = { λ m. record { files = files_of m.files.items; most = m.most; fails = m.fails.items; calls = m.calls; faults = m.faults } };
+
+    ghost invariant = { λ m. 1 ≤ m.most };
+}
+
+impl MemoryFiles {
+    /// Files with these names and bytes. Of two with one name the first counts.
+    ///
+    /// A read gives at most `most` bytes, of which there is to be one at least, and the calls whose
+    /// numbers, from 1, stand in `fails` fail.
+    pub fn new(files: Vec<(Ident, Vec<u8>)>, most: u64, fails: Vec<u64>) -> MemoryFiles
+        requires { 1 ≤ most }
+        ensures { result ≡ new_files (files_of files.items) most fails.items }
+    {
+        MemoryFiles {
+            files,
+            most,
+            fails,
+            calls: 0,
+            faults: 0,
+        }
+    }
+}
+
+impl Files for MemoryFiles {
+    ghost use Rattle.goi_world.specs.Outside.{none_listed, untold};
+    ghost use Rattle.goi_world.specs.FilesInMemory.{told_by, lacked_by};
+
+    ghost told = { told_by };
+
+    ghost lacks = { lacked_by };
+
+    ghost faults = { λ m. m.faults };
+
+    ghost steady = { λ m. none_listed m.fails };
+
+    ghost lacked_untold = { λ m name. untold (told_by m name) };
+
+    fn read(&mut self, name: &str, at: u64, buf: &mut [u8]) -> Result<usize, Failed>
+        ensures after { self.new ≡ after_read self.old name.now }
+        ensures fails { IsErr result ↔ IsTrue (read_fails self.old name.now) }
+        ensures gives { IfOk result (λ n. IfSome (told_by self.old name.now) (λ bytes.
+            (n ≡ read_length self.old bytes at buf.old) × (buf.new ≡ read_into self.old bytes at buf.old))) }
+        ensures untouched { OnErr result (buf.new ≡ buf.old) }
+        // What any files promise, where the clauses above don't show it by themselves.
+        ensures bytes { IfOk result (λ n. IfSome (told_by self.old name.now) (λ bytes. IsPiece bytes at n buf.new)) }
+        ensures later { self.old.faults ≤ self.new.faults }
+    {
+        self.calls = self.calls.saturating_add(1);
+        let Some(bytes) = find_file(&self.files, name) else {
+            return Err(Failed);
+        };
+        if self.fails.contains(&self.calls) {
+            self.faults = self.faults.saturating_add(1);
+            return Err(Failed);
+        }
+        Ok(read_piece(bytes, at, self.most, buf))
+    }
+}
+
+fn find_file<'a>(files: &'a [(Ident, Vec<u8>)], name: &str) -> Option<&'a [u8]>
+    ensures { MatchOption result (bytes_of (files_of files.now) name.now ≡ None) (λ b. bytes_of (files_of files.now) name.now ≡ Some b.now) }
+{
+    let mut rest = files;
+    while let [file, after @ ..] = rest {
+        if file.0.as_str() == name {
+            return Some(&file.1);
+        }
+        rest = after;
+    }
+    None
+}
+
+fn read_piece(bytes: &[u8], at: u64, most: u64, buf: &mut [u8]) -> usize
+    requires { 1 ≤ most }
+    ensures bound { result ≤ length buf.new }
+    ensures count { result ≡ min (length bytes.now - at) (min (length buf.old) most) }
+    ensures piece { buf.new ≡ take result (drop at bytes.now) ++ drop result buf.old }
+{
+    let from = at.min(bytes.len() as u64) as usize;
+    let rest = &bytes[from..];
+    let count = rest.len().min(buf.len()).min(most as usize);
+    buf[..count].copy_from_slice(&rest[..count]);
+    count
+}
+
+#[cfg(test)]
+mod tests {
+    use super::*;
+    use std::test::Fail;
+
+    #[test]
+    fn reads_in_turn(rt: HostRuntime) -> Result<(), Fail> {
+        let mut list = Vec::new(rt.alloc());
+        for (name, bytes) in [("a", "hello"), ("b", ""), ("a", "other")] {
+            let bytes = Vec::from_slice(rt.alloc(), bytes.as_bytes())?;
+            list.push((Ident::from_text(rt.alloc(), name)?, bytes))?;
+        }
+        let mut files = MemoryFiles::new(list, 3, vec![in rt.alloc(); 2, 5]?);
+        // The name, the offset, the room for bytes, what is read, and the faults so far.
+        let rows = [
+            ("a", 0, 8, Some("hel"), 0),
+            ("a", 0, 8, None, 1),
+            ("a", 3, 8, Some("lo"), 1),
+            ("c", 0, 8, None, 1),
+            ("c", 0, 8, None, 1),
+            ("a", 5, 8, Some(""), 1),
+            ("a", u64::MAX, 8, Some(""), 1),
+            ("b", 0, 8, Some(""), 1),
+            ("a", 1, 2, Some("el"), 1),
+            ("a", 1, 0, Some(""), 1),
+        ];
+        for (name, at, room, want, faults) in rows {
+            let mut buffer = [0u8; 8];
+            let count = files.read(name, at, &mut buffer[..room.min(8)]).ok();
+            let got = count.and_then(|n| buffer.get(..n));
+            assert_eq!(rt;
+                got,
+                want.map(|text: &str| text.as_bytes()),
+                "{name} at {at}"
+            );
+            assert_eq!(rt; files.faults, faults, "{name} at {at}");
+        }
+        Ok(())
+    }
+}
