@@ -1,0 +1,4 @@
+pub mod Derivations
+pub mod Laws
+pub mod Meaning
+pub mod Substitution
