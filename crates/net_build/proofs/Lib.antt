@@ -1,0 +1,10 @@
+mod Bounds
+mod Built
+mod Count
+mod Ending
+mod Growing
+mod Indexing
+mod Joining
+mod Merging
+mod Placing
+mod Spreading

@@ -1,0 +1,361 @@
+-- A term whose parts are placed one after another is placed as the definition says.
+use Rattle.std.proofs.Common.{◌≡◌, ℕ, zero, suc, ◌+◌, ◌-◌, ◌⊎◌, ◌<◌, ◌≤◌, ◌^◌, List, [], ◌∷◌, ◌++◌, length, map, reverse, get_or, Option, Some, None, refl, sym, ap, ◌∙◌, subst, inl, inr, arith}
+use Rattle.std.specs.Prelude.{slice_get, nat_eq, nat_lt, if◌then◌else◌}
+use Rattle.std.proofs.lemmas.Bool.{cases_lt, lt-ltb, le-ltb, eq-eqb, ne_eqb}
+use Rattle.std.proofs.lemmas.List.{append_assoc, append-nil, length-append, length-map, length-reverse, reverse-append, get_or-reverse}
+use Rattle.pcf_values.specs.declared.ty.Ty.{Ty}
+use Rattle.pcf_values.specs.Terms.{TyTree, nat, arrow, TermTree, var, ifz, lam, fix, app}
+use Rattle.pcf_values.specs.Views.{ty_of}
+use Rattle.net_build.specs.declared.node.Node.{Node}
+use Rattle.net_build.specs.declared.node.Node.TheVariants.{Ifz, Lam, App, BoxNode, FixBox, Der}
+use Rattle.net_build.specs.declared.parts.Parts.{Parts}
+use Rattle.net_build.specs.declared.parts.Loose.{Loose}
+use Rattle.net_build.specs.declared.parts.Placed.{Placed}
+use Rattle.net_build.specs.declared.double.Double.{Double}
+use Rattle.net_build.specs.Nets.{WireTree, value_wire, bang_wire, var_wire}
+use Rattle.net_build.specs.NetOf.{Bundle, Part, part, contract, doors, bound, bound_wire, domain, codomain, none_free, one_free, type_or_nat}
+use Rattle.net_build.specs.Views.{wire_of}
+use Rattle.net_build.specs.Building.{context_of, spread, Falling, Grows, Spreads, Gives, Builds, BuildsBody, frees, body_frees, part_at, second_at, third_at, body_at, double_node, double_type, double_tail, double_here, double_at, double_of, ifz_tail, ifz_here, ifz_at, lam_tail, lam_here, lam_at, fix_tail, fix_here, fix_at, app_tail, app_here, app_at, one_at}
+use Rattle.net_build.proofs.Growing.{grows_then, grows_length}
+use Rattle.net_build.proofs.Ending.{before, after}
+use Rattle.net_build.proofs.Spreading.{context_length, spread_none}
+use Rattle.net_build.proofs.Merging.{spread_at, spread_under, falling_more}
+
+-- the same term, built from where a part ends
+pub moved : (s0 s1 : Parts) (p : Part) (d : ℕ) (t : TermTree) → Grows s0 s1 p.wires p.nodes → part_at s1 d t ≡ second_at s0 d p t
+moved s0 s1 p d t g = let n = grows_length s0 s1 p.wires p.nodes g in λ k. part (n k) d (context_of (g.context k)) t
+
+pub moved_twice : (s0 s1 s2 : Parts) (p q : Part) (d : ℕ) (t : TermTree) → Grows s0 s1 p.wires p.nodes → Grows s1 s2 q.wires q.nodes → part_at s2 d t ≡ third_at s0 d p q t
+moved_twice s0 s1 s2 p q d t g h =
+    let n : length s2.wires.items ≡ length s0.wires.items + length p.wires + length q.wires = grows_length s1 s2 q.wires q.nodes h ∙ ap (λ m. m + length q.wires) (grows_length s0 s1 p.wires p.nodes g) in
+    let c = h.context ∙ g.context in
+    λ k. part (n k) d (context_of (c k)) t
+
+-- what a placed term leaves loose is what its part does, from any state with that context
+free_at : (s s' : Parts) (p : Part) (r : Placed) → Gives (length s.context.items) p r → s'.context.items ≡ s.context.items → frees s' r ≡ p.free
+free_at s s' p r g e = ap (λ c. spread (length c) (reverse r.free.items)) e ∙ g.free.spreads
+
+module _ (form : Double) (s0 s1 : Parts) (d : ℕ) (a b : TermTree) (r1 : Placed) (h : Builds s0 s1 (part_at s0 d a) r1) where
+  double_second : part_at s1 d b ≡ second_at s0 d (part_at s0 d a) b
+  double_second = moved s0 s1 (part_at s0 d a) d b h.grows
+
+  -- room for the whole is room for the right operand
+  pub double_room : (n m : ℕ) → m ≤ n + length (part_at s0 d a).wires → n + length (double_of form s0 d a b).wires < 2 ^ 32 → m + length (part_at s1 d b).wires < 2 ^ 32
+  double_room n m l k =
+      let p = part_at s0 d a in
+      let q = second_at s0 d p b in
+      let e = ap (λ q. length q.wires) double_second in
+      let c = double_tail (double_node form) (double_type form p.type q.type) (length s0.wires.items + length p.wires + length q.wires) d (context_of s0.context.items) p.out q.out p.free q.free in
+      omega (arith, l, k, e, length-append p.wires (q.wires ++ c.wires), length-append q.wires c.wires)
+
+  module _ (s2 : Parts) (r2 : Placed) (i : Builds s1 s2 (part_at s1 d b) r2) where
+    double_i : Builds s1 s2 (second_at s0 d (part_at s0 d a) b) r2
+    double_i = subst (λ q. Builds s1 s2 q r2) double_second i
+
+    double_path : double_here form s2 d r1 r2 ≡ (let p = part_at s0 d a in let q = second_at s0 d p b in double_tail (double_node form) (double_type form p.type q.type) (length s0.wires.items + length p.wires + length q.wires) d (context_of s0.context.items) p.out q.out p.free q.free)
+    double_path =
+        let p = part_at s0 d a in
+        let q = second_at s0 d p b in
+        let n : length s2.wires.items ≡ length s0.wires.items + length p.wires + length q.wires = grows_length s1 s2 q.wires q.nodes double_i.grows ∙ ap (λ m. m + length q.wires) (grows_length s0 s1 p.wires p.nodes h.grows) in
+        let c = double_i.grows.context ∙ h.grows.context in
+        let f = free_at s0 s2 p r1 h.gives c in
+        let f' = free_at s1 s2 q r2 double_i.gives double_i.grows.context in
+        λ k. double_tail (double_node form) (double_type form (h.gives.type k) (double_i.gives.type k)) (n k) d (context_of (c k)) (h.gives.out k) (double_i.gives.out k) (f k) (f' k)
+
+    pub double_close_room : length s0.wires.items + length (double_of form s0 d a b).wires < 2 ^ 32 → length s2.wires.items + length (double_here form s2 d r1 r2).wires < 2 ^ 32
+    double_close_room l =
+        let p = part_at s0 d a in
+        let q = second_at s0 d p b in
+        let c = double_tail (double_node form) (double_type form p.type q.type) (length s0.wires.items + length p.wires + length q.wires) d (context_of s0.context.items) p.out q.out p.free q.free in
+        let e : length (double_here form s2 d r1 r2).wires ≡ length c.wires = ap (λ q. length q.wires) double_path in
+        omega (arith, l, e, grows_length s0 s1 p.wires p.nodes h.grows, grows_length s1 s2 q.wires q.nodes double_i.grows, length-append p.wires (q.wires ++ c.wires), length-append q.wires c.wires)
+
+    pub double_builds : (s3 : Parts) (r : Placed) → Builds s2 s3 (double_here form s2 d r1 r2) r → Builds s0 s3 (double_of form s0 d a b) r
+    double_builds s3 r j =
+        let p = part_at s0 d a in
+        let q = second_at s0 d p b in
+        let c = double_tail (double_node form) (double_type form p.type q.type) (length s0.wires.items + length p.wires + length q.wires) d (context_of s0.context.items) p.out q.out p.free q.free in
+        let j' : Builds s2 s3 c r = subst (λ t. Builds s2 s3 t r) double_path j in
+        after s0 s1 s3 p.wires p.nodes (before q.wires q.nodes c) r h.grows (after s1 s2 s3 q.wires q.nodes c r double_i.grows j')
+
+module _ (s0 s1 : Parts) (d : ℕ) (a b c : TermTree) (r1 : Placed) (h : Builds s0 s1 (part_at s0 d a) r1) where
+  ifz_first : Part
+  ifz_first = part_at s0 d a
+
+  ifz_second : Part
+  ifz_second = second_at s0 d (part_at s0 d a) b
+
+  ifz_third : Part
+  ifz_third = third_at s0 d (part_at s0 d a) (second_at s0 d (part_at s0 d a) b) c
+
+  ifz_rest : Part
+  ifz_rest =
+      let p = part_at s0 d a in
+      let q = second_at s0 d p b in
+      let r = third_at s0 d p q c in
+      ifz_tail (length s0.wires.items + length p.wires + length q.wires + length r.wires) d (context_of s0.context.items) p.out q.out r.out p.free q.free r.free
+
+  pub ifz_second_room : (n m : ℕ) → m ≤ n + length (part_at s0 d a).wires → n + length (part_at s0 d (ifz a b c)).wires < 2 ^ 32 → m + length (part_at s1 d b).wires < 2 ^ 32
+  unfolding ifz_rest
+  ifz_second_room n m l k =
+      let p = part_at s0 d a in
+      let q = second_at s0 d p b in
+      let r = third_at s0 d p q c in
+      let e = ap (λ q. length q.wires) (moved s0 s1 p d b h.grows) in
+      omega (arith, l, k, e, length-append p.wires (q.wires ++ (r.wires ++ ifz_rest.wires)), length-append q.wires (r.wires ++ ifz_rest.wires), length-append r.wires ifz_rest.wires)
+
+  module _ (s2 : Parts) (r2 : Placed) (i : Builds s1 s2 (part_at s1 d b) r2) where
+    ifz_i : Builds s1 s2 (second_at s0 d (part_at s0 d a) b) r2
+    ifz_i = subst (λ q. Builds s1 s2 q r2) (moved s0 s1 (part_at s0 d a) d b h.grows) i
+
+    ifz_moved : part_at s2 d c ≡ third_at s0 d (part_at s0 d a) (second_at s0 d (part_at s0 d a) b) c
+    ifz_moved = moved_twice s0 s1 s2 (part_at s0 d a) (second_at s0 d (part_at s0 d a) b) d c h.grows ifz_i.grows
+
+    pub ifz_third_room : (n m : ℕ) → m ≤ n + length (part_at s0 d a).wires + length (part_at s1 d b).wires → n + length (part_at s0 d (ifz a b c)).wires < 2 ^ 32 → m + length (part_at s2 d c).wires < 2 ^ 32
+    unfolding ifz_rest
+    ifz_third_room n m l k =
+        let p = part_at s0 d a in
+        let q = second_at s0 d p b in
+        let r = third_at s0 d p q c in
+        let e = ap (λ q. length q.wires) (moved s0 s1 p d b h.grows) in
+        let e' = ap (λ q. length q.wires) ifz_moved in
+        omega (arith, l, k, e, e', length-append p.wires (q.wires ++ (r.wires ++ ifz_rest.wires)), length-append q.wires (r.wires ++ ifz_rest.wires), length-append r.wires ifz_rest.wires)
+
+    pub ifz_numbers : length s0.wires.items + length (part_at s0 d (ifz a b c)).wires < 2 ^ 32 → length s2.wires.items + length (part_at s2 d c).wires < 2 ^ 32
+    ifz_numbers k =
+        let p = part_at s0 d a in
+        let q = part_at s1 d b in
+        ifz_third_room (length s0.wires.items) (length s2.wires.items) (omega (arith, grows_length s0 s1 p.wires p.nodes h.grows, grows_length s1 s2 q.wires q.nodes i.grows)) k
+
+    pub ifz_depths : d + length (part_at s0 d (ifz a b c)).wires < 2 ^ 32 → d + length (part_at s2 d c).wires < 2 ^ 32
+    ifz_depths k = ifz_third_room d d (omega arith) k
+
+    module _ (s3 : Parts) (r3 : Placed) (j : Builds s2 s3 (part_at s2 d c) r3) where
+      ifz_j : Builds s2 s3 (third_at s0 d (part_at s0 d a) (second_at s0 d (part_at s0 d a) b) c) r3
+      ifz_j = subst (λ q. Builds s2 s3 q r3) ifz_moved j
+
+      ifz_next : length s3.wires.items ≡ length s0.wires.items + length ifz_first.wires + length ifz_second.wires + length ifz_third.wires
+      unfolding ifz_first ifz_second ifz_third
+      ifz_next =
+          let p = part_at s0 d a in
+          let q = second_at s0 d p b in
+          let r = third_at s0 d p q c in
+          grows_length s2 s3 r.wires r.nodes ifz_j.grows ∙ ap (λ m. m + length r.wires) (grows_length s1 s2 q.wires q.nodes ifz_i.grows ∙ ap (λ m. m + length q.wires) (grows_length s0 s1 p.wires p.nodes h.grows))
+
+      ifz_path : ifz_here s3 d r1 r2 r3 ≡ ifz_rest
+      unfolding ifz_rest ifz_first ifz_second ifz_third
+      ifz_path =
+          let p = part_at s0 d a in
+          let q = second_at s0 d p b in
+          let r = third_at s0 d p q c in
+          let e = ifz_j.grows.context ∙ (ifz_i.grows.context ∙ h.grows.context) in
+          let f = free_at s0 s3 p r1 h.gives e in
+          let f' = free_at s1 s3 q r2 ifz_i.gives (ifz_j.grows.context ∙ ifz_i.grows.context) in
+          let f'' = free_at s2 s3 r r3 ifz_j.gives ifz_j.grows.context in
+          λ k. ifz_tail (ifz_next k) d (context_of (e k)) (h.gives.out k) (ifz_i.gives.out k) (ifz_j.gives.out k) (f k) (f' k) (f'' k)
+
+      pub ifz_close_room : length s0.wires.items + length (part_at s0 d (ifz a b c)).wires < 2 ^ 32 → length s3.wires.items + length (ifz_here s3 d r1 r2 r3).wires < 2 ^ 32
+      unfolding ifz_rest ifz_first ifz_second ifz_third
+      ifz_close_room k =
+          let p = part_at s0 d a in
+          let q = second_at s0 d p b in
+          let r = third_at s0 d p q c in
+          let e : length (ifz_here s3 d r1 r2 r3).wires ≡ length ifz_rest.wires = ap (λ q. length q.wires) ifz_path in
+          omega (arith, k, e, ifz_next, length-append p.wires (q.wires ++ (r.wires ++ ifz_rest.wires)), length-append q.wires (r.wires ++ ifz_rest.wires), length-append r.wires ifz_rest.wires)
+
+      pub ifz_builds : (s4 : Parts) (x : Placed) → Builds s3 s4 (ifz_here s3 d r1 r2 r3) x → Builds s0 s4 (part_at s0 d (ifz a b c)) x
+      unfolding ifz_rest
+      ifz_builds s4 x k =
+          let p = part_at s0 d a in
+          let q = second_at s0 d p b in
+          let r = third_at s0 d p q c in
+          let k' : Builds s3 s4 ifz_rest x = subst (λ t. Builds s3 s4 t x) ifz_path k in
+          after s0 s1 s4 p.wires p.nodes (before q.wires q.nodes (before r.wires r.nodes ifz_rest)) x h.grows
+          (after s1 s2 s4 q.wires q.nodes (before r.wires r.nodes ifz_rest) x ifz_i.grows (after s2 s3 s4 r.wires r.nodes ifz_rest x ifz_j.grows k'))
+
+module _ (s0 s1 : Parts) (d : ℕ) (a b : TermTree) (r1 : Placed) (h : Builds s0 s1 (part_at s0 d a) r1) where
+  app_rest : Part
+  app_rest =
+      let p = part_at s0 d a in
+      let q = second_at s0 (suc d) p b in
+      app_tail (length s0.wires.items + length p.wires + length q.wires) d (context_of s0.context.items) p.type p.out q.out p.free q.free
+
+  pub app_second_room : (n m : ℕ) → m ≤ n + length (part_at s0 d a).wires + 1 → n + length (part_at s0 d (app a b)).wires < 2 ^ 32 → m + length (part_at s1 (suc d) b).wires < 2 ^ 32
+  unfolding app_rest
+  app_second_room n m l k =
+      let p = part_at s0 d a in
+      let q = second_at s0 (suc d) p b in
+      let e = ap (λ q. length q.wires) (moved s0 s1 p (suc d) b h.grows) in
+      let v = doors (length s0.wires.items + length p.wires + length q.wires) d (context_of s0.context.items) q.free in
+      let o = length s0.wires.items + length p.wires + length q.wires + length v.wires in
+      let c = contract (suc o) d (context_of s0.context.items) p.free v.free in
+      omega (arith, l, k, e, length-append p.wires (q.wires ++ app_rest.wires), length-append q.wires app_rest.wires, length-append v.wires (bang_wire d (domain p.type) ∷ (c.wires ++ value_wire d (codomain p.type) ∷ [])))
+
+  module _ (s2 : Parts) (r2 : Placed) (i : Builds s1 s2 (part_at s1 (suc d) b) r2) where
+    app_i : Builds s1 s2 (second_at s0 (suc d) (part_at s0 d a) b) r2
+    app_i = subst (λ q. Builds s1 s2 q r2) (moved s0 s1 (part_at s0 d a) (suc d) b h.grows) i
+
+    app_path : app_here s2 d r1 r2 ≡ app_rest
+    unfolding app_rest
+    app_path =
+        let p = part_at s0 d a in
+        let q = second_at s0 (suc d) p b in
+        let n : length s2.wires.items ≡ length s0.wires.items + length p.wires + length q.wires = grows_length s1 s2 q.wires q.nodes app_i.grows ∙ ap (λ m. m + length q.wires) (grows_length s0 s1 p.wires p.nodes h.grows) in
+        let c = app_i.grows.context ∙ h.grows.context in
+        let f = free_at s0 s2 p r1 h.gives c in
+        let f' = free_at s1 s2 q r2 app_i.gives app_i.grows.context in
+        λ k. app_tail (n k) d (context_of (c k)) (h.gives.type k) (h.gives.out k) (app_i.gives.out k) (f k) (f' k)
+
+    pub app_close_room : length s0.wires.items + length (part_at s0 d (app a b)).wires < 2 ^ 32 → length s2.wires.items + length (app_here s2 d r1 r2).wires < 2 ^ 32
+    unfolding app_rest
+    app_close_room l =
+        let p = part_at s0 d a in
+        let q = second_at s0 (suc d) p b in
+        let e : length (app_here s2 d r1 r2).wires ≡ length app_rest.wires = ap (λ q. length q.wires) app_path in
+        omega (arith, l, e, grows_length s0 s1 p.wires p.nodes h.grows, grows_length s1 s2 q.wires q.nodes app_i.grows, length-append p.wires (q.wires ++ app_rest.wires), length-append q.wires app_rest.wires)
+
+    pub app_builds : (s3 : Parts) (r : Placed) → Builds s2 s3 (app_here s2 d r1 r2) r → Builds s0 s3 (part_at s0 d (app a b)) r
+    unfolding app_rest
+    app_builds s3 r j =
+        let p = part_at s0 d a in
+        let q = second_at s0 (suc d) p b in
+        let j' : Builds s2 s3 app_rest r = subst (λ t. Builds s2 s3 t r) app_path j in
+        after s0 s1 s3 p.wires p.nodes (before q.wires q.nodes app_rest) r h.grows (after s1 s2 s3 q.wires q.nodes app_rest r app_i.grows j')
+
+-- a body's loose wires, from the state after it
+body_free_at : (s s' : Parts) (p : Part) (r : Placed) → Gives (suc (length s.context.items)) p r → s'.context.items ≡ s.context.items → body_frees s' r ≡ p.free
+body_free_at s s' p r g e = ap (λ c. spread (suc (length c)) (reverse r.free.items)) e ∙ g.free.spreads
+
+module _ (s0 s1 : Parts) (d : ℕ) (t : TyTree) (m : TermTree) (r1 : Placed) (h : BuildsBody s0 s1 (body_at s0 d t m) r1) where
+  lam_path : lam_here s1 d t r1 ≡ (let p = body_at s0 d t m in lam_tail (length s0.wires.items + length p.wires) d t p.type p.out p.free)
+  lam_path =
+      let p = body_at s0 d t m in
+      let n = grows_length s0 s1 p.wires p.nodes h.grows in
+      let f = body_free_at s0 s1 p r1 h.gives h.grows.context in
+      λ k. lam_tail (n k) d t (h.gives.type k) (h.gives.out k) (f k)
+
+  pub lam_close_room : length s0.wires.items + length (part_at s0 d (lam t m)).wires < 2 ^ 32 → length s1.wires.items + length (lam_here s1 d t r1).wires < 2 ^ 32
+  lam_close_room l =
+      let p = body_at s0 d t m in
+      let c = lam_tail (length s0.wires.items + length p.wires) d t p.type p.out p.free in
+      let e : length (lam_here s1 d t r1).wires ≡ length c.wires = ap (λ q. length q.wires) lam_path in
+      omega (arith, l, e, grows_length s0 s1 p.wires p.nodes h.grows, length-append p.wires c.wires)
+
+  pub lam_builds : (s2 : Parts) (r : Placed) → Builds s1 s2 (lam_here s1 d t r1) r → Builds s0 s2 (part_at s0 d (lam t m)) r
+  lam_builds s2 r j =
+      let p = body_at s0 d t m in
+      let c = lam_tail (length s0.wires.items + length p.wires) d t p.type p.out p.free in
+      after s0 s1 s2 p.wires p.nodes c r h.grows (subst (λ t. Builds s1 s2 t r) lam_path j)
+
+module _ (s0 s1 : Parts) (d : ℕ) (t : TyTree) (m : TermTree) (r1 : Placed) (h : BuildsBody s0 s1 (body_at s0 (suc d) t m) r1) where
+  fix_path : fix_here s1 d t r1 ≡ (let p = body_at s0 (suc d) t m in fix_tail (length s0.wires.items + length p.wires) d (context_of s0.context.items) t p.out p.free)
+  fix_path =
+      let p = body_at s0 (suc d) t m in
+      let n = grows_length s0 s1 p.wires p.nodes h.grows in
+      let f = body_free_at s0 s1 p r1 h.gives h.grows.context in
+      λ k. fix_tail (n k) d (context_of (h.grows.context k)) t (h.gives.out k) (f k)
+
+  pub fix_close_room : length s0.wires.items + length (part_at s0 d (fix t m)).wires < 2 ^ 32 → length s1.wires.items + length (fix_here s1 d t r1).wires < 2 ^ 32
+  fix_close_room l =
+      let p = body_at s0 (suc d) t m in
+      let c = fix_tail (length s0.wires.items + length p.wires) d (context_of s0.context.items) t p.out p.free in
+      let e : length (fix_here s1 d t r1).wires ≡ length c.wires = ap (λ q. length q.wires) fix_path in
+      omega (arith, l, e, grows_length s0 s1 p.wires p.nodes h.grows, length-append p.wires c.wires)
+
+  pub fix_builds : (s2 : Parts) (r : Placed) → Builds s1 s2 (fix_here s1 d t r1) r → Builds s0 s2 (part_at s0 d (fix t m)) r
+  fix_builds s2 r j =
+      let p = body_at s0 (suc d) t m in
+      let c = fix_tail (length s0.wires.items + length p.wires) d (context_of s0.context.items) t p.out p.free in
+      after s0 s1 s2 p.wires p.nodes c r h.grows (subst (λ t. Builds s1 s2 t r) fix_path j)
+
+-- room for the whole is room for the body
+pub lam_body_room : (n d : ℕ) (s : Parts) (t : TyTree) (m : TermTree) → n + length (part_at s d (lam t m)).wires < 2 ^ 32 → n + length (body_at s d t m).wires < 2 ^ 32
+lam_body_room n d s t m l =
+    let p = body_at s d t m in
+    let c = lam_tail (length s.wires.items + length p.wires) d t p.type p.out p.free in
+    omega (arith, l, length-append p.wires c.wires)
+
+pub fix_body_room : (n d : ℕ) (s : Parts) (t : TyTree) (m : TermTree) → n + length (part_at s d (fix t m)).wires < 2 ^ 32 → n + 1 + length (body_at s (suc d) t m).wires < 2 ^ 32
+fix_body_room n d s t m l =
+    let p = body_at s (suc d) t m in
+    let c = fix_tail (length s.wires.items + length p.wires) d (context_of s.context.items) t p.out p.free in
+    let b = bound (length s.wires.items + length p.wires) (suc d) t p.free in
+    let e = doors (length s.wires.items + length p.wires + length b.wires) d (context_of s.context.items) b.free in
+    omega (arith, l, length-append p.wires c.wires, length-append b.wires (e.wires ++ value_wire d t ∷ []), length-append e.wires (value_wire d t ∷ []))
+
+-- the same for a depth that is one more
+pub app_second_room_at : (s0 s1 : Parts) (d d' : ℕ) (a b : TermTree) (r1 : Placed) → d' ≡ suc d → Builds s0 s1 (part_at s0 d a) r1 → (n m : ℕ) → m ≤ n + length (part_at s0 d a).wires + 1 →
+    n + length (part_at s0 d (app a b)).wires < 2 ^ 32 → m + length (part_at s1 d' b).wires < 2 ^ 32
+app_second_room_at s0 s1 d d' a b r1 e h n m l k = subst (λ d'. m + length (part_at s1 d' b).wires < 2 ^ 32) (sym e) (app_second_room s0 s1 d a b r1 h n m l k)
+
+pub app_close_room_at : (s0 s1 s2 : Parts) (d d' : ℕ) (a b : TermTree) (r1 r2 : Placed) → d' ≡ suc d → Builds s0 s1 (part_at s0 d a) r1 → Builds s1 s2 (part_at s1 d' b) r2 → length s0.wires.items + length (part_at s0 d (app a b)).wires < 2 ^ 32 →
+    length s2.wires.items + length (app_here s2 d r1 r2).wires < 2 ^ 32
+app_close_room_at s0 s1 s2 d d' a b r1 r2 e h i l = app_close_room s0 s1 d a b r1 h s2 r2 (subst (λ d'. Builds s1 s2 (part_at s1 d' b) r2) e i) l
+
+pub app_builds_at : (s0 s1 s2 s3 : Parts) (d d' : ℕ) (a b : TermTree) (r1 r2 r : Placed) → d' ≡ suc d → Builds s0 s1 (part_at s0 d a) r1 → Builds s1 s2 (part_at s1 d' b) r2 → Builds s2 s3 (app_here s2 d r1 r2) r →
+    Builds s0 s3 (part_at s0 d (app a b)) r
+app_builds_at s0 s1 s2 s3 d d' a b r1 r2 r e h i j = app_builds s0 s1 d a b r1 h s2 r2 (subst (λ d'. Builds s1 s2 (part_at s1 d' b) r2) e i) s3 r j
+
+pub fix_body_room_at : (n m d d' : ℕ) (s : Parts) (t : TyTree) (b : TermTree) → d' ≡ suc d → m ≤ n + 1 → n + length (part_at s d (fix t b)).wires < 2 ^ 32 → m + length (body_at s d' t b).wires < 2 ^ 32
+fix_body_room_at n m d d' s t b e l k = subst (λ d'. m + length (body_at s d' t b).wires < 2 ^ 32) (sym e) (let z = fix_body_room n d s t b k in omega arith)
+
+pub fix_close_room_at : (s0 s1 : Parts) (d d' : ℕ) (t : TyTree) (m : TermTree) (r1 : Placed) → d' ≡ suc d → BuildsBody s0 s1 (body_at s0 d' t m) r1 → length s0.wires.items + length (part_at s0 d (fix t m)).wires < 2 ^ 32 →
+    length s1.wires.items + length (fix_here s1 d t r1).wires < 2 ^ 32
+fix_close_room_at s0 s1 d d' t m r1 e h l = fix_close_room s0 s1 d t m r1 (subst (λ d'. BuildsBody s0 s1 (body_at s0 d' t m) r1) e h) l
+
+pub fix_builds_at : (s0 s1 s2 : Parts) (d d' : ℕ) (t : TyTree) (m : TermTree) (r1 r : Placed) → d' ≡ suc d → BuildsBody s0 s1 (body_at s0 d' t m) r1 → Builds s1 s2 (fix_here s1 d t r1) r → Builds s0 s2 (part_at s0 d (fix t m)) r
+fix_builds_at s0 s1 s2 d d' t m r1 r e h j = fix_builds s0 s1 d t m r1 (subst (λ d'. BuildsBody s0 s1 (body_at s0 d' t m) r1) e h) s2 r j
+
+-- a variable's loose wire
+one_spreads : (g : List TyTree) (k i w : ℕ) → length g ≡ k → Spreads k (one_free g i w) (one_at k i w)
+one_spreads [] zero i w h =
+    let e : one_at zero i w ≡ [] = rw (le-ltb i zero (omega arith)) refl in
+    subst (Spreads zero []) (sym e) (record { spreads = refl; falling = tt })
+one_spreads [] (suc k) i w h = absurd (omega arith)
+one_spreads (t ∷ g) zero i w h = absurd (omega arith)
+one_spreads (t ∷ g) (suc k) zero w h =
+    let u : Loose = record { binder = k; wire = w } in
+    let b : suc k - 1 - 0 ≡ k = omega arith in
+    let e : one_at (suc k) zero w ≡ u ∷ [] = rw (lt-ltb zero (suc k) (omega arith), b) refl in
+    subst (Spreads (suc k) (Some w ∷ none_free g)) (sym e) (record { spreads = spread_at k u [] refl ∙ ap (λ f. Some w ∷ f) (spread_none k g (omega arith)); falling = (omega arith, tt) })
+one_spreads (t ∷ g) (suc k) (suc i) w h = go (cases_lt i k) (one_spreads g k i w (omega arith))
+  where
+    go : (i < k) ⊎ (k ≤ i) → Spreads k (one_free g i w) (one_at k i w) → Spreads (suc k) (None ∷ one_free g i w) (one_at (suc k) (suc i) w)
+    go (inl l) s =
+        let u : Loose = record { binder = k - 1 - i; wire = w } in
+        let e : one_at k i w ≡ u ∷ [] = rw (lt-ltb i k l) refl in
+        let b : suc k - 1 - suc i ≡ k - 1 - i = omega arith in
+        let e' : one_at (suc k) (suc i) w ≡ u ∷ [] = rw (lt-ltb (suc i) (suc k) (omega arith), b) refl in
+        let s' = subst (Spreads k (one_free g i w)) e s in
+        subst (Spreads (suc k) (None ∷ one_free g i w)) (sym e') (record { spreads = spread_under k (u ∷ []) s'.falling ∙ ap (λ f. None ∷ f) s'.spreads; falling = falling_more k (u ∷ []) s'.falling })
+    go (inr l) s =
+        let e : one_at k i w ≡ [] = rw (le-ltb i k l) refl in
+        let e' : one_at (suc k) (suc i) w ≡ [] = rw (le-ltb (suc i) (suc k) (omega arith)) refl in
+        let s' = subst (Spreads k (one_free g i w)) e s in
+        subst (Spreads (suc k) (None ∷ one_free g i w)) (sym e') (record { spreads = ap (λ f. None ∷ f) s'.spreads; falling = tt })
+
+pub node_grows : (old new : Parts) (n : Node) → new.wires.items ≡ old.wires.items → new.nodes.items ≡ old.nodes.items ++ n ∷ [] → new.context.items ≡ old.context.items → Grows old new [] (n ∷ [])
+node_grows old new n ew en ec = record { wires = ap (map wire_of) ew ∙ sym (append-nil (map wire_of old.wires.items)); nodes = en; context = ec }
+
+pub variable_builds : (old mid new : Parts) (d i x : ℕ) (r : Placed) → Grows old mid (value_wire d (ty_of r.ty) ∷ var_wire d (ty_of r.ty) ∷ []) [] → r.out ≡ length old.wires.items → ty_of r.ty ≡ type_or_nat (slice_get (context_of old.context.items) i) →
+    x ≡ suc (length old.wires.items) → Grows mid new [] (Der r.out x ∷ []) → r.free.items ≡ one_at (length old.context.items) i x → Builds old new (part_at old d (var i)) r
+variable_builds old mid new d i x r g eo et ex h ef =
+    let n = length old.wires.items in
+    let t = type_or_nat (slice_get (context_of old.context.items) i) in
+    let g' : Grows old mid (value_wire d t ∷ var_wire d t ∷ []) [] = subst (λ t. Grows old mid (value_wire d t ∷ var_wire d t ∷ []) []) et g in
+    let en : Der r.out x ≡ Der n (suc n) = λ k. Der (eo k) (ex k) in
+    let h' : Grows mid new [] (Der n (suc n) ∷ []) = subst (λ n. Grows mid new [] (n ∷ [])) en h in
+    let f : r.free.items ≡ one_at (length old.context.items) i (suc n) = ef ∙ ap (one_at (length old.context.items) i) ex in
+    record {
+      grows = grows_then old mid new (value_wire d t ∷ var_wire d t ∷ []) [] [] (Der n (suc n) ∷ []) g' h';
+      gives = record { out = eo; type = et; free = subst (Spreads (length old.context.items) (one_free (context_of old.context.items) i (suc n))) (sym f) (one_spreads (context_of old.context.items) (length old.context.items) i (suc n) (context_length old.context.items)) };
+    }
+
+-- one binder more
+pub context_push : (c : List Ty) (a : Ty) → context_of (c ++ a ∷ []) ≡ ty_of a ∷ context_of c
+context_push c a = ap (map ty_of) (reverse-append c (a ∷ []))
+
+pub pushed : (s s' : Parts) (d : ℕ) (a : Ty) (t : TyTree) (m : TermTree) → s'.wires ≡ s.wires → s'.context.items ≡ s.context.items ++ a ∷ [] → ty_of a ≡ t → part_at s' d m ≡ body_at s d t m
+pushed s s' d a t m ew ec et =
+    let c : context_of s'.context.items ≡ t ∷ context_of s.context.items = ap context_of ec ∙ context_push s.context.items a ∙ ap (λ t. t ∷ context_of s.context.items) et in
+    λ k. part (length (ew k).items) d (c k) m

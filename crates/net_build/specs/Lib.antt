@@ -1,0 +1,10 @@
+pub mod Building
+pub mod Codes
+pub mod Index
+pub mod Kept
+pub mod Laws
+pub mod NetOf
+pub mod Nets
+pub mod Sides
+pub mod Sound
+pub mod Views

@@ -1,0 +1,243 @@
+//! The last wires and nodes of each form of term, once its parts are placed.
+
+ghost use Rattle.std.specs.Prelude.{◌≡◌, ◌<◌, ◌+◌, ◌-◌, ◌^◌, ◌∷◌, [], length, suc, reverse, slice_get, IfOk};
+ghost use Rattle.pcf_values.specs.Terms.{arrow};
+ghost use Rattle.pcf_values.specs.Views.{ty_of};
+ghost use Rattle.net_build.specs.NetOf.{domain, codomain};
+ghost use Rattle.net_build.specs.Building.{Binds, Builds, Bundles, Falling, Finishes, app_here, box_here, box_wire, double_here, fix_here, ifz_here, lam_here, uses_first};
+
+use crate::double::Double;
+use crate::joins::{contract, doors, pop_last};
+use crate::parts::{Loose, Parts, Placed};
+use crate::{Node, Wire, WireKind};
+use pcf_values::Ty;
+use std::alloc::{AllocError, Global};
+
+/// Adds the last value wire of a term, and its node.
+pub(crate) fn finish(
+    alloc: Global,
+    parts: &mut Parts,
+    depth: u32,
+    ty: Ty,
+    node: Node,
+    free: Vec<Loose>,
+) -> Result<Placed, AllocError>
+    requires { length parts.old.wires.items < 2 ^ 32 }
+    ensures { IfOk result (λ r. Finishes parts.old parts.new depth (ty_of ty) node free.items r) }
+{
+    let out = parts.next();
+    let kept = ty.copy(alloc)?;
+    let wire = Wire {
+        kind: WireKind::Value,
+        depth,
+        ty: kept,
+    };
+    parts.add(wire, node)?;
+    Ok(Placed { out, ty, free })
+}
+
+/// After both operands: the contractions of their variables, and the node.
+pub(crate) fn close_double(
+    alloc: Global,
+    parts: &mut Parts,
+    depth: u32,
+    form: Double,
+    left: Placed,
+    right: Placed,
+) -> Result<Placed, AllocError>
+    requires lefts { Falling (length parts.old.context.items) (reverse left.free.items) }
+    requires rights { Falling (length parts.old.context.items) (reverse right.free.items) }
+    requires room { length parts.old.wires.items + length (double_here form parts.old depth left right).wires < 2 ^ 32 }
+    ensures { IfOk result (λ r. Builds parts.old parts.new (double_here form parts.old depth left right) r) }
+{
+    let free = contract(alloc, parts, depth, left.free, right.free)?;
+    let ty = form.ty(alloc, left.ty, right.ty)?;
+    let node = form.node(left.out, right.out, parts.next());
+    finish(alloc, parts, depth, ty, node, free)
+}
+
+/// After condition, then and else: the branches are contracted first, and then the condition with them.
+pub(crate) fn close_ifz(
+    alloc: Global,
+    parts: &mut Parts,
+    depth: u32,
+    test: Placed,
+    then: Placed,
+    otherwise: Placed,
+) -> Result<Placed, AllocError>
+    requires tests { Falling (length parts.old.context.items) (reverse test.free.items) }
+    requires thens { Falling (length parts.old.context.items) (reverse then.free.items) }
+    requires elses { Falling (length parts.old.context.items) (reverse otherwise.free.items) }
+    requires room { length parts.old.wires.items + length (ifz_here parts.old depth test then otherwise).wires < 2 ^ 32 }
+    ensures { IfOk result (λ r. Builds parts.old parts.new (ifz_here parts.old depth test then otherwise) r) }
+{
+    let branches = contract(alloc, parts, depth, then.free, otherwise.free)?;
+    let free = contract(alloc, parts, depth, test.free, branches)?;
+    let node = Node::Ifz {
+        c: test.out,
+        p: then.out,
+        q: otherwise.out,
+        w: parts.next(),
+    };
+    finish(alloc, parts, depth, Ty::Nat, node, free)
+}
+
+/// After the body of a `fun`.
+pub(crate) fn close_fun(
+    alloc: Global,
+    parts: &mut Parts,
+    depth: u32,
+    ty: &Ty,
+    body: Placed,
+) -> Result<Placed, AllocError>
+    requires falling { Falling (suc (length parts.old.context.items)) (reverse body.free.items) }
+    requires room { length parts.old.wires.items + length (lam_here parts.old depth (ty_of ty.now) body).wires < 2 ^ 32 }
+    ensures { IfOk result (λ r. Builds parts.old parts.new (lam_here parts.old depth (ty_of ty.now) body) r) }
+{
+    let mut free = body.free;
+    let x = bind(alloc, parts, depth, ty, &mut free)?;
+    let ty = arrow_of(alloc, ty, body.ty)?;
+    let node = Node::Lam {
+        b: body.out,
+        x,
+        w: parts.next(),
+    };
+    finish(alloc, parts, depth, ty, node, free)
+}
+
+/// After the body of a `fix`, which stands one depth further in: its other variables leave by doors.
+pub(crate) fn close_fix(
+    alloc: Global,
+    parts: &mut Parts,
+    depth: u32,
+    ty: &Ty,
+    body: Placed,
+) -> Result<Placed, AllocError>
+    requires falling { Falling (suc (length parts.old.context.items)) (reverse body.free.items) }
+    requires deep { depth < 2 ^ 32 - 1 }
+    requires room { length parts.old.wires.items + length (fix_here parts.old depth (ty_of ty.now) body).wires < 2 ^ 32 }
+    ensures { IfOk result (λ r. Builds parts.old parts.new (fix_here parts.old depth (ty_of ty.now) body) r) }
+{
+    let mut free = body.free;
+    let x = bind(alloc, parts, depth + 1, ty, &mut free)?;
+    let free = doors(alloc, parts, depth, free)?;
+    let node = Node::FixBox {
+        b: body.out,
+        x,
+        w: parts.next(),
+    };
+    finish(alloc, parts, depth, ty.copy(alloc)?, node, free)
+}
+
+/// After the function and its argument, which stands one depth further in.
+pub(crate) fn close_app(
+    alloc: Global,
+    parts: &mut Parts,
+    depth: u32,
+    function: Placed,
+    argument: Placed,
+) -> Result<Placed, AllocError>
+    requires functions { Falling (length parts.old.context.items) (reverse function.free.items) }
+    requires arguments { Falling (length parts.old.context.items) (reverse argument.free.items) }
+    requires room { length parts.old.wires.items + length (app_here parts.old depth function argument).wires < 2 ^ 32 }
+    ensures { IfOk result (λ r. Builds parts.old parts.new (app_here parts.old depth function argument) r) }
+{
+    let (from, to) = ends(function.ty);
+    let boxed = close_box(alloc, parts, depth, from, argument)?;
+    let free = contract(alloc, parts, depth, function.free, boxed.free)?;
+    let node = Node::App {
+        f: function.out,
+        a: boxed.out,
+        w: parts.next(),
+    };
+    finish(alloc, parts, depth, to, node, free)
+}
+
+/// What an argument is, once it is boxed: its bang wire, and the loose wires outside.
+#[derive(Drop)]
+struct Boxed {
+    out: u32,
+    free: Vec<Loose>,
+}
+
+/// Doors for the argument's variables, and the box on its value wire.
+fn close_box(
+    alloc: Global,
+    parts: &mut Parts,
+    depth: u32,
+    ty: Ty,
+    argument: Placed,
+) -> Result<Boxed, AllocError>
+    requires falling { Falling (length parts.old.context.items) (reverse argument.free.items) }
+    requires room { length parts.old.wires.items + length (box_here parts.old depth (ty_of ty) argument).wires < 2 ^ 32 }
+    ensures bundle { IfOk result (λ b. Bundles parts.old parts.new (box_here parts.old depth (ty_of ty) argument) b.free.items) }
+    ensures wire { IfOk result (λ b. b.out ≡ box_wire parts.old depth argument) }
+{
+    let free = doors(alloc, parts, depth, argument.free)?;
+    let out = parts.next();
+    let wire = Wire {
+        kind: WireKind::Bang,
+        depth,
+        ty,
+    };
+    let node = Node::BoxNode {
+        i: argument.out,
+        o: out,
+    };
+    parts.add(wire, node)?;
+    Ok(Boxed { out, free })
+}
+
+/// The binder's variable wire, off the body's list where the body uses it, and else of a Weak. The context is that outside.
+fn bind(
+    alloc: Global,
+    parts: &mut Parts,
+    depth: u32,
+    ty: &Ty,
+    free: &mut Vec<Loose>,
+) -> Result<u32, AllocError>
+    requires falling { Falling (suc (length parts.old.context.items)) (reverse free.old.items) }
+    requires room { length parts.old.wires.items < 2 ^ 32 }
+    ensures { IfOk result (λ x. Binds parts.old parts.new depth (ty_of ty.now) free.old.items free.new.items x) }
+{
+    if uses(free, parts.context.len()) {
+        return Ok(pop_last(free).wire);
+    }
+    let x = parts.next();
+    let wire = Wire {
+        kind: WireKind::Variable,
+        depth,
+        ty: ty.copy(alloc)?,
+    };
+    parts.add(wire, Node::Weak { x })?;
+    Ok(x)
+}
+
+/// Whether the innermost loose wire is of this binder.
+fn uses(free: &Vec<Loose>, binder: usize) -> bool
+    ensures { result ≡ uses_first binder (reverse free.now.items) }
+{
+    match free.last() {
+        Some(loose) => loose.binder == binder,
+        None => false,
+    }
+}
+
+/// The type of functions from a type to another.
+fn arrow_of(alloc: Global, from: &Ty, to: Ty) -> Result<Ty, AllocError>
+    ensures { IfOk result (λ t. ty_of t ≡ arrow (ty_of from.now) (ty_of to)) }
+{
+    let from = Box::new(alloc, from.copy(alloc)?)?;
+    Ok(Ty::Arrow(from, Box::new(alloc, to)?))
+}
+
+/// What a function takes and gives. What is no function, which no typed term applies, takes and gives `nat`.
+fn ends(function: Ty) -> (Ty, Ty)
+    ensures from { ty_of result.0 ≡ domain (ty_of function) }
+    ensures to { ty_of result.1 ≡ codomain (ty_of function) }
+{
+    match function {
+        Ty::Arrow(from, to) => (Box::into_inner(from), Box::into_inner(to)),
+        _ => (Ty::Nat, Ty::Nat),
+    }
+}

@@ -1,0 +1,73 @@
+//! For each wire of a net the least node on a side of it, found in one pass over the nodes.
+
+ghost use Rattle.std.specs.Prelude.{◌≡◌, ◌<◌, ◌^◌, ◌∷◌, [], length, replicate, IfOk};
+ghost use Rattle.net_build.specs.Index.{Indexes, marked, wires_with};
+ghost use Rattle.net_build.specs.Sides.{present};
+
+use crate::Node;
+use std::alloc::{AllocError, Global};
+
+/// The side of a wire on which a node stands.
+#[derive(Clone, Copy)]
+pub(crate) enum Side {
+    Above,
+    Below,
+}
+
+/// For each of `wires` wires the least node on that side of it. What a node names past these wires is left out.
+pub(crate) fn index(
+    alloc: Global,
+    side: Side,
+    wires: usize,
+    nodes: &[Node],
+) -> Result<Vec<Option<u32>>, AllocError>
+    requires { length nodes.now < 2 ^ 32 }
+    ensures { IfOk result (λ v. Indexes (wires_with side) wires 0 nodes.now v.items) }
+{
+    let mut least = none_of(alloc, wires)?;
+    let mut n = nodes.len();
+    // From the last node to the first, so that the least one is written last.
+    while n > 0 {
+        n -= 1;
+        mark_each(&mut least, side, nodes[n], n as u32);
+    }
+    Ok(least)
+}
+
+fn none_of(alloc: Global, count: usize) -> Result<Vec<Option<u32>>, AllocError>
+    ensures { IfOk result (λ v. v.items ≡ replicate count None) }
+{
+    vec![in alloc; None; count]
+}
+
+fn mark_each(least: &mut Vec<Option<u32>>, side: Side, node: Node, n: u32)
+    ensures { least.new.items ≡ marked n (wires_with side node) least.old.items }
+{
+    let (first, second, third) = on_side(side, node);
+    mark(least, first, n);
+    mark(least, second, n);
+    mark(least, third, n);
+}
+
+fn on_side(side: Side, node: Node) -> (Option<u32>, Option<u32>, Option<u32>)
+    ensures { present (result.0 ∷ result.1 ∷ result.2 ∷ []) ≡ wires_with side node }
+{
+    match side {
+        Side::Above => {
+            let (first, second) = node.conclusions();
+            (first, second, None)
+        }
+        Side::Below => node.premises(),
+    }
+}
+
+fn mark(least: &mut Vec<Option<u32>>, wire: Option<u32>, n: u32)
+    ensures { least.new.items ≡ marked n (present (wire ∷ [])) least.old.items }
+{
+    if let Some(wire) = wire {
+        let wire = wire as usize;
+        if wire < least.len() {
+            least[wire] = Some(n);
+        }
+    }
+}

@@ -1,0 +1,13 @@
+//! What holds of the net of every term.
+
+ghost use Rattle.net_build.specs.Laws.{NetSize, BuiltSound};
+
+/// A term of size s and height h has a net of at most s * (2 h + 4) wires and as many nodes.
+pub fn law_net_size()
+    ensures { NetSize }
+{}
+
+/// The net of every closed term of type `nat` is sound.
+pub fn law_built_sound()
+    ensures { BuiltSound }
+{}

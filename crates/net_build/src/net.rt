@@ -1,0 +1,108 @@
+//! A net as its lists of wires and nodes, with the nodes on both sides of each wire.
+
+ghost use Rattle.std.specs.Prelude.{◌≡◌, ◌<◌, ◌^◌, ◌↔◌, map, length, slice_get, IfOk, IsTrue};
+ghost use Rattle.std.specs.Option.{option_map};
+ghost use Rattle.net_build.specs.Views.{wire_of};
+ghost use Rattle.net_build.specs.Sides.{node_above, node_below, number_of};
+ghost use Rattle.net_build.specs.Kept.{entry_at};
+
+use crate::index::{Side, index};
+use crate::{Node, Wire};
+use std::alloc::{AllocError, Global};
+use std::marker::Model;
+
+/// A net, which never changes: contracts see the list of its wires and the list of its nodes. Each list has fewer than 2^32 entries.
+#[derive(Drop)]
+pub struct Net {
+    wires: Vec<Wire>,
+    nodes: Vec<Node>,
+    above: Vec<Option<u32>>,
+    below: Vec<Option<u32>>,
+}
+
+impl Model for Net {
+    ghost use Rattle.std.specs.Prelude.{map};
+    ghost use Rattle.net_build.specs.Nets.{NetTree};
+
+    ghost Value = { NetTree };
+
+    ghost use Rattle.net_build.specs.Codes.{net_code};
+
+    ghost coded = { net_code };
+
+    ghost use Rattle.net_build.specs.Views.{wire_of};
+    ghost use Rattle.net_build.specs.Kept.{Kept};
+
+    ghost view = { λ n. record { wires = map wire_of n.wires.items; nodes = n.nodes.items } };
+
+    ghost invariant = { λ n. Kept n.wires.items n.nodes.items n.above.items n.below.items };
+}
+
+impl Net {
+    /// The net of these two lists, as they are: no node need name a wire of the list.
+    pub fn from_parts(alloc: Global, wires: Vec<Wire>, nodes: Vec<Node>) -> Result<Net, AllocError>
+        requires wires { length wires.items < 2 ^ 32 }
+        requires nodes { length nodes.items < 2 ^ 32 }
+        ensures { IfOk result (λ n. n ≡ record { wires = map wire_of wires.items; nodes = nodes.items }) }
+    {
+        let above = index(alloc, Side::Above, wires.len(), &nodes)?;
+        let below = index(alloc, Side::Below, wires.len(), &nodes)?;
+        Ok(Net {
+            wires,
+            nodes,
+            above,
+            below,
+        })
+    }
+
+    /// How many wires there are.
+    pub fn wire_count(&self) -> u32
+        ensures { result ≡ length self.now.wires }
+    {
+        self.wires.len() as u32
+    }
+
+    /// How many nodes there are.
+    pub fn node_count(&self) -> u32
+        ensures { result ≡ length self.now.nodes }
+    {
+        self.nodes.len() as u32
+    }
+
+    /// The wire of this number, or `None` past the list.
+    pub fn wire(&self, n: u32) -> Option<&Wire>
+        ensures { option_map (λ w. wire_of w.now) result ≡ slice_get self.now.wires n }
+    {
+        self.wires.get(n as usize)
+    }
+
+    /// The node of this number, or `None` past the list.
+    pub fn node(&self, n: u32) -> Option<Node>
+        ensures { result ≡ slice_get self.now.nodes n }
+    {
+        self.nodes.get(n as usize).copied()
+    }
+
+    /// The least node that stands above the wire: `None` where the number is past the list or no node stands there.
+    pub fn above(&self, wire: u32) -> Option<u32>
+        ensures { result ≡ number_of (node_above self.now wire) }
+    {
+        entry(&self.above, wire)
+    }
+
+    /// The least node that stands below the wire: `None` where the number is past the list or no node stands there.
+    pub fn below(&self, wire: u32) -> Option<u32>
+        ensures { result ≡ number_of (node_below self.now wire) }
+    {
+        entry(&self.below, wire)
+    }
+}
+
+fn entry(index: &[Option<u32>], wire: u32) -> Option<u32>
+    ensures { result ≡ entry_at index.now wire }
+{
+    match index.get(wire as usize) {
+        Some(n) => *n,
+        None => None,
+    }
+}

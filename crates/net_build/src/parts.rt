@@ -1,0 +1,51 @@
+//! What is built of a net so far.
+
+ghost use Rattle.std.specs.Prelude.{◌≡◌, ◌<◌, ◌^◌, ◌∷◌, [], length, OnOk};
+ghost use Rattle.net_build.specs.Views.{wire_of};
+ghost use Rattle.net_build.specs.Building.{Grows};
+
+use crate::{Node, Wire};
+use pcf_values::Ty;
+use std::alloc::AllocError;
+
+/// The wires and nodes so far, and the types of the binders around, the outermost first.
+#[derive(Drop)]
+pub(crate) struct Parts {
+    pub(crate) wires: Vec<Wire>,
+    pub(crate) nodes: Vec<Node>,
+    pub(crate) context: Vec<Ty>,
+}
+
+/// A variable wire that no node stands below yet, and its binder's place in the context.
+#[derive(Clone, Copy, Drop)]
+pub(crate) struct Loose {
+    pub(crate) binder: usize,
+    pub(crate) wire: u32,
+}
+
+/// What a term gives: its value wire, its type, and the loose wires of its free variables, the innermost binder last.
+#[derive(Drop)]
+pub(crate) struct Placed {
+    pub(crate) out: u32,
+    pub(crate) ty: Ty,
+    pub(crate) free: Vec<Loose>,
+}
+
+impl Parts {
+    /// The number of the next wire.
+    pub(crate) fn next(&self) -> u32
+        requires { length self.now.wires.items < 2 ^ 32 }
+        ensures { result ≡ length self.now.wires.items }
+    {
+        self.wires.len() as u32
+    }
+
+    /// A wire and a node at the ends of the lists.
+    pub(crate) fn add(&mut self, wire: Wire, node: Node) -> Result<(), AllocError>
+        ensures { OnOk result (Grows self.old self.new (wire_of wire ∷ []) (node ∷ [])) }
+    {
+        self.wires.push(wire)?;
+        self.nodes.push(node)?;
+        Ok(())
+    }
+}

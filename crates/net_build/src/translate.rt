@@ -1,0 +1,255 @@
+//! The net of a program, built in one pass over its term.
+//!
+//! The recursion goes over the term alone. Each form has a function of its own, so that no frame is large.
+
+ghost use Rattle.std.specs.Prelude.{◌≡◌, ◌<◌, ◌+◌, ◌-◌, ◌^◌, ◌∷◌, [], length, suc, slice_get, IfOk, OnOk};
+ghost use Rattle.pcf_values.specs.Terms.{nat, num, var, app, ifz, fix, lam};
+ghost use Rattle.pcf_values.specs.Views.{ty_of, term_of};
+ghost use Rattle.net_build.specs.Nets.{value_wire, var_wire};
+ghost use Rattle.net_build.specs.NetOf.{net_of, type_or_nat};
+ghost use Rattle.net_build.specs.Building.{Builds, BuildsBody, Grows, body_at, context_of, double_of, one_at, part_at, unary_at};
+
+use crate::closing::{close_app, close_double, close_fix, close_fun, close_ifz, finish};
+use crate::double::Double;
+use crate::parts::{Loose, Parts, Placed};
+use crate::unary::Unary;
+use crate::{Net, Node, Wire, WireKind};
+use pcf_values::{Term, Ty, Typed};
+use std::alloc::{AllocError, Global};
+
+/// The net of a program: exactly that of the definition, in time that is linear in the net's size but for the lists of free variables
+/// that are joined; each of these is as long as the binders around at most.
+pub fn build(alloc: Global, program: &Typed) -> Result<Net, AllocError>
+    requires ground { program.now.1 ≡ nat }
+    requires wires { length (net_of program.now.0).wires < 2 ^ 32 }
+    requires nodes { length (net_of program.now.0).nodes < 2 ^ 32 }
+    ensures { IfOk result (λ net. net ≡ net_of program.now.0) }
+{
+    let mut parts = Parts {
+        wires: Vec::new(alloc),
+        nodes: Vec::new(alloc),
+        context: Vec::new(alloc),
+    };
+    let root = place(alloc, &mut parts, 0, program.term())?;
+    parts.nodes.push(Node::Root { w: root.out })?;
+    Net::from_parts(alloc, parts.wires, parts.nodes)
+}
+
+/// Adds the wires and nodes of a term at a depth, and answers what it gives.
+#[cycle(place)]
+fn place(alloc: Global, parts: &mut Parts, depth: u32, term: &Term) -> Result<Placed, AllocError>
+    requires numbers { length parts.old.wires.items + length (part_at parts.old depth (term_of term.now)).wires < 2 ^ 32 }
+    requires depths { depth + length (part_at parts.old depth (term_of term.now)).wires < 2 ^ 32 }
+    ensures { IfOk result (λ r. Builds parts.old parts.new (part_at parts.old depth (term_of term.now)) r) }
+{
+    match term {
+        Term::Number(v) => place_number(alloc, parts, depth, *v),
+        Term::Var(i) => place_variable(alloc, parts, depth, *i),
+        Term::Succ(a) => place_unary(alloc, parts, depth, Unary::Succ, a),
+        Term::Pred(a) => place_unary(alloc, parts, depth, Unary::Pred, a),
+        Term::Plus(a, b) => place_double(alloc, parts, depth, Double::Plus, a, b),
+        Term::Minus(a, b) => place_double(alloc, parts, depth, Double::Minus, a, b),
+        Term::Times(a, b) => place_double(alloc, parts, depth, Double::Times, a, b),
+        Term::Ifz(test, then, otherwise) => place_ifz(alloc, parts, depth, test, then, otherwise),
+        Term::Fun(ty, body) => place_fun(alloc, parts, depth, ty, body),
+        Term::Fix(ty, body) => place_fix(alloc, parts, depth, ty, body),
+        Term::App(function, argument) => place_app(alloc, parts, depth, function, argument),
+        Term::Pair(a, b) => place_double(alloc, parts, depth, Double::Pair, a, b),
+        Term::Fst(a) => place_unary(alloc, parts, depth, Unary::Fst, a),
+        Term::Snd(a) => place_unary(alloc, parts, depth, Unary::Snd, a),
+    }
+}
+
+fn place_number(alloc: Global, parts: &mut Parts, depth: u32, v: u64) -> Result<Placed, AllocError>
+    requires { length parts.old.wires.items < 2 ^ 32 }
+    ensures { IfOk result (λ r. Builds parts.old parts.new (part_at parts.old depth (num v)) r) }
+{
+    let node = Node::Const { v, w: parts.next() };
+    finish(alloc, parts, depth, Ty::Nat, node, Vec::new(alloc))
+}
+
+fn place_variable(
+    alloc: Global,
+    parts: &mut Parts,
+    depth: u32,
+    i: u32,
+) -> Result<Placed, AllocError>
+    requires { length parts.old.wires.items < 2 ^ 32 - 1 }
+    ensures { IfOk result (λ r. Builds parts.old parts.new (part_at parts.old depth (var i)) r) }
+{
+    let ty = variable_type(alloc, &parts.context, i)?;
+    let w = parts.next();
+    add_uses(alloc, parts, depth, &ty)?;
+    let x = w + 1;
+    parts.nodes.push(Node::Der { w, x })?;
+    let free = one_loose(alloc, parts.context.len(), i, x)?;
+    Ok(Placed { out: w, ty, free })
+}
+
+/// The value wire of a variable and its variable wire.
+fn add_uses(alloc: Global, parts: &mut Parts, depth: u32, ty: &Ty) -> Result<(), AllocError>
+    ensures { OnOk result (Grows parts.old parts.new (value_wire depth (ty_of ty.now) ∷ var_wire depth (ty_of ty.now) ∷ []) []) }
+{
+    parts.wires.push(Wire {
+        kind: WireKind::Value,
+        depth,
+        ty: ty.copy(alloc)?,
+    })?;
+    parts.wires.push(Wire {
+        kind: WireKind::Variable,
+        depth,
+        ty: ty.copy(alloc)?,
+    })?;
+    Ok(())
+}
+
+/// The type of variable `i`. An index past the context, which no closed term has, is of type `nat`.
+fn variable_type(alloc: Global, context: &Vec<Ty>, i: u32) -> Result<Ty, AllocError>
+    ensures { IfOk result (λ t. ty_of t ≡ type_or_nat (slice_get (context_of context.now.items) i)) }
+{
+    let count = context.len();
+    let i = i as usize;
+    if i < count {
+        context[count - 1 - i].copy(alloc)
+    } else {
+        Ok(Ty::Nat)
+    }
+}
+
+/// The one loose wire of variable `i`, where there are so many binders.
+fn one_loose(alloc: Global, binders: usize, i: u32, wire: u32) -> Result<Vec<Loose>, AllocError>
+    ensures { IfOk result (λ v. v.items ≡ one_at binders i wire) }
+{
+    let mut free = Vec::new(alloc);
+    let i = i as usize;
+    if i < binders {
+        free.push(Loose {
+            binder: binders - 1 - i,
+            wire,
+        })?;
+    }
+    Ok(free)
+}
+
+#[cycle(place)]
+fn place_unary(
+    alloc: Global,
+    parts: &mut Parts,
+    depth: u32,
+    form: Unary,
+    operand: &Term,
+) -> Result<Placed, AllocError>
+    requires numbers { length parts.old.wires.items + suc (length (part_at parts.old depth (term_of operand.now)).wires) < 2 ^ 32 }
+    requires depths { depth + suc (length (part_at parts.old depth (term_of operand.now)).wires) < 2 ^ 32 }
+    ensures { IfOk result (λ r. Builds parts.old parts.new (unary_at form parts.old depth (part_at parts.old depth (term_of operand.now))) r) }
+{
+    let operand = place(alloc, parts, depth, operand)?;
+    let node = form.node(operand.out, parts.next());
+    let ty = form.ty(operand.ty);
+    finish(alloc, parts, depth, ty, node, operand.free)
+}
+
+#[cycle(place)]
+fn place_double(
+    alloc: Global,
+    parts: &mut Parts,
+    depth: u32,
+    form: Double,
+    left: &Term,
+    right: &Term,
+) -> Result<Placed, AllocError>
+    requires numbers { length parts.old.wires.items + length (double_of form parts.old depth (term_of left.now) (term_of right.now)).wires < 2 ^ 32 }
+    requires depths { depth + length (double_of form parts.old depth (term_of left.now) (term_of right.now)).wires < 2 ^ 32 }
+    ensures { IfOk result (λ r. Builds parts.old parts.new (double_of form parts.old depth (term_of left.now) (term_of right.now)) r) }
+{
+    let left = place(alloc, parts, depth, left)?;
+    let right = place(alloc, parts, depth, right)?;
+    close_double(alloc, parts, depth, form, left, right)
+}
+
+#[cycle(place)]
+fn place_ifz(
+    alloc: Global,
+    parts: &mut Parts,
+    depth: u32,
+    test: &Term,
+    then: &Term,
+    otherwise: &Term,
+) -> Result<Placed, AllocError>
+    requires numbers { length parts.old.wires.items + length (part_at parts.old depth (ifz (term_of test.now) (term_of then.now) (term_of otherwise.now))).wires < 2 ^ 32 }
+    requires depths { depth + length (part_at parts.old depth (ifz (term_of test.now) (term_of then.now) (term_of otherwise.now))).wires < 2 ^ 32 }
+    ensures { IfOk result (λ r. Builds parts.old parts.new (part_at parts.old depth (ifz (term_of test.now) (term_of then.now) (term_of otherwise.now))) r) }
+{
+    let test = place(alloc, parts, depth, test)?;
+    let then = place(alloc, parts, depth, then)?;
+    let otherwise = place(alloc, parts, depth, otherwise)?;
+    close_ifz(alloc, parts, depth, test, then, otherwise)
+}
+
+#[cycle(place)]
+fn place_fun(
+    alloc: Global,
+    parts: &mut Parts,
+    depth: u32,
+    ty: &Ty,
+    body: &Term,
+) -> Result<Placed, AllocError>
+    requires numbers { length parts.old.wires.items + length (part_at parts.old depth (lam (ty_of ty.now) (term_of body.now))).wires < 2 ^ 32 }
+    requires depths { depth + length (part_at parts.old depth (lam (ty_of ty.now) (term_of body.now))).wires < 2 ^ 32 }
+    ensures { IfOk result (λ r. Builds parts.old parts.new (part_at parts.old depth (lam (ty_of ty.now) (term_of body.now))) r) }
+{
+    let body = place_body(alloc, parts, depth, ty, body)?;
+    close_fun(alloc, parts, depth, ty, body)
+}
+
+#[cycle(place)]
+fn place_fix(
+    alloc: Global,
+    parts: &mut Parts,
+    depth: u32,
+    ty: &Ty,
+    body: &Term,
+) -> Result<Placed, AllocError>
+    requires numbers { length parts.old.wires.items + length (part_at parts.old depth (fix (ty_of ty.now) (term_of body.now))).wires < 2 ^ 32 }
+    requires depths { depth + length (part_at parts.old depth (fix (ty_of ty.now) (term_of body.now))).wires < 2 ^ 32 }
+    ensures { IfOk result (λ r. Builds parts.old parts.new (part_at parts.old depth (fix (ty_of ty.now) (term_of body.now))) r) }
+{
+    let body = place_body(alloc, parts, depth + 1, ty, body)?;
+    close_fix(alloc, parts, depth, ty, body)
+}
+
+#[cycle(place)]
+fn place_app(
+    alloc: Global,
+    parts: &mut Parts,
+    depth: u32,
+    function: &Term,
+    argument: &Term,
+) -> Result<Placed, AllocError>
+    requires numbers { length parts.old.wires.items + length (part_at parts.old depth (app (term_of function.now) (term_of argument.now))).wires < 2 ^ 32 }
+    requires depths { depth + length (part_at parts.old depth (app (term_of function.now) (term_of argument.now))).wires < 2 ^ 32 }
+    ensures { IfOk result (λ r. Builds parts.old parts.new (part_at parts.old depth (app (term_of function.now) (term_of argument.now))) r) }
+{
+    let function = place(alloc, parts, depth, function)?;
+    let argument = place(alloc, parts, depth + 1, argument)?;
+    close_app(alloc, parts, depth, function, argument)
+}
+
+/// Places a body in the context with its binder's type.
+#[cycle(place)]
+fn place_body(
+    alloc: Global,
+    parts: &mut Parts,
+    depth: u32,
+    ty: &Ty,
+    body: &Term,
+) -> Result<Placed, AllocError>
+    requires numbers { length parts.old.wires.items + length (body_at parts.old depth (ty_of ty.now) (term_of body.now)).wires < 2 ^ 32 }
+    requires depths { depth + length (body_at parts.old depth (ty_of ty.now) (term_of body.now)).wires < 2 ^ 32 }
+    ensures { IfOk result (λ r. BuildsBody parts.old parts.new (body_at parts.old depth (ty_of ty.now) (term_of body.now)) r) }
+{
+    parts.context.push(ty.copy(alloc)?)?;
+    let placed = place(alloc, parts, depth, body)?;
+    parts.context.pop();
+    Ok(placed)
+}

@@ -1,0 +1,41 @@
+//! The forms of terms with one operand.
+
+ghost use Rattle.std.specs.Prelude.{◌≡◌};
+ghost use Rattle.pcf_values.specs.Views.{ty_of};
+ghost use Rattle.net_build.specs.Building.{unary_node, unary_type};
+
+use crate::Node;
+use pcf_values::Ty;
+
+#[derive(Clone, Copy)]
+pub(crate) enum Unary {
+    Succ,
+    Pred,
+    Fst,
+    Snd,
+}
+
+impl Unary {
+    /// Its node, of the operand's wire and its own.
+    pub(crate) fn node(self, a: u32, w: u32) -> Node
+        ensures { result ≡ unary_node self a w }
+    {
+        match self {
+            Unary::Succ => Node::Succ { a, w },
+            Unary::Pred => Node::Pred { a, w },
+            Unary::Fst => Node::Fst { a, w },
+            Unary::Snd => Node::Snd { a, w },
+        }
+    }
+
+    /// Its type, of the operand's. Of what is no pair a part has type `nat`: no typed term has one.
+    pub(crate) fn ty(self, operand: Ty) -> Ty
+        ensures { ty_of result ≡ unary_type self (ty_of operand) }
+    {
+        match (self, operand) {
+            (Unary::Fst, Ty::Product(left, _)) => Box::into_inner(left),
+            (Unary::Snd, Ty::Product(_, right)) => Box::into_inner(right),
+            _ => Ty::Nat,
+        }
+    }
+}
