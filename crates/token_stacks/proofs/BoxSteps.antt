@@ -1,0 +1,277 @@
+-- Each step on the words of a box stack is the step on its signatures.
+use Rattle.std.proofs.Common.{◌≡◌, ℕ, ◌+◌, ◌-◌, ◌<◌, ◌≤◌, List, [], ◌∷◌, ◌++◌, length, get_or, set, take, drop, refl, sym, ◌∙◌, ap, subst, arith, length-append, Option, Some, None, Bool, eq-eqb}
+use Rattle.std.proofs.lemmas.List.{append_assoc, append-nil}
+use Rattle.std.specs.Option.{IsSome}
+use Rattle.std.specs.Prelude.{◌==◌, ◌↔◌, IsTrue}
+use Rattle.std.proofs.lemmas.Bool.{eqb-true}
+use Rattle.token_stacks.specs.Signatures.{Sig, star, left_of, right_of, pair_of, again}
+use Rattle.token_stacks.specs.Words.{body, entry, box_words}
+use Rattle.token_stacks.specs.Reading.{boxes_of, boxes_of-words}
+use Rattle.token_stacks.specs.Parts.{Swaps}
+use Rattle.token_stacks.specs.Tops.{box_body, again_body, popped_box, popped_box_star, joined, parted}
+use Rattle.token_stacks.proofs.Ends.{stem, tag, body_ends, body_long, star_short, length_again, word_at, one_on, length_on, set_after, take_after, piece_at, length_both, Starts, body_starts}
+
+pub box_stands : (t : List Sig) (ws : List ℕ) → ws ≡ box_words t → box_words (boxes_of ws) ≡ ws
+box_stands t ws e = ap (λ (z : List ℕ). box_words (boxes_of z)) e ∙ ap box_words (boxes_of-words t) ∙ sym e
+
+pub box_seen : (t : List Sig) (ws : List ℕ) → ws ≡ box_words t → boxes_of ws ≡ t
+box_seen t ws e = ap boxes_of e ∙ boxes_of-words t
+
+pub box_is : (t : List Sig) (ws : List ℕ) → boxes_of ws ≡ t → box_words (boxes_of ws) ≡ ws → ws ≡ box_words t
+box_is t ws v i = sym i ∙ ap box_words v
+
+pub record BoxTurns (after : Option (List Sig)) (ws : List ℕ) : Type 0 where
+  pub left : List Sig
+  pub is : after ≡ Some left
+  pub words : ws ≡ box_words left
+
+pub box_turns_stands : {o : Option (List Sig)} {ws : List ℕ} → BoxTurns o ws → box_words (boxes_of ws) ≡ ws
+box_turns_stands {ws = ws} t = box_stands t.left ws t.words
+
+pub box_turns_seen : {o : Option (List Sig)} {ws : List ℕ} → BoxTurns o ws → o ≡ Some (boxes_of ws)
+box_turns_seen {ws = ws} t = t.is ∙ ap (λ (z : List Sig). Some z) (sym (box_seen t.left ws t.words))
+
+-- a signature on top
+pub record BoxTop (t : List Sig) : Type 0 where
+  pub sig : Sig
+  pub rest : List Sig
+  pub is : t ≡ sig ∷ rest
+
+pub some_box : (t : List Sig) → IsSome (box_body t) → BoxTop t
+some_box (s ∷ t) h = record { sig = s; rest = t; is = refl }
+some_box [] h = cc
+
+pub long_box : (t : List Sig) (ws : List ℕ) (n : ℕ) → ws ≡ box_words t → n ≡ length ws → 0 < n → BoxTop t
+long_box (s ∷ t) ws n e h p = record { sig = s; rest = t; is = refl }
+long_box [] ws n e h p = absurd (let q : length ws ≡ 0 = ap length e in omega arith)
+
+pub empty_box : (t : List Sig) (ws : List ℕ) → ws ≡ box_words t → ws ≡ [] → t ≡ []
+empty_box [] ws e h = refl
+empty_box (s ∷ t) ws e h =
+    absurd (let q : length ws ≡ 0 = ap length h in let r : length ws ≡ length (box_words t) + length (entry s) = length_both (box_words t) (entry s) ws e in omega (arith, length-append (body s) (length (body s) ∷ [])))
+
+pub empty_words : (t : List Sig) (ws : List ℕ) → ws ≡ box_words t → t ≡ [] → ws ≡ []
+empty_words t ws e h = e ∙ ap box_words h
+
+entry_words : (s : Sig) (t : List Sig) (ws : List ℕ) → ws ≡ box_words (s ∷ t) → ws ≡ (box_words t ++ body s) ++ length (body s) ∷ []
+entry_words s t ws e = e ∙ sym (append_assoc (box_words t) (body s) (length (body s) ∷ []))
+
+pub entry_length : (s : Sig) (t : List Sig) (ws : List ℕ) → ws ≡ box_words (s ∷ t) → length ws ≡ length (box_words t) + length (body s) + 1
+entry_length s t ws e =
+    omega (arith, length_both (box_words t ++ body s) (length (body s) ∷ []) ws (entry_words s t ws e), length-append (box_words t) (body s))
+
+size_b : (s : Sig) (t : List Sig) (ws : List ℕ) (n k : ℕ) → ws ≡ box_words (s ∷ t) → n ≡ length ws → k ≡ get_or ws (n - 1) k → k ≡ length (body s)
+size_b s t ws n k e h r =
+    word_at (box_words t ++ body s) (length (body s)) [] ws (n - 1) k (entry_words s t ws e)
+    (omega (arith, entry_length s t ws e, length-append (box_words t) (body s))) r
+
+tag_b : (s : Sig) (t : List Sig) (ws : List ℕ) (n a : ℕ) → ws ≡ box_words (s ∷ t) → n ≡ length ws → a ≡ get_or ws (n - 2) a → a ≡ tag s
+tag_b s t ws n a e h r =
+    word_at (box_words t ++ stem s) (tag s) (length (body s) ∷ []) ws (n - 2) a
+    (e ∙ ap (λ (z : List ℕ). box_words t ++ (z ++ length (body s) ∷ [])) (body_ends s)
+    ∙ ap (λ (z : List ℕ). box_words t ++ z) (append_assoc (stem s) (tag s ∷ []) (length (body s) ∷ []))
+    ∙ sym (append_assoc (box_words t) (stem s) (tag s ∷ length (body s) ∷ [])))
+    (omega (arith, entry_length s t ws e, length-append (box_words t) (stem s), body_long s)) r
+
+pub box_fits : (t : List Sig) (ws : List ℕ) (n k : ℕ) → ws ≡ box_words t → BoxTop t → n ≡ length ws → k ≡ get_or ws (n - 1) k → (k ≤ n - 1) × (1 ≤ k) × (2 ≤ n)
+box_fits t ws n k e T h q =
+    let e' : ws ≡ box_words (T.sig ∷ T.rest) = e ∙ ap box_words T.is in
+    let size : k ≡ length (body T.sig) = size_b T.sig T.rest ws n k e' h q in
+    (omega (arith, entry_length T.sig T.rest ws e'), omega (arith, body_long T.sig), omega (arith, entry_length T.sig T.rest ws e', body_long T.sig))
+
+pub box_top_is : (t : List Sig) (ws : List ℕ) (n k : ℕ) → ws ≡ box_words t → BoxTop t → n ≡ length ws → k ≡ get_or ws (n - 1) k
+    → Some (take (n - 1 - (n - 1 - k)) (drop (n - 1 - k) ws)) ≡ box_body t
+box_top_is t ws n k e T h q =
+    let e' : ws ≡ box_words (T.sig ∷ T.rest) = e ∙ ap box_words T.is in
+    let size : k ≡ length (body T.sig) = size_b T.sig T.rest ws n k e' h q in
+    ap (λ (z : List ℕ). Some z) (piece_at (box_words T.rest) (body T.sig) (length (body T.sig) ∷ []) ws (n - 1 - k) (n - 1 - (n - 1 - k)) e'
+    (omega (arith, entry_length T.sig T.rest ws e')) (omega (arith, entry_length T.sig T.rest ws e'))) ∙ ap box_body (sym T.is)
+
+pub box_pushes : (s : Sig) (b : List ℕ) (t : List Sig) (ws vs : List ℕ) → b ≡ body s → ws ≡ box_words t → vs ≡ ws ++ (b ++ length b ∷ []) → vs ≡ box_words (s ∷ t)
+box_pushes s b t ws vs f e v =
+    v ∙ ap (λ (z : List ℕ). z ++ (b ++ length b ∷ [])) e ∙ ap (λ (z : List ℕ). box_words t ++ (z ++ length z ∷ [])) f
+
+pub pops_box : (t : List Sig) (ws vs : List ℕ) (n k : ℕ) → ws ≡ box_words t → BoxTop t → n ≡ length ws
+    → k ≡ get_or ws (n - 1) k → vs ≡ take (n - 1 - k) ws → BoxTurns (popped_box t) vs
+pops_box t ws vs n k e T h q v =
+    let e' : ws ≡ box_words (T.sig ∷ T.rest) = e ∙ ap box_words T.is in
+    let size : k ≡ length (body T.sig) = size_b T.sig T.rest ws n k e' h q in
+    record {
+      left = T.rest;
+      is = ap popped_box T.is;
+      words = v ∙ take_after (box_words T.rest) (entry T.sig) ws (n - 1 - k) e' (omega (arith, entry_length T.sig T.rest ws e'));
+    }
+
+pub pops_box_star : (t : List Sig) (ws vs : List ℕ) (n k : ℕ) → ws ≡ box_words t → BoxTop t → n ≡ length ws
+    → k ≡ get_or ws (n - 1) k → k ≡ 1 → vs ≡ take (n - 2) ws → BoxTurns (popped_box_star t) vs
+pops_box_star t ws vs n k e T h q u v =
+    let e' : ws ≡ box_words (T.sig ∷ T.rest) = e ∙ ap box_words T.is in
+    let size : k ≡ length (body T.sig) = size_b T.sig T.rest ws n k e' h q in
+    let starred : T.sig ≡ star = star_short T.sig (sym size ∙ u) in
+    record {
+      left = T.rest;
+      is = ap popped_box_star (T.is ∙ ap (λ (z : Sig). z ∷ T.rest) starred);
+      words = v ∙ take_after (box_words T.rest) (entry T.sig) ws (n - 2) e' (omega (arith, entry_length T.sig T.rest ws e'));
+    }
+
+entry_made : (r : List Sig) (s : Sig) (b : List ℕ) (j : ℕ) → body s ≡ b → j ≡ length b → (box_words r ++ b) ++ j ∷ [] ≡ box_words (s ∷ r)
+entry_made r s b j e h =
+    ap (λ (z : ℕ). (box_words r ++ b) ++ z ∷ []) h
+    ∙ ap (λ (z : List ℕ). (box_words r ++ z) ++ length z ∷ []) (sym e)
+    ∙ append_assoc (box_words r) (body s) (length (body s) ∷ [])
+
+-- the second part comes from another stack, and the size of the first goes behind it
+pub joins : (s : Sig) (b : List ℕ) (t : List Sig) (ws us xs vs : List ℕ) (n k l : ℕ) → b ≡ body s → ws ≡ box_words t → BoxTop t → n ≡ length ws
+    → k ≡ get_or ws (n - 1) k → us ≡ ws ++ (b ++ length b ∷ 4 ∷ []) → l ≡ length us → Swaps us xs (n - 1) n l
+    → vs ≡ set xs (l - 1) (l - (n - k)) → BoxTurns (joined s t) vs
+joins s b t ws us xs vs n k l f e T h q u lh w v =
+    let x : Sig = T.sig in
+    let r : List Sig = T.rest in
+    let A : List ℕ = box_words r ++ body x in
+    let C : List ℕ = b ++ length b ∷ 4 ∷ [] in
+    let e' : ws ≡ box_words (x ∷ r) = e ∙ ap box_words T.is in
+    let size : k ≡ length (body x) = size_b x r ws n k e' h q in
+    let lw : length ws ≡ length (box_words r) + length (body x) + 1 = entry_length x r ws e' in
+    let lA : length A ≡ length (box_words r) + length (body x) = length-append (box_words r) (body x) in
+    let lC : length C ≡ length b + 2 = length-append b (length b ∷ 4 ∷ []) in
+    let ll : l ≡ length ws + length C = lh ∙ length_both ws C us u in
+    let us' : us ≡ A ++ (length (body x) ∷ [] ++ (C ++ [])) =
+    u ∙ ap (λ (z : List ℕ). z ++ C) (entry_words x r ws e') ∙ append_assoc A (length (body x) ∷ []) C
+    ∙ ap (λ (z : List ℕ). A ++ length (body x) ∷ z) (sym (append-nil C)) in
+    let swapped : xs ≡ A ++ (C ++ length (body x) ∷ []) = w.parts A (length (body x) ∷ []) C [] us' (omega arith) (omega arith) (omega arith) in
+    let opened : xs ≡ (A ++ C) ++ length (body x) ∷ [] = swapped ∙ sym (append_assoc A C (length (body x) ∷ [])) in
+    let j : ℕ = l - (n - k) in
+    let one : set xs (l - 1) j ≡ (A ++ C) ++ j ∷ [] = set_after (A ++ C) (length (body x)) [] xs (l - 1) j opened (omega (arith, length-append A C)) in
+    let B : List ℕ = body x ++ C in
+    let lB : length B ≡ length (body x) + length C = length-append (body x) C in
+    record {
+      left = again x s ∷ r;
+      is = ap (joined s) T.is;
+      words =
+          v ∙ one ∙ ap (λ (z : List ℕ). z ++ j ∷ []) (append_assoc (box_words r) (body x) C)
+          ∙ entry_made r (again x s) B j (ap (λ (z : List ℕ). body x ++ (z ++ length z ∷ 4 ∷ [])) (sym f)) (omega arith);
+    }
+
+-- a `y` on top
+pub record AgainTop (t : List Sig) : Type 0 where
+  pub first : Sig
+  pub second : Sig
+  pub rest : List Sig
+  pub is : t ≡ again first second ∷ rest
+
+again_tagged : (s : Sig) (r : List Sig) → tag s ≡ 4 → AgainTop (s ∷ r)
+again_tagged star r h = absurd (omega arith)
+again_tagged (left_of s) r h = absurd (omega arith)
+again_tagged (right_of s) r h = absurd (omega arith)
+again_tagged (pair_of s u) r h = absurd (omega arith)
+again_tagged (again s u) r h = record { first = s; second = u; rest = r; is = refl }
+
+pub again_top : (t : List Sig) (ws : List ℕ) (n a : ℕ) → ws ≡ box_words t → n ≡ length ws → 2 ≤ n → a ≡ get_or ws (n - 2) a → a ≡ 4 → AgainTop t
+again_top t ws n a e h p q u =
+    let T : BoxTop t = long_box t ws n e h (omega arith) in
+    let e' : ws ≡ box_words (T.sig ∷ T.rest) = e ∙ ap box_words T.is in
+    let P : List Sig → Type 0 = λ x. AgainTop x in
+    subst P (sym T.is) (again_tagged T.sig T.rest (sym (tag_b T.sig T.rest ws n a e' h q) ∙ u))
+
+pub some_again : (t : List Sig) → IsSome (again_body t) → AgainTop t
+some_again (again s u ∷ t) h = record { first = s; second = u; rest = t; is = refl }
+some_again (star ∷ t) h = cc
+some_again (left_of s ∷ t) h = cc
+some_again (right_of s ∷ t) h = cc
+some_again (pair_of s u ∷ t) h = cc
+some_again [] h = cc
+
+pub no_again : (t : List Sig) (ws : List ℕ) (n a : ℕ) → ws ≡ box_words t → n ≡ length ws → a ≡ get_or ws (n - 2) a → (a ≡ 4 → ⊥) → None ≡ again_body t
+no_again [] ws n a e h r p = refl
+no_again (star ∷ t) ws n a e h r p = refl
+no_again (left_of s ∷ t) ws n a e h r p = refl
+no_again (right_of s ∷ t) ws n a e h r p = refl
+no_again (pair_of s u ∷ t) ws n a e h r p = refl
+no_again (again s u ∷ t) ws n a e h r p = absurd (p (tag_b (again s u) t ws n a e h r))
+
+pub again_is_top : (t : List Sig) → AgainTop t → BoxTop t
+again_is_top t T = record { sig = again T.first T.second; rest = T.rest; is = T.is }
+
+-- where the parts of a `y` lie
+pub record AgainWords (u s : Sig) (r : List Sig) (ws : List ℕ) (n j : ℕ) : Type 0 where
+  pub words : ws ≡ (box_words r ++ body u) ++ (body s ++ length (body s) ∷ 4 ∷ length (body (again u s)) ∷ [])
+  pub second : j ≡ length (body s)
+  pub whole : n ≡ length (box_words r) + length (body u) + length (body s) + 3
+
+pub again_words : (t : List Sig) (ws : List ℕ) (n j : ℕ) → ws ≡ box_words t → (T : AgainTop t) → n ≡ length ws
+    → j ≡ get_or ws (n - 3) j → AgainWords T.first T.second T.rest ws n j
+again_words t ws n j e T h p =
+    let u : Sig = T.first in
+    let s : Sig = T.second in
+    let r : List Sig = T.rest in
+    let e' : ws ≡ box_words (again u s ∷ r) = e ∙ ap box_words T.is in
+    let le : length ws ≡ length (box_words r) + length (body (again u s)) + 1 = entry_length (again u s) r ws e' in
+    let lp : length (body (again u s)) ≡ length (body u) + length (body s) + 2 = length_again u s in
+    let open_is : ws ≡ (box_words r ++ body u) ++ (body s ++ length (body s) ∷ 4 ∷ length (body (again u s)) ∷ []) =
+    e' ∙ ap (λ (z : List ℕ). box_words r ++ z) (append_assoc (body u) (body s ++ length (body s) ∷ 4 ∷ []) (length (body (again u s)) ∷ [])
+    ∙ ap (λ (z : List ℕ). body u ++ z) (append_assoc (body s) (length (body s) ∷ 4 ∷ []) (length (body (again u s)) ∷ [])))
+    ∙ sym (append_assoc (box_words r) (body u) (body s ++ length (body s) ∷ 4 ∷ length (body (again u s)) ∷ [])) in
+    let F : List ℕ = (box_words r ++ body u) ++ body s in
+    let lF : length F ≡ length (box_words r) + length (body u) + length (body s) = omega (arith, length-append (box_words r ++ body u) (body s), length-append (box_words r) (body u)) in
+    record {
+      words = open_is;
+      second =
+          word_at F (length (body s)) (4 ∷ length (body (again u s)) ∷ []) ws (n - 3) j
+          (open_is ∙ sym (append_assoc (box_words r ++ body u) (body s) (length (body s) ∷ 4 ∷ length (body (again u s)) ∷ []))) (omega arith) p;
+      whole = omega arith;
+    }
+
+pub again_fits : (u s : Sig) (r : List Sig) (ws : List ℕ) (n j : ℕ) → AgainWords u s r ws n j → (3 ≤ n) × (j ≤ n - 3)
+again_fits u s r ws n j w =
+    let two : j ≡ length (body s) = w.second in
+    let all : n ≡ length (box_words r) + length (body u) + length (body s) + 3 = w.whole in
+    (omega arith, omega arith)
+
+pub again_long : (t : List Sig) (ws : List ℕ) (n : ℕ) → ws ≡ box_words t → AgainTop t → n ≡ length ws → 3 ≤ n
+again_long t ws n e T h =
+    omega (arith, entry_length (again T.first T.second) T.rest ws (e ∙ ap box_words T.is), length_again T.first T.second)
+
+pub again_body_is : (t : List Sig) (ws : List ℕ) (n j : ℕ) → (T : AgainTop t) → AgainWords T.first T.second T.rest ws n j
+    → Some (take (n - 3 - (n - 3 - j)) (drop (n - 3 - j) ws)) ≡ again_body t
+again_body_is t ws n j T w =
+    let two : j ≡ length (body T.second) = w.second in
+    let all : n ≡ length (box_words T.rest) + length (body T.first) + length (body T.second) + 3 = w.whole in
+    ap (λ (z : List ℕ). Some z)
+    (piece_at (box_words T.rest ++ body T.first) (body T.second) (length (body T.second) ∷ 4 ∷ length (body (again T.first T.second)) ∷ []) ws (n - 3 - j) (n - 3 - (n - 3 - j)) w.words
+    (omega (arith, length-append (box_words T.rest) (body T.first))) (omega arith))
+    ∙ ap again_body (sym T.is)
+
+pub parts : (t : List Sig) (ws vs : List ℕ) (n k j : ℕ) → ws ≡ box_words t → (T : AgainTop t) → AgainWords T.first T.second T.rest ws n j → n ≡ length ws
+    → k ≡ get_or ws (n - 1) k → vs ≡ take (n - 3 - j + 1) (set ws (n - 3 - j) (k - 2 - j)) → BoxTurns (parted t) vs
+parts t ws vs n k j e T w h q v =
+    let u : Sig = T.first in
+    let s : Sig = T.second in
+    let r : List Sig = T.rest in
+    let e' : ws ≡ box_words (again u s ∷ r) = e ∙ ap box_words T.is in
+    let size : k ≡ length (body (again u s)) = size_b (again u s) r ws n k e' h q in
+    let lp : length (body (again u s)) ≡ length (body u) + length (body s) + 2 = length_again u s in
+    let two : j ≡ length (body s) = w.second in
+    let all : n ≡ length (box_words r) + length (body u) + length (body s) + 3 = w.whole in
+    let A : List ℕ = box_words r ++ body u in
+    let lA : length A ≡ length (box_words r) + length (body u) = length-append (box_words r) (body u) in
+    let at : ℕ = n - 3 - j in
+    let y : ℕ = k - 2 - j in
+    let b : Starts (body s) = body_starts s in
+    let g : List ℕ = b.others ++ length (body s) ∷ 4 ∷ length (body (again u s)) ∷ [] in
+    let ws' : ws ≡ A ++ b.first ∷ g = w.words ∙ ap (λ (z : List ℕ). A ++ (z ++ length (body s) ∷ 4 ∷ length (body (again u s)) ∷ [])) b.is in
+    let one : set ws at y ≡ (A ++ y ∷ []) ++ g = set_after A b.first g ws at y ws' (omega arith) ∙ one_on A y g in
+    record {
+      left = u ∷ r;
+      is = ap parted T.is;
+      words =
+          v ∙ take_after (A ++ y ∷ []) g (set ws at y) (at + 1) one (omega (arith, length_on A y))
+          ∙ entry_made r u (body u) y refl (omega arith);
+    }
+
+pub empty_test : (t : List Sig) (ws : List ℕ) (n : ℕ) (b : Bool) → ws ≡ box_words t → n ≡ length ws → b ≡ (n == 0) → IsTrue b ↔ (t ≡ [])
+empty_test [] ws n b e h q =
+    let z : n ≡ 0 = h ∙ ap length e in
+    (λ _. refl, λ _. q ∙ eq-eqb n 0 z)
+empty_test (s ∷ t) ws n b e h q =
+    let z : 0 < n = omega (arith, entry_length s t ws e) in
+    (λ y. absurd (let w : n ≡ 0 = eqb-true n 0 (sym q ∙ y) in omega arith), λ y. cc)

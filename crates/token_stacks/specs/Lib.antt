@@ -1,0 +1,9 @@
+pub mod Codes
+pub mod Laws
+pub mod Order
+pub mod Parts
+pub mod Reading
+pub mod Rows
+pub mod Signatures
+pub mod Tops
+pub mod Words
