@@ -1,0 +1,71 @@
+use Rattle.std.proofs.Common.{◌≡◌, ◌+◌, ◌-◌, ◌*◌, ◌<◌, ◌≤◌, length}
+use Rattle.pcf_reader.specs.Machine.{AppK, ProductK, ExprK, app_open, product_open, expr_open, begin_atom, first_atom, first_app, first_product, after_app, after_product, after_sum}
+use Rattle.pcf_reader.specs.Rest.{resume}
+use Rattle.pcf_reader.specs.Seen.{part_of}
+use Rattle.pcf_reader.proofs.descent.+terms.Given as goal
+
+abbrev pub decreases-parens : goal.decreases-parens
+decreases-parens l = 9 * (501 - l.depth) + 8
+
+abbrev pub decreases-behind_first : goal.decreases-behind_first
+decreases-behind_first l = 9 * (501 - l.depth) + 7
+
+abbrev pub decreases-test_of : goal.decreases-test_of
+decreases-test_of l = 9 * (501 - l.depth) + 6
+
+abbrev pub decreases-yes_of : goal.decreases-yes_of
+decreases-yes_of l = 9 * (501 - l.depth) + 6
+
+abbrev pub decreases-second_of : goal.decreases-second_of
+decreases-second_of l = 9 * (501 - l.depth) + 6
+
+abbrev pub decreases-expr : goal.decreases-expr
+decreases-expr l = 9 * (501 - l.depth) + 5
+
+abbrev pub decreases-binding : goal.decreases-binding
+decreases-binding l = 9 * (501 - l.depth)
+
+abbrev pub decreases-choice : goal.decreases-choice
+decreases-choice l = 9 * (501 - l.depth)
+
+abbrev pub decreases-sum : goal.decreases-sum
+decreases-sum l = 9 * (501 - l.depth) + 4
+
+abbrev pub decreases-product : goal.decreases-product
+decreases-product l = 9 * (501 - l.depth) + 3
+
+abbrev pub decreases-application : goal.decreases-application
+decreases-application l = 9 * (501 - l.depth) + 2
+
+abbrev pub decreases-atom : goal.decreases-atom
+decreases-atom l = 9 * (501 - l.depth) + 1
+
+abbrev pub invariant-application-loop-reader : goal.invariant-application-loop-reader
+invariant-application-loop-reader l = record {
+  goes : (k : AppK) → app_open k ≡ l.depth → resume (begin_atom (first_atom k)) l.fn.reader ≡ resume (after_app k (part_of l.function)) l.reader;
+  shorter : length l.reader.after < length l.fn.reader.after;
+  low : l.function.height + 4 * l.depth ≤ 2502;
+}
+
+abbrev pub decreases-application-loop-reader : goal.decreases-application-loop-reader
+decreases-application-loop-reader l = length l.reader.after
+
+abbrev pub invariant-product-loop-reader : goal.invariant-product-loop-reader
+invariant-product-loop-reader l = record {
+  goes : (k : ProductK) → product_open k ≡ l.depth → resume (begin_atom (first_atom (first_app k))) l.fn.reader ≡ resume (after_product k (part_of l.product)) l.reader;
+  shorter : length l.reader.after < length l.fn.reader.after;
+  low : l.product.height + 4 * l.depth ≤ 2503;
+}
+
+abbrev pub decreases-product-loop-reader : goal.decreases-product-loop-reader
+decreases-product-loop-reader l = length l.reader.after
+
+abbrev pub invariant-sum-loop-reader : goal.invariant-sum-loop-reader
+invariant-sum-loop-reader l = record {
+  goes : (k : ExprK) → expr_open k ≡ l.depth → resume (begin_atom (first_atom (first_app (first_product k)))) l.fn.reader ≡ resume (after_sum k (part_of l.sum)) l.reader;
+  shorter : length l.reader.after < length l.fn.reader.after;
+  low : l.sum.height + 4 * l.depth ≤ 2504;
+}
+
+abbrev pub decreases-sum-loop-reader : goal.decreases-sum-loop-reader
+decreases-sum-loop-reader l = length l.reader.after

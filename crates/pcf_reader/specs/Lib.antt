@@ -1,0 +1,13 @@
+pub mod Tokens
+pub mod Grammar
+pub mod Machine
+pub mod Text
+pub mod Scan
+pub mod Rest
+pub mod Seen
+pub mod Spelling
+pub mod Lexing
+pub mod Correct
+pub mod Printed
+pub mod Sizes
+pub mod Laws

@@ -1,0 +1,80 @@
+-- What a list of tokens stands for, and the first fault of one that is no program.
+-- A token is unexpected where no program at all begins with the tokens up to it. It is too deep, or one too many, where some program
+-- begins with the tokens before it and writes it so: programs that begin alike write alike, so that it does not matter which one.
+-- Nothing here speaks of a reader that goes from left to right.
+use Rattle.std.specs.Prelude.{◌≡◌, ℕ, ◌+◌, ◌^◌, ◌<◌, ◌≤◌, List, [], ◌∷◌, ◌++◌, map}
+use Rattle.pcf_values.specs.Named.{NamedTree}
+use Rattle.pcf_reader.specs.Tokens.{Token, Number, Junk, Placed}
+use Rattle.pcf_reader.specs.Grammar.{Program, program_text, Written, placed, expr_part}
+use Rattle.pcf_reader.specs.declared.fault.ReadFault.{ReadFault}
+use Rattle.pcf_reader.specs.declared.fault.ReadFault.TheVariants.{NoMemory, NotText, BadToken, NumberTooWide, Unexpected, TooDeep, TooLarge, TooLong}
+
+abbrev pub count_of : List Written → ℕ
+count_of [] = 0
+count_of (w ∷ ws) = w.count + count_of ws
+
+abbrev pub AreShallow : List Written → Type 0
+AreShallow [] = Unit {0}
+AreShallow (w ∷ ws) = (w.depth < 500) × AreShallow ws
+
+-- no number is above 2^64 - 1
+abbrev pub IsNarrow : Token → Type 0
+IsNarrow (Number n) = n < 2 ^ 64
+IsNarrow _ = Unit {0}
+
+abbrev pub AreNarrow : List Written → Type 0
+AreNarrow [] = Unit {0}
+AreNarrow (w ∷ ws) = IsNarrow w.token × AreNarrow ws
+
+-- the tokens are those of a program with this tree, and no limit is passed
+pub record Derives (items : List Placed) (tree : NamedTree) : Type 0 where
+  pub program : Program
+  pub written : map placed (program_text program) ≡ items
+  pub stands_for : (expr_part program.expr).tree ≡ tree
+  pub shallow : AreShallow (program_text program)
+  pub small : count_of (program_text program) ≤ 32768
+  pub narrow : AreNarrow (program_text program)
+
+-- some program begins with these tokens
+abbrev pub IsFront : List Placed → Type 0
+IsFront items = (p : Program) × (rest : List Placed) × (map placed (program_text p) ≡ items ++ rest)
+
+-- some program begins with these tokens and then has this one, which it writes so
+pub record Reads (before : List Placed) (x : Placed) (w : Written) : Type 0 where
+  pub program : Program
+  pub front : List Written
+  pub rest : List Written
+  pub text : program_text program ≡ front ++ w ∷ rest
+  pub before_is : map placed front ≡ before
+  pub token_is : placed w ≡ x
+
+-- the token x behind these tokens has this fault
+abbrev pub FaultAt : List Placed → Placed → ReadFault → Type 0
+FaultAt before x (BadToken at) = (x.token ≡ Junk) × (x.at ≡ at)
+FaultAt before x (NumberTooWide at) = (n : ℕ) × (x.token ≡ Number n) × (2 ^ 64 ≤ n) × (x.at ≡ at)
+FaultAt before x (Unexpected at) = (IsFront (before ++ x ∷ []) → ⊥) × (x.at ≡ at)
+FaultAt before x (TooDeep at) = (w : Written) × Reads before x w × (500 ≤ w.depth) × (x.at ≡ at)
+FaultAt before x (TooLarge at) = (w : Written) × (r : Reads before x w) × (32768 < count_of r.front + w.count) × (x.at ≡ at)
+FaultAt before x NoMemory = ⊥
+FaultAt before x (NotText at) = ⊥
+FaultAt before x TooLong = ⊥
+
+abbrev pub rank : ReadFault → ℕ
+rank NoMemory = 0
+rank (NotText _) = 1
+rank (BadToken _) = 2
+rank (NumberTooWide _) = 3
+rank (Unexpected _) = 4
+rank (TooDeep _) = 5
+rank (TooLarge _) = 6
+rank TooLong = 7
+
+-- the fault at the least place, and at one place the first of the table
+pub record IsFirstFault (items : List Placed) (f : ReadFault) : Type 0 where
+  pub before : List Placed
+  pub token : Placed
+  pub after : List Placed
+  pub split : items ≡ before ++ token ∷ after
+  pub here : FaultAt before token f
+  pub none_before : (b : List Placed) (x : Placed) (a : List Placed) (g : ReadFault) → before ≡ b ++ x ∷ a → FaultAt b x g → ⊥
+  pub none_above : (g : ReadFault) → rank g < rank f → FaultAt before token g → ⊥

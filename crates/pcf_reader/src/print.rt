@@ -1,0 +1,181 @@
+//! How types and terms are printed.
+
+ghost use Rattle.std.specs.Prelude.{◌≡◌, ◌++◌, codes, OnOk, IfOk, decimal};
+ghost use Rattle.pcf_reader.specs.Printed.{fitted, ty_level, ty_text, level, term_text};
+ghost use Rattle.pcf_values.specs.Views.{ty_of, named_of};
+
+use itoa::Buffer;
+use pcf_values::{Ident, Named, Raw, Ty};
+use std::alloc::{AllocError, Global};
+
+/// The spelling of a type: `nat`, `A -> B` or `A * B`, with parentheses exactly where the grammar needs them.
+pub fn print_ty(alloc: Global, ty: &Ty) -> Result<Vec<u8>, AllocError>
+    ensures { IfOk result (λ v. v.items ≡ ty_text (ty_of ty.now)) }
+{
+    let mut out = Vec::new(alloc);
+    push_ty(&mut out, ty)?;
+    Ok(out)
+}
+
+/// The spelling of a term on one line, with single spaces, and parentheses exactly where the grammar needs them.
+pub fn print_term(alloc: Global, term: &Named) -> Result<Vec<u8>, AllocError>
+    ensures { IfOk result (λ v. v.items ≡ term_text (named_of term.now)) }
+{
+    let mut out = Vec::new(alloc);
+    push_term(&mut out, term)?;
+    Ok(out)
+}
+
+fn ty_level(ty: &Ty) -> u8
+    ensures { result ≡ ty_level (ty_of ty.now) }
+{
+    match ty {
+        Ty::Nat => 0,
+        Ty::Product(_, _) => 1,
+        Ty::Arrow(_, _) => 2,
+    }
+}
+
+#[cycle(print_types)]
+fn push_ty(out: &mut Vec<u8>, ty: &Ty) -> Result<(), AllocError>
+    ensures { OnOk result (out.new.items ≡ out.old.items ++ ty_text (ty_of ty.now)) }
+{
+    match ty {
+        Ty::Nat => out.extend_from_slice(b"nat"),
+        Ty::Arrow(from, to) => {
+            push_fitted_ty(out, 1, from)?;
+            out.extend_from_slice(b" -> ")?;
+            push_ty(out, to)
+        }
+        Ty::Product(left, right) => {
+            push_fitted_ty(out, 0, left)?;
+            out.extend_from_slice(b" * ")?;
+            push_fitted_ty(out, 1, right)
+        }
+    }
+}
+
+/// A part of a type, in parentheses unless its level is at most this one.
+#[cycle(print_types)]
+fn push_fitted_ty(out: &mut Vec<u8>, most: u8, ty: &Ty) -> Result<(), AllocError>
+    ensures { OnOk result (out.new.items ≡ out.old.items ++ fitted most (ty_level (ty_of ty.now)) (ty_text (ty_of ty.now))) }
+{
+    if ty_level(ty) <= most {
+        push_ty(out, ty)
+    } else {
+        out.push(b'(')?;
+        push_ty(out, ty)?;
+        out.push(b')')?;
+        Ok(())
+    }
+}
+
+fn level_of(term: &Named) -> u8
+    ensures { result ≡ level (named_of term.now) }
+{
+    match &term.raw {
+        Raw::Number(_)
+        | Raw::Name(_)
+        | Raw::Succ(_)
+        | Raw::Pred(_)
+        | Raw::Fst(_)
+        | Raw::Snd(_)
+        | Raw::Pair(_, _) => 0,
+        Raw::App(_, _) => 1,
+        Raw::Times(_, _) => 2,
+        Raw::Plus(_, _) | Raw::Minus(_, _) => 3,
+        Raw::Ifz(_, _, _) | Raw::Fun(_, _, _) | Raw::Fix(_, _, _) => 4,
+    }
+}
+
+fn push_number(out: &mut Vec<u8>, number: u64) -> Result<(), AllocError>
+    ensures { OnOk result (out.new.items ≡ out.old.items ++ decimal number) }
+{
+    let mut buffer = Buffer::new();
+    out.extend_from_slice(buffer.format(number).as_bytes())
+}
+
+/// A binder's word, its name and its type, up to its body.
+fn push_head(out: &mut Vec<u8>, word: &[u8], name: &Ident, ty: &Ty) -> Result<(), AllocError>
+    ensures { OnOk result (out.new.items ≡ out.old.items ++ word.now ++ name.now ++ codes ":" ++ ty_text (ty_of ty.now) ++ codes ". ") }
+{
+    out.extend_from_slice(word)?;
+    out.extend_from_slice(name.as_str().as_bytes())?;
+    out.extend_from_slice(b":")?;
+    push_ty(out, ty)?;
+    out.extend_from_slice(b". ")
+}
+
+#[cycle(print_terms)]
+fn push_term(out: &mut Vec<u8>, term: &Named) -> Result<(), AllocError>
+    ensures { OnOk result (out.new.items ≡ out.old.items ++ term_text (named_of term.now)) }
+{
+    match &term.raw {
+        Raw::Number(n) => push_number(out, *n),
+        Raw::Name(x) => out.extend_from_slice(x.as_str().as_bytes()),
+        Raw::Succ(a) => push_fitted(out, b"succ ", 0, a),
+        Raw::Pred(a) => push_fitted(out, b"pred ", 0, a),
+        Raw::Fst(a) => push_fitted(out, b"fst ", 0, a),
+        Raw::Snd(a) => push_fitted(out, b"snd ", 0, a),
+        Raw::Plus(a, b) => {
+            push_fitted(out, b"", 3, a)?;
+            push_fitted(out, b" + ", 2, b)
+        }
+        Raw::Minus(a, b) => {
+            push_fitted(out, b"", 3, a)?;
+            push_fitted(out, b" - ", 2, b)
+        }
+        Raw::Times(a, b) => {
+            push_fitted(out, b"", 2, a)?;
+            push_fitted(out, b" * ", 1, b)
+        }
+        Raw::App(f, a) => {
+            push_fitted(out, b"", 1, f)?;
+            push_fitted(out, b" ", 0, a)
+        }
+        Raw::Ifz(c, p, q) => {
+            push_after(out, b"ifz ", c)?;
+            push_after(out, b" then ", p)?;
+            push_after(out, b" else ", q)?;
+            Ok(())
+        }
+        Raw::Fun(x, ty, body) => {
+            push_head(out, b"fun ", x, ty)?;
+            push_term(out, body)
+        }
+        Raw::Fix(x, ty, body) => {
+            push_head(out, b"fix ", x, ty)?;
+            push_term(out, body)
+        }
+        Raw::Pair(a, b) => {
+            push_after(out, b"(", a)?;
+            push_after(out, b", ", b)?;
+            out.extend_from_slice(b")")
+        }
+    }
+}
+
+/// What stands before a part of a term, and the part, in parentheses unless its level is at most this one.
+#[cycle(print_terms)]
+fn push_fitted(out: &mut Vec<u8>, before: &[u8], most: u8, term: &Named) -> Result<(), AllocError>
+    ensures { OnOk result (out.new.items ≡ out.old.items ++ before.now ++ fitted most (level (named_of term.now)) (term_text (named_of term.now))) }
+{
+    out.extend_from_slice(before)?;
+    if level_of(term) <= most {
+        push_term(out, term)
+    } else {
+        out.push(b'(')?;
+        push_term(out, term)?;
+        out.push(b')')?;
+        Ok(())
+    }
+}
+
+/// What stands before a part of a term, and the part.
+#[cycle(print_terms)]
+fn push_after(out: &mut Vec<u8>, before: &[u8], term: &Named) -> Result<(), AllocError>
+    ensures { OnOk result (out.new.items ≡ out.old.items ++ before.now ++ term_text (named_of term.now)) }
+{
+    out.extend_from_slice(before)?;
+    push_term(out, term)
+}
