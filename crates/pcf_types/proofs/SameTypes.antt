@@ -1,0 +1,49 @@
+-- The definition's test of two types is equality.
+use Rattle.std.proofs.Common.{◌≡◌, ◌≢◌, Bool, true, false, ◌&&◌, cond, Ok, Err, refl, ap, ◌∙◌}
+use Rattle.pcf_values.specs.Terms.{TyTree, nat, arrow, product, TermTree}
+use Rattle.pcf_types.specs.declared.fault.TypeFault.{TypeFault}
+use Rattle.pcf_types.specs.Checking.{same_type, as_type}
+
+both_true : (a b : Bool) → a ≡ true → b ≡ true → (a && b) ≡ true
+both_true true b h k = k
+both_true false b h k = h
+
+first_true : (a b : Bool) → (a && b) ≡ true → a ≡ true
+first_true true b h = refl
+first_true false b h = h
+
+second_true : (a b : Bool) → (a && b) ≡ true → b ≡ true
+second_true true b h = h
+second_true false b h = cc
+
+pub same_refl : (a : TyTree) → same_type a a ≡ true
+same_refl nat = refl
+same_refl (arrow a b) = both_true (same_type a a) (same_type b b) (same_refl a) (same_refl b)
+same_refl (product a b) = both_true (same_type a a) (same_type b b) (same_refl a) (same_refl b)
+
+pub same_is : (a b : TyTree) → same_type a b ≡ true → a ≡ b
+same_is nat nat h = refl
+same_is nat (arrow c d) h = cc
+same_is nat (product c d) h = cc
+same_is (arrow a b) nat h = cc
+same_is (arrow a b) (arrow c d) h =
+    let p = same_is a c (first_true (same_type a c) (same_type b d) h) in
+    let q = same_is b d (second_true (same_type a c) (same_type b d) h) in
+    λ k. arrow (p k) (q k)
+same_is (arrow a b) (product c d) h = cc
+same_is (product a b) nat h = cc
+same_is (product a b) (arrow c d) h = cc
+same_is (product a b) (product c d) h =
+    let p = same_is a c (first_true (same_type a c) (same_type b d) h) in
+    let q = same_is b d (second_true (same_type a c) (same_type b d) h) in
+    λ k. product (p k) (q k)
+
+bool_cases : {A : Type 0} (b : Bool) (m n : A) (h : b ≡ true → ⊥) → cond b m n ≡ n
+bool_cases true m n h = absurd (h refl)
+bool_cases false m n h = refl
+
+pub as_type_same : (a t : TyTree) (e : TypeFault) (m : TermTree) → t ≡ a → as_type a e m t ≡ Ok m
+as_type_same a t e m h = ap (λ b. cond b (Ok m) (Err e)) (ap (λ t. same_type t a) h ∙ same_refl a)
+
+pub as_type_other : (a t : TyTree) (e : TypeFault) (m : TermTree) → t ≢ a → as_type a e m t ≡ Err e
+as_type_other a t e m h = bool_cases (same_type t a) (Ok m) (Err e) (λ b. h (same_is t a b))

@@ -1,0 +1,4 @@
+pub mod Checking
+pub mod Correct
+pub mod Resolution
+pub mod Views
