@@ -1,8 +1,10 @@
 mod Bounds
 mod Built
+mod Comparing
 mod Count
 mod Ending
 mod Growing
+mod Heights
 mod Indexing
 mod Joining
 mod Merging

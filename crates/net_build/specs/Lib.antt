@@ -1,5 +1,6 @@
 pub mod Building
 pub mod Codes
+pub mod Example
 pub mod Index
 pub mod Kept
 pub mod Laws

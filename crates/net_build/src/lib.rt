@@ -11,6 +11,7 @@ mod double;
 mod index;
 mod joins;
 mod laws;
+mod lists;
 mod net;
 mod node;
 mod parts;
@@ -18,8 +19,11 @@ mod translate;
 mod unary;
 mod wire;
 
-pub use laws::{law_built_sound, law_net_size};
+pub use laws::{law_built_sound, law_example_net, law_net_size};
 pub use net::Net;
 pub use node::Node;
 pub use translate::build;
 pub use wire::{Wire, WireKind};
+
+#[cfg(test)]
+mod tests;

@@ -7,6 +7,7 @@ ghost use Rattle.net_build.specs.Sides.{node_above, node_below, number_of};
 ghost use Rattle.net_build.specs.Kept.{entry_at};
 
 use crate::index::{Side, index};
+use crate::lists::{copy_nodes, copy_wires, same_nodes, same_wires};
 use crate::{Node, Wire};
 use std::alloc::{AllocError, Global};
 use std::marker::Model;
@@ -95,6 +96,22 @@ impl Net {
         ensures { result ≡ number_of (node_below self.now wire) }
     {
         entry(&self.below, wire)
+    }
+
+    /// An equal net.
+    pub fn copy(&self, alloc: Global) -> Result<Net, AllocError>
+        ensures { IfOk result (λ n. n ≡ self.now) }
+    {
+        let wires = copy_wires(alloc, &self.wires)?;
+        let nodes = copy_nodes(alloc, &self.nodes)?;
+        Net::from_parts(alloc, wires, nodes)
+    }
+
+    /// Whether both nets have equal wires and equal nodes, in one order.
+    pub fn same(&self, other: &Net) -> bool
+        ensures { IsTrue result ↔ (self.now ≡ other.now) }
+    {
+        same_wires(&self.wires, &other.wires) && same_nodes(&self.nodes, &other.nodes)
     }
 }
 

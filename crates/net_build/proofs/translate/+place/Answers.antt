@@ -8,7 +8,7 @@ pub place_double-returns : goal.place_double-returns
 place_double-returns t c =
     IfOk-weaker c.close_double.result _ _
     (λ r j. double_builds c.args.form c.args.parts.now c.place.new.parts c.args.depth (term_of c.args.left.now) (term_of c.args.right.now) c.in_ok-left.left c.in_ok-left.ensures
-        c.place-2.new.parts c.in_ok-right.right c.in_ok-right.ensures c.close_double.new.parts r j)
+    c.place-2.new.parts c.in_ok-right.right c.in_ok-right.ensures c.close_double.new.parts r j)
     c.close_double.ensures
 
 pub place_ifz-place-requires-3 : goal.place_ifz-place-requires-3
@@ -28,7 +28,7 @@ pub place_ifz-returns : goal.place_ifz-returns
 place_ifz-returns t c =
     IfOk-weaker c.close_ifz.result _ _
     (λ r j. ifz_builds c.args.parts.now c.place.new.parts c.args.depth (term_of c.args.test.now) (term_of c.args.then.now) (term_of c.args.otherwise.now) c.in_ok-test.test c.in_ok-test.ensures
-        c.place-2.new.parts c.in_ok-then.then c.in_ok-then.ensures c.place-3.new.parts c.in_ok-otherwise.otherwise c.in_ok-otherwise.ensures c.close_ifz.new.parts r j)
+    c.place-2.new.parts c.in_ok-then.then c.in_ok-then.ensures c.place-3.new.parts c.in_ok-otherwise.otherwise c.in_ok-otherwise.ensures c.close_ifz.new.parts r j)
     c.close_ifz.ensures
 
 pub place_fun-returns : goal.place_fun-returns
@@ -51,5 +51,5 @@ pub place_app-returns : goal.place_app-returns
 place_app-returns t c =
     IfOk-weaker c.close_app.result _ _
     (λ r j. app_builds_at c.args.parts.now c.place.new.parts c.place-2.new.parts c.close_app.new.parts c.args.depth (c.args.depth + 1) (term_of c.args.function.now) (term_of c.args.argument.now) c.in_ok-function.function c.in_ok-argument.argument r
-        (omega arith) c.in_ok-function.ensures c.in_ok-argument.ensures j)
+    (omega arith) c.in_ok-function.ensures c.in_ok-argument.ensures j)
     c.close_app.ensures

@@ -1,0 +1,14 @@
+use Rattle.std.proofs.Common.{◌≡◌, ap, arith}
+use Rattle.pcf_values.specs.Views.{term_of}
+use Rattle.net_build.proofs.Heights.{high_fits}
+use Rattle.net_build.proofs.tests.a_high_term_is_built.Goals as goal
+
+pub build-requires-clause-wires : goal.build-requires-clause-wires
+build-requires-clause-wires g c =
+    let e : c.of-program.result.0 ≡ term_of c.in_ok-term.term = ap (λ p. p.0) c.of-program.ensures in
+    rw e (high_fits (term_of c.in_ok-term.term) (omega (arith, c.in_ok-term.ensures.small)) (omega (arith, c.in_ok-term.ensures.low))).0
+
+pub build-requires-clause-nodes : goal.build-requires-clause-nodes
+build-requires-clause-nodes g c =
+    let e : c.of-program.result.0 ≡ term_of c.in_ok-term.term = ap (λ p. p.0) c.of-program.ensures in
+    rw e (high_fits (term_of c.in_ok-term.term) (omega (arith, c.in_ok-term.ensures.small)) (omega (arith, c.in_ok-term.ensures.low))).1
