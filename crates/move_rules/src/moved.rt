@@ -1,0 +1,111 @@
+//! Walks of one token.
+ghost use Rattle.std.specs.Prelude.{◌≡◌, [], IfOk};
+ghost use Rattle.move_rules.specs.Moves.{move};
+ghost use Rattle.move_rules.specs.Views.{token_of};
+ghost use Rattle.move_rules.specs.Walks.{Reached, Walked, MadeIfSolo};
+
+use crate::{Seen, Token, solo_move};
+use net_build::Net;
+use std::alloc::{AllocError, Global};
+use std::marker::Model;
+
+/// A token before and after a walk, with the trail of nodes that it went through: the one is reached from the other by one solo move
+/// through each node of the trail, in turn, by that node's own rules. Which net the nodes are of is for the reader to see.
+#[derive(Drop)]
+pub struct Moved {
+    before: Token,
+    after: Token,
+    trail: Vec<Seen>,
+}
+
+impl Model for Moved {
+    ghost use Rattle.move_rules.specs.Walks.{Passage, Reached};
+    ghost use Rattle.move_rules.specs.Codes.{passage_code};
+
+    ghost Value = { Passage };
+
+    ghost coded = { passage_code };
+
+    ghost view = { λ m. record { before = m.before; after = m.after; trail = m.trail.items } };
+
+    ghost invariant = { λ m. Reached (record { before = m.before; after = m.after; trail = m.trail.items }) };
+}
+
+impl Moved {
+    /// The token that makes no move.
+    pub fn still(alloc: Global, token: Token) -> Result<Moved, AllocError>
+        ensures before { IfOk result (λ m. m.before ≡ token) }
+        ensures after { IfOk result (λ m. m.after ≡ token) }
+        ensures trail { IfOk result (λ m. m.trail ≡ []) }
+    {
+        let before = token.copy()?;
+        Ok(Moved {
+            before,
+            after: token,
+            trail: Vec::new(alloc),
+        })
+    }
+
+    /// The token before the walk.
+    pub fn before(&self) -> &Token
+        ensures { result.now ≡ self.now.before }
+    {
+        &self.before
+    }
+
+    /// The token after the walk.
+    pub fn after(&self) -> &Token
+        ensures { result.now ≡ self.now.after }
+    {
+        &self.after
+    }
+
+    /// The nodes that the token went through, in turn.
+    pub fn trail(&self) -> &[Seen]
+        ensures trail { result.now ≡ self.now.trail }
+        ensures reached { Reached self.now }
+    {
+        self.trail.as_slice()
+    }
+
+    /// Hands out the token after the walk. Takes no memory.
+    pub fn into_after(self) -> Token
+        ensures { result ≡ self.after }
+    {
+        let Moved { after, .. } = self;
+        after
+    }
+}
+
+/// Walks the token on this net by the table of moves, until `most` moves are made or the next is no solo move: a fork, a join, the
+/// answer, or none. It holds for every token of every net. Memory is taken once for `before`, and for what the stacks grow by.
+pub fn walk(alloc: Global, net: &Net, token: Token, most: u32) -> Result<Moved, AllocError>
+    ensures before { IfOk result (λ m. m.before ≡ token) }
+    ensures walked { IfOk result (Walked net.now most) }
+{
+    let before = token.copy()?;
+    let mut after = token;
+    let mut trail = Vec::new(alloc);
+    let mut left = most;
+    while left > 0 {
+        match solo_move(net, &mut after)? {
+            Some(seen) => trail.push(seen)?,
+            None => break,
+        }
+        left -= 1;
+    }
+    Ok(Moved {
+        before,
+        after,
+        trail,
+    })
+}
+
+/// Makes the token's next move on this net if it is a solo move, and none otherwise: the trail is empty exactly where the next move is
+/// a fork, a join, the answer, or none. It holds for every token of every net.
+pub fn plain_move(alloc: Global, net: &Net, token: Token) -> Result<Moved, AllocError>
+    ensures before { IfOk result (λ m. m.before ≡ token) }
+    ensures moved { IfOk result (λ m. MadeIfSolo net.now m (move net.now (token_of token))) }
+{
+    walk(alloc, net, token, 1)
+}

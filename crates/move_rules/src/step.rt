@@ -1,0 +1,87 @@
+//! One solo move, in place.
+ghost use Rattle.std.specs.Prelude.{◌≡◌, IfOk, OnErr, MatchOption};
+ghost use Rattle.std.specs.Option.{option_map};
+ghost use Rattle.net_build.specs.Sides.{number_of};
+ghost use Rattle.move_rules.specs.Moves.{move, NotSolo};
+ghost use Rattle.move_rules.specs.Steps.{Passes};
+ghost use Rattle.move_rules.specs.Table.{facing};
+ghost use Rattle.move_rules.specs.Views.{place_at, token_of, numbered};
+ghost use Rattle.move_rules.specs.Walks.{SoloMove};
+
+use crate::ground::{const_moves, pred_moves, succ_moves, test_moves};
+use crate::plain::{
+    app_moves, box_moves, con_moves, der_moves, door_moves, fix_moves, fst_moves, lam_moves,
+    pair_moves, snd_moves,
+};
+use crate::{Seen, Token};
+use net_build::{Net, Node};
+use std::alloc::AllocError;
+
+// The move through a node that the token faces.
+fn pass(token: &mut Token, node: Node) -> Result<bool, AllocError>
+    ensures ok { IfOk result (λ made. Passes node token.old made token.new) }
+    ensures err { OnErr result (token.new ≡ token.old) }
+{
+    match node {
+        Node::Const { v, .. } => Ok(const_moves(token, v)),
+        Node::Succ { a, w } => Ok(succ_moves(token, a, w)),
+        Node::Pred { a, w } => Ok(pred_moves(token, a, w)),
+        Node::Ifz { c, p, q, w } => Ok(test_moves(token, c, p, q, w)),
+        Node::Der { w, x } => der_moves(token, w, x),
+        Node::Con { l, r, w } => con_moves(token, l, r, w),
+        Node::Lam { b, x, w } => lam_moves(token, b, x, w),
+        Node::App { f, a, w } => app_moves(token, f, a, w),
+        Node::BoxNode { i, o } => box_moves(token, i, o),
+        Node::Door { i, o } => door_moves(token, i, o),
+        Node::FixBox { b, x, w } => fix_moves(token, b, x, w),
+        Node::Pair { a, b, w } => pair_moves(token, a, b, w),
+        Node::Fst { a, w } => fst_moves(token, a, w),
+        Node::Snd { a, w } => snd_moves(token, a, w),
+        Node::Plus { .. }
+        | Node::Minus { .. }
+        | Node::Times { .. }
+        | Node::Weak { .. }
+        | Node::Root { .. } => Ok(false),
+    }
+}
+
+// The number of the node that the token faces.
+fn number(net: &Net, token: &Token) -> Option<u32>
+    ensures { result ≡ number_of (facing net.now (place_at token.now.wire token.now.up token.now.stacks)) }
+{
+    if token.up {
+        net.above(token.wire)
+    } else {
+        net.below(token.wire)
+    }
+}
+
+/// The node that the token faces, with its number: the least one above its wire where it goes up, and below where it goes down. `None`
+/// exactly where there is none. Takes no memory.
+pub fn faced(net: &Net, token: &Token) -> Option<Seen>
+    ensures { option_map numbered result ≡ facing net.now (place_at token.now.wire token.now.up token.now.stacks) }
+{
+    match number(net, token) {
+        Some(at) => match net.node(at) {
+            Some(node) => Some(Seen { at, node }),
+            None => None,
+        },
+        None => None,
+    }
+}
+
+/// Makes the token's next move on this net in place, if it is a solo move, and answers the node; `None` where it is a fork, a join, the
+/// answer, or none, and the token stays. After want of memory it stays as well. It holds for every token of every net.
+pub fn solo_move(net: &Net, token: &mut Token) -> Result<Option<Seen>, AllocError>
+    ensures ok { IfOk result (λ seen. MatchOption seen (NotSolo (move net.now (token_of token.old)) × (token.new ≡ token.old)) (λ s. SoloMove net.now token.old s token.new)) }
+    ensures err { OnErr result (token.new ≡ token.old) }
+{
+    let Some(seen) = faced(net, token) else {
+        return Ok(None);
+    };
+    if pass(token, seen.node)? {
+        Ok(Some(seen))
+    } else {
+        Ok(None)
+    }
+}
