@@ -1,18 +1,16 @@
 -- The last wires and nodes of each form, once its parts are placed.
-use Rattle.std.proofs.Common.{◌≡◌, ℕ, suc, ◌+◌, ◌<◌, ◌^◌, List, [], ◌∷◌, ◌++◌, length, map, reverse, Option, refl, sym, ap, ◌∙◌, subst, arith}
-use Rattle.std.proofs.lemmas.List.{append_assoc, append-nil, length-append}
-use Rattle.pcf_values.specs.declared.ty.Ty.{Ty}
-use Rattle.pcf_values.specs.Terms.{TyTree, nat, arrow}
+use Rattle.std.proofs.Common.{◌≡◌, ℕ, suc, ◌+◌, ◌<◌, ◌^◌, List, [], ◌∷◌, ◌++◌, length, reverse, Option, refl, sym, ap, ◌∙◌, subst, arith}
+use Rattle.std.proofs.lemmas.List.{append_assoc, length-append}
+use Rattle.pcf_values.specs.Terms.{TyTree, nat}
 use Rattle.pcf_values.specs.Views.{ty_of}
 use Rattle.net_build.specs.declared.node.Node.{Node}
-use Rattle.net_build.specs.declared.node.Node.TheVariants.{Ifz, Lam, App, BoxNode, FixBox}
+use Rattle.net_build.specs.declared.node.Node.TheVariants.{Ifz, App, BoxNode, FixBox}
 use Rattle.net_build.specs.declared.parts.Parts.{Parts}
 use Rattle.net_build.specs.declared.parts.Loose.{Loose}
 use Rattle.net_build.specs.declared.parts.Placed.{Placed}
-use Rattle.net_build.specs.declared.double.Double.{Double}
-use Rattle.net_build.specs.Nets.{WireTree, value_wire, bang_wire, var_wire}
+use Rattle.net_build.specs.Nets.{WireTree, value_wire, bang_wire}
 use Rattle.net_build.specs.NetOf.{Bundle, Part, contract, doors, bound, bound_wire, domain, codomain}
-use Rattle.net_build.specs.Building.{context_of, spread, Falling, Grows, Spreads, Gives, Builds, Bundles, Finishes, Binds, contract_at, doors_at, frees, body_frees, double_node, double_type, double_here, ifz_here, lam_here, fix_here, app_here, box_here, box_wire}
+use Rattle.net_build.specs.Building.{context_of, spread, Falling, Grows, Spreads, Builds, Bundles, Finishes, Binds, contract_at, doors_at, frees, body_frees, ifz_here, fix_here, app_here, box_here, box_wire}
 use Rattle.net_build.proofs.Growing.{grows_then, grows_length}
 
 -- a bundle and then the last value wire with its node

@@ -1,5 +1,5 @@
 -- A term as high as a test's has a net that is small enough.
-use Rattle.std.proofs.Common.{◌≡◌, ◌+◌, ◌*◌, ◌^◌, ◌<◌, ◌≤◌, length, arith}
+use Rattle.std.proofs.Common.{◌+◌, ◌*◌, ◌^◌, ◌<◌, ◌≤◌, length, arith}
 use Rattle.std.proofs.Math.Nat.{mul-le-mul_left}
 use Rattle.pcf_values.specs.Terms.{TermTree, size, height}
 use Rattle.net_build.specs.NetOf.{net_of}

@@ -1,8 +1,7 @@
 -- The loops over loose wires: what they have added so far, and what is left to do.
 use Rattle.std.proofs.Common.{◌≡◌, ◌⊎◌, ℕ, zero, suc, ◌+◌, ◌<◌, ◌≤◌, ◌^◌, List, [], ◌∷◌, ◌++◌, length, map, reverse, refl, sym, ap, ◌∙◌, subst, inl, inr, arith}
-use Rattle.std.specs.Prelude.{nat_eq, nat_lt, if◌then◌else◌}
-use Rattle.std.proofs.lemmas.Bool.{cases_eq, cases_lt, eq-eqb, ne_eqb, lt-ltb, le-ltb}
-use Rattle.std.proofs.lemmas.List.{append_assoc, append-nil, length-append, length-reverse, reverse-reverse}
+use Rattle.std.proofs.lemmas.Bool.{eq-eqb, ne_eqb, lt-ltb, le-ltb}
+use Rattle.std.proofs.lemmas.List.{append_assoc, append-nil, length-append, reverse-reverse}
 use Rattle.pcf_values.specs.Terms.{TyTree}
 use Rattle.pcf_values.specs.Views.{ty_of}
 use Rattle.net_build.specs.declared.node.Node.{Node}
@@ -11,9 +10,9 @@ use Rattle.net_build.specs.declared.parts.Parts.{Parts}
 use Rattle.net_build.specs.declared.parts.Loose.{Loose}
 use Rattle.net_build.specs.Nets.{WireTree, var_wire}
 use Rattle.net_build.specs.NetOf.{Bundle, contract, doors}
-use Rattle.net_build.specs.Building.{spread, Falling, Grows, Spreads, Bundles, Varies, Takes, both, first, second, IsFirst, binder_type, contract_at, doors_at, context_of}
+use Rattle.net_build.specs.Building.{spread, Falling, Grows, Bundles, Varies, Takes, both, first, second, IsFirst, binder_type, context_of}
 use Rattle.net_build.proofs.Growing.{grows_none, grows_then, grows_length}
-use Rattle.net_build.proofs.Merging.{Merged, more, put, left_over, loose, merge, leave, levels, type_at, Same, merge_contract, leave_doors, merge_none, none_merge}
+use Rattle.net_build.proofs.Merging.{Merged, more, put, left_over, loose, merge, leave, type_at, Same, merge_contract, leave_doors, merge_none, none_merge}
 use Rattle.net_build.proofs.Spreading.{context_levels}
 
 -- the entry that was looked at is the one that was taken off

@@ -1,21 +1,21 @@
 -- A term whose parts are placed one after another is placed as the definition says.
-use Rattle.std.proofs.Common.{◌≡◌, ℕ, zero, suc, ◌+◌, ◌-◌, ◌⊎◌, ◌<◌, ◌≤◌, ◌^◌, List, [], ◌∷◌, ◌++◌, length, map, reverse, get_or, Option, Some, None, refl, sym, ap, ◌∙◌, subst, inl, inr, arith}
-use Rattle.std.specs.Prelude.{slice_get, nat_eq, nat_lt, if◌then◌else◌}
-use Rattle.std.proofs.lemmas.Bool.{cases_lt, lt-ltb, le-ltb, eq-eqb, ne_eqb}
-use Rattle.std.proofs.lemmas.List.{append_assoc, append-nil, length-append, length-map, length-reverse, reverse-append, get_or-reverse}
+use Rattle.std.proofs.Common.{◌≡◌, ℕ, zero, suc, ◌+◌, ◌-◌, ◌⊎◌, ◌<◌, ◌≤◌, ◌^◌, List, [], ◌∷◌, ◌++◌, length, map, reverse, Some, None, refl, sym, ap, ◌∙◌, subst, inl, inr, arith}
+use Rattle.std.specs.Prelude.{slice_get}
+use Rattle.std.proofs.lemmas.Bool.{cases_lt, lt-ltb, le-ltb}
+use Rattle.std.proofs.lemmas.List.{append-nil, length-append, reverse-append}
 use Rattle.pcf_values.specs.declared.ty.Ty.{Ty}
-use Rattle.pcf_values.specs.Terms.{TyTree, nat, arrow, TermTree, var, ifz, lam, fix, app}
+use Rattle.pcf_values.specs.Terms.{TyTree, TermTree, var, ifz, lam, fix, app}
 use Rattle.pcf_values.specs.Views.{ty_of}
 use Rattle.net_build.specs.declared.node.Node.{Node}
-use Rattle.net_build.specs.declared.node.Node.TheVariants.{Ifz, Lam, App, BoxNode, FixBox, Der}
+use Rattle.net_build.specs.declared.node.Node.TheVariants.{Der}
 use Rattle.net_build.specs.declared.parts.Parts.{Parts}
 use Rattle.net_build.specs.declared.parts.Loose.{Loose}
 use Rattle.net_build.specs.declared.parts.Placed.{Placed}
 use Rattle.net_build.specs.declared.double.Double.{Double}
-use Rattle.net_build.specs.Nets.{WireTree, value_wire, bang_wire, var_wire}
-use Rattle.net_build.specs.NetOf.{Bundle, Part, part, contract, doors, bound, bound_wire, domain, codomain, none_free, one_free, type_or_nat}
+use Rattle.net_build.specs.Nets.{value_wire, bang_wire, var_wire}
+use Rattle.net_build.specs.NetOf.{Part, part, contract, doors, bound, domain, codomain, none_free, one_free, type_or_nat}
 use Rattle.net_build.specs.Views.{wire_of}
-use Rattle.net_build.specs.Building.{context_of, spread, Falling, Grows, Spreads, Gives, Builds, BuildsBody, frees, body_frees, part_at, second_at, third_at, body_at, double_node, double_type, double_tail, double_here, double_at, double_of, ifz_tail, ifz_here, ifz_at, lam_tail, lam_here, lam_at, fix_tail, fix_here, fix_at, app_tail, app_here, app_at, one_at}
+use Rattle.net_build.specs.Building.{context_of, spread, Grows, Spreads, Gives, Builds, BuildsBody, frees, body_frees, part_at, second_at, third_at, body_at, double_node, double_type, double_tail, double_here, double_of, ifz_tail, ifz_here, lam_tail, lam_here, fix_tail, fix_here, app_tail, app_here, one_at}
 use Rattle.net_build.proofs.Growing.{grows_then, grows_length}
 use Rattle.net_build.proofs.Ending.{before, after}
 use Rattle.net_build.proofs.Spreading.{context_length, spread_none}

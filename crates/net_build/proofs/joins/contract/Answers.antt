@@ -1,7 +1,7 @@
-use Rattle.std.proofs.Common.{rules, [], ◌⊎◌, ⊎_elim, ◌≡◌, ◌<◌, ◌^◌, ◌+◌, length, reverse, ap, subst, sym, ◌∙◌, inl, inr}
+use Rattle.std.proofs.Common.{rules, [], ◌⊎◌, ⊎_elim, ◌≡◌, reverse, ap, inl, inr}
 use Rattle.std.proofs.lemmas.Result.{IfOk-weaker}
 use Rattle.std.proofs.lemmas.List.{nil_from_length}
-use Rattle.net_build.proofs.Joining.{IsMerging, merging_starts, merging_steps, merging_room, merging_ends, whole_contract, rooms}
+use Rattle.net_build.proofs.Joining.{merging_starts, merging_steps, merging_room, merging_ends, whole_contract, rooms}
 use Rattle.net_build.proofs.joins.contract.Goals as goal
 use Rattle.net_build.proofs.joins.contract.Goals.{then-loop-right-test+else-not-is_empty, else-loop-right-test}
 

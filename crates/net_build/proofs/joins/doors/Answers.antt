@@ -1,6 +1,6 @@
-use Rattle.std.proofs.Common.{rules, [], ◌≡◌, ◌<◌, ◌^◌, ◌+◌, length, reverse, ap, subst, sym, ◌∙◌}
+use Rattle.std.proofs.Common.{rules, [], ◌≡◌, reverse, ap}
 use Rattle.std.proofs.lemmas.List.{nil_from_length}
-use Rattle.net_build.proofs.Joining.{IsLeaving, leaving_starts, leaving_steps, leaving_room, leaving_ends, whole_leave, rooms}
+use Rattle.net_build.proofs.Joining.{leaving_starts, leaving_steps, leaving_room, leaving_ends, whole_leave, rooms}
 use Rattle.net_build.proofs.joins.doors.Goals as goal
 
 pub loop-alloc-init : goal.loop-alloc-init

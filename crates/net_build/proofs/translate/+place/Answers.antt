@@ -1,4 +1,4 @@
-use Rattle.std.proofs.Common.{rules, ◌+◌, refl, arith}
+use Rattle.std.proofs.Common.{rules, ◌+◌, arith}
 use Rattle.std.proofs.lemmas.Result.{IfOk-weaker}
 use Rattle.pcf_values.specs.Views.{ty_of, term_of}
 use Rattle.net_build.proofs.Placing.{double_builds, ifz_numbers, ifz_depths, ifz_close_room, ifz_builds, app_builds_at, lam_builds, fix_close_room_at, fix_builds_at}

@@ -1,4 +1,4 @@
-use Rattle.std.proofs.Common.{suc, ◌+◌, ◌*◌}
+use Rattle.std.proofs.Common.{◌+◌, ◌*◌}
 use Rattle.pcf_values.specs.Terms.{size}
 use Rattle.pcf_values.specs.Views.{term_of}
 use Rattle.net_build.proofs.translate.+place.Given as goal

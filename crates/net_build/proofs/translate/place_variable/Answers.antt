@@ -1,4 +1,4 @@
-use Rattle.std.proofs.Common.{rules, ◌≡◌, ◌+◌, suc, length, refl, ap, ◌∙◌, arith}
+use Rattle.std.proofs.Common.{rules, ◌≡◌, ◌+◌, length, refl, ap, ◌∙◌, arith}
 use Rattle.net_build.specs.declared.node.Node.TheVariants.{Der}
 use Rattle.net_build.specs.Building.{one_at}
 use Rattle.net_build.proofs.Placing.{variable_builds, node_grows}
