@@ -1,0 +1,4 @@
+mod Counting
+mod Looking
+mod Meeting
+mod Verdict

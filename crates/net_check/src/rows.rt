@@ -1,0 +1,204 @@
+//! Whether a node meets its row: first by kinds and types, and then by depths.
+
+ghost use Rattle.std.specs.Prelude.{◌≡◌, ◌↔◌, ℕ, suc, Some, IsTrue, slice_get};
+ghost use Rattle.std.specs.Option.{option_map};
+ghost use Rattle.pcf_values.specs.Terms.{TyTree, nat, arrow, product};
+ghost use Rattle.pcf_values.specs.Views.{ty_of};
+ghost use Rattle.net_build.specs.Views.{wire_of};
+ghost use Rattle.net_build.specs.declared.wire.WireKind.TheVariants.{Value, Bang, Variable};
+ghost use Rattle.net_check.specs.Rows.{AreAllOne, AreOne, DepthsMeet, IsArrow, IsLeft, IsProduct, IsRight, TypesMeet, depth_in, type_if};
+
+use net_build::{Net, Node, Wire, WireKind};
+use pcf_values::Ty;
+
+/// Whether the node's wires are of the kinds and types that its row asks.
+pub(crate) fn types_meet(net: &Net, node: Node) -> bool
+    ensures { IsTrue result ↔ TypesMeet net.now node }
+{
+    match node {
+        Node::Const { w, .. } | Node::Root { w } => is_nat(value(net, w)),
+        Node::Succ { a, w } | Node::Pred { a, w } => is_nat(value(net, a)) && is_nat(value(net, w)),
+        Node::Plus { a, b, w } | Node::Minus { a, b, w } | Node::Times { a, b, w } => {
+            is_nat(value(net, a)) && is_nat(value(net, b)) && is_nat(value(net, w))
+        }
+        Node::Ifz { c, p, q, w } => {
+            is_nat(value(net, c))
+                && is_nat(value(net, p))
+                && is_nat(value(net, q))
+                && is_nat(value(net, w))
+        }
+        Node::Der { w, x } => are_one(value(net, w), variable(net, x)),
+        Node::Con { l, r, w } => are_all_one(variable(net, l), variable(net, r), variable(net, w)),
+        Node::Weak { x } => variable(net, x).is_some(),
+        Node::Lam { b, x, w } => is_arrow(value(net, w), variable(net, x), value(net, b)),
+        Node::App { f, a, w } => is_arrow(value(net, f), bang(net, a), value(net, w)),
+        Node::BoxNode { i, o } => are_one(value(net, i), bang(net, o)),
+        Node::Door { i, o } => are_one(variable(net, i), variable(net, o)),
+        Node::FixBox { b, x, w } => are_all_one(value(net, b), variable(net, x), value(net, w)),
+        Node::Pair { a, b, w } => is_product(value(net, w), value(net, a), value(net, b)),
+        Node::Fst { a, w } => is_left(value(net, a), value(net, w)),
+        Node::Snd { a, w } => is_right(value(net, a), value(net, w)),
+    }
+}
+
+/// The type of a wire, where it is a value wire.
+fn value(net: &Net, n: u32) -> Option<&Ty>
+    ensures { option_map (λ t. ty_of t.now) result ≡ type_if Value (slice_get net.now.wires n) }
+{
+    of_kind(net.wire(n), WireKind::Value)
+}
+
+/// The type of a wire, where it is a bang wire.
+fn bang(net: &Net, n: u32) -> Option<&Ty>
+    ensures { option_map (λ t. ty_of t.now) result ≡ type_if Bang (slice_get net.now.wires n) }
+{
+    of_kind(net.wire(n), WireKind::Bang)
+}
+
+/// The type of a wire, where it is a variable wire.
+fn variable(net: &Net, n: u32) -> Option<&Ty>
+    ensures { option_map (λ t. ty_of t.now) result ≡ type_if Variable (slice_get net.now.wires n) }
+{
+    of_kind(net.wire(n), WireKind::Variable)
+}
+
+fn of_kind(wire: Option<&Wire>, kind: WireKind) -> Option<&Ty>
+    ensures { option_map (λ t. ty_of t.now) result ≡ type_if kind (option_map (λ w. wire_of w.now) wire.entry) }
+{
+    match wire {
+        Some(wire) if wire.kind == kind => Some(&wire.ty),
+        _ => None,
+    }
+}
+
+fn is_nat(ty: Option<&Ty>) -> bool
+    ensures { IsTrue result ↔ (option_map (λ t. ty_of t.now) ty.entry ≡ Some nat) }
+{
+    match ty {
+        Some(Ty::Nat) => true,
+        _ => false,
+    }
+}
+
+/// Whether both are there and one type.
+fn are_one(a: Option<&Ty>, b: Option<&Ty>) -> bool
+    ensures { IsTrue result ↔ AreOne (option_map (λ t. ty_of t.now) a.entry) (option_map (λ t. ty_of t.now) b.entry) }
+{
+    match (a, b) {
+        (Some(a), Some(b)) => a.same(b),
+        _ => false,
+    }
+}
+
+/// Whether all three are there and one type.
+fn are_all_one(a: Option<&Ty>, b: Option<&Ty>, c: Option<&Ty>) -> bool
+    ensures { IsTrue result ↔ AreAllOne (option_map (λ t. ty_of t.now) a.entry) (option_map (λ t. ty_of t.now) b.entry) (option_map (λ t. ty_of t.now) c.entry) }
+{
+    match (a, b, c) {
+        (Some(a), Some(b), Some(c)) => a.same(b) && a.same(c),
+        _ => false,
+    }
+}
+
+/// Whether the first is the type of functions from the second to the third.
+fn is_arrow(function: Option<&Ty>, from: Option<&Ty>, to: Option<&Ty>) -> bool
+    ensures { IsTrue result ↔ IsArrow (option_map (λ t. ty_of t.now) function.entry) (option_map (λ t. ty_of t.now) from.entry) (option_map (λ t. ty_of t.now) to.entry) }
+{
+    match (function, from, to) {
+        (Some(Ty::Arrow(a, b)), Some(from), Some(to)) => a.same(from) && b.same(to),
+        _ => false,
+    }
+}
+
+/// Whether the first is the type of pairs of the second and the third.
+fn is_product(pair: Option<&Ty>, left: Option<&Ty>, right: Option<&Ty>) -> bool
+    ensures { IsTrue result ↔ IsProduct (option_map (λ t. ty_of t.now) pair.entry) (option_map (λ t. ty_of t.now) left.entry) (option_map (λ t. ty_of t.now) right.entry) }
+{
+    match (pair, left, right) {
+        (Some(Ty::Product(a, b)), Some(left), Some(right)) => a.same(left) && b.same(right),
+        _ => false,
+    }
+}
+
+/// Whether the first is the type of pairs whose left part has the second.
+fn is_left(pair: Option<&Ty>, part: Option<&Ty>) -> bool
+    ensures { IsTrue result ↔ IsLeft (option_map (λ t. ty_of t.now) pair.entry) (option_map (λ t. ty_of t.now) part.entry) }
+{
+    match (pair, part) {
+        (Some(Ty::Product(a, _)), Some(part)) => a.same(part),
+        _ => false,
+    }
+}
+
+/// Whether the first is the type of pairs whose right part has the second.
+fn is_right(pair: Option<&Ty>, part: Option<&Ty>) -> bool
+    ensures { IsTrue result ↔ IsRight (option_map (λ t. ty_of t.now) pair.entry) (option_map (λ t. ty_of t.now) part.entry) }
+{
+    match (pair, part) {
+        (Some(Ty::Product(_, b)), Some(part)) => b.same(part),
+        _ => false,
+    }
+}
+
+/// Whether the node's wires are at the depths that its row asks.
+pub(crate) fn depths_meet(net: &Net, node: Node) -> bool
+    ensures { IsTrue result ↔ DepthsMeet net.now node }
+{
+    match node {
+        Node::Const { w, .. } => depth(net, w).is_some(),
+        Node::Weak { x } => depth(net, x).is_some(),
+        Node::Root { w } => depth(net, w) == Some(0),
+        Node::Succ { a, w } | Node::Pred { a, w } | Node::Fst { a, w } | Node::Snd { a, w } =>
+            level(depth(net, a), depth(net, w)),
+        Node::Der { w, x } => level(depth(net, w), depth(net, x)),
+        Node::Plus { a, b, w }
+        | Node::Minus { a, b, w }
+        | Node::Times { a, b, w }
+        | Node::Pair { a, b, w } => {
+            level(depth(net, a), depth(net, b)) && level(depth(net, a), depth(net, w))
+        }
+        Node::Con { l, r, w } => level(depth(net, l), depth(net, r))
+            && level(depth(net, l), depth(net, w)),
+        Node::Lam { b, x, w } => level(depth(net, b), depth(net, x))
+            && level(depth(net, b), depth(net, w)),
+        Node::App { f, a, w } => level(depth(net, f), depth(net, a))
+            && level(depth(net, f), depth(net, w)),
+        Node::Ifz { c, p, q, w } => {
+            level(depth(net, c), depth(net, p))
+                && level(depth(net, c), depth(net, q))
+                && level(depth(net, c), depth(net, w))
+        }
+        Node::BoxNode { i, o } | Node::Door { i, o } => inside(depth(net, i), depth(net, o)),
+        Node::FixBox { b, x, w } => inside(depth(net, b), depth(net, w))
+            && inside(depth(net, x), depth(net, w)),
+    }
+}
+
+fn depth(net: &Net, n: u32) -> Option<u32>
+    ensures { result ≡ depth_in (slice_get net.now.wires n) }
+{
+    match net.wire(n) {
+        Some(wire) => Some(wire.depth),
+        None => None,
+    }
+}
+
+/// Whether both are there and one depth.
+fn level(a: Option<u32>, b: Option<u32>) -> bool
+    ensures { IsTrue result ↔ ((d : ℕ) × (a ≡ Some d) × (b ≡ Some d)) }
+{
+    match (a, b) {
+        (Some(a), Some(b)) => a == b,
+        _ => false,
+    }
+}
+
+/// Whether the first is one deeper than the second. No depth is one deeper than 4294967295.
+fn inside(a: Option<u32>, b: Option<u32>) -> bool
+    ensures { IsTrue result ↔ ((d : ℕ) × (a ≡ Some (suc d)) × (b ≡ Some d)) }
+{
+    match (a, b) {
+        (Some(a), Some(b)) => b < a && a - b == 1,
+        _ => false,
+    }
+}
