@@ -1,0 +1,24 @@
+//! The program: it hands the words of the process, the files of the system and its standard streams to the top call, and ends with
+//! the status that this answers.
+#![tactic(auto)]
+
+use goi_engine::goi;
+use goi_world::{DiskFiles, StdSink};
+use std::process::ExitCode;
+use std::rt::Env;
+use std::{env, io};
+
+fn main(rt: HostRuntime) -> ExitCode {
+    let alloc = rt.alloc();
+    // Words that aren't text ask for nothing, as no words do.
+    let words = words_of(&rt).unwrap_or(Vec::new(alloc));
+    let mut files = DiskFiles::new(&rt);
+    let mut out = StdSink::over(rt.stdout());
+    let mut err = StdSink::over(rt.stderr());
+    ExitCode::from(goi(alloc, &words, &mut files, &mut out, &mut err))
+}
+
+/// The words of the process, its own name first.
+fn words_of<R: Env + AllocGlobal>(rt: &R) -> io::Result<Vec<String>> {
+    Ok(env::args(rt)?.collect(rt.alloc())?)
+}

@@ -1,0 +1,9 @@
+pub mod Judged
+pub mod Kept
+pub mod Listed
+pub mod Loading
+pub mod Reported
+pub mod Sized
+pub mod SmallRun
+pub mod Told
+pub mod Writing

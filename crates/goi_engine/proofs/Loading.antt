@@ -1,0 +1,53 @@
+-- What one read adds to what was loaded, and when all is loaded.
+use Rattle.std.proofs.Common.{◌≡◌, ℕ, ◌+◌, ◌<◌, ◌≤◌, List, ◌++◌, length, take, Option, Some, None, IfSome, sym, ap, subst, ◌∙◌, ◌⊎◌, inl, inr, arith, length-append}
+use Rattle.std.proofs.Math.Seq.{take-add}
+use Rattle.std.proofs.lemmas.List.{take_all, length-take-le}
+use Rattle.goi_world.specs.Outside.{IsPiece}
+use Rattle.goi_engine.specs.Loads.{Loads}
+
+grown : (bytes old new piece : List ℕ) (n : ℕ) → new ≡ old ++ take n piece → length new ≡ length old + n → IsPiece bytes (length old) n piece → old ≡ take (length old) bytes → new ≡ take (length new) bytes
+grown bytes old new piece n e len p front =
+    e
+    ∙ ap (λ xs. xs ++ take n piece) front
+    ∙ ap (λ xs. take (length old) bytes ++ xs) p.same
+    ∙ sym (take-add (length old) n bytes)
+    ∙ ap (λ i. take i bytes) (sym len)
+
+-- a read of n bytes, which were put behind those before
+pub loads : (known : Option (List ℕ)) (old new piece : List ℕ) (n : ℕ) → new ≡ old ++ take n piece → n ≤ length piece → 0 < length piece → length old + length piece ≤ 1048577 → IfSome known (λ bytes. IsPiece bytes (length old) n piece) → Loads known old new n
+loads None old new piece n e le some room p =
+    let len : length new ≡ length old + n = ap length e ∙ length-append old (take n piece) ∙ ap (λ m. length old + m) (length-take-le n piece le) in
+    record { more = len; within = omega arith; front = p; end = p }
+loads (Some bytes) old new piece n e le some room p =
+    let len : length new ≡ length old + n = ap length e ∙ length-append old (take n piece) ∙ ap (λ m. length old + m) (length-take-le n piece le) in
+    record {
+      more = len;
+      within = omega arith;
+      front = λ front. grown bytes old new piece n e len p front;
+      end = λ zero. p.end zero some;
+    }
+
+ended : (known : Option (List ℕ)) (old new : List ℕ) (n : ℕ) → Loads known old new n → IfSome known (λ bytes. old ≡ take (length old) bytes) → (n ≡ 0) ⊎ (length new ≡ 1048577) → IfSome known (λ bytes. new ≡ take 1048577 bytes)
+ended None old new n loads front done = front
+ended (Some bytes) old new n loads front (inr full) = loads.front front ∙ ap (λ i. take i bytes) full
+ended (Some bytes) old new n loads front (inl zero) =
+    let short : length bytes ≤ length new = omega (arith, loads.end zero, loads.more) in
+    let within : length bytes ≤ 1048577 = omega (arith, short, loads.within) in
+    loads.front front ∙ take_all (length new) bytes short ∙ sym (take_all 1048577 bytes within)
+
+goes_on : (known : Option (List ℕ)) (old new : List ℕ) (n : ℕ) → Loads known old new n → IfSome known (λ bytes. old ≡ take (length old) bytes) → IfSome known (λ bytes. new ≡ take (length new) bytes)
+goes_on None old new n loads front = front
+goes_on (Some bytes) old new n loads front = loads.front front
+
+-- Below, the files tell now what they told at first.
+module _ (now first : List ℕ → Option (List ℕ)) (name old new : List ℕ) (n : ℕ) (same : now ≡ first) (loads : Loads (now name) old new n) (front : IfSome (first name) (λ bytes. old ≡ take (length old) bytes)) where
+  loads_first : Loads (first name) old new n
+  loads_first = subst (λ (told : List ℕ → Option (List ℕ)). Loads (told name) old new n) same loads
+
+  -- at its end, or past its limit, all of a file is loaded that is to be
+  pub all_loaded : (n ≡ 0) ⊎ (length new ≡ 1048577) → IfSome (first name) (λ bytes. new ≡ take 1048577 bytes)
+  all_loaded done = ended (first name) old new n loads_first front done
+
+  -- a front of a file goes on
+  pub front_goes_on : IfSome (first name) (λ bytes. new ≡ take (length new) bytes)
+  front_goes_on = goes_on (first name) old new n loads_first front

@@ -1,0 +1,24 @@
+use Rattle.std.proofs.Common.{◌∙◌, inl, inr, arith}
+use Rattle.goi_engine.proofs.Loading.{all_loaded, front_goes_on}
+use Rattle.goi_engine.proofs.load.load.Goals as goal
+use Rattle.goi_engine.proofs.load.load.Goals.{then-count-eq0-via-then-count-eq0, then-count-eq0-via-else-count-eq0+then-len-eq-MOST_BYTES}
+
+pub returns-then-count-eq0-clause-bytes : goal.returns-then-count-eq0-clause-bytes
+returns-then-count-eq0-clause-bytes g c =
+    let rest = all_loaded (g.F.Files.told c.loop-turn.files) (g.F.Files.told c.args.files.now) c.args.name.now c.loop-turn.bytes.items _ c.in_ok-count.count c.loop-turn.invariant.told c.in_ok-count.ensures.loads c.loop-turn.invariant.front in
+    elim c.then-count-eq0.branch [
+      | then-count-eq0-via-then-count-eq0 w ↦ rest (inl w.if-count-eq0.true)
+      | then-count-eq0-via-else-count-eq0+then-len-eq-MOST_BYTES w ↦ rest (inr (omega (arith, w.if-len-eq-MOST_BYTES.true, w.len-else-count-eq0.ensures, c.load_piece.new.bytes.ok.0)))
+    ]
+
+pub loop-turn-preserved : goal.loop-turn-preserved
+loop-turn-preserved g c =
+    let loads = c.in_ok-count.ensures.loads in
+    record {
+      count = omega (arith, loads.more, c.if-count-eq0.false);
+      within = omega (arith, loads.within, c.if-len-eq-MOST_BYTES.false, c.len-else-count-eq0.ensures, c.load_piece.new.bytes.ok.0);
+      told = c.in_ok-count.ensures.told ∙ c.loop-turn.invariant.told;
+      lacks = c.in_ok-count.ensures.lacks ∙ c.loop-turn.invariant.lacks;
+      faults = c.in_ok-count.ensures.ok ∙ c.loop-turn.invariant.faults;
+      front = front_goes_on (g.F.Files.told c.loop-turn.files) (g.F.Files.told c.args.files.now) c.args.name.now c.loop-turn.bytes.items _ c.in_ok-count.count c.loop-turn.invariant.told loads c.loop-turn.invariant.front;
+    }

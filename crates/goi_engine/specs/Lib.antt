@@ -1,0 +1,13 @@
+pub mod Answers
+pub mod Arithmetic
+pub mod Delivers
+pub mod Jobs
+pub mod Listing
+pub mod Loads
+pub mod Promise
+pub mod Questions
+pub mod Refusals
+pub mod Reports
+pub mod SmallWalk
+pub mod Stops
+pub mod Verdicts

@@ -1,0 +1,57 @@
+//! The answer to the words, as a value, before anything is written.
+
+ghost use Rattle.std.specs.Prelude.{◌≡◌, map, string_bytes};
+ghost use Rattle.goi_engine.specs.Jobs.{job, seen_job};
+ghost use Rattle.goi_engine.specs.Answers.{Answers, AnswersText};
+
+use crate::fault::fault_line;
+use crate::job::{Job, job_of};
+use crate::judge::{Stop, report_on};
+use crate::load::{LoadError, load};
+use goi_world::Files;
+use std::alloc::Global;
+
+/// The answer to the words.
+#[derive(Debug, Drop)]
+pub(crate) enum Answer {
+    /// All is done, and this is the report.
+    Prints(Vec<u8>),
+    /// The program has a fault, and this is the line that says so.
+    Refused(Vec<u8>),
+    /// The words ask for nothing.
+    BadWords,
+    /// The program's file could not be read.
+    NotRead,
+    /// There was no memory.
+    NoMemory,
+}
+
+/// Does the job that the words ask for, with the file that they name.
+pub(crate) fn answer_to<F: Files>(alloc: Global, words: &[String], files: &mut F) -> Answer
+    ensures told { F.told files.new ≡ F.told files.old }
+    ensures lacks { F.lacks files.new ≡ F.lacks files.old }
+    ensures answers { Answers (job (map string_bytes words.now)) (F.told files.old) (F.lacks files.old) (F.faults files.old) (F.faults files.new) result }
+{
+    let Some(job) = job_of(words) else {
+        return Answer::BadWords;
+    };
+    match load(alloc, files, job.file()) {
+        Ok(loaded) => answer_text(alloc, job, &loaded.bytes),
+        Err(LoadError::Failed) => Answer::NotRead,
+        Err(LoadError::Memory) => Answer::NoMemory,
+    }
+}
+
+/// The answer to a job on a text.
+fn answer_text(alloc: Global, job: Job<'_>, bytes: &[u8]) -> Answer
+    ensures { AnswersText (seen_job job.entry) bytes.now result }
+{
+    match report_on(alloc, job, bytes) {
+        Ok(report) => Answer::Prints(report),
+        Err(Stop::Fault(fault)) => match fault_line(alloc, fault) {
+            Ok(line) => Answer::Refused(line),
+            Err(_) => Answer::NoMemory,
+        },
+        Err(Stop::Memory) => Answer::NoMemory,
+    }
+}

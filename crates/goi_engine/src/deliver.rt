@@ -1,0 +1,54 @@
+//! Writing what was answered.
+
+ghost use Rattle.std.specs.Prelude.{◌≡◌, ◌⊎◌, MatchResult};
+ghost use Rattle.goi_engine.specs.Delivers.{sink, Wrote, Broke, Refuses, Delivered};
+
+use crate::answer::Answer;
+use goi_world::{Failed, Sink};
+
+/// Writes a text whole, or a front of it before a failure.
+pub(crate) fn write_all<S: Sink>(out: &mut S, text: &[u8]) -> Result<(), Failed>
+    ensures { MatchResult result
+        (λ _. Wrote text.now (sink (S.written out.old) (S.faults out.old) (S.spare out.old)) (sink (S.written out.new) (S.faults out.new) (S.spare out.new)))
+        (λ _. Broke text.now (sink (S.written out.old) (S.faults out.old) (S.spare out.old)) (sink (S.written out.new) (S.faults out.new) (S.spare out.new))) }
+{
+    let mut rest = text;
+    while !rest.is_empty() {
+        let count = out.write(rest)?;
+        rest = rest.split_at(count).1;
+    }
+    Ok(())
+}
+
+/// Writes the report to `out`, or the line of a refusal to `err`, and gives the status.
+pub(crate) fn deliver<O: Sink, E: Sink>(answer: &Answer, out: &mut O, err: &mut E) -> u8
+    ensures { Delivered answer.now
+        (sink (O.written out.old) (O.faults out.old) (O.spare out.old)) (sink (O.written out.new) (O.faults out.new) (O.spare out.new))
+        (sink (E.written err.old) (E.faults err.old) (E.spare err.old)) (sink (E.written err.new) (E.faults err.new) (E.spare err.new)) result }
+{
+    let written = match answer {
+        Answer::Prints(report) => write_all(out, report),
+        Answer::Refused(line) => return refuse(err, 1, line),
+        Answer::BadWords => return refuse(err, 2, b"refused words\n"),
+        Answer::NotRead => return refuse(err, 3, b"read failed\n"),
+        Answer::NoMemory => return refuse(err, 6, b"no memory\n"),
+    };
+    match written {
+        Ok(()) => 0,
+        Err(_) => {
+            let _ = write_all(err, b"write failed\n");
+            4
+        }
+    }
+}
+
+/// Writes the line of a refusal with this status.
+fn refuse<E: Sink>(err: &mut E, status: u8, line: &[u8]) -> u8
+    ensures { (result ≡ status) × Wrote line.now (sink (E.written err.old) (E.faults err.old) (E.spare err.old)) (sink (E.written err.new) (E.faults err.new) (E.spare err.new))
+        ⊎ (result ≡ 4) × Broke line.now (sink (E.written err.old) (E.faults err.old) (E.spare err.old)) (sink (E.written err.new) (E.faults err.new) (E.spare err.new)) }
+{
+    match write_all(err, line) {
+        Ok(()) => status,
+        Err(_) => 4,
+    }
+}

@@ -1,0 +1,23 @@
+//! The top call: what the program does, over files and sinks that are handed in.
+//!
+//! `goi` reads the words, loads the program's file, makes the whole answer as a value and writes it out; its contract says, from the
+//! bytes of the file to the bytes of the answer, what each status means and why it comes. The statements stand in
+//! `specs/Promise.antt`. Which device the files and sinks are is left to the caller.
+#![tactic(auto)]
+
+mod answer;
+mod deliver;
+mod fault;
+mod job;
+mod judge;
+mod listing;
+mod load;
+mod report;
+mod small_walk;
+mod top;
+
+pub use listing::net_text;
+pub use top::goi;
+
+#[cfg(test)]
+mod tests;

@@ -1,0 +1,101 @@
+//! Reading a program's file, piece by piece, up to one byte more than its limit.
+
+ghost use Rattle.std.specs.Prelude.{◌≡◌, ◌⊎◌, ◌<◌, ◌≤◌, ◌+◌, IsTrue, length, take, IsErr, OnOk, IfOk, IfSome, IsErrOf};
+ghost use Rattle.goi_world.specs.Outside.{Rose};
+ghost use Rattle.goi_engine.specs.Loads.{Loads};
+ghost use Rattle.goi_engine.specs.declared.load.LoadError.TheVariants.{Memory};
+
+use goi_world::Files;
+use pcf_values::limits::PROGRAM_BYTES;
+use std::alloc::{AllocError, Global};
+
+/// One byte more than a program's file may have, which is enough to see that it is too long.
+const MOST_BYTES: usize = PROGRAM_BYTES as usize + 1;
+
+/// How many bytes are asked for in one turn.
+const PIECE_BYTES: usize = 65_536;
+
+/// The most turns: each but the last takes a byte.
+const MOST_TURNS: u32 = MOST_BYTES as u32 + 1;
+
+/// What was read of a file, in so many turns of one read each.
+#[derive(Debug, Drop)]
+pub(crate) struct Loaded {
+    pub(crate) bytes: Vec<u8>,
+    pub(crate) turns: u32,
+}
+
+/// Why a file wasn't loaded.
+#[derive(Clone, Copy, Debug, PartialEq, Eq)]
+pub(crate) enum LoadError {
+    Memory,
+    Failed,
+}
+
+impl From<AllocError> for LoadError {
+    ghost from_gives = { λ _ e. e ≡ Memory };
+
+    fn from(_: AllocError) -> LoadError {
+        LoadError::Memory
+    }
+}
+
+/// The bytes of a file, or as many as show that it is too long.
+pub(crate) fn load<F: Files>(alloc: Global, files: &mut F, name: &str) -> Result<Loaded, LoadError>
+    ensures told { F.told files.new ≡ F.told files.old }
+    ensures lacks { F.lacks files.new ≡ F.lacks files.old }
+    ensures bytes { IfOk result (λ v. IfSome (F.told files.old name.now) (λ bytes. v.bytes.items ≡ take 1048577 bytes)) }
+    ensures no_further { IfOk result (λ v. length v.bytes.items ≤ 1048577) }
+    ensures turns { IfOk result (λ v. v.turns ≤ 1048578) }
+    ensures lacked { IsTrue (F.lacks files.old name.now) → IsErr result }
+    ensures ok { OnOk result (F.faults files.new ≡ F.faults files.old) }
+    ensures memory { IsErrOf result LoadError.Memory → F.faults files.new ≡ F.faults files.old }
+    ensures failed { IsErrOf result LoadError.Failed → IsTrue (F.lacks files.old name.now) ⊎ Rose (F.faults files.old) (F.faults files.new) }
+{
+    let mut piece = zeros(alloc, PIECE_BYTES)?;
+    let buffer: &mut [u8] = &mut piece;
+    let mut bytes = Vec::new(alloc);
+    for turn in 0..MOST_TURNS {
+        let most = PIECE_BYTES.min(MOST_BYTES - bytes.len());
+        let count = load_piece(files, name, &mut buffer[..most], &mut bytes)?;
+        if count == 0 || bytes.len() == MOST_BYTES {
+            let turns = turn + 1;
+            return Ok(Loaded { bytes, turns });
+        }
+    }
+    unreachable!()
+}
+
+/// So many zeros.
+fn zeros(alloc: Global, count: usize) -> Result<Vec<u8>, AllocError>
+    ensures { IfOk result (λ v. length v.items ≡ count) }
+{
+    vec![in alloc; 0u8; count]
+}
+
+/// Reads once, puts what was read behind the bytes, and answers how many bytes it was.
+#[tactic(auto, using(crate::proofs::Loading::loads))]
+fn load_piece<F: Files>(
+    files: &mut F,
+    name: &str,
+    piece: &mut [u8],
+    bytes: &mut Vec<u8>,
+) -> Result<usize, LoadError>
+    requires some { 0 < length piece.old }
+    requires room { length bytes.old.items + length piece.old ≤ 1048577 }
+    ensures told { F.told files.new ≡ F.told files.old }
+    ensures lacks { F.lacks files.new ≡ F.lacks files.old }
+    ensures loads { IfOk result (λ n. Loads (F.told files.old name.now) bytes.old.items bytes.new.items n) }
+    ensures lacked { IsTrue (F.lacks files.old name.now) → IsErr result }
+    ensures ok { OnOk result (F.faults files.new ≡ F.faults files.old) }
+    ensures memory { IsErrOf result LoadError.Memory → F.faults files.new ≡ F.faults files.old }
+    ensures failed { IsErrOf result LoadError.Failed → IsTrue (F.lacks files.old name.now) ⊎ Rose (F.faults files.old) (F.faults files.new) }
+{
+    match files.read(name, bytes.len() as u64, piece) {
+        Ok(count) => {
+            bytes.extend_from_slice(&piece[..count])?;
+            Ok(count)
+        }
+        Err(_) => Err(LoadError::Failed),
+    }
+}

@@ -1,0 +1,38 @@
+//! The top call.
+
+ghost use Rattle.std.specs.Prelude.{map, string_bytes};
+ghost use Rattle.goi_engine.specs.Delivers.{sink};
+ghost use Rattle.goi_engine.specs.Jobs.{job};
+ghost use Rattle.goi_engine.specs.Promise.{files_seen, world, Promise};
+
+use crate::answer::answer_to;
+use crate::deliver::deliver;
+use goi_world::{Files, Sink};
+use std::alloc::Global;
+
+/// Does what the words ask for, and gives the status.
+///
+/// The words begin with the program's own name, and an empty list asks for nothing. Files are read through `files`; a report goes to
+/// `out`, and the line of a refusal to `err`. The statuses:
+///
+/// - 0: all is done, and the report stands in `out`;
+/// - 1: the program has a fault, which the line tells;
+/// - 2: the words ask for nothing;
+/// - 3: the program's file could not be read;
+/// - 4: `out` or `err` failed;
+/// - 6: there was no memory.
+pub fn goi<F: Files, O: Sink, E: Sink>(
+    alloc: Global,
+    words: &[String],
+    files: &mut F,
+    out: &mut O,
+    err: &mut E,
+) -> u8
+    ensures promise { let asked = job (map string_bytes words.now) in
+        let old = world (files_seen (F.told files.old) (F.lacks files.old) (F.faults files.old)) (sink (O.written out.old) (O.faults out.old) (O.spare out.old)) (sink (E.written err.old) (E.faults err.old) (E.spare err.old)) in
+        let new = world (files_seen (F.told files.new) (F.lacks files.new) (F.faults files.new)) (sink (O.written out.new) (O.faults out.new) (O.spare out.new)) (sink (E.written err.new) (E.faults err.new) (E.spare err.new)) in
+        Promise asked old new result }
+{
+    let answer = answer_to(alloc, words, files);
+    deliver(&answer, out, err)
+}
