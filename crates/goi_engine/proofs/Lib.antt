@@ -1,5 +1,6 @@
 pub mod Judged
 pub mod Kept
+pub mod Lengths
 pub mod Listed
 pub mod Loading
 pub mod Reported

@@ -71,3 +71,7 @@ start_of net = up (root_wire net.nodes) [] []
 -- the net has this value and length: the question at the start comes to the value, and the length is one more than its moves
 abbrev pub Length : NetTree → Val → ℕ → Type 0
 Length net v n = (k m : ℕ) × (asks net k (start_of net) ≡ gives v m) × (n ≡ suc m)
+
+-- more depth changes no result, so a net has one value and one length at most
+abbrev pub OneLength : Type 0
+OneLength = (net : NetTree) (v w : Val) (n m : ℕ) → Length net v n → Length net w m → (v ≡ w) × (n ≡ m)
