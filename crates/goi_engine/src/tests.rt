@@ -84,6 +84,19 @@ fn nested(
     Ok(text)
 }
 
+/// So many groups `(1 1 .. 1)` of 64 ones with single spaces, joined by `+`.
+fn groups(alloc: Global, count: u32) -> Result<Vec<u8>, AllocError> {
+    let mut text = Vec::new(alloc);
+    for group in 0..count {
+        text.extend_from_slice(if group == 0 { b"(1" } else { b"+(1" })?;
+        for _ in 1..64u32 {
+            text.extend_from_slice(b" 1")?;
+        }
+        text.extend_from_slice(b")")?;
+    }
+    Ok(text)
+}
+
 #[test]
 fn what_is_printed(rt: HostRuntime) -> Result<(), Fail> {
     let run: &[&str] = &["goi", "run", "p"];
@@ -240,7 +253,7 @@ fn other_refusals(rt: HostRuntime) -> Result<(), Fail> {
 #[test]
 fn the_limits(rt: HostRuntime) -> Result<(), Fail> {
     let alloc = rt.alloc();
-    let rows: [(Vec<u8>, &[u8], &[u8]); 6] = [
+    let rows: [(Vec<u8>, &[u8], &[u8]); 8] = [
         (
             nested(alloc, 500, b"succ ", b"0", b"")?,
             b"value 500\nmoves 1002\n",
@@ -271,6 +284,8 @@ fn the_limits(rt: HostRuntime) -> Result<(), Fail> {
             b"",
             b"refused: TooLong\n",
         ),
+        (groups(alloc, 257)?, b"", b"refused: TooLarge(33281)\n"),
+        (groups(alloc, 256)?, b"", b"refused: FunctionWanted(1)\n"),
     ];
     for (text, out, err) in &rows {
         let seen = call(alloc, &["goi", "run", "p"], text, SOUND)?;
