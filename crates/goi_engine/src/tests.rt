@@ -41,14 +41,10 @@ fn call(
 ) -> Result<Seen, AllocError> {
     let mut held = Vec::new(alloc);
     held.push((Ident::from_text(alloc, "p")?, text.to_vec(alloc)?))?;
-    let mut files = MemoryFiles::new(held, devices.most, devices.reads.to_vec(alloc)?);
-    let mut out = MemorySink::new(
-        alloc,
-        devices.room,
-        devices.most,
-        devices.outs.to_vec(alloc)?,
-    )?;
-    let mut err = MemorySink::new(alloc, 100, devices.most, devices.errs.to_vec(alloc)?)?;
+    let most = devices.most.max(1);
+    let mut files = MemoryFiles::new(held, most, devices.reads.to_vec(alloc)?);
+    let mut out = MemorySink::new(alloc, devices.room, most, devices.outs.to_vec(alloc)?)?;
+    let mut err = MemorySink::new(alloc, 100, most, devices.errs.to_vec(alloc)?)?;
     let status = goi(alloc, &texts(alloc, words)?, &mut files, &mut out, &mut err);
     Ok(Seen {
         status,
