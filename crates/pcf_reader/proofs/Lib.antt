@@ -25,3 +25,4 @@ pub mod Fits
 pub mod Fine
 pub mod Shows
 pub mod Back
+mod Placed

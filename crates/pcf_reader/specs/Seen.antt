@@ -53,4 +53,4 @@ token_of Name x = tokens.Name x
 token_of End x = tokens.End
 
 abbrev pub part_of : Part → SpecPart
-part_of p = record { tree = named_of p.tree; height = p.height }
+part_of p = record { tree = named_of p.tree.value; height = p.height }

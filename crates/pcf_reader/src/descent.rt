@@ -3,14 +3,14 @@
 //! Each function says how the reading goes on behind its phrase, whatever is open around it, and that it took a token. `depth` is
 //! how many phrases are open. Sums, products and applications are loops, so that only open phrases take stack.
 
-ghost use Rattle.std.specs.Prelude.{◌≡◌, ℕ, ◌+◌, ◌*◌, ◌<◌, ◌≤◌, length, List, OnOk, IfOk, true};
+ghost use Rattle.std.specs.Prelude.{◌≡◌, ℕ, ◌+◌, ◌*◌, ◌<◌, ◌≤◌, length, List, OnOk, IfOk};
 ghost use Rattle.pcf_reader.specs.Tokens.{Bind as bind_token, Ifz as ifz_token};
 ghost use Rattle.pcf_reader.specs.Machine.{step, ExprK, ProductK, AppK, AtomK, in_parens, first_atom, first_app, first_product, expr_open, product_open, app_open, atom_open, left_of, extra_of, got_atom, begin_atom, begin_expr, after_expr, end_product, end_app, want_name, want_colon, in_second, in_body, in_test, in_then, in_else, of_binder, first_ptype, begin_tatom};
 ghost use Rattle.pcf_values.specs.Named.{Binder as SpecBinder};
 ghost use Rattle.pcf_reader.specs.Grammar.{Part as SpecPart};
 ghost use Rattle.pcf_values.specs.Views.{ty_of};
 ghost use Rattle.pcf_reader.specs.Rest.{resume, Gives};
-ghost use Rattle.pcf_reader.specs.Seen.{token_of, binder_of, part_of};
+ghost use Rattle.pcf_reader.specs.Seen.{binder_of, part_of};
 
 use crate::fault::ReadFault;
 use crate::reader::Reader;
@@ -252,12 +252,12 @@ fn atom(reader: &mut Reader, alloc: Global, depth: u32, extra: u32) -> Result<Pa
     match reader.token() {
         Token::Number(n) => {
             reader.take(1 + extra)?;
-            Ok(over(at, Raw::Number(n), 0))
+            over(alloc, at, Raw::Number(n), 0)
         }
         Token::Name => {
             let name = reader.name(alloc)?;
             reader.take(1 + extra)?;
-            Ok(over(at, Raw::Name(name), 0))
+            over(alloc, at, Raw::Name(name), 0)
         }
         Token::Open => {
             may_open(at, depth)?;

@@ -44,7 +44,7 @@ fn read_text(alloc: Global, text: &str) -> Result<Named, ReadFault>
     let mut reader = reader::reader_at(text, 0, 0)?;
     let part = descent::expr(&mut reader, alloc, 0)?;
     match reader.token() {
-        Token::End => Ok(part.tree),
+        Token::End => Ok(Box::into_inner(part.tree)),
         _ => Err(ReadFault::Unexpected(reader.at())),
     }
 }

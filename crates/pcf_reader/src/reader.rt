@@ -1,11 +1,11 @@
 //! A reader over the tokens of a text. It looks one token ahead, and copies nothing but names.
 
-ghost use Rattle.std.specs.Prelude.{◌≡◌, ℕ, ◌+◌, ◌<◌, ◌≤◌, [], ◌∷◌, length, List, IfOk, OnOk, IfErr, Ok, IsTrue, IsFalse, ◌==◌};
+ghost use Rattle.std.specs.Prelude.{◌≡◌, ℕ, ◌+◌, ◌<◌, ◌≤◌, [], ◌∷◌, length, List, IfOk, OnOk, IfErr, Ok, IsFalse, ◌==◌};
 ghost use Rattle.std.specs.Char.{len_utf8};
 ghost use Rattle.std.specs.Str.{chars};
-ghost use Rattle.pcf_reader.specs.Machine.{State, step, go, want_expr, whole};
+ghost use Rattle.pcf_reader.specs.Machine.{State, step, go};
 ghost use Rattle.pcf_reader.specs.Scan.{scan};
-ghost use Rattle.pcf_reader.specs.Spelling.{sign_of, is_blank as is_blank_code, is_digit as is_digit_code, starts_name as starts_name_code};
+ghost use Rattle.pcf_reader.specs.Spelling.{sign_of, is_blank as is_blank_code};
 ghost use Rattle.pcf_reader.specs.Lexing.{lex, idle, after_dash, in_number, in_word, on_sign};
 ghost use Rattle.pcf_reader.specs.Rest.{taken, resume, behind, Gives};
 ghost use Rattle.pcf_reader.specs.Seen.{token_of};

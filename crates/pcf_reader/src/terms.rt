@@ -1,40 +1,41 @@
 //! The parts of a term while it is read: each is a tree and its height as written, which counts parentheses.
 
-ghost use Rattle.std.specs.Prelude.{◌≡◌, ℕ, ◌+◌, ◌*◌, ◌<◌, ◌≤◌, max, length, List, [], OnOk, IfOk, IfErr, OnErr};
-ghost use Rattle.pcf_reader.specs.Tokens.{Token as SpecToken, Bind as bind_token, Ifz as ifz_token};
-ghost use Rattle.pcf_reader.specs.Machine.{State, Step, go, step, ExprK, ProductK, AppK, AtomK, in_parens, first_atom, first_app, first_product, expr_open, product_open, app_open, atom_open, left_of, extra_of, got_atom, begin_atom, begin_expr, after_expr, after_sum, end_product, after_product, end_app, want_expr};
-ghost use Rattle.pcf_reader.specs.Rest.{taken, resume, Gives};
-ghost use Rattle.pcf_reader.specs.Seen.{token_of, binder_of, part_of};
-ghost use Rattle.pcf_values.specs.Views.{named_of, raw_of};
-ghost use Rattle.pcf_reader.specs.Seen.{word_of, op_of};
-ghost use Rattle.pcf_values.specs.Views.{ty_of};
+ghost use Rattle.std.specs.Prelude.{◌≡◌, ◌+◌, ◌<◌, IfOk, IfErr};
+ghost use Rattle.pcf_reader.specs.Seen.{binder_of, op_of, part_of, word_of};
+ghost use Rattle.pcf_values.specs.Views.{named_of, raw_of, ty_of};
 ghost use Rattle.pcf_reader.specs.Grammar.{higher, join, binary, app_part, choice_part};
-ghost use Rattle.pcf_values.specs.Values.{plus_op, minus_op, times_op};
-ghost use Rattle.pcf_values.specs.Named.{word_at as word_tree, pair_at as pair_tree, bind_at as bind_tree};
+ghost use Rattle.pcf_values.specs.Named.{place_of, word_at as word_tree, pair_at as pair_tree, bind_at as bind_tree};
 
 use crate::fault::ReadFault;
-use crate::reader::Reader;
 use crate::token::{Binder, Operator, Word};
-use crate::types::{may_open, type_of};
 use pcf_values::{Ident, Named, Raw, Ty};
 use std::alloc::Global;
 
 /// A term that has been read, and its height as written.
 #[derive(Drop)]
 pub struct Part {
-    pub tree: Named,
+    pub tree: Box<Named>,
     pub height: u32,
 }
 
-/// A node over one part.
-pub fn over(at: u32, raw: Raw, below: u32) -> Part
-    requires { below < 4000 }
-    ensures tree { part_of result ≡ record { tree = raw_of raw at; height = below + 1 } }
+/// The place of a tree.
+fn place_of(tree: &Named) -> u32
+    ensures { result ≡ place_of (named_of tree.now) }
 {
-    Part {
-        tree: Named { at, raw },
+    tree.at
+}
+
+/// A node over parts that are this high at most.
+pub fn over(alloc: Global, at: u32, raw: Raw, below: u32) -> Result<Part, ReadFault>
+    requires { below < 4000 }
+    ensures ok { IfOk result (λ p. part_of p ≡ record { tree = raw_of raw at; height = below + 1 }) }
+    ensures err { IfErr result (λ f. f ≡ ReadFault.NoMemory) }
+{
+    let tree = Box::new(alloc, Named { at, raw })?;
+    Ok(Part {
+        tree,
         height: below + 1,
-    }
+    })
 }
 
 /// A term in parentheses.
@@ -54,15 +55,13 @@ pub fn prefixed(alloc: Global, at: u32, word: Word, inner: Part) -> Result<Part,
     ensures ok { IfOk result (λ p. part_of p ≡ higher (word_tree at (word_of word)) (part_of inner)) }
     ensures err { IfErr result (λ f. f ≡ ReadFault.NoMemory) }
 {
-    let height = inner.height;
-    let inner = Box::new(alloc, inner.tree)?;
     let raw = match word {
-        Word::Succ => Raw::Succ(inner),
-        Word::Pred => Raw::Pred(inner),
-        Word::Fst => Raw::Fst(inner),
-        Word::Snd => Raw::Snd(inner),
+        Word::Succ => Raw::Succ(inner.tree),
+        Word::Pred => Raw::Pred(inner.tree),
+        Word::Fst => Raw::Fst(inner.tree),
+        Word::Snd => Raw::Snd(inner.tree),
     };
-    Ok(over(at, raw, height))
+    over(alloc, at, raw, inner.height)
 }
 
 /// An operator between two parts, at the place of the left one.
@@ -76,16 +75,14 @@ pub fn operated(
     ensures ok { IfOk result (λ p. part_of p ≡ binary (op_of operator) (part_of left) (part_of right)) }
     ensures err { IfErr result (λ f. f ≡ ReadFault.NoMemory) }
 {
-    let at = left.tree.at;
+    let at = place_of(&left.tree);
     let height = left.height.max(right.height);
-    let a = Box::new(alloc, left.tree)?;
-    let b = Box::new(alloc, right.tree)?;
     let raw = match operator {
-        Operator::Plus => Raw::Plus(a, b),
-        Operator::Minus => Raw::Minus(a, b),
-        Operator::Times => Raw::Times(a, b),
+        Operator::Plus => Raw::Plus(left.tree, right.tree),
+        Operator::Minus => Raw::Minus(left.tree, right.tree),
+        Operator::Times => Raw::Times(left.tree, right.tree),
     };
-    Ok(over(at, raw, height))
+    over(alloc, at, raw, height)
 }
 
 /// An application.
@@ -94,11 +91,9 @@ pub fn applied(alloc: Global, left: Part, right: Part) -> Result<Part, ReadFault
     ensures ok { IfOk result (λ p. part_of p ≡ app_part (part_of left) (part_of right)) }
     ensures err { IfErr result (λ f. f ≡ ReadFault.NoMemory) }
 {
-    let at = left.tree.at;
+    let at = place_of(&left.tree);
     let height = left.height.max(right.height);
-    let a = Box::new(alloc, left.tree)?;
-    let b = Box::new(alloc, right.tree)?;
-    Ok(over(at, Raw::App(a, b), height))
+    over(alloc, at, Raw::App(left.tree, right.tree), height)
 }
 
 /// A pair.
@@ -108,9 +103,7 @@ pub fn paired(alloc: Global, at: u32, left: Part, right: Part) -> Result<Part, R
     ensures err { IfErr result (λ f. f ≡ ReadFault.NoMemory) }
 {
     let height = left.height.max(right.height);
-    let a = Box::new(alloc, left.tree)?;
-    let b = Box::new(alloc, right.tree)?;
-    Ok(over(at, Raw::Pair(a, b), height))
+    over(alloc, at, Raw::Pair(left.tree, right.tree), height)
 }
 
 /// A choice.
@@ -120,10 +113,7 @@ pub fn chosen(alloc: Global, at: u32, test: Part, yes: Part, no: Part) -> Result
     ensures err { IfErr result (λ f. f ≡ ReadFault.NoMemory) }
 {
     let height = test.height.max(yes.height.max(no.height));
-    let a = Box::new(alloc, test.tree)?;
-    let b = Box::new(alloc, yes.tree)?;
-    let c = Box::new(alloc, no.tree)?;
-    Ok(over(at, Raw::Ifz(a, b, c), height))
+    over(alloc, at, Raw::Ifz(test.tree, yes.tree, no.tree), height)
 }
 
 /// A function or a fixed point.
@@ -139,11 +129,9 @@ pub fn bound(
     ensures ok { IfOk result (λ p. part_of p ≡ higher (bind_tree at (binder_of binder) name (ty_of of)) (part_of body)) }
     ensures err { IfErr result (λ f. f ≡ ReadFault.NoMemory) }
 {
-    let height = body.height;
-    let body = Box::new(alloc, body.tree)?;
     let raw = match binder {
-        Binder::Fun => Raw::Fun(name, of, body),
-        Binder::Fix => Raw::Fix(name, of, body),
+        Binder::Fun => Raw::Fun(name, of, body.tree),
+        Binder::Fix => Raw::Fix(name, of, body.tree),
     };
-    Ok(over(at, raw, height))
+    over(alloc, at, raw, body.height)
 }

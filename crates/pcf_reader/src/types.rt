@@ -1,10 +1,8 @@
 //! The types of a text, phrase by phrase, as in the descent over terms.
 
-ghost use Rattle.std.specs.Prelude.{◌≡◌, ℕ, ◌+◌, ◌<◌, ◌≤◌, length, List, [], OnOk, IfOk, IfErr, OnErr};
-ghost use Rattle.pcf_reader.specs.Tokens.{Token as SpecToken};
-ghost use Rattle.pcf_reader.specs.Machine.{State, Step, go, step, TypeK, PTypeK, first_ptype, type_open, ptype_open, begin_tatom, end_type, end_ptype, after_tatom};
+ghost use Rattle.std.specs.Prelude.{◌≡◌, ℕ, ◌+◌, ◌<◌, ◌≤◌, length, [], OnOk, IfErr};
+ghost use Rattle.pcf_reader.specs.Machine.{step, TypeK, PTypeK, first_ptype, type_open, ptype_open, begin_tatom, end_type, end_ptype, after_tatom};
 ghost use Rattle.pcf_reader.specs.Rest.{resume, Gives};
-ghost use Rattle.pcf_reader.specs.Seen.{token_of};
 ghost use Rattle.pcf_values.specs.Views.{ty_of};
 
 use crate::fault::ReadFault;
