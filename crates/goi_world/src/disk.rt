@@ -74,26 +74,29 @@ mod tests {
     use super::*;
     use std::test::Fail;
 
+    /// Whether the first bytes that a read gives are these, or it fails where none are wanted.
+    fn gives(found: Result<usize, Failed>, buffer: &[u8], want: Option<&[u8]>) -> bool {
+        match found {
+            Ok(count) => buffer.get(..count) == want,
+            Err(Failed) => want.is_none(),
+        }
+    }
+
     #[test]
     fn reads_a_file_of_the_system(rt: HostRuntime) -> Result<(), Fail> {
         fs::write(&rt, "letters", "hello")?;
         let mut files = DiskFiles::new(&rt);
-        for (name, at, want, faults) in [
-            ("letters", 0, Some("hel"), 0),
-            ("letters", 3, Some("lo"), 0),
-            ("letters", 5, Some(""), 0),
+        let rows: [(&str, u64, Option<&[u8]>, u64); 5] = [
+            ("letters", 0, Some(b"hel"), 0),
+            ("letters", 3, Some(b"lo"), 0),
+            ("letters", 5, Some(b""), 0),
             ("no such letters", 0, None, 1),
-            ("letters", 2, Some("llo"), 1),
-        ] {
+            ("letters", 2, Some(b"llo"), 1),
+        ];
+        for (name, at, want, faults) in rows {
             let mut buffer = [0u8; 3];
-            let count = files.read(name, at, &mut buffer).ok();
-            let got = count.and_then(|n| buffer.get(..n));
-            assert_eq!(rt;
-                got,
-                want.map(|text: &str| text.as_bytes()),
-                "{name} at {at}"
-            );
-            assert_eq!(rt; files.faults, faults, "{name} at {at}");
+            let found = files.read(name, at, &mut buffer);
+            assert!(rt; gives(found, &buffer, want) && files.faults == faults);
         }
         fs::remove_file(&rt, "letters")?;
         Ok(())

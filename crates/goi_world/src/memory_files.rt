@@ -114,39 +114,48 @@ fn read_piece(bytes: &[u8], at: u64, most: u64, buf: &mut [u8]) -> usize
 #[cfg(test)]
 mod tests {
     use super::*;
+    use std::alloc::{AllocError, Global};
     use std::test::Fail;
+
+    /// Two files `a`, of which the first counts, and an empty one.
+    fn held(alloc: Global) -> Result<MemoryFiles, AllocError> {
+        let mut list = Vec::new(alloc);
+        for (name, bytes) in [("a", "hello"), ("b", ""), ("a", "other")] {
+            let bytes = Vec::from_slice(alloc, bytes.as_bytes())?;
+            list.push((Ident::from_text(alloc, name)?, bytes))?;
+        }
+        let failing = vec![in alloc; 2, 5]?;
+        Ok(MemoryFiles::new(list, 3, failing))
+    }
+
+    /// Whether the first bytes that a read gives are these, or it fails where none are wanted.
+    fn gives(found: Result<usize, Failed>, buffer: &[u8], want: Option<&[u8]>) -> bool {
+        match found {
+            Ok(count) => buffer.get(..count) == want,
+            Err(Failed) => want.is_none(),
+        }
+    }
 
     #[test]
     fn reads_in_turn(rt: HostRuntime) -> Result<(), Fail> {
-        let mut list = Vec::new(rt.alloc());
-        for (name, bytes) in [("a", "hello"), ("b", ""), ("a", "other")] {
-            let bytes = Vec::from_slice(rt.alloc(), bytes.as_bytes())?;
-            list.push((Ident::from_text(rt.alloc(), name)?, bytes))?;
-        }
-        let mut files = MemoryFiles::new(list, 3, vec![in rt.alloc(); 2, 5]?);
+        let mut files = held(rt.alloc())?;
         // The name, the offset, the room for bytes, what is read, and the faults so far.
-        let rows = [
-            ("a", 0, 8, Some("hel"), 0),
+        let rows: [(&str, u64, usize, Option<&[u8]>, u64); 10] = [
+            ("a", 0, 8, Some(b"hel"), 0),
             ("a", 0, 8, None, 1),
-            ("a", 3, 8, Some("lo"), 1),
+            ("a", 3, 8, Some(b"lo"), 1),
             ("c", 0, 8, None, 1),
             ("c", 0, 8, None, 1),
-            ("a", 5, 8, Some(""), 1),
-            ("a", u64::MAX, 8, Some(""), 1),
-            ("b", 0, 8, Some(""), 1),
-            ("a", 1, 2, Some("el"), 1),
-            ("a", 1, 0, Some(""), 1),
+            ("a", 5, 8, Some(b""), 1),
+            ("a", u64::MAX, 8, Some(b""), 1),
+            ("b", 0, 8, Some(b""), 1),
+            ("a", 1, 2, Some(b"el"), 1),
+            ("a", 1, 0, Some(b""), 1),
         ];
         for (name, at, room, want, faults) in rows {
             let mut buffer = [0u8; 8];
-            let count = files.read(name, at, &mut buffer[..room.min(8)]).ok();
-            let got = count.and_then(|n| buffer.get(..n));
-            assert_eq!(rt;
-                got,
-                want.map(|text: &str| text.as_bytes()),
-                "{name} at {at}"
-            );
-            assert_eq!(rt; files.faults, faults, "{name} at {at}");
+            let found = files.read(name, at, &mut buffer[..room.min(8)]);
+            assert!(rt; gives(found, &buffer, want) && files.faults == faults);
         }
         Ok(())
     }
