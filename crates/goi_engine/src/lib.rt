@@ -20,6 +20,3 @@ mod top;
 pub use laws::law_one_length;
 pub use listing::net_text;
 pub use top::goi;
-
-#[cfg(test)]
-mod tests;

@@ -17,6 +17,3 @@ pub use laws::{law_faced_move, law_one_walk, law_retrace, law_trail_walks};
 pub use moved::{Moved, plain_move, walk};
 pub use step::{faced, solo_move};
 pub use token::{Kind, Seen, Token};
-
-#[cfg(test)]
-mod tests;

@@ -4,7 +4,6 @@ mod Comparing
 mod Count
 mod Ending
 mod Growing
-mod Heights
 mod Indexing
 mod Joining
 mod Merging

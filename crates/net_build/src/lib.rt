@@ -24,6 +24,3 @@ pub use net::Net;
 pub use node::Node;
 pub use translate::build;
 pub use wire::{Wire, WireKind};
-
-#[cfg(test)]
-mod tests;

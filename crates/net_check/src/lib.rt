@@ -13,6 +13,3 @@ mod tally;
 
 pub use checking::{check, law_one_fault};
 pub use fault::NetFault;
-
-#[cfg(test)]
-mod tests;

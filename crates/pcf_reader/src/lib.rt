@@ -70,6 +70,3 @@ pub fn read_program(alloc: Global, bytes: &[u8]) -> Result<Named, ReadFault>
         Err(e) => Err(ReadFault::NotText(e.valid_up_to() as u32)),
     }
 }
-
-#[cfg(test)]
-mod tests;

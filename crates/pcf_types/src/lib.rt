@@ -17,6 +17,3 @@ mod scope;
 pub use fault::TypeFault;
 pub use laws::{law_correct, law_keeps_size};
 pub use resolve::{NotGround, ground, resolve_and_type};
-
-#[cfg(test)]
-mod tests;

@@ -20,6 +20,3 @@ pub use term::Term;
 pub use ty::Ty;
 pub use typed::Typed;
 pub use val::Val;
-
-#[cfg(test)]
-mod tests;

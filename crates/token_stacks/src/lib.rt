@@ -17,6 +17,3 @@ mod work_stack;
 pub use box_stack::BoxStack;
 pub use laws::{law_boxes_in_order, law_words_tell};
 pub use stacks::Stacks;
-
-#[cfg(test)]
-mod tests;

@@ -1,6 +1,6 @@
 //! Heights that a program can have, and each call that takes memory.
 
-use crate::{Ident, Named, Raw, Term, Ty, Val};
+use pcf_values::{Ident, Named, Raw, Term, Ty, Val};
 use std::alloc::{AllocError, Global};
 use std::test::Fail;
 

@@ -1,8 +1,8 @@
-use super::*;
 use std::alloc::{AllocError, Global};
 use std::test::Fail;
+use token_stacks::Stacks;
 
-#[derive(Clone, Copy, Debug)]
+#[derive(Clone, Copy)]
 enum Call {
     PushR,
     PushL,

@@ -2,9 +2,9 @@
 
 ghost use Rattle.std.specs.Prelude.{◌<◌, ◌^◌, length};
 
-use crate::{NetFault, check};
 use WireKind::{Bang, Value, Variable};
 use net_build::{Net, Node, Wire, WireKind};
+use net_check::{NetFault, check};
 use pcf_values::Ty;
 use std::alloc::{AllocError, Global};
 use std::test::Fail;

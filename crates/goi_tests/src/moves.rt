@@ -1,4 +1,4 @@
-use super::*;
+use move_rules::{Kind, Moved, Seen, Token, faced, plain_move, solo_move, walk};
 use net_build::{Net, Node, Wire, WireKind};
 use pcf_values::{Ty, Val};
 use std::alloc::{AllocError, Global};
@@ -6,7 +6,7 @@ use std::test::Fail;
 use token_stacks::Stacks;
 
 // What is put on the stacks of a token: a symbol, a mark round the signature on top, or a way through a box.
-#[derive(Clone, Copy, Debug)]
+#[derive(Clone, Copy)]
 enum Put {
     R,
     L,

@@ -1,0 +1,80 @@
+//! Nets of programs, and calls on nets that no program has.
+
+ghost use Rattle.std.specs.Prelude.{◌≡◌, ◌≤◌, ◌+◌, ◌*◌, [], IfOk};
+ghost use Rattle.pcf_values.specs.Terms.{nat, var, lam, app, size, height};
+ghost use Rattle.pcf_values.specs.Typing.{HasType};
+ghost use Rattle.pcf_values.specs.Views.{term_of};
+
+use net_build::{Net, Node, Wire, WireKind, build, law_net_size};
+use pcf_values::{Term, Ty, Typed};
+use std::alloc::{AllocError, Global};
+use std::test::Fail;
+
+/// How many times the identity is applied: with a height past that of every program.
+const TIMES: u32 = 2600;
+
+/// The identity applied to a term.
+fn applied(alloc: Global, argument: Term) -> Result<Term, AllocError>
+    ensures { IfOk result (λ t. term_of t ≡ app (lam nat (var 0)) (term_of argument)) }
+{
+    let argument = Box::new(alloc, argument)?;
+    let body = Box::new(alloc, Term::Var(0))?;
+    Ok(Term::App(Box::new(alloc, Term::Fun(Ty::Nat, body))?, argument))
+}
+
+/// The identity applied so many times to 0.
+fn tower(alloc: Global, times: u32) -> Result<Term, AllocError>
+    ensures typed { IfOk result (λ t. HasType [] (term_of t) nat) }
+    ensures small { IfOk result (λ t. size (term_of t) ≤ 4 * times + 1) }
+    ensures low { IfOk result (λ t. height (term_of t) ≤ times + 2) }
+{
+    let mut term = Term::Number(0);
+    for _n in 0..times {
+        term = applied(alloc, term)?;
+    }
+    Ok(term)
+}
+
+/// The net of a tower.
+fn high_net(alloc: Global) -> Result<Net, AllocError> {
+    law_net_size();
+    let term = tower(alloc, TIMES)?;
+    let program = Typed::of(term, Ty::Nat);
+    build(alloc, &program)
+}
+
+#[test]
+fn a_high_term_is_built(rt: HostRuntime) -> Result<(), Fail> {
+    let net = high_net(rt.alloc())?;
+    assert!(rt; net.node_count() == 4 * TIMES + 2);
+    assert!(rt; net.wire_count() == 5 * TIMES + 1);
+    let copy = net.copy(rt.alloc())?;
+    assert!(rt; net.same(&copy));
+    Ok(())
+}
+
+#[test]
+fn nodes_may_name_wires_that_lack(rt: HostRuntime) -> Result<(), Fail> {
+    let wire = Wire {
+        kind: WireKind::Value,
+        depth: u32::MAX,
+        ty: Ty::Nat,
+    };
+    let wires = Vec::from_array(rt.alloc(), [wire])?;
+    let nodes = [
+        Node::Root { w: 9 },
+        Node::Const { v: 5, w: 0 },
+        Node::Plus { a: 0, b: 0, w: 9 },
+        Node::Const { v: 6, w: 0 },
+        Node::Root { w: 0 },
+    ];
+    let nodes = Vec::from_array(rt.alloc(), nodes)?;
+    let net = Net::from_parts(rt.alloc(), wires, nodes)?;
+    assert!(rt; net.above(0) == Some(1));
+    assert!(rt; net.below(0) == Some(2));
+    assert!(rt; net.above(9).is_none());
+    assert!(rt; net.below(9).is_none());
+    assert!(rt; net.wire(1).is_none());
+    assert!(rt; net.node(5).is_none());
+    Ok(())
+}

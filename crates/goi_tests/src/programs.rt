@@ -1,0 +1,360 @@
+//! Whole calls over files and sinks in memory: what each status writes, and what every failing device leaves.
+
+use crate::reader::{groups, nested, push};
+use crate::rows::{Asked, first_wrong};
+use goi_engine::goi;
+use goi_world::{MemoryFiles, MemorySink};
+use pcf_reader::read_program;
+use pcf_values::{Ident, Named, Raw};
+use std::alloc::{AllocError, Global};
+use std::test::Fail;
+
+/// The devices of a call: how many bytes a call of each takes at most, how much the output holds, and which calls fail.
+#[derive(Clone, Copy)]
+pub(crate) struct Devices<'a> {
+    most: u64,
+    room: u64,
+    reads: &'a [u64],
+    outs: &'a [u64],
+    errs: &'a [u64],
+}
+
+pub(crate) const SOUND: Devices<'static> = Devices {
+    most: 1_000_000,
+    room: 2_000_000,
+    reads: &[],
+    outs: &[],
+    errs: &[],
+};
+
+/// The files of a call: `p` alone, with this text.
+fn files(alloc: Global, text: &[u8], devices: Devices<'_>) -> Result<MemoryFiles, AllocError> {
+    let mut held = Vec::new(alloc);
+    held.push((Ident::from_text(alloc, "p")?, text.to_vec(alloc)?))?;
+    Ok(MemoryFiles::new(held, devices.most.max(1), devices.reads.to_vec(alloc)?))
+}
+
+fn sink(alloc: Global, room: u64, most: u64, fails: &[u64]) -> Result<MemorySink, AllocError> {
+    MemorySink::new(alloc, room, most.max(1), fails.to_vec(alloc)?)
+}
+
+fn texts(alloc: Global, words: &str) -> Result<Vec<String>, AllocError> {
+    let mut given = Vec::new(alloc);
+    for word in words.split(' ') {
+        given.push(String::from_str(alloc, word)?)?;
+    }
+    Ok(given)
+}
+
+/// A text with `;` for each line feed.
+fn push_lines(to: &mut Vec<u8>, text: &[u8]) -> Result<(), AllocError> {
+    for byte in text {
+        to.push(if *byte == b'\n' { b';' } else { *byte })?;
+    }
+    Ok(())
+}
+
+/// What a call with these words leaves: its status, and what was written to the output and to the error output, with `;` for each
+/// line feed.
+pub(crate) fn told(
+    alloc: Global,
+    words: &str,
+    text: &[u8],
+    devices: Devices<'_>,
+) -> Result<Vec<u8>, AllocError> {
+    let mut files = files(alloc, text, devices)?;
+    let mut out = sink(alloc, devices.room, devices.most, devices.outs)?;
+    let mut err = sink(alloc, 100, devices.most, devices.errs)?;
+    let status = goi(alloc, &texts(alloc, words)?, &mut files, &mut out, &mut err);
+    let mut seen = vec![in alloc; b'0'.saturating_add(status), b' ']?;
+    push_lines(&mut seen, out.written())?;
+    push_lines(&mut seen, err.written())?;
+    Ok(seen)
+}
+
+#[test]
+fn what_is_printed(rt: HostRuntime) -> Result<(), Fail> {
+    let runs = "
+0|0 value 0;moves 2;
+succ 4|0 value 5;moves 4;
+pred 0|0 value 0;moves 4;
+ \t\rsucc\t(pred\r0007) # seven|0 value 7;moves 6;
+18446744073709551615|0 value 18446744073709551615;moves 2;
+succ 18446744073709551615|0 value overflow;moves 4;
+pred succ 18446744073709551615|0 value overflow;moves 6;
+";
+    assert!(rt; first_wrong(rt.alloc(), Asked::Goi("goi run p"), 7, runs)? == None);
+    let seen = told(rt.alloc(), "goi run p", b"\n \t\r\nsucc\n4\n# four", SOUND)?;
+    assert!(rt; seen.as_slice() == b"0 value 5;moves 4;".as_slice());
+    let types = "
+fun x:nat. x|0 type nat -> nat;
+(1, fun x:nat. x)|0 type nat * (nat -> nat);
+7 - 2 * 3|0 type nat;
+fun v:nat. fun v:nat->nat. v|0 type nat -> (nat -> nat) -> nat -> nat;
+fun v:nat->nat. fun v:nat. v|0 type (nat -> nat) -> nat -> nat;
+fun v:nat->nat. fun w:nat. v|0 type (nat -> nat) -> nat -> nat -> nat;
+snd (1, fun v:nat. v)|0 type nat -> nat;
+fst (1, fun v:nat. v)|0 type nat;
+fun v:(nat->nat)*nat. (fst v) (snd v)|0 type (nat -> nat) * nat -> nat;
+fix v:nat->nat. fun w:nat. ifz w then 0 else w + v (pred w)|0 type nat -> nat;
+(fix v:nat->nat. fun w:nat. ifz w then 0 else w + v (pred w)) 3|0 type nat;
+";
+    assert!(rt; first_wrong(rt.alloc(), Asked::Goi("goi check p"), 11, types)? == None);
+    let terms = "
+(fun x:nat. x+x) 0007|0 type nat;term (fun x:nat. x + x) 7;
+fst (1, fix y:nat. y)|0 type nat;term fst (1, fix y:nat. y);
+1 - (2 - 3) * 4|0 type nat;term 1 - (2 - 3) * 4;
+";
+    assert!(rt; first_wrong(rt.alloc(), Asked::Goi("goi check p --term"), 3, terms)? == None);
+    Ok(())
+}
+
+#[test]
+fn listings(rt: HostRuntime) -> Result<(), Fail> {
+    let nets = "
+(fun x:nat. x + x) 3|0 net 1;wire 0 value 0 nat;wire 1 var 0 nat;wire 2 value 0 nat;wire 3 var 0 nat;wire 4 var 0 nat;wire 5 value 0 nat;wire 6 value 0 nat -> nat;wire 7 value 1 nat;wire 8 bang 0 nat;wire 9 value 0 nat;node 0 Der 0 1;node 1 Der 2 3;node 2 Con 1 3 4;node 3 Plus 0 2 5;node 4 Lam 5 4 6;node 5 Const 3 7;node 6 Box 7 8;node 7 App 6 8 9;node 8 Root 9;end;
+fix y:nat. y|0 net 1;wire 0 value 1 nat;wire 1 var 1 nat;wire 2 value 0 nat;node 0 Der 0 1;node 1 FixBox 0 1 2;node 2 Root 2;end;
+(fun x:nat. ifz x then x else x) 1|0 net 1;wire 0 value 0 nat;wire 1 var 0 nat;wire 2 value 0 nat;wire 3 var 0 nat;wire 4 value 0 nat;wire 5 var 0 nat;wire 6 var 0 nat;wire 7 var 0 nat;wire 8 value 0 nat;wire 9 value 0 nat -> nat;wire 10 value 1 nat;wire 11 bang 0 nat;wire 12 value 0 nat;node 0 Der 0 1;node 1 Der 2 3;node 2 Der 4 5;node 3 Con 3 5 6;node 4 Con 1 6 7;node 5 Ifz 0 2 4 8;node 6 Lam 8 7 9;node 7 Const 1 10;node 8 Box 10 11;node 9 App 9 11 12;node 10 Root 12;end;
+fst (snd (1, (2 - 3, pred 4 * 5)))|0 net 1;wire 0 value 0 nat;wire 1 value 0 nat;wire 2 value 0 nat;wire 3 value 0 nat;wire 4 value 0 nat;wire 5 value 0 nat;wire 6 value 0 nat;wire 7 value 0 nat;wire 8 value 0 nat * nat;wire 9 value 0 nat * nat * nat;wire 10 value 0 nat * nat;wire 11 value 0 nat;node 0 Const 1 0;node 1 Const 2 1;node 2 Const 3 2;node 3 Minus 1 2 3;node 4 Const 4 4;node 5 Pred 4 5;node 6 Const 5 6;node 7 Times 5 6 7;node 8 Pair 3 7 8;node 9 Pair 0 8 9;node 10 Snd 9 10;node 11 Fst 10 11;node 12 Root 11;end;
+(fun f:nat->nat. fix x:nat. f x) (fun z:nat. succ 1)|0 net 1;wire 0 value 1 nat -> nat;wire 1 var 1 nat -> nat;wire 2 value 2 nat;wire 3 var 2 nat;wire 4 var 1 nat;wire 5 bang 1 nat;wire 6 value 1 nat;wire 7 var 0 nat -> nat;wire 8 value 0 nat;wire 9 value 0 (nat -> nat) -> nat;wire 10 value 1 nat;wire 11 value 1 nat;wire 12 var 1 nat;wire 13 value 1 nat -> nat;wire 14 bang 0 nat -> nat;wire 15 value 0 nat;node 0 Der 0 1;node 1 Der 2 3;node 2 Door 3 4;node 3 Box 2 5;node 4 App 0 5 6;node 5 Door 1 7;node 6 FixBox 6 4 8;node 7 Lam 8 7 9;node 8 Const 1 10;node 9 Succ 10 11;node 10 Weak 12;node 11 Lam 11 12 13;node 12 Box 13 14;node 13 App 9 14 15;node 14 Root 15;end;
+";
+    assert!(rt; first_wrong(rt.alloc(), Asked::Goi("goi net p"), 5, nets)? == None);
+    Ok(())
+}
+
+#[test]
+fn faults_of_programs(rt: HostRuntime) -> Result<(), Fail> {
+    let runs = "
+|1 refused: Unexpected(0);
+0 )|1 refused: Unexpected(2);
+$|1 refused: BadToken(0);
+18446744073709551616|1 refused: NumberTooWide(0);
+x|1 refused: Unbound(0);
+1 2|1 refused: FunctionWanted(0);
+fix x:nat. fun y:nat. y|1 refused: FixMismatch(11);
+fun x:nat. x|1 refused: NotGround;
+1 + 2|1 refused: NotBuilt;
+succ (5 - 7)|1 refused: NotBuilt;
+(fun x:nat. 7) (fix y:nat. y)|1 refused: NotBuilt;
+ifz 0 then 1 else 2|1 refused: NotBuilt;
+fst (1, 2)|1 refused: NotBuilt;
+";
+    assert!(rt; first_wrong(rt.alloc(), Asked::Goi("goi run p"), 13, runs)? == None);
+    let checks = "
+1 -> 2|1 refused: Unexpected(2);
+v|1 refused: Unbound(0);
+(1) 2|1 refused: FunctionWanted(1);
+1 z|1 refused: FunctionWanted(0);
+(fun v:nat. v) (fun y:nat. z)|1 refused: Unbound(27);
+(fun x:nat. x) (fun y:nat. y)|1 refused: ArgumentMismatch(16);
+(fun v:nat->nat. v) 1|1 refused: ArgumentMismatch(20);
+succ (fun v:nat. v)|1 refused: NatWanted(6);
+pred (1, 2)|1 refused: NatWanted(5);
+fst 1|1 refused: PairWanted(4);
+snd (fun v:nat. v)|1 refused: PairWanted(5);
+(1, 1) + (2, 2)|1 refused: NatWanted(0);
+1 - (2, 2)|1 refused: NatWanted(4);
+(fun v:nat. v) * 1|1 refused: NatWanted(1);
+ifz (1, 2) then z else z|1 refused: NatWanted(4);
+ifz 0 then (1, 2) else z|1 refused: NatWanted(11);
+ifz 0 then 0 else (1, 2)|1 refused: NatWanted(18);
+fix v:nat. (1, 1)|1 refused: FixMismatch(11);
+(1, z)|1 refused: Unbound(4);
+z + (1, 1)|1 refused: Unbound(0);
+fun v:nat. fun w:nat. z|1 refused: Unbound(22);
+";
+    assert!(rt; first_wrong(rt.alloc(), Asked::Goi("goi check p"), 21, checks)? == None);
+    let nets = "
+fun fst:nat. 1|1 refused: Unexpected(4);
+succ (fun x:nat. x)|1 refused: NatWanted(6);
+(1, 2)|1 refused: NotGround;
+";
+    assert!(rt; first_wrong(rt.alloc(), Asked::Goi("goi net p"), 3, nets)? == None);
+    let bytes = told(rt.alloc(), "goi run p", b"1\xFF", SOUND)?;
+    assert!(rt; bytes.as_slice() == b"1 refused: NotText(1);".as_slice());
+    Ok(())
+}
+
+#[test]
+fn other_refusals(rt: HostRuntime) -> Result<(), Fail> {
+    for words in [
+        "",
+        "goi",
+        "goi run",
+        "goi go p",
+        "goi run -p",
+        "goi run ",
+        "goi run p --term",
+        "goi check --term p",
+    ] {
+        let seen = told(rt.alloc(), words, b"0", SOUND)?;
+        assert!(rt; seen.as_slice() == b"2 refused words;".as_slice());
+    }
+    let lacked = told(rt.alloc(), "goi run q", b"0", SOUND)?;
+    assert!(rt; lacked.as_slice() == b"3 read failed;".as_slice());
+    let mut files = files(rt.alloc(), b"0", SOUND)?;
+    let mut out = sink(rt.alloc(), 100, 100, &[])?;
+    let mut err = sink(rt.alloc(), 100, 100, &[])?;
+    let none = Vec::new(rt.alloc());
+    assert!(rt; goi(rt.alloc(), &none, &mut files, &mut out, &mut err) == 2);
+    Ok(())
+}
+
+/// Whether this is what `goi run p` leaves.
+fn leaves(alloc: Global, text: &[u8], wanted: &[u8]) -> Result<bool, AllocError> {
+    Ok(told(alloc, "goi run p", text, SOUND)?.as_slice() == wanted)
+}
+
+#[test]
+fn the_limits(rt: HostRuntime) -> Result<(), Fail> {
+    let rows: [(&[u8], &[u8], u32, &[u8]); 5] = [
+        (b"succ ", b"", 500, b"0 value 500;moves 1002;"),
+        (b"succ ", b"", 501, b"1 refused: TooDeep(2500);"),
+        (b"(", b")", 500, b"0 value 0;moves 2;"),
+        (b" ", b"", 1_048_575, b"0 value 0;moves 2;"),
+        (b" ", b"", 1_048_576, b"1 refused: TooLong;"),
+    ];
+    for (front, back, count, wanted) in rows {
+        let text = nested(rt.alloc(), front, back, count)?;
+        assert!(rt; leaves(rt.alloc(), &text, wanted)?);
+    }
+    let largest = groups(rt.alloc(), 256)?;
+    assert!(rt; leaves(rt.alloc(), &largest, b"1 refused: FunctionWanted(1);")?);
+    let larger = groups(rt.alloc(), 257)?;
+    assert!(rt; leaves(rt.alloc(), &larger, b"1 refused: TooLarge(33281);")?);
+    Ok(())
+}
+
+#[test]
+fn reads_that_fail(rt: HostRuntime) -> Result<(), Fail> {
+    // `succ 4` is read a byte a call, so that the seventh call finds its end.
+    for failing in 1u64..9 {
+        let devices = Devices {
+            most: 1,
+            reads: &[failing],
+            ..SOUND
+        };
+        let seen = told(rt.alloc(), "goi run p", b"succ 4", devices)?;
+        let wanted: &[u8] = if failing == 8 {
+            b"0 value 5;moves 4;"
+        } else {
+            b"3 read failed;"
+        };
+        assert!(rt; seen.as_slice() == wanted);
+    }
+    Ok(())
+}
+
+#[test]
+fn writes_that_fail(rt: HostRuntime) -> Result<(), Fail> {
+    // The report has 16 bytes, and a sink takes 8 in a call.
+    let rows: [(&[u8], u64, &[u64], &[u64], &[u8]); 8] = [
+        (b"succ 4", 4000, &[1], &[], b"4 write failed;"),
+        (b"succ 4", 4000, &[2], &[], b"4 value 5;write failed;"),
+        (b"succ 4", 4000, &[3], &[], b"0 value 5;moves 4;"),
+        (b"succ 4", 15, &[], &[], b"4 value 5;moves 4write failed;"),
+        (b"succ 4", 16, &[], &[], b"0 value 5;moves 4;"),
+        (b"succ 4", 4000, &[1], &[1], b"4 "),
+        (b"", 4000, &[], &[1], b"4 "),
+        (b"", 4000, &[], &[2], b"4 refused:"),
+    ];
+    for (text, room, outs, errs, wanted) in rows {
+        let devices = Devices {
+            most: 8,
+            room,
+            reads: &[],
+            outs,
+            errs,
+        };
+        let seen = told(rt.alloc(), "goi run p", text, devices)?;
+        assert!(rt; seen.as_slice() == wanted);
+    }
+    Ok(())
+}
+
+fn push_doubled(text: &mut Vec<u8>, doublings: u32) -> Result<(), AllocError> {
+    if doublings == 0 {
+        return push(text, b"d 1", 1);
+    }
+    push(text, b"(", 1)?;
+    push_doubled(text, doublings - 1)?;
+    push(text, b") + (", 1)?;
+    push_doubled(text, doublings - 1)?;
+    push(text, b")", 1)
+}
+
+/// A function `d` applied to 1, in a sum of this many doublings, and `d` itself doubles too.
+fn doubled(alloc: Global, doublings: u32) -> Result<Vec<u8>, AllocError> {
+    let mut text = b"(fun d:nat->nat. "[..].to_vec(alloc)?;
+    push_doubled(&mut text, doublings)?;
+    push(&mut text, b") (fun x:nat. x + x)\n", 1)?;
+    Ok(text)
+}
+
+/// The nodes of a read term, types not counted.
+#[cycle(size)]
+fn size(tree: &Named) -> u64 {
+    match &tree.raw {
+        Raw::Number(_) | Raw::Name(_) => 1,
+        Raw::Succ(a)
+        | Raw::Pred(a)
+        | Raw::Fst(a)
+        | Raw::Snd(a)
+        | Raw::Fun(_, _, a)
+        | Raw::Fix(_, _, a) => size(a).saturating_add(1),
+        Raw::Plus(a, b) | Raw::Minus(a, b) | Raw::Times(a, b) | Raw::App(a, b) | Raw::Pair(a, b) =>
+            size(a).saturating_add(size(b)).saturating_add(1),
+        Raw::Ifz(a, b, c) => size(a)
+            .saturating_add(size(b))
+            .saturating_add(size(c))
+            .saturating_add(1),
+    }
+}
+
+/// How many lines begin with this letter.
+fn lines(text: &[u8], letter: u8) -> u64 {
+    let mut found = 0u64;
+    let mut is_first = true;
+    for byte in text {
+        if is_first && *byte == letter {
+            found = found.saturating_add(1);
+        }
+        is_first = *byte == b';';
+    }
+    found
+}
+
+/// The nodes of a program's term, and none where it isn't read.
+fn term_size(alloc: Global, text: &[u8]) -> u64 {
+    match read_program(alloc, text) {
+        Ok(tree) => size(&tree),
+        Err(_) => 0,
+    }
+}
+
+/// The nodes of a doubled sum's term, and the wires and the nodes of its net.
+fn sizes(alloc: Global, doublings: u32) -> Result<(u64, u64, u64), AllocError> {
+    let text = doubled(alloc, doublings)?;
+    let seen = told(alloc, "goi net p", &text, SOUND)?;
+    // the listing's first line begins with an n too, but stands behind the status
+    Ok((
+        term_size(alloc, &text),
+        lines(&seen, b'w'),
+        lines(&seen, b'n'),
+    ))
+}
+
+#[test]
+fn sizes_of_doubled_sums(rt: HostRuntime) -> Result<(), Fail> {
+    // how often the sum is doubled, the nodes of the term, and the wires and the nodes of its net
+    let rows: [(u32, u64, u64, u64); 4] = [
+        (0, 9, 15, 13),
+        (1, 13, 22, 19),
+        (6, 261, 456, 391),
+        (12, 16_389, 28_680, 24_583),
+    ];
+    for (doublings, term, wires, nodes) in rows {
+        assert!(rt; sizes(rt.alloc(), doublings)? == (term, wires, nodes));
+    }
+    Ok(())
+}
