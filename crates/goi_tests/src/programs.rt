@@ -1,7 +1,6 @@
 //! Whole calls over files and sinks in memory: what each status writes, and what every failing device leaves.
 
-use crate::reader::{groups, nested, push};
-use crate::rows::{Asked, first_wrong};
+use crate::rows::first_wrong;
 use goi_engine::goi;
 use goi_world::{MemoryFiles, MemorySink};
 use pcf_reader::read_program;
@@ -83,7 +82,7 @@ pred 0|0 value 0;moves 4;
 succ 18446744073709551615|0 value overflow;moves 4;
 pred succ 18446744073709551615|0 value overflow;moves 6;
 ";
-    assert!(rt; first_wrong(rt.alloc(), Asked::Goi("goi run p"), 7, runs)? == None);
+    assert!(rt; first_wrong(rt.alloc(), "goi run p", 7, runs)? == None);
     let seen = told(rt.alloc(), "goi run p", b"\n \t\r\nsucc\n4\n# four", SOUND)?;
     assert!(rt; seen.as_slice() == b"0 value 5;moves 4;".as_slice());
     let types = "
@@ -99,13 +98,13 @@ fun v:(nat->nat)*nat. (fst v) (snd v)|0 type (nat -> nat) * nat -> nat;
 fix v:nat->nat. fun w:nat. ifz w then 0 else w + v (pred w)|0 type nat -> nat;
 (fix v:nat->nat. fun w:nat. ifz w then 0 else w + v (pred w)) 3|0 type nat;
 ";
-    assert!(rt; first_wrong(rt.alloc(), Asked::Goi("goi check p"), 11, types)? == None);
+    assert!(rt; first_wrong(rt.alloc(), "goi check p", 11, types)? == None);
     let terms = "
 (fun x:nat. x+x) 0007|0 type nat;term (fun x:nat. x + x) 7;
 fst (1, fix y:nat. y)|0 type nat;term fst (1, fix y:nat. y);
 1 - (2 - 3) * 4|0 type nat;term 1 - (2 - 3) * 4;
 ";
-    assert!(rt; first_wrong(rt.alloc(), Asked::Goi("goi check p --term"), 3, terms)? == None);
+    assert!(rt; first_wrong(rt.alloc(), "goi check p --term", 3, terms)? == None);
     Ok(())
 }
 
@@ -118,7 +117,7 @@ fix y:nat. y|0 net 1;wire 0 value 1 nat;wire 1 var 1 nat;wire 2 value 0 nat;node
 fst (snd (1, (2 - 3, pred 4 * 5)))|0 net 1;wire 0 value 0 nat;wire 1 value 0 nat;wire 2 value 0 nat;wire 3 value 0 nat;wire 4 value 0 nat;wire 5 value 0 nat;wire 6 value 0 nat;wire 7 value 0 nat;wire 8 value 0 nat * nat;wire 9 value 0 nat * nat * nat;wire 10 value 0 nat * nat;wire 11 value 0 nat;node 0 Const 1 0;node 1 Const 2 1;node 2 Const 3 2;node 3 Minus 1 2 3;node 4 Const 4 4;node 5 Pred 4 5;node 6 Const 5 6;node 7 Times 5 6 7;node 8 Pair 3 7 8;node 9 Pair 0 8 9;node 10 Snd 9 10;node 11 Fst 10 11;node 12 Root 11;end;
 (fun f:nat->nat. fix x:nat. f x) (fun z:nat. succ 1)|0 net 1;wire 0 value 1 nat -> nat;wire 1 var 1 nat -> nat;wire 2 value 2 nat;wire 3 var 2 nat;wire 4 var 1 nat;wire 5 bang 1 nat;wire 6 value 1 nat;wire 7 var 0 nat -> nat;wire 8 value 0 nat;wire 9 value 0 (nat -> nat) -> nat;wire 10 value 1 nat;wire 11 value 1 nat;wire 12 var 1 nat;wire 13 value 1 nat -> nat;wire 14 bang 0 nat -> nat;wire 15 value 0 nat;node 0 Der 0 1;node 1 Der 2 3;node 2 Door 3 4;node 3 Box 2 5;node 4 App 0 5 6;node 5 Door 1 7;node 6 FixBox 6 4 8;node 7 Lam 8 7 9;node 8 Const 1 10;node 9 Succ 10 11;node 10 Weak 12;node 11 Lam 11 12 13;node 12 Box 13 14;node 13 App 9 14 15;node 14 Root 15;end;
 ";
-    assert!(rt; first_wrong(rt.alloc(), Asked::Goi("goi net p"), 5, nets)? == None);
+    assert!(rt; first_wrong(rt.alloc(), "goi net p", 5, nets)? == None);
     Ok(())
 }
 
@@ -139,7 +138,7 @@ succ (5 - 7)|1 refused: NotBuilt;
 ifz 0 then 1 else 2|1 refused: NotBuilt;
 fst (1, 2)|1 refused: NotBuilt;
 ";
-    assert!(rt; first_wrong(rt.alloc(), Asked::Goi("goi run p"), 13, runs)? == None);
+    assert!(rt; first_wrong(rt.alloc(), "goi run p", 13, runs)? == None);
     let checks = "
 1 -> 2|1 refused: Unexpected(2);
 v|1 refused: Unbound(0);
@@ -163,13 +162,13 @@ fix v:nat. (1, 1)|1 refused: FixMismatch(11);
 z + (1, 1)|1 refused: Unbound(0);
 fun v:nat. fun w:nat. z|1 refused: Unbound(22);
 ";
-    assert!(rt; first_wrong(rt.alloc(), Asked::Goi("goi check p"), 21, checks)? == None);
+    assert!(rt; first_wrong(rt.alloc(), "goi check p", 21, checks)? == None);
     let nets = "
 fun fst:nat. 1|1 refused: Unexpected(4);
 succ (fun x:nat. x)|1 refused: NatWanted(6);
 (1, 2)|1 refused: NotGround;
 ";
-    assert!(rt; first_wrong(rt.alloc(), Asked::Goi("goi net p"), 3, nets)? == None);
+    assert!(rt; first_wrong(rt.alloc(), "goi net p", 3, nets)? == None);
     let bytes = told(rt.alloc(), "goi run p", b"1\xFF", SOUND)?;
     assert!(rt; bytes.as_slice() == b"1 refused: NotText(1);".as_slice());
     Ok(())
@@ -198,6 +197,34 @@ fn other_refusals(rt: HostRuntime) -> Result<(), Fail> {
     let none = Vec::new(rt.alloc());
     assert!(rt; goi(rt.alloc(), &none, &mut files, &mut out, &mut err) == 2);
     Ok(())
+}
+
+/// A piece so many times behind a text.
+fn push(text: &mut Vec<u8>, piece: &[u8], count: u32) -> Result<(), AllocError> {
+    for _ in 0..count {
+        text.extend_from_slice(piece)?;
+    }
+    Ok(())
+}
+
+/// A piece so many times, `0`, and another piece as many times.
+fn nested(alloc: Global, open: &[u8], close: &[u8], count: u32) -> Result<Vec<u8>, AllocError> {
+    let mut text = Vec::new(alloc);
+    push(&mut text, open, count)?;
+    push(&mut text, b"0", 1)?;
+    push(&mut text, close, count)?;
+    Ok(text)
+}
+
+/// So many groups `(1 1 .. 1)` of 64 ones as a sum.
+fn groups(alloc: Global, count: u32) -> Result<Vec<u8>, AllocError> {
+    let mut text = Vec::new(alloc);
+    for group in 0..count {
+        push(&mut text, if group == 0 { b"(1" } else { b"+(1" }, 1)?;
+        push(&mut text, b" 1", 63)?;
+        push(&mut text, b")", 1)?;
+    }
+    Ok(text)
 }
 
 /// Whether this is what `goi run p` leaves.

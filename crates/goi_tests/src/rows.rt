@@ -1,21 +1,7 @@
 //! Tables of rows as texts: a row a line, with a text and what is answered on it, parted by `|`, which no token of the language has.
 
 use crate::programs::{SOUND, told};
-use crate::reader::{fault, outline, respelled};
 use std::alloc::{AllocError, Global};
-
-/// What is asked of a text.
-#[derive(Clone, Copy)]
-pub(crate) enum Asked {
-    /// The fault of reading it, or `none`.
-    Fault,
-    /// Its tree as it is printed.
-    Spelling,
-    /// Its tree with all places.
-    Tree,
-    /// What the program answers on a file `p` with this text, called with these words.
-    Goi(&'static str),
-}
 
 /// What stands before the first such byte, and what stands behind it.
 pub(crate) fn cut(text: &[u8], byte: u8) -> (&[u8], &[u8]) {
@@ -27,20 +13,11 @@ pub(crate) fn cut(text: &[u8], byte: u8) -> (&[u8], &[u8]) {
     (text, &[])
 }
 
-fn answer(alloc: Global, asked: Asked, text: &[u8]) -> Result<Vec<u8>, AllocError> {
-    match asked {
-        Asked::Fault => fault(alloc, text),
-        Asked::Spelling => respelled(alloc, text),
-        Asked::Tree => outline(alloc, text, true),
-        Asked::Goi(words) => told(alloc, words, text, SOUND),
-    }
-}
-
-/// The number of the first of so many rows that is answered otherwise. The rows begin behind the table's first line feed, and nothing
-/// stands behind them.
+/// The number of the first of so many rows that the program answers otherwise, called with these words, on a file `p` with the row's
+/// text. The rows begin behind the table's first line feed, and nothing stands behind them.
 pub(crate) fn first_wrong(
     alloc: Global,
-    asked: Asked,
+    words: &str,
     count: u32,
     table: &str,
 ) -> Result<Option<u32>, AllocError> {
@@ -48,7 +25,7 @@ pub(crate) fn first_wrong(
     for row in 0..count {
         let (line, behind) = cut(rest, b'\n');
         let (text, wanted) = cut(line, b'|');
-        if answer(alloc, asked, text)?.as_slice() != wanted {
+        if told(alloc, words, text, SOUND)?.as_slice() != wanted {
             return Ok(Some(row));
         }
         rest = behind;

@@ -1,6 +1,7 @@
 //! The limits of open phrases and of the height left of an operator or an argument.
 
-use super::{all_fail, end_of, fails, fault, joined, nested, push, refusal, respelled};
+use crate::faults::{all_fail, end_of, fails, fault, joined, nested, push, refusal};
+use crate::printing::respelled;
 use crate::rows::cut;
 use pcf_reader::ReadFault;
 use std::alloc::{AllocError, Global};

@@ -1,5 +1,5 @@
 use Rattle.std.proofs.Common.{◌≡◌, length}
-use Rattle.goi_tests.proofs.soundness.verdict.Given as goal
+use Rattle.net_tests.proofs.soundness.verdict.Given as goal
 
 abbrev pub invariant-loop-kind : goal.invariant-loop-kind
 invariant-loop-kind l = length l.all_wires.items ≡ l.kind-index

@@ -1,7 +1,7 @@
 //! Printing and reading back: each form in each position.
 
-use super::outline::outline;
-use super::respelled;
+use crate::outline::outline;
+use crate::printing::respelled;
 use crate::rows::cut;
 use std::alloc::{AllocError, Global};
 use std::test::Fail;

@@ -1,6 +1,6 @@
 //! The limit of nodes.
 
-use super::{all_fail, fails, joined, push, refusal};
+use crate::faults::{all_fail, end_of, fails, joined, push, refusal};
 use pcf_reader::ReadFault;
 use std::alloc::{AllocError, Global};
 use std::test::Fail;
@@ -18,12 +18,6 @@ fn push_groups(text: &mut Vec<u8>, count: u32) -> Result<(), AllocError> {
         push_group(text, if group == 0 { b"(1" } else { b"+(1" }, 63)?;
     }
     Ok(())
-}
-
-pub(crate) fn groups(alloc: Global, count: u32) -> Result<Vec<u8>, AllocError> {
-    let mut text = Vec::new(alloc);
-    push_groups(&mut text, count)?;
-    Ok(text)
 }
 
 /// A front and a sum of 32,767 nodes.
@@ -53,7 +47,7 @@ fn high_sum(alloc: Global) -> Result<Vec<u8>, AllocError> {
 /// Whether each of these behind a text is too large, at so many bytes past the text.
 fn passes(alloc: Global, front: &[u8], rows: &[(&[u8], u32)]) -> Result<bool, AllocError> {
     for (back, at) in rows {
-        let place = super::end_of(front).saturating_add(*at);
+        let place = end_of(front).saturating_add(*at);
         if !fails(alloc, front, back, ReadFault::TooLarge(place))? {
             return Ok(false);
         }
@@ -124,7 +118,7 @@ fn are_counted_in_pairs(alloc: Global) -> Result<bool, AllocError> {
 /// At one token all other faults come before too many nodes.
 fn all_others_come_first(alloc: Global) -> Result<bool, AllocError> {
     let full = high_sum(alloc)?;
-    let place = super::end_of(&full).saturating_add(1);
+    let place = end_of(&full).saturating_add(1);
     let rows: [(&[u8], ReadFault); 6] = [
         (b" *1", ReadFault::TooLarge(place)),
         (b" +1", ReadFault::TooDeep(place)),

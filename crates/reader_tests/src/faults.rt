@@ -1,19 +1,11 @@
-//! Reading and printing: what is refused and where, what is read, and what is printed of it.
-
-mod depths;
-mod follows;
-mod outline;
-mod positions;
-mod sizes;
+//! What is refused, and where.
 
 use crate::rows::{Asked, first_wrong};
-pub(crate) use outline::outline;
-use pcf_reader::{ReadFault, print_term, read_program};
-pub(crate) use sizes::groups;
+use pcf_reader::{ReadFault, read_program};
 use std::alloc::{AllocError, Global};
 use std::test::Fail;
 
-fn refusal(alloc: Global, text: &[u8]) -> Option<ReadFault> {
+pub(crate) fn refusal(alloc: Global, text: &[u8]) -> Option<ReadFault> {
     match read_program(alloc, text) {
         Ok(_) => None,
         Err(fault) => Some(fault),
@@ -25,14 +17,6 @@ pub(crate) fn fault(alloc: Global, text: &[u8]) -> Result<Vec<u8>, AllocError> {
     match refusal(alloc, text) {
         Some(fault) => Ok(format!(in alloc; "{fault:?}")?.into_bytes()),
         None => b"none"[..].to_vec(alloc),
-    }
-}
-
-/// What is printed of the tree that a text is, and nothing where it is none.
-pub(crate) fn respelled(alloc: Global, text: &[u8]) -> Result<Vec<u8>, AllocError> {
-    match read_program(alloc, text) {
-        Ok(tree) => print_term(alloc, &tree),
-        Err(_) => Ok(Vec::new(alloc)),
     }
 }
 
@@ -74,20 +58,29 @@ pub(crate) fn nested(
 }
 
 /// Two pieces, one behind the other.
-fn behind(alloc: Global, front: &[u8], back: &[u8]) -> Result<Vec<u8>, AllocError> {
+pub(crate) fn behind(alloc: Global, front: &[u8], back: &[u8]) -> Result<Vec<u8>, AllocError> {
     let mut text = front.to_vec(alloc)?;
     text.extend_from_slice(back)?;
     Ok(text)
 }
 
 /// Whether a text with another behind it has this fault.
-fn fails(alloc: Global, front: &[u8], back: &[u8], fault: ReadFault) -> Result<bool, AllocError> {
+pub(crate) fn fails(
+    alloc: Global,
+    front: &[u8],
+    back: &[u8],
+    fault: ReadFault,
+) -> Result<bool, AllocError> {
     let text = behind(alloc, front, back)?;
     Ok(refusal(alloc, &text) == Some(fault))
 }
 
 /// Whether a text has each of these faults with that behind it.
-fn all_fail(alloc: Global, front: &[u8], rows: &[(&[u8], ReadFault)]) -> Result<bool, AllocError> {
+pub(crate) fn all_fail(
+    alloc: Global,
+    front: &[u8],
+    rows: &[(&[u8], ReadFault)],
+) -> Result<bool, AllocError> {
     for (back, fault) in rows {
         if !fails(alloc, front, back, *fault)? {
             return Ok(false);
@@ -97,7 +90,7 @@ fn all_fail(alloc: Global, front: &[u8], rows: &[(&[u8], ReadFault)]) -> Result<
 }
 
 /// Where the text ends.
-fn end_of(text: &[u8]) -> u32 {
+pub(crate) fn end_of(text: &[u8]) -> u32 {
     u32::try_from(text.len()).unwrap_or(u32::MAX)
 }
 
@@ -172,34 +165,5 @@ fn long_pieces(rt: HostRuntime) -> Result<(), Fail> {
     assert!(rt; is_answered(rt.alloc(), b" ", 1_048_576, Some(end))?);
     assert!(rt; is_answered(rt.alloc(), b"x", 1_048_576, None)?);
     assert!(rt; is_answered(rt.alloc(), b" ", 1_048_577, Some(ReadFault::TooLong))?);
-    Ok(())
-}
-
-#[test]
-fn printed(rt: HostRuntime) -> Result<(), Fail> {
-    let spelled = "
-(fun x:nat. x+x) 0007|(fun x:nat. x + x) 7
-1_0|1 _0
-2+3*4|2 + 3 * 4
-(2+3)*4|(2 + 3) * 4
-7-(2-1)|7 - (2 - 1)
-(7-2)-1|7 - 2 - 1
-2*(3*4)|2 * (3 * 4)
-((f)) (g x)|f (g x)
-succ((1))|succ 1
-fst(a b)|fst (a b)
-(1,(2,fun x:nat.(x)))|(1, (2, fun x:nat. x))
-1+(ifz(0)then(1)else(2))|1 + (ifz 0 then 1 else 2)
-fix x:(nat)->(nat).x|fix x:nat -> nat. x
-fun x:(nat->nat)->(nat->nat).x|fun x:(nat -> nat) -> nat -> nat. x
-fun x:(nat*nat)->(nat*nat).x|fun x:nat * nat -> nat * nat. x
-fun x:(nat)*(nat).x|fun x:nat * nat. x
-fun x:(nat->nat)*(nat->nat).x|fun x:(nat -> nat) * (nat -> nat). x
-fun x:(nat*nat)*(nat*nat).x|fun x:(nat * nat) * nat * nat. x
-été日𝒳 \u{61}\u{301}|été日𝒳 \u{61}\u{301}
-";
-    assert!(rt; first_wrong(rt.alloc(), Asked::Spelling, 19, spelled)? == None);
-    let twice = respelled(rt.alloc(), b"# twice\n(fun x:nat. x+x) 0007")?;
-    assert!(rt; twice.as_slice() == b"(fun x:nat. x + x) 7".as_slice());
     Ok(())
 }

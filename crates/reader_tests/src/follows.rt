@@ -1,6 +1,6 @@
 //! Which token may stand where: each kind of token at each point of the grammar, and what is no token there.
 
-use super::{behind, end_of, fails, refusal};
+use crate::faults::{behind, end_of, fails, refusal};
 use crate::rows::cut;
 use pcf_reader::ReadFault;
 use std::alloc::{AllocError, Global};

@@ -1,7 +1,7 @@
 use Rattle.std.proofs.Common.{◌≡◌, ap, arith}
 use Rattle.pcf_values.specs.Views.{term_of}
-use Rattle.goi_tests.proofs.Heights.{high_fits}
-use Rattle.goi_tests.proofs.nets.high_net.Goals as goal
+use Rattle.net_tests.proofs.Heights.{high_fits}
+use Rattle.net_tests.proofs.nets.high_net.Goals as goal
 
 pub build-requires-clause-wires : goal.build-requires-clause-wires
 build-requires-clause-wires c =

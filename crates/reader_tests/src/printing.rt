@@ -1,0 +1,43 @@
+//! What is printed of a tree that was read.
+
+use crate::rows::{Asked, first_wrong};
+use pcf_reader::{print_term, read_program};
+use std::alloc::{AllocError, Global};
+use std::test::Fail;
+
+/// What is printed of the tree that a text is, and nothing where it is none.
+pub(crate) fn respelled(alloc: Global, text: &[u8]) -> Result<Vec<u8>, AllocError> {
+    match read_program(alloc, text) {
+        Ok(tree) => print_term(alloc, &tree),
+        Err(_) => Ok(Vec::new(alloc)),
+    }
+}
+
+#[test]
+fn printed(rt: HostRuntime) -> Result<(), Fail> {
+    let spelled = "
+(fun x:nat. x+x) 0007|(fun x:nat. x + x) 7
+1_0|1 _0
+2+3*4|2 + 3 * 4
+(2+3)*4|(2 + 3) * 4
+7-(2-1)|7 - (2 - 1)
+(7-2)-1|7 - 2 - 1
+2*(3*4)|2 * (3 * 4)
+((f)) (g x)|f (g x)
+succ((1))|succ 1
+fst(a b)|fst (a b)
+(1,(2,fun x:nat.(x)))|(1, (2, fun x:nat. x))
+1+(ifz(0)then(1)else(2))|1 + (ifz 0 then 1 else 2)
+fix x:(nat)->(nat).x|fix x:nat -> nat. x
+fun x:(nat->nat)->(nat->nat).x|fun x:(nat -> nat) -> nat -> nat. x
+fun x:(nat*nat)->(nat*nat).x|fun x:nat * nat -> nat * nat. x
+fun x:(nat)*(nat).x|fun x:nat * nat. x
+fun x:(nat->nat)*(nat->nat).x|fun x:(nat -> nat) * (nat -> nat). x
+fun x:(nat*nat)*(nat*nat).x|fun x:(nat * nat) * nat * nat. x
+été日𝒳 \u{61}\u{301}|été日𝒳 \u{61}\u{301}
+";
+    assert!(rt; first_wrong(rt.alloc(), Asked::Spelling, 19, spelled)? == None);
+    let twice = respelled(rt.alloc(), b"# twice\n(fun x:nat. x+x) 0007")?;
+    assert!(rt; twice.as_slice() == b"(fun x:nat. x + x) 7".as_slice());
+    Ok(())
+}
