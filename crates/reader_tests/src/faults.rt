@@ -28,7 +28,7 @@ pub(crate) fn push(text: &mut Vec<u8>, piece: &[u8], count: u32) -> Result<(), A
     Ok(())
 }
 
-/// A piece, and another and a third behind it so many times.
+/// A piece, and so many times the piece again, with the other between two of them.
 pub(crate) fn joined(
     alloc: Global,
     piece: &[u8],

@@ -5,7 +5,7 @@ use pcf_reader::ReadFault;
 use std::alloc::{AllocError, Global};
 use std::test::Fail;
 
-/// `1` applied to ones, in parentheses: for 63 of them 127 nodes, of height 65.
+/// A front, which is `(` and a function, so many ones as its arguments, and `)`. `(1` with 63 ones has 127 nodes, and its height is 65.
 fn push_group(text: &mut Vec<u8>, front: &[u8], ones: u32) -> Result<(), AllocError> {
     push(text, front, 1)?;
     push(text, b" 1", ones)?;
