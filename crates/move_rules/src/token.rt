@@ -23,7 +23,7 @@ pub struct Token {
 }
 
 /// A node with its number.
-#[derive(Clone, Copy, Debug, PartialEq, Eq)]
+#[derive(Clone, Copy, PartialEq, Eq)]
 pub struct Seen {
     pub at: u32,
     pub node: Node,

@@ -1,17 +1,18 @@
 -- The last wires and nodes of each form, once its parts are placed.
 use Rattle.std.proofs.Common.{◌≡◌, ℕ, suc, ◌+◌, ◌<◌, ◌^◌, List, [], ◌∷◌, ◌++◌, length, reverse, Option, refl, sym, ap, ◌∙◌, subst, arith}
 use Rattle.std.proofs.lemmas.List.{append_assoc, length-append}
-use Rattle.pcf_values.specs.Terms.{TyTree, nat}
-use Rattle.pcf_values.specs.Views.{ty_of}
+use Rattle.pcf_values.specs.Terms.{TyTree, nat, arrow}
 use Rattle.net_build.specs.declared.node.Node.{Node}
-use Rattle.net_build.specs.declared.node.Node.TheVariants.{Ifz, App, BoxNode, FixBox}
+use Rattle.net_build.specs.declared.node.Node.TheVariants.{Ifz, App, BoxNode, FixBox, Lam}
 use Rattle.net_build.specs.declared.parts.Parts.{Parts}
 use Rattle.net_build.specs.declared.parts.Loose.{Loose}
 use Rattle.net_build.specs.declared.parts.Placed.{Placed}
+use Rattle.net_build.specs.declared.double.Double.{Double}
+use Rattle.net_build.specs.declared.unary.Unary.{Unary}
 use Rattle.net_build.specs.Nets.{WireTree, value_wire, bang_wire}
 use Rattle.net_build.specs.NetOf.{Bundle, Part, contract, doors, bound, bound_wire, domain, codomain}
-use Rattle.net_build.specs.Building.{context_of, spread, Falling, Grows, Spreads, Builds, Bundles, Finishes, Binds, contract_at, doors_at, frees, body_frees, ifz_here, fix_here, app_here, box_here, box_wire}
-use Rattle.net_build.proofs.Growing.{grows_then, grows_length}
+use Rattle.net_build.specs.Building.{context_of, spread, Falling, Grows, Spreads, Builds, Bundles, Finishes, Binds, contract_at, doors_at, frees, body_frees, wire_type, unary_node, unary_type, unary_at, double_node, double_type, double_here, lam_here, ifz_here, fix_here, app_here, box_here, box_wire}
+use Rattle.net_build.proofs.Growing.{grows_then, grows_length, new_type, new_inside}
 
 -- a bundle and then the last value wire with its node
 abbrev pub end_at : ℕ → Bundle → ℕ → TyTree → Node → Part
@@ -24,7 +25,7 @@ before ws ns p = record { wires = ws ++ p.wires; nodes = ns ++ p.nodes; out = p.
 pub after : (s0 s1 s2 : Parts) (ws : List WireTree) (ns : List Node) (p : Part) (r : Placed) → Grows s0 s1 ws ns → Builds s1 s2 p r → Builds s0 s2 (before ws ns p) r
 after s0 s1 s2 ws ns p r g b =
     let f = subst (λ c. Spreads (length c) p.free r.free.items) g.context b.gives.free in
-    record { grows = grows_then s0 s1 s2 ws p.wires ns p.nodes g b.grows; gives = record { out = b.gives.out; type = b.gives.type; free = f } }
+    record { grows = grows_then s0 s1 s2 ws p.wires ns p.nodes g b.grows; gives = record { out = b.gives.out; inside = b.gives.inside; type = b.gives.type; free = f } }
 
 pub ending : (s0 s1 s2 : Parts) (b : Bundle) (us : List Loose) (d : ℕ) (t t' : TyTree) (n n' : Node) (r : Placed) → Bundles s0 s1 b us → Finishes s1 s2 d t n us r → t ≡ t' → n ≡ n' →
     Builds s0 s2 (end_at (length s0.wires.items) b d t' n') r
@@ -32,7 +33,7 @@ ending s0 s1 s2 b us d t t' n n' r g f et en =
     let h : Grows s1 s2 (value_wire d t' ∷ []) (n' ∷ []) = subst (λ t. Grows s1 s2 (value_wire d t ∷ []) (n' ∷ [])) et (subst (λ n. Grows s1 s2 (value_wire d t ∷ []) (n ∷ [])) en f.grows) in
     record {
       grows = grows_then s0 s1 s2 b.wires (value_wire d t' ∷ []) b.nodes (n' ∷ []) g.grows h;
-      gives = record { out = f.out ∙ grows_length s0 s1 b.wires b.nodes g.grows; type = f.type ∙ et; free = subst (λ l. Spreads (length s0.context.items) b.free l) (sym f.free) g.free };
+      gives = record { out = f.out ∙ grows_length s0 s1 b.wires b.nodes g.grows; inside = new_inside s1 s2 (value_wire d t') [] (n' ∷ []) r.out h f.out; type = new_type s1 s2 (value_wire d t') [] (n' ∷ []) r.out h f.out; free = subst (λ l. Spreads (length s0.context.items) b.free l) (sym f.free) g.free };
     }
 
 -- what is to be done next, after a bundle
@@ -69,6 +70,21 @@ room_next n m a x e l = omega (arith, l, e, length-append a (x ∷ []))
 pub bundle_wires : (s0 s1 : Parts) (b : Bundle) (us : List Loose) → Bundles s0 s1 b us → length s1.wires.items ≡ length s0.wires.items + length b.wires
 bundle_wires s0 s1 b us g = grows_length s0 s1 b.wires b.nodes g.grows
 
+pub unary_ending : (s0 s1 s2 : Parts) (form : Unary) (d : ℕ) (p : Part) (r : Placed) (t : TyTree) (n : Node) (x : Placed) → Builds s0 s1 p r → t ≡ unary_type form (wire_type s1 r.out) → n ≡ unary_node form r.out (length s1.wires.items) →
+    Finishes s1 s2 d t n r.free.items x → Builds s0 s2 (unary_at form s0 d p) x
+unary_ending s0 s1 s2 form d p r t n x b et en f =
+    let u : Bundle = record { wires = p.wires; nodes = p.nodes; free = p.free } in
+    let w = length s0.wires.items + length p.wires in
+    let e : n ≡ unary_node form p.out w = en ∙ (λ k. unary_node form (b.gives.out k) (grows_length s0 s1 p.wires p.nodes b.grows k)) in
+    ending s0 s1 s2 u r.free.items d t (unary_type form p.type) n (unary_node form p.out w) x (record { grows = b.grows; free = b.gives.free }) f (et ∙ ap (unary_type form) b.gives.type) e
+
+pub double_ending : (s0 s1 s2 : Parts) (form : Double) (d : ℕ) (r r' : Placed) (us : List Loose) (t : TyTree) (n : Node) (x : Placed) → Bundles s0 s1 (contract_at s0 d r.free.items r'.free.items) us →
+    t ≡ double_type form (wire_type s0 r.out) (wire_type s0 r'.out) → n ≡ double_node form r.out r'.out (length s1.wires.items) → Finishes s1 s2 d t n us x → Builds s0 s2 (double_here form s0 d r r') x
+double_ending s0 s1 s2 form d r r' us t n x g et en f =
+    let c = contract_at s0 d r.free.items r'.free.items in
+    let w = length s0.wires.items + length c.wires in
+    ending s0 s1 s2 c us d t (double_type form (wire_type s0 r.out) (wire_type s0 r'.out)) n (double_node form r.out r'.out w) x g f et (en ∙ ap (double_node form r.out r'.out) (bundle_wires s0 s1 c us g))
+
 -- ifz: the condition's contractions are done after the branches'
 pub ifz_ending : (s0 s1 s2 s3 : Parts) (d : ℕ) (r r' r'' : Placed) (us vs : List Loose) (n : Node) (x : Placed) → Bundles s0 s1 (contract_at s0 d r'.free.items r''.free.items) us → Bundles s1 s2 (contract_at s1 d r.free.items us) vs →
     n ≡ Ifz r.out r'.out r''.out (length s2.wires.items) → Finishes s2 s3 d nat n vs x → Builds s0 s3 (ifz_here s0 d r r' r'') x
@@ -95,6 +111,16 @@ ifz_room s0 s1 d r r' r'' us g l =
 -- the binder's wire, as a bundle
 pub binds_bundle : (s0 s1 : Parts) (d : ℕ) (a : TyTree) (us vs : List Loose) (x : ℕ) → Binds s0 s1 d a us vs x → Bundles s0 s1 (bound (length s0.wires.items) d a (spread (suc (length s0.context.items)) (reverse us))) vs
 binds_bundle s0 s1 d a us vs x h = record { grows = h.grows; free = h.free }
+
+pub lam_ending : (s0 s1 s2 : Parts) (d : ℕ) (a t : TyTree) (r : Placed) (us : List Loose) (y : ℕ) (n : Node) (x : Placed) → Binds s0 s1 d a r.free.items us y → t ≡ arrow a (wire_type s0 r.out) →
+    n ≡ Lam r.out y (length s1.wires.items) → Finishes s1 s2 d t n us x → Builds s0 s2 (lam_here s0 d a r) x
+lam_ending s0 s1 s2 d a t r us y n x g et en f =
+    let b = bound (length s0.wires.items) d a (body_frees s0 r) in
+    let g' = binds_bundle s0 s1 d a r.free.items us y g in
+    let w = length s0.wires.items + length b.wires in
+    let p : length s1.wires.items ≡ w = bundle_wires s0 s1 b us g' in
+    let node = Lam r.out (bound_wire (length s0.wires.items) (body_frees s0 r)) w in
+    ending s0 s1 s2 b us d t (arrow a (wire_type s0 r.out)) n node x g' f et (en ∙ (λ k. Lam r.out (g.wire k) (p k)))
 
 pub fix_ending : (s0 s1 s2 s3 : Parts) (d : ℕ) (a t : TyTree) (r : Placed) (us vs : List Loose) (y : ℕ) (n : Node) (x : Placed) → Binds s0 s1 (suc d) a r.free.items us y → Bundles s1 s2 (doors_at s1 d us) vs → t ≡ a →
     n ≡ FixBox r.out y (length s2.wires.items) → Finishes s2 s3 d t n vs x → Builds s0 s3 (fix_here s0 d a r) x
@@ -133,12 +159,12 @@ box_bundles s0 s1 s2 d a r us o g eo h =
 app_tail_at : ℕ → ℕ → TyTree → Placed → List (Option ℕ) → Parts → Bundle → Part
 app_tail_at b d t r f s e = end_at (suc b) (contract (suc b) d (context_of s.context.items) f e.free) d (codomain t) (App r.out b (suc b + length (contract (suc b) d (context_of s.context.items) f e.free).wires))
 
-pub app_ending : (s0 s1 s2 s3 : Parts) (d : ℕ) (a t : TyTree) (r r' : Placed) (us vs : List Loose) (o : ℕ) (n : Node) (x : Placed) → a ≡ domain (ty_of r.ty) → t ≡ codomain (ty_of r.ty) →
+pub app_ending : (s0 s1 s2 s3 : Parts) (d : ℕ) (a t : TyTree) (r r' : Placed) (us vs : List Loose) (o : ℕ) (n : Node) (x : Placed) → a ≡ domain (wire_type s0 r.out) → t ≡ codomain (wire_type s0 r.out) →
     Bundles s0 s1 (box_here s0 d a r') us → o ≡ box_wire s0 d r' → Bundles s1 s2 (contract_at s1 d r.free.items us) vs → n ≡ App r.out o (length s2.wires.items) → Finishes s2 s3 d t n vs x →
     Builds s0 s3 (app_here s0 d r r') x
 app_ending s0 s1 s2 s3 d a t r r' us vs o n x ea et g eo h en f =
     let e = doors_at s0 d r'.free.items in
-    let ty = ty_of r.ty in
+    let ty = wire_type s0 r.out in
     let k = box_here s0 d (domain ty) r' in
     let b = length s0.wires.items + length e.wires in
     let g' : Bundles s0 s1 k us = subst (λ a. Bundles s0 s1 (box_here s0 d a r') us) ea g in
@@ -157,21 +183,21 @@ app_ending s0 s1 s2 s3 d a t r r' us vs o n x ea et g eo h en f =
     let an = append_assoc e.nodes (BoxNode r'.out b ∷ []) (c.nodes ++ node ∷ []) in
     record {
       grows = subst (λ w. Grows s0 s3 w (e.nodes ++ (BoxNode r'.out b ∷ (c.nodes ++ node ∷ [])))) aw (subst (λ l. Grows s0 s3 ((e.wires ++ bang_wire d (domain ty) ∷ []) ++ (c.wires ++ value_wire d (codomain ty) ∷ [])) l) an y.grows);
-      gives = record { out = y.gives.out; type = y.gives.type; free = y.gives.free };
+      gives = record { out = y.gives.out; inside = y.gives.inside; type = y.gives.type; free = y.gives.free };
     }
 
-pub app_room_box : (s0 : Parts) (d : ℕ) (a : TyTree) (r r' : Placed) → a ≡ domain (ty_of r.ty) → length s0.wires.items + length (app_here s0 d r r').wires < 2 ^ 32 → length s0.wires.items + length (box_here s0 d a r').wires < 2 ^ 32
+pub app_room_box : (s0 : Parts) (d : ℕ) (a : TyTree) (r r' : Placed) → a ≡ domain (wire_type s0 r.out) → length s0.wires.items + length (app_here s0 d r r').wires < 2 ^ 32 → length s0.wires.items + length (box_here s0 d a r').wires < 2 ^ 32
 app_room_box s0 d a r r' ea l =
     let e = doors_at s0 d r'.free.items in
     let b = length s0.wires.items + length e.wires in
     let c = contract (suc b) d (context_of s0.context.items) (frees s0 r) e.free in
-    omega (arith, l, length-append e.wires (bang_wire d a ∷ []), length-append e.wires (bang_wire d (domain (ty_of r.ty)) ∷ (c.wires ++ value_wire d (codomain (ty_of r.ty)) ∷ [])))
+    omega (arith, l, length-append e.wires (bang_wire d a ∷ []), length-append e.wires (bang_wire d (domain (wire_type s0 r.out)) ∷ (c.wires ++ value_wire d (codomain (wire_type s0 r.out)) ∷ [])))
 
 pub app_room : (s0 s1 : Parts) (d : ℕ) (a : TyTree) (r r' : Placed) (us : List Loose) → Bundles s0 s1 (box_here s0 d a r') us → length s0.wires.items + length (app_here s0 d r r').wires < 2 ^ 32 →
     length s1.wires.items + suc (length (contract_at s1 d r.free.items us).wires) < 2 ^ 32
 app_room s0 s1 d a r r' us g l =
     let e = doors_at s0 d r'.free.items in
-    let ty = ty_of r.ty in
+    let ty = wire_type s0 r.out in
     let k = box_here s0 d a r' in
     let b = length s0.wires.items + length e.wires in
     let m : length s0.wires.items + length k.wires ≡ suc b = omega (arith, length-append e.wires (bang_wire d a ∷ [])) in

@@ -1,5 +1,6 @@
 -- What was added, step by step.
-use Rattle.std.proofs.Common.{◌≡◌, ℕ, List, [], ◌∷◌, length, refl, subst, sym, ap, ◌++◌, ◌+◌, ◌∙◌, map}
+use Rattle.std.proofs.Common.{◌≡◌, ℕ, zero, suc, List, [], ◌∷◌, length, refl, subst, sym, ap, ◌++◌, ◌+◌, ◌<◌, ◌∙◌, map, Some, arith}
+use Rattle.std.specs.Prelude.{slice_get}
 use Rattle.std.proofs.lemmas.List.{append_assoc, append-nil, length-append, length-map}
 use Rattle.pcf_values.specs.Terms.{nat, num}
 use Rattle.net_build.specs.declared.node.Node.TheVariants.{Const}
@@ -9,7 +10,7 @@ use Rattle.net_build.specs.Views.{wire_of}
 use Rattle.net_build.specs.declared.parts.Parts.{Parts}
 use Rattle.net_build.specs.declared.parts.Loose.{Loose}
 use Rattle.net_build.specs.declared.parts.Placed.{Placed}
-use Rattle.net_build.specs.Building.{Builds, Finishes, Grows, part_at}
+use Rattle.net_build.specs.Building.{Builds, Finishes, Grows, part_at, type_on, wire_type}
 use Rattle.net_build.proofs.Spreading.{none_spreads}
 
 pub grows_none : (a : Parts) → Grows a a [] []
@@ -26,7 +27,41 @@ pub grows_length : (a b : Parts) (ws : List WireTree) (ns : List Node) → Grows
 grows_length a b ws ns g =
     sym (length-map b.wires.items wire_of) ∙ ap length g.wires ∙ length-append (map wire_of a.wires.items) ws ∙ ap (λ n. n + length ws) (length-map a.wires.items wire_of)
 
+-- an entry of the first of two lists, and the entry between them
+entry_left : {A : Type 0} (xs ys : List A) (i : ℕ) → i < length xs → slice_get (xs ++ ys) i ≡ slice_get xs i
+entry_left [] ys i h = absurd (omega arith)
+entry_left (x ∷ xs) ys zero h = refl
+entry_left (x ∷ xs) ys (suc i) h = entry_left xs ys i (omega arith)
+
+entry_between : {A : Type 0} (xs ys : List A) (y : A) → slice_get (xs ++ y ∷ ys) (length xs) ≡ Some y
+entry_between [] ys y = refl
+entry_between (x ∷ xs) ys y = entry_between xs ys y
+
+-- a wire stays as it is, where others come behind it
+pub kept_type : (a b : Parts) (ws : List WireTree) (ns : List Node) (w : ℕ) → Grows a b ws ns → w < length a.wires.items → wire_type b w ≡ wire_type a w
+kept_type a b ws ns w g h = ap type_on (ap (λ l. slice_get l w) g.wires ∙ entry_left (map wire_of a.wires.items) ws w (omega (arith, h, length-map a.wires.items wire_of)))
+
+pub kept_inside : (a b : Parts) (ws : List WireTree) (ns : List Node) (w : ℕ) → Grows a b ws ns → w < length a.wires.items → w < length b.wires.items
+kept_inside a b ws ns w g h = omega (arith, h, grows_length a b ws ns g)
+
+-- the same after what comes in two steps
+pub kept_twice : (a b c : Parts) (ws vs : List WireTree) (ns ms : List Node) (w : ℕ) → Grows a b ws ns → Grows b c vs ms → w < length a.wires.items → wire_type c w ≡ wire_type a w
+kept_twice a b c ws vs ns ms w g h l = kept_type b c vs ms w h (kept_inside a b ws ns w g l) ∙ kept_type a b ws ns w g l
+
+pub inside_twice : (a b c : Parts) (ws vs : List WireTree) (ns ms : List Node) (w : ℕ) → Grows a b ws ns → Grows b c vs ms → w < length a.wires.items → w < length c.wires.items
+inside_twice a b c ws vs ns ms w g h l = kept_inside b c vs ms w h (kept_inside a b ws ns w g l)
+
+-- the first wire that was added
+pub new_type : (a b : Parts) (w : WireTree) (ws : List WireTree) (ns : List Node) (n : ℕ) → Grows a b (w ∷ ws) ns → n ≡ length a.wires.items → wire_type b n ≡ w.type
+new_type a b w ws ns n g e =
+    let l = map wire_of a.wires.items in
+    let m : n ≡ length l = e ∙ sym (length-map a.wires.items wire_of) in
+    ap type_on (ap (λ l. slice_get l n) g.wires ∙ ap (slice_get (l ++ w ∷ ws)) m ∙ entry_between l ws w)
+
+pub new_inside : (a b : Parts) (w : WireTree) (ws : List WireTree) (ns : List Node) (n : ℕ) → Grows a b (w ∷ ws) ns → n ≡ length a.wires.items → n < length b.wires.items
+new_inside a b w ws ns n g e = omega (arith, e, grows_length a b (w ∷ ws) ns g)
+
 pub number_builds : (old new : Parts) (d v w : ℕ) (us : List Loose) (r : Placed) → w ≡ length old.wires.items → us ≡ [] → Finishes old new d nat (Const v w) us r → Builds old new (part_at old d (num v)) r
 number_builds old new d v w us r q e h =
     let g : Grows old new (value_wire d nat ∷ []) (Const v (length old.wires.items) ∷ []) = subst (λ w. Grows old new (value_wire d nat ∷ []) (Const v w ∷ [])) q h.grows in
-    record { grows = g; gives = record { out = h.out; type = h.type; free = rw h.free (none_spreads old.context.items us e) } }
+    record { grows = g; gives = record { out = h.out; inside = new_inside old new (value_wire d nat) [] (Const v (length old.wires.items) ∷ []) r.out g h.out; type = new_type old new (value_wire d nat) [] (Const v (length old.wires.items) ∷ []) r.out g h.out; free = rw h.free (none_spreads old.context.items us e) } }

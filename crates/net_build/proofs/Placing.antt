@@ -15,8 +15,8 @@ use Rattle.net_build.specs.declared.double.Double.{Double}
 use Rattle.net_build.specs.Nets.{value_wire, bang_wire, var_wire}
 use Rattle.net_build.specs.NetOf.{Part, part, contract, doors, bound, domain, codomain, none_free, one_free, type_or_nat}
 use Rattle.net_build.specs.Views.{wire_of}
-use Rattle.net_build.specs.Building.{context_of, spread, Grows, Spreads, Gives, Builds, BuildsBody, frees, body_frees, part_at, second_at, third_at, body_at, double_node, double_type, double_tail, double_here, double_of, ifz_tail, ifz_here, lam_tail, lam_here, fix_tail, fix_here, app_tail, app_here, one_at}
-use Rattle.net_build.proofs.Growing.{grows_then, grows_length}
+use Rattle.net_build.specs.Building.{context_of, spread, Grows, Spreads, Gives, Builds, BuildsBody, frees, body_frees, wire_type, part_at, second_at, third_at, body_at, double_node, double_type, double_tail, double_here, double_of, ifz_tail, ifz_here, lam_tail, lam_here, fix_tail, fix_here, app_tail, app_here, one_at}
+use Rattle.net_build.proofs.Growing.{grows_then, grows_length, kept_type, new_type, new_inside}
 use Rattle.net_build.proofs.Ending.{before, after}
 use Rattle.net_build.proofs.Spreading.{context_length, spread_none}
 use Rattle.net_build.proofs.Merging.{spread_at, spread_under, falling_more}
@@ -32,8 +32,8 @@ moved_twice s0 s1 s2 p q d t g h =
     λ k. part (n k) d (context_of (c k)) t
 
 -- what a placed term leaves loose is what its part does, from any state with that context
-free_at : (s s' : Parts) (p : Part) (r : Placed) → Gives (length s.context.items) p r → s'.context.items ≡ s.context.items → frees s' r ≡ p.free
-free_at s s' p r g e = ap (λ c. spread (length c) (reverse r.free.items)) e ∙ g.free.spreads
+free_at : (s n s' : Parts) (p : Part) (r : Placed) → Gives (length s.context.items) n p r → s'.context.items ≡ s.context.items → frees s' r ≡ p.free
+free_at s n s' p r g e = ap (λ c. spread (length c) (reverse r.free.items)) e ∙ g.free.spreads
 
 module _ (form : Double) (s0 s1 : Parts) (d : ℕ) (a b : TermTree) (r1 : Placed) (h : Builds s0 s1 (part_at s0 d a) r1) where
   double_second : part_at s1 d b ≡ second_at s0 d (part_at s0 d a) b
@@ -58,9 +58,10 @@ module _ (form : Double) (s0 s1 : Parts) (d : ℕ) (a b : TermTree) (r1 : Placed
         let q = second_at s0 d p b in
         let n : length s2.wires.items ≡ length s0.wires.items + length p.wires + length q.wires = grows_length s1 s2 q.wires q.nodes double_i.grows ∙ ap (λ m. m + length q.wires) (grows_length s0 s1 p.wires p.nodes h.grows) in
         let c = double_i.grows.context ∙ h.grows.context in
-        let f = free_at s0 s2 p r1 h.gives c in
-        let f' = free_at s1 s2 q r2 double_i.gives double_i.grows.context in
-        λ k. double_tail (double_node form) (double_type form (h.gives.type k) (double_i.gives.type k)) (n k) d (context_of (c k)) (h.gives.out k) (double_i.gives.out k) (f k) (f' k)
+        let f = free_at s0 s1 s2 p r1 h.gives c in
+        let f' = free_at s1 s2 s2 q r2 double_i.gives double_i.grows.context in
+        let t : wire_type s2 r1.out ≡ p.type = kept_type s1 s2 q.wires q.nodes r1.out double_i.grows h.gives.inside ∙ h.gives.type in
+        λ k. double_tail (double_node form) (double_type form (t k) (double_i.gives.type k)) (n k) d (context_of (c k)) (h.gives.out k) (double_i.gives.out k) (f k) (f' k)
 
     pub double_close_room : length s0.wires.items + length (double_of form s0 d a b).wires < 2 ^ 32 → length s2.wires.items + length (double_here form s2 d r1 r2).wires < 2 ^ 32
     double_close_room l =
@@ -149,9 +150,9 @@ module _ (s0 s1 : Parts) (d : ℕ) (a b c : TermTree) (r1 : Placed) (h : Builds 
           let q = second_at s0 d p b in
           let r = third_at s0 d p q c in
           let e = ifz_j.grows.context ∙ (ifz_i.grows.context ∙ h.grows.context) in
-          let f = free_at s0 s3 p r1 h.gives e in
-          let f' = free_at s1 s3 q r2 ifz_i.gives (ifz_j.grows.context ∙ ifz_i.grows.context) in
-          let f'' = free_at s2 s3 r r3 ifz_j.gives ifz_j.grows.context in
+          let f = free_at s0 s1 s3 p r1 h.gives e in
+          let f' = free_at s1 s2 s3 q r2 ifz_i.gives (ifz_j.grows.context ∙ ifz_i.grows.context) in
+          let f'' = free_at s2 s3 s3 r r3 ifz_j.gives ifz_j.grows.context in
           λ k. ifz_tail (ifz_next k) d (context_of (e k)) (h.gives.out k) (ifz_i.gives.out k) (ifz_j.gives.out k) (f k) (f' k) (f'' k)
 
       pub ifz_close_room : length s0.wires.items + length (part_at s0 d (ifz a b c)).wires < 2 ^ 32 → length s3.wires.items + length (ifz_here s3 d r1 r2 r3).wires < 2 ^ 32
@@ -202,9 +203,10 @@ module _ (s0 s1 : Parts) (d : ℕ) (a b : TermTree) (r1 : Placed) (h : Builds s0
         let q = second_at s0 (suc d) p b in
         let n : length s2.wires.items ≡ length s0.wires.items + length p.wires + length q.wires = grows_length s1 s2 q.wires q.nodes app_i.grows ∙ ap (λ m. m + length q.wires) (grows_length s0 s1 p.wires p.nodes h.grows) in
         let c = app_i.grows.context ∙ h.grows.context in
-        let f = free_at s0 s2 p r1 h.gives c in
-        let f' = free_at s1 s2 q r2 app_i.gives app_i.grows.context in
-        λ k. app_tail (n k) d (context_of (c k)) (h.gives.type k) (h.gives.out k) (app_i.gives.out k) (f k) (f' k)
+        let f = free_at s0 s1 s2 p r1 h.gives c in
+        let f' = free_at s1 s2 s2 q r2 app_i.gives app_i.grows.context in
+        let t : wire_type s2 r1.out ≡ p.type = kept_type s1 s2 q.wires q.nodes r1.out app_i.grows h.gives.inside ∙ h.gives.type in
+        λ k. app_tail (n k) d (context_of (c k)) (t k) (h.gives.out k) (app_i.gives.out k) (f k) (f' k)
 
     pub app_close_room : length s0.wires.items + length (part_at s0 d (app a b)).wires < 2 ^ 32 → length s2.wires.items + length (app_here s2 d r1 r2).wires < 2 ^ 32
     unfolding app_rest
@@ -223,15 +225,15 @@ module _ (s0 s1 : Parts) (d : ℕ) (a b : TermTree) (r1 : Placed) (h : Builds s0
         after s0 s1 s3 p.wires p.nodes (before q.wires q.nodes app_rest) r h.grows (after s1 s2 s3 q.wires q.nodes app_rest r app_i.grows j')
 
 -- a body's loose wires, from the state after it
-body_free_at : (s s' : Parts) (p : Part) (r : Placed) → Gives (suc (length s.context.items)) p r → s'.context.items ≡ s.context.items → body_frees s' r ≡ p.free
-body_free_at s s' p r g e = ap (λ c. spread (suc (length c)) (reverse r.free.items)) e ∙ g.free.spreads
+body_free_at : (s n s' : Parts) (p : Part) (r : Placed) → Gives (suc (length s.context.items)) n p r → s'.context.items ≡ s.context.items → body_frees s' r ≡ p.free
+body_free_at s n s' p r g e = ap (λ c. spread (suc (length c)) (reverse r.free.items)) e ∙ g.free.spreads
 
 module _ (s0 s1 : Parts) (d : ℕ) (t : TyTree) (m : TermTree) (r1 : Placed) (h : BuildsBody s0 s1 (body_at s0 d t m) r1) where
   lam_path : lam_here s1 d t r1 ≡ (let p = body_at s0 d t m in lam_tail (length s0.wires.items + length p.wires) d t p.type p.out p.free)
   lam_path =
       let p = body_at s0 d t m in
       let n = grows_length s0 s1 p.wires p.nodes h.grows in
-      let f = body_free_at s0 s1 p r1 h.gives h.grows.context in
+      let f = body_free_at s0 s1 s1 p r1 h.gives h.grows.context in
       λ k. lam_tail (n k) d t (h.gives.type k) (h.gives.out k) (f k)
 
   pub lam_close_room : length s0.wires.items + length (part_at s0 d (lam t m)).wires < 2 ^ 32 → length s1.wires.items + length (lam_here s1 d t r1).wires < 2 ^ 32
@@ -252,7 +254,7 @@ module _ (s0 s1 : Parts) (d : ℕ) (t : TyTree) (m : TermTree) (r1 : Placed) (h 
   fix_path =
       let p = body_at s0 (suc d) t m in
       let n = grows_length s0 s1 p.wires p.nodes h.grows in
-      let f = body_free_at s0 s1 p r1 h.gives h.grows.context in
+      let f = body_free_at s0 s1 s1 p r1 h.gives h.grows.context in
       λ k. fix_tail (n k) d (context_of (h.grows.context k)) t (h.gives.out k) (f k)
 
   pub fix_close_room : length s0.wires.items + length (part_at s0 d (fix t m)).wires < 2 ^ 32 → length s1.wires.items + length (fix_here s1 d t r1).wires < 2 ^ 32
@@ -337,18 +339,19 @@ one_spreads (t ∷ g) (suc k) (suc i) w h = go (cases_lt i k) (one_spreads g k i
 pub node_grows : (old new : Parts) (n : Node) → new.wires.items ≡ old.wires.items → new.nodes.items ≡ old.nodes.items ++ n ∷ [] → new.context.items ≡ old.context.items → Grows old new [] (n ∷ [])
 node_grows old new n ew en ec = record { wires = ap (map wire_of) ew ∙ sym (append-nil (map wire_of old.wires.items)); nodes = en; context = ec }
 
-pub variable_builds : (old mid new : Parts) (d i x : ℕ) (r : Placed) → Grows old mid (value_wire d (ty_of r.ty) ∷ var_wire d (ty_of r.ty) ∷ []) [] → r.out ≡ length old.wires.items → ty_of r.ty ≡ type_or_nat (slice_get (context_of old.context.items) i) →
+pub variable_builds : (old mid new : Parts) (d i x : ℕ) (a : TyTree) (r : Placed) → Grows old mid (value_wire d a ∷ var_wire d a ∷ []) [] → r.out ≡ length old.wires.items → a ≡ type_or_nat (slice_get (context_of old.context.items) i) →
     x ≡ suc (length old.wires.items) → Grows mid new [] (Der r.out x ∷ []) → r.free.items ≡ one_at (length old.context.items) i x → Builds old new (part_at old d (var i)) r
-variable_builds old mid new d i x r g eo et ex h ef =
+variable_builds old mid new d i x a r g eo et ex h ef =
     let n = length old.wires.items in
     let t = type_or_nat (slice_get (context_of old.context.items) i) in
     let g' : Grows old mid (value_wire d t ∷ var_wire d t ∷ []) [] = subst (λ t. Grows old mid (value_wire d t ∷ var_wire d t ∷ []) []) et g in
     let en : Der r.out x ≡ Der n (suc n) = λ k. Der (eo k) (ex k) in
     let h' : Grows mid new [] (Der n (suc n) ∷ []) = subst (λ n. Grows mid new [] (n ∷ [])) en h in
     let f : r.free.items ≡ one_at (length old.context.items) i (suc n) = ef ∙ ap (one_at (length old.context.items) i) ex in
+    let k : Grows old new (value_wire d t ∷ var_wire d t ∷ []) (Der n (suc n) ∷ []) = grows_then old mid new (value_wire d t ∷ var_wire d t ∷ []) [] [] (Der n (suc n) ∷ []) g' h' in
     record {
-      grows = grows_then old mid new (value_wire d t ∷ var_wire d t ∷ []) [] [] (Der n (suc n) ∷ []) g' h';
-      gives = record { out = eo; type = et; free = subst (Spreads (length old.context.items) (one_free (context_of old.context.items) i (suc n))) (sym f) (one_spreads (context_of old.context.items) (length old.context.items) i (suc n) (context_length old.context.items)) };
+      grows = k;
+      gives = record { out = eo; inside = new_inside old new (value_wire d t) (var_wire d t ∷ []) (Der n (suc n) ∷ []) r.out k eo; type = new_type old new (value_wire d t) (var_wire d t ∷ []) (Der n (suc n) ∷ []) r.out k eo; free = subst (Spreads (length old.context.items) (one_free (context_of old.context.items) i (suc n))) (sym f) (one_spreads (context_of old.context.items) (length old.context.items) i (suc n) (context_length old.context.items)) };
     }
 
 -- one binder more

@@ -40,29 +40,34 @@ pub record Grows (old new : Parts) (ws : List WireTree) (ns : List Node) : Type 
   pub nodes : new.nodes.items ≡ old.nodes.items ++ ns
   pub context : new.context.items ≡ old.context.items
 
+-- the type of a wire, by its number (past the list, where no term's wire is, it is nat)
+abbrev pub type_on : Option WireTree → TyTree
+type_on None = nat
+type_on (Some w) = w.type
+
+abbrev pub wire_type : Parts → ℕ → TyTree
+wire_type s w = type_on (slice_get (map wire_of s.wires.items) w)
+
 -- these loose wires are the aligned list, where there are k binders
 pub record Spreads (k : ℕ) (free : List (Option ℕ)) (us : List Loose) : Type 0 where
   pub spreads : spread k (reverse us) ≡ free
   pub falling : Falling k (reverse us)
 
--- what a part gives, wires and nodes aside
-pub record Gives (k : ℕ) (p : Part) (r : Placed) : Type 0 where
+-- what a part that was just built gives, wires and nodes aside
+pub record Gives (k : ℕ) (new : Parts) (p : Part) (r : Placed) : Type 0 where
   pub out : r.out ≡ p.out
-  pub type : ty_of r.ty ≡ p.type
+  pub inside : r.out < length new.wires.items
+  pub type : wire_type new r.out ≡ p.type
   pub free : Spreads k p.free r.free.items
 
 -- a part was added, and this is what it gives
 pub record Builds (old new : Parts) (p : Part) (r : Placed) : Type 0 where
   pub grows : Grows old new p.wires p.nodes
-  pub gives : Gives (length old.context.items) p r
+  pub gives : Gives (length old.context.items) new p r
 
 -- the part of a term, built from here
 abbrev pub part_at : Parts → ℕ → TermTree → Part
 part_at s d t = part (length s.wires.items) d (context_of s.context.items) t
-
--- what is built, as a part without wires and nodes of its own
-abbrev pub seen : ℕ → Placed → Part
-seen k r = record { wires = []; nodes = []; out = r.out; type = ty_of r.ty; free = spread k (reverse r.free.items) }
 
 -- new wires and nodes were added, and these loose wires are left
 pub record Bundles (old new : Parts) (b : Bundle) (us : List Loose) : Type 0 where
@@ -122,7 +127,6 @@ unary_at form s d p = unary_part (unary_node form) (unary_type form p.type) (len
 pub record Finishes (old new : Parts) (d : ℕ) (t : TyTree) (n : Node) (loose : List Loose) (r : Placed) : Type 0 where
   pub grows : Grows old new (value_wire d t ∷ []) (n ∷ [])
   pub out : r.out ≡ length old.wires.items
-  pub type : ty_of r.ty ≡ t
   pub free : r.free.items ≡ loose
 
 -- the node and the type of a form with two operands
@@ -195,20 +199,20 @@ app_tail m d g t o o' f f' =
 -- the same, built from here of what was placed
 abbrev pub double_here : Double → Parts → ℕ → Placed → Placed → Part
 double_here form s d r r' =
-    double_tail (double_node form) (double_type form (ty_of r.ty) (ty_of r'.ty)) (length s.wires.items) d (context_of s.context.items) r.out r'.out (frees s r) (frees s r')
+    double_tail (double_node form) (double_type form (wire_type s r.out) (wire_type s r'.out)) (length s.wires.items) d (context_of s.context.items) r.out r'.out (frees s r) (frees s r')
 
 abbrev pub ifz_here : Parts → ℕ → Placed → Placed → Placed → Part
 ifz_here s d r r' r'' = ifz_tail (length s.wires.items) d (context_of s.context.items) r.out r'.out r''.out (frees s r) (frees s r') (frees s r'')
 
 abbrev pub app_here : Parts → ℕ → Placed → Placed → Part
-app_here s d r r' = app_tail (length s.wires.items) d (context_of s.context.items) (ty_of r.ty) r.out r'.out (frees s r) (frees s r')
+app_here s d r r' = app_tail (length s.wires.items) d (context_of s.context.items) (wire_type s r.out) r.out r'.out (frees s r) (frees s r')
 
 -- of a body, which has one binder more
 abbrev pub body_frees : Parts → Placed → List (Option ℕ)
 body_frees s r = spread (suc (length s.context.items)) (reverse r.free.items)
 
 abbrev pub lam_here : Parts → ℕ → TyTree → Placed → Part
-lam_here s d a r = lam_tail (length s.wires.items) d a (ty_of r.ty) r.out (body_frees s r)
+lam_here s d a r = lam_tail (length s.wires.items) d a (wire_type s r.out) r.out (body_frees s r)
 
 abbrev pub fix_here : Parts → ℕ → TyTree → Placed → Part
 fix_here s d a r = fix_tail (length s.wires.items) d (context_of s.context.items) a r.out (body_frees s r)
@@ -241,7 +245,7 @@ fix_at s d a p = fix_part (length s.wires.items) d (context_of s.context.items) 
 -- a body was added, and this is what it gives, with one binder more
 pub record BuildsBody (old new : Parts) (p : Part) (r : Placed) : Type 0 where
   pub grows : Grows old new p.wires p.nodes
-  pub gives : Gives (suc (length old.context.items)) p r
+  pub gives : Gives (suc (length old.context.items)) new p r
 
 -- the binder's variable wire was taken off, or made with a Weak
 pub record Binds (old new : Parts) (d : ℕ) (a : TyTree) (us vs : List Loose) (x : ℕ) : Type 0 where

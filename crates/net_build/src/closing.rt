@@ -15,7 +15,6 @@ use std::alloc::{AllocError, Global};
 
 /// Adds the last value wire of a term, and its node.
 pub(crate) fn finish(
-    alloc: Global,
     parts: &mut Parts,
     depth: u32,
     ty: Ty,
@@ -26,14 +25,13 @@ pub(crate) fn finish(
     ensures { IfOk result (λ r. Finishes parts.old parts.new depth (ty_of ty) node free.items r) }
 {
     let out = parts.next();
-    let kept = ty.copy(alloc)?;
     let wire = Wire {
         kind: WireKind::Value,
         depth,
-        ty: kept,
+        ty,
     };
     parts.add(wire, node)?;
-    Ok(Placed { out, ty, free })
+    Ok(Placed { out, free })
 }
 
 /// After both operands: the contractions of their variables, and the node.
@@ -47,13 +45,15 @@ pub(crate) fn close_double(
 ) -> Result<Placed, AllocError>
     requires lefts { Falling (length parts.old.context.items) (reverse left.free.items) }
     requires rights { Falling (length parts.old.context.items) (reverse right.free.items) }
+    requires left_wire { left.out < length parts.old.wires.items }
+    requires right_wire { right.out < length parts.old.wires.items }
     requires room { length parts.old.wires.items + length (double_here form parts.old depth left right).wires < 2 ^ 32 }
     ensures { IfOk result (λ r. Builds parts.old parts.new (double_here form parts.old depth left right) r) }
 {
+    let ty = form.ty(alloc, parts.ty(left.out), parts.ty(right.out))?;
     let free = contract(alloc, parts, depth, left.free, right.free)?;
-    let ty = form.ty(alloc, left.ty, right.ty)?;
     let node = form.node(left.out, right.out, parts.next());
-    finish(alloc, parts, depth, ty, node, free)
+    finish(parts, depth, ty, node, free)
 }
 
 /// After condition, then and else: the branches are contracted first, and then the condition with them.
@@ -79,7 +79,7 @@ pub(crate) fn close_ifz(
         q: otherwise.out,
         w: parts.next(),
     };
-    finish(alloc, parts, depth, Ty::Nat, node, free)
+    finish(parts, depth, Ty::Nat, node, free)
 }
 
 /// After the body of a `fun`.
@@ -91,18 +91,19 @@ pub(crate) fn close_fun(
     body: Placed,
 ) -> Result<Placed, AllocError>
     requires falling { Falling (suc (length parts.old.context.items)) (reverse body.free.items) }
+    requires body_wire { body.out < length parts.old.wires.items }
     requires room { length parts.old.wires.items + length (lam_here parts.old depth (ty_of ty.now) body).wires < 2 ^ 32 }
     ensures { IfOk result (λ r. Builds parts.old parts.new (lam_here parts.old depth (ty_of ty.now) body) r) }
 {
+    let whole = arrow_of(alloc, ty, parts.ty(body.out))?;
     let mut free = body.free;
     let x = bind(alloc, parts, depth, ty, &mut free)?;
-    let ty = arrow_of(alloc, ty, body.ty)?;
     let node = Node::Lam {
         b: body.out,
         x,
         w: parts.next(),
     };
-    finish(alloc, parts, depth, ty, node, free)
+    finish(parts, depth, whole, node, free)
 }
 
 /// After the body of a `fix`, which stands one depth further in: its other variables leave by doors.
@@ -126,7 +127,7 @@ pub(crate) fn close_fix(
         x,
         w: parts.next(),
     };
-    finish(alloc, parts, depth, ty.copy(alloc)?, node, free)
+    finish(parts, depth, ty.copy(alloc)?, node, free)
 }
 
 /// After the function and its argument, which stands one depth further in.
@@ -139,10 +140,11 @@ pub(crate) fn close_app(
 ) -> Result<Placed, AllocError>
     requires functions { Falling (length parts.old.context.items) (reverse function.free.items) }
     requires arguments { Falling (length parts.old.context.items) (reverse argument.free.items) }
+    requires function_wire { function.out < length parts.old.wires.items }
     requires room { length parts.old.wires.items + length (app_here parts.old depth function argument).wires < 2 ^ 32 }
     ensures { IfOk result (λ r. Builds parts.old parts.new (app_here parts.old depth function argument) r) }
 {
-    let (from, to) = ends(function.ty);
+    let from = domain_of(alloc, parts.ty(function.out))?;
     let boxed = close_box(alloc, parts, depth, from, argument)?;
     let free = contract(alloc, parts, depth, function.free, boxed.free)?;
     let node = Node::App {
@@ -150,7 +152,8 @@ pub(crate) fn close_app(
         a: boxed.out,
         w: parts.next(),
     };
-    finish(alloc, parts, depth, to, node, free)
+    let to = codomain_of(alloc, parts.ty(function.out))?;
+    finish(parts, depth, to, node, free)
 }
 
 /// What an argument is, once it is boxed: its bang wire, and the loose wires outside.
@@ -224,20 +227,29 @@ fn uses(free: &Vec<Loose>, binder: usize) -> bool
 }
 
 /// The type of functions from a type to another.
-fn arrow_of(alloc: Global, from: &Ty, to: Ty) -> Result<Ty, AllocError>
-    ensures { IfOk result (λ t. ty_of t ≡ arrow (ty_of from.now) (ty_of to)) }
+fn arrow_of(alloc: Global, from: &Ty, to: &Ty) -> Result<Ty, AllocError>
+    ensures { IfOk result (λ t. ty_of t ≡ arrow (ty_of from.now) (ty_of to.now)) }
 {
     let from = Box::new(alloc, from.copy(alloc)?)?;
-    Ok(Ty::Arrow(from, Box::new(alloc, to)?))
+    Ok(Ty::Arrow(from, Box::new(alloc, to.copy(alloc)?)?))
 }
 
-/// What a function takes and gives. What is no function, which no typed term applies, takes and gives `nat`.
-fn ends(function: Ty) -> (Ty, Ty)
-    ensures from { ty_of result.0 ≡ domain (ty_of function) }
-    ensures to { ty_of result.1 ≡ codomain (ty_of function) }
+/// What a function takes. What is no function, which no typed term applies, takes `nat`.
+fn domain_of(alloc: Global, function: &Ty) -> Result<Ty, AllocError>
+    ensures { IfOk result (λ t. ty_of t ≡ domain (ty_of function.now)) }
 {
     match function {
-        Ty::Arrow(from, to) => (Box::into_inner(from), Box::into_inner(to)),
-        _ => (Ty::Nat, Ty::Nat),
+        Ty::Arrow(from, _) => from.copy(alloc),
+        _ => Ok(Ty::Nat),
+    }
+}
+
+/// What a function gives. What is no function, which no typed term applies, gives `nat`.
+fn codomain_of(alloc: Global, function: &Ty) -> Result<Ty, AllocError>
+    ensures { IfOk result (λ t. ty_of t ≡ codomain (ty_of function.now)) }
+{
+    match function {
+        Ty::Arrow(_, to) => to.copy(alloc),
+        _ => Ok(Ty::Nat),
     }
 }

@@ -30,14 +30,14 @@ impl Double {
     }
 
     /// Its type, of the operands'.
-    pub(crate) fn ty(self, alloc: Global, left: Ty, right: Ty) -> Result<Ty, AllocError>
-        ensures { IfOk result (λ t. ty_of t ≡ double_type self (ty_of left) (ty_of right)) }
+    pub(crate) fn ty(self, alloc: Global, left: &Ty, right: &Ty) -> Result<Ty, AllocError>
+        ensures { IfOk result (λ t. ty_of t ≡ double_type self (ty_of left.now) (ty_of right.now)) }
     {
         match self {
             Double::Plus | Double::Minus | Double::Times => Ok(Ty::Nat),
             Double::Pair => {
-                let left = Box::new(alloc, left)?;
-                Ok(Ty::Product(left, Box::new(alloc, right)?))
+                let left = Box::new(alloc, left.copy(alloc)?)?;
+                Ok(Ty::Product(left, Box::new(alloc, right.copy(alloc)?)?))
             }
         }
     }

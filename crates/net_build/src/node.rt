@@ -5,7 +5,7 @@ ghost use Rattle.net_build.specs.Nets.{premises, conclusions};
 ghost use Rattle.net_build.specs.Sides.{present};
 
 /// A node, with its wires by number, in the order in which a listing gives them.
-#[derive(Clone, Copy, Debug, PartialEq, Eq)]
+#[derive(Clone, Copy, PartialEq, Eq)]
 pub enum Node {
     Const { v: u64, w: u32 },
     Succ { a: u32, w: u32 },

@@ -2,7 +2,8 @@
 
 ghost use Rattle.std.specs.Prelude.{◌≡◌, ◌<◌, ◌^◌, ◌∷◌, [], length, OnOk};
 ghost use Rattle.net_build.specs.Views.{wire_of};
-ghost use Rattle.net_build.specs.Building.{Grows};
+ghost use Rattle.pcf_values.specs.Views.{ty_of};
+ghost use Rattle.net_build.specs.Building.{Grows, wire_type};
 
 use crate::{Node, Wire};
 use pcf_values::Ty;
@@ -23,11 +24,10 @@ pub(crate) struct Loose {
     pub(crate) wire: u32,
 }
 
-/// What a term gives: its value wire, its type, and the loose wires of its free variables, the innermost binder last.
+/// What a term gives: its value wire, and the loose wires of its free variables, the innermost binder last.
 #[derive(Drop)]
 pub(crate) struct Placed {
     pub(crate) out: u32,
-    pub(crate) ty: Ty,
     pub(crate) free: Vec<Loose>,
 }
 
@@ -38,6 +38,14 @@ impl Parts {
         ensures { result ≡ length self.now.wires.items }
     {
         self.wires.len() as u32
+    }
+
+    /// The type of a wire.
+    pub(crate) fn ty(&self, wire: u32) -> &Ty
+        requires { wire < length self.now.wires.items }
+        ensures { ty_of result.now ≡ wire_type self.now wire }
+    {
+        &self.wires[wire as usize].ty
     }
 
     /// A wire and a node at the ends of the lists.

@@ -65,7 +65,7 @@ fn place_number(alloc: Global, parts: &mut Parts, depth: u32, v: u64) -> Result<
     ensures { IfOk result (λ r. Builds parts.old parts.new (part_at parts.old depth (num v)) r) }
 {
     let node = Node::Const { v, w: parts.next() };
-    finish(alloc, parts, depth, Ty::Nat, node, Vec::new(alloc))
+    finish(parts, depth, Ty::Nat, node, Vec::new(alloc))
 }
 
 fn place_variable(
@@ -79,16 +79,16 @@ fn place_variable(
 {
     let ty = variable_type(alloc, &parts.context, i)?;
     let w = parts.next();
-    add_uses(alloc, parts, depth, &ty)?;
+    add_uses(alloc, parts, depth, ty)?;
     let x = w + 1;
     parts.nodes.push(Node::Der { w, x })?;
     let free = one_loose(alloc, parts.context.len(), i, x)?;
-    Ok(Placed { out: w, ty, free })
+    Ok(Placed { out: w, free })
 }
 
 /// The value wire of a variable and its variable wire.
-fn add_uses(alloc: Global, parts: &mut Parts, depth: u32, ty: &Ty) -> Result<(), AllocError>
-    ensures { OnOk result (Grows parts.old parts.new (value_wire depth (ty_of ty.now) ∷ var_wire depth (ty_of ty.now) ∷ []) []) }
+fn add_uses(alloc: Global, parts: &mut Parts, depth: u32, ty: Ty) -> Result<(), AllocError>
+    ensures { OnOk result (Grows parts.old parts.new (value_wire depth (ty_of ty) ∷ var_wire depth (ty_of ty) ∷ []) []) }
 {
     parts.wires.push(Wire {
         kind: WireKind::Value,
@@ -98,7 +98,7 @@ fn add_uses(alloc: Global, parts: &mut Parts, depth: u32, ty: &Ty) -> Result<(),
     parts.wires.push(Wire {
         kind: WireKind::Variable,
         depth,
-        ty: ty.copy(alloc)?,
+        ty,
     })?;
     Ok(())
 }
@@ -144,9 +144,9 @@ fn place_unary(
     ensures { IfOk result (λ r. Builds parts.old parts.new (unary_at form parts.old depth (part_at parts.old depth (term_of operand.now))) r) }
 {
     let operand = place(alloc, parts, depth, operand)?;
+    let ty = form.ty(alloc, parts.ty(operand.out))?;
     let node = form.node(operand.out, parts.next());
-    let ty = form.ty(operand.ty);
-    finish(alloc, parts, depth, ty, node, operand.free)
+    finish(parts, depth, ty, node, operand.free)
 }
 
 #[cycle(place)]

@@ -1,11 +1,12 @@
 //! The forms of terms with one operand.
 
-ghost use Rattle.std.specs.Prelude.{◌≡◌};
+ghost use Rattle.std.specs.Prelude.{◌≡◌, IfOk};
 ghost use Rattle.pcf_values.specs.Views.{ty_of};
 ghost use Rattle.net_build.specs.Building.{unary_node, unary_type};
 
 use crate::Node;
 use pcf_values::Ty;
+use std::alloc::{AllocError, Global};
 
 #[derive(Clone, Copy)]
 pub(crate) enum Unary {
@@ -29,13 +30,13 @@ impl Unary {
     }
 
     /// Its type, of the operand's. Of what is no pair a part has type `nat`: no typed term has one.
-    pub(crate) fn ty(self, operand: Ty) -> Ty
-        ensures { ty_of result ≡ unary_type self (ty_of operand) }
+    pub(crate) fn ty(self, alloc: Global, operand: &Ty) -> Result<Ty, AllocError>
+        ensures { IfOk result (λ t. ty_of t ≡ unary_type self (ty_of operand.now)) }
     {
         match (self, operand) {
-            (Unary::Fst, Ty::Product(left, _)) => Box::into_inner(left),
-            (Unary::Snd, Ty::Product(_, right)) => Box::into_inner(right),
-            _ => Ty::Nat,
+            (Unary::Fst, Ty::Product(left, _)) => left.copy(alloc),
+            (Unary::Snd, Ty::Product(_, right)) => right.copy(alloc),
+            _ => Ok(Ty::Nat),
         }
     }
 }

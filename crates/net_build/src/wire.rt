@@ -18,7 +18,7 @@ pub enum WireKind {
 }
 
 /// A wire of a net: in how many boxes it stands, and the type of what it carries.
-#[derive(Debug, Drop)]
+#[derive(Drop)]
 pub struct Wire {
     pub kind: WireKind,
     pub depth: u32,

@@ -1,8 +1,19 @@
-use Rattle.std.proofs.Common.{rules, ◌+◌, arith}
+use Rattle.std.proofs.Common.{rules, ◌+◌, arith, ap, ◌∙◌}
 use Rattle.std.proofs.lemmas.Result.{IfOk-weaker}
 use Rattle.pcf_values.specs.Views.{ty_of, term_of}
+use Rattle.net_build.specs.Building.{part_at, unary_node, unary_type}
+use Rattle.net_build.proofs.Ending.{unary_ending}
 use Rattle.net_build.proofs.Placing.{double_builds, ifz_numbers, ifz_depths, ifz_close_room, ifz_builds, app_builds_at, lam_builds, fix_close_room_at, fix_builds_at}
 use Rattle.net_build.proofs.translate.+place.Goals as goal
+
+pub place_unary-returns : goal.place_unary-returns
+place_unary-returns t c =
+    let form = c.args.form in
+    let operand = c.in_ok-operand.operand in
+    IfOk-weaker c.finish.result _ _
+    (λ x f. unary_ending c.args.parts.now c.place.new.parts c.finish.new.parts form c.args.depth (part_at c.args.parts.now c.args.depth (term_of c.args.operand.now)) operand (ty_of c.in_ok-ty.ty) c.node-node.result x c.in_ok-operand.ensures
+    (c.in_ok-ty.ensures ∙ ap (unary_type form) c.ty.ensures) (c.node-node.ensures ∙ ap (unary_node form operand.out) c.next.ensures) f)
+    c.finish.ensures
 
 pub place_double-returns : goal.place_double-returns
 place_double-returns t c =
