@@ -6,7 +6,7 @@ use std::alloc::{AllocError, Global};
 use std::marker::Model;
 
 /// A name, seen by contracts as the list of its bytes.
-#[derive(Debug, Drop)]
+#[derive(Drop)]
 pub struct Ident {
     text: String,
 }

@@ -8,7 +8,7 @@ use std::alloc::{AllocError, Global};
 
 /// A node with its place: an offset in bytes from the beginning of the text.
 #[cycle(named)]
-#[derive(Debug, Drop)]
+#[derive(Drop)]
 pub struct Named {
     pub at: u32,
     pub raw: Raw,
@@ -16,7 +16,7 @@ pub struct Named {
 
 /// A node of a term as it is read.
 #[cycle(named)]
-#[derive(Debug, Drop)]
+#[derive(Drop)]
 pub enum Raw {
     Number(u64),
     Name(Ident),
@@ -37,6 +37,7 @@ pub enum Raw {
 impl Named {
     /// An equal term, with equal places.
     #[cycle(copy)]
+    #[tactic(auto, using(crate::proofs::Heights::raw_height))]
     pub fn copy(&self, alloc: Global) -> Result<Named, AllocError>
         ensures { IfOk result (λ t. named_of t ≡ named_of self.now) }
     {
@@ -44,14 +45,6 @@ impl Named {
             at: self.at,
             raw: self.raw.copy(alloc)?,
         })
-    }
-
-    /// An equal term in a box.
-    #[cycle(copy)]
-    fn boxed(&self, alloc: Global) -> Result<Box<Named>, AllocError>
-        ensures { IfOk result (λ t. named_of t.value ≡ named_of self.now) }
-    {
-        Ok(Box::new(alloc, self.copy(alloc)?)?)
     }
 }
 
@@ -64,45 +57,62 @@ impl Raw {
         match self {
             Raw::Number(n) => Ok(Raw::Number(*n)),
             Raw::Name(x) => Ok(Raw::Name(x.copy(alloc)?)),
-            Raw::Succ(a) => Ok(Raw::Succ(a.boxed(alloc)?)),
-            Raw::Pred(a) => Ok(Raw::Pred(a.boxed(alloc)?)),
+            Raw::Succ(a) => Ok(Raw::Succ(copy_box(alloc, a)?)),
+            Raw::Pred(a) => Ok(Raw::Pred(copy_box(alloc, a)?)),
             Raw::Plus(a, b) => {
-                let a = a.boxed(alloc)?;
-                Ok(Raw::Plus(a, b.boxed(alloc)?))
+                let (a, b) = copy_both(alloc, a, b)?;
+                Ok(Raw::Plus(a, b))
             }
             Raw::Minus(a, b) => {
-                let a = a.boxed(alloc)?;
-                Ok(Raw::Minus(a, b.boxed(alloc)?))
+                let (a, b) = copy_both(alloc, a, b)?;
+                Ok(Raw::Minus(a, b))
             }
             Raw::Times(a, b) => {
-                let a = a.boxed(alloc)?;
-                Ok(Raw::Times(a, b.boxed(alloc)?))
+                let (a, b) = copy_both(alloc, a, b)?;
+                Ok(Raw::Times(a, b))
             }
             Raw::Ifz(c, p, q) => {
-                let c = c.boxed(alloc)?;
-                let p = p.boxed(alloc)?;
-                Ok(Raw::Ifz(c, p, q.boxed(alloc)?))
+                let (p, q) = copy_both(alloc, p, q)?;
+                Ok(Raw::Ifz(copy_box(alloc, c)?, p, q))
             }
             Raw::Fun(x, ty, body) => {
+                let body = copy_box(alloc, body)?;
                 let x = x.copy(alloc)?;
-                let ty = ty.copy(alloc)?;
-                Ok(Raw::Fun(x, ty, body.boxed(alloc)?))
+                Ok(Raw::Fun(x, ty.copy(alloc)?, body))
             }
             Raw::Fix(x, ty, body) => {
+                let body = copy_box(alloc, body)?;
                 let x = x.copy(alloc)?;
-                let ty = ty.copy(alloc)?;
-                Ok(Raw::Fix(x, ty, body.boxed(alloc)?))
+                Ok(Raw::Fix(x, ty.copy(alloc)?, body))
             }
             Raw::App(f, a) => {
-                let f = f.boxed(alloc)?;
-                Ok(Raw::App(f, a.boxed(alloc)?))
+                let (f, a) = copy_both(alloc, f, a)?;
+                Ok(Raw::App(f, a))
             }
             Raw::Pair(a, b) => {
-                let a = a.boxed(alloc)?;
-                Ok(Raw::Pair(a, b.boxed(alloc)?))
+                let (a, b) = copy_both(alloc, a, b)?;
+                Ok(Raw::Pair(a, b))
             }
-            Raw::Fst(a) => Ok(Raw::Fst(a.boxed(alloc)?)),
-            Raw::Snd(a) => Ok(Raw::Snd(a.boxed(alloc)?)),
+            Raw::Fst(a) => Ok(Raw::Fst(copy_box(alloc, a)?)),
+            Raw::Snd(a) => Ok(Raw::Snd(copy_box(alloc, a)?)),
         }
     }
+}
+
+/// An equal term in a box of its own.
+#[cycle(copy)]
+fn copy_box(alloc: Global, term: &Named) -> Result<Box<Named>, AllocError>
+    ensures { IfOk result (λ t. named_of t.value ≡ named_of term.now) }
+{
+    Ok(Box::new(alloc, term.copy(alloc)?)?)
+}
+
+/// Equal terms in boxes of their own.
+#[cycle(copy)]
+fn copy_both(alloc: Global, a: &Named, b: &Named) -> Result<(Box<Named>, Box<Named>), AllocError>
+    ensures { IfOk result (λ p. (named_of p.0.value ≡ named_of a.now) × (named_of p.1.value ≡ named_of b.now)) }
+{
+    let a = copy_box(alloc, a)?;
+    let b = copy_box(alloc, b)?;
+    Ok((a, b))
 }

@@ -7,7 +7,7 @@ use crate::Ty;
 use std::alloc::{AllocError, Global};
 
 /// A term. `Var(0)` is the nearest binder's variable.
-#[derive(Debug, Drop)]
+#[derive(Drop)]
 pub enum Term {
     Number(u64),
     Var(u32),
@@ -34,51 +34,60 @@ impl Term {
         match self {
             Term::Number(n) => Ok(Term::Number(*n)),
             Term::Var(i) => Ok(Term::Var(*i)),
-            Term::Succ(a) => Ok(Term::Succ(a.boxed(alloc)?)),
-            Term::Pred(a) => Ok(Term::Pred(a.boxed(alloc)?)),
+            Term::Succ(a) => Ok(Term::Succ(copy_box(alloc, a)?)),
+            Term::Pred(a) => Ok(Term::Pred(copy_box(alloc, a)?)),
             Term::Plus(a, b) => {
-                let a = a.boxed(alloc)?;
-                Ok(Term::Plus(a, b.boxed(alloc)?))
+                let (a, b) = copy_both(alloc, a, b)?;
+                Ok(Term::Plus(a, b))
             }
             Term::Minus(a, b) => {
-                let a = a.boxed(alloc)?;
-                Ok(Term::Minus(a, b.boxed(alloc)?))
+                let (a, b) = copy_both(alloc, a, b)?;
+                Ok(Term::Minus(a, b))
             }
             Term::Times(a, b) => {
-                let a = a.boxed(alloc)?;
-                Ok(Term::Times(a, b.boxed(alloc)?))
+                let (a, b) = copy_both(alloc, a, b)?;
+                Ok(Term::Times(a, b))
             }
             Term::Ifz(c, p, q) => {
-                let c = c.boxed(alloc)?;
-                let p = p.boxed(alloc)?;
-                Ok(Term::Ifz(c, p, q.boxed(alloc)?))
+                let (p, q) = copy_both(alloc, p, q)?;
+                Ok(Term::Ifz(copy_box(alloc, c)?, p, q))
             }
             Term::Fun(ty, body) => {
-                let ty = ty.copy(alloc)?;
-                Ok(Term::Fun(ty, body.boxed(alloc)?))
+                let body = copy_box(alloc, body)?;
+                Ok(Term::Fun(ty.copy(alloc)?, body))
             }
             Term::Fix(ty, body) => {
-                let ty = ty.copy(alloc)?;
-                Ok(Term::Fix(ty, body.boxed(alloc)?))
+                let body = copy_box(alloc, body)?;
+                Ok(Term::Fix(ty.copy(alloc)?, body))
             }
             Term::App(f, a) => {
-                let f = f.boxed(alloc)?;
-                Ok(Term::App(f, a.boxed(alloc)?))
+                let (f, a) = copy_both(alloc, f, a)?;
+                Ok(Term::App(f, a))
             }
             Term::Pair(a, b) => {
-                let a = a.boxed(alloc)?;
-                Ok(Term::Pair(a, b.boxed(alloc)?))
+                let (a, b) = copy_both(alloc, a, b)?;
+                Ok(Term::Pair(a, b))
             }
-            Term::Fst(a) => Ok(Term::Fst(a.boxed(alloc)?)),
-            Term::Snd(a) => Ok(Term::Snd(a.boxed(alloc)?)),
+            Term::Fst(a) => Ok(Term::Fst(copy_box(alloc, a)?)),
+            Term::Snd(a) => Ok(Term::Snd(copy_box(alloc, a)?)),
         }
     }
+}
 
-    /// An equal term in a box.
-    #[cycle(copy)]
-    fn boxed(&self, alloc: Global) -> Result<Box<Term>, AllocError>
-        ensures { IfOk result (λ t. term_of t.value ≡ term_of self.now) }
-    {
-        Ok(Box::new(alloc, self.copy(alloc)?)?)
-    }
+/// An equal term in a box of its own.
+#[cycle(copy)]
+fn copy_box(alloc: Global, term: &Term) -> Result<Box<Term>, AllocError>
+    ensures { IfOk result (λ t. term_of t.value ≡ term_of term.now) }
+{
+    Ok(Box::new(alloc, term.copy(alloc)?)?)
+}
+
+/// Equal terms in boxes of their own.
+#[cycle(copy)]
+fn copy_both(alloc: Global, a: &Term, b: &Term) -> Result<(Box<Term>, Box<Term>), AllocError>
+    ensures { IfOk result (λ p. (term_of p.0.value ≡ term_of a.now) × (term_of p.1.value ≡ term_of b.now)) }
+{
+    let a = copy_box(alloc, a)?;
+    let b = copy_box(alloc, b)?;
+    Ok((a, b))
 }

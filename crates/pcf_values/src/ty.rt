@@ -6,7 +6,7 @@ ghost use Rattle.pcf_values.specs.Views.{ty_of};
 use std::alloc::{AllocError, Global};
 
 /// A type: of numbers, of functions, or of pairs.
-#[derive(Debug, Drop)]
+#[derive(Drop)]
 pub enum Ty {
     /// Numbers.
     Nat,
