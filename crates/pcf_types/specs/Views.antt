@@ -1,6 +1,6 @@
 -- What contracts see of the checker's own types: the context of a scope, and the type of what is known of one. With them, what the
 -- definition says of a part in a scope.
-use Rattle.std.specs.Prelude.{ℕ, ◌+◌, ◌^◌, ◌<◌, List, [], ◌∷◌, length, Result}
+use Rattle.std.specs.Prelude.{ℕ, ◌+◌, ◌^◌, ◌<◌, List, [], ◌∷◌, length, Result, Ok}
 use Rattle.pcf_values.specs.declared.named.Named.{Named}
 use Rattle.pcf_values.specs.declared.ty.Ty.{Ty}
 use Rattle.pcf_values.specs.Terms.{TyTree, nat, arrow, product, TermTree}
@@ -22,6 +22,10 @@ known_of Nat = nat
 known_of (Written t) = ty_of t.now
 known_of (Function' t p b) = arrow (ty_of t.now) (known_of b)
 known_of (Pair' p a q b) = product (known_of a) (known_of b)
+
+-- this term with this type, as an answer
+abbrev pub answer_of : TermTree → TyTree → Answer
+answer_of m t = Ok (m, t)
 
 -- the indexes of all variables in the part fit 32 bits
 abbrev pub Shallow : Scope → Named → Type 0

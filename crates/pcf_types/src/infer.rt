@@ -26,7 +26,7 @@ fn variable<'p>(
     ensures fault { IfErr result (λ f. f ≢ NoMemory → variable at (nearest name.now (scope_of scope.now)) ≡ Err f) }
 {
     match scope.nearest(name) {
-        Some((index, ty)) => Ok(Judged::of(alloc, Term::Var(index), Known::Written(ty))?),
+        Some((index, ty)) => Judged::of(alloc, Term::Var(index), Known::Written(ty)),
         None => Err(TypeFault::Unbound(at)),
     }
 }
@@ -44,32 +44,26 @@ pub(crate) fn infer<'p>(
     ensures fit { IfOk result (λ j. NumbersFit (named_of tree.now)) }
 {
     match &tree.raw {
-        Raw::Number(n) => Ok(Judged::nat(alloc, Term::Number(*n))?),
+        Raw::Number(n) => Judged::nat(alloc, Term::Number(*n)),
         Raw::Name(name) => variable(alloc, scope, name, tree.at),
-        Raw::Succ(a) => {
-            let a = number(alloc, scope, a)?;
-            Ok(Judged::nat(alloc, Term::Succ(a))?)
-        }
-        Raw::Pred(a) => {
-            let a = number(alloc, scope, a)?;
-            Ok(Judged::nat(alloc, Term::Pred(a))?)
-        }
+        Raw::Succ(a) => Judged::nat(alloc, Term::Succ(number(alloc, scope, a)?)),
+        Raw::Pred(a) => Judged::nat(alloc, Term::Pred(number(alloc, scope, a)?)),
         Raw::Plus(a, b) => {
             let (a, b) = numbers(alloc, scope, a, b)?;
-            Ok(Judged::nat(alloc, Term::Plus(a, b))?)
+            Judged::nat(alloc, Term::Plus(a, b))
         }
         Raw::Minus(a, b) => {
             let (a, b) = numbers(alloc, scope, a, b)?;
-            Ok(Judged::nat(alloc, Term::Minus(a, b))?)
+            Judged::nat(alloc, Term::Minus(a, b))
         }
         Raw::Times(a, b) => {
             let (a, b) = numbers(alloc, scope, a, b)?;
-            Ok(Judged::nat(alloc, Term::Times(a, b))?)
+            Judged::nat(alloc, Term::Times(a, b))
         }
         Raw::Ifz(c, p, q) => {
             let c = number(alloc, scope, c)?;
             let (p, q) = numbers(alloc, scope, p, q)?;
-            Ok(Judged::nat(alloc, Term::Ifz(c, p, q))?)
+            Judged::nat(alloc, Term::Ifz(c, p, q))
         }
         Raw::Fun(name, ty, body) => function_of(alloc, scope, name, ty, body),
         Raw::Fix(name, ty, body) => fixed_point(alloc, scope, name, ty, body),
@@ -77,25 +71,25 @@ pub(crate) fn infer<'p>(
         Raw::Pair(a, b) => pair_of(alloc, scope, a, b),
         Raw::Fst(a) => {
             let a = paired(alloc, scope, a)?;
-            Ok(Judged::of(alloc, Term::Fst(a.term), a.left)?)
+            Judged::of(alloc, Term::Fst(a.term), a.left)
         }
         Raw::Snd(a) => {
             let a = paired(alloc, scope, a)?;
-            Ok(Judged::of(alloc, Term::Snd(a.term), a.right)?)
+            Judged::of(alloc, Term::Snd(a.term), a.right)
         }
     }
 }
 
 /// The term of a part, which has to be of type `nat`.
 #[cycle(infer)]
-#[tactic(auto, using(crate::proofs::Places::place))]
+#[tactic(auto, using(crate::proofs::SameTypes::number_same))]
 fn number(alloc: Global, scope: &Scope<'_, '_>, tree: &Named) -> Result<Box<Term>, TypeFault>
     requires { Shallow scope.now tree.now }
     ensures ok { IfOk result (λ m. number_in scope.now tree.now ≡ Ok (term_of m.value)) }
     ensures fault { IfErr result (λ f. f ≢ NoMemory → number_in scope.now tree.now ≡ Err f) }
     ensures fit { IfOk result (λ m. NumbersFit (named_of tree.now)) }
 {
-    infer(alloc, scope, tree)?.into_number(tree.at)
+    of_type(alloc, scope, tree, &Ty::Nat, TypeFault::NatWanted(tree.at))
 }
 
 /// The terms of two such parts, the first one's fault first.
@@ -130,7 +124,15 @@ fn function<'p>(
     ensures fault { IfErr result (λ f. f ≢ NoMemory → function_in scope.now tree.now ≡ Err f) }
     ensures fit { IfOk result (λ p. NumbersFit (named_of tree.now)) }
 {
-    infer(alloc, scope, tree)?.into_function(tree.at)
+    let found = infer(alloc, scope, tree)?;
+    match found.ty.into_function() {
+        Some((from, to)) => Ok(Function {
+            term: found.term,
+            from,
+            to,
+        }),
+        None => Err(TypeFault::FunctionWanted(tree.at)),
+    }
 }
 
 /// The term of a part, which has to be of a pair's type, with the types of the pair's parts.
@@ -146,7 +148,15 @@ fn paired<'p>(
     ensures fault { IfErr result (λ f. f ≢ NoMemory → parts_in scope.now tree.now ≡ Err f) }
     ensures fit { IfOk result (λ p. NumbersFit (named_of tree.now)) }
 {
-    infer(alloc, scope, tree)?.into_pair(tree.at)
+    let found = infer(alloc, scope, tree)?;
+    match found.ty.into_pair() {
+        Some((left, right)) => Ok(Paired {
+            term: found.term,
+            left,
+            right,
+        }),
+        None => Err(TypeFault::PairWanted(tree.at)),
+    }
 }
 
 /// The term of a part, which has to be of this type, or else the fault.
@@ -224,7 +234,7 @@ fn application<'p>(
 {
     let f = function(alloc, scope, f)?;
     let a = of_type(alloc, scope, a, f.from, TypeFault::ArgumentMismatch(a.at))?;
-    Ok(Judged::of(alloc, Term::App(f.term, a), f.to)?)
+    Judged::of(alloc, Term::App(f.term, a), f.to)
 }
 
 /// The pair of these parts.
@@ -245,5 +255,5 @@ fn pair_of<'p>(
     let b = infer(alloc, scope, b)?;
     let left = Box::new(alloc, a.ty)?;
     let right = Box::new(alloc, b.ty)?;
-    Ok(Judged::of(alloc, Term::Pair(a.term, b.term), Known::Pair(left, right))?)
+    Judged::of(alloc, Term::Pair(a.term, b.term), Known::Pair(left, right))
 }

@@ -1,7 +1,7 @@
 //! Types that are made of parts of the program's text.
 
 ghost use Rattle.std.specs.Prelude.{◌≡◌, ◌↔◌, ◌≢◌, IsTrue, IfOk, MatchOption};
-ghost use Rattle.pcf_values.specs.Terms.{nat, arrow, product, TyTree};
+ghost use Rattle.pcf_values.specs.Terms.{arrow, product, TyTree};
 ghost use Rattle.pcf_values.specs.Views.{ty_of};
 ghost use Rattle.pcf_types.specs.Views.{known_of};
 
@@ -18,16 +18,6 @@ pub(crate) enum Known<'p> {
 }
 
 impl<'p> Known<'p> {
-    /// Whether it is the type of numbers.
-    pub(crate) fn is_nat(&self) -> bool
-        ensures { IsTrue result ↔ (known_of self.now ≡ nat) }
-    {
-        match self {
-            Known::Nat | Known::Written(Ty::Nat) => true,
-            _ => false,
-        }
-    }
-
     /// Whether it is this type. Nothing is copied.
     pub(crate) fn is(&self, ty: &Ty) -> bool
         ensures { IsTrue result ↔ (known_of self.now ≡ ty_of ty.now) }

@@ -7,10 +7,10 @@ abbrev pub decreases-infer : goal.decreases-infer
 decreases-infer l = 4 * named_height (named_of l.tree.now)
 
 abbrev pub decreases-number : goal.decreases-number
-decreases-number l = 4 * named_height (named_of l.tree.now) + 1
+decreases-number l = 4 * named_height (named_of l.tree.now) + 2
 
 abbrev pub decreases-numbers : goal.decreases-numbers
-decreases-numbers l = 4 * max (named_height (named_of l.a.now)) (named_height (named_of l.b.now)) + 2
+decreases-numbers l = 4 * max (named_height (named_of l.a.now)) (named_height (named_of l.b.now)) + 3
 
 abbrev pub decreases-function : goal.decreases-function
 decreases-function l = 4 * named_height (named_of l.tree.now) + 1
