@@ -12,7 +12,7 @@ use goi_world::Files;
 use std::alloc::Global;
 
 /// The answer to the words.
-#[derive(Debug, Drop)]
+#[derive(Drop)]
 pub(crate) enum Answer {
     /// All is done, and this is the report.
     Prints(Vec<u8>),
@@ -37,8 +37,18 @@ pub(crate) fn answer_to<F: Files>(alloc: Global, words: &[String], files: &mut F
     };
     match load(alloc, files, job.file()) {
         Ok(loaded) => answer_text(alloc, job, &loaded.bytes),
-        Err(LoadError::Failed) => Answer::NotRead,
-        Err(LoadError::Memory) => Answer::NoMemory,
+        Err(error) => not_loaded(error),
+    }
+}
+
+/// The answer where the file wasn't loaded.
+fn not_loaded(error: LoadError) -> Answer
+    ensures failed { error ≡ LoadError.Failed → result ≡ Answer.NotRead }
+    ensures memory { error ≡ LoadError.Memory → result ≡ Answer.NoMemory }
+{
+    match error {
+        LoadError::Failed => Answer::NotRead,
+        LoadError::Memory => Answer::NoMemory,
     }
 }
 

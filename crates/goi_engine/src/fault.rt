@@ -1,14 +1,14 @@
 //! Faults of programs, and the lines that tell them.
 
 ghost use Rattle.std.specs.Prelude.{◌≡◌, IfOk, string_bytes};
-ghost use Rattle.goi_engine.specs.Refusals.{fault_line};
+ghost use Rattle.goi_engine.specs.Refusals.{fault_line, plain_line, placed_line, read_fault_line, type_fault_line};
 
 use pcf_reader::ReadFault;
 use pcf_types::TypeFault;
 use std::alloc::{AllocError, Global};
 
 /// Why a program is refused.
-#[derive(Clone, Copy, Debug, PartialEq, Eq)]
+#[derive(Clone, Copy)]
 pub(crate) enum Fault {
     /// Its text isn't in the grammar, or passes a limit.
     Read(ReadFault),
@@ -25,39 +25,53 @@ pub(crate) fn fault_line(alloc: Global, fault: Fault) -> Result<Vec<u8>, AllocEr
     ensures { IfOk result (λ v. v.items ≡ fault_line fault) }
 {
     let text = match fault {
-        Fault::Read(fault) => read_line(alloc, fault)?,
-        Fault::Typing(fault) => type_line(alloc, fault)?,
-        Fault::NotGround => String::from_str(alloc, "refused: NotGround\n")?,
-        Fault::NotBuilt => String::from_str(alloc, "refused: NotBuilt\n")?,
+        Fault::Read(fault) => read_line(alloc, fault),
+        Fault::Typing(fault) => type_line(alloc, fault),
+        Fault::NotGround => plain_line(alloc, "NotGround"),
+        Fault::NotBuilt => plain_line(alloc, "NotBuilt"),
     };
-    Ok(text.into_bytes())
+    Ok(text?.into_bytes())
 }
 
 fn read_line(alloc: Global, fault: ReadFault) -> Result<String, AllocError>
-    ensures { IfOk result (λ text. string_bytes text ≡ fault_line (Fault.Read fault)) }
+    ensures { IfOk result (λ text. string_bytes text ≡ read_fault_line fault) }
 {
     match fault {
-        ReadFault::NoMemory => String::from_str(alloc, "refused: NoMemory\n"),
-        ReadFault::NotText(at) => format!(in alloc; "refused: NotText({at})\n"),
-        ReadFault::BadToken(at) => format!(in alloc; "refused: BadToken({at})\n"),
-        ReadFault::NumberTooWide(at) => format!(in alloc; "refused: NumberTooWide({at})\n"),
-        ReadFault::Unexpected(at) => format!(in alloc; "refused: Unexpected({at})\n"),
-        ReadFault::TooDeep(at) => format!(in alloc; "refused: TooDeep({at})\n"),
-        ReadFault::TooLarge(at) => format!(in alloc; "refused: TooLarge({at})\n"),
-        ReadFault::TooLong => String::from_str(alloc, "refused: TooLong\n"),
+        ReadFault::NoMemory => plain_line(alloc, "NoMemory"),
+        ReadFault::NotText(at) => placed_line(alloc, "NotText", at),
+        ReadFault::BadToken(at) => placed_line(alloc, "BadToken", at),
+        ReadFault::NumberTooWide(at) => placed_line(alloc, "NumberTooWide", at),
+        ReadFault::Unexpected(at) => placed_line(alloc, "Unexpected", at),
+        ReadFault::TooDeep(at) => placed_line(alloc, "TooDeep", at),
+        ReadFault::TooLarge(at) => placed_line(alloc, "TooLarge", at),
+        ReadFault::TooLong => plain_line(alloc, "TooLong"),
     }
 }
 
 fn type_line(alloc: Global, fault: TypeFault) -> Result<String, AllocError>
-    ensures { IfOk result (λ text. string_bytes text ≡ fault_line (Fault.Typing fault)) }
+    ensures { IfOk result (λ text. string_bytes text ≡ type_fault_line fault) }
 {
     match fault {
-        TypeFault::NoMemory => String::from_str(alloc, "refused: NoMemory\n"),
-        TypeFault::Unbound(at) => format!(in alloc; "refused: Unbound({at})\n"),
-        TypeFault::FunctionWanted(at) => format!(in alloc; "refused: FunctionWanted({at})\n"),
-        TypeFault::ArgumentMismatch(at) => format!(in alloc; "refused: ArgumentMismatch({at})\n"),
-        TypeFault::NatWanted(at) => format!(in alloc; "refused: NatWanted({at})\n"),
-        TypeFault::FixMismatch(at) => format!(in alloc; "refused: FixMismatch({at})\n"),
-        TypeFault::PairWanted(at) => format!(in alloc; "refused: PairWanted({at})\n"),
+        TypeFault::NoMemory => plain_line(alloc, "NoMemory"),
+        TypeFault::Unbound(at) => placed_line(alloc, "Unbound", at),
+        TypeFault::FunctionWanted(at) => placed_line(alloc, "FunctionWanted", at),
+        TypeFault::ArgumentMismatch(at) => placed_line(alloc, "ArgumentMismatch", at),
+        TypeFault::NatWanted(at) => placed_line(alloc, "NatWanted", at),
+        TypeFault::FixMismatch(at) => placed_line(alloc, "FixMismatch", at),
+        TypeFault::PairWanted(at) => placed_line(alloc, "PairWanted", at),
     }
+}
+
+/// The line of a fault without a place.
+fn plain_line(alloc: Global, name: &str) -> Result<String, AllocError>
+    ensures { IfOk result (λ text. string_bytes text ≡ plain_line name.now) }
+{
+    format!(in alloc; "refused: {name}\n")
+}
+
+/// The line of a fault with its place.
+fn placed_line(alloc: Global, name: &str, at: u32) -> Result<String, AllocError>
+    ensures { IfOk result (λ text. string_bytes text ≡ placed_line name.now at) }
+{
+    format!(in alloc; "refused: {name}({at})\n")
 }

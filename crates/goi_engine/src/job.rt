@@ -5,7 +5,7 @@ ghost use Rattle.std.specs.Option.{option_map};
 ghost use Rattle.goi_engine.specs.Jobs.{file_of, is_file_name, job, job_on, seen_job};
 
 /// What is to be done, with the name of the program's file.
-#[derive(Clone, Copy, Debug)]
+#[derive(Clone, Copy)]
 pub(crate) enum Job<'a> {
     /// Run the program.
     Run { file: &'a str },

@@ -1,6 +1,6 @@
 //! A job on a text: the report, or the first fault.
 
-ghost use Rattle.std.specs.Prelude.{◌≡◌, ◌≤◌, ◌<◌, ◌+◌, ◌^◌, true, [], length, IfOk, IfErr, MatchResult};
+ghost use Rattle.std.specs.Prelude.{◌≡◌, ◌≤◌, ◌<◌, ◌+◌, ◌^◌, true, [], length, IfOk, IfErr, OnOk, MatchResult};
 ghost use Rattle.pcf_values.specs.Terms.{TyTree, TermTree, nat, size, height};
 ghost use Rattle.pcf_values.specs.Typing.{HasType};
 ghost use Rattle.pcf_values.specs.Named.{NamedTree, named_size, named_height};
@@ -25,7 +25,7 @@ use pcf_values::{Named, Term, Typed};
 use std::alloc::{AllocError, Global};
 
 /// Why there is no report.
-#[derive(Clone, Copy, Debug, PartialEq, Eq)]
+#[derive(Clone, Copy)]
 pub(crate) enum Stop {
     Memory,
     Fault(Fault),
@@ -86,7 +86,9 @@ pub(crate) fn report_on(alloc: Global, job: Job<'_>, bytes: &[u8]) -> Result<Vec
 {
     law_bounded();
     let tree = read_program(alloc, bytes)?;
-    report_tree(alloc, job, &tree)
+    let report = report_tree(alloc, job, &tree);
+    drop(tree);
+    report
 }
 
 /// The report of a job on a tree, or its first fault.
@@ -98,7 +100,9 @@ fn report_tree(alloc: Global, job: Job<'_>, tree: &Named) -> Result<Vec<u8>, Sto
 {
     law_keeps_size();
     let program = resolve_and_type(alloc, tree)?;
-    report_program(alloc, job, tree, &program)
+    let report = report_program(alloc, job, tree, &program);
+    drop(program);
+    report
 }
 
 /// The report on a program, or the fault that it has for the job.
@@ -129,13 +133,25 @@ fn run_program(alloc: Global, program: &Typed) -> Result<Vec<u8>, Stop>
     ensures reported { IfOk result (λ v. ReportsRun program.now.0 v.items) }
     ensures unsuited { IfErr result (λ e. StopsFor (Unsuited (run []) program.now.0 program.now.1) e) }
 {
+    match can_run(program) {
+        Ok(()) => Ok(run_arithmetic(alloc, program)?),
+        Err(fault) => Err(Stop::Fault(fault)),
+    }
+}
+
+/// Whether a program can run, or the fault that stands against it.
+fn can_run(program: &Typed) -> Result<(), Fault>
+    ensures typed { OnOk result (HasType [] program.now.0 program.now.1) }
+    ensures suits { OnOk result (Suits (run []) program.now.0 program.now.1) }
+    ensures unsuited { IfErr result (λ f. Unsuited (run []) program.now.0 program.now.1 f) }
+{
     if ground(program).is_err() {
-        return Err(Stop::Fault(Fault::NotGround));
+        return Err(Fault::NotGround);
     }
     if !is_arithmetic(program.term()) {
-        return Err(Stop::Fault(Fault::NotBuilt));
+        return Err(Fault::NotBuilt);
     }
-    Ok(run_arithmetic(alloc, program)?)
+    Ok(())
 }
 
 /// The report of a run of a number under words `succ` and `pred`.
@@ -149,7 +165,9 @@ fn run_arithmetic(alloc: Global, program: &Typed) -> Result<Vec<u8>, AllocError>
 {
     law_built_sound();
     let net = net_of(alloc, program)?;
-    match run_net(&net) {
+    let run = run_net(&net);
+    drop(net);
+    match run {
         Some((value, moves)) => run_report(alloc, value, moves),
         None => unreachable!(),
     }
@@ -167,7 +185,9 @@ fn list_net(alloc: Global, program: &Typed) -> Result<Vec<u8>, Stop>
         return Err(Stop::Fault(Fault::NotGround));
     }
     let net = net_of(alloc, program)?;
-    Ok(net_text(alloc, &net)?)
+    let text = net_text(alloc, &net);
+    drop(net);
+    Ok(text?)
 }
 
 /// The net of a ground program.

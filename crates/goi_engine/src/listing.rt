@@ -1,10 +1,13 @@
 //! The listing of a net.
 
-ghost use Rattle.std.specs.Prelude.{◌≡◌, ◌++◌, ◌<◌, ◌≤◌, [], ◌∷◌, length, codes, decimal, drop, IfOk, OnOk};
+ghost use Rattle.std.specs.Prelude.{◌≡◌, ◌++◌, ◌<◌, ◌≤◌, ℕ, List, [], ◌∷◌, length, codes, decimal, drop, IfOk, OnOk};
+ghost use Rattle.net_build.specs.Nets.{premises, conclusions};
+ghost use Rattle.net_build.specs.Sides.{present};
 ghost use Rattle.net_build.specs.Views.{wire_of};
 ghost use Rattle.pcf_reader.specs.Printed.{ty_text};
 ghost use Rattle.goi_engine.specs.Listing.{kind_text, wire_line, numbers_text, name_text, numbers_of, node_line, lines_of, listing};
 
+use crate::report::push_line;
 use itoa::Buffer;
 use net_build::{Net, Node, Wire, WireKind};
 use pcf_reader::print_ty;
@@ -50,10 +53,8 @@ fn push_nodes(text: &mut Vec<u8>, net: &Net) -> Result<(), AllocError>
 fn push_wire(alloc: Global, text: &mut Vec<u8>, n: u32, wire: &Wire) -> Result<(), AllocError>
     ensures { OnOk result (text.new.items ≡ text.old.items ++ wire_line n (wire_of wire.now)) }
 {
-    text.extend_from_slice(b"wire ")?;
-    push_number(text, n.into())?;
-    text.extend_from_slice(kind_text(wire.kind))?;
-    push_number(text, wire.depth.into())?;
+    push_number(text, b"wire ", n.into())?;
+    push_number(text, kind_text(wire.kind), wire.depth.into())?;
     push_type(alloc, text, wire)?;
     Ok(())
 }
@@ -63,10 +64,7 @@ fn push_type(alloc: Global, text: &mut Vec<u8>, wire: &Wire) -> Result<(), Alloc
     ensures { OnOk result (text.new.items ≡ text.old.items ++ (codes " " ++ (ty_text (wire_of wire.now).type ++ codes "\n"))) }
 {
     let ty = print_ty(alloc, &wire.ty)?;
-    text.extend_from_slice(b" ")?;
-    text.extend_from_slice(&ty)?;
-    text.extend_from_slice(b"\n")?;
-    Ok(())
+    push_line(text, b" ", &ty)
 }
 
 fn kind_text(kind: WireKind) -> &'static [u8]
@@ -82,8 +80,7 @@ fn kind_text(kind: WireKind) -> &'static [u8]
 fn push_node(text: &mut Vec<u8>, n: u32, node: Node) -> Result<(), AllocError>
     ensures { OnOk result (text.new.items ≡ text.old.items ++ node_line n node) }
 {
-    text.extend_from_slice(b"node ")?;
-    push_number(text, n.into())?;
+    push_number(text, b"node ", n.into())?;
     text.extend_from_slice(name_text(node))?;
     push_numbers(text, node)?;
     Ok(())
@@ -119,51 +116,51 @@ fn name_text(node: Node) -> &'static [u8]
 fn push_numbers(text: &mut Vec<u8>, node: Node) -> Result<(), AllocError>
     ensures { OnOk result (text.new.items ≡ text.old.items ++ numbers_text (numbers_of node)) }
 {
-    match node {
-        Node::Const { v, w } => push_list(text, &[v, w.into()])?,
-        Node::Succ { a, w } | Node::Pred { a, w } => push_list(text, &[a.into(), w.into()])?,
-        Node::Fst { a, w } | Node::Snd { a, w } => push_list(text, &[a.into(), w.into()])?,
-        Node::Plus { a, b, w } | Node::Minus { a, b, w } => push_list(
-            text,
-            &[a.into(), b.into(), w.into()],
-        )?,
-        Node::Times { a, b, w } | Node::Pair { a, b, w } => push_list(
-            text,
-            &[a.into(), b.into(), w.into()],
-        )?,
-        Node::Ifz { c, p, q, w } => push_list(text, &[c.into(), p.into(), q.into(), w.into()])?,
-        Node::Der { w, x } => push_list(text, &[w.into(), x.into()])?,
-        Node::Con { l, r, w } => push_list(text, &[l.into(), r.into(), w.into()])?,
-        Node::Weak { x } => push_list(text, &[x.into()])?,
-        Node::Lam { b, x, w } | Node::FixBox { b, x, w } => push_list(
-            text,
-            &[b.into(), x.into(), w.into()],
-        )?,
-        Node::App { f, a, w } => push_list(text, &[f.into(), a.into(), w.into()])?,
-        Node::BoxNode { i, o } | Node::Door { i, o } => push_list(text, &[i.into(), o.into()])?,
-        Node::Root { w } => push_list(text, &[w.into()])?,
-    }
-    Ok(())
+    push_constant(text, node)?;
+    let (first, second, third) = node.premises();
+    let (fourth, fifth) = node.conclusions();
+    push_wire_numbers(text, &[first, second, third, fourth, fifth])
 }
 
-/// Appends each number behind a space, and then a line feed.
-fn push_list(text: &mut Vec<u8>, numbers: &[u64]) -> Result<(), AllocError>
-    ensures { OnOk result (text.new.items ≡ text.old.items ++ numbers_text numbers.now) }
+/// Appends the number that a constant has before those of its wires.
+fn push_constant(text: &mut Vec<u8>, node: Node) -> Result<(), AllocError>
+    ensures { OnOk result (text.new.items ++ numbers_text (premises node ++ conclusions node) ≡ text.old.items ++ numbers_text (numbers_of node)) }
 {
-    let mut rest = numbers;
-    while let [n, after @ ..] = rest {
-        text.extend_from_slice(b" ")?;
-        push_number(text, *n)?;
+    match node {
+        Node::Const { v, .. } => push_number(text, b" ", v),
+        _ => Ok(()),
+    }
+}
+
+/// Appends the number of each wire that is there, and then a line feed.
+fn push_wire_numbers(text: &mut Vec<u8>, wires: &[Option<u32>]) -> Result<(), AllocError>
+    ensures { OnOk result (text.new.items ≡ text.old.items ++ numbers_text (present wires.now)) }
+{
+    let mut rest = wires;
+    while let [wire, after @ ..] = rest {
+        push_wire_number(text, *wire)?;
         rest = after;
     }
     text.extend_from_slice(b"\n")?;
     Ok(())
 }
 
-fn push_number(text: &mut Vec<u8>, n: u64) -> Result<(), AllocError>
-    ensures { OnOk result (text.new.items ≡ text.old.items ++ decimal n) }
+/// Appends a space and the number of a wire, where there is one.
+fn push_wire_number(text: &mut Vec<u8>, wire: Option<u32>) -> Result<(), AllocError>
+    ensures { OnOk result ((ns : List ℕ) → text.new.items ++ numbers_text ns ≡ text.old.items ++ numbers_text (present (wire ∷ []) ++ ns)) }
+{
+    match wire {
+        Some(n) => push_number(text, b" ", n.into()),
+        None => Ok(()),
+    }
+}
+
+/// Appends a word and a number.
+fn push_number(text: &mut Vec<u8>, word: &[u8], n: u64) -> Result<(), AllocError>
+    ensures { OnOk result (text.new.items ≡ text.old.items ++ (word.now ++ decimal n)) }
 {
     let mut buffer = Buffer::new();
+    text.extend_from_slice(word)?;
     text.extend_from_slice(buffer.format(n).as_bytes())?;
     Ok(())
 }

@@ -19,14 +19,14 @@ const PIECE_BYTES: usize = 65_536;
 const MOST_TURNS: u32 = MOST_BYTES as u32 + 1;
 
 /// What was read of a file, in so many turns of one read each.
-#[derive(Debug, Drop)]
+#[derive(Drop)]
 pub(crate) struct Loaded {
     pub(crate) bytes: Vec<u8>,
     pub(crate) turns: u32,
 }
 
 /// Why a file wasn't loaded.
-#[derive(Clone, Copy, Debug, PartialEq, Eq)]
+#[derive(Clone, Copy)]
 pub(crate) enum LoadError {
     Memory,
     Failed,

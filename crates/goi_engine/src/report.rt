@@ -1,6 +1,6 @@
 //! The texts that are printed.
 
-ghost use Rattle.std.specs.Prelude.{◌≡◌, ◌++◌, true, false, IfOk, OnOk, string_bytes};
+ghost use Rattle.std.specs.Prelude.{◌≡◌, ◌++◌, true, false, codes, IfOk, OnOk, string_bytes};
 ghost use Rattle.pcf_values.specs.Views.{named_of, ty_of};
 ghost use Rattle.goi_engine.specs.Reports.{run_report, check_report, type_line, term_line};
 
@@ -13,22 +13,10 @@ pub(crate) fn run_report(alloc: Global, value: Val, moves: u32) -> Result<Vec<u8
     ensures { IfOk result (λ v. v.items ≡ run_report value moves) }
 {
     let text = match value {
-        Val::Number(n) => number_report(alloc, n, moves)?,
-        Val::Overflow => overflow_report(alloc, moves)?,
+        Val::Number(n) => format!(in alloc; "value {n}\nmoves {moves}\n"),
+        Val::Overflow => format!(in alloc; "value overflow\nmoves {moves}\n"),
     };
-    Ok(text.into_bytes())
-}
-
-fn number_report(alloc: Global, n: u64, moves: u32) -> Result<String, AllocError>
-    ensures { IfOk result (λ text. string_bytes text ≡ run_report (Val.Number n) moves) }
-{
-    format!(in alloc; "value {n}\nmoves {moves}\n")
-}
-
-fn overflow_report(alloc: Global, moves: u32) -> Result<String, AllocError>
-    ensures { IfOk result (λ text. string_bytes text ≡ run_report Val.Overflow moves) }
-{
-    format!(in alloc; "value overflow\nmoves {moves}\n")
+    Ok(text?.into_bytes())
 }
 
 /// The report on a program's type, and with `term` on the program itself.
@@ -40,29 +28,34 @@ pub(crate) fn check_report(
 ) -> Result<Vec<u8>, AllocError>
     ensures { IfOk result (λ v. v.items ≡ check_report (ty_of ty.now) term (named_of tree.now)) }
 {
-    let mut report = type_line(alloc, ty)?;
+    let mut report = Vec::new(alloc);
+    push_type_line(alloc, &mut report, ty)?;
     if term {
         push_term_line(alloc, &mut report, tree)?;
     }
     Ok(report)
 }
 
-fn type_line(alloc: Global, ty: &Ty) -> Result<Vec<u8>, AllocError>
-    ensures { IfOk result (λ v. v.items ≡ type_line (ty_of ty.now)) }
+fn push_type_line(alloc: Global, report: &mut Vec<u8>, ty: &Ty) -> Result<(), AllocError>
+    ensures { OnOk result (report.new.items ≡ report.old.items ++ type_line (ty_of ty.now)) }
 {
     let text = print_ty(alloc, ty)?;
-    let mut line = Vec::from_slice(alloc, b"type ")?;
-    line.extend_from_slice(&text)?;
-    line.extend_from_slice(b"\n")?;
-    Ok(line)
+    push_line(report, b"type ", &text)
 }
 
 fn push_term_line(alloc: Global, report: &mut Vec<u8>, tree: &Named) -> Result<(), AllocError>
     ensures { OnOk result (report.new.items ≡ report.old.items ++ term_line (named_of tree.now)) }
 {
     let text = print_term(alloc, tree)?;
-    report.extend_from_slice(b"term ")?;
-    report.extend_from_slice(&text)?;
+    push_line(report, b"term ", &text)
+}
+
+/// Appends a word, a text and a line feed.
+pub(crate) fn push_line(report: &mut Vec<u8>, word: &[u8], text: &[u8]) -> Result<(), AllocError>
+    ensures { OnOk result (report.new.items ≡ report.old.items ++ (word.now ++ (text.now ++ codes "\n"))) }
+{
+    report.extend_from_slice(word)?;
+    report.extend_from_slice(text)?;
     report.extend_from_slice(b"\n")?;
     Ok(())
 }

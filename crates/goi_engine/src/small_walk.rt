@@ -10,14 +10,14 @@ use pcf_values::Val;
 const MOST_MOVES: u32 = 10_000;
 
 /// A token: a question that goes up its wire, or an answer that comes down.
-#[derive(Clone, Copy, Debug)]
+#[derive(Clone, Copy)]
 pub(crate) enum Token {
     Ask { wire: u32 },
     Ans { wire: u32, value: Val },
 }
 
 /// What the next move of a token is.
-#[derive(Clone, Copy, Debug)]
+#[derive(Clone, Copy)]
 pub(crate) enum Step {
     Goes(Token),
     Answers(Val),

@@ -6,26 +6,26 @@ use Rattle.goi_engine.specs.declared.judge.Stop.TheVariants.{Memory}
 use Rattle.goi_engine.proofs.Judged.{faults_of_text, accepted, refused, unread_accepted, unread_refused, stopped, stopped_if}
 use Rattle.goi_engine.proofs.judge.report_on.Goals as goal
 
-pub report_tree-requires-clause-size : goal.report_tree-requires-clause-size
-report_tree-requires-clause-size c =
+pub report_tree-report-requires-clause-size : goal.report_tree-report-requires-clause-size
+report_tree-report-requires-clause-size c =
     let b = c.law_bounded.ensures c.args.bytes.now (named_of c.in_ok-tree.tree) c.in_ok-tree.ensures.found in
     omega (arith, b.1)
 
-pub report_tree-requires-clause-height : goal.report_tree-requires-clause-height
-report_tree-requires-clause-height c =
+pub report_tree-report-requires-clause-height : goal.report_tree-report-requires-clause-height
+report_tree-report-requires-clause-height c =
     let b = c.law_bounded.ensures c.args.bytes.now (named_of c.in_ok-tree.tree) c.in_ok-tree.ensures.found in
     omega (arith, b.2)
 
 pub returns-clause-fault : goal.returns-clause-fault
-returns-clause-fault c = faults_of_text (seen_job c.args.job) c.args.bytes.now (named_of c.in_ok-tree.tree) c.report_tree.result c.in_ok-tree.ensures.found c.report_tree.ensures.fault
+returns-clause-fault c = faults_of_text (seen_job c.args.job) c.args.bytes.now (named_of c.in_ok-tree.tree) c.report_tree-report.result c.in_ok-tree.ensures.found c.report_tree-report.ensures.fault
 
 pub returns-clause-accepted : goal.returns-clause-accepted
 returns-clause-accepted c =
-    accepted (seen_job c.args.job) c.args.bytes.now (named_of c.in_ok-tree.tree) c.report_tree.result c.report_tree.ensures.fault c.in_ok-tree.ensures.only
+    accepted (seen_job c.args.job) c.args.bytes.now (named_of c.in_ok-tree.tree) c.report_tree-report.result c.report_tree-report.ensures.fault c.in_ok-tree.ensures.only
 
 pub returns-clause-faulty : goal.returns-clause-faulty
 returns-clause-faulty c =
-    refused (λ v. v.items) (seen_job c.args.job) c.args.bytes.now (named_of c.in_ok-tree.tree) c.report_tree.result c.report_tree.ensures.reported c.report_tree.ensures.fault c.in_ok-tree.ensures.only
+    refused (λ v. v.items) (seen_job c.args.job) c.args.bytes.now (named_of c.in_ok-tree.tree) c.report_tree-report.result c.report_tree-report.ensures.reported c.report_tree-report.ensures.fault c.in_ok-tree.ensures.only
     c.in_ok-tree.ensures.fault_only
 
 pub returns-in_err-tree-clause-accepted : goal.returns-in_err-tree-clause-accepted

@@ -15,7 +15,7 @@ unreachable-requires c =
     let t = c.args.program.now.0 in
     let faces = net_faces (net_of t) (c.law_built_sound.ensures t c.requires.typed) in
     let low : height t ≤ 5000 = omega (arith, c.requires.height) in
-    let e : c.run_net.result ≡ Some (answer_of t, moves_of t + 1) = c.run_net.ensures ∙ ap run_from_root c.in_ok-net.ensures ∙ root_run t c.requires.arithmetic faces low in
+    let e : c.run_net-run.result ≡ Some (answer_of t, moves_of t + 1) = c.run_net-run.ensures ∙ ap run_from_root c.in_ok-net.ensures ∙ root_run t c.requires.arithmetic faces low in
     cc
 
 pub returns : goal.returns
@@ -23,7 +23,7 @@ returns c =
     let t = c.args.program.now.0 in
     let faces = net_faces (net_of t) (c.law_built_sound.ensures t c.requires.typed) in
     let low : height t ≤ 5000 = omega (arith, c.requires.height) in
-    let e : c.run_net.result ≡ Some (answer_of t, moves_of t + 1) = c.run_net.ensures ∙ ap run_from_root c.in_ok-net.ensures ∙ root_run t c.requires.arithmetic faces low in
+    let e : c.run_net-run.result ≡ Some (answer_of t, moves_of t + 1) = c.run_net-run.ensures ∙ ap run_from_root c.in_ok-net.ensures ∙ root_run t c.requires.arithmetic faces low in
     let same = ap report_in (sym c.in-Some.is ∙ e) in
     IfOk-weaker c.run_report.result (λ v. v.items ≡ run_report c.in-Some.value c.in-Some.moves) (λ v. ReportsRun t v.items)
     (λ v h. (answer_of t, moves_of t + 1, means t c.requires.arithmetic, length_of t c.requires.arithmetic faces, h ∙ same)) c.run_report.ensures

@@ -1,9 +1,10 @@
 use Rattle.std.proofs.Common.{◌≡◌, ◌++◌, length}
+use Rattle.net_build.specs.Sides.{present}
 use Rattle.goi_engine.specs.Listing.{numbers_text}
-use Rattle.goi_engine.proofs.listing.push_list.Given as goal
+use Rattle.goi_engine.proofs.listing.push_wire_numbers.Given as goal
 
 abbrev pub invariant-loop-rest : goal.invariant-loop-rest
-invariant-loop-rest l = l.text.items ++ numbers_text l.rest ≡ l.fn.text.items ++ numbers_text l.numbers
+invariant-loop-rest l = l.text.items ++ numbers_text (present l.rest) ≡ l.fn.text.items ++ numbers_text (present l.wires)
 
 abbrev pub decreases-loop-rest : goal.decreases-loop-rest
 decreases-loop-rest l = length l.rest
