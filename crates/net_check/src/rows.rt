@@ -6,7 +6,7 @@ ghost use Rattle.pcf_values.specs.Terms.{TyTree, nat, arrow, product};
 ghost use Rattle.pcf_values.specs.Views.{ty_of};
 ghost use Rattle.net_build.specs.Views.{wire_of};
 ghost use Rattle.net_build.specs.declared.wire.WireKind.TheVariants.{Value, Bang, Variable};
-ghost use Rattle.net_check.specs.Rows.{AreAllOne, AreOne, DepthsMeet, IsArrow, IsLeft, IsProduct, IsRight, TypesMeet, depth_in, type_if};
+ghost use Rattle.net_check.specs.Rows.{AreAllOne, AreOne, Deep, DepthsMeet, IsArrow, IsLeft, IsProduct, IsRight, TypesMeet, depth_in, type_if, value_type};
 
 use net_build::{Net, Node, Wire, WireKind};
 use pcf_values::Ty;
@@ -16,16 +16,13 @@ pub(crate) fn types_meet(net: &Net, node: Node) -> bool
     ensures { IsTrue result ↔ TypesMeet net.now node }
 {
     match node {
-        Node::Const { w, .. } | Node::Root { w } => is_nat(value(net, w)),
-        Node::Succ { a, w } | Node::Pred { a, w } => is_nat(value(net, a)) && is_nat(value(net, w)),
+        Node::Const { w, .. } | Node::Root { w } => is_nat(net, w),
+        Node::Succ { a, w } | Node::Pred { a, w } => is_nat(net, a) && is_nat(net, w),
         Node::Plus { a, b, w } | Node::Minus { a, b, w } | Node::Times { a, b, w } => {
-            is_nat(value(net, a)) && is_nat(value(net, b)) && is_nat(value(net, w))
+            is_nat(net, a) && is_nat(net, b) && is_nat(net, w)
         }
         Node::Ifz { c, p, q, w } => {
-            is_nat(value(net, c))
-                && is_nat(value(net, p))
-                && is_nat(value(net, q))
-                && is_nat(value(net, w))
+            is_nat(net, c) && is_nat(net, p) && is_nat(net, q) && is_nat(net, w)
         }
         Node::Der { w, x } => are_one(value(net, w), variable(net, x)),
         Node::Con { l, r, w } => are_all_one(variable(net, l), variable(net, r), variable(net, w)),
@@ -71,10 +68,11 @@ fn of_kind(wire: Option<&Wire>, kind: WireKind) -> Option<&Ty>
     }
 }
 
-fn is_nat(ty: Option<&Ty>) -> bool
-    ensures { IsTrue result ↔ (option_map (λ t. ty_of t.now) ty.entry ≡ Some nat) }
+/// Whether the wire is a value wire of type `nat`.
+fn is_nat(net: &Net, n: u32) -> bool
+    ensures { IsTrue result ↔ (value_type net.now n ≡ Some nat) }
 {
-    match ty {
+    match value(net, n) {
         Some(Ty::Nat) => true,
         _ => false,
     }
@@ -149,28 +147,18 @@ pub(crate) fn depths_meet(net: &Net, node: Node) -> bool
         Node::Weak { x } => depth(net, x).is_some(),
         Node::Root { w } => depth(net, w) == Some(0),
         Node::Succ { a, w } | Node::Pred { a, w } | Node::Fst { a, w } | Node::Snd { a, w } =>
-            level(depth(net, a), depth(net, w)),
-        Node::Der { w, x } => level(depth(net, w), depth(net, x)),
+            level(net, a, w),
+        Node::Der { w, x } => level(net, w, x),
         Node::Plus { a, b, w }
         | Node::Minus { a, b, w }
         | Node::Times { a, b, w }
-        | Node::Pair { a, b, w } => {
-            level(depth(net, a), depth(net, b)) && level(depth(net, a), depth(net, w))
-        }
-        Node::Con { l, r, w } => level(depth(net, l), depth(net, r))
-            && level(depth(net, l), depth(net, w)),
-        Node::Lam { b, x, w } => level(depth(net, b), depth(net, x))
-            && level(depth(net, b), depth(net, w)),
-        Node::App { f, a, w } => level(depth(net, f), depth(net, a))
-            && level(depth(net, f), depth(net, w)),
-        Node::Ifz { c, p, q, w } => {
-            level(depth(net, c), depth(net, p))
-                && level(depth(net, c), depth(net, q))
-                && level(depth(net, c), depth(net, w))
-        }
-        Node::BoxNode { i, o } | Node::Door { i, o } => inside(depth(net, i), depth(net, o)),
-        Node::FixBox { b, x, w } => inside(depth(net, b), depth(net, w))
-            && inside(depth(net, x), depth(net, w)),
+        | Node::Pair { a, b, w } => { level(net, a, b) && level(net, a, w) }
+        Node::Con { l, r, w } => level(net, l, r) && level(net, l, w),
+        Node::Lam { b, x, w } => level(net, b, x) && level(net, b, w),
+        Node::App { f, a, w } => level(net, f, a) && level(net, f, w),
+        Node::Ifz { c, p, q, w } => { level(net, c, p) && level(net, c, q) && level(net, c, w) }
+        Node::BoxNode { i, o } | Node::Door { i, o } => inside(net, i, o),
+        Node::FixBox { b, x, w } => inside(net, b, w) && inside(net, x, w),
     }
 }
 
@@ -183,21 +171,21 @@ fn depth(net: &Net, n: u32) -> Option<u32>
     }
 }
 
-/// Whether both are there and one depth.
-fn level(a: Option<u32>, b: Option<u32>) -> bool
-    ensures { IsTrue result ↔ ((d : ℕ) × (a ≡ Some d) × (b ≡ Some d)) }
+/// Whether both wires are there and at one depth.
+fn level(net: &Net, a: u32, b: u32) -> bool
+    ensures { IsTrue result ↔ ((d : ℕ) × Deep net.now a d × Deep net.now b d) }
 {
-    match (a, b) {
+    match (depth(net, a), depth(net, b)) {
         (Some(a), Some(b)) => a == b,
         _ => false,
     }
 }
 
-/// Whether the first is one deeper than the second. No depth is one deeper than 4294967295.
-fn inside(a: Option<u32>, b: Option<u32>) -> bool
-    ensures { IsTrue result ↔ ((d : ℕ) × (a ≡ Some (suc d)) × (b ≡ Some d)) }
+/// Whether the first wire is one deeper than the second. No depth is one deeper than 4294967295.
+fn inside(net: &Net, a: u32, b: u32) -> bool
+    ensures { IsTrue result ↔ ((d : ℕ) × Deep net.now a (suc d) × Deep net.now b d) }
 {
-    match (a, b) {
+    match (depth(net, a), depth(net, b)) {
         (Some(a), Some(b)) => b < a && a - b == 1,
         _ => false,
     }
