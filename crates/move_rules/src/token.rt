@@ -7,7 +7,7 @@ use std::alloc::AllocError;
 use token_stacks::Stacks;
 
 /// A question, or an answer with its value.
-#[derive(Clone, Copy, Debug, PartialEq, Eq)]
+#[derive(Clone, Copy, PartialEq, Eq)]
 pub enum Kind {
     Ask,
     Ans(Val),
