@@ -5,18 +5,18 @@
 
 ghost use Rattle.std.specs.Prelude.{◌≡◌, ℕ, ◌+◌, ◌*◌, ◌<◌, ◌≤◌, length, List, OnOk, IfOk};
 ghost use Rattle.pcf_reader.specs.Tokens.{Bind as bind_token, Ifz as ifz_token};
-ghost use Rattle.pcf_reader.specs.Machine.{step, ExprK, ProductK, AppK, AtomK, in_parens, first_atom, first_app, first_product, expr_open, product_open, app_open, atom_open, left_of, extra_of, got_atom, begin_atom, begin_expr, after_expr, end_product, end_app, want_name, want_colon, in_second, in_body, in_test, in_then, in_else, of_binder, first_ptype, begin_tatom};
+ghost use Rattle.pcf_reader.specs.Machine.{step, ExprK, ProductK, AppK, AtomK, in_parens, first_atom, first_app, first_product, expr_open, product_open, app_open, atom_open, left_of, extra_of, got_atom, starts_atom, begin_atom, begin_expr, after_expr, end_product, end_app, want_name, want_colon, in_second, in_body, in_test, in_then, in_else, of_binder, first_ptype, begin_tatom};
 ghost use Rattle.pcf_values.specs.Named.{Binder as SpecBinder};
 ghost use Rattle.pcf_reader.specs.Grammar.{Part as SpecPart};
 ghost use Rattle.pcf_values.specs.Views.{ty_of};
 ghost use Rattle.pcf_reader.specs.Rest.{resume, Gives};
-ghost use Rattle.pcf_reader.specs.Seen.{binder_of, part_of};
+ghost use Rattle.pcf_reader.specs.Seen.{binder_of, part_of, token_of};
 
 use crate::fault::ReadFault;
-use crate::reader::Reader;
+use crate::reader::{Reader, may_open};
 use crate::terms::{Part, applied, bound, chosen, operated, over, paired, prefixed, wrapped};
 use crate::token::{Binder, Operator, Token};
-use crate::types::{may_open, type_of};
+use crate::types::type_of;
 use pcf_values::{Ident, Raw, Ty};
 use std::alloc::Global;
 
@@ -35,17 +35,6 @@ pub fn expr(reader: &mut Reader, alloc: Global, depth: u32) -> Result<Part, Read
     }
 }
 
-/// The name of a binder, and its type, up to the `.` behind it.
-fn name_and_type(reader: &mut Reader, alloc: Global, depth: u32) -> Result<(Ident, Ty), ReadFault>
-    requires { (0 < depth) × (depth ≤ 500) }
-    ensures goes { (k : ExprK) (at : ℕ) (b : SpecBinder) → expr_open k + 1 ≡ depth → Gives (λ p. resume (begin_expr (in_body at b p.0 (ty_of p.1) k)) reader.new) (resume (step (want_name at b k)) reader.old) result }
-    ensures shorter { OnOk result (length reader.new.after < length reader.old.after) }
-{
-    let name = binder_name(reader, alloc)?;
-    let of = binder_type(reader, alloc, depth)?;
-    Ok((name, of))
-}
-
 /// The name of a binder.
 fn binder_name(reader: &mut Reader, alloc: Global) -> Result<Ident, ReadFault>
     ensures goes { (k : ExprK) (at : ℕ) (b : SpecBinder) → Gives (λ x. resume (step (want_colon at b x k)) reader.new) (resume (step (want_name at b k)) reader.old) result }
@@ -53,8 +42,7 @@ fn binder_name(reader: &mut Reader, alloc: Global) -> Result<Ident, ReadFault>
 {
     match reader.token() {
         Token::Name => {
-            let name = reader.name(alloc)?;
-            reader.take(0)?;
+            let name = reader.take_name(alloc, 0)?;
             Ok(name)
         }
         _ => Err(ReadFault::Unexpected(reader.at())),
@@ -62,9 +50,9 @@ fn binder_name(reader: &mut Reader, alloc: Global) -> Result<Ident, ReadFault>
 }
 
 /// The `:` of a binder, its type, and the `.` behind it.
-fn binder_type(reader: &mut Reader, alloc: Global, depth: u32) -> Result<Ty, ReadFault>
+fn binder_type(reader: &mut Reader, alloc: Global, depth: u32) -> Result<Box<Ty>, ReadFault>
     requires { (0 < depth) × (depth ≤ 500) }
-    ensures goes { (k : ExprK) (at : ℕ) (b : SpecBinder) (x : List ℕ) → expr_open k + 1 ≡ depth → Gives (λ t. resume (begin_expr (in_body at b x (ty_of t) k)) reader.new) (resume (step (want_colon at b x k)) reader.old) result }
+    ensures goes { (k : ExprK) (at : ℕ) (b : SpecBinder) (x : List ℕ) → expr_open k + 1 ≡ depth → Gives (λ t. resume (begin_expr (in_body at b x (ty_of t.value) k)) reader.new) (resume (step (want_colon at b x k)) reader.old) result }
     ensures shorter { OnOk result (length reader.new.after < length reader.old.after) }
 {
     match reader.token() {
@@ -78,9 +66,9 @@ fn binder_type(reader: &mut Reader, alloc: Global, depth: u32) -> Result<Ty, Rea
 }
 
 /// A type, and the `.` behind it.
-fn type_and_dot(reader: &mut Reader, alloc: Global, depth: u32) -> Result<Ty, ReadFault>
+fn type_and_dot(reader: &mut Reader, alloc: Global, depth: u32) -> Result<Box<Ty>, ReadFault>
     requires { (0 < depth) × (depth ≤ 500) }
-    ensures goes { (k : ExprK) (at : ℕ) (b : SpecBinder) (x : List ℕ) → expr_open k + 1 ≡ depth → Gives (λ t. resume (begin_expr (in_body at b x (ty_of t) k)) reader.new) (resume (begin_tatom (first_ptype (of_binder at b x k))) reader.old) result }
+    ensures goes { (k : ExprK) (at : ℕ) (b : SpecBinder) (x : List ℕ) → expr_open k + 1 ≡ depth → Gives (λ t. resume (begin_expr (in_body at b x (ty_of t.value) k)) reader.new) (resume (begin_tatom (first_ptype (of_binder at b x k))) reader.old) result }
     ensures shorter { OnOk result (length reader.new.after < length reader.old.after) }
 {
     let of = type_of(reader, alloc, depth)?;
@@ -108,9 +96,9 @@ fn binding(
     ensures low { IfOk result (λ p. p.height + 4 * depth ≤ 2504) }
 {
     let at = reader.at();
-    may_open(at, depth)?;
-    reader.take(1)?;
-    let (name, of) = name_and_type(reader, alloc, depth + 1)?;
+    reader.take_at(depth, 1)?;
+    let name = binder_name(reader, alloc)?;
+    let of = binder_type(reader, alloc, depth + 1)?;
     let body = expr(reader, alloc, depth + 1)?;
     bound(alloc, at, binder, name, of, body)
 }
@@ -125,45 +113,37 @@ fn choice(reader: &mut Reader, alloc: Global, depth: u32) -> Result<Part, ReadFa
     ensures low { IfOk result (λ p. p.height + 4 * depth ≤ 2504) }
 {
     let at = reader.at();
-    may_open(at, depth)?;
-    reader.take(1)?;
-    let test = test_of(reader, alloc, depth + 1)?;
-    let yes = yes_of(reader, alloc, depth + 1)?;
-    let no = expr(reader, alloc, depth + 1)?;
-    chosen(alloc, at, test, yes, no)
-}
-
-/// A test, and the `then` behind it.
-#[cycle(terms)]
-fn test_of(reader: &mut Reader, alloc: Global, depth: u32) -> Result<Part, ReadFault>
-    requires { (0 < depth) × (depth ≤ 500) }
-    ensures goes { (k : ExprK) (at : ℕ) → expr_open k + 1 ≡ depth → Gives (λ p. resume (begin_expr (in_then at (part_of p) k)) reader.new) (resume (begin_expr (in_test at k)) reader.old) result }
-    ensures shorter { OnOk result (length reader.new.after < length reader.old.after) }
-    ensures low { IfOk result (λ p. p.height + 4 * depth ≤ 2504) }
-{
-    let test = expr(reader, alloc, depth)?;
+    reader.take_at(depth, 1)?;
+    let test = expr(reader, alloc, depth + 1)?;
     match reader.token() {
         Token::Then => {
             reader.take(0)?;
-            Ok(test)
+            branches(reader, alloc, depth + 1, at, test)
         }
         _ => Err(ReadFault::Unexpected(reader.at())),
     }
 }
 
-/// The first branch, and the `else` behind it.
+/// The two branches behind a test and its `then`.
 #[cycle(terms)]
-fn yes_of(reader: &mut Reader, alloc: Global, depth: u32) -> Result<Part, ReadFault>
-    requires { (0 < depth) × (depth ≤ 500) }
-    ensures goes { (k : ExprK) (at : ℕ) (c : SpecPart) → expr_open k + 1 ≡ depth → Gives (λ p. resume (begin_expr (in_else at c (part_of p) k)) reader.new) (resume (begin_expr (in_then at c k)) reader.old) result }
+fn branches(
+    reader: &mut Reader,
+    alloc: Global,
+    depth: u32,
+    at: u32,
+    test: Part,
+) -> Result<Part, ReadFault>
+    requires { (0 < depth) × (depth ≤ 500) × (test.height + 4 * depth ≤ 2504) }
+    ensures goes { (k : ExprK) → expr_open k + 1 ≡ depth → Gives (λ p. resume (after_expr k (part_of p)) reader.new) (resume (begin_expr (in_then at (part_of test) k)) reader.old) result }
     ensures shorter { OnOk result (length reader.new.after < length reader.old.after) }
-    ensures low { IfOk result (λ p. p.height + 4 * depth ≤ 2504) }
+    ensures low { IfOk result (λ p. p.height + 4 * depth ≤ 2505) }
 {
     let yes = expr(reader, alloc, depth)?;
     match reader.token() {
         Token::Else => {
             reader.take(0)?;
-            Ok(yes)
+            let no = expr(reader, alloc, depth)?;
+            chosen(alloc, at, test, yes, no)
         }
         _ => Err(ReadFault::Unexpected(reader.at())),
     }
@@ -181,14 +161,12 @@ fn sum(reader: &mut Reader, alloc: Global, depth: u32) -> Result<Part, ReadFault
     loop {
         match reader.token() {
             Token::Plus => {
-                may_open(reader.at(), sum.height)?;
-                reader.take(1)?;
+                reader.take_at(sum.height, 1)?;
                 let right = product(reader, alloc, depth)?;
                 sum = operated(alloc, Operator::Plus, sum, right)?;
             }
             Token::Minus => {
-                may_open(reader.at(), sum.height)?;
-                reader.take(1)?;
+                reader.take_at(sum.height, 1)?;
                 let right = product(reader, alloc, depth)?;
                 sum = operated(alloc, Operator::Minus, sum, right)?;
             }
@@ -209,8 +187,7 @@ fn product(reader: &mut Reader, alloc: Global, depth: u32) -> Result<Part, ReadF
     loop {
         match reader.token() {
             Token::Times => {
-                may_open(reader.at(), product.height)?;
-                reader.take(1)?;
+                reader.take_at(product.height, 1)?;
                 let right = application(reader, alloc, depth)?;
                 product = operated(alloc, Operator::Times, product, right)?;
             }
@@ -228,16 +205,22 @@ fn application(reader: &mut Reader, alloc: Global, depth: u32) -> Result<Part, R
     ensures low { IfOk result (λ p. p.height + 4 * depth ≤ 2502) }
 {
     let mut function = atom(reader, alloc, depth, 0)?;
-    loop {
-        match reader.token() {
-            Token::Number(_) | Token::Name | Token::Open | Token::Before(_) => {
-                may_open(reader.at(), function.height)?;
-                let argument = atom(reader, alloc, depth, 1)?;
-                function = applied(alloc, function, argument)?;
-            }
-            _ => return Ok(function),
-        }
+    while starts_atom(reader.token()) {
+        may_open(reader.at(), function.height)?;
+        let argument = atom(reader, alloc, depth, 1)?;
+        function = applied(alloc, function, argument)?;
     }
+    Ok(function)
+}
+
+/// Whether an atom may begin with the token.
+fn starts_atom(token: Token) -> bool
+    ensures { (name : List ℕ) → result ≡ starts_atom (token_of token name) }
+{
+    matches!(
+        token,
+        Token::Number(_) | Token::Name | Token::Open | Token::Before(_)
+    )
 }
 
 /// An atom, which counts so much more than by itself.
@@ -255,18 +238,15 @@ fn atom(reader: &mut Reader, alloc: Global, depth: u32, extra: u32) -> Result<Pa
             over(alloc, at, Raw::Number(n), 0)
         }
         Token::Name => {
-            let name = reader.name(alloc)?;
-            reader.take(1 + extra)?;
+            let name = reader.take_name(alloc, 1 + extra)?;
             over(alloc, at, Raw::Name(name), 0)
         }
         Token::Open => {
-            may_open(at, depth)?;
-            reader.take(extra)?;
+            reader.take_at(depth, extra)?;
             parens(reader, alloc, depth + 1, at)
         }
         Token::Before(word) => {
-            may_open(at, depth)?;
-            reader.take(1 + extra)?;
+            reader.take_at(depth, 1 + extra)?;
             let inner = atom(reader, alloc, depth + 1, 0)?;
             prefixed(alloc, at, word, inner)
         }
@@ -283,24 +263,6 @@ fn parens(reader: &mut Reader, alloc: Global, depth: u32, at: u32) -> Result<Par
     ensures low { IfOk result (λ p. p.height + 4 * depth ≤ 2505) }
 {
     let first = expr(reader, alloc, depth)?;
-    let part = behind_first(reader, alloc, depth, at, first)?;
-    Ok(part)
-}
-
-/// What stands behind the first expression in parentheses.
-#[cycle(terms)]
-fn behind_first(
-    reader: &mut Reader,
-    alloc: Global,
-    depth: u32,
-    at: u32,
-    first: Part,
-) -> Result<Part, ReadFault>
-    requires { (0 < depth) × (depth ≤ 500) × (first.height + 4 * depth ≤ 2504) }
-    ensures goes { (k : AtomK) → atom_open k + 1 ≡ depth → Gives (λ p. resume (step (got_atom k (part_of p))) reader.new) (resume (after_expr (in_parens at k) (part_of first)) reader.old) result }
-    ensures shorter { OnOk result (length reader.new.after < length reader.old.after) }
-    ensures low { IfOk result (λ p. p.height + 4 * depth ≤ 2505) }
-{
     match reader.token() {
         Token::Close => {
             reader.take(0)?;
@@ -308,8 +270,7 @@ fn behind_first(
         }
         Token::Comma => {
             reader.take(1)?;
-            let pair = second_of(reader, alloc, depth, at, first)?;
-            Ok(pair)
+            second_of(reader, alloc, depth, at, first)
         }
         _ => Err(ReadFault::Unexpected(reader.at())),
     }

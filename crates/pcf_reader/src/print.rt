@@ -117,42 +117,64 @@ fn push_term(out: &mut Vec<u8>, term: &Named) -> Result<(), AllocError>
         Raw::Pred(a) => push_fitted(out, b"pred ", 0, a),
         Raw::Fst(a) => push_fitted(out, b"fst ", 0, a),
         Raw::Snd(a) => push_fitted(out, b"snd ", 0, a),
-        Raw::Plus(a, b) => {
-            push_fitted(out, b"", 3, a)?;
-            push_fitted(out, b" + ", 2, b)
-        }
-        Raw::Minus(a, b) => {
-            push_fitted(out, b"", 3, a)?;
-            push_fitted(out, b" - ", 2, b)
-        }
-        Raw::Times(a, b) => {
-            push_fitted(out, b"", 2, a)?;
-            push_fitted(out, b" * ", 1, b)
-        }
-        Raw::App(f, a) => {
-            push_fitted(out, b"", 1, f)?;
-            push_fitted(out, b" ", 0, a)
-        }
-        Raw::Ifz(c, p, q) => {
-            push_after(out, b"ifz ", c)?;
-            push_after(out, b" then ", p)?;
-            push_after(out, b" else ", q)?;
-            Ok(())
-        }
-        Raw::Fun(x, ty, body) => {
-            push_head(out, b"fun ", x, ty)?;
-            push_term(out, body)
-        }
-        Raw::Fix(x, ty, body) => {
-            push_head(out, b"fix ", x, ty)?;
-            push_term(out, body)
-        }
-        Raw::Pair(a, b) => {
-            push_after(out, b"(", a)?;
-            push_after(out, b", ", b)?;
-            out.extend_from_slice(b")")
-        }
+        Raw::Plus(a, b) => push_binary(out, 3, a, b" + ", 2, b),
+        Raw::Minus(a, b) => push_binary(out, 3, a, b" - ", 2, b),
+        Raw::Times(a, b) => push_binary(out, 2, a, b" * ", 1, b),
+        Raw::App(f, a) => push_binary(out, 1, f, b" ", 0, a),
+        Raw::Ifz(c, p, q) => push_choice(out, c, p, q),
+        Raw::Fun(x, ty, body) => push_binding(out, b"fun ", x, ty, body),
+        Raw::Fix(x, ty, body) => push_binding(out, b"fix ", x, ty, body),
+        Raw::Pair(a, b) => push_pair(out, a, b),
     }
+}
+
+/// Two parts of a term with what stands between them, each in parentheses unless its level is at most the one beside it.
+#[cycle(print_terms)]
+fn push_binary(
+    out: &mut Vec<u8>,
+    left_most: u8,
+    left: &Named,
+    between: &[u8],
+    right_most: u8,
+    right: &Named,
+) -> Result<(), AllocError>
+    ensures { OnOk result (out.new.items ≡ out.old.items ++ fitted left_most (level (named_of left.now)) (term_text (named_of left.now)) ++ between.now ++ fitted right_most (level (named_of right.now)) (term_text (named_of right.now))) }
+{
+    push_fitted(out, b"", left_most, left)?;
+    push_fitted(out, between, right_most, right)
+}
+
+#[cycle(print_terms)]
+fn push_choice(out: &mut Vec<u8>, test: &Named, yes: &Named, no: &Named) -> Result<(), AllocError>
+    ensures { OnOk result (out.new.items ≡ out.old.items ++ codes "ifz " ++ term_text (named_of test.now) ++ codes " then " ++ term_text (named_of yes.now) ++ codes " else " ++ term_text (named_of no.now)) }
+{
+    push_after(out, b"ifz ", test)?;
+    push_after(out, b" then ", yes)?;
+    push_after(out, b" else ", no)
+}
+
+#[cycle(print_terms)]
+fn push_pair(out: &mut Vec<u8>, left: &Named, right: &Named) -> Result<(), AllocError>
+    ensures { OnOk result (out.new.items ≡ out.old.items ++ codes "(" ++ term_text (named_of left.now) ++ codes ", " ++ term_text (named_of right.now) ++ codes ")") }
+{
+    push_after(out, b"(", left)?;
+    push_after(out, b", ", right)?;
+    out.extend_from_slice(b")")
+}
+
+/// A binder's word, its name, its type and its body.
+#[cycle(print_terms)]
+fn push_binding(
+    out: &mut Vec<u8>,
+    word: &[u8],
+    name: &Ident,
+    ty: &Ty,
+    body: &Named,
+) -> Result<(), AllocError>
+    ensures { OnOk result (out.new.items ≡ out.old.items ++ word.now ++ name.now ++ codes ":" ++ ty_text (ty_of ty.now) ++ codes ". " ++ term_text (named_of body.now)) }
+{
+    push_head(out, word, name, ty)?;
+    push_term(out, body)
 }
 
 /// What stands before a part of a term, and the part, in parentheses unless its level is at most this one.

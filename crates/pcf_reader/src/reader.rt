@@ -18,7 +18,7 @@ use crate::lexer::{
 };
 use crate::token::Token;
 use pcf_values::Ident;
-use pcf_values::limits::PROGRAM_NODES;
+use pcf_values::limits::{OPEN_PHRASES, PROGRAM_NODES};
 use std::alloc::Global;
 use std::marker::Model;
 
@@ -67,15 +67,6 @@ impl<'a> Reader<'a> {
         self.at
     }
 
-    /// The name that is next.
-    pub fn name(&self, alloc: Global) -> Result<Ident, ReadFault>
-        requires { (name : List ℕ) × (self.now.here ≡ name_token name) }
-        ensures ok { IfOk result (λ x. self.now.here ≡ name_token x) }
-        ensures err { IfErr result (λ f. f ≡ ReadFault.NoMemory) }
-    {
-        Ok(Ident::from_text(alloc, self.word)?)
-    }
-
     /// Counts nodes and goes on to the next token.
     pub fn take(&mut self, count: u32) -> Result<(), ReadFault>
         requires end { self.old.here ≡ end_token → ⊥ }
@@ -89,6 +80,44 @@ impl<'a> Reader<'a> {
         }
         *self = reader_at(self.rest, self.end, nodes)?;
         Ok(())
+    }
+
+    /// The same, for a name, which is answered.
+    pub fn take_name(&mut self, alloc: Global, count: u32) -> Result<Ident, ReadFault>
+        requires name { (name : List ℕ) × (self.old.here ≡ name_token name) }
+        requires count { count ≤ 2 }
+        ensures name { IfOk result (λ x. self.old.here ≡ name_token x) }
+        ensures goes { (d : ℕ) (s : State) → d < 500 → Gives (λ _. resume (step s) self.new) (taken self.old (go d count s)) result }
+        ensures shorter { OnOk result (length self.new.after < length self.old.after) }
+    {
+        let name = Ident::from_text(alloc, self.word)?;
+        self.take(count)?;
+        Ok(name)
+    }
+
+    /// The same, for a token that stands at a depth: so many phrases are open there, or so high is what stands left of it.
+    pub fn take_at(&mut self, depth: u32, count: u32) -> Result<(), ReadFault>
+        requires end { self.old.here ≡ end_token → ⊥ }
+        requires count { count ≤ 2 }
+        ensures goes { (s : State) → Gives (λ _. resume (step s) self.new) (taken self.old (go depth count s)) result }
+        ensures shorter { OnOk result (length self.new.after < length self.old.after) }
+        ensures low { OnOk result (depth < 500) }
+    {
+        may_open(self.at, depth)?;
+        self.take(count)?;
+        Ok(())
+    }
+}
+
+/// That a token may stand at a place with this depth.
+pub fn may_open(at: u32, depth: u32) -> Result<(), ReadFault>
+    ensures ok { OnOk result (depth < 500) }
+    ensures deep { IfErr result (λ f. (f ≡ ReadFault.TooDeep at) × (500 ≤ depth)) }
+{
+    if depth < OPEN_PHRASES {
+        Ok(())
+    } else {
+        Err(ReadFault::TooDeep(at))
     }
 }
 

@@ -122,13 +122,14 @@ pub fn bound(
     at: u32,
     binder: Binder,
     name: Ident,
-    of: Ty,
+    of: Box<Ty>,
     body: Part,
 ) -> Result<Part, ReadFault>
     requires { body.height < 4000 }
-    ensures ok { IfOk result (λ p. part_of p ≡ higher (bind_tree at (binder_of binder) name (ty_of of)) (part_of body)) }
+    ensures ok { IfOk result (λ p. part_of p ≡ higher (bind_tree at (binder_of binder) name (ty_of of.value)) (part_of body)) }
     ensures err { IfErr result (λ f. f ≡ ReadFault.NoMemory) }
 {
+    let of = Box::into_inner(of);
     let raw = match binder {
         Binder::Fun => Raw::Fun(name, of, body.tree),
         Binder::Fix => Raw::Fix(name, of, body.tree),

@@ -1,7 +1,7 @@
 //! The tokens of a text.
 
 /// A word before an atom.
-#[derive(Clone, Copy, Debug, PartialEq, Eq)]
+#[derive(Clone, Copy)]
 pub enum Word {
     Succ,
     Pred,
@@ -10,14 +10,14 @@ pub enum Word {
 }
 
 /// A word that binds a name.
-#[derive(Clone, Copy, Debug, PartialEq, Eq)]
+#[derive(Clone, Copy)]
 pub enum Binder {
     Fun,
     Fix,
 }
 
 /// An operator between two terms.
-#[derive(Clone, Copy, Debug, PartialEq, Eq)]
+#[derive(Clone, Copy)]
 pub enum Operator {
     Plus,
     Minus,
@@ -25,7 +25,7 @@ pub enum Operator {
 }
 
 /// A token. A name's text stands beside it in the reader.
-#[derive(Clone, Copy, Debug, PartialEq, Eq)]
+#[derive(Clone, Copy)]
 pub enum Token {
     Open,
     Close,

@@ -1,6 +1,6 @@
 //! The types of a text, phrase by phrase, as in the descent over terms.
 
-ghost use Rattle.std.specs.Prelude.{◌≡◌, ℕ, ◌+◌, ◌<◌, ◌≤◌, length, [], OnOk, IfErr};
+ghost use Rattle.std.specs.Prelude.{◌≡◌, ℕ, ◌+◌, ◌<◌, ◌≤◌, length, [], OnOk};
 ghost use Rattle.pcf_reader.specs.Machine.{step, TypeK, PTypeK, first_ptype, type_open, ptype_open, begin_tatom, end_type, end_ptype, after_tatom};
 ghost use Rattle.pcf_reader.specs.Rest.{resume, Gives};
 ghost use Rattle.pcf_values.specs.Views.{ty_of};
@@ -9,37 +9,21 @@ use crate::fault::ReadFault;
 use crate::reader::Reader;
 use crate::token::Token;
 use pcf_values::Ty;
-use pcf_values::limits::OPEN_PHRASES;
 use std::alloc::Global;
-
-/// That a token may stand at a place with this depth: so many phrases are open there, or so high is what stands left of it.
-pub fn may_open(at: u32, depth: u32) -> Result<(), ReadFault>
-    ensures ok { OnOk result (depth < 500) }
-    ensures deep { IfErr result (λ f. (f ≡ ReadFault.TooDeep at) × (500 ≤ depth)) }
-{
-    if depth < OPEN_PHRASES {
-        Ok(())
-    } else {
-        Err(ReadFault::TooDeep(at))
-    }
-}
 
 /// A type.
 #[cycle(types)]
-pub fn type_of(reader: &mut Reader, alloc: Global, depth: u32) -> Result<Ty, ReadFault>
+pub fn type_of(reader: &mut Reader, alloc: Global, depth: u32) -> Result<Box<Ty>, ReadFault>
     requires { depth ≤ 500 }
-    ensures goes { (k : TypeK) → type_open k ≡ depth → Gives (λ t. resume (end_type k (ty_of t)) reader.new) (resume (begin_tatom (first_ptype k)) reader.old) result }
+    ensures goes { (k : TypeK) → type_open k ≡ depth → Gives (λ t. resume (end_type k (ty_of t.value)) reader.new) (resume (begin_tatom (first_ptype k)) reader.old) result }
     ensures shorter { OnOk result (length reader.new.after < length reader.old.after) }
 {
     let from = product_of(reader, alloc, depth)?;
     match reader.token() {
         Token::Arrow => {
-            may_open(reader.at(), depth)?;
-            reader.take(0)?;
+            reader.take_at(depth, 0)?;
             let to = type_of(reader, alloc, depth + 1)?;
-            let from = Box::new(alloc, from)?;
-            let to = Box::new(alloc, to)?;
-            Ok(Ty::Arrow(from, to))
+            Ok(Box::new(alloc, Ty::Arrow(from, to))?)
         }
         _ => Ok(from),
     }
@@ -47,20 +31,17 @@ pub fn type_of(reader: &mut Reader, alloc: Global, depth: u32) -> Result<Ty, Rea
 
 /// A product of atoms of types.
 #[cycle(types)]
-fn product_of(reader: &mut Reader, alloc: Global, depth: u32) -> Result<Ty, ReadFault>
+fn product_of(reader: &mut Reader, alloc: Global, depth: u32) -> Result<Box<Ty>, ReadFault>
     requires { depth ≤ 500 }
-    ensures goes { (k : PTypeK) → ptype_open k ≡ depth → Gives (λ t. resume (end_ptype k (ty_of t)) reader.new) (resume (begin_tatom k) reader.old) result }
+    ensures goes { (k : PTypeK) → ptype_open k ≡ depth → Gives (λ t. resume (end_ptype k (ty_of t.value)) reader.new) (resume (begin_tatom k) reader.old) result }
     ensures shorter { OnOk result (length reader.new.after < length reader.old.after) }
 {
     let left = atom_of(reader, alloc, depth)?;
     match reader.token() {
         Token::Times => {
-            may_open(reader.at(), depth)?;
-            reader.take(0)?;
+            reader.take_at(depth, 0)?;
             let right = product_of(reader, alloc, depth + 1)?;
-            let left = Box::new(alloc, left)?;
-            let right = Box::new(alloc, right)?;
-            Ok(Ty::Product(left, right))
+            Ok(Box::new(alloc, Ty::Product(left, right))?)
         }
         _ => Ok(left),
     }
@@ -68,20 +49,19 @@ fn product_of(reader: &mut Reader, alloc: Global, depth: u32) -> Result<Ty, Read
 
 /// `nat`, or a type in parentheses.
 #[cycle(types)]
-fn atom_of(reader: &mut Reader, alloc: Global, depth: u32) -> Result<Ty, ReadFault>
+fn atom_of(reader: &mut Reader, alloc: Global, depth: u32) -> Result<Box<Ty>, ReadFault>
     requires { depth ≤ 500 }
-    ensures goes { (k : PTypeK) → ptype_open k ≡ depth → Gives (λ t. resume (step (after_tatom k (ty_of t))) reader.new) (resume (begin_tatom k) reader.old) result }
+    ensures goes { (k : PTypeK) → ptype_open k ≡ depth → Gives (λ t. resume (step (after_tatom k (ty_of t.value))) reader.new) (resume (begin_tatom k) reader.old) result }
     ensures shorter { OnOk result (length reader.new.after < length reader.old.after) }
 {
     let at = reader.at();
     match reader.token() {
         Token::Nat => {
             reader.take(1)?;
-            Ok(Ty::Nat)
+            Ok(Box::new(alloc, Ty::Nat)?)
         }
         Token::Open => {
-            may_open(at, depth)?;
-            reader.take(0)?;
+            reader.take_at(depth, 0)?;
             let inner = type_of(reader, alloc, depth + 1)?;
             match reader.token() {
                 Token::Close => {

@@ -7,14 +7,8 @@ use Rattle.pcf_reader.proofs.descent.+terms.Given as goal
 abbrev pub decreases-parens : goal.decreases-parens
 decreases-parens l = 9 * (501 - l.depth) + 8
 
-abbrev pub decreases-behind_first : goal.decreases-behind_first
-decreases-behind_first l = 9 * (501 - l.depth) + 7
-
-abbrev pub decreases-test_of : goal.decreases-test_of
-decreases-test_of l = 9 * (501 - l.depth) + 6
-
-abbrev pub decreases-yes_of : goal.decreases-yes_of
-decreases-yes_of l = 9 * (501 - l.depth) + 6
+abbrev pub decreases-branches : goal.decreases-branches
+decreases-branches l = 9 * (501 - l.depth) + 6
 
 abbrev pub decreases-second_of : goal.decreases-second_of
 decreases-second_of l = 9 * (501 - l.depth) + 6
@@ -40,15 +34,15 @@ decreases-application l = 9 * (501 - l.depth) + 2
 abbrev pub decreases-atom : goal.decreases-atom
 decreases-atom l = 9 * (501 - l.depth) + 1
 
-abbrev pub invariant-application-loop-reader : goal.invariant-application-loop-reader
-invariant-application-loop-reader l = record {
+abbrev pub invariant-application-loop-alloc : goal.invariant-application-loop-alloc
+invariant-application-loop-alloc l = record {
   goes : (k : AppK) → app_open k ≡ l.depth → resume (begin_atom (first_atom k)) l.fn.reader ≡ resume (after_app k (part_of l.function)) l.reader;
   shorter : length l.reader.after < length l.fn.reader.after;
   low : l.function.height + 4 * l.depth ≤ 2502;
 }
 
-abbrev pub decreases-application-loop-reader : goal.decreases-application-loop-reader
-decreases-application-loop-reader l = length l.reader.after
+abbrev pub decreases-application-loop-alloc : goal.decreases-application-loop-alloc
+decreases-application-loop-alloc l = length l.reader.after
 
 abbrev pub invariant-product-loop-reader : goal.invariant-product-loop-reader
 invariant-product-loop-reader l = record {
