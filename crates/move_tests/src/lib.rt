@@ -6,4 +6,8 @@
 #[cfg(test)]
 mod moves;
 #[cfg(test)]
+mod rows;
+#[cfg(test)]
 mod stacks;
+#[cfg(test)]
+mod texts;

@@ -1,217 +1,141 @@
+//! Every call on the stacks of a token.
+
+use crate::rows::{Says, cut, first_wrong};
+use crate::texts::{call, stacks};
 use std::alloc::{AllocError, Global};
 use std::test::Fail;
 use token_stacks::Stacks;
 
-#[derive(Clone, Copy)]
-enum Call {
-    PushR,
-    PushL,
-    PushStar,
-    PopR,
-    PopL,
-    PopStar,
-    WrapLeft,
-    WrapRight,
-    UnwrapLeft,
-    UnwrapRight,
-    ArgumentIn,
-    ArgumentOut,
-    BoxIn,
-    BoxOut,
-    DoorIn,
-    DoorOut,
-    FixIn,
-    FixOut,
-    AgainIn,
-    AgainOut,
-}
-
-use Call::*;
-
-fn make(stacks: &mut Stacks, call: Call) -> Result<bool, AllocError> {
-    match call {
-        PushR => {
-            stacks.push_r()?;
-            Ok(true)
-        }
-        PushL => {
-            stacks.push_l()?;
-            Ok(true)
-        }
-        PushStar => {
-            stacks.push_star()?;
-            Ok(true)
-        }
-        FixIn => {
-            stacks.fix_in()?;
-            Ok(true)
-        }
-        PopR => Ok(stacks.pop_r()),
-        PopL => Ok(stacks.pop_l()),
-        PopStar => Ok(stacks.pop_star()),
-        UnwrapLeft => Ok(stacks.unwrap_left()),
-        UnwrapRight => Ok(stacks.unwrap_right()),
-        ArgumentIn => Ok(stacks.argument_in()),
-        FixOut => Ok(stacks.fix_out()),
-        WrapLeft => stacks.wrap_left(),
-        WrapRight => stacks.wrap_right(),
-        ArgumentOut => stacks.argument_out(),
-        BoxIn => stacks.box_in(),
-        BoxOut => stacks.box_out(),
-        DoorIn => stacks.door_in(),
-        DoorOut => stacks.door_out(),
-        AgainIn => stacks.again_in(),
-        AgainOut => stacks.again_out(),
-    }
-}
-
-// Calls that make a stack, a call on it, what it answers, and the words of the work stack and of the box stack after it.
-type Row = (&'static [Call], Call, bool, &'static [u64], &'static [u64]);
-
-// The number of the first row that the calls do not follow.
-fn first_wrong(alloc: Global, rows: &[Row]) -> Result<Option<usize>, AllocError> {
-    for (i, (before, call, made, work, boxes)) in rows.iter().enumerate() {
-        let mut stacks = Stacks::empty(alloc);
-        for earlier in *before {
-            if !make(&mut stacks, *earlier)? {
-                return Ok(Some(i));
-            }
-        }
-        let answer = make(&mut stacks, *call)?;
-        if answer != *made || stacks.work_words() != *work || stacks.box_words() != *boxes {
-            return Ok(Some(i));
+/// Whether these are the words that are listed.
+fn are(found: &[u64], listed: &str) -> bool {
+    let mut left = found;
+    for word in listed.split_whitespace() {
+        match left {
+            [first, rest @ ..] if word.parse() == Ok(*first) => left = rest,
+            _ => return false,
         }
     }
-    Ok(None)
+    left.is_empty()
 }
 
-const ON_WORK: [Row; 21] = [
-    (&[], PushR, true, &[5], &[]),
-    (&[PushR], PushL, true, &[5, 6], &[]),
-    (&[PushL], PushStar, true, &[6, 0, 1, 7], &[]),
-    (&[PushL, PushR], PopR, true, &[6], &[]),
-    (&[PushL], PopR, false, &[6], &[]),
-    (&[PushR, PushL], PopL, true, &[5], &[]),
-    (&[PushR], PopL, false, &[5], &[]),
-    (&[PushR, PushStar], PopStar, true, &[5], &[]),
-    (&[PushStar, WrapLeft], PopStar, false, &[0, 1, 2, 7], &[]),
-    (&[PushStar], WrapLeft, true, &[0, 1, 2, 7], &[]),
-    (&[PushR], WrapLeft, false, &[5], &[]),
-    (&[PushStar], WrapRight, true, &[0, 2, 2, 7], &[]),
-    (&[], WrapRight, false, &[], &[]),
-    (&[PushStar, WrapLeft], UnwrapLeft, true, &[0, 1, 7], &[]),
-    (
-        &[PushStar, WrapRight],
-        UnwrapLeft,
-        false,
-        &[0, 2, 2, 7],
-        &[],
-    ),
-    (&[PushStar, WrapRight], UnwrapRight, true, &[0, 1, 7], &[]),
-    (&[PushStar], UnwrapRight, false, &[0, 1, 7], &[]),
-    (&[PushStar, PushL], ArgumentIn, true, &[0, 1, 7], &[]),
-    (&[PushR, PushL], ArgumentIn, false, &[5, 6], &[]),
-    (&[PushStar], ArgumentOut, true, &[0, 1, 7, 6], &[]),
-    (&[PushL], ArgumentOut, false, &[6], &[]),
-];
+fn has_words(stacks: &Stacks, lists: &str) -> bool {
+    let (work, boxes) = cut(lists, '|');
+    are(stacks.work_words(), work) && are(stacks.box_words(), boxes)
+}
 
-const ON_BOTH: [Row; 16] = [
-    (
-        &[
-            FixIn, PushStar, WrapLeft, DoorOut, BoxIn, PushStar, WrapLeft,
-        ],
-        PushL,
-        true,
-        &[0, 1, 2, 7, 6],
-        &[0, 0, 1, 2, 3, 5],
-    ),
-    (&[PushR, PushStar], BoxIn, true, &[5], &[0, 1]),
-    (&[PushStar, PushR], BoxIn, false, &[0, 1, 7, 5], &[]),
-    (&[FixIn], BoxOut, true, &[0, 1, 7], &[]),
-    (&[PushR], BoxOut, false, &[5], &[]),
-    (
-        &[FixIn, PushStar, WrapLeft],
-        DoorOut,
-        true,
-        &[0, 0, 1, 2, 3, 5, 7],
-        &[],
-    ),
-    (&[PushStar], DoorOut, false, &[0, 1, 7], &[]),
-    (
-        &[FixIn, PushStar, WrapLeft, DoorOut],
-        DoorIn,
-        true,
-        &[0, 1, 2, 7],
-        &[0, 1],
-    ),
-    (
-        &[FixIn, PushStar, WrapLeft],
-        DoorIn,
-        false,
-        &[0, 1, 2, 7],
-        &[0, 1],
-    ),
-    (&[PushL], FixIn, true, &[6], &[0, 1]),
-    (&[PushL, FixIn], FixOut, true, &[6], &[]),
-    (&[PushStar, WrapLeft, BoxIn], FixOut, false, &[], &[0, 1, 2]),
-    (
-        &[FixIn, PushR, PushStar, WrapRight],
-        AgainIn,
-        true,
-        &[5],
-        &[0, 0, 2, 2, 4, 5],
-    ),
-    (&[PushStar], AgainIn, false, &[0, 1, 7], &[]),
-    (
-        &[FixIn, PushStar, WrapRight, AgainIn],
-        AgainOut,
-        true,
-        &[0, 2, 2, 7],
-        &[0, 1],
-    ),
-    (&[FixIn], AgainOut, false, &[], &[0, 1]),
-];
+/// Whether a row on a call and what it answers and leaves is so.
+pub(crate) fn is_change(alloc: Global, row: &str) -> Result<bool, AllocError> {
+    let (before, rest) = cut(row, '|');
+    let (name, rest) = cut(rest, '|');
+    let (answer, words) = cut(rest, '|');
+    let mut stacks = stacks(alloc, before)?;
+    let made = call(&mut stacks, name)?;
+    Ok(made == (answer == "yes") && has_words(&stacks, words))
+}
 
 #[test]
 fn each_call_is_its_row(rt: HostRuntime) -> Result<(), Fail> {
-    assert!(rt; first_wrong(rt.alloc(), &ON_WORK)? == None);
-    assert!(rt; first_wrong(rt.alloc(), &ON_BOTH)? == None);
+    let table = "
+|R|yes|5|
+R|L|yes|5 6|
+L|*|yes|6 0 1 7|
+L R|-R|yes|6|
+L|-R|no|6|
+R L|-L|yes|5|
+R|-L|no|5|
+R *|-*|yes|5|
+* l|-*|no|0 1 2 7|
+*|l|yes|0 1 2 7|
+R|l|no|5|
+*|r|yes|0 2 2 7|
+|r|no||
+* l|-l|yes|0 1 7|
+* r|-l|no|0 2 2 7|
+* r|-r|yes|0 1 7|
+*|-r|no|0 1 7|
+* L|argument|yes|0 1 7|
+R L|argument|no|5 6|
+*|-argument|yes|0 1 7 6|
+L|-argument|no|6|
+fix * l door box * l|L|yes|0 1 2 7 6|0 0 1 2 3 5
+R *|box|yes|5|0 1
+* R|box|no|0 1 7 5|
+fix|-box|yes|0 1 7|
+R|-box|no|5|
+fix * l|door|yes|0 0 1 2 3 5 7|
+*|door|no|0 1 7|
+fix * l door|-door|yes|0 1 2 7|0 1
+fix * l|-door|no|0 1 2 7|0 1
+L|fix|yes|6|0 1
+L fix|-fix|yes|6|
+* l box|-fix|no||0 1 2
+fix R * r|again|yes|5|0 0 2 2 4 5
+*|again|no|0 1 7|
+fix * r again|-again|yes|0 2 2 7|0 1
+fix|-again|no||0 1
+";
+    assert!(rt; first_wrong(rt.alloc(), Says::Change, table)? == None);
     Ok(())
 }
 
 fn crosses<T: Send + Sync>(_value: &T) {}
 
+/// Whether a copy is the same, and the copy of the box stack is less than it with a signature more.
+fn copy_is_the_same(stacks: &Stacks) -> Result<bool, AllocError> {
+    let mut other = stacks.copy()?;
+    if !other.same(stacks) {
+        return Ok(false);
+    }
+    other.fix_in()?;
+    Ok(!other.same(stacks) && stacks.boxes() < other.boxes())
+}
+
+fn box_copy_is_equal(stacks: &Stacks) -> Result<bool, AllocError> {
+    Ok(stacks.boxes().copy()? == *stacks.boxes())
+}
+
+fn copies_are_ordered(alloc: Global) -> Result<bool, AllocError> {
+    let stacks = stacks(alloc, "L")?;
+    crosses(&stacks);
+    Ok(box_copy_is_equal(&stacks)? && copy_is_the_same(&stacks)?)
+}
+
 #[test]
 fn copies_and_their_order(rt: HostRuntime) -> Result<(), Fail> {
-    let mut stacks = Stacks::empty(rt.alloc());
-    assert!(rt; stacks.work_is_empty());
-    stacks.push_l()?;
-    crosses(&stacks);
-    let boxes = stacks.boxes().copy()?;
-    let mut other = stacks.copy()?;
-    assert!(rt; other.same(&stacks) && boxes == *other.boxes());
-    other.fix_in()?;
-    assert!(rt; !other.same(&stacks) && boxes < *other.boxes());
+    assert!(rt; copies_are_ordered(rt.alloc())?);
     Ok(())
+}
+
+/// Whether the stacks come back from a box as they were, and are others inside.
+fn comes_out_of_a_box(stacks: &mut Stacks) -> Result<bool, AllocError> {
+    let before = stacks.copy()?;
+    let is_in = stacks.box_in()? && !stacks.same(&before);
+    Ok(is_in && stacks.box_out()? && stacks.same(&before))
+}
+
+/// Whether so many marks and then the star can be taken off, and nothing is left.
+fn is_unmarked(stacks: &mut Stacks, count: u32) -> bool {
+    for _ in 0..count {
+        if !stacks.unwrap_left() {
+            return false;
+        }
+    }
+    stacks.pop_star() && stacks.work_is_empty()
+}
+
+/// Whether a signature of so many marks goes through a box, and its marks can be taken off again.
+fn marks_come_back(alloc: Global, count: u32) -> Result<bool, AllocError> {
+    let mut stacks = stacks(alloc, "*")?;
+    for _ in 0..count {
+        if !stacks.wrap_left()? {
+            return Ok(false);
+        }
+    }
+    Ok(comes_out_of_a_box(&mut stacks)? && is_unmarked(&mut stacks, count))
 }
 
 #[test]
 fn a_signature_of_a_million_marks(rt: HostRuntime) -> Result<(), Fail> {
-    let mut stacks = Stacks::empty(rt.alloc());
-    stacks.push_star()?;
-    for _ in 0..1_000_000u32 {
-        assert!(rt; stacks.wrap_left()?);
-    }
-    let other = stacks.copy()?;
-    assert!(rt; stacks.same(&other));
-    assert!(rt; stacks.box_in()?);
-    assert!(rt; !stacks.same(&other));
-    assert!(rt; stacks.box_out()?);
-    assert!(rt; stacks.same(&other));
-    for _ in 0..1_000_000u32 {
-        assert!(rt; stacks.unwrap_left());
-    }
-    assert!(rt; stacks.pop_star());
-    assert!(rt; stacks.work_is_empty());
+    assert!(rt; marks_come_back(rt.alloc(), 1_000_000)?);
     Ok(())
 }
