@@ -1,6 +1,6 @@
 //! Whole calls over files and sinks in memory: what each status writes, and what every failing device leaves.
 
-use crate::rows::first_wrong;
+use crate::rows::{cut, first_wrong};
 use goi_engine::goi;
 use goi_world::{MemoryFiles, MemorySink};
 use pcf_reader::read_program;
@@ -53,6 +53,31 @@ fn push_lines(to: &mut Vec<u8>, text: &[u8]) -> Result<(), AllocError> {
     Ok(())
 }
 
+/// A status and what was written to both sinks, with `;` for each line feed.
+fn seen(
+    alloc: Global,
+    status: u8,
+    out: &MemorySink,
+    err: &MemorySink,
+) -> Result<Vec<u8>, AllocError> {
+    let mut seen = vec![in alloc; b'0'.saturating_add(status), b' ']?;
+    push_lines(&mut seen, out.written())?;
+    push_lines(&mut seen, err.written())?;
+    Ok(seen)
+}
+
+fn answered(
+    alloc: Global,
+    words: &Vec<String>,
+    files: &mut MemoryFiles,
+    devices: Devices<'_>,
+) -> Result<Vec<u8>, AllocError> {
+    let mut out = sink(alloc, devices.room, devices.most, devices.outs)?;
+    let mut err = sink(alloc, 100, devices.most, devices.errs)?;
+    let status = goi(alloc, words, files, &mut out, &mut err);
+    seen(alloc, status, &out, &err)
+}
+
 /// What a call with these words leaves: its status, and what was written to the output and to the error output, with `;` for each
 /// line feed.
 pub(crate) fn told(
@@ -61,141 +86,145 @@ pub(crate) fn told(
     text: &[u8],
     devices: Devices<'_>,
 ) -> Result<Vec<u8>, AllocError> {
+    let words = texts(alloc, words)?;
     let mut files = files(alloc, text, devices)?;
-    let mut out = sink(alloc, devices.room, devices.most, devices.outs)?;
-    let mut err = sink(alloc, 100, devices.most, devices.errs)?;
-    let status = goi(alloc, &texts(alloc, words)?, &mut files, &mut out, &mut err);
-    let mut seen = vec![in alloc; b'0'.saturating_add(status), b' ']?;
-    push_lines(&mut seen, out.written())?;
-    push_lines(&mut seen, err.written())?;
-    Ok(seen)
+    answered(alloc, &words, &mut files, devices)
+}
+
+/// Whether a call with these words leaves this.
+pub(crate) fn leaves(
+    alloc: Global,
+    words: &str,
+    text: &[u8],
+    devices: Devices<'_>,
+    wanted: &str,
+) -> Result<bool, AllocError> {
+    Ok(told(alloc, words, text, devices)?.as_slice() == wanted.as_bytes())
+}
+
+/// The same for `goi run p`.
+fn run_leaves(alloc: Global, text: &[u8], wanted: &str) -> Result<bool, AllocError> {
+    leaves(alloc, "goi run p", text, SOUND, wanted)
 }
 
 #[test]
 fn what_is_printed(rt: HostRuntime) -> Result<(), Fail> {
-    let runs = "
-0|0 value 0;moves 2;
-succ 4|0 value 5;moves 4;
-pred 0|0 value 0;moves 4;
- \t\rsucc\t(pred\r0007) # seven|0 value 7;moves 6;
-18446744073709551615|0 value 18446744073709551615;moves 2;
-succ 18446744073709551615|0 value overflow;moves 4;
-pred succ 18446744073709551615|0 value overflow;moves 6;
+    let table = "
+goi run p|0|0 value 0;moves 2;
+goi run p|succ 4|0 value 5;moves 4;
+goi run p|pred 0|0 value 0;moves 4;
+goi run p| \t\rsucc\t(pred\r0007) # seven|0 value 7;moves 6;
+goi run p|18446744073709551615|0 value 18446744073709551615;moves 2;
+goi run p|succ 18446744073709551615|0 value overflow;moves 4;
+goi run p|pred succ 18446744073709551615|0 value overflow;moves 6;
+goi check p|fun x:nat. x|0 type nat -> nat;
+goi check p|(1, fun x:nat. x)|0 type nat * (nat -> nat);
+goi check p|7 - 2 * 3|0 type nat;
+goi check p|fun v:nat. fun v:nat->nat. v|0 type nat -> (nat -> nat) -> nat -> nat;
+goi check p|fun v:nat->nat. fun v:nat. v|0 type (nat -> nat) -> nat -> nat;
+goi check p|fun v:nat->nat. fun w:nat. v|0 type (nat -> nat) -> nat -> nat -> nat;
+goi check p|snd (1, fun v:nat. v)|0 type nat -> nat;
+goi check p|fst (1, fun v:nat. v)|0 type nat;
+goi check p|fun v:(nat->nat)*nat. (fst v) (snd v)|0 type (nat -> nat) * nat -> nat;
+goi check p|fix v:nat->nat. fun w:nat. ifz w then 0 else w + v (pred w)|0 type nat -> nat;
+goi check p|(fix v:nat->nat. fun w:nat. ifz w then 0 else w + v (pred w)) 3|0 type nat;
+goi check p --term|(fun x:nat. x+x) 0007|0 type nat;term (fun x:nat. x + x) 7;
+goi check p --term|fst (1, fix y:nat. y)|0 type nat;term fst (1, fix y:nat. y);
+goi check p --term|1 - (2 - 3) * 4|0 type nat;term 1 - (2 - 3) * 4;
 ";
-    assert!(rt; first_wrong(rt.alloc(), "goi run p", 7, runs)? == None);
-    let seen = told(rt.alloc(), "goi run p", b"\n \t\r\nsucc\n4\n# four", SOUND)?;
-    assert!(rt; seen.as_slice() == b"0 value 5;moves 4;".as_slice());
-    let types = "
-fun x:nat. x|0 type nat -> nat;
-(1, fun x:nat. x)|0 type nat * (nat -> nat);
-7 - 2 * 3|0 type nat;
-fun v:nat. fun v:nat->nat. v|0 type nat -> (nat -> nat) -> nat -> nat;
-fun v:nat->nat. fun v:nat. v|0 type (nat -> nat) -> nat -> nat;
-fun v:nat->nat. fun w:nat. v|0 type (nat -> nat) -> nat -> nat -> nat;
-snd (1, fun v:nat. v)|0 type nat -> nat;
-fst (1, fun v:nat. v)|0 type nat;
-fun v:(nat->nat)*nat. (fst v) (snd v)|0 type (nat -> nat) * nat -> nat;
-fix v:nat->nat. fun w:nat. ifz w then 0 else w + v (pred w)|0 type nat -> nat;
-(fix v:nat->nat. fun w:nat. ifz w then 0 else w + v (pred w)) 3|0 type nat;
-";
-    assert!(rt; first_wrong(rt.alloc(), "goi check p", 11, types)? == None);
-    let terms = "
-(fun x:nat. x+x) 0007|0 type nat;term (fun x:nat. x + x) 7;
-fst (1, fix y:nat. y)|0 type nat;term fst (1, fix y:nat. y);
-1 - (2 - 3) * 4|0 type nat;term 1 - (2 - 3) * 4;
-";
-    assert!(rt; first_wrong(rt.alloc(), "goi check p --term", 3, terms)? == None);
+    assert!(rt; first_wrong(rt.alloc(), table)? == None);
+    assert!(rt;
+        run_leaves(
+            rt.alloc(),
+            b"\n \t\r\nsucc\n4\n# four",
+            "0 value 5;moves 4;"
+        )?
+    );
     Ok(())
 }
 
 #[test]
 fn listings(rt: HostRuntime) -> Result<(), Fail> {
-    let nets = "
-(fun x:nat. x + x) 3|0 net 1;wire 0 value 0 nat;wire 1 var 0 nat;wire 2 value 0 nat;wire 3 var 0 nat;wire 4 var 0 nat;wire 5 value 0 nat;wire 6 value 0 nat -> nat;wire 7 value 1 nat;wire 8 bang 0 nat;wire 9 value 0 nat;node 0 Der 0 1;node 1 Der 2 3;node 2 Con 1 3 4;node 3 Plus 0 2 5;node 4 Lam 5 4 6;node 5 Const 3 7;node 6 Box 7 8;node 7 App 6 8 9;node 8 Root 9;end;
-fix y:nat. y|0 net 1;wire 0 value 1 nat;wire 1 var 1 nat;wire 2 value 0 nat;node 0 Der 0 1;node 1 FixBox 0 1 2;node 2 Root 2;end;
-(fun x:nat. ifz x then x else x) 1|0 net 1;wire 0 value 0 nat;wire 1 var 0 nat;wire 2 value 0 nat;wire 3 var 0 nat;wire 4 value 0 nat;wire 5 var 0 nat;wire 6 var 0 nat;wire 7 var 0 nat;wire 8 value 0 nat;wire 9 value 0 nat -> nat;wire 10 value 1 nat;wire 11 bang 0 nat;wire 12 value 0 nat;node 0 Der 0 1;node 1 Der 2 3;node 2 Der 4 5;node 3 Con 3 5 6;node 4 Con 1 6 7;node 5 Ifz 0 2 4 8;node 6 Lam 8 7 9;node 7 Const 1 10;node 8 Box 10 11;node 9 App 9 11 12;node 10 Root 12;end;
-fst (snd (1, (2 - 3, pred 4 * 5)))|0 net 1;wire 0 value 0 nat;wire 1 value 0 nat;wire 2 value 0 nat;wire 3 value 0 nat;wire 4 value 0 nat;wire 5 value 0 nat;wire 6 value 0 nat;wire 7 value 0 nat;wire 8 value 0 nat * nat;wire 9 value 0 nat * nat * nat;wire 10 value 0 nat * nat;wire 11 value 0 nat;node 0 Const 1 0;node 1 Const 2 1;node 2 Const 3 2;node 3 Minus 1 2 3;node 4 Const 4 4;node 5 Pred 4 5;node 6 Const 5 6;node 7 Times 5 6 7;node 8 Pair 3 7 8;node 9 Pair 0 8 9;node 10 Snd 9 10;node 11 Fst 10 11;node 12 Root 11;end;
-(fun f:nat->nat. fix x:nat. f x) (fun z:nat. succ 1)|0 net 1;wire 0 value 1 nat -> nat;wire 1 var 1 nat -> nat;wire 2 value 2 nat;wire 3 var 2 nat;wire 4 var 1 nat;wire 5 bang 1 nat;wire 6 value 1 nat;wire 7 var 0 nat -> nat;wire 8 value 0 nat;wire 9 value 0 (nat -> nat) -> nat;wire 10 value 1 nat;wire 11 value 1 nat;wire 12 var 1 nat;wire 13 value 1 nat -> nat;wire 14 bang 0 nat -> nat;wire 15 value 0 nat;node 0 Der 0 1;node 1 Der 2 3;node 2 Door 3 4;node 3 Box 2 5;node 4 App 0 5 6;node 5 Door 1 7;node 6 FixBox 6 4 8;node 7 Lam 8 7 9;node 8 Const 1 10;node 9 Succ 10 11;node 10 Weak 12;node 11 Lam 11 12 13;node 12 Box 13 14;node 13 App 9 14 15;node 14 Root 15;end;
+    let table = "
+goi net p|(fun x:nat. x + x) 3|0 net 1;wire 0 value 0 nat;wire 1 var 0 nat;wire 2 value 0 nat;wire 3 var 0 nat;wire 4 var 0 nat;wire 5 value 0 nat;wire 6 value 0 nat -> nat;wire 7 value 1 nat;wire 8 bang 0 nat;wire 9 value 0 nat;node 0 Der 0 1;node 1 Der 2 3;node 2 Con 1 3 4;node 3 Plus 0 2 5;node 4 Lam 5 4 6;node 5 Const 3 7;node 6 Box 7 8;node 7 App 6 8 9;node 8 Root 9;end;
+goi net p|fix y:nat. y|0 net 1;wire 0 value 1 nat;wire 1 var 1 nat;wire 2 value 0 nat;node 0 Der 0 1;node 1 FixBox 0 1 2;node 2 Root 2;end;
+goi net p|(fun x:nat. ifz x then x else x) 1|0 net 1;wire 0 value 0 nat;wire 1 var 0 nat;wire 2 value 0 nat;wire 3 var 0 nat;wire 4 value 0 nat;wire 5 var 0 nat;wire 6 var 0 nat;wire 7 var 0 nat;wire 8 value 0 nat;wire 9 value 0 nat -> nat;wire 10 value 1 nat;wire 11 bang 0 nat;wire 12 value 0 nat;node 0 Der 0 1;node 1 Der 2 3;node 2 Der 4 5;node 3 Con 3 5 6;node 4 Con 1 6 7;node 5 Ifz 0 2 4 8;node 6 Lam 8 7 9;node 7 Const 1 10;node 8 Box 10 11;node 9 App 9 11 12;node 10 Root 12;end;
+goi net p|fst (snd (1, (2 - 3, pred 4 * 5)))|0 net 1;wire 0 value 0 nat;wire 1 value 0 nat;wire 2 value 0 nat;wire 3 value 0 nat;wire 4 value 0 nat;wire 5 value 0 nat;wire 6 value 0 nat;wire 7 value 0 nat;wire 8 value 0 nat * nat;wire 9 value 0 nat * nat * nat;wire 10 value 0 nat * nat;wire 11 value 0 nat;node 0 Const 1 0;node 1 Const 2 1;node 2 Const 3 2;node 3 Minus 1 2 3;node 4 Const 4 4;node 5 Pred 4 5;node 6 Const 5 6;node 7 Times 5 6 7;node 8 Pair 3 7 8;node 9 Pair 0 8 9;node 10 Snd 9 10;node 11 Fst 10 11;node 12 Root 11;end;
+goi net p|(fun f:nat->nat. fix x:nat. f x) (fun z:nat. succ 1)|0 net 1;wire 0 value 1 nat -> nat;wire 1 var 1 nat -> nat;wire 2 value 2 nat;wire 3 var 2 nat;wire 4 var 1 nat;wire 5 bang 1 nat;wire 6 value 1 nat;wire 7 var 0 nat -> nat;wire 8 value 0 nat;wire 9 value 0 (nat -> nat) -> nat;wire 10 value 1 nat;wire 11 value 1 nat;wire 12 var 1 nat;wire 13 value 1 nat -> nat;wire 14 bang 0 nat -> nat;wire 15 value 0 nat;node 0 Der 0 1;node 1 Der 2 3;node 2 Door 3 4;node 3 Box 2 5;node 4 App 0 5 6;node 5 Door 1 7;node 6 FixBox 6 4 8;node 7 Lam 8 7 9;node 8 Const 1 10;node 9 Succ 10 11;node 10 Weak 12;node 11 Lam 11 12 13;node 12 Box 13 14;node 13 App 9 14 15;node 14 Root 15;end;
 ";
-    assert!(rt; first_wrong(rt.alloc(), "goi net p", 5, nets)? == None);
+    assert!(rt; first_wrong(rt.alloc(), table)? == None);
     Ok(())
 }
 
 #[test]
 fn faults_of_programs(rt: HostRuntime) -> Result<(), Fail> {
-    let runs = "
-|1 refused: Unexpected(0);
-0 )|1 refused: Unexpected(2);
-$|1 refused: BadToken(0);
-18446744073709551616|1 refused: NumberTooWide(0);
-x|1 refused: Unbound(0);
-1 2|1 refused: FunctionWanted(0);
-fix x:nat. fun y:nat. y|1 refused: FixMismatch(11);
-fun x:nat. x|1 refused: NotGround;
-1 + 2|1 refused: NotBuilt;
-succ (5 - 7)|1 refused: NotBuilt;
-(fun x:nat. 7) (fix y:nat. y)|1 refused: NotBuilt;
-ifz 0 then 1 else 2|1 refused: NotBuilt;
-fst (1, 2)|1 refused: NotBuilt;
+    let table = "
+goi run p||1 refused: Unexpected(0);
+goi run p|0 )|1 refused: Unexpected(2);
+goi run p|$|1 refused: BadToken(0);
+goi run p|18446744073709551616|1 refused: NumberTooWide(0);
+goi run p|x|1 refused: Unbound(0);
+goi run p|1 2|1 refused: FunctionWanted(0);
+goi run p|fix x:nat. fun y:nat. y|1 refused: FixMismatch(11);
+goi run p|fun x:nat. x|1 refused: NotGround;
+goi run p|1 + 2|1 refused: NotBuilt;
+goi run p|succ (5 - 7)|1 refused: NotBuilt;
+goi run p|(fun x:nat. 7) (fix y:nat. y)|1 refused: NotBuilt;
+goi run p|ifz 0 then 1 else 2|1 refused: NotBuilt;
+goi run p|fst (1, 2)|1 refused: NotBuilt;
+goi check p|1 -> 2|1 refused: Unexpected(2);
+goi check p|v|1 refused: Unbound(0);
+goi check p|(1) 2|1 refused: FunctionWanted(1);
+goi check p|1 z|1 refused: FunctionWanted(0);
+goi check p|(fun v:nat. v) (fun y:nat. z)|1 refused: Unbound(27);
+goi check p|(fun x:nat. x) (fun y:nat. y)|1 refused: ArgumentMismatch(16);
+goi check p|(fun v:nat->nat. v) 1|1 refused: ArgumentMismatch(20);
+goi check p|succ (fun v:nat. v)|1 refused: NatWanted(6);
+goi check p|pred (1, 2)|1 refused: NatWanted(5);
+goi check p|fst 1|1 refused: PairWanted(4);
+goi check p|snd (fun v:nat. v)|1 refused: PairWanted(5);
+goi check p|(1, 1) + (2, 2)|1 refused: NatWanted(0);
+goi check p|1 - (2, 2)|1 refused: NatWanted(4);
+goi check p|(fun v:nat. v) * 1|1 refused: NatWanted(1);
+goi check p|ifz (1, 2) then z else z|1 refused: NatWanted(4);
+goi check p|ifz 0 then (1, 2) else z|1 refused: NatWanted(11);
+goi check p|ifz 0 then 0 else (1, 2)|1 refused: NatWanted(18);
+goi check p|fix v:nat. (1, 1)|1 refused: FixMismatch(11);
+goi check p|(1, z)|1 refused: Unbound(4);
+goi check p|z + (1, 1)|1 refused: Unbound(0);
+goi check p|fun v:nat. fun w:nat. z|1 refused: Unbound(22);
+goi net p|fun fst:nat. 1|1 refused: Unexpected(4);
+goi net p|succ (fun x:nat. x)|1 refused: NatWanted(6);
+goi net p|(1, 2)|1 refused: NotGround;
 ";
-    assert!(rt; first_wrong(rt.alloc(), "goi run p", 13, runs)? == None);
-    let checks = "
-1 -> 2|1 refused: Unexpected(2);
-v|1 refused: Unbound(0);
-(1) 2|1 refused: FunctionWanted(1);
-1 z|1 refused: FunctionWanted(0);
-(fun v:nat. v) (fun y:nat. z)|1 refused: Unbound(27);
-(fun x:nat. x) (fun y:nat. y)|1 refused: ArgumentMismatch(16);
-(fun v:nat->nat. v) 1|1 refused: ArgumentMismatch(20);
-succ (fun v:nat. v)|1 refused: NatWanted(6);
-pred (1, 2)|1 refused: NatWanted(5);
-fst 1|1 refused: PairWanted(4);
-snd (fun v:nat. v)|1 refused: PairWanted(5);
-(1, 1) + (2, 2)|1 refused: NatWanted(0);
-1 - (2, 2)|1 refused: NatWanted(4);
-(fun v:nat. v) * 1|1 refused: NatWanted(1);
-ifz (1, 2) then z else z|1 refused: NatWanted(4);
-ifz 0 then (1, 2) else z|1 refused: NatWanted(11);
-ifz 0 then 0 else (1, 2)|1 refused: NatWanted(18);
-fix v:nat. (1, 1)|1 refused: FixMismatch(11);
-(1, z)|1 refused: Unbound(4);
-z + (1, 1)|1 refused: Unbound(0);
-fun v:nat. fun w:nat. z|1 refused: Unbound(22);
-";
-    assert!(rt; first_wrong(rt.alloc(), "goi check p", 21, checks)? == None);
-    let nets = "
-fun fst:nat. 1|1 refused: Unexpected(4);
-succ (fun x:nat. x)|1 refused: NatWanted(6);
-(1, 2)|1 refused: NotGround;
-";
-    assert!(rt; first_wrong(rt.alloc(), "goi net p", 3, nets)? == None);
-    let bytes = told(rt.alloc(), "goi run p", b"1\xFF", SOUND)?;
-    assert!(rt; bytes.as_slice() == b"1 refused: NotText(1);".as_slice());
+    assert!(rt; first_wrong(rt.alloc(), table)? == None);
+    assert!(rt; run_leaves(rt.alloc(), b"1\xFF", "1 refused: NotText(1);")?);
     Ok(())
+}
+
+/// Whether a call without any words is refused.
+fn refuses_no_words(alloc: Global) -> Result<bool, AllocError> {
+    let mut files = files(alloc, b"0", SOUND)?;
+    let seen = answered(alloc, &Vec::new(alloc), &mut files, SOUND)?;
+    Ok(seen.as_slice() == b"2 refused words;".as_slice())
 }
 
 #[test]
 fn other_refusals(rt: HostRuntime) -> Result<(), Fail> {
-    for words in [
-        "",
-        "goi",
-        "goi run",
-        "goi go p",
-        "goi run -p",
-        "goi run ",
-        "goi run p --term",
-        "goi check --term p",
-    ] {
-        let seen = told(rt.alloc(), words, b"0", SOUND)?;
-        assert!(rt; seen.as_slice() == b"2 refused words;".as_slice());
-    }
-    let lacked = told(rt.alloc(), "goi run q", b"0", SOUND)?;
-    assert!(rt; lacked.as_slice() == b"3 read failed;".as_slice());
-    let mut files = files(rt.alloc(), b"0", SOUND)?;
-    let mut out = sink(rt.alloc(), 100, 100, &[])?;
-    let mut err = sink(rt.alloc(), 100, 100, &[])?;
-    let none = Vec::new(rt.alloc());
-    assert!(rt; goi(rt.alloc(), &none, &mut files, &mut out, &mut err) == 2);
+    // the first call has one word, which is empty
+    let table = "
+|0|2 refused words;
+goi|0|2 refused words;
+goi run|0|2 refused words;
+goi go p|0|2 refused words;
+goi run -p|0|2 refused words;
+goi run |0|2 refused words;
+goi run p --term|0|2 refused words;
+goi check --term p|0|2 refused words;
+goi run q|0|3 read failed;
+";
+    assert!(rt; first_wrong(rt.alloc(), table)? == None);
+    assert!(rt; refuses_no_words(rt.alloc())?);
     Ok(())
 }
 
@@ -227,74 +256,95 @@ fn groups(alloc: Global, count: u32) -> Result<Vec<u8>, AllocError> {
     Ok(text)
 }
 
-/// Whether this is what `goi run p` leaves.
-fn leaves(alloc: Global, text: &[u8], wanted: &[u8]) -> Result<bool, AllocError> {
-    Ok(told(alloc, "goi run p", text, SOUND)?.as_slice() == wanted)
+/// Whether this is what `goi run p` leaves on a nested text.
+fn nested_leaves(
+    alloc: Global,
+    open: &str,
+    close: &str,
+    count: u32,
+    wanted: &str,
+) -> Result<bool, AllocError> {
+    let text = nested(alloc, open.as_bytes(), close.as_bytes(), count)?;
+    run_leaves(alloc, &text, wanted)
+}
+
+fn groups_leave(alloc: Global, count: u32, wanted: &str) -> Result<bool, AllocError> {
+    let text = groups(alloc, count)?;
+    run_leaves(alloc, &text, wanted)
+}
+
+fn keeps_the_limits(alloc: Global) -> Result<bool, AllocError> {
+    Ok(
+        nested_leaves(alloc, "succ ", "", 500, "0 value 500;moves 1002;")?
+            && nested_leaves(alloc, "succ ", "", 501, "1 refused: TooDeep(2500);")?
+            && nested_leaves(alloc, "(", ")", 500, "0 value 0;moves 2;")?
+            && nested_leaves(alloc, " ", "", 1_048_575, "0 value 0;moves 2;")?
+            && nested_leaves(alloc, " ", "", 1_048_576, "1 refused: TooLong;")?
+            && groups_leave(alloc, 256, "1 refused: FunctionWanted(1);")?
+            && groups_leave(alloc, 257, "1 refused: TooLarge(33281);")?,
+    )
 }
 
 #[test]
 fn the_limits(rt: HostRuntime) -> Result<(), Fail> {
-    let rows: [(&[u8], &[u8], u32, &[u8]); 5] = [
-        (b"succ ", b"", 500, b"0 value 500;moves 1002;"),
-        (b"succ ", b"", 501, b"1 refused: TooDeep(2500);"),
-        (b"(", b")", 500, b"0 value 0;moves 2;"),
-        (b" ", b"", 1_048_575, b"0 value 0;moves 2;"),
-        (b" ", b"", 1_048_576, b"1 refused: TooLong;"),
-    ];
-    for (front, back, count, wanted) in rows {
-        let text = nested(rt.alloc(), front, back, count)?;
-        assert!(rt; leaves(rt.alloc(), &text, wanted)?);
-    }
-    let largest = groups(rt.alloc(), 256)?;
-    assert!(rt; leaves(rt.alloc(), &largest, b"1 refused: FunctionWanted(1);")?);
-    let larger = groups(rt.alloc(), 257)?;
-    assert!(rt; leaves(rt.alloc(), &larger, b"1 refused: TooLarge(33281);")?);
+    assert!(rt; keeps_the_limits(rt.alloc())?);
     Ok(())
+}
+
+/// Whether this is left where the call to the files of this number fails. They give a byte a call.
+fn failed_read_leaves(alloc: Global, failing: u64, wanted: &str) -> Result<bool, AllocError> {
+    let devices = Devices {
+        most: 1,
+        reads: &[failing],
+        ..SOUND
+    };
+    leaves(alloc, "goi run p", b"succ 4", devices, wanted)
 }
 
 #[test]
 fn reads_that_fail(rt: HostRuntime) -> Result<(), Fail> {
     // `succ 4` is read a byte a call, so that the seventh call finds its end.
     for failing in 1u64..9 {
-        let devices = Devices {
-            most: 1,
-            reads: &[failing],
-            ..SOUND
-        };
-        let seen = told(rt.alloc(), "goi run p", b"succ 4", devices)?;
-        let wanted: &[u8] = if failing == 8 {
-            b"0 value 5;moves 4;"
+        let wanted = if failing == 8 {
+            "0 value 5;moves 4;"
         } else {
-            b"3 read failed;"
+            "3 read failed;"
         };
-        assert!(rt; seen.as_slice() == wanted);
+        assert!(rt; failed_read_leaves(rt.alloc(), failing, wanted)?);
     }
     Ok(())
 }
 
+/// Whether a row is so: a text, what a call on it leaves, how much the output holds, and which call to it fails and which to the error
+/// output, 0 for none. A sink takes 8 bytes in a call.
+fn failed_write_leaves(alloc: Global, row: &str) -> Result<bool, AllocError> {
+    let (text, rest) = cut(row);
+    let (wanted, rest) = cut(rest);
+    let (room, rest) = cut(rest);
+    let (out, err) = cut(rest);
+    let devices = Devices {
+        most: 8,
+        room: room.parse().unwrap_or(0),
+        reads: &[],
+        outs: &[out.parse().unwrap_or(0)],
+        errs: &[err.parse().unwrap_or(0)],
+    };
+    leaves(alloc, "goi run p", text.as_bytes(), devices, wanted)
+}
+
 #[test]
 fn writes_that_fail(rt: HostRuntime) -> Result<(), Fail> {
-    // The report has 16 bytes, and a sink takes 8 in a call.
-    let rows: [(&[u8], u64, &[u64], &[u64], &[u8]); 8] = [
-        (b"succ 4", 4000, &[1], &[], b"4 write failed;"),
-        (b"succ 4", 4000, &[2], &[], b"4 value 5;write failed;"),
-        (b"succ 4", 4000, &[3], &[], b"0 value 5;moves 4;"),
-        (b"succ 4", 15, &[], &[], b"4 value 5;moves 4write failed;"),
-        (b"succ 4", 16, &[], &[], b"0 value 5;moves 4;"),
-        (b"succ 4", 4000, &[1], &[1], b"4 "),
-        (b"", 4000, &[], &[1], b"4 "),
-        (b"", 4000, &[], &[2], b"4 refused:"),
-    ];
-    for (text, room, outs, errs, wanted) in rows {
-        let devices = Devices {
-            most: 8,
-            room,
-            reads: &[],
-            outs,
-            errs,
-        };
-        let seen = told(rt.alloc(), "goi run p", text, devices)?;
-        assert!(rt; seen.as_slice() == wanted);
+    // The report has 16 bytes.
+    let table = "succ 4|4 write failed;|4000|1|0
+succ 4|4 value 5;write failed;|4000|2|0
+succ 4|0 value 5;moves 4;|4000|3|0
+succ 4|4 value 5;moves 4write failed;|15|0|0
+succ 4|0 value 5;moves 4;|16|0|0
+succ 4|4 |4000|1|1
+|4 |4000|0|1
+|4 refused:|4000|0|2";
+    for row in table.split('\n') {
+        assert!(rt; failed_write_leaves(rt.alloc(), row)?);
     }
     Ok(())
 }
@@ -351,24 +401,21 @@ fn lines(text: &[u8], letter: u8) -> u64 {
     found
 }
 
-/// The nodes of a program's term, and none where it isn't read.
-fn term_size(alloc: Global, text: &[u8]) -> u64 {
+/// The tree of a program, and want of memory where it isn't read.
+fn read(alloc: Global, text: &[u8]) -> Result<Box<Named>, AllocError> {
     match read_program(alloc, text) {
-        Ok(tree) => size(&tree),
-        Err(_) => 0,
+        Ok(tree) => Ok(Box::new(alloc, tree)?),
+        Err(_) => Err(AllocError),
     }
 }
 
 /// The nodes of a doubled sum's term, and the wires and the nodes of its net.
 fn sizes(alloc: Global, doublings: u32) -> Result<(u64, u64, u64), AllocError> {
     let text = doubled(alloc, doublings)?;
+    let tree = read(alloc, &text)?;
     let seen = told(alloc, "goi net p", &text, SOUND)?;
     // the listing's first line begins with an n too, but stands behind the status
-    Ok((
-        term_size(alloc, &text),
-        lines(&seen, b'w'),
-        lines(&seen, b'n'),
-    ))
+    Ok((size(&tree), lines(&seen, b'w'), lines(&seen, b'n')))
 }
 
 #[test]

@@ -1,34 +1,27 @@
-//! Tables of rows as texts: a row a line, with a text and what is answered on it, parted by `|`, which no token of the language has.
+//! Tables of rows as texts: a row a line, in parts between `|`, which no token of the language has.
 
-use crate::programs::{SOUND, told};
+use crate::programs::{SOUND, leaves};
 use std::alloc::{AllocError, Global};
 
-/// What stands before the first such byte, and what stands behind it.
-pub(crate) fn cut(text: &[u8], byte: u8) -> (&[u8], &[u8]) {
-    for (i, here) in text.iter().enumerate() {
-        if *here == byte {
-            return (&text[..i], &text[i + 1..]);
-        }
-    }
-    (text, &[])
+/// What stands before the first `|`, and what stands behind it.
+pub(crate) fn cut(text: &str) -> (&str, &str) {
+    text.split_once('|').unwrap_or((text, ""))
 }
 
-/// The number of the first of so many rows that the program answers otherwise, called with these words, on a file `p` with the row's
-/// text. The rows begin behind the table's first line feed, and nothing stands behind them.
-pub(crate) fn first_wrong(
-    alloc: Global,
-    words: &str,
-    count: u32,
-    table: &str,
-) -> Result<Option<u32>, AllocError> {
-    let mut rest = cut(table.as_bytes(), b'\n').1;
-    for row in 0..count {
-        let (line, behind) = cut(rest, b'\n');
-        let (text, wanted) = cut(line, b'|');
-        if told(alloc, words, text, SOUND)?.as_slice() != wanted {
-            return Ok(Some(row));
+/// Whether a call with a row's words, on a file `p` with its text, leaves what the row says.
+fn holds(alloc: Global, row: &str) -> Result<bool, AllocError> {
+    let (words, rest) = cut(row);
+    let (text, wanted) = cut(rest);
+    leaves(alloc, words, text.as_bytes(), SOUND, wanted)
+}
+
+/// The number of the first line that isn't so. A row is the words of a call, the text of a file `p`, and what the call leaves. Empty
+/// lines are no rows.
+pub(crate) fn first_wrong(alloc: Global, table: &str) -> Result<Option<usize>, AllocError> {
+    for (i, row) in table.split('\n').enumerate() {
+        if !row.is_empty() && !holds(alloc, row)? {
+            return Ok(Some(i));
         }
-        rest = behind;
     }
-    Ok(if rest.is_empty() { None } else { Some(count) })
+    Ok(None)
 }

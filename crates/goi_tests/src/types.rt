@@ -26,11 +26,11 @@ fn fits(tree: &Named, room: u32) -> bool
 }
 
 /// The answer for a tree of any height that a test builds.
-fn typed(alloc: Global, tree: &Named) -> Result<Typed, TypeFault> {
+fn typed(alloc: Global, tree: &Named) -> Result<Box<Typed>, TypeFault> {
     if !fits(tree, 100_000) {
         return Err(TypeFault::NoMemory);
     }
-    resolve_and_type(alloc, tree)
+    Ok(Box::new(alloc, resolve_and_type(alloc, tree)?)?)
 }
 
 fn over(alloc: Global, raw: Raw) -> Result<Box<Named>, AllocError> {

@@ -6,60 +6,81 @@ use std::test::Fail;
 
 const GREATEST_HEIGHT: u32 = 2600;
 
-fn tower(alloc: Global, height: u32) -> Result<Term, AllocError> {
-    let mut term = Term::Number(0);
+fn tower(alloc: Global, height: u32) -> Result<Box<Term>, AllocError> {
+    let mut term = Box::new(alloc, Term::Number(0))?;
     for _ in 1..height {
-        term = Term::Succ(Box::new(alloc, term)?);
+        term = Box::new(alloc, Term::Succ(term))?;
     }
     Ok(term)
 }
 
-fn named_tower(alloc: Global, height: u32) -> Result<Named, AllocError> {
-    let mut tree = Named {
-        at: 9,
-        raw: Raw::Name(Ident::from_text(alloc, "x")?),
-    };
+fn named_tower(alloc: Global, height: u32) -> Result<Box<Named>, AllocError> {
+    let raw = Raw::Name(Ident::from_text(alloc, "x")?);
+    let mut tree = Box::new(alloc, Named { at: 9, raw })?;
     for at in 1..height {
-        let raw = Raw::Fst(Box::new(alloc, tree)?);
-        tree = Named { at, raw };
+        let raw = Raw::Fst(tree);
+        tree = Box::new(alloc, Named { at, raw })?;
     }
     Ok(tree)
 }
 
-fn wide_type(alloc: Global, height: u32) -> Result<Ty, AllocError> {
-    let mut ty = Ty::Nat;
+fn wide_type(alloc: Global, height: u32) -> Result<Box<Ty>, AllocError> {
+    let mut ty = Box::new(alloc, Ty::Nat)?;
     for _ in 1..height {
-        ty = Ty::Product(Box::new(alloc, Ty::Nat)?, Box::new(alloc, ty)?);
+        ty = Box::new(alloc, Ty::Product(Box::new(alloc, Ty::Nat)?, ty))?;
     }
     Ok(ty)
 }
 
+fn is_copied_as_succ(alloc: Global, term: &Term) -> Result<bool, AllocError> {
+    let copy = Box::new(alloc, term.copy(alloc)?)?;
+    Ok(matches!(&*copy, Term::Succ(_)))
+}
+
+fn is_copied_at_its_place(alloc: Global, tree: &Named) -> Result<bool, AllocError> {
+    let copy = Box::new(alloc, tree.copy(alloc)?)?;
+    Ok(copy.at == tree.at)
+}
+
+fn high_ones_are_copied(alloc: Global, height: u32) -> Result<bool, AllocError> {
+    let term = tower(alloc, height)?;
+    let tree = named_tower(alloc, height)?;
+    Ok(
+        tree.at == height.saturating_sub(1)
+            && is_copied_as_succ(alloc, &term)?
+            && is_copied_at_its_place(alloc, &tree)?,
+    )
+}
+
 #[test]
 fn the_highest_term_is_copied(rt: HostRuntime) -> Result<(), Fail> {
-    let term = tower(rt.alloc(), GREATEST_HEIGHT)?;
-    let copy = term.copy(rt.alloc())?;
-    assert!(rt; matches!(copy, Term::Succ(_)));
-    let tree = named_tower(rt.alloc(), GREATEST_HEIGHT)?;
-    let copy = tree.copy(rt.alloc())?;
-    assert!(rt; copy.at == GREATEST_HEIGHT - 1);
+    assert!(rt; high_ones_are_copied(rt.alloc(), GREATEST_HEIGHT)?);
     Ok(())
+}
+
+fn is_copied(alloc: Global, ty: &Ty) -> Result<bool, AllocError> {
+    Ok(ty.copy(alloc)?.same(ty))
+}
+
+fn types_differ(alloc: Global) -> Result<bool, AllocError> {
+    let ty = wide_type(alloc, 1000)?;
+    Ok(is_copied(alloc, &ty)? && !ty.same(&*wide_type(alloc, 999)?))
 }
 
 #[test]
 fn types_are_copied_and_compared(rt: HostRuntime) -> Result<(), Fail> {
-    let ty = wide_type(rt.alloc(), 1000)?;
-    let copy = ty.copy(rt.alloc())?;
-    assert!(rt; ty.same(&copy));
-    let other = wide_type(rt.alloc(), 999)?;
-    assert!(rt; !ty.same(&other));
+    assert!(rt; types_differ(rt.alloc())?);
     Ok(())
+}
+
+fn keeps_its_text(alloc: Global, text: &str) -> Result<bool, AllocError> {
+    let name = Ident::from_text(alloc, text)?;
+    Ok(name.copy(alloc)?.as_str() == text)
 }
 
 #[test]
 fn names_keep_their_text(rt: HostRuntime) -> Result<(), Fail> {
-    let name = Ident::from_text(rt.alloc(), "été")?;
-    let copy = name.copy(rt.alloc())?;
-    assert!(rt; copy.as_str() == "été");
+    assert!(rt; keeps_its_text(rt.alloc(), "été")?);
     Ok(())
 }
 
