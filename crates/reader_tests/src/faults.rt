@@ -6,10 +6,7 @@ use std::alloc::{AllocError, Global};
 use std::test::Fail;
 
 pub(crate) fn refusal(alloc: Global, text: &[u8]) -> Option<ReadFault> {
-    match read_program(alloc, text) {
-        Ok(_) => None,
-        Err(fault) => Some(fault),
-    }
+    read_program(alloc, text).err()
 }
 
 /// The fault of a text, or `none`.

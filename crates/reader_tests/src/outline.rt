@@ -10,7 +10,9 @@ use std::test::Fail;
 pub(crate) fn outline(alloc: Global, text: &[u8], placed: bool) -> Result<Vec<u8>, AllocError> {
     let mut out = Vec::new(alloc);
     if let Ok(tree) = read_program(alloc, text) {
-        push(alloc, &mut out, &tree, placed)?;
+        let pushed = push(alloc, &mut out, &tree, placed);
+        drop(tree);
+        pushed?;
     }
     Ok(out)
 }
@@ -25,30 +27,14 @@ fn push(alloc: Global, out: &mut Vec<u8>, tree: &Named, placed: bool) -> Result<
         Raw::Pred(a) => push_part(alloc, out, b"pred", a, placed),
         Raw::Fst(a) => push_part(alloc, out, b"fst", a, placed),
         Raw::Snd(a) => push_part(alloc, out, b"snd", a, placed),
-        Raw::Plus(a, b) => {
-            push_part(alloc, out, b"plus", a, placed)?;
-            push_part(alloc, out, b"", b, placed)
-        }
-        Raw::Minus(a, b) => {
-            push_part(alloc, out, b"minus", a, placed)?;
-            push_part(alloc, out, b"", b, placed)
-        }
-        Raw::Times(a, b) => {
-            push_part(alloc, out, b"times", a, placed)?;
-            push_part(alloc, out, b"", b, placed)
-        }
-        Raw::App(a, b) => {
-            push_part(alloc, out, b"app", a, placed)?;
-            push_part(alloc, out, b"", b, placed)
-        }
-        Raw::Pair(a, b) => {
-            push_part(alloc, out, b"pair", a, placed)?;
-            push_part(alloc, out, b"", b, placed)
-        }
+        Raw::Plus(a, b) => push_parts(alloc, out, b"plus", a, b, placed),
+        Raw::Minus(a, b) => push_parts(alloc, out, b"minus", a, b, placed),
+        Raw::Times(a, b) => push_parts(alloc, out, b"times", a, b, placed),
+        Raw::App(a, b) => push_parts(alloc, out, b"app", a, b, placed),
+        Raw::Pair(a, b) => push_parts(alloc, out, b"pair", a, b, placed),
         Raw::Ifz(c, p, q) => {
             push_part(alloc, out, b"ifz", c, placed)?;
-            push_part(alloc, out, b"", p, placed)?;
-            push_part(alloc, out, b"", q, placed)
+            push_parts(alloc, out, b"", p, q, placed)
         }
         Raw::Fun(x, ty, a) => {
             push_binder(alloc, out, b"fun ", x, ty)?;
@@ -99,6 +85,19 @@ fn push_part(
     out.extend_from_slice(b"(")?;
     push(alloc, out, a, placed)?;
     out.extend_from_slice(b")")
+}
+
+#[cycle(outline)]
+fn push_parts(
+    alloc: Global,
+    out: &mut Vec<u8>,
+    form: &[u8],
+    a: &Named,
+    b: &Named,
+    placed: bool,
+) -> Result<(), AllocError> {
+    push_part(alloc, out, form, a, placed)?;
+    push_part(alloc, out, b"", b, placed)
 }
 
 #[test]

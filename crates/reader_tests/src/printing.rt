@@ -7,10 +7,12 @@ use std::test::Fail;
 
 /// What is printed of the tree that a text is, and nothing where it is none.
 pub(crate) fn respelled(alloc: Global, text: &[u8]) -> Result<Vec<u8>, AllocError> {
-    match read_program(alloc, text) {
-        Ok(tree) => print_term(alloc, &tree),
-        Err(_) => Ok(Vec::new(alloc)),
-    }
+    let Ok(tree) = read_program(alloc, text) else {
+        return Ok(Vec::new(alloc));
+    };
+    let printed = print_term(alloc, &tree);
+    drop(tree);
+    printed
 }
 
 #[test]
