@@ -4,7 +4,7 @@ use Rattle.std.specs.Prelude.{ℕ, ◌+◌, ◌^◌, ◌<◌, List, [], ◌∷�
 use Rattle.pcf_values.specs.declared.named.Named.{Named}
 use Rattle.pcf_values.specs.declared.ty.Ty.{Ty}
 use Rattle.pcf_values.specs.Terms.{TyTree, nat, arrow, product, TermTree}
-use Rattle.pcf_values.specs.Named.{the_fun, the_fix, bind_at, apply_at, pair_at, place_of, named_height}
+use Rattle.pcf_values.specs.Named.{the_fun, the_fix, bind_at, apply_at, pair_at, ifz_at, place_of, named_height}
 use Rattle.pcf_values.specs.Views.{ty_of, named_of}
 use Rattle.pcf_types.specs.declared.fault.TypeFault.{TypeFault}
 use Rattle.pcf_types.specs.declared.scope.Scope.{Scope}
@@ -50,6 +50,9 @@ abbrev pub of_type_in : TyTree → TypeFault → Scope → Named → Result Term
 of_type_in a e s t = of_type a e (type_in s t)
 
 -- of a whole of these parts; the whole's own place plays no part
+abbrev pub ifz_in : Scope → Named → Named → Named → Answer
+ifz_in s c p q = type_of (scope_of s) (ifz_at 0 (named_of c) (named_of p) (named_of q))
+
 abbrev pub fun_in : Scope → List ℕ → Ty → Named → Answer
 fun_in s x t m = type_of (scope_of s) (bind_at 0 the_fun x (ty_of t) (named_of m))
 

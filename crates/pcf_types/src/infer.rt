@@ -4,7 +4,7 @@ ghost use Rattle.std.specs.Prelude.{◌≡◌, ◌≢◌, suc, ◌<◌, ◌+◌,
 ghost use Rattle.pcf_values.specs.Views.{term_of, ty_of, named_of};
 ghost use Rattle.pcf_values.specs.Named.{named_height};
 ghost use Rattle.pcf_types.specs.Checking.{variable, nearest, NumbersFit};
-ghost use Rattle.pcf_types.specs.Views.{scope_of, known_of, Shallow, type_in, number_in, numbers_in, function_in, parts_in, of_type_in, fun_in, fix_in, app_in, pair_in};
+ghost use Rattle.pcf_types.specs.Views.{scope_of, known_of, Shallow, type_in, number_in, numbers_in, function_in, parts_in, of_type_in, ifz_in, fun_in, fix_in, app_in, pair_in};
 ghost use Rattle.pcf_types.specs.declared.fault.TypeFault.TheVariants.{NoMemory};
 
 use crate::TypeFault;
@@ -60,11 +60,7 @@ pub(crate) fn infer<'p>(
             let (a, b) = numbers(alloc, scope, a, b)?;
             Judged::nat(alloc, Term::Times(a, b))
         }
-        Raw::Ifz(c, p, q) => {
-            let c = number(alloc, scope, c)?;
-            let (p, q) = numbers(alloc, scope, p, q)?;
-            Judged::nat(alloc, Term::Ifz(c, p, q))
-        }
+        Raw::Ifz(c, p, q) => choice(alloc, scope, c, p, q),
         Raw::Fun(name, ty, body) => function_of(alloc, scope, name, ty, body),
         Raw::Fix(name, ty, body) => fixed_point(alloc, scope, name, ty, body),
         Raw::App(f, a) => application(alloc, scope, f, a),
@@ -174,6 +170,27 @@ fn of_type(
     ensures fit { IfOk result (λ m. NumbersFit (named_of tree.now)) }
 {
     infer(alloc, scope, tree)?.into_type(ty, fault)
+}
+
+/// The choice by this condition between these parts.
+#[cycle(infer)]
+fn choice<'p>(
+    alloc: Global,
+    scope: &Scope<'_, 'p>,
+    c: &Named,
+    p: &Named,
+    q: &Named,
+) -> Result<Judged<'p>, TypeFault>
+    requires first { Shallow scope.now c.now }
+    requires second { Shallow scope.now p.now }
+    requires third { Shallow scope.now q.now }
+    ensures ok { IfOk result (λ j. ifz_in scope.now c.now p.now q.now ≡ Ok (term_of j.term.value, known_of j.ty)) }
+    ensures fault { IfErr result (λ f. f ≢ NoMemory → ifz_in scope.now c.now p.now q.now ≡ Err f) }
+    ensures fit { IfOk result (λ j. NumbersFit (named_of c.now) × NumbersFit (named_of p.now) × NumbersFit (named_of q.now)) }
+{
+    let c = number(alloc, scope, c)?;
+    let (p, q) = numbers(alloc, scope, p, q)?;
+    Judged::nat(alloc, Term::Ifz(c, p, q))
 }
 
 /// The function of this binder and body.
