@@ -6,6 +6,11 @@ mod Ending
 mod Growing
 mod Indexing
 mod Joining
-mod Merging
+mod Matching
 mod Placing
-mod Spreading
+mod PlacingApp
+mod PlacingBody
+mod PlacingIfz
+mod PlacingTwo
+mod Stacking
+mod Using
