@@ -1,4 +1,5 @@
 pub mod Codes
+pub mod Most
 pub mod Named
 pub mod Terms
 pub mod Typing

@@ -7,6 +7,7 @@
 #![tactic(auto)]
 
 mod ident;
+mod laws;
 pub mod limits;
 mod named;
 mod term;
@@ -15,6 +16,7 @@ mod typed;
 mod val;
 
 pub use ident::Ident;
+pub use laws::law_limits;
 pub use named::{Named, Raw};
 pub use term::Term;
 pub use ty::Ty;
