@@ -1,117 +1,207 @@
 -- The last wires and nodes of each form, once its parts are placed.
-use Rattle.std.proofs.Common.{◌≡◌, ℕ, suc, ◌+◌, ◌<◌, ◌^◌, List, [], ◌∷◌, ◌++◌, length, map, drop, Option, None, Some, refl, sym, ap, ◌∙◌, subst, arith}
-use Rattle.std.proofs.lemmas.List.{length-set, append_assoc, length-append}
-use Rattle.pcf_values.specs.Terms.{TyTree, nat}
-use Rattle.pcf_values.specs.Views.{ty_of}
+use Rattle.std.proofs.Common.{◌≡◌, ℕ, suc, ◌+◌, ◌<◌, ◌^◌, List, [], ◌∷◌, ◌++◌, length, reverse, Option, refl, sym, ap, ◌∙◌, subst, arith}
+use Rattle.std.proofs.lemmas.List.{append_assoc, length-append}
+use Rattle.pcf_values.specs.Terms.{TyTree, nat, arrow}
 use Rattle.net_build.specs.declared.node.Node.{Node}
-use Rattle.net_build.specs.declared.node.Node.TheVariants.{Ifz, App, BoxNode, FixBox}
+use Rattle.net_build.specs.declared.node.Node.TheVariants.{Ifz, App, BoxNode, FixBox, Lam}
 use Rattle.net_build.specs.declared.parts.Parts.{Parts}
+use Rattle.net_build.specs.declared.parts.Loose.{Loose}
+use Rattle.net_build.specs.declared.parts.Placed.{Placed}
+use Rattle.net_build.specs.declared.double.Double.{Double}
+use Rattle.net_build.specs.declared.unary.Unary.{Unary}
 use Rattle.net_build.specs.Nets.{WireTree, value_wire, bang_wire}
-use Rattle.net_build.specs.NetOf.{domain, codomain}
-use Rattle.net_build.specs.Building.{Grows, Has, Run, Whole, Runs, Builds, Finishes, contraction, contractions, exit, exits, steps, binding, bound_by, before, ended, table, types, wire_type, ifz_here, fix_here, app_here, box_here, box_wire, stack}
+use Rattle.net_build.specs.NetOf.{Bundle, Part, contract, doors, bound, bound_wire, domain, codomain}
+use Rattle.net_build.specs.Building.{context_of, spread, Falling, Grows, Spreads, Builds, Bundles, Finishes, Binds, contract_at, doors_at, frees, body_frees, wire_type, unary_node, unary_type, unary_at, double_node, double_type, double_here, lam_here, ifz_here, fix_here, app_here, box_here, box_wire}
 use Rattle.net_build.proofs.Growing.{grows_then, grows_length, new_type, new_inside}
 
-pub after : (s0 s1 s2 : Parts) (ws : List WireTree) (ns : List Node) (ls ms : List (List ℕ)) (p : Whole) (o : ℕ) → Grows s0 s1 ws ns → s0.plan ≡ ls ++ s1.plan → Builds s1 s2 ms p o → Builds s0 s2 (ls ++ ms) (before ws ns p) o
-after s0 s1 s2 ws ns ls ms p o g e b = record {
-  grows = grows_then s0 s1 s2 ws p.wires ns p.nodes g b.grows;
-  out = b.out;
-  inside = b.inside;
-  type = b.type;
-  loose = b.loose;
-  plan = e ∙ ap (λ l. ls ++ l) b.plan ∙ sym (append_assoc ls ms s2.plan);
-}
+-- a bundle and then the last value wire with its node
+abbrev pub end_at : ℕ → Bundle → ℕ → TyTree → Node → Part
+end_at m b d t n = record { wires = b.wires ++ value_wire d t ∷ []; nodes = b.nodes ++ n ∷ []; out = m + length b.wires; type = t; free = b.free }
 
-pub run_wires : (s0 s1 : Parts) (r : Run) → Runs s0 s1 r → length s1.wires.items ≡ length s0.wires.items + length r.wires
-run_wires s0 s1 r g = grows_length s0 s1 r.wires r.nodes g.grows
+-- wires and nodes in front of a part
+abbrev pub before : List WireTree → List Node → Part → Part
+before ws ns p = record { wires = ws ++ p.wires; nodes = ns ++ p.nodes; out = p.out; type = p.type; free = p.free }
 
-run_types : (s0 s1 : Parts) (r : Run) → Runs s0 s1 r → types s1 ≡ types s0
-run_types s0 s1 r g = ap (map ty_of) g.grows.context
+pub after : (s0 s1 s2 : Parts) (ws : List WireTree) (ns : List Node) (p : Part) (r : Placed) → Grows s0 s1 ws ns → Builds s1 s2 p r → Builds s0 s2 (before ws ns p) r
+after s0 s1 s2 ws ns p r g b =
+    let f = subst (λ c. Spreads (length c) p.free r.free.items) g.context b.gives.free in
+    record { grows = grows_then s0 s1 s2 ws p.wires ns p.nodes g b.grows; gives = record { out = b.gives.out; inside = b.gives.inside; type = b.gives.type; free = f } }
 
--- the same stacks are left
-pub steps_count : (node : List ℕ → ℕ → Node) (k n d : ℕ) (c : List TyTree) (bs : List ℕ) (t : List (List ℕ)) → length (steps node k n d c bs t).table ≡ length t
-steps_count node k n d c [] t = refl
-steps_count node k n d c (b ∷ bs) t = let v = n ∷ drop k (stack t b) in steps_count node k (suc n) d c bs _ ∙ length-set t b v
-
-pub run_binders : (s0 s1 : Parts) (r : Run) → Runs s0 s1 r → length r.table ≡ length (table s0) → length (table s0) ≡ length s0.context.items → length (table s1) ≡ length s1.context.items
-run_binders s0 s1 r g e b = ap length g.loose ∙ e ∙ b ∙ ap length (sym g.grows.context)
-
-pub ending : (s0 s1 s2 : Parts) (r : Run) (d : ℕ) (t t' : TyTree) (n : Node) (n' : ℕ → Node) (o : ℕ) → Runs s0 s1 r → Finishes s1 s2 d t n o → t ≡ t' → n ≡ n' (length s1.wires.items) → Builds s0 s2 [] (ended (length s0.wires.items) d t' n' r) o
-ending s0 s1 s2 r d t t' n n' o g f et en =
-    let w = length s0.wires.items + length r.wires in
-    let en' : n ≡ n' w = en ∙ ap n' (run_wires s0 s1 r g) in
-    let h : Grows s1 s2 (value_wire d t' ∷ []) (n' w ∷ []) = subst (λ t. Grows s1 s2 (value_wire d t ∷ []) (n' w ∷ [])) et (subst (λ n. Grows s1 s2 (value_wire d t ∷ []) (n ∷ [])) en' f.grows) in
+pub ending : (s0 s1 s2 : Parts) (b : Bundle) (us : List Loose) (d : ℕ) (t t' : TyTree) (n n' : Node) (r : Placed) → Bundles s0 s1 b us → Finishes s1 s2 d t n us r → t ≡ t' → n ≡ n' →
+    Builds s0 s2 (end_at (length s0.wires.items) b d t' n') r
+ending s0 s1 s2 b us d t t' n n' r g f et en =
+    let h : Grows s1 s2 (value_wire d t' ∷ []) (n' ∷ []) = subst (λ t. Grows s1 s2 (value_wire d t ∷ []) (n' ∷ [])) et (subst (λ n. Grows s1 s2 (value_wire d t ∷ []) (n ∷ [])) en f.grows) in
     record {
-      grows = grows_then s0 s1 s2 r.wires (value_wire d t' ∷ []) r.nodes (n' w ∷ []) g.grows h;
-      out = f.out ∙ run_wires s0 s1 r g;
-      inside = new_inside s1 s2 (value_wire d t') [] (n' w ∷ []) o h f.out;
-      type = new_type s1 s2 (value_wire d t') [] (n' w ∷ []) o h f.out;
-      loose = f.loose ∙ g.loose;
-      plan = sym (f.plan ∙ g.plan);
+      grows = grows_then s0 s1 s2 b.wires (value_wire d t' ∷ []) b.nodes (n' ∷ []) g.grows h;
+      gives = record { out = f.out ∙ grows_length s0 s1 b.wires b.nodes g.grows; inside = new_inside s1 s2 (value_wire d t') [] (n' ∷ []) r.out h f.out; type = new_type s1 s2 (value_wire d t') [] (n' ∷ []) r.out h f.out; free = subst (λ l. Spreads (length s0.context.items) b.free l) (sym f.free) g.free };
     }
 
--- a run and what follows it
-then_ends : (s0 s1 s2 : Parts) (r : Run) (p : Whole) (o : ℕ) → Runs s0 s1 r → Builds s1 s2 [] p o → Builds s0 s2 [] (before r.wires r.nodes p) o
-then_ends s0 s1 s2 r p o g b = after s0 s1 s2 r.wires r.nodes [] [] p o g.grows (sym g.plan) b
+-- what is to be done next, after a bundle
+pub next_contract : (s0 s1 : Parts) (b : Bundle) (us ts : List Loose) (d : ℕ) → Bundles s0 s1 b us →
+    contract_at s1 d ts us ≡ contract (length s0.wires.items + length b.wires) d (context_of s0.context.items) (spread (length s0.context.items) (reverse ts)) b.free
+next_contract s0 s1 b us ts d g =
+    let n = grows_length s0 s1 b.wires b.nodes g.grows in
+    let f : spread (length s1.context.items) (reverse us) ≡ b.free = ap (λ c. spread (length c) (reverse us)) g.grows.context ∙ g.free.spreads in
+    λ k. contract (n k) d (context_of (g.grows.context k)) (spread (length (g.grows.context k)) (reverse ts)) (f k)
 
--- steps that follow a run are those of the state after it
-pub next_steps : (node : List ℕ → ℕ → Node) (k : ℕ) (s0 s1 : Parts) (r : Run) (d m : ℕ) (bs : List ℕ) → Runs s0 s1 r → m ≡ length s1.wires.items → steps node k (length s1.wires.items) d (types s1) bs (table s1) ≡ steps node k m d (types s0) bs r.table
-next_steps node k s0 s1 r d m bs g e = λ j. steps node k (sym e j) d (run_types s0 s1 r g j) bs (g.loose j)
+pub next_doors : (s0 s1 : Parts) (b : Bundle) (us : List Loose) (d : ℕ) → Bundles s0 s1 b us → doors_at s1 d us ≡ doors (length s0.wires.items + length b.wires) d (context_of s0.context.items) b.free
+next_doors s0 s1 b us d g =
+    let n = grows_length s0 s1 b.wires b.nodes g.grows in
+    let f : spread (length s1.context.items) (reverse us) ≡ b.free = ap (λ c. spread (length c) (reverse us)) g.grows.context ∙ g.free.spreads in
+    λ k. doors (n k) d (context_of (g.grows.context k)) (f k)
 
-pub next_has : (k : ℕ) (s0 s1 : Parts) (r : Run) (m : ℕ) (bs : List ℕ) → Runs s0 s1 r → m ≡ length s1.wires.items → Has k m bs r.table → Has k (length s1.wires.items) bs (table s1)
-next_has k s0 s1 r m bs g e h = subst (λ m. Has k m bs (table s1)) e (subst (Has k m bs) (sym g.loose) h)
+pub falling_at : (s0 s1 : Parts) (b : Bundle) (us : List Loose) → Bundles s0 s1 b us → Falling (length s1.context.items) (reverse us)
+falling_at s0 s1 b us g = subst (λ c. Falling (length c) (reverse us)) (sym g.grows.context) g.free.falling
+
+pub falling_kept : (s0 s1 : Parts) (b : Bundle) (us ts : List Loose) → Bundles s0 s1 b us → Falling (length s0.context.items) (reverse ts) → Falling (length s1.context.items) (reverse ts)
+falling_kept s0 s1 b us ts g h = subst (λ c. Falling (length c) (reverse ts)) (sym g.grows.context) h
 
 -- room for a list is room for its front, and for what comes next
 pub room_front : {A : Type 0} (n : ℕ) (a b : List A) → n + length (a ++ b) < 2 ^ 32 → n + length a < 2 ^ 32
 room_front n a b l = omega (arith, l, length-append a b)
 
-pub room_after : (s0 s1 : Parts) (r : Run) (b : List WireTree) → Runs s0 s1 r → length s0.wires.items + length (r.wires ++ b) < 2 ^ 32 → length s1.wires.items + length b < 2 ^ 32
-room_after s0 s1 r b g l = omega (arith, l, run_wires s0 s1 r g, length-append r.wires b)
+pub room_back : {A : Type 0} (n : ℕ) (a b : List A) → n + length (a ++ b) < 2 ^ 32 → n + length a + length b < 2 ^ 32
+room_back n a b l = omega (arith, l, length-append a b)
 
-pub ifz_ending : (s0 s1 s2 s3 : Parts) (d o o' o'' : ℕ) (bs cs : List ℕ) (n : Node) (x : ℕ) → Runs s0 s1 (contractions (length s0.wires.items) d (types s0) cs (table s0)) →
-    Runs s1 s2 (contractions (length s1.wires.items) d (types s1) bs (table s1)) → n ≡ Ifz o o' o'' (length s2.wires.items) → Finishes s2 s3 d nat n x → Builds s0 s3 [] (ifz_here s0 d o o' o'' bs cs) x
-ifz_ending s0 s1 s2 s3 d o o' o'' bs cs n x g h en f =
-    let i = contractions (length s0.wires.items) d (types s0) cs (table s0) in
+-- room for one wire, where another one still comes
+pub room_next : {A : Type 0} (n m : ℕ) (a : List A) (x : A) → m ≡ n + length a → n + length (a ++ x ∷ []) < 2 ^ 32 → m < 2 ^ 32
+room_next n m a x e l = omega (arith, l, e, length-append a (x ∷ []))
+
+pub bundle_wires : (s0 s1 : Parts) (b : Bundle) (us : List Loose) → Bundles s0 s1 b us → length s1.wires.items ≡ length s0.wires.items + length b.wires
+bundle_wires s0 s1 b us g = grows_length s0 s1 b.wires b.nodes g.grows
+
+pub unary_ending : (s0 s1 s2 : Parts) (form : Unary) (d : ℕ) (p : Part) (r : Placed) (t : TyTree) (n : Node) (x : Placed) → Builds s0 s1 p r → t ≡ unary_type form (wire_type s1 r.out) → n ≡ unary_node form r.out (length s1.wires.items) →
+    Finishes s1 s2 d t n r.free.items x → Builds s0 s2 (unary_at form s0 d p) x
+unary_ending s0 s1 s2 form d p r t n x b et en f =
+    let u : Bundle = record { wires = p.wires; nodes = p.nodes; free = p.free } in
+    let w = length s0.wires.items + length p.wires in
+    let e : n ≡ unary_node form p.out w = en ∙ (λ k. unary_node form (b.gives.out k) (grows_length s0 s1 p.wires p.nodes b.grows k)) in
+    ending s0 s1 s2 u r.free.items d t (unary_type form p.type) n (unary_node form p.out w) x (record { grows = b.grows; free = b.gives.free }) f (et ∙ ap (unary_type form) b.gives.type) e
+
+pub double_ending : (s0 s1 s2 : Parts) (form : Double) (d : ℕ) (r r' : Placed) (us : List Loose) (t : TyTree) (n : Node) (x : Placed) → Bundles s0 s1 (contract_at s0 d r.free.items r'.free.items) us →
+    t ≡ double_type form (wire_type s0 r.out) (wire_type s0 r'.out) → n ≡ double_node form r.out r'.out (length s1.wires.items) → Finishes s1 s2 d t n us x → Builds s0 s2 (double_here form s0 d r r') x
+double_ending s0 s1 s2 form d r r' us t n x g et en f =
+    let c = contract_at s0 d r.free.items r'.free.items in
+    let w = length s0.wires.items + length c.wires in
+    ending s0 s1 s2 c us d t (double_type form (wire_type s0 r.out) (wire_type s0 r'.out)) n (double_node form r.out r'.out w) x g f et (en ∙ ap (double_node form r.out r'.out) (bundle_wires s0 s1 c us g))
+
+-- ifz: the condition's contractions are done after the branches'
+pub ifz_ending : (s0 s1 s2 s3 : Parts) (d : ℕ) (r r' r'' : Placed) (us vs : List Loose) (n : Node) (x : Placed) → Bundles s0 s1 (contract_at s0 d r'.free.items r''.free.items) us → Bundles s1 s2 (contract_at s1 d r.free.items us) vs →
+    n ≡ Ifz r.out r'.out r''.out (length s2.wires.items) → Finishes s2 s3 d nat n vs x → Builds s0 s3 (ifz_here s0 d r r' r'') x
+ifz_ending s0 s1 s2 s3 d r r' r'' us vs n x g h en f =
+    let i = contract_at s0 d r'.free.items r''.free.items in
     let m = length s0.wires.items + length i.wires in
-    let q : m ≡ length s1.wires.items = sym (run_wires s0 s1 i g) in
-    let j = contractions m d (types s0) bs i.table in
-    let h' : Runs s1 s2 j = subst (Runs s1 s2) (next_steps contraction 2 s0 s1 i d m bs g q) h in
-    then_ends s0 s1 s3 i (ended m d nat (Ifz o o' o'') j) x g (subst (λ m'. Builds s1 s3 [] (ended m' d nat (Ifz o o' o'') j) x) (sym q) (ending s1 s2 s3 j d nat nat n (Ifz o o' o'') x h' f refl en))
+    let j = contract m d (context_of s0.context.items) (frees s0 r) i.free in
+    let e : contract_at s1 d r.free.items us ≡ j = next_contract s0 s1 i us r.free.items d g in
+    let h' : Bundles s1 s2 j vs = subst (λ b. Bundles s1 s2 b vs) e h in
+    let q : length s1.wires.items ≡ m = bundle_wires s0 s1 i us g in
+    let p : length s2.wires.items ≡ m + length j.wires = bundle_wires s1 s2 j vs h' ∙ ap (λ m. m + length j.wires) q in
+    let b = ending s1 s2 s3 j vs d nat nat n (Ifz r.out r'.out r''.out (m + length j.wires)) x h' f refl (en ∙ ap (λ w. Ifz r.out r'.out r''.out w) p) in
+    after s0 s1 s3 i.wires i.nodes (end_at m j d nat (Ifz r.out r'.out r''.out (m + length j.wires))) x g.grows (subst (λ m'. Builds s1 s3 (end_at m' j d nat (Ifz r.out r'.out r''.out (m + length j.wires))) x) q b)
 
-pub fix_ending : (s0 s1 s2 s3 : Parts) (d d' : ℕ) (a t : TyTree) (o : ℕ) (u : Option ℕ) (y : ℕ) (bs : List ℕ) (n : Node) (x : ℕ) → d' ≡ suc d → Runs s0 s1 (binding (length s0.wires.items) d' a u (table s0)) → y ≡ bound_by (length s0.wires.items) u →
-    Runs s1 s2 (exits (length s1.wires.items) d (types s1) bs (table s1)) → t ≡ a → n ≡ FixBox o y (length s2.wires.items) → Finishes s2 s3 d t n x → Builds s0 s3 [] (fix_here s0 d a o u bs) x
-fix_ending s0 s1 s2 s3 d d' a t o u y bs n x ed g ey h et en f =
-    let b = binding (length s0.wires.items) (suc d) a u (table s0) in
-    let g' : Runs s0 s1 b = subst (λ d. Runs s0 s1 (binding (length s0.wires.items) d a u (table s0))) ed g in
+pub ifz_room : (s0 s1 : Parts) (d : ℕ) (r r' r'' : Placed) (us : List Loose) → Bundles s0 s1 (contract_at s0 d r'.free.items r''.free.items) us → length s0.wires.items + length (ifz_here s0 d r r' r'').wires < 2 ^ 32 →
+    length s1.wires.items + suc (length (contract_at s1 d r.free.items us).wires) < 2 ^ 32
+ifz_room s0 s1 d r r' r'' us g l =
+    let i = contract_at s0 d r'.free.items r''.free.items in
+    let m = length s0.wires.items + length i.wires in
+    let j = contract m d (context_of s0.context.items) (frees s0 r) i.free in
+    let e : length (contract_at s1 d r.free.items us).wires ≡ length j.wires = ap (λ b. length b.wires) (next_contract s0 s1 i us r.free.items d g) in
+    omega (arith, l, e, bundle_wires s0 s1 i us g, length-append i.wires (j.wires ++ value_wire d nat ∷ []), length-append j.wires (value_wire d nat ∷ []))
+
+-- the binder's wire, as a bundle
+pub binds_bundle : (s0 s1 : Parts) (d : ℕ) (a : TyTree) (us vs : List Loose) (x : ℕ) → Binds s0 s1 d a us vs x → Bundles s0 s1 (bound (length s0.wires.items) d a (spread (suc (length s0.context.items)) (reverse us))) vs
+binds_bundle s0 s1 d a us vs x h = record { grows = h.grows; free = h.free }
+
+pub lam_ending : (s0 s1 s2 : Parts) (d : ℕ) (a t : TyTree) (r : Placed) (us : List Loose) (y : ℕ) (n : Node) (x : Placed) → Binds s0 s1 d a r.free.items us y → t ≡ arrow a (wire_type s0 r.out) →
+    n ≡ Lam r.out y (length s1.wires.items) → Finishes s1 s2 d t n us x → Builds s0 s2 (lam_here s0 d a r) x
+lam_ending s0 s1 s2 d a t r us y n x g et en f =
+    let b = bound (length s0.wires.items) d a (body_frees s0 r) in
+    let g' = binds_bundle s0 s1 d a r.free.items us y g in
+    let w = length s0.wires.items + length b.wires in
+    let p : length s1.wires.items ≡ w = bundle_wires s0 s1 b us g' in
+    let node = Lam r.out (bound_wire (length s0.wires.items) (body_frees s0 r)) w in
+    ending s0 s1 s2 b us d t (arrow a (wire_type s0 r.out)) n node x g' f et (en ∙ (λ k. Lam r.out (g.wire k) (p k)))
+
+pub fix_ending : (s0 s1 s2 s3 : Parts) (d : ℕ) (a t : TyTree) (r : Placed) (us vs : List Loose) (y : ℕ) (n : Node) (x : Placed) → Binds s0 s1 (suc d) a r.free.items us y → Bundles s1 s2 (doors_at s1 d us) vs → t ≡ a →
+    n ≡ FixBox r.out y (length s2.wires.items) → Finishes s2 s3 d t n vs x → Builds s0 s3 (fix_here s0 d a r) x
+fix_ending s0 s1 s2 s3 d a t r us vs y n x g h et en f =
+    let b = bound (length s0.wires.items) (suc d) a (body_frees s0 r) in
+    let g' = binds_bundle s0 s1 (suc d) a r.free.items us y g in
     let m = length s0.wires.items + length b.wires in
-    let q : m ≡ length s1.wires.items = sym (run_wires s0 s1 b g') in
-    let e = exits m d (types s0) bs b.table in
-    let h' : Runs s1 s2 e = subst (Runs s1 s2) (next_steps exit 1 s0 s1 b d m bs g' q) h in
-    let node = FixBox o (bound_by (length s0.wires.items) u) in
-    then_ends s0 s1 s3 b (ended m d a node e) x g' (subst (λ m'. Builds s1 s3 [] (ended m' d a node e) x) (sym q) (ending s1 s2 s3 e d t a n node x h' f et (en ∙ ap (λ y. FixBox o y (length s2.wires.items)) ey)))
+    let e = doors m d (context_of s0.context.items) b.free in
+    let h' : Bundles s1 s2 e vs = subst (λ b. Bundles s1 s2 b vs) (next_doors s0 s1 b us d g') h in
+    let q : length s1.wires.items ≡ m = bundle_wires s0 s1 b us g' in
+    let p : length s2.wires.items ≡ m + length e.wires = bundle_wires s1 s2 e vs h' ∙ ap (λ m. m + length e.wires) q in
+    let node = FixBox r.out (bound_wire (length s0.wires.items) (body_frees s0 r)) (m + length e.wires) in
+    let en' : n ≡ node = en ∙ (λ k. FixBox r.out (g.wire k) (p k)) in
+    let z = ending s1 s2 s3 e vs d t a n node x h' f et en' in
+    after s0 s1 s3 b.wires b.nodes (end_at m e d a node) x g.grows (subst (λ m'. Builds s1 s3 (end_at m' e d a node) x) q z)
 
-pub app_ending : (s0 s1 s2 s3 : Parts) (d : ℕ) (a t : TyTree) (o o' b : ℕ) (bs ls : List ℕ) (n : Node) (x : ℕ) → a ≡ domain (wire_type s0 o) → t ≡ codomain (wire_type s0 o) → Runs s0 s1 (box_here s0 d a o' ls) → b ≡ box_wire s0 d ls →
-    Runs s1 s2 (contractions (length s1.wires.items) d (types s1) bs (table s1)) → n ≡ App o b (length s2.wires.items) → Finishes s2 s3 d t n x → Builds s0 s3 [] (app_here s0 d o o' bs ls) x
-app_ending s0 s1 s2 s3 d a t o o' b bs ls n x ea et g eb h en f =
-    let ty = wire_type s0 o in
-    let e = exits (length s0.wires.items) d (types s0) ls (table s0) in
-    let k = box_here s0 d (domain ty) o' ls in
-    let w = box_wire s0 d ls in
-    let g' : Runs s0 s1 k = subst (λ a. Runs s0 s1 (box_here s0 d a o' ls)) ea g in
-    let q : suc w ≡ length s1.wires.items = omega (arith, run_wires s0 s1 k g', length-append e.wires (bang_wire d (domain ty) ∷ [])) in
-    let c = contractions (suc w) d (types s0) bs e.table in
-    let h' : Runs s1 s2 c = subst (Runs s1 s2) (next_steps contraction 2 s0 s1 k d (suc w) bs g' q) h in
-    let p = ended (suc w) d (codomain ty) (App o w) c in
-    let z : Builds s1 s3 [] p x = subst (λ m'. Builds s1 s3 [] (ended m' d (codomain ty) (App o w) c) x) (sym q) (ending s1 s2 s3 c d t (codomain ty) n (App o w) x h' f et (en ∙ ap (λ b. App o b (length s2.wires.items)) eb)) in
-    let aw = append_assoc e.wires (bang_wire d (domain ty) ∷ []) p.wires in
-    let an = append_assoc e.nodes (BoxNode o' w ∷ []) p.nodes in
-    subst (λ r. Builds s0 s3 [] r x) (λ j. record { wires = aw j; nodes = an j; out = p.out; type = p.type; table = p.table }) (then_ends s0 s1 s3 k p x g' z)
+pub fix_room : (s0 s1 : Parts) (d : ℕ) (a : TyTree) (r : Placed) (us : List Loose) (y : ℕ) → Binds s0 s1 (suc d) a r.free.items us y → length s0.wires.items + length (fix_here s0 d a r).wires < 2 ^ 32 →
+    length s1.wires.items + suc (length (doors_at s1 d us).wires) < 2 ^ 32
+fix_room s0 s1 d a r us y g l =
+    let b = bound (length s0.wires.items) (suc d) a (body_frees s0 r) in
+    let g' = binds_bundle s0 s1 (suc d) a r.free.items us y g in
+    let m = length s0.wires.items + length b.wires in
+    let x = doors m d (context_of s0.context.items) b.free in
+    let e : length (doors_at s1 d us).wires ≡ length x.wires = ap (λ b. length b.wires) (next_doors s0 s1 b us d g') in
+    omega (arith, l, e, bundle_wires s0 s1 b us g', length-append b.wires (x.wires ++ value_wire d a ∷ []), length-append x.wires (value_wire d a ∷ []))
 
--- a binding leaves the stacks as they are
-pub binding_table : (n d : ℕ) (a : TyTree) (u : Option ℕ) (t : List (List ℕ)) → (binding n d a u t).table ≡ t
-binding_table n d a None t = refl
-binding_table n d a (Some x) t = refl
+pub box_bundles : (s0 s1 s2 : Parts) (d : ℕ) (a : TyTree) (r : Placed) (us : List Loose) (o : ℕ) → Bundles s0 s1 (doors_at s0 d r.free.items) us → o ≡ length s1.wires.items →
+    Grows s1 s2 (bang_wire d a ∷ []) (BoxNode r.out o ∷ []) → Bundles s0 s2 (box_here s0 d a r) us
+box_bundles s0 s1 s2 d a r us o g eo h =
+    let e = doors_at s0 d r.free.items in
+    let p : o ≡ length s0.wires.items + length e.wires = eo ∙ bundle_wires s0 s1 e us g in
+    let h' = subst (λ o. Grows s1 s2 (bang_wire d a ∷ []) (BoxNode r.out o ∷ [])) p h in
+    record { grows = grows_then s0 s1 s2 e.wires (bang_wire d a ∷ []) e.nodes (BoxNode r.out (length s0.wires.items + length e.wires) ∷ []) g.grows h'; free = g.free }
 
-pub box_wires : (s0 s1 : Parts) (d : ℕ) (a : TyTree) (o : ℕ) (ls : List ℕ) → Runs s0 s1 (box_here s0 d a o ls) → suc (box_wire s0 d ls) ≡ length s1.wires.items
-box_wires s0 s1 d a o ls g =
-    let e = exits (length s0.wires.items) d (types s0) ls (table s0) in
-    omega (arith, run_wires s0 s1 (box_here s0 d a o ls) g, length-append e.wires (bang_wire d a ∷ []))
+-- the app's tail, with the box as a bundle
+app_tail_at : ℕ → ℕ → TyTree → Placed → List (Option ℕ) → Parts → Bundle → Part
+app_tail_at b d t r f s e = end_at (suc b) (contract (suc b) d (context_of s.context.items) f e.free) d (codomain t) (App r.out b (suc b + length (contract (suc b) d (context_of s.context.items) f e.free).wires))
+
+pub app_ending : (s0 s1 s2 s3 : Parts) (d : ℕ) (a t : TyTree) (r r' : Placed) (us vs : List Loose) (o : ℕ) (n : Node) (x : Placed) → a ≡ domain (wire_type s0 r.out) → t ≡ codomain (wire_type s0 r.out) →
+    Bundles s0 s1 (box_here s0 d a r') us → o ≡ box_wire s0 d r' → Bundles s1 s2 (contract_at s1 d r.free.items us) vs → n ≡ App r.out o (length s2.wires.items) → Finishes s2 s3 d t n vs x →
+    Builds s0 s3 (app_here s0 d r r') x
+app_ending s0 s1 s2 s3 d a t r r' us vs o n x ea et g eo h en f =
+    let e = doors_at s0 d r'.free.items in
+    let ty = wire_type s0 r.out in
+    let k = box_here s0 d (domain ty) r' in
+    let b = length s0.wires.items + length e.wires in
+    let g' : Bundles s0 s1 k us = subst (λ a. Bundles s0 s1 (box_here s0 d a r') us) ea g in
+    let m : length s0.wires.items + length k.wires ≡ suc b = omega (arith, length-append e.wires (bang_wire d (domain ty) ∷ [])) in
+    let c = contract (suc b) d (context_of s0.context.items) (frees s0 r) e.free in
+    let e' : contract_at s1 d r.free.items us ≡ c = next_contract s0 s1 k us r.free.items d g' ∙ ap (λ m. contract m d (context_of s0.context.items) (frees s0 r) e.free) m in
+    let h' : Bundles s1 s2 c vs = subst (λ b. Bundles s1 s2 b vs) e' h in
+    let q : length s1.wires.items ≡ suc b = bundle_wires s0 s1 k us g' ∙ m in
+    let p : length s2.wires.items ≡ suc b + length c.wires = bundle_wires s1 s2 c vs h' ∙ ap (λ m. m + length c.wires) q in
+    let node = App r.out b (suc b + length c.wires) in
+    let en' : n ≡ node = en ∙ (λ k. App r.out (eo k) (p k)) in
+    let z = ending s1 s2 s3 c vs d t (codomain ty) n node x h' f et en' in
+    let z' : Builds s1 s3 (end_at (suc b) c d (codomain ty) node) x = subst (λ m'. Builds s1 s3 (end_at m' c d (codomain ty) node) x) q z in
+    let y = after s0 s1 s3 k.wires k.nodes (end_at (suc b) c d (codomain ty) node) x g'.grows z' in
+    let aw = append_assoc e.wires (bang_wire d (domain ty) ∷ []) (c.wires ++ value_wire d (codomain ty) ∷ []) in
+    let an = append_assoc e.nodes (BoxNode r'.out b ∷ []) (c.nodes ++ node ∷ []) in
+    record {
+      grows = subst (λ w. Grows s0 s3 w (e.nodes ++ (BoxNode r'.out b ∷ (c.nodes ++ node ∷ [])))) aw (subst (λ l. Grows s0 s3 ((e.wires ++ bang_wire d (domain ty) ∷ []) ++ (c.wires ++ value_wire d (codomain ty) ∷ [])) l) an y.grows);
+      gives = record { out = y.gives.out; inside = y.gives.inside; type = y.gives.type; free = y.gives.free };
+    }
+
+pub app_room_box : (s0 : Parts) (d : ℕ) (a : TyTree) (r r' : Placed) → a ≡ domain (wire_type s0 r.out) → length s0.wires.items + length (app_here s0 d r r').wires < 2 ^ 32 → length s0.wires.items + length (box_here s0 d a r').wires < 2 ^ 32
+app_room_box s0 d a r r' ea l =
+    let e = doors_at s0 d r'.free.items in
+    let b = length s0.wires.items + length e.wires in
+    let c = contract (suc b) d (context_of s0.context.items) (frees s0 r) e.free in
+    omega (arith, l, length-append e.wires (bang_wire d a ∷ []), length-append e.wires (bang_wire d (domain (wire_type s0 r.out)) ∷ (c.wires ++ value_wire d (codomain (wire_type s0 r.out)) ∷ [])))
+
+pub app_room : (s0 s1 : Parts) (d : ℕ) (a : TyTree) (r r' : Placed) (us : List Loose) → Bundles s0 s1 (box_here s0 d a r') us → length s0.wires.items + length (app_here s0 d r r').wires < 2 ^ 32 →
+    length s1.wires.items + suc (length (contract_at s1 d r.free.items us).wires) < 2 ^ 32
+app_room s0 s1 d a r r' us g l =
+    let e = doors_at s0 d r'.free.items in
+    let ty = wire_type s0 r.out in
+    let k = box_here s0 d a r' in
+    let b = length s0.wires.items + length e.wires in
+    let m : length s0.wires.items + length k.wires ≡ suc b = omega (arith, length-append e.wires (bang_wire d a ∷ [])) in
+    let c = contract (suc b) d (context_of s0.context.items) (frees s0 r) e.free in
+    let e' : contract_at s1 d r.free.items us ≡ c = next_contract s0 s1 k us r.free.items d g ∙ ap (λ m. contract m d (context_of s0.context.items) (frees s0 r) e.free) m in
+    let z : length (contract_at s1 d r.free.items us).wires ≡ length c.wires = ap (λ b. length b.wires) e' in
+    omega (arith, l, z, m, bundle_wires s0 s1 k us g, length-append e.wires (bang_wire d (domain ty) ∷ (c.wires ++ value_wire d (codomain ty) ∷ [])), length-append c.wires (value_wire d (codomain ty) ∷ []))

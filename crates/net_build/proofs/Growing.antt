@@ -1,12 +1,17 @@
 -- What was added, step by step.
-use Rattle.std.proofs.Common.{◌≡◌, ℕ, zero, suc, List, [], ◌∷◌, length, refl, sym, ap, ◌++◌, ◌+◌, ◌<◌, ◌∙◌, map, Some, arith}
+use Rattle.std.proofs.Common.{◌≡◌, ℕ, zero, suc, List, [], ◌∷◌, length, refl, subst, sym, ap, ◌++◌, ◌+◌, ◌<◌, ◌∙◌, map, Some, arith}
 use Rattle.std.specs.Prelude.{slice_get}
 use Rattle.std.proofs.lemmas.List.{append_assoc, append-nil, length-append, length-map}
+use Rattle.pcf_values.specs.Terms.{nat, num}
+use Rattle.net_build.specs.declared.node.Node.TheVariants.{Const}
 use Rattle.net_build.specs.declared.node.Node.{Node}
-use Rattle.net_build.specs.Nets.{WireTree}
+use Rattle.net_build.specs.Nets.{WireTree, value_wire}
 use Rattle.net_build.specs.Views.{wire_of}
 use Rattle.net_build.specs.declared.parts.Parts.{Parts}
-use Rattle.net_build.specs.Building.{Grows, type_on, wire_type}
+use Rattle.net_build.specs.declared.parts.Loose.{Loose}
+use Rattle.net_build.specs.declared.parts.Placed.{Placed}
+use Rattle.net_build.specs.Building.{Builds, Finishes, Grows, part_at, type_on, wire_type}
+use Rattle.net_build.proofs.Spreading.{none_spreads}
 
 pub grows_none : (a : Parts) → Grows a a [] []
 grows_none a = record { wires = sym (append-nil (map wire_of a.wires.items)); nodes = sym (append-nil a.nodes.items); context = refl }
@@ -55,3 +60,8 @@ new_type a b w ws ns n g e =
 
 pub new_inside : (a b : Parts) (w : WireTree) (ws : List WireTree) (ns : List Node) (n : ℕ) → Grows a b (w ∷ ws) ns → n ≡ length a.wires.items → n < length b.wires.items
 new_inside a b w ws ns n g e = omega (arith, e, grows_length a b (w ∷ ws) ns g)
+
+pub number_builds : (old new : Parts) (d v w : ℕ) (us : List Loose) (r : Placed) → w ≡ length old.wires.items → us ≡ [] → Finishes old new d nat (Const v w) us r → Builds old new (part_at old d (num v)) r
+number_builds old new d v w us r q e h =
+    let g : Grows old new (value_wire d nat ∷ []) (Const v (length old.wires.items) ∷ []) = subst (λ w. Grows old new (value_wire d nat ∷ []) (Const v w ∷ [])) q h.grows in
+    record { grows = g; gives = record { out = h.out; inside = new_inside old new (value_wire d nat) [] (Const v (length old.wires.items) ∷ []) r.out g h.out; type = new_type old new (value_wire d nat) [] (Const v (length old.wires.items) ∷ []) r.out g h.out; free = rw h.free (none_spreads old.context.items us e) } }

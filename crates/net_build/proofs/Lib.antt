@@ -6,11 +6,6 @@ mod Ending
 mod Growing
 mod Indexing
 mod Joining
-mod Matching
+mod Merging
 mod Placing
-mod PlacingApp
-mod PlacingBody
-mod PlacingIfz
-mod PlacingTwo
-mod Stacking
-mod Using
+mod Spreading

@@ -1,162 +1,25 @@
--- A term whose parts are placed one after another is placed as the definition says: what serves for every form, and the forms without parts.
-use Rattle.std.proofs.Common.{◌≡◌, ℕ, Bool, zero, suc, ◌+◌, ◌-◌, ◌<◌, ◌≤◌, List, [], ◌∷◌, ◌++◌, length, map, reverse, set, get_or, Option, refl, sym, ap, ◌∙◌, subst, arith}
+-- A term whose parts are placed one after another is placed as the definition says.
+use Rattle.std.proofs.Common.{◌≡◌, ℕ, zero, suc, ◌+◌, ◌-◌, ◌⊎◌, ◌<◌, ◌≤◌, ◌^◌, List, [], ◌∷◌, ◌++◌, length, map, reverse, Some, None, refl, sym, ap, ◌∙◌, subst, inl, inr, arith}
 use Rattle.std.specs.Prelude.{slice_get}
-use Rattle.std.proofs.Math.Seq.{get_or-append_seam, set-append_seam}
-use Rattle.std.proofs.lemmas.List.{append-nil, append_cancel_left, get_or_append_left, length-map, length-reverse, reverse-reverse, set-append_left}
+use Rattle.std.proofs.lemmas.Bool.{cases_lt, lt-ltb, le-ltb}
+use Rattle.std.proofs.lemmas.List.{append-nil, length-append, reverse-append}
 use Rattle.pcf_values.specs.declared.ty.Ty.{Ty}
-use Rattle.pcf_values.specs.Terms.{TyTree, TermTree, nat, num, var}
-use Rattle.net_plan.specs.Plans.{both, either, outer, places, plan, uses}
+use Rattle.pcf_values.specs.Terms.{TyTree, TermTree, var, ifz, lam, fix, app}
+use Rattle.pcf_values.specs.Views.{ty_of}
 use Rattle.net_build.specs.declared.node.Node.{Node}
-use Rattle.net_build.specs.declared.node.Node.TheVariants.{Const, Der}
+use Rattle.net_build.specs.declared.node.Node.TheVariants.{Der}
 use Rattle.net_build.specs.declared.parts.Parts.{Parts}
-use Rattle.net_build.specs.declared.unary.Unary.{Unary}
-use Rattle.net_build.specs.Nets.{value_wire, var_wire}
-use Rattle.net_build.specs.NetOf.{Part, part, contract, doors, none_free, one_free, type_or_nat}
+use Rattle.net_build.specs.declared.parts.Loose.{Loose}
+use Rattle.net_build.specs.declared.parts.Placed.{Placed}
+use Rattle.net_build.specs.declared.double.Double.{Double}
+use Rattle.net_build.specs.Nets.{value_wire, bang_wire, var_wire}
+use Rattle.net_build.specs.NetOf.{Part, part, contract, doors, bound, domain, codomain, none_free, one_free, type_or_nat}
 use Rattle.net_build.specs.Views.{wire_of}
-use Rattle.net_build.specs.Building.{Grows, Has, Whole, Builds, Finishes, Planned, contractions, exits, before, context_of, table, types, wire_type, on_top, with_free, whole, run_of, part_at, second_at, third_at, unary_at, unary_node, unary_type}
-use Rattle.net_build.proofs.Growing.{grows_then, grows_length, new_type, new_inside}
-use Rattle.net_build.proofs.Ending.{after}
-use Rattle.net_build.proofs.Matching.{last_of, context_length, context_levels, contract_has, contract_matches, doors_have, doors_match, on_top_length}
-use Rattle.net_build.proofs.Using.{long, part_long, part_uses, present}
-
--- no loose wires are added
-pub nothing_on : (g : List TyTree) (t : List (List ℕ)) → on_top (none_free g) t ≡ t
-nothing_on [] t = refl
-nothing_on (a ∷ g) [] = refl
-nothing_on (a ∷ g) (s ∷ t) = ap (λ t. s ∷ t) (nothing_on g t)
-
-pub nothing_free : (g : List TyTree) (t : List (List ℕ)) → with_free (none_free g) t ≡ t
-nothing_free g t = ap reverse (nothing_on g (reverse t)) ∙ reverse-reverse t
-
--- one is added
-one_on : (g : List TyTree) (t : List (List ℕ)) (i j w : ℕ) → length g ≡ length t → i < length t → j ≡ length t - 1 - i → reverse (on_top (one_free g i w) t) ≡ set (reverse t) j (w ∷ get_or (reverse t) j [])
-one_on [] [] i j w h l e = absurd (omega arith)
-one_on [] (s ∷ t) i j w h l e = absurd (omega arith)
-one_on (a ∷ g) [] i j w h l e = absurd (omega arith)
-one_on (a ∷ g) (s ∷ t) zero j w h l e =
-    let p : j ≡ length (reverse t) = omega (arith, e, length-reverse t) in
-    let q : get_or (reverse (s ∷ t)) j [] ≡ s = (λ k. get_or (last_of t s k) (p k) []) ∙ get_or-append_seam (reverse t) s [] [] in
-    ap (λ t. reverse ((w ∷ s) ∷ t)) (nothing_on g t) ∙ last_of t (w ∷ s) ∙ sym ((λ k. set (last_of t s k) (p k) (w ∷ q k)) ∙ set-append_seam (reverse t) s [] (w ∷ s))
-one_on (a ∷ g) (s ∷ t) (suc i) j w h l e =
-    let p : j < length (reverse t) = omega (arith, e, l, length-reverse t) in
-    let q : get_or (reverse (s ∷ t)) j [] ≡ get_or (reverse t) j [] = ap (λ t. get_or t j []) (last_of t s) ∙ get_or_append_left (reverse t) (s ∷ []) [] j p in
-    last_of (on_top (one_free g i w) t) s ∙ ap (λ t. t ++ s ∷ []) (one_on g t i j w (omega arith) (omega arith) (omega (arith, e, l))) ∙ sym (set-append_left (reverse t) (s ∷ []) j (w ∷ get_or (reverse t) j []) p) ∙ sym (λ k. set (last_of t s k) j (w ∷ q k))
-
-none_on : (g : List TyTree) (t : List (List ℕ)) (i w : ℕ) → length g ≤ i → on_top (one_free g i w) t ≡ t
-none_on [] t i w l = refl
-none_on (a ∷ g) t zero w l = absurd (omega arith)
-none_on (a ∷ g) [] (suc i) w l = refl
-none_on (a ∷ g) (s ∷ t) (suc i) w l = ap (λ t. s ∷ t) (none_on g t i w (omega arith))
-
-pub one_added : (g : List TyTree) (t : List (List ℕ)) (i j w : ℕ) → length g ≡ length t → i < length t → j ≡ length t - 1 - i → set t j (w ∷ get_or t j []) ≡ with_free (one_free g i w) t
-one_added g t i j w h l e =
-    let r = reverse-reverse t in
-    let n = length-reverse t in
-    sym (one_on g (reverse t) i j w (omega (arith, h, n)) (omega (arith, l, n)) (omega (arith, e, n)) ∙ (λ k. set (r k) j (w ∷ get_or (r k) j [])))
-
-pub none_added : (g : List TyTree) (t : List (List ℕ)) (i w : ℕ) → length g ≤ i → t ≡ with_free (one_free g i w) t
-none_added g t i w l = sym (ap reverse (none_on g (reverse t) i w l) ∙ reverse-reverse t)
-
--- a number
-pub number_builds : (s0 s1 : Parts) (d v w o : ℕ) → w ≡ length s0.wires.items → Finishes s0 s1 d nat (Const v w) o → Builds s0 s1 [] (whole (part_at s0 d (num v)) (table s0)) o
-number_builds s0 s1 d v w o e f =
-    let n = Const v (length s0.wires.items) in
-    let g : Grows s0 s1 (value_wire d nat ∷ []) (n ∷ []) = subst (λ w. Grows s0 s1 (value_wire d nat ∷ []) (Const v w ∷ [])) e f.grows in
-    record {
-      grows = g;
-      out = f.out;
-      inside = new_inside s0 s1 (value_wire d nat) [] (n ∷ []) o g f.out;
-      type = new_type s0 s1 (value_wire d nat) [] (n ∷ []) o g f.out;
-      loose = f.loose ∙ sym (nothing_free (context_of s0.context.items) (table s0));
-      plan = sym f.plan;
-    }
-
--- a variable
-pub variable_builds : (s0 s1 s2 : Parts) (d i x o : ℕ) (a : TyTree) (n : Node) → Grows s0 s1 (value_wire d a ∷ var_wire d a ∷ []) [] → Grows s1 s2 [] (n ∷ []) → n ≡ Der o x → o ≡ length s0.wires.items → x ≡ suc (length s0.wires.items) →
-    a ≡ type_or_nat (slice_get (context_of s0.context.items) i) → table s2 ≡ with_free (one_free (context_of s0.context.items) i x) (table s0) → s2.plan ≡ s0.plan → Builds s0 s2 [] (whole (part_at s0 d (var i)) (table s0)) o
-variable_builds s0 s1 s2 d i x o a n g h en eo ex ea el ep =
-    let c = context_of s0.context.items in
-    let m = length s0.wires.items in
-    let t = type_or_nat (slice_get c i) in
-    let g' : Grows s0 s1 (value_wire d t ∷ var_wire d t ∷ []) [] = subst (λ a. Grows s0 s1 (value_wire d a ∷ var_wire d a ∷ []) []) ea g in
-    let e : n ≡ Der m (suc m) = en ∙ (λ k. Der (eo k) (ex k)) in
-    let h' : Grows s1 s2 [] (Der m (suc m) ∷ []) = subst (λ n. Grows s1 s2 [] (n ∷ [])) e h in
-    let k = grows_then s0 s1 s2 (value_wire d t ∷ var_wire d t ∷ []) [] [] (Der m (suc m) ∷ []) g' h' in
-    record {
-      grows = k;
-      out = eo;
-      inside = new_inside s0 s2 (value_wire d t) (var_wire d t ∷ []) (Der m (suc m) ∷ []) o k eo;
-      type = new_type s0 s2 (value_wire d t) (var_wire d t ∷ []) (Der m (suc m) ∷ []) o k eo;
-      loose = el ∙ ap (λ x. with_free (one_free c i x) (table s0)) ex;
-      plan = sym ep;
-    }
-
-pub node_grows : (old new : Parts) (n : Node) → new.wires.items ≡ old.wires.items → new.nodes.items ≡ old.nodes.items ++ n ∷ [] → new.context.items ≡ old.context.items → Grows old new [] (n ∷ [])
-node_grows old new n ew en ec = record { wires = ap (map wire_of) ew ∙ sym (append-nil (map wire_of old.wires.items)); nodes = en; context = ec }
-
--- what comes after a part ends the whole
-pub then_end : (s0 s1 s2 : Parts) (ls : List (List ℕ)) (p q : Whole) (o o' : ℕ) → Builds s0 s1 ls p o → Builds s1 s2 [] q o' → Builds s0 s2 ls (before p.wires p.nodes q) o'
-then_end s0 s1 s2 ls p q o o' b e = record {
-  grows = grows_then s0 s1 s2 p.wires q.wires p.nodes q.nodes b.grows e.grows;
-  out = e.out;
-  inside = e.inside;
-  type = e.type;
-  loose = e.loose;
-  plan = b.plan ∙ ap (λ l. ls ++ l) e.plan;
-}
-
-pub then_part : (s0 s1 s2 : Parts) (ls ms : List (List ℕ)) (p q : Whole) (o o' : ℕ) → Builds s0 s1 ls p o → Builds s1 s2 ms q o' → Builds s0 s2 (ls ++ ms) (before p.wires p.nodes q) o'
-then_part s0 s1 s2 ls ms p q o o' b e = after s0 s1 s2 p.wires p.nodes ls ms q o' b.grows b.plan e
-
--- one operand
-pub unary_builds : (s0 s1 s2 : Parts) (form : Unary) (d : ℕ) (ls : List (List ℕ)) (p : Part) (o : ℕ) (t : TyTree) (n : Node) (o' : ℕ) → Builds s0 s1 ls (whole p (table s0)) o → t ≡ unary_type form (wire_type s1 o) →
-    n ≡ unary_node form o (length s1.wires.items) → Finishes s1 s2 d t n o' → Builds s0 s2 ls (whole (unary_at form s0 d p) (table s0)) o'
-unary_builds s0 s1 s2 form d ls p o t n o' b et en f =
-    let w = length s0.wires.items + length p.wires in
-    let m : length s1.wires.items ≡ w = grows_length s0 s1 p.wires p.nodes b.grows in
-    let t' = unary_type form p.type in
-    let n' = unary_node form p.out w in
-    let ft : t ≡ t' = et ∙ ap (unary_type form) b.type in
-    let fn : n ≡ n' = en ∙ (λ k. unary_node form (b.out k) (m k)) in
-    let h : Grows s1 s2 (value_wire d t' ∷ []) (n' ∷ []) = subst (λ t. Grows s1 s2 (value_wire d t ∷ []) (n' ∷ [])) ft (subst (λ n. Grows s1 s2 (value_wire d t ∷ []) (n ∷ [])) fn f.grows) in
-    record {
-      grows = grows_then s0 s1 s2 p.wires (value_wire d t' ∷ []) p.nodes (n' ∷ []) b.grows h;
-      out = f.out ∙ m;
-      inside = new_inside s1 s2 (value_wire d t') [] (n' ∷ []) o' h f.out;
-      type = new_type s1 s2 (value_wire d t') [] (n' ∷ []) o' h f.out;
-      loose = f.loose ∙ b.loose;
-      plan = b.plan ∙ ap (λ l. ls ++ l) (sym f.plan);
-    }
-
--- the state with another rest of the plan
-abbrev pub with_plan : Parts → List (List ℕ) → Parts
-with_plan s l = record { wires = s.wires; nodes = s.nodes; context = s.context; loose = s.loose; plan = l }
-
--- a list that was taken off the plan is the one that the definition has
-pub first_list : (bs cs : List ℕ) (l m : List (List ℕ)) → bs ∷ l ≡ cs ∷ m → bs ≡ cs
-first_list bs cs l m e = ap (λ l. first l) e
-  where
-    first : List (List ℕ) → List ℕ
-    first [] = []
-    first (x ∷ xs) = x
-
-pub other_lists : (bs cs : List ℕ) (l m : List (List ℕ)) → bs ∷ l ≡ cs ∷ m → l ≡ m
-other_lists bs cs l m e = ap (λ l. rest l) e
-  where
-    rest : List (List ℕ) → List (List ℕ)
-    rest [] = []
-    rest (x ∷ xs) = xs
-
--- from the state before a list was taken off
-pub from_start : (s : Parts) (s' : Parts) (l : List (List ℕ)) (bs : List ℕ) (ls : List (List ℕ)) (w : Whole) (o : ℕ) → s.plan ≡ bs ∷ l → Builds (with_plan s l) s' ls w o → Builds s s' (bs ∷ ls) w o
-from_start s s' l bs ls w o e b = record {
-  grows = record { wires = b.grows.wires; nodes = b.grows.nodes; context = b.grows.context };
-  out = b.out;
-  inside = b.inside;
-  type = b.type;
-  loose = b.loose;
-  plan = e ∙ ap (λ l. bs ∷ l) b.plan;
-}
+use Rattle.net_build.specs.Building.{context_of, spread, Grows, Spreads, Gives, Builds, BuildsBody, frees, body_frees, wire_type, part_at, second_at, third_at, body_at, double_node, double_type, double_tail, double_here, double_of, ifz_tail, ifz_here, lam_tail, lam_here, fix_tail, fix_here, app_tail, app_here, one_at}
+use Rattle.net_build.proofs.Growing.{grows_then, grows_length, kept_type, new_type, new_inside}
+use Rattle.net_build.proofs.Ending.{before, after}
+use Rattle.net_build.proofs.Spreading.{context_length, spread_none}
+use Rattle.net_build.proofs.Merging.{spread_at, spread_under, falling_more}
 
 -- the same term, built from where a part ends
 pub moved : (s0 s1 : Parts) (p : Part) (d : ℕ) (t : TermTree) → Grows s0 s1 p.wires p.nodes → part_at s1 d t ≡ second_at s0 d p t
@@ -168,98 +31,334 @@ moved_twice s0 s1 s2 p q d t g h =
     let c = h.context ∙ g.context in
     λ k. part (n k) d (context_of (c k)) t
 
--- there is a stack for each binder, before and after
-table_length : (s : Parts) → length (table s) ≡ length s.loose.items
-table_length s = length-map s.loose.items (λ v. reverse v.items)
+-- what a placed term leaves loose is what its part does, from any state with that context
+free_at : (s n s' : Parts) (p : Part) (r : Placed) → Gives (length s.context.items) n p r → s'.context.items ≡ s.context.items → frees s' r ≡ p.free
+free_at s n s' p r g e = ap (λ c. spread (length c) (reverse r.free.items)) e ∙ g.free.spreads
 
-pub with_free_length : (f : List (Option ℕ)) (t : List (List ℕ)) → length f ≡ length t → length (with_free f t) ≡ length t
-with_free_length f t h = length-reverse (on_top f (reverse t)) ∙ on_top_length f (reverse t) (h ∙ sym (length-reverse t)) ∙ length-reverse t
+module _ (form : Double) (s0 s1 : Parts) (d : ℕ) (a b : TermTree) (r1 : Placed) (h : Builds s0 s1 (part_at s0 d a) r1) where
+  double_second : part_at s1 d b ≡ second_at s0 d (part_at s0 d a) b
+  double_second = moved s0 s1 (part_at s0 d a) d b h.grows
 
--- as many stacks as binders
-abbrev pub Stacked : Parts → Type 0
-Stacked s = length (table s) ≡ length s.context.items
+  -- room for the whole is room for the right operand
+  pub double_room : (n m : ℕ) → m ≤ n + length (part_at s0 d a).wires → n + length (double_of form s0 d a b).wires < 2 ^ 32 → m + length (part_at s1 d b).wires < 2 ^ 32
+  double_room n m l k =
+      let p = part_at s0 d a in
+      let q = second_at s0 d p b in
+      let e = ap (λ q. length q.wires) double_second in
+      let c = double_tail (double_node form) (double_type form p.type q.type) (length s0.wires.items + length p.wires + length q.wires) d (context_of s0.context.items) p.out q.out p.free q.free in
+      omega (arith, l, k, e, length-append p.wires (q.wires ++ c.wires), length-append q.wires c.wires)
 
-pub stacked_start : (s : Parts) (ls : List (List ℕ)) → Planned s ls → Stacked s
-stacked_start s ls p = table_length s ∙ p.stacks
+  module _ (s2 : Parts) (r2 : Placed) (i : Builds s1 s2 (part_at s1 d b) r2) where
+    double_i : Builds s1 s2 (second_at s0 d (part_at s0 d a) b) r2
+    double_i = subst (λ q. Builds s1 s2 q r2) double_second i
 
-pub stacked_after : (s0 s1 : Parts) (ls : List (List ℕ)) (p : Part) (o : ℕ) → Builds s0 s1 ls (whole p (table s0)) o → length p.free ≡ length s0.context.items → Stacked s0 → Stacked s1
-stacked_after s0 s1 ls p o b f e = ap length b.loose ∙ with_free_length p.free (table s0) (f ∙ sym e) ∙ e ∙ ap length (sym b.grows.context)
+    double_path : double_here form s2 d r1 r2 ≡ (let p = part_at s0 d a in let q = second_at s0 d p b in double_tail (double_node form) (double_type form p.type q.type) (length s0.wires.items + length p.wires + length q.wires) d (context_of s0.context.items) p.out q.out p.free q.free)
+    double_path =
+        let p = part_at s0 d a in
+        let q = second_at s0 d p b in
+        let n : length s2.wires.items ≡ length s0.wires.items + length p.wires + length q.wires = grows_length s1 s2 q.wires q.nodes double_i.grows ∙ ap (λ m. m + length q.wires) (grows_length s0 s1 p.wires p.nodes h.grows) in
+        let c = double_i.grows.context ∙ h.grows.context in
+        let f = free_at s0 s1 s2 p r1 h.gives c in
+        let f' = free_at s1 s2 s2 q r2 double_i.gives double_i.grows.context in
+        let t : wire_type s2 r1.out ≡ p.type = kept_type s1 s2 q.wires q.nodes r1.out double_i.grows h.gives.inside ∙ h.gives.type in
+        λ k. double_tail (double_node form) (double_type form (t k) (double_i.gives.type k)) (n k) d (context_of (c k)) (h.gives.out k) (double_i.gives.out k) (f k) (f' k)
 
-pub planned_at : (s : Parts) (ls rest : List (List ℕ)) → s.plan ≡ ls ++ rest → Stacked s → Planned s ls
-planned_at s ls rest e h = record { rest = rest; plan = e; stacks = sym (table_length s) ∙ h }
+    pub double_close_room : length s0.wires.items + length (double_of form s0 d a b).wires < 2 ^ 32 → length s2.wires.items + length (double_here form s2 d r1 r2).wires < 2 ^ 32
+    double_close_room l =
+        let p = part_at s0 d a in
+        let q = second_at s0 d p b in
+        let c = double_tail (double_node form) (double_type form p.type q.type) (length s0.wires.items + length p.wires + length q.wires) d (context_of s0.context.items) p.out q.out p.free q.free in
+        let e : length (double_here form s2 d r1 r2).wires ≡ length c.wires = ap (λ q. length q.wires) double_path in
+        omega (arith, l, e, grows_length s0 s1 p.wires p.nodes h.grows, grows_length s1 s2 q.wires q.nodes double_i.grows, length-append p.wires (q.wires ++ c.wires), length-append q.wires c.wires)
 
--- the loose wires after two parts, and after three
-stacks_twice : (f f' : List (Option ℕ)) (t : List (List ℕ)) → with_free f' (with_free f t) ≡ reverse (on_top f' (on_top f (reverse t)))
-stacks_twice f f' t = ap (λ t. reverse (on_top f' t)) (reverse-reverse (on_top f (reverse t)))
+    pub double_builds : (s3 : Parts) (r : Placed) → Builds s2 s3 (double_here form s2 d r1 r2) r → Builds s0 s3 (double_of form s0 d a b) r
+    double_builds s3 r j =
+        let p = part_at s0 d a in
+        let q = second_at s0 d p b in
+        let c = double_tail (double_node form) (double_type form p.type q.type) (length s0.wires.items + length p.wires + length q.wires) d (context_of s0.context.items) p.out q.out p.free q.free in
+        let j' : Builds s2 s3 c r = subst (λ t. Builds s2 s3 t r) double_path j in
+        after s0 s1 s3 p.wires p.nodes (before q.wires q.nodes c) r h.grows (after s1 s2 s3 q.wires q.nodes c r double_i.grows j')
 
--- what the plan has for a term, and for its joins and boxes
-abbrev pub lists : Parts → TermTree → List (List ℕ)
-lists s t = plan (length s.context.items) t
+module _ (s0 s1 : Parts) (d : ℕ) (a b c : TermTree) (r1 : Placed) (h : Builds s0 s1 (part_at s0 d a) r1) where
+  ifz_first : Part
+  ifz_first = part_at s0 d a
 
-abbrev pub shared : Parts → TermTree → TermTree → List ℕ
-shared s a b = let k = length s.context.items in places (both (uses k a) (uses k b))
+  ifz_second : Part
+  ifz_second = second_at s0 d (part_at s0 d a) b
 
-abbrev pub shared_by_branches : Parts → TermTree → TermTree → TermTree → List ℕ
-shared_by_branches s a b c = let k = length s.context.items in places (both (uses k a) (either (uses k b) (uses k c)))
+  ifz_third : Part
+  ifz_third = third_at s0 d (part_at s0 d a) (second_at s0 d (part_at s0 d a) b) c
 
-abbrev pub leaving : Parts → TermTree → List ℕ
-leaving s a = places (uses (length s.context.items) a)
+  ifz_rest : Part
+  ifz_rest =
+      let p = part_at s0 d a in
+      let q = second_at s0 d p b in
+      let r = third_at s0 d p q c in
+      ifz_tail (length s0.wires.items + length p.wires + length q.wires + length r.wires) d (context_of s0.context.items) p.out q.out r.out p.free q.free r.free
 
-abbrev pub leaving_body : Parts → TermTree → List ℕ
-leaving_body s m = places (outer (uses (suc (length s.context.items)) m))
+  pub ifz_second_room : (n m : ℕ) → m ≤ n + length (part_at s0 d a).wires → n + length (part_at s0 d (ifz a b c)).wires < 2 ^ 32 → m + length (part_at s1 d b).wires < 2 ^ 32
+  unfolding ifz_rest
+  ifz_second_room n m l k =
+      let p = part_at s0 d a in
+      let q = second_at s0 d p b in
+      let r = third_at s0 d p q c in
+      let e = ap (λ q. length q.wires) (moved s0 s1 p d b h.grows) in
+      omega (arith, l, k, e, length-append p.wires (q.wires ++ (r.wires ++ ifz_rest.wires)), length-append q.wires (r.wires ++ ifz_rest.wires), length-append r.wires ifz_rest.wires)
 
--- what the code contracts and lets out, where the stacks are those of parts, is what the definition says
-pub joined_run : (s : Parts) (n m d : ℕ) (c : List TyTree) (f f' : List (Option ℕ)) (us vs : List Bool) (x t : List (List ℕ)) → n ≡ m → c ≡ types s → x ≡ with_free f' (with_free f t) → present f ≡ us → present f' ≡ vs →
-    length us ≡ length s.context.items → length vs ≡ length s.context.items → length t ≡ length s.context.items → contractions n d c (places (both us vs)) x ≡ run_of (contract m d (context_of s.context.items) f f') t
-joined_run s n m d c f f' us vs x t en ec ex eu ev hu hv ht =
-    let k = length s.context.items in
-    let y = ex ∙ stacks_twice f f' t in
-    (λ j. contractions (en j) d (ec j) (places (both (sym eu j) (sym ev j))) (y j)) ∙ contract_matches k m d (types s) f f' (reverse t) (long k f us eu hu) (long k f' vs ev hv) (length-reverse t ∙ ht) ∙
-    (λ j. run_of (contract m d (sym (context_levels s.context.items) j) f f') t)
+  module _ (s2 : Parts) (r2 : Placed) (i : Builds s1 s2 (part_at s1 d b) r2) where
+    ifz_i : Builds s1 s2 (second_at s0 d (part_at s0 d a) b) r2
+    ifz_i = subst (λ q. Builds s1 s2 q r2) (moved s0 s1 (part_at s0 d a) d b h.grows) i
 
-pub joined_has : (k n : ℕ) (f f' : List (Option ℕ)) (us vs : List Bool) (x t : List (List ℕ)) → x ≡ with_free f' (with_free f t) → present f ≡ us → present f' ≡ vs → length us ≡ k → length vs ≡ k → length t ≡ k → Has 2 n (places (both us vs)) x
-joined_has k n f f' us vs x t ex eu ev hu hv ht =
-    let y = ex ∙ stacks_twice f f' t in
-    subst (λ us. Has 2 n (places (both us vs)) x) eu (subst (λ vs. Has 2 n (places (both (present f) vs)) x) ev (subst (Has 2 n (places (both (present f) (present f')))) (sym y) (contract_has k n f f' (reverse t) (long k f us eu hu) (long k f' vs ev hv) (length-reverse t ∙ ht))))
+    ifz_moved : part_at s2 d c ≡ third_at s0 d (part_at s0 d a) (second_at s0 d (part_at s0 d a) b) c
+    ifz_moved = moved_twice s0 s1 s2 (part_at s0 d a) (second_at s0 d (part_at s0 d a) b) d c h.grows ifz_i.grows
 
-pub doors_run : (s : Parts) (n m d : ℕ) (c : List TyTree) (f : List (Option ℕ)) (us : List Bool) (x t : List (List ℕ)) → n ≡ m → c ≡ types s → x ≡ with_free f t → present f ≡ us → length us ≡ length s.context.items → length t ≡ length s.context.items →
-    exits n d c (places us) x ≡ run_of (doors m d (context_of s.context.items) f) t
-doors_run s n m d c f us x t en ec ex eu hu ht =
-    let k = length s.context.items in
-    (λ j. exits (en j) d (ec j) (places (sym eu j)) (ex j)) ∙ doors_match k m d (types s) f (reverse t) (long k f us eu hu) (length-reverse t ∙ ht) ∙ (λ j. run_of (doors m d (sym (context_levels s.context.items) j) f) t)
+    pub ifz_third_room : (n m : ℕ) → m ≤ n + length (part_at s0 d a).wires + length (part_at s1 d b).wires → n + length (part_at s0 d (ifz a b c)).wires < 2 ^ 32 → m + length (part_at s2 d c).wires < 2 ^ 32
+    unfolding ifz_rest
+    ifz_third_room n m l k =
+        let p = part_at s0 d a in
+        let q = second_at s0 d p b in
+        let r = third_at s0 d p q c in
+        let e = ap (λ q. length q.wires) (moved s0 s1 p d b h.grows) in
+        let e' = ap (λ q. length q.wires) ifz_moved in
+        omega (arith, l, k, e, e', length-append p.wires (q.wires ++ (r.wires ++ ifz_rest.wires)), length-append q.wires (r.wires ++ ifz_rest.wires), length-append r.wires ifz_rest.wires)
 
-pub doors_has : (k n : ℕ) (f : List (Option ℕ)) (us : List Bool) (x t : List (List ℕ)) → x ≡ with_free f t → present f ≡ us → length us ≡ k → length t ≡ k → Has 1 n (places us) x
-doors_has k n f us x t ex eu hu ht =
-    subst (λ us. Has 1 n (places us) x) eu (subst (Has 1 n (places (present f))) (sym ex) (doors_have k n f (reverse t) (long k f us eu hu) (length-reverse t ∙ ht)))
+    pub ifz_numbers : length s0.wires.items + length (part_at s0 d (ifz a b c)).wires < 2 ^ 32 → length s2.wires.items + length (part_at s2 d c).wires < 2 ^ 32
+    ifz_numbers k =
+        let p = part_at s0 d a in
+        let q = part_at s1 d b in
+        ifz_third_room (length s0.wires.items) (length s2.wires.items) (omega (arith, grows_length s0 s1 p.wires p.nodes h.grows, grows_length s1 s2 q.wires q.nodes i.grows)) k
 
--- the variables of a part, by the number of binders
-pub part_uses_at : (n d : ℕ) (c : List Ty) (t : TermTree) → present (part n d (context_of c) t).free ≡ uses (length c) t
-part_uses_at n d c t = part_uses n d (context_of c) t ∙ ap (λ k. uses k t) (context_length c)
+    pub ifz_depths : d + length (part_at s0 d (ifz a b c)).wires < 2 ^ 32 → d + length (part_at s2 d c).wires < 2 ^ 32
+    ifz_depths k = ifz_third_room d d (omega arith) k
 
-pub part_long_at : (n d : ℕ) (c : List Ty) (t : TermTree) → length (part n d (context_of c) t).free ≡ length c
-part_long_at n d c t = part_long n d (context_of c) t ∙ context_length c
+    module _ (s3 : Parts) (r3 : Placed) (j : Builds s2 s3 (part_at s2 d c) r3) where
+      ifz_j : Builds s2 s3 (third_at s0 d (part_at s0 d a) (second_at s0 d (part_at s0 d a) b) c) r3
+      ifz_j = subst (λ q. Builds s2 s3 q r3) ifz_moved j
 
--- what the plan has left after a part
-pub left_over : (s0 s1 : Parts) (ls ms rest : List (List ℕ)) (p : Whole) (o : ℕ) → s0.plan ≡ ls ++ (ms ++ rest) → Builds s0 s1 ls p o → s1.plan ≡ ms ++ rest
-left_over s0 s1 ls ms rest p o e b = append_cancel_left ls s1.plan (ms ++ rest) (sym b.plan ∙ e)
+      ifz_next : length s3.wires.items ≡ length s0.wires.items + length ifz_first.wires + length ifz_second.wires + length ifz_third.wires
+      unfolding ifz_first ifz_second ifz_third
+      ifz_next =
+          let p = part_at s0 d a in
+          let q = second_at s0 d p b in
+          let r = third_at s0 d p q c in
+          grows_length s2 s3 r.wires r.nodes ifz_j.grows ∙ ap (λ m. m + length r.wires) (grows_length s1 s2 q.wires q.nodes ifz_i.grows ∙ ap (λ m. m + length q.wires) (grows_length s0 s1 p.wires p.nodes h.grows))
 
--- a part that was built from where another ends
-pub second_builds : (s0 s1 s2 : Parts) (p : Part) (d : ℕ) (t : TermTree) (o : ℕ) → Grows s0 s1 p.wires p.nodes → Builds s1 s2 (lists s1 t) (whole (part_at s1 d t) (table s1)) o →
-    Builds s1 s2 (lists s0 t) (whole (second_at s0 d p t) (table s1)) o
-second_builds s0 s1 s2 p d t o g b = subst (λ q. Builds s1 s2 (lists s0 t) (whole q (table s1)) o) (moved s0 s1 p d t g) (subst (λ k. Builds s1 s2 (plan k t) (whole (part_at s1 d t) (table s1)) o) (ap length g.context) b)
+      ifz_path : ifz_here s3 d r1 r2 r3 ≡ ifz_rest
+      unfolding ifz_rest ifz_first ifz_second ifz_third
+      ifz_path =
+          let p = part_at s0 d a in
+          let q = second_at s0 d p b in
+          let r = third_at s0 d p q c in
+          let e = ifz_j.grows.context ∙ (ifz_i.grows.context ∙ h.grows.context) in
+          let f = free_at s0 s1 s3 p r1 h.gives e in
+          let f' = free_at s1 s2 s3 q r2 ifz_i.gives (ifz_j.grows.context ∙ ifz_i.grows.context) in
+          let f'' = free_at s2 s3 s3 r r3 ifz_j.gives ifz_j.grows.context in
+          λ k. ifz_tail (ifz_next k) d (context_of (e k)) (h.gives.out k) (ifz_i.gives.out k) (ifz_j.gives.out k) (f k) (f' k) (f'' k)
 
--- the same with other lists in front
-pub front_builds : (s0 s1 s2 : Parts) (ls : ℕ → List (List ℕ)) (p : Part) (d : ℕ) (t : TermTree) (o : ℕ) → Grows s0 s1 p.wires p.nodes → Builds s1 s2 (ls (length s1.context.items)) (whole (part_at s1 d t) (table s1)) o →
-    Builds s1 s2 (ls (length s0.context.items)) (whole (second_at s0 d p t) (table s1)) o
-front_builds s0 s1 s2 ls p d t o g b = subst (λ q. Builds s1 s2 (ls (length s0.context.items)) (whole q (table s1)) o) (moved s0 s1 p d t g) (subst (λ k. Builds s1 s2 (ls k) (whole (part_at s1 d t) (table s1)) o) (ap length g.context) b)
+      pub ifz_close_room : length s0.wires.items + length (part_at s0 d (ifz a b c)).wires < 2 ^ 32 → length s3.wires.items + length (ifz_here s3 d r1 r2 r3).wires < 2 ^ 32
+      unfolding ifz_rest ifz_first ifz_second ifz_third
+      ifz_close_room k =
+          let p = part_at s0 d a in
+          let q = second_at s0 d p b in
+          let r = third_at s0 d p q c in
+          let e : length (ifz_here s3 d r1 r2 r3).wires ≡ length ifz_rest.wires = ap (λ q. length q.wires) ifz_path in
+          omega (arith, k, e, ifz_next, length-append p.wires (q.wires ++ (r.wires ++ ifz_rest.wires)), length-append q.wires (r.wires ++ ifz_rest.wires), length-append r.wires ifz_rest.wires)
 
--- what a list that was taken off the plan is, and what is left
-pub taken_list : (s : Parts) (bs cs : List ℕ) (l ms : List (List ℕ)) → Planned s (cs ∷ ms) → s.plan ≡ bs ∷ l → bs ≡ cs
-taken_list s bs cs l ms p e = first_list bs cs l (ms ++ p.rest) (sym e ∙ p.plan)
+      pub ifz_builds : (s4 : Parts) (x : Placed) → Builds s3 s4 (ifz_here s3 d r1 r2 r3) x → Builds s0 s4 (part_at s0 d (ifz a b c)) x
+      unfolding ifz_rest
+      ifz_builds s4 x k =
+          let p = part_at s0 d a in
+          let q = second_at s0 d p b in
+          let r = third_at s0 d p q c in
+          let k' : Builds s3 s4 ifz_rest x = subst (λ t. Builds s3 s4 t x) ifz_path k in
+          after s0 s1 s4 p.wires p.nodes (before q.wires q.nodes (before r.wires r.nodes ifz_rest)) x h.grows
+          (after s1 s2 s4 q.wires q.nodes (before r.wires r.nodes ifz_rest) x ifz_i.grows (after s2 s3 s4 r.wires r.nodes ifz_rest x ifz_j.grows k'))
 
-pub taken_rest : (s : Parts) (bs cs : List ℕ) (l ms : List (List ℕ)) (p : Planned s (cs ∷ ms)) → s.plan ≡ bs ∷ l → l ≡ ms ++ p.rest
-taken_rest s bs cs l ms p e = other_lists bs cs l (ms ++ p.rest) (sym e ∙ p.plan)
+module _ (s0 s1 : Parts) (d : ℕ) (a b : TermTree) (r1 : Placed) (h : Builds s0 s1 (part_at s0 d a) r1) where
+  app_rest : Part
+  app_rest =
+      let p = part_at s0 d a in
+      let q = second_at s0 (suc d) p b in
+      app_tail (length s0.wires.items + length p.wires + length q.wires) d (context_of s0.context.items) p.type p.out q.out p.free q.free
 
--- the whole of a form, from the state before its first list was taken
-pub from_plan : (s s' : Parts) (bs cs : List ℕ) (l ms : List (List ℕ)) (w : Whole) (o : ℕ) → Planned s (cs ∷ ms) → s.plan ≡ bs ∷ l → Builds (with_plan s l) s' ms w o → Builds s s' (cs ∷ ms) w o
-from_plan s s' bs cs l ms w o p e b = subst (λ bs. Builds s s' (bs ∷ ms) w o) (taken_list s bs cs l ms p e) (from_start s s' l bs ms w o e b)
+  pub app_second_room : (n m : ℕ) → m ≤ n + length (part_at s0 d a).wires + 1 → n + length (part_at s0 d (app a b)).wires < 2 ^ 32 → m + length (part_at s1 (suc d) b).wires < 2 ^ 32
+  unfolding app_rest
+  app_second_room n m l k =
+      let p = part_at s0 d a in
+      let q = second_at s0 (suc d) p b in
+      let e = ap (λ q. length q.wires) (moved s0 s1 p (suc d) b h.grows) in
+      let v = doors (length s0.wires.items + length p.wires + length q.wires) d (context_of s0.context.items) q.free in
+      let o = length s0.wires.items + length p.wires + length q.wires + length v.wires in
+      let c = contract (suc o) d (context_of s0.context.items) p.free v.free in
+      omega (arith, l, k, e, length-append p.wires (q.wires ++ app_rest.wires), length-append q.wires app_rest.wires, length-append v.wires (bang_wire d (domain p.type) ∷ (c.wires ++ value_wire d (codomain p.type) ∷ [])))
+
+  module _ (s2 : Parts) (r2 : Placed) (i : Builds s1 s2 (part_at s1 (suc d) b) r2) where
+    app_i : Builds s1 s2 (second_at s0 (suc d) (part_at s0 d a) b) r2
+    app_i = subst (λ q. Builds s1 s2 q r2) (moved s0 s1 (part_at s0 d a) (suc d) b h.grows) i
+
+    app_path : app_here s2 d r1 r2 ≡ app_rest
+    unfolding app_rest
+    app_path =
+        let p = part_at s0 d a in
+        let q = second_at s0 (suc d) p b in
+        let n : length s2.wires.items ≡ length s0.wires.items + length p.wires + length q.wires = grows_length s1 s2 q.wires q.nodes app_i.grows ∙ ap (λ m. m + length q.wires) (grows_length s0 s1 p.wires p.nodes h.grows) in
+        let c = app_i.grows.context ∙ h.grows.context in
+        let f = free_at s0 s1 s2 p r1 h.gives c in
+        let f' = free_at s1 s2 s2 q r2 app_i.gives app_i.grows.context in
+        let t : wire_type s2 r1.out ≡ p.type = kept_type s1 s2 q.wires q.nodes r1.out app_i.grows h.gives.inside ∙ h.gives.type in
+        λ k. app_tail (n k) d (context_of (c k)) (t k) (h.gives.out k) (app_i.gives.out k) (f k) (f' k)
+
+    pub app_close_room : length s0.wires.items + length (part_at s0 d (app a b)).wires < 2 ^ 32 → length s2.wires.items + length (app_here s2 d r1 r2).wires < 2 ^ 32
+    unfolding app_rest
+    app_close_room l =
+        let p = part_at s0 d a in
+        let q = second_at s0 (suc d) p b in
+        let e : length (app_here s2 d r1 r2).wires ≡ length app_rest.wires = ap (λ q. length q.wires) app_path in
+        omega (arith, l, e, grows_length s0 s1 p.wires p.nodes h.grows, grows_length s1 s2 q.wires q.nodes app_i.grows, length-append p.wires (q.wires ++ app_rest.wires), length-append q.wires app_rest.wires)
+
+    pub app_builds : (s3 : Parts) (r : Placed) → Builds s2 s3 (app_here s2 d r1 r2) r → Builds s0 s3 (part_at s0 d (app a b)) r
+    unfolding app_rest
+    app_builds s3 r j =
+        let p = part_at s0 d a in
+        let q = second_at s0 (suc d) p b in
+        let j' : Builds s2 s3 app_rest r = subst (λ t. Builds s2 s3 t r) app_path j in
+        after s0 s1 s3 p.wires p.nodes (before q.wires q.nodes app_rest) r h.grows (after s1 s2 s3 q.wires q.nodes app_rest r app_i.grows j')
+
+-- a body's loose wires, from the state after it
+body_free_at : (s n s' : Parts) (p : Part) (r : Placed) → Gives (suc (length s.context.items)) n p r → s'.context.items ≡ s.context.items → body_frees s' r ≡ p.free
+body_free_at s n s' p r g e = ap (λ c. spread (suc (length c)) (reverse r.free.items)) e ∙ g.free.spreads
+
+module _ (s0 s1 : Parts) (d : ℕ) (t : TyTree) (m : TermTree) (r1 : Placed) (h : BuildsBody s0 s1 (body_at s0 d t m) r1) where
+  lam_path : lam_here s1 d t r1 ≡ (let p = body_at s0 d t m in lam_tail (length s0.wires.items + length p.wires) d t p.type p.out p.free)
+  lam_path =
+      let p = body_at s0 d t m in
+      let n = grows_length s0 s1 p.wires p.nodes h.grows in
+      let f = body_free_at s0 s1 s1 p r1 h.gives h.grows.context in
+      λ k. lam_tail (n k) d t (h.gives.type k) (h.gives.out k) (f k)
+
+  pub lam_close_room : length s0.wires.items + length (part_at s0 d (lam t m)).wires < 2 ^ 32 → length s1.wires.items + length (lam_here s1 d t r1).wires < 2 ^ 32
+  lam_close_room l =
+      let p = body_at s0 d t m in
+      let c = lam_tail (length s0.wires.items + length p.wires) d t p.type p.out p.free in
+      let e : length (lam_here s1 d t r1).wires ≡ length c.wires = ap (λ q. length q.wires) lam_path in
+      omega (arith, l, e, grows_length s0 s1 p.wires p.nodes h.grows, length-append p.wires c.wires)
+
+  pub lam_builds : (s2 : Parts) (r : Placed) → Builds s1 s2 (lam_here s1 d t r1) r → Builds s0 s2 (part_at s0 d (lam t m)) r
+  lam_builds s2 r j =
+      let p = body_at s0 d t m in
+      let c = lam_tail (length s0.wires.items + length p.wires) d t p.type p.out p.free in
+      after s0 s1 s2 p.wires p.nodes c r h.grows (subst (λ t. Builds s1 s2 t r) lam_path j)
+
+module _ (s0 s1 : Parts) (d : ℕ) (t : TyTree) (m : TermTree) (r1 : Placed) (h : BuildsBody s0 s1 (body_at s0 (suc d) t m) r1) where
+  fix_path : fix_here s1 d t r1 ≡ (let p = body_at s0 (suc d) t m in fix_tail (length s0.wires.items + length p.wires) d (context_of s0.context.items) t p.out p.free)
+  fix_path =
+      let p = body_at s0 (suc d) t m in
+      let n = grows_length s0 s1 p.wires p.nodes h.grows in
+      let f = body_free_at s0 s1 s1 p r1 h.gives h.grows.context in
+      λ k. fix_tail (n k) d (context_of (h.grows.context k)) t (h.gives.out k) (f k)
+
+  pub fix_close_room : length s0.wires.items + length (part_at s0 d (fix t m)).wires < 2 ^ 32 → length s1.wires.items + length (fix_here s1 d t r1).wires < 2 ^ 32
+  fix_close_room l =
+      let p = body_at s0 (suc d) t m in
+      let c = fix_tail (length s0.wires.items + length p.wires) d (context_of s0.context.items) t p.out p.free in
+      let e : length (fix_here s1 d t r1).wires ≡ length c.wires = ap (λ q. length q.wires) fix_path in
+      omega (arith, l, e, grows_length s0 s1 p.wires p.nodes h.grows, length-append p.wires c.wires)
+
+  pub fix_builds : (s2 : Parts) (r : Placed) → Builds s1 s2 (fix_here s1 d t r1) r → Builds s0 s2 (part_at s0 d (fix t m)) r
+  fix_builds s2 r j =
+      let p = body_at s0 (suc d) t m in
+      let c = fix_tail (length s0.wires.items + length p.wires) d (context_of s0.context.items) t p.out p.free in
+      after s0 s1 s2 p.wires p.nodes c r h.grows (subst (λ t. Builds s1 s2 t r) fix_path j)
+
+-- room for the whole is room for the body
+pub lam_body_room : (n d : ℕ) (s : Parts) (t : TyTree) (m : TermTree) → n + length (part_at s d (lam t m)).wires < 2 ^ 32 → n + length (body_at s d t m).wires < 2 ^ 32
+lam_body_room n d s t m l =
+    let p = body_at s d t m in
+    let c = lam_tail (length s.wires.items + length p.wires) d t p.type p.out p.free in
+    omega (arith, l, length-append p.wires c.wires)
+
+pub fix_body_room : (n d : ℕ) (s : Parts) (t : TyTree) (m : TermTree) → n + length (part_at s d (fix t m)).wires < 2 ^ 32 → n + 1 + length (body_at s (suc d) t m).wires < 2 ^ 32
+fix_body_room n d s t m l =
+    let p = body_at s (suc d) t m in
+    let c = fix_tail (length s.wires.items + length p.wires) d (context_of s.context.items) t p.out p.free in
+    let b = bound (length s.wires.items + length p.wires) (suc d) t p.free in
+    let e = doors (length s.wires.items + length p.wires + length b.wires) d (context_of s.context.items) b.free in
+    omega (arith, l, length-append p.wires c.wires, length-append b.wires (e.wires ++ value_wire d t ∷ []), length-append e.wires (value_wire d t ∷ []))
+
+-- the same for a depth that is one more
+pub app_second_room_at : (s0 s1 : Parts) (d d' : ℕ) (a b : TermTree) (r1 : Placed) → d' ≡ suc d → Builds s0 s1 (part_at s0 d a) r1 → (n m : ℕ) → m ≤ n + length (part_at s0 d a).wires + 1 →
+    n + length (part_at s0 d (app a b)).wires < 2 ^ 32 → m + length (part_at s1 d' b).wires < 2 ^ 32
+app_second_room_at s0 s1 d d' a b r1 e h n m l k = subst (λ d'. m + length (part_at s1 d' b).wires < 2 ^ 32) (sym e) (app_second_room s0 s1 d a b r1 h n m l k)
+
+pub app_close_room_at : (s0 s1 s2 : Parts) (d d' : ℕ) (a b : TermTree) (r1 r2 : Placed) → d' ≡ suc d → Builds s0 s1 (part_at s0 d a) r1 → Builds s1 s2 (part_at s1 d' b) r2 → length s0.wires.items + length (part_at s0 d (app a b)).wires < 2 ^ 32 →
+    length s2.wires.items + length (app_here s2 d r1 r2).wires < 2 ^ 32
+app_close_room_at s0 s1 s2 d d' a b r1 r2 e h i l = app_close_room s0 s1 d a b r1 h s2 r2 (subst (λ d'. Builds s1 s2 (part_at s1 d' b) r2) e i) l
+
+pub app_builds_at : (s0 s1 s2 s3 : Parts) (d d' : ℕ) (a b : TermTree) (r1 r2 r : Placed) → d' ≡ suc d → Builds s0 s1 (part_at s0 d a) r1 → Builds s1 s2 (part_at s1 d' b) r2 → Builds s2 s3 (app_here s2 d r1 r2) r →
+    Builds s0 s3 (part_at s0 d (app a b)) r
+app_builds_at s0 s1 s2 s3 d d' a b r1 r2 r e h i j = app_builds s0 s1 d a b r1 h s2 r2 (subst (λ d'. Builds s1 s2 (part_at s1 d' b) r2) e i) s3 r j
+
+pub fix_body_room_at : (n m d d' : ℕ) (s : Parts) (t : TyTree) (b : TermTree) → d' ≡ suc d → m ≤ n + 1 → n + length (part_at s d (fix t b)).wires < 2 ^ 32 → m + length (body_at s d' t b).wires < 2 ^ 32
+fix_body_room_at n m d d' s t b e l k = subst (λ d'. m + length (body_at s d' t b).wires < 2 ^ 32) (sym e) (let z = fix_body_room n d s t b k in omega arith)
+
+pub fix_close_room_at : (s0 s1 : Parts) (d d' : ℕ) (t : TyTree) (m : TermTree) (r1 : Placed) → d' ≡ suc d → BuildsBody s0 s1 (body_at s0 d' t m) r1 → length s0.wires.items + length (part_at s0 d (fix t m)).wires < 2 ^ 32 →
+    length s1.wires.items + length (fix_here s1 d t r1).wires < 2 ^ 32
+fix_close_room_at s0 s1 d d' t m r1 e h l = fix_close_room s0 s1 d t m r1 (subst (λ d'. BuildsBody s0 s1 (body_at s0 d' t m) r1) e h) l
+
+pub fix_builds_at : (s0 s1 s2 : Parts) (d d' : ℕ) (t : TyTree) (m : TermTree) (r1 r : Placed) → d' ≡ suc d → BuildsBody s0 s1 (body_at s0 d' t m) r1 → Builds s1 s2 (fix_here s1 d t r1) r → Builds s0 s2 (part_at s0 d (fix t m)) r
+fix_builds_at s0 s1 s2 d d' t m r1 r e h j = fix_builds s0 s1 d t m r1 (subst (λ d'. BuildsBody s0 s1 (body_at s0 d' t m) r1) e h) s2 r j
+
+-- a variable's loose wire
+one_spreads : (g : List TyTree) (k i w : ℕ) → length g ≡ k → Spreads k (one_free g i w) (one_at k i w)
+one_spreads [] zero i w h =
+    let e : one_at zero i w ≡ [] = rw (le-ltb i zero (omega arith)) refl in
+    subst (Spreads zero []) (sym e) (record { spreads = refl; falling = tt })
+one_spreads [] (suc k) i w h = absurd (omega arith)
+one_spreads (t ∷ g) zero i w h = absurd (omega arith)
+one_spreads (t ∷ g) (suc k) zero w h =
+    let u : Loose = record { binder = k; wire = w } in
+    let b : suc k - 1 - 0 ≡ k = omega arith in
+    let e : one_at (suc k) zero w ≡ u ∷ [] = rw (lt-ltb zero (suc k) (omega arith), b) refl in
+    subst (Spreads (suc k) (Some w ∷ none_free g)) (sym e) (record { spreads = spread_at k u [] refl ∙ ap (λ f. Some w ∷ f) (spread_none k g (omega arith)); falling = (omega arith, tt) })
+one_spreads (t ∷ g) (suc k) (suc i) w h = go (cases_lt i k) (one_spreads g k i w (omega arith))
+  where
+    go : (i < k) ⊎ (k ≤ i) → Spreads k (one_free g i w) (one_at k i w) → Spreads (suc k) (None ∷ one_free g i w) (one_at (suc k) (suc i) w)
+    go (inl l) s =
+        let u : Loose = record { binder = k - 1 - i; wire = w } in
+        let e : one_at k i w ≡ u ∷ [] = rw (lt-ltb i k l) refl in
+        let b : suc k - 1 - suc i ≡ k - 1 - i = omega arith in
+        let e' : one_at (suc k) (suc i) w ≡ u ∷ [] = rw (lt-ltb (suc i) (suc k) (omega arith), b) refl in
+        let s' = subst (Spreads k (one_free g i w)) e s in
+        subst (Spreads (suc k) (None ∷ one_free g i w)) (sym e') (record { spreads = spread_under k (u ∷ []) s'.falling ∙ ap (λ f. None ∷ f) s'.spreads; falling = falling_more k (u ∷ []) s'.falling })
+    go (inr l) s =
+        let e : one_at k i w ≡ [] = rw (le-ltb i k l) refl in
+        let e' : one_at (suc k) (suc i) w ≡ [] = rw (le-ltb (suc i) (suc k) (omega arith)) refl in
+        let s' = subst (Spreads k (one_free g i w)) e s in
+        subst (Spreads (suc k) (None ∷ one_free g i w)) (sym e') (record { spreads = ap (λ f. None ∷ f) s'.spreads; falling = tt })
+
+pub node_grows : (old new : Parts) (n : Node) → new.wires.items ≡ old.wires.items → new.nodes.items ≡ old.nodes.items ++ n ∷ [] → new.context.items ≡ old.context.items → Grows old new [] (n ∷ [])
+node_grows old new n ew en ec = record { wires = ap (map wire_of) ew ∙ sym (append-nil (map wire_of old.wires.items)); nodes = en; context = ec }
+
+pub variable_builds : (old mid new : Parts) (d i x : ℕ) (a : TyTree) (r : Placed) → Grows old mid (value_wire d a ∷ var_wire d a ∷ []) [] → r.out ≡ length old.wires.items → a ≡ type_or_nat (slice_get (context_of old.context.items) i) →
+    x ≡ suc (length old.wires.items) → Grows mid new [] (Der r.out x ∷ []) → r.free.items ≡ one_at (length old.context.items) i x → Builds old new (part_at old d (var i)) r
+variable_builds old mid new d i x a r g eo et ex h ef =
+    let n = length old.wires.items in
+    let t = type_or_nat (slice_get (context_of old.context.items) i) in
+    let g' : Grows old mid (value_wire d t ∷ var_wire d t ∷ []) [] = subst (λ t. Grows old mid (value_wire d t ∷ var_wire d t ∷ []) []) et g in
+    let en : Der r.out x ≡ Der n (suc n) = λ k. Der (eo k) (ex k) in
+    let h' : Grows mid new [] (Der n (suc n) ∷ []) = subst (λ n. Grows mid new [] (n ∷ [])) en h in
+    let f : r.free.items ≡ one_at (length old.context.items) i (suc n) = ef ∙ ap (one_at (length old.context.items) i) ex in
+    let k : Grows old new (value_wire d t ∷ var_wire d t ∷ []) (Der n (suc n) ∷ []) = grows_then old mid new (value_wire d t ∷ var_wire d t ∷ []) [] [] (Der n (suc n) ∷ []) g' h' in
+    record {
+      grows = k;
+      gives = record { out = eo; inside = new_inside old new (value_wire d t) (var_wire d t ∷ []) (Der n (suc n) ∷ []) r.out k eo; type = new_type old new (value_wire d t) (var_wire d t ∷ []) (Der n (suc n) ∷ []) r.out k eo; free = subst (Spreads (length old.context.items) (one_free (context_of old.context.items) i (suc n))) (sym f) (one_spreads (context_of old.context.items) (length old.context.items) i (suc n) (context_length old.context.items)) };
+    }
+
+-- one binder more
+pub context_push : (c : List Ty) (a : Ty) → context_of (c ++ a ∷ []) ≡ ty_of a ∷ context_of c
+context_push c a = ap (map ty_of) (reverse-append c (a ∷ []))
+
+pub pushed : (s s' : Parts) (d : ℕ) (a : Ty) (t : TyTree) (m : TermTree) → s'.wires ≡ s.wires → s'.context.items ≡ s.context.items ++ a ∷ [] → ty_of a ≡ t → part_at s' d m ≡ body_at s d t m
+pushed s s' d a t m ew ec et =
+    let c : context_of s'.context.items ≡ t ∷ context_of s.context.items = ap context_of ec ∙ context_push s.context.items a ∙ ap (λ t. t ∷ context_of s.context.items) et in
+    λ k. part (length (ew k).items) d (c k) m

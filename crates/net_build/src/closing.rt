@@ -1,22 +1,28 @@
 //! The last wires and nodes of each form of term, once its parts are placed.
 
-ghost use Rattle.std.specs.Prelude.{◌≡◌, ◌<◌, ◌+◌, ◌^◌, ◌-◌, [], length, suc, IfOk, OnOk};
+ghost use Rattle.std.specs.Prelude.{◌≡◌, ◌<◌, ◌+◌, ◌-◌, ◌^◌, ◌∷◌, [], length, suc, reverse, slice_get, IfOk};
 ghost use Rattle.pcf_values.specs.Terms.{arrow};
 ghost use Rattle.pcf_values.specs.Views.{ty_of};
 ghost use Rattle.net_build.specs.NetOf.{domain, codomain};
-ghost use Rattle.net_build.specs.Building.{Builds, Finishes, Has, Runs, app_here, binding, bound_by, box_here, box_wire, contractions, double_here, exits, fix_here, ifz_here, lam_here, table, types, wire_type};
+ghost use Rattle.net_build.specs.Building.{Binds, Builds, Bundles, Falling, Finishes, app_here, box_here, box_wire, double_here, fix_here, ifz_here, lam_here, uses_first};
 
 use crate::double::Double;
-use crate::joins::{contract, doors};
-use crate::parts::{Body, Parts};
+use crate::joins::{contract, doors, pop_last};
+use crate::parts::{Loose, Parts, Placed};
 use crate::{Node, Wire, WireKind};
 use pcf_values::Ty;
 use std::alloc::{AllocError, Global};
 
 /// Adds the last value wire of a term, and its node.
-pub(crate) fn finish(parts: &mut Parts, depth: u32, ty: Ty, node: Node) -> Result<u32, AllocError>
+pub(crate) fn finish(
+    parts: &mut Parts,
+    depth: u32,
+    ty: Ty,
+    node: Node,
+    free: Vec<Loose>,
+) -> Result<Placed, AllocError>
     requires { length parts.old.wires.items < 2 ^ 32 }
-    ensures { IfOk result (λ o. Finishes parts.old parts.new depth (ty_of ty) node o) }
+    ensures { IfOk result (λ r. Finishes parts.old parts.new depth (ty_of ty) node free.items r) }
 {
     let out = parts.next();
     let wire = Wire {
@@ -25,30 +31,29 @@ pub(crate) fn finish(parts: &mut Parts, depth: u32, ty: Ty, node: Node) -> Resul
         ty,
     };
     parts.add(wire, node)?;
-    Ok(out)
+    Ok(Placed { out, free })
 }
 
-/// After both operands: the contractions of the variables that both use, and the node.
+/// After both operands: the contractions of their variables, and the node.
 pub(crate) fn close_double(
     alloc: Global,
     parts: &mut Parts,
     depth: u32,
     form: Double,
-    left: u32,
-    right: u32,
-    shared: &[usize],
-) -> Result<u32, AllocError>
-    requires binders { length (table parts.old) ≡ length parts.old.context.items }
-    requires left_wire { left < length parts.old.wires.items }
-    requires right_wire { right < length parts.old.wires.items }
-    requires pairs { Has 2 (length parts.old.wires.items) shared.now (table parts.old) }
-    requires room { length parts.old.wires.items + length (double_here form parts.old depth left right shared.now).wires < 2 ^ 32 }
-    ensures { IfOk result (λ o. Builds parts.old parts.new [] (double_here form parts.old depth left right shared.now) o) }
+    left: Placed,
+    right: Placed,
+) -> Result<Placed, AllocError>
+    requires lefts { Falling (length parts.old.context.items) (reverse left.free.items) }
+    requires rights { Falling (length parts.old.context.items) (reverse right.free.items) }
+    requires left_wire { left.out < length parts.old.wires.items }
+    requires right_wire { right.out < length parts.old.wires.items }
+    requires room { length parts.old.wires.items + length (double_here form parts.old depth left right).wires < 2 ^ 32 }
+    ensures { IfOk result (λ r. Builds parts.old parts.new (double_here form parts.old depth left right) r) }
 {
-    let ty = form.ty(alloc, parts.ty(left), parts.ty(right))?;
-    contract(alloc, parts, depth, shared)?;
-    let node = form.node(left, right, parts.next());
-    finish(parts, depth, ty, node)
+    let ty = form.ty(alloc, parts.ty(left.out), parts.ty(right.out))?;
+    let free = contract(alloc, parts, depth, left.free, right.free)?;
+    let node = form.node(left.out, right.out, parts.next());
+    finish(parts, depth, ty, node, free)
 }
 
 /// After condition, then and else: the branches are contracted first, and then the condition with them.
@@ -56,27 +61,25 @@ pub(crate) fn close_ifz(
     alloc: Global,
     parts: &mut Parts,
     depth: u32,
-    test: u32,
-    then: u32,
-    otherwise: u32,
-    shared: &[usize],
-    branches: &[usize],
-) -> Result<u32, AllocError>
-    requires binders { length (table parts.old) ≡ length parts.old.context.items }
-    requires branches { Has 2 (length parts.old.wires.items) branches.now (table parts.old) }
-    requires pairs { Has 2 (length parts.old.wires.items + length (contractions (length parts.old.wires.items) depth (types parts.old) branches.now (table parts.old)).wires) shared.now (contractions (length parts.old.wires.items) depth (types parts.old) branches.now (table parts.old)).table }
-    requires room { length parts.old.wires.items + length (ifz_here parts.old depth test then otherwise shared.now branches.now).wires < 2 ^ 32 }
-    ensures { IfOk result (λ o. Builds parts.old parts.new [] (ifz_here parts.old depth test then otherwise shared.now branches.now) o) }
+    test: Placed,
+    then: Placed,
+    otherwise: Placed,
+) -> Result<Placed, AllocError>
+    requires tests { Falling (length parts.old.context.items) (reverse test.free.items) }
+    requires thens { Falling (length parts.old.context.items) (reverse then.free.items) }
+    requires elses { Falling (length parts.old.context.items) (reverse otherwise.free.items) }
+    requires room { length parts.old.wires.items + length (ifz_here parts.old depth test then otherwise).wires < 2 ^ 32 }
+    ensures { IfOk result (λ r. Builds parts.old parts.new (ifz_here parts.old depth test then otherwise) r) }
 {
-    contract(alloc, parts, depth, branches)?;
-    contract(alloc, parts, depth, shared)?;
+    let branches = contract(alloc, parts, depth, then.free, otherwise.free)?;
+    let free = contract(alloc, parts, depth, test.free, branches)?;
     let node = Node::Ifz {
-        c: test,
-        p: then,
-        q: otherwise,
+        c: test.out,
+        p: then.out,
+        q: otherwise.out,
         w: parts.next(),
     };
-    finish(parts, depth, Ty::Nat, node)
+    finish(parts, depth, Ty::Nat, node, free)
 }
 
 /// After the body of a `fun`.
@@ -85,20 +88,22 @@ pub(crate) fn close_fun(
     parts: &mut Parts,
     depth: u32,
     ty: &Ty,
-    body: Body,
-) -> Result<u32, AllocError>
+    body: Placed,
+) -> Result<Placed, AllocError>
+    requires falling { Falling (suc (length parts.old.context.items)) (reverse body.free.items) }
     requires body_wire { body.out < length parts.old.wires.items }
-    requires room { length parts.old.wires.items + length (lam_here parts.old depth (ty_of ty.now) body.out body.used).wires < 2 ^ 32 }
-    ensures { IfOk result (λ o. Builds parts.old parts.new [] (lam_here parts.old depth (ty_of ty.now) body.out body.used) o) }
+    requires room { length parts.old.wires.items + length (lam_here parts.old depth (ty_of ty.now) body).wires < 2 ^ 32 }
+    ensures { IfOk result (λ r. Builds parts.old parts.new (lam_here parts.old depth (ty_of ty.now) body) r) }
 {
     let whole = arrow_of(alloc, ty, parts.ty(body.out))?;
-    let x = bind(alloc, parts, depth, ty, body.used)?;
+    let mut free = body.free;
+    let x = bind(alloc, parts, depth, ty, &mut free)?;
     let node = Node::Lam {
         b: body.out,
         x,
         w: parts.next(),
     };
-    finish(parts, depth, whole, node)
+    finish(parts, depth, whole, node, free)
 }
 
 /// After the body of a `fix`, which stands one depth further in: its other variables leave by doors.
@@ -107,23 +112,22 @@ pub(crate) fn close_fix(
     parts: &mut Parts,
     depth: u32,
     ty: &Ty,
-    body: Body,
-    leaving: &[usize],
-) -> Result<u32, AllocError>
-    requires binders { length (table parts.old) ≡ length parts.old.context.items }
+    body: Placed,
+) -> Result<Placed, AllocError>
+    requires falling { Falling (suc (length parts.old.context.items)) (reverse body.free.items) }
     requires deep { depth < 2 ^ 32 - 1 }
-    requires some { Has 1 (length parts.old.wires.items + length (binding (length parts.old.wires.items) (suc depth) (ty_of ty.now) body.used (table parts.old)).wires) leaving.now (table parts.old) }
-    requires room { length parts.old.wires.items + length (fix_here parts.old depth (ty_of ty.now) body.out body.used leaving.now).wires < 2 ^ 32 }
-    ensures { IfOk result (λ o. Builds parts.old parts.new [] (fix_here parts.old depth (ty_of ty.now) body.out body.used leaving.now) o) }
+    requires room { length parts.old.wires.items + length (fix_here parts.old depth (ty_of ty.now) body).wires < 2 ^ 32 }
+    ensures { IfOk result (λ r. Builds parts.old parts.new (fix_here parts.old depth (ty_of ty.now) body) r) }
 {
-    let x = bind(alloc, parts, depth + 1, ty, body.used)?;
-    doors(alloc, parts, depth, leaving)?;
+    let mut free = body.free;
+    let x = bind(alloc, parts, depth + 1, ty, &mut free)?;
+    let free = doors(alloc, parts, depth, free)?;
     let node = Node::FixBox {
         b: body.out,
         x,
         w: parts.next(),
     };
-    finish(parts, depth, ty.copy(alloc)?, node)
+    finish(parts, depth, ty.copy(alloc)?, node, free)
 }
 
 /// After the function and its argument, which stands one depth further in.
@@ -131,46 +135,48 @@ pub(crate) fn close_app(
     alloc: Global,
     parts: &mut Parts,
     depth: u32,
-    function: u32,
-    argument: u32,
-    shared: &[usize],
-    leaving: &[usize],
-) -> Result<u32, AllocError>
-    requires binders { length (table parts.old) ≡ length parts.old.context.items }
-    requires function_wire { function < length parts.old.wires.items }
-    requires some { Has 1 (length parts.old.wires.items) leaving.now (table parts.old) }
-    requires pairs { Has 2 (suc (box_wire parts.old depth leaving.now)) shared.now (box_here parts.old depth (domain (wire_type parts.old function)) argument leaving.now).table }
-    requires room { length parts.old.wires.items + length (app_here parts.old depth function argument shared.now leaving.now).wires < 2 ^ 32 }
-    ensures { IfOk result (λ o. Builds parts.old parts.new [] (app_here parts.old depth function argument shared.now leaving.now) o) }
+    function: Placed,
+    argument: Placed,
+) -> Result<Placed, AllocError>
+    requires functions { Falling (length parts.old.context.items) (reverse function.free.items) }
+    requires arguments { Falling (length parts.old.context.items) (reverse argument.free.items) }
+    requires function_wire { function.out < length parts.old.wires.items }
+    requires room { length parts.old.wires.items + length (app_here parts.old depth function argument).wires < 2 ^ 32 }
+    ensures { IfOk result (λ r. Builds parts.old parts.new (app_here parts.old depth function argument) r) }
 {
-    let from = domain_of(alloc, parts.ty(function))?;
-    let a = close_box(alloc, parts, depth, from, argument, leaving)?;
-    contract(alloc, parts, depth, shared)?;
+    let from = domain_of(alloc, parts.ty(function.out))?;
+    let boxed = close_box(alloc, parts, depth, from, argument)?;
+    let free = contract(alloc, parts, depth, function.free, boxed.free)?;
     let node = Node::App {
-        f: function,
-        a,
+        f: function.out,
+        a: boxed.out,
         w: parts.next(),
     };
-    let to = codomain_of(alloc, parts.ty(function))?;
-    finish(parts, depth, to, node)
+    let to = codomain_of(alloc, parts.ty(function.out))?;
+    finish(parts, depth, to, node, free)
 }
 
-/// Doors for the argument's variables, and the box on its value wire; answers the box's wire.
+/// What an argument is, once it is boxed: its bang wire, and the loose wires outside.
+#[derive(Drop)]
+struct Boxed {
+    out: u32,
+    free: Vec<Loose>,
+}
+
+/// Doors for the argument's variables, and the box on its value wire.
 fn close_box(
     alloc: Global,
     parts: &mut Parts,
     depth: u32,
     ty: Ty,
-    argument: u32,
-    leaving: &[usize],
-) -> Result<u32, AllocError>
-    requires binders { length (table parts.old) ≡ length parts.old.context.items }
-    requires some { Has 1 (length parts.old.wires.items) leaving.now (table parts.old) }
-    requires room { length parts.old.wires.items + length (box_here parts.old depth (ty_of ty) argument leaving.now).wires < 2 ^ 32 }
-    ensures run { OnOk result (Runs parts.old parts.new (box_here parts.old depth (ty_of ty) argument leaving.now)) }
-    ensures wire { IfOk result (λ o. o ≡ box_wire parts.old depth leaving.now) }
+    argument: Placed,
+) -> Result<Boxed, AllocError>
+    requires falling { Falling (length parts.old.context.items) (reverse argument.free.items) }
+    requires room { length parts.old.wires.items + length (box_here parts.old depth (ty_of ty) argument).wires < 2 ^ 32 }
+    ensures bundle { IfOk result (λ b. Bundles parts.old parts.new (box_here parts.old depth (ty_of ty) argument) b.free.items) }
+    ensures wire { IfOk result (λ b. b.out ≡ box_wire parts.old depth argument) }
 {
-    doors(alloc, parts, depth, leaving)?;
+    let free = doors(alloc, parts, depth, argument.free)?;
     let out = parts.next();
     let wire = Wire {
         kind: WireKind::Bang,
@@ -178,37 +184,45 @@ fn close_box(
         ty,
     };
     let node = Node::BoxNode {
-        i: argument,
+        i: argument.out,
         o: out,
     };
     parts.add(wire, node)?;
-    Ok(out)
+    Ok(Boxed { out, free })
 }
 
-/// The binder's variable wire: the body's loose one where the body uses it, and else that of a Weak.
+/// The binder's variable wire, off the body's list where the body uses it, and else of a Weak. The context is that outside.
 fn bind(
     alloc: Global,
     parts: &mut Parts,
     depth: u32,
     ty: &Ty,
-    used: Option<u32>,
+    free: &mut Vec<Loose>,
 ) -> Result<u32, AllocError>
+    requires falling { Falling (suc (length parts.old.context.items)) (reverse free.old.items) }
     requires room { length parts.old.wires.items < 2 ^ 32 }
-    ensures run { OnOk result (Runs parts.old parts.new (binding (length parts.old.wires.items) depth (ty_of ty.now) used (table parts.old))) }
-    ensures wire { IfOk result (λ x. x ≡ bound_by (length parts.old.wires.items) used) }
+    ensures { IfOk result (λ x. Binds parts.old parts.new depth (ty_of ty.now) free.old.items free.new.items x) }
 {
-    match used {
-        Some(x) => Ok(x),
-        None => {
-            let x = parts.next();
-            let wire = Wire {
-                kind: WireKind::Variable,
-                depth,
-                ty: ty.copy(alloc)?,
-            };
-            parts.add(wire, Node::Weak { x })?;
-            Ok(x)
-        }
+    if uses(free, parts.context.len()) {
+        return Ok(pop_last(free).wire);
+    }
+    let x = parts.next();
+    let wire = Wire {
+        kind: WireKind::Variable,
+        depth,
+        ty: ty.copy(alloc)?,
+    };
+    parts.add(wire, Node::Weak { x })?;
+    Ok(x)
+}
+
+/// Whether the innermost loose wire is of this binder.
+fn uses(free: &Vec<Loose>, binder: usize) -> bool
+    ensures { result ≡ uses_first binder (reverse free.now.items) }
+{
+    match free.last() {
+        Some(loose) => loose.binder == binder,
+        None => false,
     }
 }
 

@@ -1,92 +1,117 @@
 //! Contractions and doors: the nodes that a term's free variables need.
 
-ghost use Rattle.std.specs.Prelude.{◌≡◌, ◌<◌, ◌≤◌, ◌+◌, ◌^◌, length, OnOk};
-ghost use Rattle.net_build.specs.Building.{Has, Runs, Steps, Varies, contraction, contractions, exit, exits, stack, table, types};
+ghost use Rattle.std.specs.Prelude.{◌≡◌, ◌⊎◌, ◌<◌, ◌+◌, ◌^◌, ◌++◌, ◌∷◌, [], length, reverse, IfOk};
+ghost use Rattle.net_build.specs.Building.{Bundles, Falling, IsFirst, Takes, Varies, contract_at, doors_at};
 
-use crate::parts::Parts;
+use crate::parts::{Loose, Parts};
 use crate::{Node, Wire, WireKind};
 use std::alloc::{AllocError, Global};
 
-/// Contracts the variables that two parts share: for each of these binders, in turn, a Con of its last two loose wires, the later on
-/// the right.
+/// Contracts two lists of loose wires, the first on the left: a Con for each variable that stands in both, by rising index. Only the
+/// part of a list that lies above the other's last entry is looked at; the rest stays where it is.
 pub(crate) fn contract(
     alloc: Global,
     parts: &mut Parts,
     depth: u32,
-    shared: &[usize],
-) -> Result<(), AllocError>
-    requires binders { length (table parts.old) ≡ length parts.old.context.items }
-    requires pairs { Has 2 (length parts.old.wires.items) shared.now (table parts.old) }
-    requires room { length parts.old.wires.items + length (contractions (length parts.old.wires.items) depth (types parts.old) shared.now (table parts.old)).wires < 2 ^ 32 }
-    ensures { OnOk result (Runs parts.old parts.new (contractions (length parts.old.wires.items) depth (types parts.old) shared.now (table parts.old))) }
+    mut left: Vec<Loose>,
+    mut right: Vec<Loose>,
+) -> Result<Vec<Loose>, AllocError>
+    requires lefts { Falling (length parts.old.context.items) (reverse left.items) }
+    requires rights { Falling (length parts.old.context.items) (reverse right.items) }
+    requires room { length parts.old.wires.items + length (contract_at parts.old depth left.items right.items).wires < 2 ^ 32 }
+    ensures { IfOk result (λ v. Bundles parts.old parts.new (contract_at parts.old depth left.items right.items) v.items) }
 {
-    for &binder in shared {
-        join(alloc, parts, depth, binder)?;
+    let mut joined = Vec::new(alloc);
+    while !left.is_empty() && !right.is_empty() {
+        let next = take(alloc, parts, depth, &mut left, &mut right)?;
+        joined.push(next)?;
     }
-    Ok(())
+    upon(left, right, joined)
 }
 
-/// A Con of the last two loose wires of a binder's variable.
-fn join(alloc: Global, parts: &mut Parts, depth: u32, binder: usize) -> Result<(), AllocError>
-    requires binders { length (table parts.old) ≡ length parts.old.context.items }
-    requires binder { binder < length (table parts.old) }
-    requires pair { 2 ≤ length (stack (table parts.old) binder) }
+/// The innermost variable's wire leaves its list, or both lists by a Con.
+fn take(
+    alloc: Global,
+    parts: &mut Parts,
+    depth: u32,
+    left: &mut Vec<Loose>,
+    right: &mut Vec<Loose>,
+) -> Result<Loose, AllocError>
+    requires lefts { Falling (length parts.old.context.items) (reverse left.old.items) }
+    requires some_left { 0 < length left.old.items }
+    requires some_right { 0 < length right.old.items }
     requires room { length parts.old.wires.items < 2 ^ 32 }
-    ensures { OnOk result (Steps contraction 2 parts.old parts.new depth binder) }
+    ensures { IfOk result (λ u. Takes parts.old parts.new depth (reverse left.old.items) (reverse right.old.items) (reverse left.new.items) (reverse right.new.items) u) }
 {
-    let r = parts.take(binder);
-    let l = parts.take(binder);
-    let node = Node::Con {
-        l,
-        r,
-        w: parts.next(),
-    };
-    variable(alloc, parts, depth, binder, node)
+    let u = last(left);
+    let v = last(right);
+    if u.binder == v.binder {
+        let node = Node::Con {
+            l: u.wire,
+            r: v.wire,
+            w: parts.next(),
+        };
+        let joined = variable(alloc, parts, depth, u.binder, node)?;
+        pop_last(left);
+        pop_last(right);
+        Ok(joined)
+    } else if v.binder < u.binder {
+        Ok(pop_last(left))
+    } else {
+        Ok(pop_last(right))
+    }
 }
 
-/// Lets variables out of a box: for each of these binders, in turn, a Door of its last loose wire.
+/// What is left of two lists, one of which is empty, with the joined wires, which are further in.
+fn upon(
+    left: Vec<Loose>,
+    right: Vec<Loose>,
+    mut joined: Vec<Loose>,
+) -> Result<Vec<Loose>, AllocError>
+    requires { (left.items ≡ []) ⊎ (right.items ≡ []) }
+    ensures { IfOk result (λ v. reverse v.items ≡ joined.items ++ (reverse left.items ++ reverse right.items)) }
+{
+    let mut rest = if left.is_empty() { right } else { left };
+    joined.reverse();
+    rest.append(&mut joined)?;
+    Ok(rest)
+}
+
+/// A Door for each loose wire, by rising index, to a new variable wire at this depth.
 pub(crate) fn doors(
     alloc: Global,
     parts: &mut Parts,
     depth: u32,
-    leaving: &[usize],
-) -> Result<(), AllocError>
-    requires binders { length (table parts.old) ≡ length parts.old.context.items }
-    requires some { Has 1 (length parts.old.wires.items) leaving.now (table parts.old) }
-    requires room { length parts.old.wires.items + length (exits (length parts.old.wires.items) depth (types parts.old) leaving.now (table parts.old)).wires < 2 ^ 32 }
-    ensures { OnOk result (Runs parts.old parts.new (exits (length parts.old.wires.items) depth (types parts.old) leaving.now (table parts.old))) }
+    mut inside: Vec<Loose>,
+) -> Result<Vec<Loose>, AllocError>
+    requires falling { Falling (length parts.old.context.items) (reverse inside.items) }
+    requires room { length parts.old.wires.items + length (doors_at parts.old depth inside.items).wires < 2 ^ 32 }
+    ensures { IfOk result (λ v. Bundles parts.old parts.new (doors_at parts.old depth inside.items) v.items) }
 {
-    for &binder in leaving {
-        leave(alloc, parts, depth, binder)?;
+    let mut outside = Vec::new(alloc);
+    while !inside.is_empty() {
+        let loose = pop_last(&mut inside);
+        let node = Node::Door {
+            i: loose.wire,
+            o: parts.next(),
+        };
+        outside.push(variable(alloc, parts, depth, loose.binder, node)?)?;
     }
-    Ok(())
+    outside.reverse();
+    Ok(outside)
 }
 
-/// A Door of the last loose wire of a binder's variable, to a new one at this depth.
-fn leave(alloc: Global, parts: &mut Parts, depth: u32, binder: usize) -> Result<(), AllocError>
-    requires binders { length (table parts.old) ≡ length parts.old.context.items }
-    requires binder { binder < length (table parts.old) }
-    requires some { 1 ≤ length (stack (table parts.old) binder) }
-    requires room { length parts.old.wires.items < 2 ^ 32 }
-    ensures { OnOk result (Steps exit 1 parts.old parts.new depth binder) }
-{
-    let i = parts.take(binder);
-    let node = Node::Door { i, o: parts.next() };
-    variable(alloc, parts, depth, binder, node)
-}
-
-/// A loose variable wire of a binder, with the node above it.
+/// A variable wire of a binder, with the node above it.
 fn variable(
     alloc: Global,
     parts: &mut Parts,
     depth: u32,
     binder: usize,
     node: Node,
-) -> Result<(), AllocError>
-    requires binders { length (table parts.old) ≡ length parts.old.context.items }
-    requires binder { binder < length (table parts.old) }
+) -> Result<Loose, AllocError>
+    requires binder { binder < length parts.old.context.items }
     requires room { length parts.old.wires.items < 2 ^ 32 }
-    ensures { OnOk result (Varies parts.old parts.new depth binder node) }
+    ensures { IfOk result (λ u. Varies parts.old parts.new depth binder node u) }
 {
     let wire = parts.next();
     let ty = parts.context[binder].copy(alloc)?;
@@ -98,5 +123,24 @@ fn variable(
         },
         node,
     )?;
-    parts.put(binder, wire)
+    Ok(Loose { binder, wire })
+}
+
+/// The last entry of a list.
+fn last(list: &Vec<Loose>) -> Loose
+    requires { 0 < length list.now.items }
+    ensures { IsFirst result (reverse list.now.items) }
+{
+    list[list.len() - 1]
+}
+
+/// Takes the last entry off.
+pub(crate) fn pop_last(list: &mut Vec<Loose>) -> Loose
+    requires { 0 < length list.old.items }
+    ensures { reverse list.old.items ≡ result ∷ reverse list.new.items }
+{
+    match list.pop() {
+        Some(loose) => loose,
+        None => unreachable!(),
+    }
 }

@@ -1,29 +1,24 @@
-//! The net of a program, built in one walk over its term, after one that plans its contractions and doors.
+//! The net of a program, built in one pass over its term.
 //!
-//! The plan says at each join which variables both parts use, and at each box which leave it, so that no part's variables are gathered
-//! in a list: they are stacks, one for each binder around. The recursion goes over the term alone. Each form has a function of its
-//! own, so that no frame is large.
+//! The recursion goes over the term alone. Each form has a function of its own, so that no frame is large.
 
-ghost use Rattle.std.specs.Prelude.{◌≡◌, ◌<◌, ◌+◌, ◌-◌, ◌^◌, ◌∷◌, ◌++◌, [], length, suc, zero, slice_get, IfOk, OnOk};
-ghost use Rattle.pcf_values.specs.Terms.{nat, num, var, app, ifz, fix, lam, pair};
+ghost use Rattle.std.specs.Prelude.{◌≡◌, ◌<◌, ◌+◌, ◌-◌, ◌^◌, ◌∷◌, [], length, suc, slice_get, IfOk, OnOk};
+ghost use Rattle.pcf_values.specs.Terms.{nat, num, var, app, ifz, fix, lam};
 ghost use Rattle.pcf_values.specs.Views.{ty_of, term_of};
-ghost use Rattle.net_plan.specs.Plans.{plan};
 ghost use Rattle.net_build.specs.Nets.{value_wire, var_wire};
-ghost use Rattle.net_build.specs.NetOf.{net_of, one_free, type_or_nat};
-ghost use Rattle.net_build.specs.Building.{Builds, BuildsBody, Grows, Planned, body_at, context_of, double_of, part_at, table, unary_at, whole, with_free};
+ghost use Rattle.net_build.specs.NetOf.{net_of, type_or_nat};
+ghost use Rattle.net_build.specs.Building.{Builds, BuildsBody, Grows, body_at, context_of, double_of, one_at, part_at, unary_at};
 
 use crate::closing::{close_app, close_double, close_fix, close_fun, close_ifz, finish};
 use crate::double::Double;
-use crate::parts::{Body, Parts};
+use crate::parts::{Loose, Parts, Placed};
 use crate::unary::Unary;
 use crate::{Net, Node, Wire, WireKind};
-use net_plan::Plan;
 use pcf_values::{Term, Ty, Typed};
 use std::alloc::{AllocError, Global};
 
-/// The net of a program: exactly that of the definition. The time is linear in the size of the net, the types of its wires counted,
-/// but for the inverse of Ackermann's function in the plan, which is at most 4 for every net that there can be. The stack grows with
-/// the height of the term.
+/// The net of a program: exactly that of the definition, in time that is linear in the net's size but for the lists of free variables
+/// that are joined; each of these is as long as the binders around at most.
 pub fn build(alloc: Global, program: &Typed) -> Result<Net, AllocError>
     requires ground { program.now.1 ≡ nat }
     requires wires { length (net_of program.now.0).wires < 2 ^ 32 }
@@ -34,24 +29,21 @@ pub fn build(alloc: Global, program: &Typed) -> Result<Net, AllocError>
         wires: Vec::new(alloc),
         nodes: Vec::new(alloc),
         context: Vec::new(alloc),
-        loose: Vec::new(alloc),
-        plan: Plan::of(alloc, program.term())?,
     };
     let root = place(alloc, &mut parts, 0, program.term())?;
-    parts.nodes.push(Node::Root { w: root })?;
+    parts.nodes.push(Node::Root { w: root.out })?;
     Net::from_parts(alloc, parts.wires, parts.nodes)
 }
 
-/// Adds the wires and nodes of a term at a depth, leaves its free variables' wires on the stacks, and answers its value wire.
+/// Adds the wires and nodes of a term at a depth, and answers what it gives.
 #[cycle(place)]
-fn place(alloc: Global, parts: &mut Parts, depth: u32, term: &Term) -> Result<u32, AllocError>
+fn place(alloc: Global, parts: &mut Parts, depth: u32, term: &Term) -> Result<Placed, AllocError>
     requires numbers { length parts.old.wires.items + length (part_at parts.old depth (term_of term.now)).wires < 2 ^ 32 }
     requires depths { depth + length (part_at parts.old depth (term_of term.now)).wires < 2 ^ 32 }
-    requires planned { Planned parts.old (plan (length parts.old.context.items) (term_of term.now)) }
-    ensures { IfOk result (λ o. Builds parts.old parts.new (plan (length parts.old.context.items) (term_of term.now)) (whole (part_at parts.old depth (term_of term.now)) (table parts.old)) o) }
+    ensures { IfOk result (λ r. Builds parts.old parts.new (part_at parts.old depth (term_of term.now)) r) }
 {
     match term {
-        Term::Number(v) => place_number(parts, depth, *v),
+        Term::Number(v) => place_number(alloc, parts, depth, *v),
         Term::Var(i) => place_variable(alloc, parts, depth, *i),
         Term::Succ(a) => place_unary(alloc, parts, depth, Unary::Succ, a),
         Term::Pred(a) => place_unary(alloc, parts, depth, Unary::Pred, a),
@@ -68,34 +60,35 @@ fn place(alloc: Global, parts: &mut Parts, depth: u32, term: &Term) -> Result<u3
     }
 }
 
-fn place_number(parts: &mut Parts, depth: u32, v: u64) -> Result<u32, AllocError>
-    requires room { length parts.old.wires.items < 2 ^ 32 }
-    requires stacks { length parts.old.loose.items ≡ length parts.old.context.items }
-    ensures { IfOk result (λ o. Builds parts.old parts.new [] (whole (part_at parts.old depth (num v)) (table parts.old)) o) }
+fn place_number(alloc: Global, parts: &mut Parts, depth: u32, v: u64) -> Result<Placed, AllocError>
+    requires { length parts.old.wires.items < 2 ^ 32 }
+    ensures { IfOk result (λ r. Builds parts.old parts.new (part_at parts.old depth (num v)) r) }
 {
     let node = Node::Const { v, w: parts.next() };
-    finish(parts, depth, Ty::Nat, node)
+    finish(parts, depth, Ty::Nat, node, Vec::new(alloc))
 }
 
-fn place_variable(alloc: Global, parts: &mut Parts, depth: u32, i: u32) -> Result<u32, AllocError>
-    requires room { length parts.old.wires.items < 2 ^ 32 - 1 }
-    requires stacks { length parts.old.loose.items ≡ length parts.old.context.items }
-    ensures { IfOk result (λ o. Builds parts.old parts.new [] (whole (part_at parts.old depth (var i)) (table parts.old)) o) }
+fn place_variable(
+    alloc: Global,
+    parts: &mut Parts,
+    depth: u32,
+    i: u32,
+) -> Result<Placed, AllocError>
+    requires { length parts.old.wires.items < 2 ^ 32 - 1 }
+    ensures { IfOk result (λ r. Builds parts.old parts.new (part_at parts.old depth (var i)) r) }
 {
     let ty = variable_type(alloc, &parts.context, i)?;
     let w = parts.next();
     add_uses(alloc, parts, depth, ty)?;
     let x = w + 1;
     parts.nodes.push(Node::Der { w, x })?;
-    add_loose(parts, i, x)?;
-    Ok(w)
+    let free = one_loose(alloc, parts.context.len(), i, x)?;
+    Ok(Placed { out: w, free })
 }
 
 /// The value wire of a variable and its variable wire.
 fn add_uses(alloc: Global, parts: &mut Parts, depth: u32, ty: Ty) -> Result<(), AllocError>
-    ensures grows { OnOk result (Grows parts.old parts.new (value_wire depth (ty_of ty) ∷ var_wire depth (ty_of ty) ∷ []) []) }
-    ensures loose { parts.new.loose ≡ parts.old.loose }
-    ensures plan { parts.new.plan ≡ parts.old.plan }
+    ensures { OnOk result (Grows parts.old parts.new (value_wire depth (ty_of ty) ∷ var_wire depth (ty_of ty) ∷ []) []) }
 {
     parts.wires.push(Wire {
         kind: WireKind::Value,
@@ -123,22 +116,19 @@ fn variable_type(alloc: Global, context: &Vec<Ty>, i: u32) -> Result<Ty, AllocEr
     }
 }
 
-/// The loose wire of variable `i`.
-fn add_loose(parts: &mut Parts, i: u32, wire: u32) -> Result<(), AllocError>
-    requires stacks { length parts.old.loose.items ≡ length parts.old.context.items }
-    ensures loose { OnOk result (table parts.new ≡ with_free (one_free (context_of parts.old.context.items) i wire) (table parts.old)) }
-    ensures wires { parts.new.wires ≡ parts.old.wires }
-    ensures nodes { parts.new.nodes ≡ parts.old.nodes }
-    ensures context { parts.new.context ≡ parts.old.context }
-    ensures plan { parts.new.plan ≡ parts.old.plan }
+/// The one loose wire of variable `i`, where there are so many binders.
+fn one_loose(alloc: Global, binders: usize, i: u32, wire: u32) -> Result<Vec<Loose>, AllocError>
+    ensures { IfOk result (λ v. v.items ≡ one_at binders i wire) }
 {
-    let binders = parts.loose.len();
+    let mut free = Vec::new(alloc);
     let i = i as usize;
     if i < binders {
-        parts.put(binders - 1 - i, wire)
-    } else {
-        Ok(())
+        free.push(Loose {
+            binder: binders - 1 - i,
+            wire,
+        })?;
     }
+    Ok(free)
 }
 
 #[cycle(place)]
@@ -148,16 +138,15 @@ fn place_unary(
     depth: u32,
     form: Unary,
     operand: &Term,
-) -> Result<u32, AllocError>
+) -> Result<Placed, AllocError>
     requires numbers { length parts.old.wires.items + suc (length (part_at parts.old depth (term_of operand.now)).wires) < 2 ^ 32 }
     requires depths { depth + suc (length (part_at parts.old depth (term_of operand.now)).wires) < 2 ^ 32 }
-    requires planned { Planned parts.old (plan (length parts.old.context.items) (term_of operand.now)) }
-    ensures { IfOk result (λ o. Builds parts.old parts.new (plan (length parts.old.context.items) (term_of operand.now)) (whole (unary_at form parts.old depth (part_at parts.old depth (term_of operand.now))) (table parts.old)) o) }
+    ensures { IfOk result (λ r. Builds parts.old parts.new (unary_at form parts.old depth (part_at parts.old depth (term_of operand.now))) r) }
 {
     let operand = place(alloc, parts, depth, operand)?;
-    let ty = form.ty(alloc, parts.ty(operand))?;
-    let node = form.node(operand, parts.next());
-    finish(parts, depth, ty, node)
+    let ty = form.ty(alloc, parts.ty(operand.out))?;
+    let node = form.node(operand.out, parts.next());
+    finish(parts, depth, ty, node, operand.free)
 }
 
 #[cycle(place)]
@@ -168,16 +157,14 @@ fn place_double(
     form: Double,
     left: &Term,
     right: &Term,
-) -> Result<u32, AllocError>
+) -> Result<Placed, AllocError>
     requires numbers { length parts.old.wires.items + length (double_of form parts.old depth (term_of left.now) (term_of right.now)).wires < 2 ^ 32 }
     requires depths { depth + length (double_of form parts.old depth (term_of left.now) (term_of right.now)).wires < 2 ^ 32 }
-    requires planned { Planned parts.old (plan (length parts.old.context.items) (pair (term_of left.now) (term_of right.now))) }
-    ensures { IfOk result (λ o. Builds parts.old parts.new (plan (length parts.old.context.items) (pair (term_of left.now) (term_of right.now))) (whole (double_of form parts.old depth (term_of left.now) (term_of right.now)) (table parts.old)) o) }
+    ensures { IfOk result (λ r. Builds parts.old parts.new (double_of form parts.old depth (term_of left.now) (term_of right.now)) r) }
 {
-    let shared = parts.plan.next();
     let left = place(alloc, parts, depth, left)?;
     let right = place(alloc, parts, depth, right)?;
-    close_double(alloc, parts, depth, form, left, right, &shared)
+    close_double(alloc, parts, depth, form, left, right)
 }
 
 #[cycle(place)]
@@ -188,20 +175,15 @@ fn place_ifz(
     test: &Term,
     then: &Term,
     otherwise: &Term,
-) -> Result<u32, AllocError>
+) -> Result<Placed, AllocError>
     requires numbers { length parts.old.wires.items + length (part_at parts.old depth (ifz (term_of test.now) (term_of then.now) (term_of otherwise.now))).wires < 2 ^ 32 }
     requires depths { depth + length (part_at parts.old depth (ifz (term_of test.now) (term_of then.now) (term_of otherwise.now))).wires < 2 ^ 32 }
-    requires planned { Planned parts.old (plan (length parts.old.context.items) (ifz (term_of test.now) (term_of then.now) (term_of otherwise.now))) }
-    ensures { IfOk result (λ o. Builds parts.old parts.new (plan (length parts.old.context.items) (ifz (term_of test.now) (term_of then.now) (term_of otherwise.now))) (whole (part_at parts.old depth (ifz (term_of test.now) (term_of then.now) (term_of otherwise.now))) (table parts.old)) o) }
+    ensures { IfOk result (λ r. Builds parts.old parts.new (part_at parts.old depth (ifz (term_of test.now) (term_of then.now) (term_of otherwise.now))) r) }
 {
-    let shared = parts.plan.next();
     let test = place(alloc, parts, depth, test)?;
-    let branches = parts.plan.next();
     let then = place(alloc, parts, depth, then)?;
     let otherwise = place(alloc, parts, depth, otherwise)?;
-    close_ifz(
-        alloc, parts, depth, test, then, otherwise, &shared, &branches,
-    )
+    close_ifz(alloc, parts, depth, test, then, otherwise)
 }
 
 #[cycle(place)]
@@ -211,11 +193,10 @@ fn place_fun(
     depth: u32,
     ty: &Ty,
     body: &Term,
-) -> Result<u32, AllocError>
+) -> Result<Placed, AllocError>
     requires numbers { length parts.old.wires.items + length (part_at parts.old depth (lam (ty_of ty.now) (term_of body.now))).wires < 2 ^ 32 }
     requires depths { depth + length (part_at parts.old depth (lam (ty_of ty.now) (term_of body.now))).wires < 2 ^ 32 }
-    requires planned { Planned parts.old (plan (suc (length parts.old.context.items)) (term_of body.now)) }
-    ensures { IfOk result (λ o. Builds parts.old parts.new (plan (suc (length parts.old.context.items)) (term_of body.now)) (whole (part_at parts.old depth (lam (ty_of ty.now) (term_of body.now))) (table parts.old)) o) }
+    ensures { IfOk result (λ r. Builds parts.old parts.new (part_at parts.old depth (lam (ty_of ty.now) (term_of body.now))) r) }
 {
     let body = place_body(alloc, parts, depth, ty, body)?;
     close_fun(alloc, parts, depth, ty, body)
@@ -228,15 +209,13 @@ fn place_fix(
     depth: u32,
     ty: &Ty,
     body: &Term,
-) -> Result<u32, AllocError>
+) -> Result<Placed, AllocError>
     requires numbers { length parts.old.wires.items + length (part_at parts.old depth (fix (ty_of ty.now) (term_of body.now))).wires < 2 ^ 32 }
     requires depths { depth + length (part_at parts.old depth (fix (ty_of ty.now) (term_of body.now))).wires < 2 ^ 32 }
-    requires planned { Planned parts.old (plan (length parts.old.context.items) (fix (ty_of ty.now) (term_of body.now))) }
-    ensures { IfOk result (λ o. Builds parts.old parts.new (plan (length parts.old.context.items) (fix (ty_of ty.now) (term_of body.now))) (whole (part_at parts.old depth (fix (ty_of ty.now) (term_of body.now))) (table parts.old)) o) }
+    ensures { IfOk result (λ r. Builds parts.old parts.new (part_at parts.old depth (fix (ty_of ty.now) (term_of body.now))) r) }
 {
-    let leaving = parts.plan.next();
     let body = place_body(alloc, parts, depth + 1, ty, body)?;
-    close_fix(alloc, parts, depth, ty, body, &leaving)
+    close_fix(alloc, parts, depth, ty, body)
 }
 
 #[cycle(place)]
@@ -246,17 +225,14 @@ fn place_app(
     depth: u32,
     function: &Term,
     argument: &Term,
-) -> Result<u32, AllocError>
+) -> Result<Placed, AllocError>
     requires numbers { length parts.old.wires.items + length (part_at parts.old depth (app (term_of function.now) (term_of argument.now))).wires < 2 ^ 32 }
     requires depths { depth + length (part_at parts.old depth (app (term_of function.now) (term_of argument.now))).wires < 2 ^ 32 }
-    requires planned { Planned parts.old (plan (length parts.old.context.items) (app (term_of function.now) (term_of argument.now))) }
-    ensures { IfOk result (λ o. Builds parts.old parts.new (plan (length parts.old.context.items) (app (term_of function.now) (term_of argument.now))) (whole (part_at parts.old depth (app (term_of function.now) (term_of argument.now))) (table parts.old)) o) }
+    ensures { IfOk result (λ r. Builds parts.old parts.new (part_at parts.old depth (app (term_of function.now) (term_of argument.now))) r) }
 {
-    let shared = parts.plan.next();
     let function = place(alloc, parts, depth, function)?;
-    let leaving = parts.plan.next();
     let argument = place(alloc, parts, depth + 1, argument)?;
-    close_app(alloc, parts, depth, function, argument, &shared, &leaving)
+    close_app(alloc, parts, depth, function, argument)
 }
 
 /// Places a body in the context with its binder's type.
@@ -267,16 +243,13 @@ fn place_body(
     depth: u32,
     ty: &Ty,
     body: &Term,
-) -> Result<Body, AllocError>
+) -> Result<Placed, AllocError>
     requires numbers { length parts.old.wires.items + length (body_at parts.old depth (ty_of ty.now) (term_of body.now)).wires < 2 ^ 32 }
     requires depths { depth + length (body_at parts.old depth (ty_of ty.now) (term_of body.now)).wires < 2 ^ 32 }
-    requires planned { Planned parts.old (plan (suc (length parts.old.context.items)) (term_of body.now)) }
-    ensures { IfOk result (λ b. BuildsBody parts.old parts.new (plan (suc (length parts.old.context.items)) (term_of body.now)) (body_at parts.old depth (ty_of ty.now) (term_of body.now)) b) }
+    ensures { IfOk result (λ r. BuildsBody parts.old parts.new (body_at parts.old depth (ty_of ty.now) (term_of body.now)) r) }
 {
     parts.context.push(ty.copy(alloc)?)?;
-    parts.loose.push(Vec::new(alloc))?;
-    let out = place(alloc, parts, depth, body)?;
+    let placed = place(alloc, parts, depth, body)?;
     parts.context.pop();
-    let used = parts.end_binder();
-    Ok(Body { out, used })
+    Ok(placed)
 }
