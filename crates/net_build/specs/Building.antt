@@ -3,7 +3,7 @@
 -- with its binder, the innermost binder last: entries only for variables that the term uses.
 use Rattle.std.specs.Prelude.{◌≡◌, ◌<◌, ℕ, zero, suc, List, [], ◌∷◌, ◌++◌, length, map, reverse, Bool, false, Option, Some, None, nat_eq, nat_lt, ◌-◌, slice_get, if◌then◌else◌, ◌+◌}
 use Rattle.pcf_values.specs.declared.ty.Ty.{Ty}
-use Rattle.pcf_values.specs.Terms.{TyTree, nat, left_side, right_side, TermTree, product, arrow}
+use Rattle.pcf_values.specs.Terms.{TyTree, nat, left_side, right_side, TermTree, product}
 use Rattle.pcf_values.specs.Views.{ty_of}
 use Rattle.net_build.specs.declared.node.Node.{Node}
 use Rattle.net_build.specs.declared.node.Node.TheVariants as node

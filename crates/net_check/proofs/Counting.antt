@@ -1,15 +1,15 @@
 -- Counts over one node more.
-use Rattle.std.proofs.Common.{◌≡◌, ◌⊎◌, ℕ, zero, suc, ◌+◌, ◌<◌, List, [], ◌∷◌, ◌++◌, length, take, get_or, replicate, Option, Some, None, refl, sym, ap, ◌∙◌, subst, inl, inr, arith}
+use Rattle.std.proofs.Common.{◌≡◌, ◌⊎◌, ℕ, zero, suc, ◌+◌, ◌<◌, List, [], ◌∷◌, ◌++◌, length, take, get_or, Option, Some, None, refl, sym, ap, ◌∙◌, subst, inl, inr, arith}
 use Rattle.std.specs.Prelude.{slice_get, slice_set, slice_index, nat_eq, if◌then◌else◌}
 use Rattle.std.proofs.lemmas.Bool.{cases_eq, eq-eqb, ne_eqb}
-use Rattle.std.proofs.lemmas.List.{length-replicate, length-set}
+use Rattle.std.proofs.lemmas.List.{length-set}
 use Rattle.std.proofs.lemmas.Option.{get_or_from_slice_get}
 use Rattle.std.proofs.Math.Seq.{take-suc}
 use Rattle.net_build.specs.declared.node.Node.{Node}
 use Rattle.net_build.specs.Nets.{premises, conclusions}
 use Rattle.net_build.specs.Sides.{present}
 use Rattle.net_build.specs.Sound.{how_often, named}
-use Rattle.net_build.proofs.Entries.{get_set_same, get_set_other, get_replicate}
+use Rattle.net_build.proofs.Entries.{get_set_same, get_set_other}
 use Rattle.net_check.specs.Counts.{capped, once_more, bumped, Counted, lesser_of, past_from}
 
 once_capped : (n : ℕ) → once_more (capped n) ≡ capped (suc n)
@@ -84,6 +84,3 @@ past_step count k i j xs nodes d least new e l ej ec h q =
     rw (ej, take-suc xs i d l) (past_snoc k (take i xs) n None) in
     q ∙ (λ t. lesser_of (ec t) (premises n) (lesser_of (ec t) (conclusions n) (h t)))
     ∙ sym (subst (λ ns. past_from k (take j ns) None ≡ lesser_of k (premises n) (lesser_of k (conclusions n) (past_from k (take i ns) None))) e more)
-
-pub counted_none : (side : Node → List ℕ) (count : ℕ) (cs : List ℕ) → cs ≡ replicate count 0 → Counted side count [] cs
-counted_none side count cs e = rw e (record { size = length-replicate count 0; entry = λ w h. get_replicate count w 0 h })

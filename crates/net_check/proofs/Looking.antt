@@ -80,15 +80,6 @@ counts_one : (net : NetTree) (cs ds : List ℕ) → Counted conclusions (length 
 counts_one net cs ds h i n l e =
     (capped_one _ (some_in _ _ (sym (h.entry n l) ∙ e.0)), capped_one _ (some_in _ _ (sym (i.entry n l) ∙ e.1)))
 
-one_counts : (net : NetTree) (cs ds : List ℕ) → Counted conclusions (length net.wires) net.nodes cs → Counted premises (length net.wires) net.nodes ds → (n : ℕ) → n < length net.wires → (named conclusions net.nodes n ≡ 1) × (named premises net.nodes n ≡ 1) →
-    (slice_get cs n ≡ Some 1) × (slice_get ds n ≡ Some 1)
-one_counts net cs ds h i n l e = (h.entry n l ∙ ap (λ k. Some (capped k)) e.0, i.entry n l ∙ ap (λ k. Some (capped k)) e.1)
-
-pub loose_in_list : (net : NetTree) (cs ds : List ℕ) → Counted conclusions (length net.wires) net.nodes cs → Counted premises (length net.wires) net.nodes ds → (n : ℕ) → IsLeastOdd cs ds (Some n) → IsFirstLoose net (Some n)
-loose_in_list net cs ds h i n odd =
-    let l : n < length net.wires = omega (arith, odd.0, h.size) in
-    (λ m k. (λ j. counts_one net cs ds h i m j (odd.1 m k), λ j. absurd (omega (arith, j, k, l))), λ held. odd.2 (one_counts net cs ds h i n l (held.0 l)))
-
 pub loose_past : (net : NetTree) (cs ds : List ℕ) → Counted conclusions (length net.wires) net.nodes cs → Counted premises (length net.wires) net.nodes ds → IsLeastOdd cs ds None → (o : Option ℕ) → o ≡ past_from (length net.wires) net.nodes None →
     IsFirstLoose net o
 loose_past net cs ds h i odd o e = go o (subst (PastOk (λ w. 0 + (named conclusions net.nodes w + named premises net.nodes w)) (length net.wires)) (sym e) (past_all net.nodes (length net.wires)))
