@@ -90,7 +90,8 @@ module _ (m : TermTree) (typed : HasType [] m nat) (sound : Sound (net_of m)) wh
   means_length v = (means_has_length v, λ (n, l). length_means v n l)
 
   -- what tells a program's length tells its meaning
-  tells_means : (log : List ℕ) (answered : Option Val) (budget : ℕ) → TellsLength (net_of m) log answered budget → TellsMeaning m log answered budget
+  tells_means : (log : List ℕ) (answered : Option Val) (budget : ℕ) → TellsLength (net_of m) log answered budget →
+      TellsMeaning m log answered budget
   tells_means log answered budget t = record {
     answers = λ v. ((λ e. let w = (t.answers v).0 e in (length_means v w.0 w.1, w)), λ (_, w). (t.answers v).1 w);
     as_long = t.as_long;
