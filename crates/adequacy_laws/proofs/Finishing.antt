@@ -22,7 +22,8 @@ use Rattle.adequacy_laws.proofs.Lengths.{one_length}
 use Rattle.adequacy_laws.proofs.Agreeing.{agrees, map_agrees, built_runs}
 
 -- what agrees with the length and is finished tells it; of the net and the order of moves nothing else is used
-module _ (net : NetTree) (log : List ℕ) (answered : Option Val) (a : AgreesWithLength net log answered) (budget : ℕ) (f : Finished answered log budget) where
+module _ (net : NetTree) (log : List ℕ) (answered : Option Val) (budget : ℕ)
+    (a : AgreesWithLength net log answered) (f : Finished answered log budget) where
   -- an answer is the net's value, within the budget
   answer_within : (v : Val) → answered ≡ Some v → Within net budget v
   answer_within v e = (length log, (a.answers v).0 e, f.0)
@@ -69,12 +70,12 @@ module _ (net : NetTree) (log : List ℕ) (answered : Option Val) (a : AgreesWit
 -- every finished run of a net that runs tells its length
 pub finished_tells : (net : NetTree) → Runs net → (log : List ℕ) (S : State) → LeadsTo net log S → (budget : ℕ) →
     Finished S.answered log budget → TellsLength net log S.answered budget
-finished_tells net runs log S h budget f = tells net log S.answered (agrees net runs log S h) budget f
+finished_tells net runs log S h budget f = tells net log S.answered budget (agrees net runs log S h) f
 
 -- the same where states are finite maps
 pub map_finished_tells : (net : NetTree) → Runs net → (log : List ℕ) (S : MapState) → LeadsToMap net log S → (budget : ℕ) →
     Finished S.answered log budget → TellsLength net log S.answered budget
-map_finished_tells net runs log S h budget f = tells net log S.answered (map_agrees net runs log S h) budget f
+map_finished_tells net runs log S h budget f = tells net log S.answered budget (map_agrees net runs log S h) f
 
 module _ (m : TermTree) (typed : HasType [] m nat) (sound : Sound (net_of m)) where
   -- the value of a program's net is meant
