@@ -9,7 +9,7 @@ use Rattle.net_build.specs.Nets.{NetTree}
 use Rattle.net_build.specs.NetOf.{net_of}
 use Rattle.net_build.specs.Sound.{Sound}
 use Rattle.interleave_core.specs.States.{State}
-use Rattle.interleave_core.specs.Runs.{LeadsTo, Finished, Runs}
+use Rattle.interleave_core.specs.Runs.{LeadsTo, Finished}
 use Rattle.interleave_core.specs.OneWorker.{one}
 use Rattle.interleave_core.specs.Maps.{MapState, LeadsToMap, seen}
 use Rattle.interleave_core.proofs.OneWorker.{one_finished}
@@ -67,15 +67,15 @@ module _ (net : NetTree) (log : List ℕ) (answered : Option Val) (budget : ℕ)
     unanswered = (silent_beyond, beyond_silent);
   }
 
--- every finished run of a net that runs tells its length
-pub finished_tells : (net : NetTree) → Runs net → (log : List ℕ) (S : State) → LeadsTo net log S → (budget : ℕ) →
+-- every finished run of a sound net tells its length
+pub finished_tells : (net : NetTree) → Sound net → (log : List ℕ) (S : State) → LeadsTo net log S → (budget : ℕ) →
     Finished S.answered log budget → TellsLength net log S.answered budget
-finished_tells net runs log S h budget f = tells net log S.answered budget (agrees net runs log S h) f
+finished_tells net sound log S h budget f = tells net log S.answered budget (agrees net sound log S h) f
 
 -- the same where states are finite maps
-pub map_finished_tells : (net : NetTree) → Runs net → (log : List ℕ) (S : MapState) → LeadsToMap net log S → (budget : ℕ) →
+pub map_finished_tells : (net : NetTree) → Sound net → (log : List ℕ) (S : MapState) → LeadsToMap net log S → (budget : ℕ) →
     Finished S.answered log budget → TellsLength net log S.answered budget
-map_finished_tells net runs log S h budget f = tells net log S.answered budget (map_agrees net runs log S h) f
+map_finished_tells net sound log S h budget f = tells net log S.answered budget (map_agrees net sound log S h) f
 
 module _ (m : TermTree) (typed : HasType [] m nat) (sound : Sound (net_of m)) where
   -- the value of a program's net is meant
@@ -103,13 +103,13 @@ module _ (m : TermTree) (typed : HasType [] m nat) (sound : Sound (net_of m)) wh
   pub finished_means : (log : List ℕ) (S : State) → LeadsTo (net_of m) log S → (budget : ℕ) → Finished S.answered log budget →
       TellsMeaning m log S.answered budget
   finished_means log S h budget f =
-      tells_means log S.answered budget (finished_tells (net_of m) (built_runs m typed sound) log S h budget f)
+      tells_means log S.answered budget (finished_tells (net_of m) sound log S h budget f)
 
   -- the same where states are finite maps
   pub map_finished_means : (log : List ℕ) (S : MapState) → LeadsToMap (net_of m) log S → (budget : ℕ) → Finished S.answered log budget →
       TellsMeaning m log S.answered budget
   map_finished_means log S h budget f =
-      tells_means log S.answered budget (map_finished_tells (net_of m) (built_runs m typed sound) log S h budget f)
+      tells_means log S.answered budget (map_finished_tells (net_of m) sound log S h budget f)
 
   -- the run of one worker is finished
   pub one_means : (budget : ℕ) (S : MapState) → LeadsToMap (net_of m) (one (net_of m) budget) S →

@@ -9,10 +9,9 @@ use Rattle.cbn_meaning.specs.Meaning.{Means}
 use Rattle.net_build.specs.Nets.{NetTree}
 use Rattle.net_build.specs.NetOf.{net_of}
 use Rattle.interleave_core.specs.States.{State}
-use Rattle.interleave_core.specs.Runs.{LeadsTo, Finished}
+use Rattle.interleave_core.specs.Runs.{LeadsTo, Finished, InEveryState}
 use Rattle.interleave_core.specs.OneWorker.{one}
-use Rattle.interleave_core.specs.Maps.{MapState, LeadsToMap}
-use Rattle.interleave_core.specs.Laws.{InEveryRun, InEveryMapRun}
+use Rattle.interleave_core.specs.Maps.{MapState, LeadsToMap, InEveryMapState}
 use Rattle.adequacy_laws.specs.Questions.{Length}
 use Rattle.adequacy_laws.specs.Adequacy.{OfEveryProgram}
 
@@ -42,13 +41,13 @@ pub record TellsMeaning (m : TermTree) (log : List ℕ) (answered : Option Val) 
   -- it doesn't answer exactly where the length is absent or above the budget
   pub unanswered : (answered ≡ None) ↔ Beyond (net_of m) budget
 
--- every finished run of a net that runs tells its length
+-- every finished run of a sound net tells its length
 abbrev pub FinishedTells : Type 0
-FinishedTells = InEveryRun (λ net log S. (budget : ℕ) → Finished S.answered log budget → TellsLength net log S.answered budget)
+FinishedTells = InEveryState (λ net log S. (budget : ℕ) → Finished S.answered log budget → TellsLength net log S.answered budget)
 
 -- the same where states are finite maps
 abbrev pub MapFinishedTells : Type 0
-MapFinishedTells = InEveryMapRun (λ net log S. (budget : ℕ) → Finished S.answered log budget → TellsLength net log S.answered budget)
+MapFinishedTells = InEveryMapState (λ net log S. (budget : ℕ) → Finished S.answered log budget → TellsLength net log S.answered budget)
 
 -- every finished run of a program's net tells its meaning, whatever the order of moves was
 abbrev pub FinishedMeans : Type 0

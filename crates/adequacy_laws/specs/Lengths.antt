@@ -1,10 +1,11 @@
--- Equal lengths, on every net that runs: whatever the order of the moves, a log answers exactly where it is as long as the net.
+-- Equal lengths, on every sound net: whatever the order of the moves, a log answers exactly where it is as long as the net.
 -- These speak of every log, and so of the list of tickets of one worker and of many. They compare a machine that forks, keeps answers
--- and joins with `Length`, in which there are no tokens. What a program means is no part of them.
+-- and joins with `Length`, in which there are no tokens. What a program means is no part of them, and neither is that the net runs.
 use Rattle.std.specs.Prelude.{◌≡◌, ◌≤◌, ◌↔◌, ℕ, List, length, Option, Some, None}
 use Rattle.pcf_values.specs.declared.val.Val.{Val}
 use Rattle.net_build.specs.Nets.{NetTree}
-use Rattle.interleave_core.specs.Laws.{InEveryRun, InEveryMapRun}
+use Rattle.interleave_core.specs.Runs.{InEveryState}
+use Rattle.interleave_core.specs.Maps.{InEveryMapState}
 use Rattle.adequacy_laws.specs.Questions.{Length}
 
 -- more depth changes no result, so a net has one value and one length at most
@@ -22,8 +23,8 @@ pub record AgreesWithLength (net : NetTree) (log : List ℕ) (answered : Option 
 
 -- every log does
 abbrev pub EqualLengths : Type 0
-EqualLengths = InEveryRun (λ net log S. AgreesWithLength net log S.answered)
+EqualLengths = InEveryState (λ net log S. AgreesWithLength net log S.answered)
 
 -- and so it does where states are finite maps, as a running machine keeps them
 abbrev pub MapEqualLengths : Type 0
-MapEqualLengths = InEveryMapRun (λ net log S. AgreesWithLength net log S.answered)
+MapEqualLengths = InEveryMapState (λ net log S. AgreesWithLength net log S.answered)
