@@ -1,5 +1,6 @@
 -- A finished run tells whether the net's length is within the budget, and on a program's net what the program means.
-use Rattle.std.proofs.Common.{◌≡◌, ◌↔◌, ℕ, suc, ◌≤◌, List, [], length, Option, Some, None, refl, sym, ap, ◌∙◌, ⊎_elim, arith}
+use Rattle.std.proofs.Common.{IfSome, IfNone, ◌≡◌, ◌↔◌, ℕ, suc, ◌≤◌, List, [], length, Option, Some, None}
+use Rattle.std.proofs.Common.{refl, sym, ap, ◌∙◌, subst, ⊎_elim, arith}
 use Rattle.std.proofs.lemmas.Bool.{cases_lt}
 use Rattle.pcf_values.specs.declared.val.Val.{Val}
 use Rattle.pcf_values.specs.Terms.{TermTree, nat}
@@ -63,8 +64,9 @@ module _ (net : NetTree) (log : List ℕ) (answered : Option Val) (budget : ℕ)
   pub tells : TellsLength net log answered budget
   tells = record {
     answers = λ v. (answer_within v, within_answer v);
-    as_long = λ v. (a.answers v).0;
+    as_long = λ v e. ((a.answers v).0 e, f.0);
     unanswered = (silent_beyond, beyond_silent);
+    spent = f.1;
   }
 
 -- every finished run of a sound net tells its length
@@ -76,6 +78,21 @@ finished_tells net sound log S h budget f = tells net log S.answered budget (agr
 pub map_finished_tells : (net : NetTree) → Sound net → (log : List ℕ) (S : MapState) → LeadsToMap net log S → (budget : ℕ) →
     Finished S.answered log budget → TellsLength net log S.answered budget
 map_finished_tells net sound log S h budget f = tells net log S.answered budget (map_agrees net sound log S h) f
+
+-- an answer that tells the program's meaning is meant, and has the net's length
+pub told_value : (m : TermTree) (log : List ℕ) (o : Option Val) (budget : ℕ) → TellsMeaning m log o budget →
+    IfSome o (λ v. Means m v × Length (net_of m) v (length log) × (length log ≤ budget))
+told_value m log None budget t = tt
+told_value m log (Some v) budget t =
+    let (e, _) = (t.answers v).0 refl in
+    let (l, b) = t.as_long v refl in
+    (e, l, b)
+
+-- and no answer says that the length is absent or above the budget
+pub told_none : (m : TermTree) (log : List ℕ) (o : Option Val) (budget : ℕ) → TellsMeaning m log o budget →
+    IfNone o (Beyond (net_of m) budget × (length log ≡ budget))
+told_none m log None budget t = (t.unanswered.0 refl, t.spent refl)
+told_none m log (Some v) budget t = tt
 
 module _ (m : TermTree) (typed : HasType [] m nat) (sound : Sound (net_of m)) where
   -- the value of a program's net is meant
@@ -97,6 +114,7 @@ module _ (m : TermTree) (typed : HasType [] m nat) (sound : Sound (net_of m)) wh
     answers = λ v. ((λ e. let w = (t.answers v).0 e in (length_means v w.0 w.1, w)), λ (_, w). (t.answers v).1 w);
     as_long = t.as_long;
     unanswered = t.unanswered;
+    spent = t.spent;
   }
 
   -- every finished run of a program's net tells its meaning
@@ -112,11 +130,12 @@ module _ (m : TermTree) (typed : HasType [] m nat) (sound : Sound (net_of m)) wh
       tells_means log S.answered budget (map_finished_tells (net_of m) sound log S h budget f)
 
   -- the run of one worker is finished
-  pub one_means : (budget : ℕ) (S : MapState) → LeadsToMap (net_of m) (one (net_of m) budget) S →
-      TellsMeaning m (one (net_of m) budget) S.answered budget
-  one_means budget S h =
-      let done = one_finished (net_of m) (built_runs m typed sound) budget (seen S) (seen_leads (net_of m) (one (net_of m) budget) S h) in
-      map_finished_means (one (net_of m) budget) S h budget done
+  pub one_means : (log : List ℕ) (S : MapState) → LeadsToMap (net_of m) log S → (budget : ℕ) → log ≡ one (net_of m) budget →
+      TellsMeaning m log S.answered budget
+  one_means log S h budget e =
+      let leads = subst (λ l. LeadsTo (net_of m) l (seen S)) e (seen_leads (net_of m) log S h) in
+      let done = one_finished (net_of m) (built_runs m typed sound) budget (seen S) leads in
+      map_finished_means log S h budget (subst (λ l. Finished S.answered l budget) (sym e) done)
 
   -- a budget of a program's length brings its value
   pub enough_budget : (v : Val) → Means m v → (n : ℕ) × Length (net_of m) v n × (

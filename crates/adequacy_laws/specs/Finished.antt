@@ -27,19 +27,23 @@ Beyond net budget = (v : Val) (n : ℕ) → Length net v n → budget < n
 pub record TellsLength (net : NetTree) (log : List ℕ) (answered : Option Val) (budget : ℕ) : Type 0 where
   -- it answers a value exactly where that is the net's and the length is within the budget
   pub answers : (v : Val) → (answered ≡ Some v) ↔ Within net budget v
-  -- and then it is as long as the net
-  pub as_long : (v : Val) → answered ≡ Some v → Length net v (length log)
+  -- and then it is as long as the net, within the budget
+  pub as_long : (v : Val) → answered ≡ Some v → Length net v (length log) × (length log ≤ budget)
   -- it doesn't answer exactly where the length is absent or above the budget
   pub unanswered : (answered ≡ None) ↔ Beyond net budget
+  -- and then it has as many moves as the budget allows
+  pub spent : answered ≡ None → length log ≡ budget
 
 -- what a log on the program's net answers, or that it doesn't, tells what the program means
 pub record TellsMeaning (m : TermTree) (log : List ℕ) (answered : Option Val) (budget : ℕ) : Type 0 where
   -- it answers a value exactly where the program means it and the net's length is within the budget
   pub answers : (v : Val) → (answered ≡ Some v) ↔ (Means m v × Within (net_of m) budget v)
-  -- and then it is as long as the net
-  pub as_long : (v : Val) → answered ≡ Some v → Length (net_of m) v (length log)
+  -- and then it is as long as the net, within the budget
+  pub as_long : (v : Val) → answered ≡ Some v → Length (net_of m) v (length log) × (length log ≤ budget)
   -- it doesn't answer exactly where the length is absent or above the budget
   pub unanswered : (answered ≡ None) ↔ Beyond (net_of m) budget
+  -- and then it has as many moves as the budget allows
+  pub spent : answered ≡ None → length log ≡ budget
 
 -- every finished run of a sound net tells its length
 abbrev pub FinishedTells : Type 0
@@ -64,8 +68,8 @@ MapFinishedMeans = OfEveryProgram (λ m.
 -- and so does the run of one worker, which is finished by what it is
 abbrev pub OneMeans : Type 0
 OneMeans = OfEveryProgram (λ m.
-    (budget : ℕ) (S : MapState) → LeadsToMap (net_of m) (one (net_of m) budget) S →
-    TellsMeaning m (one (net_of m) budget) S.answered budget)
+    (log : List ℕ) (S : MapState) → LeadsToMap (net_of m) log S → (budget : ℕ) → log ≡ one (net_of m) budget →
+    TellsMeaning m log S.answered budget)
 
 -- a program that means a value has a length, and every run that is finished within a budget of that length or more answers the value
 abbrev pub EnoughBudget : Type 0
