@@ -15,6 +15,7 @@ pub mod Longest
 pub mod Lexed
 pub mod Ended
 pub mod Unique
+pub mod TextOrFault
 pub mod Taking
 pub mod Bounds
 pub mod Shown

@@ -23,6 +23,7 @@ use Rattle.pcf_reader.proofs.Lexed.{lexed}
 use Rattle.pcf_reader.proofs.Unique.{splits_lex}
 use Rattle.pcf_reader.proofs.Ended.{Ended, splits_ended, program_is_all}
 
+-- the bytes of a text have the tokens that the machine finds
 tokens : (bytes : List ℕ) → length bytes ≤ 1048576 → (u : IsUtf8 bytes) → HasTokens bytes (lex (chars bytes) 0 idle)
 tokens bytes n u = record {
   short = n;
@@ -32,11 +33,13 @@ tokens bytes n u = record {
   splits = subst (λ z. Splits 0 u.0 (lex z 0 idle)) (sym (ap chars (sym u.1.1) ∙ chars-encodes u.0 u.1.0)) ((lexed u.0).idles 0);
 }
 
+-- and no others
 same_tokens : (bytes : List ℕ) (items : List Placed) → HasTokens bytes items → items ≡ lex (chars bytes) 0 idle
 same_tokens bytes items h =
     sym (splits_lex 0 h.characters items h.splits) ∙ ap (λ z. lex z 0 idle) (sym (ap chars (sym h.encoded) ∙ chars-encodes h.characters h.scalars))
 
-tokens_end : (bytes : List ℕ) → length bytes ≤ 1048576 → (u : IsUtf8 bytes) → Ended (lex (chars bytes) 0 idle)
+-- which end
+pub tokens_end : (bytes : List ℕ) → length bytes ≤ 1048576 → (u : IsUtf8 bytes) → Ended (lex (chars bytes) 0 idle)
 tokens_end bytes n u = let h : HasTokens bytes (lex (chars bytes) 0 idle) = tokens bytes n u in splits_ended 0 h.characters (lex (chars bytes) 0 idle) h.splits
 
 -- What the scan answers of a text.
@@ -141,30 +144,31 @@ valid_once : (bytes : List ℕ) (m n : ℕ) → IsValidUpTo bytes m → IsValidU
 valid_once bytes m n h k = ranks_are m n (λ lt. h.longest n lt k.front) (λ lt. k.longest m lt h.front)
 
 -- bytes have one first fault
-pub first_once : (bytes : List ℕ) (f g : ReadFault) → FirstFault bytes f → FirstFault bytes g → g ≡ f
+pub first_once : (bytes : List ℕ) (f g : ReadFault) → FirstFault bytes f → FirstFault bytes g → f ≡ g
 first_once bytes f g h k =
-    elim (kinds bytes f h) [
+    elim (kinds bytes g k) [
       | inl a ↦
-          elim (kinds bytes g k) [
+          elim (kinds bytes f h) [
             | inl b ↦ b.0 ∙ sym a.0
             | inr (inl b) ↦ let z : ⊥ = omega (arith, a.1, b.2) in absurd z
-            | inr (inr b) ↦ let z : ⊥ = omega (arith, a.1, short_text bytes g b) in absurd z
+            | inr (inr b) ↦ let z : ⊥ = omega (arith, a.1, short_text bytes f b) in absurd z
           ]
       | inr (inl a) ↦
-          elim (kinds bytes g k) [
+          elim (kinds bytes f h) [
             | inl b ↦ let z : ⊥ = omega (arith, a.2, b.1) in absurd z
             | inr (inl b) ↦ b.1 ∙ ap (λ i. NotText i) (valid_once bytes b.0 a.0 b.4 a.4) ∙ sym a.1
-            | inr (inr b) ↦ absurd (a.3 (true_text bytes g b))
+            | inr (inr b) ↦ absurd (a.3 (true_text bytes f b))
           ]
       | inr (inr a) ↦
-          elim (kinds bytes g k) [
-            | inl b ↦ let z : ⊥ = omega (arith, short_text bytes f a, b.1) in absurd z
-            | inr (inl b) ↦ absurd (b.3 (true_text bytes f a))
-            | inr (inr b) ↦ sym (token_fault_once bytes f g a b)
+          elim (kinds bytes f h) [
+            | inl b ↦ let z : ⊥ = omega (arith, short_text bytes g a, b.1) in absurd z
+            | inr (inl b) ↦ absurd (b.3 (true_text bytes g a))
+            | inr (inr b) ↦ sym (token_fault_once bytes g f a b)
           ]
     ]
 
-text_no_fault : (bytes : List ℕ) (t : NamedTree) (f : ReadFault) → Text bytes t → FirstFault bytes f → ⊥
+-- bytes that stand for a tree have no fault
+pub text_no_fault : (bytes : List ℕ) (t : NamedTree) (f : ReadFault) → Text bytes t → FirstFault bytes f → ⊥
 text_no_fault bytes t f h k =
     elim (kinds bytes f k) [
       | inl b ↦ omega (arith, h.1.short, b.1)
@@ -174,13 +178,13 @@ text_no_fault bytes t f h k =
 
 only_first : (bytes : List ℕ) (f g : ReadFault) → FirstFault bytes f → Faults bytes g → IsOnlyFault f g
 only_first bytes f NoMemory h k = tt
-only_first bytes f (NotText at) h k = first_once bytes f (NotText at) h k
-only_first bytes f TooLong h k = first_once bytes f TooLong h k
-only_first bytes f (BadToken at) h k = first_once bytes f (BadToken at) h k
-only_first bytes f (NumberTooWide at) h k = first_once bytes f (NumberTooWide at) h k
-only_first bytes f (Unexpected at) h k = first_once bytes f (Unexpected at) h k
-only_first bytes f (TooDeep at) h k = first_once bytes f (TooDeep at) h k
-only_first bytes f (TooLarge at) h k = first_once bytes f (TooLarge at) h k
+only_first bytes f (NotText at) h k = first_once bytes (NotText at) f k h
+only_first bytes f TooLong h k = first_once bytes TooLong f k h
+only_first bytes f (BadToken at) h k = first_once bytes (BadToken at) f k h
+only_first bytes f (NumberTooWide at) h k = first_once bytes (NumberTooWide at) f k h
+only_first bytes f (Unexpected at) h k = first_once bytes (Unexpected at) f k h
+only_first bytes f (TooDeep at) h k = first_once bytes (TooDeep at) f k h
+only_first bytes f (TooLarge at) h k = first_once bytes (TooLarge at) f k h
 
 -- Bytes with a first fault are refused with that one, unless memory runs out.
 pub given_fault_only : (bytes : List ℕ) → length bytes ≤ 1048576 → IsUtf8 bytes → (r : Result Named ReadFault) (f : ReadFault) → FirstFault bytes f
@@ -189,7 +193,7 @@ given_fault_only bytes n u (Ok t) f h g = text_no_fault bytes (named_of t) f (te
 given_fault_only bytes n u (Err e) f h g = only_first bytes f e h (fails_fault bytes n u e g)
 
 pub too_long_only : (bytes : List ℕ) → 1048576 < length bytes → (f : ReadFault) → FirstFault bytes f → IsOnlyFault f TooLong
-too_long_only bytes h f k = first_once bytes f TooLong k h
+too_long_only bytes h f k = first_once bytes TooLong f h k
 
 pub no_text_only : (bytes : List ℕ) (at : ℕ) → length bytes ≤ 1048576 → (IsUtf8 bytes → ⊥) → IsValidUpTo bytes at → (f : ReadFault) → FirstFault bytes f → IsOnlyFault f (NotText at)
-no_text_only bytes at n u v f k = first_once bytes f (NotText at) k (n, u, v)
+no_text_only bytes at n u v f k = first_once bytes (NotText at) f (n, u, v) k

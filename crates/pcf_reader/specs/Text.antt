@@ -8,6 +8,7 @@ use Rattle.pcf_reader.specs.Tokens.{Token, Number, Junk, Placed}
 use Rattle.pcf_reader.specs.Grammar.{Program, program_text, Written, placed, expr_part}
 use Rattle.pcf_reader.specs.declared.fault.ReadFault.{ReadFault}
 use Rattle.pcf_reader.specs.declared.fault.ReadFault.TheVariants.{NoMemory, NotText, BadToken, NumberTooWide, Unexpected, TooDeep, TooLarge, TooLong}
+use Rattle.pcf_values.specs.Most.{most_nodes, most_open}
 
 abbrev pub count_of : List Written → ℕ
 count_of [] = 0
@@ -15,7 +16,7 @@ count_of (w ∷ ws) = w.count + count_of ws
 
 abbrev pub AreShallow : List Written → Type 0
 AreShallow [] = Unit {0}
-AreShallow (w ∷ ws) = (w.depth < 500) × AreShallow ws
+AreShallow (w ∷ ws) = (w.depth < most_open) × AreShallow ws
 
 -- no number is above 2^64 - 1
 abbrev pub IsNarrow : Token → Type 0
@@ -32,7 +33,7 @@ pub record Derives (items : List Placed) (tree : NamedTree) : Type 0 where
   pub written : map placed (program_text program) ≡ items
   pub stands_for : (expr_part program.expr).tree ≡ tree
   pub shallow : AreShallow (program_text program)
-  pub small : count_of (program_text program) ≤ 32768
+  pub small : count_of (program_text program) ≤ most_nodes
   pub narrow : AreNarrow (program_text program)
 
 -- some program begins with these tokens
@@ -53,8 +54,8 @@ abbrev pub FaultAt : List Placed → Placed → ReadFault → Type 0
 FaultAt before x (BadToken at) = (x.token ≡ Junk) × (x.at ≡ at)
 FaultAt before x (NumberTooWide at) = (n : ℕ) × (x.token ≡ Number n) × (2 ^ 64 ≤ n) × (x.at ≡ at)
 FaultAt before x (Unexpected at) = (IsFront (before ++ x ∷ []) → ⊥) × (x.at ≡ at)
-FaultAt before x (TooDeep at) = (w : Written) × Reads before x w × (500 ≤ w.depth) × (x.at ≡ at)
-FaultAt before x (TooLarge at) = (w : Written) × (r : Reads before x w) × (32768 < count_of r.front + w.count) × (x.at ≡ at)
+FaultAt before x (TooDeep at) = (w : Written) × Reads before x w × (most_open ≤ w.depth) × (x.at ≡ at)
+FaultAt before x (TooLarge at) = (w : Written) × (r : Reads before x w) × (most_nodes < count_of r.front + w.count) × (x.at ≡ at)
 FaultAt before x NoMemory = ⊥
 FaultAt before x (NotText at) = ⊥
 FaultAt before x TooLong = ⊥

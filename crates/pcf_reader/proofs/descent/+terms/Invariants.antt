@@ -2,6 +2,7 @@ use Rattle.std.proofs.Common.{◌≡◌, ◌+◌, ◌-◌, ◌*◌, ◌<◌, ◌
 use Rattle.pcf_reader.specs.Machine.{AppK, ProductK, ExprK, app_open, product_open, expr_open, begin_atom, first_atom, first_app, first_product, after_app, after_product, after_sum}
 use Rattle.pcf_reader.specs.Rest.{resume}
 use Rattle.pcf_reader.specs.Seen.{part_of}
+use Rattle.pcf_reader.specs.Sizes.{most_read_height}
 use Rattle.pcf_reader.proofs.descent.+terms.Given as goal
 
 abbrev pub decreases-parens : goal.decreases-parens
@@ -38,7 +39,7 @@ abbrev pub invariant-application-loop-alloc : goal.invariant-application-loop-al
 invariant-application-loop-alloc l = record {
   goes : (k : AppK) → app_open k ≡ l.depth → resume (begin_atom (first_atom k)) l.fn.reader ≡ resume (after_app k (part_of l.function)) l.reader;
   shorter : length l.reader.after < length l.fn.reader.after;
-  low : l.function.height + 4 * l.depth ≤ 2502;
+  low : l.function.height + 4 * l.depth + 2 ≤ most_read_height;
 }
 
 abbrev pub decreases-application-loop-alloc : goal.decreases-application-loop-alloc
@@ -48,7 +49,7 @@ abbrev pub invariant-product-loop-reader : goal.invariant-product-loop-reader
 invariant-product-loop-reader l = record {
   goes : (k : ProductK) → product_open k ≡ l.depth → resume (begin_atom (first_atom (first_app k))) l.fn.reader ≡ resume (after_product k (part_of l.product)) l.reader;
   shorter : length l.reader.after < length l.fn.reader.after;
-  low : l.product.height + 4 * l.depth ≤ 2503;
+  low : l.product.height + 4 * l.depth + 1 ≤ most_read_height;
 }
 
 abbrev pub decreases-product-loop-reader : goal.decreases-product-loop-reader
@@ -58,7 +59,7 @@ abbrev pub invariant-sum-loop-reader : goal.invariant-sum-loop-reader
 invariant-sum-loop-reader l = record {
   goes : (k : ExprK) → expr_open k ≡ l.depth → resume (begin_atom (first_atom (first_app (first_product k)))) l.fn.reader ≡ resume (after_sum k (part_of l.sum)) l.reader;
   shorter : length l.reader.after < length l.fn.reader.after;
-  low : l.sum.height + 4 * l.depth ≤ 2504;
+  low : l.sum.height + 4 * l.depth ≤ most_read_height;
 }
 
 abbrev pub decreases-sum-loop-reader : goal.decreases-sum-loop-reader
