@@ -4,19 +4,18 @@ use Rattle.pcf_values.specs.Named.{NamedTree, number_at, name_at, word_at, binar
 use Rattle.pcf_reader.specs.Tokens.{End, Placed}
 use Rattle.pcf_reader.specs.Grammar.{Expr, expr_part, expr_text, Written, placed, plain, Program, program_text}
 use Rattle.pcf_reader.specs.Spelling.{Splits, ends}
-use Rattle.pcf_reader.specs.Text.{Derives}
+use Rattle.pcf_reader.specs.Text.{Derives, IsShallow}
 use Rattle.pcf_reader.specs.Correct.{HasTokens, Text}
 use Rattle.pcf_reader.specs.Printed.{term_text, placeless}
 use Rattle.pcf_reader.specs.Sizes.{node_count}
 use Rattle.pcf_reader.specs.Laws.{ReadBack}
+use Rattle.pcf_reader.proofs.Lists.{WritesNarrow, each_append, each_left, map-append}
 use Rattle.pcf_reader.proofs.Lexed.{at_place}
-use Rattle.pcf_reader.proofs.Judge.{map-append}
-use Rattle.pcf_reader.proofs.Bounds.{shallow_left, program_count}
+use Rattle.pcf_reader.proofs.Bounds.{program_count}
 use Rattle.pcf_reader.proofs.Shown.{own_onto, own_height, own_shallow, Fine}
-use Rattle.pcf_reader.proofs.Canon.{shallow_join, narrow_join}
 use Rattle.pcf_reader.proofs.Forms.{forms, WritesExpr}
 use Rattle.pcf_reader.proofs.Fits.{expr_fits}
-use Rattle.pcf_reader.proofs.Fine.{AreFine, splits_fine, Good, good_from, good_left, fine_expr}
+use Rattle.pcf_reader.proofs.Fine.{AreFine, splits_fine, IsGood, Good, good_from, fine_expr}
 use Rattle.pcf_reader.proofs.Shows.{own_shows}
 
 -- places don't count
@@ -51,9 +50,9 @@ spelled_text t fine shallow few short =
       program = program;
       written = map-append (expr_text 0 e) (plain end End ∷ []);
       stands_for = refl;
-      shallow = shallow_join (expr_text 0 e) (plain end End ∷ []) (w.shallow 0 0 0 (omega arith) shallow) (omega arith, tt);
+      shallow = each_append IsShallow (expr_text 0 e) (plain end End ∷ []) (w.shallow 0 0 0 (omega arith) shallow) (omega arith, tt);
       small = omega (arith, program_count program, counts, few);
-      narrow = narrow_join (expr_text 0 e) (plain end End ∷ []) (w.narrow 0 0 0) (tt, tt);
+      narrow = each_append WritesNarrow (expr_text 0 e) (plain end End ∷ []) (w.narrow 0 0 0) (tt, tt);
     } in
     ((expr_part e).tree, (items, tokens, derives), w.same)
 
@@ -69,5 +68,5 @@ read_back bytes t h short =
     let fine_items : AreFine h.0 = splits_fine 0 tokens.characters h.0 tokens.scalars tokens.splits in
     let good : Good (program_text d.program) = good_from (program_text d.program) (subst AreFine (sym d.written) fine_items) d.narrow in
     let few : node_count (expr_part e).tree ≤ 32768 = omega (arith, d.small, program_count d.program) in
-    let facts = of_tree t (expr_part e).tree d.stands_for (fine_expr 0 e (good_left (expr_text 0 e) last good), (expr_fits 0 e (shallow_left (expr_text 0 e) last d.shallow)).0, few) in
+    let facts = of_tree t (expr_part e).tree d.stands_for (fine_expr 0 e (each_left IsGood (expr_text 0 e) last good), (expr_fits 0 e (each_left IsShallow (expr_text 0 e) last d.shallow)).0, few) in
     spelled_text t facts.0 facts.1 facts.2 short

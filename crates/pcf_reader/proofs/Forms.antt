@@ -8,34 +8,35 @@ use Rattle.pcf_values.specs.Named.{NamedTree, number_at, name_at, word_at, binar
 use Rattle.pcf_reader.specs.Tokens.{Token, Close, Colon, Dot, Comma, Plus, Minus, Times, Then, Else, Name, Placed}
 use Rattle.pcf_reader.specs.Grammar.{Type_, only_ptype, arrow_type, PType, only_tatom, times_type, TAtom, nat_type, paren_type, Expr, binding, choice, only_sum, Sum, only_product, plus, minus, Product, only_app, times, App, only_atom, applied, Atom, numeral, variable, parens, pairing, prefixed, Part, binary, expr_part, sum_part, product_part, app_part_of, atom_part, Written, placed, plain, marked, type_text, ptype_text, tatom_text, expr_text, sum_text, product_text, app_text, atom_text}
 use Rattle.pcf_reader.specs.Spelling.{Splits}
-use Rattle.pcf_reader.specs.Text.{AreShallow, IsNarrow, AreNarrow}
+use Rattle.pcf_reader.specs.Text.{IsNarrow, IsShallow, Each}
 use Rattle.pcf_reader.specs.Printed.{fitted, ty_text, word_text, binder_text, op_text, level, term_text, placeless}
+use Rattle.pcf_reader.proofs.Lists.{WritesNarrow, each_append}
 use Rattle.pcf_reader.proofs.Shown.{fit_onto, fit_height, fit_shallow, ty_onto, own_onto, own_height, own_shallow, Fine}
 use Rattle.pcf_reader.proofs.Pieces.{Clear, place_at, blank_piece, number_piece, name_piece}
 use Rattle.pcf_reader.proofs.Lexed.{at_place}
-use Rattle.pcf_reader.proofs.Canon.{shallow_join, narrow_join, both_parts, space, closes, comma_clear, colon_clear, dot_clear, some_left, open_piece, close_piece, comma_piece, colon_piece, dot_piece, plus_piece, minus_piece, times_piece, word_splits, binder_splits, ifz_piece, then_piece, else_piece, ty_forms}
+use Rattle.pcf_reader.proofs.Canon.{both_parts, space, closes, comma_clear, colon_clear, dot_clear, some_left, open_piece, close_piece, comma_piece, colon_piece, dot_piece, plus_piece, minus_piece, times_piece, word_splits, binder_splits, ifz_piece, then_piece, else_piece, ty_forms}
 
 -- types have no numbers
 mutual
-  narrow_type : (o : ℕ) (t : Type_) → AreNarrow (type_text o t)
+  narrow_type : (o : ℕ) (t : Type_) → Each WritesNarrow (type_text o t)
   narrow_type o (only_ptype p) = narrow_ptype o p
-  narrow_type o (arrow_type p at t) = narrow_join (ptype_text o p) _ (narrow_ptype o p) (tt, narrow_type (suc o) t)
+  narrow_type o (arrow_type p at t) = each_append WritesNarrow (ptype_text o p) _ (narrow_ptype o p) (tt, narrow_type (suc o) t)
 
-  narrow_ptype : (o : ℕ) (p : PType) → AreNarrow (ptype_text o p)
+  narrow_ptype : (o : ℕ) (p : PType) → Each WritesNarrow (ptype_text o p)
   narrow_ptype o (only_tatom a) = narrow_tatom o a
-  narrow_ptype o (times_type a at p) = narrow_join (tatom_text o a) _ (narrow_tatom o a) (tt, narrow_ptype (suc o) p)
+  narrow_ptype o (times_type a at p) = each_append WritesNarrow (tatom_text o a) _ (narrow_tatom o a) (tt, narrow_ptype (suc o) p)
 
-  narrow_tatom : (o : ℕ) (a : TAtom) → AreNarrow (tatom_text o a)
+  narrow_tatom : (o : ℕ) (a : TAtom) → Each WritesNarrow (tatom_text o a)
   narrow_tatom o (nat_type at) = (tt, tt)
-  narrow_tatom o (paren_type at t close) = (tt, narrow_join (type_text (suc o) t) _ (narrow_type (suc o) t) (tt, tt))
+  narrow_tatom o (paren_type at t close) = (tt, each_append WritesNarrow (type_text (suc o) t) _ (narrow_type (suc o) t) (tt, tt))
 
 -- a phrase for these bytes, which stand before others from a place on
 pub record Writes (X : Type 0) (part : X → Part) (text : ℕ → ℕ → ℕ → X → List Written) (bytes : List ℕ) (onto : List ℕ → List ℕ) (t : NamedTree) (h : ℕ) (S : ℕ → Type 0) (at : ℕ) : Type 0 where
   pub phrase : X
   pub same : placeless (part phrase).tree ≡ placeless t
   pub high : (part phrase).height ≡ h
-  pub shallow : (o left extra : ℕ) → left < 500 → S o → AreShallow (text o left extra phrase)
-  pub narrow : (o left extra : ℕ) → AreNarrow (text o left extra phrase)
+  pub shallow : (o left extra : ℕ) → left < 500 → S o → Each IsShallow (text o left extra phrase)
+  pub narrow : (o left extra : ℕ) → Each WritesNarrow (text o left extra phrase)
   pub splits : (o left extra : ℕ) (rest : List ℕ) (items : List Placed) → Clear rest → Splits (at + length bytes) rest items → Splits at (onto rest) (map placed (text o left extra phrase) ++ items)
 
 abbrev pub as_expr : ℕ → ℕ → ℕ → Expr → List Written
@@ -118,8 +119,8 @@ module _ (bytes : List ℕ) (onto : List ℕ → List ℕ) (t : NamedTree) (h : 
         same = w.same;
         high = ap suc w.high;
         shallow = λ o left extra lt s.
-            (omega (arith, lt, s.0), shallow_join (expr_text (suc o) w.phrase) (plain close Close ∷ []) (w.shallow (suc o) 0 0 some_left s.1) (some_left, tt));
-        narrow = λ o left extra. (tt, narrow_join (expr_text (suc o) w.phrase) (plain close Close ∷ []) (w.narrow (suc o) 0 0) (tt, tt));
+            (omega (arith, lt, s.0), each_append IsShallow (expr_text (suc o) w.phrase) (plain close Close ∷ []) (w.shallow (suc o) 0 0 some_left s.1) (some_left, tt));
+        narrow = λ o left extra. (tt, each_append WritesNarrow (expr_text (suc o) w.phrase) (plain close Close ∷ []) (w.narrow (suc o) 0 0) (tt, tt));
         splits = λ o left extra rest items c k.
             open_piece at (onto (41 ∷ rest)) (map placed (expr_text (suc o) w.phrase ++ plain close Close ∷ []) ++ items)
             (both_parts (at + 1) (onto (41 ∷ rest)) (expr_text (suc o) w.phrase) (plain close Close ∷ []) items
@@ -236,8 +237,8 @@ apply_form i f a u v =
       high = λ k. suc (max (p.high k) (q.high k));
       shallow = λ o left extra lt s.
           let low : (app_part_of p.phrase).height < 500 = omega (arith, p.high, s.1) in
-          shallow_join (app_text o p.phrase) (atom_text o (app_part_of p.phrase).height 1 q.phrase) (p.shallow o 0 0 some_left s.0) (q.shallow o (app_part_of p.phrase).height 1 low s.2);
-      narrow = λ o left extra. narrow_join (app_text o p.phrase) (atom_text o (app_part_of p.phrase).height 1 q.phrase) (p.narrow o 0 0) (q.narrow o (app_part_of p.phrase).height 1);
+          each_append IsShallow (app_text o p.phrase) (atom_text o (app_part_of p.phrase).height 1 q.phrase) (p.shallow o 0 0 some_left s.0) (q.shallow o (app_part_of p.phrase).height 1 low s.2);
+      narrow = λ o left extra. each_append WritesNarrow (app_text o p.phrase) (atom_text o (app_part_of p.phrase).height 1 q.phrase) (p.narrow o 0 0) (q.narrow o (app_part_of p.phrase).height 1);
       splits = λ o left extra rest items c k.
           both_parts at (own_onto (apply_at i f a) rest) (app_text o p.phrase) (atom_text o (app_part_of p.phrase).height 1 q.phrase) items
           (p.splits o 0 0 (32 ∷ right_onto rest) (map placed (atom_text o (app_part_of p.phrase).height 1 q.phrase) ++ items) (space (right_onto rest))
@@ -311,8 +312,8 @@ module _
         high = ap (λ (w : Part). w.height) is ∙ (λ k. suc (max (p.high k) (q.high k)));
         shallow = λ o left extra lt s.
             let low : (part p.phrase).height < most_open = omega (arith, p.high, s.1) in
-            subst (λ z. AreShallow z) (sym (writes o left extra)) (shallow_join (front o) (behind o) (p.shallow o 0 0 some_left s.0) (low, q.shallow o 0 0 some_left s.2));
-        narrow = λ o left extra. subst (λ z. AreNarrow z) (sym (writes o left extra)) (narrow_join (front o) (behind o) (p.narrow o 0 0) (f.narrow, q.narrow o 0 0));
+            subst (λ z. Each IsShallow z) (sym (writes o left extra)) (each_append IsShallow (front o) (behind o) (p.shallow o 0 0 some_left s.0) (low, q.shallow o 0 0 some_left s.2));
+        narrow = λ o left extra. subst (λ z. Each WritesNarrow z) (sym (writes o left extra)) (each_append WritesNarrow (front o) (behind o) (p.narrow o 0 0) (f.narrow, q.narrow o 0 0));
         splits = λ o left extra rest items c k.
             subst (λ z. Splits at (a_onto (op_text op ++ b_onto rest)) (map placed z ++ items)) (sym (writes o left extra))
             (both_parts at (a_onto (op_text op ++ b_onto rest)) (front o) (behind o) items
@@ -345,13 +346,13 @@ pair_form i a b u v =
       high = λ k. suc (max (p.high k) (q.high k));
       shallow = λ o left extra lt s. (
         omega (arith, lt, s.0),
-        shallow_join (expr_text (suc o) p.phrase) (marked comma Comma 0 1 ∷ (expr_text (suc o) q.phrase ++ plain close Close ∷ [])) (p.shallow (suc o) 0 0 some_left s.1)
-            (some_left, shallow_join (expr_text (suc o) q.phrase) (plain close Close ∷ []) (q.shallow (suc o) 0 0 some_left s.2) (some_left, tt)),
+        each_append IsShallow (expr_text (suc o) p.phrase) (marked comma Comma 0 1 ∷ (expr_text (suc o) q.phrase ++ plain close Close ∷ [])) (p.shallow (suc o) 0 0 some_left s.1)
+            (some_left, each_append IsShallow (expr_text (suc o) q.phrase) (plain close Close ∷ []) (q.shallow (suc o) 0 0 some_left s.2) (some_left, tt)),
       );
       narrow = λ o left extra. (
         tt,
-        narrow_join (expr_text (suc o) p.phrase) (marked comma Comma 0 1 ∷ (expr_text (suc o) q.phrase ++ plain close Close ∷ [])) (p.narrow (suc o) 0 0)
-            (tt, narrow_join (expr_text (suc o) q.phrase) (plain close Close ∷ []) (q.narrow (suc o) 0 0) (tt, tt)),
+        each_append WritesNarrow (expr_text (suc o) p.phrase) (marked comma Comma 0 1 ∷ (expr_text (suc o) q.phrase ++ plain close Close ∷ [])) (p.narrow (suc o) 0 0)
+            (tt, each_append WritesNarrow (expr_text (suc o) q.phrase) (plain close Close ∷ []) (q.narrow (suc o) 0 0) (tt, tt)),
       );
       splits = λ o left extra rest items c k.
           let behind : List Placed = map placed (expr_text (suc o) q.phrase) ++ (at_place close Close ∷ items) in
@@ -389,13 +390,13 @@ choice_form i a b d u v w =
       high = λ k. suc (max (p.high k) (max (q.high k) (r.high k)));
       shallow = λ o left extra lt s. (
         s.0,
-        shallow_join (expr_text (suc o) p.phrase) (plain (yes + 1) Then ∷ (expr_text (suc o) q.phrase ++ plain (no + 1) Else ∷ expr_text (suc o) r.phrase)) (p.shallow (suc o) 0 0 some_left s.1)
-            (some_left, shallow_join (expr_text (suc o) q.phrase) (plain (no + 1) Else ∷ expr_text (suc o) r.phrase) (q.shallow (suc o) 0 0 some_left s.2) (some_left, r.shallow (suc o) 0 0 some_left s.3)),
+        each_append IsShallow (expr_text (suc o) p.phrase) (plain (yes + 1) Then ∷ (expr_text (suc o) q.phrase ++ plain (no + 1) Else ∷ expr_text (suc o) r.phrase)) (p.shallow (suc o) 0 0 some_left s.1)
+            (some_left, each_append IsShallow (expr_text (suc o) q.phrase) (plain (no + 1) Else ∷ expr_text (suc o) r.phrase) (q.shallow (suc o) 0 0 some_left s.2) (some_left, r.shallow (suc o) 0 0 some_left s.3)),
       );
       narrow = λ o left extra. (
         tt,
-        narrow_join (expr_text (suc o) p.phrase) (plain (yes + 1) Then ∷ (expr_text (suc o) q.phrase ++ plain (no + 1) Else ∷ expr_text (suc o) r.phrase)) (p.narrow (suc o) 0 0)
-            (tt, narrow_join (expr_text (suc o) q.phrase) (plain (no + 1) Else ∷ expr_text (suc o) r.phrase) (q.narrow (suc o) 0 0) (tt, r.narrow (suc o) 0 0)),
+        each_append WritesNarrow (expr_text (suc o) p.phrase) (plain (yes + 1) Then ∷ (expr_text (suc o) q.phrase ++ plain (no + 1) Else ∷ expr_text (suc o) r.phrase)) (p.narrow (suc o) 0 0)
+            (tt, each_append WritesNarrow (expr_text (suc o) q.phrase) (plain (no + 1) Else ∷ expr_text (suc o) r.phrase) (q.narrow (suc o) 0 0) (tt, r.narrow (suc o) 0 0)),
       );
       splits = λ o left extra rest items c k.
           let third : List Written = plain (no + 1) Else ∷ expr_text (suc o) r.phrase in
@@ -439,9 +440,9 @@ binding_form i b x t m fine u =
       high = ap suc p.high;
       shallow = λ o left extra lt s. (
         s.0,
-        (some_left, (some_left, shallow_join (type_text (suc o) q.phrase) (plain dot Dot ∷ expr_text (suc o) p.phrase) (q.shallow (suc o) s.1) (some_left, p.shallow (suc o) 0 0 some_left s.2))),
+        (some_left, (some_left, each_append IsShallow (type_text (suc o) q.phrase) (plain dot Dot ∷ expr_text (suc o) p.phrase) (q.shallow (suc o) s.1) (some_left, p.shallow (suc o) 0 0 some_left s.2))),
       );
-      narrow = λ o left extra. (tt, (tt, (tt, narrow_join (type_text (suc o) q.phrase) (plain dot Dot ∷ expr_text (suc o) p.phrase) (narrow_type (suc o) q.phrase) (tt, p.narrow (suc o) 0 0))));
+      narrow = λ o left extra. (tt, (tt, (tt, each_append WritesNarrow (type_text (suc o) q.phrase) (plain dot Dot ∷ expr_text (suc o) p.phrase) (narrow_type (suc o) q.phrase) (tt, p.narrow (suc o) 0 0))));
       splits = λ o left extra rest items c k.
           let second : List Written = plain dot Dot ∷ expr_text (suc o) p.phrase in
           let all : List Placed = map placed (type_text (suc o) q.phrase ++ second) ++ items in

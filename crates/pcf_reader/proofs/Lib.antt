@@ -1,5 +1,5 @@
-pub mod BothHold
 pub mod Ends
+pub mod Lists
 pub mod Follows
 pub mod Exact
 pub mod Reached

@@ -10,31 +10,33 @@ use Rattle.pcf_reader.specs.declared.fault.ReadFault.{ReadFault}
 use Rattle.pcf_reader.specs.declared.fault.ReadFault.TheVariants.{NoMemory, NotText, BadToken, NumberTooWide, Unexpected, TooDeep, TooLarge, TooLong}
 use Rattle.pcf_values.specs.Most.{most_nodes, most_open}
 
+-- how many nodes these count
 abbrev pub count_of : List Written → ℕ
 count_of [] = 0
 count_of (w ∷ ws) = w.count + count_of ws
 
-abbrev pub AreShallow : List Written → Type 0
-AreShallow [] = Unit {0}
-AreShallow (w ∷ ws) = (w.depth < most_open) × AreShallow ws
+-- each of these is so
+abbrev pub Each : (Written → Type 0) → List Written → Type 0
+Each P [] = Unit {0}
+Each P (w ∷ ws) = P w × Each P ws
+
+-- the token stands below the limit
+abbrev pub IsShallow : Written → Type 0
+IsShallow w = w.depth < most_open
 
 -- no number is above 2^64 - 1
 abbrev pub IsNarrow : Token → Type 0
 IsNarrow (Number n) = n < 2 ^ 64
 IsNarrow _ = Unit {0}
 
-abbrev pub AreNarrow : List Written → Type 0
-AreNarrow [] = Unit {0}
-AreNarrow (w ∷ ws) = IsNarrow w.token × AreNarrow ws
-
 -- the tokens are those of a program with this tree, and no limit is passed
 pub record Derives (items : List Placed) (tree : NamedTree) : Type 0 where
   pub program : Program
   pub written : map placed (program_text program) ≡ items
   pub stands_for : (expr_part program.expr).tree ≡ tree
-  pub shallow : AreShallow (program_text program)
+  pub shallow : Each IsShallow (program_text program)
   pub small : count_of (program_text program) ≤ most_nodes
-  pub narrow : AreNarrow (program_text program)
+  pub narrow : Each (λ w. IsNarrow w.token) (program_text program)
 
 -- some program begins with these tokens
 abbrev pub IsFront : List Placed → Type 0
@@ -60,6 +62,7 @@ FaultAt before x NoMemory = ⊥
 FaultAt before x (NotText at) = ⊥
 FaultAt before x TooLong = ⊥
 
+-- the order in which faults of one place are told
 abbrev pub rank : ReadFault → ℕ
 rank NoMemory = 0
 rank (NotText _) = 1
