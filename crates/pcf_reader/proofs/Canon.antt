@@ -1,6 +1,7 @@
 -- Each tree has a phrase for what is printed of it, on each level of the grammar.
 use Rattle.std.proofs.Common.{◌≡◌, ℕ, suc, ◌+◌, ◌<◌, List, [], ◌∷◌, ◌++◌, map, length, refl, sym, ap, ◌∙◌, subst, arith, append_assoc, length-append}
 use Rattle.std.specs.Prelude.{codes}
+use Rattle.pcf_values.specs.Most.{most_open}
 use Rattle.pcf_values.specs.Terms.{TyTree, nat, arrow, product}
 use Rattle.pcf_values.specs.Named.{Word, the_succ, the_pred, the_fst, the_snd, Binder, the_fun, the_fix}
 use Rattle.pcf_reader.specs.Tokens.{Open, Close, Colon, Dot, Comma, Plus, Minus, Times, Arrow, Ifz, Then, Else, Nat, Bind, Before, Placed}
@@ -33,7 +34,7 @@ colon_clear cs = clear_by 58 cs (omega arith) refl refl
 pub dot_clear : (cs : List ℕ) → Clear (46 ∷ cs)
 dot_clear cs = clear_by 46 cs (omega arith) refl refl
 
-pub some_left : 0 < 500
+pub some_left : 0 < most_open
 some_left = omega arith
 
 pub open_piece : (at : ℕ) (rest : List ℕ) (items : List Placed) → Splits (at + 1) rest items → Splits at (40 ∷ rest) (at_place at Open ∷ items)
@@ -127,7 +128,7 @@ module _ (bytes : List ℕ) (onto : List ℕ → List ℕ) (t : TyTree) (S : ℕ
   ptype_in_type at w = record { phrase = only_ptype w.phrase; same = w.same; shallow = λ o s. w.shallow o s; splits = λ o rest items c h. w.splits o rest items c h }
 
   type_in_parens : (at : ℕ) → TyWrites Type_ type_ty type_text bytes onto t S (at + 1)
-      → TyWrites TAtom tatom_ty tatom_text (codes "(" ++ bytes ++ codes ")") (λ r. 40 ∷ onto (41 ∷ r)) t (λ o. (o < 500) × S (suc o)) at
+      → TyWrites TAtom tatom_ty tatom_text (codes "(" ++ bytes ++ codes ")") (λ r. 40 ∷ onto (41 ∷ r)) t (λ o. (o < most_open) × S (suc o)) at
   type_in_parens at w =
       let close : ℕ = (at + 1) + length bytes in
       record {

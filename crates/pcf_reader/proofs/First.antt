@@ -1,6 +1,7 @@
 -- A list of tokens has one first fault, and none where it derives a tree.
 use Rattle.std.proofs.Common.{◌≡◌, ◌⊎◌, ℕ, zero, suc, ◌+◌, ◌^◌, ◌<◌, ◌≤◌, List, [], ◌∷◌, ◌++◌, map, refl, sym, ap, ◌∙◌, subst, append_assoc, inl, inr, arith}
 use Rattle.std.proofs.lemmas.Bool.{cases_lt}
+use Rattle.pcf_values.specs.Most.{most_open}
 use Rattle.pcf_values.specs.Named.{NamedTree}
 use Rattle.pcf_reader.specs.Tokens.{Junk, Placed}
 use Rattle.pcf_reader.specs.Grammar.{program_text, Written, placed}
@@ -76,7 +77,7 @@ derives_no_fault items t h b x a (TooDeep at) e f =
     let (w, r, deep, place) = f in
     let (v, is) = both_pass r.front w r.rest (program_text h.program) (want_expr whole) a (subst (λ z. Passes z (want_expr whole)) r.text (program_passes r.program)) (program_passes h.program)
     (h.written ∙ e ∙ ap (λ z. z ++ x ∷ a) (sym r.before_is) ∙ ap (λ z. map placed r.front ++ z ∷ a) (sym r.token_is)) in
-    let shallow : w.depth < 500 = each_at IsShallow r.front w v (subst (λ z. Each IsShallow z) is h.shallow) in
+    let shallow : w.depth < most_open = each_at IsShallow r.front w v (subst (λ z. Each IsShallow z) is h.shallow) in
     omega (arith, deep)
 derives_no_fault items t h b x a (TooLarge at) e f =
     let (w, r, large, place) = f in

@@ -1,6 +1,7 @@
 -- What is printed is no deeper and no higher than what was read.
 use Rattle.std.proofs.Common.{◌≡◌, ℕ, suc, ◌<◌, ◌≤◌, Bool, true, false, List, [], ◌∷◌, ◌++◌, nat_le, if◌then◌else◌, refl, arith}
 use Rattle.std.proofs.lemmas.Bool.{leb-true, le-leb}
+use Rattle.pcf_values.specs.Most.{most_open}
 use Rattle.pcf_values.specs.Terms.{TyTree, nat, arrow, product}
 use Rattle.pcf_values.specs.Named.{NamedTree, number_at, name_at, word_at, binary_at, pair_at, ifz_at, bind_at, apply_at}
 use Rattle.pcf_reader.specs.Tokens.{Close, Dot, Comma, Plus, Minus, Times, Arrow, Then, Else}
@@ -12,7 +13,7 @@ use Rattle.pcf_reader.proofs.Shown.{pick, fit_height, fit_shallow, ty_shallow, o
 use Rattle.pcf_reader.proofs.Bounds.{first_left}
 
 -- what is shallow below more open phrases is shallow below fewer
-fewer_by : (b : Bool) (S : ℕ → Type 0) (o : ℕ) → ((p : ℕ) → S (suc p) → S p) → pick b (S (suc o)) ((suc o < 500) × S (suc (suc o))) → pick b (S o) ((o < 500) × S (suc o))
+fewer_by : (b : Bool) (S : ℕ → Type 0) (o : ℕ) → ((p : ℕ) → S (suc p) → S p) → pick b (S (suc o)) ((suc o < most_open) × S (suc (suc o))) → pick b (S o) ((o < most_open) × S (suc o))
 fewer_by true S o mono h = mono o h
 fewer_by false S o mono h = (omega (arith, h.0), mono (suc o) h.1)
 
@@ -38,7 +39,7 @@ own_fewer (apply_at i f a) o h =
 wider : (l m n : ℕ) → m ≤ n → nat_le l m ≡ true → nat_le l n ≡ true
 wider l m n le h = let low : l ≤ m = leb-true l m h in le-leb l n (omega (arith, low, le))
 
-loose_shallow : (b c : Bool) (S : ℕ → Type 0) (o : ℕ) → (b ≡ true → c ≡ true) → ((p : ℕ) → S (suc p) → S p) → pick b (S o) ((o < 500) × S (suc o)) → pick c (S o) ((o < 500) × S (suc o))
+loose_shallow : (b c : Bool) (S : ℕ → Type 0) (o : ℕ) → (b ≡ true → c ≡ true) → ((p : ℕ) → S (suc p) → S p) → pick b (S o) ((o < most_open) × S (suc o)) → pick c (S o) ((o < most_open) × S (suc o))
 loose_shallow true true S o imp mono h = h
 loose_shallow true false S o imp mono h = let e : false ≡ true = imp refl in let z : ⊥ = cc in absurd z
 loose_shallow false true S o imp mono h = mono o h.1
@@ -63,22 +64,22 @@ loosened m n t o high le h = (
   loose_height (nat_le (level t) m) (nat_le (level t) n) (own_height t) high (wider (level t) m n le) h.1,
 )
 
-own_from : (b : Bool) (t : NamedTree) (o high : ℕ) → pick b (own_shallow t o) ((o < 500) × own_shallow t (suc o)) → (if b then own_height t else suc (own_height t)) ≤ high → Owns t o high
+own_from : (b : Bool) (t : NamedTree) (o high : ℕ) → pick b (own_shallow t o) ((o < most_open) × own_shallow t (suc o)) → (if b then own_height t else suc (own_height t)) ≤ high → Owns t o high
 own_from true t o high h le = (h, le)
 own_from false t o high h le = (own_fewer t o h.1, omega (arith, le))
 
-from_own : (b : Bool) (t : NamedTree) (o high : ℕ) → o < 500 → Owns t (suc o) high → pick b (own_shallow t o) ((o < 500) × own_shallow t (suc o)) × ((if b then own_height t else suc (own_height t)) ≤ suc high)
+from_own : (b : Bool) (t : NamedTree) (o high : ℕ) → o < most_open → Owns t (suc o) high → pick b (own_shallow t o) ((o < most_open) × own_shallow t (suc o)) × ((if b then own_height t else suc (own_height t)) ≤ suc high)
 from_own true t o high lt h = (own_fewer t o h.0, omega (arith, h.1))
 from_own false t o high lt h = ((lt, h.0), omega (arith, h.1))
 
 ty_loosened : (m n : ℕ) (t : TyTree) (o : ℕ) → m ≤ n → fit_shallow m (ty_level t) (λ p. ty_shallow t p) o → fit_shallow n (ty_level t) (λ p. ty_shallow t p) o
 ty_loosened m n t o le h = loose_shallow (nat_le (ty_level t) m) (nat_le (ty_level t) n) (λ p. ty_shallow t p) o (wider (ty_level t) m n le) (λ p. ty_fewer t p) h
 
-ty_own_from : (b : Bool) (t : TyTree) (o : ℕ) → pick b (ty_shallow t o) ((o < 500) × ty_shallow t (suc o)) → ty_shallow t o
+ty_own_from : (b : Bool) (t : TyTree) (o : ℕ) → pick b (ty_shallow t o) ((o < most_open) × ty_shallow t (suc o)) → ty_shallow t o
 ty_own_from true t o h = h
 ty_own_from false t o h = ty_fewer t o h.1
 
-ty_from_own : (b : Bool) (t : TyTree) (o : ℕ) → o < 500 → ty_shallow t (suc o) → pick b (ty_shallow t o) ((o < 500) × ty_shallow t (suc o))
+ty_from_own : (b : Bool) (t : TyTree) (o : ℕ) → o < most_open → ty_shallow t (suc o) → pick b (ty_shallow t o) ((o < most_open) × ty_shallow t (suc o))
 ty_from_own true t o lt h = ty_fewer t o h
 ty_from_own false t o lt h = (lt, h)
 
@@ -143,7 +144,7 @@ mutual
       let more : Each IsShallow (atom_text o (app_part_of f).height 1 x) = each_right IsShallow (app_text o f) (atom_text o (app_part_of f).height 1 x) h in
       let a : Fits 1 (app_part_of f).tree o (app_part_of f).height = app_fits o f (each_left IsShallow (app_text o f) (atom_text o (app_part_of f).height 1 x) h) in
       let b : Fits 0 (atom_part x).tree o (atom_part x).height = atom_fits o (app_part_of f).height 1 x more in
-      let low : (app_part_of f).height < 500 = first_left o (app_part_of f).height 1 x more in
+      let low : (app_part_of f).height < most_open = first_left o (app_part_of f).height 1 x more in
       ((a.0, omega (arith, a.1, low), b.0), omega (arith, a.1, b.1))
 
   pub atom_fits : (o left extra : ℕ) (a : Atom) → Each IsShallow (atom_text o left extra a) → Fits 0 (atom_part a).tree o (atom_part a).height

@@ -35,7 +35,7 @@ pub record Writes (X : Type 0) (part : X → Part) (text : ℕ → ℕ → ℕ �
   pub phrase : X
   pub same : placeless (part phrase).tree ≡ placeless t
   pub high : (part phrase).height ≡ h
-  pub shallow : (o left extra : ℕ) → left < 500 → S o → Each IsShallow (text o left extra phrase)
+  pub shallow : (o left extra : ℕ) → left < most_open → S o → Each IsShallow (text o left extra phrase)
   pub narrow : (o left extra : ℕ) → Each WritesNarrow (text o left extra phrase)
   pub splits : (o left extra : ℕ) (rest : List ℕ) (items : List Placed) → Clear rest → Splits (at + length bytes) rest items → Splits at (onto rest) (map placed (text o left extra phrase) ++ items)
 
@@ -111,7 +111,7 @@ module _ (bytes : List ℕ) (onto : List ℕ → List ℕ) (t : NamedTree) (h : 
         splits = λ o left extra rest items c k. w.splits o left extra rest items c k;
       }
 
-  in_parens : (at : ℕ) → WritesExpr bytes onto t h S (at + 1) → WritesAtom (codes "(" ++ bytes ++ codes ")") (λ r. 40 ∷ onto (41 ∷ r)) t (suc h) (λ o. (o < 500) × S (suc o)) at
+  in_parens : (at : ℕ) → WritesExpr bytes onto t h S (at + 1) → WritesAtom (codes "(" ++ bytes ++ codes ")") (λ r. 40 ∷ onto (41 ∷ r)) t (suc h) (λ o. (o < most_open) × S (suc o)) at
   in_parens at w =
       let close : ℕ = (at + 1) + length bytes in
       record {
@@ -236,7 +236,7 @@ apply_form i f a u v =
       same = λ k. apply_at 0 (p.same k) (q.same k);
       high = λ k. suc (max (p.high k) (q.high k));
       shallow = λ o left extra lt s.
-          let low : (app_part_of p.phrase).height < 500 = omega (arith, p.high, s.1) in
+          let low : (app_part_of p.phrase).height < most_open = omega (arith, p.high, s.1) in
           each_append IsShallow (app_text o p.phrase) (atom_text o (app_part_of p.phrase).height 1 q.phrase) (p.shallow o 0 0 some_left s.0) (q.shallow o (app_part_of p.phrase).height 1 low s.2);
       narrow = λ o left extra. each_append WritesNarrow (app_text o p.phrase) (atom_text o (app_part_of p.phrase).height 1 q.phrase) (p.narrow o 0 0) (q.narrow o (app_part_of p.phrase).height 1);
       splits = λ o left extra rest items c k.

@@ -1,5 +1,6 @@
 -- The scan gives the tree of a derivation, or the first fault.
 use Rattle.std.proofs.Common.{◌≡◌, ℕ, ◌+◌, ◌^◌, ◌<◌, ◌≤◌, List, [], ◌∷◌, ◌++◌, map, Ok, Err, nat_lt, nat_le, if◌then◌else◌, refl, sym, ap, ◌∙◌, subst, append_assoc, append-nil, arith}
+use Rattle.pcf_values.specs.Most.{most_nodes, most_open}
 use Rattle.pcf_reader.specs.Tokens.{Token, Number, End, Junk, Placed}
 use Rattle.pcf_reader.specs.Grammar.{Program, program_text, Part, expr_part, expr_text, Written, placed, plain, marked}
 use Rattle.pcf_reader.specs.Machine.{State, want_expr, whole, Step, refuse, go, finish, step}
@@ -108,7 +109,7 @@ pub record SoFar (ws : Texts) (s : State) (n : ℕ) : Type 0 where
   pub reached : Reached s ws
   pub shallow : Each IsShallow ws
   pub counted : count_of ws ≡ n
-  pub small : n ≤ 32768
+  pub small : n ≤ most_nodes
   pub narrow : Each WritesNarrow ws
   pub true_tokens : Each WritesTrue ws
 
@@ -143,7 +144,7 @@ no_fault ws s n so b x a (Unexpected at) e f = f.0 (front_of ws s so.reached (b 
 no_fault ws s n so b x a (TooDeep at) e f =
     let (w, r, deep, place) = f in
     let (v, is) = reads_here ws s b x a w so.run e r in
-    let shallow : w.depth < 500 = each_at IsShallow r.front w v (subst (λ z. Each IsShallow z) is so.shallow) in
+    let shallow : w.depth < most_open = each_at IsShallow r.front w v (subst (λ z. Each IsShallow z) is so.shallow) in
     omega (arith, deep)
 no_fault ws s n so b x a (TooLarge at) e f =
     let (w, r, large, place) = f in
@@ -168,10 +169,10 @@ proper_cases P at (Number n) r bad wide good =
 proper_cases P at x r bad wide good = good tt tt
 
 pub within_cases : (P : Answer → Type 0) (at d n : ℕ) (r : Answer)
-    → (500 ≤ d → P (Err (TooDeep at))) → (d < 500 → 32768 < n → P (Err (TooLarge at))) → (d < 500 → n ≤ 32768 → P r) → P (within at d n r)
+    → (most_open ≤ d → P (Err (TooDeep at))) → (d < most_open → most_nodes < n → P (Err (TooLarge at))) → (d < most_open → n ≤ most_nodes → P r) → P (within at d n r)
 within_cases P at d n r deep large good =
-    cond_both (nat_le 500 d) (Err (TooDeep at)) (if nat_lt 32768 n then Err (TooLarge at) else r) P (λ e. deep (leb-true 500 d e))
-    (λ e. cond_both (nat_lt 32768 n) (Err (TooLarge at)) r P (λ f. large (leb-false 500 d e) (ltb-true 32768 n f)) (λ f. good (leb-false 500 d e) (ltb-false 32768 n f)))
+    cond_both (nat_le most_open d) (Err (TooDeep at)) (if nat_lt most_nodes n then Err (TooLarge at) else r) P (λ e. deep (leb-true most_open d e))
+    (λ e. cond_both (nat_lt most_nodes n) (Err (TooLarge at)) r P (λ f. large (leb-false most_open d e) (ltb-true most_nodes n f)) (λ f. good (leb-false most_open d e) (ltb-false most_nodes n f)))
 
 -- faults that a token does not have
 not_bad : (b : List Placed) (x : Placed) (at : ℕ) → IsTrueToken x.token → FaultAt b x (BadToken at) → ⊥
@@ -255,7 +256,7 @@ module _ (ws : Texts) (s : State) (n : ℕ) (so : SoFar ws s n) (x : Placed) (go
     none_above_deep (TooLarge at) h f = omega arith
     none_above_deep TooLong h f = omega arith
 
-    none_above_large : d < 500 → (g : ReadFault) → rank g < 6 → FaultAt (map placed ws) x g → ⊥
+    none_above_large : d < most_open → (g : ReadFault) → rank g < 6 → FaultAt (map placed ws) x g → ⊥
     none_above_large shallow NoMemory h f = f
     none_above_large shallow (NotText at) h f = f
     none_above_large shallow (BadToken at) h f = not_bad (map placed ws) x at real f
@@ -265,12 +266,12 @@ module _ (ws : Texts) (s : State) (n : ℕ) (so : SoFar ws s n) (x : Placed) (go
         let (w, r, deep, place) = f in
         let (v, is) = reads_here (ws ++ marked x.at x.token d c ∷ []) t (map placed ws) x [] w run_on tokens_on r in
         let all : Each IsShallow (ws ++ marked x.at x.token d c ∷ []) = each_append IsShallow ws (marked x.at x.token d c ∷ []) so.shallow (shallow, tt) in
-        let low : w.depth < 500 = each_at IsShallow r.front w v (subst (λ z. Each IsShallow z) is all) in
+        let low : w.depth < most_open = each_at IsShallow r.front w v (subst (λ z. Each IsShallow z) is all) in
         omega (arith, deep)
     none_above_large shallow (TooLarge at) h f = omega arith
     none_above_large shallow TooLong h f = omega arith
 
-    so_on : d < 500 → n + c ≤ 32768 → SoFar (ws ++ marked x.at x.token d c ∷ []) t (n + c)
+    so_on : d < most_open → n + c ≤ most_nodes → SoFar (ws ++ marked x.at x.token d c ∷ []) t (n + c)
     so_on shallow small = record {
       run = run_on;
       reached = reached_on;
@@ -291,7 +292,7 @@ module _ (ws : Texts) (s : State) (n : ℕ) (so : SoFar ws s n) (x : Placed) (go
         written = ap (λ z. map placed (z ++ last ∷ [])) same ∙ map-append ws (last ∷ []) ∙ ap (λ t. map placed ws ++ record { at = x.at; token = t } ∷ []) (sym ends);
         stands_for = ap (λ (p : Part). p.tree) part;
         shallow = subst (λ z. Each IsShallow (z ++ last ∷ [])) text (each_append IsShallow ws (last ∷ []) so.shallow (omega arith, tt));
-        small = subst (λ z. count_of (z ++ last ∷ []) ≤ 32768) text (omega (arith, count-append ws (last ∷ []), so.counted, so.small));
+        small = subst (λ z. count_of (z ++ last ∷ []) ≤ most_nodes) text (omega (arith, count-append ws (last ∷ []), so.counted, so.small));
         narrow = subst (λ z. Each WritesNarrow (z ++ last ∷ [])) text (each_append WritesNarrow ws (last ∷ []) so.narrow (tt, tt));
       }
 

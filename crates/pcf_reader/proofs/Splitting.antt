@@ -3,6 +3,7 @@ use Rattle.std.proofs.Common.{◌≡◌, ◌⊎◌, inl, inr, ◌<◌, ℕ, ◌�
 use Rattle.std.specs.Prelude.{IfOk, IfErr, MatchResult}
 use Rattle.std.specs.Str.{IsValidUpTo, chars, IsUtf8}
 use Rattle.std.proofs.lemmas.Str.{chars-encodes}
+use Rattle.pcf_values.specs.Most.{most_program_bytes}
 use Rattle.pcf_values.specs.Named.{NamedTree}
 use Rattle.pcf_reader.specs.Tokens.{Placed}
 use Rattle.pcf_reader.specs.Machine.{want_expr, whole}
@@ -24,7 +25,7 @@ use Rattle.pcf_reader.proofs.Unique.{splits_lex}
 use Rattle.pcf_reader.proofs.Ended.{Ended, splits_ended, program_is_all}
 
 -- the bytes of a text have the tokens that the machine finds
-tokens : (bytes : List ℕ) → length bytes ≤ 1048576 → (u : IsUtf8 bytes) → HasTokens bytes (lex (chars bytes) 0 idle)
+tokens : (bytes : List ℕ) → length bytes ≤ most_program_bytes → (u : IsUtf8 bytes) → HasTokens bytes (lex (chars bytes) 0 idle)
 tokens bytes n u = record {
   short = n;
   characters = u.0;
@@ -39,11 +40,11 @@ same_tokens bytes items h =
     sym (splits_lex 0 h.characters items h.splits) ∙ ap (λ z. lex z 0 idle) (sym (ap chars (sym h.encoded) ∙ chars-encodes h.characters h.scalars))
 
 -- which end
-pub tokens_end : (bytes : List ℕ) → length bytes ≤ 1048576 → (u : IsUtf8 bytes) → Ended (lex (chars bytes) 0 idle)
+pub tokens_end : (bytes : List ℕ) → length bytes ≤ most_program_bytes → (u : IsUtf8 bytes) → Ended (lex (chars bytes) 0 idle)
 tokens_end bytes n u = let h : HasTokens bytes (lex (chars bytes) 0 idle) = tokens bytes n u in splits_ended 0 h.characters (lex (chars bytes) 0 idle) h.splits
 
 -- What the scan answers of a text.
-pub text_read : (bytes : List ℕ) → length bytes ≤ 1048576 → IsUtf8 bytes → (t : NamedTree) → scan (lex (chars bytes) 0 idle) (want_expr whole) 0 ≡ Ok t → Text bytes t
+pub text_read : (bytes : List ℕ) → length bytes ≤ most_program_bytes → IsUtf8 bytes → (t : NamedTree) → scan (lex (chars bytes) 0 idle) (want_expr whole) 0 ≡ Ok t → Text bytes t
 text_read bytes n u t e =
     let items : List Placed = lex (chars bytes) 0 idle in
     let (front, xs, split, derives) = let j : Judged items (Ok t) = subst (λ r. Judged items r) e (scan_judged items) in j in
@@ -63,19 +64,19 @@ faults_of bytes items h (TooDeep at) k = (items, h, k)
 faults_of bytes items h (TooLarge at) k = (items, h, k)
 faults_of bytes items h TooLong k = absurd k.here
 
-pub text_fault : (bytes : List ℕ) → length bytes ≤ 1048576 → IsUtf8 bytes → (f : ReadFault) → scan (lex (chars bytes) 0 idle) (want_expr whole) 0 ≡ Err f → Faults bytes f
+pub text_fault : (bytes : List ℕ) → length bytes ≤ most_program_bytes → IsUtf8 bytes → (f : ReadFault) → scan (lex (chars bytes) 0 idle) (want_expr whole) 0 ≡ Err f → Faults bytes f
 text_fault bytes n u f e =
     let items : List Placed = lex (chars bytes) 0 idle in
     let j : Judged items (Err f) = subst (λ r. Judged items r) e (scan_judged items) in
     faults_of bytes items (tokens bytes n u) f j
 
 -- the answer of a function that gives what the scan answers
-pub given_read : (bytes : List ℕ) → length bytes ≤ 1048576 → IsUtf8 bytes → (r : Result Named ReadFault)
+pub given_read : (bytes : List ℕ) → length bytes ≤ most_program_bytes → IsUtf8 bytes → (r : Result Named ReadFault)
     → Gives (λ t. Ok (named_of t)) (scan (lex (chars bytes) 0 idle) (want_expr whole) 0) r → IfOk r (λ t. Text bytes (named_of t))
 given_read bytes n u (Ok t) h = text_read bytes n u (named_of t) h
 given_read bytes n u (Err f) h = tt
 
-fails_fault : (bytes : List ℕ) → length bytes ≤ 1048576 → IsUtf8 bytes → (f : ReadFault) → Fails f (scan (lex (chars bytes) 0 idle) (want_expr whole) 0) → Faults bytes f
+fails_fault : (bytes : List ℕ) → length bytes ≤ most_program_bytes → IsUtf8 bytes → (f : ReadFault) → Fails f (scan (lex (chars bytes) 0 idle) (want_expr whole) 0) → Faults bytes f
 fails_fault bytes n u NoMemory h = tt
 fails_fault bytes n u (NotText at) h = text_fault bytes n u (NotText at) h
 fails_fault bytes n u (BadToken at) h = text_fault bytes n u (BadToken at) h
@@ -85,7 +86,7 @@ fails_fault bytes n u (TooDeep at) h = text_fault bytes n u (TooDeep at) h
 fails_fault bytes n u (TooLarge at) h = text_fault bytes n u (TooLarge at) h
 fails_fault bytes n u TooLong h = text_fault bytes n u TooLong h
 
-pub given_fault : (bytes : List ℕ) → length bytes ≤ 1048576 → IsUtf8 bytes → (r : Result Named ReadFault)
+pub given_fault : (bytes : List ℕ) → length bytes ≤ most_program_bytes → IsUtf8 bytes → (r : Result Named ReadFault)
     → Gives (λ t. Ok (named_of t)) (scan (lex (chars bytes) 0 idle) (want_expr whole) 0) r → IfErr r (λ f. Faults bytes f)
 given_fault bytes n u (Ok t) h = tt
 given_fault bytes n u (Err f) h = fails_fault bytes n u f h
@@ -121,8 +122,8 @@ token_fault_only bytes t f h k =
 -- what the first fault of bytes can be: they are too long, or no text, or a token has it
 abbrev pub Kinds : List ℕ → ReadFault → Type 0
 Kinds bytes f =
-    ((f ≡ TooLong) × (1048576 < length bytes))
-    ⊎ (((at : ℕ) × (f ≡ NotText at) × (length bytes ≤ 1048576) × (IsUtf8 bytes → ⊥) × IsValidUpTo bytes at) ⊎ TokenFault bytes f)
+    ((f ≡ TooLong) × (most_program_bytes < length bytes))
+    ⊎ (((at : ℕ) × (f ≡ NotText at) × (length bytes ≤ most_program_bytes) × (IsUtf8 bytes → ⊥) × IsValidUpTo bytes at) ⊎ TokenFault bytes f)
 
 kinds : (bytes : List ℕ) (f : ReadFault) → FirstFault bytes f → Kinds bytes f
 kinds bytes TooLong h = inl (refl, h)
@@ -134,7 +135,7 @@ kinds bytes (Unexpected at) h = inr (inr h)
 kinds bytes (TooDeep at) h = inr (inr h)
 kinds bytes (TooLarge at) h = inr (inr h)
 
-short_text : (bytes : List ℕ) (f : ReadFault) → TokenFault bytes f → length bytes ≤ 1048576
+short_text : (bytes : List ℕ) (f : ReadFault) → TokenFault bytes f → length bytes ≤ most_program_bytes
 short_text bytes f h = h.1.short
 
 true_text : (bytes : List ℕ) (f : ReadFault) → TokenFault bytes f → IsUtf8 bytes
@@ -187,13 +188,13 @@ only_first bytes f (TooDeep at) h k = first_once bytes (TooDeep at) f k h
 only_first bytes f (TooLarge at) h k = first_once bytes (TooLarge at) f k h
 
 -- Bytes with a first fault are refused with that one, unless memory runs out.
-pub given_fault_only : (bytes : List ℕ) → length bytes ≤ 1048576 → IsUtf8 bytes → (r : Result Named ReadFault) (f : ReadFault) → FirstFault bytes f
+pub given_fault_only : (bytes : List ℕ) → length bytes ≤ most_program_bytes → IsUtf8 bytes → (r : Result Named ReadFault) (f : ReadFault) → FirstFault bytes f
     → Gives (λ t. Ok (named_of t)) (scan (lex (chars bytes) 0 idle) (want_expr whole) 0) r → MatchResult r (λ t. ⊥) (λ g. IsOnlyFault f g)
 given_fault_only bytes n u (Ok t) f h g = text_no_fault bytes (named_of t) f (text_read bytes n u (named_of t) g) h
 given_fault_only bytes n u (Err e) f h g = only_first bytes f e h (fails_fault bytes n u e g)
 
-pub too_long_only : (bytes : List ℕ) → 1048576 < length bytes → (f : ReadFault) → FirstFault bytes f → IsOnlyFault f TooLong
+pub too_long_only : (bytes : List ℕ) → most_program_bytes < length bytes → (f : ReadFault) → FirstFault bytes f → IsOnlyFault f TooLong
 too_long_only bytes h f k = first_once bytes TooLong f h k
 
-pub no_text_only : (bytes : List ℕ) (at : ℕ) → length bytes ≤ 1048576 → (IsUtf8 bytes → ⊥) → IsValidUpTo bytes at → (f : ReadFault) → FirstFault bytes f → IsOnlyFault f (NotText at)
+pub no_text_only : (bytes : List ℕ) (at : ℕ) → length bytes ≤ most_program_bytes → (IsUtf8 bytes → ⊥) → IsValidUpTo bytes at → (f : ReadFault) → FirstFault bytes f → IsOnlyFault f (NotText at)
 no_text_only bytes at n u v f k = first_once bytes (NotText at) f (n, u, v) k

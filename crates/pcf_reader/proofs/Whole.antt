@@ -1,6 +1,7 @@
 -- What derives is read, so it derives one tree and has no fault; a list has one first fault.
 use Rattle.std.proofs.Common.{◌≡◌, ℕ, ◌+◌, ◌^◌, ◌<◌, ◌≤◌, List, [], ◌∷◌, ◌++◌, map, Ok, Err, nat_lt, if◌then◌else◌, refl, sym, ap, ◌∙◌, arith, add-zero, add_assoc}
 use Rattle.std.proofs.lemmas.Bool.{lt-ltb, lt-leb, le-ltb}
+use Rattle.pcf_values.specs.Most.{most_nodes, most_open}
 use Rattle.pcf_values.specs.Values.{plus_op, minus_op, times_op}
 use Rattle.pcf_values.specs.Terms.{TyTree, arrow, product}
 use Rattle.pcf_values.specs.Named.{NamedTree, bind_at}
@@ -66,17 +67,17 @@ proper_is s at Junk r taken narrow = absurd (taken (junk_refused s at))
 proper_is s at (Number n) r taken narrow = number_is at n r narrow
 proper_is s at _ r taken narrow = refl
 
-within_is : (at d n : ℕ) (r : Answer) → d < 500 → n ≤ 32768 → within at d n r ≡ r
+within_is : (at d n : ℕ) (r : Answer) → d < most_open → n ≤ most_nodes → within at d n r ≡ r
 within_is at d n r shallow small =
-    ap (λ b. if b then Err (TooDeep at) else if nat_lt 32768 n then Err (TooLarge at) else r) (lt-leb 500 d shallow)
-    ∙ ap (λ b. if b then Err (TooLarge at) else r) (le-ltb 32768 n small)
+    ap (λ b. if b then Err (TooDeep at) else if nat_lt most_nodes n then Err (TooLarge at) else r) (lt-leb most_open d shallow)
+    ∙ ap (λ b. if b then Err (TooLarge at) else r) (le-ltb most_nodes n small)
 
 pub scan_run : (ws : Texts) (s t : State) (n : ℕ) (xs : List Placed)
-    → Follows s ws t → Each IsShallow ws → Each WritesNarrow ws → n + count_of ws ≤ 32768 → scan (map placed ws ++ xs) s n ≡ scan xs t (n + count_of ws)
+    → Follows s ws t → Each IsShallow ws → Each WritesNarrow ws → n + count_of ws ≤ most_nodes → scan (map placed ws ++ xs) s n ≡ scan xs t (n + count_of ws)
 scan_run [] s t n xs h shallow narrow small = ap (λ s. scan xs s n) h ∙ ap (λ n. scan xs t n) (sym (add-zero n))
 scan_run (w ∷ ws) s t n xs h shallow narrow small =
     let rest : List Placed = map placed ws ++ xs in
-    let fits : n + w.count ≤ 32768 = omega arith in
+    let fits : n + w.count ≤ most_nodes = omega arith in
     proper_is s w.at w.token (checked (scan rest) n w.at (step s w.at w.token)) (λ e. no_go w.depth w.count h.0 (sym e ∙ h.1)) narrow.0
     ∙ ap (λ st. checked (scan rest) n w.at st) h.1
     ∙ within_is w.at w.depth (n + w.count) (scan rest h.0 (n + w.count)) shallow.0 fits
@@ -91,7 +92,7 @@ derives_scan items t h =
     let ws : Texts = expr_text 0 e in
     let (s, follows, ends) = program_exact h.program in
     let last : List Placed = record { at = end; token = End } ∷ [] in
-    let small : 0 + count_of ws ≤ 32768 = omega (arith, count-append ws (plain end End ∷ []), h.small) in
+    let small : 0 + count_of ws ≤ most_nodes = omega (arith, count-append ws (plain end End ∷ []), h.small) in
     ap (λ z. scan z (want_expr whole) 0) (sym h.written ∙ map-append ws (plain end End ∷ []))
     ∙ scan_run ws (want_expr whole) s 0 last follows (each_left IsShallow ws (plain end End ∷ []) h.shallow) (each_left WritesNarrow ws (plain end End ∷ []) h.narrow) small
     ∙ proper_is s end End (checked (scan []) (0 + count_of ws) end (step s end End)) (λ e. no_finish (expr_part h.program.expr) (sym e ∙ ends)) tt

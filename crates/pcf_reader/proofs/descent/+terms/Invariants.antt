@@ -1,4 +1,5 @@
-use Rattle.std.proofs.Common.{◌≡◌, ◌+◌, ◌-◌, ◌*◌, ◌<◌, ◌≤◌, length}
+use Rattle.std.proofs.Common.{suc, ◌≡◌, ◌+◌, ◌-◌, ◌*◌, ◌<◌, ◌≤◌, length}
+use Rattle.pcf_values.specs.Most.{most_open}
 use Rattle.pcf_reader.specs.Machine.{AppK, ProductK, ExprK, app_open, product_open, expr_open, begin_atom, first_atom, first_app, first_product, after_app, after_product, after_sum}
 use Rattle.pcf_reader.specs.Rest.{resume}
 use Rattle.pcf_reader.specs.Seen.{part_of}
@@ -6,34 +7,34 @@ use Rattle.pcf_reader.specs.Sizes.{most_read_height}
 use Rattle.pcf_reader.proofs.descent.+terms.Given as goal
 
 abbrev pub decreases-parens : goal.decreases-parens
-decreases-parens l = 9 * (501 - l.depth) + 8
+decreases-parens l = 9 * (suc most_open - l.depth) + 8
 
 abbrev pub decreases-branches : goal.decreases-branches
-decreases-branches l = 9 * (501 - l.depth) + 6
+decreases-branches l = 9 * (suc most_open - l.depth) + 6
 
 abbrev pub decreases-second_of : goal.decreases-second_of
-decreases-second_of l = 9 * (501 - l.depth) + 6
+decreases-second_of l = 9 * (suc most_open - l.depth) + 6
 
 abbrev pub decreases-expr : goal.decreases-expr
-decreases-expr l = 9 * (501 - l.depth) + 5
+decreases-expr l = 9 * (suc most_open - l.depth) + 5
 
 abbrev pub decreases-binding : goal.decreases-binding
-decreases-binding l = 9 * (501 - l.depth)
+decreases-binding l = 9 * (suc most_open - l.depth)
 
 abbrev pub decreases-choice : goal.decreases-choice
-decreases-choice l = 9 * (501 - l.depth)
+decreases-choice l = 9 * (suc most_open - l.depth)
 
 abbrev pub decreases-sum : goal.decreases-sum
-decreases-sum l = 9 * (501 - l.depth) + 4
+decreases-sum l = 9 * (suc most_open - l.depth) + 4
 
 abbrev pub decreases-product : goal.decreases-product
-decreases-product l = 9 * (501 - l.depth) + 3
+decreases-product l = 9 * (suc most_open - l.depth) + 3
 
 abbrev pub decreases-application : goal.decreases-application
-decreases-application l = 9 * (501 - l.depth) + 2
+decreases-application l = 9 * (suc most_open - l.depth) + 2
 
 abbrev pub decreases-atom : goal.decreases-atom
-decreases-atom l = 9 * (501 - l.depth) + 1
+decreases-atom l = 9 * (suc most_open - l.depth) + 1
 
 abbrev pub invariant-application-loop-alloc : goal.invariant-application-loop-alloc
 invariant-application-loop-alloc l = record {
