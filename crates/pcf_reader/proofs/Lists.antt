@@ -1,6 +1,5 @@
 -- Lists of written tokens and their parts: what holds of each token, and how many nodes they count.
 use Rattle.std.proofs.Common.{◌≡◌, ◌+◌, List, [], ◌∷◌, ◌++◌, map, refl, ap, arith}
-use Rattle.pcf_reader.specs.Tokens.{Placed}
 use Rattle.pcf_reader.specs.Grammar.{Written, placed}
 use Rattle.pcf_reader.specs.Text.{count_of, IsNarrow, Each}
 

@@ -1,7 +1,7 @@
 -- Each list of bytes stands for a tree or has a first fault.
 -- Bytes are too long or not; those that aren't are text, or stop being text behind their longest front that is; and of a text the scan
 -- of its tokens answers, since the tokens end.
-use Rattle.std.proofs.Common.{◌≡◌, ◌⊎◌, inl, inr, ℕ, zero, suc, ◌<◌, ◌≤◌, Bool, true, false, List, [], length, take, Ok, Err, refl, sym, ◌∙◌, subst, arith, take_all, true≢false}
+use Rattle.std.proofs.Common.{◌≡◌, ◌⊎◌, inl, inr, ℕ, zero, suc, ◌<◌, ◌≤◌, true, false, List, [], length, take, Ok, Err, refl, sym, ◌∙◌, subst, arith, take_all, true≢false}
 use Rattle.std.specs.Str.{IsUtf8, IsValidUpTo, chars, is_utf8}
 use Rattle.std.proofs.lemmas.Bool.{cases_Bool, cases_lt}
 use Rattle.std.proofs.lemmas.Str.{IsUtf8-from_is_utf8, is_utf8-from_IsUtf8}
@@ -54,11 +54,14 @@ stops bytes never = go (longest_front bytes (length bytes))
     longer n longest k above u (inr within) = longest k above within u
 
     go : Longest bytes (length bytes) → (n : ℕ) × IsValidUpTo bytes n
-    go (n, low, front, longest) = (n, record {
-      short = short n front (cases_lt n (length bytes));
-      front = front;
-      longest = λ k above u. longer n longest k above u (cases_lt (length bytes) k);
-    })
+    go (n, low, front, longest) = (
+      n,
+      record {
+        short = short n front (cases_lt n (length bytes));
+        front = front;
+        longest = λ k above u. longer n longest k above u (cases_lt (length bytes) k);
+      },
+    )
 
 abbrev pub Either : List ℕ → Type 0
 Either bytes = ((t : NamedTree) × Text bytes t) ⊎ ((f : ReadFault) × FirstFault bytes f)
