@@ -1,22 +1,22 @@
 -- What is printed of a tree that was read is read back.
 use Rattle.std.proofs.Common.{◌≡◌, ℕ, suc, ◌+◌, ◌≤◌, List, [], ◌∷◌, ◌++◌, map, length, refl, sym, ap, ◌∙◌, subst, arith, append-nil}
+use Rattle.pcf_values.specs.Most.{most_nodes, most_program_bytes}
 use Rattle.pcf_values.specs.Named.{NamedTree, number_at, name_at, word_at, binary_at, pair_at, ifz_at, bind_at, apply_at}
 use Rattle.pcf_reader.specs.Tokens.{End, Placed}
 use Rattle.pcf_reader.specs.Grammar.{Expr, expr_part, expr_text, Written, placed, plain, Program, program_text}
 use Rattle.pcf_reader.specs.Spelling.{Splits, ends}
-use Rattle.pcf_reader.specs.Text.{Derives}
+use Rattle.pcf_reader.specs.Text.{Derives, IsShallow}
 use Rattle.pcf_reader.specs.Correct.{HasTokens, Text}
 use Rattle.pcf_reader.specs.Printed.{term_text, placeless}
 use Rattle.pcf_reader.specs.Sizes.{node_count}
 use Rattle.pcf_reader.specs.Laws.{ReadBack}
+use Rattle.pcf_reader.proofs.Lists.{WritesNarrow, each_append, each_left, map-append}
 use Rattle.pcf_reader.proofs.Lexed.{at_place}
-use Rattle.pcf_reader.proofs.Judge.{map-append}
-use Rattle.pcf_reader.proofs.Bounds.{shallow_left, program_count}
+use Rattle.pcf_reader.proofs.Bounds.{program_count}
 use Rattle.pcf_reader.proofs.Shown.{own_onto, own_height, own_shallow, Fine}
-use Rattle.pcf_reader.proofs.Canon.{shallow_join, narrow_join}
 use Rattle.pcf_reader.proofs.Forms.{forms, WritesExpr}
 use Rattle.pcf_reader.proofs.Fits.{expr_fits}
-use Rattle.pcf_reader.proofs.Fine.{AreFine, splits_fine, Good, good_from, good_left, fine_expr}
+use Rattle.pcf_reader.proofs.Fine.{AreFine, splits_fine, IsGood, Good, good_from, fine_expr}
 use Rattle.pcf_reader.proofs.Shows.{own_shows}
 
 -- places don't count
@@ -31,7 +31,7 @@ count_placeless (bind_at i b x t m) = omega (arith, count_placeless m)
 count_placeless (apply_at i f a) = λ k. suc (count_placeless f k + count_placeless a k)
 
 -- the spelling of what is fine, shallow and small stands for it
-spelled_text : (t : NamedTree) → Fine t → own_shallow t 0 → node_count t ≤ 32768 → length (term_text t) ≤ 1048576 → (u : NamedTree) × Text (term_text t) u × (placeless u ≡ placeless t)
+spelled_text : (t : NamedTree) → Fine t → own_shallow t 0 → node_count t ≤ most_nodes → length (term_text t) ≤ most_program_bytes → (u : NamedTree) × Text (term_text t) u × (placeless u ≡ placeless t)
 spelled_text t fine shallow few short =
     let w : WritesExpr (term_text t) (λ r. own_onto t r) t (own_height t) (λ o. own_shallow t o) 0 = (forms t fine).expr 0 in
     let e : Expr = w.phrase in
@@ -51,14 +51,14 @@ spelled_text t fine shallow few short =
       program = program;
       written = map-append (expr_text 0 e) (plain end End ∷ []);
       stands_for = refl;
-      shallow = shallow_join (expr_text 0 e) (plain end End ∷ []) (w.shallow 0 0 0 (omega arith) shallow) (omega arith, tt);
+      shallow = each_append IsShallow (expr_text 0 e) (plain end End ∷ []) (w.shallow 0 0 0 (omega arith) shallow) (omega arith, tt);
       small = omega (arith, program_count program, counts, few);
-      narrow = narrow_join (expr_text 0 e) (plain end End ∷ []) (w.narrow 0 0 0) (tt, tt);
+      narrow = each_append WritesNarrow (expr_text 0 e) (plain end End ∷ []) (w.narrow 0 0 0) (tt, tt);
     } in
     ((expr_part e).tree, (items, tokens, derives), w.same)
 
-of_tree : (t u : NamedTree) → u ≡ t → (Fine u × own_shallow u 0 × (node_count u ≤ 32768)) → (Fine t × own_shallow t 0 × (node_count t ≤ 32768))
-of_tree t u e h = subst (λ z. Fine z × own_shallow z 0 × (node_count z ≤ 32768)) e h
+of_tree : (t u : NamedTree) → u ≡ t → (Fine u × own_shallow u 0 × (node_count u ≤ most_nodes)) → (Fine t × own_shallow t 0 × (node_count t ≤ most_nodes))
+of_tree t u e h = subst (λ z. Fine z × own_shallow z 0 × (node_count z ≤ most_nodes)) e h
 
 pub read_back : ReadBack
 read_back bytes t h short =
@@ -68,6 +68,6 @@ read_back bytes t h short =
     let last : List Written = plain d.program.end End ∷ [] in
     let fine_items : AreFine h.0 = splits_fine 0 tokens.characters h.0 tokens.scalars tokens.splits in
     let good : Good (program_text d.program) = good_from (program_text d.program) (subst AreFine (sym d.written) fine_items) d.narrow in
-    let few : node_count (expr_part e).tree ≤ 32768 = omega (arith, d.small, program_count d.program) in
-    let facts = of_tree t (expr_part e).tree d.stands_for (fine_expr 0 e (good_left (expr_text 0 e) last good), (expr_fits 0 e (shallow_left (expr_text 0 e) last d.shallow)).0, few) in
+    let few : node_count (expr_part e).tree ≤ most_nodes = omega (arith, d.small, program_count d.program) in
+    let facts = of_tree t (expr_part e).tree d.stands_for (fine_expr 0 e (each_left IsGood (expr_text 0 e) last good), (expr_fits 0 e (each_left IsShallow (expr_text 0 e) last d.shallow)).0, few) in
     spelled_text t facts.0 facts.1 facts.2 short

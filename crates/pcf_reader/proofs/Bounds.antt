@@ -1,20 +1,13 @@
 -- The count and the height of what is read.
 use Rattle.std.proofs.Common.{◌≡◌, ℕ, suc, ◌+◌, ◌*◌, ◌<◌, ◌≤◌, List, [], ◌∷◌, ◌++◌, refl, subst, arith}
+use Rattle.pcf_values.specs.Most.{most_nodes, most_open}
 use Rattle.pcf_values.specs.Named.{NamedTree, number_at, name_at, word_at, binary_at, pair_at, ifz_at, bind_at, apply_at, named_size, named_height}
 use Rattle.pcf_reader.specs.Tokens.{Close, Dot, Comma, Plus, Minus, Times, Arrow, Then, Else, End}
 use Rattle.pcf_reader.specs.Grammar.{Type_, only_ptype, arrow_type, PType, only_tatom, times_type, TAtom, nat_type, paren_type, Expr, binding, choice, only_sum, Sum, only_product, plus, minus, Product, only_app, times, App, only_atom, applied, Atom, numeral, variable, parens, pairing, prefixed, type_ty, ptype_ty, tatom_ty, expr_part, sum_part, product_part, app_part_of, atom_part, Written, plain, marked, type_text, ptype_text, tatom_text, expr_text, sum_text, product_text, app_text, atom_text, Program, program_text}
-use Rattle.pcf_reader.specs.Text.{count_of, AreShallow, Derives}
-use Rattle.pcf_reader.specs.Sizes.{nats, node_count}
+use Rattle.pcf_reader.specs.Text.{count_of, Derives, IsShallow, Each}
+use Rattle.pcf_reader.specs.Sizes.{nats, node_count, most_read_height}
 use Rattle.pcf_reader.specs.Laws.{Bounded}
-use Rattle.pcf_reader.proofs.Judge.{count-append}
-
-pub shallow_left : (u v : List Written) → AreShallow (u ++ v) → AreShallow u
-shallow_left [] v h = tt
-shallow_left (w ∷ u) v h = (h.0, shallow_left u v h.1)
-
-pub shallow_right : (u v : List Written) → AreShallow (u ++ v) → AreShallow v
-shallow_right [] v h = h
-shallow_right (w ∷ u) v h = shallow_right u v h.1
+use Rattle.pcf_reader.proofs.Lists.{each_left, each_right, count-append}
 
 mutual
   pub count_type : (o : ℕ) (t : Type_) → count_of (type_text o t) ≡ nats (type_ty t)
@@ -73,60 +66,60 @@ mutual
 
 -- heights as written are bounded by the open phrases that are left
 mutual
-  pub low_expr : (o : ℕ) (e : Expr) → o ≤ 500 → AreShallow (expr_text o e) → (expr_part e).height + 4 * o ≤ 2504
+  pub low_expr : (o : ℕ) (e : Expr) → o ≤ most_open → Each IsShallow (expr_text o e) → (expr_part e).height + 4 * o ≤ most_read_height
   low_expr o (binding at b xat x colon t dot e) le h =
-      omega (arith, h.0, low_expr (suc o) e (omega (arith, h.0)) (shallow_right (type_text (suc o) t) (plain dot Dot ∷ expr_text (suc o) e) h.1.1.1).1)
+      omega (arith, h.0, low_expr (suc o) e (omega (arith, h.0)) (each_right IsShallow (type_text (suc o) t) (plain dot Dot ∷ expr_text (suc o) e) h.1.1.1).1)
   low_expr o (choice at c i p j q) le h =
       let c_text : List Written = expr_text (suc o) c in
       let p_text : List Written = expr_text (suc o) p in
       let q_text : List Written = expr_text (suc o) q in
-      let behind : AreShallow (p_text ++ plain j Else ∷ q_text) = (shallow_right c_text (plain i Then ∷ (p_text ++ plain j Else ∷ q_text)) h.1).1 in
+      let behind : Each IsShallow (p_text ++ plain j Else ∷ q_text) = (each_right IsShallow c_text (plain i Then ∷ (p_text ++ plain j Else ∷ q_text)) h.1).1 in
       omega (
         arith,
         h.0,
-        low_expr (suc o) c (omega (arith, h.0)) (shallow_left c_text (plain i Then ∷ (p_text ++ plain j Else ∷ q_text)) h.1),
-        low_expr (suc o) p (omega (arith, h.0)) (shallow_left p_text (plain j Else ∷ q_text) behind),
-        low_expr (suc o) q (omega (arith, h.0)) (shallow_right p_text (plain j Else ∷ q_text) behind).1,
+        low_expr (suc o) c (omega (arith, h.0)) (each_left IsShallow c_text (plain i Then ∷ (p_text ++ plain j Else ∷ q_text)) h.1),
+        low_expr (suc o) p (omega (arith, h.0)) (each_left IsShallow p_text (plain j Else ∷ q_text) behind),
+        low_expr (suc o) q (omega (arith, h.0)) (each_right IsShallow p_text (plain j Else ∷ q_text) behind).1,
       )
   low_expr o (only_sum s) le h = low_sum o s le h
 
-  pub low_sum : (o : ℕ) (s : Sum) → o ≤ 500 → AreShallow (sum_text o s) → (sum_part s).height + 4 * o ≤ 2504
+  pub low_sum : (o : ℕ) (s : Sum) → o ≤ most_open → Each IsShallow (sum_text o s) → (sum_part s).height + 4 * o ≤ most_read_height
   low_sum o (only_product p) le h = omega (arith, low_product o p le h)
   low_sum o (plus s at p) le h =
-      let more : AreShallow (marked at Plus (sum_part s).height 1 ∷ product_text o p) = shallow_right (sum_text o s) (marked at Plus (sum_part s).height 1 ∷ product_text o p) h in
+      let more : Each IsShallow (marked at Plus (sum_part s).height 1 ∷ product_text o p) = each_right IsShallow (sum_text o s) (marked at Plus (sum_part s).height 1 ∷ product_text o p) h in
       omega (arith, le, more.0, low_product o p le more.1)
   low_sum o (minus s at p) le h =
-      let more : AreShallow (marked at Minus (sum_part s).height 1 ∷ product_text o p) = shallow_right (sum_text o s) (marked at Minus (sum_part s).height 1 ∷ product_text o p) h in
+      let more : Each IsShallow (marked at Minus (sum_part s).height 1 ∷ product_text o p) = each_right IsShallow (sum_text o s) (marked at Minus (sum_part s).height 1 ∷ product_text o p) h in
       omega (arith, le, more.0, low_product o p le more.1)
 
-  pub low_product : (o : ℕ) (p : Product) → o ≤ 500 → AreShallow (product_text o p) → (product_part p).height + 4 * o ≤ 2503
+  pub low_product : (o : ℕ) (p : Product) → o ≤ most_open → Each IsShallow (product_text o p) → (product_part p).height + 4 * o + 1 ≤ most_read_height
   low_product o (only_app f) le h = omega (arith, low_app o f le h)
   low_product o (times m at f) le h =
-      let more : AreShallow (marked at Times (product_part m).height 1 ∷ app_text o f) = shallow_right (product_text o m) (marked at Times (product_part m).height 1 ∷ app_text o f) h in
+      let more : Each IsShallow (marked at Times (product_part m).height 1 ∷ app_text o f) = each_right IsShallow (product_text o m) (marked at Times (product_part m).height 1 ∷ app_text o f) h in
       omega (arith, le, more.0, low_app o f le more.1)
 
-  pub low_app : (o : ℕ) (f : App) → o ≤ 500 → AreShallow (app_text o f) → (app_part_of f).height + 4 * o ≤ 2502
+  pub low_app : (o : ℕ) (f : App) → o ≤ most_open → Each IsShallow (app_text o f) → (app_part_of f).height + 4 * o + 2 ≤ most_read_height
   low_app o (only_atom a) le h = omega (arith, low_atom o 0 0 a le h)
   low_app o (applied f a) le h =
-      let more : AreShallow (atom_text o (app_part_of f).height 1 a) = shallow_right (app_text o f) (atom_text o (app_part_of f).height 1 a) h in
+      let more : Each IsShallow (atom_text o (app_part_of f).height 1 a) = each_right IsShallow (app_text o f) (atom_text o (app_part_of f).height 1 a) h in
       omega (arith, le, first_left o (app_part_of f).height 1 a more, low_atom o (app_part_of f).height 1 a le more)
 
-  pub low_atom : (o left extra : ℕ) (a : Atom) → o ≤ 500 → AreShallow (atom_text o left extra a) → (atom_part a).height + 4 * o ≤ 2501
+  pub low_atom : (o left extra : ℕ) (a : Atom) → o ≤ most_open → Each IsShallow (atom_text o left extra a) → (atom_part a).height + 4 * o + 3 ≤ most_read_height
   low_atom o left extra (numeral at n) le h = omega (arith, le)
   low_atom o left extra (variable at x) le h = omega (arith, le)
   low_atom o left extra (parens at e close) le h =
-      omega (arith, h.0, low_expr (suc o) e (omega (arith, h.0)) (shallow_left (expr_text (suc o) e) (plain close Close ∷ []) h.1))
+      omega (arith, h.0, low_expr (suc o) e (omega (arith, h.0)) (each_left IsShallow (expr_text (suc o) e) (plain close Close ∷ []) h.1))
   low_atom o left extra (pairing at a comma b close) le h =
       let more : List Written = marked comma Comma 0 1 ∷ (expr_text (suc o) b ++ plain close Close ∷ []) in
       omega (
         arith,
         h.0,
-        low_expr (suc o) a (omega (arith, h.0)) (shallow_left (expr_text (suc o) a) more h.1),
-        low_expr (suc o) b (omega (arith, h.0)) (shallow_left (expr_text (suc o) b) (plain close Close ∷ []) (shallow_right (expr_text (suc o) a) more h.1).1),
+        low_expr (suc o) a (omega (arith, h.0)) (each_left IsShallow (expr_text (suc o) a) more h.1),
+        low_expr (suc o) b (omega (arith, h.0)) (each_left IsShallow (expr_text (suc o) b) (plain close Close ∷ []) (each_right IsShallow (expr_text (suc o) a) more h.1).1),
       )
   low_atom o left extra (prefixed at w a) le h = omega (arith, h.0, low_atom (suc o) 0 0 a (omega (arith, h.0)) h.1)
 
-  pub first_left : (o left extra : ℕ) (a : Atom) → AreShallow (atom_text o left extra a) → left < 500
+  pub first_left : (o left extra : ℕ) (a : Atom) → Each IsShallow (atom_text o left extra a) → left < most_open
   first_left o left extra (numeral at n) h = h.0
   first_left o left extra (variable at x) h = h.0
   first_left o left extra (parens at e close) h = omega (arith, h.0)
@@ -173,13 +166,13 @@ size_below (apply_at i f a) = omega (arith, size_below f, size_below a)
 pub program_count : (p : Program) → count_of (program_text p) ≡ node_count (expr_part p.expr).tree
 program_count p = omega (arith, count-append (expr_text 0 p.expr) (plain p.end End ∷ []), count_expr 0 p.expr)
 
-within_limits : (items : _) (t : NamedTree) → Derives items t → (node_count t ≤ 32768) × (named_size t ≤ 32768) × (named_height t ≤ 2504)
+within_limits : (items : _) (t : NamedTree) → Derives items t → (node_count t ≤ most_nodes) × (named_size t ≤ most_nodes) × (named_height t ≤ most_read_height)
 within_limits items t d =
     let e : Expr = d.program.expr in
     let whole : NamedTree = (expr_part e).tree in
-    let few : node_count whole ≤ 32768 = omega (arith, d.small, program_count d.program) in
-    let low : named_height whole ≤ 2504 = omega (arith, tree_expr e, low_expr 0 e (omega arith) (shallow_left (expr_text 0 e) (plain d.program.end End ∷ []) d.shallow)) in
-    subst (λ u. (node_count u ≤ 32768) × (named_size u ≤ 32768) × (named_height u ≤ 2504)) d.stands_for (few, omega (arith, few, size_below whole), low)
+    let few : node_count whole ≤ most_nodes = omega (arith, d.small, program_count d.program) in
+    let low : named_height whole ≤ most_read_height = omega (arith, tree_expr e, low_expr 0 e (omega arith) (each_left IsShallow (expr_text 0 e) (plain d.program.end End ∷ []) d.shallow)) in
+    subst (λ u. (node_count u ≤ most_nodes) × (named_size u ≤ most_nodes) × (named_height u ≤ most_read_height)) d.stands_for (few, omega (arith, few, size_below whole), low)
 
 pub bounded : Bounded
 bounded bytes t h = within_limits h.0 t h.2

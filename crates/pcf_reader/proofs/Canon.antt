@@ -1,25 +1,18 @@
 -- Each tree has a phrase for what is printed of it, on each level of the grammar.
 use Rattle.std.proofs.Common.{◌≡◌, ℕ, suc, ◌+◌, ◌<◌, List, [], ◌∷◌, ◌++◌, map, length, refl, sym, ap, ◌∙◌, subst, arith, append_assoc, length-append}
 use Rattle.std.specs.Prelude.{codes}
+use Rattle.pcf_values.specs.Most.{most_open}
 use Rattle.pcf_values.specs.Terms.{TyTree, nat, arrow, product}
 use Rattle.pcf_values.specs.Named.{Word, the_succ, the_pred, the_fst, the_snd, Binder, the_fun, the_fix}
 use Rattle.pcf_reader.specs.Tokens.{Open, Close, Colon, Dot, Comma, Plus, Minus, Times, Arrow, Ifz, Then, Else, Nat, Bind, Before, Placed}
 use Rattle.pcf_reader.specs.Grammar.{Type_, only_ptype, arrow_type, PType, only_tatom, times_type, TAtom, nat_type, paren_type, type_ty, ptype_ty, tatom_ty, Written, placed, plain, marked, type_text, ptype_text, tatom_text}
 use Rattle.pcf_reader.specs.Spelling.{word_of, Splits, token, arrow as arrow_spelled}
-use Rattle.pcf_reader.specs.Text.{AreShallow, AreNarrow}
 use Rattle.pcf_reader.specs.Printed.{fitted, ty_level, ty_text, word_text, binder_text}
+use Rattle.pcf_reader.specs.Text.{IsShallow, Each}
+use Rattle.pcf_reader.proofs.Lists.{each_append, map-append}
 use Rattle.pcf_reader.proofs.Shown.{fit_onto, fit_shallow, ty_onto, ty_shallow}
 use Rattle.pcf_reader.proofs.Pieces.{Clear, clear_by, place_at, blank_piece, sign_piece, keyword_piece}
 use Rattle.pcf_reader.proofs.Lexed.{at_place, arrow_longest}
-use Rattle.pcf_reader.proofs.Judge.{map-append}
-
-pub shallow_join : (u v : List Written) → AreShallow u → AreShallow v → AreShallow (u ++ v)
-shallow_join [] v h k = k
-shallow_join (w ∷ u) v h k = (h.0, shallow_join u v h.1 k)
-
-pub narrow_join : (u v : List Written) → AreNarrow u → AreNarrow v → AreNarrow (u ++ v)
-narrow_join [] v h k = k
-narrow_join (w ∷ u) v h k = (h.0, narrow_join u v h.1 k)
 
 -- the tokens of two parts, one behind the other
 pub both_parts : (at : ℕ) (cs : List ℕ) (u v : List Written) (items : List Placed) → Splits at cs (map placed u ++ (map placed v ++ items)) → Splits at cs (map placed (u ++ v) ++ items)
@@ -41,7 +34,7 @@ colon_clear cs = clear_by 58 cs (omega arith) refl refl
 pub dot_clear : (cs : List ℕ) → Clear (46 ∷ cs)
 dot_clear cs = clear_by 46 cs (omega arith) refl refl
 
-pub some_left : 0 < 500
+pub some_left : 0 < most_open
 some_left = omega arith
 
 pub open_piece : (at : ℕ) (rest : List ℕ) (items : List Placed) → Splits (at + 1) rest items → Splits at (40 ∷ rest) (at_place at Open ∷ items)
@@ -124,7 +117,7 @@ nat_piece at rest items clear h = keyword_piece 110 (97 ∷ 116 ∷ []) Nat 3 at
 pub record TyWrites (X : Type 0) (ty : X → TyTree) (text : ℕ → X → List Written) (bytes : List ℕ) (onto : List ℕ → List ℕ) (t : TyTree) (S : ℕ → Type 0) (at : ℕ) : Type 0 where
   pub phrase : X
   pub same : ty phrase ≡ t
-  pub shallow : (o : ℕ) → S o → AreShallow (text o phrase)
+  pub shallow : (o : ℕ) → S o → Each IsShallow (text o phrase)
   pub splits : (o : ℕ) (rest : List ℕ) (items : List Placed) → Clear rest → Splits (at + length bytes) rest items → Splits at (onto rest) (map placed (text o phrase) ++ items)
 
 module _ (bytes : List ℕ) (onto : List ℕ → List ℕ) (t : TyTree) (S : ℕ → Type 0) where
@@ -135,13 +128,13 @@ module _ (bytes : List ℕ) (onto : List ℕ → List ℕ) (t : TyTree) (S : ℕ
   ptype_in_type at w = record { phrase = only_ptype w.phrase; same = w.same; shallow = λ o s. w.shallow o s; splits = λ o rest items c h. w.splits o rest items c h }
 
   type_in_parens : (at : ℕ) → TyWrites Type_ type_ty type_text bytes onto t S (at + 1)
-      → TyWrites TAtom tatom_ty tatom_text (codes "(" ++ bytes ++ codes ")") (λ r. 40 ∷ onto (41 ∷ r)) t (λ o. (o < 500) × S (suc o)) at
+      → TyWrites TAtom tatom_ty tatom_text (codes "(" ++ bytes ++ codes ")") (λ r. 40 ∷ onto (41 ∷ r)) t (λ o. (o < most_open) × S (suc o)) at
   type_in_parens at w =
       let close : ℕ = (at + 1) + length bytes in
       record {
         phrase = paren_type at w.phrase close;
         same = w.same;
-        shallow = λ o s. (s.0, shallow_join (type_text (suc o) w.phrase) (plain close Close ∷ []) (w.shallow (suc o) s.1) (some_left, tt));
+        shallow = λ o s. (s.0, each_append IsShallow (type_text (suc o) w.phrase) (plain close Close ∷ []) (w.shallow (suc o) s.1) (some_left, tt));
         splits = λ o rest items c h.
             open_piece at (onto (41 ∷ rest)) (map placed (type_text (suc o) w.phrase ++ plain close Close ∷ []) ++ items)
             (both_parts (at + 1) (onto (41 ∷ rest)) (type_text (suc o) w.phrase) (plain close Close ∷ []) items
@@ -193,7 +186,7 @@ ty_forms (arrow a b) =
     record {
       phrase = arrow_type p.phrase (mid + 1) q.phrase;
       same = λ k. arrow (p.same k) (q.same k);
-      shallow = λ o s. shallow_join (ptype_text o p.phrase) (marked (mid + 1) Arrow o 0 ∷ type_text (suc o) q.phrase) (p.shallow o s.0) (s.1, q.shallow (suc o) s.2);
+      shallow = λ o s. each_append IsShallow (ptype_text o p.phrase) (marked (mid + 1) Arrow o 0 ∷ type_text (suc o) q.phrase) (p.shallow o s.0) (s.1, q.shallow (suc o) s.2);
       splits = λ o rest items c h.
           both_parts at (ty_onto (arrow a b) rest) (ptype_text o p.phrase) (marked (mid + 1) Arrow o 0 ∷ type_text (suc o) q.phrase) items
           (p.splits o (32 ∷ 45 ∷ 62 ∷ 32 ∷ ty_onto b rest) (at_place (mid + 1) Arrow ∷ (map placed (type_text (suc o) q.phrase) ++ items)) (space (45 ∷ 62 ∷ 32 ∷ ty_onto b rest))
@@ -213,7 +206,7 @@ ty_forms (product a b) =
     record {
       phrase = times_type p.phrase (mid + 1) q.phrase;
       same = λ k. product (p.same k) (q.same k);
-      shallow = λ o s. shallow_join (tatom_text o p.phrase) (marked (mid + 1) Times o 0 ∷ ptype_text (suc o) q.phrase) (p.shallow o s.0) (s.1, q.shallow (suc o) s.2);
+      shallow = λ o s. each_append IsShallow (tatom_text o p.phrase) (marked (mid + 1) Times o 0 ∷ ptype_text (suc o) q.phrase) (p.shallow o s.0) (s.1, q.shallow (suc o) s.2);
       splits = λ o rest items c h.
           both_parts at (ty_onto (product a b) rest) (tatom_text o p.phrase) (marked (mid + 1) Times o 0 ∷ ptype_text (suc o) q.phrase) items
           (p.splits o (32 ∷ 42 ∷ 32 ∷ right_onto rest) (at_place (mid + 1) Times ∷ (map placed (ptype_text (suc o) q.phrase) ++ items)) (space (42 ∷ 32 ∷ right_onto rest))

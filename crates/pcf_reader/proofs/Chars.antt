@@ -1,9 +1,9 @@
 -- The characters of a text, one by one.
 use Rattle.std.proofs.Common.{◌≡◌, ℕ, true, List, [], ◌∷◌, ◌++◌, length, sym, ap, ◌∙◌, length-append, arith}
+use Rattle.std.proofs.lemmas.Bool.{and_parts}
 use Rattle.std.specs.Prelude.{encode_utf8, encode_utf8_all}
 use Rattle.std.specs.Str.{chars, IsUtf8, all_scalars}
 use Rattle.std.proofs.lemmas.Str.{chars-encodes, chars-nil, encode_same, length-encode, len_utf8_bounds}
-use Rattle.pcf_reader.proofs.BothHold.{and_right}
 
 no_text : (c : ℕ) (r : List ℕ) → [] ≡ encode_utf8 c ++ r → ⊥
 no_text c r e =
@@ -14,7 +14,7 @@ spelled : (cs : List ℕ) (c : ℕ) (r : List ℕ) → all_scalars cs ≡ true �
 spelled [] c r s e = absurd (no_text c r e)
 spelled (d ∷ ds) c r s e =
     let same = encode_same d c (encode_utf8_all ds) r e in
-    let rest : chars r ≡ ds = ap chars (sym same.1) ∙ chars-encodes ds (and_right _ _ s) in
+    let rest : chars r ≡ ds = ap chars (sym same.1) ∙ chars-encodes ds (and_parts _ _ s).1 in
     chars-encodes (d ∷ ds) s ∙ ap (λ x. x ∷ ds) same.0 ∙ ap (λ z. c ∷ z) (sym rest)
 
 -- a text that begins with a character has it first

@@ -13,7 +13,8 @@ use Rattle.pcf_reader.specs.Spelling.{sign_of, word_of, Spells, sign, arrow, dig
 use Rattle.pcf_reader.specs.Text.{Derives}
 use Rattle.pcf_reader.specs.Scan.{Answer, checked, proper, scan}
 use Rattle.pcf_reader.specs.declared.fault.ReadFault.TheVariants.{NoMemory}
-use Rattle.pcf_reader.proofs.Judge.{map-append, proper_cases, within_cases}
+use Rattle.pcf_reader.proofs.Lists.{map-append}
+use Rattle.pcf_reader.proofs.Judge.{proper_cases, within_cases}
 use Rattle.pcf_reader.proofs.Longest.{sign_in}
 
 abbrev pub Ended : List Placed → Type 0

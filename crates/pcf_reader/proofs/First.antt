@@ -1,15 +1,17 @@
 -- A list of tokens has one first fault, and none where it derives a tree.
 use Rattle.std.proofs.Common.{◌≡◌, ◌⊎◌, ℕ, zero, suc, ◌+◌, ◌^◌, ◌<◌, ◌≤◌, List, [], ◌∷◌, ◌++◌, map, refl, sym, ap, ◌∙◌, subst, append_assoc, inl, inr, arith}
 use Rattle.std.proofs.lemmas.Bool.{cases_lt}
+use Rattle.pcf_values.specs.Most.{most_open}
 use Rattle.pcf_values.specs.Named.{NamedTree}
 use Rattle.pcf_reader.specs.Tokens.{Junk, Placed}
 use Rattle.pcf_reader.specs.Grammar.{program_text, Written, placed}
 use Rattle.pcf_reader.specs.Machine.{State, want_expr, whole, Step, refuse, go, finish, step}
-use Rattle.pcf_reader.specs.Text.{count_of, AreShallow, IsNarrow, AreNarrow, Derives, FaultAt, rank, IsFirstFault}
+use Rattle.pcf_reader.specs.Text.{count_of, IsNarrow, Derives, FaultAt, rank, IsFirstFault, IsShallow, Each}
 use Rattle.pcf_reader.specs.declared.fault.ReadFault.{ReadFault}
 use Rattle.pcf_reader.specs.declared.fault.ReadFault.TheVariants.{NoMemory, NotText, BadToken, NumberTooWide, Unexpected, TooDeep, TooLarge, TooLong}
+use Rattle.pcf_reader.proofs.Lists.{WritesNarrow, each_at, count-append}
 use Rattle.pcf_reader.proofs.Reached.{Texts}
-use Rattle.pcf_reader.proofs.Judge.{PassesBy, Passes, program_passes, head_is, tail_is, none_left, written_is, split_at, count-append, shallow_at, narrow_at}
+use Rattle.pcf_reader.proofs.Judge.{PassesBy, Passes, program_passes, head_is, tail_is, none_left, written_is, split_at}
 use Rattle.pcf_reader.proofs.Whole.{junk_refused}
 
 -- two ways to pass over one token by one step are one
@@ -67,7 +69,7 @@ derives_no_fault items t h b x a (BadToken at) e f =
     junk_passes u w v (want_expr whole) (subst (λ z. Passes z (want_expr whole)) is (program_passes h.program)) (ap (λ p. p.token) here ∙ f.0)
 derives_no_fault items t h b x a (NumberTooWide at) e f =
     let (u, w, v, is, before, here) = split_at (program_text h.program) b x a (h.written ∙ e) in
-    let small : f.0 < 2 ^ 64 = subst (λ t. IsNarrow t) (ap (λ p. p.token) here ∙ f.1) (narrow_at u w v (subst (λ z. AreNarrow z) is h.narrow)) in
+    let small : f.0 < 2 ^ 64 = subst (λ t. IsNarrow t) (ap (λ p. p.token) here ∙ f.1) (each_at WritesNarrow u w v (subst (λ z. Each WritesNarrow z) is h.narrow)) in
     let large : 2 ^ 64 ≤ f.0 = f.2 in
     omega arith
 derives_no_fault items t h b x a (Unexpected at) e f = f.0 (h.program, a, h.written ∙ e ∙ sym (append_assoc b (x ∷ []) a))
@@ -75,7 +77,7 @@ derives_no_fault items t h b x a (TooDeep at) e f =
     let (w, r, deep, place) = f in
     let (v, is) = both_pass r.front w r.rest (program_text h.program) (want_expr whole) a (subst (λ z. Passes z (want_expr whole)) r.text (program_passes r.program)) (program_passes h.program)
     (h.written ∙ e ∙ ap (λ z. z ++ x ∷ a) (sym r.before_is) ∙ ap (λ z. map placed r.front ++ z ∷ a) (sym r.token_is)) in
-    let shallow : w.depth < 500 = shallow_at r.front w v (subst (λ z. AreShallow z) is h.shallow) in
+    let shallow : w.depth < most_open = each_at IsShallow r.front w v (subst (λ z. Each IsShallow z) is h.shallow) in
     omega (arith, deep)
 derives_no_fault items t h b x a (TooLarge at) e f =
     let (w, r, large, place) = f in

@@ -1,40 +1,42 @@
 -- Each term has a phrase for what is printed of it, on each level of the grammar.
-use Rattle.std.proofs.Common.{◌≡◌, ℕ, suc, ◌+◌, ◌<◌, ◌^◌, max, List, [], ◌∷◌, ◌++◌, map, length, refl, ap, arith, length-append}
+use Rattle.std.proofs.Common.{◌≡◌, ℕ, suc, ◌+◌, ◌<◌, ◌^◌, max, List, [], ◌∷◌, ◌++◌, map, length, refl, sym, ap, ◌∙◌, subst, arith, length-append}
 use Rattle.std.specs.Prelude.{codes, decimal}
 use Rattle.std.specs.Str.{chars}
-use Rattle.pcf_values.specs.Values.{plus_op, minus_op, times_op}
+use Rattle.pcf_values.specs.Most.{most_open}
+use Rattle.pcf_values.specs.Values.{Op, plus_op, minus_op, times_op}
 use Rattle.pcf_values.specs.Named.{NamedTree, number_at, name_at, word_at, binary_at, pair_at, ifz_at, bind_at, apply_at, Word, Binder, the_fun, the_fix}
-use Rattle.pcf_reader.specs.Tokens.{Close, Colon, Dot, Comma, Plus, Minus, Times, Then, Else, Name, Placed}
-use Rattle.pcf_reader.specs.Grammar.{Type_, only_ptype, arrow_type, PType, only_tatom, times_type, TAtom, nat_type, paren_type, Expr, binding, choice, only_sum, Sum, only_product, plus, minus, Product, only_app, times, App, only_atom, applied, Atom, numeral, variable, parens, pairing, prefixed, Part, expr_part, sum_part, product_part, app_part_of, atom_part, Written, placed, plain, marked, type_text, ptype_text, tatom_text, expr_text, sum_text, product_text, app_text, atom_text}
+use Rattle.pcf_reader.specs.Tokens.{Token, Close, Colon, Dot, Comma, Plus, Minus, Times, Then, Else, Name, Placed}
+use Rattle.pcf_reader.specs.Grammar.{Type_, only_ptype, arrow_type, PType, only_tatom, times_type, TAtom, nat_type, paren_type, Expr, binding, choice, only_sum, Sum, only_product, plus, minus, Product, only_app, times, App, only_atom, applied, Atom, numeral, variable, parens, pairing, prefixed, Part, binary, expr_part, sum_part, product_part, app_part_of, atom_part, Written, placed, plain, marked, type_text, ptype_text, tatom_text, expr_text, sum_text, product_text, app_text, atom_text}
 use Rattle.pcf_reader.specs.Spelling.{Splits}
-use Rattle.pcf_reader.specs.Text.{AreShallow, AreNarrow}
-use Rattle.pcf_reader.specs.Printed.{fitted, ty_text, word_text, binder_text, level, term_text, placeless}
+use Rattle.pcf_reader.specs.Text.{IsNarrow, IsShallow, Each}
+use Rattle.pcf_reader.specs.Printed.{fitted, ty_text, word_text, binder_text, op_text, level, term_text, placeless}
+use Rattle.pcf_reader.proofs.Lists.{WritesNarrow, each_append}
 use Rattle.pcf_reader.proofs.Shown.{fit_onto, fit_height, fit_shallow, ty_onto, own_onto, own_height, own_shallow, Fine}
 use Rattle.pcf_reader.proofs.Pieces.{Clear, place_at, blank_piece, number_piece, name_piece}
 use Rattle.pcf_reader.proofs.Lexed.{at_place}
-use Rattle.pcf_reader.proofs.Canon.{shallow_join, narrow_join, both_parts, space, closes, comma_clear, colon_clear, dot_clear, some_left, open_piece, close_piece, comma_piece, colon_piece, dot_piece, plus_piece, minus_piece, times_piece, word_splits, binder_splits, ifz_piece, then_piece, else_piece, ty_forms}
+use Rattle.pcf_reader.proofs.Canon.{both_parts, space, closes, comma_clear, colon_clear, dot_clear, some_left, open_piece, close_piece, comma_piece, colon_piece, dot_piece, plus_piece, minus_piece, times_piece, word_splits, binder_splits, ifz_piece, then_piece, else_piece, ty_forms}
 
 -- types have no numbers
 mutual
-  narrow_type : (o : ℕ) (t : Type_) → AreNarrow (type_text o t)
+  narrow_type : (o : ℕ) (t : Type_) → Each WritesNarrow (type_text o t)
   narrow_type o (only_ptype p) = narrow_ptype o p
-  narrow_type o (arrow_type p at t) = narrow_join (ptype_text o p) _ (narrow_ptype o p) (tt, narrow_type (suc o) t)
+  narrow_type o (arrow_type p at t) = each_append WritesNarrow (ptype_text o p) _ (narrow_ptype o p) (tt, narrow_type (suc o) t)
 
-  narrow_ptype : (o : ℕ) (p : PType) → AreNarrow (ptype_text o p)
+  narrow_ptype : (o : ℕ) (p : PType) → Each WritesNarrow (ptype_text o p)
   narrow_ptype o (only_tatom a) = narrow_tatom o a
-  narrow_ptype o (times_type a at p) = narrow_join (tatom_text o a) _ (narrow_tatom o a) (tt, narrow_ptype (suc o) p)
+  narrow_ptype o (times_type a at p) = each_append WritesNarrow (tatom_text o a) _ (narrow_tatom o a) (tt, narrow_ptype (suc o) p)
 
-  narrow_tatom : (o : ℕ) (a : TAtom) → AreNarrow (tatom_text o a)
+  narrow_tatom : (o : ℕ) (a : TAtom) → Each WritesNarrow (tatom_text o a)
   narrow_tatom o (nat_type at) = (tt, tt)
-  narrow_tatom o (paren_type at t close) = (tt, narrow_join (type_text (suc o) t) _ (narrow_type (suc o) t) (tt, tt))
+  narrow_tatom o (paren_type at t close) = (tt, each_append WritesNarrow (type_text (suc o) t) _ (narrow_type (suc o) t) (tt, tt))
 
 -- a phrase for these bytes, which stand before others from a place on
 pub record Writes (X : Type 0) (part : X → Part) (text : ℕ → ℕ → ℕ → X → List Written) (bytes : List ℕ) (onto : List ℕ → List ℕ) (t : NamedTree) (h : ℕ) (S : ℕ → Type 0) (at : ℕ) : Type 0 where
   pub phrase : X
   pub same : placeless (part phrase).tree ≡ placeless t
   pub high : (part phrase).height ≡ h
-  pub shallow : (o left extra : ℕ) → left < 500 → S o → AreShallow (text o left extra phrase)
-  pub narrow : (o left extra : ℕ) → AreNarrow (text o left extra phrase)
+  pub shallow : (o left extra : ℕ) → left < most_open → S o → Each IsShallow (text o left extra phrase)
+  pub narrow : (o left extra : ℕ) → Each WritesNarrow (text o left extra phrase)
   pub splits : (o left extra : ℕ) (rest : List ℕ) (items : List Placed) → Clear rest → Splits (at + length bytes) rest items → Splits at (onto rest) (map placed (text o left extra phrase) ++ items)
 
 abbrev pub as_expr : ℕ → ℕ → ℕ → Expr → List Written
@@ -109,7 +111,7 @@ module _ (bytes : List ℕ) (onto : List ℕ → List ℕ) (t : NamedTree) (h : 
         splits = λ o left extra rest items c k. w.splits o left extra rest items c k;
       }
 
-  in_parens : (at : ℕ) → WritesExpr bytes onto t h S (at + 1) → WritesAtom (codes "(" ++ bytes ++ codes ")") (λ r. 40 ∷ onto (41 ∷ r)) t (suc h) (λ o. (o < 500) × S (suc o)) at
+  in_parens : (at : ℕ) → WritesExpr bytes onto t h S (at + 1) → WritesAtom (codes "(" ++ bytes ++ codes ")") (λ r. 40 ∷ onto (41 ∷ r)) t (suc h) (λ o. (o < most_open) × S (suc o)) at
   in_parens at w =
       let close : ℕ = (at + 1) + length bytes in
       record {
@@ -117,8 +119,8 @@ module _ (bytes : List ℕ) (onto : List ℕ → List ℕ) (t : NamedTree) (h : 
         same = w.same;
         high = ap suc w.high;
         shallow = λ o left extra lt s.
-            (omega (arith, lt, s.0), shallow_join (expr_text (suc o) w.phrase) (plain close Close ∷ []) (w.shallow (suc o) 0 0 some_left s.1) (some_left, tt));
-        narrow = λ o left extra. (tt, narrow_join (expr_text (suc o) w.phrase) (plain close Close ∷ []) (w.narrow (suc o) 0 0) (tt, tt));
+            (omega (arith, lt, s.0), each_append IsShallow (expr_text (suc o) w.phrase) (plain close Close ∷ []) (w.shallow (suc o) 0 0 some_left s.1) (some_left, tt));
+        narrow = λ o left extra. (tt, each_append WritesNarrow (expr_text (suc o) w.phrase) (plain close Close ∷ []) (w.narrow (suc o) 0 0) (tt, tt));
         splits = λ o left extra rest items c k.
             open_piece at (onto (41 ∷ rest)) (map placed (expr_text (suc o) w.phrase ++ plain close Close ∷ []) ++ items)
             (both_parts (at + 1) (onto (41 ∷ rest)) (expr_text (suc o) w.phrase) (plain close Close ∷ []) items
@@ -234,9 +236,9 @@ apply_form i f a u v =
       same = λ k. apply_at 0 (p.same k) (q.same k);
       high = λ k. suc (max (p.high k) (q.high k));
       shallow = λ o left extra lt s.
-          let low : (app_part_of p.phrase).height < 500 = omega (arith, p.high, s.1) in
-          shallow_join (app_text o p.phrase) (atom_text o (app_part_of p.phrase).height 1 q.phrase) (p.shallow o 0 0 some_left s.0) (q.shallow o (app_part_of p.phrase).height 1 low s.2);
-      narrow = λ o left extra. narrow_join (app_text o p.phrase) (atom_text o (app_part_of p.phrase).height 1 q.phrase) (p.narrow o 0 0) (q.narrow o (app_part_of p.phrase).height 1);
+          let low : (app_part_of p.phrase).height < most_open = omega (arith, p.high, s.1) in
+          each_append IsShallow (app_text o p.phrase) (atom_text o (app_part_of p.phrase).height 1 q.phrase) (p.shallow o 0 0 some_left s.0) (q.shallow o (app_part_of p.phrase).height 1 low s.2);
+      narrow = λ o left extra. each_append WritesNarrow (app_text o p.phrase) (atom_text o (app_part_of p.phrase).height 1 q.phrase) (p.narrow o 0 0) (q.narrow o (app_part_of p.phrase).height 1);
       splits = λ o left extra rest items c k.
           both_parts at (own_onto (apply_at i f a) rest) (app_text o p.phrase) (atom_text o (app_part_of p.phrase).height 1 q.phrase) items
           (p.splits o 0 0 (32 ∷ right_onto rest) (map placed (atom_text o (app_part_of p.phrase).height 1 q.phrase) ++ items) (space (right_onto rest))
@@ -245,83 +247,90 @@ apply_form i f a u v =
           (place_at (at + length (left_bytes ++ codes " " ++ right_bytes)) ((mid + 1) + length right_bytes) rest items (omega (arith, length-append (left_bytes ++ codes " ") right_bytes, length-append left_bytes (codes " "))) k))));
     })
 
-plus_form : (i : ℕ) (a b : NamedTree) → FormsOf a → FormsOf b → FormsOf (binary_at i plus_op a b)
-plus_form i a b u v =
-    from_sum (term_text (binary_at i plus_op a b)) (λ r. own_onto (binary_at i plus_op a b) r) (binary_at i plus_op a b) (own_height (binary_at i plus_op a b)) (λ o. own_shallow (binary_at i plus_op a b) o)
-    (λ at.
-    let left_bytes : List ℕ = fitted 3 (level a) (term_text a) in
-    let right_bytes : List ℕ = fitted 2 (level b) (term_text b) in
-    let right_onto : List ℕ → List ℕ = λ r. fit_onto 2 (level b) (λ r. own_onto b r) r in
-    let mid : ℕ = at + length left_bytes in
-    let p = u.sum at in
-    let q = v.product (mid + 3) in
-    record {
-      phrase = plus p.phrase (mid + 1) q.phrase;
-      same = λ k. binary_at 0 plus_op (p.same k) (q.same k);
-      high = λ k. suc (max (p.high k) (q.high k));
-      shallow = λ o left extra lt s.
-          let low : (sum_part p.phrase).height < 500 = omega (arith, p.high, s.1) in
-          shallow_join (sum_text o p.phrase) (marked (mid + 1) Plus (sum_part p.phrase).height 1 ∷ product_text o q.phrase) (p.shallow o 0 0 some_left s.0) (low, q.shallow o 0 0 some_left s.2);
-      narrow = λ o left extra. narrow_join (sum_text o p.phrase) (marked (mid + 1) Plus (sum_part p.phrase).height 1 ∷ product_text o q.phrase) (p.narrow o 0 0) (tt, q.narrow o 0 0);
-      splits = λ o left extra rest items c k.
-          both_parts at (own_onto (binary_at i plus_op a b) rest) (sum_text o p.phrase) (marked (mid + 1) Plus (sum_part p.phrase).height 1 ∷ product_text o q.phrase) items
-          (p.splits o 0 0 (32 ∷ 43 ∷ 32 ∷ right_onto rest) (at_place (mid + 1) Plus ∷ (map placed (product_text o q.phrase) ++ items)) (space (43 ∷ 32 ∷ right_onto rest))
-          (plus_piece mid (right_onto rest) (map placed (product_text o q.phrase) ++ items)
-          (q.splits o 0 0 rest items c
-          (place_at (at + length (left_bytes ++ codes " + " ++ right_bytes)) ((mid + 3) + length right_bytes) rest items (omega (arith, length-append (left_bytes ++ codes " + ") right_bytes, length-append left_bytes (codes " + "))) k))));
-    })
+-- An operator between phrases of two kinds: its token, and the form that makes of both operands a phrase of the left one's kind. What
+-- such a phrase stands for and is written with is told once for all operators.
+record Operator (op : Op) (X Y : Type 0) (part : X → Part) (text : ℕ → ℕ → ℕ → X → List Written) (right_part : Y → Part) (right_text : ℕ → ℕ → ℕ → Y → List Written) : Type 0 where
+  token : Token
+  form : X → ℕ → Y → X
+  parted : (l : X) (at : ℕ) (r : Y) → part (form l at r) ≡ binary op (part l) (right_part r)
+  written : (o left extra : ℕ) (l : X) (at : ℕ) (r : Y) → text o left extra (form l at r) ≡ text o 0 0 l ++ marked at token (part l).height 1 ∷ right_text o 0 0 r
+  narrow : IsNarrow token
+  clear : (rest : List ℕ) → Clear (op_text op ++ rest)
+  splits : (at : ℕ) (rest : List ℕ) (items : List Placed) → Splits (at + length (op_text op)) rest items → Splits at (op_text op ++ rest) (at_place (at + 1) token ∷ items)
 
-minus_form : (i : ℕ) (a b : NamedTree) → FormsOf a → FormsOf b → FormsOf (binary_at i minus_op a b)
-minus_form i a b u v =
-    from_sum (term_text (binary_at i minus_op a b)) (λ r. own_onto (binary_at i minus_op a b) r) (binary_at i minus_op a b) (own_height (binary_at i minus_op a b)) (λ o. own_shallow (binary_at i minus_op a b) o)
-    (λ at.
-    let left_bytes : List ℕ = fitted 3 (level a) (term_text a) in
-    let right_bytes : List ℕ = fitted 2 (level b) (term_text b) in
-    let right_onto : List ℕ → List ℕ = λ r. fit_onto 2 (level b) (λ r. own_onto b r) r in
-    let mid : ℕ = at + length left_bytes in
-    let p = u.sum at in
-    let q = v.product (mid + 3) in
-    record {
-      phrase = minus p.phrase (mid + 1) q.phrase;
-      same = λ k. binary_at 0 minus_op (p.same k) (q.same k);
-      high = λ k. suc (max (p.high k) (q.high k));
-      shallow = λ o left extra lt s.
-          let low : (sum_part p.phrase).height < 500 = omega (arith, p.high, s.1) in
-          shallow_join (sum_text o p.phrase) (marked (mid + 1) Minus (sum_part p.phrase).height 1 ∷ product_text o q.phrase) (p.shallow o 0 0 some_left s.0) (low, q.shallow o 0 0 some_left s.2);
-      narrow = λ o left extra. narrow_join (sum_text o p.phrase) (marked (mid + 1) Minus (sum_part p.phrase).height 1 ∷ product_text o q.phrase) (p.narrow o 0 0) (tt, q.narrow o 0 0);
-      splits = λ o left extra rest items c k.
-          both_parts at (own_onto (binary_at i minus_op a b) rest) (sum_text o p.phrase) (marked (mid + 1) Minus (sum_part p.phrase).height 1 ∷ product_text o q.phrase) items
-          (p.splits o 0 0 (32 ∷ 45 ∷ 32 ∷ right_onto rest) (at_place (mid + 1) Minus ∷ (map placed (product_text o q.phrase) ++ items)) (space (45 ∷ 32 ∷ right_onto rest))
-          (minus_piece mid (right_onto rest) (map placed (product_text o q.phrase) ++ items)
-          (q.splits o 0 0 rest items c
-          (place_at (at + length (left_bytes ++ codes " - " ++ right_bytes)) ((mid + 3) + length right_bytes) rest items (omega (arith, length-append (left_bytes ++ codes " - ") right_bytes, length-append left_bytes (codes " - "))) k))));
-    })
+the_plus : Operator plus_op Sum Product sum_part as_sum product_part as_product
+the_plus = record {
+  token = Plus;
+  form = plus;
+  parted = λ l at r. refl;
+  written = λ o left extra l at r. refl;
+  narrow = tt;
+  clear = λ rest. space (43 ∷ 32 ∷ rest);
+  splits = plus_piece;
+}
 
-times_form : (i : ℕ) (a b : NamedTree) → FormsOf a → FormsOf b → FormsOf (binary_at i times_op a b)
-times_form i a b u v =
-    from_product (term_text (binary_at i times_op a b)) (λ r. own_onto (binary_at i times_op a b) r) (binary_at i times_op a b) (own_height (binary_at i times_op a b)) (λ o. own_shallow (binary_at i times_op a b) o)
-    (λ at.
-    let left_bytes : List ℕ = fitted 2 (level a) (term_text a) in
-    let right_bytes : List ℕ = fitted 1 (level b) (term_text b) in
-    let right_onto : List ℕ → List ℕ = λ r. fit_onto 1 (level b) (λ r. own_onto b r) r in
-    let mid : ℕ = at + length left_bytes in
-    let p = u.product at in
-    let q = v.app (mid + 3) in
-    record {
-      phrase = times p.phrase (mid + 1) q.phrase;
-      same = λ k. binary_at 0 times_op (p.same k) (q.same k);
-      high = λ k. suc (max (p.high k) (q.high k));
-      shallow = λ o left extra lt s.
-          let low : (product_part p.phrase).height < 500 = omega (arith, p.high, s.1) in
-          shallow_join (product_text o p.phrase) (marked (mid + 1) Times (product_part p.phrase).height 1 ∷ app_text o q.phrase) (p.shallow o 0 0 some_left s.0) (low, q.shallow o 0 0 some_left s.2);
-      narrow = λ o left extra. narrow_join (product_text o p.phrase) (marked (mid + 1) Times (product_part p.phrase).height 1 ∷ app_text o q.phrase) (p.narrow o 0 0) (tt, q.narrow o 0 0);
-      splits = λ o left extra rest items c k.
-          both_parts at (own_onto (binary_at i times_op a b) rest) (product_text o p.phrase) (marked (mid + 1) Times (product_part p.phrase).height 1 ∷ app_text o q.phrase) items
-          (p.splits o 0 0 (32 ∷ 42 ∷ 32 ∷ right_onto rest) (at_place (mid + 1) Times ∷ (map placed (app_text o q.phrase) ++ items)) (space (42 ∷ 32 ∷ right_onto rest))
-          (times_piece mid (right_onto rest) (map placed (app_text o q.phrase) ++ items)
-          (q.splits o 0 0 rest items c
-          (place_at (at + length (left_bytes ++ codes " * " ++ right_bytes)) ((mid + 3) + length right_bytes) rest items (omega (arith, length-append (left_bytes ++ codes " * ") right_bytes, length-append left_bytes (codes " * "))) k))));
-    })
+the_minus : Operator minus_op Sum Product sum_part as_sum product_part as_product
+the_minus = record {
+  token = Minus;
+  form = minus;
+  parted = λ l at r. refl;
+  written = λ o left extra l at r. refl;
+  narrow = tt;
+  clear = λ rest. space (45 ∷ 32 ∷ rest);
+  splits = minus_piece;
+}
+
+the_times : Operator times_op Product App product_part as_product app_part_of as_app
+the_times = record {
+  token = Times;
+  form = times;
+  parted = λ l at r. refl;
+  written = λ o left extra l at r. refl;
+  narrow = tt;
+  clear = λ rest. space (42 ∷ 32 ∷ rest);
+  splits = times_piece;
+}
+
+-- two operands and the operator between them
+module _
+    (op : Op) (X Y : Type 0) (part : X → Part) (text : ℕ → ℕ → ℕ → X → List Written) (right_part : Y → Part) (right_text : ℕ → ℕ → ℕ → Y → List Written)
+    (f : Operator op X Y part text right_part right_text)
+    (a b : NamedTree) (a_bytes b_bytes : List ℕ) (a_onto b_onto : List ℕ → List ℕ) (a_height b_height : ℕ) (A B : ℕ → Type 0) where
+  operated : (i at : ℕ) → Writes X part text a_bytes a_onto a a_height A at
+      → Writes Y right_part right_text b_bytes b_onto b b_height B ((at + length a_bytes) + length (op_text op))
+      → Writes X part text (a_bytes ++ op_text op ++ b_bytes) (λ r. a_onto (op_text op ++ b_onto r)) (binary_at i op a b) (suc (max a_height b_height)) (λ o. A o × (a_height < most_open) × B o) at
+  operated i at p q =
+      let mid : ℕ = at + length a_bytes in
+      let whole : X = f.form p.phrase (mid + 1) q.phrase in
+      let front : ℕ → List Written = λ o. text o 0 0 p.phrase in
+      let behind : ℕ → List Written = λ o. marked (mid + 1) f.token (part p.phrase).height 1 ∷ right_text o 0 0 q.phrase in
+      let is : part whole ≡ binary op (part p.phrase) (right_part q.phrase) = f.parted p.phrase (mid + 1) q.phrase in
+      let writes : (o left extra : ℕ) → text o left extra whole ≡ front o ++ behind o = λ o left extra. f.written o left extra p.phrase (mid + 1) q.phrase in
+      record {
+        phrase = whole;
+        same = ap (λ (w : Part). placeless w.tree) is ∙ (λ k. binary_at 0 op (p.same k) (q.same k));
+        high = ap (λ (w : Part). w.height) is ∙ (λ k. suc (max (p.high k) (q.high k)));
+        shallow = λ o left extra lt s.
+            let low : (part p.phrase).height < most_open = omega (arith, p.high, s.1) in
+            subst (λ z. Each IsShallow z) (sym (writes o left extra)) (each_append IsShallow (front o) (behind o) (p.shallow o 0 0 some_left s.0) (low, q.shallow o 0 0 some_left s.2));
+        narrow = λ o left extra. subst (λ z. Each WritesNarrow z) (sym (writes o left extra)) (each_append WritesNarrow (front o) (behind o) (p.narrow o 0 0) (f.narrow, q.narrow o 0 0));
+        splits = λ o left extra rest items c k.
+            subst (λ z. Splits at (a_onto (op_text op ++ b_onto rest)) (map placed z ++ items)) (sym (writes o left extra))
+            (both_parts at (a_onto (op_text op ++ b_onto rest)) (front o) (behind o) items
+            (p.splits o 0 0 (op_text op ++ b_onto rest) (map placed (behind o) ++ items) (f.clear (b_onto rest))
+            (f.splits mid (b_onto rest) (map placed (right_text o 0 0 q.phrase) ++ items)
+            (q.splits o 0 0 rest items c
+            (place_at (at + length (a_bytes ++ op_text op ++ b_bytes)) ((mid + length (op_text op)) + length b_bytes) rest items
+            (omega (arith, length-append (a_bytes ++ op_text op) b_bytes, length-append a_bytes (op_text op))) k)))));
+      }
+
+binary_form : (i : ℕ) (op : Op) (a b : NamedTree) → FormsOf a → FormsOf b → FormsOf (binary_at i op a b)
+binary_form i plus_op a b u v =
+    from_sum _ _ (binary_at i plus_op a b) _ _ (λ at. operated plus_op Sum Product sum_part as_sum product_part as_product the_plus a b _ _ _ _ _ _ _ _ i at (u.sum at) (v.product _))
+binary_form i minus_op a b u v =
+    from_sum _ _ (binary_at i minus_op a b) _ _ (λ at. operated minus_op Sum Product sum_part as_sum product_part as_product the_minus a b _ _ _ _ _ _ _ _ i at (u.sum at) (v.product _))
+binary_form i times_op a b u v =
+    from_product _ _ (binary_at i times_op a b) _ _ (λ at. operated times_op Product App product_part as_product app_part_of as_app the_times a b _ _ _ _ _ _ _ _ i at (u.product at) (v.app _))
 
 pair_form : (i : ℕ) (a b : NamedTree) → FormsOf a → FormsOf b → FormsOf (pair_at i a b)
 pair_form i a b u v =
@@ -337,13 +346,13 @@ pair_form i a b u v =
       high = λ k. suc (max (p.high k) (q.high k));
       shallow = λ o left extra lt s. (
         omega (arith, lt, s.0),
-        shallow_join (expr_text (suc o) p.phrase) (marked comma Comma 0 1 ∷ (expr_text (suc o) q.phrase ++ plain close Close ∷ [])) (p.shallow (suc o) 0 0 some_left s.1)
-            (some_left, shallow_join (expr_text (suc o) q.phrase) (plain close Close ∷ []) (q.shallow (suc o) 0 0 some_left s.2) (some_left, tt)),
+        each_append IsShallow (expr_text (suc o) p.phrase) (marked comma Comma 0 1 ∷ (expr_text (suc o) q.phrase ++ plain close Close ∷ [])) (p.shallow (suc o) 0 0 some_left s.1)
+            (some_left, each_append IsShallow (expr_text (suc o) q.phrase) (plain close Close ∷ []) (q.shallow (suc o) 0 0 some_left s.2) (some_left, tt)),
       );
       narrow = λ o left extra. (
         tt,
-        narrow_join (expr_text (suc o) p.phrase) (marked comma Comma 0 1 ∷ (expr_text (suc o) q.phrase ++ plain close Close ∷ [])) (p.narrow (suc o) 0 0)
-            (tt, narrow_join (expr_text (suc o) q.phrase) (plain close Close ∷ []) (q.narrow (suc o) 0 0) (tt, tt)),
+        each_append WritesNarrow (expr_text (suc o) p.phrase) (marked comma Comma 0 1 ∷ (expr_text (suc o) q.phrase ++ plain close Close ∷ [])) (p.narrow (suc o) 0 0)
+            (tt, each_append WritesNarrow (expr_text (suc o) q.phrase) (plain close Close ∷ []) (q.narrow (suc o) 0 0) (tt, tt)),
       );
       splits = λ o left extra rest items c k.
           let behind : List Placed = map placed (expr_text (suc o) q.phrase) ++ (at_place close Close ∷ items) in
@@ -381,13 +390,13 @@ choice_form i a b d u v w =
       high = λ k. suc (max (p.high k) (max (q.high k) (r.high k)));
       shallow = λ o left extra lt s. (
         s.0,
-        shallow_join (expr_text (suc o) p.phrase) (plain (yes + 1) Then ∷ (expr_text (suc o) q.phrase ++ plain (no + 1) Else ∷ expr_text (suc o) r.phrase)) (p.shallow (suc o) 0 0 some_left s.1)
-            (some_left, shallow_join (expr_text (suc o) q.phrase) (plain (no + 1) Else ∷ expr_text (suc o) r.phrase) (q.shallow (suc o) 0 0 some_left s.2) (some_left, r.shallow (suc o) 0 0 some_left s.3)),
+        each_append IsShallow (expr_text (suc o) p.phrase) (plain (yes + 1) Then ∷ (expr_text (suc o) q.phrase ++ plain (no + 1) Else ∷ expr_text (suc o) r.phrase)) (p.shallow (suc o) 0 0 some_left s.1)
+            (some_left, each_append IsShallow (expr_text (suc o) q.phrase) (plain (no + 1) Else ∷ expr_text (suc o) r.phrase) (q.shallow (suc o) 0 0 some_left s.2) (some_left, r.shallow (suc o) 0 0 some_left s.3)),
       );
       narrow = λ o left extra. (
         tt,
-        narrow_join (expr_text (suc o) p.phrase) (plain (yes + 1) Then ∷ (expr_text (suc o) q.phrase ++ plain (no + 1) Else ∷ expr_text (suc o) r.phrase)) (p.narrow (suc o) 0 0)
-            (tt, narrow_join (expr_text (suc o) q.phrase) (plain (no + 1) Else ∷ expr_text (suc o) r.phrase) (q.narrow (suc o) 0 0) (tt, r.narrow (suc o) 0 0)),
+        each_append WritesNarrow (expr_text (suc o) p.phrase) (plain (yes + 1) Then ∷ (expr_text (suc o) q.phrase ++ plain (no + 1) Else ∷ expr_text (suc o) r.phrase)) (p.narrow (suc o) 0 0)
+            (tt, each_append WritesNarrow (expr_text (suc o) q.phrase) (plain (no + 1) Else ∷ expr_text (suc o) r.phrase) (q.narrow (suc o) 0 0) (tt, r.narrow (suc o) 0 0)),
       );
       splits = λ o left extra rest items c k.
           let third : List Written = plain (no + 1) Else ∷ expr_text (suc o) r.phrase in
@@ -431,9 +440,9 @@ binding_form i b x t m fine u =
       high = ap suc p.high;
       shallow = λ o left extra lt s. (
         s.0,
-        (some_left, (some_left, shallow_join (type_text (suc o) q.phrase) (plain dot Dot ∷ expr_text (suc o) p.phrase) (q.shallow (suc o) s.1) (some_left, p.shallow (suc o) 0 0 some_left s.2))),
+        (some_left, (some_left, each_append IsShallow (type_text (suc o) q.phrase) (plain dot Dot ∷ expr_text (suc o) p.phrase) (q.shallow (suc o) s.1) (some_left, p.shallow (suc o) 0 0 some_left s.2))),
       );
-      narrow = λ o left extra. (tt, (tt, (tt, narrow_join (type_text (suc o) q.phrase) (plain dot Dot ∷ expr_text (suc o) p.phrase) (narrow_type (suc o) q.phrase) (tt, p.narrow (suc o) 0 0))));
+      narrow = λ o left extra. (tt, (tt, (tt, each_append WritesNarrow (type_text (suc o) q.phrase) (plain dot Dot ∷ expr_text (suc o) p.phrase) (narrow_type (suc o) q.phrase) (tt, p.narrow (suc o) 0 0))));
       splits = λ o left extra rest items c k.
           let second : List Written = plain dot Dot ∷ expr_text (suc o) p.phrase in
           let all : List Placed = map placed (type_text (suc o) q.phrase ++ second) ++ items in
@@ -463,9 +472,7 @@ pub forms : (t : NamedTree) → Fine t → FormsOf t
 forms (number_at i n) h = number_form i n h
 forms (name_at i x) h = name_form i x h
 forms (word_at i w a) h = word_form i w a (forms a h)
-forms (binary_at i plus_op a b) h = plus_form i a b (forms a h.0) (forms b h.1)
-forms (binary_at i minus_op a b) h = minus_form i a b (forms a h.0) (forms b h.1)
-forms (binary_at i times_op a b) h = times_form i a b (forms a h.0) (forms b h.1)
+forms (binary_at i op a b) h = binary_form i op a b (forms a h.0) (forms b h.1)
 forms (pair_at i a b) h = pair_form i a b (forms a h.0) (forms b h.1)
 forms (ifz_at i c p q) h = choice_form i c p q (forms c h.0) (forms p h.1) (forms q h.2)
 forms (bind_at i b x t m) h = binding_form i b x t m h.0 (forms m h.1)

@@ -1,13 +1,15 @@
 -- The scan gives the tree of a derivation, or the first fault.
 use Rattle.std.proofs.Common.{◌≡◌, ℕ, ◌+◌, ◌^◌, ◌<◌, ◌≤◌, List, [], ◌∷◌, ◌++◌, map, Ok, Err, nat_lt, nat_le, if◌then◌else◌, refl, sym, ap, ◌∙◌, subst, append_assoc, append-nil, arith}
+use Rattle.pcf_values.specs.Most.{most_nodes, most_open}
 use Rattle.pcf_reader.specs.Tokens.{Token, Number, End, Junk, Placed}
 use Rattle.pcf_reader.specs.Grammar.{Program, program_text, Part, expr_part, expr_text, Written, placed, plain, marked}
 use Rattle.pcf_reader.specs.Machine.{State, want_expr, whole, Step, refuse, go, finish, step}
-use Rattle.pcf_reader.specs.Text.{count_of, AreShallow, IsNarrow, AreNarrow, Derives, IsFront, Reads, FaultAt, rank, IsFirstFault}
+use Rattle.pcf_reader.specs.Text.{count_of, IsNarrow, Derives, IsFront, Reads, FaultAt, rank, IsFirstFault, IsShallow, Each}
 use Rattle.pcf_reader.specs.Scan.{Answer, proper, within, checked, scan}
 use Rattle.pcf_reader.specs.declared.fault.ReadFault.{ReadFault}
 use Rattle.pcf_reader.specs.declared.fault.ReadFault.TheVariants.{NoMemory, NotText, BadToken, NumberTooWide, Unexpected, TooDeep, TooLarge, TooLong}
 use Rattle.std.proofs.lemmas.Bool.{cond_both, ltb-true, ltb-false, leb-true, leb-false}
+use Rattle.pcf_reader.proofs.Lists.{WritesNarrow, each_append, each_at, count-append, map-append}
 use Rattle.pcf_reader.proofs.Follows.{Follows, chain}
 use Rattle.pcf_reader.proofs.Exact.{program_exact}
 use Rattle.pcf_reader.proofs.Reached.{Reached, Texts, Goes, step_goes}
@@ -83,27 +85,6 @@ agrees (y ∷ front) x v (w ∷ ws) s t a k h e =
     let (r, more) = agrees front x v ws h.0 t a pass h.2 (tail_is (placed w) (placed y) (map placed ws) (map placed front ++ placed x ∷ a) e) in
     (r, ap (λ z. z ∷ ws) (sym is) ∙ ap (λ z. y ∷ z) more)
 
--- the counts and depths of a list and its parts
-pub count-append : (u v : Texts) → count_of (u ++ v) ≡ count_of u + count_of v
-count-append [] v = omega arith
-count-append (w ∷ u) v = omega (arith, count-append u v)
-
-pub shallow_at : (u : Texts) (x : Written) (v : Texts) → AreShallow (u ++ x ∷ v) → x.depth < 500
-shallow_at [] x v h = h.0
-shallow_at (w ∷ u) x v h = shallow_at u x v h.1
-
-shallow-append : (u v : Texts) → AreShallow u → AreShallow v → AreShallow (u ++ v)
-shallow-append [] v h k = k
-shallow-append (w ∷ u) v h k = (h.0, shallow-append u v h.1 k)
-
-narrow-append : (u v : Texts) → AreNarrow u → AreNarrow v → AreNarrow (u ++ v)
-narrow-append [] v h k = k
-narrow-append (w ∷ u) v h k = (h.0, narrow-append u v h.1 k)
-
-pub map-append : (u v : Texts) → map placed (u ++ v) ≡ map placed u ++ map placed v
-map-append [] v = refl
-map-append (w ∷ u) v = ap (λ z. placed w ∷ z) (map-append u v)
-
 -- the tokens of the list that stand at a place
 pub split_at : (ws : Texts) (b : List Placed) (x : Placed) (a : List Placed) → map placed ws ≡ b ++ x ∷ a → (u : Texts) × (w : Written) × (v : Texts) × (ws ≡ u ++ w ∷ v) × (map placed u ≡ b) × (placed w ≡ x)
 split_at [] [] x a e = absurd (none_left x a e)
@@ -118,31 +99,19 @@ abbrev pub IsTrueToken : Token → Type 0
 IsTrueToken Junk = ⊥
 IsTrueToken _ = Unit {0}
 
-abbrev pub AreTrue : Texts → Type 0
-AreTrue [] = Unit {0}
-AreTrue (w ∷ ws) = IsTrueToken w.token × AreTrue ws
-
-true-append : (u v : Texts) → AreTrue u → AreTrue v → AreTrue (u ++ v)
-true-append [] v h k = k
-true-append (w ∷ u) v h k = (h.0, true-append u v h.1 k)
-
-pub true_at : (u : Texts) (x : Written) (v : Texts) → AreTrue (u ++ x ∷ v) → IsTrueToken x.token
-true_at [] x v h = h.0
-true_at (w ∷ u) x v h = true_at u x v h.1
-
-pub narrow_at : (u : Texts) (x : Written) (v : Texts) → AreNarrow (u ++ x ∷ v) → IsNarrow x.token
-narrow_at [] x v h = h.0
-narrow_at (w ∷ u) x v h = narrow_at u x v h.1
+-- the same of a written token
+abbrev pub WritesTrue : Written → Type 0
+WritesTrue w = IsTrueToken w.token
 
 -- what has been read so far, without a fault, leads to the state with n nodes
 pub record SoFar (ws : Texts) (s : State) (n : ℕ) : Type 0 where
   pub run : Follows (want_expr whole) ws s
   pub reached : Reached s ws
-  pub shallow : AreShallow ws
+  pub shallow : Each IsShallow ws
   pub counted : count_of ws ≡ n
-  pub small : n ≤ 32768
-  pub narrow : AreNarrow ws
-  pub true_tokens : AreTrue ws
+  pub small : n ≤ most_nodes
+  pub narrow : Each WritesNarrow ws
+  pub true_tokens : Each WritesTrue ws
 
 -- a program's reading of a token of these is theirs
 reads_here : (ws : Texts) (s : State) (b : List Placed) (x : Placed) (a : List Placed) (w : Written)
@@ -165,17 +134,17 @@ no_fault ws s n so b x a (NotText at) e f = f
 no_fault ws s n so b x a TooLong e f = f
 no_fault ws s n so b x a (BadToken at) e f =
     let (u, w, v, is, before, here) = split_at ws b x a e in
-    subst (λ t. IsTrueToken t) (ap (λ p. p.token) here ∙ f.0) (true_at u w v (subst (λ z. AreTrue z) is so.true_tokens))
+    subst (λ t. IsTrueToken t) (ap (λ p. p.token) here ∙ f.0) (each_at WritesTrue u w v (subst (λ z. Each WritesTrue z) is so.true_tokens))
 no_fault ws s n so b x a (NumberTooWide at) e f =
     let (u, w, v, is, before, here) = split_at ws b x a e in
-    let small : f.0 < 2 ^ 64 = subst (λ t. IsNarrow t) (ap (λ p. p.token) here ∙ f.1) (narrow_at u w v (subst (λ z. AreNarrow z) is so.narrow)) in
+    let small : f.0 < 2 ^ 64 = subst (λ t. IsNarrow t) (ap (λ p. p.token) here ∙ f.1) (each_at WritesNarrow u w v (subst (λ z. Each WritesNarrow z) is so.narrow)) in
     let large : 2 ^ 64 ≤ f.0 = f.2 in
     omega arith
 no_fault ws s n so b x a (Unexpected at) e f = f.0 (front_of ws s so.reached (b ++ x ∷ []) a (e ∙ sym (append_assoc b (x ∷ []) a)))
 no_fault ws s n so b x a (TooDeep at) e f =
     let (w, r, deep, place) = f in
     let (v, is) = reads_here ws s b x a w so.run e r in
-    let shallow : w.depth < 500 = shallow_at r.front w v (subst (λ z. AreShallow z) is so.shallow) in
+    let shallow : w.depth < most_open = each_at IsShallow r.front w v (subst (λ z. Each IsShallow z) is so.shallow) in
     omega (arith, deep)
 no_fault ws s n so b x a (TooLarge at) e f =
     let (w, r, large, place) = f in
@@ -200,10 +169,10 @@ proper_cases P at (Number n) r bad wide good =
 proper_cases P at x r bad wide good = good tt tt
 
 pub within_cases : (P : Answer → Type 0) (at d n : ℕ) (r : Answer)
-    → (500 ≤ d → P (Err (TooDeep at))) → (d < 500 → 32768 < n → P (Err (TooLarge at))) → (d < 500 → n ≤ 32768 → P r) → P (within at d n r)
+    → (most_open ≤ d → P (Err (TooDeep at))) → (d < most_open → most_nodes < n → P (Err (TooLarge at))) → (d < most_open → n ≤ most_nodes → P r) → P (within at d n r)
 within_cases P at d n r deep large good =
-    cond_both (nat_le 500 d) (Err (TooDeep at)) (if nat_lt 32768 n then Err (TooLarge at) else r) P (λ e. deep (leb-true 500 d e))
-    (λ e. cond_both (nat_lt 32768 n) (Err (TooLarge at)) r P (λ f. large (leb-false 500 d e) (ltb-true 32768 n f)) (λ f. good (leb-false 500 d e) (ltb-false 32768 n f)))
+    cond_both (nat_le most_open d) (Err (TooDeep at)) (if nat_lt most_nodes n then Err (TooLarge at) else r) P (λ e. deep (leb-true most_open d e))
+    (λ e. cond_both (nat_lt most_nodes n) (Err (TooLarge at)) r P (λ f. large (leb-false most_open d e) (ltb-true most_nodes n f)) (λ f. good (leb-false most_open d e) (ltb-false most_nodes n f)))
 
 -- faults that a token does not have
 not_bad : (b : List Placed) (x : Placed) (at : ℕ) → IsTrueToken x.token → FaultAt b x (BadToken at) → ⊥
@@ -287,7 +256,7 @@ module _ (ws : Texts) (s : State) (n : ℕ) (so : SoFar ws s n) (x : Placed) (go
     none_above_deep (TooLarge at) h f = omega arith
     none_above_deep TooLong h f = omega arith
 
-    none_above_large : d < 500 → (g : ReadFault) → rank g < 6 → FaultAt (map placed ws) x g → ⊥
+    none_above_large : d < most_open → (g : ReadFault) → rank g < 6 → FaultAt (map placed ws) x g → ⊥
     none_above_large shallow NoMemory h f = f
     none_above_large shallow (NotText at) h f = f
     none_above_large shallow (BadToken at) h f = not_bad (map placed ws) x at real f
@@ -296,21 +265,21 @@ module _ (ws : Texts) (s : State) (n : ℕ) (so : SoFar ws s n) (x : Placed) (go
     none_above_large shallow (TooDeep at) h f =
         let (w, r, deep, place) = f in
         let (v, is) = reads_here (ws ++ marked x.at x.token d c ∷ []) t (map placed ws) x [] w run_on tokens_on r in
-        let all : AreShallow (ws ++ marked x.at x.token d c ∷ []) = shallow-append ws (marked x.at x.token d c ∷ []) so.shallow (shallow, tt) in
-        let low : w.depth < 500 = shallow_at r.front w v (subst (λ z. AreShallow z) is all) in
+        let all : Each IsShallow (ws ++ marked x.at x.token d c ∷ []) = each_append IsShallow ws (marked x.at x.token d c ∷ []) so.shallow (shallow, tt) in
+        let low : w.depth < most_open = each_at IsShallow r.front w v (subst (λ z. Each IsShallow z) is all) in
         omega (arith, deep)
     none_above_large shallow (TooLarge at) h f = omega arith
     none_above_large shallow TooLong h f = omega arith
 
-    so_on : d < 500 → n + c ≤ 32768 → SoFar (ws ++ marked x.at x.token d c ∷ []) t (n + c)
+    so_on : d < most_open → n + c ≤ most_nodes → SoFar (ws ++ marked x.at x.token d c ∷ []) t (n + c)
     so_on shallow small = record {
       run = run_on;
       reached = reached_on;
-      shallow = shallow-append ws (marked x.at x.token d c ∷ []) so.shallow (shallow, tt);
+      shallow = each_append IsShallow ws (marked x.at x.token d c ∷ []) so.shallow (shallow, tt);
       counted = omega (arith, count-append ws (marked x.at x.token d c ∷ []), so.counted);
       small = small;
-      narrow = narrow-append ws (marked x.at x.token d c ∷ []) so.narrow (good, tt);
-      true_tokens = true-append ws (marked x.at x.token d c ∷ []) so.true_tokens (real, tt);
+      narrow = each_append WritesNarrow ws (marked x.at x.token d c ∷ []) so.narrow (good, tt);
+      true_tokens = each_append WritesTrue ws (marked x.at x.token d c ∷ []) so.true_tokens (real, tt);
     }
 
   derived : (p : Part) → step s x.at x.token ≡ finish p → Derives (map placed ws ++ x ∷ []) p.tree
@@ -322,9 +291,9 @@ module _ (ws : Texts) (s : State) (n : ℕ) (so : SoFar ws s n) (x : Placed) (go
         program = record { expr = e; end = x.at };
         written = ap (λ z. map placed (z ++ last ∷ [])) same ∙ map-append ws (last ∷ []) ∙ ap (λ t. map placed ws ++ record { at = x.at; token = t } ∷ []) (sym ends);
         stands_for = ap (λ (p : Part). p.tree) part;
-        shallow = subst (λ z. AreShallow (z ++ last ∷ [])) text (shallow-append ws (last ∷ []) so.shallow (omega arith, tt));
-        small = subst (λ z. count_of (z ++ last ∷ []) ≤ 32768) text (omega (arith, count-append ws (last ∷ []), so.counted, so.small));
-        narrow = subst (λ z. AreNarrow (z ++ last ∷ [])) text (narrow-append ws (last ∷ []) so.narrow (tt, tt));
+        shallow = subst (λ z. Each IsShallow (z ++ last ∷ [])) text (each_append IsShallow ws (last ∷ []) so.shallow (omega arith, tt));
+        small = subst (λ z. count_of (z ++ last ∷ []) ≤ most_nodes) text (omega (arith, count-append ws (last ∷ []), so.counted, so.small));
+        narrow = subst (λ z. Each WritesNarrow (z ++ last ∷ [])) text (each_append WritesNarrow ws (last ∷ []) so.narrow (tt, tt));
       }
 
   -- the fault at this token, where those of a lower rank are not

@@ -1,5 +1,5 @@
-pub mod BothHold
 pub mod Ends
+pub mod Lists
 pub mod Follows
 pub mod Exact
 pub mod Reached
@@ -15,6 +15,7 @@ pub mod Longest
 pub mod Lexed
 pub mod Ended
 pub mod Unique
+pub mod TextOrFault
 pub mod Taking
 pub mod Bounds
 pub mod Shown

@@ -2,10 +2,9 @@
 use Rattle.std.proofs.Common.{◌≡◌, ℕ, ◌<◌, ◌≤◌, Bool, true, false, ◌||◌, ◌&&◌, List, [], ◌∷◌, ◌++◌, Some, None, refl, sym, ap, ◌∙◌, subst, if◌then◌else◌, arith}
 use Rattle.std.specs.Prelude.{◌==◌, nat_le}
 use Rattle.std.specs.Char.{is_ascii_alphabetic}
-use Rattle.std.proofs.lemmas.Bool.{cond_both, eqb-true, ne_eqb, leb-true, lt-leb}
+use Rattle.std.proofs.lemmas.Bool.{cond_both, eqb-true, ne_eqb, leb-true, lt-leb, and_parts}
 use Rattle.unicode_ident.specs.Ident.{is_xid_continue}
 use Rattle.unicode_ident.proofs.IdentLemmas.{is_xid_start-ascii}
-use Rattle.pcf_reader.proofs.BothHold.{and_right}
 use Rattle.pcf_reader.specs.Tokens.{Token, Open, Close, Colon, Dot, Comma, Plus, Minus, Times}
 use Rattle.pcf_reader.specs.Spelling.{is_digit, starts_name, sign_of, AllPass, Spells, sign, arrow, digits, word}
 
@@ -45,7 +44,7 @@ pub sign_digit : (c : ℕ) (x : Token) → sign_of c ≡ Some x → is_digit c �
 sign_digit c x h = sign_in (λ n. is_digit n ≡ false) c x refl refl refl refl refl refl refl refl h
 
 pub digit_low : (c : ℕ) → is_digit c ≡ true → c ≤ 57
-digit_low c h = leb-true c 57 (and_right (nat_le 48 c) (nat_le c 57) h)
+digit_low c h = leb-true c 57 (and_parts (nat_le 48 c) (nat_le c 57) h).1
 
 pub digit_starts : (c : ℕ) → is_digit c ≡ true → starts_name c ≡ false
 digit_starts c h = let low : c ≤ 57 = digit_low c h in

@@ -4,11 +4,10 @@ use Rattle.std.specs.Prelude.{decimal, encode_utf8, encode_utf8_all, ◌==◌}
 use Rattle.std.specs.Char.{len_utf8, is_ascii_alphabetic, is_ascii_alphanumeric}
 use Rattle.std.specs.Str.{chars}
 use Rattle.std.proofs.lemmas.Fmt.{decimal_by_steps}
-use Rattle.std.proofs.lemmas.Bool.{leb-true, le-leb}
+use Rattle.std.proofs.lemmas.Bool.{leb-true, le-leb, and_parts}
 use Rattle.std.proofs.lemmas.Str.{length-encode, encode_ascii, chars-encodes}
 use Rattle.unicode_ident.specs.Ident.{is_xid_continue}
 use Rattle.unicode_ident.proofs.IdentLemmas.{is_xid_start-ascii, is_xid_continue-ascii}
-use Rattle.pcf_reader.proofs.BothHold.{and_left, and_right}
 use Rattle.pcf_reader.specs.Tokens.{Token, Number, Name, Placed}
 use Rattle.pcf_reader.specs.Spelling.{is_digit, starts_name, sign_of, word_of, value_from, AllPass, sign, digits, word, width, Splits, blank, token}
 use Rattle.pcf_reader.proofs.Longest.{digit_low}
@@ -63,7 +62,7 @@ small_letter : (c : ℕ) → (nat_le 97 c && nat_le c 122) ≡ true → is_ascii
 small_letter c h = ap (λ b. (nat_le 65 c && nat_le c 90) || b) h ∙ or_second (nat_le 65 c && nat_le c 90)
 
 small_low : (c : ℕ) → (nat_le 97 c && nat_le c 122) ≡ true → c < 128
-small_low c h = let le : c ≤ 122 = leb-true c 122 (and_right (nat_le 97 c) (nat_le c 122) h) in omega (arith, le)
+small_low c h = let le : c ≤ 122 = leb-true c 122 (and_parts (nat_le 97 c) (nat_le c 122) h).1 in omega (arith, le)
 
 small_starts : (c : ℕ) → (nat_le 97 c && nat_le c 122) ≡ true → starts_name c ≡ true
 small_starts c h = ap (λ b. b || (c == 95)) (is_xid_start-ascii c (small_low c h) ∙ small_letter c h)
@@ -78,18 +77,18 @@ small_continues c h = is_xid_continue-ascii c (small_low c h) ∙ or_third _ (na
 
 small_all : (cs : List ℕ) → all_small cs ≡ true → AllPass is_xid_continue cs
 small_all [] h = tt
-small_all (c ∷ cs) h = (small_continues c (and_left (nat_le 97 c && nat_le c 122) (all_small cs) h), small_all cs (and_right (nat_le 97 c && nat_le c 122) (all_small cs) h))
+small_all (c ∷ cs) h = (small_continues c (and_parts (nat_le 97 c && nat_le c 122) (all_small cs) h).0, small_all cs (and_parts (nat_le 97 c && nat_le c 122) (all_small cs) h).1)
 
 small_bytes : (cs : List ℕ) → all_small cs ≡ true → encode_utf8_all cs ≡ cs
 small_bytes [] h = refl
 small_bytes (c ∷ cs) h =
-    ap (λ z. z ++ encode_utf8_all cs) (encode_ascii c (small_low c (and_left (nat_le 97 c && nat_le c 122) (all_small cs) h)))
-    ∙ ap (λ z. c ∷ z) (small_bytes cs (and_right (nat_le 97 c && nat_le c 122) (all_small cs) h))
+    ap (λ z. z ++ encode_utf8_all cs) (encode_ascii c (small_low c (and_parts (nat_le 97 c && nat_le c 122) (all_small cs) h).0))
+    ∙ ap (λ z. c ∷ z) (small_bytes cs (and_parts (nat_le 97 c && nat_le c 122) (all_small cs) h).1)
 
 pub keyword_piece : (c : ℕ) (cs : List ℕ) (x : Token) (n at : ℕ) (rest : List ℕ) (items : List Placed) → all_small (c ∷ cs) ≡ true → word_of (c ∷ cs) ≡ x
     → width (c ∷ cs) ≡ n → Clear rest → Splits (at + n) rest items → Splits at (c ∷ (cs ++ rest)) (at_place at x ∷ items)
 keyword_piece c cs x n at rest items small is w clear h =
-    word_piece c cs x n at rest items (small_starts c (and_left (nat_le 97 c && nat_le c 122) (all_small cs) small)) (small_all cs (and_right (nat_le 97 c && nat_le c 122) (all_small cs) small)) (ap word_of (small_bytes (c ∷ cs) small) ∙ is) w clear h
+    word_piece c cs x n at rest items (small_starts c (and_parts (nat_le 97 c && nat_le c 122) (all_small cs) small).0) (small_all cs (and_parts (nat_le 97 c && nat_le c 122) (all_small cs) small).1) (ap word_of (small_bytes (c ∷ cs) small) ∙ is) w clear h
 
 digit_test : (d : ℕ) → d < 10 → is_digit (48 + d) ≡ true
 digit_test d h =

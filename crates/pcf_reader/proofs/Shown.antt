@@ -2,6 +2,7 @@
 use Rattle.std.specs.Prelude.{◌≡◌, ℕ, suc, ◌<◌, ◌^◌, max, Bool, true, false, nat_le, List, ◌∷◌, ◌++◌, codes, decimal, encode_utf8_all, if◌then◌else◌}
 use Rattle.std.specs.Str.{chars, all_scalars}
 use Rattle.unicode_ident.specs.Ident.{is_xid_continue}
+use Rattle.pcf_values.specs.Most.{most_open}
 use Rattle.pcf_values.specs.Terms.{TyTree, nat, arrow, product}
 use Rattle.pcf_values.specs.Named.{NamedTree, number_at, name_at, word_at, binary_at, pair_at, ifz_at, bind_at, apply_at}
 use Rattle.pcf_reader.specs.Tokens.{Name}
@@ -20,7 +21,7 @@ abbrev pub fit_height : ℕ → ℕ → ℕ → ℕ
 fit_height most lvl h = if nat_le lvl most then h else suc h
 
 abbrev pub fit_shallow : ℕ → ℕ → (ℕ → Type 0) → ℕ → Type 0
-fit_shallow most lvl S o = pick (nat_le lvl most) (S o) ((o < 500) × S (suc o))
+fit_shallow most lvl S o = pick (nat_le lvl most) (S o) ((o < most_open) × S (suc o))
 
 abbrev pub ty_onto : TyTree → List ℕ → List ℕ
 ty_onto nat rest = codes "nat" ++ rest
@@ -29,8 +30,8 @@ ty_onto (product a b) rest = fit_onto 0 (ty_level a) (λ r. ty_onto a r) (codes 
 
 abbrev pub ty_shallow : TyTree → ℕ → Type 0
 ty_shallow nat o = Unit {0}
-ty_shallow (arrow a b) o = fit_shallow 1 (ty_level a) (λ p. ty_shallow a p) o × (o < 500) × ty_shallow b (suc o)
-ty_shallow (product a b) o = fit_shallow 0 (ty_level a) (λ p. ty_shallow a p) o × (o < 500) × fit_shallow 1 (ty_level b) (λ p. ty_shallow b p) (suc o)
+ty_shallow (arrow a b) o = fit_shallow 1 (ty_level a) (λ p. ty_shallow a p) o × (o < most_open) × ty_shallow b (suc o)
+ty_shallow (product a b) o = fit_shallow 0 (ty_level a) (λ p. ty_shallow a p) o × (o < most_open) × fit_shallow 1 (ty_level b) (λ p. ty_shallow b p) (suc o)
 
 abbrev pub own_onto : NamedTree → List ℕ → List ℕ
 own_onto (number_at _ n) rest = decimal n ++ rest
@@ -56,13 +57,13 @@ own_height (apply_at _ f a) = suc (max (fit_height 1 (level f) (own_height f)) (
 abbrev pub own_shallow : NamedTree → ℕ → Type 0
 own_shallow (number_at _ n) o = Unit {0}
 own_shallow (name_at _ x) o = Unit {0}
-own_shallow (word_at _ w a) o = (o < 500) × fit_shallow 0 (level a) (λ p. own_shallow a p) (suc o)
+own_shallow (word_at _ w a) o = (o < most_open) × fit_shallow 0 (level a) (λ p. own_shallow a p) (suc o)
 own_shallow (binary_at _ op a b) o =
-    fit_shallow (op_level op) (level a) (λ p. own_shallow a p) o × (fit_height (op_level op) (level a) (own_height a) < 500) × fit_shallow (right_level op) (level b) (λ p. own_shallow b p) o
-own_shallow (pair_at _ a b) o = (o < 500) × own_shallow a (suc o) × own_shallow b (suc o)
-own_shallow (ifz_at _ c p q) o = (o < 500) × own_shallow c (suc o) × own_shallow p (suc o) × own_shallow q (suc o)
-own_shallow (bind_at _ b x t m) o = (o < 500) × ty_shallow t (suc o) × own_shallow m (suc o)
-own_shallow (apply_at _ f a) o = fit_shallow 1 (level f) (λ p. own_shallow f p) o × (fit_height 1 (level f) (own_height f) < 500) × fit_shallow 0 (level a) (λ p. own_shallow a p) o
+    fit_shallow (op_level op) (level a) (λ p. own_shallow a p) o × (fit_height (op_level op) (level a) (own_height a) < most_open) × fit_shallow (right_level op) (level b) (λ p. own_shallow b p) o
+own_shallow (pair_at _ a b) o = (o < most_open) × own_shallow a (suc o) × own_shallow b (suc o)
+own_shallow (ifz_at _ c p q) o = (o < most_open) × own_shallow c (suc o) × own_shallow p (suc o) × own_shallow q (suc o)
+own_shallow (bind_at _ b x t m) o = (o < most_open) × ty_shallow t (suc o) × own_shallow m (suc o)
+own_shallow (apply_at _ f a) o = fit_shallow 1 (level f) (λ p. own_shallow f p) o × (fit_height 1 (level f) (own_height f) < most_open) × fit_shallow 0 (level a) (λ p. own_shallow a p) o
 
 -- the bytes of a name, which is no keyword
 pub record IsName (x : List ℕ) : Type 0 where

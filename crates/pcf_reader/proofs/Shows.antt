@@ -2,13 +2,12 @@
 use Rattle.std.proofs.Common.{◌≡◌, ℕ, ◌<◌, ◌≤◌, ◌^◌, Bool, true, false, ◌&&◌, nat_lt, nat_le, List, [], ◌∷◌, ◌++◌, refl, sym, ap, ◌∙◌, subst, arith, append_assoc, if◌then◌else◌}
 use Rattle.std.specs.Prelude.{codes, decimal, encode_utf8_all}
 use Rattle.std.specs.Str.{chars, all_scalars}
-use Rattle.std.proofs.lemmas.Bool.{ltb-true}
+use Rattle.std.proofs.lemmas.Bool.{ltb-true, and_parts, and_from}
 use Rattle.std.proofs.lemmas.Str.{encodes-append, encode_ascii}
 use lib.Utf8.{low_scalar}
 use Rattle.pcf_values.specs.Values.{Op, plus_op, minus_op, times_op}
 use Rattle.pcf_values.specs.Terms.{TyTree, nat, arrow, product}
 use Rattle.pcf_values.specs.Named.{NamedTree, number_at, name_at, word_at, binary_at, pair_at, ifz_at, bind_at, apply_at, Word, the_succ, the_pred, the_fst, the_snd, Binder, the_fun, the_fix}
-use Rattle.pcf_reader.proofs.BothHold.{and_both, and_left, and_right}
 use Rattle.pcf_reader.specs.Spelling.{is_digit, AllPass}
 use Rattle.pcf_reader.specs.Printed.{fitted, ty_level, ty_text, word_text, binder_text, op_text, op_level, right_level, level, term_text}
 use Rattle.pcf_reader.proofs.Longest.{digit_low}
@@ -21,7 +20,7 @@ Shows f bytes = (rest : List ℕ) → (encode_utf8_all (f rest) ≡ bytes ++ enc
 
 scalars_join : (u v : List ℕ) → all_scalars u ≡ true → all_scalars v ≡ true → all_scalars (u ++ v) ≡ true
 scalars_join [] v h k = k
-scalars_join (c ∷ u) v h k = and_both _ (all_scalars (u ++ v)) (and_left _ (all_scalars u) h) (scalars_join u v (and_right _ (all_scalars u) h) k)
+scalars_join (c ∷ u) v h k = and_from _ (all_scalars (u ++ v)) (and_parts _ (all_scalars u) h).0 (scalars_join u v (and_parts _ (all_scalars u) h).1 k)
 
 then_shows : (f g : List ℕ → List ℕ) (u v : List ℕ) → Shows f u → Shows g v → Shows (λ r. f (g r)) (u ++ v)
 then_shows f g u v h k rest =
@@ -37,20 +36,20 @@ all_low (c ∷ cs) = nat_lt c 128 && all_low cs
 low_bytes : (cs : List ℕ) → all_low cs ≡ true → encode_utf8_all cs ≡ cs
 low_bytes [] h = refl
 low_bytes (c ∷ cs) h =
-    ap (λ z. z ++ encode_utf8_all cs) (encode_ascii c (ltb-true c 128 (and_left (nat_lt c 128) (all_low cs) h))) ∙ ap (λ z. c ∷ z) (low_bytes cs (and_right (nat_lt c 128) (all_low cs) h))
+    ap (λ z. z ++ encode_utf8_all cs) (encode_ascii c (ltb-true c 128 (and_parts (nat_lt c 128) (all_low cs) h).0)) ∙ ap (λ z. c ∷ z) (low_bytes cs (and_parts (nat_lt c 128) (all_low cs) h).1)
 
 low_scalars : (cs : List ℕ) → all_low cs ≡ true → all_scalars cs ≡ true
 low_scalars [] h = refl
 low_scalars (c ∷ cs) h =
-    let low : c < 128 = ltb-true c 128 (and_left (nat_lt c 128) (all_low cs) h) in
-    and_both _ (all_scalars cs) (low_scalar c (omega (arith, low))) (low_scalars cs (and_right (nat_lt c 128) (all_low cs) h))
+    let low : c < 128 = ltb-true c 128 (and_parts (nat_lt c 128) (all_low cs) h).0 in
+    and_from _ (all_scalars cs) (low_scalar c (omega (arith, low))) (low_scalars cs (and_parts (nat_lt c 128) (all_low cs) h).1)
 
 low_shows : (cs : List ℕ) → all_low cs ≡ true → Shows (λ r. cs ++ r) cs
 low_shows cs h = list_shows cs cs (low_bytes cs h) (low_scalars cs h)
 
 digits_scalars : (ds : List ℕ) → AllPass is_digit ds → all_scalars ds ≡ true
 digits_scalars [] h = refl
-digits_scalars (c ∷ ds) h = let le : c ≤ 57 = digit_low c h.0 in and_both _ (all_scalars ds) (low_scalar c (omega (arith, le))) (digits_scalars ds h.1)
+digits_scalars (c ∷ ds) h = let le : c ≤ 57 = digit_low c h.0 in and_from _ (all_scalars ds) (low_scalar c (omega (arith, le))) (digits_scalars ds h.1)
 
 number_shows : (n : ℕ) → n < 2 ^ 64 → Shows (λ r. decimal n ++ r) (decimal n)
 number_shows n h = list_shows (decimal n) (decimal n) (digits_bytes (decimal n) (decimal_digits n h).all) (digits_scalars (decimal n) (decimal_digits n h).all)

@@ -3,6 +3,7 @@ use Rattle.std.proofs.Common.{◌≡◌, ◌⊎◌, inl, inr, ◌<◌, ℕ, ◌�
 use Rattle.std.specs.Prelude.{IfOk, IfErr, MatchResult}
 use Rattle.std.specs.Str.{IsValidUpTo, chars, IsUtf8}
 use Rattle.std.proofs.lemmas.Str.{chars-encodes}
+use Rattle.pcf_values.specs.Most.{most_program_bytes}
 use Rattle.pcf_values.specs.Named.{NamedTree}
 use Rattle.pcf_reader.specs.Tokens.{Placed}
 use Rattle.pcf_reader.specs.Machine.{want_expr, whole}
@@ -23,7 +24,8 @@ use Rattle.pcf_reader.proofs.Lexed.{lexed}
 use Rattle.pcf_reader.proofs.Unique.{splits_lex}
 use Rattle.pcf_reader.proofs.Ended.{Ended, splits_ended, program_is_all}
 
-tokens : (bytes : List ℕ) → length bytes ≤ 1048576 → (u : IsUtf8 bytes) → HasTokens bytes (lex (chars bytes) 0 idle)
+-- the bytes of a text have the tokens that the machine finds
+tokens : (bytes : List ℕ) → length bytes ≤ most_program_bytes → (u : IsUtf8 bytes) → HasTokens bytes (lex (chars bytes) 0 idle)
 tokens bytes n u = record {
   short = n;
   characters = u.0;
@@ -32,15 +34,17 @@ tokens bytes n u = record {
   splits = subst (λ z. Splits 0 u.0 (lex z 0 idle)) (sym (ap chars (sym u.1.1) ∙ chars-encodes u.0 u.1.0)) ((lexed u.0).idles 0);
 }
 
+-- and no others
 same_tokens : (bytes : List ℕ) (items : List Placed) → HasTokens bytes items → items ≡ lex (chars bytes) 0 idle
 same_tokens bytes items h =
     sym (splits_lex 0 h.characters items h.splits) ∙ ap (λ z. lex z 0 idle) (sym (ap chars (sym h.encoded) ∙ chars-encodes h.characters h.scalars))
 
-tokens_end : (bytes : List ℕ) → length bytes ≤ 1048576 → (u : IsUtf8 bytes) → Ended (lex (chars bytes) 0 idle)
+-- which end
+pub tokens_end : (bytes : List ℕ) → length bytes ≤ most_program_bytes → (u : IsUtf8 bytes) → Ended (lex (chars bytes) 0 idle)
 tokens_end bytes n u = let h : HasTokens bytes (lex (chars bytes) 0 idle) = tokens bytes n u in splits_ended 0 h.characters (lex (chars bytes) 0 idle) h.splits
 
 -- What the scan answers of a text.
-pub text_read : (bytes : List ℕ) → length bytes ≤ 1048576 → IsUtf8 bytes → (t : NamedTree) → scan (lex (chars bytes) 0 idle) (want_expr whole) 0 ≡ Ok t → Text bytes t
+pub text_read : (bytes : List ℕ) → length bytes ≤ most_program_bytes → IsUtf8 bytes → (t : NamedTree) → scan (lex (chars bytes) 0 idle) (want_expr whole) 0 ≡ Ok t → Text bytes t
 text_read bytes n u t e =
     let items : List Placed = lex (chars bytes) 0 idle in
     let (front, xs, split, derives) = let j : Judged items (Ok t) = subst (λ r. Judged items r) e (scan_judged items) in j in
@@ -60,19 +64,19 @@ faults_of bytes items h (TooDeep at) k = (items, h, k)
 faults_of bytes items h (TooLarge at) k = (items, h, k)
 faults_of bytes items h TooLong k = absurd k.here
 
-pub text_fault : (bytes : List ℕ) → length bytes ≤ 1048576 → IsUtf8 bytes → (f : ReadFault) → scan (lex (chars bytes) 0 idle) (want_expr whole) 0 ≡ Err f → Faults bytes f
+pub text_fault : (bytes : List ℕ) → length bytes ≤ most_program_bytes → IsUtf8 bytes → (f : ReadFault) → scan (lex (chars bytes) 0 idle) (want_expr whole) 0 ≡ Err f → Faults bytes f
 text_fault bytes n u f e =
     let items : List Placed = lex (chars bytes) 0 idle in
     let j : Judged items (Err f) = subst (λ r. Judged items r) e (scan_judged items) in
     faults_of bytes items (tokens bytes n u) f j
 
 -- the answer of a function that gives what the scan answers
-pub given_read : (bytes : List ℕ) → length bytes ≤ 1048576 → IsUtf8 bytes → (r : Result Named ReadFault)
+pub given_read : (bytes : List ℕ) → length bytes ≤ most_program_bytes → IsUtf8 bytes → (r : Result Named ReadFault)
     → Gives (λ t. Ok (named_of t)) (scan (lex (chars bytes) 0 idle) (want_expr whole) 0) r → IfOk r (λ t. Text bytes (named_of t))
 given_read bytes n u (Ok t) h = text_read bytes n u (named_of t) h
 given_read bytes n u (Err f) h = tt
 
-fails_fault : (bytes : List ℕ) → length bytes ≤ 1048576 → IsUtf8 bytes → (f : ReadFault) → Fails f (scan (lex (chars bytes) 0 idle) (want_expr whole) 0) → Faults bytes f
+fails_fault : (bytes : List ℕ) → length bytes ≤ most_program_bytes → IsUtf8 bytes → (f : ReadFault) → Fails f (scan (lex (chars bytes) 0 idle) (want_expr whole) 0) → Faults bytes f
 fails_fault bytes n u NoMemory h = tt
 fails_fault bytes n u (NotText at) h = text_fault bytes n u (NotText at) h
 fails_fault bytes n u (BadToken at) h = text_fault bytes n u (BadToken at) h
@@ -82,7 +86,7 @@ fails_fault bytes n u (TooDeep at) h = text_fault bytes n u (TooDeep at) h
 fails_fault bytes n u (TooLarge at) h = text_fault bytes n u (TooLarge at) h
 fails_fault bytes n u TooLong h = text_fault bytes n u TooLong h
 
-pub given_fault : (bytes : List ℕ) → length bytes ≤ 1048576 → IsUtf8 bytes → (r : Result Named ReadFault)
+pub given_fault : (bytes : List ℕ) → length bytes ≤ most_program_bytes → IsUtf8 bytes → (r : Result Named ReadFault)
     → Gives (λ t. Ok (named_of t)) (scan (lex (chars bytes) 0 idle) (want_expr whole) 0) r → IfErr r (λ f. Faults bytes f)
 given_fault bytes n u (Ok t) h = tt
 given_fault bytes n u (Err f) h = fails_fault bytes n u f h
@@ -118,8 +122,8 @@ token_fault_only bytes t f h k =
 -- what the first fault of bytes can be: they are too long, or no text, or a token has it
 abbrev pub Kinds : List ℕ → ReadFault → Type 0
 Kinds bytes f =
-    ((f ≡ TooLong) × (1048576 < length bytes))
-    ⊎ (((at : ℕ) × (f ≡ NotText at) × (length bytes ≤ 1048576) × (IsUtf8 bytes → ⊥) × IsValidUpTo bytes at) ⊎ TokenFault bytes f)
+    ((f ≡ TooLong) × (most_program_bytes < length bytes))
+    ⊎ (((at : ℕ) × (f ≡ NotText at) × (length bytes ≤ most_program_bytes) × (IsUtf8 bytes → ⊥) × IsValidUpTo bytes at) ⊎ TokenFault bytes f)
 
 kinds : (bytes : List ℕ) (f : ReadFault) → FirstFault bytes f → Kinds bytes f
 kinds bytes TooLong h = inl (refl, h)
@@ -131,7 +135,7 @@ kinds bytes (Unexpected at) h = inr (inr h)
 kinds bytes (TooDeep at) h = inr (inr h)
 kinds bytes (TooLarge at) h = inr (inr h)
 
-short_text : (bytes : List ℕ) (f : ReadFault) → TokenFault bytes f → length bytes ≤ 1048576
+short_text : (bytes : List ℕ) (f : ReadFault) → TokenFault bytes f → length bytes ≤ most_program_bytes
 short_text bytes f h = h.1.short
 
 true_text : (bytes : List ℕ) (f : ReadFault) → TokenFault bytes f → IsUtf8 bytes
@@ -141,30 +145,31 @@ valid_once : (bytes : List ℕ) (m n : ℕ) → IsValidUpTo bytes m → IsValidU
 valid_once bytes m n h k = ranks_are m n (λ lt. h.longest n lt k.front) (λ lt. k.longest m lt h.front)
 
 -- bytes have one first fault
-pub first_once : (bytes : List ℕ) (f g : ReadFault) → FirstFault bytes f → FirstFault bytes g → g ≡ f
+pub first_once : (bytes : List ℕ) (f g : ReadFault) → FirstFault bytes f → FirstFault bytes g → f ≡ g
 first_once bytes f g h k =
-    elim (kinds bytes f h) [
+    elim (kinds bytes g k) [
       | inl a ↦
-          elim (kinds bytes g k) [
+          elim (kinds bytes f h) [
             | inl b ↦ b.0 ∙ sym a.0
             | inr (inl b) ↦ let z : ⊥ = omega (arith, a.1, b.2) in absurd z
-            | inr (inr b) ↦ let z : ⊥ = omega (arith, a.1, short_text bytes g b) in absurd z
+            | inr (inr b) ↦ let z : ⊥ = omega (arith, a.1, short_text bytes f b) in absurd z
           ]
       | inr (inl a) ↦
-          elim (kinds bytes g k) [
+          elim (kinds bytes f h) [
             | inl b ↦ let z : ⊥ = omega (arith, a.2, b.1) in absurd z
             | inr (inl b) ↦ b.1 ∙ ap (λ i. NotText i) (valid_once bytes b.0 a.0 b.4 a.4) ∙ sym a.1
-            | inr (inr b) ↦ absurd (a.3 (true_text bytes g b))
+            | inr (inr b) ↦ absurd (a.3 (true_text bytes f b))
           ]
       | inr (inr a) ↦
-          elim (kinds bytes g k) [
-            | inl b ↦ let z : ⊥ = omega (arith, short_text bytes f a, b.1) in absurd z
-            | inr (inl b) ↦ absurd (b.3 (true_text bytes f a))
-            | inr (inr b) ↦ sym (token_fault_once bytes f g a b)
+          elim (kinds bytes f h) [
+            | inl b ↦ let z : ⊥ = omega (arith, short_text bytes g a, b.1) in absurd z
+            | inr (inl b) ↦ absurd (b.3 (true_text bytes g a))
+            | inr (inr b) ↦ sym (token_fault_once bytes g f a b)
           ]
     ]
 
-text_no_fault : (bytes : List ℕ) (t : NamedTree) (f : ReadFault) → Text bytes t → FirstFault bytes f → ⊥
+-- bytes that stand for a tree have no fault
+pub text_no_fault : (bytes : List ℕ) (t : NamedTree) (f : ReadFault) → Text bytes t → FirstFault bytes f → ⊥
 text_no_fault bytes t f h k =
     elim (kinds bytes f k) [
       | inl b ↦ omega (arith, h.1.short, b.1)
@@ -174,22 +179,22 @@ text_no_fault bytes t f h k =
 
 only_first : (bytes : List ℕ) (f g : ReadFault) → FirstFault bytes f → Faults bytes g → IsOnlyFault f g
 only_first bytes f NoMemory h k = tt
-only_first bytes f (NotText at) h k = first_once bytes f (NotText at) h k
-only_first bytes f TooLong h k = first_once bytes f TooLong h k
-only_first bytes f (BadToken at) h k = first_once bytes f (BadToken at) h k
-only_first bytes f (NumberTooWide at) h k = first_once bytes f (NumberTooWide at) h k
-only_first bytes f (Unexpected at) h k = first_once bytes f (Unexpected at) h k
-only_first bytes f (TooDeep at) h k = first_once bytes f (TooDeep at) h k
-only_first bytes f (TooLarge at) h k = first_once bytes f (TooLarge at) h k
+only_first bytes f (NotText at) h k = first_once bytes (NotText at) f k h
+only_first bytes f TooLong h k = first_once bytes TooLong f k h
+only_first bytes f (BadToken at) h k = first_once bytes (BadToken at) f k h
+only_first bytes f (NumberTooWide at) h k = first_once bytes (NumberTooWide at) f k h
+only_first bytes f (Unexpected at) h k = first_once bytes (Unexpected at) f k h
+only_first bytes f (TooDeep at) h k = first_once bytes (TooDeep at) f k h
+only_first bytes f (TooLarge at) h k = first_once bytes (TooLarge at) f k h
 
 -- Bytes with a first fault are refused with that one, unless memory runs out.
-pub given_fault_only : (bytes : List ℕ) → length bytes ≤ 1048576 → IsUtf8 bytes → (r : Result Named ReadFault) (f : ReadFault) → FirstFault bytes f
+pub given_fault_only : (bytes : List ℕ) → length bytes ≤ most_program_bytes → IsUtf8 bytes → (r : Result Named ReadFault) (f : ReadFault) → FirstFault bytes f
     → Gives (λ t. Ok (named_of t)) (scan (lex (chars bytes) 0 idle) (want_expr whole) 0) r → MatchResult r (λ t. ⊥) (λ g. IsOnlyFault f g)
 given_fault_only bytes n u (Ok t) f h g = text_no_fault bytes (named_of t) f (text_read bytes n u (named_of t) g) h
 given_fault_only bytes n u (Err e) f h g = only_first bytes f e h (fails_fault bytes n u e g)
 
-pub too_long_only : (bytes : List ℕ) → 1048576 < length bytes → (f : ReadFault) → FirstFault bytes f → IsOnlyFault f TooLong
-too_long_only bytes h f k = first_once bytes f TooLong k h
+pub too_long_only : (bytes : List ℕ) → most_program_bytes < length bytes → (f : ReadFault) → FirstFault bytes f → IsOnlyFault f TooLong
+too_long_only bytes h f k = first_once bytes TooLong f h k
 
-pub no_text_only : (bytes : List ℕ) (at : ℕ) → length bytes ≤ 1048576 → (IsUtf8 bytes → ⊥) → IsValidUpTo bytes at → (f : ReadFault) → FirstFault bytes f → IsOnlyFault f (NotText at)
-no_text_only bytes at n u v f k = first_once bytes f (NotText at) k (n, u, v)
+pub no_text_only : (bytes : List ℕ) (at : ℕ) → length bytes ≤ most_program_bytes → (IsUtf8 bytes → ⊥) → IsValidUpTo bytes at → (f : ReadFault) → FirstFault bytes f → IsOnlyFault f (NotText at)
+no_text_only bytes at n u v f k = first_once bytes (NotText at) f (n, u, v) k

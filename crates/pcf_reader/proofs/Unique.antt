@@ -2,12 +2,11 @@
 use Rattle.std.proofs.Common.{◌≡◌, ℕ, ◌+◌, ◌-◌, ◌*◌, ◌≤◌, ◌<◌, Bool, true, false, not, ◌||◌, List, [], ◌∷◌, ◌++◌, Option, Some, None, refl, sym, ap, ◌∙◌, subst, if◌then◌else◌, arith, add-zero, add_assoc, append-nil, append_assoc}
 use Rattle.std.specs.Prelude.{◌==◌, nat_le, encode_utf8, encode_utf8_all}
 use Rattle.std.specs.Char.{len_utf8}
-use Rattle.std.proofs.lemmas.Bool.{ne_eqb, leb-true, eqb-true}
+use Rattle.std.proofs.lemmas.Bool.{ne_eqb, leb-true, eqb-true, and_parts}
 use Rattle.unicode_ident.specs.Ident.{is_xid_continue}
 use Rattle.pcf_reader.specs.Tokens.{Token, Minus, Arrow, Number, End, Junk, Placed}
 use Rattle.pcf_reader.specs.Spelling.{is_blank, is_digit, starts_name, sign_of, word_of, value_from, AllPass, Spells, sign, arrow, digits, word, width, IsLongest, EndsLine, Splits, ends, blank, comment, token, junk}
 use Rattle.pcf_reader.specs.Lexing.{Mode, idle, in_comment, after_dash, in_number, in_word, closed, on_sign, opened, lex}
-use Rattle.pcf_reader.proofs.BothHold.{and_left}
 use Rattle.pcf_reader.proofs.LexSteps.{comment_more, comment_line, number_more, number_stop, number_end, word_more, word_stop, word_end}
 use Rattle.pcf_reader.proofs.Longest.{both, not_start, sign_in, sign_starts, sign_digit, digit_starts}
 use Rattle.pcf_reader.proofs.Lexed.{Stops, at_place}
@@ -39,7 +38,7 @@ not_blank c a b d e =
 
 opened_digit : (at c : ℕ) (go : Mode → List Placed) → is_digit c ≡ true → opened at c go ≡ go (in_number at (c - 48))
 opened_digit at c go h =
-    let low : 48 ≤ c = leb-true 48 c (and_left (nat_le 48 c) (nat_le c 57) h) in
+    let low : 48 ≤ c = leb-true 48 c (and_parts (nat_le 48 c) (nat_le c 57) h).0 in
     let ne : (n : ℕ) → n < 48 → (c == n) ≡ false = λ n lt. ne_eqb c n (λ e. let k : ⊥ = omega arith in k) in
     to_digit at c go (not_blank c (ne 32 (omega arith)) (ne 9 (omega arith)) (ne 13 (omega arith)) (ne 10 (omega arith))) (ne 35 (omega arith)) (ne 45 (omega arith))
     ∙ ap (λ v. if v then go (in_number at (c - 48)) else rest_5 at c go) h

@@ -1,19 +1,20 @@
 -- What derives is read, so it derives one tree and has no fault; a list has one first fault.
 use Rattle.std.proofs.Common.{◌≡◌, ℕ, ◌+◌, ◌^◌, ◌<◌, ◌≤◌, List, [], ◌∷◌, ◌++◌, map, Ok, Err, nat_lt, if◌then◌else◌, refl, sym, ap, ◌∙◌, arith, add-zero, add_assoc}
 use Rattle.std.proofs.lemmas.Bool.{lt-ltb, lt-leb, le-ltb}
+use Rattle.pcf_values.specs.Most.{most_nodes, most_open}
 use Rattle.pcf_values.specs.Values.{plus_op, minus_op, times_op}
 use Rattle.pcf_values.specs.Terms.{TyTree, arrow, product}
 use Rattle.pcf_values.specs.Named.{NamedTree, bind_at}
 use Rattle.pcf_reader.specs.Tokens.{Token, Number, End, Junk, Placed}
 use Rattle.pcf_reader.specs.Grammar.{Part, Expr, expr_part, expr_text, placed, plain, higher, binary, choice_part}
 use Rattle.pcf_reader.specs.Machine.{ExprK, whole, in_parens, in_second, in_body, in_test, in_then, in_else, ProductK, first_product, right_of_plus, right_of_minus, AppK, first_app, right_of_times, PTypeK, first_ptype, right_of_cross, TypeK, of_binder, right_of_arrow, in_type_parens, State, want_expr, want_atom, after_atom, want_name, want_colon, want_tatom, after_tatom, refuse, go, finish, step, after_expr, end_product, end_app, end_type, end_ptype}
-use Rattle.pcf_reader.specs.Text.{count_of, AreShallow, IsNarrow, AreNarrow, Derives}
+use Rattle.pcf_reader.specs.Text.{count_of, IsNarrow, Derives, IsShallow, Each}
 use Rattle.pcf_reader.specs.Scan.{Answer, proper, within, checked, scan}
 use Rattle.pcf_reader.specs.declared.fault.ReadFault.TheVariants.{NumberTooWide, TooDeep, TooLarge}
+use Rattle.pcf_reader.proofs.Lists.{WritesNarrow, each_left, count-append, map-append}
 use Rattle.pcf_reader.proofs.Follows.{Follows}
 use Rattle.pcf_reader.proofs.Exact.{program_exact}
 use Rattle.pcf_reader.proofs.Reached.{Texts}
-use Rattle.pcf_reader.proofs.Judge.{map-append, count-append}
 
 junk_expr : (k : ExprK) (e : Part) (at : ℕ) → after_expr k e at Junk ≡ refuse
 junk_expr whole e at = refl
@@ -66,30 +67,22 @@ proper_is s at Junk r taken narrow = absurd (taken (junk_refused s at))
 proper_is s at (Number n) r taken narrow = number_is at n r narrow
 proper_is s at _ r taken narrow = refl
 
-within_is : (at d n : ℕ) (r : Answer) → d < 500 → n ≤ 32768 → within at d n r ≡ r
+within_is : (at d n : ℕ) (r : Answer) → d < most_open → n ≤ most_nodes → within at d n r ≡ r
 within_is at d n r shallow small =
-    ap (λ b. if b then Err (TooDeep at) else if nat_lt 32768 n then Err (TooLarge at) else r) (lt-leb 500 d shallow)
-    ∙ ap (λ b. if b then Err (TooLarge at) else r) (le-ltb 32768 n small)
+    ap (λ b. if b then Err (TooDeep at) else if nat_lt most_nodes n then Err (TooLarge at) else r) (lt-leb most_open d shallow)
+    ∙ ap (λ b. if b then Err (TooLarge at) else r) (le-ltb most_nodes n small)
 
 pub scan_run : (ws : Texts) (s t : State) (n : ℕ) (xs : List Placed)
-    → Follows s ws t → AreShallow ws → AreNarrow ws → n + count_of ws ≤ 32768 → scan (map placed ws ++ xs) s n ≡ scan xs t (n + count_of ws)
+    → Follows s ws t → Each IsShallow ws → Each WritesNarrow ws → n + count_of ws ≤ most_nodes → scan (map placed ws ++ xs) s n ≡ scan xs t (n + count_of ws)
 scan_run [] s t n xs h shallow narrow small = ap (λ s. scan xs s n) h ∙ ap (λ n. scan xs t n) (sym (add-zero n))
 scan_run (w ∷ ws) s t n xs h shallow narrow small =
     let rest : List Placed = map placed ws ++ xs in
-    let fits : n + w.count ≤ 32768 = omega arith in
+    let fits : n + w.count ≤ most_nodes = omega arith in
     proper_is s w.at w.token (checked (scan rest) n w.at (step s w.at w.token)) (λ e. no_go w.depth w.count h.0 (sym e ∙ h.1)) narrow.0
     ∙ ap (λ st. checked (scan rest) n w.at st) h.1
     ∙ within_is w.at w.depth (n + w.count) (scan rest h.0 (n + w.count)) shallow.0 fits
     ∙ scan_run ws h.0 t (n + w.count) xs h.2 shallow.1 narrow.1 (omega arith)
     ∙ ap (λ n. scan xs t n) (add_assoc n w.count (count_of ws))
-
-shallow-front : (u v : Texts) → AreShallow (u ++ v) → AreShallow u
-shallow-front [] v h = tt
-shallow-front (w ∷ u) v h = (h.0, shallow-front u v h.1)
-
-narrow-front : (u v : Texts) → AreNarrow (u ++ v) → AreNarrow u
-narrow-front [] v h = tt
-narrow-front (w ∷ u) v h = (h.0, narrow-front u v h.1)
 
 -- What derives is read.
 pub derives_scan : (items : List Placed) (t : NamedTree) → Derives items t → scan items (want_expr whole) 0 ≡ Ok t
@@ -99,9 +92,9 @@ derives_scan items t h =
     let ws : Texts = expr_text 0 e in
     let (s, follows, ends) = program_exact h.program in
     let last : List Placed = record { at = end; token = End } ∷ [] in
-    let small : 0 + count_of ws ≤ 32768 = omega (arith, count-append ws (plain end End ∷ []), h.small) in
+    let small : 0 + count_of ws ≤ most_nodes = omega (arith, count-append ws (plain end End ∷ []), h.small) in
     ap (λ z. scan z (want_expr whole) 0) (sym h.written ∙ map-append ws (plain end End ∷ []))
-    ∙ scan_run ws (want_expr whole) s 0 last follows (shallow-front ws (plain end End ∷ []) h.shallow) (narrow-front ws (plain end End ∷ []) h.narrow) small
+    ∙ scan_run ws (want_expr whole) s 0 last follows (each_left IsShallow ws (plain end End ∷ []) h.shallow) (each_left WritesNarrow ws (plain end End ∷ []) h.narrow) small
     ∙ proper_is s end End (checked (scan []) (0 + count_of ws) end (step s end End)) (λ e. no_finish (expr_part h.program.expr) (sym e ∙ ends)) tt
     ∙ ap (λ st. checked (scan []) (0 + count_of ws) end st) ends
     ∙ ap (λ t. Ok t) h.stands_for

@@ -9,10 +9,11 @@ use Rattle.pcf_reader.specs.Spelling.{Splits}
 use Rattle.pcf_reader.specs.Text.{Derives, IsFirstFault}
 use Rattle.pcf_reader.specs.declared.fault.ReadFault.{ReadFault}
 use Rattle.pcf_reader.specs.declared.fault.ReadFault.TheVariants.{NoMemory, NotText, TooLong}
+use Rattle.pcf_values.specs.Most.{most_program_bytes}
 
 -- the bytes are the UTF-8 of characters that split into these tokens
 pub record HasTokens (bytes : List ℕ) (items : List Placed) : Type 0 where
-  pub short : length bytes ≤ 1048576
+  pub short : length bytes ≤ most_program_bytes
   pub characters : List ℕ
   pub scalars : all_scalars characters ≡ true
   pub encoded : encode_utf8_all characters ≡ bytes
@@ -28,8 +29,8 @@ TokenFault bytes f = (items : List Placed) × HasTokens bytes items × IsFirstFa
 
 -- the very first fault of the bytes; want of memory is no fault of theirs
 abbrev pub FirstFault : List ℕ → ReadFault → Type 0
-FirstFault bytes TooLong = 1048576 < length bytes
-FirstFault bytes (NotText at) = (length bytes ≤ 1048576) × (IsUtf8 bytes → ⊥) × IsValidUpTo bytes at
+FirstFault bytes TooLong = most_program_bytes < length bytes
+FirstFault bytes (NotText at) = (length bytes ≤ most_program_bytes) × (IsUtf8 bytes → ⊥) × IsValidUpTo bytes at
 FirstFault bytes NoMemory = ⊥
 FirstFault bytes f = TokenFault bytes f
 

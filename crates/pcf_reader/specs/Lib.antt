@@ -1,13 +1,18 @@
+-- Definitions that the public contracts cite, in the order to read them: tokens and how they are spelled, the grammar, which tokens
+-- stand for which tree and which fault is their first, and what bytes are by that.
 pub mod Tokens
-pub mod Grammar
-pub mod Machine
-pub mod Text
-pub mod Scan
-pub mod Rest
-pub mod Seen
 pub mod Spelling
-pub mod Lexing
+pub mod Grammar
+pub mod Text
 pub mod Correct
+-- How trees are printed, how large those are that were read, and the laws over both.
 pub mod Printed
 pub mod Sizes
 pub mod Laws
+-- For private contracts and proofs only: the states of a reading, the reading of a list of tokens and of what is left of a text, the
+-- tokens of a text character by character, and the views of the crate's own tokens.
+pub mod Machine
+pub mod Scan
+pub mod Rest
+pub mod Lexing
+pub mod Seen

@@ -5,6 +5,7 @@ use Rattle.pcf_reader.specs.Tokens.{Token, Number, Junk, Placed}
 use Rattle.pcf_reader.specs.Machine.{State, Step, refuse, go, finish, step}
 use Rattle.pcf_reader.specs.declared.fault.ReadFault.{ReadFault}
 use Rattle.pcf_reader.specs.declared.fault.ReadFault.TheVariants.{NoMemory, BadToken, NumberTooWide, Unexpected, TooDeep, TooLarge}
+use Rattle.pcf_values.specs.Most.{most_nodes, most_open}
 
 abbrev pub Answer : Type 0
 Answer = Result NamedTree ReadFault
@@ -16,7 +17,7 @@ proper at (Number n) r = if nat_lt n (2 ^ 64) then r else Err (NumberTooWide at)
 proper at _ r = r
 
 abbrev pub within : ℕ → ℕ → ℕ → Answer → Answer
-within at d n r = if nat_le 500 d then Err (TooDeep at) else if nat_lt 32768 n then Err (TooLarge at) else r
+within at d n r = if nat_le most_open d then Err (TooDeep at) else if nat_lt most_nodes n then Err (TooLarge at) else r
 
 -- goes on after a step, with n nodes so far
 abbrev pub checked : (State → ℕ → Answer) → ℕ → ℕ → Step → Answer

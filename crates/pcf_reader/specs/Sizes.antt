@@ -20,3 +20,8 @@ node_count (pair_at _ a b) = suc (node_count a + node_count b)
 node_count (ifz_at _ c p q) = suc (node_count c + node_count p + node_count q)
 node_count (bind_at _ _ _ t m) = suc (nats t + node_count m)
 node_count (apply_at _ f a) = suc (node_count f + node_count a)
+
+-- The greatest height of a tree that is read. Each open phrase adds at most 4 to it, by itself and as the last part of a sum, of a
+-- product and of an application; what is written where no more can be opened is at most 504 high.
+abbrev pub most_read_height : ℕ
+most_read_height = 2504

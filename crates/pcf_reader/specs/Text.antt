@@ -8,32 +8,35 @@ use Rattle.pcf_reader.specs.Tokens.{Token, Number, Junk, Placed}
 use Rattle.pcf_reader.specs.Grammar.{Program, program_text, Written, placed, expr_part}
 use Rattle.pcf_reader.specs.declared.fault.ReadFault.{ReadFault}
 use Rattle.pcf_reader.specs.declared.fault.ReadFault.TheVariants.{NoMemory, NotText, BadToken, NumberTooWide, Unexpected, TooDeep, TooLarge, TooLong}
+use Rattle.pcf_values.specs.Most.{most_nodes, most_open}
 
+-- how many nodes these count
 abbrev pub count_of : List Written → ℕ
 count_of [] = 0
 count_of (w ∷ ws) = w.count + count_of ws
 
-abbrev pub AreShallow : List Written → Type 0
-AreShallow [] = Unit {0}
-AreShallow (w ∷ ws) = (w.depth < 500) × AreShallow ws
+-- each of these is so
+abbrev pub Each : (Written → Type 0) → List Written → Type 0
+Each P [] = Unit {0}
+Each P (w ∷ ws) = P w × Each P ws
+
+-- the token stands below the limit
+abbrev pub IsShallow : Written → Type 0
+IsShallow w = w.depth < most_open
 
 -- no number is above 2^64 - 1
 abbrev pub IsNarrow : Token → Type 0
 IsNarrow (Number n) = n < 2 ^ 64
 IsNarrow _ = Unit {0}
 
-abbrev pub AreNarrow : List Written → Type 0
-AreNarrow [] = Unit {0}
-AreNarrow (w ∷ ws) = IsNarrow w.token × AreNarrow ws
-
 -- the tokens are those of a program with this tree, and no limit is passed
 pub record Derives (items : List Placed) (tree : NamedTree) : Type 0 where
   pub program : Program
   pub written : map placed (program_text program) ≡ items
   pub stands_for : (expr_part program.expr).tree ≡ tree
-  pub shallow : AreShallow (program_text program)
-  pub small : count_of (program_text program) ≤ 32768
-  pub narrow : AreNarrow (program_text program)
+  pub shallow : Each IsShallow (program_text program)
+  pub small : count_of (program_text program) ≤ most_nodes
+  pub narrow : Each (λ w. IsNarrow w.token) (program_text program)
 
 -- some program begins with these tokens
 abbrev pub IsFront : List Placed → Type 0
@@ -53,12 +56,13 @@ abbrev pub FaultAt : List Placed → Placed → ReadFault → Type 0
 FaultAt before x (BadToken at) = (x.token ≡ Junk) × (x.at ≡ at)
 FaultAt before x (NumberTooWide at) = (n : ℕ) × (x.token ≡ Number n) × (2 ^ 64 ≤ n) × (x.at ≡ at)
 FaultAt before x (Unexpected at) = (IsFront (before ++ x ∷ []) → ⊥) × (x.at ≡ at)
-FaultAt before x (TooDeep at) = (w : Written) × Reads before x w × (500 ≤ w.depth) × (x.at ≡ at)
-FaultAt before x (TooLarge at) = (w : Written) × (r : Reads before x w) × (32768 < count_of r.front + w.count) × (x.at ≡ at)
+FaultAt before x (TooDeep at) = (w : Written) × Reads before x w × (most_open ≤ w.depth) × (x.at ≡ at)
+FaultAt before x (TooLarge at) = (w : Written) × (r : Reads before x w) × (most_nodes < count_of r.front + w.count) × (x.at ≡ at)
 FaultAt before x NoMemory = ⊥
 FaultAt before x (NotText at) = ⊥
 FaultAt before x TooLong = ⊥
 
+-- the order in which faults of one place are told
 abbrev pub rank : ReadFault → ℕ
 rank NoMemory = 0
 rank (NotText _) = 1

@@ -11,6 +11,8 @@ ghost use Rattle.pcf_reader.specs.Grammar.{Part as SpecPart};
 ghost use Rattle.pcf_values.specs.Views.{ty_of};
 ghost use Rattle.pcf_reader.specs.Rest.{resume, Gives};
 ghost use Rattle.pcf_reader.specs.Seen.{binder_of, part_of, token_of};
+ghost use Rattle.pcf_values.specs.Most.{most_open};
+ghost use Rattle.pcf_reader.specs.Sizes.{most_read_height};
 
 use crate::fault::ReadFault;
 use crate::reader::{Reader, may_open};
@@ -23,10 +25,10 @@ use std::alloc::Global;
 /// An expression.
 #[cycle(terms)]
 pub fn expr(reader: &mut Reader, alloc: Global, depth: u32) -> Result<Part, ReadFault>
-    requires { depth ≤ 500 }
+    requires { depth ≤ most_open }
     ensures goes { (k : ExprK) → expr_open k ≡ depth → Gives (λ p. resume (after_expr k (part_of p)) reader.new) (resume (begin_expr k) reader.old) result }
     ensures shorter { OnOk result (length reader.new.after < length reader.old.after) }
-    ensures low { IfOk result (λ p. p.height + 4 * depth ≤ 2504) }
+    ensures low { IfOk result (λ p. p.height + 4 * depth ≤ most_read_height) }
 {
     match reader.token() {
         Token::Bind(binder) => binding(reader, alloc, depth, binder),
@@ -51,7 +53,7 @@ fn binder_name(reader: &mut Reader, alloc: Global) -> Result<Ident, ReadFault>
 
 /// The `:` of a binder, its type, and the `.` behind it.
 fn binder_type(reader: &mut Reader, alloc: Global, depth: u32) -> Result<Box<Ty>, ReadFault>
-    requires { (0 < depth) × (depth ≤ 500) }
+    requires { (0 < depth) × (depth ≤ most_open) }
     ensures goes { (k : ExprK) (at : ℕ) (b : SpecBinder) (x : List ℕ) → expr_open k + 1 ≡ depth → Gives (λ t. resume (begin_expr (in_body at b x (ty_of t.value) k)) reader.new) (resume (step (want_colon at b x k)) reader.old) result }
     ensures shorter { OnOk result (length reader.new.after < length reader.old.after) }
 {
@@ -67,7 +69,7 @@ fn binder_type(reader: &mut Reader, alloc: Global, depth: u32) -> Result<Box<Ty>
 
 /// A type, and the `.` behind it.
 fn type_and_dot(reader: &mut Reader, alloc: Global, depth: u32) -> Result<Box<Ty>, ReadFault>
-    requires { (0 < depth) × (depth ≤ 500) }
+    requires { (0 < depth) × (depth ≤ most_open) }
     ensures goes { (k : ExprK) (at : ℕ) (b : SpecBinder) (x : List ℕ) → expr_open k + 1 ≡ depth → Gives (λ t. resume (begin_expr (in_body at b x (ty_of t.value) k)) reader.new) (resume (begin_tatom (first_ptype (of_binder at b x k))) reader.old) result }
     ensures shorter { OnOk result (length reader.new.after < length reader.old.after) }
 {
@@ -89,11 +91,11 @@ fn binding(
     depth: u32,
     binder: Binder,
 ) -> Result<Part, ReadFault>
-    requires depth { depth ≤ 500 }
+    requires depth { depth ≤ most_open }
     requires here { reader.old.here ≡ bind_token (binder_of binder) }
     ensures goes { (k : ExprK) → expr_open k ≡ depth → Gives (λ p. resume (after_expr k (part_of p)) reader.new) (resume (begin_expr k) reader.old) result }
     ensures shorter { OnOk result (length reader.new.after < length reader.old.after) }
-    ensures low { IfOk result (λ p. p.height + 4 * depth ≤ 2504) }
+    ensures low { IfOk result (λ p. p.height + 4 * depth ≤ most_read_height) }
 {
     let at = reader.at();
     reader.take_at(depth, 1)?;
@@ -106,11 +108,11 @@ fn binding(
 /// `ifz`, which is next.
 #[cycle(terms)]
 fn choice(reader: &mut Reader, alloc: Global, depth: u32) -> Result<Part, ReadFault>
-    requires depth { depth ≤ 500 }
+    requires depth { depth ≤ most_open }
     requires here { reader.old.here ≡ ifz_token }
     ensures goes { (k : ExprK) → expr_open k ≡ depth → Gives (λ p. resume (after_expr k (part_of p)) reader.new) (resume (begin_expr k) reader.old) result }
     ensures shorter { OnOk result (length reader.new.after < length reader.old.after) }
-    ensures low { IfOk result (λ p. p.height + 4 * depth ≤ 2504) }
+    ensures low { IfOk result (λ p. p.height + 4 * depth ≤ most_read_height) }
 {
     let at = reader.at();
     reader.take_at(depth, 1)?;
@@ -133,10 +135,10 @@ fn branches(
     at: u32,
     test: Part,
 ) -> Result<Part, ReadFault>
-    requires { (0 < depth) × (depth ≤ 500) × (test.height + 4 * depth ≤ 2504) }
+    requires { (0 < depth) × (depth ≤ most_open) × (test.height + 4 * depth ≤ most_read_height) }
     ensures goes { (k : ExprK) → expr_open k + 1 ≡ depth → Gives (λ p. resume (after_expr k (part_of p)) reader.new) (resume (begin_expr (in_then at (part_of test) k)) reader.old) result }
     ensures shorter { OnOk result (length reader.new.after < length reader.old.after) }
-    ensures low { IfOk result (λ p. p.height + 4 * depth ≤ 2505) }
+    ensures low { IfOk result (λ p. p.height + 4 * depth ≤ most_read_height + 1) }
 {
     let yes = expr(reader, alloc, depth)?;
     match reader.token() {
@@ -152,10 +154,10 @@ fn branches(
 /// A sum.
 #[cycle(terms)]
 fn sum(reader: &mut Reader, alloc: Global, depth: u32) -> Result<Part, ReadFault>
-    requires { depth ≤ 500 }
+    requires { depth ≤ most_open }
     ensures goes { (k : ExprK) → expr_open k ≡ depth → Gives (λ p. resume (after_expr k (part_of p)) reader.new) (resume (begin_atom (first_atom (first_app (first_product k)))) reader.old) result }
     ensures shorter { OnOk result (length reader.new.after < length reader.old.after) }
-    ensures low { IfOk result (λ p. p.height + 4 * depth ≤ 2504) }
+    ensures low { IfOk result (λ p. p.height + 4 * depth ≤ most_read_height) }
 {
     let mut sum = product(reader, alloc, depth)?;
     loop {
@@ -178,10 +180,10 @@ fn sum(reader: &mut Reader, alloc: Global, depth: u32) -> Result<Part, ReadFault
 /// A product.
 #[cycle(terms)]
 fn product(reader: &mut Reader, alloc: Global, depth: u32) -> Result<Part, ReadFault>
-    requires { depth ≤ 500 }
+    requires { depth ≤ most_open }
     ensures goes { (k : ProductK) → product_open k ≡ depth → Gives (λ p. resume (end_product k (part_of p)) reader.new) (resume (begin_atom (first_atom (first_app k))) reader.old) result }
     ensures shorter { OnOk result (length reader.new.after < length reader.old.after) }
-    ensures low { IfOk result (λ p. p.height + 4 * depth ≤ 2503) }
+    ensures low { IfOk result (λ p. p.height + 4 * depth + 1 ≤ most_read_height) }
 {
     let mut product = application(reader, alloc, depth)?;
     loop {
@@ -199,10 +201,10 @@ fn product(reader: &mut Reader, alloc: Global, depth: u32) -> Result<Part, ReadF
 /// An atom and its arguments.
 #[cycle(terms)]
 fn application(reader: &mut Reader, alloc: Global, depth: u32) -> Result<Part, ReadFault>
-    requires { depth ≤ 500 }
+    requires { depth ≤ most_open }
     ensures goes { (k : AppK) → app_open k ≡ depth → Gives (λ p. resume (end_app k (part_of p)) reader.new) (resume (begin_atom (first_atom k)) reader.old) result }
     ensures shorter { OnOk result (length reader.new.after < length reader.old.after) }
-    ensures low { IfOk result (λ p. p.height + 4 * depth ≤ 2502) }
+    ensures low { IfOk result (λ p. p.height + 4 * depth + 2 ≤ most_read_height) }
 {
     let mut function = atom(reader, alloc, depth, 0)?;
     while starts_atom(reader.token()) {
@@ -226,10 +228,10 @@ fn starts_atom(token: Token) -> bool
 /// An atom, which counts so much more than by itself.
 #[cycle(terms)]
 fn atom(reader: &mut Reader, alloc: Global, depth: u32, extra: u32) -> Result<Part, ReadFault>
-    requires { (depth ≤ 500) × (extra ≤ 1) }
-    ensures goes { (k : AtomK) → atom_open k ≡ depth → extra_of k ≡ extra → left_of k < 500 → Gives (λ p. resume (step (got_atom k (part_of p))) reader.new) (resume (begin_atom k) reader.old) result }
+    requires { (depth ≤ most_open) × (extra ≤ 1) }
+    ensures goes { (k : AtomK) → atom_open k ≡ depth → extra_of k ≡ extra → left_of k < most_open → Gives (λ p. resume (step (got_atom k (part_of p))) reader.new) (resume (begin_atom k) reader.old) result }
     ensures shorter { OnOk result (length reader.new.after < length reader.old.after) }
-    ensures low { IfOk result (λ p. p.height + 4 * depth ≤ 2501) }
+    ensures low { IfOk result (λ p. p.height + 4 * depth + 3 ≤ most_read_height) }
 {
     let at = reader.at();
     match reader.token() {
@@ -257,10 +259,10 @@ fn atom(reader: &mut Reader, alloc: Global, depth: u32, extra: u32) -> Result<Pa
 /// What stands behind a `(`.
 #[cycle(terms)]
 fn parens(reader: &mut Reader, alloc: Global, depth: u32, at: u32) -> Result<Part, ReadFault>
-    requires { (0 < depth) × (depth ≤ 500) }
+    requires { (0 < depth) × (depth ≤ most_open) }
     ensures goes { (k : AtomK) → atom_open k + 1 ≡ depth → Gives (λ p. resume (step (got_atom k (part_of p))) reader.new) (resume (begin_expr (in_parens at k)) reader.old) result }
     ensures shorter { OnOk result (length reader.new.after < length reader.old.after) }
-    ensures low { IfOk result (λ p. p.height + 4 * depth ≤ 2505) }
+    ensures low { IfOk result (λ p. p.height + 4 * depth ≤ most_read_height + 1) }
 {
     let first = expr(reader, alloc, depth)?;
     match reader.token() {
@@ -285,10 +287,10 @@ fn second_of(
     at: u32,
     first: Part,
 ) -> Result<Part, ReadFault>
-    requires { (0 < depth) × (depth ≤ 500) × (first.height + 4 * depth ≤ 2504) }
+    requires { (0 < depth) × (depth ≤ most_open) × (first.height + 4 * depth ≤ most_read_height) }
     ensures goes { (k : AtomK) → atom_open k + 1 ≡ depth → Gives (λ p. resume (step (got_atom k (part_of p))) reader.new) (resume (begin_expr (in_second at (part_of first) k)) reader.old) result }
     ensures shorter { OnOk result (length reader.new.after < length reader.old.after) }
-    ensures low { IfOk result (λ p. p.height + 4 * depth ≤ 2505) }
+    ensures low { IfOk result (λ p. p.height + 4 * depth ≤ most_read_height + 1) }
 {
     let second = expr(reader, alloc, depth)?;
     match reader.token() {

@@ -18,12 +18,12 @@ pub enum ReadFault {
     NumberTooWide(u32),
     /// No program begins with the tokens up to this one, or the text ends here and is no program.
     Unexpected(u32),
-    /// This token opens a phrase while 500 are open; or it is an operator or begins an argument, and the part of its sum, product or
-    /// application that stands left of it has height 500 or more.
+    /// This token opens a phrase while `limits::OPEN_PHRASES` are open; or it is an operator or begins an argument, and the part of its
+    /// sum, product or application that stands left of it is at least that high.
     TooDeep(u32),
-    /// This token is the first whose count of nodes passes 32,768.
+    /// This token is the first whose count of nodes passes `limits::PROGRAM_NODES`.
     TooLarge(u32),
-    /// There are more than 1,048,576 bytes.
+    /// There are more than `limits::PROGRAM_BYTES` bytes.
     TooLong,
 }
 

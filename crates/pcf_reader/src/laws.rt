@@ -1,13 +1,24 @@
 //! Laws over texts and trees. Each is the contract of a function that does nothing.
 
-ghost use Rattle.pcf_reader.specs.Laws.{OneTree, Bounded, ReadBack};
+ghost use Rattle.pcf_reader.specs.Laws.{OneTree, OneFault, TextOrFault, NotBoth, Bounded, ReadBack};
 
 /// A text stands for one tree.
 pub fn law_one_tree()
     ensures { OneTree }
 {}
 
-/// A tree that was read has at most 32,768 nodes, and its height is at most 2,504.
+/// A text has one first fault at most.
+pub fn law_one_fault()
+    ensures { OneFault }
+{}
+
+/// Each list of bytes is the text of a tree or has a first fault, and never both.
+pub fn law_text_or_fault()
+    ensures either { TextOrFault }
+    ensures not_both { NotBoth }
+{}
+
+/// A tree that was read has at most `limits::PROGRAM_NODES` nodes, and its height is at most 2,504.
 pub fn law_bounded()
     ensures { Bounded }
 {}

@@ -2,8 +2,8 @@
 //!
 //! `read_program` takes the bytes of a program's text and answers the one tree that they stand for by the grammar, with the place of
 //! each node, or else their very first fault (`ReadFault`). `print_term` and `print_ty` spell trees on one line, with parentheses
-//! exactly where the grammar needs them. The laws say that a text has one tree, that each tree that was read is within the limits, and
-//! that what is printed of it is read back. The grammar stands in `specs/Grammar.antt`, the tokens in `specs/Spelling.antt`, faults in
+//! exactly where the grammar needs them. The laws say that bytes are the text of one tree or have one first fault, and never both, that
+//! each tree that was read is within the limits, and that what is printed of it is read back. The grammar stands in `specs/Grammar.antt`, the tokens in `specs/Spelling.antt`, faults in
 //! `specs/Text.antt`. Scope and types are left to the crate above.
 #![tactic(auto)]
 
@@ -17,6 +17,7 @@ ghost use Rattle.pcf_reader.specs.Rest.{Gives};
 ghost use Rattle.pcf_values.specs.Views.{named_of};
 ghost use Rattle.pcf_reader.specs.Correct.{Text, FirstFault, Faults, IsOnlyFault};
 ghost use Rattle.pcf_reader.specs.declared.fault.ReadFault.{ReadFault as FaultType};
+ghost use Rattle.pcf_values.specs.Most.{most_program_bytes};
 
 mod descent;
 mod fault;
@@ -29,7 +30,7 @@ mod token;
 mod types;
 
 pub use fault::ReadFault;
-pub use laws::{law_bounded, law_one_tree, law_read_back};
+pub use laws::{law_bounded, law_one_fault, law_one_tree, law_read_back, law_text_or_fault};
 use pcf_values::Named;
 use pcf_values::limits::PROGRAM_BYTES;
 pub use print::{print_term, print_ty};
@@ -38,7 +39,7 @@ use token::Token;
 
 /// The program that a text of a lawful length is.
 fn read_text(alloc: Global, text: &str) -> Result<Named, ReadFault>
-    requires { length text.now ≤ 1048576 }
+    requires { length text.now ≤ most_program_bytes }
     ensures { Gives (λ t. Ok (named_of t)) (scan (lex (chars text.now) 0 idle) (want_expr whole) 0) result }
 {
     let mut reader = reader::reader_at(text, 0, 0)?;
@@ -51,7 +52,8 @@ fn read_text(alloc: Global, text: &str) -> Result<Named, ReadFault>
 
 /// The program that the bytes are, or their very first fault.
 ///
-/// The text is read once from left to right, within a stack that does not grow with its length: at most 500 phrases are open.
+/// The text is read once from left to right, within a stack that does not grow with its length: at most
+/// `limits::OPEN_PHRASES` phrases are open.
 pub fn read_program(alloc: Global, bytes: &[u8]) -> Result<Named, ReadFault>
     // What is read is a program's text.
     ensures found { IfOk result (λ t. Text bytes.now (named_of t)) }

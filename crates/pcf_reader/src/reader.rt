@@ -10,6 +10,7 @@ ghost use Rattle.pcf_reader.specs.Lexing.{lex, idle, after_dash, in_number, in_w
 ghost use Rattle.pcf_reader.specs.Rest.{taken, resume, behind, Gives};
 ghost use Rattle.pcf_reader.specs.Seen.{token_of};
 ghost use Rattle.pcf_reader.specs.Tokens.{End as end_token, Name as name_token};
+ghost use Rattle.pcf_values.specs.Most.{most_nodes, most_open, most_program_bytes};
 
 use crate::fault::ReadFault;
 use crate::lexer::{
@@ -36,6 +37,7 @@ pub struct Reader<'a> {
 impl<'a> Model for Reader<'a> {
     ghost use Rattle.std.specs.Prelude.{◌+◌, ◌≤◌, length};
     ghost use Rattle.std.specs.Str.{chars};
+    ghost use Rattle.pcf_values.specs.Most.{most_nodes, most_program_bytes};
     ghost use Rattle.pcf_reader.specs.Rest.{Rest, behind};
     ghost use Rattle.pcf_reader.specs.Seen.{token_of};
     ghost use Rattle.pcf_reader.specs.Lexing.{lex, idle};
@@ -49,7 +51,7 @@ impl<'a> Model for Reader<'a> {
       nodes = r.nodes;
     } };
 
-    ghost invariant = { λ r. (r.end + length r.rest.now ≤ 1048576) × (r.nodes ≤ 32768) };
+    ghost invariant = { λ r. (r.end + length r.rest.now ≤ most_program_bytes) × (r.nodes ≤ most_nodes) };
 }
 
 impl<'a> Reader<'a> {
@@ -71,7 +73,7 @@ impl<'a> Reader<'a> {
     pub fn take(&mut self, count: u32) -> Result<(), ReadFault>
         requires end { self.old.here ≡ end_token → ⊥ }
         requires count { count ≤ 2 }
-        ensures goes { (d : ℕ) (s : State) → d < 500 → Gives (λ _. resume (step s) self.new) (taken self.old (go d count s)) result }
+        ensures goes { (d : ℕ) (s : State) → d < most_open → Gives (λ _. resume (step s) self.new) (taken self.old (go d count s)) result }
         ensures shorter { OnOk result (length self.new.after < length self.old.after) }
     {
         let nodes = self.nodes + count;
@@ -87,7 +89,7 @@ impl<'a> Reader<'a> {
         requires name { (name : List ℕ) × (self.old.here ≡ name_token name) }
         requires count { count ≤ 2 }
         ensures name { IfOk result (λ x. self.old.here ≡ name_token x) }
-        ensures goes { (d : ℕ) (s : State) → d < 500 → Gives (λ _. resume (step s) self.new) (taken self.old (go d count s)) result }
+        ensures goes { (d : ℕ) (s : State) → d < most_open → Gives (λ _. resume (step s) self.new) (taken self.old (go d count s)) result }
         ensures shorter { OnOk result (length self.new.after < length self.old.after) }
     {
         let name = Ident::from_text(alloc, self.word)?;
@@ -101,7 +103,7 @@ impl<'a> Reader<'a> {
         requires count { count ≤ 2 }
         ensures goes { (s : State) → Gives (λ _. resume (step s) self.new) (taken self.old (go depth count s)) result }
         ensures shorter { OnOk result (length self.new.after < length self.old.after) }
-        ensures low { OnOk result (depth < 500) }
+        ensures low { OnOk result (depth < most_open) }
     {
         may_open(self.at, depth)?;
         self.take(count)?;
@@ -111,8 +113,8 @@ impl<'a> Reader<'a> {
 
 /// That a token may stand at a place with this depth.
 pub fn may_open(at: u32, depth: u32) -> Result<(), ReadFault>
-    ensures ok { OnOk result (depth < 500) }
-    ensures deep { IfErr result (λ f. (f ≡ ReadFault.TooDeep at) × (500 ≤ depth)) }
+    ensures ok { OnOk result (depth < most_open) }
+    ensures deep { IfErr result (λ f. (f ≡ ReadFault.TooDeep at) × (most_open ≤ depth)) }
 {
     if depth < OPEN_PHRASES {
         Ok(())
@@ -130,8 +132,8 @@ fn reader_of<'a>(
     end: u32,
     nodes: u32,
 ) -> Reader<'a>
-    requires short { end + length rest.now ≤ 1048576 }
-    requires few { nodes ≤ 32768 }
+    requires short { end + length rest.now ≤ most_program_bytes }
+    requires few { nodes ≤ most_nodes }
     ensures { result ≡ record { at = at; here = token_of token word.now; after = behind (token_of token word.now) (lex (chars rest.now) end idle); nodes = nodes } }
 {
     Reader {
@@ -147,8 +149,8 @@ fn reader_of<'a>(
 #[tactic(auto, using(crate::proofs::LexSteps::blank_more, crate::proofs::LexSteps::comment_first))]
 /// A reader at the first token of a text that stands at a place, after so many nodes.
 pub fn reader_at(text: &str, at: u32, nodes: u32) -> Result<Reader<'_>, ReadFault>
-    requires short { at + length text.now ≤ 1048576 }
-    requires few { nodes ≤ 32768 }
+    requires short { at + length text.now ≤ most_program_bytes }
+    requires few { nodes ≤ most_nodes }
     ensures goes { (s : State) → Gives (λ r. resume (step s) r) (scan (lex (chars text.now) at idle) s nodes) result }
     ensures shorter { IfOk result (λ r. length r.after < length (lex (chars text.now) at idle)) }
 {
@@ -178,8 +180,8 @@ fn at_token<'a>(
     requires chars { chars text.now ≡ first ∷ chars more.now }
     requires length { length text.now ≡ len_utf8 first + length more.now }
     requires begins { IsFalse (is_blank_code first) × IsFalse (first == 35) }
-    requires short { at + length text.now ≤ 1048576 }
-    requires few { nodes ≤ 32768 }
+    requires short { at + length text.now ≤ most_program_bytes }
+    requires few { nodes ≤ most_nodes }
     ensures goes { (s : State) → Gives (λ r. resume (step s) r) (scan (lex (chars text.now) at idle) s nodes) result }
     ensures shorter { IfOk result (λ r. length r.after < length (lex (chars text.now) at idle)) }
 {
@@ -196,8 +198,8 @@ fn at_token<'a>(
 
 /// A reader at the sign that begins with a dash, where this text stands behind the dash.
 fn at_dash(text: &str, at: u32, nodes: u32) -> Reader<'_>
-    requires short { at + 1 + length text.now ≤ 1048576 }
-    requires few { nodes ≤ 32768 }
+    requires short { at + 1 + length text.now ≤ most_program_bytes }
+    requires few { nodes ≤ most_nodes }
     ensures goes { (s : State) → scan (lex (chars text.now) (at + 1) (after_dash at)) s nodes ≡ resume (step s) result }
     ensures shorter { length result.after < length (lex (chars text.now) (at + 1) (after_dash at)) }
 {
@@ -215,8 +217,8 @@ fn at_dash(text: &str, at: u32, nodes: u32) -> Reader<'_>
 
 /// A reader at the number that the text begins with.
 fn at_number(text: &str, at: u32, nodes: u32) -> Result<Reader<'_>, ReadFault>
-    requires short { at + length text.now ≤ 1048576 }
-    requires few { nodes ≤ 32768 }
+    requires short { at + length text.now ≤ most_program_bytes }
+    requires few { nodes ≤ most_nodes }
     ensures goes { (s : State) → Gives (λ r. resume (step s) r) (scan (lex (chars text.now) at (in_number at 0)) s nodes) result }
     ensures shorter { IfOk result (λ r. length r.after < length (lex (chars text.now) at (in_number at 0))) }
 {
@@ -232,8 +234,8 @@ fn at_number(text: &str, at: u32, nodes: u32) -> Result<Reader<'_>, ReadFault>
 
 /// A reader at the word that the text begins with.
 fn at_word(text: &str, at: u32, nodes: u32) -> Reader<'_>
-    requires short { at + length text.now ≤ 1048576 }
-    requires few { nodes ≤ 32768 }
+    requires short { at + length text.now ≤ most_program_bytes }
+    requires few { nodes ≤ most_nodes }
     ensures goes { (s : State) → scan (lex (chars text.now) at (in_word at [])) s nodes ≡ resume (step s) result }
     ensures shorter { length result.after < length (lex (chars text.now) at (in_word at [])) }
 {
@@ -244,8 +246,8 @@ fn at_word(text: &str, at: u32, nodes: u32) -> Reader<'_>
 /// A reader at the sign that the character is, before this text.
 fn at_sign(first: char, more: &str, at: u32, nodes: u32) -> Result<Reader<'_>, ReadFault>
     requires dash { IsFalse (first == 45) }
-    requires short { at + len_utf8 first + length more.now ≤ 1048576 }
-    requires few { nodes ≤ 32768 }
+    requires short { at + len_utf8 first + length more.now ≤ most_program_bytes }
+    requires few { nodes ≤ most_nodes }
     ensures goes { (s : State) → Gives (λ r. resume (step s) r) (scan (on_sign (sign_of first) at (λ m. lex (chars more.now) (at + len_utf8 first) m)) s nodes) result }
     ensures shorter { IfOk result (λ r. length r.after < length (on_sign (sign_of first) at (λ m. lex (chars more.now) (at + len_utf8 first) m))) }
 {

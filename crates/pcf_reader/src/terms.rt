@@ -1,10 +1,11 @@
 //! The parts of a term while it is read: each is a tree and its height as written, which counts parentheses.
 
-ghost use Rattle.std.specs.Prelude.{◌≡◌, ◌+◌, ◌<◌, IfOk, IfErr};
+ghost use Rattle.std.specs.Prelude.{◌≡◌, ◌+◌, ◌≤◌, IfOk, IfErr};
 ghost use Rattle.pcf_reader.specs.Seen.{binder_of, op_of, part_of, word_of};
 ghost use Rattle.pcf_values.specs.Views.{named_of, raw_of, ty_of};
 ghost use Rattle.pcf_reader.specs.Grammar.{higher, join, binary, app_part, choice_part};
 ghost use Rattle.pcf_values.specs.Named.{place_of, word_at as word_tree, pair_at as pair_tree, bind_at as bind_tree};
+ghost use Rattle.pcf_reader.specs.Sizes.{most_read_height};
 
 use crate::fault::ReadFault;
 use crate::token::{Binder, Operator, Word};
@@ -27,7 +28,7 @@ fn place_of(tree: &Named) -> u32
 
 /// A node over parts that are this high at most.
 pub fn over(alloc: Global, at: u32, raw: Raw, below: u32) -> Result<Part, ReadFault>
-    requires { below < 4000 }
+    requires { below ≤ most_read_height }
     ensures ok { IfOk result (λ p. part_of p ≡ record { tree = raw_of raw at; height = below + 1 }) }
     ensures err { IfErr result (λ f. f ≡ ReadFault.NoMemory) }
 {
@@ -40,7 +41,7 @@ pub fn over(alloc: Global, at: u32, raw: Raw, below: u32) -> Result<Part, ReadFa
 
 /// A term in parentheses.
 pub fn wrapped(inner: Part) -> Part
-    requires { inner.height < 4000 }
+    requires { inner.height ≤ most_read_height }
     ensures { part_of result ≡ higher (λ t. t) (part_of inner) }
 {
     Part {
@@ -51,7 +52,7 @@ pub fn wrapped(inner: Part) -> Part
 
 /// A word and its atom.
 pub fn prefixed(alloc: Global, at: u32, word: Word, inner: Part) -> Result<Part, ReadFault>
-    requires { inner.height < 4000 }
+    requires { inner.height ≤ most_read_height }
     ensures ok { IfOk result (λ p. part_of p ≡ higher (word_tree at (word_of word)) (part_of inner)) }
     ensures err { IfErr result (λ f. f ≡ ReadFault.NoMemory) }
 {
@@ -71,7 +72,7 @@ pub fn operated(
     left: Part,
     right: Part,
 ) -> Result<Part, ReadFault>
-    requires { (left.height < 4000) × (right.height < 4000) }
+    requires { (left.height ≤ most_read_height) × (right.height ≤ most_read_height) }
     ensures ok { IfOk result (λ p. part_of p ≡ binary (op_of operator) (part_of left) (part_of right)) }
     ensures err { IfErr result (λ f. f ≡ ReadFault.NoMemory) }
 {
@@ -87,7 +88,7 @@ pub fn operated(
 
 /// An application.
 pub fn applied(alloc: Global, left: Part, right: Part) -> Result<Part, ReadFault>
-    requires { (left.height < 4000) × (right.height < 4000) }
+    requires { (left.height ≤ most_read_height) × (right.height ≤ most_read_height) }
     ensures ok { IfOk result (λ p. part_of p ≡ app_part (part_of left) (part_of right)) }
     ensures err { IfErr result (λ f. f ≡ ReadFault.NoMemory) }
 {
@@ -98,7 +99,7 @@ pub fn applied(alloc: Global, left: Part, right: Part) -> Result<Part, ReadFault
 
 /// A pair.
 pub fn paired(alloc: Global, at: u32, left: Part, right: Part) -> Result<Part, ReadFault>
-    requires { (left.height < 4000) × (right.height < 4000) }
+    requires { (left.height ≤ most_read_height) × (right.height ≤ most_read_height) }
     ensures ok { IfOk result (λ p. part_of p ≡ join (pair_tree at) (part_of left) (part_of right)) }
     ensures err { IfErr result (λ f. f ≡ ReadFault.NoMemory) }
 {
@@ -108,7 +109,7 @@ pub fn paired(alloc: Global, at: u32, left: Part, right: Part) -> Result<Part, R
 
 /// A choice.
 pub fn chosen(alloc: Global, at: u32, test: Part, yes: Part, no: Part) -> Result<Part, ReadFault>
-    requires { (test.height < 4000) × (yes.height < 4000) × (no.height < 4000) }
+    requires { (test.height ≤ most_read_height) × (yes.height ≤ most_read_height) × (no.height ≤ most_read_height) }
     ensures ok { IfOk result (λ p. part_of p ≡ choice_part at (part_of test) (part_of yes) (part_of no)) }
     ensures err { IfErr result (λ f. f ≡ ReadFault.NoMemory) }
 {
@@ -125,7 +126,7 @@ pub fn bound(
     of: Box<Ty>,
     body: Part,
 ) -> Result<Part, ReadFault>
-    requires { body.height < 4000 }
+    requires { body.height ≤ most_read_height }
     ensures ok { IfOk result (λ p. part_of p ≡ higher (bind_tree at (binder_of binder) name (ty_of of.value)) (part_of body)) }
     ensures err { IfErr result (λ f. f ≡ ReadFault.NoMemory) }
 {

@@ -4,6 +4,7 @@ ghost use Rattle.std.specs.Prelude.{◌≡◌, ℕ, ◌+◌, ◌<◌, ◌≤◌,
 ghost use Rattle.pcf_reader.specs.Machine.{step, TypeK, PTypeK, first_ptype, type_open, ptype_open, begin_tatom, end_type, end_ptype, after_tatom};
 ghost use Rattle.pcf_reader.specs.Rest.{resume, Gives};
 ghost use Rattle.pcf_values.specs.Views.{ty_of};
+ghost use Rattle.pcf_values.specs.Most.{most_open};
 
 use crate::fault::ReadFault;
 use crate::reader::Reader;
@@ -14,7 +15,7 @@ use std::alloc::Global;
 /// A type.
 #[cycle(types)]
 pub fn type_of(reader: &mut Reader, alloc: Global, depth: u32) -> Result<Box<Ty>, ReadFault>
-    requires { depth ≤ 500 }
+    requires { depth ≤ most_open }
     ensures goes { (k : TypeK) → type_open k ≡ depth → Gives (λ t. resume (end_type k (ty_of t.value)) reader.new) (resume (begin_tatom (first_ptype k)) reader.old) result }
     ensures shorter { OnOk result (length reader.new.after < length reader.old.after) }
 {
@@ -32,7 +33,7 @@ pub fn type_of(reader: &mut Reader, alloc: Global, depth: u32) -> Result<Box<Ty>
 /// A product of atoms of types.
 #[cycle(types)]
 fn product_of(reader: &mut Reader, alloc: Global, depth: u32) -> Result<Box<Ty>, ReadFault>
-    requires { depth ≤ 500 }
+    requires { depth ≤ most_open }
     ensures goes { (k : PTypeK) → ptype_open k ≡ depth → Gives (λ t. resume (end_ptype k (ty_of t.value)) reader.new) (resume (begin_tatom k) reader.old) result }
     ensures shorter { OnOk result (length reader.new.after < length reader.old.after) }
 {
@@ -50,7 +51,7 @@ fn product_of(reader: &mut Reader, alloc: Global, depth: u32) -> Result<Box<Ty>,
 /// `nat`, or a type in parentheses.
 #[cycle(types)]
 fn atom_of(reader: &mut Reader, alloc: Global, depth: u32) -> Result<Box<Ty>, ReadFault>
-    requires { depth ≤ 500 }
+    requires { depth ≤ most_open }
     ensures goes { (k : PTypeK) → ptype_open k ≡ depth → Gives (λ t. resume (step (after_tatom k (ty_of t.value))) reader.new) (resume (begin_tatom k) reader.old) result }
     ensures shorter { OnOk result (length reader.new.after < length reader.old.after) }
 {

@@ -1,5 +1,6 @@
 -- The definition's test of two types is equality.
 use Rattle.std.proofs.Common.{◌≡◌, ◌≢◌, ℕ, Bool, true, false, ◌&&◌, cond, Ok, Err, refl, sym, ap, ◌∙◌}
+use Rattle.std.proofs.lemmas.Bool.{and_parts, and_from}
 use Rattle.pcf_values.specs.Terms.{TyTree, nat, arrow, product, TermTree}
 use Rattle.pcf_types.specs.declared.fault.TypeFault.{TypeFault}
 use Rattle.pcf_values.specs.declared.named.Named.{Named}
@@ -11,22 +12,10 @@ use Rattle.pcf_types.specs.Checking.{Answer, same_type, as_type, of_type, as_nat
 use Rattle.pcf_types.specs.Views.{type_in, number_in, of_type_in}
 use Rattle.pcf_types.proofs.Places.{place}
 
-both_true : (a b : Bool) → a ≡ true → b ≡ true → (a && b) ≡ true
-both_true true b h k = k
-both_true false b h k = h
-
-first_true : (a b : Bool) → (a && b) ≡ true → a ≡ true
-first_true true b h = refl
-first_true false b h = h
-
-second_true : (a b : Bool) → (a && b) ≡ true → b ≡ true
-second_true true b h = h
-second_true false b h = cc
-
 pub same_refl : (a : TyTree) → same_type a a ≡ true
 same_refl nat = refl
-same_refl (arrow a b) = both_true (same_type a a) (same_type b b) (same_refl a) (same_refl b)
-same_refl (product a b) = both_true (same_type a a) (same_type b b) (same_refl a) (same_refl b)
+same_refl (arrow a b) = and_from (same_type a a) (same_type b b) (same_refl a) (same_refl b)
+same_refl (product a b) = and_from (same_type a a) (same_type b b) (same_refl a) (same_refl b)
 
 pub same_is : (a b : TyTree) → same_type a b ≡ true → a ≡ b
 same_is nat nat h = refl
@@ -34,15 +23,15 @@ same_is nat (arrow c d) h = cc
 same_is nat (product c d) h = cc
 same_is (arrow a b) nat h = cc
 same_is (arrow a b) (arrow c d) h =
-    let p = same_is a c (first_true (same_type a c) (same_type b d) h) in
-    let q = same_is b d (second_true (same_type a c) (same_type b d) h) in
+    let p = same_is a c (and_parts (same_type a c) (same_type b d) h).0 in
+    let q = same_is b d (and_parts (same_type a c) (same_type b d) h).1 in
     λ k. arrow (p k) (q k)
 same_is (arrow a b) (product c d) h = cc
 same_is (product a b) nat h = cc
 same_is (product a b) (arrow c d) h = cc
 same_is (product a b) (product c d) h =
-    let p = same_is a c (first_true (same_type a c) (same_type b d) h) in
-    let q = same_is b d (second_true (same_type a c) (same_type b d) h) in
+    let p = same_is a c (and_parts (same_type a c) (same_type b d) h).0 in
+    let q = same_is b d (and_parts (same_type a c) (same_type b d) h).1 in
     λ k. product (p k) (q k)
 
 bool_cases : {A : Type 0} (b : Bool) (m n : A) (h : b ≡ true → ⊥) → cond b m n ≡ n

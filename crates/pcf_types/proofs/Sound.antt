@@ -10,15 +10,18 @@ use Rattle.pcf_types.specs.Correct.{names_in, types_in}
 use Rattle.pcf_types.proofs.Steps.{ok_is, from_go_on, from_number, from_numbers, from_function, from_both, from_of_type}
 use Rattle.pcf_types.proofs.Nearest.{nearest_found}
 
+-- the term is the one that the tree stands for, and where each number of the tree is a value it has the type
 abbrev pub Good : Context → NamedTree → TermTree × TyTree → Type 0
 Good g tree p = Resolves (names_in g) tree p.0 × (NumbersFit tree → HasType (types_in g) p.0 p.1)
 
+-- what is found for a name is good
 variable_good : (at : ℕ) (x : List ℕ) (g : Context) (o : Option (ℕ × TyTree)) (p : TermTree × TyTree) → nearest x g ≡ o → variable at o ≡ Ok p → Good g (name_at at x) p
 variable_good at x g None p e h = cc
 variable_good at x g (Some f) p e h =
     let (d, t) = nearest_found x g f e in
     subst (Good g (name_at at x)) (ok_is (var f.0, f.1) p h) ((f.0, d, refl), λ n. t)
 
+-- each tree that is accepted: by recursion on the tree, from what each step of the definition was made of
 pub good : (tree : NamedTree) (g : Context) (p : TermTree × TyTree) → type_of g tree ≡ Ok p → Good g tree p
 good (number_at at n) g p h = subst (Good g (number_at at n)) (ok_is (num n, nat) p h) (refl, λ l. (l, refl))
 good (name_at at x) g p h = variable_good at x g (nearest x g) p refl h
@@ -76,6 +79,3 @@ good (apply_at at f a) g p h =
     let (r, t) = good f g (q.0, arrow q.1 q.2) (from_function (place_of f) (type_of g f) q e) in
     let (s, u) = good a g (n, q.1) (from_of_type q.1 (ArgumentMismatch (place_of a)) (type_of g a) n e') in
     subst (Good g (apply_at at f a)) (ok_is (app q.0 n, q.2) p k') ((q.0, n, r, s, refl), λ l. (q.1, t l.0, u l.1))
-
-pub accepted : (g : Context) (tree : NamedTree) (m : TermTree) (t : TyTree) → NumbersFit tree → type_of g tree ≡ Ok (m, t) → Resolves (names_in g) tree m × HasType (types_in g) m t
-accepted g tree m t l h = let (r, u) = good tree g (m, t) h in (r, u l)

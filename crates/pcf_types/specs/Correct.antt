@@ -15,11 +15,11 @@ names_in g = map (λ b. b.0) g
 abbrev pub types_in : Context → List TyTree
 types_in g = map (λ b. b.1) g
 
--- what is accepted is the term that the tree stands for, and has the type by the typing relation; a tree of the code has only numbers
--- that fit
+-- What is accepted is the term that the tree stands for, and it has the type by the typing relation where each number of the tree is a
+-- value: the checker asks no size of a number, and the typing relation does. A tree that the code accepts has only such numbers.
 abbrev pub AcceptedIsTyped : Type 0
 AcceptedIsTyped = (g : Context) (tree : NamedTree) (m : TermTree) (t : TyTree) →
-    NumbersFit tree → type_of g tree ≡ Ok (m, t) → Resolves (names_in g) tree m × HasType (types_in g) m t
+    type_of g tree ≡ Ok (m, t) → Resolves (names_in g) tree m × (NumbersFit tree → HasType (types_in g) m t)
 
 -- a tree that stands for a typed term is accepted, as that term with that type
 abbrev pub TypedIsAccepted : Type 0

@@ -4,7 +4,7 @@ ghost use Rattle.std.specs.Prelude.{◌≡◌, ◌≢◌, ◌↔◌, ◌<◌, �
 ghost use Rattle.pcf_values.specs.Terms.{nat};
 ghost use Rattle.pcf_values.specs.Named.{named_height};
 ghost use Rattle.pcf_values.specs.Views.{named_of};
-ghost use Rattle.pcf_types.specs.Checking.{type_of};
+ghost use Rattle.pcf_types.specs.Checking.{type_of, NumbersFit};
 ghost use Rattle.pcf_types.specs.declared.fault.TypeFault.TheVariants.{NoMemory};
 
 use crate::TypeFault;
@@ -21,6 +21,8 @@ pub fn resolve_and_type(alloc: Global, program: &Named) -> Result<Typed, TypeFau
     ensures typed { IfOk result (λ p. type_of [] (named_of program.now) ≡ Ok p) }
     // Unless memory was wanting, an error is the definition's first fault.
     ensures fault { IfErr result (λ e. e ≢ NoMemory → type_of [] (named_of program.now) ≡ Err e) }
+    // Each number of a program that is accepted is a value, as `law_correct` asks.
+    ensures fit { IfOk result (λ p. NumbersFit (named_of program.now)) }
 {
     let judged = infer(alloc, &Scope::Closed, program)?;
     let ty = judged.ty.to_ty(alloc)?;

@@ -1,10 +1,10 @@
 use Rattle.pcf_types.proofs.NoMemory.{never_memory}
-use Rattle.pcf_types.proofs.Sound.{accepted}
+use Rattle.pcf_types.proofs.Sound.{good}
 use Rattle.pcf_types.proofs.Complete.{typed_accepted, one_type, one_term}
 use Rattle.pcf_types.proofs.laws.law_correct.Goals as goal
 
 pub returns-clause-sound : goal.returns-clause-sound
-returns-clause-sound c = accepted
+returns-clause-sound c = λ g tree m t. good tree g (m, t)
 
 pub returns-clause-complete : goal.returns-clause-complete
 returns-clause-complete c = typed_accepted
