@@ -1,0 +1,36 @@
+-- What holds of schedule texts.
+use Rattle.std.specs.Prelude.{◌≡◌, ℕ, ◌+◌, ◌*◌, ◌^◌, ◌<◌, ◌≤◌, List, [], ◌∷◌, length, Result, Ok, Err}
+use Rattle.pcf_values.specs.Most.{most_moves}
+use Rattle.schedule_log.specs.declared.fault.ScheduleFault.{ScheduleFault}
+use Rattle.schedule_log.specs.declared.fault.ScheduleFault.TheVariants.{NoMemory}
+use Rattle.schedule_log.specs.Schedules.{ReadAs}
+use Rattle.schedule_log.specs.Reading.{tickets_in}
+use Rattle.schedule_log.specs.Runs.{schedule_text}
+
+-- Reading answers the tickets or the first fault of any bytes.
+abbrev pub FirstFaultFound : Type 0
+FirstFaultFound = (bytes : List ℕ) → ReadAs bytes (tickets_in bytes)
+
+-- No bytes are read in two ways, but for want of memory.
+abbrev pub OneAnswer : Type 0
+OneAnswer = (bytes : List ℕ) (r s : Result (List ℕ) ScheduleFault) →
+    (r ≡ Err NoMemory → ⊥) → (s ≡ Err NoMemory → ⊥) → ReadAs bytes r → ReadAs bytes s → r ≡ s
+
+-- each ticket is below 2 ^ 32
+abbrev pub Small : List ℕ → Type 0
+Small [] = Unit {0}
+Small (t ∷ ts) = (t < 2 ^ 32) × Small ts
+
+-- What is printed of at most 10,000,000 tickets is their text, and is read as nothing else.
+pub record IsReadBack (tickets : List ℕ) : Type 0 where
+  pub text : ReadAs (schedule_text tickets) (Ok tickets)
+  pub only : (r : Result (List ℕ) ScheduleFault) → (r ≡ Err NoMemory → ⊥) → ReadAs (schedule_text tickets) r → r ≡ Ok tickets
+
+-- What is printed is read back.
+abbrev pub PrintedIsRead : Type 0
+PrintedIsRead = (tickets : List ℕ) → Small tickets → length tickets ≤ most_moves → IsReadBack tickets
+
+-- The text of n moves has at most 13 n + 15 bytes.
+abbrev pub PrintedIsShort : Type 0
+PrintedIsShort = (tickets : List ℕ) → Small tickets → length tickets ≤ most_moves →
+    length (schedule_text tickets) ≤ 13 * length tickets + 15

@@ -1,0 +1,49 @@
+//! How a log is filled with the moves of a text.
+ghost use Rattle.std.specs.Prelude.{◌≡◌, ◌+◌, ◌≤◌, length, [], None, Ok};
+ghost use Rattle.pcf_values.specs.Most.{most_schedule_bytes};
+ghost use Rattle.schedule_log.specs.Logs.{read_entries, with_entries};
+ghost use Rattle.schedule_log.specs.Reading.{counted, runs_from, runs_or_none};
+ghost use Rattle.schedule_log.specs.Schedules.{again, lines, tickets_of};
+
+use crate::line::{cut_line, is_end, judge};
+use crate::log::Log;
+use crate::version::Version;
+
+/// Adds the moves of the lines behind the header, which were counted, each for worker 0.
+pub fn push_moves(log: &mut Log, version: Version, bytes: &[u8])
+    requires short { length bytes.now ≤ most_schedule_bytes }
+    requires empty { log.old.entries ≡ [] }
+    requires room { counted 0 (runs_from version None 0 2 (lines bytes.now)) ≡ Ok log.old.room }
+    ensures entries { log.new.entries ≡ read_entries (tickets_of (runs_or_none (runs_from version None 0 2 (lines bytes.now)))) }
+    ensures room { log.new.room ≡ log.old.room }
+{
+    let mut rest = bytes;
+    let mut last: Option<u32> = None;
+    let mut moves = 0u32;
+    let mut n = 2u32;
+    while rest.len() > 0 {
+        let (line, more) = cut_line(rest);
+        if is_end(line) {
+            return;
+        }
+        let run = match judge(version, last, moves, n, line) {
+            Ok(run) => run,
+            Err(_fault) => return,
+        };
+        push_times(log, run.ticket, run.count);
+        last = Some(run.ticket);
+        moves += run.count;
+        n += 1;
+        rest = more;
+    }
+}
+
+/// Adds so many moves of one ticket, for worker 0.
+fn push_times(log: &mut Log, ticket: u32, count: u32)
+    requires { length log.old.entries + count ≤ log.old.room }
+    ensures { log.new ≡ with_entries log.old (read_entries (again ticket count [])) }
+{
+    for i in 0..count {
+        log.push(ticket, 0);
+    }
+}

@@ -1,0 +1,77 @@
+//! One line of a schedule's text: which it is, and what it stands for.
+ghost use Rattle.std.specs.Prelude.{◌≡◌, ◌↔◌, ◌+◌, ◌<◌, ◌≤◌, ◌∷◌, length, IsTrue, Ok, Err, IfOk, IfErr};
+ghost use Rattle.pcf_values.specs.Most.{most_moves};
+ghost use Rattle.schedule_log.specs.Reading.{judged_line, may_follow};
+ghost use Rattle.schedule_log.specs.Schedules.{end_line, lines};
+
+use crate::fault::ScheduleFault;
+use crate::scan::{found_in, line_length};
+use crate::version::Version;
+use pcf_values::limits::SCHEDULE_MOVES;
+
+/// What a move line stands for, within the limits.
+#[derive(Clone, Copy)]
+pub struct LineRun {
+    pub ticket: u32,
+    pub count: u32,
+}
+
+/// The first line of a text, with its line feed if it has one, and what stands behind it.
+pub fn cut_line(bytes: &[u8]) -> (&[u8], &[u8])
+    requires { 0 < length bytes.now }
+    ensures first { lines bytes.now ≡ result.0.now ∷ lines result.1.now }
+    ensures shorter { length result.1.now < length bytes.now }
+{
+    bytes.split_at(line_length(bytes))
+}
+
+/// Whether the line is the last one.
+pub fn is_end(line: &[u8]) -> bool
+    ensures { IsTrue result ↔ (line.now ≡ end_line) }
+{
+    line == b"end\n".as_slice()
+}
+
+/// What line `n` stands for, behind `moves` moves and a move line with the ticket `last`, or its fault.
+pub fn judge(
+    version: Version,
+    last: Option<u32>,
+    moves: u32,
+    n: u32,
+    line: &[u8],
+) -> Result<LineRun, ScheduleFault>
+    requires { moves ≤ most_moves }
+    ensures run { IfOk result (λ r. judged_line version last moves n line.now ≡ Ok (record { ticket = r.ticket; count = r.count })) }
+    ensures few { IfOk result (λ r. moves + r.count ≤ most_moves) }
+    ensures fault { IfErr result (λ f. judged_line version last moves n line.now ≡ Err f) }
+{
+    let Some(found) = found_in(version, line) else {
+        return Err(ScheduleFault::BadLine(n));
+    };
+    if !follows(version, last, found.ticket) {
+        return Err(ScheduleFault::BadLine(n));
+    }
+    if found.ticket > u32::MAX as u64 {
+        return Err(ScheduleFault::TicketTooWide(n));
+    }
+    if moves as u64 + found.count > SCHEDULE_MOVES as u64 {
+        return Err(ScheduleFault::TooLong(n));
+    }
+    Ok(LineRun {
+        ticket: found.ticket as u32,
+        count: found.count as u32,
+    })
+}
+
+/// Whether the ticket may stand behind the last one.
+fn follows(version: Version, last: Option<u32>, ticket: u64) -> bool
+    ensures { result ≡ may_follow version last ticket }
+{
+    match version {
+        Version::One => true,
+        Version::Two => match last {
+            None => true,
+            Some(other) => ticket != other as u64,
+        },
+    }
+}
