@@ -1,0 +1,84 @@
+-- The command line, as the argument of `clap`'s definition.
+-- There is one level of subcommands. Each has its operands, which have to be there, and its options, none of which has a rule on
+-- another, so that `clap`'s definition says exactly which words are taken and what was found. Help is switched off: the words for it
+-- are unknown words and are refused as such. What is added later stands at the end of its list.
+use Rattle.std.specs.Prelude.{◌≡◌, ℕ, true, false, pos, List, [], ◌∷◌, Some, codes}
+use Rattle.clap.specs.Words.{App, Rule, Shape, Text, app_of, new_rule}
+use Rattle.clap.specs.Simple.{new_shape}
+use Rattle.pcf_values.specs.Most.{most_workers, most_budget, most_demo}
+use Rattle.clap.specs.declared.builder.action.ArgAction.TheVariants.{Set, SetTrue}
+use Rattle.clap.specs.declared.builder.command.Command.{Command}
+use Rattle.clap.specs.declared.builder.command.Command.TheViews.{out-Command}
+use Rattle.clap.specs.declared.builder.value_parser.ValueParser.TheVariants as parser
+
+-- an operand: any text, and it has to be there
+abbrev pub operand : Text → Rule
+operand name = record (new_rule name) { action = Some Set; required = true }
+
+-- an operand that is a number in a range
+abbrev pub number_operand : Rule
+number_operand = record (operand (codes "n")) { parser = Some (parser.Signed (pos 0) (pos most_demo)) }
+
+-- an option `--name N`, with a number in a range, and what it is where it isn't given
+abbrev pub number_option : Text → ℕ → ℕ → Text → Rule
+number_option name least most default = record (new_rule name) {
+  long = Some name;
+  action = Some Set;
+  parser = Some (parser.Signed (pos least) (pos most));
+  defaults = default ∷ [];
+}
+
+-- the number of workers
+abbrev pub workers_option : Rule
+workers_option = number_option (codes "workers") 1 most_workers (codes "1")
+
+-- the most moves
+abbrev pub budget_option : Rule
+budget_option = number_option (codes "budget") 1 most_budget (codes "10000")
+
+-- an option `--name` that is given or not
+abbrev pub flag : Text → Rule
+flag name = record (new_rule name) { long = Some name; action = Some SetTrue }
+
+-- a subcommand with its operands and its options
+abbrev pub command : Text → List Rule → Shape
+command name rules = record (new_shape name) { rules = rules }
+
+-- the subcommands
+abbrev pub run_command : Shape
+run_command = command (codes "run")
+    (operand (codes "file") ∷ workers_option ∷ budget_option ∷ flag (codes "schedule") ∷ flag (codes "tally") ∷ [])
+
+abbrev pub check_command : Shape
+check_command = command (codes "check") (operand (codes "file") ∷ flag (codes "term") ∷ [])
+
+abbrev pub net_command : Shape
+net_command = command (codes "net") (operand (codes "file") ∷ [])
+
+abbrev pub replay_command : Shape
+replay_command = command (codes "replay") (operand (codes "file") ∷ operand (codes "schedule") ∷ [])
+
+abbrev pub demo_command : Shape
+demo_command = command (codes "demo") (number_operand ∷ workers_option ∷ [])
+
+-- the program without its subcommands
+abbrev pub bare_command : App
+bare_command = record {
+  top = record (new_shape (codes "goi")) {
+    disable_help_flag = true;
+    disable_help_subcommand = true;
+    subcommand_required = true;
+  };
+  subs = [];
+}
+
+-- the whole command line
+abbrev pub goi_command : App
+goi_command = record {
+  top = record bare_command.top { is_leaf = false };
+  subs = run_command ∷ check_command ∷ net_command ∷ replay_command ∷ demo_command ∷ [];
+}
+
+-- the command of the code is this subcommand
+abbrev pub IsCommand : Shape → Command → Type 0
+IsCommand shape c = (app_of c ≡ record { top = shape; subs = [] }) × ((out-Command c).has_globals ≡ false)

@@ -1,0 +1,43 @@
+-- What the words of the command line can ask for, and the ranges of its numbers.
+-- A job has the options of its command with their values, given or by default. Its files are named by the bytes of their names.
+use Rattle.std.specs.Prelude.{◌≤◌, ⊤, ℕ, Bool, List}
+use Rattle.pcf_values.specs.Most.{most_workers, most_budget, most_demo}
+use Rattle.goi_words.specs.declared.jobs.Job.{Job}
+use Rattle.goi_words.specs.declared.jobs.Job.TheVariants.{Run, Check, ShowNet, Replay, Demo}
+
+-- a job
+pub data JobTree : Type 0 where
+  -- run the program of a file, with so many workers and at most so many moves; print its schedule and its tally where asked
+  run : List ℕ → ℕ → ℕ → Bool → Bool → JobTree
+  -- print the type of the program of a file, and where asked the program itself
+  check : List ℕ → Bool → JobTree
+  -- print the listing of the net of the program of a file
+  show_net : List ℕ → JobTree
+  -- run the schedule of the second file on the net of the program of the first
+  replay : List ℕ → List ℕ → JobTree
+  -- run the program that is generated for a number, with so many workers
+  demo : ℕ → ℕ → JobTree
+
+-- the job of the code
+abbrev pub job_of : Job → JobTree
+job_of (Run file workers budget schedule tally) = run file workers budget schedule tally
+job_of (Check file term) = check file term
+job_of (ShowNet file) = show_net file
+job_of (Replay file schedule) = replay file schedule
+job_of (Demo n workers) = demo n workers
+
+-- a number of workers, a budget and the number of a generated program that the command line can ask for
+abbrev pub IsWorkers : ℕ → Type 0
+IsWorkers n = (1 ≤ n) × (n ≤ most_workers)
+
+abbrev pub IsBudget : ℕ → Type 0
+IsBudget n = (1 ≤ n) × (n ≤ most_budget)
+
+abbrev pub IsDemo : ℕ → Type 0
+IsDemo n = n ≤ most_demo
+
+-- the numbers of a job are in their ranges
+abbrev pub IsWithinLimits : JobTree → Type 0
+IsWithinLimits (run file workers budget schedule tally) = IsWorkers workers × IsBudget budget
+IsWithinLimits (demo n workers) = IsDemo n × IsWorkers workers
+IsWithinLimits _ = ⊤

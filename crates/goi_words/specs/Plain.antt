@@ -1,0 +1,132 @@
+-- Plain words, and what they ask for: the table of the command line.
+-- Plain words are the program's name, the command, its operands in order, and then options in any order, each at most once, with
+-- its value as the next word. Numbers are decimal digits without leading zeros and in range; names of files are neither empty nor
+-- begin with `-`. `clap` takes other words too; what they mean is its own to say, and isn't told here.
+use Rattle.std.specs.Prelude.{◌≡◌, ◌==◌, ⊤, ℕ, Bool, true, false, List, [], ◌∷◌, ◌++◌, codes}
+use Rattle.std.specs.List.{AllByRecursion, flat_map, list_any}
+use Rattle.std.specs.Fmt.{decimal}
+use Rattle.std.specs.Str.{bytes_eq}
+use Rattle.clap.specs.Words.{Text}
+use Rattle.goi_words.specs.Jobs.{IsBudget, IsDemo, IsWorkers, JobTree, run, check, show_net, replay, demo}
+
+-- a command with its operands
+pub data Request : Type 0 where
+  ask_run : Text → Request
+  ask_check : Text → Request
+  ask_net : Text → Request
+  ask_replay : Text → Text → Request
+  ask_demo : ℕ → Request
+
+-- an option as it is given
+pub data Setting : Type 0 where
+  workers : ℕ → Setting
+  budget : ℕ → Setting
+  schedule : Setting
+  tally : Setting
+  term : Setting
+
+-- ---- the words
+
+-- the words of a command and its operands
+abbrev pub request_words : Request → List Text
+request_words (ask_run file) = codes "run" ∷ file ∷ []
+request_words (ask_check file) = codes "check" ∷ file ∷ []
+request_words (ask_net file) = codes "net" ∷ file ∷ []
+request_words (ask_replay file moves) = codes "replay" ∷ file ∷ moves ∷ []
+request_words (ask_demo n) = codes "demo" ∷ decimal n ∷ []
+
+-- the name of an option
+abbrev pub option_name : Setting → Text
+option_name (workers n) = codes "workers"
+option_name (budget n) = codes "budget"
+option_name schedule = codes "schedule"
+option_name tally = codes "tally"
+option_name term = codes "term"
+
+-- the word behind its name, where it has a value
+abbrev pub option_value : Setting → List Text
+option_value (workers n) = decimal n ∷ []
+option_value (budget n) = decimal n ∷ []
+option_value _ = []
+
+-- the words of an option
+abbrev pub setting_words : Setting → List Text
+setting_words s = (codes "--" ++ option_name s) ∷ option_value s
+
+-- the words of a command with its operands and these options
+abbrev pub plain_words : Text → Request → List Setting → List Text
+plain_words program request settings = program ∷ request_words request ++ flat_map setting_words settings
+
+-- ---- which are plain
+
+-- the name of a file is not empty and does not begin with `-`
+abbrev pub IsFileName : Text → Type 0
+IsFileName [] = ⊥
+IsFileName (c ∷ cs) = (c == 45) ≡ false
+
+-- the operands are names of files, or a number in range
+abbrev pub HasPlainOperands : Request → Type 0
+HasPlainOperands (ask_run file) = IsFileName file
+HasPlainOperands (ask_check file) = IsFileName file
+HasPlainOperands (ask_net file) = IsFileName file
+HasPlainOperands (ask_replay file moves) = IsFileName file × IsFileName moves
+HasPlainOperands (ask_demo n) = IsDemo n
+
+-- the names of a command's options
+abbrev pub options_of : Request → List Text
+options_of (ask_run file) = codes "workers" ∷ codes "budget" ∷ codes "schedule" ∷ codes "tally" ∷ []
+options_of (ask_check file) = codes "term" ∷ []
+options_of (ask_demo n) = codes "workers" ∷ []
+options_of _ = []
+
+-- the command has the option
+abbrev pub has_option : Request → Setting → Bool
+has_option request s = list_any (λ name. bytes_eq name (option_name s)) (options_of request)
+
+-- the value of an option is in its range
+abbrev pub IsInRange : Setting → Type 0
+IsInRange (workers n) = IsWorkers n
+IsInRange (budget n) = IsBudget n
+IsInRange _ = ⊤
+
+-- both are uses of one option
+abbrev pub is_same_option : Setting → Setting → Bool
+is_same_option s t = bytes_eq (option_name s) (option_name t)
+
+-- each option is given at most once
+abbrev pub AreDistinct : List Setting → Type 0
+AreDistinct [] = ⊤
+AreDistinct (s ∷ settings) = AllByRecursion (λ t. is_same_option s t ≡ false) settings × AreDistinct settings
+
+-- the words of this command and these options are plain
+pub record IsPlain (request : Request) (settings : List Setting) : Type 0 where
+  pub operands : HasPlainOperands request
+  pub options : AllByRecursion (λ s. has_option request s ≡ true) settings
+  pub ranges : AllByRecursion IsInRange settings
+  pub distinct : AreDistinct settings
+
+-- ---- what they ask for
+
+-- the number of workers is the one that is given, and else 1
+abbrev pub workers_in : List Setting → ℕ
+workers_in [] = 1
+workers_in (workers n ∷ settings) = n
+workers_in (s ∷ settings) = workers_in settings
+
+-- the budget is the one that is given, and else 10000
+abbrev pub budget_in : List Setting → ℕ
+budget_in [] = 10000
+budget_in (budget n ∷ settings) = n
+budget_in (s ∷ settings) = budget_in settings
+
+-- an option is given
+abbrev pub is_given : Setting → List Setting → Bool
+is_given option settings = list_any (λ s. is_same_option s option) settings
+
+-- the job that the words ask for
+abbrev pub meant : Request → List Setting → JobTree
+meant (ask_run file) settings = run file (workers_in settings) (budget_in settings) (is_given schedule settings) (is_given tally settings)
+meant (ask_check file) settings = check file (is_given term settings)
+meant (ask_net file) settings = show_net file
+meant (ask_replay file moves) settings = replay file moves
+meant (ask_demo n) settings = demo n (workers_in settings)

@@ -1,0 +1,24 @@
+//! What plain words ask for, and that words are refused by `clap` alone.
+
+ghost use Rattle.goi_words.specs.Laws.{HelpIsRefused, NoWordsAreRefused, PlainWordsAreTaken, TakenWordsHaveAJob};
+
+/// Plain words are never refused, and ask for what the table says: a command, its operands in order, and then its options in any
+/// order, each at most once.
+pub fn law_plain_words()
+    ensures { PlainWordsAreTaken }
+{}
+
+/// No words at all are read as the program's name alone, and are refused.
+pub fn law_no_words()
+    ensures { NoWordsAreRefused }
+{}
+
+/// A request for help in a command's place is refused like other words.
+pub fn law_help()
+    ensures { HelpIsRefused }
+{}
+
+/// Words that `clap`'s definition takes ask for a job, and its numbers are in range.
+pub fn law_taken_words()
+    ensures { TakenWordsHaveAJob }
+{}

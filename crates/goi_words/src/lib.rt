@@ -1,0 +1,16 @@
+//! The words of the command line.
+//!
+//! `job_of` reads the words with `clap` and answers the `Job` that they ask for. Which job it is, is the definition `job` of
+//! `specs/Asked.antt`: what `clap`'s own definition makes of the words at the command of `specs/Commands.antt`. Plain words mean what
+//! the table of `specs/Plain.antt` says, and nothing but `clap` refuses words (`specs/Laws.antt`). Contracts see a `Job` as the
+//! `JobTree` of `specs/Jobs.antt`. Doing the job is left to the crates above.
+#![tactic(auto)]
+
+mod commands;
+mod jobs;
+mod laws;
+mod reading;
+
+pub use jobs::{Job, WordFault};
+pub use laws::{law_help, law_no_words, law_plain_words, law_taken_words};
+pub use reading::job_of;

@@ -1,0 +1,134 @@
+//! The job that a list of words asks for, read off from what `clap` finds in them.
+
+ghost use Rattle.std.specs.Prelude.{◌≡◌, ◌≢◌, IfOk, IsErrOf, None, Some, false, [], map, option_map, string_bytes};
+ghost use Rattle.clap.specs.Words.{fault_of, found_of, rows_of, subcommand_of, subcommand_rows_of};
+ghost use Rattle.goi_words.specs.Commands.{goi_command};
+ghost use Rattle.goi_words.specs.Asked.{check_job, demo_job, is_set, is_taken, job, job_on, net_job, number_of, replay_job, run_job, text_of};
+ghost use Rattle.goi_words.specs.Jobs.{IsWithinLimits, job_of};
+ghost use Rattle.goi_words.specs.declared.jobs.WordFault.TheVariants.{Refused};
+
+use crate::commands::goi_command;
+use crate::{Job, WordFault};
+use clap::ArgMatches;
+use pcf_values::Ident;
+use std::alloc::Global;
+
+/// The job that the words ask for. The first word is the program's own name, whatever it is; no words at all are as the name alone.
+/// The numbers of a job are in their ranges. `Refused` comes only where `clap`'s definition refuses the words.
+pub fn job_of(alloc: Global, words: &[String]) -> Result<Job, WordFault>
+    ensures ok { IfOk result (λ done. job (map string_bytes words.now) ≡ Some (job_of done)) }
+    ensures within { IfOk result (λ done. IsWithinLimits (job_of done)) }
+    ensures none { IsErrOf result Refused → job (map string_bytes words.now) ≡ None }
+    ensures refused { IsErrOf result Refused → is_taken (map string_bytes words.now) ≡ false }
+{
+    let matches = parse(alloc, words)?;
+    match matches.subcommand() {
+        Some((name, found)) => job_on(alloc, name, found),
+        None => Err(WordFault::Refused),
+    }
+}
+
+/// What `clap` finds in the words.
+fn parse<'a>(alloc: Global, words: &'a [String]) -> Result<ArgMatches<'a>, WordFault>
+    ensures taken { IfOk result (λ m. fault_of goi_command (map string_bytes words.now) ≡ []) }
+    ensures found { IfOk result (λ m. subcommand_rows_of m ≡ subcommand_of goi_command (map string_bytes words.now)) }
+    ensures refused { IsErrOf result Refused → fault_of goi_command (map string_bytes words.now) ≢ [] }
+{
+    let command = goi_command(alloc)?;
+    let matches = command.try_get_matches_from(words)?;
+    Ok(matches)
+}
+
+/// The job of a subcommand, from what was found for its arguments.
+fn job_on(alloc: Global, name: &str, found: &ArgMatches<'_>) -> Result<Job, WordFault>
+    ensures ok { IfOk result (λ done. job_on name.now (rows_of (found_of found.now)) ≡ Some (job_of done)) }
+    ensures refused { IsErrOf result Refused → job_on name.now (rows_of (found_of found.now)) ≡ None }
+{
+    match name {
+        "run" => run_job(alloc, found),
+        "check" => check_job(alloc, found),
+        "net" => net_job(alloc, found),
+        "replay" => replay_job(alloc, found),
+        "demo" => demo_job(alloc, found),
+        _ => Err(WordFault::Refused),
+    }
+}
+
+fn run_job(alloc: Global, found: &ArgMatches<'_>) -> Result<Job, WordFault>
+    ensures ok { IfOk result (λ done. run_job (rows_of (found_of found.now)) ≡ Some (job_of done)) }
+    ensures refused { IsErrOf result Refused → run_job (rows_of (found_of found.now)) ≡ None }
+{
+    let file = text_of(found, "file").ok_or(WordFault::Refused)?;
+    let workers = number_of(found, "workers").ok_or(WordFault::Refused)?;
+    let budget = number_of(found, "budget").ok_or(WordFault::Refused)?;
+    Ok(Job::Run {
+        file: Ident::from_text(alloc, file)?,
+        workers,
+        budget,
+        schedule: is_set(found, "schedule"),
+        tally: is_set(found, "tally"),
+    })
+}
+
+fn check_job(alloc: Global, found: &ArgMatches<'_>) -> Result<Job, WordFault>
+    ensures ok { IfOk result (λ done. check_job (rows_of (found_of found.now)) ≡ Some (job_of done)) }
+    ensures refused { IsErrOf result Refused → check_job (rows_of (found_of found.now)) ≡ None }
+{
+    let file = text_of(found, "file").ok_or(WordFault::Refused)?;
+    Ok(Job::Check {
+        file: Ident::from_text(alloc, file)?,
+        term: is_set(found, "term"),
+    })
+}
+
+fn net_job(alloc: Global, found: &ArgMatches<'_>) -> Result<Job, WordFault>
+    ensures ok { IfOk result (λ done. net_job (rows_of (found_of found.now)) ≡ Some (job_of done)) }
+    ensures refused { IsErrOf result Refused → net_job (rows_of (found_of found.now)) ≡ None }
+{
+    let file = text_of(found, "file").ok_or(WordFault::Refused)?;
+    Ok(Job::ShowNet {
+        file: Ident::from_text(alloc, file)?,
+    })
+}
+
+fn replay_job(alloc: Global, found: &ArgMatches<'_>) -> Result<Job, WordFault>
+    ensures ok { IfOk result (λ done. replay_job (rows_of (found_of found.now)) ≡ Some (job_of done)) }
+    ensures refused { IsErrOf result Refused → replay_job (rows_of (found_of found.now)) ≡ None }
+{
+    let file = text_of(found, "file").ok_or(WordFault::Refused)?;
+    let schedule = text_of(found, "schedule").ok_or(WordFault::Refused)?;
+    Ok(Job::Replay {
+        file: Ident::from_text(alloc, file)?,
+        schedule: Ident::from_text(alloc, schedule)?,
+    })
+}
+
+fn demo_job(_alloc: Global, found: &ArgMatches<'_>) -> Result<Job, WordFault>
+    ensures ok { IfOk result (λ done. demo_job (rows_of (found_of found.now)) ≡ Some (job_of done)) }
+    ensures refused { IsErrOf result Refused → demo_job (rows_of (found_of found.now)) ≡ None }
+{
+    let n = number_of(found, "n").ok_or(WordFault::Refused)?;
+    let workers = number_of(found, "workers").ok_or(WordFault::Refused)?;
+    Ok(Job::Demo { n, workers })
+}
+
+/// The text that was found for an argument.
+fn text_of<'a>(found: &ArgMatches<'a>, name: &str) -> Option<&'a str>
+    ensures { option_map (λ s. s.now) result ≡ text_of name.now (rows_of (found_of found.now)) }
+{
+    found.get_str(name)
+}
+
+/// The number that was found for an argument.
+fn number_of(found: &ArgMatches<'_>, name: &str) -> Option<u32>
+    ensures { result ≡ number_of name.now (rows_of (found_of found.now)) }
+{
+    found.get_one::<u32>(name)
+}
+
+/// Whether a flag is set.
+fn is_set(found: &ArgMatches<'_>, name: &str) -> bool
+    ensures { result ≡ is_set name.now (rows_of (found_of found.now)) }
+{
+    found.get_one::<bool>(name).unwrap_or(false)
+}

@@ -1,0 +1,52 @@
+//! What words are answered, told as text.
+
+use goi_words::{Job, WordFault, job_of};
+use std::alloc::{AllocError, Global};
+
+/// A job as text, with the names of files in brackets.
+fn told(alloc: Global, job: &Job) -> Result<String, AllocError> {
+    match job {
+        Job::Run {
+            file,
+            workers,
+            budget,
+            schedule,
+            tally,
+        } => {
+            let file = file.as_str();
+            format!(in alloc; "run [{file}] {workers} {budget} {schedule} {tally}")
+        }
+        Job::Check { file, term } => {
+            let file = file.as_str();
+            format!(in alloc; "check [{file}] {term}")
+        }
+        Job::ShowNet { file } => {
+            let file = file.as_str();
+            format!(in alloc; "net [{file}]")
+        }
+        Job::Replay { file, schedule } => {
+            let file = file.as_str();
+            let schedule = schedule.as_str();
+            format!(in alloc; "replay [{file}] [{schedule}]")
+        }
+        Job::Demo { n, workers } => format!(in alloc; "demo {n} {workers}"),
+    }
+}
+
+/// What these words ask for, as text.
+pub(crate) fn answer_to(alloc: Global, words: &[String]) -> Result<String, AllocError> {
+    match job_of(alloc, words) {
+        Ok(job) => told(alloc, &job),
+        Err(WordFault::Refused) => String::from_str(alloc, "refused"),
+        Err(WordFault::NoMemory) => String::from_str(alloc, "no memory"),
+    }
+}
+
+/// What the words between the commas ask for, as text.
+pub(crate) fn answer(alloc: Global, row: &str) -> Result<String, AllocError> {
+    let mut words = Vec::new(alloc);
+    for word in row.split(',') {
+        words.push(String::from_str(alloc, word)?)?;
+    }
+    answer_to(alloc, words.as_slice())
+}

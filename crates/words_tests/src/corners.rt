@@ -1,0 +1,166 @@
+//! Lists of words, each with what it asks for: the words between commas, the program's name first.
+
+use crate::answers::{answer, answer_to};
+use std::test::Fail;
+
+#[test]
+fn plain_words(rt: HostRuntime) -> Result<(), Fail> {
+    let rows = [
+        ("goi,run,p", "run [p] 1 10000 false false"),
+        (
+            "goi,run,p,--workers,64,--budget,10000000",
+            "run [p] 64 10000000 false false",
+        ),
+        (
+            "goi,run,p,--tally,--budget,5,--schedule,--workers,2",
+            "run [p] 2 5 true true",
+        ),
+        ("goi,run,p,--budget,1,--tally", "run [p] 1 1 false true"),
+        ("goi,check,p", "check [p] false"),
+        ("goi,check,p,--term", "check [p] true"),
+        ("goi,net,p", "net [p]"),
+        ("goi,replay,p,q", "replay [p] [q]"),
+        ("goi,demo,0", "demo 0 1"),
+        ("goi,demo,12,--workers,4", "demo 12 4"),
+        ("-x,run,run", "run [run] 1 10000 false false"),
+    ];
+    for (row, wanted) in rows {
+        let got = answer(rt.alloc(), row)?;
+        assert!(rt; got.as_str() == wanted, "{row}: {got}");
+    }
+    Ok(())
+}
+
+#[test]
+fn commands_and_operands(rt: HostRuntime) -> Result<(), Fail> {
+    let rows = [
+        // no command, an unknown one, another spelling of one
+        ("goi", "refused"),
+        ("goi,go,p", "refused"),
+        ("goi,Run,p", "refused"),
+        ("goi,ru,p", "refused"),
+        ("goi,", "refused"),
+        // too few words or too many, and an option of another command
+        ("goi,run", "refused"),
+        ("goi,run,p,q", "refused"),
+        ("goi,replay,p", "refused"),
+        ("goi,replay,p,q,--budget,5", "refused"),
+        ("goi,net,p,--tally", "refused"),
+        ("goi,check,p,--budget,5", "refused"),
+        ("goi,demo,1,--budget,5", "refused"),
+        // a request for help or for the version
+        ("goi,help", "refused"),
+        ("goi,--help", "refused"),
+        ("goi,-h", "refused"),
+        ("goi,run,--help", "refused"),
+        ("goi,run,p,-h", "refused"),
+        ("goi,help,run", "refused"),
+        ("goi,--version", "refused"),
+        ("goi,run,help", "run [help] 1 10000 false false"),
+    ];
+    for (row, wanted) in rows {
+        let got = answer(rt.alloc(), row)?;
+        assert!(rt; got.as_str() == wanted, "{row}: {got}");
+    }
+    Ok(())
+}
+
+#[test]
+fn numbers(rt: HostRuntime) -> Result<(), Fail> {
+    let rows = [
+        // out of range
+        ("goi,run,p,--budget,0", "refused"),
+        ("goi,run,p,--budget,10000001", "refused"),
+        ("goi,run,p,--workers,0", "refused"),
+        ("goi,run,p,--workers,65", "refused"),
+        ("goi,demo,13", "refused"),
+        ("goi,demo,1,--workers,65", "refused"),
+        ("goi,demo,99999999999999999999", "refused"),
+        // zeros in front, a plus, and a minus, which begins an option
+        ("goi,run,p,--budget,007", "run [p] 1 7 false false"),
+        ("goi,run,p,--budget,+5", "run [p] 1 5 false false"),
+        ("goi,run,p,--budget,++5", "refused"),
+        ("goi,run,p,--budget,-5", "refused"),
+        ("goi,demo,-0", "refused"),
+        ("goi,demo,--,-0", "demo 0 1"),
+        // no decimal number
+        ("goi,run,p,--budget, 5", "refused"),
+        ("goi,run,p,--budget,5 ", "refused"),
+        ("goi,run,p,--budget,5_0", "refused"),
+        ("goi,run,p,--budget,0x5", "refused"),
+        ("goi,run,p,--budget,5.0", "refused"),
+        ("goi,run,p,--budget,", "refused"),
+        ("goi,run,p,--budget", "refused"),
+        ("goi,demo,", "refused"),
+    ];
+    for (row, wanted) in rows {
+        let got = answer(rt.alloc(), row)?;
+        assert!(rt; got.as_str() == wanted, "{row}: {got}");
+    }
+    Ok(())
+}
+
+#[test]
+fn options(rt: HostRuntime) -> Result<(), Fail> {
+    let rows = [
+        // a value in the option's own word
+        ("goi,run,p,--budget=5", "run [p] 1 5 false false"),
+        ("goi,run,p,--budget=-5", "refused"),
+        ("goi,run,p,--budget=", "refused"),
+        ("goi,run,p,--tally=true", "refused"),
+        // options before operands or between them
+        ("goi,demo,--workers=2,3", "demo 3 2"),
+        ("goi,run,--budget,5,p", "run [p] 1 5 false false"),
+        ("goi,run,--tally,p,--schedule", "run [p] 1 10000 true true"),
+        ("goi,--tally,run,p", "refused"),
+        // an option twice, and one as another's value
+        ("goi,run,p,--budget,5,--budget,5", "refused"),
+        ("goi,run,p,--tally,--tally", "refused"),
+        ("goi,run,p,--budget,--tally", "refused"),
+        // other spellings
+        ("goi,run,p,--budg,5", "refused"),
+        ("goi,run,p,--BUDGET,5", "refused"),
+        ("goi,run,p,-b,5", "refused"),
+    ];
+    for (row, wanted) in rows {
+        let got = answer(rt.alloc(), row)?;
+        assert!(rt; got.as_str() == wanted, "{row}: {got}");
+    }
+    Ok(())
+}
+
+#[test]
+fn names_of_files(rt: HostRuntime) -> Result<(), Fail> {
+    let rows = [
+        // words that begin with a hyphen
+        ("goi,run,-", "run [-] 1 10000 false false"),
+        ("goi,run,-p", "refused"),
+        ("goi,run,--,-p", "run [-p] 1 10000 false false"),
+        ("goi,run,--,--tally", "run [--tally] 1 10000 false false"),
+        ("goi,run,p,--", "run [p] 1 10000 false false"),
+        ("goi,run,p,--,--tally", "refused"),
+        ("goi,run,--budget,--,p", "refused"),
+        ("goi,replay,--,-p,-q", "replay [-p] [-q]"),
+        ("goi,--,run,p", "refused"),
+        ("goi,---", "refused"),
+        ("goi,run,p,---", "refused"),
+        ("goi,run,p,--=5", "refused"),
+        // the empty name, blanks, and characters of several bytes
+        ("goi,run,", "run [] 1 10000 false false"),
+        ("goi,run,a b", "run [a b] 1 10000 false false"),
+        ("goi,check,λ.pcf", "check [λ.pcf] false"),
+    ];
+    for (row, wanted) in rows {
+        let got = answer(rt.alloc(), row)?;
+        assert!(rt; got.as_str() == wanted, "{row}: {got}");
+    }
+    Ok(())
+}
+
+#[test]
+fn no_words(rt: HostRuntime) -> Result<(), Fail> {
+    let words: [String; 0] = [];
+    let got = answer_to(rt.alloc(), words.as_slice())?;
+    assert!(rt; got.as_str() == "refused", "{got}");
+    Ok(())
+}

@@ -1,0 +1,11 @@
+//! Tests of `goi_words`: what `clap` makes of words at the corners, many words, and long ones.
+//!
+//! Tests stand in a crate of their own, so that the crate they are of is not proved a second time with them.
+#![tactic(auto)]
+
+#[cfg(test)]
+mod answers;
+#[cfg(test)]
+mod corners;
+#[cfg(test)]
+mod sizes;
