@@ -69,6 +69,13 @@ fn keep(place: &mut Kept, side: Side, v: Val) -> Arrived
     }
 }
 
+// Takes an entry out.
+fn close(forks: &mut Forks, boxes: &BoxStack)
+    ensures { PutsIn forks.old forks.new boxes.now None }
+{
+    forks.remove(boxes);
+}
+
 // Brings an answer to the fork of one node.
 fn land(forks: &mut Forks, boxes: &BoxStack, side: Side, v: Val) -> Arrived
     requires { IsSome (tree.get box_cmp forks.old boxes.now) }
@@ -77,7 +84,7 @@ fn land(forks: &mut Forks, boxes: &BoxStack, side: Side, v: Val) -> Arrived
 {
     let arrived = keep_first(forks, boxes, side, v);
     if let Arrived::Both(_) = arrived {
-        forks.remove(boxes);
+        close(forks, boxes);
     }
     arrived
 }

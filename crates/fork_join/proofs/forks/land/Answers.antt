@@ -4,5 +4,5 @@ use Rattle.fork_join.proofs.forks.land.Goals as goal
 
 pub returns-in-Both-clause-rest : goal.returns-in-Both-clause-rest
 returns-in-Both-clause-rest c =
-    taken_out c.args.forks.now c.keep_first-arrived.new.forks c.remove.new.self c.args.boxes.now _ c.args.side c.args.v c.in-Both.field-0
-    (sym c.in-Both.ensures.arrived) c.keep_first-arrived.ensures.rest c.remove.ensures.updates.0
+    taken_out c.args.forks.now c.keep_first-arrived.new.forks c.close.new.forks c.args.boxes.now _ c.args.side c.args.v c.in-Both.field-0
+    (sym c.in-Both.ensures.arrived) c.keep_first-arrived.ensures.rest c.close.ensures
