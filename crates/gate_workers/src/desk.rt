@@ -5,13 +5,20 @@ ghost use Rattle.gate_workers.specs.Served.{HandedIn, Asked, Halted};
 use crate::{Bench, Turn};
 use std::alloc::AllocError;
 
+// What a worker brings: nothing, what it made of its piece, or want of memory.
+pub(crate) type Brought<M> = Option<Result<M, AllocError>>;
+
 // Hands in what the worker made, if it made something.
-fn hand_in<B: Bench>(bench: &mut B, worker: u32, made: Option<B::Made>) -> Result<(), AllocError>
-    ensures ok { IfOk result (λ _. HandedIn B.takes_in bench.old worker made bench.new) }
-    ensures err { OnErr result (bench.new ≡ bench.old) }
+fn hand_in<B: Bench>(
+    bench: &mut B,
+    worker: u32,
+    brought: Brought<B::Made>,
+) -> Result<(), AllocError>
+    ensures { IfOk result (λ _. HandedIn B.takes_in bench.old worker brought bench.new) }
 {
-    match made {
-        Some(made) => bench.hand_in(worker, made),
+    match brought {
+        Some(Ok(made)) => bench.hand_in(worker, made),
+        Some(Err(e)) => Err(e),
         None => Ok(()),
     }
 }
@@ -20,11 +27,11 @@ fn hand_in<B: Bench>(bench: &mut B, worker: u32, made: Option<B::Made>) -> Resul
 fn ask<B: Bench>(
     bench: &mut B,
     worker: u32,
-    made: Option<B::Made>,
+    brought: Brought<B::Made>,
 ) -> Result<Turn<B::Piece>, AllocError>
-    ensures { IfOk result (λ turn. Asked B.takes_in B.gives bench.old worker made turn bench.new) }
+    ensures { IfOk result (λ turn. Asked B.takes_in B.gives bench.old worker brought turn bench.new) }
 {
-    hand_in(bench, worker, made)?;
+    hand_in(bench, worker, brought)?;
     bench.turn(worker)
 }
 
@@ -32,12 +39,12 @@ fn ask<B: Bench>(
 pub(crate) fn serve<B: Bench>(
     bench: &mut B,
     worker: u32,
-    made: Option<B::Made>,
+    brought: Brought<B::Made>,
 ) -> Option<Turn<B::Piece>>
-    ensures asked { IfSome result (λ turn. Asked B.takes_in B.gives bench.old worker made turn bench.new) }
+    ensures asked { IfSome result (λ turn. Asked B.takes_in B.gives bench.old worker brought turn bench.new) }
     ensures stopped { IfNone result (Halted B.halts bench.new) }
 {
-    match ask(bench, worker, made) {
+    match ask(bench, worker, brought) {
         Ok(turn) => Some(turn),
         Err(_) => {
             bench.stop();

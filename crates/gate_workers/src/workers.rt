@@ -2,7 +2,7 @@
 ghost use Rattle.std.specs.Prelude.{◌≡◌, ◌<◌, ◌≤◌, ◌+◌, ◌-◌, ◌^◌, IfOk};
 ghost use Rattle.std.specs.Prelude.{min};
 
-use crate::desk::{Desk, serve};
+use crate::desk::{Brought, Desk, serve};
 use crate::{Bench, Gate, Turn};
 use std::alloc::{AllocError, Global};
 use std::sync::{Condvar, Mutex, MutexGuard, Wait};
@@ -76,18 +76,12 @@ fn work_as<R: Wait, B: Bench, G: Gate>(
     worker: u32,
 ) {
     let mut turn = 0;
-    let mut made: Option<B::Made> = None;
+    let mut brought: Brought<B::Made> = None;
     for _ in rt.forever() {
-        let Some(piece) = next_piece(rt, hall, worker, made) else {
+        let Some(piece) = next_piece(rt, hall, worker, brought) else {
             break;
         };
-        match make::<B, G>(alloc, tool, gate, worker, turn, piece) {
-            Ok(done) => made = Some(done),
-            Err(_) => {
-                stop(rt, hall);
-                break;
-            }
-        }
+        brought = Some(make::<B, G>(alloc, tool, gate, worker, turn, piece));
         turn = next_turn(turn);
     }
 }
@@ -115,18 +109,18 @@ fn next_turn(turn: u64) -> u64
     turn.saturating_add(1)
 }
 
-// Hands in what was made, and waits until there is a piece; or there will be none any more.
+// Hands in what is brought, and waits until there is a piece; or there will be none any more.
 fn next_piece<R: Wait, B: Bench>(
     rt: &R,
     hall: &Hall<B>,
     worker: u32,
-    made: Option<B::Made>,
+    brought: Brought<B::Made>,
 ) -> Option<B::Piece> {
-    let mut made = made;
+    let mut brought = brought;
     for _ in rt.forever() {
         let mut desk = hall.desk.lock(rt);
-        let booked = made.is_some();
-        let turn = serve(&mut desk.bench, worker, made);
+        let booked = brought.is_some();
+        let turn = serve(&mut desk.bench, worker, brought);
         let calls = if booked { desk.call() } else { 0 };
         match turn {
             Some(Turn::Piece(piece)) => {
@@ -137,7 +131,7 @@ fn next_piece<R: Wait, B: Bench>(
             Some(Turn::Pause) => {
                 wake(hall, calls);
                 sleep(rt, hall, desk);
-                made = None;
+                brought = None;
             }
             Some(Turn::Over) | None => {
                 drop(desk);
@@ -161,12 +155,4 @@ fn sleep<R: Wait, B: Bench>(rt: &R, hall: &Hall<B>, mut desk: MutexGuard<'_, Des
     desk.lie_down();
     let mut desk = hall.booked.wait(rt, desk);
     desk.get_up();
-}
-
-// Stops the bench for want of memory, and wakes all.
-fn stop<R: Wait, B: Bench>(rt: &R, hall: &Hall<B>) {
-    let mut desk = hall.desk.lock(rt);
-    desk.bench.stop();
-    drop(desk);
-    hall.booked.notify_all();
 }
