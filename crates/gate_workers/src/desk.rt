@@ -1,6 +1,6 @@
 // What stands behind the lock: the bench, and who sleeps beside it.
 ghost use Rattle.std.specs.Prelude.{◌≡◌, ◌+◌, ◌-◌, ◌≤◌, IfSome, IfNone, IfOk, OnErr};
-ghost use Rattle.gate_workers.specs.Served.{HandedIn, Asked, Halted};
+ghost use Rattle.gate_workers.specs.Served.{HandedIn, Asked, Reached, Halted};
 
 use crate::{Bench, Turn};
 use std::alloc::AllocError;
@@ -14,7 +14,8 @@ fn hand_in<B: Bench>(
     worker: u32,
     brought: Brought<B::Made>,
 ) -> Result<(), AllocError>
-    ensures { IfOk result (λ _. HandedIn B.takes_in bench.old worker brought bench.new) }
+    ensures ok { IfOk result (λ _. HandedIn B.takes_in bench.old worker brought bench.new) }
+    ensures err { OnErr result (bench.new ≡ bench.old) }
 {
     match brought {
         Some(Ok(made)) => bench.hand_in(worker, made),
@@ -29,7 +30,8 @@ fn ask<B: Bench>(
     worker: u32,
     brought: Brought<B::Made>,
 ) -> Result<Turn<B::Piece>, AllocError>
-    ensures { IfOk result (λ turn. Asked B.takes_in B.gives bench.old worker brought turn bench.new) }
+    ensures ok { IfOk result (λ turn. Asked B.takes_in B.gives bench.old worker brought turn bench.new) }
+    ensures err { OnErr result (Reached B.takes_in bench.old worker brought bench.new) }
 {
     hand_in(bench, worker, brought)?;
     bench.turn(worker)
@@ -42,7 +44,7 @@ pub(crate) fn serve<B: Bench>(
     brought: Brought<B::Made>,
 ) -> Option<Turn<B::Piece>>
     ensures asked { IfSome result (λ turn. Asked B.takes_in B.gives bench.old worker brought turn bench.new) }
-    ensures stopped { IfNone result (Halted B.halts bench.new) }
+    ensures stopped { IfNone result (Halted B.takes_in B.halts bench.old worker brought bench.new) }
 {
     match ask(bench, worker, brought) {
         Ok(turn) => Some(turn),
