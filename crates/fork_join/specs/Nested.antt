@@ -2,6 +2,7 @@
 -- A map of maps is searched with a borrowed box stack, so that an answer copies none. A node whose entries are all closed keeps its
 -- empty map; the finite map doesn't show it.
 use Rattle.std.specs.Prelude.{◌≡◌, ℕ, List, [], ◌∷◌, ◌++◌, Option, Some, None}
+use Rattle.std.proofs.Common.{cond}
 use Rattle.std.specs.FinMap.{FinMap, from_entries}
 use Rattle.std.specs.Ordering.{nat_cmp}
 use Rattle.std.specs.BTreeMap as tree
@@ -35,6 +36,13 @@ arrival_at (Some Nothing) = First
 arrival_at (Some (Left w)) = Both w
 arrival_at (Some (Right w)) = Both w
 
+-- what is kept once the first answer came, and a second one wasn't taken yet
+abbrev pub kept_first : Option Kept → Side → Val → Option Kept
+kept_first None s v = None
+kept_first (Some Nothing) s v = Some (kept_at s v)
+kept_first (Some (Left w)) s v = Some (Left w)
+kept_first (Some (Right w)) s v = Some (Right w)
+
 -- what is kept once an answer came
 abbrev pub kept_after : Option Kept → Side → Val → Option Kept
 kept_after None s v = None
@@ -46,12 +54,21 @@ kept_after (Some (Right w)) s v = None
 abbrev pub Forks : Type 0
 Forks = BTreeMap Boxes Kept
 
+-- the open forks of all nodes
+abbrev pub Nodes : Type 0
+Nodes = BTreeMap ℕ Forks
+
+-- the forks of one node have this at one box stack afterwards, and all else stays
+abbrev pub PutsIn : Forks → Forks → Boxes → Option Kept → Type 0
+PutsIn old new t kept = (u : Boxes) → tree.get box_cmp new u ≡ cond (tree.is_at (box_cmp t) u) kept (tree.get box_cmp old u)
+
+-- what is kept at a box stack, by the forks of a node that may have none
 abbrev pub in_forks : Option Forks → Boxes → Option Kept
 in_forks None t = None
 in_forks (Some forks) t = tree.get box_cmp forks t
 
 -- what the map of maps has at a node and a box stack
-abbrev pub entry_at : BTreeMap ℕ Forks → ℕ → Boxes → Option Kept
+abbrev pub entry_at : Nodes → ℕ → Boxes → Option Kept
 entry_at nodes n t = in_forks (tree.get nat_cmp nodes n) t
 
 -- the entries of one node, under their keys
@@ -65,15 +82,15 @@ flat [] = []
 flat (e ∷ es) = tagged e.0 e.1.entries ++ flat es
 
 -- the one finite map
-abbrev pub table_of : BTreeMap ℕ Forks → FinMap key_cmp Entry
+abbrev pub table_of : Nodes → FinMap key_cmp Entry
 table_of m = from_entries (flat m.entries)
 
 -- the map of maps has this at one key afterwards, and all else stays
-pub record Puts (old new : BTreeMap ℕ Forks) (n : ℕ) (t : Boxes) (kept : Option Kept) : Type 0 where
+pub record Puts (old new : Nodes) (n : ℕ) (t : Boxes) (kept : Option Kept) : Type 0 where
   pub here : entry_at new n t ≡ kept
   pub same_node : (u : Boxes) → (u ≡ t → ⊥) → entry_at new n u ≡ entry_at old n u
   pub other_nodes : (m : ℕ) (u : Boxes) → (m ≡ n → ⊥) → entry_at new m u ≡ entry_at old m u
 
 -- all entries stay
-abbrev pub Keeps : BTreeMap ℕ Forks → BTreeMap ℕ Forks → Type 0
+abbrev pub Keeps : Nodes → Nodes → Type 0
 Keeps old new = (m : ℕ) (u : Boxes) → entry_at new m u ≡ entry_at old m u

@@ -4,7 +4,7 @@ ghost use Rattle.std.specs.BTreeMap as tree;
 ghost use Rattle.std.specs.BTreeMap.{IsUnchanged, IsOrdered};
 ghost use Rattle.std.specs.Ordering.{nat_cmp};
 ghost use Rattle.token_stacks.specs.Order.{box_cmp};
-ghost use Rattle.fork_join.specs.Nested.{kept_at, arrival_at, kept_after, entry_at, Puts, Keeps};
+ghost use Rattle.fork_join.specs.Nested.{kept_at, arrival_at, kept_first, kept_after, PutsIn, entry_at, Puts, Keeps};
 
 use crate::{Arrived, Side};
 use pcf_values::Val;
@@ -27,7 +27,7 @@ pub(crate) type Forks = BTreeMap<BoxStack, Kept>;
 pub(crate) type Nodes = BTreeMap<u32, Forks>;
 
 fn open(forks: &mut Forks, boxes: BoxStack) -> Result<(), AllocError>
-    ensures ok { OnOk result (tree.Updates box_cmp forks.old forks.new boxes (Some Kept.Nothing)) }
+    ensures ok { OnOk result (PutsIn forks.old forks.new boxes (Some Kept.Nothing)) }
     ensures err { OnErr result (IsUnchanged forks.old forks.new) }
 {
     forks.insert(boxes, Kept::Nothing)?;
@@ -43,29 +43,35 @@ fn kept_value(side: Side, v: Val) -> Kept
     }
 }
 
-fn kept_in(forks: &Forks, boxes: &BoxStack) -> Kept
-    requires { IsSome (tree.get box_cmp forks.now boxes.now) }
-    ensures { tree.get box_cmp forks.now boxes.now ≡ Some result }
-{
-    match forks.get(boxes) {
-        Some(kept) => *kept,
-        None => unreachable!(),
-    }
-}
-
-// Writes the entry that is there.
-fn keep(forks: &mut Forks, boxes: &BoxStack, kept: Kept)
+// Keeps the value in the entry that is there, where nothing is kept yet, and else answers what is kept.
+fn keep_first(forks: &mut Forks, boxes: &BoxStack, side: Side, v: Val) -> Arrived
     requires { IsSome (tree.get box_cmp forks.old boxes.now) }
-    ensures { tree.Updates box_cmp forks.old forks.new boxes.now (Some kept) }
+    ensures arrived { result ≡ arrival_at (tree.get box_cmp forks.old boxes.now) }
+    ensures rest { PutsIn forks.old forks.new boxes.now (kept_first (tree.get box_cmp forks.old boxes.now) side v) }
 {
     match forks.get_mut(boxes) {
-        Some(place) => *place = kept,
+        Some(place) => keep(place, side, v),
         None => unreachable!(),
     }
 }
 
+// The same at the place of the entry.
+fn keep(place: &mut Kept, side: Side, v: Val) -> Arrived
+    ensures arrived { result ≡ arrival_at (Some place.old) }
+    ensures rest { Some place.new ≡ kept_first (Some place.old) side v }
+{
+    match *place {
+        Kept::Nothing => {
+            *place = kept_value(side, v);
+            Arrived::First
+        }
+        Kept::Left(w) | Kept::Right(w) => Arrived::Both(w),
+    }
+}
+
+// Takes an entry out.
 fn close(forks: &mut Forks, boxes: &BoxStack)
-    ensures { tree.Updates box_cmp forks.old forks.new boxes.now None }
+    ensures { PutsIn forks.old forks.new boxes.now None }
 {
     forks.remove(boxes);
 }
@@ -74,18 +80,13 @@ fn close(forks: &mut Forks, boxes: &BoxStack)
 fn land(forks: &mut Forks, boxes: &BoxStack, side: Side, v: Val) -> Arrived
     requires { IsSome (tree.get box_cmp forks.old boxes.now) }
     ensures arrived { result ≡ arrival_at (tree.get box_cmp forks.old boxes.now) }
-    ensures rest { tree.Updates box_cmp forks.old forks.new boxes.now (kept_after (tree.get box_cmp forks.old boxes.now) side v) }
+    ensures rest { PutsIn forks.old forks.new boxes.now (kept_after (tree.get box_cmp forks.old boxes.now) side v) }
 {
-    match kept_in(forks, boxes) {
-        Kept::Nothing => {
-            keep(forks, boxes, kept_value(side, v));
-            Arrived::First
-        }
-        Kept::Left(w) | Kept::Right(w) => {
-            close(forks, boxes);
-            Arrived::Both(w)
-        }
+    let arrived = keep_first(forks, boxes, side, v);
+    if let Arrived::Both(_) = arrived {
+        close(forks, boxes);
     }
+    arrived
 }
 
 // Opens an entry, in the map of its node. After want of memory no entry is another one.

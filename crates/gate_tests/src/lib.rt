@@ -1,0 +1,11 @@
+//! Tests of the workers of `gate_workers`, over small benches.
+//!
+//! No clause says that a second worker is started, that the gate is called without the lock, or that a sleeper is woken: tests do.
+#![tactic(auto)]
+
+#[cfg(test)]
+mod benches;
+#[cfg(test)]
+mod gates;
+#[cfg(test)]
+mod workers;

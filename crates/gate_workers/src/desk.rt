@@ -1,0 +1,108 @@
+// What stands behind the lock: the bench, and who sleeps beside it.
+ghost use Rattle.std.specs.Prelude.{◌≡◌, ◌+◌, ◌-◌, ◌≤◌, IfSome, IfNone, IfOk, OnErr};
+ghost use Rattle.gate_workers.specs.Served.{HandedIn, Asked, Reached, Halted};
+
+use crate::{Bench, Turn};
+use std::alloc::AllocError;
+
+// What a worker brings: nothing, what it made of its piece, or want of memory.
+pub(crate) type Brought<M> = Option<Result<M, AllocError>>;
+
+// Hands in what the worker made, if it made something.
+fn hand_in<B: Bench>(
+    bench: &mut B,
+    worker: u32,
+    brought: Brought<B::Made>,
+) -> Result<(), AllocError>
+    ensures ok { IfOk result (λ _. HandedIn B.takes_in bench.old worker brought bench.new) }
+    ensures err { OnErr result (bench.new ≡ bench.old) }
+{
+    match brought {
+        Some(Ok(made)) => bench.hand_in(worker, made),
+        Some(Err(e)) => Err(e),
+        None => Ok(()),
+    }
+}
+
+// Hands in, and asks what to do next.
+fn ask<B: Bench>(
+    bench: &mut B,
+    worker: u32,
+    brought: Brought<B::Made>,
+) -> Result<Turn<B::Piece>, AllocError>
+    ensures ok { IfOk result (λ turn. Asked B.takes_in B.gives bench.old worker brought turn bench.new) }
+    ensures err { OnErr result (Reached B.takes_in bench.old worker brought bench.new) }
+{
+    hand_in(bench, worker, brought)?;
+    bench.turn(worker)
+}
+
+// Hands in, and asks what to do next; or stops the bench for want of memory, and has no answer.
+pub(crate) fn serve<B: Bench>(
+    bench: &mut B,
+    worker: u32,
+    brought: Brought<B::Made>,
+) -> Option<Turn<B::Piece>>
+    ensures asked { IfSome result (λ turn. Asked B.takes_in B.gives bench.old worker brought turn bench.new) }
+    ensures stopped { IfNone result (Halted B.takes_in B.halts bench.old worker brought bench.new) }
+{
+    match ask(bench, worker, brought) {
+        Ok(turn) => Some(turn),
+        Err(_) => {
+            bench.stop();
+            None
+        }
+    }
+}
+
+// The bench, and how many workers sleep until there is something to do for them. A sleeper that was called and hasn't come yet counts
+// as called; all others count as asleep.
+#[derive(Drop)]
+pub(crate) struct Desk<B: Bench> {
+    pub(crate) bench: B,
+    asleep: u32,
+    called: u32,
+}
+
+impl<B: Bench> Desk<B> {
+    // A bench beside which nobody sleeps.
+    pub(crate) fn over(bench: B) -> Desk<B>
+        ensures { result.bench ≡ bench }
+    {
+        Desk {
+            bench,
+            asleep: 0,
+            called: 0,
+        }
+    }
+
+    // How many sleepers to call after a booking: one for each piece for which none was called yet, as far as there are sleepers.
+    pub(crate) fn call(&mut self) -> u32
+        ensures bench { self.new.bench ≡ self.old.bench }
+        ensures asleep { self.new.asleep + result ≡ self.old.asleep }
+    {
+        let wanted = self.bench.spare().saturating_sub(self.called);
+        let calls = wanted.min(self.asleep);
+        self.asleep -= calls;
+        self.called = self.called.saturating_add(calls);
+        calls
+    }
+
+    // One worker more sleeps.
+    pub(crate) fn lie_down(&mut self)
+        ensures { self.new.bench ≡ self.old.bench }
+    {
+        self.asleep = self.asleep.saturating_add(1);
+    }
+
+    // A sleeper came back.
+    pub(crate) fn get_up(&mut self)
+        ensures { self.new.bench ≡ self.old.bench }
+    {
+        if self.called > 0 {
+            self.called -= 1;
+        } else {
+            self.asleep = self.asleep.saturating_sub(1);
+        }
+    }
+}
