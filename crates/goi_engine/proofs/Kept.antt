@@ -9,7 +9,7 @@ use Rattle.goi_engine.specs.declared.answer.Answer.TheVariants.{Prints, Refused,
 use Rattle.goi_engine.specs.Answers.{Right, AnswersText, AnswersJob, Answers}
 use Rattle.goi_engine.specs.Delivers.{Untouched, Wrote, Reported, Refuses, Delivered}
 use Rattle.goi_engine.specs.Jobs.{JobTree, file_of}
-use Rattle.goi_engine.specs.Promise.{World, WroteLine, MeansDone, MeansFault, MeansBadWords, MeansNotRead, MeansNotWritten, MeansNoMemory, Quiet, NoneFailed, CompleteReport, CompleteFault, CompleteWords, CompleteLacked, Promise}
+use Rattle.goi_engine.specs.Promise.{RefusalLine, of_words, of_read, of_memory, of_fault, World, WroteLine, MeansDone, MeansFault, MeansBadWords, MeansNotRead, MeansNotWritten, MeansNoMemory, Quiet, NoneFailed, CompleteReport, CompleteFault, CompleteWords, CompleteLacked, Promise}
 use Rattle.goi_engine.specs.Refusals.{fault_line, words_line, read_line, memory_line}
 use Rattle.goi_engine.specs.Verdicts.{Accepted, Faulty, ReportsOn}
 
@@ -19,7 +19,7 @@ data Outcome (job : Option JobTree) (old new : World) : ℕ → Type 0 where
   fault : MeansFault job old new → new.files.faults ≡ old.files.faults → Outcome job old new 1
   bad_words : MeansBadWords job old new → new.files.faults ≡ old.files.faults → Outcome job old new 2
   not_read : MeansNotRead job old new → Outcome job old new 3
-  not_written : MeansNotWritten old new → Outcome job old new 4
+  not_written : MeansNotWritten job old new → Outcome job old new 4
   no_memory : MeansNoMemory old new → new.files.faults ≡ old.files.faults → Outcome job old new 6
 
 quiet_line : (line : List ℕ) (old new : World) → WroteLine line old new → Quiet old.out new.out × Quiet old.err new.err
@@ -132,13 +132,13 @@ module _ (job : Option JobTree) (old new : World) (told : new.files.told ≡ old
 
 -- a refusal that is delivered is that refusal, or `err` failed
 module _ (job : Option JobTree) (old new : World) where
-  refusal : (own : ℕ) (line : List ℕ) (status : ℕ) → (WroteLine line old new → Outcome job old new own) → Refuses own line old.out new.out old.err new.err status → Outcome job old new status
-  refusal own line status came (u, inl (e, w)) = subst (Outcome job old new) (sym e) (came (record { out = u; err = w }))
-  refusal own line status came (u, inr (e, b)) = subst (Outcome job old new) (sym e) (not_written (inr (record { line = line; out = u; err = b })))
+  refusal : (own : ℕ) (line : List ℕ) (status : ℕ) → RefusalLine job old new line → (WroteLine line old new → Outcome job old new own) → Refuses own line old.out new.out old.err new.err status → Outcome job old new status
+  refusal own line status is came (u, inl (e, w)) = subst (Outcome job old new) (sym e) (came (record { out = u; err = w }))
+  refusal own line status is came (u, inr (e, b)) = subst (Outcome job old new) (sym e) (not_written (inr (record { line = line; told = is; out = u; err = b })))
 
-  report : (text : List ℕ) (status : ℕ) → (Wrote text old.out new.out → Untouched old.err new.err → Outcome job old new 0) → Reported text old.out new.out old.err new.err status → Outcome job old new status
-  report text status came (inl (e, w, u)) = subst (Outcome job old new) (sym e) (came w u)
-  report text status came (inr (e, b, r)) = subst (Outcome job old new) (sym e) (not_written (inl (record { report = text; out = b; err = r })))
+  report : (j : JobTree) → job ≡ Some j → (text : List ℕ) → IfSome (old.files.told (file_of j)) (λ bytes. ReportsOn j bytes text) → (status : ℕ) → (Wrote text old.out new.out → Untouched old.err new.err → Outcome job old new 0) → Reported text old.out new.out old.err new.err status → Outcome job old new status
+  report j asked text right status came (inl (e, w, u)) = subst (Outcome job old new) (sym e) (came w u)
+  report j asked text right status came (inr (e, b, r)) = subst (Outcome job old new) (sym e) (not_written (inl (record { j = j; asked = asked; report = text; right = right; out = b; err = r })))
 
 right_report : (told : Option (List ℕ)) (j : JobTree) (a : Answer) (P : List ℕ → Type 0) → ((bytes : List ℕ) → Right j bytes a → P bytes) → IfSome told (λ bytes. AnswersText j bytes a) → IfSome told P
 right_report None j a P k h = h
@@ -148,22 +148,24 @@ right_report (Some bytes) j a P k h = k bytes h.right
 outcome_job : (j : JobTree) (old new : World) (a : Answer) (status : ℕ) → AnswersJob j (old.files.told (file_of j)) (old.files.lacks (file_of j)) old.files.faults new.files.faults a →
     Delivered a old.out new.out old.err new.err status → Outcome (Some j) old new status
 outcome_job j old new (Prints text) status h d =
-    report (Some j) old new text.items status
-    (λ w u. done (j, refl, record { report = text.items; out = w; err = u; right = right_report (old.files.told (file_of j)) j (Prints text) (λ bytes. ReportsOn j bytes text.items) (λ bytes r. r) h.text }) w.faults u.faults h.faults)
+    let right = right_report (old.files.told (file_of j)) j (Prints text) (λ bytes. ReportsOn j bytes text.items) (λ bytes r. r) h.text in
+    report (Some j) old new j refl text.items right status
+    (λ w u. done (j, refl, record { report = text.items; out = w; err = u; right = right }) w.faults u.faults h.faults)
     d
 outcome_job j old new (Refused line) status h d =
-    refusal (Some j) old new 1 line.items status
-    (λ w. fault (j, refl, record { line = line.items; wrote = w; right = right_report (old.files.told (file_of j)) j (Refused line) (λ bytes. (f : Fault) × Faulty j bytes f × (line.items ≡ fault_line f)) (λ bytes r. r) h.text }) h.faults)
+    let right = right_report (old.files.told (file_of j)) j (Refused line) (λ bytes. (f : Fault) × Faulty j bytes f × (line.items ≡ fault_line f)) (λ bytes r. r) h.text in
+    refusal (Some j) old new 1 line.items status (of_fault j line.items refl right)
+    (λ w. fault (j, refl, record { line = line.items; wrote = w; right = right }) h.faults)
     d
 outcome_job j old new BadWords status h d = absurd h
-outcome_job j old new NotRead status h d = refusal (Some j) old new 3 read_line status (λ w. not_read (j, refl, h, w)) d
-outcome_job j old new NoMemory status h d = refusal (Some j) old new 6 memory_line status (λ w. no_memory w h) d
+outcome_job j old new NotRead status h d = refusal (Some j) old new 3 read_line status (of_read j refl h) (λ w. not_read (j, refl, h, w)) d
+outcome_job j old new NoMemory status h d = refusal (Some j) old new 6 memory_line status of_memory (λ w. no_memory w h) d
 
 outcome : (job : Option JobTree) (old new : World) (a : Answer) (status : ℕ) → Answers job old.files.told old.files.lacks old.files.faults new.files.faults a → Delivered a old.out new.out old.err new.err status → Outcome job old new status
 outcome (Some j) old new a status h d = outcome_job j old new a status h d
 outcome None old new (Prints text) status h d = elim h [ ]
 outcome None old new (Refused line) status h d = elim h [ ]
-outcome None old new BadWords status h d = refusal None old new 2 words_line status (λ w. bad_words (refl, w) h) d
+outcome None old new BadWords status h d = refusal None old new 2 words_line status (of_words refl) (λ w. bad_words (refl, w) h) d
 outcome None old new NotRead status h d = elim h [ ]
 outcome None old new NoMemory status h d = elim h [ ]
 

@@ -48,14 +48,25 @@ pub record RefusedFault (j : JobTree) (old new : World) : Type 0 where
   pub right : IfSome (old.files.told (file_of j)) (λ bytes. (f : Fault) × Faulty j bytes f × (line ≡ fault_line f))
 
 -- `out` failed behind a front of a report; then the line that says so was written to `err`, or a front of it before `err` failed too
-pub record OutFailed (old new : World) : Type 0 where
+pub record OutFailed (job : Option JobTree) (old new : World) : Type 0 where
+  pub j : JobTree
+  pub asked : job ≡ Some j
   pub report : List ℕ
+  pub right : IfSome (old.files.told (file_of j)) (λ bytes. ReportsOn j bytes report)
   pub out : Broke report old.out new.out
   pub err : Wrote write_line old.err new.err ⊎ Broke write_line old.err new.err
 
+-- the line of the refusal
+pub data RefusalLine (job : Option JobTree) (old new : World) : List ℕ → Type 0 where
+  of_words : job ≡ None → RefusalLine job old new words_line
+  of_read : (j : JobTree) → job ≡ Some j → IsTrue (old.files.lacks (file_of j)) ⊎ Rose old.files.faults new.files.faults → RefusalLine job old new read_line
+  of_memory : RefusalLine job old new memory_line
+  of_fault : (j : JobTree) (line : List ℕ) → job ≡ Some j → IfSome (old.files.told (file_of j)) (λ bytes. (f : Fault) × Faulty j bytes f × (line ≡ fault_line f)) → RefusalLine job old new line
+
 -- `err` failed behind a front of a refusal's line, and nothing was written to `out`
-pub record ErrFailed (old new : World) : Type 0 where
+pub record ErrFailed (job : Option JobTree) (old new : World) : Type 0 where
   pub line : List ℕ
+  pub told : RefusalLine job old new line
   pub out : Untouched old.out new.out
   pub err : Broke line old.err new.err
 
@@ -77,8 +88,8 @@ MeansNotRead job old new =
     (j : JobTree) × (job ≡ Some j) × (IsTrue (old.files.lacks (file_of j)) ⊎ Rose old.files.faults new.files.faults) × WroteLine read_line old new
 
 -- status 4: a write failed
-abbrev pub MeansNotWritten : World → World → Type 0
-MeansNotWritten old new = OutFailed old new ⊎ ErrFailed old new
+abbrev pub MeansNotWritten : Option JobTree → World → World → Type 0
+MeansNotWritten job old new = OutFailed job old new ⊎ ErrFailed job old new
 
 -- status 6: there was no memory
 abbrev pub MeansNoMemory : World → World → Type 0
@@ -120,7 +131,7 @@ pub record Promise (job : Option JobTree) (old new : World) (status : ℕ) : Typ
   pub fault : status ≡ 1 → MeansFault job old new
   pub bad_words : status ≡ 2 → MeansBadWords job old new
   pub not_read : status ≡ 3 → MeansNotRead job old new
-  pub not_written : status ≡ 4 → MeansNotWritten old new
+  pub not_written : status ≡ 4 → MeansNotWritten job old new
   pub no_memory : status ≡ 6 → MeansNoMemory old new
   -- no other status comes
   pub statuses : (status ≡ 0) ⊎ (status ≡ 1) ⊎ (status ≡ 2) ⊎ (status ≡ 3) ⊎ (status ≡ 4) ⊎ (status ≡ 6)
