@@ -1,17 +1,17 @@
 -- The promise of the top call is kept: an answer that is right for the words and the files, and is delivered, is what it promises.
-use Rattle.std.proofs.Common.{◌≡◌, ◌⊎◌, ℕ, List, Option, Some, None, IfSome, IsTrue, refl, sym, ◌∙◌, subst, inl, inr}
-use Rattle.goi_world.specs.Outside.{Rose}
-use Rattle.pcf_values.specs.Terms.{TyTree, TermTree}
-use Rattle.pcf_values.specs.Named.{NamedTree}
+use Rattle.std.proofs.Common.{◌≡◌, ◌⊎◌, ℕ, ◌≤◌, List, length, Option, Some, None, IsTrue, refl, sym, subst, inl, inr, ⊎_elim, arith}
 use Rattle.goi_engine.specs.declared.fault.Fault.{Fault}
 use Rattle.goi_engine.specs.declared.answer.Answer.{Answer}
 use Rattle.goi_engine.specs.declared.answer.Answer.TheVariants.{Prints, Refused, BadWords, NotRead, NoMemory}
-use Rattle.goi_engine.specs.Answers.{Right, AnswersText, AnswersJob, Answers}
+use Rattle.goi_engine.specs.Answers.{NotReadFor, AnswersJob, Answers}
 use Rattle.goi_engine.specs.Delivers.{Untouched, Wrote, Reported, Refuses, Delivered}
-use Rattle.goi_engine.specs.Jobs.{JobTree, file_of}
-use Rattle.goi_engine.specs.Promise.{World, WroteLine, MeansDone, MeansFault, MeansBadWords, MeansNotRead, MeansNotWritten, MeansNoMemory, Quiet, NoneFailed, CompleteReport, CompleteFault, CompleteWords, CompleteLacked, Promise}
+use Rattle.goi_engine.specs.FilesSeen.{FilesKept}
+use Rattle.goi_engine.specs.Jobs.{JobTree}
+use Rattle.goi_engine.specs.Promise.{World, WroteLine, RefusalLine, of_words, of_read, of_memory, of_fault, MeansDone, MeansFault, MeansBadWords, MeansNotRead, MeansNotWritten, MeansNoMemory, Quiet, NoneFailed, SureRoom, CompleteReport, CompleteFault, CompleteWords, CompleteLacked, Promise}
 use Rattle.goi_engine.specs.Refusals.{fault_line, words_line, read_line, memory_line}
-use Rattle.goi_engine.specs.Verdicts.{Accepted, Faulty, ReportsOn}
+use Rattle.goi_engine.specs.Reports.{most_line}
+use Rattle.goi_engine.specs.Verdicts.{ReportsJob, RefusesJob, CanDo, FaultyJob, LacksFor}
+use Rattle.goi_engine.proofs.Told.{told_not_lacked, short_refusal}
 
 -- what came, by its status
 data Outcome (job : Option JobTree) (old new : World) : ℕ → Type 0 where
@@ -19,13 +19,25 @@ data Outcome (job : Option JobTree) (old new : World) : ℕ → Type 0 where
   fault : MeansFault job old new → new.files.faults ≡ old.files.faults → Outcome job old new 1
   bad_words : MeansBadWords job old new → new.files.faults ≡ old.files.faults → Outcome job old new 2
   not_read : MeansNotRead job old new → Outcome job old new 3
-  not_written : MeansNotWritten old new → Outcome job old new 4
+  not_written : MeansNotWritten job old new → Outcome job old new 4
   no_memory : MeansNoMemory old new → new.files.faults ≡ old.files.faults → Outcome job old new 6
 
 quiet_line : (line : List ℕ) (old new : World) → WroteLine line old new → Quiet old.out new.out × Quiet old.err new.err
 quiet_line line old new w = (w.out.faults, w.err.faults)
 
-module _ (job : Option JobTree) (old new : World) (told : new.files.told ≡ old.files.told) (lacks : new.files.lacks ≡ old.files.lacks) where
+-- a line that stands is short
+short_line : (job : Option JobTree) (old new : World) (line : List ℕ) → RefusalLine job old new line → length line ≤ most_line
+short_line job old new _ (of_words e) = omega arith
+short_line job old new _ (of_read j e h) = omega arith
+short_line job old new _ of_memory = omega arith
+short_line job old new _ (of_fault j line e h) = short_refusal j old.files line h
+
+-- sinks that are sure to take what may come don't fail
+never_broke : (job : Option JobTree) (old new : World) → SureRoom job old → MeansNotWritten job old new → ⊥
+never_broke job old new room (inl o) = let fits = room.out o.j o.report o.asked o.right in omega (arith, o.out.short, fits)
+never_broke job old new room (inr e) = let fits = short_line job old new e.line e.stands in omega (arith, e.err.short, fits, room.err)
+
+module _ (job : Option JobTree) (old new : World) (files : FilesKept old.files new.files) where
   promised : (status : ℕ) → Outcome job old new status → CompleteReport job old new status → CompleteFault job old new status → CompleteWords job old new status → CompleteLacked job old new status → Promise job old new status
   promised _ (done m q r f) a b c d = record {
     done = λ e. m;
@@ -35,10 +47,10 @@ module _ (job : Option JobTree) (old new : World) (told : new.files.told ≡ old
     not_written = λ e. absurd cc;
     no_memory = λ e. absurd cc;
     statuses = inl refl;
-    told = told;
-    lacks = lacks;
+    files = files;
     quiet = λ e. (q, r);
     read = λ e g. f;
+    sure = λ room e. absurd cc;
     reports = a;
     refuses = b;
     refuses_words = c;
@@ -52,10 +64,10 @@ module _ (job : Option JobTree) (old new : World) (told : new.files.told ≡ old
     not_written = λ e. absurd cc;
     no_memory = λ e. absurd cc;
     statuses = inr (inl refl);
-    told = told;
-    lacks = lacks;
+    files = files;
     quiet = λ e. quiet_line m.2.line old new m.2.wrote;
     read = λ e g. f;
+    sure = λ room e. absurd cc;
     reports = a;
     refuses = b;
     refuses_words = c;
@@ -69,10 +81,10 @@ module _ (job : Option JobTree) (old new : World) (told : new.files.told ≡ old
     not_written = λ e. absurd cc;
     no_memory = λ e. absurd cc;
     statuses = inr (inr (inl refl));
-    told = told;
-    lacks = lacks;
+    files = files;
     quiet = λ e. quiet_line words_line old new m.1;
     read = λ e g. f;
+    sure = λ room e. absurd cc;
     reports = a;
     refuses = b;
     refuses_words = c;
@@ -86,10 +98,10 @@ module _ (job : Option JobTree) (old new : World) (told : new.files.told ≡ old
     not_written = λ e. absurd cc;
     no_memory = λ e. absurd cc;
     statuses = inr (inr (inr (inl refl)));
-    told = told;
-    lacks = lacks;
+    files = files;
     quiet = λ e. quiet_line read_line old new m.3;
     read = λ e g. absurd (e refl);
+    sure = λ room e. absurd cc;
     reports = a;
     refuses = b;
     refuses_words = c;
@@ -103,10 +115,10 @@ module _ (job : Option JobTree) (old new : World) (told : new.files.told ≡ old
     not_written = λ e. m;
     no_memory = λ e. absurd cc;
     statuses = inr (inr (inr (inr (inl refl))));
-    told = told;
-    lacks = lacks;
+    files = files;
     quiet = λ e. absurd (e refl);
     read = λ e g. absurd (g refl);
+    sure = λ room e. never_broke job old new room m;
     reports = a;
     refuses = b;
     refuses_words = c;
@@ -120,10 +132,10 @@ module _ (job : Option JobTree) (old new : World) (told : new.files.told ≡ old
     not_written = λ e. absurd cc;
     no_memory = λ e. m;
     statuses = inr (inr (inr (inr (inr refl))));
-    told = told;
-    lacks = lacks;
+    files = files;
     quiet = λ e. quiet_line memory_line old new m;
     read = λ e g. f;
+    sure = λ room e. absurd cc;
     reports = a;
     refuses = b;
     refuses_words = c;
@@ -132,38 +144,29 @@ module _ (job : Option JobTree) (old new : World) (told : new.files.told ≡ old
 
 -- a refusal that is delivered is that refusal, or `err` failed
 module _ (job : Option JobTree) (old new : World) where
-  refusal : (own : ℕ) (line : List ℕ) (status : ℕ) → (WroteLine line old new → Outcome job old new own) → Refuses own line old.out new.out old.err new.err status → Outcome job old new status
-  refusal own line status came (u, inl (e, w)) = subst (Outcome job old new) (sym e) (came (record { out = u; err = w }))
-  refusal own line status came (u, inr (e, b)) = subst (Outcome job old new) (sym e) (not_written (inr (record { line = line; out = u; err = b })))
+  refusal : (own : ℕ) (line : List ℕ) (status : ℕ) → RefusalLine job old new line → (WroteLine line old new → Outcome job old new own) → Refuses own line old.out new.out old.err new.err status → Outcome job old new status
+  refusal own line status stands came (u, inl (e, w)) = subst (Outcome job old new) (sym e) (came (record { out = u; err = w }))
+  refusal own line status stands came (u, inr (e, b)) = subst (Outcome job old new) (sym e) (not_written (inr (record { line = line; stands = stands; out = u; err = b })))
 
-  report : (text : List ℕ) (status : ℕ) → (Wrote text old.out new.out → Untouched old.err new.err → Outcome job old new 0) → Reported text old.out new.out old.err new.err status → Outcome job old new status
-  report text status came (inl (e, w, u)) = subst (Outcome job old new) (sym e) (came w u)
-  report text status came (inr (e, b, r)) = subst (Outcome job old new) (sym e) (not_written (inl (record { report = text; out = b; err = r })))
-
-right_report : (told : Option (List ℕ)) (j : JobTree) (a : Answer) (P : List ℕ → Type 0) → ((bytes : List ℕ) → Right j bytes a → P bytes) → IfSome told (λ bytes. AnswersText j bytes a) → IfSome told P
-right_report None j a P k h = h
-right_report (Some bytes) j a P k h = k bytes h.right
+  report : (j : JobTree) → job ≡ Some j → (text : List ℕ) → ReportsJob j old.files text → (status : ℕ) → (Wrote text old.out new.out → Untouched old.err new.err → Outcome job old new 0) → Reported text old.out new.out old.err new.err status → Outcome job old new status
+  report j asked text right status came (inl (e, w, u)) = subst (Outcome job old new) (sym e) (came w u)
+  report j asked text right status came (inr (e, b, r)) = subst (Outcome job old new) (sym e) (not_written (inl (record { j = j; asked = asked; report = text; right = right; out = b; err = r })))
 
 -- what came of an answer
-outcome_job : (j : JobTree) (old new : World) (a : Answer) (status : ℕ) → AnswersJob j (old.files.told (file_of j)) (old.files.lacks (file_of j)) old.files.faults new.files.faults a →
-    Delivered a old.out new.out old.err new.err status → Outcome (Some j) old new status
-outcome_job j old new (Prints text) status h d =
-    report (Some j) old new text.items status
-    (λ w u. done (j, refl, record { report = text.items; out = w; err = u; right = right_report (old.files.told (file_of j)) j (Prints text) (λ bytes. ReportsOn j bytes text.items) (λ bytes r. r) h.text }) w.faults u.faults h.faults)
-    d
-outcome_job j old new (Refused line) status h d =
-    refusal (Some j) old new 1 line.items status
-    (λ w. fault (j, refl, record { line = line.items; wrote = w; right = right_report (old.files.told (file_of j)) j (Refused line) (λ bytes. (f : Fault) × Faulty j bytes f × (line.items ≡ fault_line f)) (λ bytes r. r) h.text }) h.faults)
-    d
+outcome_job : (j : JobTree) (old new : World) (a : Answer) (status : ℕ) → AnswersJob j old.files new.files a → Delivered a old.out new.out old.err new.err status → Outcome (Some j) old new status
+outcome_job j old new (Prints text) status (h, right) d =
+    report (Some j) old new j refl text.items right status (λ w u. done (j, refl, record { report = text.items; right = right; out = w; err = u }) w.faults u.faults h.faults) d
+outcome_job j old new (Refused line) status (h, right) d =
+    refusal (Some j) old new 1 line.items status (of_fault j line.items refl right) (λ w. fault (j, refl, record { line = line.items; right = right; wrote = w }) h.faults) d
 outcome_job j old new BadWords status h d = absurd h
-outcome_job j old new NotRead status h d = refusal (Some j) old new 3 read_line status (λ w. not_read (j, refl, h, w)) d
-outcome_job j old new NoMemory status h d = refusal (Some j) old new 6 memory_line status (λ w. no_memory w h) d
+outcome_job j old new NotRead status h d = refusal (Some j) old new 3 read_line status (of_read j refl h) (λ w. not_read (j, refl, h, w)) d
+outcome_job j old new NoMemory status h d = refusal (Some j) old new 6 memory_line status of_memory (λ w. no_memory w h) d
 
-outcome : (job : Option JobTree) (old new : World) (a : Answer) (status : ℕ) → Answers job old.files.told old.files.lacks old.files.faults new.files.faults a → Delivered a old.out new.out old.err new.err status → Outcome job old new status
+outcome : (job : Option JobTree) (old new : World) (a : Answer) (status : ℕ) → Answers job old.files new.files a → Delivered a old.out new.out old.err new.err status → Outcome job old new status
 outcome (Some j) old new a status h d = outcome_job j old new a status h d
 outcome None old new (Prints text) status h d = elim h [ ]
 outcome None old new (Refused line) status h d = elim h [ ]
-outcome None old new BadWords status h d = refusal None old new 2 words_line status (λ w. bad_words (refl, w) h) d
+outcome None old new BadWords status h d = refusal None old new 2 words_line status (of_words refl) (λ w. bad_words (refl, w) h) d
 outcome None old new NotRead status h d = elim h [ ]
 outcome None old new NoMemory status h d = elim h [ ]
 
@@ -180,50 +183,36 @@ module _ (old new : World) (fine : NoneFailed old new) where
   no_memory_well : (status : ℕ) → Refuses 6 memory_line old.out new.out old.err new.err status → status ≡ 6
   no_memory_well status d = (refused_well 6 memory_line status d).0
 
--- the answer to what the files tell, or to a file that could not be read
-told_text : (told : Option (List ℕ)) (bytes : List ℕ) (P : List ℕ → Type 0) → told ≡ Some bytes → IfSome told P → P bytes
-told_text None bytes P e h = cc
-told_text (Some b) bytes P e h = let k : b ≡ bytes = cc in subst P k h
+-- Below, a job is answered, and no device failed.
+module _ (j : JobTree) (old new : World) (untold : (name : List ℕ) → IsTrue (old.files.lacks name) → old.files.told name ≡ None) (fine : NoneFailed old new) (status : ℕ) where
+  -- what the files tell for the job was read
+  unread : CanDo j old.files ⊎ ((f : Fault) × FaultyJob j old.files f) → NotReadFor j old.files new.files → ⊥
+  unread told h = ⊎_elim (told_not_lacked j old.files untold told) fine.files h.cause
 
-unread : (j : JobTree) (old new : World) (bytes : List ℕ) → ((name : List ℕ) → IsTrue (old.files.lacks name) → old.files.told name ≡ None) → old.files.told (file_of j) ≡ Some bytes → NoneFailed old new →
-    IsTrue (old.files.lacks (file_of j)) ⊎ Rose old.files.faults new.files.faults → ⊥
-unread j old new bytes untold t fine (inl l) = let e : None ≡ Some bytes = sym (untold (file_of j) l) ∙ t in cc
-unread j old new bytes untold t fine (inr r) = fine.files r
+  report_comes : (a : Answer) → AnswersJob j old.files new.files a → Delivered a old.out new.out old.err new.err status → CanDo j old.files → (status ≡ 0) ⊎ (status ≡ 6)
+  report_comes (Prints text) h d can = inl (reported_well old new fine text.items status d)
+  report_comes (Refused line) h d can = absurd (h.0.accepted can)
+  report_comes BadWords h d can = absurd h
+  report_comes NotRead h d can = absurd (unread (inl can) h)
+  report_comes NoMemory h d can = inr (no_memory_well old new fine status d)
 
-report_comes : (j : JobTree) (old new : World) (a : Answer) (status : ℕ) (bytes : List ℕ) (tree : NamedTree) (t : TermTree) (A : TyTree) →
-    ((name : List ℕ) → IsTrue (old.files.lacks name) → old.files.told name ≡ None) →
-    AnswersJob j (old.files.told (file_of j)) (old.files.lacks (file_of j)) old.files.faults new.files.faults a → Delivered a old.out new.out old.err new.err status →
-    old.files.told (file_of j) ≡ Some bytes → Accepted j bytes tree t A → NoneFailed old new → (status ≡ 0) ⊎ (status ≡ 6)
-report_comes j old new (Prints text) status bytes tree t A untold h d told acc fine = inl (reported_well old new fine text.items status d)
-report_comes j old new (Refused line) status bytes tree t A untold h d told acc fine =
-    elim ((told_text (old.files.told (file_of j)) bytes (λ b. AnswersText j b (Refused line)) told h.text).accepted tree t A acc) [ ]
-report_comes j old new BadWords status bytes tree t A untold h d told acc fine = elim h [ ]
-report_comes j old new NotRead status bytes tree t A untold h d told acc fine = absurd (unread j old new bytes untold told fine h)
-report_comes j old new NoMemory status bytes tree t A untold h d told acc fine = inr (no_memory_well old new fine status d)
+  refusal_comes : (a : Answer) → AnswersJob j old.files new.files a → Delivered a old.out new.out old.err new.err status → (f : Fault) → FaultyJob j old.files f → ((status ≡ 1) × WroteLine (fault_line f) old new) ⊎ (status ≡ 6)
+  refusal_comes (Prints text) h d f k = absurd (h.0.faulty f k)
+  refusal_comes (Refused line) h d f k =
+      let w = refused_well old new fine 1 line.items status d in
+      inl (w.0, subst (λ (l : List ℕ). WroteLine l old new) (h.0.faulty f k) w.1)
+  refusal_comes BadWords h d f k = absurd h
+  refusal_comes NotRead h d f k = absurd (unread (inr (f, k)) h)
+  refusal_comes NoMemory h d f k = inr (no_memory_well old new fine status d)
 
-refusal_comes : (j : JobTree) (old new : World) (a : Answer) (status : ℕ) (bytes : List ℕ) (f : Fault) →
-    ((name : List ℕ) → IsTrue (old.files.lacks name) → old.files.told name ≡ None) →
-    AnswersJob j (old.files.told (file_of j)) (old.files.lacks (file_of j)) old.files.faults new.files.faults a → Delivered a old.out new.out old.err new.err status →
-    old.files.told (file_of j) ≡ Some bytes → Faulty j bytes f → NoneFailed old new → ((status ≡ 1) × WroteLine (fault_line f) old new) ⊎ (status ≡ 6)
-refusal_comes j old new (Prints text) status bytes f untold h d told k fine = elim ((told_text (old.files.told (file_of j)) bytes (λ b. AnswersText j b (Prints text)) told h.text).faulty f k) [ ]
-refusal_comes j old new (Refused line) status bytes f untold h d told k fine =
-    let e = (told_text (old.files.told (file_of j)) bytes (λ b. AnswersText j b (Refused line)) told h.text).faulty f k in
-    let w = refused_well old new fine 1 line.items status d in
-    inl (w.0, subst (λ (l : List ℕ). WroteLine l old new) e w.1)
-refusal_comes j old new BadWords status bytes f untold h d told k fine = elim h [ ]
-refusal_comes j old new NotRead status bytes f untold h d told k fine = absurd (unread j old new bytes untold told fine h)
-refusal_comes j old new NoMemory status bytes f untold h d told k fine = inr (no_memory_well old new fine status d)
+  lacked_comes : (a : Answer) → AnswersJob j old.files new.files a → Delivered a old.out new.out old.err new.err status → LacksFor j old.files → (status ≡ 3) ⊎ (status ≡ 6)
+  lacked_comes (Prints text) h d l = absurd (h.0.had l)
+  lacked_comes (Refused line) h d l = absurd (h.0.had l)
+  lacked_comes BadWords h d l = absurd h
+  lacked_comes NotRead h d l = inl (refused_well old new fine 3 read_line status d).0
+  lacked_comes NoMemory h d l = inr (no_memory_well old new fine status d)
 
-lacked_comes : (j : JobTree) (old new : World) (a : Answer) (status : ℕ) →
-    AnswersJob j (old.files.told (file_of j)) (old.files.lacks (file_of j)) old.files.faults new.files.faults a → Delivered a old.out new.out old.err new.err status →
-    IsTrue (old.files.lacks (file_of j)) → NoneFailed old new → (status ≡ 3) ⊎ (status ≡ 6)
-lacked_comes j old new (Prints text) status h d l fine = absurd (h.had l)
-lacked_comes j old new (Refused line) status h d l fine = absurd (h.had l)
-lacked_comes j old new BadWords status h d l fine = elim h [ ]
-lacked_comes j old new NotRead status h d l fine = inl (refused_well old new fine 3 read_line status d).0
-lacked_comes j old new NoMemory status h d l fine = inr (no_memory_well old new fine status d)
-
-words_come : (old new : World) (a : Answer) (status : ℕ) → Answers None old.files.told old.files.lacks old.files.faults new.files.faults a → Delivered a old.out new.out old.err new.err status → NoneFailed old new → (status ≡ 2) ⊎ (status ≡ 6)
+words_come : (old new : World) (a : Answer) (status : ℕ) → Answers None old.files new.files a → Delivered a old.out new.out old.err new.err status → NoneFailed old new → (status ≡ 2) ⊎ (status ≡ 6)
 words_come old new (Prints text) status h d fine = elim h [ ]
 words_come old new (Refused line) status h d fine = elim h [ ]
 words_come old new BadWords status h d fine = inl (refused_well old new fine 2 words_line status d).0
@@ -233,13 +222,12 @@ words_come old new NoMemory status h d fine = elim h [ ]
 -- two jobs of the same words are one
 module _ (old new : World) (a : Answer) where
   abbrev Of : Option JobTree → Type 0
-  Of job = Answers job old.files.told old.files.lacks old.files.faults new.files.faults a
+  Of job = Answers job old.files new.files a
 
-  pub kept : (job : Option JobTree) (status : ℕ) → new.files.told ≡ old.files.told → new.files.lacks ≡ old.files.lacks → ((name : List ℕ) → IsTrue (old.files.lacks name) → old.files.told name ≡ None) →
-      Of job → Delivered a old.out new.out old.err new.err status → Promise job old new status
-  kept job status told lacks untold h d =
-      promised job old new told lacks status (outcome job old new a status h d)
-      (λ j bytes tree t A e k acc fine. report_comes j old new a status bytes tree t A untold (subst Of e h) d k acc fine)
-      (λ j bytes f e k faulty fine. refusal_comes j old new a status bytes f untold (subst Of e h) d k faulty fine)
+  pub kept : (job : Option JobTree) (status : ℕ) → FilesKept old.files new.files → ((name : List ℕ) → IsTrue (old.files.lacks name) → old.files.told name ≡ None) → Of job → Delivered a old.out new.out old.err new.err status → Promise job old new status
+  kept job status files untold h d =
+      promised job old new files status (outcome job old new a status h d)
+      (λ j e can fine. report_comes j old new untold fine status a (subst Of e h) d can)
+      (λ j f e faulty fine. refusal_comes j old new untold fine status a (subst Of e h) d f faulty)
       (λ e fine. words_come old new a status (subst Of e h) d fine)
-      (λ j e l fine. lacked_comes j old new a status (subst Of e h) d l fine)
+      (λ j e l fine. lacked_comes j old new untold fine status a (subst Of e h) d l)

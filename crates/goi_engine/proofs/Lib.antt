@@ -4,6 +4,7 @@ pub mod Lengths
 pub mod Listed
 pub mod Loading
 pub mod Reported
+pub mod Short
 pub mod Sized
 pub mod SmallRun
 pub mod Told

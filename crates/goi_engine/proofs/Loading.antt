@@ -1,8 +1,11 @@
 -- What one read adds to what was loaded, and when all is loaded.
-use Rattle.std.proofs.Common.{◌≡◌, ℕ, ◌+◌, ◌<◌, ◌≤◌, List, ◌++◌, length, take, Option, Some, None, IfSome, sym, ap, subst, ◌∙◌, ◌⊎◌, inl, inr, arith, length-append}
+use Rattle.std.proofs.Common.{◌≡◌, ℕ, [], ◌∷◌, All, refl, ◌+◌, ◌<◌, ◌≤◌, List, ◌++◌, length, take, Option, Some, None, IfSome, sym, ap, subst, ◌∙◌, ◌⊎◌, inl, inr, arith, length-append}
 use Rattle.std.proofs.Math.Seq.{take-add}
+use Rattle.std.proofs.lemmas.List.Elements.{All-nil, All-cons}
 use Rattle.std.proofs.lemmas.List.{take_all, length-take-le}
-use Rattle.goi_world.specs.Outside.{IsPiece}
+use Rattle.goi_world.specs.Outside.{Reading, reading, CameBy, IsPiece}
+use Rattle.pcf_values.specs.Most.{most_program_bytes}
+use Rattle.goi_engine.specs.FilesSeen.{ReadsWithin, LoadedBy}
 use Rattle.goi_engine.specs.Loads.{Loads}
 
 grown : (bytes old new piece : List ℕ) (n : ℕ) → new ≡ old ++ take n piece → length new ≡ length old + n → IsPiece bytes (length old) n piece → old ≡ take (length old) bytes → new ≡ take (length new) bytes
@@ -14,7 +17,7 @@ grown bytes old new piece n e len p front =
     ∙ ap (λ i. take i bytes) (sym len)
 
 -- a read of n bytes, which were put behind those before
-pub loads : (known : Option (List ℕ)) (old new piece : List ℕ) (n : ℕ) → new ≡ old ++ take n piece → n ≤ length piece → 0 < length piece → length old + length piece ≤ 1048577 → IfSome known (λ bytes. IsPiece bytes (length old) n piece) → Loads known old new n
+pub loads : (known : Option (List ℕ)) (old new piece : List ℕ) (n : ℕ) → new ≡ old ++ take n piece → n ≤ length piece → 0 < length piece → length old + length piece ≤ (most_program_bytes + 1) → IfSome known (λ bytes. IsPiece bytes (length old) n piece) → Loads known old new n
 loads None old new piece n e le some room p =
     let len : length new ≡ length old + n = ap length e ∙ length-append old (take n piece) ∙ ap (λ m. length old + m) (length-take-le n piece le) in
     record { more = len; within = omega arith; front = p; end = p }
@@ -27,13 +30,13 @@ loads (Some bytes) old new piece n e le some room p =
       end = λ zero. p.end zero some;
     }
 
-ended : (known : Option (List ℕ)) (old new : List ℕ) (n : ℕ) → Loads known old new n → IfSome known (λ bytes. old ≡ take (length old) bytes) → (n ≡ 0) ⊎ (length new ≡ 1048577) → IfSome known (λ bytes. new ≡ take 1048577 bytes)
+ended : (known : Option (List ℕ)) (old new : List ℕ) (n : ℕ) → Loads known old new n → IfSome known (λ bytes. old ≡ take (length old) bytes) → (n ≡ 0) ⊎ (length new ≡ (most_program_bytes + 1)) → IfSome known (λ bytes. new ≡ take (most_program_bytes + 1) bytes)
 ended None old new n loads front done = front
 ended (Some bytes) old new n loads front (inr full) = loads.front front ∙ ap (λ i. take i bytes) full
 ended (Some bytes) old new n loads front (inl zero) =
     let short : length bytes ≤ length new = omega (arith, loads.end zero, loads.more) in
-    let within : length bytes ≤ 1048577 = omega (arith, short, loads.within) in
-    loads.front front ∙ take_all (length new) bytes short ∙ sym (take_all 1048577 bytes within)
+    let within : length bytes ≤ (most_program_bytes + 1) = omega (arith, short, loads.within) in
+    loads.front front ∙ take_all (length new) bytes short ∙ sym (take_all (most_program_bytes + 1) bytes within)
 
 goes_on : (known : Option (List ℕ)) (old new : List ℕ) (n : ℕ) → Loads known old new n → IfSome known (λ bytes. old ≡ take (length old) bytes) → IfSome known (λ bytes. new ≡ take (length new) bytes)
 goes_on None old new n loads front = front
@@ -45,9 +48,35 @@ module _ (now first : List ℕ → Option (List ℕ)) (name old new : List ℕ) 
   loads_first = subst (λ (told : List ℕ → Option (List ℕ)). Loads (told name) old new n) same loads
 
   -- at its end, or past its limit, all of a file is loaded that is to be
-  pub all_loaded : (n ≡ 0) ⊎ (length new ≡ 1048577) → IfSome (first name) (λ bytes. new ≡ take 1048577 bytes)
+  pub all_loaded : (n ≡ 0) ⊎ (length new ≡ (most_program_bytes + 1)) → IfSome (first name) (λ bytes. new ≡ take (most_program_bytes + 1) bytes)
   all_loaded done = ended (first name) old new n loads_first front done
 
   -- a front of a file goes on
   pub front_goes_on : IfSome (first name) (λ bytes. new ≡ take (length new) bytes)
   front_goes_on = goes_on (first name) old new n loads_first front
+
+-- so many reads were made of a file, each within its limit
+pub record Turns {S : Type 0} (one : S → Reading → S → Type 0) (name : List ℕ) (limit turns : ℕ) (old now : S) : Type 0 where
+  pub log : List Reading
+  pub came : CameBy one old log now
+  pub count : length log ≡ turns
+  pub each : All (ReadsWithin name limit) log
+
+-- Below, files are read by name up to a limit.
+module _ {S : Type 0} (one : S → Reading → S → Type 0) (name : List ℕ) (limit : ℕ) where
+  -- before the first read
+  pub no_turn : (old : S) → Turns one name limit 0 old old
+  no_turn old = record { log = []; came = refl; count = refl; each = All-nil (ReadsWithin name limit) }
+
+  -- one more read
+  pub next_turn : (turns : ℕ) (old mid now : S) (at room : ℕ) → Turns one name limit turns old mid → at + room ≤ limit + 1 → one mid (reading name at room) now → Turns one name limit (turns + 1) old now
+  next_turn turns old mid now at room before within read = record {
+    log = reading name at room ∷ before.log;
+    came = (mid, before.came, read);
+    count = omega (arith, before.count);
+    each = All-cons (ReadsWithin name limit) (reading name at room) before.log (record { named = refl; within = within }) before.each;
+  }
+
+  -- so a file was loaded
+  pub turns_load : (turns : ℕ) (old now : S) → Turns one name limit turns old now → turns ≤ limit + 1 → LoadedBy one name limit old now
+  turns_load turns old now t few = record { log = t.log; came = t.came; few = omega (arith, t.count, few); each = t.each }

@@ -1,22 +1,21 @@
--- The answer to the words, by what the files tell and lack and by their count of faults.
-use Rattle.std.specs.Prelude.{◌≡◌, ◌⊎◌, ℕ, Bool, IsTrue, List, Option, None, Some, IfSome}
+-- The answer to the words, by what is seen of the files before it and after it.
+use Rattle.std.specs.Prelude.{◌≡◌, ◌⊎◌, ℕ, IsTrue, List, Option, None, Some}
 use Rattle.goi_world.specs.Outside.{Rose}
-use Rattle.pcf_values.specs.Terms.{TyTree, TermTree}
-use Rattle.pcf_values.specs.Named.{NamedTree}
 use Rattle.goi_engine.specs.declared.fault.Fault.{Fault}
 use Rattle.goi_engine.specs.declared.answer.Answer.{Answer}
 use Rattle.goi_engine.specs.declared.answer.Answer.TheVariants.{Prints, Refused, BadWords, NotRead, NoMemory}
-use Rattle.goi_engine.specs.Jobs.{JobTree, file_of}
+use Rattle.goi_engine.specs.FilesSeen.{FilesState}
+use Rattle.goi_engine.specs.Jobs.{JobTree}
 use Rattle.goi_engine.specs.Refusals.{fault_line}
-use Rattle.goi_engine.specs.Verdicts.{Accepted, Faulty, ReportsOn}
+use Rattle.goi_engine.specs.Verdicts.{Suitable, Faulty, ReportsOn, RefusesOn, ReportsJob, RefusesJob, CanDo, FaultyJob, LacksFor}
 
 -- what the answer says of the text is right
-abbrev pub Right : JobTree → List ℕ → Answer → Type 0
-Right j bytes (Prints report) = ReportsOn j bytes report.items
-Right j bytes (Refused line) = (f : Fault) × Faulty j bytes f × (line.items ≡ fault_line f)
-Right j bytes NoMemory = Unit {0}
-Right j bytes BadWords = ⊥
-Right j bytes NotRead = ⊥
+abbrev pub RightText : JobTree → List ℕ → Answer → Type 0
+RightText j bytes (Prints report) = ReportsOn j bytes report.items
+RightText j bytes (Refused line) = RefusesOn j bytes line.items
+RightText j bytes NoMemory = Unit {0}
+RightText j bytes BadWords = ⊥
+RightText j bytes NotRead = ⊥
 
 -- a report, or want of memory
 abbrev pub IsReport : Answer → Type 0
@@ -32,26 +31,33 @@ IsRefusal f _ = ⊥
 
 -- the answer to a job on a text: it is right, what the job can be done with has a report, and what has a fault is refused for it
 pub record AnswersText (j : JobTree) (bytes : List ℕ) (a : Answer) : Type 0 where
-  pub right : Right j bytes a
-  pub accepted : (tree : NamedTree) (t : TermTree) (A : TyTree) → Accepted j bytes tree t A → IsReport a
+  pub right : RightText j bytes a
+  pub accepted : Suitable j bytes → IsReport a
   pub faulty : (f : Fault) → Faulty j bytes f → IsRefusal f a
 
--- the files' count of faults stayed, they have the file, and the answer is the one to what they tell of it
-pub record AnswersFile (j : JobTree) (told : Option (List ℕ)) (lacks : Bool) (before now : ℕ) (a : Answer) : Type 0 where
-  pub faults : now ≡ before
-  pub had : IsTrue lacks → ⊥
-  pub text : IfSome told (λ bytes. AnswersText j bytes a)
+-- the answer looks at all that the job needs: the files' count of faults stayed, they lack nothing that the job comes to, and what the
+-- job can be done with has a report, and what has a fault is refused for it
+pub record Judges (j : JobTree) (old new : FilesState) (a : Answer) : Type 0 where
+  pub faults : new.faults ≡ old.faults
+  pub had : LacksFor j old → ⊥
+  pub accepted : CanDo j old → IsReport a
+  pub faulty : (f : Fault) → FaultyJob j old f → IsRefusal f a
 
--- the answer to a job on a file
-abbrev pub AnswersJob : JobTree → Option (List ℕ) → Bool → ℕ → ℕ → Answer → Type 0
-AnswersJob j told lacks before now (Prints report) = AnswersFile j told lacks before now (Prints report)
-AnswersJob j told lacks before now (Refused line) = AnswersFile j told lacks before now (Refused line)
-AnswersJob j told lacks before now BadWords = ⊥
-AnswersJob j told lacks before now NotRead = IsTrue lacks ⊎ Rose before now
-AnswersJob j told lacks before now NoMemory = now ≡ before
+-- a file of the job was not read: it is lacked, or a read of it failed, which steady files never do
+pub record NotReadFor (j : JobTree) (old new : FilesState) : Type 0 where
+  pub cause : LacksFor j old ⊎ Rose old.faults new.faults
+  pub sure : IsTrue old.steady → LacksFor j old
+
+-- the answer to a job
+abbrev pub AnswersJob : JobTree → FilesState → FilesState → Answer → Type 0
+AnswersJob j old new (Prints report) = Judges j old new (Prints report) × ReportsJob j old report.items
+AnswersJob j old new (Refused line) = Judges j old new (Refused line) × RefusesJob j old line.items
+AnswersJob j old new BadWords = ⊥
+AnswersJob j old new NotRead = NotReadFor j old new
+AnswersJob j old new NoMemory = new.faults ≡ old.faults
 
 -- the answer to words
-abbrev pub Answers : Option JobTree → (List ℕ → Option (List ℕ)) → (List ℕ → Bool) → ℕ → ℕ → Answer → Type 0
-Answers None told lacks before now BadWords = now ≡ before
-Answers None told lacks before now _ = ⊥
-Answers (Some j) told lacks before now a = AnswersJob j (told (file_of j)) (lacks (file_of j)) before now a
+abbrev pub Answers : Option JobTree → FilesState → FilesState → Answer → Type 0
+Answers None old new BadWords = new.faults ≡ old.faults
+Answers None old new _ = ⊥
+Answers (Some j) old new a = AnswersJob j old new a

@@ -1,6 +1,7 @@
 pub mod Answers
 pub mod Arithmetic
 pub mod Delivers
+pub mod FilesSeen
 pub mod Jobs
 pub mod Listing
 pub mod Loads

@@ -1,24 +1,16 @@
 -- What the top call promises: for each status, what it means, what was written, and why it comes; and what comes where nothing fails.
--- The files are seen as what they tell and lack and as their count of faults, the sinks as `SinkState`. What isn't told of a file is
--- left open: a device of which nothing is known, as the system's files, may tell nothing.
-use Rattle.std.specs.Prelude.{◌≡◌, ◌≢◌, ◌⊎◌, ℕ, Bool, IsTrue, List, Option, None, Some, IfSome}
+-- The files are seen as `FilesState`, the sinks as `SinkState`. What isn't told of a file is left open only so far as it must be: the
+-- report is then the right one for some bytes, and so is the line of a fault.
+use Rattle.std.specs.Prelude.{◌≡◌, ◌≢◌, ◌⊎◌, ℕ, ◌≤◌, IsTrue, List, length, Option, None, Some}
 use Rattle.goi_world.specs.Outside.{Rose}
-use Rattle.pcf_values.specs.Terms.{TyTree, TermTree}
-use Rattle.pcf_values.specs.Named.{NamedTree}
 use Rattle.goi_engine.specs.declared.fault.Fault.{Fault}
+use Rattle.goi_engine.specs.Answers.{NotReadFor}
 use Rattle.goi_engine.specs.Delivers.{SinkState, Untouched, Wrote, Broke}
-use Rattle.goi_engine.specs.Jobs.{JobTree, file_of}
+use Rattle.goi_engine.specs.FilesSeen.{FilesState, FilesKept}
+use Rattle.goi_engine.specs.Jobs.{JobTree}
 use Rattle.goi_engine.specs.Refusals.{fault_line, words_line, read_line, memory_line, write_line}
-use Rattle.goi_engine.specs.Verdicts.{Accepted, Faulty, ReportsOn}
-
--- what is seen of files
-pub record FilesState : Type 0 where
-  pub told : List ℕ → Option (List ℕ)
-  pub lacks : List ℕ → Bool
-  pub faults : ℕ
-
-abbrev pub files_seen : (List ℕ → Option (List ℕ)) → (List ℕ → Bool) → ℕ → FilesState
-files_seen told lacks faults = record { told = told; lacks = lacks; faults = faults }
+use Rattle.goi_engine.specs.Reports.{most_line}
+use Rattle.goi_engine.specs.Verdicts.{ReportsJob, RefusesJob, CanDo, FaultyJob, LacksFor}
 
 -- everything outside, at one moment
 pub record World : Type 0 where
@@ -34,28 +26,40 @@ pub record WroteLine (line : List ℕ) (old new : World) : Type 0 where
   pub out : Untouched old.out new.out
   pub err : Wrote line old.err new.err
 
--- the report on the job's file was written whole, and nothing to `err`
+-- the report of the job was written whole, and nothing to `err`
 pub record Printed (j : JobTree) (old new : World) : Type 0 where
   pub report : List ℕ
+  pub right : ReportsJob j old.files report
   pub out : Wrote report old.out new.out
   pub err : Untouched old.err new.err
-  pub right : IfSome (old.files.told (file_of j)) (λ bytes. ReportsOn j bytes report)
 
--- the line of a fault was written, which is the first that the job's file has
+-- the line of a fault was written, which is the job's first
 pub record RefusedFault (j : JobTree) (old new : World) : Type 0 where
   pub line : List ℕ
+  pub right : RefusesJob j old.files line
   pub wrote : WroteLine line old new
-  pub right : IfSome (old.files.told (file_of j)) (λ bytes. (f : Fault) × Faulty j bytes f × (line ≡ fault_line f))
 
--- `out` failed behind a front of a report; then the line that says so was written to `err`, or a front of it before `err` failed too
-pub record OutFailed (old new : World) : Type 0 where
+-- `out` failed behind a front of the job's report; then the line that says so was written to `err`, or a front of it before `err`
+-- failed too
+pub record OutFailed (job : Option JobTree) (old new : World) : Type 0 where
+  pub j : JobTree
+  pub asked : job ≡ Some j
   pub report : List ℕ
+  pub right : ReportsJob j old.files report
   pub out : Broke report old.out new.out
   pub err : Wrote write_line old.err new.err ⊎ Broke write_line old.err new.err
 
--- `err` failed behind a front of a refusal's line, and nothing was written to `out`
-pub record ErrFailed (old new : World) : Type 0 where
+-- the line of the refusal that stands: of the words, of a file that was not read, of want of memory, or of the job's first fault
+pub data RefusalLine (job : Option JobTree) (old new : World) : List ℕ → Type 0 where
+  of_words : job ≡ None → RefusalLine job old new words_line
+  of_read : (j : JobTree) → job ≡ Some j → NotReadFor j old.files new.files → RefusalLine job old new read_line
+  of_memory : RefusalLine job old new memory_line
+  of_fault : (j : JobTree) (line : List ℕ) → job ≡ Some j → RefusesJob j old.files line → RefusalLine job old new line
+
+-- `err` failed behind a front of that line, and nothing was written to `out`
+pub record ErrFailed (job : Option JobTree) (old new : World) : Type 0 where
   pub line : List ℕ
+  pub stands : RefusalLine job old new line
   pub out : Untouched old.out new.out
   pub err : Broke line old.err new.err
 
@@ -71,14 +75,13 @@ MeansFault job old new = (j : JobTree) × (job ≡ Some j) × RefusedFault j old
 abbrev pub MeansBadWords : Option JobTree → World → World → Type 0
 MeansBadWords job old new = (job ≡ None) × WroteLine words_line old new
 
--- status 3: a read of the job's file failed, or there is no such file
+-- status 3: a file of the job was not read
 abbrev pub MeansNotRead : Option JobTree → World → World → Type 0
-MeansNotRead job old new =
-    (j : JobTree) × (job ≡ Some j) × (IsTrue (old.files.lacks (file_of j)) ⊎ Rose old.files.faults new.files.faults) × WroteLine read_line old new
+MeansNotRead job old new = (j : JobTree) × (job ≡ Some j) × NotReadFor j old.files new.files × WroteLine read_line old new
 
 -- status 4: a write failed
-abbrev pub MeansNotWritten : World → World → Type 0
-MeansNotWritten old new = OutFailed old new ⊎ ErrFailed old new
+abbrev pub MeansNotWritten : Option JobTree → World → World → Type 0
+MeansNotWritten job old new = OutFailed job old new ⊎ ErrFailed job old new
 
 -- status 6: there was no memory
 abbrev pub MeansNoMemory : World → World → Type 0
@@ -94,17 +97,19 @@ pub record NoneFailed (old new : World) : Type 0 where
   pub out : Rose old.out.faults new.out.faults → ⊥
   pub err : Rose old.err.faults new.err.faults → ⊥
 
--- where the words have a job and its file is told: a text that the job can be done with gives its report
-abbrev pub CompleteReport : Option JobTree → World → World → ℕ → Type 0
-CompleteReport job old new status =
-    (j : JobTree) (bytes : List ℕ) (tree : NamedTree) (t : TermTree) (A : TyTree) → job ≡ Some j → old.files.told (file_of j) ≡ Some bytes → Accepted j bytes tree t A → NoneFailed old new →
-    (status ≡ 0) ⊎ (status ≡ 6)
+-- the sinks are sure to take what may come: `out` any report of the job, and `err` any line
+pub record SureRoom (job : Option JobTree) (old : World) : Type 0 where
+  pub out : (j : JobTree) (report : List ℕ) → job ≡ Some j → ReportsJob j old.files report → length report ≤ old.out.spare
+  pub err : most_line ≤ old.err.spare
 
--- and a text with a fault gives the line of that fault
+-- where the files tell what the job needs: what it can be done with gives its report
+abbrev pub CompleteReport : Option JobTree → World → World → ℕ → Type 0
+CompleteReport job old new status = (j : JobTree) → job ≡ Some j → CanDo j old.files → NoneFailed old new → (status ≡ 0) ⊎ (status ≡ 6)
+
+-- and what has a fault gives the line of that fault
 abbrev pub CompleteFault : Option JobTree → World → World → ℕ → Type 0
 CompleteFault job old new status =
-    (j : JobTree) (bytes : List ℕ) (f : Fault) → job ≡ Some j → old.files.told (file_of j) ≡ Some bytes → Faulty j bytes f → NoneFailed old new →
-    ((status ≡ 1) × WroteLine (fault_line f) old new) ⊎ (status ≡ 6)
+    (j : JobTree) (f : Fault) → job ≡ Some j → FaultyJob j old.files f → NoneFailed old new → ((status ≡ 1) × WroteLine (fault_line f) old new) ⊎ (status ≡ 6)
 
 -- words without a job are refused
 abbrev pub CompleteWords : Option JobTree → World → World → ℕ → Type 0
@@ -112,7 +117,7 @@ CompleteWords job old new status = job ≡ None → NoneFailed old new → (stat
 
 -- a file that is lacked can't be read
 abbrev pub CompleteLacked : Option JobTree → World → World → ℕ → Type 0
-CompleteLacked job old new status = (j : JobTree) → job ≡ Some j → IsTrue (old.files.lacks (file_of j)) → NoneFailed old new → (status ≡ 3) ⊎ (status ≡ 6)
+CompleteLacked job old new status = (j : JobTree) → job ≡ Some j → LacksFor j old.files → NoneFailed old new → (status ≡ 3) ⊎ (status ≡ 6)
 
 -- the promise of the top call, for the job that was asked, the world before and after it, and the status that it gave
 pub record Promise (job : Option JobTree) (old new : World) (status : ℕ) : Type 0 where
@@ -120,16 +125,17 @@ pub record Promise (job : Option JobTree) (old new : World) (status : ℕ) : Typ
   pub fault : status ≡ 1 → MeansFault job old new
   pub bad_words : status ≡ 2 → MeansBadWords job old new
   pub not_read : status ≡ 3 → MeansNotRead job old new
-  pub not_written : status ≡ 4 → MeansNotWritten old new
+  pub not_written : status ≡ 4 → MeansNotWritten job old new
   pub no_memory : status ≡ 6 → MeansNoMemory old new
   -- no other status comes
   pub statuses : (status ≡ 0) ⊎ (status ≡ 1) ⊎ (status ≡ 2) ⊎ (status ≡ 3) ⊎ (status ≡ 4) ⊎ (status ≡ 6)
   -- what the files tell and lack stays
-  pub told : new.files.told ≡ old.files.told
-  pub lacks : new.files.lacks ≡ old.files.lacks
+  pub files : FilesKept old.files new.files
   -- a sink's count of faults changes only with status 4, and the files' count only where the file could not be read
   pub quiet : status ≢ 4 → Quiet old.out new.out × Quiet old.err new.err
   pub read : status ≢ 3 → status ≢ 4 → new.files.faults ≡ old.files.faults
+  -- where the sinks are sure to take what may come, no write fails
+  pub sure : SureRoom job old → status ≢ 4
   -- what comes where nothing fails
   pub reports : CompleteReport job old new status
   pub refuses : CompleteFault job old new status

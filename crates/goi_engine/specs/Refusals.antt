@@ -1,12 +1,13 @@
 -- Which line stands for each refusal.
 -- A fault of a program is spelled with its place, as in `Unexpected(0)`, where it has one.
-use Rattle.std.specs.Prelude.{ℕ, List, ◌++◌, codes, decimal}
+use Rattle.std.specs.Prelude.{◌≡◌, ℕ, ◌≤◌, List, ◌++◌, length, codes, decimal}
 use Rattle.pcf_reader.specs.declared.fault.ReadFault.{ReadFault}
 use Rattle.pcf_reader.specs.declared.fault.ReadFault.TheVariants as read
 use Rattle.pcf_types.specs.declared.fault.TypeFault.{TypeFault}
 use Rattle.pcf_types.specs.declared.fault.TypeFault.TheVariants as typing
 use Rattle.goi_engine.specs.declared.fault.Fault.{Fault}
 use Rattle.goi_engine.specs.declared.fault.Fault.TheVariants as fault
+use Rattle.goi_engine.specs.Reports.{most_line}
 
 -- a line that tells a fault without a place, and one with its place
 abbrev pub plain_line : List ℕ → List ℕ
@@ -40,6 +41,11 @@ fault_line (fault.Read f) = read_fault_line f
 fault_line (fault.Typing f) = type_fault_line f
 fault_line fault.NotGround = plain_line (codes "NotGround")
 fault_line fault.NotBuilt = plain_line (codes "NotBuilt")
+
+-- the line is that of the fault; it is short
+pub record IsLine (f : Fault) (line : List ℕ) : Type 0 where
+  pub same : line ≡ fault_line f
+  pub short : length line ≤ most_line
 
 -- the lines of the other refusals, and the one that tells that a write failed
 abbrev pub words_line : List ℕ

@@ -6,6 +6,10 @@ use Rattle.pcf_values.specs.Terms.{TyTree}
 use Rattle.pcf_values.specs.Named.{NamedTree}
 use Rattle.pcf_reader.specs.Printed.{ty_text, term_text}
 
+-- no line of a refusal is longer, and no report on a run
+abbrev pub most_line : ℕ
+most_line = 64
+
 -- a run's value, and the number of its moves
 abbrev pub run_report : Val → ℕ → List ℕ
 run_report (Number n) moves = codes "value " ++ (decimal n ++ (codes "\nmoves " ++ (decimal moves ++ codes "\n")))

@@ -1,8 +1,10 @@
 //! The answer to the words, as a value, before anything is written.
 
 ghost use Rattle.std.specs.Prelude.{◌≡◌, map, string_bytes};
-ghost use Rattle.goi_engine.specs.Jobs.{job, seen_job};
 ghost use Rattle.goi_engine.specs.Answers.{Answers, AnswersText};
+ghost use Rattle.goi_engine.specs.FilesSeen.{FilesKept, files_seen};
+ghost use Rattle.goi_engine.specs.Jobs.{job, seen_job};
+ghost use Rattle.goi_engine.specs.Verdicts.{ReadForJob};
 
 use crate::fault::fault_line;
 use crate::job::{Job, job_of};
@@ -28,15 +30,15 @@ pub(crate) enum Answer {
 
 /// Does the job that the words ask for, with the file that they name.
 pub(crate) fn answer_to<F: Files>(alloc: Global, words: &[String], files: &mut F) -> Answer
-    ensures told { F.told files.new ≡ F.told files.old }
-    ensures lacks { F.lacks files.new ≡ F.lacks files.old }
-    ensures answers { Answers (job (map string_bytes words.now)) (F.told files.old) (F.lacks files.old) (F.faults files.old) (F.faults files.new) result }
+    ensures kept { FilesKept (files_seen (F.told files.old) (F.lacks files.old) (F.faults files.old) (F.steady files.old)) (files_seen (F.told files.new) (F.lacks files.new) (F.faults files.new) (F.steady files.new)) }
+    ensures answers { Answers (job (map string_bytes words.now)) (files_seen (F.told files.old) (F.lacks files.old) (F.faults files.old) (F.steady files.old)) (files_seen (F.told files.new) (F.lacks files.new) (F.faults files.new) (F.steady files.new)) result }
+    ensures reads { ReadForJob F.reads (job (map string_bytes words.now)) files.old files.new }
 {
     let Some(job) = job_of(words) else {
         return Answer::BadWords;
     };
     match load(alloc, files, job.file()) {
-        Ok(loaded) => answer_text(alloc, job, &loaded.bytes),
+        Ok(bytes) => answer_text(alloc, job, &bytes),
         Err(error) => not_loaded(error),
     }
 }

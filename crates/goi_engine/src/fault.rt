@@ -1,7 +1,8 @@
 //! Faults of programs, and the lines that tell them.
 
-ghost use Rattle.std.specs.Prelude.{◌≡◌, IfOk, string_bytes};
-ghost use Rattle.goi_engine.specs.Refusals.{fault_line, plain_line, placed_line, read_fault_line, type_fault_line};
+ghost use Rattle.std.specs.Prelude.{◌≡◌, ◌≤◌, length, IfOk, string_bytes};
+ghost use Rattle.goi_engine.specs.Refusals.{IsLine, plain_line, placed_line, read_fault_line, type_fault_line};
+ghost use Rattle.goi_engine.specs.Reports.{most_line};
 
 use pcf_reader::ReadFault;
 use pcf_types::TypeFault;
@@ -22,7 +23,7 @@ pub(crate) enum Fault {
 
 /// The line of a fault.
 pub(crate) fn fault_line(alloc: Global, fault: Fault) -> Result<Vec<u8>, AllocError>
-    ensures { IfOk result (λ v. v.items ≡ fault_line fault) }
+    ensures { IfOk result (λ v. IsLine fault v.items) }
 {
     let text = match fault {
         Fault::Read(fault) => read_line(alloc, fault),
@@ -34,7 +35,8 @@ pub(crate) fn fault_line(alloc: Global, fault: Fault) -> Result<Vec<u8>, AllocEr
 }
 
 fn read_line(alloc: Global, fault: ReadFault) -> Result<String, AllocError>
-    ensures { IfOk result (λ text. string_bytes text ≡ read_fault_line fault) }
+    ensures line { IfOk result (λ text. string_bytes text ≡ read_fault_line fault) }
+    ensures short { IfOk result (λ text. length (string_bytes text) ≤ most_line) }
 {
     match fault {
         ReadFault::NoMemory => plain_line(alloc, "NoMemory"),
@@ -49,7 +51,8 @@ fn read_line(alloc: Global, fault: ReadFault) -> Result<String, AllocError>
 }
 
 fn type_line(alloc: Global, fault: TypeFault) -> Result<String, AllocError>
-    ensures { IfOk result (λ text. string_bytes text ≡ type_fault_line fault) }
+    ensures line { IfOk result (λ text. string_bytes text ≡ type_fault_line fault) }
+    ensures short { IfOk result (λ text. length (string_bytes text) ≤ most_line) }
 {
     match fault {
         TypeFault::NoMemory => plain_line(alloc, "NoMemory"),
@@ -64,14 +67,18 @@ fn type_line(alloc: Global, fault: TypeFault) -> Result<String, AllocError>
 
 /// The line of a fault without a place.
 fn plain_line(alloc: Global, name: &str) -> Result<String, AllocError>
-    ensures { IfOk result (λ text. string_bytes text ≡ plain_line name.now) }
+    requires { length name.now ≤ 20 }
+    ensures line { IfOk result (λ text. string_bytes text ≡ plain_line name.now) }
+    ensures short { IfOk result (λ text. length (string_bytes text) ≤ most_line) }
 {
     format!(in alloc; "refused: {name}\n")
 }
 
 /// The line of a fault with its place.
 fn placed_line(alloc: Global, name: &str, at: u32) -> Result<String, AllocError>
-    ensures { IfOk result (λ text. string_bytes text ≡ placed_line name.now at) }
+    requires { length name.now ≤ 20 }
+    ensures line { IfOk result (λ text. string_bytes text ≡ placed_line name.now at) }
+    ensures short { IfOk result (λ text. length (string_bytes text) ≤ most_line) }
 {
     format!(in alloc; "refused: {name}({at})\n")
 }

@@ -5,6 +5,7 @@ ghost use Rattle.pcf_values.specs.Terms.{TyTree, TermTree, nat, size, height};
 ghost use Rattle.pcf_values.specs.Typing.{HasType};
 ghost use Rattle.pcf_values.specs.Named.{NamedTree, named_size, named_height};
 ghost use Rattle.pcf_values.specs.Views.{named_of, term_of};
+ghost use Rattle.pcf_values.specs.Most.{most_nodes};
 ghost use Rattle.net_build.specs.NetOf.{net_of};
 ghost use Rattle.goi_engine.specs.declared.fault.Fault.{Fault as FaultType};
 ghost use Rattle.goi_engine.specs.Arithmetic.{is_arithmetic};
@@ -93,7 +94,7 @@ pub(crate) fn report_on(alloc: Global, job: Job<'_>, bytes: &[u8]) -> Result<Vec
 
 /// The report of a job on a tree, or its first fault.
 fn report_tree(alloc: Global, job: Job<'_>, tree: &Named) -> Result<Vec<u8>, Stop>
-    requires size { named_size (named_of tree.now) ≤ 32768 }
+    requires size { named_size (named_of tree.now) ≤ most_nodes }
     requires height { named_height (named_of tree.now) ≤ 2600 }
     ensures reported { IfOk result (λ v. ReportsTree (seen_job job.entry) (named_of tree.now) v.items) }
     ensures fault { IfErr result (λ e. StopsFor (FaultyTree (seen_job job.entry) (named_of tree.now)) e) }
@@ -112,7 +113,7 @@ fn report_program(
     tree: &Named,
     program: &Typed,
 ) -> Result<Vec<u8>, Stop>
-    requires size { size program.now.0 ≤ 32768 }
+    requires size { size program.now.0 ≤ most_nodes }
     requires height { height program.now.0 ≤ 2600 }
     ensures suits { IfOk result (λ v. Suits (seen_job job.entry) program.now.0 program.now.1) }
     ensures reported { IfOk result (λ v. Reports (seen_job job.entry) (named_of tree.now) program.now.0 program.now.1 v.items) }
@@ -127,7 +128,7 @@ fn report_program(
 
 /// The report of a run.
 fn run_program(alloc: Global, program: &Typed) -> Result<Vec<u8>, Stop>
-    requires size { size program.now.0 ≤ 32768 }
+    requires size { size program.now.0 ≤ most_nodes }
     requires height { height program.now.0 ≤ 2600 }
     ensures suits { IfOk result (λ v. Suits (run []) program.now.0 program.now.1) }
     ensures reported { IfOk result (λ v. ReportsRun program.now.0 v.items) }
@@ -159,7 +160,7 @@ fn run_arithmetic(alloc: Global, program: &Typed) -> Result<Vec<u8>, AllocError>
     requires typed { HasType [] program.now.0 nat }
     requires ground { program.now.1 ≡ nat }
     requires arithmetic { is_arithmetic program.now.0 ≡ true }
-    requires size { size program.now.0 ≤ 32768 }
+    requires size { size program.now.0 ≤ most_nodes }
     requires height { height program.now.0 ≤ 2600 }
     ensures { IfOk result (λ v. ReportsRun program.now.0 v.items) }
 {
@@ -175,7 +176,7 @@ fn run_arithmetic(alloc: Global, program: &Typed) -> Result<Vec<u8>, AllocError>
 
 /// The listing of a ground program's net.
 fn list_net(alloc: Global, program: &Typed) -> Result<Vec<u8>, Stop>
-    requires size { size program.now.0 ≤ 32768 }
+    requires size { size program.now.0 ≤ most_nodes }
     requires height { height program.now.0 ≤ 2600 }
     ensures suits { IfOk result (λ v. program.now.1 ≡ nat) }
     ensures reported { IfOk result (λ v. v.items ≡ listing (net_of program.now.0)) }
@@ -193,7 +194,7 @@ fn list_net(alloc: Global, program: &Typed) -> Result<Vec<u8>, Stop>
 /// The net of a ground program.
 fn net_of(alloc: Global, program: &Typed) -> Result<Net, AllocError>
     requires ground { program.now.1 ≡ nat }
-    requires size { size program.now.0 ≤ 32768 }
+    requires size { size program.now.0 ≤ most_nodes }
     requires height { height program.now.0 ≤ 2600 }
     ensures { IfOk result (λ net. net ≡ net_of program.now.0) }
 {

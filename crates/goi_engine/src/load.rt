@@ -1,7 +1,9 @@
 //! Reading a program's file, piece by piece, up to one byte more than its limit.
 
-ghost use Rattle.std.specs.Prelude.{◌≡◌, ◌⊎◌, ◌<◌, ◌≤◌, ◌+◌, IsTrue, length, take, IsErr, OnOk, IfOk, IfSome, IsErrOf};
-ghost use Rattle.goi_world.specs.Outside.{Rose};
+ghost use Rattle.std.specs.Prelude.{◌≡◌, ◌⊎◌, ◌<◌, ◌≤◌, ◌+◌, ℕ, IsTrue, length, take, IsErr, OnOk, IfOk, IfSome, IsErrOf};
+ghost use Rattle.goi_world.specs.Outside.{Rose, reading};
+ghost use Rattle.pcf_values.specs.Most.{most_program_bytes};
+ghost use Rattle.goi_engine.specs.FilesSeen.{LoadedBy};
 ghost use Rattle.goi_engine.specs.Loads.{Loads};
 ghost use Rattle.goi_engine.specs.declared.load.LoadError.TheVariants.{Memory};
 
@@ -15,15 +17,8 @@ const MOST_BYTES: usize = PROGRAM_BYTES as usize + 1;
 /// How many bytes are asked for in one turn.
 const PIECE_BYTES: usize = 65_536;
 
-/// The most turns: each but the last takes a byte.
-const MOST_TURNS: u32 = MOST_BYTES as u32 + 1;
-
-/// What was read of a file, in so many turns of one read each.
-#[derive(Drop)]
-pub(crate) struct Loaded {
-    pub(crate) bytes: Vec<u8>,
-    pub(crate) turns: u32,
-}
+/// The most turns: each but the last takes a byte, and the last may find the end.
+const MOST_TURNS: u32 = MOST_BYTES as u32;
 
 /// Why a file wasn't loaded.
 #[derive(Clone, Copy)]
@@ -41,16 +36,19 @@ impl From<AllocError> for LoadError {
 }
 
 /// The bytes of a file, or as many as show that it is too long.
-pub(crate) fn load<F: Files>(alloc: Global, files: &mut F, name: &str) -> Result<Loaded, LoadError>
+pub(crate) fn load<F: Files>(alloc: Global, files: &mut F, name: &str) -> Result<Vec<u8>, LoadError>
     ensures told { F.told files.new ≡ F.told files.old }
     ensures lacks { F.lacks files.new ≡ F.lacks files.old }
-    ensures bytes { IfOk result (λ v. IfSome (F.told files.old name.now) (λ bytes. v.bytes.items ≡ take 1048577 bytes)) }
-    ensures no_further { IfOk result (λ v. length v.bytes.items ≤ 1048577) }
-    ensures turns { IfOk result (λ v. v.turns ≤ 1048578) }
+    ensures steady { F.steady files.new ≡ F.steady files.old }
+    ensures quiet { IsTrue (F.steady files.old) → F.faults files.new ≡ F.faults files.old }
+    ensures bytes { IfOk result (λ v. IfSome (F.told files.old name.now) (λ bytes. v.items ≡ take (most_program_bytes + 1) bytes)) }
+    ensures no_further { IfOk result (λ v. length v.items ≤ most_program_bytes + 1) }
+    ensures reads { LoadedBy F.reads name.now most_program_bytes files.old files.new }
     ensures lacked { IsTrue (F.lacks files.old name.now) → IsErr result }
     ensures ok { OnOk result (F.faults files.new ≡ F.faults files.old) }
     ensures memory { IsErrOf result LoadError.Memory → F.faults files.new ≡ F.faults files.old }
     ensures failed { IsErrOf result LoadError.Failed → IsTrue (F.lacks files.old name.now) ⊎ Rose (F.faults files.old) (F.faults files.new) }
+    ensures sure { IsTrue (F.steady files.old) → IsErrOf result LoadError.Failed → IsTrue (F.lacks files.old name.now) }
 {
     let mut piece = zeros(alloc, PIECE_BYTES)?;
     let buffer: &mut [u8] = &mut piece;
@@ -59,8 +57,7 @@ pub(crate) fn load<F: Files>(alloc: Global, files: &mut F, name: &str) -> Result
         let most = PIECE_BYTES.min(MOST_BYTES - bytes.len());
         let count = load_piece(files, name, &mut buffer[..most], &mut bytes)?;
         if count == 0 || bytes.len() == MOST_BYTES {
-            let turns = turn + 1;
-            return Ok(Loaded { bytes, turns });
+            return Ok(bytes);
         }
     }
     unreachable!()
@@ -82,14 +79,18 @@ fn load_piece<F: Files>(
     bytes: &mut Vec<u8>,
 ) -> Result<usize, LoadError>
     requires some { 0 < length piece.old }
-    requires room { length bytes.old.items + length piece.old ≤ 1048577 }
+    requires room { length bytes.old.items + length piece.old ≤ most_program_bytes + 1 }
     ensures told { F.told files.new ≡ F.told files.old }
     ensures lacks { F.lacks files.new ≡ F.lacks files.old }
+    ensures steady { F.steady files.new ≡ F.steady files.old }
+    ensures quiet { IsTrue (F.steady files.old) → F.faults files.new ≡ F.faults files.old }
+    ensures reads { (room : ℕ) × (length bytes.old.items + room ≤ most_program_bytes + 1) × F.reads files.old (reading name.now (length bytes.old.items) room) files.new }
     ensures loads { IfOk result (λ n. Loads (F.told files.old name.now) bytes.old.items bytes.new.items n) }
     ensures lacked { IsTrue (F.lacks files.old name.now) → IsErr result }
     ensures ok { OnOk result (F.faults files.new ≡ F.faults files.old) }
     ensures memory { IsErrOf result LoadError.Memory → F.faults files.new ≡ F.faults files.old }
     ensures failed { IsErrOf result LoadError.Failed → IsTrue (F.lacks files.old name.now) ⊎ Rose (F.faults files.old) (F.faults files.new) }
+    ensures sure { IsTrue (F.steady files.old) → IsErrOf result LoadError.Failed → IsTrue (F.lacks files.old name.now) }
 {
     match files.read(name, bytes.len() as u64, piece) {
         Ok(count) => {

@@ -1,8 +1,8 @@
 //! The texts that are printed.
 
-ghost use Rattle.std.specs.Prelude.{◌≡◌, ◌++◌, true, false, codes, IfOk, OnOk, string_bytes};
+ghost use Rattle.std.specs.Prelude.{◌≡◌, ◌≤◌, ◌++◌, true, false, length, codes, IfOk, OnOk, string_bytes};
 ghost use Rattle.pcf_values.specs.Views.{named_of, ty_of};
-ghost use Rattle.goi_engine.specs.Reports.{run_report, check_report, type_line, term_line};
+ghost use Rattle.goi_engine.specs.Reports.{most_line, run_report, check_report, type_line, term_line};
 
 use pcf_reader::{print_term, print_ty};
 use pcf_values::{Named, Ty, Val};
@@ -10,13 +10,28 @@ use std::alloc::{AllocError, Global};
 
 /// The report of a run with this value after so many moves.
 pub(crate) fn run_report(alloc: Global, value: Val, moves: u32) -> Result<Vec<u8>, AllocError>
-    ensures { IfOk result (λ v. v.items ≡ run_report value moves) }
+    ensures report { IfOk result (λ v. v.items ≡ run_report value moves) }
+    ensures short { IfOk result (λ v. length v.items ≤ most_line) }
 {
     let text = match value {
-        Val::Number(n) => format!(in alloc; "value {n}\nmoves {moves}\n"),
-        Val::Overflow => format!(in alloc; "value overflow\nmoves {moves}\n"),
+        Val::Number(n) => number_report(alloc, n, moves),
+        Val::Overflow => overflow_report(alloc, moves),
     };
     Ok(text?.into_bytes())
+}
+
+fn number_report(alloc: Global, n: u64, moves: u32) -> Result<String, AllocError>
+    ensures report { IfOk result (λ text. string_bytes text ≡ run_report (Val.Number n) moves) }
+    ensures short { IfOk result (λ text. length (string_bytes text) ≤ most_line) }
+{
+    format!(in alloc; "value {n}\nmoves {moves}\n")
+}
+
+fn overflow_report(alloc: Global, moves: u32) -> Result<String, AllocError>
+    ensures report { IfOk result (λ text. string_bytes text ≡ run_report Val.Overflow moves) }
+    ensures short { IfOk result (λ text. length (string_bytes text) ≤ most_line) }
+{
+    format!(in alloc; "value overflow\nmoves {moves}\n")
 }
 
 /// The report on a program's type, and with `term` on the program itself.

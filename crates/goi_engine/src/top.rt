@@ -3,7 +3,9 @@
 ghost use Rattle.std.specs.Prelude.{map, string_bytes};
 ghost use Rattle.goi_engine.specs.Delivers.{sink};
 ghost use Rattle.goi_engine.specs.Jobs.{job};
-ghost use Rattle.goi_engine.specs.Promise.{files_seen, world, Promise};
+ghost use Rattle.goi_engine.specs.FilesSeen.{files_seen};
+ghost use Rattle.goi_engine.specs.Promise.{world, Promise};
+ghost use Rattle.goi_engine.specs.Verdicts.{ReadForJob};
 
 use crate::answer::answer_to;
 use crate::deliver::deliver;
@@ -29,9 +31,12 @@ pub fn goi<F: Files, O: Sink, E: Sink>(
     err: &mut E,
 ) -> u8
     ensures promise { let asked = job (map string_bytes words.now) in
-        let old = world (files_seen (F.told files.old) (F.lacks files.old) (F.faults files.old)) (sink (O.written out.old) (O.faults out.old) (O.spare out.old)) (sink (E.written err.old) (E.faults err.old) (E.spare err.old)) in
-        let new = world (files_seen (F.told files.new) (F.lacks files.new) (F.faults files.new)) (sink (O.written out.new) (O.faults out.new) (O.spare out.new)) (sink (E.written err.new) (E.faults err.new) (E.spare err.new)) in
+        let old = world (files_seen (F.told files.old) (F.lacks files.old) (F.faults files.old) (F.steady files.old)) (sink (O.written out.old) (O.faults out.old) (O.spare out.old)) (sink (E.written err.old) (E.faults err.old) (E.spare err.old)) in
+        let new = world (files_seen (F.told files.new) (F.lacks files.new) (F.faults files.new) (F.steady files.new)) (sink (O.written out.new) (O.faults out.new) (O.spare out.new)) (sink (E.written err.new) (E.faults err.new) (E.spare err.new)) in
         Promise asked old new result }
+
+    // The files are read for the job alone, and not too often.
+    ensures reads { ReadForJob F.reads (job (map string_bytes words.now)) files.old files.new }
 {
     let answer = answer_to(alloc, words, files);
     deliver(&answer, out, err)

@@ -18,6 +18,21 @@ count_after n = min (n + 1) (2 ^ 64 - 1)
 abbrev pub Rose : ℕ → ℕ → Type 0
 Rose before now = count_after before ≤ now
 
+-- a read: of which file, from which offset on, and with room for how many bytes
+pub record Reading : Type 0 where
+  pub name : List ℕ
+  pub at : ℕ
+  pub room : ℕ
+
+abbrev pub reading : List ℕ → ℕ → ℕ → Reading
+reading name at room = record { name = name; at = at; room = room }
+
+-- files came from their first state to this one by these reads and no others, the last of them first; `one` says what a read makes of
+-- a state
+abbrev pub CameBy : {S : Type 0} → (S → Reading → S → Type 0) → S → List Reading → S → Type 0
+CameBy one first [] now = now ≡ first
+CameBy {S} one first (r ∷ log) now = (mid : S) × CameBy one first log mid × one mid r now
+
 -- the buffer begins with n bytes of a file from an offset on; there are none only at the file's end or without room
 pub record IsPiece (bytes : List ℕ) (at n : ℕ) (buf : List ℕ) : Type 0 where
   pub same : take n buf ≡ take n (drop at bytes)

@@ -1,56 +1,64 @@
 // Files of the system.
 ghost use Rattle.std.specs.Prelude.{◌≡◌, ◌≤◌, false, None, OnOk, OnErr, IfOk, length};
 ghost use Rattle.std.proofs.Common.{rules};
-ghost use Rattle.goi_world.specs.Outside.{count_after};
+ghost use Rattle.goi_world.specs.FilesOnDisk.{unread_files, one_read, one_failed};
 
 use crate::{Failed, Files};
 use std::io::{Read, Seek, SeekFrom};
 use std::marker::Model;
 use std::{fs, io, rt};
 
-/// The files of the system, of which nothing is known but how often a read has failed.
+/// The files of the system, of which nothing is known but how many reads there were, and how many failed.
 #[derive(Drop)]
 pub struct DiskFiles<'a, R: rt::Files> {
     system: &'a R,
+    reads: u64,
     faults: u64,
 }
 
 impl<'a, R: rt::Files> Model for DiskFiles<'a, R> {
-    ghost use Rattle.std.specs.Prelude.{ℕ};
+    ghost use Rattle.goi_world.specs.FilesOnDisk.{FilesOnDisk};
 
-    ghost Value = { ℕ };
+    ghost Value = { FilesOnDisk };
 
-    ghost view = { λ files. files.faults };
+    ghost view = { λ files. record { reads = files.reads; faults = files.faults } };
 }
 
 impl<'a, R: rt::Files> DiskFiles<'a, R> {
     /// The files of this runtime.
     pub fn new(rt: &'a R) -> DiskFiles<'a, R>
-        ensures { result ≡ 0 }
+        ensures { result ≡ unread_files }
     {
         DiskFiles {
             system: rt,
+            reads: 0,
             faults: 0,
         }
     }
 }
 
 impl<'a, R: rt::Files> Files for DiskFiles<'a, R> {
+    ghost use Rattle.goi_world.specs.Outside.{count_after};
+
     ghost told = { λ _ _. None };
 
     ghost lacks = { λ _ _. false };
 
-    ghost faults = { λ faults. faults };
+    ghost faults = { λ files. files.faults };
+
+    ghost reads = { λ before _ now. now.reads ≡ count_after before.reads };
 
     ghost lacked_untold = { λ _ _ _. Prim.search rules };
 
     // A missing file is a fault like any other.
     fn read(&mut self, name: &str, at: u64, buf: &mut [u8]) -> Result<usize, Failed>
         ensures bound { IfOk result (λ n. n ≤ length buf.new) }
-        ensures ok { OnOk result (self.new ≡ self.old) }
-        ensures err { OnErr result (self.new ≡ count_after self.old) }
-        ensures later { self.old ≤ self.new }
+        ensures ok { OnOk result (self.new ≡ one_read self.old) }
+        ensures err { OnErr result (self.new ≡ one_failed self.old) }
+        ensures counted { self.new.reads ≡ count_after self.old.reads }
+        ensures later { self.old.faults ≤ self.new.faults }
     {
+        self.reads = self.reads.saturating_add(1);
         match read_file(self.system, name, at, buf) {
             Ok(count) => Ok(count),
             Err(_) => {
@@ -72,6 +80,7 @@ fn read_file<R: rt::Files>(rt: &R, name: &str, at: u64, buf: &mut [u8]) -> io::R
 #[cfg(test)]
 mod tests {
     use super::*;
+    use crate::marks::marked;
     use std::test::Fail;
 
     /// Whether the first bytes that a read gives are these, or it fails where none are wanted.
@@ -98,7 +107,53 @@ mod tests {
             let found = files.read(name, at, &mut buffer);
             assert!(rt; gives(found, &buffer, want) && files.faults == faults);
         }
+        assert!(rt; files.reads == 5);
         fs::remove_file(&rt, "letters")?;
+        Ok(())
+    }
+
+    /// Whether a read of `large` at an offset gives bytes that stand there, and some where there are some.
+    fn reads_there<R: rt::Files>(
+        files: &mut DiskFiles<'_, R>,
+        bytes: &[u8],
+        at: usize,
+        buffer: &mut [u8],
+    ) -> bool {
+        match files.read("large", at as u64, buffer) {
+            Ok(count) => buffer.get(..count) == bytes.get(at..at.saturating_add(count))
+                && (count > 0) == (at < bytes.len()),
+            Err(Failed) => false,
+        }
+    }
+
+    /// Whether reads at an offset give what stands there, with more and less room.
+    fn reads_at<R: rt::Files>(
+        files: &mut DiskFiles<'_, R>,
+        bytes: &[u8],
+        at: usize,
+        buffer: &mut [u8],
+    ) -> bool {
+        for room in [1usize, 100, 65_536, 200_001] {
+            let most = room.min(buffer.len());
+            if !reads_there(files, bytes, at, &mut buffer[..most]) {
+                return false;
+            }
+        }
+        true
+    }
+
+    #[test]
+    fn reads_at_every_place(rt: HostRuntime) -> Result<(), Fail> {
+        let bytes = marked(rt.alloc(), 200_000)?;
+        fs::write(&rt, "large", &bytes)?;
+        let mut files = DiskFiles::new(&rt);
+        let mut buffer = marked(rt.alloc(), 200_001)?;
+        for at in [
+            0usize, 8, 9, 65_535, 65_536, 65_537, 131_071, 131_072, 131_073, 199_999, 200_000,
+        ] {
+            assert!(rt; reads_at(&mut files, &bytes, at, &mut buffer));
+        }
+        fs::remove_file(&rt, "large")?;
         Ok(())
     }
 }

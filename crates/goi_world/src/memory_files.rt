@@ -51,13 +51,15 @@ impl MemoryFiles {
 
 impl Files for MemoryFiles {
     ghost use Rattle.goi_world.specs.Outside.{none_listed, untold};
-    ghost use Rattle.goi_world.specs.FilesInMemory.{told_by, lacked_by};
+    ghost use Rattle.goi_world.specs.FilesInMemory.{told_by, lacked_by, after_read};
 
     ghost told = { told_by };
 
     ghost lacks = { lacked_by };
 
     ghost faults = { λ m. m.faults };
+
+    ghost reads = { λ before r now. now ≡ after_read before r.name };
 
     ghost steady = { λ m. none_listed m.fails };
 

@@ -1,6 +1,6 @@
 // What reads and writes may be relied on for, whatever the device.
 ghost use Rattle.std.specs.Prelude.{◌≡◌, ◌⊎◌, ◌+◌, ◌<◌, ◌≤◌, List, ℕ, Bool, false, IsTrue, length, take, Option, None, IsOk, IsErr, OnOk, OnErr, IfOk, IfSome};
-ghost use Rattle.goi_world.specs.Outside.{Rose, IsPiece, with_more};
+ghost use Rattle.goi_world.specs.Outside.{Rose, Reading, reading, IsPiece, with_more};
 
 /// The one answer of a device that failed.
 #[derive(Clone, Copy, Debug, PartialEq, Eq)]
@@ -17,6 +17,11 @@ pub trait Files {
     /// How often the device has failed in a read.
     ghost faults: { Self → ℕ };
 
+    /// The first state became the second by this one read.
+    ///
+    /// Generic code can show it by reading alone, so that a contract can list all reads that were made.
+    ghost reads: { Self → Reading → Self → Type 0 };
+
     /// It is certain that no read will fail but those of names that are lacked. `false` says nothing.
     ghost steady: { Self → Bool } = { λ _. false };
 
@@ -26,6 +31,7 @@ pub trait Files {
     fn read(&mut self, name: &str, at: u64, buf: &mut [u8]) -> Result<usize, Failed>
         ensures told { told self.new ≡ told self.old }
         ensures lacks { lacks self.new ≡ lacks self.old }
+        ensures reads { reads self.old (reading name.now at (length buf.old)) self.new }
         ensures bound { IfOk result (λ n. n ≤ length buf.new) }
         ensures bytes { IfOk result (λ n. IfSome (told self.old name.now) (λ bytes. IsPiece bytes at n buf.new)) }
         ensures lacked { IsTrue (lacks self.old name.now) → IsErr result }

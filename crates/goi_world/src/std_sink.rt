@@ -56,6 +56,32 @@ impl<W: Write> Sink for StdSink<W> {
 #[cfg(test)]
 mod tests {
     use super::*;
+    use crate::marks::marked;
+    use std::alloc::{AllocError, Global};
+    use std::test::Fail;
+
+    /// Whether a sink over bytes in memory is given a long piece byte for byte.
+    fn takes_whole(alloc: Global, length: u32) -> Result<bool, AllocError> {
+        let piece = marked(alloc, length)?;
+        let mut bytes = vec![in alloc; b'.'; piece.len()]?;
+        let mut sink = StdSink::over(bytes.as_mut_slice());
+        let mut rest: &[u8] = &piece;
+        while !rest.is_empty() {
+            let Ok(count) = sink.write(rest) else {
+                return Ok(false);
+            };
+            rest = rest.split_at(count).1;
+        }
+        Ok(bytes == piece)
+    }
+
+    #[test]
+    fn writes_long_pieces(rt: HostRuntime) -> Result<(), Fail> {
+        for length in [65u32, 65_536, 65_537, 200_000] {
+            assert!(rt; takes_whole(rt.alloc(), length)?);
+        }
+        Ok(())
+    }
 
     #[test]
     fn writes_until_nothing_is_taken(rt: HostRuntime) {

@@ -1,5 +1,6 @@
-use Rattle.std.proofs.Common.{◌∙◌, inl, inr, arith}
-use Rattle.goi_engine.proofs.Loading.{all_loaded, front_goes_on}
+use Rattle.std.proofs.Common.{◌∙◌, ◌+◌, inl, inr, arith}
+use Rattle.pcf_values.specs.Most.{most_program_bytes}
+use Rattle.goi_engine.proofs.Loading.{all_loaded, front_goes_on, next_turn, turns_load}
 use Rattle.goi_engine.proofs.load.load.Goals as goal
 use Rattle.goi_engine.proofs.load.load.Goals.{then-count-eq0-via-then-count-eq0, then-count-eq0-via-else-count-eq0+then-len-eq-MOST_BYTES}
 
@@ -19,6 +20,22 @@ loop-turn-preserved g c =
       within = omega (arith, loads.within, c.if-len-eq-MOST_BYTES.false, c.len-else-count-eq0.ensures, c.load_piece.new.bytes.ok.0);
       told = c.in_ok-count.ensures.told ∙ c.loop-turn.invariant.told;
       lacks = c.in_ok-count.ensures.lacks ∙ c.loop-turn.invariant.lacks;
+      steady = c.in_ok-count.ensures.steady ∙ c.loop-turn.invariant.steady;
+      reads = let r = c.in_ok-count.ensures.reads in next_turn g.F.Files.reads c.args.name.now most_program_bytes c.loop-turn.turn c.args.files.now c.loop-turn.files c.load_piece.new.files _ r.0 c.loop-turn.invariant.reads r.1 r.2;
       faults = c.in_ok-count.ensures.ok ∙ c.loop-turn.invariant.faults;
       front = front_goes_on (g.F.Files.told c.loop-turn.files) (g.F.Files.told c.args.files.now) c.args.name.now c.loop-turn.bytes.items _ c.in_ok-count.count c.loop-turn.invariant.told loads c.loop-turn.invariant.front;
     }
+
+pub returns-then-count-eq0-clause-reads : goal.returns-then-count-eq0-clause-reads
+returns-then-count-eq0-clause-reads g c =
+    let one = g.F.Files.reads in
+    let r = c.in_ok-count.ensures.reads in
+    turns_load one c.args.name.now most_program_bytes (c.loop-turn.turn + 1) c.args.files.now c.load_piece.new.files
+    (next_turn one c.args.name.now most_program_bytes c.loop-turn.turn c.args.files.now c.loop-turn.files c.load_piece.new.files _ r.0 c.loop-turn.invariant.reads r.1 r.2) (omega (arith, c.loop-turn-test.true))
+
+pub returns-in_err-count-clause-reads : goal.returns-in_err-count-clause-reads
+returns-in_err-count-clause-reads g c =
+    let one = g.F.Files.reads in
+    let r = c.in_err-count.ensures.reads in
+    turns_load one c.args.name.now most_program_bytes (c.loop-turn.turn + 1) c.args.files.now c.load_piece.new.files
+    (next_turn one c.args.name.now most_program_bytes c.loop-turn.turn c.args.files.now c.loop-turn.files c.load_piece.new.files _ r.0 c.loop-turn.invariant.reads r.1 r.2) (omega (arith, c.loop-turn-test.true))
