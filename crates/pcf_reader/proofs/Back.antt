@@ -57,9 +57,11 @@ spelled_text t fine shallow few short =
     } in
     ((expr_part e).tree, (items, tokens, derives), w.same)
 
+-- a tree that is another one has what the other has
 of_tree : (t u : NamedTree) → u ≡ t → (Fine u × own_shallow u 0 × (node_count u ≤ most_nodes)) → (Fine t × own_shallow t 0 × (node_count t ≤ most_nodes))
 of_tree t u e h = subst (λ z. Fine z × own_shallow z 0 × (node_count z ≤ most_nodes)) e h
 
+-- the law, for bytes that stand for a tree
 pub read_back : ReadBack
 read_back bytes t h short =
     let d : Derives h.0 t = h.2 in

@@ -9,6 +9,7 @@ use Rattle.pcf_reader.specs.Sizes.{nats, node_count, most_read_height}
 use Rattle.pcf_reader.specs.Laws.{Bounded}
 use Rattle.pcf_reader.proofs.Lists.{each_left, each_right, count-append}
 
+-- what a type's tokens count is how often `nat` stands in it
 mutual
   pub count_type : (o : ℕ) (t : Type_) → count_of (type_text o t) ≡ nats (type_ty t)
   count_type o (only_ptype p) = count_ptype o p
@@ -22,6 +23,7 @@ mutual
   count_tatom o (nat_type at) = refl
   count_tatom o (paren_type at t close) = omega (arith, count-append (type_text (suc o) t) (plain close Close ∷ []), count_type (suc o) t)
 
+-- what a term's tokens count is the count of its tree; an atom that is an argument counts one more
 mutual
   pub count_expr : (o : ℕ) (e : Expr) → count_of (expr_text o e) ≡ node_count (expr_part e).tree
   count_expr o (binding at b xat x colon t dot e) =
@@ -119,6 +121,7 @@ mutual
       )
   low_atom o left extra (prefixed at w a) le h = omega (arith, h.0, low_atom (suc o) 0 0 a (omega (arith, h.0)) h.1)
 
+  -- what stands left of an argument is below the limit
   pub first_left : (o left extra : ℕ) (a : Atom) → Each IsShallow (atom_text o left extra a) → left < most_open
   first_left o left extra (numeral at n) h = h.0
   first_left o left extra (variable at x) h = h.0
@@ -127,6 +130,7 @@ mutual
   first_left o left extra (prefixed at w a) h = omega (arith, h.0)
 
 -- a tree is no higher than it is written
+-- the tree is no higher than the phrase, since only the phrase counts parentheses
 mutual
   pub tree_expr : (e : Expr) → named_height (expr_part e).tree ≤ (expr_part e).height
   tree_expr (binding at b xat x colon t dot e) = omega (arith, tree_expr e)
@@ -153,6 +157,7 @@ mutual
   tree_atom (pairing at a comma b close) = omega (arith, tree_expr a, tree_expr b)
   tree_atom (prefixed at w a) = omega (arith, tree_atom a)
 
+-- a tree has no more nodes than it counts
 size_below : (t : NamedTree) → named_size t ≤ node_count t
 size_below (number_at i n) = omega arith
 size_below (name_at i x) = omega arith
@@ -163,9 +168,11 @@ size_below (ifz_at i c p q) = omega (arith, size_below c, size_below p, size_bel
 size_below (bind_at i b x t m) = omega (arith, size_below m)
 size_below (apply_at i f a) = omega (arith, size_below f, size_below a)
 
+-- what a program counts is the count of its tree
 pub program_count : (p : Program) → count_of (program_text p) ≡ node_count (expr_part p.expr).tree
 program_count p = omega (arith, count-append (expr_text 0 p.expr) (plain p.end End ∷ []), count_expr 0 p.expr)
 
+-- the tree of a list of tokens is within the limits
 within_limits : (items : _) (t : NamedTree) → Derives items t → (node_count t ≤ most_nodes) × (named_size t ≤ most_nodes) × (named_height t ≤ most_read_height)
 within_limits items t d =
     let e : Expr = d.program.expr in
@@ -174,5 +181,6 @@ within_limits items t d =
     let low : named_height whole ≤ most_read_height = omega (arith, tree_expr e, low_expr 0 e (omega arith) (each_left IsShallow (expr_text 0 e) (plain d.program.end End ∷ []) d.shallow)) in
     subst (λ u. (node_count u ≤ most_nodes) × (named_size u ≤ most_nodes) × (named_height u ≤ most_read_height)) d.stands_for (few, omega (arith, few, size_below whole), low)
 
+-- and so is that of a text
 pub bounded : Bounded
 bounded bytes t h = within_limits h.0 t h.2

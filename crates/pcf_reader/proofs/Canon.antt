@@ -19,6 +19,7 @@ pub both_parts : (at : ℕ) (cs : List ℕ) (u v : List Written) (items : List P
 both_parts at cs u v items h =
     subst (λ z. Splits at cs z) (sym (append_assoc (map placed u) (map placed v) items) ∙ ap (λ z. z ++ items) (sym (map-append u v))) h
 
+-- what begins with a blank or one of these signs goes on with no word and no number
 pub space : (cs : List ℕ) → Clear (32 ∷ cs)
 space cs = clear_by 32 cs (omega arith) refl refl
 
@@ -34,9 +35,11 @@ colon_clear cs = clear_by 58 cs (omega arith) refl refl
 pub dot_clear : (cs : List ℕ) → Clear (46 ∷ cs)
 dot_clear cs = clear_by 46 cs (omega arith) refl refl
 
+-- nothing left of a token is below the limit
 pub some_left : 0 < most_open
 some_left = omega arith
 
+-- signs without blanks around them
 pub open_piece : (at : ℕ) (rest : List ℕ) (items : List Placed) → Splits (at + 1) rest items → Splits at (40 ∷ rest) (at_place at Open ∷ items)
 open_piece at rest items h = sign_piece 40 Open at rest items refl refl (λ e. let z : ⊥ = omega (arith, e) in absurd z) h
 
@@ -68,6 +71,7 @@ times_piece at rest items h =
     blank_piece at (42 ∷ 32 ∷ rest) (at_place (at + 1) Times ∷ items) (sign_piece 42 Times (at + 1) (32 ∷ rest) items refl refl (λ e. let z : ⊥ = omega (arith, e) in absurd z)
     (blank_piece ((at + 1) + 1) rest items (place_at (at + 3) (((at + 1) + 1) + 1) rest items (omega arith) h)))
 
+-- the arrow between blanks, which is one sign of two characters
 pub arrow_piece : (at : ℕ) (rest : List ℕ) (items : List Placed) → Splits (at + 4) rest items → Splits at (32 ∷ 45 ∷ 62 ∷ 32 ∷ rest) (at_place (at + 1) Arrow ∷ items)
 arrow_piece at rest items h =
     blank_piece at (45 ∷ 62 ∷ 32 ∷ rest) (at_place (at + 1) Arrow ∷ items) (token (at + 1) (45 ∷ 62 ∷ 32 ∷ rest) (45 ∷ 62 ∷ []) (32 ∷ rest) Arrow items refl arrow_spelled (arrow_longest (32 ∷ rest))
@@ -85,6 +89,7 @@ word_splits the_fst at rest items h =
 word_splits the_snd at rest items h =
     keyword_piece 115 (110 ∷ 100 ∷ []) (Before the_snd) 3 at (32 ∷ rest) items refl refl refl (space rest) (blank_piece (at + 3) rest items (place_at (at + 4) ((at + 3) + 1) rest items (omega arith) h))
 
+-- the word of a binder and the blank behind it
 pub binder_splits : (b : Binder) (at : ℕ) (rest : List ℕ) (items : List Placed) → Splits (at + 4) rest items → Splits at (binder_text b ++ rest) (at_place at (Bind b) ∷ items)
 unfolding word_of
 binder_splits the_fun at rest items h =
@@ -92,6 +97,7 @@ binder_splits the_fun at rest items h =
 binder_splits the_fix at rest items h =
     keyword_piece 102 (105 ∷ 120 ∷ []) (Bind the_fix) 3 at (32 ∷ rest) items refl refl refl (space rest) (blank_piece (at + 3) rest items (place_at (at + 4) ((at + 3) + 1) rest items (omega arith) h))
 
+-- `ifz` and the blank behind it; `then` and `else` between blanks
 pub ifz_piece : (at : ℕ) (rest : List ℕ) (items : List Placed) → Splits (at + 4) rest items → Splits at (105 ∷ 102 ∷ 122 ∷ 32 ∷ rest) (at_place at Ifz ∷ items)
 unfolding word_of
 ifz_piece at rest items h =
@@ -109,6 +115,7 @@ else_piece at rest items h =
     blank_piece at (101 ∷ 108 ∷ 115 ∷ 101 ∷ 32 ∷ rest) (at_place (at + 1) Else ∷ items)
     (keyword_piece 101 (108 ∷ 115 ∷ 101 ∷ []) Else 4 (at + 1) (32 ∷ rest) items refl refl refl (space rest) (blank_piece ((at + 1) + 4) rest items (place_at (at + 6) (((at + 1) + 4) + 1) rest items (omega arith) h)))
 
+-- `nat`, which no blank follows
 nat_piece : (at : ℕ) (rest : List ℕ) (items : List Placed) → Clear rest → Splits (at + 3) rest items → Splits at (110 ∷ 97 ∷ 116 ∷ rest) (at_place at Nat ∷ items)
 unfolding word_of
 nat_piece at rest items clear h = keyword_piece 110 (97 ∷ 116 ∷ []) Nat 3 at rest items refl refl refl clear h
@@ -121,6 +128,7 @@ pub record TyWrites (X : Type 0) (ty : X → TyTree) (text : ℕ → X → List 
   pub splits : (o : ℕ) (rest : List ℕ) (items : List Placed) → Clear rest → Splits (at + length bytes) rest items → Splits at (onto rest) (map placed (text o phrase) ++ items)
 
 module _ (bytes : List ℕ) (onto : List ℕ → List ℕ) (t : TyTree) (S : ℕ → Type 0) where
+  -- a phrase is one of the next level too, and of the lowest where it stands in parentheses
   tatom_in_ptype : (at : ℕ) → TyWrites TAtom tatom_ty tatom_text bytes onto t S at → TyWrites PType ptype_ty ptype_text bytes onto t S at
   tatom_in_ptype at w = record { phrase = only_tatom w.phrase; same = w.same; shallow = λ o s. w.shallow o s; splits = λ o rest items c h. w.splits o rest items c h }
 
@@ -148,6 +156,7 @@ pub record TyForms (lvl : ℕ) (bytes : List ℕ) (onto : List ℕ → List ℕ)
   pub as_tatom : (at : ℕ) → TyWrites TAtom tatom_ty tatom_text (fitted 0 lvl bytes) (λ r. fit_onto 0 lvl onto r) t (λ o. fit_shallow 0 lvl S o) at
 
 module _ (bytes : List ℕ) (onto : List ℕ → List ℕ) (t : TyTree) (S : ℕ → Type 0) where
+  -- a type has a phrase on each level of the grammar, where it has one on its own
   from_tatom : ((at : ℕ) → TyWrites TAtom tatom_ty tatom_text bytes onto t S at) → TyForms 0 bytes onto t S
   from_tatom w =
       record {
@@ -172,6 +181,7 @@ module _ (bytes : List ℕ) (onto : List ℕ → List ℕ) (t : TyTree) (S : ℕ
         as_tatom = λ at. type_in_parens bytes onto t S at (w (at + 1));
       }
 
+-- each type has its phrases
 pub ty_forms : (t : TyTree) → TyForms (ty_level t) (ty_text t) (λ r. ty_onto t r) t (λ o. ty_shallow t o)
 ty_forms nat =
     from_tatom (ty_text nat) (λ r. ty_onto nat r) nat (λ o. ty_shallow nat o)

@@ -1,8 +1,5 @@
 -- The end of a text, or what is no token, stands last and alone.
-use Rattle.std.proofs.Common.{◌≡◌, ◌⊎◌, ℕ, ◌+◌, Bool, List, [], ◌∷◌, ◌++◌, map, Some, Ok, Err, refl, sym, ap, ◌∙◌, subst, if◌then◌else◌, inl, inr}
-use Rattle.std.specs.Prelude.{codes}
-use Rattle.std.specs.Str.{bytes_eq}
-use Rattle.std.proofs.lemmas.Bool.{cond_both}
+use Rattle.std.proofs.Common.{◌≡◌, ◌⊎◌, ℕ, ◌+◌, List, [], ◌∷◌, ◌++◌, map, Some, Ok, Err, refl, sym, ap, ◌∙◌, subst, inl, inr}
 use Rattle.pcf_values.specs.Values.{plus_op, minus_op, times_op}
 use Rattle.pcf_values.specs.Terms.{TyTree, arrow as arrow_ty, product}
 use Rattle.pcf_values.specs.Named.{NamedTree, bind_at}
@@ -15,38 +12,35 @@ use Rattle.pcf_reader.specs.Scan.{Answer, checked, proper, scan}
 use Rattle.pcf_reader.specs.declared.fault.ReadFault.TheVariants.{NoMemory}
 use Rattle.pcf_reader.proofs.Lists.{map-append}
 use Rattle.pcf_reader.proofs.Judge.{proper_cases, within_cases}
-use Rattle.pcf_reader.proofs.Longest.{sign_in}
+use Rattle.pcf_reader.proofs.Spelled.{sign_token, word_token}
 
+-- the last token and no other is the end, or no token
 abbrev pub Ended : List Placed → Type 0
 Ended [] = ⊥
 Ended (x ∷ []) = (x.token ≡ End) ⊎ (x.token ≡ Junk)
 Ended (x ∷ y ∷ ys) = (x.token ≡ End → ⊥) × Ended (y ∷ ys)
 
+-- a list that ends, behind a token that is not the end
 cons_ended : (x : Placed) (xs : List Placed) → (x.token ≡ End → ⊥) → Ended xs → Ended (x ∷ xs)
 cons_ended x [] n h = absurd h
 cons_ended x (y ∷ ys) n h = (n, h)
 
-not_by : (b : Bool) (x y : Token) → (x ≡ End → ⊥) → (y ≡ End → ⊥) → (if b then x else y) ≡ End → ⊥
-not_by b x y h k = cond_both b x y (λ r. r ≡ End → ⊥) (λ _. h) (λ _. k)
-
+-- no word is the end, and no sign
 pub word_not_end : (cs : List ℕ) → word_of cs ≡ End → ⊥
-unfolding word_of
-word_not_end cs =
-    not_by (bytes_eq cs (codes "fun")) _ _ (λ e. cc) (not_by (bytes_eq cs (codes "fix")) _ _ (λ e. cc) (not_by (bytes_eq cs (codes "ifz")) _ _ (λ e. cc)
-    (not_by (bytes_eq cs (codes "then")) _ _ (λ e. cc) (not_by (bytes_eq cs (codes "else")) _ _ (λ e. cc) (not_by (bytes_eq cs (codes "succ")) _ _ (λ e. cc)
-    (not_by (bytes_eq cs (codes "pred")) _ _ (λ e. cc) (not_by (bytes_eq cs (codes "fst")) _ _ (λ e. cc) (not_by (bytes_eq cs (codes "snd")) _ _ (λ e. cc)
-    (not_by (bytes_eq cs (codes "nat")) _ _ (λ e. cc) (λ e. cc))))))))))
+word_not_end cs = word_token (λ x. x ≡ End → ⊥) cs (λ e. cc) (λ e. cc) (λ e. cc) (λ e. cc) (λ e. cc) (λ e. cc) (λ e. cc) (λ e. cc) (λ e. cc) (λ e. cc) (λ e. cc)
 
 pub sign_not_end : (c : ℕ) (x : Token) → sign_of c ≡ Some x → x ≡ End → ⊥
-sign_not_end c x h e =
-    sign_in (λ n. sign_of n ≡ Some End → ⊥) c x (λ e. cc) (λ e. cc) (λ e. cc) (λ e. cc) (λ e. cc) (λ e. cc) (λ e. cc) (λ e. cc) h (h ∙ ap (λ x. Some x) e)
+sign_not_end c x h =
+    sign_token (λ x. x ≡ End → ⊥) c x (λ e. cc) (λ e. cc) (λ e. cc) (λ e. cc) (λ e. cc) (λ e. cc) (λ e. cc) (λ e. cc) h
 
+-- what characters spell is not the end
 spells_not_end : (cs : List ℕ) (x : Token) → Spells cs x → x ≡ End → ⊥
 spells_not_end cs x (sign c y h) e = sign_not_end c y h e
 spells_not_end cs x arrow e = cc
 spells_not_end cs x (digits c ds all) e = cc
 spells_not_end cs x (word c ds first all) e = word_not_end _ e
 
+-- the tokens of a text end
 pub splits_ended : (at : ℕ) (cs : List ℕ) (items : List Placed) → Splits at cs items → Ended items
 splits_ended at cs items (ends i) = inl refl
 splits_ended at cs items (blank i c ds xs e h) = splits_ended _ _ _ h
@@ -54,12 +48,14 @@ splits_ended at cs items (comment i text ds rest xs e all line h) = splits_ended
 splits_ended at cs items (token i text ds rest x xs e spells long h) = cons_ended (record { at = i; token = x }) xs (spells_not_end ds x spells) (splits_ended _ _ _ h)
 splits_ended at cs items (junk i c ds nb nc none) = inr refl
 
+-- behind the end nothing stands
 last_alone : (us : List Placed) (x : Placed) (xs : List Placed) → Ended (us ++ x ∷ xs) → x.token ≡ End → xs ≡ []
 last_alone [] x [] h e = refl
 last_alone [] x (y ∷ ys) h e = absurd (h.0 e)
 last_alone (u ∷ []) x xs h e = last_alone [] x xs h.1 e
 last_alone (u ∷ v ∷ us) x xs h e = last_alone (v ∷ us) x xs h.1 e
 
+-- a front of the tokens of a text that is a program is all of them
 pub program_is_all : (front xs : List Placed) (t : NamedTree) → Ended (front ++ xs) → Derives front t → xs ≡ []
 program_is_all front xs t h d =
     let us : List Placed = map placed (expr_text 0 d.program.expr) in
@@ -77,6 +73,7 @@ IsLast refuse = Unit {0}
 IsLast (go d c t) = ⊥
 IsLast (finish p) = Unit {0}
 
+-- by what is open around a term
 end_expr : (k : ExprK) (e : Part) (at : ℕ) → IsLast (after_expr k e at End)
 end_expr whole e at = tt
 end_expr (in_parens o k) e at = tt
@@ -95,6 +92,7 @@ ends_app : (k : AppK) (f : Part) (at : ℕ) → IsLast (end_app k f at End)
 ends_app (first_app k) f at = ends_product k f at
 ends_app (right_of_times m k) f at = ends_product k (binary times_op m f) at
 
+-- and around a type
 ends_type : (k : TypeK) (t : TyTree) (at : ℕ) → IsLast (end_type k t at End)
 ends_type (of_binder o b x k) t at = tt
 ends_type (right_of_arrow a k) t at = ends_type k (arrow_ty a t) at
@@ -104,6 +102,7 @@ ends_ptype : (k : PTypeK) (t : TyTree) (at : ℕ) → IsLast (end_ptype k t at E
 ends_ptype (first_ptype k) t at = ends_type k t at
 ends_ptype (right_of_cross a k) t at = ends_ptype k (product a t) at
 
+-- in each state
 end_last : (s : State) (at : ℕ) → IsLast (step s at End)
 end_last (want_expr k) at = tt
 end_last (want_atom k) at = tt
@@ -113,16 +112,19 @@ end_last (want_colon o b x k) at = tt
 end_last (want_tatom k) at = tt
 end_last (after_tatom k t) at = ends_ptype k t at
 
+-- an answer that is not want of memory
 abbrev pub IsAnswer : Answer → Type 0
 IsAnswer (Ok t) = Unit {0}
 IsAnswer (Err NoMemory) = ⊥
 IsAnswer (Err _) = Unit {0}
 
+-- a step that is the last answers
 last_answers : (next : State → ℕ → Answer) (n at : ℕ) (st : Step) → IsLast st → IsAnswer (checked next n at st)
 last_answers next n at refuse h = tt
 last_answers next n at (go d c t) h = absurd h
 last_answers next n at (finish p) h = tt
 
+-- and so does a step that goes on to what answers
 checked_answers : (next : State → ℕ → Answer) (n at : ℕ) (st : Step) → ((t : State) (m : ℕ) → IsAnswer (next t m)) → IsAnswer (checked next n at st)
 checked_answers next n at refuse h = tt
 checked_answers next n at (go d c t) h = within_cases IsAnswer at d (n + c) (next t (n + c)) (λ _. tt) (λ _ _. tt) (λ _ _. h t (n + c))

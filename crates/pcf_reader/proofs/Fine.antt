@@ -1,15 +1,14 @@
 -- The names and numbers of a tree that was read are fine.
 use Rattle.std.proofs.Common.{◌≡◌, ℕ, suc, true, List, [], ◌∷◌, ◌++◌, map, Some, refl, subst}
-use Rattle.std.specs.Prelude.{codes, encode_utf8_all}
-use Rattle.std.specs.Str.{bytes_eq, all_scalars}
-use Rattle.std.proofs.lemmas.Bool.{cond_both, and_parts, and_from}
-use Rattle.pcf_values.specs.Named.{the_fun, the_fix, the_succ, the_pred, the_fst, the_snd}
+use Rattle.std.specs.Prelude.{encode_utf8_all}
+use Rattle.std.specs.Str.{all_scalars}
+use Rattle.std.proofs.lemmas.Bool.{and_parts, and_from}
 use Rattle.pcf_reader.proofs.Lists.{WritesNarrow, each_left, each_right}
-use Rattle.pcf_reader.specs.Tokens.{Token, Open, Close, Colon, Dot, Comma, Plus, Minus, Times, Ifz, Then, Else, Nat, Bind, Before, Name, Placed}
+use Rattle.pcf_reader.specs.Tokens.{Token, Close, Colon, Dot, Comma, Plus, Minus, Times, Then, Else, Name, Placed}
 use Rattle.pcf_reader.specs.Grammar.{Expr, binding, choice, only_sum, Sum, only_product, plus, minus, Product, only_app, times, App, only_atom, applied, Atom, numeral, variable, parens, pairing, prefixed, expr_part, sum_part, product_part, app_part_of, atom_part, Written, placed, plain, marked, type_text, expr_text, sum_text, product_text, app_text, atom_text}
 use Rattle.pcf_reader.specs.Spelling.{sign_of, word_of, Spells, sign, arrow, digits, word, Splits, ends, blank, comment, token, junk}
 use Rattle.pcf_reader.specs.Text.{IsNarrow, Each}
-use Rattle.pcf_reader.proofs.Longest.{sign_in}
+use Rattle.pcf_reader.proofs.Spelled.{sign_token, word_token}
 use Rattle.pcf_reader.proofs.Shown.{IsName, Fine}
 
 -- a name among the tokens is one
@@ -17,10 +16,12 @@ abbrev pub IsFineToken : Token → Type 0
 IsFineToken (Name x) = IsName x
 IsFineToken _ = Unit {0}
 
+-- each token of a list is
 abbrev pub AreFine : List Placed → Type 0
 AreFine [] = Unit {0}
 AreFine (p ∷ ps) = IsFineToken p.token × AreFine ps
 
+-- both parts of a text of scalar values are of scalar values
 scalars_left : (u v : List ℕ) → all_scalars (u ++ v) ≡ true → all_scalars u ≡ true
 scalars_left [] v h = refl
 scalars_left (c ∷ u) v h = and_from _ (all_scalars u) (and_parts _ (all_scalars (u ++ v)) h).0 (scalars_left u v (and_parts _ (all_scalars (u ++ v)) h).1)
@@ -29,27 +30,16 @@ scalars_right : (u v : List ℕ) → all_scalars (u ++ v) ≡ true → all_scala
 scalars_right [] v h = h
 scalars_right (c ∷ u) v h = scalars_right u v (and_parts _ (all_scalars (u ++ v)) h).1
 
--- what holds of each keyword and of the name
-word_chain : (w : List ℕ) (P : Token → Type 0) → P (Bind the_fun) → P (Bind the_fix) → P Ifz → P Then → P Else → P (Before the_succ) → P (Before the_pred) → P (Before the_fst) → P (Before the_snd) → P Nat → P (Name w) → P (word_of w)
-unfolding word_of
-word_chain w P a b c d e f g h i j k =
-    cond_both (bytes_eq w (codes "fun")) _ _ P (λ _. a) (λ _. cond_both (bytes_eq w (codes "fix")) _ _ P (λ _. b) (λ _. cond_both (bytes_eq w (codes "ifz")) _ _ P (λ _. c) (λ _.
-    cond_both (bytes_eq w (codes "then")) _ _ P (λ _. d) (λ _. cond_both (bytes_eq w (codes "else")) _ _ P (λ _. e) (λ _. cond_both (bytes_eq w (codes "succ")) _ _ P (λ _. f) (λ _.
-    cond_both (bytes_eq w (codes "pred")) _ _ P (λ _. g) (λ _. cond_both (bytes_eq w (codes "fst")) _ _ P (λ _. h) (λ _. cond_both (bytes_eq w (codes "snd")) _ _ P (λ _. i) (λ _.
-    cond_both (bytes_eq w (codes "nat")) _ _ P (λ _. j) (λ _. k))))))))))
-
+-- a word is a keyword or a name
 word_fine : (w : List ℕ) → (word_of w ≡ Name w → IsName w) → IsFineToken (word_of w)
 word_fine w h =
-    word_chain w (λ r. word_of w ≡ r → IsFineToken r) (λ _. tt) (λ _. tt) (λ _. tt) (λ _. tt) (λ _. tt) (λ _. tt) (λ _. tt) (λ _. tt) (λ _. tt) (λ _. tt) (λ e. h e) refl
+    word_token (λ r. word_of w ≡ r → IsFineToken r) w (λ _. tt) (λ _. tt) (λ _. tt) (λ _. tt) (λ _. tt) (λ _. tt) (λ _. tt) (λ _. tt) (λ _. tt) (λ _. tt) (λ e. h e) refl
 
-fine_like : (x y : Token) → Some x ≡ Some y → IsFineToken x → IsFineToken y
-fine_like x y e h = let is : x ≡ y = cc in subst IsFineToken is h
-
+-- a sign is no name
 sign_fine : (c : ℕ) (x : Token) → sign_of c ≡ Some x → IsFineToken x
-sign_fine c x h =
-    sign_in (λ n. sign_of n ≡ Some x → IsFineToken x) c x (λ e. fine_like Open x e tt) (λ e. fine_like Close x e tt) (λ e. fine_like Colon x e tt)
-    (λ e. fine_like Dot x e tt) (λ e. fine_like Comma x e tt) (λ e. fine_like Plus x e tt) (λ e. fine_like Minus x e tt) (λ e. fine_like Times x e tt) h h
+sign_fine c x h = sign_token IsFineToken c x tt tt tt tt tt tt tt tt h
 
+-- what characters spell
 spells_fine : (cs : List ℕ) (x : Token) → all_scalars cs ≡ true → Spells cs x → IsFineToken x
 spells_fine cs x s (sign c y e) = sign_fine c y e
 spells_fine cs x s arrow = tt
@@ -57,6 +47,7 @@ spells_fine cs x s (digits c ds all) = tt
 spells_fine cs x s (word c ds start all) =
     word_fine (encode_utf8_all (c ∷ ds)) (λ e. record { first = c; more = ds; spelled = refl; starts = start; goes_on = all; scalars = s; no_keyword = e })
 
+-- and so each token of a text
 pub splits_fine : (at : ℕ) (cs : List ℕ) (items : List Placed) → all_scalars cs ≡ true → Splits at cs items → AreFine items
 splits_fine at cs items s (ends i) = (tt, tt)
 splits_fine at cs items s (blank i c ds xs e h) = splits_fine _ ds xs (and_parts _ (all_scalars ds) s).1 h
@@ -69,13 +60,16 @@ splits_fine at cs items s (junk i c ds nb nc none) = (tt, tt)
 abbrev pub IsGood : Written → Type 0
 IsGood w = IsFineToken w.token × IsNarrow w.token
 
+-- each of a list is
 abbrev pub Good : List Written → Type 0
 Good ws = Each IsGood ws
 
+-- the tokens of a text that are narrow are good
 pub good_from : (ws : List Written) → AreFine (map placed ws) → Each WritesNarrow ws → Good ws
 good_from [] h k = tt
 good_from (w ∷ ws) h k = ((h.0, k.0), good_from ws h.1 k.1)
 
+-- a phrase of such tokens has a fine tree
 mutual
   pub fine_expr : (o : ℕ) (e : Expr) → Good (expr_text o e) → Fine (expr_part e).tree
   fine_expr o (binding at b xat x colon t dot e) h =

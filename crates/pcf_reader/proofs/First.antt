@@ -9,9 +9,9 @@ use Rattle.pcf_reader.specs.Machine.{State, want_expr, whole, Step, refuse, go, 
 use Rattle.pcf_reader.specs.Text.{count_of, IsNarrow, Derives, FaultAt, rank, IsFirstFault, IsShallow, Each}
 use Rattle.pcf_reader.specs.declared.fault.ReadFault.{ReadFault}
 use Rattle.pcf_reader.specs.declared.fault.ReadFault.TheVariants.{NoMemory, NotText, BadToken, NumberTooWide, Unexpected, TooDeep, TooLarge, TooLong}
-use Rattle.pcf_reader.proofs.Lists.{WritesNarrow, each_at, count-append}
+use Rattle.pcf_reader.proofs.Lists.{head_is, tail_is, none_left, WritesNarrow, each_at, count-append}
 use Rattle.pcf_reader.proofs.Reached.{Texts}
-use Rattle.pcf_reader.proofs.Judge.{PassesBy, Passes, program_passes, head_is, tail_is, none_left, written_is, split_at}
+use Rattle.pcf_reader.proofs.Judge.{PassesBy, Passes, program_passes, written_is, split_at}
 use Rattle.pcf_reader.proofs.Whole.{junk_refused}
 
 -- two ways to pass over one token by one step are one
@@ -20,6 +20,7 @@ same_mark refuse x w P Q L M h k = absurd h
 same_mark (go d c t) x w P Q L M h k = (sym h.0 ∙ k.0, sym h.1 ∙ k.1)
 same_mark (finish p) x w P Q L M h k = (sym h.0 ∙ k.0, sym h.1 ∙ k.1)
 
+-- and so one token is written in one way in one state
 same_written : (s : State) (x w : Written) (P Q : State → Type 0) (L M : Type 0) → PassesBy (step s x.at x.token) x P L → PassesBy (step s w.at w.token) w Q M → placed w ≡ placed x → w ≡ x
 same_written s x w P Q L M h k e =
     let at : w.at ≡ x.at = ap (λ p. p.at) e in
@@ -34,10 +35,12 @@ go_both refuse x P Q L M C h k no_end next = absurd h
 go_both (go d c t) x P Q L M C h k no_end next = next t h.2 k.2
 go_both (finish p) x P Q L M C h k no_end next = absurd (no_end k.2)
 
+-- a list with a token in it is not empty
 not_nil : (u : Texts) (x : Written) (v : Texts) → u ++ x ∷ v ≡ [] → ⊥
 not_nil [] x v e = cc
 not_nil (w ∷ u) x v e = cc
 
+-- programs that begin alike write alike: what passes over the tokens of another that passes takes them as that one does
 pub both_pass : (front : Texts) (x : Written) (v ws : Texts) (s : State) (a : List Placed)
     → Passes (front ++ x ∷ v) s → Passes ws s → map placed ws ≡ map placed front ++ placed x ∷ a → (r : Texts) × (ws ≡ front ++ x ∷ r)
 both_pass [] x v [] s a h k e = absurd (none_left (placed x) a e)
@@ -95,6 +98,7 @@ fault_of (suc (suc (suc (suc (suc zero))))) at = TooDeep at
 fault_of (suc (suc (suc (suc (suc (suc zero)))))) at = TooLarge at
 fault_of _ at = NoMemory
 
+-- what fault a token has is told by its rank and its place
 fault_is : (b : List Placed) (x : Placed) (f : ReadFault) → FaultAt b x f → f ≡ fault_of (rank f) x.at
 unfolding fault_of
 fault_is b x NoMemory h = absurd h
@@ -110,21 +114,25 @@ fault_is b x (TooLarge at) h = ap (λ i. TooLarge i) (sym h.3)
 abbrev pub Apart : List Placed → Placed → List Placed → Placed → Type 0
 Apart b x c y = ((b ≡ c) × (x ≡ y)) ⊎ (((m : List Placed) × (b ≡ c ++ y ∷ m)) ⊎ ((m : List Placed) × (c ≡ b ++ x ∷ m)))
 
+-- with one token more before both
 apart_cons : (z w : Placed) (b : List Placed) (x : Placed) (c : List Placed) (y : Placed) → z ≡ w → Apart b x c y → Apart (z ∷ b) x (w ∷ c) y
 apart_cons z w b x c y e (inl h) = inl (ap (λ q. q ∷ b) e ∙ ap (λ q. w ∷ q) h.0, h.1)
 apart_cons z w b x c y e (inr (inl h)) = inr (inl (h.0, ap (λ q. q ∷ b) e ∙ ap (λ q. w ∷ q) h.1))
 apart_cons z w b x c y e (inr (inr h)) = inr (inr (h.0, ap (λ q. q ∷ c) (sym e) ∙ ap (λ q. z ∷ q) h.1))
 
+-- of any two splits
 apart : (b : List Placed) (x : Placed) (a : List Placed) (c : List Placed) (y : Placed) (d : List Placed) → b ++ x ∷ a ≡ c ++ y ∷ d → Apart b x c y
 apart [] x a [] y d e = inl (refl, head_is x y a d e)
 apart [] x a (w ∷ c) y d e = inr (inr (c, ap (λ q. q ∷ c) (sym (head_is x w a (c ++ y ∷ d) e))))
 apart (z ∷ b) x a [] y d e = inr (inl (b, ap (λ q. q ∷ b) (head_is z y (b ++ x ∷ a) d e)))
 apart (z ∷ b) x a (w ∷ c) y d e = apart_cons z w b x c y (head_is z w (b ++ x ∷ a) (c ++ y ∷ d) e) (apart b x a c y d (tail_is z w (b ++ x ∷ a) (c ++ y ∷ d) e))
 
+-- numbers of which none is below the other are one
 pub ranks_are : (m n : ℕ) → (m < n → ⊥) → (n < m → ⊥) → m ≡ n
 ranks_are m n below above =
     elim (cases_lt m n) [ inl h ↦ absurd (below h) | inr h ↦ elim (cases_lt n m) [ inl k ↦ absurd (above k) | inr k ↦ omega (arith, h, k) ] ]
 
+-- at one token there is one first fault
 same_place : (items : List Placed) (f g : ReadFault) (h : IsFirstFault items f) (k : IsFirstFault items g) → h.before ≡ k.before → h.token ≡ k.token → f ≡ g
 same_place items f g h k e x =
     let f_there : FaultAt k.before k.token f = subst (λ (t : Placed). FaultAt k.before t f) x (subst (λ b. FaultAt b h.token f) e h.here) in

@@ -17,6 +17,7 @@ fewer_by : (b : Bool) (S : ℕ → Type 0) (o : ℕ) → ((p : ℕ) → S (suc p
 fewer_by true S o mono h = mono o h
 fewer_by false S o mono h = (omega (arith, h.0), mono (suc o) h.1)
 
+-- what fits with one phrase more open fits
 ty_fewer : (t : TyTree) (o : ℕ) → ty_shallow t (suc o) → ty_shallow t o
 ty_fewer nat o h = tt
 ty_fewer (arrow a b) o h = (fewer_by (nat_le (ty_level a) 1) (λ p. ty_shallow a p) o (λ p. ty_fewer a p) h.0, omega (arith, h.1), ty_fewer b (suc o) h.2)
@@ -39,6 +40,7 @@ own_fewer (apply_at i f a) o h =
 wider : (l m n : ℕ) → m ≤ n → nat_le l m ≡ true → nat_le l n ≡ true
 wider l m n le h = let low : l ≤ m = leb-true l m h in le-leb l n (omega (arith, low, le))
 
+-- and so does a part where more levels may stand bare
 loose_shallow : (b c : Bool) (S : ℕ → Type 0) (o : ℕ) → (b ≡ true → c ≡ true) → ((p : ℕ) → S (suc p) → S p) → pick b (S o) ((o < most_open) × S (suc o)) → pick c (S o) ((o < most_open) × S (suc o))
 loose_shallow true true S o imp mono h = h
 loose_shallow true false S o imp mono h = let e : false ≡ true = imp refl in let z : ⊥ = cc in absurd z
@@ -55,23 +57,28 @@ loose_height false false h most imp le = le
 abbrev pub Fits : ℕ → NamedTree → ℕ → ℕ → Type 0
 Fits most t o high = fit_shallow most (level t) (λ p. own_shallow t p) o × (fit_height most (level t) (own_height t) ≤ high)
 
+-- the tree fits by itself, and is no higher than this
 abbrev pub Owns : NamedTree → ℕ → ℕ → Type 0
 Owns t o high = own_shallow t o × (own_height t ≤ high)
 
+-- what fits a level fits a looser one
 loosened : (m n : ℕ) (t : NamedTree) (o high : ℕ) → m ≤ n → Fits m t o high → Fits n t o high
 loosened m n t o high le h = (
   loose_shallow (nat_le (level t) m) (nat_le (level t) n) (λ p. own_shallow t p) o (wider (level t) m n le) (λ p. own_fewer t p) h.0,
   loose_height (nat_le (level t) m) (nat_le (level t) n) (own_height t) high (wider (level t) m n le) h.1,
 )
 
+-- what fits bare or in parentheses fits by itself
 own_from : (b : Bool) (t : NamedTree) (o high : ℕ) → pick b (own_shallow t o) ((o < most_open) × own_shallow t (suc o)) → (if b then own_height t else suc (own_height t)) ≤ high → Owns t o high
 own_from true t o high h le = (h, le)
 own_from false t o high h le = (own_fewer t o h.1, omega (arith, le))
 
+-- and the other way, where one phrase more can be opened
 from_own : (b : Bool) (t : NamedTree) (o high : ℕ) → o < most_open → Owns t (suc o) high → pick b (own_shallow t o) ((o < most_open) × own_shallow t (suc o)) × ((if b then own_height t else suc (own_height t)) ≤ suc high)
 from_own true t o high lt h = (own_fewer t o h.0, omega (arith, h.1))
 from_own false t o high lt h = ((lt, h.0), omega (arith, h.1))
 
+-- the same of types
 ty_loosened : (m n : ℕ) (t : TyTree) (o : ℕ) → m ≤ n → fit_shallow m (ty_level t) (λ p. ty_shallow t p) o → fit_shallow n (ty_level t) (λ p. ty_shallow t p) o
 ty_loosened m n t o le h = loose_shallow (nat_le (ty_level t) m) (nat_le (ty_level t) n) (λ p. ty_shallow t p) o (wider (ty_level t) m n le) (λ p. ty_fewer t p) h
 
@@ -83,6 +90,7 @@ ty_from_own : (b : Bool) (t : TyTree) (o : ℕ) → o < most_open → ty_shallow
 ty_from_own true t o lt h = ty_fewer t o h
 ty_from_own false t o lt h = (lt, h)
 
+-- a type that is written within the limits, printed as its tree is printed, is within them
 mutual
   ty_fits : (o : ℕ) (t : Type_) → Each IsShallow (type_text o t) → ty_shallow (type_ty t) o
   ty_fits o (only_ptype p) h = ty_own_from (nat_le (ty_level (ptype_ty p)) 1) (ptype_ty p) o (ptype_fits o p h)
@@ -101,6 +109,7 @@ mutual
   tatom_fits o (paren_type at t close) h =
       ty_from_own (nat_le (ty_level (type_ty t)) 0) (type_ty t) o h.0 (ty_fits (suc o) t (each_left IsShallow (type_text (suc o) t) (plain close Close ∷ []) h.1))
 
+-- and so is a term, and no higher
 mutual
   pub expr_fits : (o : ℕ) (e : Expr) → Each IsShallow (expr_text o e) → Owns (expr_part e).tree o (expr_part e).height
   expr_fits o (binding at b xat x colon t dot e) h =

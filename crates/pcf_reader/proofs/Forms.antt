@@ -39,6 +39,7 @@ pub record Writes (X : Type 0) (part : X → Part) (text : ℕ → ℕ → ℕ �
   pub narrow : (o left extra : ℕ) → Each WritesNarrow (text o left extra phrase)
   pub splits : (o left extra : ℕ) (rest : List ℕ) (items : List Placed) → Clear rest → Splits (at + length bytes) rest items → Splits at (onto rest) (map placed (text o left extra phrase) ++ items)
 
+-- the tokens of each kind of phrase; only those of an atom depend on what stands left of it
 abbrev pub as_expr : ℕ → ℕ → ℕ → Expr → List Written
 as_expr o left extra e = expr_text o e
 
@@ -51,6 +52,7 @@ as_product o left extra p = product_text o p
 abbrev pub as_app : ℕ → ℕ → ℕ → App → List Written
 as_app o left extra f = app_text o f
 
+-- such a phrase of each kind
 abbrev pub WritesExpr : List ℕ → (List ℕ → List ℕ) → NamedTree → ℕ → (ℕ → Type 0) → ℕ → Type 0
 WritesExpr bytes onto t h S at = Writes Expr expr_part as_expr bytes onto t h S at
 
@@ -67,6 +69,7 @@ abbrev pub WritesAtom : List ℕ → (List ℕ → List ℕ) → NamedTree → �
 WritesAtom bytes onto t h S at = Writes Atom atom_part atom_text bytes onto t h S at
 
 module _ (bytes : List ℕ) (onto : List ℕ → List ℕ) (t : NamedTree) (h : ℕ) (S : ℕ → Type 0) where
+  -- a phrase is one of the next level too
   in_app : (at : ℕ) → WritesAtom bytes onto t h S at → WritesApp bytes onto t h S at
   in_app at w =
       record {
@@ -111,6 +114,7 @@ module _ (bytes : List ℕ) (onto : List ℕ → List ℕ) (t : NamedTree) (h : 
         splits = λ o left extra rest items c k. w.splits o left extra rest items c k;
       }
 
+  -- and an atom where it stands in parentheses
   in_parens : (at : ℕ) → WritesExpr bytes onto t h S (at + 1) → WritesAtom (codes "(" ++ bytes ++ codes ")") (λ r. 40 ∷ onto (41 ∷ r)) t (suc h) (λ o. (o < most_open) × S (suc o)) at
   in_parens at w =
       let close : ℕ = (at + 1) + length bytes in
@@ -128,6 +132,7 @@ module _ (bytes : List ℕ) (onto : List ℕ → List ℕ) (t : NamedTree) (h : 
             (close_piece close rest items (place_at (at + length (codes "(" ++ bytes ++ codes ")")) (close + 1) rest items (omega (arith, length-append bytes (codes ")"))) k))));
       }
 
+-- a phrase on each level
 pub record Forms (lvl : ℕ) (bytes : List ℕ) (onto : List ℕ → List ℕ) (t : NamedTree) (h : ℕ) (S : ℕ → Type 0) : Type 0 where
   pub expr : (at : ℕ) → WritesExpr bytes onto t h S at
   pub sum : (at : ℕ) → WritesSum (fitted 3 lvl bytes) (λ r. fit_onto 3 lvl onto r) t (fit_height 3 lvl h) (λ o. fit_shallow 3 lvl S o) at
@@ -136,6 +141,7 @@ pub record Forms (lvl : ℕ) (bytes : List ℕ) (onto : List ℕ → List ℕ) (
   pub atom : (at : ℕ) → WritesAtom (fitted 0 lvl bytes) (λ r. fit_onto 0 lvl onto r) t (fit_height 0 lvl h) (λ o. fit_shallow 0 lvl S o) at
 
 module _ (bytes : List ℕ) (onto : List ℕ → List ℕ) (t : NamedTree) (h : ℕ) (S : ℕ → Type 0) where
+  -- a term has a phrase on each level, where it has one on its own: in parentheses below it
   from_atom : ((at : ℕ) → WritesAtom bytes onto t h S at) → Forms 0 bytes onto t h S
   from_atom w =
       let app : (at : ℕ) → WritesApp bytes onto t h S at = λ at. in_app bytes onto t h S at (w at) in
@@ -177,9 +183,11 @@ module _ (bytes : List ℕ) (onto : List ℕ → List ℕ) (t : NamedTree) (h : 
         atom = λ at. in_parens bytes onto t h S at (w (at + 1));
       }
 
+-- for what is printed of the tree
 abbrev pub FormsOf : NamedTree → Type 0
 FormsOf t = Forms (level t) (term_text t) (λ r. own_onto t r) t (own_height t) (λ o. own_shallow t o)
 
+-- a number and a name
 number_form : (i n : ℕ) → n < 2 ^ 64 → FormsOf (number_at i n)
 number_form i n small =
     from_atom (decimal n) (λ r. decimal n ++ r) (number_at i n) 1 (λ o. Unit {0})
@@ -204,6 +212,7 @@ name_form i x fine =
       splits = λ o left extra rest items c k. name_piece x at rest items fine c k;
     })
 
+-- a word and its operand
 word_form : (i : ℕ) (w : Word) (a : NamedTree) → FormsOf a → FormsOf (word_at i w a)
 word_form i w a f =
     from_atom (term_text (word_at i w a)) (λ r. own_onto (word_at i w a) r) (word_at i w a) (own_height (word_at i w a)) (λ o. own_shallow (word_at i w a) o)
@@ -221,6 +230,7 @@ word_form i w a f =
           (p.splits (suc o) 0 0 rest items c (place_at (at + length (word_text w ++ inner)) ((at + length (word_text w)) + length inner) rest items (omega (arith, length-append (word_text w) inner)) k));
     })
 
+-- a function and its argument
 apply_form : (i : ℕ) (f a : NamedTree) → FormsOf f → FormsOf a → FormsOf (apply_at i f a)
 apply_form i f a u v =
     from_app (term_text (apply_at i f a)) (λ r. own_onto (apply_at i f a) r) (apply_at i f a) (own_height (apply_at i f a)) (λ o. own_shallow (apply_at i f a) o)
@@ -258,6 +268,7 @@ record Operator (op : Op) (X Y : Type 0) (part : X → Part) (text : ℕ → ℕ
   clear : (rest : List ℕ) → Clear (op_text op ++ rest)
   splits : (at : ℕ) (rest : List ℕ) (items : List Placed) → Splits (at + length (op_text op)) rest items → Splits at (op_text op ++ rest) (at_place (at + 1) token ∷ items)
 
+-- the three operators
 the_plus : Operator plus_op Sum Product sum_part as_sum product_part as_product
 the_plus = record {
   token = Plus;
@@ -324,6 +335,7 @@ module _
             (omega (arith, length-append (a_bytes ++ op_text op) b_bytes, length-append a_bytes (op_text op))) k)))));
       }
 
+-- each operator between its operands
 binary_form : (i : ℕ) (op : Op) (a b : NamedTree) → FormsOf a → FormsOf b → FormsOf (binary_at i op a b)
 binary_form i plus_op a b u v =
     from_sum _ _ (binary_at i plus_op a b) _ _ (λ at. operated plus_op Sum Product sum_part as_sum product_part as_product the_plus a b _ _ _ _ _ _ _ _ i at (u.sum at) (v.product _))
@@ -332,6 +344,7 @@ binary_form i minus_op a b u v =
 binary_form i times_op a b u v =
     from_product _ _ (binary_at i times_op a b) _ _ (λ at. operated times_op Product App product_part as_product app_part_of as_app the_times a b _ _ _ _ _ _ _ _ i at (u.product at) (v.app _))
 
+-- a pair
 pair_form : (i : ℕ) (a b : NamedTree) → FormsOf a → FormsOf b → FormsOf (pair_at i a b)
 pair_form i a b u v =
     from_atom (term_text (pair_at i a b)) (λ r. own_onto (pair_at i a b) r) (pair_at i a b) (own_height (pair_at i a b)) (λ o. own_shallow (pair_at i a b) o)
@@ -375,6 +388,7 @@ pair_form i a b u v =
           )) k)))))))));
     })
 
+-- `ifz`
 choice_form : (i : ℕ) (a b d : NamedTree) → FormsOf a → FormsOf b → FormsOf d → FormsOf (ifz_at i a b d)
 choice_form i a b d u v w =
     from_expr (term_text (ifz_at i a b d)) (λ r. own_onto (ifz_at i a b d) r) (ifz_at i a b d) (own_height (ifz_at i a b d)) (λ o. own_shallow (ifz_at i a b d) o)
@@ -422,10 +436,12 @@ choice_form i a b d u v w =
           )) k))))))));
     })
 
+-- the words of binders are of one length
 binder_length : (b : Binder) → length (binder_text b) ≡ 4
 binder_length the_fun = refl
 binder_length the_fix = refl
 
+-- `fun` and `fix`
 binding_form : (i : ℕ) (b : Binder) (x : List ℕ) (t : _) (m : NamedTree) → Fine (name_at i x) → FormsOf m → FormsOf (bind_at i b x t m)
 binding_form i b x t m fine u =
     from_expr (term_text (bind_at i b x t m)) (λ r. own_onto (bind_at i b x t m) r) (bind_at i b x t m) (own_height (bind_at i b x t m)) (λ o. own_shallow (bind_at i b x t m) o)
@@ -468,6 +484,7 @@ binding_form i b x t m fine u =
           )) k)))))))));
     })
 
+-- each tree has its phrases
 pub forms : (t : NamedTree) → Fine t → FormsOf t
 forms (number_at i n) h = number_form i n h
 forms (name_at i x) h = name_form i x h

@@ -9,7 +9,7 @@ use Rattle.pcf_reader.specs.Scan.{Answer, proper, within, checked, scan}
 use Rattle.pcf_reader.specs.declared.fault.ReadFault.{ReadFault}
 use Rattle.pcf_reader.specs.declared.fault.ReadFault.TheVariants.{NoMemory, NotText, BadToken, NumberTooWide, Unexpected, TooDeep, TooLarge, TooLong}
 use Rattle.std.proofs.lemmas.Bool.{cond_both, ltb-true, ltb-false, leb-true, leb-false}
-use Rattle.pcf_reader.proofs.Lists.{WritesNarrow, each_append, each_at, count-append, map-append}
+use Rattle.pcf_reader.proofs.Lists.{head_is, tail_is, none_left, WritesNarrow, each_append, each_at, count-append, map-append}
 use Rattle.pcf_reader.proofs.Follows.{Follows, chain}
 use Rattle.pcf_reader.proofs.Exact.{program_exact}
 use Rattle.pcf_reader.proofs.Reached.{Reached, Texts, Goes, step_goes}
@@ -21,31 +21,27 @@ PassesBy refuse w go_on last = ⊥
 PassesBy (go d c t) w go_on last = (d ≡ w.depth) × (c ≡ w.count) × go_on t
 PassesBy (finish p) w go_on last = (0 ≡ w.depth) × (0 ≡ w.count) × last
 
+-- the machine takes all of these
 abbrev pub Passes : Texts → State → Type 0
 Passes [] s = Unit {0}
 Passes (w ∷ ws) s = PassesBy (step s w.at w.token) w (λ t. Passes ws t) (ws ≡ [])
 
+-- by a step that is this one
 by_step : (st st' : Step) (w : Written) (P : State → Type 0) (L : Type 0) → st ≡ st' → PassesBy st' w P L → PassesBy st w P L
 by_step st st' w P L e h = subst (λ x. PassesBy x w P L) (sym e) h
 
+-- a run and then what passes
 follows_pass : (u v : Texts) (s t : State) → Follows s u t → Passes v t → Passes (u ++ v) s
 follows_pass [] v s t h k = subst (λ x. Passes v x) (sym h) k
 follows_pass (w ∷ u) v s t h k = by_step (step s w.at w.token) (go w.depth w.count h.0) w (λ t. Passes (u ++ v) t) (u ++ v ≡ []) h.1 (refl, refl, follows_pass u v h.0 t h.2 k)
 
+-- each program passes
 pub program_passes : (p : Program) → Passes (program_text p) (want_expr whole)
 program_passes p =
     let (t, follows, ends) = program_exact p in
     follows_pass (expr_text 0 p.expr) (plain p.end End ∷ []) (want_expr whole) t follows (by_step (step t p.end End) (finish (expr_part p.expr)) (plain p.end End) (λ t. Passes [] t) ([] ≡ []) ends (refl, refl, refl))
 
-pub head_is : (a b : Placed) (u v : List Placed) → a ∷ u ≡ b ∷ v → a ≡ b
-head_is a b u v e = cc
-
-pub tail_is : (a b : Placed) (u v : List Placed) → a ∷ u ≡ b ∷ v → u ≡ v
-tail_is a b u v e = cc
-
-pub none_left : (a : Placed) (u : List Placed) → [] ≡ a ∷ u → ⊥
-none_left a u e = cc
-
+-- a written token is told by its four parts
 pub written_is : (x w : Written) → x.at ≡ w.at → x.token ≡ w.token → x.depth ≡ w.depth → x.count ≡ w.count → x ≡ w
 written_is x w a t d c =
     let p : x ≡ record { at = w.at; token = x.token; depth = x.depth; count = x.count } = ap (λ i. record { at = i; token = x.token; depth = x.depth; count = x.count }) a in
@@ -157,10 +153,12 @@ abbrev pub IsFault : List Placed → ReadFault → Type 0
 IsFault all NoMemory = Unit {0}
 IsFault all f = IsFirstFault all f
 
+-- a tree that a front of the list derives, or its fault
 abbrev pub Judged : List Placed → Answer → Type 0
 Judged all (Ok t) = (front : List Placed) × (xs : List Placed) × (all ≡ front ++ xs) × Derives front t
 Judged all (Err f) = IsFault all f
 
+-- a token is no token, or a number too wide, or proper
 pub proper_cases : (P : Answer → Type 0) (at : ℕ) (x : Token) (r : Answer)
     → (x ≡ Junk → P (Err (BadToken at))) → ((n : ℕ) → x ≡ Number n → 2 ^ 64 ≤ n → P (Err (NumberTooWide at))) → (IsNarrow x → IsTrueToken x → P r) → P (proper at x r)
 proper_cases P at Junk r bad wide good = bad refl
@@ -168,6 +166,7 @@ proper_cases P at (Number n) r bad wide good =
     cond_both (nat_lt n (2 ^ 64)) r (Err (NumberTooWide at)) P (λ e. good (ltb-true n (2 ^ 64) e) tt) (λ e. wide n refl (ltb-false n (2 ^ 64) e))
 proper_cases P at x r bad wide good = good tt tt
 
+-- it stands too deep, or is one too many, or is within the limits
 pub within_cases : (P : Answer → Type 0) (at d n : ℕ) (r : Answer)
     → (most_open ≤ d → P (Err (TooDeep at))) → (d < most_open → most_nodes < n → P (Err (TooLarge at))) → (d < most_open → n ≤ most_nodes → P r) → P (within at d n r)
 within_cases P at d n r deep large good =
@@ -178,12 +177,14 @@ within_cases P at d n r deep large good =
 not_bad : (b : List Placed) (x : Placed) (at : ℕ) → IsTrueToken x.token → FaultAt b x (BadToken at) → ⊥
 not_bad b x at h f = subst (λ t. IsTrueToken t) f.0 h
 
+-- a narrow number is not too wide
 not_wide : (b : List Placed) (x : Placed) (at : ℕ) → IsNarrow x.token → FaultAt b x (NumberTooWide at) → ⊥
 not_wide b x at h f =
     let small : f.0 < 2 ^ 64 = subst (λ t. IsNarrow t) f.1 h in
     let large : 2 ^ 64 ≤ f.0 = f.2 in
     omega arith
 
+-- above a token that is none no other fault is told
 bad_above : (b : List Placed) (x : Placed) (g : ReadFault) → rank g < 2 → FaultAt b x g → ⊥
 bad_above b x NoMemory h f = f
 bad_above b x (NotText at) h f = f
@@ -194,6 +195,7 @@ bad_above b x (TooDeep at) h f = omega arith
 bad_above b x (TooLarge at) h f = omega arith
 bad_above b x TooLong h f = omega arith
 
+-- and above a number too wide only that it is no token
 wide_above : (b : List Placed) (x : Placed) (v : ℕ) → x.token ≡ Number v → (g : ReadFault) → rank g < 3 → FaultAt b x g → ⊥
 wide_above b x v is NoMemory h f = f
 wide_above b x v is (NotText at) h f = f
@@ -206,6 +208,7 @@ wide_above b x v is TooLong h f = omega arith
 
 -- A step that is taken, from what has been read so far.
 module _ (ws : Texts) (s : State) (n : ℕ) (so : SoFar ws s n) (x : Placed) (good : IsNarrow x.token) (real : IsTrueToken x.token) where
+  -- what is refused is the front of no program
   refused : step s x.at x.token ≡ refuse → IsFront (map placed ws ++ x ∷ []) → ⊥
   refused is h =
       let (p, rest, e) = h in
@@ -218,6 +221,7 @@ module _ (ws : Texts) (s : State) (n : ℕ) (so : SoFar ws s n) (x : Placed) (go
             subst (λ st. PassesBy st w (λ t. Passes r t) (r ≡ [])) same pass
       ] pass left
 
+  -- a proper token has no fault above being unexpected
   none_above_unexpected : (g : ReadFault) → rank g < 4 → FaultAt (map placed ws) x g → ⊥
   none_above_unexpected NoMemory h f = f
   none_above_unexpected (NotText at) h f = f
@@ -282,6 +286,7 @@ module _ (ws : Texts) (s : State) (n : ℕ) (so : SoFar ws s n) (x : Placed) (go
       true_tokens = each_append WritesTrue ws (marked x.at x.token d c ∷ []) so.true_tokens (real, tt);
     }
 
+  -- what ends the program derives its tree
   derived : (p : Part) → step s x.at x.token ≡ finish p → Derives (map placed ws ++ x ∷ []) p.tree
   derived p is =
       let (e, part, ends, text) = let g : Goes ws (finish p) x.at x.token = subst (λ st. Goes ws st x.at x.token) is (step_goes s ws so.reached x.at x.token) in g in
@@ -300,6 +305,7 @@ module _ (ws : Texts) (s : State) (n : ℕ) (so : SoFar ws s n) (x : Placed) (go
   fault_here : (xs : List Placed) (f : ReadFault) → FaultAt (map placed ws) x f → ((g : ReadFault) → rank g < rank f → FaultAt (map placed ws) x g → ⊥) → IsFirstFault (map placed ws ++ x ∷ xs) f
   fault_here xs f here above = record { before = map placed ws; token = x; after = xs; split = refl; here = here; none_before = no_fault ws s n so; none_above = above }
 
+  -- what a step at this token comes to, where the rest is judged
   judged_step : (xs : List Placed) (st : Step) → step s x.at x.token ≡ st
       → ((t : State) (m d c : ℕ) → SoFar (ws ++ marked x.at x.token d c ∷ []) t m → Judged (map placed (ws ++ marked x.at x.token d c ∷ []) ++ xs) (scan xs t m))
       → Judged (map placed ws ++ x ∷ xs) (checked (scan xs) n x.at st)
@@ -313,6 +319,7 @@ module _ (ws : Texts) (s : State) (n : ℕ) (so : SoFar ws s n) (x : Placed) (go
       subst (λ z. Judged z (scan xs t (n + c))) (ap (λ z. z ++ xs) (tokens_on d c t is) ∙ append_assoc (map placed ws) (x ∷ []) xs)
       (next t (n + c) d c (so_on d c t is shallow small)))
 
+-- the scan from what has been read so far
 pub judged : (items : List Placed) (ws : Texts) (s : State) (n : ℕ) → SoFar ws s n → Judged (map placed ws ++ items) (scan items s n)
 judged [] ws s n so = tt
 judged (x ∷ xs) ws s n so =

@@ -1,5 +1,6 @@
 pub mod Ends
 pub mod Lists
+pub mod Spelled
 pub mod Follows
 pub mod Exact
 pub mod Reached

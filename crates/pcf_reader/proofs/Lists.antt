@@ -1,4 +1,4 @@
--- Lists of written tokens and their parts: what holds of each token, and how many nodes they count.
+-- Lists and their parts, above all of written tokens: what holds of each token, and how many nodes they count.
 use Rattle.std.proofs.Common.{◌≡◌, ◌+◌, List, [], ◌∷◌, ◌++◌, map, refl, ap, arith}
 use Rattle.pcf_reader.specs.Grammar.{Written, placed}
 use Rattle.pcf_reader.specs.Text.{count_of, IsNarrow, Each}
@@ -35,3 +35,13 @@ count-append (w ∷ u) v = omega (arith, count-append u v)
 pub map-append : (u v : List Written) → map placed (u ++ v) ≡ map placed u ++ map placed v
 map-append [] v = refl
 map-append (w ∷ u) v = ap (λ z. placed w ∷ z) (map-append u v)
+
+-- lists that are one begin alike and go on alike, and the empty list begins with nothing
+pub head_is : {A : Type 0} (a b : A) (u v : List A) → a ∷ u ≡ b ∷ v → a ≡ b
+head_is a b u v e = cc
+
+pub tail_is : {A : Type 0} (a b : A) (u v : List A) → a ∷ u ≡ b ∷ v → u ≡ v
+tail_is a b u v e = cc
+
+pub none_left : {A : Type 0} (a : A) (u : List A) → [] ≡ a ∷ u → ⊥
+none_left a u e = cc

@@ -19,10 +19,12 @@ abbrev pub Clear : List ℕ → Type 0
 Clear [] = Unit {0}
 Clear (c ∷ cs) = (is_digit c ≡ false) × (is_xid_continue c ≡ false)
 
+-- it goes on with no number
 clear_digit : (cs : List ℕ) → Clear cs → Stops is_digit cs
 clear_digit [] h = tt
 clear_digit (c ∷ cs) h = h.0
 
+-- and with no word
 clear_word : (cs : List ℕ) → Clear cs → Stops is_xid_continue cs
 clear_word [] h = tt
 clear_word (c ∷ cs) h = h.1
@@ -31,17 +33,21 @@ clear_word (c ∷ cs) h = h.1
 pub clear_by : (c : ℕ) (cs : List ℕ) → c < 128 → is_digit c ≡ false → (is_ascii_alphanumeric c || (c == 95)) ≡ false → Clear (c ∷ cs)
 clear_by c cs h d e = (d, is_xid_continue-ascii c h ∙ e)
 
+-- a split at a place that is another
 pub place_at : (i j : ℕ) (cs : List ℕ) (items : List Placed) → i ≡ j → Splits i cs items → Splits j cs items
 place_at i j cs items e h = subst (λ k. Splits k cs items) e h
 
+-- a blank
 pub blank_piece : (at : ℕ) (rest : List ℕ) (items : List Placed) → Splits (at + 1) rest items → Splits at (32 ∷ rest) items
 blank_piece at rest items h = blank at 32 rest items refl h
 
+-- a sign
 pub sign_piece : (c : ℕ) (x : Token) (at : ℕ) (rest : List ℕ) (items : List Placed) → sign_of c ≡ Some x → len_utf8 c ≡ 1 → (c ≡ 45 → Stops (λ d. d == 62) rest)
     → Splits (at + 1) rest items → Splits at (c ∷ rest) (at_place at x ∷ items)
 sign_piece c x at rest items e n stops h =
     token at (c ∷ rest) (c ∷ []) rest x items refl (sign c x e) (longest_sign c x rest e stops) (place_at (at + 1) (at + width (c ∷ [])) rest items (omega (arith, n)) h)
 
+-- a word
 pub word_piece : (c : ℕ) (cs : List ℕ) (x : Token) (n at : ℕ) (rest : List ℕ) (items : List Placed) → starts_name c ≡ true → AllPass is_xid_continue cs → word_of (encode_utf8_all (c ∷ cs)) ≡ x
     → width (c ∷ cs) ≡ n → Clear rest → Splits (at + n) rest items → Splits at (c ∷ (cs ++ rest)) (at_place at x ∷ items)
 word_piece c cs x n at rest items start all is w clear h =
@@ -54,10 +60,12 @@ abbrev pub all_small : List ℕ → Bool
 all_small [] = true
 all_small (c ∷ cs) = (nat_le 97 c && nat_le c 122) && all_small cs
 
+-- of two tests the second holds
 or_second : (a : Bool) → (a || true) ≡ true
 or_second true = refl
 or_second false = refl
 
+-- small letters are letters, begin names and go on with them, and are single bytes
 small_letter : (c : ℕ) → (nat_le 97 c && nat_le c 122) ≡ true → is_ascii_alphabetic c ≡ true
 small_letter c h = ap (λ b. (nat_le 65 c && nat_le c 90) || b) h ∙ or_second (nat_le 65 c && nat_le c 90)
 
@@ -67,6 +75,7 @@ small_low c h = let le : c ≤ 122 = leb-true c 122 (and_parts (nat_le 97 c) (na
 small_starts : (c : ℕ) → (nat_le 97 c && nat_le c 122) ≡ true → starts_name c ≡ true
 small_starts c h = ap (λ b. b || (c == 95)) (is_xid_start-ascii c (small_low c h) ∙ small_letter c h)
 
+-- of three tests the second holds
 or_third : (a b d : Bool) → b ≡ true → ((a || b) || d) ≡ true
 or_third true b d h = refl
 or_third false true d h = refl
@@ -85,19 +94,23 @@ small_bytes (c ∷ cs) h =
     ap (λ z. z ++ encode_utf8_all cs) (encode_ascii c (small_low c (and_parts (nat_le 97 c && nat_le c 122) (all_small cs) h).0))
     ∙ ap (λ z. c ∷ z) (small_bytes cs (and_parts (nat_le 97 c && nat_le c 122) (all_small cs) h).1)
 
+-- a keyword
 pub keyword_piece : (c : ℕ) (cs : List ℕ) (x : Token) (n at : ℕ) (rest : List ℕ) (items : List Placed) → all_small (c ∷ cs) ≡ true → word_of (c ∷ cs) ≡ x
     → width (c ∷ cs) ≡ n → Clear rest → Splits (at + n) rest items → Splits at (c ∷ (cs ++ rest)) (at_place at x ∷ items)
 keyword_piece c cs x n at rest items small is w clear h =
     word_piece c cs x n at rest items (small_starts c (and_parts (nat_le 97 c && nat_le c 122) (all_small cs) small).0) (small_all cs (and_parts (nat_le 97 c && nat_le c 122) (all_small cs) small).1) (ap word_of (small_bytes (c ∷ cs) small) ∙ is) w clear h
 
+-- a digit
 digit_test : (d : ℕ) → d < 10 → is_digit (48 + d) ≡ true
 digit_test d h =
     ap (λ b. b && nat_le (48 + d) 57) (le-leb 48 (48 + d) (omega arith)) ∙ le-leb (48 + d) 57 (omega (arith, h))
 
+-- what each of two lists passes
 all_append : (p : ℕ → Bool) (u v : List ℕ) → AllPass p u → AllPass p v → AllPass p (u ++ v)
 all_append p [] v h k = k
 all_append p (c ∷ u) v h k = (h.0, all_append p u v h.1 k)
 
+-- the value of one digit more
 value_append : (k : ℕ) (ds : List ℕ) (c : ℕ) → value_from k (ds ++ c ∷ []) ≡ 10 * value_from k ds + (c - 48)
 value_append k [] c = refl
 value_append k (d ∷ ds) c = value_append (10 * k + (d - 48)) ds c
@@ -110,9 +123,11 @@ pub record IsDecimal (n : ℕ) (ds : List ℕ) : Type 0 where
   pub all : AllPass is_digit ds
   pub value : value_from 0 ds ≡ n
 
+-- a number below ten
 one_digit : (n : ℕ) → n < 10 → IsDecimal n ((48 + n) ∷ [])
 one_digit n h = record { first = 48 + n; more = []; is = refl; all = (digit_test n h, tt); value = omega arith }
 
+-- a number with one digit more
 more_digits : (n : ℕ) (ds : List ℕ) → 10 ≤ n → IsDecimal (n / 10) ds → IsDecimal n (ds ++ ((48 + n % 10) ∷ []))
 more_digits n ds h k =
     record {
@@ -123,23 +138,29 @@ more_digits n ds h k =
       value = value_append 0 ds (48 + n % 10) ∙ omega (arith, k.value);
     }
 
+-- what is printed of a number are its digits
 pub decimal_digits : (n : ℕ) → n < 2 ^ 64 → IsDecimal n (decimal n)
 decimal_digits n h = decimal_by_steps IsDecimal one_digit more_digits n h
 
+-- an ASCII character has one byte
 pub low_width : (c : ℕ) → c < 128 → len_utf8 c ≡ 1
 low_width c h = sym (length-encode c) ∙ ap length (encode_ascii c h)
 
+-- a digit is one
 digit_below : (c : ℕ) → is_digit c ≡ true → c < 128
 digit_below c h = let le : c ≤ 57 = digit_low c h in omega (arith, le)
 
+-- digits are as wide as they are many
 digits_width : (ds : List ℕ) → AllPass is_digit ds → width ds ≡ length ds
 digits_width [] h = refl
 digits_width (c ∷ ds) h = omega (arith, low_width c (digit_below c h.0), digits_width ds h.1)
 
+-- and are their own bytes
 pub digits_bytes : (ds : List ℕ) → AllPass is_digit ds → encode_utf8_all ds ≡ ds
 digits_bytes [] h = refl
 digits_bytes (c ∷ ds) h = ap (λ z. z ++ encode_utf8_all ds) (encode_ascii c (digit_below c h.0)) ∙ ap (λ z. c ∷ z) (digits_bytes ds h.1)
 
+-- a number
 pub number_piece : (n at : ℕ) (rest : List ℕ) (items : List Placed) → n < 2 ^ 64 → Clear rest → Splits (at + length (decimal n)) rest items → Splits at (decimal n ++ rest) (at_place at (Number n) ∷ items)
 number_piece n at rest items small clear h =
     let d : IsDecimal n (decimal n) = decimal_digits n small in
@@ -156,9 +177,11 @@ pub width_bytes : (cs : List ℕ) → width cs ≡ length (encode_utf8_all cs)
 width_bytes [] = refl
 width_bytes (c ∷ cs) = omega (arith, length-append (encode_utf8 c) (encode_utf8_all cs), length-encode c, width_bytes cs)
 
+-- the characters of a name
 pub name_chars : (x : List ℕ) (h : IsName x) → chars x ≡ h.first ∷ h.more
 name_chars x h = ap chars (sym h.spelled) ∙ chars-encodes (h.first ∷ h.more) h.scalars
 
+-- a name
 pub name_piece : (x : List ℕ) (at : ℕ) (rest : List ℕ) (items : List Placed) → IsName x → Clear rest → Splits (at + length x) rest items → Splits at (chars x ++ rest) (at_place at (Name x) ∷ items)
 name_piece x at rest items h clear k =
     subst (λ z. Splits at (z ++ rest) (at_place at (Name x) ∷ items)) (sym (name_chars x h))

@@ -9,6 +9,7 @@ use Rattle.pcf_reader.specs.Tokens.{Name}
 use Rattle.pcf_reader.specs.Spelling.{starts_name, word_of, AllPass}
 use Rattle.pcf_reader.specs.Printed.{ty_level, word_text, binder_text, op_text, op_level, right_level, level}
 
+-- the first of both, or the second
 abbrev pub pick : Bool → Type 0 → Type 0 → Type 0
 pick true A B = A
 pick false A B = B
@@ -17,22 +18,27 @@ pick false A B = B
 abbrev pub fit_onto : ℕ → ℕ → (List ℕ → List ℕ) → List ℕ → List ℕ
 fit_onto most lvl f rest = if nat_le lvl most then f rest else 40 ∷ f (41 ∷ rest)
 
+-- the height of a part, with its parentheses
 abbrev pub fit_height : ℕ → ℕ → ℕ → ℕ
 fit_height most lvl h = if nat_le lvl most then h else suc h
 
+-- a part stands within the limit while so many phrases are open, with its parentheses
 abbrev pub fit_shallow : ℕ → ℕ → (ℕ → Type 0) → ℕ → Type 0
 fit_shallow most lvl S o = pick (nat_le lvl most) (S o) ((o < most_open) × S (suc o))
 
+-- the characters of a type before those that follow
 abbrev pub ty_onto : TyTree → List ℕ → List ℕ
 ty_onto nat rest = codes "nat" ++ rest
 ty_onto (arrow a b) rest = fit_onto 1 (ty_level a) (λ r. ty_onto a r) (codes " -> " ++ ty_onto b rest)
 ty_onto (product a b) rest = fit_onto 0 (ty_level a) (λ r. ty_onto a r) (codes " * " ++ fit_onto 1 (ty_level b) (λ r. ty_onto b r) rest)
 
+-- a type stands within the limit while so many phrases are open
 abbrev pub ty_shallow : TyTree → ℕ → Type 0
 ty_shallow nat o = Unit {0}
 ty_shallow (arrow a b) o = fit_shallow 1 (ty_level a) (λ p. ty_shallow a p) o × (o < most_open) × ty_shallow b (suc o)
 ty_shallow (product a b) o = fit_shallow 0 (ty_level a) (λ p. ty_shallow a p) o × (o < most_open) × fit_shallow 1 (ty_level b) (λ p. ty_shallow b p) (suc o)
 
+-- the characters of a term before those that follow
 abbrev pub own_onto : NamedTree → List ℕ → List ℕ
 own_onto (number_at _ n) rest = decimal n ++ rest
 own_onto (name_at _ x) rest = chars x ++ rest
@@ -44,6 +50,7 @@ own_onto (ifz_at _ c p q) rest = codes "ifz " ++ own_onto c (codes " then " ++ o
 own_onto (bind_at _ b x t m) rest = binder_text b ++ (chars x ++ (58 ∷ ty_onto t (codes ". " ++ own_onto m rest)))
 own_onto (apply_at _ f a) rest = fit_onto 1 (level f) (λ r. own_onto f r) (32 ∷ fit_onto 0 (level a) (λ r. own_onto a r) rest)
 
+-- the height of what is printed of a term
 abbrev pub own_height : NamedTree → ℕ
 own_height (number_at _ n) = 1
 own_height (name_at _ x) = 1
@@ -54,6 +61,7 @@ own_height (ifz_at _ c p q) = suc (max (own_height c) (max (own_height p) (own_h
 own_height (bind_at _ b x t m) = suc (own_height m)
 own_height (apply_at _ f a) = suc (max (fit_height 1 (level f) (own_height f)) (fit_height 0 (level a) (own_height a)))
 
+-- a term stands within the limit while so many phrases are open
 abbrev pub own_shallow : NamedTree → ℕ → Type 0
 own_shallow (number_at _ n) o = Unit {0}
 own_shallow (name_at _ x) o = Unit {0}

@@ -18,49 +18,61 @@ use Rattle.pcf_reader.proofs.Pieces.{digits_bytes, decimal_digits, name_chars}
 abbrev pub Shows : (List ℕ → List ℕ) → List ℕ → Type 0
 Shows f bytes = (rest : List ℕ) → (encode_utf8_all (f rest) ≡ bytes ++ encode_utf8_all rest) × (all_scalars rest ≡ true → all_scalars (f rest) ≡ true)
 
+-- two texts of scalar values
 scalars_join : (u v : List ℕ) → all_scalars u ≡ true → all_scalars v ≡ true → all_scalars (u ++ v) ≡ true
 scalars_join [] v h k = k
 scalars_join (c ∷ u) v h k = and_from _ (all_scalars (u ++ v)) (and_parts _ (all_scalars u) h).0 (scalars_join u v (and_parts _ (all_scalars u) h).1 k)
 
+-- one text behind another
 then_shows : (f g : List ℕ → List ℕ) (u v : List ℕ) → Shows f u → Shows g v → Shows (λ r. f (g r)) (u ++ v)
 then_shows f g u v h k rest =
     ((h (g rest)).0 ∙ ap (λ z. u ++ z) (k rest).0 ∙ sym (append_assoc u v (encode_utf8_all rest)), λ s. (h (g rest)).1 ((k rest).1 s))
 
+-- characters that are their own
 list_shows : (cs bytes : List ℕ) → encode_utf8_all cs ≡ bytes → all_scalars cs ≡ true → Shows (λ r. cs ++ r) bytes
 list_shows cs bytes e s rest = (encodes-append cs rest ∙ ap (λ z. z ++ encode_utf8_all rest) e, λ k. scalars_join cs rest s k)
 
+-- all below 128
 abbrev all_low : List ℕ → Bool
 all_low [] = true
 all_low (c ∷ cs) = nat_lt c 128 && all_low cs
 
+-- such characters are their own bytes
 low_bytes : (cs : List ℕ) → all_low cs ≡ true → encode_utf8_all cs ≡ cs
 low_bytes [] h = refl
 low_bytes (c ∷ cs) h =
     ap (λ z. z ++ encode_utf8_all cs) (encode_ascii c (ltb-true c 128 (and_parts (nat_lt c 128) (all_low cs) h).0)) ∙ ap (λ z. c ∷ z) (low_bytes cs (and_parts (nat_lt c 128) (all_low cs) h).1)
 
+-- and scalar values
 low_scalars : (cs : List ℕ) → all_low cs ≡ true → all_scalars cs ≡ true
 low_scalars [] h = refl
 low_scalars (c ∷ cs) h =
     let low : c < 128 = ltb-true c 128 (and_parts (nat_lt c 128) (all_low cs) h).0 in
     and_from _ (all_scalars cs) (low_scalar c (omega (arith, low))) (low_scalars cs (and_parts (nat_lt c 128) (all_low cs) h).1)
 
+-- and so they show themselves
 low_shows : (cs : List ℕ) → all_low cs ≡ true → Shows (λ r. cs ++ r) cs
 low_shows cs h = list_shows cs cs (low_bytes cs h) (low_scalars cs h)
 
+-- digits are scalar values
 digits_scalars : (ds : List ℕ) → AllPass is_digit ds → all_scalars ds ≡ true
 digits_scalars [] h = refl
 digits_scalars (c ∷ ds) h = let le : c ≤ 57 = digit_low c h.0 in and_from _ (all_scalars ds) (low_scalar c (omega (arith, le))) (digits_scalars ds h.1)
 
+-- a number
 number_shows : (n : ℕ) → n < 2 ^ 64 → Shows (λ r. decimal n ++ r) (decimal n)
 number_shows n h = list_shows (decimal n) (decimal n) (digits_bytes (decimal n) (decimal_digits n h).all) (digits_scalars (decimal n) (decimal_digits n h).all)
 
+-- a name
 name_shows : (x : List ℕ) → IsName x → Shows (λ r. chars x ++ r) x
 name_shows x h = subst (λ z. Shows (λ r. z ++ r) x) (sym (name_chars x h)) (list_shows (h.first ∷ h.more) x h.spelled h.scalars)
 
+-- a part, with its parentheses
 fit_shows : (b : Bool) (f : List ℕ → List ℕ) (text : List ℕ) → Shows f text → Shows (λ r. if b then f r else 40 ∷ f (41 ∷ r)) (if b then text else codes "(" ++ text ++ codes ")")
 fit_shows true f text h = h
 fit_shows false f text h = then_shows (λ r. 40 ∷ f r) (λ r. 41 ∷ r) (codes "(" ++ text) (codes ")") (then_shows (λ r. 40 ∷ r) f (codes "(") text (low_shows (codes "(") refl) h) (low_shows (codes ")") refl)
 
+-- a type
 ty_shows : (t : TyTree) → Shows (λ r. ty_onto t r) (ty_text t)
 ty_shows nat = low_shows (codes "nat") refl
 ty_shows (arrow a b) =
@@ -72,6 +84,7 @@ ty_shows (product a b) =
     (then_shows (λ r. fit_onto 0 (ty_level a) (λ r. ty_onto a r) r) (λ r. codes " * " ++ r) (fitted 0 (ty_level a) (ty_text a)) (codes " * ")
     (fit_shows (nat_le (ty_level a) 0) (λ r. ty_onto a r) (ty_text a) (ty_shows a)) (low_shows (codes " * ") refl)) (fit_shows (nat_le (ty_level b) 1) (λ r. ty_onto b r) (ty_text b) (ty_shows b))
 
+-- the words and signs that are printed are below 128
 word_low : (w : Word) → all_low (word_text w) ≡ true
 word_low the_succ = refl
 word_low the_pred = refl
@@ -87,6 +100,7 @@ op_low plus_op = refl
 op_low minus_op = refl
 op_low times_op = refl
 
+-- a term
 pub own_shows : (t : NamedTree) → Fine t → Shows (λ r. own_onto t r) (term_text t)
 own_shows (number_at i n) h = number_shows n h
 own_shows (name_at i x) h = name_shows x h

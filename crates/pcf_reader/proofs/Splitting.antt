@@ -51,9 +51,11 @@ text_read bytes n u t e =
     let none : xs ≡ [] = program_is_all front xs t (subst (λ z. Ended z) split (tokens_end bytes n u)) derives in
     (items, tokens bytes n u, subst (λ z. Derives z t) (sym (split ∙ ap (λ z. front ++ z) none ∙ append-nil front)) derives)
 
+-- a text of a tree is read as it
 pub text_only : (bytes : List ℕ) (t : NamedTree) → Text bytes t → scan (lex (chars bytes) 0 idle) (want_expr whole) 0 ≡ Ok t
 text_only bytes t h = ap (λ z. scan z (want_expr whole) 0) (sym (same_tokens bytes h.0 h.1)) ∙ derives_scan h.0 t h.2
 
+-- the fault of its tokens is that of the bytes
 faults_of : (bytes : List ℕ) (items : List Placed) → HasTokens bytes items → (f : ReadFault) → IsFault items f → Faults bytes f
 faults_of bytes items h NoMemory k = tt
 faults_of bytes items h (NotText at) k = absurd k.here
@@ -64,6 +66,7 @@ faults_of bytes items h (TooDeep at) k = (items, h, k)
 faults_of bytes items h (TooLarge at) k = (items, h, k)
 faults_of bytes items h TooLong k = absurd k.here
 
+-- what the scan refuses has that fault
 pub text_fault : (bytes : List ℕ) → length bytes ≤ most_program_bytes → IsUtf8 bytes → (f : ReadFault) → scan (lex (chars bytes) 0 idle) (want_expr whole) 0 ≡ Err f → Faults bytes f
 text_fault bytes n u f e =
     let items : List Placed = lex (chars bytes) 0 idle in
@@ -76,6 +79,7 @@ pub given_read : (bytes : List ℕ) → length bytes ≤ most_program_bytes → 
 given_read bytes n u (Ok t) h = text_read bytes n u (named_of t) h
 given_read bytes n u (Err f) h = tt
 
+-- and so has what a function refuses that fails as the scan does
 fails_fault : (bytes : List ℕ) → length bytes ≤ most_program_bytes → IsUtf8 bytes → (f : ReadFault) → Fails f (scan (lex (chars bytes) 0 idle) (want_expr whole) 0) → Faults bytes f
 fails_fault bytes n u NoMemory h = tt
 fails_fault bytes n u (NotText at) h = text_fault bytes n u (NotText at) h
@@ -86,6 +90,7 @@ fails_fault bytes n u (TooDeep at) h = text_fault bytes n u (TooDeep at) h
 fails_fault bytes n u (TooLarge at) h = text_fault bytes n u (TooLarge at) h
 fails_fault bytes n u TooLong h = text_fault bytes n u TooLong h
 
+-- a fault that such a function answers
 pub given_fault : (bytes : List ℕ) → length bytes ≤ most_program_bytes → IsUtf8 bytes → (r : Result Named ReadFault)
     → Gives (λ t. Ok (named_of t)) (scan (lex (chars bytes) 0 idle) (want_expr whole) 0) r → IfErr r (λ f. Faults bytes f)
 given_fault bytes n u (Ok t) h = tt
@@ -114,6 +119,7 @@ token_fault_once bytes f g h k =
     let same : k.0 ≡ h.0 = same_tokens bytes k.0 k.1 ∙ sym (same_tokens bytes h.0 h.1) in
     one_fault h.0 f g h.2 (subst (λ z. IsFirstFault z g) same k.2)
 
+-- bytes that stand for a tree have no token with a fault
 pub token_fault_only : (bytes : List ℕ) (t : NamedTree) (f : ReadFault) → Text bytes t → TokenFault bytes f → ⊥
 token_fault_only bytes t f h k =
     let same : k.0 ≡ h.0 = same_tokens bytes k.0 k.1 ∙ sym (same_tokens bytes h.0 h.1) in
@@ -125,6 +131,7 @@ Kinds bytes f =
     ((f ≡ TooLong) × (most_program_bytes < length bytes))
     ⊎ (((at : ℕ) × (f ≡ NotText at) × (length bytes ≤ most_program_bytes) × (IsUtf8 bytes → ⊥) × IsValidUpTo bytes at) ⊎ TokenFault bytes f)
 
+-- one of these it is
 kinds : (bytes : List ℕ) (f : ReadFault) → FirstFault bytes f → Kinds bytes f
 kinds bytes TooLong h = inl (refl, h)
 kinds bytes (NotText at) h = inr (inl (at, refl, h.0, h.1, h.2))
@@ -135,12 +142,14 @@ kinds bytes (Unexpected at) h = inr (inr h)
 kinds bytes (TooDeep at) h = inr (inr h)
 kinds bytes (TooLarge at) h = inr (inr h)
 
+-- where a token has the fault the bytes are short, and text
 short_text : (bytes : List ℕ) (f : ReadFault) → TokenFault bytes f → length bytes ≤ most_program_bytes
 short_text bytes f h = h.1.short
 
 true_text : (bytes : List ℕ) (f : ReadFault) → TokenFault bytes f → IsUtf8 bytes
 true_text bytes f h = (h.1.characters, (h.1.scalars, h.1.encoded))
 
+-- bytes stop being text at one place
 valid_once : (bytes : List ℕ) (m n : ℕ) → IsValidUpTo bytes m → IsValidUpTo bytes n → m ≡ n
 valid_once bytes m n h k = ranks_are m n (λ lt. h.longest n lt k.front) (λ lt. k.longest m lt h.front)
 
@@ -177,6 +186,7 @@ text_no_fault bytes t f h k =
       | inr (inr b) ↦ token_fault_only bytes t f h b
     ]
 
+-- a fault that may be answered is the first one
 only_first : (bytes : List ℕ) (f g : ReadFault) → FirstFault bytes f → Faults bytes g → IsOnlyFault f g
 only_first bytes f NoMemory h k = tt
 only_first bytes f (NotText at) h k = first_once bytes (NotText at) f k h
@@ -193,8 +203,10 @@ pub given_fault_only : (bytes : List ℕ) → length bytes ≤ most_program_byte
 given_fault_only bytes n u (Ok t) f h g = text_no_fault bytes (named_of t) f (text_read bytes n u (named_of t) g) h
 given_fault_only bytes n u (Err e) f h g = only_first bytes f e h (fails_fault bytes n u e g)
 
+-- bytes that are too long have that fault alone
 pub too_long_only : (bytes : List ℕ) → most_program_bytes < length bytes → (f : ReadFault) → FirstFault bytes f → IsOnlyFault f TooLong
 too_long_only bytes h f k = first_once bytes TooLong f h k
 
+-- and short bytes that are no text have theirs
 pub no_text_only : (bytes : List ℕ) (at : ℕ) → length bytes ≤ most_program_bytes → (IsUtf8 bytes → ⊥) → IsValidUpTo bytes at → (f : ReadFault) → FirstFault bytes f → IsOnlyFault f (NotText at)
 no_text_only bytes at n u v f k = first_once bytes (NotText at) f (n, u, v) k

@@ -34,6 +34,7 @@ one_more bytes m (n, low, front, longest) (inr failed) = (n, omega arith, front,
     go k above within u (inl top) = not_front bytes k (suc m) (omega arith) failed u
     go k above within u (inr below) = longest k above below u
 
+-- of any number of bytes
 longest_front : (bytes : List ℕ) (m : ℕ) → Longest bytes m
 longest_front bytes zero = (0, omega arith, ([], (refl, refl)), λ k above within u. absurd (omega arith))
 longest_front bytes (suc m) = one_more bytes m (longest_front bytes m) (cases_Bool (is_utf8 (take (suc m) bytes)))
@@ -63,6 +64,7 @@ stops bytes never = go (longest_front bytes (length bytes))
       },
     )
 
+-- the law, of some bytes
 abbrev pub Either : List ℕ → Type 0
 Either bytes = ((t : NamedTree) × Text bytes t) ⊎ ((f : ReadFault) × FirstFault bytes f)
 
@@ -88,9 +90,11 @@ of_short bytes n (inr failed) =
     let (at, valid) = stops bytes none in
     inr (NotText at, (n, none, valid))
 
+-- bytes that are too long, and others
 of_length : (bytes : List ℕ) → (most_program_bytes < length bytes) ⊎ (length bytes ≤ most_program_bytes) → Either bytes
 of_length bytes (inl long) = inr (TooLong, long)
 of_length bytes (inr short) = of_short bytes short (cases_Bool (is_utf8 bytes))
 
+-- and so all bytes
 pub text_or_fault : (bytes : List ℕ) → Either bytes
 text_or_fault bytes = of_length bytes (cases_lt most_program_bytes (length bytes))

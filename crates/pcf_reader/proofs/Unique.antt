@@ -8,13 +8,15 @@ use Rattle.pcf_reader.specs.Tokens.{Token, Minus, Arrow, Number, End, Junk, Plac
 use Rattle.pcf_reader.specs.Spelling.{is_blank, is_digit, starts_name, sign_of, word_of, value_from, AllPass, Spells, sign, arrow, digits, word, width, IsLongest, EndsLine, Splits, ends, blank, comment, token, junk}
 use Rattle.pcf_reader.specs.Lexing.{Mode, idle, in_comment, after_dash, in_number, in_word, closed, on_sign, opened, lex}
 use Rattle.pcf_reader.proofs.LexSteps.{comment_more, comment_line, number_more, number_stop, number_end, word_more, word_stop, word_end}
-use Rattle.pcf_reader.proofs.Longest.{both, not_start, sign_in, sign_starts, sign_digit, digit_starts}
+use Rattle.pcf_reader.proofs.Spelled.{sign_in}
+use Rattle.pcf_reader.proofs.Longest.{both, not_start, sign_starts, sign_digit, digit_starts}
 use Rattle.pcf_reader.proofs.Lexed.{Stops, at_place}
 
 -- what is left of the choices at a first character
 abbrev rest_5 : ℕ → ℕ → (Mode → List Placed) → List Placed
 rest_5 at c go = if starts_name c then go (in_word at (encode_utf8 c)) else on_sign (sign_of c) at go
 
+-- what is asked of a first character behind four, three and two questions
 abbrev rest_4 : ℕ → ℕ → (Mode → List Placed) → List Placed
 rest_4 at c go = if is_digit c then go (in_number at (c - 48)) else rest_5 at c go
 
@@ -24,18 +26,22 @@ rest_3 at c go = if c == 45 then go (after_dash at) else rest_4 at c go
 abbrev rest_2 : ℕ → ℕ → (Mode → List Placed) → List Placed
 rest_2 at c go = if c == 35 then go in_comment else rest_3 at c go
 
+-- a test that never holds fails
 not_true : (b : Bool) → (b ≡ true → ⊥) → b ≡ false
 not_true true h = absurd (h refl)
 not_true false h = refl
 
+-- a character that is no blank and begins no comment and no dash
 to_digit : (at c : ℕ) (go : Mode → List Placed) → is_blank c ≡ false → (c == 35) ≡ false → (c == 45) ≡ false → opened at c go ≡ rest_4 at c go
 to_digit at c go b n d =
     ap (λ v. if v then go idle else rest_2 at c go) b ∙ ap (λ v. if v then go in_comment else rest_3 at c go) n ∙ ap (λ v. if v then go (after_dash at) else rest_4 at c go) d
 
+-- a character that is none of the four blanks
 not_blank : (c : ℕ) → (c == 32) ≡ false → (c == 9) ≡ false → (c == 13) ≡ false → (c == 10) ≡ false → is_blank c ≡ false
 not_blank c a b d e =
     ap (λ v. ((v || c == 9) || c == 13) || c == 10) a ∙ ap (λ v. (v || c == 13) || c == 10) b ∙ ap (λ v. v || c == 10) d ∙ e
 
+-- what each kind of first character begins
 opened_digit : (at c : ℕ) (go : Mode → List Placed) → is_digit c ≡ true → opened at c go ≡ go (in_number at (c - 48))
 opened_digit at c go h =
     let low : 48 ≤ c = leb-true 48 c (and_parts (nat_le 48 c) (nat_le c 57) h).0 in
@@ -73,20 +79,24 @@ comment_through (c ∷ cs) rest at all line =
     comment_more (c ∷ (cs ++ rest)) (cs ++ rest) at c refl (λ e. let z : false ≡ true = sym (ap (λ v. not (v == 10)) e) ∙ all.0 in cc)
     ∙ comment_through cs rest (at + len_utf8 c) all.1 line ∙ ap (λ i. lex rest i idle) (add_assoc at (len_utf8 c) (width cs))
 
+-- a number ends before what is no digit
 number_ends : (rest : List ℕ) (at start n : ℕ) → Stops is_digit rest → lex rest at (in_number start n) ≡ at_place start (Number n) ∷ lex rest at idle
 number_ends [] at start n stops = number_end [] at start n refl
 number_ends (c ∷ rest) at start n stops = number_stop (c ∷ rest) rest at c start n refl stops
 
+-- and goes on over digits
 number_through : (ds rest : List ℕ) (at start n : ℕ) → AllPass is_digit ds → Stops is_digit rest → lex (ds ++ rest) at (in_number start n) ≡ at_place start (Number (value_from n ds)) ∷ lex rest (at + width ds) idle
 number_through [] rest at start n all stops = number_ends rest at start n stops ∙ ap (λ i. at_place start (Number n) ∷ lex rest i idle) (sym (add-zero at))
 number_through (c ∷ ds) rest at start n all stops =
     number_more (c ∷ (ds ++ rest)) (ds ++ rest) at c start n refl all.0 ∙ number_through ds rest (at + len_utf8 c) start (10 * n + (c - 48)) all.1 stops
     ∙ ap (λ i. at_place start (Number (value_from (10 * n + (c - 48)) ds)) ∷ lex rest i idle) (add_assoc at (len_utf8 c) (width ds))
 
+-- a word ends before what goes on with none
 word_ends : (rest : List ℕ) (at start : ℕ) (w : List ℕ) → Stops is_xid_continue rest → lex rest at (in_word start w) ≡ at_place start (word_of w) ∷ lex rest at idle
 word_ends [] at start w stops = word_end [] at start w refl
 word_ends (c ∷ rest) at start w stops = word_stop (c ∷ rest) rest at c start w refl stops
 
+-- and goes on over what does
 word_through : (ds rest : List ℕ) (at start : ℕ) (w : List ℕ) → AllPass is_xid_continue ds → Stops is_xid_continue rest → lex (ds ++ rest) at (in_word start w) ≡ at_place start (word_of (w ++ encode_utf8_all ds)) ∷ lex rest (at + width ds) idle
 word_through [] rest at start w all stops =
     word_ends rest at start w stops ∙ ap (λ i. at_place start (word_of w) ∷ lex rest i idle) (sym (add-zero at)) ∙ ap (λ z. at_place start (word_of z) ∷ lex rest (at + 0) idle) (sym (append-nil w))
@@ -95,14 +105,17 @@ word_through (c ∷ ds) rest at start w all stops =
     ∙ ap (λ i. at_place start (word_of ((w ++ encode_utf8 c) ++ encode_utf8_all ds)) ∷ lex rest i idle) (add_assoc at (len_utf8 c) (width ds))
     ∙ ap (λ z. at_place start (word_of z) ∷ lex rest (at + (len_utf8 c + width ds)) idle) (append_assoc w (encode_utf8 c) (encode_utf8_all ds))
 
+-- a list and one member more that pass
 pass_end : (p : ℕ → Bool) (ds : List ℕ) (r : ℕ) → AllPass p ds → p r ≡ true → AllPass p (ds ++ r ∷ [])
 pass_end p [] r all h = (h, tt)
 pass_end p (d ∷ ds) r all h = (all.0, pass_end p ds r all.1 h)
 
+-- what is never some is none
 not_some : (o : Option Token) → ((x : Token) → o ≡ Some x → ⊥) → o ≡ None
 not_some None h = refl
 not_some (Some x) h = absurd (h x refl)
 
+-- the tokens of nothing
 none_is : (at : ℕ) → lex [] at idle ≡ at_place at End ∷ []
 unfolding lex
 none_is at = refl
@@ -112,10 +125,12 @@ stops_number : (c : ℕ) (ds rest : List ℕ) → AllPass is_digit (c ∷ ds) �
 stops_number c ds [] all long = tt
 stops_number c ds (r ∷ rest) all long = not_true (is_digit r) (λ e. long [] rest r _ refl (digits c (ds ++ r ∷ []) (all.0, pass_end is_digit ds r all.1 e)))
 
+-- behind the longest word stands what goes on with none
 stops_word : (c : ℕ) (ds rest : List ℕ) → starts_name c ≡ true → AllPass is_xid_continue ds → IsLongest (c ∷ ds) rest → Stops is_xid_continue rest
 stops_word c ds [] first all long = tt
 stops_word c ds (r ∷ rest) first all long = not_true (is_xid_continue r) (λ e. long [] rest r _ refl (word c (ds ++ r ∷ []) first (pass_end is_xid_continue ds r all e)))
 
+-- and behind a dash that is the longest sign no `>`
 dash_stops : (rest : List ℕ) (at start : ℕ) → IsLongest (45 ∷ []) rest → lex rest at (after_dash start) ≡ at_place start Minus ∷ lex rest at idle
 unfolding lex
 dash_stops [] at start long = refl
@@ -123,6 +138,7 @@ dash_stops (r ∷ rest) at start long =
     let no : (r == 62) ≡ false = not_true (r == 62) (λ e. long [] rest 62 Arrow (ap (λ z. z ∷ rest) (eqb-true r 62 e)) arrow) in
     ap (λ v. if v then at_place start Arrow ∷ lex rest (at + len_utf8 r) idle else closed (after_dash start) (opened at r (λ m. lex rest (at + len_utf8 r) m))) no
 
+-- the tokens by their first character
 first_is : (c : ℕ) (t : List ℕ) (at : ℕ) → lex (c ∷ t) at idle ≡ opened at c (λ m. lex t (at + len_utf8 c) m)
 unfolding lex
 first_is c t at = refl
@@ -139,9 +155,11 @@ comment_first : (t : List ℕ) (at : ℕ) → lex (35 ∷ t) at idle ≡ lex t (
 unfolding lex
 comment_first t at = refl
 
+-- a dash
 dash_token : (rest : List ℕ) (at : ℕ) → IsLongest (45 ∷ []) rest → lex (45 ∷ rest) at idle ≡ at_place at Minus ∷ lex rest (at + width (45 ∷ [])) idle
 dash_token rest at long = dash_first rest at ∙ dash_stops rest (at + 1) at long
 
+-- a sign
 sign_token : (c : ℕ) (x : Token) (rest : List ℕ) (at : ℕ) (b : Bool) → (c == 45) ≡ b → sign_of c ≡ Some x → IsLongest (c ∷ []) rest → lex (c ∷ rest) at idle ≡ at_place at x ∷ lex rest (at + width (c ∷ [])) idle
 sign_token c x rest at true e h long =
     let is : c ≡ 45 = eqb-true c 45 e in
@@ -152,6 +170,7 @@ sign_token c x rest at true e h long =
 sign_token c x rest at false e h long =
     first_is c rest at ∙ opened_sign at c x (λ m. lex rest (at + len_utf8 c) m) h e ∙ ap (λ i. at_place at x ∷ lex rest i idle) (ap (λ n. at + n) (sym (add-zero (len_utf8 c))))
 
+-- what characters spell, and no longer front does, is the first token
 spelled : (cs : List ℕ) (x : Token) (rest : List ℕ) (at : ℕ) → Spells cs x → IsLongest cs rest → lex (cs ++ rest) at idle ≡ at_place at x ∷ lex rest (at + width cs) idle
 spelled cs x rest at (sign c y h) long = sign_token c y rest at (c == 45) refl h long
 spelled cs x rest at arrow long = dash_first (62 ∷ rest) at ∙ arrow_first rest (at + 1) at ∙ ap (λ i. at_place at Arrow ∷ lex rest i idle) (add_assoc at 1 1)

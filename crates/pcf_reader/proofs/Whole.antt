@@ -16,6 +16,7 @@ use Rattle.pcf_reader.proofs.Follows.{Follows}
 use Rattle.pcf_reader.proofs.Exact.{program_exact}
 use Rattle.pcf_reader.proofs.Reached.{Texts}
 
+-- no phrase goes on with what is no token
 junk_expr : (k : ExprK) (e : Part) (at : ℕ) → after_expr k e at Junk ≡ refuse
 junk_expr whole e at = refl
 junk_expr (in_parens o k) e at = refl
@@ -43,6 +44,7 @@ junk_ptype : (k : PTypeK) (t : TyTree) (at : ℕ) → end_ptype k t at Junk ≡ 
 junk_ptype (first_ptype k) t at = junk_type k t at
 junk_ptype (right_of_cross a k) t at = junk_ptype k (product a t) at
 
+-- no state takes it
 pub junk_refused : (s : State) (at : ℕ) → step s at Junk ≡ refuse
 junk_refused (want_expr k) at = refl
 junk_refused (want_atom k) at = refl
@@ -52,13 +54,16 @@ junk_refused (want_colon o b x k) at = refl
 junk_refused (want_tatom k) at = refl
 junk_refused (after_tatom k t) at = junk_ptype k t at
 
+-- what is refused is not taken
 no_go : (d c : ℕ) (t : State) → refuse ≡ go d c t → ⊥
 no_go d c t e = cc
 
+-- and ends no program
 no_finish : (p : Part) → refuse ≡ finish p → ⊥
 no_finish p e = cc
 
-number_is : (at n : ℕ) (r : Answer) → n < 2 ^ 64 → proper at (Number n) r ≡ r
+-- a narrow number is proper
+pub number_is : (at n : ℕ) (r : Answer) → n < 2 ^ 64 → proper at (Number n) r ≡ r
 number_is at n r h = ap (λ b. if b then r else Err (NumberTooWide at)) (lt-ltb n (2 ^ 64) h)
 
 -- a token that a state does not refuse, and that is no number too wide, is proper
@@ -67,11 +72,13 @@ proper_is s at Junk r taken narrow = absurd (taken (junk_refused s at))
 proper_is s at (Number n) r taken narrow = number_is at n r narrow
 proper_is s at _ r taken narrow = refl
 
+-- what is within the limits goes on
 within_is : (at d n : ℕ) (r : Answer) → d < most_open → n ≤ most_nodes → within at d n r ≡ r
 within_is at d n r shallow small =
     ap (λ b. if b then Err (TooDeep at) else if nat_lt most_nodes n then Err (TooLarge at) else r) (lt-leb most_open d shallow)
     ∙ ap (λ b. if b then Err (TooLarge at) else r) (le-ltb most_nodes n small)
 
+-- the scan over what the machine takes within the limits
 pub scan_run : (ws : Texts) (s t : State) (n : ℕ) (xs : List Placed)
     → Follows s ws t → Each IsShallow ws → Each WritesNarrow ws → n + count_of ws ≤ most_nodes → scan (map placed ws ++ xs) s n ≡ scan xs t (n + count_of ws)
 scan_run [] s t n xs h shallow narrow small = ap (λ s. scan xs s n) h ∙ ap (λ n. scan xs t n) (sym (add-zero n))

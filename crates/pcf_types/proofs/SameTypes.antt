@@ -1,5 +1,5 @@
 -- The definition's test of two types is equality.
-use Rattle.std.proofs.Common.{◌≡◌, ◌≢◌, ℕ, Bool, true, false, ◌&&◌, cond, Ok, Err, refl, sym, ap, ◌∙◌}
+use Rattle.std.proofs.Common.{◌≡◌, ◌≢◌, ℕ, Bool, true, false, cond, Ok, Err, refl, sym, ap, ◌∙◌}
 use Rattle.std.proofs.lemmas.Bool.{and_parts, and_from}
 use Rattle.pcf_values.specs.Terms.{TyTree, nat, arrow, product, TermTree}
 use Rattle.pcf_types.specs.declared.fault.TypeFault.{TypeFault}

@@ -1,9 +1,7 @@
 -- Definitions that the public contracts cite: what the checker answers.
 pub mod Checking
-
 -- What the laws measure it by: which term a tree stands for, and the statements themselves. The typing relation is `pcf_values`'s.
 pub mod Resolution
 pub mod Correct
-
 -- For private contracts and proofs only: what they see of scopes and of types that are made while the tree is gone over.
 pub mod Views
