@@ -1,5 +1,5 @@
 -- A term whose parts are placed one after another is placed as the definition says.
-use Rattle.std.proofs.Common.{◌≡◌, ℕ, zero, suc, ◌+◌, ◌-◌, ◌⊎◌, ◌<◌, ◌≤◌, ◌^◌, List, [], ◌∷◌, ◌++◌, length, map, reverse, Some, None, refl, sym, ap, ◌∙◌, subst, inl, inr, arith}
+use Rattle.std.proofs.Common.{◌≡◌, ℕ, zero, suc, ◌+◌, ◌-◌, ◌⊎◌, ◌<◌, ◌≤◌, List, [], ◌∷◌, ◌++◌, length, map, reverse, Some, None, refl, sym, ap, ◌∙◌, subst, inl, inr, arith}
 use Rattle.std.specs.Prelude.{slice_get}
 use Rattle.std.proofs.lemmas.Bool.{cases_lt, lt-ltb, le-ltb}
 use Rattle.std.proofs.lemmas.List.{append-nil, length-append}
@@ -13,7 +13,7 @@ use Rattle.net_build.specs.declared.double.Double.{Double}
 use Rattle.net_build.specs.Nets.{value_wire, var_wire}
 use Rattle.net_build.specs.NetOf.{Part, double_end, ifz_end, lam_end, fix_end, app_end, part, none_free, one_free, type_or_nat}
 use Rattle.net_build.specs.Views.{wire_of}
-use Rattle.net_build.specs.Building.{context_of, spread, Grows, Spreads, Gives, Builds, BuildsBody, frees, body_frees, wire_type, part_at, second_at, third_at, body_at, double_node, double_type, double_here, double_of, ifz_here, lam_here, fix_here, app_here, one_at}
+use Rattle.net_build.specs.Building.{HasRoom, context_of, spread, Grows, Spreads, Gives, Builds, BuildsBody, frees, body_frees, wire_type, part_at, second_at, third_at, body_at, double_node, double_type, double_here, double_of, ifz_here, lam_here, fix_here, app_here, one_at}
 use Rattle.net_build.proofs.Growing.{grows_then, grows_length, kept_type, new_type, new_inside}
 use Rattle.net_build.proofs.Ending.{before, after}
 use Rattle.net_build.proofs.Spreading.{context_length, spread_none}
@@ -84,24 +84,15 @@ module _ (s0 s1 : Parts) (d : ℕ) (a b c : TermTree) (r1 : Placed) (h : Builds 
     ifz_moved : part_at s2 d c ≡ third_at s0 d (part_at s0 d a) (second_at s0 d (part_at s0 d a) b) c
     ifz_moved = moved_twice s0 s1 s2 (part_at s0 d a) (second_at s0 d (part_at s0 d a) b) d c h.grows ifz_i.grows
 
-    pub ifz_third_room : (n m : ℕ) → m ≤ n + length (part_at s0 d a).wires + length (part_at s1 d b).wires → n + length (part_at s0 d (ifz a b c)).wires < 2 ^ 32 → m + length (part_at s2 d c).wires < 2 ^ 32
+    -- room for the whole is room for the third operand
+    pub ifz_room : HasRoom s0 d (part_at s0 d (ifz a b c)) → HasRoom s2 d (part_at s2 d c)
     unfolding ifz_rest
-    ifz_third_room n m l k =
+    ifz_room k =
         let p = part_at s0 d a in
         let q = second_at s0 d p b in
         let r = third_at s0 d p q c in
-        let e = ap (λ q. length q.wires) (moved s0 s1 p d b h.grows) in
-        let e' = ap (λ q. length q.wires) ifz_moved in
-        omega (arith, l, k, e, e', length-append p.wires (q.wires ++ (r.wires ++ ifz_rest.wires)), length-append q.wires (r.wires ++ ifz_rest.wires), length-append r.wires ifz_rest.wires)
-
-    pub ifz_numbers : length s0.wires.items + length (part_at s0 d (ifz a b c)).wires < 2 ^ 32 → length s2.wires.items + length (part_at s2 d c).wires < 2 ^ 32
-    ifz_numbers k =
-        let p = part_at s0 d a in
-        let q = part_at s1 d b in
-        ifz_third_room (length s0.wires.items) (length s2.wires.items) (omega (arith, grows_length s0 s1 p.wires p.nodes h.grows, grows_length s1 s2 q.wires q.nodes i.grows)) k
-
-    pub ifz_depths : d + length (part_at s0 d (ifz a b c)).wires < 2 ^ 32 → d + length (part_at s2 d c).wires < 2 ^ 32
-    ifz_depths k = ifz_third_room d d (omega arith) k
+        let e = ap (λ q. length q.wires) ifz_moved in
+        omega (arith, k, e, grows_length s0 s1 p.wires p.nodes h.grows, grows_length s1 s2 q.wires q.nodes ifz_i.grows, length-append p.wires (q.wires ++ (r.wires ++ ifz_rest.wires)), length-append q.wires (r.wires ++ ifz_rest.wires), length-append r.wires ifz_rest.wires)
 
     module _ (s3 : Parts) (r3 : Placed) (j : Builds s2 s3 (part_at s2 d c) r3) where
       ifz_j : Builds s2 s3 (third_at s0 d (part_at s0 d a) (second_at s0 d (part_at s0 d a) b) c) r3
@@ -127,7 +118,8 @@ module _ (s0 s1 : Parts) (d : ℕ) (a b c : TermTree) (r1 : Placed) (h : Builds 
           let f'' = free_at s2 s3 s3 r r3 ifz_j.gives ifz_j.grows.context in
           λ k. ifz_end (ifz_next k) d (context_of (e k)) (h.gives.out k) (ifz_i.gives.out k) (ifz_j.gives.out k) (f k) (f' k) (f'' k)
 
-      pub ifz_close_room : length s0.wires.items + length (part_at s0 d (ifz a b c)).wires < 2 ^ 32 → length s3.wires.items + length (ifz_here s3 d r1 r2 r3).wires < 2 ^ 32
+      -- room for the whole is room for its end
+      pub ifz_close_room : HasRoom s0 d (part_at s0 d (ifz a b c)) → HasRoom s3 d (ifz_here s3 d r1 r2 r3)
       unfolding ifz_rest ifz_first ifz_second ifz_third
       ifz_close_room k =
           let p = part_at s0 d a in
@@ -203,7 +195,8 @@ module _ (s0 s1 : Parts) (d : ℕ) (t : TyTree) (m : TermTree) (r1 : Placed) (h 
       let f = body_free_at s0 s1 s1 p r1 h.gives h.grows.context in
       λ k. fix_end (n k) d (context_of (h.grows.context k)) t (h.gives.out k) (f k)
 
-  pub fix_close_room : length s0.wires.items + length (part_at s0 d (fix t m)).wires < 2 ^ 32 → length s1.wires.items + length (fix_here s1 d t r1).wires < 2 ^ 32
+  -- room for the whole is room for its end
+  pub fix_close_room : HasRoom s0 d (part_at s0 d (fix t m)) → HasRoom s1 d (fix_here s1 d t r1)
   fix_close_room l =
       let p = body_at s0 (suc d) t m in
       let c = fix_end (length s0.wires.items + length p.wires) d (context_of s0.context.items) t p.out p.free in
@@ -220,8 +213,8 @@ pub app_builds_at : (s0 s1 s2 s3 : Parts) (d d' : ℕ) (a b : TermTree) (r1 r2 r
     Builds s0 s3 (part_at s0 d (app a b)) r
 app_builds_at s0 s1 s2 s3 d d' a b r1 r2 r e h i j = app_builds s0 s1 d a b r1 h s2 r2 (subst (λ d'. Builds s1 s2 (part_at s1 d' b) r2) e i) s3 r j
 
-pub fix_close_room_at : (s0 s1 : Parts) (d d' : ℕ) (t : TyTree) (m : TermTree) (r1 : Placed) → d' ≡ suc d → BuildsBody s0 s1 (body_at s0 d' t m) r1 → length s0.wires.items + length (part_at s0 d (fix t m)).wires < 2 ^ 32 →
-    length s1.wires.items + length (fix_here s1 d t r1).wires < 2 ^ 32
+pub fix_close_room_at : (s0 s1 : Parts) (d d' : ℕ) (t : TyTree) (m : TermTree) (r1 : Placed) → d' ≡ suc d → BuildsBody s0 s1 (body_at s0 d' t m) r1 →
+    HasRoom s0 d (part_at s0 d (fix t m)) → HasRoom s1 d (fix_here s1 d t r1)
 fix_close_room_at s0 s1 d d' t m r1 e h l = fix_close_room s0 s1 d t m r1 (subst (λ d'. BuildsBody s0 s1 (body_at s0 d' t m) r1) e h) l
 
 pub fix_builds_at : (s0 s1 s2 : Parts) (d d' : ℕ) (t : TyTree) (m : TermTree) (r1 r : Placed) → d' ≡ suc d → BuildsBody s0 s1 (body_at s0 d' t m) r1 → Builds s1 s2 (fix_here s1 d t r1) r → Builds s0 s2 (part_at s0 d (fix t m)) r

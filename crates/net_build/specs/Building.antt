@@ -1,7 +1,7 @@
 -- How the code that builds a net keeps what the definition speaks of.
 -- The context is a list of the binders' types, the outermost first. A term's free variables are a list of the wires that are loose, each
 -- with its binder, the innermost binder last: entries only for variables that the term uses.
-use Rattle.std.specs.Prelude.{◌≡◌, ◌<◌, ℕ, zero, suc, List, [], ◌∷◌, ◌++◌, length, map, reverse, Bool, false, Option, Some, None, nat_eq, nat_lt, ◌-◌, slice_get, if◌then◌else◌, ◌+◌}
+use Rattle.std.specs.Prelude.{◌≡◌, ◌<◌, ◌^◌, ℕ, zero, suc, List, [], ◌∷◌, ◌++◌, length, map, reverse, Bool, false, Option, Some, None, nat_eq, nat_lt, ◌-◌, slice_get, if◌then◌else◌, ◌+◌}
 use Rattle.pcf_values.specs.declared.ty.Ty.{Ty}
 use Rattle.pcf_values.specs.Terms.{TyTree, nat, left_side, right_side, TermTree, product}
 use Rattle.pcf_values.specs.Views.{ty_of}
@@ -64,6 +64,23 @@ pub record Gives (k : ℕ) (new : Parts) (p : Part) (r : Placed) : Type 0 where
 pub record Builds (old new : Parts) (p : Part) (r : Placed) : Type 0 where
   pub grows : Grows old new p.wires p.nodes
   pub gives : Gives (length old.context.items) new p r
+
+-- these loose wires are of binders of the context, the innermost last
+abbrev pub AreLoose : Parts → List Loose → Type 0
+AreLoose s us = Falling (length s.context.items) (reverse us)
+
+-- what was placed stands here: its value wire is one of the wires, and its free variables are of the context
+abbrev pub IsPlaced : Parts → Placed → Type 0
+IsPlaced s r = (r.out < length s.wires.items) × AreLoose s r.free.items
+
+-- the same of a body, which has one binder more
+abbrev pub IsBody : Parts → Placed → Type 0
+IsBody s r = (r.out < length s.wires.items) × Falling (suc (length s.context.items)) (reverse r.free.items)
+
+-- there is room for a part, built from here at this depth: each number and each depth of its wires is below 2 ^ 32. One bound says
+-- both, since a form that stands one box deeper adds a wire outside.
+abbrev pub HasRoom : Parts → ℕ → Part → Type 0
+HasRoom s d p = d + length s.wires.items + length p.wires < 2 ^ 32
 
 -- the part of a term, built from here
 abbrev pub part_at : Parts → ℕ → TermTree → Part
@@ -220,6 +237,10 @@ uses_first b (u ∷ us) = nat_eq u.binder b
 -- the part of two terms at one depth, built from here
 abbrev pub double_of : Double → Parts → ℕ → TermTree → TermTree → Part
 double_of form s d a b = let p = part_at s d a in double_at form s d p (second_at s d p b)
+
+-- the part of a form with one operand, built from here
+abbrev pub unary_of : Unary → Parts → ℕ → TermTree → Part
+unary_of form s d a = unary_at form s d (part_at s d a)
 
 -- the loose wires of variable i alone, where there are k binders
 abbrev pub one_at : ℕ → ℕ → ℕ → List Loose

@@ -1,10 +1,11 @@
-//! The last wires and nodes of each form of term, once its parts are placed.
+//! The ends of the forms: the last wires and nodes of each form of term, once its operands are placed. A wire's type is read off the
+//! wires that are placed, where the definition carries it beside each part.
 
 ghost use Rattle.std.specs.Prelude.{◌≡◌, ◌<◌, ◌+◌, ◌-◌, ◌^◌, ◌∷◌, [], length, suc, reverse, slice_get, IfOk};
 ghost use Rattle.pcf_values.specs.Terms.{arrow};
 ghost use Rattle.pcf_values.specs.Views.{ty_of};
 ghost use Rattle.net_build.specs.NetOf.{domain, codomain};
-ghost use Rattle.net_build.specs.Building.{Binds, Builds, Bundles, Falling, Finishes, app_here, box_here, box_wire, double_here, fix_here, ifz_here, lam_here, uses_first};
+ghost use Rattle.net_build.specs.Building.{AreLoose, Binds, Builds, Bundles, Falling, Finishes, HasRoom, IsBody, IsPlaced, app_here, box_here, box_wire, double_here, fix_here, ifz_here, lam_here, uses_first};
 
 use crate::double::Double;
 use crate::joins::{contract, doors, pop_last};
@@ -34,7 +35,7 @@ pub(crate) fn finish(
     Ok(Placed { out, free })
 }
 
-/// After both operands: the contractions of their variables, and the node.
+/// The definition's `double_end`: the contractions of both operands' variables, and the node.
 pub(crate) fn close_double(
     alloc: Global,
     parts: &mut Parts,
@@ -43,12 +44,10 @@ pub(crate) fn close_double(
     left: Placed,
     right: Placed,
 ) -> Result<Placed, AllocError>
-    requires lefts { Falling (length parts.old.context.items) (reverse left.free.items) }
-    requires rights { Falling (length parts.old.context.items) (reverse right.free.items) }
-    requires left_wire { left.out < length parts.old.wires.items }
-    requires right_wire { right.out < length parts.old.wires.items }
-    requires room { length parts.old.wires.items + length (double_here form parts.old depth left right).wires < 2 ^ 32 }
-    ensures { IfOk result (λ r. Builds parts.old parts.new (double_here form parts.old depth left right) r) }
+    requires left { IsPlaced parts.old left }
+    requires right { IsPlaced parts.old right }
+    requires room { HasRoom parts.old depth (double_here form parts.old depth left right) }
+    ensures { IfOk result (Builds parts.old parts.new (double_here form parts.old depth left right)) }
 {
     let ty = form.ty(alloc, parts.ty(left.out), parts.ty(right.out))?;
     let free = contract(alloc, parts, depth, left.free, right.free)?;
@@ -56,7 +55,7 @@ pub(crate) fn close_double(
     finish(parts, depth, ty, node, free)
 }
 
-/// After condition, then and else: the branches are contracted first, and then the condition with them.
+/// `ifz_end`: the branches are contracted first, and then the condition with them.
 pub(crate) fn close_ifz(
     alloc: Global,
     parts: &mut Parts,
@@ -65,11 +64,11 @@ pub(crate) fn close_ifz(
     then: Placed,
     otherwise: Placed,
 ) -> Result<Placed, AllocError>
-    requires tests { Falling (length parts.old.context.items) (reverse test.free.items) }
-    requires thens { Falling (length parts.old.context.items) (reverse then.free.items) }
-    requires elses { Falling (length parts.old.context.items) (reverse otherwise.free.items) }
-    requires room { length parts.old.wires.items + length (ifz_here parts.old depth test then otherwise).wires < 2 ^ 32 }
-    ensures { IfOk result (λ r. Builds parts.old parts.new (ifz_here parts.old depth test then otherwise) r) }
+    requires test { IsPlaced parts.old test }
+    requires then { IsPlaced parts.old then }
+    requires otherwise { IsPlaced parts.old otherwise }
+    requires room { HasRoom parts.old depth (ifz_here parts.old depth test then otherwise) }
+    ensures { IfOk result (Builds parts.old parts.new (ifz_here parts.old depth test then otherwise)) }
 {
     let branches = contract(alloc, parts, depth, then.free, otherwise.free)?;
     let free = contract(alloc, parts, depth, test.free, branches)?;
@@ -82,7 +81,7 @@ pub(crate) fn close_ifz(
     finish(parts, depth, Ty::Nat, node, free)
 }
 
-/// After the body of a `fun`.
+/// `lam_end`: the binder's wire, and the function.
 pub(crate) fn close_fun(
     alloc: Global,
     parts: &mut Parts,
@@ -90,10 +89,9 @@ pub(crate) fn close_fun(
     ty: &Ty,
     body: Placed,
 ) -> Result<Placed, AllocError>
-    requires falling { Falling (suc (length parts.old.context.items)) (reverse body.free.items) }
-    requires body_wire { body.out < length parts.old.wires.items }
-    requires room { length parts.old.wires.items + length (lam_here parts.old depth (ty_of ty.now) body).wires < 2 ^ 32 }
-    ensures { IfOk result (λ r. Builds parts.old parts.new (lam_here parts.old depth (ty_of ty.now) body) r) }
+    requires body { IsBody parts.old body }
+    requires room { HasRoom parts.old depth (lam_here parts.old depth (ty_of ty.now) body) }
+    ensures { IfOk result (Builds parts.old parts.new (lam_here parts.old depth (ty_of ty.now) body)) }
 {
     let whole = arrow_of(alloc, ty, parts.ty(body.out))?;
     let mut free = body.free;
@@ -106,7 +104,7 @@ pub(crate) fn close_fun(
     finish(parts, depth, whole, node, free)
 }
 
-/// After the body of a `fix`, which stands one depth further in: its other variables leave by doors.
+/// `fix_end`, after a body one depth further in: the binder's wire there, doors for its other variables, and the box.
 pub(crate) fn close_fix(
     alloc: Global,
     parts: &mut Parts,
@@ -114,10 +112,9 @@ pub(crate) fn close_fix(
     ty: &Ty,
     body: Placed,
 ) -> Result<Placed, AllocError>
-    requires falling { Falling (suc (length parts.old.context.items)) (reverse body.free.items) }
-    requires deep { depth < 2 ^ 32 - 1 }
-    requires room { length parts.old.wires.items + length (fix_here parts.old depth (ty_of ty.now) body).wires < 2 ^ 32 }
-    ensures { IfOk result (λ r. Builds parts.old parts.new (fix_here parts.old depth (ty_of ty.now) body) r) }
+    requires body { IsBody parts.old body }
+    requires room { HasRoom parts.old depth (fix_here parts.old depth (ty_of ty.now) body) }
+    ensures { IfOk result (Builds parts.old parts.new (fix_here parts.old depth (ty_of ty.now) body)) }
 {
     let mut free = body.free;
     let x = bind(alloc, parts, depth + 1, ty, &mut free)?;
@@ -130,7 +127,7 @@ pub(crate) fn close_fix(
     finish(parts, depth, ty.copy(alloc)?, node, free)
 }
 
-/// After the function and its argument, which stands one depth further in.
+/// `app_end`, after the function and an argument one depth further in: the box with its doors, the contractions, and the application.
 pub(crate) fn close_app(
     alloc: Global,
     parts: &mut Parts,
@@ -138,11 +135,10 @@ pub(crate) fn close_app(
     function: Placed,
     argument: Placed,
 ) -> Result<Placed, AllocError>
-    requires functions { Falling (length parts.old.context.items) (reverse function.free.items) }
-    requires arguments { Falling (length parts.old.context.items) (reverse argument.free.items) }
-    requires function_wire { function.out < length parts.old.wires.items }
-    requires room { length parts.old.wires.items + length (app_here parts.old depth function argument).wires < 2 ^ 32 }
-    ensures { IfOk result (λ r. Builds parts.old parts.new (app_here parts.old depth function argument) r) }
+    requires function { IsPlaced parts.old function }
+    requires argument { IsPlaced parts.old argument }
+    requires room { HasRoom parts.old depth (app_here parts.old depth function argument) }
+    ensures { IfOk result (Builds parts.old parts.new (app_here parts.old depth function argument)) }
 {
     let from = domain_of(alloc, parts.ty(function.out))?;
     let boxed = close_box(alloc, parts, depth, from, argument)?;
@@ -171,7 +167,7 @@ fn close_box(
     ty: Ty,
     argument: Placed,
 ) -> Result<Boxed, AllocError>
-    requires falling { Falling (length parts.old.context.items) (reverse argument.free.items) }
+    requires loose { AreLoose parts.old argument.free.items }
     requires room { length parts.old.wires.items + length (box_here parts.old depth (ty_of ty) argument).wires < 2 ^ 32 }
     ensures bundle { IfOk result (λ b. Bundles parts.old parts.new (box_here parts.old depth (ty_of ty) argument) b.free.items) }
     ensures wire { IfOk result (λ b. b.out ≡ box_wire parts.old depth argument) }

@@ -1,7 +1,7 @@
 //! Contractions and doors: the nodes that a term's free variables need.
 
 ghost use Rattle.std.specs.Prelude.{◌≡◌, ◌⊎◌, ◌<◌, ◌+◌, ◌^◌, ◌++◌, ◌∷◌, [], length, reverse, IfOk};
-ghost use Rattle.net_build.specs.Building.{Bundles, Falling, IsFirst, Takes, Varies, contract_at, doors_at};
+ghost use Rattle.net_build.specs.Building.{AreLoose, Bundles, IsFirst, Takes, Varies, contract_at, doors_at};
 
 use crate::parts::{Loose, Parts};
 use crate::{Node, Wire, WireKind};
@@ -16,8 +16,8 @@ pub(crate) fn contract(
     mut left: Vec<Loose>,
     mut right: Vec<Loose>,
 ) -> Result<Vec<Loose>, AllocError>
-    requires lefts { Falling (length parts.old.context.items) (reverse left.items) }
-    requires rights { Falling (length parts.old.context.items) (reverse right.items) }
+    requires lefts { AreLoose parts.old left.items }
+    requires rights { AreLoose parts.old right.items }
     requires room { length parts.old.wires.items + length (contract_at parts.old depth left.items right.items).wires < 2 ^ 32 }
     ensures { IfOk result (λ v. Bundles parts.old parts.new (contract_at parts.old depth left.items right.items) v.items) }
 {
@@ -37,7 +37,7 @@ fn take(
     left: &mut Vec<Loose>,
     right: &mut Vec<Loose>,
 ) -> Result<Loose, AllocError>
-    requires lefts { Falling (length parts.old.context.items) (reverse left.old.items) }
+    requires lefts { AreLoose parts.old left.old.items }
     requires some_left { 0 < length left.old.items }
     requires some_right { 0 < length right.old.items }
     requires room { length parts.old.wires.items < 2 ^ 32 }
@@ -84,7 +84,7 @@ pub(crate) fn doors(
     depth: u32,
     mut inside: Vec<Loose>,
 ) -> Result<Vec<Loose>, AllocError>
-    requires falling { Falling (length parts.old.context.items) (reverse inside.items) }
+    requires falling { AreLoose parts.old inside.items }
     requires room { length parts.old.wires.items + length (doors_at parts.old depth inside.items).wires < 2 ^ 32 }
     ensures { IfOk result (λ v. Bundles parts.old parts.new (doors_at parts.old depth inside.items) v.items) }
 {

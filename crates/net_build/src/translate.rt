@@ -1,13 +1,15 @@
-//! The net of a program, built in one pass over its term.
+//! The net of a program, built in one pass over its term, beside `specs/NetOf.antt`.
 //!
-//! The recursion goes over the term alone. Each form has a function of its own, so that no frame is large.
+//! `place` is the definition's `part`, clause by clause: a form's operands are placed one after another, each at the end of the lists
+//! so far, and then `closing` adds the form's end. The depth and the context are the definition's, and the next wire is the length of
+//! the list of wires. Each form has a function of its own, so that no frame is large.
 
-ghost use Rattle.std.specs.Prelude.{◌≡◌, ◌<◌, ◌+◌, ◌-◌, ◌^◌, ◌∷◌, [], length, suc, slice_get, IfOk, OnOk};
+ghost use Rattle.std.specs.Prelude.{◌≡◌, ◌<◌, ◌^◌, ◌∷◌, [], length, slice_get, IfOk, OnOk};
 ghost use Rattle.pcf_values.specs.Terms.{nat, num, var, app, ifz, fix, lam};
 ghost use Rattle.pcf_values.specs.Views.{ty_of, term_of};
 ghost use Rattle.net_build.specs.Nets.{value_wire, var_wire};
 ghost use Rattle.net_build.specs.NetOf.{net_of, type_or_nat};
-ghost use Rattle.net_build.specs.Building.{Builds, BuildsBody, Grows, body_at, context_of, double_of, one_at, part_at, unary_at};
+ghost use Rattle.net_build.specs.Building.{Builds, BuildsBody, Grows, HasRoom, body_at, context_of, double_of, one_at, part_at, unary_of};
 
 use crate::closing::{close_app, close_double, close_fix, close_fun, close_ifz, finish};
 use crate::double::Double;
@@ -17,8 +19,8 @@ use crate::{Net, Node, Wire, WireKind};
 use pcf_values::{Term, Ty, Typed};
 use std::alloc::{AllocError, Global};
 
-/// The net of a program: exactly that of the definition, in time that is linear in the net's size but for the lists of free variables
-/// that are joined; each of these is as long as the binders around at most.
+/// The net of a program: exactly that of the definition. Its time is that of the net's size, each wire with its type, and at each join of
+/// two operands' variables, and at each box, that of the binders around: no list of free variables is longer.
 pub fn build(alloc: Global, program: &Typed) -> Result<Net, AllocError>
     requires ground { program.now.1 ≡ nat }
     requires wires { length (net_of program.now.0).wires < 2 ^ 32 }
@@ -38,9 +40,8 @@ pub fn build(alloc: Global, program: &Typed) -> Result<Net, AllocError>
 /// Adds the wires and nodes of a term at a depth, and answers what it gives.
 #[cycle(place)]
 fn place(alloc: Global, parts: &mut Parts, depth: u32, term: &Term) -> Result<Placed, AllocError>
-    requires numbers { length parts.old.wires.items + length (part_at parts.old depth (term_of term.now)).wires < 2 ^ 32 }
-    requires depths { depth + length (part_at parts.old depth (term_of term.now)).wires < 2 ^ 32 }
-    ensures { IfOk result (λ r. Builds parts.old parts.new (part_at parts.old depth (term_of term.now)) r) }
+    requires { HasRoom parts.old depth (part_at parts.old depth (term_of term.now)) }
+    ensures { IfOk result (Builds parts.old parts.new (part_at parts.old depth (term_of term.now))) }
 {
     match term {
         Term::Number(v) => place_number(alloc, parts, depth, *v),
@@ -60,22 +61,24 @@ fn place(alloc: Global, parts: &mut Parts, depth: u32, term: &Term) -> Result<Pl
     }
 }
 
+/// A constant on a value wire.
 fn place_number(alloc: Global, parts: &mut Parts, depth: u32, v: u64) -> Result<Placed, AllocError>
-    requires { length parts.old.wires.items < 2 ^ 32 }
-    ensures { IfOk result (λ r. Builds parts.old parts.new (part_at parts.old depth (num v)) r) }
+    requires { HasRoom parts.old depth (part_at parts.old depth (num v)) }
+    ensures { IfOk result (Builds parts.old parts.new (part_at parts.old depth (num v))) }
 {
     let node = Node::Const { v, w: parts.next() };
     finish(parts, depth, Ty::Nat, node, Vec::new(alloc))
 }
 
+/// A use of a variable: its value wire and its variable wire, with a Der above both.
 fn place_variable(
     alloc: Global,
     parts: &mut Parts,
     depth: u32,
     i: u32,
 ) -> Result<Placed, AllocError>
-    requires { length parts.old.wires.items < 2 ^ 32 - 1 }
-    ensures { IfOk result (λ r. Builds parts.old parts.new (part_at parts.old depth (var i)) r) }
+    requires { HasRoom parts.old depth (part_at parts.old depth (var i)) }
+    ensures { IfOk result (Builds parts.old parts.new (part_at parts.old depth (var i))) }
 {
     let ty = variable_type(alloc, &parts.context, i)?;
     let w = parts.next();
@@ -131,6 +134,7 @@ fn one_loose(alloc: Global, binders: usize, i: u32, wire: u32) -> Result<Vec<Loo
     Ok(free)
 }
 
+/// The operand, and its end.
 #[cycle(place)]
 fn place_unary(
     alloc: Global,
@@ -139,9 +143,8 @@ fn place_unary(
     form: Unary,
     operand: &Term,
 ) -> Result<Placed, AllocError>
-    requires numbers { length parts.old.wires.items + suc (length (part_at parts.old depth (term_of operand.now)).wires) < 2 ^ 32 }
-    requires depths { depth + suc (length (part_at parts.old depth (term_of operand.now)).wires) < 2 ^ 32 }
-    ensures { IfOk result (λ r. Builds parts.old parts.new (unary_at form parts.old depth (part_at parts.old depth (term_of operand.now))) r) }
+    requires { HasRoom parts.old depth (unary_of form parts.old depth (term_of operand.now)) }
+    ensures { IfOk result (Builds parts.old parts.new (unary_of form parts.old depth (term_of operand.now))) }
 {
     let operand = place(alloc, parts, depth, operand)?;
     let ty = form.ty(alloc, parts.ty(operand.out))?;
@@ -149,6 +152,7 @@ fn place_unary(
     finish(parts, depth, ty, node, operand.free)
 }
 
+/// Both operands, and their end.
 #[cycle(place)]
 fn place_double(
     alloc: Global,
@@ -158,15 +162,15 @@ fn place_double(
     left: &Term,
     right: &Term,
 ) -> Result<Placed, AllocError>
-    requires numbers { length parts.old.wires.items + length (double_of form parts.old depth (term_of left.now) (term_of right.now)).wires < 2 ^ 32 }
-    requires depths { depth + length (double_of form parts.old depth (term_of left.now) (term_of right.now)).wires < 2 ^ 32 }
-    ensures { IfOk result (λ r. Builds parts.old parts.new (double_of form parts.old depth (term_of left.now) (term_of right.now)) r) }
+    requires { HasRoom parts.old depth (double_of form parts.old depth (term_of left.now) (term_of right.now)) }
+    ensures { IfOk result (Builds parts.old parts.new (double_of form parts.old depth (term_of left.now) (term_of right.now))) }
 {
     let left = place(alloc, parts, depth, left)?;
     let right = place(alloc, parts, depth, right)?;
     close_double(alloc, parts, depth, form, left, right)
 }
 
+/// Condition, then and else, and their end.
 #[cycle(place)]
 fn place_ifz(
     alloc: Global,
@@ -176,9 +180,8 @@ fn place_ifz(
     then: &Term,
     otherwise: &Term,
 ) -> Result<Placed, AllocError>
-    requires numbers { length parts.old.wires.items + length (part_at parts.old depth (ifz (term_of test.now) (term_of then.now) (term_of otherwise.now))).wires < 2 ^ 32 }
-    requires depths { depth + length (part_at parts.old depth (ifz (term_of test.now) (term_of then.now) (term_of otherwise.now))).wires < 2 ^ 32 }
-    ensures { IfOk result (λ r. Builds parts.old parts.new (part_at parts.old depth (ifz (term_of test.now) (term_of then.now) (term_of otherwise.now))) r) }
+    requires { HasRoom parts.old depth (part_at parts.old depth (ifz (term_of test.now) (term_of then.now) (term_of otherwise.now))) }
+    ensures { IfOk result (Builds parts.old parts.new (part_at parts.old depth (ifz (term_of test.now) (term_of then.now) (term_of otherwise.now)))) }
 {
     let test = place(alloc, parts, depth, test)?;
     let then = place(alloc, parts, depth, then)?;
@@ -186,6 +189,7 @@ fn place_ifz(
     close_ifz(alloc, parts, depth, test, then, otherwise)
 }
 
+/// The body, in a context with the binder's type, and its end.
 #[cycle(place)]
 fn place_fun(
     alloc: Global,
@@ -194,14 +198,14 @@ fn place_fun(
     ty: &Ty,
     body: &Term,
 ) -> Result<Placed, AllocError>
-    requires numbers { length parts.old.wires.items + length (part_at parts.old depth (lam (ty_of ty.now) (term_of body.now))).wires < 2 ^ 32 }
-    requires depths { depth + length (part_at parts.old depth (lam (ty_of ty.now) (term_of body.now))).wires < 2 ^ 32 }
-    ensures { IfOk result (λ r. Builds parts.old parts.new (part_at parts.old depth (lam (ty_of ty.now) (term_of body.now))) r) }
+    requires { HasRoom parts.old depth (part_at parts.old depth (lam (ty_of ty.now) (term_of body.now))) }
+    ensures { IfOk result (Builds parts.old parts.new (part_at parts.old depth (lam (ty_of ty.now) (term_of body.now)))) }
 {
     let body = place_body(alloc, parts, depth, ty, body)?;
     close_fun(alloc, parts, depth, ty, body)
 }
 
+/// The body, in a context with the binder's type and one depth further in, and its end.
 #[cycle(place)]
 fn place_fix(
     alloc: Global,
@@ -210,14 +214,14 @@ fn place_fix(
     ty: &Ty,
     body: &Term,
 ) -> Result<Placed, AllocError>
-    requires numbers { length parts.old.wires.items + length (part_at parts.old depth (fix (ty_of ty.now) (term_of body.now))).wires < 2 ^ 32 }
-    requires depths { depth + length (part_at parts.old depth (fix (ty_of ty.now) (term_of body.now))).wires < 2 ^ 32 }
-    ensures { IfOk result (λ r. Builds parts.old parts.new (part_at parts.old depth (fix (ty_of ty.now) (term_of body.now))) r) }
+    requires { HasRoom parts.old depth (part_at parts.old depth (fix (ty_of ty.now) (term_of body.now))) }
+    ensures { IfOk result (Builds parts.old parts.new (part_at parts.old depth (fix (ty_of ty.now) (term_of body.now)))) }
 {
     let body = place_body(alloc, parts, depth + 1, ty, body)?;
     close_fix(alloc, parts, depth, ty, body)
 }
 
+/// The function, the argument one depth further in, and their end.
 #[cycle(place)]
 fn place_app(
     alloc: Global,
@@ -226,9 +230,8 @@ fn place_app(
     function: &Term,
     argument: &Term,
 ) -> Result<Placed, AllocError>
-    requires numbers { length parts.old.wires.items + length (part_at parts.old depth (app (term_of function.now) (term_of argument.now))).wires < 2 ^ 32 }
-    requires depths { depth + length (part_at parts.old depth (app (term_of function.now) (term_of argument.now))).wires < 2 ^ 32 }
-    ensures { IfOk result (λ r. Builds parts.old parts.new (part_at parts.old depth (app (term_of function.now) (term_of argument.now))) r) }
+    requires { HasRoom parts.old depth (part_at parts.old depth (app (term_of function.now) (term_of argument.now))) }
+    ensures { IfOk result (Builds parts.old parts.new (part_at parts.old depth (app (term_of function.now) (term_of argument.now)))) }
 {
     let function = place(alloc, parts, depth, function)?;
     let argument = place(alloc, parts, depth + 1, argument)?;
@@ -244,9 +247,8 @@ fn place_body(
     ty: &Ty,
     body: &Term,
 ) -> Result<Placed, AllocError>
-    requires numbers { length parts.old.wires.items + length (body_at parts.old depth (ty_of ty.now) (term_of body.now)).wires < 2 ^ 32 }
-    requires depths { depth + length (body_at parts.old depth (ty_of ty.now) (term_of body.now)).wires < 2 ^ 32 }
-    ensures { IfOk result (λ r. BuildsBody parts.old parts.new (body_at parts.old depth (ty_of ty.now) (term_of body.now)) r) }
+    requires { HasRoom parts.old depth (body_at parts.old depth (ty_of ty.now) (term_of body.now)) }
+    ensures { IfOk result (BuildsBody parts.old parts.new (body_at parts.old depth (ty_of ty.now) (term_of body.now))) }
 {
     parts.context.push(ty.copy(alloc)?)?;
     let placed = place(alloc, parts, depth, body)?;

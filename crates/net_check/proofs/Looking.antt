@@ -11,7 +11,8 @@ use Rattle.net_build.specs.Nets.{NetTree, premises, conclusions}
 use Rattle.net_build.specs.Sound.{how_often, named, roots}
 use Rattle.net_check.specs.Counts.{capped, Counted, IsLeastOdd, lesser, lesser_of, past_from}
 use Rattle.net_check.specs.Rows.{TypesMeet, DepthsMeet}
-use Rattle.net_check.specs.Faults.{IsFirstLoose, MeetBelow}
+use Rattle.net_check.specs.Faults.{MeetBelow}
+use Rattle.net_check.specs.Steps.{IsFirstLoose}
 
 -- a number past the list is the least one that is counted there, or none is
 abbrev PastOk : (ℕ → ℕ) → ℕ → Option ℕ → Type 0

@@ -9,7 +9,8 @@ use Rattle.net_build.specs.Sound.{In, Sound, roots}
 use Rattle.net_check.specs.declared.fault.NetFault.{NetFault}
 use Rattle.net_check.specs.declared.fault.NetFault.TheVariants.{NoMemory, LooseWire, TypeClash, DepthClash, RootCount}
 use Rattle.net_check.specs.Rows.{TypesMeet, DepthsMeet}
-use Rattle.net_check.specs.Faults.{Held, MeetBelow, FirstFault, RowFault, IsFirstLoose, IsNodeFault, in_types, in_depths, root_count, loose_wire, type_clash, depth_clash}
+use Rattle.net_check.specs.Faults.{Held, MeetBelow, FirstFault, root_count, loose_wire, type_clash, depth_clash}
+use Rattle.net_check.specs.Steps.{RowFault, IsFirstLoose, IsNodeFault, in_types, in_depths}
 use Rattle.net_check.proofs.Meeting.{meets_both, meets_types, meets_depths}
 
 place_of_in : (n : Node) (ns : List Node) → In n ns → (i : ℕ) × (i < length ns) × (slice_get ns i ≡ Some n)

@@ -2,7 +2,8 @@
 
 ghost use Rattle.std.specs.Prelude.{◌≡◌, ◌≢◌, ◌<◌, ◌≤◌, ◌^◌, ◌∷◌, [], length, IfOk, IfErr};
 ghost use Rattle.net_build.specs.Sound.{Sound, roots};
-ghost use Rattle.net_check.specs.Faults.{FirstFault, IsFirstLoose, IsNodeFault, MeetBelow, NoFault, OneFault, RowFault};
+ghost use Rattle.net_check.specs.Faults.{FirstFault, MeetBelow, NoFault, OneFault};
+ghost use Rattle.net_check.specs.Steps.{IsFirstLoose, IsNodeFault, RowFault};
 
 use crate::NetFault;
 use crate::loose::{first_odd, least_past};

@@ -1,7 +1,10 @@
-pub mod Codes
-pub mod Most
-pub mod Named
+-- What public contracts cite, and a reader has to believe, in the order to read it: values, types and terms, typing, terms as they are
+-- read, how the code's trees are seen, and the limits.
+pub mod Values
 pub mod Terms
 pub mod Typing
-pub mod Values
+pub mod Named
 pub mod Views
+pub mod Most
+-- How the logic stores values, types and terms, so that models can have them. It says nothing of them.
+pub mod Codes

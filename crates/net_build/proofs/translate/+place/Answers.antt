@@ -3,7 +3,7 @@ use Rattle.std.proofs.lemmas.Result.{IfOk-weaker}
 use Rattle.pcf_values.specs.Views.{ty_of, term_of}
 use Rattle.net_build.specs.Building.{part_at, unary_node, unary_type}
 use Rattle.net_build.proofs.Ending.{unary_ending}
-use Rattle.net_build.proofs.Placing.{double_builds, ifz_numbers, ifz_depths, ifz_close_room, ifz_builds, app_builds_at, lam_builds, fix_close_room_at, fix_builds_at}
+use Rattle.net_build.proofs.Placing.{double_builds, ifz_room, ifz_close_room, ifz_builds, app_builds_at, lam_builds, fix_close_room_at, fix_builds_at}
 use Rattle.net_build.proofs.translate.+place.Goals as goal
 
 pub place_unary-returns : goal.place_unary-returns
@@ -23,17 +23,16 @@ place_double-returns t c =
     c.close_double.ensures
 
 pub place_ifz-place-requires-3 : goal.place_ifz-place-requires-3
-place_ifz-place-requires-3 t c =
-    let n = ifz_numbers c.args.parts.now c.place.new.parts c.args.depth (term_of c.args.test.now) (term_of c.args.then.now) (term_of c.args.otherwise.now) c.in_ok-test.test c.in_ok-test.ensures
-    c.place-2.new.parts c.in_ok-then.then c.in_ok-then.ensures c.requires.numbers in
-    let d = ifz_depths c.args.parts.now c.place.new.parts c.args.depth (term_of c.args.test.now) (term_of c.args.then.now) (term_of c.args.otherwise.now) c.in_ok-test.test c.in_ok-test.ensures
-    c.place-2.new.parts c.in_ok-then.then c.in_ok-then.ensures c.requires.depths in
-    (search rules, (n, d))
+place_ifz-place-requires-3 t c = (
+  search rules,
+  ifz_room c.args.parts.now c.place.new.parts c.args.depth (term_of c.args.test.now) (term_of c.args.then.now) (term_of c.args.otherwise.now) c.in_ok-test.test c.in_ok-test.ensures
+      c.place-2.new.parts c.in_ok-then.then c.in_ok-then.ensures c.requires,
+)
 
 pub place_ifz-close_ifz-requires-clause-room : goal.place_ifz-close_ifz-requires-clause-room
 place_ifz-close_ifz-requires-clause-room t c =
     ifz_close_room c.args.parts.now c.place.new.parts c.args.depth (term_of c.args.test.now) (term_of c.args.then.now) (term_of c.args.otherwise.now) c.in_ok-test.test c.in_ok-test.ensures
-    c.place-2.new.parts c.in_ok-then.then c.in_ok-then.ensures c.place-3.new.parts c.in_ok-otherwise.otherwise c.in_ok-otherwise.ensures c.requires.numbers
+    c.place-2.new.parts c.in_ok-then.then c.in_ok-then.ensures c.place-3.new.parts c.in_ok-otherwise.otherwise c.in_ok-otherwise.ensures c.requires
 
 pub place_ifz-returns : goal.place_ifz-returns
 place_ifz-returns t c =
@@ -50,7 +49,7 @@ place_fun-returns t c =
 
 pub place_fix-close_fix-requires-clause-room : goal.place_fix-close_fix-requires-clause-room
 place_fix-close_fix-requires-clause-room t c =
-    fix_close_room_at c.args.parts.now c.place_body.new.parts c.args.depth (c.args.depth + 1) (ty_of c.args.ty.now) (term_of c.args.body.now) c.in_ok-body.body (omega arith) c.in_ok-body.ensures c.requires.numbers
+    fix_close_room_at c.args.parts.now c.place_body.new.parts c.args.depth (c.args.depth + 1) (ty_of c.args.ty.now) (term_of c.args.body.now) c.in_ok-body.body (omega arith) c.in_ok-body.ensures c.requires
 
 pub place_fix-returns : goal.place_fix-returns
 place_fix-returns t c =

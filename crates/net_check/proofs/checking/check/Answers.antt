@@ -1,5 +1,5 @@
 use Rattle.std.proofs.Common.{sym, ◌∙◌, subst}
-use Rattle.net_check.specs.Faults.{IsFirstLoose}
+use Rattle.net_check.specs.Steps.{IsFirstLoose}
 use Rattle.std.proofs.lemmas.Result.{IfOk-weaker, MatchResult-weaker}
 use Rattle.net_check.proofs.Verdict.{sound_of, fault_unsound, row_fault_first, roots_fault, loose_fault}
 use Rattle.net_check.proofs.checking.check.Goals as goal
