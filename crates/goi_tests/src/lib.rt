@@ -1,4 +1,5 @@
-//! Tests of the public calls of `goi_engine`, over whole programs, and of `pcf_types` and `pcf_values`.
+//! Tests of the public calls of `goi_engine`, over whole programs, and of `pcf_types` and `pcf_values`; and a caller that shows what the
+//! promise of the top call says to one whose devices are sure.
 //!
 //! Tests stand in crates of their own, so that the crates they are of are not proved a second time with them.
 #![tactic(auto)]
@@ -7,7 +8,10 @@
 mod programs;
 #[cfg(test)]
 mod rows;
+mod sure;
 #[cfg(test)]
 mod types;
 #[cfg(test)]
 mod values;
+
+pub use sure::run_surely;
