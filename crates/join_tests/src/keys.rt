@@ -1,0 +1,97 @@
+//! Two open forks at once, whose keys differ in one part.
+ghost use Rattle.std.specs.Prelude.{◌≡◌, [], ◌∷◌, None, Some, IfOk, OnOk, if◌then◌else◌};
+ghost use Rattle.std.specs.FinMap.{empty, get};
+ghost use Rattle.token_stacks.specs.Signatures.{star};
+ghost use Rattle.pcf_values.specs.declared.val.Val.TheVariants.{Number};
+ghost use Rattle.fork_join.specs.Entries.{pending};
+ghost use Rattle.fork_join.specs.Arrivals.{side_of, IsOpenFor, arrival};
+ghost use Rattle.join_tests.specs.Steps.{Stays, AreApart, kept_then};
+
+use fork_join::{Arrived, JoinTable, Side};
+use pcf_values::Val;
+use std::alloc::{AllocError, Global};
+use std::test::Fail;
+use token_stacks::{BoxStack, Stacks};
+
+/// Stacks with no box open, or with one.
+fn opened(alloc: Global, one: bool) -> Result<Stacks, AllocError>
+    ensures { IfOk result (λ a. a.boxes ≡ if one then star ∷ [] else []) }
+{
+    let mut stacks = Stacks::empty(alloc);
+    if one {
+        stacks.fix_in()?;
+    }
+    Ok(stacks)
+}
+
+/// Opens an entry, and leaves all others.
+fn begin(table: &mut JoinTable, node: u32, boxes: &BoxStack) -> Result<(), AllocError>
+    requires { get table.old (node, boxes.now) ≡ None }
+    ensures here { OnOk result (get table.new (node, boxes.now) ≡ Some pending) }
+    ensures others { OnOk result (Stays table.old table.new (node, boxes.now)) }
+{
+    table.begin(node, boxes.copy()?)
+}
+
+/// Brings an answer to an entry, and leaves all others.
+fn arrive(table: &mut JoinTable, node: u32, boxes: &BoxStack, side: Side, v: u64) -> Arrived
+    requires { IsOpenFor (get table.old (node, boxes.now)) (side_of side) }
+    ensures arrived { result ≡ arrival (get table.old (node, boxes.now)) }
+    ensures here { get table.new (node, boxes.now) ≡ kept_then (get table.old (node, boxes.now)) (side_of side) (Number v) }
+    ensures others { Stays table.old table.new (node, boxes.now) }
+{
+    table.arrive(node, boxes, side, Val::Number(v))
+}
+
+/// Whether of two forks that begin together each meets its own answers, though the one's left answer comes first and the other's right.
+fn meet_apart(
+    table: &mut JoinTable,
+    a: u32,
+    s: &BoxStack,
+    b: u32,
+    t: &BoxStack,
+) -> Result<bool, AllocError>
+    requires fresh { table.old ≡ empty }
+    requires apart { AreApart (a, s.now) (b, t.now) }
+{
+    begin(table, a, s)?;
+    begin(table, b, t)?;
+    let firsts = (
+        arrive(table, a, s, Side::Left, 1),
+        arrive(table, b, t, Side::Right, 2),
+    );
+    let seconds = (
+        arrive(table, a, s, Side::Right, 3),
+        arrive(table, b, t, Side::Left, 4),
+    );
+    Ok(
+        firsts == (Arrived::First, Arrived::First)
+            && seconds == (Arrived::Both(Val::Number(1)), Arrived::Both(Val::Number(2))),
+    )
+}
+
+/// The same of two nodes, and box stacks with a box or none.
+fn met(alloc: Global, a: u32, s: bool, b: u32, t: bool) -> Result<bool, AllocError> {
+    let first = opened(alloc, s)?;
+    let second = opened(alloc, t)?;
+    let mut table = JoinTable::new(alloc);
+    if a == b && s == t {
+        return Ok(false);
+    }
+    meet_apart(&mut table, a, first.boxes(), b, second.boxes())
+}
+
+#[test]
+fn forks_meet_by_node_and_box_stack(rt: HostRuntime) -> Result<(), Fail> {
+    let cases = [
+        (3, false, 4, false),
+        (4, false, 3, false),
+        (3, false, 3, true),
+        (3, true, 3, false),
+        (3, true, 4, true),
+    ];
+    for (a, s, b, t) in cases {
+        assert!(rt; met(rt.alloc(), a, s, b, t)?);
+    }
+    Ok(())
+}
