@@ -6,7 +6,7 @@ pub trait Gate: Sync {
     /// What is known once a worker has passed for its turn of that number. A gate need not say anything.
     ghost passes: { Self → ℕ → ℕ → Type 0 } = { λ _ _ _. Unit {0} };
 
-    /// Called before each piece is worked. `turn` is how often this worker has passed before; it stays at 18446744073709551615 from there on.
+    /// Called before each piece is worked. `turn` is how often this worker has passed before, up to 18446744073709551615, where it stays.
     fn between(&self, worker: u32, turn: u64)
         ensures { passes self.now worker turn };
 }

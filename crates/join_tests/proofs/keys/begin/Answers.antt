@@ -8,4 +8,5 @@ returns-clause-here c =
 
 pub returns-clause-others : goal.returns-clause-others
 returns-clause-others c =
-    put_others c.args.table.now c.begin.new.self c.args.node _ c.args.boxes.now c.in_ok-copy.ensures pending c.begin.result c.begin.ensures.ok
+    let others = put_others c.args.table.now c.begin.new.self c.args.node _ c.args.boxes.now c.in_ok-copy.ensures pending in
+    others c.begin.result c.begin.ensures.ok
