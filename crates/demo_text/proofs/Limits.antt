@@ -1,5 +1,6 @@
 -- The generated program is within the limits: how long its text is, how deep its tokens stand, and how many nodes they count.
-use Rattle.std.proofs.Common.{◌≡◌, ℕ, zero, suc, ◌+◌, ◌*◌, ◌^◌, ◌<◌, ◌≤◌, Bool, true, ◌&&◌, nat_lt, max, List, [], ◌∷◌, ◌++◌, length, refl, ap, ◌∙◌, arith, length-append}
+use Rattle.std.proofs.Common.{◌≡◌, ℕ, zero, suc, ◌+◌, ◌*◌, ◌^◌, ◌<◌, ◌≤◌, Bool, true, ◌&&◌, nat_lt, max, List, [], ◌∷◌, ◌++◌, length, refl}
+use Rattle.std.proofs.Common.{ap, ◌∙◌, arith, length-append}
 use Rattle.std.specs.Prelude.{codes, encode_utf8_all}
 use Rattle.std.specs.Str.{all_scalars}
 use Rattle.std.proofs.Math.Nat.{pow-le-pow_right}
@@ -37,7 +38,13 @@ width_leaves (suc k) = omega (arith, width_leaves k, twice k)
 sum_length : (k : ℕ) → length (sum_text k) ≡ sum_width k
 sum_length zero = refl
 sum_length (suc k) =
-    omega (arith, length-append (sum_text k) (codes ") + (" ++ (sum_text k ++ codes ")")), length-append (sum_text k) (codes ")"), sum_length k)
+    omega (
+      arith,
+      length-append (sum_text k) (codes ") + (" ++ (sum_text k ++ codes ")")),
+      length-append (sum_text k)
+          (codes ")"),
+      sum_length k,
+    )
 
 pub demo_short : (n : ℕ) → n ≤ most_demo → length (demo_text n) ≤ 1048576
 demo_short n h =
@@ -50,7 +57,9 @@ all_low (c ∷ cs) = nat_lt c 128 && all_low cs
 
 low_join : (u v : List ℕ) → all_low u ≡ true → all_low v ≡ true → all_low (u ++ v) ≡ true
 low_join [] v h k = k
-low_join (c ∷ u) v h k = and_both (nat_lt c 128) (all_low (u ++ v)) (and_left (nat_lt c 128) (all_low u) h) (low_join u v (and_right (nat_lt c 128) (all_low u) h) k)
+low_join (c ∷ u) v h k =
+    and_both (nat_lt c 128) (all_low (u ++ v)) (and_left (nat_lt c 128) (all_low u) h)
+    (low_join u v (and_right (nat_lt c 128) (all_low u) h) k)
 
 low_first : (c : ℕ) (cs : List ℕ) → all_low (c ∷ cs) ≡ true → c < 128
 low_first c cs h = ltb-true c 128 (and_left (nat_lt c 128) (all_low cs) h)
@@ -58,7 +67,8 @@ low_first c cs h = ltb-true c 128 (and_left (nat_lt c 128) (all_low cs) h)
 low_bytes : (cs : List ℕ) → all_low cs ≡ true → encode_utf8_all cs ≡ cs
 low_bytes [] h = refl
 low_bytes (c ∷ cs) h =
-    ap (λ z. z ++ encode_utf8_all cs) (encode_ascii c (low_first c cs h)) ∙ ap (λ z. c ∷ z) (low_bytes cs (and_right (nat_lt c 128) (all_low cs) h))
+    ap (λ z. z ++ encode_utf8_all cs) (encode_ascii c (low_first c cs h))
+    ∙ ap (λ z. c ∷ z) (low_bytes cs (and_right (nat_lt c 128) (all_low cs) h))
 
 low_scalars : (cs : List ℕ) → all_low cs ≡ true → all_scalars cs ≡ true
 low_scalars [] h = refl
@@ -99,8 +109,15 @@ sum_shallow (suc k) o at small =
     ∷ (second ++ close_2 ∷ []) in
     let plus : suc (expr_part (sum_phrase k (at + 1))).height < 500 = omega (arith, small, sum_height k (at + 1)) in (
       here,
-      shallow_join (first ++ close ∷ []) more (shallow_join first (close ∷ []) (sum_shallow k (suc o) (at + 1) (omega (arith, small))) (omega arith, tt))
-          (plus, (here, shallow_join second (close_2 ∷ []) (sum_shallow k (suc o) (right_of k at) (omega (arith, small))) (omega arith, tt))),
+      shallow_join (first ++ close ∷ []) more
+          (shallow_join first (close ∷ []) (sum_shallow k (suc o) (at + 1) (omega (arith, small))) (omega arith, tt)) (
+            plus,
+            (
+              here,
+              shallow_join second (close_2 ∷ []) (sum_shallow k (suc o) (right_of k at) (omega (arith, small)))
+                  (omega arith, tt),
+            ),
+          ),
     )
 
 zero_left : 0 < 500
@@ -117,7 +134,8 @@ demo_shallow n h =
     (deep, (one_left, (zero_left, (zero_left, (zero_left, (zero_left, (zero_left, (one_left, (zero_left, (zero_left, tt)))))))))) in
     let rest : AreShallow (((sum_tokens n ++ close ∷ []) ++ tail_tokens n) ++ plain (demo_end n) End ∷ []) =
     shallow_join ((sum_tokens n ++ close ∷ []) ++ tail_tokens n) (plain (demo_end n) End ∷ [])
-    (shallow_join (sum_tokens n ++ close ∷ []) (tail_tokens n) (shallow_join (sum_tokens n) (close ∷ []) (sum_shallow n 2 17 (omega (arith, h))) (zero_left, tt)) tail) (zero_left, tt) in
+    (shallow_join (sum_tokens n ++ close ∷ []) (tail_tokens n)
+    (shallow_join (sum_tokens n) (close ∷ []) (sum_shallow n 2 17 (omega (arith, h))) (zero_left, tt)) tail) (zero_left, tt) in
     (zero_left, (one_left, (zero_left, (zero_left, (zero_left, (omega arith, (zero_left, (zero_left, rest))))))))
 
 -- ---- its numbers are narrow
@@ -143,7 +161,8 @@ demo_narrow n =
     let tail : AreNarrow (tail_tokens n) = (tt, (tt, (tt, (tt, (tt, (tt, (tt, (tt, (tt, (tt, tt)))))))))) in
     let rest : AreNarrow (((sum_tokens n ++ close ∷ []) ++ tail_tokens n) ++ plain (demo_end n) End ∷ []) =
     narrow_join ((sum_tokens n ++ close ∷ []) ++ tail_tokens n) (plain (demo_end n) End ∷ [])
-    (narrow_join (sum_tokens n ++ close ∷ []) (tail_tokens n) (narrow_join (sum_tokens n) (close ∷ []) (sum_narrow n 2 17) (tt, tt)) tail) (tt, tt) in
+    (narrow_join (sum_tokens n ++ close ∷ []) (tail_tokens n) (narrow_join (sum_tokens n) (close ∷ []) (sum_narrow n 2 17) (tt, tt)) tail)
+    (tt, tt) in
     (tt, (tt, (tt, (tt, (tt, (tt, (tt, (tt, rest))))))))
 
 -- ---- how many nodes it counts

@@ -1,7 +1,9 @@
 -- The phrase that the text of the generated program is written by, with the places of its tokens.
 use Rattle.std.specs.Prelude.{ℕ, zero, suc, ◌+◌, List, codes}
 use Rattle.pcf_values.specs.Named.{the_fun}
-use Rattle.pcf_reader.specs.Grammar.{only_ptype, arrow_type, PType, only_tatom, nat_type, Expr, binding, only_sum, Sum, only_product, plus, only_app, only_atom, applied, Atom, numeral, variable, parens, Program, Written, atom_part, atom_text, expr_text}
+use Rattle.pcf_reader.specs.Grammar.{only_ptype, arrow_type, PType, only_tatom, nat_type, Expr, binding, only_sum, Sum, only_product, plus}
+use Rattle.pcf_reader.specs.Grammar.{only_app, only_atom, applied, Atom, numeral, variable, parens, Program, Written, atom_part, atom_text}
+use Rattle.pcf_reader.specs.Grammar.{expr_text}
 
 -- the length of the text of a sum
 abbrev pub sum_width : ℕ → ℕ
@@ -47,7 +49,8 @@ right_at at = (left_at at + 1) + 3
 abbrev pub doubler_phrase : ℕ → Expr
 doubler_phrase at =
     binding at the_fun (at + 4) (codes "x") ((at + 4) + 1) (only_ptype (nat_phrase (((at + 4) + 1) + 1))) ((((at + 4) + 1) + 1) + 3)
-    (only_sum (plus (atom_phrase (variable (left_at at) (codes "x"))) ((left_at at + 1) + 1) (only_app (only_atom (variable (right_at at) (codes "x"))))))
+    (only_sum (plus (atom_phrase (variable (left_at at) (codes "x"))) ((left_at at + 1) + 1)
+    (only_app (only_atom (variable (right_at at) (codes "x"))))))
 
 -- where the doubling function's parenthesis opens, and where it closes
 abbrev pub open_at : ℕ → ℕ

@@ -6,4 +6,6 @@ use Rattle.demo_text.proofs.text.+sum_text.Goals as goal
 
 pub returns-in_ok-part : goal.returns-in_ok-part
 returns-in_ok-part t c =
-    IfOk-weaker c.doubled.result _ _ (λ text is. is ∙ ap doubled (c.as_str.ensures.value ∙ c.in_ok-part.ensures) ∙ next_sum c.args.depth c.if-depth-eq0.false) c.doubled.ensures
+    IfOk-weaker c.doubled.result _ _
+    (λ text is. is ∙ ap doubled (c.as_str.ensures.value ∙ c.in_ok-part.ensures)
+    ∙ next_sum c.args.depth c.if-depth-eq0.false) c.doubled.ensures
