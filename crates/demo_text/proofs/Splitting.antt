@@ -84,7 +84,9 @@ sum_splits (suc depth) o at rest items h =
     let more : List Written =
     marked ((close + 1) + 1) Plus (suc (expr_part (sum_phrase depth (at + 1))).height) 1 ∷ marked ((close + 1) + 3) Open (max 0 o) 0 ∷
     (second ++ plain (right + w) Close ∷ []) in
-    let tokens : map placed ((first ++ plain close Close ∷ []) ++ more) ++ items ≡ map placed first ++ (at_place close Close ∷ at_place ((close + 1) + 1) Plus ∷ at_place ((close + 1) + 3) Open ∷ (map placed second ++ (at_place (right + w) Close ∷ items))) =
+    let tokens : map placed ((first ++ plain close Close ∷ []) ++ more) ++ items
+    ≡ map placed first ++ (at_place close Close ∷ at_place ((close + 1) + 1) Plus ∷ at_place ((close + 1) + 3) Open
+    ∷ (map placed second ++ (at_place (right + w) Close ∷ items))) =
     then_more first (plain close Close) more items
     ∙ ap (λ z. map placed first ++ (at_place close Close ∷ at_place ((close + 1) + 1) Plus ∷ at_place ((close + 1) + 3) Open ∷ z))
     (then_none second (plain (right + w) Close) items) in
@@ -121,7 +123,8 @@ demo_splits n =
     let sum : List Written = sum_tokens n in
     let close : Written = plain c Close in
     let end : Written = plain (demo_end n) End in
-    let tokens : map placed (((sum ++ close ∷ []) ++ tail_tokens n) ++ end ∷ []) ≡ map placed sum ++ (placed close ∷ (map placed (tail_tokens n) ++ placed end ∷ [])) =
+    let tokens : map placed (((sum ++ close ∷ []) ++ tail_tokens n) ++ end ∷ [])
+    ≡ map placed sum ++ (placed close ∷ (map placed (tail_tokens n) ++ placed end ∷ [])) =
     map-append ((sum ++ close ∷ []) ++ tail_tokens n) (end ∷ []) ∙ then_more sum close (tail_tokens n) (placed end ∷ []) in
     subst (λ z. Splits 0 (demo_text n)
     (at_place 0 Open ∷ at_place 1 (Bind the_fun) ∷ at_place 5

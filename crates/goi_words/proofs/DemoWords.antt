@@ -10,7 +10,8 @@ use Rattle.pcf_values.specs.Most.{most_workers, most_demo}
 use Rattle.goi_words.specs.Commands.{demo_command, goi_command, number_operand}
 use Rattle.goi_words.specs.Asked.{demo_job, job, number_of}
 use Rattle.goi_words.specs.Jobs.{IsDemo, demo}
-use Rattle.goi_words.specs.Plain.{IsPlain, Setting, ask_demo, has_option, meant, option_name, plain_words, setting_words, workers, workers_in}
+use Rattle.goi_words.specs.Plain.{IsPlain, Setting, ask_demo, has_option, meant, option_name, plain_words, setting_words, workers}
+use Rattle.goi_words.specs.Plain.{workers_in}
 use Rattle.goi_words.proofs.Decimals.{decimal_kept, decimal_number, decimal_passes, decimal_value}
 use Rattle.goi_words.proofs.Entering.{below_job}
 use Rattle.goi_words.proofs.Levels.{Gives}
@@ -55,12 +56,15 @@ final_rows n ss = fold with_default (number_row n ∷ map row_for ss) (leaf demo
 passes : (n : ℕ) → IsDemo n → use_fault false number_rule (decimal n ∷ []) [] ≡ []
 passes n most = rw (decimal_passes n (omega (arith, most)) 0 most_demo (omega arith) most) refl
 
-reads : (n : ℕ) (ss : List Setting) → IsPlain (ask_demo n) ss → Gives (leaf demo_command) (decimal n ∷ flat_map setting_words ss) (final_rows n ss)
+reads : (n : ℕ) (ss : List Setting) → IsPlain (ask_demo n) ss
+    → Gives (leaf demo_command) (decimal n ∷ flat_map setting_words ss) (final_rows n ss)
 reads n ss plain =
-    one_operand (ask_demo n) ss (leaf demo_command) number_rule (decimal n) plain refl is_first (decimal_value n (omega (arith, plain.operands))) (passes n plain.operands) refl
+    one_operand (ask_demo n) ss (leaf demo_command) number_rule (decimal n) plain refl is_first
+    (decimal_value n (omega (arith, plain.operands))) (passes n plain.operands) refl
     (record { knows = knows n; apart = apart n }) (refl, (refl, tt)) refl checked
 
-read_so : (rows : List Row) (n w : ℕ) → number_of (codes "n") rows ≡ Some n → number_of (codes "workers") rows ≡ Some w → demo_job rows ≡ Some (demo n w)
+read_so : (rows : List Row) (n w : ℕ) → number_of (codes "n") rows ≡ Some n → number_of (codes "workers") rows ≡ Some w
+    → demo_job rows ≡ Some (demo n w)
 read_so rows n w n_is w_is = rw (n_is, w_is) refl
 
 number_there : (n : ℕ) → n < 2 ^ 32 → number_at (Some (number_row n)) ≡ Some n
@@ -71,7 +75,8 @@ pub demo_words : (program : Text) (n : ℕ) (ss : List Setting) → IsPlain (ask
 demo_words program n ss plain =
     let rows = number_row n ∷ map row_for ss in
     let rules = (leaf demo_command).rules in
-    below_job program (codes "demo") (leaf demo_command) (decimal n ∷ flat_map setting_words ss) (final_rows n ss) entered (reads n ss plain)
+    below_job program (codes "demo") (leaf demo_command) (decimal n ∷ flat_map setting_words ss) (final_rows n ss) entered
+    (reads n ss plain)
     ∙ read_so (final_rows n ss) n (workers_in ss)
     (number_in_the_end (codes "n") rules rows ∙ number_there n (omega (arith, plain.operands)))
     (number_in_the_end (codes "workers") rules rows ∙ workers_there ss _ plain.ranges refl)

@@ -36,9 +36,11 @@ checked final there = rw there refl
 abbrev final_rows : Text → List Setting → List Row
 final_rows file ss = fold with_default (file_row file ∷ map row_for ss) (leaf net_command).rules
 
-reads : (file : Text) (ss : List Setting) → IsPlain (ask_net file) ss → Gives (leaf net_command) (file ∷ flat_map setting_words ss) (final_rows file ss)
+reads : (file : Text) (ss : List Setting) → IsPlain (ask_net file) ss
+    → Gives (leaf net_command) (file ∷ flat_map setting_words ss) (final_rows file ss)
 reads file ss plain =
-    one_operand (ask_net file) ss (leaf net_command) (operand_at 1 (codes "file")) file plain refl is_first (file_value file plain.operands) refl refl
+    one_operand (ask_net file) ss (leaf net_command) (operand_at 1 (codes "file")) file plain refl is_first
+    (file_value file plain.operands) refl refl
     (record { knows = knows file; apart = λ s has. file_apart file s }) (refl, tt) refl checked
 
 read_so : (rows : List Row) (file : Text) → text_of (codes "file") rows ≡ Some file → net_job rows ≡ Some (show_net file)

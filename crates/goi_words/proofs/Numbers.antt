@@ -1,5 +1,6 @@
 -- What `get_one` reads is what the definitions read.
-use Rattle.std.proofs.Common.{◌≡◌, ◌&&◌, ◌∙◌, ◌<◌, ◌^◌, ℕ, Bool, true, false, refl, sym, ap, cond, List, [], ◌∷◌, length, nat_lt, Option, Some, None, Result, Ok, Err}
+use Rattle.std.proofs.Common.{◌≡◌, ◌&&◌, ◌∙◌, ◌<◌, ◌^◌, ℕ, Bool, true, false, refl, sym, ap, cond, List, [], ◌∷◌, length, nat_lt, Option}
+use Rattle.std.proofs.Common.{Some, None, Result, Ok, Err}
 use Rattle.std.proofs.lemmas.Bool.{lt-ltb, ltb-true}
 use Rattle.std.specs.List.{list_all}
 use Rattle.std.specs.Option.{option_map_or, unwrap_or}
@@ -40,10 +41,12 @@ pub number_read : (t : Text) → IsNumeral 10 (without_leading_plus t) → digit
     → number_in t ≡ Some (digits_value 10 (without_leading_plus t))
 number_read t h small = rw (numeral (without_leading_plus t) h, lt-ltb (digits_value 10 (without_leading_plus t)) (2 ^ 32) small) refl
 
-number_unread : (t : Text) → (IsNumeral 10 (without_leading_plus t) × (digits_value 10 (without_leading_plus t) < 2 ^ 32) → ⊥) → number_in t ≡ None
+number_unread : (t : Text) → (IsNumeral 10 (without_leading_plus t) × (digits_value 10 (without_leading_plus t) < 2 ^ 32) → ⊥)
+    → number_in t ≡ None
 number_unread t never = go (is_numeral (without_leading_plus t)) (nat_lt (digits_value 10 (without_leading_plus t)) (2 ^ 32)) refl refl
   where
-    go : (a b : Bool) → is_numeral (without_leading_plus t) ≡ a → nat_lt (digits_value 10 (without_leading_plus t)) (2 ^ 32) ≡ b → number_in t ≡ None
+    go : (a b : Bool) → is_numeral (without_leading_plus t) ≡ a → nat_lt (digits_value 10 (without_leading_plus t)) (2 ^ 32) ≡ b
+        → number_in t ≡ None
     go true true e f = absurd (never (is_numeral_so _ e, ltb-true _ _ f))
     go true false e f = rw (e, f) refl
     go false b e f = rw e refl

@@ -38,7 +38,8 @@ operand_rows file moves = file_row file ∷ moves_row moves ∷ []
 knows : (file moves : Text) (s : Setting) → has_option (ask_replay file moves) s ≡ true → Knows (leaf replay_command) s
 knows file moves s has = cc
 
-apart : (file moves : Text) (s : Setting) → has_option (ask_replay file moves) s ≡ true → has_row (option_name s) (operand_rows file moves) ≡ false
+apart : (file moves : Text) (s : Setting) → has_option (ask_replay file moves) s ≡ true
+    → has_row (option_name s) (operand_rows file moves) ≡ false
 apart file moves s has = cc
 
 checked : (final : List Row) → is_row_given (codes "file") final ≡ true → is_row_given (codes "schedule") final ≡ true
@@ -54,7 +55,8 @@ reads : (file moves : Text) (ss : List Setting) → IsPlain (ask_replay file mov
 reads file moves ss plain =
     let options = flat_map setting_words ss in
     let one : Reads (leaf replay_command) nothing_held 1 2 (file ∷ moves ∷ options) (moves ∷ options) (file_row file ∷ []) =
-    operand_read (leaf replay_command) (operand_at 1 (codes "file")) file nothing_held [] 1 (moves ∷ options) (record { there = refl; clean = refl })
+    operand_read (leaf replay_command) (operand_at 1 (codes "file")) file nothing_held [] 1 (moves ∷ options)
+    (record { there = refl; clean = refl })
     (file_value file plain.operands.0) refl refl refl refl refl refl in
     let two : Reads (leaf replay_command) one.held 2 3 (moves ∷ options) options (operand_rows file moves) =
     operand_read (leaf replay_command) (operand_at 2 (codes "schedule")) moves one.held (file_row file ∷ []) 2 options one.holds
@@ -80,7 +82,8 @@ pub replay_words : (program file moves : Text) (ss : List Setting) → IsPlain (
 replay_words program file moves ss plain =
     let rows = file_row file ∷ moves_row moves ∷ map row_for ss in
     let rules = (leaf replay_command).rules in
-    below_job program (codes "replay") (leaf replay_command) (file ∷ moves ∷ flat_map setting_words ss) (final_rows file moves ss) entered (reads file moves ss plain)
+    below_job program (codes "replay") (leaf replay_command) (file ∷ moves ∷ flat_map setting_words ss) (final_rows file moves ss) entered
+    (reads file moves ss plain)
     ∙ read_so (final_rows file moves ss) file moves (text_in_the_end (codes "file") rules rows (file_row file) refl)
     (text_in_the_end (codes "schedule") rules rows (moves_row moves) refl)
 

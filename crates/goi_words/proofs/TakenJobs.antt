@@ -38,11 +38,13 @@ entered_job : (stop : Option (Text × List Text)) → entered_fault whole stop �
 entered_job None clean met = cc
 entered_job (Some stop) clean met = go (find (λ s. answers_to stop.0 (label_of s)) whole.subs) refl clean met
   where
-    go : (o : Option Shape) → find (λ s. answers_to stop.0 (label_of s)) whole.subs ≡ o → option_map_or (λ s. level_fault s [] nothing_held stop.1 false []) o [] ≡ []
+    go : (o : Option Shape) → find (λ s. answers_to stop.0 (label_of s)) whole.subs ≡ o
+        → option_map_or (λ s. level_fault s [] nothing_held stop.1 false []) o [] ≡ []
         → is_some (option_map (λ s. rows_at s stop.1) o) ≡ true
         → (p : Text × List Row) × (option_map (λ s. rows_at s stop.1) o ≡ Some p) × HasJob (job_on p.0 p.1)
     go None is clean met = cc
-    go (Some s) is clean met = (rows_at s stop.1, refl, found_in TakenHasJob (λ t. answers_to stop.0 (label_of t)) whole.subs s each_has_a_job is stop.1 clean)
+    go (Some s) is clean met =
+        (rows_at s stop.1, refl, found_in TakenHasJob (λ t. answers_to stop.0 (label_of t)) whole.subs s each_has_a_job is stop.1 clean)
 
 faultless : (k : Kinds) → is_faultless k ≡ true → k ≡ []
 faultless [] e = refl
