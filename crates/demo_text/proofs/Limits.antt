@@ -25,9 +25,11 @@ use Rattle.demo_text.proofs.Phrases.{demo_end, demo_program, right_of, sum_end, 
 pub twice : (k : ℕ) → 2 ^ (suc k) ≡ 2 ^ k + 2 ^ k
 twice k = ap (λ i. 2 ^ i) (omega arith) ∙ pow_more 2 k ∙ omega arith
 
+-- the largest program has 4096 leaves
 pub most_leaves : (n : ℕ) → n ≤ most_demo → 2 ^ n ≤ 4096
 most_leaves n h = pow-le-pow_right {n = 2} (omega arith) {i = n} {j = 12} h
 
+-- the length of a sum by its leaves
 width_leaves : (k : ℕ) → sum_width k + 7 ≡ 10 * 2 ^ k
 width_leaves zero = refl
 width_leaves (suc k) = omega (arith, width_leaves k, twice k)
@@ -46,6 +48,7 @@ sum_length (suc k) =
       sum_length k,
     )
 
+-- the text is short enough to be read
 pub demo_short : (n : ℕ) → n ≤ most_demo → length (demo_text n) ≤ 1048576
 demo_short n h =
     omega (arith, length-append (sum_text n) (codes ") (fun x:nat. x + x)\n"), sum_length n, width_leaves n, most_leaves n h)
@@ -55,47 +58,57 @@ abbrev all_low : List ℕ → Bool
 all_low [] = true
 all_low (c ∷ cs) = nat_lt c 128 && all_low cs
 
+-- two ASCII texts, one behind the other
 low_join : (u v : List ℕ) → all_low u ≡ true → all_low v ≡ true → all_low (u ++ v) ≡ true
 low_join [] v h k = k
 low_join (c ∷ u) v h k =
     and_both (nat_lt c 128) (all_low (u ++ v)) (and_left (nat_lt c 128) (all_low u) h)
     (low_join u v (and_right (nat_lt c 128) (all_low u) h) k)
 
+-- the first character of an ASCII text
 low_first : (c : ℕ) (cs : List ℕ) → all_low (c ∷ cs) ≡ true → c < 128
 low_first c cs h = ltb-true c 128 (and_left (nat_lt c 128) (all_low cs) h)
 
+-- an ASCII text is its own bytes
 low_bytes : (cs : List ℕ) → all_low cs ≡ true → encode_utf8_all cs ≡ cs
 low_bytes [] h = refl
 low_bytes (c ∷ cs) h =
     ap (λ z. z ++ encode_utf8_all cs) (encode_ascii c (low_first c cs h))
     ∙ ap (λ z. c ∷ z) (low_bytes cs (and_right (nat_lt c 128) (all_low cs) h))
 
+-- and its characters are ones
 low_scalars : (cs : List ℕ) → all_low cs ≡ true → all_scalars cs ≡ true
 low_scalars [] h = refl
 low_scalars (c ∷ cs) h =
     let low : c < 128 = low_first c cs h in
     and_both _ (all_scalars cs) (low_scalar c (omega (arith, low))) (low_scalars cs (and_right (nat_lt c 128) (all_low cs) h))
 
+-- a sum is ASCII
 sum_low : (k : ℕ) → all_low (sum_text k) ≡ true
 sum_low zero = refl
 sum_low (suc k) =
     low_join (sum_text k) (codes ") + (" ++ (sum_text k ++ codes ")")) (sum_low k) (low_join (sum_text k) (codes ")") (sum_low k) refl)
 
+-- the whole text is ASCII
 demo_low : (n : ℕ) → all_low (demo_text n) ≡ true
 demo_low n = low_join (sum_text n) (codes ") (fun x:nat. x + x)\n") (sum_low n) refl
 
+-- the bytes of the text are its characters
 pub demo_bytes : (n : ℕ) → encode_utf8_all (demo_text n) ≡ demo_text n
 demo_bytes n = low_bytes (demo_text n) (demo_low n)
 
+-- all of them are characters
 pub demo_scalars : (n : ℕ) → all_scalars (demo_text n) ≡ true
 demo_scalars n = low_scalars (demo_text n) (demo_low n)
 
 -- ---- how deep the tokens stand
 
+-- the height of a sum
 sum_height : (k at : ℕ) → (expr_part (sum_phrase k at)).height ≡ k + k + 2
 sum_height zero at = refl
 sum_height (suc k) at = omega (arith, sum_height k (at + 1), sum_height k (right_of k at))
 
+-- the tokens of a sum stand shallow
 sum_shallow : (k o at : ℕ) → o + k < 100 → AreShallow (expr_text o (sum_phrase k at))
 sum_shallow zero o at small = (omega arith, (omega arith, tt))
 sum_shallow (suc k) o at small =
@@ -120,12 +133,14 @@ sum_shallow (suc k) o at small =
           ),
     )
 
+-- depths of zero and one are below the limit
 zero_left : 0 < 500
 zero_left = omega arith
 
 one_left : 1 < 500
 one_left = omega arith
 
+-- all tokens stand shallow
 pub demo_shallow : (n : ℕ) → n ≤ most_demo → AreShallow (program_text (demo_program n))
 demo_shallow n h =
     let close : Written = plain (sum_end n) Close in
@@ -140,6 +155,7 @@ demo_shallow n h =
 
 -- ---- its numbers are narrow
 
+-- the numbers of a sum are narrow
 sum_narrow : (k o at : ℕ) → AreNarrow (expr_text o (sum_phrase k at))
 sum_narrow zero o at = (tt, (omega arith, tt))
 sum_narrow (suc k) o at =
@@ -155,6 +171,7 @@ sum_narrow (suc k) o at =
           (tt, (tt, narrow_join second (close_2 ∷ []) (sum_narrow k (suc o) (right_of k at)) (tt, tt))),
     )
 
+-- all numbers are narrow
 pub demo_narrow : (n : ℕ) → AreNarrow (program_text (demo_program n))
 demo_narrow n =
     let close : Written = plain (sum_end n) Close in
@@ -167,9 +184,11 @@ demo_narrow n =
 
 -- ---- how many nodes it counts
 
+-- how many nodes a sum counts
 sum_count : (k at : ℕ) → node_count (expr_part (sum_phrase k at)).tree + 1 ≡ 4 * 2 ^ k
 sum_count zero at = refl
 sum_count (suc k) at = omega (arith, sum_count k (at + 1), sum_count k (right_of k at), twice k)
 
+-- the program counts few enough nodes
 pub demo_small : (n : ℕ) → n ≤ most_demo → count_of (program_text (demo_program n)) ≤ 32768
 demo_small n h = omega (arith, program_count (demo_program n), sum_count n 17, most_leaves n h)

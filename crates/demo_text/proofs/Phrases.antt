@@ -14,6 +14,7 @@ sum_width (suc depth) = sum_width depth + sum_width depth + 7
 abbrev atom_phrase : Atom → Sum
 atom_phrase a = only_product (only_app (only_atom a))
 
+-- the type of numbers
 abbrev nat_phrase : ℕ → PType
 nat_phrase at = only_tatom (nat_type at)
 
@@ -42,6 +43,7 @@ user_phrase n = binding 1 the_fun 5 (codes "d") 6 (arrow_type (nat_phrase 7) 10 
 abbrev pub left_at : ℕ → ℕ
 left_at at = (((((at + 4) + 1) + 1) + 3) + 1) + 1
 
+-- the place of its right operand
 abbrev pub right_at : ℕ → ℕ
 right_at at = (left_at at + 1) + 3
 
@@ -56,6 +58,7 @@ doubler_phrase at =
 abbrev pub open_at : ℕ → ℕ
 open_at n = (sum_end n + 1) + 1
 
+-- where it closes
 abbrev pub close_at : ℕ → ℕ
 close_at n = right_at (open_at n + 1) + 1
 
@@ -63,6 +66,7 @@ close_at n = right_at (open_at n + 1) + 1
 abbrev pub user_atom : ℕ → Atom
 user_atom n = parens 0 (user_phrase n) (sum_end n)
 
+-- the doubling function in its parentheses
 abbrev pub doubler_atom : ℕ → Atom
 doubler_atom n = parens (open_at n) (doubler_phrase (open_at n + 1)) (close_at n)
 
@@ -70,9 +74,11 @@ doubler_atom n = parens (open_at n) (doubler_phrase (open_at n + 1)) (close_at n
 abbrev pub demo_phrase : ℕ → Expr
 demo_phrase n = only_sum (only_product (only_app (applied (only_atom (user_atom n)) (doubler_atom n))))
 
+-- where the text ends
 abbrev pub demo_end : ℕ → ℕ
 demo_end n = (close_at n + 1) + 1
 
+-- the program with its end
 abbrev pub demo_program : ℕ → Program
 demo_program n = record { expr = demo_phrase n; end = demo_end n }
 
@@ -80,5 +86,6 @@ demo_program n = record { expr = demo_phrase n; end = demo_end n }
 abbrev pub sum_tokens : ℕ → List Written
 sum_tokens n = expr_text 2 (sum_phrase n 17)
 
+-- the tokens behind the sum, up to the end
 abbrev pub tail_tokens : ℕ → List Written
 tail_tokens n = atom_text 0 (atom_part (user_atom n)).height 1 (doubler_atom n)

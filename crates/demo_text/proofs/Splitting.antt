@@ -26,6 +26,7 @@ d_piece : (at : ℕ) (rest : List ℕ) (items : List Placed) → Clear rest → 
 unfolding word_of
 d_piece at rest items clear h = keyword_piece 100 [] (Name (codes "d")) 1 at rest items refl refl refl clear h
 
+-- the name `x`
 x_piece : (at : ℕ) (rest : List ℕ) (items : List Placed) → Clear rest → Splits (at + 1) rest items
     → Splits at (120 ∷ rest) (at_place at (Name (codes "x")) ∷ items)
 unfolding word_of
@@ -57,6 +58,7 @@ then_more : (u : List Written) (a : Written) (w : List Written) (items : List Pl
 then_more [] a w items = refl
 then_more (x ∷ u) a w items = ap (λ z. placed x ∷ z) (then_more u a w items)
 
+-- a part with a token behind it, before other tokens
 then_none : (u : List Written) (a : Written) (items : List Placed) → map placed (u ++ a ∷ []) ++ items ≡ map placed u ++ (placed a ∷ items)
 then_none [] a items = refl
 then_none (x ∷ u) a items = ap (λ z. placed x ∷ z) (then_none u a items)
@@ -108,6 +110,7 @@ doubler_splits o at rest items h =
     (x_piece (left_at at) _ _ (space (codes "+ x)" ++ rest)) (plus_piece (left_at at + 1) _ _
     (x_piece (right_at at) _ _ (closes rest) h))))))))
 
+-- a dash ends a word
 dash_clear : (cs : List ℕ) → Clear (45 ∷ cs)
 dash_clear cs = clear_by 45 cs (omega arith) refl refl
 

@@ -14,13 +14,16 @@ use Rattle.demo_text.proofs.Splitting.{demo_splits}
 abbrev under_d : Context
 under_d = (codes "d", arrow nat nat) ∷ []
 
+-- a sum is typed as its term
 sum_typed : (k at : ℕ) → type_of under_d (expr_part (sum_phrase k at)).tree ≡ Ok (sum_term k, nat)
 sum_typed zero at = refl
 sum_typed (suc k) at = rw (sum_typed k (at + 1), sum_typed k (right_of k at)) refl
 
+-- the whole tree is typed as the program
 demo_typed : (n : ℕ) → type_of [] (expr_part (demo_phrase n)).tree ≡ Ok (demo_term n, nat)
 demo_typed n = rw (sum_typed n 17) refl
 
+-- each text up to the limit is a program
 pub demo_is_typed : DemoIsTyped
 demo_is_typed n h = (
   (expr_part (demo_phrase n)).tree,
@@ -39,9 +42,11 @@ demo_is_typed n h = (
   demo_typed n,
 )
 
+-- the number of nodes of a sum
 sum_size : (k : ℕ) → size (sum_term k) + 1 ≡ 4 * 2 ^ k
 sum_size zero = refl
 sum_size (suc k) = omega (arith, sum_size k, twice k)
 
+-- the number of nodes of the program
 pub demo_size : DemoSize
 demo_size n = omega (arith, sum_size n)

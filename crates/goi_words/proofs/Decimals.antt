@@ -21,6 +21,7 @@ pub record IsUnsigned (ds : Text) : Type 0 where
   pub kept : without_minus ds ≡ ds
   pub value : IsValue ds
 
+-- digits alone are neither a minus, a plus nor an option
 pub unsigned : (ds : Text) → IsNumeral 10 ds → IsUnsigned ds
 unsigned [] h = absurd (omega (arith, h.0))
 unsigned (d ∷ ds) h =

@@ -22,6 +22,7 @@ use Rattle.goi_words.specs.Asked.{is_faultless, job, job_on, ◌>>=◌}
 use Rattle.goi_words.specs.Jobs.{JobTree}
 use Rattle.goi_words.specs.declared.jobs.WordFault.{WordFault}
 
+-- where a kind of error is listed, there is no job
 refused_kinds : (k : Kinds) (o : Option JobTree) → k ≢ [] → cond (is_faultless k) o None ≡ None
 refused_kinds [] o hit = absurd (hit refl)
 refused_kinds (x ∷ xs) o hit = refl
@@ -72,9 +73,11 @@ below_job program name s words rows enters gives =
 
 -- ---- the contract of a parse, at our command
 
+-- our command is simple in the sense of `clap`'s definition
 simple_command : is_simple goi_command ≡ true
 simple_command = refl
 
+-- and free of all that a parse could fail of beside its definition
 free_command : is_simple_and_free goi_command ≡ true
 free_command = refl
 
@@ -83,6 +86,7 @@ pub clean_parse : (app : App) (words : List Text) → app ≡ goi_command → (i
     → fault_of goi_command words ≡ []
 clean_parse app words is kinds = subst (λ (a : App). fault_of a words ≡ []) is (kinds (ap is_simple_and_free is ∙ free_command))
 
+-- what such a parse finds is what the definition finds
 pub found_parse : (app : App) (words : List Text) (m : ArgMatches) → app ≡ goi_command → HasMatchesOf app words m
     → subcommand_rows_of m ≡ subcommand_of goi_command words
 found_parse app words m is matches = (matches (ap is_simple is ∙ simple_command)).1 ∙ ap (λ (a : App). subcommand_of a words) is

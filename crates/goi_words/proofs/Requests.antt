@@ -23,6 +23,7 @@ leaf s = built_leaf (inherited (with_leaf_noted (marked_built goi_command.top)) 
 
 -- ---- what the commands have in common
 
+-- the name of a file is a value, and no option
 pub file_value : (file : Text) → IsFileName file → IsValue file
 file_value [] is = absurd is
 file_value (c ∷ cs) is = a_value c cs is
@@ -32,6 +33,7 @@ pub record HasOptions (request : Request) (sh : Shape) (rows : List Row) : Type 
   pub knows : (s : Setting) → has_option request s ≡ true → Knows sh s
   pub apart : (s : Setting) → has_option request s ≡ true → has_row (option_name s) rows ≡ false
 
+-- what holds of each option
 each : {P Q : Setting → Type 0} → ((s : Setting) → P s → Q s) → (ss : List Setting) → AllByRecursion P ss → AllByRecursion Q ss
 each f [] all = tt
 each f (s ∷ ss) all = (f s all.0, each f ss all.1)
@@ -67,6 +69,7 @@ operand_at i name = with_index i (filled (operand name))
 abbrev pub file_row : Text → Row
 file_row file = given (operand_at 1 (codes "file")) (file ∷ [])
 
+-- no option is called as the file
 pub file_apart : (file : Text) (s : Setting) → has_row (option_name s) (file_row file ∷ []) ≡ false
 file_apart file (workers n) = refl
 file_apart file _ = refl
@@ -105,10 +108,12 @@ pub number_in_the_end : (name : Text) (rules : List Rule) (rows : List Row)
     → number_of name (fold with_default rows rules) ≡ number_at (option_or (row_at name rows) (default_row name rules))
 number_in_the_end name rules rows = ap number_at (row_after name rules rows)
 
+-- the same for a flag
 pub set_in_the_end : (name : Text) (rules : List Rule) (rows : List Row)
     → is_set name (fold with_default rows rules) ≡ set_at (option_or (row_at name rows) (default_row name rules))
 set_in_the_end name rules rows = ap set_at (row_after name rules rows)
 
+-- the same for a text
 pub text_in_the_end : (name : Text) (rules : List Rule) (rows : List Row) (r : Row) → row_at name rows ≡ Some r
     → text_of name (fold with_default rows rules) ≡ slice_get r.values 0
 text_in_the_end name rules rows r there = rw (row_after name rules rows, there) refl

@@ -25,9 +25,11 @@ rule_for schedule = filled (flag (codes "schedule"))
 rule_for tally = filled (flag (codes "tally"))
 rule_for term = filled (flag (codes "term"))
 
+-- the row of an option
 abbrev pub row_for : Setting → Row
 row_for s = given (rule_for s) (option_value s)
 
+-- an argument is called as its option
 named_so : (s : Setting) → (rule_for s).id ≡ option_name s
 named_so (workers n) = refl
 named_so _ = refl
@@ -36,6 +38,7 @@ named_so _ = refl
 abbrev pub Knows : Shape → Setting → Type 0
 Knows sh s = Names sh (codes "--" ++ option_name s) (rule_for s)
 
+-- a command knows an option that it finds by both names
 pub known : (sh : Shape) (s : Setting) → arg_by_long sh.rules (option_name s) ≡ Some (rule_for s)
     → arg_by_id sh.rules (option_name s) ≡ Some (rule_for s) → Knows sh s
 known sh (workers n) rule own = record { not_dashes = refl; name = codes "workers"; long = refl; rule = rule; own = own }
@@ -83,6 +86,7 @@ absent_others s rows (t ∷ ss) differ absent =
     let named : bytes_eq (row_for s).id (option_name t) ≡ false = ap (λ name. bytes_eq name (option_name t)) (named_so s) ∙ differ.0 in
     (absent_more (option_name t) rows (row_for s) absent.0 named, absent_others s rows ss differ.1 absent.1)
 
+-- any number of options is read
 pub settings_read : (sh : Shape) → sh.args_override_self ≡ false → (ss : List Setting) (h : Held) (rows : List Row) (p : ℕ)
     → AllByRecursion (Knows sh) ss → AllByRecursion IsInRange ss → AreDistinct ss
     → AllByRecursion (λ s. has_row (option_name s) rows ≡ false) ss
@@ -108,19 +112,23 @@ settings_read sh once (s ∷ ss) h rows p knows ranges distinct absent holds =
 abbrev pub number_at : Option Row → Option ℕ
 number_at row = option_and_then row_text row >>= number_in
 
+-- the flag of a row
 abbrev pub set_at : Option Row → Bool
 set_at row = option_map_or (λ text. bytes_eq text (codes "true")) (option_and_then row_text row) false
 
+-- the number of an option that is given
 number_there : (n : ℕ) (name : Text) (least most : ℕ) (default : Text) → n < 2 ^ 32
     → number_at (Some (given (filled (number_option name least most default)) (decimal n ∷ []))) ≡ Some n
 number_there n name least most default small = rw (decimal_kept n small, decimal_number n small) refl
 
+-- the number of workers that is found
 pub workers_there : (ss : List Setting) (default : Option Row) → AllByRecursion IsInRange ss → number_at default ≡ Some 1
     → number_at (option_or (row_at (codes "workers") (map row_for ss)) default) ≡ Some (workers_in ss)
 workers_there [] default ranges is = is
 workers_there (workers n ∷ ss) default ranges is = number_there n (codes "workers") 1 most_workers (codes "1") (omega (arith, ranges.0.1))
 workers_there (s ∷ ss) default ranges is = workers_there ss default ranges.1 is
 
+-- the budget that is found
 pub budget_there : (ss : List Setting) (default : Option Row) → AllByRecursion IsInRange ss → number_at default ≡ Some 10000
     → number_at (option_or (row_at (codes "budget") (map row_for ss)) default) ≡ Some (budget_in ss)
 budget_there [] default ranges is = is
@@ -131,6 +139,7 @@ budget_there (s ∷ ss) default ranges is = budget_there ss default ranges.1 is
 abbrev pub IsFlag : Setting → Type 0
 IsFlag option = (s : Setting) → is_same_option s option ≡ true → set_at (Some (row_for s)) ≡ true
 
+-- whether a flag is found
 pub set_there : (option : Setting) → IsFlag option → (ss : List Setting) (default : Option Row) → set_at default ≡ false
     → set_at (option_or (row_at (option_name option) (map row_for ss)) default) ≡ is_given option ss
 set_there option is_flag [] default is = is
@@ -147,14 +156,17 @@ set_there option is_flag (s ∷ ss) default is =
     go true same rest = rw same (is_flag s same)
     go false same rest = rw same rest
 
+-- the flags
 pub schedule_is_flag : IsFlag schedule
 schedule_is_flag schedule same = refl
 schedule_is_flag _ same = cc
 
+-- the second flag
 pub tally_is_flag : IsFlag tally
 tally_is_flag tally same = refl
 tally_is_flag _ same = cc
 
+-- the third flag
 pub term_is_flag : IsFlag term
 term_is_flag term same = refl
 term_is_flag _ same = cc

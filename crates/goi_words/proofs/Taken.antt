@@ -33,6 +33,7 @@ use Rattle.goi_words.proofs.Rows.{HasCleanDefaults, Replaces, default_row, row_a
 
 -- ---- values that passed
 
+-- a value without a kind of error passed its parser
 value_passed : (a : Rule) (v : Text) → value_kinds a.ignore_case (parser_of_value a.parser) v ≡ [] → value_passes a v ≡ true
 value_passed a v clean = go (value_passes a v) clean
   where
@@ -40,11 +41,13 @@ value_passed a v clean = go (value_passes a v) clean
     go true clean = refl
     go false clean = cc
 
+-- so did the first of several
 first_passed : (a : Rule) (v : Text) (vs : List Text) → values_fault a (v ∷ vs) ≡ [] → value_passes a v ≡ true
 first_passed a v vs clean = value_passed a v (none_else (value_kinds a.ignore_case (parser_of_value a.parser) v) _ clean).0
 
 -- ---- the arguments of our commands
 
+-- an operand keeps its value
 pub operand_tame : (c : List Rule) (i : ℕ) (name : Text) → arg_by_id c name ≡ Some (operand_at i name) → IsTame c (operand_at i name)
 operand_tame c i name own = record { own = own; replaces = λ values rows. refl; valued = valued }
   where
@@ -59,6 +62,7 @@ abbrev IsSet : Rule → Type 0
 IsSet a = (again : Bool) (values : List Text) (rows : List Row) → use_fault again a values rows
     ≡ or_else (range_kinds 1 1 (length values)) (or_else (repeat_fault again a.id rows) (values_fault a (values_or_missing a values)))
 
+-- so does an argument with one value
 pub set_tame : (c : List Rule) (a : Rule) → arg_by_id c a.id ≡ Some a → ((values : List Text) → Replaces a values) → IsSet a → IsTame c a
 set_tame c a own replaces set = record { own = own; replaces = replaces; valued = valued }
   where
@@ -72,6 +76,7 @@ set_tame c a own replaces set = record { own = own; replaces = replaces; valued 
         let parts = none_else (range_kinds 1 1 (length (v ∷ vs))) _ whole in
         (v, vs, refl, first_passed a v vs (none_else (repeat_fault again a.id rows) _ parts.1).1)
 
+-- and a flag
 pub flag_tame : (c : List Rule) (name : Text) → arg_by_id c name ≡ Some (filled (flag name)) → IsTame c (filled (flag name))
 flag_tame c name own = record { own = own; replaces = λ values rows. refl; valued = valued }
   where
@@ -85,6 +90,7 @@ flag_tame c name own = record { own = own; replaces = λ values rows. refl; valu
 
 -- ---- one level
 
+-- a default leaves sound rows
 default_sound : (c : List Rule) (a : Rule) (rows : List Row) → IsTame c a → given_default_fault a a.defaults ≡ [] → AreSound c rows
     → AreSound c (with_default rows a)
 default_sound c a rows tame clean sound = go (has_row a.id rows)
@@ -98,6 +104,7 @@ default_sound c a rows tame clean sound = go (has_row a.id rows)
     go true = sound
     go false = added a.defaults clean
 
+-- and so do all of them
 defaults_sound : (c rules : List Rule) (rows : List Row) → AllByRecursion (IsTame c) rules → HasCleanDefaults rules → AreSound c rows
     → AreSound c (fold with_default rows rules)
 defaults_sound c [] rows tame clean sound = sound
@@ -109,6 +116,7 @@ pub record IsFound (s : Shape) (words : List Text) : Type 0 where
   pub sound : AreSound s.rules (rows_after s.rules [] words)
   pub checked : check_fault s (rows_after s.rules [] words) false ≡ []
 
+-- such a level has sound rows
 pub level_found : (s : Shape) → AreTame s.rules → HasCleanDefaults s.rules → (words : List Text)
     → level_fault s [] nothing_held words false [] ≡ [] → IsFound s words
 level_found s tame defaults words clean =
@@ -124,6 +132,7 @@ level_found s tame defaults words clean =
 
 -- ---- what is found for one argument
 
+-- the row of an id is sound, and of that id
 found_row : (c : List Rule) (id : Text) (rows : List Row) (r : Row) → AreSound c rows → row_at id rows ≡ Some r → IsSound c r × (r.id ≡ id)
 found_row c id [] r sound at = cc
 found_row c id (x ∷ rows) r sound at = go (bytes_eq x.id id) refl at (found_row c id rows r sound.1)
@@ -153,10 +162,12 @@ default_there id rules rows d is = go (row_at id rows) (row_after id rules rows 
     go None at = (d, at)
     go (Some r) at = (r, at)
 
+-- an argument with a default has a row in the end
 pub default_after : (s : Shape) (words : List Text) (id : Text) (d : Row) → default_row id s.rules ≡ Some d
     → (r : Row) × (row_at id (rows_after s.rules [] words) ≡ Some r)
 default_after s words id d is = default_there id s.rules (settled s.rules (walk s.rules [] nothing_held words).held).rows d is
 
+-- an argument with a row has a text
 pub text_found : (c : List Rule) (id : Text) (rows : List Row) → AreSound c rows → (r : Row) × (row_at id rows ≡ Some r)
     → (t : Text) × (text_of id rows ≡ Some t)
 text_found c id rows sound there =
@@ -172,11 +183,13 @@ signed_number low high t small passes =
     (λ u x gives. gives) small
     (accepts-Accepts false (parser.Signed (pos low) (pos high)) t passes)
 
+-- the number of a row
 number_from : (id : Text) (low high n : ℕ) (rows : List Row) (r : Row) (first : Text) (others : List Text) → row_at id rows ≡ Some r
     → r.values ≡ first ∷ others
     → r.reading ≡ reading_of (parser.Signed (pos low) (pos high)) → number_in (without_minus first) ≡ Some n → number_of id rows ≡ Some n
 number_from id low high n rows r first others at values reading is = rw (at, values, reading) is
 
+-- an argument with a row and a number in a range
 pub number_found : (c : List Rule) (id : Text) (low high : ℕ) (a : Rule) (rows : List Row) → high < 2 ^ 32 → arg_by_id c id ≡ Some a
     → a.parser ≡ Some (parser.Signed (pos low) (pos high)) → a.ignore_case ≡ false → AreSound c rows → (r : Row) × (row_at id rows ≡ Some r)
     → (n : ℕ) × (number_of id rows ≡ Some n) × (low ≤ n) × (n ≤ high)
@@ -232,6 +245,7 @@ option_found s words name least most default d small own is found =
     (rows_after s.rules [] words) small own refl refl found.sound
     (default_after s words name d is)
 
+-- an option with a number keeps its value
 pub option_tame : (c : List Rule) (name : Text) (least most : ℕ) (default : Text)
     → arg_by_id c name ≡ Some (filled (number_option name least most default))
     → IsTame c (filled (number_option name least most default))
