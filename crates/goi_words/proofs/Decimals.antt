@@ -21,6 +21,7 @@ pub record IsUnsigned (ds : Text) : Type 0 where
   pub kept : without_minus ds ≡ ds
   pub value : IsValue ds
 
+-- digits alone are neither a minus, a plus nor an option
 pub unsigned : (ds : Text) → IsNumeral 10 ds → IsUnsigned ds
 unsigned [] h = absurd (omega (arith, h.0))
 unsigned (d ∷ ds) h =
@@ -56,4 +57,13 @@ module _ (n : ℕ) (small : n < 2 ^ 32) where
   pub decimal_passes : (least most : ℕ) → least ≤ n → n ≤ most → accepts false (parser.Signed (pos least) (pos most)) (decimal n) ≡ true
   decimal_passes least most low high =
       let read = decimal_is_IsNumeral n wide in
-      rw (spelled.no_minus, spelled.no_plus, numeral (decimal n) read.0, read.1, lt-ltb n (2 ^ 63) (omega arith), le-leb least n low, le-leb n most high) refl
+      rw (
+        spelled.no_minus,
+        spelled.no_plus,
+        numeral (decimal n) read.0,
+        read.1,
+        lt-ltb n (2 ^ 63)
+            (omega arith),
+        le-leb least n low,
+        le-leb n most high,
+      ) refl

@@ -6,7 +6,8 @@ use Rattle.clap.specs.declared.error.Error.{Error}
 use Rattle.clap.specs.declared.parser.matches.ArgMatches.{ArgMatches}
 use Rattle.goi_words.specs.Faults.{fault_by}
 use Rattle.goi_words.specs.declared.jobs.WordFault.TheVariants.{NoMemory, Refused}
-use Rattle.std.proofs.Common.{◌≡◌, ◌≢◌, ◌∙◌, ap, cond, refl, sym, false, List, [], ◌∷◌, Option, Some, None, Result, Ok, Err, IsErrAnd, IsErrOf, option_map, is_some}
+use Rattle.std.proofs.Common.{◌≡◌, ◌≢◌, ◌∙◌, ap, cond, refl, sym, false, List, [], ◌∷◌, Option, Some, None, Result, Ok, Err, IsErrAnd}
+use Rattle.std.proofs.Common.{IsErrOf, option_map, is_some}
 use Rattle.std.specs.Prelude.{Box}
 use Rattle.std.specs.Box.{box_value}
 use Rattle.clap.specs.Words.{Kinds, Row, Text, fault_of, subcommand_of, subcommand_rows}
@@ -21,6 +22,7 @@ use Rattle.goi_words.specs.Asked.{is_faultless, job, job_on, ◌>>=◌}
 use Rattle.goi_words.specs.Jobs.{JobTree}
 use Rattle.goi_words.specs.declared.jobs.WordFault.{WordFault}
 
+-- where a kind of error is listed, there is no job
 refused_kinds : (k : Kinds) (o : Option JobTree) → k ≢ [] → cond (is_faultless k) o None ≡ None
 refused_kinds [] o hit = absurd (hit refl)
 refused_kinds (x ∷ xs) o hit = refl
@@ -35,7 +37,8 @@ pub entered_job : (words : List Text) (o : Option (Text × List Row)) → fault_
     → job words ≡ (o >>= λ p. job_on p.0 p.1)
 unfolding job
 entered_job words o taken is =
-    ap (λ k. cond (is_faultless k) (subcommand_of goi_command words >>= λ p. job_on p.0 p.1) None) taken ∙ ap (λ (s : Option (Text × List Row)). s >>= λ p. job_on p.0 p.1) (sym is)
+    ap (λ k. cond (is_faultless k) (subcommand_of goi_command words >>= λ p. job_on p.0 p.1) None) taken
+    ∙ ap (λ (s : Option (Text × List Row)). s >>= λ p. job_on p.0 p.1) (sym is)
 
 -- an error that is passed up
 pub passed_up : {T : Type 0} (r : Result T WordFault) (f g : WordFault) → IsErrAnd r (λ e. e ≡ f) → IsErrOf r g → f ≡ g
@@ -60,7 +63,8 @@ module _ {Z : Type 0} where
   no_rows (Some b) is = cc
 
 -- words that enter a subcommand
-pub below_job : (program name : Text) (s : Shape) (words : List Text) (rows : List Row) → Enters (built goi_command) name s → Gives s words rows
+pub below_job : (program name : Text) (s : Shape) (words : List Text) (rows : List Row) → Enters (built goi_command) name s
+    → Gives s words rows
     → job (program ∷ name ∷ words) ≡ job_on s.name rows
 below_job program name s words rows enters gives =
     entered_job (program ∷ name ∷ words) (Some (s.name, rows))
@@ -69,9 +73,11 @@ below_job program name s words rows enters gives =
 
 -- ---- the contract of a parse, at our command
 
+-- our command is simple in the sense of `clap`'s definition
 simple_command : is_simple goi_command ≡ true
 simple_command = refl
 
+-- and free of all that a parse could fail of beside its definition
 free_command : is_simple_and_free goi_command ≡ true
 free_command = refl
 
@@ -80,12 +86,14 @@ pub clean_parse : (app : App) (words : List Text) → app ≡ goi_command → (i
     → fault_of goi_command words ≡ []
 clean_parse app words is kinds = subst (λ (a : App). fault_of a words ≡ []) is (kinds (ap is_simple_and_free is ∙ free_command))
 
+-- what such a parse finds is what the definition finds
 pub found_parse : (app : App) (words : List Text) (m : ArgMatches) → app ≡ goi_command → HasMatchesOf app words m
     → subcommand_rows_of m ≡ subcommand_of goi_command words
 found_parse app words m is matches = (matches (ap is_simple is ∙ simple_command)).1 ∙ ap (λ (a : App). subcommand_of a words) is
 
 -- a parse that fails, where memory isn't wanting
-pub failed_parse : (app : App) (words : List Text) (e : Error) → app ≡ goi_command → (is_simple_and_free app ≡ true → HasKind (fault_of app words) e)
+pub failed_parse : (app : App) (words : List Text) (e : Error) → app ≡ goi_command
+    → (is_simple_and_free app ≡ true → HasKind (fault_of app words) e)
     → fault_by (kind_of e) ≡ Refused → fault_of goi_command words ≢ []
 failed_parse app words e is kinds refused clean =
     let among = subst (λ (a : App). HasKind (fault_of a words) e) is (kinds (ap is_simple_and_free is ∙ free_command)) in

@@ -19,16 +19,20 @@ use Rattle.goi_words.proofs.Taken.{TakenHasJob, asked, level_found, operand_foun
 
 -- ---- plain words
 
+-- the word enters this subcommand
 entered : Enters (built goi_command) (codes "net") (leaf net_command)
 unfolding walked defaults_fault
 entered = record { walk = refl; turn = refl; found = refl; defaults = refl; checked = refl }
 
+-- its operand is the first one
 is_first : IsFirst (leaf net_command) (operand_at 1 (codes "file"))
 is_first = record { place = refl; own = refl; single = refl; once = refl; ends = refl }
 
+-- it knows its options
 knows : (file : Text) (s : Setting) → has_option (ask_net file) s ≡ true → Knows (leaf net_command) s
 knows file s has = cc
 
+-- its last checks pass
 checked : (final : List Row) → is_row_given (codes "file") final ≡ true → check_fault (leaf net_command) final false ≡ []
 checked final there = rw there refl
 
@@ -36,14 +40,19 @@ checked final there = rw there refl
 abbrev final_rows : Text → List Setting → List Row
 final_rows file ss = fold with_default (file_row file ∷ map row_for ss) (leaf net_command).rules
 
-reads : (file : Text) (ss : List Setting) → IsPlain (ask_net file) ss → Gives (leaf net_command) (file ∷ flat_map setting_words ss) (final_rows file ss)
+-- what it reads of plain words
+reads : (file : Text) (ss : List Setting) → IsPlain (ask_net file) ss
+    → Gives (leaf net_command) (file ∷ flat_map setting_words ss) (final_rows file ss)
 reads file ss plain =
-    one_operand (ask_net file) ss (leaf net_command) (operand_at 1 (codes "file")) file plain refl is_first (file_value file plain.operands) refl refl
+    one_operand (ask_net file) ss (leaf net_command) (operand_at 1 (codes "file")) file plain refl is_first
+    (file_value file plain.operands) refl refl
     (record { knows = knows file; apart = λ s has. file_apart file s }) (refl, tt) refl checked
 
+-- the job that these findings are
 read_so : (rows : List Row) (file : Text) → text_of (codes "file") rows ≡ Some file → net_job rows ≡ Some (show_net file)
 read_so rows file file_is = rw file_is refl
 
+-- plain words mean the table
 pub net_words : (program file : Text) (ss : List Setting) → IsPlain (ask_net file) ss
     → job (plain_words program (ask_net file) ss) ≡ Some (meant (ask_net file) ss)
 net_words program file ss plain =
@@ -54,12 +63,15 @@ net_words program file ss plain =
 
 -- ---- words that are taken
 
+-- its arguments keep their values
 tame : AreTame (leaf net_command).rules
 tame = (operand_tame _ 1 (codes "file") refl, tt)
 
+-- its last check asks for the file
 file_asked : (rows : List Row) → check_fault (leaf net_command) rows false ≡ [] → is_row_given (codes "file") rows ≡ true
 file_asked rows clean = (asked (is_row_given (codes "file") rows) false clean).0
 
+-- words that it takes have a job
 pub net_taken : TakenHasJob (leaf net_command)
 net_taken words clean =
     let rows = rows_after (leaf net_command).rules [] words in

@@ -1,5 +1,6 @@
 -- What `get_one` reads is what the definitions read.
-use Rattle.std.proofs.Common.{◌≡◌, ◌&&◌, ◌∙◌, ◌<◌, ◌^◌, ℕ, Bool, true, false, refl, sym, ap, cond, List, [], ◌∷◌, length, nat_lt, Option, Some, None, Result, Ok, Err}
+use Rattle.std.proofs.Common.{◌≡◌, ◌&&◌, ◌∙◌, ◌<◌, ◌^◌, ℕ, Bool, true, false, refl, sym, ap, cond, List, [], ◌∷◌, length, nat_lt, Option}
+use Rattle.std.proofs.Common.{Some, None, Result, Ok, Err}
 use Rattle.std.proofs.lemmas.Bool.{lt-ltb, ltb-true}
 use Rattle.std.specs.List.{list_all}
 use Rattle.std.specs.Option.{option_map_or, unwrap_or}
@@ -12,6 +13,7 @@ use Rattle.clap.specs.Words.{ReadsOne, Text}
 use Rattle.clap.specs.ValueTests.{is_numeral}
 use Rattle.goi_words.specs.Asked.{number_in, ◌>>=◌}
 
+-- both sides of a conjunction
 both : (a b : Bool) → (a && b) ≡ true → (a ≡ true) × (b ≡ true)
 both true b e = (refl, e)
 both false b e = cc
@@ -21,15 +23,18 @@ all_digits : (ds : List ℕ) → AllDigits 10 ds → list_all (λ d. nat_lt (dig
 all_digits [] h = refl
 all_digits (d ∷ ds) h = rw (lt-ltb (digit_value d) 10 h.0) (all_digits ds h.1)
 
+-- and what makes the test true
 digits_all : (ds : List ℕ) → list_all (λ d. nat_lt (digit_value d) 10) ds ≡ true → AllDigits 10 ds
 digits_all [] e = tt
 digits_all (d ∷ ds) e =
     let parts = both _ _ e in
     (ltb-true _ _ parts.0, digits_all ds parts.1)
 
+-- digits are a numeral
 pub numeral : (ds : List ℕ) → IsNumeral 10 ds → is_numeral ds ≡ true
 numeral ds h = rw (lt-ltb 0 (length ds) h.0) (all_digits ds h.1)
 
+-- a numeral has digits
 pub is_numeral_so : (ds : List ℕ) → is_numeral ds ≡ true → IsNumeral 10 ds
 is_numeral_so ds e =
     let parts = both (nat_lt 0 (length ds)) _ e in
@@ -40,10 +45,13 @@ pub number_read : (t : Text) → IsNumeral 10 (without_leading_plus t) → digit
     → number_in t ≡ Some (digits_value 10 (without_leading_plus t))
 number_read t h small = rw (numeral (without_leading_plus t) h, lt-ltb (digits_value 10 (without_leading_plus t)) (2 ^ 32) small) refl
 
-number_unread : (t : Text) → (IsNumeral 10 (without_leading_plus t) × (digits_value 10 (without_leading_plus t) < 2 ^ 32) → ⊥) → number_in t ≡ None
+-- a text that is read as no number
+number_unread : (t : Text) → (IsNumeral 10 (without_leading_plus t) × (digits_value 10 (without_leading_plus t) < 2 ^ 32) → ⊥)
+    → number_in t ≡ None
 number_unread t never = go (is_numeral (without_leading_plus t)) (nat_lt (digits_value 10 (without_leading_plus t)) (2 ^ 32)) refl refl
   where
-    go : (a b : Bool) → is_numeral (without_leading_plus t) ≡ a → nat_lt (digits_value 10 (without_leading_plus t)) (2 ^ 32) ≡ b → number_in t ≡ None
+    go : (a b : Bool) → is_numeral (without_leading_plus t) ≡ a → nat_lt (digits_value 10 (without_leading_plus t)) (2 ^ 32) ≡ b
+        → number_in t ≡ None
     go true true e f = absurd (never (is_numeral_so _ e, ltb-true _ _ f))
     go true false e f = rw (e, f) refl
     go false b e f = rw e refl

@@ -7,6 +7,7 @@ use Rattle.goi_words.proofs.NetWords.{net_words}
 use Rattle.goi_words.proofs.ReplayWords.{replay_words}
 use Rattle.goi_words.proofs.RunWords.{run_words}
 
+-- a command at a time
 pub plain_words_are_taken : PlainWordsAreTaken
 plain_words_are_taken program (ask_run file) = run_words program file
 plain_words_are_taken program (ask_check file) = check_words program file

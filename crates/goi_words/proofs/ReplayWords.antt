@@ -21,6 +21,7 @@ use Rattle.goi_words.proofs.Taken.{TakenHasJob, asked, level_found, operand_foun
 
 -- ---- plain words
 
+-- the word enters this subcommand
 entered : Enters (built goi_command) (codes "replay") (leaf replay_command)
 unfolding walked defaults_fault
 entered = record { walk = refl; turn = refl; found = refl; defaults = refl; checked = refl }
@@ -29,18 +30,24 @@ entered = record { walk = refl; turn = refl; found = refl; defaults = refl; chec
 abbrev file_row : Text → Row
 file_row file = given (operand_at 1 (codes "file")) (file ∷ [])
 
+-- what the second name leaves
 abbrev moves_row : Text → Row
 moves_row moves = given (operand_at 2 (codes "schedule")) (moves ∷ [])
 
+-- what both leave
 abbrev operand_rows : Text → Text → List Row
 operand_rows file moves = file_row file ∷ moves_row moves ∷ []
 
+-- it knows its options
 knows : (file moves : Text) (s : Setting) → has_option (ask_replay file moves) s ≡ true → Knows (leaf replay_command) s
 knows file moves s has = cc
 
-apart : (file moves : Text) (s : Setting) → has_option (ask_replay file moves) s ≡ true → has_row (option_name s) (operand_rows file moves) ≡ false
+-- no option is called as an operand
+apart : (file moves : Text) (s : Setting) → has_option (ask_replay file moves) s ≡ true
+    → has_row (option_name s) (operand_rows file moves) ≡ false
 apart file moves s has = cc
 
+-- its last checks pass
 checked : (final : List Row) → is_row_given (codes "file") final ≡ true → is_row_given (codes "schedule") final ≡ true
     → check_fault (leaf replay_command) final false ≡ []
 checked final there also = rw (there, also) refl
@@ -49,12 +56,14 @@ checked final there also = rw (there, also) refl
 abbrev final_rows : Text → Text → List Setting → List Row
 final_rows file moves ss = fold with_default (file_row file ∷ moves_row moves ∷ map row_for ss) (leaf replay_command).rules
 
+-- what it reads of plain words
 reads : (file moves : Text) (ss : List Setting) → IsPlain (ask_replay file moves) ss
     → Gives (leaf replay_command) (file ∷ moves ∷ flat_map setting_words ss) (final_rows file moves ss)
 reads file moves ss plain =
     let options = flat_map setting_words ss in
     let one : Reads (leaf replay_command) nothing_held 1 2 (file ∷ moves ∷ options) (moves ∷ options) (file_row file ∷ []) =
-    operand_read (leaf replay_command) (operand_at 1 (codes "file")) file nothing_held [] 1 (moves ∷ options) (record { there = refl; clean = refl })
+    operand_read (leaf replay_command) (operand_at 1 (codes "file")) file nothing_held [] 1 (moves ∷ options)
+    (record { there = refl; clean = refl })
     (file_value file plain.operands.0) refl refl refl refl refl refl in
     let two : Reads (leaf replay_command) one.held 2 3 (moves ∷ options) options (operand_rows file moves) =
     operand_read (leaf replay_command) (operand_at 2 (codes "schedule")) moves one.held (file_row file ∷ []) 2 options one.holds
@@ -71,24 +80,29 @@ reads file moves ss plain =
     (checked (final_rows file moves ss) (given_in_the_end (codes "file") (leaf replay_command).rules rows (file_row file) refl refl)
     (given_in_the_end (codes "schedule") (leaf replay_command).rules rows (moves_row moves) refl refl))
 
+-- the job that these findings are
 read_so : (rows : List Row) (file moves : Text) → text_of (codes "file") rows ≡ Some file → text_of (codes "schedule") rows ≡ Some moves
     → replay_job rows ≡ Some (replay file moves)
 read_so rows file moves file_is moves_is = rw (file_is, moves_is) refl
 
+-- plain words mean the table
 pub replay_words : (program file moves : Text) (ss : List Setting) → IsPlain (ask_replay file moves) ss
     → job (plain_words program (ask_replay file moves) ss) ≡ Some (meant (ask_replay file moves) ss)
 replay_words program file moves ss plain =
     let rows = file_row file ∷ moves_row moves ∷ map row_for ss in
     let rules = (leaf replay_command).rules in
-    below_job program (codes "replay") (leaf replay_command) (file ∷ moves ∷ flat_map setting_words ss) (final_rows file moves ss) entered (reads file moves ss plain)
+    below_job program (codes "replay") (leaf replay_command) (file ∷ moves ∷ flat_map setting_words ss) (final_rows file moves ss) entered
+    (reads file moves ss plain)
     ∙ read_so (final_rows file moves ss) file moves (text_in_the_end (codes "file") rules rows (file_row file) refl)
     (text_in_the_end (codes "schedule") rules rows (moves_row moves) refl)
 
 -- ---- words that are taken
 
+-- its arguments keep their values
 tame : AreTame (leaf replay_command).rules
 tame = (operand_tame _ 1 (codes "file") refl, (operand_tame _ 2 (codes "schedule") refl, tt))
 
+-- its last check asks for both names
 both_asked : (rows : List Row) → check_fault (leaf replay_command) rows false ≡ []
     → (is_row_given (codes "file") rows ≡ true) × (is_row_given (codes "schedule") rows ≡ true)
 both_asked rows clean =
@@ -99,6 +113,7 @@ both_asked rows clean =
     there true e = refl
     there false e = cc
 
+-- words that it takes have a job
 pub replay_taken : TakenHasJob (leaf replay_command)
 replay_taken words clean =
     let rows = rows_after (leaf replay_command).rules [] words in

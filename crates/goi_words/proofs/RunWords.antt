@@ -9,10 +9,12 @@ use Rattle.pcf_values.specs.Most.{most_workers, most_budget}
 use Rattle.goi_words.specs.Commands.{run_command, goi_command}
 use Rattle.goi_words.specs.Asked.{run_job, is_set, job, number_of, text_of}
 use Rattle.goi_words.specs.Jobs.{run}
-use Rattle.goi_words.specs.Plain.{IsPlain, Setting, budget, budget_in, ask_run, has_option, is_given, meant, plain_words, schedule, setting_words, tally, workers, workers_in}
+use Rattle.goi_words.specs.Plain.{IsPlain, Setting, budget, budget_in, ask_run, has_option, is_given, meant, plain_words, schedule}
+use Rattle.goi_words.specs.Plain.{setting_words, tally, workers, workers_in}
 use Rattle.goi_words.proofs.Entering.{below_job}
 use Rattle.goi_words.proofs.Levels.{Gives}
-use Rattle.goi_words.proofs.Requests.{file_apart, file_row, IsFirst, one_operand, file_value, leaf, number_in_the_end, operand_at, set_in_the_end, text_in_the_end}
+use Rattle.goi_words.proofs.Requests.{file_apart, file_row, IsFirst, one_operand, file_value, leaf, number_in_the_end, operand_at}
+use Rattle.goi_words.proofs.Requests.{set_in_the_end, text_in_the_end}
 use Rattle.goi_words.proofs.Settings.{Knows, known, budget_there, row_for, schedule_is_flag, set_there, tally_is_flag, workers_there}
 use Rattle.goi_words.proofs.Tops.{Enters}
 use Rattle.goi_words.proofs.Found.{AreTame}
@@ -20,13 +22,16 @@ use Rattle.goi_words.proofs.Taken.{TakenHasJob, asked, flag_tame, level_found, o
 
 -- ---- plain words
 
+-- the word enters this subcommand
 entered : Enters (built goi_command) (codes "run") (leaf run_command)
 unfolding walked defaults_fault
 entered = record { walk = refl; turn = refl; found = refl; defaults = refl; checked = refl }
 
+-- its operand is the first one
 is_first : IsFirst (leaf run_command) (operand_at 1 (codes "file"))
 is_first = record { place = refl; own = refl; single = refl; once = refl; ends = refl }
 
+-- it knows its options
 knows : (file : Text) (s : Setting) → has_option (ask_run file) s ≡ true → Knows (leaf run_command) s
 knows file (workers n) has = known _ (workers n) refl refl
 knows file (budget n) has = known _ (budget n) refl refl
@@ -34,6 +39,7 @@ knows file schedule has = known _ schedule refl refl
 knows file tally has = known _ tally refl refl
 knows file _ has = cc
 
+-- its last checks pass
 checked : (final : List Row) → is_row_given (codes "file") final ≡ true → check_fault (leaf run_command) final false ≡ []
 checked final there = rw there refl
 
@@ -41,16 +47,22 @@ checked final there = rw there refl
 abbrev final_rows : Text → List Setting → List Row
 final_rows file ss = fold with_default (file_row file ∷ map row_for ss) (leaf run_command).rules
 
-reads : (file : Text) (ss : List Setting) → IsPlain (ask_run file) ss → Gives (leaf run_command) (file ∷ flat_map setting_words ss) (final_rows file ss)
+-- what it reads of plain words
+reads : (file : Text) (ss : List Setting) → IsPlain (ask_run file) ss
+    → Gives (leaf run_command) (file ∷ flat_map setting_words ss) (final_rows file ss)
 reads file ss plain =
-    one_operand (ask_run file) ss (leaf run_command) (operand_at 1 (codes "file")) file plain refl is_first (file_value file plain.operands) refl refl
+    one_operand (ask_run file) ss (leaf run_command) (operand_at 1 (codes "file")) file plain refl is_first
+    (file_value file plain.operands) refl refl
     (record { knows = knows file; apart = λ s has. file_apart file s }) (refl, (refl, (refl, (refl, (refl, tt))))) refl checked
 
-read_so : (rows : List Row) (file : Text) (w b : ℕ) (s t : Bool) → text_of (codes "file") rows ≡ Some file → number_of (codes "workers") rows ≡ Some w
+-- the job that these findings are
+read_so : (rows : List Row) (file : Text) (w b : ℕ) (s t : Bool) → text_of (codes "file") rows ≡ Some file
+    → number_of (codes "workers") rows ≡ Some w
     → number_of (codes "budget") rows ≡ Some b → is_set (codes "schedule") rows ≡ s → is_set (codes "tally") rows ≡ t
     → run_job rows ≡ Some (run file w b s t)
 read_so rows file w b s t file_is w_is b_is s_is t_is = rw (file_is, w_is, b_is, s_is, t_is) refl
 
+-- plain words mean the table
 pub run_words : (program file : Text) (ss : List Setting) → IsPlain (ask_run file) ss
     → job (plain_words program (ask_run file) ss) ≡ Some (meant (ask_run file) ss)
 run_words program file ss plain =
@@ -66,18 +78,24 @@ run_words program file ss plain =
 
 -- ---- words that are taken
 
+-- its arguments keep their values
 tame : AreTame (leaf run_command).rules
 tame = (
   operand_tame _ 1 (codes "file") refl,
   (
     option_tame _ (codes "workers") 1 most_workers (codes "1") refl,
-    (option_tame _ (codes "budget") 1 most_budget (codes "10000") refl, (flag_tame _ (codes "schedule") refl, (flag_tame _ (codes "tally") refl, tt))),
+    (
+      option_tame _ (codes "budget") 1 most_budget (codes "10000") refl,
+      (flag_tame _ (codes "schedule") refl, (flag_tame _ (codes "tally") refl, tt)),
+    ),
   ),
 )
 
+-- its last check asks for the file
 file_asked : (rows : List Row) → check_fault (leaf run_command) rows false ≡ [] → is_row_given (codes "file") rows ≡ true
 file_asked rows clean = (asked (is_row_given (codes "file") rows) false clean).0
 
+-- words that it takes have a job
 pub run_taken : TakenHasJob (leaf run_command)
 run_taken words clean =
     let rows = rows_after (leaf run_command).rules [] words in

@@ -1,5 +1,6 @@
 -- How options are read, in any order.
-use Rattle.std.proofs.Common.{◌≡◌, ◌∙◌, ◌∷◌, ◌++◌, ◌<◌, ◌≤◌, ◌^◌, ◌||◌, ap, refl, sym, subst, cond, map, append-nil, append_assoc, ℕ, Bool, true, false, List, [], Option, Some, codes, arith}
+use Rattle.std.proofs.Common.{◌≡◌, ◌∙◌, ◌∷◌, ◌++◌, ◌<◌, ◌≤◌, ◌^◌, ◌||◌, ap, refl, sym, subst, cond, map, append-nil, append_assoc, ℕ, Bool}
+use Rattle.std.proofs.Common.{true, false, List, [], Option, Some, codes, arith}
 use Rattle.std.specs.Prelude.{option_and_then}
 use Rattle.std.specs.List.{AllByRecursion, flat_map}
 use Rattle.std.specs.Option.{option_map_or, option_or}
@@ -10,7 +11,8 @@ use Rattle.clap.specs.Simple.{Shape, filled}
 use Rattle.pcf_values.specs.Most.{most_workers, most_budget}
 use Rattle.goi_words.specs.Commands.{budget_option, flag, number_option, workers_option}
 use Rattle.goi_words.specs.Asked.{number_in, ◌>>=◌}
-use Rattle.goi_words.specs.Plain.{AreDistinct, IsInRange, Setting, budget, budget_in, is_given, is_same_option, option_name, option_value, schedule, setting_words, tally, term, workers, workers_in}
+use Rattle.goi_words.specs.Plain.{AreDistinct, IsInRange, Setting, budget, budget_in, is_given, is_same_option, option_name, option_value}
+use Rattle.goi_words.specs.Plain.{schedule, setting_words, tally, term, workers, workers_in}
 use Rattle.goi_words.proofs.Decimals.{decimal_kept, decimal_number, decimal_passes, decimal_value}
 use Rattle.goi_words.proofs.Rows.{absent_more, given, row_at, used_first}
 use Rattle.goi_words.proofs.Walks.{Holds, Names, Reads, flag_read, option_read, then}
@@ -23,9 +25,11 @@ rule_for schedule = filled (flag (codes "schedule"))
 rule_for tally = filled (flag (codes "tally"))
 rule_for term = filled (flag (codes "term"))
 
+-- the row of an option
 abbrev pub row_for : Setting → Row
 row_for s = given (rule_for s) (option_value s)
 
+-- an argument is called as its option
 named_so : (s : Setting) → (rule_for s).id ≡ option_name s
 named_so (workers n) = refl
 named_so _ = refl
@@ -34,16 +38,21 @@ named_so _ = refl
 abbrev pub Knows : Shape → Setting → Type 0
 Knows sh s = Names sh (codes "--" ++ option_name s) (rule_for s)
 
-pub known : (sh : Shape) (s : Setting) → arg_by_long sh.rules (option_name s) ≡ Some (rule_for s) → arg_by_id sh.rules (option_name s) ≡ Some (rule_for s) → Knows sh s
+-- a command knows an option that it finds by both names
+pub known : (sh : Shape) (s : Setting) → arg_by_long sh.rules (option_name s) ≡ Some (rule_for s)
+    → arg_by_id sh.rules (option_name s) ≡ Some (rule_for s) → Knows sh s
 known sh (workers n) rule own = record { not_dashes = refl; name = codes "workers"; long = refl; rule = rule; own = own }
 known sh s rule own = record { not_dashes = refl; name = option_name s; long = refl; rule = rule; own = own }
 
 -- ---- one option
 
-module _ (sh : Shape) (once : sh.args_override_self ≡ false) (h : Held) (rows : List Row) (p : ℕ) (rest : List Text) (holds : Holds sh h rows) where
-  number_read : (name : Text) (least most n : ℕ) (default : Text) → Names sh (codes "--" ++ name) (filled (number_option name least most default))
+module _ (sh : Shape) (once : sh.args_override_self ≡ false) (h : Held) (rows : List Row) (p : ℕ)
+    (rest : List Text) (holds : Holds sh h rows) where
+  number_read : (name : Text) (least most n : ℕ) (default : Text)
+      → Names sh (codes "--" ++ name) (filled (number_option name least most default))
       → least ≤ n → n ≤ most → n < 2 ^ 32 → has_row name rows ≡ false
-      → Reads sh h p p ((codes "--" ++ name) ∷ decimal n ∷ rest) rest (rows ++ given (filled (number_option name least most default)) (decimal n ∷ []) ∷ [])
+      → Reads sh h p p ((codes "--" ++ name) ∷ decimal n ∷ rest) rest
+      (rows ++ given (filled (number_option name least most default)) (decimal n ∷ []) ∷ [])
   number_read name least most n default names low high small absent =
       let rule = filled (number_option name least most default) in
       subst (Reads sh h p p ((codes "--" ++ name) ∷ decimal n ∷ rest) rest) (used_first rule (decimal n ∷ []) rows (λ _. refl) absent)
@@ -56,9 +65,12 @@ module _ (sh : Shape) (once : sh.args_override_self ≡ false) (h : Held) (rows 
       subst (Reads sh h p p ((codes "--" ++ name) ∷ rest) rest) (used_first (filled (flag name)) [] rows (λ _. refl) absent)
       (flag_read sh (filled (flag name)) (codes "--" ++ name) h rows p rest holds names refl (rw (once, absent) refl))
 
-  one_setting : (s : Setting) → Knows sh s → IsInRange s → has_row (option_name s) rows ≡ false → Reads sh h p p (setting_words s ++ rest) rest (rows ++ row_for s ∷ [])
-  one_setting (workers n) knows range absent = number_read (codes "workers") 1 most_workers n (codes "1") knows range.0 range.1 (omega (arith, range.1)) absent
-  one_setting (budget n) knows range absent = number_read (codes "budget") 1 most_budget n (codes "10000") knows range.0 range.1 (omega (arith, range.1)) absent
+  one_setting : (s : Setting) → Knows sh s → IsInRange s → has_row (option_name s) rows ≡ false
+      → Reads sh h p p (setting_words s ++ rest) rest (rows ++ row_for s ∷ [])
+  one_setting (workers n) knows range absent =
+      number_read (codes "workers") 1 most_workers n (codes "1") knows range.0 range.1 (omega (arith, range.1)) absent
+  one_setting (budget n) knows range absent =
+      number_read (codes "budget") 1 most_budget n (codes "10000") knows range.0 range.1 (omega (arith, range.1)) absent
   one_setting schedule knows range absent = switch_read (codes "schedule") knows absent
   one_setting tally knows range absent = switch_read (codes "tally") knows absent
   one_setting term knows range absent = switch_read (codes "term") knows absent
@@ -67,14 +79,17 @@ module _ (sh : Shape) (once : sh.args_override_self ≡ false) (h : Held) (rows 
 
 -- an option that isn't given yet, after one of another name
 absent_others : (s : Setting) (rows : List Row) (ss : List Setting) → AllByRecursion (λ t. is_same_option s t ≡ false) ss
-    → AllByRecursion (λ t. has_row (option_name t) rows ≡ false) ss → AllByRecursion (λ t. has_row (option_name t) (rows ++ row_for s ∷ []) ≡ false) ss
+    → AllByRecursion (λ t. has_row (option_name t) rows ≡ false) ss
+    → AllByRecursion (λ t. has_row (option_name t) (rows ++ row_for s ∷ []) ≡ false) ss
 absent_others s rows [] differ absent = tt
 absent_others s rows (t ∷ ss) differ absent =
     let named : bytes_eq (row_for s).id (option_name t) ≡ false = ap (λ name. bytes_eq name (option_name t)) (named_so s) ∙ differ.0 in
     (absent_more (option_name t) rows (row_for s) absent.0 named, absent_others s rows ss differ.1 absent.1)
 
+-- any number of options is read
 pub settings_read : (sh : Shape) → sh.args_override_self ≡ false → (ss : List Setting) (h : Held) (rows : List Row) (p : ℕ)
-    → AllByRecursion (Knows sh) ss → AllByRecursion IsInRange ss → AreDistinct ss → AllByRecursion (λ s. has_row (option_name s) rows ≡ false) ss
+    → AllByRecursion (Knows sh) ss → AllByRecursion IsInRange ss → AreDistinct ss
+    → AllByRecursion (λ s. has_row (option_name s) rows ≡ false) ss
     → Holds sh h rows → Reads sh h p p (flat_map setting_words ss) [] (rows ++ map row_for ss)
 settings_read sh once [] h rows p knows ranges distinct absent holds = record {
   held = h;
@@ -97,19 +112,23 @@ settings_read sh once (s ∷ ss) h rows p knows ranges distinct absent holds =
 abbrev pub number_at : Option Row → Option ℕ
 number_at row = option_and_then row_text row >>= number_in
 
+-- the flag of a row
 abbrev pub set_at : Option Row → Bool
 set_at row = option_map_or (λ text. bytes_eq text (codes "true")) (option_and_then row_text row) false
 
+-- the number of an option that is given
 number_there : (n : ℕ) (name : Text) (least most : ℕ) (default : Text) → n < 2 ^ 32
     → number_at (Some (given (filled (number_option name least most default)) (decimal n ∷ []))) ≡ Some n
 number_there n name least most default small = rw (decimal_kept n small, decimal_number n small) refl
 
+-- the number of workers that is found
 pub workers_there : (ss : List Setting) (default : Option Row) → AllByRecursion IsInRange ss → number_at default ≡ Some 1
     → number_at (option_or (row_at (codes "workers") (map row_for ss)) default) ≡ Some (workers_in ss)
 workers_there [] default ranges is = is
 workers_there (workers n ∷ ss) default ranges is = number_there n (codes "workers") 1 most_workers (codes "1") (omega (arith, ranges.0.1))
 workers_there (s ∷ ss) default ranges is = workers_there ss default ranges.1 is
 
+-- the budget that is found
 pub budget_there : (ss : List Setting) (default : Option Row) → AllByRecursion IsInRange ss → number_at default ≡ Some 10000
     → number_at (option_or (row_at (codes "budget") (map row_for ss)) default) ≡ Some (budget_in ss)
 budget_there [] default ranges is = is
@@ -120,11 +139,14 @@ budget_there (s ∷ ss) default ranges is = budget_there ss default ranges.1 is
 abbrev pub IsFlag : Setting → Type 0
 IsFlag option = (s : Setting) → is_same_option s option ≡ true → set_at (Some (row_for s)) ≡ true
 
+-- whether a flag is found
 pub set_there : (option : Setting) → IsFlag option → (ss : List Setting) (default : Option Row) → set_at default ≡ false
     → set_at (option_or (row_at (option_name option) (map row_for ss)) default) ≡ is_given option ss
 set_there option is_flag [] default is = is
 set_there option is_flag (s ∷ ss) default is =
-    ap (λ name. set_at (option_or (cond (bytes_eq name (option_name option)) (Some (row_for s)) (row_at (option_name option) (map row_for ss))) default)) (named_so s)
+    ap (λ name. set_at
+    (option_or (cond (bytes_eq name (option_name option)) (Some (row_for s)) (row_at (option_name option) (map row_for ss))) default))
+    (named_so s)
     ∙ go (is_same_option s option) refl (set_there option is_flag ss default is)
   where
     go : (b : Bool) → is_same_option s option ≡ b
@@ -134,14 +156,17 @@ set_there option is_flag (s ∷ ss) default is =
     go true same rest = rw same (is_flag s same)
     go false same rest = rw same rest
 
+-- the flags
 pub schedule_is_flag : IsFlag schedule
 schedule_is_flag schedule same = refl
 schedule_is_flag _ same = cc
 
+-- the second flag
 pub tally_is_flag : IsFlag tally
 tally_is_flag tally same = refl
 tally_is_flag _ same = cc
 
+-- the third flag
 pub term_is_flag : IsFlag term
 term_is_flag term same = refl
 term_is_flag _ same = cc

@@ -1,5 +1,6 @@
 -- Words that `clap` takes ask for a job.
-use Rattle.std.proofs.Common.{◌≡◌, ◌∙◌, ◌∷◌, ◌<◌, ◌≤◌, ◌^◌, ap, cond, length, refl, subst, sym, ℕ, Bool, true, false, List, [], Option, Some, None, codes, not, ◌||◌}
+use Rattle.std.proofs.Common.{◌≡◌, ◌∙◌, ◌∷◌, ◌<◌, ◌≤◌, ◌^◌, ap, cond, length, refl, subst, sym, ℕ, Bool, true, false, List, [], Option}
+use Rattle.std.proofs.Common.{Some, None, codes, not, ◌||◌}
 use Rattle.std.specs.List.{AllByRecursion, fold}
 use Rattle.std.specs.Option.{option_map_or, option_or}
 use Rattle.std.specs.Prelude.{pos, slice_get}
@@ -10,9 +11,11 @@ use Rattle.clap.specs.Lexer.{without_minus}
 use Rattle.clap.specs.Facts.{explicit_source, parser_of_value}
 use Rattle.clap.specs.Takes.{is_given as is_row_given, value_passes}
 use Rattle.clap.specs.ValueTests.{accepts}
-use Rattle.clap.specs.Walk.{Row, Rule, Text, action_of, arg_by_id, default_rows, has_row, nothing_held, reading_by, rows_after, settled, values_or_missing, walk, walk_from, with_default}
+use Rattle.clap.specs.Walk.{Row, Rule, Text, action_of, arg_by_id, default_rows, has_row, nothing_held, reading_by, rows_after, settled}
+use Rattle.clap.specs.Walk.{values_or_missing, walk, walk_from, with_default}
 use Rattle.clap.specs.Simple.{Shape, filled}
-use Rattle.clap.specs.Faults.{check_fault, defaults_fault, given_default_fault, level_fault, repeat_fault, settle_fault, use_fault, values_fault, walk_fault}
+use Rattle.clap.specs.Faults.{check_fault, defaults_fault, given_default_fault, level_fault, repeat_fault, settle_fault, use_fault}
+use Rattle.clap.specs.Faults.{values_fault, walk_fault}
 use Rattle.clap.specs.Kinds.{or_else, range_kinds, request_kinds, value_kinds}
 use Rattle.clap.specs.Values.{reading_of, refused_kind}
 use Rattle.clap.specs.declared.builder.value_parser.ValueParser.TheVariants as parser
@@ -30,6 +33,7 @@ use Rattle.goi_words.proofs.Rows.{HasCleanDefaults, Replaces, default_row, row_a
 
 -- ---- values that passed
 
+-- a value without a kind of error passed its parser
 value_passed : (a : Rule) (v : Text) → value_kinds a.ignore_case (parser_of_value a.parser) v ≡ [] → value_passes a v ≡ true
 value_passed a v clean = go (value_passes a v) clean
   where
@@ -37,16 +41,19 @@ value_passed a v clean = go (value_passes a v) clean
     go true clean = refl
     go false clean = cc
 
+-- so did the first of several
 first_passed : (a : Rule) (v : Text) (vs : List Text) → values_fault a (v ∷ vs) ≡ [] → value_passes a v ≡ true
 first_passed a v vs clean = value_passed a v (none_else (value_kinds a.ignore_case (parser_of_value a.parser) v) _ clean).0
 
 -- ---- the arguments of our commands
 
+-- an operand keeps its value
 pub operand_tame : (c : List Rule) (i : ℕ) (name : Text) → arg_by_id c name ≡ Some (operand_at i name) → IsTame c (operand_at i name)
 operand_tame c i name own = record { own = own; replaces = λ values rows. refl; valued = valued }
   where
     valued : (again : Bool) (values : List Text) (rows : List Row) → use_fault again (operand_at i name) values rows ≡ []
-        → (v : Text) × (vs : List Text) × (values_or_missing (operand_at i name) values ≡ v ∷ vs) × (value_passes (operand_at i name) v ≡ true)
+        → (v : Text) × (vs : List Text) × (values_or_missing (operand_at i name) values ≡ v ∷ vs)
+        × (value_passes (operand_at i name) v ≡ true)
     valued again [] rows clean = cc
     valued again (v ∷ vs) rows clean = (v, vs, refl, refl)
 
@@ -55,6 +62,7 @@ abbrev IsSet : Rule → Type 0
 IsSet a = (again : Bool) (values : List Text) (rows : List Row) → use_fault again a values rows
     ≡ or_else (range_kinds 1 1 (length values)) (or_else (repeat_fault again a.id rows) (values_fault a (values_or_missing a values)))
 
+-- so does an argument with one value
 pub set_tame : (c : List Rule) (a : Rule) → arg_by_id c a.id ≡ Some a → ((values : List Text) → Replaces a values) → IsSet a → IsTame c a
 set_tame c a own replaces set = record { own = own; replaces = replaces; valued = valued }
   where
@@ -68,11 +76,13 @@ set_tame c a own replaces set = record { own = own; replaces = replaces; valued 
         let parts = none_else (range_kinds 1 1 (length (v ∷ vs))) _ whole in
         (v, vs, refl, first_passed a v vs (none_else (repeat_fault again a.id rows) _ parts.1).1)
 
+-- and a flag
 pub flag_tame : (c : List Rule) (name : Text) → arg_by_id c name ≡ Some (filled (flag name)) → IsTame c (filled (flag name))
 flag_tame c name own = record { own = own; replaces = λ values rows. refl; valued = valued }
   where
     valued : (again : Bool) (values : List Text) (rows : List Row) → use_fault again (filled (flag name)) values rows ≡ []
-        → (v : Text) × (vs : List Text) × (values_or_missing (filled (flag name)) values ≡ v ∷ vs) × (value_passes (filled (flag name)) v ≡ true)
+        → (v : Text) × (vs : List Text) × (values_or_missing (filled (flag name)) values ≡ v ∷ vs)
+        × (value_passes (filled (flag name)) v ≡ true)
     valued again [] rows clean = (codes "true", [], refl, refl)
     valued again (v ∷ vs) rows clean =
         let parts = none_else (range_kinds 0 0 (length (v ∷ vs))) _ clean in
@@ -80,17 +90,21 @@ flag_tame c name own = record { own = own; replaces = λ values rows. refl; valu
 
 -- ---- one level
 
-default_sound : (c : List Rule) (a : Rule) (rows : List Row) → IsTame c a → given_default_fault a a.defaults ≡ [] → AreSound c rows → AreSound c (with_default rows a)
+-- a default leaves sound rows
+default_sound : (c : List Rule) (a : Rule) (rows : List Row) → IsTame c a → given_default_fault a a.defaults ≡ [] → AreSound c rows
+    → AreSound c (with_default rows a)
 default_sound c a rows tame clean sound = go (has_row a.id rows)
   where
     added : (values : List Text) → given_default_fault a values ≡ [] → AreSound c (default_rows a.id (reading_by a) values rows)
     added [] clean = sound
-    added (v ∷ vs) clean = values_sound c a DefaultValue v vs rows tame.own (first_passed a v vs (none_else (request_kinds (action_of a)) _ clean).1) sound
+    added (v ∷ vs) clean =
+        values_sound c a DefaultValue v vs rows tame.own (first_passed a v vs (none_else (request_kinds (action_of a)) _ clean).1) sound
 
     go : (b : Bool) → AreSound c (cond b rows (default_rows a.id (reading_by a) a.defaults rows))
     go true = sound
     go false = added a.defaults clean
 
+-- and so do all of them
 defaults_sound : (c rules : List Rule) (rows : List Row) → AllByRecursion (IsTame c) rules → HasCleanDefaults rules → AreSound c rows
     → AreSound c (fold with_default rows rules)
 defaults_sound c [] rows tame clean sound = sound
@@ -102,7 +116,9 @@ pub record IsFound (s : Shape) (words : List Text) : Type 0 where
   pub sound : AreSound s.rules (rows_after s.rules [] words)
   pub checked : check_fault s (rows_after s.rules [] words) false ≡ []
 
-pub level_found : (s : Shape) → AreTame s.rules → HasCleanDefaults s.rules → (words : List Text) → level_fault s [] nothing_held words false [] ≡ [] → IsFound s words
+-- such a level has sound rows
+pub level_found : (s : Shape) → AreTame s.rules → HasCleanDefaults s.rules → (words : List Text)
+    → level_fault s [] nothing_held words false [] ≡ [] → IsFound s words
 level_found s tame defaults words clean =
     let end = (walk s.rules [] nothing_held words).held in
     let walked = none_else (walk_fault s [] (walk_from nothing_held) words) _ clean in
@@ -116,11 +132,13 @@ level_found s tame defaults words clean =
 
 -- ---- what is found for one argument
 
+-- the row of an id is sound, and of that id
 found_row : (c : List Rule) (id : Text) (rows : List Row) (r : Row) → AreSound c rows → row_at id rows ≡ Some r → IsSound c r × (r.id ≡ id)
 found_row c id [] r sound at = cc
 found_row c id (x ∷ rows) r sound at = go (bytes_eq x.id id) refl at (found_row c id rows r sound.1)
   where
-    go : (b : Bool) → bytes_eq x.id id ≡ b → cond b (Some x) (row_at id rows) ≡ Some r → (row_at id rows ≡ Some r → IsSound c r × (r.id ≡ id)) → IsSound c r × (r.id ≡ id)
+    go : (b : Bool) → bytes_eq x.id id ≡ b → cond b (Some x) (row_at id rows) ≡ Some r
+        → (row_at id rows ≡ Some r → IsSound c r × (r.id ≡ id)) → IsSound c r × (r.id ≡ id)
     go true same is rest =
         let here : x ≡ r = cc in
         subst (λ y. IsSound c y × (y.id ≡ id)) here (sound.0, (bytes_eq-Decides x.id id).0 same)
@@ -139,14 +157,19 @@ default_there : (id : Text) (rules : List Rule) (rows : List Row) (d : Row) → 
     → (r : Row) × (row_at id (fold with_default rows rules) ≡ Some r)
 default_there id rules rows d is = go (row_at id rows) (row_after id rules rows ∙ ap (option_or (row_at id rows)) is)
   where
-    go : (o : Option Row) → row_at id (fold with_default rows rules) ≡ option_or o (Some d) → (r : Row) × (row_at id (fold with_default rows rules) ≡ Some r)
+    go : (o : Option Row) → row_at id (fold with_default rows rules) ≡ option_or o (Some d)
+        → (r : Row) × (row_at id (fold with_default rows rules) ≡ Some r)
     go None at = (d, at)
     go (Some r) at = (r, at)
 
-pub default_after : (s : Shape) (words : List Text) (id : Text) (d : Row) → default_row id s.rules ≡ Some d → (r : Row) × (row_at id (rows_after s.rules [] words) ≡ Some r)
+-- an argument with a default has a row in the end
+pub default_after : (s : Shape) (words : List Text) (id : Text) (d : Row) → default_row id s.rules ≡ Some d
+    → (r : Row) × (row_at id (rows_after s.rules [] words) ≡ Some r)
 default_after s words id d is = default_there id s.rules (settled s.rules (walk s.rules [] nothing_held words).held).rows d is
 
-pub text_found : (c : List Rule) (id : Text) (rows : List Row) → AreSound c rows → (r : Row) × (row_at id rows ≡ Some r) → (t : Text) × (text_of id rows ≡ Some t)
+-- an argument with a row has a text
+pub text_found : (c : List Rule) (id : Text) (rows : List Row) → AreSound c rows → (r : Row) × (row_at id rows ≡ Some r)
+    → (t : Text) × (text_of id rows ≡ Some t)
 text_found c id rows sound there =
     let found = found_row c id rows there.0 sound there.1 in
     let values = found.0.values in
@@ -156,25 +179,34 @@ text_found c id rows sound there =
 signed_number : (low high : ℕ) (t : Text) → high < 2 ^ 32 → accepts false (parser.Signed (pos low) (pos high)) t ≡ true
     → (n : ℕ) × (number_in (without_minus t) ≡ Some n) × (low ≤ n) × (n ≤ high)
 signed_number low high t small passes =
-    signed_reads (Unit {0}) (ParsesUnsigned 32 10) 32 low high t (number_in (without_minus t)) (reads_itself (without_minus t)) (λ u x gives. gives) small
+    signed_reads (Unit {0}) (ParsesUnsigned 32 10) 32 low high t (number_in (without_minus t)) (reads_itself (without_minus t))
+    (λ u x gives. gives) small
     (accepts-Accepts false (parser.Signed (pos low) (pos high)) t passes)
 
-number_from : (id : Text) (low high n : ℕ) (rows : List Row) (r : Row) (first : Text) (others : List Text) → row_at id rows ≡ Some r → r.values ≡ first ∷ others
+-- the number of a row
+number_from : (id : Text) (low high n : ℕ) (rows : List Row) (r : Row) (first : Text) (others : List Text) → row_at id rows ≡ Some r
+    → r.values ≡ first ∷ others
     → r.reading ≡ reading_of (parser.Signed (pos low) (pos high)) → number_in (without_minus first) ≡ Some n → number_of id rows ≡ Some n
 number_from id low high n rows r first others at values reading is = rw (at, values, reading) is
 
+-- an argument with a row and a number in a range
 pub number_found : (c : List Rule) (id : Text) (low high : ℕ) (a : Rule) (rows : List Row) → high < 2 ^ 32 → arg_by_id c id ≡ Some a
     → a.parser ≡ Some (parser.Signed (pos low) (pos high)) → a.ignore_case ≡ false → AreSound c rows → (r : Row) × (row_at id rows ≡ Some r)
     → (n : ℕ) × (number_of id rows ≡ Some n) × (low ≤ n) × (n ≤ high)
 number_found c id low high a rows small is parser_is case_is sound there =
     let found = found_row c id rows there.0 sound there.1 in
     let same_rule : found.0.rule ≡ a = own found.0.rule (sym (ap (arg_by_id c) found.1) ∙ found.0.own) in
-    let passed : accepts a.ignore_case (parser_of_value a.parser) found.0.first ≡ true = subst (λ (x : Rule). value_passes x found.0.first ≡ true) same_rule found.0.passes in
+    let passed : accepts a.ignore_case (parser_of_value a.parser) found.0.first ≡ true =
+    subst (λ (x : Rule). value_passes x found.0.first ≡ true) same_rule found.0.passes in
     let read : accepts false (parser.Signed (pos low) (pos high)) found.0.first ≡ true = rw (case_is, parser_is) at passed in
     let number = signed_number low high found.0.first small read in
     let reading : there.0.reading ≡ reading_of (parser.Signed (pos low) (pos high)) =
-    found.0.reading ∙ ap reading_by same_rule ∙ ap (λ p. reading_of (parser_of_value p)) parser_is in
-    (number.0, number_from id low high number.0 rows there.0 found.0.first found.0.others there.1 found.0.values reading number.1, number.2, number.3)
+    found.0.reading ∙ ap reading_by same_rule ∙ ap (λ p. reading_of (parser_of_value p)) parser_is in (
+      number.0,
+      number_from id low high number.0 rows there.0 found.0.first found.0.others there.1 found.0.values reading number.1,
+      number.2,
+      number.3,
+    )
   where
     own : (x : Rule) → arg_by_id c id ≡ Some x → x ≡ a
     own x e = let both : Some x ≡ Some a = sym e ∙ is in cc
@@ -187,7 +219,8 @@ HasJob o = (done : JobTree) × (o ≡ Some done) × IsWithinLimits done
 
 -- a subcommand that takes its words has a job
 abbrev pub TakenHasJob : Shape → Type 0
-TakenHasJob s = (words : List Text) → level_fault s [] nothing_held words false [] ≡ [] → HasJob (job_on s.name (rows_after s.rules [] words))
+TakenHasJob s =
+    (words : List Text) → level_fault s [] nothing_held words false [] ≡ [] → HasJob (job_on s.name (rows_after s.rules [] words))
 
 -- the last check asks for an operand, and for nothing more
 pub asked : (g more : Bool) → cond (not g || more) (kind.MissingRequiredArgument ∷ []) [] ≡ [] → (g ≡ true) × (more ≡ false)
@@ -196,7 +229,8 @@ asked true false e = (refl, refl)
 asked false more e = cc
 
 -- an operand of any text, which the last check asks for
-pub operand_found : (s : Shape) (words : List Text) (name : Text) → IsFound s words → ((rows : List Row) → check_fault s rows false ≡ [] → is_row_given name rows ≡ true)
+pub operand_found : (s : Shape) (words : List Text) (name : Text) → IsFound s words
+    → ((rows : List Row) → check_fault s rows false ≡ [] → is_row_given name rows ≡ true)
     → (t : Text) × (text_of name (rows_after s.rules [] words) ≡ Some t)
 operand_found s words name found asks =
     let rows = rows_after s.rules [] words in
@@ -207,9 +241,13 @@ pub option_found : (s : Shape) (words : List Text) (name : Text) (least most : �
     → arg_by_id s.rules name ≡ Some (filled (number_option name least most default)) → default_row name s.rules ≡ Some d → IsFound s words
     → (n : ℕ) × (number_of name (rows_after s.rules [] words) ≡ Some n) × (least ≤ n) × (n ≤ most)
 option_found s words name least most default d small own is found =
-    number_found s.rules name least most (filled (number_option name least most default)) (rows_after s.rules [] words) small own refl refl found.sound
+    number_found s.rules name least most (filled (number_option name least most default))
+    (rows_after s.rules [] words) small own refl refl found.sound
     (default_after s words name d is)
 
-pub option_tame : (c : List Rule) (name : Text) (least most : ℕ) (default : Text) → arg_by_id c name ≡ Some (filled (number_option name least most default))
+-- an option with a number keeps its value
+pub option_tame : (c : List Rule) (name : Text) (least most : ℕ) (default : Text)
+    → arg_by_id c name ≡ Some (filled (number_option name least most default))
     → IsTame c (filled (number_option name least most default))
-option_tame c name least most default own = set_tame c (filled (number_option name least most default)) own (λ values rows. refl) (λ again values rows. refl)
+option_tame c name least most default own =
+    set_tame c (filled (number_option name least most default)) own (λ values rows. refl) (λ again values rows. refl)

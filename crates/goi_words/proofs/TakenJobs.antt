@@ -22,9 +22,11 @@ use Rattle.goi_words.proofs.Taken.{HasJob, TakenHasJob}
 
 -- ---- the first level
 
+-- the command as the parse sees it
 abbrev whole : App
 whole = built goi_command
 
+-- each subcommand has a job for the words that it takes
 each_has_a_job : AllByRecursion TakenHasJob whole.subs
 each_has_a_job = (run_taken, (check_taken, (net_taken, (replay_taken, (demo_taken, tt)))))
 
@@ -33,21 +35,26 @@ asks_for_one : (rows : List Row) (b : Bool) → check_fault whole.top rows b ≡
 asks_for_one rows true checked = refl
 asks_for_one rows false checked = cc
 
+-- the subcommand that is entered has a job
 entered_job : (stop : Option (Text × List Text)) → entered_fault whole stop ≡ [] → is_some (entered whole stop) ≡ true
     → (p : Text × List Row) × (entered whole stop ≡ Some p) × HasJob (job_on p.0 p.1)
 entered_job None clean met = cc
 entered_job (Some stop) clean met = go (find (λ s. answers_to stop.0 (label_of s)) whole.subs) refl clean met
   where
-    go : (o : Option Shape) → find (λ s. answers_to stop.0 (label_of s)) whole.subs ≡ o → option_map_or (λ s. level_fault s [] nothing_held stop.1 false []) o [] ≡ []
+    go : (o : Option Shape) → find (λ s. answers_to stop.0 (label_of s)) whole.subs ≡ o
+        → option_map_or (λ s. level_fault s [] nothing_held stop.1 false []) o [] ≡ []
         → is_some (option_map (λ s. rows_at s stop.1) o) ≡ true
         → (p : Text × List Row) × (option_map (λ s. rows_at s stop.1) o ≡ Some p) × HasJob (job_on p.0 p.1)
     go None is clean met = cc
-    go (Some s) is clean met = (rows_at s stop.1, refl, found_in TakenHasJob (λ t. answers_to stop.0 (label_of t)) whole.subs s each_has_a_job is stop.1 clean)
+    go (Some s) is clean met =
+        (rows_at s stop.1, refl, found_in TakenHasJob (λ t. answers_to stop.0 (label_of t)) whole.subs s each_has_a_job is stop.1 clean)
 
+-- a list of kinds without one is empty
 faultless : (k : Kinds) → is_faultless k ≡ true → k ≡ []
 faultless [] e = refl
 faultless (x ∷ xs) e = cc
 
+-- the first level, and then the subcommand
 pub taken_words_have_a_job : TakenWordsHaveAJob
 taken_words_have_a_job words taken =
     let clean = faultless (fault_of goi_command words) taken in
@@ -63,6 +70,7 @@ taken_words_have_a_job words taken =
 
 -- ---- what follows
 
+-- words that are taken have some job
 none_not_some : (words : List Text) → is_taken words ≡ true → job words ≡ None → ⊥
 none_not_some words taken is =
     let found = taken_words_have_a_job words taken in
@@ -77,6 +85,7 @@ refused_by_clap words is = go (is_taken words) refl
     go true taken = absurd (none_not_some words taken is)
     go false taken = refl
 
+-- words that have a job are taken
 taken_where_some : (words : List Text) (done : JobTree) → job words ≡ Some done → is_taken words ≡ true
 unfolding job
 taken_where_some words done is = go (is_taken words) is

@@ -9,7 +9,8 @@ use Rattle.goi_words.proofs.reading.job_of.Goals as goal
 
 pub returns-in_err-matches-clause-none : goal.returns-in_err-matches-clause-none
 returns-in_err-matches-clause-none c refused =
-    not_taken (map string_bytes c.args.words.now) (c.in_err-matches.ensures.refused (ap Err (passed_up _ _ _ c.from_residual.ensures.1 refused)))
+    not_taken (map string_bytes c.args.words.now)
+    (c.in_err-matches.ensures.refused (ap Err (passed_up _ _ _ c.from_residual.ensures.1 refused)))
 
 pub returns-in_err-matches-clause-refused : goal.returns-in_err-matches-clause-refused
 returns-in_err-matches-clause-refused c refused =
@@ -31,9 +32,11 @@ returns-in-Some c =
 
 pub returns-clause-none : goal.returns-clause-none
 returns-clause-none c refused =
-    entered_job (map string_bytes c.args.words.now) None c.in_ok-matches.ensures.taken (no_rows _ c.in-None.ensures.variant ∙ c.in_ok-matches.ensures.found)
+    entered_job (map string_bytes c.args.words.now) None c.in_ok-matches.ensures.taken
+    (no_rows _ c.in-None.ensures.variant ∙ c.in_ok-matches.ensures.found)
 
 pub returns-clause-refused : goal.returns-clause-refused
 returns-clause-refused c refused =
     let words = map string_bytes c.args.words.now in
-    refused_by_clap words (entered_job words None c.in_ok-matches.ensures.taken (no_rows _ c.in-None.ensures.variant ∙ c.in_ok-matches.ensures.found))
+    refused_by_clap words
+    (entered_job words None c.in_ok-matches.ensures.taken (no_rows _ c.in-None.ensures.variant ∙ c.in_ok-matches.ensures.found))

@@ -8,5 +8,7 @@ use Rattle.goi_words.proofs.reading.number_of.Goals as goal
 
 pub returns : goal.returns
 returns c =
-    number_one _ (λ t x. ParsesUnsigned 32 10 t x × ExplainsUnsignedError 10 t x × HasUnsignedDigitsIfOk t x) (one_text (found_of c.args.found.now) c.args.name.now) c.get_one.result (λ t x gives. gives.0) c.get_one.ensures.none c.get_one.ensures.value
+    number_one _ (λ t x. ParsesUnsigned 32 10 t x × ExplainsUnsignedError 10 t x × HasUnsignedDigitsIfOk t x)
+    (one_text (found_of c.args.found.now) c.args.name.now) c.get_one.result
+    (λ t x gives. gives.0) c.get_one.ensures.none c.get_one.ensures.value
     ∙ ap (λ o. o >>= number_in) (one_text-rows (found_of c.args.found.now) c.args.name.now)
