@@ -1,4 +1,4 @@
-//! Copies and comparison of a net's two lists.
+//! Copies of a net's wires, whose types lie in memory of their own, and comparison of both of its lists.
 
 ghost use Rattle.std.specs.Prelude.{◌≡◌, ◌↔◌, map, length, IfOk, IsTrue};
 ghost use Rattle.net_build.specs.Views.{wire_of};
@@ -14,17 +14,6 @@ pub(crate) fn copy_wires(alloc: Global, wires: &[Wire]) -> Result<Vec<Wire>, All
     let mut copies = Vec::new(alloc);
     for wire in wires {
         copies.push(wire.copy(alloc)?)?;
-    }
-    Ok(copies)
-}
-
-/// The same nodes.
-pub(crate) fn copy_nodes(alloc: Global, nodes: &[Node]) -> Result<Vec<Node>, AllocError>
-    ensures { IfOk result (λ v. v.items ≡ nodes.now) }
-{
-    let mut copies = Vec::new(alloc);
-    for node in nodes {
-        copies.push(*node)?;
     }
     Ok(copies)
 }

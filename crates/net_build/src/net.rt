@@ -7,7 +7,7 @@ ghost use Rattle.net_build.specs.Sides.{node_above, node_below, number_of};
 ghost use Rattle.net_build.specs.Kept.{entry_at};
 
 use crate::index::{Side, index};
-use crate::lists::{copy_nodes, copy_wires, same_nodes, same_wires};
+use crate::lists::{copy_wires, same_nodes, same_wires};
 use crate::{Node, Wire};
 use std::alloc::{AllocError, Global};
 use std::marker::Model;
@@ -119,7 +119,7 @@ impl Net {
         ensures { IfOk result (λ n. n ≡ self.now) }
     {
         let wires = copy_wires(alloc, &self.wires)?;
-        let nodes = copy_nodes(alloc, &self.nodes)?;
+        let nodes = Vec::from_slice(alloc, &self.nodes)?;
         Net::from_parts(alloc, wires, nodes)
     }
 
