@@ -55,7 +55,7 @@ last_alone [] x (y ∷ ys) h e = absurd (h.0 e)
 last_alone (u ∷ []) x xs h e = last_alone [] x xs h.1 e
 last_alone (u ∷ v ∷ us) x xs h e = last_alone (v ∷ us) x xs h.1 e
 
--- a front of the tokens of a text that is a program is all of them
+-- a prefix of the tokens of a text that is a program is all of them
 pub program_is_all : (front xs : List Placed) (t : NamedTree) → Ended (front ++ xs) → Derives front t → xs ≡ []
 program_is_all front xs t h d =
     let us : List Placed = map placed (expr_text 0 d.program.expr) in

@@ -4,7 +4,7 @@ use Rattle.pcf_values.specs.Most.{most_nodes, most_open}
 use Rattle.pcf_reader.specs.Tokens.{Token, Number, End, Junk, Placed}
 use Rattle.pcf_reader.specs.Grammar.{Program, program_text, Part, expr_part, expr_text, Written, placed, plain, marked}
 use Rattle.pcf_reader.specs.Machine.{State, want_expr, whole, Step, refuse, go, finish, step}
-use Rattle.pcf_reader.specs.Text.{count_of, IsNarrow, Derives, IsFront, Reads, FaultAt, rank, IsFirstFault, IsShallow, Each}
+use Rattle.pcf_reader.specs.Text.{count_of, IsNarrow, Derives, IsPrefix, Reads, FaultAt, rank, IsFirstFault, IsShallow, Each}
 use Rattle.pcf_reader.specs.Scan.{Answer, proper, within, checked, scan}
 use Rattle.pcf_reader.specs.declared.fault.ReadFault.{ReadFault}
 use Rattle.pcf_reader.specs.declared.fault.ReadFault.TheVariants.{NoMemory, NotText, BadToken, NumberTooWide, Unexpected, TooDeep, TooLarge, TooLong}
@@ -118,7 +118,7 @@ reads_here ws s b x a w run e r =
     (e ∙ ap (λ z. z ++ x ∷ a) (sym r.before_is) ∙ ap (λ z. map placed r.front ++ z ∷ a) (sym r.token_is))
 
 -- some program goes on behind what has been read
-pub front_of : (ws : Texts) (s : State) → Reached s ws → (b : List Placed) (a : List Placed) → map placed ws ≡ b ++ a → IsFront b
+pub front_of : (ws : Texts) (s : State) → Reached s ws → (b : List Placed) (a : List Placed) → map placed ws ≡ b ++ a → IsPrefix b
 front_of ws s reached b a e =
     let (p, rest, text) = complete s ws reached in
     (p, a ++ map placed rest, ap (λ z. map placed z) text ∙ map-append ws rest ∙ ap (λ z. z ++ map placed rest) e ∙ append_assoc b a (map placed rest))
@@ -153,7 +153,7 @@ abbrev pub IsFault : List Placed → ReadFault → Type 0
 IsFault all NoMemory = Unit {0}
 IsFault all f = IsFirstFault all f
 
--- a tree that a front of the list derives, or its fault
+-- a tree that a prefix of the list derives, or its fault
 abbrev pub Judged : List Placed → Answer → Type 0
 Judged all (Ok t) = (front : List Placed) × (xs : List Placed) × (all ≡ front ++ xs) × Derives front t
 Judged all (Err f) = IsFault all f
@@ -208,8 +208,8 @@ wide_above b x v is TooLong h f = omega arith
 
 -- A step that is taken, from what has been read so far.
 module _ (ws : Texts) (s : State) (n : ℕ) (so : SoFar ws s n) (x : Placed) (good : IsNarrow x.token) (real : IsTrueToken x.token) where
-  -- what is refused is the front of no program
-  refused : step s x.at x.token ≡ refuse → IsFront (map placed ws ++ x ∷ []) → ⊥
+  -- what is refused is a prefix of no program
+  refused : step s x.at x.token ≡ refuse → IsPrefix (map placed ws ++ x ∷ []) → ⊥
   refused is h =
       let (p, rest, e) = h in
       let (r, more, pass, left) = passes_on ws (program_text p) (want_expr whole) s (x ∷ rest) so.run (program_passes p) (e ∙ append_assoc (map placed ws) (x ∷ []) rest) in
@@ -344,6 +344,6 @@ judged (x ∷ xs) ws s n so =
     })
     (λ good real. judged_step ws s n so x good real xs (step s x.at x.token) refl (λ t m d c so'. judged xs (ws ++ marked x.at x.token d c ∷ []) t m so'))
 
--- The scan of a list of tokens, from its beginning: a tree that its front derives, or its first fault.
+-- The scan of a list of tokens, from its beginning: a tree that a prefix of it derives, or its first fault.
 pub scan_judged : (items : List Placed) → Judged items (scan items (want_expr whole) 0)
 scan_judged items = judged items [] (want_expr whole) 0 (record { run = refl; reached = refl; shallow = tt; counted = refl; small = omega arith; narrow = tt; true_tokens = tt })

@@ -191,7 +191,7 @@ after_sum_goes k us s h at Plus = (us, s, at, h, refl, append_assoc us (sum_text
 after_sum_goes k us s h at Minus = (us, s, at, h, refl, append_assoc us (sum_text (expr_open k) s) (marked at Minus (sum_part s).height 1 ∷ []))
 after_sum_goes k us s h at x = after_expr_goes k us (only_sum s) h at x
 
--- the front of a left-grouped phrase, with its operator, and the rest
+-- the left part of a left-grouped phrase, with its operator, and the rest
 pub grouped : (us vs a : Texts) (m : Written) (z : Texts) → us ≡ vs ++ (a ++ m ∷ []) → vs ++ (a ++ m ∷ z) ≡ us ++ z
 grouped us vs a m z text = sym (moved us vs (a ++ m ∷ []) z text ∙ ap (λ v. vs ++ v) (append_assoc a (m ∷ []) z))
 
@@ -290,7 +290,7 @@ colon_goes o b y k ws h at Colon =
     (us, xat, at, around, moved ws us (marked o (Bind b) (expr_open k) 1 ∷ plain xat (Name y) ∷ []) (plain at Colon ∷ []) text)
 colon_goes o b y k ws h at _ = tt
 
--- each step keeps that what has been read is the front of a program
+-- each step keeps that what has been read is a prefix of a program
 pub step_goes : (s : State) (ws : Texts) → Reached s ws → (at : ℕ) (x : Token) → Goes ws (step s at x) at x
 step_goes (want_expr k) ws h at x = begin_expr_goes k ws h at x
 step_goes (want_atom k) ws h at x = begin_atom_goes k ws h at x

@@ -1,5 +1,5 @@
 -- Each list of bytes stands for a tree or has a first fault.
--- Bytes are too long or not; those that aren't are text, or stop being text behind their longest front that is; and of a text the scan
+-- Bytes are too long or not; those that aren't are text, or stop being text behind their longest prefix that is; and of a text the scan
 -- of its tokens answers, since the tokens end.
 use Rattle.std.proofs.Common.{◌≡◌, ◌⊎◌, inl, inr, ℕ, zero, suc, ◌<◌, ◌≤◌, true, false, List, [], length, take, Ok, Err, refl, sym, ◌∙◌, subst, arith, take_all, true≢false}
 use Rattle.std.specs.Str.{IsUtf8, IsValidUpTo, chars, is_utf8}
@@ -16,11 +16,11 @@ use Rattle.pcf_reader.specs.declared.fault.ReadFault.TheVariants.{NoMemory, NotT
 use Rattle.pcf_reader.proofs.Ended.{IsAnswer, ended_answers}
 use Rattle.pcf_reader.proofs.Splitting.{tokens_end, text_read, text_fault}
 
--- the longest front that is text, among those of at most m bytes
+-- the longest prefix that is text, among those of at most m bytes
 abbrev Longest : List ℕ → ℕ → Type 0
 Longest bytes m = (n : ℕ) × (n ≤ m) × IsUtf8 (take n bytes) × ((k : ℕ) → n < k → k ≤ m → IsUtf8 (take k bytes) → ⊥)
 
--- a front that fails the test is no text
+-- a prefix that fails the test is no text
 not_front : (bytes : List ℕ) (k m : ℕ) → k ≡ m → is_utf8 (take m bytes) ≡ false → IsUtf8 (take k bytes) → ⊥
 not_front bytes k m same failed u = true≢false (sym (is_utf8-from_IsUtf8 (take m bytes) (subst (λ n. IsUtf8 (take n bytes)) same u)) ∙ failed)
 

@@ -170,7 +170,7 @@ sign_token c x rest at true e h long =
 sign_token c x rest at false e h long =
     first_is c rest at ∙ opened_sign at c x (λ m. lex rest (at + len_utf8 c) m) h e ∙ ap (λ i. at_place at x ∷ lex rest i idle) (ap (λ n. at + n) (sym (add-zero (len_utf8 c))))
 
--- what characters spell, and no longer front does, is the first token
+-- what characters spell, and no longer prefix does, is the first token
 spelled : (cs : List ℕ) (x : Token) (rest : List ℕ) (at : ℕ) → Spells cs x → IsLongest cs rest → lex (cs ++ rest) at idle ≡ at_place at x ∷ lex rest (at + width cs) idle
 spelled cs x rest at (sign c y h) long = sign_token c y rest at (c == 45) refl h long
 spelled cs x rest at arrow long = dash_first (62 ∷ rest) at ∙ arrow_first rest (at + 1) at ∙ ap (λ i. at_place at Arrow ∷ lex rest i idle) (add_assoc at 1 1)

@@ -6,7 +6,7 @@ use Rattle.unicode_ident.specs.Ident.{is_xid_continue}
 use Rattle.pcf_reader.specs.Tokens.{Token, Minus, Arrow, Number, End, Junk, Placed}
 use Rattle.pcf_reader.specs.Spelling.{is_blank, is_digit, starts_name, sign_of, word_of}
 
--- what the characters before the next one are the front of
+-- what the characters before the next one are a prefix of
 pub data Mode : Type 0 where
   idle : Mode
   in_comment : Mode

@@ -1,6 +1,6 @@
 -- How tokens are spelled, by the characters of a text, and how a text splits into them by the longest match.
 -- Blanks and comments stand between tokens and are none themselves. A comment ends before the line feed of its line or at the end of
--- the text. A token is taken only where no longer front of what is left is one. Where nothing begins, the split ends with `Junk`.
+-- the text. A token is taken only where no longer prefix of what is left is one. Where nothing begins, the split ends with `Junk`.
 use Rattle.std.specs.Prelude.{◌≡◌, ℕ, ◌+◌, ◌-◌, ◌*◌, Bool, not, ◌||◌, ◌==◌, nat_le, ◌&&◌, IsTrue, IsFalse, List, [], ◌∷◌, ◌++◌, Option, Some, None, codes, encode_utf8_all, if◌then◌else◌}
 use Rattle.std.specs.Str.{bytes_eq}
 use Rattle.std.specs.Char.{len_utf8}
@@ -50,7 +50,7 @@ abbrev pub width : List ℕ → ℕ
 width [] = 0
 width (c ∷ cs) = len_utf8 c + width cs
 
--- no longer front of the characters is a token
+-- no longer prefix of the characters is a token
 abbrev pub IsLongest : List ℕ → List ℕ → Type 0
 IsLongest cs rest = (us : List ℕ) (vs : List ℕ) (c : ℕ) (x : Token) → rest ≡ (c ∷ us) ++ vs → Spells (cs ++ c ∷ us) x → ⊥
 

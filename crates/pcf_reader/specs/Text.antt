@@ -39,8 +39,8 @@ pub record Derives (items : List Placed) (tree : NamedTree) : Type 0 where
   pub narrow : Each (λ w. IsNarrow w.token) (program_text program)
 
 -- some program begins with these tokens
-abbrev pub IsFront : List Placed → Type 0
-IsFront items = (p : Program) × (rest : List Placed) × (map placed (program_text p) ≡ items ++ rest)
+abbrev pub IsPrefix : List Placed → Type 0
+IsPrefix items = (p : Program) × (rest : List Placed) × (map placed (program_text p) ≡ items ++ rest)
 
 -- some program begins with these tokens and then has this one, which it writes so
 pub record Reads (before : List Placed) (x : Placed) (w : Written) : Type 0 where
@@ -55,7 +55,7 @@ pub record Reads (before : List Placed) (x : Placed) (w : Written) : Type 0 wher
 abbrev pub FaultAt : List Placed → Placed → ReadFault → Type 0
 FaultAt before x (BadToken at) = (x.token ≡ Junk) × (x.at ≡ at)
 FaultAt before x (NumberTooWide at) = (n : ℕ) × (x.token ≡ Number n) × (2 ^ 64 ≤ n) × (x.at ≡ at)
-FaultAt before x (Unexpected at) = (IsFront (before ++ x ∷ []) → ⊥) × (x.at ≡ at)
+FaultAt before x (Unexpected at) = (IsPrefix (before ++ x ∷ []) → ⊥) × (x.at ≡ at)
 FaultAt before x (TooDeep at) = (w : Written) × Reads before x w × (most_open ≤ w.depth) × (x.at ≡ at)
 FaultAt before x (TooLarge at) = (w : Written) × (r : Reads before x w) × (most_nodes < count_of r.front + w.count) × (x.at ≡ at)
 FaultAt before x NoMemory = ⊥

@@ -10,7 +10,7 @@ use std::alloc::{AllocError, AllocFailed};
 pub enum ReadFault {
     /// Memory ran out.
     NoMemory,
-    /// The bytes are not UTF-8; the longest front of them that is has this length.
+    /// The bytes are not UTF-8; the longest prefix of them that is has this length.
     NotText(u32),
     /// No token, blank or comment begins here.
     BadToken(u32),
