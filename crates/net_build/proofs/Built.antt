@@ -12,6 +12,7 @@ use Rattle.net_build.specs.NetOf.{Part, contract, doors, bound, bound_wire, none
 use Rattle.net_build.specs.Sound.{roots, Is, Meets, In, Sound}
 use Rattle.net_build.proofs.Count.{made, named_append, counted, ends, Aligned, aligned}
 
+-- a node of two lists is one of either
 in_parts : (x : Node) (a b : List Node) → In x (a ++ b) → In x a ⊎ In x b
 in_parts x [] b h = inr h
 in_parts x (n ∷ a) b (inl e) = inl (inl e)
@@ -21,6 +22,7 @@ module _ (net : NetTree) where
   record MeetAll (ns : List Node) : Type 0 where
     each : (x : Node) → In x ns → Meets net x
 
+  -- rows that are met, list by list
   meet_none : MeetAll []
   meet_none = record { each = λ x h. elim h [ ] }
 
@@ -38,6 +40,7 @@ module _ (net : NetTree) where
   Has n [] = Unit {0}
   Has n (k ∷ ks) = Is net n k × Has (suc n) ks
 
+  -- the wires of the first of two lists stand there, and those of the second behind them
   has_left : (n : ℕ) (a b : List WireTree) → Has n (a ++ b) → Has n a
   has_left n [] b h = tt
   has_left n (k ∷ a) b h = (h.0, has_left (suc n) a b h.1)
@@ -46,12 +49,14 @@ module _ (net : NetTree) where
   has_right n [] b h = let e : n ≡ n + 0 = omega arith in subst (λ n. Has n b) e h
   has_right n (k ∷ a) b h = let e : suc n + length a ≡ n + length (k ∷ a) = omega arith in subst (λ n. Has n b) e (has_right (suc n) a b h.1)
 
+  -- each variable's wire is a variable wire of its type at this depth
   abbrev TypedFree : ℕ → List TyTree → List (Option ℕ) → Type 0
   TypedFree d [] f = Unit {0}
   TypedFree d (a ∷ g) [] = Unit {0}
   TypedFree d (a ∷ g) (None ∷ f) = TypedFree d g f
   TypedFree d (a ∷ g) (Some x ∷ f) = Is net x (var_wire d a) × TypedFree d g f
 
+  -- contractions meet their rows, and leave wires of those types
   contract_typed : (n d : ℕ) (g : List TyTree) (f f' : List (Option ℕ)) → TypedFree d g f → TypedFree d g f' → Has n (contract n d g f f').wires → MeetAll (contract n d g f f').nodes × TypedFree d g (contract n d g f f').free
   contract_typed n d [] f f' h i w = (meet_none, tt)
   contract_typed n d (a ∷ g) [] f' h i w = (meet_none, i)
@@ -63,6 +68,7 @@ module _ (net : NetTree) where
       let (p, q) = contract_typed (suc n) d g f f' h.1 i.1 w.1 in
       (meet_cons (Con l r n) _ (d, a, h.0, i.0, w.0) p, (w.0, q))
 
+  -- so do doors, one depth further out
   doors_typed : (n d : ℕ) (g : List TyTree) (f : List (Option ℕ)) → TypedFree (suc d) g f → Has n (doors n d g f).wires → MeetAll (doors n d g f).nodes × TypedFree d g (doors n d g f).free
   doors_typed n d [] f h w = (meet_none, tt)
   doors_typed n d (a ∷ g) [] h w = (meet_none, tt)
@@ -71,19 +77,23 @@ module _ (net : NetTree) where
       let (p, q) = doors_typed (suc n) d g f h.1 w.1 in
       (meet_cons (Door x n) _ (d, a, h.0, w.0) p, (w.0, q))
 
+  -- no wires are typed
   no_free : (d : ℕ) (g : List TyTree) → TypedFree d g []
   no_free d [] = tt
   no_free d (a ∷ g) = tt
 
+  -- a binder's wire is of its type
   bound_typed : (n d : ℕ) (a : TyTree) (g : List TyTree) (f : List (Option ℕ)) → TypedFree d (a ∷ g) f → Has n (bound n d a f).wires → MeetAll (bound n d a f).nodes × Is net (bound_wire n f) (var_wire d a) × TypedFree d g (bound n d a f).free
   bound_typed n d a g [] h w = (meet_one (Weak n) (d, a, w.0), w.0, no_free d g)
   bound_typed n d a g (None ∷ f) h w = (meet_one (Weak n) (d, a, w.0), w.0, h)
   bound_typed n d a g (Some x ∷ f) h w = (meet_none, h.0, h.1)
 
+  -- no variable is used
   none_typed : (d : ℕ) (g : List TyTree) → TypedFree d g (none_free g)
   none_typed d [] = tt
   none_typed d (a ∷ g) = none_typed d g
 
+  -- one variable is used
   one_typed : (d : ℕ) (g : List TyTree) (i x : ℕ) (a : TyTree) → slice_get g i ≡ Some a → Is net x (var_wire d a) → TypedFree d g (one_free g i x)
   one_typed d [] i x a h w = tt
   one_typed d (b ∷ g) zero x a h w = let e : a ≡ b = cc in (subst (λ a. Is net x (var_wire d a)) e w, none_typed d g)
@@ -95,6 +105,7 @@ module _ (net : NetTree) where
     type : p.type ≡ a
     free : TypedFree d g p.free
 
+  -- the same at an equal type
   fine_at : (d : ℕ) (g : List TyTree) (a b : TyTree) (p : Part) → a ≡ b → Fine d g b p → Fine d g a p
   fine_at d g a b p e h = subst (λ a. Fine d g a p) (sym e) h
 
@@ -123,6 +134,7 @@ module _ (net : NetTree) where
         free = f;
       }
 
+  -- an operator's node meets its row, and so does one that takes a part of a pair
   binary_meets : (o : Op) (d a b w : ℕ) → Is net a (value_wire d nat) → Is net b (value_wire d nat) → Is net w (value_wire d nat) → Meets net (binary_node o a b w)
   binary_meets plus_op d a b w h i j = (d, h, i, j)
   binary_meets minus_op d a b w h i j = (d, h, i, j)
@@ -132,6 +144,7 @@ module _ (net : NetTree) where
   proj_meets left_side d a w t u h i = (d, t, u, h, i)
   proj_meets right_side d a w t u h i = (d, t, u, h, i)
 
+  -- the forms, each once its operands are fine
   ifz_fine : (n d : ℕ) (g : List TyTree) (x y z : Part) → Fine d g nat x → Fine d g nat y → Fine d g nat z → Has n (ifz_part n d g x y z).wires → Fine d g nat (ifz_part n d g x y z)
   ifz_fine n d g x y z r s t w =
       let o = n + length x.wires + length y.wires + length z.wires in
@@ -213,6 +226,7 @@ module _ (net : NetTree) where
   has_three : (n : ℕ) (a b c e : List WireTree) → Has n (a ++ (b ++ (c ++ e))) → Has n a × Has (n + length a) b × Has (n + length a + length b) c
   has_three n a b c e w = let w1 = has_right n a (b ++ (c ++ e)) w in let (x, y) = has_two (n + length a) b c e w1 in (has_left n a (b ++ (c ++ e)) w, x, y)
 
+  -- the operands' wires stand where the whole's do, form by form
   unary_has : (node : ℕ → ℕ → Node) (t : TyTree) (n d : ℕ) (p : Part) → Has n (unary_part node t n d p).wires → Has n p.wires
   unary_has node t n d p w = has_left n p.wires _ w
 
@@ -231,6 +245,7 @@ module _ (net : NetTree) where
   app_has : (n d : ℕ) (g : List TyTree) (p q : Part) → Has n (app_part n d g p q).wires → Has n p.wires × Has (n + length p.wires) q.wires
   app_has n d g p q w = has_two n p.wires q.wires _ w
 
+  -- every typed part is fine
   fine : (m : TermTree) (n d : ℕ) (g : List TyTree) (a : TyTree) → HasType g m a → Has n (part n d g m).wires → Fine d g a (part n d g m)
   fine (num v) n d g a h w = record { meets = meet_one (Const v n) (d, w.0); out = rw h.1 w.0; type = sym h.1; free = none_typed d g }
   fine (var i) n d g a h w =
@@ -286,11 +301,13 @@ module _ (net : NetTree) where
       fine_at d g a (side_type s p.type) _ (h.3 ∙ sym e)
       (unary_fine (proj_node s) (side_type s p.type) (product h.0 h.1) n d g p (λ w i j. proj_meets s d p.out w h.0 h.1 i (subst (λ t. Is net w (value_wire d t)) e j)) x w)
 
+-- the roots of two lists of nodes
 pub roots_append : (a b : List Node) → roots (a ++ b) ≡ roots a + roots b
 roots_append [] b = omega arith
 roots_append (Root w ∷ a) b = let h = roots_append a b in omega arith
 roots_append (n ∷ a) b = roots_append a b
 
+-- no contraction, door or weakening is a root
 contract_roots : (n d : ℕ) (g : List TyTree) (f f' : List (Option ℕ)) → roots (contract n d g f f').nodes ≡ 0
 contract_roots n d [] f f' = refl
 contract_roots n d (a ∷ g) [] f' = refl
@@ -310,9 +327,11 @@ bound_roots n d a [] = refl
 bound_roots n d a (None ∷ f) = refl
 bound_roots n d a (Some x ∷ f) = refl
 
+-- two lists without a root
 both_none : (a b : List Node) → roots a ≡ 0 → roots b ≡ 0 → roots (a ++ b) ≡ 0
 both_none a b h i = omega (arith, roots_append a b)
 
+-- the forms have no root, where their operands have none
 double_roots : (node : ℕ → ℕ → ℕ → Node) (t : TyTree) (n d : ℕ) (g : List TyTree) (p q : Part) → ((a b w : ℕ) → roots (node a b w ∷ []) ≡ 0) → roots p.nodes ≡ 0 → roots q.nodes ≡ 0 → roots (double_part node t n d g p q).nodes ≡ 0
 double_roots node t n d g p q e h i =
     let o = n + length p.wires + length q.wires in
@@ -352,6 +371,7 @@ app_roots n d g p q h k =
     let b = contract (suc i) d g p.free x.free in
     both_none p.nodes _ h (both_none q.nodes _ k (both_none x.nodes _ (doors_roots o d g q.free) (both_none b.nodes _ (contract_roots (suc i) d g p.free x.free) refl)))
 
+-- no part has a root
 pub part_roots : (m : TermTree) (n d : ℕ) (g : List TyTree) → roots (part n d g m).nodes ≡ 0
 part_roots (num v) n d g = refl
 part_roots (var i) n d g = refl
@@ -375,6 +395,7 @@ part_roots (pair m l) n d g =
     double_roots Pair (product p.type q.type) n d g p q (λ a b w. refl) (part_roots m n d g) (part_roots l (n + length p.wires) d g)
 part_roots (proj s m) n d g = both_none (part n d g m).nodes _ (part_roots m n d g) (proj_root s _ _)
 
+-- the entry at a seam
 pub nth_seam : (pre : List WireTree) (k : WireTree) (ks : List WireTree) → slice_get (pre ++ k ∷ ks) (length pre) ≡ Some k
 nth_seam [] k ks = refl
 nth_seam (x ∷ pre) k ks = nth_seam pre k ks
@@ -387,6 +408,7 @@ has_all nodes (k ∷ ks) pre =
     let rest' = subst (λ l. Has (record { wires = l; nodes = nodes }) (length (pre ++ k ∷ [])) ks) (append_assoc pre (k ∷ []) ks) rest in
     (nth_seam pre k ks, subst (λ n. Has (record { wires = pre ++ k ∷ ks; nodes = nodes }) n ks) n rest')
 
+-- a wire past the new ones, before them, and among them
 made_past : (n : ℕ) (ks : List WireTree) (w : ℕ) → n + length ks ≤ w → made n ks w ≡ 0
 made_past n [] w h = refl
 made_past n (k ∷ ks) w h = let r = made_past (suc n) ks w (omega arith) in let e = ne_eqb n w (λ q. omega arith) in rw e (omega arith)
@@ -403,6 +425,7 @@ made_once n (k ∷ ks) w h i = go (made_once (suc n) ks w) (cases_eq n w)
     go ih (inl e) = let q = eq-eqb n w e in let r = made_before (suc n) ks w (omega arith) in rw q (omega arith)
     go ih (inr e) = let q = ne_eqb n w e in let r = ih (omega arith) (omega arith) in rw q (omega arith)
 
+-- the net of every closed term of type nat is sound
 pub built_sound : (m : TermTree) → HasType [] m nat → Sound (net_of m)
 built_sound m h =
     let p = part zero zero [] m in

@@ -22,6 +22,7 @@ abbrev pub made : ℕ → List WireTree → ℕ → ℕ
 made n [] w = 0
 made n (k ∷ ks) w = (if nat_eq n w then 1 else 0) + made (suc n) ks w
 
+-- the new wires of two lists, one after the other
 pub made_append : (n : ℕ) (a b : List WireTree) (w : ℕ) → made n (a ++ b) w ≡ made n a w + made (n + length a) b w
 made_append n [] b w = let e : n ≡ n + 0 = omega arith in ap (λ n. made n b w) e ∙ omega arith
 made_append n (k ∷ a) b w =
@@ -30,6 +31,7 @@ made_append n (k ∷ a) b w =
     let g = ap (λ n. made n b w) e in
     omega arith
 
+-- the wires that two lists of nodes name
 pub named_append : (side : Node → List ℕ) (a b : List Node) (w : ℕ) → named side (a ++ b) w ≡ named side a w + named side b w
 named_append side [] b w = omega arith
 named_append side (n ∷ a) b w = let h = named_append side a b w in omega arith
@@ -46,6 +48,7 @@ pub record Counted (n : ℕ) (wires : List WireTree) (nodes : List Node) (ins ou
   pub ups : (w : ℕ) → named conclusions nodes w ≡ made n wires w
   pub downs : (w : ℕ) → named premises nodes w + outs w ≡ ins w + made n wires w
 
+-- contractions leave a list as long as the context
 pub contract_aligned : (n d : ℕ) (g : List TyTree) (f f' : List (Option ℕ)) → Aligned g f → Aligned g f' → Aligned g (contract n d g f f').free
 contract_aligned n d [] f f' h i = tt
 contract_aligned n d (a ∷ g) [] f' h i = i
@@ -54,17 +57,20 @@ contract_aligned n d (a ∷ g) (None ∷ f) (o ∷ f') h i = contract_aligned n 
 contract_aligned n d (a ∷ g) (Some l ∷ f) (None ∷ f') h i = contract_aligned n d g f f' h i
 contract_aligned n d (a ∷ g) (Some l ∷ f) (Some r ∷ f') h i = contract_aligned (suc n) d g f f' h i
 
+-- so do doors
 pub doors_aligned : (n d : ℕ) (g : List TyTree) (f : List (Option ℕ)) → Aligned g f → Aligned g (doors n d g f).free
 doors_aligned n d [] f h = tt
 doors_aligned n d (a ∷ g) [] h = elim h [ ]
 doors_aligned n d (a ∷ g) (None ∷ f) h = doors_aligned n d g f h
 doors_aligned n d (a ∷ g) (Some x ∷ f) h = doors_aligned (suc n) d g f h
 
+-- a binder leaves one as long as the context without it
 pub bound_aligned : (n d : ℕ) (a : TyTree) (g : List TyTree) (f : List (Option ℕ)) → Aligned (a ∷ g) f → Aligned g (bound n d a f).free
 bound_aligned n d a g [] h = elim h [ ]
 bound_aligned n d a g (None ∷ f) h = h
 bound_aligned n d a g (Some x ∷ f) h = h
 
+-- so are the lists of no variable and of one
 pub none_aligned : (g : List TyTree) → Aligned g (none_free g)
 none_aligned [] = tt
 none_aligned (a ∷ g) = none_aligned g
@@ -74,6 +80,7 @@ one_aligned [] i x = tt
 one_aligned (a ∷ g) zero x = none_aligned g
 one_aligned (a ∷ g) (suc i) x = one_aligned g i x
 
+-- the variables of every part are as many as the context's
 pub aligned : (m : TermTree) (n d : ℕ) (g : List TyTree) → Aligned g (part n d g m).free
 aligned (num v) n d g = none_aligned g
 aligned (var i) n d g = one_aligned g i (suc n)
@@ -87,6 +94,7 @@ aligned (app m l) n d g = contract_aligned _ d g _ _ (aligned m n d g) (doors_al
 aligned (pair m l) n d g = contract_aligned _ d g _ _ (aligned m n d g) (aligned l _ d g)
 aligned (proj s m) n d g = aligned m n d g
 
+-- contractions use the wires of both lists, and give those that are left
 pub contract_counted : (n d : ℕ) (g : List TyTree) (f f' : List (Option ℕ)) → Aligned g f → Aligned g f' → Counted n (contract n d g f f').wires (contract n d g f f').nodes (λ w. ends f w + ends f' w) (ends (contract n d g f f').free)
 contract_counted n d [] [] [] h i = record { ups = λ w. refl; downs = λ w. refl }
 contract_counted n d [] [] (o ∷ f') h i = elim i [ ]
@@ -98,6 +106,7 @@ contract_counted n d (a ∷ g) (None ∷ f) (Some r ∷ f') h i = let c = contra
 contract_counted n d (a ∷ g) (Some l ∷ f) (None ∷ f') h i = let c = contract_counted n d g f f' h i in record { ups = λ w. c.ups w; downs = λ w. omega (arith, c.downs w) }
 contract_counted n d (a ∷ g) (Some l ∷ f) (Some r ∷ f') h i = let c = contract_counted (suc n) d g f f' h i in record { ups = λ w. omega (arith, c.ups w); downs = λ w. omega (arith, c.downs w) }
 
+-- doors use the wires inside, and give those outside
 pub doors_counted : (n d : ℕ) (g : List TyTree) (f : List (Option ℕ)) → Aligned g f → Counted n (doors n d g f).wires (doors n d g f).nodes (ends f) (ends (doors n d g f).free)
 doors_counted n d [] [] h = record { ups = λ w. refl; downs = λ w. refl }
 doors_counted n d [] (o ∷ f) h = elim h [ ]
@@ -105,15 +114,18 @@ doors_counted n d (a ∷ g) [] h = elim h [ ]
 doors_counted n d (a ∷ g) (None ∷ f) h = let c = doors_counted n d g f h in record { ups = λ w. c.ups w; downs = λ w. c.downs w }
 doors_counted n d (a ∷ g) (Some x ∷ f) h = let c = doors_counted (suc n) d g f h in record { ups = λ w. omega (arith, c.ups w); downs = λ w. omega (arith, c.downs w) }
 
+-- a binder's wire is given apart from the others
 pub bound_counted : (n d : ℕ) (a : TyTree) (f : List (Option ℕ)) → Counted n (bound n d a f).wires (bound n d a f).nodes (ends f) (λ w. (if nat_eq (bound_wire n f) w then 1 else 0) + ends (bound n d a f).free w)
 bound_counted n d a [] = record { ups = λ w. omega arith; downs = λ w. omega arith }
 bound_counted n d a (None ∷ f) = record { ups = λ w. omega arith; downs = λ w. omega arith }
 bound_counted n d a (Some x ∷ f) = record { ups = λ w. refl; downs = λ w. omega arith }
 
+-- no variable has no wire
 none_ends : (g : List TyTree) (w : ℕ) → ends (none_free g) w ≡ 0
 none_ends [] w = refl
 none_ends (a ∷ g) w = none_ends g w
 
+-- one variable has its own wire
 one_ends : (g : List TyTree) (i x w : ℕ) (a : TyTree) → slice_get g i ≡ Some a → ends (one_free g i x) w ≡ (if nat_eq x w then 1 else 0)
 one_ends [] i x w a h = cc
 one_ends (b ∷ g) zero x w a h = omega (arith, none_ends g w)
@@ -130,15 +142,18 @@ join n ws vs ns ms i o i' o' c d = record {
   downs = λ w. omega (arith, c.downs w, d.downs w, named_append premises ns ms w, made_append n ws vs w);
 }
 
+-- the same, where ins and outs are counted in another way
 settle : (n : ℕ) (ws : List WireTree) (ns : List Node) (i o i' o' : ℕ → ℕ) → Counted n ws ns i o → ((w : ℕ) → o w + i' w ≡ i w + o' w) → Counted n ws ns i' o'
 settle n ws ns i o i' o' c h = record { ups = c.ups; downs = λ w. omega (arith, c.downs w, h w) }
 
+-- one node with its one conclusion
 one_node : (n : ℕ) (k : WireTree) (node : Node) (ins : List ℕ) → conclusions node ≡ n ∷ [] → premises node ≡ ins → Counted n (k ∷ []) (node ∷ []) (λ w. how_often w ins) (λ w. if nat_eq n w then 1 else 0)
 one_node n k node ins e e' = record {
   ups = λ w. ap (λ xs. how_often w xs + 0) e ∙ omega arith;
   downs = λ w. let z = ap (how_often w) e' in omega arith;
 }
 
+-- the forms, each once its operands are counted
 unary_counted : (node : ℕ → ℕ → Node) (t : TyTree) (n d : ℕ) (p : Part) → ((a w : ℕ) → (conclusions (node a w) ≡ w ∷ []) × (premises (node a w) ≡ a ∷ [])) → PartCounted n p → PartCounted n (unary_part node t n d p)
 unary_counted node t n d p e h =
     let w = n + length p.wires in
@@ -214,6 +229,7 @@ app_counted n d g p q ap aq hp hq =
     (join o x.wires _ x.nodes _ _ _ _ _ (doors_counted o d g q.free aq) box)))
     (λ w. omega arith)
 
+-- the wires of an operator's node, and of one that takes a part of a pair
 binary_ends : (o : Op) (a b w : ℕ) → (conclusions (binary_node o a b w) ≡ w ∷ []) × (premises (binary_node o a b w) ≡ a ∷ b ∷ [])
 binary_ends plus_op a b w = (refl, refl)
 binary_ends minus_op a b w = (refl, refl)
@@ -223,6 +239,7 @@ proj_ends : (s : Side) (a w : ℕ) → (conclusions (proj_node s a w) ≡ w ∷ 
 proj_ends left_side a w = (refl, refl)
 proj_ends right_side a w = (refl, refl)
 
+-- every typed part gives its value wire and its variables' wires, and uses up all others
 pub counted : (m : TermTree) (n d : ℕ) (g : List TyTree) (a : TyTree) → HasType g m a → PartCounted n (part n d g m)
 counted (num v) n d g a h = record { ups = λ w. omega arith; downs = λ w. omega (arith, none_ends g w) }
 counted (var i) n d g a h = record { ups = λ w. omega arith; downs = λ w. omega (arith, one_ends g i (suc n) w a h) }

@@ -22,11 +22,13 @@ end_at m b d t n = record { wires = b.wires ++ value_wire d t ∷ []; nodes = b.
 abbrev pub before : List WireTree → List Node → Part → Part
 before ws ns p = record { wires = ws ++ p.wires; nodes = ns ++ p.nodes; out = p.out; type = p.type; free = p.free }
 
+-- what a part is, once wires and nodes were added before it
 pub after : (s0 s1 s2 : Parts) (ws : List WireTree) (ns : List Node) (p : Part) (r : Placed) → Grows s0 s1 ws ns → Builds s1 s2 p r → Builds s0 s2 (before ws ns p) r
 after s0 s1 s2 ws ns p r g b =
     let f = subst (λ c. Spreads (length c) p.free r.free.items) g.context b.gives.free in
     record { grows = grows_then s0 s1 s2 ws p.wires ns p.nodes g b.grows; gives = record { out = b.gives.out; inside = b.gives.inside; type = b.gives.type; free = f } }
 
+-- a bundle and then a last value wire with its node: they are a part
 pub ending : (s0 s1 s2 : Parts) (b : Bundle) (us : List Loose) (d : ℕ) (t t' : TyTree) (n n' : Node) (r : Placed) → Bundles s0 s1 b us → Finishes s1 s2 d t n us r → t ≡ t' → n ≡ n' →
     Builds s0 s2 (end_at (length s0.wires.items) b d t' n') r
 ending s0 s1 s2 b us d t t' n n' r g f et en =
@@ -44,15 +46,18 @@ next_contract s0 s1 b us ts d g =
     let f : spread (length s1.context.items) (reverse us) ≡ b.free = ap (λ c. spread (length c) (reverse us)) g.grows.context ∙ g.free.spreads in
     λ k. contract (n k) d (context_of (g.grows.context k)) (spread (length (g.grows.context k)) (reverse ts)) (f k)
 
+-- doors of what a bundle left loose
 pub next_doors : (s0 s1 : Parts) (b : Bundle) (us : List Loose) (d : ℕ) → Bundles s0 s1 b us → doors_at s1 d us ≡ doors (length s0.wires.items + length b.wires) d (context_of s0.context.items) b.free
 next_doors s0 s1 b us d g =
     let n = grows_length s0 s1 b.wires b.nodes g.grows in
     let f : spread (length s1.context.items) (reverse us) ≡ b.free = ap (λ c. spread (length c) (reverse us)) g.grows.context ∙ g.free.spreads in
     λ k. doors (n k) d (context_of (g.grows.context k)) (f k)
 
+-- how many wires there are after a bundle
 pub bundle_wires : (s0 s1 : Parts) (b : Bundle) (us : List Loose) → Bundles s0 s1 b us → length s1.wires.items ≡ length s0.wires.items + length b.wires
 bundle_wires s0 s1 b us g = grows_length s0 s1 b.wires b.nodes g.grows
 
+-- the end of a form with one operand
 pub unary_ending : (s0 s1 s2 : Parts) (form : Unary) (d : ℕ) (p : Part) (r : Placed) (t : TyTree) (n : Node) (x : Placed) → Builds s0 s1 p r → t ≡ unary_type form (wire_type s1 r.out) → n ≡ unary_node form r.out (length s1.wires.items) →
     Finishes s1 s2 d t n r.free.items x → Builds s0 s2 (unary_at form s0 d p) x
 unary_ending s0 s1 s2 form d p r t n x b et en f =
@@ -61,6 +66,7 @@ unary_ending s0 s1 s2 form d p r t n x b et en f =
     let e : n ≡ unary_node form p.out w = en ∙ (λ k. unary_node form (b.gives.out k) (grows_length s0 s1 p.wires p.nodes b.grows k)) in
     ending s0 s1 s2 u r.free.items d t (unary_type form p.type) n (unary_node form p.out w) x (record { grows = b.grows; free = b.gives.free }) f (et ∙ ap (unary_type form) b.gives.type) e
 
+-- the end of a form with two operands
 pub double_ending : (s0 s1 s2 : Parts) (form : Double) (d : ℕ) (r r' : Placed) (us : List Loose) (t : TyTree) (n : Node) (x : Placed) → Bundles s0 s1 (contract_at s0 d r.free.items r'.free.items) us →
     t ≡ double_type form (wire_type s0 r.out) (wire_type s0 r'.out) → n ≡ double_node form r.out r'.out (length s1.wires.items) → Finishes s1 s2 d t n us x → Builds s0 s2 (double_here form s0 d r r') x
 double_ending s0 s1 s2 form d r r' us t n x g et en f =
@@ -86,6 +92,7 @@ ifz_ending s0 s1 s2 s3 d r r' r'' us vs n x g h en f =
 pub binds_bundle : (s0 s1 : Parts) (d : ℕ) (a : TyTree) (us vs : List Loose) (x : ℕ) → Binds s0 s1 d a us vs x → Bundles s0 s1 (bound (length s0.wires.items) d a (spread (suc (length s0.context.items)) (reverse us))) vs
 binds_bundle s0 s1 d a us vs x h = record { grows = h.grows; free = h.free }
 
+-- the end of a function: the binder's wire comes first
 pub lam_ending : (s0 s1 s2 : Parts) (d : ℕ) (a t : TyTree) (r : Placed) (us : List Loose) (y : ℕ) (n : Node) (x : Placed) → Binds s0 s1 d a r.free.items us y → t ≡ arrow a (wire_type s0 r.out) →
     n ≡ Lam r.out y (length s1.wires.items) → Finishes s1 s2 d t n us x → Builds s0 s2 (lam_here s0 d a r) x
 lam_ending s0 s1 s2 d a t r us y n x g et en f =
@@ -96,6 +103,7 @@ lam_ending s0 s1 s2 d a t r us y n x g et en f =
     let node = Lam r.out (bound_wire (length s0.wires.items) (body_frees s0 r)) w in
     ending s0 s1 s2 b us d t (arrow a (wire_type s0 r.out)) n node x g' f et (en ∙ (λ k. Lam r.out (g.wire k) (p k)))
 
+-- the end of a fix: the binder's wire, then the doors
 pub fix_ending : (s0 s1 s2 s3 : Parts) (d : ℕ) (a t : TyTree) (r : Placed) (us vs : List Loose) (y : ℕ) (n : Node) (x : Placed) → Binds s0 s1 (suc d) a r.free.items us y → Bundles s1 s2 (doors_at s1 d us) vs → t ≡ a →
     n ≡ FixBox r.out y (length s2.wires.items) → Finishes s2 s3 d t n vs x → Builds s0 s3 (fix_here s0 d a r) x
 fix_ending s0 s1 s2 s3 d a t r us vs y n x g h et en f =
@@ -111,6 +119,7 @@ fix_ending s0 s1 s2 s3 d a t r us vs y n x g h et en f =
     let z = ending s1 s2 s3 e vs d t a n node x h' f et en' in
     after s0 s1 s3 b.wires b.nodes (end_at m e d a node) x g.grows (subst (λ m'. Builds s1 s3 (end_at m' e d a node) x) q z)
 
+-- the end of an application: the box with its doors, then the contractions
 pub app_ending : (s0 s1 s2 s3 : Parts) (d : ℕ) (a t : TyTree) (r r' : Placed) (us vs : List Loose) (o : ℕ) (n : Node) (x : Placed) → a ≡ domain (wire_type s0 r.out) → t ≡ codomain (wire_type s0 r.out) →
     Bundles s0 s1 (box_here s0 d a r') us → o ≡ box_wire s0 d r' → Bundles s1 s2 (contract_at s1 d r.free.items us) vs → n ≡ App r.out o (length s2.wires.items) → Finishes s2 s3 d t n vs x →
     Builds s0 s3 (app_here s0 d r r') x

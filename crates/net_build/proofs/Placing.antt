@@ -23,6 +23,7 @@ use Rattle.net_build.proofs.Merging.{spread_at, spread_under, falling_more}
 pub moved : (s0 s1 : Parts) (p : Part) (d : ℕ) (t : TermTree) → Grows s0 s1 p.wires p.nodes → part_at s1 d t ≡ second_at s0 d p t
 moved s0 s1 p d t g = let n = grows_length s0 s1 p.wires p.nodes g in λ k. part (n k) d (context_of (g.context k)) t
 
+-- and from where two parts end
 pub moved_twice : (s0 s1 s2 : Parts) (p q : Part) (d : ℕ) (t : TermTree) → Grows s0 s1 p.wires p.nodes → Grows s1 s2 q.wires q.nodes → part_at s2 d t ≡ third_at s0 d p q t
 moved_twice s0 s1 s2 p q d t g h =
     let n : length s2.wires.items ≡ length s0.wires.items + length p.wires + length q.wires = grows_length s1 s2 q.wires q.nodes h ∙ ap (λ m. m + length q.wires) (grows_length s0 s1 p.wires p.nodes g) in
@@ -41,6 +42,7 @@ module _ (form : Double) (s0 s1 : Parts) (d : ℕ) (a b : TermTree) (r1 : Placed
     double_i : Builds s1 s2 (second_at s0 d (part_at s0 d a) b) r2
     double_i = subst (λ q. Builds s1 s2 q r2) double_second i
 
+    -- the end that is built from there is the definition's
     double_path : double_here form s2 d r1 r2 ≡ (let p = part_at s0 d a in let q = second_at s0 d p b in double_end (double_node form) (double_type form p.type q.type) (length s0.wires.items + length p.wires + length q.wires) d (context_of s0.context.items) p.out q.out p.free q.free)
     double_path =
         let p = part_at s0 d a in
@@ -52,6 +54,7 @@ module _ (form : Double) (s0 s1 : Parts) (d : ℕ) (a b : TermTree) (r1 : Placed
         let t : wire_type s2 r1.out ≡ p.type = kept_type s1 s2 q.wires q.nodes r1.out double_i.grows h.gives.inside ∙ h.gives.type in
         λ k. double_end (double_node form) (double_type form (t k) (double_i.gives.type k)) (n k) d (context_of (c k)) (h.gives.out k) (double_i.gives.out k) (f k) (f' k)
 
+    -- both operands and the end are the whole
     pub double_builds : (s3 : Parts) (r : Placed) → Builds s2 s3 (double_here form s2 d r1 r2) r → Builds s0 s3 (double_of form s0 d a b) r
     double_builds s3 r j =
         let p = part_at s0 d a in
@@ -81,6 +84,7 @@ module _ (s0 s1 : Parts) (d : ℕ) (a b c : TermTree) (r1 : Placed) (h : Builds 
     ifz_i : Builds s1 s2 (second_at s0 d (part_at s0 d a) b) r2
     ifz_i = subst (λ q. Builds s1 s2 q r2) (moved s0 s1 (part_at s0 d a) d b h.grows) i
 
+    -- the third operand, built from where the second ends
     ifz_moved : part_at s2 d c ≡ third_at s0 d (part_at s0 d a) (second_at s0 d (part_at s0 d a) b) c
     ifz_moved = moved_twice s0 s1 s2 (part_at s0 d a) (second_at s0 d (part_at s0 d a) b) d c h.grows ifz_i.grows
 
@@ -98,6 +102,7 @@ module _ (s0 s1 : Parts) (d : ℕ) (a b c : TermTree) (r1 : Placed) (h : Builds 
       ifz_j : Builds s2 s3 (third_at s0 d (part_at s0 d a) (second_at s0 d (part_at s0 d a) b) c) r3
       ifz_j = subst (λ q. Builds s2 s3 q r3) ifz_moved j
 
+      -- the next wire after all three
       ifz_next : length s3.wires.items ≡ length s0.wires.items + length ifz_first.wires + length ifz_second.wires + length ifz_third.wires
       unfolding ifz_first ifz_second ifz_third
       ifz_next =
@@ -106,6 +111,7 @@ module _ (s0 s1 : Parts) (d : ℕ) (a b c : TermTree) (r1 : Placed) (h : Builds 
           let r = third_at s0 d p q c in
           grows_length s2 s3 r.wires r.nodes ifz_j.grows ∙ ap (λ m. m + length r.wires) (grows_length s1 s2 q.wires q.nodes ifz_i.grows ∙ ap (λ m. m + length q.wires) (grows_length s0 s1 p.wires p.nodes h.grows))
 
+      -- the end that is built from there is the definition's
       ifz_path : ifz_here s3 d r1 r2 r3 ≡ ifz_rest
       unfolding ifz_rest ifz_first ifz_second ifz_third
       ifz_path =
@@ -128,6 +134,7 @@ module _ (s0 s1 : Parts) (d : ℕ) (a b c : TermTree) (r1 : Placed) (h : Builds 
           let e : length (ifz_here s3 d r1 r2 r3).wires ≡ length ifz_rest.wires = ap (λ q. length q.wires) ifz_path in
           omega (arith, k, e, ifz_next, length-append p.wires (q.wires ++ (r.wires ++ ifz_rest.wires)), length-append q.wires (r.wires ++ ifz_rest.wires), length-append r.wires ifz_rest.wires)
 
+      -- all three operands and the end are the whole
       pub ifz_builds : (s4 : Parts) (x : Placed) → Builds s3 s4 (ifz_here s3 d r1 r2 r3) x → Builds s0 s4 (part_at s0 d (ifz a b c)) x
       unfolding ifz_rest
       ifz_builds s4 x k =
@@ -149,6 +156,7 @@ module _ (s0 s1 : Parts) (d : ℕ) (a b : TermTree) (r1 : Placed) (h : Builds s0
     app_i : Builds s1 s2 (second_at s0 (suc d) (part_at s0 d a) b) r2
     app_i = subst (λ q. Builds s1 s2 q r2) (moved s0 s1 (part_at s0 d a) (suc d) b h.grows) i
 
+    -- the end that is built from there is the definition's
     app_path : app_here s2 d r1 r2 ≡ app_rest
     unfolding app_rest
     app_path =
@@ -161,6 +169,7 @@ module _ (s0 s1 : Parts) (d : ℕ) (a b : TermTree) (r1 : Placed) (h : Builds s0
         let t : wire_type s2 r1.out ≡ p.type = kept_type s1 s2 q.wires q.nodes r1.out app_i.grows h.gives.inside ∙ h.gives.type in
         λ k. app_end (n k) d (context_of (c k)) (t k) (h.gives.out k) (app_i.gives.out k) (f k) (f' k)
 
+    -- function, argument and the end are the whole
     pub app_builds : (s3 : Parts) (r : Placed) → Builds s2 s3 (app_here s2 d r1 r2) r → Builds s0 s3 (part_at s0 d (app a b)) r
     unfolding app_rest
     app_builds s3 r j =
@@ -181,6 +190,7 @@ module _ (s0 s1 : Parts) (d : ℕ) (t : TyTree) (m : TermTree) (r1 : Placed) (h 
       let f = body_free_at s0 s1 s1 p r1 h.gives h.grows.context in
       λ k. lam_end (n k) d t (h.gives.type k) (h.gives.out k) (f k)
 
+  -- the body and the end are the whole
   pub lam_builds : (s2 : Parts) (r : Placed) → Builds s1 s2 (lam_here s1 d t r1) r → Builds s0 s2 (part_at s0 d (lam t m)) r
   lam_builds s2 r j =
       let p = body_at s0 d t m in
@@ -203,20 +213,24 @@ module _ (s0 s1 : Parts) (d : ℕ) (t : TyTree) (m : TermTree) (r1 : Placed) (h 
       let e : length (fix_here s1 d t r1).wires ≡ length c.wires = ap (λ q. length q.wires) fix_path in
       omega (arith, l, e, grows_length s0 s1 p.wires p.nodes h.grows, length-append p.wires c.wires)
 
+  -- the body and the end are the whole
   pub fix_builds : (s2 : Parts) (r : Placed) → Builds s1 s2 (fix_here s1 d t r1) r → Builds s0 s2 (part_at s0 d (fix t m)) r
   fix_builds s2 r j =
       let p = body_at s0 (suc d) t m in
       let c = fix_end (length s0.wires.items + length p.wires) d (context_of s0.context.items) t p.out p.free in
       after s0 s1 s2 p.wires p.nodes c r h.grows (subst (λ t. Builds s1 s2 t r) fix_path j)
 
+-- the same, where the argument's depth is told as a number of its own
 pub app_builds_at : (s0 s1 s2 s3 : Parts) (d d' : ℕ) (a b : TermTree) (r1 r2 r : Placed) → d' ≡ suc d → Builds s0 s1 (part_at s0 d a) r1 → Builds s1 s2 (part_at s1 d' b) r2 → Builds s2 s3 (app_here s2 d r1 r2) r →
     Builds s0 s3 (part_at s0 d (app a b)) r
 app_builds_at s0 s1 s2 s3 d d' a b r1 r2 r e h i j = app_builds s0 s1 d a b r1 h s2 r2 (subst (λ d'. Builds s1 s2 (part_at s1 d' b) r2) e i) s3 r j
 
+-- the same of a body whose depth is told as a number of its own: room for its end
 pub fix_close_room_at : (s0 s1 : Parts) (d d' : ℕ) (t : TyTree) (m : TermTree) (r1 : Placed) → d' ≡ suc d → BuildsBody s0 s1 (body_at s0 d' t m) r1 →
     HasRoom s0 d (part_at s0 d (fix t m)) → HasRoom s1 d (fix_here s1 d t r1)
 fix_close_room_at s0 s1 d d' t m r1 e h l = fix_close_room s0 s1 d t m r1 (subst (λ d'. BuildsBody s0 s1 (body_at s0 d' t m) r1) e h) l
 
+-- and the whole
 pub fix_builds_at : (s0 s1 s2 : Parts) (d d' : ℕ) (t : TyTree) (m : TermTree) (r1 r : Placed) → d' ≡ suc d → BuildsBody s0 s1 (body_at s0 d' t m) r1 → Builds s1 s2 (fix_here s1 d t r1) r → Builds s0 s2 (part_at s0 d (fix t m)) r
 fix_builds_at s0 s1 s2 d d' t m r1 r e h j = fix_builds s0 s1 d t m r1 (subst (λ d'. BuildsBody s0 s1 (body_at s0 d' t m) r1) e h) s2 r j
 
@@ -248,9 +262,11 @@ one_spreads (t ∷ g) (suc k) (suc i) w h = go (cases_lt i k) (one_spreads g k i
         let s' = subst (Spreads k (one_free g i w)) e s in
         subst (Spreads (suc k) (None ∷ one_free g i w)) (sym e') (record { spreads = ap (λ f. None ∷ f) s'.spreads; falling = tt })
 
+-- one node was added, and no wire
 pub node_grows : (old new : Parts) (n : Node) → new.wires.items ≡ old.wires.items → new.nodes.items ≡ old.nodes.items ++ n ∷ [] → new.context.items ≡ old.context.items → Grows old new [] (n ∷ [])
 node_grows old new n ew en ec = record { wires = ap (map wire_of) ew ∙ sym (append-nil (map wire_of old.wires.items)); nodes = en; context = ec }
 
+-- both wires of a variable and its Der are its part
 pub variable_builds : (old mid new : Parts) (d i x : ℕ) (a : TyTree) (r : Placed) → Grows old mid (value_wire d a ∷ var_wire d a ∷ []) [] → r.out ≡ length old.wires.items → a ≡ type_or_nat (slice_get (context_of old.context.items) i) →
     x ≡ suc (length old.wires.items) → Grows mid new [] (Der r.out x ∷ []) → r.free.items ≡ one_at (length old.context.items) i x → Builds old new (part_at old d (var i)) r
 variable_builds old mid new d i x a r g eo et ex h ef =

@@ -12,6 +12,7 @@ use Rattle.net_build.specs.Sound.{how_often, named}
 use Rattle.net_build.proofs.Entries.{get_set_same, get_set_other}
 use Rattle.net_check.specs.Counts.{capped, once_more, bumped, Counted, lesser_of, past_from}
 
+-- one more than a capped count
 once_capped : (n : ℕ) → once_more (capped n) ≡ capped (suc n)
 once_capped zero = refl
 once_capped (suc zero) = refl
@@ -29,10 +30,12 @@ bump_one cs x w m l h = go (cases_eq x w)
         (rw (eq-eqb w w refl, o, q) (get_set_same cs w (once_more (capped m)) l ∙ ap Some (once_capped m)))
     go (inr e) = let o : 0 + m ≡ m = omega arith in rw (ne_eqb x w e, o) (get_set_other cs x w (once_more (slice_index cs x)) e ∙ h)
 
+-- as many counts as before
 bumped_length : (ws cs : List ℕ) → length (bumped ws cs) ≡ length cs
 bumped_length [] cs = refl
 bumped_length (w ∷ ws) cs = bumped_length ws (slice_set cs w (once_more (slice_index cs w))) ∙ length-set cs w (once_more (slice_index cs w))
 
+-- the counts over a node's wires
 bumped_entry : (ws cs : List ℕ) (w m : ℕ) → w < length cs → slice_get cs w ≡ Some (capped m) → slice_get (bumped ws cs) w ≡ Some (capped (how_often w ws + m))
 bumped_entry [] cs w m l h = let o : 0 + m ≡ m = omega arith in rw o h
 bumped_entry (x ∷ ws) cs w m l h =
@@ -41,6 +44,7 @@ bumped_entry (x ∷ ws) cs w m l h =
     subst (λ n. slice_get (bumped ws (slice_set cs x (once_more (slice_index cs x)))) w ≡ Some (capped n)) o
     (bumped_entry ws (slice_set cs x (once_more (slice_index cs x))) w (k + m) (rw (length-set cs x (once_more (slice_index cs x))) l) (bump_one cs x w m l h))
 
+-- one node more is named
 named_snoc : (side : Node → List ℕ) (ns : List Node) (n : Node) (w : ℕ) → named side (ns ++ n ∷ []) w ≡ how_often w (side n) + named side ns w
 named_snoc side [] n w = omega arith
 named_snoc side (m ∷ ns) n w = let h = named_snoc side ns n w in omega arith
@@ -65,11 +69,13 @@ lesser_two count None (Some b) o = refl
 lesser_two count (Some a) None o = refl
 lesser_two count (Some a) (Some b) o = refl
 
+-- the same of three
 pub lesser_three : (count : ℕ) (a b c : Option ℕ) (o : Option ℕ) →
     lesser_of count (present (c ∷ [])) (lesser_of count (present (b ∷ [])) (lesser_of count (present (a ∷ [])) o)) ≡ lesser_of count (present (a ∷ b ∷ c ∷ [])) o
 lesser_three count None b c o = lesser_two count b c o
 lesser_three count (Some a) b c o = lesser_two count b c (lesser_of count (a ∷ []) o)
 
+-- one node more
 past_snoc : (count : ℕ) (ns : List Node) (n : Node) (o : Option ℕ) → past_from count (ns ++ n ∷ []) o ≡ lesser_of count (premises n) (lesser_of count (conclusions n) (past_from count ns o))
 past_snoc count [] n o = refl
 past_snoc count (m ∷ ns) n o = past_snoc count ns n (lesser_of count (premises m) (lesser_of count (conclusions m) o))

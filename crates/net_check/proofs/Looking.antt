@@ -19,6 +19,7 @@ abbrev PastOk : (ℕ → ℕ) → ℕ → Option ℕ → Type 0
 PastOk f count None = (w : ℕ) → count ≤ w → f w ≡ 0
 PastOk f count (Some n) = (count ≤ n) × (0 < f n) × ((m : ℕ) → count ≤ m → m < n → f m ≡ 0)
 
+-- the same of equal counts
 past_same : (f g : ℕ → ℕ) (count : ℕ) (o : Option ℕ) → ((w : ℕ) → f w ≡ g w) → PastOk f count o → PastOk g count o
 past_same f g count None e h = λ w l. sym (e w) ∙ h w l
 past_same f g count (Some n) e h = (h.0, subst (λ k. 0 < k) (e n) h.1, λ m l k. sym (e m) ∙ h.2 m l k)
@@ -27,15 +28,18 @@ past_same f g count (Some n) e h = (h.0, subst (λ k. 0 < k) (e n) h.1, λ m l k
 abbrev one : ℕ → ℕ → ℕ
 one x w = if nat_eq x w then 1 else 0
 
+-- a wire counts once for itself, and for no other
 one_same : (x : ℕ) → one x x ≡ 1
 one_same x = rw (eq-eqb x x refl) refl
 
 one_other : (x w : ℕ) → (x ≡ w → ⊥) → one x w ≡ 0
 one_other x w n = rw (ne_eqb x w n) refl
 
+-- a lesser number that is past the list
 past_new : (f : ℕ → ℕ) (count x : ℕ) → count ≤ x → ((m : ℕ) → count ≤ m → m < x → f m ≡ 0) → PastOk (λ w. f w + one x w) count (Some x)
 past_new f count x l h = (l, omega (arith, one_same x), λ m k j. omega (arith, h m k j, one_other x m (λ e. omega (arith, e, j))))
 
+-- over one wire, over a node's wires, over all nodes
 past_one : (f : ℕ → ℕ) (count x : ℕ) (o : Option ℕ) → PastOk f count o → PastOk (λ w. f w + one x w) count (if nat_lt x count then o else lesser x o)
 past_one f count x o h = go (cases_lt x count) o h
   where
@@ -64,14 +68,17 @@ past_nodes (n ∷ ns) f count o h =
     past_same (λ w. f w + how_often w (conclusions n) + how_often w (premises n) + (named conclusions ns w + named premises ns w)) (λ w. f w + (named conclusions (n ∷ ns) w + named premises (n ∷ ns) w)) count
     (past_from count (n ∷ ns) o) (λ w. omega arith) r
 
+-- the least number past the list that any node names
 past_all : (ns : List Node) (count : ℕ) → PastOk (λ w. 0 + (named conclusions ns w + named premises ns w)) count (past_from count ns None)
 past_all ns count = past_nodes ns (λ w. 0) count None (λ w l. refl)
 
+-- a capped count of 1 is 1
 capped_one : (n : ℕ) → capped n ≡ 1 → n ≡ 1
 capped_one zero e = absurd (omega (arith, e))
 capped_one (suc zero) e = refl
 capped_one (suc (suc n)) e = absurd (omega (arith, e))
 
+-- what two equal options hold
 some_in : (a b : ℕ) → Some a ≡ Some b → a ≡ b
 some_in a b e = ap (λ o. unwrap_or o a) e
 
@@ -81,6 +88,7 @@ counts_one : (net : NetTree) (cs ds : List ℕ) → Counted conclusions (length 
 counts_one net cs ds h i n l e =
     (capped_one _ (some_in _ _ (sym (h.entry n l) ∙ e.0)), capped_one _ (some_in _ _ (sym (i.entry n l) ∙ e.1)))
 
+-- where each wire of the list stands once on both sides, the least number past it decides
 pub loose_past : (net : NetTree) (cs ds : List ℕ) → Counted conclusions (length net.wires) net.nodes cs → Counted premises (length net.wires) net.nodes ds → IsLeastOdd cs ds None → (o : Option ℕ) → o ≡ past_from (length net.wires) net.nodes None →
     IsFirstLoose net o
 loose_past net cs ds h i odd o e = go o (subst (PastOk (λ w. 0 + (named conclusions net.nodes w + named premises net.nodes w)) (length net.wires)) (sym e) (past_all net.nodes (length net.wires)))
