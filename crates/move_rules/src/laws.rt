@@ -1,8 +1,8 @@
 //! What holds of the table of moves and of walks.
 ghost use Rattle.move_rules.specs.Laws.{Retrace, FacedMove, OneWalk, TrailWalks};
 
-/// Plain moves can be retraced: on a sound net, where a plain rule leads from one place to another, the same rules lead from the
-/// second, turned round, to the first, turned round.
+/// What a plain rule does can be retraced: on a sound net, where a plain rule leads from one place to another, the same rules lead from
+/// the second, turned round, to the first, turned round. It says nothing of the solo moves at a constant, `succ`, `pred` or a test.
 pub fn law_retrace()
     ensures { Retrace }
 {}

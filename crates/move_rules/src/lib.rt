@@ -2,8 +2,9 @@
 //!
 //! `plain_move` and `walk` take any token on any net and make the moves that the table gives it there, in place; the answer is a
 //! `Moved`, which keeps as its type that the token afterwards is reached from the one before by one such move through each node of
-//! its trail in turn. `law_retrace` says that plain moves on a sound net can be retraced. Forks, joins and the answer are rows of the
-//! same table, but whoever makes them needs more than one token; they are left to the crates above.
+//! its trail in turn. `law_retrace` says that a move by a plain rule on a sound net can be retraced; it says nothing of the other solo
+//! moves, and one at a constant can't be. Forks, joins and the answer are rows of the same table, but whoever makes them needs more
+//! than one token; they are left to the crates above.
 #![tactic(auto)]
 
 mod ground;

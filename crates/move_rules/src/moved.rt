@@ -101,8 +101,9 @@ pub fn walk(alloc: Global, net: &Net, token: Token, most: u32) -> Result<Moved, 
     })
 }
 
-/// Makes the token's next move on this net if it is a solo move, and none otherwise: the trail is empty exactly where the next move is
-/// a fork, a join, the answer, or none. It holds for every token of every net.
+/// Makes the token's next move on this net if it is a solo move, by a plain rule or by that of a constant, `succ`, `pred` or a test, and
+/// none otherwise: the trail is empty exactly where the next move is a fork, a join, the answer, or none. It holds for every token of
+/// every net.
 pub fn plain_move(alloc: Global, net: &Net, token: Token) -> Result<Moved, AllocError>
     ensures before { IfOk result (λ m. m.before ≡ token) }
     ensures moved { IfOk result (λ m. MadeIfSolo net.now m (move net.now (token_of token))) }

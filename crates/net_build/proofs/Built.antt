@@ -286,7 +286,7 @@ module _ (net : NetTree) where
       fine_at d g a (side_type s p.type) _ (h.3 ∙ sym e)
       (unary_fine (proj_node s) (side_type s p.type) (product h.0 h.1) n d g p (λ w i j. proj_meets s d p.out w h.0 h.1 i (subst (λ t. Is net w (value_wire d t)) e j)) x w)
 
-roots_append : (a b : List Node) → roots (a ++ b) ≡ roots a + roots b
+pub roots_append : (a b : List Node) → roots (a ++ b) ≡ roots a + roots b
 roots_append [] b = omega arith
 roots_append (Root w ∷ a) b = let h = roots_append a b in omega arith
 roots_append (n ∷ a) b = roots_append a b
@@ -375,7 +375,7 @@ part_roots (pair m l) n d g =
     double_roots Pair (product p.type q.type) n d g p q (λ a b w. refl) (part_roots m n d g) (part_roots l (n + length p.wires) d g)
 part_roots (proj s m) n d g = both_none (part n d g m).nodes _ (part_roots m n d g) (proj_root s _ _)
 
-nth_seam : (pre : List WireTree) (k : WireTree) (ks : List WireTree) → slice_get (pre ++ k ∷ ks) (length pre) ≡ Some k
+pub nth_seam : (pre : List WireTree) (k : WireTree) (ks : List WireTree) → slice_get (pre ++ k ∷ ks) (length pre) ≡ Some k
 nth_seam [] k ks = refl
 nth_seam (x ∷ pre) k ks = nth_seam pre k ks
 

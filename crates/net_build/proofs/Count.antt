@@ -46,7 +46,7 @@ pub record Counted (n : ℕ) (wires : List WireTree) (nodes : List Node) (ins ou
   pub ups : (w : ℕ) → named conclusions nodes w ≡ made n wires w
   pub downs : (w : ℕ) → named premises nodes w + outs w ≡ ins w + made n wires w
 
-contract_aligned : (n d : ℕ) (g : List TyTree) (f f' : List (Option ℕ)) → Aligned g f → Aligned g f' → Aligned g (contract n d g f f').free
+pub contract_aligned : (n d : ℕ) (g : List TyTree) (f f' : List (Option ℕ)) → Aligned g f → Aligned g f' → Aligned g (contract n d g f f').free
 contract_aligned n d [] f f' h i = tt
 contract_aligned n d (a ∷ g) [] f' h i = i
 contract_aligned n d (a ∷ g) (o ∷ f) [] h i = h
@@ -54,22 +54,22 @@ contract_aligned n d (a ∷ g) (None ∷ f) (o ∷ f') h i = contract_aligned n 
 contract_aligned n d (a ∷ g) (Some l ∷ f) (None ∷ f') h i = contract_aligned n d g f f' h i
 contract_aligned n d (a ∷ g) (Some l ∷ f) (Some r ∷ f') h i = contract_aligned (suc n) d g f f' h i
 
-doors_aligned : (n d : ℕ) (g : List TyTree) (f : List (Option ℕ)) → Aligned g f → Aligned g (doors n d g f).free
+pub doors_aligned : (n d : ℕ) (g : List TyTree) (f : List (Option ℕ)) → Aligned g f → Aligned g (doors n d g f).free
 doors_aligned n d [] f h = tt
 doors_aligned n d (a ∷ g) [] h = elim h [ ]
 doors_aligned n d (a ∷ g) (None ∷ f) h = doors_aligned n d g f h
 doors_aligned n d (a ∷ g) (Some x ∷ f) h = doors_aligned (suc n) d g f h
 
-bound_aligned : (n d : ℕ) (a : TyTree) (g : List TyTree) (f : List (Option ℕ)) → Aligned (a ∷ g) f → Aligned g (bound n d a f).free
+pub bound_aligned : (n d : ℕ) (a : TyTree) (g : List TyTree) (f : List (Option ℕ)) → Aligned (a ∷ g) f → Aligned g (bound n d a f).free
 bound_aligned n d a g [] h = elim h [ ]
 bound_aligned n d a g (None ∷ f) h = h
 bound_aligned n d a g (Some x ∷ f) h = h
 
-none_aligned : (g : List TyTree) → Aligned g (none_free g)
+pub none_aligned : (g : List TyTree) → Aligned g (none_free g)
 none_aligned [] = tt
 none_aligned (a ∷ g) = none_aligned g
 
-one_aligned : (g : List TyTree) (i x : ℕ) → Aligned g (one_free g i x)
+pub one_aligned : (g : List TyTree) (i x : ℕ) → Aligned g (one_free g i x)
 one_aligned [] i x = tt
 one_aligned (a ∷ g) zero x = none_aligned g
 one_aligned (a ∷ g) (suc i) x = one_aligned g i x
@@ -87,7 +87,7 @@ aligned (app m l) n d g = contract_aligned _ d g _ _ (aligned m n d g) (doors_al
 aligned (pair m l) n d g = contract_aligned _ d g _ _ (aligned m n d g) (aligned l _ d g)
 aligned (proj s m) n d g = aligned m n d g
 
-contract_counted : (n d : ℕ) (g : List TyTree) (f f' : List (Option ℕ)) → Aligned g f → Aligned g f' → Counted n (contract n d g f f').wires (contract n d g f f').nodes (λ w. ends f w + ends f' w) (ends (contract n d g f f').free)
+pub contract_counted : (n d : ℕ) (g : List TyTree) (f f' : List (Option ℕ)) → Aligned g f → Aligned g f' → Counted n (contract n d g f f').wires (contract n d g f f').nodes (λ w. ends f w + ends f' w) (ends (contract n d g f f').free)
 contract_counted n d [] [] [] h i = record { ups = λ w. refl; downs = λ w. refl }
 contract_counted n d [] [] (o ∷ f') h i = elim i [ ]
 contract_counted n d [] (o ∷ f) f' h i = elim h [ ]
@@ -98,14 +98,14 @@ contract_counted n d (a ∷ g) (None ∷ f) (Some r ∷ f') h i = let c = contra
 contract_counted n d (a ∷ g) (Some l ∷ f) (None ∷ f') h i = let c = contract_counted n d g f f' h i in record { ups = λ w. c.ups w; downs = λ w. omega (arith, c.downs w) }
 contract_counted n d (a ∷ g) (Some l ∷ f) (Some r ∷ f') h i = let c = contract_counted (suc n) d g f f' h i in record { ups = λ w. omega (arith, c.ups w); downs = λ w. omega (arith, c.downs w) }
 
-doors_counted : (n d : ℕ) (g : List TyTree) (f : List (Option ℕ)) → Aligned g f → Counted n (doors n d g f).wires (doors n d g f).nodes (ends f) (ends (doors n d g f).free)
+pub doors_counted : (n d : ℕ) (g : List TyTree) (f : List (Option ℕ)) → Aligned g f → Counted n (doors n d g f).wires (doors n d g f).nodes (ends f) (ends (doors n d g f).free)
 doors_counted n d [] [] h = record { ups = λ w. refl; downs = λ w. refl }
 doors_counted n d [] (o ∷ f) h = elim h [ ]
 doors_counted n d (a ∷ g) [] h = elim h [ ]
 doors_counted n d (a ∷ g) (None ∷ f) h = let c = doors_counted n d g f h in record { ups = λ w. c.ups w; downs = λ w. c.downs w }
 doors_counted n d (a ∷ g) (Some x ∷ f) h = let c = doors_counted (suc n) d g f h in record { ups = λ w. omega (arith, c.ups w); downs = λ w. omega (arith, c.downs w) }
 
-bound_counted : (n d : ℕ) (a : TyTree) (f : List (Option ℕ)) → Counted n (bound n d a f).wires (bound n d a f).nodes (ends f) (λ w. (if nat_eq (bound_wire n f) w then 1 else 0) + ends (bound n d a f).free w)
+pub bound_counted : (n d : ℕ) (a : TyTree) (f : List (Option ℕ)) → Counted n (bound n d a f).wires (bound n d a f).nodes (ends f) (λ w. (if nat_eq (bound_wire n f) w then 1 else 0) + ends (bound n d a f).free w)
 bound_counted n d a [] = record { ups = λ w. omega arith; downs = λ w. omega arith }
 bound_counted n d a (None ∷ f) = record { ups = λ w. omega arith; downs = λ w. omega arith }
 bound_counted n d a (Some x ∷ f) = record { ups = λ w. refl; downs = λ w. omega arith }

@@ -1,5 +1,5 @@
 -- The last wires and nodes of each form, once its parts are placed.
-use Rattle.std.proofs.Common.{◌≡◌, ℕ, suc, ◌+◌, ◌<◌, ◌^◌, List, [], ◌∷◌, ◌++◌, length, reverse, Option, refl, sym, ap, ◌∙◌, subst, arith}
+use Rattle.std.proofs.Common.{◌≡◌, ℕ, suc, ◌+◌, List, [], ◌∷◌, ◌++◌, length, reverse, refl, sym, ap, ◌∙◌, subst, arith}
 use Rattle.std.proofs.lemmas.List.{append_assoc, length-append}
 use Rattle.pcf_values.specs.Terms.{TyTree, nat, arrow}
 use Rattle.net_build.specs.declared.node.Node.{Node}
@@ -11,7 +11,7 @@ use Rattle.net_build.specs.declared.double.Double.{Double}
 use Rattle.net_build.specs.declared.unary.Unary.{Unary}
 use Rattle.net_build.specs.Nets.{WireTree, value_wire, bang_wire}
 use Rattle.net_build.specs.NetOf.{Bundle, Part, contract, doors, bound, bound_wire, domain, codomain}
-use Rattle.net_build.specs.Building.{context_of, spread, Falling, Grows, Spreads, Builds, Bundles, Finishes, Binds, contract_at, doors_at, frees, body_frees, wire_type, unary_node, unary_type, unary_at, double_node, double_type, double_here, lam_here, ifz_here, fix_here, app_here, box_here, box_wire}
+use Rattle.net_build.specs.Building.{context_of, spread, Grows, Spreads, Builds, Bundles, Finishes, Binds, contract_at, doors_at, frees, body_frees, wire_type, unary_node, unary_type, unary_at, double_node, double_type, double_here, lam_here, ifz_here, fix_here, app_here, box_here, box_wire}
 use Rattle.net_build.proofs.Growing.{grows_then, grows_length, new_type, new_inside}
 
 -- a bundle and then the last value wire with its node
@@ -50,23 +50,6 @@ next_doors s0 s1 b us d g =
     let f : spread (length s1.context.items) (reverse us) ≡ b.free = ap (λ c. spread (length c) (reverse us)) g.grows.context ∙ g.free.spreads in
     λ k. doors (n k) d (context_of (g.grows.context k)) (f k)
 
-pub falling_at : (s0 s1 : Parts) (b : Bundle) (us : List Loose) → Bundles s0 s1 b us → Falling (length s1.context.items) (reverse us)
-falling_at s0 s1 b us g = subst (λ c. Falling (length c) (reverse us)) (sym g.grows.context) g.free.falling
-
-pub falling_kept : (s0 s1 : Parts) (b : Bundle) (us ts : List Loose) → Bundles s0 s1 b us → Falling (length s0.context.items) (reverse ts) → Falling (length s1.context.items) (reverse ts)
-falling_kept s0 s1 b us ts g h = subst (λ c. Falling (length c) (reverse ts)) (sym g.grows.context) h
-
--- room for a list is room for its front, and for what comes next
-pub room_front : {A : Type 0} (n : ℕ) (a b : List A) → n + length (a ++ b) < 2 ^ 32 → n + length a < 2 ^ 32
-room_front n a b l = omega (arith, l, length-append a b)
-
-pub room_back : {A : Type 0} (n : ℕ) (a b : List A) → n + length (a ++ b) < 2 ^ 32 → n + length a + length b < 2 ^ 32
-room_back n a b l = omega (arith, l, length-append a b)
-
--- room for one wire, where another one still comes
-pub room_next : {A : Type 0} (n m : ℕ) (a : List A) (x : A) → m ≡ n + length a → n + length (a ++ x ∷ []) < 2 ^ 32 → m < 2 ^ 32
-room_next n m a x e l = omega (arith, l, e, length-append a (x ∷ []))
-
 pub bundle_wires : (s0 s1 : Parts) (b : Bundle) (us : List Loose) → Bundles s0 s1 b us → length s1.wires.items ≡ length s0.wires.items + length b.wires
 bundle_wires s0 s1 b us g = grows_length s0 s1 b.wires b.nodes g.grows
 
@@ -99,15 +82,6 @@ ifz_ending s0 s1 s2 s3 d r r' r'' us vs n x g h en f =
     let b = ending s1 s2 s3 j vs d nat nat n (Ifz r.out r'.out r''.out (m + length j.wires)) x h' f refl (en ∙ ap (λ w. Ifz r.out r'.out r''.out w) p) in
     after s0 s1 s3 i.wires i.nodes (end_at m j d nat (Ifz r.out r'.out r''.out (m + length j.wires))) x g.grows (subst (λ m'. Builds s1 s3 (end_at m' j d nat (Ifz r.out r'.out r''.out (m + length j.wires))) x) q b)
 
-pub ifz_room : (s0 s1 : Parts) (d : ℕ) (r r' r'' : Placed) (us : List Loose) → Bundles s0 s1 (contract_at s0 d r'.free.items r''.free.items) us → length s0.wires.items + length (ifz_here s0 d r r' r'').wires < 2 ^ 32 →
-    length s1.wires.items + suc (length (contract_at s1 d r.free.items us).wires) < 2 ^ 32
-ifz_room s0 s1 d r r' r'' us g l =
-    let i = contract_at s0 d r'.free.items r''.free.items in
-    let m = length s0.wires.items + length i.wires in
-    let j = contract m d (context_of s0.context.items) (frees s0 r) i.free in
-    let e : length (contract_at s1 d r.free.items us).wires ≡ length j.wires = ap (λ b. length b.wires) (next_contract s0 s1 i us r.free.items d g) in
-    omega (arith, l, e, bundle_wires s0 s1 i us g, length-append i.wires (j.wires ++ value_wire d nat ∷ []), length-append j.wires (value_wire d nat ∷ []))
-
 -- the binder's wire, as a bundle
 pub binds_bundle : (s0 s1 : Parts) (d : ℕ) (a : TyTree) (us vs : List Loose) (x : ℕ) → Binds s0 s1 d a us vs x → Bundles s0 s1 (bound (length s0.wires.items) d a (spread (suc (length s0.context.items)) (reverse us))) vs
 binds_bundle s0 s1 d a us vs x h = record { grows = h.grows; free = h.free }
@@ -137,28 +111,6 @@ fix_ending s0 s1 s2 s3 d a t r us vs y n x g h et en f =
     let z = ending s1 s2 s3 e vs d t a n node x h' f et en' in
     after s0 s1 s3 b.wires b.nodes (end_at m e d a node) x g.grows (subst (λ m'. Builds s1 s3 (end_at m' e d a node) x) q z)
 
-pub fix_room : (s0 s1 : Parts) (d : ℕ) (a : TyTree) (r : Placed) (us : List Loose) (y : ℕ) → Binds s0 s1 (suc d) a r.free.items us y → length s0.wires.items + length (fix_here s0 d a r).wires < 2 ^ 32 →
-    length s1.wires.items + suc (length (doors_at s1 d us).wires) < 2 ^ 32
-fix_room s0 s1 d a r us y g l =
-    let b = bound (length s0.wires.items) (suc d) a (body_frees s0 r) in
-    let g' = binds_bundle s0 s1 (suc d) a r.free.items us y g in
-    let m = length s0.wires.items + length b.wires in
-    let x = doors m d (context_of s0.context.items) b.free in
-    let e : length (doors_at s1 d us).wires ≡ length x.wires = ap (λ b. length b.wires) (next_doors s0 s1 b us d g') in
-    omega (arith, l, e, bundle_wires s0 s1 b us g', length-append b.wires (x.wires ++ value_wire d a ∷ []), length-append x.wires (value_wire d a ∷ []))
-
-pub box_bundles : (s0 s1 s2 : Parts) (d : ℕ) (a : TyTree) (r : Placed) (us : List Loose) (o : ℕ) → Bundles s0 s1 (doors_at s0 d r.free.items) us → o ≡ length s1.wires.items →
-    Grows s1 s2 (bang_wire d a ∷ []) (BoxNode r.out o ∷ []) → Bundles s0 s2 (box_here s0 d a r) us
-box_bundles s0 s1 s2 d a r us o g eo h =
-    let e = doors_at s0 d r.free.items in
-    let p : o ≡ length s0.wires.items + length e.wires = eo ∙ bundle_wires s0 s1 e us g in
-    let h' = subst (λ o. Grows s1 s2 (bang_wire d a ∷ []) (BoxNode r.out o ∷ [])) p h in
-    record { grows = grows_then s0 s1 s2 e.wires (bang_wire d a ∷ []) e.nodes (BoxNode r.out (length s0.wires.items + length e.wires) ∷ []) g.grows h'; free = g.free }
-
--- the app's tail, with the box as a bundle
-app_tail_at : ℕ → ℕ → TyTree → Placed → List (Option ℕ) → Parts → Bundle → Part
-app_tail_at b d t r f s e = end_at (suc b) (contract (suc b) d (context_of s.context.items) f e.free) d (codomain t) (App r.out b (suc b + length (contract (suc b) d (context_of s.context.items) f e.free).wires))
-
 pub app_ending : (s0 s1 s2 s3 : Parts) (d : ℕ) (a t : TyTree) (r r' : Placed) (us vs : List Loose) (o : ℕ) (n : Node) (x : Placed) → a ≡ domain (wire_type s0 r.out) → t ≡ codomain (wire_type s0 r.out) →
     Bundles s0 s1 (box_here s0 d a r') us → o ≡ box_wire s0 d r' → Bundles s1 s2 (contract_at s1 d r.free.items us) vs → n ≡ App r.out o (length s2.wires.items) → Finishes s2 s3 d t n vs x →
     Builds s0 s3 (app_here s0 d r r') x
@@ -185,23 +137,3 @@ app_ending s0 s1 s2 s3 d a t r r' us vs o n x ea et g eo h en f =
       grows = subst (λ w. Grows s0 s3 w (e.nodes ++ (BoxNode r'.out b ∷ (c.nodes ++ node ∷ [])))) aw (subst (λ l. Grows s0 s3 ((e.wires ++ bang_wire d (domain ty) ∷ []) ++ (c.wires ++ value_wire d (codomain ty) ∷ [])) l) an y.grows);
       gives = record { out = y.gives.out; inside = y.gives.inside; type = y.gives.type; free = y.gives.free };
     }
-
-pub app_room_box : (s0 : Parts) (d : ℕ) (a : TyTree) (r r' : Placed) → a ≡ domain (wire_type s0 r.out) → length s0.wires.items + length (app_here s0 d r r').wires < 2 ^ 32 → length s0.wires.items + length (box_here s0 d a r').wires < 2 ^ 32
-app_room_box s0 d a r r' ea l =
-    let e = doors_at s0 d r'.free.items in
-    let b = length s0.wires.items + length e.wires in
-    let c = contract (suc b) d (context_of s0.context.items) (frees s0 r) e.free in
-    omega (arith, l, length-append e.wires (bang_wire d a ∷ []), length-append e.wires (bang_wire d (domain (wire_type s0 r.out)) ∷ (c.wires ++ value_wire d (codomain (wire_type s0 r.out)) ∷ [])))
-
-pub app_room : (s0 s1 : Parts) (d : ℕ) (a : TyTree) (r r' : Placed) (us : List Loose) → Bundles s0 s1 (box_here s0 d a r') us → length s0.wires.items + length (app_here s0 d r r').wires < 2 ^ 32 →
-    length s1.wires.items + suc (length (contract_at s1 d r.free.items us).wires) < 2 ^ 32
-app_room s0 s1 d a r r' us g l =
-    let e = doors_at s0 d r'.free.items in
-    let ty = wire_type s0 r.out in
-    let k = box_here s0 d a r' in
-    let b = length s0.wires.items + length e.wires in
-    let m : length s0.wires.items + length k.wires ≡ suc b = omega (arith, length-append e.wires (bang_wire d a ∷ [])) in
-    let c = contract (suc b) d (context_of s0.context.items) (frees s0 r) e.free in
-    let e' : contract_at s1 d r.free.items us ≡ c = next_contract s0 s1 k us r.free.items d g ∙ ap (λ m. contract m d (context_of s0.context.items) (frees s0 r) e.free) m in
-    let z : length (contract_at s1 d r.free.items us).wires ≡ length c.wires = ap (λ b. length b.wires) e' in
-    omega (arith, l, z, m, bundle_wires s0 s1 k us g, length-append e.wires (bang_wire d (domain ty) ∷ (c.wires ++ value_wire d (codomain ty) ∷ [])), length-append c.wires (value_wire d (codomain ty) ∷ []))

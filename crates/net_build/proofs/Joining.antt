@@ -45,11 +45,6 @@ take_second s d us vs vs' u v y hu hv ev l =
     let g : Takes s s d (u ∷ us') (y ∷ vs') (u ∷ us') vs' y = second u y us' vs' (subst (λ v. u.binder < v.binder) z l) refl in
     subst (λ us. Takes s s d us vs us vs' y) (sym q) (subst (λ vs. Takes s s d (u ∷ us') vs (u ∷ us') vs' y) (sym ev) g)
 
--- the entry that was looked at has a binder of the context
-pub first_binder : (k : ℕ) (us : List Loose) (u : Loose) → IsFirst u us → Falling k us → u.binder < k
-first_binder k [] u h f = elim h [ ]
-first_binder k (v ∷ vs) u h f = subst (λ u. u.binder < k) (sym h) f.0
-
 -- all that is to be made, from the start
 abbrev pub whole : Parts → ℕ → List Loose → List Loose → Merged
 whole s d us vs = merge (length us + length vs) d (map ty_of s.context.items) (length s.wires.items) us vs
@@ -172,11 +167,6 @@ steps start now new d us vs _ _ _ _ joined _ (suc fuel) ws ns (second u v us' vs
 pub merging_steps : (start now new : Parts) (d : ℕ) (us vs us' vs' us'' vs'' joined : List Loose) (w : Loose) → Takes now new d us' vs' us'' vs'' w → IsMerging start now d us vs us' vs' joined →
     IsMerging start new d us vs us'' vs'' (joined ++ w ∷ [])
 merging_steps start now new d us vs us' vs' us'' vs'' joined w t m = steps start now new d us vs us' vs' us'' vs'' joined w m.0 m.1 m.2 t m.3
-
-pub takes_shorter : (old new : Parts) (d : ℕ) (us vs us' vs' : List Loose) (w : Loose) → Takes old new d us vs us' vs' w → length us' + length vs' < length us + length vs
-takes_shorter old new d _ _ _ _ _ (both u v w us vs e h) = omega arith
-takes_shorter old new d _ _ _ _ _ (first u v us vs l e) = omega arith
-takes_shorter old new d _ _ _ _ _ (second u v us vs l e) = omega arith
 
 -- what the contractions make is what the definition says
 pub whole_contract : (s : Parts) (d : ℕ) (us vs : List Loose) → Falling (length s.context.items) us → Falling (length s.context.items) vs →

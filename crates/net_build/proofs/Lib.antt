@@ -1,8 +1,9 @@
-mod Bounds
-mod Built
+pub mod Bounds
+pub mod Built
 mod Comparing
-mod Count
+pub mod Count
 mod Ending
+pub mod Entries
 mod Growing
 mod Indexing
 mod Joining

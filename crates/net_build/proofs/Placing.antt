@@ -2,20 +2,18 @@
 use Rattle.std.proofs.Common.{◌≡◌, ℕ, zero, suc, ◌+◌, ◌-◌, ◌⊎◌, ◌<◌, ◌≤◌, ◌^◌, List, [], ◌∷◌, ◌++◌, length, map, reverse, Some, None, refl, sym, ap, ◌∙◌, subst, inl, inr, arith}
 use Rattle.std.specs.Prelude.{slice_get}
 use Rattle.std.proofs.lemmas.Bool.{cases_lt, lt-ltb, le-ltb}
-use Rattle.std.proofs.lemmas.List.{append-nil, length-append, reverse-append}
-use Rattle.pcf_values.specs.declared.ty.Ty.{Ty}
+use Rattle.std.proofs.lemmas.List.{append-nil, length-append}
 use Rattle.pcf_values.specs.Terms.{TyTree, TermTree, var, ifz, lam, fix, app}
-use Rattle.pcf_values.specs.Views.{ty_of}
 use Rattle.net_build.specs.declared.node.Node.{Node}
 use Rattle.net_build.specs.declared.node.Node.TheVariants.{Der}
 use Rattle.net_build.specs.declared.parts.Parts.{Parts}
 use Rattle.net_build.specs.declared.parts.Loose.{Loose}
 use Rattle.net_build.specs.declared.parts.Placed.{Placed}
 use Rattle.net_build.specs.declared.double.Double.{Double}
-use Rattle.net_build.specs.Nets.{value_wire, bang_wire, var_wire}
-use Rattle.net_build.specs.NetOf.{Part, part, contract, doors, bound, domain, codomain, none_free, one_free, type_or_nat}
+use Rattle.net_build.specs.Nets.{value_wire, var_wire}
+use Rattle.net_build.specs.NetOf.{Part, double_end, ifz_end, lam_end, fix_end, app_end, part, none_free, one_free, type_or_nat}
 use Rattle.net_build.specs.Views.{wire_of}
-use Rattle.net_build.specs.Building.{context_of, spread, Grows, Spreads, Gives, Builds, BuildsBody, frees, body_frees, wire_type, part_at, second_at, third_at, body_at, double_node, double_type, double_tail, double_here, double_of, ifz_tail, ifz_here, lam_tail, lam_here, fix_tail, fix_here, app_tail, app_here, one_at}
+use Rattle.net_build.specs.Building.{context_of, spread, Grows, Spreads, Gives, Builds, BuildsBody, frees, body_frees, wire_type, part_at, second_at, third_at, body_at, double_node, double_type, double_here, double_of, ifz_here, lam_here, fix_here, app_here, one_at}
 use Rattle.net_build.proofs.Growing.{grows_then, grows_length, kept_type, new_type, new_inside}
 use Rattle.net_build.proofs.Ending.{before, after}
 use Rattle.net_build.proofs.Spreading.{context_length, spread_none}
@@ -39,20 +37,11 @@ module _ (form : Double) (s0 s1 : Parts) (d : ℕ) (a b : TermTree) (r1 : Placed
   double_second : part_at s1 d b ≡ second_at s0 d (part_at s0 d a) b
   double_second = moved s0 s1 (part_at s0 d a) d b h.grows
 
-  -- room for the whole is room for the right operand
-  pub double_room : (n m : ℕ) → m ≤ n + length (part_at s0 d a).wires → n + length (double_of form s0 d a b).wires < 2 ^ 32 → m + length (part_at s1 d b).wires < 2 ^ 32
-  double_room n m l k =
-      let p = part_at s0 d a in
-      let q = second_at s0 d p b in
-      let e = ap (λ q. length q.wires) double_second in
-      let c = double_tail (double_node form) (double_type form p.type q.type) (length s0.wires.items + length p.wires + length q.wires) d (context_of s0.context.items) p.out q.out p.free q.free in
-      omega (arith, l, k, e, length-append p.wires (q.wires ++ c.wires), length-append q.wires c.wires)
-
   module _ (s2 : Parts) (r2 : Placed) (i : Builds s1 s2 (part_at s1 d b) r2) where
     double_i : Builds s1 s2 (second_at s0 d (part_at s0 d a) b) r2
     double_i = subst (λ q. Builds s1 s2 q r2) double_second i
 
-    double_path : double_here form s2 d r1 r2 ≡ (let p = part_at s0 d a in let q = second_at s0 d p b in double_tail (double_node form) (double_type form p.type q.type) (length s0.wires.items + length p.wires + length q.wires) d (context_of s0.context.items) p.out q.out p.free q.free)
+    double_path : double_here form s2 d r1 r2 ≡ (let p = part_at s0 d a in let q = second_at s0 d p b in double_end (double_node form) (double_type form p.type q.type) (length s0.wires.items + length p.wires + length q.wires) d (context_of s0.context.items) p.out q.out p.free q.free)
     double_path =
         let p = part_at s0 d a in
         let q = second_at s0 d p b in
@@ -61,21 +50,13 @@ module _ (form : Double) (s0 s1 : Parts) (d : ℕ) (a b : TermTree) (r1 : Placed
         let f = free_at s0 s1 s2 p r1 h.gives c in
         let f' = free_at s1 s2 s2 q r2 double_i.gives double_i.grows.context in
         let t : wire_type s2 r1.out ≡ p.type = kept_type s1 s2 q.wires q.nodes r1.out double_i.grows h.gives.inside ∙ h.gives.type in
-        λ k. double_tail (double_node form) (double_type form (t k) (double_i.gives.type k)) (n k) d (context_of (c k)) (h.gives.out k) (double_i.gives.out k) (f k) (f' k)
-
-    pub double_close_room : length s0.wires.items + length (double_of form s0 d a b).wires < 2 ^ 32 → length s2.wires.items + length (double_here form s2 d r1 r2).wires < 2 ^ 32
-    double_close_room l =
-        let p = part_at s0 d a in
-        let q = second_at s0 d p b in
-        let c = double_tail (double_node form) (double_type form p.type q.type) (length s0.wires.items + length p.wires + length q.wires) d (context_of s0.context.items) p.out q.out p.free q.free in
-        let e : length (double_here form s2 d r1 r2).wires ≡ length c.wires = ap (λ q. length q.wires) double_path in
-        omega (arith, l, e, grows_length s0 s1 p.wires p.nodes h.grows, grows_length s1 s2 q.wires q.nodes double_i.grows, length-append p.wires (q.wires ++ c.wires), length-append q.wires c.wires)
+        λ k. double_end (double_node form) (double_type form (t k) (double_i.gives.type k)) (n k) d (context_of (c k)) (h.gives.out k) (double_i.gives.out k) (f k) (f' k)
 
     pub double_builds : (s3 : Parts) (r : Placed) → Builds s2 s3 (double_here form s2 d r1 r2) r → Builds s0 s3 (double_of form s0 d a b) r
     double_builds s3 r j =
         let p = part_at s0 d a in
         let q = second_at s0 d p b in
-        let c = double_tail (double_node form) (double_type form p.type q.type) (length s0.wires.items + length p.wires + length q.wires) d (context_of s0.context.items) p.out q.out p.free q.free in
+        let c = double_end (double_node form) (double_type form p.type q.type) (length s0.wires.items + length p.wires + length q.wires) d (context_of s0.context.items) p.out q.out p.free q.free in
         let j' : Builds s2 s3 c r = subst (λ t. Builds s2 s3 t r) double_path j in
         after s0 s1 s3 p.wires p.nodes (before q.wires q.nodes c) r h.grows (after s1 s2 s3 q.wires q.nodes c r double_i.grows j')
 
@@ -94,16 +75,7 @@ module _ (s0 s1 : Parts) (d : ℕ) (a b c : TermTree) (r1 : Placed) (h : Builds 
       let p = part_at s0 d a in
       let q = second_at s0 d p b in
       let r = third_at s0 d p q c in
-      ifz_tail (length s0.wires.items + length p.wires + length q.wires + length r.wires) d (context_of s0.context.items) p.out q.out r.out p.free q.free r.free
-
-  pub ifz_second_room : (n m : ℕ) → m ≤ n + length (part_at s0 d a).wires → n + length (part_at s0 d (ifz a b c)).wires < 2 ^ 32 → m + length (part_at s1 d b).wires < 2 ^ 32
-  unfolding ifz_rest
-  ifz_second_room n m l k =
-      let p = part_at s0 d a in
-      let q = second_at s0 d p b in
-      let r = third_at s0 d p q c in
-      let e = ap (λ q. length q.wires) (moved s0 s1 p d b h.grows) in
-      omega (arith, l, k, e, length-append p.wires (q.wires ++ (r.wires ++ ifz_rest.wires)), length-append q.wires (r.wires ++ ifz_rest.wires), length-append r.wires ifz_rest.wires)
+      ifz_end (length s0.wires.items + length p.wires + length q.wires + length r.wires) d (context_of s0.context.items) p.out q.out r.out p.free q.free r.free
 
   module _ (s2 : Parts) (r2 : Placed) (i : Builds s1 s2 (part_at s1 d b) r2) where
     ifz_i : Builds s1 s2 (second_at s0 d (part_at s0 d a) b) r2
@@ -153,7 +125,7 @@ module _ (s0 s1 : Parts) (d : ℕ) (a b c : TermTree) (r1 : Placed) (h : Builds 
           let f = free_at s0 s1 s3 p r1 h.gives e in
           let f' = free_at s1 s2 s3 q r2 ifz_i.gives (ifz_j.grows.context ∙ ifz_i.grows.context) in
           let f'' = free_at s2 s3 s3 r r3 ifz_j.gives ifz_j.grows.context in
-          λ k. ifz_tail (ifz_next k) d (context_of (e k)) (h.gives.out k) (ifz_i.gives.out k) (ifz_j.gives.out k) (f k) (f' k) (f'' k)
+          λ k. ifz_end (ifz_next k) d (context_of (e k)) (h.gives.out k) (ifz_i.gives.out k) (ifz_j.gives.out k) (f k) (f' k) (f'' k)
 
       pub ifz_close_room : length s0.wires.items + length (part_at s0 d (ifz a b c)).wires < 2 ^ 32 → length s3.wires.items + length (ifz_here s3 d r1 r2 r3).wires < 2 ^ 32
       unfolding ifz_rest ifz_first ifz_second ifz_third
@@ -179,18 +151,7 @@ module _ (s0 s1 : Parts) (d : ℕ) (a b : TermTree) (r1 : Placed) (h : Builds s0
   app_rest =
       let p = part_at s0 d a in
       let q = second_at s0 (suc d) p b in
-      app_tail (length s0.wires.items + length p.wires + length q.wires) d (context_of s0.context.items) p.type p.out q.out p.free q.free
-
-  pub app_second_room : (n m : ℕ) → m ≤ n + length (part_at s0 d a).wires + 1 → n + length (part_at s0 d (app a b)).wires < 2 ^ 32 → m + length (part_at s1 (suc d) b).wires < 2 ^ 32
-  unfolding app_rest
-  app_second_room n m l k =
-      let p = part_at s0 d a in
-      let q = second_at s0 (suc d) p b in
-      let e = ap (λ q. length q.wires) (moved s0 s1 p (suc d) b h.grows) in
-      let v = doors (length s0.wires.items + length p.wires + length q.wires) d (context_of s0.context.items) q.free in
-      let o = length s0.wires.items + length p.wires + length q.wires + length v.wires in
-      let c = contract (suc o) d (context_of s0.context.items) p.free v.free in
-      omega (arith, l, k, e, length-append p.wires (q.wires ++ app_rest.wires), length-append q.wires app_rest.wires, length-append v.wires (bang_wire d (domain p.type) ∷ (c.wires ++ value_wire d (codomain p.type) ∷ [])))
+      app_end (length s0.wires.items + length p.wires + length q.wires) d (context_of s0.context.items) p.type p.out q.out p.free q.free
 
   module _ (s2 : Parts) (r2 : Placed) (i : Builds s1 s2 (part_at s1 (suc d) b) r2) where
     app_i : Builds s1 s2 (second_at s0 (suc d) (part_at s0 d a) b) r2
@@ -206,15 +167,7 @@ module _ (s0 s1 : Parts) (d : ℕ) (a b : TermTree) (r1 : Placed) (h : Builds s0
         let f = free_at s0 s1 s2 p r1 h.gives c in
         let f' = free_at s1 s2 s2 q r2 app_i.gives app_i.grows.context in
         let t : wire_type s2 r1.out ≡ p.type = kept_type s1 s2 q.wires q.nodes r1.out app_i.grows h.gives.inside ∙ h.gives.type in
-        λ k. app_tail (n k) d (context_of (c k)) (t k) (h.gives.out k) (app_i.gives.out k) (f k) (f' k)
-
-    pub app_close_room : length s0.wires.items + length (part_at s0 d (app a b)).wires < 2 ^ 32 → length s2.wires.items + length (app_here s2 d r1 r2).wires < 2 ^ 32
-    unfolding app_rest
-    app_close_room l =
-        let p = part_at s0 d a in
-        let q = second_at s0 (suc d) p b in
-        let e : length (app_here s2 d r1 r2).wires ≡ length app_rest.wires = ap (λ q. length q.wires) app_path in
-        omega (arith, l, e, grows_length s0 s1 p.wires p.nodes h.grows, grows_length s1 s2 q.wires q.nodes app_i.grows, length-append p.wires (q.wires ++ app_rest.wires), length-append q.wires app_rest.wires)
+        λ k. app_end (n k) d (context_of (c k)) (t k) (h.gives.out k) (app_i.gives.out k) (f k) (f' k)
 
     pub app_builds : (s3 : Parts) (r : Placed) → Builds s2 s3 (app_here s2 d r1 r2) r → Builds s0 s3 (part_at s0 d (app a b)) r
     unfolding app_rest
@@ -229,77 +182,43 @@ body_free_at : (s n s' : Parts) (p : Part) (r : Placed) → Gives (suc (length s
 body_free_at s n s' p r g e = ap (λ c. spread (suc (length c)) (reverse r.free.items)) e ∙ g.free.spreads
 
 module _ (s0 s1 : Parts) (d : ℕ) (t : TyTree) (m : TermTree) (r1 : Placed) (h : BuildsBody s0 s1 (body_at s0 d t m) r1) where
-  lam_path : lam_here s1 d t r1 ≡ (let p = body_at s0 d t m in lam_tail (length s0.wires.items + length p.wires) d t p.type p.out p.free)
+  lam_path : lam_here s1 d t r1 ≡ (let p = body_at s0 d t m in lam_end (length s0.wires.items + length p.wires) d t p.type p.out p.free)
   lam_path =
       let p = body_at s0 d t m in
       let n = grows_length s0 s1 p.wires p.nodes h.grows in
       let f = body_free_at s0 s1 s1 p r1 h.gives h.grows.context in
-      λ k. lam_tail (n k) d t (h.gives.type k) (h.gives.out k) (f k)
-
-  pub lam_close_room : length s0.wires.items + length (part_at s0 d (lam t m)).wires < 2 ^ 32 → length s1.wires.items + length (lam_here s1 d t r1).wires < 2 ^ 32
-  lam_close_room l =
-      let p = body_at s0 d t m in
-      let c = lam_tail (length s0.wires.items + length p.wires) d t p.type p.out p.free in
-      let e : length (lam_here s1 d t r1).wires ≡ length c.wires = ap (λ q. length q.wires) lam_path in
-      omega (arith, l, e, grows_length s0 s1 p.wires p.nodes h.grows, length-append p.wires c.wires)
+      λ k. lam_end (n k) d t (h.gives.type k) (h.gives.out k) (f k)
 
   pub lam_builds : (s2 : Parts) (r : Placed) → Builds s1 s2 (lam_here s1 d t r1) r → Builds s0 s2 (part_at s0 d (lam t m)) r
   lam_builds s2 r j =
       let p = body_at s0 d t m in
-      let c = lam_tail (length s0.wires.items + length p.wires) d t p.type p.out p.free in
+      let c = lam_end (length s0.wires.items + length p.wires) d t p.type p.out p.free in
       after s0 s1 s2 p.wires p.nodes c r h.grows (subst (λ t. Builds s1 s2 t r) lam_path j)
 
 module _ (s0 s1 : Parts) (d : ℕ) (t : TyTree) (m : TermTree) (r1 : Placed) (h : BuildsBody s0 s1 (body_at s0 (suc d) t m) r1) where
-  fix_path : fix_here s1 d t r1 ≡ (let p = body_at s0 (suc d) t m in fix_tail (length s0.wires.items + length p.wires) d (context_of s0.context.items) t p.out p.free)
+  fix_path : fix_here s1 d t r1 ≡ (let p = body_at s0 (suc d) t m in fix_end (length s0.wires.items + length p.wires) d (context_of s0.context.items) t p.out p.free)
   fix_path =
       let p = body_at s0 (suc d) t m in
       let n = grows_length s0 s1 p.wires p.nodes h.grows in
       let f = body_free_at s0 s1 s1 p r1 h.gives h.grows.context in
-      λ k. fix_tail (n k) d (context_of (h.grows.context k)) t (h.gives.out k) (f k)
+      λ k. fix_end (n k) d (context_of (h.grows.context k)) t (h.gives.out k) (f k)
 
   pub fix_close_room : length s0.wires.items + length (part_at s0 d (fix t m)).wires < 2 ^ 32 → length s1.wires.items + length (fix_here s1 d t r1).wires < 2 ^ 32
   fix_close_room l =
       let p = body_at s0 (suc d) t m in
-      let c = fix_tail (length s0.wires.items + length p.wires) d (context_of s0.context.items) t p.out p.free in
+      let c = fix_end (length s0.wires.items + length p.wires) d (context_of s0.context.items) t p.out p.free in
       let e : length (fix_here s1 d t r1).wires ≡ length c.wires = ap (λ q. length q.wires) fix_path in
       omega (arith, l, e, grows_length s0 s1 p.wires p.nodes h.grows, length-append p.wires c.wires)
 
   pub fix_builds : (s2 : Parts) (r : Placed) → Builds s1 s2 (fix_here s1 d t r1) r → Builds s0 s2 (part_at s0 d (fix t m)) r
   fix_builds s2 r j =
       let p = body_at s0 (suc d) t m in
-      let c = fix_tail (length s0.wires.items + length p.wires) d (context_of s0.context.items) t p.out p.free in
+      let c = fix_end (length s0.wires.items + length p.wires) d (context_of s0.context.items) t p.out p.free in
       after s0 s1 s2 p.wires p.nodes c r h.grows (subst (λ t. Builds s1 s2 t r) fix_path j)
-
--- room for the whole is room for the body
-pub lam_body_room : (n d : ℕ) (s : Parts) (t : TyTree) (m : TermTree) → n + length (part_at s d (lam t m)).wires < 2 ^ 32 → n + length (body_at s d t m).wires < 2 ^ 32
-lam_body_room n d s t m l =
-    let p = body_at s d t m in
-    let c = lam_tail (length s.wires.items + length p.wires) d t p.type p.out p.free in
-    omega (arith, l, length-append p.wires c.wires)
-
-pub fix_body_room : (n d : ℕ) (s : Parts) (t : TyTree) (m : TermTree) → n + length (part_at s d (fix t m)).wires < 2 ^ 32 → n + 1 + length (body_at s (suc d) t m).wires < 2 ^ 32
-fix_body_room n d s t m l =
-    let p = body_at s (suc d) t m in
-    let c = fix_tail (length s.wires.items + length p.wires) d (context_of s.context.items) t p.out p.free in
-    let b = bound (length s.wires.items + length p.wires) (suc d) t p.free in
-    let e = doors (length s.wires.items + length p.wires + length b.wires) d (context_of s.context.items) b.free in
-    omega (arith, l, length-append p.wires c.wires, length-append b.wires (e.wires ++ value_wire d t ∷ []), length-append e.wires (value_wire d t ∷ []))
-
--- the same for a depth that is one more
-pub app_second_room_at : (s0 s1 : Parts) (d d' : ℕ) (a b : TermTree) (r1 : Placed) → d' ≡ suc d → Builds s0 s1 (part_at s0 d a) r1 → (n m : ℕ) → m ≤ n + length (part_at s0 d a).wires + 1 →
-    n + length (part_at s0 d (app a b)).wires < 2 ^ 32 → m + length (part_at s1 d' b).wires < 2 ^ 32
-app_second_room_at s0 s1 d d' a b r1 e h n m l k = subst (λ d'. m + length (part_at s1 d' b).wires < 2 ^ 32) (sym e) (app_second_room s0 s1 d a b r1 h n m l k)
-
-pub app_close_room_at : (s0 s1 s2 : Parts) (d d' : ℕ) (a b : TermTree) (r1 r2 : Placed) → d' ≡ suc d → Builds s0 s1 (part_at s0 d a) r1 → Builds s1 s2 (part_at s1 d' b) r2 → length s0.wires.items + length (part_at s0 d (app a b)).wires < 2 ^ 32 →
-    length s2.wires.items + length (app_here s2 d r1 r2).wires < 2 ^ 32
-app_close_room_at s0 s1 s2 d d' a b r1 r2 e h i l = app_close_room s0 s1 d a b r1 h s2 r2 (subst (λ d'. Builds s1 s2 (part_at s1 d' b) r2) e i) l
 
 pub app_builds_at : (s0 s1 s2 s3 : Parts) (d d' : ℕ) (a b : TermTree) (r1 r2 r : Placed) → d' ≡ suc d → Builds s0 s1 (part_at s0 d a) r1 → Builds s1 s2 (part_at s1 d' b) r2 → Builds s2 s3 (app_here s2 d r1 r2) r →
     Builds s0 s3 (part_at s0 d (app a b)) r
 app_builds_at s0 s1 s2 s3 d d' a b r1 r2 r e h i j = app_builds s0 s1 d a b r1 h s2 r2 (subst (λ d'. Builds s1 s2 (part_at s1 d' b) r2) e i) s3 r j
-
-pub fix_body_room_at : (n m d d' : ℕ) (s : Parts) (t : TyTree) (b : TermTree) → d' ≡ suc d → m ≤ n + 1 → n + length (part_at s d (fix t b)).wires < 2 ^ 32 → m + length (body_at s d' t b).wires < 2 ^ 32
-fix_body_room_at n m d d' s t b e l k = subst (λ d'. m + length (body_at s d' t b).wires < 2 ^ 32) (sym e) (let z = fix_body_room n d s t b k in omega arith)
 
 pub fix_close_room_at : (s0 s1 : Parts) (d d' : ℕ) (t : TyTree) (m : TermTree) (r1 : Placed) → d' ≡ suc d → BuildsBody s0 s1 (body_at s0 d' t m) r1 → length s0.wires.items + length (part_at s0 d (fix t m)).wires < 2 ^ 32 →
     length s1.wires.items + length (fix_here s1 d t r1).wires < 2 ^ 32
@@ -353,12 +272,3 @@ variable_builds old mid new d i x a r g eo et ex h ef =
       grows = k;
       gives = record { out = eo; inside = new_inside old new (value_wire d t) (var_wire d t ∷ []) (Der n (suc n) ∷ []) r.out k eo; type = new_type old new (value_wire d t) (var_wire d t ∷ []) (Der n (suc n) ∷ []) r.out k eo; free = subst (Spreads (length old.context.items) (one_free (context_of old.context.items) i (suc n))) (sym f) (one_spreads (context_of old.context.items) (length old.context.items) i (suc n) (context_length old.context.items)) };
     }
-
--- one binder more
-pub context_push : (c : List Ty) (a : Ty) → context_of (c ++ a ∷ []) ≡ ty_of a ∷ context_of c
-context_push c a = ap (map ty_of) (reverse-append c (a ∷ []))
-
-pub pushed : (s s' : Parts) (d : ℕ) (a : Ty) (t : TyTree) (m : TermTree) → s'.wires ≡ s.wires → s'.context.items ≡ s.context.items ++ a ∷ [] → ty_of a ≡ t → part_at s' d m ≡ body_at s d t m
-pushed s s' d a t m ew ec et =
-    let c : context_of s'.context.items ≡ t ∷ context_of s.context.items = ap context_of ec ∙ context_push s.context.items a ∙ ap (λ t. t ∷ context_of s.context.items) et in
-    λ k. part (length (ew k).items) d (c k) m

@@ -3,7 +3,7 @@
 -- with its binder, the innermost binder last: entries only for variables that the term uses.
 use Rattle.std.specs.Prelude.{◌≡◌, ◌<◌, ℕ, zero, suc, List, [], ◌∷◌, ◌++◌, length, map, reverse, Bool, false, Option, Some, None, nat_eq, nat_lt, ◌-◌, slice_get, if◌then◌else◌, ◌+◌}
 use Rattle.pcf_values.specs.declared.ty.Ty.{Ty}
-use Rattle.pcf_values.specs.Terms.{TyTree, nat, left_side, right_side, TermTree, product, arrow}
+use Rattle.pcf_values.specs.Terms.{TyTree, nat, left_side, right_side, TermTree, product}
 use Rattle.pcf_values.specs.Views.{ty_of}
 use Rattle.net_build.specs.declared.node.Node.{Node}
 use Rattle.net_build.specs.declared.node.Node.TheVariants as node
@@ -16,7 +16,7 @@ use Rattle.net_build.specs.declared.double.Double.TheVariants as double
 use Rattle.net_build.specs.declared.unary.Unary.{Unary}
 use Rattle.net_build.specs.declared.unary.Unary.TheVariants as unary
 use Rattle.net_build.specs.Nets.{WireTree, value_wire, bang_wire, var_wire}
-use Rattle.net_build.specs.NetOf.{Bundle, Part, contract, doors, bound, bound_wire, part, type_or_nat, domain, codomain, side_type, unary_part, double_part, ifz_part, lam_part, fix_part, app_part}
+use Rattle.net_build.specs.NetOf.{Bundle, Part, contract, doors, bound, bound_wire, part, type_or_nat, side_type, double_end, ifz_end, lam_end, fix_end, app_end, unary_part, double_part, ifz_part, lam_part, fix_part, app_part}
 use Rattle.net_build.specs.Views.{wire_of}
 
 -- the typing context, the nearest binder first
@@ -142,80 +142,26 @@ double_type double.Minus t u = nat
 double_type double.Times t u = nat
 double_type double.Pair t u = product t u
 
--- What the parts' own wires and nodes are followed by, where m is the next wire: of each form the last wires and nodes, with what the
--- whole gives, as a function of what the parts give.
-abbrev pub double_tail : (ℕ → ℕ → ℕ → Node) → TyTree → ℕ → ℕ → List TyTree → ℕ → ℕ → List (Option ℕ) → List (Option ℕ) → Part
-double_tail node t m d g o o' f f' =
-    let c = contract m d g f f' in
-    let w = m + length c.wires in
-    record { wires = c.wires ++ value_wire d t ∷ []; nodes = c.nodes ++ node o o' w ∷ []; out = w; type = t; free = c.free }
-
-abbrev pub ifz_tail : ℕ → ℕ → List TyTree → ℕ → ℕ → ℕ → List (Option ℕ) → List (Option ℕ) → List (Option ℕ) → Part
-ifz_tail m d g o o' o'' f f' f'' =
-    let i = contract m d g f' f'' in
-    let j = contract (m + length i.wires) d g f i.free in
-    let w = m + length i.wires + length j.wires in
-    record {
-      wires = i.wires ++ (j.wires ++ value_wire d nat ∷ []);
-      nodes = i.nodes ++ (j.nodes ++ node.Ifz o o' o'' w ∷ []);
-      out = w;
-      type = nat;
-      free = j.free;
-    }
-
-abbrev pub lam_tail : ℕ → ℕ → TyTree → TyTree → ℕ → List (Option ℕ) → Part
-lam_tail m d a t o f =
-    let b = bound m d a f in
-    let w = m + length b.wires in
-    record { wires = b.wires ++ value_wire d (arrow a t) ∷ []; nodes = b.nodes ++ node.Lam o (bound_wire m f) w ∷ []; out = w; type = arrow a t; free = b.free }
-
-abbrev pub fix_tail : ℕ → ℕ → List TyTree → TyTree → ℕ → List (Option ℕ) → Part
-fix_tail m d g a o f =
-    let b = bound m (suc d) a f in
-    let e = doors (m + length b.wires) d g b.free in
-    let w = m + length b.wires + length e.wires in
-    record {
-      wires = b.wires ++ (e.wires ++ value_wire d a ∷ []);
-      nodes = b.nodes ++ (e.nodes ++ node.FixBox o (bound_wire m f) w ∷ []);
-      out = w;
-      type = a;
-      free = e.free;
-    }
-
-abbrev pub app_tail : ℕ → ℕ → List TyTree → TyTree → ℕ → ℕ → List (Option ℕ) → List (Option ℕ) → Part
-app_tail m d g t o o' f f' =
-    let e = doors m d g f' in
-    let b = m + length e.wires in
-    let c = contract (suc b) d g f e.free in
-    let w = suc b + length c.wires in
-    record {
-      wires = e.wires ++ (bang_wire d (domain t) ∷ (c.wires ++ value_wire d (codomain t) ∷ []));
-      nodes = e.nodes ++ (node.BoxNode o' b ∷ (c.nodes ++ node.App o b w ∷ []));
-      out = w;
-      type = codomain t;
-      free = c.free;
-    }
-
--- the same, built from here of what was placed
+-- the ends of the forms, built from here of what was placed
 abbrev pub double_here : Double → Parts → ℕ → Placed → Placed → Part
 double_here form s d r r' =
-    double_tail (double_node form) (double_type form (wire_type s r.out) (wire_type s r'.out)) (length s.wires.items) d (context_of s.context.items) r.out r'.out (frees s r) (frees s r')
+    double_end (double_node form) (double_type form (wire_type s r.out) (wire_type s r'.out)) (length s.wires.items) d (context_of s.context.items) r.out r'.out (frees s r) (frees s r')
 
 abbrev pub ifz_here : Parts → ℕ → Placed → Placed → Placed → Part
-ifz_here s d r r' r'' = ifz_tail (length s.wires.items) d (context_of s.context.items) r.out r'.out r''.out (frees s r) (frees s r') (frees s r'')
+ifz_here s d r r' r'' = ifz_end (length s.wires.items) d (context_of s.context.items) r.out r'.out r''.out (frees s r) (frees s r') (frees s r'')
 
 abbrev pub app_here : Parts → ℕ → Placed → Placed → Part
-app_here s d r r' = app_tail (length s.wires.items) d (context_of s.context.items) (wire_type s r.out) r.out r'.out (frees s r) (frees s r')
+app_here s d r r' = app_end (length s.wires.items) d (context_of s.context.items) (wire_type s r.out) r.out r'.out (frees s r) (frees s r')
 
 -- of a body, which has one binder more
 abbrev pub body_frees : Parts → Placed → List (Option ℕ)
 body_frees s r = spread (suc (length s.context.items)) (reverse r.free.items)
 
 abbrev pub lam_here : Parts → ℕ → TyTree → Placed → Part
-lam_here s d a r = lam_tail (length s.wires.items) d a (wire_type s r.out) r.out (body_frees s r)
+lam_here s d a r = lam_end (length s.wires.items) d a (wire_type s r.out) r.out (body_frees s r)
 
 abbrev pub fix_here : Parts → ℕ → TyTree → Placed → Part
-fix_here s d a r = fix_tail (length s.wires.items) d (context_of s.context.items) a r.out (body_frees s r)
+fix_here s d a r = fix_end (length s.wires.items) d (context_of s.context.items) a r.out (body_frees s r)
 
 -- the part of a term with more than one operand, or under a binder, built from here
 abbrev pub second_at : Parts → ℕ → Part → TermTree → Part

@@ -56,6 +56,22 @@ impl Net {
         })
     }
 
+    /// All wires, by number.
+    pub fn wires(&self) -> &[Wire]
+        ensures wires { map wire_of result.now ≡ self.now.wires }
+        ensures few { length result.now < 2 ^ 32 }
+    {
+        self.wires.as_slice()
+    }
+
+    /// All nodes, by number.
+    pub fn nodes(&self) -> &[Node]
+        ensures nodes { result.now ≡ self.now.nodes }
+        ensures few { length result.now < 2 ^ 32 }
+    {
+        self.nodes.as_slice()
+    }
+
     /// How many wires there are.
     pub fn wire_count(&self) -> u32
         ensures { result ≡ length self.now.wires }

@@ -3,7 +3,7 @@ use Rattle.std.proofs.Common.{◌≡◌, ◌⊎◌, ℕ, zero, suc, ◌+◌, ◌
 use Rattle.std.specs.Prelude.{slice_get, nat_eq, nat_lt, if◌then◌else◌}
 use Rattle.std.specs.Option.{unwrap_or}
 use Rattle.std.proofs.lemmas.Bool.{cases_lt, eq-eqb, ne_eqb, lt-ltb, le-ltb}
-use Rattle.std.proofs.lemmas.Option.{get_or_from_slice_get}
+use Rattle.std.proofs.lemmas.Option.{slice_get-get_or}
 use Rattle.std.proofs.Math.Seq.{take-suc}
 use Rattle.net_build.specs.declared.node.Node.{Node}
 use Rattle.net_build.specs.declared.node.Node.TheVariants.{Root}
@@ -80,15 +80,6 @@ counts_one : (net : NetTree) (cs ds : List ℕ) → Counted conclusions (length 
 counts_one net cs ds h i n l e =
     (capped_one _ (some_in _ _ (sym (h.entry n l) ∙ e.0)), capped_one _ (some_in _ _ (sym (i.entry n l) ∙ e.1)))
 
-one_counts : (net : NetTree) (cs ds : List ℕ) → Counted conclusions (length net.wires) net.nodes cs → Counted premises (length net.wires) net.nodes ds → (n : ℕ) → n < length net.wires → (named conclusions net.nodes n ≡ 1) × (named premises net.nodes n ≡ 1) →
-    (slice_get cs n ≡ Some 1) × (slice_get ds n ≡ Some 1)
-one_counts net cs ds h i n l e = (h.entry n l ∙ ap (λ k. Some (capped k)) e.0, i.entry n l ∙ ap (λ k. Some (capped k)) e.1)
-
-pub loose_in_list : (net : NetTree) (cs ds : List ℕ) → Counted conclusions (length net.wires) net.nodes cs → Counted premises (length net.wires) net.nodes ds → (n : ℕ) → IsLeastOdd cs ds (Some n) → IsFirstLoose net (Some n)
-loose_in_list net cs ds h i n odd =
-    let l : n < length net.wires = omega (arith, odd.0, h.size) in
-    (λ m k. (λ j. counts_one net cs ds h i m j (odd.1 m k), λ j. absurd (omega (arith, j, k, l))), λ held. odd.2 (one_counts net cs ds h i n l (held.0 l)))
-
 pub loose_past : (net : NetTree) (cs ds : List ℕ) → Counted conclusions (length net.wires) net.nodes cs → Counted premises (length net.wires) net.nodes ds → IsLeastOdd cs ds None → (o : Option ℕ) → o ≡ past_from (length net.wires) net.nodes None →
     IsFirstLoose net o
 loose_past net cs ds h i odd o e = go o (subst (PastOk (λ w. 0 + (named conclusions net.nodes w + named premises net.nodes w)) (length net.wires)) (sym e) (past_all net.nodes (length net.wires)))
@@ -106,11 +97,17 @@ roots_snoc [] n = omega arith
 roots_snoc (Root w ∷ ns) n = let h = roots_snoc ns n in omega arith
 roots_snoc (m ∷ ns) n = roots_snoc ns n
 
-pub roots_more : (nodes : List Node) (i j : ℕ) (n : Node) → slice_get nodes i ≡ Some n → i < length nodes → j ≡ suc i → roots (take j nodes) ≡ roots (take i nodes) + roots (n ∷ [])
-roots_more nodes i j n e l ej =
-    let g : get_or nodes i n ≡ n = get_or_from_slice_get nodes i n n e in
-    let t : take (suc i) nodes ≡ take i nodes ++ n ∷ [] = take-suc nodes i n l ∙ ap (λ n. take i nodes ++ n ∷ []) g in
-    rw (ej, t) (roots_snoc (take i nodes) n)
+-- one root more or none: that of the node at i, of a list that is the nodes
+pub roots_more : (xs nodes : List Node) (i j k c : ℕ) (d : Node) → xs ≡ nodes → i < length xs → j ≡ suc i → c ≡ roots (take i nodes) → k ≡ roots (get_or xs i d ∷ []) →
+    c + k ≡ roots (take j nodes)
+roots_more xs nodes i j k c d e l ej ec ek =
+    let r : roots (take j nodes) ≡ roots (take i nodes) + roots (get_or xs i d ∷ []) =
+    subst (λ ns. roots (take j ns) ≡ roots (take i ns) + roots (get_or xs i d ∷ [])) e (rw (ej, take-suc xs i d l) (roots_snoc (take i xs) (get_or xs i d))) in
+    omega (arith, r, ec, ek)
+
+-- the node at i stands in a list that is that one
+pub stands_at : (xs nodes : List Node) (i : ℕ) (d : Node) → xs ≡ nodes → i < length xs → slice_get nodes i ≡ Some (get_or xs i d)
+stands_at xs nodes i d e l = subst (λ ns. slice_get ns i ≡ Some (get_or xs i d)) e (slice_get-get_or xs i d l)
 
 -- one row more is met
 pub meet_more : (net : NetTree) (i j : ℕ) (n : Node) → MeetBelow net i → slice_get net.nodes i ≡ Some n → TypesMeet net n → DepthsMeet net n → j ≡ suc i → MeetBelow net j

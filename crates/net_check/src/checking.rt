@@ -7,7 +7,7 @@ ghost use Rattle.net_check.specs.Faults.{FirstFault, IsFirstLoose, IsNodeFault, 
 use crate::NetFault;
 use crate::loose::{first_odd, least_past};
 use crate::rows::{depths_meet, types_meet};
-use crate::tally::{count_all, node_at};
+use crate::tally::count_all;
 use net_build::{Net, Node};
 use std::alloc::{AllocError, Global};
 
@@ -34,8 +34,8 @@ fn count_roots(net: &Net) -> u32
     ensures { result ≡ roots net.now.nodes }
 {
     let mut count = 0;
-    for n in 0..net.node_count() {
-        count += is_root(node_at(net, n));
+    for node in net.nodes() {
+        count += is_root(*node);
     }
     count
 }
@@ -67,10 +67,9 @@ fn check_rows(net: &Net) -> Result<(), NetFault>
     ensures meet { IfOk result (λ _. MeetBelow net.now (length net.now.nodes)) }
     ensures fault { IfErr result (λ e. RowFault net.now e) }
 {
-    for n in 0..net.node_count() {
-        match row_fault(net, n, node_at(net, n)) {
-            Some(fault) => return Err(fault),
-            None => {}
+    for (n, node) in net.nodes().iter().enumerate() {
+        if let Some(fault) = row_fault(net, n as u32, *node) {
+            return Err(fault);
         }
     }
     Ok(())

@@ -5,7 +5,6 @@ ghost use Rattle.net_build.specs.Nets.{premises, conclusions};
 ghost use Rattle.net_build.specs.Sides.{present};
 ghost use Rattle.net_check.specs.Counts.{IsLeastOdd, lesser_of, past_from};
 
-use crate::tally::node_at;
 use net_build::{Net, Node};
 
 /// The least wire, of so many, with a count that isn't 1.
@@ -28,8 +27,8 @@ pub(crate) fn least_past(net: &Net) -> Option<u32>
 {
     let count = net.wire_count();
     let mut least = None;
-    for n in 0..net.node_count() {
-        least = least_of_node(count, least, node_at(net, n));
+    for node in net.nodes() {
+        least = least_of_node(count, least, *node);
     }
     least
 }

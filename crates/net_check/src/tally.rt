@@ -22,26 +22,14 @@ pub(crate) fn count_all(alloc: Global, net: &Net) -> Result<Tally, AllocError>
 {
     let mut below_nodes = zeros(alloc, net.wire_count() as usize)?;
     let mut above_nodes = zeros(alloc, net.wire_count() as usize)?;
-    for n in 0..net.node_count() {
-        let node = node_at(net, n);
-        count_conclusions(&mut below_nodes, node);
-        count_premises(&mut above_nodes, node);
+    for node in net.nodes() {
+        count_conclusions(&mut below_nodes, *node);
+        count_premises(&mut above_nodes, *node);
     }
     Ok(Tally {
         below_nodes,
         above_nodes,
     })
-}
-
-/// The node of a number that has one.
-pub(crate) fn node_at(net: &Net, n: u32) -> Node
-    requires { n < length net.now.nodes }
-    ensures { slice_get net.now.nodes n ≡ Some result }
-{
-    match net.node(n) {
-        Some(node) => node,
-        None => unreachable!(),
-    }
 }
 
 fn zeros(alloc: Global, count: usize) -> Result<Vec<u8>, AllocError>

@@ -2,5 +2,5 @@ use Rattle.std.proofs.Common.{◌≡◌, ◌≤◌, take}
 use Rattle.net_build.specs.Sound.{roots}
 use Rattle.net_check.proofs.checking.count_roots.Given as goal
 
-abbrev pub invariant-loop-n : goal.invariant-loop-n
-invariant-loop-n l = (l.count ≡ roots (take l.n l.net.nodes)) × (l.count ≤ l.n)
+abbrev pub invariant-loop-node : goal.invariant-loop-node
+invariant-loop-node l = (l.count ≡ roots (take l.node-index l.net.nodes)) × (l.count ≤ l.node-index)

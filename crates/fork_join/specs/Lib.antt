@@ -1,0 +1,4 @@
+pub mod Arrivals
+pub mod Codes
+pub mod Entries
+pub mod Nested

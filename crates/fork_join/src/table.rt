@@ -1,0 +1,77 @@
+// The table of open forks.
+ghost use Rattle.std.specs.Prelude.{◌≡◌, None, OnOk, OnErr};
+ghost use Rattle.std.specs.FinMap.{empty, get, insert};
+ghost use Rattle.fork_join.specs.Entries.{pending};
+ghost use Rattle.fork_join.specs.Arrivals.{side_of, IsOpenFor, arrival, after_arrival};
+
+use crate::forks::{Nodes, arrive_in, begin_in};
+use crate::{Arrived, Side};
+use pcf_values::Val;
+use std::alloc::{AllocError, Global};
+use std::collections::BTreeMap;
+use std::marker::Model;
+use token_stacks::BoxStack;
+
+/// The forks that wait for answers: a finite map from node and box stack to nothing kept, or to the answer of one side.
+///
+/// A look-up costs a logarithm of the number of entries. A node whose entries are all closed keeps an empty map until the table is
+/// dropped, so that besides its entries the table takes memory for each node that ever forked.
+#[derive(Drop)]
+pub struct JoinTable {
+    alloc: Global,
+    nodes: Nodes,
+}
+
+impl Model for JoinTable {
+    ghost use Rattle.std.specs.Ordering.{nat_cmp};
+    ghost use Rattle.std.specs.BTreeMap.{IsOrdered};
+    ghost use Rattle.std.specs.FinMap.{FinMap, code};
+    ghost use Rattle.fork_join.specs.Entries.{Entry, key_cmp};
+    ghost use Rattle.fork_join.specs.Codes.{key_code, entry_code};
+    ghost use Rattle.fork_join.specs.Nested.{table_of};
+
+    ghost Value = { FinMap key_cmp Entry };
+
+    ghost coded = { code key_code entry_code };
+
+    ghost view = { λ a. table_of a.nodes };
+
+    ghost invariant = { λ a. IsOrdered nat_cmp a.nodes };
+}
+
+impl JoinTable {
+    /// A table without entries, which takes its memory from `alloc` later on. Takes none itself.
+    pub fn new(alloc: Global) -> JoinTable
+        ensures { result ≡ empty }
+    {
+        JoinTable {
+            alloc,
+            nodes: BTreeMap::new(alloc),
+        }
+    }
+
+    /// Opens the entry of a node and a box stack, which isn't there yet, with nothing kept. All other entries stay.
+    ///
+    /// # Errors
+    ///
+    /// Want of memory; the table is as it was, and the box stack is dropped.
+    pub fn begin(&mut self, node: u32, boxes: BoxStack) -> Result<(), AllocError>
+        requires { get self.old (node, boxes) ≡ None }
+        ensures ok { OnOk result (self.new ≡ insert self.old (node, boxes) pending) }
+        ensures err { OnErr result (self.new ≡ self.old) }
+    {
+        begin_in(&mut self.nodes, self.alloc, node, boxes)
+    }
+
+    /// Brings the answer of a side to the entry of a node and a box stack, where that side isn't kept.
+    ///
+    /// `First` comes exactly where nothing was kept, and the value is kept for the side. `Both` gives the other side's kept value, and
+    /// the entry is gone. All other entries stay. Takes no memory.
+    pub fn arrive(&mut self, node: u32, boxes: &BoxStack, side: Side, v: Val) -> Arrived
+        requires { IsOpenFor (get self.old (node, boxes.now)) (side_of side) }
+        ensures arrived { result ≡ arrival (get self.old (node, boxes.now)) }
+        ensures rest { self.new ≡ after_arrival self.old (node, boxes.now) (side_of side) v }
+    {
+        arrive_in(&mut self.nodes, node, boxes, side, v)
+    }
+}

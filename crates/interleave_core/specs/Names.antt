@@ -1,0 +1,36 @@
+-- What a step is called: by the move of the ticket's token, and at a join by what its entry keeps.
+-- The names tell what a step did to the live tickets. It is none just where the step is none because the ticket isn't live, its token has no
+-- move, or a join finds no entry.
+use Rattle.std.specs.Prelude.{ℕ, Option, Some, None}
+use Rattle.std.specs.FinMap.{get}
+use Rattle.net_build.specs.Nets.{NetTree}
+use Rattle.fork_join.specs.Entries.{Entry, pending, has_left, has_right}
+use Rattle.move_rules.specs.Places.{TokenTree}
+use Rattle.move_rules.specs.Moves.{Move, solo, fork, join, answer, stay, move}
+use Rattle.interleave_core.specs.declared.stepped.Stepped.{Stepped}
+use Rattle.interleave_core.specs.declared.stepped.Stepped.TheVariants.{Went, Forked, Kept, Joined, Answered}
+use Rattle.interleave_core.specs.Maps.{MapState}
+
+-- at a join: the first answer of an entry is kept, and the second one goes on
+abbrev pub name_at : Option Entry → Option Stepped
+name_at None = None
+name_at (Some pending) = Some Kept
+name_at (Some (has_left v)) = Some Joined
+name_at (Some (has_right v)) = Some Joined
+
+-- the name of a move in a state; a fork tells its new ticket
+abbrev pub name_of : Move → MapState → Option Stepped
+name_of (solo n x) S = Some Went
+name_of (fork n l r t) S = Some (Forked S.next)
+name_of (join n o s v w t) S = name_at (get S.entries (n, t))
+name_of (answer v) S = Some (Answered v)
+name_of stay S = None
+
+-- the name of the move of this token, if there is one
+abbrev pub name_on : NetTree → Option TokenTree → MapState → Option Stepped
+name_on net None S = None
+name_on net (Some x) S = name_of (move net x) S
+
+-- the name of the ticket's step
+abbrev pub step_name : NetTree → MapState → ℕ → Option Stepped
+step_name net S i = name_on net (get S.tokens i) S

@@ -1,0 +1,74 @@
+// Joins.
+ghost use Rattle.std.specs.Prelude.{◌≡◌};
+ghost use Rattle.std.specs.FinMap.{get};
+ghost use Rattle.token_stacks.specs.Signatures.{Boxes};
+ghost use Rattle.fork_join.specs.Arrivals.{side_of, IsOpenFor, arrival, after_arrival};
+ghost use Rattle.interleave_core.specs.Forking.{HasBoxes};
+ghost use Rattle.interleave_core.specs.Joining.{op_value, joined_name, JoinsAt};
+
+use crate::Stepped;
+use crate::live::LiveTokens;
+use crate::roles::Operator;
+use fork_join::{Arrived, JoinTable, Side};
+use move_rules::Kind;
+use pcf_values::Val;
+
+// The operator's value, where this side has v and the other side has w.
+fn value(operator: Operator, side: Side, v: Val, w: Val) -> Val
+    ensures { result ≡ op_value operator side v w }
+{
+    let (left, right) = match side {
+        Side::Left => (v, w),
+        Side::Right => (w, v),
+    };
+    match operator {
+        Operator::Plus => left.plus(right),
+        Operator::Minus => left.minus(right),
+        Operator::Times => left.times(right),
+    }
+}
+
+// What the entry makes of the ticket's answer.
+fn arrive(
+    live: &LiveTokens,
+    joins: &mut JoinTable,
+    ticket: u32,
+    at: u32,
+    side: Side,
+    v: Val,
+) -> Arrived
+    requires stands { (t : Boxes) × HasBoxes live.now ticket t × IsOpenFor (get joins.old (at, t)) (side_of side) }
+    ensures { (t : Boxes) × HasBoxes live.now ticket t × (result ≡ arrival (get joins.old (at, t))) × (joins.new ≡ after_arrival joins.old (at, t) (side_of side) v) }
+{
+    match live.get(ticket) {
+        Some(token) => joins.arrive(at, token.stacks.boxes(), side, v),
+        None => unreachable!(),
+    }
+}
+
+// Brings the answer of a ticket to its entry: the first is kept, and its ticket ends; the second goes on down the wire c with what both
+// come to. Takes no memory.
+pub(crate) fn join(
+    live: &mut LiveTokens,
+    joins: &mut JoinTable,
+    ticket: u32,
+    at: u32,
+    operator: Operator,
+    side: Side,
+    v: Val,
+    c: u32,
+) -> Stepped
+    requires stands { (t : Boxes) × HasBoxes live.old ticket t × IsOpenFor (get joins.old (at, t)) (side_of side) }
+    ensures { (t : Boxes) × HasBoxes live.old ticket t × JoinsAt live.old live.new joins.old joins.new ticket at operator side v c t × (result ≡ joined_name (arrival (get joins.old (at, t)))) }
+{
+    match arrive(live, joins, ticket, at, side, v) {
+        Arrived::First => {
+            live.take(ticket);
+            Stepped::Kept
+        }
+        Arrived::Both(w) => {
+            live.send(ticket, c, false, Kind::Ans(value(operator, side, v, w)));
+            Stepped::Joined
+        }
+    }
+}

@@ -1,0 +1,271 @@
+// Live tokens.
+ghost use Rattle.std.specs.Prelude.{[], ◌≡◌, ◌<◌, ◌≤◌, ℕ, false, Some, None, OnOk, OnErr, IfOk, IsSome, length};
+ghost use Rattle.std.specs.Option.{option_map, option_copied, MatchOption};
+ghost use Rattle.std.specs.Ordering.{nat_cmp};
+ghost use Rattle.std.specs.BTreeMap as tree;
+ghost use Rattle.std.specs.FinMap.{empty, get, insert, remove, len};
+ghost use Rattle.token_stacks.specs.Signatures.{Boxes, load};
+ghost use Rattle.move_rules.specs.Moves.{move, NotSolo};
+ghost use Rattle.move_rules.specs.Views.{place_at, of_kind, token_of};
+ghost use Rattle.interleave_core.specs.Forking.{HasBoxes};
+ghost use Rattle.interleave_core.specs.Moving.{ChangesIn, Changes, Solo, SoloAt, Sent, Trails, WalksOn};
+
+use move_rules::{Kind, Token, solo_move};
+use net_build::Net;
+use std::alloc::{AllocError, Global};
+use std::collections::BTreeMap;
+use std::marker::Model;
+use std::ops::Bound;
+
+// The code's map of live tokens.
+type Tokens = BTreeMap<u32, Token>;
+
+// The live tokens of a state, seen as a finite map from tickets to tokens.
+#[derive(Drop)]
+pub(crate) struct LiveTokens {
+    tokens: Tokens,
+}
+
+impl Model for LiveTokens {
+    ghost use Rattle.std.specs.Ordering.{nat_cmp};
+    ghost use Rattle.std.specs.Coded.{coded_ℕ};
+    ghost use Rattle.std.specs.FinMap.{FinMap, code};
+    ghost use Rattle.move_rules.specs.Places.{TokenTree};
+    ghost use Rattle.move_rules.specs.Codes.{token_code};
+    ghost use Rattle.interleave_core.specs.LiveMap.{live_of};
+
+    ghost Value = { FinMap nat_cmp TokenTree };
+
+    ghost coded = { code coded_ℕ token_code };
+
+    ghost view = { λ a. live_of a.tokens };
+}
+
+fn put_in(tokens: &mut Tokens, ticket: u32, token: Token) -> Result<(), AllocError>
+    ensures ok { OnOk result (tree.Updates nat_cmp tokens.old tokens.new ticket (Some token)) }
+    ensures err { OnErr result (tree.IsUnchanged tokens.old tokens.new) }
+{
+    tokens.insert(ticket, token)?;
+    Ok(())
+}
+
+fn take_from(tokens: &mut Tokens, ticket: u32) -> Option<Token>
+    ensures took { result ≡ tree.get nat_cmp tokens.old ticket }
+    ensures rest { tree.Updates nat_cmp tokens.old tokens.new ticket None }
+{
+    tokens.remove(&ticket)
+}
+
+fn look_in(tokens: &Tokens, ticket: u32) -> Option<&Token>
+    ensures { option_copied result ≡ tree.get nat_cmp tokens.now ticket }
+{
+    tokens.get(&ticket)
+}
+
+// Puts a token in the place of the one that is there.
+fn replace_in(tokens: &mut Tokens, ticket: u32, token: Token)
+    requires { IsSome (tree.get nat_cmp tokens.old ticket) }
+    ensures { tree.Updates nat_cmp tokens.old tokens.new ticket (Some token) }
+{
+    match tokens.get_mut(&ticket) {
+        Some(place) => *place = token,
+        None => unreachable!(),
+    }
+}
+
+// The least ticket that has a token.
+fn least_in(tokens: &Tokens) -> Option<u32>
+    ensures { MatchOption result ((q : ℕ) → tree.get nat_cmp tokens.now q ≡ None) (λ i. IsSome (tree.get nat_cmp tokens.now i) × ((q : ℕ) → q < i → tree.get nat_cmp tokens.now q ≡ None)) }
+{
+    match tokens.first_key_value() {
+        Some((ticket, _)) => Some(*ticket),
+        None => None,
+    }
+}
+
+// The least ticket above this one that has a token.
+fn next_in(tokens: &Tokens, after: u32) -> Option<u32>
+    ensures { MatchOption result ((q : ℕ) → after < q → tree.get nat_cmp tokens.now q ≡ None) (λ i. (after < i) × IsSome (tree.get nat_cmp tokens.now i) × ((q : ℕ) → after < q → q < i → tree.get nat_cmp tokens.now q ≡ None)) }
+{
+    match tokens
+        .range((Bound::Excluded(after), Bound::Unbounded))
+        .next()
+    {
+        Some((ticket, _)) => Some(*ticket),
+        None => None,
+    }
+}
+
+// A token's next move in its place, if it is a solo move.
+fn solo_of(net: &Net, token: &mut Token) -> Result<bool, AllocError>
+    ensures ok { IfOk result (λ made. Solo net.now made token.old token.new) }
+    ensures err { OnErr result (token.new ≡ token.old) }
+{
+    match solo_move(net, token)? {
+        Some(_) => Ok(true),
+        None => Ok(false),
+    }
+}
+
+// The same of the token of a ticket.
+fn solo_in(net: &Net, tokens: &mut Tokens, ticket: u32) -> Result<bool, AllocError>
+    requires { IsSome (tree.get nat_cmp tokens.old ticket) }
+    ensures ok { IfOk result (λ made. ChangesIn (Solo net.now made) tokens.old ticket tokens.new) }
+    ensures err { OnErr result ((q : ℕ) → tree.get nat_cmp tokens.new q ≡ tree.get nat_cmp tokens.old q) }
+{
+    match tokens.get_mut(&ticket) {
+        Some(token) => solo_of(net, token),
+        None => unreachable!(),
+    }
+}
+
+// A token's solo moves in its place, each written down by its ticket, until the list has so many entries or the next move is no solo
+// move. After want of memory some of them are made and written down.
+fn walk_of(
+    net: &Net,
+    token: &mut Token,
+    ticket: u32,
+    tickets: &mut Vec<u32>,
+    most: u32,
+) -> Result<(), AllocError>
+    requires { length tickets.old.items ≤ most }
+    ensures { OnOk result (WalksOn net.now ticket tickets.old.items tickets.new.items most token.old token.new) }
+{
+    while tickets.len() < most as usize {
+        match solo_move(net, token)? {
+            Some(_) => tickets.push(ticket)?,
+            None => break,
+        }
+    }
+    Ok(())
+}
+
+// The same of the token of a ticket.
+fn walk_in(
+    net: &Net,
+    tokens: &mut Tokens,
+    ticket: u32,
+    tickets: &mut Vec<u32>,
+    most: u32,
+) -> Result<(), AllocError>
+    requires there { IsSome (tree.get nat_cmp tokens.old ticket) }
+    requires room { length tickets.old.items ≤ most }
+    ensures { OnOk result (ChangesIn (WalksOn net.now ticket tickets.old.items tickets.new.items most) tokens.old ticket tokens.new) }
+{
+    match tokens.get_mut(&ticket) {
+        Some(token) => walk_of(net, token, ticket, tickets, most),
+        None => unreachable!(),
+    }
+}
+
+// The token of a ticket goes to a wire, up or down, as a question or an answer.
+fn send_in(tokens: &mut Tokens, ticket: u32, wire: u32, up: bool, kind: Kind)
+    requires { IsSome (tree.get nat_cmp tokens.old ticket) }
+    ensures { ChangesIn (Sent wire up kind) tokens.old ticket tokens.new }
+{
+    match tokens.get_mut(&ticket) {
+        Some(token) => {
+            token.wire = wire;
+            token.up = up;
+            token.kind = kind;
+        }
+        None => unreachable!(),
+    }
+}
+
+impl LiveTokens {
+    // No tokens. Takes no memory.
+    pub(crate) fn new(alloc: Global) -> LiveTokens
+        ensures { result ≡ empty }
+    {
+        LiveTokens {
+            tokens: BTreeMap::new(alloc),
+        }
+    }
+
+    // The token of a ticket. Takes no memory.
+    pub(crate) fn get(&self, ticket: u32) -> Option<&Token>
+        ensures { option_map token_of (option_copied result) ≡ get self.now ticket }
+    {
+        look_in(&self.tokens, ticket)
+    }
+
+    // How many tickets have a token. Takes no memory.
+    pub(crate) fn count(&self) -> usize
+        ensures { result ≡ len self.now }
+    {
+        self.tokens.len()
+    }
+
+    // Gives a ticket its token. After want of memory all is as before.
+    pub(crate) fn put(&mut self, ticket: u32, token: Token) -> Result<(), AllocError>
+        ensures ok { OnOk result (self.new ≡ insert self.old ticket (token_of token)) }
+        ensures err { OnErr result (self.new ≡ self.old) }
+    {
+        put_in(&mut self.tokens, ticket, token)
+    }
+
+    // Ends a ticket, and hands its token out. Takes no memory.
+    pub(crate) fn take(&mut self, ticket: u32) -> Option<Token>
+        ensures took { option_map token_of result ≡ get self.old ticket }
+        ensures rest { self.new ≡ remove self.old ticket }
+    {
+        take_from(&mut self.tokens, ticket)
+    }
+
+    // Puts a token in the place of the one that the ticket has. Takes no memory.
+    pub(crate) fn replace(&mut self, ticket: u32, token: Token)
+        requires { IsSome (get self.old ticket) }
+        ensures { self.new ≡ insert self.old ticket (token_of token) }
+    {
+        replace_in(&mut self.tokens, ticket, token)
+    }
+
+    // The least ticket that has a token, and `None` exactly where there is none. Takes no memory.
+    pub(crate) fn least(&self) -> Option<u32>
+        ensures { MatchOption result ((q : ℕ) → get self.now q ≡ None) (λ i. IsSome (get self.now i) × ((q : ℕ) → q < i → get self.now q ≡ None)) }
+    {
+        least_in(&self.tokens)
+    }
+
+    // The least ticket above this one that has a token, and `None` exactly where there is none. Takes no memory.
+    pub(crate) fn next(&self, after: u32) -> Option<u32>
+        ensures { MatchOption result ((q : ℕ) → after < q → get self.now q ≡ None) (λ i. (after < i) × IsSome (get self.now i) × ((q : ℕ) → after < q → q < i → get self.now q ≡ None)) }
+    {
+        next_in(&self.tokens, after)
+    }
+
+    // Makes the ticket's next move on this net in place, if it is a solo move. After want of memory all is as before.
+    pub(crate) fn solo(&mut self, net: &Net, ticket: u32) -> Result<bool, AllocError>
+        requires { IsSome (get self.old ticket) }
+        ensures ok { IfOk result (λ made. SoloAt net.now self.old ticket made self.new) }
+        ensures err { OnErr result (self.new ≡ self.old) }
+    {
+        solo_in(net, &mut self.tokens, ticket)
+    }
+
+    // Makes the ticket's solo moves on this net in place, each written down by its ticket, until the list has so many entries or the
+    // next move is no solo move. After want of memory some of them are made and written down.
+    pub(crate) fn walk(
+        &mut self,
+        net: &Net,
+        ticket: u32,
+        tickets: &mut Vec<u32>,
+        most: u32,
+    ) -> Result<(), AllocError>
+        requires there { IsSome (get self.old ticket) }
+        requires room { length tickets.old.items ≤ most }
+        ensures { OnOk result (Changes (WalksOn net.now ticket tickets.old.items tickets.new.items most) self.old ticket self.new) }
+    {
+        walk_in(net, &mut self.tokens, ticket, tickets, most)
+    }
+
+    // The token of a ticket, whose work stack is empty, goes to a wire, up or down, as a question or an answer; its box stack stays.
+    // Takes no memory.
+    pub(crate) fn send(&mut self, ticket: u32, wire: u32, up: bool, kind: Kind)
+        requires { IsSome (get self.old ticket) }
+        ensures { (t : Boxes) → HasBoxes self.old ticket t → self.new ≡ insert self.old ticket (of_kind kind (place_at wire up (load [] t))) }
+    {
+        send_in(&mut self.tokens, ticket, wire, up, kind)
+    }
+}
