@@ -32,11 +32,7 @@ fn question(token: &Token, wire: u32) -> Result<(Token, BoxStack), AllocError>
 }
 
 // The same of the token of a ticket.
-fn right_question(
-    live: &LiveTokens,
-    ticket: u32,
-    b: u32,
-) -> Result<(Token, BoxStack), AllocError>
+fn right_question(live: &LiveTokens, ticket: u32, b: u32) -> Result<(Token, BoxStack), AllocError>
     requires { (t : Boxes) × HasBoxes live.now ticket t }
     ensures { IfOk result (λ r. Copies live.now ticket b (token_of r.0) r.1) }
 {

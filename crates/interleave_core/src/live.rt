@@ -31,7 +31,7 @@ impl Model for LiveTokens {
     ghost use Rattle.std.specs.Coded.{coded_ℕ};
     ghost use Rattle.std.specs.FinMap.{FinMap, code};
     ghost use Rattle.move_rules.specs.Places.{TokenTree};
-    ghost use Rattle.interleave_core.specs.Codes.{token_code};
+    ghost use Rattle.move_rules.specs.Codes.{token_code};
     ghost use Rattle.interleave_core.specs.LiveMap.{live_of};
 
     ghost Value = { FinMap nat_cmp TokenTree };

@@ -1,7 +1,17 @@
 // The parts of a state, side by side.
+ghost use Rattle.std.specs.Prelude.{◌≡◌, IfOk};
+ghost use Rattle.interleave_core.specs.Start.{start_of};
+ghost use Rattle.interleave_core.specs.Maps.{start_map};
+ghost use Rattle.interleave_core.specs.Parts.{state_of};
+
 use crate::live::LiveTokens;
+use crate::root::root;
 use fork_join::JoinTable;
+use move_rules::{Kind, Token};
+use net_build::Net;
 use pcf_values::Val;
+use std::alloc::{AllocError, Global};
+use token_stacks::Stacks;
 
 // The live tokens, the open entries, the next ticket, and the answer.
 #[derive(Drop)]
@@ -10,4 +20,27 @@ pub(crate) struct Parts {
     pub(crate) joins: JoinTable,
     pub(crate) next: u32,
     pub(crate) answer: Option<Val>,
+}
+
+// The parts with which a run begins: ticket 0 asks for the program's value.
+pub(crate) fn begin(alloc: Global, net: &Net) -> Result<Parts, AllocError>
+    ensures { IfOk result (λ p. state_of p ≡ start_map (start_of net.now)) }
+{
+    let wire = root(net);
+    let mut live = LiveTokens::new(alloc);
+    live.put(
+        0,
+        Token {
+            wire,
+            up: true,
+            kind: Kind::Ask,
+            stacks: Stacks::empty(alloc),
+        },
+    )?;
+    Ok(Parts {
+        live,
+        joins: JoinTable::new(alloc),
+        next: 1,
+        answer: None,
+    })
 }

@@ -1,0 +1,140 @@
+// The machine's state, and its steps.
+ghost use Rattle.std.specs.Prelude.{◌≡◌, ◌↔◌, replicate, Some, OnOk, OnErr, IfOk, IsSome, IfSome, IfNone, IsTrue, length};
+ghost use Rattle.std.specs.Option.{option_map, option_copied, MatchOption};
+ghost use Rattle.std.specs.FinMap.{get, len};
+ghost use Rattle.pcf_values.specs.Most.{most_budget};
+ghost use Rattle.net_build.specs.Sound.{Sound};
+ghost use Rattle.move_rules.specs.Views.{token_of};
+ghost use Rattle.interleave_core.specs.Start.{start_of};
+ghost use Rattle.interleave_core.specs.Runs.{Runs};
+ghost use Rattle.interleave_core.specs.Maps.{start_map, step_map, run_map, IsReachedWithin};
+ghost use Rattle.interleave_core.specs.Tickets.{IsLive, NoneLive, IsLeastLive, NoneLiveAbove, IsNextLive};
+ghost use Rattle.interleave_core.specs.Names.{step_name};
+ghost use Rattle.interleave_core.specs.Adopting.{Accepts, adopted};
+
+use crate::Stepped;
+use crate::acting::step_in;
+use crate::adopting::adopt_in;
+use crate::parts::{Parts, begin};
+use move_rules::{Moved, Token};
+use net_build::Net;
+use pcf_values::Val;
+use std::alloc::{AllocError, Global};
+use std::marker::Model;
+
+/// A state of the machine: the live tokens by their tickets, the entries of open forks, the next ticket, and the answer if it came.
+///
+/// A step costs what its move moves, and a look-up among the live tickets or the entries costs a logarithm of their number. No call
+/// scans.
+#[derive(Drop)]
+pub struct Core {
+    parts: Parts,
+}
+
+impl Model for Core {
+    ghost use Rattle.std.specs.Prelude.{◌≤◌};
+    ghost use Rattle.std.specs.FinMap.{len};
+    ghost use Rattle.interleave_core.specs.Maps.{MapState};
+    ghost use Rattle.interleave_core.specs.Codes.{state_code};
+    ghost use Rattle.interleave_core.specs.Parts.{state_of};
+
+    ghost Value = { MapState };
+
+    ghost coded = { state_code };
+
+    ghost view = { λ a. state_of a.parts };
+
+    ghost invariant = { λ a. len a.parts.live ≤ a.parts.next };
+}
+
+impl Core {
+    /// The state in which a run of this net begins: ticket 0 asks for the value of the net's first root.
+    pub fn start(alloc: Global, net: &Net) -> Result<Core, AllocError>
+        ensures { IfOk result (λ c. c ≡ start_map (start_of net.now)) }
+    {
+        let parts = begin(alloc, net)?;
+        Ok(Core { parts })
+    }
+
+    /// Whether the ticket has a token. Takes no memory.
+    pub fn is_live(&self, ticket: u32) -> bool
+        ensures { IsTrue result ↔ IsLive self.now ticket }
+    {
+        self.parts.live.get(ticket).is_some()
+    }
+
+    /// The least live ticket, and `None` exactly where no token is live. Takes no memory.
+    pub fn least_live(&self) -> Option<u32>
+        ensures { MatchOption result (NoneLive self.now) (IsLeastLive self.now) }
+    {
+        self.parts.live.least()
+    }
+
+    /// The least live ticket above the given one, and `None` exactly where there is none. Takes no memory.
+    pub fn next_live(&self, ticket: u32) -> Option<u32>
+        ensures { MatchOption result (NoneLiveAbove self.now ticket) (IsNextLive self.now ticket) }
+    {
+        self.parts.live.next(ticket)
+    }
+
+    /// How many tickets are live, in constant time. Takes no memory.
+    pub fn live_count(&self) -> u32
+        ensures { result ≡ len self.now.tokens }
+    {
+        let count = self.parts.live.count();
+        prove!(count <= self.parts.next as usize);
+        count as u32
+    }
+
+    /// The ticket that the next fork gives out. Takes no memory.
+    pub fn next_ticket(&self) -> u32
+        ensures { result ≡ self.now.next }
+    {
+        self.parts.next
+    }
+
+    /// The token of a ticket, and `None` exactly where the ticket isn't live. Takes no memory.
+    pub fn token(&self, ticket: u32) -> Option<&Token>
+        ensures { option_map token_of (option_copied result) ≡ get self.now.tokens ticket }
+    {
+        self.parts.live.get(ticket)
+    }
+
+    /// The answer, and `None` exactly where it didn't come yet. Takes no memory.
+    pub fn answer(&self) -> Option<Val>
+        ensures { result ≡ self.now.answered }
+    {
+        self.parts.answer
+    }
+
+    /// Makes the one move of a live ticket on the net that the state is a run of, and tells what it was. A solo move copies no token; a
+    /// fork copies the box stack twice, for its new token and for its entry.
+    ///
+    /// # Errors
+    ///
+    /// Want of memory; the state is as it was.
+    pub fn step(&mut self, net: &Net, ticket: u32) -> Result<Stepped, AllocError>
+        requires runs { Runs net.now }
+        requires live { IsLive self.old ticket }
+        requires reached { IsReachedWithin net.now most_budget self.old }
+        ensures name { IfOk result (λ s. step_name net.now self.old ticket ≡ Some s) }
+        ensures steps { OnOk result (step_map net.now self.old ticket ≡ Some self.new) }
+        ensures stays { OnErr result (self.new ≡ self.old) }
+    {
+        step_in(&mut self.parts, net, ticket)
+    }
+
+    /// Takes over a walk of the ticket's token that was made elsewhere: it answers `Some` with the number of moves exactly where the walk
+    /// begins with that token, has at least one move and at most `most`, and each node of its trail is the net's. These are as many steps
+    /// of the ticket. Otherwise it answers `None`, and all stays. Takes no memory.
+    pub fn adopt(&mut self, net: &Net, ticket: u32, moved: Moved, most: u32) -> Option<u32>
+        requires sound { Sound net.now }
+        ensures accepted { IsSome result ↔ Accepts net.now self.old ticket moved most }
+        ensures count { IfSome result (λ n. n ≡ length moved.trail) }
+        ensures steps { IfSome result (λ n. run_map net.now self.old (replicate n ticket) ≡ Some self.new) }
+        ensures after { IfSome result (λ n. self.new ≡ adopted self.old ticket moved) }
+        ensures stays { IfNone result (self.new ≡ self.old) }
+    {
+        adopt_in(&mut self.parts.live, net, ticket, moved, most)
+    }
+}

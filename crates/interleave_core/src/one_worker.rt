@@ -1,0 +1,74 @@
+// The run of one worker.
+ghost use Rattle.std.specs.Prelude.{◌≡◌, ◌≤◌, ◌<◌, OnOk, IfOk, length};
+ghost use Rattle.pcf_values.specs.Most.{most_budget};
+ghost use Rattle.interleave_core.specs.Runs.{Runs};
+ghost use Rattle.interleave_core.specs.OneWorker.{one};
+ghost use Rattle.interleave_core.specs.Maps.{MapState, LeadsToMap};
+ghost use Rattle.interleave_core.specs.Tickets.{IsLeastLive};
+ghost use Rattle.interleave_core.specs.Parts.{state_of};
+ghost use Rattle.interleave_core.specs.Alone.{RunsAlone};
+
+use crate::acting::act;
+use crate::parts::{Parts, begin};
+use net_build::Net;
+use pcf_values::Val;
+use std::alloc::{AllocError, Global};
+
+/// What one worker made of a net: the tickets that moved, in turn, and the answer if it came.
+#[derive(Drop)]
+pub struct Ran {
+    pub tickets: Vec<u32>,
+    pub answer: Option<Val>,
+}
+
+// The least live ticket moves as long as its moves are solo moves, in place, and then makes the move that isn't, as far as the budget
+// goes. Each move is written down.
+fn go_on(
+    parts: &mut Parts,
+    net: &Net,
+    ticket: u32,
+    tickets: &mut Vec<u32>,
+    budget: u32,
+) -> Result<(), AllocError>
+    requires runs { Runs net.now }
+    requires budget { budget ≤ most_budget }
+    requires room { length tickets.old.items < budget }
+    requires alone { RunsAlone net.now tickets.old.items (state_of parts.old) }
+    requires least { IsLeastLive (state_of parts.old) ticket }
+    ensures alone { OnOk result (RunsAlone net.now tickets.new.items (state_of parts.new)) }
+    ensures longer { OnOk result (length tickets.old.items < length tickets.new.items) }
+    ensures within { OnOk result (length tickets.new.items ≤ budget) }
+{
+    parts.live.walk(net, ticket, tickets, budget)?;
+    if tickets.len() == budget as usize {
+        return Ok(());
+    }
+    act(parts, net, ticket)?;
+    tickets.push(ticket)?;
+    Ok(())
+}
+
+/// The run of one worker on this net: the least live ticket moves, until the answer comes or the budget is spent. The answer is there
+/// exactly where the run of the tickets has it.
+///
+/// A ticket is looked up once for all its moves up to the next fork, join or answer. Besides the net and the live tokens, the run takes
+/// the memory of its list.
+pub fn run_one(alloc: Global, net: &Net, budget: u32) -> Result<Ran, AllocError>
+    requires runs { Runs net.now }
+    requires budget { (1 ≤ budget) × (budget ≤ most_budget) }
+    ensures tickets { IfOk result (λ r. r.tickets.items ≡ one net.now budget) }
+    ensures answer { IfOk result (λ r. (S : MapState) × LeadsToMap net.now r.tickets.items S × (r.answer ≡ S.answered)) }
+{
+    let mut parts = begin(alloc, net)?;
+    let mut tickets = Vec::new(alloc);
+    while tickets.len() < budget as usize {
+        match parts.live.least() {
+            Some(ticket) => go_on(&mut parts, net, ticket, &mut tickets, budget)?,
+            None => break,
+        }
+    }
+    Ok(Ran {
+        answer: parts.answer,
+        tickets,
+    })
+}

@@ -1,0 +1,28 @@
+// Where a run begins.
+ghost use Rattle.std.specs.Prelude.{◌≡◌};
+ghost use Rattle.interleave_core.specs.Start.{root_wire};
+ghost use Rattle.interleave_core.specs.Roots.{root_at};
+
+use net_build::{Net, Node};
+
+// The wire of a root, if the node is one.
+fn at(node: Node) -> Option<u32>
+    ensures { result ≡ root_at node }
+{
+    match node {
+        Node::Root { w } => Some(w),
+        _ => None,
+    }
+}
+
+// The wire of the net's first root, which is that of the program's value; 0 where there is no root.
+pub(crate) fn root(net: &Net) -> u32
+    ensures { result ≡ root_wire net.now.nodes }
+{
+    for node in net.nodes() {
+        if let Some(wire) = at(*node) {
+            return wire;
+        }
+    }
+    0
+}
