@@ -1,5 +1,5 @@
 -- The promise of the top call is kept: an answer that is right for the words and the files, and is delivered, is what it promises.
-use Rattle.std.proofs.Common.{◌≡◌, ◌⊎◌, ℕ, ◌≤◌, List, length, Option, Some, None, IsTrue, refl, sym, subst, inl, inr, ⊎_elim, arith}
+use Rattle.std.proofs.Common.{◌≡◌, ◌⊎◌, ℕ, ◌≤◌, List, length, Option, Some, None, IsTrue, refl, sym, ◌∙◌, subst, inl, inr, ⊎_elim, arith}
 use Rattle.goi_engine.specs.declared.fault.Fault.{Fault}
 use Rattle.goi_engine.specs.declared.answer.Answer.{Answer}
 use Rattle.goi_engine.specs.declared.answer.Answer.TheVariants.{Prints, Refused, BadWords, NotRead, NoMemory}
@@ -7,19 +7,20 @@ use Rattle.goi_engine.specs.Answers.{NotReadFor, AnswersJob, Answers}
 use Rattle.goi_engine.specs.Delivers.{Untouched, Wrote, Reported, Refuses, Delivered}
 use Rattle.goi_engine.specs.FilesSeen.{FilesKept}
 use Rattle.goi_engine.specs.Jobs.{JobTree}
-use Rattle.goi_engine.specs.Promise.{World, WroteLine, RefusalLine, of_words, of_read, of_memory, of_fault, MeansDone, MeansFault, MeansBadWords, MeansNotRead, MeansNotWritten, MeansNoMemory, Quiet, NoneFailed, SureRoom, CompleteReport, CompleteFault, CompleteWords, CompleteLacked, Promise}
+use Rattle.goi_engine.specs.Promise.{World, WroteLine, RefusalLine, of_words, of_read, of_memory, of_fault, MeansPrinted, MeansFault, MeansBadWords, MeansNotRead, MeansNotWritten, MeansNoMemory, Quiet, NoneFailed, SureRoom, CompleteReport, CompleteFault, CompleteWords, CompleteLacked, Promise}
 use Rattle.goi_engine.specs.Refusals.{fault_line, words_line, read_line, memory_line}
 use Rattle.goi_engine.specs.Reports.{most_line}
-use Rattle.goi_engine.specs.Verdicts.{ReportsJob, RefusesJob, CanDo, FaultyJob, LacksFor}
-use Rattle.goi_engine.proofs.Told.{told_not_lacked, short_refusal}
+use Rattle.goi_engine.specs.Verdicts.{ReportsJob, CanDo, FaultyJob, LacksFor}
+use Rattle.goi_engine.proofs.Told.{told_not_lacked, short_refusal, two_statuses}
 
 -- what came, by its status
 data Outcome (job : Option JobTree) (old new : World) : ℕ → Type 0 where
-  done : MeansDone job old new → Quiet old.out new.out → Quiet old.err new.err → new.files.faults ≡ old.files.faults → Outcome job old new 0
+  done : MeansPrinted 0 job old new → Quiet old.out new.out → Quiet old.err new.err → new.files.faults ≡ old.files.faults → Outcome job old new 0
   fault : MeansFault job old new → new.files.faults ≡ old.files.faults → Outcome job old new 1
   bad_words : MeansBadWords job old new → new.files.faults ≡ old.files.faults → Outcome job old new 2
   not_read : MeansNotRead job old new → Outcome job old new 3
   not_written : MeansNotWritten job old new → Outcome job old new 4
+  no_value : MeansPrinted 5 job old new → Quiet old.out new.out → Quiet old.err new.err → new.files.faults ≡ old.files.faults → Outcome job old new 5
   no_memory : MeansNoMemory old new → new.files.faults ≡ old.files.faults → Outcome job old new 6
 
 quiet_line : (line : List ℕ) (old new : World) → WroteLine line old new → Quiet old.out new.out × Quiet old.err new.err
@@ -34,7 +35,7 @@ short_line job old new _ (of_fault j line e h) = short_refusal j old.files line 
 
 -- sinks that are sure to take what may come don't fail
 never_broke : (job : Option JobTree) (old new : World) → SureRoom job old → MeansNotWritten job old new → ⊥
-never_broke job old new room (inl o) = let fits = room.out o.j o.report o.asked o.right in omega (arith, o.out.short, fits)
+never_broke job old new room (inl o) = let fits = room.out o.j o.status o.report o.asked o.right in omega (arith, o.out.short, fits)
 never_broke job old new room (inr e) = let fits = short_line job old new e.line e.stands in omega (arith, e.err.short, fits, room.err)
 
 module _ (job : Option JobTree) (old new : World) (files : FilesKept old.files new.files) where
@@ -45,6 +46,7 @@ module _ (job : Option JobTree) (old new : World) (files : FilesKept old.files n
     bad_words = λ e. absurd cc;
     not_read = λ e. absurd cc;
     not_written = λ e. absurd cc;
+    no_value = λ e. absurd cc;
     no_memory = λ e. absurd cc;
     statuses = inl refl;
     files = files;
@@ -62,6 +64,7 @@ module _ (job : Option JobTree) (old new : World) (files : FilesKept old.files n
     bad_words = λ e. absurd cc;
     not_read = λ e. absurd cc;
     not_written = λ e. absurd cc;
+    no_value = λ e. absurd cc;
     no_memory = λ e. absurd cc;
     statuses = inr (inl refl);
     files = files;
@@ -79,6 +82,7 @@ module _ (job : Option JobTree) (old new : World) (files : FilesKept old.files n
     bad_words = λ e. m;
     not_read = λ e. absurd cc;
     not_written = λ e. absurd cc;
+    no_value = λ e. absurd cc;
     no_memory = λ e. absurd cc;
     statuses = inr (inr (inl refl));
     files = files;
@@ -96,6 +100,7 @@ module _ (job : Option JobTree) (old new : World) (files : FilesKept old.files n
     bad_words = λ e. absurd cc;
     not_read = λ e. m;
     not_written = λ e. absurd cc;
+    no_value = λ e. absurd cc;
     no_memory = λ e. absurd cc;
     statuses = inr (inr (inr (inl refl)));
     files = files;
@@ -113,6 +118,7 @@ module _ (job : Option JobTree) (old new : World) (files : FilesKept old.files n
     bad_words = λ e. absurd cc;
     not_read = λ e. absurd cc;
     not_written = λ e. m;
+    no_value = λ e. absurd cc;
     no_memory = λ e. absurd cc;
     statuses = inr (inr (inr (inr (inl refl))));
     files = files;
@@ -124,14 +130,33 @@ module _ (job : Option JobTree) (old new : World) (files : FilesKept old.files n
     refuses_words = c;
     refuses_lacked = d;
   }
+  promised _ (no_value m q r f) a b c d = record {
+    done = λ e. absurd cc;
+    fault = λ e. absurd cc;
+    bad_words = λ e. absurd cc;
+    not_read = λ e. absurd cc;
+    not_written = λ e. absurd cc;
+    no_value = λ e. m;
+    no_memory = λ e. absurd cc;
+    statuses = inr (inr (inr (inr (inr (inl refl)))));
+    files = files;
+    quiet = λ e. (q, r);
+    read = λ e g. f;
+    sure = λ room e. absurd cc;
+    reports = a;
+    refuses = b;
+    refuses_words = c;
+    refuses_lacked = d;
+  }
   promised _ (no_memory m f) a b c d = record {
     done = λ e. absurd cc;
     fault = λ e. absurd cc;
     bad_words = λ e. absurd cc;
     not_read = λ e. absurd cc;
     not_written = λ e. absurd cc;
+    no_value = λ e. absurd cc;
     no_memory = λ e. m;
-    statuses = inr (inr (inr (inr (inr refl))));
+    statuses = inr (inr (inr (inr (inr (inr refl)))));
     files = files;
     quiet = λ e. quiet_line memory_line old new m;
     read = λ e g. f;
@@ -148,14 +173,20 @@ module _ (job : Option JobTree) (old new : World) where
   refusal own line status stands came (u, inl (e, w)) = subst (Outcome job old new) (sym e) (came (record { out = u; err = w }))
   refusal own line status stands came (u, inr (e, b)) = subst (Outcome job old new) (sym e) (not_written (inr (record { line = line; stands = stands; out = u; err = b })))
 
-  report : (j : JobTree) → job ≡ Some j → (text : List ℕ) → ReportsJob j old.files text → (status : ℕ) → (Wrote text old.out new.out → Untouched old.err new.err → Outcome job old new 0) → Reported text old.out new.out old.err new.err status → Outcome job old new status
-  report j asked text right status came (inl (e, w, u)) = subst (Outcome job old new) (sym e) (came w u)
-  report j asked text right status came (inr (e, b, r)) = subst (Outcome job old new) (sym e) (not_written (inl (record { j = j; asked = asked; report = text; right = right; out = b; err = r })))
+  ended : (own : ℕ) → (own ≡ 0) ⊎ (own ≡ 5) → MeansPrinted own job old new → Quiet old.out new.out → Quiet old.err new.err → new.files.faults ≡ old.files.faults → Outcome job old new own
+  ended own (inl e) m q r f = subst (Outcome job old new) (sym e) (done (subst (λ (o : ℕ). MeansPrinted o job old new) e m) q r f)
+  ended own (inr e) m q r f = subst (Outcome job old new) (sym e) (no_value (subst (λ (o : ℕ). MeansPrinted o job old new) e m) q r f)
+
+  report : (j : JobTree) → job ≡ Some j → (own : ℕ) (text : List ℕ) → ReportsJob j old.files own text → (status : ℕ) → (Wrote text old.out new.out → Untouched old.err new.err → Outcome job old new own) → Reported own text old.out new.out old.err new.err status → Outcome job old new status
+  report j asked own text right status came (inl (e, w, u)) = subst (Outcome job old new) (sym e) (came w u)
+  report j asked own text right status came (inr (e, b, r)) = subst (Outcome job old new) (sym e) (not_written (inl (record { j = j; asked = asked; status = own; report = text; right = right; out = b; err = r })))
 
 -- what came of an answer
 outcome_job : (j : JobTree) (old new : World) (a : Answer) (status : ℕ) → AnswersJob j old.files new.files a → Delivered a old.out new.out old.err new.err status → Outcome (Some j) old new status
-outcome_job j old new (Prints text) status (h, right) d =
-    report (Some j) old new j refl text.items right status (λ w u. done (j, refl, record { report = text.items; right = right; out = w; err = u }) w.faults u.faults h.faults) d
+outcome_job j old new (Prints r) status (h, right) d =
+    report (Some j) old new j refl r.status r.text.items right status
+    (λ w u. ended (Some j) old new r.status (two_statuses j old.files r.status r.text.items right) (j, refl, record { report = r.text.items; right = right; out = w; err = u }) w.faults u.faults h.faults)
+    d
 outcome_job j old new (Refused line) status (h, right) d =
     refusal (Some j) old new 1 line.items status (of_fault j line.items refl right) (λ w. fault (j, refl, record { line = line.items; right = right; wrote = w }) h.faults) d
 outcome_job j old new BadWords status h d = absurd h
@@ -176,9 +207,9 @@ module _ (old new : World) (fine : NoneFailed old new) where
   refused_well own line status (u, inl (e, w)) = (e, record { out = u; err = w })
   refused_well own line status (u, inr (e, b)) = absurd (fine.err b.rose)
 
-  reported_well : (text : List ℕ) (status : ℕ) → Reported text old.out new.out old.err new.err status → status ≡ 0
-  reported_well text status (inl (e, w, u)) = e
-  reported_well text status (inr (e, b, r)) = absurd (fine.out b.rose)
+  reported_well : (own : ℕ) (text : List ℕ) (status : ℕ) → Reported own text old.out new.out old.err new.err status → status ≡ own
+  reported_well own text status (inl (e, w, u)) = e
+  reported_well own text status (inr (e, b, r)) = absurd (fine.out b.rose)
 
   no_memory_well : (status : ℕ) → Refuses 6 memory_line old.out new.out old.err new.err status → status ≡ 6
   no_memory_well status d = (refused_well 6 memory_line status d).0
@@ -186,15 +217,15 @@ module _ (old new : World) (fine : NoneFailed old new) where
 -- Below, a job is answered, and no device failed.
 module _ (j : JobTree) (old new : World) (untold : (name : List ℕ) → IsTrue (old.files.lacks name) → old.files.told name ≡ None) (fine : NoneFailed old new) (status : ℕ) where
   -- what the files tell for the job was read
-  unread : CanDo j old.files ⊎ ((f : Fault) × FaultyJob j old.files f) → NotReadFor j old.files new.files → ⊥
+  unread : ((own : ℕ) × CanDo j old.files own) ⊎ ((f : Fault) × FaultyJob j old.files f) → NotReadFor j old.files new.files → ⊥
   unread told h = ⊎_elim (told_not_lacked j old.files untold told) fine.files h.cause
 
-  report_comes : (a : Answer) → AnswersJob j old.files new.files a → Delivered a old.out new.out old.err new.err status → CanDo j old.files → (status ≡ 0) ⊎ (status ≡ 6)
-  report_comes (Prints text) h d can = inl (reported_well old new fine text.items status d)
-  report_comes (Refused line) h d can = absurd (h.0.accepted can)
-  report_comes BadWords h d can = absurd h
-  report_comes NotRead h d can = absurd (unread (inl can) h)
-  report_comes NoMemory h d can = inr (no_memory_well old new fine status d)
+  report_comes : (a : Answer) → AnswersJob j old.files new.files a → Delivered a old.out new.out old.err new.err status → (own : ℕ) → CanDo j old.files own → (status ≡ own) ⊎ (status ≡ 6)
+  report_comes (Prints r) h d own can = inl (reported_well old new fine r.status r.text.items status d ∙ h.0.accepted own can)
+  report_comes (Refused line) h d own can = absurd (h.0.accepted own can)
+  report_comes BadWords h d own can = absurd h
+  report_comes NotRead h d own can = absurd (unread (inl (own, can)) h)
+  report_comes NoMemory h d own can = inr (no_memory_well old new fine status d)
 
   refusal_comes : (a : Answer) → AnswersJob j old.files new.files a → Delivered a old.out new.out old.err new.err status → (f : Fault) → FaultyJob j old.files f → ((status ≡ 1) × WroteLine (fault_line f) old new) ⊎ (status ≡ 6)
   refusal_comes (Prints text) h d f k = absurd (h.0.faulty f k)
@@ -227,7 +258,7 @@ module _ (old new : World) (a : Answer) where
   pub kept : (job : Option JobTree) (status : ℕ) → FilesKept old.files new.files → ((name : List ℕ) → IsTrue (old.files.lacks name) → old.files.told name ≡ None) → Of job → Delivered a old.out new.out old.err new.err status → Promise job old new status
   kept job status files untold h d =
       promised job old new files status (outcome job old new a status h d)
-      (λ j e can fine. report_comes j old new untold fine status a (subst Of e h) d can)
+      (λ j own e can fine. report_comes j old new untold fine status a (subst Of e h) d own can)
       (λ j f e faulty fine. refusal_comes j old new untold fine status a (subst Of e h) d f faulty)
       (λ e fine. words_come old new a status (subst Of e h) d fine)
       (λ j e l fine. lacked_comes j old new untold fine status a (subst Of e h) d l)

@@ -1,11 +1,9 @@
 pub mod Judged
 pub mod Kept
-pub mod Lengths
 pub mod Listed
 pub mod Loading
-pub mod Reported
+pub mod Ran
 pub mod Short
 pub mod Sized
-pub mod SmallRun
 pub mod Told
 pub mod Writing

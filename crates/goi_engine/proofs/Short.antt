@@ -1,10 +1,9 @@
 -- How long the lines of refusals and the reports on runs are.
-use Rattle.std.proofs.Common.{◌≡◌, ℕ, ◌+◌, ◌^◌, ◌<◌, ◌≤◌, List, ◌++◌, length, codes, decimal, Result, Ok, Err, IfOk, string_bytes, String, arith, length-append, subst, sym}
+use Rattle.std.proofs.Common.{ℕ, ◌^◌, ◌<◌, ◌≤◌, List, ◌++◌, length, codes, decimal, Result, Ok, Err, IfOk, arith, length-append}
 use Rattle.std.proofs.lemmas.Fmt.{length-decimal-le}
-use Rattle.std.proofs.lemmas.Result.{IfOk-weaker}
 use Rattle.pcf_values.specs.declared.val.Val.TheVariants.{Number, Overflow}
 use Rattle.goi_engine.specs.Refusals.{plain_line, placed_line}
-use Rattle.goi_engine.specs.Reports.{most_line, run_report}
+use Rattle.goi_engine.specs.Reports.{most_line, run_report, no_value_report}
 
 -- a short name makes a short line
 pub plain_short : (name : List ℕ) → length name ≤ 20 → length (plain_line name) ≤ most_line
@@ -29,6 +28,12 @@ overflow_short moves b =
     let y = decimal moves in
     let d : length y ≤ 10 = length-decimal-le 10 moves (omega arith) (omega arith) (omega arith) in
     omega (arith, d, length-append (codes "value overflow\nmoves ") (y ++ codes "\n"), length-append y (codes "\n"))
+
+pub no_value_short : (moves : ℕ) → moves < 2 ^ 32 → length (no_value_report moves) ≤ most_line
+no_value_short moves b =
+    let y = decimal moves in
+    let d : length y ≤ 10 = length-decimal-le 10 moves (omega arith) (omega arith) (omega arith) in
+    omega (arith, d, length-append (codes "no value\nmoves ") (y ++ codes "\n"), length-append y (codes "\n"))
 
 -- two facts of one answer
 pub both_ok : {A E : Type 0} (r : Result A E) (P Q : A → Type 0) → IfOk r P → IfOk r Q → IfOk r (λ v. P v × Q v)

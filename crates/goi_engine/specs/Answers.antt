@@ -11,17 +11,17 @@ use Rattle.goi_engine.specs.Verdicts.{Suitable, Faulty, ReportsOn, RefusesOn, Re
 
 -- what the answer says of the text is right
 abbrev pub RightText : JobTree → List ℕ → Answer → Type 0
-RightText j bytes (Prints report) = ReportsOn j bytes report.items
+RightText j bytes (Prints report) = ReportsOn j bytes report.status report.text.items
 RightText j bytes (Refused line) = RefusesOn j bytes line.items
 RightText j bytes NoMemory = Unit {0}
 RightText j bytes BadWords = ⊥
 RightText j bytes NotRead = ⊥
 
--- a report, or want of memory
-abbrev pub IsReport : Answer → Type 0
-IsReport (Prints report) = Unit {0}
-IsReport NoMemory = Unit {0}
-IsReport _ = ⊥
+-- a report that ends with this status, or want of memory
+abbrev pub IsReport : ℕ → Answer → Type 0
+IsReport status (Prints report) = report.status ≡ status
+IsReport status NoMemory = Unit {0}
+IsReport status _ = ⊥
 
 -- the refusal for this fault, or want of memory
 abbrev pub IsRefusal : Fault → Answer → Type 0
@@ -32,7 +32,7 @@ IsRefusal f _ = ⊥
 -- the answer to a job on a text: it is right, what the job can be done with has a report, and what has a fault is refused for it
 pub record AnswersText (j : JobTree) (bytes : List ℕ) (a : Answer) : Type 0 where
   pub right : RightText j bytes a
-  pub accepted : Suitable j bytes → IsReport a
+  pub accepted : (status : ℕ) → Suitable j bytes status → IsReport status a
   pub faulty : (f : Fault) → Faulty j bytes f → IsRefusal f a
 
 -- the answer looks at all that the job needs: the files' count of faults stayed, they lack nothing that the job comes to, and what the
@@ -40,7 +40,7 @@ pub record AnswersText (j : JobTree) (bytes : List ℕ) (a : Answer) : Type 0 wh
 pub record Judges (j : JobTree) (old new : FilesState) (a : Answer) : Type 0 where
   pub faults : new.faults ≡ old.faults
   pub had : LacksFor j old → ⊥
-  pub accepted : CanDo j old → IsReport a
+  pub accepted : (status : ℕ) → CanDo j old status → IsReport status a
   pub faulty : (f : Fault) → FaultyJob j old f → IsRefusal f a
 
 -- a file of the job was not read: it is lacked, or a read of it failed, which steady files never do
@@ -50,7 +50,7 @@ pub record NotReadFor (j : JobTree) (old new : FilesState) : Type 0 where
 
 -- the answer to a job
 abbrev pub AnswersJob : JobTree → FilesState → FilesState → Answer → Type 0
-AnswersJob j old new (Prints report) = Judges j old new (Prints report) × ReportsJob j old report.items
+AnswersJob j old new (Prints report) = Judges j old new (Prints report) × ReportsJob j old report.status report.text.items
 AnswersJob j old new (Refused line) = Judges j old new (Refused line) × RefusesJob j old line.items
 AnswersJob j old new BadWords = ⊥
 AnswersJob j old new NotRead = NotReadFor j old new

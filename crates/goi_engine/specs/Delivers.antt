@@ -33,10 +33,10 @@ pub record Broke (text : List ℕ) (old new : SinkState) : Type 0 where
   pub rose : Rose old.faults new.faults
   pub short : old.spare < length text
 
--- the report was written whole with status 0; or `out` failed, and then the line that says so was written, or `err` failed too
-abbrev pub Reported : List ℕ → SinkState → SinkState → SinkState → SinkState → ℕ → Type 0
-Reported report out out' err err' status =
-    ((status ≡ 0) × Wrote report out out' × Untouched err err')
+-- the report was written whole with its status; or `out` failed, and then the line that says so was written, or `err` failed too
+abbrev pub Reported : ℕ → List ℕ → SinkState → SinkState → SinkState → SinkState → ℕ → Type 0
+Reported own report out out' err err' status =
+    ((status ≡ own) × Wrote report out out' × Untouched err err')
     ⊎ ((status ≡ 4) × Broke report out out' × (Wrote write_line err err' ⊎ Broke write_line err err'))
 
 -- the line of a refusal was written whole with its status, or `err` failed; nothing came to `out`
@@ -45,7 +45,7 @@ Refuses own line out out' err err' status = Untouched out out' × (((status ≡ 
 
 -- an answer was delivered to `out` and `err`
 abbrev pub Delivered : Answer → SinkState → SinkState → SinkState → SinkState → ℕ → Type 0
-Delivered (Prints report) out out' err err' status = Reported report.items out out' err err' status
+Delivered (Prints report) out out' err err' status = Reported report.status report.text.items out out' err err' status
 Delivered (Refused line) out out' err err' status = Refuses 1 line.items out out' err err' status
 Delivered BadWords out out' err err' status = Refuses 2 words_line out out' err err' status
 Delivered NotRead out out' err err' status = Refuses 3 read_line out out' err err' status

@@ -1,6 +1,6 @@
 -- What is seen of files, and what may be said of the bytes of one.
 -- Nothing may be told of a file, as of the files of the system. Then its bytes are some bytes, and what is said of it is said of those.
-use Rattle.std.specs.Prelude.{◌≡◌, ℕ, ◌+◌, ◌≤◌, Bool, IsTrue, List, [], length, All, Option, None, Some}
+use Rattle.std.specs.Prelude.{◌≡◌, ℕ, ◌+◌, ◌≤◌, Bool, IsTrue, List, length, All, Option, None, Some}
 use Rattle.goi_world.specs.Outside.{Reading, CameBy}
 
 -- what the files tell and lack, their count of faults, and whether it is certain that no read fails but of a lacked name

@@ -1,14 +1,12 @@
 pub mod Answers
-pub mod Arithmetic
 pub mod Delivers
 pub mod FilesSeen
 pub mod Jobs
 pub mod Listing
 pub mod Loads
 pub mod Promise
-pub mod Questions
+pub mod Ran
 pub mod Refusals
 pub mod Reports
-pub mod SmallWalk
 pub mod Stops
 pub mod Verdicts

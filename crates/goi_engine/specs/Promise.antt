@@ -1,7 +1,7 @@
 -- What the top call promises: for each status, what it means, what was written, and why it comes; and what comes where nothing fails.
 -- The files are seen as `FilesState`, the sinks as `SinkState`. What isn't told of a file is left open only so far as it must be: the
 -- report is then the right one for some bytes, and so is the line of a fault.
-use Rattle.std.specs.Prelude.{◌≡◌, ◌≢◌, ◌⊎◌, ℕ, ◌≤◌, IsTrue, List, length, Option, None, Some}
+use Rattle.std.specs.Prelude.{◌≡◌, ◌≢◌, ◌⊎◌, ℕ, ◌≤◌, List, length, Option, None, Some}
 use Rattle.goi_world.specs.Outside.{Rose}
 use Rattle.goi_engine.specs.declared.fault.Fault.{Fault}
 use Rattle.goi_engine.specs.Answers.{NotReadFor}
@@ -26,10 +26,10 @@ pub record WroteLine (line : List ℕ) (old new : World) : Type 0 where
   pub out : Untouched old.out new.out
   pub err : Wrote line old.err new.err
 
--- the report of the job was written whole, and nothing to `err`
-pub record Printed (j : JobTree) (old new : World) : Type 0 where
+-- the report of the job, which ends with this status, was written whole, and nothing to `err`
+pub record Printed (status : ℕ) (j : JobTree) (old new : World) : Type 0 where
   pub report : List ℕ
-  pub right : ReportsJob j old.files report
+  pub right : ReportsJob j old.files status report
   pub out : Wrote report old.out new.out
   pub err : Untouched old.err new.err
 
@@ -44,8 +44,9 @@ pub record RefusedFault (j : JobTree) (old new : World) : Type 0 where
 pub record OutFailed (job : Option JobTree) (old new : World) : Type 0 where
   pub j : JobTree
   pub asked : job ≡ Some j
+  pub status : ℕ
   pub report : List ℕ
-  pub right : ReportsJob j old.files report
+  pub right : ReportsJob j old.files status report
   pub out : Broke report old.out new.out
   pub err : Wrote write_line old.err new.err ⊎ Broke write_line old.err new.err
 
@@ -63,9 +64,9 @@ pub record ErrFailed (job : Option JobTree) (old new : World) : Type 0 where
   pub out : Untouched old.out new.out
   pub err : Broke line old.err new.err
 
--- what status 0 means: all is done, and the report stands in `out`
-abbrev pub MeansDone : Option JobTree → World → World → Type 0
-MeansDone job old new = (j : JobTree) × (job ≡ Some j) × Printed j old new
+-- what status 0 means: all is done, and the report stands in `out`; and status 5: so does the report of a run that came to no value
+abbrev pub MeansPrinted : ℕ → Option JobTree → World → World → Type 0
+MeansPrinted status job old new = (j : JobTree) × (job ≡ Some j) × Printed status j old new
 
 -- status 1: the program has a fault, and the line that tells it stands in `err`
 abbrev pub MeansFault : Option JobTree → World → World → Type 0
@@ -99,12 +100,12 @@ pub record NoneFailed (old new : World) : Type 0 where
 
 -- the sinks are sure to take what may come: `out` any report of the job, and `err` any line
 pub record SureRoom (job : Option JobTree) (old : World) : Type 0 where
-  pub out : (j : JobTree) (report : List ℕ) → job ≡ Some j → ReportsJob j old.files report → length report ≤ old.out.spare
+  pub out : (j : JobTree) (status : ℕ) (report : List ℕ) → job ≡ Some j → ReportsJob j old.files status report → length report ≤ old.out.spare
   pub err : most_line ≤ old.err.spare
 
--- where the files tell what the job needs: what it can be done with gives its report
+-- where the files tell what the job needs: what it can be done with gives its report, with the status with which it ends on it
 abbrev pub CompleteReport : Option JobTree → World → World → ℕ → Type 0
-CompleteReport job old new status = (j : JobTree) → job ≡ Some j → CanDo j old.files → NoneFailed old new → (status ≡ 0) ⊎ (status ≡ 6)
+CompleteReport job old new status = (j : JobTree) (own : ℕ) → job ≡ Some j → CanDo j old.files own → NoneFailed old new → (status ≡ own) ⊎ (status ≡ 6)
 
 -- and what has a fault gives the line of that fault
 abbrev pub CompleteFault : Option JobTree → World → World → ℕ → Type 0
@@ -121,14 +122,15 @@ CompleteLacked job old new status = (j : JobTree) → job ≡ Some j → LacksFo
 
 -- the promise of the top call, for the job that was asked, the world before and after it, and the status that it gave
 pub record Promise (job : Option JobTree) (old new : World) (status : ℕ) : Type 0 where
-  pub done : status ≡ 0 → MeansDone job old new
+  pub done : status ≡ 0 → MeansPrinted 0 job old new
   pub fault : status ≡ 1 → MeansFault job old new
   pub bad_words : status ≡ 2 → MeansBadWords job old new
   pub not_read : status ≡ 3 → MeansNotRead job old new
   pub not_written : status ≡ 4 → MeansNotWritten job old new
+  pub no_value : status ≡ 5 → MeansPrinted 5 job old new
   pub no_memory : status ≡ 6 → MeansNoMemory old new
   -- no other status comes
-  pub statuses : (status ≡ 0) ⊎ (status ≡ 1) ⊎ (status ≡ 2) ⊎ (status ≡ 3) ⊎ (status ≡ 4) ⊎ (status ≡ 6)
+  pub statuses : (status ≡ 0) ⊎ (status ≡ 1) ⊎ (status ≡ 2) ⊎ (status ≡ 3) ⊎ (status ≡ 4) ⊎ (status ≡ 5) ⊎ (status ≡ 6)
   -- what the files tell and lack stays
   pub files : FilesKept old.files new.files
   -- a sink's count of faults changes only with status 4, and the files' count only where the file could not be read

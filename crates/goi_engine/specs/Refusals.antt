@@ -40,7 +40,6 @@ abbrev pub fault_line : Fault → List ℕ
 fault_line (fault.Read f) = read_fault_line f
 fault_line (fault.Typing f) = type_fault_line f
 fault_line fault.NotGround = plain_line (codes "NotGround")
-fault_line fault.NotBuilt = plain_line (codes "NotBuilt")
 
 -- the line is that of the fault; it is short
 pub record IsLine (f : Fault) (line : List ℕ) : Type 0 where

@@ -3,13 +3,14 @@
 ghost use Rattle.std.specs.Prelude.{◌≡◌, map, string_bytes};
 ghost use Rattle.goi_engine.specs.Answers.{Answers, AnswersText};
 ghost use Rattle.goi_engine.specs.FilesSeen.{FilesKept, files_seen};
-ghost use Rattle.goi_engine.specs.Jobs.{job, seen_job};
+ghost use Rattle.goi_engine.specs.Jobs.{Budgeted, job, seen_job};
 ghost use Rattle.goi_engine.specs.Verdicts.{ReadForJob};
 
 use crate::fault::fault_line;
 use crate::job::{Job, job_of};
 use crate::judge::{Stop, report_on};
 use crate::load::{LoadError, load};
+use crate::report::Report;
 use goi_world::Files;
 use std::alloc::Global;
 
@@ -17,7 +18,7 @@ use std::alloc::Global;
 #[derive(Drop)]
 pub(crate) enum Answer {
     /// All is done, and this is the report.
-    Prints(Vec<u8>),
+    Prints(Report),
     /// The program has a fault, and this is the line that says so.
     Refused(Vec<u8>),
     /// The words ask for nothing.
@@ -56,6 +57,7 @@ fn not_loaded(error: LoadError) -> Answer
 
 /// The answer to a job on a text.
 fn answer_text(alloc: Global, job: Job<'_>, bytes: &[u8]) -> Answer
+    requires budget { Budgeted (seen_job job) }
     ensures { AnswersText (seen_job job.entry) bytes.now result }
 {
     match report_on(alloc, job, bytes) {

@@ -1,9 +1,10 @@
 //! Writing what was answered.
 
 ghost use Rattle.std.specs.Prelude.{◌≡◌, ◌⊎◌, MatchResult};
-ghost use Rattle.goi_engine.specs.Delivers.{sink, Wrote, Broke, Refuses, Delivered};
+ghost use Rattle.goi_engine.specs.Delivers.{sink, Wrote, Broke, Reported, Refuses, Delivered};
 
 use crate::answer::Answer;
+use crate::report::Report;
 use goi_world::{Failed, Sink};
 
 /// Writes a text whole, or a front of it before a failure.
@@ -26,15 +27,23 @@ pub(crate) fn deliver<O: Sink, E: Sink>(answer: &Answer, out: &mut O, err: &mut 
         (sink (O.written out.old) (O.faults out.old) (O.spare out.old)) (sink (O.written out.new) (O.faults out.new) (O.spare out.new))
         (sink (E.written err.old) (E.faults err.old) (E.spare err.old)) (sink (E.written err.new) (E.faults err.new) (E.spare err.new)) result }
 {
-    let written = match answer {
-        Answer::Prints(report) => write_all(out, report),
-        Answer::Refused(line) => return refuse(err, 1, line),
-        Answer::BadWords => return refuse(err, 2, b"refused words\n"),
-        Answer::NotRead => return refuse(err, 3, b"read failed\n"),
-        Answer::NoMemory => return refuse(err, 6, b"no memory\n"),
-    };
-    match written {
-        Ok(()) => 0,
+    match answer {
+        Answer::Prints(report) => print(out, err, report),
+        Answer::Refused(line) => refuse(err, 1, line),
+        Answer::BadWords => refuse(err, 2, b"refused words\n"),
+        Answer::NotRead => refuse(err, 3, b"read failed\n"),
+        Answer::NoMemory => refuse(err, 6, b"no memory\n"),
+    }
+}
+
+/// Writes the report to `out` and gives its status; or says on `err` that `out` failed.
+fn print<O: Sink, E: Sink>(out: &mut O, err: &mut E, report: &Report) -> u8
+    ensures { Reported report.now.status report.now.text.items
+        (sink (O.written out.old) (O.faults out.old) (O.spare out.old)) (sink (O.written out.new) (O.faults out.new) (O.spare out.new))
+        (sink (E.written err.old) (E.faults err.old) (E.spare err.old)) (sink (E.written err.new) (E.faults err.new) (E.spare err.new)) result }
+{
+    match write_all(out, &report.text) {
+        Ok(()) => report.status,
         Err(_) => {
             let _ = write_all(err, b"write failed\n");
             4

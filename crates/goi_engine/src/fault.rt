@@ -17,8 +17,6 @@ pub(crate) enum Fault {
     Typing(TypeFault),
     /// Its type isn't `nat`.
     NotGround,
-    /// It isn't a number under words `succ` and `pred`, and no other program runs yet.
-    NotBuilt,
 }
 
 /// The line of a fault.
@@ -29,7 +27,6 @@ pub(crate) fn fault_line(alloc: Global, fault: Fault) -> Result<Vec<u8>, AllocEr
         Fault::Read(fault) => read_line(alloc, fault),
         Fault::Typing(fault) => type_line(alloc, fault),
         Fault::NotGround => plain_line(alloc, "NotGround"),
-        Fault::NotBuilt => plain_line(alloc, "NotBuilt"),
     };
     Ok(text?.into_bytes())
 }

@@ -1,14 +1,17 @@
 //! The job that the words of the command line ask for.
 
-ghost use Rattle.std.specs.Prelude.{◌≡◌, map, string_bytes};
+ghost use Rattle.std.specs.Prelude.{◌≡◌, map, string_bytes, IfSome};
 ghost use Rattle.std.specs.Option.{option_map};
-ghost use Rattle.goi_engine.specs.Jobs.{file_of, is_file_name, job, job_on, seen_job};
+ghost use Rattle.goi_engine.specs.Jobs.{Budgeted, file_of, is_file_name, job, job_on, seen_job};
+
+/// How many moves a run is allowed where the words don't say.
+const USUAL_BUDGET: u32 = 10_000;
 
 /// What is to be done, with the name of the program's file.
 #[derive(Clone, Copy)]
 pub(crate) enum Job<'a> {
-    /// Run the program.
-    Run { file: &'a str },
+    /// Run the program, with at most so many moves.
+    Run { file: &'a str, budget: u32 },
     /// Print the program's type, and with `term` the program itself.
     Check { file: &'a str, term: bool },
     /// Print the listing of the program's net.
@@ -21,14 +24,15 @@ impl<'a> Job<'a> {
         ensures { result.now ≡ file_of (seen_job self.entry) }
     {
         match self {
-            Job::Run { file } | Job::ShowNet { file } | Job::Check { file, .. } => file,
+            Job::Run { file, .. } | Job::ShowNet { file } | Job::Check { file, .. } => file,
         }
     }
 }
 
 /// The job of a list of words, or none where the words are refused.
 pub(crate) fn job_of(words: &[String]) -> Option<Job<'_>>
-    ensures { option_map seen_job result ≡ job (map string_bytes words.now) }
+    ensures job { option_map seen_job result ≡ job (map string_bytes words.now) }
+    ensures budget { IfSome result (λ j. Budgeted (seen_job j)) }
 {
     match words {
         [_, command, file] => job_on(command, file),
@@ -45,12 +49,16 @@ pub(crate) fn job_of(words: &[String]) -> Option<Job<'_>>
 
 /// The job of a command and the word behind it.
 fn job_on<'a>(command: &str, file: &'a str) -> Option<Job<'a>>
-    ensures { option_map seen_job result ≡ job_on command.now file.now }
+    ensures job { option_map seen_job result ≡ job_on command.now file.now }
+    ensures budget { IfSome result (λ j. Budgeted (seen_job j)) }
 {
     if !is_file_name(file) {
         None
     } else if command == "run" {
-        Some(Job::Run { file })
+        Some(Job::Run {
+            file,
+            budget: USUAL_BUDGET,
+        })
     } else if command == "check" {
         Some(Job::Check { file, term: false })
     } else if command == "net" {

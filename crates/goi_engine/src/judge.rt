@@ -1,28 +1,29 @@
 //! A job on a text: the report, or the first fault.
 
-ghost use Rattle.std.specs.Prelude.{◌≡◌, ◌≤◌, ◌<◌, ◌+◌, ◌^◌, true, [], length, IfOk, IfErr, OnOk, MatchResult};
+ghost use Rattle.std.specs.Prelude.{◌≡◌, ◌≤◌, ◌<◌, ◌+◌, ◌^◌, ℕ, [], length, Some, ◌↔◌, IsTrue, IfOk, IfErr, MatchResult};
+ghost use Rattle.pcf_values.specs.Most.{most_nodes};
 ghost use Rattle.pcf_values.specs.Terms.{TyTree, TermTree, nat, size, height};
 ghost use Rattle.pcf_values.specs.Typing.{HasType};
 ghost use Rattle.pcf_values.specs.Named.{NamedTree, named_size, named_height};
-ghost use Rattle.pcf_values.specs.Views.{named_of, term_of};
-ghost use Rattle.pcf_values.specs.Most.{most_nodes};
+ghost use Rattle.pcf_values.specs.Views.{named_of};
 ghost use Rattle.net_build.specs.NetOf.{net_of};
 ghost use Rattle.goi_engine.specs.declared.fault.Fault.{Fault as FaultType};
-ghost use Rattle.goi_engine.specs.Arithmetic.{is_arithmetic};
-ghost use Rattle.goi_engine.specs.Jobs.{seen_job, run, show_net};
+ghost use Rattle.goi_engine.specs.Jobs.{IsBudget, Budgeted, seen_job, run, show_net};
 ghost use Rattle.goi_engine.specs.Listing.{listing};
+ghost use Rattle.goi_engine.specs.Ran.{Came};
 ghost use Rattle.goi_engine.specs.Stops.{StopsFor, IsStop};
-ghost use Rattle.goi_engine.specs.Verdicts.{Suits, Unsuited, Reports, Accepted, Faulty, FaultyTree, ReportsRun, ReportsTree, ReportsOn};
+ghost use Rattle.goi_engine.specs.Verdicts.{Suits, Unsuited, Reports, Suitable, Faulty, FaultyTree, ReportsRun, ReportsTree, ReportsOn};
 
 use crate::fault::Fault;
 use crate::job::Job;
 use crate::listing::net_text;
-use crate::report::{check_report, run_report};
-use crate::small_walk::run_net;
-use net_build::{Net, build, law_built_sound, law_net_size};
+use crate::report::{Report, check_report, run_report};
+use adequacy_laws::{law_finished, law_never_stuck};
+use interleave_core::run_one;
+use net_build::{Net, build, law_net_size};
 use pcf_reader::{ReadFault, law_bounded, read_program};
 use pcf_types::{TypeFault, ground, law_keeps_size, resolve_and_type};
-use pcf_values::{Named, Term, Typed};
+use pcf_values::{Named, Typed, Val};
 use std::alloc::{AllocError, Global};
 
 /// Why there is no report.
@@ -72,15 +73,17 @@ impl From<TypeFault> for Stop {
 }
 
 /// The report of a job on a text, or its first fault.
-pub(crate) fn report_on(alloc: Global, job: Job<'_>, bytes: &[u8]) -> Result<Vec<u8>, Stop>
+pub(crate) fn report_on(alloc: Global, job: Job<'_>, bytes: &[u8]) -> Result<Report, Stop>
+    requires budget { Budgeted (seen_job job) }
+
     // A report is the job's on the text.
-    ensures reported { IfOk result (λ v. ReportsOn (seen_job job.entry) bytes.now v.items) }
+    ensures reported { IfOk result (λ r. ReportsOn (seen_job job.entry) bytes.now r.status r.text.items) }
 
     // A fault is the text's first.
     ensures fault { IfErr result (λ e. StopsFor (Faulty (seen_job job.entry) bytes.now) e) }
 
-    // A text that the job can be done with has a report, unless memory runs out.
-    ensures accepted { (tree : NamedTree) (t : TermTree) (A : TyTree) → Accepted (seen_job job.entry) bytes.now tree t A → IfErr result (λ e. e ≡ Stop.Memory) }
+    // A text that the job can be done with has a report with the status that it ends with, unless memory runs out.
+    ensures accepted { (status : ℕ) → Suitable (seen_job job.entry) bytes.now status → MatchResult result (λ r. r.status ≡ status) (λ e. e ≡ Stop.Memory) }
 
     // A text with a fault is refused for it, unless memory runs out.
     ensures faulty { (f : FaultType) → Faulty (seen_job job.entry) bytes.now f → MatchResult result (λ _. ⊥) (λ e. IsStop f e) }
@@ -93,10 +96,11 @@ pub(crate) fn report_on(alloc: Global, job: Job<'_>, bytes: &[u8]) -> Result<Vec
 }
 
 /// The report of a job on a tree, or its first fault.
-fn report_tree(alloc: Global, job: Job<'_>, tree: &Named) -> Result<Vec<u8>, Stop>
+fn report_tree(alloc: Global, job: Job<'_>, tree: &Named) -> Result<Report, Stop>
+    requires budget { Budgeted (seen_job job) }
     requires size { named_size (named_of tree.now) ≤ most_nodes }
     requires height { named_height (named_of tree.now) ≤ 2600 }
-    ensures reported { IfOk result (λ v. ReportsTree (seen_job job.entry) (named_of tree.now) v.items) }
+    ensures reported { IfOk result (λ r. ReportsTree (seen_job job.entry) (named_of tree.now) r.status r.text.items) }
     ensures fault { IfErr result (λ e. StopsFor (FaultyTree (seen_job job.entry) (named_of tree.now)) e) }
 {
     law_keeps_size();
@@ -112,83 +116,97 @@ fn report_program(
     job: Job<'_>,
     tree: &Named,
     program: &Typed,
-) -> Result<Vec<u8>, Stop>
+) -> Result<Report, Stop>
+    requires budget { Budgeted (seen_job job) }
     requires size { size program.now.0 ≤ most_nodes }
     requires height { height program.now.0 ≤ 2600 }
-    ensures suits { IfOk result (λ v. Suits (seen_job job.entry) program.now.0 program.now.1) }
-    ensures reported { IfOk result (λ v. Reports (seen_job job.entry) (named_of tree.now) program.now.0 program.now.1 v.items) }
-    ensures unsuited { IfErr result (λ e. StopsFor (Unsuited (seen_job job.entry) program.now.0 program.now.1) e) }
+    ensures suits { IfOk result (λ r. Suits (seen_job job.entry) program.now.1) }
+    ensures reported { IfOk result (λ r. Reports (seen_job job.entry) (named_of tree.now) program.now.0 program.now.1 r.status r.text.items) }
+    ensures unsuited { IfErr result (λ e. StopsFor (Unsuited (seen_job job.entry) program.now.1) e) }
 {
     match job {
-        Job::Run { .. } => run_program(alloc, program),
-        Job::Check { term, .. } => Ok(check_report(alloc, program.ty(), term, tree)?),
+        Job::Run { budget, .. } => run_program(alloc, program, budget),
+        Job::Check { term, .. } => Ok(Report {
+            text: check_report(alloc, program.ty(), term, tree)?,
+            status: 0,
+        }),
         Job::ShowNet { .. } => list_net(alloc, program),
     }
 }
 
 /// The report of a run.
-fn run_program(alloc: Global, program: &Typed) -> Result<Vec<u8>, Stop>
+fn run_program(alloc: Global, program: &Typed, budget: u32) -> Result<Report, Stop>
+    requires budget { IsBudget budget }
     requires size { size program.now.0 ≤ most_nodes }
     requires height { height program.now.0 ≤ 2600 }
-    ensures suits { IfOk result (λ v. Suits (run []) program.now.0 program.now.1) }
-    ensures reported { IfOk result (λ v. ReportsRun program.now.0 v.items) }
-    ensures unsuited { IfErr result (λ e. StopsFor (Unsuited (run []) program.now.0 program.now.1) e) }
+    ensures suits { IfOk result (λ r. program.now.1 ≡ nat) }
+    ensures reported { IfOk result (λ r. ReportsRun budget program.now.0 r.status r.text.items) }
+    ensures unsuited { IfErr result (λ e. StopsFor (Unsuited (run [] budget) program.now.1) e) }
 {
-    match can_run(program) {
-        Ok(()) => Ok(run_arithmetic(alloc, program)?),
-        Err(fault) => Err(Stop::Fault(fault)),
+    if !is_ground(program) {
+        return Err(Stop::Fault(Fault::NotGround));
     }
+    Ok(report_run(alloc, program, budget)?)
 }
 
-/// Whether a program can run, or the fault that stands against it.
-fn can_run(program: &Typed) -> Result<(), Fault>
-    ensures typed { OnOk result (HasType [] program.now.0 program.now.1) }
-    ensures suits { OnOk result (Suits (run []) program.now.0 program.now.1) }
-    ensures unsuited { IfErr result (λ f. Unsuited (run []) program.now.0 program.now.1 f) }
+/// Whether a program's type is `nat`.
+fn is_ground(program: &Typed) -> bool
+    ensures typed { IsTrue result → HasType [] program.now.0 nat }
+    ensures ground { IsTrue result ↔ (program.now.1 ≡ nat) }
 {
-    if ground(program).is_err() {
-        return Err(Fault::NotGround);
-    }
-    if !is_arithmetic(program.term()) {
-        return Err(Fault::NotBuilt);
-    }
-    Ok(())
+    let _ = program.term();
+    ground(program).is_ok()
 }
 
-/// The report of a run of a number under words `succ` and `pred`.
-fn run_arithmetic(alloc: Global, program: &Typed) -> Result<Vec<u8>, AllocError>
+/// The report of a run of a ground program.
+fn report_run(alloc: Global, program: &Typed, budget: u32) -> Result<Report, AllocError>
     requires typed { HasType [] program.now.0 nat }
     requires ground { program.now.1 ≡ nat }
-    requires arithmetic { is_arithmetic program.now.0 ≡ true }
+    requires budget { IsBudget budget }
     requires size { size program.now.0 ≤ most_nodes }
     requires height { height program.now.0 ≤ 2600 }
-    ensures { IfOk result (λ v. ReportsRun program.now.0 v.items) }
+    ensures { IfOk result (λ r. ReportsRun budget program.now.0 r.status r.text.items) }
 {
-    law_built_sound();
+    let (answer, moves) = run_ground(alloc, program, budget)?;
+    run_report(alloc, answer, moves)
+}
+
+/// What a ground program comes to within a budget of moves, and after how many.
+fn run_ground(alloc: Global, program: &Typed, budget: u32) -> Result<(Option<Val>, u32), AllocError>
+    requires typed { HasType [] program.now.0 nat }
+    requires ground { program.now.1 ≡ nat }
+    requires budget { IsBudget budget }
+    requires size { size program.now.0 ≤ most_nodes }
+    requires height { height program.now.0 ≤ 2600 }
+    ensures { IfOk result (λ r. Came program.now.0 budget r.0 r.1) }
+{
+    law_never_stuck();
+    law_finished();
     let net = net_of(alloc, program)?;
-    let run = run_net(&net);
+    let ran = run_one(alloc, &net, budget);
     drop(net);
-    match run {
-        Some((value, moves)) => run_report(alloc, value, moves),
-        None => unreachable!(),
-    }
+    let ran = ran?;
+    Ok((ran.answer, ran.tickets.len() as u32))
 }
 
 /// The listing of a ground program's net.
-fn list_net(alloc: Global, program: &Typed) -> Result<Vec<u8>, Stop>
+fn list_net(alloc: Global, program: &Typed) -> Result<Report, Stop>
     requires size { size program.now.0 ≤ most_nodes }
     requires height { height program.now.0 ≤ 2600 }
-    ensures suits { IfOk result (λ v. program.now.1 ≡ nat) }
-    ensures reported { IfOk result (λ v. v.items ≡ listing (net_of program.now.0)) }
-    ensures unsuited { IfErr result (λ e. StopsFor (Unsuited (show_net []) program.now.0 program.now.1) e) }
+    ensures suits { IfOk result (λ r. program.now.1 ≡ nat) }
+    ensures reported { IfOk result (λ r. (r.status ≡ 0) × (r.text.items ≡ listing (net_of program.now.0))) }
+    ensures unsuited { IfErr result (λ e. StopsFor (Unsuited (show_net []) program.now.1) e) }
 {
-    if ground(program).is_err() {
+    if !is_ground(program) {
         return Err(Stop::Fault(Fault::NotGround));
     }
     let net = net_of(alloc, program)?;
     let text = net_text(alloc, &net);
     drop(net);
-    Ok(text?)
+    Ok(Report {
+        text: text?,
+        status: 0,
+    })
 }
 
 /// The net of a ground program.
@@ -200,15 +218,4 @@ fn net_of(alloc: Global, program: &Typed) -> Result<Net, AllocError>
 {
     law_net_size();
     build(alloc, program)
-}
-
-/// Whether a term is a number under words `succ` and `pred`.
-fn is_arithmetic(term: &Term) -> bool
-    ensures { result ≡ is_arithmetic (term_of term.now) }
-{
-    match term {
-        Term::Number(_) => true,
-        Term::Succ(a) | Term::Pred(a) => is_arithmetic(a),
-        _ => false,
-    }
 }

@@ -10,13 +10,10 @@ mod deliver;
 mod fault;
 mod job;
 mod judge;
-mod laws;
 mod listing;
 mod load;
 mod report;
-mod small_walk;
 mod top;
 
-pub use laws::law_one_length;
 pub use listing::net_text;
 pub use top::goi;

@@ -22,6 +22,7 @@ use std::alloc::Global;
 /// - 2: the words ask for nothing;
 /// - 3: the program's file could not be read;
 /// - 4: `out` or `err` failed;
+/// - 5: the program came to no value within the budget of moves, which the report says;
 /// - 6: there was no memory.
 pub fn goi<F: Files, O: Sink, E: Sink>(
     alloc: Global,

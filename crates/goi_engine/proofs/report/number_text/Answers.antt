@@ -1,9 +1,9 @@
-use Rattle.std.proofs.Common.{◌≡◌, ◌≤◌, List, ℕ, length, IfOk, string_bytes, sym, subst}
+use Rattle.std.proofs.Common.{◌≡◌, ◌≤◌, List, ℕ, length, string_bytes, sym, subst}
 use Rattle.std.proofs.lemmas.Result.{IfOk-weaker}
 use Rattle.pcf_values.specs.declared.val.Val.TheVariants.{Number}
 use Rattle.goi_engine.specs.Reports.{most_line, run_report}
 use Rattle.goi_engine.proofs.Short.{number_short}
-use Rattle.goi_engine.proofs.report.number_report.Goals as goal
+use Rattle.goi_engine.proofs.report.number_text.Goals as goal
 
 pub returns-clause-short : goal.returns-clause-short
 returns-clause-short c =
