@@ -1,11 +1,13 @@
--- What holds of schedule texts.
-use Rattle.std.specs.Prelude.{◌≡◌, ℕ, ◌+◌, ◌*◌, ◌^◌, ◌<◌, ◌≤◌, List, [], ◌∷◌, length, Result, Ok, Err}
+-- What holds of schedule texts and of tallies.
+use Rattle.std.specs.Prelude.{◌≡◌, ℕ, ◌+◌, ◌*◌, ◌^◌, ◌<◌, ◌≤◌, List, [], ◌∷◌, length, sum, Result, Ok, Err}
 use Rattle.pcf_values.specs.Most.{most_moves}
 use Rattle.schedule_log.specs.declared.fault.ScheduleFault.{ScheduleFault}
 use Rattle.schedule_log.specs.declared.fault.ScheduleFault.TheVariants.{NoMemory}
 use Rattle.schedule_log.specs.Schedules.{ReadAs}
 use Rattle.schedule_log.specs.Reading.{tickets_in}
 use Rattle.schedule_log.specs.Runs.{schedule_text}
+use Rattle.schedule_log.specs.declared.entry.Entry.{Entry}
+use Rattle.schedule_log.specs.Tally.{tally, WorkersUpTo}
 
 -- Reading answers the tickets or the first fault of any bytes.
 abbrev pub FirstFaultFound : Type 0
@@ -34,3 +36,7 @@ PrintedIsRead = (tickets : List ℕ) → Small tickets → length tickets ≤ mo
 abbrev pub PrintedIsShort : Type 0
 PrintedIsShort = (tickets : List ℕ) → Small tickets → length tickets ≤ most_moves →
     length (schedule_text tickets) ≤ 13 * length tickets + 15
+
+-- The counts of a tally add up to the number of moves, where no worker is above the finisher.
+abbrev pub TallyAddsUp : Type 0
+TallyAddsUp = (entries : List Entry) (workers : ℕ) → WorkersUpTo workers entries → sum (tally entries workers) ≡ length entries

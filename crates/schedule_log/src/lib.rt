@@ -23,7 +23,7 @@ pub use entry::Entry;
 pub use fault::ScheduleFault;
 pub use laws::{
     law_first_fault, law_one_answer, law_read_back, law_rows_of_version_one,
-    law_rows_of_version_two, law_short,
+    law_rows_of_version_two, law_short, law_tally,
 };
 pub use log::Log;
 pub use print::print_schedule;
