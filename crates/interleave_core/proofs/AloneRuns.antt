@@ -22,21 +22,12 @@ use Rattle.interleave_core.specs.Moving.{Changes, WalksOn}
 use Rattle.interleave_core.specs.Roles.{StandsStill}
 use Rattle.interleave_core.specs.Alone.{RunsAlone}
 use Rattle.interleave_core.proofs.Tickets.{test_nat}
-use Rattle.interleave_core.proofs.MapLaws.{seen_leads}
+use Rattle.interleave_core.proofs.MapLaws.{seen_leads, run_both}
 use Rattle.interleave_core.proofs.Running.{idle_answered}
 use Rattle.interleave_core.proofs.OneWorker.{one_next, one_ends}
 use Rattle.interleave_core.proofs.Stays.{one_walks}
 use Rattle.interleave_core.proofs.TrailSteps.{walk_map}
 use Rattle.interleave_core.proofs.Going.{the_some}
-
--- two runs, one after the other
-run_both : (net : NetTree) (log more : List ℕ) (S T U : MapState) → run_map net S log ≡ Some T → run_map net T more ≡ Some U → run_map net S (log ++ more) ≡ Some U
-run_both net [] more S T U h g = let e : S ≡ T = cc in ap (λ S. run_map net S more) e ∙ g
-run_both net (j ∷ log) more S T U h g = go (step_map net S j) (λ V. run_both net log more V T U) h
-  where
-    go : (o : Option MapState) → ((V : MapState) → run_map net V log ≡ Some T → run_map net T more ≡ Some U → run_map net V (log ++ more) ≡ Some U) → then_run_map o (λ S. run_map net S log) ≡ Some T → then_run_map o (λ S. run_map net S (log ++ more)) ≡ Some U
-    go None f h = cc
-    go (Some V) f h = f V h g
 
 -- the run of the empty log
 pub begins : (net : NetTree) (S : MapState) (log : List ℕ) → S ≡ start_map (start_of net) → log ≡ [] → RunsAlone net log S

@@ -72,7 +72,3 @@ forked f f1 f2 g g' i n k a b r t (s, er) fresh h1 h2 hg =
 -- the ticket is there while a new ticket is given a token
 pub there : (f f1 : FinMap nat_cmp TokenTree) (i n b : ℕ) (r : TokenTree) (t : Boxes) → Copies f i b r t → get f n ≡ None → f1 ≡ insert f n r → IsSome (get f1 i)
 there f f1 i n b r t (s, er) fresh h = let (x, here, _, _) = s in subst (λ f. IsSome (get f i)) (sym h) (still_there f i n x here fresh r)
-
--- a new ticket that is taken out again leaves all as it was
-pub back : (f f1 f2 : FinMap nat_cmp TokenTree) (n : ℕ) (r : TokenTree) → get f n ≡ None → f1 ≡ insert f n r → f2 ≡ remove f1 n → f2 ≡ f
-back f f1 f2 n r fresh h1 h2 = h2 ∙ ap (λ f. remove f n) h1 ∙ taken_back f n r fresh

@@ -4,9 +4,10 @@ use Rattle.std.specs.FinMap.{get, empty}
 use Rattle.pcf_values.specs.declared.val.Val.{Val}
 use Rattle.net_build.specs.Nets.{NetTree}
 use Rattle.move_rules.specs.Places.{Place, TokenTree, place_of}
+use Rattle.interleave_core.specs.Start.{start_of}
 use Rattle.interleave_core.specs.States.{State, start, step, run}
 use Rattle.interleave_core.specs.Runs.{LeadsTo}
-use Rattle.interleave_core.specs.Maps.{MapState, start_map, step_map, run_map, LeadsToMap, seen, option_seen, SameBareMap, InEveryMapState, InEveryMapRun}
+use Rattle.interleave_core.specs.Maps.{MapState, start_map, step_map, run_map, LeadsToMap, IsReachedWithin, seen, option_seen, SameBareMap, InEveryMapState, InEveryMapRun}
 
 -- a state of finite maps starts as what it answers
 abbrev pub SeenStarts : Type 0
@@ -31,6 +32,17 @@ MapLed = (net : NetTree) (log : List ℕ) (S : MapState) → LeadsToMap net log 
 -- and there is one where the log leads to a state
 abbrev pub MapLeads : Type 0
 MapLeads = (net : NetTree) (log : List ℕ) (T : State) → LeadsTo net log T → (S : MapState) × LeadsToMap net log S × (seen S ≡ T)
+
+-- the start is reached by no move, and a state that was reached in few moves goes on to one that is reached in one more
+abbrev pub StartReached : Type 0
+StartReached = (net : NetTree) → IsReachedWithin net 1 (start_map (start_of net))
+
+abbrev pub StepReached : Type 0
+StepReached = (net : NetTree) (n i : ℕ) (S T : MapState) → IsReachedWithin net n S → step_map net S i ≡ Some T → IsReachedWithin net (suc n) T
+
+-- what is reached in few moves is so in more
+abbrev pub MoreReached : Type 0
+MoreReached = (net : NetTree) (n m : ℕ) (S : MapState) → n ≤ m → IsReachedWithin net n S → IsReachedWithin net m S
 
 -- the next ticket is at most one more than the log is long
 abbrev pub MapTickets : Type 0

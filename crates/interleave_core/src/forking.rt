@@ -1,7 +1,8 @@
 // Forks.
 ghost use Rattle.std.specs.Prelude.{[], ◌≡◌, None, OnOk, OnErr, IfOk};
-ghost use Rattle.std.specs.FinMap.{get};
+ghost use Rattle.std.specs.FinMap.{get, insert};
 ghost use Rattle.token_stacks.specs.Signatures.{Boxes};
+ghost use Rattle.fork_join.specs.Entries.{pending};
 ghost use Rattle.move_rules.specs.Places.{up, ask};
 ghost use Rattle.move_rules.specs.Views.{token_of};
 ghost use Rattle.interleave_core.specs.Forking.{HasBoxes, Copies, ForksTo};
@@ -42,6 +43,33 @@ fn right_question(live: &LiveTokens, ticket: u32, b: u32) -> Result<(Token, BoxS
     }
 }
 
+// Gives a new ticket its token, and opens an entry. After want of memory all is as before.
+#[tactic(auto, using(crate::proofs::Forked::taken_back))]
+fn open(
+    live: &mut LiveTokens,
+    joins: &mut JoinTable,
+    next: u32,
+    token: Token,
+    at: u32,
+    boxes: BoxStack,
+) -> Result<(), AllocError>
+    requires fresh { get live.old next ≡ None }
+    requires closed { get joins.old (at, boxes) ≡ None }
+    ensures token { OnOk result (live.new ≡ insert live.old next (token_of token)) }
+    ensures entry { OnOk result (joins.new ≡ insert joins.old (at, boxes) pending) }
+    ensures tokens_stay { OnErr result (live.new ≡ live.old) }
+    ensures entries_stay { OnErr result (joins.new ≡ joins.old) }
+{
+    live.put(next, token)?;
+    match joins.begin(at, boxes) {
+        Ok(()) => Ok(()),
+        Err(e) => {
+            live.take(next);
+            Err(e)
+        }
+    }
+}
+
 // Forks the token of a ticket at a node to two operands: the left question keeps the ticket, the right one gets the next, and the
 // entry is opened. Only the right question and the entry take a copy of the box stack. After want of memory all is as before.
 pub(crate) fn fork(
@@ -60,15 +88,7 @@ pub(crate) fn fork(
     ensures entries_stay { OnErr result (joins.new ≡ joins.old) }
 {
     let (right, boxes) = right_question(live, ticket, b)?;
-    live.put(next, right)?;
-    match joins.begin(at, boxes) {
-        Ok(()) => {
-            live.send(ticket, a, true, Kind::Ask);
-            Ok(())
-        }
-        Err(e) => {
-            live.take(next);
-            Err(e)
-        }
-    }
+    open(live, joins, next, right, at, boxes)?;
+    live.send(ticket, a, true, Kind::Ask);
+    Ok(())
 }
