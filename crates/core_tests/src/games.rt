@@ -1,0 +1,119 @@
+//! Runs that a table tells move by move.
+//!
+//! A row is `TICKET NAME TOKEN`: the ticket moves, the step has this name, and the ticket's token is then this one, or there is none where
+//! no token is written. In a row `TICKET stands TOKEN` nothing moves, and in a row `live TICKETS` these are the live tickets.
+
+ghost use Rattle.std.specs.Prelude.{◌+◌, ◌<◌, OnOk};
+ghost use Rattle.interleave_core.specs.Runs.{Runs};
+ghost use Rattle.interleave_core.specs.Maps.{IsReachedWithin};
+
+use crate::tokens::{cut, number, token};
+use interleave_core::{Core, Stepped};
+use net_build::Net;
+use pcf_values::Val;
+use std::alloc::{AllocError, Global};
+
+/// More moves than any run of the tests has.
+pub(crate) const MOST_MOVES: u32 = 1000;
+
+/// The next move of a run of so many moves. A ticket that isn't live is answered with want of memory, which fails the test.
+pub(crate) fn go(net: &Net, core: &mut Core, moves: u32, ticket: u32) -> Result<Stepped, AllocError>
+    requires runs { Runs net.now }
+    requires short { moves < 1000 }
+    requires reached { IsReachedWithin net.now (moves + 1) core.old }
+    ensures { OnOk result (IsReachedWithin net.now (moves + 2) core.new) }
+{
+    if core.is_live(ticket) {
+        core.step(net, ticket)
+    } else {
+        Err(AllocError)
+    }
+}
+
+/// Whether the step has this name: `forked:` has its new ticket behind it, and `answered:` the answer.
+fn is_named(stepped: Stepped, name: &str) -> bool {
+    let (word, told) = cut(name, ':');
+    match stepped {
+        Stepped::Went => word == "went",
+        Stepped::Forked(ticket) => word == "forked" && ticket == number(told),
+        Stepped::Kept => word == "kept",
+        Stepped::Joined => word == "joined",
+        Stepped::Answered(v) => word == "answered" && v == Val::Number(number(told) as u64),
+    }
+}
+
+/// Whether the ticket has this token, or none where the text is empty.
+pub(crate) fn has(alloc: Global, core: &Core, ticket: u32, text: &str) -> Result<bool, AllocError> {
+    match core.token(ticket) {
+        Some(kept) => Ok(!text.is_empty() && token(alloc, text)?.same(kept)),
+        None => Ok(text.is_empty()),
+    }
+}
+
+/// Whether these are the live tickets, from the least on.
+pub(crate) fn are_live(core: &Core, tickets: &str) -> bool {
+    let mut next = core.least_live();
+    for word in tickets.split_whitespace() {
+        match next {
+            Some(ticket) if ticket == number(word) => next = core.next_live(ticket),
+            _ => return false,
+        }
+    }
+    next.is_none() && core.live_count() as usize == tickets.split_whitespace().count()
+}
+
+/// Whether a row in which the ticket moves is so.
+fn moves_so(
+    alloc: Global,
+    net: &Net,
+    core: &mut Core,
+    moves: u32,
+    ticket: u32,
+    row: &str,
+) -> Result<bool, AllocError>
+    requires runs { Runs net.now }
+    requires short { moves < 1000 }
+    requires reached { IsReachedWithin net.now (moves + 1) core.old }
+    ensures { OnOk result (IsReachedWithin net.now (moves + 2) core.new) }
+{
+    let (name, text) = cut(row, ' ');
+    let stepped = go(net, core, moves, ticket)?;
+    Ok(is_named(stepped, name) && has(alloc, core, ticket, text)?)
+}
+
+/// Whether a row in which nothing moves is so. Another row is answered with `None`.
+fn stands_so(alloc: Global, core: &Core, row: &str) -> Result<Option<bool>, AllocError> {
+    let (first, rest) = cut(row, ' ');
+    let (name, text) = cut(rest, ' ');
+    if first == "live" {
+        Ok(Some(are_live(core, rest)))
+    } else if name == "stands" {
+        Ok(Some(has(alloc, core, number(first), text)?))
+    } else {
+        Ok(None)
+    }
+}
+
+/// Plays a run by its table, and answers its last state, or none where a row isn't so.
+pub(crate) fn played(alloc: Global, net: &Net, rows: &str) -> Result<Option<Core>, AllocError>
+    requires { Runs net.now }
+{
+    let mut core = Core::start(alloc, net)?;
+    let mut moves = 0;
+    for row in rows.lines() {
+        match stands_so(alloc, &core, row)? {
+            Some(true) => {}
+            Some(false) => return Ok(None),
+            None => {
+                let (ticket, rest) = cut(row, ' ');
+                if moves == MOST_MOVES
+                    || !moves_so(alloc, net, &mut core, moves, number(ticket), rest)?
+                {
+                    return Ok(None);
+                }
+                moves += 1;
+            }
+        }
+    }
+    Ok(Some(core))
+}
