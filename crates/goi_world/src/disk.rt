@@ -8,15 +8,27 @@ use std::io::{Read, Seek, SeekFrom};
 use std::marker::Model;
 use std::{fs, io, rt};
 
-/// The files of the system, of which nothing is known but how many reads there were, and how many failed.
+/// A file that was opened, and how far it has been read.
 #[derive(Drop)]
-pub struct DiskFiles<'a, R: rt::Files> {
+struct Opened<F: Drop> {
+    name: String,
+    file: F,
+    at: u64,
+}
+
+/// The files of the system, of which nothing is known but how many reads there were, and how many failed.
+///
+/// The file that was read last stays open, and a read that goes on where the last one ended doesn't seek. So a pipe can be read, from
+/// its beginning on; a read of a pipe at any other place fails.
+#[derive(Drop)]
+pub struct DiskFiles<'a, R: rt::Files + AllocGlobal> {
     system: &'a R,
+    opened: Option<Opened<R::File>>,
     reads: u64,
     faults: u64,
 }
 
-impl<'a, R: rt::Files> Model for DiskFiles<'a, R> {
+impl<'a, R: rt::Files + AllocGlobal> Model for DiskFiles<'a, R> {
     ghost use Rattle.goi_world.specs.FilesOnDisk.{FilesOnDisk};
 
     ghost Value = { FilesOnDisk };
@@ -24,20 +36,21 @@ impl<'a, R: rt::Files> Model for DiskFiles<'a, R> {
     ghost view = { λ files. record { reads = files.reads; faults = files.faults } };
 }
 
-impl<'a, R: rt::Files> DiskFiles<'a, R> {
+impl<'a, R: rt::Files + AllocGlobal> DiskFiles<'a, R> {
     /// The files of this runtime.
     pub fn new(rt: &'a R) -> DiskFiles<'a, R>
         ensures { result ≡ unread_files }
     {
         DiskFiles {
             system: rt,
+            opened: None,
             reads: 0,
             faults: 0,
         }
     }
 }
 
-impl<'a, R: rt::Files> Files for DiskFiles<'a, R> {
+impl<'a, R: rt::Files + AllocGlobal> Files for DiskFiles<'a, R> {
     ghost use Rattle.goi_world.specs.Outside.{count_after};
 
     ghost told = { λ _ _. None };
@@ -59,7 +72,7 @@ impl<'a, R: rt::Files> Files for DiskFiles<'a, R> {
         ensures later { self.old.faults ≤ self.new.faults }
     {
         self.reads = self.reads.saturating_add(1);
-        match read_file(self.system, name, at, buf) {
+        match read_on(self.system, &mut self.opened, name, at, buf) {
             Ok(count) => Ok(count),
             Err(_) => {
                 self.faults = self.faults.saturating_add(1);
@@ -69,12 +82,48 @@ impl<'a, R: rt::Files> Files for DiskFiles<'a, R> {
     }
 }
 
-fn read_file<R: rt::Files>(rt: &R, name: &str, at: u64, buf: &mut [u8]) -> io::Result<usize>
+// Reads a file at a place, by the opened one where it is that file; after a fault none is kept open.
+fn read_on<R: rt::Files + AllocGlobal>(
+    rt: &R,
+    opened: &mut Option<Opened<R::File>>,
+    name: &str,
+    at: u64,
+    buf: &mut [u8],
+) -> io::Result<usize>
     ensures { IfOk result (λ n. n ≤ length buf.new) }
 {
-    let mut file = fs::open(rt, name)?;
-    file.seek(SeekFrom::Start(at))?;
-    file.read(buf)
+    let mut file = match opened.take() {
+        Some(file) if file.name.as_str() == name => file,
+        _ => open(rt, name)?,
+    };
+    let count = read_at(&mut file, at, buf)?;
+    *opened = Some(file);
+    Ok(count)
+}
+
+// A file at its beginning.
+fn open<R: rt::Files + AllocGlobal>(rt: &R, name: &str) -> io::Result<Opened<R::File>> {
+    Ok(Opened {
+        name: String::from_str(rt.alloc(), name)?,
+        file: fs::open(rt, name)?,
+        at: 0,
+    })
+}
+
+// Seeks only where the place isn't the one that was come to.
+fn read_at<F: Read + Seek + Drop>(
+    file: &mut Opened<F>,
+    at: u64,
+    buf: &mut [u8],
+) -> io::Result<usize>
+    ensures { IfOk result (λ n. n ≤ length buf.new) }
+{
+    if file.at != at {
+        file.file.seek(SeekFrom::Start(at))?;
+    }
+    let count = file.file.read(buf)?;
+    file.at = at.saturating_add(count as u64);
+    Ok(count)
 }
 
 #[cfg(test)]
@@ -113,7 +162,7 @@ mod tests {
     }
 
     /// Whether a read of `large` at an offset gives bytes that stand there, and some where there are some.
-    fn reads_there<R: rt::Files>(
+    fn reads_there<R: rt::Files + AllocGlobal>(
         files: &mut DiskFiles<'_, R>,
         bytes: &[u8],
         at: usize,
@@ -127,7 +176,7 @@ mod tests {
     }
 
     /// Whether reads at an offset give what stands there, with more and less room.
-    fn reads_at<R: rt::Files>(
+    fn reads_at<R: rt::Files + AllocGlobal>(
         files: &mut DiskFiles<'_, R>,
         bytes: &[u8],
         at: usize,
