@@ -1,5 +1,5 @@
 -- The one worker's run, walk by walk and move by move.
-use Rattle.std.proofs.Common.{◌≡◌, ℕ, suc, ◌<◌, ◌≤◌, cond, List, [], ◌∷◌, ◌++◌, length, Option, Some, None, refl, sym, ap, ◌∙◌, subst, arith, ⊎_elim}
+use Rattle.std.proofs.Common.{◌≡◌, ℕ, suc, ◌<◌, ◌≤◌, cond, List, [], ◌∷◌, ◌++◌, length, Some, refl, sym, ap, ◌∙◌, subst, arith, ⊎_elim}
 use Rattle.std.specs.Prelude.{map}
 use Rattle.std.specs.Option.{IsSome}
 use Rattle.std.specs.Ordering.{nat_cmp}
@@ -8,8 +8,6 @@ use Rattle.std.proofs.lemmas.Cmp.{nat_cmp_total}
 use Rattle.std.proofs.lemmas.List.{length-append}
 use Rattle.std.proofs.lemmas.Bool.{eq-eqb, ne_eqb, cases_lt}
 use Rattle.pcf_values.specs.Most.{most_budget}
-use Rattle.pcf_values.specs.declared.val.Val.{Val}
-use Rattle.fork_join.specs.Entries.{Entry, key_cmp}
 use Rattle.net_build.specs.Nets.{NetTree}
 use Rattle.move_rules.specs.Places.{TokenTree}
 use Rattle.move_rules.specs.Views.{token_of}
@@ -21,6 +19,8 @@ use Rattle.interleave_core.specs.Tickets.{NoneLive, IsLeastLive}
 use Rattle.interleave_core.specs.Moving.{Changes, WalksOn}
 use Rattle.interleave_core.specs.Roles.{StandsStill}
 use Rattle.interleave_core.specs.Alone.{RunsAlone}
+use Rattle.interleave_core.specs.Parts.{state, state_of}
+use Rattle.interleave_core.specs.declared.parts.Parts.{Parts}
 use Rattle.interleave_core.proofs.Tickets.{test_nat}
 use Rattle.interleave_core.proofs.MapLaws.{seen_leads, run_both}
 use Rattle.interleave_core.proofs.Running.{idle_answered}
@@ -37,6 +37,7 @@ begins net S log h z = subst (λ l. RunsAlone net l S) (sym z) (record { leads =
 given : (f : FinMap nat_cmp TokenTree) (i : ℕ) (y : TokenTree) → get (insert f i y) i ≡ Some y
 given f i y = get-insert nat_cmp_total f i y i ∙ ap (λ b. cond b (Some y) (get f i)) (test_nat i i ∙ eq-eqb i i refl)
 
+-- and others have what they had
 not_given : (f : FinMap nat_cmp TokenTree) (i : ℕ) (y : TokenTree) (j : ℕ) → (j ≡ i → ⊥) → get (insert f i y) j ≡ get f j
 not_given f i y j d = get-insert nat_cmp_total f i y j ∙ ap (λ b. cond b (Some y) (get f j)) (test_nat j i ∙ ne_eqb j i d)
 
@@ -45,10 +46,6 @@ pub least_seen : (S : MapState) (i : ℕ) → IsLeastLive S i → Least (seen S)
 least_seen S i (h, below) = record { live = the_some (get S.tokens i) h; below = below }
 
 module _ (net : NetTree) (runs : Runs net) (log : List ℕ) (S : MapState) (a : RunsAlone net log S) where
-  -- a state that the run reached
-  pub reached_within : (budget : ℕ) → budget ≤ most_budget → length log < budget → IsReachedWithin net most_budget S
-  reached_within budget b l = (log, a.leads, omega arith)
-
   -- one move of the least live ticket
   pub goes_on : (i : ℕ) (T : MapState) (log' : List ℕ) → IsLeastLive S i → step_map net S i ≡ Some T → log' ≡ log ++ i ∷ [] → RunsAlone net log' T
   goes_on i T log' least s e =
@@ -63,41 +60,61 @@ module _ (net : NetTree) (runs : Runs net) (log : List ℕ) (S : MapState) (a : 
   pub full : (budget : ℕ) → length log ≤ budget → (length log < budget → ⊥) → log ≡ one net budget
   full budget l n = let z : length log ≡ budget = ⊎_elim (λ m. absurd (n m)) (λ m. omega arith) (cases_lt (length log) budget) in sym a.ours ∙ ap (one net) z
 
+  -- and so it is where nothing is live
   pub idle : (budget : ℕ) → length log ≤ budget → NoneLive S → log ≡ one net budget
   idle budget l none =
       let led = seen_leads net log S a.leads in
       let (v, e) = idle_answered net runs.sound log (seen S) led none in
       sym (one_ends net runs log (seen S) led v a.ours e budget l)
 
--- a walk of the least live ticket
-module _ (net : NetTree) (runs : Runs net) (log log' : List ℕ) (f f' : FinMap nat_cmp TokenTree) (g : FinMap key_cmp Entry) (n : ℕ) (v : Option Val) (i budget : ℕ)
-    (least : (IsSome (get f i)) × ((j : ℕ) → j < i → get f j ≡ None)) (c : Changes (WalksOn net i log log' budget) f i f') where
-  abbrev at : FinMap nat_cmp TokenTree → MapState
-  at f = record { tokens = f; entries = g; next = n; answered = v }
+-- what a walk of the least live ticket leaves
+pub record AfterWalk (net : NetTree) (log : List ℕ) (S : MapState) (i budget : ℕ) : Type 0 where
+  pub alone : RunsAlone net log S
+  -- it stays the least
+  pub least : IsLeastLive S i
+  pub within : length log ≤ budget
+  -- and its token stands still, where the list isn't full
+  pub still : (length log ≡ budget → ⊥) → StandsStill net S.tokens i
+  -- so that it may act
+  pub reached : (length log ≡ budget → ⊥) → IsReachedWithin net most_budget S
 
-  pub walks_on : RunsAlone net log (at f) → RunsAlone net log' (at f')
-  walks_on a =
+module _ (net : NetTree) (runs : Runs net) (p : Parts) (f : FinMap nat_cmp TokenTree) (log log' : List ℕ) (i budget : ℕ)
+    (least : IsLeastLive (state_of p) i) (small : budget ≤ most_budget) (c : Changes (WalksOn net i log log' budget) p.live i f) where
+  -- the state afterwards
+  abbrev walked : MapState
+  walked = state f p.joins p.next p.answer
+
+  walk_alone : RunsAlone net log (state_of p) → RunsAlone net log' walked
+  walk_alone a =
       let (x, y, e, ((trail, w, is, few), ends), h) = c in
-      let run = walk_map net trail (at f) i (token_of x) (token_of y) e w in
-      let to : run_map net (at f) (map (λ n. i) trail) ≡ Some (at f') = run ∙ ap (λ f. Some (at f)) (sym h) in
-      subst (λ l. RunsAlone net l (at f')) (sym is) (record {
-        leads = run_both net log (map (λ n. i) trail) (start_map (start_of net)) (at f) (at f') a.leads to;
-        ours = one_walks net runs log (seen (at f)) (seen_leads net log (at f) a.leads) trail i (token_of x) (token_of y) a.ours (least_seen (at f) i least) e w;
+      let run = walk_map net trail (state_of p) i (token_of x) (token_of y) e w in
+      let to : run_map net (state_of p) (map (λ n. i) trail) ≡ Some walked = run ∙ ap (λ f. Some (state f p.joins p.next p.answer)) (sym h) in
+      let led = seen_leads net log (state_of p) a.leads in
+      subst (λ l. RunsAlone net l walked) (sym is) (record {
+        leads = run_both net log (map (λ n. i) trail) (start_map (start_of net)) (state_of p) walked a.leads to;
+        ours = one_walks net runs log (seen (state_of p)) led trail i (token_of x) (token_of y) a.ours (least_seen (state_of p) i least) e w;
       })
 
-  -- it stays the least
-  pub least_on : IsLeastLive (at f') i
-  least_on =
+  walk_least : IsLeastLive walked i
+  walk_least =
       let (x, y, e, w, h) = c in (
-        subst (λ f. IsSome (get f i)) (sym h) (subst IsSome (sym (given f i (token_of y))) refl),
-        λ j l. ap (λ f. get f j) h ∙ not_given f i (token_of y) j (λ q. omega arith) ∙ least.1 j l,
+        subst (λ f. IsSome (get f i)) (sym h) (subst IsSome (sym (given p.live i (token_of y))) refl),
+        λ j l. ap (λ f. get f j) h ∙ not_given p.live i (token_of y) j (λ q. omega arith) ∙ least.1 j l,
       )
 
-  -- and stands still, where the list isn't full
-  pub stands_on : (length log' ≡ budget → ⊥) → StandsStill net f' i
-  stands_on d =
+  walk_still : (length log' ≡ budget → ⊥) → StandsStill net f i
+  walk_still d =
       let (x, y, e, (w, ends), h) = c in
-      (token_of y, ap (λ f. get f i) h ∙ given f i (token_of y), ⊎_elim (λ q. absurd (d q)) (λ s. s) ends)
+      (token_of y, ap (λ f. get f i) h ∙ given p.live i (token_of y), ⊎_elim (λ q. absurd (d q)) (λ s. s) ends)
 
-  pub within_on : length log' ≤ budget
-  within_on = let (x, y, e, ((trail, w, is, few), ends), h) = c in few
+  walk_within : length log' ≤ budget
+  walk_within = let (x, y, e, ((trail, w, is, few), ends), h) = c in few
+
+  pub after_walk : RunsAlone net log (state_of p) → AfterWalk net log' walked i budget
+  after_walk a =
+      let b = walk_alone a in
+      let w = walk_within in
+      record { alone = b; least = walk_least; within = w; still = walk_still; reached = λ d. (log', b.leads, below w d) }
+    where
+      below : length log' ≤ budget → (length log' ≡ budget → ⊥) → length log' < most_budget
+      below w d = ⊎_elim (λ l. omega (arith, l, small)) (λ m. absurd (d (omega (arith, m, w)))) (cases_lt (length log') budget)

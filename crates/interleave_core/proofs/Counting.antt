@@ -41,6 +41,7 @@ entries_len (e ∷ es) s =
     one ∙ ap (λ o. cond (is_some o) (finite.len (from_entries {R = nat_cmp} (live_entries es))) (finite.len (from_entries {R = nat_cmp} (live_entries es)) + 1)) none
     ∙ ap (λ n. n + 1) ih ∙ omega arith
 
+-- the finite map has as many tickets as the code's map has entries
 pub live_len : (m : BTreeMap ℕ Token) (f : FinMap nat_cmp TokenTree) → live_of m ≡ f → IsOrdered nat_cmp m → length m.entries ≡ finite.len f
 live_len m f view s = sym (entries_len m.entries s) ∙ ap finite.len view
 
@@ -68,24 +69,29 @@ no_more f i = subst (λ n. n ≤ finite.len f) (sym (len-remove nat_cmp_total f 
 abbrev pub Few : MapState → Type 0
 Few S = finite.len S.tokens ≤ S.next
 
+-- of equal states
 few_of : (S T : MapState) → Few S → Some S ≡ Some T → Few T
 few_of S T h e = let q : S ≡ T = cc in subst Few q h
 
+-- the second answer
 last_few : (o : Option Val) (S T : MapState) (i n w : ℕ) (t : Boxes) (x : TokenTree) → finite.get S.tokens i ≡ Some x → Few S → last_map o S i n w t ≡ Some T → Few T
 last_few None S T i n w t x e h s = cc
 last_few (Some u) S T i n w t x e h s = few_of _ T (let k = same_count S.tokens i x (ans u (down w [] t)) e in omega (arith, k, h)) s
 
+-- a join
 join_few : (o : Option Entry) (S T : MapState) (i n : ℕ) (op : Op) (d : Side) (v : Val) (w : ℕ) (t : Boxes) (x : TokenTree) → finite.get S.tokens i ≡ Some x → Few S → join_map o S i n op d v w t ≡ Some T → Few T
 join_few None S T i n op d v w t x e h s = cc
 join_few (Some pending) S T i n op d v w t x e h s = few_of _ T (let k = no_more S.tokens i in omega (arith, k, h)) s
 join_few (Some (has_left u)) S T i n op d v w t x e h s = last_few (other op (has_left u) d v) S T i n w t x e h s
 join_few (Some (has_right u)) S T i n op d v w t x e h s = last_few (other op (has_right u) d v) S T i n w t x e h s
 
+-- a fork makes one more live ticket and gives one more out
 fork_few : (o : Option Entry) (S T : MapState) (i n : ℕ) (l r : Place) (t : Boxes) (x : TokenTree) → finite.get S.tokens i ≡ Some x → Few S → fork_map o S i n l r t ≡ Some T → Few T
 fork_few (Some y) S T i n l r t x e h s = cc
 fork_few None S T i n l r t x e h s =
     few_of _ T (let k = one_more (finite.insert S.tokens i (ask l)) S.next (ask r) in let m = same_count S.tokens i x (ask l) e in omega (arith, k, m, h)) s
 
+-- any move
 act_few : (m : Move) (S T : MapState) (i : ℕ) (x : TokenTree) → finite.get S.tokens i ≡ Some x → Few S → act_map m S i ≡ Some T → Few T
 act_few (solo n y) S T i x e h s = few_of _ T (let k = same_count S.tokens i x y e in omega (arith, k, h)) s
 act_few (fork n l r t) S T i x e h s = fork_few (finite.get S.entries (n, t)) S T i n l r t x e h s
@@ -93,6 +99,7 @@ act_few (join n op d v w t) S T i x e h s = join_few (finite.get S.entries (n, t
 act_few (answer v) S T i x e h s = few_of _ T (let k = no_more S.tokens i in omega (arith, k, h)) s
 act_few stay S T i x e h s = cc
 
+-- a step
 pub step_few : (net : NetTree) (S T : MapState) (i : ℕ) → Few S → step_map net S i ≡ Some T → Few T
 step_few net S T i h s = go (finite.get S.tokens i) refl s
   where
@@ -100,9 +107,11 @@ step_few net S T i h s = go (finite.get S.tokens i) refl s
     go None e s = cc
     go (Some x) e s = act_few (move net x) S T i x e h s
 
+-- the start
 pub start_few : (p : Place) → Few (start_map p)
 start_few p = let k = one_more finite.empty 0 (ask p) in let z = len-empty nat_cmp TokenTree in omega (arith, k, z)
 
+-- a walk that is taken over
 pub adopted_few : (S : MapState) (i : ℕ) (x y : TokenTree) → finite.get S.tokens i ≡ Some x → Few S → Few (record S { tokens = finite.insert S.tokens i y })
 adopted_few S i x y e h = let k = same_count S.tokens i x y e in omega (arith, k, h)
 

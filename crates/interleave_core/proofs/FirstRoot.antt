@@ -10,10 +10,12 @@ abbrev or_root : Option ℕ → ℕ → ℕ
 or_root (Some w) r = w
 or_root None r = r
 
+-- at the front of a list
 at_front : (n : Node) (ns : List Node) → root_wire (n ∷ ns) ≡ or_root (root_at n) (root_wire ns)
 at_front (Root w) ns = refl
 at_front n ns = refl
 
+-- and at any place of it
 at_place : (ns : List Node) (i : ℕ) (n : Node) → slice_get ns i ≡ Some n → root_wire (drop i ns) ≡ or_root (root_at n) (root_wire (drop (suc i) ns))
 at_place [] zero n e = absurd cc
 at_place [] (suc i) n e = absurd cc

@@ -12,13 +12,16 @@ use Rattle.move_rules.specs.Places.{TokenTree, up, ask, place_of}
 use Rattle.interleave_core.proofs.Tickets.{test_nat}
 use Rattle.interleave_core.specs.Forking.{HasBoxes, boxes_at, Copies, ForksTo}
 
+-- what a ticket answers that was given a token
 at_put : (f : FinMap nat_cmp TokenTree) (i q : ℕ) (x : TokenTree) → get (insert f i x) q ≡ cond (nat_eq q i) (Some x) (get f q)
 at_put f i q x = get-insert nat_cmp_total f i x q ∙ ap (λ b. cond b (Some x) (get f q)) (test_nat q i)
 
+-- and what one answers that ended
 at_gone : (f : FinMap nat_cmp TokenTree) (i q : ℕ) → get (remove f i) q ≡ cond (nat_eq q i) None (get f q)
 at_gone f i q = get-remove nat_cmp_total f i q ∙ ap (λ b. cond b None (get f q)) (test_nat q i)
 
 module _ (f : FinMap nat_cmp TokenTree) (i n : ℕ) (x : TokenTree) (here : get f i ≡ Some x) (fresh : get f n ≡ None) where
+  -- a live ticket isn't the new one
   differ : i ≡ n → ⊥
   differ e = let bad : None ≡ Some x = sym fresh ∙ ap (get f) (sym e) ∙ here in cc
 
@@ -34,6 +37,7 @@ module _ (f : FinMap nat_cmp TokenTree) (i n : ℕ) (x : TokenTree) (here : get 
       go q false true h g = refl
       go q false false h g = refl
 
+  -- and stays live
   pub still_there : (r : TokenTree) → IsSome (get (insert f n r) i)
   still_there r = subst IsSome (sym (at_put f n i r ∙ ap (λ b. cond b (Some r) (get f i)) (ne_eqb i n differ) ∙ here)) refl
 
@@ -46,6 +50,7 @@ taken_back f n r fresh = same_map nat_cmp_total nat_cmp-IsAntisymmetric _ _ (λ 
     go q true h = sym (ap (get f) (eqb-true q n h) ∙ fresh)
     go q false h = refl
 
+-- of one option
 some_one : (x y : TokenTree) → Some x ≡ Some y → x ≡ y
 some_one x y h = cc
 

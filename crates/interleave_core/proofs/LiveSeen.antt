@@ -28,6 +28,7 @@ push : (b : Bool) (x : Token) (o : Option Token) → option_map token_of (cond b
 push true x o = refl
 push false x o = refl
 
+-- and a key that goes
 push_none : (b : Bool) (o : Option Token) → option_map token_of (cond b None o) ≡ cond b None (option_map token_of o)
 push_none true o = refl
 push_none false o = refl
@@ -42,6 +43,7 @@ place_work : (u : Bool) (w : ℕ) (s : Load) → work_at (place_at w u s) ≡ s.
 place_work true w s = refl
 place_work false w s = refl
 
+-- and its box stack
 place_boxes : (u : Bool) (w : ℕ) (s : Load) → boxes_at (place_at w u s) ≡ s.boxes
 place_boxes true w s = refl
 place_boxes false w s = refl
@@ -50,6 +52,7 @@ place_boxes false w s = refl
 pub work_seen : (x : Token) → work_at (place_of (token_of x)) ≡ x.stacks.work
 work_seen x = ap work_at (placed x.kind (place_at x.wire x.up x.stacks)) ∙ place_work x.up x.wire x.stacks
 
+-- and its box stack
 pub boxes_seen : (x : Token) → boxes_at (place_of (token_of x)) ≡ x.stacks.boxes
 boxes_seen x = ap boxes_at (placed x.kind (place_at x.wire x.up x.stacks)) ∙ place_boxes x.up x.wire x.stacks
 
@@ -67,6 +70,7 @@ turn i j = go (nat_eq i j) (nat_eq j i) refl refl
     go true false p q = let z = eq-eqb j i (sym (eqb-true i j p)) in cc
     go false true p q = let z = eq-eqb i j (sym (eqb-true j i q)) in cc
 
+-- in the order of tickets too
 either_way : (i j : ℕ) → eq_by_cmp nat_cmp i j ≡ eq_by_cmp nat_cmp j i
 either_way i j = test_nat i j ∙ turn i j ∙ sym (test_nat j i)
 
@@ -89,35 +93,43 @@ pub on_ok : {T E P Q : Type 0} (r : Result T E) → OnOk r P → (P → Q) → O
 on_ok (Ok x) p f = f p
 on_ok (Err x) p f = tt
 
+-- and of an error
 pub on_err : {T E P Q : Type 0} (r : Result T E) → OnErr r P → (P → Q) → OnErr r Q
 on_err (Ok x) p f = tt
 on_err (Err x) p f = f p
 
 module _ (m : BTreeMap ℕ Token) (f : FinMap nat_cmp TokenTree) (view : live_of m ≡ f) where
+  -- what the finite map answers is what the code's map has
   pub seen_live : (j : ℕ) → finite.get f j ≡ option_map token_of (tree.get nat_cmp m j)
   seen_live j = ap (λ f. finite.get f j) (sym view) ∙ live_get m j
 
+  -- there in the one, where in the other
   some_there : (o : Option Token) → IsSome (option_map token_of o) → IsSome o
   some_there None h = cc
   some_there (Some x) h = refl
 
+  -- and the other way
   there_some : (o : Option Token) → IsSome o → IsSome (option_map token_of o)
   there_some None h = cc
   there_some (Some x) h = refl
 
+  -- a live ticket is in the code's map
   pub has_live : (j : ℕ) → IsSome (finite.get f j) → IsSome (tree.get nat_cmp m j)
   has_live j h = some_there (tree.get nat_cmp m j) (subst IsSome (seen_live j) h)
 
+  -- the least of the one is the least of the other
   pub least_live : (r : Option ℕ) → MatchOption r ((q : ℕ) → tree.get nat_cmp m q ≡ None) (λ i. IsSome (tree.get nat_cmp m i) × ((q : ℕ) → q < i → tree.get nat_cmp m q ≡ None))
       → MatchOption r ((q : ℕ) → finite.get f q ≡ None) (λ i. IsSome (finite.get f i) × ((q : ℕ) → q < i → finite.get f q ≡ None))
   least_live None h = λ q. seen_live q ∙ ap (option_map token_of) (h q)
   least_live (Some i) h = (subst IsSome (sym (seen_live i)) (there_some (tree.get nat_cmp m i) h.0), λ q l. seen_live q ∙ ap (option_map token_of) (h.1 q l))
 
+  -- and the next is the next
   pub next_live : (a : ℕ) (r : Option ℕ) → MatchOption r ((q : ℕ) → a < q → tree.get nat_cmp m q ≡ None) (λ i. (a < i) × IsSome (tree.get nat_cmp m i) × ((q : ℕ) → a < q → q < i → tree.get nat_cmp m q ≡ None))
       → MatchOption r ((q : ℕ) → a < q → finite.get f q ≡ None) (λ i. (a < i) × IsSome (finite.get f i) × ((q : ℕ) → a < q → q < i → finite.get f q ≡ None))
   next_live a None h = λ q l. seen_live q ∙ ap (option_map token_of) (h q l)
   next_live a (Some i) h = (h.0, subst IsSome (sym (seen_live i)) (there_some (tree.get nat_cmp m i) h.1), λ q k l. seen_live q ∙ ap (option_map token_of) (h.2 q k l))
 
+  -- maps that answer alike are seen alike
   pub all_stay : (n : BTreeMap ℕ Token) → ((q : ℕ) → tree.get nat_cmp n q ≡ tree.get nat_cmp m q) → live_of n ≡ f
   all_stay n h = same_map nat_cmp_total nat_cmp-IsAntisymmetric _ _ (λ q. live_get n q ∙ ap (option_map token_of) (h q) ∙ sym (seen_live q))
 
@@ -133,16 +145,19 @@ module _ (m : BTreeMap ℕ Token) (f : FinMap nat_cmp TokenTree) (view : live_of
   pub changes : {P : Token → Token → Type 0} (n : BTreeMap ℕ Token) (i : ℕ) → ChangesIn P m i n → Changes P f i (live_of n)
   changes n i (x, y, e, p, h) = (x, y, seen_live i ∙ ap (option_map token_of) e, p, live_put m n i y h ∙ ap (λ f. finite.insert f i (token_of y)) view)
 
+  -- a solo move in place
   solo_live : (net : NetTree) (n : BTreeMap ℕ Token) (i : ℕ) (made : Bool) → ChangesIn (Solo net made) m i n → SoloAt net f i made (live_of n)
   solo_live net n i true (x, y, e, (k, mv), h) =
       (token_of x, seen_live i ∙ ap (option_map token_of) e, (k, token_of y, mv, live_put m n i y h ∙ ap (λ f. finite.insert f i (token_of y)) view))
   solo_live net n i false (x, y, e, (none, same), h) =
       (token_of x, seen_live i ∙ ap (option_map token_of) e, (none, all_stay n (λ q. h q ∙ ap (λ y. cond (is_at (nat_cmp i) q) (Some y) (tree.get nat_cmp m q)) same ∙ put_back i q x e)))
 
+  -- where there was memory for it
   pub solo_ok : {E : Type 0} (net : NetTree) (n : BTreeMap ℕ Token) (i : ℕ) (r : Result Bool E) → IfOk r (λ made. ChangesIn (Solo net made) m i n) → IfOk r (λ made. SoloAt net f i made (live_of n))
   solo_ok net n i (Ok made) h = solo_live net n i made h
   solo_ok net n i (Err e) h = tt
 
+  -- of one option
   one_token : (x y : TokenTree) → Some x ≡ Some y → x ≡ y
   one_token x y h = cc
 

@@ -19,27 +19,33 @@ use Rattle.interleave_core.proofs.Running.{low}
 abbrev pub Leaves : State → ℕ → State → Type 0
 Leaves S i T = (j : ℕ) → (j ≡ i → ⊥) → (j ≡ S.next → ⊥) → T.tokens j ≡ S.tokens j
 
+-- what is written at one ticket leaves the others
 past : (f : Tokens) (i : ℕ) (x : Option TokenTree) (j : ℕ) → (j ≡ i → ⊥) → set_token f i x j ≡ f j
 past f i x j d = ap (λ b. cond b x (f j)) (ne_eqb j i d)
 
+-- of one option
 some_state : (S T : State) → Some S ≡ Some T → S ≡ T
 some_state S T h = cc
 
+-- a fork
 fork_leaves : (o : Option Entry) (S T : State) (i n : ℕ) (l r : Place) (t : Boxes) → fork_on o S i n l r t ≡ Some T → Leaves S i T
 fork_leaves (Some e) S T i n l r t h = cc
 fork_leaves None S T i n l r t h = λ j d e.
     ap (λ (U : State). U.tokens j) (sym (some_state _ T h)) ∙ past (set_token S.tokens i (Some (ask l))) S.next (Some (ask r)) j e ∙ past S.tokens i (Some (ask l)) j d
 
+-- the second answer
 last_leaves : (o : Option Val) (S T : State) (i n w : ℕ) (t : Boxes) → last_on o S i n w t ≡ Some T → Leaves S i T
 last_leaves None S T i n w t h = cc
 last_leaves (Some u) S T i n w t h = λ j d e. ap (λ (U : State). U.tokens j) (sym (some_state _ T h)) ∙ past S.tokens i _ j d
 
+-- a join
 join_leaves : (o : Option Entry) (S T : State) (i n : ℕ) (op : Op) (s : Side) (v : Val) (w : ℕ) (t : Boxes) → join_on o S i n op s v w t ≡ Some T → Leaves S i T
 join_leaves None S T i n op s v w t h = cc
 join_leaves (Some pending) S T i n op s v w t h = λ j d e. ap (λ (U : State). U.tokens j) (sym (some_state _ T h)) ∙ past S.tokens i None j d
 join_leaves (Some (has_left u)) S T i n op s v w t h = last_leaves (other op (has_left u) s v) S T i n w t h
 join_leaves (Some (has_right u)) S T i n op s v w t h = last_leaves (other op (has_right u) s v) S T i n w t h
 
+-- any move
 act_leaves : (m : Move) (S T : State) (i : ℕ) → act m S i ≡ Some T → Leaves S i T
 act_leaves (solo n x) S T i h = λ j d e. ap (λ (U : State). U.tokens j) (sym (some_state _ T h)) ∙ past S.tokens i (Some x) j d
 act_leaves (fork n l r t) S T i h = fork_leaves (S.entries n t) S T i n l r t h
@@ -47,6 +53,7 @@ act_leaves (join n o s v w t) S T i h = join_leaves (S.entries n t) S T i n o s 
 act_leaves (answer v) S T i h = λ j d e. ap (λ (U : State). U.tokens j) (sym (some_state _ T h)) ∙ past S.tokens i None j d
 act_leaves stay S T i h = cc
 
+-- a step
 pub step_leaves : (net : NetTree) (o : Option TokenTree) (S T : State) (i : ℕ) → step_on net o S i ≡ Some T → Leaves S i T
 step_leaves net None S T i h = cc
 step_leaves net (Some x) S T i h = act_leaves (move net x) S T i h

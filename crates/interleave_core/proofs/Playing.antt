@@ -19,10 +19,12 @@ use Rattle.interleave_core.specs.declared.roles.Operator.TheVariants.{Plus as Th
 use Rattle.interleave_core.specs.declared.roles.Role.TheVariants.{Join, Still}
 use Rattle.interleave_core.specs.Roles.{op_of, operand_role, role_of, role_move}
 
+-- a question that no plain rule takes on stays
 pass_stays : (i : ℕ) (o : Option Place) (p : Place) → NotSolo (ask_move (pass_at i o) p) → ask_move (pass_at i o) p ≡ stay
 pass_stays i None p h = refl
 pass_stays i (Some q) p h = elim h [ ]
 
+-- and so does an answer
 solo_stays : (i : ℕ) (o : Option Place) (v : Val) → NotSolo (solo_at i o (ans v)) → solo_at i o (ans v) ≡ stay
 solo_stays i None v h = refl
 solo_stays i (Some q) v h = elim h [ ]
@@ -46,6 +48,7 @@ asks_up i (Minus a b c) w (x ∷ m) t p h = refl
 asks_up i (Times a b c) w (x ∷ m) t p h = refl
 asks_up i n w (x ∷ m) t p h = pass_stays i (plain_up n w (x ∷ m) t) p h
 
+-- a question from above has no role
 no_ask_down : (i : ℕ) (n : Node) (w : ℕ) (m : Work) (t : Boxes) → stay ≡ role_move (role_of n Ask false w m) i t
 no_ask_down i (Plus a b c) w [] t = refl
 no_ask_down i (Minus a b c) w [] t = refl
@@ -53,6 +56,7 @@ no_ask_down i (Times a b c) w [] t = refl
 no_ask_down i n w [] t = refl
 no_ask_down i n w (x ∷ m) t = refl
 
+-- nor has an answer from below
 no_ans_up : (i : ℕ) (n : Node) (v : Val) (w : ℕ) (m : Work) (t : Boxes) → stay ≡ role_move (role_of n (Ans v) true w m) i t
 no_ans_up i (Plus a b c) v w [] t = refl
 no_ans_up i (Minus a b c) v w [] t = refl
@@ -79,6 +83,7 @@ test_stays i x y z a b c w h = go (nat_eq x w) (nat_eq y w) (nat_eq z w) h
     go false false true h = elim h [ ]
     go false false false h = refl
 
+-- an answer from above
 answers_down : (i : ℕ) (n : Node) (v : Val) (w : ℕ) (m : Work) (t : Boxes) → NotSolo (ans_down i n v w m t) → ans_down i n v w m t ≡ role_move (role_of n (Ans v) false w m) i t
 answers_down i (Succ a c) v w [] t h = elim h [ ]
 answers_down i (Pred a c) v w [] t h = elim h [ ]

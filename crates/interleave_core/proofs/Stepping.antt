@@ -23,13 +23,16 @@ use Rattle.interleave_core.specs.Roles.{op_of, role_move, MetAt, StandsStill}
 use Rattle.interleave_core.specs.Moving.{SoloAt}
 use Rattle.interleave_core.specs.Parts.{state}
 
+-- of one option
 one_token : (y x : TokenTree) → Some y ≡ Some x → y ≡ x
 one_token y x q = cc
 
 module _ (net : NetTree) (f : FinMap nat_cmp TokenTree) (g : FinMap key_cmp Entry) (n : ℕ) (v : Option Val) (i : ℕ) where
+  -- the step is that of the token's move
   acts : (x : TokenTree) (m : Move) → get f i ≡ Some x → move net x ≡ m → step_map net (state f g n v) i ≡ act_map m (state f g n v) i
   acts x m e h = ap (λ o. step_map_on net o (state f g n v) i) e ∙ ap (λ m. act_map m (state f g n v) i) h
 
+  -- and so is its name
   named : (x : TokenTree) (m : Move) → get f i ≡ Some x → move net x ≡ m → step_name net (state f g n v) i ≡ name_of m (state f g n v)
   named x m e h = ap (λ o. name_on net o (state f g n v)) e ∙ ap (λ m. name_of m (state f g n v)) h
 
@@ -37,6 +40,7 @@ module _ (net : NetTree) (f : FinMap nat_cmp TokenTree) (g : FinMap key_cmp Entr
   pub solo_steps : (f' : FinMap nat_cmp TokenTree) → SoloAt net f i true f' → step_map net (state f g n v) i ≡ Some (state f' g n v)
   solo_steps f' (x, e, (k, y, m, h)) = acts x (solo k y) e m ∙ ap (λ f. Some (state f g n v)) (sym h)
 
+  -- and its name
   pub solo_name : (f' : FinMap nat_cmp TokenTree) → SoloAt net f i true f' → step_name net (state f g n v) i ≡ Some Went
   solo_name f' (x, e, (k, y, m, h)) = named x (solo k y) e m
 
@@ -44,6 +48,7 @@ module _ (net : NetTree) (f : FinMap nat_cmp TokenTree) (g : FinMap key_cmp Entr
   pub no_solo : (f' : FinMap nat_cmp TokenTree) → SoloAt net f i false f' → StandsStill net f' i
   no_solo f' (x, e, (none, same)) = (x, ap (λ f. get f i) same ∙ e, none)
 
+  -- and all is as before
   pub no_change : (f' : FinMap nat_cmp TokenTree) → SoloAt net f i false f' → f' ≡ f
   no_change f' (x, e, (none, same)) = same
 
@@ -54,6 +59,7 @@ module _ (net : NetTree) (f : FinMap nat_cmp TokenTree) (g : FinMap key_cmp Entr
         let z : step_map net (state f g n v) i ≡ None = acts x stay e h in
         let bad : IsSome {T = MapState} None = subst IsSome z able in cc
 
+    -- a fork that is made found no entry
     fork_able : (t : Boxes) (o : Option Entry) (l r : Place) → IsSome (fork_map o (state f g n v) i k l r t) → o ≡ None
     fork_able t None l r h = refl
     fork_able t (Some e) l r h = cc
@@ -68,6 +74,7 @@ module _ (net : NetTree) (f : FinMap nat_cmp TokenTree) (g : FinMap key_cmp Entr
     its_boxes : (x : TokenTree) (t : Boxes) → get f i ≡ Some x → HasBoxes f i t → boxes_at (place_of x) ≡ t
     its_boxes x t e (y, e', _, bt) = ap (λ x. boxes_at (place_of x)) (one_token x y (sym e ∙ e')) ∙ bt
 
+    -- the fork
     pub fork_steps : (a b : ℕ) (f' : FinMap nat_cmp TokenTree) (g' : FinMap key_cmp Entry) → MetAt net f i k (Fork a b) → ForksTo f f' g g' i n k a b → step_map net (state f g n v) i ≡ Some (state f' g' (suc n) v)
     fork_steps a b f' g' (x, e, h, _) (t, has, hf, hg) =
         let move_is : move net x ≡ fork k (up a [] t) (up b [] t) t = h ∙ ap (role_move (Fork a b) k) (its_boxes x t e has) in
@@ -75,9 +82,11 @@ module _ (net : NetTree) (f : FinMap nat_cmp TokenTree) (g : FinMap key_cmp Entr
         let none = fork_able t (get g (k, t)) (up a [] t) (up b [] t) (subst IsSome steps able) in
         steps ∙ ap (λ o. fork_map o (state f g n v) i k (up a [] t) (up b [] t) t) none ∙ (λ j. Some (state (sym hf j) (sym hg j) (suc n) v))
 
+    -- and its name
     pub fork_name : (a b : ℕ) → MetAt net f i k (Fork a b) → step_name net (state f g n v) i ≡ Some (Forked n)
     fork_name a b (x, e, h, _) = named x _ e h
 
+    -- a join that is made found an entry that waits
     join_able : (t : Boxes) (o : Option Entry) (p : Side) (op : Operator) (u : Val) (c : ℕ) → IsSome (join_map o (state f g n v) i k (op_of op) (side_of p) u c t) → IsOpenFor o (side_of p)
     join_able t None p op u c h = cc
     join_able t (Some pending) Left op u c h = tt
@@ -93,6 +102,7 @@ module _ (net : NetTree) (f : FinMap nat_cmp TokenTree) (g : FinMap key_cmp Entr
         let t = boxes_at (place_of x) in
         (t, (x, e, w, refl), join_able t (get g (k, t)) p op u c (subst IsSome (acts x _ e h) able))
 
+    -- the join, by its entry
     join_is : (t : Boxes) (o : Option Entry) (p : Side) (op : Operator) (u : Val) (c : ℕ) → IsOpenFor o (side_of p)
         → join_map o (state f g n v) i k (op_of op) (side_of p) u c t ≡ Some (state (joined_tokens (arrival o) f i op p u c t) (with_arrival o g (k, t) (side_of p) u) n v)
     join_is t None p op u c h = elim h [ ]
@@ -102,6 +112,7 @@ module _ (net : NetTree) (f : FinMap nat_cmp TokenTree) (g : FinMap key_cmp Entr
     join_is t (Some (has_right w)) Left op u c h = refl
     join_is t (Some (has_right w)) Right op u c h = elim h [ ]
 
+    -- and its name
     join_name_is : (o : Option Entry) (p : Side) → IsOpenFor o (side_of p) → name_at o ≡ Some (joined_name (arrival o))
     join_name_is None p h = elim h [ ]
     join_name_is (Some pending) p h = refl
@@ -130,5 +141,6 @@ module _ (net : NetTree) (f : FinMap nat_cmp TokenTree) (g : FinMap key_cmp Entr
   pub last_steps : (k : ℕ) (u : Val) (f' : FinMap nat_cmp TokenTree) → MetAt net f i k (Last u) → f' ≡ remove f i → step_map net (state f g n v) i ≡ Some (state f' g n (Some u))
   last_steps k u f' (x, e, h, w) hf = acts x (answer u) e h ∙ ap (λ f. Some (state f g n (Some u))) (sym hf)
 
+  -- and its name
   pub last_name : (k : ℕ) (u : Val) → MetAt net f i k (Last u) → step_name net (state f g n v) i ≡ Some (Answered u)
   last_name k u (x, e, h, w) = named x (answer u) e h
