@@ -144,6 +144,33 @@ goi check p --term|1 - (2 - 3) * 4|0 type nat;term 1 - (2 - 3) * 4;
 }
 
 #[test]
+fn runs(rt: HostRuntime) -> Result<(), Fail> {
+    let table = "
+goi run p|1 + 2|0 value 3;moves 6;
+goi run p|(fun x:nat. 7) (fix y:nat. y)|0 value 7;moves 6;
+goi run p|fix y:nat. y|5 no value;moves 10000;
+goi run p|(fun x:nat. x + x) 3|0 value 6;moves 30;
+goi run p|18446744073709551615 + 1|0 value overflow;moves 6;
+goi run p|ifz succ 18446744073709551615 then 1 else 2|0 value 2;moves 8;
+goi run p|succ 18446744073709551615 + fix y:nat. y|1 refused: Unexpected(28);
+goi run p|succ 18446744073709551615 + (fix y:nat. y)|5 no value;moves 10000;
+goi run p|(fix f:nat->nat. fun n:nat. ifz n then 0 else n + f (pred n)) 3|0 value 6;moves 330;
+goi run p|(fun d:nat->nat. d 1 + d 2) (fun x:nat. x + x)|0 value 6;moves 126;
+goi run p|(fun f:(nat->nat)->nat. f (fun x:nat. succ x)) (fun g:nat->nat. g 5)|0 value 6;moves 64;
+goi run p|5 - 7|0 value 0;moves 6;
+goi run p|18446744073709551615 * 2|0 value overflow;moves 6;
+goi run p|2 + 3 * 4|0 value 14;moves 10;
+goi run p|7 - 2 - 1|0 value 4;moves 10;
+goi run p|fst (1, fix y:nat. y)|0 value 1;moves 6;
+goi run p|(fun p:nat * nat. fst p - snd p) (9, 4)|0 value 5;moves 38;
+goi run p|(fix f:nat->nat. fun n:nat. ifz n then 1 else n * f (pred n)) 3|0 value 6;moves 330;
+goi run p|(fix f:nat->nat. fun n:nat. ifz n then 7 else (fix g:nat->nat. fun m:nat. ifz m then f (pred n) else g (pred m)) 1) 1|0 value 7;moves 136;
+";
+    assert!(rt; first_wrong(rt.alloc(), table)? == None);
+    Ok(())
+}
+
+#[test]
 fn listings(rt: HostRuntime) -> Result<(), Fail> {
     let table = "
 goi net p|(fun x:nat. x + x) 3|0 net 1;wire 0 value 0 nat;wire 1 var 0 nat;wire 2 value 0 nat;wire 3 var 0 nat;wire 4 var 0 nat;wire 5 value 0 nat;wire 6 value 0 nat -> nat;wire 7 value 1 nat;wire 8 bang 0 nat;wire 9 value 0 nat;node 0 Der 0 1;node 1 Der 2 3;node 2 Con 1 3 4;node 3 Plus 0 2 5;node 4 Lam 5 4 6;node 5 Const 3 7;node 6 Box 7 8;node 7 App 6 8 9;node 8 Root 9;end;
@@ -167,11 +194,6 @@ goi run p|x|1 refused: Unbound(0);
 goi run p|1 2|1 refused: FunctionWanted(0);
 goi run p|fix x:nat. fun y:nat. y|1 refused: FixMismatch(11);
 goi run p|fun x:nat. x|1 refused: NotGround;
-goi run p|1 + 2|1 refused: NotBuilt;
-goi run p|succ (5 - 7)|1 refused: NotBuilt;
-goi run p|(fun x:nat. 7) (fix y:nat. y)|1 refused: NotBuilt;
-goi run p|ifz 0 then 1 else 2|1 refused: NotBuilt;
-goi run p|fst (1, 2)|1 refused: NotBuilt;
 goi check p|1 -> 2|1 refused: Unexpected(2);
 goi check p|v|1 refused: Unbound(0);
 goi check p|(1) 2|1 refused: FunctionWanted(1);
@@ -312,6 +334,131 @@ fn reads_that_fail(rt: HostRuntime) -> Result<(), Fail> {
         };
         assert!(rt; failed_read_leaves(rt.alloc(), failing, wanted)?);
     }
+    Ok(())
+}
+
+/// So many ones with a text between them.
+fn ones(alloc: Global, between: &[u8], count: u32) -> Result<Vec<u8>, AllocError> {
+    let mut text = b"1"[..].to_vec(alloc)?;
+    for _ in 1..count {
+        push(&mut text, between, 1)?;
+        push(&mut text, b"1", 1)?;
+    }
+    Ok(text)
+}
+
+/// A text, so many groups of so many ones, and one more group and a text behind them, all as sums.
+fn sums(
+    alloc: Global,
+    front: &[u8],
+    (count, size): (u32, u32),
+    last: u32,
+    back: &[u8],
+) -> Result<Vec<u8>, AllocError> {
+    let mut text = front.to_vec(alloc)?;
+    let group = ones(alloc, b"+", size)?;
+    for _ in 0..count {
+        push(&mut text, b"(", 1)?;
+        push(&mut text, &group, 1)?;
+        push(&mut text, b")+", 1)?;
+    }
+    push(&mut text, b"(", 1)?;
+    push(&mut text, &ones(alloc, b"+", last)?, 1)?;
+    push(&mut text, b")", 1)?;
+    push(&mut text, back, 1)?;
+    Ok(text)
+}
+
+/// A text, a sum, a product and an application in one another so many times, so many ones, and a text.
+fn high(
+    alloc: Global,
+    front: &[u8],
+    levels: u32,
+    width: u32,
+    back: &[u8],
+) -> Result<Vec<u8>, AllocError> {
+    let mut text = front.to_vec(alloc)?;
+    push(&mut text, b"1+1*f(0,", levels)?;
+    push(&mut text, &ones(alloc, b"+", width)?, 1)?;
+    push(&mut text, b")", levels)?;
+    push(&mut text, back, 1)?;
+    Ok(text)
+}
+
+fn sums_leave(
+    alloc: Global,
+    front: &str,
+    groups: (u32, u32),
+    last: u32,
+    back: &str,
+    wanted: &str,
+) -> Result<bool, AllocError> {
+    let text = sums(alloc, front.as_bytes(), groups, last, back.as_bytes())?;
+    run_leaves(alloc, &text, wanted)
+}
+
+fn high_leaves(
+    alloc: Global,
+    front: &str,
+    levels: u32,
+    back: &str,
+    wanted: &str,
+) -> Result<bool, AllocError> {
+    let text = high(alloc, front.as_bytes(), levels, 500, back.as_bytes())?;
+    run_leaves(alloc, &text, wanted)
+}
+
+fn ones_leave(alloc: Global, count: u32, wanted: &str) -> Result<bool, AllocError> {
+    let text = ones(alloc, b" + ", count)?;
+    run_leaves(alloc, &text, wanted)
+}
+
+#[test]
+fn long_runs(rt: HostRuntime) -> Result<(), Fail> {
+    assert!(rt; ones_leave(rt.alloc(), 500, "0 value 500;moves 1998;")?);
+    assert!(rt; ones_leave(rt.alloc(), 501, "1 refused: TooDeep(1998);")?);
+    assert!(rt; sums_leave(rt.alloc(), "", (49, 50), 50, "", "0 value 2500;moves 9998;")?);
+    assert!(rt; sums_leave(rt.alloc(), "", (50, 50), 50, "", "5 no value;moves 10000;")?);
+    Ok(())
+}
+
+#[test]
+fn the_largest_programs_run(rt: HostRuntime) -> Result<(), Fail> {
+    let alloc = rt.alloc();
+    // 32,768 nodes, most of which are not asked for, one node more, and 32,768 nodes that are all asked for
+    assert!(rt; sums_leave(alloc, "fst (7, ", (255, 64), 63, ")", "0 value 7;moves 6;")?);
+    assert!(rt;
+        sums_leave(
+            alloc,
+            "fst (7, ",
+            (255, 64),
+            64,
+            ")",
+            "1 refused: TooLarge(33284);"
+        )?
+    );
+    assert!(rt;
+        sums_leave(
+            alloc,
+            "succ (",
+            (255, 64),
+            64,
+            ")",
+            "5 no value;moves 10000;"
+        )?
+    );
+    Ok(())
+}
+
+#[test]
+fn the_highest_programs_run(rt: HostRuntime) -> Result<(), Fail> {
+    let alloc = rt.alloc();
+    // the high part is not asked for, and then it is
+    let front =
+        "fst (1, (fun h:(nat*nat->nat)->nat. h (fun p:nat*nat. snd p)) (fun f:nat*nat->nat. ";
+    assert!(rt; high_leaves(alloc, front, 496, "))", "0 value 1;moves 6;")?);
+    let front = "(fun h:(nat*nat->nat)->nat. h (fun p:nat*nat. snd p)) (fun f:nat*nat->nat. ";
+    assert!(rt; high_leaves(alloc, front, 498, ")", "5 no value;moves 10000;")?);
     Ok(())
 }
 

@@ -23,8 +23,8 @@ pub fn run_surely(
     requires files { IsTrue (none_listed files.old.fails) }
     requires out { most_line ≤ sure_room out.old }
     requires err { most_line ≤ sure_room err.old }
-    ensures written { (file : List ℕ) → job (map string_bytes words.now) ≡ Some (run file) → result ≢ 4 }
-    ensures read { (file : List ℕ) → job (map string_bytes words.now) ≡ Some (run file) → result ≡ 3 → IsTrue (lacked_by files.old file) }
+    ensures written { (file : List ℕ) (budget : ℕ) → job (map string_bytes words.now) ≡ Some (run file budget) → result ≢ 4 }
+    ensures read { (file : List ℕ) (budget : ℕ) → job (map string_bytes words.now) ≡ Some (run file budget) → result ≡ 3 → IsTrue (lacked_by files.old file) }
 {
     goi(alloc, words, files, out, err)
 }

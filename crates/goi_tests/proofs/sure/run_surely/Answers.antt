@@ -9,12 +9,12 @@ use Rattle.goi_engine.specs.Verdicts.{ReportsOn, ReportsJob, LacksFor}
 use Rattle.goi_tests.proofs.sure.run_surely.Goals as goal
 
 -- the report on a run is short
-short_on : (told : Option (List ℕ)) (file report : List ℕ) → Possibly told (λ bytes. ReportsOn (run file) bytes report) → length report ≤ most_line
-short_on None file report (bytes, h) = h.2.4.5
-short_on (Some bytes) file report h = h.2.4.5
+short_on : (told : Option (List ℕ)) (file : List ℕ) (budget status : ℕ) (report : List ℕ) → Possibly told (λ bytes. ReportsOn (run file budget) bytes status report) → length report ≤ most_line
+short_on None file budget status report (bytes, h) = h.2.4.short
+short_on (Some bytes) file budget status report h = h.2.4.short
 
-run_short : (j : JobTree) (files : FilesState) (file report : List ℕ) → j ≡ run file → ReportsJob j files report → length report ≤ most_line
-run_short j files file report e h = short_on (files.told file) file report (subst (λ (k : JobTree). ReportsJob k files report) e h).1
+run_short : (j : JobTree) (files : FilesState) (file : List ℕ) (budget status : ℕ) (report : List ℕ) → j ≡ run file budget → ReportsJob j files status report → length report ≤ most_line
+run_short j files file budget status report e h = short_on (files.told file) file budget status report (subst (λ (k : JobTree). ReportsJob k files status report) e h).1
 
 abbrev job_or : JobTree → Option JobTree → JobTree
 job_or j None = j
@@ -28,13 +28,13 @@ pub returns : goal.returns
 returns c =
     let p = c.goi.ensures.promise in
     record {
-      written = λ file asked. p.sure (record {
-        out = λ j report e h. let short = run_short j _ file report (one_job _ j (run file) e asked) h in omega (arith, short, c.requires.out);
+      written = λ file budget asked. p.sure (record {
+        out = λ j status report e h. let short = run_short j _ file budget status report (one_job _ j (run file budget) e asked) h in omega (arith, short, c.requires.out);
         err = c.requires.err;
       });
-      read = λ file asked status.
+      read = λ file budget asked status.
           let m = p.not_read status in
           let now = c.args.files.now in
           let files = files_seen (told_by now) (lacked_by now) now.faults (none_listed now.fails) in
-          subst (λ (k : JobTree). LacksFor k files) (one_job _ m.0 (run file) m.1 asked) (m.2.sure c.requires.files);
+          subst (λ (k : JobTree). LacksFor k files) (one_job _ m.0 (run file budget) m.1 asked) (m.2.sure c.requires.files);
     }
