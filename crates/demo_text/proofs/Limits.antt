@@ -4,7 +4,7 @@ use Rattle.std.proofs.Common.{ap, ◌∙◌, arith, length-append}
 use Rattle.std.specs.Prelude.{codes, encode_utf8_all}
 use Rattle.std.specs.Str.{all_scalars}
 use Rattle.std.proofs.Math.Nat.{pow-le-pow_right}
-use Rattle.std.proofs.lemmas.Bool.{ltb-true}
+use Rattle.std.proofs.lemmas.Bool.{and_from, and_parts, ltb-true}
 use Rattle.std.proofs.lemmas.Str.{encode_ascii}
 use Rattle.std.proofs.lemmas.Grind.{pow_more}
 use lib.Utf8.{low_scalar}
@@ -12,10 +12,9 @@ use Rattle.pcf_values.specs.Most.{most_demo}
 use Rattle.pcf_reader.specs.Grammar.{Written, plain, marked, expr_part, expr_text, program_text}
 use Rattle.pcf_reader.specs.Tokens.{Close, End, Open, Plus}
 use Rattle.pcf_reader.specs.Sizes.{node_count}
-use Rattle.pcf_reader.specs.Text.{AreNarrow, AreShallow, count_of}
-use Rattle.pcf_reader.proofs.BothHold.{and_both, and_left, and_right}
+use Rattle.pcf_reader.specs.Text.{Each, IsShallow, count_of}
 use Rattle.pcf_reader.proofs.Bounds.{program_count}
-use Rattle.pcf_reader.proofs.Canon.{narrow_join, shallow_join}
+use Rattle.pcf_reader.proofs.Lists.{WritesNarrow, each_append}
 use Rattle.demo_text.specs.Demo.{demo_text, sum_text}
 use Rattle.demo_text.proofs.Phrases.{demo_end, demo_program, right_of, sum_end, sum_phrase, sum_tokens, sum_width, tail_tokens}
 
@@ -62,26 +61,26 @@ all_low (c ∷ cs) = nat_lt c 128 && all_low cs
 low_join : (u v : List ℕ) → all_low u ≡ true → all_low v ≡ true → all_low (u ++ v) ≡ true
 low_join [] v h k = k
 low_join (c ∷ u) v h k =
-    and_both (nat_lt c 128) (all_low (u ++ v)) (and_left (nat_lt c 128) (all_low u) h)
-    (low_join u v (and_right (nat_lt c 128) (all_low u) h) k)
+    and_from (nat_lt c 128) (all_low (u ++ v)) (and_parts (nat_lt c 128) (all_low u) h).0
+    (low_join u v (and_parts (nat_lt c 128) (all_low u) h).1 k)
 
 -- the first character of an ASCII text
 low_first : (c : ℕ) (cs : List ℕ) → all_low (c ∷ cs) ≡ true → c < 128
-low_first c cs h = ltb-true c 128 (and_left (nat_lt c 128) (all_low cs) h)
+low_first c cs h = ltb-true c 128 (and_parts (nat_lt c 128) (all_low cs) h).0
 
 -- an ASCII text is its own bytes
 low_bytes : (cs : List ℕ) → all_low cs ≡ true → encode_utf8_all cs ≡ cs
 low_bytes [] h = refl
 low_bytes (c ∷ cs) h =
     ap (λ z. z ++ encode_utf8_all cs) (encode_ascii c (low_first c cs h))
-    ∙ ap (λ z. c ∷ z) (low_bytes cs (and_right (nat_lt c 128) (all_low cs) h))
+    ∙ ap (λ z. c ∷ z) (low_bytes cs (and_parts (nat_lt c 128) (all_low cs) h).1)
 
 -- and its characters are ones
 low_scalars : (cs : List ℕ) → all_low cs ≡ true → all_scalars cs ≡ true
 low_scalars [] h = refl
 low_scalars (c ∷ cs) h =
     let low : c < 128 = low_first c cs h in
-    and_both _ (all_scalars cs) (low_scalar c (omega (arith, low))) (low_scalars cs (and_right (nat_lt c 128) (all_low cs) h))
+    and_from _ (all_scalars cs) (low_scalar c (omega (arith, low))) (low_scalars cs (and_parts (nat_lt c 128) (all_low cs) h).1)
 
 -- a sum is ASCII
 sum_low : (k : ℕ) → all_low (sum_text k) ≡ true
@@ -109,7 +108,7 @@ sum_height zero at = refl
 sum_height (suc k) at = omega (arith, sum_height k (at + 1), sum_height k (right_of k at))
 
 -- the tokens of a sum stand shallow
-sum_shallow : (k o at : ℕ) → o + k < 100 → AreShallow (expr_text o (sum_phrase k at))
+sum_shallow : (k o at : ℕ) → o + k < 100 → Each IsShallow (expr_text o (sum_phrase k at))
 sum_shallow zero o at small = (omega arith, (omega arith, tt))
 sum_shallow (suc k) o at small =
     let first : List Written = expr_text (suc o) (sum_phrase k (at + 1)) in
@@ -122,12 +121,12 @@ sum_shallow (suc k) o at small =
     ∷ (second ++ close_2 ∷ []) in
     let plus : suc (expr_part (sum_phrase k (at + 1))).height < 500 = omega (arith, small, sum_height k (at + 1)) in (
       here,
-      shallow_join (first ++ close ∷ []) more
-          (shallow_join first (close ∷ []) (sum_shallow k (suc o) (at + 1) (omega (arith, small))) (omega arith, tt)) (
+      each_append IsShallow (first ++ close ∷ []) more
+          (each_append IsShallow first (close ∷ []) (sum_shallow k (suc o) (at + 1) (omega (arith, small))) (omega arith, tt)) (
             plus,
             (
               here,
-              shallow_join second (close_2 ∷ []) (sum_shallow k (suc o) (right_of k at) (omega (arith, small)))
+              each_append IsShallow second (close_2 ∷ []) (sum_shallow k (suc o) (right_of k at) (omega (arith, small)))
                   (omega arith, tt),
             ),
           ),
@@ -141,22 +140,22 @@ one_left : 1 < 500
 one_left = omega arith
 
 -- all tokens stand shallow
-pub demo_shallow : (n : ℕ) → n ≤ most_demo → AreShallow (program_text (demo_program n))
+pub demo_shallow : (n : ℕ) → n ≤ most_demo → Each IsShallow (program_text (demo_program n))
 demo_shallow n h =
     let close : Written = plain (sum_end n) Close in
     let deep : max (suc (suc (expr_part (sum_phrase n 17)).height)) 0 < 500 = omega (arith, h, sum_height n 17) in
-    let tail : AreShallow (tail_tokens n) =
+    let tail : Each IsShallow (tail_tokens n) =
     (deep, (one_left, (zero_left, (zero_left, (zero_left, (zero_left, (zero_left, (one_left, (zero_left, (zero_left, tt)))))))))) in
-    let rest : AreShallow (((sum_tokens n ++ close ∷ []) ++ tail_tokens n) ++ plain (demo_end n) End ∷ []) =
-    shallow_join ((sum_tokens n ++ close ∷ []) ++ tail_tokens n) (plain (demo_end n) End ∷ [])
-    (shallow_join (sum_tokens n ++ close ∷ []) (tail_tokens n)
-    (shallow_join (sum_tokens n) (close ∷ []) (sum_shallow n 2 17 (omega (arith, h))) (zero_left, tt)) tail) (zero_left, tt) in
+    let rest : Each IsShallow (((sum_tokens n ++ close ∷ []) ++ tail_tokens n) ++ plain (demo_end n) End ∷ []) =
+    each_append IsShallow ((sum_tokens n ++ close ∷ []) ++ tail_tokens n) (plain (demo_end n) End ∷ [])
+    (each_append IsShallow (sum_tokens n ++ close ∷ []) (tail_tokens n)
+    (each_append IsShallow (sum_tokens n) (close ∷ []) (sum_shallow n 2 17 (omega (arith, h))) (zero_left, tt)) tail) (zero_left, tt) in
     (zero_left, (one_left, (zero_left, (zero_left, (zero_left, (omega arith, (zero_left, (zero_left, rest))))))))
 
 -- ---- its numbers are narrow
 
 -- the numbers of a sum are narrow
-sum_narrow : (k o at : ℕ) → AreNarrow (expr_text o (sum_phrase k at))
+sum_narrow : (k o at : ℕ) → Each WritesNarrow (expr_text o (sum_phrase k at))
 sum_narrow zero o at = (tt, (omega arith, tt))
 sum_narrow (suc k) o at =
     let first : List Written = expr_text (suc o) (sum_phrase k (at + 1)) in
@@ -167,19 +166,20 @@ sum_narrow (suc k) o at =
     marked ((close.at + 1) + 1) Plus (suc (expr_part (sum_phrase k (at + 1))).height) 1 ∷ marked ((close.at + 1) + 3) Open (max 0 o) 0
     ∷ (second ++ close_2 ∷ []) in (
       tt,
-      narrow_join (first ++ close ∷ []) more (narrow_join first (close ∷ []) (sum_narrow k (suc o) (at + 1)) (tt, tt))
-          (tt, (tt, narrow_join second (close_2 ∷ []) (sum_narrow k (suc o) (right_of k at)) (tt, tt))),
+      each_append WritesNarrow (first ++ close ∷ []) more
+          (each_append WritesNarrow first (close ∷ []) (sum_narrow k (suc o) (at + 1)) (tt, tt))
+          (tt, (tt, each_append WritesNarrow second (close_2 ∷ []) (sum_narrow k (suc o) (right_of k at)) (tt, tt))),
     )
 
 -- all numbers are narrow
-pub demo_narrow : (n : ℕ) → AreNarrow (program_text (demo_program n))
+pub demo_narrow : (n : ℕ) → Each WritesNarrow (program_text (demo_program n))
 demo_narrow n =
     let close : Written = plain (sum_end n) Close in
-    let tail : AreNarrow (tail_tokens n) = (tt, (tt, (tt, (tt, (tt, (tt, (tt, (tt, (tt, (tt, tt)))))))))) in
-    let rest : AreNarrow (((sum_tokens n ++ close ∷ []) ++ tail_tokens n) ++ plain (demo_end n) End ∷ []) =
-    narrow_join ((sum_tokens n ++ close ∷ []) ++ tail_tokens n) (plain (demo_end n) End ∷ [])
-    (narrow_join (sum_tokens n ++ close ∷ []) (tail_tokens n) (narrow_join (sum_tokens n) (close ∷ []) (sum_narrow n 2 17) (tt, tt)) tail)
-    (tt, tt) in
+    let tail : Each WritesNarrow (tail_tokens n) = (tt, (tt, (tt, (tt, (tt, (tt, (tt, (tt, (tt, (tt, tt)))))))))) in
+    let rest : Each WritesNarrow (((sum_tokens n ++ close ∷ []) ++ tail_tokens n) ++ plain (demo_end n) End ∷ []) =
+    each_append WritesNarrow ((sum_tokens n ++ close ∷ []) ++ tail_tokens n) (plain (demo_end n) End ∷ [])
+    (each_append WritesNarrow (sum_tokens n ++ close ∷ []) (tail_tokens n)
+    (each_append WritesNarrow (sum_tokens n) (close ∷ []) (sum_narrow n 2 17) (tt, tt)) tail) (tt, tt) in
     (tt, (tt, (tt, (tt, (tt, (tt, (tt, (tt, rest))))))))
 
 -- ---- how many nodes it counts

@@ -1,10 +1,10 @@
 -- The text of the generated program splits into the tokens of its phrase.
 use Rattle.std.proofs.Common.{◌≡◌, ℕ, zero, suc, ◌+◌, max, List, [], ◌∷◌, ◌++◌, map, refl, sym, ap, ◌∙◌, subst, arith, append_assoc}
 use Rattle.std.specs.Prelude.{codes}
+use Rattle.std.proofs.lemmas.List.{map-append}
 use Rattle.pcf_values.specs.Named.{the_fun}
 use Rattle.pcf_reader.specs.Tokens.{Open, Close, Colon, Dot, Plus, Arrow, Nat, Bind, Number, Name, End, Placed}
 use Rattle.pcf_reader.specs.Grammar.{Written, placed, plain, marked, expr_part, expr_text, program_text}
-use Rattle.pcf_reader.proofs.Judge.{map-append}
 use Rattle.pcf_reader.specs.Spelling.{word_of, Splits, digits, token, blank, ends, arrow as arrow_spelled}
 use Rattle.pcf_reader.proofs.Pieces.{Clear, clear_by, place_at, blank_piece, keyword_piece}
 use Rattle.pcf_reader.proofs.Lexed.{at_place, arrow_longest, longest_number}
@@ -128,7 +128,7 @@ demo_splits n =
     let end : Written = plain (demo_end n) End in
     let tokens : map placed (((sum ++ close ∷ []) ++ tail_tokens n) ++ end ∷ [])
     ≡ map placed sum ++ (placed close ∷ (map placed (tail_tokens n) ++ placed end ∷ [])) =
-    map-append ((sum ++ close ∷ []) ++ tail_tokens n) (end ∷ []) ∙ then_more sum close (tail_tokens n) (placed end ∷ []) in
+    map-append placed ((sum ++ close ∷ []) ++ tail_tokens n) (end ∷ []) ∙ then_more sum close (tail_tokens n) (placed end ∷ []) in
     subst (λ z. Splits 0 (demo_text n)
     (at_place 0 Open ∷ at_place 1 (Bind the_fun) ∷ at_place 5
     (Name (codes "d")) ∷ at_place 6 Colon ∷ at_place 7 Nat ∷ at_place 10 Arrow ∷ at_place 12 Nat ∷ at_place 15 Dot ∷ z)) (sym tokens)
