@@ -60,19 +60,28 @@ mod tests {
     use std::alloc::{AllocError, Global};
     use std::test::Fail;
 
-    /// Whether a sink over bytes in memory is given a long piece byte for byte.
-    fn takes_whole(alloc: Global, length: u32) -> Result<bool, AllocError> {
-        let piece = marked(alloc, length)?;
-        let mut bytes = vec![in alloc; b'.'; piece.len()]?;
-        let mut sink = StdSink::over(bytes.as_mut_slice());
-        let mut rest: &[u8] = &piece;
-        while !rest.is_empty() {
+    /// Whether a sink takes a piece, in however many writes.
+    fn takes<S: Sink>(sink: &mut S, piece: &[u8]) -> bool {
+        let mut rest = piece;
+        for _ in 0..u64::MAX {
+            if rest.is_empty() {
+                return true;
+            }
             let Ok(count) = sink.write(rest) else {
-                return Ok(false);
+                return false;
             };
             rest = rest.split_at(count).1;
         }
-        Ok(bytes == piece)
+        false
+    }
+
+    /// Whether a sink over bytes in memory is given a long piece byte for byte.
+    fn takes_whole(alloc: Global, length: u32) -> Result<bool, AllocError> {
+        let piece = marked(alloc, length)?;
+        let mut bytes = marked(alloc, length)?;
+        bytes.fill(b'.');
+        let taken = takes(&mut StdSink::over(bytes.as_mut_slice()), &piece);
+        Ok(taken && bytes == piece)
     }
 
     #[test]
