@@ -1,0 +1,75 @@
+-- The moves of a log's entries, one after the other.
+use Rattle.std.proofs.Common.{◌≡◌, ℕ, zero, suc, ◌+◌, ◌<◌, ◌≤◌, List, [], ◌∷◌, ◌++◌, length, take, drop, get_or, Some, None, Err, refl, sym, ap, ◌∙◌, subst, arith}
+use Rattle.schedule_log.specs.declared.entry.Entry.{Entry}
+use Rattle.schedule_log.specs.Logs.{tickets_in_log}
+use Rattle.std.specs.FinMap.{get}
+use Rattle.pcf_values.specs.Most.{most_moves, most_budget}
+use Rattle.net_build.specs.Nets.{NetTree}
+use Rattle.interleave_core.specs.Maps.{MapState, step_map, LeadsToMap, IsReachedWithin}
+use Rattle.replay_check.specs.declared.fault.ReplayFault.{ReplayFault}
+use Rattle.replay_check.specs.declared.replayed.Replayed.{Replayed}
+use Rattle.replay_check.specs.Replays.{IsRunOf, fault_at, ReplaysAs}
+use Rattle.replay_check.proofs.Told.{stops_as, one_more}
+
+-- The tickets of a log up to a place, the one at the place, and those behind it.
+pub tickets_split : (es : List Entry) (i : ℕ) (d : Entry) → i < length es →
+    tickets_in_log es ≡ tickets_in_log (take i es) ++ (get_or es i d).ticket ∷ tickets_in_log (drop (suc i) es)
+tickets_split [] i d u = absurd (omega (arith, u))
+tickets_split (e ∷ es) zero d u = refl
+tickets_split (e ∷ es) (suc i) d u = ap (λ ts. e.ticket ∷ ts) (tickets_split es i d (omega (arith, u)))
+
+-- One more ticket is taken.
+pub tickets_more : (es : List Entry) (i : ℕ) (d : Entry) → i < length es →
+    tickets_in_log (take (suc i) es) ≡ tickets_in_log (take i es) ++ (get_or es i d).ticket ∷ []
+tickets_more [] i d u = absurd (omega (arith, u))
+tickets_more (e ∷ es) zero d u = refl
+tickets_more (e ∷ es) (suc i) d u = ap (λ ts. e.ticket ∷ ts) (tickets_more es i d (omega (arith, u)))
+
+-- There are as many tickets as entries were taken.
+pub tickets_taken : (es : List Entry) (i : ℕ) → i ≤ length es → length (tickets_in_log (take i es)) ≡ i
+tickets_taken es zero u = refl
+tickets_taken [] (suc i) u = absurd (omega (arith, u))
+tickets_taken (e ∷ es) (suc i) u = ap suc (tickets_taken es i (omega (arith, u)))
+
+-- A log has as many tickets as entries.
+pub tickets_all : (es : List Entry) → length (tickets_in_log es) ≡ length es
+tickets_all [] = refl
+tickets_all (e ∷ es) = ap suc (tickets_all es)
+
+-- A ticket that has no token at its turn is where the list stops.
+pub stops_here : (net : NetTree) (es : List Entry) (i : ℕ) (d : Entry) (S : MapState) (f : ReplayFault) → i < length es →
+    LeadsToMap net (tickets_in_log (take i es)) S → get S.tokens (get_or es i d).ticket ≡ None →
+    f ≡ fault_at S.answered i (get_or es i d).ticket →
+    ReplaysAs net (tickets_in_log es) (Err f)
+stops_here net es i d S f u h e g =
+    let t = (get_or es i d).ticket in
+    stops_as net (tickets_in_log es) f (record {
+      before = tickets_in_log (take i es);
+      ticket = t;
+      rest = tickets_in_log (drop (suc i) es);
+      are = tickets_split es i d u;
+      state = S;
+      led = h;
+      dead = e;
+      fault = g ∙ ap (λ n. fault_at S.answered n t) (sym (tickets_taken es i (omega (arith, u))));
+    })
+
+-- The state at a place is reached by fewer moves than a log may have.
+pub reached_here : (net : NetTree) (es : List Entry) (i : ℕ) (S : MapState) → i < length es → length es ≤ most_moves →
+    LeadsToMap net (tickets_in_log (take i es)) S → IsReachedWithin net most_budget S
+reached_here net es i S u w h = let e = tickets_taken es i (omega (arith, u)) in (tickets_in_log (take i es), h, omega (arith, e, u, w))
+
+-- The ticket at a place has moved.
+pub moved_on : (net : NetTree) (es : List Entry) (i : ℕ) (d : Entry) (S T : MapState) → i < length es →
+    LeadsToMap net (tickets_in_log (take i es)) S → step_map net S (get_or es i d).ticket ≡ Some T →
+    LeadsToMap net (tickets_in_log (take (i + 1) es)) T
+moved_on net es i d S T u h e =
+    let n : suc i ≡ i + 1 = omega arith in
+    subst (λ ts. LeadsToMap net ts T) (sym (tickets_more es i d u) ∙ ap (λ n. tickets_in_log (take n es)) n)
+    (one_more net (tickets_in_log (take i es)) (get_or es i d).ticket S T h e)
+
+-- All moves are made.
+pub all_moved : (net : NetTree) (es : List Entry) (S : MapState) (r : Replayed) → LeadsToMap net (tickets_in_log es) S →
+    r.answer ≡ S.answered → r.moves ≡ length es →
+    IsRunOf net (tickets_in_log es) r
+all_moved net es S r h a m = record { state = S; led = h; answer = a; moves = m ∙ sym (tickets_all es) }

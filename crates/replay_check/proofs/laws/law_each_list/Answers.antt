@@ -1,0 +1,5 @@
+use Rattle.replay_check.proofs.Told.{each_list}
+use Rattle.replay_check.proofs.laws.law_each_list.Goals as goal
+
+pub returns : goal.returns
+returns c = each_list
