@@ -30,7 +30,7 @@ use Rattle.interleave_core.proofs.TrailSteps.{walk_map}
 use Rattle.interleave_core.proofs.Going.{the_some}
 
 -- two runs, one after the other
-run_both : (net : NetTree) (log more : List ℕ) (S T U : MapState) → run_map net S log ≡ Some T → run_map net T more ≡ Some U → run_map net S (log ++ more) ≡ Some U
+pub run_both : (net : NetTree) (log more : List ℕ) (S T U : MapState) → run_map net S log ≡ Some T → run_map net T more ≡ Some U → run_map net S (log ++ more) ≡ Some U
 run_both net [] more S T U h g = let e : S ≡ T = cc in ap (λ S. run_map net S more) e ∙ g
 run_both net (j ∷ log) more S T U h g = go (step_map net S j) (λ V. run_both net log more V T U) h
   where
@@ -43,10 +43,10 @@ pub begins : (net : NetTree) (S : MapState) (log : List ℕ) → S ≡ start_map
 begins net S log h z = subst (λ l. RunsAlone net l S) (sym z) (record { leads = ap Some (sym h); ours = refl })
 
 -- what a ticket that is given a token has, and what others have
-given : (f : FinMap nat_cmp TokenTree) (i : ℕ) (y : TokenTree) → get (insert f i y) i ≡ Some y
+pub given : (f : FinMap nat_cmp TokenTree) (i : ℕ) (y : TokenTree) → get (insert f i y) i ≡ Some y
 given f i y = get-insert nat_cmp_total f i y i ∙ ap (λ b. cond b (Some y) (get f i)) (test_nat i i ∙ eq-eqb i i refl)
 
-not_given : (f : FinMap nat_cmp TokenTree) (i : ℕ) (y : TokenTree) (j : ℕ) → (j ≡ i → ⊥) → get (insert f i y) j ≡ get f j
+pub not_given : (f : FinMap nat_cmp TokenTree) (i : ℕ) (y : TokenTree) (j : ℕ) → (j ≡ i → ⊥) → get (insert f i y) j ≡ get f j
 not_given f i y j d = get-insert nat_cmp_total f i y j ∙ ap (λ b. cond b (Some y) (get f j)) (test_nat j i ∙ ne_eqb j i d)
 
 -- the least live ticket
