@@ -24,7 +24,12 @@ pub record Books (p q : Pool) (w : ℕ) (h : Held) (n : ℕ) : Type 0 where
 
 -- as many moves as the walk has where it is taken over within the allowance, and else one
 abbrev pub Moves : NetTree → MapState → Held → Passage → ℕ → Type 0
-Moves net S h m n = (Accepts net S h.ticket m h.allowance × (n ≡ length m.trail)) ⊎ ((Accepts net S h.ticket m h.allowance → ⊥) × (n ≡ 1))
+Moves net S h m n =
+    (Accepts net S h.ticket m h.allowance × (n ≡ length m.trail)) ⊎ ((Accepts net S h.ticket m h.allowance → ⊥) × (n ≡ 1))
+
+-- the worker holds a ticket, and the walk isn't one that is taken over
+abbrev pub HoldsOther : Pool → ℕ → Passage → Type 0
+HoldsOther p w m = (h : Held) × Holds p.held w h × (Accepts p.net p.state h.ticket m h.allowance → ⊥)
 
 -- what a worker that hands in a walk is told: that it holds nothing, or after how many moves its own were booked
 abbrev pub BookedAs : Pool → Pool → ℕ → Passage → Booked → Type 0

@@ -15,12 +15,33 @@ use Rattle.token_pool.specs.Pools.{Pool}
 abbrev pub PoolParts : Type 0
 PoolParts = NetTree × (ℕ × (ℕ × (MapState × (List Entry × (List (Option Held) × Bool)))))
 
+abbrev pub parts_code : Coded PoolParts
+parts_code =
+    let log_code = coded_list entry.the_row.coded in
+    let held_code = coded_list (coded_option held.the_row.coded) in
+    coded× net_code (coded× coded_ℕ (coded× coded_ℕ (coded× state_code (coded× log_code (coded× held_code coded_bool)))))
+
 abbrev pub pool_code : Coded Pool
-pool_code =
-    code_by PoolParts (coded× net_code (coded× coded_ℕ (coded× coded_ℕ (coded× state_code (coded× (coded_list entry.the_row.coded) (coded× (coded_list (coded_option held.the_row.coded)) coded_bool))))))
-    (λ p. (p.net, (p.budget, (p.workers, (p.state, (p.log, (p.held, p.stopped)))))))
-    (λ q. record { net = q.0; budget = q.1.0; workers = q.1.1.0; state = q.1.1.1.0; log = q.1.1.1.1.0; held = q.1.1.1.1.1.0; stopped = q.1.1.1.1.1.1 }) (λ _. refl)
+pool_code = code_by PoolParts parts_code (λ p. (p.net, (p.budget, (p.workers, (p.state, (p.log, (p.held, p.stopped)))))))
+    (λ q. record {
+      net = q.0;
+      budget = q.1.0;
+      workers = q.1.1.0;
+      state = q.1.1.1.0;
+      log = q.1.1.1.1.0;
+      held = q.1.1.1.1.1.0;
+      stopped = q.1.1.1.1.1.1;
+    })
+    (λ _. refl)
 
 -- a pool from its parts
 abbrev pub pool : NetTree → ℕ → ℕ → MapState → List Entry → List (Option Held) → Bool → Pool
-pool net budget workers state log held stopped = record { net = net; budget = budget; workers = workers; state = state; log = log; held = held; stopped = stopped }
+pool net budget workers state log held stopped = record {
+  net = net;
+  budget = budget;
+  workers = workers;
+  state = state;
+  log = log;
+  held = held;
+  stopped = stopped;
+}

@@ -21,11 +21,13 @@ TakeKeeps = (p : Pool) (w : ℕ) → Good p → w < p.workers → Good (taken p 
 
 -- what a worker is given is held by it, and live
 abbrev pub GivesHeld : Type 0
-GivesHeld = (p : Pool) (w : ℕ) (h : Held) → Good p → w < p.workers → turn p w ≡ Token h → Holds (taken p w).held w h × IsLive p.state h.ticket
+GivesHeld = (p : Pool) (w : ℕ) (h : Held) → Good p → w < p.workers → turn p w ≡ Token h →
+    Holds (taken p w).held w h × IsLive p.state h.ticket
 
 -- what it is given is what it held, or else the least free ticket
 abbrev pub GivesLeast : Type 0
-GivesLeast = (p : Pool) (w : ℕ) (h : Held) → turn p w ≡ Token h → (own p.held w ≡ Some h) ⊎ ((own p.held w ≡ None) × IsLeastFree p h.ticket)
+GivesLeast = (p : Pool) (w : ℕ) (h : Held) → turn p w ≡ Token h →
+    (own p.held w ≡ Some h) ⊎ ((own p.held w ≡ None) × IsLeastFree p h.ticket)
 
 -- where a worker is told that nothing is free, some worker holds something
 abbrev pub IdleHolds : Type 0
@@ -37,7 +39,8 @@ ReservedHolds = (p : Pool) (w : ℕ) → Good p → turn p w ≡ Reserved → (v
 
 -- and where moves of what a worker holds are booked, at least one and at most as many as are set aside
 abbrev pub BookKeeps : Type 0
-BookKeeps = (p q : Pool) (w : ℕ) (h : Held) (n : ℕ) → Good p → Holds p.held w h → w < p.workers → 1 ≤ n → n ≤ h.allowance → Books p q w h n → Good q
+BookKeeps = (p q : Pool) (w : ℕ) (h : Held) (n : ℕ) → Good p → Holds p.held w h → w < p.workers →
+    1 ≤ n → n ≤ h.allowance → Books p q w h n → Good q
 
 -- and where it is stopped
 abbrev pub StopKeeps : Type 0

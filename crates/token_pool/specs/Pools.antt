@@ -86,4 +86,12 @@ none_held_by n = replicate n None
 
 -- the pool in which a run begins
 abbrev pub started : NetTree → ℕ → ℕ → Pool
-started net budget workers = record { net = net; budget = budget; workers = workers; state = start_map (start_of net); log = []; held = none_held_by workers; stopped = false }
+started net budget workers = record {
+  net = net;
+  budget = budget;
+  workers = workers;
+  state = start_map (start_of net);
+  log = [];
+  held = none_held_by workers;
+  stopped = false;
+}

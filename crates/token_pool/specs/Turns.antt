@@ -1,7 +1,8 @@
 -- What a worker is given, by the first of six lines that holds, and what the pool is afterwards.
 -- A token that is free is a live one whose ticket nobody holds. Where none is free, somebody holds one: a run that has no live token
 -- has its answer. Where a token is free but all of the budget is made or set aside, something is set aside for somebody.
-use Rattle.std.specs.Prelude.{◌≡◌, ◌<◌, ◌+◌, ◌-◌, ◌/◌, ℕ, min, max, Bool, true, false, ◌&&◌, ◌||◌, not, List, [], ◌∷◌, length, set, Option, Some, None, is_some, nat_eq, slice_get, if◌then◌else◌}
+use Rattle.std.specs.Prelude.{◌≡◌, ◌<◌, ◌+◌, ◌-◌, ◌/◌, ℕ, min, max, ◌&&◌, ◌||◌, ◌∷◌, nat_eq, if◌then◌else◌}
+use Rattle.std.specs.Prelude.{Bool, true, false, not, List, [], length, set, Option, Some, None, is_some, slice_get}
 use Rattle.std.specs.Ordering.{nat_cmp}
 use Rattle.std.specs.FinMap.{FinMap, get, retain_keys, len}
 use Rattle.pcf_values.specs.declared.val.Val.{Val}
@@ -68,7 +69,9 @@ allowance left workers = min 64 (max 1 (left / workers))
 
 -- a free ticket is given out, unless the whole budget is made or set aside
 abbrev pub offered : ℕ → ℕ → ℕ → ℕ → Told
-offered made budget workers i = if nat_eq made budget then Reserved else Token (record { ticket = i; allowance = allowance (budget - made) workers })
+offered made budget workers i =
+    if nat_eq made budget then Reserved else
+    Token (record { ticket = i; allowance = allowance (budget - made) workers })
 
 -- whether there is an answer, or the whole budget is made and nothing is held
 abbrev pub ends : Option Val → ℕ → ℕ → List (Option Held) → Bool

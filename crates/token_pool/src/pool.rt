@@ -3,14 +3,13 @@ ghost use Rattle.std.specs.Prelude.{◌≡◌, ◌<◌, ◌≤◌, ◌↔◌, []
 ghost use Rattle.interleave_core.specs.Runs.{Runs};
 ghost use Rattle.interleave_core.specs.Start.{start_of};
 ghost use Rattle.interleave_core.specs.Maps.{start_map};
-ghost use Rattle.interleave_core.specs.Adopting.{Accepts};
 ghost use Rattle.schedule_log.specs.Logs.{empty_log};
 ghost use Rattle.token_pool.specs.declared.entries.Held.{Held};
 ghost use Rattle.token_pool.specs.declared.entries.Told.TheVariants.{Token};
 ghost use Rattle.token_pool.specs.Pieces.{Hands};
-ghost use Rattle.token_pool.specs.Pools.{Holds, InLimits, Good, started, count_held, none_held_by};
+ghost use Rattle.token_pool.specs.Pools.{InLimits, Good, started, count_held, none_held_by};
 ghost use Rattle.token_pool.specs.Turns.{turn, taken, count_free, spent, spare_pieces};
-ghost use Rattle.token_pool.specs.Booking.{BookedAs, halted};
+ghost use Rattle.token_pool.specs.Booking.{BookedAs, HoldsOther, halted};
 ghost use Rattle.token_pool.specs.Ending.{Suits, Finishes, Replays};
 
 use crate::booking::{play, write_down};
@@ -213,7 +212,7 @@ impl PoolState {
         requires { worker < self.old.workers }
         ensures ok { IfOk result (BookedAs self.old self.new worker moved) }
         ensures err { OnErr result (self.new ≡ self.old) }
-        ensures ample { OnErr result ((h : Held) × Holds self.old.held worker h × (Accepts self.old.net self.old.state h.ticket moved h.allowance → ⊥)) }
+        ensures ample { OnErr result (HoldsOther self.old worker moved) }
     {
         let Some(held) = held_by(&self.held, worker) else {
             return Ok(Booked::NothingHeld);

@@ -1,10 +1,10 @@
-use Rattle.token_pool.specs.Codes.{pool}
+use Rattle.token_pool.specs.contracts.pool.PoolState.{the_view}
 use Rattle.token_pool.proofs.Moving.{stop_keeps}
 use Rattle.token_pool.proofs.pool.PoolState.stop.Goals as goal
 
 pub invariant_of-self : goal.invariant_of-self
 invariant_of-self c =
-    let i = c.self.inside in (
-      stop_keeps (pool i.net i.budget i.workers i.core i.log.entries i.held.items i.stopped) c.self.invariant.0,
+    (
+      stop_keeps (the_view c.self.inside) c.self.invariant.0,
       c.self.invariant.1,
     )
