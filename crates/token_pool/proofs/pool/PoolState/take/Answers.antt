@@ -8,9 +8,8 @@ hand-requires c =
     c.told-told.ensures
 
 pub invariant_of-self : goal.invariant_of-self
-invariant_of-self c =
-    (
-      told_good (the_view c.self.inside) c.args.self.now c.args.worker c.told-told.result c.hold.new.places.items c.self.invariant.0 c.self.view_is c.requires c.told-told.ensures
-          c.hold.ensures,
-      c.self.invariant.1,
-    )
+invariant_of-self c = (
+  told_good (the_view c.self.inside) c.args.self.now c.args.worker c.told-told.result c.hold.new.places.items c.self.invariant.0 c.self.view_is c.requires c.told-told.ensures
+      c.hold.ensures,
+  c.self.invariant.1,
+)
