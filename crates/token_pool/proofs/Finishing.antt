@@ -11,9 +11,9 @@ use Rattle.interleave_core.specs.OneWorker.{least_live, on_step, on_least, one_f
 use Rattle.interleave_core.specs.Maps.{MapState, start_map, step_map, then_run_map, LeadsToMap, IsReachedWithin, seen, option_seen}
 use Rattle.interleave_core.specs.Tickets.{NoneLive, IsLeastLive}
 use Rattle.interleave_core.proofs.Seen.{step_seen}
-use Rattle.interleave_core.proofs.MapLaws.{seen_leads}
+use Rattle.interleave_core.proofs.MapLaws.{seen_leads, run_both}
 use Rattle.interleave_core.proofs.OneWorker.{least_found, least_search, one_finishes, one_continues}
-use Rattle.interleave_core.proofs.AloneRuns.{run_both, least_seen}
+use Rattle.interleave_core.proofs.AloneRuns.{least_seen}
 use Rattle.schedule_log.specs.declared.entry.Entry.{Entry}
 use Rattle.schedule_log.specs.Logs.{tickets_in_log}
 use Rattle.token_pool.specs.declared.ending.Ended.{Ended}
@@ -67,17 +67,18 @@ module _ (net : NetTree) (runs : Runs net) (S0 : MapState) (budget w : ℕ) (log
       go None e = e
       go (Some i) e = let (_, (x, f), _) = least_found (seen S).tokens S.next 0 i e in let n = none i in absurd cc
 
-tickets_by : (w : ℕ) (log : List ℕ) → tickets_in_log (by w log) ≡ log
+-- the tickets of moves that are made by one worker
+pub tickets_by : (w : ℕ) (log : List ℕ) → tickets_in_log (by w log) ≡ log
 tickets_by w [] = refl
 tickets_by w (i ∷ log) = ap (λ l. i ∷ l) (tickets_by w log)
 
--- the finisher's moves are made by it
-each_by : (w : ℕ) (tickets : List ℕ) → AllByRecursion (λ (e : Entry). e.worker ≤ w) (by w tickets)
-each_by w [] = tt
-each_by w (i ∷ tickets) = (omega arith, each_by w tickets)
+each_by : (n w : ℕ) → w ≤ n → (tickets : List ℕ) → AllByRecursion (λ (e : Entry). e.worker ≤ n) (by w tickets)
+each_by n w l [] = tt
+each_by n w l (i ∷ tickets) = (l, each_by n w l tickets)
 
-made_by : (w : ℕ) (tickets : List ℕ) → IsMadeBy w (by w tickets)
-made_by w tickets = All-from_recursion (λ (e : Entry). e.worker ≤ w) (by w tickets) (each_by w tickets)
+-- and their makers, where that worker is one of so many or the finisher
+pub made_by : (n w : ℕ) → w ≤ n → (tickets : List ℕ) → IsMadeBy n (by w tickets)
+made_by n w l tickets = All-from_recursion (λ (e : Entry). e.worker ≤ n) (by w tickets) (each_by n w l tickets)
 
 -- what is finished so replays
 pub finishes_replays : (p : Pool) (e : Ended) → Good p → Finishes p e → Replays p.net p.budget p.workers e
@@ -99,7 +100,7 @@ finishes_replays p e good f =
     record {
       answers = f.answers;
       ends = (omega (arith, n, m, k, i, few), λ none. let exact = ends.1 (sym answer ∙ none) in omega (arith, n, m, k, i, exact));
-      makers = subst (IsMadeBy p.workers) (sym f.log) (All-append (λ e. e.worker ≤ p.workers) p.log (by p.workers more) good.makers (made_by p.workers more));
+      makers = subst (IsMadeBy p.workers) (sym f.log) (All-append (λ e. e.worker ≤ p.workers) p.log (by p.workers more) good.makers (made_by p.workers p.workers (omega arith) more));
       alone = λ single.
           let whole : length (tickets_in_log p.log) + (p.budget - length p.log) ≡ p.budget = omega (arith, k, i) in
           all ∙ sym (one_continues p.net (tickets_in_log p.log) (seen p.state) led (good.alone single).ours (p.budget - length p.log)) ∙ ap (one p.net) whole;

@@ -4,4 +4,4 @@ mod Taking
 mod Moving
 mod Free
 mod Standing
-mod Finishing
+pub mod Finishing

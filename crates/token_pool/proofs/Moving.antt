@@ -13,10 +13,10 @@ use Rattle.interleave_core.specs.OneWorker.{one, IsOneWorkers, Least}
 use Rattle.interleave_core.specs.Maps.{MapState, start_map, step_map, step_map_on, run_map, then_run_map, LeadsToMap, seen, option_seen}
 use Rattle.interleave_core.specs.Tickets.{IsLive}
 use Rattle.interleave_core.proofs.Seen.{step_seen}
-use Rattle.interleave_core.proofs.MapLaws.{seen_leads, map_others}
+use Rattle.interleave_core.proofs.MapLaws.{seen_leads, map_others, run_both}
 use Rattle.interleave_core.proofs.OneWorker.{one_next}
 use Rattle.interleave_core.proofs.Stays.{least_stays}
-use Rattle.interleave_core.proofs.AloneRuns.{run_both, least_seen}
+use Rattle.interleave_core.proofs.AloneRuns.{least_seen}
 use Rattle.schedule_log.specs.declared.entry.Entry.{Entry}
 use Rattle.schedule_log.specs.Logs.{tickets_in_log}
 use Rattle.token_pool.specs.declared.entries.Held.{Held}
