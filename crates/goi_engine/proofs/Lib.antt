@@ -1,9 +1,14 @@
-pub mod Judged
+pub mod Answered
+pub mod Brief
 pub mod Kept
 pub mod Listed
 pub mod Loading
 pub mod Ran
+pub mod Replayed
+pub mod Settled
 pub mod Short
+pub mod Shown
 pub mod Sized
+pub mod Texts
 pub mod Told
 pub mod Writing

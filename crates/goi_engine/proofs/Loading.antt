@@ -4,56 +4,55 @@ use Rattle.std.proofs.Math.Seq.{take-add}
 use Rattle.std.proofs.lemmas.List.Elements.{All-nil, All-cons}
 use Rattle.std.proofs.lemmas.List.{take_all, length-take-le}
 use Rattle.goi_world.specs.Outside.{Reading, reading, CameBy, IsPiece}
-use Rattle.pcf_values.specs.Most.{most_program_bytes}
 use Rattle.goi_engine.specs.FilesSeen.{ReadsWithin, LoadedBy}
 use Rattle.goi_engine.specs.Loads.{Loads}
 
 grown : (bytes old new piece : List ℕ) (n : ℕ) → new ≡ old ++ take n piece → length new ≡ length old + n → IsPiece bytes (length old) n piece → old ≡ take (length old) bytes → new ≡ take (length new) bytes
-grown bytes old new piece n e len p front =
+grown bytes old new piece n e len p prefix =
     e
-    ∙ ap (λ xs. xs ++ take n piece) front
+    ∙ ap (λ xs. xs ++ take n piece) prefix
     ∙ ap (λ xs. take (length old) bytes ++ xs) p.same
     ∙ sym (take-add (length old) n bytes)
     ∙ ap (λ i. take i bytes) (sym len)
 
 -- a read of n bytes, which were put behind those before
-pub loads : (known : Option (List ℕ)) (old new piece : List ℕ) (n : ℕ) → new ≡ old ++ take n piece → n ≤ length piece → 0 < length piece → length old + length piece ≤ (most_program_bytes + 1) → IfSome known (λ bytes. IsPiece bytes (length old) n piece) → Loads known old new n
-loads None old new piece n e le some room p =
+pub loads : (limit : ℕ) (known : Option (List ℕ)) (old new piece : List ℕ) (n : ℕ) → new ≡ old ++ take n piece → n ≤ length piece → 0 < length piece → length old + length piece ≤ (limit + 1) → IfSome known (λ bytes. IsPiece bytes (length old) n piece) → Loads limit known old new n
+loads limit None old new piece n e le some room p =
     let len : length new ≡ length old + n = ap length e ∙ length-append old (take n piece) ∙ ap (λ m. length old + m) (length-take-le n piece le) in
-    record { more = len; within = omega arith; front = p; end = p }
-loads (Some bytes) old new piece n e le some room p =
+    record { more = len; within = omega arith; prefix = p; end = p }
+loads limit (Some bytes) old new piece n e le some room p =
     let len : length new ≡ length old + n = ap length e ∙ length-append old (take n piece) ∙ ap (λ m. length old + m) (length-take-le n piece le) in
     record {
       more = len;
       within = omega arith;
-      front = λ front. grown bytes old new piece n e len p front;
+      prefix = λ prefix. grown bytes old new piece n e len p prefix;
       end = λ zero. p.end zero some;
     }
 
-ended : (known : Option (List ℕ)) (old new : List ℕ) (n : ℕ) → Loads known old new n → IfSome known (λ bytes. old ≡ take (length old) bytes) → (n ≡ 0) ⊎ (length new ≡ (most_program_bytes + 1)) → IfSome known (λ bytes. new ≡ take (most_program_bytes + 1) bytes)
-ended None old new n loads front done = front
-ended (Some bytes) old new n loads front (inr full) = loads.front front ∙ ap (λ i. take i bytes) full
-ended (Some bytes) old new n loads front (inl zero) =
+ended : (limit : ℕ) (known : Option (List ℕ)) (old new : List ℕ) (n : ℕ) → Loads limit known old new n → IfSome known (λ bytes. old ≡ take (length old) bytes) → (n ≡ 0) ⊎ (length new ≡ (limit + 1)) → IfSome known (λ bytes. new ≡ take (limit + 1) bytes)
+ended limit None old new n loads prefix done = prefix
+ended limit (Some bytes) old new n loads prefix (inr full) = loads.prefix prefix ∙ ap (λ i. take i bytes) full
+ended limit (Some bytes) old new n loads prefix (inl zero) =
     let short : length bytes ≤ length new = omega (arith, loads.end zero, loads.more) in
-    let within : length bytes ≤ (most_program_bytes + 1) = omega (arith, short, loads.within) in
-    loads.front front ∙ take_all (length new) bytes short ∙ sym (take_all (most_program_bytes + 1) bytes within)
+    let within : length bytes ≤ (limit + 1) = omega (arith, short, loads.within) in
+    loads.prefix prefix ∙ take_all (length new) bytes short ∙ sym (take_all (limit + 1) bytes within)
 
-goes_on : (known : Option (List ℕ)) (old new : List ℕ) (n : ℕ) → Loads known old new n → IfSome known (λ bytes. old ≡ take (length old) bytes) → IfSome known (λ bytes. new ≡ take (length new) bytes)
-goes_on None old new n loads front = front
-goes_on (Some bytes) old new n loads front = loads.front front
+goes_on : (limit : ℕ) (known : Option (List ℕ)) (old new : List ℕ) (n : ℕ) → Loads limit known old new n → IfSome known (λ bytes. old ≡ take (length old) bytes) → IfSome known (λ bytes. new ≡ take (length new) bytes)
+goes_on limit None old new n loads prefix = prefix
+goes_on limit (Some bytes) old new n loads prefix = loads.prefix prefix
 
 -- Below, the files tell now what they told at first.
-module _ (now first : List ℕ → Option (List ℕ)) (name old new : List ℕ) (n : ℕ) (same : now ≡ first) (loads : Loads (now name) old new n) (front : IfSome (first name) (λ bytes. old ≡ take (length old) bytes)) where
-  loads_first : Loads (first name) old new n
-  loads_first = subst (λ (told : List ℕ → Option (List ℕ)). Loads (told name) old new n) same loads
+module _ (limit : ℕ) (now first : List ℕ → Option (List ℕ)) (name old new : List ℕ) (n : ℕ) (same : now ≡ first) (loads : Loads limit (now name) old new n) (prefix : IfSome (first name) (λ bytes. old ≡ take (length old) bytes)) where
+  loads_first : Loads limit (first name) old new n
+  loads_first = subst (λ (told : List ℕ → Option (List ℕ)). Loads limit (told name) old new n) same loads
 
   -- at its end, or past its limit, all of a file is loaded that is to be
-  pub all_loaded : (n ≡ 0) ⊎ (length new ≡ (most_program_bytes + 1)) → IfSome (first name) (λ bytes. new ≡ take (most_program_bytes + 1) bytes)
-  all_loaded done = ended (first name) old new n loads_first front done
+  pub all_loaded : (n ≡ 0) ⊎ (length new ≡ (limit + 1)) → IfSome (first name) (λ bytes. new ≡ take (limit + 1) bytes)
+  all_loaded done = ended limit (first name) old new n loads_first prefix done
 
-  -- a front of a file goes on
-  pub front_goes_on : IfSome (first name) (λ bytes. new ≡ take (length new) bytes)
-  front_goes_on = goes_on (first name) old new n loads_first front
+  -- a prefix of a file goes on
+  pub prefix_goes_on : IfSome (first name) (λ bytes. new ≡ take (length new) bytes)
+  prefix_goes_on = goes_on limit (first name) old new n loads_first prefix
 
 -- so many reads were made of a file, each within its limit
 pub record Turns {S : Type 0} (one : S → Reading → S → Type 0) (name : List ℕ) (limit turns : ℕ) (old now : S) : Type 0 where

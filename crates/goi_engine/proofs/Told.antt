@@ -1,24 +1,60 @@
--- What was loaded of a file says all that its bytes say: it is the file itself, or more bytes than a program may have.
-use Rattle.std.proofs.Common.{◌≡◌, ◌⊎◌, ℕ, ◌+◌, ◌<◌, ◌≤◌, List, length, take, Option, Some, None, IfSome, refl, sym, IsTrue, inl, inr, ap, ◌∙◌, subst, ⊎_elim, arith}
+-- What was loaded of a file says all that its bytes say: it is the file itself, or more bytes than there may be.
+use Rattle.std.proofs.Common.{◌≡◌, ◌⊎◌, ℕ, zero, suc, ◌+◌, ◌<◌, ◌≤◌, Bool, true, List, length, take, Option, Some, None, IfSome, Result, Ok, Err, IfOk, IfErr, refl, sym, IsTrue, inl, inr, ap, ◌∙◌, subst, ⊎_elim, arith}
 use Rattle.std.proofs.lemmas.List.{take_all, length-take-le}
 use Rattle.std.proofs.lemmas.Bool.{cases_lt}
-use Rattle.goi_world.specs.Outside.{Reading}
-use Rattle.pcf_values.specs.Most.{most_program_bytes}
+use Rattle.pcf_values.specs.Most.{most_program_bytes, most_schedule_bytes}
+use Rattle.pcf_values.specs.Terms.{TyTree, TermTree, nat}
 use Rattle.pcf_values.specs.Named.{NamedTree}
 use Rattle.pcf_reader.specs.declared.fault.ReadFault.{ReadFault}
 use Rattle.pcf_reader.specs.declared.fault.ReadFault.TheVariants as read
 use Rattle.pcf_reader.specs.Correct.{Text, TokenFault, FirstFault}
+use Rattle.net_build.specs.Nets.{NetTree}
+use Rattle.schedule_log.specs.declared.fault.ScheduleFault.{ScheduleFault}
+use Rattle.schedule_log.specs.declared.fault.ScheduleFault.TheVariants as schedule
+use Rattle.schedule_log.specs.Schedules.{HasFault, ReadAs}
 use Rattle.goi_engine.specs.declared.fault.Fault.{Fault}
-use Rattle.goi_engine.specs.declared.fault.Fault.TheVariants.{Read, Typing, NotGround}
+use Rattle.goi_engine.specs.declared.fault.Fault.TheVariants.{Read, Typing, NotGround, Schedule, Moves}
+use Rattle.goi_engine.specs.declared.task.Task.{Task}
 use Rattle.goi_engine.specs.declared.answer.Answer.{Answer}
 use Rattle.goi_engine.specs.declared.answer.Answer.TheVariants.{Prints, Refused, BadWords, NotRead, NoMemory}
-use Rattle.goi_engine.specs.Answers.{RightText, AnswersText, Judges, AnswersJob}
-use Rattle.goi_engine.specs.FilesSeen.{FilesState, Possibly, OfFile, OfTold, LoadedBy}
-use Rattle.goi_engine.specs.Jobs.{JobTree, run, check, show_net, file_of}
-use Rattle.goi_engine.specs.Reports.{most_line}
-use Rattle.goi_engine.specs.Verdicts.{Valued, Valueless, Suitable, Faulty, ReportsOn, RefusesOn, ReportsJob, RefusesJob, CanDo, FaultyJob, LacksFor, ReadForJob}
+use Rattle.goi_engine.specs.Answers.{Says, AnswersFile, AnswersNoNet, MadeNet}
+use Rattle.goi_engine.specs.FilesSeen.{FilesState, Possibly}
+use Rattle.goi_engine.specs.Programs.{IsProgram, IsGround, FaultyText, IsNet}
+use Rattle.goi_engine.specs.Replaying.{ReportsReplay, FaultySchedule}
+use Rattle.goi_engine.specs.Tasks.{wants_number, ReportsText}
 
--- no tree and no fault but its length has a text that is too long
+-- these are the same bytes, or both are more than there may be
+abbrev pub Same : ℕ → List ℕ → List ℕ → Type 0
+Same limit v bytes = (v ≡ bytes) ⊎ ((limit < length v) × (limit < length bytes))
+
+same_bytes : (limit : ℕ) (v bytes : List ℕ) → v ≡ take (limit + 1) bytes → Same limit v bytes
+same_bytes limit v bytes e =
+    ⊎_elim (λ (n : limit + 1 < length bytes).
+    let m : length v ≡ limit + 1 = ap length e ∙ length-take-le (limit + 1) bytes (omega arith) in
+    inr (omega (arith, m), omega (arith, n)))
+    (λ (n : length bytes ≤ limit + 1). inl (e ∙ take_all (limit + 1) bytes n))
+    (cases_lt (limit + 1) (length bytes))
+
+-- the told bytes are these, or none are told
+abbrev pub Agrees : Option (List ℕ) → List ℕ → Type 0
+Agrees told bytes = (told ≡ None) ⊎ (told ≡ Some bytes)
+
+-- so there are bytes that agree with what is told
+told_bytes : (limit : ℕ) (told : Option (List ℕ)) (v : List ℕ) → IfSome told (λ bytes. v ≡ take (limit + 1) bytes) → (bytes : List ℕ) × Agrees told bytes × Same limit v bytes
+told_bytes limit None v e = (v, inl refl, inl refl)
+told_bytes limit (Some bytes) v e = (bytes, inr refl, same_bytes limit v bytes e)
+
+possibly : (told : Option (List ℕ)) (bytes : List ℕ) (P : List ℕ → Type 0) → Agrees told bytes → P bytes → Possibly told P
+possibly None bytes P e p = (bytes, p)
+possibly (Some b) bytes P (inl e) p = let h : None ≡ Some b = sym e in cc
+possibly (Some b) bytes P (inr e) p = let h : bytes ≡ b = cc in subst P h p
+
+-- what is possible of what was loaded is possible of the file
+pub possible : (limit : ℕ) (P : List ℕ → Type 0) → ((v bytes : List ℕ) → Same limit v bytes → P v → P bytes) → (told : Option (List ℕ)) (v : List ℕ) → IfSome told (λ bytes. v ≡ take (limit + 1) bytes) → P v → Possibly told P
+possible limit P goes told v e h = let t = told_bytes limit told v e in possibly told t.0 P t.1 (goes v t.0 t.2 h)
+
+-- ---- the text of a program
+
 no_text : (bytes : List ℕ) (tree : NamedTree) → most_program_bytes < length bytes → Text bytes tree → ⊥
 no_text bytes tree n x = omega (arith, x.1.short)
 
@@ -35,144 +71,100 @@ too_long v bytes (read.Unexpected at) m n h = absurd (no_token_fault v (read.Une
 too_long v bytes (read.TooDeep at) m n h = absurd (no_token_fault v (read.TooDeep at) m h)
 too_long v bytes (read.TooLarge at) m n h = absurd (no_token_fault v (read.TooLarge at) m h)
 
-faulty_long : (j : JobTree) (v bytes : List ℕ) (f : Fault) → most_program_bytes < length v → most_program_bytes < length bytes → Faulty j v f → Faulty j bytes f
-faulty_long j v bytes (Read f) m n h = too_long v bytes f m n h
-faulty_long j v bytes (Typing f) m n (tree, x, h) = absurd (no_text v tree m x)
-faulty_long j v bytes NotGround m n (tree, x, h) = absurd (no_text v tree m x)
+text_goes : (v bytes : List ℕ) (tree : NamedTree) → Same most_program_bytes v bytes → Text v tree → Text bytes tree
+text_goes v bytes tree (inl e) x = subst (λ (b : List ℕ). Text b tree) e x
+text_goes v bytes tree (inr n) x = absurd (no_text v tree n.0 x)
 
-right_long : (j : JobTree) (v bytes : List ℕ) (a : Answer) → most_program_bytes < length v → most_program_bytes < length bytes → RightText j v a → RightText j bytes a
-right_long j v bytes (Prints report) m n (tree, x, h) = absurd (no_text v tree m x)
-right_long j v bytes (Refused line) m n (f, h, e) = (f, faulty_long j v bytes f m n h, e)
-right_long j v bytes NoMemory m n h = h
-right_long j v bytes BadWords m n h = h
-right_long j v bytes NotRead m n h = h
+first_goes : (v bytes : List ℕ) (f : ReadFault) → Same most_program_bytes v bytes → FirstFault v f → FirstFault bytes f
+first_goes v bytes f (inl e) x = subst (λ (b : List ℕ). FirstFault b f) e x
+first_goes v bytes f (inr n) x = too_long v bytes f n.0 n.1 x
 
-long : (j : JobTree) (v bytes : List ℕ) (a : Answer) → most_program_bytes < length v → most_program_bytes < length bytes → AnswersText j v a → AnswersText j bytes a
-long j v bytes a m n h = record {
-  right = right_long j v bytes a m n h.right;
-  accepted = λ status k. absurd (no_text bytes k.0 n k.3.text);
-  faulty = λ f k. h.faulty f (faulty_long j bytes v f n m k);
+program_goes : (number : Bool) (tree : NamedTree) (t : TermTree) (A : TyTree) (v bytes : List ℕ) → Same most_program_bytes v bytes → IsProgram number v tree t A → IsProgram number bytes tree t A
+program_goes number tree t A v bytes s h = record { text = text_goes v bytes tree s h.text; typed = h.typed; will_do = h.will_do }
+
+pub faulty_goes : (number : Bool) (f : Fault) (v bytes : List ℕ) → Same most_program_bytes v bytes → FaultyText number v f → FaultyText number bytes f
+faulty_goes number (Read f) v bytes s h = first_goes v bytes f s h
+faulty_goes number (Typing f) v bytes s (tree, x, h) = (tree, text_goes v bytes tree s x, h)
+faulty_goes number NotGround v bytes s (tree, x, h) = (tree, text_goes v bytes tree s x, h)
+faulty_goes number (Schedule f) v bytes s h = h
+faulty_goes number (Moves f) v bytes s h = h
+
+pub report_goes : (task : Task) (status : ℕ) (report : List ℕ) (v bytes : List ℕ) → Same most_program_bytes v bytes → ReportsText task v status report → ReportsText task bytes status report
+report_goes task status report v bytes s h = record {
+  tree = h.tree;
+  term = h.term;
+  type = h.type;
+  is = program_goes (wants_number task) h.tree h.term h.type v bytes s h.is;
+  reports = h.reports;
 }
 
--- an answer to what was loaded is one to the file's bytes
-same_answer : (j : JobTree) (v bytes : List ℕ) (a : Answer) → v ≡ take (most_program_bytes + 1) bytes → AnswersText j v a → AnswersText j bytes a
-same_answer j v bytes a e h =
-    ⊎_elim (λ (n : most_program_bytes + 1 < length bytes).
-    let m : length v ≡ most_program_bytes + 1 = ap length e ∙ length-take-le (most_program_bytes + 1) bytes (omega arith) in
-    long j v bytes a (omega arith) (omega arith) h)
-    (λ (n : length bytes ≤ most_program_bytes + 1). subst (λ (b : List ℕ). AnswersText j b a) (e ∙ take_all (most_program_bytes + 1) bytes n) h)
-    (cases_lt (most_program_bytes + 1) (length bytes))
+pub ground_goes : (t : TermTree) (v bytes : List ℕ) → Same most_program_bytes v bytes → IsGround v t → IsGround bytes t
+ground_goes t v bytes s (tree, h) = (tree, program_goes true tree t nat v bytes s h)
 
--- the told bytes are these, or none are told
-abbrev Agrees : Option (List ℕ) → List ℕ → Type 0
-Agrees told bytes = (told ≡ None) ⊎ (told ≡ Some bytes)
+-- ---- the text of a schedule
 
--- so there are bytes that agree with what is told, to which this is the answer
-told_answer : (j : JobTree) (told : Option (List ℕ)) (v : List ℕ) (a : Answer) → IfSome told (λ bytes. v ≡ take (most_program_bytes + 1) bytes) → AnswersText j v a → (bytes : List ℕ) × Agrees told bytes × AnswersText j bytes a
-told_answer j None v a e h = (v, inl refl, h)
-told_answer j (Some bytes) v a e h = (bytes, inr refl, same_answer j v bytes a e h)
+no_fault_line : (text : List ℕ) (f : ScheduleFault) → most_schedule_bytes < length text → HasFault text f → ⊥
+no_fault_line text f n h = omega (arith, h.short)
 
-possibly : (told : Option (List ℕ)) (bytes : List ℕ) (P : List ℕ → Type 0) → Agrees told bytes → P bytes → Possibly told P
-possibly None bytes P e p = (bytes, p)
-possibly (Some b) bytes P (inl e) p = let h : None ≡ Some b = sym e in cc
-possibly (Some b) bytes P (inr e) p = let h : bytes ≡ b = cc in subst P h p
+much_too_long : (v text : List ℕ) (r : Result (List ℕ) ScheduleFault) → most_schedule_bytes < length v → most_schedule_bytes < length text → ReadAs v r → ReadAs text r
+much_too_long v text (Ok tickets) m n h = absurd (omega (arith, h.short))
+much_too_long v text (Err schedule.NoMemory) m n h = h
+much_too_long v text (Err schedule.BadHeader) m n h = absurd (omega (arith, h.short))
+much_too_long v text (Err (schedule.BadLine k)) m n h = absurd (no_fault_line v (schedule.BadLine k) m h)
+much_too_long v text (Err (schedule.TicketTooWide k)) m n h = absurd (no_fault_line v (schedule.TicketTooWide k) m h)
+much_too_long v text (Err schedule.NoEnd) m n h = absurd (no_fault_line v schedule.NoEnd m h)
+much_too_long v text (Err (schedule.TooLong zero)) m n h = n
+much_too_long v text (Err (schedule.TooLong (suc k))) m n h = absurd (no_fault_line v (schedule.TooLong (suc k)) m h)
 
--- what is so of told bytes is so of those that agree with them
-agreeing : (told : Option (List ℕ)) (bytes : List ℕ) (P : List ℕ → Type 0) → Agrees told bytes → (b : List ℕ) × (told ≡ Some b) × P b → P bytes
-agreeing told bytes P (inl e) (b, t, p) = let h : None ≡ Some b = sym e ∙ t in cc
-agreeing told bytes P (inr e) (b, t, p) = let k : Some b ≡ Some bytes = sym t ∙ e in let h : b ≡ bytes = cc in subst P h p
+schedule_goes : (r : Result (List ℕ) ScheduleFault) (v text : List ℕ) → Same most_schedule_bytes v text → ReadAs v r → ReadAs text r
+schedule_goes r v text (inl e) h = subst (λ (b : List ℕ). ReadAs b r) e h
+schedule_goes r v text (inr n) h = much_too_long v text r n.0 n.1 h
 
--- Each job that there is so far is done with one file.
-reports_job : (j : JobTree) (files : FilesState) (status : ℕ) (report : List ℕ) → OfFile files (file_of j) (λ bytes. ReportsOn j bytes status report) → ReportsJob j files status report
-reports_job (run file budget) files status report h = h
-reports_job (check file term) files status report h = h
-reports_job (show_net file) files status report h = h
+pub replay_goes : (t : TermTree) (status : ℕ) (report : List ℕ) (v text : List ℕ) → Same most_schedule_bytes v text → ReportsReplay t v status report → ReportsReplay t text status report
+replay_goes t status report v text s h = record {
+  tickets = h.tickets;
+  schedule = schedule_goes (Ok h.tickets) v text s h.schedule;
+  state = h.state;
+  led = h.led;
+  agrees = h.agrees;
+  ends = h.ends;
+  text_is = h.text_is;
+}
 
-refuses_job : (j : JobTree) (files : FilesState) (line : List ℕ) → OfFile files (file_of j) (λ bytes. RefusesOn j bytes line) → RefusesJob j files line
-refuses_job (run file budget) files line h = h
-refuses_job (check file term) files line h = h
-refuses_job (show_net file) files line h = h
+pub moves_goes : (t : TermTree) (f : Fault) (v text : List ℕ) → Same most_schedule_bytes v text → FaultySchedule t v f → FaultySchedule t text f
+moves_goes t (Read f) v text s h = h
+moves_goes t (Typing f) v text s h = h
+moves_goes t NotGround v text s h = h
+moves_goes t (Schedule f) v text s h = (h.0, schedule_goes (Err f) v text s h.1)
+moves_goes t (Moves f) v text s h = record { known = h.known; tickets = h.tickets; schedule = schedule_goes (Ok h.tickets) v text s h.schedule; stops = h.stops }
 
-can_do : (j : JobTree) (files : FilesState) (status : ℕ) → CanDo j files status → OfTold files (file_of j) (λ bytes. Suitable j bytes status)
-can_do (run file budget) files status h = h
-can_do (check file term) files status h = h
-can_do (show_net file) files status h = h
+-- ---- an answer to what was loaded
 
-faulty_job : (j : JobTree) (files : FilesState) (f : Fault) → FaultyJob j files f → OfTold files (file_of j) (λ bytes. Faulty j bytes f)
-faulty_job (run file budget) files f h = h
-faulty_job (check file term) files f h = h
-faulty_job (show_net file) files f h = h
+-- what is said of what was loaded is the answer to the file
+pub answers_file : (limit : ℕ) (R : List ℕ → ℕ → List ℕ → Type 0) (P : List ℕ → Fault → Type 0) →
+    ((status : ℕ) (report : List ℕ) (v bytes : List ℕ) → Same limit v bytes → R v status report → R bytes status report) → ((f : Fault) (v bytes : List ℕ) → Same limit v bytes → P v f → P bytes f) →
+    (file : List ℕ) (old new : FilesState) (v : List ℕ) (a : Answer) → new.faults ≡ old.faults → (IsTrue (old.lacks file) → ⊥) → IfSome (old.told file) (λ bytes. v ≡ take (limit + 1) bytes) → Says (R v) (P v) a → AnswersFile R P file old new a
+answers_file limit R P goes moves file old new v (Prints r) same had e h = (same, (had, possible limit (λ b. R b r.status r.text.items) (goes r.status r.text.items) (old.told file) v e h))
+answers_file limit R P goes moves file old new v (Refused r) same had e (f, h, line) = (same, (f, (had, possible limit (λ b. P b f) (moves f) (old.told file) v e h), line))
+answers_file limit R P goes moves file old new v BadWords same had e h = h
+answers_file limit R P goes moves file old new v NotRead same had e h = absurd h
+answers_file limit R P goes moves file old new v NoMemory same had e h = same
 
-lacks_file : (j : JobTree) (files : FilesState) → LacksFor j files → IsTrue (files.lacks (file_of j))
-lacks_file (run file budget) files h = h
-lacks_file (check file term) files h = h
-lacks_file (show_net file) files h = h
+-- the net of what was loaded is that of the file's program
+made_net : (file : List ℕ) (old new : FilesState) (v : List ℕ) (net : NetTree) → new.faults ≡ old.faults → (IsTrue (old.lacks file) → ⊥) → IfSome (old.told file) (λ bytes. v ≡ take (most_program_bytes + 1) bytes) → IsNet v net → MadeNet file old new net
+made_net file old new v net same had e h = record {
+  term = h.term;
+  ground = (had, possible most_program_bytes (λ b. IsGround b h.term) (ground_goes h.term) (old.told file) v e h.ground);
+  typed = h.typed;
+  net_is = h.net_is;
+  faults = same;
+}
 
-pub lacks_for : (j : JobTree) (files : FilesState) → IsTrue (files.lacks (file_of j)) → LacksFor j files
-lacks_for (run file budget) files h = h
-lacks_for (check file term) files h = h
-lacks_for (show_net file) files h = h
+pub nets_made : {E : Type 0} (file : List ℕ) (old new : FilesState) (v : List ℕ) (r : Result NetTree E) → new.faults ≡ old.faults → (IsTrue (old.lacks file) → ⊥) → IfSome (old.told file) (λ bytes. v ≡ take (most_program_bytes + 1) bytes) → IfOk r (λ net. IsNet v net) → IfOk r (λ net. MadeNet file old new net)
+nets_made file old new v (Ok net) same had e h = made_net file old new v net same had e h
+nets_made file old new v (Err x) same had e h = h
 
--- a fault's line is short
-possibly_short : (told : Option (List ℕ)) (j : JobTree) (line : List ℕ) → Possibly told (λ bytes. RefusesOn j bytes line) → length line ≤ most_line
-possibly_short None j line (bytes, x) = x.2.short
-possibly_short (Some bytes) j line x = x.2.short
-
-pub short_refusal : (j : JobTree) (files : FilesState) (line : List ℕ) → RefusesJob j files line → length line ≤ most_line
-short_refusal (run file budget) files line h = possibly_short (files.told file) (run file budget) line h.1
-short_refusal (check file term) files line h = possibly_short (files.told file) (check file term) line h.1
-short_refusal (show_net file) files line h = possibly_short (files.told file) (show_net file) line h.1
-
--- a report has one of two statuses
-on_status : (j : JobTree) (bytes : List ℕ) (status : ℕ) (report : List ℕ) → ReportsOn j bytes status report → (status ≡ 0) ⊎ (status ≡ 5)
-on_status (run file budget) bytes status report h = ⊎_elim (λ (p : (status ≡ 0) × Valued budget h.2.0 report). inl p.0) (λ (p : (status ≡ 5) × Valueless budget h.2.0 report). inr p.0) h.2.4.told
-on_status (check file term) bytes status report h = inl h.2.4.0
-on_status (show_net file) bytes status report h = inl h.2.4.0
-
-possibly_status : (told : Option (List ℕ)) (j : JobTree) (status : ℕ) (report : List ℕ) → Possibly told (λ bytes. ReportsOn j bytes status report) → (status ≡ 0) ⊎ (status ≡ 5)
-possibly_status None j status report (bytes, x) = on_status j bytes status report x
-possibly_status (Some bytes) j status report x = on_status j bytes status report x
-
-pub two_statuses : (j : JobTree) (files : FilesState) (status : ℕ) (report : List ℕ) → ReportsJob j files status report → (status ≡ 0) ⊎ (status ≡ 5)
-two_statuses (run file budget) files status report h = possibly_status (files.told file) (run file budget) status report h.1
-two_statuses (check file term) files status report h = possibly_status (files.told file) (check file term) status report h.1
-two_statuses (show_net file) files status report h = possibly_status (files.told file) (show_net file) status report h.1
-
-pub reads_job : {S : Type 0} (one : S → Reading → S → Type 0) (j : JobTree) (old new : S) → LoadedBy one (file_of j) most_program_bytes old new → ReadForJob one (Some j) old new
-reads_job one (run file budget) old new l = (l.log, l.came, l.few, l.each)
-reads_job one (check file term) old new l = (l.log, l.came, l.few, l.each)
-reads_job one (show_net file) old new l = (l.log, l.came, l.few, l.each)
-
--- what a job needs is not told where a file is lacked that it comes to
-pub told_not_lacked : (j : JobTree) (files : FilesState) → ((name : List ℕ) → IsTrue (files.lacks name) → files.told name ≡ None) → ((status : ℕ) × CanDo j files status) ⊎ ((f : Fault) × FaultyJob j files f) → LacksFor j files → ⊥
-told_not_lacked j files untold (inl (status, h)) l = let (b, t, x) = can_do j files status h in let e : None ≡ Some b = sym (untold (file_of j) (lacks_file j files l)) ∙ t in cc
-told_not_lacked j files untold (inr (f, h)) l = let (b, t, x) = faulty_job j files f h in let e : None ≡ Some b = sym (untold (file_of j) (lacks_file j files l)) ∙ t in cc
-
--- Below, an answer is right for bytes that agree with what is told of the job's file, which is not lacked.
-module _ (j : JobTree) (old new : FilesState) (a : Answer) (same : new.faults ≡ old.faults) (had : IsTrue (old.lacks (file_of j)) → ⊥) (bytes : List ℕ) (agrees : Agrees (old.told (file_of j)) bytes) (h : AnswersText j bytes a) where
-  judges : Judges j old new a
-  judges = record {
-    faults = same;
-    had = λ l. had (lacks_file j old l);
-    accepted = λ status k. h.accepted status (agreeing (old.told (file_of j)) bytes (λ b. Suitable j b status) agrees (can_do j old status k));
-    faulty = λ f k. h.faulty f (agreeing (old.told (file_of j)) bytes (λ b. Faulty j b f) agrees (faulty_job j old f k));
-  }
-
-agreeing_job : (j : JobTree) (old new : FilesState) (a : Answer) → new.faults ≡ old.faults → (IsTrue (old.lacks (file_of j)) → ⊥) → (bytes : List ℕ) → Agrees (old.told (file_of j)) bytes → AnswersText j bytes a → AnswersJob j old new a
-agreeing_job j old new (Prints report) same had bytes agrees h =
-    (judges j old new (Prints report) same had bytes agrees h, reports_job j old report.status report.text.items (had, possibly (old.told (file_of j)) bytes (λ b. ReportsOn j b report.status report.text.items) agrees h.right))
-agreeing_job j old new (Refused line) same had bytes agrees h =
-    (judges j old new (Refused line) same had bytes agrees h, refuses_job j old line.items (had, possibly (old.told (file_of j)) bytes (λ b. RefusesOn j b line.items) agrees h.right))
-agreeing_job j old new BadWords same had bytes agrees h = h.right
-agreeing_job j old new NotRead same had bytes agrees h = absurd h.right
-agreeing_job j old new NoMemory same had bytes agrees h = same
-
--- an answer to what was loaded of the job's file is one to the job
-answers_job : (j : JobTree) (old new : FilesState) (v : List ℕ) (a : Answer) → new.faults ≡ old.faults → (IsTrue (old.lacks (file_of j)) → ⊥) → IfSome (old.told (file_of j)) (λ bytes. v ≡ take (most_program_bytes + 1) bytes) → AnswersText j v a → AnswersJob j old new a
-answers_job j old new v a same had e h = let t = told_answer j (old.told (file_of j)) v a e h in agreeing_job j old new a same had t.0 t.1 t.2
-
--- the same, told of the name by which it was loaded
-pub answers_file : (j : JobTree) (name : List ℕ) → name ≡ file_of j → (old new : FilesState) (v : List ℕ) (a : Answer) → new.faults ≡ old.faults → (IsTrue (old.lacks name) → ⊥) → IfSome (old.told name) (λ bytes. v ≡ take (most_program_bytes + 1) bytes) →
-    AnswersText j v a → AnswersJob j old new a
-answers_file j name e old new v a same had f h =
-    answers_job j old new v a same (subst (λ (n : List ℕ). IsTrue (old.lacks n) → ⊥) e had) (subst (λ (n : List ℕ). IfSome (old.told n) (λ bytes. v ≡ take (most_program_bytes + 1) bytes)) e f) h
+pub none_made : {N : Type 0} (file : List ℕ) (old new : FilesState) (v : List ℕ) (r : Result N Answer) → new.faults ≡ old.faults → (IsTrue (old.lacks file) → ⊥) → IfSome (old.told file) (λ bytes. v ≡ take (most_program_bytes + 1) bytes) →
+    IfErr r (λ a. Says (λ status report. ⊥) (FaultyText true v) a) → IfErr r (λ a. AnswersNoNet file old new a)
+none_made file old new v (Ok net) same had e h = h
+none_made file old new v (Err a) same had e h = answers_file most_program_bytes (λ bytes status report. ⊥) (FaultyText true) (λ status report v b s x. x) (faulty_goes true) file old new v a same had e h

@@ -1,6 +1,6 @@
 -- What is written of an answer, and the status that tells it.
 -- A sink is seen as what was written to it, where that is known, as its count of faults, and as how many bytes it is sure to take yet.
--- A text is written whole, and the count of faults stays; or a front of it is, and the count rose, which can't happen where the sink
+-- A text is written whole, and the count of faults stays; or a prefix of it is, and the count rose, which can't happen where the sink
 -- is sure to take all of it.
 use Rattle.std.specs.Prelude.{◌≡◌, ◌⊎◌, ℕ, ◌<◌, List, length, take, Option}
 use Rattle.goi_world.specs.Outside.{Rose, with_more}
@@ -27,9 +27,9 @@ pub record Wrote (text : List ℕ) (old new : SinkState) : Type 0 where
   pub written : new.written ≡ with_more old.written text
   pub faults : new.faults ≡ old.faults
 
--- a front of the text was written, and then the sink failed
+-- a prefix of the text was written, and then the sink failed
 pub record Broke (text : List ℕ) (old new : SinkState) : Type 0 where
-  pub front : (n : ℕ) × (new.written ≡ with_more old.written (take n text))
+  pub prefix : (n : ℕ) × (new.written ≡ with_more old.written (take n text))
   pub rose : Rose old.faults new.faults
   pub short : old.spare < length text
 
@@ -46,7 +46,7 @@ Refuses own line out out' err err' status = Untouched out out' × (((status ≡ 
 -- an answer was delivered to `out` and `err`
 abbrev pub Delivered : Answer → SinkState → SinkState → SinkState → SinkState → ℕ → Type 0
 Delivered (Prints report) out out' err err' status = Reported report.status report.text.items out out' err err' status
-Delivered (Refused line) out out' err err' status = Refuses 1 line.items out out' err err' status
+Delivered (Refused refusal) out out' err err' status = Refuses refusal.status refusal.line.items out out' err err' status
 Delivered BadWords out out' err err' status = Refuses 2 words_line out out' err err' status
 Delivered NotRead out out' err err' status = Refuses 3 read_line out out' err err' status
 Delivered NoMemory out out' err err' status = Refuses 6 memory_line out out' err err' status

@@ -1,12 +1,13 @@
 pub mod Answers
 pub mod Delivers
 pub mod FilesSeen
-pub mod Jobs
 pub mod Listing
 pub mod Loads
+pub mod Programs
 pub mod Promise
-pub mod Ran
 pub mod Refusals
-pub mod Reports
+pub mod Replaying
+pub mod Running
 pub mod Stops
+pub mod Tasks
 pub mod Verdicts

@@ -1,11 +1,10 @@
 -- What one turn of loading does to the bytes that were loaded before it.
--- The bytes loaded are always a front of the file, where the file is told; a turn that gives none is at the end of the file.
+-- The bytes loaded are always a prefix of the file, where the file is told; a turn that gives none is at the end of the file.
 use Rattle.std.specs.Prelude.{◌≡◌, ℕ, ◌+◌, ◌≤◌, List, length, take, Option, IfSome}
-use Rattle.pcf_values.specs.Most.{most_program_bytes}
 
--- n more bytes of a file were loaded behind a front of it; none only at its end
-pub record Loads (known : Option (List ℕ)) (old new : List ℕ) (n : ℕ) : Type 0 where
+-- n more bytes of a file were loaded behind a prefix of it; none only at its end
+pub record Loads (limit : ℕ) (known : Option (List ℕ)) (old new : List ℕ) (n : ℕ) : Type 0 where
   pub more : length new ≡ length old + n
-  pub within : length new ≤ most_program_bytes + 1
-  pub front : IfSome known (λ bytes. old ≡ take (length old) bytes → new ≡ take (length new) bytes)
+  pub within : length new ≤ limit + 1
+  pub prefix : IfSome known (λ bytes. old ≡ take (length old) bytes → new ≡ take (length new) bytes)
   pub end : IfSome known (λ bytes. n ≡ 0 → length bytes ≤ length old)

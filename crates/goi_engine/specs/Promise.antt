@@ -3,14 +3,13 @@
 -- report is then the right one for some bytes, and so is the line of a fault.
 use Rattle.std.specs.Prelude.{◌≡◌, ◌≢◌, ◌⊎◌, ℕ, ◌≤◌, List, length, Option, None, Some}
 use Rattle.goi_world.specs.Outside.{Rose}
+use Rattle.goi_words.specs.Jobs.{JobTree}
 use Rattle.goi_engine.specs.declared.fault.Fault.{Fault}
 use Rattle.goi_engine.specs.Answers.{NotReadFor}
 use Rattle.goi_engine.specs.Delivers.{SinkState, Untouched, Wrote, Broke}
 use Rattle.goi_engine.specs.FilesSeen.{FilesState, FilesKept}
-use Rattle.goi_engine.specs.Jobs.{JobTree}
-use Rattle.goi_engine.specs.Refusals.{fault_line, words_line, read_line, memory_line, write_line}
-use Rattle.goi_engine.specs.Reports.{most_line}
-use Rattle.goi_engine.specs.Verdicts.{ReportsJob, RefusesJob, CanDo, FaultyJob, LacksFor}
+use Rattle.goi_engine.specs.Refusals.{most_line, IsLine, fault_line, fault_status, words_line, read_line, memory_line, write_line}
+use Rattle.goi_engine.specs.Verdicts.{ReportsJob, RefusesJob, CanDo, FaultyJob, SurelyLacks}
 
 -- everything outside, at one moment
 pub record World : Type 0 where
@@ -33,13 +32,16 @@ pub record Printed (status : ℕ) (j : JobTree) (old new : World) : Type 0 where
   pub out : Wrote report old.out new.out
   pub err : Untouched old.err new.err
 
--- the line of a fault was written, which is the job's first
-pub record RefusedFault (j : JobTree) (old new : World) : Type 0 where
+-- the line of a fault of this status was written, which is the job's first
+pub record RefusedFault (status : ℕ) (j : JobTree) (old new : World) : Type 0 where
+  pub fault : Fault
+  pub right : RefusesJob j old.files fault
+  pub of_status : fault_status fault ≡ status
   pub line : List ℕ
-  pub right : RefusesJob j old.files line
+  pub is_line : IsLine fault line
   pub wrote : WroteLine line old new
 
--- `out` failed behind a front of the job's report; then the line that says so was written to `err`, or a front of it before `err`
+-- `out` failed behind a prefix of the job's report; then the line that says so was written to `err`, or a prefix of it before `err`
 -- failed too
 pub record OutFailed (job : Option JobTree) (old new : World) : Type 0 where
   pub j : JobTree
@@ -55,9 +57,9 @@ pub data RefusalLine (job : Option JobTree) (old new : World) : List ℕ → Typ
   of_words : job ≡ None → RefusalLine job old new words_line
   of_read : (j : JobTree) → job ≡ Some j → NotReadFor j old.files new.files → RefusalLine job old new read_line
   of_memory : RefusalLine job old new memory_line
-  of_fault : (j : JobTree) (line : List ℕ) → job ≡ Some j → RefusesJob j old.files line → RefusalLine job old new line
+  of_fault : (j : JobTree) (f : Fault) (line : List ℕ) → job ≡ Some j → RefusesJob j old.files f → IsLine f line → RefusalLine job old new line
 
--- `err` failed behind a front of that line, and nothing was written to `out`
+-- `err` failed behind a prefix of that line, and nothing was written to `out`
 pub record ErrFailed (job : Option JobTree) (old new : World) : Type 0 where
   pub line : List ℕ
   pub stands : RefusalLine job old new line
@@ -68,9 +70,9 @@ pub record ErrFailed (job : Option JobTree) (old new : World) : Type 0 where
 abbrev pub MeansPrinted : ℕ → Option JobTree → World → World → Type 0
 MeansPrinted status job old new = (j : JobTree) × (job ≡ Some j) × Printed status j old new
 
--- status 1: the program has a fault, and the line that tells it stands in `err`
-abbrev pub MeansFault : Option JobTree → World → World → Type 0
-MeansFault job old new = (j : JobTree) × (job ≡ Some j) × RefusedFault j old new
+-- status 1: the program has a fault, and the line that tells it stands in `err`; and status 7: so it is with the schedule
+abbrev pub MeansFault : ℕ → Option JobTree → World → World → Type 0
+MeansFault status job old new = (j : JobTree) × (job ≡ Some j) × RefusedFault status j old new
 
 -- status 2: the words ask for nothing
 abbrev pub MeansBadWords : Option JobTree → World → World → Type 0
@@ -107,33 +109,34 @@ pub record SureRoom (job : Option JobTree) (old : World) : Type 0 where
 abbrev pub CompleteReport : Option JobTree → World → World → ℕ → Type 0
 CompleteReport job old new status = (j : JobTree) (own : ℕ) → job ≡ Some j → CanDo j old.files own → NoneFailed old new → (status ≡ own) ⊎ (status ≡ 6)
 
--- and what has a fault gives the line of that fault
+-- and what has a fault gives the line of that fault, and its status
 abbrev pub CompleteFault : Option JobTree → World → World → ℕ → Type 0
 CompleteFault job old new status =
-    (j : JobTree) (f : Fault) → job ≡ Some j → FaultyJob j old.files f → NoneFailed old new → ((status ≡ 1) × WroteLine (fault_line f) old new) ⊎ (status ≡ 6)
+    (j : JobTree) (f : Fault) → job ≡ Some j → FaultyJob j old.files f → NoneFailed old new → ((status ≡ fault_status f) × WroteLine (fault_line f) old new) ⊎ (status ≡ 6)
 
 -- words without a job are refused
 abbrev pub CompleteWords : Option JobTree → World → World → ℕ → Type 0
 CompleteWords job old new status = job ≡ None → NoneFailed old new → (status ≡ 2) ⊎ (status ≡ 6)
 
--- a file that is lacked can't be read
+-- a file that is lacked can't be read, where it is certain that the job comes to it
 abbrev pub CompleteLacked : Option JobTree → World → World → ℕ → Type 0
-CompleteLacked job old new status = (j : JobTree) → job ≡ Some j → LacksFor j old.files → NoneFailed old new → (status ≡ 3) ⊎ (status ≡ 6)
+CompleteLacked job old new status = (j : JobTree) → job ≡ Some j → SurelyLacks j old.files → NoneFailed old new → (status ≡ 3) ⊎ (status ≡ 6)
 
 -- the promise of the top call, for the job that was asked, the world before and after it, and the status that it gave
 pub record Promise (job : Option JobTree) (old new : World) (status : ℕ) : Type 0 where
   pub done : status ≡ 0 → MeansPrinted 0 job old new
-  pub fault : status ≡ 1 → MeansFault job old new
+  pub fault : status ≡ 1 → MeansFault 1 job old new
   pub bad_words : status ≡ 2 → MeansBadWords job old new
   pub not_read : status ≡ 3 → MeansNotRead job old new
   pub not_written : status ≡ 4 → MeansNotWritten job old new
   pub no_value : status ≡ 5 → MeansPrinted 5 job old new
   pub no_memory : status ≡ 6 → MeansNoMemory old new
+  pub schedule_fault : status ≡ 7 → MeansFault 7 job old new
   -- no other status comes
-  pub statuses : (status ≡ 0) ⊎ (status ≡ 1) ⊎ (status ≡ 2) ⊎ (status ≡ 3) ⊎ (status ≡ 4) ⊎ (status ≡ 5) ⊎ (status ≡ 6)
+  pub statuses : (status ≡ 0) ⊎ (status ≡ 1) ⊎ (status ≡ 2) ⊎ (status ≡ 3) ⊎ (status ≡ 4) ⊎ (status ≡ 5) ⊎ (status ≡ 6) ⊎ (status ≡ 7)
   -- what the files tell and lack stays
   pub files : FilesKept old.files new.files
-  -- a sink's count of faults changes only with status 4, and the files' count only where the file could not be read
+  -- a sink's count of faults changes only with status 4, and the files' count only where a file could not be read
   pub quiet : status ≢ 4 → Quiet old.out new.out × Quiet old.err new.err
   pub read : status ≢ 3 → status ≢ 4 → new.files.faults ≡ old.files.faults
   -- where the sinks are sure to take what may come, no write fails

@@ -1,17 +1,35 @@
 //! The answer to the words, as a value, before anything is written.
 
-ghost use Rattle.std.specs.Prelude.{◌≡◌, map, string_bytes};
-ghost use Rattle.goi_engine.specs.Answers.{Answers, AnswersText};
-ghost use Rattle.goi_engine.specs.FilesSeen.{FilesKept, files_seen};
-ghost use Rattle.goi_engine.specs.Jobs.{Budgeted, job, seen_job};
-ghost use Rattle.goi_engine.specs.Verdicts.{ReadForJob};
+ghost use Rattle.std.specs.Prelude.{◌≡◌, [], true, map, string_bytes, Some, IfOk, IfErr};
+ghost use Rattle.pcf_values.specs.Most.{most_program_bytes, most_schedule_bytes};
+ghost use Rattle.pcf_values.specs.Terms.{TermTree, nat};
+ghost use Rattle.pcf_values.specs.Typing.{HasType};
+ghost use Rattle.net_build.specs.NetOf.{net_of};
+ghost use Rattle.interleave_core.specs.Runs.{Runs};
+ghost use Rattle.goi_words.specs.Asked.{job};
+ghost use Rattle.goi_words.specs.Jobs.{IsDemo, IsWithinLimits, IsWorkers, job_of, replay};
+ghost use Rattle.goi_engine.specs.Answers.{Answers, AnswersJob, AnswersTask, AnswersSchedule, AnswersNoNet, MadeNet, Says, IsStopped};
+ghost use Rattle.goi_engine.specs.FilesSeen.{FilesKept, LoadedBy, files_seen};
+ghost use Rattle.goi_engine.specs.Programs.{FaultyText, IsNet};
+ghost use Rattle.goi_engine.specs.Replaying.{ReportsReplay, FaultySchedule};
+ghost use Rattle.goi_engine.specs.Running.{ReportsDemo};
+ghost use Rattle.goi_engine.specs.Tasks.{IsWithin, ReportsText, wants_number};
+ghost use Rattle.goi_engine.specs.Verdicts.{LoadedBoth, ReadForJob};
 
-use crate::fault::fault_line;
-use crate::job::{Job, job_of};
-use crate::judge::{Stop, report_on};
+use crate::demo::report_demo;
+use crate::judge::report_text;
 use crate::load::{LoadError, load};
+use crate::program::net_of_text;
+use crate::refusal::{Refusal, refuse};
+use crate::replaying::report_replay;
 use crate::report::Report;
+use crate::stop::Stop;
+use crate::task::Task;
+use adequacy_laws::law_never_stuck;
+use goi_words::{Job, WordFault, job_of};
 use goi_world::Files;
+use net_build::Net;
+use pcf_values::limits::{PROGRAM_BYTES, SCHEDULE_BYTES};
 use std::alloc::Global;
 
 /// The answer to the words.
@@ -19,32 +37,89 @@ use std::alloc::Global;
 pub(crate) enum Answer {
     /// All is done, and this is the report.
     Prints(Report),
-    /// The program has a fault, and this is the line that says so.
-    Refused(Vec<u8>),
+    /// The program or the schedule has a fault, and this is the line that says so.
+    Refused(Refusal),
     /// The words ask for nothing.
     BadWords,
-    /// The program's file could not be read.
+    /// A file could not be read.
     NotRead,
     /// There was no memory.
     NoMemory,
 }
 
-/// Does the job that the words ask for, with the file that they name.
+/// Does the job that the words ask for, with the files that they name.
 pub(crate) fn answer_to<F: Files>(alloc: Global, words: &[String], files: &mut F) -> Answer
     ensures kept { FilesKept (files_seen (F.told files.old) (F.lacks files.old) (F.faults files.old) (F.steady files.old)) (files_seen (F.told files.new) (F.lacks files.new) (F.faults files.new) (F.steady files.new)) }
     ensures answers { Answers (job (map string_bytes words.now)) (files_seen (F.told files.old) (F.lacks files.old) (F.faults files.old) (F.steady files.old)) (files_seen (F.told files.new) (F.lacks files.new) (F.faults files.new) (F.steady files.new)) result }
     ensures reads { ReadForJob F.reads (job (map string_bytes words.now)) files.old files.new }
 {
-    let Some(job) = job_of(words) else {
-        return Answer::BadWords;
-    };
-    match load(alloc, files, job.file()) {
-        Ok(bytes) => answer_text(alloc, job, &bytes),
+    match job_of(alloc, words) {
+        Ok(job) => {
+            let answer = answer_job(alloc, &job, files);
+            drop(job);
+            answer
+        }
+        Err(WordFault::Refused) => Answer::BadWords,
+        Err(WordFault::NoMemory) => Answer::NoMemory,
+    }
+}
+
+/// The answer to a job.
+fn answer_job<F: Files>(alloc: Global, job: &Job, files: &mut F) -> Answer
+    requires { IsWithinLimits (job_of job.now) }
+    ensures kept { FilesKept (files_seen (F.told files.old) (F.lacks files.old) (F.faults files.old) (F.steady files.old)) (files_seen (F.told files.new) (F.lacks files.new) (F.faults files.new) (F.steady files.new)) }
+    ensures answers { AnswersJob (job_of job.now) (files_seen (F.told files.old) (F.lacks files.old) (F.faults files.old) (F.steady files.old)) (files_seen (F.told files.new) (F.lacks files.new) (F.faults files.new) (F.steady files.new)) result }
+    ensures reads { ReadForJob F.reads (Some (job_of job.now)) files.old files.new }
+{
+    match job {
+        Job::Run {
+            file,
+            workers,
+            budget,
+            schedule,
+            tally,
+        } => answer_task(
+            alloc,
+            files,
+            file.as_str(),
+            Task::Run {
+                workers: *workers,
+                budget: *budget,
+                schedule: *schedule,
+                tally: *tally,
+            },
+        ),
+        Job::Check { file, term } => answer_task(
+            alloc,
+            files,
+            file.as_str(),
+            Task::Check { term: *term },
+        ),
+        Job::ShowNet { file } => answer_task(alloc, files, file.as_str(), Task::ShowNet),
+        Job::Replay { file, schedule } => answer_replay(
+            alloc,
+            files,
+            file.as_str(),
+            schedule.as_str(),
+        ),
+        Job::Demo { n, workers } => answer_demo(alloc, *n, *workers),
+    }
+}
+
+/// The answer to a task on the program of a file.
+fn answer_task<F: Files>(alloc: Global, files: &mut F, file: &str, task: Task) -> Answer
+    requires { IsWithin task }
+    ensures kept { FilesKept (files_seen (F.told files.old) (F.lacks files.old) (F.faults files.old) (F.steady files.old)) (files_seen (F.told files.new) (F.lacks files.new) (F.faults files.new) (F.steady files.new)) }
+    ensures answers { AnswersTask task file.now (files_seen (F.told files.old) (F.lacks files.old) (F.faults files.old) (F.steady files.old)) (files_seen (F.told files.new) (F.lacks files.new) (F.faults files.new) (F.steady files.new)) result }
+    ensures reads { LoadedBy F.reads file.now most_program_bytes files.old files.new }
+{
+    match load(alloc, files, file, PROGRAM_BYTES as u32) {
+        Ok(bytes) => answer_text(alloc, &bytes, task),
         Err(error) => not_loaded(error),
     }
 }
 
-/// The answer where the file wasn't loaded.
+/// The answer where a file wasn't loaded.
 fn not_loaded(error: LoadError) -> Answer
     ensures failed { error ≡ LoadError.Failed → result ≡ Answer.NotRead }
     ensures memory { error ≡ LoadError.Memory → result ≡ Answer.NoMemory }
@@ -55,17 +130,103 @@ fn not_loaded(error: LoadError) -> Answer
     }
 }
 
-/// The answer to a job on a text.
-fn answer_text(alloc: Global, job: Job<'_>, bytes: &[u8]) -> Answer
-    requires budget { Budgeted (seen_job job) }
-    ensures { AnswersText (seen_job job.entry) bytes.now result }
+/// The answer where there is no report.
+fn stopped(alloc: Global, stop: Stop) -> Answer
+    ensures { IsStopped stop result }
 {
-    match report_on(alloc, job, bytes) {
-        Ok(report) => Answer::Prints(report),
-        Err(Stop::Fault(fault)) => match fault_line(alloc, fault) {
-            Ok(line) => Answer::Refused(line),
+    match stop {
+        Stop::Fault(fault) => match refuse(alloc, fault) {
+            Ok(refusal) => Answer::Refused(refusal),
             Err(_) => Answer::NoMemory,
         },
-        Err(Stop::Memory) => Answer::NoMemory,
+        Stop::Memory => Answer::NoMemory,
+    }
+}
+
+/// The answer to a task on a text.
+fn answer_text(alloc: Global, bytes: &[u8], task: Task) -> Answer
+    requires { IsWithin task }
+    ensures { Says (ReportsText task bytes.now) (FaultyText (wants_number task) bytes.now) result }
+{
+    match report_text(alloc, bytes, task) {
+        Ok(report) => Answer::Prints(report),
+        Err(stop) => stopped(alloc, stop),
+    }
+}
+
+/// The answer to a schedule on the net of a program.
+fn answer_replay<F: Files>(alloc: Global, files: &mut F, file: &str, schedule: &str) -> Answer
+    ensures kept { FilesKept (files_seen (F.told files.old) (F.lacks files.old) (F.faults files.old) (F.steady files.old)) (files_seen (F.told files.new) (F.lacks files.new) (F.faults files.new) (F.steady files.new)) }
+    ensures answers { AnswersJob (replay file.now schedule.now) (files_seen (F.told files.old) (F.lacks files.old) (F.faults files.old) (F.steady files.old)) (files_seen (F.told files.new) (F.lacks files.new) (F.faults files.new) (F.steady files.new)) result }
+    ensures reads { LoadedBoth F.reads file.now schedule.now files.old files.new }
+{
+    law_never_stuck();
+    match load_net(alloc, files, file) {
+        Ok(net) => {
+            let answer = answer_schedule(alloc, files, schedule, &net);
+            drop(net);
+            answer
+        }
+        Err(answer) => answer,
+    }
+}
+
+/// The net of the program of a file, or the answer where there is none.
+fn load_net<F: Files>(alloc: Global, files: &mut F, file: &str) -> Result<Net, Answer>
+    ensures kept { FilesKept (files_seen (F.told files.old) (F.lacks files.old) (F.faults files.old) (F.steady files.old)) (files_seen (F.told files.new) (F.lacks files.new) (F.faults files.new) (F.steady files.new)) }
+    ensures net { IfOk result (λ net. MadeNet file.now (files_seen (F.told files.old) (F.lacks files.old) (F.faults files.old) (F.steady files.old)) (files_seen (F.told files.new) (F.lacks files.new) (F.faults files.new) (F.steady files.new)) net) }
+    ensures none { IfErr result (λ a. AnswersNoNet file.now (files_seen (F.told files.old) (F.lacks files.old) (F.faults files.old) (F.steady files.old)) (files_seen (F.told files.new) (F.lacks files.new) (F.faults files.new) (F.steady files.new)) a) }
+    ensures reads { LoadedBy F.reads file.now most_program_bytes files.old files.new }
+{
+    match load(alloc, files, file, PROGRAM_BYTES as u32) {
+        Ok(bytes) => make_net(alloc, &bytes),
+        Err(error) => Err(not_loaded(error)),
+    }
+}
+
+/// The net of the program of a text, or the answer where there is none.
+fn make_net(alloc: Global, bytes: &[u8]) -> Result<Net, Answer>
+    ensures net { IfOk result (λ net. IsNet bytes.now net) }
+    ensures none { IfErr result (λ a. Says (λ status report. ⊥) (FaultyText true bytes.now) a) }
+{
+    match net_of_text(alloc, bytes) {
+        Ok(net) => Ok(net),
+        Err(stop) => Err(stopped(alloc, stop)),
+    }
+}
+
+/// The answer to the schedule of a file, on the net of a program.
+fn answer_schedule<F: Files>(alloc: Global, files: &mut F, file: &str, net: &Net) -> Answer
+    requires { Runs net.now }
+    ensures kept { FilesKept (files_seen (F.told files.old) (F.lacks files.old) (F.faults files.old) (F.steady files.old)) (files_seen (F.told files.new) (F.lacks files.new) (F.faults files.new) (F.steady files.new)) }
+    ensures answers { (t : TermTree) → HasType [] t nat → net.now ≡ net_of t → AnswersSchedule t file.now (files_seen (F.told files.old) (F.lacks files.old) (F.faults files.old) (F.steady files.old)) (files_seen (F.told files.new) (F.lacks files.new) (F.faults files.new) (F.steady files.new)) result }
+    ensures reads { LoadedBy F.reads file.now most_schedule_bytes files.old files.new }
+{
+    match load(alloc, files, file, SCHEDULE_BYTES as u32) {
+        Ok(bytes) => answer_moves(alloc, &bytes, net),
+        Err(error) => not_loaded(error),
+    }
+}
+
+/// The answer to the text of a schedule, on the net of a program.
+fn answer_moves(alloc: Global, bytes: &[u8], net: &Net) -> Answer
+    requires { Runs net.now }
+    ensures { (t : TermTree) → HasType [] t nat → net.now ≡ net_of t → Says (ReportsReplay t bytes.now) (FaultySchedule t bytes.now) result }
+{
+    match report_replay(alloc, net, bytes) {
+        Ok(report) => Answer::Prints(report),
+        Err(stop) => stopped(alloc, stop),
+    }
+}
+
+/// The answer with the run of the generated program of a number.
+fn answer_demo(alloc: Global, n: u32, workers: u32) -> Answer
+    requires n { IsDemo n }
+    requires workers { IsWorkers workers }
+    ensures { Says (ReportsDemo n workers) (λ f. ⊥) result }
+{
+    match report_demo(alloc, n, workers) {
+        Ok(report) => Answer::Prints(report),
+        Err(_) => Answer::NoMemory,
     }
 }

@@ -7,7 +7,7 @@ use crate::answer::Answer;
 use crate::report::Report;
 use goi_world::{Failed, Sink};
 
-/// Writes a text whole, or a front of it before a failure.
+/// Writes a text whole, or a prefix of it before a failure.
 pub(crate) fn write_all<S: Sink>(out: &mut S, text: &[u8]) -> Result<(), Failed>
     ensures { MatchResult result
         (λ _. Wrote text.now (sink (S.written out.old) (S.faults out.old) (S.spare out.old)) (sink (S.written out.new) (S.faults out.new) (S.spare out.new)))
@@ -29,7 +29,7 @@ pub(crate) fn deliver<O: Sink, E: Sink>(answer: &Answer, out: &mut O, err: &mut 
 {
     match answer {
         Answer::Prints(report) => print(out, err, report),
-        Answer::Refused(line) => refuse(err, 1, line),
+        Answer::Refused(refusal) => refuse(err, refusal.status, &refusal.line),
         Answer::BadWords => refuse(err, 2, b"refused words\n"),
         Answer::NotRead => refuse(err, 3, b"read failed\n"),
         Answer::NoMemory => refuse(err, 6, b"no memory\n"),

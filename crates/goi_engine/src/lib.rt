@@ -1,18 +1,24 @@
 //! The top call: what the program does, over files and sinks that are handed in.
 //!
-//! `goi` reads the words, loads the program's file, makes the whole answer as a value and writes it out; its contract says, from the
-//! bytes of the file to the bytes of the answer, what each status means and why it comes. The statements stand in
+//! `goi` reads the words, loads the files that they name, makes the whole answer as a value and writes it out; its contract says, from
+//! the bytes of the files to the bytes of the answer, what each status means and why it comes. The statements stand in
 //! `specs/Promise.antt`. Which device the files and sinks are is left to the caller.
 #![tactic(auto)]
 
 mod answer;
 mod deliver;
+mod demo;
 mod fault;
-mod job;
 mod judge;
 mod listing;
 mod load;
+mod program;
+mod refusal;
+mod replaying;
 mod report;
+mod running;
+mod stop;
+mod task;
 mod top;
 
 pub use listing::net_text;

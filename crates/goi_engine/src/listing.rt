@@ -7,7 +7,6 @@ ghost use Rattle.net_build.specs.Views.{wire_of};
 ghost use Rattle.pcf_reader.specs.Printed.{ty_text};
 ghost use Rattle.goi_engine.specs.Listing.{kind_text, wire_line, numbers_text, name_text, numbers_of, node_line, lines_of, listing};
 
-use crate::report::push_line;
 use itoa::Buffer;
 use net_build::{Net, Node, Wire, WireKind};
 use pcf_reader::print_ty;
@@ -162,5 +161,15 @@ fn push_number(text: &mut Vec<u8>, word: &[u8], n: u64) -> Result<(), AllocError
     let mut buffer = Buffer::new();
     text.extend_from_slice(word)?;
     text.extend_from_slice(buffer.format(n).as_bytes())?;
+    Ok(())
+}
+
+/// Appends a word, a text and a line feed.
+fn push_line(text: &mut Vec<u8>, word: &[u8], line: &[u8]) -> Result<(), AllocError>
+    ensures { OnOk result (text.new.items ≡ text.old.items ++ (word.now ++ (line.now ++ codes "\n"))) }
+{
+    text.extend_from_slice(word)?;
+    text.extend_from_slice(line)?;
+    text.extend_from_slice(b"\n")?;
     Ok(())
 }

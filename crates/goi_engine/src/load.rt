@@ -1,24 +1,17 @@
-//! Reading a program's file, piece by piece, up to one byte more than its limit.
+//! Reading a file, piece by piece, up to one byte more than its limit.
 
 ghost use Rattle.std.specs.Prelude.{◌≡◌, ◌⊎◌, ◌<◌, ◌≤◌, ◌+◌, ℕ, IsTrue, length, take, IsErr, OnOk, IfOk, IfSome, IsErrOf};
 ghost use Rattle.goi_world.specs.Outside.{Rose, reading};
-ghost use Rattle.pcf_values.specs.Most.{most_program_bytes};
+ghost use Rattle.pcf_values.specs.Most.{most_schedule_bytes};
 ghost use Rattle.goi_engine.specs.FilesSeen.{LoadedBy};
 ghost use Rattle.goi_engine.specs.Loads.{Loads};
 ghost use Rattle.goi_engine.specs.declared.load.LoadError.TheVariants.{Memory};
 
 use goi_world::Files;
-use pcf_values::limits::PROGRAM_BYTES;
 use std::alloc::{AllocError, Global};
-
-/// One byte more than a program's file may have, which is enough to see that it is too long.
-const MOST_BYTES: usize = PROGRAM_BYTES as usize + 1;
 
 /// How many bytes are asked for in one turn.
 const PIECE_BYTES: usize = 65_536;
-
-/// The most turns: each but the last takes a byte, and the last may find the end.
-const MOST_TURNS: u32 = MOST_BYTES as u32;
 
 /// Why a file wasn't loaded.
 #[derive(Clone, Copy)]
@@ -35,28 +28,37 @@ impl From<AllocError> for LoadError {
     }
 }
 
-/// The bytes of a file, or as many as show that it is too long.
-pub(crate) fn load<F: Files>(alloc: Global, files: &mut F, name: &str) -> Result<Vec<u8>, LoadError>
+/// The bytes of a file, or as many as show that it has more than so many.
+///
+/// Each turn but the last takes a byte, and the last may find the end.
+pub(crate) fn load<F: Files>(
+    alloc: Global,
+    files: &mut F,
+    name: &str,
+    limit: u32,
+) -> Result<Vec<u8>, LoadError>
+    requires { limit ≤ most_schedule_bytes }
     ensures told { F.told files.new ≡ F.told files.old }
     ensures lacks { F.lacks files.new ≡ F.lacks files.old }
     ensures steady { F.steady files.new ≡ F.steady files.old }
     ensures quiet { IsTrue (F.steady files.old) → F.faults files.new ≡ F.faults files.old }
-    ensures bytes { IfOk result (λ v. IfSome (F.told files.old name.now) (λ bytes. v.items ≡ take (most_program_bytes + 1) bytes)) }
-    ensures no_further { IfOk result (λ v. length v.items ≤ most_program_bytes + 1) }
-    ensures reads { LoadedBy F.reads name.now most_program_bytes files.old files.new }
+    ensures bytes { IfOk result (λ v. IfSome (F.told files.old name.now) (λ bytes. v.items ≡ take (limit + 1) bytes)) }
+    ensures no_further { IfOk result (λ v. length v.items ≤ limit + 1) }
+    ensures reads { LoadedBy F.reads name.now limit files.old files.new }
     ensures lacked { IsTrue (F.lacks files.old name.now) → IsErr result }
     ensures ok { OnOk result (F.faults files.new ≡ F.faults files.old) }
     ensures memory { IsErrOf result LoadError.Memory → F.faults files.new ≡ F.faults files.old }
     ensures failed { IsErrOf result LoadError.Failed → IsTrue (F.lacks files.old name.now) ⊎ Rose (F.faults files.old) (F.faults files.new) }
     ensures sure { IsTrue (F.steady files.old) → IsErrOf result LoadError.Failed → IsTrue (F.lacks files.old name.now) }
 {
+    let enough = limit + 1;
     let mut piece = zeros(alloc, PIECE_BYTES)?;
     let buffer: &mut [u8] = &mut piece;
     let mut bytes = Vec::new(alloc);
-    for turn in 0..MOST_TURNS {
-        let most = PIECE_BYTES.min(MOST_BYTES - bytes.len());
-        let count = load_piece(files, name, &mut buffer[..most], &mut bytes)?;
-        if count == 0 || bytes.len() == MOST_BYTES {
+    for turn in 0..enough {
+        let most = PIECE_BYTES.min(enough as usize - bytes.len());
+        let count = load_piece(files, name, limit, &mut buffer[..most], &mut bytes)?;
+        if count == 0 || bytes.len() == enough as usize {
             return Ok(bytes);
         }
     }
@@ -75,23 +77,25 @@ fn zeros(alloc: Global, count: usize) -> Result<Vec<u8>, AllocError>
 fn load_piece<F: Files>(
     files: &mut F,
     name: &str,
+    limit: u32,
     piece: &mut [u8],
     bytes: &mut Vec<u8>,
 ) -> Result<usize, LoadError>
     requires some { 0 < length piece.old }
-    requires room { length bytes.old.items + length piece.old ≤ most_program_bytes + 1 }
+    requires room { length bytes.old.items + length piece.old ≤ limit + 1 }
     ensures told { F.told files.new ≡ F.told files.old }
     ensures lacks { F.lacks files.new ≡ F.lacks files.old }
     ensures steady { F.steady files.new ≡ F.steady files.old }
     ensures quiet { IsTrue (F.steady files.old) → F.faults files.new ≡ F.faults files.old }
-    ensures reads { (room : ℕ) × (length bytes.old.items + room ≤ most_program_bytes + 1) × F.reads files.old (reading name.now (length bytes.old.items) room) files.new }
-    ensures loads { IfOk result (λ n. Loads (F.told files.old name.now) bytes.old.items bytes.new.items n) }
+    ensures reads { (room : ℕ) × (length bytes.old.items + room ≤ limit + 1) × F.reads files.old (reading name.now (length bytes.old.items) room) files.new }
+    ensures loads { IfOk result (λ n. Loads limit (F.told files.old name.now) bytes.old.items bytes.new.items n) }
     ensures lacked { IsTrue (F.lacks files.old name.now) → IsErr result }
     ensures ok { OnOk result (F.faults files.new ≡ F.faults files.old) }
     ensures memory { IsErrOf result LoadError.Memory → F.faults files.new ≡ F.faults files.old }
     ensures failed { IsErrOf result LoadError.Failed → IsTrue (F.lacks files.old name.now) ⊎ Rose (F.faults files.old) (F.faults files.new) }
     ensures sure { IsTrue (F.steady files.old) → IsErrOf result LoadError.Failed → IsTrue (F.lacks files.old name.now) }
 {
+    let _ = limit;
     match files.read(name, bytes.len() as u64, piece) {
         Ok(count) => {
             bytes.extend_from_slice(&piece[..count])?;

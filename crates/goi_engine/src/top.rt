@@ -2,7 +2,7 @@
 
 ghost use Rattle.std.specs.Prelude.{map, string_bytes};
 ghost use Rattle.goi_engine.specs.Delivers.{sink};
-ghost use Rattle.goi_engine.specs.Jobs.{job};
+ghost use Rattle.goi_words.specs.Asked.{job};
 ghost use Rattle.goi_engine.specs.FilesSeen.{files_seen};
 ghost use Rattle.goi_engine.specs.Promise.{world, Promise};
 ghost use Rattle.goi_engine.specs.Verdicts.{ReadForJob};
@@ -10,6 +10,9 @@ ghost use Rattle.goi_engine.specs.Verdicts.{ReadForJob};
 use crate::answer::answer_to;
 use crate::deliver::deliver;
 use goi_world::{Files, Sink};
+use pcf_reader::{law_one_fault, law_one_tree, law_text_or_fault};
+use replay_check::law_one_replay;
+use schedule_log::law_one_answer;
 use std::alloc::Global;
 
 /// Does what the words ask for, and gives the status.
@@ -20,10 +23,11 @@ use std::alloc::Global;
 /// - 0: all is done, and the report stands in `out`;
 /// - 1: the program has a fault, which the line tells;
 /// - 2: the words ask for nothing;
-/// - 3: the program's file could not be read;
+/// - 3: a file could not be read;
 /// - 4: `out` or `err` failed;
-/// - 5: the program came to no value within the budget of moves, which the report says;
-/// - 6: there was no memory.
+/// - 5: the program came to no value within the budget of moves, or the schedule to none, which the report says;
+/// - 6: there was no memory;
+/// - 7: the schedule has a fault, which the line tells.
 pub fn goi<F: Files, O: Sink, E: Sink>(
     alloc: Global,
     words: &[String],
@@ -39,6 +43,11 @@ pub fn goi<F: Files, O: Sink, E: Sink>(
     // The files are read for the job alone, and not too often.
     ensures reads { ReadForJob F.reads (job (map string_bytes words.now)) files.old files.new }
 {
+    law_one_tree();
+    law_one_fault();
+    law_text_or_fault();
+    law_one_answer();
+    law_one_replay();
     let answer = answer_to(alloc, words, files);
     deliver(&answer, out, err)
 }

@@ -1,0 +1,30 @@
+-- A run of a net by so many workers within a budget of moves: what it answered, and the log of its moves.
+-- A log says which token moved and which worker booked it, move by move. Nothing is said of the order in which several workers move, but
+-- that each move is one of a live token; so what a run comes to doesn't depend on it. Of one worker alone the order is known.
+use Rattle.std.specs.Prelude.{◌≡◌, ℕ, List, Option}
+use Rattle.pcf_values.specs.declared.val.Val.{Val}
+use Rattle.net_build.specs.Nets.{NetTree}
+use Rattle.interleave_core.specs.Runs.{Finished}
+use Rattle.interleave_core.specs.OneWorker.{one}
+use Rattle.interleave_core.specs.Maps.{MapState, LeadsToMap}
+use Rattle.schedule_log.specs.declared.entry.Entry.{Entry}
+use Rattle.schedule_log.specs.Logs.{tickets_in_log}
+use Rattle.token_pool.specs.Pools.{IsMadeBy}
+use Rattle.token_pool.specs.Ending.{by}
+
+-- The log is a run of the net by so many workers within a budget of moves, and this is its answer, or none.
+pub record IsRun (net : NetTree) (workers budget : ℕ) (answer : Option Val) (log : List Entry) : Type 0 where
+  -- its moves lead from the net's start to a state with that answer
+  pub state : MapState
+  pub led : LeadsToMap net (tickets_in_log log) state
+  pub answers : answer ≡ state.answered
+  -- it has at most as many moves as the budget allows, and as many where there is no answer
+  pub finished : Finished answer (tickets_in_log log) budget
+  -- each move was booked by one of the workers, or by the finisher
+  pub booked : IsMadeBy workers log
+  -- one worker moves the least live token at each turn
+  pub alone : workers ≡ 1 → tickets_in_log log ≡ one net budget
+
+-- the log has the one worker's moves, each under the number of the first worker
+abbrev pub IsFirstWorkers : NetTree → ℕ → List Entry → Type 0
+IsFirstWorkers net budget log = log ≡ by 0 (one net budget)

@@ -1,0 +1,41 @@
+//! The run of one worker.
+ghost use Rattle.std.specs.Prelude.{◌≡◌, ◌≤◌, ◌<◌, ◌^◌, IfOk, length};
+ghost use Rattle.pcf_values.specs.Most.{most_budget};
+ghost use Rattle.interleave_core.specs.Runs.{Runs};
+ghost use Rattle.token_pool.specs.Ending.{by};
+ghost use Rattle.net_runs.specs.Running.{IsRun, IsFirstWorkers};
+
+use interleave_core::{law_maps, law_one_worker, run_one};
+use net_build::Net;
+use schedule_log::Log;
+use std::alloc::{AllocError, Global};
+use token_pool::Ended;
+
+/// The run of one worker, which moves the least live token at each turn, in place. All moves are of worker 0.
+pub(crate) fn run_alone(alloc: Global, net: &Net, budget: u32) -> Result<Ended, AllocError>
+    requires runs { Runs net.now }
+    requires budget { (1 ≤ budget) × (budget ≤ most_budget) }
+    ensures run { IfOk result (λ e. IsRun net.now 1 budget e.answer e.log.entries) }
+    ensures first { IfOk result (λ e. IsFirstWorkers net.now budget e.log.entries) }
+{
+    law_one_worker();
+    law_maps();
+    let ran = run_one(alloc, net, budget)?;
+    let log = log_of(alloc, &ran.tickets)?;
+    Ok(Ended {
+        answer: ran.answer,
+        log,
+    })
+}
+
+// The log of these tickets, all moved by worker 0.
+fn log_of(alloc: Global, tickets: &[u32]) -> Result<Log, AllocError>
+    requires { length tickets.now < 2 ^ 32 }
+    ensures { IfOk result (λ log. log.entries ≡ by 0 tickets.now) }
+{
+    let mut log = Log::with_room(alloc, tickets.len() as u32)?;
+    for ticket in tickets {
+        log.push(*ticket, 0);
+    }
+    Ok(log)
+}

@@ -1,0 +1,62 @@
+//! The run of a net by so many workers.
+ghost use Rattle.std.specs.Prelude.{◌≡◌, ◌≤◌, IfOk};
+ghost use Rattle.pcf_values.specs.Most.{most_budget, most_workers};
+ghost use Rattle.interleave_core.specs.Runs.{Runs};
+ghost use Rattle.token_pool.specs.Pools.{InLimits};
+ghost use Rattle.net_runs.specs.Running.{IsRun, IsFirstWorkers};
+
+use crate::alone::run_alone;
+use gate_workers::{Gate, drive};
+use net_build::Net;
+use std::alloc::{AllocError, Global};
+use std::sync::Wait;
+use std::thread::Threads;
+use token_pool::{Ended, PoolState};
+
+/// The run of a net by so many workers within a budget of moves: its answer, if it came to one, and its log.
+///
+/// One worker walks in place, with no lock, no thread and no gate, and its log names worker 0. Several share a pool, in threads of their
+/// own as far as threads can be had, and each passes the gate before each of its pieces; what they leave is finished behind them, under
+/// the number of workers. Memory for the whole log is taken at once then.
+///
+/// # Errors
+///
+/// Want of memory.
+pub fn run_net<R: Threads + Wait + Sync, G: Gate>(
+    rt: &R,
+    alloc: Global,
+    net: &Net,
+    budget: u32,
+    workers: u32,
+    gate: &G,
+) -> Result<Ended, AllocError>
+    requires runs { Runs net.now }
+    requires budget { (1 ≤ budget) × (budget ≤ most_budget) }
+    requires workers { (1 ≤ workers) × (workers ≤ most_workers) }
+    ensures run { IfOk result (λ e. IsRun net.now workers budget e.answer e.log.entries) }
+    ensures alone { IfOk result (λ e. workers ≡ 1 → IsFirstWorkers net.now budget e.log.entries) }
+{
+    if workers == 1 {
+        run_alone(alloc, net, budget)
+    } else {
+        run_together(rt, alloc, net, budget, workers, gate)
+    }
+}
+
+// The run of several workers, who share a pool until it ends for each of them.
+fn run_together<R: Threads + Wait + Sync, G: Gate>(
+    rt: &R,
+    alloc: Global,
+    net: &Net,
+    budget: u32,
+    workers: u32,
+    gate: &G,
+) -> Result<Ended, AllocError>
+    requires runs { Runs net.now }
+    requires limits { InLimits budget workers }
+    ensures { IfOk result (λ e. IsRun net.now workers budget e.answer e.log.entries) }
+{
+    let pool = PoolState::start(alloc, net, budget, workers)?;
+    let pool = drive(rt, alloc, pool, net, workers, gate);
+    Ok(pool.finish(alloc, net, budget, workers)?)
+}

@@ -1,0 +1,7 @@
+mod Holding
+mod Starting
+mod Taking
+mod Moving
+mod Free
+mod Standing
+pub mod Finishing

@@ -1,0 +1,153 @@
+-- What booked moves leave.
+use Rattle.std.proofs.Common.{◌≡◌, ◌<◌, ◌≤◌, ℕ, zero, suc, List, [], ◌∷◌, ◌++◌, length, set, replicate, Option, Some, None, refl, sym, ap, ◌∙◌, subst, ⊎_elim, append_assoc, append-nil, length-append, length-set, arith}
+use Rattle.std.specs.Option.{IsSome}
+use Rattle.std.specs.FinMap.{get}
+use Rattle.std.proofs.lemmas.List.{length-replicate}
+use Rattle.std.proofs.lemmas.List.Elements.{All-append, All-replicate}
+use Rattle.std.proofs.lemmas.Option.{slice_get_within}
+use Rattle.net_build.specs.Nets.{NetTree}
+use Rattle.move_rules.specs.Places.{TokenTree}
+use Rattle.interleave_core.specs.Start.{start_of}
+use Rattle.interleave_core.specs.Runs.{Runs}
+use Rattle.interleave_core.specs.OneWorker.{one, IsOneWorkers, Least}
+use Rattle.interleave_core.specs.Maps.{MapState, start_map, step_map, step_map_on, run_map, then_run_map, LeadsToMap, seen, option_seen}
+use Rattle.interleave_core.specs.Tickets.{IsLive}
+use Rattle.interleave_core.proofs.Seen.{step_seen}
+use Rattle.interleave_core.proofs.MapLaws.{seen_leads, map_others, run_both}
+use Rattle.interleave_core.proofs.OneWorker.{one_next}
+use Rattle.interleave_core.proofs.Stays.{least_stays}
+use Rattle.interleave_core.proofs.AloneRuns.{least_seen}
+use Rattle.schedule_log.specs.declared.entry.Entry.{Entry}
+use Rattle.schedule_log.specs.Logs.{tickets_in_log}
+use Rattle.token_pool.specs.declared.entries.Held.{Held}
+use Rattle.token_pool.specs.Pools.{Pool, Holds, Good}
+use Rattle.token_pool.specs.Booking.{moves_of, Books, halted}
+use Rattle.token_pool.proofs.Holding.{held_after_set, sum_after_set}
+
+-- what so many steps of a ticket leave
+record Many (net : NetTree) (log : List ℕ) (S : MapState) (i n : ℕ) (T : MapState) : Type 0 where
+  pub leads : LeadsToMap net (log ++ replicate n i) T
+  pub stays : (j : ℕ) (x : TokenTree) → get S.tokens j ≡ Some x → (j ≡ i → ⊥) → get T.tokens j ≡ Some x
+  pub ours : IsOneWorkers net log → (1 ≤ n → Least (seen S) i) → IsOneWorkers net (log ++ replicate n i)
+
+-- a ticket that makes a step is live
+steps_live : (net : NetTree) (S T : MapState) (i n : ℕ) → 1 ≤ n → run_map net S (replicate n i) ≡ Some T → (y : TokenTree) × (get S.tokens i ≡ Some y)
+steps_live net S T i zero l h = absurd (omega arith)
+steps_live net S T i (suc n) l h = go (get S.tokens i) refl
+  where
+    go : (o : Option TokenTree) → get S.tokens i ≡ o → (y : TokenTree) × (get S.tokens i ≡ Some y)
+    go (Some y) e = (y, e)
+    go None e =
+        let none : run_map net S (i ∷ replicate n i) ≡ None = ap (λ o. then_run_map (step_map_on net o S i) (λ S. run_map net S (replicate n i))) e in
+        absurd cc
+
+module _ (net : NetTree) (runs : Runs net) where
+  many : (n i : ℕ) (log : List ℕ) (S T : MapState) → LeadsToMap net log S → run_map net S (replicate n i) ≡ Some T → Many net log S i n T
+  many zero i log S T l h =
+      let e : S ≡ T = cc in
+      record {
+        leads = subst (λ k. LeadsToMap net k T) (sym (append-nil log)) (subst (LeadsToMap net log) e l);
+        stays = λ j x at d. ap (λ (S : MapState). get S.tokens j) (sym e) ∙ at;
+        ours = λ its least. subst (IsOneWorkers net) (sym (append-nil log)) its;
+      }
+  many (suc n) i log S T l h = go (many n i (log ++ i ∷ [])) (step_map net S i) refl h
+    where
+      longer : length (log ++ i ∷ []) ≡ suc (length log)
+      longer = let k = length-append log (i ∷ []) in omega (arith, k)
+
+      together : (log ++ i ∷ []) ++ replicate n i ≡ log ++ replicate (suc n) i
+      together = append_assoc log (i ∷ []) (replicate n i)
+
+      go : ((S T : MapState) → LeadsToMap net (log ++ i ∷ []) S → run_map net S (replicate n i) ≡ Some T → Many net (log ++ i ∷ []) S i n T)
+          → (o : Option MapState) → step_map net S i ≡ o → then_run_map o (λ S. run_map net S (replicate n i)) ≡ Some T → Many net log S i (suc n) T
+      go ih None e h = absurd cc
+      go ih (Some U) e h =
+          let next = run_both net log (i ∷ []) (start_map (start_of net)) S U l (ap (λ o. then_run_map o (λ S. Some S)) e) in
+          let rest = ih U T next h in
+          let led = seen_leads net log S l in
+          let stepped = sym (step_seen net S i) ∙ ap option_seen e in
+          record {
+            leads = subst (λ k. LeadsToMap net k T) together rest.leads;
+            stays = λ j x at d.
+                rest.stays j x (map_others net runs.sound log S l U i j x e d at) d;
+            ours = λ its least.
+                subst (IsOneWorkers net) together (rest.ours (ap (one net) longer ∙ one_next net runs log (seen S) led i its (least (omega arith)))
+                (λ k. let (y, at) = steps_live net U T i n k h in least_stays net runs log (seen S) led (seen U) i y (least (omega arith)) stepped at));
+          }
+
+-- the tickets of one log behind another
+pub tickets_both : (log more : List Entry) → tickets_in_log (log ++ more) ≡ tickets_in_log log ++ tickets_in_log more
+tickets_both [] more = refl
+tickets_both (e ∷ log) more = ap (λ l. e.ticket ∷ l) (tickets_both log more)
+
+-- as many tickets as moves
+pub tickets_length : (log : List Entry) → length (tickets_in_log log) ≡ length log
+tickets_length [] = refl
+tickets_length (e ∷ log) = ap suc (tickets_length log)
+
+tickets_of : (n i w : ℕ) → tickets_in_log (moves_of n i w) ≡ replicate n i
+tickets_of zero i w = refl
+tickets_of (suc n) i w = ap (λ l. i ∷ l) (tickets_of n i w)
+
+module _ (p : Pool) (good : Good p) (w : ℕ) (h : Held) (at : Holds p.held w h) (l : w < p.workers) (n : ℕ) (some : 1 ≤ n) (few : n ≤ h.allowance) (T : MapState) (steps : run_map p.net p.state (replicate n h.ticket) ≡ Some T) where
+  names : tickets_in_log p.log ++ replicate n h.ticket ≡ tickets_in_log (p.log ++ moves_of n h.ticket w)
+  names = ap (λ l. tickets_in_log p.log ++ l) (sym (tickets_of n h.ticket w)) ∙ sym (tickets_both p.log (moves_of n h.ticket w))
+
+  made : Many p.net (tickets_in_log p.log) p.state h.ticket n T
+  made = many p.net good.runs n h.ticket (tickets_in_log p.log) p.state T good.leads steps
+
+  -- what is held afterwards was held by another before
+  other_held : (v : ℕ) (g : Held) → Holds (set p.held w None) v g → (v ≡ w → ⊥) × Holds p.held v g
+  other_held v g a = ⊎_elim (λ q. absurd cc) (λ q. q) (held_after_set p.held w v None g a)
+
+  stay_live : (v : ℕ) (g : Held) → (v ≡ w → ⊥) × Holds p.held v g → IsLive T g.ticket
+  stay_live v g (d, a) = go (get p.state.tokens g.ticket) refl (good.live v g a)
+    where
+      go : (o : Option TokenTree) → get p.state.tokens g.ticket ≡ o → IsSome o → IsLive T g.ticket
+      go None e s = absurd cc
+      go (Some x) e s = subst IsSome (sym (made.stays g.ticket x e (λ q. d (good.apart v w g h a at q)))) refl
+
+  books_good : Good (record p { state = T; log = p.log ++ moves_of n h.ticket w; held = set p.held w None })
+  books_good = record {
+    runs = good.runs;
+    limits = good.limits;
+    places = length-set p.held w None ∙ good.places;
+    leads = subst (λ k. LeadsToMap p.net k T) names made.leads;
+    live = λ v g a. stay_live v g (other_held v g a);
+    apart = λ v u g k a b e. good.apart v u g k (other_held v g a).1 (other_held u k b).1 e;
+    allowed = λ v g a. good.allowed v g (other_held v g a).1;
+    within =
+        let s = sum_after_set p.held w (Some h) None at in
+        let m = length-append p.log (moves_of n h.ticket w) in
+        let k : length (moves_of n h.ticket w) ≡ n = length-replicate n _ in
+        let i = good.within in
+        omega (arith, s, m, k, i, few);
+    makers = All-append (λ e. e.worker ≤ p.workers) p.log (moves_of n h.ticket w) good.makers (All-replicate (λ (e : Entry). e.worker ≤ p.workers) n _ (omega arith));
+    alone = λ single. record {
+      ours = subst (IsOneWorkers p.net) names (made.ours (good.alone single).ours (λ _. least_seen p.state h.ticket ((good.alone single).least w h at)));
+      least = λ v g a. absurd (alone_holds single v g (other_held v g a));
+    };
+  }
+    where
+      place : (v : ℕ) (g : Held) → Holds p.held v g → v < length p.held
+      place v g a = slice_get_within p.held v (Some g) a
+
+      alone_holds : p.workers ≡ 1 → (v : ℕ) (g : Held) → (v ≡ w → ⊥) × Holds p.held v g → ⊥
+      alone_holds single v g (d, a) = let b = place v g a in let c = good.places in d (omega (arith, b, c, single, l))
+
+pub book_keeps : (p q : Pool) (w : ℕ) (h : Held) (n : ℕ) → Good p → Holds p.held w h → w < p.workers → 1 ≤ n → n ≤ h.allowance → Books p q w h n → Good q
+book_keeps p q w h n good at l some few b = subst Good (sym b.rest) (books_good p good w h at l n some few q.state b.steps)
+
+pub stop_keeps : (p : Pool) → Good p → Good (halted p)
+stop_keeps p good = record {
+  runs = good.runs;
+  limits = good.limits;
+  places = good.places;
+  leads = good.leads;
+  live = good.live;
+  apart = good.apart;
+  allowed = good.allowed;
+  within = good.within;
+  makers = good.makers;
+  alone = λ single. record { ours = (good.alone single).ours; least = (good.alone single).least };
+}

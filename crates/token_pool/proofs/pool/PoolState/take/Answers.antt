@@ -1,0 +1,15 @@
+use Rattle.token_pool.proofs.Standing.{told_live, told_good}
+use Rattle.token_pool.specs.contracts.pool.PoolState.{the_view}
+use Rattle.token_pool.proofs.pool.PoolState.take.Goals as goal
+
+pub hand-requires : goal.hand-requires
+hand-requires c =
+    told_live (the_view c.self.inside) c.args.self.now c.args.worker c.told-told.result c.self.invariant.0 c.self.view_is c.requires
+    c.told-told.ensures
+
+pub invariant_of-self : goal.invariant_of-self
+invariant_of-self c = (
+  told_good (the_view c.self.inside) c.args.self.now c.args.worker c.told-told.result c.hold.new.places.items c.self.invariant.0 c.self.view_is c.requires c.told-told.ensures
+      c.hold.ensures,
+  c.self.invariant.1,
+)

@@ -1,0 +1,51 @@
+-- What keeps a pool good.
+use Rattle.std.specs.Prelude.{◌≡◌, ◌≤◌, ◌<◌, ◌⊎◌, ℕ, Some, None}
+use Rattle.net_build.specs.Nets.{NetTree}
+use Rattle.interleave_core.specs.Runs.{Runs}
+use Rattle.interleave_core.specs.Tickets.{IsLive}
+use Rattle.token_pool.specs.declared.entries.Held.{Held}
+use Rattle.token_pool.specs.declared.entries.Told.TheVariants.{Token, Idle, Reserved}
+use Rattle.token_pool.specs.Pools.{Pool, Holds, InLimits, Good, started}
+use Rattle.token_pool.specs.Turns.{own, turn, taken, IsLeastFree}
+use Rattle.token_pool.specs.Booking.{Books, halted}
+use Rattle.token_pool.specs.declared.ending.Ended.{Ended}
+use Rattle.token_pool.specs.Ending.{Finishes, Replays}
+
+-- on a net that runs, a pool starts good
+abbrev pub StartGood : Type 0
+StartGood = (net : NetTree) (budget workers : ℕ) → Runs net → InLimits budget workers → Good (started net budget workers)
+
+-- it stays good after each worker's turn
+abbrev pub TakeKeeps : Type 0
+TakeKeeps = (p : Pool) (w : ℕ) → Good p → w < p.workers → Good (taken p w)
+
+-- what a worker is given is held by it, and live
+abbrev pub GivesHeld : Type 0
+GivesHeld = (p : Pool) (w : ℕ) (h : Held) → Good p → w < p.workers → turn p w ≡ Token h →
+    Holds (taken p w).held w h × IsLive p.state h.ticket
+
+-- what it is given is what it held, or else the least free ticket
+abbrev pub GivesLeast : Type 0
+GivesLeast = (p : Pool) (w : ℕ) (h : Held) → turn p w ≡ Token h →
+    (own p.held w ≡ Some h) ⊎ ((own p.held w ≡ None) × IsLeastFree p h.ticket)
+
+-- where a worker is told that nothing is free, some worker holds something
+abbrev pub IdleHolds : Type 0
+IdleHolds = (p : Pool) (w : ℕ) → Good p → turn p w ≡ Idle → (v : ℕ) × (h : Held) × Holds p.held v h
+
+-- and so it does where all of the budget is made or set aside
+abbrev pub ReservedHolds : Type 0
+ReservedHolds = (p : Pool) (w : ℕ) → Good p → turn p w ≡ Reserved → (v : ℕ) × (h : Held) × Holds p.held v h
+
+-- and where moves of what a worker holds are booked, at least one and at most as many as are set aside
+abbrev pub BookKeeps : Type 0
+BookKeeps = (p q : Pool) (w : ℕ) (h : Held) (n : ℕ) → Good p → Holds p.held w h → w < p.workers →
+    1 ≤ n → n ≤ h.allowance → Books p q w h n → Good q
+
+-- and where it is stopped
+abbrev pub StopKeeps : Type 0
+StopKeeps = (p : Pool) → Good p → Good (halted p)
+
+-- what is made of a good pool by the finisher replays on its net
+abbrev pub FinishReplays : Type 0
+FinishReplays = (p : Pool) (e : Ended) → Good p → Finishes p e → Replays p.net p.budget p.workers e

@@ -1,0 +1,293 @@
+//! The state that workers share.
+ghost use Rattle.std.specs.Prelude.{◌≡◌, ◌<◌, ◌≤◌, ◌↔◌, [], IfOk, OnErr, OnOk, IsErr, IsTrue, length};
+ghost use Rattle.interleave_core.specs.Runs.{Runs};
+ghost use Rattle.interleave_core.specs.Start.{start_of};
+ghost use Rattle.interleave_core.specs.Maps.{start_map};
+ghost use Rattle.schedule_log.specs.Logs.{empty_log};
+ghost use Rattle.token_pool.specs.declared.entries.Held.{Held};
+ghost use Rattle.token_pool.specs.declared.entries.Told.TheVariants.{Token};
+ghost use Rattle.token_pool.specs.Pieces.{Hands};
+ghost use Rattle.token_pool.specs.Pools.{InLimits, Good, started, count_held, none_held_by};
+ghost use Rattle.token_pool.specs.Turns.{turn, taken, count_free, spent, spare_pieces};
+ghost use Rattle.token_pool.specs.Booking.{BookedAs, HoldsOther, halted};
+ghost use Rattle.token_pool.specs.Ending.{Suits, Finishes, Replays};
+
+use crate::booking::{play, write_down};
+use crate::ending::play_on;
+use crate::pieces::hand;
+use crate::places::{held_by, holders, set_aside};
+use crate::turns::{hold, let_go, next_line};
+use crate::{Booked, Ended, Held, Taken, Told};
+use interleave_core::Core;
+use move_rules::Moved;
+use net_build::Net;
+use pcf_values::Val;
+use schedule_log::Log;
+use std::alloc::{AllocError, Global};
+use std::marker::Model;
+
+/// A net with its budget, the machine's state on it, the moves made so far, and what each worker holds. Contracts see it as a pool, and
+/// every one is good.
+#[derive(Drop)]
+pub struct PoolState {
+    net: Net,
+    budget: u32,
+    workers: u32,
+    core: Core,
+    log: Log,
+    held: Vec<Option<Held>>,
+    stopped: bool,
+}
+
+impl Model for PoolState {
+    ghost use Rattle.std.specs.Prelude.{◌≤◌};
+    ghost use Rattle.token_pool.specs.Pools.{Pool, Good};
+    ghost use Rattle.token_pool.specs.Codes.{pool_code, pool};
+
+    ghost Value = { Pool };
+
+    ghost coded = { pool_code };
+
+    ghost view = { λ a. pool a.net a.budget a.workers a.core a.log.entries a.held.items a.stopped };
+
+    ghost invariant = { λ a. Good (pool a.net a.budget a.workers a.core a.log.entries a.held.items a.stopped) × (a.budget ≤ a.log.room) };
+}
+
+// The net in memory of its own, and the machine's state at its start.
+fn begin(alloc: Global, net: &Net) -> Result<(Net, Core), AllocError>
+    ensures net { IfOk result (λ p. p.0 ≡ net.now) }
+    ensures core { IfOk result (λ p. p.1 ≡ start_map (start_of net.now)) }
+{
+    let own = net.copy(alloc)?;
+    let core = Core::start(alloc, net)?;
+    Ok((own, core))
+}
+
+// Room for the whole log, and a place for each worker.
+fn lists_of(
+    alloc: Global,
+    budget: u32,
+    workers: u32,
+) -> Result<(Log, Vec<Option<Held>>), AllocError>
+    ensures log { IfOk result (λ p. p.0 ≡ empty_log budget) }
+    ensures held { IfOk result (λ p. p.1.items ≡ none_held_by workers) }
+{
+    let log = Log::with_room(alloc, budget)?;
+    let held = vec![in alloc; None; workers as usize]?;
+    Ok((log, held))
+}
+
+impl PoolState {
+    /// The pool in which a run of this net begins, with a copy of the net of its own. It takes all the memory that its log will need.
+    pub fn start(
+        alloc: Global,
+        net: &Net,
+        budget: u32,
+        workers: u32,
+    ) -> Result<PoolState, AllocError>
+        requires runs { Runs net.now }
+        requires limits { InLimits budget workers }
+        ensures { IfOk result (λ p. p ≡ started net.now budget workers) }
+    {
+        let (net, core) = begin(alloc, net)?;
+        let (log, held) = lists_of(alloc, budget, workers)?;
+        Ok(PoolState {
+            net,
+            budget,
+            workers,
+            core,
+            log,
+            held,
+            stopped: false,
+        })
+    }
+
+    /// How many moves were made. Takes no memory.
+    pub fn booked(&self) -> u32
+        ensures count { result ≡ length self.now.log }
+        ensures good { Good self.now }
+    {
+        self.log.len()
+    }
+
+    /// How many tickets are held. Takes no memory.
+    pub fn held_count(&self) -> u32
+        ensures { result ≡ count_held self.now.held }
+    {
+        holders(&self.held) as u32
+    }
+
+    /// How many live tickets no worker holds. Takes no memory.
+    pub fn free_count(&self) -> u32
+        ensures { result ≡ count_free self.now }
+    {
+        self.core.live_count() - self.held_count()
+    }
+
+    // How many moves are made or set aside.
+    fn spent(&self) -> u32
+        ensures { result ≡ spent self.now }
+    {
+        self.log.len() + set_aside(&self.held)
+    }
+
+    /// For how many pieces it is worth to wake a worker: as many as tickets are free, and none where the whole budget is made or set
+    /// aside. Takes no memory.
+    pub fn spare_pieces(&self) -> u32
+        ensures { result ≡ spare_pieces self.now }
+    {
+        if self.spent() == self.budget {
+            0
+        } else {
+            self.free_count()
+        }
+    }
+
+    /// Whether the pool was stopped. Takes no memory.
+    pub fn stopped(&self) -> bool
+        ensures { result ≡ self.now.stopped }
+    {
+        self.stopped
+    }
+
+    /// The answer, if it came. Takes no memory.
+    pub fn answer(&self) -> Option<Val>
+        ensures { result ≡ self.now.state.answered }
+    {
+        self.core.answer()
+    }
+
+    // Whether there is a place for a worker of this number.
+    pub(crate) fn has_place(&self, worker: u32) -> bool
+        ensures { IsTrue result ↔ (worker < self.now.workers) }
+    {
+        worker < self.workers
+    }
+
+    // What a worker is told.
+    fn told(&self, worker: u32) -> Told
+        ensures { result ≡ turn self.now worker }
+    {
+        if self.stopped {
+            return Told::Stopped;
+        }
+        if let Some(held) = held_by(&self.held, worker) {
+            return Told::Token(held);
+        }
+        next_line(
+            &self.core,
+            self.log.len(),
+            &self.held,
+            self.budget,
+            self.workers,
+        )
+    }
+
+    /// Gives a worker that asks for work what the first of six lines says that holds, and a token with it. After want of memory all is
+    /// as before.
+    ///
+    /// # Errors
+    ///
+    /// Want of memory, and only where there is a token to hand out.
+    pub fn take(&mut self, worker: u32) -> Result<Taken, AllocError>
+        requires { worker < self.old.workers }
+        ensures handed { IfOk result (Hands self.old.state (turn self.old worker)) }
+        ensures ok { OnOk result (self.new ≡ taken self.old worker) }
+        ensures err { OnErr result (self.new ≡ self.old) }
+        ensures ample { OnErr result ((h : Held) × (turn self.old worker ≡ Token h)) }
+    {
+        let told = self.told(worker);
+        let taken = hand(&self.core, told)?;
+        hold(&mut self.held, worker, told);
+        Ok(taken)
+    }
+
+    /// Books what a worker walked from the token that it holds, where it is a walk of that token within its allowance, and takes no
+    /// memory then; otherwise it makes exactly one step of it. The worker holds nothing afterwards. After want of memory all is as before.
+    ///
+    /// # Errors
+    ///
+    /// Want of memory, and only where the walk isn't taken over.
+    pub fn book(&mut self, worker: u32, moved: Moved) -> Result<Booked, AllocError>
+        requires { worker < self.old.workers }
+        ensures ok { IfOk result (BookedAs self.old self.new worker moved) }
+        ensures err { OnErr result (self.new ≡ self.old) }
+        ensures ample { OnErr result (HoldsOther self.old worker moved) }
+    {
+        let Some(held) = held_by(&self.held, worker) else {
+            return Ok(Booked::NothingHeld);
+        };
+        let done = self.log.len();
+        let count = play(&mut self.core, &self.net, held, moved)?;
+        write_down(&mut self.log, count, held.ticket, worker);
+        let_go(&mut self.held, worker);
+        Ok(Booked::Done(done))
+    }
+
+    /// Stops the pool: whoever asks for work is told so. Takes no memory.
+    pub fn stop(&mut self)
+        ensures { self.new ≡ halted self.old }
+    {
+        self.stopped = true;
+    }
+
+    // Whether the pool is one of this net, budget and number of workers.
+    fn suits(&self, net: &Net, budget: u32, workers: u32) -> bool
+        ensures { IsTrue result ↔ Suits self.now net.now budget workers }
+    {
+        self.net.same(net) && self.budget == budget && self.workers == workers
+    }
+
+    // Puts back what is held, and lets the least live ticket move until the answer or the budget.
+    fn close(self) -> Result<Ended, AllocError>
+        ensures finishes { IfOk result (Finishes self) }
+        ensures replays { IfOk result (Replays self.net self.budget self.workers) }
+    {
+        let PoolState {
+            net,
+            budget,
+            workers,
+            mut core,
+            mut log,
+            ..
+        } = self;
+        let done = play_on(&mut core, &net, &mut log, budget, workers);
+        drop(net);
+        done?;
+        Ok(Ended {
+            answer: core.answer(),
+            log,
+        })
+    }
+
+    /// Finishes a run of this net: a pool that was stopped has no memory left, and no answer; one of this net, budget and number of
+    /// workers goes on from where it stands, with all that is held put back; and in place of any other a new one is begun. The least live
+    /// ticket moves until the answer or the budget, and its moves are written down for the number of workers.
+    ///
+    /// # Errors
+    ///
+    /// Want of memory, and always so where the pool was stopped.
+    pub fn finish(
+        self,
+        alloc: Global,
+        net: &Net,
+        budget: u32,
+        workers: u32,
+    ) -> Result<Ended, AllocError>
+        requires runs { Runs net.now }
+        requires limits { InLimits budget workers }
+        ensures stopped { IsTrue self.stopped → IsErr result }
+        ensures same { Suits self net.now budget workers → IfOk result (Finishes self) }
+        ensures other { (Suits self net.now budget workers → ⊥) → IfOk result (Finishes (started net.now budget workers)) }
+        ensures replays { IfOk result (Replays net.now budget workers) }
+    {
+        if self.stopped {
+            return Err(AllocError);
+        }
+        if self.suits(net, budget, workers) {
+            self.close()
+        } else {
+            PoolState::start(alloc, net, budget, workers)?.close()
+        }
+    }
+}
