@@ -1,7 +1,8 @@
-//! The program: it hands the words of the process, the files of the system and its standard streams to the top call, and ends with
-//! the status that this answers.
+//! The program: it hands the runtime, the words of the process, the files of the system, its standard streams and an open gate to the
+//! top call, and ends with the status that this answers.
 #![tactic(auto)]
 
+use gate_workers::OpenGate;
 use goi_engine::goi;
 use goi_world::{DiskFiles, StdSink};
 use std::process::ExitCode;
@@ -15,7 +16,9 @@ fn main(rt: HostRuntime) -> ExitCode {
     let mut files = DiskFiles::new(&rt);
     let mut out = StdSink::over(rt.stdout());
     let mut err = StdSink::over(rt.stderr());
-    ExitCode::from(goi(alloc, &words, &mut files, &mut out, &mut err))
+    ExitCode::from(goi(
+        &rt, alloc, &words, &mut files, &mut out, &mut err, &OpenGate,
+    ))
 }
 
 /// The words of the process, its own name first.

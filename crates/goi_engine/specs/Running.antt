@@ -1,40 +1,22 @@
 -- A run of a program: what it came to, which report it has, and with which status it ends.
--- A run is a log: which token moved, and which worker booked it, move by move. Nothing is said of the order in which several workers
--- move, but that each move is one of a live token; so what a run comes to doesn't depend on it.
+-- What a run is stands in `net_runs`, with the order of its moves left open where there are several workers; so nothing that is told
+-- here depends on it.
 use Rattle.std.specs.Prelude.{◌≡◌, ◌⊎◌, ℕ, ◌≤◌, Bool, false, List, length, Option, None, Some}
 use Rattle.pcf_values.specs.declared.val.Val.{Val}
 use Rattle.pcf_values.specs.Terms.{TermTree, size}
 use Rattle.cbn_meaning.specs.Meaning.{Means}
-use Rattle.net_build.specs.Nets.{NetTree}
 use Rattle.net_build.specs.NetOf.{net_of}
-use Rattle.interleave_core.specs.Runs.{Finished}
-use Rattle.interleave_core.specs.OneWorker.{one}
-use Rattle.interleave_core.specs.Maps.{MapState, LeadsToMap}
 use Rattle.adequacy_laws.specs.Questions.{Length}
 use Rattle.adequacy_laws.specs.Finished.{Within, Beyond}
 use Rattle.schedule_log.specs.declared.entry.Entry.{Entry}
-use Rattle.schedule_log.specs.Logs.{tickets_in_log}
 use Rattle.goi_reports.specs.Reports.{run_report, demo_report}
-use Rattle.goi_reports.specs.Tallies.{BookedWithin}
+use Rattle.net_runs.specs.Running.{IsRun}
 use Rattle.demo_text.specs.Demo.{demo_term}
 use Rattle.goi_engine.specs.Refusals.{most_line}
 
 -- how many moves the run of a generated program is allowed
 abbrev pub demo_budget : ℕ
 demo_budget = 1000000
-
--- The log is a run of the net by so many workers within a budget of moves, and this is its answer, or none.
-pub record IsRun (net : NetTree) (workers budget : ℕ) (answer : Option Val) (log : List Entry) : Type 0 where
-  -- its moves lead from the net's start to a state with that answer
-  pub state : MapState
-  pub led : LeadsToMap net (tickets_in_log log) state
-  pub answers : answer ≡ state.answered
-  -- it has at most as many moves as the budget allows, and as many where there is no answer
-  pub finished : Finished answer (tickets_in_log log) budget
-  -- each move was booked by one of the workers, or by the finisher
-  pub booked : BookedWithin workers log
-  -- one worker moves the least live token at each turn
-  pub alone : workers ≡ 1 → tickets_in_log log ≡ one net budget
 
 -- A run of the term's net within a budget that came to this answer, or none, in so many moves, ends with this status, and says so of the
 -- term: an answer is what the term means, and the net is as long as there were moves; no answer says that the net's length is absent or

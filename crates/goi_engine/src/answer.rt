@@ -26,11 +26,14 @@ use crate::report::Report;
 use crate::stop::Stop;
 use crate::task::Task;
 use adequacy_laws::law_never_stuck;
+use gate_workers::Gate;
 use goi_words::{Job, WordFault, job_of};
 use goi_world::Files;
 use net_build::Net;
 use pcf_values::limits::{PROGRAM_BYTES, SCHEDULE_BYTES};
 use std::alloc::Global;
+use std::sync::Wait;
+use std::thread::Threads;
 
 /// The answer to the words.
 #[derive(Drop)]
@@ -48,14 +51,20 @@ pub(crate) enum Answer {
 }
 
 /// Does the job that the words ask for, with the files that they name.
-pub(crate) fn answer_to<F: Files>(alloc: Global, words: &[String], files: &mut F) -> Answer
+pub(crate) fn answer_to<R: Threads + Wait + Sync, F: Files, G: Gate>(
+    rt: &R,
+    alloc: Global,
+    words: &[String],
+    files: &mut F,
+    gate: &G,
+) -> Answer
     ensures kept { FilesKept (files_seen (F.told files.old) (F.lacks files.old) (F.faults files.old) (F.steady files.old)) (files_seen (F.told files.new) (F.lacks files.new) (F.faults files.new) (F.steady files.new)) }
     ensures answers { Answers (job (map string_bytes words.now)) (files_seen (F.told files.old) (F.lacks files.old) (F.faults files.old) (F.steady files.old)) (files_seen (F.told files.new) (F.lacks files.new) (F.faults files.new) (F.steady files.new)) result }
     ensures reads { ReadForJob F.reads (job (map string_bytes words.now)) files.old files.new }
 {
     match job_of(alloc, words) {
         Ok(job) => {
-            let answer = answer_job(alloc, &job, files);
+            let answer = answer_job(rt, alloc, &job, files, gate);
             drop(job);
             answer
         }
@@ -65,7 +74,13 @@ pub(crate) fn answer_to<F: Files>(alloc: Global, words: &[String], files: &mut F
 }
 
 /// The answer to a job.
-fn answer_job<F: Files>(alloc: Global, job: &Job, files: &mut F) -> Answer
+fn answer_job<R: Threads + Wait + Sync, F: Files, G: Gate>(
+    rt: &R,
+    alloc: Global,
+    job: &Job,
+    files: &mut F,
+    gate: &G,
+) -> Answer
     requires { IsWithinLimits (job_of job.now) }
     ensures kept { FilesKept (files_seen (F.told files.old) (F.lacks files.old) (F.faults files.old) (F.steady files.old)) (files_seen (F.told files.new) (F.lacks files.new) (F.faults files.new) (F.steady files.new)) }
     ensures answers { AnswersJob (job_of job.now) (files_seen (F.told files.old) (F.lacks files.old) (F.faults files.old) (F.steady files.old)) (files_seen (F.told files.new) (F.lacks files.new) (F.faults files.new) (F.steady files.new)) result }
@@ -79,6 +94,7 @@ fn answer_job<F: Files>(alloc: Global, job: &Job, files: &mut F) -> Answer
             schedule,
             tally,
         } => answer_task(
+            rt,
             alloc,
             files,
             file.as_str(),
@@ -88,33 +104,43 @@ fn answer_job<F: Files>(alloc: Global, job: &Job, files: &mut F) -> Answer
                 schedule: *schedule,
                 tally: *tally,
             },
+            gate,
         ),
         Job::Check { file, term } => answer_task(
+            rt,
             alloc,
             files,
             file.as_str(),
             Task::Check { term: *term },
+            gate,
         ),
-        Job::ShowNet { file } => answer_task(alloc, files, file.as_str(), Task::ShowNet),
+        Job::ShowNet { file } => answer_task(rt, alloc, files, file.as_str(), Task::ShowNet, gate),
         Job::Replay { file, schedule } => answer_replay(
             alloc,
             files,
             file.as_str(),
             schedule.as_str(),
         ),
-        Job::Demo { n, workers } => answer_demo(alloc, *n, *workers),
+        Job::Demo { n, workers } => answer_demo(rt, alloc, *n, *workers, gate),
     }
 }
 
 /// The answer to a task on the program of a file.
-fn answer_task<F: Files>(alloc: Global, files: &mut F, file: &str, task: Task) -> Answer
+fn answer_task<R: Threads + Wait + Sync, F: Files, G: Gate>(
+    rt: &R,
+    alloc: Global,
+    files: &mut F,
+    file: &str,
+    task: Task,
+    gate: &G,
+) -> Answer
     requires { IsWithin task }
     ensures kept { FilesKept (files_seen (F.told files.old) (F.lacks files.old) (F.faults files.old) (F.steady files.old)) (files_seen (F.told files.new) (F.lacks files.new) (F.faults files.new) (F.steady files.new)) }
     ensures answers { AnswersTask task file.now (files_seen (F.told files.old) (F.lacks files.old) (F.faults files.old) (F.steady files.old)) (files_seen (F.told files.new) (F.lacks files.new) (F.faults files.new) (F.steady files.new)) result }
     ensures reads { LoadedBy F.reads file.now most_program_bytes files.old files.new }
 {
     match load(alloc, files, file, PROGRAM_BYTES as u32) {
-        Ok(bytes) => answer_text(alloc, &bytes, task),
+        Ok(bytes) => answer_text(rt, alloc, &bytes, task, gate),
         Err(error) => not_loaded(error),
     }
 }
@@ -144,11 +170,17 @@ fn stopped(alloc: Global, stop: Stop) -> Answer
 }
 
 /// The answer to a task on a text.
-fn answer_text(alloc: Global, bytes: &[u8], task: Task) -> Answer
+fn answer_text<R: Threads + Wait + Sync, G: Gate>(
+    rt: &R,
+    alloc: Global,
+    bytes: &[u8],
+    task: Task,
+    gate: &G,
+) -> Answer
     requires { IsWithin task }
     ensures { Says (ReportsText task bytes.now) (FaultyText (wants_number task) bytes.now) result }
 {
-    match report_text(alloc, bytes, task) {
+    match report_text(rt, alloc, bytes, task, gate) {
         Ok(report) => Answer::Prints(report),
         Err(stop) => stopped(alloc, stop),
     }
@@ -220,12 +252,18 @@ fn answer_moves(alloc: Global, bytes: &[u8], net: &Net) -> Answer
 }
 
 /// The answer with the run of the generated program of a number.
-fn answer_demo(alloc: Global, n: u32, workers: u32) -> Answer
+fn answer_demo<R: Threads + Wait + Sync, G: Gate>(
+    rt: &R,
+    alloc: Global,
+    n: u32,
+    workers: u32,
+    gate: &G,
+) -> Answer
     requires n { IsDemo n }
     requires workers { IsWorkers workers }
     ensures { Says (ReportsDemo n workers) (λ f. ⊥) result }
 {
-    match report_demo(alloc, n, workers) {
+    match report_demo(rt, alloc, n, workers, gate) {
         Ok(report) => Answer::Prints(report),
         Err(_) => Answer::NoMemory,
     }

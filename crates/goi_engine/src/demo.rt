@@ -4,36 +4,48 @@ ghost use Rattle.std.specs.Prelude.{◌≡◌, [], IfOk};
 ghost use Rattle.pcf_values.specs.Terms.{nat, size};
 ghost use Rattle.pcf_values.specs.Typing.{HasType};
 ghost use Rattle.net_build.specs.NetOf.{net_of};
+ghost use Rattle.interleave_core.specs.Runs.{Runs};
 ghost use Rattle.demo_text.specs.Demo.{demo_term};
 ghost use Rattle.goi_words.specs.Jobs.{IsDemo, IsWorkers};
-ghost use Rattle.goi_engine.specs.Running.{ReportsDemo, IsRun, demo_budget};
+ghost use Rattle.net_runs.specs.Running.{IsRun};
+ghost use Rattle.goi_engine.specs.Running.{ReportsDemo, demo_budget};
 
 use crate::program::net_of_text;
 use crate::report::Report;
-use crate::running::{run_net, status_of};
+use crate::running::status_of;
 use crate::stop::Stop;
 use adequacy_laws::{law_finished, law_never_stuck};
 use demo_text::{demo_text, law_demo_is_typed, law_demo_size};
+use gate_workers::Gate;
 use goi_reports::demo_report;
 use net_build::Net;
+use net_runs::run_net;
 use pcf_reader::{law_one_tree, law_text_or_fault};
-use pcf_values::Val;
-use schedule_log::Log;
 use std::alloc::{AllocError, Global};
+use std::sync::Wait;
+use std::thread::Threads;
+use token_pool::Ended;
 
 /// How many moves the run of a generated program is allowed.
 const BUDGET: u32 = 1_000_000;
 
 /// The report of a run of the generated program of a number.
-pub(crate) fn report_demo(alloc: Global, n: u32, workers: u32) -> Result<Report, AllocError>
+pub(crate) fn report_demo<R: Threads + Wait + Sync, G: Gate>(
+    rt: &R,
+    alloc: Global,
+    n: u32,
+    workers: u32,
+    gate: &G,
+) -> Result<Report, AllocError>
     requires n { IsDemo n }
     requires workers { IsWorkers workers }
     ensures { IfOk result (λ r. ReportsDemo n workers r.status r.text.items) }
 {
     law_finished();
-    let (answer, log) = run_demo(alloc, n, workers)?;
-    let text = demo_report(alloc, n, nodes_of(n), answer, log.len());
-    drop(log);
+    let ended = run_demo(rt, alloc, n, workers, gate)?;
+    let answer = ended.answer;
+    let text = demo_report(alloc, n, nodes_of(n), answer, ended.log.len());
+    drop(ended);
     Ok(Report {
         text: text?,
         status: status_of(answer),
@@ -41,15 +53,20 @@ pub(crate) fn report_demo(alloc: Global, n: u32, workers: u32) -> Result<Report,
 }
 
 /// The run of the generated program of a number.
-fn run_demo(alloc: Global, n: u32, workers: u32) -> Result<(Option<Val>, Log), AllocError>
+fn run_demo<R: Threads + Wait + Sync, G: Gate>(
+    rt: &R,
+    alloc: Global,
+    n: u32,
+    workers: u32,
+    gate: &G,
+) -> Result<Ended, AllocError>
     requires n { IsDemo n }
     requires workers { IsWorkers workers }
-    ensures run { IfOk result (λ r. IsRun (net_of (demo_term n)) workers demo_budget r.0 r.1.entries) }
+    ensures run { IfOk result (λ r. IsRun (net_of (demo_term n)) workers demo_budget r.answer r.log.entries) }
     ensures typed { IfOk result (λ r. HasType [] (demo_term n) nat) }
 {
-    law_never_stuck();
     let net = demo_net(alloc, n)?;
-    let run = run_net(alloc, &net, BUDGET, workers);
+    let run = run_net(rt, alloc, &net, BUDGET, workers, gate);
     drop(net);
     run
 }
@@ -59,7 +76,9 @@ fn demo_net(alloc: Global, n: u32) -> Result<Net, AllocError>
     requires { IsDemo n }
     ensures net { IfOk result (λ net. net ≡ net_of (demo_term n)) }
     ensures typed { IfOk result (λ net. HasType [] (demo_term n) nat) }
+    ensures runs { IfOk result (λ net. Runs net) }
 {
+    law_never_stuck();
     law_demo_is_typed();
     law_one_tree();
     law_text_or_fault();

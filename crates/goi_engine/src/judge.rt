@@ -14,10 +14,19 @@ use crate::running::report_run;
 use crate::stop::Stop;
 use crate::task::Task;
 use adequacy_laws::law_never_stuck;
+use gate_workers::Gate;
 use std::alloc::Global;
+use std::sync::Wait;
+use std::thread::Threads;
 
 /// The report of a task on a text, or the text's first fault.
-pub(crate) fn report_text(alloc: Global, bytes: &[u8], task: Task) -> Result<Report, Stop>
+pub(crate) fn report_text<R: Threads + Wait + Sync, G: Gate>(
+    rt: &R,
+    alloc: Global,
+    bytes: &[u8],
+    task: Task,
+    gate: &G,
+) -> Result<Report, Stop>
     requires { IsWithin task }
     ensures report { IfOk result (λ r. ReportsText task bytes.now r.status r.text.items) }
     ensures fault { IfErr result (λ e. StopsFor (FaultyText (wants_number task) bytes.now) e) }
@@ -28,7 +37,7 @@ pub(crate) fn report_text(alloc: Global, bytes: &[u8], task: Task) -> Result<Rep
             budget,
             schedule,
             tally,
-        } => run_text(alloc, bytes, workers, budget, schedule, tally),
+        } => run_text(rt, alloc, bytes, workers, budget, schedule, tally, gate),
         Task::Check { term } => Ok(Report {
             text: check_text(alloc, bytes, term)?,
             status: 0,
@@ -38,13 +47,15 @@ pub(crate) fn report_text(alloc: Global, bytes: &[u8], task: Task) -> Result<Rep
 }
 
 /// The report of a run of a text's program.
-fn run_text(
+fn run_text<R: Threads + Wait + Sync, G: Gate>(
+    rt: &R,
     alloc: Global,
     bytes: &[u8],
     workers: u32,
     budget: u32,
     schedule: bool,
     tally: bool,
+    gate: &G,
 ) -> Result<Report, Stop>
     requires workers { IsWorkers workers }
     requires budget { IsBudget budget }
@@ -53,7 +64,7 @@ fn run_text(
 {
     law_never_stuck();
     let net = net_of_text(alloc, bytes)?;
-    let report = report_run(alloc, &net, workers, budget, schedule, tally);
+    let report = report_run(rt, alloc, &net, workers, budget, schedule, tally, gate);
     drop(net);
     Ok(report?)
 }

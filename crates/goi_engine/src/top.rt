@@ -9,16 +9,20 @@ ghost use Rattle.goi_engine.specs.Verdicts.{ReadForJob};
 
 use crate::answer::answer_to;
 use crate::deliver::deliver;
+use gate_workers::Gate;
 use goi_world::{Files, Sink};
 use pcf_reader::{law_one_fault, law_one_tree, law_text_or_fault};
 use replay_check::law_one_replay;
 use schedule_log::law_one_answer;
 use std::alloc::Global;
+use std::sync::Wait;
+use std::thread::Threads;
 
 /// Does what the words ask for, and gives the status.
 ///
 /// The words begin with the program's own name, and an empty list asks for nothing. Files are read through `files`; a report goes to
-/// `out`, and the line of a refusal to `err`. The statuses:
+/// `out`, and the line of a refusal to `err`. A run has as many workers as are asked for; several have threads of their own, and each
+/// passes the gate before each of its pieces. The statuses:
 ///
 /// - 0: all is done, and the report stands in `out`;
 /// - 1: the program has a fault, which the line tells;
@@ -28,12 +32,14 @@ use std::alloc::Global;
 /// - 5: the program came to no value within the budget of moves, or the schedule to none, which the report says;
 /// - 6: there was no memory;
 /// - 7: the schedule has a fault, which the line tells.
-pub fn goi<F: Files, O: Sink, E: Sink>(
+pub fn goi<R: Threads + Wait + Sync, F: Files, O: Sink, E: Sink, G: Gate>(
+    rt: &R,
     alloc: Global,
     words: &[String],
     files: &mut F,
     out: &mut O,
     err: &mut E,
+    gate: &G,
 ) -> u8
     ensures promise { let asked = job (map string_bytes words.now) in
         let old = world (files_seen (F.told files.old) (F.lacks files.old) (F.faults files.old) (F.steady files.old)) (sink (O.written out.old) (O.faults out.old) (O.spare out.old)) (sink (E.written err.old) (E.faults err.old) (E.spare err.old)) in
@@ -48,6 +54,6 @@ pub fn goi<F: Files, O: Sink, E: Sink>(
     law_text_or_fault();
     law_one_answer();
     law_one_replay();
-    let answer = answer_to(alloc, words, files);
+    let answer = answer_to(rt, alloc, words, files, gate);
     deliver(&answer, out, err)
 }

@@ -1,4 +1,6 @@
-use Rattle.std.proofs.Common.{◌∙◌, true, subst}
+use Rattle.std.proofs.Common.{◌∙◌, true, sym, subst}
+use Rattle.net_build.specs.Nets.{NetTree}
+use Rattle.interleave_core.specs.Runs.{Runs}
 use Rattle.goi_engine.specs.declared.stop.Stop.{Stop}
 use Rattle.goi_engine.specs.Programs.{FaultyText}
 use Rattle.goi_engine.specs.Stops.{StopsFor}
@@ -10,6 +12,9 @@ returns-in-Ok-clause-net c = demo_net_is c.law_one_tree.ensures c.law_text_or_fa
 
 pub returns-in-Ok-clause-typed : goal.returns-in-Ok-clause-typed
 returns-in-Ok-clause-typed c = demo_typed c.law_one_tree.ensures c.law_text_or_fault.ensures.not_both c.law_demo_is_typed.ensures c.args.n c.requires c.deref.result.now (c.deref.ensures.value ∙ c.in_ok-text.ensures) c.in-Ok.net c.in-Ok.ensures.net
+
+pub returns-in-Ok-clause-runs : goal.returns-in-Ok-clause-runs
+returns-in-Ok-clause-runs c = let made = c.in-Ok.ensures.net in subst (λ (net : NetTree). Runs net) (sym made.net_is) (c.law_never_stuck.ensures.runs made.term made.typed)
 
 pub unreachable-requires : goal.unreachable-requires
 unreachable-requires c =
