@@ -4,18 +4,24 @@
 
 use gate_workers::OpenGate;
 use goi_engine::goi;
-use goi_world::{DiskFiles, StdSink};
+use goi_world::{DiskFiles, Sink, StdSink};
 use std::process::ExitCode;
 use std::rt::Env;
 use std::{env, io};
 
 fn main(rt: HostRuntime) -> ExitCode {
     let alloc = rt.alloc();
-    // Words that aren't text ask for nothing, as no words do.
-    let words = words_of(&rt).unwrap_or(Vec::new(alloc));
     let mut files = DiskFiles::new(&rt);
     let mut out = StdSink::over(rt.stdout());
     let mut err = StdSink::over(rt.stderr());
+    let words = match words_of(&rt) {
+        Ok(words) => words,
+        Err(error) if error.kind() == io::ErrorKind::OutOfMemory => {
+            return ExitCode::from(tell_no_memory(&mut err));
+        }
+        // Words that aren't text ask for nothing, as no words do.
+        Err(_) => Vec::new(alloc),
+    };
     ExitCode::from(goi(
         &rt, alloc, &words, &mut files, &mut out, &mut err, &OpenGate,
     ))
@@ -24,4 +30,19 @@ fn main(rt: HostRuntime) -> ExitCode {
 /// The words of the process, its own name first.
 fn words_of<R: Env + AllocGlobal>(rt: &R) -> io::Result<Vec<String>> {
     Ok(env::args(rt)?.collect(rt.alloc())?)
+}
+
+/// Says that there was no memory for the words, as the top call says it, and gives the status: 6, or 4 where that can't be written.
+fn tell_no_memory<E: Sink>(err: &mut E) -> u8 {
+    let mut rest: &[u8] = b"no memory\n";
+    for _ in 0..rest.len() {
+        let Ok(count) = err.write(rest) else {
+            return 4;
+        };
+        rest = rest.split_at(count).1;
+        if rest.is_empty() {
+            break;
+        }
+    }
+    6
 }
