@@ -8,6 +8,8 @@
 mod programs;
 #[cfg(test)]
 mod rows;
+#[cfg(test)]
+mod schedules;
 mod sure;
 #[cfg(test)]
 mod types;

@@ -26,10 +26,16 @@ pub(crate) const SOUND: Devices<'static> = Devices {
     errs: &[],
 };
 
-/// The files of a call: `p` alone, with this text.
-fn files(alloc: Global, text: &[u8], devices: Devices<'_>) -> Result<MemoryFiles, AllocError> {
+/// The files of a call: `p` with this text, and `s`, the text of a schedule.
+fn files(
+    alloc: Global,
+    text: &[u8],
+    schedule: &[u8],
+    devices: Devices<'_>,
+) -> Result<MemoryFiles, AllocError> {
     let mut held = Vec::new(alloc);
     held.push((Ident::from_text(alloc, "p")?, text.to_vec(alloc)?))?;
+    held.push((Ident::from_text(alloc, "s")?, schedule.to_vec(alloc)?))?;
     Ok(MemoryFiles::new(held, devices.most.max(1), devices.reads.to_vec(alloc)?))
 }
 
@@ -86,8 +92,19 @@ pub(crate) fn told(
     text: &[u8],
     devices: Devices<'_>,
 ) -> Result<Vec<u8>, AllocError> {
+    told_both(alloc, words, text, b"", devices)
+}
+
+/// The same where `s` has a text too.
+pub(crate) fn told_both(
+    alloc: Global,
+    words: &str,
+    text: &[u8],
+    schedule: &[u8],
+    devices: Devices<'_>,
+) -> Result<Vec<u8>, AllocError> {
     let words = texts(alloc, words)?;
-    let mut files = files(alloc, text, devices)?;
+    let mut files = files(alloc, text, schedule, devices)?;
     answered(alloc, &words, &mut files, devices)
 }
 
@@ -171,6 +188,31 @@ goi run p|(fix f:nat->nat. fun n:nat. ifz n then 7 else (fix g:nat->nat. fun m:n
 }
 
 #[test]
+fn budgets_schedules_and_tallies(rt: HostRuntime) -> Result<(), Fail> {
+    let table = "
+goi run p --budget 6|1 + 2|0 value 3;moves 6;
+goi run p --budget 5|1 + 2|5 no value;moves 5;
+goi run p --budget 1|fix y:nat. y|5 no value;moves 1;
+goi run p --budget 7|fix y:nat. y|5 no value;moves 7;
+goi run p --budget 10000|fix y:nat. y|5 no value;moves 10000;
+goi run p --budget 100000|fix y:nat. y|5 no value;moves 100000;
+goi run p --budget 10000000|0|0 value 0;moves 2;
+goi run p --workers 64 --budget 10000|0|0 value 0;moves 2;
+goi run p --schedule|1 + 2|0 value 3;moves 6;schedule 2;0 3;1 3;end;
+goi run p --schedule|(fun x:nat. x + x) 3|0 value 6;moves 30;schedule 2;0 15;1 15;end;
+goi run p --schedule --budget 4|1 + 2|5 no value;moves 4;schedule 2;0 3;1 1;end;
+goi run p --tally|1 + 2|0 value 3;moves 6;worker 0 6;finisher 0;
+goi run p --tally --workers 3|1 + 2|0 value 3;moves 6;worker 0 6;worker 1 0;worker 2 0;finisher 0;
+goi run --tally p --schedule|1 + 2|0 value 3;moves 6;schedule 2;0 3;1 3;end;worker 0 6;finisher 0;
+goi demo 0|x|0 demo 0;nodes 9;value 2;moves 58;
+goi demo 6|x|0 demo 6;nodes 261;value 128;moves 5890;
+goi demo 12|x|0 demo 12;nodes 16389;value 8192;moves 524290;
+";
+    assert!(rt; first_wrong(rt.alloc(), table)? == None);
+    Ok(())
+}
+
+#[test]
 fn listings(rt: HostRuntime) -> Result<(), Fail> {
     let table = "
 goi net p|(fun x:nat. x + x) 3|0 net 1;wire 0 value 0 nat;wire 1 var 0 nat;wire 2 value 0 nat;wire 3 var 0 nat;wire 4 var 0 nat;wire 5 value 0 nat;wire 6 value 0 nat -> nat;wire 7 value 1 nat;wire 8 bang 0 nat;wire 9 value 0 nat;node 0 Der 0 1;node 1 Der 2 3;node 2 Con 1 3 4;node 3 Plus 0 2 5;node 4 Lam 5 4 6;node 5 Const 3 7;node 6 Box 7 8;node 7 App 6 8 9;node 8 Root 9;end;
@@ -226,7 +268,7 @@ goi net p|(1, 2)|1 refused: NotGround;
 
 /// Whether a call without any words is refused.
 fn refuses_no_words(alloc: Global) -> Result<bool, AllocError> {
-    let mut files = files(alloc, b"0", SOUND)?;
+    let mut files = files(alloc, b"0", b"", SOUND)?;
     let seen = answered(alloc, &Vec::new(alloc), &mut files, SOUND)?;
     Ok(seen.as_slice() == b"2 refused words;".as_slice())
 }
@@ -239,11 +281,24 @@ fn other_refusals(rt: HostRuntime) -> Result<(), Fail> {
 goi|0|2 refused words;
 goi run|0|2 refused words;
 goi go p|0|2 refused words;
+goi help|0|2 refused words;
+goi run --help|0|2 refused words;
 goi run -p|0|2 refused words;
-goi run |0|2 refused words;
 goi run p --term|0|2 refused words;
-goi check --term p|0|2 refused words;
+goi run p --budget 0|0|2 refused words;
+goi run p --budget 10000001|0|2 refused words;
+goi run p --workers 0|0|2 refused words;
+goi run p --workers 65|0|2 refused words;
+goi run q --workers 65|0|2 refused words;
+goi replay p|0|2 refused words;
+goi demo 13|0|2 refused words;
+goi demo p|0|2 refused words;
+goi run |0|3 read failed;
 goi run q|0|3 read failed;
+goi run -- --budget|0|3 read failed;
+goi check --term p|0|0 type nat;term 0;
+goi run --budget=1 p|0|5 no value;moves 1;
+goi run -- p|0|0 value 0;moves 2;
 ";
     assert!(rt; first_wrong(rt.alloc(), table)? == None);
     assert!(rt; refuses_no_words(rt.alloc())?);
