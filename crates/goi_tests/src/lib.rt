@@ -10,6 +10,8 @@ mod programs;
 mod rows;
 #[cfg(test)]
 mod schedules;
+#[cfg(test)]
+mod several;
 mod sure;
 #[cfg(test)]
 mod types;

@@ -3,7 +3,9 @@
 use crate::programs::{SOUND, told, told_both};
 use crate::rows::cut;
 use std::alloc::{AllocError, Global};
+use std::sync::Wait;
 use std::test::Fail;
+use std::thread::Threads;
 
 /// A text with a line feed for each `;`.
 fn feed_lines(alloc: Global, text: &str) -> Result<Vec<u8>, AllocError> {
@@ -15,28 +17,40 @@ fn feed_lines(alloc: Global, text: &str) -> Result<Vec<u8>, AllocError> {
 }
 
 /// Whether `goi replay p s` on these texts leaves this.
-fn replay_leaves(
+fn replay_leaves<R: Threads + Wait + Sync>(
+    rt: &R,
     alloc: Global,
     text: &str,
     schedule: &[u8],
     wanted: &str,
 ) -> Result<bool, AllocError> {
-    let seen = told_both(alloc, "goi replay p s", text.as_bytes(), schedule, SOUND)?;
+    let seen = told_both(
+        rt,
+        alloc,
+        "goi replay p s",
+        text.as_bytes(),
+        schedule,
+        SOUND,
+    )?;
     Ok(seen.as_slice() == wanted.as_bytes())
 }
 
 /// Whether a row is so: the text of `p`, that of `s` with `;` for each line feed, and what `goi replay p s` leaves.
-fn holds(alloc: Global, row: &str) -> Result<bool, AllocError> {
+fn holds<R: Threads + Wait + Sync>(rt: &R, alloc: Global, row: &str) -> Result<bool, AllocError> {
     let (text, rest) = cut(row);
     let (schedule, wanted) = cut(rest);
     let lines = feed_lines(alloc, schedule)?;
-    replay_leaves(alloc, text, &lines, wanted)
+    replay_leaves(rt, alloc, text, &lines, wanted)
 }
 
 /// The number of the first line that isn't so. Empty lines are no rows.
-fn first_wrong(alloc: Global, table: &str) -> Result<Option<usize>, AllocError> {
+fn first_wrong<R: Threads + Wait + Sync>(
+    rt: &R,
+    alloc: Global,
+    table: &str,
+) -> Result<Option<usize>, AllocError> {
     for (i, row) in table.split('\n').enumerate() {
-        if !row.is_empty() && !holds(alloc, row)? {
+        if !row.is_empty() && !holds(rt, alloc, row)? {
             return Ok(Some(i));
         }
     }
@@ -68,7 +82,7 @@ fn schedules(rt: HostRuntime) -> Result<(), Fail> {
 1 + 2|schedule 2;0 10000000;1 1;end;|7 refused: TooLong(3);
 1 + 2|schedule 2;0 3;|7 refused: NoEnd;
 ";
-    assert!(rt; first_wrong(rt.alloc(), table)? == None);
+    assert!(rt; first_wrong(&rt, rt.alloc(), table)? == None);
     Ok(())
 }
 
@@ -83,24 +97,31 @@ fun x:nat. x|no schedule|1 refused: NotGround;
 0|no schedule|7 refused: BadHeader;
 fix y:nat. y|schedule 2;0 7;end;|5 no value;moves 7;
 ";
-    assert!(rt; first_wrong(rt.alloc(), table)? == None);
+    assert!(rt; first_wrong(&rt, rt.alloc(), table)? == None);
     Ok(())
 }
 
 /// Whether a call with these words leaves this, where `p` has this text and `s` none.
-fn leaves(alloc: Global, words: &str, text: &str, wanted: &str) -> Result<bool, AllocError> {
-    let seen = told(alloc, words, text.as_bytes(), SOUND)?;
+fn leaves<R: Threads + Wait + Sync>(
+    rt: &R,
+    alloc: Global,
+    words: &str,
+    text: &str,
+    wanted: &str,
+) -> Result<bool, AllocError> {
+    let seen = told(rt, alloc, words, text.as_bytes(), SOUND)?;
     Ok(seen.as_slice() == wanted.as_bytes())
 }
 
 #[test]
 fn files_that_are_not_there(rt: HostRuntime) -> Result<(), Fail> {
     let alloc = rt.alloc();
-    assert!(rt; leaves(alloc, "goi replay q s", "0", "3 read failed;")?);
-    assert!(rt; leaves(alloc, "goi replay p t", "0", "3 read failed;")?);
-    assert!(rt; leaves(alloc, "goi replay p t", "x", "1 refused: Unbound(0);")?);
+    assert!(rt; leaves(&rt, alloc, "goi replay q s", "0", "3 read failed;")?);
+    assert!(rt; leaves(&rt, alloc, "goi replay p t", "0", "3 read failed;")?);
+    assert!(rt; leaves(&rt, alloc, "goi replay p t", "x", "1 refused: Unbound(0);")?);
     assert!(rt;
         leaves(
+            &rt,
             alloc,
             "goi replay p t",
             "fun x:nat. x",
@@ -121,10 +142,15 @@ fn thirty_moves(alloc: Global) -> Result<Vec<u8>, AllocError> {
 }
 
 /// Whether a replay leaves this where the schedule is cut to so many bytes.
-fn cut_leaves(alloc: Global, count: usize, wanted: &str) -> Result<bool, AllocError> {
+fn cut_leaves<R: Threads + Wait + Sync>(
+    rt: &R,
+    alloc: Global,
+    count: usize,
+    wanted: &str,
+) -> Result<bool, AllocError> {
     let text = thirty_moves(alloc)?;
     let kept = text.get(..count).unwrap_or(&text);
-    replay_leaves(alloc, "(fun x:nat. x + x) 3", kept, wanted)
+    replay_leaves(rt, alloc, "(fun x:nat. x + x) 3", kept, wanted)
 }
 
 #[test]
@@ -142,7 +168,7 @@ fn a_schedule_that_is_cut(rt: HostRuntime) -> Result<(), Fail> {
         (75, "0 value 6;moves 30;"),
     ];
     for (count, wanted) in rows {
-        assert!(rt; cut_leaves(rt.alloc(), count, wanted)?);
+        assert!(rt; cut_leaves(&rt, rt.alloc(), count, wanted)?);
     }
     Ok(())
 }
@@ -163,10 +189,15 @@ fn printed_schedule(alloc: Global, seen: &[u8]) -> Result<Vec<u8>, AllocError> {
 }
 
 /// Whether the schedule that a run of this text prints is replayed to this.
-fn is_replayed(alloc: Global, text: &str, wanted: &str) -> Result<bool, AllocError> {
-    let seen = told(alloc, "goi run p --schedule", text.as_bytes(), SOUND)?;
+fn is_replayed<R: Threads + Wait + Sync>(
+    rt: &R,
+    alloc: Global,
+    text: &str,
+    wanted: &str,
+) -> Result<bool, AllocError> {
+    let seen = told(rt, alloc, "goi run p --schedule", text.as_bytes(), SOUND)?;
     let schedule = printed_schedule(alloc, &seen)?;
-    replay_leaves(alloc, text, &schedule, wanted)
+    replay_leaves(rt, alloc, text, &schedule, wanted)
 }
 
 #[test]
@@ -174,9 +205,9 @@ fn what_is_printed_is_replayed(rt: HostRuntime) -> Result<(), Fail> {
     let alloc = rt.alloc();
     let recursion = "(fix f:nat->nat. fun n:nat. ifz n then 0 else n + f (pred n)) 3";
     let twice = "(fun d:nat->nat. d 1 + d 2) (fun x:nat. x + x)";
-    assert!(rt; is_replayed(alloc, "(fun x:nat. x + x) 3", "0 value 6;moves 30;")?);
-    assert!(rt; is_replayed(alloc, recursion, "0 value 6;moves 330;")?);
-    assert!(rt; is_replayed(alloc, twice, "0 value 6;moves 126;")?);
-    assert!(rt; is_replayed(alloc, "fix y:nat. y", "5 no value;moves 10000;")?);
+    assert!(rt; is_replayed(&rt, alloc, "(fun x:nat. x + x) 3", "0 value 6;moves 30;")?);
+    assert!(rt; is_replayed(&rt, alloc, recursion, "0 value 6;moves 330;")?);
+    assert!(rt; is_replayed(&rt, alloc, twice, "0 value 6;moves 126;")?);
+    assert!(rt; is_replayed(&rt, alloc, "fix y:nat. y", "5 no value;moves 10000;")?);
     Ok(())
 }

@@ -29,7 +29,7 @@ one_job : (o : Option JobTree) (j k : JobTree) → o ≡ Some j → o ≡ Some k
 one_job o j k e f = ap (job_or j) (sym e ∙ f)
 
 pub returns : goal.returns
-returns c =
+returns g c =
     let p = c.goi.ensures.promise in
     record {
       written = λ file workers budget asked. p.sure (record {
