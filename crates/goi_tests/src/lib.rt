@@ -8,6 +8,10 @@
 mod programs;
 #[cfg(test)]
 mod rows;
+#[cfg(test)]
+mod schedules;
+#[cfg(test)]
+mod several;
 mod sure;
 #[cfg(test)]
 mod types;

@@ -1,12 +1,15 @@
 //! Whole calls over files and sinks in memory: what each status writes, and what every failing device leaves.
 
 use crate::rows::{cut, first_wrong};
+use gate_workers::OpenGate;
 use goi_engine::goi;
 use goi_world::{MemoryFiles, MemorySink};
 use pcf_reader::read_program;
 use pcf_values::{Ident, Named, Raw};
 use std::alloc::{AllocError, Global};
+use std::sync::Wait;
 use std::test::Fail;
+use std::thread::Threads;
 
 /// The devices of a call: how many bytes a call of each takes at most, how much the output holds, and which calls fail.
 #[derive(Clone, Copy)]
@@ -26,10 +29,16 @@ pub(crate) const SOUND: Devices<'static> = Devices {
     errs: &[],
 };
 
-/// The files of a call: `p` alone, with this text.
-fn files(alloc: Global, text: &[u8], devices: Devices<'_>) -> Result<MemoryFiles, AllocError> {
+/// The files of a call: `p` with this text, and `s`, the text of a schedule.
+fn files(
+    alloc: Global,
+    text: &[u8],
+    schedule: &[u8],
+    devices: Devices<'_>,
+) -> Result<MemoryFiles, AllocError> {
     let mut held = Vec::new(alloc);
     held.push((Ident::from_text(alloc, "p")?, text.to_vec(alloc)?))?;
+    held.push((Ident::from_text(alloc, "s")?, schedule.to_vec(alloc)?))?;
     Ok(MemoryFiles::new(held, devices.most.max(1), devices.reads.to_vec(alloc)?))
 }
 
@@ -66,7 +75,8 @@ fn seen(
     Ok(seen)
 }
 
-fn answered(
+fn answered<R: Threads + Wait + Sync>(
+    rt: &R,
     alloc: Global,
     words: &Vec<String>,
     files: &mut MemoryFiles,
@@ -74,37 +84,56 @@ fn answered(
 ) -> Result<Vec<u8>, AllocError> {
     let mut out = sink(alloc, devices.room, devices.most, devices.outs)?;
     let mut err = sink(alloc, 100, devices.most, devices.errs)?;
-    let status = goi(alloc, words, files, &mut out, &mut err);
+    let status = goi(rt, alloc, words, files, &mut out, &mut err, &OpenGate);
     seen(alloc, status, &out, &err)
 }
 
 /// What a call with these words leaves: its status, and what was written to the output and to the error output, with `;` for each
 /// line feed.
-pub(crate) fn told(
+pub(crate) fn told<R: Threads + Wait + Sync>(
+    rt: &R,
     alloc: Global,
     words: &str,
     text: &[u8],
     devices: Devices<'_>,
 ) -> Result<Vec<u8>, AllocError> {
+    told_both(rt, alloc, words, text, b"", devices)
+}
+
+/// The same where `s` has a text too.
+pub(crate) fn told_both<R: Threads + Wait + Sync>(
+    rt: &R,
+    alloc: Global,
+    words: &str,
+    text: &[u8],
+    schedule: &[u8],
+    devices: Devices<'_>,
+) -> Result<Vec<u8>, AllocError> {
     let words = texts(alloc, words)?;
-    let mut files = files(alloc, text, devices)?;
-    answered(alloc, &words, &mut files, devices)
+    let mut files = files(alloc, text, schedule, devices)?;
+    answered(rt, alloc, &words, &mut files, devices)
 }
 
 /// Whether a call with these words leaves this.
-pub(crate) fn leaves(
+pub(crate) fn leaves<R: Threads + Wait + Sync>(
+    rt: &R,
     alloc: Global,
     words: &str,
     text: &[u8],
     devices: Devices<'_>,
     wanted: &str,
 ) -> Result<bool, AllocError> {
-    Ok(told(alloc, words, text, devices)?.as_slice() == wanted.as_bytes())
+    Ok(told(rt, alloc, words, text, devices)?.as_slice() == wanted.as_bytes())
 }
 
 /// The same for `goi run p`.
-fn run_leaves(alloc: Global, text: &[u8], wanted: &str) -> Result<bool, AllocError> {
-    leaves(alloc, "goi run p", text, SOUND, wanted)
+fn run_leaves<R: Threads + Wait + Sync>(
+    rt: &R,
+    alloc: Global,
+    text: &[u8],
+    wanted: &str,
+) -> Result<bool, AllocError> {
+    leaves(rt, alloc, "goi run p", text, SOUND, wanted)
 }
 
 #[test]
@@ -132,9 +161,10 @@ goi check p --term|(fun x:nat. x+x) 0007|0 type nat;term (fun x:nat. x + x) 7;
 goi check p --term|fst (1, fix y:nat. y)|0 type nat;term fst (1, fix y:nat. y);
 goi check p --term|1 - (2 - 3) * 4|0 type nat;term 1 - (2 - 3) * 4;
 ";
-    assert!(rt; first_wrong(rt.alloc(), table)? == None);
+    assert!(rt; first_wrong(&rt, rt.alloc(), table)? == None);
     assert!(rt;
         run_leaves(
+            &rt,
             rt.alloc(),
             b"\n \t\r\nsucc\n4\n# four",
             "0 value 5;moves 4;"
@@ -166,7 +196,31 @@ goi run p|(fun p:nat * nat. fst p - snd p) (9, 4)|0 value 5;moves 38;
 goi run p|(fix f:nat->nat. fun n:nat. ifz n then 1 else n * f (pred n)) 3|0 value 6;moves 330;
 goi run p|(fix f:nat->nat. fun n:nat. ifz n then 7 else (fix g:nat->nat. fun m:nat. ifz m then f (pred n) else g (pred m)) 1) 1|0 value 7;moves 136;
 ";
-    assert!(rt; first_wrong(rt.alloc(), table)? == None);
+    assert!(rt; first_wrong(&rt, rt.alloc(), table)? == None);
+    Ok(())
+}
+
+#[test]
+fn budgets_schedules_and_tallies(rt: HostRuntime) -> Result<(), Fail> {
+    let table = "
+goi run p --budget 6|1 + 2|0 value 3;moves 6;
+goi run p --budget 5|1 + 2|5 no value;moves 5;
+goi run p --budget 1|fix y:nat. y|5 no value;moves 1;
+goi run p --budget 7|fix y:nat. y|5 no value;moves 7;
+goi run p --budget 10000|fix y:nat. y|5 no value;moves 10000;
+goi run p --budget 100000|fix y:nat. y|5 no value;moves 100000;
+goi run p --budget 10000000|0|0 value 0;moves 2;
+goi run p --workers 64 --budget 10000|0|0 value 0;moves 2;
+goi run p --schedule|1 + 2|0 value 3;moves 6;schedule 2;0 3;1 3;end;
+goi run p --schedule|(fun x:nat. x + x) 3|0 value 6;moves 30;schedule 2;0 15;1 15;end;
+goi run p --schedule --budget 4|1 + 2|5 no value;moves 4;schedule 2;0 3;1 1;end;
+goi run p --tally|1 + 2|0 value 3;moves 6;worker 0 6;finisher 0;
+goi run --tally p --schedule|1 + 2|0 value 3;moves 6;schedule 2;0 3;1 3;end;worker 0 6;finisher 0;
+goi demo 0|x|0 demo 0;nodes 9;value 2;moves 58;
+goi demo 6|x|0 demo 6;nodes 261;value 128;moves 5890;
+goi demo 12|x|0 demo 12;nodes 16389;value 8192;moves 524290;
+";
+    assert!(rt; first_wrong(&rt, rt.alloc(), table)? == None);
     Ok(())
 }
 
@@ -179,7 +233,7 @@ goi net p|(fun x:nat. ifz x then x else x) 1|0 net 1;wire 0 value 0 nat;wire 1 v
 goi net p|fst (snd (1, (2 - 3, pred 4 * 5)))|0 net 1;wire 0 value 0 nat;wire 1 value 0 nat;wire 2 value 0 nat;wire 3 value 0 nat;wire 4 value 0 nat;wire 5 value 0 nat;wire 6 value 0 nat;wire 7 value 0 nat;wire 8 value 0 nat * nat;wire 9 value 0 nat * nat * nat;wire 10 value 0 nat * nat;wire 11 value 0 nat;node 0 Const 1 0;node 1 Const 2 1;node 2 Const 3 2;node 3 Minus 1 2 3;node 4 Const 4 4;node 5 Pred 4 5;node 6 Const 5 6;node 7 Times 5 6 7;node 8 Pair 3 7 8;node 9 Pair 0 8 9;node 10 Snd 9 10;node 11 Fst 10 11;node 12 Root 11;end;
 goi net p|(fun f:nat->nat. fix x:nat. f x) (fun z:nat. succ 1)|0 net 1;wire 0 value 1 nat -> nat;wire 1 var 1 nat -> nat;wire 2 value 2 nat;wire 3 var 2 nat;wire 4 var 1 nat;wire 5 bang 1 nat;wire 6 value 1 nat;wire 7 var 0 nat -> nat;wire 8 value 0 nat;wire 9 value 0 (nat -> nat) -> nat;wire 10 value 1 nat;wire 11 value 1 nat;wire 12 var 1 nat;wire 13 value 1 nat -> nat;wire 14 bang 0 nat -> nat;wire 15 value 0 nat;node 0 Der 0 1;node 1 Der 2 3;node 2 Door 3 4;node 3 Box 2 5;node 4 App 0 5 6;node 5 Door 1 7;node 6 FixBox 6 4 8;node 7 Lam 8 7 9;node 8 Const 1 10;node 9 Succ 10 11;node 10 Weak 12;node 11 Lam 11 12 13;node 12 Box 13 14;node 13 App 9 14 15;node 14 Root 15;end;
 ";
-    assert!(rt; first_wrong(rt.alloc(), table)? == None);
+    assert!(rt; first_wrong(&rt, rt.alloc(), table)? == None);
     Ok(())
 }
 
@@ -219,15 +273,15 @@ goi net p|fun fst:nat. 1|1 refused: Unexpected(4);
 goi net p|succ (fun x:nat. x)|1 refused: NatWanted(6);
 goi net p|(1, 2)|1 refused: NotGround;
 ";
-    assert!(rt; first_wrong(rt.alloc(), table)? == None);
-    assert!(rt; run_leaves(rt.alloc(), b"1\xFF", "1 refused: NotText(1);")?);
+    assert!(rt; first_wrong(&rt, rt.alloc(), table)? == None);
+    assert!(rt; run_leaves(&rt, rt.alloc(), b"1\xFF", "1 refused: NotText(1);")?);
     Ok(())
 }
 
 /// Whether a call without any words is refused.
-fn refuses_no_words(alloc: Global) -> Result<bool, AllocError> {
-    let mut files = files(alloc, b"0", SOUND)?;
-    let seen = answered(alloc, &Vec::new(alloc), &mut files, SOUND)?;
+fn refuses_no_words<R: Threads + Wait + Sync>(rt: &R, alloc: Global) -> Result<bool, AllocError> {
+    let mut files = files(alloc, b"0", b"", SOUND)?;
+    let seen = answered(rt, alloc, &Vec::new(alloc), &mut files, SOUND)?;
     Ok(seen.as_slice() == b"2 refused words;".as_slice())
 }
 
@@ -239,14 +293,27 @@ fn other_refusals(rt: HostRuntime) -> Result<(), Fail> {
 goi|0|2 refused words;
 goi run|0|2 refused words;
 goi go p|0|2 refused words;
+goi help|0|2 refused words;
+goi run --help|0|2 refused words;
 goi run -p|0|2 refused words;
-goi run |0|2 refused words;
 goi run p --term|0|2 refused words;
-goi check --term p|0|2 refused words;
+goi run p --budget 0|0|2 refused words;
+goi run p --budget 10000001|0|2 refused words;
+goi run p --workers 0|0|2 refused words;
+goi run p --workers 65|0|2 refused words;
+goi run q --workers 65|0|2 refused words;
+goi replay p|0|2 refused words;
+goi demo 13|0|2 refused words;
+goi demo p|0|2 refused words;
+goi run |0|3 read failed;
 goi run q|0|3 read failed;
+goi run -- --budget|0|3 read failed;
+goi check --term p|0|0 type nat;term 0;
+goi run --budget=1 p|0|5 no value;moves 1;
+goi run -- p|0|0 value 0;moves 2;
 ";
-    assert!(rt; first_wrong(rt.alloc(), table)? == None);
-    assert!(rt; refuses_no_words(rt.alloc())?);
+    assert!(rt; first_wrong(&rt, rt.alloc(), table)? == None);
+    assert!(rt; refuses_no_words(&rt, rt.alloc())?);
     Ok(())
 }
 
@@ -279,7 +346,8 @@ fn groups(alloc: Global, count: u32) -> Result<Vec<u8>, AllocError> {
 }
 
 /// Whether this is what `goi run p` leaves on a nested text.
-fn nested_leaves(
+fn nested_leaves<R: Threads + Wait + Sync>(
+    rt: &R,
     alloc: Global,
     open: &str,
     close: &str,
@@ -287,40 +355,50 @@ fn nested_leaves(
     wanted: &str,
 ) -> Result<bool, AllocError> {
     let text = nested(alloc, open.as_bytes(), close.as_bytes(), count)?;
-    run_leaves(alloc, &text, wanted)
+    run_leaves(rt, alloc, &text, wanted)
 }
 
-fn groups_leave(alloc: Global, count: u32, wanted: &str) -> Result<bool, AllocError> {
+fn groups_leave<R: Threads + Wait + Sync>(
+    rt: &R,
+    alloc: Global,
+    count: u32,
+    wanted: &str,
+) -> Result<bool, AllocError> {
     let text = groups(alloc, count)?;
-    run_leaves(alloc, &text, wanted)
+    run_leaves(rt, alloc, &text, wanted)
 }
 
-fn keeps_the_limits(alloc: Global) -> Result<bool, AllocError> {
+fn keeps_the_limits<R: Threads + Wait + Sync>(rt: &R, alloc: Global) -> Result<bool, AllocError> {
     Ok(
-        nested_leaves(alloc, "succ ", "", 500, "0 value 500;moves 1002;")?
-            && nested_leaves(alloc, "succ ", "", 501, "1 refused: TooDeep(2500);")?
-            && nested_leaves(alloc, "(", ")", 500, "0 value 0;moves 2;")?
-            && nested_leaves(alloc, " ", "", 1_048_575, "0 value 0;moves 2;")?
-            && nested_leaves(alloc, " ", "", 1_048_576, "1 refused: TooLong;")?
-            && groups_leave(alloc, 256, "1 refused: FunctionWanted(1);")?
-            && groups_leave(alloc, 257, "1 refused: TooLarge(33281);")?,
+        nested_leaves(rt, alloc, "succ ", "", 500, "0 value 500;moves 1002;")?
+            && nested_leaves(rt, alloc, "succ ", "", 501, "1 refused: TooDeep(2500);")?
+            && nested_leaves(rt, alloc, "(", ")", 500, "0 value 0;moves 2;")?
+            && nested_leaves(rt, alloc, " ", "", 1_048_575, "0 value 0;moves 2;")?
+            && nested_leaves(rt, alloc, " ", "", 1_048_576, "1 refused: TooLong;")?
+            && groups_leave(rt, alloc, 256, "1 refused: FunctionWanted(1);")?
+            && groups_leave(rt, alloc, 257, "1 refused: TooLarge(33281);")?,
     )
 }
 
 #[test]
 fn the_limits(rt: HostRuntime) -> Result<(), Fail> {
-    assert!(rt; keeps_the_limits(rt.alloc())?);
+    assert!(rt; keeps_the_limits(&rt, rt.alloc())?);
     Ok(())
 }
 
 /// Whether this is left where the call to the files of this number fails. They give a byte a call.
-fn failed_read_leaves(alloc: Global, failing: u64, wanted: &str) -> Result<bool, AllocError> {
+fn failed_read_leaves<R: Threads + Wait + Sync>(
+    rt: &R,
+    alloc: Global,
+    failing: u64,
+    wanted: &str,
+) -> Result<bool, AllocError> {
     let devices = Devices {
         most: 1,
         reads: &[failing],
         ..SOUND
     };
-    leaves(alloc, "goi run p", b"succ 4", devices, wanted)
+    leaves(rt, alloc, "goi run p", b"succ 4", devices, wanted)
 }
 
 #[test]
@@ -332,7 +410,7 @@ fn reads_that_fail(rt: HostRuntime) -> Result<(), Fail> {
         } else {
             "3 read failed;"
         };
-        assert!(rt; failed_read_leaves(rt.alloc(), failing, wanted)?);
+        assert!(rt; failed_read_leaves(&rt, rt.alloc(), failing, wanted)?);
     }
     Ok(())
 }
@@ -385,7 +463,8 @@ fn high(
     Ok(text)
 }
 
-fn sums_leave(
+fn sums_leave<R: Threads + Wait + Sync>(
+    rt: &R,
     alloc: Global,
     front: &str,
     groups: (u32, u32),
@@ -394,10 +473,11 @@ fn sums_leave(
     wanted: &str,
 ) -> Result<bool, AllocError> {
     let text = sums(alloc, front.as_bytes(), groups, last, back.as_bytes())?;
-    run_leaves(alloc, &text, wanted)
+    run_leaves(rt, alloc, &text, wanted)
 }
 
-fn high_leaves(
+fn high_leaves<R: Threads + Wait + Sync>(
+    rt: &R,
     alloc: Global,
     front: &str,
     levels: u32,
@@ -405,20 +485,45 @@ fn high_leaves(
     wanted: &str,
 ) -> Result<bool, AllocError> {
     let text = high(alloc, front.as_bytes(), levels, 500, back.as_bytes())?;
-    run_leaves(alloc, &text, wanted)
+    run_leaves(rt, alloc, &text, wanted)
 }
 
-fn ones_leave(alloc: Global, count: u32, wanted: &str) -> Result<bool, AllocError> {
+fn ones_leave<R: Threads + Wait + Sync>(
+    rt: &R,
+    alloc: Global,
+    count: u32,
+    wanted: &str,
+) -> Result<bool, AllocError> {
     let text = ones(alloc, b" + ", count)?;
-    run_leaves(alloc, &text, wanted)
+    run_leaves(rt, alloc, &text, wanted)
 }
 
 #[test]
 fn long_runs(rt: HostRuntime) -> Result<(), Fail> {
-    assert!(rt; ones_leave(rt.alloc(), 500, "0 value 500;moves 1998;")?);
-    assert!(rt; ones_leave(rt.alloc(), 501, "1 refused: TooDeep(1998);")?);
-    assert!(rt; sums_leave(rt.alloc(), "", (49, 50), 50, "", "0 value 2500;moves 9998;")?);
-    assert!(rt; sums_leave(rt.alloc(), "", (50, 50), 50, "", "5 no value;moves 10000;")?);
+    assert!(rt; ones_leave(&rt, rt.alloc(), 500, "0 value 500;moves 1998;")?);
+    assert!(rt; ones_leave(&rt, rt.alloc(), 501, "1 refused: TooDeep(1998);")?);
+    assert!(rt;
+        sums_leave(
+            &rt,
+            rt.alloc(),
+            "",
+            (49, 50),
+            50,
+            "",
+            "0 value 2500;moves 9998;"
+        )?
+    );
+    assert!(rt;
+        sums_leave(
+            &rt,
+            rt.alloc(),
+            "",
+            (50, 50),
+            50,
+            "",
+            "5 no value;moves 10000;"
+        )?
+    );
     Ok(())
 }
 
@@ -426,9 +531,20 @@ fn long_runs(rt: HostRuntime) -> Result<(), Fail> {
 fn the_largest_programs_run(rt: HostRuntime) -> Result<(), Fail> {
     let alloc = rt.alloc();
     // 32,768 nodes, most of which are not asked for, one node more, and 32,768 nodes that are all asked for
-    assert!(rt; sums_leave(alloc, "fst (7, ", (255, 64), 63, ")", "0 value 7;moves 6;")?);
     assert!(rt;
         sums_leave(
+            &rt,
+            alloc,
+            "fst (7, ",
+            (255, 64),
+            63,
+            ")",
+            "0 value 7;moves 6;"
+        )?
+    );
+    assert!(rt;
+        sums_leave(
+            &rt,
             alloc,
             "fst (7, ",
             (255, 64),
@@ -439,6 +555,7 @@ fn the_largest_programs_run(rt: HostRuntime) -> Result<(), Fail> {
     );
     assert!(rt;
         sums_leave(
+            &rt,
             alloc,
             "succ (",
             (255, 64),
@@ -456,15 +573,19 @@ fn the_highest_programs_run(rt: HostRuntime) -> Result<(), Fail> {
     // the high part is not asked for, and then it is
     let front =
         "fst (1, (fun h:(nat*nat->nat)->nat. h (fun p:nat*nat. snd p)) (fun f:nat*nat->nat. ";
-    assert!(rt; high_leaves(alloc, front, 496, "))", "0 value 1;moves 6;")?);
+    assert!(rt; high_leaves(&rt, alloc, front, 496, "))", "0 value 1;moves 6;")?);
     let front = "(fun h:(nat*nat->nat)->nat. h (fun p:nat*nat. snd p)) (fun f:nat*nat->nat. ";
-    assert!(rt; high_leaves(alloc, front, 498, ")", "5 no value;moves 10000;")?);
+    assert!(rt; high_leaves(&rt, alloc, front, 498, ")", "5 no value;moves 10000;")?);
     Ok(())
 }
 
 /// Whether a row is so: a text, what a call on it leaves, how much the output holds, and which call to it fails and which to the error
 /// output, 0 for none. A sink takes 8 bytes in a call.
-fn failed_write_leaves(alloc: Global, row: &str) -> Result<bool, AllocError> {
+fn failed_write_leaves<R: Threads + Wait + Sync>(
+    rt: &R,
+    alloc: Global,
+    row: &str,
+) -> Result<bool, AllocError> {
     let (text, rest) = cut(row);
     let (wanted, rest) = cut(rest);
     let (room, rest) = cut(rest);
@@ -476,7 +597,7 @@ fn failed_write_leaves(alloc: Global, row: &str) -> Result<bool, AllocError> {
         outs: &[out.parse().unwrap_or(0)],
         errs: &[err.parse().unwrap_or(0)],
     };
-    leaves(alloc, "goi run p", text.as_bytes(), devices, wanted)
+    leaves(rt, alloc, "goi run p", text.as_bytes(), devices, wanted)
 }
 
 #[test]
@@ -491,7 +612,7 @@ succ 4|4 |4000|1|1
 |4 |4000|0|1
 |4 refused:|4000|0|2";
     for row in table.split('\n') {
-        assert!(rt; failed_write_leaves(rt.alloc(), row)?);
+        assert!(rt; failed_write_leaves(&rt, rt.alloc(), row)?);
     }
     Ok(())
 }
@@ -557,10 +678,14 @@ fn read(alloc: Global, text: &[u8]) -> Result<Box<Named>, AllocError> {
 }
 
 /// The nodes of a doubled sum's term, and the wires and the nodes of its net.
-fn sizes(alloc: Global, doublings: u32) -> Result<(u64, u64, u64), AllocError> {
+fn sizes<R: Threads + Wait + Sync>(
+    rt: &R,
+    alloc: Global,
+    doublings: u32,
+) -> Result<(u64, u64, u64), AllocError> {
     let text = doubled(alloc, doublings)?;
     let tree = read(alloc, &text)?;
-    let seen = told(alloc, "goi net p", &text, SOUND)?;
+    let seen = told(rt, alloc, "goi net p", &text, SOUND)?;
     // the listing's first line begins with an n too, but stands behind the status
     Ok((size(&tree), lines(&seen, b'w'), lines(&seen, b'n')))
 }
@@ -575,7 +700,7 @@ fn sizes_of_doubled_sums(rt: HostRuntime) -> Result<(), Fail> {
         (12, 16_389, 28_680, 24_583),
     ];
     for (doublings, term, wires, nodes) in rows {
-        assert!(rt; sizes(rt.alloc(), doublings)? == (term, wires, nodes));
+        assert!(rt; sizes(&rt, rt.alloc(), doublings)? == (term, wires, nodes));
     }
     Ok(())
 }

@@ -2,6 +2,8 @@
 
 use crate::programs::{SOUND, leaves};
 use std::alloc::{AllocError, Global};
+use std::sync::Wait;
+use std::thread::Threads;
 
 /// What stands before the first `|`, and what stands behind it.
 pub(crate) fn cut(text: &str) -> (&str, &str) {
@@ -9,17 +11,21 @@ pub(crate) fn cut(text: &str) -> (&str, &str) {
 }
 
 /// Whether a call with a row's words, on a file `p` with its text, leaves what the row says.
-fn holds(alloc: Global, row: &str) -> Result<bool, AllocError> {
+fn holds<R: Threads + Wait + Sync>(rt: &R, alloc: Global, row: &str) -> Result<bool, AllocError> {
     let (words, rest) = cut(row);
     let (text, wanted) = cut(rest);
-    leaves(alloc, words, text.as_bytes(), SOUND, wanted)
+    leaves(rt, alloc, words, text.as_bytes(), SOUND, wanted)
 }
 
 /// The number of the first line that isn't so. A row is the words of a call, the text of a file `p`, and what the call leaves. Empty
 /// lines are no rows.
-pub(crate) fn first_wrong(alloc: Global, table: &str) -> Result<Option<usize>, AllocError> {
+pub(crate) fn first_wrong<R: Threads + Wait + Sync>(
+    rt: &R,
+    alloc: Global,
+    table: &str,
+) -> Result<Option<usize>, AllocError> {
     for (i, row) in table.split('\n').enumerate() {
-        if !row.is_empty() && !holds(alloc, row)? {
+        if !row.is_empty() && !holds(rt, alloc, row)? {
             return Ok(Some(i));
         }
     }

@@ -1,30 +1,36 @@
 //! A caller whose devices are sure: what it may conclude of a run.
 
-ghost use Rattle.std.specs.Prelude.{◌≡◌, ◌≢◌, ◌≤◌, ◌∷◌, [], ℕ, IsTrue, List, Some, map, string_bytes};
+ghost use Rattle.std.specs.Prelude.{◌≡◌, ◌≢◌, ◌≤◌, ◌∷◌, [], ℕ, IsTrue, List, Some, false, map, string_bytes};
 ghost use Rattle.goi_world.specs.FilesInMemory.{lacked_by};
 ghost use Rattle.goi_world.specs.Outside.{none_listed};
 ghost use Rattle.goi_world.specs.SinkInMemory.{sure_room};
-ghost use Rattle.goi_engine.specs.Jobs.{job, run};
-ghost use Rattle.goi_engine.specs.Reports.{most_line};
+ghost use Rattle.goi_words.specs.Asked.{job};
+ghost use Rattle.goi_words.specs.Jobs.{run};
+ghost use Rattle.goi_engine.specs.Refusals.{most_line};
 
+use gate_workers::Gate;
 use goi_engine::goi;
 use goi_world::{MemoryFiles, MemorySink};
 use std::alloc::Global;
+use std::sync::Wait;
+use std::thread::Threads;
 
-/// Runs a program of files in memory that never fail, with sinks in memory that have room for a line. Then no write fails, and a file is
-/// not read only where there is none of its name.
-pub fn run_surely(
+/// Runs a program of files in memory that never fail, with sinks in memory that have room for a line. Where neither schedule nor tally is
+/// asked for, no write fails, and a file is not read only where there is none of its name.
+pub fn run_surely<R: Threads + Wait + Sync, G: Gate>(
+    rt: &R,
     alloc: Global,
     words: &[String],
     files: &mut MemoryFiles,
     out: &mut MemorySink,
     err: &mut MemorySink,
+    gate: &G,
 ) -> u8
     requires files { IsTrue (none_listed files.old.fails) }
     requires out { most_line ≤ sure_room out.old }
     requires err { most_line ≤ sure_room err.old }
-    ensures written { (file : List ℕ) (budget : ℕ) → job (map string_bytes words.now) ≡ Some (run file budget) → result ≢ 4 }
-    ensures read { (file : List ℕ) (budget : ℕ) → job (map string_bytes words.now) ≡ Some (run file budget) → result ≡ 3 → IsTrue (lacked_by files.old file) }
+    ensures written { (file : List ℕ) (workers budget : ℕ) → job (map string_bytes words.now) ≡ Some (run file workers budget false false) → result ≢ 4 }
+    ensures read { (file : List ℕ) (workers budget : ℕ) → job (map string_bytes words.now) ≡ Some (run file workers budget false false) → result ≡ 3 → IsTrue (lacked_by files.old file) }
 {
-    goi(alloc, words, files, out, err)
+    goi(rt, alloc, words, files, out, err, gate)
 }
