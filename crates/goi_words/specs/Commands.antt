@@ -47,7 +47,8 @@ command name rules = record (new_shape name) { rules = rules }
 -- the subcommands
 abbrev pub run_command : Shape
 run_command = command (codes "run")
-    (operand (codes "file") ∷ workers_option ∷ budget_option ∷ flag (codes "schedule") ∷ flag (codes "tally") ∷ [])
+    (operand (codes "file") ∷ workers_option ∷ budget_option ∷ flag (codes "schedule") ∷ flag (codes "tally")
+    ∷ flag (codes "by-value") ∷ [])
 
 abbrev pub check_command : Shape
 check_command = command (codes "check") (operand (codes "file") ∷ flag (codes "term") ∷ [])

@@ -7,8 +7,9 @@ use Rattle.goi_words.specs.declared.jobs.Job.TheVariants.{Run, Check, ShowNet, R
 
 -- a job
 pub data JobTree : Type 0 where
-  -- run the program of a file, with so many workers and at most so many moves; print its schedule and its tally where asked
-  run : List ℕ → ℕ → ℕ → Bool → Bool → JobTree
+  -- run the program of a file, with so many workers and at most so many moves, and by value in place of by name where asked; print
+  -- its schedule and its tally where asked
+  run : List ℕ → ℕ → ℕ → Bool → Bool → Bool → JobTree
   -- print the type of the program of a file, and where asked the program itself
   check : List ℕ → Bool → JobTree
   -- print the listing of the net of the program of a file
@@ -20,7 +21,7 @@ pub data JobTree : Type 0 where
 
 -- the job of the code
 abbrev pub job_of : Job → JobTree
-job_of (Run file workers budget schedule tally) = run file workers budget schedule tally
+job_of (Run file workers budget schedule tally by_value) = run file workers budget schedule tally by_value
 job_of (Check file term) = check file term
 job_of (ShowNet file) = show_net file
 job_of (Replay file schedule) = replay file schedule
@@ -38,6 +39,6 @@ IsDemo n = n ≤ most_demo
 
 -- the numbers of a job are in their ranges
 abbrev pub IsWithinLimits : JobTree → Type 0
-IsWithinLimits (run file workers budget schedule tally) = IsWorkers workers × IsBudget budget
+IsWithinLimits (run file workers budget schedule tally by_value) = IsWorkers workers × IsBudget budget
 IsWithinLimits (demo n workers) = IsDemo n × IsWorkers workers
 IsWithinLimits _ = ⊤

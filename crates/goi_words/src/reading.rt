@@ -68,6 +68,7 @@ fn run_job(alloc: Global, found: &ArgMatches<'_>) -> Result<Job, WordFault>
         budget,
         schedule: is_set(found, "schedule"),
         tally: is_set(found, "tally"),
+        by_value: is_set(found, "by-value"),
     })
 }
 

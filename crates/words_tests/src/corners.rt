@@ -6,23 +6,28 @@ use std::test::Fail;
 #[test]
 fn plain_words(rt: HostRuntime) -> Result<(), Fail> {
     let rows = [
-        ("goi,run,p", "run [p] 1 10000 false false"),
+        ("goi,run,p", "run [p] 1 10000"),
         (
             "goi,run,p,--workers,64,--budget,10000000",
-            "run [p] 64 10000000 false false",
+            "run [p] 64 10000000",
         ),
         (
             "goi,run,p,--tally,--budget,5,--schedule,--workers,2",
-            "run [p] 2 5 true true",
+            "run [p] 2 5 schedule tally",
         ),
-        ("goi,run,p,--budget,1,--tally", "run [p] 1 1 false true"),
+        ("goi,run,p,--budget,1,--tally", "run [p] 1 1 tally"),
         ("goi,check,p", "check [p] false"),
         ("goi,check,p,--term", "check [p] true"),
         ("goi,net,p", "net [p]"),
         ("goi,replay,p,q", "replay [p] [q]"),
         ("goi,demo,0", "demo 0 1"),
         ("goi,demo,12,--workers,4", "demo 12 4"),
-        ("-x,run,run", "run [run] 1 10000 false false"),
+        ("-x,run,run", "run [run] 1 10000"),
+        ("goi,run,p,--by-value", "run [p] 1 10000 by-value"),
+        (
+            "goi,run,p,--by-value,--workers,2,--tally",
+            "run [p] 2 10000 tally by-value",
+        ),
     ];
     for (row, wanted) in rows {
         let got = answer(rt.alloc(), row)?;
@@ -48,6 +53,8 @@ fn commands_and_operands(rt: HostRuntime) -> Result<(), Fail> {
         ("goi,net,p,--tally", "refused"),
         ("goi,check,p,--budget,5", "refused"),
         ("goi,demo,1,--budget,5", "refused"),
+        ("goi,demo,1,--by-value", "refused"),
+        ("goi,check,p,--by-value", "refused"),
         // a request for help or for the version
         ("goi,help", "refused"),
         ("goi,--help", "refused"),
@@ -56,7 +63,7 @@ fn commands_and_operands(rt: HostRuntime) -> Result<(), Fail> {
         ("goi,run,p,-h", "refused"),
         ("goi,help,run", "refused"),
         ("goi,--version", "refused"),
-        ("goi,run,help", "run [help] 1 10000 false false"),
+        ("goi,run,help", "run [help] 1 10000"),
     ];
     for (row, wanted) in rows {
         let got = answer(rt.alloc(), row)?;
@@ -77,8 +84,8 @@ fn numbers(rt: HostRuntime) -> Result<(), Fail> {
         ("goi,demo,1,--workers,65", "refused"),
         ("goi,demo,99999999999999999999", "refused"),
         // zeros in front, a plus, and a minus, which begins an option
-        ("goi,run,p,--budget,007", "run [p] 1 7 false false"),
-        ("goi,run,p,--budget,+5", "run [p] 1 5 false false"),
+        ("goi,run,p,--budget,007", "run [p] 1 7"),
+        ("goi,run,p,--budget,+5", "run [p] 1 5"),
         ("goi,run,p,--budget,++5", "refused"),
         ("goi,run,p,--budget,-5", "refused"),
         ("goi,demo,-0", "refused"),
@@ -104,23 +111,31 @@ fn numbers(rt: HostRuntime) -> Result<(), Fail> {
 fn options(rt: HostRuntime) -> Result<(), Fail> {
     let rows = [
         // a value in the option's own word
-        ("goi,run,p,--budget=5", "run [p] 1 5 false false"),
+        ("goi,run,p,--budget=5", "run [p] 1 5"),
         ("goi,run,p,--budget=-5", "refused"),
         ("goi,run,p,--budget=", "refused"),
         ("goi,run,p,--tally=true", "refused"),
+        ("goi,run,p,--by-value=true", "refused"),
         // options before operands or between them
         ("goi,demo,--workers=2,3", "demo 3 2"),
-        ("goi,run,--budget,5,p", "run [p] 1 5 false false"),
-        ("goi,run,--tally,p,--schedule", "run [p] 1 10000 true true"),
+        ("goi,run,--budget,5,p", "run [p] 1 5"),
+        (
+            "goi,run,--tally,p,--schedule",
+            "run [p] 1 10000 schedule tally",
+        ),
         ("goi,--tally,run,p", "refused"),
+        ("goi,run,--by-value,p", "run [p] 1 10000 by-value"),
         // an option twice, and one as another's value
         ("goi,run,p,--budget,5,--budget,5", "refused"),
         ("goi,run,p,--tally,--tally", "refused"),
+        ("goi,run,p,--by-value,--by-value", "refused"),
         ("goi,run,p,--budget,--tally", "refused"),
         // other spellings
         ("goi,run,p,--budg,5", "refused"),
         ("goi,run,p,--BUDGET,5", "refused"),
         ("goi,run,p,-b,5", "refused"),
+        ("goi,run,p,--by_value", "refused"),
+        ("goi,run,p,--by", "refused"),
     ];
     for (row, wanted) in rows {
         let got = answer(rt.alloc(), row)?;
@@ -133,11 +148,11 @@ fn options(rt: HostRuntime) -> Result<(), Fail> {
 fn names_of_files(rt: HostRuntime) -> Result<(), Fail> {
     let rows = [
         // words that begin with a hyphen
-        ("goi,run,-", "run [-] 1 10000 false false"),
+        ("goi,run,-", "run [-] 1 10000"),
         ("goi,run,-p", "refused"),
-        ("goi,run,--,-p", "run [-p] 1 10000 false false"),
-        ("goi,run,--,--tally", "run [--tally] 1 10000 false false"),
-        ("goi,run,p,--", "run [p] 1 10000 false false"),
+        ("goi,run,--,-p", "run [-p] 1 10000"),
+        ("goi,run,--,--tally", "run [--tally] 1 10000"),
+        ("goi,run,p,--", "run [p] 1 10000"),
         ("goi,run,p,--,--tally", "refused"),
         ("goi,run,--budget,--,p", "refused"),
         ("goi,replay,--,-p,-q", "replay [-p] [-q]"),
@@ -146,8 +161,8 @@ fn names_of_files(rt: HostRuntime) -> Result<(), Fail> {
         ("goi,run,p,---", "refused"),
         ("goi,run,p,--=5", "refused"),
         // the empty name, blanks, and characters of several bytes
-        ("goi,run,", "run [] 1 10000 false false"),
-        ("goi,run,a b", "run [a b] 1 10000 false false"),
+        ("goi,run,", "run [] 1 10000"),
+        ("goi,run,a b", "run [a b] 1 10000"),
         ("goi,check,λ.pcf", "check [λ.pcf] false"),
     ];
     for (row, wanted) in rows {
