@@ -62,6 +62,10 @@ replay_command = command (codes "replay") (operand (codes "file") ∷ operand (c
 abbrev pub demo_command : Shape
 demo_command = command (codes "demo") (number_operand ∷ workers_option ∷ [])
 
+abbrev pub run_net_command : Shape
+run_net_command = command (codes "run-net")
+    (operand (codes "file") ∷ workers_option ∷ budget_option ∷ flag (codes "schedule") ∷ flag (codes "tally") ∷ [])
+
 -- the program without its subcommands
 abbrev pub bare_command : App
 bare_command = record {
@@ -77,7 +81,7 @@ bare_command = record {
 abbrev pub goi_command : App
 goi_command = record {
   top = record bare_command.top { is_leaf = false };
-  subs = run_command ∷ check_command ∷ net_command ∷ replay_command ∷ demo_command ∷ [];
+  subs = run_command ∷ check_command ∷ net_command ∷ replay_command ∷ demo_command ∷ run_net_command ∷ [];
 }
 
 -- the command of the code is this subcommand

@@ -3,7 +3,7 @@
 use Rattle.std.specs.Prelude.{◌≤◌, ⊤, ℕ, Bool, List}
 use Rattle.pcf_values.specs.Most.{most_workers, most_budget, most_demo}
 use Rattle.goi_words.specs.declared.jobs.Job.{Job}
-use Rattle.goi_words.specs.declared.jobs.Job.TheVariants.{Run, Check, ShowNet, Replay, Demo}
+use Rattle.goi_words.specs.declared.jobs.Job.TheVariants.{Run, Check, ShowNet, Replay, Demo, RunNet}
 
 -- a job
 pub data JobTree : Type 0 where
@@ -18,6 +18,8 @@ pub data JobTree : Type 0 where
   replay : List ℕ → List ℕ → JobTree
   -- run the program that is generated for a number, with so many workers
   demo : ℕ → ℕ → JobTree
+  -- run the net whose listing is the file, with so many workers and at most so many moves; print its schedule and its tally where asked
+  run_net : List ℕ → ℕ → ℕ → Bool → Bool → JobTree
 
 -- the job of the code
 abbrev pub job_of : Job → JobTree
@@ -26,6 +28,7 @@ job_of (Check file term) = check file term
 job_of (ShowNet file) = show_net file
 job_of (Replay file schedule) = replay file schedule
 job_of (Demo n workers) = demo n workers
+job_of (RunNet file workers budget schedule tally) = run_net file workers budget schedule tally
 
 -- a number of workers, a budget and the number of a generated program that the command line can ask for
 abbrev pub IsWorkers : ℕ → Type 0
@@ -41,4 +44,5 @@ IsDemo n = n ≤ most_demo
 abbrev pub IsWithinLimits : JobTree → Type 0
 IsWithinLimits (run file workers budget schedule tally by_value) = IsWorkers workers × IsBudget budget
 IsWithinLimits (demo n workers) = IsDemo n × IsWorkers workers
+IsWithinLimits (run_net file workers budget schedule tally) = IsWorkers workers × IsBudget budget
 IsWithinLimits _ = ⊤

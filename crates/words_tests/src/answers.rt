@@ -39,6 +39,18 @@ fn told(alloc: Global, job: &Job) -> Result<String, AllocError> {
             format!(in alloc; "replay [{file}] [{schedule}]")
         }
         Job::Demo { n, workers } => format!(in alloc; "demo {n} {workers}"),
+        Job::RunNet {
+            file,
+            workers,
+            budget,
+            schedule,
+            tally,
+        } => {
+            let file = file.as_str();
+            let schedule = flag(*schedule, " schedule");
+            let tally = flag(*tally, " tally");
+            format!(in alloc; "run-net [{file}] {workers} {budget}{schedule}{tally}")
+        }
     }
 }
 

@@ -73,6 +73,33 @@ fn commands_and_operands(rt: HostRuntime) -> Result<(), Fail> {
 }
 
 #[test]
+fn nets_from_files(rt: HostRuntime) -> Result<(), Fail> {
+    let rows = [
+        ("goi,run-net,n", "run-net [n] 1 10000"),
+        (
+            "goi,run-net,n,--tally,--budget,5,--schedule,--workers,2",
+            "run-net [n] 2 5 schedule tally",
+        ),
+        ("goi,run-net,-", "run-net [-] 1 10000"),
+        ("goi,run-net,--budget=5,n", "run-net [n] 1 5"),
+        ("goi,run-net", "refused"),
+        ("goi,run-net,n,m", "refused"),
+        ("goi,run-net,-n", "refused"),
+        ("goi,run-net,n,--budget,0", "refused"),
+        ("goi,run-net,n,--workers,65", "refused"),
+        ("goi,run-net,n,--tally,--tally", "refused"),
+        ("goi,run-net,n,--by-value", "refused"),
+        ("goi,run-net,n,--term", "refused"),
+        ("goi,run_net,n", "refused"),
+    ];
+    for (row, wanted) in rows {
+        let got = answer(rt.alloc(), row)?;
+        assert!(rt; got.as_str() == wanted, "{row}: {got}");
+    }
+    Ok(())
+}
+
+#[test]
 fn numbers(rt: HostRuntime) -> Result<(), Fail> {
     let rows = [
         // out of range
