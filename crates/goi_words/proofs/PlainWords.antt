@@ -1,6 +1,7 @@
 -- Plain words are taken, and mean what the table says.
 use Rattle.goi_words.specs.Laws.{PlainWordsAreTaken}
-use Rattle.goi_words.specs.Plain.{ask_check, ask_demo, ask_net, ask_replay, ask_run, ask_run_net}
+use Rattle.goi_words.specs.Plain.{ask_batch, ask_check, ask_demo, ask_net, ask_replay, ask_run, ask_run_net}
+use Rattle.goi_words.proofs.BatchWords.{batch_words}
 use Rattle.goi_words.proofs.CheckWords.{check_words}
 use Rattle.goi_words.proofs.DemoWords.{demo_words}
 use Rattle.goi_words.proofs.NetWords.{net_words}
@@ -16,3 +17,4 @@ plain_words_are_taken program (ask_net file) = net_words program file
 plain_words_are_taken program (ask_replay file moves) = replay_words program file moves
 plain_words_are_taken program (ask_demo n) = demo_words program n
 plain_words_are_taken program (ask_run_net file) = run_net_words program file
+plain_words_are_taken program (ask_batch file) = batch_words program file

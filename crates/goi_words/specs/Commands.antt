@@ -66,6 +66,9 @@ abbrev pub run_net_command : Shape
 run_net_command = command (codes "run-net")
     (operand (codes "file") ∷ workers_option ∷ budget_option ∷ flag (codes "schedule") ∷ flag (codes "tally") ∷ [])
 
+abbrev pub batch_command : Shape
+batch_command = command (codes "batch") (operand (codes "file") ∷ workers_option ∷ [])
+
 -- the program without its subcommands
 abbrev pub bare_command : App
 bare_command = record {
@@ -81,7 +84,7 @@ bare_command = record {
 abbrev pub goi_command : App
 goi_command = record {
   top = record bare_command.top { is_leaf = false };
-  subs = run_command ∷ check_command ∷ net_command ∷ replay_command ∷ demo_command ∷ run_net_command ∷ [];
+  subs = run_command ∷ check_command ∷ net_command ∷ replay_command ∷ demo_command ∷ run_net_command ∷ batch_command ∷ [];
 }
 
 -- the command of the code is this subcommand

@@ -3,7 +3,7 @@
 use Rattle.std.specs.Prelude.{◌≤◌, ⊤, ℕ, Bool, List}
 use Rattle.pcf_values.specs.Most.{most_workers, most_budget, most_demo}
 use Rattle.goi_words.specs.declared.jobs.Job.{Job}
-use Rattle.goi_words.specs.declared.jobs.Job.TheVariants.{Run, Check, ShowNet, Replay, Demo, RunNet}
+use Rattle.goi_words.specs.declared.jobs.Job.TheVariants.{Run, Check, ShowNet, Replay, Demo, RunNet, Batch}
 
 -- a job
 pub data JobTree : Type 0 where
@@ -20,6 +20,8 @@ pub data JobTree : Type 0 where
   demo : ℕ → ℕ → JobTree
   -- run the net whose listing is the file, with so many workers and at most so many moves; print its schedule and its tally where asked
   run_net : List ℕ → ℕ → ℕ → Bool → Bool → JobTree
+  -- run the programs that the file lists, with so many workers
+  batch : List ℕ → ℕ → JobTree
 
 -- the job of the code
 abbrev pub job_of : Job → JobTree
@@ -29,6 +31,7 @@ job_of (ShowNet file) = show_net file
 job_of (Replay file schedule) = replay file schedule
 job_of (Demo n workers) = demo n workers
 job_of (RunNet file workers budget schedule tally) = run_net file workers budget schedule tally
+job_of (Batch file workers) = batch file workers
 
 -- a number of workers, a budget and the number of a generated program that the command line can ask for
 abbrev pub IsWorkers : ℕ → Type 0
@@ -45,4 +48,5 @@ abbrev pub IsWithinLimits : JobTree → Type 0
 IsWithinLimits (run file workers budget schedule tally by_value) = IsWorkers workers × IsBudget budget
 IsWithinLimits (demo n workers) = IsDemo n × IsWorkers workers
 IsWithinLimits (run_net file workers budget schedule tally) = IsWorkers workers × IsBudget budget
+IsWithinLimits (batch file workers) = IsWorkers workers
 IsWithinLimits _ = ⊤

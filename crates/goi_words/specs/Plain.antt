@@ -7,7 +7,7 @@ use Rattle.std.specs.List.{AllByRecursion, flat_map, list_any}
 use Rattle.std.specs.Fmt.{decimal}
 use Rattle.std.specs.Str.{bytes_eq}
 use Rattle.clap.specs.Words.{Text}
-use Rattle.goi_words.specs.Jobs.{IsBudget, IsDemo, IsWorkers, JobTree, run, check, show_net, replay, demo, run_net}
+use Rattle.goi_words.specs.Jobs.{IsBudget, IsDemo, IsWorkers, JobTree, run, check, show_net, replay, demo, run_net, batch}
 
 -- a command with its operands
 pub data Request : Type 0 where
@@ -17,6 +17,7 @@ pub data Request : Type 0 where
   ask_replay : Text → Text → Request
   ask_demo : ℕ → Request
   ask_run_net : Text → Request
+  ask_batch : Text → Request
 
 -- an option as it is given
 pub data Setting : Type 0 where
@@ -37,6 +38,7 @@ request_words (ask_net file) = codes "net" ∷ file ∷ []
 request_words (ask_replay file moves) = codes "replay" ∷ file ∷ moves ∷ []
 request_words (ask_demo n) = codes "demo" ∷ decimal n ∷ []
 request_words (ask_run_net file) = codes "run-net" ∷ file ∷ []
+request_words (ask_batch file) = codes "batch" ∷ file ∷ []
 
 -- the name of an option
 abbrev pub option_name : Setting → Text
@@ -76,6 +78,7 @@ HasPlainOperands (ask_net file) = IsFileName file
 HasPlainOperands (ask_replay file moves) = IsFileName file × IsFileName moves
 HasPlainOperands (ask_demo n) = IsDemo n
 HasPlainOperands (ask_run_net file) = IsFileName file
+HasPlainOperands (ask_batch file) = IsFileName file
 
 -- the names of a command's options
 abbrev pub options_of : Request → List Text
@@ -83,6 +86,7 @@ options_of (ask_run file) = codes "workers" ∷ codes "budget" ∷ codes "schedu
 options_of (ask_check file) = codes "term" ∷ []
 options_of (ask_demo n) = codes "workers" ∷ []
 options_of (ask_run_net file) = codes "workers" ∷ codes "budget" ∷ codes "schedule" ∷ codes "tally" ∷ []
+options_of (ask_batch file) = codes "workers" ∷ []
 options_of _ = []
 
 -- the command has the option
@@ -139,3 +143,4 @@ meant (ask_replay file moves) settings = replay file moves
 meant (ask_demo n) settings = demo n (workers_in settings)
 meant (ask_run_net file) settings =
     run_net file (workers_in settings) (budget_in settings) (is_given schedule settings) (is_given tally settings)
+meant (ask_batch file) settings = batch file (workers_in settings)

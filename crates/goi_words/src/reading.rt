@@ -4,7 +4,7 @@ ghost use Rattle.std.specs.Prelude.{◌≡◌, ◌≢◌, IfOk, IsErrOf, None, S
 ghost use Rattle.clap.specs.Words.{fault_of, found_of, rows_of, subcommand_of, subcommand_rows_of};
 ghost use Rattle.goi_words.specs.Commands.{goi_command};
 ghost use Rattle.goi_words.specs.Asked.{is_set, is_taken, job, job_on, number_of, text_of};
-ghost use Rattle.goi_words.specs.Asked.{check_job, demo_job, net_job, replay_job, run_job, run_net_job};
+ghost use Rattle.goi_words.specs.Asked.{batch_job, check_job, demo_job, net_job, replay_job, run_job, run_net_job};
 ghost use Rattle.goi_words.specs.Jobs.{IsWithinLimits, job_of};
 ghost use Rattle.goi_words.specs.declared.jobs.WordFault.TheVariants.{Refused};
 
@@ -52,6 +52,7 @@ fn job_on(alloc: Global, name: &str, found: &ArgMatches<'_>) -> Result<Job, Word
         "replay" => replay_job(alloc, found),
         "demo" => demo_job(alloc, found),
         "run-net" => run_net_job(alloc, found),
+        "batch" => batch_job(alloc, found),
         _ => Err(WordFault::Refused),
     }
 }
@@ -128,6 +129,18 @@ fn run_net_job(alloc: Global, found: &ArgMatches<'_>) -> Result<Job, WordFault>
         budget,
         schedule: is_set(found, "schedule"),
         tally: is_set(found, "tally"),
+    })
+}
+
+fn batch_job(alloc: Global, found: &ArgMatches<'_>) -> Result<Job, WordFault>
+    ensures ok { IfOk result (λ done. batch_job (rows_of (found_of found.now)) ≡ Some (job_of done)) }
+    ensures refused { IsErrOf result Refused → batch_job (rows_of (found_of found.now)) ≡ None }
+{
+    let file = text_of(found, "file").ok_or(WordFault::Refused)?;
+    let workers = number_of(found, "workers").ok_or(WordFault::Refused)?;
+    Ok(Job::Batch {
+        file: Ident::from_text(alloc, file)?,
+        workers,
     })
 }
 

@@ -51,6 +51,10 @@ fn told(alloc: Global, job: &Job) -> Result<String, AllocError> {
             let tally = flag(*tally, " tally");
             format!(in alloc; "run-net [{file}] {workers} {budget}{schedule}{tally}")
         }
+        Job::Batch { file, workers } => {
+            let file = file.as_str();
+            format!(in alloc; "batch [{file}] {workers}")
+        }
     }
 }
 

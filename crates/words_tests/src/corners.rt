@@ -100,6 +100,29 @@ fn nets_from_files(rt: HostRuntime) -> Result<(), Fail> {
 }
 
 #[test]
+fn lists_of_programs(rt: HostRuntime) -> Result<(), Fail> {
+    let rows = [
+        ("goi,batch,l", "batch [l] 1"),
+        ("goi,batch,l,--workers,64", "batch [l] 64"),
+        ("goi,batch,--workers=2,l", "batch [l] 2"),
+        ("goi,batch,-", "batch [-] 1"),
+        ("goi,batch", "refused"),
+        ("goi,batch,l,m", "refused"),
+        ("goi,batch,l,--workers,0", "refused"),
+        ("goi,batch,l,--workers,65", "refused"),
+        ("goi,batch,l,--workers,2,--workers,2", "refused"),
+        ("goi,batch,l,--budget,5", "refused"),
+        ("goi,batch,l,--schedule", "refused"),
+        ("goi,batch,l,--tally", "refused"),
+    ];
+    for (row, wanted) in rows {
+        let got = answer(rt.alloc(), row)?;
+        assert!(rt; got.as_str() == wanted, "{row}: {got}");
+    }
+    Ok(())
+}
+
+#[test]
 fn numbers(rt: HostRuntime) -> Result<(), Fail> {
     let rows = [
         // out of range
