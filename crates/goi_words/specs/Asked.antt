@@ -40,7 +40,8 @@ run_job rows = do
   file ← text_of (codes "file") rows
   workers ← number_of (codes "workers") rows
   budget ← number_of (codes "budget") rows
-  Some (run file workers budget (is_set (codes "schedule") rows) (is_set (codes "tally") rows) (is_set (codes "by-value") rows))
+  Some (run file workers budget (is_set (codes "schedule") rows) (is_set (codes "tally") rows) (is_set (codes "by-value") rows)
+      (is_set (codes "progress") rows))
 
 abbrev pub check_job : List Row → Option JobTree
 check_job rows = do

@@ -48,7 +48,7 @@ command name rules = record (new_shape name) { rules = rules }
 abbrev pub run_command : Shape
 run_command = command (codes "run")
     (operand (codes "file") ∷ workers_option ∷ budget_option ∷ flag (codes "schedule") ∷ flag (codes "tally")
-    ∷ flag (codes "by-value") ∷ [])
+    ∷ flag (codes "by-value") ∷ flag (codes "progress") ∷ [])
 
 abbrev pub check_command : Shape
 check_command = command (codes "check") (operand (codes "file") ∷ flag (codes "term") ∷ [])

@@ -8,8 +8,8 @@ use Rattle.goi_words.specs.declared.jobs.Job.TheVariants.{Run, Check, ShowNet, R
 -- a job
 pub data JobTree : Type 0 where
   -- run the program of a file, with so many workers and at most so many moves, and by value in place of by name where asked; print
-  -- its schedule and its tally where asked
-  run : List ℕ → ℕ → ℕ → Bool → Bool → Bool → JobTree
+  -- its schedule, its tally and its progress where asked
+  run : List ℕ → ℕ → ℕ → Bool → Bool → Bool → Bool → JobTree
   -- print the type of the program of a file, and where asked the program itself
   check : List ℕ → Bool → JobTree
   -- print the listing of the net of the program of a file
@@ -25,7 +25,7 @@ pub data JobTree : Type 0 where
 
 -- the job of the code
 abbrev pub job_of : Job → JobTree
-job_of (Run file workers budget schedule tally by_value) = run file workers budget schedule tally by_value
+job_of (Run file workers budget schedule tally by_value progress) = run file workers budget schedule tally by_value progress
 job_of (Check file term) = check file term
 job_of (ShowNet file) = show_net file
 job_of (Replay file schedule) = replay file schedule
@@ -45,7 +45,7 @@ IsDemo n = n ≤ most_demo
 
 -- the numbers of a job are in their ranges
 abbrev pub IsWithinLimits : JobTree → Type 0
-IsWithinLimits (run file workers budget schedule tally by_value) = IsWorkers workers × IsBudget budget
+IsWithinLimits (run file workers budget schedule tally by_value progress) = IsWorkers workers × IsBudget budget
 IsWithinLimits (demo n workers) = IsDemo n × IsWorkers workers
 IsWithinLimits (run_net file workers budget schedule tally) = IsWorkers workers × IsBudget budget
 IsWithinLimits (batch file workers) = IsWorkers workers

@@ -27,6 +27,7 @@ pub data Setting : Type 0 where
   tally : Setting
   term : Setting
   by_value : Setting
+  progress : Setting
 
 -- ---- the words
 
@@ -48,6 +49,7 @@ option_name schedule = codes "schedule"
 option_name tally = codes "tally"
 option_name term = codes "term"
 option_name by_value = codes "by-value"
+option_name progress = codes "progress"
 
 -- the word behind its name, where it has a value
 abbrev pub option_value : Setting → List Text
@@ -82,7 +84,8 @@ HasPlainOperands (ask_batch file) = IsFileName file
 
 -- the names of a command's options
 abbrev pub options_of : Request → List Text
-options_of (ask_run file) = codes "workers" ∷ codes "budget" ∷ codes "schedule" ∷ codes "tally" ∷ codes "by-value" ∷ []
+options_of (ask_run file) =
+    codes "workers" ∷ codes "budget" ∷ codes "schedule" ∷ codes "tally" ∷ codes "by-value" ∷ codes "progress" ∷ []
 options_of (ask_check file) = codes "term" ∷ []
 options_of (ask_demo n) = codes "workers" ∷ []
 options_of (ask_run_net file) = codes "workers" ∷ codes "budget" ∷ codes "schedule" ∷ codes "tally" ∷ []
@@ -137,6 +140,7 @@ is_given option settings = list_any (λ s. is_same_option s option) settings
 abbrev pub meant : Request → List Setting → JobTree
 meant (ask_run file) settings =
     run file (workers_in settings) (budget_in settings) (is_given schedule settings) (is_given tally settings) (is_given by_value settings)
+    (is_given progress settings)
 meant (ask_check file) settings = check file (is_given term settings)
 meant (ask_net file) settings = show_net file
 meant (ask_replay file moves) settings = replay file moves

@@ -71,6 +71,7 @@ fn run_job(alloc: Global, found: &ArgMatches<'_>) -> Result<Job, WordFault>
         schedule: is_set(found, "schedule"),
         tally: is_set(found, "tally"),
         by_value: is_set(found, "by-value"),
+        progress: is_set(found, "progress"),
     })
 }
 

@@ -18,12 +18,16 @@ fn told(alloc: Global, job: &Job) -> Result<String, AllocError> {
             schedule,
             tally,
             by_value,
+            progress,
         } => {
             let file = file.as_str();
             let schedule = flag(*schedule, " schedule");
             let tally = flag(*tally, " tally");
             let by_value = flag(*by_value, " by-value");
-            format!(in alloc; "run [{file}] {workers} {budget}{schedule}{tally}{by_value}")
+            let progress = flag(*progress, " progress");
+            format!(in alloc;
+                "run [{file}] {workers} {budget}{schedule}{tally}{by_value}{progress}"
+            )
         }
         Job::Check { file, term } => {
             let file = file.as_str();

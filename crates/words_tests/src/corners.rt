@@ -28,6 +28,15 @@ fn plain_words(rt: HostRuntime) -> Result<(), Fail> {
             "goi,run,p,--by-value,--workers,2,--tally",
             "run [p] 2 10000 tally by-value",
         ),
+        ("goi,run,p,--progress", "run [p] 1 10000 progress"),
+        (
+            "goi,run,p,--by-value,--progress",
+            "run [p] 1 10000 by-value progress",
+        ),
+        (
+            "goi,run,p,--progress,--schedule,--by-value,--tally,--budget,5,--workers,2",
+            "run [p] 2 5 schedule tally by-value progress",
+        ),
     ];
     for (row, wanted) in rows {
         let got = answer(rt.alloc(), row)?;
@@ -54,6 +63,7 @@ fn commands_and_operands(rt: HostRuntime) -> Result<(), Fail> {
         ("goi,check,p,--budget,5", "refused"),
         ("goi,demo,1,--budget,5", "refused"),
         ("goi,demo,1,--by-value", "refused"),
+        ("goi,demo,1,--progress", "refused"),
         ("goi,check,p,--by-value", "refused"),
         // a request for help or for the version
         ("goi,help", "refused"),
@@ -89,6 +99,7 @@ fn nets_from_files(rt: HostRuntime) -> Result<(), Fail> {
         ("goi,run-net,n,--workers,65", "refused"),
         ("goi,run-net,n,--tally,--tally", "refused"),
         ("goi,run-net,n,--by-value", "refused"),
+        ("goi,run-net,n,--progress", "refused"),
         ("goi,run-net,n,--term", "refused"),
         ("goi,run_net,n", "refused"),
     ];
@@ -114,6 +125,7 @@ fn lists_of_programs(rt: HostRuntime) -> Result<(), Fail> {
         ("goi,batch,l,--budget,5", "refused"),
         ("goi,batch,l,--schedule", "refused"),
         ("goi,batch,l,--tally", "refused"),
+        ("goi,batch,l,--progress", "refused"),
     ];
     for (row, wanted) in rows {
         let got = answer(rt.alloc(), row)?;
@@ -166,6 +178,7 @@ fn options(rt: HostRuntime) -> Result<(), Fail> {
         ("goi,run,p,--budget=", "refused"),
         ("goi,run,p,--tally=true", "refused"),
         ("goi,run,p,--by-value=true", "refused"),
+        ("goi,run,p,--progress=true", "refused"),
         // options before operands or between them
         ("goi,demo,--workers=2,3", "demo 3 2"),
         ("goi,run,--budget,5,p", "run [p] 1 5"),
@@ -179,6 +192,7 @@ fn options(rt: HostRuntime) -> Result<(), Fail> {
         ("goi,run,p,--budget,5,--budget,5", "refused"),
         ("goi,run,p,--tally,--tally", "refused"),
         ("goi,run,p,--by-value,--by-value", "refused"),
+        ("goi,run,p,--progress,--by-value,--progress", "refused"),
         ("goi,run,p,--budget,--tally", "refused"),
         // other spellings
         ("goi,run,p,--budg,5", "refused"),
