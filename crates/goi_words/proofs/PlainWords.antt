@@ -1,10 +1,12 @@
 -- Plain words are taken, and mean what the table says.
 use Rattle.goi_words.specs.Laws.{PlainWordsAreTaken}
-use Rattle.goi_words.specs.Plain.{ask_check, ask_demo, ask_net, ask_replay, ask_run}
+use Rattle.goi_words.specs.Plain.{ask_batch, ask_check, ask_demo, ask_net, ask_replay, ask_run, ask_run_net}
+use Rattle.goi_words.proofs.BatchWords.{batch_words}
 use Rattle.goi_words.proofs.CheckWords.{check_words}
 use Rattle.goi_words.proofs.DemoWords.{demo_words}
 use Rattle.goi_words.proofs.NetWords.{net_words}
 use Rattle.goi_words.proofs.ReplayWords.{replay_words}
+use Rattle.goi_words.proofs.RunNetWords.{run_net_words}
 use Rattle.goi_words.proofs.RunWords.{run_words}
 
 -- a command at a time
@@ -14,3 +16,5 @@ plain_words_are_taken program (ask_check file) = check_words program file
 plain_words_are_taken program (ask_net file) = net_words program file
 plain_words_are_taken program (ask_replay file moves) = replay_words program file moves
 plain_words_are_taken program (ask_demo n) = demo_words program n
+plain_words_are_taken program (ask_run_net file) = run_net_words program file
+plain_words_are_taken program (ask_batch file) = batch_words program file

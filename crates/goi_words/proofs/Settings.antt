@@ -12,7 +12,7 @@ use Rattle.pcf_values.specs.Most.{most_workers, most_budget}
 use Rattle.goi_words.specs.Commands.{budget_option, flag, number_option, workers_option}
 use Rattle.goi_words.specs.Asked.{number_in, ◌>>=◌}
 use Rattle.goi_words.specs.Plain.{AreDistinct, IsInRange, Setting, budget, budget_in, is_given, is_same_option, option_name, option_value}
-use Rattle.goi_words.specs.Plain.{schedule, setting_words, tally, term, workers, workers_in}
+use Rattle.goi_words.specs.Plain.{by_value, progress, schedule, setting_words, tally, term, workers, workers_in}
 use Rattle.goi_words.proofs.Decimals.{decimal_kept, decimal_number, decimal_passes, decimal_value}
 use Rattle.goi_words.proofs.Rows.{absent_more, given, row_at, used_first}
 use Rattle.goi_words.proofs.Walks.{Holds, Names, Reads, flag_read, option_read, then}
@@ -24,6 +24,8 @@ rule_for (budget n) = filled budget_option
 rule_for schedule = filled (flag (codes "schedule"))
 rule_for tally = filled (flag (codes "tally"))
 rule_for term = filled (flag (codes "term"))
+rule_for by_value = filled (flag (codes "by-value"))
+rule_for progress = filled (flag (codes "progress"))
 
 -- the row of an option
 abbrev pub row_for : Setting → Row
@@ -74,6 +76,8 @@ module _ (sh : Shape) (once : sh.args_override_self ≡ false) (h : Held) (rows 
   one_setting schedule knows range absent = switch_read (codes "schedule") knows absent
   one_setting tally knows range absent = switch_read (codes "tally") knows absent
   one_setting term knows range absent = switch_read (codes "term") knows absent
+  one_setting by_value knows range absent = switch_read (codes "by-value") knows absent
+  one_setting progress knows range absent = switch_read (codes "progress") knows absent
 
 -- ---- any number of options, in any order
 
@@ -170,3 +174,13 @@ tally_is_flag _ same = cc
 pub term_is_flag : IsFlag term
 term_is_flag term same = refl
 term_is_flag _ same = cc
+
+-- the fourth flag
+pub by_value_is_flag : IsFlag by_value
+by_value_is_flag by_value same = refl
+by_value_is_flag _ same = cc
+
+-- the fifth flag
+pub progress_is_flag : IsFlag progress
+progress_is_flag progress same = refl
+progress_is_flag _ same = cc

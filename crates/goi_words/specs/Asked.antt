@@ -9,7 +9,7 @@ use Rattle.std.specs.Str.Parse.{digits_value, without_leading_plus}
 use Rattle.clap.specs.ValueTests.{is_numeral}
 use Rattle.clap.specs.Words.{Kinds, Row, Text, fault_of, first_of, one_of, subcommand_of}
 use Rattle.goi_words.specs.Commands.{goi_command}
-use Rattle.goi_words.specs.Jobs.{JobTree, run, check, show_net, replay, demo}
+use Rattle.goi_words.specs.Jobs.{JobTree, run, check, show_net, replay, demo, run_net, batch}
 
 infixl 10 ◌>>=◌
 abbrev pub ◌>>=◌ : {A B : Type 0} → Option A → (A → Option B) → Option B
@@ -40,7 +40,8 @@ run_job rows = do
   file ← text_of (codes "file") rows
   workers ← number_of (codes "workers") rows
   budget ← number_of (codes "budget") rows
-  Some (run file workers budget (is_set (codes "schedule") rows) (is_set (codes "tally") rows))
+  Some (run file workers budget (is_set (codes "schedule") rows) (is_set (codes "tally") rows) (is_set (codes "by-value") rows)
+      (is_set (codes "progress") rows))
 
 abbrev pub check_job : List Row → Option JobTree
 check_job rows = do
@@ -64,6 +65,19 @@ demo_job rows = do
   workers ← number_of (codes "workers") rows
   Some (demo n workers)
 
+abbrev pub run_net_job : List Row → Option JobTree
+run_net_job rows = do
+  file ← text_of (codes "file") rows
+  workers ← number_of (codes "workers") rows
+  budget ← number_of (codes "budget") rows
+  Some (run_net file workers budget (is_set (codes "schedule") rows) (is_set (codes "tally") rows))
+
+abbrev pub batch_job : List Row → Option JobTree
+batch_job rows = do
+  file ← text_of (codes "file") rows
+  workers ← number_of (codes "workers") rows
+  Some (batch file workers)
+
 -- the job of the subcommand of this name
 abbrev pub job_on : Text → List Row → Option JobTree
 job_on name rows =
@@ -72,6 +86,8 @@ job_on name rows =
     else if bytes_eq name (codes "net") then net_job rows
     else if bytes_eq name (codes "replay") then replay_job rows
     else if bytes_eq name (codes "demo") then demo_job rows
+    else if bytes_eq name (codes "run-net") then run_net_job rows
+    else if bytes_eq name (codes "batch") then batch_job rows
     else None
 
 -- no kind of error is listed

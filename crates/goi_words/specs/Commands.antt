@@ -47,7 +47,8 @@ command name rules = record (new_shape name) { rules = rules }
 -- the subcommands
 abbrev pub run_command : Shape
 run_command = command (codes "run")
-    (operand (codes "file") ∷ workers_option ∷ budget_option ∷ flag (codes "schedule") ∷ flag (codes "tally") ∷ [])
+    (operand (codes "file") ∷ workers_option ∷ budget_option ∷ flag (codes "schedule") ∷ flag (codes "tally")
+    ∷ flag (codes "by-value") ∷ flag (codes "progress") ∷ [])
 
 abbrev pub check_command : Shape
 check_command = command (codes "check") (operand (codes "file") ∷ flag (codes "term") ∷ [])
@@ -60,6 +61,13 @@ replay_command = command (codes "replay") (operand (codes "file") ∷ operand (c
 
 abbrev pub demo_command : Shape
 demo_command = command (codes "demo") (number_operand ∷ workers_option ∷ [])
+
+abbrev pub run_net_command : Shape
+run_net_command = command (codes "run-net")
+    (operand (codes "file") ∷ workers_option ∷ budget_option ∷ flag (codes "schedule") ∷ flag (codes "tally") ∷ [])
+
+abbrev pub batch_command : Shape
+batch_command = command (codes "batch") (operand (codes "file") ∷ workers_option ∷ [])
 
 -- the program without its subcommands
 abbrev pub bare_command : App
@@ -76,7 +84,7 @@ bare_command = record {
 abbrev pub goi_command : App
 goi_command = record {
   top = record bare_command.top { is_leaf = false };
-  subs = run_command ∷ check_command ∷ net_command ∷ replay_command ∷ demo_command ∷ [];
+  subs = run_command ∷ check_command ∷ net_command ∷ replay_command ∷ demo_command ∷ run_net_command ∷ batch_command ∷ [];
 }
 
 -- the command of the code is this subcommand

@@ -3,12 +3,13 @@
 use Rattle.std.specs.Prelude.{◌≤◌, ⊤, ℕ, Bool, List}
 use Rattle.pcf_values.specs.Most.{most_workers, most_budget, most_demo}
 use Rattle.goi_words.specs.declared.jobs.Job.{Job}
-use Rattle.goi_words.specs.declared.jobs.Job.TheVariants.{Run, Check, ShowNet, Replay, Demo}
+use Rattle.goi_words.specs.declared.jobs.Job.TheVariants.{Run, Check, ShowNet, Replay, Demo, RunNet, Batch}
 
 -- a job
 pub data JobTree : Type 0 where
-  -- run the program of a file, with so many workers and at most so many moves; print its schedule and its tally where asked
-  run : List ℕ → ℕ → ℕ → Bool → Bool → JobTree
+  -- run the program of a file, with so many workers and at most so many moves, and by value in place of by name where asked; print
+  -- its schedule, its tally and its progress where asked
+  run : List ℕ → ℕ → ℕ → Bool → Bool → Bool → Bool → JobTree
   -- print the type of the program of a file, and where asked the program itself
   check : List ℕ → Bool → JobTree
   -- print the listing of the net of the program of a file
@@ -17,14 +18,20 @@ pub data JobTree : Type 0 where
   replay : List ℕ → List ℕ → JobTree
   -- run the program that is generated for a number, with so many workers
   demo : ℕ → ℕ → JobTree
+  -- run the net whose listing is the file, with so many workers and at most so many moves; print its schedule and its tally where asked
+  run_net : List ℕ → ℕ → ℕ → Bool → Bool → JobTree
+  -- run the programs that the file lists, with so many workers
+  batch : List ℕ → ℕ → JobTree
 
 -- the job of the code
 abbrev pub job_of : Job → JobTree
-job_of (Run file workers budget schedule tally) = run file workers budget schedule tally
+job_of (Run file workers budget schedule tally by_value progress) = run file workers budget schedule tally by_value progress
 job_of (Check file term) = check file term
 job_of (ShowNet file) = show_net file
 job_of (Replay file schedule) = replay file schedule
 job_of (Demo n workers) = demo n workers
+job_of (RunNet file workers budget schedule tally) = run_net file workers budget schedule tally
+job_of (Batch file workers) = batch file workers
 
 -- a number of workers, a budget and the number of a generated program that the command line can ask for
 abbrev pub IsWorkers : ℕ → Type 0
@@ -38,6 +45,8 @@ IsDemo n = n ≤ most_demo
 
 -- the numbers of a job are in their ranges
 abbrev pub IsWithinLimits : JobTree → Type 0
-IsWithinLimits (run file workers budget schedule tally) = IsWorkers workers × IsBudget budget
+IsWithinLimits (run file workers budget schedule tally by_value progress) = IsWorkers workers × IsBudget budget
 IsWithinLimits (demo n workers) = IsDemo n × IsWorkers workers
+IsWithinLimits (run_net file workers budget schedule tally) = IsWorkers workers × IsBudget budget
+IsWithinLimits (batch file workers) = IsWorkers workers
 IsWithinLimits _ = ⊤

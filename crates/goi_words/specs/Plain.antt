@@ -7,7 +7,7 @@ use Rattle.std.specs.List.{AllByRecursion, flat_map, list_any}
 use Rattle.std.specs.Fmt.{decimal}
 use Rattle.std.specs.Str.{bytes_eq}
 use Rattle.clap.specs.Words.{Text}
-use Rattle.goi_words.specs.Jobs.{IsBudget, IsDemo, IsWorkers, JobTree, run, check, show_net, replay, demo}
+use Rattle.goi_words.specs.Jobs.{IsBudget, IsDemo, IsWorkers, JobTree, run, check, show_net, replay, demo, run_net, batch}
 
 -- a command with its operands
 pub data Request : Type 0 where
@@ -16,6 +16,8 @@ pub data Request : Type 0 where
   ask_net : Text → Request
   ask_replay : Text → Text → Request
   ask_demo : ℕ → Request
+  ask_run_net : Text → Request
+  ask_batch : Text → Request
 
 -- an option as it is given
 pub data Setting : Type 0 where
@@ -24,6 +26,8 @@ pub data Setting : Type 0 where
   schedule : Setting
   tally : Setting
   term : Setting
+  by_value : Setting
+  progress : Setting
 
 -- ---- the words
 
@@ -34,6 +38,8 @@ request_words (ask_check file) = codes "check" ∷ file ∷ []
 request_words (ask_net file) = codes "net" ∷ file ∷ []
 request_words (ask_replay file moves) = codes "replay" ∷ file ∷ moves ∷ []
 request_words (ask_demo n) = codes "demo" ∷ decimal n ∷ []
+request_words (ask_run_net file) = codes "run-net" ∷ file ∷ []
+request_words (ask_batch file) = codes "batch" ∷ file ∷ []
 
 -- the name of an option
 abbrev pub option_name : Setting → Text
@@ -42,6 +48,8 @@ option_name (budget n) = codes "budget"
 option_name schedule = codes "schedule"
 option_name tally = codes "tally"
 option_name term = codes "term"
+option_name by_value = codes "by-value"
+option_name progress = codes "progress"
 
 -- the word behind its name, where it has a value
 abbrev pub option_value : Setting → List Text
@@ -71,12 +79,17 @@ HasPlainOperands (ask_check file) = IsFileName file
 HasPlainOperands (ask_net file) = IsFileName file
 HasPlainOperands (ask_replay file moves) = IsFileName file × IsFileName moves
 HasPlainOperands (ask_demo n) = IsDemo n
+HasPlainOperands (ask_run_net file) = IsFileName file
+HasPlainOperands (ask_batch file) = IsFileName file
 
 -- the names of a command's options
 abbrev pub options_of : Request → List Text
-options_of (ask_run file) = codes "workers" ∷ codes "budget" ∷ codes "schedule" ∷ codes "tally" ∷ []
+options_of (ask_run file) =
+    codes "workers" ∷ codes "budget" ∷ codes "schedule" ∷ codes "tally" ∷ codes "by-value" ∷ codes "progress" ∷ []
 options_of (ask_check file) = codes "term" ∷ []
 options_of (ask_demo n) = codes "workers" ∷ []
+options_of (ask_run_net file) = codes "workers" ∷ codes "budget" ∷ codes "schedule" ∷ codes "tally" ∷ []
+options_of (ask_batch file) = codes "workers" ∷ []
 options_of _ = []
 
 -- the command has the option
@@ -125,8 +138,13 @@ is_given option settings = list_any (λ s. is_same_option s option) settings
 
 -- the job that the words ask for
 abbrev pub meant : Request → List Setting → JobTree
-meant (ask_run file) settings = run file (workers_in settings) (budget_in settings) (is_given schedule settings) (is_given tally settings)
+meant (ask_run file) settings =
+    run file (workers_in settings) (budget_in settings) (is_given schedule settings) (is_given tally settings) (is_given by_value settings)
+    (is_given progress settings)
 meant (ask_check file) settings = check file (is_given term settings)
 meant (ask_net file) settings = show_net file
 meant (ask_replay file moves) settings = replay file moves
 meant (ask_demo n) settings = demo n (workers_in settings)
+meant (ask_run_net file) settings =
+    run_net file (workers_in settings) (budget_in settings) (is_given schedule settings) (is_given tally settings)
+meant (ask_batch file) settings = batch file (workers_in settings)

@@ -4,7 +4,7 @@ ghost use Rattle.std.specs.Prelude.{◌≡◌, ◌≢◌, IfOk, IsErrOf, None, S
 ghost use Rattle.clap.specs.Words.{fault_of, found_of, rows_of, subcommand_of, subcommand_rows_of};
 ghost use Rattle.goi_words.specs.Commands.{goi_command};
 ghost use Rattle.goi_words.specs.Asked.{is_set, is_taken, job, job_on, number_of, text_of};
-ghost use Rattle.goi_words.specs.Asked.{check_job, demo_job, net_job, replay_job, run_job};
+ghost use Rattle.goi_words.specs.Asked.{batch_job, check_job, demo_job, net_job, replay_job, run_job, run_net_job};
 ghost use Rattle.goi_words.specs.Jobs.{IsWithinLimits, job_of};
 ghost use Rattle.goi_words.specs.declared.jobs.WordFault.TheVariants.{Refused};
 
@@ -51,6 +51,8 @@ fn job_on(alloc: Global, name: &str, found: &ArgMatches<'_>) -> Result<Job, Word
         "net" => net_job(alloc, found),
         "replay" => replay_job(alloc, found),
         "demo" => demo_job(alloc, found),
+        "run-net" => run_net_job(alloc, found),
+        "batch" => batch_job(alloc, found),
         _ => Err(WordFault::Refused),
     }
 }
@@ -68,6 +70,8 @@ fn run_job(alloc: Global, found: &ArgMatches<'_>) -> Result<Job, WordFault>
         budget,
         schedule: is_set(found, "schedule"),
         tally: is_set(found, "tally"),
+        by_value: is_set(found, "by-value"),
+        progress: is_set(found, "progress"),
     })
 }
 
@@ -111,6 +115,34 @@ fn demo_job(_alloc: Global, found: &ArgMatches<'_>) -> Result<Job, WordFault>
     let n = number_of(found, "n").ok_or(WordFault::Refused)?;
     let workers = number_of(found, "workers").ok_or(WordFault::Refused)?;
     Ok(Job::Demo { n, workers })
+}
+
+fn run_net_job(alloc: Global, found: &ArgMatches<'_>) -> Result<Job, WordFault>
+    ensures ok { IfOk result (λ done. run_net_job (rows_of (found_of found.now)) ≡ Some (job_of done)) }
+    ensures refused { IsErrOf result Refused → run_net_job (rows_of (found_of found.now)) ≡ None }
+{
+    let file = text_of(found, "file").ok_or(WordFault::Refused)?;
+    let workers = number_of(found, "workers").ok_or(WordFault::Refused)?;
+    let budget = number_of(found, "budget").ok_or(WordFault::Refused)?;
+    Ok(Job::RunNet {
+        file: Ident::from_text(alloc, file)?,
+        workers,
+        budget,
+        schedule: is_set(found, "schedule"),
+        tally: is_set(found, "tally"),
+    })
+}
+
+fn batch_job(alloc: Global, found: &ArgMatches<'_>) -> Result<Job, WordFault>
+    ensures ok { IfOk result (λ done. batch_job (rows_of (found_of found.now)) ≡ Some (job_of done)) }
+    ensures refused { IsErrOf result Refused → batch_job (rows_of (found_of found.now)) ≡ None }
+{
+    let file = text_of(found, "file").ok_or(WordFault::Refused)?;
+    let workers = number_of(found, "workers").ok_or(WordFault::Refused)?;
+    Ok(Job::Batch {
+        file: Ident::from_text(alloc, file)?,
+        workers,
+    })
 }
 
 /// The text that was found for an argument.

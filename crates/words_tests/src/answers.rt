@@ -3,7 +3,12 @@
 use goi_words::{Job, WordFault, job_of};
 use std::alloc::{AllocError, Global};
 
-/// A job as text, with the names of files in brackets.
+/// The name of a flag that is set, behind a blank.
+fn flag<'a>(is_set: bool, name: &'a str) -> &'a str {
+    if is_set { name } else { "" }
+}
+
+/// A job as text, with the names of files in brackets, and the names of the flags that are set behind the numbers.
 fn told(alloc: Global, job: &Job) -> Result<String, AllocError> {
     match job {
         Job::Run {
@@ -12,9 +17,17 @@ fn told(alloc: Global, job: &Job) -> Result<String, AllocError> {
             budget,
             schedule,
             tally,
+            by_value,
+            progress,
         } => {
             let file = file.as_str();
-            format!(in alloc; "run [{file}] {workers} {budget} {schedule} {tally}")
+            let schedule = flag(*schedule, " schedule");
+            let tally = flag(*tally, " tally");
+            let by_value = flag(*by_value, " by-value");
+            let progress = flag(*progress, " progress");
+            format!(in alloc;
+                "run [{file}] {workers} {budget}{schedule}{tally}{by_value}{progress}"
+            )
         }
         Job::Check { file, term } => {
             let file = file.as_str();
@@ -30,6 +43,22 @@ fn told(alloc: Global, job: &Job) -> Result<String, AllocError> {
             format!(in alloc; "replay [{file}] [{schedule}]")
         }
         Job::Demo { n, workers } => format!(in alloc; "demo {n} {workers}"),
+        Job::RunNet {
+            file,
+            workers,
+            budget,
+            schedule,
+            tally,
+        } => {
+            let file = file.as_str();
+            let schedule = flag(*schedule, " schedule");
+            let tally = flag(*tally, " tally");
+            format!(in alloc; "run-net [{file}] {workers} {budget}{schedule}{tally}")
+        }
+        Job::Batch { file, workers } => {
+            let file = file.as_str();
+            format!(in alloc; "batch [{file}] {workers}")
+        }
     }
 }
 

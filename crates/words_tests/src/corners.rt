@@ -6,23 +6,37 @@ use std::test::Fail;
 #[test]
 fn plain_words(rt: HostRuntime) -> Result<(), Fail> {
     let rows = [
-        ("goi,run,p", "run [p] 1 10000 false false"),
+        ("goi,run,p", "run [p] 1 10000"),
         (
             "goi,run,p,--workers,64,--budget,10000000",
-            "run [p] 64 10000000 false false",
+            "run [p] 64 10000000",
         ),
         (
             "goi,run,p,--tally,--budget,5,--schedule,--workers,2",
-            "run [p] 2 5 true true",
+            "run [p] 2 5 schedule tally",
         ),
-        ("goi,run,p,--budget,1,--tally", "run [p] 1 1 false true"),
+        ("goi,run,p,--budget,1,--tally", "run [p] 1 1 tally"),
         ("goi,check,p", "check [p] false"),
         ("goi,check,p,--term", "check [p] true"),
         ("goi,net,p", "net [p]"),
         ("goi,replay,p,q", "replay [p] [q]"),
         ("goi,demo,0", "demo 0 1"),
         ("goi,demo,12,--workers,4", "demo 12 4"),
-        ("-x,run,run", "run [run] 1 10000 false false"),
+        ("-x,run,run", "run [run] 1 10000"),
+        ("goi,run,p,--by-value", "run [p] 1 10000 by-value"),
+        (
+            "goi,run,p,--by-value,--workers,2,--tally",
+            "run [p] 2 10000 tally by-value",
+        ),
+        ("goi,run,p,--progress", "run [p] 1 10000 progress"),
+        (
+            "goi,run,p,--by-value,--progress",
+            "run [p] 1 10000 by-value progress",
+        ),
+        (
+            "goi,run,p,--progress,--schedule,--by-value,--tally,--budget,5,--workers,2",
+            "run [p] 2 5 schedule tally by-value progress",
+        ),
     ];
     for (row, wanted) in rows {
         let got = answer(rt.alloc(), row)?;
@@ -48,6 +62,9 @@ fn commands_and_operands(rt: HostRuntime) -> Result<(), Fail> {
         ("goi,net,p,--tally", "refused"),
         ("goi,check,p,--budget,5", "refused"),
         ("goi,demo,1,--budget,5", "refused"),
+        ("goi,demo,1,--by-value", "refused"),
+        ("goi,demo,1,--progress", "refused"),
+        ("goi,check,p,--by-value", "refused"),
         // a request for help or for the version
         ("goi,help", "refused"),
         ("goi,--help", "refused"),
@@ -56,7 +73,59 @@ fn commands_and_operands(rt: HostRuntime) -> Result<(), Fail> {
         ("goi,run,p,-h", "refused"),
         ("goi,help,run", "refused"),
         ("goi,--version", "refused"),
-        ("goi,run,help", "run [help] 1 10000 false false"),
+        ("goi,run,help", "run [help] 1 10000"),
+    ];
+    for (row, wanted) in rows {
+        let got = answer(rt.alloc(), row)?;
+        assert!(rt; got.as_str() == wanted, "{row}: {got}");
+    }
+    Ok(())
+}
+
+#[test]
+fn nets_from_files(rt: HostRuntime) -> Result<(), Fail> {
+    let rows = [
+        ("goi,run-net,n", "run-net [n] 1 10000"),
+        (
+            "goi,run-net,n,--tally,--budget,5,--schedule,--workers,2",
+            "run-net [n] 2 5 schedule tally",
+        ),
+        ("goi,run-net,-", "run-net [-] 1 10000"),
+        ("goi,run-net,--budget=5,n", "run-net [n] 1 5"),
+        ("goi,run-net", "refused"),
+        ("goi,run-net,n,m", "refused"),
+        ("goi,run-net,-n", "refused"),
+        ("goi,run-net,n,--budget,0", "refused"),
+        ("goi,run-net,n,--workers,65", "refused"),
+        ("goi,run-net,n,--tally,--tally", "refused"),
+        ("goi,run-net,n,--by-value", "refused"),
+        ("goi,run-net,n,--progress", "refused"),
+        ("goi,run-net,n,--term", "refused"),
+        ("goi,run_net,n", "refused"),
+    ];
+    for (row, wanted) in rows {
+        let got = answer(rt.alloc(), row)?;
+        assert!(rt; got.as_str() == wanted, "{row}: {got}");
+    }
+    Ok(())
+}
+
+#[test]
+fn lists_of_programs(rt: HostRuntime) -> Result<(), Fail> {
+    let rows = [
+        ("goi,batch,l", "batch [l] 1"),
+        ("goi,batch,l,--workers,64", "batch [l] 64"),
+        ("goi,batch,--workers=2,l", "batch [l] 2"),
+        ("goi,batch,-", "batch [-] 1"),
+        ("goi,batch", "refused"),
+        ("goi,batch,l,m", "refused"),
+        ("goi,batch,l,--workers,0", "refused"),
+        ("goi,batch,l,--workers,65", "refused"),
+        ("goi,batch,l,--workers,2,--workers,2", "refused"),
+        ("goi,batch,l,--budget,5", "refused"),
+        ("goi,batch,l,--schedule", "refused"),
+        ("goi,batch,l,--tally", "refused"),
+        ("goi,batch,l,--progress", "refused"),
     ];
     for (row, wanted) in rows {
         let got = answer(rt.alloc(), row)?;
@@ -77,8 +146,8 @@ fn numbers(rt: HostRuntime) -> Result<(), Fail> {
         ("goi,demo,1,--workers,65", "refused"),
         ("goi,demo,99999999999999999999", "refused"),
         // zeros in front, a plus, and a minus, which begins an option
-        ("goi,run,p,--budget,007", "run [p] 1 7 false false"),
-        ("goi,run,p,--budget,+5", "run [p] 1 5 false false"),
+        ("goi,run,p,--budget,007", "run [p] 1 7"),
+        ("goi,run,p,--budget,+5", "run [p] 1 5"),
         ("goi,run,p,--budget,++5", "refused"),
         ("goi,run,p,--budget,-5", "refused"),
         ("goi,demo,-0", "refused"),
@@ -104,23 +173,33 @@ fn numbers(rt: HostRuntime) -> Result<(), Fail> {
 fn options(rt: HostRuntime) -> Result<(), Fail> {
     let rows = [
         // a value in the option's own word
-        ("goi,run,p,--budget=5", "run [p] 1 5 false false"),
+        ("goi,run,p,--budget=5", "run [p] 1 5"),
         ("goi,run,p,--budget=-5", "refused"),
         ("goi,run,p,--budget=", "refused"),
         ("goi,run,p,--tally=true", "refused"),
+        ("goi,run,p,--by-value=true", "refused"),
+        ("goi,run,p,--progress=true", "refused"),
         // options before operands or between them
         ("goi,demo,--workers=2,3", "demo 3 2"),
-        ("goi,run,--budget,5,p", "run [p] 1 5 false false"),
-        ("goi,run,--tally,p,--schedule", "run [p] 1 10000 true true"),
+        ("goi,run,--budget,5,p", "run [p] 1 5"),
+        (
+            "goi,run,--tally,p,--schedule",
+            "run [p] 1 10000 schedule tally",
+        ),
         ("goi,--tally,run,p", "refused"),
+        ("goi,run,--by-value,p", "run [p] 1 10000 by-value"),
         // an option twice, and one as another's value
         ("goi,run,p,--budget,5,--budget,5", "refused"),
         ("goi,run,p,--tally,--tally", "refused"),
+        ("goi,run,p,--by-value,--by-value", "refused"),
+        ("goi,run,p,--progress,--by-value,--progress", "refused"),
         ("goi,run,p,--budget,--tally", "refused"),
         // other spellings
         ("goi,run,p,--budg,5", "refused"),
         ("goi,run,p,--BUDGET,5", "refused"),
         ("goi,run,p,-b,5", "refused"),
+        ("goi,run,p,--by_value", "refused"),
+        ("goi,run,p,--by", "refused"),
     ];
     for (row, wanted) in rows {
         let got = answer(rt.alloc(), row)?;
@@ -133,11 +212,11 @@ fn options(rt: HostRuntime) -> Result<(), Fail> {
 fn names_of_files(rt: HostRuntime) -> Result<(), Fail> {
     let rows = [
         // words that begin with a hyphen
-        ("goi,run,-", "run [-] 1 10000 false false"),
+        ("goi,run,-", "run [-] 1 10000"),
         ("goi,run,-p", "refused"),
-        ("goi,run,--,-p", "run [-p] 1 10000 false false"),
-        ("goi,run,--,--tally", "run [--tally] 1 10000 false false"),
-        ("goi,run,p,--", "run [p] 1 10000 false false"),
+        ("goi,run,--,-p", "run [-p] 1 10000"),
+        ("goi,run,--,--tally", "run [--tally] 1 10000"),
+        ("goi,run,p,--", "run [p] 1 10000"),
         ("goi,run,p,--,--tally", "refused"),
         ("goi,run,--budget,--,p", "refused"),
         ("goi,replay,--,-p,-q", "replay [-p] [-q]"),
@@ -146,8 +225,8 @@ fn names_of_files(rt: HostRuntime) -> Result<(), Fail> {
         ("goi,run,p,---", "refused"),
         ("goi,run,p,--=5", "refused"),
         // the empty name, blanks, and characters of several bytes
-        ("goi,run,", "run [] 1 10000 false false"),
-        ("goi,run,a b", "run [a b] 1 10000 false false"),
+        ("goi,run,", "run [] 1 10000"),
+        ("goi,run,a b", "run [a b] 1 10000"),
         ("goi,check,λ.pcf", "check [λ.pcf] false"),
     ];
     for (row, wanted) in rows {

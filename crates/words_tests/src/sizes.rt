@@ -61,7 +61,7 @@ fn long_words(rt: HostRuntime) -> Result<(), Fail> {
         ("goi,run,p,--", "x", "", "refused"),
         ("goi,run,-", "t", "", "refused"),
         ("goi,run,p,--budget,", "9", "", "refused"),
-        ("goi,run,p,--budget,", "0", "5", "run [p] 1 5 false false"),
+        ("goi,run,p,--budget,", "0", "5", "run [p] 1 5"),
         ("", "x", ",demo,1", "demo 1 1"),
     ];
     for (front, middle, end, wanted) in rows {
