@@ -1,0 +1,7 @@
+-- What public contracts cite, and a reader has to believe, in the order to read it: the meaning by value, the translation and the terms
+-- that have one, and the faults.
+pub mod ByValue
+pub mod Translation
+pub mod Faults
+-- The statements that the crate is for.
+pub mod Laws
