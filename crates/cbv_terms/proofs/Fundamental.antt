@@ -17,7 +17,7 @@ use Rattle.cbv_terms.specs.Translation.{HasTranslation, type_at, argument_type, 
 use Rattle.cbv_terms.proofs.Derived.{EvByValue, by_num, by_lam, by_fix, HasEvByValue, derived_evaluates, evaluates_derived}
 use Rattle.cbv_terms.proofs.Typed.{cps_typed}
 use Rattle.cbv_terms.proofs.Relation.{Stands, stands_less, stands_closed, quote_closed, quote_derived, fwd, then_steps, enter, hands_step, hands_value}
-use Rattle.cbv_terms.proofs.Forms.{Good, succ_hands, pred_hands, binary_hands, ifz_hands, app_hands}
+use Rattle.cbv_terms.proofs.Handing.{Good, succ_hands, pred_hands, binary_hands, ifz_hands, app_hands}
 
 -- a variable's term has a result_type by value, for which its term of the translation stands
 abbrev pub Entry : ℕ → TyTree → TermTree → TermTree → Type 0

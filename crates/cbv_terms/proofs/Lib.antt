@@ -1,5 +1,9 @@
+pub mod Accepting
 pub mod Derived
-pub mod Forms
 pub mod Fundamental
+pub mod Handing
+pub mod Placing
 pub mod Relation
+pub mod Scanning
+pub mod Translating
 pub mod Typed

@@ -3,7 +3,7 @@
 -- pair. Places are those of the program's text.
 use Rattle.std.specs.Prelude.{◌≡◌, ◌⊎◌, ◌<◌, ◌≤◌, ℕ, Bool, true, false}
 use Rattle.pcf_values.specs.Terms.{TyTree, arrow}
-use Rattle.pcf_values.specs.Named.{Word, the_succ, the_pred, the_fst, the_snd, the_fun, the_fix, NamedTree, number_at, name_at, word_at, binary_at, pair_at, ifz_at, bind_at, apply_at, named_height}
+use Rattle.pcf_values.specs.Named.{the_succ, the_pred, the_fst, the_snd, the_fun, the_fix, NamedTree, number_at, name_at, word_at, binary_at, pair_at, ifz_at, bind_at, apply_at, named_height}
 use Rattle.cbv_terms.specs.declared.fault.ByValueFault.{ByValueFault}
 use Rattle.cbv_terms.specs.declared.fault.ByValueFault.TheVariants.{NoMemory, ByValueFix, ByValuePair, ByValueDeep}
 use Rattle.cbv_terms.specs.declared.limit.TheConstants.{BY_VALUE_HEIGHT}
@@ -14,16 +14,9 @@ abbrev pub is_of_fun : TyTree → NamedTree → Bool
 is_of_fun (arrow a b) (bind_at at the_fun x t m) = true
 is_of_fun _ _ = false
 
--- at this place stands a word that takes a part of a pair
-abbrev pub WordFault : ℕ → Word → ByValueFault → Type 0
-WordFault at the_succ f = ⊥
-WordFault at the_pred f = ⊥
-WordFault at the_fst f = f ≡ ByValuePair at
-WordFault at the_snd f = f ≡ ByValuePair at
-
 -- at this place stands a binder whose type has a product
-abbrev pub TypeFault : ℕ → TyTree → ByValueFault → Type 0
-TypeFault at t f = (has_product t ≡ true) × (f ≡ ByValuePair at)
+abbrev pub BinderFault : ℕ → TyTree → ByValueFault → Type 0
+BinderFault at t f = (has_product t ≡ true) × (f ≡ ByValuePair at)
 
 -- at this place stands a `fix` that isn't of a function's type and of a `fun`
 abbrev pub FixFault : ℕ → TyTree → NamedTree → ByValueFault → Type 0
@@ -33,12 +26,15 @@ FixFault at t m f = (is_of_fun t m ≡ false) × (f ≡ ByValueFix at)
 abbrev pub HasFault : NamedTree → ByValueFault → Type 0
 HasFault (number_at at n) f = ⊥
 HasFault (name_at at x) f = ⊥
-HasFault (word_at at w a) f = WordFault at w f ⊎ HasFault a f
+HasFault (word_at at the_succ a) f = HasFault a f
+HasFault (word_at at the_pred a) f = HasFault a f
+HasFault (word_at at the_fst a) f = (f ≡ ByValuePair at) ⊎ HasFault a f
+HasFault (word_at at the_snd a) f = (f ≡ ByValuePair at) ⊎ HasFault a f
 HasFault (binary_at at o a b) f = HasFault a f ⊎ HasFault b f
 HasFault (pair_at at a b) f = (f ≡ ByValuePair at) ⊎ (HasFault a f ⊎ HasFault b f)
 HasFault (ifz_at at c p q) f = HasFault c f ⊎ (HasFault p f ⊎ HasFault q f)
-HasFault (bind_at at the_fun x t m) f = TypeFault at t f ⊎ HasFault m f
-HasFault (bind_at at the_fix x t m) f = (FixFault at t m f ⊎ TypeFault at t f) ⊎ HasFault m f
+HasFault (bind_at at the_fun x t m) f = BinderFault at t f ⊎ HasFault m f
+HasFault (bind_at at the_fix x t m) f = FixFault at t m f ⊎ (BinderFault at t f ⊎ HasFault m f)
 HasFault (apply_at at g a) f = HasFault g f ⊎ HasFault a f
 
 -- the program is refused by value for this; want of memory is no fault of a program

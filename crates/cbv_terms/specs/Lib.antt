@@ -5,3 +5,6 @@ pub mod Translation
 pub mod Faults
 -- The statements that the crate is for.
 pub mod Laws
+-- For private contracts and proofs only: what they see of binders and types while a translation is made.
+pub mod Scan
+pub mod Views

@@ -1,6 +1,6 @@
 //! What the translation is worth.
 
-ghost use Rattle.cbv_terms.specs.Laws.{SameValues, TranslatedIsTyped, TranslatedSize, TranslatedHeight, MoreDepth, OneValue};
+ghost use Rattle.cbv_terms.specs.Laws.{SameValues, TranslatedIsTyped, TranslatedSize, TranslatedHeight, MoreDepth, OneValue, FaultlessIsAccepted, SomeFirstFault, OneFirstFault};
 
 /// A closed term of type `nat` means a value by value exactly where its translation means it by name.
 pub fn law_by_value()
@@ -18,4 +18,11 @@ pub fn law_translated()
 pub fn law_one_value()
     ensures more_depth { MoreDepth }
     ensures one_value { OneValue }
+{}
+
+/// A program has no fault exactly where its term is accepted, and else one first fault.
+pub fn law_faults()
+    ensures accepted { FaultlessIsAccepted }
+    ensures some { SomeFirstFault }
+    ensures one { OneFirstFault }
 {}
