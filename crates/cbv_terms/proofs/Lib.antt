@@ -1,5 +1,6 @@
 pub mod Accepting
 pub mod Derived
+pub mod Examples
 pub mod Fundamental
 pub mod Handing
 pub mod Placing

@@ -38,24 +38,24 @@ finds_both F G x y z h k e q = record {
 }
 
 -- the faults of a node itself
-no_fix_at_pair : (at : ℕ) → IsLeast (λ a. ByValueFix a ≡ ByValuePair at) None
+pub no_fix_at_pair : (at : ℕ) → IsLeast (λ a. ByValueFix a ≡ ByValuePair at) None
 no_fix_at_pair at a e = cc
 
-least_pair : (at : ℕ) → IsLeast (λ a. ByValuePair a ≡ ByValuePair at) (Some at)
+pub least_pair : (at : ℕ) → IsLeast (λ a. ByValuePair a ≡ ByValuePair at) (Some at)
 least_pair at = (refl, λ a e. let q : a ≡ at = cc in omega arith)
 
-no_binder_fix : (at : ℕ) (t : TyTree) → IsLeast (λ a. BinderFault at t (ByValueFix a)) None
+pub no_binder_fix : (at : ℕ) (t : TyTree) → IsLeast (λ a. BinderFault at t (ByValueFix a)) None
 no_binder_fix at t a (e, q) = cc
 
-least_binder : (at : ℕ) (t : TyTree) (b : Bool) → has_product t ≡ b → IsLeast (λ a. BinderFault at t (ByValuePair a)) (where_holds b at)
+pub least_binder : (at : ℕ) (t : TyTree) (b : Bool) → has_product t ≡ b → IsLeast (λ a. BinderFault at t (ByValuePair a)) (where_holds b at)
 least_binder at t true e = ((e, refl), λ a (h, q). let r : a ≡ at = cc in omega arith)
 least_binder at t false e = λ a (h, q). cc
 
-least_fix : (at : ℕ) (t : TyTree) (m : NamedTree) (b : Bool) → is_of_fun t m ≡ b → IsLeast (λ a. FixFault at t m (ByValueFix a)) (where_holds (not b) at)
+pub least_fix : (at : ℕ) (t : TyTree) (m : NamedTree) (b : Bool) → is_of_fun t m ≡ b → IsLeast (λ a. FixFault at t m (ByValueFix a)) (where_holds (not b) at)
 least_fix at t m true e = λ a (h, q). cc
 least_fix at t m false e = ((e, refl), λ a (h, q). let r : a ≡ at = cc in omega arith)
 
-no_fix_pair : (at : ℕ) (t : TyTree) (m : NamedTree) → IsLeast (λ a. FixFault at t m (ByValuePair a)) None
+pub no_fix_pair : (at : ℕ) (t : TyTree) (m : NamedTree) → IsLeast (λ a. FixFault at t m (ByValuePair a)) None
 no_fix_pair at t m a (e, q) = cc
 
 pub finds_pair : (at : ℕ) (z : Least) → z.fixes ≡ None → z.pairs ≡ Some at → Finds (λ f. f ≡ ByValuePair at) z
@@ -129,13 +129,13 @@ pub deep_first : (tree : NamedTree) → BY_VALUE_HEIGHT < named_height tree → 
 deep_first tree h = record { fault = h; first = λ g w. deep_before g }
 
 -- each tree has such places
-record Found (F : ByValueFault → Type 0) : Type 0 where
+pub record Found (F : ByValueFault → Type 0) : Type 0 where
   pub fix : Option ℕ
   pub pair : Option ℕ
   pub fixes : IsLeast (λ at. F (ByValueFix at)) fix
   pub pairs : IsLeast (λ at. F (ByValuePair at)) pair
 
-found_both : (F G : ByValueFault → Type 0) → Found F → Found G → Found (λ f. F f ⊎ G f)
+abbrev found_both : (F G : ByValueFault → Type 0) → Found F → Found G → Found (λ f. F f ⊎ G f)
 found_both F G x y = record {
   fix = lesser x.fix y.fix;
   pair = lesser x.pair y.pair;
@@ -143,19 +143,19 @@ found_both F G x y = record {
   pairs = least_both (λ at. F (ByValuePair at)) (λ at. G (ByValuePair at)) x.pair y.pair x.pairs y.pairs;
 }
 
-found_none : Found (λ f. ⊥)
+abbrev found_none : Found (λ f. ⊥)
 found_none = record { fix = None; pair = None; fixes = λ at h. h; pairs = λ at h. h }
 
-found_pair : (at : ℕ) → Found (λ f. f ≡ ByValuePair at)
+abbrev found_pair : (at : ℕ) → Found (λ f. f ≡ ByValuePair at)
 found_pair at = record { fix = None; pair = Some at; fixes = no_fix_at_pair at; pairs = least_pair at }
 
-found_binder : (at : ℕ) (t : TyTree) → Found (BinderFault at t)
+abbrev found_binder : (at : ℕ) (t : TyTree) → Found (BinderFault at t)
 found_binder at t = record { fix = None; pair = where_holds (has_product t) at; fixes = no_binder_fix at t; pairs = least_binder at t (has_product t) refl }
 
-found_fix : (at : ℕ) (t : TyTree) (m : NamedTree) → Found (FixFault at t m)
+abbrev found_fix : (at : ℕ) (t : TyTree) (m : NamedTree) → Found (FixFault at t m)
 found_fix at t m = record { fix = where_holds (not (is_of_fun t m)) at; pair = None; fixes = least_fix at t m (is_of_fun t m) refl; pairs = no_fix_pair at t m }
 
-found : (tree : NamedTree) → Found (HasFault tree)
+abbrev pub found : (tree : NamedTree) → Found (HasFault tree)
 found (number_at at n) = found_none
 found (name_at at x) = found_none
 found (word_at at the_succ a) = found a
@@ -174,13 +174,17 @@ told_either : (tree : NamedTree) (r : Option ByValueFault) → MatchOption r (Is
 told_either tree None h = inl h
 told_either tree (Some f) h = inr (f, h)
 
+-- what is told of the program by these places is its first fault
+pub told_found : (tree : NamedTree) → named_height tree ≤ BY_VALUE_HEIGHT → MatchOption (first_of (found tree).fix (found tree).pair) (IsFaultless tree) (IsFirstFault tree)
+told_found tree l = told_of tree l (found tree).fix (found tree).pair (found tree).fixes (found tree).pairs
+
 -- a program has no fault or a first one
 pub some_first_fault : (tree : NamedTree) → IsFaultless tree ⊎ ((f : ByValueFault) × IsFirstFault tree f)
 some_first_fault tree = go (cases_lt BY_VALUE_HEIGHT (named_height tree))
   where
     go : (BY_VALUE_HEIGHT < named_height tree) ⊎ (named_height tree ≤ BY_VALUE_HEIGHT) → IsFaultless tree ⊎ ((f : ByValueFault) × IsFirstFault tree f)
     go (inl l) = inr (ByValueDeep, deep_first tree l)
-    go (inr l) = let w = found tree in told_either tree (first_of w.fix w.pair) (told_of tree l w.fix w.pair w.fixes w.pairs)
+    go (inr l) = told_either tree (first_of (found tree).fix (found tree).pair) (told_found tree l)
 
 same_fault : (f g : ByValueFault) → NoLater f g → NoLater g f → f ≡ g
 same_fault ByValueDeep ByValueDeep h k = refl

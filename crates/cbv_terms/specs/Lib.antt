@@ -5,6 +5,7 @@ pub mod Translation
 pub mod Faults
 -- The statements that the crate is for.
 pub mod Laws
+pub mod Examples
 -- For private contracts and proofs only: what they see of binders and types while a translation is made.
 pub mod Scan
 pub mod Views

@@ -1,5 +1,6 @@
 //! What the translation is worth.
 
+ghost use Rattle.cbv_terms.specs.Examples.{ExampleValues, ExampleFaults};
 ghost use Rattle.cbv_terms.specs.Laws.{SameValues, TranslatedIsTyped, TranslatedSize, TranslatedHeight, MoreDepth, OneValue, FaultlessIsAccepted, SomeFirstFault, OneFirstFault};
 
 /// A closed term of type `nat` means a value by value exactly where its translation means it by name.
@@ -25,4 +26,14 @@ pub fn law_faults()
     ensures accepted { FaultlessIsAccepted }
     ensures some { SomeFirstFault }
     ensures one { OneFirstFault }
+{}
+
+/// Meanings and translations of some programs.
+pub fn law_example_values()
+    ensures { ExampleValues }
+{}
+
+/// First faults of some programs.
+pub fn law_example_faults()
+    ensures { ExampleFaults }
 {}

@@ -18,6 +18,8 @@ mod refusal;
 mod translate;
 
 pub use fault::ByValueFault;
-pub use laws::{law_by_value, law_faults, law_one_value, law_translated};
+pub use laws::{
+    law_by_value, law_example_faults, law_example_values, law_faults, law_one_value, law_translated,
+};
 pub use limit::BY_VALUE_HEIGHT;
 pub use program::by_value;
