@@ -1,0 +1,244 @@
+-- Each form of the translation hands on the results of its form of term.
+use Rattle.std.proofs.Common.{◌≡◌, ℕ, zero, suc, ◌+◌, ◌<◌, refl, sym, ap, ◌∙◌, subst, arith}
+use Rattle.pcf_values.specs.declared.val.Val.{Val}
+use Rattle.pcf_values.specs.declared.val.Val.TheVariants.{Number, Overflow}
+use Rattle.pcf_values.specs.Values.{val_succ, val_pred, Op, val_op, at_zero}
+use Rattle.pcf_values.specs.Terms.{TyTree, nat, arrow, TermTree, var, succ_of, pred_of, binary, ifz, lam, app}
+use Rattle.cbn_meaning.specs.Substitution.{subst_at, Closed, Env, cons, AllClosed, close}
+use Rattle.cbn_meaning.specs.Meaning.{Res, value, closure}
+use Rattle.cbn_meaning.specs.Derivations.{Ev, ev_succ, ev_pred, ev_binary, ev_ifz, HasEv}
+use Rattle.cbn_meaning.proofs.Derived.{ifz_inv, ev_eval}
+use Rattle.cbn_meaning.proofs.Head.{one_value}
+use Rattle.cbn_meaning.proofs.Close.{close_closed, cons_closed}
+use Rattle.cbv_terms.specs.ByValue.{quote}
+use Rattle.cbv_terms.proofs.Derived.{EvByValue, by_succ, by_pred, by_binary, by_ifz, by_app, by_succ_inv, by_pred_inv, by_binary_inv, by_ifz_inv, by_app_inv, HasEvByValue}
+use Rattle.cbv_terms.proofs.Relation.{Hands, Stands, stands_less, fwd, enter}
+
+abbrev pub Good : TyTree → ℕ → TermTree → TermTree → Type 0
+Good a n m c = Hands (λ k u o. Stands a k u o) n m c
+
+-- a term of type nat has the value that it stands for
+stands_ev : (n : ℕ) (w : Res) (y : TermTree) → Stands nat n w y → HasEv y w
+stands_ev n w y (c, (v, e, h)) = subst (HasEv y) (sym e) h
+
+succ_closed : (y : TermTree) → Closed y → Closed (succ_of y)
+succ_closed y c k p = ap succ_of (c k p)
+
+pred_closed : (y : TermTree) → Closed y → Closed (pred_of y)
+pred_closed y c k p = ap pred_of (c k p)
+
+binary_closed : (o : Op) (y z : TermTree) → Closed y → Closed z → Closed (binary o y z)
+binary_closed o y z c d k p = let a = c k p in let b = d k p in cc
+
+succ_stands : (n : ℕ) (v : Val) (y : TermTree) → Stands nat n (value v) y → Stands nat n (value (val_succ v)) (succ_of y)
+succ_stands n v y g = let (s, e) = stands_ev n (value v) y g in (succ_closed y g.0, (val_succ v, refl, (suc s, ev_succ e)))
+
+pred_stands : (n : ℕ) (v : Val) (y : TermTree) → Stands nat n (value v) y → Stands nat n (value (val_pred v)) (pred_of y)
+pred_stands n v y g = let (s, e) = stands_ev n (value v) y g in (pred_closed y g.0, (val_pred v, refl, (suc s, ev_pred e)))
+
+binary_stands : (n : ℕ) (o : Op) (v u : Val) (y z : TermTree) → Stands nat n (value v) y → Stands nat n (value u) z → Stands nat n (value (val_op o v u)) (binary o y z)
+binary_stands n o v u y z g h =
+    let (s, e) = stands_ev n (value v) y g in
+    let (r, d) = stands_ev n (value u) z h in
+    (binary_closed o y z g.0 h.0, (val_op o v u, refl, (suc (s + r), ev_binary {s = s} {r = r} {v = v} {w = u} e d)))
+
+-- value_type of forms, from those of their parts
+succ_result : (k : ℕ) (m : TermTree) (w : Res) (y : TermTree) → HasEvByValue m w → Stands nat k w y → (u : Res) × HasEvByValue (succ_of m) u × Stands nat k u (succ_of y)
+succ_result k m w y (r, d) (c, (v, e, h)) = (value (val_succ v), (suc r, by_succ (subst (EvByValue r m) e d)), succ_stands k v y (c, (v, refl, h)))
+
+pred_result : (k : ℕ) (m : TermTree) (w : Res) (y : TermTree) → HasEvByValue m w → Stands nat k w y → (u : Res) × HasEvByValue (pred_of m) u × Stands nat k u (pred_of y)
+pred_result k m w y (r, d) (c, (v, e, h)) = (value (val_pred v), (suc r, by_pred (subst (EvByValue r m) e d)), pred_stands k v y (c, (v, refl, h)))
+
+binary_result : (k : ℕ) (o : Op) (m m' : TermTree) (w w' : Res) (y y' : TermTree) → HasEvByValue m w → HasEvByValue m' w' → Stands nat k w y → Stands nat k w' y' → (u : Res) × HasEvByValue (binary o m m') u × Stands nat k u (binary o y y')
+binary_result k o m m' w w' y y' (r, d) (r', d') (c, (v, e, h)) (c', (v', e', h')) =
+    (value (val_op o v v'), (suc (r + r'), by_binary (subst (EvByValue r m) e d) (subst (EvByValue r' m') e' d')), binary_stands k o v v' y y' (c, (v, refl, h)) (c', (v', refl, h')))
+
+ifz_result : (k : ℕ) (m p q : TermTree) (w : Res) (y : TermTree) (v : Val) (u : Res) → HasEvByValue m w → Stands nat k w y → HasEv y (value v) → HasEvByValue (at_zero v p q) u → HasEvByValue (ifz m p q) u
+ifz_result k m p q w y v u (r, d) (c, (v', e, (i, h))) (j, g) (r', b) =
+    let same : v' ≡ v = one_value y v' v (i, ev_eval h) (j, ev_eval g) in
+    (suc (r + r'), by_ifz {v = v} (subst (EvByValue r m) (e ∙ ap value same) d) b)
+
+app_result : (t : TyTree) (m m' b : TermTree) (w u : Res) → HasEvByValue m (closure t b) → HasEvByValue m' w → HasEvByValue (subst_at b zero (quote w)) u → HasEvByValue (app m m') u
+app_result t m m' b w u (r, d) (r', d') (k, e) = (suc (r + r' + k), by_app d d' e)
+
+ifz_ev : (y p q : TermTree) (v : Val) (x : Res) → HasEv y (value v) → HasEv (at_zero v p q) x → HasEv (ifz y p q) x
+ifz_ev y p q v x (i, d) (j, e) = (suc (i + j), ev_ifz {v = v} d e)
+
+-- what is left to do at each form
+abbrev succ_k : TermTree
+succ_k = app (var 1) (succ_of (var 0))
+
+abbrev pred_k : TermTree
+pred_k = app (var 1) (pred_of (var 0))
+
+abbrev op_k : Op → TermTree
+op_k o = app (var 2) (binary o (var 1) (var 0))
+
+abbrev ifz_k : TermTree → TermTree → TermTree
+ifz_k p q = ifz (var 0) (app p (var 1)) (app q (var 1))
+
+abbrev app_k : TermTree
+app_k = app (app (var 1) (var 0)) (var 2)
+
+pub succ_hands : (t : TyTree) (n : ℕ) (m : TermTree) (s : Env) (c : TermTree) → AllClosed s → ((x : TermTree) → Closed x → Good nat n m (close zero (cons x s) c)) → Good nat n (succ_of m) (close zero s (lam t (app c (lam nat succ_k))))
+succ_hands t n m s c cs h = record {
+  forth = λ i k w l d x cx a f.
+      let (r, v, dm, q, e) = by_succ_inv d in
+      fwd (app (close zero s (lam t (app c (lam nat succ_k)))) x) (app (close zero (cons x s) c) (close zero (cons x s) (lam nat succ_k))) (value a) (enter t s (app c (lam nat succ_k)) x cs)
+      ((h x cx).forth r k (value v) (omega arith) dm (close zero (cons x s) (lam nat succ_k)) (close_closed (lam nat succ_k) (cons x s) (cons_closed x s cx cs)) a
+      (λ y g. fwd (app (close zero (cons x s) (lam nat succ_k)) y) (app x (succ_of y)) (value a) (enter nat (cons x s) succ_k y (cons_closed x s cx cs))
+      (f (succ_of y) (subst (λ w. Stands nat k w (succ_of y)) (sym e) (succ_stands k v y g)))));
+  back = λ i l x cx a d.
+      let (z, q, d1) = (enter t s (app c (lam nat succ_k)) x cs).back i (value a) d in
+      let (w, y, j, hm, g, q1, d2) = (h x cx).back z (omega arith) (close zero (cons x s) (lam nat succ_k)) (close_closed (lam nat succ_k) (cons x s) (cons_closed x s cx cs)) a d1 in
+      let (z2, q2, d3) = (enter nat (cons x s) succ_k y (cons_closed x s cx cs)).back j (value a) d2 in
+      let (u, hu, gu) = succ_result z2 m w y hm g in
+      (u, succ_of y, z2, hu, gu, omega arith, d3);
+}
+
+pub pred_hands : (t : TyTree) (n : ℕ) (m : TermTree) (s : Env) (c : TermTree) → AllClosed s → ((x : TermTree) → Closed x → Good nat n m (close zero (cons x s) c)) → Good nat n (pred_of m) (close zero s (lam t (app c (lam nat pred_k))))
+pred_hands t n m s c cs h = record {
+  forth = λ i k w l d x cx a f.
+      let (r, v, dm, q, e) = by_pred_inv d in
+      fwd (app (close zero s (lam t (app c (lam nat pred_k)))) x) (app (close zero (cons x s) c) (close zero (cons x s) (lam nat pred_k))) (value a) (enter t s (app c (lam nat pred_k)) x cs)
+      ((h x cx).forth r k (value v) (omega arith) dm (close zero (cons x s) (lam nat pred_k)) (close_closed (lam nat pred_k) (cons x s) (cons_closed x s cx cs)) a
+      (λ y g. fwd (app (close zero (cons x s) (lam nat pred_k)) y) (app x (pred_of y)) (value a) (enter nat (cons x s) pred_k y (cons_closed x s cx cs))
+      (f (pred_of y) (subst (λ w. Stands nat k w (pred_of y)) (sym e) (pred_stands k v y g)))));
+  back = λ i l x cx a d.
+      let (z, q, d1) = (enter t s (app c (lam nat pred_k)) x cs).back i (value a) d in
+      let (w, y, j, hm, g, q1, d2) = (h x cx).back z (omega arith) (close zero (cons x s) (lam nat pred_k)) (close_closed (lam nat pred_k) (cons x s) (cons_closed x s cx cs)) a d1 in
+      let (z2, q2, d3) = (enter nat (cons x s) pred_k y (cons_closed x s cx cs)).back j (value a) d2 in
+      let (u, hu, gu) = pred_result z2 m w y hm g in
+      (u, pred_of y, z2, hu, gu, omega arith, d3);
+}
+
+pub binary_hands : (o : Op) (t : TyTree) (n : ℕ) (m m' : TermTree) (s : Env) (c c' : TermTree) → AllClosed s
+    → ((x : TermTree) → Closed x → Good nat n m (close zero (cons x s) c))
+    → ((x y : TermTree) → Closed x → Closed y → Good nat n m' (close zero (cons y (cons x s)) c'))
+    → Good nat n (binary o m m') (close zero s (lam t (app c (lam nat (app c' (lam nat (op_k o)))))))
+binary_hands o t n m m' s c c' cs h h' = record {
+  forth = λ i k w l d x cx a f.
+      let (r, b, v, u, dm, dn, q, e) = by_binary_inv d in
+      let k1 = lam nat (app c' (lam nat (op_k o))) in
+      let s1 = cons x s in
+      let c1 = cons_closed x s cx cs in
+      fwd (app (close zero s (lam t (app c k1))) x) (app (close zero s1 c) (close zero s1 k1)) (value a) (enter t s (app c k1) x cs)
+      ((h x cx).forth r (b + k) (value v) (omega arith) dm (close zero s1 k1) (close_closed k1 s1 c1) a
+      (λ y g.
+      let s2 = cons y s1 in
+      let c2 = cons_closed y s1 g.0 c1 in
+      let k2 = lam nat (op_k o) in
+      fwd (app (close zero s1 k1) y) (app (close zero s2 c') (close zero s2 k2)) (value a) (enter nat s1 (app c' k2) y c1)
+      ((h' x y cx g.0).forth b k (value u) (omega arith) dn (close zero s2 k2) (close_closed k2 s2 c2) a
+      (λ z g'.
+      fwd (app (close zero s2 k2) z) (app x (binary o y z)) (value a) (enter nat s2 (op_k o) z c2)
+      (f (binary o y z) (subst (λ w. Stands nat k w (binary o y z)) (sym e) (binary_stands k o v u y z (stands_less nat (b + k) k (value v) y (omega arith) g) g')))))));
+  back = λ i l x cx a d.
+      let k1 = lam nat (app c' (lam nat (op_k o))) in
+      let k2 = lam nat (op_k o) in
+      let s1 = cons x s in
+      let c1 = cons_closed x s cx cs in
+      let (z, q, d1) = (enter t s (app c k1) x cs).back i (value a) d in
+      let (w, y, j, hm, g, q1, d2) = (h x cx).back z (omega arith) (close zero s1 k1) (close_closed k1 s1 c1) a d1 in
+      let s2 = cons y s1 in
+      let c2 = cons_closed y s1 g.0 c1 in
+      let (z2, q2, d3) = (enter nat s1 (app c' k2) y c1).back j (value a) d2 in
+      let (w', y', j', hm', g', q3, d4) = (h' x y cx g.0).back z2 (omega arith) (close zero s2 k2) (close_closed k2 s2 c2) a d3 in
+      let (z3, q4, d5) = (enter nat s2 (op_k o) y' c2).back j' (value a) d4 in
+      let (u, hu, gu) = binary_result z3 o m m' w w' y y' hm hm' g g' in
+      (u, binary o y y', z3, hu, gu, omega arith, d5);
+}
+
+at_app : (v : Val) (p q x : TermTree) → at_zero v (app p x) (app q x) ≡ app (at_zero v p q) x
+at_app (Number zero) p q x = refl
+at_app (Number (suc n)) p q x = refl
+at_app Overflow p q x = refl
+
+at_good : (v : Val) (n : ℕ) (m m' c c' : TermTree) → Good nat n m c → Good nat n m' c' → Good nat n (at_zero v m m') (at_zero v c c')
+at_good (Number zero) n m m' c c' h g = h
+at_good (Number (suc k)) n m m' c c' h g = g
+at_good Overflow n m m' c c' h g = g
+
+pub ifz_hands : (t : TyTree) (n : ℕ) (m p q : TermTree) (s : Env) (c cp cq : TermTree) → AllClosed s
+    → ((x : TermTree) → Closed x → Good nat n m (close zero (cons x s) c))
+    → ((x y : TermTree) → Closed x → Closed y → Good nat n p (close zero (cons y (cons x s)) cp))
+    → ((x y : TermTree) → Closed x → Closed y → Good nat n q (close zero (cons y (cons x s)) cq))
+    → Good nat n (ifz m p q) (close zero s (lam t (app c (lam nat (ifz_k cp cq)))))
+ifz_hands t n m p q s c cp cq cs h hp hq = record {
+  forth = λ i k w l d x cx a f.
+      let (r, b, v, dm, dn, e) = by_ifz_inv d in
+      let k1 = lam nat (ifz_k cp cq) in
+      let s1 = cons x s in
+      let c1 = cons_closed x s cx cs in
+      fwd (app (close zero s (lam t (app c k1))) x) (app (close zero s1 c) (close zero s1 k1)) (value a) (enter t s (app c k1) x cs)
+      ((h x cx).forth r (b + k) (value v) (omega arith) dm (close zero s1 k1) (close_closed k1 s1 c1) a
+      (λ y g.
+      let s2 = cons y s1 in
+      let pc = close zero s2 cp in
+      let qc = close zero s2 cq in
+      let left = (at_good v n p q pc qc (hp x y cx g.0) (hq x y cx g.0)).forth b k w (omega arith) dn x cx a f in
+      fwd (app (close zero s1 k1) y) (ifz y (app pc x) (app qc x)) (value a) (enter nat s1 (ifz_k cp cq) y c1)
+      (ifz_ev y (app pc x) (app qc x) v (value a) (stands_ev (b + k) (value v) y g) (subst (λ o. HasEv o (value a)) (sym (at_app v pc qc x)) left))));
+  back = λ i l x cx a d.
+      let k1 = lam nat (ifz_k cp cq) in
+      let s1 = cons x s in
+      let c1 = cons_closed x s cx cs in
+      let (z, l1, d1) = (enter t s (app c k1) x cs).back i (value a) d in
+      let (w, y, j, hm, g, l2, d2) = (h x cx).back z (omega arith) (close zero s1 k1) (close_closed k1 s1 c1) a d1 in
+      let s2 = cons y s1 in
+      let pc = close zero s2 cp in
+      let qc = close zero s2 cq in
+      let (z2, l3, d3) = (enter nat s1 (ifz_k cp cq) y c1).back j (value a) d2 in
+      let (i1, i2, v, dy, db, l4) = ifz_inv d3 in
+      let db' = subst (λ o. Ev i2 o (value a)) (at_app v pc qc x) db in
+      let (w', y', j', hb, g', l5, d4) = (at_good v n p q pc qc (hp x y cx g.0) (hq x y cx g.0)).back i2 (omega arith) x cx a db' in
+      (w', y', j', ifz_result j m p q w y v w' hm g (i1, dy) hb, g', omega arith, d4);
+}
+
+-- the body of a result_type of arrow type
+stands_body : (a b : TyTree) (n : ℕ) (t : TyTree) (m : TermTree) (y : TermTree) → Stands (arrow a b) n (closure t m) y → (j : ℕ) → j < n → (x : Res) (z : TermTree) → Stands a j x z → Good b j (subst_at m zero (quote x)) (app y z)
+stands_body a b n t m y (c, (t', m', e, cl, f)) j l x z h = let q : m' ≡ m = cc in subst (λ m. Good b j (subst_at m zero (quote x)) (app y z)) q (f j l x z h)
+
+stands_fun : (a b : TyTree) (n : ℕ) (w : Res) (y : TermTree) → Stands (arrow a b) n w y → (t : TyTree) × (m : TermTree) × (w ≡ closure t m)
+stands_fun a b n w y (c, (t', m', e, cl, f)) = (t', m', e)
+
+pub app_hands : (a b : TyTree) (t t1 t2 : TyTree) (n : ℕ) (m m' : TermTree) (s : Env) (c c' : TermTree) → AllClosed s
+    → ((x : TermTree) → Closed x → Good (arrow a b) n m (close zero (cons x s) c))
+    → ((x y : TermTree) → Closed x → Closed y → Good a n m' (close zero (cons y (cons x s)) c'))
+    → Good b n (app m m') (close zero s (lam t (app c (lam t1 (app c' (lam t2 app_k))))))
+app_hands a b t t1 t2 n m m' s c c' cs h h' = record {
+  forth = λ i k w l d x cx v f.
+      let (i1, i2, i3, t', mb, w1, df, dx, db, e) = by_app_inv d in
+      let k1 = lam t1 (app c' (lam t2 app_k)) in
+      let s1 = cons x s in
+      let c1 = cons_closed x s cx cs in
+      fwd (app (close zero s (lam t (app c k1))) x) (app (close zero s1 c) (close zero s1 k1)) (value v) (enter t s (app c k1) x cs)
+      ((h x cx).forth i1 (suc (i2 + i3 + k)) (closure t' mb) (omega arith) df (close zero s1 k1) (close_closed k1 s1 c1) v
+      (λ y g.
+      let cy = g.0 in
+      let s2 = cons y s1 in
+      let c2 = cons_closed y s1 cy c1 in
+      let k2 = lam t2 app_k in
+      fwd (app (close zero s1 k1) y) (app (close zero s2 c') (close zero s2 k2)) (value v) (enter t1 s1 (app c' k2) y c1)
+      ((h' x y cx cy).forth i2 (i3 + k) w1 (omega arith) dx (close zero s2 k2) (close_closed k2 s2 c2) v
+      (λ z g'.
+      fwd (app (close zero s2 k2) z) (app (app y z) x) (value v) (enter t2 s2 app_k z c2)
+      ((stands_body a b (suc (i2 + i3 + k)) t' mb y g (i3 + k) (omega arith) w1 z g').forth i3 k w (omega arith) db x cx v f)))));
+  back = λ i l x cx v d.
+      let k1 = lam t1 (app c' (lam t2 app_k)) in
+      let k2 = lam t2 app_k in
+      let s1 = cons x s in
+      let c1 = cons_closed x s cx cs in
+      let (z, l1, d1) = (enter t s (app c k1) x cs).back i (value v) d in
+      let (w, y, j, hm, g, l2, d2) = (h x cx).back z (omega arith) (close zero s1 k1) (close_closed k1 s1 c1) v d1 in
+      let s2 = cons y s1 in
+      let c2 = cons_closed y s1 g.0 c1 in
+      let (z2, l3, d3) = (enter t1 s1 (app c' k2) y c1).back j (value v) d2 in
+      let (w1, y1, j1, hm1, g1, l4, d4) = (h' x y cx g.0).back z2 (omega arith) (close zero s2 k2) (close_closed k2 s2 c2) v d3 in
+      let (z3, l5, d5) = (enter t2 s2 app_k y1 c2).back j1 (value v) d4 in
+      let (t', mb, e) = stands_fun a b j w y g in
+      let g' = subst (λ w. Stands (arrow a b) j w y) e g in
+      let body = stands_body a b j t' mb y g' z3 (omega arith) w1 y1 (stands_less a j1 z3 w1 y1 (omega arith) g1) in
+      let (w2, y2, j2, hm2, g2, l6, d6) = body.back z3 (omega arith) x cx v d5 in
+      (w2, y2, j2, app_result t' m m' mb w1 w2 (subst (HasEvByValue m) e hm) hm1 hm2, g2, omega arith, d6);
+}

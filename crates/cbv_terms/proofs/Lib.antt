@@ -1,0 +1,10 @@
+pub mod Accepting
+pub mod Derived
+pub mod Examples
+pub mod Fundamental
+pub mod Handing
+pub mod Placing
+pub mod Relation
+pub mod Scanning
+pub mod Translating
+pub mod Typed
