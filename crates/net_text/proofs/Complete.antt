@@ -32,11 +32,13 @@ index_is k place i l ns ms h =
     ∙ ap (λ b. if b then v else None) (lt-ltb l k (omega (arith, h)))
     ∙ ap (λ i. Some (read (var i) ns ms)) (omega (arith, h))
 
+-- the node of an operator is read as the operator
 binary_step : (ws : List WireTree) (h : ℕ) (o : Op) (x y w k around e : ℕ) (ns : List Node) (ms : List Mark) → reading ws (suc h) k around e w (binary_node o x y w ∷ ns) ms ≡ two (binary o) (reading ws h k e e x) (reading ws h k e e y ns ms)
 binary_step ws h plus_op x y w k around e ns ms = same_met w (two (binary plus_op) (reading ws h k e e x) (reading ws h k e e y ns ms))
 binary_step ws h minus_op x y w k around e ns ms = same_met w (two (binary minus_op) (reading ws h k e e x) (reading ws h k e e y ns ms))
 binary_step ws h times_op x y w k around e ns ms = same_met w (two (binary times_op) (reading ws h k e e x) (reading ws h k e e y ns ms))
 
+-- the node that takes a part of a pair is read so
 proj_step : (ws : List WireTree) (h : ℕ) (s : Side) (a w k around e : ℕ) (ns : List Node) (ms : List Mark) → reading ws (suc h) k around e w (proj_node s a w ∷ ns) ms ≡ one (proj s) (reading ws h k e e a ns ms)
 proj_step ws h left_side a w k around e ns ms = same_met w (one (proj left_side) (reading ws h k e e a ns ms))
 proj_step ws h right_side a w k around e ns ms = same_met w (one (proj right_side) (reading ws h k e e a ns ms))
@@ -45,6 +47,7 @@ proj_step ws h right_side a w k around e ns ms = same_met w (one (proj right_sid
 first_two : (ws : List WireTree) (n : ℕ) (a b c : List WireTree) → Held ws n (a ++ (b ++ c)) → Held ws n a × Held ws (n + length a) b
 first_two ws n a b c h = (held_left ws n a (b ++ c) h, held_left ws (n + length a) b c (held_right ws n a (b ++ c) h))
 
+-- Each typed part is read from its nodes.
 pub reads : (m : TermTree) (ws : List WireTree) (h n d : ℕ) (g : List TyTree) (a : TyTree) → HasType g m a → height m ≤ h → Held ws n (part n d g m).wires → Readable ws h g m n (part n d g m)
 reads (num v) ws zero n d g a t u held = absurd (omega (arith, u))
 reads (var i) ws zero n d g a t u held = absurd (omega (arith, u))
@@ -114,6 +117,7 @@ held_behind : (k : WireTree) (ws us : List WireTree) (n : ℕ) → Held ws n us 
 held_behind k ws [] n h = tt
 held_behind k ws (u ∷ us) n h = (h.0, held_behind k ws us (suc n) h.1)
 
+-- the wires of a list are its own
 pub held_self : (ws : List WireTree) → Held ws 0 ws
 held_self [] = tt
 held_self (k ∷ ws) = (refl, held_behind k ws ws 0 (held_self ws))

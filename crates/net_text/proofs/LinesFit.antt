@@ -30,37 +30,46 @@ module _ {A : Type 0} where
   fit true false v w h = cc
   fit false c v w h = refl
 
+  -- what fits is what was read
   is_fit : (c : Bool) (v w : A) → if_right c v ≡ Some w → v ≡ w
   is_fit true v w h = cc
   is_fit false v w h = cc
 
+-- no wire, where none was read that fits
 no_wire_among : (h k : ℕ) (line : List ℕ) (o : Option WireTree) → fitting_wire h o ≡ None → checked_wire h k line o ≡ None
 no_wire_among h k line None e = refl
 no_wire_among h k line (Some v) e = unfit (bytes_eq line (wire_line k v)) (wire_fits h v) v e
 
+-- the wire that was read, where this is its line
 wire_among : (h k : ℕ) (line : List ℕ) (o : Option WireTree) (w : WireTree) (b : Bool) → fitting_wire h o ≡ Some w → b ≡ bytes_eq line (wire_line k w) → checked_wire h k line o ≡ if_right b w
 wire_among h k line None w b e s = cc
 wire_among h k line (Some v) w b e s =
     fit (bytes_eq line (wire_line k v)) (wire_fits h v) v w e ∙ ap (λ x. if_right (bytes_eq line (wire_line k x)) w) (is_fit (wire_fits h v) v w e) ∙ ap (λ b. if_right b w) (sym s)
 
+-- the same of the line itself
 pub no_wire_here : (h k : ℕ) (line : List ℕ) → fitting_wire h (wire_in h k line) ≡ None → wire_at h k line ≡ None
 no_wire_here h k line e = no_wire_among h k line (wire_in h k line) e
 
+-- the same of the line itself
 pub wire_here : (h k : ℕ) (line : List ℕ) (w : WireTree) (b : Bool) → fitting_wire h (wire_in h k line) ≡ Some w → b ≡ bytes_eq line (wire_line k w) → wire_at h k line ≡ if_right b w
 wire_here h k line w b e s = wire_among h k line (wire_in h k line) w b e s
 
+-- no node, where none was read that fits
 no_node_among : (k : ℕ) (line : List ℕ) (o : Option Node) → fitting_node o ≡ None → checked_node k line o ≡ None
 no_node_among k line None e = refl
 no_node_among k line (Some v) e = unfit (bytes_eq line (node_line k v)) (node_fits v) v e
 
+-- the node that was read, where this is its line
 node_among : (k : ℕ) (line : List ℕ) (o : Option Node) (x : Node) (b : Bool) → fitting_node o ≡ Some x → b ≡ bytes_eq line (node_line k x) → checked_node k line o ≡ if_right b x
 node_among k line None x b e s = cc
 node_among k line (Some v) x b e s =
     fit (bytes_eq line (node_line k v)) (node_fits v) v x e ∙ ap (λ z. if_right (bytes_eq line (node_line k z)) x) (is_fit (node_fits v) v x e) ∙ ap (λ b. if_right b x) (sym s)
 
+-- the same of the line itself
 pub no_node_here : (k : ℕ) (line : List ℕ) → fitting_node (node_in k line) ≡ None → node_at k line ≡ None
 no_node_here k line e = no_node_among k line (node_in k line) e
 
+-- the same of the line itself
 pub node_here : (k : ℕ) (line : List ℕ) (x : Node) (b : Bool) → fitting_node (node_in k line) ≡ Some x → b ≡ bytes_eq line (node_line k x) → node_at k line ≡ if_right b x
 node_here k line x b e s = node_among k line (node_in k line) x b e s
 
@@ -77,10 +86,12 @@ ended_deep h w None e = refl
 ended_deep h w (Some []) e = ap (λ b. if_right (b && nat_le (ty_height w.type) h) w) e
 ended_deep h w (Some (b ∷ bs)) e = refl
 
+-- the same from its type on
 typed_deep : (h : ℕ) (kind : WireKind) (depth : ℕ) (o : Option (TyTree × List ℕ)) → nat_lt depth (2 ^ 32) ≡ false → fitting_wire h (after o (from_end kind depth)) ≡ None
 typed_deep h kind depth None e = refl
 typed_deep h kind depth (Some t) e = ended_deep h (record { kind = kind; depth = depth; type = t.0 }) (behind (codes "\n") t.1) e
 
+-- No wire of a depth that is no number of the code fits.
 pub deep_wire : (h : ℕ) (kind : WireKind) (depth : ℕ) (bs : List ℕ) → 2 ^ 64 ≤ depth → fitting_wire h (from_type h kind depth bs) ≡ None
 deep_wire h kind depth bs l = typed_deep h kind depth ((readers h).full bs) (le-ltb depth (2 ^ 32) (omega (arith, l)))
 
@@ -92,6 +103,7 @@ digit_more n v c e = ap (λ m. in_word (10 * m + (c - 48))) (same (nat_lt n (2 ^
     same true n v h = cc
     same false n v h = cc
 
+-- a wide number stays wide
 pub digit_wide : (n c : ℕ) → None ≡ in_word n → None ≡ in_word (10 * n + (c - 48))
 digit_wide n c e =
     let w = too_wide n (sym e) in
@@ -102,14 +114,17 @@ and_first : (v : ℕ) (o : Option (List ℕ)) → and_word (Some v) o ≡ words_
 and_first v None = refl
 and_first v (Some ms) = refl
 
+-- a number of the code in front of others
 words_first : (n v : ℕ) (o : Option (List ℕ)) → Some v ≡ in_word n → words_among (with_first n o) ≡ words_behind (v ∷ []) (words_among o)
 words_first n v None e = refl
 words_first n v (Some ns) e = ap (λ w. and_word w (in_words ns)) (sym e) ∙ and_first v (in_words ns)
 
+-- a wider one
 words_wide : (n : ℕ) (o : Option (List ℕ)) → None ≡ in_word n → words_among (with_first n o) ≡ None
 words_wide n None e = refl
 words_wide n (Some ns) e = ap (λ w. and_word w (in_words ns)) (sym e)
 
+-- one number more in front
 behind_more : (ns : List ℕ) (v : ℕ) (o : Option (List ℕ)) → words_behind (ns ++ v ∷ []) o ≡ words_behind ns (words_behind (v ∷ []) o)
 behind_more ns v None = refl
 behind_more ns v (Some ms) = ap (λ t. Some t) (append_assoc ns (v ∷ []) ms)
@@ -119,6 +134,7 @@ numbers_here : (k j : ℕ) (rest more : List ℕ) → k ≡ suc j → Some more 
 numbers_here k j rest more e b =
     ap (λ k. numbers_in k rest) e ∙ ap (λ o. after o (λ rest. let d = number_from 0 rest in with_first d.0 (numbers_in j d.1))) (sym b)
 
+-- The loop over the numbers reads one more.
 pub number_read : (k j v : ℕ) (ns ms rest more last : List ℕ) (whole : Option (List ℕ)) → k ≡ suc j → Some more ≡ behind (codes " ") rest → Some v ≡ in_word (number_from 0 more).0 → last ≡ (number_from 0 more).1 → ms ≡ ns ++ v ∷ [] →
     words_behind ns (words_among (numbers_in k rest)) ≡ whole → words_behind ms (words_among (numbers_in j last)) ≡ whole
 number_read k j v ns ms rest more last whole e b w l p before =
@@ -129,14 +145,17 @@ number_read k j v ns ms rest more last whole e b w l p before =
     ∙ ap (λ o. words_behind ns (words_among o)) (sym (numbers_here k j rest more e b))
     ∙ before
 
+-- It ends at one that is too wide.
 pub number_wide : (k j : ℕ) (ns rest more : List ℕ) (whole : Option (List ℕ)) → k ≡ suc j → Some more ≡ behind (codes " ") rest → None ≡ in_word (number_from 0 more).0 → words_behind ns (words_among (numbers_in k rest)) ≡ whole → None ≡ whole
 number_wide k j ns rest more whole e b w before =
     ap (words_behind ns) (sym (words_wide (number_from 0 more).0 (numbers_in j (number_from 0 more).1) w)) ∙ ap (λ o. words_behind ns (words_among o)) (sym (numbers_here k j rest more e b)) ∙ before
 
+-- It ends where there is none.
 pub number_lacks : (k j : ℕ) (ns rest : List ℕ) (whole : Option (List ℕ)) → k ≡ suc j → None ≡ behind (codes " ") rest → words_behind ns (words_among (numbers_in k rest)) ≡ whole → None ≡ whole
 number_lacks k j ns rest whole e b before =
     ap (λ o. words_behind ns (words_among (after o (λ rest. let d = number_from 0 rest in with_first d.0 (numbers_in j d.1))))) b ∙ ap (λ k. words_behind ns (words_among (numbers_in k rest))) (sym e) ∙ before
 
+-- nothing behind a list
 append_none : (ns : List ℕ) → ns ++ [] ≡ ns
 append_none [] = refl
 append_none (n ∷ ns) = ap (λ t. n ∷ t) (append_none ns)
@@ -146,11 +165,13 @@ pub numbers_end : (k : ℕ) (ns rest : List ℕ) (whole : Option (List ℕ)) →
 numbers_end k ns rest whole e b before =
     ap (λ t. Some t) (sym (append_none ns)) ∙ ap (λ o. words_behind ns (words_among (after o no_more))) b ∙ ap (λ k. words_behind ns (words_among (numbers_in k rest))) (sym e) ∙ before
 
+-- bytes are left behind the line feed, or there is none
 no_end : (o : Option (List ℕ)) → (Some [] ≡ o → ⊥) → None ≡ after o no_more
 no_end None h = refl
 no_end (Some []) h = absurd (h refl)
 no_end (Some (b ∷ bs)) h = refl
 
+-- the line does not end there
 pub numbers_open : (k : ℕ) (ns rest : List ℕ) (whole : Option (List ℕ)) → k ≡ 0 → (Some [] ≡ behind (codes "\n") rest → ⊥) → words_behind ns (words_among (numbers_in k rest)) ≡ whole → None ≡ whole
 numbers_open k ns rest whole e b before =
     ap (λ o. words_behind ns (words_among o)) (no_end (behind (codes "\n") rest) b) ∙ ap (λ k. words_behind ns (words_among (numbers_in k rest))) (sym e) ∙ before
@@ -163,6 +184,7 @@ if_none false = refl
 abbrev pub halves_one : ℕ → Bool
 halves_one a = nat_lt a (2 ^ 32) && true
 
+-- a node of one number
 pub one_fits : (f : Form) (a : ℕ) → fitting_node (one_node f a) ≡ (if all_small (a ∷ []) then one_node f a else None)
 one_fits form.Weak a = refl
 one_fits form.Root a = refl
@@ -184,6 +206,7 @@ one_fits form.Pair a = sym (if_none (all_small (a ∷ [])))
 one_fits form.Fst a = sym (if_none (all_small (a ∷ [])))
 one_fits form.Snd a = sym (if_none (all_small (a ∷ [])))
 
+-- a node of two numbers
 pub two_fits : (f : Form) (a b : ℕ) → fitting_node (two_node f a b) ≡ (if all_small (a ∷ b ∷ []) then two_node f a b else None)
 two_fits form.Succ a b = refl
 two_fits form.Pred a b = refl
@@ -205,6 +228,7 @@ two_fits form.FixBox a b = sym (if_none (all_small (a ∷ b ∷ [])))
 two_fits form.Root a b = sym (if_none (all_small (a ∷ b ∷ [])))
 two_fits form.Pair a b = sym (if_none (all_small (a ∷ b ∷ [])))
 
+-- a node of three numbers
 pub three_fits : (f : Form) (a b c : ℕ) → fitting_node (three_node f a b c) ≡ (if all_small (a ∷ b ∷ c ∷ []) then three_node f a b c else None)
 three_fits form.Plus a b c = refl
 three_fits form.Minus a b c = refl
@@ -226,6 +250,7 @@ three_fits form.Root a b c = sym (if_none (all_small (a ∷ b ∷ c ∷ [])))
 three_fits form.Fst a b c = sym (if_none (all_small (a ∷ b ∷ c ∷ [])))
 three_fits form.Snd a b c = sym (if_none (all_small (a ∷ b ∷ c ∷ [])))
 
+-- a node of four numbers
 pub four_fits : (f : Form) (a b c d : ℕ) → fitting_node (four_node f a b c d) ≡ (if all_small (a ∷ b ∷ c ∷ d ∷ []) then four_node f a b c d else None)
 four_fits form.Ifz a b c d = refl
 four_fits form.Const a b c d = sym (if_none (all_small (a ∷ b ∷ c ∷ d ∷ [])))
@@ -252,11 +277,13 @@ word_is : (b : Bool) (n v : ℕ) → Some v ≡ (if b then Some n else None) →
 word_is true n v e = cc
 word_is false n v e = cc
 
+-- the first number and the others
 parts : (o : Option ℕ) (p : Option (List ℕ)) (v : ℕ) (vs : List ℕ) → Some (v ∷ vs) ≡ and_word o p → (Some v ≡ o) × (Some vs ≡ p)
 parts None p v vs e = cc
 parts (Some n) None v vs e = cc
 parts (Some n) (Some ns) v vs e = (cc, cc)
 
+-- numbers of the code are the line's own
 words_are : (ns vs : List ℕ) → Some vs ≡ in_words ns → ns ≡ vs
 words_are [] vs e = cc
 words_are (n ∷ ns) [] e = no (in_word n) (in_words ns) e
@@ -269,10 +296,12 @@ words_are (n ∷ ns) (v ∷ vs) e =
     let (p, q) = parts (in_word n) (in_words ns) v vs e in
     λ i. word_is (nat_lt n (2 ^ 64)) n v p i ∷ words_are ns vs q i
 
+-- the same of numbers that were read
 pub numbers_are : (o : Option (List ℕ)) (vs : List ℕ) → Some vs ≡ words_among o → o ≡ Some vs
 numbers_are None vs e = cc
 numbers_are (Some ns) vs e = ap (λ t. Some t) (words_are ns vs e)
 
+-- The node of a form is made of the numbers that were read.
 pub form_read : (f : Form) (k : ℕ) (text vs ds : List ℕ) → k ≡ count_of f → Some vs ≡ words_among (numbers_in k text) → ds ≡ vs → fitting_node (node_with f ds) ≡ fitting_node (from_form (f, text))
 form_read f k text vs ds h w e =
     ap (λ ds. fitting_node (node_with f ds)) e ∙ ap (λ o. fitting_node (after o (node_with f))) (sym (numbers_are (numbers_in k text) vs w)) ∙ ap (λ k. fitting_node (after (numbers_in k text) (node_with f))) h

@@ -15,6 +15,7 @@ abbrev pub Wide : List ℕ → Type 0
 Wide [] = Unit {0}
 Wide (n ∷ ns) = (n < 2 ^ 64) × Wide ns
 
+-- numbers of 32 bits are numbers of 64
 small_wide : (ns : List ℕ) → Small ns → Wide ns
 small_wide [] h = tt
 small_wide (n ∷ ns) h = (omega (arith, h.0), small_wide ns h.1)
@@ -24,11 +25,13 @@ number_ends : (n : ℕ) (ns : List ℕ) → number_from n (numbers_text ns) ≡ 
 number_ends n [] = refl
 number_ends n (m ∷ ns) = refl
 
+-- numbers are read from their text
 numbers_read : (ns : List ℕ) → Wide ns → numbers_in (length ns) (numbers_text ns) ≡ Some ns
 numbers_read [] h = refl
 numbers_read (n ∷ ns) h =
     ap (λ (d : ℕ × List ℕ). with_first d.0 (numbers_in (length ns) d.1)) (number_counts n h.0 (numbers_text ns) ∙ number_ends n ns) ∙ ap (with_first n) (numbers_read ns h.1)
 
+-- so are those of a node
 pub fits_wide : (x : Node) → NodeFits x → Wide (numbers_of x)
 fits_wide (Const v w) h = (h.0, (omega (arith, h.1), tt))
 fits_wide (Succ a w) h = small_wide (numbers_of (Succ a w)) h
@@ -50,6 +53,7 @@ fits_wide (Pair a b w) h = small_wide (numbers_of (Pair a b w)) h
 fits_wide (Fst a w) h = small_wide (numbers_of (Fst a w)) h
 fits_wide (Snd a w) h = small_wide (numbers_of (Snd a w)) h
 
+-- a node is read from its name on
 name_read : (x : Node) → Wide (numbers_of x) → from_name (name_text x ++ numbers_text (numbers_of x)) ≡ Some x
 name_read (Const v w) h = ap (λ o. after o (node_with form.Const)) (numbers_read (v ∷ w ∷ []) h)
 name_read (Succ a w) h = ap (λ o. after o (node_with form.Succ)) (numbers_read (a ∷ w ∷ []) h)

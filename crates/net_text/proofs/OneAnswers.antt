@@ -22,6 +22,7 @@ use Rattle.net_text.proofs.Listed.{listing_read}
 use Rattle.net_text.proofs.SmallNets.{fit_types, listing_long, term_net_fits}
 use Rattle.net_text.proofs.Splitting.{listing_split}
 
+-- the lines of a text
 abbrev Lines : Type 0
 Lines = List (List ℕ)
 
@@ -32,13 +33,16 @@ text_lines h bytes net u f e =
     let l : length bytes ≡ length (listing net) = ap length e in
     ap lines e ∙ listing_split h net f (omega (arith, p, l, u)) (omega (arith, q, l, u))
 
+-- one reading gives one net
 same_net : (a b : NetTree) → (let r : Result NetTree ℕ = Ok a in r ≡ Ok b) → a ≡ b
 same_net a b h = cc
 
+-- bytes are the listing of one net, whatever the bound on types
 one_net : (h : ℕ) (bytes : List ℕ) (a b : NetTree) → length bytes ≤ most_text_bytes → NetFits h a → NetFits h b → bytes ≡ listing a → bytes ≡ listing b → a ≡ b
 one_net h bytes a b u f g p q =
     same_net a b (sym (listing_read h a f) ∙ ap (net_of_lines h) (sym (text_lines h bytes a u f p) ∙ text_lines h bytes b u g q) ∙ listing_read h b g)
 
+-- Bytes list one net.
 pub one_text : (bytes : List ℕ) (a b : NetTree) → TextOf bytes a → TextOf bytes b → a ≡ b
 one_text bytes a b s t = one_net most_type_height bytes a b s.short s.fits t.fits s.is t.is
 
@@ -47,17 +51,20 @@ record Front (i : ℕ) (ls whole : Lines) : Type 0 where
   rest : Lines
   are : whole ≡ take i ls ++ rest
 
+-- fewer lines are the front of more
 front_of_front : (i j : ℕ) (ls : Lines) → i ≤ j → Front i ls (take j ls)
 front_of_front zero j ls h = record { rest = take j ls; are = refl }
 front_of_front (suc i) zero ls h = absurd (omega (arith, h))
 front_of_front (suc i) (suc j) [] h = record { rest = []; are = refl }
 front_of_front (suc i) (suc j) (l ∷ ls) h = let f = front_of_front i j ls (omega (arith, h)) in record { rest = f.rest; are = ap (λ t. l ∷ t) f.are }
 
+-- lines are in front of those behind them
 front_of_all : (i : ℕ) (ls : Lines) → Front i ls ls
 front_of_all zero ls = record { rest = ls; are = refl }
 front_of_all (suc i) [] = record { rest = []; are = refl }
 front_of_all (suc i) (l ∷ ls) = let f = front_of_all i ls in record { rest = f.rest; are = ap (λ t. l ∷ t) f.are }
 
+-- with some lines, fewer of them begin a listing
 fewer_begin : (h i j : ℕ) (ls : Lines) → i ≤ j → Begins h (take j ls) → Begins h (take i ls)
 fewer_begin h i j ls l b =
     let f = front_of_front i j ls l in
@@ -67,9 +74,11 @@ fewer_begin h i j ls l b =
     apart [] b c = refl
     apart (x ∷ a) b c = ap (λ t. x ∷ t) (apart a b c)
 
+-- no line before the first bad one is bad
 earlier_bad : (h n m : ℕ) (ls : Lines) → n < m → FirstBad h n ls → FirstBad h m ls → ⊥
 earlier_bad h n m ls l a b = a.there (omega (arith, l, b.last)) (fewer_begin h n (m - 1) ls (omega (arith, l)) b.before)
 
+-- There is one first bad line.
 pub one_bad : (h n m : ℕ) (ls : Lines) → FirstBad h n ls → FirstBad h m ls → n ≡ m
 one_bad h n m ls a b =
     elim (cases_lt n m) [
@@ -77,6 +86,7 @@ one_bad h n m ls a b =
       | inr l ↦ elim (cases_eq n m) [ inl e ↦ e | inr e ↦ absurd (earlier_bad h m n ls (omega (arith, l, e)) b a) ]
     ]
 
+-- the lines of a listing have no bad one
 lines_not_bad : (h n : ℕ) (net : NetTree) (ls : Lines) → NetFits h net → listing_lines net ≡ ls → FirstBad h n ls → ⊥
 lines_not_bad h n net ls f e b =
     elim (cases_lt (length ls) n) [
@@ -104,6 +114,7 @@ program_text bytes m l =
     let k : length bytes ≡ length (listing (net_of m)) = ap length l.is in
     record { short = l.short; fits = term_net_fits most_type_height m l.typed (omega (arith, l.within)) l.types (omega (arith, p, k, l.short)); is = l.is }
 
+-- what lists a term's net lists that program
 program_is : (bytes : List ℕ) (net : NetTree) (m : TermTree) → TextOf bytes net → IsNetOf most_term_height net m → ListsProgram bytes m
 program_is bytes net m t i =
     let u : TextOf bytes (net_of m) = subst (TextOf bytes) (sym i.net_is) t in
@@ -126,6 +137,7 @@ sorted_accepts bytes net (Err NotOfTerm) t s = (net, t, s.0, s.1)
 sorted_accepts bytes net (Err (BadLine n)) t s = absurd s
 sorted_accepts bytes net (Err TooLong) t s = absurd s
 
+-- the net that is read is the program's
 is_net_of : (bytes : List ℕ) (net : NetTree) (m : TermTree) → TextOf bytes net → ListsProgram bytes m → IsNetOf most_term_height net m
 is_net_of bytes net m t l = record { typed = l.typed; within = l.within; net_is = one_text bytes (net_of m) net (program_text bytes m l) t }
 
@@ -133,6 +145,7 @@ is_net_of bytes net m t l = record { typed = l.typed; within = l.within; net_is 
 one_program : (h : ℕ) (net : NetTree) (m l : TermTree) → IsNetOf h net m → IsNetOf h net l → m ≡ l
 one_program h net m l i k = one_term m l i.typed k.typed (i.net_is ∙ sym k.net_is)
 
+-- a program's net has no fault
 not_sound : NoFault → (net : NetTree) (m : TermTree) (f : NetFault) → IsNetOf most_term_height net m → FirstFault net f → ⊥
 not_sound law net m f i k = law net f k (subst Sound i.net_is (built_sound m i.typed))
 
@@ -145,6 +158,7 @@ sorted_takes law bytes net (Err NotOfTerm) m t s l = absurd (s.1 m (is_net_of by
 sorted_takes law bytes net (Err (BadLine n)) m t s l = absurd s
 sorted_takes law bytes net (Err TooLong) m t s l = absurd s
 
+-- what an acceptance answers
 abbrev Answer : Type 0
 Answer = Result (TermTree × TyTree) NetTextFault
 
@@ -152,6 +166,7 @@ Answer = Result (TermTree × TyTree) NetTextFault
 same_program : (bytes : List ℕ) (m l : TermTree) → ListsProgram bytes m → ListsProgram bytes l → m ≡ l
 same_program bytes m l a b = one_term m l a.typed b.typed (one_text bytes (net_of m) (net_of l) (program_text bytes m a) (program_text bytes l b))
 
+-- Bytes have one answer.
 pub one_answer : OneFault → NoFault → OneAnswer
 one_answer one none bytes (Err NoMemory) s p q n k = absurd (n refl)
 one_answer one none bytes (Ok a) (Err NoMemory) p q n k = absurd (k refl)

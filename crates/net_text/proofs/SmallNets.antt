@@ -31,18 +31,22 @@ record Low (d : ℕ) (ws : List WireTree) (ns : List Node) : Type 0 where
   wires : DepthsTo d ws
   nodes : ConstsFit ns
 
+-- two lists of wires
 depths_join : (d : ℕ) (a b : List WireTree) → DepthsTo d a → DepthsTo d b → DepthsTo d (a ++ b)
 depths_join d [] b p q = q
 depths_join d (w ∷ a) b p q = (p.0, depths_join d a b p.1 q)
 
+-- two lists of nodes
 consts_join : (a b : List Node) → ConstsFit a → ConstsFit b → ConstsFit (a ++ b)
 consts_join [] b p q = q
 consts_join (Const v w ∷ a) b p q = (p.0, consts_join a b p.1 q)
 consts_join (n ∷ a) b p q = consts_join a b p q
 
+-- two pieces of a net
 join : (d : ℕ) (ws vs : List WireTree) (ns ms : List Node) → Low d ws ns → Low d vs ms → Low d (ws ++ vs) (ns ++ ms)
 join d ws vs ns ms p q = record { wires = depths_join d ws vs p.wires q.wires; nodes = consts_join ns ms p.nodes q.nodes }
 
+-- contractions
 contract_low : (b n d : ℕ) (g : List TyTree) (f f' : List (Option ℕ)) → d ≤ b → Low b (contract n d g f f').wires (contract n d g f f').nodes
 contract_low b n d [] f f' h = record { wires = tt; nodes = tt }
 contract_low b n d (a ∷ g) [] f' h = record { wires = tt; nodes = tt }
@@ -51,12 +55,14 @@ contract_low b n d (a ∷ g) (None ∷ f) (o ∷ f') h = let c = contract_low b 
 contract_low b n d (a ∷ g) (Some l ∷ f) (None ∷ f') h = let c = contract_low b n d g f f' h in record { wires = c.wires; nodes = c.nodes }
 contract_low b n d (a ∷ g) (Some l ∷ f) (Some r ∷ f') h = let c = contract_low b (suc n) d g f f' h in record { wires = (h, c.wires); nodes = c.nodes }
 
+-- doors
 doors_low : (b n d : ℕ) (g : List TyTree) (f : List (Option ℕ)) → d ≤ b → Low b (doors n d g f).wires (doors n d g f).nodes
 doors_low b n d [] f h = record { wires = tt; nodes = tt }
 doors_low b n d (a ∷ g) [] h = record { wires = tt; nodes = tt }
 doors_low b n d (a ∷ g) (None ∷ f) h = let c = doors_low b n d g f h in record { wires = c.wires; nodes = c.nodes }
 doors_low b n d (a ∷ g) (Some x ∷ f) h = let c = doors_low b (suc n) d g f h in record { wires = (h, c.wires); nodes = c.nodes }
 
+-- a binder's wire
 bound_low : (b n d : ℕ) (a : TyTree) (f : List (Option ℕ)) → d ≤ b → Low b (bound n d a f).wires (bound n d a f).nodes
 bound_low b n d a [] h = record { wires = (h, tt); nodes = tt }
 bound_low b n d a (None ∷ f) h = record { wires = (h, tt); nodes = tt }
@@ -72,15 +78,18 @@ double_low b node t n d g p q e h i k =
     let last : Low b (value_wire d t ∷ []) (node p.out q.out w ∷ []) = record { wires = (h, tt); nodes = e p.out q.out w } in
     join b p.wires _ p.nodes _ i (join b q.wires _ q.nodes _ k (join b c.wires _ c.nodes _ (contract_low b o d g p.free q.free h) last))
 
+-- an operator is no constant
 binary_fits : (o : Op) (a b w : ℕ) → ConstsFit (binary_node o a b w ∷ [])
 binary_fits plus_op a b w = tt
 binary_fits minus_op a b w = tt
 binary_fits times_op a b w = tt
 
+-- nor is what takes a part of a pair
 proj_fits : (s : Side) (a w : ℕ) → ConstsFit (proj_node s a w ∷ [])
 proj_fits left_side a w = tt
 proj_fits right_side a w = tt
 
+-- a condition with its branches
 ifz_low : (b n d : ℕ) (g : List TyTree) (x y z : Part) → d ≤ b → Low b x.wires x.nodes → Low b y.wires y.nodes → Low b z.wires z.nodes → Low b (ifz_part n d g x y z).wires (ifz_part n d g x y z).nodes
 ifz_low b n d g x y z h i j k =
     let o = n + length x.wires + length y.wires + length z.wires in
@@ -91,6 +100,7 @@ ifz_low b n d g x y z h i j k =
     join b x.wires _ x.nodes _ i (join b y.wires _ y.nodes _ j (join b z.wires _ z.nodes _ k
     (join b c.wires _ c.nodes _ (contract_low b o d g y.free z.free h) (join b e.wires _ e.nodes _ (contract_low b (o + length c.wires) d g x.free c.free h) last))))
 
+-- a function
 lam_low : (b n d : ℕ) (a : TyTree) (p : Part) → d ≤ b → Low b p.wires p.nodes → Low b (lam_part n d a p).wires (lam_part n d a p).nodes
 lam_low b n d a p h i =
     let o = n + length p.wires in
@@ -98,6 +108,7 @@ lam_low b n d a p h i =
     let last : Low b (value_wire d (arrow a p.type) ∷ []) (Lam p.out (bound_wire o p.free) (o + length c.wires) ∷ []) = record { wires = (h, tt); nodes = tt } in
     join b p.wires _ p.nodes _ i (join b c.wires _ c.nodes _ (bound_low b o d a p.free h) last)
 
+-- a recursive value
 fix_low : (b n d : ℕ) (g : List TyTree) (a : TyTree) (p : Part) → suc d ≤ b → Low b p.wires p.nodes → Low b (fix_part n d g a p).wires (fix_part n d g a p).nodes
 fix_low b n d g a p h i =
     let o = n + length p.wires in
@@ -107,6 +118,7 @@ fix_low b n d g a p h i =
     let last : Low b (value_wire d a ∷ []) (FixBox p.out (bound_wire o p.free) (o + length c.wires + length e.wires) ∷ []) = record { wires = (l, tt); nodes = tt } in
     join b p.wires _ p.nodes _ i (join b c.wires _ c.nodes _ (bound_low b o (suc d) a p.free h) (join b e.wires _ e.nodes _ (doors_low b (o + length c.wires) d g c.free l) last))
 
+-- an application
 app_low : (b n d : ℕ) (g : List TyTree) (p q : Part) → d ≤ b → Low b p.wires p.nodes → Low b q.wires q.nodes → Low b (app_part n d g p q).wires (app_part n d g p q).nodes
 app_low b n d g p q h i k =
     let o = n + length p.wires + length q.wires in
@@ -137,6 +149,7 @@ high (app f x) = omega arith
 high (pair a b) = omega arith
 high (proj s a) = omega arith
 
+-- Each part stands no deeper than its height allows, and its constants are numbers of the code.
 part_low : (m : TermTree) (b n d : ℕ) (g : List TyTree) (a : TyTree) → HasType g m a → d + height m ≤ b → Low b (part n d g m).wires (part n d g m).nodes
 part_low (num v) b n d g a t h = record { wires = (omega (arith, h), tt); nodes = (t.0, tt) }
 part_low (var i) b n d g a t h = let l : d ≤ b = omega (arith, h) in record { wires = (l, (l, tt)); nodes = tt }
@@ -180,6 +193,7 @@ below c (x ∷ xs) u h = (elim (cases_lt x c) [ inl l ↦ omega (arith, l, u) | 
     once : (x : ℕ) (xs : List ℕ) → how_often x (x ∷ xs) ≡ 0 → ⊥
     once x xs h = let e : 1 + how_often x xs ≡ 0 = ap (λ b. (if b then 1 else 0) + how_often x xs) (sym (eq-eqb x x refl)) ∙ h in omega (arith, e)
 
+-- two lists of numbers
 small_join : (a b : List ℕ) → Small a → Small b → Small (a ++ b)
 small_join [] b p q = q
 small_join (n ∷ a) b p q = (p.0, small_join a b p.1 q)
@@ -206,6 +220,7 @@ node_fits (Pair a b w) c p q = small_join (a ∷ b ∷ []) (w ∷ []) p q
 node_fits (Fst a w) c p q = small_join (a ∷ []) (w ∷ []) p q
 node_fits (Snd a w) c p q = small_join (a ∷ []) (w ∷ []) p q
 
+-- the first node and the others
 first_consts : (x : Node) (ns : List Node) → ConstsFit (x ∷ ns) → ConstsFit (x ∷ []) × ConstsFit ns
 first_consts (Const v w) ns h = ((h.0, tt), h.1)
 first_consts (Succ a w) ns h = (tt, h)
@@ -227,6 +242,7 @@ first_consts (Pair a b w) ns h = (tt, h)
 first_consts (Fst a w) ns h = (tt, h)
 first_consts (Snd a w) ns h = (tt, h)
 
+-- nodes whose wires are all below a bound
 nodes_fit : (c : ℕ) (ns : List Node) → c ≤ 2 ^ 32 → ConstsFit ns → ((w : ℕ) → c ≤ w → named premises ns w ≡ 0) → ((w : ℕ) → c ≤ w → named conclusions ns w ≡ 0) → NodesFit ns
 nodes_fit c [] u k p q = tt
 nodes_fit c (x ∷ ns) u k p q =
@@ -235,14 +251,17 @@ nodes_fit c (x ∷ ns) u k p q =
       nodes_fit c ns u j (λ w l. omega (arith, p w l)) (λ w l. omega (arith, q w l)),
     )
 
+-- wires of small depths and low types
 wires_fit : (h d : ℕ) (ws : List WireTree) → d < 2 ^ 32 → TypesWithin h ws → DepthsTo d ws → WiresFit h ws
 wires_fit h d [] u t k = tt
 wires_fit h d (w ∷ ws) u t k = (omega (arith, u, k.0), t.0, wires_fit h d ws u t.1 k.1)
 
+-- the types of wires that fit are low
 types_within : (h : ℕ) (ws : List WireTree) → WiresFit h ws → TypesWithin h ws
 types_within h [] f = tt
 types_within h (w ∷ ws) f = (f.1, types_within h ws f.2)
 
+-- the types of a net that fits are low
 pub fit_types : (h : ℕ) (net : NetTree) → NetFits h net → TypesWithin h net.wires
 fit_types h net f = types_within h net.wires f.wires
 
@@ -262,6 +281,7 @@ lines_long : {A : Type 0} → (line : ℕ → A → List ℕ) (k : ℕ) (xs : Li
 lines_long line k [] h = omega arith
 lines_long line k (x ∷ xs) h = omega (arith, h k x, lines_long line (suc k) xs h, length-append (line k x) (lines_of line (suc k) xs))
 
+-- a listing has a byte at least for each wire and for each node
 pub listing_long : (net : NetTree) → (length net.wires ≤ length (listing net)) × (length net.nodes ≤ length (listing net))
 listing_long net =
     let a = lines_of wire_line 0 net.wires in

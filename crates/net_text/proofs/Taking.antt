@@ -6,6 +6,7 @@ use Rattle.pcf_values.specs.Terms.{TyTree, TermTree}
 use Rattle.net_text.specs.Typable.{context_of}
 use Rattle.net_text.specs.Uses.{ComeFirst, used_types}
 
+-- equal fronts leave equal rests
 cancel : (x a b : List TyTree) → x ++ a ≡ x ++ b → a ≡ b
 cancel [] a b e = e
 cancel (t ∷ x) a b e = cancel x a b (behind_first t (x ++ a) (x ++ b) e)
@@ -33,6 +34,7 @@ one_use false t u before after h i = λ rest e. differ (i.1 (same t u after rest
     same : (t u : TyTree) (a b : List TyTree) → t ∷ a ≡ u ∷ b → t ≡ u
     same t u a b e = cc
 
+-- there is no use
 pub no_use : (u : TyTree) (before after : List TyTree) → before ≡ [] → ComeFirst false before (u ∷ []) after
 no_use u before after h = λ rest e. none u rest (sym h ∙ e)
   where

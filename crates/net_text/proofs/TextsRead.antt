@@ -16,25 +16,31 @@ use Rattle.net_text.proofs.FirstFaults.{is_same, same_is}
 use Rattle.net_text.proofs.Listed.{first_fault, net_listed}
 use Rattle.net_text.proofs.Splitting.{text_is}
 
+-- what is not more is at most as much
 pub not_more : (a b : ℕ) → (a < b → ⊥) → b ≤ a
 not_more a b h = elim (cases_lt a b) [ inl l ↦ absurd (h l) | inr l ↦ l ]
 
+-- nothing behind a list
 append_none : {A : Type 0} → (xs : List A) → xs ++ [] ≡ xs
 append_none [] = refl
 append_none (x ∷ xs) = ap (λ t. x ∷ t) (append_none xs)
 
+-- no wire more
 pub wires_none : (r : Result NetTree ℕ) → with_wires [] r ≡ r
 wires_none (Ok net) = refl
 wires_none (Err m) = refl
 
+-- no node more
 pub nodes_none : (r : Result (List Node) ℕ) → with_nodes [] r ≡ r
 nodes_none (Ok ns) = refl
 nodes_none (Err m) = refl
 
+-- one wire more in front
 one_wire_more : (ws : List WireTree) (w : WireTree) (r : Result NetTree ℕ) → with_wires (ws ++ w ∷ []) r ≡ with_wires ws (with_wire w r)
 one_wire_more ws w (Ok net) = ap (λ vs. Ok (record { wires = vs; nodes = net.nodes })) (append_assoc ws (w ∷ []) net.wires)
 one_wire_more ws w (Err m) = refl
 
+-- one node more in front
 one_node_more : (ns : List Node) (x : Node) (r : Result (List Node) ℕ) → with_nodes (ns ++ x ∷ []) r ≡ with_nodes ns (with_node x r)
 one_node_more ns x (Ok xs) = ap (λ vs. Ok vs) (append_assoc ns (x ∷ []) xs)
 one_node_more ns x (Err m) = refl
@@ -72,6 +78,7 @@ nodes_here k n bytes line more cut other = ap (nodes_from k n) cut ∙ chosen (b
     chosen true r s h = absurd (h refl)
     chosen false r s h = refl
 
+-- the loop over the nodes goes on
 pub nodes_go : (k n k' n' : ℕ) (ns xs : List Node) (x : Node) (bytes line more : List ℕ) (whole : Result (List Node) ℕ) → lines bytes ≡ line ∷ lines more → (line ≡ last_line → ⊥) → node_at k line ≡ Some x → k' ≡ suc k → n' ≡ suc n → xs ≡ ns ++ x ∷ [] →
     with_nodes ns (nodes_from k n (lines bytes)) ≡ whole → with_nodes xs (nodes_from k' n' (lines more)) ≡ whole
 nodes_go k n k' n' ns xs x bytes line more whole cut other found kk nn put before =
@@ -92,10 +99,12 @@ nodes_stop k n ns bytes line more whole cut other found before =
 last_here : (k n : ℕ) (bytes line more : List ℕ) → lines bytes ≡ line ∷ lines more → line ≡ last_line → nodes_from k n (lines bytes) ≡ ended n (lines more)
 last_here k n bytes line more cut e = ap (nodes_from k n) cut ∙ ap (λ b. if b then ended n (lines more) else and_nodes n (node_at k line) (nodes_from (suc k) (suc n) (lines more))) (is_same line last_line e)
 
+-- the last line ends them
 pub nodes_done : (k n : ℕ) (ns : List Node) (bytes line more : List ℕ) (whole : Result (List Node) ℕ) → lines bytes ≡ line ∷ lines more → line ≡ last_line → length more ≤ 0 → with_nodes ns (nodes_from k n (lines bytes)) ≡ whole → whole ≡ Ok ns
 nodes_done k n ns bytes line [] whole cut e u before = sym before ∙ ap (with_nodes ns) (last_here k n bytes line [] cut e) ∙ ap (λ xs. Ok xs) (append_none ns)
 nodes_done k n ns bytes line (b ∷ more) whole cut e u before = absurd (omega (arith, u))
 
+-- a line behind the last is the fault
 ended_late : (n : ℕ) (b : ℕ) (more : List ℕ) → ended n (lines (b ∷ more)) ≡ Err (suc n)
 ended_late n b more = fed (nat_eq b 10) n b (lines more)
   where
@@ -104,6 +113,7 @@ ended_late n b more = fed (nat_eq b 10) n b (lines more)
     fed false n b [] = refl
     fed false n b (l ∷ ls) = refl
 
+-- bytes stand behind the last line
 pub nodes_late : (k n m : ℕ) (ns : List Node) (bytes line more : List ℕ) (whole : Result (List Node) ℕ) → lines bytes ≡ line ∷ lines more → line ≡ last_line → 0 < length more → m ≡ suc n → with_nodes ns (nodes_from k n (lines bytes)) ≡ whole → whole ≡ Err m
 nodes_late k n m ns bytes line [] whole cut e u i before = absurd (omega (arith, u))
 nodes_late k n m ns bytes line (b ∷ more) whole cut e u i before = sym before ∙ ap (with_nodes ns) (last_here k n bytes line (b ∷ more) cut e ∙ ended_late n b more) ∙ ap (λ j. Err j) (sym i)
@@ -118,6 +128,7 @@ pub parts_read : (ws : List WireTree) (ns : List Node) (net : NetTree) (r : Resu
 parts_read ws ns net r whole h e i =
     h ∙ ap (λ r. with_wires ws (no_wires r)) e ∙ ap (λ vs. Ok (record { wires = vs; nodes = ns })) (append_none ws) ∙ ap (λ n. Ok n) (sym i)
 
+-- a fault of the nodes is one of the whole
 pub parts_blamed : (ws : List WireTree) (r : Result (List Node) ℕ) (whole : Result NetTree ℕ) (e : NetTextFault) → whole ≡ with_wires ws (no_wires r) → Blames r e → Blames whole e
 parts_blamed ws r whole NoMemory h b = tt
 parts_blamed ws r whole (BadLine n) h b = h ∙ ap (λ r. with_wires ws (no_wires r)) b
@@ -129,6 +140,7 @@ parts_blamed ws r whole TooLong h b = b
 pub header_read : (h : ℕ) (bytes line more : List ℕ) → lines bytes ≡ line ∷ lines more → line ≡ codes "net 1\n" → net_of_lines h (lines bytes) ≡ wires_from h 0 2 (lines more)
 header_read h bytes line more cut e = ap (net_of_lines h) cut ∙ ap (λ b. if b then wires_from h 0 2 (lines more) else Err 1) (is_same line (codes "net 1\n") e)
 
+-- another first line
 pub no_header : (h : ℕ) (bytes line more : List ℕ) → lines bytes ≡ line ∷ lines more → (line ≡ codes "net 1\n" → ⊥) → net_of_lines h (lines bytes) ≡ Err 1
 no_header h bytes line more cut n = ap (net_of_lines h) cut ∙ chosen (bytes_eq line (codes "net 1\n")) (wires_from h 0 2 (lines more)) (λ e. n (same_is line (codes "net 1\n") e))
   where
@@ -136,6 +148,7 @@ no_header h bytes line more cut n = ap (net_of_lines h) cut ∙ chosen (bytes_eq
     chosen true r h = absurd (h refl)
     chosen false r h = refl
 
+-- there is no line
 pub no_lines : (h : ℕ) (bytes : List ℕ) → length bytes ≡ 0 → net_of_lines h (lines bytes) ≡ Err 1
 no_lines h [] e = refl
 no_lines h (b ∷ bytes) e = absurd (omega (arith, e))

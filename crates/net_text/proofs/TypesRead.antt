@@ -11,6 +11,7 @@ use Rattle.net_text.specs.TypeText.{behind, TyReader, closed, unit, with_right, 
 abbrev pub NoProduct : List ℕ → Type 0
 NoProduct rest = behind (codes " * ") rest ≡ None
 
+-- nothing by which a type goes on
 abbrev pub NoSign : List ℕ → Type 0
 NoSign rest = NoProduct rest × (behind (codes " -> ") rest ≡ None)
 
@@ -18,12 +19,15 @@ NoSign rest = NoProduct rest × (behind (codes " -> ") rest ≡ None)
 abbrev pub ReadsType : TyReader → TyTree → Type 0
 ReadsType full t = (rest : List ℕ) → NoSign rest → full (ty_text t ++ rest) ≡ Some (t, rest)
 
+-- the reader reads this type as a right operand of a product
 abbrev pub ReadsRight : TyReader → TyTree → Type 0
 ReadsRight right t = (rest : List ℕ) → NoProduct rest → right (fitted 1 (ty_level t) (ty_text t) ++ rest) ≡ Some (t, rest)
 
+-- a type in parentheses
 in_parens : (full : TyReader) (t : TyTree) (rest : List ℕ) → ReadsType full t → unit full ((codes "(" ++ ty_text t ++ codes ")") ++ rest) ≡ Some (t, rest)
 in_parens full t rest f = ap (λ bs. closed (full bs)) (append_assoc (ty_text t) (codes ")") rest) ∙ ap closed (f (codes ")" ++ rest) (refl, refl))
 
+-- a left operand of a product
 unit_reads : (full : TyReader) (t : TyTree) (rest : List ℕ) → ReadsType full t → unit full (fitted 0 (ty_level t) (ty_text t) ++ rest) ≡ Some (t, rest)
 unit_reads full nat rest f = refl
 unit_reads full (arrow a b) rest f = in_parens full (arrow a b) rest f
@@ -37,6 +41,7 @@ alone sign f right t rest h = ap (on f right (t, rest)) h
 pieces : (a b c rest : List ℕ) → (a ++ b ++ c) ++ rest ≡ a ++ (b ++ (c ++ rest))
 pieces a b c rest = append_assoc (a ++ b) c rest ∙ append_assoc a b (c ++ rest)
 
+-- a product
 product_reads : (full right : TyReader) (a b : TyTree) (rest : List ℕ) → ReadsType full a → ReadsRight right b → NoProduct rest → if_follows (codes " * ") product right (unit full (ty_text (product a b) ++ rest)) ≡ Some (product a b, rest)
 product_reads full right a b rest f g n =
     let text = fitted 1 (ty_level b) (ty_text b) ++ rest in
@@ -62,6 +67,7 @@ low nat h = omega (arith, h)
 low (arrow a b) h = omega (arith, h)
 low (product a b) h = omega (arith, h)
 
+-- a type by itself, at the next bound
 full_step : (h : ℕ) → Reading h → (t : TyTree) → ty_height t ≤ suc h → ReadsType (readers (suc h)).full t
 full_step h r nat u rest n = ap (if_follows (codes " -> ") arrow (readers h).full) (alone (codes " * ") product (readers h).right nat rest n.0) ∙ alone (codes " -> ") arrow (readers h).full nat rest n.1
 full_step h r (product a b) u rest n =
@@ -78,11 +84,13 @@ full_step h r (arrow a b) u rest n =
     ∙ ap (if_follows (codes " -> ") arrow (readers h).full) (left_reads (readers h).full (readers h).right a text p g refl)
     ∙ ap (with_right (arrow a)) (q rest n)
 
+-- a right operand of a product, at the next bound
 right_step : (h : ℕ) → Reading h → (t : TyTree) → ty_height t ≤ suc h → ReadsRight (readers (suc h)).right t
 right_step h r t u rest n =
     let g : (c d : TyTree) → t ≡ product c d → ReadsType (readers (suc h)).full c × ReadsRight (readers h).right d = λ c d e. let k = ap ty_height e in (full_step h r c (omega (arith, u, k, le-max_left (ty_height c) (ty_height d))), r.right d (omega (arith, u, k, le-max_right (ty_height c) (ty_height d)))) in
     left_reads (readers (suc h)).full (readers h).right t rest (full_step h r t u) g n
 
+-- the readers at each bound
 types_read : (h : ℕ) → Reading h
 types_read zero = record { full = λ t u. absurd (low t u); right = λ t u. absurd (low t u) }
 types_read (suc h) = let r = types_read h in record { full = full_step h r; right = right_step h r }

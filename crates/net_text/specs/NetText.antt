@@ -26,6 +26,7 @@ abbrev pub numbered : {A : Type 0} → (ℕ → A → List ℕ) → ℕ → List
 numbered line n [] = []
 numbered line n (x ∷ xs) = line n x ∷ numbered line (suc n) xs
 
+-- the lines of a listing: the header, the wires, the nodes, the end
 abbrev pub listing_lines : NetTree → List (List ℕ)
 listing_lines net = codes "net 1\n" ∷ (numbered wire_line 0 net.wires ++ (numbered node_line 0 net.nodes ++ codes "end\n" ∷ []))
 
@@ -40,14 +41,17 @@ abbrev pub WiresFit : ℕ → List WireTree → Type 0
 WiresFit h [] = Unit {0}
 WiresFit h (w ∷ ws) = (w.depth < 2 ^ 32) × (ty_height w.type ≤ h) × WiresFit h ws
 
+-- each number is of 32 bits
 abbrev pub Small : List ℕ → Type 0
 Small [] = Unit {0}
 Small (n ∷ ns) = (n < 2 ^ 32) × Small ns
 
+-- the numbers of a node are those of the code: 64 bits for a constant, 32 bits for a wire
 abbrev pub NodeFits : Node → Type 0
 NodeFits (Const v w) = (v < 2 ^ 64) × (w < 2 ^ 32)
 NodeFits n = Small (numbers_of n)
 
+-- those of all nodes
 abbrev pub NodesFit : List Node → Type 0
 NodesFit [] = Unit {0}
 NodesFit (n ∷ ns) = NodeFits n × NodesFit ns

@@ -63,14 +63,17 @@ abbrev pub this_form : Form → Option (List ℕ) → Option (Form × List ℕ) 
 this_form f None o = o
 this_form f (Some rest) o = Some (f, rest)
 
+-- the first of these forms whose name the text begins with, and what stands behind it
 abbrev pub form_among : List Form → List ℕ → Option (Form × List ℕ)
 form_among [] bs = None
 form_among (f ∷ fs) bs = this_form f (behind (name_of f) bs) (form_among fs bs)
 
+-- no byte is left
 abbrev pub no_more : List ℕ → Option (List ℕ)
 no_more [] = Some []
 no_more (b ∷ bs) = None
 
+-- a number in front of those that were read
 abbrev pub with_first : ℕ → Option (List ℕ) → Option (List ℕ)
 with_first n None = None
 with_first n (Some ns) = Some (n ∷ ns)
@@ -86,6 +89,7 @@ one_node form.Weak a = Some (Weak a)
 one_node form.Root a = Some (Root a)
 one_node f a = None
 
+-- with two
 abbrev pub two_node : Form → ℕ → ℕ → Option Node
 two_node form.Succ a b = Some (Succ a b)
 two_node form.Pred a b = Some (Pred a b)
@@ -96,6 +100,7 @@ two_node form.Fst a b = Some (Fst a b)
 two_node form.Snd a b = Some (Snd a b)
 two_node f a b = None
 
+-- with three
 abbrev pub three_node : Form → ℕ → ℕ → ℕ → Option Node
 three_node form.Plus a b w = Some (Plus a b w)
 three_node form.Minus a b w = Some (Minus a b w)
@@ -107,6 +112,7 @@ three_node form.FixBox a b w = Some (FixBox a b w)
 three_node form.Pair a b w = Some (Pair a b w)
 three_node f a b w = None
 
+-- with four
 abbrev pub four_node : Form → ℕ → ℕ → ℕ → ℕ → Option Node
 four_node form.Ifz c p q w = Some (Ifz c p q w)
 four_node f c p q w = None
@@ -129,12 +135,15 @@ abbrev pub node_with : Form → List ℕ → Option Node
 node_with form.Const ns = constant ns
 node_with f ns = small_node f ns
 
+-- the node of a form, from its numbers on
 abbrev pub from_form : Form × List ℕ → Option Node
 from_form p = after (numbers_in (count_of p.0) p.1) (node_with p.0)
 
+-- the node, from its name on
 abbrev pub from_name : List ℕ → Option Node
 from_name bs = after (form_among all_forms bs) from_form
 
+-- the node, from its number on
 abbrev pub from_count : ℕ → List ℕ → Option Node
 from_count k bs = after (behind (decimal k) bs) from_name
 
@@ -147,6 +156,7 @@ abbrev pub all_small : List ℕ → Bool
 all_small [] = true
 all_small (n ∷ ns) = nat_lt n (2 ^ 32) && all_small ns
 
+-- the same as `NodeFits`, as a test
 abbrev pub node_fits : Node → Bool
 node_fits (Const v w) = nat_lt v (2 ^ 64) && nat_lt w (2 ^ 32)
 node_fits n = all_small (numbers_of n)

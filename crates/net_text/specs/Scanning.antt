@@ -26,10 +26,12 @@ and_word None o = None
 and_word (Some n) None = None
 and_word (Some n) (Some ns) = Some (n ∷ ns)
 
+-- the same of a list
 abbrev pub in_words : List ℕ → Option (List ℕ)
 in_words [] = Some []
 in_words (n ∷ ns) = and_word (in_word n) (in_words ns)
 
+-- the same of numbers that were read or weren't
 abbrev pub words_among : Option (List ℕ) → Option (List ℕ)
 words_among None = None
 words_among (Some ns) = in_words ns
@@ -54,6 +56,7 @@ abbrev pub with_wires : List WireTree → Result NetTree ℕ → Result NetTree 
 with_wires ws (Ok net) = Ok (record { wires = ws ++ net.wires; nodes = net.nodes })
 with_wires ws (Err m) = Err m
 
+-- the same of nodes
 abbrev pub with_nodes : List Node → Result (List Node) ℕ → Result (List Node) ℕ
 with_nodes ns (Ok xs) = Ok (ns ++ xs)
 with_nodes ns (Err m) = Err m
