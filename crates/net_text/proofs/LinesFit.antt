@@ -1,5 +1,5 @@
 -- A line is read as the definition reads it, where what was read fits and has that very line.
-use Rattle.std.proofs.Common.{◌≡◌, ℕ, suc, ◌+◌, ◌-◌, ◌*◌, ◌^◌, ◌≤◌, Bool, true, false, ◌&&◌, List, [], ◌∷◌, ◌++◌, append_assoc, Option, Some, None, refl, sym, ap, ◌∙◌, inl, inr, arith}
+use Rattle.std.proofs.Common.{◌≡◌, ℕ, suc, ◌+◌, ◌-◌, ◌*◌, ◌^◌, ◌≤◌, Bool, true, false, ◌&&◌, List, [], ◌∷◌, ◌++◌, append-nil, append_assoc, Option, Some, None, refl, sym, ap, ◌∙◌, inl, inr, arith}
 use Rattle.std.specs.Prelude.{codes, nat_lt, nat_le, if◌then◌else◌}
 use Rattle.std.specs.Str.{bytes_eq}
 use Rattle.std.proofs.lemmas.Bool.{cases_lt, le-ltb, lt-ltb}
@@ -155,15 +155,10 @@ pub number_lacks : (k j : ℕ) (ns rest : List ℕ) (whole : Option (List ℕ)) 
 number_lacks k j ns rest whole e b before =
     ap (λ o. words_behind ns (words_among (after o (λ rest. let d = number_from 0 rest in with_first d.0 (numbers_in j d.1))))) b ∙ ap (λ k. words_behind ns (words_among (numbers_in k rest))) (sym e) ∙ before
 
--- nothing behind a list
-append_none : (ns : List ℕ) → ns ++ [] ≡ ns
-append_none [] = refl
-append_none (n ∷ ns) = ap (λ t. n ∷ t) (append_none ns)
-
 -- the end of the line
 pub numbers_end : (k : ℕ) (ns rest : List ℕ) (whole : Option (List ℕ)) → k ≡ 0 → Some [] ≡ behind (codes "\n") rest → words_behind ns (words_among (numbers_in k rest)) ≡ whole → Some ns ≡ whole
 numbers_end k ns rest whole e b before =
-    ap (λ t. Some t) (sym (append_none ns)) ∙ ap (λ o. words_behind ns (words_among (after o no_more))) b ∙ ap (λ k. words_behind ns (words_among (numbers_in k rest))) (sym e) ∙ before
+    ap (λ t. Some t) (sym (append-nil ns)) ∙ ap (λ o. words_behind ns (words_among (after o no_more))) b ∙ ap (λ k. words_behind ns (words_among (numbers_in k rest))) (sym e) ∙ before
 
 -- bytes are left behind the line feed, or there is none
 no_end : (o : Option (List ℕ)) → (Some [] ≡ o → ⊥) → None ≡ after o no_more
@@ -180,9 +175,6 @@ numbers_open k ns rest whole e b before =
 if_none : {A : Type 0} → (b : Bool) → (if b then (let n : Option A = None in n) else None) ≡ None
 if_none true = refl
 if_none false = refl
-
-abbrev pub halves_one : ℕ → Bool
-halves_one a = nat_lt a (2 ^ 32) && true
 
 -- a node of one number
 pub one_fits : (f : Form) (a : ℕ) → fitting_node (one_node f a) ≡ (if all_small (a ∷ []) then one_node f a else None)

@@ -1,5 +1,5 @@
 -- Uses that come first, one after another.
-use Rattle.std.proofs.Common.{◌≡◌, Bool, true, false, List, [], ◌∷◌, ◌++◌, append_assoc, refl, sym, ap, ◌∙◌}
+use Rattle.std.proofs.Common.{◌≡◌, Bool, true, false, List, [], ◌∷◌, ◌++◌, append-nil, append_assoc, refl, sym, ap, ◌∙◌}
 use Rattle.std.specs.Prelude.{◌↔◌}
 use Rattle.pcf_values.specs.declared.ty.Ty.{Ty}
 use Rattle.pcf_values.specs.Terms.{TyTree, TermTree}
@@ -47,11 +47,7 @@ not_all true before uses after h f e = no f
   where
     no : true ≡ false → ⊥
     no h = cc
-not_all false before uses after h f e = h [] (e ∙ sym (none uses))
-  where
-    none : (u : List TyTree) → u ++ [] ≡ u
-    none [] = refl
-    none (t ∷ u) = ap (λ s. t ∷ s) (none u)
+not_all false before uses after h f e = h [] (e ∙ sym (append-nil uses))
 
 -- the same of a closed term
 pub not_used : (b : Bool) (before after : List TyTree) (xs : List Ty) (m : TermTree) → xs ≡ [] → ComeFirst b before (used_types (context_of xs) m) after → b ≡ false → before ≡ used_types [] m → ⊥

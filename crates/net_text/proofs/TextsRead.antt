@@ -1,5 +1,5 @@
 -- The code's loops over lines give what the definition reads from them.
-use Rattle.std.proofs.Common.{◌≡◌, ℕ, zero, suc, ◌<◌, ◌≤◌, Bool, true, false, List, [], ◌∷◌, ◌++◌, append_assoc, length, Some, None, Ok, Err, IfOk, IfErr, refl, sym, ap, ◌∙◌, inl, inr, arith}
+use Rattle.std.proofs.Common.{◌≡◌, ℕ, zero, suc, ◌<◌, ◌≤◌, Bool, true, false, List, [], ◌∷◌, ◌++◌, append-nil, append_assoc, length, Some, None, Ok, Err, IfOk, IfErr, refl, sym, ap, ◌∙◌, inl, inr, arith}
 use Rattle.std.specs.Prelude.{Result, codes, nat_eq, if◌then◌else◌}
 use Rattle.std.specs.Str.{bytes_eq}
 use Rattle.std.proofs.lemmas.Bool.{cases_lt}
@@ -19,11 +19,6 @@ use Rattle.net_text.proofs.Splitting.{text_is}
 -- what is not more is at most as much
 pub not_more : (a b : ℕ) → (a < b → ⊥) → b ≤ a
 not_more a b h = elim (cases_lt a b) [ inl l ↦ absurd (h l) | inr l ↦ l ]
-
--- nothing behind a list
-append_none : {A : Type 0} → (xs : List A) → xs ++ [] ≡ xs
-append_none [] = refl
-append_none (x ∷ xs) = ap (λ t. x ∷ t) (append_none xs)
 
 -- no wire more
 pub wires_none : (r : Result NetTree ℕ) → with_wires [] r ≡ r
@@ -101,7 +96,7 @@ last_here k n bytes line more cut e = ap (nodes_from k n) cut ∙ ap (λ b. if b
 
 -- the last line ends them
 pub nodes_done : (k n : ℕ) (ns : List Node) (bytes line more : List ℕ) (whole : Result (List Node) ℕ) → lines bytes ≡ line ∷ lines more → line ≡ last_line → length more ≤ 0 → with_nodes ns (nodes_from k n (lines bytes)) ≡ whole → whole ≡ Ok ns
-nodes_done k n ns bytes line [] whole cut e u before = sym before ∙ ap (with_nodes ns) (last_here k n bytes line [] cut e) ∙ ap (λ xs. Ok xs) (append_none ns)
+nodes_done k n ns bytes line [] whole cut e u before = sym before ∙ ap (with_nodes ns) (last_here k n bytes line [] cut e) ∙ ap (λ xs. Ok xs) (append-nil ns)
 nodes_done k n ns bytes line (b ∷ more) whole cut e u before = absurd (omega (arith, u))
 
 -- a line behind the last is the fault
@@ -126,7 +121,7 @@ nodes_end k n ns (b ∷ bytes) whole u before = absurd (omega (arith, u))
 -- wires and nodes together
 pub parts_read : (ws : List WireTree) (ns : List Node) (net : NetTree) (r : Result (List Node) ℕ) (whole : Result NetTree ℕ) → whole ≡ with_wires ws (no_wires r) → r ≡ Ok ns → net ≡ record { wires = ws; nodes = ns } → whole ≡ Ok net
 parts_read ws ns net r whole h e i =
-    h ∙ ap (λ r. with_wires ws (no_wires r)) e ∙ ap (λ vs. Ok (record { wires = vs; nodes = ns })) (append_none ws) ∙ ap (λ n. Ok n) (sym i)
+    h ∙ ap (λ r. with_wires ws (no_wires r)) e ∙ ap (λ vs. Ok (record { wires = vs; nodes = ns })) (append-nil ws) ∙ ap (λ n. Ok n) (sym i)
 
 -- a fault of the nodes is one of the whole
 pub parts_blamed : (ws : List WireTree) (r : Result (List Node) ℕ) (whole : Result NetTree ℕ) (e : NetTextFault) → whole ≡ with_wires ws (no_wires r) → Blames r e → Blames whole e

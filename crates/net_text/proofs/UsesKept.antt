@@ -1,25 +1,21 @@
 -- The net of a term uses variables as the term does.
-use Rattle.std.proofs.Common.{◌≡◌, ℕ, zero, suc, ◌+◌, List, [], ◌∷◌, ◌++◌, length, Option, Some, None, refl, ap, ◌∙◌, subst}
+use Rattle.std.proofs.Common.{◌≡◌, ℕ, zero, suc, ◌+◌, List, [], ◌∷◌, ◌++◌, append-nil, length, Option, Some, None, refl, ap, ◌∙◌, subst}
 use Rattle.pcf_values.specs.Values.{Op, plus_op, minus_op, times_op}
 use Rattle.pcf_values.specs.Terms.{Side, left_side, right_side, TyTree, nat, product, TermTree, num, var, succ_of, pred_of, binary, ifz, lam, fix, app, pair, proj}
 use Rattle.net_build.specs.declared.node.Node.{Node}
 use Rattle.net_build.specs.declared.node.Node.TheVariants.{Der, Root, Pair}
 use Rattle.net_build.specs.Nets.{WireTree, NetTree, binary_node, proj_node}
 use Rattle.net_build.specs.NetOf.{Part, contract, doors, bound, part, net_of, double_part, ifz_part, lam_part, fix_part, app_part}
-use Rattle.net_text.specs.TermOf.{type_in}
+use Rattle.net_text.specs.TermOf.{type_at, type_in}
 use Rattle.net_text.specs.Uses.{used_types, using_types}
 use Rattle.net_text.proofs.Complete.{held_self}
 use Rattle.net_text.proofs.Steps.{Held, held_left, held_right}
 
 module _ (ws : List WireTree) where
-  -- the types of the uses among these nodes
-  uses : List Node → List TyTree
-  uses ns = using_types ws ns
-
   -- two lists of nodes
   uses_append : (a b : List Node) → using_types ws (a ++ b) ≡ using_types ws a ++ using_types ws b
   uses_append [] b = refl
-  uses_append (Der w x ∷ a) b = ap (λ t. Rattle.net_text.specs.TermOf.type_at ws w ∷ t) (uses_append a b)
+  uses_append (Der w x ∷ a) b = ap (λ t. type_at ws w ∷ t) (uses_append a b)
   uses_append (n ∷ a) b = uses_append a b
 
   -- contractions use no variable
@@ -50,11 +46,7 @@ module _ (ws : List WireTree) where
 
   -- uses in front alone
   only : (a b : List Node) (u : List TyTree) → using_types ws a ≡ u → using_types ws b ≡ [] → using_types ws (a ++ b) ≡ u
-  only a b u e h = uses_append a b ∙ (λ i. e i ++ h i) ∙ append_end u
-    where
-      append_end : (u : List TyTree) → u ++ [] ≡ u
-      append_end [] = refl
-      append_end (t ∷ u) = ap (λ s. t ∷ s) (append_end u)
+  only a b u e h = uses_append a b ∙ (λ i. e i ++ h i) ∙ append-nil u
 
   -- uses in front and behind
   both : (a b : List Node) (u v : List TyTree) → using_types ws a ≡ u → using_types ws b ≡ v → using_types ws (a ++ b) ≡ u ++ v
