@@ -1,0 +1,44 @@
+//! The program that a net file lists, or the file's first fault.
+
+ghost use Rattle.std.specs.Prelude.{◌≡◌, MatchResult};
+ghost use Rattle.pcf_values.specs.Terms.{TermTree};
+ghost use Rattle.net_text.specs.declared.fault.NetTextFault.TheVariants.{NoMemory};
+ghost use Rattle.net_text.specs.Accepted.{Accepts, ListsProgram, Sorted};
+
+use crate::NetTextFault;
+use crate::limits::TERM_HEIGHT;
+use crate::read::read_net;
+use crate::readback::term_within;
+use net_build::Net;
+use net_check::{NetFault, check, law_one_fault};
+use pcf_values::Typed;
+use std::alloc::Global;
+
+/// The closed term of type `nat` whose net the bytes list, or the first fault: too many bytes, a line that can't stand where it stands, a
+/// net that isn't sound, or a net that is no such term's. A term that is answered is no higher than `limits::TERM_HEIGHT`.
+pub fn accept(alloc: Global, bytes: &[u8]) -> Result<Typed, NetTextFault>
+    ensures answer { Accepts bytes.now result }
+    // A program that the bytes list is accepted, unless memory runs out.
+    ensures accepted { (m : TermTree) → ListsProgram bytes.now m → MatchResult result (λ t. t.0 ≡ m) (λ e. e ≡ NoMemory) }
+{
+    law_one_fault();
+    match read_net(alloc, bytes) {
+        Ok(net) => {
+            let program = program_of(alloc, &net);
+            drop(net);
+            program
+        }
+        Err(fault) => Err(fault),
+    }
+}
+
+/// The program whose net it is, or the net's first fault.
+fn program_of(alloc: Global, net: &Net) -> Result<Typed, NetTextFault>
+    ensures { Sorted net.now result }
+{
+    match check(alloc, net) {
+        Ok(()) => term_within(alloc, net, TERM_HEIGHT),
+        Err(NetFault::NoMemory) => Err(NetTextFault::NoMemory),
+        Err(fault) => Err(NetTextFault::NotSound(fault)),
+    }
+}

@@ -1,0 +1,50 @@
+//! What holds of the term that is read from a net.
+
+ghost use Rattle.net_text.specs.Accepted.{OneAnswer};
+ghost use Rattle.net_text.specs.Limits.{LimitsAre};
+ghost use Rattle.net_text.specs.Laws.{ExampleTerm, OneTerm, ReadBack, TextsAreRead, TypesAreRead};
+ghost use Rattle.net_text.specs.Standing.{StandingIsBeginning};
+
+use net_check::law_one_fault;
+
+/// From the net of a closed term of type `nat` the walk reads that term.
+pub fn law_read_back()
+    ensures { ReadBack }
+{}
+
+/// No two closed terms of type `nat` have one net.
+pub fn law_one_term()
+    ensures { OneTerm }
+{}
+
+/// The term of `(fun x:nat. x + x) 3` is read from its net.
+pub fn law_example_term()
+    ensures { ExampleTerm }
+{}
+
+/// Lines of a text stand one behind the other exactly where a listing begins with them.
+pub fn law_standing()
+    ensures { StandingIsBeginning }
+{}
+
+/// A printed type is read, with what follows it, where it is no higher than the bound.
+pub fn law_type_read()
+    ensures { TypesAreRead }
+{}
+
+/// A listing gives its net by its lines, and of any other text the first line that can't stand there is found.
+pub fn law_texts_read()
+    ensures { TextsAreRead }
+{}
+
+/// Bytes have one answer, want of memory aside.
+pub fn law_one_answer()
+    ensures { OneAnswer }
+{
+    law_one_fault();
+}
+
+/// Each limit is the number that definitions and contracts call by its name.
+pub fn law_limits()
+    ensures { LimitsAre }
+{}

@@ -1,0 +1,106 @@
+//! The term that a net was built of.
+
+ghost use Rattle.std.specs.Prelude.{◌≡◌, ◌≤◌, ◌<◌, ◌+◌, ◌*◌, ◌^◌, Option, Some, length, replicate, IfOk, IsTrue, IsFalse, [], ◌∷◌};
+ghost use Rattle.std.specs.Option.{option_map};
+ghost use Rattle.pcf_values.specs.Terms.{nat, height, size};
+ghost use Rattle.pcf_values.specs.Typing.{HasType};
+ghost use Rattle.pcf_values.specs.Views.{term_of};
+ghost use Rattle.net_build.specs.NetOf.{net_of};
+ghost use Rattle.net_text.specs.Limits.{most_term_height};
+ghost use Rattle.net_text.specs.TermOf.{candidate, mark};
+ghost use Rattle.net_text.specs.OfTerm.{Answers, IsNetOf, OfNone};
+
+use crate::NetTextFault;
+use crate::infer::is_program;
+use crate::limits::TERM_HEIGHT;
+use crate::rebuild::read;
+use crate::uses::has_uses;
+use crate::walk::{Mark, Walk, next};
+use net_build::{Net, Node, build, law_built_sound, law_net_size};
+use net_check::{NetFault, check};
+use pcf_values::{Term, Ty, Typed};
+use std::alloc::{AllocError, Global};
+
+/// The closed term of type `nat` of which the net is built, where it is no higher than `limits::TERM_HEIGHT`: there is at most one. A net
+/// that isn't sound is that of none. A net of more than 825,000 nodes, which is more than a sound net can have whose listing is within
+/// `limits::NET_TEXT_BYTES`, may count as too large for memory.
+pub fn term_of(alloc: Global, net: &Net) -> Result<Typed, NetTextFault>
+    ensures { Answers most_term_height net.now result }
+{
+    law_built_sound();
+    match check(alloc, net) {
+        Ok(()) => term_within(alloc, net, TERM_HEIGHT),
+        Err(NetFault::NoMemory) => Err(NetTextFault::NoMemory),
+        Err(_) => Err(NetTextFault::NotOfTerm),
+    }
+}
+
+/// The same with a bound of one's own. On a sound net the time is that of the net's size, its types included: before anything is made
+/// of the types of the term that is read, it is seen that they are those of the net.
+pub(crate) fn term_within(alloc: Global, net: &Net, height: u32) -> Result<Typed, NetTextFault>
+    requires { height ≤ most_term_height }
+    ensures { Answers height net.now result }
+{
+    let Some(term) = read_root(alloc, net, height)? else {
+        return Err(NetTextFault::NotOfTerm);
+    };
+    if is_programs_net(alloc, net, &term)? {
+        checked(alloc, net, height, Typed::of(term, Ty::Nat))
+    } else {
+        Err(NetTextFault::NotOfTerm)
+    }
+}
+
+/// Whether a term uses variables as the net does, and is closed and of type `nat`: where it doesn't or isn't, the net isn't that of
+/// such a term.
+fn is_programs_net(alloc: Global, net: &Net, term: &Term) -> Result<bool, AllocError>
+    ensures typed { IfOk result (λ b. IsTrue b → HasType [] (term_of term.now) nat) }
+    ensures other { IfOk result (λ b. IsFalse b → HasType [] (term_of term.now) nat → net_of (term_of term.now) ≡ net.now → ⊥) }
+{
+    if has_uses(alloc, net, term)? {
+        is_program(alloc, term)
+    } else {
+        Ok(false)
+    }
+}
+
+/// The term, if the net is its.
+fn checked(alloc: Global, net: &Net, height: u32, program: Typed) -> Result<Typed, NetTextFault>
+    requires bound { height ≤ most_term_height }
+    requires ground { program.1 ≡ nat }
+    requires only { candidate height net.now ≡ Some program.0 }
+    ensures { Answers height net.now result }
+{
+    if net.node_count() as u64 * (2 * height as u64 + 4) >= 4_294_967_296 {
+        return Err(NetTextFault::NoMemory);
+    }
+    law_net_size();
+    let built = build(alloc, &program)?;
+    if built.same(net) {
+        Ok(program)
+    } else {
+        Err(NetTextFault::NotOfTerm)
+    }
+}
+
+/// The one term of at most this height that the net can be the net of.
+fn read_root(alloc: Global, net: &Net, height: u32) -> Result<Option<Term>, AllocError>
+    requires { height < 2 ^ 32 }
+    ensures { IfOk result (λ o. option_map term_of o ≡ candidate height net.now) }
+{
+    let marks = unmarked(alloc, net.wire_count() as usize)?;
+    let mut walk = Walk {
+        left: net.node_count(),
+        marks,
+    };
+    match next(net, &mut walk) {
+        Some(Node::Root { w }) => read(alloc, net, &mut walk, height, 0, 0, 0, w),
+        _ => Ok(None),
+    }
+}
+
+fn unmarked(alloc: Global, count: usize) -> Result<Vec<Mark>, AllocError>
+    ensures { IfOk result (λ v. v.items ≡ replicate count (mark 0 0)) }
+{
+    vec![in alloc; Mark { level: 0, place: 0 }; count]
+}

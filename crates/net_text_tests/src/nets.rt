@@ -1,0 +1,81 @@
+//! Terms read back from their nets.
+
+ghost use Rattle.std.specs.Prelude.{◌≡◌, ◌≤◌, ◌+◌, ◌*◌, [], length, IfOk};
+ghost use Rattle.pcf_values.specs.Terms.{nat, var, lam, app, size, height};
+ghost use Rattle.pcf_values.specs.Typing.{HasType};
+ghost use Rattle.pcf_values.specs.Views.{term_of};
+
+use net_build::{Net, Node, Wire, WireKind, build, law_net_size};
+use net_text::{NetTextFault, term_of};
+use pcf_values::{Term, Ty, Typed};
+use std::alloc::{AllocError, Global};
+use std::test::Fail;
+
+/// How many times the identity is applied, so that the term is of the greatest height that is read back.
+const TIMES: u32 = 2598;
+
+/// The identity applied to a term.
+fn applied(alloc: Global, argument: Term) -> Result<Term, AllocError>
+    ensures { IfOk result (λ t. term_of t ≡ app (lam nat (var 0)) (term_of argument)) }
+{
+    let argument = Box::new(alloc, argument)?;
+    let body = Box::new(alloc, Term::Var(0))?;
+    Ok(Term::App(Box::new(alloc, Term::Fun(Ty::Nat, body))?, argument))
+}
+
+/// The identity applied so many times to 0.
+fn tower(alloc: Global, times: u32) -> Result<Term, AllocError>
+    ensures typed { IfOk result (λ t. HasType [] (term_of t) nat) }
+    ensures small { IfOk result (λ t. size (term_of t) ≤ 4 * times + 1) }
+    ensures low { IfOk result (λ t. height (term_of t) ≤ times + 2) }
+{
+    let mut term = Term::Number(0);
+    for _n in 0..times {
+        term = applied(alloc, term)?;
+    }
+    Ok(term)
+}
+
+/// The net of a tower.
+fn high_net(alloc: Global, times: u32) -> Result<Net, AllocError>
+    requires { times ≤ 2600 }
+{
+    law_net_size();
+    let term = tower(alloc, times)?;
+    let program = Typed::of(term, Ty::Nat);
+    build(alloc, &program)
+}
+
+#[test]
+fn a_high_term_is_read_back(rt: HostRuntime) -> Result<(), Fail> {
+    let net = high_net(rt.alloc(), TIMES)?;
+    assert!(rt; term_of(rt.alloc(), &net).is_ok());
+    Ok(())
+}
+
+#[test]
+fn a_higher_term_is_not(rt: HostRuntime) -> Result<(), Fail> {
+    let net = high_net(rt.alloc(), TIMES + 1)?;
+    assert!(rt; matches!(&term_of(rt.alloc(), &net), Err(NetTextFault::NotOfTerm)));
+    Ok(())
+}
+
+fn nat_wire(alloc: Global) -> Result<Vec<Wire>, AllocError>
+    ensures { IfOk result (λ v. length v.items ≡ 1) }
+{
+    let wire = Wire {
+        kind: WireKind::Value,
+        depth: 0,
+        ty: Ty::Nat,
+    };
+    Ok(Vec::from_array(alloc, [wire])?)
+}
+
+#[test]
+fn nodes_out_of_order_are_no_term(rt: HostRuntime) -> Result<(), Fail> {
+    let nodes = [Node::Root { w: 0 }, Node::Const { v: 5, w: 0 }];
+    let nodes = Vec::from_array(rt.alloc(), nodes)?;
+    let net = Net::from_parts(rt.alloc(), nat_wire(rt.alloc())?, nodes)?;
+    assert!(rt; matches!(&term_of(rt.alloc(), &net), Err(NetTextFault::NotOfTerm)));
+    Ok(())
+}
