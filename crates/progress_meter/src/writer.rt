@@ -77,6 +77,7 @@ impl Writer {
         requires { reader.meter ≡ self.old.meter }
         ensures settled { self.new ≡ with_settled self.old reader.readings }
         ensures readings { AreReadingsOf self.old.published reader.readings }
+        ensures faithful { Faithful self.new }
     {
         let mut end = reader.into_end();
         let whole = self.cell.split_pass::<WholeView>(&mut end);

@@ -36,3 +36,12 @@ returns-clause-readings g c =
     let now = cell_view c.join_pass.new.pass in
     let are = has_compared v w now (cell_view c.load_as.new.pass) c.join_pass.ensures.1 c.load_as.ensures.rule in
     subst (λ (x : List ℕ × List ℕ). AreReadingsOf x.0 x.1) (λ i. (ap (λ p. p.published) c.self.view_is i, ap readings_of whole i)) are
+
+pub returns-clause-faithful : goal.returns-clause-faithful
+returns-clause-faithful g c =
+    let i = c.self.invariant in
+    let v = cell_view c.self.inside.end in
+    let w = cell_view c.split_pass-whole.result in
+    let now = cell_view c.join_pass.new.pass in
+    let h = has_settled v w now (cell_view c.load_as.new.pass) c.self.inside.last i.1 c.join_pass.ensures.1 c.load_as.ensures.rule in
+    record { rises = h.rises; settled = h.settled }
