@@ -37,6 +37,10 @@ IsLevel m = last_of m.writer.published ≡ length m.pool.log
 abbrev pub IsOf : WatchedRun → Metered → Type 0
 IsOf r m = (m.writer.meter ≡ r.meter) × Suits m.pool r.net r.budget r.workers
 
+-- what a metered pool of a run keeps
+abbrev pub Keeps : WatchedRun → Metered → Type 0
+Keeps r m = IsLevel m × IsOf r m
+
 -- a turn is what the pool gives, and nothing is published
 abbrev pub Gives : Metered → ℕ → Turn Piece → Metered → Type 0
 Gives m w t n = GivesTurn m.pool w t n.pool × (n.writer ≡ m.writer)

@@ -1,8 +1,8 @@
 //! A pool whose bookings are published.
 ghost use Rattle.std.specs.Prelude.{◌≡◌, ◌≤◌, length};
-ghost use Rattle.progress_meter.specs.Meters.{last_of};
+ghost use Rattle.progress_meter.specs.Meters.{last_of, with_number};
 ghost use Rattle.token_pool.specs.Ending.{Suits};
-ghost use Rattle.metered_pool.specs.Metered.{Metered, IsLevel, IsOf};
+ghost use Rattle.metered_pool.specs.Metered.{IsLevel, IsOf};
 
 use gate_workers::{Bench, Turn};
 use move_rules::Moved;
@@ -26,7 +26,8 @@ impl Watched for Brand {
     ghost run = { no_run };
 }
 
-/// A pool of the run that `M` names, and the writer of its meter. Contracts see both; the number published last is the number of moves made.
+/// A pool of the run that `M` names, and the writer of its meter. Contracts see both; the number published last is the number of moves
+/// made. A call of this crate's users that makes one passes `Brand` for `M`, and picks the run that it has.
 #[derive(Drop)]
 pub struct MeteredPool<'a, M: Watched, R: Wait + Sync> {
     rt: &'a R,
@@ -36,7 +37,7 @@ pub struct MeteredPool<'a, M: Watched, R: Wait + Sync> {
 }
 
 impl<'a, M: Watched, R: Wait + Sync> Model for MeteredPool<'a, M, R> {
-    ghost use Rattle.metered_pool.specs.Metered.{Metered, IsLevel, IsOf, metered_code};
+    ghost use Rattle.metered_pool.specs.Metered.{Metered, Keeps, metered_code};
 
     ghost Value = { Metered };
 
@@ -44,7 +45,7 @@ impl<'a, M: Watched, R: Wait + Sync> Model for MeteredPool<'a, M, R> {
 
     ghost view = { λ m. record { pool = m.pool; writer = m.writer } };
 
-    ghost invariant = { λ m. IsLevel (record { pool = m.pool; writer = m.writer }) × IsOf M.run (record { pool = m.pool; writer = m.writer }) };
+    ghost invariant = { λ m. Keeps M.run (record { pool = m.pool; writer = m.writer }) };
 }
 
 impl<'a, M: Watched, R: Wait + Sync> MeteredPool<'a, M, R> {
@@ -77,6 +78,15 @@ impl<'a, M: Watched, R: Wait + Sync> MeteredPool<'a, M, R> {
         } = self;
         (pool, writer)
     }
+}
+
+// Publishes how many moves the pool has booked.
+fn tell<R: Wait>(rt: &R, pool: &PoolState, writer: &mut Writer)
+    requires { last_of writer.old.published ≤ length pool.now.log }
+    ensures published { writer.new ≡ with_number writer.old (length pool.now.log) }
+    ensures last { last_of writer.new.published ≡ length pool.now.log }
+{
+    writer.publish(rt, u64::from(pool.booked()));
 }
 
 impl<'a, M: Watched + Send, R: Wait + Sync> Bench for MeteredPool<'a, M, R> {
@@ -113,7 +123,7 @@ impl<'a, M: Watched + Send, R: Wait + Sync> Bench for MeteredPool<'a, M, R> {
             run: _,
         } = self;
         pool.hand_in(worker, made)?;
-        writer.publish(*rt, u64::from(pool.booked()));
+        tell(*rt, pool, writer);
         Ok(())
     }
 

@@ -1,5 +1,5 @@
 //! The run of a net, read beside its workers.
-ghost use Rattle.std.specs.Prelude.{◌≡◌, ◌≤◌, [], ◌∷◌, ◌++◌, length, All, IfOk};
+ghost use Rattle.std.specs.Prelude.{◌≡◌, ◌≤◌, [], ◌∷◌, length, All, IfOk};
 ghost use Rattle.std.specs.List.Sorted.{IsNonDecreasing};
 ghost use Rattle.pcf_values.specs.Most.{most_budget, most_workers};
 ghost use Rattle.interleave_core.specs.Runs.{Runs};
@@ -7,7 +7,7 @@ ghost use Rattle.token_pool.specs.Pools.{InLimits};
 ghost use Rattle.token_pool.specs.Ending.{Suits};
 ghost use Rattle.net_runs.specs.Running.{IsRun, IsFirstWorkers};
 ghost use Rattle.metered_pool.specs.Metered.{IsLevel, IsOf};
-ghost use Rattle.metered_pool.specs.Progress.{IsProgress};
+ghost use Rattle.metered_pool.specs.Progress.{HasRead, IsProgress};
 
 use crate::naming::named_first;
 use crate::pace::Pace;
@@ -106,7 +106,7 @@ fn drive_watched<M: Watched + Send + Sync, R: Threads + Wait + Sync, G: Gate>(
         rt,
         || -> Result<(Reader, Vec<u64>), AllocError>
             requires { readings.items ≡ [] }
-            ensures { IfOk result (λ r. (r.0.meter ≡ reader.meter) × (r.0.readings ≡ reader.readings ++ r.1.items) × (length r.1.items ≡ 16)) }
+            ensures { IfOk result (λ r. HasRead reader r.0 r.1.items) }
         { read_all(rt, reader, readings, &pace) },
         ||
             requires { 1 ≤ workers }
@@ -130,7 +130,7 @@ fn read_all<R: Wait>(
     pace: &Pace,
 ) -> Result<(Reader, Vec<u64>), AllocError>
     requires { readings.items ≡ [] }
-    ensures { IfOk result (λ r. (r.0.meter ≡ reader.meter) × (r.0.readings ≡ reader.readings ++ r.1.items) × (length r.1.items ≡ 16)) }
+    ensures { IfOk result (λ r. HasRead reader r.0 r.1.items) }
 {
     for n in 0..16u32 {
         pace.pause(rt, 100u64 << n);
