@@ -1,0 +1,16 @@
+-- What is read on the meter of a run, and what of it is told.
+-- When the readings are taken is left out: a run may be over before the first of them, and then each is the number of its moves, or not
+-- yet begun, and then each is 0.
+use Rattle.std.specs.Prelude.{◌≡◌, ℕ, List, ◌++◌, length}
+use Rattle.std.specs.List.Sorted.{IsNonDecreasing}
+use Rattle.progress_meter.specs.Meters.{Listener, last_of}
+
+-- the reader read sixteen times more, and these are the numbers
+abbrev pub HasRead : Listener → Listener → List ℕ → Type 0
+HasRead old new numbers = (new.meter ≡ old.meter) × (new.readings ≡ old.readings ++ numbers) × (length numbers ≡ 16)
+
+-- Sixteen readings and behind them the number of moves of the whole run: the numbers never go down, so that none is above that number.
+pub record IsProgress (moves : ℕ) (numbers : List ℕ) : Type 0 where
+  pub many : length numbers ≡ 17
+  pub never_down : IsNonDecreasing numbers
+  pub ends : last_of numbers ≡ moves

@@ -1,0 +1,163 @@
+//! The run of a net, read beside its workers.
+ghost use Rattle.std.specs.Prelude.{◌≡◌, ◌≤◌, [], ◌∷◌, length, All, IfOk};
+ghost use Rattle.std.specs.List.Sorted.{IsNonDecreasing};
+ghost use Rattle.pcf_values.specs.Most.{most_budget, most_workers};
+ghost use Rattle.interleave_core.specs.Runs.{Runs};
+ghost use Rattle.token_pool.specs.Pools.{InLimits};
+ghost use Rattle.token_pool.specs.Ending.{Suits};
+ghost use Rattle.net_runs.specs.Running.{IsRun, IsFirstWorkers};
+ghost use Rattle.metered_pool.specs.Metered.{IsLevel, IsOf};
+ghost use Rattle.metered_pool.specs.Progress.{HasRead, IsProgress};
+
+use crate::naming::named_first;
+use crate::pace::Pace;
+use crate::{MeteredPool, Watched};
+use gate_workers::{Gate, drive};
+use net_build::Net;
+use progress_meter::{Reader, Writer, meter};
+use std::alloc::{AllocError, Global};
+use std::marker::Brand;
+use std::sync::Wait;
+use std::thread::{Threads, join};
+use token_pool::{Ended, PoolState};
+
+/// The run of a net by so many workers within a budget of moves, as `run_net` answers it, and 17 numbers: 16 readings of how many moves
+/// were booked, taken beside the workers, and the number of moves that were made in the end.
+///
+/// One worker shares the pool with nobody, but it too is driven behind the lock and passes the gate; its log names worker 0. The readings
+/// are taken in a thread of their own, the first after 0.1 ms and each after twice the pause of the one before, and at once when the
+/// workers are over. Where no thread can be had they are taken then.
+///
+/// # Errors
+///
+/// Want of memory.
+pub fn watch_net<R: Threads + Wait + Sync, G: Gate>(
+    rt: &R,
+    alloc: Global,
+    net: &Net,
+    budget: u32,
+    workers: u32,
+    gate: &G,
+) -> Result<(Ended, Vec<u64>), AllocError>
+    requires runs { Runs net.now }
+    requires budget { (1 ≤ budget) × (budget ≤ most_budget) }
+    requires workers { (1 ≤ workers) × (workers ≤ most_workers) }
+    ensures run { IfOk result (λ r. IsRun net.now workers budget r.0.answer r.0.log.entries) }
+    ensures alone { IfOk result (λ r. workers ≡ 1 → IsFirstWorkers net.now budget r.0.log.entries) }
+    ensures progress { IfOk result (λ r. IsProgress (length r.0.log.entries) r.1.items) }
+{
+    let (pool, readings) = drive_new(rt, alloc, net, budget, workers, gate)?;
+    let ended = finish(alloc, pool, net, budget, workers)?;
+    let mut numbers = readings;
+    numbers.push(u64::from(ended.log.len()))?;
+    Ok((ended, numbers))
+}
+
+// Drives a new pool, and reads on a new meter.
+fn drive_new<R: Threads + Wait + Sync, G: Gate>(
+    rt: &R,
+    alloc: Global,
+    net: &Net,
+    budget: u32,
+    workers: u32,
+    gate: &G,
+) -> Result<(PoolState, Vec<u64>), AllocError>
+    requires runs { Runs net.now }
+    requires limits { InLimits budget workers }
+    ensures suits { IfOk result (λ r. Suits r.0 net.now budget workers) }
+    ensures many { IfOk result (λ r. length r.1.items ≡ 16) }
+    ensures never_down { IfOk result (λ r. IsNonDecreasing r.1.items) }
+    ensures booked { IfOk result (λ r. All (λ n. n ≤ length r.0.log) r.1.items) }
+{
+    let readings = Vec::with_capacity(alloc, 17)?;
+    let pool = PoolState::start(alloc, net, budget, workers)?;
+    let (writer, reader) = meter(alloc)?;
+    Ok(drive_watched::<Brand, R, G>(
+        rt, alloc, net, workers, gate, pool, writer, reader, readings,
+    )?)
+}
+
+// Drives the pool, and reads on the meter beside. The readings never go down, and none is above the number of moves of the pool that came
+// back, which is one of the same run.
+fn drive_watched<M: Watched + Send + Sync, R: Threads + Wait + Sync, G: Gate>(
+    rt: &R,
+    alloc: Global,
+    net: &Net,
+    workers: u32,
+    gate: &G,
+    pool: PoolState,
+    writer: Writer,
+    reader: Reader,
+    readings: Vec<u64>,
+) -> Result<(PoolState, Vec<u64>), AllocError>
+    requires some { 1 ≤ workers }
+    requires level { IsLevel (record { pool = pool; writer = writer }) }
+    requires run { IsOf M.run (record { pool = pool; writer = writer }) }
+    requires reader { (reader.meter ≡ M.run.meter) × (reader.readings ≡ 0 ∷ []) }
+    requires empty { readings.items ≡ [] }
+    ensures suits { IfOk result (λ r. Suits r.0 M.run.net M.run.budget M.run.workers) }
+    ensures many { IfOk result (λ r. length r.1.items ≡ 16) }
+    ensures never_down { IfOk result (λ r. IsNonDecreasing r.1.items) }
+    ensures booked { IfOk result (λ r. All (λ n. n ≤ length r.0.log) r.1.items) }
+{
+    let bench: MeteredPool<'_, M, R> = MeteredPool::new(rt, pool, writer);
+    let pace = Pace::new();
+    let (answer, bench) = join(
+        rt,
+        || -> Result<(Reader, Vec<u64>), AllocError>
+            requires { readings.items ≡ [] }
+            ensures { IfOk result (λ r. HasRead reader r.0 r.1.items) }
+        { read_all(rt, reader, readings, &pace) },
+        ||
+            requires { 1 ≤ workers }
+        {
+            let bench = drive(rt, alloc, bench, net, workers, gate);
+            pace.end();
+            bench
+        },
+    );
+    let (reader, readings) = answer?;
+    let (pool, mut writer) = bench.into_parts();
+    writer.settle(rt, reader);
+    Ok((pool, readings))
+}
+
+// Sixteen readings, each after twice the pause of the one before.
+fn read_all<R: Wait>(
+    rt: &R,
+    mut reader: Reader,
+    mut readings: Vec<u64>,
+    pace: &Pace,
+) -> Result<(Reader, Vec<u64>), AllocError>
+    requires { readings.items ≡ [] }
+    ensures { IfOk result (λ r. HasRead reader r.0 r.1.items) }
+{
+    for n in 0..16u32 {
+        pace.pause(rt, 100u64 << n);
+        readings.push(reader.read(rt))?;
+    }
+    Ok((reader, readings))
+}
+
+// Finishes the run that this pool is of. The moves go on behind those that were booked, and where there is one worker all are its own.
+fn finish(
+    alloc: Global,
+    pool: PoolState,
+    net: &Net,
+    budget: u32,
+    workers: u32,
+) -> Result<Ended, AllocError>
+    requires runs { Runs net.now }
+    requires limits { InLimits budget workers }
+    requires suits { Suits pool net.now budget workers }
+    ensures run { IfOk result (λ e. IsRun net.now workers budget e.answer e.log.entries) }
+    ensures alone { IfOk result (λ e. workers ≡ 1 → IsFirstWorkers net.now budget e.log.entries) }
+    ensures longer { IfOk result (λ e. length pool.log ≤ length e.log.entries) }
+{
+    let ended = pool.finish(alloc, net, budget, workers)?;
+    if workers == 1 {
+        Ok(named_first(alloc, ended)?)
+    } else {
+        Ok(ended)
+    }
+}

@@ -1,0 +1,3 @@
+pub mod Lists
+mod Steps
+mod Ends

@@ -1,0 +1,22 @@
+use Rattle.std.proofs.Common.{[], ◌∷◌, ◌∙◌, sym, rules}
+use Rattle.crossbeam_utils.specs.Seq.{cell_view}
+use Rattle.progress_meter.proofs.Steps.{stores_as}
+use Rattle.progress_meter.proofs.Ends.{has_published}
+use Rattle.progress_meter.proofs.writer.Writer.publish.Goals as goal
+
+pub swap_as-requires : goal.swap_as-requires
+swap_as-requires g c = let i = c.self.invariant in (search rules, (search rules, (search rules, stores_as _ _ c.args.n i.1.is_writer (search rules))))
+
+pub invariant_of-self : goal.invariant_of-self
+invariant_of-self g c =
+    let i = c.self.invariant in
+    let s = c.swap_as.ensures in
+    let v = cell_view c.self.inside.end in
+    (s.cell.0 ∙ i.0, has_published v (cell_view c.swap_as.new.pass) c.self.inside.last (c.args.n ∷ []) i.1 (search rules) s.rule)
+
+pub returns-clause-last : goal.returns-clause-last
+returns-clause-last g c =
+    let i = c.self.invariant in
+    let v = cell_view c.self.inside.end in
+    let h = has_published v (cell_view c.swap_as.new.pass) c.self.inside.last (c.args.n ∷ []) i.1 (search rules) c.swap_as.ensures.rule in
+    sym h.last_is
