@@ -1,0 +1,5 @@
+mod Pools
+mod Asked
+mod Keeping
+mod Standing
+mod Ends

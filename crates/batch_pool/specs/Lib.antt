@@ -1,0 +1,13 @@
+-- what a reader has to believe: the limits, the batch, its calls and what is always true of it
+pub mod Limits
+pub mod Batches
+pub mod Asking
+pub mod Booking
+pub mod Ending
+pub mod Benches
+-- the run of a batch
+pub mod Running
+-- what serves the code's types and inner calls only
+pub mod Codes
+pub mod Keeping
+pub mod Steps
