@@ -3,3 +3,5 @@ mod Asked
 mod Keeping
 mod Standing
 mod Ends
+mod ListLine
+mod ListRead

@@ -7,7 +7,10 @@ pub mod Ending
 pub mod Benches
 -- the run of a batch
 pub mod Running
+-- the list of the jobs as a text, and its first fault
+pub mod Lists
 -- what serves the code's types and inner calls only
 pub mod Codes
 pub mod Keeping
 pub mod Steps
+pub mod Scanning
