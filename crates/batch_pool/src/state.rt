@@ -91,6 +91,7 @@ impl BatchState {
         ensures ok { IfOk result (λ taken. Takes self.old worker taken self.new) }
         ensures err { OnErr result (self.new ≡ self.old) }
         ensures ample { OnErr result (HasTicket self.old.pools worker) }
+        ensures workers { self.new.workers ≡ self.old.workers }
     {
         law_take_keeps();
         if self.stopped {
@@ -120,6 +121,7 @@ impl BatchState {
         ensures ok { IfOk result (BatchBooks self.old self.new worker moved) }
         ensures err { OnErr result (self.new ≡ self.old) }
         ensures ample { OnErr result (HoldsOtherIn self.old.pools worker moved) }
+        ensures workers { self.new.workers ≡ self.old.workers }
     {
         law_book_keeps();
         match place_of(&self.places, worker) {
