@@ -1,6 +1,6 @@
 -- What a worker is told by a pool that isn't stopped, and what that says of the pool; and a search through the jobs, one after another.
-use Rattle.std.proofs.Common.{◌≡◌, ◌⊎◌, ◌<◌, ◌≤◌, ◌+◌, ◌-◌, ℕ, suc, Bool, true, false, cond, nat_eq, if◌then◌else◌, List, length, set, slice_get, Option, Some, None, refl, sym, ap, ◌∙◌, subst, inl, inr, ⊎_elim, Result, Ok, Err, OnErr, arith}
-use Rattle.std.proofs.lemmas.Bool.{cases_lt, cases_eq}
+use Rattle.std.proofs.Common.{◌≡◌, ◌⊎◌, ◌<◌, ◌≤◌, ◌+◌, ◌-◌, ℕ, Bool, true, false, nat_eq, if◌then◌else◌, List, length, set, slice_get, Option, Some, None, refl, sym, ap, ◌∙◌, subst, inl, inr, ⊎_elim, Result, Ok, Err, OnErr, arith}
+use Rattle.std.proofs.lemmas.Bool.{cases_eq}
 use Rattle.std.proofs.lemmas.Option.{slice_get_within}
 use Rattle.token_pool.specs.declared.entries.Held.{Held}
 use Rattle.token_pool.specs.declared.entries.Told.{Told}
@@ -15,7 +15,7 @@ use Rattle.batch_pool.specs.declared.asking.Offer.{Offer}
 use Rattle.batch_pool.specs.declared.asking.Offer.TheVariants as offer
 use Rattle.batch_pool.specs.declared.pieces.BatchTaken.{BatchTaken}
 use Rattle.batch_pool.specs.declared.pieces.BatchTaken.TheVariants as answer
-use Rattle.batch_pool.specs.Steps.{Offers, OffersAt, IsServing, GivesAgain, GivesFirst, TakesFirst}
+use Rattle.batch_pool.specs.Steps.{OffersAt, IsServing, GivesAgain, GivesFirst, TakesFirst}
 use Rattle.batch_pool.proofs.Pools.{one_there, set_same}
 
 -- what is held at a place is what its worker owns
@@ -37,7 +37,7 @@ module _ (p : Pool) (w : ℕ) (running : p.stopped ≡ false) where
       ∙ ap (λ o. on_own o (next_lines p.state (length p.log) p.held p.budget p.workers)) (owns (slice_get p.held w) h at)
 
   module _ (free : (h : Held) → Holds p.held w h → ⊥) where
-    told_next : turn p w ≡ next_lines p.state (length p.log) p.held p.budget p.workers
+    pub told_next : turn p w ≡ next_lines p.state (length p.log) p.held p.budget p.workers
     told_next = ap (λ b. if b then Stopped else on_own (own p.held w) (next_lines p.state (length p.log) p.held p.budget p.workers)) running
         ∙ ap (λ o. on_own o (next_lines p.state (length p.log) p.held p.budget p.workers)) (owns_none (slice_get p.held w) free)
 

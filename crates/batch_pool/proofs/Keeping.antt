@@ -1,10 +1,7 @@
 -- What stays true of a batch where one of its pools goes on.
-use Rattle.std.proofs.Common.{◌≡◌, ◌⊎◌, ◌<◌, ◌≤◌, ℕ, Bool, true, false, List, length, length-set, set, map, replicate, slice_get, Option, Some, None, refl, sym, ap, ◌∙◌, subst, inl, inr, ⊎_elim, arith}
+use Rattle.std.proofs.Common.{◌≡◌, ◌⊎◌, ◌<◌, ◌≤◌, ℕ, Bool, List, length-set, set, slice_get, Option, Some, None, refl, sym, ap, ◌∙◌, subst, inl, inr, ⊎_elim, arith}
 use Rattle.std.proofs.lemmas.Bool.{cases_eq}
-use Rattle.std.proofs.lemmas.List.{length-replicate}
-use Rattle.std.proofs.lemmas.Option.{slice_get_within}
 use Rattle.move_rules.specs.Walks.{Passage}
-use Rattle.interleave_core.specs.Adopting.{Accepts}
 use Rattle.token_pool.specs.declared.entries.Held.{Held}
 use Rattle.token_pool.specs.declared.entries.Told.TheVariants.{Token}
 use Rattle.token_pool.specs.declared.entries.Booked.TheVariants.{Done}

@@ -5,3 +5,5 @@ mod Standing
 mod Ends
 mod ListLine
 mod ListRead
+mod OneList
+mod Pausing

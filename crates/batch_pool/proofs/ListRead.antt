@@ -1,21 +1,15 @@
 -- The first fault of lines, and what they stand for, line by line.
-use Rattle.std.proofs.Common.{◌≡◌, ◌⊎◌, ℕ, suc, ◌+◌, ◌<◌, ◌≤◌, Bool, true, false, List, [], ◌∷◌, ◌++◌, append_assoc, length, length-append, Option, Some, None, Result, Ok, Err, refl, sym, ap, ◌∙◌, subst, inl, inr, arith}
+use Rattle.std.proofs.Common.{◌≡◌, ◌⊎◌, ℕ, suc, ◌+◌, ◌<◌, ◌≤◌, List, [], ◌∷◌, ◌++◌, append_assoc, length, length-append, Result, Ok, Err, refl, sym, ap, ◌∙◌, subst, inl, inr, arith}
 use Rattle.std.specs.Prelude.{codes, MatchResult}
-use Rattle.std.specs.Char.{is_ascii_digit}
-use Rattle.std.specs.Str.Parse.{digits_value}
-use Rattle.std.proofs.lemmas.Bool.{both_ways}
-use Rattle.schedule_log.specs.Schedules.{lines, end_line, IsEarly, Spells}
-use Rattle.schedule_log.specs.Reading.{digits_in, behind, is_number}
-use Rattle.schedule_log.specs.Scanning.{capped}
+use Rattle.schedule_log.specs.Schedules.{lines, end_line}
 use Rattle.schedule_log.proofs.Lines.{IsLine, line_split}
-use Rattle.schedule_log.proofs.Numbers.{number_is, is_number_is, digits_first, behind_first, digits_behind}
 use Rattle.schedule_log.proofs.Scans.{first_line}
 use Rattle.batch_pool.specs.declared.fault.BatchFault.{BatchFault}
 use Rattle.batch_pool.specs.declared.fault.BatchFault.TheVariants.{NoMemory, TooLong, BadHeader, BadLine, TooMany, NoEnd}
 use Rattle.batch_pool.specs.declared.line.BatchLine.{BatchLine}
-use Rattle.batch_pool.specs.Limits.{most_jobs, most_job_budget, most_list_bytes}
-use Rattle.batch_pool.specs.Lists.{list_header, IsJobLine, IsNoLine, FaultHere, FirstFault, WholeList, IsList, LacksListHeader, HasListFault, ReadAsList}
-use Rattle.batch_pool.specs.Scanning.{IsBudgetIn, IsNameIn, LineFault}
+use Rattle.batch_pool.specs.Limits.{most_jobs, most_list_bytes}
+use Rattle.batch_pool.specs.Lists.{list_header, IsJobLine, FaultHere, FirstFault, WholeList, IsList, LacksListHeader, HasListFault, ReadAsList}
+use Rattle.batch_pool.specs.Scanning.{LineFault}
 
 moved : (m k n j : ℕ) (ls : List (List ℕ)) (f : BatchFault) → m ≡ k → n ≡ j → FaultHere m n ls f → FaultHere k j ls f
 moved m k n j ls f e g h = subst (λ k. FaultHere k j ls f) e (subst (λ j. FaultHere m j ls f) g h)

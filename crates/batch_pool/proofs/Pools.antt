@@ -1,5 +1,5 @@
 -- Lists of pools, and what they are after a change of one of them.
-use Rattle.std.proofs.Common.{◌≡◌, ◌⊎◌, ◌<◌, ℕ, zero, suc, List, [], ◌∷◌, length, set, slice_get, Option, Some, None, refl, sym, ap, ◌∙◌, inl, inr, ⊎_elim, arith}
+use Rattle.std.proofs.Common.{◌≡◌, ◌⊎◌, ℕ, zero, suc, List, [], ◌∷◌, set, slice_get, Option, Some, refl, sym, ap, inl, inr, ⊎_elim, arith}
 
 module _ {A : Type 0} where
   -- what a place has afterwards is what was put there, or what another place had before

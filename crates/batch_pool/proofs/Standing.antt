@@ -1,6 +1,5 @@
 -- What a batch that stands gives to the calls that it makes, and what they give to it.
-use Rattle.std.proofs.Common.{◌≡◌, ◌<◌, ◌≤◌, ℕ, zero, suc, Bool, true, false, List, [], ◌∷◌, length, set, map, replicate, slice_get, Option, Some, None, refl, sym, ap, ◌∙◌, subst, inl, inr, arith}
-use Rattle.std.specs.List.{All}
+use Rattle.std.proofs.Common.{◌≡◌, ◌<◌, ℕ, zero, suc, Bool, false, List, [], ◌∷◌, length, set, map, replicate, slice_get, Option, Some, None, refl, sym, ap, ◌∙◌, subst, inl, inr, arith}
 use Rattle.std.proofs.lemmas.List.{length-replicate}
 use Rattle.std.proofs.lemmas.Option.{slice_get_within, get_or_from_slice_get}
 use Rattle.move_rules.specs.Walks.{Passage}
@@ -8,22 +7,22 @@ use Rattle.token_pool.specs.declared.entries.Held.{Held}
 use Rattle.token_pool.specs.declared.entries.Booked.{Booked}
 use Rattle.token_pool.specs.declared.entries.Booked.TheVariants.{Done, NothingHeld}
 use Rattle.token_pool.specs.declared.pieces.Piece.{Piece}
-use Rattle.token_pool.specs.Pools.{Pool, Holds, Good, InLimits, started}
-use Rattle.token_pool.specs.Turns.{turn, taken}
+use Rattle.token_pool.specs.Pools.{Pool, Holds, Good}
+use Rattle.token_pool.specs.Turns.{taken}
 use Rattle.token_pool.specs.Booking.{BookedAs}
 use Rattle.token_pool.specs.Laws.{StartGood, TakeKeeps, GivesHeld, BookKeeps}
 use Rattle.batch_pool.specs.declared.job.BatchJob.{BatchJob}
 use Rattle.batch_pool.specs.declared.pieces.BatchTaken.{BatchTaken}
 use Rattle.batch_pool.specs.declared.pieces.BatchTaken.TheVariants as answer
 use Rattle.batch_pool.specs.Batches.{Batch, IsPool, HoldsIn, HoldsNowhere, BatchGood, JobFits, BatchFits, job_started}
-use Rattle.batch_pool.specs.Asking.{Handed, Takes, HasTicket, with_pool}
+use Rattle.batch_pool.specs.Asking.{Handed, Takes, HasTicket}
 use Rattle.batch_pool.specs.Booking.{BatchBooks, HoldsOtherIn}
 use Rattle.batch_pool.specs.Codes.{batch}
-use Rattle.batch_pool.specs.Keeping.{Place, Knows, Kept, places_after}
-use Rattle.batch_pool.specs.Steps.{GivesAgain, GivesFirst, TakesFirst, BooksAt}
+use Rattle.batch_pool.specs.Keeping.{Place, Kept, places_after}
+use Rattle.batch_pool.specs.Steps.{GivesAgain, TakesFirst, BooksAt}
 use Rattle.batch_pool.proofs.Pools.{set_same, one_there}
 use Rattle.batch_pool.proofs.Asked.{taken_again, owns}
-use Rattle.batch_pool.proofs.Keeping.{Change, kept_after, take_changes, takes_place, book_changes, leaves_place}
+use Rattle.batch_pool.proofs.Keeping.{kept_after, take_changes, takes_place, book_changes, leaves_place}
 
 module _ (pools : List Pool) (workers : ℕ) (stopped : Bool) (places : List (Option ℕ)) (kept : Kept pools workers stopped places) (B : Batch) (v : batch pools workers stopped ≡ B) (w : ℕ) (l : w < B.workers) where
   -- the worker has a place

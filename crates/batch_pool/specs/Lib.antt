@@ -9,6 +9,8 @@ pub mod Benches
 pub mod Running
 -- the list of the jobs as a text, and its first fault
 pub mod Lists
+-- the laws
+pub mod Laws
 -- what serves the code's types and inner calls only
 pub mod Codes
 pub mod Keeping

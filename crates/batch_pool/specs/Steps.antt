@@ -14,7 +14,7 @@ use Rattle.batch_pool.specs.declared.asking.Offer.TheVariants as offer
 use Rattle.batch_pool.specs.declared.pieces.BatchTaken.{BatchTaken}
 use Rattle.batch_pool.specs.declared.pieces.BatchTaken.TheVariants as taken
 use Rattle.batch_pool.specs.Batches.{IsPool}
-use Rattle.batch_pool.specs.Asking.{GivesToken, NoneGivesBelow, NoneGives, AllOver}
+use Rattle.batch_pool.specs.Asking.{NoneGivesBelow, NoneGives, AllOver}
 
 -- what a job's own pool has for a worker, and the pool afterwards
 abbrev pub Offers : Pool → ℕ → Offer → Pool → Type 0

@@ -13,6 +13,7 @@ mod booking;
 mod ending;
 mod fault;
 mod job;
+mod laws;
 mod limits;
 mod line;
 mod list;
@@ -26,6 +27,7 @@ mod state;
 
 pub use fault::BatchFault;
 pub use job::BatchJob;
+pub use laws::{law_batch_limits, law_one_list, law_pause_holds};
 pub use limits::{JOB_BUDGET, JOBS, LIST_BYTES};
 pub use line::BatchLine;
 pub use list::read_batch;
