@@ -13,7 +13,8 @@ use Rattle.batch_pool.specs.Lists.{ReadAsList}
 abbrev pub PauseHolds : Type 0
 PauseHolds = (b c : Batch) (w : ℕ) → BatchGood b → Takes b w Pause c → (v : ℕ) × (j : ℕ) × (h : Held) × HoldsIn b.pools v j h
 
--- No bytes are read in two ways, but for want of memory. So a list is always answered with its jobs, and other bytes with their first fault.
+-- No bytes are read in two ways, but for want of memory. So a list is always answered with its jobs, and other bytes with their first
+-- fault.
 abbrev pub OneList : Type 0
 OneList = (bytes : List ℕ) (r s : Result (List BatchLine) BatchFault) →
     (r ≡ Err NoMemory → ⊥) → (s ≡ Err NoMemory → ⊥) → ReadAsList bytes r → ReadAsList bytes s → r ≡ s

@@ -63,7 +63,8 @@ fn finish_rest(
     requires each { All JobFits jobs.now }
     requires some { 1 ≤ workers }
     requires few { workers ≤ most_workers }
-    ensures { OnOk result ((more : List Ended) × (ends.new.items ≡ ends.old.items ++ more) × EndsEach (into_iter_items pools) jobs.now workers more) }
+    ensures { OnOk result ((more : List Ended) × (ends.new.items ≡ ends.old.items ++ more)
+        × EndsEach (into_iter_items pools) jobs.now workers more) }
 {
     match jobs {
         [] => Ok(()),

@@ -81,7 +81,8 @@ fn name_in(bytes: &[u8]) -> Option<&str>
 
 // The text that bytes are, if they are one and there are any.
 fn text_of(bytes: &[u8]) -> Option<&str>
-    ensures { MatchOption result ((0 < length bytes.now) × IsUtf8 bytes.now → ⊥) (λ text. (text.now ≡ bytes.now) × (0 < length bytes.now) × IsUtf8 bytes.now) }
+    ensures { MatchOption result ((0 < length bytes.now) × IsUtf8 bytes.now → ⊥)
+        (λ text. (text.now ≡ bytes.now) × (0 < length bytes.now) × IsUtf8 bytes.now) }
 {
     if bytes.len() == 0 {
         return None;
@@ -94,7 +95,8 @@ fn text_of(bytes: &[u8]) -> Option<&str>
 
 /// The budget and the name of a job line, and nothing where the line isn't one.
 pub(crate) fn job_in(line: &[u8]) -> Option<(u32, &str)>
-    ensures { MatchOption result ((job : BatchLine) → IsJobLine line.now job → ⊥) (λ p. IsJobLine line.now (record { budget = p.0; file = p.1.now })) }
+    ensures { MatchOption result ((job : BatchLine) → IsJobLine line.now job → ⊥)
+        (λ p. IsJobLine line.now (record { budget = p.0; file = p.1.now })) }
 {
     let Some(rest) = behind_job(line) else {
         return None;

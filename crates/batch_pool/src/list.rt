@@ -41,7 +41,8 @@ pub fn read_batch(alloc: Global, bytes: &[u8]) -> Result<Vec<BatchLine>, BatchFa
 // The jobs of the lines behind the header, or their first fault.
 fn read_jobs(alloc: Global, bytes: &[u8]) -> Result<Vec<BatchLine>, BatchFault>
     requires { length bytes.now ≤ most_list_bytes }
-    ensures { MatchResult result (λ jobs. WholeList 0 (lines bytes.now) jobs.items) (λ fault. (fault ≡ NoMemory) ⊎ FirstFault 0 2 (lines bytes.now) fault) }
+    ensures { MatchResult result (λ jobs. WholeList 0 (lines bytes.now) jobs.items)
+        (λ fault. (fault ≡ NoMemory) ⊎ FirstFault 0 2 (lines bytes.now) fault) }
 {
     let mut jobs = Vec::new(alloc);
     match read_rest(alloc, bytes, 2, &mut jobs) {
@@ -60,7 +61,8 @@ fn read_rest(
     requires short { n + length bytes.now ≤ most_list_bytes + 2 }
     requires few { length jobs.old.items ≤ most_jobs }
     ensures { MatchResult result
-        (λ _. (more : List BatchLine) × (jobs.new.items ≡ jobs.old.items ++ more) × WholeList (length jobs.old.items) (lines bytes.now) more)
+        (λ _. (more : List BatchLine) × (jobs.new.items ≡ jobs.old.items ++ more)
+        × WholeList (length jobs.old.items) (lines bytes.now) more)
         (λ fault. (fault ≡ NoMemory) ⊎ FirstFault (length jobs.old.items) n (lines bytes.now) fault) }
 {
     if bytes.len() == 0 {
@@ -84,7 +86,8 @@ fn read_rest(
 fn read_job(alloc: Global, line: &[u8], n: u32, jobs: &mut Vec<BatchLine>) -> Result<(), BatchFault>
     requires few { length jobs.old.items ≤ most_jobs }
     ensures { MatchResult result
-        (λ _. (job : BatchLine) × IsJobLine line.now job × (length jobs.old.items < most_jobs) × (jobs.new.items ≡ jobs.old.items ++ job ∷ []))
+        (λ _. (job : BatchLine) × IsJobLine line.now job × (length jobs.old.items < most_jobs)
+        × (jobs.new.items ≡ jobs.old.items ++ job ∷ []))
         (λ fault. LineFault (length jobs.old.items) n line.now fault) }
 {
     let Some((budget, name)) = job_in(line) else {
