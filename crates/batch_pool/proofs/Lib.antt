@@ -1,0 +1,9 @@
+mod Pools
+mod Asked
+mod Keeping
+mod Standing
+mod Ends
+mod ListLine
+mod ListRead
+mod OneList
+mod Pausing

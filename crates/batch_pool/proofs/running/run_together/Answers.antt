@@ -1,0 +1,7 @@
+use Rattle.batch_pool.proofs.Ends.{runs_of_ends}
+use Rattle.batch_pool.proofs.running.run_together.Goals as goal
+
+pub returns : goal.returns
+returns g c =
+    runs_of_ends (λ v. v.items) c.finish.result c.drive-batch.result.pools c.deref-2.result.now c.args.jobs.now.items c.args.workers
+    c.deref-2.ensures.value c.requires.several c.finish.ensures.ends

@@ -1,0 +1,95 @@
+//! How the jobs are asked for a ticket, the least one first.
+ghost use Rattle.std.specs.Prelude.{◌≡◌, ◌<◌, ◌≤◌, ℕ, false, length, IfOk, OnErr};
+ghost use Rattle.token_pool.specs.declared.entries.Held.{Held};
+ghost use Rattle.token_pool.specs.Pools.{Pool};
+ghost use Rattle.batch_pool.specs.Batches.{IsPool, HoldsIn, HoldsNowhere};
+ghost use Rattle.batch_pool.specs.Asking.{GivesToken, HasTicket};
+ghost use Rattle.batch_pool.specs.Limits.{most_jobs};
+ghost use Rattle.batch_pool.specs.Steps.{Offers, OffersAt, TakesFirst, GivesAgain, IsServing};
+
+use crate::BatchTaken;
+use std::alloc::AllocError;
+use token_pool::{Piece, PoolState, Taken};
+
+/// What one job has for a worker.
+#[derive(Drop)]
+pub(crate) enum Offer {
+    /// A ticket, which the worker holds from now on.
+    Token(Piece),
+    /// Nothing now.
+    Waits,
+    /// Nothing any more.
+    Over,
+}
+
+// What a pool has for a worker.
+fn ask(pool: &mut PoolState, worker: u32) -> Result<Offer, AllocError>
+    requires place { worker < pool.old.workers }
+    requires running { pool.old.stopped ≡ false }
+    ensures ok { IfOk result (λ offer. Offers pool.old worker offer pool.new) }
+    ensures err { OnErr result (pool.new ≡ pool.old) }
+    ensures ample { OnErr result (GivesToken pool.old worker) }
+{
+    match pool.take(worker)? {
+        Taken::Token(piece) => Ok(Offer::Token(piece)),
+        Taken::Idle | Taken::Reserved => Ok(Offer::Waits),
+        Taken::Ended | Taken::Stopped => Ok(Offer::Over),
+    }
+}
+
+// What a job has for a worker.
+fn ask_job(pools: &mut Vec<PoolState>, job: usize, worker: u32) -> Result<Offer, AllocError>
+    requires serving { IsServing pools.old.items worker }
+    requires within { job < length pools.old.items }
+    ensures ok { IfOk result (λ offer. OffersAt pools.old.items worker job offer pools.new.items) }
+    ensures err { OnErr result (pools.new.items ≡ pools.old.items) }
+    ensures ample { OnErr result (HasTicket pools.old.items worker) }
+{
+    let offer = ask(&mut pools[job], worker)?;
+    Ok(offer)
+}
+
+/// The ticket that the worker holds in this job, again.
+pub(crate) fn take_again(
+    pools: &mut Vec<PoolState>,
+    job: u32,
+    worker: u32,
+) -> Result<Piece, AllocError>
+    requires serving { IsServing pools.old.items worker }
+    requires holds { (h : Held) × HoldsIn pools.old.items worker job h }
+    ensures ok { IfOk result (GivesAgain pools.old.items worker job) }
+    ensures same { pools.new.items ≡ pools.old.items }
+    ensures ample { OnErr result (HasTicket pools.old.items worker) }
+{
+    match ask_job(pools, job as usize, worker)? {
+        Offer::Token(piece) => Ok(piece),
+        Offer::Waits | Offer::Over => unreachable!(),
+    }
+}
+
+/// Asks the jobs in turn, where a worker holds nothing, until one gives a ticket. Where none does, all are over or some aren't.
+///
+/// The call goes over all jobs before the one that gives, also over those that are over: of each it looks at the answer, or else at the
+/// count of its moves and at the places of its workers.
+pub(crate) fn take_first(pools: &mut Vec<PoolState>, worker: u32) -> Result<BatchTaken, AllocError>
+    requires serving { IsServing pools.old.items worker }
+    requires free { HoldsNowhere pools.old.items worker }
+    requires few { length pools.old.items ≤ most_jobs }
+    ensures ok { IfOk result (λ taken. TakesFirst pools.old.items worker taken pools.new.items) }
+    ensures err { OnErr result (pools.new.items ≡ pools.old.items) }
+    ensures ample { OnErr result (HasTicket pools.old.items worker) }
+{
+    let mut over = true;
+    for job in 0..pools.len() {
+        match ask_job(pools, job, worker)? {
+            Offer::Token(piece) => return Ok(BatchTaken::Token(job as u32, piece)),
+            Offer::Waits => over = false,
+            Offer::Over => {}
+        }
+    }
+    Ok(if over {
+        BatchTaken::Ended
+    } else {
+        BatchTaken::Pause
+    })
+}

@@ -1,0 +1,36 @@
+//! Several jobs that share their workers.
+//!
+//! A `BatchState` keeps a pool of its own for each job. `BatchGood` says what is true of every batch: each pool is a good one, none of
+//! them is stopped by itself, and a worker holds a ticket in one job at most. `take` hands a worker a ticket of the least job that has
+//! one, `book` makes its moves in the job of that ticket alone, and `finish` leads each job to its own end. As a `Bench` the same calls
+//! serve workers behind a lock, and `run_batch` runs all jobs: each run is one of that job's net and budget, whatever the others are.
+//! When workers come, and that they come at all, is left to others.
+#![tactic(auto)]
+
+mod asking;
+mod bench;
+mod booking;
+mod ending;
+mod fault;
+mod job;
+mod laws;
+mod limits;
+mod line;
+mod list;
+mod pieces;
+mod places;
+mod running;
+mod scan;
+mod spare;
+mod starting;
+mod state;
+
+pub use fault::BatchFault;
+pub use job::BatchJob;
+pub use laws::{law_batch_limits, law_one_list, law_pause_holds};
+pub use limits::{JOB_BUDGET, JOBS, LIST_BYTES};
+pub use line::BatchLine;
+pub use list::read_batch;
+pub use pieces::{BatchPiece, BatchTaken};
+pub use running::run_batch;
+pub use state::BatchState;
