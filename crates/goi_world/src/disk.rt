@@ -8,10 +8,11 @@ use std::io::{Read, Seek, SeekFrom};
 use std::marker::Model;
 use std::{fs, io, rt};
 
-/// A file that was opened, and how far it has been read.
+/// A file that was opened, and how far it has been read. Where there was no memory to keep its name it has none, and the next read opens
+/// the file again.
 #[derive(Drop)]
 struct Opened<F: Drop> {
-    name: String,
+    name: Option<String>,
     file: F,
     at: u64,
 }
@@ -93,7 +94,7 @@ fn read_on<R: rt::Files + AllocGlobal>(
     ensures { IfOk result (λ n. n ≤ length buf.new) }
 {
     let mut file = match opened.take() {
-        Some(file) if file.name.as_str() == name => file,
+        Some(file) if is_named(&file.name, name) => file,
         _ => open(rt, name)?,
     };
     let count = read_at(&mut file, at, buf)?;
@@ -101,11 +102,25 @@ fn read_on<R: rt::Files + AllocGlobal>(
     Ok(count)
 }
 
-// A file at its beginning.
+// Whether the name that was kept is this one.
+fn is_named(kept: &Option<String>, name: &str) -> bool {
+    match kept {
+        Some(kept) => kept.as_str() == name,
+        None => false,
+    }
+}
+
+// A file at its beginning. Where its name can't be kept it has to be one in which a place can be sought, since it will be opened again:
+// a pipe would wait for another writer then.
 fn open<R: rt::Files + AllocGlobal>(rt: &R, name: &str) -> io::Result<Opened<R::File>> {
+    let kept = String::from_str(rt.alloc(), name).ok();
+    let mut file = fs::open(rt, name)?;
+    if kept.is_none() {
+        file.seek(SeekFrom::Start(0))?;
+    }
     Ok(Opened {
-        name: String::from_str(rt.alloc(), name)?,
-        file: fs::open(rt, name)?,
+        name: kept,
+        file,
         at: 0,
     })
 }
