@@ -1,22 +1,23 @@
--- The answer to a job, from those to its files.
-use Rattle.std.proofs.Common.{◌≡◌, ◌⊎◌, ℕ, Bool, true, List, [], Option, Some, None, IsTrue, refl, ap, ◌∙◌, subst, inl, inr, ⊎_elim, arith}
+-- The answer to a deed, from those to its files.
+use Rattle.std.proofs.Common.{◌≡◌, ℕ, Bool, List, [], Option, Some, None, IsTrue, refl, ap, ◌∙◌, subst, inl, inr, ⊎_elim, arith}
 use Rattle.std.proofs.lemmas.List.Elements.{All-nil}
 use Rattle.goi_world.specs.Outside.{Reading}
 use Rattle.pcf_values.specs.Terms.{TermTree, nat}
 use Rattle.pcf_values.specs.Typing.{HasType}
 use Rattle.net_build.specs.Nets.{NetTree}
 use Rattle.net_build.specs.NetOf.{net_of}
-use Rattle.goi_words.specs.Jobs.{JobTree, run, check, show_net, replay, demo}
 use Rattle.goi_engine.specs.declared.answer.Answer.{Answer}
 use Rattle.goi_engine.specs.declared.answer.Answer.TheVariants.{Prints, Refused, BadWords, NotRead, NoMemory}
-use Rattle.goi_engine.specs.Answers.{AnswersSchedule, MadeNet, AnswersJob}
+use Rattle.goi_engine.specs.Answers.{AnswersSchedule, MadeNet, AnswersDeed}
+use Rattle.goi_engine.specs.Deeds.{Deed, with_text, with_schedule, with_list, generated}
 use Rattle.goi_engine.specs.FilesSeen.{files_seen, FilesState, FilesKept, Possibly, OfFile, ReadsWithin, LoadedBy}
-use Rattle.goi_engine.specs.Programs.{IsGround, FaultyText}
-use Rattle.goi_engine.specs.Replaying.{ReportsReplay, FaultySchedule}
-use Rattle.goi_engine.specs.Verdicts.{OfGround, HasNumber, ReadForJob}
+use Rattle.goi_tasks.specs.Outputs.{output_of}
+use Rattle.goi_tasks.specs.Programs.{IsGround}
+use Rattle.goi_tasks.specs.Replaying.{ReportsReplay, FaultySchedule}
+use Rattle.goi_engine.specs.Verdicts.{OfGround, HasNumber, FaultyEither, ReadFor}
 
 -- what is seen of the files is the same in both states where all that is seen is
-same_state : (old new : FilesState) → FilesKept old new → new.faults ≡ old.faults → new ≡ old
+pub same_state : (old new : FilesState) → FilesKept old new → new.faults ≡ old.faults → new ≡ old
 same_state old new k f =
     ap (λ (x : List ℕ → Option (List ℕ)). files_seen x new.lacks new.faults new.steady) k.told
     ∙ ap (λ (x : List ℕ → Bool). files_seen old.told x new.faults new.steady) k.lacks
@@ -35,16 +36,16 @@ module _ (file moves : List ℕ) (old new : FilesState) where
     has_number = (ground.0, possibly_goes (old.told file) (λ b. IsGround b t) HasNumber (λ b g. (t, g, tt)) ground.1)
 
     -- the program's term is t, and the schedule was answered
-    with_term : (a : Answer) → AnswersSchedule t moves old new a → AnswersJob (replay file moves) old new a
+    with_term : (a : Answer) → AnswersSchedule t moves old new a → AnswersDeed (with_schedule file moves) old new a
     with_term (Prints r) (same, of) =
-        (same, (ground.0, possibly_goes (old.told file) (λ b. IsGround b t) (λ b. OfGround b (λ u. OfFile old moves (λ text. ReportsReplay u text r.status r.text.items))) (λ b g. (t, g, of)) ground.1))
+        (same, (ground.0, possibly_goes (old.told file) (λ b. IsGround b t) (λ b. OfGround b (λ u. OfFile old moves (λ text. ReportsReplay u text (output_of r)))) (λ b g. (t, g, of)) ground.1))
     with_term (Refused r) (same, (f, of, line)) =
-        (same, (f, (ground.0, possibly_goes (old.told file) (λ b. IsGround b t) (λ b. FaultyText true b f ⊎ OfGround b (λ u. OfFile old moves (λ text. FaultySchedule u text f))) (λ b g. inr (t, g, of)) ground.1), line))
+        (same, (f, (ground.0, possibly_goes (old.told file) (λ b. IsGround b t) (λ b. FaultyEither b (λ u. OfFile old moves (λ text. FaultySchedule u text f)) f) (λ b g. inr (t, g, of)) ground.1), line))
     with_term BadWords h = h
     with_term NotRead h = (tt, record { cause = ⊎_elim (λ (l : IsTrue (old.lacks moves)). inl (inr (has_number, l))) (λ r. inr r) h.cause; sure = λ s. inr (has_number, h.sure s) })
     with_term NoMemory h = h
 
-  pub schedule_job : (mid : FilesState) (net : NetTree) (a : Answer) → FilesKept old mid → MadeNet file old mid net → ((t : TermTree) → HasType [] t nat → net ≡ net_of t → AnswersSchedule t moves mid new a) → AnswersJob (replay file moves) old new a
+  pub schedule_job : (mid : FilesState) (net : NetTree) (a : Answer) → FilesKept old mid → MadeNet file old mid net → ((t : TermTree) → HasType [] t nat → net ≡ net_of t → AnswersSchedule t moves mid new a) → AnswersDeed (with_schedule file moves) old new a
   schedule_job mid net a kept made h =
       with_term made.term made.ground a (subst (λ (s : FilesState). AnswersSchedule made.term moves s new a) (same_state old mid kept made.faults) (h made.term made.typed made.net_is))
 
@@ -54,11 +55,10 @@ module _ (file moves : List ℕ) (old new : FilesState) where
 unread : {S : Type 0} (one : S → Reading → S → Type 0) (name : List ℕ) (limit : ℕ) (old : S) → LoadedBy one name limit old old
 unread one name limit old = record { log = []; came = refl; few = omega arith; each = All-nil (ReadsWithin name limit) }
 
--- reading nothing is within every job's reads
-pub nothing_read : {S : Type 0} (one : S → Reading → S → Type 0) (job : Option JobTree) (old : S) → ReadForJob one job old old
-nothing_read one None old = refl
-nothing_read one (Some (run file workers budget schedule tally)) old = unread one file _ old
-nothing_read one (Some (check file term)) old = unread one file _ old
-nothing_read one (Some (show_net file)) old = unread one file _ old
-nothing_read one (Some (replay file moves)) old = record { mid = old; program = unread one file _ old; schedule = inl refl }
-nothing_read one (Some (demo n workers)) old = refl
+-- reading nothing is within every deed's reads
+pub nothing_read : {S : Type 0} (one : S → Reading → S → Type 0) (told : List ℕ → Option (List ℕ)) (asked : Option Deed) (old : S) → ReadFor one told asked old old
+nothing_read one told None old = refl
+nothing_read one told (Some (with_text task file)) old = unread one file _ old
+nothing_read one told (Some (with_schedule file moves)) old = record { mid = old; program = unread one file _ old; schedule = inl refl }
+nothing_read one told (Some (with_list file workers)) old = record { mid = old; list = unread one file _ old; programs = inl refl }
+nothing_read one told (Some (generated n workers)) old = refl

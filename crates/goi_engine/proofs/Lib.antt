@@ -1,14 +1,7 @@
 pub mod Answered
-pub mod Brief
 pub mod Kept
-pub mod Listed
+pub mod Lists
 pub mod Loading
-pub mod Ran
-pub mod Replayed
 pub mod Settled
-pub mod Short
-pub mod Shown
-pub mod Sized
-pub mod Texts
 pub mod Told
 pub mod Writing

@@ -1,5 +1,5 @@
 -- What was loaded of a file says all that its bytes say: it is the file itself, or more bytes than there may be.
-use Rattle.std.proofs.Common.{◌≡◌, ◌⊎◌, ℕ, zero, suc, ◌+◌, ◌<◌, ◌≤◌, Bool, true, List, length, take, Option, Some, None, IfSome, Result, Ok, Err, IfOk, IfErr, refl, sym, IsTrue, inl, inr, ap, ◌∙◌, subst, ⊎_elim, arith}
+use Rattle.std.proofs.Common.{◌≡◌, ◌⊎◌, ℕ, zero, suc, ◌+◌, ◌<◌, ◌≤◌, List, length, take, Option, Some, None, IfSome, Result, Ok, Err, IfOk, IfErr, refl, sym, IsTrue, inl, inr, ap, ◌∙◌, subst, ⊎_elim, arith}
 use Rattle.std.proofs.lemmas.List.{take_all, length-take-le}
 use Rattle.std.proofs.lemmas.Bool.{cases_lt}
 use Rattle.pcf_values.specs.Most.{most_program_bytes, most_schedule_bytes}
@@ -9,19 +9,26 @@ use Rattle.pcf_reader.specs.declared.fault.ReadFault.{ReadFault}
 use Rattle.pcf_reader.specs.declared.fault.ReadFault.TheVariants as read
 use Rattle.pcf_reader.specs.Correct.{Text, TokenFault, FirstFault}
 use Rattle.net_build.specs.Nets.{NetTree}
+use Rattle.net_text.specs.declared.fault.NetTextFault.{NetTextFault}
+use Rattle.net_text.specs.declared.fault.NetTextFault.TheVariants as listing
+use Rattle.net_text.specs.Accepted.{Accepts, ListsProgram}
+use Rattle.net_text.specs.Limits.{most_text_bytes}
+use Rattle.net_text.specs.NetText.{TextOf}
 use Rattle.schedule_log.specs.declared.fault.ScheduleFault.{ScheduleFault}
 use Rattle.schedule_log.specs.declared.fault.ScheduleFault.TheVariants as schedule
 use Rattle.schedule_log.specs.Schedules.{HasFault, ReadAs}
-use Rattle.goi_engine.specs.declared.fault.Fault.{Fault}
-use Rattle.goi_engine.specs.declared.fault.Fault.TheVariants.{Read, Typing, NotGround, Schedule, Moves}
-use Rattle.goi_engine.specs.declared.task.Task.{Task}
+use Rattle.goi_tasks.specs.declared.fault.Fault.{Fault}
+use Rattle.goi_tasks.specs.declared.task.Task.{Task}
+use Rattle.goi_tasks.specs.declared.task.Task.TheVariants.{Run, Check, ShowNet, RunNet}
 use Rattle.goi_engine.specs.declared.answer.Answer.{Answer}
 use Rattle.goi_engine.specs.declared.answer.Answer.TheVariants.{Prints, Refused, BadWords, NotRead, NoMemory}
 use Rattle.goi_engine.specs.Answers.{Says, AnswersFile, AnswersNoNet, MadeNet}
 use Rattle.goi_engine.specs.FilesSeen.{FilesState, Possibly}
-use Rattle.goi_engine.specs.Programs.{IsProgram, IsGround, FaultyText, IsNet}
-use Rattle.goi_engine.specs.Replaying.{ReportsReplay, FaultySchedule}
-use Rattle.goi_engine.specs.Tasks.{wants_number, ReportsText}
+use Rattle.goi_tasks.specs.NetFiles.{FaultyListing, unlisted}
+use Rattle.goi_tasks.specs.Outputs.{Output, output_of}
+use Rattle.goi_tasks.specs.Programs.{Wanted, any_type, number, IsProgram, IsGround, FaultyText, unread, of_tree, IsNet}
+use Rattle.goi_tasks.specs.Replaying.{ReportsReplay, FaultySchedule, unread as no_schedule, unmoved}
+use Rattle.goi_tasks.specs.Tasks.{wanted_by_run, OfProgram, most_bytes, ReportsText, FaultyFor}
 
 -- these are the same bytes, or both are more than there may be
 abbrev pub Same : ℕ → List ℕ → List ℕ → Type 0
@@ -79,27 +86,55 @@ first_goes : (v bytes : List ℕ) (f : ReadFault) → Same most_program_bytes v 
 first_goes v bytes f (inl e) x = subst (λ (b : List ℕ). FirstFault b f) e x
 first_goes v bytes f (inr n) x = too_long v bytes f n.0 n.1 x
 
-program_goes : (number : Bool) (tree : NamedTree) (t : TermTree) (A : TyTree) (v bytes : List ℕ) → Same most_program_bytes v bytes → IsProgram number v tree t A → IsProgram number bytes tree t A
-program_goes number tree t A v bytes s h = record { text = text_goes v bytes tree s h.text; typed = h.typed; will_do = h.will_do }
+program_goes : (wanted : Wanted) (tree : NamedTree) (t : TermTree) (A : TyTree) (v bytes : List ℕ) → Same most_program_bytes v bytes → IsProgram wanted v tree t A → IsProgram wanted bytes tree t A
+program_goes wanted tree t A v bytes s h = record { text = text_goes v bytes tree s h.text; typed = h.typed; will_do = h.will_do }
 
-pub faulty_goes : (number : Bool) (f : Fault) (v bytes : List ℕ) → Same most_program_bytes v bytes → FaultyText number v f → FaultyText number bytes f
-faulty_goes number (Read f) v bytes s h = first_goes v bytes f s h
-faulty_goes number (Typing f) v bytes s (tree, x, h) = (tree, text_goes v bytes tree s x, h)
-faulty_goes number NotGround v bytes s (tree, x, h) = (tree, text_goes v bytes tree s x, h)
-faulty_goes number (Schedule f) v bytes s h = h
-faulty_goes number (Moves f) v bytes s h = h
+pub faulty_goes : (wanted : Wanted) (f : Fault) (v bytes : List ℕ) → Same most_program_bytes v bytes → FaultyText wanted v f → FaultyText wanted bytes f
+faulty_goes wanted _ v bytes s (unread f h) = unread f (first_goes v bytes f s h)
+faulty_goes wanted f v bytes s (of_tree tree _ x h) = of_tree tree f (text_goes v bytes tree s x) h
 
-pub report_goes : (task : Task) (status : ℕ) (report : List ℕ) (v bytes : List ℕ) → Same most_program_bytes v bytes → ReportsText task v status report → ReportsText task bytes status report
-report_goes task status report v bytes s h = record {
-  tree = h.tree;
-  term = h.term;
-  type = h.type;
-  is = program_goes (wants_number task) h.tree h.term h.type v bytes s h.is;
-  reports = h.reports;
-}
+of_program_goes : (wanted : Wanted) (P : NamedTree → TermTree → TyTree → Type 0) (v bytes : List ℕ) → Same most_program_bytes v bytes → OfProgram wanted v P → OfProgram wanted bytes P
+of_program_goes wanted P v bytes s h = record { tree = h.tree; term = h.term; type = h.type; is = program_goes wanted h.tree h.term h.type v bytes s h.is; so = h.so }
+
+-- ---- the listing of a net
+
+lists_goes : (t : TermTree) (v bytes : List ℕ) → Same most_text_bytes v bytes → ListsProgram v t → ListsProgram bytes t
+lists_goes t v bytes (inl e) h = subst (λ (b : List ℕ). ListsProgram b t) e h
+lists_goes t v bytes (inr n) h = absurd (omega (arith, n.0, h.short))
+
+no_text_of : (v : List ℕ) (net : NetTree) → most_text_bytes < length v → TextOf v net → ⊥
+no_text_of v net n h = omega (arith, n, h.short)
+
+far_too_long : (v bytes : List ℕ) (f : NetTextFault) → most_text_bytes < length v → most_text_bytes < length bytes → Accepts v (Err f) → Accepts bytes (Err f)
+far_too_long v bytes listing.NoMemory m n h = tt
+far_too_long v bytes listing.TooLong m n h = n
+far_too_long v bytes (listing.BadLine k) m n h = absurd (omega (arith, m, h.0))
+far_too_long v bytes (listing.NotSound f) m n (net, x, h) = absurd (no_text_of v net m x)
+far_too_long v bytes listing.NotOfTerm m n (net, x, s, h) = absurd (no_text_of v net m x)
+
+accepts_goes : (f : NetTextFault) (v bytes : List ℕ) → Same most_text_bytes v bytes → Accepts v (Err f) → Accepts bytes (Err f)
+accepts_goes f v bytes (inl e) h = subst (λ (b : List ℕ). Accepts b (Err f)) e h
+accepts_goes f v bytes (inr n) h = far_too_long v bytes f n.0 n.1 h
+
+listing_goes : (f : Fault) (v bytes : List ℕ) → Same most_text_bytes v bytes → FaultyListing v f → FaultyListing bytes f
+listing_goes _ v bytes s (unlisted f n h) = unlisted f n (accepts_goes f v bytes s h)
+
+-- ---- the text of a task
+
+pub fault_goes : (task : Task) (f : Fault) (v bytes : List ℕ) → Same (most_bytes task) v bytes → FaultyFor task v f → FaultyFor task bytes f
+fault_goes (Run workers budget schedule tally by_value progress) f v bytes s h = faulty_goes (wanted_by_run by_value) f v bytes s h
+fault_goes (Check term) f v bytes s h = faulty_goes any_type f v bytes s h
+fault_goes ShowNet f v bytes s h = faulty_goes number f v bytes s h
+fault_goes (RunNet workers budget schedule tally) f v bytes s h = listing_goes f v bytes s h
+
+pub report_goes : (task : Task) (o : Output) (v bytes : List ℕ) → Same (most_bytes task) v bytes → ReportsText task v o → ReportsText task bytes o
+report_goes (Run workers budget schedule tally by_value progress) o v bytes s h = of_program_goes (wanted_by_run by_value) _ v bytes s h
+report_goes (Check term) o v bytes s h = of_program_goes any_type _ v bytes s h
+report_goes ShowNet o v bytes s h = of_program_goes number _ v bytes s h
+report_goes (RunNet workers budget schedule tally) o v bytes s h = record { term = h.term; lists = lists_goes h.term v bytes s h.lists; so = h.so }
 
 pub ground_goes : (t : TermTree) (v bytes : List ℕ) → Same most_program_bytes v bytes → IsGround v t → IsGround bytes t
-ground_goes t v bytes s (tree, h) = (tree, program_goes true tree t nat v bytes s h)
+ground_goes t v bytes s (tree, h) = (tree, program_goes number tree t nat v bytes s h)
 
 -- ---- the text of a schedule
 
@@ -120,31 +155,27 @@ schedule_goes : (r : Result (List ℕ) ScheduleFault) (v text : List ℕ) → Sa
 schedule_goes r v text (inl e) h = subst (λ (b : List ℕ). ReadAs b r) e h
 schedule_goes r v text (inr n) h = much_too_long v text r n.0 n.1 h
 
-pub replay_goes : (t : TermTree) (status : ℕ) (report : List ℕ) (v text : List ℕ) → Same most_schedule_bytes v text → ReportsReplay t v status report → ReportsReplay t text status report
-replay_goes t status report v text s h = record {
+pub replay_goes : (t : TermTree) (o : Output) (v text : List ℕ) → Same most_schedule_bytes v text → ReportsReplay t v o → ReportsReplay t text o
+replay_goes t o v text s h = record {
   tickets = h.tickets;
   schedule = schedule_goes (Ok h.tickets) v text s h.schedule;
   state = h.state;
   led = h.led;
   agrees = h.agrees;
-  ends = h.ends;
-  text_is = h.text_is;
+  output_is = h.output_is;
 }
 
 pub moves_goes : (t : TermTree) (f : Fault) (v text : List ℕ) → Same most_schedule_bytes v text → FaultySchedule t v f → FaultySchedule t text f
-moves_goes t (Read f) v text s h = h
-moves_goes t (Typing f) v text s h = h
-moves_goes t NotGround v text s h = h
-moves_goes t (Schedule f) v text s h = (h.0, schedule_goes (Err f) v text s h.1)
-moves_goes t (Moves f) v text s h = record { known = h.known; tickets = h.tickets; schedule = schedule_goes (Ok h.tickets) v text s h.schedule; stops = h.stops }
+moves_goes t _ v text s (no_schedule f n h) = no_schedule f n (schedule_goes (Err f) v text s h)
+moves_goes t _ v text s (unmoved f tickets n h k) = unmoved f tickets n (schedule_goes (Ok tickets) v text s h) k
 
 -- ---- an answer to what was loaded
 
 -- what is said of what was loaded is the answer to the file
-pub answers_file : (limit : ℕ) (R : List ℕ → ℕ → List ℕ → Type 0) (P : List ℕ → Fault → Type 0) →
-    ((status : ℕ) (report : List ℕ) (v bytes : List ℕ) → Same limit v bytes → R v status report → R bytes status report) → ((f : Fault) (v bytes : List ℕ) → Same limit v bytes → P v f → P bytes f) →
+pub answers_file : (limit : ℕ) (R : List ℕ → Output → Type 0) (P : List ℕ → Fault → Type 0) →
+    ((o : Output) (v bytes : List ℕ) → Same limit v bytes → R v o → R bytes o) → ((f : Fault) (v bytes : List ℕ) → Same limit v bytes → P v f → P bytes f) →
     (file : List ℕ) (old new : FilesState) (v : List ℕ) (a : Answer) → new.faults ≡ old.faults → (IsTrue (old.lacks file) → ⊥) → IfSome (old.told file) (λ bytes. v ≡ take (limit + 1) bytes) → Says (R v) (P v) a → AnswersFile R P file old new a
-answers_file limit R P goes moves file old new v (Prints r) same had e h = (same, (had, possible limit (λ b. R b r.status r.text.items) (goes r.status r.text.items) (old.told file) v e h))
+answers_file limit R P goes moves file old new v (Prints r) same had e h = (same, (had, possible limit (λ b. R b (output_of r)) (goes (output_of r)) (old.told file) v e h))
 answers_file limit R P goes moves file old new v (Refused r) same had e (f, h, line) = (same, (f, (had, possible limit (λ b. P b f) (moves f) (old.told file) v e h), line))
 answers_file limit R P goes moves file old new v BadWords same had e h = h
 answers_file limit R P goes moves file old new v NotRead same had e h = absurd h
@@ -165,6 +196,6 @@ nets_made file old new v (Ok net) same had e h = made_net file old new v net sam
 nets_made file old new v (Err x) same had e h = h
 
 pub none_made : {N : Type 0} (file : List ℕ) (old new : FilesState) (v : List ℕ) (r : Result N Answer) → new.faults ≡ old.faults → (IsTrue (old.lacks file) → ⊥) → IfSome (old.told file) (λ bytes. v ≡ take (most_program_bytes + 1) bytes) →
-    IfErr r (λ a. Says (λ status report. ⊥) (FaultyText true v) a) → IfErr r (λ a. AnswersNoNet file old new a)
+    IfErr r (λ a. Says (λ o. ⊥) (FaultyText number v) a) → IfErr r (λ a. AnswersNoNet file old new a)
 none_made file old new v (Ok net) same had e h = h
-none_made file old new v (Err a) same had e h = answers_file most_program_bytes (λ bytes status report. ⊥) (FaultyText true) (λ status report v b s x. x) (faulty_goes true) file old new v a same had e h
+none_made file old new v (Err a) same had e h = answers_file most_program_bytes (λ bytes o. ⊥) (FaultyText number) (λ o v b s x. x) (faulty_goes number) file old new v a same had e h

@@ -6,7 +6,8 @@ use Rattle.std.specs.Prelude.{◌≡◌, ◌⊎◌, ℕ, ◌<◌, List, length, 
 use Rattle.goi_world.specs.Outside.{Rose, with_more}
 use Rattle.goi_engine.specs.declared.answer.Answer.{Answer}
 use Rattle.goi_engine.specs.declared.answer.Answer.TheVariants.{Prints, Refused, BadWords, NotRead, NoMemory}
-use Rattle.goi_engine.specs.Refusals.{words_line, read_line, memory_line, write_line}
+use Rattle.goi_tasks.specs.Outputs.{Output, output_of}
+use Rattle.goi_tasks.specs.Refusals.{words_line, read_line, memory_line, write_line}
 
 -- what is seen of a sink
 pub record SinkState : Type 0 where
@@ -33,20 +34,22 @@ pub record Broke (text : List ℕ) (old new : SinkState) : Type 0 where
   pub rose : Rose old.faults new.faults
   pub short : old.spare < length text
 
--- the report was written whole with its status; or `out` failed, and then the line that says so was written, or `err` failed too
-abbrev pub Reported : ℕ → List ℕ → SinkState → SinkState → SinkState → SinkState → ℕ → Type 0
-Reported own report out out' err err' status =
-    ((status ≡ own) × Wrote report out out' × Untouched err err')
-    ⊎ ((status ≡ 4) × Broke report out out' × (Wrote write_line err err' ⊎ Broke write_line err err'))
+-- an output was delivered: the report was written whole to `out` and its notes to `err`; or `out` failed, and then the line that says so
+-- was written, or `err` failed too; or `err` failed at the notes
+abbrev pub Reported : Output → SinkState → SinkState → SinkState → SinkState → ℕ → Type 0
+Reported o out out' err err' status =
+    ((status ≡ o.status) × Wrote o.report out out' × Wrote o.notes err err')
+    ⊎ ((status ≡ 4) × Broke o.report out out' × (Wrote write_line err err' ⊎ Broke write_line err err'))
+    ⊎ ((status ≡ 4) × Wrote o.report out out' × Broke o.notes err err')
 
 -- the line of a refusal was written whole with its status, or `err` failed; nothing came to `out`
-abbrev pub Refuses : ℕ → List ℕ → SinkState → SinkState → SinkState → SinkState → ℕ → Type 0
-Refuses own line out out' err err' status = Untouched out out' × (((status ≡ own) × Wrote line err err') ⊎ ((status ≡ 4) × Broke line err err'))
+abbrev pub RefusedAs : ℕ → List ℕ → SinkState → SinkState → SinkState → SinkState → ℕ → Type 0
+RefusedAs own line out out' err err' status = Untouched out out' × (((status ≡ own) × Wrote line err err') ⊎ ((status ≡ 4) × Broke line err err'))
 
 -- an answer was delivered to `out` and `err`
 abbrev pub Delivered : Answer → SinkState → SinkState → SinkState → SinkState → ℕ → Type 0
-Delivered (Prints report) out out' err err' status = Reported report.status report.text.items out out' err err' status
-Delivered (Refused refusal) out out' err err' status = Refuses refusal.status refusal.line.items out out' err err' status
-Delivered BadWords out out' err err' status = Refuses 2 words_line out out' err err' status
-Delivered NotRead out out' err err' status = Refuses 3 read_line out out' err err' status
-Delivered NoMemory out out' err err' status = Refuses 6 memory_line out out' err err' status
+Delivered (Prints report) out out' err err' status = Reported (output_of report) out out' err err' status
+Delivered (Refused refusal) out out' err err' status = RefusedAs refusal.status refusal.line.items out out' err err' status
+Delivered BadWords out out' err err' status = RefusedAs 2 words_line out out' err err' status
+Delivered NotRead out out' err err' status = RefusedAs 3 read_line out out' err err' status
+Delivered NoMemory out out' err err' status = RefusedAs 6 memory_line out out' err err' status

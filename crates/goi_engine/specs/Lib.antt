@@ -1,13 +1,10 @@
-pub mod Answers
-pub mod Delivers
-pub mod FilesSeen
-pub mod Listing
-pub mod Loads
-pub mod Programs
+-- what a reader has to believe: the promise, what comes of a job, and what is seen of files and sinks
 pub mod Promise
-pub mod Refusals
-pub mod Replaying
-pub mod Running
-pub mod Stops
-pub mod Tasks
+pub mod Deeds
 pub mod Verdicts
+pub mod FilesSeen
+pub mod ListsSeen
+pub mod Delivers
+-- what serves proofs and private contracts
+pub mod Answers
+pub mod Loads

@@ -3,13 +3,14 @@
 -- report is then the right one for some bytes, and so is the line of a fault.
 use Rattle.std.specs.Prelude.{◌≡◌, ◌≢◌, ◌⊎◌, ℕ, ◌≤◌, List, length, Option, None, Some}
 use Rattle.goi_world.specs.Outside.{Rose}
-use Rattle.goi_words.specs.Jobs.{JobTree}
-use Rattle.goi_engine.specs.declared.fault.Fault.{Fault}
+use Rattle.goi_tasks.specs.declared.fault.Fault.{Fault}
+use Rattle.goi_tasks.specs.Outputs.{Output}
 use Rattle.goi_engine.specs.Answers.{NotReadFor}
+use Rattle.goi_engine.specs.Deeds.{Deed}
 use Rattle.goi_engine.specs.Delivers.{SinkState, Untouched, Wrote, Broke}
 use Rattle.goi_engine.specs.FilesSeen.{FilesState, FilesKept}
-use Rattle.goi_engine.specs.Refusals.{most_line, IsLine, fault_line, fault_status, words_line, read_line, memory_line, write_line}
-use Rattle.goi_engine.specs.Verdicts.{ReportsJob, RefusesJob, CanDo, FaultyJob, SurelyLacks}
+use Rattle.goi_tasks.specs.Refusals.{most_line, IsLine, fault_line, fault_status, words_line, read_line, memory_line, write_line}
+use Rattle.goi_engine.specs.Verdicts.{Reports, Refuses, CanDo, Faulty, SurelyLacks}
 
 -- everything outside, at one moment
 pub record World : Type 0 where
@@ -25,66 +26,77 @@ pub record WroteLine (line : List ℕ) (old new : World) : Type 0 where
   pub out : Untouched old.out new.out
   pub err : Wrote line old.err new.err
 
--- the report of the job, which ends with this status, was written whole, and nothing to `err`
-pub record Printed (status : ℕ) (j : JobTree) (old new : World) : Type 0 where
-  pub report : List ℕ
-  pub right : ReportsJob j old.files status report
-  pub out : Wrote report old.out new.out
-  pub err : Untouched old.err new.err
+-- the output of the deed, which ends with this status, was written whole: the report to `out`, and the notes behind it to `err`
+pub record Printed (status : ℕ) (d : Deed) (old new : World) : Type 0 where
+  pub output : Output
+  pub right : Reports d old.files output
+  pub of_status : output.status ≡ status
+  pub out : Wrote output.report old.out new.out
+  pub err : Wrote output.notes old.err new.err
 
--- the line of a fault of this status was written, which is the job's first
-pub record RefusedFault (status : ℕ) (j : JobTree) (old new : World) : Type 0 where
+-- the line of a fault of this status was written, which is the deed's first
+pub record RefusedFault (status : ℕ) (d : Deed) (old new : World) : Type 0 where
   pub fault : Fault
-  pub right : RefusesJob j old.files fault
+  pub right : Refuses d old.files fault
   pub of_status : fault_status fault ≡ status
   pub line : List ℕ
   pub is_line : IsLine fault line
   pub wrote : WroteLine line old new
 
--- `out` failed behind a prefix of the job's report; then the line that says so was written to `err`, or a prefix of it before `err`
+-- `out` failed behind a prefix of the deed's report; then the line that says so was written to `err`, or a prefix of it before `err`
 -- failed too
-pub record OutFailed (job : Option JobTree) (old new : World) : Type 0 where
-  pub j : JobTree
-  pub asked : job ≡ Some j
-  pub status : ℕ
-  pub report : List ℕ
-  pub right : ReportsJob j old.files status report
-  pub out : Broke report old.out new.out
+pub record OutFailed (asked : Option Deed) (old new : World) : Type 0 where
+  pub d : Deed
+  pub is_asked : asked ≡ Some d
+  pub output : Output
+  pub right : Reports d old.files output
+  pub out : Broke output.report old.out new.out
   pub err : Wrote write_line old.err new.err ⊎ Broke write_line old.err new.err
 
--- the line of the refusal that stands: of the words, of a file that was not read, of want of memory, or of the job's first fault
-pub data RefusalLine (job : Option JobTree) (old new : World) : List ℕ → Type 0 where
-  of_words : job ≡ None → RefusalLine job old new words_line
-  of_read : (j : JobTree) → job ≡ Some j → NotReadFor j old.files new.files → RefusalLine job old new read_line
-  of_memory : RefusalLine job old new memory_line
-  of_fault : (j : JobTree) (f : Fault) (line : List ℕ) → job ≡ Some j → RefusesJob j old.files f → IsLine f line → RefusalLine job old new line
+-- the line of the refusal that stands: of the words, of a file that was not read, of want of memory, or of the deed's first fault
+pub data RefusalLine (asked : Option Deed) (old new : World) : List ℕ → Type 0 where
+  of_words : asked ≡ None → RefusalLine asked old new words_line
+  of_read : (d : Deed) → asked ≡ Some d → NotReadFor d old.files new.files → RefusalLine asked old new read_line
+  of_memory : RefusalLine asked old new memory_line
+  of_fault : (d : Deed) (f : Fault) (line : List ℕ) → asked ≡ Some d → Refuses d old.files f → IsLine f line → RefusalLine asked old new line
 
 -- `err` failed behind a prefix of that line, and nothing was written to `out`
-pub record ErrFailed (job : Option JobTree) (old new : World) : Type 0 where
+pub record ErrFailed (asked : Option Deed) (old new : World) : Type 0 where
   pub line : List ℕ
-  pub stands : RefusalLine job old new line
+  pub stands : RefusalLine asked old new line
   pub out : Untouched old.out new.out
   pub err : Broke line old.err new.err
 
--- what status 0 means: all is done, and the report stands in `out`; and status 5: so does the report of a run that came to no value
-abbrev pub MeansPrinted : ℕ → Option JobTree → World → World → Type 0
-MeansPrinted status job old new = (j : JobTree) × (job ≡ Some j) × Printed status j old new
+-- the whole report was written, and `err` failed behind a prefix of its notes
+pub record NotesFailed (asked : Option Deed) (old new : World) : Type 0 where
+  pub d : Deed
+  pub is_asked : asked ≡ Some d
+  pub output : Output
+  pub right : Reports d old.files output
+  pub out : Wrote output.report old.out new.out
+  pub err : Broke output.notes old.err new.err
 
--- status 1: the program has a fault, and the line that tells it stands in `err`; and status 7: so it is with the schedule
-abbrev pub MeansFault : ℕ → Option JobTree → World → World → Type 0
-MeansFault status job old new = (j : JobTree) × (job ≡ Some j) × RefusedFault status j old new
+-- what status 0 means: all is done, and the report stands in `out`; status 5: so does the report of a run that came to no value, or of a
+-- list of which a program came to none; and status 1, where a program of a list is refused: so does the report on that list
+abbrev pub MeansPrinted : ℕ → Option Deed → World → World → Type 0
+MeansPrinted status asked old new = (d : Deed) × (asked ≡ Some d) × Printed status d old new
+
+-- status 1: the program has a fault, and the line that tells it stands in `err`; and status 7: so it is with the schedule, the net file or
+-- the list
+abbrev pub MeansFault : ℕ → Option Deed → World → World → Type 0
+MeansFault status asked old new = (d : Deed) × (asked ≡ Some d) × RefusedFault status d old new
 
 -- status 2: the words ask for nothing
-abbrev pub MeansBadWords : Option JobTree → World → World → Type 0
-MeansBadWords job old new = (job ≡ None) × WroteLine words_line old new
+abbrev pub MeansBadWords : Option Deed → World → World → Type 0
+MeansBadWords asked old new = (asked ≡ None) × WroteLine words_line old new
 
--- status 3: a file of the job was not read
-abbrev pub MeansNotRead : Option JobTree → World → World → Type 0
-MeansNotRead job old new = (j : JobTree) × (job ≡ Some j) × NotReadFor j old.files new.files × WroteLine read_line old new
+-- status 3: a file of the deed was not read
+abbrev pub MeansNotRead : Option Deed → World → World → Type 0
+MeansNotRead asked old new = (d : Deed) × (asked ≡ Some d) × NotReadFor d old.files new.files × WroteLine read_line old new
 
 -- status 4: a write failed
-abbrev pub MeansNotWritten : Option JobTree → World → World → Type 0
-MeansNotWritten job old new = OutFailed job old new ⊎ ErrFailed job old new
+abbrev pub MeansNotWritten : Option Deed → World → World → Type 0
+MeansNotWritten asked old new = OutFailed asked old new ⊎ ErrFailed asked old new ⊎ NotesFailed asked old new
 
 -- status 6: there was no memory
 abbrev pub MeansNoMemory : World → World → Type 0
@@ -100,38 +112,39 @@ pub record NoneFailed (old new : World) : Type 0 where
   pub out : Rose old.out.faults new.out.faults → ⊥
   pub err : Rose old.err.faults new.err.faults → ⊥
 
--- the sinks are sure to take what may come: `out` any report of the job, and `err` any line
-pub record SureRoom (job : Option JobTree) (old : World) : Type 0 where
-  pub out : (j : JobTree) (status : ℕ) (report : List ℕ) → job ≡ Some j → ReportsJob j old.files status report → length report ≤ old.out.spare
+-- the sinks are sure to take what may come: `out` any report of the deed, and `err` any line of a refusal and the notes of any output
+pub record SureRoom (asked : Option Deed) (old : World) : Type 0 where
+  pub out : (d : Deed) (o : Output) → asked ≡ Some d → Reports d old.files o → length o.report ≤ old.out.spare
   pub err : most_line ≤ old.err.spare
+  pub notes : (d : Deed) (o : Output) → asked ≡ Some d → Reports d old.files o → length o.notes ≤ old.err.spare
 
--- where the files tell what the job needs: what it can be done with gives its report, with the status with which it ends on it
-abbrev pub CompleteReport : Option JobTree → World → World → ℕ → Type 0
-CompleteReport job old new status = (j : JobTree) (own : ℕ) → job ≡ Some j → CanDo j old.files own → NoneFailed old new → (status ≡ own) ⊎ (status ≡ 6)
+-- where the files tell what the deed needs: what it can be done with gives its report, with the status with which it ends on it
+abbrev pub CompleteReport : Option Deed → World → World → ℕ → Type 0
+CompleteReport asked old new status = (d : Deed) (own : ℕ) → asked ≡ Some d → CanDo d old.files own → NoneFailed old new → (status ≡ own) ⊎ (status ≡ 6)
 
 -- and what has a fault gives the line of that fault, and its status
-abbrev pub CompleteFault : Option JobTree → World → World → ℕ → Type 0
-CompleteFault job old new status =
-    (j : JobTree) (f : Fault) → job ≡ Some j → FaultyJob j old.files f → NoneFailed old new → ((status ≡ fault_status f) × WroteLine (fault_line f) old new) ⊎ (status ≡ 6)
+abbrev pub CompleteFault : Option Deed → World → World → ℕ → Type 0
+CompleteFault asked old new status =
+    (d : Deed) (f : Fault) → asked ≡ Some d → Faulty d old.files f → NoneFailed old new → ((status ≡ fault_status f) × WroteLine (fault_line f) old new) ⊎ (status ≡ 6)
 
--- words without a job are refused
-abbrev pub CompleteWords : Option JobTree → World → World → ℕ → Type 0
-CompleteWords job old new status = job ≡ None → NoneFailed old new → (status ≡ 2) ⊎ (status ≡ 6)
+-- words that ask for nothing are refused
+abbrev pub CompleteWords : Option Deed → World → World → ℕ → Type 0
+CompleteWords asked old new status = asked ≡ None → NoneFailed old new → (status ≡ 2) ⊎ (status ≡ 6)
 
--- a file that is lacked can't be read, where it is certain that the job comes to it
-abbrev pub CompleteLacked : Option JobTree → World → World → ℕ → Type 0
-CompleteLacked job old new status = (j : JobTree) → job ≡ Some j → SurelyLacks j old.files → NoneFailed old new → (status ≡ 3) ⊎ (status ≡ 6)
+-- a file that is lacked can't be read, where it is certain that the deed comes to it
+abbrev pub CompleteLacked : Option Deed → World → World → ℕ → Type 0
+CompleteLacked asked old new status = (d : Deed) → asked ≡ Some d → SurelyLacks d old.files → NoneFailed old new → (status ≡ 3) ⊎ (status ≡ 6)
 
--- the promise of the top call, for the job that was asked, the world before and after it, and the status that it gave
-pub record Promise (job : Option JobTree) (old new : World) (status : ℕ) : Type 0 where
-  pub done : status ≡ 0 → MeansPrinted 0 job old new
-  pub fault : status ≡ 1 → MeansFault 1 job old new
-  pub bad_words : status ≡ 2 → MeansBadWords job old new
-  pub not_read : status ≡ 3 → MeansNotRead job old new
-  pub not_written : status ≡ 4 → MeansNotWritten job old new
-  pub no_value : status ≡ 5 → MeansPrinted 5 job old new
+-- the promise of the top call, for the deed that was asked for, the world before and after it, and the status that it gave
+pub record Promise (asked : Option Deed) (old new : World) (status : ℕ) : Type 0 where
+  pub done : status ≡ 0 → MeansPrinted 0 asked old new
+  pub fault : status ≡ 1 → MeansFault 1 asked old new ⊎ MeansPrinted 1 asked old new
+  pub bad_words : status ≡ 2 → MeansBadWords asked old new
+  pub not_read : status ≡ 3 → MeansNotRead asked old new
+  pub not_written : status ≡ 4 → MeansNotWritten asked old new
+  pub no_value : status ≡ 5 → MeansPrinted 5 asked old new
   pub no_memory : status ≡ 6 → MeansNoMemory old new
-  pub schedule_fault : status ≡ 7 → MeansFault 7 job old new
+  pub file_fault : status ≡ 7 → MeansFault 7 asked old new
   -- no other status comes
   pub statuses : (status ≡ 0) ⊎ (status ≡ 1) ⊎ (status ≡ 2) ⊎ (status ≡ 3) ⊎ (status ≡ 4) ⊎ (status ≡ 5) ⊎ (status ≡ 6) ⊎ (status ≡ 7)
   -- what the files tell and lack stays
@@ -140,9 +153,9 @@ pub record Promise (job : Option JobTree) (old new : World) (status : ℕ) : Typ
   pub quiet : status ≢ 4 → Quiet old.out new.out × Quiet old.err new.err
   pub read : status ≢ 3 → status ≢ 4 → new.files.faults ≡ old.files.faults
   -- where the sinks are sure to take what may come, no write fails
-  pub sure : SureRoom job old → status ≢ 4
+  pub sure : SureRoom asked old → status ≢ 4
   -- what comes where nothing fails
-  pub reports : CompleteReport job old new status
-  pub refuses : CompleteFault job old new status
-  pub refuses_words : CompleteWords job old new status
-  pub refuses_lacked : CompleteLacked job old new status
+  pub reports : CompleteReport asked old new status
+  pub refuses : CompleteFault asked old new status
+  pub refuses_words : CompleteWords asked old new status
+  pub refuses_lacked : CompleteLacked asked old new status

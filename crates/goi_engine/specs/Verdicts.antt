@@ -1,20 +1,21 @@
--- What a job makes of files: the report on them and the status with which it ends, or the fault for which it refuses them, and which
--- reads it makes.
--- A job that names one program does its task with the text that is told of the program's file. A replay judges the program first, and
--- the schedule's file is read where the program is a number. The generated program needs no file.
-use Rattle.std.specs.Prelude.{◌≡◌, ◌⊎◌, ℕ, true, false, IsTrue, List, Option, None, Some}
+-- What a deed makes of files: its output, or the fault for which it refuses them, and which reads it makes.
+-- A replay judges the program first, and the schedule's file is read where the program is a number. A list is judged first, and then its
+-- programs are read; a fault of a program is told in the report. The generated program needs no file.
+use Rattle.std.specs.Prelude.{◌≡◌, ◌⊎◌, ℕ, IsTrue, List, Option, None, Some}
 use Rattle.goi_world.specs.Outside.{Reading}
 use Rattle.pcf_values.specs.Most.{most_program_bytes, most_schedule_bytes}
 use Rattle.pcf_values.specs.Terms.{TermTree}
-use Rattle.goi_words.specs.Jobs.{JobTree, run, check, show_net, replay, demo}
+use Rattle.net_build.specs.NetOf.{net_of}
 use Rattle.demo_text.specs.Demo.{demo_term}
-use Rattle.goi_engine.specs.declared.fault.Fault.{Fault}
-use Rattle.goi_engine.specs.declared.task.Task.TheVariants.{Run, Check, ShowNet}
+use Rattle.goi_tasks.specs.declared.fault.Fault.{Fault}
+use Rattle.goi_tasks.specs.Outputs.{Output}
+use Rattle.goi_tasks.specs.Programs.{number, IsGround, FaultyText}
+use Rattle.goi_tasks.specs.Running.{demo_budget, ReportsDemo, EndsRun}
+use Rattle.goi_tasks.specs.Replaying.{ReportsReplay, EndsReplay, FaultySchedule}
+use Rattle.goi_tasks.specs.Tasks.{most_bytes, ReportsText, FaultyFor, EndsText}
+use Rattle.goi_engine.specs.Deeds.{Deed, with_text, with_schedule, with_list, generated}
+use Rattle.goi_engine.specs.ListsSeen.{OfList, FaultyList, ReportsLines, EndLines, LacksOne, LoadedList}
 use Rattle.goi_engine.specs.FilesSeen.{FilesState, OfFile, OfTold, LoadedBy}
-use Rattle.goi_engine.specs.Programs.{IsGround, FaultyText}
-use Rattle.goi_engine.specs.Running.{demo_budget, ReportsDemo, EndsRun}
-use Rattle.goi_engine.specs.Replaying.{ReportsReplay, EndsReplay, FaultySchedule}
-use Rattle.goi_engine.specs.Tasks.{ReportsText, EndsText}
 
 -- the text is a program whose term is a number, of which this holds
 abbrev pub OfGround : List ℕ → (TermTree → Type 0) → Type 0
@@ -24,70 +25,64 @@ OfGround bytes P = (t : TermTree) × IsGround bytes t × P t
 abbrev pub HasNumber : List ℕ → Type 0
 HasNumber bytes = OfGround bytes (λ t. Unit {0})
 
--- ---- what comes of a job
+-- ---- what comes of a deed
 
--- the report of the job, by what the files tell, and the status with which it ends
-abbrev pub ReportsJob : JobTree → FilesState → ℕ → List ℕ → Type 0
-ReportsJob (run file workers budget schedule tally) files status report = OfFile files file (λ bytes. ReportsText (Run workers budget schedule tally) bytes status report)
-ReportsJob (check file term) files status report = OfFile files file (λ bytes. ReportsText (Check term) bytes status report)
-ReportsJob (show_net file) files status report = OfFile files file (λ bytes. ReportsText ShowNet bytes status report)
-ReportsJob (replay file moves) files status report =
-    OfFile files file (λ bytes. OfGround bytes (λ t. OfFile files moves (λ text. ReportsReplay t text status report)))
-ReportsJob (demo n workers) files status report = ReportsDemo n workers status report
+-- its output, by what the files tell
+abbrev pub Reports : Deed → FilesState → Output → Type 0
+Reports (with_text task file) files o = OfFile files file (λ bytes. ReportsText task bytes o)
+Reports (with_schedule file moves) files o = OfFile files file (λ bytes. OfGround bytes (λ t. OfFile files moves (λ text. ReportsReplay t text o)))
+Reports (with_list file workers) files o = OfFile files file (λ bytes. OfList bytes (λ lines. ReportsLines files workers lines o))
+Reports (generated n workers) files o = ReportsDemo n workers o
 
--- the job's first fault, by what the files tell
-abbrev pub RefusesJob : JobTree → FilesState → Fault → Type 0
-RefusesJob (run file workers budget schedule tally) files f = OfFile files file (λ bytes. FaultyText true bytes f)
-RefusesJob (check file term) files f = OfFile files file (λ bytes. FaultyText false bytes f)
-RefusesJob (show_net file) files f = OfFile files file (λ bytes. FaultyText true bytes f)
-RefusesJob (replay file moves) files f =
-    OfFile files file (λ bytes. FaultyText true bytes f ⊎ OfGround bytes (λ t. OfFile files moves (λ text. FaultySchedule t text f)))
-RefusesJob (demo n workers) files f = ⊥
+-- a program's text is refused for this fault, or the schedule of another file is, on the net of the program
+abbrev pub FaultyEither : List ℕ → (TermTree → Type 0) → Fault → Type 0
+FaultyEither bytes schedule f = FaultyText number bytes f ⊎ OfGround bytes schedule
 
--- the job comes to a file that is lacked
-abbrev pub LacksFor : JobTree → FilesState → Type 0
-LacksFor (run file workers budget schedule tally) files = IsTrue (files.lacks file)
-LacksFor (check file term) files = IsTrue (files.lacks file)
-LacksFor (show_net file) files = IsTrue (files.lacks file)
-LacksFor (replay file moves) files = IsTrue (files.lacks file) ⊎ (OfFile files file HasNumber × IsTrue (files.lacks moves))
-LacksFor (demo n workers) files = ⊥
+-- its first fault, by what the files tell
+abbrev pub Refuses : Deed → FilesState → Fault → Type 0
+Refuses (with_text task file) files f = OfFile files file (λ bytes. FaultyFor task bytes f)
+Refuses (with_schedule file moves) files f = OfFile files file (λ bytes. FaultyEither bytes (λ t. OfFile files moves (λ text. FaultySchedule t text f)) f)
+Refuses (with_list file workers) files f = OfFile files file (λ bytes. FaultyList bytes f)
+Refuses (generated n workers) files f = ⊥
+
+-- it comes to a file that is lacked
+abbrev pub LacksFor : Deed → FilesState → Type 0
+LacksFor (with_text task file) files = IsTrue (files.lacks file)
+LacksFor (with_schedule file moves) files = IsTrue (files.lacks file) ⊎ (OfFile files file HasNumber × IsTrue (files.lacks moves))
+LacksFor (with_list file workers) files = IsTrue (files.lacks file) ⊎ OfFile files file (λ bytes. OfList bytes (LacksOne files))
+LacksFor (generated n workers) files = ⊥
 
 -- ---- the same where the files are told
 
--- the files tell enough for the job, which can be done with it and ends with this status
-abbrev pub CanDo : JobTree → FilesState → ℕ → Type 0
-CanDo (run file workers budget schedule tally) files status = OfTold files file (λ bytes. EndsText (Run workers budget schedule tally) bytes status)
-CanDo (check file term) files status = OfTold files file (λ bytes. EndsText (Check term) bytes status)
-CanDo (show_net file) files status = OfTold files file (λ bytes. EndsText ShowNet bytes status)
-CanDo (replay file moves) files status = OfTold files file (λ bytes. OfGround bytes (λ t. OfTold files moves (λ text. EndsReplay t text status)))
-CanDo (demo n workers) files status = EndsRun demo_budget (demo_term n) status
+-- the files tell enough for the deed, which can be done with them and ends with this status
+abbrev pub CanDo : Deed → FilesState → ℕ → Type 0
+CanDo (with_text task file) files status = OfTold files file (λ bytes. EndsText task bytes status)
+CanDo (with_schedule file moves) files status = OfTold files file (λ bytes. OfGround bytes (λ t. OfTold files moves (λ text. EndsReplay t text status)))
+CanDo (with_list file workers) files status = OfTold files file (λ bytes. OfList bytes (λ lines. EndLines files workers lines status))
+CanDo (generated n workers) files status = EndsRun demo_budget (net_of (demo_term n)) status
 
--- the files tell enough for the job, and this is its first fault
-abbrev pub FaultyJob : JobTree → FilesState → Fault → Type 0
-FaultyJob (run file workers budget schedule tally) files f = OfTold files file (λ bytes. FaultyText true bytes f)
-FaultyJob (check file term) files f = OfTold files file (λ bytes. FaultyText false bytes f)
-FaultyJob (show_net file) files f = OfTold files file (λ bytes. FaultyText true bytes f)
-FaultyJob (replay file moves) files f =
-    OfTold files file (λ bytes. FaultyText true bytes f ⊎ OfGround bytes (λ t. OfTold files moves (λ text. FaultySchedule t text f)))
-FaultyJob (demo n workers) files f = ⊥
+-- the files tell enough for the deed, and this is its first fault
+abbrev pub Faulty : Deed → FilesState → Fault → Type 0
+Faulty (with_text task file) files f = OfTold files file (λ bytes. FaultyFor task bytes f)
+Faulty (with_schedule file moves) files f = OfTold files file (λ bytes. FaultyEither bytes (λ t. OfTold files moves (λ text. FaultySchedule t text f)) f)
+Faulty (with_list file workers) files f = OfTold files file (λ bytes. FaultyList bytes f)
+Faulty (generated n workers) files f = ⊥
 
--- the files tell enough to know that the job comes to a file that is lacked
-abbrev pub SurelyLacks : JobTree → FilesState → Type 0
-SurelyLacks (run file workers budget schedule tally) files = IsTrue (files.lacks file)
-SurelyLacks (check file term) files = IsTrue (files.lacks file)
-SurelyLacks (show_net file) files = IsTrue (files.lacks file)
-SurelyLacks (replay file moves) files = IsTrue (files.lacks file) ⊎ (OfTold files file HasNumber × IsTrue (files.lacks moves))
-SurelyLacks (demo n workers) files = ⊥
+-- the files tell enough to know that the deed comes to a file that is lacked
+abbrev pub SurelyLacks : Deed → FilesState → Type 0
+SurelyLacks (with_text task file) files = IsTrue (files.lacks file)
+SurelyLacks (with_schedule file moves) files = IsTrue (files.lacks file) ⊎ (OfTold files file HasNumber × IsTrue (files.lacks moves))
+SurelyLacks (with_list file workers) files = IsTrue (files.lacks file) ⊎ OfTold files file (λ bytes. OfList bytes (LacksOne files))
+SurelyLacks (generated n workers) files = ⊥
 
 -- ---- reads
 
--- the job reads a file
-abbrev pub ReadsFiles : JobTree → Type 0
-ReadsFiles (run file workers budget schedule tally) = Unit {0}
-ReadsFiles (check file term) = Unit {0}
-ReadsFiles (show_net file) = Unit {0}
-ReadsFiles (replay file moves) = Unit {0}
-ReadsFiles (demo n workers) = ⊥
+-- the deed reads a file
+abbrev pub ReadsFiles : Deed → Type 0
+ReadsFiles (with_text task file) = Unit {0}
+ReadsFiles (with_schedule file moves) = Unit {0}
+ReadsFiles (with_list file workers) = Unit {0}
+ReadsFiles (generated n workers) = ⊥
 
 -- a program's file was loaded, and then the schedule's, or nothing more was read
 pub record LoadedBoth {S : Type 0} (one : S → Reading → S → Type 0) (file moves : List ℕ) (old new : S) : Type 0 where
@@ -95,11 +90,11 @@ pub record LoadedBoth {S : Type 0} (one : S → Reading → S → Type 0) (file 
   pub program : LoadedBy one file most_program_bytes old mid
   pub schedule : (new ≡ mid) ⊎ LoadedBy one moves most_schedule_bytes mid new
 
--- files came from their first state to the second by the reads of the job, each file up to its limit; without a job by none
-abbrev pub ReadForJob : {S : Type 0} → (S → Reading → S → Type 0) → Option JobTree → S → S → Type 0
-ReadForJob one None old new = new ≡ old
-ReadForJob one (Some (run file workers budget schedule tally)) old new = LoadedBy one file most_program_bytes old new
-ReadForJob one (Some (check file term)) old new = LoadedBy one file most_program_bytes old new
-ReadForJob one (Some (show_net file)) old new = LoadedBy one file most_program_bytes old new
-ReadForJob one (Some (replay file moves)) old new = LoadedBoth one file moves old new
-ReadForJob one (Some (demo n workers)) old new = new ≡ old
+-- files came from their first state to the second by the reads of the deed, each file up to its limit; without a deed by none. Which files
+-- a list's programs are in is known where the list is told.
+abbrev pub ReadFor : {S : Type 0} → (S → Reading → S → Type 0) → (List ℕ → Option (List ℕ)) → Option Deed → S → S → Type 0
+ReadFor one told None old new = new ≡ old
+ReadFor one told (Some (with_text task file)) old new = LoadedBy one file (most_bytes task) old new
+ReadFor one told (Some (with_schedule file moves)) old new = LoadedBoth one file moves old new
+ReadFor one told (Some (with_list file workers)) old new = LoadedList one (told file) file old new
+ReadFor one told (Some (generated n workers)) old new = new ≡ old

@@ -1,32 +1,30 @@
 //! The answer to the words, as a value, before anything is written.
 
-ghost use Rattle.std.specs.Prelude.{◌≡◌, [], true, map, string_bytes, Some, IfOk, IfErr};
+ghost use Rattle.std.specs.Prelude.{◌≡◌, [], map, string_bytes, Some, IfOk, IfErr};
 ghost use Rattle.pcf_values.specs.Most.{most_program_bytes, most_schedule_bytes};
 ghost use Rattle.pcf_values.specs.Terms.{TermTree, nat};
 ghost use Rattle.pcf_values.specs.Typing.{HasType};
 ghost use Rattle.net_build.specs.NetOf.{net_of};
 ghost use Rattle.interleave_core.specs.Runs.{Runs};
 ghost use Rattle.goi_words.specs.Asked.{job};
-ghost use Rattle.goi_words.specs.Jobs.{IsDemo, IsWithinLimits, IsWorkers, job_of, replay};
-ghost use Rattle.goi_engine.specs.Answers.{Answers, AnswersJob, AnswersTask, AnswersSchedule, AnswersNoNet, MadeNet, Says, IsStopped};
+ghost use Rattle.goi_words.specs.Jobs.{IsDemo, IsWithinLimits, IsWorkers, job_of};
+ghost use Rattle.goi_engine.specs.Answers.{Answers, AnswersDeed, AnswersTask, AnswersSchedule, AnswersNoNet, MadeNet, Says, IsStopped};
+ghost use Rattle.goi_engine.specs.Deeds.{deed, deed_of, with_schedule};
 ghost use Rattle.goi_engine.specs.FilesSeen.{FilesKept, LoadedBy, files_seen};
-ghost use Rattle.goi_engine.specs.Programs.{FaultyText, IsNet};
-ghost use Rattle.goi_engine.specs.Replaying.{ReportsReplay, FaultySchedule};
-ghost use Rattle.goi_engine.specs.Running.{ReportsDemo};
-ghost use Rattle.goi_engine.specs.Tasks.{IsWithin, ReportsText, wants_number};
-ghost use Rattle.goi_engine.specs.Verdicts.{LoadedBoth, ReadForJob};
+ghost use Rattle.goi_tasks.specs.Programs.{number, FaultyText, IsNet};
+ghost use Rattle.goi_tasks.specs.Replaying.{ReportsReplay, FaultySchedule};
+ghost use Rattle.goi_tasks.specs.Running.{ReportsDemo};
+ghost use Rattle.goi_tasks.specs.Tasks.{IsWithin, ReportsText, FaultyFor, most_bytes};
+ghost use Rattle.goi_engine.specs.Verdicts.{LoadedBoth, ReadFor};
 
-use crate::demo::report_demo;
-use crate::judge::report_text;
+use crate::batching::answer_batch;
 use crate::load::{LoadError, load};
-use crate::program::net_of_text;
-use crate::refusal::{Refusal, refuse};
-use crate::replaying::report_replay;
-use crate::report::Report;
-use crate::stop::Stop;
-use crate::task::Task;
 use adequacy_laws::law_never_stuck;
 use gate_workers::Gate;
+use goi_tasks::{
+    Refusal, Report, Stop, Task, most_bytes, net_of_text, refuse, report_demo, report_replay,
+    report_text,
+};
 use goi_words::{Job, WordFault, job_of};
 use goi_world::Files;
 use net_build::Net;
@@ -59,8 +57,8 @@ pub(crate) fn answer_to<R: Threads + Wait + Sync, F: Files, G: Gate>(
     gate: &G,
 ) -> Answer
     ensures kept { FilesKept (files_seen (F.told files.old) (F.lacks files.old) (F.faults files.old) (F.steady files.old)) (files_seen (F.told files.new) (F.lacks files.new) (F.faults files.new) (F.steady files.new)) }
-    ensures answers { Answers (job (map string_bytes words.now)) (files_seen (F.told files.old) (F.lacks files.old) (F.faults files.old) (F.steady files.old)) (files_seen (F.told files.new) (F.lacks files.new) (F.faults files.new) (F.steady files.new)) result }
-    ensures reads { ReadForJob F.reads (job (map string_bytes words.now)) files.old files.new }
+    ensures answers { Answers (deed (job (map string_bytes words.now))) (files_seen (F.told files.old) (F.lacks files.old) (F.faults files.old) (F.steady files.old)) (files_seen (F.told files.new) (F.lacks files.new) (F.faults files.new) (F.steady files.new)) result }
+    ensures reads { ReadFor F.reads (F.told files.old) (deed (job (map string_bytes words.now))) files.old files.new }
 {
     match job_of(alloc, words) {
         Ok(job) => {
@@ -83,8 +81,8 @@ fn answer_job<R: Threads + Wait + Sync, F: Files, G: Gate>(
 ) -> Answer
     requires { IsWithinLimits (job_of job.now) }
     ensures kept { FilesKept (files_seen (F.told files.old) (F.lacks files.old) (F.faults files.old) (F.steady files.old)) (files_seen (F.told files.new) (F.lacks files.new) (F.faults files.new) (F.steady files.new)) }
-    ensures answers { AnswersJob (job_of job.now) (files_seen (F.told files.old) (F.lacks files.old) (F.faults files.old) (F.steady files.old)) (files_seen (F.told files.new) (F.lacks files.new) (F.faults files.new) (F.steady files.new)) result }
-    ensures reads { ReadForJob F.reads (Some (job_of job.now)) files.old files.new }
+    ensures answers { AnswersDeed (deed_of (job_of job.now)) (files_seen (F.told files.old) (F.lacks files.old) (F.faults files.old) (F.steady files.old)) (files_seen (F.told files.new) (F.lacks files.new) (F.faults files.new) (F.steady files.new)) result }
+    ensures reads { ReadFor F.reads (F.told files.old) (Some (deed_of (job_of job.now))) files.old files.new }
 {
     match job {
         Job::Run {
@@ -93,6 +91,8 @@ fn answer_job<R: Threads + Wait + Sync, F: Files, G: Gate>(
             budget,
             schedule,
             tally,
+            by_value,
+            progress,
         } => answer_task(
             rt,
             alloc,
@@ -103,6 +103,8 @@ fn answer_job<R: Threads + Wait + Sync, F: Files, G: Gate>(
                 budget: *budget,
                 schedule: *schedule,
                 tally: *tally,
+                by_value: *by_value,
+                progress: *progress,
             },
             gate,
         ),
@@ -121,11 +123,38 @@ fn answer_job<R: Threads + Wait + Sync, F: Files, G: Gate>(
             file.as_str(),
             schedule.as_str(),
         ),
+        Job::Batch { file, workers } => answer_batch(
+            rt,
+            alloc,
+            files,
+            file.as_str(),
+            *workers,
+            gate,
+        ),
         Job::Demo { n, workers } => answer_demo(rt, alloc, *n, *workers, gate),
+        Job::RunNet {
+            file,
+            workers,
+            budget,
+            schedule,
+            tally,
+        } => answer_task(
+            rt,
+            alloc,
+            files,
+            file.as_str(),
+            Task::RunNet {
+                workers: *workers,
+                budget: *budget,
+                schedule: *schedule,
+                tally: *tally,
+            },
+            gate,
+        ),
     }
 }
 
-/// The answer to a task on the program of a file.
+/// The answer to a task on the text of a file.
 fn answer_task<R: Threads + Wait + Sync, F: Files, G: Gate>(
     rt: &R,
     alloc: Global,
@@ -137,16 +166,16 @@ fn answer_task<R: Threads + Wait + Sync, F: Files, G: Gate>(
     requires { IsWithin task }
     ensures kept { FilesKept (files_seen (F.told files.old) (F.lacks files.old) (F.faults files.old) (F.steady files.old)) (files_seen (F.told files.new) (F.lacks files.new) (F.faults files.new) (F.steady files.new)) }
     ensures answers { AnswersTask task file.now (files_seen (F.told files.old) (F.lacks files.old) (F.faults files.old) (F.steady files.old)) (files_seen (F.told files.new) (F.lacks files.new) (F.faults files.new) (F.steady files.new)) result }
-    ensures reads { LoadedBy F.reads file.now most_program_bytes files.old files.new }
+    ensures reads { LoadedBy F.reads file.now (most_bytes task) files.old files.new }
 {
-    match load(alloc, files, file, PROGRAM_BYTES as u32) {
+    match load(alloc, files, file, most_bytes(task)) {
         Ok(bytes) => answer_text(rt, alloc, &bytes, task, gate),
         Err(error) => not_loaded(error),
     }
 }
 
 /// The answer where a file wasn't loaded.
-fn not_loaded(error: LoadError) -> Answer
+pub(crate) fn not_loaded(error: LoadError) -> Answer
     ensures failed { error ≡ LoadError.Failed → result ≡ Answer.NotRead }
     ensures memory { error ≡ LoadError.Memory → result ≡ Answer.NoMemory }
 {
@@ -157,7 +186,7 @@ fn not_loaded(error: LoadError) -> Answer
 }
 
 /// The answer where there is no report.
-fn stopped(alloc: Global, stop: Stop) -> Answer
+pub(crate) fn stopped(alloc: Global, stop: Stop) -> Answer
     ensures { IsStopped stop result }
 {
     match stop {
@@ -178,7 +207,7 @@ fn answer_text<R: Threads + Wait + Sync, G: Gate>(
     gate: &G,
 ) -> Answer
     requires { IsWithin task }
-    ensures { Says (ReportsText task bytes.now) (FaultyText (wants_number task) bytes.now) result }
+    ensures { Says (ReportsText task bytes.now) (FaultyFor task bytes.now) result }
 {
     match report_text(rt, alloc, bytes, task, gate) {
         Ok(report) => Answer::Prints(report),
@@ -189,7 +218,7 @@ fn answer_text<R: Threads + Wait + Sync, G: Gate>(
 /// The answer to a schedule on the net of a program.
 fn answer_replay<F: Files>(alloc: Global, files: &mut F, file: &str, schedule: &str) -> Answer
     ensures kept { FilesKept (files_seen (F.told files.old) (F.lacks files.old) (F.faults files.old) (F.steady files.old)) (files_seen (F.told files.new) (F.lacks files.new) (F.faults files.new) (F.steady files.new)) }
-    ensures answers { AnswersJob (replay file.now schedule.now) (files_seen (F.told files.old) (F.lacks files.old) (F.faults files.old) (F.steady files.old)) (files_seen (F.told files.new) (F.lacks files.new) (F.faults files.new) (F.steady files.new)) result }
+    ensures answers { AnswersDeed (with_schedule file.now schedule.now) (files_seen (F.told files.old) (F.lacks files.old) (F.faults files.old) (F.steady files.old)) (files_seen (F.told files.new) (F.lacks files.new) (F.faults files.new) (F.steady files.new)) result }
     ensures reads { LoadedBoth F.reads file.now schedule.now files.old files.new }
 {
     law_never_stuck();
@@ -219,7 +248,7 @@ fn load_net<F: Files>(alloc: Global, files: &mut F, file: &str) -> Result<Net, A
 /// The net of the program of a text, or the answer where there is none.
 fn make_net(alloc: Global, bytes: &[u8]) -> Result<Net, Answer>
     ensures net { IfOk result (λ net. IsNet bytes.now net) }
-    ensures none { IfErr result (λ a. Says (λ status report. ⊥) (FaultyText true bytes.now) a) }
+    ensures none { IfErr result (λ a. Says (λ o. ⊥) (FaultyText number bytes.now) a) }
 {
     match net_of_text(alloc, bytes) {
         Ok(net) => Ok(net),

@@ -1,10 +1,11 @@
 //! Writing what was answered.
 
 ghost use Rattle.std.specs.Prelude.{◌≡◌, ◌⊎◌, MatchResult};
-ghost use Rattle.goi_engine.specs.Delivers.{sink, Wrote, Broke, Reported, Refuses, Delivered};
+ghost use Rattle.goi_tasks.specs.Outputs.{output_of};
+ghost use Rattle.goi_engine.specs.Delivers.{sink, Wrote, Broke, Reported, Delivered};
 
 use crate::answer::Answer;
-use crate::report::Report;
+use goi_tasks::Report;
 use goi_world::{Failed, Sink};
 
 /// Writes a text whole, or a prefix of it before a failure.
@@ -29,21 +30,21 @@ pub(crate) fn deliver<O: Sink, E: Sink>(answer: &Answer, out: &mut O, err: &mut 
 {
     match answer {
         Answer::Prints(report) => print(out, err, report),
-        Answer::Refused(refusal) => refuse(err, refusal.status, &refusal.line),
-        Answer::BadWords => refuse(err, 2, b"refused words\n"),
-        Answer::NotRead => refuse(err, 3, b"read failed\n"),
-        Answer::NoMemory => refuse(err, 6, b"no memory\n"),
+        Answer::Refused(refusal) => tell(err, refusal.status, &refusal.line),
+        Answer::BadWords => tell(err, 2, b"refused words\n"),
+        Answer::NotRead => tell(err, 3, b"read failed\n"),
+        Answer::NoMemory => tell(err, 6, b"no memory\n"),
     }
 }
 
-/// Writes the report to `out` and gives its status; or says on `err` that `out` failed.
+/// Writes the report to `out` and its notes to `err`, and gives its status; or says on `err` that `out` failed.
 fn print<O: Sink, E: Sink>(out: &mut O, err: &mut E, report: &Report) -> u8
-    ensures { Reported report.now.status report.now.text.items
+    ensures { Reported (output_of report.now)
         (sink (O.written out.old) (O.faults out.old) (O.spare out.old)) (sink (O.written out.new) (O.faults out.new) (O.spare out.new))
         (sink (E.written err.old) (E.faults err.old) (E.spare err.old)) (sink (E.written err.new) (E.faults err.new) (E.spare err.new)) result }
 {
     match write_all(out, &report.text) {
-        Ok(()) => report.status,
+        Ok(()) => tell(err, report.status, &report.notes),
         Err(_) => {
             let _ = write_all(err, b"write failed\n");
             4
@@ -51,8 +52,8 @@ fn print<O: Sink, E: Sink>(out: &mut O, err: &mut E, report: &Report) -> u8
     }
 }
 
-/// Writes the line of a refusal with this status.
-fn refuse<E: Sink>(err: &mut E, status: u8, line: &[u8]) -> u8
+/// Writes the line of a refusal, or the notes of a report, and gives the status that goes with it.
+fn tell<E: Sink>(err: &mut E, status: u8, line: &[u8]) -> u8
     ensures { (result ≡ status) × Wrote line.now (sink (E.written err.old) (E.faults err.old) (E.spare err.old)) (sink (E.written err.new) (E.faults err.new) (E.spare err.new))
         ⊎ (result ≡ 4) × Broke line.now (sink (E.written err.old) (E.faults err.old) (E.spare err.old)) (sink (E.written err.new) (E.faults err.new) (E.spare err.new)) }
 {

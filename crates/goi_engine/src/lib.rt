@@ -6,20 +6,9 @@
 #![tactic(auto)]
 
 mod answer;
+mod batching;
 mod deliver;
-mod demo;
-mod fault;
-mod judge;
-mod listing;
 mod load;
-mod program;
-mod refusal;
-mod replaying;
-mod report;
-mod running;
-mod stop;
-mod task;
 mod top;
 
-pub use listing::net_text;
 pub use top::goi;

@@ -2,13 +2,17 @@
 
 ghost use Rattle.std.specs.Prelude.{map, string_bytes};
 ghost use Rattle.goi_engine.specs.Delivers.{sink};
+ghost use Rattle.net_text.specs.Accepted.{OneAnswer};
 ghost use Rattle.goi_words.specs.Asked.{job};
+ghost use Rattle.goi_engine.specs.Deeds.{deed};
 ghost use Rattle.goi_engine.specs.FilesSeen.{files_seen};
 ghost use Rattle.goi_engine.specs.Promise.{world, Promise};
-ghost use Rattle.goi_engine.specs.Verdicts.{ReadForJob};
+ghost use Rattle.goi_engine.specs.Verdicts.{ReadFor};
 
 use crate::answer::answer_to;
 use crate::deliver::deliver;
+use batch_pool::law_one_list;
+use cbv_terms::law_faults;
 use gate_workers::Gate;
 use goi_world::{Files, Sink};
 use pcf_reader::{law_one_fault, law_one_tree, law_text_or_fault};
@@ -25,13 +29,14 @@ use std::thread::Threads;
 /// passes the gate before each of its pieces. The statuses:
 ///
 /// - 0: all is done, and the report stands in `out`;
-/// - 1: the program has a fault, which the line tells;
+/// - 1: the program has a fault, which the line tells; or a program of a list has one, which the report tells;
 /// - 2: the words ask for nothing;
 /// - 3: a file could not be read;
 /// - 4: `out` or `err` failed;
-/// - 5: the program came to no value within the budget of moves, or the schedule to none, which the report says;
+/// - 5: the program came to no value within the budget of moves, or the schedule to none, or a program of a list of which none has a
+///   fault, which the report says;
 /// - 6: there was no memory;
-/// - 7: the schedule has a fault, which the line tells.
+/// - 7: the schedule, the net file or the list has a fault, which the line tells.
 pub fn goi<R: Threads + Wait + Sync, F: Files, O: Sink, E: Sink, G: Gate>(
     rt: &R,
     alloc: Global,
@@ -41,19 +46,29 @@ pub fn goi<R: Threads + Wait + Sync, F: Files, O: Sink, E: Sink, G: Gate>(
     err: &mut E,
     gate: &G,
 ) -> u8
-    ensures promise { let asked = job (map string_bytes words.now) in
+    ensures promise { let asked = deed (job (map string_bytes words.now)) in
         let old = world (files_seen (F.told files.old) (F.lacks files.old) (F.faults files.old) (F.steady files.old)) (sink (O.written out.old) (O.faults out.old) (O.spare out.old)) (sink (E.written err.old) (E.faults err.old) (E.spare err.old)) in
         let new = world (files_seen (F.told files.new) (F.lacks files.new) (F.faults files.new) (F.steady files.new)) (sink (O.written out.new) (O.faults out.new) (O.spare out.new)) (sink (E.written err.new) (E.faults err.new) (E.spare err.new)) in
         Promise asked old new result }
 
     // The files are read for the job alone, and not too often.
-    ensures reads { ReadForJob F.reads (job (map string_bytes words.now)) files.old files.new }
+    ensures reads { ReadFor F.reads (F.told files.old) (deed (job (map string_bytes words.now))) files.old files.new }
 {
     law_one_tree();
     law_one_fault();
     law_text_or_fault();
+    law_faults();
+    law_one_listing();
     law_one_answer();
     law_one_replay();
+    law_one_list();
     let answer = answer_to(rt, alloc, words, files, gate);
     deliver(&answer, out, err)
+}
+
+/// A listing is that of one program, or has one first fault.
+fn law_one_listing()
+    ensures { OneAnswer }
+{
+    net_text::law_one_answer();
 }

@@ -1,11 +1,14 @@
 -- What the promise says where the devices are sure and the job is a run.
-use Rattle.std.proofs.Common.{◌≡◌, ℕ, ◌≤◌, List, length, Option, Some, None, false, refl, sym, ap, ◌∙◌, subst, arith}
+use Rattle.std.proofs.Common.{◌≡◌, ℕ, ◌≤◌, Bool, List, length, Option, Some, None, false, refl, sym, ap, ◌∙◌, subst, arith}
 use Rattle.goi_world.specs.FilesInMemory.{told_by, lacked_by}
 use Rattle.goi_world.specs.Outside.{none_listed}
 use Rattle.goi_engine.specs.FilesSeen.{FilesState, Possibly, files_seen}
 use Rattle.goi_words.specs.Jobs.{JobTree, run}
-use Rattle.goi_engine.specs.Refusals.{most_line}
-use Rattle.goi_engine.specs.Verdicts.{ReportsJob, LacksFor}
+use Rattle.goi_tasks.specs.declared.task.Task.TheVariants.{Run}
+use Rattle.goi_tasks.specs.Outputs.{Output}
+use Rattle.goi_tasks.specs.Refusals.{most_line}
+use Rattle.goi_engine.specs.Deeds.{Deed, with_text, deed, deed_of}
+use Rattle.goi_engine.specs.Verdicts.{Reports, LacksFor}
 use Rattle.goi_tests.proofs.sure.run_surely.Goals as goal
 
 -- what is so of all bytes of which something is possible
@@ -13,32 +16,36 @@ of_bytes : (told : Option (List ℕ)) (P : List ℕ → Type 0) (Q : Type 0) →
 of_bytes None P Q (bytes, h) k = k bytes h
 of_bytes (Some bytes) P Q h k = k bytes h
 
--- the report of a run that tells neither schedule nor tally is short
-short_run : (files : FilesState) (file : List ℕ) (workers budget status : ℕ) (report : List ℕ) → ReportsJob (run file workers budget false false) files status report → length report ≤ most_line
-short_run files file workers budget status report h = of_bytes (files.told file) _ (length report ≤ most_line) h.1 (λ bytes x. x.reports.short refl refl)
+-- the report of a run that tells neither schedule nor tally is short, and it has no notes
+abbrev plain_run : List ℕ → ℕ → ℕ → Bool → Deed
+plain_run file workers budget by_value = with_text (Run workers budget false false by_value false) file
 
-run_short : (j : JobTree) (files : FilesState) (file : List ℕ) (workers budget status : ℕ) (report : List ℕ) → j ≡ run file workers budget false false → ReportsJob j files status report → length report ≤ most_line
-run_short j files file workers budget status report e h = short_run files file workers budget status report (subst (λ (k : JobTree). ReportsJob k files status report) e h)
+short_run : (files : FilesState) (file : List ℕ) (workers budget : ℕ) (by_value : Bool) (o : Output) → Reports (plain_run file workers budget by_value) files o → (length o.report ≤ most_line) × (length o.notes ≡ 0)
+short_run files file workers budget by_value o h = of_bytes (files.told file) _ ((length o.report ≤ most_line) × (length o.notes ≡ 0)) h.1 (λ bytes x. (x.so.short refl refl, ap length x.so.notes))
 
-abbrev job_or : JobTree → Option JobTree → JobTree
-job_or j None = j
-job_or j (Some k) = k
+run_short : (d : Deed) (files : FilesState) (file : List ℕ) (workers budget : ℕ) (by_value : Bool) (o : Output) → d ≡ plain_run file workers budget by_value → Reports d files o → (length o.report ≤ most_line) × (length o.notes ≡ 0)
+run_short d files file workers budget by_value o e h = short_run files file workers budget by_value o (subst (λ (k : Deed). Reports k files o) e h)
 
--- words have one job
-one_job : (o : Option JobTree) (j k : JobTree) → o ≡ Some j → o ≡ Some k → j ≡ k
-one_job o j k e f = ap (job_or j) (sym e ∙ f)
+abbrev deed_or : Deed → Option Deed → Deed
+deed_or d None = d
+deed_or d (Some k) = k
+
+-- words have one deed
+one_deed : (j : Option JobTree) (d : Deed) (k : JobTree) → deed j ≡ Some d → j ≡ Some k → d ≡ deed_of k
+one_deed j d k e f = ap (deed_or d) (sym e ∙ ap deed f)
 
 pub returns : goal.returns
 returns g c =
     let p = c.goi.ensures.promise in
     record {
-      written = λ file workers budget asked. p.sure (record {
-        out = λ j status report e h. let short = run_short j _ file workers budget status report (one_job _ j (run file workers budget false false) e asked) h in omega (arith, short, c.requires.out);
+      written = λ file workers budget by_value asked. p.sure (record {
+        out = λ d o e h. let short = run_short d _ file workers budget by_value o (one_deed _ d (run file workers budget false false by_value false) e asked) h in omega (arith, short.0, c.requires.out);
         err = c.requires.err;
+        notes = λ d o e h. let short = run_short d _ file workers budget by_value o (one_deed _ d (run file workers budget false false by_value false) e asked) h in omega (arith, short.1);
       });
-      read = λ file workers budget asked status.
+      read = λ file workers budget by_value asked status.
           let m = p.not_read status in
           let now = c.args.files.now in
           let files = files_seen (told_by now) (lacked_by now) now.faults (none_listed now.fails) in
-          subst (λ (k : JobTree). LacksFor k files) (one_job _ m.0 (run file workers budget false false) m.1 asked) (m.2.1.sure c.requires.files);
+          subst (λ (d : Deed). LacksFor d files) (one_deed _ m.0 (run file workers budget false false by_value false) m.1 asked) (m.2.1.sure c.requires.files);
     }

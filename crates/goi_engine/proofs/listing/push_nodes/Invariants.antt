@@ -1,6 +1,0 @@
-use Rattle.std.proofs.Common.{◌≡◌, ◌++◌, drop}
-use Rattle.goi_engine.specs.Listing.{node_line, lines_of}
-use Rattle.goi_engine.proofs.listing.push_nodes.Given as goal
-
-abbrev pub invariant-loop-n : goal.invariant-loop-n
-invariant-loop-n l = l.text.items ++ lines_of node_line l.n (drop l.n l.net.nodes) ≡ l.fn.text.items ++ lines_of node_line 0 l.net.nodes

@@ -1,0 +1,190 @@
+//! The answer to a list of programs.
+
+ghost use Rattle.std.specs.Prelude.{◌≡◌, ◌≤◌, ◌++◌, ◌∷◌, [], List, length, All, IsTrue, IfOk, IfErr, OnOk};
+ghost use Rattle.pcf_values.specs.Most.{most_program_bytes};
+ghost use Rattle.batch_pool.specs.Limits.{most_job_budget, most_jobs};
+ghost use Rattle.batch_pool.specs.Lists.{IsList};
+ghost use Rattle.goi_words.specs.Jobs.{IsWorkers};
+ghost use Rattle.goi_batches.specs.declared.judged.Judged.{Judged};
+ghost use Rattle.goi_batches.specs.Judging.{IsJudged, AreJudged};
+ghost use Rattle.goi_batches.specs.Sections.{Listed, listed, ReportsBatch};
+ghost use Rattle.goi_engine.specs.Answers.{AnswersDeed, AnswersLines, AnswersList, AreJudgedIn, LineFits, LinesFit, LoadedLines, NotLoaded, Says, stop_of_list};
+ghost use Rattle.goi_engine.specs.Deeds.{with_list};
+ghost use Rattle.goi_engine.specs.FilesSeen.{FilesKept, LoadedBy, OfFile, files_seen};
+ghost use Rattle.goi_engine.specs.ListsSeen.{FaultyList, LacksOne, LoadedEach, LoadedList};
+
+use crate::answer::{Answer, not_loaded, stopped};
+use crate::load::{LoadError, load};
+use batch_pool::{BatchFault, BatchLine, LIST_BYTES, read_batch};
+use gate_workers::Gate;
+use goi_batches::{Judged, judge_program, report_batch};
+use goi_tasks::{Fault, Stop};
+use goi_world::Files;
+use pcf_values::limits::PROGRAM_BYTES;
+use std::alloc::{AllocError, Global};
+use std::sync::Wait;
+use std::thread::Threads;
+
+/// The answer to the programs that a file lists.
+pub(crate) fn answer_batch<R: Threads + Wait + Sync, F: Files, G: Gate>(
+    rt: &R,
+    alloc: Global,
+    files: &mut F,
+    file: &str,
+    workers: u32,
+    gate: &G,
+) -> Answer
+    requires { IsWorkers workers }
+    ensures kept { FilesKept (files_seen (F.told files.old) (F.lacks files.old) (F.faults files.old) (F.steady files.old)) (files_seen (F.told files.new) (F.lacks files.new) (F.faults files.new) (F.steady files.new)) }
+    ensures answers { AnswersDeed (with_list file.now workers) (files_seen (F.told files.old) (F.lacks files.old) (F.faults files.old) (F.steady files.old)) (files_seen (F.told files.new) (F.lacks files.new) (F.faults files.new) (F.steady files.new)) result }
+    ensures reads { LoadedList F.reads (F.told files.old file.now) file.now files.old files.new }
+{
+    match load(alloc, files, file, LIST_BYTES as u32) {
+        Ok(bytes) => answer_list(rt, alloc, files, &bytes, workers, gate),
+        Err(error) => not_loaded(error),
+    }
+}
+
+/// The answer to the programs that a text lists.
+fn answer_list<R: Threads + Wait + Sync, F: Files, G: Gate>(
+    rt: &R,
+    alloc: Global,
+    files: &mut F,
+    bytes: &[u8],
+    workers: u32,
+    gate: &G,
+) -> Answer
+    requires { IsWorkers workers }
+    ensures kept { FilesKept (files_seen (F.told files.old) (F.lacks files.old) (F.faults files.old) (F.steady files.old)) (files_seen (F.told files.new) (F.lacks files.new) (F.faults files.new) (F.steady files.new)) }
+    ensures answers { AnswersList workers bytes.now (files_seen (F.told files.old) (F.lacks files.old) (F.faults files.old) (F.steady files.old)) (files_seen (F.told files.new) (F.lacks files.new) (F.faults files.new) (F.steady files.new)) result }
+    ensures reads { LoadedLines F.reads bytes.now files.old files.new }
+{
+    match read_list(alloc, bytes) {
+        Ok(lines) => answer_lines(rt, alloc, files, &lines, workers, gate),
+        Err(answer) => answer,
+    }
+}
+
+/// The lines of a list, or the answer where the text is none.
+fn read_list(alloc: Global, bytes: &[u8]) -> Result<Vec<BatchLine>, Answer>
+    ensures list { IfOk result (λ lines. IsList bytes.now lines.items) }
+    ensures fit { IfOk result (λ lines. LinesFit lines.items) }
+    ensures none { IfErr result (λ a. Says (λ o. ⊥) (FaultyList bytes.now) a) }
+{
+    match read_batch(alloc, bytes) {
+        Ok(lines) => Ok(lines),
+        Err(fault) => Err(stopped(alloc, stop_of(fault))),
+    }
+}
+
+/// Why there is no list.
+fn stop_of(fault: BatchFault) -> Stop
+    ensures { result ≡ stop_of_list fault }
+{
+    match fault {
+        BatchFault::NoMemory => Stop::Memory,
+        _ => Stop::Fault(Fault::Batch(fault)),
+    }
+}
+
+/// The answer to the programs of these lines.
+fn answer_lines<R: Threads + Wait + Sync, F: Files, G: Gate>(
+    rt: &R,
+    alloc: Global,
+    files: &mut F,
+    lines: &[BatchLine],
+    workers: u32,
+    gate: &G,
+) -> Answer
+    requires workers { IsWorkers workers }
+    requires fit { LinesFit lines.now }
+    ensures kept { FilesKept (files_seen (F.told files.old) (F.lacks files.old) (F.faults files.old) (F.steady files.old)) (files_seen (F.told files.new) (F.lacks files.new) (F.faults files.new) (F.steady files.new)) }
+    ensures answers { AnswersLines workers lines.now (files_seen (F.told files.old) (F.lacks files.old) (F.faults files.old) (F.steady files.old)) (files_seen (F.told files.new) (F.lacks files.new) (F.faults files.new) (F.steady files.new)) result }
+    ensures reads { LoadedEach F.reads lines.now files.old files.new }
+{
+    let mut programs = Vec::new(alloc);
+    match load_programs(alloc, files, lines, &mut programs) {
+        Ok(()) => answer_programs(rt, alloc, programs, workers, gate),
+        Err(error) => not_loaded(error),
+    }
+}
+
+/// The answer to programs that were judged.
+fn answer_programs<R: Threads + Wait + Sync, G: Gate>(
+    rt: &R,
+    alloc: Global,
+    programs: Vec<Judged>,
+    workers: u32,
+    gate: &G,
+) -> Answer
+    requires judged { (ps : List Listed) × AreJudged ps programs.items }
+    requires few { length programs.items ≤ most_jobs }
+    requires workers { IsWorkers workers }
+    ensures { Says (λ o. (ps : List Listed) → AreJudged ps programs.items → ReportsBatch workers ps o) (λ f. ⊥) result }
+{
+    match report_batch(rt, alloc, programs, workers, gate) {
+        Ok(report) => Answer::Prints(report),
+        Err(_) => Answer::NoMemory,
+    }
+}
+
+/// Loads and judges the programs of these lines one after another, and adds what each came to.
+fn load_programs<F: Files>(
+    alloc: Global,
+    files: &mut F,
+    lines: &[BatchLine],
+    programs: &mut Vec<Judged>,
+) -> Result<(), LoadError>
+    requires { All LineFits lines.now }
+    ensures kept { FilesKept (files_seen (F.told files.old) (F.lacks files.old) (F.faults files.old) (F.steady files.old)) (files_seen (F.told files.new) (F.lacks files.new) (F.faults files.new) (F.steady files.new)) }
+    ensures judged { OnOk result ((more : List Judged) × (programs.new.items ≡ programs.old.items ++ more) × AreJudgedIn (files_seen (F.told files.old) (F.lacks files.old) (F.faults files.old) (F.steady files.old)) lines.now more) }
+    ensures quiet { OnOk result (F.faults files.new ≡ F.faults files.old) }
+    ensures not_loaded { IfErr result (NotLoaded (LacksOne (files_seen (F.told files.old) (F.lacks files.old) (F.faults files.old) (F.steady files.old)) lines.now) (files_seen (F.told files.old) (F.lacks files.old) (F.faults files.old) (F.steady files.old)) (files_seen (F.told files.new) (F.lacks files.new) (F.faults files.new) (F.steady files.new))) }
+    ensures reads { LoadedEach F.reads lines.now files.old files.new }
+{
+    match lines {
+        [] => Ok(()),
+        [line, rest @ ..] => {
+            let program = load_program(alloc, files, line)?;
+            push_program(programs, program)?;
+            load_programs(alloc, files, rest, programs)
+        }
+    }
+}
+
+/// Adds a program.
+fn push_program(programs: &mut Vec<Judged>, program: Judged) -> Result<(), AllocError>
+    ensures { OnOk result (programs.new.items ≡ programs.old.items ++ program ∷ []) }
+{
+    programs.push(program)?;
+    Ok(())
+}
+
+/// Loads and judges the program of a line.
+fn load_program<F: Files>(
+    alloc: Global,
+    files: &mut F,
+    line: &BatchLine,
+) -> Result<Judged, LoadError>
+    requires { LineFits line.now }
+    ensures kept { FilesKept (files_seen (F.told files.old) (F.lacks files.old) (F.faults files.old) (F.steady files.old)) (files_seen (F.told files.new) (F.lacks files.new) (F.faults files.new) (F.steady files.new)) }
+    ensures judged { IfOk result (λ j. OfFile (files_seen (F.told files.old) (F.lacks files.old) (F.faults files.old) (F.steady files.old)) line.now.file (λ bytes. IsJudged (listed line.now.budget bytes) j)) }
+    ensures quiet { OnOk result (F.faults files.new ≡ F.faults files.old) }
+    ensures not_loaded { IfErr result (NotLoaded (IsTrue (F.lacks files.old line.now.file)) (files_seen (F.told files.old) (F.lacks files.old) (F.faults files.old) (F.steady files.old)) (files_seen (F.told files.new) (F.lacks files.new) (F.faults files.new) (F.steady files.new))) }
+    ensures reads { LoadedBy F.reads line.now.file most_program_bytes files.old files.new }
+{
+    match load(alloc, files, line.file.as_str(), PROGRAM_BYTES as u32) {
+        Ok(bytes) => judge_loaded(alloc, &bytes, line.budget),
+        Err(error) => Err(error),
+    }
+}
+
+/// Judges the text of a program.
+fn judge_loaded(alloc: Global, bytes: &[u8], budget: u32) -> Result<Judged, LoadError>
+    requires some { 1 ≤ budget }
+    requires few { budget ≤ most_job_budget }
+    ensures judged { IfOk result (IsJudged (listed budget bytes.now)) }
+    ensures memory { IfErr result (λ e. e ≡ LoadError.Memory) }
+{
+    Ok(judge_program(alloc, bytes, budget)?)
+}

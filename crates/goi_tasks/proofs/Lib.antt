@@ -1,0 +1,8 @@
+pub mod Brief
+pub mod Outcomes
+pub mod Ran
+pub mod Replayed
+pub mod Short
+pub mod Shown
+pub mod Sized
+pub mod Texts

@@ -1,0 +1,115 @@
+-- What a schedule that was run on a program's net says of the program.
+use Rattle.std.proofs.Common.{◌≡◌, ℕ, zero, suc, ◌+◌, ◌≤◌, List, [], ◌∷◌, length, Result, Ok, Err, IfOk, IfErr, IsErrAnd, Option, Some, None, refl, sym, ap, ◌∙◌, subst, arith}
+use Rattle.pcf_values.specs.declared.val.Val.{Val}
+use Rattle.pcf_values.specs.Most.{most_moves}
+use Rattle.pcf_values.specs.Terms.{TermTree, nat}
+use Rattle.pcf_values.specs.Typing.{HasType}
+use Rattle.net_build.specs.Nets.{NetTree}
+use Rattle.net_build.specs.NetOf.{net_of}
+use Rattle.interleave_core.specs.Runs.{Runs}
+use Rattle.interleave_core.specs.Maps.{LeadsToMap}
+use Rattle.cbn_meaning.specs.Meaning.{Means}
+use Rattle.adequacy_laws.specs.Questions.{Length}
+use Rattle.adequacy_laws.specs.Adequacy.{MeansLength}
+use Rattle.adequacy_laws.specs.Lengths.{MapEqualLengths}
+use Rattle.schedule_log.specs.declared.fault.ScheduleFault.{ScheduleFault}
+use Rattle.schedule_log.specs.declared.fault.ScheduleFault.TheVariants as schedule
+use Rattle.schedule_log.specs.declared.entry.Entry.{Entry}
+use Rattle.schedule_log.specs.Logs.{tickets_in_log}
+use Rattle.schedule_log.specs.Schedules.{Run, again, tickets_of, moves, IsSchedule, ReadAs}
+use Rattle.replay_check.specs.declared.fault.ReplayFault.{ReplayFault}
+use Rattle.replay_check.specs.declared.fault.ReplayFault.TheVariants as replay
+use Rattle.replay_check.specs.declared.replayed.Replayed.{Replayed}
+use Rattle.replay_check.specs.Replays.{IsRunOf, ReplaysAs}
+use Rattle.goi_reports.specs.Reports.{replay_report}
+use Rattle.goi_tasks.specs.declared.fault.Fault.{Fault}
+use Rattle.goi_tasks.specs.declared.report.Report.{Report}
+use Rattle.goi_tasks.specs.declared.stop.Stop.{Stop}
+use Rattle.goi_tasks.specs.Outputs.{Output, output, output_of}
+use Rattle.goi_tasks.specs.Replaying.{replay_status, Agrees, ReportsReplay, FaultySchedule, unread, unmoved, IsReplayed, FaultyReplay, no_moves}
+use Rattle.goi_tasks.specs.Stops.{StopsFor, stop_of_schedule, stop_of_replay}
+use Rattle.goi_tasks.proofs.Texts.{faults_weaker}
+
+again_length : (t n : ℕ) (ts : List ℕ) → length (again t n ts) ≡ n + length ts
+again_length t zero ts = omega arith
+again_length t (suc n) ts = let h = again_length t n ts in omega (arith, h)
+
+tickets_length : (rs : List Run) → length (tickets_of rs) ≡ moves rs
+tickets_length [] = refl
+tickets_length (r ∷ rs) = let e = again_length r.ticket r.count (tickets_of rs) in let h = tickets_length rs in omega (arith, e, h)
+
+log_length : (log : List Entry) → length (tickets_in_log log) ≡ length log
+log_length [] = refl
+log_length (e ∷ es) = let h = log_length es in omega (arith, h)
+
+-- the log of a schedule has no more moves than the limit
+pub few_moves : (text : List ℕ) (log : List Entry) → IsSchedule text (tickets_in_log log) → length log ≤ most_moves
+few_moves text log h =
+    let e = ap length h.tickets_are in
+    let n = tickets_length h.runs in
+    let m = log_length log in
+    omega (arith, e, n, m, h.whole.few)
+
+-- the output of a replay
+pub replayed : (net : NetTree) (tickets : List ℕ) (r : Replayed) → IsRunOf net tickets r → (status : ℕ) → status ≡ replay_status r.answer → (text : List ℕ) → text ≡ replay_report r.answer r.moves → (o : Output) → o ≡ output status text [] →
+    IsReplayed net tickets o
+replayed net tickets r h status e text is o same = record {
+  state = h.state;
+  led = h.led;
+  output_is =
+      same
+      ∙ ap (λ (s : ℕ). output s text []) (e ∙ ap replay_status h.answer)
+      ∙ ap (λ (x : List ℕ). output (replay_status h.state.answered) x []) (is ∙ ap (λ (a : Option Val). replay_report a r.moves) h.answer ∙ ap (λ (m : ℕ). replay_report h.state.answered m) h.moves);
+}
+
+-- an answer is what the term means, and then the list is as long as the net
+agrees : (t : TermTree) (tickets : List ℕ) (answer : Option Val) → ((v : Val) → answer ≡ Some v → Means t v × Length (net_of t) v (length tickets)) → Agrees t answer (length tickets)
+agrees t tickets None h = tt
+agrees t tickets (Some v) h = h v refl
+
+module _ (lengths : MapEqualLengths) (means : MeansLength) (t : TermTree) (typed : HasType [] t nat) (net : NetTree) (runs : Runs net) (same : net ≡ net_of t) where
+  right : (text tickets : List ℕ) → IsSchedule text tickets → (o : Output) → IsReplayed net tickets o → ReportsReplay t text o
+  right text tickets s o h =
+      let agree = lengths net runs.sound tickets h.state h.led in
+      record {
+        tickets = tickets;
+        schedule = s;
+        state = h.state;
+        led = subst (λ (n : NetTree). LeadsToMap n tickets h.state) same h.led;
+        agrees = agrees t tickets h.state.answered (λ v e.
+            let long : Length (net_of t) v (length tickets) = subst (λ (n : NetTree). Length n v (length tickets)) same ((agree.answers v).0 e) in
+            ((means t typed v).1 (length tickets, long), long));
+        output_is = h.output_is;
+      }
+
+-- so the report is that of the schedule on the term's net
+pub rights : MapEqualLengths → MeansLength → (net : NetTree) → Runs net → (text tickets : List ℕ) → IsSchedule text tickets → (r : Result Report Stop) → IfOk r (λ v. IsReplayed net tickets (output_of v)) →
+    IfOk r (λ v. (t : TermTree) → HasType [] t nat → net ≡ net_of t → ReportsReplay t text (output_of v))
+rights lengths means net runs text tickets s (Ok v) h = λ t typed same. right lengths means t typed net runs same text tickets s (output_of v) h
+rights lengths means net runs text tickets s (Err e) h = h
+
+-- and the fault is that of the schedule
+faulty : (net : NetTree) (text tickets : List ℕ) → IsSchedule text tickets → (f : Fault) → FaultyReplay net tickets f → (t : TermTree) → net ≡ net_of t → FaultySchedule t text f
+faulty net text tickets s _ (no_moves f n h) = λ t same. unmoved f tickets n s (subst (λ (n : NetTree). ReplaysAs n tickets (Err f)) same h)
+
+pub faulties : (net : NetTree) (text tickets : List ℕ) → IsSchedule text tickets → (r : Result Report Stop) → IfErr r (λ e. StopsFor (FaultyReplay net tickets) e) → IfErr r (λ e. StopsFor (λ f. (t : TermTree) → net ≡ net_of t → FaultySchedule t text f) e)
+faulties net text tickets s r h = faults_weaker (FaultyReplay net tickets) (λ f. (t : TermTree) → net ≡ net_of t → FaultySchedule t text f) r (faulty net text tickets s) h
+
+-- a replay that goes wrong stops for its fault
+pub stops_unmoved : (net : NetTree) (tickets : List ℕ) (f : ReplayFault) → ReplaysAs net tickets (Err f) → StopsFor (FaultyReplay net tickets) (stop_of_replay f)
+stops_unmoved net tickets replay.NoMemory h = tt
+stops_unmoved net tickets (replay.NotLive place ticket) h = no_moves (replay.NotLive place ticket) (λ e. cc) h
+stops_unmoved net tickets (replay.AfterAnswer place) h = no_moves (replay.AfterAnswer place) (λ e. cc) h
+
+-- a text that is no schedule
+pub not_read : (net : NetTree) (text : List ℕ) (f : ScheduleFault) → ReadAs text (Err f) → StopsFor (λ g. (t : TermTree) → net ≡ net_of t → FaultySchedule t text g) (stop_of_schedule f)
+not_read net text schedule.NoMemory h = tt
+not_read net text schedule.BadHeader h = λ t same. unread _ (λ e. cc) h
+not_read net text (schedule.BadLine n) h = λ t same. unread _ (λ e. cc) h
+not_read net text (schedule.TicketTooWide n) h = λ t same. unread _ (λ e. cc) h
+not_read net text schedule.NoEnd h = λ t same. unread _ (λ e. cc) h
+not_read net text (schedule.TooLong n) h = λ t same. unread _ (λ e. cc) h
+
+pub stops_by : {V : Type 0} (r : Result V Stop) (s : Stop) (P : Fault → Type 0) → IsErrAnd r (λ e. e ≡ s) → StopsFor P s → IfErr r (λ e. StopsFor P e)
+stops_by (Ok v) s P h p = absurd h
+stops_by (Err e) s P h p = subst (λ (x : Stop). StopsFor P x) (sym h) p

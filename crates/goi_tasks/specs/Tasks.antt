@@ -1,0 +1,82 @@
+-- What is done with the text of one file: the output, the first fault of a text with which it can't be done, and the status with which
+-- it ends. The text is that of a program, or the listing of a program's net.
+use Rattle.std.specs.Prelude.{◌≡◌, ℕ, Bool, true, false, List, [], Ok}
+use Rattle.pcf_values.specs.Most.{most_program_bytes}
+use Rattle.pcf_values.specs.Terms.{TyTree, TermTree}
+use Rattle.pcf_values.specs.Named.{NamedTree}
+use Rattle.pcf_types.specs.Checking.{type_of}
+use Rattle.net_build.specs.NetOf.{net_of}
+use Rattle.net_text.specs.Accepted.{ListsProgram}
+use Rattle.net_text.specs.Limits.{most_text_bytes}
+use Rattle.net_text.specs.Listing.{listing}
+use Rattle.goi_words.specs.Jobs.{IsWorkers, IsBudget}
+use Rattle.goi_reports.specs.Reports.{check_report}
+use Rattle.goi_tasks.specs.declared.fault.Fault.{Fault}
+use Rattle.goi_tasks.specs.declared.task.Task.{Task}
+use Rattle.goi_tasks.specs.declared.task.Task.TheVariants.{Run, Check, ShowNet, RunNet}
+use Rattle.goi_tasks.specs.NetFiles.{FaultyListing}
+use Rattle.goi_tasks.specs.Outputs.{Output, output}
+use Rattle.goi_tasks.specs.Programs.{Wanted, any_type, number, strict_number, IsProgram, FaultyText}
+use Rattle.goi_tasks.specs.Running.{net_run, ReportsRun, EndsRun}
+
+-- ---- programs
+
+-- what a run wants of its program
+abbrev pub wanted_by_run : Bool → Wanted
+wanted_by_run false = number
+wanted_by_run true = strict_number
+
+-- the text is such a program, and this is so of its tree, its term and its type
+pub record OfProgram (wanted : Wanted) (bytes : List ℕ) (P : NamedTree → TermTree → TyTree → Type 0) : Type 0 where
+  pub tree : NamedTree
+  pub term : TermTree
+  pub type : TyTree
+  pub is : IsProgram wanted bytes tree term type
+  pub so : P tree term type
+
+-- the bytes list the net of a program, of whose term this is so
+pub record OfListing (bytes : List ℕ) (P : TermTree → Type 0) : Type 0 where
+  pub term : TermTree
+  pub lists : ListsProgram bytes term
+  pub so : P term
+
+-- ---- tasks
+
+-- the output of the task with the text
+abbrev pub ReportsText : Task → List ℕ → Output → Type 0
+ReportsText (Run workers budget schedule tally by_value progress) bytes o = OfProgram (wanted_by_run by_value) bytes (λ tree t A. ReportsRun workers budget schedule tally by_value progress t o)
+ReportsText (Check term) bytes o = OfProgram any_type bytes (λ tree t A. o ≡ output 0 (check_report A term tree) [])
+ReportsText ShowNet bytes o = OfProgram number bytes (λ tree t A. o ≡ output 0 (listing (net_of t)) [])
+ReportsText (RunNet workers budget schedule tally) bytes o = OfListing bytes (λ t. ReportsRun workers budget schedule tally false false t o)
+
+-- the first fault of a text with which it can't be done
+abbrev pub FaultyFor : Task → List ℕ → Fault → Type 0
+FaultyFor (Run workers budget schedule tally by_value progress) bytes f = FaultyText (wanted_by_run by_value) bytes f
+FaultyFor (Check term) bytes f = FaultyText any_type bytes f
+FaultyFor ShowNet bytes f = FaultyText number bytes f
+FaultyFor (RunNet workers budget schedule tally) bytes f = FaultyListing bytes f
+
+-- it can be done with the text, and ends with this status
+abbrev pub EndsText : Task → List ℕ → ℕ → Type 0
+EndsText (Run workers budget schedule tally by_value progress) bytes status = OfProgram (wanted_by_run by_value) bytes (λ tree t A. EndsRun budget (net_run by_value t) status)
+EndsText (Check term) bytes status = OfProgram any_type bytes (λ tree t A. status ≡ 0)
+EndsText ShowNet bytes status = OfProgram number bytes (λ tree t A. status ≡ 0)
+EndsText (RunNet workers budget schedule tally) bytes status = OfListing bytes (λ t. EndsRun budget (net_of t) status)
+
+-- how many bytes its text has at the most
+abbrev pub most_bytes : Task → ℕ
+most_bytes (Run workers budget schedule tally by_value progress) = most_program_bytes
+most_bytes (Check term) = most_program_bytes
+most_bytes ShowNet = most_program_bytes
+most_bytes (RunNet workers budget schedule tally) = most_text_bytes
+
+-- the numbers of a task are in their ranges
+abbrev pub IsWithin : Task → Type 0
+IsWithin (Run workers budget schedule tally by_value progress) = IsWorkers workers × IsBudget budget
+IsWithin (Check term) = Unit {0}
+IsWithin ShowNet = Unit {0}
+IsWithin (RunNet workers budget schedule tally) = IsWorkers workers × IsBudget budget
+
+-- the report on the type of a tree, and with `term` on the tree
+abbrev pub ChecksTree : Bool → NamedTree → List ℕ → Type 0
+ChecksTree term tree report = (t : TermTree) × (A : TyTree) × (type_of [] tree ≡ Ok (t, A)) × (report ≡ check_report A term tree)

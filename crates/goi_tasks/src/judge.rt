@@ -1,0 +1,157 @@
+//! A task on a text: the report, or the first fault.
+
+ghost use Rattle.std.specs.Prelude.{◌≡◌, [], true, false, IfOk, IfErr};
+ghost use Rattle.goi_words.specs.Jobs.{IsBudget, IsWorkers};
+ghost use Rattle.goi_tasks.specs.declared.task.Task.TheVariants.{Run, ShowNet, RunNet};
+ghost use Rattle.goi_tasks.specs.NetFiles.{FaultyListing};
+ghost use Rattle.goi_tasks.specs.Outputs.{output_of};
+ghost use Rattle.goi_tasks.specs.Programs.{number, strict_number, FaultyText};
+ghost use Rattle.goi_tasks.specs.Stops.{StopsFor};
+ghost use Rattle.goi_tasks.specs.Tasks.{IsWithin, ReportsText, FaultyFor};
+
+use crate::net_file::net_of_listing;
+use crate::program::{check_text, net_by_value, net_of_text};
+use crate::report::{Report, plain};
+use crate::running::report_run;
+use crate::stop::Stop;
+use crate::task::Task;
+use adequacy_laws::law_never_stuck;
+use cbv_terms::law_by_value;
+use gate_workers::Gate;
+use net_text::print_net;
+use std::alloc::Global;
+use std::sync::Wait;
+use std::thread::Threads;
+
+/// The report of a task on a text, or the text's first fault.
+pub fn report_text<R: Threads + Wait + Sync, G: Gate>(
+    rt: &R,
+    alloc: Global,
+    bytes: &[u8],
+    task: Task,
+    gate: &G,
+) -> Result<Report, Stop>
+    requires { IsWithin task }
+    ensures report { IfOk result (λ r. ReportsText task bytes.now (output_of r)) }
+    ensures fault { IfErr result (λ e. StopsFor (FaultyFor task bytes.now) e) }
+{
+    match task {
+        Task::Run {
+            workers,
+            budget,
+            schedule,
+            tally,
+            by_value: false,
+            progress,
+        } => run_text(
+            rt, alloc, bytes, workers, budget, schedule, tally, progress, gate,
+        ),
+        Task::Run {
+            workers,
+            budget,
+            schedule,
+            tally,
+            by_value: true,
+            progress,
+        } => run_by_value(
+            rt, alloc, bytes, workers, budget, schedule, tally, progress, gate,
+        ),
+        Task::Check { term } => Ok(plain(alloc, check_text(alloc, bytes, term)?, 0)),
+        Task::ShowNet => list_text(alloc, bytes),
+        Task::RunNet {
+            workers,
+            budget,
+            schedule,
+            tally,
+        } => run_listing(rt, alloc, bytes, workers, budget, schedule, tally, gate),
+    }
+}
+
+/// The report of a run of a text's program.
+fn run_text<R: Threads + Wait + Sync, G: Gate>(
+    rt: &R,
+    alloc: Global,
+    bytes: &[u8],
+    workers: u32,
+    budget: u32,
+    schedule: bool,
+    tally: bool,
+    progress: bool,
+    gate: &G,
+) -> Result<Report, Stop>
+    requires workers { IsWorkers workers }
+    requires budget { IsBudget budget }
+    ensures report { IfOk result (λ r. ReportsText (Run workers budget schedule tally false progress) bytes.now (output_of r)) }
+    ensures fault { IfErr result (λ e. StopsFor (FaultyText number bytes.now) e) }
+{
+    law_never_stuck();
+    let net = net_of_text(alloc, bytes)?;
+    let report = report_run(
+        rt, alloc, &net, workers, budget, schedule, tally, progress, gate,
+    );
+    drop(net);
+    Ok(report?)
+}
+
+/// The report of a run of a text's program by value.
+fn run_by_value<R: Threads + Wait + Sync, G: Gate>(
+    rt: &R,
+    alloc: Global,
+    bytes: &[u8],
+    workers: u32,
+    budget: u32,
+    schedule: bool,
+    tally: bool,
+    progress: bool,
+    gate: &G,
+) -> Result<Report, Stop>
+    requires workers { IsWorkers workers }
+    requires budget { IsBudget budget }
+    ensures report { IfOk result (λ r. ReportsText (Run workers budget schedule tally true progress) bytes.now (output_of r)) }
+    ensures fault { IfErr result (λ e. StopsFor (FaultyText strict_number bytes.now) e) }
+{
+    law_never_stuck();
+    law_by_value();
+    let net = net_by_value(alloc, bytes)?;
+    let report = report_run(
+        rt, alloc, &net, workers, budget, schedule, tally, progress, gate,
+    );
+    drop(net);
+    Ok(report?)
+}
+
+/// The report of a run of the program whose net a text lists.
+fn run_listing<R: Threads + Wait + Sync, G: Gate>(
+    rt: &R,
+    alloc: Global,
+    bytes: &[u8],
+    workers: u32,
+    budget: u32,
+    schedule: bool,
+    tally: bool,
+    gate: &G,
+) -> Result<Report, Stop>
+    requires workers { IsWorkers workers }
+    requires budget { IsBudget budget }
+    ensures report { IfOk result (λ r. ReportsText (RunNet workers budget schedule tally) bytes.now (output_of r)) }
+    ensures fault { IfErr result (λ e. StopsFor (FaultyListing bytes.now) e) }
+{
+    law_never_stuck();
+    let net = net_of_listing(alloc, bytes)?;
+    let report = report_run(
+        rt, alloc, &net, workers, budget, schedule, tally, false, gate,
+    );
+    drop(net);
+    Ok(report?)
+}
+
+/// The listing of the net of a text's program.
+fn list_text(alloc: Global, bytes: &[u8]) -> Result<Report, Stop>
+    ensures report { IfOk result (λ r. ReportsText ShowNet bytes.now (output_of r)) }
+    ensures fault { IfErr result (λ e. StopsFor (FaultyText number bytes.now) e) }
+{
+    let net = net_of_text(alloc, bytes)?;
+    let text = print_net(alloc, &net);
+    drop(net);
+    Ok(plain(alloc, text?, 0))
+}

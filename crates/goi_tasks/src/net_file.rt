@@ -1,0 +1,21 @@
+//! From the listing of a net to the net.
+
+ghost use Rattle.std.specs.Prelude.{◌≡◌, IfOk, IfErr};
+ghost use Rattle.goi_tasks.specs.NetFiles.{FaultyListing, IsListedNet};
+ghost use Rattle.goi_tasks.specs.Stops.{StopsFor};
+
+use crate::stop::Stop;
+use net_build::{Net, build};
+use net_text::accept;
+use std::alloc::Global;
+
+/// The net of the program that a text lists, built anew of the program's term; or the text's first fault.
+pub(crate) fn net_of_listing(alloc: Global, bytes: &[u8]) -> Result<Net, Stop>
+    ensures net { IfOk result (λ net. IsListedNet bytes.now net) }
+    ensures fault { IfErr result (λ e. StopsFor (FaultyListing bytes.now) e) }
+{
+    let program = accept(alloc, bytes)?;
+    let net = build(alloc, &program);
+    drop(program);
+    Ok(net?)
+}

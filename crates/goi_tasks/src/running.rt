@@ -1,0 +1,93 @@
+//! The report of a run.
+
+ghost use Rattle.std.specs.Prelude.{◌≡◌, [], false, length, IfOk};
+ghost use Rattle.pcf_values.specs.Terms.{TermTree, nat};
+ghost use Rattle.pcf_values.specs.Typing.{HasType};
+ghost use Rattle.net_build.specs.NetOf.{net_of};
+ghost use Rattle.interleave_core.specs.Runs.{Runs};
+ghost use Rattle.goi_words.specs.Jobs.{IsBudget, IsWorkers};
+ghost use Rattle.net_runs.specs.Running.{IsRun, IsFirstWorkers};
+ghost use Rattle.goi_tasks.specs.Notes.{NotesOf};
+ghost use Rattle.goi_tasks.specs.Outputs.{output_of};
+ghost use Rattle.goi_tasks.specs.Replaying.{replay_status};
+ghost use Rattle.goi_tasks.specs.Running.{ReportsRun};
+
+use crate::notes::progress_lines;
+use crate::report::Report;
+use adequacy_laws::law_finished;
+use gate_workers::Gate;
+use goi_reports::run_report;
+use metered_pool::watch_net;
+use net_build::Net;
+use net_runs::run_net;
+use pcf_values::Val;
+use std::alloc::{AllocError, Global};
+use std::sync::Wait;
+use std::thread::Threads;
+use token_pool::Ended;
+
+/// The report of a run of a net by so many workers, with its schedule and its tally where they are asked for.
+pub(crate) fn report_run<R: Threads + Wait + Sync, G: Gate>(
+    rt: &R,
+    alloc: Global,
+    net: &Net,
+    workers: u32,
+    budget: u32,
+    schedule: bool,
+    tally: bool,
+    progress: bool,
+    gate: &G,
+) -> Result<Report, AllocError>
+    requires runs { Runs net.now }
+    requires workers { IsWorkers workers }
+    requires budget { IsBudget budget }
+    ensures { IfOk result (λ r. (t : TermTree) → HasType [] t nat → net.now ≡ net_of t → ReportsRun workers budget schedule tally false progress t (output_of r)) }
+{
+    law_finished();
+    let (ended, notes) = run_noted(rt, alloc, net, workers, budget, progress, gate)?;
+    let answer = ended.answer;
+    let text = run_report(alloc, answer, &ended.log, workers, schedule, tally);
+    drop(ended);
+    Ok(Report {
+        text: text?,
+        notes,
+        status: status_of(answer),
+    })
+}
+
+/// The run of a net by so many workers, and its notes: its progress where that is asked for.
+fn run_noted<R: Threads + Wait + Sync, G: Gate>(
+    rt: &R,
+    alloc: Global,
+    net: &Net,
+    workers: u32,
+    budget: u32,
+    progress: bool,
+    gate: &G,
+) -> Result<(Ended, Vec<u8>), AllocError>
+    requires runs { Runs net.now }
+    requires workers { IsWorkers workers }
+    requires budget { IsBudget budget }
+    ensures run { IfOk result (λ r. IsRun net.now workers budget r.0.answer r.0.log.entries) }
+    ensures alone { IfOk result (λ r. workers ≡ 1 → IsFirstWorkers net.now budget r.0.log.entries) }
+    ensures notes { IfOk result (λ r. NotesOf progress (length r.0.log.entries) r.1.items) }
+{
+    if progress {
+        let (ended, numbers) = watch_net(rt, alloc, net, budget, workers, gate)?;
+        let notes = progress_lines(alloc, &numbers)?;
+        Ok((ended, notes))
+    } else {
+        let ended = run_net(rt, alloc, net, budget, workers, gate)?;
+        Ok((ended, Vec::new(alloc)))
+    }
+}
+
+/// 0 where there is an answer, and 5 where there is none.
+pub(crate) fn status_of(answer: Option<Val>) -> u8
+    ensures { result ≡ replay_status answer }
+{
+    match answer {
+        Some(_) => 0,
+        None => 5,
+    }
+}

@@ -1,0 +1,45 @@
+//! What is to be done with the text of a file.
+
+ghost use Rattle.std.specs.Prelude.{◌≡◌};
+ghost use Rattle.goi_tasks.specs.Tasks.{most_bytes};
+
+use net_text::limits::NET_TEXT_BYTES;
+use pcf_values::limits::PROGRAM_BYTES;
+
+/// What is to be done with the text of a program, or with the listing of a net.
+#[derive(Clone, Copy)]
+pub enum Task {
+    /// Run the program, by so many workers and within so many moves, by value in place of by name where asked, and tell the schedule,
+    /// the tally and the progress where they are asked for.
+    Run {
+        workers: u32,
+        budget: u32,
+        schedule: bool,
+        tally: bool,
+        by_value: bool,
+        progress: bool,
+    },
+    /// Tell the program's type, and with `term` the program itself.
+    Check {
+        term: bool,
+    },
+    /// Tell the listing of the program's net.
+    ShowNet,
+    /// Run the program whose net the text lists.
+    RunNet {
+        workers: u32,
+        budget: u32,
+        schedule: bool,
+        tally: bool,
+    },
+}
+
+/// How many bytes the text of a task has at the most.
+pub fn most_bytes(task: Task) -> u32
+    ensures { result ≡ most_bytes task }
+{
+    match task {
+        Task::RunNet { .. } => NET_TEXT_BYTES as u32,
+        _ => PROGRAM_BYTES as u32,
+    }
+}
