@@ -5,6 +5,12 @@
 #![tactic(auto)]
 
 #[cfg(test)]
+mod lists;
+#[cfg(test)]
+mod meeting;
+#[cfg(test)]
+mod options;
+#[cfg(test)]
 mod programs;
 #[cfg(test)]
 mod rows;

@@ -14,11 +14,11 @@ use std::thread::Threads;
 /// The devices of a call: how many bytes a call of each takes at most, how much the output holds, and which calls fail.
 #[derive(Clone, Copy)]
 pub(crate) struct Devices<'a> {
-    most: u64,
-    room: u64,
-    reads: &'a [u64],
-    outs: &'a [u64],
-    errs: &'a [u64],
+    pub(crate) most: u64,
+    pub(crate) room: u64,
+    pub(crate) reads: &'a [u64],
+    pub(crate) outs: &'a [u64],
+    pub(crate) errs: &'a [u64],
 }
 
 pub(crate) const SOUND: Devices<'static> = Devices {
@@ -46,7 +46,7 @@ fn sink(alloc: Global, room: u64, most: u64, fails: &[u64]) -> Result<MemorySink
     MemorySink::new(alloc, room, most.max(1), fails.to_vec(alloc)?)
 }
 
-fn texts(alloc: Global, words: &str) -> Result<Vec<String>, AllocError> {
+pub(crate) fn texts(alloc: Global, words: &str) -> Result<Vec<String>, AllocError> {
     let mut given = Vec::new(alloc);
     for word in words.split(' ') {
         given.push(String::from_str(alloc, word)?)?;
@@ -75,7 +75,7 @@ fn seen(
     Ok(seen)
 }
 
-fn answered<R: Threads + Wait + Sync>(
+pub(crate) fn answered<R: Threads + Wait + Sync>(
     rt: &R,
     alloc: Global,
     words: &Vec<String>,

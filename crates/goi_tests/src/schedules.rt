@@ -57,6 +57,24 @@ fn first_wrong<R: Threads + Wait + Sync>(
     Ok(None)
 }
 
+/// A schedule of the first version with so many moves of ticket 0.
+fn of_first_ticket(alloc: Global, moves: u32) -> Result<Vec<u8>, AllocError> {
+    let mut lines = Vec::from_slice(alloc, b"schedule 1\n")?;
+    for _ in 0..moves {
+        lines.extend_from_slice(b"0\n")?;
+    }
+    lines.extend_from_slice(b"end\n")?;
+    Ok(lines)
+}
+
+/// More moves than a run makes by default are read too.
+#[test]
+fn a_long_schedule(rt: HostRuntime) -> Result<(), Fail> {
+    let long = of_first_ticket(rt.alloc(), 10_001)?;
+    assert!(rt; replay_leaves(&rt, rt.alloc(), "1 + 2", &long, "7 refused: NotLive(3,0);")?);
+    Ok(())
+}
+
 #[test]
 fn schedules(rt: HostRuntime) -> Result<(), Fail> {
     let table = "

@@ -18,14 +18,18 @@ goi run p --workers 64|(fun d:nat->nat. d 1 + d 2) (fun x:nat. x + x)|0 value 6;
 goi run p --workers 2 --budget 125|(fun d:nat->nat. d 1 + d 2) (fun x:nat. x + x)|5 no value;moves 125;
 goi run p --workers 4|fix y:nat. y|5 no value;moves 10000;
 goi run p --workers 64|0|0 value 0;moves 2;
+goi run p --workers 1|(fun d:nat->nat. d 1 + d 2) (fun x:nat. x + x)|0 value 6;moves 126;
+goi run p --workers 64|(fun p:nat * nat. fst p - snd p) (9, 4)|0 value 5;moves 38;
+goi run p --workers 2|(fun p:nat * nat. fst p - snd p) (9, 4)|0 value 5;moves 38;
 goi demo 1 --workers 4|x|0 demo 1;nodes 13;value 4;moves 126;
+goi demo 12 --workers 4|x|0 demo 12;nodes 16389;value 8192;moves 524290;
 ";
     assert!(rt; first_wrong(&rt, rt.alloc(), table)? == None);
     Ok(())
 }
 
 /// The sums of the numbers at the ends of a report's lines: of the lines of its schedule, and of those of its tally.
-fn sums(report: &[u8]) -> (u32, u32) {
+pub(crate) fn sums(report: &[u8]) -> (u32, u32) {
     let mut schedule = 0u32;
     let mut tally = 0u32;
     let mut lines = 0u32;
@@ -51,6 +55,33 @@ fn sums(report: &[u8]) -> (u32, u32) {
         };
     }
     (schedule, tally)
+}
+
+/// The number behind the last place at which these bytes stand in a report, or 0.
+pub(crate) fn tally_of(report: &[u8], name: &[u8]) -> u32 {
+    let mut number = 0u32;
+    let mut rest = report;
+    for _ in 0..report.len() {
+        if let Some(behind) = rest.strip_prefix(name) {
+            number = number_at(behind);
+        }
+        rest = rest.split_first().map_or(rest, |(_, more)| more);
+    }
+    number
+}
+
+/// The number in decimal with which these bytes begin.
+fn number_at(bytes: &[u8]) -> u32 {
+    let mut number = 0u32;
+    for byte in bytes {
+        if !byte.is_ascii_digit() {
+            break;
+        }
+        number = number
+            .wrapping_mul(10)
+            .wrapping_add(u32::from(byte.wrapping_sub(b'0')));
+    }
+    number
 }
 
 /// The schedule of a report with a line feed for each `;`, from its third line to the line `end`.
