@@ -20,7 +20,7 @@ use Rattle.move_rules.specs.Views.{token_of, of_kind, place_at}
 use Rattle.move_rules.proofs.Single.{placed}
 use Rattle.interleave_core.specs.Forking.{HasBoxes, work_at, boxes_at}
 use Rattle.interleave_core.specs.LiveMap.{live_entries, live_of}
-use Rattle.interleave_core.specs.Moving.{ChangesIn, Changes, Solo, SoloAt, Sent}
+use Rattle.interleave_core.specs.Moving.{ChangesIn, Changes, Solo, SoloAt, UnaidedIn, UnaidedAt, Sent}
 use Rattle.interleave_core.proofs.Tickets.{test_nat}
 
 -- a change of one key, as it is seen
@@ -156,6 +156,10 @@ module _ (m : BTreeMap ℕ Token) (f : FinMap nat_cmp TokenTree) (view : live_of
   pub solo_ok : {E : Type 0} (net : NetTree) (n : BTreeMap ℕ Token) (i : ℕ) (r : Result Bool E) → IfOk r (λ made. ChangesIn (Solo net made) m i n) → IfOk r (λ made. SoloAt net f i made (live_of n))
   solo_ok net n i (Ok made) h = solo_live net n i made h
   solo_ok net n i (Err e) h = tt
+
+  -- a token whose move needs nothing else
+  pub unaided_live : (net : NetTree) (i : ℕ) → UnaidedIn net m i → UnaidedAt net f i
+  unaided_live net i (x, e, u) = (token_of x, seen_live i ∙ ap (option_map token_of) e, u)
 
   -- of one option
   one_token : (x y : TokenTree) → Some x ≡ Some y → x ≡ y

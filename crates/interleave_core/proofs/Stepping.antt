@@ -11,16 +11,16 @@ use Rattle.fork_join.specs.declared.side.Side.{Side}
 use Rattle.fork_join.specs.declared.side.Side.TheVariants.{Left, Right}
 use Rattle.net_build.specs.Nets.{NetTree}
 use Rattle.move_rules.specs.Places.{Place, TokenTree, up, place_of}
-use Rattle.move_rules.specs.Moves.{Move, solo, fork, join, answer, stay, move}
+use Rattle.move_rules.specs.Moves.{Move, solo, fork, join, answer, stay, move, Unaided}
 use Rattle.interleave_core.specs.declared.roles.Operator.{Operator}
 use Rattle.interleave_core.specs.declared.roles.Role.TheVariants.{Fork, Join, Last, Still}
 use Rattle.interleave_core.specs.declared.stepped.Stepped.TheVariants.{Went, Forked, Answered}
 use Rattle.interleave_core.specs.Maps.{MapState, step_map, step_map_on, act_map, fork_map, join_map}
-use Rattle.interleave_core.specs.Names.{step_name, name_on, name_of, name_at}
+use Rattle.interleave_core.specs.Names.{step_name, name_on, name_of, name_at, MayTake}
 use Rattle.interleave_core.specs.Forking.{HasBoxes, ForksTo, boxes_at}
 use Rattle.interleave_core.specs.Joining.{JoinsAt, joined_tokens, joined_name}
 use Rattle.interleave_core.specs.Roles.{op_of, role_move, MetAt, StandsStill}
-use Rattle.interleave_core.specs.Moving.{SoloAt}
+use Rattle.interleave_core.specs.Moving.{SoloAt, UnaidedAt}
 use Rattle.interleave_core.specs.Parts.{state}
 
 -- of one option
@@ -43,6 +43,19 @@ module _ (net : NetTree) (f : FinMap nat_cmp TokenTree) (g : FinMap key_cmp Entr
   -- and its name
   pub solo_name : (f' : FinMap nat_cmp TokenTree) → SoloAt net f i true f' → step_name net (state f g n v) i ≡ Some Went
   solo_name f' (x, e, (k, y, m, h)) = named x (solo k y) e m
+
+  -- a step that needs nothing but its token is a solo move
+  pub alone_takes : (able : IsSome (step_map net (state f g n v) i)) → UnaidedAt net f i → MayTake (step_name net (state f g n v) i)
+  alone_takes able (x, e, u) = go (move net x) refl u
+    where
+      go : (m : Move) → move net x ≡ m → Unaided m → MayTake (step_name net (state f g n v) i)
+      go (solo k y) h u = subst MayTake (sym (named x (solo k y) e h)) tt
+      go (fork k l r t) h u = elim u [ ]
+      go (join k o s w c t) h u = elim u [ ]
+      go (answer w) h u = elim u [ ]
+      go stay h u =
+          let z : step_map net (state f g n v) i ≡ None = acts x stay e h in
+          let bad : IsSome {T = MapState} None = subst IsSome z able in cc
 
   -- where none is made, the token stands there, and all is as before
   pub no_solo : (f' : FinMap nat_cmp TokenTree) → SoloAt net f i false f' → StandsStill net f' i
@@ -85,6 +98,10 @@ module _ (net : NetTree) (f : FinMap nat_cmp TokenTree) (g : FinMap key_cmp Entr
     -- and its name
     pub fork_name : (a b : ℕ) → MetAt net f i k (Fork a b) → step_name net (state f g n v) i ≡ Some (Forked n)
     fork_name a b (x, e, h, _) = named x _ e h
+
+    -- which may take memory
+    pub fork_takes : (a b : ℕ) → MetAt net f i k (Fork a b) → MayTake (step_name net (state f g n v) i)
+    fork_takes a b met = subst MayTake (sym (fork_name a b met)) tt
 
     -- a join that is made found an entry that waits
     join_able : (t : Boxes) (o : Option Entry) (p : Side) (op : Operator) (u : Val) (c : ℕ) → IsSome (join_map o (state f g n v) i k (op_of op) (side_of p) u c t) → IsOpenFor o (side_of p)

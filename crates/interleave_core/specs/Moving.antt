@@ -9,7 +9,7 @@ use Rattle.net_build.specs.Nets.{NetTree}
 use Rattle.move_rules.specs.declared.token.Kind.{Kind}
 use Rattle.move_rules.specs.declared.token.Token.{Token}
 use Rattle.move_rules.specs.Places.{TokenTree}
-use Rattle.move_rules.specs.Moves.{solo, move, NotSolo}
+use Rattle.move_rules.specs.Moves.{solo, move, NotSolo, Unaided}
 use Rattle.move_rules.specs.Views.{token_of}
 use Rattle.move_rules.specs.Walks.{Walks}
 
@@ -28,6 +28,14 @@ Solo net made x y = MatchBool made ((k : ℕ) × (move net (token_of x) ≡ solo
 -- the ticket's token makes its solo move, or its move is none and all stays
 abbrev pub SoloAt : NetTree → FinMap nat_cmp TokenTree → ℕ → Bool → FinMap nat_cmp TokenTree → Type 0
 SoloAt net f i made g = (x : TokenTree) × (get f i ≡ Some x) × MatchBool made ((k : ℕ) × (y : TokenTree) × (move net x ≡ solo k y) × (g ≡ insert f i y)) (NotSolo (move net x) × (g ≡ f))
+
+-- the move of the ticket's token needs nothing but that token
+abbrev pub UnaidedIn : NetTree → BTreeMap ℕ Token → ℕ → Type 0
+UnaidedIn net m i = (x : Token) × (tree.get nat_cmp m i ≡ Some x) × Unaided (move net (token_of x))
+
+-- the same of the finite map
+abbrev pub UnaidedAt : NetTree → FinMap nat_cmp TokenTree → ℕ → Type 0
+UnaidedAt net f i = (x : TokenTree) × (get f i ≡ Some x) × Unaided (move net x)
 
 -- the token goes to a wire, up or down, as a question or an answer, with the stacks that it has
 abbrev pub sent : Token → ℕ → Bool → Kind → Token

@@ -34,3 +34,12 @@ name_on net (Some x) S = name_of (move net x) S
 -- the name of the ticket's step
 abbrev pub step_name : NetTree → MapState → ℕ → Option Stepped
 step_name net S i = name_on net (get S.tokens i) S
+
+-- the steps that may take memory: a solo move and a fork. A join and the answer take none.
+abbrev pub MayTake : Option Stepped → Type 0
+MayTake None = ⊥
+MayTake (Some Went) = Unit {0}
+MayTake (Some (Forked n)) = Unit {0}
+MayTake (Some Kept) = ⊥
+MayTake (Some Joined) = ⊥
+MayTake (Some (Answered v)) = ⊥

@@ -2,7 +2,7 @@
 ghost use Rattle.std.specs.Prelude.{◌≡◌, ◌+◌, ◌<◌, ◌^◌, ℕ, Some, None, OnOk, OnErr, IfOk, IsSome, true};
 ghost use Rattle.std.specs.FinMap.{get};
 ghost use Rattle.interleave_core.specs.Maps.{step_map};
-ghost use Rattle.interleave_core.specs.Names.{step_name};
+ghost use Rattle.interleave_core.specs.Names.{step_name, MayTake};
 ghost use Rattle.interleave_core.specs.Parts.{state_of};
 ghost use Rattle.interleave_core.specs.Roles.{MetAt, StandsStill};
 ghost use Rattle.interleave_core.specs.declared.roles.Role.TheVariants.{Fork, Join, Last};
@@ -33,6 +33,7 @@ fn split(
     ensures name { IfOk result (λ s. step_name net.now (state_of parts.old) ticket ≡ Some s) }
     ensures steps { OnOk result (step_map net.now (state_of parts.old) ticket ≡ Some (state_of parts.new)) }
     ensures stays { OnErr result (state_of parts.new ≡ state_of parts.old) }
+    ensures taken { OnErr result (MayTake (step_name net.now (state_of parts.old) ticket)) }
 {
     let next = parts.next;
     fork(&mut parts.live, &mut parts.joins, ticket, next, at, a, b)?;
@@ -79,7 +80,7 @@ fn end(parts: &mut Parts, net: &Net, ticket: u32, at: u32, v: Val) -> Stepped
     Stepped::Answered(v)
 }
 
-// Makes the one move of a ticket whose token makes no solo move. After want of memory all is as before.
+// Makes the one move of a ticket whose token makes no solo move. After want of memory all is as before, and the move was a fork.
 pub(crate) fn act(parts: &mut Parts, net: &Net, ticket: u32) -> Result<Stepped, AllocError>
     requires stands { StandsStill net.now parts.old.live ticket }
     requires able { IsSome (step_map net.now (state_of parts.old) ticket) }
@@ -88,6 +89,7 @@ pub(crate) fn act(parts: &mut Parts, net: &Net, ticket: u32) -> Result<Stepped, 
     ensures name { IfOk result (λ s. step_name net.now (state_of parts.old) ticket ≡ Some s) }
     ensures steps { OnOk result (step_map net.now (state_of parts.old) ticket ≡ Some (state_of parts.new)) }
     ensures stays { OnErr result (state_of parts.new ≡ state_of parts.old) }
+    ensures taken { OnErr result (MayTake (step_name net.now (state_of parts.old) ticket)) }
 {
     let (at, role) = met_at(net, &parts.live, ticket);
     match role {
@@ -100,7 +102,7 @@ pub(crate) fn act(parts: &mut Parts, net: &Net, ticket: u32) -> Result<Stepped, 
     }
 }
 
-// Makes the one move of a ticket. After want of memory all is as before.
+// Makes the one move of a ticket. After want of memory all is as before, and the move was a solo move or a fork.
 pub(crate) fn step_in(parts: &mut Parts, net: &Net, ticket: u32) -> Result<Stepped, AllocError>
     requires live { IsSome (get parts.old.live ticket) }
     requires able { IsSome (step_map net.now (state_of parts.old) ticket) }
@@ -109,6 +111,7 @@ pub(crate) fn step_in(parts: &mut Parts, net: &Net, ticket: u32) -> Result<Stepp
     ensures name { IfOk result (λ s. step_name net.now (state_of parts.old) ticket ≡ Some s) }
     ensures steps { OnOk result (step_map net.now (state_of parts.old) ticket ≡ Some (state_of parts.new)) }
     ensures stays { OnErr result (state_of parts.new ≡ state_of parts.old) }
+    ensures taken { OnErr result (MayTake (step_name net.now (state_of parts.old) ticket)) }
 {
     if parts.live.solo(net, ticket)? {
         Ok(Stepped::Went)

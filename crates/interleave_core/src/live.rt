@@ -5,10 +5,10 @@ ghost use Rattle.std.specs.Ordering.{nat_cmp};
 ghost use Rattle.std.specs.BTreeMap as tree;
 ghost use Rattle.std.specs.FinMap.{empty, get, insert, remove, len};
 ghost use Rattle.token_stacks.specs.Signatures.{Boxes, load};
-ghost use Rattle.move_rules.specs.Moves.{move, NotSolo};
+ghost use Rattle.move_rules.specs.Moves.{move, NotSolo, Unaided};
 ghost use Rattle.move_rules.specs.Views.{place_at, of_kind, token_of};
 ghost use Rattle.interleave_core.specs.Forking.{HasBoxes};
-ghost use Rattle.interleave_core.specs.Moving.{ChangesIn, Changes, Solo, SoloAt, Sent, Trails, WalksOn};
+ghost use Rattle.interleave_core.specs.Moving.{ChangesIn, Changes, Solo, SoloAt, UnaidedIn, UnaidedAt, Sent, Trails, WalksOn};
 
 use move_rules::{Kind, Token, solo_move};
 use net_build::Net;
@@ -100,6 +100,7 @@ fn next_in(tokens: &Tokens, after: u32) -> Option<u32>
 fn solo_of(net: &Net, token: &mut Token) -> Result<bool, AllocError>
     ensures ok { IfOk result (λ made. Solo net.now made token.old token.new) }
     ensures err { OnErr result (token.new ≡ token.old) }
+    ensures unaided { OnErr result (Unaided (move net.now (token_of token.old))) }
 {
     match solo_move(net, token)? {
         Some(_) => Ok(true),
@@ -112,6 +113,7 @@ fn solo_in(net: &Net, tokens: &mut Tokens, ticket: u32) -> Result<bool, AllocErr
     requires { IsSome (tree.get nat_cmp tokens.old ticket) }
     ensures ok { IfOk result (λ made. ChangesIn (Solo net.now made) tokens.old ticket tokens.new) }
     ensures err { OnErr result ((q : ℕ) → tree.get nat_cmp tokens.new q ≡ tree.get nat_cmp tokens.old q) }
+    ensures unaided { OnErr result (UnaidedIn net.now tokens.old ticket) }
 {
     match tokens.get_mut(&ticket) {
         Some(token) => solo_of(net, token),
@@ -235,11 +237,13 @@ impl LiveTokens {
         next_in(&self.tokens, after)
     }
 
-    // Makes the ticket's next move on this net in place, if it is a solo move. After want of memory all is as before.
+    // Makes the ticket's next move on this net in place, if it is a solo move. After want of memory all is as before; a fork, a join and
+    // the answer take none.
     pub(crate) fn solo(&mut self, net: &Net, ticket: u32) -> Result<bool, AllocError>
         requires { IsSome (get self.old ticket) }
         ensures ok { IfOk result (λ made. SoloAt net.now self.old ticket made self.new) }
         ensures err { OnErr result (self.new ≡ self.old) }
+        ensures unaided { OnErr result (UnaidedAt net.now self.old ticket) }
     {
         solo_in(net, &mut self.tokens, ticket)
     }

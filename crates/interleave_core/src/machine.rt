@@ -9,7 +9,7 @@ ghost use Rattle.interleave_core.specs.Start.{start_of};
 ghost use Rattle.interleave_core.specs.Runs.{Runs};
 ghost use Rattle.interleave_core.specs.Maps.{start_map, step_map, run_map, IsReachedWithin};
 ghost use Rattle.interleave_core.specs.Tickets.{IsLive, NoneLive, IsLeastLive, NoneLiveAbove, IsNextLive};
-ghost use Rattle.interleave_core.specs.Names.{step_name};
+ghost use Rattle.interleave_core.specs.Names.{step_name, MayTake};
 ghost use Rattle.interleave_core.specs.Adopting.{Accepts, adopted};
 
 use crate::Stepped;
@@ -112,7 +112,7 @@ impl Core {
     ///
     /// # Errors
     ///
-    /// Want of memory; the state is as it was.
+    /// Want of memory; the state is as it was. Only a solo move and a fork take memory: a step that joins or brings the answer never fails.
     pub fn step(&mut self, net: &Net, ticket: u32) -> Result<Stepped, AllocError>
         requires runs { Runs net.now }
         requires live { IsLive self.old ticket }
@@ -120,6 +120,7 @@ impl Core {
         ensures name { IfOk result (λ s. step_name net.now self.old ticket ≡ Some s) }
         ensures steps { OnOk result (step_map net.now self.old ticket ≡ Some self.new) }
         ensures stays { OnErr result (self.new ≡ self.old) }
+        ensures taken { OnErr result (MayTake (step_name net.now self.old ticket)) }
     {
         step_in(&mut self.parts, net, ticket)
     }

@@ -1,18 +1,21 @@
 -- One solo move in place is the table's move of the token.
 use Rattle.std.proofs.Common.{◌≡◌, ℕ, Bool, true, false, cond, [], Option, Some, None, refl, sym, ap, ◌∙◌, subst}
 use Rattle.std.specs.Option.{option_map}
+use Rattle.pcf_values.specs.declared.val.Val.{Val}
+use Rattle.token_stacks.specs.Signatures.{Work, Boxes}
 use Rattle.net_build.specs.declared.node.Node.{Node}
+use Rattle.net_build.specs.declared.node.Node.TheVariants as node
 use Rattle.net_build.specs.Nets.{NetTree}
 use Rattle.move_rules.specs.declared.token.Kind.{Kind}
 use Rattle.move_rules.specs.declared.token.Kind.TheVariants.{Ask, Ans}
 use Rattle.move_rules.specs.declared.token.Token.{Token}
 use Rattle.move_rules.specs.declared.token.Seen.{Seen}
-use Rattle.move_rules.specs.Places.{Place, place_of}
-use Rattle.move_rules.specs.Table.{on_found, facing}
-use Rattle.move_rules.specs.Moves.{solo, stay, move, move_at, NotSolo}
+use Rattle.move_rules.specs.Places.{Place, up, down, TokenTree, ask, ans, place_of}
+use Rattle.move_rules.specs.Table.{plain_up, plain_down, on_found, facing}
+use Rattle.move_rules.specs.Moves.{pass_at, look_up, ask_move, solo_at, ans_down, solo, stay, move, move_at, NotSolo, Unaided}
 use Rattle.move_rules.specs.Views.{place_at, of_kind, token_of, numbered}
 use Rattle.move_rules.specs.Walks.{faces, on_solo, through, SoloMove}
-use Rattle.move_rules.specs.Steps.{Passes}
+use Rattle.move_rules.specs.Steps.{Passes, IsPlain}
 use Rattle.move_rules.proofs.Facing.{Met, met, move_faced}
 
 -- where a token stands, whatever its kind
@@ -56,3 +59,69 @@ not_made net k k' o s b h e p t =
     let f : facing net (place_at k.wire k.up k.stacks) ≡ Some (s.at, s.node) = sym h ∙ ap (option_map numbered) e in
     let (n, same) = subst (λ b. Passes s.node k b k') t p s.at in
     (subst NotSolo (sym (at_met net k s.at s.node f)) n, same)
+
+-- a question that follows a plain rule needs nothing but its token
+asks_alone : (i : ℕ) (o : Option Place) (p : Place) → Unaided (ask_move (pass_at i o) p)
+asks_alone i None p = tt
+asks_alone i (Some q) p = tt
+
+-- and neither does an answer
+answers_alone : (i : ℕ) (o : Option Place) (f : Place → TokenTree) → Unaided (solo_at i o f)
+answers_alone i None f = tt
+answers_alone i (Some q) f = tt
+
+-- so it is with a question that comes up to a node whose rules are all plain
+asks_up : (i : ℕ) (n : Node) (w : ℕ) (m : Work) (t : Boxes) → IsPlain n → Unaided (ask_move (look_up i n w m t) (up w m t))
+asks_up i (node.Der a x) w m t h = asks_alone i (plain_up (node.Der a x) w m t) (up w m t)
+asks_up i (node.Con l r c) w m t h = asks_alone i (plain_up (node.Con l r c) w m t) (up w m t)
+asks_up i (node.Lam b x c) w m t h = asks_alone i (plain_up (node.Lam b x c) w m t) (up w m t)
+asks_up i (node.App f a c) w m t h = asks_alone i (plain_up (node.App f a c) w m t) (up w m t)
+asks_up i (node.BoxNode b o) w m t h = asks_alone i (plain_up (node.BoxNode b o) w m t) (up w m t)
+asks_up i (node.Door b o) w m t h = asks_alone i (plain_up (node.Door b o) w m t) (up w m t)
+asks_up i (node.FixBox b x c) w m t h = asks_alone i (plain_up (node.FixBox b x c) w m t) (up w m t)
+asks_up i (node.Pair a b c) w m t h = asks_alone i (plain_up (node.Pair a b c) w m t) (up w m t)
+asks_up i (node.Fst a c) w m t h = asks_alone i (plain_up (node.Fst a c) w m t) (up w m t)
+asks_up i (node.Snd a c) w m t h = asks_alone i (plain_up (node.Snd a c) w m t) (up w m t)
+asks_up i (node.Const n c) w m t h = absurd h
+asks_up i (node.Succ a c) w m t h = absurd h
+asks_up i (node.Pred a c) w m t h = absurd h
+asks_up i (node.Plus a b c) w m t h = absurd h
+asks_up i (node.Minus a b c) w m t h = absurd h
+asks_up i (node.Times a b c) w m t h = absurd h
+asks_up i (node.Ifz b p q c) w m t h = absurd h
+asks_up i (node.Weak x) w m t h = absurd h
+asks_up i (node.Root c) w m t h = absurd h
+
+-- with an answer that comes down to one
+answers_down : (i : ℕ) (n : Node) (v : Val) (w : ℕ) (m : Work) (t : Boxes) → IsPlain n → Unaided (ans_down i n v w m t)
+answers_down i (node.Der a x) v w m t h = answers_alone i (plain_down (node.Der a x) w m t) (ans v)
+answers_down i (node.Con l r c) v w m t h = answers_alone i (plain_down (node.Con l r c) w m t) (ans v)
+answers_down i (node.Lam b x c) v w m t h = answers_alone i (plain_down (node.Lam b x c) w m t) (ans v)
+answers_down i (node.App f a c) v w m t h = answers_alone i (plain_down (node.App f a c) w m t) (ans v)
+answers_down i (node.BoxNode b o) v w m t h = answers_alone i (plain_down (node.BoxNode b o) w m t) (ans v)
+answers_down i (node.Door b o) v w m t h = answers_alone i (plain_down (node.Door b o) w m t) (ans v)
+answers_down i (node.FixBox b x c) v w m t h = answers_alone i (plain_down (node.FixBox b x c) w m t) (ans v)
+answers_down i (node.Pair a b c) v w m t h = answers_alone i (plain_down (node.Pair a b c) w m t) (ans v)
+answers_down i (node.Fst a c) v w m t h = answers_alone i (plain_down (node.Fst a c) w m t) (ans v)
+answers_down i (node.Snd a c) v w m t h = answers_alone i (plain_down (node.Snd a c) w m t) (ans v)
+answers_down i (node.Const n c) v w m t h = absurd h
+answers_down i (node.Succ a c) v w m t h = absurd h
+answers_down i (node.Pred a c) v w m t h = absurd h
+answers_down i (node.Plus a b c) v w m t h = absurd h
+answers_down i (node.Minus a b c) v w m t h = absurd h
+answers_down i (node.Times a b c) v w m t h = absurd h
+answers_down i (node.Ifz b p q c) v w m t h = absurd h
+answers_down i (node.Weak x) v w m t h = absurd h
+answers_down i (node.Root c) v w m t h = absurd h
+
+-- and with every token there
+plain_alone : (i : ℕ) (n : Node) (x : TokenTree) → IsPlain n → Unaided (move_at i n x)
+plain_alone i n (ask (up w m t)) h = asks_up i n w m t h
+plain_alone i n (ask (down w m t)) h = asks_alone i (plain_down n w m t) (down w m t)
+plain_alone i n (ans v (up w m t)) h = answers_alone i (plain_up n w m t) (ans v)
+plain_alone i n (ans v (down w m t)) h = answers_down i n v w m t h
+
+-- where memory was wanting at such a node, the token's move needs nothing else
+pub lacking : (net : NetTree) (k : Token) (o : Option Seen) (s : Seen) → option_map numbered o ≡ facing net (place_at k.wire k.up k.stacks) → o ≡ Some s → IsPlain s.node
+    → Unaided (move net (token_of k))
+lacking net k o s h e p = subst Unaided (sym (at_met net k s.at s.node (sym h ∙ ap (option_map numbered) e))) (plain_alone s.at s.node (token_of k) p)

@@ -115,6 +115,14 @@ NotSolo (join i o s v w t) = Unit {0}
 NotSolo (answer v) = Unit {0}
 NotSolo stay = Unit {0}
 
+-- a move that needs nothing but its token: a solo move, or none
+abbrev pub Unaided : Move → Type 0
+Unaided (solo i x) = Unit {0}
+Unaided (fork i l r t) = ⊥
+Unaided (join i o s v w t) = ⊥
+Unaided (answer v) = ⊥
+Unaided stay = Unit {0}
+
 -- the one move of a token
 abbrev pub move : NetTree → TokenTree → Move
 move net (ask p) = ask_move (look net p) p

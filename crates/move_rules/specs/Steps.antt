@@ -2,6 +2,7 @@
 use Rattle.std.specs.Prelude.{◌≡◌, ℕ, Bool, Option, Some, None}
 use Rattle.std.specs.Bool.{MatchBool}
 use Rattle.net_build.specs.declared.node.Node.{Node}
+use Rattle.net_build.specs.declared.node.Node.TheVariants.{Der, Con, Lam, App, BoxNode, Door, FixBox, Pair, Fst, Snd}
 use Rattle.move_rules.specs.declared.token.Token.{Token}
 use Rattle.move_rules.specs.Places.{Place}
 use Rattle.move_rules.specs.Moves.{solo, move_at, NotSolo}
@@ -16,3 +17,17 @@ Goes rule old made new =
 -- the token makes its solo move through the node, whatever the node's number, or it has none there and all stays
 abbrev pub Passes : Node → Token → Bool → Token → Type 0
 Passes n old made new = (i : ℕ) → MatchBool made (move_at i n (token_of old) ≡ solo i (token_of new)) (NotSolo (move_at i n (token_of old)) × (new ≡ old))
+
+-- a node whose rules are all plain: only there a move takes memory
+abbrev pub IsPlain : Node → Type 0
+IsPlain (Der w x) = Unit {0}
+IsPlain (Con l r w) = Unit {0}
+IsPlain (Lam b x w) = Unit {0}
+IsPlain (App f a w) = Unit {0}
+IsPlain (BoxNode i o) = Unit {0}
+IsPlain (Door i o) = Unit {0}
+IsPlain (FixBox b x w) = Unit {0}
+IsPlain (Pair a b w) = Unit {0}
+IsPlain (Fst a w) = Unit {0}
+IsPlain (Snd a w) = Unit {0}
+IsPlain _ = ⊥

@@ -2,8 +2,8 @@
 ghost use Rattle.std.specs.Prelude.{◌≡◌, IfOk, OnErr, MatchOption};
 ghost use Rattle.std.specs.Option.{option_map};
 ghost use Rattle.net_build.specs.Sides.{number_of};
-ghost use Rattle.move_rules.specs.Moves.{move, NotSolo};
-ghost use Rattle.move_rules.specs.Steps.{Passes};
+ghost use Rattle.move_rules.specs.Moves.{move, NotSolo, Unaided};
+ghost use Rattle.move_rules.specs.Steps.{Passes, IsPlain};
 ghost use Rattle.move_rules.specs.Table.{facing};
 ghost use Rattle.move_rules.specs.Views.{place_at, token_of, numbered};
 ghost use Rattle.move_rules.specs.Walks.{SoloMove};
@@ -21,6 +21,7 @@ use std::alloc::AllocError;
 fn pass(token: &mut Token, node: Node) -> Result<bool, AllocError>
     ensures ok { IfOk result (λ made. Passes node token.old made token.new) }
     ensures err { OnErr result (token.new ≡ token.old) }
+    ensures plain { OnErr result (IsPlain node) }
 {
     match node {
         Node::Const { v, .. } => Ok(const_moves(token, v)),
@@ -71,10 +72,12 @@ pub fn faced(net: &Net, token: &Token) -> Option<Seen>
 }
 
 /// Makes the token's next move on this net in place, if it is a solo move, and answers the node; `None` where it is a fork, a join, the
-/// answer, or none, and the token stays. After want of memory it stays as well. It holds for every token of every net.
+/// answer, or none, and the token stays. After want of memory it stays as well; a fork, a join and the answer take none. It holds for every
+/// token of every net.
 pub fn solo_move(net: &Net, token: &mut Token) -> Result<Option<Seen>, AllocError>
     ensures ok { IfOk result (λ seen. MatchOption seen (NotSolo (move net.now (token_of token.old)) × (token.new ≡ token.old)) (λ s. SoloMove net.now token.old s token.new)) }
     ensures err { OnErr result (token.new ≡ token.old) }
+    ensures unaided { OnErr result (Unaided (move net.now (token_of token.old))) }
 {
     let Some(seen) = faced(net, token) else {
         return Ok(None);
