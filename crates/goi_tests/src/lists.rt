@@ -125,10 +125,26 @@ fn one_file_in_all_lines(rt: HostRuntime) -> Result<(), Fail> {
     Ok(())
 }
 
-/// What the list of three leaves where a call of a device fails.
+/// A list for each status that a report comes with: 1, 5 and 0.
+const REPORTED: &str = "
+batch 1;job 30 p9;job 5 p5;job 10 p1;end;
+batch 1;job 30 p9;job 5 p5;end;
+batch 1;job 30 p9;end;
+";
+
+/// Lists that are refused, and one that names a file that isn't there.
+const REFUSED: &str = "
+batch 1;job 0 p9;end;
+batch 1;job 30 p9;
+job 30 p9;end;
+batch 1;job 30 p9;job 5 lacked;job 10 p1;end;
+";
+
+/// What a list leaves where calls of a device fail.
 fn failing<R: Threads + Wait + Sync>(
     rt: &R,
     alloc: Global,
+    list: &str,
     reads: &[u64],
     outs: &[u64],
     errs: &[u64],
@@ -140,17 +156,48 @@ fn failing<R: Threads + Wait + Sync>(
         errs,
         ..SOUND
     };
-    leaves(rt, alloc, "goi batch l", THREE, devices, wanted)
+    leaves(rt, alloc, "goi batch l", list, devices, wanted)
+}
+
+/// Whether the list's report is cut as far as an output takes it that fails at once, or behind ten bytes.
+fn is_cut<R: Threads + Wait + Sync>(rt: &R, alloc: Global, list: &str) -> Result<bool, AllocError> {
+    let devices = Devices {
+        most: 10,
+        outs: &[2],
+        ..SOUND
+    };
+    Ok(
+        failing(rt, alloc, list, &[], &[1], &[], "4 write failed;")?
+            && failing(rt, alloc, list, &[], &[1], &[1], "4 ")?
+            && leaves(
+                rt,
+                alloc,
+                "goi batch l",
+                list,
+                devices,
+                "4 job 0;valuwrite failed;",
+            )?,
+    )
 }
 
 #[test]
-fn devices_that_fail(rt: HostRuntime) -> Result<(), Fail> {
+fn outputs_that_fail(rt: HostRuntime) -> Result<(), Fail> {
+    for list in REPORTED.split('\n') {
+        assert!(rt; list.is_empty() || is_cut(&rt, rt.alloc(), list)?);
+    }
+    for list in REFUSED.split('\n') {
+        assert!(rt; list.is_empty() || failing(&rt, rt.alloc(), list, &[], &[], &[1], "4 ")?);
+    }
+    Ok(())
+}
+
+#[test]
+fn reads_that_fail(rt: HostRuntime) -> Result<(), Fail> {
     // Each file takes two reads, but the empty one takes one.
     for read in 1u64..8 {
-        assert!(rt; failing(&rt, rt.alloc(), &[read], &[], &[], "3 read failed;")?);
+        assert!(rt; failing(&rt, rt.alloc(), THREE, &[read], &[], &[], "3 read failed;")?);
+        assert!(rt; failing(&rt, rt.alloc(), THREE, &[read], &[], &[1], "4 ")?);
     }
-    assert!(rt; failing(&rt, rt.alloc(), &[8], &[], &[], TOLD)?);
-    assert!(rt; failing(&rt, rt.alloc(), &[], &[1], &[], "4 write failed;")?);
-    assert!(rt; failing(&rt, rt.alloc(), &[3], &[], &[1], "4 ")?);
+    assert!(rt; failing(&rt, rt.alloc(), THREE, &[8], &[], &[], TOLD)?);
     Ok(())
 }
