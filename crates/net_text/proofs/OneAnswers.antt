@@ -9,15 +9,16 @@ use Rattle.net_build.specs.Sound.{Sound}
 use Rattle.net_build.proofs.Built.{built_sound}
 use Rattle.net_check.specs.declared.fault.NetFault.{NetFault}
 use Rattle.net_check.specs.Faults.{FirstFault, NoFault, OneFault}
+use Rattle.net_terms.specs.Limits.{most_term_height}
+use Rattle.net_terms.specs.OfTerm.{IsNetOf}
+use Rattle.net_terms.proofs.Complete.{one_term}
 use Rattle.net_text.specs.declared.fault.NetTextFault.{NetTextFault}
 use Rattle.net_text.specs.declared.fault.NetTextFault.TheVariants.{NoMemory, BadLine, NotSound, NotOfTerm, TooLong}
 use Rattle.net_text.specs.Accepted.{Accepts, ListsProgram, OneAnswer, Sorted}
 use Rattle.net_text.specs.FirstFault.{net_of_lines}
-use Rattle.net_text.specs.Limits.{most_text_bytes, most_type_height, most_term_height}
+use Rattle.net_text.specs.Limits.{most_text_bytes, most_type_height}
 use Rattle.net_text.specs.Listing.{listing}
 use Rattle.net_text.specs.NetText.{Begins, FirstBad, NetFits, NetOfText, TextOf, lines, listing_lines}
-use Rattle.net_text.specs.OfTerm.{IsNetOf}
-use Rattle.net_text.proofs.Complete.{one_term}
 use Rattle.net_text.proofs.Listed.{listing_read}
 use Rattle.net_text.proofs.SmallNets.{fit_types, listing_long, term_net_fits}
 use Rattle.net_text.proofs.Splitting.{listing_split}

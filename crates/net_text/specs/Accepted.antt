@@ -1,4 +1,4 @@
--- What a net file is accepted as, and which fault of it is the first.
+-- What a net and a net file are accepted as, and which fault of a file is the first.
 -- The bytes are looked at first, then whether their net is sound, and then whether it is a term's. A program is listed where its own net
 -- is: nothing is asked of depths and numbers, since those of a program's net are small by themselves.
 use Rattle.std.specs.Prelude.{◌≡◌, ◌≢◌, ◌<◌, ◌≤◌, ℕ, List, [], ◌∷◌, length, Result, Ok, Err}
@@ -8,12 +8,13 @@ use Rattle.net_build.specs.Nets.{WireTree, NetTree}
 use Rattle.net_build.specs.NetOf.{net_of}
 use Rattle.net_build.specs.Sound.{Sound}
 use Rattle.net_check.specs.Faults.{FirstFault}
+use Rattle.net_terms.specs.Limits.{most_term_height}
+use Rattle.net_terms.specs.OfTerm.{IsNetOf, OfNone}
 use Rattle.net_text.specs.declared.fault.NetTextFault.{NetTextFault}
 use Rattle.net_text.specs.declared.fault.NetTextFault.TheVariants.{NoMemory, BadLine, NotSound, NotOfTerm, TooLong}
-use Rattle.net_text.specs.Limits.{most_text_bytes, most_type_height, most_term_height}
+use Rattle.net_text.specs.Limits.{most_text_bytes, most_type_height}
 use Rattle.net_text.specs.Listing.{listing}
 use Rattle.net_text.specs.NetText.{FirstBad, TextOf, lines, ty_height}
-use Rattle.net_text.specs.OfTerm.{IsNetOf, OfNone}
 
 -- no wire's type is higher than h
 abbrev pub TypesWithin : ℕ → List WireTree → Type 0
@@ -40,6 +41,15 @@ Accepts bytes (Err NotOfTerm) = (net : NetTree) × TextOf bytes net × Sound net
 -- Bytes have one answer, want of memory aside.
 abbrev pub OneAnswer : Type 0
 OneAnswer = (bytes : List ℕ) (r s : Result (TermTree × TyTree) NetTextFault) → Accepts bytes r → Accepts bytes s → r ≢ Err NoMemory → s ≢ Err NoMemory → r ≡ s
+
+-- The term whose net it is, or the fault that it is that of none. Want of memory says nothing, and there is no other fault.
+abbrev pub Answers : ℕ → NetTree → Result (TermTree × TyTree) NetTextFault → Type 0
+Answers h net (Ok t) = IsNetOf h net t.0 × (t.1 ≡ nat)
+Answers h net (Err NoMemory) = Unit {0}
+Answers h net (Err NotOfTerm) = OfNone h net
+Answers h net (Err (BadLine n)) = ⊥
+Answers h net (Err (NotSound f)) = ⊥
+Answers h net (Err TooLong) = ⊥
 
 -- The program whose net it is, or the net's first fault.
 abbrev pub Sorted : NetTree → Result (TermTree × TyTree) NetTextFault → Type 0

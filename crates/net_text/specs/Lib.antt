@@ -1,9 +1,8 @@
 -- What public contracts cite, and a reader has to believe, in the order to read it: the limits, the listing of a net, which bytes are a
--- listing and which line is the first that can't stand, whose net a net is, what a net file is accepted as, and the laws.
+-- listing and which line is the first that can't stand, what a net and a net file are accepted as, and the laws.
 pub mod Limits
 pub mod Listing
 pub mod NetText
-pub mod OfTerm
 pub mod Accepted
 pub mod Laws
 -- How a text is read line by line, and each line by its beginning: what laws and private contracts speak of.
@@ -13,9 +12,3 @@ pub mod WireText
 pub mod NodeText
 pub mod FirstFault
 pub mod Scanning
--- How a term is read from the nodes of a net, typed, and held against the net's types: the same.
-pub mod TermOf
-pub mod Walks
-pub mod Reads
-pub mod Typable
-pub mod Uses

@@ -6,16 +6,15 @@ ghost use Rattle.net_text.specs.declared.fault.NetTextFault.TheVariants.{NoMemor
 ghost use Rattle.net_text.specs.Accepted.{Accepts, ListsProgram, Sorted};
 
 use crate::NetTextFault;
-use crate::limits::TERM_HEIGHT;
 use crate::read::read_net;
-use crate::readback::term_within;
+use crate::term::term_or_fault;
 use net_build::Net;
 use net_check::{NetFault, check, law_one_fault};
 use pcf_values::Typed;
 use std::alloc::Global;
 
 /// The closed term of type `nat` whose net the bytes list, or the first fault: too many bytes, a line that can't stand where it stands, a
-/// net that isn't sound, or a net that is no such term's. A term that is answered is no higher than `limits::TERM_HEIGHT`.
+/// net that isn't sound, or a net that is no such term's. A term that is answered is no higher than `net_terms::limits::TERM_HEIGHT`.
 pub fn accept(alloc: Global, bytes: &[u8]) -> Result<Typed, NetTextFault>
     ensures answer { Accepts bytes.now result }
     // A program that the bytes list is accepted, unless memory runs out.
@@ -37,7 +36,7 @@ fn program_of(alloc: Global, net: &Net) -> Result<Typed, NetTextFault>
     ensures { Sorted net.now result }
 {
     match check(alloc, net) {
-        Ok(()) => term_within(alloc, net, TERM_HEIGHT),
+        Ok(()) => term_or_fault(alloc, net),
         Err(NetFault::NoMemory) => Err(NetTextFault::NoMemory),
         Err(fault) => Err(NetTextFault::NotSound(fault)),
     }

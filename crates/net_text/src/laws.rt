@@ -1,26 +1,11 @@
-//! What holds of the term that is read from a net.
+//! What holds of the texts of nets.
 
 ghost use Rattle.net_text.specs.Accepted.{OneAnswer};
 ghost use Rattle.net_text.specs.Limits.{LimitsAre};
-ghost use Rattle.net_text.specs.Laws.{ExampleTerm, OneTerm, ReadBack, TextsAreRead, TypesAreRead};
+ghost use Rattle.net_text.specs.Laws.{TextsAreRead, TypesAreRead};
 ghost use Rattle.net_text.specs.Standing.{StandingIsBeginning};
 
 use net_check::law_one_fault;
-
-/// From the net of a closed term of type `nat` the walk reads that term.
-pub fn law_read_back()
-    ensures { ReadBack }
-{}
-
-/// No two closed terms of type `nat` have one net.
-pub fn law_one_term()
-    ensures { OneTerm }
-{}
-
-/// The term of `(fun x:nat. x + x) 3` is read from its net.
-pub fn law_example_term()
-    ensures { ExampleTerm }
-{}
 
 /// Lines of a text stand one behind the other exactly where a listing begins with them.
 pub fn law_standing()

@@ -5,6 +5,3 @@ pub const NET_TEXT_BYTES: u64 = 16_777_216;
 
 /// The most height of a type that a net file names.
 pub const TYPE_HEIGHT: u32 = 4_000;
-
-/// The most height of a term that is read back from a net.
-pub const TERM_HEIGHT: u32 = 2_600;

@@ -1,0 +1,10 @@
+pub mod Bounded
+pub mod Complete
+pub mod Loose
+pub mod Marking
+pub mod ReadingBack
+pub mod Steps
+pub mod Taking
+pub mod Typings
+pub mod UsesKept
+pub mod Walking

@@ -1,0 +1,29 @@
+use Rattle.std.proofs.Common.{◌+◌, ◌*◌}
+use Rattle.net_terms.proofs.rebuild.+read.Given as goal
+
+abbrev pub decreases-read : goal.decreases-read
+decreases-read l = 5 * l.height
+
+abbrev pub decreases-read_boxed : goal.decreases-read_boxed
+decreases-read_boxed l = 5 * l.height + 1
+
+abbrev pub decreases-begin : goal.decreases-begin
+decreases-begin l = 5 * l.height + 4
+
+abbrev pub decreases-read_one : goal.decreases-read_one
+decreases-read_one l = 5 * l.height + 2
+
+abbrev pub decreases-read_two : goal.decreases-read_two
+decreases-read_two l = 5 * l.height + 2
+
+abbrev pub decreases-read_ifz : goal.decreases-read_ifz
+decreases-read_ifz l = 5 * l.height + 2
+
+abbrev pub decreases-read_fun : goal.decreases-read_fun
+decreases-read_fun l = 5 * l.height + 2
+
+abbrev pub decreases-read_fix : goal.decreases-read_fix
+decreases-read_fix l = 5 * l.height + 2
+
+abbrev pub decreases-start : goal.decreases-start
+decreases-start l = 5 * l.height + 3

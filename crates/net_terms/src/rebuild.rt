@@ -1,0 +1,361 @@
+//! A term read from the nodes of a net, the last node first.
+//!
+//! The recursion goes over the term that comes out, and never deeper than the height that it is given. Each form has a function of
+//! its own, so that no frame is large.
+
+ghost use Rattle.std.specs.Prelude.{◌≡◌, ◌≤◌, ◌<◌, ◌+◌, ◌^◌, ◌∷◌, suc, length, List, IfOk};
+ghost use Rattle.pcf_values.specs.Terms.{ifz, lam, fix};
+ghost use Rattle.pcf_values.specs.Views.{term_of, ty_of};
+ghost use Rattle.net_build.specs.declared.node.Node.{Node};
+ghost use Rattle.net_build.specs.NetOf.{domain};
+ghost use Rattle.net_terms.specs.declared.walk.Mark.{Mark};
+ghost use Rattle.net_terms.specs.TermOf.{mark, met, one, reading, set_marked, start, three, two, type_at, variable};
+ghost use Rattle.net_terms.specs.Reads.{Gives, one_term, two_term};
+ghost use Rattle.net_terms.specs.Walks.{left};
+
+use crate::forms::{One, Two};
+use crate::walk::{Mark, Walk, next, pass, value_of};
+use net_build::{Net, Node};
+use pcf_values::{Term, Ty};
+use std::alloc::{AllocError, Global};
+
+/// The term of at most this height that comes next, under so many binders; `None` where the definition reads none.
+#[cycle(read)]
+pub(crate) fn read(
+    alloc: Global,
+    net: &Net,
+    walk: &mut Walk,
+    height: u32,
+    binders: u32,
+    around: u64,
+    place: u64,
+    want: u32,
+) -> Result<Option<Term>, AllocError>
+    requires nodes { walk.old.left ≤ length net.now.nodes }
+    requires levels { binders + height < 2 ^ 32 }
+    ensures nodes { walk.new.left ≤ length net.now.nodes }
+    ensures term { IfOk result (λ o. Gives term_of o (reading net.now.wires height binders around place want (left net.now walk.old) walk.old.marks.items) (left net.now walk.new) walk.new.marks.items) }
+{
+    if height == 0 {
+        return Ok(None);
+    }
+    let (inner, next_wire) = pass(net, walk, around, place, want);
+    match next(net, walk) {
+        Some(node) => begin(
+            alloc,
+            net,
+            walk,
+            node,
+            height - 1,
+            binders,
+            inner,
+            next_wire,
+        ),
+        None => Ok(None),
+    }
+}
+
+/// The same in a box.
+#[cycle(read)]
+fn read_boxed(
+    alloc: Global,
+    net: &Net,
+    walk: &mut Walk,
+    height: u32,
+    binders: u32,
+    around: u64,
+    place: u64,
+    want: u32,
+) -> Result<Option<Box<Term>>, AllocError>
+    requires nodes { walk.old.left ≤ length net.now.nodes }
+    requires levels { binders + height < 2 ^ 32 }
+    ensures nodes { walk.new.left ≤ length net.now.nodes }
+    ensures term { IfOk result (λ o. Gives (λ t. term_of t.value) o (reading net.now.wires height binders around place want (left net.now walk.old) walk.old.marks.items) (left net.now walk.new) walk.new.marks.items) }
+{
+    match read(alloc, net, walk, height, binders, around, place, want)? {
+        Some(term) => Ok(Some(Box::new(alloc, term)?)),
+        None => Ok(None),
+    }
+}
+
+/// The term whose own node this is, with operands of at most this height, where its value wire is the wanted one.
+#[cycle(read)]
+fn begin(
+    alloc: Global,
+    net: &Net,
+    walk: &mut Walk,
+    node: Node,
+    height: u32,
+    binders: u32,
+    place: u64,
+    want: u32,
+) -> Result<Option<Term>, AllocError>
+    requires nodes { walk.old.left ≤ length net.now.nodes }
+    requires levels { binders + suc height < 2 ^ 32 }
+    ensures nodes { walk.new.left ≤ length net.now.nodes }
+    ensures term { IfOk result (λ o. Gives term_of o (met want (node ∷ left net.now walk.old) (start net.now.wires (reading net.now.wires height) binders place (node ∷ left net.now walk.old) walk.old.marks.items)) (left net.now walk.new) walk.new.marks.items) }
+{
+    if value_of(node) == want {
+        start(alloc, net, walk, node, height, binders, place)
+    } else {
+        Ok(None)
+    }
+}
+
+/// The term whose own node this is, with operands of at most this height.
+#[cycle(read)]
+fn start(
+    alloc: Global,
+    net: &Net,
+    walk: &mut Walk,
+    node: Node,
+    height: u32,
+    binders: u32,
+    place: u64,
+) -> Result<Option<Term>, AllocError>
+    requires nodes { walk.old.left ≤ length net.now.nodes }
+    requires levels { binders + suc height < 2 ^ 32 }
+    ensures nodes { walk.new.left ≤ length net.now.nodes }
+    ensures term { IfOk result (λ o. Gives term_of o (start net.now.wires (reading net.now.wires height) binders place (node ∷ left net.now walk.old) walk.old.marks.items) (left net.now walk.new) walk.new.marks.items) }
+{
+    match node {
+        Node::Const { v, .. } => Ok(Some(Term::Number(v))),
+        Node::Der { x, .. } => Ok(variable_of(walk.mark(x), binders, place)),
+        Node::Succ { a, .. } => read_one(alloc, net, walk, One::Succ, a, height, binders, place),
+        Node::Pred { a, .. } => read_one(alloc, net, walk, One::Pred, a, height, binders, place),
+        Node::Fst { a, .. } => read_one(alloc, net, walk, One::Fst, a, height, binders, place),
+        Node::Snd { a, .. } => read_one(alloc, net, walk, One::Snd, a, height, binders, place),
+        Node::Plus { a, b, .. } => read_two(
+            alloc,
+            net,
+            walk,
+            Two::Plus,
+            a,
+            b,
+            height,
+            binders,
+            place,
+        ),
+        Node::Minus { a, b, .. } => read_two(
+            alloc,
+            net,
+            walk,
+            Two::Minus,
+            a,
+            b,
+            height,
+            binders,
+            place,
+        ),
+        Node::Times { a, b, .. } => read_two(
+            alloc,
+            net,
+            walk,
+            Two::Times,
+            a,
+            b,
+            height,
+            binders,
+            place,
+        ),
+        Node::App { f, a, .. } => read_two(
+            alloc,
+            net,
+            walk,
+            Two::App,
+            f,
+            a,
+            height,
+            binders,
+            place,
+        ),
+        Node::Pair { a, b, .. } => read_two(
+            alloc,
+            net,
+            walk,
+            Two::Pair,
+            a,
+            b,
+            height,
+            binders,
+            place,
+        ),
+        Node::Ifz { c, p, q, .. } => read_ifz(alloc, net, walk, c, p, q, height, binders, place),
+        Node::Lam { b, x, w } => read_fun(alloc, net, walk, b, x, w, height, binders, place),
+        Node::FixBox { b, x, w } => read_fix(alloc, net, walk, b, x, w, height, binders, place),
+        _ => Ok(None),
+    }
+}
+
+/// The variable of this mark, under so many binders in this box.
+fn variable_of(mark: Mark, binders: u32, place: u64) -> Option<Term>
+    ensures { (ns : List Node) (ms : List Mark) → Gives term_of result (variable binders place mark ns ms) ns ms }
+{
+    if mark.place == place && mark.level < binders {
+        Some(Term::Var(binders - 1 - mark.level))
+    } else {
+        None
+    }
+}
+
+#[cycle(read)]
+fn read_one(
+    alloc: Global,
+    net: &Net,
+    walk: &mut Walk,
+    form: One,
+    operand: u32,
+    height: u32,
+    binders: u32,
+    place: u64,
+) -> Result<Option<Term>, AllocError>
+    requires nodes { walk.old.left ≤ length net.now.nodes }
+    requires levels { binders + suc height < 2 ^ 32 }
+    ensures nodes { walk.new.left ≤ length net.now.nodes }
+    ensures term { IfOk result (λ o. Gives term_of o (one (one_term form) (reading net.now.wires height binders place place operand (left net.now walk.old) walk.old.marks.items)) (left net.now walk.new) walk.new.marks.items) }
+{
+    match read_boxed(alloc, net, walk, height, binders, place, place, operand)? {
+        Some(a) => Ok(Some(form.term(a))),
+        None => Ok(None),
+    }
+}
+
+#[cycle(read)]
+fn read_two(
+    alloc: Global,
+    net: &Net,
+    walk: &mut Walk,
+    form: Two,
+    first: u32,
+    second: u32,
+    height: u32,
+    binders: u32,
+    place: u64,
+) -> Result<Option<Term>, AllocError>
+    requires nodes { walk.old.left ≤ length net.now.nodes }
+    requires levels { binders + suc height < 2 ^ 32 }
+    ensures nodes { walk.new.left ≤ length net.now.nodes }
+    ensures term { IfOk result (λ o. Gives term_of o (two (two_term form) (reading net.now.wires height binders place place first) (reading net.now.wires height binders place place second (left net.now walk.old) walk.old.marks.items)) (left net.now walk.new) walk.new.marks.items) }
+{
+    let Some(b) = read_boxed(alloc, net, walk, height, binders, place, place, second)? else {
+        return Ok(None);
+    };
+    match read_boxed(alloc, net, walk, height, binders, place, place, first)? {
+        Some(a) => Ok(Some(form.term(a, b))),
+        None => Ok(None),
+    }
+}
+
+#[cycle(read)]
+fn read_ifz(
+    alloc: Global,
+    net: &Net,
+    walk: &mut Walk,
+    test: u32,
+    then: u32,
+    otherwise: u32,
+    height: u32,
+    binders: u32,
+    place: u64,
+) -> Result<Option<Term>, AllocError>
+    requires nodes { walk.old.left ≤ length net.now.nodes }
+    requires levels { binders + suc height < 2 ^ 32 }
+    ensures nodes { walk.new.left ≤ length net.now.nodes }
+    ensures term { IfOk result (λ o. Gives term_of o (three ifz (reading net.now.wires height binders place place test) (reading net.now.wires height binders place place then) (reading net.now.wires height binders place place otherwise (left net.now walk.old) walk.old.marks.items)) (left net.now walk.new) walk.new.marks.items) }
+{
+    let Some(third) = read_boxed(alloc, net, walk, height, binders, place, place, otherwise)? else {
+        return Ok(None);
+    };
+    let Some(second) = read_boxed(alloc, net, walk, height, binders, place, place, then)? else {
+        return Ok(None);
+    };
+    match read_boxed(alloc, net, walk, height, binders, place, place, test)? {
+        Some(first) => Ok(Some(Term::Ifz(first, second, third))),
+        None => Ok(None),
+    }
+}
+
+#[cycle(read)]
+fn read_fun(
+    alloc: Global,
+    net: &Net,
+    walk: &mut Walk,
+    body: u32,
+    variable: u32,
+    wire: u32,
+    height: u32,
+    binders: u32,
+    place: u64,
+) -> Result<Option<Term>, AllocError>
+    requires nodes { walk.old.left ≤ length net.now.nodes }
+    requires levels { binders + suc height < 2 ^ 32 }
+    ensures nodes { walk.new.left ≤ length net.now.nodes }
+    ensures term { IfOk result (λ o. Gives term_of o (one (lam (domain (type_at net.now.wires wire))) (reading net.now.wires height (suc binders) place place body (left net.now walk.old) (set_marked walk.old.marks.items variable binders place))) (left net.now walk.new) walk.new.marks.items) }
+{
+    let level = binders;
+    walk.set(variable, Mark { level, place });
+    let ty = from_of(alloc, net, wire)?;
+    match read_boxed(alloc, net, walk, height, binders + 1, place, place, body)? {
+        Some(inside) => Ok(Some(Term::Fun(ty, inside))),
+        None => Ok(None),
+    }
+}
+
+#[cycle(read)]
+fn read_fix(
+    alloc: Global,
+    net: &Net,
+    walk: &mut Walk,
+    body: u32,
+    variable: u32,
+    wire: u32,
+    height: u32,
+    binders: u32,
+    place: u64,
+) -> Result<Option<Term>, AllocError>
+    requires nodes { walk.old.left ≤ length net.now.nodes }
+    requires levels { binders + suc height < 2 ^ 32 }
+    ensures nodes { walk.new.left ≤ length net.now.nodes }
+    ensures term { IfOk result (λ o. Gives term_of o (one (fix (type_at net.now.wires wire)) (reading net.now.wires height (suc binders) place (suc wire) body (left net.now walk.old) (set_marked walk.old.marks.items variable binders (suc wire)))) (left net.now walk.new) walk.new.marks.items) }
+{
+    let inner = wire as u64 + 1;
+    let mark = Mark {
+        level: binders,
+        place: inner,
+    };
+    walk.set(variable, mark);
+    let ty = type_of_wire(alloc, net, wire)?;
+    match read_boxed(alloc, net, walk, height, binders + 1, place, inner, body)? {
+        Some(inside) => Ok(Some(Term::Fix(ty, inside))),
+        None => Ok(None),
+    }
+}
+
+/// The type of a wire; a number past the list counts as `nat`.
+fn type_of_wire(alloc: Global, net: &Net, wire: u32) -> Result<Ty, AllocError>
+    ensures { IfOk result (λ t. ty_of t ≡ type_at net.now.wires wire) }
+{
+    match net.wire(wire) {
+        Some(wire) => wire.ty.copy(alloc),
+        None => Ok(Ty::Nat),
+    }
+}
+
+/// What a function on a wire takes; what is no function counts as one from `nat`.
+fn from_of(alloc: Global, net: &Net, wire: u32) -> Result<Ty, AllocError>
+    ensures { IfOk result (λ t. ty_of t ≡ domain (type_at net.now.wires wire)) }
+{
+    match net.wire(wire) {
+        Some(wire) => from_of_type(alloc, &wire.ty),
+        None => Ok(Ty::Nat),
+    }
+}
+
+fn from_of_type(alloc: Global, ty: &Ty) -> Result<Ty, AllocError>
+    ensures { IfOk result (λ t. ty_of t ≡ domain (ty_of ty.now)) }
+{
+    match ty {
+        Ty::Arrow(from, _) => from.copy(alloc),
+        _ => Ok(Ty::Nat),
+    }
+}

@@ -1,0 +1,150 @@
+//! The walk over the nodes of a net, from the last one to the first, with the marks of the variable wires.
+
+ghost use Rattle.std.specs.Prelude.{◌≡◌, ◌≤◌, ◌<◌, ◌^◌, length};
+ghost use Rattle.net_terms.specs.TermOf.{mark_at, pass, value_of};
+ghost use Rattle.net_terms.specs.Walks.{Comes, Passed, left, rest_of, set_mark};
+
+use net_build::{Net, Node};
+
+/// What is known of a variable wire: how many binders stand around its variable's own, and the box in which the wire stands. A box
+/// is known by one more than the number of its wire, and 0 is outside all boxes.
+#[derive(Clone, Copy)]
+pub(crate) struct Mark {
+    pub(crate) level: u32,
+    pub(crate) place: u64,
+}
+
+/// How many nodes are left, and the marks of the wires.
+#[derive(Drop)]
+pub(crate) struct Walk {
+    pub(crate) left: u32,
+    pub(crate) marks: Vec<Mark>,
+}
+
+impl Walk {
+    /// The mark of a wire.
+    pub(crate) fn mark(&self, wire: u32) -> Mark
+        ensures { result ≡ mark_at self.now.marks.items wire }
+    {
+        match self.marks.get(wire as usize) {
+            Some(mark) => *mark,
+            None => Mark { level: 0, place: 0 },
+        }
+    }
+
+    /// Marks a wire. A number past the list is no wire.
+    pub(crate) fn set(&mut self, wire: u32, mark: Mark)
+        ensures marks { self.new.marks.items ≡ set_mark self.old.marks.items wire mark }
+        ensures left { self.new.left ≡ self.old.left }
+    {
+        if let Some(slot) = self.marks.get_mut(wire as usize) {
+            *slot = mark;
+        }
+    }
+}
+
+/// The next node, off the nodes that are left.
+pub(crate) fn next(net: &Net, walk: &mut Walk) -> Option<Node>
+    requires { walk.old.left ≤ length net.now.nodes }
+    ensures node { Comes result (left net.now walk.old) (left net.now walk.new) }
+    ensures within { walk.new.left ≤ length net.now.nodes }
+    ensures marks { walk.new.marks ≡ walk.old.marks }
+{
+    if walk.left == 0 {
+        return None;
+    }
+    let node = net.node(walk.left - 1);
+    walk.left -= 1;
+    node
+}
+
+/// Passes the nodes that stand between a term and its operands, and answers the box in which the walk then stands and the value wire
+/// that is to come.
+pub(crate) fn pass(net: &Net, walk: &mut Walk, around: u64, place: u64, want: u32) -> (u64, u32)
+    requires { walk.old.left ≤ length net.now.nodes }
+    ensures passed { pass around place want (left net.now walk.old) walk.old.marks.items ≡ rest_of net.now walk.new result.0 result.1 }
+    ensures within { walk.new.left ≤ length net.now.nodes }
+{
+    let mut outer = around;
+    let mut inner = place;
+    let mut next = want;
+    while walk.left > 0 {
+        let Some(node) = net.node(walk.left - 1) else {
+            return (inner, next);
+        };
+        match pass_one(walk, node, outer, inner, next) {
+            Some((around, place, want)) => {
+                outer = around;
+                inner = place;
+                next = want;
+                walk.left -= 1;
+            }
+            None => return (inner, next),
+        }
+    }
+    (inner, next)
+}
+
+/// Passes one such node: the box around, the box and the value wire after it. `None`: the node is none of these.
+fn pass_one(
+    walk: &mut Walk,
+    node: Node,
+    around: u64,
+    place: u64,
+    want: u32,
+) -> Option<(u64, u64, u32)>
+    ensures passed { Passed result around place want node walk.old.marks.items walk.new.marks.items }
+    ensures left { walk.new.left ≡ walk.old.left }
+{
+    match node {
+        Node::Con { l, r, w } => {
+            let mark = walk.mark(w);
+            walk.set(l, mark);
+            walk.set(r, mark);
+            Some((around, place, want))
+        }
+        Node::Weak { .. } => Some((around, place, want)),
+        Node::Door { i, o } => {
+            let mark = walk.mark(o);
+            if mark.place == around {
+                let level = mark.level;
+                walk.set(i, Mark { level, place });
+            }
+            Some((around, place, want))
+        }
+        Node::BoxNode { i, o } => {
+            if o == want {
+                Some((place, o as u64 + 1, i))
+            } else {
+                None
+            }
+        }
+        _ => None,
+    }
+}
+
+/// The value wire of a term's own node, and the last wire of any other.
+pub(crate) fn value_of(node: Node) -> u32
+    ensures { result ≡ value_of node }
+{
+    match node {
+        Node::Const { w, .. }
+        | Node::Succ { w, .. }
+        | Node::Pred { w, .. }
+        | Node::Plus { w, .. }
+        | Node::Minus { w, .. }
+        | Node::Times { w, .. }
+        | Node::Ifz { w, .. }
+        | Node::Der { w, .. }
+        | Node::Con { w, .. }
+        | Node::Lam { w, .. }
+        | Node::App { w, .. }
+        | Node::FixBox { w, .. }
+        | Node::Root { w }
+        | Node::Pair { w, .. }
+        | Node::Fst { w, .. }
+        | Node::Snd { w, .. } => w,
+        Node::Weak { x } => x,
+        Node::BoxNode { o, .. } | Node::Door { o, .. } => o,
+    }
+}
