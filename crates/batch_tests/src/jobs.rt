@@ -5,9 +5,9 @@ ghost use Rattle.std.specs.List.{All};
 ghost use Rattle.batch_pool.specs.Batches.{JobFits, BatchFits};
 ghost use Rattle.batch_pool.specs.Limits.{most_jobs, most_job_budget};
 
-use crate::programs::net_of;
 use batch_pool::{BatchJob, BatchLine, read_batch};
 use std::alloc::{AllocError, Global};
+use test_nets::net_of;
 
 /// The number that a text tells; another text is no number of a test.
 pub(crate) fn number(text: &str) -> u32 {

@@ -12,8 +12,6 @@ mod jobs;
 #[cfg(test)]
 mod lists;
 #[cfg(test)]
-mod programs;
-#[cfg(test)]
 mod runs;
 #[cfg(test)]
 mod sizes;

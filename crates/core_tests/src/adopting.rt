@@ -3,13 +3,13 @@
 ghost use Rattle.interleave_core.specs.Runs.{Runs};
 
 use crate::games::{are_live, has, played};
-use crate::programs::net_of;
 use crate::tokens::token;
 use interleave_core::Core;
 use move_rules::walk;
 use net_build::Net;
 use std::alloc::{AllocError, Global};
 use std::test::Fail;
+use test_nets::net_of;
 
 /// A walk on a net of a token, of at most so many moves.
 #[derive(Clone, Copy)]

@@ -9,8 +9,6 @@ mod adopting;
 #[cfg(test)]
 mod games;
 #[cfg(test)]
-mod programs;
-#[cfg(test)]
 mod running;
 #[cfg(test)]
 mod stepping;

@@ -3,12 +3,12 @@
 ghost use Rattle.std.specs.Prelude.{◌≤◌};
 ghost use Rattle.interleave_core.specs.Runs.{Runs};
 
-use crate::programs::net_of;
 use interleave_core::run_one;
 use net_build::Net;
 use pcf_values::Val;
 use std::alloc::{AllocError, Global};
 use std::test::Fail;
+use test_nets::net_of;
 
 /// Whether one worker within the budget comes to this answer, in so many moves.
 fn comes(

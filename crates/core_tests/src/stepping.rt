@@ -3,12 +3,12 @@
 ghost use Rattle.interleave_core.specs.Runs.{Runs};
 
 use crate::games::{MOST_MOVES, are_live, go, played};
-use crate::programs::net_of;
 use interleave_core::Core;
 use net_build::Net;
 use pcf_values::Val;
 use std::alloc::{AllocError, Global};
 use std::test::Fail;
+use test_nets::net_of;
 
 /// Whether the run that the table tells answers this number and leaves no token.
 fn answers(alloc: Global, net: &Net, rows: &str, value: u64) -> Result<bool, AllocError>

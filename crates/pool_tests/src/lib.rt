@@ -10,5 +10,3 @@ mod driven;
 mod games;
 #[cfg(test)]
 mod pools;
-#[cfg(test)]
-mod programs;

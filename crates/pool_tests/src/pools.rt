@@ -4,12 +4,12 @@ ghost use Rattle.interleave_core.specs.Runs.{Runs};
 ghost use Rattle.token_pool.specs.Pools.{InLimits};
 
 use crate::games::{number, played};
-use crate::programs::net_of;
 use net_build::Net;
 use pcf_values::Val;
 use schedule_log::Log;
 use std::alloc::{AllocError, Global};
 use std::test::Fail;
+use test_nets::net_of;
 
 /// A pool, by its budget, its workers and its calls, and what it is finished to: the answer, or `-`, the tickets, and the workers.
 #[derive(Clone, Copy)]

@@ -9,8 +9,6 @@ mod gates;
 #[cfg(test)]
 mod meetings;
 #[cfg(test)]
-mod programs;
-#[cfg(test)]
 mod runs;
 #[cfg(test)]
 mod schedules;

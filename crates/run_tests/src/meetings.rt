@@ -3,7 +3,6 @@
 ghost use Rattle.interleave_core.specs.Runs.{Runs};
 
 use crate::gates::Meeting;
-use crate::programs::net_of;
 use gate_workers::OpenGate;
 use net_build::Net;
 use net_runs::run_net;
@@ -14,6 +13,7 @@ use std::sync::Wait;
 use std::sync::atomic::Ordering;
 use std::test::Fail;
 use std::thread::Threads;
+use test_nets::net_of;
 
 /// Whether two logs have the same tickets.
 fn same_tickets(a: &Log, b: &Log) -> bool {

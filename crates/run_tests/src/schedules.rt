@@ -2,7 +2,6 @@
 
 ghost use Rattle.interleave_core.specs.Runs.{Runs};
 
-use crate::programs::net_of;
 use gate_workers::OpenGate;
 use net_build::Net;
 use net_runs::run_net;
@@ -13,6 +12,7 @@ use std::alloc::{AllocError, Global};
 use std::sync::Wait;
 use std::test::Fail;
 use std::thread::Threads;
+use test_nets::net_of;
 
 /// Whether the log is replayed to this answer, in as many moves as it has.
 fn is_replayed(alloc: Global, net: &Net, log: &Log, answer: Option<Val>) -> bool

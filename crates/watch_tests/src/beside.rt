@@ -4,7 +4,6 @@ ghost use Rattle.std.specs.Prelude.{◌≡◌};
 ghost use Rattle.interleave_core.specs.Runs.{Runs};
 ghost use Rattle.metered_pool.specs.Metered.{IsLevel, IsOf};
 
-use crate::programs::net_of;
 use gate_workers::{Gate, drive};
 use metered_pool::{MeteredPool, Watched};
 use net_build::Net;
@@ -16,6 +15,7 @@ use std::sync::atomic::{AtomicBool, Ordering};
 use std::test::Fail;
 use std::thread;
 use std::thread::{Threads, join};
+use test_nets::net_of;
 use token_pool::PoolState;
 
 /// How often something is tried, since no wait is to last for ever.

@@ -7,6 +7,4 @@
 #[cfg(test)]
 mod beside;
 #[cfg(test)]
-mod programs;
-#[cfg(test)]
 mod runs;

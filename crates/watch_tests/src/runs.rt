@@ -3,7 +3,6 @@
 ghost use Rattle.std.specs.Prelude.{◌≤◌};
 ghost use Rattle.pcf_values.specs.Most.{most_budget, most_workers};
 
-use crate::programs::net_of;
 use gate_workers::OpenGate;
 use metered_pool::watch_net;
 use pcf_values::Val;
@@ -11,6 +10,7 @@ use std::alloc::{AllocError, Global};
 use std::sync::Wait;
 use std::test::Fail;
 use std::thread::Threads;
+use test_nets::net_of;
 
 /// Whether so many workers come to this answer with a budget, after so many moves, and the readings end with these.
 fn comes_to<R: Threads + Wait + Sync>(

@@ -1,4 +1,8 @@
-//! Nets of programs, from their texts.
+//! Nets of programs, from their texts: what tests of the machine begin with.
+//!
+//! `net_of` answers the net of a program of type `nat`. A text that stands for none is a mistake of the test, and fails it as want of
+//! memory does; nothing else stands on this crate.
+#![tactic(auto)]
 
 ghost use Rattle.std.specs.Prelude.{◌≡◌, ◌≤◌, [], IfOk, IsTrue};
 ghost use Rattle.pcf_values.specs.Terms.{nat, size, height};
@@ -63,8 +67,12 @@ fn built(alloc: Global, program: &Typed) -> Result<Net, AllocError>
     build(alloc, program)
 }
 
-/// The net of a program's text.
-pub(crate) fn net_of(alloc: Global, text: &str) -> Result<Net, AllocError>
+/// The net of a program's text. It runs: no order of moves leaves it without a move before its answer.
+///
+/// # Errors
+///
+/// Want of memory, and with the same answer a text that is no program of type `nat`.
+pub fn net_of(alloc: Global, text: &str) -> Result<Net, AllocError>
     ensures { IfOk result (λ net. Runs net) }
 {
     let tree = tree(alloc, text)?;
