@@ -17,3 +17,5 @@ mod rows;
 mod sizes;
 #[cfg(test)]
 mod texts;
+#[cfg(test)]
+mod wide;
