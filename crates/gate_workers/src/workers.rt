@@ -5,6 +5,7 @@ ghost use Rattle.std.specs.Prelude.{min};
 use crate::desk::{Brought, Desk, serve};
 use crate::{Bench, Gate, Turn};
 use std::alloc::{AllocError, Global};
+use std::hint::spin_loop;
 use std::sync::{Condvar, Mutex, MutexGuard, Wait};
 use std::thread::{Threads, join};
 
@@ -12,6 +13,10 @@ struct Hall<B: Bench> {
     desk: Mutex<Desk<B>>,
     booked: Condvar,
 }
+
+// How often a worker looks whether the lock is free before it sleeps beside it. A turn holds the lock for a microsecond or two, and to be
+// woken takes a sleeper many times as long.
+const LOOKS: u32 = 1000;
 
 /// Runs the workers 0, 1 and so on, so many of them, until each is over, and gives the bench back.
 ///
@@ -109,6 +114,17 @@ fn next_turn(turn: u64) -> u64
     turn.saturating_add(1)
 }
 
+// Takes the lock: it looks for a while whether it is free, and sleeps until it is.
+fn enter<'h, R: Wait, B: Bench>(rt: &R, hall: &'h Hall<B>) -> MutexGuard<'h, Desk<B>> {
+    for _ in 0..LOOKS {
+        if let Some(desk) = hall.desk.try_lock() {
+            return desk;
+        }
+        spin_loop();
+    }
+    hall.desk.lock(rt)
+}
+
 // Hands in what is brought, and waits until there is a piece; or there will be none any more.
 fn next_piece<R: Wait, B: Bench>(
     rt: &R,
@@ -118,7 +134,7 @@ fn next_piece<R: Wait, B: Bench>(
 ) -> Option<B::Piece> {
     let mut brought = brought;
     for _ in rt.forever() {
-        let mut desk = hall.desk.lock(rt);
+        let mut desk = enter(rt, hall);
         let booked = brought.is_some();
         let turn = serve(&mut desk.bench, worker, brought);
         let calls = if booked { desk.call() } else { 0 };
