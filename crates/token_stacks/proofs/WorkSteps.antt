@@ -258,7 +258,7 @@ no_mark w (S (again s u) ∷ m) ws n a e h t p c = refl
 
 -- a pair is put together: the first part comes from another stack, above the second, and the two change places
 pub pairs : (s : Sig) (b : List ℕ) (m : List Sym) (ws us xs vs : List ℕ) (n k l : ℕ) → b ≡ body s → ws ≡ work_words m → SigTop m → n ≡ length ws
-    → k ≡ get_or ws (n - 2) k → us ≡ ws ++ (b ++ 0 ∷ 7 ∷ []) → l ≡ length us → Swaps us xs (n - 2 - k) n (l - 2)
+    → k ≡ get_or ws (n - 2) k → us ≡ ws ++ (b ++ 0 ∷ 7 ∷ []) → l ≡ length us → Swaps us xs (n - 2 - k) n (n + length b)
     → vs ≡ set (set xs (l - 2 - 1) 3) (l - 2) (l - 2 - (n - 2 - k)) → Turns (paired s m) vs
 pairs s b m ws us xs vs n k l f e T h q u lh w v =
     let t : Sig = T.sig in
@@ -380,7 +380,7 @@ pair_body_is m ws n k j T w =
     ∙ ap pair_body (sym T.is)
 
 pub unpairs : (m : List Sym) (ws us xs vs : List ℕ) (n k j : ℕ) → (T : PairTop m) → PairWords T.first T.second T.rest ws n k j
-    → us ≡ set ws (n - 3) 7 → Swaps us xs (n - 2 - k) (n - 4 - j) (n - 2) → vs ≡ take (n - k + j) xs → Turns (unpaired m) vs
+    → us ≡ set ws (n - 3) 7 → xs ≡ (take (n - 2 - k) us ++ take (n - 2 - (n - 4 - j)) (drop (n - 4 - j) us)) ++ drop (n - 2 - k + (n - 2 - (n - 4 - j))) us → vs ≡ take (n - k + j) xs → Turns (unpaired m) vs
 unpairs m ws us xs vs n k j T w y z v =
     let s : Sig = T.first in
     let u : Sig = T.second in
@@ -400,13 +400,17 @@ unpairs m ws us xs vs n k j T w y z v =
     let us' : us ≡ M ++ (body s ++ (V ++ k ∷ 7 ∷ [])) =
     y ∙ set_after F 3 (k ∷ 7 ∷ []) ws (n - 3) 7 (w.words ∙ F_is (3 ∷ k ∷ 7 ∷ [])) (omega arith) ∙ sym (F_is (7 ∷ k ∷ 7 ∷ []))
     ∙ ap (λ (z : List ℕ). M ++ (body s ++ z)) (sym (append_assoc (body u) (length (body u) ∷ 7 ∷ []) (k ∷ 7 ∷ []))) in
-    let swapped : xs ≡ M ++ (V ++ (body s ++ k ∷ 7 ∷ [])) = z.parts M (body s) V (k ∷ 7 ∷ []) us' (omega arith) (omega arith) (omega arith) in
+    let front : take (n - 2 - k) us ≡ M = take_after M (body s ++ (V ++ k ∷ 7 ∷ [])) us (n - 2 - k) us' (omega arith) in
+    let moved : take (n - 2 - (n - 4 - j)) (drop (n - 4 - j) us) ≡ V =
+    piece_at (M ++ body s) V (k ∷ 7 ∷ []) us (n - 4 - j) (n - 2 - (n - 4 - j)) (us' ∙ sym (append_assoc M (body s) (V ++ k ∷ 7 ∷ [])))
+    (omega (arith, length-append M (body s))) (omega arith) in
+    let D : List ℕ = drop (n - 2 - k + (n - 2 - (n - 4 - j))) us in
+    let copied : xs ≡ (M ++ V) ++ D =
+    z ∙ ap (λ (a : List ℕ). (a ++ take (n - 2 - (n - 4 - j)) (drop (n - 4 - j) us)) ++ D) front ∙ ap (λ (a : List ℕ). (M ++ a) ++ D) moved in
     record {
       left = S u ∷ r;
       is = ap unpaired T.is;
-      words =
-          v ∙ take_after (M ++ V) (body s ++ k ∷ 7 ∷ []) xs (n - k + j) (swapped ∙ sym (append_assoc M V (body s ++ k ∷ 7 ∷ [])))
-          (omega (arith, length-append M V));
+      words = v ∙ take_after (M ++ V) D xs (n - k + j) copied (omega (arith, length-append M V));
     }
 
 -- without a signature on top there is nothing to wrap and no pair

@@ -1,5 +1,5 @@
 // The words of the encoding, and two steps on vectors of words that no clause on stacks speaks of.
-ghost use Rattle.std.specs.Prelude.{◌≡◌, ◌++◌, ◌≤◌, OnOk, OnErr, length, vec_len};
+ghost use Rattle.std.specs.Prelude.{◌≡◌, ◌++◌, ◌+◌, ◌≤◌, OnOk, OnErr, length, take, drop, vec_len};
 ghost use Rattle.token_stacks.specs.Parts.{Swaps};
 
 use std::alloc::AllocError;
@@ -48,4 +48,18 @@ pub(crate) fn swap_parts(words: &mut Vec<u64>, from: usize, middle: usize, end: 
 {
     let part = &mut words[from..end];
     part.rotate_left(middle - from);
+}
+
+// Moves a piece that stands from `middle` on down to `from`, and the words between up behind it.
+pub(crate) fn bring_down(words: &mut Vec<u64>, piece: &[u64], from: usize, middle: usize)
+    requires first { from ≤ middle }
+    requires whole { middle + length piece.now ≤ length words.old.items }
+    requires stands { take (length piece.now) (drop middle words.old.items) ≡ piece.now }
+    ensures swapped { Swaps words.old.items words.new.items from middle (middle + length piece.now) }
+    ensures len { vec_len words.new ≡ vec_len words.old }
+{
+    let size = piece.len();
+    words.copy_within(from..middle, from + size);
+    let place = &mut words[from..from + size];
+    place.copy_from_slice(piece);
 }

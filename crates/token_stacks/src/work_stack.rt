@@ -5,7 +5,7 @@ ghost use Rattle.token_stacks.specs.Signatures.{Sig, Sym, R, L, S, star};
 ghost use Rattle.token_stacks.specs.Words.{body as words_of, work_words};
 ghost use Rattle.token_stacks.specs.Tops.{IsBody, Steps, top_body, pair_body, popped, argument_left, argument_made, popped_star, popped_signature, wrapped, unwrapped, paired, unpaired};
 
-use crate::words::{PAIR, SIGNATURE, STAR, SYMBOL_L, SYMBOL_R, append, swap_parts};
+use crate::words::{PAIR, SIGNATURE, STAR, SYMBOL_L, SYMBOL_R, append, bring_down};
 use std::alloc::{AllocError, Global};
 use std::marker::Model;
 
@@ -212,7 +212,7 @@ impl WorkStack {
         let size = self.words[n - 2] as usize;
         append(&mut self.words, body, &[STAR, SIGNATURE])?;
         let end = self.words.len() - 2;
-        swap_parts(&mut self.words, n - 2 - size, n, end);
+        bring_down(&mut self.words, body, n - 2 - size, n);
         self.words[end - 1] = PAIR;
         self.words[end] = (end - (n - 2 - size)) as u64;
         Ok(())
@@ -240,7 +240,7 @@ impl WorkStack {
         let size = self.words[n - 2] as usize;
         let second = self.words[n - 4] as usize;
         self.words[n - 3] = SIGNATURE;
-        swap_parts(&mut self.words, n - 2 - size, n - 4 - second, n - 2);
+        self.words.copy_within(n - 4 - second..n - 2, n - 2 - size);
         self.words.truncate(n - size + second);
     }
 }

@@ -10,8 +10,24 @@ overflow_sub-n-7 c =
     let w = pair_words _ _ _ _ _ e p h c.index.ensures c.index-2.ensures in
     let f = pair_fits _ _ _ _ _ _ _ w in search rules
 
-pub swap_parts-requires-clause-first : goal.swap_parts-requires-clause-first
-swap_parts-requires-clause-first c =
+pub overflow_sub-n-5 : goal.overflow_sub-n-5
+overflow_sub-n-5 c =
+    let e = work_is _ _ c.self.view_is c.self.invariant in
+    let h = c.len-n.ensures ∙ c.self.inside.words.ok.0 in
+    let p = some_pair _ c.requires in
+    let w = pair_words _ _ _ _ _ e p h c.index.ensures c.index-2.ensures in
+    let f = pair_fits _ _ _ _ _ _ _ w in search rules
+
+pub overflow_sub-n-9 : goal.overflow_sub-n-9
+overflow_sub-n-9 c =
+    let e = work_is _ _ c.self.view_is c.self.invariant in
+    let h = c.len-n.ensures ∙ c.self.inside.words.ok.0 in
+    let p = some_pair _ c.requires in
+    let w = pair_words _ _ _ _ _ e p h c.index.ensures c.index-2.ensures in
+    let f = pair_fits _ _ _ _ _ _ _ w in search rules
+
+pub copy_within-requires-clause-dest_in_bounds : goal.copy_within-requires-clause-dest_in_bounds
+copy_within-requires-clause-dest_in_bounds c =
     let e = work_is _ _ c.self.view_is c.self.invariant in
     let h = c.len-n.ensures ∙ c.self.inside.words.ok.0 in
     let p = some_pair _ c.requires in
@@ -32,7 +48,7 @@ invariant_of-self c =
     let h = c.len-n.ensures ∙ c.self.inside.words.ok.0 in
     let p = some_pair _ c.requires in
     let w = pair_words _ _ _ _ _ e p h c.index.ensures c.index-2.ensures in
-    turns_stands (unpairs _ _ _ _ _ _ _ _ p w refl c.swap_parts.ensures.swapped c.truncate.ensures.items)
+    turns_stands (unpairs _ _ _ _ _ _ _ _ p w refl c.copy_within.ensures.items c.truncate.ensures.items)
 
 pub returns : goal.returns
 returns c =
@@ -40,4 +56,4 @@ returns c =
     let h = c.len-n.ensures ∙ c.self.inside.words.ok.0 in
     let p = some_pair _ c.requires in
     let w = pair_words _ _ _ _ _ e p h c.index.ensures c.index-2.ensures in
-    turns_seen (unpairs _ _ _ _ _ _ _ _ p w refl c.swap_parts.ensures.swapped c.truncate.ensures.items)
+    turns_seen (unpairs _ _ _ _ _ _ _ _ p w refl c.copy_within.ensures.items c.truncate.ensures.items)
