@@ -1,11 +1,11 @@
 -- How a log is filled with the runs of a text that was counted.
-use Rattle.std.proofs.Common.{◌≡◌, ℕ, zero, suc, ◌+◌, ◌<◌, ◌≤◌, List, [], ◌∷◌, ◌++◌, append_assoc, length, Option, Some, Ok, Err, refl, sym, ap, ◌∙◌, subst, arith}
+use Rattle.std.proofs.Common.{◌≡◌, ℕ, zero, suc, ◌+◌, ◌≤◌, List, [], ◌∷◌, ◌++◌, append_assoc, replicate, length, Option, Some, Ok, Err, refl, sym, ap, ◌∙◌, subst, arith}
 use Rattle.std.specs.Prelude.{Result}
 use Rattle.std.proofs.lemmas.List.{length-append}
 use Rattle.schedule_log.specs.declared.entry.Entry.{Entry}
 use Rattle.schedule_log.specs.declared.fault.ScheduleFault.{ScheduleFault}
 use Rattle.schedule_log.specs.declared.version.Version.{Version}
-use Rattle.schedule_log.specs.Logs.{LogSeen, with_entry, with_entries, read_entries}
+use Rattle.schedule_log.specs.Logs.{LogSeen, with_entries, read_entries}
 use Rattle.schedule_log.specs.Schedules.{Run, again, moves, tickets_of, end_line, lines}
 use Rattle.schedule_log.specs.Reading.{with_run, ended, runs_from, judged_line, counted, runs_or_none}
 use Rattle.schedule_log.proofs.Turns.{run_goes, run_fails}
@@ -16,11 +16,7 @@ entry t = record { ticket = t; worker = 0 }
 
 -- so many entries of one ticket
 abbrev pub times : ℕ → ℕ → List Entry
-times t n = read_entries (again t n [])
-
-times_more : (t n : ℕ) → times t n ++ record { ticket = t; worker = 0 } ∷ [] ≡ times t (suc n)
-times_more t zero = refl
-times_more t (suc n) = ap (λ es. record { ticket = t; worker = 0 } ∷ es) (times_more t n)
+times t n = replicate n (record { ticket = t; worker = 0 })
 
 -- So many entries are that many.
 pub times_length : (t n : ℕ) → length (times t n) ≡ n
@@ -31,33 +27,9 @@ times_behind : (t n : ℕ) (ts : List ℕ) → times t n ++ read_entries ts ≡ 
 times_behind t zero ts = refl
 times_behind t (suc n) ts = ap (λ es. record { ticket = t; worker = 0 } ∷ es) (times_behind t n ts)
 
--- One more entry of the ticket is added.
-pub pushed_more : (l k m : LogSeen) (t i : ℕ) → m ≡ with_entry k (record { ticket = t; worker = 0 }) → k ≡ with_entries l (times t i) →
-    m ≡ with_entries l (times t (i + 1))
-pushed_more l k m t i e g =
-    let h : suc i ≡ i + 1 = omega arith in
-    let s : (l.entries ++ times t i) ++ record { ticket = t; worker = 0 } ∷ [] ≡ l.entries ++ times t (i + 1) =
-    append_assoc l.entries (times t i) (record { ticket = t; worker = 0 } ∷ [])
-    ∙ ap (λ es. l.entries ++ es) (times_more t i ∙ ap (times t) h) in
-    e ∙ ap (λ (k : LogSeen). with_entry k (record { ticket = t; worker = 0 })) g ∙ (λ j. record { entries = s j; room = l.room })
-
--- There is room for it.
-pub pushed_room : (l k : LogSeen) (t i n : ℕ) → k ≡ with_entries l (times t i) → length l.entries + n ≤ l.room → i < n →
-    length k.entries < k.room
-pushed_room l k t i n g u w =
-    let a : length k.entries ≡ length (l.entries ++ times t i) = ap (λ (k : LogSeen). length k.entries) g in
-    let b : k.room ≡ l.room = ap (λ (k : LogSeen). k.room) g in
-    let c = length-append l.entries (times t i) in
-    let d = times_length t i in
-    omega (arith, a, b, c, d, u, w)
-
 append_none : (es : List Entry) → es ++ [] ≡ es
 append_none [] = refl
 append_none (e ∷ es) = ap (λ es. e ∷ es) (append_none es)
-
--- No entry is added yet.
-pub pushed_none : (l : LogSeen) (t : ℕ) → l ≡ with_entries l (times t 0)
-pushed_none l t = λ j. record { entries = sym (append_none l.entries) j; room = l.room }
 
 -- what is told while a log is filled: s is what the lines left are read as, behind m moves, and target is all
 pub record Fills (l : LogSeen) (m : ℕ) (s : Result (List Run) ScheduleFault) (room : ℕ) (target : List Entry) : Type 0 where

@@ -13,7 +13,8 @@ use Rattle.pcf_values.specs.Most.{most_moves}
 use Rattle.schedule_log.specs.declared.version.Version.TheVariants.{Two}
 use Rattle.schedule_log.specs.Schedules.{Run, again, moves, tickets_of, Spells, header, end_line, MayFollow, Stand, TicketsFit, IsSchedule}
 use Rattle.schedule_log.specs.Runs.{with_ticket, runs_of, run_line, run_lines, joined, schedule_text}
-use Rattle.schedule_log.specs.Laws.{Small, IsReadBack}
+use Rattle.schedule_log.specs.Laws.{IsReadBack}
+use Rattle.schedule_log.specs.Logs.{Small}
 use Rattle.schedule_log.proofs.OneWay.{one_answer}
 use Rattle.schedule_log.proofs.Lines.{no_feed, no_feed_append, IsLine, line_front, AreLines, joined_lines}
 use Rattle.schedule_log.proofs.Found.{header_is_line}

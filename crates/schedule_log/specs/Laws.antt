@@ -1,10 +1,11 @@
 -- What holds of schedule texts and of tallies.
-use Rattle.std.specs.Prelude.{◌≡◌, ℕ, ◌+◌, ◌*◌, ◌^◌, ◌<◌, ◌≤◌, List, [], ◌∷◌, length, sum, Result, Ok, Err}
+use Rattle.std.specs.Prelude.{◌≡◌, ℕ, ◌+◌, ◌*◌, ◌≤◌, List, length, sum, Result, Ok, Err}
 use Rattle.pcf_values.specs.Most.{most_moves}
 use Rattle.schedule_log.specs.declared.fault.ScheduleFault.{ScheduleFault}
 use Rattle.schedule_log.specs.declared.fault.ScheduleFault.TheVariants.{NoMemory}
 use Rattle.schedule_log.specs.Schedules.{ReadAs}
 use Rattle.schedule_log.specs.Reading.{tickets_in}
+use Rattle.schedule_log.specs.Logs.{Small}
 use Rattle.schedule_log.specs.Runs.{schedule_text}
 use Rattle.schedule_log.specs.declared.entry.Entry.{Entry}
 use Rattle.schedule_log.specs.Tally.{tally, WorkersUpTo}
@@ -17,11 +18,6 @@ FirstFaultFound = (bytes : List ℕ) → ReadAs bytes (tickets_in bytes)
 abbrev pub OneAnswer : Type 0
 OneAnswer = (bytes : List ℕ) (r s : Result (List ℕ) ScheduleFault) →
     (r ≡ Err NoMemory → ⊥) → (s ≡ Err NoMemory → ⊥) → ReadAs bytes r → ReadAs bytes s → r ≡ s
-
--- each ticket is below 2 ^ 32
-abbrev pub Small : List ℕ → Type 0
-Small [] = Unit {0}
-Small (t ∷ ts) = (t < 2 ^ 32) × Small ts
 
 -- What is printed of at most 10,000,000 tickets is their text, and is read as nothing else.
 pub record IsReadBack (tickets : List ℕ) : Type 0 where

@@ -1,5 +1,5 @@
 -- What contracts see of a log: its entries and its room.
-use Rattle.std.specs.Prelude.{ℕ, zero, suc, List, [], ◌∷◌, ◌++◌, length, Option, Some, None, Result, Ok, Err}
+use Rattle.std.specs.Prelude.{ℕ, zero, suc, ◌<◌, ◌≤◌, ◌^◌, List, [], ◌∷◌, ◌++◌, All, length, map, Option, Some, None, Result, Ok, Err}
 use Rattle.schedule_log.specs.declared.entry.Entry.{Entry}
 use Rattle.schedule_log.specs.declared.fault.ScheduleFault.{ScheduleFault}
 
@@ -12,6 +12,19 @@ pub record LogSeen : Type 0 where
 abbrev pub tickets_in_log : List Entry → List ℕ
 tickets_in_log [] = []
 tickets_in_log (e ∷ es) = e.ticket ∷ tickets_in_log es
+
+-- each ticket is below 2 ^ 32, as those of every log are
+abbrev pub Small : List ℕ → Type 0
+Small [] = Unit {0}
+Small (t ∷ ts) = (t < 2 ^ 32) × Small ts
+
+-- moves of these tickets, all by one worker
+abbrev pub by : ℕ → List ℕ → List Entry
+by w tickets = map (λ t. record { ticket = t; worker = w }) tickets
+
+-- each move was made by one of so many workers, or by the finisher, whose number is that of the workers
+abbrev pub IsMadeBy : ℕ → List Entry → Type 0
+IsMadeBy workers log = All (λ e. e.worker ≤ workers) log
 
 -- the ticket of the entry at a place, if it isn't past the end
 abbrev pub ticket_at : List Entry → ℕ → Option ℕ
@@ -39,8 +52,7 @@ with_entries l es = record { entries = l.entries ++ es; room = l.room }
 
 -- the entries of tickets that are read: no worker is told, so each has worker 0
 abbrev pub read_entries : List ℕ → List Entry
-read_entries [] = []
-read_entries (t ∷ ts) = record { ticket = t; worker = 0 } ∷ read_entries ts
+read_entries ts = by 0 ts
 
 -- the log of tickets that are read, with room for them exactly
 abbrev pub read_log : List ℕ → LogSeen

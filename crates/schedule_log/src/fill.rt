@@ -30,20 +30,10 @@ pub fn push_moves(log: &mut Log, version: Version, bytes: &[u8])
             Ok(run) => run,
             Err(_fault) => return,
         };
-        push_times(log, run.ticket, run.count);
+        log.push_many(run.ticket, 0, run.count);
         last = Some(run.ticket);
         moves += run.count;
         n += 1;
         rest = more;
-    }
-}
-
-/// Adds so many moves of one ticket, for worker 0.
-fn push_times(log: &mut Log, ticket: u32, count: u32)
-    requires { length log.old.entries + count ≤ log.old.room }
-    ensures { log.new ≡ with_entries log.old (read_entries (again ticket count [])) }
-{
-    for i in 0..count {
-        log.push(ticket, 0);
     }
 }

@@ -1,6 +1,6 @@
 //! The log of a run.
-ghost use Rattle.std.specs.Prelude.{◌≡◌, ◌+◌, ◌<◌, ◌≤◌, ◌^◌, length, IfOk};
-ghost use Rattle.schedule_log.specs.Logs.{empty_log, ticket_at, with_entries, with_entry, worker_at};
+ghost use Rattle.std.specs.Prelude.{◌≡◌, ◌+◌, ◌<◌, ◌≤◌, ◌^◌, length, replicate, IfOk};
+ghost use Rattle.schedule_log.specs.Logs.{Small, empty_log, ticket_at, tickets_in_log, with_entries, with_entry, worker_at};
 ghost use Rattle.schedule_log.specs.Tally.{tally_of};
 
 use crate::entry::Entry;
@@ -16,14 +16,14 @@ pub struct Log {
 
 impl Model for Log {
     ghost use Rattle.std.specs.Prelude.{◌<◌, ◌^◌, vec_capacity};
-    ghost use Rattle.schedule_log.specs.Logs.{LogSeen};
+    ghost use Rattle.schedule_log.specs.Logs.{LogSeen, Small, tickets_in_log};
 
     ghost Value = { LogSeen };
 
     // The room is that of the block, which is taken at once and stays: what is seen of it is what was taken.
     ghost view = { λ l. record { entries = l.entries.items; room = vec_capacity l.entries } };
 
-    ghost invariant = { λ l. vec_capacity l.entries < 2 ^ 32 };
+    ghost invariant = { λ l. (vec_capacity l.entries < 2 ^ 32) × Small (tickets_in_log l.entries.items) };
 }
 
 impl Log {
@@ -41,9 +41,18 @@ impl Log {
         requires { length self.old.entries < self.old.room }
         ensures { self.new ≡ with_entry self.old (record { ticket = ticket; worker = worker }) }
     {
-        // An insert at the end promises that the block stays, which a push of std doesn't.
-        let end = self.entries.len();
-        self.entries.insert(end, Entry { ticket, worker }).unwrap();
+        // This push promises that the block stays, which the one that may ask for memory doesn't.
+        self.entries.push_reserved(Entry { ticket, worker });
+    }
+
+    /// Adds so many moves of one ticket, all by one worker, behind the others. It takes no memory.
+    pub fn push_many(&mut self, ticket: u32, worker: u32, count: u32)
+        requires { length self.old.entries + count ≤ self.old.room }
+        ensures { self.new ≡ with_entries self.old (replicate count (record { ticket = ticket; worker = worker })) }
+    {
+        for i in 0..count {
+            self.push(ticket, worker);
+        }
     }
 
     /// How many moves there are.
@@ -53,10 +62,11 @@ impl Log {
         self.entries.len() as u32
     }
 
-    /// The moves, in order.
+    /// The moves, in order: fewer than 2 ^ 32, each of a ticket below 2 ^ 32.
     pub fn entries(&self) -> &[Entry]
         ensures value { result.now ≡ self.now.entries }
         ensures few { length result.now < 2 ^ 32 }
+        ensures small { Small (tickets_in_log result.now) }
     {
         &self.entries
     }

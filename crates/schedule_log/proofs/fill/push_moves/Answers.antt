@@ -10,8 +10,8 @@ returns-in-Err-clause-entries c =
     c.in-Err._fault c.cut_line.ensures.first (not_end c.is_end.result _ c.is_end.ensures c.if-is_end.false) c.in-Err.ensures.fault)
     c.loop-rest.invariant.fills
 
-pub push_times-requires : goal.push_times-requires
-push_times-requires c =
+pub push_many-requires : goal.push_many-requires
+push_many-requires c =
     (fills_turn c.loop-rest.log c.loop-rest.moves c.args.log.now.room _ _ _ _
     (run_left c.args.version c.loop-rest.last c.loop-rest.moves c.loop-rest.n _ c.loop-rest.rest.now _ c.cut_line.result.1.now _
     c.cut_line.ensures.first (not_end c.is_end.result _ c.is_end.ensures c.if-is_end.false) c.in-Ok.ensures.run refl)
@@ -24,5 +24,5 @@ loop-rest-preserved c = record {
   fills = (fills_turn c.loop-rest.log c.loop-rest.moves c.args.log.now.room _ _ _ _
       (run_left c.args.version c.loop-rest.last c.loop-rest.moves c.loop-rest.n _ c.loop-rest.rest.now _ c.cut_line.result.1.now _
       c.cut_line.ensures.first (not_end c.is_end.result _ c.is_end.ensures c.if-is_end.false) c.in-Ok.ensures.run refl)
-      c.loop-rest.invariant.fills).goes_on c.push_times.new.log c.push_times.ensures;
+      c.loop-rest.invariant.fills).goes_on c.push_many.new.self c.push_many.ensures;
 }
