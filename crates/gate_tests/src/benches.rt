@@ -13,6 +13,8 @@ pub struct Numbers {
     /// Below how many numbers left memory is wanting.
     pub wants_below: u32,
     pub stops: u32,
+    /// How often a turn was asked for after that.
+    pub asked_after: u32,
 }
 
 impl Numbers {
@@ -24,6 +26,7 @@ impl Numbers {
             sum: 0,
             wants_below,
             stops: 0,
+            asked_after: 0,
         }
     }
 }
@@ -45,6 +48,7 @@ impl Bench for Numbers {
 
     fn turn(&mut self, _worker: u32) -> Result<Turn<u32>, AllocError> {
         if self.stops > 0 {
+            self.asked_after = self.asked_after.saturating_add(1);
             return Ok(Turn::Over);
         }
         if self.left > 0 {

@@ -62,6 +62,7 @@ fn want_of_memory_stops_the_bench(rt: HostRuntime) -> Result<(), Fail> {
             &OpenGate,
         );
         assert!(rt; bench.stops > 0);
+        assert!(rt; bench.asked_after < workers);
         assert!(rt; bench.sum < 500_500);
     }
     Ok(())

@@ -38,11 +38,7 @@ fn ask<B: Bench>(
 }
 
 // Hands in, and asks what to do next; or stops the bench for want of memory, and has no answer.
-pub(crate) fn serve<B: Bench>(
-    bench: &mut B,
-    worker: u32,
-    brought: Brought<B::Made>,
-) -> Option<Turn<B::Piece>>
+fn serve<B: Bench>(bench: &mut B, worker: u32, brought: Brought<B::Made>) -> Option<Turn<B::Piece>>
     ensures asked { IfSome result (λ turn. Asked B.takes_in B.gives bench.old worker brought turn bench.new) }
     ensures stopped { IfNone result (Halted B.takes_in B.halts bench.old worker brought bench.new) }
 {
@@ -77,7 +73,7 @@ impl<B: Bench> Desk<B> {
     }
 
     // How many sleepers to call after a booking: one for each piece for which none was called yet, as far as there are sleepers.
-    pub(crate) fn call(&mut self) -> u32
+    fn call(&mut self) -> u32
         ensures bench { self.new.bench ≡ self.old.bench }
         ensures asleep { self.new.asleep + result ≡ self.old.asleep }
     {
@@ -86,6 +82,21 @@ impl<B: Bench> Desk<B> {
         self.asleep -= calls;
         self.called = self.called.saturating_add(calls);
         calls
+    }
+
+    // Serves a worker, and says how many sleepers to call: none where nothing was handed in.
+    pub(crate) fn attend(
+        &mut self,
+        worker: u32,
+        brought: Brought<B::Made>,
+    ) -> (Option<Turn<B::Piece>>, u32)
+        ensures asked { IfSome result.0 (λ turn. Asked B.takes_in B.gives self.old.bench worker brought turn self.new.bench) }
+        ensures stopped { IfNone result.0 (Halted B.takes_in B.halts self.old.bench worker brought self.new.bench) }
+    {
+        let booked = brought.is_some();
+        let turn = serve(&mut self.bench, worker, brought);
+        let calls = if booked { self.call() } else { 0 };
+        (turn, calls)
     }
 
     // One worker more sleeps.

@@ -1,0 +1,128 @@
+// A worker, and what it may do: ask while it has no piece, and make something of the piece that it has.
+//
+// Neither type may be let go. So what a worker brings is handed in before anything else, each piece that it is given is worked, and a
+// worker that was given none can't ask again.
+ghost use Rattle.std.specs.Prelude.{◌≡◌, ◌+◌, ◌-◌, ◌^◌, min, None, IfSome, IfNone, IfOk, IfErr};
+ghost use Rattle.gate_workers.specs.declared.turn.Turn.TheVariants.{Piece};
+ghost use Rattle.gate_workers.specs.Working.{Given, TakenIn, GoesHome, Leaves, Brings};
+
+use crate::desk::Brought;
+use crate::hall::{Hall, attend};
+use crate::{Bench, Gate, Turn};
+use std::alloc::Global;
+use std::sync::Wait;
+
+// A worker with no piece: its number, how often it has passed the gate, and what it brings.
+pub(crate) struct Idle<B: Bench> {
+    number: u32,
+    turns: u64,
+    brought: Brought<B::Made>,
+}
+
+// A worker with a piece.
+pub(crate) struct Busy<B: Bench> {
+    number: u32,
+    turns: u64,
+    piece: B::Piece,
+}
+
+impl<B: Bench> Idle<B> {
+    // The worker of this number, before its first turn.
+    pub(crate) fn new(number: u32) -> Idle<B>
+        ensures number { result.number ≡ number }
+        ensures turns { result.turns ≡ 0 }
+        ensures brought { result.brought ≡ None }
+    {
+        Idle {
+            number,
+            turns: 0,
+            brought: None,
+        }
+    }
+
+    // One turn at the desk: a piece, or a pause after which it may ask again, or nothing any more.
+    fn visit<R: Wait>(self, rt: &R, hall: &Hall<B>) -> Option<Result<Busy<B>, Idle<B>>>
+        ensures same { IfSome result (λ r. IfOk r (λ b. (b.number ≡ self.number) × (b.turns ≡ self.turns))) }
+        ensures given { IfSome result (λ r. IfOk r (λ b. Given B.gives b.number (Piece b.piece))) }
+        ensures paused { IfSome result (λ r. IfErr r (λ i. (i.number ≡ self.number) × (i.turns ≡ self.turns) × (i.brought ≡ None))) }
+        ensures taken_in { IfSome result (λ _. TakenIn B.takes_in self.number self.brought) }
+        ensures home { IfNone result (Leaves B.takes_in B.gives B.halts self.number self.brought) }
+    {
+        let Idle {
+            number,
+            turns,
+            brought,
+        } = self;
+        match attend(rt, hall, number, brought) {
+            Some(Turn::Piece(piece)) => Some(Ok(Busy {
+                number,
+                turns,
+                piece,
+            })),
+            Some(Turn::Pause) => Some(Err(Idle {
+                number,
+                turns,
+                brought: None,
+            })),
+            Some(Turn::Over) | None => None,
+        }
+    }
+
+    // Asks again after each pause, until there is a piece; or there will be none any more.
+    fn wait<R: Wait>(self, rt: &R, hall: &Hall<B>) -> Option<Busy<B>>
+        ensures same { IfSome result (λ b. (b.number ≡ self.number) × (b.turns ≡ self.turns)) }
+        ensures given { IfSome result (λ b. Given B.gives b.number (Piece b.piece)) }
+        ensures home { IfNone result (GoesHome B.gives B.halts self.number) }
+    {
+        let mut idle = self;
+        for _ in rt.forever() {
+            match idle.visit(rt, hall)? {
+                Ok(busy) => return Some(busy),
+                Err(paused) => idle = paused,
+            }
+        }
+        unreachable!()
+    }
+
+    // Hands in what is brought, and waits for a piece; or there will be none any more.
+    pub(crate) fn ask<R: Wait>(self, rt: &R, hall: &Hall<B>) -> Option<Busy<B>>
+        ensures same { IfSome result (λ b. (b.number ≡ self.number) × (b.turns ≡ self.turns)) }
+        ensures given { IfSome result (λ b. Given B.gives b.number (Piece b.piece)) }
+        ensures taken_in { IfSome result (λ _. TakenIn B.takes_in self.number self.brought) }
+        ensures home { IfNone result (Leaves B.takes_in B.gives B.halts self.number self.brought) }
+    {
+        match self.visit(rt, hall)? {
+            Ok(busy) => Some(busy),
+            Err(paused) => paused.wait(rt, hall),
+        }
+    }
+}
+
+impl<B: Bench> Busy<B> {
+    // Passes the gate, and works the piece.
+    pub(crate) fn make<G: Gate>(self, alloc: Global, tool: &B::Tool, gate: &G) -> Idle<B>
+        ensures number { result.number ≡ self.number }
+        ensures turns { result.turns ≡ min (self.turns + 1) (2 ^ 64 - 1) }
+        ensures passed { G.passes gate.now self.number self.turns }
+        ensures made { Brings (B.makes tool.now self.piece) result.brought }
+    {
+        let Busy {
+            number,
+            turns,
+            piece,
+        } = self;
+        gate.between(number, turns);
+        Idle {
+            number,
+            turns: next_turn(turns),
+            brought: Some(B::work(alloc, tool, piece)),
+        }
+    }
+}
+
+// The number of the turn after this one.
+fn next_turn(turn: u64) -> u64
+    ensures { result ≡ min (turn + 1) (2 ^ 64 - 1) }
+{
+    turn.saturating_add(1)
+}
