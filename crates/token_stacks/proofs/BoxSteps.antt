@@ -1,6 +1,6 @@
 -- Each step on the words of a box stack is the step on its signatures.
 use Rattle.std.proofs.Common.{◌≡◌, ℕ, ◌+◌, ◌-◌, ◌<◌, ◌≤◌, List, [], ◌∷◌, ◌++◌, length, get_or, set, take, drop, refl, sym, ◌∙◌, ap, subst, arith, length-append, Option, Some, None, Bool, eq-eqb}
-use Rattle.std.proofs.lemmas.List.{append_assoc, append-nil}
+use Rattle.std.proofs.lemmas.List.{append_assoc}
 use Rattle.std.specs.Option.{IsSome}
 use Rattle.std.specs.Prelude.{◌==◌, ◌↔◌, IsTrue}
 use Rattle.std.proofs.lemmas.Bool.{eqb-true}
@@ -120,36 +120,51 @@ entry_made r s b j e h =
     ∙ ap (λ (z : List ℕ). (box_words r ++ z) ++ length z ∷ []) (sym e)
     ∙ append_assoc (box_words r) (body s) (length (body s) ∷ [])
 
--- the second part comes from another stack, and the size of the first goes behind it
-pub joins : (s : Sig) (b : List ℕ) (t : List Sig) (ws us xs vs : List ℕ) (n k l : ℕ) → b ≡ body s → ws ≡ box_words t → BoxTop t → n ≡ length ws
-    → k ≡ get_or ws (n - 1) k → us ≡ ws ++ (b ++ length b ∷ 4 ∷ []) → l ≡ length us → Swaps us xs (n - 1) n l
-    → vs ≡ set xs (l - 1) (l - (n - k)) → BoxTurns (joined s t) vs
-joins s b t ws us xs vs n k l f e T h q u lh w v =
+-- The second part of a `y` comes from another stack: it lies above the size of the first part, and the two change places. Then its
+-- own size goes where the first part's was brought to, and the size of the whole to the end.
+pub joins : (s : Sig) (b : List ℕ) (t : List Sig) (ws us xs vs : List ℕ) (n k l : ℕ)
+    → (of_s : b ≡ body s) → (held : ws ≡ box_words t) → (T : BoxTop t) → (long : n ≡ length ws)
+    → (sized : k ≡ get_or ws (n - 1) k)
+    → (added : us ≡ ws ++ (b ++ 4 ∷ 0 ∷ []))
+    → (longer : l ≡ length us)
+    → (brought : Swaps us xs (n - 1) n (n + length b))
+    → (sizes : vs ≡ set (set xs (l - 3) (length b)) (l - 1) (l - (n - k)))
+    → BoxTurns (joined s t) vs
+joins s b t ws us xs vs n k l of_s held T long sized added longer brought sizes =
     let x : Sig = T.sig in
     let r : List Sig = T.rest in
     let A : List ℕ = box_words r ++ body x in
-    let C : List ℕ = b ++ length b ∷ 4 ∷ [] in
-    let e' : ws ≡ box_words (x ∷ r) = e ∙ ap box_words T.is in
-    let size : k ≡ length (body x) = size_b x r ws n k e' h q in
-    let lw : length ws ≡ length (box_words r) + length (body x) + 1 = entry_length x r ws e' in
-    let lA : length A ≡ length (box_words r) + length (body x) = length-append (box_words r) (body x) in
-    let lC : length C ≡ length b + 2 = length-append b (length b ∷ 4 ∷ []) in
-    let ll : l ≡ length ws + length C = lh ∙ length_both ws C us u in
-    let us' : us ≡ A ++ (length (body x) ∷ [] ++ (C ++ [])) =
-    u ∙ ap (λ (z : List ℕ). z ++ C) (entry_words x r ws e') ∙ append_assoc A (length (body x) ∷ []) C
-    ∙ ap (λ (z : List ℕ). A ++ length (body x) ∷ z) (sym (append-nil C)) in
-    let swapped : xs ≡ A ++ (C ++ length (body x) ∷ []) = w.parts A (length (body x) ∷ []) C [] us' (omega arith) (omega arith) (omega arith) in
-    let opened : xs ≡ (A ++ C) ++ length (body x) ∷ [] = swapped ∙ sym (append_assoc A C (length (body x) ∷ [])) in
+    let z : ℕ = length (body x) in
+    let e' : ws ≡ box_words (x ∷ r) = held ∙ ap box_words T.is in
+    let size : k ≡ z = size_b x r ws n k e' long sized in
+    let lw : length ws ≡ length (box_words r) + z + 1 = entry_length x r ws e' in
+    let lA : length A ≡ length (box_words r) + z = length-append (box_words r) (body x) in
+    let ll : l ≡ length ws + (length b + 2) =
+    omega (arith, longer, length_both ws (b ++ 4 ∷ 0 ∷ []) us added, length-append b (4 ∷ 0 ∷ [])) in
+    let us' : us ≡ A ++ (z ∷ [] ++ (b ++ 4 ∷ 0 ∷ [])) =
+    added ∙ ap (λ (y : List ℕ). y ++ (b ++ 4 ∷ 0 ∷ [])) (entry_words x r ws e') ∙ append_assoc A (z ∷ []) (b ++ 4 ∷ 0 ∷ []) in
+    let moved : xs ≡ (A ++ b) ++ z ∷ 4 ∷ 0 ∷ [] =
+    brought.parts A (z ∷ []) b (4 ∷ 0 ∷ []) us' (omega arith) (omega arith) (omega arith) ∙ sym (append_assoc A b (z ∷ 4 ∷ 0 ∷ [])) in
+    let lAb : length (A ++ b) ≡ length A + length b = length-append A b in
+    let G : List ℕ = ((A ++ b) ++ length b ∷ []) ++ 4 ∷ [] in
+    let lG : length G ≡ length A + length b + 2 =
+    omega (arith, length_on ((A ++ b) ++ length b ∷ []) 4, length_on (A ++ b) (length b), lAb) in
+    let one : set xs (l - 3) (length b) ≡ G ++ 0 ∷ [] =
+    set_after (A ++ b) z (4 ∷ 0 ∷ []) xs (l - 3) (length b) moved (omega arith)
+    ∙ one_on (A ++ b) (length b) (4 ∷ 0 ∷ []) ∙ one_on ((A ++ b) ++ length b ∷ []) 4 (0 ∷ []) in
     let j : ℕ = l - (n - k) in
-    let one : set xs (l - 1) j ≡ (A ++ C) ++ j ∷ [] = set_after (A ++ C) (length (body x)) [] xs (l - 1) j opened (omega (arith, length-append A C)) in
-    let B : List ℕ = body x ++ C in
-    let lB : length B ≡ length (body x) + length C = length-append (body x) C in
+    let two : set (set xs (l - 3) (length b)) (l - 1) j ≡ G ++ j ∷ [] =
+    set_after G 0 [] (set xs (l - 3) (length b)) (l - 1) j one (omega arith) in
+    let C : List ℕ = b ++ length b ∷ 4 ∷ [] in
+    let G_is : G ≡ box_words r ++ (body x ++ C) =
+    sym (one_on (A ++ b) (length b) (4 ∷ [])) ∙ append_assoc A b (length b ∷ 4 ∷ []) ∙ append_assoc (box_words r) (body x) C in
+    let lB : length (body x ++ C) ≡ z + (length b + 2) = omega (arith, length-append (body x) C, length-append b (length b ∷ 4 ∷ [])) in
     record {
       left = again x s ∷ r;
       is = ap (joined s) T.is;
       words =
-          v ∙ one ∙ ap (λ (z : List ℕ). z ++ j ∷ []) (append_assoc (box_words r) (body x) C)
-          ∙ entry_made r (again x s) B j (ap (λ (z : List ℕ). body x ++ (z ++ length z ∷ 4 ∷ [])) (sym f)) (omega arith);
+          sizes ∙ two ∙ ap (λ (y : List ℕ). y ++ j ∷ []) G_is
+          ∙ entry_made r (again x s) (body x ++ C) j (ap (λ (y : List ℕ). body x ++ (y ++ length y ∷ 4 ∷ [])) (sym of_s)) (omega arith);
     }
 
 -- a `y` on top

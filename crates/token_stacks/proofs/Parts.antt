@@ -1,40 +1,9 @@
--- A part of a list that is turned round.
-use Rattle.std.proofs.Common.{◌≡◌, ℕ, ◌+◌, ◌-◌, List, [], ◌++◌, length, take, drop, sym, ◌∙◌, ap, arith, length-append}
-use Rattle.std.proofs.lemmas.List.{append_assoc, append-nil, take_at, drop_at, take-append-drop, length-take-le}
+-- A piece of a list that is brought down to an earlier place.
+use Rattle.std.proofs.Common.{◌≡◌, ℕ, ◌+◌, ◌-◌, List, ◌++◌, length, take, drop, sym, ◌∙◌, ap, arith, length-append}
+use Rattle.std.proofs.lemmas.List.{append_assoc, take_at, drop_at, take-append-drop, length-take-le}
 use borrow.Rule.Slice.PartMut.{post_of}
 use Rattle.token_stacks.specs.Parts.{Swaps}
 use Rattle.token_stacks.proofs.Ends.{take_after, drop_after, piece_at, length_both}
-
-drop_all : (xs : List ℕ) (n : ℕ) → n ≡ length xs → drop n xs ≡ []
-drop_all xs n h = ap (λ (z : List ℕ). drop n z) (sym (append-nil xs)) ∙ drop_at xs [] n (sym h)
-
-pub turned : (xs ws r : List ℕ) (n from middle end : ℕ) → xs ≡ ws → n ≡ length ws
-    → r ≡ drop (middle - from) (take (end - from) (drop from xs)) ++ take (middle - from) (take (end - from) (drop from xs))
-    → Swaps ws (take n ((take from xs ++ (r ++ post_of from (end - from) xs)) ++ drop (length (take from xs ++ (r ++ post_of from (end - from) xs))) ws)) from middle end
-turned xs ws r n from middle end x h y = record {
-  parts = λ a b c d e ha hb hc.
-      let x' : xs ≡ a ++ (b ++ (c ++ d)) = x ∙ e in
-      let x2 : xs ≡ a ++ ((b ++ c) ++ d) = x' ∙ ap (λ (z : List ℕ). a ++ z) (sym (append_assoc b c d)) in
-      let front : take from xs ≡ a = take_after a (b ++ (c ++ d)) xs from x' (sym ha) in
-      let mid : take (end - from) (drop from xs) ≡ b ++ c =
-      piece_at a (b ++ c) d xs from (end - from) x2 (sym ha) (omega (arith, length-append b c)) in
-      let r' : r ≡ c ++ b =
-      y ∙ ap (λ (z : List ℕ). drop (middle - from) z ++ take (middle - from) z) mid
-      ∙ ap (λ (z : List ℕ). z ++ take (middle - from) (b ++ c)) (drop_at b c (middle - from) (omega arith))
-      ∙ ap (λ (z : List ℕ). c ++ z) (take_at b c (middle - from) (omega arith)) in
-      let rest : post_of from (end - from) xs ≡ d =
-      ap (λ (z : List ℕ). drop (end - from) z) (drop_after a ((b ++ c) ++ d) xs from x2 (sym ha))
-      ∙ drop_at (b ++ c) d (end - from) (omega (arith, length-append b c)) in
-      let whole : take from xs ++ (r ++ post_of from (end - from) xs) ≡ a ++ (c ++ (b ++ d)) =
-      ap (λ (z : List ℕ). z ++ (r ++ post_of from (end - from) xs)) front
-      ∙ ap (λ (z : List ℕ). a ++ (z ++ post_of from (end - from) xs)) r'
-      ∙ ap (λ (z : List ℕ). a ++ ((c ++ b) ++ z)) rest
-      ∙ ap (λ (z : List ℕ). a ++ z) (append_assoc c b d) in
-      let long : length (a ++ (c ++ (b ++ d))) ≡ n =
-      omega (arith, length-append a (c ++ (b ++ d)), length-append c (b ++ d), length-append b d, length_both a (b ++ (c ++ d)) ws e, length-append b (c ++ d), length-append c d) in
-      ap (λ (z : List ℕ). take n (z ++ drop (length z) ws)) whole
-      ∙ take_at (a ++ (c ++ (b ++ d))) (drop (length (a ++ (c ++ (b ++ d)))) ws) n long;
-}
 
 -- a piece that was brought down over a copy of what lay before it
 pub brought : (ws us xs r p : List ℕ) (n from middle : ℕ)

@@ -38,18 +38,6 @@ pub(crate) fn append(words: &mut Vec<u64>, piece: &[u64], tail: &[u64]) -> Resul
     }
 }
 
-// Swaps the words from `from` to `middle` with those from there to `end`.
-pub(crate) fn swap_parts(words: &mut Vec<u64>, from: usize, middle: usize, end: usize)
-    requires first { from ≤ middle }
-    requires second { middle ≤ end }
-    requires whole { end ≤ length words.old.items }
-    ensures swapped { Swaps words.old.items words.new.items from middle end }
-    ensures len { vec_len words.new ≡ vec_len words.old }
-{
-    let part = &mut words[from..end];
-    part.rotate_left(middle - from);
-}
-
 // Moves a piece that stands from `middle` on down to `from`, and the words between up behind it.
 pub(crate) fn bring_down(words: &mut Vec<u64>, piece: &[u64], from: usize, middle: usize)
     requires first { from ≤ middle }
