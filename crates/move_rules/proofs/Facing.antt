@@ -8,6 +8,7 @@ use Rattle.move_rules.specs.Places.{Place, up, down, TokenTree, ask, ans, place_
 use Rattle.move_rules.specs.Table.{on_found, facing}
 use Rattle.move_rules.specs.Moves.{Look, dead, ask_move, stay, move, move_at}
 use Rattle.move_rules.specs.Walks.{faces}
+use Rattle.move_rules.specs.Steps.{node_of}
 use Rattle.net_build.specs.Sound.{Sound}
 use Rattle.move_rules.proofs.Faces.{Among, among_has, has_among, let_through, least_in, faced_at, faced_at-at}
 
@@ -51,6 +52,13 @@ found_none net p i f o h e g q =
     let (m, s, r) = node_met net p i (sym e ∙ h) in
     let same : None ≡ Some m = sym q ∙ g ∙ s in
     absurd (cc)
+
+-- the node that lies at the number that was found is the one that is faced
+pub node_found : (net : NetTree) (p : Place) (i : ℕ) (f : Option ℕ) (o : Option Node)
+    → f ≡ number_of (facing net p) → f ≡ Some i → o ≡ slice_get net.nodes i → o ≡ node_of (facing net p)
+node_found net p i f o h e g =
+    let (m, s, r) = node_met net p i (sym e ∙ h) in
+    g ∙ s ∙ ap node_of (sym r)
 
 asked_found : (o : Option (ℕ × Node)) (f : ℕ → Node → Look) (p : Place) → ask_move (on_found o dead f) p ≡ on_found o stay (λ i n. ask_move (f i n) p)
 asked_found None f p = refl

@@ -14,8 +14,8 @@ use Rattle.move_rules.specs.Places.{Place, up, down, TokenTree, ask, ans, place_
 use Rattle.move_rules.specs.Table.{plain_up, plain_down, on_found, facing}
 use Rattle.move_rules.specs.Moves.{pass_at, look_up, ask_move, solo_at, ans_down, solo, stay, move, move_at, NotSolo, Unaided}
 use Rattle.move_rules.specs.Views.{place_at, of_kind, token_of, numbered}
-use Rattle.move_rules.specs.Walks.{faces, on_solo, through, SoloMove}
-use Rattle.move_rules.specs.Steps.{Passes, IsPlain}
+use Rattle.move_rules.specs.Walks.{faces, on_solo, through, SoloMove, SoloStep}
+use Rattle.move_rules.specs.Steps.{Passes, IsPlain, node_of}
 use Rattle.move_rules.proofs.Facing.{Met, met, move_faced}
 
 -- where a token stands, whatever its kind
@@ -59,6 +59,23 @@ not_made net k k' o s b h e p t =
     let f : facing net (place_at k.wire k.up k.stacks) ≡ Some (s.at, s.node) = sym h ∙ ap (option_map numbered) e in
     let (n, same) = subst (λ b. Passes s.node k b k') t p s.at in
     (subst NotSolo (sym (at_met net k s.at s.node f)) n, same)
+
+-- What was done at the node that the token faces is its step on the net, made or not: the node's own move there is the net's.
+pub step_made : (net : NetTree) (k k' : Token) (n : Node) (b : Bool)
+    → (found : Some n ≡ node_of (facing net (place_at k.wire k.up k.stacks)))
+    → (passed : Passes n k b k')
+    → SoloStep net b k k'
+step_made net k k' n b found passed = go (facing net (place_at k.wire k.up k.stacks)) refl found
+  where
+    there : (i : ℕ) → facing net (place_at k.wire k.up k.stacks) ≡ Some (i, n) → (c : Bool) → Passes n k c k' → SoloStep net c k k'
+    there i h true p = (i, at_met net k i n h ∙ p i)
+    there i h false p = (subst NotSolo (sym (at_met net k i n h)) (p i).0, (p i).1)
+
+    go : (f : Option (ℕ × Node)) → facing net (place_at k.wire k.up k.stacks) ≡ f → Some n ≡ node_of f → SoloStep net b k k'
+    go None h e = absurd (cc)
+    go (Some (i, m)) h e =
+        let same : m ≡ n = cc in
+        there i (h ∙ ap (λ z. Some (i, z)) same) b passed
 
 -- a question that follows a plain rule needs nothing but its token
 asks_alone : (i : ℕ) (o : Option Place) (p : Place) → Unaided (ask_move (pass_at i o) p)

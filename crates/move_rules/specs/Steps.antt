@@ -31,3 +31,8 @@ IsPlain (Pair a b w) = Unit {0}
 IsPlain (Fst a w) = Unit {0}
 IsPlain (Snd a w) = Unit {0}
 IsPlain _ = ⊥
+
+-- the node that was found, without its number
+abbrev pub node_of : Option (ℕ × Node) → Option Node
+node_of None = None
+node_of (Some p) = Some p.1

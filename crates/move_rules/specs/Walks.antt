@@ -5,6 +5,7 @@
 -- trail's nodes at their numbers, it gives the first.
 use Rattle.std.specs.Prelude.{◌≡◌, ◌≤◌, ◌⊎◌, ℕ, Bool, List, [], ◌∷◌, length, map, Option, Some, None, slice_get, if◌then◌else◌}
 use Rattle.std.specs.List.{All}
+use Rattle.std.specs.Bool.{MatchBool}
 use Rattle.net_build.specs.declared.node.Node.{Node}
 use Rattle.net_build.specs.Nets.{NetTree, premises, conclusions}
 use Rattle.net_build.specs.Sides.{has}
@@ -53,6 +54,11 @@ pub record SoloMove (net : NetTree) (old : Token) (s : Seen) (new : Token) : Typ
   pub moves : move net (token_of old) ≡ solo s.at (token_of new)
   -- and the node's own
   pub passes : through (s ∷ []) (token_of old) ≡ Some (token_of new)
+
+-- a token makes its solo move on the net, or its move is no solo move and it stays
+abbrev pub SoloStep : NetTree → Bool → Token → Token → Type 0
+SoloStep net made old new =
+    MatchBool made ((i : ℕ) × (move net (token_of old) ≡ solo i (token_of new))) (NotSolo (move net (token_of old)) × (new ≡ old))
 
 -- a token before and after a walk, with its trail
 pub record Passage : Type 0 where

@@ -16,5 +16,5 @@ mod token;
 
 pub use laws::{law_faced_move, law_one_walk, law_retrace, law_trail_walks};
 pub use moved::{Moved, plain_move, walk};
-pub use step::{faced, solo_move};
+pub use step::{faced, solo_move, solo_step};
 pub use token::{Kind, Seen, Token};

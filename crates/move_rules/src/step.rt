@@ -1,12 +1,12 @@
 //! One solo move, in place.
-ghost use Rattle.std.specs.Prelude.{◌≡◌, IfOk, OnErr, MatchOption};
+ghost use Rattle.std.specs.Prelude.{◌≡◌, IfOk, OnErr, MatchOption, slice_get};
 ghost use Rattle.std.specs.Option.{option_map};
 ghost use Rattle.net_build.specs.Sides.{number_of};
 ghost use Rattle.move_rules.specs.Moves.{move, NotSolo, Unaided};
-ghost use Rattle.move_rules.specs.Steps.{Passes, IsPlain};
+ghost use Rattle.move_rules.specs.Steps.{Passes, IsPlain, node_of};
 ghost use Rattle.move_rules.specs.Table.{facing};
 ghost use Rattle.move_rules.specs.Views.{place_at, token_of, numbered};
-ghost use Rattle.move_rules.specs.Walks.{SoloMove};
+ghost use Rattle.move_rules.specs.Walks.{SoloMove, SoloStep};
 
 use crate::ground::{const_moves, pred_moves, succ_moves, test_moves};
 use crate::plain::{
@@ -18,12 +18,12 @@ use net_build::{Net, Node};
 use std::alloc::AllocError;
 
 // The move through a node that the token faces.
-fn pass(token: &mut Token, node: Node) -> Result<bool, AllocError>
-    ensures ok { IfOk result (λ made. Passes node token.old made token.new) }
+fn pass(token: &mut Token, node: &Node) -> Result<bool, AllocError>
+    ensures ok { IfOk result (λ made. Passes node.now token.old made token.new) }
     ensures err { OnErr result (token.new ≡ token.old) }
-    ensures plain { OnErr result (IsPlain node) }
+    ensures plain { OnErr result (IsPlain node.now) }
 {
-    match node {
+    match *node {
         Node::Const { v, .. } => Ok(const_moves(token, v)),
         Node::Succ { a, w } => Ok(succ_moves(token, a, w)),
         Node::Pred { a, w } => Ok(pred_moves(token, a, w)),
@@ -71,6 +71,40 @@ pub fn faced(net: &Net, token: &Token) -> Option<Seen>
     }
 }
 
+// The node of this number, where it lies in the net.
+fn node_at(net: &Net, n: u32) -> Option<&Node>
+    ensures { option_map (λ n. n.now) result ≡ slice_get net.now.nodes n }
+{
+    net.nodes().get(n as usize)
+}
+
+// The node that the token faces, where it lies in the net.
+fn faced_node<'n>(net: &'n Net, token: &Token) -> Option<&'n Node>
+    ensures { option_map (λ n. n.now) result ≡ node_of (facing net.now (place_at token.now.wire token.now.up token.now.stacks)) }
+{
+    match number(net, token) {
+        Some(at) => node_at(net, at),
+        None => None,
+    }
+}
+
+/// Makes the token's next move on this net in place, if it is a solo move, and answers whether it did: `false` exactly when the move is a
+/// fork, a join, the answer, or none, and then the token stays. It holds for every token of every net.
+///
+/// # Errors
+/// Where a stack needs memory that isn't there; the token stays. A fork, a join and the answer take no memory.
+pub fn solo_step(net: &Net, token: &mut Token) -> Result<bool, AllocError>
+    ensures ok { IfOk result (λ made. SoloStep net.now made token.old token.new) }
+    ensures err { OnErr result (token.new ≡ token.old) }
+    ensures unaided { OnErr result (Unaided (move net.now (token_of token.old))) }
+{
+    let Some(node) = faced_node(net, token) else {
+        return Ok(false);
+    };
+    let made = pass(token, node)?;
+    Ok(made)
+}
+
 /// Makes the token's next move on this net in place, if it is a solo move, and answers the node; `None` where it is a fork, a join, the
 /// answer, or none, and the token stays. After want of memory it stays as well; a fork, a join and the answer take none. It holds for every
 /// token of every net.
@@ -82,7 +116,7 @@ pub fn solo_move(net: &Net, token: &mut Token) -> Result<Option<Seen>, AllocErro
     let Some(seen) = faced(net, token) else {
         return Ok(None);
     };
-    if pass(token, seen.node)? {
+    if pass(token, &seen.node)? {
         Ok(Some(seen))
     } else {
         Ok(None)
