@@ -43,11 +43,3 @@ pub record IsCheckReport (term : Bool) (text : List ℕ) : Type 0 where
   pub type : TyTree
   pub tree : NamedTree
   pub text_is : text ≡ check_report type term tree
-
--- The text is such a report with some value.
-abbrev pub WithValue : (Option Val → List ℕ → Type 0) → List ℕ → Type 0
-WithValue IsReport text = (v : Val) × IsReport (Some v) text
-
--- The text is such a report without a value.
-abbrev pub WithoutValue : (Option Val → List ℕ → Type 0) → List ℕ → Type 0
-WithoutValue IsReport text = IsReport None text
