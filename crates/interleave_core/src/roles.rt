@@ -68,9 +68,21 @@ fn at_node(node: Node, kind: Kind, up: bool, wire: u32) -> Role
     ensures { result ≡ role_at node kind up wire }
 {
     match node {
-        Node::Plus { a, b, w } => operand(Operator::Plus, a, b, w, kind, up, wire),
-        Node::Minus { a, b, w } => operand(Operator::Minus, a, b, w, kind, up, wire),
-        Node::Times { a, b, w } => operand(Operator::Times, a, b, w, kind, up, wire),
+        Node::Plus {
+            left: a,
+            right: b,
+            wire: w,
+        } => operand(Operator::Plus, a, b, w, kind, up, wire),
+        Node::Minus {
+            left: a,
+            right: b,
+            wire: w,
+        } => operand(Operator::Minus, a, b, w, kind, up, wire),
+        Node::Times {
+            left: a,
+            right: b,
+            wire: w,
+        } => operand(Operator::Times, a, b, w, kind, up, wire),
         Node::Root { .. } => last(kind, up),
         _ => Role::Still,
     }

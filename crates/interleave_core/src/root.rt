@@ -10,7 +10,7 @@ fn at(node: Node) -> Option<u32>
     ensures { result ≡ root_at node }
 {
     match node {
-        Node::Root { w } => Some(w),
+        Node::Root { wire } => Some(wire),
         _ => None,
     }
 }

@@ -24,20 +24,37 @@ fn pass(token: &mut Token, node: &Node) -> Result<bool, AllocError>
     ensures plain { OnErr result (IsPlain node.now) }
 {
     match *node {
-        Node::Const { v, .. } => Ok(const_moves(token, v)),
-        Node::Succ { a, w } => Ok(succ_moves(token, a, w)),
-        Node::Pred { a, w } => Ok(pred_moves(token, a, w)),
-        Node::Ifz { c, p, q, w } => Ok(test_moves(token, c, p, q, w)),
-        Node::Der { w, x } => der_moves(token, w, x),
-        Node::Con { l, r, w } => con_moves(token, l, r, w),
-        Node::Lam { b, x, w } => lam_moves(token, b, x, w),
-        Node::App { f, a, w } => app_moves(token, f, a, w),
-        Node::BoxNode { i, o } => box_moves(token, i, o),
-        Node::Door { i, o } => door_moves(token, i, o),
-        Node::FixBox { b, x, w } => fix_moves(token, b, x, w),
-        Node::Pair { a, b, w } => pair_moves(token, a, b, w),
-        Node::Fst { a, w } => fst_moves(token, a, w),
-        Node::Snd { a, w } => snd_moves(token, a, w),
+        Node::Const { value, .. } => Ok(const_moves(token, value)),
+        Node::Succ { operand, wire } => Ok(succ_moves(token, operand, wire)),
+        Node::Pred { operand, wire } => Ok(pred_moves(token, operand, wire)),
+        Node::Ifz {
+            condition,
+            then,
+            otherwise,
+            wire,
+        } => Ok(test_moves(token, condition, then, otherwise, wire)),
+        Node::Der { wire, variable } => der_moves(token, wire, variable),
+        Node::Con { left, right, wire } => con_moves(token, left, right, wire),
+        Node::Lam {
+            body,
+            variable,
+            wire,
+        } => lam_moves(token, body, variable, wire),
+        Node::App {
+            function,
+            argument,
+            wire,
+        } => app_moves(token, function, argument, wire),
+        Node::BoxNode { inside, outside } => box_moves(token, inside, outside),
+        Node::Door { inside, outside } => door_moves(token, inside, outside),
+        Node::FixBox {
+            body,
+            variable,
+            wire,
+        } => fix_moves(token, body, variable, wire),
+        Node::Pair { left, right, wire } => pair_moves(token, left, right, wire),
+        Node::Fst { operand, wire } => fst_moves(token, operand, wire),
+        Node::Snd { operand, wire } => snd_moves(token, operand, wire),
         Node::Plus { .. }
         | Node::Minus { .. }
         | Node::Times { .. }

@@ -21,30 +21,86 @@ fn node(text: &str) -> Result<Node, AllocError> {
     let (third, fourth) = cut(rest, ' ');
     let (a, b, c, d) = (number(first), number(second), number(third), number(fourth));
     match name {
-        "Const" => Ok(Node::Const { v: a as u64, w: b }),
-        "Succ" => Ok(Node::Succ { a, w: b }),
-        "Pred" => Ok(Node::Pred { a, w: b }),
-        "Plus" => Ok(Node::Plus { a, b, w: c }),
-        "Minus" => Ok(Node::Minus { a, b, w: c }),
-        "Times" => Ok(Node::Times { a, b, w: c }),
-        "Ifz" => Ok(Node::Ifz {
-            c: a,
-            p: b,
-            q: c,
-            w: d,
+        "Const" => Ok(Node::Const {
+            value: a as u64,
+            wire: b,
         }),
-        "Der" => Ok(Node::Der { w: a, x: b }),
-        "Con" => Ok(Node::Con { l: a, r: b, w: c }),
-        "Weak" => Ok(Node::Weak { x: a }),
-        "Lam" => Ok(Node::Lam { b: a, x: b, w: c }),
-        "App" => Ok(Node::App { f: a, a: b, w: c }),
-        "Box" => Ok(Node::BoxNode { i: a, o: b }),
-        "Door" => Ok(Node::Door { i: a, o: b }),
-        "FixBox" => Ok(Node::FixBox { b: a, x: b, w: c }),
-        "Root" => Ok(Node::Root { w: a }),
-        "Pair" => Ok(Node::Pair { a, b, w: c }),
-        "Fst" => Ok(Node::Fst { a, w: b }),
-        "Snd" => Ok(Node::Snd { a, w: b }),
+        "Succ" => Ok(Node::Succ {
+            operand: a,
+            wire: b,
+        }),
+        "Pred" => Ok(Node::Pred {
+            operand: a,
+            wire: b,
+        }),
+        "Plus" => Ok(Node::Plus {
+            left: a,
+            right: b,
+            wire: c,
+        }),
+        "Minus" => Ok(Node::Minus {
+            left: a,
+            right: b,
+            wire: c,
+        }),
+        "Times" => Ok(Node::Times {
+            left: a,
+            right: b,
+            wire: c,
+        }),
+        "Ifz" => Ok(Node::Ifz {
+            condition: a,
+            then: b,
+            otherwise: c,
+            wire: d,
+        }),
+        "Der" => Ok(Node::Der {
+            wire: a,
+            variable: b,
+        }),
+        "Con" => Ok(Node::Con {
+            left: a,
+            right: b,
+            wire: c,
+        }),
+        "Weak" => Ok(Node::Weak { variable: a }),
+        "Lam" => Ok(Node::Lam {
+            body: a,
+            variable: b,
+            wire: c,
+        }),
+        "App" => Ok(Node::App {
+            function: a,
+            argument: b,
+            wire: c,
+        }),
+        "Box" => Ok(Node::BoxNode {
+            inside: a,
+            outside: b,
+        }),
+        "Door" => Ok(Node::Door {
+            inside: a,
+            outside: b,
+        }),
+        "FixBox" => Ok(Node::FixBox {
+            body: a,
+            variable: b,
+            wire: c,
+        }),
+        "Root" => Ok(Node::Root { wire: a }),
+        "Pair" => Ok(Node::Pair {
+            left: a,
+            right: b,
+            wire: c,
+        }),
+        "Fst" => Ok(Node::Fst {
+            operand: a,
+            wire: b,
+        }),
+        "Snd" => Ok(Node::Snd {
+            operand: a,
+            wire: b,
+        }),
         _ => Err(AllocError),
     }
 }

@@ -73,10 +73,10 @@ pub(crate) fn close_ifz(
     let branches = contract(alloc, parts, depth, then.free, otherwise.free)?;
     let free = contract(alloc, parts, depth, test.free, branches)?;
     let node = Node::Ifz {
-        c: test.out,
-        p: then.out,
-        q: otherwise.out,
-        w: parts.next(),
+        condition: test.out,
+        then: then.out,
+        otherwise: otherwise.out,
+        wire: parts.next(),
     };
     finish(parts, depth, Ty::Nat, node, free)
 }
@@ -95,11 +95,11 @@ pub(crate) fn close_fun(
 {
     let whole = arrow_of(alloc, ty, parts.ty(body.out))?;
     let mut free = body.free;
-    let x = bind(alloc, parts, depth, ty, &mut free)?;
+    let variable = bind(alloc, parts, depth, ty, &mut free)?;
     let node = Node::Lam {
-        b: body.out,
-        x,
-        w: parts.next(),
+        body: body.out,
+        variable,
+        wire: parts.next(),
     };
     finish(parts, depth, whole, node, free)
 }
@@ -117,12 +117,12 @@ pub(crate) fn close_fix(
     ensures { IfOk result (Builds parts.old parts.new (fix_here parts.old depth (ty_of ty.now) body)) }
 {
     let mut free = body.free;
-    let x = bind(alloc, parts, depth + 1, ty, &mut free)?;
+    let variable = bind(alloc, parts, depth + 1, ty, &mut free)?;
     let free = doors(alloc, parts, depth, free)?;
     let node = Node::FixBox {
-        b: body.out,
-        x,
-        w: parts.next(),
+        body: body.out,
+        variable,
+        wire: parts.next(),
     };
     finish(parts, depth, ty.copy(alloc)?, node, free)
 }
@@ -144,9 +144,9 @@ pub(crate) fn close_app(
     let boxed = close_box(alloc, parts, depth, from, argument)?;
     let free = contract(alloc, parts, depth, function.free, boxed.free)?;
     let node = Node::App {
-        f: function.out,
-        a: boxed.out,
-        w: parts.next(),
+        function: function.out,
+        argument: boxed.out,
+        wire: parts.next(),
     };
     let to = codomain_of(alloc, parts.ty(function.out))?;
     finish(parts, depth, to, node, free)
@@ -180,8 +180,8 @@ fn close_box(
         ty,
     };
     let node = Node::BoxNode {
-        i: argument.out,
-        o: out,
+        inside: argument.out,
+        outside: out,
     };
     parts.add(wire, node)?;
     Ok(Boxed { out, free })
@@ -208,7 +208,7 @@ fn bind(
         depth,
         ty: ty.copy(alloc)?,
     };
-    parts.add(wire, Node::Weak { x })?;
+    parts.add(wire, Node::Weak { variable: x })?;
     Ok(x)
 }
 

@@ -18,14 +18,14 @@ pub(crate) enum Double {
 
 impl Double {
     /// Its node, of the operands' wires and its own.
-    pub(crate) fn node(self, a: u32, b: u32, w: u32) -> Node
-        ensures { result ≡ double_node self a b w }
+    pub(crate) fn node(self, left: u32, right: u32, wire: u32) -> Node
+        ensures { result ≡ double_node self left right wire }
     {
         match self {
-            Double::Plus => Node::Plus { a, b, w },
-            Double::Minus => Node::Minus { a, b, w },
-            Double::Times => Node::Times { a, b, w },
-            Double::Pair => Node::Pair { a, b, w },
+            Double::Plus => Node::Plus { left, right, wire },
+            Double::Minus => Node::Minus { left, right, wire },
+            Double::Times => Node::Times { left, right, wire },
+            Double::Pair => Node::Pair { left, right, wire },
         }
     }
 

@@ -47,9 +47,9 @@ fn take(
     let v = last(right);
     if u.binder == v.binder {
         let node = Node::Con {
-            l: u.wire,
-            r: v.wire,
-            w: parts.next(),
+            left: u.wire,
+            right: v.wire,
+            wire: parts.next(),
         };
         let joined = variable(alloc, parts, depth, u.binder, node)?;
         pop_last(left);
@@ -92,8 +92,8 @@ pub(crate) fn doors(
     while !inside.is_empty() {
         let loose = pop_last(&mut inside);
         let node = Node::Door {
-            i: loose.wire,
-            o: parts.next(),
+            inside: loose.wire,
+            outside: parts.next(),
         };
         outside.push(variable(alloc, parts, depth, loose.binder, node)?)?;
     }

@@ -4,28 +4,159 @@ ghost use Rattle.std.specs.Prelude.{◌≡◌, ◌∷◌, []};
 ghost use Rattle.net_build.specs.Nets.{premises, conclusions};
 ghost use Rattle.net_build.specs.Sides.{present};
 
-/// A node, with its wires by number, in the order in which a listing gives them.
+/// A node, with the numbers of its wires in the order in which a listing gives them. A premise is a wire above the node, and a
+/// conclusion a wire below it.
 #[derive(Clone, Copy, PartialEq, Eq)]
 pub enum Node {
-    Const { v: u64, w: u32 },
-    Succ { a: u32, w: u32 },
-    Pred { a: u32, w: u32 },
-    Plus { a: u32, b: u32, w: u32 },
-    Minus { a: u32, b: u32, w: u32 },
-    Times { a: u32, b: u32, w: u32 },
-    Ifz { c: u32, p: u32, q: u32, w: u32 },
-    Der { w: u32, x: u32 },
-    Con { l: u32, r: u32, w: u32 },
-    Weak { x: u32 },
-    Lam { b: u32, x: u32, w: u32 },
-    App { f: u32, a: u32, w: u32 },
-    BoxNode { i: u32, o: u32 },
-    Door { i: u32, o: u32 },
-    FixBox { b: u32, x: u32, w: u32 },
-    Root { w: u32 },
-    Pair { a: u32, b: u32, w: u32 },
-    Fst { a: u32, w: u32 },
-    Snd { a: u32, w: u32 },
+    /// A number.
+    Const {
+        /// The number itself, which is no wire.
+        value: u64,
+        /// The conclusion: its value wire.
+        wire: u32,
+    },
+    /// The successor of a number.
+    Succ {
+        /// The premise: the operand's value wire.
+        operand: u32,
+        /// The conclusion: its value wire.
+        wire: u32,
+    },
+    /// The predecessor of a number, 0 of 0.
+    Pred {
+        /// The premise: the operand's value wire.
+        operand: u32,
+        /// The conclusion: its value wire.
+        wire: u32,
+    },
+    /// The sum of two numbers.
+    Plus {
+        /// The first premise: the left operand's value wire.
+        left: u32,
+        /// The second premise: the right operand's value wire.
+        right: u32,
+        /// The conclusion: its value wire.
+        wire: u32,
+    },
+    /// The difference of two numbers, 0 where the right one is larger.
+    Minus {
+        /// The first premise: the left operand's value wire.
+        left: u32,
+        /// The second premise: the right operand's value wire.
+        right: u32,
+        /// The conclusion: its value wire.
+        wire: u32,
+    },
+    /// The product of two numbers.
+    Times {
+        /// The first premise: the left operand's value wire.
+        left: u32,
+        /// The second premise: the right operand's value wire.
+        right: u32,
+        /// The conclusion: its value wire.
+        wire: u32,
+    },
+    /// The choice between two numbers, by whether a third is 0.
+    Ifz {
+        /// The first premise: the value wire of the number that is tested.
+        condition: u32,
+        /// The second premise: the value wire of the branch for 0.
+        then: u32,
+        /// The third premise: the value wire of the branch for any other number.
+        otherwise: u32,
+        /// The conclusion: its value wire.
+        wire: u32,
+    },
+    /// A use of a variable (dereliction). Both wires are below it.
+    Der {
+        /// The first conclusion: its value wire.
+        wire: u32,
+        /// The second conclusion: a variable wire, by which the use goes to the variable's binder.
+        variable: u32,
+    },
+    /// Two uses of a variable joined into one (contraction).
+    Con {
+        /// The first premise: the variable wire of the uses on the left.
+        left: u32,
+        /// The second premise: the variable wire of the uses on the right.
+        right: u32,
+        /// The conclusion: the variable wire of both.
+        wire: u32,
+    },
+    /// A variable that is not used (weakening).
+    Weak {
+        /// The conclusion: the variable's wire, which goes to its binder.
+        variable: u32,
+    },
+    /// A function.
+    Lam {
+        /// The first premise: the body's value wire.
+        body: u32,
+        /// The second premise: the variable wire of the function's variable.
+        variable: u32,
+        /// The conclusion: its value wire.
+        wire: u32,
+    },
+    /// A function applied to an argument.
+    App {
+        /// The first premise: the function's value wire.
+        function: u32,
+        /// The second premise: the bang wire of the argument's box.
+        argument: u32,
+        /// The conclusion: its value wire.
+        wire: u32,
+    },
+    /// The box of an argument (promotion).
+    BoxNode {
+        /// The premise: the argument's value wire, in the box.
+        inside: u32,
+        /// The conclusion: the bang wire of the box, outside it.
+        outside: u32,
+    },
+    /// The way of a variable's uses out of a box.
+    Door {
+        /// The premise: the variable wire in the box.
+        inside: u32,
+        /// The conclusion: the variable wire outside it.
+        outside: u32,
+    },
+    /// A fixed point, with the box of its body.
+    FixBox {
+        /// The first premise: the body's value wire, in the box.
+        body: u32,
+        /// The second premise: the variable wire of the fixed point's variable, in the box.
+        variable: u32,
+        /// The conclusion: its value wire, outside the box.
+        wire: u32,
+    },
+    /// The end of a net.
+    Root {
+        /// The premise: the value wire of the whole program.
+        wire: u32,
+    },
+    /// A pair.
+    Pair {
+        /// The first premise: the left part's value wire.
+        left: u32,
+        /// The second premise: the right part's value wire.
+        right: u32,
+        /// The conclusion: its value wire.
+        wire: u32,
+    },
+    /// The left part of a pair.
+    Fst {
+        /// The premise: the pair's value wire.
+        operand: u32,
+        /// The conclusion: its value wire.
+        wire: u32,
+    },
+    /// The right part of a pair.
+    Snd {
+        /// The premise: the pair's value wire.
+        operand: u32,
+        /// The conclusion: its value wire.
+        wire: u32,
+    },
 }
 
 impl Node {
@@ -35,20 +166,31 @@ impl Node {
     {
         match self {
             Node::Const { .. } | Node::Der { .. } | Node::Weak { .. } => (None, None, None),
-            Node::Succ { a, .. }
-            | Node::Pred { a, .. }
-            | Node::Fst { a, .. }
-            | Node::Snd { a, .. } => { (Some(a), None, None) }
-            Node::Plus { a, b, .. }
-            | Node::Minus { a, b, .. }
-            | Node::Times { a, b, .. }
-            | Node::Pair { a, b, .. } => (Some(a), Some(b), None),
-            Node::Ifz { c, p, q, .. } => (Some(c), Some(p), Some(q)),
-            Node::Con { l, r, .. } => (Some(l), Some(r), None),
-            Node::Lam { b, x, .. } | Node::FixBox { b, x, .. } => (Some(b), Some(x), None),
-            Node::App { f, a, .. } => (Some(f), Some(a), None),
-            Node::BoxNode { i, .. } | Node::Door { i, .. } => (Some(i), None, None),
-            Node::Root { w } => (Some(w), None, None),
+            Node::Succ { operand, .. }
+            | Node::Pred { operand, .. }
+            | Node::Fst { operand, .. }
+            | Node::Snd { operand, .. } => { (Some(operand), None, None) }
+            Node::Plus { left, right, .. }
+            | Node::Minus { left, right, .. }
+            | Node::Times { left, right, .. }
+            | Node::Pair { left, right, .. }
+            | Node::Con { left, right, .. } => (Some(left), Some(right), None),
+            Node::Ifz {
+                condition,
+                then,
+                otherwise,
+                ..
+            } => { (Some(condition), Some(then), Some(otherwise)) }
+            Node::Lam { body, variable, .. } | Node::FixBox { body, variable, .. } => {
+                (Some(body), Some(variable), None)
+            }
+            Node::App {
+                function,
+                argument,
+                ..
+            } => (Some(function), Some(argument), None),
+            Node::BoxNode { inside, .. } | Node::Door { inside, .. } => (Some(inside), None, None),
+            Node::Root { wire } => (Some(wire), None, None),
         }
     }
 
@@ -57,23 +199,23 @@ impl Node {
         ensures { present (result.0 ∷ result.1 ∷ []) ≡ conclusions self }
     {
         match self {
-            Node::Const { w, .. }
-            | Node::Succ { w, .. }
-            | Node::Pred { w, .. }
-            | Node::Plus { w, .. }
-            | Node::Minus { w, .. }
-            | Node::Times { w, .. }
-            | Node::Ifz { w, .. }
-            | Node::Con { w, .. }
-            | Node::Lam { w, .. }
-            | Node::App { w, .. }
-            | Node::FixBox { w, .. }
-            | Node::Pair { w, .. }
-            | Node::Fst { w, .. }
-            | Node::Snd { w, .. } => (Some(w), None),
-            Node::Der { w, x } => (Some(w), Some(x)),
-            Node::Weak { x } => (Some(x), None),
-            Node::BoxNode { o, .. } | Node::Door { o, .. } => (Some(o), None),
+            Node::Const { wire, .. }
+            | Node::Succ { wire, .. }
+            | Node::Pred { wire, .. }
+            | Node::Plus { wire, .. }
+            | Node::Minus { wire, .. }
+            | Node::Times { wire, .. }
+            | Node::Ifz { wire, .. }
+            | Node::Con { wire, .. }
+            | Node::Lam { wire, .. }
+            | Node::App { wire, .. }
+            | Node::FixBox { wire, .. }
+            | Node::Pair { wire, .. }
+            | Node::Fst { wire, .. }
+            | Node::Snd { wire, .. } => (Some(wire), None),
+            Node::Der { wire, variable } => (Some(wire), Some(variable)),
+            Node::Weak { variable } => (Some(variable), None),
+            Node::BoxNode { outside, .. } | Node::Door { outside, .. } => (Some(outside), None),
             Node::Root { .. } => (None, None),
         }
     }

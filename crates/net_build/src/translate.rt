@@ -33,7 +33,7 @@ pub fn build(alloc: Global, program: &Typed) -> Result<Net, AllocError>
         context: Vec::new(alloc),
     };
     let root = place(alloc, &mut parts, 0, program.term())?;
-    parts.nodes.push(Node::Root { w: root.out })?;
+    parts.nodes.push(Node::Root { wire: root.out })?;
     Net::from_parts(alloc, parts.wires, parts.nodes)
 }
 
@@ -66,7 +66,10 @@ fn place_number(alloc: Global, parts: &mut Parts, depth: u32, v: u64) -> Result<
     requires { HasRoom parts.old depth (part_at parts.old depth (num v)) }
     ensures { IfOk result (Builds parts.old parts.new (part_at parts.old depth (num v))) }
 {
-    let node = Node::Const { v, w: parts.next() };
+    let node = Node::Const {
+        value: v,
+        wire: parts.next(),
+    };
     finish(parts, depth, Ty::Nat, node, Vec::new(alloc))
 }
 
@@ -81,12 +84,12 @@ fn place_variable(
     ensures { IfOk result (Builds parts.old parts.new (part_at parts.old depth (var i))) }
 {
     let ty = variable_type(alloc, &parts.context, i)?;
-    let w = parts.next();
+    let wire = parts.next();
     add_uses(alloc, parts, depth, ty)?;
-    let x = w + 1;
-    parts.nodes.push(Node::Der { w, x })?;
-    let free = one_loose(alloc, parts.context.len(), i, x)?;
-    Ok(Placed { out: w, free })
+    let variable = wire + 1;
+    parts.nodes.push(Node::Der { wire, variable })?;
+    let free = one_loose(alloc, parts.context.len(), i, variable)?;
+    Ok(Placed { out: wire, free })
 }
 
 /// The value wire of a variable and its variable wire.

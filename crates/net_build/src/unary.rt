@@ -18,14 +18,14 @@ pub(crate) enum Unary {
 
 impl Unary {
     /// Its node, of the operand's wire and its own.
-    pub(crate) fn node(self, a: u32, w: u32) -> Node
-        ensures { result ≡ unary_node self a w }
+    pub(crate) fn node(self, operand: u32, wire: u32) -> Node
+        ensures { result ≡ unary_node self operand wire }
     {
         match self {
-            Unary::Succ => Node::Succ { a, w },
-            Unary::Pred => Node::Pred { a, w },
-            Unary::Fst => Node::Fst { a, w },
-            Unary::Snd => Node::Snd { a, w },
+            Unary::Succ => Node::Succ { operand, wire },
+            Unary::Pred => Node::Pred { operand, wire },
+            Unary::Fst => Node::Fst { operand, wire },
+            Unary::Snd => Node::Snd { operand, wire },
         }
     }
 

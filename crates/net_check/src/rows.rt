@@ -16,25 +16,62 @@ pub(crate) fn types_meet(net: &Net, node: Node) -> bool
     ensures { IsTrue result ↔ TypesMeet net.now node }
 {
     match node {
-        Node::Const { w, .. } | Node::Root { w } => is_nat(net, w),
-        Node::Succ { a, w } | Node::Pred { a, w } => is_nat(net, a) && is_nat(net, w),
-        Node::Plus { a, b, w } | Node::Minus { a, b, w } | Node::Times { a, b, w } => {
-            is_nat(net, a) && is_nat(net, b) && is_nat(net, w)
+        Node::Const { wire, .. } | Node::Root { wire } => is_nat(net, wire),
+        Node::Succ { operand, wire } | Node::Pred { operand, wire } => is_nat(net, operand)
+            && is_nat(net, wire),
+        Node::Plus { left, right, wire }
+        | Node::Minus { left, right, wire }
+        | Node::Times { left, right, wire } => {
+            is_nat(net, left) && is_nat(net, right) && is_nat(net, wire)
         }
-        Node::Ifz { c, p, q, w } => {
-            is_nat(net, c) && is_nat(net, p) && is_nat(net, q) && is_nat(net, w)
+        Node::Ifz {
+            condition,
+            then,
+            otherwise,
+            wire,
+        } => {
+            is_nat(net, condition)
+                && is_nat(net, then)
+                && is_nat(net, otherwise)
+                && is_nat(net, wire)
         }
-        Node::Der { w, x } => are_one(value(net, w), variable(net, x)),
-        Node::Con { l, r, w } => are_all_one(variable(net, l), variable(net, r), variable(net, w)),
-        Node::Weak { x } => variable(net, x).is_some(),
-        Node::Lam { b, x, w } => is_arrow(value(net, w), variable(net, x), value(net, b)),
-        Node::App { f, a, w } => is_arrow(value(net, f), bang(net, a), value(net, w)),
-        Node::BoxNode { i, o } => are_one(value(net, i), bang(net, o)),
-        Node::Door { i, o } => are_one(variable(net, i), variable(net, o)),
-        Node::FixBox { b, x, w } => are_all_one(value(net, b), variable(net, x), value(net, w)),
-        Node::Pair { a, b, w } => is_product(value(net, w), value(net, a), value(net, b)),
-        Node::Fst { a, w } => is_left(value(net, a), value(net, w)),
-        Node::Snd { a, w } => is_right(value(net, a), value(net, w)),
+        Node::Der { wire, variable: x } => are_one(value(net, wire), variable(net, x)),
+        Node::Con { left, right, wire } => are_all_one(
+            variable(net, left),
+            variable(net, right),
+            variable(net, wire),
+        ),
+        Node::Weak { variable: x } => variable(net, x).is_some(),
+        Node::Lam {
+            body,
+            variable: x,
+            wire,
+        } => is_arrow(value(net, wire), variable(net, x), value(net, body)),
+        Node::App {
+            function,
+            argument,
+            wire,
+        } => is_arrow(value(net, function), bang(net, argument), value(net, wire)),
+        Node::BoxNode {
+            inside: i,
+            outside: o,
+        } => are_one(value(net, i), bang(net, o)),
+        Node::Door {
+            inside: i,
+            outside: o,
+        } => are_one(variable(net, i), variable(net, o)),
+        Node::FixBox {
+            body,
+            variable: x,
+            wire,
+        } => are_all_one(value(net, body), variable(net, x), value(net, wire)),
+        Node::Pair { left, right, wire } => is_product(
+            value(net, wire),
+            value(net, left),
+            value(net, right),
+        ),
+        Node::Fst { operand, wire } => is_left(value(net, operand), value(net, wire)),
+        Node::Snd { operand, wire } => is_right(value(net, operand), value(net, wire)),
     }
 }
 
@@ -143,22 +180,52 @@ pub(crate) fn depths_meet(net: &Net, node: Node) -> bool
     ensures { IsTrue result ↔ DepthsMeet net.now node }
 {
     match node {
-        Node::Const { w, .. } => depth(net, w).is_some(),
-        Node::Weak { x } => depth(net, x).is_some(),
-        Node::Root { w } => depth(net, w) == Some(0),
-        Node::Succ { a, w } | Node::Pred { a, w } | Node::Fst { a, w } | Node::Snd { a, w } =>
-            level(net, a, w),
-        Node::Der { w, x } => level(net, w, x),
-        Node::Plus { a, b, w }
-        | Node::Minus { a, b, w }
-        | Node::Times { a, b, w }
-        | Node::Pair { a, b, w } => { level(net, a, b) && level(net, a, w) }
-        Node::Con { l, r, w } => level(net, l, r) && level(net, l, w),
-        Node::Lam { b, x, w } => level(net, b, x) && level(net, b, w),
-        Node::App { f, a, w } => level(net, f, a) && level(net, f, w),
-        Node::Ifz { c, p, q, w } => { level(net, c, p) && level(net, c, q) && level(net, c, w) }
-        Node::BoxNode { i, o } | Node::Door { i, o } => inside(net, i, o),
-        Node::FixBox { b, x, w } => inside(net, b, w) && inside(net, x, w),
+        Node::Const { wire, .. } => depth(net, wire).is_some(),
+        Node::Weak { variable } => depth(net, variable).is_some(),
+        Node::Root { wire } => depth(net, wire) == Some(0),
+        Node::Succ { operand, wire }
+        | Node::Pred { operand, wire }
+        | Node::Fst { operand, wire }
+        | Node::Snd { operand, wire } => level(net, operand, wire),
+        Node::Der { wire, variable } => level(net, wire, variable),
+        Node::Plus { left, right, wire }
+        | Node::Minus { left, right, wire }
+        | Node::Times { left, right, wire }
+        | Node::Pair { left, right, wire } => { level(net, left, right) && level(net, left, wire) }
+        Node::Con { left, right, wire } => level(net, left, right) && level(net, left, wire),
+        Node::Lam {
+            body,
+            variable,
+            wire,
+        } => level(net, body, variable) && level(net, body, wire),
+        Node::App {
+            function,
+            argument,
+            wire,
+        } => level(net, function, argument) && level(net, function, wire),
+        Node::Ifz {
+            condition,
+            then,
+            otherwise,
+            wire,
+        } => {
+            level(net, condition, then)
+                && level(net, condition, otherwise)
+                && level(net, condition, wire)
+        }
+        Node::BoxNode {
+            inside: i,
+            outside: o,
+        }
+        | Node::Door {
+            inside: i,
+            outside: o,
+        } => inside(net, i, o),
+        Node::FixBox {
+            body,
+            variable,
+            wire,
+        } => inside(net, body, wire) && inside(net, variable, wire),
     }
 }
 

@@ -86,7 +86,7 @@ fn read_root(alloc: Global, net: &Net, height: u32) -> Result<Option<Term>, Allo
         marks,
     };
     match next(net, &mut walk) {
-        Some(Node::Root { w }) => read(alloc, net, &mut walk, height, 0, 0, 0, w),
+        Some(Node::Root { wire }) => read(alloc, net, &mut walk, height, 0, 0, 0, wire),
         _ => Ok(None),
     }
 }

@@ -133,8 +133,8 @@ fn next_use(net: &Net, next: &mut usize) -> Option<u32>
     while *next < nodes.len() {
         let node = nodes[*next];
         *next += 1;
-        if let Node::Der { w, .. } = node {
-            return Some(w);
+        if let Node::Der { wire, .. } = node {
+            return Some(wire);
         }
     }
     None

@@ -97,24 +97,24 @@ fn pass_one(
     ensures left { walk.new.left ≡ walk.old.left }
 {
     match node {
-        Node::Con { l, r, w } => {
-            let mark = walk.mark(w);
-            walk.set(l, mark);
-            walk.set(r, mark);
+        Node::Con { left, right, wire } => {
+            let mark = walk.mark(wire);
+            walk.set(left, mark);
+            walk.set(right, mark);
             Some((around, place, want))
         }
         Node::Weak { .. } => Some((around, place, want)),
-        Node::Door { i, o } => {
-            let mark = walk.mark(o);
+        Node::Door { inside, outside } => {
+            let mark = walk.mark(outside);
             if mark.place == around {
                 let level = mark.level;
-                walk.set(i, Mark { level, place });
+                walk.set(inside, Mark { level, place });
             }
             Some((around, place, want))
         }
-        Node::BoxNode { i, o } => {
-            if o == want {
-                Some((place, o as u64 + 1, i))
+        Node::BoxNode { inside, outside } => {
+            if outside == want {
+                Some((place, outside as u64 + 1, inside))
             } else {
                 None
             }
@@ -128,23 +128,23 @@ pub(crate) fn value_of(node: Node) -> u32
     ensures { result ≡ value_of node }
 {
     match node {
-        Node::Const { w, .. }
-        | Node::Succ { w, .. }
-        | Node::Pred { w, .. }
-        | Node::Plus { w, .. }
-        | Node::Minus { w, .. }
-        | Node::Times { w, .. }
-        | Node::Ifz { w, .. }
-        | Node::Der { w, .. }
-        | Node::Con { w, .. }
-        | Node::Lam { w, .. }
-        | Node::App { w, .. }
-        | Node::FixBox { w, .. }
-        | Node::Root { w }
-        | Node::Pair { w, .. }
-        | Node::Fst { w, .. }
-        | Node::Snd { w, .. } => w,
-        Node::Weak { x } => x,
-        Node::BoxNode { o, .. } | Node::Door { o, .. } => o,
+        Node::Const { wire, .. }
+        | Node::Succ { wire, .. }
+        | Node::Pred { wire, .. }
+        | Node::Plus { wire, .. }
+        | Node::Minus { wire, .. }
+        | Node::Times { wire, .. }
+        | Node::Ifz { wire, .. }
+        | Node::Der { wire, .. }
+        | Node::Con { wire, .. }
+        | Node::Lam { wire, .. }
+        | Node::App { wire, .. }
+        | Node::FixBox { wire, .. }
+        | Node::Root { wire }
+        | Node::Pair { wire, .. }
+        | Node::Fst { wire, .. }
+        | Node::Snd { wire, .. } => wire,
+        Node::Weak { variable } => variable,
+        Node::BoxNode { outside, .. } | Node::Door { outside, .. } => outside,
     }
 }

@@ -62,11 +62,15 @@ fn nodes_may_name_wires_that_lack(rt: HostRuntime) -> Result<(), Fail> {
     };
     let wires = Vec::from_array(rt.alloc(), [wire])?;
     let nodes = [
-        Node::Root { w: 9 },
-        Node::Const { v: 5, w: 0 },
-        Node::Plus { a: 0, b: 0, w: 9 },
-        Node::Const { v: 6, w: 0 },
-        Node::Root { w: 0 },
+        Node::Root { wire: 9 },
+        Node::Const { value: 5, wire: 0 },
+        Node::Plus {
+            left: 0,
+            right: 0,
+            wire: 9,
+        },
+        Node::Const { value: 6, wire: 0 },
+        Node::Root { wire: 0 },
     ];
     let nodes = Vec::from_array(rt.alloc(), nodes)?;
     let net = Net::from_parts(rt.alloc(), wires, nodes)?;

@@ -76,15 +76,40 @@ fn sound_nets_pass(rt: HostRuntime) -> Result<(), Fail> {
         (Value, 0, Number),
     ];
     let nodes = [
-        Node::Der { w: 0, x: 1 },
-        Node::Der { w: 2, x: 3 },
-        Node::Con { l: 1, r: 3, w: 4 },
-        Node::Plus { a: 0, b: 2, w: 5 },
-        Node::Lam { b: 5, x: 4, w: 6 },
-        Node::Const { v: 3, w: 7 },
-        Node::BoxNode { i: 7, o: 8 },
-        Node::App { f: 6, a: 8, w: 9 },
-        Node::Root { w: 9 },
+        Node::Der {
+            wire: 0,
+            variable: 1,
+        },
+        Node::Der {
+            wire: 2,
+            variable: 3,
+        },
+        Node::Con {
+            left: 1,
+            right: 3,
+            wire: 4,
+        },
+        Node::Plus {
+            left: 0,
+            right: 2,
+            wire: 5,
+        },
+        Node::Lam {
+            body: 5,
+            variable: 4,
+            wire: 6,
+        },
+        Node::Const { value: 3, wire: 7 },
+        Node::BoxNode {
+            inside: 7,
+            outside: 8,
+        },
+        Node::App {
+            function: 6,
+            argument: 8,
+            wire: 9,
+        },
+        Node::Root { wire: 9 },
     ];
     assert!(rt; verdict(rt.alloc(), &wires, &nodes)? == Ok(()));
     // `fst (1, snd (2, fix y:nat. 3))`
@@ -100,37 +125,69 @@ fn sound_nets_pass(rt: HostRuntime) -> Result<(), Fail> {
         (Value, 0, Number),
     ];
     let nodes = [
-        Node::Const { v: 1, w: 0 },
-        Node::Const { v: 2, w: 1 },
-        Node::Const { v: 3, w: 2 },
-        Node::Weak { x: 3 },
-        Node::FixBox { b: 2, x: 3, w: 4 },
-        Node::Pair { a: 1, b: 4, w: 5 },
-        Node::Snd { a: 5, w: 6 },
-        Node::Pair { a: 0, b: 6, w: 7 },
-        Node::Fst { a: 7, w: 8 },
-        Node::Root { w: 8 },
+        Node::Const { value: 1, wire: 0 },
+        Node::Const { value: 2, wire: 1 },
+        Node::Const { value: 3, wire: 2 },
+        Node::Weak { variable: 3 },
+        Node::FixBox {
+            body: 2,
+            variable: 3,
+            wire: 4,
+        },
+        Node::Pair {
+            left: 1,
+            right: 4,
+            wire: 5,
+        },
+        Node::Snd {
+            operand: 5,
+            wire: 6,
+        },
+        Node::Pair {
+            left: 0,
+            right: 6,
+            wire: 7,
+        },
+        Node::Fst {
+            operand: 7,
+            wire: 8,
+        },
+        Node::Root { wire: 8 },
     ];
     assert!(rt; verdict(rt.alloc(), &wires, &nodes)? == Ok(()));
     // `ifz succ 1 - 2 then pred 3 else 4 * 5`
     let wires = [(Value, 0, Number); 10];
     let nodes = [
-        Node::Const { v: 1, w: 0 },
-        Node::Succ { a: 0, w: 1 },
-        Node::Const { v: 2, w: 2 },
-        Node::Minus { a: 1, b: 2, w: 3 },
-        Node::Const { v: 3, w: 4 },
-        Node::Pred { a: 4, w: 5 },
-        Node::Const { v: 4, w: 6 },
-        Node::Const { v: 5, w: 7 },
-        Node::Times { a: 6, b: 7, w: 8 },
-        Node::Ifz {
-            c: 3,
-            p: 5,
-            q: 8,
-            w: 9,
+        Node::Const { value: 1, wire: 0 },
+        Node::Succ {
+            operand: 0,
+            wire: 1,
         },
-        Node::Root { w: 9 },
+        Node::Const { value: 2, wire: 2 },
+        Node::Minus {
+            left: 1,
+            right: 2,
+            wire: 3,
+        },
+        Node::Const { value: 3, wire: 4 },
+        Node::Pred {
+            operand: 4,
+            wire: 5,
+        },
+        Node::Const { value: 4, wire: 6 },
+        Node::Const { value: 5, wire: 7 },
+        Node::Times {
+            left: 6,
+            right: 7,
+            wire: 8,
+        },
+        Node::Ifz {
+            condition: 3,
+            then: 5,
+            otherwise: 8,
+            wire: 9,
+        },
+        Node::Root { wire: 9 },
     ];
     assert!(rt; verdict(rt.alloc(), &wires, &nodes)? == Ok(()));
     // `(fun x:nat. (fun y:nat. y) x) 1`
@@ -149,17 +206,48 @@ fn sound_nets_pass(rt: HostRuntime) -> Result<(), Fail> {
         (Value, 0, Number),
     ];
     let nodes = [
-        Node::Der { w: 0, x: 1 },
-        Node::Lam { b: 0, x: 1, w: 2 },
-        Node::Der { w: 3, x: 4 },
-        Node::Door { i: 4, o: 5 },
-        Node::BoxNode { i: 3, o: 6 },
-        Node::App { f: 2, a: 6, w: 7 },
-        Node::Lam { b: 7, x: 5, w: 8 },
-        Node::Const { v: 1, w: 9 },
-        Node::BoxNode { i: 9, o: 10 },
-        Node::App { f: 8, a: 10, w: 11 },
-        Node::Root { w: 11 },
+        Node::Der {
+            wire: 0,
+            variable: 1,
+        },
+        Node::Lam {
+            body: 0,
+            variable: 1,
+            wire: 2,
+        },
+        Node::Der {
+            wire: 3,
+            variable: 4,
+        },
+        Node::Door {
+            inside: 4,
+            outside: 5,
+        },
+        Node::BoxNode {
+            inside: 3,
+            outside: 6,
+        },
+        Node::App {
+            function: 2,
+            argument: 6,
+            wire: 7,
+        },
+        Node::Lam {
+            body: 7,
+            variable: 5,
+            wire: 8,
+        },
+        Node::Const { value: 1, wire: 9 },
+        Node::BoxNode {
+            inside: 9,
+            outside: 10,
+        },
+        Node::App {
+            function: 8,
+            argument: 10,
+            wire: 11,
+        },
+        Node::Root { wire: 11 },
     ];
     assert!(rt; verdict(rt.alloc(), &wires, &nodes)? == Ok(()));
     Ok(())
@@ -167,22 +255,35 @@ fn sound_nets_pass(rt: HostRuntime) -> Result<(), Fail> {
 
 #[test]
 fn the_first_fault_is_told(rt: HostRuntime) -> Result<(), Fail> {
-    let five = Node::Const { v: 5, w: 0 };
-    let root = Node::Root { w: 0 };
+    let five = Node::Const { value: 5, wire: 0 };
+    let root = Node::Root { wire: 0 };
     let number = (Value, 0, Number);
     let found = verdict(rt.alloc(), &[number], &[five])?;
     assert!(rt; found == Err(NetFault::RootCount(0)));
     let found = verdict(rt.alloc(), &[number], &[five, root, root])?;
     assert!(rt; found == Err(NetFault::RootCount(2)));
-    let found = verdict(rt.alloc(), &[number], &[five, Node::Root { w: 1 }])?;
+    let found = verdict(rt.alloc(), &[number], &[five, Node::Root { wire: 1 }])?;
     assert!(rt; found == Err(NetFault::LooseWire(0)));
     let found = verdict(
         rt.alloc(),
         &[number],
-        &[five, root, Node::Weak { x: 7 }, Node::Weak { x: 3 }],
+        &[
+            five,
+            root,
+            Node::Weak { variable: 7 },
+            Node::Weak { variable: 3 },
+        ],
     )?;
     assert!(rt; found == Err(NetFault::LooseWire(3)));
-    let twice = [five, Node::Plus { a: 0, b: 0, w: 1 }, Node::Root { w: 1 }];
+    let twice = [
+        five,
+        Node::Plus {
+            left: 0,
+            right: 0,
+            wire: 1,
+        },
+        Node::Root { wire: 1 },
+    ];
     let found = verdict(rt.alloc(), &[number, number], &twice)?;
     assert!(rt; found == Err(NetFault::LooseWire(0)));
     let found = verdict(rt.alloc(), &[(Value, 0, Function)], &[five, root])?;
@@ -199,10 +300,17 @@ fn the_first_fault_is_told(rt: HostRuntime) -> Result<(), Fail> {
     ];
     let boxed = [
         five,
-        Node::BoxNode { i: 0, o: 1 },
-        Node::Const { v: 6, w: 2 },
-        Node::App { f: 2, a: 1, w: 3 },
-        Node::Root { w: 3 },
+        Node::BoxNode {
+            inside: 0,
+            outside: 1,
+        },
+        Node::Const { value: 6, wire: 2 },
+        Node::App {
+            function: 2,
+            argument: 1,
+            wire: 3,
+        },
+        Node::Root { wire: 3 },
     ];
     let found = verdict(rt.alloc(), &deep, &boxed)?;
     assert!(rt; found == Err(NetFault::DepthClash(1)));

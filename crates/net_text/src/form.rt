@@ -88,8 +88,8 @@ impl Form {
         ensures { result ≡ one_node self a }
     {
         match self {
-            Form::Weak => Some(Node::Weak { x: a }),
-            Form::Root => Some(Node::Root { w: a }),
+            Form::Weak => Some(Node::Weak { variable: a }),
+            Form::Root => Some(Node::Root { wire: a }),
             _ => None,
         }
     }
@@ -99,13 +99,34 @@ impl Form {
         ensures { result ≡ two_node self a b }
     {
         match self {
-            Form::Succ => Some(Node::Succ { a, w: b }),
-            Form::Pred => Some(Node::Pred { a, w: b }),
-            Form::Der => Some(Node::Der { w: a, x: b }),
-            Form::BoxNode => Some(Node::BoxNode { i: a, o: b }),
-            Form::Door => Some(Node::Door { i: a, o: b }),
-            Form::Fst => Some(Node::Fst { a, w: b }),
-            Form::Snd => Some(Node::Snd { a, w: b }),
+            Form::Succ => Some(Node::Succ {
+                operand: a,
+                wire: b,
+            }),
+            Form::Pred => Some(Node::Pred {
+                operand: a,
+                wire: b,
+            }),
+            Form::Der => Some(Node::Der {
+                wire: a,
+                variable: b,
+            }),
+            Form::BoxNode => Some(Node::BoxNode {
+                inside: a,
+                outside: b,
+            }),
+            Form::Door => Some(Node::Door {
+                inside: a,
+                outside: b,
+            }),
+            Form::Fst => Some(Node::Fst {
+                operand: a,
+                wire: b,
+            }),
+            Form::Snd => Some(Node::Snd {
+                operand: a,
+                wire: b,
+            }),
             _ => None,
         }
     }
@@ -115,14 +136,46 @@ impl Form {
         ensures { result ≡ three_node self a b w }
     {
         match self {
-            Form::Plus => Some(Node::Plus { a, b, w }),
-            Form::Minus => Some(Node::Minus { a, b, w }),
-            Form::Times => Some(Node::Times { a, b, w }),
-            Form::Con => Some(Node::Con { l: a, r: b, w }),
-            Form::Lam => Some(Node::Lam { b: a, x: b, w }),
-            Form::App => Some(Node::App { f: a, a: b, w }),
-            Form::FixBox => Some(Node::FixBox { b: a, x: b, w }),
-            Form::Pair => Some(Node::Pair { a, b, w }),
+            Form::Plus => Some(Node::Plus {
+                left: a,
+                right: b,
+                wire: w,
+            }),
+            Form::Minus => Some(Node::Minus {
+                left: a,
+                right: b,
+                wire: w,
+            }),
+            Form::Times => Some(Node::Times {
+                left: a,
+                right: b,
+                wire: w,
+            }),
+            Form::Con => Some(Node::Con {
+                left: a,
+                right: b,
+                wire: w,
+            }),
+            Form::Lam => Some(Node::Lam {
+                body: a,
+                variable: b,
+                wire: w,
+            }),
+            Form::App => Some(Node::App {
+                function: a,
+                argument: b,
+                wire: w,
+            }),
+            Form::FixBox => Some(Node::FixBox {
+                body: a,
+                variable: b,
+                wire: w,
+            }),
+            Form::Pair => Some(Node::Pair {
+                left: a,
+                right: b,
+                wire: w,
+            }),
             _ => None,
         }
     }
@@ -132,7 +185,12 @@ impl Form {
         ensures { result ≡ four_node self c p q w }
     {
         match self {
-            Form::Ifz => Some(Node::Ifz { c, p, q, w }),
+            Form::Ifz => Some(Node::Ifz {
+                condition: c,
+                then: p,
+                otherwise: q,
+                wire: w,
+            }),
             _ => None,
         }
     }

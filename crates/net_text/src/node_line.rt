@@ -164,7 +164,7 @@ fn constant_on(v: u64, w: u64) -> Option<Node>
     ensures { result ≡ fitting_node (Some (Const v w)) }
 {
     match half(w) {
-        Some(w) => Some(Node::Const { v, w }),
+        Some(w) => Some(Node::Const { value: v, wire: w }),
         None => None,
     }
 }

@@ -125,7 +125,7 @@ fn push_constant(text: &mut Vec<u8>, node: Node) -> Result<(), AllocError>
     ensures { OnOk result (text.new.items ++ numbers_text (premises node ++ conclusions node) ≡ text.old.items ++ numbers_text (numbers_of node)) }
 {
     match node {
-        Node::Const { v, .. } => push_number(text, b" ", v),
+        Node::Const { value, .. } => push_number(text, b" ", value),
         _ => Ok(()),
     }
 }

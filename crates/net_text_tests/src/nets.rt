@@ -73,7 +73,7 @@ fn nat_wire(alloc: Global) -> Result<Vec<Wire>, AllocError>
 
 #[test]
 fn nodes_out_of_order_are_no_term(rt: HostRuntime) -> Result<(), Fail> {
-    let nodes = [Node::Root { w: 0 }, Node::Const { v: 5, w: 0 }];
+    let nodes = [Node::Root { wire: 0 }, Node::Const { value: 5, wire: 0 }];
     let nodes = Vec::from_array(rt.alloc(), nodes)?;
     let net = Net::from_parts(rt.alloc(), nat_wire(rt.alloc())?, nodes)?;
     assert!(rt; matches!(&term_of(rt.alloc(), &net), Err(NetTextFault::NotOfTerm)));
