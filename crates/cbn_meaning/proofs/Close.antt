@@ -1,9 +1,11 @@
 -- Closed terms put for all variables at once.
-use Rattle.std.proofs.Common.{◌≡◌, ◌⊎◌, ℕ, zero, suc, ◌-◌, ◌<◌, ◌≤◌, cond, List, ◌∷◌, length, refl, sym, ap, ◌∙◌, inl, inr, arith}
+use Rattle.std.proofs.Common.{◌≡◌, ◌⊎◌, ℕ, zero, suc, ◌-◌, ◌<◌, ◌≤◌, cond, List, ◌∷◌, length, refl, sym}
+use Rattle.std.proofs.Common.{ap, ◌∙◌, inl, inr, arith}
 use Rattle.std.specs.Prelude.{nat_eq, if◌then◌else◌}
 use Rattle.std.proofs.lemmas.Bool.{cases_lt, cases_order, lt-ltb, le-ltb, eq-eqb, ne_eqb}
 use Rattle.std.proofs.lemmas.Option.{slice_get_within}
-use Rattle.pcf_values.specs.Terms.{TyTree, nat, arrow, product, TermTree, num, var, succ_of, pred_of, binary, ifz, lam, fix, app, pair, proj}
+use Rattle.pcf_values.specs.Terms.{TyTree, nat, arrow, product, TermTree, num, var, succ_of, pred_of, binary, ifz, lam, fix, app, pair}
+use Rattle.pcf_values.specs.Terms.{proj}
 use Rattle.pcf_values.specs.Typing.{HasType}
 use Rattle.cbn_meaning.specs.Substitution.{replaced, subst_at, Closed, Env, cons, AllClosed, close_var, close}
 
@@ -21,12 +23,16 @@ pub replaced_below : (i k : ℕ) (n : TermTree) → i < k → replaced i k n ≡
 replaced_below i k n h = ap (λ b. cond b (var i) (if nat_eq i k then n else var (i - 1))) (lt-ltb i k h)
 
 pub replaced_here : (i k : ℕ) (n : TermTree) → i ≡ k → replaced i k n ≡ n
-replaced_here i k n h = ap (λ b. cond b (var i) (if nat_eq i k then n else var (i - 1))) (le-ltb i k (omega arith)) ∙ ap (λ b. cond b n (var (i - 1))) (eq-eqb i k h)
+replaced_here i k n h = ap (λ b. cond b (var i) (if nat_eq i k then n else var (i - 1))) (le-ltb i k (omega arith)) ∙
+    ap (λ b. cond b n (var (i - 1))) (eq-eqb i k h)
 
 pub replaced_above : (i k : ℕ) (n : TermTree) → k ≤ i → replaced (suc i) k n ≡ var i
-replaced_above i k n h = let z : suc i - 1 ≡ i = omega arith in ap (λ b. cond b (var (suc i)) (if nat_eq (suc i) k then n else var (suc i - 1))) (le-ltb (suc i) k (omega arith)) ∙ ap (λ b. cond b n (var (suc i - 1))) (ne_eqb (suc i) k (λ e. omega arith)) ∙ ap var z
+replaced_above i k n h = let z : suc i - 1 ≡ i = omega arith in
+    ap (λ b. cond b (var (suc i)) (if nat_eq (suc i) k then n else var (suc i - 1))) (le-ltb (suc i) k (omega arith)) ∙
+    ap (λ b. cond b n (var (suc i - 1))) (ne_eqb (suc i) k (λ e. omega arith)) ∙ ap var z
 
-subst_var : (k : ℕ) (e : Env) (n : TermTree) (i : ℕ) → AllClosed e → subst_at (close_var (suc k) e i) k n ≡ close_var k (cons n e) i
+subst_var : (k : ℕ) (e : Env) (n : TermTree) (i : ℕ) → AllClosed e →
+    subst_at (close_var (suc k) e i) k n ≡ close_var k (cons n e) i
 subst_var k e n i h = go (cases_order i k)
   where
     go : (i ≡ k) ⊎ ((i < k) ⊎ (k < i)) → subst_at (close_var (suc k) e i) k n ≡ close_var k (cons n e) i
@@ -42,7 +48,8 @@ subst_var k e n i h = go (cases_order i k)
         ∙ sym (var_above k (cons n e) i (omega arith) ∙ ap (cons n e) z)
 
 -- one more substitution is one more term in the environment
-pub close_subst : (m : TermTree) (k : ℕ) (e : Env) (n : TermTree) → AllClosed e → subst_at (close (suc k) e m) k n ≡ close k (cons n e) m
+pub close_subst : (m : TermTree) (k : ℕ) (e : Env) (n : TermTree) → AllClosed e →
+    subst_at (close (suc k) e m) k n ≡ close k (cons n e) m
 close_subst (num v) k e n h = refl
 close_subst (var i) k e n h = subst_var k e n i h
 close_subst (succ_of a) k e n h = ap succ_of (close_subst a k e n h)
@@ -55,7 +62,8 @@ close_subst (app f x) k e n h = let p = close_subst f k e n h in let q = close_s
 close_subst (pair a b) k e n h = let p = close_subst a k e n h in let q = close_subst b k e n h in cc
 close_subst (proj s a) k e n h = ap (proj s) (close_subst a k e n h)
 
-still_var : (k j : ℕ) (e : Env) (n : TermTree) (i : ℕ) → k ≤ j → AllClosed e → subst_at (close_var k e i) j n ≡ close_var k e i
+still_var : (k j : ℕ) (e : Env) (n : TermTree) (i : ℕ) → k ≤ j → AllClosed e →
+    subst_at (close_var k e i) j n ≡ close_var k e i
 still_var k j e n i l h = go (cases_lt i k)
   where
     go : (i < k) ⊎ (k ≤ i) → subst_at (close_var k e i) j n ≡ close_var k e i
@@ -88,7 +96,8 @@ close_same (var i) g t e h = var_below (length g) e i (slice_get_within g i t h)
 close_same (succ_of a) g t e h = ap succ_of (close_same a g nat e h.0)
 close_same (pred_of a) g t e h = ap pred_of (close_same a g nat e h.0)
 close_same (binary o a b) g t e h = let p = close_same a g nat e h.0 in let q = close_same b g nat e h.1 in cc
-close_same (ifz c a b) g t e h = let r = close_same c g nat e h.0 in let p = close_same a g nat e h.1 in let q = close_same b g nat e h.2 in cc
+close_same (ifz c a b) g t e h = let r = close_same c g nat e h.0 in let p = close_same a g nat e h.1 in let q = close_same b g nat e h.2 in
+    cc
 close_same (lam a m) g t e h = ap (lam a) (close_same m (a ∷ g) h.0 e h.1)
 close_same (fix a m) g t e h = ap (fix a) (close_same m (a ∷ g) a e h.0)
 close_same (app f x) g t e h = let p = close_same f g (arrow h.0 t) e h.1 in let q = close_same x g h.0 e h.2 in cc

@@ -1,5 +1,6 @@
 -- More depth keeps a result.
-use Rattle.std.proofs.Common.{◌≡◌, ◌⊎◌, ℕ, zero, suc, ◌≤◌, ◌<◌, Option, Some, None, refl, ap, ◌∙◌, subst, inl, inr, arith}
+use Rattle.std.proofs.Common.{◌≡◌, ◌⊎◌, ℕ, zero, suc, ◌≤◌, ◌<◌, Option, Some, None, refl, ap, ◌∙◌, subst, inl}
+use Rattle.std.proofs.Common.{inr, arith}
 use Rattle.std.proofs.lemmas.Bool.{cases_lt}
 use Rattle.pcf_values.specs.declared.val.Val.{Val}
 use Rattle.pcf_values.specs.Values.{val_succ, val_pred, val_op, at_zero}
@@ -8,19 +9,22 @@ use Rattle.cbn_meaning.specs.Substitution.{subst_at}
 use Rattle.cbn_meaning.specs.Meaning.{Res, value, closure, paired, eval, on_value, on_closure, on_pair}
 
 -- the part that gave a value
-pub from_value : (o : Option Res) (f : Val → Option Res) (r : Res) → on_value o f ≡ Some r → (v : Val) × (o ≡ Some (value v)) × (f v ≡ Some r)
+pub from_value : (o : Option Res) (f : Val → Option Res) (r : Res) → on_value o f ≡ Some r → (v : Val) × (o ≡ Some (value v)) ×
+    (f v ≡ Some r)
 from_value None f r h = cc
 from_value (Some (value v)) f r h = (v, refl, h)
 from_value (Some (closure a m)) f r h = cc
 from_value (Some (paired m n)) f r h = cc
 
-pub from_closure : (o : Option Res) (f : TermTree → Option Res) (r : Res) → on_closure o f ≡ Some r → (a : TyTree) × (m : TermTree) × (o ≡ Some (closure a m)) × (f m ≡ Some r)
+pub from_closure : (o : Option Res) (f : TermTree → Option Res) (r : Res) → on_closure o f ≡ Some r → (a : TyTree) ×
+    (m : TermTree) × (o ≡ Some (closure a m)) × (f m ≡ Some r)
 from_closure None f r h = cc
 from_closure (Some (value v)) f r h = cc
 from_closure (Some (closure a m)) f r h = (a, m, refl, h)
 from_closure (Some (paired m n)) f r h = cc
 
-pub from_pair : (o : Option Res) (f : TermTree → TermTree → Option Res) (r : Res) → on_pair o f ≡ Some r → (m n : TermTree) × (o ≡ Some (paired m n)) × (f m n ≡ Some r)
+pub from_pair : (o : Option Res) (f : TermTree → TermTree → Option Res) (r : Res) → on_pair o f ≡ Some r → (m n : TermTree) ×
+    (o ≡ Some (paired m n)) × (f m n ≡ Some r)
 from_pair None f r h = cc
 from_pair (Some (value v)) f r h = cc
 from_pair (Some (closure a m)) f r h = cc

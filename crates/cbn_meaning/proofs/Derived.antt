@@ -24,28 +24,35 @@ ev_pos (ev_proj h g) = omega arith
 pub num_inv : {s n : ℕ} {x : Res} → Ev s (num n) x → x ≡ value (Number n)
 num_inv ev_num = refl
 
-pub succ_inv : {s : ℕ} {a : TermTree} {x : Res} → Ev s (succ_of a) x → (r : ℕ) × (v : Val) × Ev r a (value v) × (s ≡ suc r) × (x ≡ value (val_succ v))
+pub succ_inv : {s : ℕ} {a : TermTree} {x : Res} → Ev s (succ_of a) x → (r : ℕ) × (v : Val) × Ev r a (value v) × (s ≡ suc r) ×
+    (x ≡ value (val_succ v))
 succ_inv (ev_succ {s = r} {v = v} h) = (r, v, h, refl, refl)
 
-pub pred_inv : {s : ℕ} {a : TermTree} {x : Res} → Ev s (pred_of a) x → (r : ℕ) × (v : Val) × Ev r a (value v) × (s ≡ suc r) × (x ≡ value (val_pred v))
+pub pred_inv : {s : ℕ} {a : TermTree} {x : Res} → Ev s (pred_of a) x → (r : ℕ) × (v : Val) × Ev r a (value v) × (s ≡ suc r) ×
+    (x ≡ value (val_pred v))
 pred_inv (ev_pred {s = r} {v = v} h) = (r, v, h, refl, refl)
 
-pub binary_inv : {s : ℕ} {o : Op} {a b : TermTree} {x : Res} → Ev s (binary o a b) x → (r k : ℕ) × (v w : Val) × Ev r a (value v) × Ev k b (value w) × (s ≡ suc (r + k)) × (x ≡ value (val_op o v w))
+pub binary_inv : {s : ℕ} {o : Op} {a b : TermTree} {x : Res} → Ev s (binary o a b) x → (r k : ℕ) × (v w : Val) ×
+    Ev r a (value v) × Ev k b (value w) × (s ≡ suc (r + k)) × (x ≡ value (val_op o v w))
 binary_inv (ev_binary {s = r} {r = k} {v = v} {w = w} h g) = (r, k, v, w, h, g, refl, refl)
 
-pub ifz_inv : {s : ℕ} {c p q : TermTree} {x : Res} → Ev s (ifz c p q) x → (r k : ℕ) × (v : Val) × Ev r c (value v) × Ev k (at_zero v p q) x × (s ≡ suc (r + k))
+pub ifz_inv : {s : ℕ} {c p q : TermTree} {x : Res} → Ev s (ifz c p q) x → (r k : ℕ) × (v : Val) × Ev r c (value v) ×
+    Ev k (at_zero v p q) x × (s ≡ suc (r + k))
 ifz_inv (ev_ifz {s = r} {r = k} {v = v} h g) = (r, k, v, h, g, refl)
 
-pub fix_inv : {s : ℕ} {a : TyTree} {m : TermTree} {x : Res} → Ev s (fix a m) x → (r : ℕ) × Ev r (subst_at m zero (fix a m)) x × (s ≡ suc r)
+pub fix_inv : {s : ℕ} {a : TyTree} {m : TermTree} {x : Res} → Ev s (fix a m) x → (r : ℕ) × Ev r (subst_at m zero (fix a m)) x ×
+    (s ≡ suc r)
 fix_inv (ev_fix {s = r} h) = (r, h, refl)
 
-pub app_inv : {s : ℕ} {f y : TermTree} {x : Res} → Ev s (app f y) x → (r k : ℕ) × (a : TyTree) × (m : TermTree) × Ev r f (closure a m) × Ev k (subst_at m zero y) x × (s ≡ suc (r + k))
+pub app_inv : {s : ℕ} {f y : TermTree} {x : Res} → Ev s (app f y) x → (r k : ℕ) × (a : TyTree) × (m : TermTree) ×
+    Ev r f (closure a m) × Ev k (subst_at m zero y) x × (s ≡ suc (r + k))
 app_inv (ev_app {s = r} {r = k} {a = a} {m = m} h g) = (r, k, a, m, h, g, refl)
 
 pub lam_inv : {s : ℕ} {a b : TyTree} {m n : TermTree} → Ev s (lam a m) (closure b n) → m ≡ n
 lam_inv ev_lam = refl
 
-pub proj_inv : {s : ℕ} {d : Side} {a : TermTree} {x : Res} → Ev s (proj d a) x → (r k : ℕ) × (m n : TermTree) × Ev r a (paired m n) × Ev k (at_side d m n) x × (s ≡ suc (r + k))
+pub proj_inv : {s : ℕ} {d : Side} {a : TermTree} {x : Res} → Ev s (proj d a) x → (r k : ℕ) × (m n : TermTree) ×
+    Ev r a (paired m n) × Ev k (at_side d m n) x × (s ≡ suc (r + k))
 proj_inv (ev_proj {s = r} {r = k} {m = m} {n = n} h g) = (r, k, m, n, h, g, refl)
 
 pub pair_inv : {s : ℕ} {a b m n : TermTree} → Ev s (pair a b) (paired m n) → (a ≡ m) × (b ≡ n)

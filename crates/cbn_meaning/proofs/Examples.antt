@@ -39,7 +39,8 @@ no_negatives : Means (binary plus_op (binary minus_op (num 2) (num 5)) (pred_of 
 no_negatives = (3, refl)
 
 -- (fix f:nat->nat. fun n:nat. ifz n then 0 else n + f (pred n)) 3
-sums : Means (app (fix (arrow nat nat) (lam nat (ifz (var 0) (num 0) (binary plus_op (var 0) (app (var 1) (pred_of (var 0))))))) (num 3)) (Number 6)
+sums : Means (app (fix (arrow nat nat) (lam nat (ifz (var 0) (num 0) (binary plus_op (var 0) (app (var 1) (pred_of (var 0))))))) (num 3))
+    (Number 6)
 sums = (24, refl)
 
 -- (fun x:nat. fun y:nat. x - y) 5 3: the nearest binder has index 0

@@ -7,7 +7,8 @@ use Rattle.cbn_meaning.specs.Substitution.{subst_at}
 use Rattle.cbn_meaning.specs.Meaning.{value, closure, paired, Means, Head}
 use Rattle.cbn_meaning.specs.Derivations.{Ev, ev_succ, ev_pred, ev_binary, ev_ifz, ev_lam, ev_fix, ev_app, ev_pair, ev_proj, HasEv, Steps}
 use Rattle.cbn_meaning.proofs.Depth.{eval_le}
-use Rattle.cbn_meaning.proofs.Derived.{succ_inv, pred_inv, binary_inv, ifz_inv, fix_inv, app_inv, lam_inv, proj_inv, pair_inv, ev_eval, eval_ev}
+use Rattle.cbn_meaning.proofs.Derived.{succ_inv, pred_inv, binary_inv, ifz_inv, fix_inv, app_inv, lam_inv, proj_inv, pair_inv, ev_eval}
+use Rattle.cbn_meaning.proofs.Derived.{eval_ev}
 
 -- a function's body is what its application comes to
 pub beta : (a : TyTree) (m x : TermTree) → Steps (app (lam a m) x) (subst_at m zero x)
@@ -39,31 +40,39 @@ take_part d m n = record {
 pub app_steps : (m m' n : TermTree) → Steps m m' → Steps (app m n) (app m' n)
 app_steps m m' n h = record {
   forth = λ s r e. let (i, k, a, b, f, g, _) = app_inv e in let (z, f') = h.forth i (closure a b) f in (suc (z + k), ev_app f' g);
-  back = λ s r e. let (i, k, a, b, f, g, q) = app_inv e in let (z, l, f') = h.back i (closure a b) f in (suc (z + k), omega arith, ev_app f' g);
+  back = λ s r e. let (i, k, a, b, f, g, q) = app_inv e in let (z, l, f') = h.back i (closure a b) f in
+      (suc (z + k), omega arith, ev_app f' g);
 }
 
 pub proj_steps : (d : Side) (m m' : TermTree) → Steps m m' → Steps (proj d m) (proj d m')
 proj_steps d m m' h = record {
   forth = λ s r e. let (i, k, a, b, f, g, _) = proj_inv e in let (z, f') = h.forth i (paired a b) f in (suc (z + k), ev_proj f' g);
-  back = λ s r e. let (i, k, a, b, f, g, q) = proj_inv e in let (z, l, f') = h.back i (paired a b) f in (suc (z + k), omega arith, ev_proj f' g);
+  back = λ s r e. let (i, k, a, b, f, g, q) = proj_inv e in let (z, l, f') = h.back i (paired a b) f in
+      (suc (z + k), omega arith, ev_proj f' g);
 }
 
 succ_steps : (m m' : TermTree) → Steps m m' → Steps (succ_of m) (succ_of m')
 succ_steps m m' h = record {
-  forth = λ s r e. let (i, v, f, _, x) = succ_inv e in let (z, f') = h.forth i (value v) f in subst (HasEv (succ_of m)) (sym x) (suc z, ev_succ f');
-  back = λ s r e. let (i, v, f, q, x) = succ_inv e in let (z, l, f') = h.back i (value v) f in (suc z, omega arith, subst (Ev (suc z) (succ_of m')) (sym x) (ev_succ f'));
+  forth = λ s r e. let (i, v, f, _, x) = succ_inv e in let (z, f') = h.forth i (value v) f in
+      subst (HasEv (succ_of m)) (sym x) (suc z, ev_succ f');
+  back = λ s r e. let (i, v, f, q, x) = succ_inv e in let (z, l, f') = h.back i (value v) f in
+      (suc z, omega arith, subst (Ev (suc z) (succ_of m')) (sym x) (ev_succ f'));
 }
 
 pred_steps : (m m' : TermTree) → Steps m m' → Steps (pred_of m) (pred_of m')
 pred_steps m m' h = record {
-  forth = λ s r e. let (i, v, f, _, x) = pred_inv e in let (z, f') = h.forth i (value v) f in subst (HasEv (pred_of m)) (sym x) (suc z, ev_pred f');
-  back = λ s r e. let (i, v, f, q, x) = pred_inv e in let (z, l, f') = h.back i (value v) f in (suc z, omega arith, subst (Ev (suc z) (pred_of m')) (sym x) (ev_pred f'));
+  forth = λ s r e. let (i, v, f, _, x) = pred_inv e in let (z, f') = h.forth i (value v) f in
+      subst (HasEv (pred_of m)) (sym x) (suc z, ev_pred f');
+  back = λ s r e. let (i, v, f, q, x) = pred_inv e in let (z, l, f') = h.back i (value v) f in
+      (suc z, omega arith, subst (Ev (suc z) (pred_of m')) (sym x) (ev_pred f'));
 }
 
 binary_steps : (o : Op) (m m' n : TermTree) → Steps m m' → Steps (binary o m n) (binary o m' n)
 binary_steps o m m' n h = record {
-  forth = λ s r e. let (i, k, v, w, f, g, _, x) = binary_inv e in let (z, f') = h.forth i (value v) f in subst (HasEv (binary o m n)) (sym x) (suc (z + k), ev_binary f' g);
-  back = λ s r e. let (i, k, v, w, f, g, q, x) = binary_inv e in let (z, l, f') = h.back i (value v) f in (suc (z + k), omega arith, subst (Ev (suc (z + k)) (binary o m' n)) (sym x) (ev_binary f' g));
+  forth = λ s r e. let (i, k, v, w, f, g, _, x) = binary_inv e in let (z, f') = h.forth i (value v) f in
+      subst (HasEv (binary o m n)) (sym x) (suc (z + k), ev_binary f' g);
+  back = λ s r e. let (i, k, v, w, f, g, q, x) = binary_inv e in let (z, l, f') = h.back i (value v) f in
+      (suc (z + k), omega arith, subst (Ev (suc (z + k)) (binary o m' n)) (sym x) (ev_binary f' g));
 }
 
 ifz_steps : (m m' p q : TermTree) → Steps m m' → Steps (ifz m p q) (ifz m' p q)

@@ -67,5 +67,6 @@ ev_same _ z _ _ q ev_pair h = pair_same h
 ev_same _ z _ _ q (ev_proj {s = s} {r = r} {d = d} {a = a} {m = m} {n = n} {x = x} f f') h =
     let (k, l, m', n', g, g', e) = proj_inv h in
     let (i, j) = ev_same s k a (paired m n) (paired m' n') f g in
-    let (i', j') = ev_same r l (at_side d m n) x q f' (subst (λ n. Ev l (at_side d m n) q) (sym (same_second j)) (subst (λ m. Ev l (at_side d m n') q) (sym (same_first j)) g')) in
+    let (i', j') = ev_same r l (at_side d m n) x q f'
+    (subst (λ n. Ev l (at_side d m n) q) (sym (same_second j)) (subst (λ m. Ev l (at_side d m n') q) (sym (same_first j)) g')) in
     (both_sizes i i' e, j')

@@ -15,12 +15,16 @@ pub data Ev : ℕ → TermTree → Res → Type 0 where
   ev_lam : {a : TyTree} {m : TermTree} → Ev 1 (lam a m) (closure a m)
   ev_succ : {s : ℕ} {a : TermTree} {v : Val} → Ev s a (value v) → Ev (suc s) (succ_of a) (value (val_succ v))
   ev_pred : {s : ℕ} {a : TermTree} {v : Val} → Ev s a (value v) → Ev (suc s) (pred_of a) (value (val_pred v))
-  ev_binary : {s r : ℕ} {o : Op} {a b : TermTree} {v w : Val} → Ev s a (value v) → Ev r b (value w) → Ev (suc (s + r)) (binary o a b) (value (val_op o v w))
-  ev_ifz : {s r : ℕ} {c p q : TermTree} {v : Val} {x : Res} → Ev s c (value v) → Ev r (at_zero v p q) x → Ev (suc (s + r)) (ifz c p q) x
+  ev_binary : {s r : ℕ} {o : Op} {a b : TermTree} {v w : Val} → Ev s a (value v) → Ev r b (value w) →
+      Ev (suc (s + r)) (binary o a b) (value (val_op o v w))
+  ev_ifz : {s r : ℕ} {c p q : TermTree} {v : Val} {x : Res} → Ev s c (value v) → Ev r (at_zero v p q) x →
+      Ev (suc (s + r)) (ifz c p q) x
   ev_fix : {s : ℕ} {a : TyTree} {m : TermTree} {x : Res} → Ev s (subst_at m 0 (fix a m)) x → Ev (suc s) (fix a m) x
-  ev_app : {s r : ℕ} {f y : TermTree} {a : TyTree} {m : TermTree} {x : Res} → Ev s f (closure a m) → Ev r (subst_at m 0 y) x → Ev (suc (s + r)) (app f y) x
+  ev_app : {s r : ℕ} {f y : TermTree} {a : TyTree} {m : TermTree} {x : Res} → Ev s f (closure a m) → Ev r (subst_at m 0 y) x →
+      Ev (suc (s + r)) (app f y) x
   ev_pair : {m n : TermTree} → Ev 1 (pair m n) (paired m n)
-  ev_proj : {s r : ℕ} {d : Side} {a m n : TermTree} {x : Res} → Ev s a (paired m n) → Ev r (at_side d m n) x → Ev (suc (s + r)) (proj d a) x
+  ev_proj : {s r : ℕ} {d : Side} {a m n : TermTree} {x : Res} → Ev s a (paired m n) → Ev r (at_side d m n) x →
+      Ev (suc (s + r)) (proj d a) x
 
 -- some derivation has this result
 abbrev pub HasEv : TermTree → Res → Type 0

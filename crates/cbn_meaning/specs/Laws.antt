@@ -53,4 +53,5 @@ HeadStepKeepsType = (m n : TermTree) (t : TyTree) → HasType [] m t → Head m 
 
 -- a closed term put for the nearest binder's variable keeps the type
 abbrev pub SubstKeepsType : Type 0
-SubstKeepsType = (g : List TyTree) (m n : TermTree) (a t : TyTree) → HasType (a ∷ g) m t → HasType [] n a → HasType g (subst_at m 0 n) t
+SubstKeepsType = (g : List TyTree) (m n : TermTree) (a t : TyTree) → HasType (a ∷ g) m t → HasType [] n a →
+    HasType g (subst_at m 0 n) t

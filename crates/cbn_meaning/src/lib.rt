@@ -5,7 +5,8 @@
 //! contract. The statements stand in `specs/Laws.antt`. That a machine computes this meaning is left to the crate that joins both.
 #![tactic(auto)]
 
-ghost use Rattle.cbn_meaning.specs.Laws.{MoreDepth, OneValue, HeadStep, DerivedEvaluates, EvaluatesDerived, OneDerivation, HeadStepDerived, ResultKeepsType, HeadStepKeepsType, SubstKeepsType};
+ghost use Rattle.cbn_meaning.specs.Laws.{MoreDepth, OneValue, HeadStep, DerivedEvaluates, EvaluatesDerived, OneDerivation, HeadStepDerived};
+ghost use Rattle.cbn_meaning.specs.Laws.{ResultKeepsType, HeadStepKeepsType, SubstKeepsType};
 
 /// More depth keeps a result.
 pub fn law_more_depth()

@@ -1,8 +1,10 @@
 -- A program has no fault exactly where its term is accepted.
-use Rattle.std.proofs.Common.{◌≡◌, ◌⊎◌, ℕ, ◌<◌, ◌≤◌, Bool, true, false, List, [], ◌∷◌, Ok, refl, sym, subst, inl, inr, arith}
+use Rattle.std.proofs.Common.{◌≡◌, ◌⊎◌, ℕ, ◌<◌, ◌≤◌, Bool, true, false, List, [], ◌∷◌, Ok, refl, sym, subst}
+use Rattle.std.proofs.Common.{inl, inr, arith}
 use Rattle.std.proofs.lemmas.Bool.{cases_lt}
 use Rattle.pcf_values.specs.Terms.{TyTree, nat, arrow, product, TermTree, lam, fix}
-use Rattle.pcf_values.specs.Named.{the_succ, the_pred, the_fst, the_snd, the_fun, the_fix, NamedTree, number_at, name_at, word_at, binary_at, pair_at, ifz_at, bind_at, apply_at, named_height}
+use Rattle.pcf_values.specs.Named.{the_succ, the_pred, the_fst, the_snd, the_fun, the_fix, NamedTree, number_at, name_at, word_at}
+use Rattle.pcf_values.specs.Named.{binary_at, pair_at, ifz_at, bind_at, apply_at, named_height}
 use Rattle.pcf_types.specs.Checking.{type_of}
 use Rattle.pcf_types.specs.Resolution.{Resolves}
 use Rattle.pcf_types.proofs.Sound.{good}
@@ -25,7 +27,8 @@ true_is true h = refl
 true_is false h = absurd (h refl)
 
 -- a `fix` of a function's type whose body stands for a `fun`
-fix_taken : (t : TyTree) (tree : NamedTree) (s : List (List ℕ)) (m : TermTree) → Resolves s tree m → HasTranslation m → is_of_fun t tree ≡ true → has_product t ≡ false → HasTranslation (fix t m)
+fix_taken : (t : TyTree) (tree : NamedTree) (s : List (List ℕ)) (m : TermTree) → Resolves s tree m → HasTranslation m →
+    is_of_fun t tree ≡ true → has_product t ≡ false → HasTranslation (fix t m)
 fix_taken nat tree s m r h e p = cc
 fix_taken (product a b) tree s m r h e p = cc
 fix_taken (arrow a b) (number_at at n) s m r h e p = cc
@@ -51,9 +54,16 @@ clean_taken (binary_at at o a b) s m (c, d, r, q, e) h =
     subst HasTranslation (sym e) (clean_taken a s c r (λ f w. h f (inl w)), clean_taken b s d q (λ f w. h f (inr w)))
 clean_taken (pair_at at a b) s m r h = absurd (h (ByValuePair at) (inl refl))
 clean_taken (ifz_at at c p q) s m (d, x, y, i, j, k, e) h =
-    subst HasTranslation (sym e) (clean_taken c s d i (λ f w. h f (inl w)), clean_taken p s x j (λ f w. h f (inr (inl w))), clean_taken q s y k (λ f w. h f (inr (inr w))))
+    subst HasTranslation (sym e) (
+      clean_taken c s d i (λ f w. h f (inl w)),
+      clean_taken p s x j (λ f w. h f (inr (inl w))),
+      clean_taken q s y k (λ f w. h f (inr (inr w))),
+    )
 clean_taken (bind_at at the_fun x t b) s m (n, r, e) h =
-    subst HasTranslation (sym e) (false_is (has_product t) (λ q. h (ByValuePair at) (inl (q, refl))), clean_taken b (x ∷ s) n r (λ f w. h f (inr w)))
+    subst HasTranslation (sym e) (
+      false_is (has_product t) (λ q. h (ByValuePair at) (inl (q, refl))),
+      clean_taken b (x ∷ s) n r (λ f w. h f (inr w)),
+    )
 clean_taken (bind_at at the_fix x t b) s m (n, r, e) h =
     let p = false_is (has_product t) (λ q. h (ByValuePair at) (inr (inl (q, refl)))) in
     let q = true_is (is_of_fun t b) (λ q. h (ByValueFix at) (inl (q, refl))) in
@@ -70,11 +80,13 @@ fix_body : (t : TyTree) (m : TermTree) → HasTranslation (fix t m) → HasTrans
 fix_body (arrow a b) (lam c m) h = (h.1, h.2)
 fix_body t m h = elim h [ ]
 
-fix_of_fun : (t : TyTree) (m : TermTree) → HasTranslation (fix t m) → (a b c : TyTree) × (n : TermTree) × (t ≡ arrow a b) × (m ≡ lam c n)
+fix_of_fun : (t : TyTree) (m : TermTree) → HasTranslation (fix t m) → (a b c : TyTree) × (n : TermTree) × (t ≡ arrow a b) ×
+    (m ≡ lam c n)
 fix_of_fun (arrow a b) (lam c m) h = (a, b, c, m, refl, refl)
 fix_of_fun t m h = elim h [ ]
 
-lam_of_fun : (tree : NamedTree) (s : List (List ℕ)) (a b c : TyTree) (m : TermTree) → Resolves s tree (lam c m) → is_of_fun (arrow a b) tree ≡ true
+lam_of_fun : (tree : NamedTree) (s : List (List ℕ)) (a b c : TyTree) (m : TermTree) → Resolves s tree (lam c m) →
+    is_of_fun (arrow a b) tree ≡ true
 lam_of_fun (number_at at n) s a b c m e = cc
 lam_of_fun (name_at at x) s a b c m (i, d, e) = cc
 lam_of_fun (word_at at the_succ t) s a b c m (n, r, e) = cc
@@ -88,7 +100,8 @@ lam_of_fun (bind_at at the_fun x t u) s a b c m r = refl
 lam_of_fun (bind_at at the_fix x t u) s a b c m (n, r, e) = cc
 lam_of_fun (apply_at at t u) s a b c m (x, y, r, q, e) = cc
 
-fix_is_of_fun : (t : TyTree) (tree : NamedTree) (s : List (List ℕ)) (m : TermTree) → Resolves s tree m → HasTranslation (fix t m) → is_of_fun t tree ≡ true
+fix_is_of_fun : (t : TyTree) (tree : NamedTree) (s : List (List ℕ)) (m : TermTree) → Resolves s tree m → HasTranslation (fix t m) →
+    is_of_fun t tree ≡ true
 fix_is_of_fun t tree s m r h =
     let (a, b, c, n, e, q) = fix_of_fun t m h in
     subst (λ t. is_of_fun t tree ≡ true) (sym e) (lam_of_fun tree s a b c n (subst (Resolves s tree) q r))
@@ -107,17 +120,21 @@ taken_clean (word_at at the_succ a) s m (b, r, e) h = taken_clean a s b r (subst
 taken_clean (word_at at the_pred a) s m (b, r, e) h = taken_clean a s b r (subst HasTranslation e h)
 taken_clean (word_at at the_fst a) s m (b, r, e) h = absurd (subst HasTranslation e h)
 taken_clean (word_at at the_snd a) s m (b, r, e) h = absurd (subst HasTranslation e h)
-taken_clean (binary_at at o a b) s m (c, d, r, q, e) h = let g = subst HasTranslation e h in λ f. either (taken_clean a s c r g.0 f) (taken_clean b s d q g.1 f)
+taken_clean (binary_at at o a b) s m (c, d, r, q, e) h = let g = subst HasTranslation e h in
+    λ f. either (taken_clean a s c r g.0 f) (taken_clean b s d q g.1 f)
 taken_clean (pair_at at a b) s m (c, d, r, q, e) h = absurd (subst HasTranslation e h)
 taken_clean (ifz_at at c p q) s m (d, x, y, i, j, k, e) h =
-    let g = subst HasTranslation e h in λ f. either (taken_clean c s d i g.0 f) (either (taken_clean p s x j g.1 f) (taken_clean q s y k g.2 f))
+    let g = subst HasTranslation e h in λ f. either (taken_clean c s d i g.0 f)
+    (either (taken_clean p s x j g.1 f) (taken_clean q s y k g.2 f))
 taken_clean (bind_at at the_fun x t b) s m (n, r, e) h =
-    let g = subst HasTranslation e h in λ f. either (λ (w : BinderFault at t f). differ (has_product t) w.0 g.0) (taken_clean b (x ∷ s) n r g.1 f)
+    let g = subst HasTranslation e h in λ f. either (λ (w : BinderFault at t f). differ (has_product t) w.0 g.0)
+    (taken_clean b (x ∷ s) n r g.1 f)
 taken_clean (bind_at at the_fix x t b) s m (n, r, e) h =
     let g : HasTranslation (fix t n) = subst HasTranslation e h in
     λ f. either (λ (w : FixFault at t b f). differ (is_of_fun t b) (fix_is_of_fun t b (x ∷ s) n r g) w.0)
     (either (λ (w : BinderFault at t f). differ (has_product t) w.0 (fix_product t n g)) (taken_clean b (x ∷ s) n r (fix_body t n g) f))
-taken_clean (apply_at at g a) s m (c, d, r, q, e) h = let i = subst HasTranslation e h in λ f. either (taken_clean g s c r i.0 f) (taken_clean a s d q i.1 f)
+taken_clean (apply_at at g a) s m (c, d, r, q, e) h = let i = subst HasTranslation e h in
+    λ f. either (taken_clean g s c r i.0 f) (taken_clean a s d q i.1 f)
 
 -- each fault of a node has a place
 abbrev HasPlace : ByValueFault → Type 0
@@ -155,7 +172,8 @@ clean_of tree h (ByValueFix at) w = h (ByValueFix at) w
 clean_of tree h (ByValuePair at) w = h (ByValuePair at) w
 clean_of tree h ByValueDeep w = no_depth (placed tree ByValueDeep w)
 
-low_of : (tree : NamedTree) → IsFaultless tree → (BY_VALUE_HEIGHT < named_height tree) ⊎ (named_height tree ≤ BY_VALUE_HEIGHT) → named_height tree ≤ BY_VALUE_HEIGHT
+low_of : (tree : NamedTree) → IsFaultless tree → (BY_VALUE_HEIGHT < named_height tree) ⊎ (named_height tree ≤ BY_VALUE_HEIGHT) →
+    named_height tree ≤ BY_VALUE_HEIGHT
 low_of tree h (inl l) = absurd (h ByValueDeep l)
 low_of tree h (inr l) = l
 
@@ -165,14 +183,16 @@ faultless_of tree l h (ByValueFix at) w = h (ByValueFix at) w
 faultless_of tree l h (ByValuePair at) w = h (ByValuePair at) w
 faultless_of tree l h ByValueDeep w = omega arith
 
-pub faultless_accepted : (tree : NamedTree) (m : TermTree) (t : TyTree) → type_of [] tree ≡ Ok (m, t) → IsFaultless tree → Accepted m
+pub faultless_accepted : (tree : NamedTree) (m : TermTree) (t : TyTree) → type_of [] tree ≡ Ok (m, t) → IsFaultless tree →
+    Accepted m
 faultless_accepted tree m t e h =
     let (r, _) = good tree [] (m, t) e in
     let (s, q) = typed_size [] tree m t e in
     let l = low_of tree h (cases_lt BY_VALUE_HEIGHT (named_height tree)) in
     (omega arith, clean_taken tree [] m r (clean_of tree h))
 
-pub accepted_faultless : (tree : NamedTree) (m : TermTree) (t : TyTree) → type_of [] tree ≡ Ok (m, t) → Accepted m → IsFaultless tree
+pub accepted_faultless : (tree : NamedTree) (m : TermTree) (t : TyTree) → type_of [] tree ≡ Ok (m, t) → Accepted m →
+    IsFaultless tree
 accepted_faultless tree m t e (l, h) =
     let (r, _) = good tree [] (m, t) e in
     let (s, q) = typed_size [] tree m t e in

@@ -11,7 +11,8 @@ use Rattle.cbn_meaning.proofs.Derived.{ifz_inv, ev_eval}
 use Rattle.cbn_meaning.proofs.Head.{one_value}
 use Rattle.cbn_meaning.proofs.Close.{close_closed, cons_closed}
 use Rattle.cbv_terms.specs.ByValue.{quote}
-use Rattle.cbv_terms.proofs.Derived.{EvByValue, by_succ, by_pred, by_binary, by_ifz, by_app, by_succ_inv, by_pred_inv, by_binary_inv, by_ifz_inv, by_app_inv, HasEvByValue}
+use Rattle.cbv_terms.proofs.Derived.{EvByValue, by_succ, by_pred, by_binary, by_ifz, by_app, by_succ_inv, by_pred_inv, by_binary_inv}
+use Rattle.cbv_terms.proofs.Derived.{by_ifz_inv, by_app_inv, HasEvByValue}
 use Rattle.cbv_terms.proofs.Relation.{Hands, Stands, stands_less, fwd, enter}
 
 abbrev pub Good : TyTree → ℕ → TermTree → TermTree → Type 0
@@ -36,29 +37,46 @@ succ_stands n v y g = let (s, e) = stands_ev n (value v) y g in (succ_closed y g
 pred_stands : (n : ℕ) (v : Val) (y : TermTree) → Stands nat n (value v) y → Stands nat n (value (val_pred v)) (pred_of y)
 pred_stands n v y g = let (s, e) = stands_ev n (value v) y g in (pred_closed y g.0, (val_pred v, refl, (suc s, ev_pred e)))
 
-binary_stands : (n : ℕ) (o : Op) (v u : Val) (y z : TermTree) → Stands nat n (value v) y → Stands nat n (value u) z → Stands nat n (value (val_op o v u)) (binary o y z)
+binary_stands : (n : ℕ) (o : Op) (v u : Val) (y z : TermTree) → Stands nat n (value v) y → Stands nat n (value u) z →
+    Stands nat n (value (val_op o v u)) (binary o y z)
 binary_stands n o v u y z g h =
     let (s, e) = stands_ev n (value v) y g in
     let (r, d) = stands_ev n (value u) z h in
     (binary_closed o y z g.0 h.0, (val_op o v u, refl, (suc (s + r), ev_binary {s = s} {r = r} {v = v} {w = u} e d)))
 
 -- value_type of forms, from those of their parts
-succ_result : (k : ℕ) (m : TermTree) (w : Res) (y : TermTree) → HasEvByValue m w → Stands nat k w y → (u : Res) × HasEvByValue (succ_of m) u × Stands nat k u (succ_of y)
-succ_result k m w y (r, d) (c, (v, e, h)) = (value (val_succ v), (suc r, by_succ (subst (EvByValue r m) e d)), succ_stands k v y (c, (v, refl, h)))
+succ_result : (k : ℕ) (m : TermTree) (w : Res) (y : TermTree) → HasEvByValue m w → Stands nat k w y → (u : Res) ×
+    HasEvByValue (succ_of m) u × Stands nat k u (succ_of y)
+succ_result k m w y (r, d) (c, (v, e, h)) = (
+  value (val_succ v),
+  (suc r, by_succ (subst (EvByValue r m) e d)),
+  succ_stands k v y (c, (v, refl, h)),
+)
 
-pred_result : (k : ℕ) (m : TermTree) (w : Res) (y : TermTree) → HasEvByValue m w → Stands nat k w y → (u : Res) × HasEvByValue (pred_of m) u × Stands nat k u (pred_of y)
-pred_result k m w y (r, d) (c, (v, e, h)) = (value (val_pred v), (suc r, by_pred (subst (EvByValue r m) e d)), pred_stands k v y (c, (v, refl, h)))
+pred_result : (k : ℕ) (m : TermTree) (w : Res) (y : TermTree) → HasEvByValue m w → Stands nat k w y → (u : Res) ×
+    HasEvByValue (pred_of m) u × Stands nat k u (pred_of y)
+pred_result k m w y (r, d) (c, (v, e, h)) = (
+  value (val_pred v),
+  (suc r, by_pred (subst (EvByValue r m) e d)),
+  pred_stands k v y (c, (v, refl, h)),
+)
 
-binary_result : (k : ℕ) (o : Op) (m m' : TermTree) (w w' : Res) (y y' : TermTree) → HasEvByValue m w → HasEvByValue m' w' → Stands nat k w y → Stands nat k w' y' → (u : Res) × HasEvByValue (binary o m m') u × Stands nat k u (binary o y y')
-binary_result k o m m' w w' y y' (r, d) (r', d') (c, (v, e, h)) (c', (v', e', h')) =
-    (value (val_op o v v'), (suc (r + r'), by_binary (subst (EvByValue r m) e d) (subst (EvByValue r' m') e' d')), binary_stands k o v v' y y' (c, (v, refl, h)) (c', (v', refl, h')))
+binary_result : (k : ℕ) (o : Op) (m m' : TermTree) (w w' : Res) (y y' : TermTree) → HasEvByValue m w → HasEvByValue m' w' →
+    Stands nat k w y → Stands nat k w' y' → (u : Res) × HasEvByValue (binary o m m') u × Stands nat k u (binary o y y')
+binary_result k o m m' w w' y y' (r, d) (r', d') (c, (v, e, h)) (c', (v', e', h')) = (
+  value (val_op o v v'),
+  (suc (r + r'), by_binary (subst (EvByValue r m) e d) (subst (EvByValue r' m') e' d')),
+  binary_stands k o v v' y y' (c, (v, refl, h)) (c', (v', refl, h')),
+)
 
-ifz_result : (k : ℕ) (m p q : TermTree) (w : Res) (y : TermTree) (v : Val) (u : Res) → HasEvByValue m w → Stands nat k w y → HasEv y (value v) → HasEvByValue (at_zero v p q) u → HasEvByValue (ifz m p q) u
+ifz_result : (k : ℕ) (m p q : TermTree) (w : Res) (y : TermTree) (v : Val) (u : Res) → HasEvByValue m w → Stands nat k w y →
+    HasEv y (value v) → HasEvByValue (at_zero v p q) u → HasEvByValue (ifz m p q) u
 ifz_result k m p q w y v u (r, d) (c, (v', e, (i, h))) (j, g) (r', b) =
     let same : v' ≡ v = one_value y v' v (i, ev_eval h) (j, ev_eval g) in
     (suc (r + r'), by_ifz {v = v} (subst (EvByValue r m) (e ∙ ap value same) d) b)
 
-app_result : (t : TyTree) (m m' b : TermTree) (w u : Res) → HasEvByValue m (closure t b) → HasEvByValue m' w → HasEvByValue (subst_at b zero (quote w)) u → HasEvByValue (app m m') u
+app_result : (t : TyTree) (m m' b : TermTree) (w u : Res) → HasEvByValue m (closure t b) → HasEvByValue m' w →
+    HasEvByValue (subst_at b zero (quote w)) u → HasEvByValue (app m m') u
 app_result t m m' b w u (r, d) (r', d') (k, e) = (suc (r + r' + k), by_app d d' e)
 
 ifz_ev : (y p q : TermTree) (v : Val) (x : Res) → HasEv y (value v) → HasEv (at_zero v p q) x → HasEv (ifz y p q) x
@@ -80,33 +98,45 @@ ifz_k p q = ifz (var 0) (app p (var 1)) (app q (var 1))
 abbrev app_k : TermTree
 app_k = app (app (var 1) (var 0)) (var 2)
 
-pub succ_hands : (t : TyTree) (n : ℕ) (m : TermTree) (s : Env) (c : TermTree) → AllClosed s → ((x : TermTree) → Closed x → Good nat n m (close zero (cons x s) c)) → Good nat n (succ_of m) (close zero s (lam t (app c (lam nat succ_k))))
+pub succ_hands : (t : TyTree) (n : ℕ) (m : TermTree) (s : Env) (c : TermTree) → AllClosed s →
+    ((x : TermTree) → Closed x → Good nat n m (close zero (cons x s) c)) →
+    Good nat n (succ_of m) (close zero s (lam t (app c (lam nat succ_k))))
 succ_hands t n m s c cs h = record {
   forth = λ i k w l d x cx a f.
       let (r, v, dm, q, e) = by_succ_inv d in
-      fwd (app (close zero s (lam t (app c (lam nat succ_k)))) x) (app (close zero (cons x s) c) (close zero (cons x s) (lam nat succ_k))) (value a) (enter t s (app c (lam nat succ_k)) x cs)
-      ((h x cx).forth r k (value v) (omega arith) dm (close zero (cons x s) (lam nat succ_k)) (close_closed (lam nat succ_k) (cons x s) (cons_closed x s cx cs)) a
-      (λ y g. fwd (app (close zero (cons x s) (lam nat succ_k)) y) (app x (succ_of y)) (value a) (enter nat (cons x s) succ_k y (cons_closed x s cx cs))
+      fwd (app (close zero s (lam t (app c (lam nat succ_k)))) x) (app (close zero (cons x s) c) (close zero (cons x s) (lam nat succ_k)))
+      (value a) (enter t s (app c (lam nat succ_k)) x cs)
+      ((h x cx).forth r k (value v) (omega arith) dm (close zero (cons x s) (lam nat succ_k))
+      (close_closed (lam nat succ_k) (cons x s) (cons_closed x s cx cs)) a
+      (λ y g. fwd (app (close zero (cons x s) (lam nat succ_k)) y) (app x (succ_of y)) (value a)
+      (enter nat (cons x s) succ_k y (cons_closed x s cx cs))
       (f (succ_of y) (subst (λ w. Stands nat k w (succ_of y)) (sym e) (succ_stands k v y g)))));
   back = λ i l x cx a d.
       let (z, q, d1) = (enter t s (app c (lam nat succ_k)) x cs).back i (value a) d in
-      let (w, y, j, hm, g, q1, d2) = (h x cx).back z (omega arith) (close zero (cons x s) (lam nat succ_k)) (close_closed (lam nat succ_k) (cons x s) (cons_closed x s cx cs)) a d1 in
+      let (w, y, j, hm, g, q1, d2) = (h x cx).back z (omega arith) (close zero (cons x s) (lam nat succ_k))
+      (close_closed (lam nat succ_k) (cons x s) (cons_closed x s cx cs)) a d1 in
       let (z2, q2, d3) = (enter nat (cons x s) succ_k y (cons_closed x s cx cs)).back j (value a) d2 in
       let (u, hu, gu) = succ_result z2 m w y hm g in
       (u, succ_of y, z2, hu, gu, omega arith, d3);
 }
 
-pub pred_hands : (t : TyTree) (n : ℕ) (m : TermTree) (s : Env) (c : TermTree) → AllClosed s → ((x : TermTree) → Closed x → Good nat n m (close zero (cons x s) c)) → Good nat n (pred_of m) (close zero s (lam t (app c (lam nat pred_k))))
+pub pred_hands : (t : TyTree) (n : ℕ) (m : TermTree) (s : Env) (c : TermTree) → AllClosed s →
+    ((x : TermTree) → Closed x → Good nat n m (close zero (cons x s) c)) →
+    Good nat n (pred_of m) (close zero s (lam t (app c (lam nat pred_k))))
 pred_hands t n m s c cs h = record {
   forth = λ i k w l d x cx a f.
       let (r, v, dm, q, e) = by_pred_inv d in
-      fwd (app (close zero s (lam t (app c (lam nat pred_k)))) x) (app (close zero (cons x s) c) (close zero (cons x s) (lam nat pred_k))) (value a) (enter t s (app c (lam nat pred_k)) x cs)
-      ((h x cx).forth r k (value v) (omega arith) dm (close zero (cons x s) (lam nat pred_k)) (close_closed (lam nat pred_k) (cons x s) (cons_closed x s cx cs)) a
-      (λ y g. fwd (app (close zero (cons x s) (lam nat pred_k)) y) (app x (pred_of y)) (value a) (enter nat (cons x s) pred_k y (cons_closed x s cx cs))
+      fwd (app (close zero s (lam t (app c (lam nat pred_k)))) x) (app (close zero (cons x s) c) (close zero (cons x s) (lam nat pred_k)))
+      (value a) (enter t s (app c (lam nat pred_k)) x cs)
+      ((h x cx).forth r k (value v) (omega arith) dm (close zero (cons x s) (lam nat pred_k))
+      (close_closed (lam nat pred_k) (cons x s) (cons_closed x s cx cs)) a
+      (λ y g. fwd (app (close zero (cons x s) (lam nat pred_k)) y) (app x (pred_of y)) (value a)
+      (enter nat (cons x s) pred_k y (cons_closed x s cx cs))
       (f (pred_of y) (subst (λ w. Stands nat k w (pred_of y)) (sym e) (pred_stands k v y g)))));
   back = λ i l x cx a d.
       let (z, q, d1) = (enter t s (app c (lam nat pred_k)) x cs).back i (value a) d in
-      let (w, y, j, hm, g, q1, d2) = (h x cx).back z (omega arith) (close zero (cons x s) (lam nat pred_k)) (close_closed (lam nat pred_k) (cons x s) (cons_closed x s cx cs)) a d1 in
+      let (w, y, j, hm, g, q1, d2) = (h x cx).back z (omega arith) (close zero (cons x s) (lam nat pred_k))
+      (close_closed (lam nat pred_k) (cons x s) (cons_closed x s cx cs)) a d1 in
       let (z2, q2, d3) = (enter nat (cons x s) pred_k y (cons_closed x s cx cs)).back j (value a) d2 in
       let (u, hu, gu) = pred_result z2 m w y hm g in
       (u, pred_of y, z2, hu, gu, omega arith, d3);
@@ -132,7 +162,8 @@ binary_hands o t n m m' s c c' cs h h' = record {
       ((h' x y cx g.0).forth b k (value u) (omega arith) dn (close zero s2 k2) (close_closed k2 s2 c2) a
       (λ z g'.
       fwd (app (close zero s2 k2) z) (app x (binary o y z)) (value a) (enter nat s2 (op_k o) z c2)
-      (f (binary o y z) (subst (λ w. Stands nat k w (binary o y z)) (sym e) (binary_stands k o v u y z (stands_less nat (b + k) k (value v) y (omega arith) g) g')))))));
+      (f (binary o y z) (subst (λ w. Stands nat k w (binary o y z)) (sym e)
+      (binary_stands k o v u y z (stands_less nat (b + k) k (value v) y (omega arith) g) g')))))));
   back = λ i l x cx a d.
       let k1 = lam nat (app c' (lam nat (op_k o))) in
       let k2 = lam nat (op_k o) in
@@ -154,7 +185,8 @@ at_app (Number zero) p q x = refl
 at_app (Number (suc n)) p q x = refl
 at_app Overflow p q x = refl
 
-at_good : (v : Val) (n : ℕ) (m m' c c' : TermTree) → Good nat n m c → Good nat n m' c' → Good nat n (at_zero v m m') (at_zero v c c')
+at_good : (v : Val) (n : ℕ) (m m' c c' : TermTree) → Good nat n m c → Good nat n m' c' →
+    Good nat n (at_zero v m m') (at_zero v c c')
 at_good (Number zero) n m m' c c' h g = h
 at_good (Number (suc k)) n m m' c c' h g = g
 at_good Overflow n m m' c c' h g = g
@@ -178,7 +210,8 @@ ifz_hands t n m p q s c cp cq cs h hp hq = record {
       let qc = close zero s2 cq in
       let left = (at_good v n p q pc qc (hp x y cx g.0) (hq x y cx g.0)).forth b k w (omega arith) dn x cx a f in
       fwd (app (close zero s1 k1) y) (ifz y (app pc x) (app qc x)) (value a) (enter nat s1 (ifz_k cp cq) y c1)
-      (ifz_ev y (app pc x) (app qc x) v (value a) (stands_ev (b + k) (value v) y g) (subst (λ o. HasEv o (value a)) (sym (at_app v pc qc x)) left))));
+      (ifz_ev y (app pc x) (app qc x) v (value a) (stands_ev (b + k) (value v) y g)
+      (subst (λ o. HasEv o (value a)) (sym (at_app v pc qc x)) left))));
   back = λ i l x cx a d.
       let k1 = lam nat (ifz_k cp cq) in
       let s1 = cons x s in
@@ -196,10 +229,13 @@ ifz_hands t n m p q s c cp cq cs h hp hq = record {
 }
 
 -- the body of a result_type of arrow type
-stands_body : (a b : TyTree) (n : ℕ) (t : TyTree) (m : TermTree) (y : TermTree) → Stands (arrow a b) n (closure t m) y → (j : ℕ) → j < n → (x : Res) (z : TermTree) → Stands a j x z → Good b j (subst_at m zero (quote x)) (app y z)
-stands_body a b n t m y (c, (t', m', e, cl, f)) j l x z h = let q : m' ≡ m = cc in subst (λ m. Good b j (subst_at m zero (quote x)) (app y z)) q (f j l x z h)
+stands_body : (a b : TyTree) (n : ℕ) (t : TyTree) (m : TermTree) (y : TermTree) → Stands (arrow a b) n (closure t m) y → (j : ℕ) →
+    j < n → (x : Res) (z : TermTree) → Stands a j x z → Good b j (subst_at m zero (quote x)) (app y z)
+stands_body a b n t m y (c, (t', m', e, cl, f)) j l x z h = let q : m' ≡ m = cc in
+    subst (λ m. Good b j (subst_at m zero (quote x)) (app y z)) q (f j l x z h)
 
-stands_fun : (a b : TyTree) (n : ℕ) (w : Res) (y : TermTree) → Stands (arrow a b) n w y → (t : TyTree) × (m : TermTree) × (w ≡ closure t m)
+stands_fun : (a b : TyTree) (n : ℕ) (w : Res) (y : TermTree) → Stands (arrow a b) n w y → (t : TyTree) × (m : TermTree) ×
+    (w ≡ closure t m)
 stands_fun a b n w y (c, (t', m', e, cl, f)) = (t', m', e)
 
 pub app_hands : (a b : TyTree) (t t1 t2 : TyTree) (n : ℕ) (m m' : TermTree) (s : Env) (c c' : TermTree) → AllClosed s

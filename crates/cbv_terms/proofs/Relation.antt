@@ -13,17 +13,21 @@ use Rattle.cbv_terms.specs.ByValue.{quote}
 use Rattle.cbv_terms.proofs.Derived.{EvByValue, by_num, by_lam, by_succ, HasEvByValue, one_result}
 
 -- a term that comes to value_type by value of a kind, and the term that hands such value_type to each continuation, up to an index:
--- what each result_type's terms lead to is what the whole leads to, and what the whole leads to is what some result_type's term leads to, later
+-- what each result_type's terms lead to is what the whole leads to, and what the whole leads to is what some result_type's term leads to,
+-- later
 pub record Hands (P : ℕ → Res → TermTree → Type 0) (n : ℕ) (m c : TermTree) : Type 0 where
-  pub forth : (i k : ℕ) (w : Res) → i + k ≤ n → EvByValue i m w → (x : TermTree) → Closed x → (a : Val) → ((y : TermTree) → P k w y → HasEv (app x y) (value a)) → HasEv (app c x) (value a)
-  pub back : (i : ℕ) → i ≤ n → (x : TermTree) → Closed x → (a : Val) → Ev i (app c x) (value a) → (w : Res) × (y : TermTree) × (j : ℕ) × HasEvByValue m w × P j w y × (j < i) × Ev j (app x y) (value a)
+  pub forth : (i k : ℕ) (w : Res) → i + k ≤ n → EvByValue i m w → (x : TermTree) → Closed x → (a : Val) →
+      ((y : TermTree) → P k w y → HasEv (app x y) (value a)) → HasEv (app c x) (value a)
+  pub back : (i : ℕ) → i ≤ n → (x : TermTree) → Closed x → (a : Val) → Ev i (app c x) (value a) → (w : Res) ×
+      (y : TermTree) × (j : ℕ) × HasEvByValue m w × P j w y × (j < i) × Ev j (app x y) (value a)
 
 -- a result_type and a closed term that stands for it, up to an index
 abbrev pub Stands : TyTree → ℕ → Res → TermTree → Type 0
 Stands nat n w y = Closed y × ((v : Val) × (w ≡ value v) × HasEv y (value v))
 Stands (arrow a b) n w y =
     Closed y × ((t : TyTree) × (m : TermTree) × (w ≡ closure t m) × Closed (lam t m)
-    × ((j : ℕ) → j < n → (x : Res) (z : TermTree) → Stands a j x z → Hands (λ k u o. Stands b k u o) j (subst_at m zero (quote x)) (app y z)))
+    × ((j : ℕ) → j < n → (x : Res) (z : TermTree) → Stands a j x z →
+    Hands (λ k u o. Stands b k u o) j (subst_at m zero (quote x)) (app y z)))
 Stands (product a b) n w y = ⊥
 
 pub stands_less : (a : TyTree) (n k : ℕ) (w : Res) (y : TermTree) → k ≤ n → Stands a n w y → Stands a k w y
@@ -79,7 +83,9 @@ hands_step P n m c c' s h = record {
 }
 
 -- a term that is its result_type at once
-pub hands_value : (P : ℕ → Res → TermTree → Type 0) (n : ℕ) (m : TermTree) (s : Env) (t : TyTree) (v : TermTree) (w : Res) → AllClosed s → HasEvByValue m w → ((x : TermTree) → Closed x → (k : ℕ) → k ≤ n → P k w (close zero (cons x s) v)) → Hands P n m (close zero s (lam t (app (var 0) v)))
+pub hands_value : (P : ℕ → Res → TermTree → Type 0) (n : ℕ) (m : TermTree) (s : Env) (t : TyTree) (v : TermTree) (w : Res) →
+    AllClosed s → HasEvByValue m w → ((x : TermTree) → Closed x → (k : ℕ) → k ≤ n → P k w (close zero (cons x s) v)) →
+    Hands P n m (close zero s (lam t (app (var 0) v)))
 hands_value P n m s t v w cs (z, e) p = record {
   forth = λ i k u l d x cx a f.
       let q : w ≡ u = one_result e d in

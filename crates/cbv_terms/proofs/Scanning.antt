@@ -1,9 +1,11 @@
 -- The walk that looks for faults finds the least place of each kind, and the first of these two is the program's first fault.
-use Rattle.std.proofs.Common.{◌≡◌, ◌⊎◌, ℕ, ◌<◌, ◌≤◌, min, Bool, true, false, Option, Some, None, refl, sym, subst, inl, inr, arith}
+use Rattle.std.proofs.Common.{◌≡◌, ◌⊎◌, ℕ, ◌<◌, ◌≤◌, min, Bool, true, false, Option, Some, None, refl, sym, subst}
+use Rattle.std.proofs.Common.{inl, inr, arith}
 use Rattle.std.specs.Prelude.{nat_le, not, cond, MatchOption}
 use Rattle.std.proofs.lemmas.Bool.{cases_lt, le-leb, lt-leb}
 use Rattle.pcf_values.specs.Terms.{TyTree}
-use Rattle.pcf_values.specs.Named.{the_succ, the_pred, the_fst, the_snd, the_fun, the_fix, NamedTree, number_at, name_at, word_at, binary_at, pair_at, ifz_at, bind_at, apply_at, named_height}
+use Rattle.pcf_values.specs.Named.{the_succ, the_pred, the_fst, the_snd, the_fun, the_fix, NamedTree, number_at, name_at, word_at}
+use Rattle.pcf_values.specs.Named.{binary_at, pair_at, ifz_at, bind_at, apply_at, named_height}
 use Rattle.cbv_terms.specs.declared.fault.ByValueFault.{ByValueFault}
 use Rattle.cbv_terms.specs.declared.fault.ByValueFault.TheVariants.{NoMemory, ByValueFix, ByValuePair, ByValueDeep}
 use Rattle.cbv_terms.specs.declared.limit.TheConstants.{BY_VALUE_HEIGHT}
@@ -17,7 +19,8 @@ either f g (inl a) = f a
 either f g (inr b) = g b
 
 -- the lesser of the least places is the least of all
-least_of_two : (P Q : ℕ → Type 0) (a b : ℕ) → P a → ((c : ℕ) → P c → a ≤ c) → Q b → ((c : ℕ) → Q c → b ≤ c) → (a < b) ⊎ (b ≤ a) → IsLeast (λ x. P x ⊎ Q x) (Some (min a b))
+least_of_two : (P Q : ℕ → Type 0) (a b : ℕ) → P a → ((c : ℕ) → P c → a ≤ c) → Q b →
+    ((c : ℕ) → Q c → b ≤ c) → (a < b) ⊎ (b ≤ a) → IsLeast (λ x. P x ⊎ Q x) (Some (min a b))
 least_of_two P Q a b p h q k (inl l) =
     let e : a ≡ min a b = omega arith in
     subst (λ m. IsLeast (λ x. P x ⊎ Q x) (Some m)) e (inl p, λ c. either (λ x. h c x) (λ x. let z = k c x in omega arith))
@@ -31,10 +34,13 @@ least_both P Q None (Some b) h (q, k) = (inr q, λ c. either (λ x. absurd (h c 
 least_both P Q (Some a) None (p, h) k = (inl p, λ c. either (h c) (λ x. absurd (k c x)))
 least_both P Q (Some a) (Some b) (p, h) (q, k) = least_of_two P Q a b p h q k (cases_lt a b)
 
-pub finds_both : (F G : ByValueFault → Type 0) (x y z : Least) → Finds F x → Finds G y → z.fixes ≡ lesser x.fixes y.fixes → z.pairs ≡ lesser x.pairs y.pairs → Finds (λ f. F f ⊎ G f) z
+pub finds_both : (F G : ByValueFault → Type 0) (x y z : Least) → Finds F x → Finds G y → z.fixes ≡ lesser x.fixes y.fixes →
+    z.pairs ≡ lesser x.pairs y.pairs → Finds (λ f. F f ⊎ G f) z
 finds_both F G x y z h k e q = record {
-  fixes = subst (IsLeast (λ at. F (ByValueFix at) ⊎ G (ByValueFix at))) (sym e) (least_both (λ at. F (ByValueFix at)) (λ at. G (ByValueFix at)) x.fixes y.fixes h.fixes k.fixes);
-  pairs = subst (IsLeast (λ at. F (ByValuePair at) ⊎ G (ByValuePair at))) (sym q) (least_both (λ at. F (ByValuePair at)) (λ at. G (ByValuePair at)) x.pairs y.pairs h.pairs k.pairs);
+  fixes = subst (IsLeast (λ at. F (ByValueFix at) ⊎ G (ByValueFix at))) (sym e)
+      (least_both (λ at. F (ByValueFix at)) (λ at. G (ByValueFix at)) x.fixes y.fixes h.fixes k.fixes);
+  pairs = subst (IsLeast (λ at. F (ByValuePair at) ⊎ G (ByValuePair at))) (sym q)
+      (least_both (λ at. F (ByValuePair at)) (λ at. G (ByValuePair at)) x.pairs y.pairs h.pairs k.pairs);
 }
 
 -- the faults of a node itself
@@ -47,11 +53,13 @@ least_pair at = (refl, λ a e. let q : a ≡ at = cc in omega arith)
 pub no_binder_fix : (at : ℕ) (t : TyTree) → IsLeast (λ a. BinderFault at t (ByValueFix a)) None
 no_binder_fix at t a (e, q) = cc
 
-pub least_binder : (at : ℕ) (t : TyTree) (b : Bool) → has_product t ≡ b → IsLeast (λ a. BinderFault at t (ByValuePair a)) (where_holds b at)
+pub least_binder : (at : ℕ) (t : TyTree) (b : Bool) → has_product t ≡ b →
+    IsLeast (λ a. BinderFault at t (ByValuePair a)) (where_holds b at)
 least_binder at t true e = ((e, refl), λ a (h, q). let r : a ≡ at = cc in omega arith)
 least_binder at t false e = λ a (h, q). cc
 
-pub least_fix : (at : ℕ) (t : TyTree) (m : NamedTree) (b : Bool) → is_of_fun t m ≡ b → IsLeast (λ a. FixFault at t m (ByValueFix a)) (where_holds (not b) at)
+pub least_fix : (at : ℕ) (t : TyTree) (m : NamedTree) (b : Bool) → is_of_fun t m ≡ b →
+    IsLeast (λ a. FixFault at t m (ByValueFix a)) (where_holds (not b) at)
 least_fix at t m true e = λ a (h, q). cc
 least_fix at t m false e = ((e, refl), λ a (h, q). let r : a ≡ at = cc in omega arith)
 
@@ -64,13 +72,15 @@ finds_pair at z e q = record {
   pairs = subst (IsLeast (λ a. ByValuePair a ≡ ByValuePair at)) (sym q) (least_pair at);
 }
 
-pub finds_binder : (at : ℕ) (t : TyTree) (z : Least) → z.fixes ≡ None → z.pairs ≡ where_holds (has_product t) at → Finds (BinderFault at t) z
+pub finds_binder : (at : ℕ) (t : TyTree) (z : Least) → z.fixes ≡ None → z.pairs ≡ where_holds (has_product t) at →
+    Finds (BinderFault at t) z
 finds_binder at t z e q = record {
   fixes = subst (IsLeast (λ a. BinderFault at t (ByValueFix a))) (sym e) (no_binder_fix at t);
   pairs = subst (IsLeast (λ a. BinderFault at t (ByValuePair a))) (sym q) (least_binder at t (has_product t) refl);
 }
 
-pub finds_fix : (at : ℕ) (t : TyTree) (m : NamedTree) (z : Least) → z.fixes ≡ where_holds (not (is_of_fun t m)) at → z.pairs ≡ None → Finds (FixFault at t m) z
+pub finds_fix : (at : ℕ) (t : TyTree) (m : NamedTree) (z : Least) → z.fixes ≡ where_holds (not (is_of_fun t m)) at →
+    z.pairs ≡ None → Finds (FixFault at t m) z
 finds_fix at t m z e q = record {
   fixes = subst (IsLeast (λ a. FixFault at t m (ByValueFix a))) (sym e) (least_fix at t m (is_of_fun t m) refl);
   pairs = subst (IsLeast (λ a. FixFault at t m (ByValuePair a))) (sym q) (no_fix_pair at t m);
@@ -81,19 +91,22 @@ module _ (tree : NamedTree) (low : named_height tree ≤ BY_VALUE_HEIGHT) where
   not_deep : BY_VALUE_HEIGHT < named_height tree → ⊥
   not_deep h = omega arith
 
-  none_found : ((at : ℕ) → HasFault tree (ByValueFix at) → ⊥) → ((at : ℕ) → HasFault tree (ByValuePair at) → ⊥) → IsFaultless tree
+  none_found : ((at : ℕ) → HasFault tree (ByValueFix at) → ⊥) → ((at : ℕ) → HasFault tree (ByValuePair at) → ⊥) →
+      IsFaultless tree
   none_found h k NoMemory w = w
   none_found h k (ByValueFix at) w = h at w
   none_found h k (ByValuePair at) w = k at w
   none_found h k ByValueDeep w = not_deep w
 
-  fix_first : (a : ℕ) → ((at : ℕ) → HasFault tree (ByValueFix at) → a ≤ at) → ((at : ℕ) → HasFault tree (ByValuePair at) → a ≤ at) → (g : ByValueFault) → IsFault tree g → NoLater (ByValueFix a) g
+  fix_first : (a : ℕ) → ((at : ℕ) → HasFault tree (ByValueFix at) → a ≤ at) →
+      ((at : ℕ) → HasFault tree (ByValuePair at) → a ≤ at) → (g : ByValueFault) → IsFault tree g → NoLater (ByValueFix a) g
   fix_first a h k NoMemory w = w
   fix_first a h k (ByValueFix at) w = h at w
   fix_first a h k (ByValuePair at) w = k at w
   fix_first a h k ByValueDeep w = not_deep w
 
-  pair_first : (a : ℕ) → ((at : ℕ) → HasFault tree (ByValueFix at) → a < at) → ((at : ℕ) → HasFault tree (ByValuePair at) → a ≤ at) → (g : ByValueFault) → IsFault tree g → NoLater (ByValuePair a) g
+  pair_first : (a : ℕ) → ((at : ℕ) → HasFault tree (ByValueFix at) → a < at) →
+      ((at : ℕ) → HasFault tree (ByValuePair at) → a ≤ at) → (g : ByValueFault) → IsFault tree g → NoLater (ByValuePair a) g
   pair_first a h k NoMemory w = w
   pair_first a h k (ByValueFix at) w = h at w
   pair_first a h k (ByValuePair at) w = k at w
@@ -102,7 +115,8 @@ module _ (tree : NamedTree) (low : named_height tree ≤ BY_VALUE_HEIGHT) where
   abbrev Told : Option ByValueFault → Type 0
   Told r = MatchOption r (IsFaultless tree) (IsFirstFault tree)
 
-  first_of_two : (a b : ℕ) → HasFault tree (ByValueFix a) → ((at : ℕ) → HasFault tree (ByValueFix at) → a ≤ at) → HasFault tree (ByValuePair b) → ((at : ℕ) → HasFault tree (ByValuePair at) → b ≤ at)
+  first_of_two : (a b : ℕ) → HasFault tree (ByValueFix a) → ((at : ℕ) → HasFault tree (ByValueFix at) → a ≤ at) →
+      HasFault tree (ByValuePair b) → ((at : ℕ) → HasFault tree (ByValuePair at) → b ≤ at)
       → (b < a) ⊎ (a ≤ b) → Told (first_of (Some a) (Some b))
   first_of_two a b p h q k (inl l) =
       let e : nat_le a b ≡ false = lt-leb a b l in
@@ -113,14 +127,17 @@ module _ (tree : NamedTree) (low : named_height tree ≤ BY_VALUE_HEIGHT) where
       subst (λ c. Told (cond c (Some (ByValueFix a)) (Some (ByValuePair b)))) (sym e)
       (record { fault = p; first = fix_first a h (λ at x. let z = k at x in omega arith) })
 
-  pub told_of : (a b : Option ℕ) → IsLeast (λ at. HasFault tree (ByValueFix at)) a → IsLeast (λ at. HasFault tree (ByValuePair at)) b → Told (first_of a b)
+  pub told_of : (a b : Option ℕ) → IsLeast (λ at. HasFault tree (ByValueFix at)) a →
+      IsLeast (λ at. HasFault tree (ByValuePair at)) b → Told (first_of a b)
   told_of None None h k = none_found h k
   told_of (Some a) None (p, h) k = record { fault = p; first = fix_first a h (λ at x. absurd (k at x)) }
   told_of None (Some b) h (q, k) = record { fault = q; first = pair_first b (λ at x. absurd (h at x)) k }
   told_of (Some a) (Some b) (p, h) (q, k) = first_of_two a b p h q k (cases_lt b a)
 
-pub told : (tree : NamedTree) (found : Least) (r : Option ByValueFault) → named_height tree ≤ BY_VALUE_HEIGHT → Finds (HasFault tree) found → r ≡ first_of found.fixes found.pairs → MatchOption r (IsFaultless tree) (IsFirstFault tree)
-told tree found r l h e = subst (λ r. MatchOption r (IsFaultless tree) (IsFirstFault tree)) (sym e) (told_of tree l found.fixes found.pairs h.fixes h.pairs)
+pub told : (tree : NamedTree) (found : Least) (r : Option ByValueFault) → named_height tree ≤ BY_VALUE_HEIGHT →
+    Finds (HasFault tree) found → r ≡ first_of found.fixes found.pairs → MatchOption r (IsFaultless tree) (IsFirstFault tree)
+told tree found r l h e = subst (λ r. MatchOption r (IsFaultless tree) (IsFirstFault tree)) (sym e)
+    (told_of tree l found.fixes found.pairs h.fixes h.pairs)
 
 deep_before : (g : ByValueFault) → NoLater ByValueDeep g
 deep_before g = tt
@@ -150,10 +167,22 @@ abbrev found_pair : (at : ℕ) → Found (λ f. f ≡ ByValuePair at)
 found_pair at = record { fix = None; pair = Some at; fixes = no_fix_at_pair at; pairs = least_pair at }
 
 abbrev found_binder : (at : ℕ) (t : TyTree) → Found (BinderFault at t)
-found_binder at t = record { fix = None; pair = where_holds (has_product t) at; fixes = no_binder_fix at t; pairs = least_binder at t (has_product t) refl }
+found_binder at t = record {
+  fix = None;
+  pair = where_holds (has_product t) at;
+  fixes = no_binder_fix at t;
+  pairs =
+      least_binder at t (has_product t) refl;
+}
 
 abbrev found_fix : (at : ℕ) (t : TyTree) (m : NamedTree) → Found (FixFault at t m)
-found_fix at t m = record { fix = where_holds (not (is_of_fun t m)) at; pair = None; fixes = least_fix at t m (is_of_fun t m) refl; pairs = no_fix_pair at t m }
+found_fix at t m = record {
+  fix = where_holds (not (is_of_fun t m)) at;
+  pair = None;
+  fixes = least_fix at t m (is_of_fun t m) refl;
+  pairs =
+      no_fix_pair at t m;
+}
 
 abbrev pub found : (tree : NamedTree) → Found (HasFault tree)
 found (number_at at n) = found_none
@@ -163,26 +192,32 @@ found (word_at at the_pred a) = found a
 found (word_at at the_fst a) = found_both (λ f. f ≡ ByValuePair at) (HasFault a) (found_pair at) (found a)
 found (word_at at the_snd a) = found_both (λ f. f ≡ ByValuePair at) (HasFault a) (found_pair at) (found a)
 found (binary_at at o a b) = found_both (HasFault a) (HasFault b) (found a) (found b)
-found (pair_at at a b) = found_both (λ f. f ≡ ByValuePair at) (λ f. HasFault a f ⊎ HasFault b f) (found_pair at) (found_both (HasFault a) (HasFault b) (found a) (found b))
-found (ifz_at at c p q) = found_both (HasFault c) (λ f. HasFault p f ⊎ HasFault q f) (found c) (found_both (HasFault p) (HasFault q) (found p) (found q))
+found (pair_at at a b) = found_both (λ f. f ≡ ByValuePair at) (λ f. HasFault a f ⊎
+    HasFault b f) (found_pair at) (found_both (HasFault a) (HasFault b) (found a) (found b))
+found (ifz_at at c p q) = found_both (HasFault c) (λ f. HasFault p f ⊎ HasFault q f) (found c)
+    (found_both (HasFault p) (HasFault q) (found p) (found q))
 found (bind_at at the_fun x t m) = found_both (BinderFault at t) (HasFault m) (found_binder at t) (found m)
 found (bind_at at the_fix x t m) =
-    found_both (FixFault at t m) (λ f. BinderFault at t f ⊎ HasFault m f) (found_fix at t m) (found_both (BinderFault at t) (HasFault m) (found_binder at t) (found m))
+    found_both (FixFault at t m) (λ f. BinderFault at t f ⊎ HasFault m f) (found_fix at t m)
+    (found_both (BinderFault at t) (HasFault m) (found_binder at t) (found m))
 found (apply_at at g a) = found_both (HasFault g) (HasFault a) (found g) (found a)
 
-told_either : (tree : NamedTree) (r : Option ByValueFault) → MatchOption r (IsFaultless tree) (IsFirstFault tree) → IsFaultless tree ⊎ ((f : ByValueFault) × IsFirstFault tree f)
+told_either : (tree : NamedTree) (r : Option ByValueFault) → MatchOption r (IsFaultless tree) (IsFirstFault tree) → IsFaultless tree ⊎
+    ((f : ByValueFault) × IsFirstFault tree f)
 told_either tree None h = inl h
 told_either tree (Some f) h = inr (f, h)
 
 -- what is told of the program by these places is its first fault
-pub told_found : (tree : NamedTree) → named_height tree ≤ BY_VALUE_HEIGHT → MatchOption (first_of (found tree).fix (found tree).pair) (IsFaultless tree) (IsFirstFault tree)
+pub told_found : (tree : NamedTree) → named_height tree ≤ BY_VALUE_HEIGHT →
+    MatchOption (first_of (found tree).fix (found tree).pair) (IsFaultless tree) (IsFirstFault tree)
 told_found tree l = told_of tree l (found tree).fix (found tree).pair (found tree).fixes (found tree).pairs
 
 -- a program has no fault or a first one
 pub some_first_fault : (tree : NamedTree) → IsFaultless tree ⊎ ((f : ByValueFault) × IsFirstFault tree f)
 some_first_fault tree = go (cases_lt BY_VALUE_HEIGHT (named_height tree))
   where
-    go : (BY_VALUE_HEIGHT < named_height tree) ⊎ (named_height tree ≤ BY_VALUE_HEIGHT) → IsFaultless tree ⊎ ((f : ByValueFault) × IsFirstFault tree f)
+    go : (BY_VALUE_HEIGHT < named_height tree) ⊎ (named_height tree ≤ BY_VALUE_HEIGHT) → IsFaultless tree ⊎
+        ((f : ByValueFault) × IsFirstFault tree f)
     go (inl l) = inr (ByValueDeep, deep_first tree l)
     go (inr l) = told_either tree (first_of (found tree).fix (found tree).pair) (told_found tree l)
 

@@ -1,5 +1,6 @@
 -- What the code of each form makes is what the definition says of the form, at the binders and the depth at hand.
-use Rattle.std.proofs.Common.{◌≡◌, ℕ, suc, ◌+◌, ◌-◌, List, [], ◌∷◌, ◌++◌, reverse, Some, Result, Ok, Err, refl, sym, ap, ◌∙◌, subst, arith}
+use Rattle.std.proofs.Common.{◌≡◌, ℕ, suc, ◌+◌, ◌-◌, List, [], ◌∷◌, ◌++◌, reverse, Some, Result, Ok, Err, refl}
+use Rattle.std.proofs.Common.{sym, ap, ◌∙◌, subst, arith}
 use Rattle.std.specs.Prelude.{slice_get, IfOk}
 use Rattle.pcf_values.specs.declared.term.Term.{Term}
 use Rattle.pcf_values.specs.Values.{Op}
@@ -10,58 +11,77 @@ use Rattle.cbv_terms.specs.declared.binder.Binder.{Binder}
 use Rattle.cbv_terms.specs.declared.forms.Unary.{Unary}
 use Rattle.cbv_terms.specs.declared.forms.Unary.TheVariants.{Succ, Pred}
 use Rattle.cbv_terms.specs.declared.made.Made.{Made}
-use Rattle.cbv_terms.specs.Translation.{HasTranslation, argument_type, result_type, type_in, value_type, continuation_type, beside, under, cps, translated}
+use Rattle.cbv_terms.specs.Translation.{HasTranslation, argument_type, result_type, type_in, value_type, continuation_type, beside, under}
+use Rattle.cbv_terms.specs.Translation.{cps, translated}
 use Rattle.cbv_terms.specs.Views.{known_of, unary_of, context_of, map_of, AreAround, IsTyped, IsReady, Makes, MakesFunction}
 use Rattle.cbv_terms.proofs.Typed.{typed_in}
-use Rattle.cbv_terms.proofs.Placing.{around_beside, around_beside_twice, map_beside, map_beside_twice, around_pushed, context_pushed, map_pushed, variable_place, variable_type}
+use Rattle.cbv_terms.proofs.Placing.{around_beside, around_beside_twice, map_beside, map_beside_twice, around_pushed, context_pushed}
+use Rattle.cbv_terms.proofs.Placing.{map_pushed, variable_place, variable_type}
 
 -- what was made at other binders that are the same
-moved : (s old new : List Binder) (d : ℕ) (m : TermTree) (made : Made) → s ≡ old → Makes s new (context_of s) (map_of d s) m made → Makes old new (context_of old) (map_of d old) m made
+moved : (s old new : List Binder) (d : ℕ) (m : TermTree) (made : Made) → s ≡ old →
+    Makes s new (context_of s) (map_of d s) m made → Makes old new (context_of old) (map_of d old) m made
 moved s old new d m made e h = subst (λ s. Makes s new (context_of s) (map_of d s) m made) e h
 
 -- a part that is translated under one or two binders more
-once : (d : ℕ) (old new : List Binder) (m : TermTree) (made : Made) → AreAround d (reverse old) → Makes old new (context_of old) (map_of (d + 1) old) m made → term_of made.term.value ≡ cps (context_of old) (beside (map_of d old)) m
+once : (d : ℕ) (old new : List Binder) (m : TermTree) (made : Made) → AreAround d (reverse old) →
+    Makes old new (context_of old) (map_of (d + 1) old) m made →
+    term_of made.term.value ≡ cps (context_of old) (beside (map_of d old)) m
 once d old new m made r h = h.term ∙ ap (λ e. cps (context_of old) e m) (map_beside d old r)
 
-twice : (d : ℕ) (old new : List Binder) (m : TermTree) (made : Made) → AreAround d (reverse old) → Makes old new (context_of old) (map_of (d + 2) old) m made → term_of made.term.value ≡ cps (context_of old) (beside (beside (map_of d old))) m
+twice : (d : ℕ) (old new : List Binder) (m : TermTree) (made : Made) → AreAround d (reverse old) →
+    Makes old new (context_of old) (map_of (d + 2) old) m made →
+    term_of made.term.value ≡ cps (context_of old) (beside (beside (map_of d old))) m
 twice d old new m made r h = h.term ∙ ap (λ e. cps (context_of old) e m) (map_beside_twice d old r)
 
 -- a part is ready where its whole is
-deeper : (bs : List Binder) (d : ℕ) (m : TermTree) → HasTranslation m → IsTyped (context_of bs) m → AreAround d (reverse bs) → IsReady bs (d + 1) (context_of bs) m
+deeper : (bs : List Binder) (d : ℕ) (m : TermTree) → HasTranslation m → IsTyped (context_of bs) m → AreAround d (reverse bs) →
+    IsReady bs (d + 1) (context_of bs) m
 deeper bs d m t h r = record { taken = t; typed = h; around = around_beside d bs r }
 
-pub ready_at : (s old : List Binder) (d : ℕ) (m : TermTree) → s ≡ old → IsReady old d (context_of old) m → IsReady s d (context_of s) m
+pub ready_at : (s old : List Binder) (d : ℕ) (m : TermTree) → s ≡ old → IsReady old d (context_of old) m →
+    IsReady s d (context_of s) m
 ready_at s old d m e h = subst (λ s. IsReady s d (context_of s) m) (sym e) h
 
-deeper_twice : (bs : List Binder) (d : ℕ) (m : TermTree) → HasTranslation m → IsTyped (context_of bs) m → AreAround d (reverse bs) → IsReady bs (d + 2) (context_of bs) m
+deeper_twice : (bs : List Binder) (d : ℕ) (m : TermTree) → HasTranslation m → IsTyped (context_of bs) m →
+    AreAround d (reverse bs) → IsReady bs (d + 2) (context_of bs) m
 deeper_twice bs d m t h r = record { taken = t; typed = h; around = around_beside_twice d bs r }
 
-pub unary_ready : (form : Unary) (bs : List Binder) (d : ℕ) (a : TermTree) → IsReady bs d (context_of bs) (unary_of form a) → IsReady bs (d + 1) (context_of bs) a
+pub unary_ready : (form : Unary) (bs : List Binder) (d : ℕ) (a : TermTree) → IsReady bs d (context_of bs) (unary_of form a) →
+    IsReady bs (d + 1) (context_of bs) a
 unary_ready Succ bs d a h = let (t, g) = h.typed in deeper bs d a h.taken (nat, g.0) h.around
 unary_ready Pred bs d a h = let (t, g) = h.typed in deeper bs d a h.taken (nat, g.0) h.around
 
-pub left_ready : (o : Op) (bs : List Binder) (d : ℕ) (a b : TermTree) → IsReady bs d (context_of bs) (binary o a b) → IsReady bs (d + 1) (context_of bs) a
+pub left_ready : (o : Op) (bs : List Binder) (d : ℕ) (a b : TermTree) → IsReady bs d (context_of bs) (binary o a b) →
+    IsReady bs (d + 1) (context_of bs) a
 left_ready o bs d a b h = let (t, g) = h.typed in deeper bs d a h.taken.0 (nat, g.0) h.around
 
-pub right_ready : (o : Op) (bs : List Binder) (d : ℕ) (a b : TermTree) → IsReady bs d (context_of bs) (binary o a b) → IsReady bs (d + 2) (context_of bs) b
+pub right_ready : (o : Op) (bs : List Binder) (d : ℕ) (a b : TermTree) → IsReady bs d (context_of bs) (binary o a b) →
+    IsReady bs (d + 2) (context_of bs) b
 right_ready o bs d a b h = let (t, g) = h.typed in deeper_twice bs d b h.taken.1 (nat, g.1) h.around
 
-pub test_ready : (bs : List Binder) (d : ℕ) (c p q : TermTree) → IsReady bs d (context_of bs) (ifz c p q) → IsReady bs (d + 1) (context_of bs) c
+pub test_ready : (bs : List Binder) (d : ℕ) (c p q : TermTree) → IsReady bs d (context_of bs) (ifz c p q) →
+    IsReady bs (d + 1) (context_of bs) c
 test_ready bs d c p q h = let (t, g) = h.typed in deeper bs d c h.taken.0 (nat, g.0) h.around
 
-pub then_ready : (bs : List Binder) (d : ℕ) (c p q : TermTree) → IsReady bs d (context_of bs) (ifz c p q) → IsReady bs (d + 2) (context_of bs) p
+pub then_ready : (bs : List Binder) (d : ℕ) (c p q : TermTree) → IsReady bs d (context_of bs) (ifz c p q) →
+    IsReady bs (d + 2) (context_of bs) p
 then_ready bs d c p q h = let (t, g) = h.typed in deeper_twice bs d p h.taken.1 (nat, g.1) h.around
 
-pub else_ready : (bs : List Binder) (d : ℕ) (c p q : TermTree) → IsReady bs d (context_of bs) (ifz c p q) → IsReady bs (d + 2) (context_of bs) q
+pub else_ready : (bs : List Binder) (d : ℕ) (c p q : TermTree) → IsReady bs d (context_of bs) (ifz c p q) →
+    IsReady bs (d + 2) (context_of bs) q
 else_ready bs d c p q h = let (t, g) = h.typed in deeper_twice bs d q h.taken.2 (nat, g.2) h.around
 
-pub function_ready : (bs : List Binder) (d : ℕ) (f a : TermTree) → IsReady bs d (context_of bs) (app f a) → IsReady bs (d + 1) (context_of bs) f
+pub function_ready : (bs : List Binder) (d : ℕ) (f a : TermTree) → IsReady bs d (context_of bs) (app f a) →
+    IsReady bs (d + 1) (context_of bs) f
 function_ready bs d f a h = let (t, (b, hf, ha)) = h.typed in deeper bs d f h.taken.0 (arrow b t, hf) h.around
 
-pub argument_ready : (bs : List Binder) (d : ℕ) (f a : TermTree) → IsReady bs d (context_of bs) (app f a) → IsReady bs (d + 2) (context_of bs) a
+pub argument_ready : (bs : List Binder) (d : ℕ) (f a : TermTree) → IsReady bs d (context_of bs) (app f a) →
+    IsReady bs (d + 2) (context_of bs) a
 argument_ready bs d f a h = let (t, (b, hf, ha)) = h.typed in deeper_twice bs d a h.taken.1 (b, ha) h.around
 
-pub fun_ready : (bs : List Binder) (d : ℕ) (a : TyTree) (m : TermTree) → IsReady bs d (context_of bs) (lam a m) → IsReady bs (d + 1) (a ∷ context_of bs) m
+pub fun_ready : (bs : List Binder) (d : ℕ) (a : TyTree) (m : TermTree) → IsReady bs d (context_of bs) (lam a m) →
+    IsReady bs (d + 1) (a ∷ context_of bs) m
 fun_ready bs d a m h = let (t, (b, hm, e)) = h.typed in record { taken = h.taken.1; typed = (b, hm); around = around_beside d bs h.around }
 
 fix_taken : (f a : TyTree) (m : TermTree) → HasTranslation (fix f (lam a m)) → HasTranslation m
@@ -69,21 +89,26 @@ fix_taken nat a m h = elim h [ ]
 fix_taken (arrow b c) a m h = h.2
 fix_taken (product b c) a m h = elim h [ ]
 
-fix_ready_of : (bs : List Binder) (d : ℕ) (f a : TyTree) (m : TermTree) → IsReady bs d (context_of bs) (fix f (lam a m)) → IsReady bs (d + 1) (a ∷ f ∷ context_of bs) m
-fix_ready_of bs d f a m h = let (t, ((b, hm, e), q)) = h.typed in record { taken = fix_taken f a m h.taken; typed = (b, hm); around = around_beside d bs h.around }
+fix_ready_of : (bs : List Binder) (d : ℕ) (f a : TyTree) (m : TermTree) → IsReady bs d (context_of bs) (fix f (lam a m)) →
+    IsReady bs (d + 1) (a ∷ f ∷ context_of bs) m
+fix_ready_of bs d f a m h = let (t, ((b, hm, e), q)) = h.typed in
+    record { taken = fix_taken f a m h.taken; typed = (b, hm); around = around_beside d bs h.around }
 
-pub fix_ready : (bs : List Binder) (d : ℕ) (f a : TyTree) (m whole : TermTree) → whole ≡ lam a m → IsReady bs d (context_of bs) (fix f whole) → IsReady bs (d + 1) (a ∷ f ∷ context_of bs) m
+pub fix_ready : (bs : List Binder) (d : ℕ) (f a : TyTree) (m whole : TermTree) → whole ≡ lam a m →
+    IsReady bs d (context_of bs) (fix f whole) → IsReady bs (d + 1) (a ∷ f ∷ context_of bs) m
 fix_ready bs d f a m whole e h = fix_ready_of bs d f a m (subst (λ w. IsReady bs d (context_of bs) (fix f w)) e h)
 
 -- the binder is there: the body's context is that of the binders
-pub body_ready : (bs s : List Binder) (b : Binder) (d : ℕ) (m : TermTree) → s ≡ bs ++ b ∷ [] → b.level ≡ d → IsReady bs d (ty_of b.ty.now ∷ context_of bs) m → IsReady s (d + 1) (context_of s) m
+pub body_ready : (bs s : List Binder) (b : Binder) (d : ℕ) (m : TermTree) → s ≡ bs ++ b ∷ [] → b.level ≡ d →
+    IsReady bs d (ty_of b.ty.now ∷ context_of bs) m → IsReady s (d + 1) (context_of s) m
 body_ready bs s b d m e l h = subst (λ s. IsReady s (d + 1) (context_of s) m) (sym e) (record {
   taken = h.taken;
   typed = subst (λ g. IsTyped g m) (sym (context_pushed bs b)) h.typed;
   around = around_pushed d bs b l h.around;
 })
 
-pub inner_ready : (bs s : List Binder) (b : Binder) (d : ℕ) (a : TyTree) (m : TermTree) → s ≡ bs ++ b ∷ [] → b.level ≡ d → IsReady bs d (a ∷ ty_of b.ty.now ∷ context_of bs) m → IsReady s (d + 1) (a ∷ context_of s) m
+pub inner_ready : (bs s : List Binder) (b : Binder) (d : ℕ) (a : TyTree) (m : TermTree) → s ≡ bs ++ b ∷ [] → b.level ≡ d →
+    IsReady bs d (a ∷ ty_of b.ty.now ∷ context_of bs) m → IsReady s (d + 1) (a ∷ context_of s) m
 inner_ready bs s b d a m e l h = subst (λ s. IsReady s (d + 1) (a ∷ context_of s) m) (sym e) (record {
   taken = h.taken;
   typed = subst (λ g. IsTyped (a ∷ g) m) (sym (context_pushed bs b)) h.typed;
@@ -91,7 +116,8 @@ inner_ready bs s b d a m e l h = subst (λ s. IsReady s (d + 1) (a ∷ context_o
 })
 
 -- what is made
-pub variable_makes : (bs : List Binder) (d i : ℕ) (b : Binder) (made : Made) → AreAround d (reverse bs) → slice_get (reverse bs) i ≡ Some b
+pub variable_makes : (bs : List Binder) (d i : ℕ) (b : Binder) (made : Made) → AreAround d (reverse bs) →
+    slice_get (reverse bs) i ≡ Some b
     → term_of made.term.value ≡ lam (continuation_type (ty_of b.ty.now)) (app (var 0) (var (d - b.level)))
     → known_of made.ty ≡ ty_of b.ty.now
     → Makes bs bs (context_of bs) (map_of d bs) (var i) made
@@ -102,33 +128,52 @@ variable_makes bs d i b made r h e q =
 
 pub unary_makes : (form : Unary) (old new : List Binder) (d : ℕ) (a : TermTree) (part made : Made) → AreAround d (reverse old)
     → Makes old new (context_of old) (map_of (d + 1) old) a part
-    → term_of made.term.value ≡ lam (continuation_type nat) (app (term_of part.term.value) (lam nat (app (var 1) (unary_of form (var 0)))))
+    → term_of made.term.value ≡ lam (continuation_type nat)
+    (app (term_of part.term.value) (lam nat (app (var 1) (unary_of form (var 0)))))
     → known_of made.ty ≡ nat
     → Makes old new (context_of old) (map_of d old) (unary_of form a) made
 unary_makes Succ old new d a part made r h e q =
     let x = once d old new a part r h in
-    record { term = e ∙ (λ k. lam (continuation_type nat) (app (x k) (lam nat (app (var 1) (succ_of (var 0)))))); typed = q; binders = h.binders }
+    record {
+      term = e ∙ (λ k. lam (continuation_type nat) (app (x k) (lam nat (app (var 1) (succ_of (var 0))))));
+      typed = q;
+      binders =
+          h.binders;
+    }
 unary_makes Pred old new d a part made r h e q =
     let x = once d old new a part r h in
-    record { term = e ∙ (λ k. lam (continuation_type nat) (app (x k) (lam nat (app (var 1) (pred_of (var 0)))))); typed = q; binders = h.binders }
+    record {
+      term = e ∙ (λ k. lam (continuation_type nat) (app (x k) (lam nat (app (var 1) (pred_of (var 0))))));
+      typed = q;
+      binders =
+          h.binders;
+    }
 
 pub double_makes : (o : Op) (old s new : List Binder) (d : ℕ) (a b : TermTree) (left right made : Made) → AreAround d (reverse old)
     → Makes old s (context_of old) (map_of (d + 1) old) a left
     → Makes s new (context_of s) (map_of (d + 2) s) b right
-    → term_of made.term.value ≡ lam (continuation_type nat) (app (term_of left.term.value) (lam nat (app (term_of right.term.value) (lam nat (app (var 2) (binary o (var 1) (var 0)))))))
+    → term_of made.term.value ≡ lam (continuation_type nat)
+    (app (term_of left.term.value) (lam nat (app (term_of right.term.value) (lam nat (app (var 2) (binary o (var 1) (var 0)))))))
     → known_of made.ty ≡ nat
     → Makes old new (context_of old) (map_of d old) (binary o a b) made
 double_makes o old s new d a b left right made r h k e q =
     let k' = moved s old new (d + 2) b right h.binders k in
     let x = once d old s a left r h in
     let y = twice d old new b right r k' in
-    record { term = e ∙ (λ j. lam (continuation_type nat) (app (x j) (lam nat (app (y j) (lam nat (app (var 2) (binary o (var 1) (var 0)))))))); typed = q; binders = k'.binders }
+    record {
+      term = e ∙ (λ j. lam (continuation_type nat)
+          (app (x j) (lam nat (app (y j) (lam nat (app (var 2) (binary o (var 1) (var 0))))))));
+      typed = q;
+      binders = k'.binders;
+    }
 
 pub ifz_makes : (old s1 s2 new : List Binder) (d : ℕ) (c p q : TermTree) (test then else made : Made) → AreAround d (reverse old)
     → Makes old s1 (context_of old) (map_of (d + 1) old) c test
     → Makes s1 s2 (context_of s1) (map_of (d + 2) s1) p then
     → Makes s2 new (context_of s2) (map_of (d + 2) s2) q else
-    → term_of made.term.value ≡ lam (continuation_type nat) (app (term_of test.term.value) (lam nat (ifz (var 0) (app (term_of then.term.value) (var 1)) (app (term_of else.term.value) (var 1)))))
+    → term_of made.term.value ≡ lam (continuation_type nat)
+    (app (term_of test.term.value) (lam nat
+    (ifz (var 0) (app (term_of then.term.value) (var 1)) (app (term_of else.term.value) (var 1)))))
     → known_of made.ty ≡ nat
     → Makes old new (context_of old) (map_of d old) (ifz c p q) made
 ifz_makes old s1 s2 new d c p q test then else made r h i j e t =
@@ -137,7 +182,11 @@ ifz_makes old s1 s2 new d c p q test then else made r h i j e t =
     let x = once d old s1 c test r h in
     let y = twice d old s2 p then r i' in
     let z = twice d old new q else r j' in
-    record { term = e ∙ (λ k. lam (continuation_type nat) (app (x k) (lam nat (ifz (var 0) (app (y k) (var 1)) (app (z k) (var 1)))))); typed = t; binders = j'.binders }
+    record {
+      term = e ∙ (λ k. lam (continuation_type nat) (app (x k) (lam nat (ifz (var 0) (app (y k) (var 1)) (app (z k) (var 1))))));
+      typed = t;
+      binders = j'.binders;
+    }
 
 pub function_arrow : (bs new : List Binder) (d : ℕ) (f a : TermTree) (made : Made) → IsReady bs d (context_of bs) (app f a)
     → Makes bs new (context_of bs) (map_of (d + 1) bs) f made → (x y : TyTree) × (known_of made.ty ≡ arrow x y)
@@ -148,7 +197,9 @@ function_arrow bs new d f a made r h =
 pub app_makes : (old s new : List Binder) (d : ℕ) (f a : TermTree) (function argument made : Made) → AreAround d (reverse old)
     → Makes old s (context_of old) (map_of (d + 1) old) f function
     → Makes s new (context_of s) (map_of (d + 2) s) a argument
-    → term_of made.term.value ≡ lam (continuation_type (result_type (known_of function.ty))) (app (term_of function.term.value) (lam (value_type (known_of function.ty)) (app (term_of argument.term.value) (lam (value_type (argument_type (known_of function.ty))) (app (app (var 1) (var 0)) (var 2))))))
+    → term_of made.term.value ≡ lam (continuation_type (result_type (known_of function.ty)))
+    (app (term_of function.term.value) (lam (value_type (known_of function.ty))
+    (app (term_of argument.term.value) (lam (value_type (argument_type (known_of function.ty))) (app (app (var 1) (var 0)) (var 2))))))
     → known_of made.ty ≡ result_type (known_of function.ty)
     → Makes old new (context_of old) (map_of d old) (app f a) made
 app_makes old s new d f a function argument made r h k e q =
@@ -157,13 +208,15 @@ app_makes old s new d f a function argument made r h k e q =
     let y = twice d old new a argument r k' in
     let t = h.typed in
     record {
-      term = e ∙ (λ j. lam (continuation_type (result_type (t j))) (app (x j) (lam (value_type (t j)) (app (y j) (lam (value_type (argument_type (t j))) (app (app (var 1) (var 0)) (var 2)))))));
+      term = e ∙ (λ j. lam (continuation_type (result_type (t j)))
+          (app (x j) (lam (value_type (t j)) (app (y j) (lam (value_type (argument_type (t j))) (app (app (var 1) (var 0)) (var 2)))))));
       typed = q ∙ ap result_type t;
       binders = k'.binders;
     }
 
 -- the body under a binder that was pushed and taken off again
-pub body_makes : (bs s mid new : List Binder) (b : Binder) (d : ℕ) (m : TermTree) (made : Made) → s ≡ bs ++ b ∷ [] → b.level ≡ d → AreAround d (reverse bs)
+pub body_makes : (bs s mid new : List Binder) (b : Binder) (d : ℕ) (m : TermTree) (made : Made) → s ≡ bs ++ b ∷ [] →
+    b.level ≡ d → AreAround d (reverse bs)
     → Makes s mid (context_of s) (map_of (d + 1) s) m made → new ≡ bs
     → Makes bs new (ty_of b.ty.now ∷ context_of bs) (under (map_of d bs)) m made
 body_makes bs s mid new b d m made e l r h n =
@@ -171,25 +224,34 @@ body_makes bs s mid new b d m made e l r h n =
     let f = ap (map_of (d + 1)) e ∙ map_pushed d bs b l r in
     record { term = h.term ∙ (λ k. cps (g k) (f k) m); typed = h.typed ∙ ap (λ g. type_in g m) g; binders = n }
 
-pub function_makes : (bs s mid new : List Binder) (b : Binder) (d : ℕ) (a : TyTree) (m : TermTree) (body : Made) (made : Term) → s ≡ bs ++ b ∷ [] → b.level ≡ d → AreAround d (reverse bs)
+pub function_makes : (bs s mid new : List Binder) (b : Binder) (d : ℕ) (a : TyTree) (m : TermTree) (body : Made) (made : Term) →
+    s ≡ bs ++ b ∷ [] → b.level ≡ d → AreAround d (reverse bs)
     → Makes s mid (a ∷ context_of s) (under (map_of (d + 1) s)) m body → new ≡ bs
     → term_of made ≡ lam (value_type a) (term_of body.term.value)
     → MakesFunction bs new d (ty_of b.ty.now) a m made
 function_makes bs s mid new b d a m body made e l r h n t =
     let g = ap context_of e ∙ context_pushed bs b in
     let f = ap (map_of (d + 1)) e ∙ map_pushed d bs b l r in
-    let x : term_of body.term.value ≡ cps (a ∷ ty_of b.ty.now ∷ context_of bs) (under (under (map_of d bs))) m = h.term ∙ (λ k. cps (a ∷ g k) (under (f k)) m) in
+    let x : term_of body.term.value ≡ cps (a ∷ ty_of b.ty.now ∷ context_of bs) (under (under (map_of d bs))) m = h.term ∙
+    (λ k. cps (a ∷ g k) (under (f k)) m) in
     record { term = t ∙ ap (lam (value_type a)) x; binders = n }
 
 pub fun_makes : (old new : List Binder) (d : ℕ) (a : TyTree) (m : TermTree) (body made : Made) → AreAround d (reverse old)
     → Makes old new (a ∷ context_of old) (under (map_of (d + 1) old)) m body
-    → term_of made.term.value ≡ lam (continuation_type (arrow a (known_of body.ty))) (app (var 0) (lam (value_type a) (term_of body.term.value)))
+    → term_of made.term.value ≡ lam (continuation_type (arrow a (known_of body.ty)))
+    (app (var 0) (lam (value_type a) (term_of body.term.value)))
     → known_of made.ty ≡ arrow a (known_of body.ty)
     → Makes old new (context_of old) (map_of d old) (lam a m) made
 fun_makes old new d a m body made r h e q =
-    let x : term_of body.term.value ≡ cps (a ∷ context_of old) (under (beside (map_of d old))) m = h.term ∙ ap (λ f. cps (a ∷ context_of old) (under f) m) (map_beside d old r) in
+    let x : term_of body.term.value ≡ cps (a ∷ context_of old) (under (beside (map_of d old))) m = h.term ∙
+    ap (λ f. cps (a ∷ context_of old) (under f) m) (map_beside d old r) in
     let t = h.typed in
-    record { term = e ∙ (λ k. lam (continuation_type (arrow a (t k))) (app (var 0) (lam (value_type a) (x k)))); typed = q ∙ ap (arrow a) t; binders = h.binders }
+    record {
+      term = e ∙ (λ k. lam (continuation_type (arrow a (t k))) (app (var 0) (lam (value_type a) (x k))));
+      typed = q ∙
+          ap (arrow a) t;
+      binders = h.binders;
+    }
 
 fix_makes_of : (old new : List Binder) (d : ℕ) (f a : TyTree) (m : TermTree) (function : Term) (made : Made) → AreAround d (reverse old)
     → MakesFunction old new (d + 1) f a m function
@@ -197,10 +259,12 @@ fix_makes_of : (old new : List Binder) (d : ℕ) (f a : TyTree) (m : TermTree) (
     → known_of made.ty ≡ f
     → Makes old new (context_of old) (map_of d old) (fix f (lam a m)) made
 fix_makes_of old new d f a m function made r h e q =
-    let x : term_of function ≡ lam (value_type a) (cps (a ∷ f ∷ context_of old) (under (under (beside (map_of d old)))) m) = h.term ∙ ap (λ p. lam (value_type a) (cps (a ∷ f ∷ context_of old) (under (under p)) m)) (map_beside d old r) in
+    let x : term_of function ≡ lam (value_type a) (cps (a ∷ f ∷ context_of old) (under (under (beside (map_of d old)))) m) =
+    h.term ∙ ap (λ p. lam (value_type a) (cps (a ∷ f ∷ context_of old) (under (under p)) m)) (map_beside d old r) in
     record { term = e ∙ ap (λ t. lam (continuation_type f) (app (var 0) (fix (value_type f) t))) x; typed = q; binders = h.binders }
 
-pub fix_makes : (old new : List Binder) (d : ℕ) (f a : TyTree) (m whole : TermTree) (function : Term) (made : Made) → whole ≡ lam a m → AreAround d (reverse old)
+pub fix_makes : (old new : List Binder) (d : ℕ) (f a : TyTree) (m whole : TermTree) (function : Term) (made : Made) →
+    whole ≡ lam a m → AreAround d (reverse old)
     → MakesFunction old new (d + 1) f a m function
     → term_of made.term.value ≡ lam (continuation_type f) (app (var 0) (fix (value_type f) (term_of function)))
     → known_of made.ty ≡ f
@@ -213,12 +277,14 @@ unary_height Succ a = refl
 unary_height Pred a = refl
 
 -- of two facts on what is answered, a third
-pub both_ok : {A E : Type 0} (r : Result A E) (P Q R : A → Type 0) → ((a : A) → P a → Q a → R a) → IfOk r P → IfOk r Q → IfOk r R
+pub both_ok : {A E : Type 0} (r : Result A E) (P Q R : A → Type 0) → ((a : A) → P a → Q a → R a) → IfOk r P → IfOk r Q →
+    IfOk r R
 both_ok (Ok a) P Q R f p q = f a p q
 both_ok (Err e) P Q R f p q = p
 
 -- the whole program, under no binders
-pub start_ready : (bs : List Binder) (m : TermTree) → bs ≡ [] → HasType [] m nat → HasTranslation m → IsReady bs 0 (context_of bs) m
+pub start_ready : (bs : List Binder) (m : TermTree) → bs ≡ [] → HasType [] m nat → HasTranslation m →
+    IsReady bs 0 (context_of bs) m
 start_ready bs m e h t = subst (λ s. IsReady s 0 (context_of s) m) (sym e) (record { taken = t; typed = (nat, h); around = tt })
 
 start_map : map_of 0 [] ≡ (λ i. i)
@@ -227,7 +293,8 @@ start_map = λ k i. stays i k
     stays : (i : ℕ) → i + 0 ≡ i
     stays i = omega arith
 
-pub start_makes : (bs new : List Binder) (m : TermTree) (made : Made) (whole : Term) → bs ≡ [] → Makes bs new (context_of bs) (map_of 0 bs) m made
+pub start_makes : (bs new : List Binder) (m : TermTree) (made : Made) (whole : Term) → bs ≡ [] →
+    Makes bs new (context_of bs) (map_of 0 bs) m made
     → term_of whole ≡ app (term_of made.term.value) (lam nat (var 0)) → term_of whole ≡ translated m
 start_makes bs new m made whole e h q =
     let h' = subst (λ s. Makes s new (context_of s) (map_of 0 s) m made) e h in

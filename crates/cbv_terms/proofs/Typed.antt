@@ -1,9 +1,12 @@
 -- The translation has the type that it is to have, and its size and height are bounded.
-use Rattle.std.proofs.Common.{◌≡◌, ℕ, zero, suc, ◌+◌, ◌*◌, ◌<◌, ◌≤◌, List, [], ◌∷◌, Some, refl, sym, ap, ◌∙◌, subst, arith}
+use Rattle.std.proofs.Common.{◌≡◌, ℕ, zero, suc, ◌+◌, ◌*◌, ◌<◌, ◌≤◌, List, [], ◌∷◌, Some, refl, sym, ap}
+use Rattle.std.proofs.Common.{◌∙◌, subst, arith}
 use Rattle.std.specs.Prelude.{slice_get}
-use Rattle.pcf_values.specs.Terms.{TyTree, nat, arrow, TermTree, num, var, succ_of, pred_of, binary, ifz, lam, fix, app, pair, proj, size, height}
+use Rattle.pcf_values.specs.Terms.{TyTree, nat, arrow, TermTree, num, var, succ_of, pred_of, binary, ifz, lam, fix, app, pair, proj, size}
+use Rattle.pcf_values.specs.Terms.{height}
 use Rattle.pcf_values.specs.Typing.{HasType}
-use Rattle.cbv_terms.specs.Translation.{HasTranslation, Accepted, type_at, argument_type, result_type, type_in, value_type, continuation_type, beside, under, cps, translated}
+use Rattle.cbv_terms.specs.Translation.{HasTranslation, Accepted, type_at, argument_type, result_type, type_in, value_type}
+use Rattle.cbv_terms.specs.Translation.{continuation_type, beside, under, cps, translated}
 
 pub size_cps : (m : TermTree) (g : List TyTree) (e : ℕ → ℕ) → size (cps g e m) ≤ 10 * size m
 size_cps (num n) g e = omega arith
@@ -41,7 +44,8 @@ height_cps (num n) g e = omega arith
 height_cps (var i) g e = omega arith
 height_cps (succ_of a) g e = let p = height_cps a g (beside e) in let z = height_positive a in omega arith
 height_cps (pred_of a) g e = let p = height_cps a g (beside e) in let z = height_positive a in omega arith
-height_cps (binary o a b) g e = let p = height_cps a g (beside e) in let q = height_cps b g (beside (beside e)) in let z = height_positive a in omega arith
+height_cps (binary o a b) g e = let p = height_cps a g (beside e) in let q = height_cps b g (beside (beside e)) in
+    let z = height_positive a in omega arith
 height_cps (ifz c a b) g e =
     let r = height_cps c g (beside e) in
     let p = height_cps a g (beside (beside e)) in
@@ -49,9 +53,11 @@ height_cps (ifz c a b) g e =
     let z = height_positive c in
     omega arith
 height_cps (lam a m) g e = let p = height_cps m (a ∷ g) (under (beside e)) in let z = height_positive m in omega arith
-height_cps (fix a (lam c m)) g e = let p = height_cps m (c ∷ a ∷ g) (under (under (beside e))) in let z = height_positive m in omega arith
+height_cps (fix a (lam c m)) g e = let p = height_cps m (c ∷ a ∷ g) (under (under (beside e))) in let z = height_positive m in
+    omega arith
 height_cps (fix a m) g e = omega arith
-height_cps (app f x) g e = let p = height_cps f g (beside e) in let q = height_cps x g (beside (beside e)) in let z = height_positive f in omega arith
+height_cps (app f x) g e = let p = height_cps f g (beside e) in let q = height_cps x g (beside (beside e)) in let z = height_positive f in
+    omega arith
 height_cps (pair a b) g e = omega arith
 height_cps (proj s a) g e = omega arith
 
@@ -85,9 +91,14 @@ placed_under : (g d : List TyTree) (e : ℕ → ℕ) (a : TyTree) → Placed g e
 placed_under g d e a h zero b q = let p : a ≡ b = cc in ap (λ c. Some (value_type c)) p
 placed_under g d e a h (suc i) b q = h i b q
 
-pub cps_typed : (m : TermTree) (g d : List TyTree) (t : TyTree) (e : ℕ → ℕ) → HasTranslation m → HasType g m t → Placed g e d → Takes d (cps g e m) t
+pub cps_typed : (m : TermTree) (g d : List TyTree) (t : TyTree) (e : ℕ → ℕ) → HasTranslation m → HasType g m t →
+    Placed g e d → Takes d (cps g e m) t
 cps_typed (num n) g d t e a h p = subst (Takes d (cps g e (num n))) (sym h.1) (nat, (nat, refl, (h.0, refl)), refl)
-cps_typed (var i) g d t e a h p = subst (Takes d (cps g e (var i))) (sym (type_at_nth g i t h)) (nat, (value_type (type_at g i), refl, p i (type_at g i) (h ∙ ap Some (type_at_nth g i t h))), refl)
+cps_typed (var i) g d t e a h p = subst (Takes d (cps g e (var i))) (sym (type_at_nth g i t h)) (
+  nat,
+  (value_type (type_at g i), refl, p i (type_at g i) (h ∙ ap Some (type_at_nth g i t h))),
+  refl,
+)
 cps_typed (succ_of m) g d t e a h p =
     let ih = cps_typed m g (continuation_type nat ∷ d) nat (beside e) a h.0 p in
     subst (Takes d (cps g e (succ_of m))) (sym h.1) (nat, (continuation_type nat, ih, (nat, (nat, refl, (refl, refl)), refl)), refl)
@@ -97,30 +108,55 @@ cps_typed (pred_of m) g d t e a h p =
 cps_typed (binary o m n) g d t e a h p =
     let i1 = cps_typed m g (continuation_type nat ∷ d) nat (beside e) a.0 h.0 p in
     let i2 = cps_typed n g (nat ∷ continuation_type nat ∷ d) nat (beside (beside e)) a.1 h.1 p in
-    subst (Takes d (cps g e (binary o m n))) (sym h.2) (nat, (continuation_type nat, i1, (nat, (continuation_type nat, i2, (nat, (nat, refl, (refl, refl, refl)), refl)), refl)), refl)
+    subst (Takes d (cps g e (binary o m n))) (sym h.2)
+    (nat, (continuation_type nat, i1, (nat, (continuation_type nat, i2, (nat, (nat, refl, (refl, refl, refl)), refl)), refl)), refl)
 cps_typed (ifz c m n) g d t e a h p =
     let i1 = cps_typed c g (continuation_type nat ∷ d) nat (beside e) a.0 h.0 p in
     let i2 = cps_typed m g (nat ∷ continuation_type nat ∷ d) nat (beside (beside e)) a.1 h.1 p in
     let i3 = cps_typed n g (nat ∷ continuation_type nat ∷ d) nat (beside (beside e)) a.2 h.2 p in
-    subst (Takes d (cps g e (ifz c m n))) (sym h.3) (nat, (continuation_type nat, i1, (nat, (refl, (continuation_type nat, i2, refl), (continuation_type nat, i3, refl), refl), refl)), refl)
+    subst (Takes d (cps g e (ifz c m n))) (sym h.3) (
+      nat,
+      (continuation_type nat, i1, (nat, (refl, (continuation_type nat, i2, refl), (continuation_type nat, i3, refl), refl), refl)),
+      refl,
+    )
 cps_typed (lam b m) g d t e a h p =
     let c = type_in (b ∷ g) m in
     let hm : HasType (b ∷ g) m c = subst (HasType (b ∷ g) m) (typed_in m (b ∷ g) h.0 a.1 h.1) h.1 in
-    let ih = cps_typed m (b ∷ g) (value_type b ∷ continuation_type (arrow b c) ∷ d) c (under (beside e)) a.1 hm (placed_under g (continuation_type (arrow b c) ∷ d) (beside e) b p) in
-    subst (Takes d (cps g e (lam b m))) (sym (typed_in (lam b m) g t a h)) (nat, (value_type (arrow b c), refl, (arrow (continuation_type c) nat, ih, refl)), refl)
+    let ih = cps_typed m (b ∷ g) (value_type b ∷ continuation_type (arrow b c) ∷
+    d) c (under (beside e)) a.1 hm (placed_under g (continuation_type (arrow b c) ∷ d) (beside e) b p) in
+    subst (Takes d (cps g e (lam b m))) (sym (typed_in (lam b m) g t a h)) (
+      nat,
+      (value_type (arrow b c), refl, (arrow (continuation_type c) nat, ih, refl)),
+      refl,
+    )
 cps_typed (fix (arrow b z) (lam c m)) g d t e a h p =
     let (y, hm, q) = h.0 in
     let d' = value_type c ∷ value_type (arrow b z) ∷ continuation_type (arrow b z) ∷ d in
-    let ih = cps_typed m (c ∷ arrow b z ∷ g) d' y (under (under (beside e))) a.2 hm (placed_under (arrow b z ∷ g) (value_type (arrow b z) ∷ continuation_type (arrow b z) ∷ d) (under (beside e)) c (placed_under g (continuation_type (arrow b z) ∷ d) (beside e) (arrow b z) p)) in
-    subst (Takes d (cps g e (fix (arrow b z) (lam c m)))) (sym h.1) (nat, (value_type (arrow b z), refl, ((arrow (continuation_type y) nat, ih, ap value_type q), refl)), refl)
+    let ih = cps_typed m (c ∷ arrow b z ∷ g) d' y (under (under (beside e))) a.2 hm
+    (placed_under (arrow b z ∷ g) (value_type (arrow b z) ∷ continuation_type (arrow b z) ∷
+    d) (under (beside e)) c (placed_under g (continuation_type (arrow b z) ∷ d) (beside e) (arrow b z) p)) in
+    subst (Takes d (cps g e (fix (arrow b z) (lam c m)))) (sym h.1) (
+      nat,
+      (value_type (arrow b z), refl, ((arrow (continuation_type y) nat, ih, ap value_type q), refl)),
+      refl,
+    )
 cps_typed (fix b m) g d t e a h p = elim a [ ]
 cps_typed (app f x) g d t e a h p =
     let (b, hf, hx) = h in
     let q = typed_in f g (arrow b t) a.0 hf in
     let i1 = cps_typed f g (continuation_type t ∷ d) (arrow b t) (beside e) a.0 hf p in
     let i2 = cps_typed x g (value_type (arrow b t) ∷ continuation_type t ∷ d) b (beside (beside e)) a.1 hx p in
-    subst (λ z. Takes d (lam (continuation_type (result_type z)) (app (cps g (beside e) f) (lam (value_type z) (app (cps g (beside (beside e)) x) (lam (value_type (argument_type z)) (app (app (var 1) (var 0)) (var 2))))))) t) q
-    (nat, (continuation_type (arrow b t), i1, (nat, (continuation_type b, i2, (nat, (continuation_type t, (value_type b, refl, refl), refl), refl)), refl)), refl)
+    subst (λ z. Takes d (lam (continuation_type (result_type z))
+    (app (cps g (beside e) f) (lam (value_type z)
+    (app (cps g (beside (beside e)) x) (lam (value_type (argument_type z)) (app (app (var 1) (var 0)) (var 2))))))) t) q (
+      nat,
+      (
+        continuation_type (arrow b t),
+        i1,
+        (nat, (continuation_type b, i2, (nat, (continuation_type t, (value_type b, refl, refl), refl), refl)), refl),
+      ),
+      refl,
+    )
 cps_typed (pair m n) g d t e a h p = elim a [ ]
 cps_typed (proj s m) g d t e a h p = elim a [ ]
 

@@ -3,7 +3,8 @@
 -- pair. Places are those of the program's text.
 use Rattle.std.specs.Prelude.{◌≡◌, ◌⊎◌, ◌<◌, ◌≤◌, ℕ, Bool, true, false}
 use Rattle.pcf_values.specs.Terms.{TyTree, arrow}
-use Rattle.pcf_values.specs.Named.{the_succ, the_pred, the_fst, the_snd, the_fun, the_fix, NamedTree, number_at, name_at, word_at, binary_at, pair_at, ifz_at, bind_at, apply_at, named_height}
+use Rattle.pcf_values.specs.Named.{the_succ, the_pred, the_fst, the_snd, the_fun, the_fix, NamedTree, number_at, name_at, word_at}
+use Rattle.pcf_values.specs.Named.{binary_at, pair_at, ifz_at, bind_at, apply_at, named_height}
 use Rattle.cbv_terms.specs.declared.fault.ByValueFault.{ByValueFault}
 use Rattle.cbv_terms.specs.declared.fault.ByValueFault.TheVariants.{NoMemory, ByValueFix, ByValuePair, ByValueDeep}
 use Rattle.cbv_terms.specs.declared.limit.TheConstants.{BY_VALUE_HEIGHT}

@@ -6,7 +6,8 @@
 -- only makes the map's numbers larger, nothing that is translated has to be moved, and no name can be captured.
 -- Forms that have no translation have the number 0 in its place, which is never looked at.
 use Rattle.std.specs.Prelude.{◌≡◌, ◌≤◌, ℕ, zero, suc, Bool, true, false, ◌||◌, List, [], ◌∷◌}
-use Rattle.pcf_values.specs.Terms.{TyTree, nat, arrow, product, TermTree, num, var, succ_of, pred_of, binary, ifz, lam, fix, app, pair, proj, height}
+use Rattle.pcf_values.specs.Terms.{TyTree, nat, arrow, product, TermTree, num, var, succ_of, pred_of, binary, ifz, lam, fix, app, pair}
+use Rattle.pcf_values.specs.Terms.{proj, height}
 use Rattle.cbv_terms.specs.declared.limit.TheConstants.{BY_VALUE_HEIGHT}
 
 -- whether a part of the type is a product

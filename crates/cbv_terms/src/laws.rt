@@ -1,7 +1,8 @@
 //! What the translation is worth.
 
 ghost use Rattle.cbv_terms.specs.Examples.{ExampleValues, ExampleFaults};
-ghost use Rattle.cbv_terms.specs.Laws.{SameValues, TranslatedIsTyped, TranslatedSize, TranslatedHeight, MoreDepth, OneValue, FaultlessIsAccepted, SomeFirstFault, OneFirstFault};
+ghost use Rattle.cbv_terms.specs.Laws.{SameValues, TranslatedIsTyped, TranslatedSize, TranslatedHeight, MoreDepth, OneValue};
+ghost use Rattle.cbv_terms.specs.Laws.{FaultlessIsAccepted, SomeFirstFault, OneFirstFault};
 
 /// A closed term of type `nat` means a value by value exactly where its translation means it by name.
 pub fn law_by_value()

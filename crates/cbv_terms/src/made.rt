@@ -55,7 +55,8 @@ fn pass(alloc: Global, part: Box<Term>, ty: Ty, body: Box<Term>) -> Result<Box<T
 
 /// `fun k. k what`, of a term that stands for a result of this type.
 pub(crate) fn hand_on<'p>(alloc: Global, what: Term, ty: Known<'p>) -> Result<Made<'p>, AllocError>
-    ensures term { IfOk result (λ made. term_of made.term.value ≡ lam (continuation_type (known_of ty.entry)) (app (var 0) (term_of what))) }
+    ensures term { IfOk result (λ made. term_of made.term.value ≡ lam (continuation_type (known_of ty.entry))
+        (app (var 0) (term_of what))) }
     ensures typed { IfOk result (λ made. known_of made.ty ≡ known_of ty.entry) }
 {
     let body = hand(alloc, 0, what)?;
@@ -68,7 +69,9 @@ pub(crate) fn close_fun<'p>(
     from: &'p Ty,
     body: Made<'p>,
 ) -> Result<Made<'p>, AllocError>
-    ensures term { IfOk result (λ made. term_of made.term.value ≡ lam (continuation_type (arrow (ty_of from.now) (known_of body.entry.ty))) (app (var 0) (lam (value_type (ty_of from.now)) (term_of body.entry.term.value)))) }
+    ensures term { IfOk result (λ made. term_of made.term.value ≡ lam
+        (continuation_type (arrow (ty_of from.now) (known_of body.entry.ty)))
+        (app (var 0) (lam (value_type (ty_of from.now)) (term_of body.entry.term.value)))) }
     ensures typed { IfOk result (λ made. known_of made.ty ≡ arrow (ty_of from.now) (known_of body.entry.ty)) }
 {
     let to = Box::new(alloc, body.ty)?;
@@ -86,7 +89,8 @@ pub(crate) fn close_fix<'p>(
     ty: &'p Ty,
     function: Box<Term>,
 ) -> Result<Made<'p>, AllocError>
-    ensures term { IfOk result (λ made. term_of made.term.value ≡ lam (continuation_type (ty_of ty.now)) (app (var 0) (fix (value_type (ty_of ty.now)) (term_of function.value)))) }
+    ensures term { IfOk result (λ made. term_of made.term.value ≡ lam (continuation_type (ty_of ty.now))
+        (app (var 0) (fix (value_type (ty_of ty.now)) (term_of function.value)))) }
     ensures typed { IfOk result (λ made. known_of made.ty ≡ ty_of ty.now) }
 {
     let all = value_type(alloc, ty)?;
@@ -99,7 +103,8 @@ pub(crate) fn close_unary<'p>(
     form: Unary,
     a: Box<Term>,
 ) -> Result<Made<'p>, AllocError>
-    ensures term { IfOk result (λ made. term_of made.term.value ≡ lam (continuation_type nat) (app (term_of a.value) (lam nat (app (var 1) (unary_of form (var 0)))))) }
+    ensures term { IfOk result (λ made. term_of made.term.value ≡ lam (continuation_type nat)
+        (app (term_of a.value) (lam nat (app (var 1) (unary_of form (var 0)))))) }
     ensures typed { IfOk result (λ made. known_of made.ty ≡ nat) }
 {
     let m = Box::new(alloc, Term::Var(0))?;
@@ -124,7 +129,8 @@ pub(crate) fn close_double<'p>(
     a: Box<Term>,
     b: Box<Term>,
 ) -> Result<Made<'p>, AllocError>
-    ensures term { IfOk result (λ made. term_of made.term.value ≡ lam (continuation_type nat) (app (term_of a.value) (lam nat (app (term_of b.value) (lam nat (app (var 2) (binary (op_of form) (var 1) (var 0)))))))) }
+    ensures term { IfOk result (λ made. term_of made.term.value ≡ lam (continuation_type nat)
+        (app (term_of a.value) (lam nat (app (term_of b.value) (lam nat (app (var 2) (binary (op_of form) (var 1) (var 0)))))))) }
     ensures typed { IfOk result (λ made. known_of made.ty ≡ nat) }
 {
     let done = operate(alloc, form)?;
@@ -150,7 +156,8 @@ pub(crate) fn close_ifz<'p>(
     p: Box<Term>,
     q: Box<Term>,
 ) -> Result<Made<'p>, AllocError>
-    ensures term { IfOk result (λ made. term_of made.term.value ≡ lam (continuation_type nat) (app (term_of c.value) (lam nat (ifz (var 0) (app (term_of p.value) (var 1)) (app (term_of q.value) (var 1)))))) }
+    ensures term { IfOk result (λ made. term_of made.term.value ≡ lam (continuation_type nat)
+        (app (term_of c.value) (lam nat (ifz (var 0) (app (term_of p.value) (var 1)) (app (term_of q.value) (var 1)))))) }
     ensures typed { IfOk result (λ made. known_of made.ty ≡ nat) }
 {
     let chosen = choose(alloc, p, q)?;
@@ -168,7 +175,8 @@ fn call(alloc: Global) -> Result<Box<Term>, AllocError>
 
 /// `a (fun x:A'. g x k)`, where x, g and k are the variables of indexes 0 to 2.
 fn call_with(alloc: Global, a: Box<Term>, from: &Ty) -> Result<Box<Term>, AllocError>
-    ensures { IfOk result (λ t. term_of t.value ≡ app (term_of a.value) (lam (value_type (ty_of from.now)) (app (app (var 1) (var 0)) (var 2)))) }
+    ensures { IfOk result (λ t. term_of t.value ≡ app (term_of a.value)
+        (lam (value_type (ty_of from.now)) (app (app (var 1) (var 0)) (var 2)))) }
 {
     let called = call(alloc)?;
     let from = value_type(alloc, from)?;
@@ -182,7 +190,9 @@ pub(crate) fn close_app<'p>(
     a: Box<Term>,
 ) -> Result<Made<'p>, AllocError>
     requires { (a b : TyTree) × (known_of f.ty ≡ arrow a b) }
-    ensures term { IfOk result (λ made. term_of made.term.value ≡ lam (continuation_type (result_type (known_of f.entry.ty))) (app (term_of f.entry.term.value) (lam (value_type (known_of f.entry.ty)) (app (term_of a.value) (lam (value_type (argument_type (known_of f.entry.ty))) (app (app (var 1) (var 0)) (var 2))))))) }
+    ensures term { IfOk result (λ made. term_of made.term.value ≡ lam (continuation_type (result_type (known_of f.entry.ty)))
+        (app (term_of f.entry.term.value) (lam (value_type (known_of f.entry.ty))
+        (app (term_of a.value) (lam (value_type (argument_type (known_of f.entry.ty))) (app (app (var 1) (var 0)) (var 2))))))) }
     ensures typed { IfOk result (λ made. known_of made.ty ≡ result_type (known_of f.entry.ty)) }
 {
     let whole = f.ty.value_type(alloc)?;

@@ -4,7 +4,8 @@
 //! of the translated term stand around its own, so that an index is the difference to the depth at hand, and a variable is looked up
 //! in constant time. Each form has a function of its own, so that no frame is large.
 
-ghost use Rattle.std.specs.Prelude.{◌≡◌, ◌+◌, ◌*◌, ◌<◌, ◌^◌, suc, ◌∷◌, [], length, reverse, slice_get, Some, IfOk};
+ghost use Rattle.std.specs.Prelude.{◌≡◌, ◌+◌, ◌*◌, ◌<◌, ◌^◌, suc, ◌∷◌, [], length, reverse, slice_get, Some};
+ghost use Rattle.std.specs.Prelude.{IfOk};
 ghost use Rattle.pcf_values.specs.Terms.{nat, var, binary, ifz, lam, fix, app, height};
 ghost use Rattle.pcf_values.specs.Typing.{HasType};
 ghost use Rattle.pcf_values.specs.Views.{term_of, ty_of};
@@ -43,7 +44,8 @@ fn translate<'p>(
 ) -> Result<Made<'p>, AllocError>
     requires ready { IsReady binders.old.items depth (context_of binders.old.items) (term_of term.now) }
     requires room { depth + 5 * height (term_of term.now) < 2 ^ 32 }
-    ensures { IfOk result (Makes binders.old.items binders.new.items (context_of binders.old.items) (map_of depth binders.old.items) (term_of term.now)) }
+    ensures { IfOk result (Makes binders.old.items binders.new.items (context_of binders.old.items) (map_of depth binders.old.items)
+        (term_of term.now)) }
 {
     match term {
         Term::Number(n) => hand_on(alloc, Term::Number(*n), Known::Nat),
@@ -69,7 +71,8 @@ fn translate_variable<'p>(
     i: u32,
 ) -> Result<Made<'p>, AllocError>
     requires ready { IsReady binders.now.items depth (context_of binders.now.items) (var i) }
-    ensures { IfOk result (Makes binders.now.items binders.now.items (context_of binders.now.items) (map_of depth binders.now.items) (var i)) }
+    ensures { IfOk result (Makes binders.now.items binders.now.items (context_of binders.now.items) (map_of depth binders.now.items)
+        (var i)) }
 {
     let binder = binder_of(binders, i);
     hand_on(
@@ -98,7 +101,8 @@ fn translate_unary<'p>(
 ) -> Result<Made<'p>, AllocError>
     requires ready { IsReady binders.old.items depth (context_of binders.old.items) (unary_of form (term_of a.now)) }
     requires room { depth + 5 * height (unary_of form (term_of a.now)) < 2 ^ 32 }
-    ensures { IfOk result (Makes binders.old.items binders.new.items (context_of binders.old.items) (map_of depth binders.old.items) (unary_of form (term_of a.now))) }
+    ensures { IfOk result (Makes binders.old.items binders.new.items (context_of binders.old.items) (map_of depth binders.old.items)
+        (unary_of form (term_of a.now))) }
 {
     let a = translate(alloc, binders, depth + 1, a)?;
     close_unary(alloc, form, a.term)
@@ -116,7 +120,8 @@ fn translate_double<'p>(
 ) -> Result<Made<'p>, AllocError>
     requires ready { IsReady binders.old.items depth (context_of binders.old.items) (binary (op_of form) (term_of a.now) (term_of b.now)) }
     requires room { depth + 5 * height (binary (op_of form) (term_of a.now) (term_of b.now)) < 2 ^ 32 }
-    ensures { IfOk result (Makes binders.old.items binders.new.items (context_of binders.old.items) (map_of depth binders.old.items) (binary (op_of form) (term_of a.now) (term_of b.now))) }
+    ensures { IfOk result (Makes binders.old.items binders.new.items (context_of binders.old.items) (map_of depth binders.old.items)
+        (binary (op_of form) (term_of a.now) (term_of b.now))) }
 {
     let a = translate(alloc, binders, depth + 1, a)?;
     let b = translate(alloc, binders, depth + 2, b)?;
@@ -135,7 +140,8 @@ fn translate_ifz<'p>(
 ) -> Result<Made<'p>, AllocError>
     requires ready { IsReady binders.old.items depth (context_of binders.old.items) (ifz (term_of c.now) (term_of p.now) (term_of q.now)) }
     requires room { depth + 5 * height (ifz (term_of c.now) (term_of p.now) (term_of q.now)) < 2 ^ 32 }
-    ensures { IfOk result (Makes binders.old.items binders.new.items (context_of binders.old.items) (map_of depth binders.old.items) (ifz (term_of c.now) (term_of p.now) (term_of q.now))) }
+    ensures { IfOk result (Makes binders.old.items binders.new.items (context_of binders.old.items) (map_of depth binders.old.items)
+        (ifz (term_of c.now) (term_of p.now) (term_of q.now))) }
 {
     let c = translate(alloc, binders, depth + 1, c)?;
     let p = translate(alloc, binders, depth + 2, p)?;
@@ -154,7 +160,8 @@ fn translate_fun<'p>(
 ) -> Result<Made<'p>, AllocError>
     requires ready { IsReady binders.old.items depth (context_of binders.old.items) (lam (ty_of ty.now) (term_of body.now)) }
     requires room { depth + 5 * height (lam (ty_of ty.now) (term_of body.now)) < 2 ^ 32 }
-    ensures { IfOk result (Makes binders.old.items binders.new.items (context_of binders.old.items) (map_of depth binders.old.items) (lam (ty_of ty.now) (term_of body.now))) }
+    ensures { IfOk result (Makes binders.old.items binders.new.items (context_of binders.old.items) (map_of depth binders.old.items)
+        (lam (ty_of ty.now) (term_of body.now))) }
 {
     let body = translate_body(alloc, binders, depth + 1, ty, body)?;
     close_fun(alloc, ty, body)
@@ -171,7 +178,8 @@ fn translate_fix<'p>(
 ) -> Result<Made<'p>, AllocError>
     requires ready { IsReady binders.old.items depth (context_of binders.old.items) (fix (ty_of ty.now) (term_of function.now)) }
     requires room { depth + 5 * height (fix (ty_of ty.now) (term_of function.now)) < 2 ^ 32 }
-    ensures { IfOk result (Makes binders.old.items binders.new.items (context_of binders.old.items) (map_of depth binders.old.items) (fix (ty_of ty.now) (term_of function.now))) }
+    ensures { IfOk result (Makes binders.old.items binders.new.items (context_of binders.old.items) (map_of depth binders.old.items)
+        (fix (ty_of ty.now) (term_of function.now))) }
 {
     match function {
         Term::Fun(argument, body) => {
@@ -192,9 +200,11 @@ fn translate_function<'p>(
     argument: &'p Ty,
     body: &'p Term,
 ) -> Result<Box<Term>, AllocError>
-    requires ready { IsReady binders.old.items depth (ty_of argument.now ∷ ty_of ty.now ∷ context_of binders.old.items) (term_of body.now) }
+    requires ready { IsReady binders.old.items depth (ty_of argument.now ∷ ty_of ty.now ∷
+        context_of binders.old.items) (term_of body.now) }
     requires room { suc (suc depth) + 5 * height (term_of body.now) < 2 ^ 32 }
-    ensures { IfOk result (λ t. MakesFunction binders.old.items binders.new.items depth (ty_of ty.now) (ty_of argument.now) (term_of body.now) t.value) }
+    ensures { IfOk result (λ t. MakesFunction binders.old.items binders.new.items depth (ty_of ty.now) (ty_of argument.now)
+        (term_of body.now) t.value) }
 {
     binders.push(Binder { ty, level: depth })?;
     let body = translate_body(alloc, binders, depth + 1, argument, body)?;
@@ -214,7 +224,8 @@ fn translate_body<'p>(
 ) -> Result<Made<'p>, AllocError>
     requires ready { IsReady binders.old.items depth (ty_of ty.now ∷ context_of binders.old.items) (term_of body.now) }
     requires room { suc depth + 5 * height (term_of body.now) < 2 ^ 32 }
-    ensures { IfOk result (Makes binders.old.items binders.new.items (ty_of ty.now ∷ context_of binders.old.items) (under (map_of depth binders.old.items)) (term_of body.now)) }
+    ensures { IfOk result (Makes binders.old.items binders.new.items (ty_of ty.now ∷ context_of binders.old.items)
+        (under (map_of depth binders.old.items)) (term_of body.now)) }
 {
     binders.push(Binder { ty, level: depth })?;
     let made = translate(alloc, binders, depth + 1, body)?;
@@ -233,7 +244,8 @@ fn translate_app<'p>(
 ) -> Result<Made<'p>, AllocError>
     requires ready { IsReady binders.old.items depth (context_of binders.old.items) (app (term_of f.now) (term_of a.now)) }
     requires room { depth + 5 * height (app (term_of f.now) (term_of a.now)) < 2 ^ 32 }
-    ensures { IfOk result (Makes binders.old.items binders.new.items (context_of binders.old.items) (map_of depth binders.old.items) (app (term_of f.now) (term_of a.now))) }
+    ensures { IfOk result (Makes binders.old.items binders.new.items (context_of binders.old.items) (map_of depth binders.old.items)
+        (app (term_of f.now) (term_of a.now))) }
 {
     let f = translate(alloc, binders, depth + 1, f)?;
     let a = translate(alloc, binders, depth + 2, a)?;

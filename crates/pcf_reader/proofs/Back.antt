@@ -1,5 +1,6 @@
 -- What is printed of a tree that was read is read back.
-use Rattle.std.proofs.Common.{◌≡◌, ℕ, suc, ◌+◌, ◌≤◌, List, [], ◌∷◌, ◌++◌, map, length, refl, sym, ap, ◌∙◌, subst, arith, append-nil}
+use Rattle.std.proofs.Common.{◌≡◌, ℕ, suc, ◌+◌, ◌≤◌, List, [], ◌∷◌, ◌++◌, map, length, refl, sym, ap, ◌∙◌}
+use Rattle.std.proofs.Common.{subst, arith, append-nil}
 use Rattle.pcf_values.specs.Most.{most_nodes, most_program_bytes}
 use Rattle.pcf_values.specs.Named.{NamedTree, number_at, name_at, word_at, binary_at, pair_at, ifz_at, bind_at, apply_at}
 use Rattle.pcf_reader.specs.Tokens.{End, Placed}
@@ -31,7 +32,8 @@ count_placeless (bind_at i b x t m) = omega (arith, count_placeless m)
 count_placeless (apply_at i f a) = λ k. suc (count_placeless f k + count_placeless a k)
 
 -- the spelling of what is fine, shallow and small stands for it
-spelled_text : (t : NamedTree) → Fine t → own_shallow t 0 → node_count t ≤ most_nodes → length (term_text t) ≤ most_program_bytes → (u : NamedTree) × Text (term_text t) u × (placeless u ≡ placeless t)
+spelled_text : (t : NamedTree) → Fine t → own_shallow t 0 → node_count t ≤ most_nodes →
+    length (term_text t) ≤ most_program_bytes → (u : NamedTree) × Text (term_text t) u × (placeless u ≡ placeless t)
 spelled_text t fine shallow few short =
     let w : WritesExpr (term_text t) (λ r. own_onto t r) t (own_height t) (λ o. own_shallow t o) 0 = (forms t fine).expr 0 in
     let e : Expr = w.phrase in
@@ -46,7 +48,8 @@ spelled_text t fine shallow few short =
       encoded = (own_shows t fine []).0 ∙ append-nil (term_text t);
       splits = splits;
     } in
-    let counts : node_count (expr_part e).tree ≡ node_count t = sym (count_placeless (expr_part e).tree) ∙ ap node_count w.same ∙ count_placeless t in
+    let counts : node_count (expr_part e).tree ≡ node_count t = sym (count_placeless (expr_part e).tree) ∙ ap node_count w.same ∙
+    count_placeless t in
     let derives : Derives items (expr_part e).tree = record {
       program = program;
       written = map-append (expr_text 0 e) (plain end End ∷ []);
@@ -58,7 +61,8 @@ spelled_text t fine shallow few short =
     ((expr_part e).tree, (items, tokens, derives), w.same)
 
 -- a tree that is another one has what the other has
-of_tree : (t u : NamedTree) → u ≡ t → (Fine u × own_shallow u 0 × (node_count u ≤ most_nodes)) → (Fine t × own_shallow t 0 × (node_count t ≤ most_nodes))
+of_tree : (t u : NamedTree) → u ≡ t → (Fine u × own_shallow u 0 × (node_count u ≤ most_nodes)) →
+    (Fine t × own_shallow t 0 × (node_count t ≤ most_nodes))
 of_tree t u e h = subst (λ z. Fine z × own_shallow z 0 × (node_count z ≤ most_nodes)) e h
 
 -- the law, for bytes that stand for a tree
@@ -71,5 +75,9 @@ read_back bytes t h short =
     let fine_items : AreFine h.0 = splits_fine 0 tokens.characters h.0 tokens.scalars tokens.splits in
     let good : Good (program_text d.program) = good_from (program_text d.program) (subst AreFine (sym d.written) fine_items) d.narrow in
     let few : node_count (expr_part e).tree ≤ most_nodes = omega (arith, d.small, program_count d.program) in
-    let facts = of_tree t (expr_part e).tree d.stands_for (fine_expr 0 e (each_left IsGood (expr_text 0 e) last good), (expr_fits 0 e (each_left IsShallow (expr_text 0 e) last d.shallow)).0, few) in
+    let facts = of_tree t (expr_part e).tree d.stands_for (
+      fine_expr 0 e (each_left IsGood (expr_text 0 e) last good),
+      (expr_fits 0 e (each_left IsShallow (expr_text 0 e) last d.shallow)).0,
+      few,
+    ) in
     spelled_text t facts.0 facts.1 facts.2 short

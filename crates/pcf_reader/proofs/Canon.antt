@@ -1,11 +1,13 @@
 -- Each tree has a phrase for what is printed of it, on each level of the grammar.
-use Rattle.std.proofs.Common.{◌≡◌, ℕ, suc, ◌+◌, ◌<◌, List, [], ◌∷◌, ◌++◌, map, length, refl, sym, ap, ◌∙◌, subst, arith, append_assoc, length-append}
+use Rattle.std.proofs.Common.{◌≡◌, ℕ, suc, ◌+◌, ◌<◌, List, [], ◌∷◌, ◌++◌, map, length, refl, sym, ap, ◌∙◌}
+use Rattle.std.proofs.Common.{subst, arith, append_assoc, length-append}
 use Rattle.std.specs.Prelude.{codes}
 use Rattle.pcf_values.specs.Most.{most_open}
 use Rattle.pcf_values.specs.Terms.{TyTree, nat, arrow, product}
 use Rattle.pcf_values.specs.Named.{Word, the_succ, the_pred, the_fst, the_snd, Binder, the_fun, the_fix}
 use Rattle.pcf_reader.specs.Tokens.{Open, Close, Colon, Dot, Comma, Plus, Minus, Times, Arrow, Ifz, Then, Else, Nat, Bind, Before, Placed}
-use Rattle.pcf_reader.specs.Grammar.{Type_, only_ptype, arrow_type, PType, only_tatom, times_type, TAtom, nat_type, paren_type, type_ty, ptype_ty, tatom_ty, Written, placed, plain, marked, type_text, ptype_text, tatom_text}
+use Rattle.pcf_reader.specs.Grammar.{Type_, only_ptype, arrow_type, PType, only_tatom, times_type, TAtom, nat_type, paren_type, type_ty}
+use Rattle.pcf_reader.specs.Grammar.{ptype_ty, tatom_ty, Written, placed, plain, marked, type_text, ptype_text, tatom_text}
 use Rattle.pcf_reader.specs.Spelling.{word_of, Splits, token, arrow as arrow_spelled}
 use Rattle.pcf_reader.specs.Printed.{fitted, ty_level, ty_text, word_text, binder_text}
 use Rattle.pcf_reader.specs.Text.{IsShallow, Each}
@@ -15,7 +17,8 @@ use Rattle.pcf_reader.proofs.Pieces.{Clear, clear_by, place_at, blank_piece, sig
 use Rattle.pcf_reader.proofs.Lexed.{at_place, arrow_longest}
 
 -- the tokens of two parts, one behind the other
-pub both_parts : (at : ℕ) (cs : List ℕ) (u v : List Written) (items : List Placed) → Splits at cs (map placed u ++ (map placed v ++ items)) → Splits at cs (map placed (u ++ v) ++ items)
+pub both_parts : (at : ℕ) (cs : List ℕ) (u v : List Written) (items : List Placed) →
+    Splits at cs (map placed u ++ (map placed v ++ items)) → Splits at cs (map placed (u ++ v) ++ items)
 both_parts at cs u v items h =
     subst (λ z. Splits at cs z) (sym (append_assoc (map placed u) (map placed v) items) ∙ ap (λ z. z ++ items) (sym (map-append u v))) h
 
@@ -40,120 +43,174 @@ pub some_left : 0 < most_open
 some_left = omega arith
 
 -- signs without blanks around them
-pub open_piece : (at : ℕ) (rest : List ℕ) (items : List Placed) → Splits (at + 1) rest items → Splits at (40 ∷ rest) (at_place at Open ∷ items)
+pub open_piece : (at : ℕ) (rest : List ℕ) (items : List Placed) → Splits (at + 1) rest items →
+    Splits at (40 ∷ rest) (at_place at Open ∷ items)
 open_piece at rest items h = sign_piece 40 Open at rest items refl refl (λ e. let z : ⊥ = omega (arith, e) in absurd z) h
 
-pub close_piece : (at : ℕ) (rest : List ℕ) (items : List Placed) → Splits (at + 1) rest items → Splits at (41 ∷ rest) (at_place at Close ∷ items)
+pub close_piece : (at : ℕ) (rest : List ℕ) (items : List Placed) → Splits (at + 1) rest items →
+    Splits at (41 ∷ rest) (at_place at Close ∷ items)
 close_piece at rest items h = sign_piece 41 Close at rest items refl refl (λ e. let z : ⊥ = omega (arith, e) in absurd z) h
 
-pub comma_piece : (at : ℕ) (rest : List ℕ) (items : List Placed) → Splits (at + 1) rest items → Splits at (44 ∷ rest) (at_place at Comma ∷ items)
+pub comma_piece : (at : ℕ) (rest : List ℕ) (items : List Placed) → Splits (at + 1) rest items →
+    Splits at (44 ∷ rest) (at_place at Comma ∷ items)
 comma_piece at rest items h = sign_piece 44 Comma at rest items refl refl (λ e. let z : ⊥ = omega (arith, e) in absurd z) h
 
-pub colon_piece : (at : ℕ) (rest : List ℕ) (items : List Placed) → Splits (at + 1) rest items → Splits at (58 ∷ rest) (at_place at Colon ∷ items)
+pub colon_piece : (at : ℕ) (rest : List ℕ) (items : List Placed) → Splits (at + 1) rest items →
+    Splits at (58 ∷ rest) (at_place at Colon ∷ items)
 colon_piece at rest items h = sign_piece 58 Colon at rest items refl refl (λ e. let z : ⊥ = omega (arith, e) in absurd z) h
 
-pub dot_piece : (at : ℕ) (rest : List ℕ) (items : List Placed) → Splits (at + 1) rest items → Splits at (46 ∷ rest) (at_place at Dot ∷ items)
+pub dot_piece : (at : ℕ) (rest : List ℕ) (items : List Placed) → Splits (at + 1) rest items →
+    Splits at (46 ∷ rest) (at_place at Dot ∷ items)
 dot_piece at rest items h = sign_piece 46 Dot at rest items refl refl (λ e. let z : ⊥ = omega (arith, e) in absurd z) h
 
 -- a sign between blanks
-pub plus_piece : (at : ℕ) (rest : List ℕ) (items : List Placed) → Splits (at + 3) rest items → Splits at (32 ∷ 43 ∷ 32 ∷ rest) (at_place (at + 1) Plus ∷ items)
+pub plus_piece : (at : ℕ) (rest : List ℕ) (items : List Placed) → Splits (at + 3) rest items →
+    Splits at (32 ∷ 43 ∷ 32 ∷ rest) (at_place (at + 1) Plus ∷ items)
 plus_piece at rest items h =
-    blank_piece at (43 ∷ 32 ∷ rest) (at_place (at + 1) Plus ∷ items) (sign_piece 43 Plus (at + 1) (32 ∷ rest) items refl refl (λ e. let z : ⊥ = omega (arith, e) in absurd z)
+    blank_piece at (43 ∷ 32 ∷ rest) (at_place (at + 1) Plus ∷ items)
+    (sign_piece 43 Plus (at + 1) (32 ∷ rest) items refl refl (λ e. let z : ⊥ = omega (arith, e) in absurd z)
     (blank_piece ((at + 1) + 1) rest items (place_at (at + 3) (((at + 1) + 1) + 1) rest items (omega arith) h)))
 
-pub minus_piece : (at : ℕ) (rest : List ℕ) (items : List Placed) → Splits (at + 3) rest items → Splits at (32 ∷ 45 ∷ 32 ∷ rest) (at_place (at + 1) Minus ∷ items)
+pub minus_piece : (at : ℕ) (rest : List ℕ) (items : List Placed) → Splits (at + 3) rest items →
+    Splits at (32 ∷ 45 ∷ 32 ∷ rest) (at_place (at + 1) Minus ∷ items)
 minus_piece at rest items h =
-    blank_piece at (45 ∷ 32 ∷ rest) (at_place (at + 1) Minus ∷ items) (sign_piece 45 Minus (at + 1) (32 ∷ rest) items refl refl (λ e. refl)
+    blank_piece at (45 ∷ 32 ∷ rest) (at_place (at + 1) Minus ∷ items)
+    (sign_piece 45 Minus (at + 1) (32 ∷ rest) items refl refl (λ e. refl)
     (blank_piece ((at + 1) + 1) rest items (place_at (at + 3) (((at + 1) + 1) + 1) rest items (omega arith) h)))
 
-pub times_piece : (at : ℕ) (rest : List ℕ) (items : List Placed) → Splits (at + 3) rest items → Splits at (32 ∷ 42 ∷ 32 ∷ rest) (at_place (at + 1) Times ∷ items)
+pub times_piece : (at : ℕ) (rest : List ℕ) (items : List Placed) → Splits (at + 3) rest items →
+    Splits at (32 ∷ 42 ∷ 32 ∷ rest) (at_place (at + 1) Times ∷ items)
 times_piece at rest items h =
-    blank_piece at (42 ∷ 32 ∷ rest) (at_place (at + 1) Times ∷ items) (sign_piece 42 Times (at + 1) (32 ∷ rest) items refl refl (λ e. let z : ⊥ = omega (arith, e) in absurd z)
+    blank_piece at (42 ∷ 32 ∷ rest) (at_place (at + 1) Times ∷ items)
+    (sign_piece 42 Times (at + 1) (32 ∷ rest) items refl refl (λ e. let z : ⊥ = omega (arith, e) in absurd z)
     (blank_piece ((at + 1) + 1) rest items (place_at (at + 3) (((at + 1) + 1) + 1) rest items (omega arith) h)))
 
 -- the arrow between blanks, which is one sign of two characters
-pub arrow_piece : (at : ℕ) (rest : List ℕ) (items : List Placed) → Splits (at + 4) rest items → Splits at (32 ∷ 45 ∷ 62 ∷ 32 ∷ rest) (at_place (at + 1) Arrow ∷ items)
+pub arrow_piece : (at : ℕ) (rest : List ℕ) (items : List Placed) → Splits (at + 4) rest items →
+    Splits at (32 ∷ 45 ∷ 62 ∷ 32 ∷ rest) (at_place (at + 1) Arrow ∷ items)
 arrow_piece at rest items h =
-    blank_piece at (45 ∷ 62 ∷ 32 ∷ rest) (at_place (at + 1) Arrow ∷ items) (token (at + 1) (45 ∷ 62 ∷ 32 ∷ rest) (45 ∷ 62 ∷ []) (32 ∷ rest) Arrow items refl arrow_spelled (arrow_longest (32 ∷ rest))
+    blank_piece at (45 ∷ 62 ∷ 32 ∷ rest) (at_place (at + 1) Arrow ∷ items)
+    (token (at + 1) (45 ∷ 62 ∷ 32 ∷ rest) (45 ∷ 62 ∷ []) (32 ∷ rest) Arrow items refl arrow_spelled
+    (arrow_longest (32 ∷ rest))
     (blank_piece ((at + 1) + 2) rest items (place_at (at + 4) (((at + 1) + 2) + 1) rest items (omega arith) h)))
 
 -- a keyword and the blank behind it
-pub word_splits : (w : Word) (at : ℕ) (rest : List ℕ) (items : List Placed) → Splits (at + length (word_text w)) rest items → Splits at (word_text w ++ rest) (at_place at (Before w) ∷ items)
+pub word_splits : (w : Word) (at : ℕ) (rest : List ℕ) (items : List Placed) → Splits (at + length (word_text w)) rest items →
+    Splits at (word_text w ++ rest) (at_place at (Before w) ∷ items)
 unfolding word_of
 word_splits the_succ at rest items h =
-    keyword_piece 115 (117 ∷ 99 ∷ 99 ∷ []) (Before the_succ) 4 at (32 ∷ rest) items refl refl refl (space rest) (blank_piece (at + 4) rest items (place_at (at + 5) ((at + 4) + 1) rest items (omega arith) h))
+    keyword_piece 115 (117 ∷ 99 ∷ 99 ∷ []) (Before the_succ) 4 at (32 ∷
+    rest) items refl refl refl (space rest) (blank_piece (at + 4) rest items
+    (place_at (at + 5) ((at + 4) + 1) rest items (omega arith) h))
 word_splits the_pred at rest items h =
-    keyword_piece 112 (114 ∷ 101 ∷ 100 ∷ []) (Before the_pred) 4 at (32 ∷ rest) items refl refl refl (space rest) (blank_piece (at + 4) rest items (place_at (at + 5) ((at + 4) + 1) rest items (omega arith) h))
+    keyword_piece 112 (114 ∷ 101 ∷ 100 ∷ []) (Before the_pred) 4 at (32 ∷
+    rest) items refl refl refl (space rest) (blank_piece (at + 4) rest items
+    (place_at (at + 5) ((at + 4) + 1) rest items (omega arith) h))
 word_splits the_fst at rest items h =
-    keyword_piece 102 (115 ∷ 116 ∷ []) (Before the_fst) 3 at (32 ∷ rest) items refl refl refl (space rest) (blank_piece (at + 3) rest items (place_at (at + 4) ((at + 3) + 1) rest items (omega arith) h))
+    keyword_piece 102 (115 ∷ 116 ∷ []) (Before the_fst) 3 at (32 ∷ rest) items refl refl refl (space rest)
+    (blank_piece (at + 3) rest items (place_at (at + 4) ((at + 3) + 1) rest items (omega arith) h))
 word_splits the_snd at rest items h =
-    keyword_piece 115 (110 ∷ 100 ∷ []) (Before the_snd) 3 at (32 ∷ rest) items refl refl refl (space rest) (blank_piece (at + 3) rest items (place_at (at + 4) ((at + 3) + 1) rest items (omega arith) h))
+    keyword_piece 115 (110 ∷ 100 ∷ []) (Before the_snd) 3 at (32 ∷ rest) items refl refl refl (space rest)
+    (blank_piece (at + 3) rest items (place_at (at + 4) ((at + 3) + 1) rest items (omega arith) h))
 
 -- the word of a binder and the blank behind it
-pub binder_splits : (b : Binder) (at : ℕ) (rest : List ℕ) (items : List Placed) → Splits (at + 4) rest items → Splits at (binder_text b ++ rest) (at_place at (Bind b) ∷ items)
+pub binder_splits : (b : Binder) (at : ℕ) (rest : List ℕ) (items : List Placed) → Splits (at + 4) rest items →
+    Splits at (binder_text b ++ rest) (at_place at (Bind b) ∷ items)
 unfolding word_of
 binder_splits the_fun at rest items h =
-    keyword_piece 102 (117 ∷ 110 ∷ []) (Bind the_fun) 3 at (32 ∷ rest) items refl refl refl (space rest) (blank_piece (at + 3) rest items (place_at (at + 4) ((at + 3) + 1) rest items (omega arith) h))
+    keyword_piece 102 (117 ∷ 110 ∷ []) (Bind the_fun) 3 at (32 ∷ rest) items refl refl refl (space rest)
+    (blank_piece (at + 3) rest items (place_at (at + 4) ((at + 3) + 1) rest items (omega arith) h))
 binder_splits the_fix at rest items h =
-    keyword_piece 102 (105 ∷ 120 ∷ []) (Bind the_fix) 3 at (32 ∷ rest) items refl refl refl (space rest) (blank_piece (at + 3) rest items (place_at (at + 4) ((at + 3) + 1) rest items (omega arith) h))
+    keyword_piece 102 (105 ∷ 120 ∷ []) (Bind the_fix) 3 at (32 ∷ rest) items refl refl refl (space rest)
+    (blank_piece (at + 3) rest items (place_at (at + 4) ((at + 3) + 1) rest items (omega arith) h))
 
 -- `ifz` and the blank behind it; `then` and `else` between blanks
-pub ifz_piece : (at : ℕ) (rest : List ℕ) (items : List Placed) → Splits (at + 4) rest items → Splits at (105 ∷ 102 ∷ 122 ∷ 32 ∷ rest) (at_place at Ifz ∷ items)
+pub ifz_piece : (at : ℕ) (rest : List ℕ) (items : List Placed) → Splits (at + 4) rest items →
+    Splits at (105 ∷ 102 ∷ 122 ∷ 32 ∷ rest) (at_place at Ifz ∷ items)
 unfolding word_of
 ifz_piece at rest items h =
-    keyword_piece 105 (102 ∷ 122 ∷ []) Ifz 3 at (32 ∷ rest) items refl refl refl (space rest) (blank_piece (at + 3) rest items (place_at (at + 4) ((at + 3) + 1) rest items (omega arith) h))
+    keyword_piece 105 (102 ∷ 122 ∷ []) Ifz 3 at (32 ∷ rest) items refl refl refl (space rest)
+    (blank_piece (at + 3) rest items (place_at (at + 4) ((at + 3) + 1) rest items (omega arith) h))
 
-pub then_piece : (at : ℕ) (rest : List ℕ) (items : List Placed) → Splits (at + 6) rest items → Splits at (32 ∷ 116 ∷ 104 ∷ 101 ∷ 110 ∷ 32 ∷ rest) (at_place (at + 1) Then ∷ items)
+pub then_piece : (at : ℕ) (rest : List ℕ) (items : List Placed) → Splits (at + 6) rest items →
+    Splits at (32 ∷ 116 ∷ 104 ∷ 101 ∷ 110 ∷ 32 ∷ rest) (at_place (at + 1) Then ∷ items)
 unfolding word_of
 then_piece at rest items h =
     blank_piece at (116 ∷ 104 ∷ 101 ∷ 110 ∷ 32 ∷ rest) (at_place (at + 1) Then ∷ items)
-    (keyword_piece 116 (104 ∷ 101 ∷ 110 ∷ []) Then 4 (at + 1) (32 ∷ rest) items refl refl refl (space rest) (blank_piece ((at + 1) + 4) rest items (place_at (at + 6) (((at + 1) + 4) + 1) rest items (omega arith) h)))
+    (keyword_piece 116 (104 ∷ 101 ∷ 110 ∷ []) Then 4 (at + 1) (32 ∷ rest) items refl refl refl (space rest)
+    (blank_piece ((at + 1) + 4) rest items (place_at (at + 6) (((at + 1) + 4) + 1) rest items (omega arith) h)))
 
-pub else_piece : (at : ℕ) (rest : List ℕ) (items : List Placed) → Splits (at + 6) rest items → Splits at (32 ∷ 101 ∷ 108 ∷ 115 ∷ 101 ∷ 32 ∷ rest) (at_place (at + 1) Else ∷ items)
+pub else_piece : (at : ℕ) (rest : List ℕ) (items : List Placed) → Splits (at + 6) rest items →
+    Splits at (32 ∷ 101 ∷ 108 ∷ 115 ∷ 101 ∷ 32 ∷ rest) (at_place (at + 1) Else ∷ items)
 unfolding word_of
 else_piece at rest items h =
     blank_piece at (101 ∷ 108 ∷ 115 ∷ 101 ∷ 32 ∷ rest) (at_place (at + 1) Else ∷ items)
-    (keyword_piece 101 (108 ∷ 115 ∷ 101 ∷ []) Else 4 (at + 1) (32 ∷ rest) items refl refl refl (space rest) (blank_piece ((at + 1) + 4) rest items (place_at (at + 6) (((at + 1) + 4) + 1) rest items (omega arith) h)))
+    (keyword_piece 101 (108 ∷ 115 ∷ 101 ∷ []) Else 4 (at + 1) (32 ∷ rest) items refl refl refl (space rest)
+    (blank_piece ((at + 1) + 4) rest items (place_at (at + 6) (((at + 1) + 4) + 1) rest items (omega arith) h)))
 
 -- `nat`, which no blank follows
-nat_piece : (at : ℕ) (rest : List ℕ) (items : List Placed) → Clear rest → Splits (at + 3) rest items → Splits at (110 ∷ 97 ∷ 116 ∷ rest) (at_place at Nat ∷ items)
+nat_piece : (at : ℕ) (rest : List ℕ) (items : List Placed) → Clear rest → Splits (at + 3) rest items →
+    Splits at (110 ∷ 97 ∷ 116 ∷ rest) (at_place at Nat ∷ items)
 unfolding word_of
 nat_piece at rest items clear h = keyword_piece 110 (97 ∷ 116 ∷ []) Nat 3 at rest items refl refl refl clear h
 
 -- a phrase for these bytes, which stand before others from a place on
-pub record TyWrites (X : Type 0) (ty : X → TyTree) (text : ℕ → X → List Written) (bytes : List ℕ) (onto : List ℕ → List ℕ) (t : TyTree) (S : ℕ → Type 0) (at : ℕ) : Type 0 where
+pub record TyWrites (X : Type 0) (ty : X → TyTree) (text : ℕ → X → List Written) (bytes : List ℕ) (onto : List ℕ →
+    List ℕ) (t : TyTree) (S : ℕ → Type 0) (at : ℕ) : Type 0 where
   pub phrase : X
   pub same : ty phrase ≡ t
   pub shallow : (o : ℕ) → S o → Each IsShallow (text o phrase)
-  pub splits : (o : ℕ) (rest : List ℕ) (items : List Placed) → Clear rest → Splits (at + length bytes) rest items → Splits at (onto rest) (map placed (text o phrase) ++ items)
+  pub splits : (o : ℕ) (rest : List ℕ) (items : List Placed) → Clear rest → Splits (at + length bytes) rest items →
+      Splits at (onto rest) (map placed (text o phrase) ++ items)
 
 module _ (bytes : List ℕ) (onto : List ℕ → List ℕ) (t : TyTree) (S : ℕ → Type 0) where
   -- a phrase is one of the next level too, and of the lowest where it stands in parentheses
-  tatom_in_ptype : (at : ℕ) → TyWrites TAtom tatom_ty tatom_text bytes onto t S at → TyWrites PType ptype_ty ptype_text bytes onto t S at
-  tatom_in_ptype at w = record { phrase = only_tatom w.phrase; same = w.same; shallow = λ o s. w.shallow o s; splits = λ o rest items c h. w.splits o rest items c h }
+  tatom_in_ptype : (at : ℕ) → TyWrites TAtom tatom_ty tatom_text bytes onto t S at →
+      TyWrites PType ptype_ty ptype_text bytes onto t S at
+  tatom_in_ptype at w = record {
+    phrase = only_tatom w.phrase;
+    same = w.same;
+    shallow = λ o s. w.shallow o s;
+    splits =
+        λ o rest items c h. w.splits o rest items c h;
+  }
 
   ptype_in_type : (at : ℕ) → TyWrites PType ptype_ty ptype_text bytes onto t S at → TyWrites Type_ type_ty type_text bytes onto t S at
-  ptype_in_type at w = record { phrase = only_ptype w.phrase; same = w.same; shallow = λ o s. w.shallow o s; splits = λ o rest items c h. w.splits o rest items c h }
+  ptype_in_type at w = record {
+    phrase = only_ptype w.phrase;
+    same = w.same;
+    shallow = λ o s. w.shallow o s;
+    splits =
+        λ o rest items c h. w.splits o rest items c h;
+  }
 
   type_in_parens : (at : ℕ) → TyWrites Type_ type_ty type_text bytes onto t S (at + 1)
-      → TyWrites TAtom tatom_ty tatom_text (codes "(" ++ bytes ++ codes ")") (λ r. 40 ∷ onto (41 ∷ r)) t (λ o. (o < most_open) × S (suc o)) at
+      → TyWrites TAtom tatom_ty tatom_text (codes "(" ++ bytes ++ codes ")") (λ r. 40 ∷ onto (41 ∷ r)) t (λ o. (o < most_open) ×
+      S (suc o)) at
   type_in_parens at w =
       let close : ℕ = (at + 1) + length bytes in
       record {
         phrase = paren_type at w.phrase close;
         same = w.same;
-        shallow = λ o s. (s.0, each_append IsShallow (type_text (suc o) w.phrase) (plain close Close ∷ []) (w.shallow (suc o) s.1) (some_left, tt));
+        shallow = λ o s. (
+          s.0,
+          each_append IsShallow (type_text (suc o) w.phrase) (plain close Close ∷
+              []) (w.shallow (suc o) s.1) (some_left, tt),
+        );
         splits = λ o rest items c h.
             open_piece at (onto (41 ∷ rest)) (map placed (type_text (suc o) w.phrase ++ plain close Close ∷ []) ++ items)
             (both_parts (at + 1) (onto (41 ∷ rest)) (type_text (suc o) w.phrase) (plain close Close ∷ []) items
             (w.splits (suc o) (41 ∷ rest) (at_place close Close ∷ items) (closes rest)
-            (close_piece close rest items (place_at (at + length (codes "(" ++ bytes ++ codes ")")) (close + 1) rest items (omega (arith, length-append bytes (codes ")"))) h))));
+            (close_piece close rest items (place_at (at + length (codes "(" ++ bytes ++ codes ")")) (close + 1) rest items
+            (omega (arith, length-append bytes (codes ")"))) h))));
       }
 
 pub record TyForms (lvl : ℕ) (bytes : List ℕ) (onto : List ℕ → List ℕ) (t : TyTree) (S : ℕ → Type 0) : Type 0 where
   pub as_type : (at : ℕ) → TyWrites Type_ type_ty type_text bytes onto t S at
-  pub as_ptype : (at : ℕ) → TyWrites PType ptype_ty ptype_text (fitted 1 lvl bytes) (λ r. fit_onto 1 lvl onto r) t (λ o. fit_shallow 1 lvl S o) at
-  pub as_tatom : (at : ℕ) → TyWrites TAtom tatom_ty tatom_text (fitted 0 lvl bytes) (λ r. fit_onto 0 lvl onto r) t (λ o. fit_shallow 0 lvl S o) at
+  pub as_ptype : (at : ℕ) → TyWrites PType ptype_ty ptype_text (fitted 1 lvl bytes) (λ r. fit_onto 1 lvl onto r) t
+      (λ o. fit_shallow 1 lvl S o) at
+  pub as_tatom : (at : ℕ) → TyWrites TAtom tatom_ty tatom_text (fitted 0 lvl bytes) (λ r. fit_onto 0 lvl onto r) t
+      (λ o. fit_shallow 0 lvl S o) at
 
 module _ (bytes : List ℕ) (onto : List ℕ → List ℕ) (t : TyTree) (S : ℕ → Type 0) where
   -- a type has a phrase on each level of the grammar, where it has one on its own
@@ -185,7 +242,13 @@ module _ (bytes : List ℕ) (onto : List ℕ → List ℕ) (t : TyTree) (S : ℕ
 pub ty_forms : (t : TyTree) → TyForms (ty_level t) (ty_text t) (λ r. ty_onto t r) t (λ o. ty_shallow t o)
 ty_forms nat =
     from_tatom (ty_text nat) (λ r. ty_onto nat r) nat (λ o. ty_shallow nat o)
-    (λ at. record { phrase = nat_type at; same = refl; shallow = λ o s. (some_left, tt); splits = λ o rest items c h. nat_piece at rest items c h })
+    (λ at. record {
+      phrase = nat_type at;
+      same = refl;
+      shallow = λ o s. (some_left, tt);
+      splits =
+          λ o rest items c h. nat_piece at rest items c h;
+    })
 ty_forms (arrow a b) =
     from_type (ty_text (arrow a b)) (λ r. ty_onto (arrow a b) r) (arrow a b) (λ o. ty_shallow (arrow a b) o)
     (λ at.
@@ -196,13 +259,16 @@ ty_forms (arrow a b) =
     record {
       phrase = arrow_type p.phrase (mid + 1) q.phrase;
       same = λ k. arrow (p.same k) (q.same k);
-      shallow = λ o s. each_append IsShallow (ptype_text o p.phrase) (marked (mid + 1) Arrow o 0 ∷ type_text (suc o) q.phrase) (p.shallow o s.0) (s.1, q.shallow (suc o) s.2);
+      shallow = λ o s. each_append IsShallow (ptype_text o p.phrase) (marked (mid + 1) Arrow o 0 ∷
+          type_text (suc o) q.phrase) (p.shallow o s.0) (s.1, q.shallow (suc o) s.2);
       splits = λ o rest items c h.
           both_parts at (ty_onto (arrow a b) rest) (ptype_text o p.phrase) (marked (mid + 1) Arrow o 0 ∷ type_text (suc o) q.phrase) items
-          (p.splits o (32 ∷ 45 ∷ 62 ∷ 32 ∷ ty_onto b rest) (at_place (mid + 1) Arrow ∷ (map placed (type_text (suc o) q.phrase) ++ items)) (space (45 ∷ 62 ∷ 32 ∷ ty_onto b rest))
+          (p.splits o (32 ∷ 45 ∷ 62 ∷ 32 ∷ ty_onto b rest) (at_place (mid + 1) Arrow ∷
+          (map placed (type_text (suc o) q.phrase) ++ items)) (space (45 ∷ 62 ∷ 32 ∷ ty_onto b rest))
           (arrow_piece mid (ty_onto b rest) (map placed (type_text (suc o) q.phrase) ++ items)
           (q.splits (suc o) rest items c
-          (place_at (at + length (left ++ codes " -> " ++ ty_text b)) ((mid + 4) + length (ty_text b)) rest items (omega (arith, length-append (left ++ codes " -> ") (ty_text b), length-append left (codes " -> "))) h))));
+          (place_at (at + length (left ++ codes " -> " ++ ty_text b)) ((mid + 4) + length (ty_text b)) rest items
+          (omega (arith, length-append (left ++ codes " -> ") (ty_text b), length-append left (codes " -> "))) h))));
     })
 ty_forms (product a b) =
     from_ptype (ty_text (product a b)) (λ r. ty_onto (product a b) r) (product a b) (λ o. ty_shallow (product a b) o)
@@ -216,11 +282,15 @@ ty_forms (product a b) =
     record {
       phrase = times_type p.phrase (mid + 1) q.phrase;
       same = λ k. product (p.same k) (q.same k);
-      shallow = λ o s. each_append IsShallow (tatom_text o p.phrase) (marked (mid + 1) Times o 0 ∷ ptype_text (suc o) q.phrase) (p.shallow o s.0) (s.1, q.shallow (suc o) s.2);
+      shallow = λ o s. each_append IsShallow (tatom_text o p.phrase) (marked (mid + 1) Times o 0 ∷
+          ptype_text (suc o) q.phrase) (p.shallow o s.0) (s.1, q.shallow (suc o) s.2);
       splits = λ o rest items c h.
-          both_parts at (ty_onto (product a b) rest) (tatom_text o p.phrase) (marked (mid + 1) Times o 0 ∷ ptype_text (suc o) q.phrase) items
-          (p.splits o (32 ∷ 42 ∷ 32 ∷ right_onto rest) (at_place (mid + 1) Times ∷ (map placed (ptype_text (suc o) q.phrase) ++ items)) (space (42 ∷ 32 ∷ right_onto rest))
+          both_parts at (ty_onto (product a b) rest) (tatom_text o p.phrase) (marked (mid + 1) Times o 0 ∷
+          ptype_text (suc o) q.phrase) items
+          (p.splits o (32 ∷ 42 ∷ 32 ∷ right_onto rest) (at_place (mid + 1) Times ∷
+          (map placed (ptype_text (suc o) q.phrase) ++ items)) (space (42 ∷ 32 ∷ right_onto rest))
           (times_piece mid (right_onto rest) (map placed (ptype_text (suc o) q.phrase) ++ items)
           (q.splits (suc o) rest items c
-          (place_at (at + length (left ++ codes " * " ++ right)) ((mid + 3) + length right) rest items (omega (arith, length-append (left ++ codes " * ") right, length-append left (codes " * "))) h))));
+          (place_at (at + length (left ++ codes " * " ++ right)) ((mid + 3) + length right) rest items
+          (omega (arith, length-append (left ++ codes " * ") right, length-append left (codes " * "))) h))));
     })

@@ -12,7 +12,8 @@ no_text c r e =
     omega (arith, n, length-append (encode_utf8 c) r, length-encode c, len_utf8_bounds c)
 
 -- the first character of a text, and the characters of the rest
-spelled : (cs : List ℕ) (c : ℕ) (r : List ℕ) → all_scalars cs ≡ true → encode_utf8_all cs ≡ encode_utf8 c ++ r → chars (encode_utf8_all cs) ≡ c ∷ chars r
+spelled : (cs : List ℕ) (c : ℕ) (r : List ℕ) → all_scalars cs ≡ true → encode_utf8_all cs ≡ encode_utf8 c ++ r →
+    chars (encode_utf8_all cs) ≡ c ∷ chars r
 spelled [] c r s e = absurd (no_text c r e)
 spelled (d ∷ ds) c r s e =
     let same = encode_same d c (encode_utf8_all ds) r e in

@@ -1,11 +1,16 @@
 -- The end of a text, or what is no token, stands last and alone.
-use Rattle.std.proofs.Common.{◌≡◌, ◌⊎◌, ℕ, ◌+◌, List, [], ◌∷◌, ◌++◌, map, Some, Ok, Err, refl, sym, ap, ◌∙◌, subst, inl, inr}
+use Rattle.std.proofs.Common.{◌≡◌, ◌⊎◌, ℕ, ◌+◌, List, [], ◌∷◌, ◌++◌, map, Some, Ok, Err, refl, sym, ap}
+use Rattle.std.proofs.Common.{◌∙◌, subst, inl, inr}
 use Rattle.pcf_values.specs.Values.{plus_op, minus_op, times_op}
 use Rattle.pcf_values.specs.Terms.{TyTree, arrow as arrow_ty, product}
 use Rattle.pcf_values.specs.Named.{NamedTree, bind_at}
 use Rattle.pcf_reader.specs.Tokens.{Token, End, Junk, Placed}
 use Rattle.pcf_reader.specs.Grammar.{Part, higher, binary, choice_part, placed, expr_text, plain}
-use Rattle.pcf_reader.specs.Machine.{ExprK, whole, in_parens, in_second, in_body, in_test, in_then, in_else, ProductK, first_product, right_of_plus, right_of_minus, AppK, first_app, right_of_times, PTypeK, first_ptype, right_of_cross, TypeK, of_binder, right_of_arrow, in_type_parens, State, want_expr, want_atom, after_atom, want_name, want_colon, want_tatom, after_tatom, Step, refuse, go, finish, step, after_expr, end_product, end_app, end_type, end_ptype}
+use Rattle.pcf_reader.specs.Machine.{ExprK, whole, in_parens, in_second, in_body, in_test, in_then, in_else, ProductK, first_product}
+use Rattle.pcf_reader.specs.Machine.{right_of_plus, right_of_minus, AppK, first_app, right_of_times, PTypeK, first_ptype, right_of_cross}
+use Rattle.pcf_reader.specs.Machine.{TypeK, of_binder, right_of_arrow, in_type_parens, State, want_expr, want_atom, after_atom, want_name}
+use Rattle.pcf_reader.specs.Machine.{want_colon, want_tatom, after_tatom, Step, refuse, go, finish, step, after_expr, end_product, end_app}
+use Rattle.pcf_reader.specs.Machine.{end_type, end_ptype}
 use Rattle.pcf_reader.specs.Spelling.{sign_of, word_of, Spells, sign, arrow, digits, word, Splits, ends, blank, comment, token, junk}
 use Rattle.pcf_reader.specs.Text.{Derives}
 use Rattle.pcf_reader.specs.Scan.{Answer, checked, proper, scan}
@@ -27,7 +32,8 @@ cons_ended x (y ∷ ys) n h = (n, h)
 
 -- no word is the end, and no sign
 pub word_not_end : (cs : List ℕ) → word_of cs ≡ End → ⊥
-word_not_end cs = word_token (λ x. x ≡ End → ⊥) cs (λ e. cc) (λ e. cc) (λ e. cc) (λ e. cc) (λ e. cc) (λ e. cc) (λ e. cc) (λ e. cc) (λ e. cc) (λ e. cc) (λ e. cc)
+word_not_end cs = word_token (λ x. x ≡ End → ⊥) cs (λ e. cc) (λ e. cc) (λ e. cc) (λ e. cc) (λ e. cc) (λ e. cc) (λ e. cc)
+    (λ e. cc) (λ e. cc) (λ e. cc) (λ e. cc)
 
 pub sign_not_end : (c : ℕ) (x : Token) → sign_of c ≡ Some x → x ≡ End → ⊥
 sign_not_end c x h =
@@ -45,7 +51,8 @@ pub splits_ended : (at : ℕ) (cs : List ℕ) (items : List Placed) → Splits a
 splits_ended at cs items (ends i) = inl refl
 splits_ended at cs items (blank i c ds xs e h) = splits_ended _ _ _ h
 splits_ended at cs items (comment i text ds rest xs e all line h) = splits_ended _ _ _ h
-splits_ended at cs items (token i text ds rest x xs e spells long h) = cons_ended (record { at = i; token = x }) xs (spells_not_end ds x spells) (splits_ended _ _ _ h)
+splits_ended at cs items (token i text ds rest x xs e spells long h) =
+    cons_ended (record { at = i; token = x }) xs (spells_not_end ds x spells) (splits_ended _ _ _ h)
 splits_ended at cs items (junk i c ds nb nc none) = inr refl
 
 -- behind the end nothing stands
@@ -125,7 +132,8 @@ last_answers next n at (go d c t) h = absurd h
 last_answers next n at (finish p) h = tt
 
 -- and so does a step that goes on to what answers
-checked_answers : (next : State → ℕ → Answer) (n at : ℕ) (st : Step) → ((t : State) (m : ℕ) → IsAnswer (next t m)) → IsAnswer (checked next n at st)
+checked_answers : (next : State → ℕ → Answer) (n at : ℕ) (st : Step) → ((t : State) (m : ℕ) → IsAnswer (next t m)) →
+    IsAnswer (checked next n at st)
 checked_answers next n at refuse h = tt
 checked_answers next n at (go d c t) h = within_cases IsAnswer at d (n + c) (next t (n + c)) (λ _. tt) (λ _ _. tt) (λ _ _. h t (n + c))
 checked_answers next n at (finish p) h = tt
@@ -133,7 +141,8 @@ checked_answers next n at (finish p) h = tt
 -- a list that ends has an answer
 pub ended_answers : (items : List Placed) (s : State) (n : ℕ) → Ended items → IsAnswer (scan items s n)
 ended_answers [] s n h = absurd h
-ended_answers (x ∷ []) s n (inl e) = subst (λ t. IsAnswer (proper x.at t (checked (scan []) n x.at (step s x.at t)))) (sym e) (last_answers (scan []) n x.at (step s x.at End) (end_last s x.at))
+ended_answers (x ∷ []) s n (inl e) = subst (λ t. IsAnswer (proper x.at t (checked (scan []) n x.at (step s x.at t)))) (sym e)
+    (last_answers (scan []) n x.at (step s x.at End) (end_last s x.at))
 ended_answers (x ∷ []) s n (inr e) = subst (λ t. IsAnswer (proper x.at t (checked (scan []) n x.at (step s x.at t)))) (sym e) tt
 ended_answers (x ∷ y ∷ ys) s n h =
     let next : State → ℕ → Answer = scan (y ∷ ys) in

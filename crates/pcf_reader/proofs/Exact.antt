@@ -2,8 +2,18 @@
 use Rattle.std.proofs.Common.{◌≡◌, ℕ, suc, IsTrue, [], ◌∷◌, ◌++◌, refl, ap, ◌∙◌, if◌then◌else◌}
 use Rattle.pcf_values.specs.Terms.{TyTree, nat}
 use Rattle.pcf_reader.specs.Tokens.{Token, Open, Close, Dot, Comma, Plus, Minus, Times, Arrow, Then, Else, Before, Number, Name, End}
-use Rattle.pcf_reader.specs.Grammar.{Type_, only_ptype, arrow_type, PType, only_tatom, times_type, TAtom, nat_type, paren_type, Expr, binding, choice, only_sum, Sum, only_product, plus, minus, Product, only_app, times, App, only_atom, applied, Atom, numeral, variable, parens, pairing, prefixed, type_ty, ptype_ty, tatom_ty, Part, app_part, expr_part, sum_part, product_part, app_part_of, atom_part, plain, marked, type_text, ptype_text, tatom_text, expr_text, sum_text, product_text, app_text, atom_text, Program}
-use Rattle.pcf_reader.specs.Machine.{ExprK, whole, in_parens, in_second, in_body, in_test, in_then, in_else, ProductK, first_product, right_of_plus, right_of_minus, AppK, first_app, right_of_times, AtomK, first_atom, argument, under, TypeK, of_binder, right_of_arrow, in_type_parens, PTypeK, first_ptype, right_of_cross, expr_open, product_open, app_open, atom_open, type_open, ptype_open, left_of, extra_of, State, want_expr, want_atom, after_atom, want_name, want_colon, want_tatom, after_tatom, finish, starts_atom, got_atom, begin_atom, after_expr, after_sum, end_product, after_product, end_app, end_type, after_ptype, end_ptype, after_type_atom, step}
+use Rattle.pcf_reader.specs.Grammar.{Type_, only_ptype, arrow_type, PType, only_tatom, times_type, TAtom, nat_type, paren_type, Expr}
+use Rattle.pcf_reader.specs.Grammar.{binding, choice, only_sum, Sum, only_product, plus, minus, Product, only_app, times, App, only_atom}
+use Rattle.pcf_reader.specs.Grammar.{applied, Atom, numeral, variable, parens, pairing, prefixed, type_ty, ptype_ty, tatom_ty, Part}
+use Rattle.pcf_reader.specs.Grammar.{app_part, expr_part, sum_part, product_part, app_part_of, atom_part, plain, marked, type_text}
+use Rattle.pcf_reader.specs.Grammar.{ptype_text, tatom_text, expr_text, sum_text, product_text, app_text, atom_text, Program}
+use Rattle.pcf_reader.specs.Machine.{ExprK, whole, in_parens, in_second, in_body, in_test, in_then, in_else, ProductK, first_product}
+use Rattle.pcf_reader.specs.Machine.{right_of_plus, right_of_minus, AppK, first_app, right_of_times, AtomK, first_atom, argument, under}
+use Rattle.pcf_reader.specs.Machine.{TypeK, of_binder, right_of_arrow, in_type_parens, PTypeK, first_ptype, right_of_cross, expr_open}
+use Rattle.pcf_reader.specs.Machine.{product_open, app_open, atom_open, type_open, ptype_open, left_of, extra_of, State, want_expr}
+use Rattle.pcf_reader.specs.Machine.{want_atom, after_atom, want_name, want_colon, want_tatom, after_tatom, finish, starts_atom, got_atom}
+use Rattle.pcf_reader.specs.Machine.{begin_atom, after_expr, after_sum, end_product, after_product, end_app, end_type, after_ptype}
+use Rattle.pcf_reader.specs.Machine.{end_ptype, after_type_atom, step}
 use Rattle.pcf_reader.proofs.Ends.{ends_app, ends_product, ends_sum, ends_tatom, ends_ptype}
 use Rattle.pcf_reader.proofs.Follows.{Follows, chain, Ready}
 
@@ -38,7 +48,8 @@ sum_product Plus h = refl
 sum_product Minus h = refl
 sum_product _ h = h
 
-pub product_ends : (k : ProductK) (m : Part) (at : ℕ) (x : Token) → IsTrue (ends_product x) → after_product k m at x ≡ end_product k m at x
+pub product_ends : (k : ProductK) (m : Part) (at : ℕ) (x : Token) → IsTrue (ends_product x) →
+    after_product k m at x ≡ end_product k m at x
 product_ends k m at Times h = cc
 product_ends k m at _ h = refl
 
@@ -47,7 +58,8 @@ sum_ends k s at Plus h = cc
 sum_ends k s at Minus h = cc
 sum_ends k s at _ h = refl
 
-pub tatom_ends : (k : PTypeK) (t : TyTree) (at : ℕ) (x : Token) → IsTrue (ends_tatom x) → after_type_atom k t at x ≡ end_ptype k t at x
+pub tatom_ends : (k : PTypeK) (t : TyTree) (at : ℕ) (x : Token) → IsTrue (ends_tatom x) →
+    after_type_atom k t at x ≡ end_ptype k t at x
 tatom_ends k t at Times h = cc
 tatom_ends k t at _ h = refl
 
@@ -60,7 +72,8 @@ ptype_tatom Times h = h
 ptype_tatom _ h = refl
 
 mutual
-  pub type_exact : (t : Type_) (k : TypeK) → Ready (want_tatom (first_ptype k)) (type_text (type_open k) t) (end_type k (type_ty t)) ends_ptype
+  pub type_exact : (t : Type_) (k : TypeK) → Ready (want_tatom (first_ptype k)) (type_text (type_open k) t) (end_type k (type_ty t))
+      ends_ptype
   type_exact (only_ptype p) k =
       let (t, follows, goes) = ptype_exact p (first_ptype k) in
       (t, follows, λ at x h. goes at x (ptype_tatom x h) ∙ ptype_ends k (ptype_ty p) at x h)
@@ -70,7 +83,8 @@ mutual
       let w : State = want_tatom (first_ptype n) in
       let (y, after, ends) = type_exact t n in (
         y,
-        chain (ptype_text (type_open k) p) (marked at Arrow (type_open k) 0 ∷ type_text (suc (type_open k)) t) (want_tatom (first_ptype k)) r y follows
+        chain (ptype_text (type_open k) p) (marked at Arrow (type_open k) 0 ∷
+            type_text (suc (type_open k)) t) (want_tatom (first_ptype k)) r y follows
             (w, goes at Arrow refl, after),
         ends,
       )
@@ -81,7 +95,8 @@ mutual
       let n : PTypeK = right_of_cross (tatom_ty a) k in
       let (y, after, ends) = ptype_exact p n in (
         y,
-        chain (tatom_text (ptype_open k) a) (marked at Times (ptype_open k) 0 ∷ ptype_text (suc (ptype_open k)) p) (want_tatom k) (after_tatom k (tatom_ty a)) y (tatom_exact a k)
+        chain (tatom_text (ptype_open k) a) (marked at Times (ptype_open k) 0 ∷
+            ptype_text (suc (ptype_open k)) p) (want_tatom k) (after_tatom k (tatom_ty a)) y (tatom_exact a k)
             (want_tatom n, refl, after),
         ends,
       )
@@ -93,7 +108,8 @@ mutual
       let (y, follows, goes) = type_exact t n in (
         want_tatom (first_ptype n),
         refl,
-        chain (type_text (suc (ptype_open k)) t) (plain close Close ∷ []) (want_tatom (first_ptype n)) y (after_tatom k (type_ty t)) follows
+        chain (type_text (suc (ptype_open k)) t) (plain close Close ∷ []) (want_tatom (first_ptype n)) y (after_tatom k (type_ty t))
+            follows
             (after_tatom k (type_ty t), goes close Close refl, refl),
       )
 
@@ -114,7 +130,8 @@ mutual
             (
               want_tatom (first_ptype n),
               refl,
-              chain (type_text (suc (expr_open k)) t) (plain dot Dot ∷ expr_text (suc (expr_open k)) e) (want_tatom (first_ptype n)) y z follows
+              chain (type_text (suc (expr_open k)) t) (plain dot Dot ∷ expr_text (suc (expr_open k)) e) (want_tatom (first_ptype n)) y z
+                  follows
                   (want_expr m, goes dot Dot refl, after),
             ),
           ),
@@ -146,7 +163,8 @@ mutual
       let (t, follows, goes) = sum_exact s (want_expr k) k (expr_starts k) in
       (t, follows, λ at x h. goes at x (sum_product x h) ∙ sum_ends k (sum_part s) at x h)
 
-  pub sum_exact : (s : Sum) (z : State) (k : ExprK) → Starts z (first_atom (first_app (first_product k))) → Ready z (sum_text (expr_open k) s) (after_sum k (sum_part s)) ends_product
+  pub sum_exact : (s : Sum) (z : State) (k : ExprK) → Starts z (first_atom (first_app (first_product k))) →
+      Ready z (sum_text (expr_open k) s) (after_sum k (sum_part s)) ends_product
   sum_exact (only_product p) z k h =
       let (t, follows, goes) = product_exact p z (first_product k) h in
       (t, follows, λ at x h. goes at x (product_app x h) ∙ product_ends (first_product k) (product_part p) at x h)
@@ -171,33 +189,48 @@ mutual
         λ at x h. ends at x (product_app x h) ∙ product_ends n (product_part p) at x h,
       )
 
-  pub product_exact : (m : Product) (z : State) (k : ProductK) → Starts z (first_atom (first_app k)) → Ready z (product_text (product_open k) m) (after_product k (product_part m)) ends_app
-  product_exact (only_app f) z k h = (after_atom (first_app k) (app_part_of f), app_exact f z (first_app k) h, app_ends (first_app k) (app_part_of f))
+  pub product_exact : (m : Product) (z : State) (k : ProductK) → Starts z (first_atom (first_app k)) →
+      Ready z (product_text (product_open k) m) (after_product k (product_part m)) ends_app
+  product_exact (only_app f) z k h = (
+    after_atom (first_app k) (app_part_of f),
+    app_exact f z (first_app k) h,
+    app_ends (first_app k) (app_part_of f),
+  )
   product_exact (times m at f) z k h =
       let (t, follows, goes) = product_exact m z k h in
       let n : AppK = right_of_times (product_part m) k in
       let w : State = want_atom (first_atom n) in (
         after_atom n (app_part_of f),
-        chain (product_text (product_open k) m) (marked at Times (product_part m).height 1 ∷ app_text (product_open k) f) z t (after_atom n (app_part_of f)) follows
+        chain (product_text (product_open k) m) (marked at Times (product_part m).height 1 ∷
+            app_text (product_open k) f) z t (after_atom n (app_part_of f)) follows
             (w, goes at Times refl, app_exact f w n (λ at x h. refl)),
         app_ends n (app_part_of f),
       )
 
-  pub app_exact : (f : App) (z : State) (k : AppK) → Starts z (first_atom k) → Follows z (app_text (app_open k) f) (after_atom k (app_part_of f))
+  pub app_exact : (f : App) (z : State) (k : AppK) → Starts z (first_atom k) →
+      Follows z (app_text (app_open k) f) (after_atom k (app_part_of f))
   app_exact (only_atom a) z k h = atom_exact a z (first_atom k) h
   app_exact (applied f a) z k h =
       let g : Part = app_part_of f in
       chain (app_text (app_open k) f) (atom_text (app_open k) g.height 1 a) z (after_atom k g) (after_atom k (app_part g (atom_part a)))
       (app_exact f z k h) (atom_exact a (after_atom k g) (argument g k) (argument_starts k g))
 
-  pub atom_exact : (a : Atom) (z : State) (k : AtomK) → Starts z k → Follows z (atom_text (atom_open k) (left_of k) (extra_of k) a) (got_atom k (atom_part a))
+  pub atom_exact : (a : Atom) (z : State) (k : AtomK) → Starts z k →
+      Follows z (atom_text (atom_open k) (left_of k) (extra_of k) a) (got_atom k (atom_part a))
   atom_exact (numeral at n) z k h = (got_atom k (atom_part (numeral at n)), h at (Number n) refl, refl)
   atom_exact (variable at x) z k h = (got_atom k (atom_part (variable at x)), h at (Name x) refl, refl)
   atom_exact (parens at e close) z k h =
       let n : ExprK = in_parens at k in
       let (t, follows, goes) = expr_exact e n in
-      let g : State = got_atom k (atom_part (parens at e close)) in
-      (want_expr n, h at Open refl, chain (expr_text (suc (atom_open k)) e) (plain close Close ∷ []) (want_expr n) t g follows (g, goes close Close refl, refl))
+      let g : State = got_atom k (atom_part (parens at e close)) in (
+        want_expr n,
+        h at Open refl,
+        chain (expr_text (suc (atom_open k)) e) (plain close Close ∷ []) (want_expr n) t g follows (
+          g,
+          goes close Close refl,
+          refl,
+        ),
+      )
   atom_exact (pairing at a comma b close) z k h =
       let o : ℕ = suc (atom_open k) in
       let ka : ExprK = in_parens at k in
@@ -213,8 +246,13 @@ mutual
           chain (expr_text o b) (plain close Close ∷ []) (want_expr kb) u g fu (g, gu close Close refl, refl),
         ),
       )
-  atom_exact (prefixed at w a) z k h = (want_atom (under at w k), h at (Before w) refl, atom_exact a (want_atom (under at w k)) (under at w k) (λ at x h. refl))
+  atom_exact (prefixed at w a) z k h = (
+    want_atom (under at w k),
+    h at (Before w) refl,
+    atom_exact a (want_atom (under at w k)) (under at w k) (λ at x h. refl),
+  )
 
 -- the text of a program is gone through to its end
-pub program_exact : (p : Program) → (t : State) × Follows (want_expr whole) (expr_text 0 p.expr) t × (step t p.end End ≡ finish (expr_part p.expr))
+pub program_exact : (p : Program) → (t : State) × Follows (want_expr whole) (expr_text 0 p.expr) t ×
+    (step t p.end End ≡ finish (expr_part p.expr))
 program_exact p = let (t, follows, goes) = expr_exact p.expr whole in (t, follows, goes p.end End refl)

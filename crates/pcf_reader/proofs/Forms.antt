@@ -1,12 +1,18 @@
 -- Each term has a phrase for what is printed of it, on each level of the grammar.
-use Rattle.std.proofs.Common.{◌≡◌, ℕ, suc, ◌+◌, ◌<◌, ◌^◌, max, List, [], ◌∷◌, ◌++◌, map, length, refl, sym, ap, ◌∙◌, subst, arith, length-append}
+use Rattle.std.proofs.Common.{◌≡◌, ℕ, suc, ◌+◌, ◌<◌, ◌^◌, max, List, [], ◌∷◌, ◌++◌, map, length, refl, sym}
+use Rattle.std.proofs.Common.{ap, ◌∙◌, subst, arith, length-append}
 use Rattle.std.specs.Prelude.{codes, decimal}
 use Rattle.std.specs.Str.{chars}
 use Rattle.pcf_values.specs.Most.{most_open}
 use Rattle.pcf_values.specs.Values.{Op, plus_op, minus_op, times_op}
-use Rattle.pcf_values.specs.Named.{NamedTree, number_at, name_at, word_at, binary_at, pair_at, ifz_at, bind_at, apply_at, Word, Binder, the_fun, the_fix}
+use Rattle.pcf_values.specs.Named.{NamedTree, number_at, name_at, word_at, binary_at, pair_at, ifz_at, bind_at, apply_at, Word, Binder}
+use Rattle.pcf_values.specs.Named.{the_fun, the_fix}
 use Rattle.pcf_reader.specs.Tokens.{Token, Close, Colon, Dot, Comma, Plus, Minus, Times, Then, Else, Name, Placed}
-use Rattle.pcf_reader.specs.Grammar.{Type_, only_ptype, arrow_type, PType, only_tatom, times_type, TAtom, nat_type, paren_type, Expr, binding, choice, only_sum, Sum, only_product, plus, minus, Product, only_app, times, App, only_atom, applied, Atom, numeral, variable, parens, pairing, prefixed, Part, binary, expr_part, sum_part, product_part, app_part_of, atom_part, Written, placed, plain, marked, type_text, ptype_text, tatom_text, expr_text, sum_text, product_text, app_text, atom_text}
+use Rattle.pcf_reader.specs.Grammar.{Type_, only_ptype, arrow_type, PType, only_tatom, times_type, TAtom, nat_type, paren_type, Expr}
+use Rattle.pcf_reader.specs.Grammar.{binding, choice, only_sum, Sum, only_product, plus, minus, Product, only_app, times, App, only_atom}
+use Rattle.pcf_reader.specs.Grammar.{applied, Atom, numeral, variable, parens, pairing, prefixed, Part, binary, expr_part, sum_part}
+use Rattle.pcf_reader.specs.Grammar.{product_part, app_part_of, atom_part, Written, placed, plain, marked, type_text, ptype_text}
+use Rattle.pcf_reader.specs.Grammar.{tatom_text, expr_text, sum_text, product_text, app_text, atom_text}
 use Rattle.pcf_reader.specs.Spelling.{Splits}
 use Rattle.pcf_reader.specs.Text.{IsNarrow, IsShallow, Each}
 use Rattle.pcf_reader.specs.Printed.{fitted, ty_text, word_text, binder_text, op_text, level, term_text, placeless}
@@ -14,7 +20,9 @@ use Rattle.pcf_reader.proofs.Lists.{WritesNarrow, each_append}
 use Rattle.pcf_reader.proofs.Shown.{fit_onto, fit_height, fit_shallow, ty_onto, own_onto, own_height, own_shallow, Fine}
 use Rattle.pcf_reader.proofs.Pieces.{Clear, place_at, blank_piece, number_piece, name_piece}
 use Rattle.pcf_reader.proofs.Lexed.{at_place}
-use Rattle.pcf_reader.proofs.Canon.{both_parts, space, closes, comma_clear, colon_clear, dot_clear, some_left, open_piece, close_piece, comma_piece, colon_piece, dot_piece, plus_piece, minus_piece, times_piece, word_splits, binder_splits, ifz_piece, then_piece, else_piece, ty_forms}
+use Rattle.pcf_reader.proofs.Canon.{both_parts, space, closes, comma_clear, colon_clear, dot_clear, some_left, open_piece, close_piece}
+use Rattle.pcf_reader.proofs.Canon.{comma_piece, colon_piece, dot_piece, plus_piece, minus_piece, times_piece, word_splits, binder_splits}
+use Rattle.pcf_reader.proofs.Canon.{ifz_piece, then_piece, else_piece, ty_forms}
 
 -- types have no numbers
 mutual
@@ -31,13 +39,15 @@ mutual
   narrow_tatom o (paren_type at t close) = (tt, each_append WritesNarrow (type_text (suc o) t) _ (narrow_type (suc o) t) (tt, tt))
 
 -- a phrase for these bytes, which stand before others from a place on
-pub record Writes (X : Type 0) (part : X → Part) (text : ℕ → ℕ → ℕ → X → List Written) (bytes : List ℕ) (onto : List ℕ → List ℕ) (t : NamedTree) (h : ℕ) (S : ℕ → Type 0) (at : ℕ) : Type 0 where
+pub record Writes (X : Type 0) (part : X → Part) (text : ℕ → ℕ → ℕ → X →
+    List Written) (bytes : List ℕ) (onto : List ℕ → List ℕ) (t : NamedTree) (h : ℕ) (S : ℕ → Type 0) (at : ℕ) : Type 0 where
   pub phrase : X
   pub same : placeless (part phrase).tree ≡ placeless t
   pub high : (part phrase).height ≡ h
   pub shallow : (o left extra : ℕ) → left < most_open → S o → Each IsShallow (text o left extra phrase)
   pub narrow : (o left extra : ℕ) → Each WritesNarrow (text o left extra phrase)
-  pub splits : (o left extra : ℕ) (rest : List ℕ) (items : List Placed) → Clear rest → Splits (at + length bytes) rest items → Splits at (onto rest) (map placed (text o left extra phrase) ++ items)
+  pub splits : (o left extra : ℕ) (rest : List ℕ) (items : List Placed) → Clear rest → Splits (at + length bytes) rest items →
+      Splits at (onto rest) (map placed (text o left extra phrase) ++ items)
 
 -- the tokens of each kind of phrase; only those of an atom depend on what stands left of it
 abbrev pub as_expr : ℕ → ℕ → ℕ → Expr → List Written
@@ -115,30 +125,43 @@ module _ (bytes : List ℕ) (onto : List ℕ → List ℕ) (t : NamedTree) (h : 
       }
 
   -- and an atom where it stands in parentheses
-  in_parens : (at : ℕ) → WritesExpr bytes onto t h S (at + 1) → WritesAtom (codes "(" ++ bytes ++ codes ")") (λ r. 40 ∷ onto (41 ∷ r)) t (suc h) (λ o. (o < most_open) × S (suc o)) at
+  in_parens : (at : ℕ) → WritesExpr bytes onto t h S (at + 1) →
+      WritesAtom (codes "(" ++ bytes ++ codes ")") (λ r. 40 ∷ onto (41 ∷ r)) t (suc h) (λ o. (o < most_open) × S (suc o)) at
   in_parens at w =
       let close : ℕ = (at + 1) + length bytes in
       record {
         phrase = parens at w.phrase close;
         same = w.same;
         high = ap suc w.high;
-        shallow = λ o left extra lt s.
-            (omega (arith, lt, s.0), each_append IsShallow (expr_text (suc o) w.phrase) (plain close Close ∷ []) (w.shallow (suc o) 0 0 some_left s.1) (some_left, tt));
-        narrow = λ o left extra. (tt, each_append WritesNarrow (expr_text (suc o) w.phrase) (plain close Close ∷ []) (w.narrow (suc o) 0 0) (tt, tt));
+        shallow = λ o left extra lt s. (
+          omega (arith, lt, s.0),
+          each_append IsShallow (expr_text (suc o) w.phrase) (plain close Close ∷
+              []) (w.shallow (suc o) 0 0 some_left s.1) (some_left, tt),
+        );
+        narrow = λ o left extra. (
+          tt,
+          each_append WritesNarrow (expr_text (suc o) w.phrase) (plain close Close ∷ [])
+              (w.narrow (suc o) 0 0) (tt, tt),
+        );
         splits = λ o left extra rest items c k.
             open_piece at (onto (41 ∷ rest)) (map placed (expr_text (suc o) w.phrase ++ plain close Close ∷ []) ++ items)
             (both_parts (at + 1) (onto (41 ∷ rest)) (expr_text (suc o) w.phrase) (plain close Close ∷ []) items
             (w.splits (suc o) 0 0 (41 ∷ rest) (at_place close Close ∷ items) (closes rest)
-            (close_piece close rest items (place_at (at + length (codes "(" ++ bytes ++ codes ")")) (close + 1) rest items (omega (arith, length-append bytes (codes ")"))) k))));
+            (close_piece close rest items (place_at (at + length (codes "(" ++ bytes ++ codes ")")) (close + 1) rest items
+            (omega (arith, length-append bytes (codes ")"))) k))));
       }
 
 -- a phrase on each level
 pub record Forms (lvl : ℕ) (bytes : List ℕ) (onto : List ℕ → List ℕ) (t : NamedTree) (h : ℕ) (S : ℕ → Type 0) : Type 0 where
   pub expr : (at : ℕ) → WritesExpr bytes onto t h S at
-  pub sum : (at : ℕ) → WritesSum (fitted 3 lvl bytes) (λ r. fit_onto 3 lvl onto r) t (fit_height 3 lvl h) (λ o. fit_shallow 3 lvl S o) at
-  pub product : (at : ℕ) → WritesProduct (fitted 2 lvl bytes) (λ r. fit_onto 2 lvl onto r) t (fit_height 2 lvl h) (λ o. fit_shallow 2 lvl S o) at
-  pub app : (at : ℕ) → WritesApp (fitted 1 lvl bytes) (λ r. fit_onto 1 lvl onto r) t (fit_height 1 lvl h) (λ o. fit_shallow 1 lvl S o) at
-  pub atom : (at : ℕ) → WritesAtom (fitted 0 lvl bytes) (λ r. fit_onto 0 lvl onto r) t (fit_height 0 lvl h) (λ o. fit_shallow 0 lvl S o) at
+  pub sum : (at : ℕ) → WritesSum (fitted 3 lvl bytes) (λ r. fit_onto 3 lvl onto r) t (fit_height 3 lvl h) (λ o. fit_shallow 3 lvl S o)
+      at
+  pub product : (at : ℕ) → WritesProduct (fitted 2 lvl bytes) (λ r. fit_onto 2 lvl onto r) t (fit_height 2 lvl h)
+      (λ o. fit_shallow 2 lvl S o) at
+  pub app : (at : ℕ) → WritesApp (fitted 1 lvl bytes) (λ r. fit_onto 1 lvl onto r) t (fit_height 1 lvl h) (λ o. fit_shallow 1 lvl S o)
+      at
+  pub atom : (at : ℕ) → WritesAtom (fitted 0 lvl bytes) (λ r. fit_onto 0 lvl onto r) t (fit_height 0 lvl h)
+      (λ o. fit_shallow 0 lvl S o) at
 
 module _ (bytes : List ℕ) (onto : List ℕ → List ℕ) (t : NamedTree) (h : ℕ) (S : ℕ → Type 0) where
   -- a term has a phrase on each level, where it has one on its own: in parentheses below it
@@ -160,7 +183,14 @@ module _ (bytes : List ℕ) (onto : List ℕ → List ℕ) (t : NamedTree) (h : 
   from_product w =
       let sum : (at : ℕ) → WritesSum bytes onto t h S at = λ at. in_sum bytes onto t h S at (w at) in
       let expr : (at : ℕ) → WritesExpr bytes onto t h S at = λ at. in_expr bytes onto t h S at (sum at) in
-      record { expr = expr; sum = sum; product = w; app = λ at. in_app _ _ t _ _ at (in_parens bytes onto t h S at (expr (at + 1))); atom = λ at. in_parens bytes onto t h S at (expr (at + 1)) }
+      record {
+        expr = expr;
+        sum = sum;
+        product = w;
+        app = λ at. in_app _ _ t _ _ at (in_parens bytes onto t h S at (expr (at + 1)));
+        atom =
+            λ at. in_parens bytes onto t h S at (expr (at + 1));
+      }
 
   from_sum : ((at : ℕ) → WritesSum bytes onto t h S at) → Forms 3 bytes onto t h S
   from_sum w =
@@ -215,10 +245,12 @@ name_form i x fine =
 -- a word and its operand
 word_form : (i : ℕ) (w : Word) (a : NamedTree) → FormsOf a → FormsOf (word_at i w a)
 word_form i w a f =
-    from_atom (term_text (word_at i w a)) (λ r. own_onto (word_at i w a) r) (word_at i w a) (own_height (word_at i w a)) (λ o. own_shallow (word_at i w a) o)
+    from_atom (term_text (word_at i w a)) (λ r. own_onto (word_at i w a) r) (word_at i w a) (own_height (word_at i w a))
+    (λ o. own_shallow (word_at i w a) o)
     (λ at.
     let inner : List ℕ = fitted 0 (level a) (term_text a) in
-    let p : WritesAtom inner (λ r. fit_onto 0 (level a) (λ r. own_onto a r) r) a (fit_height 0 (level a) (own_height a)) (λ o. fit_shallow 0 (level a) (λ o. own_shallow a o) o) (at + length (word_text w)) = f.atom (at + length (word_text w)) in
+    let p : WritesAtom inner (λ r. fit_onto 0 (level a) (λ r. own_onto a r) r) a (fit_height 0 (level a) (own_height a))
+    (λ o. fit_shallow 0 (level a) (λ o. own_shallow a o) o) (at + length (word_text w)) = f.atom (at + length (word_text w)) in
     record {
       phrase = prefixed at w p.phrase;
       same = ap (λ z. word_at 0 w z) p.same;
@@ -227,13 +259,15 @@ word_form i w a f =
       narrow = λ o left extra. (tt, p.narrow (suc o) 0 0);
       splits = λ o left extra rest items c k.
           word_splits w at (fit_onto 0 (level a) (λ r. own_onto a r) rest) (map placed (atom_text (suc o) 0 0 p.phrase) ++ items)
-          (p.splits (suc o) 0 0 rest items c (place_at (at + length (word_text w ++ inner)) ((at + length (word_text w)) + length inner) rest items (omega (arith, length-append (word_text w) inner)) k));
+          (p.splits (suc o) 0 0 rest items c (place_at (at + length (word_text w ++ inner)) ((at + length (word_text w)) + length inner)
+          rest items (omega (arith, length-append (word_text w) inner)) k));
     })
 
 -- a function and its argument
 apply_form : (i : ℕ) (f a : NamedTree) → FormsOf f → FormsOf a → FormsOf (apply_at i f a)
 apply_form i f a u v =
-    from_app (term_text (apply_at i f a)) (λ r. own_onto (apply_at i f a) r) (apply_at i f a) (own_height (apply_at i f a)) (λ o. own_shallow (apply_at i f a) o)
+    from_app (term_text (apply_at i f a)) (λ r. own_onto (apply_at i f a) r) (apply_at i f a) (own_height (apply_at i f a))
+    (λ o. own_shallow (apply_at i f a) o)
     (λ at.
     let left_bytes : List ℕ = fitted 1 (level f) (term_text f) in
     let right_bytes : List ℕ = fitted 0 (level a) (term_text a) in
@@ -247,26 +281,33 @@ apply_form i f a u v =
       high = λ k. suc (max (p.high k) (q.high k));
       shallow = λ o left extra lt s.
           let low : (app_part_of p.phrase).height < most_open = omega (arith, p.high, s.1) in
-          each_append IsShallow (app_text o p.phrase) (atom_text o (app_part_of p.phrase).height 1 q.phrase) (p.shallow o 0 0 some_left s.0) (q.shallow o (app_part_of p.phrase).height 1 low s.2);
-      narrow = λ o left extra. each_append WritesNarrow (app_text o p.phrase) (atom_text o (app_part_of p.phrase).height 1 q.phrase) (p.narrow o 0 0) (q.narrow o (app_part_of p.phrase).height 1);
+          each_append IsShallow (app_text o p.phrase) (atom_text o (app_part_of p.phrase).height 1 q.phrase) (p.shallow o 0 0 some_left s.0)
+          (q.shallow o (app_part_of p.phrase).height 1 low s.2);
+      narrow = λ o left extra. each_append WritesNarrow (app_text o p.phrase) (atom_text o (app_part_of p.phrase).height 1 q.phrase)
+          (p.narrow o 0 0) (q.narrow o (app_part_of p.phrase).height 1);
       splits = λ o left extra rest items c k.
           both_parts at (own_onto (apply_at i f a) rest) (app_text o p.phrase) (atom_text o (app_part_of p.phrase).height 1 q.phrase) items
-          (p.splits o 0 0 (32 ∷ right_onto rest) (map placed (atom_text o (app_part_of p.phrase).height 1 q.phrase) ++ items) (space (right_onto rest))
+          (p.splits o 0 0 (32 ∷ right_onto rest) (map placed (atom_text o (app_part_of p.phrase).height 1 q.phrase) ++
+          items) (space (right_onto rest))
           (blank_piece mid (right_onto rest) (map placed (atom_text o (app_part_of p.phrase).height 1 q.phrase) ++ items)
           (q.splits o (app_part_of p.phrase).height 1 rest items c
-          (place_at (at + length (left_bytes ++ codes " " ++ right_bytes)) ((mid + 1) + length right_bytes) rest items (omega (arith, length-append (left_bytes ++ codes " ") right_bytes, length-append left_bytes (codes " "))) k))));
+          (place_at (at + length (left_bytes ++ codes " " ++ right_bytes)) ((mid + 1) + length right_bytes) rest items
+          (omega (arith, length-append (left_bytes ++ codes " ") right_bytes, length-append left_bytes (codes " "))) k))));
     })
 
 -- An operator between phrases of two kinds: its token, and the form that makes of both operands a phrase of the left one's kind. What
 -- such a phrase stands for and is written with is told once for all operators.
-record Operator (op : Op) (X Y : Type 0) (part : X → Part) (text : ℕ → ℕ → ℕ → X → List Written) (right_part : Y → Part) (right_text : ℕ → ℕ → ℕ → Y → List Written) : Type 0 where
+record Operator (op : Op) (X Y : Type 0) (part : X → Part) (text : ℕ → ℕ → ℕ → X → List Written) (right_part : Y →
+    Part) (right_text : ℕ → ℕ → ℕ → Y → List Written) : Type 0 where
   token : Token
   form : X → ℕ → Y → X
   parted : (l : X) (at : ℕ) (r : Y) → part (form l at r) ≡ binary op (part l) (right_part r)
-  written : (o left extra : ℕ) (l : X) (at : ℕ) (r : Y) → text o left extra (form l at r) ≡ text o 0 0 l ++ marked at token (part l).height 1 ∷ right_text o 0 0 r
+  written : (o left extra : ℕ) (l : X) (at : ℕ) (r : Y) → text o left extra (form l at r) ≡ text o 0 0 l ++
+      marked at token (part l).height 1 ∷ right_text o 0 0 r
   narrow : IsNarrow token
   clear : (rest : List ℕ) → Clear (op_text op ++ rest)
-  splits : (at : ℕ) (rest : List ℕ) (items : List Placed) → Splits (at + length (op_text op)) rest items → Splits at (op_text op ++ rest) (at_place (at + 1) token ∷ items)
+  splits : (at : ℕ) (rest : List ℕ) (items : List Placed) → Splits (at + length (op_text op)) rest items →
+      Splits at (op_text op ++ rest) (at_place (at + 1) token ∷ items)
 
 -- the three operators
 the_plus : Operator plus_op Sum Product sum_part as_sum product_part as_product
@@ -304,27 +345,33 @@ the_times = record {
 
 -- two operands and the operator between them
 module _
-    (op : Op) (X Y : Type 0) (part : X → Part) (text : ℕ → ℕ → ℕ → X → List Written) (right_part : Y → Part) (right_text : ℕ → ℕ → ℕ → Y → List Written)
+    (op : Op) (X Y : Type 0) (part : X → Part) (text : ℕ → ℕ → ℕ → X → List Written) (right_part : Y →
+    Part) (right_text : ℕ → ℕ → ℕ → Y → List Written)
     (f : Operator op X Y part text right_part right_text)
-    (a b : NamedTree) (a_bytes b_bytes : List ℕ) (a_onto b_onto : List ℕ → List ℕ) (a_height b_height : ℕ) (A B : ℕ → Type 0) where
+    (a b : NamedTree) (a_bytes b_bytes : List ℕ) (a_onto b_onto : List ℕ → List ℕ) (a_height b_height : ℕ) (A B : ℕ →
+    Type 0) where
   operated : (i at : ℕ) → Writes X part text a_bytes a_onto a a_height A at
       → Writes Y right_part right_text b_bytes b_onto b b_height B ((at + length a_bytes) + length (op_text op))
-      → Writes X part text (a_bytes ++ op_text op ++ b_bytes) (λ r. a_onto (op_text op ++ b_onto r)) (binary_at i op a b) (suc (max a_height b_height)) (λ o. A o × (a_height < most_open) × B o) at
+      → Writes X part text (a_bytes ++ op_text op ++ b_bytes) (λ r. a_onto (op_text op ++ b_onto r)) (binary_at i op a b)
+      (suc (max a_height b_height)) (λ o. A o × (a_height < most_open) × B o) at
   operated i at p q =
       let mid : ℕ = at + length a_bytes in
       let whole : X = f.form p.phrase (mid + 1) q.phrase in
       let front : ℕ → List Written = λ o. text o 0 0 p.phrase in
       let behind : ℕ → List Written = λ o. marked (mid + 1) f.token (part p.phrase).height 1 ∷ right_text o 0 0 q.phrase in
       let is : part whole ≡ binary op (part p.phrase) (right_part q.phrase) = f.parted p.phrase (mid + 1) q.phrase in
-      let writes : (o left extra : ℕ) → text o left extra whole ≡ front o ++ behind o = λ o left extra. f.written o left extra p.phrase (mid + 1) q.phrase in
+      let writes : (o left extra : ℕ) → text o left extra whole ≡ front o ++ behind o =
+      λ o left extra. f.written o left extra p.phrase (mid + 1) q.phrase in
       record {
         phrase = whole;
         same = ap (λ (w : Part). placeless w.tree) is ∙ (λ k. binary_at 0 op (p.same k) (q.same k));
         high = ap (λ (w : Part). w.height) is ∙ (λ k. suc (max (p.high k) (q.high k)));
         shallow = λ o left extra lt s.
             let low : (part p.phrase).height < most_open = omega (arith, p.high, s.1) in
-            subst (λ z. Each IsShallow z) (sym (writes o left extra)) (each_append IsShallow (front o) (behind o) (p.shallow o 0 0 some_left s.0) (low, q.shallow o 0 0 some_left s.2));
-        narrow = λ o left extra. subst (λ z. Each WritesNarrow z) (sym (writes o left extra)) (each_append WritesNarrow (front o) (behind o) (p.narrow o 0 0) (f.narrow, q.narrow o 0 0));
+            subst (λ z. Each IsShallow z) (sym (writes o left extra))
+            (each_append IsShallow (front o) (behind o) (p.shallow o 0 0 some_left s.0) (low, q.shallow o 0 0 some_left s.2));
+        narrow = λ o left extra. subst (λ z. Each WritesNarrow z) (sym (writes o left extra))
+            (each_append WritesNarrow (front o) (behind o) (p.narrow o 0 0) (f.narrow, q.narrow o 0 0));
         splits = λ o left extra rest items c k.
             subst (λ z. Splits at (a_onto (op_text op ++ b_onto rest)) (map placed z ++ items)) (sym (writes o left extra))
             (both_parts at (a_onto (op_text op ++ b_onto rest)) (front o) (behind o) items
@@ -338,16 +385,22 @@ module _
 -- each operator between its operands
 binary_form : (i : ℕ) (op : Op) (a b : NamedTree) → FormsOf a → FormsOf b → FormsOf (binary_at i op a b)
 binary_form i plus_op a b u v =
-    from_sum _ _ (binary_at i plus_op a b) _ _ (λ at. operated plus_op Sum Product sum_part as_sum product_part as_product the_plus a b _ _ _ _ _ _ _ _ i at (u.sum at) (v.product _))
+    from_sum _ _ (binary_at i plus_op a b) _ _ (λ at. operated plus_op Sum Product sum_part as_sum product_part as_product the_plus a b _ _
+    _ _ _ _ _ _ i at (u.sum at) (v.product _))
 binary_form i minus_op a b u v =
-    from_sum _ _ (binary_at i minus_op a b) _ _ (λ at. operated minus_op Sum Product sum_part as_sum product_part as_product the_minus a b _ _ _ _ _ _ _ _ i at (u.sum at) (v.product _))
+    from_sum _ _ (binary_at i minus_op a b) _ _
+    (λ at. operated minus_op Sum Product sum_part as_sum product_part as_product the_minus a b _ _ _ _ _ _ _ _ i at (u.sum at)
+    (v.product _))
 binary_form i times_op a b u v =
-    from_product _ _ (binary_at i times_op a b) _ _ (λ at. operated times_op Product App product_part as_product app_part_of as_app the_times a b _ _ _ _ _ _ _ _ i at (u.product at) (v.app _))
+    from_product _ _ (binary_at i times_op a b) _ _
+    (λ at. operated times_op Product App product_part as_product app_part_of as_app the_times a b _ _ _ _ _ _ _ _ i at (u.product at)
+    (v.app _))
 
 -- a pair
 pair_form : (i : ℕ) (a b : NamedTree) → FormsOf a → FormsOf b → FormsOf (pair_at i a b)
 pair_form i a b u v =
-    from_atom (term_text (pair_at i a b)) (λ r. own_onto (pair_at i a b) r) (pair_at i a b) (own_height (pair_at i a b)) (λ o. own_shallow (pair_at i a b) o)
+    from_atom (term_text (pair_at i a b)) (λ r. own_onto (pair_at i a b) r) (pair_at i a b) (own_height (pair_at i a b))
+    (λ o. own_shallow (pair_at i a b) o)
     (λ at.
     let comma : ℕ = (at + 1) + length (term_text a) in
     let close : ℕ = (comma + 2) + length (term_text b) in
@@ -359,22 +412,33 @@ pair_form i a b u v =
       high = λ k. suc (max (p.high k) (q.high k));
       shallow = λ o left extra lt s. (
         omega (arith, lt, s.0),
-        each_append IsShallow (expr_text (suc o) p.phrase) (marked comma Comma 0 1 ∷ (expr_text (suc o) q.phrase ++ plain close Close ∷ [])) (p.shallow (suc o) 0 0 some_left s.1)
-            (some_left, each_append IsShallow (expr_text (suc o) q.phrase) (plain close Close ∷ []) (q.shallow (suc o) 0 0 some_left s.2) (some_left, tt)),
+        each_append IsShallow (expr_text (suc o) p.phrase) (marked comma Comma 0 1 ∷
+            (expr_text (suc o) q.phrase ++ plain close Close ∷ [])) (p.shallow (suc o) 0 0 some_left s.1) (
+              some_left,
+              each_append IsShallow (expr_text (suc o) q.phrase) (plain close Close ∷
+                  []) (q.shallow (suc o) 0 0 some_left s.2) (some_left, tt),
+            ),
       );
       narrow = λ o left extra. (
         tt,
-        each_append WritesNarrow (expr_text (suc o) p.phrase) (marked comma Comma 0 1 ∷ (expr_text (suc o) q.phrase ++ plain close Close ∷ [])) (p.narrow (suc o) 0 0)
+        each_append WritesNarrow (expr_text (suc o) p.phrase) (marked comma Comma 0 1 ∷
+            (expr_text (suc o) q.phrase ++ plain close Close ∷ [])) (p.narrow (suc o) 0 0)
             (tt, each_append WritesNarrow (expr_text (suc o) q.phrase) (plain close Close ∷ []) (q.narrow (suc o) 0 0) (tt, tt)),
       );
       splits = λ o left extra rest items c k.
           let behind : List Placed = map placed (expr_text (suc o) q.phrase) ++ (at_place close Close ∷ items) in
-          open_piece at (own_onto a (44 ∷ 32 ∷ own_onto b (41 ∷ rest))) (map placed (expr_text (suc o) p.phrase ++ marked comma Comma 0 1 ∷ (expr_text (suc o) q.phrase ++ plain close Close ∷ [])) ++ items)
-          (both_parts (at + 1) (own_onto a (44 ∷ 32 ∷ own_onto b (41 ∷ rest))) (expr_text (suc o) p.phrase) (marked comma Comma 0 1 ∷ (expr_text (suc o) q.phrase ++ plain close Close ∷ [])) items
-          (p.splits (suc o) 0 0 (44 ∷ 32 ∷ own_onto b (41 ∷ rest)) (at_place comma Comma ∷ (map placed (expr_text (suc o) q.phrase ++ plain close Close ∷ []) ++ items)) (comma_clear (32 ∷ own_onto b (41 ∷ rest)))
-          (comma_piece comma (32 ∷ own_onto b (41 ∷ rest)) (map placed (expr_text (suc o) q.phrase ++ plain close Close ∷ []) ++ items)
+          open_piece at (own_onto a (44 ∷ 32 ∷ own_onto b (41 ∷ rest)))
+          (map placed (expr_text (suc o) p.phrase ++ marked comma Comma 0 1 ∷
+          (expr_text (suc o) q.phrase ++ plain close Close ∷ [])) ++ items)
+          (both_parts (at + 1) (own_onto a (44 ∷ 32 ∷ own_onto b (41 ∷ rest))) (expr_text (suc o) p.phrase)
+          (marked comma Comma 0 1 ∷ (expr_text (suc o) q.phrase ++ plain close Close ∷ [])) items
+          (p.splits (suc o) 0 0 (44 ∷ 32 ∷ own_onto b (41 ∷ rest)) (at_place comma Comma ∷
+          (map placed (expr_text (suc o) q.phrase ++ plain close Close ∷ []) ++ items)) (comma_clear (32 ∷ own_onto b (41 ∷ rest)))
+          (comma_piece comma (32 ∷ own_onto b (41 ∷ rest)) (map placed (expr_text (suc o) q.phrase ++ plain close Close ∷ []) ++
+          items)
           (blank_piece (comma + 1) (own_onto b (41 ∷ rest)) (map placed (expr_text (suc o) q.phrase ++ plain close Close ∷ []) ++ items)
-          (place_at (comma + 2) ((comma + 1) + 1) (own_onto b (41 ∷ rest)) (map placed (expr_text (suc o) q.phrase ++ plain close Close ∷ []) ++ items) (omega arith)
+          (place_at (comma + 2) ((comma + 1) + 1) (own_onto b (41 ∷ rest))
+          (map placed (expr_text (suc o) q.phrase ++ plain close Close ∷ []) ++ items) (omega arith)
           (both_parts (comma + 2) (own_onto b (41 ∷ rest)) (expr_text (suc o) q.phrase) (plain close Close ∷ []) items
           (q.splits (suc o) 0 0 (41 ∷ rest) (at_place close Close ∷ items) (closes rest)
           (close_piece close rest items
@@ -391,7 +455,8 @@ pair_form i a b u v =
 -- `ifz`
 choice_form : (i : ℕ) (a b d : NamedTree) → FormsOf a → FormsOf b → FormsOf d → FormsOf (ifz_at i a b d)
 choice_form i a b d u v w =
-    from_expr (term_text (ifz_at i a b d)) (λ r. own_onto (ifz_at i a b d) r) (ifz_at i a b d) (own_height (ifz_at i a b d)) (λ o. own_shallow (ifz_at i a b d) o)
+    from_expr (term_text (ifz_at i a b d)) (λ r. own_onto (ifz_at i a b d) r) (ifz_at i a b d) (own_height (ifz_at i a b d))
+    (λ o. own_shallow (ifz_at i a b d) o)
     (λ at.
     let yes : ℕ = (at + 4) + length (term_text a) in
     let no : ℕ = (yes + 6) + length (term_text b) in
@@ -404,13 +469,21 @@ choice_form i a b d u v w =
       high = λ k. suc (max (p.high k) (max (q.high k) (r.high k)));
       shallow = λ o left extra lt s. (
         s.0,
-        each_append IsShallow (expr_text (suc o) p.phrase) (plain (yes + 1) Then ∷ (expr_text (suc o) q.phrase ++ plain (no + 1) Else ∷ expr_text (suc o) r.phrase)) (p.shallow (suc o) 0 0 some_left s.1)
-            (some_left, each_append IsShallow (expr_text (suc o) q.phrase) (plain (no + 1) Else ∷ expr_text (suc o) r.phrase) (q.shallow (suc o) 0 0 some_left s.2) (some_left, r.shallow (suc o) 0 0 some_left s.3)),
+        each_append IsShallow (expr_text (suc o) p.phrase) (plain (yes + 1) Then ∷
+            (expr_text (suc o) q.phrase ++ plain (no + 1) Else ∷ expr_text (suc o) r.phrase)) (p.shallow (suc o) 0 0 some_left s.1) (
+              some_left,
+              each_append IsShallow (expr_text (suc o) q.phrase) (plain (no + 1) Else ∷
+                  expr_text (suc o) r.phrase) (q.shallow (suc o) 0 0 some_left s.2) (some_left, r.shallow (suc o) 0 0 some_left s.3),
+            ),
       );
       narrow = λ o left extra. (
         tt,
-        each_append WritesNarrow (expr_text (suc o) p.phrase) (plain (yes + 1) Then ∷ (expr_text (suc o) q.phrase ++ plain (no + 1) Else ∷ expr_text (suc o) r.phrase)) (p.narrow (suc o) 0 0)
-            (tt, each_append WritesNarrow (expr_text (suc o) q.phrase) (plain (no + 1) Else ∷ expr_text (suc o) r.phrase) (q.narrow (suc o) 0 0) (tt, r.narrow (suc o) 0 0)),
+        each_append WritesNarrow (expr_text (suc o) p.phrase) (plain (yes + 1) Then ∷
+            (expr_text (suc o) q.phrase ++ plain (no + 1) Else ∷ expr_text (suc o) r.phrase)) (p.narrow (suc o) 0 0) (
+              tt,
+              each_append WritesNarrow (expr_text (suc o) q.phrase) (plain (no + 1) Else ∷
+                  expr_text (suc o) r.phrase) (q.narrow (suc o) 0 0) (tt, r.narrow (suc o) 0 0),
+            ),
       );
       splits = λ o left extra rest items c k.
           let third : List Written = plain (no + 1) Else ∷ expr_text (suc o) r.phrase in
@@ -419,7 +492,8 @@ choice_form i a b d u v w =
           let behind_yes : List ℕ = 32 ∷ 116 ∷ 104 ∷ 101 ∷ 110 ∷ 32 ∷ own_onto b behind_no in
           ifz_piece at (own_onto a behind_yes) (map placed (expr_text (suc o) p.phrase ++ second) ++ items)
           (both_parts (at + 4) (own_onto a behind_yes) (expr_text (suc o) p.phrase) second items
-          (p.splits (suc o) 0 0 behind_yes (map placed second ++ items) (space (116 ∷ 104 ∷ 101 ∷ 110 ∷ 32 ∷ own_onto b behind_no))
+          (p.splits (suc o) 0 0 behind_yes (map placed second ++ items)
+          (space (116 ∷ 104 ∷ 101 ∷ 110 ∷ 32 ∷ own_onto b behind_no))
           (then_piece yes (own_onto b behind_no) (map placed (expr_text (suc o) q.phrase ++ third) ++ items)
           (both_parts (yes + 6) (own_onto b behind_no) (expr_text (suc o) q.phrase) third items
           (q.splits (suc o) 0 0 behind_no (map placed third ++ items) (space (101 ∷ 108 ∷ 115 ∷ 101 ∷ 32 ∷ own_onto d rest))
@@ -442,9 +516,11 @@ binder_length the_fun = refl
 binder_length the_fix = refl
 
 -- `fun` and `fix`
-binding_form : (i : ℕ) (b : Binder) (x : List ℕ) (t : _) (m : NamedTree) → Fine (name_at i x) → FormsOf m → FormsOf (bind_at i b x t m)
+binding_form : (i : ℕ) (b : Binder) (x : List ℕ) (t : _) (m : NamedTree) → Fine (name_at i x) → FormsOf m →
+    FormsOf (bind_at i b x t m)
 binding_form i b x t m fine u =
-    from_expr (term_text (bind_at i b x t m)) (λ r. own_onto (bind_at i b x t m) r) (bind_at i b x t m) (own_height (bind_at i b x t m)) (λ o. own_shallow (bind_at i b x t m) o)
+    from_expr (term_text (bind_at i b x t m)) (λ r. own_onto (bind_at i b x t m) r) (bind_at i b x t m) (own_height (bind_at i b x t m))
+    (λ o. own_shallow (bind_at i b x t m) o)
     (λ at.
     let colon : ℕ = (at + 4) + length x in
     let dot : ℕ = (colon + 1) + length (ty_text t) in
@@ -456,9 +532,26 @@ binding_form i b x t m fine u =
       high = ap suc p.high;
       shallow = λ o left extra lt s. (
         s.0,
-        (some_left, (some_left, each_append IsShallow (type_text (suc o) q.phrase) (plain dot Dot ∷ expr_text (suc o) p.phrase) (q.shallow (suc o) s.1) (some_left, p.shallow (suc o) 0 0 some_left s.2))),
+        (
+          some_left,
+          (
+            some_left,
+            each_append IsShallow (type_text (suc o) q.phrase) (plain dot Dot ∷
+                expr_text (suc o) p.phrase) (q.shallow (suc o) s.1) (some_left, p.shallow (suc o) 0 0 some_left s.2),
+          ),
+        ),
       );
-      narrow = λ o left extra. (tt, (tt, (tt, each_append WritesNarrow (type_text (suc o) q.phrase) (plain dot Dot ∷ expr_text (suc o) p.phrase) (narrow_type (suc o) q.phrase) (tt, p.narrow (suc o) 0 0))));
+      narrow = λ o left extra. (
+        tt,
+        (
+          tt,
+          (
+            tt,
+            each_append WritesNarrow (type_text (suc o) q.phrase) (plain dot Dot ∷
+                expr_text (suc o) p.phrase) (narrow_type (suc o) q.phrase) (tt, p.narrow (suc o) 0 0),
+          ),
+        ),
+      );
       splits = λ o left extra rest items c k.
           let second : List Written = plain dot Dot ∷ expr_text (suc o) p.phrase in
           let all : List Placed = map placed (type_text (suc o) q.phrase ++ second) ++ items in

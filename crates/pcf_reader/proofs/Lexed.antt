@@ -1,11 +1,14 @@
 -- The machine over characters splits a text by the longest match.
-use Rattle.std.proofs.Common.{◌≡◌, ◌⊎◌, ℕ, ◌+◌, ◌-◌, ◌*◌, Bool, true, false, not, List, [], ◌∷◌, ◌++◌, Option, Some, None, refl, sym, ap, ◌∙◌, subst, if◌then◌else◌, inl, inr, arith, add-zero, add_assoc, append-nil, append_assoc}
+use Rattle.std.proofs.Common.{◌≡◌, ◌⊎◌, ℕ, ◌+◌, ◌-◌, ◌*◌, Bool, true, false, not, List, [], ◌∷◌, ◌++◌}
+use Rattle.std.proofs.Common.{Option, Some, None, refl, sym, ap, ◌∙◌, subst, if◌then◌else◌, inl, inr, arith, add-zero}
+use Rattle.std.proofs.Common.{add_assoc, append-nil, append_assoc}
 use Rattle.std.specs.Prelude.{◌==◌, encode_utf8, encode_utf8_all}
 use Rattle.std.specs.Char.{len_utf8}
 use Rattle.std.proofs.lemmas.Bool.{cond_both, eqb-true}
 use Rattle.unicode_ident.specs.Ident.{is_xid_continue}
 use Rattle.pcf_reader.specs.Tokens.{Token, Minus, Arrow, Number, End, Placed}
-use Rattle.pcf_reader.specs.Spelling.{is_blank, is_digit, starts_name, sign_of, word_of, value_from, AllPass, sign, arrow, digits, word, width, IsLongest, EndsLine, Splits, ends, blank, comment, token, junk}
+use Rattle.pcf_reader.specs.Spelling.{is_blank, is_digit, starts_name, sign_of, word_of, value_from, AllPass, sign, arrow, digits, word}
+use Rattle.pcf_reader.specs.Spelling.{width, IsLongest, EndsLine, Splits, ends, blank, comment, token, junk}
 use Rattle.pcf_reader.specs.Lexing.{Mode, idle, in_comment, after_dash, in_number, in_word, closed, on_sign, opened, turned, lex}
 use Rattle.pcf_reader.proofs.Longest.{no_longer_number, no_longer_word, no_longer_sign, none_begins, two_signs}
 
@@ -20,19 +23,23 @@ abbrev pub Idle : List ℕ → Type 0
 Idle cs = (at : ℕ) → Splits at cs (lex cs at idle)
 
 abbrev pub Commented : List ℕ → Type 0
-Commented cs = (at : ℕ) → (ds : List ℕ) × (rest : List ℕ) × (cs ≡ ds ++ rest) × AllPass (λ c. not (c == 10)) ds × EndsLine rest × Splits (at + width ds) rest (lex cs at in_comment)
+Commented cs = (at : ℕ) → (ds : List ℕ) × (rest : List ℕ) × (cs ≡ ds ++ rest) × AllPass (λ c. not (c == 10)) ds ×
+    EndsLine rest × Splits (at + width ds) rest (lex cs at in_comment)
 
 abbrev pub Numbered : List ℕ → Type 0
-Numbered cs = (at start n : ℕ) → (ds : List ℕ) × (rest : List ℕ) × (items : List Placed) × (cs ≡ ds ++ rest) × AllPass is_digit ds × Stops is_digit rest
+Numbered cs = (at start n : ℕ) → (ds : List ℕ) × (rest : List ℕ) × (items : List Placed) × (cs ≡ ds ++ rest) ×
+    AllPass is_digit ds × Stops is_digit rest
     × (lex cs at (in_number start n) ≡ at_place start (Number (value_from n ds)) ∷ items) × Splits (at + width ds) rest items
 
 abbrev pub Worded : List ℕ → Type 0
-Worded cs = (at start : ℕ) (w : List ℕ) → (ds : List ℕ) × (rest : List ℕ) × (items : List Placed) × (cs ≡ ds ++ rest) × AllPass is_xid_continue ds × Stops is_xid_continue rest
+Worded cs = (at start : ℕ) (w : List ℕ) → (ds : List ℕ) × (rest : List ℕ) × (items : List Placed) × (cs ≡ ds ++ rest) ×
+    AllPass is_xid_continue ds × Stops is_xid_continue rest
     × (lex cs at (in_word start w) ≡ at_place start (word_of (w ++ encode_utf8_all ds)) ∷ items) × Splits (at + width ds) rest items
 
 abbrev pub Dashed : List ℕ → Type 0
 Dashed cs = (at start : ℕ) →
-    ((rest : List ℕ) × (items : List Placed) × (cs ≡ 62 ∷ rest) × (lex cs at (after_dash start) ≡ at_place start Arrow ∷ items) × Splits (at + 1) rest items)
+    ((rest : List ℕ) × (items : List Placed) × (cs ≡ 62 ∷ rest) ×
+    (lex cs at (after_dash start) ≡ at_place start Arrow ∷ items) × Splits (at + 1) rest items)
     ⊎ (Stops (λ c. c == 62) cs × (lex cs at (after_dash start) ≡ at_place start Minus ∷ lex cs at idle))
 
 pub record Lexed (cs : List ℕ) : Type 0 where
@@ -60,28 +67,37 @@ shifted at n m rest items h = subst (λ i. Splits i rest items) (add_assoc at n 
 to : (at : ℕ) (cs : List ℕ) (a b : List Placed) → a ≡ b → Splits at cs b → Splits at cs a
 to at cs a b e h = subst (λ z. Splits at cs z) (sym e) h
 
-number_splits : (c : ℕ) (cs : List ℕ) (at : ℕ) → Numbered cs → is_digit c ≡ true → Splits at (c ∷ cs) (lex cs (at + len_utf8 c) (in_number at (c - 48)))
+number_splits : (c : ℕ) (cs : List ℕ) (at : ℕ) → Numbered cs → is_digit c ≡ true →
+    Splits at (c ∷ cs) (lex cs (at + len_utf8 c) (in_number at (c - 48)))
 number_splits c cs at h first =
     let (ds, rest, items, split, all, stops, is, more) = h (at + len_utf8 c) at (c - 48) in
     let v : value_from 0 (c ∷ ds) ≡ value_from (c - 48) ds = ap (λ n. value_from n ds) (omega arith) in
-    to at (c ∷ cs) (lex cs (at + len_utf8 c) (in_number at (c - 48))) (at_place at (Number (value_from 0 (c ∷ ds))) ∷ items) (is ∙ ap (λ n. at_place at (Number n) ∷ items) (sym v))
-    (token at (c ∷ cs) (c ∷ ds) rest (Number (value_from 0 (c ∷ ds))) items (ap (λ z. c ∷ z) split) (digits c ds (first, all)) (longest_number c ds rest first stops)
+    to at (c ∷ cs) (lex cs (at + len_utf8 c) (in_number at (c - 48))) (at_place at (Number (value_from 0 (c ∷ ds))) ∷ items) (is ∙
+    ap (λ n. at_place at (Number n) ∷ items) (sym v))
+    (token at (c ∷ cs) (c ∷ ds) rest (Number (value_from 0 (c ∷ ds))) items (ap (λ z. c ∷ z) split) (digits c ds (first, all))
+    (longest_number c ds rest first stops)
     (shifted at (len_utf8 c) (width ds) rest items more))
 
-word_splits : (c : ℕ) (cs : List ℕ) (at : ℕ) → Worded cs → starts_name c ≡ true → Splits at (c ∷ cs) (lex cs (at + len_utf8 c) (in_word at (encode_utf8 c)))
+word_splits : (c : ℕ) (cs : List ℕ) (at : ℕ) → Worded cs → starts_name c ≡ true →
+    Splits at (c ∷ cs) (lex cs (at + len_utf8 c) (in_word at (encode_utf8 c)))
 word_splits c cs at h first =
     let (ds, rest, items, split, all, stops, is, more) = h (at + len_utf8 c) at (encode_utf8 c) in
-    to at (c ∷ cs) (lex cs (at + len_utf8 c) (in_word at (encode_utf8 c))) (at_place at (word_of (encode_utf8_all (c ∷ ds))) ∷ items) is
-    (token at (c ∷ cs) (c ∷ ds) rest (word_of (encode_utf8_all (c ∷ ds))) items (ap (λ z. c ∷ z) split) (word c ds first all) (longest_word c ds rest first stops)
+    to at (c ∷ cs) (lex cs (at + len_utf8 c) (in_word at (encode_utf8 c))) (at_place at (word_of (encode_utf8_all (c ∷ ds))) ∷
+    items) is
+    (token at (c ∷ cs) (c ∷ ds) rest (word_of (encode_utf8_all (c ∷ ds))) items (ap (λ z. c ∷ z) split) (word c ds first all)
+    (longest_word c ds rest first stops)
     (shifted at (len_utf8 c) (width ds) rest items more))
 
-pub longest_sign : (c : ℕ) (y : Token) (rest : List ℕ) → sign_of c ≡ Some y → (c ≡ 45 → Stops (λ d. d == 62) rest) → IsLongest (c ∷ []) rest
+pub longest_sign : (c : ℕ) (y : Token) (rest : List ℕ) → sign_of c ≡ Some y → (c ≡ 45 → Stops (λ d. d == 62) rest) →
+    IsLongest (c ∷ []) rest
 longest_sign c y [] first stops us vs d x e h = let z : ⊥ = cc in absurd z
 longest_sign c y (r ∷ rest) first stops us vs d x e h =
     let is : r ≡ d = cc in
-    no_longer_sign c y d us (c ∷ d ∷ us) x first (λ dash gt. let n : (r == 62) ≡ false = stops dash in let m : (r == 62) ≡ true = ap (λ v. v == 62) (is ∙ gt) in let z : false ≡ true = sym n ∙ m in cc) h refl
+    no_longer_sign c y d us (c ∷ d ∷ us) x first (λ dash gt. let n : (r == 62) ≡ false = stops dash in
+    let m : (r == 62) ≡ true = ap (λ v. v == 62) (is ∙ gt) in let z : false ≡ true = sym n ∙ m in cc) h refl
 
-sign_splits : (c : ℕ) (cs : List ℕ) (at : ℕ) (y : Token) → sign_of c ≡ Some y → (c ≡ 45 → Stops (λ d. d == 62) cs) → Splits (at + len_utf8 c) cs (lex cs (at + len_utf8 c) idle)
+sign_splits : (c : ℕ) (cs : List ℕ) (at : ℕ) (y : Token) → sign_of c ≡ Some y → (c ≡ 45 → Stops (λ d. d == 62) cs) →
+    Splits (at + len_utf8 c) cs (lex cs (at + len_utf8 c) idle)
     → Splits at (c ∷ cs) (at_place at y ∷ lex cs (at + len_utf8 c) idle)
 sign_splits c cs at y first stops h =
     token at (c ∷ cs) (c ∷ []) cs y (lex cs (at + len_utf8 c) idle) refl (sign c y first) (longest_sign c y cs first stops)
@@ -94,29 +110,34 @@ arrow_longest rest us vs d x e h = two_signs (45 ∷ 62 ∷ d ∷ us) x d us h r
 one_byte : (c n at m : ℕ) → c ≡ n → len_utf8 n ≡ 1 → (at + len_utf8 c) + m ≡ at + (1 + m)
 one_byte c n at m e h = let k : len_utf8 c ≡ 1 = ap len_utf8 e ∙ h in omega arith
 
-comment_splits : (c : ℕ) (cs : List ℕ) (at : ℕ) → Commented cs → c ≡ 35 → Splits at (c ∷ cs) (lex cs (at + len_utf8 c) in_comment)
+comment_splits : (c : ℕ) (cs : List ℕ) (at : ℕ) → Commented cs → c ≡ 35 →
+    Splits at (c ∷ cs) (lex cs (at + len_utf8 c) in_comment)
 comment_splits c cs at h e =
     let (ds, rest, split, all, line, more) = h (at + len_utf8 c) in
     comment at (c ∷ cs) ds rest (lex cs (at + len_utf8 c) in_comment) (ap (λ z. z ∷ cs) e ∙ ap (λ z. 35 ∷ z) split) all line
     (subst (λ i. Splits i rest (lex cs (at + len_utf8 c) in_comment)) (one_byte c 35 at (width ds) e refl) more)
 
-dash_splits : (c : ℕ) (cs : List ℕ) (at : ℕ) → Lexed cs → c ≡ 45 → Splits at (c ∷ cs) (lex cs (at + len_utf8 c) (after_dash at))
+dash_splits : (c : ℕ) (cs : List ℕ) (at : ℕ) → Lexed cs → c ≡ 45 →
+    Splits at (c ∷ cs) (lex cs (at + len_utf8 c) (after_dash at))
 dash_splits c cs at h e =
     elim (h.dashes (at + len_utf8 c) at) [
       | inl (rest, items, split, is, more) ↦
           to at (c ∷ cs) (lex cs (at + len_utf8 c) (after_dash at)) (at_place at Arrow ∷ items) is
-          (token at (c ∷ cs) (45 ∷ 62 ∷ []) rest Arrow items (ap (λ z. z ∷ cs) e ∙ ap (λ z. 45 ∷ z) split) arrow (arrow_longest rest)
+          (token at (c ∷ cs) (45 ∷ 62 ∷ []) rest Arrow items (ap (λ z. z ∷ cs) e ∙
+          ap (λ z. 45 ∷ z) split) arrow (arrow_longest rest)
           (subst (λ i. Splits i rest items) (one_byte c 45 at 1 e refl) more))
       | inr (stops, is) ↦
           to at (c ∷ cs) (lex cs (at + len_utf8 c) (after_dash at)) (at_place at Minus ∷ lex cs (at + len_utf8 c) idle) is
           (sign_splits c cs at Minus (ap sign_of e) (λ _. stops) (h.idles (at + len_utf8 c)))
     ]
 
-sign_or_junk : (c : ℕ) (cs : List ℕ) (at : ℕ) → Lexed cs → is_blank c ≡ false → (c == 35) ≡ false → (c == 45) ≡ false → is_digit c ≡ false → starts_name c ≡ false
+sign_or_junk : (c : ℕ) (cs : List ℕ) (at : ℕ) → Lexed cs → is_blank c ≡ false → (c == 35) ≡ false →
+    (c == 45) ≡ false → is_digit c ≡ false → starts_name c ≡ false
     → (o : Option Token) → sign_of c ≡ o → Splits at (c ∷ cs) (on_sign o at (λ m. lex cs (at + len_utf8 c) m))
 sign_or_junk c cs at h nb nc nd ng nw None e = junk at c cs nb nc (λ us vs x q s. none_begins c cs us vs x e ng nw s q)
 sign_or_junk c cs at h nb nc nd ng nw (Some y) e =
-    sign_splits c cs at y e (λ dash. let z : false ≡ true = sym nd ∙ ap (λ v. v == 45) dash in let k : ⊥ = cc in absurd k) (h.idles (at + len_utf8 c))
+    sign_splits c cs at y e (λ dash. let z : false ≡ true = sym nd ∙ ap (λ v. v == 45) dash in let k : ⊥ = cc in
+    absurd k) (h.idles (at + len_utf8 c))
 
 pub begins : (c : ℕ) (cs : List ℕ) (at : ℕ) → Lexed cs → Splits at (c ∷ cs) (opened at c (λ m. lex cs (at + len_utf8 c) m))
 begins c cs at h =
@@ -139,15 +160,25 @@ zero_on at cs items h = subst (λ i. Splits i cs items) (sym (add-zero at)) h
 
 -- the claims at one character more, by whether it goes on with what is before it
 module _ (c : ℕ) (cs : List ℕ) (h : Lexed cs) where
-  comment_on : (at : ℕ) (b : Bool) → (c == 10) ≡ b → (ds : List ℕ) × (rest : List ℕ) × (c ∷ cs ≡ ds ++ rest) × AllPass (λ c. not (c == 10)) ds × EndsLine rest
+  comment_on : (at : ℕ) (b : Bool) → (c == 10) ≡ b → (ds : List ℕ) × (rest : List ℕ) × (c ∷ cs ≡ ds ++ rest) ×
+      AllPass (λ c. not (c == 10)) ds × EndsLine rest
       × Splits (at + width ds) rest (turned (if b then None else Some in_comment) in_comment at c (λ m. lex cs (at + len_utf8 c) m))
-  comment_on at true e = ([], c ∷ cs, refl, tt, eqb-true c 10 e, zero_on at (c ∷ cs) (opened at c (λ m. lex cs (at + len_utf8 c) m)) (begins c cs at h))
+  comment_on at true e =
+      ([], c ∷ cs, refl, tt, eqb-true c 10 e, zero_on at (c ∷ cs) (opened at c (λ m. lex cs (at + len_utf8 c) m)) (begins c cs at h))
   comment_on at false e =
-      let (ds, rest, split, all, line, more) = h.comments (at + len_utf8 c) in
-      (c ∷ ds, rest, ap (λ z. c ∷ z) split, (ap not e, all), line, shifted at (len_utf8 c) (width ds) rest (lex cs (at + len_utf8 c) in_comment) more)
+      let (ds, rest, split, all, line, more) = h.comments (at + len_utf8 c) in (
+        c ∷ ds,
+        rest,
+        ap (λ z. c ∷ z) split,
+        (ap not e, all),
+        line,
+        shifted at (len_utf8 c) (width ds) rest (lex cs (at + len_utf8 c) in_comment) more,
+      )
 
-  number_on : (at start n : ℕ) (b : Bool) → is_digit c ≡ b → (ds : List ℕ) × (rest : List ℕ) × (items : List Placed) × (c ∷ cs ≡ ds ++ rest) × AllPass is_digit ds × Stops is_digit rest
-      × (turned (if b then Some (in_number start (10 * n + (c - 48))) else None) (in_number start n) at c (λ m. lex cs (at + len_utf8 c) m) ≡ at_place start (Number (value_from n ds)) ∷ items)
+  number_on : (at start n : ℕ) (b : Bool) → is_digit c ≡ b → (ds : List ℕ) × (rest : List ℕ) × (items : List Placed) ×
+      (c ∷ cs ≡ ds ++ rest) × AllPass is_digit ds × Stops is_digit rest
+      × (turned (if b then Some (in_number start (10 * n + (c - 48))) else None) (in_number start n) at c
+      (λ m. lex cs (at + len_utf8 c) m) ≡ at_place start (Number (value_from n ds)) ∷ items)
       × Splits (at + width ds) rest items
   number_on at start n true e =
       let (ds, rest, items, split, all, stops, is, more) = h.numbers (at + len_utf8 c) start (10 * n + (c - 48)) in
@@ -156,8 +187,10 @@ module _ (c : ℕ) (cs : List ℕ) (h : Lexed cs) where
       let items : List Placed = opened at c (λ m. lex cs (at + len_utf8 c) m) in
       ([], c ∷ cs, items, refl, tt, e, refl, zero_on at (c ∷ cs) items (begins c cs at h))
 
-  word_on : (at start : ℕ) (w : List ℕ) (b : Bool) → is_xid_continue c ≡ b → (ds : List ℕ) × (rest : List ℕ) × (items : List Placed) × (c ∷ cs ≡ ds ++ rest) × AllPass is_xid_continue ds × Stops is_xid_continue rest
-      × (turned (if b then Some (in_word start (w ++ encode_utf8 c)) else None) (in_word start w) at c (λ m. lex cs (at + len_utf8 c) m) ≡ at_place start (word_of (w ++ encode_utf8_all ds)) ∷ items)
+  word_on : (at start : ℕ) (w : List ℕ) (b : Bool) → is_xid_continue c ≡ b → (ds : List ℕ) × (rest : List ℕ) ×
+      (items : List Placed) × (c ∷ cs ≡ ds ++ rest) × AllPass is_xid_continue ds × Stops is_xid_continue rest
+      × (turned (if b then Some (in_word start (w ++ encode_utf8 c)) else None) (in_word start w) at c (λ m. lex cs (at + len_utf8 c) m)
+      ≡ at_place start (word_of (w ++ encode_utf8_all ds)) ∷ items)
       × Splits (at + width ds) rest items
   word_on at start w true e =
       let (ds, rest, items, split, all, stops, is, more) = h.words (at + len_utf8 c) start (w ++ encode_utf8 c) in (
@@ -171,17 +204,34 @@ module _ (c : ℕ) (cs : List ℕ) (h : Lexed cs) where
         shifted at (len_utf8 c) (width ds) rest items more,
       )
   word_on at start w false e =
-      let items : List Placed = opened at c (λ m. lex cs (at + len_utf8 c) m) in
-      ([], c ∷ cs, items, refl, tt, e, ap (λ z. at_place start (word_of z) ∷ items) (sym (append-nil w)), zero_on at (c ∷ cs) items (begins c cs at h))
+      let items : List Placed = opened at c (λ m. lex cs (at + len_utf8 c) m) in (
+        [],
+        c ∷ cs,
+        items,
+        refl,
+        tt,
+        e,
+        ap (λ z. at_place start (word_of z) ∷ items) (sym (append-nil w)),
+        zero_on at (c ∷ cs) items (begins c cs at h),
+      )
 
   dash_on : (at start : ℕ) (b : Bool) → (c == 62) ≡ b →
       ((rest : List ℕ) × (items : List Placed) × (c ∷ cs ≡ 62 ∷ rest)
-      × ((if b then at_place start Arrow ∷ lex cs (at + len_utf8 c) idle else closed (after_dash start) (opened at c (λ m. lex cs (at + len_utf8 c) m))) ≡ at_place start Arrow ∷ items) × Splits (at + 1) rest items)
-      ⊎ (((c == 62) ≡ false) × ((if b then at_place start Arrow ∷ lex cs (at + len_utf8 c) idle else closed (after_dash start) (opened at c (λ m. lex cs (at + len_utf8 c) m)))
+      × ((if b then at_place start Arrow ∷ lex cs (at + len_utf8 c) idle else closed (after_dash start)
+      (opened at c (λ m. lex cs (at + len_utf8 c) m))) ≡ at_place start Arrow ∷ items) × Splits (at + 1) rest items)
+      ⊎ (((c == 62) ≡ false) ×
+      ((if b then at_place start Arrow ∷ lex cs (at + len_utf8 c) idle else closed (after_dash start)
+      (opened at c (λ m. lex cs (at + len_utf8 c) m)))
       ≡ at_place start Minus ∷ opened at c (λ m. lex cs (at + len_utf8 c) m)))
   dash_on at start true e =
       let is : c ≡ 62 = eqb-true c 62 e in
-      inl (cs, lex cs (at + len_utf8 c) idle, ap (λ z. z ∷ cs) is, refl, subst (λ i. Splits i cs (lex cs (at + len_utf8 c) idle)) (ap (λ n. at + n) (ap len_utf8 is)) (h.idles (at + len_utf8 c)))
+      inl (
+        cs,
+        lex cs (at + len_utf8 c) idle,
+        ap (λ z. z ∷ cs) is,
+        refl,
+        subst (λ i. Splits i cs (lex cs (at + len_utf8 c) idle)) (ap (λ n. at + n) (ap len_utf8 is)) (h.idles (at + len_utf8 c)),
+      )
   dash_on at start false e = inr (e, refl)
 
 lexed_more : (c : ℕ) (cs : List ℕ) → Lexed cs → Lexed (c ∷ cs)
@@ -200,7 +250,17 @@ lexed_none = record {
   idles = λ at. ends at;
   comments = λ at. ([], [], refl, tt, tt, zero_on at [] (at_place at End ∷ []) (ends at));
   numbers = λ at start n. ([], [], at_place at End ∷ [], refl, tt, tt, refl, zero_on at [] (at_place at End ∷ []) (ends at));
-  words = λ at start w. ([], [], at_place at End ∷ [], refl, tt, tt, ap (λ z. at_place start (word_of z) ∷ at_place at End ∷ []) (sym (append-nil w)), zero_on at [] (at_place at End ∷ []) (ends at));
+  words = λ at start w. (
+    [],
+    [],
+    at_place at End ∷ [],
+    refl,
+    tt,
+    tt,
+    ap (λ z. at_place start (word_of z) ∷ at_place at End ∷ [])
+        (sym (append-nil w)),
+    zero_on at [] (at_place at End ∷ []) (ends at),
+  );
   dashes = λ at start. inr (tt, refl);
 }
 

@@ -1,5 +1,7 @@
 -- How the pieces of a printed text split.
-use Rattle.std.proofs.Common.{◌≡◌, ℕ, ◌+◌, ◌-◌, ◌*◌, ◌/◌, ◌%◌, ◌^◌, ◌<◌, ◌≤◌, Bool, true, false, ◌&&◌, ◌||◌, nat_le, List, [], ◌∷◌, ◌++◌, length, Some, refl, sym, ap, ◌∙◌, subst, arith, length-append}
+use Rattle.std.proofs.Common.{◌≡◌, ℕ, ◌+◌, ◌-◌, ◌*◌, ◌/◌, ◌%◌, ◌^◌, ◌<◌, ◌≤◌, Bool, true, false}
+use Rattle.std.proofs.Common.{◌&&◌, ◌||◌, nat_le, List, [], ◌∷◌, ◌++◌, length, Some, refl, sym, ap, ◌∙◌, subst}
+use Rattle.std.proofs.Common.{arith, length-append}
 use Rattle.std.specs.Prelude.{decimal, encode_utf8, encode_utf8_all, ◌==◌}
 use Rattle.std.specs.Char.{len_utf8, is_ascii_alphabetic, is_ascii_alphanumeric}
 use Rattle.std.specs.Str.{chars}
@@ -9,7 +11,8 @@ use Rattle.std.proofs.lemmas.Str.{length-encode, encode_ascii, chars-encodes}
 use Rattle.unicode_ident.specs.Ident.{is_xid_continue}
 use Rattle.unicode_ident.proofs.IdentLemmas.{is_xid_start-ascii, is_xid_continue-ascii}
 use Rattle.pcf_reader.specs.Tokens.{Token, Number, Name, Placed}
-use Rattle.pcf_reader.specs.Spelling.{is_digit, starts_name, sign_of, word_of, value_from, AllPass, sign, digits, word, width, Splits, blank, token}
+use Rattle.pcf_reader.specs.Spelling.{is_digit, starts_name, sign_of, word_of, value_from, AllPass, sign, digits, word, width, Splits}
+use Rattle.pcf_reader.specs.Spelling.{blank, token}
 use Rattle.pcf_reader.proofs.Longest.{digit_low}
 use Rattle.pcf_reader.proofs.Shown.{IsName}
 use Rattle.pcf_reader.proofs.Lexed.{Stops, at_place, longest_number, longest_word, longest_sign}
@@ -30,7 +33,8 @@ clear_word [] h = tt
 clear_word (c ∷ cs) h = h.1
 
 -- an ASCII character that goes on with no word
-pub clear_by : (c : ℕ) (cs : List ℕ) → c < 128 → is_digit c ≡ false → (is_ascii_alphanumeric c || (c == 95)) ≡ false → Clear (c ∷ cs)
+pub clear_by : (c : ℕ) (cs : List ℕ) → c < 128 → is_digit c ≡ false → (is_ascii_alphanumeric c || (c == 95)) ≡ false →
+    Clear (c ∷ cs)
 clear_by c cs h d e = (d, is_xid_continue-ascii c h ∙ e)
 
 -- a split at a place that is another
@@ -42,17 +46,21 @@ pub blank_piece : (at : ℕ) (rest : List ℕ) (items : List Placed) → Splits 
 blank_piece at rest items h = blank at 32 rest items refl h
 
 -- a sign
-pub sign_piece : (c : ℕ) (x : Token) (at : ℕ) (rest : List ℕ) (items : List Placed) → sign_of c ≡ Some x → len_utf8 c ≡ 1 → (c ≡ 45 → Stops (λ d. d == 62) rest)
+pub sign_piece : (c : ℕ) (x : Token) (at : ℕ) (rest : List ℕ) (items : List Placed) → sign_of c ≡ Some x → len_utf8 c ≡ 1 →
+    (c ≡ 45 → Stops (λ d. d == 62) rest)
     → Splits (at + 1) rest items → Splits at (c ∷ rest) (at_place at x ∷ items)
 sign_piece c x at rest items e n stops h =
-    token at (c ∷ rest) (c ∷ []) rest x items refl (sign c x e) (longest_sign c x rest e stops) (place_at (at + 1) (at + width (c ∷ [])) rest items (omega (arith, n)) h)
+    token at (c ∷ rest) (c ∷ []) rest x items refl (sign c x e) (longest_sign c x rest e stops)
+    (place_at (at + 1) (at + width (c ∷ [])) rest items (omega (arith, n)) h)
 
 -- a word
-pub word_piece : (c : ℕ) (cs : List ℕ) (x : Token) (n at : ℕ) (rest : List ℕ) (items : List Placed) → starts_name c ≡ true → AllPass is_xid_continue cs → word_of (encode_utf8_all (c ∷ cs)) ≡ x
+pub word_piece : (c : ℕ) (cs : List ℕ) (x : Token) (n at : ℕ) (rest : List ℕ) (items : List Placed) → starts_name c ≡ true →
+    AllPass is_xid_continue cs → word_of (encode_utf8_all (c ∷ cs)) ≡ x
     → width (c ∷ cs) ≡ n → Clear rest → Splits (at + n) rest items → Splits at (c ∷ (cs ++ rest)) (at_place at x ∷ items)
 word_piece c cs x n at rest items start all is w clear h =
     subst (λ x. Splits at (c ∷ (cs ++ rest)) (at_place at x ∷ items)) is
-    (token at (c ∷ (cs ++ rest)) (c ∷ cs) rest (word_of (encode_utf8_all (c ∷ cs))) items refl (word c cs start all) (longest_word c cs rest start (clear_word rest clear))
+    (token at (c ∷ (cs ++ rest)) (c ∷ cs) rest (word_of (encode_utf8_all (c ∷ cs))) items refl (word c cs start all)
+    (longest_word c cs rest start (clear_word rest clear))
     (place_at (at + n) (at + width (c ∷ cs)) rest items (ap (λ k. at + k) (sym w)) h))
 
 -- words of small letters
@@ -86,7 +94,10 @@ small_continues c h = is_xid_continue-ascii c (small_low c h) ∙ or_third _ (na
 
 small_all : (cs : List ℕ) → all_small cs ≡ true → AllPass is_xid_continue cs
 small_all [] h = tt
-small_all (c ∷ cs) h = (small_continues c (and_parts (nat_le 97 c && nat_le c 122) (all_small cs) h).0, small_all cs (and_parts (nat_le 97 c && nat_le c 122) (all_small cs) h).1)
+small_all (c ∷ cs) h = (
+  small_continues c (and_parts (nat_le 97 c && nat_le c 122) (all_small cs) h).0,
+  small_all cs (and_parts (nat_le 97 c && nat_le c 122) (all_small cs) h).1,
+)
 
 small_bytes : (cs : List ℕ) → all_small cs ≡ true → encode_utf8_all cs ≡ cs
 small_bytes [] h = refl
@@ -95,10 +106,13 @@ small_bytes (c ∷ cs) h =
     ∙ ap (λ z. c ∷ z) (small_bytes cs (and_parts (nat_le 97 c && nat_le c 122) (all_small cs) h).1)
 
 -- a keyword
-pub keyword_piece : (c : ℕ) (cs : List ℕ) (x : Token) (n at : ℕ) (rest : List ℕ) (items : List Placed) → all_small (c ∷ cs) ≡ true → word_of (c ∷ cs) ≡ x
+pub keyword_piece : (c : ℕ) (cs : List ℕ) (x : Token) (n at : ℕ) (rest : List ℕ) (items : List Placed) →
+    all_small (c ∷ cs) ≡ true → word_of (c ∷ cs) ≡ x
     → width (c ∷ cs) ≡ n → Clear rest → Splits (at + n) rest items → Splits at (c ∷ (cs ++ rest)) (at_place at x ∷ items)
 keyword_piece c cs x n at rest items small is w clear h =
-    word_piece c cs x n at rest items (small_starts c (and_parts (nat_le 97 c && nat_le c 122) (all_small cs) small).0) (small_all cs (and_parts (nat_le 97 c && nat_le c 122) (all_small cs) small).1) (ap word_of (small_bytes (c ∷ cs) small) ∙ is) w clear h
+    word_piece c cs x n at rest items (small_starts c (and_parts (nat_le 97 c && nat_le c 122) (all_small cs) small).0)
+    (small_all cs (and_parts (nat_le 97 c && nat_le c 122) (all_small cs) small).1) (ap word_of (small_bytes (c ∷ cs) small) ∙
+    is) w clear h
 
 -- a digit
 digit_test : (d : ℕ) → d < 10 → is_digit (48 + d) ≡ true
@@ -158,19 +172,24 @@ digits_width (c ∷ ds) h = omega (arith, low_width c (digit_below c h.0), digit
 -- and are their own bytes
 pub digits_bytes : (ds : List ℕ) → AllPass is_digit ds → encode_utf8_all ds ≡ ds
 digits_bytes [] h = refl
-digits_bytes (c ∷ ds) h = ap (λ z. z ++ encode_utf8_all ds) (encode_ascii c (digit_below c h.0)) ∙ ap (λ z. c ∷ z) (digits_bytes ds h.1)
+digits_bytes (c ∷ ds) h = ap (λ z. z ++ encode_utf8_all ds) (encode_ascii c (digit_below c h.0)) ∙
+    ap (λ z. c ∷ z) (digits_bytes ds h.1)
 
 -- a number
-pub number_piece : (n at : ℕ) (rest : List ℕ) (items : List Placed) → n < 2 ^ 64 → Clear rest → Splits (at + length (decimal n)) rest items → Splits at (decimal n ++ rest) (at_place at (Number n) ∷ items)
+pub number_piece : (n at : ℕ) (rest : List ℕ) (items : List Placed) → n < 2 ^ 64 → Clear rest →
+    Splits (at + length (decimal n)) rest items → Splits at (decimal n ++ rest) (at_place at (Number n) ∷ items)
 number_piece n at rest items small clear h =
     let d : IsDecimal n (decimal n) = decimal_digits n small in
     let all : AllPass is_digit (d.first ∷ d.more) = subst (λ z. AllPass is_digit z) d.is d.all in
     let value : value_from 0 (d.first ∷ d.more) ≡ n = ap (λ z. value_from 0 z) (sym d.is) ∙ d.value in
-    let place : at + length (decimal n) ≡ at + width (d.first ∷ d.more) = omega (arith, digits_width (d.first ∷ d.more) all, ap length d.is) in
+    let place : at + length (decimal n) ≡ at + width (d.first ∷ d.more) =
+    omega (arith, digits_width (d.first ∷ d.more) all, ap length d.is) in
     subst (λ z. Splits at (z ++ rest) (at_place at (Number n) ∷ items)) (sym d.is)
     (subst (λ v. Splits at ((d.first ∷ d.more) ++ rest) (at_place at (Number v) ∷ items)) value
-    (token at ((d.first ∷ d.more) ++ rest) (d.first ∷ d.more) rest (Number (value_from 0 (d.first ∷ d.more))) items refl (digits d.first d.more all)
-    (longest_number d.first d.more rest all.0 (clear_digit rest clear)) (place_at (at + length (decimal n)) (at + width (d.first ∷ d.more)) rest items place h)))
+    (token at ((d.first ∷ d.more) ++ rest) (d.first ∷ d.more) rest (Number (value_from 0 (d.first ∷ d.more))) items refl
+    (digits d.first d.more all)
+    (longest_number d.first d.more rest all.0 (clear_digit rest clear))
+    (place_at (at + length (decimal n)) (at + width (d.first ∷ d.more)) rest items place h)))
 
 -- a name's characters
 pub width_bytes : (cs : List ℕ) → width cs ≡ length (encode_utf8_all cs)
@@ -182,7 +201,9 @@ pub name_chars : (x : List ℕ) (h : IsName x) → chars x ≡ h.first ∷ h.mor
 name_chars x h = ap chars (sym h.spelled) ∙ chars-encodes (h.first ∷ h.more) h.scalars
 
 -- a name
-pub name_piece : (x : List ℕ) (at : ℕ) (rest : List ℕ) (items : List Placed) → IsName x → Clear rest → Splits (at + length x) rest items → Splits at (chars x ++ rest) (at_place at (Name x) ∷ items)
+pub name_piece : (x : List ℕ) (at : ℕ) (rest : List ℕ) (items : List Placed) → IsName x → Clear rest →
+    Splits (at + length x) rest items → Splits at (chars x ++ rest) (at_place at (Name x) ∷ items)
 name_piece x at rest items h clear k =
     subst (λ z. Splits at (z ++ rest) (at_place at (Name x) ∷ items)) (sym (name_chars x h))
-    (word_piece h.first h.more (Name x) (length x) at rest items h.starts h.goes_on (ap word_of h.spelled ∙ h.no_keyword) (width_bytes (h.first ∷ h.more) ∙ ap length h.spelled) clear k)
+    (word_piece h.first h.more (Name x) (length x) at rest items h.starts h.goes_on (ap word_of h.spelled ∙
+    h.no_keyword) (width_bytes (h.first ∷ h.more) ∙ ap length h.spelled) clear k)

@@ -1,5 +1,6 @@
 -- A printed tree by its characters, its height and its open phrases, each as a recursion on the tree.
-use Rattle.std.specs.Prelude.{◌≡◌, ℕ, suc, ◌<◌, ◌^◌, max, Bool, true, false, nat_le, List, ◌∷◌, ◌++◌, codes, decimal, encode_utf8_all, if◌then◌else◌}
+use Rattle.std.specs.Prelude.{◌≡◌, ℕ, suc, ◌<◌, ◌^◌, max, Bool, true, false, nat_le, List, ◌∷◌, ◌++◌, codes}
+use Rattle.std.specs.Prelude.{decimal, encode_utf8_all, if◌then◌else◌}
 use Rattle.std.specs.Str.{chars, all_scalars}
 use Rattle.unicode_ident.specs.Ident.{is_xid_continue}
 use Rattle.pcf_values.specs.Most.{most_open}
@@ -36,7 +37,8 @@ ty_onto (product a b) rest = fit_onto 0 (ty_level a) (λ r. ty_onto a r) (codes 
 abbrev pub ty_shallow : TyTree → ℕ → Type 0
 ty_shallow nat o = Unit {0}
 ty_shallow (arrow a b) o = fit_shallow 1 (ty_level a) (λ p. ty_shallow a p) o × (o < most_open) × ty_shallow b (suc o)
-ty_shallow (product a b) o = fit_shallow 0 (ty_level a) (λ p. ty_shallow a p) o × (o < most_open) × fit_shallow 1 (ty_level b) (λ p. ty_shallow b p) (suc o)
+ty_shallow (product a b) o = fit_shallow 0 (ty_level a) (λ p. ty_shallow a p) o × (o < most_open) ×
+    fit_shallow 1 (ty_level b) (λ p. ty_shallow b p) (suc o)
 
 -- the characters of a term before those that follow
 abbrev pub own_onto : NamedTree → List ℕ → List ℕ
@@ -55,7 +57,8 @@ abbrev pub own_height : NamedTree → ℕ
 own_height (number_at _ n) = 1
 own_height (name_at _ x) = 1
 own_height (word_at _ w a) = suc (fit_height 0 (level a) (own_height a))
-own_height (binary_at _ op a b) = suc (max (fit_height (op_level op) (level a) (own_height a)) (fit_height (right_level op) (level b) (own_height b)))
+own_height (binary_at _ op a b) =
+    suc (max (fit_height (op_level op) (level a) (own_height a)) (fit_height (right_level op) (level b) (own_height b)))
 own_height (pair_at _ a b) = suc (max (own_height a) (own_height b))
 own_height (ifz_at _ c p q) = suc (max (own_height c) (max (own_height p) (own_height q)))
 own_height (bind_at _ b x t m) = suc (own_height m)
@@ -67,11 +70,13 @@ own_shallow (number_at _ n) o = Unit {0}
 own_shallow (name_at _ x) o = Unit {0}
 own_shallow (word_at _ w a) o = (o < most_open) × fit_shallow 0 (level a) (λ p. own_shallow a p) (suc o)
 own_shallow (binary_at _ op a b) o =
-    fit_shallow (op_level op) (level a) (λ p. own_shallow a p) o × (fit_height (op_level op) (level a) (own_height a) < most_open) × fit_shallow (right_level op) (level b) (λ p. own_shallow b p) o
+    fit_shallow (op_level op) (level a) (λ p. own_shallow a p) o × (fit_height (op_level op) (level a) (own_height a) < most_open) ×
+    fit_shallow (right_level op) (level b) (λ p. own_shallow b p) o
 own_shallow (pair_at _ a b) o = (o < most_open) × own_shallow a (suc o) × own_shallow b (suc o)
 own_shallow (ifz_at _ c p q) o = (o < most_open) × own_shallow c (suc o) × own_shallow p (suc o) × own_shallow q (suc o)
 own_shallow (bind_at _ b x t m) o = (o < most_open) × ty_shallow t (suc o) × own_shallow m (suc o)
-own_shallow (apply_at _ f a) o = fit_shallow 1 (level f) (λ p. own_shallow f p) o × (fit_height 1 (level f) (own_height f) < most_open) × fit_shallow 0 (level a) (λ p. own_shallow a p) o
+own_shallow (apply_at _ f a) o = fit_shallow 1 (level f) (λ p. own_shallow f p) o × (fit_height 1 (level f) (own_height f) < most_open) ×
+    fit_shallow 0 (level a) (λ p. own_shallow a p) o
 
 -- the bytes of a name, which is no keyword
 pub record IsName (x : List ℕ) : Type 0 where

@@ -1,5 +1,6 @@
 -- The machine over characters finds the split of a text.
-use Rattle.std.proofs.Common.{◌≡◌, ◌⊎◌, inl, inr, ◌<◌, ℕ, ◌≤◌, List, [], ◌++◌, Result, Ok, Err, length, refl, sym, ap, ◌∙◌, subst, append-nil, arith}
+use Rattle.std.proofs.Common.{◌≡◌, ◌⊎◌, inl, inr, ◌<◌, ℕ, ◌≤◌, List, [], ◌++◌, Result, Ok, Err, length, refl}
+use Rattle.std.proofs.Common.{sym, ap, ◌∙◌, subst, append-nil, arith}
 use Rattle.std.specs.Prelude.{IfOk, IfErr, MatchResult}
 use Rattle.std.specs.Str.{IsValidUpTo, chars, IsUtf8}
 use Rattle.std.proofs.lemmas.Str.{chars-encodes}
@@ -13,7 +14,8 @@ use Rattle.pcf_reader.specs.Text.{Derives, IsFirstFault}
 use Rattle.pcf_reader.specs.Scan.{scan}
 use Rattle.pcf_reader.specs.Correct.{FirstFault, HasTokens, Text, TokenFault, Faults, IsOnlyFault}
 use Rattle.pcf_reader.specs.declared.fault.ReadFault.{ReadFault}
-use Rattle.pcf_reader.specs.declared.fault.ReadFault.TheVariants.{NoMemory, NotText, BadToken, NumberTooWide, Unexpected, TooDeep, TooLarge, TooLong}
+use Rattle.pcf_reader.specs.declared.fault.ReadFault.TheVariants.{NoMemory, NotText, BadToken, NumberTooWide, Unexpected, TooDeep, TooLarge}
+use Rattle.pcf_reader.specs.declared.fault.ReadFault.TheVariants.{TooLong}
 use Rattle.pcf_reader.specs.Rest.{Fails, Gives}
 use Rattle.pcf_values.specs.Views.{named_of}
 use Rattle.pcf_values.specs.declared.named.Named.{Named}
@@ -37,14 +39,17 @@ tokens bytes n u = record {
 -- and no others
 same_tokens : (bytes : List ℕ) (items : List Placed) → HasTokens bytes items → items ≡ lex (chars bytes) 0 idle
 same_tokens bytes items h =
-    sym (splits_lex 0 h.characters items h.splits) ∙ ap (λ z. lex z 0 idle) (sym (ap chars (sym h.encoded) ∙ chars-encodes h.characters h.scalars))
+    sym (splits_lex 0 h.characters items h.splits) ∙
+    ap (λ z. lex z 0 idle) (sym (ap chars (sym h.encoded) ∙ chars-encodes h.characters h.scalars))
 
 -- which end
 pub tokens_end : (bytes : List ℕ) → length bytes ≤ most_program_bytes → (u : IsUtf8 bytes) → Ended (lex (chars bytes) 0 idle)
-tokens_end bytes n u = let h : HasTokens bytes (lex (chars bytes) 0 idle) = tokens bytes n u in splits_ended 0 h.characters (lex (chars bytes) 0 idle) h.splits
+tokens_end bytes n u = let h : HasTokens bytes (lex (chars bytes) 0 idle) = tokens bytes n u in
+    splits_ended 0 h.characters (lex (chars bytes) 0 idle) h.splits
 
 -- What the scan answers of a text.
-pub text_read : (bytes : List ℕ) → length bytes ≤ most_program_bytes → IsUtf8 bytes → (t : NamedTree) → scan (lex (chars bytes) 0 idle) (want_expr whole) 0 ≡ Ok t → Text bytes t
+pub text_read : (bytes : List ℕ) → length bytes ≤ most_program_bytes → IsUtf8 bytes → (t : NamedTree) →
+    scan (lex (chars bytes) 0 idle) (want_expr whole) 0 ≡ Ok t → Text bytes t
 text_read bytes n u t e =
     let items : List Placed = lex (chars bytes) 0 idle in
     let (front, xs, split, derives) = let j : Judged items (Ok t) = subst (λ r. Judged items r) e (scan_judged items) in j in
@@ -67,7 +72,8 @@ faults_of bytes items h (TooLarge at) k = (items, h, k)
 faults_of bytes items h TooLong k = absurd k.here
 
 -- what the scan refuses has that fault
-pub text_fault : (bytes : List ℕ) → length bytes ≤ most_program_bytes → IsUtf8 bytes → (f : ReadFault) → scan (lex (chars bytes) 0 idle) (want_expr whole) 0 ≡ Err f → Faults bytes f
+pub text_fault : (bytes : List ℕ) → length bytes ≤ most_program_bytes → IsUtf8 bytes → (f : ReadFault) →
+    scan (lex (chars bytes) 0 idle) (want_expr whole) 0 ≡ Err f → Faults bytes f
 text_fault bytes n u f e =
     let items : List Placed = lex (chars bytes) 0 idle in
     let j : Judged items (Err f) = subst (λ r. Judged items r) e (scan_judged items) in
@@ -80,7 +86,8 @@ given_read bytes n u (Ok t) h = text_read bytes n u (named_of t) h
 given_read bytes n u (Err f) h = tt
 
 -- and so has what a function refuses that fails as the scan does
-fails_fault : (bytes : List ℕ) → length bytes ≤ most_program_bytes → IsUtf8 bytes → (f : ReadFault) → Fails f (scan (lex (chars bytes) 0 idle) (want_expr whole) 0) → Faults bytes f
+fails_fault : (bytes : List ℕ) → length bytes ≤ most_program_bytes → IsUtf8 bytes → (f : ReadFault) →
+    Fails f (scan (lex (chars bytes) 0 idle) (want_expr whole) 0) → Faults bytes f
 fails_fault bytes n u NoMemory h = tt
 fails_fault bytes n u (NotText at) h = text_fault bytes n u (NotText at) h
 fails_fault bytes n u (BadToken at) h = text_fault bytes n u (BadToken at) h
@@ -98,7 +105,8 @@ given_fault bytes n u (Err f) h = fails_fault bytes n u f h
 
 -- What stands for a tree is read as that tree, and a fault is answered, unless memory runs out.
 pub given_only : (bytes : List ℕ) (r : Result Named ReadFault) (t : NamedTree) → Text bytes t
-    → Gives (λ t. Ok (named_of t)) (scan (lex (chars bytes) 0 idle) (want_expr whole) 0) r → MatchResult r (λ u. named_of u ≡ t) (λ f. f ≡ NoMemory)
+    → Gives (λ t. Ok (named_of t)) (scan (lex (chars bytes) 0 idle) (want_expr whole) 0) r →
+    MatchResult r (λ u. named_of u ≡ t) (λ f. f ≡ NoMemory)
 given_only bytes (Ok u) t h g = let e : Ok (named_of u) ≡ Ok t = sym g ∙ text_only bytes t h in cc
 given_only bytes (Err NoMemory) t h g = refl
 given_only bytes (Err (NotText at)) t h g = let e : Err (NotText at) ≡ Ok t = sym g ∙ text_only bytes t h in cc
@@ -129,7 +137,8 @@ token_fault_only bytes t f h k =
 abbrev pub Kinds : List ℕ → ReadFault → Type 0
 Kinds bytes f =
     ((f ≡ TooLong) × (most_program_bytes < length bytes))
-    ⊎ (((at : ℕ) × (f ≡ NotText at) × (length bytes ≤ most_program_bytes) × (IsUtf8 bytes → ⊥) × IsValidUpTo bytes at) ⊎ TokenFault bytes f)
+    ⊎ (((at : ℕ) × (f ≡ NotText at) × (length bytes ≤ most_program_bytes) × (IsUtf8 bytes → ⊥) × IsValidUpTo bytes at) ⊎
+    TokenFault bytes f)
 
 -- one of these it is
 kinds : (bytes : List ℕ) (f : ReadFault) → FirstFault bytes f → Kinds bytes f
@@ -198,15 +207,19 @@ only_first bytes f (TooDeep at) h k = first_once bytes (TooDeep at) f k h
 only_first bytes f (TooLarge at) h k = first_once bytes (TooLarge at) f k h
 
 -- Bytes with a first fault are refused with that one, unless memory runs out.
-pub given_fault_only : (bytes : List ℕ) → length bytes ≤ most_program_bytes → IsUtf8 bytes → (r : Result Named ReadFault) (f : ReadFault) → FirstFault bytes f
-    → Gives (λ t. Ok (named_of t)) (scan (lex (chars bytes) 0 idle) (want_expr whole) 0) r → MatchResult r (λ t. ⊥) (λ g. IsOnlyFault f g)
+pub given_fault_only : (bytes : List ℕ) → length bytes ≤ most_program_bytes → IsUtf8 bytes →
+    (r : Result Named ReadFault) (f : ReadFault) → FirstFault bytes f
+    → Gives (λ t. Ok (named_of t)) (scan (lex (chars bytes) 0 idle) (want_expr whole) 0) r →
+    MatchResult r (λ t. ⊥) (λ g. IsOnlyFault f g)
 given_fault_only bytes n u (Ok t) f h g = text_no_fault bytes (named_of t) f (text_read bytes n u (named_of t) g) h
 given_fault_only bytes n u (Err e) f h g = only_first bytes f e h (fails_fault bytes n u e g)
 
 -- bytes that are too long have that fault alone
-pub too_long_only : (bytes : List ℕ) → most_program_bytes < length bytes → (f : ReadFault) → FirstFault bytes f → IsOnlyFault f TooLong
+pub too_long_only : (bytes : List ℕ) → most_program_bytes < length bytes → (f : ReadFault) → FirstFault bytes f →
+    IsOnlyFault f TooLong
 too_long_only bytes h f k = first_once bytes TooLong f h k
 
 -- and short bytes that are no text have theirs
-pub no_text_only : (bytes : List ℕ) (at : ℕ) → length bytes ≤ most_program_bytes → (IsUtf8 bytes → ⊥) → IsValidUpTo bytes at → (f : ReadFault) → FirstFault bytes f → IsOnlyFault f (NotText at)
+pub no_text_only : (bytes : List ℕ) (at : ℕ) → length bytes ≤ most_program_bytes → (IsUtf8 bytes → ⊥) →
+    IsValidUpTo bytes at → (f : ReadFault) → FirstFault bytes f → IsOnlyFault f (NotText at)
 no_text_only bytes at n u v f k = first_once bytes (NotText at) f (n, u, v) k

@@ -1,7 +1,8 @@
 -- Each list of bytes stands for a tree or has a first fault.
 -- Bytes are too long or not; those that aren't are text, or stop being text behind their longest prefix that is; and of a text the scan
 -- of its tokens answers, since the tokens end.
-use Rattle.std.proofs.Common.{◌≡◌, ◌⊎◌, inl, inr, ℕ, zero, suc, ◌<◌, ◌≤◌, true, false, List, [], length, take, Ok, Err, refl, sym, ◌∙◌, subst, arith, take_all, true≢false}
+use Rattle.std.proofs.Common.{◌≡◌, ◌⊎◌, inl, inr, ℕ, zero, suc, ◌<◌, ◌≤◌, true, false, List, [], length, take, Ok}
+use Rattle.std.proofs.Common.{Err, refl, sym, ◌∙◌, subst, arith, take_all, true≢false}
 use Rattle.std.specs.Str.{IsUtf8, IsValidUpTo, chars, is_utf8}
 use Rattle.std.proofs.lemmas.Bool.{cases_Bool, cases_lt}
 use Rattle.std.proofs.lemmas.Str.{IsUtf8-from_is_utf8, is_utf8-from_IsUtf8}
@@ -12,7 +13,8 @@ use Rattle.pcf_reader.specs.Lexing.{lex, idle}
 use Rattle.pcf_reader.specs.Scan.{Answer, scan}
 use Rattle.pcf_reader.specs.Correct.{Text, FirstFault}
 use Rattle.pcf_reader.specs.declared.fault.ReadFault.{ReadFault}
-use Rattle.pcf_reader.specs.declared.fault.ReadFault.TheVariants.{NoMemory, NotText, BadToken, NumberTooWide, Unexpected, TooDeep, TooLarge, TooLong}
+use Rattle.pcf_reader.specs.declared.fault.ReadFault.TheVariants.{NoMemory, NotText, BadToken, NumberTooWide, Unexpected, TooDeep, TooLarge}
+use Rattle.pcf_reader.specs.declared.fault.ReadFault.TheVariants.{TooLong}
 use Rattle.pcf_reader.proofs.Ended.{IsAnswer, ended_answers}
 use Rattle.pcf_reader.proofs.Splitting.{tokens_end, text_read, text_fault}
 
@@ -22,12 +24,14 @@ Longest bytes m = (n : ℕ) × (n ≤ m) × IsUtf8 (take n bytes) × ((k : ℕ) 
 
 -- a prefix that fails the test is no text
 not_front : (bytes : List ℕ) (k m : ℕ) → k ≡ m → is_utf8 (take m bytes) ≡ false → IsUtf8 (take k bytes) → ⊥
-not_front bytes k m same failed u = true≢false (sym (is_utf8-from_IsUtf8 (take m bytes) (subst (λ n. IsUtf8 (take n bytes)) same u)) ∙ failed)
+not_front bytes k m same failed u = true≢false (sym (is_utf8-from_IsUtf8 (take m bytes) (subst (λ n. IsUtf8 (take n bytes)) same u)) ∙
+    failed)
 
 -- with one byte more
 one_more : (bytes : List ℕ) (m : ℕ) → Longest bytes m
     → (is_utf8 (take (suc m) bytes) ≡ true) ⊎ (is_utf8 (take (suc m) bytes) ≡ false) → Longest bytes (suc m)
-one_more bytes m (n, low, front, longest) (inl passed) = (suc m, omega arith, IsUtf8-from_is_utf8 (take (suc m) bytes) passed, λ k above within u. absurd (omega arith))
+one_more bytes m (n, low, front, longest) (inl passed) =
+    (suc m, omega arith, IsUtf8-from_is_utf8 (take (suc m) bytes) passed, λ k above within u. absurd (omega arith))
 one_more bytes m (n, low, front, longest) (inr failed) = (n, omega arith, front, λ k above within u. go k above within u (cases_lt m k))
   where
     go : (k : ℕ) → n < k → k ≤ suc m → IsUtf8 (take k bytes) → (m < k) ⊎ (k ≤ m) → ⊥
@@ -50,7 +54,8 @@ stops bytes never = go (longest_front bytes (length bytes))
     short n u (inl h) = h
     short n u (inr h) = absurd (not_all n u h)
 
-    longer : (n : ℕ) → ((k : ℕ) → n < k → k ≤ length bytes → IsUtf8 (take k bytes) → ⊥) → (k : ℕ) → n < k → IsUtf8 (take k bytes) → (length bytes < k) ⊎ (k ≤ length bytes) → ⊥
+    longer : (n : ℕ) → ((k : ℕ) → n < k → k ≤ length bytes → IsUtf8 (take k bytes) → ⊥) → (k : ℕ) → n < k →
+        IsUtf8 (take k bytes) → (length bytes < k) ⊎ (k ≤ length bytes) → ⊥
     longer n longest k above u (inl past) = not_all k u (omega arith)
     longer n longest k above u (inr within) = longest k above within u
 
@@ -69,7 +74,8 @@ abbrev pub Either : List ℕ → Type 0
 Either bytes = ((t : NamedTree) × Text bytes t) ⊎ ((f : ReadFault) × FirstFault bytes f)
 
 -- what the scan of a text's tokens answers
-answered : (bytes : List ℕ) → length bytes ≤ most_program_bytes → IsUtf8 bytes → (a : Answer) → scan (lex (chars bytes) 0 idle) (want_expr whole) 0 ≡ a → IsAnswer a → Either bytes
+answered : (bytes : List ℕ) → length bytes ≤ most_program_bytes → IsUtf8 bytes → (a : Answer) →
+    scan (lex (chars bytes) 0 idle) (want_expr whole) 0 ≡ a → IsAnswer a → Either bytes
 answered bytes n u (Ok t) e h = inl (t, text_read bytes n u t e)
 answered bytes n u (Err NoMemory) e h = absurd h
 answered bytes n u (Err (NotText at)) e h = inr (NotText at, text_fault bytes n u (NotText at) e)
@@ -81,10 +87,12 @@ answered bytes n u (Err (TooLarge at)) e h = inr (TooLarge at, text_fault bytes 
 answered bytes n u (Err TooLong) e h = inr (TooLong, text_fault bytes n u TooLong e)
 
 -- bytes that aren't too long
-of_short : (bytes : List ℕ) → length bytes ≤ most_program_bytes → (is_utf8 bytes ≡ true) ⊎ (is_utf8 bytes ≡ false) → Either bytes
+of_short : (bytes : List ℕ) → length bytes ≤ most_program_bytes → (is_utf8 bytes ≡ true) ⊎ (is_utf8 bytes ≡ false) →
+    Either bytes
 of_short bytes n (inl passed) =
     let u : IsUtf8 bytes = IsUtf8-from_is_utf8 bytes passed in
-    answered bytes n u (scan (lex (chars bytes) 0 idle) (want_expr whole) 0) refl (ended_answers (lex (chars bytes) 0 idle) (want_expr whole) 0 (tokens_end bytes n u))
+    answered bytes n u (scan (lex (chars bytes) 0 idle) (want_expr whole) 0) refl
+    (ended_answers (lex (chars bytes) 0 idle) (want_expr whole) 0 (tokens_end bytes n u))
 of_short bytes n (inr failed) =
     let none : IsUtf8 bytes → ⊥ = λ u. true≢false (sym (is_utf8-from_IsUtf8 bytes u) ∙ failed) in
     let (at, valid) = stops bytes none in

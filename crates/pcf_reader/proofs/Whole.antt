@@ -1,5 +1,6 @@
 -- What derives is read, so it derives one tree and has no fault; a list has one first fault.
-use Rattle.std.proofs.Common.{◌≡◌, ℕ, ◌+◌, ◌^◌, ◌<◌, ◌≤◌, List, [], ◌∷◌, ◌++◌, map, Ok, Err, nat_lt, if◌then◌else◌, refl, sym, ap, ◌∙◌, arith, add-zero, add_assoc}
+use Rattle.std.proofs.Common.{◌≡◌, ℕ, ◌+◌, ◌^◌, ◌<◌, ◌≤◌, List, [], ◌∷◌, ◌++◌, map, Ok, Err, nat_lt}
+use Rattle.std.proofs.Common.{if◌then◌else◌, refl, sym, ap, ◌∙◌, arith, add-zero, add_assoc}
 use Rattle.std.proofs.lemmas.Bool.{lt-ltb, lt-leb, le-ltb}
 use Rattle.pcf_values.specs.Most.{most_nodes, most_open}
 use Rattle.pcf_values.specs.Values.{plus_op, minus_op, times_op}
@@ -7,7 +8,11 @@ use Rattle.pcf_values.specs.Terms.{TyTree, arrow, product}
 use Rattle.pcf_values.specs.Named.{NamedTree, bind_at}
 use Rattle.pcf_reader.specs.Tokens.{Token, Number, End, Junk, Placed}
 use Rattle.pcf_reader.specs.Grammar.{Part, Expr, expr_part, expr_text, placed, plain, higher, binary, choice_part}
-use Rattle.pcf_reader.specs.Machine.{ExprK, whole, in_parens, in_second, in_body, in_test, in_then, in_else, ProductK, first_product, right_of_plus, right_of_minus, AppK, first_app, right_of_times, PTypeK, first_ptype, right_of_cross, TypeK, of_binder, right_of_arrow, in_type_parens, State, want_expr, want_atom, after_atom, want_name, want_colon, want_tatom, after_tatom, refuse, go, finish, step, after_expr, end_product, end_app, end_type, end_ptype}
+use Rattle.pcf_reader.specs.Machine.{ExprK, whole, in_parens, in_second, in_body, in_test, in_then, in_else, ProductK, first_product}
+use Rattle.pcf_reader.specs.Machine.{right_of_plus, right_of_minus, AppK, first_app, right_of_times, PTypeK, first_ptype, right_of_cross}
+use Rattle.pcf_reader.specs.Machine.{TypeK, of_binder, right_of_arrow, in_type_parens, State, want_expr, want_atom, after_atom, want_name}
+use Rattle.pcf_reader.specs.Machine.{want_colon, want_tatom, after_tatom, refuse, go, finish, step, after_expr, end_product, end_app}
+use Rattle.pcf_reader.specs.Machine.{end_type, end_ptype}
 use Rattle.pcf_reader.specs.Text.{count_of, IsNarrow, Derives, IsShallow, Each}
 use Rattle.pcf_reader.specs.Scan.{Answer, proper, within, checked, scan}
 use Rattle.pcf_reader.specs.declared.fault.ReadFault.TheVariants.{NumberTooWide, TooDeep, TooLarge}
@@ -80,7 +85,8 @@ within_is at d n r shallow small =
 
 -- the scan over what the machine takes within the limits
 pub scan_run : (ws : Texts) (s t : State) (n : ℕ) (xs : List Placed)
-    → Follows s ws t → Each IsShallow ws → Each WritesNarrow ws → n + count_of ws ≤ most_nodes → scan (map placed ws ++ xs) s n ≡ scan xs t (n + count_of ws)
+    → Follows s ws t → Each IsShallow ws → Each WritesNarrow ws → n + count_of ws ≤ most_nodes →
+    scan (map placed ws ++ xs) s n ≡ scan xs t (n + count_of ws)
 scan_run [] s t n xs h shallow narrow small = ap (λ s. scan xs s n) h ∙ ap (λ n. scan xs t n) (sym (add-zero n))
 scan_run (w ∷ ws) s t n xs h shallow narrow small =
     let rest : List Placed = map placed ws ++ xs in
@@ -101,8 +107,10 @@ derives_scan items t h =
     let last : List Placed = record { at = end; token = End } ∷ [] in
     let small : 0 + count_of ws ≤ most_nodes = omega (arith, count-append ws (plain end End ∷ []), h.small) in
     ap (λ z. scan z (want_expr whole) 0) (sym h.written ∙ map-append ws (plain end End ∷ []))
-    ∙ scan_run ws (want_expr whole) s 0 last follows (each_left IsShallow ws (plain end End ∷ []) h.shallow) (each_left WritesNarrow ws (plain end End ∷ []) h.narrow) small
-    ∙ proper_is s end End (checked (scan []) (0 + count_of ws) end (step s end End)) (λ e. no_finish (expr_part h.program.expr) (sym e ∙ ends)) tt
+    ∙ scan_run ws (want_expr whole) s 0 last follows (each_left IsShallow ws (plain end End ∷ []) h.shallow)
+    (each_left WritesNarrow ws (plain end End ∷ []) h.narrow) small
+    ∙ proper_is s end End (checked (scan []) (0 + count_of ws) end (step s end End))
+    (λ e. no_finish (expr_part h.program.expr) (sym e ∙ ends)) tt
     ∙ ap (λ st. checked (scan []) (0 + count_of ws) end st) ends
     ∙ ap (λ t. Ok t) h.stands_for
 

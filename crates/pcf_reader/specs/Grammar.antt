@@ -8,8 +8,10 @@
 use Rattle.std.specs.Prelude.{ℕ, suc, ◌+◌, max, List, [], ◌∷◌, ◌++◌}
 use Rattle.pcf_values.specs.Values.{Op, plus_op, minus_op, times_op}
 use Rattle.pcf_values.specs.Terms.{TyTree, nat, arrow, product}
-use Rattle.pcf_values.specs.Named.{Word, Binder, NamedTree, number_at, name_at, word_at, binary_at, pair_at, ifz_at, bind_at, apply_at, place_of}
-use Rattle.pcf_reader.specs.Tokens.{Token, Open, Close, Colon, Dot, Comma, Plus, Minus, Times, Arrow, Ifz, Then, Else, Nat, Bind, Before, Number, Name, End, Placed}
+use Rattle.pcf_values.specs.Named.{Word, Binder, NamedTree, number_at, name_at, word_at, binary_at, pair_at, ifz_at, bind_at, apply_at}
+use Rattle.pcf_values.specs.Named.{place_of}
+use Rattle.pcf_reader.specs.Tokens.{Token, Open, Close, Colon, Dot, Comma, Plus, Minus, Times, Arrow, Ifz, Then, Else, Nat, Bind, Before}
+use Rattle.pcf_reader.specs.Tokens.{Number, Name, End, Placed}
 
 -- type: ptype, or ptype -> type; ptype: tatom, or tatom * ptype; tatom: nat, or ( type )
 mutual
@@ -151,7 +153,8 @@ abbrev mutual
   expr_text o (binding at b xat x colon t dot e) =
       marked at (Bind b) o 1 ∷ plain xat (Name x) ∷ plain colon Colon ∷ (type_text (suc o) t ++ plain dot Dot ∷ expr_text (suc o) e)
   expr_text o (choice at c at_then p at_else q) =
-      marked at Ifz o 1 ∷ (expr_text (suc o) c ++ plain at_then Then ∷ (expr_text (suc o) p ++ plain at_else Else ∷ expr_text (suc o) q))
+      marked at Ifz o 1 ∷ (expr_text (suc o) c ++ plain at_then Then ∷
+      (expr_text (suc o) p ++ plain at_else Else ∷ expr_text (suc o) q))
   expr_text o (only_sum s) = sum_text o s
 
   pub sum_text : ℕ → Sum → List Written
@@ -172,7 +175,8 @@ abbrev mutual
   atom_text o left extra (variable at x) = marked at (Name x) left (1 + extra) ∷ []
   atom_text o left extra (parens at e close) = marked at Open (max left o) extra ∷ (expr_text (suc o) e ++ plain close Close ∷ [])
   atom_text o left extra (pairing at a comma b close) =
-      marked at Open (max left o) extra ∷ (expr_text (suc o) a ++ marked comma Comma 0 1 ∷ (expr_text (suc o) b ++ plain close Close ∷ []))
+      marked at Open (max left o) extra ∷ (expr_text (suc o) a ++ marked comma Comma 0 1 ∷
+      (expr_text (suc o) b ++ plain close Close ∷ []))
   atom_text o left extra (prefixed at w a) = marked at (Before w) (max left o) (1 + extra) ∷ atom_text (suc o) 0 0 a
 
 -- a program ends where the text ends

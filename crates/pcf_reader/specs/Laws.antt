@@ -25,7 +25,8 @@ NotBoth = (bytes : List ℕ) (t : NamedTree) (f : ReadFault) → Text bytes t �
 
 -- a tree that a text stands for is within the limits
 abbrev pub Bounded : Type 0
-Bounded = (bytes : List ℕ) (t : NamedTree) → Text bytes t → (node_count t ≤ most_nodes) × (named_size t ≤ most_nodes) × (named_height t ≤ most_read_height)
+Bounded = (bytes : List ℕ) (t : NamedTree) → Text bytes t → (node_count t ≤ most_nodes) × (named_size t ≤ most_nodes) ×
+    (named_height t ≤ most_read_height)
 
 -- what is printed of a tree that a text stands for is read back to the same tree, places aside, unless it is too long
 abbrev pub ReadBack : Type 0

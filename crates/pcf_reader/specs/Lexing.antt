@@ -1,6 +1,7 @@
 -- The tokens of a text, from left to right, one character a step.
 -- This is the middle between the split of a text and the code that finds it; only contracts inside the crate speak of it.
-use Rattle.std.specs.Prelude.{ℕ, ◌+◌, ◌-◌, ◌*◌, ◌^◌, nat_lt, ◌==◌, List, [], ◌∷◌, ◌++◌, Option, Some, None, if◌then◌else◌}
+use Rattle.std.specs.Prelude.{ℕ, ◌+◌, ◌-◌, ◌*◌, ◌^◌, nat_lt, ◌==◌, List, [], ◌∷◌, ◌++◌, Option, Some, None}
+use Rattle.std.specs.Prelude.{if◌then◌else◌}
 use Rattle.std.specs.Char.{len_utf8, encode_utf8}
 use Rattle.unicode_ident.specs.Ident.{is_xid_continue}
 use Rattle.pcf_reader.specs.Tokens.{Token, Minus, Arrow, Number, End, Junk, Placed}
@@ -50,7 +51,8 @@ turned None m at c go = closed m (opened at c go)
 
 -- a dash and a `>` are one sign
 abbrev pub next_mode : Mode → ℕ → ℕ → (Mode → List Placed) → List Placed
-next_mode (after_dash start) at c go = if c == 62 then record { at = start; token = Arrow } ∷ go idle else closed (after_dash start) (opened at c go)
+next_mode (after_dash start) at c go = if c == 62 then record { at = start; token = Arrow } ∷
+    go idle else closed (after_dash start) (opened at c go)
 next_mode m at c go = turned (longer m c) m at c go
 
 -- the tokens of these characters, from a place on

@@ -6,7 +6,8 @@ use Rattle.std.specs.Prelude.{ℕ, suc, ◌+◌, max, Bool, true, false, List, i
 use Rattle.pcf_values.specs.Values.{plus_op, minus_op, times_op}
 use Rattle.pcf_values.specs.Terms.{TyTree, nat, arrow, product}
 use Rattle.pcf_values.specs.Named.{Word, Binder, number_at, name_at, word_at, pair_at, bind_at}
-use Rattle.pcf_reader.specs.Tokens.{Token, Open, Close, Colon, Dot, Comma, Plus, Minus, Times, Arrow, Ifz, Then, Else, Nat, Bind, Before, Number, Name, End}
+use Rattle.pcf_reader.specs.Tokens.{Token, Open, Close, Colon, Dot, Comma, Plus, Minus, Times, Arrow, Ifz, Then, Else, Nat, Bind, Before}
+use Rattle.pcf_reader.specs.Tokens.{Number, Name, End}
 use Rattle.pcf_reader.specs.Grammar.{Part, join, binary, app_part, higher, choice_part}
 
 -- what is open around a term: around an expr, a product, an app and an atom

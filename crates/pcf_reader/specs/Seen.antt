@@ -14,7 +14,8 @@ use Rattle.pcf_reader.specs.declared.token.Operator.{Operator}
 use Rattle.pcf_reader.specs.declared.token.Operator.TheVariants as operator
 use Rattle.pcf_values.specs.Values.{Op, plus_op, minus_op, times_op}
 use Rattle.pcf_reader.specs.declared.token.Token.{Token}
-use Rattle.pcf_reader.specs.declared.token.Token.TheVariants.{Open, Close, Colon, Dot, Comma, Plus, Minus, Times, Arrow, Ifz, Then, Else, Nat, Bind, Before, Number, Name, End}
+use Rattle.pcf_reader.specs.declared.token.Token.TheVariants.{Open, Close, Colon, Dot, Comma, Plus, Minus, Times, Arrow, Ifz, Then, Else}
+use Rattle.pcf_reader.specs.declared.token.Token.TheVariants.{Nat, Bind, Before, Number, Name, End}
 
 abbrev pub word_of : Word → syntax.Word
 word_of Succ = syntax.the_succ

@@ -1,12 +1,14 @@
 -- How tokens are spelled, by the characters of a text, and how a text splits into them by the longest match.
 -- Blanks and comments stand between tokens and are none themselves. A comment ends before the line feed of its line or at the end of
 -- the text. A token is taken only where no longer prefix of what is left is one. Where nothing begins, the split ends with `Junk`.
-use Rattle.std.specs.Prelude.{◌≡◌, ℕ, ◌+◌, ◌-◌, ◌*◌, Bool, not, ◌||◌, ◌==◌, nat_le, ◌&&◌, IsTrue, IsFalse, List, [], ◌∷◌, ◌++◌, Option, Some, None, codes, encode_utf8_all, if◌then◌else◌}
+use Rattle.std.specs.Prelude.{◌≡◌, ℕ, ◌+◌, ◌-◌, ◌*◌, Bool, not, ◌||◌, ◌==◌, nat_le, ◌&&◌, IsTrue, IsFalse}
+use Rattle.std.specs.Prelude.{List, [], ◌∷◌, ◌++◌, Option, Some, None, codes, encode_utf8_all, if◌then◌else◌}
 use Rattle.std.specs.Str.{bytes_eq}
 use Rattle.std.specs.Char.{len_utf8}
 use Rattle.unicode_ident.specs.Ident.{is_xid_start, is_xid_continue}
 use Rattle.pcf_values.specs.Named.{the_succ, the_pred, the_fst, the_snd, the_fun, the_fix}
-use Rattle.pcf_reader.specs.Tokens.{Token, Open, Close, Colon, Dot, Comma, Plus, Minus, Times, Arrow, Ifz, Then, Else, Nat, Bind, Before, Number, Name, End, Junk, Placed}
+use Rattle.pcf_reader.specs.Tokens.{Token, Open, Close, Colon, Dot, Comma, Plus, Minus, Times, Arrow, Ifz, Then, Else, Nat, Bind, Before}
+use Rattle.pcf_reader.specs.Tokens.{Number, Name, End, Junk, Placed}
 
 abbrev pub is_blank : ℕ → Bool
 is_blank c = c == 32 || c == 9 || c == 13 || c == 10
@@ -26,9 +28,12 @@ sign_of c =
 -- the bytes of a word are a keyword or a name
 unfoldable pub word_of : List ℕ → Token
 word_of cs =
-    if bytes_eq cs (codes "fun") then Bind the_fun else if bytes_eq cs (codes "fix") then Bind the_fix else if bytes_eq cs (codes "ifz") then Ifz
-    else if bytes_eq cs (codes "then") then Then else if bytes_eq cs (codes "else") then Else else if bytes_eq cs (codes "succ") then Before the_succ
-    else if bytes_eq cs (codes "pred") then Before the_pred else if bytes_eq cs (codes "fst") then Before the_fst else if bytes_eq cs (codes "snd") then Before the_snd
+    if bytes_eq cs (codes "fun") then Bind the_fun else if bytes_eq cs (codes "fix") then Bind the_fix else if bytes_eq cs (codes "ifz")
+    then Ifz
+    else if bytes_eq cs (codes "then") then Then else if bytes_eq cs (codes "else") then Else else if bytes_eq cs (codes "succ") then Before
+    the_succ
+    else if bytes_eq cs (codes "pred") then Before the_pred else if bytes_eq cs (codes "fst") then Before the_fst else if bytes_eq cs
+    (codes "snd") then Before the_snd
     else if bytes_eq cs (codes "nat") then Nat else Name cs
 
 abbrev pub value_from : ℕ → List ℕ → ℕ
@@ -44,7 +49,8 @@ pub data Spells : List ℕ → Token → Type 0 where
   sign : (c : ℕ) (x : Token) → sign_of c ≡ Some x → Spells (c ∷ []) x
   arrow : Spells (45 ∷ 62 ∷ []) Arrow
   digits : (c : ℕ) (cs : List ℕ) → AllPass is_digit (c ∷ cs) → Spells (c ∷ cs) (Number (value_from 0 (c ∷ cs)))
-  word : (c : ℕ) (cs : List ℕ) → IsTrue (starts_name c) → AllPass is_xid_continue cs → Spells (c ∷ cs) (word_of (encode_utf8_all (c ∷ cs)))
+  word : (c : ℕ) (cs : List ℕ) → IsTrue (starts_name c) → AllPass is_xid_continue cs →
+      Spells (c ∷ cs) (word_of (encode_utf8_all (c ∷ cs)))
 
 abbrev pub width : List ℕ → ℕ
 width [] = 0
@@ -52,7 +58,8 @@ width (c ∷ cs) = len_utf8 c + width cs
 
 -- no longer prefix of the characters is a token
 abbrev pub IsLongest : List ℕ → List ℕ → Type 0
-IsLongest cs rest = (us : List ℕ) (vs : List ℕ) (c : ℕ) (x : Token) → rest ≡ (c ∷ us) ++ vs → Spells (cs ++ c ∷ us) x → ⊥
+IsLongest cs rest = (us : List ℕ) (vs : List ℕ) (c : ℕ) (x : Token) → rest ≡ (c ∷ us) ++ vs → Spells (cs ++ c ∷ us) x →
+    ⊥
 
 -- the rest of a comment's line
 abbrev pub EndsLine : List ℕ → Type 0
@@ -62,10 +69,14 @@ EndsLine (c ∷ cs) = c ≡ 10
 -- the characters from a place on are these tokens, and blanks and comments between them
 pub data Splits : ℕ → List ℕ → List Placed → Type 0 where
   ends : (at : ℕ) → Splits at [] (record { at = at; token = End } ∷ [])
-  blank : (at : ℕ) (c : ℕ) (cs : List ℕ) (items : List Placed) → IsTrue (is_blank c) → Splits (at + len_utf8 c) cs items → Splits at (c ∷ cs) items
-  comment : (at : ℕ) (text cs rest : List ℕ) (items : List Placed) → text ≡ 35 ∷ (cs ++ rest) → AllPass (λ c. not (c == 10)) cs → EndsLine rest
+  blank : (at : ℕ) (c : ℕ) (cs : List ℕ) (items : List Placed) → IsTrue (is_blank c) → Splits (at + len_utf8 c) cs items →
+      Splits at (c ∷ cs) items
+  comment : (at : ℕ) (text cs rest : List ℕ) (items : List Placed) → text ≡ 35 ∷ (cs ++ rest) →
+      AllPass (λ c. not (c == 10)) cs → EndsLine rest
       → Splits (at + width (35 ∷ cs)) rest items → Splits at text items
-  token : (at : ℕ) (text cs rest : List ℕ) (x : Token) (items : List Placed) → text ≡ cs ++ rest → Spells cs x → IsLongest cs rest
+  token : (at : ℕ) (text cs rest : List ℕ) (x : Token) (items : List Placed) → text ≡ cs ++ rest → Spells cs x →
+      IsLongest cs rest
       → Splits (at + width cs) rest items → Splits at text (record { at = at; token = x } ∷ items)
   junk : (at : ℕ) (c : ℕ) (cs : List ℕ) → IsFalse (is_blank c) → IsFalse (c == 35)
-      → ((us vs : List ℕ) (x : Token) → c ∷ cs ≡ us ++ vs → Spells us x → ⊥) → Splits at (c ∷ cs) (record { at = at; token = Junk } ∷ [])
+      → ((us vs : List ℕ) (x : Token) → c ∷ cs ≡ us ++ vs → Spells us x → ⊥) →
+      Splits at (c ∷ cs) (record { at = at; token = Junk } ∷ [])

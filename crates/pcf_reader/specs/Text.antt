@@ -7,7 +7,8 @@ use Rattle.pcf_values.specs.Named.{NamedTree}
 use Rattle.pcf_reader.specs.Tokens.{Token, Number, Junk, Placed}
 use Rattle.pcf_reader.specs.Grammar.{Program, program_text, Written, placed, expr_part}
 use Rattle.pcf_reader.specs.declared.fault.ReadFault.{ReadFault}
-use Rattle.pcf_reader.specs.declared.fault.ReadFault.TheVariants.{NoMemory, NotText, BadToken, NumberTooWide, Unexpected, TooDeep, TooLarge, TooLong}
+use Rattle.pcf_reader.specs.declared.fault.ReadFault.TheVariants.{NoMemory, NotText, BadToken, NumberTooWide, Unexpected, TooDeep, TooLarge}
+use Rattle.pcf_reader.specs.declared.fault.ReadFault.TheVariants.{TooLong}
 use Rattle.pcf_values.specs.Most.{most_nodes, most_open}
 
 -- how many nodes these count

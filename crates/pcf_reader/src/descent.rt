@@ -5,7 +5,10 @@
 
 ghost use Rattle.std.specs.Prelude.{◌≡◌, ℕ, ◌+◌, ◌*◌, ◌<◌, ◌≤◌, length, List, OnOk, IfOk};
 ghost use Rattle.pcf_reader.specs.Tokens.{Bind as bind_token, Ifz as ifz_token};
-ghost use Rattle.pcf_reader.specs.Machine.{step, ExprK, ProductK, AppK, AtomK, in_parens, first_atom, first_app, first_product, expr_open, product_open, app_open, atom_open, left_of, extra_of, got_atom, starts_atom, begin_atom, begin_expr, after_expr, end_product, end_app, want_name, want_colon, in_second, in_body, in_test, in_then, in_else, of_binder, first_ptype, begin_tatom};
+ghost use Rattle.pcf_reader.specs.Machine.{step, ExprK, ProductK, AppK, AtomK, in_parens, first_atom, first_app, first_product, expr_open};
+ghost use Rattle.pcf_reader.specs.Machine.{product_open, app_open, atom_open, left_of, extra_of, got_atom, starts_atom, begin_atom};
+ghost use Rattle.pcf_reader.specs.Machine.{begin_expr, after_expr, end_product, end_app, want_name, want_colon, in_second, in_body};
+ghost use Rattle.pcf_reader.specs.Machine.{in_test, in_then, in_else, of_binder, first_ptype, begin_tatom};
 ghost use Rattle.pcf_values.specs.Named.{Binder as SpecBinder};
 ghost use Rattle.pcf_reader.specs.Grammar.{Part as SpecPart};
 ghost use Rattle.pcf_values.specs.Views.{ty_of};
@@ -26,7 +29,8 @@ use std::alloc::Global;
 #[cycle(terms)]
 pub fn expr(reader: &mut Reader, alloc: Global, depth: u32) -> Result<Part, ReadFault>
     requires { depth ≤ most_open }
-    ensures goes { (k : ExprK) → expr_open k ≡ depth → Gives (λ p. resume (after_expr k (part_of p)) reader.new) (resume (begin_expr k) reader.old) result }
+    ensures goes { (k : ExprK) → expr_open k ≡ depth →
+        Gives (λ p. resume (after_expr k (part_of p)) reader.new) (resume (begin_expr k) reader.old) result }
     ensures shorter { OnOk result (length reader.new.after < length reader.old.after) }
     ensures low { IfOk result (λ p. p.height + 4 * depth ≤ most_read_height) }
 {
@@ -39,7 +43,8 @@ pub fn expr(reader: &mut Reader, alloc: Global, depth: u32) -> Result<Part, Read
 
 /// The name of a binder.
 fn binder_name(reader: &mut Reader, alloc: Global) -> Result<Ident, ReadFault>
-    ensures goes { (k : ExprK) (at : ℕ) (b : SpecBinder) → Gives (λ x. resume (step (want_colon at b x k)) reader.new) (resume (step (want_name at b k)) reader.old) result }
+    ensures goes { (k : ExprK) (at : ℕ) (b : SpecBinder) →
+        Gives (λ x. resume (step (want_colon at b x k)) reader.new) (resume (step (want_name at b k)) reader.old) result }
     ensures shorter { OnOk result (length reader.new.after < length reader.old.after) }
 {
     match reader.token() {
@@ -54,7 +59,9 @@ fn binder_name(reader: &mut Reader, alloc: Global) -> Result<Ident, ReadFault>
 /// The `:` of a binder, its type, and the `.` behind it.
 fn binder_type(reader: &mut Reader, alloc: Global, depth: u32) -> Result<Box<Ty>, ReadFault>
     requires { (0 < depth) × (depth ≤ most_open) }
-    ensures goes { (k : ExprK) (at : ℕ) (b : SpecBinder) (x : List ℕ) → expr_open k + 1 ≡ depth → Gives (λ t. resume (begin_expr (in_body at b x (ty_of t.value) k)) reader.new) (resume (step (want_colon at b x k)) reader.old) result }
+    ensures goes { (k : ExprK) (at : ℕ) (b : SpecBinder) (x : List ℕ) → expr_open k + 1 ≡ depth →
+        Gives (λ t. resume (begin_expr (in_body at b x (ty_of t.value) k)) reader.new) (resume (step (want_colon at b x k)) reader.old)
+        result }
     ensures shorter { OnOk result (length reader.new.after < length reader.old.after) }
 {
     match reader.token() {
@@ -70,7 +77,9 @@ fn binder_type(reader: &mut Reader, alloc: Global, depth: u32) -> Result<Box<Ty>
 /// A type, and the `.` behind it.
 fn type_and_dot(reader: &mut Reader, alloc: Global, depth: u32) -> Result<Box<Ty>, ReadFault>
     requires { (0 < depth) × (depth ≤ most_open) }
-    ensures goes { (k : ExprK) (at : ℕ) (b : SpecBinder) (x : List ℕ) → expr_open k + 1 ≡ depth → Gives (λ t. resume (begin_expr (in_body at b x (ty_of t.value) k)) reader.new) (resume (begin_tatom (first_ptype (of_binder at b x k))) reader.old) result }
+    ensures goes { (k : ExprK) (at : ℕ) (b : SpecBinder) (x : List ℕ) → expr_open k + 1 ≡ depth →
+        Gives (λ t. resume (begin_expr (in_body at b x (ty_of t.value) k)) reader.new)
+        (resume (begin_tatom (first_ptype (of_binder at b x k))) reader.old) result }
     ensures shorter { OnOk result (length reader.new.after < length reader.old.after) }
 {
     let of = type_of(reader, alloc, depth)?;
@@ -93,7 +102,8 @@ fn binding(
 ) -> Result<Part, ReadFault>
     requires depth { depth ≤ most_open }
     requires here { reader.old.here ≡ bind_token (binder_of binder) }
-    ensures goes { (k : ExprK) → expr_open k ≡ depth → Gives (λ p. resume (after_expr k (part_of p)) reader.new) (resume (begin_expr k) reader.old) result }
+    ensures goes { (k : ExprK) → expr_open k ≡ depth →
+        Gives (λ p. resume (after_expr k (part_of p)) reader.new) (resume (begin_expr k) reader.old) result }
     ensures shorter { OnOk result (length reader.new.after < length reader.old.after) }
     ensures low { IfOk result (λ p. p.height + 4 * depth ≤ most_read_height) }
 {
@@ -110,7 +120,8 @@ fn binding(
 fn choice(reader: &mut Reader, alloc: Global, depth: u32) -> Result<Part, ReadFault>
     requires depth { depth ≤ most_open }
     requires here { reader.old.here ≡ ifz_token }
-    ensures goes { (k : ExprK) → expr_open k ≡ depth → Gives (λ p. resume (after_expr k (part_of p)) reader.new) (resume (begin_expr k) reader.old) result }
+    ensures goes { (k : ExprK) → expr_open k ≡ depth →
+        Gives (λ p. resume (after_expr k (part_of p)) reader.new) (resume (begin_expr k) reader.old) result }
     ensures shorter { OnOk result (length reader.new.after < length reader.old.after) }
     ensures low { IfOk result (λ p. p.height + 4 * depth ≤ most_read_height) }
 {
@@ -136,7 +147,8 @@ fn branches(
     test: Part,
 ) -> Result<Part, ReadFault>
     requires { (0 < depth) × (depth ≤ most_open) × (test.height + 4 * depth ≤ most_read_height) }
-    ensures goes { (k : ExprK) → expr_open k + 1 ≡ depth → Gives (λ p. resume (after_expr k (part_of p)) reader.new) (resume (begin_expr (in_then at (part_of test) k)) reader.old) result }
+    ensures goes { (k : ExprK) → expr_open k + 1 ≡ depth →
+        Gives (λ p. resume (after_expr k (part_of p)) reader.new) (resume (begin_expr (in_then at (part_of test) k)) reader.old) result }
     ensures shorter { OnOk result (length reader.new.after < length reader.old.after) }
     ensures low { IfOk result (λ p. p.height + 4 * depth ≤ most_read_height + 1) }
 {
@@ -155,7 +167,9 @@ fn branches(
 #[cycle(terms)]
 fn sum(reader: &mut Reader, alloc: Global, depth: u32) -> Result<Part, ReadFault>
     requires { depth ≤ most_open }
-    ensures goes { (k : ExprK) → expr_open k ≡ depth → Gives (λ p. resume (after_expr k (part_of p)) reader.new) (resume (begin_atom (first_atom (first_app (first_product k)))) reader.old) result }
+    ensures goes { (k : ExprK) → expr_open k ≡ depth →
+        Gives (λ p. resume (after_expr k (part_of p)) reader.new) (resume (begin_atom (first_atom (first_app (first_product k)))) reader.old)
+        result }
     ensures shorter { OnOk result (length reader.new.after < length reader.old.after) }
     ensures low { IfOk result (λ p. p.height + 4 * depth ≤ most_read_height) }
 {
@@ -181,7 +195,8 @@ fn sum(reader: &mut Reader, alloc: Global, depth: u32) -> Result<Part, ReadFault
 #[cycle(terms)]
 fn product(reader: &mut Reader, alloc: Global, depth: u32) -> Result<Part, ReadFault>
     requires { depth ≤ most_open }
-    ensures goes { (k : ProductK) → product_open k ≡ depth → Gives (λ p. resume (end_product k (part_of p)) reader.new) (resume (begin_atom (first_atom (first_app k))) reader.old) result }
+    ensures goes { (k : ProductK) → product_open k ≡ depth →
+        Gives (λ p. resume (end_product k (part_of p)) reader.new) (resume (begin_atom (first_atom (first_app k))) reader.old) result }
     ensures shorter { OnOk result (length reader.new.after < length reader.old.after) }
     ensures low { IfOk result (λ p. p.height + 4 * depth + 1 ≤ most_read_height) }
 {
@@ -202,7 +217,8 @@ fn product(reader: &mut Reader, alloc: Global, depth: u32) -> Result<Part, ReadF
 #[cycle(terms)]
 fn application(reader: &mut Reader, alloc: Global, depth: u32) -> Result<Part, ReadFault>
     requires { depth ≤ most_open }
-    ensures goes { (k : AppK) → app_open k ≡ depth → Gives (λ p. resume (end_app k (part_of p)) reader.new) (resume (begin_atom (first_atom k)) reader.old) result }
+    ensures goes { (k : AppK) → app_open k ≡ depth →
+        Gives (λ p. resume (end_app k (part_of p)) reader.new) (resume (begin_atom (first_atom k)) reader.old) result }
     ensures shorter { OnOk result (length reader.new.after < length reader.old.after) }
     ensures low { IfOk result (λ p. p.height + 4 * depth + 2 ≤ most_read_height) }
 {
@@ -229,7 +245,8 @@ fn starts_atom(token: Token) -> bool
 #[cycle(terms)]
 fn atom(reader: &mut Reader, alloc: Global, depth: u32, extra: u32) -> Result<Part, ReadFault>
     requires { (depth ≤ most_open) × (extra ≤ 1) }
-    ensures goes { (k : AtomK) → atom_open k ≡ depth → extra_of k ≡ extra → left_of k < most_open → Gives (λ p. resume (step (got_atom k (part_of p))) reader.new) (resume (begin_atom k) reader.old) result }
+    ensures goes { (k : AtomK) → atom_open k ≡ depth → extra_of k ≡ extra → left_of k < most_open →
+        Gives (λ p. resume (step (got_atom k (part_of p))) reader.new) (resume (begin_atom k) reader.old) result }
     ensures shorter { OnOk result (length reader.new.after < length reader.old.after) }
     ensures low { IfOk result (λ p. p.height + 4 * depth + 3 ≤ most_read_height) }
 {
@@ -260,7 +277,8 @@ fn atom(reader: &mut Reader, alloc: Global, depth: u32, extra: u32) -> Result<Pa
 #[cycle(terms)]
 fn parens(reader: &mut Reader, alloc: Global, depth: u32, at: u32) -> Result<Part, ReadFault>
     requires { (0 < depth) × (depth ≤ most_open) }
-    ensures goes { (k : AtomK) → atom_open k + 1 ≡ depth → Gives (λ p. resume (step (got_atom k (part_of p))) reader.new) (resume (begin_expr (in_parens at k)) reader.old) result }
+    ensures goes { (k : AtomK) → atom_open k + 1 ≡ depth →
+        Gives (λ p. resume (step (got_atom k (part_of p))) reader.new) (resume (begin_expr (in_parens at k)) reader.old) result }
     ensures shorter { OnOk result (length reader.new.after < length reader.old.after) }
     ensures low { IfOk result (λ p. p.height + 4 * depth ≤ most_read_height + 1) }
 {
@@ -288,7 +306,9 @@ fn second_of(
     first: Part,
 ) -> Result<Part, ReadFault>
     requires { (0 < depth) × (depth ≤ most_open) × (first.height + 4 * depth ≤ most_read_height) }
-    ensures goes { (k : AtomK) → atom_open k + 1 ≡ depth → Gives (λ p. resume (step (got_atom k (part_of p))) reader.new) (resume (begin_expr (in_second at (part_of first) k)) reader.old) result }
+    ensures goes { (k : AtomK) → atom_open k + 1 ≡ depth →
+        Gives (λ p. resume (step (got_atom k (part_of p))) reader.new) (resume (begin_expr (in_second at (part_of first) k)) reader.old)
+        result }
     ensures shorter { OnOk result (length reader.new.after < length reader.old.after) }
     ensures low { IfOk result (λ p. p.height + 4 * depth ≤ most_read_height + 1) }
 {

@@ -1,6 +1,7 @@
 //! The pieces of a text: characters, words, numbers, blanks and comments.
 
-ghost use Rattle.std.specs.Prelude.{◌≡◌, ℕ, ◌+◌, ◌-◌, ◌*◌, ◌^◌, ◌<◌, ◌≤◌, ◌++◌, [], ◌∷◌, length, ◌==◌, List, MatchOption, Some, None, encode_utf8, IsTrue, IsFalse, IfSome};
+ghost use Rattle.std.specs.Prelude.{◌≡◌, ℕ, ◌+◌, ◌-◌, ◌*◌, ◌^◌, ◌<◌, ◌≤◌, ◌++◌, [], ◌∷◌};
+ghost use Rattle.std.specs.Prelude.{length, ◌==◌, List, MatchOption, Some, None, encode_utf8, IsTrue, IsFalse, IfSome};
 ghost use Rattle.std.specs.Str.{chars, IsUtf8};
 ghost use Rattle.std.specs.Char.{len_utf8};
 ghost use Rattle.pcf_reader.specs.Seen.{token_of};
@@ -46,7 +47,8 @@ pub fn behind_comment(text: &str, at: u32) -> (&str, u32)
 
 /// A word, and the text behind it.
 pub fn split_word(text: &str) -> (&str, &str)
-    ensures lexed { (at start : ℕ) → lex (chars text.now) at (in_word start []) ≡ closed (in_word start result.0.now) (lex (chars result.1.now) (at + length result.0.now) idle) }
+    ensures lexed { (at start : ℕ) → lex (chars text.now) at (in_word start []) ≡ closed (in_word start result.0.now)
+        (lex (chars result.1.now) (at + length result.0.now) idle) }
     ensures split { text.now ≡ result.0.now ++ result.1.now }
 {
     let mut rest = text;
@@ -61,7 +63,9 @@ pub fn split_word(text: &str) -> (&str, &str)
 
 /// The number that the digits before any other character are, or 2^64 where it is larger, and the text behind it.
 pub fn split_number(text: &str) -> (u128, &str)
-    ensures lexed { (n : ℕ) × (result.0 ≡ capped n) × ((at start : ℕ) → lex (chars text.now) at (in_number start 0) ≡ closed (in_number start n) (lex (chars result.1.now) (at + (length text.now - length result.1.now)) idle)) }
+    ensures lexed { (n : ℕ) × (result.0 ≡ capped n) ×
+        ((at start : ℕ) → lex (chars text.now) at (in_number start 0) ≡ closed (in_number start n)
+        (lex (chars result.1.now) (at + (length text.now - length result.1.now)) idle)) }
     ensures shorter { length result.1.now ≤ length text.now }
 {
     let mut rest = text;

@@ -138,7 +138,8 @@ fn push_binary(
     right_most: u8,
     right: &Named,
 ) -> Result<(), AllocError>
-    ensures { OnOk result (out.new.items ≡ out.old.items ++ fitted left_most (level (named_of left.now)) (term_text (named_of left.now)) ++ between.now ++ fitted right_most (level (named_of right.now)) (term_text (named_of right.now))) }
+    ensures { OnOk result (out.new.items ≡ out.old.items ++ fitted left_most (level (named_of left.now)) (term_text (named_of left.now))
+        ++ between.now ++ fitted right_most (level (named_of right.now)) (term_text (named_of right.now))) }
 {
     push_fitted(out, b"", left_most, left)?;
     push_fitted(out, between, right_most, right)
@@ -146,7 +147,8 @@ fn push_binary(
 
 #[cycle(print_terms)]
 fn push_choice(out: &mut Vec<u8>, test: &Named, yes: &Named, no: &Named) -> Result<(), AllocError>
-    ensures { OnOk result (out.new.items ≡ out.old.items ++ codes "ifz " ++ term_text (named_of test.now) ++ codes " then " ++ term_text (named_of yes.now) ++ codes " else " ++ term_text (named_of no.now)) }
+    ensures { OnOk result (out.new.items ≡ out.old.items ++ codes "ifz " ++ term_text (named_of test.now) ++ codes " then " ++
+        term_text (named_of yes.now) ++ codes " else " ++ term_text (named_of no.now)) }
 {
     push_after(out, b"ifz ", test)?;
     push_after(out, b" then ", yes)?;
@@ -155,7 +157,8 @@ fn push_choice(out: &mut Vec<u8>, test: &Named, yes: &Named, no: &Named) -> Resu
 
 #[cycle(print_terms)]
 fn push_pair(out: &mut Vec<u8>, left: &Named, right: &Named) -> Result<(), AllocError>
-    ensures { OnOk result (out.new.items ≡ out.old.items ++ codes "(" ++ term_text (named_of left.now) ++ codes ", " ++ term_text (named_of right.now) ++ codes ")") }
+    ensures { OnOk result (out.new.items ≡ out.old.items ++ codes "(" ++ term_text (named_of left.now) ++ codes ", " ++
+        term_text (named_of right.now) ++ codes ")") }
 {
     push_after(out, b"(", left)?;
     push_after(out, b", ", right)?;
@@ -171,7 +174,8 @@ fn push_binding(
     ty: &Ty,
     body: &Named,
 ) -> Result<(), AllocError>
-    ensures { OnOk result (out.new.items ≡ out.old.items ++ word.now ++ name.now ++ codes ":" ++ ty_text (ty_of ty.now) ++ codes ". " ++ term_text (named_of body.now)) }
+    ensures { OnOk result (out.new.items ≡ out.old.items ++ word.now ++ name.now ++ codes ":" ++ ty_text (ty_of ty.now) ++ codes ". " ++
+        term_text (named_of body.now)) }
 {
     push_head(out, word, name, ty)?;
     push_term(out, body)
@@ -180,7 +184,8 @@ fn push_binding(
 /// What stands before a part of a term, and the part, in parentheses unless its level is at most this one.
 #[cycle(print_terms)]
 fn push_fitted(out: &mut Vec<u8>, before: &[u8], most: u8, term: &Named) -> Result<(), AllocError>
-    ensures { OnOk result (out.new.items ≡ out.old.items ++ before.now ++ fitted most (level (named_of term.now)) (term_text (named_of term.now))) }
+    ensures { OnOk result (out.new.items ≡ out.old.items ++ before.now ++
+        fitted most (level (named_of term.now)) (term_text (named_of term.now))) }
 {
     out.extend_from_slice(before)?;
     if level_of(term) <= most {

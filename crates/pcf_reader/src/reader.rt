@@ -1,6 +1,7 @@
 //! A reader over the tokens of a text. It looks one token ahead, and copies nothing but names.
 
-ghost use Rattle.std.specs.Prelude.{◌≡◌, ℕ, ◌+◌, ◌<◌, ◌≤◌, [], ◌∷◌, length, List, IfOk, OnOk, IfErr, Ok, IsFalse, ◌==◌};
+ghost use Rattle.std.specs.Prelude.{◌≡◌, ℕ, ◌+◌, ◌<◌, ◌≤◌, [], ◌∷◌, length, List, IfOk, OnOk, IfErr, Ok};
+ghost use Rattle.std.specs.Prelude.{IsFalse, ◌==◌};
 ghost use Rattle.std.specs.Char.{len_utf8};
 ghost use Rattle.std.specs.Str.{chars};
 ghost use Rattle.pcf_reader.specs.Machine.{State, step, go};
@@ -73,7 +74,8 @@ impl<'a> Reader<'a> {
     pub fn take(&mut self, count: u32) -> Result<(), ReadFault>
         requires end { self.old.here ≡ end_token → ⊥ }
         requires count { count ≤ 2 }
-        ensures goes { (d : ℕ) (s : State) → d < most_open → Gives (λ _. resume (step s) self.new) (taken self.old (go d count s)) result }
+        ensures goes { (d : ℕ) (s : State) → d < most_open →
+            Gives (λ _. resume (step s) self.new) (taken self.old (go d count s)) result }
         ensures shorter { OnOk result (length self.new.after < length self.old.after) }
     {
         let nodes = self.nodes + count;
@@ -89,7 +91,8 @@ impl<'a> Reader<'a> {
         requires name { (name : List ℕ) × (self.old.here ≡ name_token name) }
         requires count { count ≤ 2 }
         ensures name { IfOk result (λ x. self.old.here ≡ name_token x) }
-        ensures goes { (d : ℕ) (s : State) → d < most_open → Gives (λ _. resume (step s) self.new) (taken self.old (go d count s)) result }
+        ensures goes { (d : ℕ) (s : State) → d < most_open →
+            Gives (λ _. resume (step s) self.new) (taken self.old (go d count s)) result }
         ensures shorter { OnOk result (length self.new.after < length self.old.after) }
     {
         let name = Ident::from_text(alloc, self.word)?;
@@ -134,7 +137,13 @@ fn reader_of<'a>(
 ) -> Reader<'a>
     requires short { end + length rest.now ≤ most_program_bytes }
     requires few { nodes ≤ most_nodes }
-    ensures { result ≡ record { at = at; here = token_of token word.now; after = behind (token_of token word.now) (lex (chars rest.now) end idle); nodes = nodes } }
+    ensures { result ≡ record {
+      at = at;
+      here = token_of token word.now;
+      after =
+          behind (token_of token word.now) (lex (chars rest.now) end idle);
+      nodes = nodes;
+    } }
 {
     Reader {
         token,
@@ -248,8 +257,10 @@ fn at_sign(first: char, more: &str, at: u32, nodes: u32) -> Result<Reader<'_>, R
     requires dash { IsFalse (first == 45) }
     requires short { at + len_utf8 first + length more.now ≤ most_program_bytes }
     requires few { nodes ≤ most_nodes }
-    ensures goes { (s : State) → Gives (λ r. resume (step s) r) (scan (on_sign (sign_of first) at (λ m. lex (chars more.now) (at + len_utf8 first) m)) s nodes) result }
-    ensures shorter { IfOk result (λ r. length r.after < length (on_sign (sign_of first) at (λ m. lex (chars more.now) (at + len_utf8 first) m))) }
+    ensures goes { (s : State) → Gives (λ r. resume (step s) r)
+        (scan (on_sign (sign_of first) at (λ m. lex (chars more.now) (at + len_utf8 first) m)) s nodes) result }
+    ensures shorter { IfOk result (λ r. length r.after < length
+        (on_sign (sign_of first) at (λ m. lex (chars more.now) (at + len_utf8 first) m))) }
 {
     match sign(first) {
         Some(token) => {

@@ -1,7 +1,8 @@
 //! The types of a text, phrase by phrase, as in the descent over terms.
 
 ghost use Rattle.std.specs.Prelude.{◌≡◌, ℕ, ◌+◌, ◌<◌, ◌≤◌, length, [], OnOk};
-ghost use Rattle.pcf_reader.specs.Machine.{step, TypeK, PTypeK, first_ptype, type_open, ptype_open, begin_tatom, end_type, end_ptype, after_tatom};
+ghost use Rattle.pcf_reader.specs.Machine.{step, TypeK, PTypeK, first_ptype, type_open, ptype_open, begin_tatom, end_type, end_ptype};
+ghost use Rattle.pcf_reader.specs.Machine.{after_tatom};
 ghost use Rattle.pcf_reader.specs.Rest.{resume, Gives};
 ghost use Rattle.pcf_values.specs.Views.{ty_of};
 ghost use Rattle.pcf_values.specs.Most.{most_open};
@@ -16,7 +17,8 @@ use std::alloc::Global;
 #[cycle(types)]
 pub fn type_of(reader: &mut Reader, alloc: Global, depth: u32) -> Result<Box<Ty>, ReadFault>
     requires { depth ≤ most_open }
-    ensures goes { (k : TypeK) → type_open k ≡ depth → Gives (λ t. resume (end_type k (ty_of t.value)) reader.new) (resume (begin_tatom (first_ptype k)) reader.old) result }
+    ensures goes { (k : TypeK) → type_open k ≡ depth →
+        Gives (λ t. resume (end_type k (ty_of t.value)) reader.new) (resume (begin_tatom (first_ptype k)) reader.old) result }
     ensures shorter { OnOk result (length reader.new.after < length reader.old.after) }
 {
     let from = product_of(reader, alloc, depth)?;
@@ -34,7 +36,8 @@ pub fn type_of(reader: &mut Reader, alloc: Global, depth: u32) -> Result<Box<Ty>
 #[cycle(types)]
 fn product_of(reader: &mut Reader, alloc: Global, depth: u32) -> Result<Box<Ty>, ReadFault>
     requires { depth ≤ most_open }
-    ensures goes { (k : PTypeK) → ptype_open k ≡ depth → Gives (λ t. resume (end_ptype k (ty_of t.value)) reader.new) (resume (begin_tatom k) reader.old) result }
+    ensures goes { (k : PTypeK) → ptype_open k ≡ depth →
+        Gives (λ t. resume (end_ptype k (ty_of t.value)) reader.new) (resume (begin_tatom k) reader.old) result }
     ensures shorter { OnOk result (length reader.new.after < length reader.old.after) }
 {
     let left = atom_of(reader, alloc, depth)?;
@@ -52,7 +55,8 @@ fn product_of(reader: &mut Reader, alloc: Global, depth: u32) -> Result<Box<Ty>,
 #[cycle(types)]
 fn atom_of(reader: &mut Reader, alloc: Global, depth: u32) -> Result<Box<Ty>, ReadFault>
     requires { depth ≤ most_open }
-    ensures goes { (k : PTypeK) → ptype_open k ≡ depth → Gives (λ t. resume (step (after_tatom k (ty_of t.value))) reader.new) (resume (begin_tatom k) reader.old) result }
+    ensures goes { (k : PTypeK) → ptype_open k ≡ depth →
+        Gives (λ t. resume (step (after_tatom k (ty_of t.value))) reader.new) (resume (begin_tatom k) reader.old) result }
     ensures shorter { OnOk result (length reader.new.after < length reader.old.after) }
 {
     let at = reader.at();

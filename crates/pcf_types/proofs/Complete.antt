@@ -1,9 +1,11 @@
 -- A tree that stands for a typed term is accepted; both the term and the type are unique.
 use Rattle.std.proofs.Common.{◌≡◌, ℕ, List, ◌∷◌, Some, Ok, refl, sym, ap, ◌∙◌, subst}
 use Rattle.std.specs.Prelude.{slice_get}
-use Rattle.pcf_values.specs.Terms.{TyTree, nat, arrow, product, Side, left_side, right_side, at_side, TermTree, num, var, succ_of, pred_of, binary, ifz, lam, fix, app, pair, proj}
+use Rattle.pcf_values.specs.Terms.{TyTree, nat, arrow, product, Side, left_side, right_side, at_side, TermTree, num, var, succ_of, pred_of}
+use Rattle.pcf_values.specs.Terms.{binary, ifz, lam, fix, app, pair, proj}
 use Rattle.pcf_values.specs.Typing.{HasType}
-use Rattle.pcf_values.specs.Named.{the_succ, the_pred, the_fst, the_snd, the_fun, the_fix, NamedTree, number_at, name_at, word_at, binary_at, pair_at, ifz_at, bind_at, apply_at, place_of}
+use Rattle.pcf_values.specs.Named.{the_succ, the_pred, the_fst, the_snd, the_fun, the_fix, NamedTree, number_at, name_at, word_at}
+use Rattle.pcf_values.specs.Named.{binary_at, pair_at, ifz_at, bind_at, apply_at, place_of}
 use Rattle.pcf_types.specs.declared.fault.TypeFault.TheVariants.{FixMismatch, ArgumentMismatch}
 use Rattle.pcf_types.specs.Checking.{Context, variable, type_of}
 use Rattle.pcf_types.specs.Resolution.{Resolves, word_term, binder_term}
@@ -23,26 +25,37 @@ complete (word_at at the_succ a) g m (b, r, e) =
 complete (word_at at the_pred a) g m (b, r, e) =
     subst (Accepts g (word_at at the_pred a)) (sym e) (λ t h. rw (complete a g b r nat h.0) (ap (λ t. Ok (pred_of b, t)) (sym h.1)))
 complete (word_at at the_fst a) g m (b, r, e) =
-    subst (Accepts g (word_at at the_fst a)) (sym e) (λ t (c, d, h, q). rw (complete a g b r (product c d) h) (ap (λ t. Ok (proj left_side b, t)) (sym q)))
+    subst (Accepts g (word_at at the_fst a)) (sym e)
+    (λ t (c, d, h, q). rw (complete a g b r (product c d) h) (ap (λ t. Ok (proj left_side b, t)) (sym q)))
 complete (word_at at the_snd a) g m (b, r, e) =
-    subst (Accepts g (word_at at the_snd a)) (sym e) (λ t (c, d, h, q). rw (complete a g b r (product c d) h) (ap (λ t. Ok (proj right_side b, t)) (sym q)))
+    subst (Accepts g (word_at at the_snd a)) (sym e)
+    (λ t (c, d, h, q). rw (complete a g b r (product c d) h) (ap (λ t. Ok (proj right_side b, t)) (sym q)))
 complete (binary_at at o a b) g m (c, d, r, s, e) =
-    subst (Accepts g (binary_at at o a b)) (sym e) (λ t h. rw (complete a g c r nat h.0, complete b g d s nat h.1) (ap (λ t. Ok (binary o c d, t)) (sym h.2)))
+    subst (Accepts g (binary_at at o a b)) (sym e)
+    (λ t h. rw (complete a g c r nat h.0, complete b g d s nat h.1) (ap (λ t. Ok (binary o c d, t)) (sym h.2)))
 complete (pair_at at a b) g m (c, d, r, s, e) =
-    subst (Accepts g (pair_at at a b)) (sym e) (λ t (u, v, h, k, q). rw (complete a g c r u h, complete b g d s v k) (ap (λ t. Ok (pair c d, t)) (sym q)))
+    subst (Accepts g (pair_at at a b)) (sym e) (λ t (u, v, h, k, q). rw (complete a g c r u h, complete b g d s v k)
+    (ap (λ t. Ok (pair c d, t)) (sym q)))
 complete (ifz_at at c a b) g m (x, y, z, r, s, w, e) =
     subst (Accepts g (ifz_at at c a b)) (sym e)
     (λ t h. rw (complete c g x r nat h.0, complete a g y s nat h.1, complete b g z w nat h.2) (ap (λ t. Ok (ifz x y z, t)) (sym h.3)))
 complete (bind_at at the_fun x a b) g m (n, r, e) =
-    subst (Accepts g (bind_at at the_fun x a b)) (sym e) (λ t (c, h, q). rw (complete b ((x, a) ∷ g) n r c h) (ap (λ t. Ok (lam a n, t)) (sym q)))
+    subst (Accepts g (bind_at at the_fun x a b)) (sym e)
+    (λ t (c, h, q). rw (complete b ((x, a) ∷ g) n r c h) (ap (λ t. Ok (lam a n, t)) (sym q)))
 complete (bind_at at the_fix x a b) g m (n, r, e) =
     subst (Accepts g (bind_at at the_fix x a b)) (sym e)
-    (λ t (h, q). rw (complete b ((x, a) ∷ g) n r a h, as_type_same a a (FixMismatch (place_of b)) n refl) (ap (λ t. Ok (fix a n, t)) (sym q)))
+    (λ t (h, q). rw (complete b ((x, a) ∷ g) n r a h, as_type_same a a (FixMismatch (place_of b)) n refl)
+    (ap (λ t. Ok (fix a n, t)) (sym q)))
 complete (apply_at at f a) g m (n, b, r, s, e) =
     subst (Accepts g (apply_at at f a)) (sym e)
-    (λ t (c, h, k). rw (complete f g n r (arrow c t) h, complete a g b s c k, as_type_same c c (ArgumentMismatch (place_of a)) b refl) refl)
+    (λ t (c, h, k). rw (
+      complete f g n r (arrow c t) h,
+      complete a g b s c k,
+      as_type_same c c (ArgumentMismatch (place_of a)) b refl,
+    ) refl)
 
-pub typed_accepted : (g : Context) (tree : NamedTree) (m : TermTree) (t : TyTree) → Resolves (names_in g) tree m → HasType (types_in g) m t → type_of g tree ≡ Ok (m, t)
+pub typed_accepted : (g : Context) (tree : NamedTree) (m : TermTree) (t : TyTree) → Resolves (names_in g) tree m →
+    HasType (types_in g) m t → type_of g tree ≡ Ok (m, t)
 typed_accepted g tree m t r h = complete tree g m r t h
 
 one_get : (g : List TyTree) (i : ℕ) (t u : TyTree) → slice_get g i ≡ Some t → slice_get g i ≡ Some u → t ≡ u

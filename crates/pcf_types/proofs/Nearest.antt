@@ -1,5 +1,6 @@
 -- The binder that is looked up is the nearest one of the name.
-use Rattle.std.proofs.Common.{◌≡◌, ◌≢◌, ◌⊎◌, ℕ, zero, suc, ◌<◌, Bool, true, false, cond, List, [], ◌∷◌, Option, Some, None, refl, sym, ap, ◌∙◌, subst, inl, inr, arith}
+use Rattle.std.proofs.Common.{◌≡◌, ◌≢◌, ◌⊎◌, ℕ, zero, suc, ◌<◌, Bool, true, false, cond, List, [], ◌∷◌}
+use Rattle.std.proofs.Common.{Option, Some, None, refl, sym, ap, ◌∙◌, subst, inl, inr, arith}
 use Rattle.std.specs.Prelude.{slice_get}
 use Rattle.std.specs.Str.{bytes_eq}
 use Rattle.std.proofs.lemmas.Bool.{cases_order}
@@ -19,7 +20,8 @@ some_is a b h = cc
 other_name : (x y : List ℕ) → bytes_eq x y ≡ false → x ≢ y
 other_name x y h e = let k : true ≡ false = sym ((bytes_eq-Decides x y).1 e) ∙ h in cc
 
-from_further : (o : Option (ℕ × TyTree)) (f : ℕ × TyTree) → further o ≡ Some f → (p : ℕ × TyTree) × (o ≡ Some p) × (Some (suc p.0, p.1) ≡ Some f)
+from_further : (o : Option (ℕ × TyTree)) (f : ℕ × TyTree) → further o ≡ Some f → (p : ℕ × TyTree) × (o ≡ Some p) ×
+    (Some (suc p.0, p.1) ≡ Some f)
 from_further None f h = cc
 from_further (Some p) f h = (p, refl, h)
 
@@ -34,14 +36,17 @@ pub nearest_found : (x : List ℕ) (g : Context) (f : ℕ × TyTree) → nearest
 nearest_found x [] f h = cc
 nearest_found x (b ∷ g) f h = go (nearest_found x g) (bytes_eq x b.0) refl h
   where
-    go : ((p : ℕ × TyTree) → nearest x g ≡ Some p → Found x g p) → (t : Bool) → bytes_eq x b.0 ≡ t → cond t (Some (0, b.1)) (further (nearest x g)) ≡ Some f → Found x (b ∷ g) f
-    go ih true q k = subst (Found x (b ∷ g)) (some_is (0, b.1) f k) ((ap Some (sym ((bytes_eq-Decides x b.0).0 q)), λ j l. absurd (omega arith)), refl)
+    go : ((p : ℕ × TyTree) → nearest x g ≡ Some p → Found x g p) → (t : Bool) → bytes_eq x b.0 ≡ t →
+        cond t (Some (0, b.1)) (further (nearest x g)) ≡ Some f → Found x (b ∷ g) f
+    go ih true q k = subst (Found x (b ∷ g)) (some_is (0, b.1) f k)
+        ((ap Some (sym ((bytes_eq-Decides x b.0).0 q)), λ j l. absurd (omega arith)), refl)
     go ih false q k =
         let (p, e, z) = from_further (nearest x g) f k in
         let (d, t) = ih p e in
         subst (Found x (b ∷ g)) (some_is (suc p.0, p.1) f z) (binds_further (names_in g) x b.0 p.0 (other_name x b.0 q) d, t)
 
-pub found_nearest : (x : List ℕ) (g : Context) (i : ℕ) (t : TyTree) → Binds (names_in g) x i → slice_get (types_in g) i ≡ Some t → nearest x g ≡ Some (i, t)
+pub found_nearest : (x : List ℕ) (g : Context) (i : ℕ) (t : TyTree) → Binds (names_in g) x i →
+    slice_get (types_in g) i ≡ Some t → nearest x g ≡ Some (i, t)
 found_nearest x [] i t d h = cc
 found_nearest x (b ∷ g) zero t d h =
     let e : bytes_eq x b.0 ≡ true = (bytes_eq-Decides x b.0).1 (sym (some_is b.0 x d.0)) in

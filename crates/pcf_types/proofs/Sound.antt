@@ -1,8 +1,10 @@
 -- What is accepted is the term that the tree stands for, with a type that it has.
 use Rattle.std.proofs.Common.{◌≡◌, ℕ, List, ◌∷◌, Option, Some, None, Ok, refl, subst}
-use Rattle.pcf_values.specs.Terms.{TyTree, nat, arrow, product, left_side, right_side, TermTree, num, var, succ_of, pred_of, binary, ifz, lam, fix, app, pair, proj}
+use Rattle.pcf_values.specs.Terms.{TyTree, nat, arrow, product, left_side, right_side, TermTree, num, var, succ_of, pred_of, binary, ifz}
+use Rattle.pcf_values.specs.Terms.{lam, fix, app, pair, proj}
 use Rattle.pcf_values.specs.Typing.{HasType}
-use Rattle.pcf_values.specs.Named.{the_succ, the_pred, the_fst, the_snd, the_fun, the_fix, NamedTree, number_at, name_at, word_at, binary_at, pair_at, ifz_at, bind_at, apply_at, place_of}
+use Rattle.pcf_values.specs.Named.{the_succ, the_pred, the_fst, the_snd, the_fun, the_fix, NamedTree, number_at, name_at, word_at}
+use Rattle.pcf_values.specs.Named.{binary_at, pair_at, ifz_at, bind_at, apply_at, place_of}
 use Rattle.pcf_types.specs.declared.fault.TypeFault.TheVariants.{FixMismatch, ArgumentMismatch}
 use Rattle.pcf_types.specs.Checking.{Context, number, numbers, function, both, of_type, variable, nearest, type_of, NumbersFit}
 use Rattle.pcf_types.specs.Resolution.{Resolves}
@@ -15,7 +17,8 @@ abbrev pub Good : Context → NamedTree → TermTree × TyTree → Type 0
 Good g tree p = Resolves (names_in g) tree p.0 × (NumbersFit tree → HasType (types_in g) p.0 p.1)
 
 -- what is found for a name is good
-variable_good : (at : ℕ) (x : List ℕ) (g : Context) (o : Option (ℕ × TyTree)) (p : TermTree × TyTree) → nearest x g ≡ o → variable at o ≡ Ok p → Good g (name_at at x) p
+variable_good : (at : ℕ) (x : List ℕ) (g : Context) (o : Option (ℕ × TyTree)) (p : TermTree × TyTree) → nearest x g ≡ o →
+    variable at o ≡ Ok p → Good g (name_at at x) p
 variable_good at x g None p e h = cc
 variable_good at x g (Some f) p e h =
     let (d, t) = nearest_found x g f e in
@@ -54,7 +57,10 @@ good (pair_at at a b) g p h =
     let (j, e', k') = from_go_on (type_of g b) (λ k. Ok (pair i.0 k.0, product i.1 k.1)) p k in
     let (r, t) = good a g i e in
     let (s, u) = good b g j e' in
-    subst (Good g (pair_at at a b)) (ok_is (pair i.0 j.0, product i.1 j.1) p k') ((i.0, j.0, r, s, refl), λ l. (i.1, j.1, t l.0, u l.1, refl))
+    subst (Good g (pair_at at a b)) (ok_is (pair i.0 j.0, product i.1 j.1) p k') (
+      (i.0, j.0, r, s, refl),
+      λ l. (i.1, j.1, t l.0, u l.1, refl),
+    )
 good (ifz_at at c a b) g p h =
     let ra = number (place_of a) (type_of g a) in
     let rb = number (place_of b) (type_of g b) in

@@ -1,12 +1,16 @@
 -- Scope and types of a term as it is read: the term with indexes and its type, or the first fault.
 -- The definition goes from left to right, so that the first fault counts. Each part is typed in full before what is asked of its type
 -- is looked at, and before the next part.
-use Rattle.std.specs.Prelude.{ℕ, suc, ◌^◌, ◌<◌, Bool, true, false, ◌&&◌, List, [], ◌∷◌, Option, Some, None, Result, Ok, Err, if◌then◌else◌}
+use Rattle.std.specs.Prelude.{ℕ, suc, ◌^◌, ◌<◌, Bool, true, false, ◌&&◌, List, [], ◌∷◌, Option, Some, None, Result, Ok}
+use Rattle.std.specs.Prelude.{Err, if◌then◌else◌}
 use Rattle.std.specs.Str.{bytes_eq}
-use Rattle.pcf_values.specs.Terms.{TyTree, nat, arrow, product, left_side, right_side, TermTree, num, var, succ_of, pred_of, binary, ifz, lam, fix, app, pair, proj}
-use Rattle.pcf_values.specs.Named.{the_succ, the_pred, the_fst, the_snd, the_fun, the_fix, NamedTree, number_at, name_at, word_at, binary_at, pair_at, ifz_at, bind_at, apply_at, place_of}
+use Rattle.pcf_values.specs.Terms.{TyTree, nat, arrow, product, left_side, right_side, TermTree, num, var, succ_of, pred_of, binary, ifz}
+use Rattle.pcf_values.specs.Terms.{lam, fix, app, pair, proj}
+use Rattle.pcf_values.specs.Named.{the_succ, the_pred, the_fst, the_snd, the_fun, the_fix, NamedTree, number_at, name_at, word_at}
+use Rattle.pcf_values.specs.Named.{binary_at, pair_at, ifz_at, bind_at, apply_at, place_of}
 use Rattle.pcf_types.specs.declared.fault.TypeFault.{TypeFault}
-use Rattle.pcf_types.specs.declared.fault.TypeFault.TheVariants.{Unbound, FunctionWanted, ArgumentMismatch, NatWanted, FixMismatch, PairWanted}
+use Rattle.pcf_types.specs.declared.fault.TypeFault.TheVariants.{Unbound, FunctionWanted, ArgumentMismatch, NatWanted, FixMismatch}
+use Rattle.pcf_types.specs.declared.fault.TypeFault.TheVariants.{PairWanted}
 
 -- the binders around a term, the nearest first: each with its name and its type
 abbrev pub Context : Type 0
@@ -91,14 +95,17 @@ type_of g (word_at at the_succ a) = go_on (number (place_of a) (type_of g a)) (�
 type_of g (word_at at the_pred a) = go_on (number (place_of a) (type_of g a)) (λ m. Ok (pred_of m, nat))
 type_of g (word_at at the_fst a) = go_on (both (place_of a) (type_of g a)) (λ p. Ok (proj left_side p.0, p.1))
 type_of g (word_at at the_snd a) = go_on (both (place_of a) (type_of g a)) (λ p. Ok (proj right_side p.0, p.2))
-type_of g (binary_at at o a b) = go_on (numbers (number (place_of a) (type_of g a)) (number (place_of b) (type_of g b))) (λ p. Ok (binary o p.0 p.1, nat))
+type_of g (binary_at at o a b) = go_on (numbers (number (place_of a) (type_of g a)) (number (place_of b) (type_of g b)))
+    (λ p. Ok (binary o p.0 p.1, nat))
 type_of g (pair_at at a b) = go_on (type_of g a) (λ j. go_on (type_of g b) (λ k. Ok (pair j.0 k.0, product j.1 k.1)))
 type_of g (ifz_at at c a b) =
-    go_on (number (place_of c) (type_of g c)) (λ m. go_on (numbers (number (place_of a) (type_of g a)) (number (place_of b) (type_of g b))) (λ p. Ok (ifz m p.0 p.1, nat)))
+    go_on (number (place_of c) (type_of g c)) (λ m. go_on (numbers (number (place_of a) (type_of g a)) (number (place_of b) (type_of g b)))
+    (λ p. Ok (ifz m p.0 p.1, nat)))
 type_of g (bind_at at the_fun x a m) = go_on (type_of ((x, a) ∷ g) m) (λ j. Ok (lam a j.0, arrow a j.1))
 type_of g (bind_at at the_fix x a m) = go_on (of_type a (FixMismatch (place_of m)) (type_of ((x, a) ∷ g) m)) (λ n. Ok (fix a n, a))
 type_of g (apply_at at f a) =
-    go_on (function (place_of f) (type_of g f)) (λ p. go_on (of_type p.1 (ArgumentMismatch (place_of a)) (type_of g a)) (λ n. Ok (app p.0 n, p.2)))
+    go_on (function (place_of f) (type_of g f))
+    (λ p. go_on (of_type p.1 (ArgumentMismatch (place_of a)) (type_of g a)) (λ n. Ok (app p.0 n, p.2)))
 
 -- each number in the tree is a value
 abbrev pub NumbersFit : NamedTree → Type 0

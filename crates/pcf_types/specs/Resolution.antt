@@ -2,8 +2,10 @@
 -- nearest one. The relation knows no type and no fault. It is the other half of what the checker is measured by, beside the typing
 -- relation.
 use Rattle.std.specs.Prelude.{◌≡◌, ◌≢◌, ◌<◌, ℕ, List, ◌∷◌, Some, slice_get}
-use Rattle.pcf_values.specs.Terms.{TyTree, left_side, right_side, TermTree, num, var, succ_of, pred_of, binary, ifz, lam, fix, app, pair, proj}
-use Rattle.pcf_values.specs.Named.{Word, the_succ, the_pred, the_fst, the_snd, Binder, the_fun, the_fix, NamedTree, number_at, name_at, word_at, binary_at, pair_at, ifz_at, bind_at, apply_at}
+use Rattle.pcf_values.specs.Terms.{TyTree, left_side, right_side, TermTree, num, var, succ_of, pred_of, binary, ifz, lam, fix, app, pair}
+use Rattle.pcf_values.specs.Terms.{proj}
+use Rattle.pcf_values.specs.Named.{Word, the_succ, the_pred, the_fst, the_snd, Binder, the_fun, the_fix, NamedTree, number_at, name_at}
+use Rattle.pcf_values.specs.Named.{word_at, binary_at, pair_at, ifz_at, bind_at, apply_at}
 
 -- the binder of index i binds the name, and no nearer one does; the names of the binders come the nearest first
 abbrev pub Binds : List (List ℕ) → List ℕ → ℕ → Type 0

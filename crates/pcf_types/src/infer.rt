@@ -4,7 +4,8 @@ ghost use Rattle.std.specs.Prelude.{◌≡◌, ◌≢◌, suc, ◌<◌, ◌+◌,
 ghost use Rattle.pcf_values.specs.Views.{term_of, ty_of, named_of};
 ghost use Rattle.pcf_values.specs.Named.{named_height};
 ghost use Rattle.pcf_types.specs.Checking.{variable, nearest, NumbersFit};
-ghost use Rattle.pcf_types.specs.Views.{scope_of, known_of, Shallow, type_in, number_in, numbers_in, function_in, parts_in, of_type_in, ifz_in, fun_in, fix_in, app_in, pair_in};
+ghost use Rattle.pcf_types.specs.Views.{scope_of, known_of, Shallow, type_in, number_in, numbers_in, function_in, parts_in, of_type_in};
+ghost use Rattle.pcf_types.specs.Views.{ifz_in, fun_in, fix_in, app_in, pair_in};
 ghost use Rattle.pcf_types.specs.declared.fault.TypeFault.TheVariants.{NoMemory};
 
 use crate::TypeFault;

@@ -56,8 +56,10 @@ impl<'p> Judged<'p> {
     /// The term, where it is of this type, and else the fault.
     #[tactic(auto, using(crate::proofs::SameTypes::as_type_same, crate::proofs::SameTypes::as_type_other))]
     pub(crate) fn into_type(self, ty: &Ty, fault: TypeFault) -> Result<Box<Term>, TypeFault>
-        ensures ok { IfOk result (λ m. as_type (ty_of ty.now) fault (term_of self.entry.term.value) (known_of self.entry.ty) ≡ Ok (term_of m.value)) }
-        ensures fault { IfErr result (λ f. as_type (ty_of ty.now) fault (term_of self.entry.term.value) (known_of self.entry.ty) ≡ Err f) }
+        ensures ok { IfOk result (λ m. as_type (ty_of ty.now) fault (term_of self.entry.term.value) (known_of self.entry.ty) ≡ Ok
+            (term_of m.value)) }
+        ensures fault { IfErr result (λ f. as_type (ty_of ty.now) fault (term_of self.entry.term.value) (known_of self.entry.ty) ≡ Err
+            f) }
     {
         if self.ty.is(ty) {
             Ok(self.term)

@@ -33,7 +33,8 @@ impl<'p> Known<'p> {
 
     /// What a function of this type takes and gives, or none of another type.
     pub(crate) fn into_function(self) -> Option<(&'p Ty, Known<'p>)>
-        ensures { MatchOption result ((a b : TyTree) → known_of self.entry ≢ arrow a b) (λ f. known_of self.entry ≡ arrow (ty_of f.0.now) (known_of f.1)) }
+        ensures { MatchOption result ((a b : TyTree) → known_of self.entry ≢ arrow a b)
+            (λ f. known_of self.entry ≡ arrow (ty_of f.0.now) (known_of f.1)) }
     {
         match self {
             Known::Written(Ty::Arrow(from, to)) => Some((from, Known::Written(to))),
@@ -44,7 +45,8 @@ impl<'p> Known<'p> {
 
     /// The types of both parts of a pair of this type, or none of another type.
     pub(crate) fn into_pair(self) -> Option<(Known<'p>, Known<'p>)>
-        ensures { MatchOption result ((a b : TyTree) → known_of self.entry ≢ product a b) (λ p. known_of self.entry ≡ product (known_of p.0) (known_of p.1)) }
+        ensures { MatchOption result ((a b : TyTree) → known_of self.entry ≢ product a b)
+            (λ p. known_of self.entry ≡ product (known_of p.0) (known_of p.1)) }
     {
         match self {
             Known::Written(Ty::Product(left, right)) => Some((

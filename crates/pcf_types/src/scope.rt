@@ -18,7 +18,8 @@ impl<'s, 'p> Scope<'s, 'p> {
     /// The nearest binder of the name: how many binders stand nearer, and its type.
     pub(crate) fn nearest(&self, name: &Ident) -> Option<(u32, &'p Ty)>
         requires { length (scope_of self.now) < 2 ^ 32 }
-        ensures found { MatchOption result (nearest name.now (scope_of self.now) ≡ None) (λ f. nearest name.now (scope_of self.now) ≡ Some (f.0, ty_of f.1.now)) }
+        ensures found { MatchOption result (nearest name.now (scope_of self.now) ≡ None)
+            (λ f. nearest name.now (scope_of self.now) ≡ Some (f.0, ty_of f.1.now)) }
         ensures within { IfSome result (λ f. f.0 < length (scope_of self.now)) }
     {
         match self {

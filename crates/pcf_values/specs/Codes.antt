@@ -7,7 +7,8 @@ use base.Stored.{Gv, gnil, gnum, gcons}
 use Rattle.pcf_values.specs.declared.val.Val.{Val}
 use Rattle.pcf_values.specs.declared.val.Val.TheVariants.{Number, Overflow}
 use Rattle.pcf_values.specs.Values.{Op, plus_op, minus_op, times_op}
-use Rattle.pcf_values.specs.Terms.{TyTree, nat, arrow, product, Side, left_side, right_side, TermTree, num, var, succ_of, pred_of, binary, ifz, lam, fix, app, pair, proj}
+use Rattle.pcf_values.specs.Terms.{TyTree, nat, arrow, product, Side, left_side, right_side, TermTree, num, var, succ_of, pred_of, binary}
+use Rattle.pcf_values.specs.Terms.{ifz, lam, fix, app, pair, proj}
 
 abbrev pub val_parts : Val → Option ℕ
 val_parts (Number n) = Some n
@@ -101,9 +102,11 @@ number_in (gcons a b) = zero
 -- the node of a form, with what it holds and its terms
 abbrev pub term_at : ℕ → Gv → TermTree → TermTree → TermTree → TermTree
 term_at form held a b c =
-    cond (form == 0) (num (number_in held)) (cond (form == 1) (var (number_in held)) (cond (form == 2) (succ_of a) (cond (form == 3) (pred_of a)
+    cond (form == 0) (num (number_in held)) (cond (form == 1) (var (number_in held))
+    (cond (form == 2) (succ_of a) (cond (form == 3) (pred_of a)
     (cond (form == 4) (binary (number_op (number_in held)) a b) (cond (form == 5) (ifz a b c) (cond (form == 6) (lam (cells_ty held) a)
-    (cond (form == 7) (fix (cells_ty held) a) (cond (form == 8) (app a b) (cond (form == 9) (pair a b) (proj (number_side (number_in held)) a))))))))))
+    (cond (form == 7) (fix (cells_ty held) a) (cond (form == 8) (app a b)
+    (cond (form == 9) (pair a b) (proj (number_side (number_in held)) a))))))))))
 
 abbrev pub cells_term : Gv → TermTree
 cells_term gnil = num zero

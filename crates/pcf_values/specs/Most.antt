@@ -1,7 +1,8 @@
 -- The limits of the program as numbers, each inclusive, under the names that definitions and contracts use. The constants of
 -- `limits` are these numbers, which is what `law_limits` says.
 use Rattle.std.specs.Prelude.{◌≡◌, ℕ}
-use Rattle.pcf_values.specs.declared.limits.TheConstants.{PROGRAM_BYTES, SCHEDULE_BYTES, PROGRAM_NODES, OPEN_PHRASES, WORKERS, BUDGET, SCHEDULE_MOVES, DEMO}
+use Rattle.pcf_values.specs.declared.limits.TheConstants.{PROGRAM_BYTES, SCHEDULE_BYTES, PROGRAM_NODES, OPEN_PHRASES, WORKERS, BUDGET}
+use Rattle.pcf_values.specs.declared.limits.TheConstants.{SCHEDULE_MOVES, DEMO}
 
 -- the most bytes of a program's file
 abbrev pub most_program_bytes : ℕ

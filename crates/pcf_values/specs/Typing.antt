@@ -2,7 +2,8 @@
 -- It goes by recursion on the term; the context lists the types of the free variables, the nearest binder first, so that a variable's
 -- type stands in the context at its index. A number is a term only where it is a value, that is below 2 ^ 64.
 use Rattle.std.specs.Prelude.{◌≡◌, ◌^◌, ◌<◌, List, ◌∷◌, Some, slice_get}
-use Rattle.pcf_values.specs.Terms.{TyTree, nat, arrow, product, at_side, TermTree, num, var, succ_of, pred_of, binary, ifz, lam, fix, app, pair, proj}
+use Rattle.pcf_values.specs.Terms.{TyTree, nat, arrow, product, at_side, TermTree, num, var, succ_of, pred_of, binary, ifz, lam, fix, app}
+use Rattle.pcf_values.specs.Terms.{pair, proj}
 
 -- in the context g, the term has the type t
 abbrev pub HasType : List TyTree → TermTree → TyTree → Type 0

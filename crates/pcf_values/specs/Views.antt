@@ -9,8 +9,10 @@ use Rattle.pcf_values.specs.declared.named.Named.{Named}
 use Rattle.pcf_values.specs.declared.named.Raw.{Raw}
 use Rattle.pcf_values.specs.declared.named.Raw.TheVariants as raw
 use Rattle.pcf_values.specs.Values.{plus_op, minus_op, times_op}
-use Rattle.pcf_values.specs.Terms.{TyTree, nat, arrow, product, left_side, right_side, TermTree, num, var, succ_of, pred_of, binary, ifz, lam, fix, app, pair, proj}
-use Rattle.pcf_values.specs.Named.{the_succ, the_pred, the_fst, the_snd, the_fun, the_fix, NamedTree, number_at, name_at, word_at, binary_at, pair_at, ifz_at, bind_at, apply_at}
+use Rattle.pcf_values.specs.Terms.{TyTree, nat, arrow, product, left_side, right_side, TermTree, num, var, succ_of, pred_of, binary, ifz}
+use Rattle.pcf_values.specs.Terms.{lam, fix, app, pair, proj}
+use Rattle.pcf_values.specs.Named.{the_succ, the_pred, the_fst, the_snd, the_fun, the_fix, NamedTree, number_at, name_at, word_at}
+use Rattle.pcf_values.specs.Named.{binary_at, pair_at, ifz_at, bind_at, apply_at}
 
 abbrev pub ty_of : Ty → TyTree
 ty_of Nat = nat

@@ -15,26 +15,34 @@ returns-in-Ok-clause-found c =
     let n : length c.args.bytes.now ≤ most_program_bytes = omega arith in
     let u : IsUtf8 c.args.bytes.now = search rules in
     let e : c.in-Ok.text.now ≡ c.args.bytes.now = search rules in
-    given_read c.args.bytes.now n u c.read_text.result (subst (λ (z : List ℕ). Gives (λ t. Ok (named_of t)) (scan (lex (chars z) 0 idle) (want_expr whole) 0) c.read_text.result) e c.read_text.ensures)
+    given_read c.args.bytes.now n u c.read_text.result
+    (subst (λ (z : List ℕ). Gives (λ t. Ok (named_of t)) (scan (lex (chars z) 0 idle) (want_expr whole) 0) c.read_text.result) e
+    c.read_text.ensures)
 
 pub returns-in-Ok-clause-fault : goal.returns-in-Ok-clause-fault
 returns-in-Ok-clause-fault c =
     let n : length c.args.bytes.now ≤ most_program_bytes = omega arith in
     let u : IsUtf8 c.args.bytes.now = search rules in
     let e : c.in-Ok.text.now ≡ c.args.bytes.now = search rules in
-    given_fault c.args.bytes.now n u c.read_text.result (subst (λ (z : List ℕ). Gives (λ t. Ok (named_of t)) (scan (lex (chars z) 0 idle) (want_expr whole) 0) c.read_text.result) e c.read_text.ensures)
+    given_fault c.args.bytes.now n u c.read_text.result
+    (subst (λ (z : List ℕ). Gives (λ t. Ok (named_of t)) (scan (lex (chars z) 0 idle) (want_expr whole) 0) c.read_text.result) e
+    c.read_text.ensures)
 
 pub returns-in-Ok-clause-only : goal.returns-in-Ok-clause-only
 returns-in-Ok-clause-only c =
     let e : c.in-Ok.text.now ≡ c.args.bytes.now = search rules in
-    λ t h. given_only c.args.bytes.now c.read_text.result t h (subst (λ (z : List ℕ). Gives (λ t. Ok (named_of t)) (scan (lex (chars z) 0 idle) (want_expr whole) 0) c.read_text.result) e c.read_text.ensures)
+    λ t h. given_only c.args.bytes.now c.read_text.result t h
+    (subst (λ (z : List ℕ). Gives (λ t. Ok (named_of t)) (scan (lex (chars z) 0 idle) (want_expr whole) 0) c.read_text.result) e
+    c.read_text.ensures)
 
 pub returns-in-Ok-clause-fault_only : goal.returns-in-Ok-clause-fault_only
 returns-in-Ok-clause-fault_only c =
     let n : length c.args.bytes.now ≤ most_program_bytes = omega arith in
     let u : IsUtf8 c.args.bytes.now = search rules in
     let e : c.in-Ok.text.now ≡ c.args.bytes.now = search rules in
-    λ f h. given_fault_only c.args.bytes.now n u c.read_text.result f h (subst (λ (z : List ℕ). Gives (λ t. Ok (named_of t)) (scan (lex (chars z) 0 idle) (want_expr whole) 0) c.read_text.result) e c.read_text.ensures)
+    λ f h. given_fault_only c.args.bytes.now n u c.read_text.result f h
+    (subst (λ (z : List ℕ). Gives (λ t. Ok (named_of t)) (scan (lex (chars z) 0 idle) (want_expr whole) 0) c.read_text.result) e
+    c.read_text.ensures)
 
 pub returns-in-Err-clause-fault_only : goal.returns-in-Err-clause-fault_only
 returns-in-Err-clause-fault_only c =

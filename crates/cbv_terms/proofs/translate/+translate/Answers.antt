@@ -4,12 +4,16 @@ use Rattle.pcf_values.specs.Terms.{ifz, lam, fix, height}
 use Rattle.pcf_values.specs.Views.{ty_of, term_of}
 use Rattle.cbv_terms.specs.Views.{op_of, context_of, map_of, IsReady, Makes}
 use Rattle.cbv_terms.proofs.Placing.{taken_off}
-use Rattle.cbv_terms.proofs.Translating.{ready_at, unary_ready, unary_height, left_ready, right_ready, test_ready, then_ready, else_ready, function_ready, argument_ready, fun_ready, fix_ready, body_ready, inner_ready, unary_makes, double_makes, ifz_makes, function_arrow, app_makes, body_makes, function_makes, fun_makes, fix_makes, both_ok}
+use Rattle.cbv_terms.proofs.Translating.{ready_at, unary_ready, unary_height, left_ready, right_ready, test_ready, then_ready, else_ready}
+use Rattle.cbv_terms.proofs.Translating.{function_ready, argument_ready, fun_ready, fix_ready, body_ready, inner_ready, unary_makes}
+use Rattle.cbv_terms.proofs.Translating.{double_makes, ifz_makes, function_arrow, app_makes, body_makes, function_makes, fun_makes}
+use Rattle.cbv_terms.proofs.Translating.{fix_makes, both_ok}
 use Rattle.cbv_terms.proofs.translate.+translate.Goals as goal
 
 pub translate-translate_fun-requires : goal.translate-translate_fun-requires
 translate-translate_fun-requires t c =
-    let e : term_of c.args.term.now ≡ lam (ty_of c.in-Fun.ty) (term_of c.deref-in-Fun.result.now) = ap term_of c.in-Fun.is ∙ ap (λ m. lam (ty_of c.in-Fun.ty) (term_of m)) (sym c.deref-in-Fun.ensures) in (
+    let e : term_of c.args.term.now ≡ lam (ty_of c.in-Fun.ty) (term_of c.deref-in-Fun.result.now) = ap term_of c.in-Fun.is ∙
+    ap (λ m. lam (ty_of c.in-Fun.ty) (term_of m)) (sym c.deref-in-Fun.ensures) in (
       search rules,
       (
         subst (IsReady c.args.binders.now.items c.args.depth (context_of c.args.binders.now.items)) e c.requires.ready,
@@ -19,7 +23,8 @@ translate-translate_fun-requires t c =
 
 pub translate-translate_fix-requires : goal.translate-translate_fix-requires
 translate-translate_fix-requires t c =
-    let e : term_of c.args.term.now ≡ fix (ty_of c.in-Fix.ty) (term_of c.deref-in-Fix.result.now) = ap term_of c.in-Fix.is ∙ ap (λ m. fix (ty_of c.in-Fix.ty) (term_of m)) (sym c.deref-in-Fix.ensures) in (
+    let e : term_of c.args.term.now ≡ fix (ty_of c.in-Fix.ty) (term_of c.deref-in-Fix.result.now) = ap term_of c.in-Fix.is ∙
+    ap (λ m. fix (ty_of c.in-Fix.ty) (term_of m)) (sym c.deref-in-Fix.ensures) in (
       search rules,
       (
         subst (IsReady c.args.binders.now.items c.args.depth (context_of c.args.binders.now.items)) e c.requires.ready,
@@ -29,10 +34,13 @@ translate-translate_fix-requires t c =
 
 pub translate-returns-in-Ifz : goal.translate-returns-in-Ifz
 translate-returns-in-Ifz t c =
-    let e : ifz (term_of c.deref-in-Ifz.result.now) (term_of c.deref-in-Ifz-2.result.now) (term_of c.deref-in-Ifz-3.result.now) ≡ term_of c.args.term.now =
-    (λ k. ifz (term_of (c.deref-in-Ifz.ensures k)) (term_of (c.deref-in-Ifz-2.ensures k)) (term_of (c.deref-in-Ifz-3.ensures k))) ∙ sym (ap term_of c.in-Ifz.is) in
+    let e : ifz (term_of c.deref-in-Ifz.result.now) (term_of c.deref-in-Ifz-2.result.now) (term_of c.deref-in-Ifz-3.result.now) ≡ term_of
+    c.args.term.now =
+    (λ k. ifz (term_of (c.deref-in-Ifz.ensures k)) (term_of (c.deref-in-Ifz-2.ensures k)) (term_of (c.deref-in-Ifz-3.ensures k))) ∙
+    sym (ap term_of c.in-Ifz.is) in
     subst
-    (λ m. IfOk c.translate_ifz.result (Makes c.args.binders.now.items c.translate_ifz.new.binders.items (context_of c.args.binders.now.items) (map_of c.args.depth c.args.binders.now.items) m))
+    (λ m. IfOk c.translate_ifz.result (Makes c.args.binders.now.items c.translate_ifz.new.binders.items
+    (context_of c.args.binders.now.items) (map_of c.args.depth c.args.binders.now.items) m))
     e c.translate_ifz.ensures
 
 pub translate_app-translate-requires : goal.translate_app-translate-requires
@@ -56,12 +64,14 @@ translate_app-translate-requires-2 t c = (
 
 pub translate_app-close_app-requires : goal.translate_app-close_app-requires
 translate_app-close_app-requires t c =
-    function_arrow c.args.binders.now.items c.translate.new.binders.items c.args.depth (term_of c.args.f.now) (term_of c.args.a.now) c.in_ok-f.f c.requires.ready c.in_ok-f.ensures
+    function_arrow c.args.binders.now.items c.translate.new.binders.items c.args.depth (term_of c.args.f.now) (term_of c.args.a.now)
+    c.in_ok-f.f c.requires.ready c.in_ok-f.ensures
 
 pub translate_app-returns : goal.translate_app-returns
 translate_app-returns t c =
     both_ok c.close_app.result _ _ _
-    (λ made e q. app_makes c.args.binders.now.items c.translate.new.binders.items c.translate-2.new.binders.items c.args.depth (term_of c.args.f.now) (term_of c.args.a.now) c.in_ok-f.f c.in_ok-a.a made
+    (λ made e q. app_makes c.args.binders.now.items c.translate.new.binders.items c.translate-2.new.binders.items c.args.depth
+    (term_of c.args.f.now) (term_of c.args.a.now) c.in_ok-f.f c.in_ok-a.a made
     c.requires.ready.around c.in_ok-f.ensures c.in_ok-a.ensures e q)
     c.close_app.ensures.term c.close_app.ensures.typed
 
@@ -69,16 +79,19 @@ pub translate_body-translate-requires : goal.translate_body-translate-requires
 translate_body-translate-requires t c = (
   search rules,
   (
-    body_ready c.args.binders.now.items c.push.new.self.items _ c.args.depth (term_of c.args.body.now) c.in_ok-push.ensures.items refl c.requires.ready,
+    body_ready c.args.binders.now.items c.push.new.self.items _ c.args.depth (term_of c.args.body.now) c.in_ok-push.ensures.items refl
+        c.requires.ready,
     omega (arith, c.requires.room),
   ),
 )
 
 pub translate_body-returns : goal.translate_body-returns
 translate_body-returns t c =
-    body_makes c.args.binders.now.items c.push.new.self.items c.translate.new.binders.items c.pop.new.self.items _ c.args.depth (term_of c.args.body.now) c.in_ok-made.made c.in_ok-push.ensures.items refl
+    body_makes c.args.binders.now.items c.push.new.self.items c.translate.new.binders.items c.pop.new.self.items _ c.args.depth
+    (term_of c.args.body.now) c.in_ok-made.made c.in_ok-push.ensures.items refl
     c.requires.ready.around c.in_ok-made.ensures
-    (taken_off c.args.binders.now.items c.translate.new.binders.items c.pop.new.self.items _ (vec_len c.translate.new.binders) (c.in_ok-made.ensures.binders ∙ c.in_ok-push.ensures.items) (omega (arith, c.translate.new.binders.ok.0)) c.pop.ensures.rest)
+    (taken_off c.args.binders.now.items c.translate.new.binders.items c.pop.new.self.items _ (vec_len c.translate.new.binders)
+    (c.in_ok-made.ensures.binders ∙ c.in_ok-push.ensures.items) (omega (arith, c.translate.new.binders.ok.0)) c.pop.ensures.rest)
 
 pub translate_double-translate-requires : goal.translate_double-translate-requires
 translate_double-translate-requires t c = (
@@ -94,7 +107,8 @@ translate_double-translate-requires-2 t c = (
   search rules,
   (
     ready_at c.translate.new.binders.items c.args.binders.now.items (c.args.depth + 2) (term_of c.args.b.now) c.in_ok-a.ensures.binders
-        (right_ready (op_of c.args.form) c.args.binders.now.items c.args.depth (term_of c.args.a.now) (term_of c.args.b.now) c.requires.ready),
+        (right_ready (op_of c.args.form) c.args.binders.now.items c.args.depth (term_of c.args.a.now) (term_of c.args.b.now)
+        c.requires.ready),
     omega (arith, c.requires.room),
   ),
 )
@@ -102,26 +116,32 @@ translate_double-translate-requires-2 t c = (
 pub translate_double-returns : goal.translate_double-returns
 translate_double-returns t c =
     both_ok c.close_double.result _ _ _
-    (λ made e q. double_makes (op_of c.args.form) c.args.binders.now.items c.translate.new.binders.items c.translate-2.new.binders.items c.args.depth (term_of c.args.a.now) (term_of c.args.b.now) c.in_ok-a.a c.in_ok-b.b made
+    (λ made e q. double_makes (op_of c.args.form) c.args.binders.now.items c.translate.new.binders.items c.translate-2.new.binders.items
+    c.args.depth (term_of c.args.a.now) (term_of c.args.b.now) c.in_ok-a.a c.in_ok-b.b made
     c.requires.ready.around c.in_ok-a.ensures c.in_ok-b.ensures e q)
     c.close_double.ensures.term c.close_double.ensures.typed
 
 pub translate_fix-translate_function-requires : goal.translate_fix-translate_function-requires
 translate_fix-translate_function-requires t c =
-    let e : term_of c.args.function.now ≡ lam (ty_of c.in-Fun.argument) (term_of c.deref.result.now) = ap term_of c.in-Fun.is ∙ ap (λ m. lam (ty_of c.in-Fun.argument) (term_of m)) (sym c.deref.ensures) in
-    let r : c.args.depth + 5 * height (fix (ty_of c.args.ty.now) (lam (ty_of c.in-Fun.argument) (term_of c.deref.result.now))) < 2 ^ 32 = subst (λ m. c.args.depth + 5 * height (fix (ty_of c.args.ty.now) m) < 2 ^ 32) e c.requires.room in (
+    let e : term_of c.args.function.now ≡ lam (ty_of c.in-Fun.argument) (term_of c.deref.result.now) = ap term_of c.in-Fun.is ∙
+    ap (λ m. lam (ty_of c.in-Fun.argument) (term_of m)) (sym c.deref.ensures) in
+    let r : c.args.depth + 5 * height (fix (ty_of c.args.ty.now) (lam (ty_of c.in-Fun.argument) (term_of c.deref.result.now))) < 2 ^ 32 =
+    subst (λ m. c.args.depth + 5 * height (fix (ty_of c.args.ty.now) m) < 2 ^ 32) e c.requires.room in (
       search rules,
       (
-        fix_ready c.args.binders.now.items c.args.depth (ty_of c.args.ty.now) (ty_of c.in-Fun.argument) (term_of c.deref.result.now) (term_of c.args.function.now) e c.requires.ready,
+        fix_ready c.args.binders.now.items c.args.depth (ty_of c.args.ty.now) (ty_of c.in-Fun.argument) (term_of c.deref.result.now)
+            (term_of c.args.function.now) e c.requires.ready,
         omega (arith, r),
       ),
     )
 
 pub translate_fix-returns : goal.translate_fix-returns
 translate_fix-returns t c =
-    let e : term_of c.args.function.now ≡ lam (ty_of c.in-Fun.argument) (term_of c.deref.result.now) = ap term_of c.in-Fun.is ∙ ap (λ m. lam (ty_of c.in-Fun.argument) (term_of m)) (sym c.deref.ensures) in
+    let e : term_of c.args.function.now ≡ lam (ty_of c.in-Fun.argument) (term_of c.deref.result.now) = ap term_of c.in-Fun.is ∙
+    ap (λ m. lam (ty_of c.in-Fun.argument) (term_of m)) (sym c.deref.ensures) in
     both_ok c.close_fix.result _ _ _
-    (λ made x q. fix_makes c.args.binders.now.items c.translate_function.new.binders.items c.args.depth (ty_of c.args.ty.now) (ty_of c.in-Fun.argument) (term_of c.deref.result.now) (term_of c.args.function.now)
+    (λ made x q. fix_makes c.args.binders.now.items c.translate_function.new.binders.items c.args.depth (ty_of c.args.ty.now)
+    (ty_of c.in-Fun.argument) (term_of c.deref.result.now) (term_of c.args.function.now)
     c.in_ok-function-in-Fun.function.value made e c.requires.ready.around c.in_ok-function-in-Fun.ensures x q)
     c.close_fix.ensures.term c.close_fix.ensures.typed
 
@@ -137,23 +157,27 @@ translate_fun-translate_body-requires t c = (
 pub translate_fun-returns : goal.translate_fun-returns
 translate_fun-returns t c =
     both_ok c.close_fun.result _ _ _
-    (λ made e q. fun_makes c.args.binders.now.items c.translate_body.new.binders.items c.args.depth (ty_of c.args.ty.now) (term_of c.args.body.now) c.in_ok-body.body made c.requires.ready.around c.in_ok-body.ensures e q)
+    (λ made e q. fun_makes c.args.binders.now.items c.translate_body.new.binders.items c.args.depth (ty_of c.args.ty.now)
+    (term_of c.args.body.now) c.in_ok-body.body made c.requires.ready.around c.in_ok-body.ensures e q)
     c.close_fun.ensures.term c.close_fun.ensures.typed
 
 pub translate_function-translate_body-requires : goal.translate_function-translate_body-requires
 translate_function-translate_body-requires t c = (
   search rules,
   (
-    inner_ready c.args.binders.now.items c.push.new.self.items _ c.args.depth (ty_of c.args.argument.now) (term_of c.args.body.now) c.in_ok-push.ensures.items refl c.requires.ready,
+    inner_ready c.args.binders.now.items c.push.new.self.items _ c.args.depth (ty_of c.args.argument.now) (term_of c.args.body.now)
+        c.in_ok-push.ensures.items refl c.requires.ready,
     omega (arith, c.requires.room),
   ),
 )
 
 pub translate_function-returns : goal.translate_function-returns
 translate_function-returns t c =
-    function_makes c.args.binders.now.items c.push.new.self.items c.translate_body.new.binders.items c.pop.new.self.items _ c.args.depth (ty_of c.args.argument.now) (term_of c.args.body.now) c.in_ok-body.body
+    function_makes c.args.binders.now.items c.push.new.self.items c.translate_body.new.binders.items c.pop.new.self.items _ c.args.depth
+    (ty_of c.args.argument.now) (term_of c.args.body.now) c.in_ok-body.body
     c.in_ok-new.field-0.value c.in_ok-push.ensures.items refl c.requires.ready.around c.in_ok-body.ensures
-    (taken_off c.args.binders.now.items c.translate_body.new.binders.items c.pop.new.self.items _ (vec_len c.translate_body.new.binders) (c.in_ok-body.ensures.binders ∙ c.in_ok-push.ensures.items) (omega (arith, c.translate_body.new.binders.ok.0)) c.pop.ensures.rest)
+    (taken_off c.args.binders.now.items c.translate_body.new.binders.items c.pop.new.self.items _ (vec_len c.translate_body.new.binders)
+    (c.in_ok-body.ensures.binders ∙ c.in_ok-push.ensures.items) (omega (arith, c.translate_body.new.binders.ok.0)) c.pop.ensures.rest)
     (ap term_of c.in_ok-new.ensures.ok ∙ ap (λ a. lam a (term_of c.in_ok-body.body.term.value)) c.in_ok-argument.ensures)
 
 pub translate_ifz-translate-requires : goal.translate_ifz-translate-requires
@@ -170,7 +194,8 @@ translate_ifz-translate-requires-2 t c = (
   search rules,
   (
     ready_at c.translate.new.binders.items c.args.binders.now.items (c.args.depth + 2) (term_of c.args.p.now) c.in_ok-c.ensures.binders
-        (then_ready c.args.binders.now.items c.args.depth (term_of c.args.c.now) (term_of c.args.p.now) (term_of c.args.q.now) c.requires.ready),
+        (then_ready c.args.binders.now.items c.args.depth (term_of c.args.c.now) (term_of c.args.p.now) (term_of c.args.q.now)
+        c.requires.ready),
     omega (arith, c.requires.room),
   ),
 )
@@ -179,8 +204,10 @@ pub translate_ifz-translate-requires-3 : goal.translate_ifz-translate-requires-3
 translate_ifz-translate-requires-3 t c = (
   search rules,
   (
-    ready_at c.translate-2.new.binders.items c.args.binders.now.items (c.args.depth + 2) (term_of c.args.q.now) (c.in_ok-p.ensures.binders ∙ c.in_ok-c.ensures.binders)
-        (else_ready c.args.binders.now.items c.args.depth (term_of c.args.c.now) (term_of c.args.p.now) (term_of c.args.q.now) c.requires.ready),
+    ready_at c.translate-2.new.binders.items c.args.binders.now.items (c.args.depth + 2) (term_of c.args.q.now)
+        (c.in_ok-p.ensures.binders ∙ c.in_ok-c.ensures.binders)
+        (else_ready c.args.binders.now.items c.args.depth (term_of c.args.c.now) (term_of c.args.p.now) (term_of c.args.q.now)
+        c.requires.ready),
     omega (arith, c.requires.room),
   ),
 )
@@ -188,7 +215,8 @@ translate_ifz-translate-requires-3 t c = (
 pub translate_ifz-returns : goal.translate_ifz-returns
 translate_ifz-returns t c =
     both_ok c.close_ifz.result _ _ _
-    (λ made e y. ifz_makes c.args.binders.now.items c.translate.new.binders.items c.translate-2.new.binders.items c.translate-3.new.binders.items c.args.depth (term_of c.args.c.now) (term_of c.args.p.now) (term_of c.args.q.now)
+    (λ made e y. ifz_makes c.args.binders.now.items c.translate.new.binders.items c.translate-2.new.binders.items
+    c.translate-3.new.binders.items c.args.depth (term_of c.args.c.now) (term_of c.args.p.now) (term_of c.args.q.now)
     c.in_ok-c.c c.in_ok-p.p c.in_ok-q.q made c.requires.ready.around c.in_ok-c.ensures c.in_ok-p.ensures c.in_ok-q.ensures e y)
     c.close_ifz.ensures.term c.close_ifz.ensures.typed
 
@@ -204,5 +232,6 @@ translate_unary-translate-requires t c = (
 pub translate_unary-returns : goal.translate_unary-returns
 translate_unary-returns t c =
     both_ok c.close_unary.result _ _ _
-    (λ made e q. unary_makes c.args.form c.args.binders.now.items c.translate.new.binders.items c.args.depth (term_of c.args.a.now) c.in_ok-a.a made c.requires.ready.around c.in_ok-a.ensures e q)
+    (λ made e q. unary_makes c.args.form c.args.binders.now.items c.translate.new.binders.items c.args.depth (term_of c.args.a.now)
+    c.in_ok-a.a made c.requires.ready.around c.in_ok-a.ensures e q)
     c.close_unary.ensures.term c.close_unary.ensures.typed

@@ -9,5 +9,6 @@ pub parens-returns-in_ok-take-in-Comma-clause-goes :
     goal.parens-returns-in_ok-take-in-Comma-clause-goes
 parens-returns-in_ok-take-in-Comma-clause-goes t c =
     λ (k : AtomK) e.
-    let behind : resume (begin_expr (in_parens c.args.at k)) c.args.reader.now ≡ resume (begin_expr (in_second c.args.at (part_of c.in_ok-first.first) k)) c.take-in-Comma.new.self = search rules in
+    let behind : resume (begin_expr (in_parens c.args.at k)) c.args.reader.now ≡ resume
+    (begin_expr (in_second c.args.at (part_of c.in_ok-first.first) k)) c.take-in-Comma.new.self = search rules in
     gives_from _ _ _ c.second_of.result behind (c.second_of.ensures.goes k e)

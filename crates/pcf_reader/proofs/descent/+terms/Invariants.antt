@@ -1,6 +1,7 @@
 use Rattle.std.proofs.Common.{suc, ◌≡◌, ◌+◌, ◌-◌, ◌*◌, ◌<◌, ◌≤◌, length}
 use Rattle.pcf_values.specs.Most.{most_open}
-use Rattle.pcf_reader.specs.Machine.{AppK, ProductK, ExprK, app_open, product_open, expr_open, begin_atom, first_atom, first_app, first_product, after_app, after_product, after_sum}
+use Rattle.pcf_reader.specs.Machine.{AppK, ProductK, ExprK, app_open, product_open, expr_open, begin_atom, first_atom, first_app}
+use Rattle.pcf_reader.specs.Machine.{first_product, after_app, after_product, after_sum}
 use Rattle.pcf_reader.specs.Rest.{resume}
 use Rattle.pcf_reader.specs.Seen.{part_of}
 use Rattle.pcf_reader.specs.Sizes.{most_read_height}
@@ -38,7 +39,8 @@ decreases-atom l = 9 * (suc most_open - l.depth) + 1
 
 abbrev pub invariant-application-loop-alloc : goal.invariant-application-loop-alloc
 invariant-application-loop-alloc l = record {
-  goes : (k : AppK) → app_open k ≡ l.depth → resume (begin_atom (first_atom k)) l.fn.reader ≡ resume (after_app k (part_of l.function)) l.reader;
+  goes : (k : AppK) → app_open k ≡ l.depth → resume (begin_atom (first_atom k)) l.fn.reader ≡ resume
+      (after_app k (part_of l.function)) l.reader;
   shorter : length l.reader.after < length l.fn.reader.after;
   low : l.function.height + 4 * l.depth + 2 ≤ most_read_height;
 }
@@ -48,7 +50,8 @@ decreases-application-loop-alloc l = length l.reader.after
 
 abbrev pub invariant-product-loop-reader : goal.invariant-product-loop-reader
 invariant-product-loop-reader l = record {
-  goes : (k : ProductK) → product_open k ≡ l.depth → resume (begin_atom (first_atom (first_app k))) l.fn.reader ≡ resume (after_product k (part_of l.product)) l.reader;
+  goes : (k : ProductK) → product_open k ≡ l.depth →
+      resume (begin_atom (first_atom (first_app k))) l.fn.reader ≡ resume (after_product k (part_of l.product)) l.reader;
   shorter : length l.reader.after < length l.fn.reader.after;
   low : l.product.height + 4 * l.depth + 1 ≤ most_read_height;
 }
@@ -58,7 +61,8 @@ decreases-product-loop-reader l = length l.reader.after
 
 abbrev pub invariant-sum-loop-reader : goal.invariant-sum-loop-reader
 invariant-sum-loop-reader l = record {
-  goes : (k : ExprK) → expr_open k ≡ l.depth → resume (begin_atom (first_atom (first_app (first_product k)))) l.fn.reader ≡ resume (after_sum k (part_of l.sum)) l.reader;
+  goes : (k : ExprK) → expr_open k ≡ l.depth → resume (begin_atom (first_atom (first_app (first_product k)))) l.fn.reader ≡ resume
+      (after_sum k (part_of l.sum)) l.reader;
   shorter : length l.reader.after < length l.fn.reader.after;
   low : l.sum.height + 4 * l.depth ≤ most_read_height;
 }

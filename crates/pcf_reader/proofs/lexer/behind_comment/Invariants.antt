@@ -6,7 +6,8 @@ use Rattle.pcf_reader.specs.Lexing.{lex, in_comment}
 use Rattle.pcf_reader.proofs.lexer.behind_comment.Given as goal
 
 abbrev pub invariant-loop-first : goal.invariant-loop-first
-invariant-loop-first l = shadow (Utf8 l.rest) × (lex (chars l.fn.text) l.fn.at in_comment ≡ lex (chars l.rest) l.place in_comment) × (l.place + length l.rest ≡ l.fn.at + length l.fn.text) × (length l.rest ≤ length l.fn.text)
+invariant-loop-first l = shadow (Utf8 l.rest) × (lex (chars l.fn.text) l.fn.at in_comment ≡ lex (chars l.rest) l.place in_comment) ×
+    (l.place + length l.rest ≡ l.fn.at + length l.fn.text) × (length l.rest ≤ length l.fn.text)
 
 abbrev pub decreases-loop-first : goal.decreases-loop-first
 decreases-loop-first l = length l.rest

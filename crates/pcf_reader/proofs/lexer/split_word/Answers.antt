@@ -1,4 +1,5 @@
-use Rattle.std.proofs.Common.{rules, arith, ◌≡◌, true, ℕ, List, [], ◌+◌, ◌∷◌, ◌++◌, sym, ap, ◌∙◌, length, append_assoc, append-nil, length-append}
+use Rattle.std.proofs.Common.{rules, arith, ◌≡◌, true, ℕ, List, [], ◌+◌, ◌∷◌, ◌++◌, sym, ap, ◌∙◌, length}
+use Rattle.std.proofs.Common.{append_assoc, append-nil, length-append}
 use Rattle.std.specs.Prelude.{encode_utf8}
 use Rattle.std.specs.Str.{chars, IsUtf8}
 use Rattle.std.specs.Char.{len_utf8}
@@ -18,8 +19,10 @@ pub returns-then-not-is_xid_continue-clause-lexed : goal.returns-then-not-is_xid
 returns-then-not-is_xid_continue-clause-lexed c =
     let (read, whole, goes) = c.loop-first.invariant.1 in
     let e : chars c.loop-first.rest.now ≡ c.in-Some.first ∷ chars c.in-Some.more.now = search rules in
-    let word : c.split_at.result.0.now ≡ read = front_read c.args.text.now read c.loop-first.rest.now c.split_at.result.0.now _ whole (search rules) c.split_at.ensures.front in
-    let rest : c.split_at.result.1.now ≡ c.loop-first.rest.now = back_rest c.args.text.now read c.loop-first.rest.now c.split_at.result.1.now _ whole (search rules) c.split_at.ensures.back in
+    let word : c.split_at.result.0.now ≡ read =
+    front_read c.args.text.now read c.loop-first.rest.now c.split_at.result.0.now _ whole (search rules) c.split_at.ensures.front in
+    let rest : c.split_at.result.1.now ≡ c.loop-first.rest.now =
+    back_rest c.args.text.now read c.loop-first.rest.now c.split_at.result.1.now _ whole (search rules) c.split_at.ensures.back in
     λ at start.
     goes at start
     ∙ word_stop (chars c.loop-first.rest.now) (chars c.in-Some.more.now) (at + length read) c.in-Some.first start read e (search rules)
@@ -34,7 +37,8 @@ loop-first-preserved c =
     let p : is_xid_continue c.in-Some.first ≡ true = search rules in
     let (read, whole, goes) = c.loop-first.invariant.1 in
     let w : List ℕ = encode_utf8 c.in-Some.first in
-    let n : length (read ++ w) ≡ length read + len_utf8 c.in-Some.first = omega (arith, length-append read w, length-encode c.in-Some.first) in (
+    let n : length (read ++ w) ≡ length read + len_utf8 c.in-Some.first =
+    omega (arith, length-append read w, length-encode c.in-Some.first) in (
       u,
       (
         read ++ w,

@@ -17,12 +17,15 @@ returns-then-first-eq62-clause-shorter c =
 pub returns-else-first-eq62-clause-goes : goal.returns-else-first-eq62-clause-goes
 returns-else-first-eq62-clause-goes c =
     let e : chars c.args.text.now ≡ c.in-Some.first ∷ chars c.in-Some.more.now = search rules in
-    reads_on _ _ _ c.reader_of-else-first-eq62.ensures (dash_stop (chars c.args.text.now) (chars c.in-Some.more.now) (c.args.at + 1) c.in-Some.first c.args.at e (search rules)) (λ _ _. refl)
+    reads_on _ _ _ c.reader_of-else-first-eq62.ensures
+    (dash_stop (chars c.args.text.now) (chars c.in-Some.more.now) (c.args.at + 1) c.in-Some.first c.args.at e (search rules))
+    (λ _ _. refl)
 
 pub returns-else-first-eq62-clause-shorter : goal.returns-else-first-eq62-clause-shorter
 returns-else-first-eq62-clause-shorter c =
     let e : chars c.args.text.now ≡ c.in-Some.first ∷ chars c.in-Some.more.now = search rules in
-    fewer _ _ _ _ c.reader_of-else-first-eq62.ensures (dash_stop (chars c.args.text.now) (chars c.in-Some.more.now) (c.args.at + 1) c.in-Some.first c.args.at e (search rules))
+    fewer _ _ _ _ c.reader_of-else-first-eq62.ensures
+    (dash_stop (chars c.args.text.now) (chars c.in-Some.more.now) (c.args.at + 1) c.in-Some.first c.args.at e (search rules))
 
 pub returns-in-None-clause-goes : goal.returns-in-None-clause-goes
 returns-in-None-clause-goes c =
