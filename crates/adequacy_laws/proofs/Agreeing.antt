@@ -6,11 +6,11 @@ use Rattle.pcf_values.specs.Typing.{HasType}
 use Rattle.net_build.specs.Nets.{NetTree}
 use Rattle.net_build.specs.NetOf.{net_of}
 use Rattle.net_build.specs.Sound.{Sound}
-use Rattle.interleave_core.specs.States.{State}
-use Rattle.interleave_core.specs.Runs.{Runs, LeadsTo}
-use Rattle.interleave_core.specs.Maps.{MapState, LeadsToMap, seen}
-use Rattle.interleave_core.proofs.Running.{starts_of}
-use Rattle.interleave_core.proofs.MapLaws.{seen_leads}
+use Rattle.interleave_laws.specs.States.{State}
+use Rattle.interleave_laws.specs.Runs.{Runs, LeadsTo}
+use Rattle.interleave_laws.specs.Maps.{MapState, LeadsToMap, seen}
+use Rattle.interleave_laws.proofs.Running.{starts_of}
+use Rattle.interleave_laws.proofs.MapLaws.{seen_leads}
 use Rattle.adequacy_laws.specs.Questions.{Length}
 use Rattle.adequacy_laws.specs.Lengths.{AgreesWithLength}
 use Rattle.adequacy_laws.proofs.Adequacy.{never_stuck}

@@ -9,12 +9,12 @@ use Rattle.cbn_meaning.specs.Meaning.{Means}
 use Rattle.net_build.specs.Nets.{NetTree}
 use Rattle.net_build.specs.NetOf.{net_of}
 use Rattle.net_build.specs.Sound.{Sound}
-use Rattle.interleave_core.specs.States.{State}
-use Rattle.interleave_core.specs.Runs.{LeadsTo, Finished}
-use Rattle.interleave_core.specs.OneWorker.{one}
-use Rattle.interleave_core.specs.Maps.{MapState, LeadsToMap, seen}
-use Rattle.interleave_core.proofs.OneWorker.{one_finished}
-use Rattle.interleave_core.proofs.MapLaws.{seen_leads}
+use Rattle.interleave_laws.specs.States.{State}
+use Rattle.interleave_laws.specs.Runs.{LeadsTo, Finished}
+use Rattle.interleave_laws.specs.OneWorker.{one}
+use Rattle.interleave_laws.specs.Maps.{MapState, LeadsToMap, seen}
+use Rattle.interleave_laws.proofs.OneWorker.{one_finished}
+use Rattle.interleave_laws.proofs.MapLaws.{seen_leads}
 use Rattle.adequacy_laws.specs.Questions.{Length}
 use Rattle.adequacy_laws.specs.Lengths.{AgreesWithLength}
 use Rattle.adequacy_laws.specs.Finished.{Within, Beyond, TellsLength, TellsMeaning}

@@ -8,8 +8,8 @@ use Rattle.pcf_values.specs.Terms.{TermTree, nat}
 use Rattle.pcf_values.specs.Typing.{HasType}
 use Rattle.cbn_meaning.specs.Meaning.{Means}
 use Rattle.net_build.specs.NetOf.{net_of}
-use Rattle.interleave_core.specs.Start.{start_of}
-use Rattle.interleave_core.specs.Runs.{Runs}
+use Rattle.interleave_laws.specs.Start.{start_of}
+use Rattle.interleave_laws.specs.Runs.{Runs}
 use Rattle.adequacy_laws.specs.Questions.{gives, stuck, asks, Length}
 
 -- it holds of every program

@@ -8,10 +8,10 @@ use Rattle.pcf_values.specs.Terms.{TermTree}
 use Rattle.cbn_meaning.specs.Meaning.{Means}
 use Rattle.net_build.specs.Nets.{NetTree}
 use Rattle.net_build.specs.NetOf.{net_of}
-use Rattle.interleave_core.specs.States.{State}
-use Rattle.interleave_core.specs.Runs.{LeadsTo, Finished, InEveryState}
-use Rattle.interleave_core.specs.OneWorker.{one}
-use Rattle.interleave_core.specs.Maps.{MapState, LeadsToMap, InEveryMapState}
+use Rattle.interleave_laws.specs.States.{State}
+use Rattle.interleave_laws.specs.Runs.{LeadsTo, Finished, InEveryState}
+use Rattle.interleave_laws.specs.OneWorker.{one}
+use Rattle.interleave_laws.specs.Maps.{MapState, LeadsToMap, InEveryMapState}
 use Rattle.adequacy_laws.specs.Questions.{Length}
 use Rattle.adequacy_laws.specs.Adequacy.{OfEveryProgram}
 

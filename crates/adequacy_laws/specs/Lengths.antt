@@ -4,8 +4,8 @@
 use Rattle.std.specs.Prelude.{◌≡◌, ◌≤◌, ◌↔◌, ℕ, List, length, Option, Some, None}
 use Rattle.pcf_values.specs.declared.val.Val.{Val}
 use Rattle.net_build.specs.Nets.{NetTree}
-use Rattle.interleave_core.specs.Runs.{InEveryState}
-use Rattle.interleave_core.specs.Maps.{InEveryMapState}
+use Rattle.interleave_laws.specs.Runs.{InEveryState}
+use Rattle.interleave_laws.specs.Maps.{InEveryMapState}
 use Rattle.adequacy_laws.specs.Questions.{Length}
 
 -- more depth changes no result, so a net has one value and one length at most

@@ -5,7 +5,7 @@
 use Rattle.std.specs.Prelude.{◌≡◌, ◌≤◌, ℕ, Bool, true, false, List, length, map, Some, slice_get}
 use Rattle.std.specs.List.{All}
 use Rattle.pcf_values.specs.Most.{most_workers}
-use Rattle.interleave_core.specs.Runs.{Runs}
+use Rattle.interleave_laws.specs.Runs.{Runs}
 use Rattle.token_pool.specs.declared.entries.Held.{Held}
 use Rattle.token_pool.specs.Pools.{Pool, Holds, Good, started}
 use Rattle.batch_pool.specs.declared.job.BatchJob.{BatchJob}

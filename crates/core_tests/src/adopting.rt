@@ -1,6 +1,6 @@
 //! Walks that a state takes over, and walks that it refuses.
 
-ghost use Rattle.interleave_core.specs.Runs.{Runs};
+ghost use Rattle.interleave_laws.specs.Runs.{Runs};
 
 use crate::games::{are_live, has, played};
 use crate::tokens::token;

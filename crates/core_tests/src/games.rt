@@ -4,8 +4,8 @@
 //! no token is written. In a row `TICKET stands TOKEN` nothing moves, and in a row `live TICKETS` these are the live tickets.
 
 ghost use Rattle.std.specs.Prelude.{◌+◌, ◌<◌, OnOk};
-ghost use Rattle.interleave_core.specs.Runs.{Runs};
-ghost use Rattle.interleave_core.specs.Maps.{IsReachedWithin};
+ghost use Rattle.interleave_laws.specs.Runs.{Runs};
+ghost use Rattle.interleave_laws.specs.Maps.{IsReachedWithin};
 
 use crate::tokens::{cut, number, token};
 use interleave_core::{Core, Stepped};

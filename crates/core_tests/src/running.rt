@@ -1,7 +1,7 @@
 //! The run of one worker.
 
 ghost use Rattle.std.specs.Prelude.{◌≤◌};
-ghost use Rattle.interleave_core.specs.Runs.{Runs};
+ghost use Rattle.interleave_laws.specs.Runs.{Runs};
 
 use interleave_core::run_one;
 use net_build::Net;

@@ -1,6 +1,6 @@
 //! Steps of live tickets, in orders that a table gives and in turn.
 
-ghost use Rattle.interleave_core.specs.Runs.{Runs};
+ghost use Rattle.interleave_laws.specs.Runs.{Runs};
 
 use crate::games::{MOST_MOVES, are_live, go, played};
 use interleave_core::Core;

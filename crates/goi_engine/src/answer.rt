@@ -5,7 +5,7 @@ ghost use Rattle.pcf_values.specs.Most.{most_program_bytes, most_schedule_bytes}
 ghost use Rattle.pcf_values.specs.Terms.{TermTree, nat};
 ghost use Rattle.pcf_values.specs.Typing.{HasType};
 ghost use Rattle.net_build.specs.NetOf.{net_of};
-ghost use Rattle.interleave_core.specs.Runs.{Runs};
+ghost use Rattle.interleave_laws.specs.Runs.{Runs};
 ghost use Rattle.goi_words.specs.Asked.{job};
 ghost use Rattle.goi_words.specs.Jobs.{IsDemo, IsWithinLimits, IsWorkers, job_of};
 ghost use Rattle.goi_engine.specs.Answers.{Answers, AnswersDeed, AnswersTask, AnswersSchedule, AnswersNoNet, MadeNet, Says, IsStopped};

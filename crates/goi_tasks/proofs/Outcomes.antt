@@ -15,7 +15,7 @@ use Rattle.net_text.specs.Accepted.{ListsProgram, OneAnswer as OneListing}
 use Rattle.batch_pool.specs.Laws.{OneList}
 use Rattle.net_build.specs.Nets.{NetTree}
 use Rattle.net_build.specs.NetOf.{net_of}
-use Rattle.interleave_core.specs.Maps.{MapState, LeadsToMap}
+use Rattle.interleave_laws.specs.Maps.{MapState, LeadsToMap}
 use Rattle.adequacy_laws.specs.Finished.{Within, Beyond}
 use Rattle.schedule_log.specs.declared.fault.ScheduleFault.{ScheduleFault}
 use Rattle.schedule_log.specs.declared.fault.ScheduleFault.TheVariants as schedule

@@ -9,7 +9,7 @@ use Rattle.cbv_terms.specs.Laws.{SameValues}
 use Rattle.cbv_terms.specs.Translation.{HasTranslation, translated}
 use Rattle.net_build.specs.Nets.{NetTree}
 use Rattle.net_build.specs.NetOf.{net_of}
-use Rattle.interleave_core.specs.Runs.{Runs, Finished}
+use Rattle.interleave_laws.specs.Runs.{Runs, Finished}
 use Rattle.adequacy_laws.specs.Questions.{Length}
 use Rattle.adequacy_laws.specs.Finished.{TellsMeaning, MapFinishedMeans}
 use Rattle.schedule_log.specs.declared.entry.Entry.{Entry}

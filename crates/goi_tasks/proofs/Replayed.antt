@@ -6,8 +6,8 @@ use Rattle.pcf_values.specs.Terms.{TermTree, nat}
 use Rattle.pcf_values.specs.Typing.{HasType}
 use Rattle.net_build.specs.Nets.{NetTree}
 use Rattle.net_build.specs.NetOf.{net_of}
-use Rattle.interleave_core.specs.Runs.{Runs}
-use Rattle.interleave_core.specs.Maps.{LeadsToMap}
+use Rattle.interleave_laws.specs.Runs.{Runs}
+use Rattle.interleave_laws.specs.Maps.{LeadsToMap}
 use Rattle.cbn_meaning.specs.Meaning.{Means}
 use Rattle.adequacy_laws.specs.Questions.{Length}
 use Rattle.adequacy_laws.specs.Adequacy.{MeansLength}

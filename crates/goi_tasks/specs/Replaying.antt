@@ -6,7 +6,7 @@ use Rattle.pcf_values.specs.Terms.{TermTree}
 use Rattle.cbn_meaning.specs.Meaning.{Means}
 use Rattle.net_build.specs.Nets.{NetTree}
 use Rattle.net_build.specs.NetOf.{net_of}
-use Rattle.interleave_core.specs.Maps.{MapState, LeadsToMap}
+use Rattle.interleave_laws.specs.Maps.{MapState, LeadsToMap}
 use Rattle.adequacy_laws.specs.Questions.{Length}
 use Rattle.schedule_log.specs.declared.fault.ScheduleFault.{ScheduleFault}
 use Rattle.schedule_log.specs.declared.fault.ScheduleFault.TheVariants as schedule

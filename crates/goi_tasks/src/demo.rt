@@ -4,7 +4,7 @@ ghost use Rattle.std.specs.Prelude.{◌≡◌, [], IfOk};
 ghost use Rattle.pcf_values.specs.Terms.{nat, size};
 ghost use Rattle.pcf_values.specs.Typing.{HasType};
 ghost use Rattle.net_build.specs.NetOf.{net_of};
-ghost use Rattle.interleave_core.specs.Runs.{Runs};
+ghost use Rattle.interleave_laws.specs.Runs.{Runs};
 ghost use Rattle.demo_text.specs.Demo.{demo_term};
 ghost use Rattle.goi_words.specs.Jobs.{IsDemo, IsWorkers};
 ghost use Rattle.net_runs.specs.Running.{IsRun};

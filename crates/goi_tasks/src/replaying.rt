@@ -5,7 +5,7 @@ ghost use Rattle.pcf_values.specs.Most.{most_moves};
 ghost use Rattle.pcf_values.specs.Terms.{TermTree, nat};
 ghost use Rattle.pcf_values.specs.Typing.{HasType};
 ghost use Rattle.net_build.specs.NetOf.{net_of};
-ghost use Rattle.interleave_core.specs.Runs.{Runs};
+ghost use Rattle.interleave_laws.specs.Runs.{Runs};
 ghost use Rattle.schedule_log.specs.Logs.{tickets_in_log};
 ghost use Rattle.goi_tasks.specs.Outputs.{output_of};
 ghost use Rattle.goi_tasks.specs.Replaying.{ReportsReplay, FaultySchedule, IsReplayed, FaultyReplay};

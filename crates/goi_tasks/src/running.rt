@@ -4,7 +4,7 @@ ghost use Rattle.std.specs.Prelude.{◌≡◌, [], false, length, IfOk};
 ghost use Rattle.pcf_values.specs.Terms.{TermTree, nat};
 ghost use Rattle.pcf_values.specs.Typing.{HasType};
 ghost use Rattle.net_build.specs.NetOf.{net_of};
-ghost use Rattle.interleave_core.specs.Runs.{Runs};
+ghost use Rattle.interleave_laws.specs.Runs.{Runs};
 ghost use Rattle.goi_words.specs.Jobs.{IsBudget, IsWorkers};
 ghost use Rattle.net_runs.specs.Running.{IsRun, IsFirstWorkers};
 ghost use Rattle.goi_tasks.specs.Notes.{NotesOf};

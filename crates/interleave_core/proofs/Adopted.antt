@@ -12,10 +12,10 @@ use Rattle.move_rules.specs.declared.token.Seen.{Seen}
 use Rattle.move_rules.specs.Places.{TokenTree}
 use Rattle.move_rules.specs.Views.{token_of}
 use Rattle.move_rules.specs.Walks.{Passage, Reached}
-use Rattle.interleave_core.specs.Maps.{MapState, run_map}
+use Rattle.interleave_laws.specs.Maps.{MapState, run_map}
 use Rattle.interleave_core.specs.Adopting.{AcceptsIn, Accepts, adopted}
 use Rattle.interleave_core.specs.Parts.{state}
-use Rattle.interleave_core.proofs.TrailSteps.{trail_map}
+use Rattle.interleave_laws.proofs.TrailSteps.{trail_map}
 use Rattle.interleave_core.proofs.Counting.{Few, adopted_few}
 
 -- a ticket for each node of a trail

@@ -11,23 +11,23 @@ use Rattle.pcf_values.specs.Most.{most_budget}
 use Rattle.net_build.specs.Nets.{NetTree}
 use Rattle.move_rules.specs.Places.{TokenTree}
 use Rattle.move_rules.specs.Views.{token_of}
-use Rattle.interleave_core.specs.Start.{start_of}
-use Rattle.interleave_core.specs.Runs.{Runs}
-use Rattle.interleave_core.specs.OneWorker.{one, Least}
-use Rattle.interleave_core.specs.Maps.{MapState, start_map, step_map, run_map, then_run_map, IsReachedWithin, seen}
-use Rattle.interleave_core.specs.Tickets.{NoneLive, IsLeastLive}
+use Rattle.interleave_laws.specs.Start.{start_of}
+use Rattle.interleave_laws.specs.Runs.{Runs}
+use Rattle.interleave_laws.specs.OneWorker.{one, Least}
+use Rattle.interleave_laws.specs.Maps.{MapState, start_map, step_map, run_map, then_run_map, IsReachedWithin, seen}
+use Rattle.interleave_laws.specs.Tickets.{NoneLive, IsLeastLive}
 use Rattle.interleave_core.specs.Moving.{Changes, WalksOn}
 use Rattle.interleave_core.specs.Roles.{StandsStill}
 use Rattle.interleave_core.specs.Alone.{RunsAlone}
 use Rattle.interleave_core.specs.Parts.{state, state_of}
 use Rattle.interleave_core.specs.declared.parts.Parts.{Parts}
-use Rattle.interleave_core.proofs.Tickets.{test_nat}
-use Rattle.interleave_core.proofs.MapLaws.{seen_leads, run_both}
-use Rattle.interleave_core.proofs.Running.{idle_answered}
-use Rattle.interleave_core.proofs.OneWorker.{one_next, one_ends}
-use Rattle.interleave_core.proofs.Stays.{one_walks}
-use Rattle.interleave_core.proofs.TrailSteps.{walk_map}
-use Rattle.interleave_core.proofs.Going.{the_some}
+use Rattle.interleave_laws.proofs.Tickets.{test_nat}
+use Rattle.interleave_laws.proofs.MapLaws.{seen_leads, run_both}
+use Rattle.interleave_laws.proofs.Running.{idle_answered}
+use Rattle.interleave_laws.proofs.OneWorker.{one_next, one_ends}
+use Rattle.interleave_laws.proofs.Stays.{one_walks}
+use Rattle.interleave_laws.proofs.TrailSteps.{walk_map}
+use Rattle.interleave_laws.proofs.Going.{the_some}
 
 -- the run of the empty log
 pub begins : (net : NetTree) (S : MapState) (log : List ℕ) → S ≡ start_map (start_of net) → log ≡ [] → RunsAlone net log S

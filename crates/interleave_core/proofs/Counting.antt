@@ -21,8 +21,8 @@ use Rattle.move_rules.specs.declared.token.Token.{Token}
 use Rattle.move_rules.specs.Places.{Place, down, TokenTree, ask, ans}
 use Rattle.move_rules.specs.Moves.{Move, solo, fork, join, answer, stay, move}
 use Rattle.move_rules.specs.Views.{token_of}
-use Rattle.interleave_core.specs.States.{other}
-use Rattle.interleave_core.specs.Maps.{MapState, start_map, fork_map, last_map, join_map, act_map, step_map_on, step_map}
+use Rattle.interleave_laws.specs.States.{other}
+use Rattle.interleave_laws.specs.Maps.{MapState, start_map, fork_map, last_map, join_map, act_map, step_map_on, step_map}
 use Rattle.interleave_core.specs.LiveMap.{live_entries, live_of}
 
 -- below all tickets of a list there is none of it

@@ -2,7 +2,7 @@
 use Rattle.std.proofs.Common.{◌≡◌, ℕ, zero, suc, ◌+◌, List, [], ◌∷◌, drop, slice_get, Option, Some, None, refl, ap, ◌∙◌, arith}
 use Rattle.net_build.specs.declared.node.Node.{Node}
 use Rattle.net_build.specs.declared.node.Node.TheVariants.{Root}
-use Rattle.interleave_core.specs.Start.{root_wire}
+use Rattle.interleave_laws.specs.Start.{root_wire}
 use Rattle.interleave_core.specs.Roots.{root_at}
 
 -- the wire of a root, or else what is found behind it

@@ -9,7 +9,7 @@ use Rattle.std.proofs.lemmas.Bool.{eqb-true, ne_eqb}
 use Rattle.token_stacks.specs.Signatures.{Boxes}
 use Rattle.fork_join.specs.Entries.{Entry, pending, key_cmp}
 use Rattle.move_rules.specs.Places.{TokenTree, up, ask, place_of}
-use Rattle.interleave_core.proofs.Tickets.{test_nat}
+use Rattle.interleave_laws.proofs.Tickets.{test_nat}
 use Rattle.interleave_core.specs.Forking.{HasBoxes, boxes_at, Copies, ForksTo}
 
 -- what a ticket answers that was given a token

@@ -21,7 +21,7 @@ use Rattle.move_rules.proofs.Single.{placed}
 use Rattle.interleave_core.specs.Forking.{HasBoxes, work_at, boxes_at}
 use Rattle.interleave_core.specs.LiveMap.{live_entries, live_of}
 use Rattle.interleave_core.specs.Moving.{ChangesIn, Changes, Solo, SoloAt, UnaidedIn, UnaidedAt, Sent}
-use Rattle.interleave_core.proofs.Tickets.{test_nat}
+use Rattle.interleave_laws.proofs.Tickets.{test_nat}
 
 -- a change of one key, as it is seen
 push : (b : Bool) (x : Token) (o : Option Token) → option_map token_of (cond b (Some x) o) ≡ cond b (Some (token_of x)) (option_map token_of o)

@@ -15,7 +15,7 @@ use Rattle.move_rules.specs.Moves.{Move, solo, fork, join, answer, stay, move, U
 use Rattle.interleave_core.specs.declared.roles.Operator.{Operator}
 use Rattle.interleave_core.specs.declared.roles.Role.TheVariants.{Fork, Join, Last, Still}
 use Rattle.interleave_core.specs.declared.stepped.Stepped.TheVariants.{Went, Forked, Answered}
-use Rattle.interleave_core.specs.Maps.{MapState, step_map, step_map_on, act_map, fork_map, join_map}
+use Rattle.interleave_laws.specs.Maps.{MapState, step_map, step_map_on, act_map, fork_map, join_map}
 use Rattle.interleave_core.specs.Names.{step_name, name_on, name_of, name_at, MayTake}
 use Rattle.interleave_core.specs.Forking.{HasBoxes, ForksTo, boxes_at}
 use Rattle.interleave_core.specs.Joining.{JoinsAt, joined_tokens, joined_name}

@@ -7,7 +7,7 @@ use Rattle.net_build.specs.Nets.{NetTree}
 use Rattle.move_rules.specs.Places.{TokenTree}
 use Rattle.move_rules.specs.Views.{token_of}
 use Rattle.move_rules.specs.Walks.{Stands, Passage}
-use Rattle.interleave_core.specs.Maps.{MapState}
+use Rattle.interleave_laws.specs.Maps.{MapState}
 
 -- the walk begins with the ticket's token, has at least one move and at most so many, and each node of its trail is the net's
 abbrev pub AcceptsIn : NetTree → FinMap nat_cmp TokenTree → ℕ → Passage → ℕ → Type 0

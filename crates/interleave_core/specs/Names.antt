@@ -9,7 +9,7 @@ use Rattle.move_rules.specs.Places.{TokenTree}
 use Rattle.move_rules.specs.Moves.{Move, solo, fork, join, answer, stay, move}
 use Rattle.interleave_core.specs.declared.stepped.Stepped.{Stepped}
 use Rattle.interleave_core.specs.declared.stepped.Stepped.TheVariants.{Went, Forked, Kept, Joined, Answered}
-use Rattle.interleave_core.specs.Maps.{MapState}
+use Rattle.interleave_laws.specs.Maps.{MapState}
 
 -- at a join: the first answer of an entry is kept, and the second one goes on
 abbrev pub name_at : Option Entry → Option Stepped

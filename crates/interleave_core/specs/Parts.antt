@@ -6,7 +6,7 @@ use Rattle.pcf_values.specs.declared.val.Val.{Val}
 use Rattle.fork_join.specs.Entries.{Entry, key_cmp}
 use Rattle.move_rules.specs.Places.{TokenTree}
 use Rattle.interleave_core.specs.declared.parts.Parts.{Parts}
-use Rattle.interleave_core.specs.Maps.{MapState}
+use Rattle.interleave_laws.specs.Maps.{MapState}
 
 -- the state of live tokens, entries, the next ticket and the answer
 abbrev pub state : FinMap nat_cmp TokenTree → FinMap key_cmp Entry → ℕ → Option Val → MapState

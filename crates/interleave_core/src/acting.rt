@@ -1,7 +1,7 @@
 // One step of a ticket.
 ghost use Rattle.std.specs.Prelude.{◌≡◌, ◌+◌, ◌<◌, ◌^◌, ℕ, Some, None, OnOk, OnErr, IfOk, IsSome, true};
 ghost use Rattle.std.specs.FinMap.{get};
-ghost use Rattle.interleave_core.specs.Maps.{step_map};
+ghost use Rattle.interleave_laws.specs.Maps.{step_map};
 ghost use Rattle.interleave_core.specs.Names.{step_name, MayTake};
 ghost use Rattle.interleave_core.specs.Parts.{state_of};
 ghost use Rattle.interleave_core.specs.Roles.{MetAt, StandsStill};

@@ -5,10 +5,10 @@ ghost use Rattle.std.specs.FinMap.{get, len};
 ghost use Rattle.pcf_values.specs.Most.{most_budget};
 ghost use Rattle.net_build.specs.Sound.{Sound};
 ghost use Rattle.move_rules.specs.Views.{token_of};
-ghost use Rattle.interleave_core.specs.Start.{start_of};
-ghost use Rattle.interleave_core.specs.Runs.{Runs};
-ghost use Rattle.interleave_core.specs.Maps.{start_map, step_map, run_map, IsReachedWithin};
-ghost use Rattle.interleave_core.specs.Tickets.{IsLive, NoneLive, IsLeastLive, NoneLiveAbove, IsNextLive};
+ghost use Rattle.interleave_laws.specs.Start.{start_of};
+ghost use Rattle.interleave_laws.specs.Runs.{Runs};
+ghost use Rattle.interleave_laws.specs.Maps.{start_map, step_map, run_map, IsReachedWithin};
+ghost use Rattle.interleave_laws.specs.Tickets.{IsLive, NoneLive, IsLeastLive, NoneLiveAbove, IsNextLive};
 ghost use Rattle.interleave_core.specs.Names.{step_name, MayTake};
 ghost use Rattle.interleave_core.specs.Adopting.{Accepts, adopted};
 
@@ -34,8 +34,8 @@ pub struct Core {
 impl Model for Core {
     ghost use Rattle.std.specs.Prelude.{◌≤◌};
     ghost use Rattle.std.specs.FinMap.{len};
-    ghost use Rattle.interleave_core.specs.Maps.{MapState};
-    ghost use Rattle.interleave_core.specs.Codes.{state_code};
+    ghost use Rattle.interleave_laws.specs.Maps.{MapState};
+    ghost use Rattle.interleave_laws.specs.Codes.{state_code};
     ghost use Rattle.interleave_core.specs.Parts.{state_of};
 
     ghost Value = { MapState };

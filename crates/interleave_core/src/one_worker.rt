@@ -1,10 +1,10 @@
 // The run of one worker.
 ghost use Rattle.std.specs.Prelude.{◌≡◌, ◌≤◌, ◌<◌, OnOk, IfOk, length};
 ghost use Rattle.pcf_values.specs.Most.{most_budget};
-ghost use Rattle.interleave_core.specs.Runs.{Runs};
-ghost use Rattle.interleave_core.specs.OneWorker.{one};
-ghost use Rattle.interleave_core.specs.Maps.{MapState, LeadsToMap};
-ghost use Rattle.interleave_core.specs.Tickets.{IsLeastLive};
+ghost use Rattle.interleave_laws.specs.Runs.{Runs};
+ghost use Rattle.interleave_laws.specs.OneWorker.{one};
+ghost use Rattle.interleave_laws.specs.Maps.{MapState, LeadsToMap};
+ghost use Rattle.interleave_laws.specs.Tickets.{IsLeastLive};
 ghost use Rattle.interleave_core.specs.Parts.{state_of};
 ghost use Rattle.interleave_core.specs.Alone.{RunsAlone};
 

@@ -1,7 +1,7 @@
 // The parts of a state, side by side.
 ghost use Rattle.std.specs.Prelude.{◌≡◌, IfOk};
-ghost use Rattle.interleave_core.specs.Start.{start_of};
-ghost use Rattle.interleave_core.specs.Maps.{start_map};
+ghost use Rattle.interleave_laws.specs.Start.{start_of};
+ghost use Rattle.interleave_laws.specs.Maps.{start_map};
 ghost use Rattle.interleave_core.specs.Parts.{state_of};
 
 use crate::live::LiveTokens;

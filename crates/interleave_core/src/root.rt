@@ -1,6 +1,6 @@
 // Where a run begins.
 ghost use Rattle.std.specs.Prelude.{◌≡◌};
-ghost use Rattle.interleave_core.specs.Start.{root_wire};
+ghost use Rattle.interleave_laws.specs.Start.{root_wire};
 ghost use Rattle.interleave_core.specs.Roots.{root_at};
 
 use net_build::{Net, Node};

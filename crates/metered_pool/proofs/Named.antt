@@ -4,8 +4,8 @@ use Rattle.std.proofs.lemmas.List.Elements.{All-tail}
 use Rattle.std.proofs.lemmas.List.Sums.{sum_by-cons}
 use Rattle.pcf_values.specs.declared.val.Val.{Val}
 use Rattle.net_build.specs.Nets.{NetTree}
-use Rattle.interleave_core.specs.Runs.{Finished}
-use Rattle.interleave_core.specs.Maps.{LeadsToMap}
+use Rattle.interleave_laws.specs.Runs.{Finished}
+use Rattle.interleave_laws.specs.Maps.{LeadsToMap}
 use Rattle.schedule_log.specs.declared.entry.Entry.{Entry}
 use Rattle.schedule_log.specs.Logs.{tickets_in_log}
 use Rattle.schedule_log.specs.Tally.{tally_of}

@@ -2,7 +2,7 @@
 ghost use Rattle.std.specs.Prelude.{◌≡◌, ◌≤◌, [], ◌∷◌, length, All, IfOk};
 ghost use Rattle.std.specs.List.Sorted.{IsNonDecreasing};
 ghost use Rattle.pcf_values.specs.Most.{most_budget, most_workers};
-ghost use Rattle.interleave_core.specs.Runs.{Runs};
+ghost use Rattle.interleave_laws.specs.Runs.{Runs};
 ghost use Rattle.token_pool.specs.Pools.{InLimits};
 ghost use Rattle.token_pool.specs.Ending.{Suits};
 ghost use Rattle.net_runs.specs.Running.{IsRun, IsFirstWorkers};

@@ -4,9 +4,9 @@
 use Rattle.std.specs.Prelude.{◌≡◌, ℕ, List, Option}
 use Rattle.pcf_values.specs.declared.val.Val.{Val}
 use Rattle.net_build.specs.Nets.{NetTree}
-use Rattle.interleave_core.specs.Runs.{Finished}
-use Rattle.interleave_core.specs.OneWorker.{one}
-use Rattle.interleave_core.specs.Maps.{MapState, LeadsToMap}
+use Rattle.interleave_laws.specs.Runs.{Finished}
+use Rattle.interleave_laws.specs.OneWorker.{one}
+use Rattle.interleave_laws.specs.Maps.{MapState, LeadsToMap}
 use Rattle.schedule_log.specs.declared.entry.Entry.{Entry}
 use Rattle.schedule_log.specs.Logs.{tickets_in_log}
 use Rattle.token_pool.specs.Pools.{IsMadeBy}

@@ -1,11 +1,12 @@
 //! The run of one worker.
 ghost use Rattle.std.specs.Prelude.{◌≡◌, ◌≤◌, ◌<◌, ◌^◌, IfOk, length};
 ghost use Rattle.pcf_values.specs.Most.{most_budget};
-ghost use Rattle.interleave_core.specs.Runs.{Runs};
+ghost use Rattle.interleave_laws.specs.Runs.{Runs};
 ghost use Rattle.token_pool.specs.Ending.{by};
 ghost use Rattle.net_runs.specs.Running.{IsRun, IsFirstWorkers};
 
-use interleave_core::{law_maps, law_one_worker, run_one};
+use interleave_core::run_one;
+use interleave_laws::{law_maps, law_one_worker};
 use net_build::Net;
 use schedule_log::Log;
 use std::alloc::{AllocError, Global};

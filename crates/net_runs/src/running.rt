@@ -1,7 +1,7 @@
 //! The run of a net by so many workers.
 ghost use Rattle.std.specs.Prelude.{◌≡◌, ◌≤◌, IfOk};
 ghost use Rattle.pcf_values.specs.Most.{most_budget, most_workers};
-ghost use Rattle.interleave_core.specs.Runs.{Runs};
+ghost use Rattle.interleave_laws.specs.Runs.{Runs};
 ghost use Rattle.token_pool.specs.Pools.{InLimits};
 ghost use Rattle.net_runs.specs.Running.{IsRun, IsFirstWorkers};
 

@@ -1,7 +1,7 @@
 //! Pools that threads work on.
 
 ghost use Rattle.std.specs.Prelude.{◌≤◌};
-ghost use Rattle.interleave_core.specs.Runs.{Runs};
+ghost use Rattle.interleave_laws.specs.Runs.{Runs};
 ghost use Rattle.token_pool.specs.Pools.{InLimits};
 
 use gate_workers::{OpenGate, drive};

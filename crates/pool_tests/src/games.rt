@@ -5,7 +5,7 @@
 //! tickets free. `stop`: the pool is stopped.
 
 ghost use Rattle.std.specs.Prelude.{◌≡◌, ◌<◌};
-ghost use Rattle.interleave_core.specs.Runs.{Runs};
+ghost use Rattle.interleave_laws.specs.Runs.{Runs};
 ghost use Rattle.token_pool.specs.Pools.{InLimits};
 
 use move_rules::{Kind, Moved, Token, walk};

@@ -1,6 +1,6 @@
 //! Pools by hand.
 
-ghost use Rattle.interleave_core.specs.Runs.{Runs};
+ghost use Rattle.interleave_laws.specs.Runs.{Runs};
 ghost use Rattle.token_pool.specs.Pools.{InLimits};
 
 use crate::games::{number, played};

@@ -5,7 +5,7 @@ use Rattle.schedule_log.specs.Logs.{tickets_in_log}
 use Rattle.std.specs.FinMap.{get}
 use Rattle.pcf_values.specs.Most.{most_moves, most_budget}
 use Rattle.net_build.specs.Nets.{NetTree}
-use Rattle.interleave_core.specs.Maps.{MapState, step_map, LeadsToMap, IsReachedWithin}
+use Rattle.interleave_laws.specs.Maps.{MapState, step_map, LeadsToMap, IsReachedWithin}
 use Rattle.replay_check.specs.declared.fault.ReplayFault.{ReplayFault}
 use Rattle.replay_check.specs.declared.replayed.Replayed.{Replayed}
 use Rattle.replay_check.specs.Replays.{IsRunOf, fault_at, ReplaysAs}

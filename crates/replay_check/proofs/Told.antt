@@ -5,11 +5,11 @@ use Rattle.std.specs.FinMap.{get}
 use Rattle.pcf_values.specs.declared.val.Val.{Val}
 use Rattle.net_build.specs.Nets.{NetTree}
 use Rattle.move_rules.specs.Places.{TokenTree}
-use Rattle.interleave_core.specs.Start.{start_of}
-use Rattle.interleave_core.specs.States.{State}
-use Rattle.interleave_core.specs.Runs.{Runs, LeadsTo}
-use Rattle.interleave_core.specs.Maps.{MapState, start_map, step_map, step_map_on, run_map, then_run_map, LeadsToMap, seen}
-use Rattle.interleave_core.proofs.MapLaws.{leads_seen, seen_leads, map_step}
+use Rattle.interleave_laws.specs.Start.{start_of}
+use Rattle.interleave_laws.specs.States.{State}
+use Rattle.interleave_laws.specs.Runs.{Runs, LeadsTo}
+use Rattle.interleave_laws.specs.Maps.{MapState, start_map, step_map, step_map_on, run_map, then_run_map, LeadsToMap, seen}
+use Rattle.interleave_laws.proofs.MapLaws.{leads_seen, seen_leads, map_step}
 use Rattle.replay_check.specs.declared.fault.ReplayFault.{ReplayFault}
 use Rattle.replay_check.specs.declared.fault.ReplayFault.TheVariants.{NoMemory, NotLive, AfterAnswer}
 use Rattle.replay_check.specs.declared.replayed.Replayed.{Replayed}

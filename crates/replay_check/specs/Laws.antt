@@ -1,8 +1,8 @@
 -- What holds of replays.
 use Rattle.std.specs.Prelude.{◌≡◌, ℕ, List, length, Result, Ok, Err}
 use Rattle.net_build.specs.Nets.{NetTree}
-use Rattle.interleave_core.specs.States.{State}
-use Rattle.interleave_core.specs.Runs.{LeadsTo, Runs}
+use Rattle.interleave_laws.specs.States.{State}
+use Rattle.interleave_laws.specs.Runs.{LeadsTo, Runs}
 use Rattle.replay_check.specs.declared.fault.ReplayFault.{ReplayFault}
 use Rattle.replay_check.specs.declared.fault.ReplayFault.TheVariants.{NoMemory}
 use Rattle.replay_check.specs.declared.replayed.Replayed.{Replayed}

@@ -5,7 +5,7 @@ use Rattle.std.specs.Prelude.{◌≡◌, ℕ, List, ◌∷◌, ◌++◌, length,
 use Rattle.std.specs.FinMap.{get}
 use Rattle.pcf_values.specs.declared.val.Val.{Val}
 use Rattle.net_build.specs.Nets.{NetTree}
-use Rattle.interleave_core.specs.Maps.{MapState, LeadsToMap}
+use Rattle.interleave_laws.specs.Maps.{MapState, LeadsToMap}
 use Rattle.replay_check.specs.declared.fault.ReplayFault.{ReplayFault}
 use Rattle.replay_check.specs.declared.fault.ReplayFault.TheVariants.{NoMemory, NotLive, AfterAnswer}
 use Rattle.replay_check.specs.declared.replayed.Replayed.{Replayed}

@@ -3,10 +3,10 @@ ghost use Rattle.std.specs.Prelude.{◌≡◌, ◌≤◌, length, None, Err, OnO
 ghost use Rattle.std.specs.FinMap.{get};
 ghost use Rattle.pcf_values.specs.Most.{most_moves};
 ghost use Rattle.schedule_log.specs.Logs.{tickets_in_log};
-ghost use Rattle.interleave_core.specs.Start.{start_of};
-ghost use Rattle.interleave_core.specs.Runs.{Runs};
-ghost use Rattle.interleave_core.specs.Maps.{LeadsToMap, start_map};
-ghost use Rattle.interleave_core.specs.Tickets.{IsLive};
+ghost use Rattle.interleave_laws.specs.Start.{start_of};
+ghost use Rattle.interleave_laws.specs.Runs.{Runs};
+ghost use Rattle.interleave_laws.specs.Maps.{LeadsToMap, start_map};
+ghost use Rattle.interleave_laws.specs.Tickets.{IsLive};
 ghost use Rattle.replay_check.specs.Replays.{ReplaysAs, fault_at};
 
 use crate::fault::ReplayFault;

@@ -1,6 +1,6 @@
 //! A run in which two workers hold pieces at once.
 
-ghost use Rattle.interleave_core.specs.Runs.{Runs};
+ghost use Rattle.interleave_laws.specs.Runs.{Runs};
 
 use crate::gates::Meeting;
 use gate_workers::OpenGate;

@@ -1,6 +1,6 @@
 //! The logs of four workers, replayed.
 
-ghost use Rattle.interleave_core.specs.Runs.{Runs};
+ghost use Rattle.interleave_laws.specs.Runs.{Runs};
 
 use gate_workers::OpenGate;
 use net_build::Net;

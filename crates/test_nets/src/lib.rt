@@ -9,7 +9,7 @@ ghost use Rattle.pcf_values.specs.Terms.{nat, size, height};
 ghost use Rattle.pcf_values.specs.Named.{named_size, named_height};
 ghost use Rattle.pcf_values.specs.Views.{named_of};
 ghost use Rattle.pcf_values.specs.Typing.{HasType};
-ghost use Rattle.interleave_core.specs.Runs.{Runs};
+ghost use Rattle.interleave_laws.specs.Runs.{Runs};
 
 use adequacy_laws::law_never_stuck;
 use net_build::{Net, build, law_net_size};

@@ -4,15 +4,15 @@ use Rattle.std.specs.List.{AllByRecursion}
 use Rattle.std.proofs.lemmas.List.Elements.{All-append, All-from_recursion}
 use Rattle.pcf_values.specs.Most.{most_budget}
 use Rattle.net_build.specs.Nets.{NetTree}
-use Rattle.interleave_core.specs.Start.{start_of}
-use Rattle.interleave_core.specs.States.{State, step, start, run}
-use Rattle.interleave_core.specs.Runs.{Runs}
-use Rattle.interleave_core.specs.OneWorker.{least_live, on_step, on_least, one_from, one}
-use Rattle.interleave_core.specs.Maps.{MapState, start_map, step_map, then_run_map, LeadsToMap, IsReachedWithin, seen, option_seen}
-use Rattle.interleave_core.specs.Tickets.{NoneLive, IsLeastLive}
-use Rattle.interleave_core.proofs.Seen.{step_seen}
-use Rattle.interleave_core.proofs.MapLaws.{seen_leads, run_both}
-use Rattle.interleave_core.proofs.OneWorker.{least_found, least_search, one_finishes, one_continues}
+use Rattle.interleave_laws.specs.Start.{start_of}
+use Rattle.interleave_laws.specs.States.{State, step, start, run}
+use Rattle.interleave_laws.specs.Runs.{Runs}
+use Rattle.interleave_laws.specs.OneWorker.{least_live, on_step, on_least, one_from, one}
+use Rattle.interleave_laws.specs.Maps.{MapState, start_map, step_map, then_run_map, LeadsToMap, IsReachedWithin, seen, option_seen}
+use Rattle.interleave_laws.specs.Tickets.{NoneLive, IsLeastLive}
+use Rattle.interleave_laws.proofs.Seen.{step_seen}
+use Rattle.interleave_laws.proofs.MapLaws.{seen_leads, run_both}
+use Rattle.interleave_laws.proofs.OneWorker.{least_found, least_search, one_finishes, one_continues}
 use Rattle.interleave_core.proofs.AloneRuns.{least_seen}
 use Rattle.schedule_log.specs.declared.entry.Entry.{Entry}
 use Rattle.schedule_log.specs.Logs.{tickets_in_log}

@@ -7,10 +7,10 @@ use Rattle.std.specs.FinMap.{FinMap, get, insert, get-insert, len, len-insert, g
 use Rattle.std.proofs.lemmas.Bool.{cases_lt, cases_eq, ne_eqb, eq-eqb}
 use Rattle.std.proofs.lemmas.Cmp.{nat_cmp_total}
 use Rattle.move_rules.specs.Places.{TokenTree}
-use Rattle.interleave_core.specs.OneWorker.{least_from}
-use Rattle.interleave_core.proofs.OneWorker.{least_found, least_none}
-use Rattle.interleave_core.proofs.Tickets.{test_nat}
-use Rattle.interleave_core.proofs.Seen.{same_tokens}
+use Rattle.interleave_laws.specs.OneWorker.{least_from}
+use Rattle.interleave_laws.proofs.OneWorker.{least_found, least_none}
+use Rattle.interleave_laws.proofs.Tickets.{test_nat}
+use Rattle.interleave_laws.proofs.Seen.{same_tokens}
 use Rattle.token_pool.specs.declared.entries.Held.{Held}
 use Rattle.token_pool.specs.Pools.{Holds, count_held}
 use Rattle.token_pool.specs.Turns.{is_held, free_in}

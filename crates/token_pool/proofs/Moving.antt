@@ -7,15 +7,15 @@ use Rattle.std.proofs.lemmas.List.Elements.{All-append, All-replicate}
 use Rattle.std.proofs.lemmas.Option.{slice_get_within}
 use Rattle.net_build.specs.Nets.{NetTree}
 use Rattle.move_rules.specs.Places.{TokenTree}
-use Rattle.interleave_core.specs.Start.{start_of}
-use Rattle.interleave_core.specs.Runs.{Runs}
-use Rattle.interleave_core.specs.OneWorker.{one, IsOneWorkers, Least}
-use Rattle.interleave_core.specs.Maps.{MapState, start_map, step_map, step_map_on, run_map, then_run_map, LeadsToMap, seen, option_seen}
-use Rattle.interleave_core.specs.Tickets.{IsLive}
-use Rattle.interleave_core.proofs.Seen.{step_seen}
-use Rattle.interleave_core.proofs.MapLaws.{seen_leads, map_others, run_both}
-use Rattle.interleave_core.proofs.OneWorker.{one_next}
-use Rattle.interleave_core.proofs.Stays.{least_stays}
+use Rattle.interleave_laws.specs.Start.{start_of}
+use Rattle.interleave_laws.specs.Runs.{Runs}
+use Rattle.interleave_laws.specs.OneWorker.{one, IsOneWorkers, Least}
+use Rattle.interleave_laws.specs.Maps.{MapState, start_map, step_map, step_map_on, run_map, then_run_map, LeadsToMap, seen, option_seen}
+use Rattle.interleave_laws.specs.Tickets.{IsLive}
+use Rattle.interleave_laws.proofs.Seen.{step_seen}
+use Rattle.interleave_laws.proofs.MapLaws.{seen_leads, map_others, run_both}
+use Rattle.interleave_laws.proofs.OneWorker.{one_next}
+use Rattle.interleave_laws.proofs.Stays.{least_stays}
 use Rattle.interleave_core.proofs.AloneRuns.{least_seen}
 use Rattle.schedule_log.specs.declared.entry.Entry.{Entry}
 use Rattle.schedule_log.specs.Logs.{tickets_in_log}

@@ -5,11 +5,11 @@ use Rattle.std.specs.FinMap.{get, len}
 use Rattle.pcf_values.specs.Most.{most_budget}
 use Rattle.move_rules.specs.Walks.{Passage}
 use Rattle.net_build.specs.Nets.{NetTree}
-use Rattle.interleave_core.specs.Start.{start_of}
-use Rattle.interleave_core.specs.Runs.{Runs}
-use Rattle.interleave_core.specs.Maps.{MapState, start_map, run_map, IsReachedWithin}
-use Rattle.interleave_core.proofs.MapLaws.{map_low}
-use Rattle.interleave_core.proofs.Going.{the_some}
+use Rattle.interleave_laws.specs.Start.{start_of}
+use Rattle.interleave_laws.specs.Runs.{Runs}
+use Rattle.interleave_laws.specs.Maps.{MapState, start_map, run_map, IsReachedWithin}
+use Rattle.interleave_laws.proofs.MapLaws.{map_low}
+use Rattle.interleave_laws.proofs.Going.{the_some}
 use Rattle.schedule_log.specs.declared.entry.Entry.{Entry}
 use Rattle.schedule_log.specs.Logs.{tickets_in_log}
 use Rattle.token_pool.specs.declared.entries.Held.{Held}

@@ -5,11 +5,11 @@ use Rattle.std.specs.FinMap.{get}
 use Rattle.std.proofs.lemmas.Bool.{cases_lt, eq-eqb, eqb-true}
 use Rattle.std.proofs.lemmas.Option.{slice_get-get_or}
 use Rattle.move_rules.specs.Places.{TokenTree}
-use Rattle.interleave_core.specs.Maps.{seen}
-use Rattle.interleave_core.specs.Tickets.{IsLeastLive}
-use Rattle.interleave_core.proofs.Running.{idle_answered}
-use Rattle.interleave_core.proofs.MapLaws.{seen_leads, map_low}
-use Rattle.interleave_core.proofs.OneWorker.{least_found, least_none}
+use Rattle.interleave_laws.specs.Maps.{seen}
+use Rattle.interleave_laws.specs.Tickets.{IsLeastLive}
+use Rattle.interleave_laws.proofs.Running.{idle_answered}
+use Rattle.interleave_laws.proofs.MapLaws.{seen_leads, map_low}
+use Rattle.interleave_laws.proofs.OneWorker.{least_found, least_none}
 use Rattle.schedule_log.specs.Logs.{tickets_in_log}
 use Rattle.token_pool.specs.declared.entries.Held.{Held}
 use Rattle.token_pool.specs.declared.entries.Told.{Told}

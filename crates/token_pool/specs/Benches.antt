@@ -13,7 +13,7 @@ use Rattle.token_pool.specs.Pools.{Pool}
 use Rattle.token_pool.specs.Pieces.{IsPieceOf}
 use Rattle.token_pool.specs.Turns as turns
 use Rattle.token_pool.specs.Booking.{BookedAs}
-use Rattle.interleave_core.specs.Maps.{MapState}
+use Rattle.interleave_laws.specs.Maps.{MapState}
 
 -- what is made of a piece is the walk of its token on the net, as far as its allowance and its solo moves go
 abbrev pub MakesWalk : NetTree → Piece → Passage → Type 0

@@ -4,7 +4,7 @@
 use Rattle.std.specs.Prelude.{◌≡◌, ◌⊎◌, ℕ, true, List, ◌++◌, length, replicate, set, Some, None}
 use Rattle.move_rules.specs.Walks.{Passage}
 use Rattle.net_build.specs.Nets.{NetTree}
-use Rattle.interleave_core.specs.Maps.{MapState, run_map}
+use Rattle.interleave_laws.specs.Maps.{MapState, run_map}
 use Rattle.interleave_core.specs.Adopting.{Accepts}
 use Rattle.schedule_log.specs.declared.entry.Entry.{Entry}
 use Rattle.token_pool.specs.declared.entries.Held.{Held}

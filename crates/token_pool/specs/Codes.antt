@@ -3,8 +3,8 @@ use Rattle.std.specs.Prelude.{ℕ, Bool, List, Option, refl}
 use Rattle.std.specs.Coded.{Coded, code_by, coded×, coded_list, coded_option, coded_ℕ, coded_bool}
 use Rattle.net_build.specs.Nets.{NetTree}
 use Rattle.net_build.specs.Codes.{net_code}
-use Rattle.interleave_core.specs.Maps.{MapState}
-use Rattle.interleave_core.specs.Codes.{state_code}
+use Rattle.interleave_laws.specs.Maps.{MapState}
+use Rattle.interleave_laws.specs.Codes.{state_code}
 use Rattle.schedule_log.specs.declared.entry.Entry.{Entry}
 use Rattle.schedule_log.specs.contracts.entry.Entry as entry
 use Rattle.token_pool.specs.declared.entries.Held.{Held}

@@ -3,9 +3,9 @@
 -- moves are written down for the number of workers, which is no worker's.
 use Rattle.std.specs.Prelude.{◌≡◌, ◌-◌, ℕ, List, ◌++◌, length, map}
 use Rattle.net_build.specs.Nets.{NetTree}
-use Rattle.interleave_core.specs.Runs.{Finished}
-use Rattle.interleave_core.specs.OneWorker.{one_from, one}
-use Rattle.interleave_core.specs.Maps.{MapState, LeadsToMap, seen}
+use Rattle.interleave_laws.specs.Runs.{Finished}
+use Rattle.interleave_laws.specs.OneWorker.{one_from, one}
+use Rattle.interleave_laws.specs.Maps.{MapState, LeadsToMap, seen}
 use Rattle.schedule_log.specs.declared.entry.Entry.{Entry}
 use Rattle.schedule_log.specs.Logs.{tickets_in_log}
 use Rattle.token_pool.specs.declared.ending.Ended.{Ended}

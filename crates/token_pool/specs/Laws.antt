@@ -1,8 +1,8 @@
 -- What keeps a pool good.
 use Rattle.std.specs.Prelude.{◌≡◌, ◌≤◌, ◌<◌, ◌⊎◌, ℕ, Some, None}
 use Rattle.net_build.specs.Nets.{NetTree}
-use Rattle.interleave_core.specs.Runs.{Runs}
-use Rattle.interleave_core.specs.Tickets.{IsLive}
+use Rattle.interleave_laws.specs.Runs.{Runs}
+use Rattle.interleave_laws.specs.Tickets.{IsLive}
 use Rattle.token_pool.specs.declared.entries.Held.{Held}
 use Rattle.token_pool.specs.declared.entries.Told.TheVariants.{Token, Idle, Reserved}
 use Rattle.token_pool.specs.Pools.{Pool, Holds, InLimits, Good, started}

@@ -2,8 +2,8 @@
 use Rattle.std.specs.Prelude.{◌≡◌, Some}
 use Rattle.std.specs.FinMap.{get}
 use Rattle.move_rules.specs.Views.{token_of}
-use Rattle.interleave_core.specs.Maps.{MapState}
-use Rattle.interleave_core.specs.Tickets.{IsLive}
+use Rattle.interleave_laws.specs.Maps.{MapState}
+use Rattle.interleave_laws.specs.Tickets.{IsLive}
 use Rattle.token_pool.specs.declared.entries.Held.{Held}
 use Rattle.token_pool.specs.declared.entries.Told.{Told}
 use Rattle.token_pool.specs.declared.entries.Told.TheVariants as told

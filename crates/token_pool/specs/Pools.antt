@@ -6,11 +6,11 @@ use Rattle.std.specs.Prelude.{◌≡◌, ◌≤◌, ◌+◌, ℕ, suc, Bool, fal
 use Rattle.std.specs.List.{All}
 use Rattle.pcf_values.specs.Most.{most_budget, most_workers}
 use Rattle.net_build.specs.Nets.{NetTree}
-use Rattle.interleave_core.specs.Start.{start_of}
-use Rattle.interleave_core.specs.Runs.{Runs}
-use Rattle.interleave_core.specs.OneWorker.{IsOneWorkers}
-use Rattle.interleave_core.specs.Maps.{MapState, start_map, LeadsToMap}
-use Rattle.interleave_core.specs.Tickets.{IsLive, IsLeastLive}
+use Rattle.interleave_laws.specs.Start.{start_of}
+use Rattle.interleave_laws.specs.Runs.{Runs}
+use Rattle.interleave_laws.specs.OneWorker.{IsOneWorkers}
+use Rattle.interleave_laws.specs.Maps.{MapState, start_map, LeadsToMap}
+use Rattle.interleave_laws.specs.Tickets.{IsLive, IsLeastLive}
 use Rattle.schedule_log.specs.declared.entry.Entry.{Entry}
 use Rattle.schedule_log.specs.Logs.{tickets_in_log}
 use Rattle.token_pool.specs.declared.entries.Held.{Held}

@@ -7,9 +7,9 @@ use Rattle.std.specs.Ordering.{nat_cmp}
 use Rattle.std.specs.FinMap.{FinMap, get, retain_keys, len}
 use Rattle.pcf_values.specs.declared.val.Val.{Val}
 use Rattle.move_rules.specs.Places.{TokenTree}
-use Rattle.interleave_core.specs.OneWorker.{least_from}
-use Rattle.interleave_core.specs.Maps.{MapState}
-use Rattle.interleave_core.specs.Tickets.{IsLive}
+use Rattle.interleave_laws.specs.OneWorker.{least_from}
+use Rattle.interleave_laws.specs.Maps.{MapState}
+use Rattle.interleave_laws.specs.Tickets.{IsLive}
 use Rattle.token_pool.specs.declared.entries.Held.{Held}
 use Rattle.token_pool.specs.declared.entries.Told.{Told}
 use Rattle.token_pool.specs.declared.entries.Told.TheVariants.{Stopped, Token, Ended, Idle, Reserved}

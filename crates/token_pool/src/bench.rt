@@ -1,7 +1,7 @@
 //! The pool as the bench of several workers.
 ghost use Rattle.std.specs.Prelude.{◌≡◌, IfOk, OnOk, OnErr};
 ghost use Rattle.token_pool.specs.Benches.{MakesWalk, TurnFor, GivesTurn, TakesIn};
-ghost use Rattle.interleave_core.specs.Maps.{MapState};
+ghost use Rattle.interleave_laws.specs.Maps.{MapState};
 ghost use Rattle.token_pool.specs.declared.entries.Told.{Told};
 ghost use Rattle.token_pool.specs.Pieces.{Hands};
 ghost use Rattle.token_pool.specs.Booking.{halted};

@@ -1,9 +1,9 @@
 //! Moves of a held ticket that are booked.
 ghost use Rattle.std.specs.Prelude.{◌≡◌, ◌<◌, ◌≤◌, ◌+◌, replicate, length, IfOk, OnErr, IsOk, Some};
 ghost use Rattle.pcf_values.specs.Most.{most_budget};
-ghost use Rattle.interleave_core.specs.Runs.{Runs};
-ghost use Rattle.interleave_core.specs.Tickets.{IsLive};
-ghost use Rattle.interleave_core.specs.Maps.{run_map, IsReachedWithin};
+ghost use Rattle.interleave_laws.specs.Runs.{Runs};
+ghost use Rattle.interleave_laws.specs.Tickets.{IsLive};
+ghost use Rattle.interleave_laws.specs.Maps.{run_map, IsReachedWithin};
 ghost use Rattle.interleave_core.specs.Adopting.{Accepts};
 ghost use Rattle.schedule_log.specs.Logs.{with_entries};
 ghost use Rattle.token_pool.specs.Booking.{Moves, moves_of};

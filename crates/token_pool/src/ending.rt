@@ -1,8 +1,8 @@
 //! The end of a run, by least live ticket.
 ghost use Rattle.std.specs.Prelude.{◌≡◌, ◌≤◌, OnOk, length};
 ghost use Rattle.pcf_values.specs.Most.{most_budget};
-ghost use Rattle.interleave_core.specs.Maps.{LeadsToMap};
-ghost use Rattle.interleave_core.specs.Runs.{Runs};
+ghost use Rattle.interleave_laws.specs.Maps.{LeadsToMap};
+ghost use Rattle.interleave_laws.specs.Runs.{Runs};
 ghost use Rattle.schedule_log.specs.Logs.{tickets_in_log};
 ghost use Rattle.token_pool.specs.Ending.{finished};
 

@@ -1,7 +1,7 @@
 //! What a worker is handed.
 ghost use Rattle.std.specs.Prelude.{◌≡◌, IfOk, OnErr};
 ghost use Rattle.token_pool.specs.declared.entries.Held.{Held};
-ghost use Rattle.interleave_core.specs.Tickets.{IsLive};
+ghost use Rattle.interleave_laws.specs.Tickets.{IsLive};
 ghost use Rattle.token_pool.specs.Pieces.{TellsLive, IsPieceOf, Hands};
 ghost use Rattle.token_pool.specs.declared.entries.Told.TheVariants.{Token as TellsToken};
 

@@ -1,8 +1,8 @@
 //! The state that workers share.
 ghost use Rattle.std.specs.Prelude.{◌≡◌, ◌<◌, ◌≤◌, ◌↔◌, [], IfOk, OnErr, OnOk, IsErr, IsTrue, length};
-ghost use Rattle.interleave_core.specs.Runs.{Runs};
-ghost use Rattle.interleave_core.specs.Start.{start_of};
-ghost use Rattle.interleave_core.specs.Maps.{start_map};
+ghost use Rattle.interleave_laws.specs.Runs.{Runs};
+ghost use Rattle.interleave_laws.specs.Start.{start_of};
+ghost use Rattle.interleave_laws.specs.Maps.{start_map};
 ghost use Rattle.schedule_log.specs.Logs.{empty_log};
 ghost use Rattle.token_pool.specs.declared.entries.Held.{Held};
 ghost use Rattle.token_pool.specs.declared.entries.Told.TheVariants.{Token};

@@ -1,6 +1,6 @@
 //! What a worker is told that asks for work.
 ghost use Rattle.std.specs.Prelude.{◌≡◌, ◌<◌, ◌≤◌, ◌+◌, ℕ, None, set, vec_len};
-ghost use Rattle.interleave_core.specs.Tickets.{IsLive};
+ghost use Rattle.interleave_laws.specs.Tickets.{IsLive};
 ghost use Rattle.token_pool.specs.Pools.{allowances};
 ghost use Rattle.token_pool.specs.Turns.{least_free_of, allowance, offered, ends, next_lines, held_after};
 

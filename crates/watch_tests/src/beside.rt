@@ -1,7 +1,7 @@
 //! A reader beside workers who wait for it.
 
 ghost use Rattle.std.specs.Prelude.{◌≡◌};
-ghost use Rattle.interleave_core.specs.Runs.{Runs};
+ghost use Rattle.interleave_laws.specs.Runs.{Runs};
 ghost use Rattle.metered_pool.specs.Metered.{IsLevel, IsOf};
 
 use gate_workers::{Gate, drive};

@@ -1,5 +1,5 @@
 use Rattle.std.proofs.Common.{◌+◌, ◌≤◌}
-use Rattle.interleave_core.specs.Maps.{IsReachedWithin}
+use Rattle.interleave_laws.specs.Maps.{IsReachedWithin}
 use Rattle.core_tests.proofs.games.played.Given as goal
 
 abbrev pub invariant-loop-row : goal.invariant-loop-row

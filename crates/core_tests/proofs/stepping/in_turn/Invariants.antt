@@ -1,5 +1,5 @@
 use Rattle.std.proofs.Common.{◌-◌, ◌+◌}
-use Rattle.interleave_core.specs.Maps.{IsReachedWithin}
+use Rattle.interleave_laws.specs.Maps.{IsReachedWithin}
 use Rattle.core_tests.proofs.stepping.in_turn.Given as goal
 
 abbrev pub invariant-loop-moves : goal.invariant-loop-moves

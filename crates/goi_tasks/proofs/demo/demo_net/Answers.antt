@@ -1,6 +1,6 @@
 use Rattle.std.proofs.Common.{◌∙◌, sym, subst}
 use Rattle.net_build.specs.Nets.{NetTree}
-use Rattle.interleave_core.specs.Runs.{Runs}
+use Rattle.interleave_laws.specs.Runs.{Runs}
 use Rattle.goi_tasks.specs.declared.stop.Stop.{Stop}
 use Rattle.goi_tasks.specs.Programs.{number, FaultyText}
 use Rattle.goi_tasks.specs.Stops.{StopsFor}

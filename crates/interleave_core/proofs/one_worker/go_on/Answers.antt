@@ -1,6 +1,6 @@
 use Rattle.std.proofs.Common.{arith}
 use Rattle.interleave_core.specs.Parts.{state_of, state}
-use Rattle.interleave_core.proofs.Going.{able, fresh, room}
+use Rattle.interleave_laws.proofs.Going.{able, fresh, room}
 use Rattle.interleave_core.proofs.AloneRuns.{after_walk, goes_on}
 use Rattle.interleave_core.proofs.one_worker.go_on.Goals as goal
 

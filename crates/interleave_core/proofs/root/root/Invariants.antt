@@ -1,5 +1,5 @@
 use Rattle.std.specs.Prelude.{◌≡◌, drop}
-use Rattle.interleave_core.specs.Start.{root_wire}
+use Rattle.interleave_laws.specs.Start.{root_wire}
 use Rattle.interleave_core.proofs.root.root.Given as goal
 
 abbrev pub invariant-loop-node : goal.invariant-loop-node

@@ -1,6 +1,6 @@
 use Rattle.std.proofs.Common.{take}
 use Rattle.schedule_log.specs.Logs.{tickets_in_log}
-use Rattle.interleave_core.specs.Maps.{LeadsToMap}
+use Rattle.interleave_laws.specs.Maps.{LeadsToMap}
 use Rattle.replay_check.proofs.referee.make_moves.Given as goal
 
 abbrev pub invariant-loop-i : goal.invariant-loop-i

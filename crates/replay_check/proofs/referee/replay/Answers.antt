@@ -1,6 +1,6 @@
 use Rattle.std.proofs.Common.{subst}
 use Rattle.schedule_log.specs.Logs.{tickets_in_log}
-use Rattle.interleave_core.specs.Maps.{LeadsToMap}
+use Rattle.interleave_laws.specs.Maps.{LeadsToMap}
 use Rattle.replay_check.proofs.Making.{all_moved}
 use Rattle.replay_check.proofs.referee.replay.Goals as goal
 

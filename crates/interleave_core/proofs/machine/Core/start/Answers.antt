@@ -1,5 +1,5 @@
 use Rattle.std.proofs.Common.{sym, subst}
-use Rattle.interleave_core.specs.Start.{start_of}
+use Rattle.interleave_laws.specs.Start.{start_of}
 use Rattle.interleave_core.proofs.Counting.{Few, start_few}
 use Rattle.interleave_core.proofs.machine.Core.start.Goals as goal
 

@@ -2,9 +2,9 @@ use Rattle.std.proofs.Common.{sym, subst}
 use Rattle.std.specs.Option.{IsSome}
 use Rattle.std.specs.FinMap.{get}
 use Rattle.pcf_values.specs.Most.{most_budget}
-use Rattle.interleave_core.specs.Maps.{MapState, IsReachedWithin}
+use Rattle.interleave_laws.specs.Maps.{MapState, IsReachedWithin}
 use Rattle.interleave_core.specs.Parts.{state_of}
-use Rattle.interleave_core.proofs.Going.{able, fresh, room}
+use Rattle.interleave_laws.proofs.Going.{able, fresh, room}
 use Rattle.interleave_core.proofs.Counting.{kept_few}
 use Rattle.interleave_core.proofs.machine.Core.step.Goals as goal
 
