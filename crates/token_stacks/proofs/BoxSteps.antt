@@ -1,5 +1,6 @@
 -- Each step on the words of a box stack is the step on its signatures.
-use Rattle.std.proofs.Common.{◌≡◌, ℕ, ◌+◌, ◌-◌, ◌<◌, ◌≤◌, List, [], ◌∷◌, ◌++◌, length, get_or, set, take, drop, refl, sym, ◌∙◌, ap, subst, arith, length-append, Option, Some, None, Bool, eq-eqb}
+use Rattle.std.proofs.Common.{◌≡◌, ℕ, ◌+◌, ◌-◌, ◌<◌, ◌≤◌, List, [], ◌∷◌, ◌++◌, length, get_or, set, take, drop, refl, sym, ◌∙◌, ap, subst}
+use Rattle.std.proofs.Common.{arith, length-append, Option, Some, None, Bool, eq-eqb}
 use Rattle.std.proofs.lemmas.List.{append_assoc}
 use Rattle.std.specs.Option.{IsSome}
 use Rattle.std.specs.Prelude.{◌==◌, ◌↔◌, IsTrue}
@@ -9,7 +10,8 @@ use Rattle.token_stacks.specs.Words.{body, entry, box_words}
 use Rattle.token_stacks.specs.Reading.{boxes_of, boxes_of-words}
 use Rattle.token_stacks.specs.Parts.{Swaps}
 use Rattle.token_stacks.specs.Tops.{box_body, again_body, popped_box, popped_box_star, joined, parted}
-use Rattle.token_stacks.proofs.Ends.{stem, tag, body_ends, body_long, star_short, length_again, word_at, one_on, length_on, set_after, take_after, piece_at, length_both, Starts, body_starts}
+use Rattle.token_stacks.proofs.Ends.{stem, tag, body_ends, body_long, star_short, length_again, word_at, one_on, length_on, set_after}
+use Rattle.token_stacks.proofs.Ends.{take_after, piece_at, length_both, Starts, body_starts}
 
 pub box_stands : (t : List Sig) (ws : List ℕ) → ws ≡ box_words t → box_words (boxes_of ws) ≡ ws
 box_stands t ws e = ap (λ (z : List ℕ). box_words (boxes_of z)) e ∙ ap box_words (boxes_of-words t) ∙ sym e
@@ -48,7 +50,8 @@ long_box [] ws n e h p = absurd (let q : length ws ≡ 0 = ap length e in omega 
 pub empty_box : (t : List Sig) (ws : List ℕ) → ws ≡ box_words t → ws ≡ [] → t ≡ []
 empty_box [] ws e h = refl
 empty_box (s ∷ t) ws e h =
-    absurd (let q : length ws ≡ 0 = ap length h in let r : length ws ≡ length (box_words t) + length (entry s) = length_both (box_words t) (entry s) ws e in omega (arith, length-append (body s) (length (body s) ∷ [])))
+    absurd (let q : length ws ≡ 0 = ap length h in let r : length ws ≡ length (box_words t) + length (entry s) = length_both (box_words t)
+    (entry s) ws e in omega (arith, length-append (body s) (length (body s) ∷ [])))
 
 pub empty_words : (t : List Sig) (ws : List ℕ) → ws ≡ box_words t → t ≡ [] → ws ≡ []
 empty_words t ws e h = e ∙ ap box_words h
@@ -58,9 +61,14 @@ entry_words s t ws e = e ∙ sym (append_assoc (box_words t) (body s) (length (b
 
 pub entry_length : (s : Sig) (t : List Sig) (ws : List ℕ) → ws ≡ box_words (s ∷ t) → length ws ≡ length (box_words t) + length (body s) + 1
 entry_length s t ws e =
-    omega (arith, length_both (box_words t ++ body s) (length (body s) ∷ []) ws (entry_words s t ws e), length-append (box_words t) (body s))
+    omega (
+      arith,
+      length_both (box_words t ++ body s) (length (body s) ∷ []) ws (entry_words s t ws e),
+      length-append (box_words t) (body s),
+    )
 
-size_b : (s : Sig) (t : List Sig) (ws : List ℕ) (n k : ℕ) → ws ≡ box_words (s ∷ t) → n ≡ length ws → k ≡ get_or ws (n - 1) k → k ≡ length (body s)
+size_b : (s : Sig) (t : List Sig) (ws : List ℕ) (n k : ℕ) → ws ≡ box_words (s ∷ t) → n ≡ length ws → k ≡ get_or ws (n - 1) k
+    → k ≡ length (body s)
 size_b s t ws n k e h r =
     word_at (box_words t ++ body s) (length (body s)) [] ws (n - 1) k (entry_words s t ws e)
     (omega (arith, entry_length s t ws e, length-append (box_words t) (body s))) r
@@ -73,11 +81,15 @@ tag_b s t ws n a e h r =
     ∙ sym (append_assoc (box_words t) (stem s) (tag s ∷ length (body s) ∷ [])))
     (omega (arith, entry_length s t ws e, length-append (box_words t) (stem s), body_long s)) r
 
-pub box_fits : (t : List Sig) (ws : List ℕ) (n k : ℕ) → ws ≡ box_words t → BoxTop t → n ≡ length ws → k ≡ get_or ws (n - 1) k → (k ≤ n - 1) × (1 ≤ k) × (2 ≤ n)
+pub box_fits : (t : List Sig) (ws : List ℕ) (n k : ℕ) → ws ≡ box_words t → BoxTop t → n ≡ length ws → k ≡ get_or ws (n - 1) k
+    → (k ≤ n - 1) × (1 ≤ k) × (2 ≤ n)
 box_fits t ws n k e T h q =
     let e' : ws ≡ box_words (T.sig ∷ T.rest) = e ∙ ap box_words T.is in
-    let size : k ≡ length (body T.sig) = size_b T.sig T.rest ws n k e' h q in
-    (omega (arith, entry_length T.sig T.rest ws e'), omega (arith, body_long T.sig), omega (arith, entry_length T.sig T.rest ws e', body_long T.sig))
+    let size : k ≡ length (body T.sig) = size_b T.sig T.rest ws n k e' h q in (
+      omega (arith, entry_length T.sig T.rest ws e'),
+      omega (arith, body_long T.sig),
+      omega (arith, entry_length T.sig T.rest ws e', body_long T.sig),
+    )
 
 pub box_top_is : (t : List Sig) (ws : List ℕ) (n k : ℕ) → ws ≡ box_words t → BoxTop t → n ≡ length ws → k ≡ get_or ws (n - 1) k
     → Some (take (n - 1 - (n - 1 - k)) (drop (n - 1 - k) ws)) ≡ box_body t
@@ -87,12 +99,13 @@ box_top_is t ws n k e T h q =
     ap (λ (z : List ℕ). Some z) (piece_at (box_words T.rest) (body T.sig) (length (body T.sig) ∷ []) ws (n - 1 - k) (n - 1 - (n - 1 - k)) e'
     (omega (arith, entry_length T.sig T.rest ws e')) (omega (arith, entry_length T.sig T.rest ws e'))) ∙ ap box_body (sym T.is)
 
-pub box_pushes : (s : Sig) (b : List ℕ) (t : List Sig) (ws vs : List ℕ) → b ≡ body s → ws ≡ box_words t → vs ≡ ws ++ (b ++ length b ∷ []) → vs ≡ box_words (s ∷ t)
+pub box_pushes : (s : Sig) (b : List ℕ) (t : List Sig) (ws vs : List ℕ) → b ≡ body s → ws ≡ box_words t → vs ≡ ws ++ (b ++ length b ∷ [])
+    → vs ≡ box_words (s ∷ t)
 box_pushes s b t ws vs f e v =
     v ∙ ap (λ (z : List ℕ). z ++ (b ++ length b ∷ [])) e ∙ ap (λ (z : List ℕ). box_words t ++ (z ++ length z ∷ [])) f
 
-pub pops_box : (t : List Sig) (ws vs : List ℕ) (n k : ℕ) → ws ≡ box_words t → BoxTop t → n ≡ length ws
-    → k ≡ get_or ws (n - 1) k → vs ≡ take (n - 1 - k) ws → BoxTurns (popped_box t) vs
+pub pops_box : (t : List Sig) (ws vs : List ℕ) (n k : ℕ) → (held : ws ≡ box_words t) → (T : BoxTop t) → (long : n ≡ length ws)
+    → (sized : k ≡ get_or ws (n - 1) k) → (cut : vs ≡ take (n - 1 - k) ws) → BoxTurns (popped_box t) vs
 pops_box t ws vs n k e T h q v =
     let e' : ws ≡ box_words (T.sig ∷ T.rest) = e ∙ ap box_words T.is in
     let size : k ≡ length (body T.sig) = size_b T.sig T.rest ws n k e' h q in
@@ -102,8 +115,9 @@ pops_box t ws vs n k e T h q v =
       words = v ∙ take_after (box_words T.rest) (entry T.sig) ws (n - 1 - k) e' (omega (arith, entry_length T.sig T.rest ws e'));
     }
 
-pub pops_box_star : (t : List Sig) (ws vs : List ℕ) (n k : ℕ) → ws ≡ box_words t → BoxTop t → n ≡ length ws
-    → k ≡ get_or ws (n - 1) k → k ≡ 1 → vs ≡ take (n - 2) ws → BoxTurns (popped_box_star t) vs
+-- a signature whose body has one word is a `*`, and what is left lies before both of its words
+pub pops_box_star : (t : List Sig) (ws vs : List ℕ) (n k : ℕ) → (held : ws ≡ box_words t) → (T : BoxTop t) → (long : n ≡ length ws)
+    → (sized : k ≡ get_or ws (n - 1) k) → (one : k ≡ 1) → (cut : vs ≡ take (n - 2) ws) → BoxTurns (popped_box_star t) vs
 pops_box_star t ws vs n k e T h q u v =
     let e' : ws ≡ box_words (T.sig ∷ T.rest) = e ∙ ap box_words T.is in
     let size : k ≡ length (body T.sig) = size_b T.sig T.rest ws n k e' h q in
@@ -122,14 +136,10 @@ entry_made r s b j e h =
 
 -- The second part of a `y` comes from another stack: it lies above the size of the first part, and the two change places. Then its
 -- own size goes where the first part's was brought to, and the size of the whole to the end.
-pub joins : (s : Sig) (b : List ℕ) (t : List Sig) (ws us xs vs : List ℕ) (n k l : ℕ)
-    → (of_s : b ≡ body s) → (held : ws ≡ box_words t) → (T : BoxTop t) → (long : n ≡ length ws)
-    → (sized : k ≡ get_or ws (n - 1) k)
-    → (added : us ≡ ws ++ (b ++ 4 ∷ 0 ∷ []))
-    → (longer : l ≡ length us)
-    → (brought : Swaps us xs (n - 1) n (n + length b))
-    → (sizes : vs ≡ set (set xs (l - 3) (length b)) (l - 1) (l - (n - k)))
-    → BoxTurns (joined s t) vs
+pub joins : (s : Sig) (b : List ℕ) (t : List Sig) (ws us xs vs : List ℕ) (n k l : ℕ) → (of_s : b ≡ body s) → (held : ws ≡ box_words t)
+    → (T : BoxTop t) → (long : n ≡ length ws) → (sized : k ≡ get_or ws (n - 1) k) → (added : us ≡ ws ++ (b ++ 4 ∷ 0 ∷ []))
+    → (longer : l ≡ length us) → (brought : Swaps us xs (n - 1) n (n + length b))
+    → (sizes : vs ≡ set (set xs (l - 3) (length b)) (l - 1) (l - (n - k))) → BoxTurns (joined s t) vs
 joins s b t ws us xs vs n k l of_s held T long sized added longer brought sizes =
     let x : Sig = T.sig in
     let r : List Sig = T.rest in
@@ -181,7 +191,8 @@ again_tagged (right_of s) r h = absurd (omega arith)
 again_tagged (pair_of s u) r h = absurd (omega arith)
 again_tagged (again s u) r h = record { first = s; second = u; rest = r; is = refl }
 
-pub again_top : (t : List Sig) (ws : List ℕ) (n a : ℕ) → ws ≡ box_words t → n ≡ length ws → 2 ≤ n → a ≡ get_or ws (n - 2) a → a ≡ 4 → AgainTop t
+pub again_top : (t : List Sig) (ws : List ℕ) (n a : ℕ) → (held : ws ≡ box_words t) → (long : n ≡ length ws) → (enough : 2 ≤ n)
+    → (read : a ≡ get_or ws (n - 2) a) → (found : a ≡ 4) → AgainTop t
 again_top t ws n a e h p q u =
     let T : BoxTop t = long_box t ws n e h (omega arith) in
     let e' : ws ≡ box_words (T.sig ∷ T.rest) = e ∙ ap box_words T.is in
@@ -196,7 +207,8 @@ some_again (right_of s ∷ t) h = cc
 some_again (pair_of s u ∷ t) h = cc
 some_again [] h = cc
 
-pub no_again : (t : List Sig) (ws : List ℕ) (n a : ℕ) → ws ≡ box_words t → n ≡ length ws → a ≡ get_or ws (n - 2) a → (a ≡ 4 → ⊥) → None ≡ again_body t
+pub no_again : (t : List Sig) (ws : List ℕ) (n a : ℕ) → ws ≡ box_words t → n ≡ length ws → a ≡ get_or ws (n - 2) a → (a ≡ 4 → ⊥)
+    → None ≡ again_body t
 no_again [] ws n a e h r p = refl
 no_again (star ∷ t) ws n a e h r p = refl
 no_again (left_of s ∷ t) ws n a e h r p = refl
@@ -213,6 +225,7 @@ pub record AgainWords (u s : Sig) (r : List Sig) (ws : List ℕ) (n j : ℕ) : T
   pub second : j ≡ length (body s)
   pub whole : n ≡ length (box_words r) + length (body u) + length (body s) + 3
 
+-- the words of a stack with a `y` on top, part by part
 pub again_words : (t : List Sig) (ws : List ℕ) (n j : ℕ) → ws ≡ box_words t → (T : AgainTop t) → n ≡ length ws
     → j ≡ get_or ws (n - 3) j → AgainWords T.first T.second T.rest ws n j
 again_words t ws n j e T h p =
@@ -227,12 +240,14 @@ again_words t ws n j e T h p =
     ∙ ap (λ (z : List ℕ). body u ++ z) (append_assoc (body s) (length (body s) ∷ 4 ∷ []) (length (body (again u s)) ∷ [])))
     ∙ sym (append_assoc (box_words r) (body u) (body s ++ length (body s) ∷ 4 ∷ length (body (again u s)) ∷ [])) in
     let F : List ℕ = (box_words r ++ body u) ++ body s in
-    let lF : length F ≡ length (box_words r) + length (body u) + length (body s) = omega (arith, length-append (box_words r ++ body u) (body s), length-append (box_words r) (body u)) in
+    let lF : length F ≡ length (box_words r) + length (body u) + length (body s) =
+    omega (arith, length-append (box_words r ++ body u) (body s), length-append (box_words r) (body u)) in
     record {
       words = open_is;
       second =
           word_at F (length (body s)) (4 ∷ length (body (again u s)) ∷ []) ws (n - 3) j
-          (open_is ∙ sym (append_assoc (box_words r ++ body u) (body s) (length (body s) ∷ 4 ∷ length (body (again u s)) ∷ []))) (omega arith) p;
+          (open_is ∙ sym (append_assoc (box_words r ++ body u) (body s) (length (body s) ∷ 4 ∷ length (body (again u s)) ∷ [])))
+          (omega arith) p;
       whole = omega arith;
     }
 
@@ -252,12 +267,15 @@ again_body_is t ws n j T w =
     let two : j ≡ length (body T.second) = w.second in
     let all : n ≡ length (box_words T.rest) + length (body T.first) + length (body T.second) + 3 = w.whole in
     ap (λ (z : List ℕ). Some z)
-    (piece_at (box_words T.rest ++ body T.first) (body T.second) (length (body T.second) ∷ 4 ∷ length (body (again T.first T.second)) ∷ []) ws (n - 3 - j) (n - 3 - (n - 3 - j)) w.words
+    (piece_at (box_words T.rest ++ body T.first) (body T.second) (length (body T.second) ∷ 4 ∷ length (body (again T.first T.second)) ∷ [])
+    ws (n - 3 - j) (n - 3 - (n - 3 - j)) w.words
     (omega (arith, length-append (box_words T.rest) (body T.first))) (omega arith))
     ∙ ap again_body (sym T.is)
 
-pub parts : (t : List Sig) (ws vs : List ℕ) (n k j : ℕ) → ws ≡ box_words t → (T : AgainTop t) → AgainWords T.first T.second T.rest ws n j → n ≡ length ws
-    → k ≡ get_or ws (n - 1) k → vs ≡ take (n - 3 - j + 1) (set ws (n - 3 - j) (k - 2 - j)) → BoxTurns (parted t) vs
+-- the second part of a `y` goes, and the size of the first is written over the first word of the second
+pub parts : (t : List Sig) (ws vs : List ℕ) (n k j : ℕ) → (held : ws ≡ box_words t) → (T : AgainTop t)
+    → (lie : AgainWords T.first T.second T.rest ws n j) → (long : n ≡ length ws) → (sized : k ≡ get_or ws (n - 1) k)
+    → (cut : vs ≡ take (n - 3 - j + 1) (set ws (n - 3 - j) (k - 2 - j))) → BoxTurns (parted t) vs
 parts t ws vs n k j e T w h q v =
     let u : Sig = T.first in
     let s : Sig = T.second in
@@ -273,7 +291,8 @@ parts t ws vs n k j e T w h q v =
     let y : ℕ = k - 2 - j in
     let b : Starts (body s) = body_starts s in
     let g : List ℕ = b.others ++ length (body s) ∷ 4 ∷ length (body (again u s)) ∷ [] in
-    let ws' : ws ≡ A ++ b.first ∷ g = w.words ∙ ap (λ (z : List ℕ). A ++ (z ++ length (body s) ∷ 4 ∷ length (body (again u s)) ∷ [])) b.is in
+    let ws' : ws ≡ A ++ b.first ∷ g =
+    w.words ∙ ap (λ (z : List ℕ). A ++ (z ++ length (body s) ∷ 4 ∷ length (body (again u s)) ∷ [])) b.is in
     let one : set ws at y ≡ (A ++ y ∷ []) ++ g = set_after A b.first g ws at y ws' (omega arith) ∙ one_on A y g in
     record {
       left = u ∷ r;

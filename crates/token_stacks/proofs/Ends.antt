@@ -33,18 +33,35 @@ body_ends (again s u) =
 pub body_long : (s : Sig) → length (body s) ≡ length (stem s) + 1
 body_long s = ap length (body_ends s) ∙ length-append (stem s) (tag s ∷ [])
 
+-- only `*` has a body of one word: each other body has the words of a part in it
 pub star_short : (s : Sig) → length (body s) ≡ 1 → s ≡ star
 star_short star h = refl
 star_short (left_of s) h = absurd (omega (arith, length-append (body s) (1 ∷ []), body_long s))
 star_short (right_of s) h = absurd (omega (arith, length-append (body s) (2 ∷ []), body_long s))
-star_short (pair_of s u) h = absurd (omega (arith, length-append (body s) (body u ++ length (body u) ∷ 3 ∷ []), body_long s, length-append (body u) (length (body u) ∷ 3 ∷ []), body_long u))
-star_short (again s u) h = absurd (omega (arith, length-append (body s) (body u ++ length (body u) ∷ 4 ∷ []), body_long s, length-append (body u) (length (body u) ∷ 4 ∷ []), body_long u))
+star_short (pair_of s u) h =
+    absurd (omega (
+      arith,
+      length-append (body s) (body u ++ length (body u) ∷ 3 ∷ []),
+      body_long s,
+      length-append (body u) (length (body u) ∷ 3 ∷ []),
+      body_long u,
+    ))
+star_short (again s u) h =
+    absurd (omega (
+      arith,
+      length-append (body s) (body u ++ length (body u) ∷ 4 ∷ []),
+      body_long s,
+      length-append (body u) (length (body u) ∷ 4 ∷ []),
+      body_long u,
+    ))
 
 pub length_pair : (s u : Sig) → length (body (pair_of s u)) ≡ length (body s) + length (body u) + 2
-length_pair s u = omega (arith, length-append (body s) (body u ++ length (body u) ∷ 3 ∷ []), length-append (body u) (length (body u) ∷ 3 ∷ []))
+length_pair s u = omega
+    (arith, length-append (body s) (body u ++ length (body u) ∷ 3 ∷ []), length-append (body u) (length (body u) ∷ 3 ∷ []))
 
 pub length_again : (s u : Sig) → length (body (again s u)) ≡ length (body s) + length (body u) + 2
-length_again s u = omega (arith, length-append (body s) (body u ++ length (body u) ∷ 4 ∷ []), length-append (body u) (length (body u) ∷ 4 ∷ []))
+length_again s u = omega
+    (arith, length-append (body s) (body u ++ length (body u) ∷ 4 ∷ []), length-append (body u) (length (body u) ∷ 4 ∷ []))
 
 -- a word that is read after f
 pub word_at : (f : List ℕ) (x : ℕ) (g ws : List ℕ) (i a : ℕ) → ws ≡ f ++ x ∷ g → i ≡ length f → a ≡ get_or ws i a → a ≡ x

@@ -1,5 +1,10 @@
-pub mod BoxSteps
+-- What words end in, and what a read, a write and a cut at their end find.
 pub mod Ends
+-- A piece that is copied down to an earlier place changes places with what lay between.
 pub mod Parts
-pub mod WordLaws
+-- Each call on the work stack: its words afterwards are those of the row's stack, or its tests say that the row wants another shape.
 pub mod WorkSteps
+-- The same of the box stack.
+pub mod BoxSteps
+-- Words tell stacks apart, and so does their order: what the two laws cite.
+pub mod WordLaws

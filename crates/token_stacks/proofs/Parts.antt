@@ -9,7 +9,8 @@ use Rattle.token_stacks.proofs.Ends.{take_after, drop_after, piece_at, length_bo
 pub brought : (ws us xs r p : List ℕ) (n from middle : ℕ)
     → us ≡ (take (from + length p) ws ++ take (middle - from) (drop from ws)) ++ drop (from + length p + (middle - from)) ws
     → xs ≡ us → n ≡ length us → r ≡ p → take (length p) (drop middle ws) ≡ p
-    → Swaps ws (take n ((take from xs ++ (r ++ post_of from (from + length p - from) xs)) ++ drop (length (take from xs ++ (r ++ post_of from (from + length p - from) xs))) us)) from middle (middle + length p)
+    → Swaps ws (take n ((take from xs ++ (r ++ post_of from (from + length p - from) xs)) ++ drop
+    (length (take from xs ++ (r ++ post_of from (from + length p - from) xs))) us)) from middle (middle + length p)
 brought ws us xs r p n from middle h x ln y st = record {
   parts = λ a b c d e ha hb hc.
       let k : ℕ = length p in
@@ -44,7 +45,13 @@ brought ws us xs r p n from middle h x ln y st = record {
       ∙ ap (λ (z : List ℕ). a ++ (z ++ post_of from (from + k - from) xs)) (y ∙ sym c_is)
       ∙ ap (λ (z : List ℕ). a ++ (c ++ z)) rest in
       let long : length (a ++ (c ++ (b ++ d))) ≡ n =
-      omega (arith, length-append a (c ++ (b ++ d)), length-append c (b ++ d), length_both a (G ++ (b ++ d)) us opened, length-append G (b ++ d)) in
+      omega (
+        arith,
+        length-append a (c ++ (b ++ d)),
+        length-append c (b ++ d),
+        length_both a (G ++ (b ++ d)) us opened,
+        length-append G (b ++ d),
+      ) in
       ap (λ (z : List ℕ). take n (z ++ drop (length z) us)) whole
       ∙ take_at (a ++ (c ++ (b ++ d))) (drop (length (a ++ (c ++ (b ++ d)))) us) n long;
 }

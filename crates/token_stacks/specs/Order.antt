@@ -24,4 +24,5 @@ box_cmp-total = on_total box_words nat_list_cmp_total
 -- only equal box stacks tie
 pub box_cmp-same : IsAntisymmetric box_cmp
 box_cmp-same a b e =
-    sym (boxes_of-words a) ∙ ap boxes_of (slice_cmp-IsAntisymmetric nat_cmp-IsAntisymmetric (box_words a) (box_words b) e) ∙ boxes_of-words b
+    sym (boxes_of-words a) ∙ ap boxes_of (slice_cmp-IsAntisymmetric nat_cmp-IsAntisymmetric (box_words a) (box_words b) e)
+    ∙ boxes_of-words b

@@ -32,7 +32,8 @@ skips w = cond (w == 3) true (w == 4)
 abbrev needs : ℕ → ℕ → ℕ
 needs w p = cond (w == 0) p (cond (skips w) (suc (suc p)) (suc p))
 
--- the words from the top, with a length to be skipped first, and with how many signatures to be read before the next symbol; an entry of a box stack begins with a length
+-- the words from the top, with a length to be skipped first, and with how many signatures to be read before the next symbol; an entry of
+-- a box stack begins with a length
 read : Bool → List ℕ → Bool → ℕ → List Sym
 read boxes [] skip p = []
 read boxes (w ∷ ws) true p = read boxes ws false p
@@ -55,14 +56,17 @@ pub boxes_of : List ℕ → Boxes
 unfolding read
 boxes_of ws = signatures (read true (reverse ws) false 0)
 
-reverse_three : (a b : List ℕ) (x y : ℕ) (rest : List ℕ) → reverse (a ++ (b ++ x ∷ y ∷ [])) ++ rest ≡ y ∷ x ∷ (reverse b ++ (reverse a ++ rest))
+reverse_three : (a b : List ℕ) (x y : ℕ) (rest : List ℕ)
+    → reverse (a ++ (b ++ x ∷ y ∷ [])) ++ rest ≡ y ∷ x ∷ (reverse b ++ (reverse a ++ rest))
 reverse_three a b x y rest =
-    ap (λ (z : List ℕ). z ++ rest) (reverse-append a (b ++ x ∷ y ∷ []) ∙ ap (λ (z : List ℕ). z ++ reverse a) (reverse-append b (x ∷ y ∷ [])))
+    ap (λ (z : List ℕ). z ++ rest)
+    (reverse-append a (b ++ x ∷ y ∷ []) ∙ ap (λ (z : List ℕ). z ++ reverse a) (reverse-append b (x ∷ y ∷ [])))
     ∙ append_assoc (y ∷ x ∷ reverse b) (reverse a) rest
 
 reverse_one : (a : List ℕ) (x : ℕ) (rest : List ℕ) → reverse (a ++ x ∷ []) ++ rest ≡ x ∷ (reverse a ++ rest)
 reverse_one a x rest = ap (λ (z : List ℕ). z ++ rest) (reverse-append a (x ∷ []))
 
+-- the words of a body, read from its end, are its signature
 read_body : (k : Bool) (s : Sig) (rest : List ℕ) (p : ℕ) → read k (reverse (body s) ++ rest) false (suc p) ≡ S s ∷ read k rest false p
 unfolding read
 read_body k star rest p = refl
@@ -77,6 +81,7 @@ read_body k (again s u) rest p =
     ap (λ (z : List ℕ). read k z false (suc p)) (reverse_three (body s) (body u) (length (body u)) 4 rest)
     ∙ ap (on_two again) (read_body k u (reverse (body s) ++ rest) (suc p) ∙ ap (λ (z : List Sym). S u ∷ z) (read_body k s rest p))
 
+-- the words of a work stack are read as that work stack
 pub work_of-words : (m : Work) → work_of (work_words m) ≡ m
 unfolding work_of read
 work_of-words [] = refl
@@ -85,7 +90,8 @@ work_of-words (R ∷ m) =
 work_of-words (L ∷ m) =
     ap (λ (z : List ℕ). read false z false 0) (reverse-append (work_words m) (6 ∷ [])) ∙ ap (λ (z : List Sym). L ∷ z) (work_of-words m)
 work_of-words (S s ∷ m) =
-    ap (λ (z : List ℕ). read false z false 0) (sym (append-nil (reverse (work_words (S s ∷ m)))) ∙ reverse_three (work_words m) (body s) (length (body s)) 7 [])
+    ap (λ (z : List ℕ). read false z false 0)
+    (sym (append-nil (reverse (work_words (S s ∷ m)))) ∙ reverse_three (work_words m) (body s) (length (body s)) 7 [])
     ∙ read_body false s (reverse (work_words m) ++ []) 0
     ∙ ap (λ (z : List ℕ). S s ∷ read false z false 0) (append-nil (reverse (work_words m)))
     ∙ ap (λ (z : List Sym). S s ∷ z) (work_of-words m)
@@ -95,7 +101,8 @@ unfolding read
 read_boxes [] = refl
 read_boxes (s ∷ t) =
     ap (λ (z : List ℕ). signatures (read true z false 0))
-    (reverse-append (box_words t) (entry s) ∙ ap (λ (z : List ℕ). z ++ reverse (box_words t)) (reverse-append (body s) (length (body s) ∷ [])))
+    (reverse-append (box_words t) (entry s)
+    ∙ ap (λ (z : List ℕ). z ++ reverse (box_words t)) (reverse-append (body s) (length (body s) ∷ [])))
     ∙ ap signatures (read_body true s (reverse (box_words t)) 0)
     ∙ ap (λ (z : List Sig). s ∷ z) (read_boxes t)
 

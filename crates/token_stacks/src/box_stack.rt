@@ -12,7 +12,7 @@ use std::marker::Model;
 
 /// A list of signatures, one for each box that is open around a token, the innermost first.
 ///
-/// Two are equal, or tie, exactly where they are the same list, by `law_boxes_in_order`.
+/// Two are equal, or tie, exactly when they are the same list, by `law_boxes_in_order`.
 #[derive(Drop)]
 pub struct BoxStack {
     words: Vec<u64>,
@@ -92,6 +92,10 @@ impl Ord for BoxStack {
 
 impl BoxStack {
     /// An equal box stack, in memory of its own.
+    ///
+    /// # Errors
+    ///
+    /// Only where memory runs out.
     pub fn copy(&self) -> Result<BoxStack, AllocError>
         ensures { IfOk result (λ t. t ≡ self.now) }
     {

@@ -6,7 +6,7 @@ pub fn law_words_tell()
     ensures { WordsTell }
 {}
 
-/// Box stacks are in a total order, and are equal in it exactly where they are the same list of signatures.
+/// Box stacks are in a total order, and are equal in it exactly when they are the same list of signatures.
 pub fn law_boxes_in_order()
     ensures { BoxesInOrder }
 {}

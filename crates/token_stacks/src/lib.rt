@@ -2,7 +2,7 @@
 //! `Stacks` is both together, and `BoxStack` the second alone, in a lawful order, as a key of maps.
 //!
 //! Contracts see lists of symbols and of signatures, which are trees; the code keeps flat words. Each call is one row of a
-//! table: it makes exactly that change at the top, and where the stacks lack the shape, or memory is wanting, they stay as they were.
+//! table: it makes exactly that change at the top, and where the stacks lack the shape, or memory runs out, they stay as they were.
 //! A call costs what moves, never what lies below, and nothing recurses, be it a call, a copy, a comparison or a drop.
 //!
 //! Which call a token makes at which node is left to those who walk.

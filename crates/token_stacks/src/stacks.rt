@@ -2,7 +2,9 @@
 ghost use Rattle.std.specs.Prelude.{◌≡◌, ◌↔◌, [], ◌∷◌, OnOk, OnErr, IfOk, IsTrue};
 ghost use Rattle.token_stacks.specs.Signatures.{R, L, S, star, load};
 ghost use Rattle.token_stacks.specs.Words.{work_words, box_words};
-ghost use Rattle.token_stacks.specs.Rows.{Follows, r_popped, l_popped, star_popped, into_argument, out_of_argument, left_wrapped, right_wrapped, left_unwrapped, right_unwrapped, into_box, out_of_box, out_of_door, into_door, out_of_fix, into_again, out_of_again};
+ghost use Rattle.token_stacks.specs.Rows.{Follows, r_popped, l_popped, star_popped, into_argument, out_of_argument, left_wrapped};
+ghost use Rattle.token_stacks.specs.Rows.{right_wrapped, left_unwrapped, right_unwrapped, into_box, out_of_box, out_of_door, into_door};
+ghost use Rattle.token_stacks.specs.Rows.{out_of_fix, into_again, out_of_again};
 
 use crate::BoxStack;
 use crate::words::{LEFT, RIGHT, STAR, SYMBOL_L, SYMBOL_R};
@@ -12,8 +14,8 @@ use std::marker::Model;
 
 /// The work stack and the box stack of a token, each with its top first.
 ///
-/// In the rows below `m` is the rest of the work stack, `t` that of the box stack, and `s` and `u` are signatures. A call that answers
-/// `false` found another shape, and one that answers want of memory got none; both leave the stacks as they were.
+/// In the rows below `m` is the rest of the work stack, `t` that of the box stack, and `s` and `u` are signatures. A call answers
+/// `false` exactly when it finds another shape; then the stacks stay as they were.
 #[derive(Drop)]
 pub struct Stacks {
     work: WorkStack,
@@ -43,6 +45,10 @@ impl Stacks {
     }
 
     /// Equal stacks, in memory of their own.
+    ///
+    /// # Errors
+    ///
+    /// Only where memory runs out.
     pub fn copy(&self) -> Result<Stacks, AllocError>
         ensures { IfOk result (λ a. a ≡ self.now) }
     {
@@ -90,6 +96,10 @@ impl Stacks {
     }
 
     /// `m` becomes `R.m`.
+    ///
+    /// # Errors
+    ///
+    /// Only where memory runs out; then the stacks stay.
     pub fn push_r(&mut self) -> Result<(), AllocError>
         ensures ok { OnOk result (self.new ≡ load (R ∷ self.old.work) self.old.boxes) }
         ensures err { OnErr result (self.new ≡ self.old) }
@@ -98,6 +108,10 @@ impl Stacks {
     }
 
     /// `m` becomes `L.m`.
+    ///
+    /// # Errors
+    ///
+    /// Only where memory runs out; then the stacks stay.
     pub fn push_l(&mut self) -> Result<(), AllocError>
         ensures ok { OnOk result (self.new ≡ load (L ∷ self.old.work) self.old.boxes) }
         ensures err { OnErr result (self.new ≡ self.old) }
@@ -106,6 +120,10 @@ impl Stacks {
     }
 
     /// `m` becomes `*.m`.
+    ///
+    /// # Errors
+    ///
+    /// Only where memory runs out; then the stacks stay.
     pub fn push_star(&mut self) -> Result<(), AllocError>
         ensures ok { OnOk result (self.new ≡ load (S star ∷ self.old.work) self.old.boxes) }
         ensures err { OnErr result (self.new ≡ self.old) }
@@ -136,6 +154,10 @@ impl Stacks {
     }
 
     /// `s.m` becomes `L.s.m`: from an argument to its function.
+    ///
+    /// # Errors
+    ///
+    /// Only where memory runs out; then the stacks stay.
     pub fn argument_out(&mut self) -> Result<bool, AllocError>
         ensures ok { IfOk result (λ made. Follows out_of_argument self.old made self.new) }
         ensures err { OnErr result (self.new ≡ self.old) }
@@ -151,6 +173,10 @@ impl Stacks {
     }
 
     /// `s.m` becomes `l s.m`.
+    ///
+    /// # Errors
+    ///
+    /// Only where memory runs out; then the stacks stay.
     pub fn wrap_left(&mut self) -> Result<bool, AllocError>
         ensures ok { IfOk result (λ made. Follows left_wrapped self.old made self.new) }
         ensures err { OnErr result (self.new ≡ self.old) }
@@ -159,6 +185,10 @@ impl Stacks {
     }
 
     /// `s.m` becomes `r s.m`.
+    ///
+    /// # Errors
+    ///
+    /// Only where memory runs out; then the stacks stay.
     pub fn wrap_right(&mut self) -> Result<bool, AllocError>
         ensures ok { IfOk result (λ made. Follows right_wrapped self.old made self.new) }
         ensures err { OnErr result (self.new ≡ self.old) }
@@ -181,6 +211,10 @@ impl Stacks {
     }
 
     /// `s.m` at `t` becomes `m` at `s.t`.
+    ///
+    /// # Errors
+    ///
+    /// Only where memory runs out; then the stacks stay.
     pub fn box_in(&mut self) -> Result<bool, AllocError>
         ensures ok { IfOk result (λ made. Follows into_box self.old made self.new) }
         ensures err { OnErr result (self.new ≡ self.old) }
@@ -194,6 +228,10 @@ impl Stacks {
     }
 
     /// `m` at `s.t` becomes `s.m` at `t`.
+    ///
+    /// # Errors
+    ///
+    /// Only where memory runs out; then the stacks stay.
     pub fn box_out(&mut self) -> Result<bool, AllocError>
         ensures ok { IfOk result (λ made. Follows out_of_box self.old made self.new) }
         ensures err { OnErr result (self.new ≡ self.old) }
@@ -207,6 +245,10 @@ impl Stacks {
     }
 
     /// `u.m` at `s.t` becomes `<s,u>.m` at `t`.
+    ///
+    /// # Errors
+    ///
+    /// Only where memory runs out; then the stacks stay.
     pub fn door_out(&mut self) -> Result<bool, AllocError>
         ensures ok { IfOk result (λ made. Follows out_of_door self.old made self.new) }
         ensures err { OnErr result (self.new ≡ self.old) }
@@ -223,6 +265,10 @@ impl Stacks {
     }
 
     /// `<s,u>.m` at `t` becomes `u.m` at `s.t`.
+    ///
+    /// # Errors
+    ///
+    /// Only where memory runs out; then the stacks stay.
     pub fn door_in(&mut self) -> Result<bool, AllocError>
         ensures ok { IfOk result (λ made. Follows into_door self.old made self.new) }
         ensures err { OnErr result (self.new ≡ self.old) }
@@ -236,6 +282,10 @@ impl Stacks {
     }
 
     /// `m` at `t` becomes `m` at `*.t`.
+    ///
+    /// # Errors
+    ///
+    /// Only where memory runs out; then the stacks stay.
     pub fn fix_in(&mut self) -> Result<(), AllocError>
         ensures ok { OnOk result (self.new ≡ load self.old.work (star ∷ self.old.boxes)) }
         ensures err { OnErr result (self.new ≡ self.old) }
@@ -252,6 +302,10 @@ impl Stacks {
     }
 
     /// `s.m` at `u.t` becomes `m` at `y(u,s).t`.
+    ///
+    /// # Errors
+    ///
+    /// Only where memory runs out; then the stacks stay.
     pub fn again_in(&mut self) -> Result<bool, AllocError>
         ensures ok { IfOk result (λ made. Follows into_again self.old made self.new) }
         ensures err { OnErr result (self.new ≡ self.old) }
@@ -268,6 +322,10 @@ impl Stacks {
     }
 
     /// `m` at `y(u,s).t` becomes `s.m` at `u.t`.
+    ///
+    /// # Errors
+    ///
+    /// Only where memory runs out; then the stacks stay.
     pub fn again_out(&mut self) -> Result<bool, AllocError>
         ensures ok { IfOk result (λ made. Follows out_of_again self.old made self.new) }
         ensures err { OnErr result (self.new ≡ self.old) }

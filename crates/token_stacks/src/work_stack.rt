@@ -3,7 +3,8 @@ ghost use Rattle.std.specs.Prelude.{◌≡◌, ◌↔◌, IsTrue, ◌⊎◌, [],
 ghost use Rattle.std.specs.Option.{option_map};
 ghost use Rattle.token_stacks.specs.Signatures.{Sig, Sym, R, L, S, star};
 ghost use Rattle.token_stacks.specs.Words.{body as words_of, work_words};
-ghost use Rattle.token_stacks.specs.Tops.{IsBody, Steps, top_body, pair_body, popped, argument_left, argument_made, popped_star, popped_signature, wrapped, unwrapped, paired, unpaired};
+ghost use Rattle.token_stacks.specs.Tops.{IsBody, Steps, top_body, pair_body, popped, argument_left, argument_made, popped_star};
+ghost use Rattle.token_stacks.specs.Tops.{popped_signature, wrapped, unwrapped, paired, unpaired};
 
 use crate::words::{PAIR, SIGNATURE, STAR, SYMBOL_L, SYMBOL_R, append, bring_down};
 use std::alloc::{AllocError, Global};

@@ -6,10 +6,12 @@ pub invariant_of-self : goal.invariant_of-self
 invariant_of-self c =
     let e = work_is _ _ c.self.view_is c.self.invariant in
     let h = c.len-n.ensures ∙ c.self.inside.words.ok.0 in
-    turns_stands (pops_star c.args.self.now _ _ _ _ _ e h (omega arith) c.index.ensures c.if-index-ne-SIGNATURE.false c.index-else-index-ne-SIGNATURE.ensures c.if-index-ne1.false c.truncate.ensures.items)
+    turns_stands (pops_star c.args.self.now _ _ _ _ _ e h (omega arith) c.index.ensures c.if-index-ne-SIGNATURE.false
+    c.index-else-index-ne-SIGNATURE.ensures c.if-index-ne1.false c.truncate.ensures.items)
 
 pub returns : goal.returns
 returns c =
     let e = work_is _ _ c.self.view_is c.self.invariant in
     let h = c.len-n.ensures ∙ c.self.inside.words.ok.0 in
-    turns_seen (pops_star c.args.self.now _ _ _ _ _ e h (omega arith) c.index.ensures c.if-index-ne-SIGNATURE.false c.index-else-index-ne-SIGNATURE.ensures c.if-index-ne1.false c.truncate.ensures.items)
+    turns_seen (pops_star c.args.self.now _ _ _ _ _ e h (omega arith) c.index.ensures c.if-index-ne-SIGNATURE.false
+    c.index-else-index-ne-SIGNATURE.ensures c.if-index-ne1.false c.truncate.ensures.items)

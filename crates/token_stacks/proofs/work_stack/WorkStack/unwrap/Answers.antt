@@ -14,11 +14,13 @@ invariant_of-self c =
     let e = work_is _ _ c.self.view_is c.self.invariant in
     let h = c.len-n.ensures ∙ c.self.inside.words.ok.0 in
     let t = sig_top c.args.self.now _ _ _ e h (omega arith) c.index.ensures c.if-index-ne-SIGNATURE.false in
-    turns_stands (unwraps _ c.args.self.now _ _ _ _ _ e c.requires t h c.index-size.ensures c.index-else-index-ne-SIGNATURE.ensures c.if-index-mark.false c.truncate.ensures.items)
+    turns_stands (unwraps _ c.args.self.now _ _ _ _ _ e c.requires t h c.index-size.ensures c.index-else-index-ne-SIGNATURE.ensures
+    c.if-index-mark.false c.truncate.ensures.items)
 
 pub returns : goal.returns
 returns c =
     let e = work_is _ _ c.self.view_is c.self.invariant in
     let h = c.len-n.ensures ∙ c.self.inside.words.ok.0 in
     let t = sig_top c.args.self.now _ _ _ e h (omega arith) c.index.ensures c.if-index-ne-SIGNATURE.false in
-    turns_seen (unwraps _ c.args.self.now _ _ _ _ _ e c.requires t h c.index-size.ensures c.index-else-index-ne-SIGNATURE.ensures c.if-index-mark.false c.truncate.ensures.items)
+    turns_seen (unwraps _ c.args.self.now _ _ _ _ _ e c.requires t h c.index-size.ensures c.index-else-index-ne-SIGNATURE.ensures
+    c.if-index-mark.false c.truncate.ensures.items)

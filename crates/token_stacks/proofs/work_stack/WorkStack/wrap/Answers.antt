@@ -1,7 +1,8 @@
 use Rattle.std.proofs.Common.{◌∙◌, arith, refl, rules}
 use Rattle.token_stacks.proofs.WorkSteps.{work_is, sig_top, size_fits, no_top, other_top, not_wrapped, turns_stands, turns_seen, wraps}
 use Rattle.token_stacks.proofs.work_stack.WorkStack.wrap.Goals as goal
-use Rattle.token_stacks.proofs.work_stack.WorkStack.wrap.Goals.{then-n-lt3-via-then-n-lt3, then-n-lt3-via-else-n-lt3+then-index-ne-SIGNATURE}
+use Rattle.token_stacks.proofs.work_stack.WorkStack.wrap.Goals.{then-n-lt3-via-then-n-lt3}
+use Rattle.token_stacks.proofs.work_stack.WorkStack.wrap.Goals.{then-n-lt3-via-else-n-lt3+then-index-ne-SIGNATURE}
 
 pub returns-then-n-lt3-clause-ok : goal.returns-then-n-lt3-clause-ok
 returns-then-n-lt3-clause-ok c =
@@ -9,7 +10,8 @@ returns-then-n-lt3-clause-ok c =
     let h = c.len-n.ensures ∙ c.self.inside.words.ok.0 in
     elim c.then-n-lt3.branch [
       | then-n-lt3-via-then-n-lt3 w ↦ (not_wrapped _ _ (no_top _ _ _ e h w.if-n-lt3.true), refl)
-      | then-n-lt3-via-else-n-lt3+then-index-ne-SIGNATURE w ↦ (not_wrapped _ _ (other_top _ _ _ _ e h w.index.ensures w.if-index-ne-SIGNATURE.true), refl)
+      | then-n-lt3-via-else-n-lt3+then-index-ne-SIGNATURE w ↦
+          (not_wrapped _ _ (other_top _ _ _ _ e h w.index.ensures w.if-index-ne-SIGNATURE.true), refl)
     ]
 
 pub overflow_add-size : goal.overflow_add-size
