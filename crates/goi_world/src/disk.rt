@@ -144,80 +144,24 @@ fn read_at<F: Read + Seek + Drop>(
 #[cfg(test)]
 mod tests {
     use super::*;
-    use crate::marks::marked;
     use std::test::Fail;
 
-    /// Whether the first bytes that a read gives are these, or it fails where none are wanted.
-    fn gives(found: Result<usize, Failed>, buffer: &[u8], want: Option<&[u8]>) -> bool {
-        match found {
-            Ok(count) => buffer.get(..count) == want,
-            Err(Failed) => want.is_none(),
-        }
-    }
-
+    // An open file without a name, as after a refused request for memory, is no file that is asked for.
     #[test]
-    fn reads_a_file_of_the_system(rt: HostRuntime) -> Result<(), Fail> {
-        fs::write(&rt, "letters", "hello")?;
-        let mut files = DiskFiles::new(&rt);
-        let rows: [(&str, u64, Option<&[u8]>, u64); 5] = [
-            ("letters", 0, Some(b"hel"), 0),
-            ("letters", 3, Some(b"lo"), 0),
-            ("letters", 5, Some(b""), 0),
-            ("no such letters", 0, None, 1),
-            ("letters", 2, Some(b"llo"), 1),
-        ];
-        for (name, at, want, faults) in rows {
-            let mut buffer = [0u8; 3];
-            let found = files.read(name, at, &mut buffer);
-            assert!(rt; gives(found, &buffer, want) && files.faults == faults);
-        }
-        assert!(rt; files.reads == 5);
-        fs::remove_file(&rt, "letters")?;
-        Ok(())
-    }
-
-    /// Whether a read of `large` at an offset gives bytes that stand there, and some where there are some.
-    fn reads_there<R: rt::Files + AllocGlobal>(
-        files: &mut DiskFiles<'_, R>,
-        bytes: &[u8],
-        at: usize,
-        buffer: &mut [u8],
-    ) -> bool {
-        match files.read("large", at as u64, buffer) {
-            Ok(count) => buffer.get(..count) == bytes.get(at..at.saturating_add(count))
-                && (count > 0) == (at < bytes.len()),
-            Err(Failed) => false,
-        }
-    }
-
-    /// Whether reads at an offset give what stands there, with more and less room.
-    fn reads_at<R: rt::Files + AllocGlobal>(
-        files: &mut DiskFiles<'_, R>,
-        bytes: &[u8],
-        at: usize,
-        buffer: &mut [u8],
-    ) -> bool {
-        for room in [1usize, 100, 65_536, 200_001] {
-            let most = room.min(buffer.len());
-            if !reads_there(files, bytes, at, &mut buffer[..most]) {
-                return false;
-            }
-        }
-        true
-    }
-
-    #[test]
-    fn reads_at_every_place(rt: HostRuntime) -> Result<(), Fail> {
-        let bytes = marked(rt.alloc(), 200_000)?;
-        fs::write(&rt, "large", &bytes)?;
-        let mut files = DiskFiles::new(&rt);
-        let mut buffer = marked(rt.alloc(), 200_001)?;
-        for at in [
-            0usize, 8, 9, 65_535, 65_536, 65_537, 131_071, 131_072, 131_073, 199_999, 200_000,
-        ] {
-            assert!(rt; reads_at(&mut files, &bytes, at, &mut buffer));
-        }
-        fs::remove_file(&rt, "large")?;
+    fn opens_anew_where_no_name_was_kept(rt: HostRuntime) -> Result<(), Fail> {
+        fs::write(&rt, "one", "1")?;
+        fs::write(&rt, "two", "2")?;
+        let nameless = Opened {
+            name: None,
+            file: fs::open(&rt, "one")?,
+            at: 0,
+        };
+        let mut opened = Some(nameless);
+        let mut buffer = [0u8; 1];
+        let count = read_on(&rt, &mut opened, "two", 0, &mut buffer)?;
+        assert!(rt; count == 1 && buffer[0] == b'2');
+        fs::remove_file(&rt, "one")?;
+        fs::remove_file(&rt, "two")?;
         Ok(())
     }
 }

@@ -10,8 +10,6 @@
 
 mod disk;
 mod laws;
-#[cfg(test)]
-mod marks;
 mod memory_files;
 mod memory_sink;
 mod outside;

@@ -95,32 +95,3 @@ impl Sink for MemorySink {
         Ok(count)
     }
 }
-
-#[cfg(test)]
-mod tests {
-    use super::*;
-    use std::test::Fail;
-
-    #[test]
-    fn writes_in_turn(rt: HostRuntime) -> Result<(), Fail> {
-        let mut sink = MemorySink::new(rt.alloc(), 10, 4, vec![in rt.alloc(); 3, 8]?)?;
-        // The piece, how much of it is taken, and the faults so far.
-        let rows = [
-            ("", Ok(0), 0),
-            ("abcdef", Ok(4), 0),
-            ("x", Err(Failed), 1),
-            ("efg", Ok(3), 1),
-            ("hijklm", Ok(3), 1),
-            ("x", Err(Failed), 2),
-            ("", Ok(0), 2),
-            ("", Err(Failed), 3),
-            ("x", Err(Failed), 4),
-        ];
-        for (piece, want, faults) in rows {
-            let taken = sink.write(piece.as_bytes());
-            assert!(rt; taken == want && sink.faults == faults);
-        }
-        assert!(rt; sink.written() == b"abcdefghij".as_slice());
-        Ok(())
-    }
-}
