@@ -2,7 +2,8 @@
 -- The rules of numbers, operators and tests want an empty work stack and leave the box stack as it is; all else is a plain rule. What
 -- a question meets is one small type of its own, so that the moves of questions, and any count of what a question comes to, read one
 -- table. Solo moves turn one token into one token and need nothing else; a fork opens the entry of its node and box stack, a join
--- brings a value to that entry, and the root takes the answer. A token that fits no row stays.
+-- brings a value to that entry, and the root takes the answer. A token that fits no row stays. That several tokens walk one net and
+-- wait for one another at such nodes is after Dal Lago, Faggian, Hasuo and Yoshimizu, 'The geometry of synchronization'.
 use Rattle.std.specs.Prelude.{ℕ, [], Option, Some, None, nat_eq, if◌then◌else◌}
 use Rattle.pcf_values.specs.declared.val.Val.{Val}
 use Rattle.pcf_values.specs.declared.val.Val.TheVariants.{Number}

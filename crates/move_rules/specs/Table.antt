@@ -1,4 +1,7 @@
 -- The table of plain rules: at each node, where a token goes that comes to it by a wire.
+-- That the paths of a token over a proof net, with a stack for what is asked and one for the open boxes, tell what the program means
+-- is Girard's geometry of interaction; as a machine it was made by Danos and Regnier and by Mackie.
+--
 -- Plain rules carry questions and answers alike, look at the stacks alone, and hold in both directions: each row of the table is
 -- followed by its other way, which goes from the row's second place, turned, to its first place, turned. Each function below is
 -- one row or its other way, told by the shape of the stacks, or the two or three of them that begin at one wire of the node. In all

@@ -3,7 +3,7 @@
 -- each step is the move that the table gives there. `through` names no net: each node of the trail, by its own rules, makes a solo move
 -- of a token that faces it. What was walked keeps the second for good, whatever net comes later; on a sound net that has the
 -- trail's nodes at their numbers, it gives the first.
-use Rattle.std.specs.Prelude.{◌≡◌, ◌≤◌, ◌⊎◌, ℕ, Bool, List, [], ◌∷◌, length, map, Option, Some, None, slice_get, if◌then◌else◌}
+use Rattle.std.specs.Prelude.{◌≡◌, ◌≤◌, ◌⊎◌, ℕ, Bool, List, [], ◌∷◌, length, map, Option, Some, None, slice_get, MatchOption, if◌then◌else◌}
 use Rattle.std.specs.List.{All}
 use Rattle.std.specs.Bool.{MatchBool}
 use Rattle.net_build.specs.declared.node.Node.{Node}
@@ -54,6 +54,10 @@ pub record SoloMove (net : NetTree) (old : Token) (s : Seen) (new : Token) : Typ
   pub moves : move net (token_of old) ≡ solo s.at (token_of new)
   -- and the node's own
   pub passes : through (s ∷ []) (token_of old) ≡ Some (token_of new)
+
+-- the solo move of the node that was seen is made, or the token's move is no solo move and it stays
+abbrev pub SoloMoves : NetTree → Token → Option Seen → Token → Type 0
+SoloMoves net old seen new = MatchOption seen (NotSolo (move net (token_of old)) × (new ≡ old)) (λ s. SoloMove net old s new)
 
 -- a token makes its solo move on the net, or its move is no solo move and it stays
 abbrev pub SoloStep : NetTree → Bool → Token → Token → Type 0

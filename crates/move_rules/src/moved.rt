@@ -33,6 +33,10 @@ impl Model for Moved {
 
 impl Moved {
     /// The token that makes no move.
+    ///
+    /// # Errors
+    ///
+    /// Only where memory runs out.
     pub fn still(alloc: Global, token: Token) -> Result<Moved, AllocError>
         ensures before { IfOk result (λ m. m.before ≡ token) }
         ensures after { IfOk result (λ m. m.after ≡ token) }
@@ -77,15 +81,23 @@ impl Moved {
     }
 }
 
+// For so many nodes of a trail there is room at once.
+const FIRST_ROOM: u32 = 1_024;
+
 /// Walks the token on this net by the table of moves, until `most` moves are made or the next is no solo move: a fork, a join, the
-/// answer, or none. It holds for every token of every net. Memory is taken once for `before`, and for what the stacks grow by.
+/// answer, or none. It holds for every token of every net. Memory is taken once for `before`, at once for a trail of `most` nodes, but
+/// for 1,024 at most, and then for what the stacks and a longer trail grow by.
+///
+/// # Errors
+///
+/// Only where memory runs out.
 pub fn walk(alloc: Global, net: &Net, token: Token, most: u32) -> Result<Moved, AllocError>
     ensures before { IfOk result (λ m. m.before ≡ token) }
     ensures walked { IfOk result (Walked net.now most) }
 {
     let before = token.copy()?;
     let mut after = token;
-    let mut trail = Vec::new(alloc);
+    let mut trail = Vec::with_capacity(alloc, most.min(FIRST_ROOM) as usize)?;
     let mut left = most;
     while left > 0 {
         match solo_move(net, &mut after)? {
@@ -102,8 +114,12 @@ pub fn walk(alloc: Global, net: &Net, token: Token, most: u32) -> Result<Moved, 
 }
 
 /// Makes the token's next move on this net if it is a solo move, by a plain rule or by that of a constant, `succ`, `pred` or a test, and
-/// none otherwise: the trail is empty exactly where the next move is a fork, a join, the answer, or none. It holds for every token of
+/// none otherwise: the trail is empty exactly when the next move is a fork, a join, the answer, or none. It holds for every token of
 /// every net.
+///
+/// # Errors
+///
+/// Only where memory runs out.
 pub fn plain_move(alloc: Global, net: &Net, token: Token) -> Result<Moved, AllocError>
     ensures before { IfOk result (λ m. m.before ≡ token) }
     ensures moved { IfOk result (λ m. MadeIfSolo net.now m (move net.now (token_of token))) }

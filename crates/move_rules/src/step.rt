@@ -1,12 +1,12 @@
 //! One solo move, in place.
-ghost use Rattle.std.specs.Prelude.{◌≡◌, IfOk, OnErr, MatchOption, slice_get};
+ghost use Rattle.std.specs.Prelude.{◌≡◌, IfOk, OnErr, slice_get};
 ghost use Rattle.std.specs.Option.{option_map};
 ghost use Rattle.net_build.specs.Sides.{number_of};
-ghost use Rattle.move_rules.specs.Moves.{move, NotSolo, Unaided};
+ghost use Rattle.move_rules.specs.Moves.{move, Unaided};
 ghost use Rattle.move_rules.specs.Steps.{Passes, IsPlain, node_of};
 ghost use Rattle.move_rules.specs.Table.{facing};
 ghost use Rattle.move_rules.specs.Views.{place_at, token_of, numbered};
-ghost use Rattle.move_rules.specs.Walks.{SoloMove, SoloStep};
+ghost use Rattle.move_rules.specs.Walks.{SoloMoves, SoloStep};
 
 use crate::ground::{const_moves, pred_moves, succ_moves, test_moves};
 use crate::plain::{
@@ -75,7 +75,7 @@ fn number(net: &Net, token: &Token) -> Option<u32>
 }
 
 /// The node that the token faces, with its number: the least one above its wire where it goes up, and below where it goes down. `None`
-/// exactly where there is none. Takes no memory.
+/// exactly when there is none. Takes no memory.
 pub fn faced(net: &Net, token: &Token) -> Option<Seen>
     ensures { option_map numbered result ≡ facing net.now (place_at token.now.wire token.now.up token.now.stacks) }
 {
@@ -109,7 +109,8 @@ fn faced_node<'n>(net: &'n Net, token: &Token) -> Option<&'n Node>
 /// fork, a join, the answer, or none, and then the token stays. It holds for every token of every net.
 ///
 /// # Errors
-/// Where a stack needs memory that isn't there; the token stays. A fork, a join and the answer take no memory.
+///
+/// Only where memory runs out for what a stack grows by; then the token stays. A fork, a join and the answer take no memory.
 pub fn solo_step(net: &Net, token: &mut Token) -> Result<bool, AllocError>
     ensures ok { IfOk result (λ made. SoloStep net.now made token.old token.new) }
     ensures err { OnErr result (token.new ≡ token.old) }
@@ -122,11 +123,14 @@ pub fn solo_step(net: &Net, token: &mut Token) -> Result<bool, AllocError>
     Ok(made)
 }
 
-/// Makes the token's next move on this net in place, if it is a solo move, and answers the node; `None` where it is a fork, a join, the
-/// answer, or none, and the token stays. After want of memory it stays as well; a fork, a join and the answer take none. It holds for every
-/// token of every net.
+/// Makes the token's next move on this net in place, if it is a solo move, and answers the node; `None` exactly when the move is a fork, a
+/// join, the answer, or none, and then the token stays. It holds for every token of every net.
+///
+/// # Errors
+///
+/// Only where memory runs out for what a stack grows by; then the token stays. A fork, a join and the answer take no memory.
 pub fn solo_move(net: &Net, token: &mut Token) -> Result<Option<Seen>, AllocError>
-    ensures ok { IfOk result (λ seen. MatchOption seen (NotSolo (move net.now (token_of token.old)) × (token.new ≡ token.old)) (λ s. SoloMove net.now token.old s token.new)) }
+    ensures ok { IfOk result (λ seen. SoloMoves net.now token.old seen token.new) }
     ensures err { OnErr result (token.new ≡ token.old) }
     ensures unaided { OnErr result (Unaided (move net.now (token_of token.old))) }
 {

@@ -4,7 +4,7 @@ use Rattle.move_rules.proofs.moved.walk.Goals as goal
 use Rattle.move_rules.proofs.moved.walk.Goals.{else-loop-left-test, then-loop-left-test+in_ok-seen+in-None}
 
 pub loop-left-init : goal.loop-left-init
-loop-left-init c = begins c.args.net.now c.args.token c.in_ok-before.before c.new-trail.result.items c.args.most c.in_ok-before.ensures c.new-trail.ensures.items
+loop-left-init c = begins c.args.net.now c.args.token c.in_ok-before.before c.in_ok-trail.trail.items c.args.most c.in_ok-before.ensures c.in_ok-trail.ensures.items
 
 pub loop-left-preserved : goal.loop-left-preserved
 loop-left-preserved c =
