@@ -1,5 +1,6 @@
 -- In a sound net each wire of a node leads to that node.
-use Rattle.std.proofs.Common.{◌≡◌, ◌⊎◌, ℕ, zero, suc, ◌+◌, ◌≤◌, Bool, true, false, cond, List, [], ◌∷◌, ◌++◌, length, Option, Some, None, refl, sym, ap, ◌∙◌, subst, ⊎_elim, inl, inr, arith}
+use Rattle.std.proofs.Common.{◌≡◌, ◌⊎◌, ℕ, zero, suc, ◌+◌, ◌≤◌, Bool, true, false, cond, List, [], ◌∷◌, ◌++◌, length, Option, Some, None}
+use Rattle.std.proofs.Common.{refl, sym, ap, ◌∙◌, subst, ⊎_elim, inl, inr, arith}
 use Rattle.std.proofs.lemmas.Bool.{eqb-true, eq-eqb, cases_lt, lt-ltb}
 use Rattle.std.specs.Prelude.{nat_eq, nat_lt, slice_get, ◌<◌}
 use Rattle.net_build.specs.declared.node.Node.{Node}
@@ -66,13 +67,16 @@ at_in n (x ∷ ns) (inl e) = (zero, ap Some (sym e))
 at_in n (x ∷ ns) (inr h) = let (i, q) = at_in n ns h in (suc i, q)
 
 -- what is named is at a node of the list
-named_at : (side : Node → List ℕ) (ns : List Node) (i : ℕ) (n : Node) (w : ℕ) → slice_get ns i ≡ Some n → Among w (side n) → 1 ≤ named side ns w
+named_at : (side : Node → List ℕ) (ns : List Node) (i : ℕ) (n : Node) (w : ℕ) → slice_get ns i ≡ Some n → Among w (side n)
+    → 1 ≤ named side ns w
 named_at side [] i n w h a = cc
-named_at side (x ∷ ns) zero n w h a = let e : n ≡ x = cc in let k = often_among w (side x) (subst (λ n. Among w (side n)) e a) in omega arith
+named_at side (x ∷ ns) zero n w h a = let e : n ≡ x = cc in
+    let k = often_among w (side x) (subst (λ n. Among w (side n)) e a) in omega arith
 named_at side (x ∷ ns) (suc i) n w h a = let k = named_at side ns i n w h a in omega arith
 
 -- the least node that has the wire is the only one
-least_is : (side : Node → List ℕ) (ns : List Node) (k i : ℕ) (n : Node) (w : ℕ) → named side ns w ≤ 1 → slice_get ns i ≡ Some n → Among w (side n) → least side k ns w ≡ Some (k + i, n)
+least_is : (side : Node → List ℕ) (ns : List Node) (k i : ℕ) (n : Node) (w : ℕ) → named side ns w ≤ 1 → slice_get ns i ≡ Some n
+    → Among w (side n) → least side k ns w ≡ Some (k + i, n)
 least_is side [] k i n w le h a = cc
 least_is side (x ∷ ns) k zero n w le h a =
     let e : n ≡ x = cc in
@@ -80,7 +84,8 @@ least_is side (x ∷ ns) k zero n w le h a =
     rw (among_has (side x) w (subst (λ n. Among w (side n)) e a)) (ap (λ y. Some (k, y)) (sym e) ∙ ap (λ k. Some (k, n)) z)
 least_is side (x ∷ ns) k (suc i) n w le h a = go (least_is side ns (suc k) i n w (omega arith) h a) (has (side x) w) refl
   where
-    go : least side (suc k) ns w ≡ Some (suc k + i, n) → (b : Bool) → has (side x) w ≡ b → cond b (Some (k, x)) (least side (suc k) ns w) ≡ Some (k + suc i, n)
+    go : least side (suc k) ns w ≡ Some (suc k + i, n) → (b : Bool) → has (side x) w ≡ b
+        → cond b (Some (k, x)) (least side (suc k) ns w) ≡ Some (k + suc i, n)
     go ih true e =
         let p = often_among w (side x) (has_among (side x) w e) in
         let q = named_at side ns i n w h a in
@@ -94,17 +99,21 @@ often_apart (x ∷ xs) h = (
   often_apart xs (λ w. omega (arith, h w)),
 )
 
-often_named : (side : Node → List ℕ) (ns : List Node) (i : ℕ) (n : Node) (w : ℕ) → slice_get ns i ≡ Some n → how_often w (side n) ≤ named side ns w
+often_named : (side : Node → List ℕ) (ns : List Node) (i : ℕ) (n : Node) (w : ℕ) → slice_get ns i ≡ Some n
+    → how_often w (side n) ≤ named side ns w
 often_named side [] i n w h = cc
 often_named side (x ∷ ns) zero n w h = let e : n ≡ x = cc in rw e (omega arith)
 often_named side (x ∷ ns) (suc i) n w h = omega (arith, often_named side ns i n w h)
 
 -- what was found is there
-pub least_in : (side : Node → List ℕ) (ns : List Node) (k : ℕ) (w i : ℕ) (n : Node) → least side k ns w ≡ Some (i, n) → (j : ℕ) × (i ≡ k + j) × (slice_get ns j ≡ Some n) × Among w (side n)
+pub least_in : (side : Node → List ℕ) (ns : List Node) (k : ℕ) (w i : ℕ) (n : Node) → least side k ns w ≡ Some (i, n)
+    → (j : ℕ) × (i ≡ k + j) × (slice_get ns j ≡ Some n) × Among w (side n)
 least_in side [] k w i n h = cc
 least_in side (x ∷ ns) k w i n h = go (least_in side ns (suc k) w i n) (has (side x) w) refl h
   where
-    go : (least side (suc k) ns w ≡ Some (i, n) → (j : ℕ) × (i ≡ suc k + j) × (slice_get ns j ≡ Some n) × Among w (side n)) → (b : Bool) → has (side x) w ≡ b → cond b (Some (k, x)) (least side (suc k) ns w) ≡ Some (i, n) → (j : ℕ) × (i ≡ k + j) × (slice_get (x ∷ ns) j ≡ Some n) × Among w (side n)
+    go : (least side (suc k) ns w ≡ Some (i, n) → (j : ℕ) × (i ≡ suc k + j) × (slice_get ns j ≡ Some n) × Among w (side n)) → (b : Bool)
+        → has (side x) w ≡ b → cond b (Some (k, x)) (least side (suc k) ns w) ≡ Some (i, n)
+        → (j : ℕ) × (i ≡ k + j) × (slice_get (x ∷ ns) j ≡ Some n) × Among w (side n)
     go ih true e h =
         let pairs : ◌≡◌ {A = ℕ × Node} (k, x) (i, n) = cc in
         let e' : x ≡ n = ap (λ (p : ℕ × Node). p.1) pairs in
@@ -121,14 +130,19 @@ pub let_through : {A : Type 0} (b : Bool) (o : Option A) (r : A) → cond b o No
 let_through true o r h = h
 let_through false o r h = cc
 
+-- a sound net: each wire is named at most once on either side, so that a wire of a node has that node as its least there, and a node
+-- names no wire twice
 module _ (net : NetTree) (sound : Sound net) where
   at_most : (w : ℕ) → (named conclusions net.nodes w ≤ 1) × (named premises net.nodes w ≤ 1)
-  at_most w = ⊎_elim (λ l. let h = sound.once w l in (omega arith, omega arith)) (λ l. let h = sound.outside w l in (omega arith, omega arith)) (cases_lt w (length net.wires))
+  at_most w = ⊎_elim (λ l. let h = sound.once w l in (omega arith, omega arith))
+      (λ l. let h = sound.outside w l in (omega arith, omega arith)) (cases_lt w (length net.wires))
 
   -- a wire that a node names is in the list
-  pub inside : (side : Node → List ℕ) (i : ℕ) (n : Node) (w : ℕ) → ((v : ℕ) → length net.wires ≤ v → named side net.nodes v ≡ 0) → slice_get net.nodes i ≡ Some n → Among w (side n) → w < length net.wires
+  pub inside : (side : Node → List ℕ) (i : ℕ) (n : Node) (w : ℕ) → ((v : ℕ) → length net.wires ≤ v → named side net.nodes v ≡ 0)
+      → slice_get net.nodes i ≡ Some n → Among w (side n) → w < length net.wires
   inside side i n w out h a =
-      ⊎_elim (λ l. l) (λ l. let z = out w l in let k = named_at side net.nodes i n w h a in absurd (omega (arith, z, k))) (cases_lt w (length net.wires))
+      ⊎_elim (λ l. l) (λ l. let z = out w l in let k = named_at side net.nodes i n w h a in absurd (omega (arith, z, k)))
+      (cases_lt w (length net.wires))
 
   pub faced_at : (i : ℕ) (n : Node) → slice_get net.nodes i ≡ Some n → Faced net n
   faced_at i n h =
@@ -144,7 +158,8 @@ module _ (net : NetTree) (sound : Sound net) where
             within w (length net.wires) (least premises zero net.nodes w) (inside premises i n w (λ v l. (sound.outside v l).1) h a)
             ∙ least_is premises net.nodes zero i n w (at_most w).1 h a
             ∙ ap (λ k. Some (k, n)) z;
-        apart_up = often_apart (conclusions n) (λ w. let a = often_named conclusions net.nodes i n w h in let b = (at_most w).0 in omega arith);
+        apart_up = often_apart (conclusions n)
+            (λ w. let a = often_named conclusions net.nodes i n w h in let b = (at_most w).0 in omega arith);
         apart_down = often_apart (premises n) (λ w. let a = often_named premises net.nodes i n w h in let b = (at_most w).1 in omega arith);
       }
 

@@ -17,7 +17,9 @@ pub record Met (net : NetTree) (p : Place) (i : ℕ) (n : Node) : Type 0 where
   pub stands : slice_get net.nodes i ≡ Some n
   pub faced : faces n p ≡ true
 
-side_met : (side : Node → List ℕ) (net : NetTree) (w i : ℕ) (n : Node) → cond (nat_lt w (length net.wires)) (least side zero net.nodes w) None ≡ Some (i, n) → (slice_get net.nodes i ≡ Some n) × Among w (side n)
+side_met : (side : Node → List ℕ) (net : NetTree) (w i : ℕ) (n : Node)
+    → cond (nat_lt w (length net.wires)) (least side zero net.nodes w) None ≡ Some (i, n)
+    → (slice_get net.nodes i ≡ Some n) × Among w (side n)
 side_met side net w i n h =
     let (j, e, q, a) = least_in side net.nodes zero w i n (let_through (nat_lt w (length net.wires)) _ _ h) in
     let z : i ≡ j = omega arith in
@@ -28,10 +30,12 @@ met net (up w m t) i n h = let (s, a) = side_met conclusions net w i n h in reco
 met net (down w m t) i n h = let (s, a) = side_met premises net w i n h in record { stands = s; faced = among_has (premises n) w a }
 
 -- the node of the number that was found
-node_met : (net : NetTree) (p : Place) (i : ℕ) → Some i ≡ number_of (facing net p) → (n : Node) × (slice_get net.nodes i ≡ Some n) × (facing net p ≡ Some (i, n))
+node_met : (net : NetTree) (p : Place) (i : ℕ) → Some i ≡ number_of (facing net p)
+    → (n : Node) × (slice_get net.nodes i ≡ Some n) × (facing net p ≡ Some (i, n))
 node_met net p i h = go (facing net p) refl h
   where
-    go : (f : Option (ℕ × Node)) → facing net p ≡ f → Some i ≡ number_of f → (n : Node) × (slice_get net.nodes i ≡ Some n) × (facing net p ≡ Some (i, n))
+    go : (f : Option (ℕ × Node)) → facing net p ≡ f → Some i ≡ number_of f
+        → (n : Node) × (slice_get net.nodes i ≡ Some n) × (facing net p ≡ Some (i, n))
     go None q h = absurd (cc)
     go (Some (j, n)) q h =
         let z : i ≡ j = cc in
@@ -40,13 +44,15 @@ node_met net p i h = go (facing net p) refl h
 one_some : {A : Type 0} (x y : A) → Some x ≡ Some y → x ≡ y
 one_some x y h = cc
 
-pub found_is : (net : NetTree) (p : Place) (i : ℕ) (n : Node) (f : Option ℕ) (o : Option Node) → f ≡ number_of (facing net p) → f ≡ Some i → o ≡ slice_get net.nodes i → o ≡ Some n
+pub found_is : (net : NetTree) (p : Place) (i : ℕ) (n : Node) (f : Option ℕ) (o : Option Node) → f ≡ number_of (facing net p) → f ≡ Some i
+    → o ≡ slice_get net.nodes i → o ≡ Some n
     → Some (i, n) ≡ facing net p
 found_is net p i n f o h e g q =
     let (m, s, r) = node_met net p i (sym e ∙ h) in
     ap (λ m. Some (i, m)) (one_some n m (sym q ∙ g ∙ s)) ∙ sym r
 
-pub found_none : (net : NetTree) (p : Place) (i : ℕ) (f : Option ℕ) (o : Option Node) → f ≡ number_of (facing net p) → f ≡ Some i → o ≡ slice_get net.nodes i → o ≡ None
+pub found_none : (net : NetTree) (p : Place) (i : ℕ) (f : Option ℕ) (o : Option Node) → f ≡ number_of (facing net p) → f ≡ Some i
+    → o ≡ slice_get net.nodes i → o ≡ None
     → None ≡ facing net p
 found_none net p i f o h e g q =
     let (m, s, r) = node_met net p i (sym e ∙ h) in
@@ -60,7 +66,8 @@ node_found net p i f o h e g =
     let (m, s, r) = node_met net p i (sym e ∙ h) in
     g ∙ s ∙ ap node_of (sym r)
 
-asked_found : (o : Option (ℕ × Node)) (f : ℕ → Node → Look) (p : Place) → ask_move (on_found o dead f) p ≡ on_found o stay (λ i n. ask_move (f i n) p)
+asked_found : (o : Option (ℕ × Node)) (f : ℕ → Node → Look) (p : Place)
+    → ask_move (on_found o dead f) p ≡ on_found o stay (λ i n. ask_move (f i n) p)
 asked_found None f p = refl
 asked_found (Some q) f p = refl
 
@@ -72,6 +79,9 @@ move_faced net (ans v (up w m t)) = refl
 move_faced net (ans v (down w m t)) = refl
 
 -- a node of a sound net is the one that its wires' tokens face
-pub faced_there : (net : NetTree) → Sound net → (p : Place) (i : ℕ) (n : Node) → slice_get net.nodes i ≡ Some n → faces n p ≡ true → facing net p ≡ Some (i, n)
-faced_there net sound (up w m t) i n h f = (faced_at net sound i n h).ups w (has_among (conclusions n) w f) ∙ ap (λ k. Some (k, n)) (faced_at-at net sound i n h)
-faced_there net sound (down w m t) i n h f = (faced_at net sound i n h).downs w (has_among (premises n) w f) ∙ ap (λ k. Some (k, n)) (faced_at-at net sound i n h)
+pub faced_there : (net : NetTree) → Sound net → (p : Place) (i : ℕ) (n : Node) → slice_get net.nodes i ≡ Some n → faces n p ≡ true
+    → facing net p ≡ Some (i, n)
+faced_there net sound (up w m t) i n h f =
+    (faced_at net sound i n h).ups w (has_among (conclusions n) w f) ∙ ap (λ k. Some (k, n)) (faced_at-at net sound i n h)
+faced_there net sound (down w m t) i n h f =
+    (faced_at net sound i n h).downs w (has_among (premises n) w f) ∙ ap (λ k. Some (k, n)) (faced_at-at net sound i n h)

@@ -1,5 +1,6 @@
 -- The plain rules of the table as a relation, and retrace.
-use Rattle.std.proofs.Common.{◌≡◌, ◌⊎◌, ℕ, Bool, true, false, cond, [], ◌∷◌, Option, Some, None, refl, sym, ap, ◌∙◌, subst, ⊎_elim, inl, inr}
+use Rattle.std.proofs.Common.{◌≡◌, ◌⊎◌, ℕ, Bool, true, false, cond, [], ◌∷◌, Option, Some, None, refl, sym, ap, ◌∙◌, subst, ⊎_elim, inl}
+use Rattle.std.proofs.Common.{inr}
 use Rattle.std.proofs.lemmas.Bool.{eqb-true, eq-eqb, ne_eqb}
 use Rattle.std.specs.Prelude.{nat_eq}
 use Rattle.token_stacks.specs.Signatures.{Sig, star, left_of, right_of, pair_of, again, R, L, S, Work, Boxes}
@@ -9,7 +10,9 @@ use Rattle.net_build.specs.Nets.{NetTree, premises, conclusions}
 use Rattle.net_build.specs.Sides.{node_above, node_below}
 use Rattle.net_build.specs.Sound.{Sound}
 use Rattle.move_rules.specs.Places.{Place, up, down, turned}
-use Rattle.move_rules.specs.Table.{at_wire, or_else, on_found, plain_up, plain_down, plain, lam_up, lam_var, app_fun, app_arg, box_up, box_down, door_up, door_down, der_back, con_up, con_down, fix_var, fix_out, fix_back, pair_up, fst_down, snd_down}
+use Rattle.move_rules.specs.Table.{at_wire, or_else, on_found, plain_up, plain_down, plain, lam_up, lam_var, app_fun, app_arg, box_up}
+use Rattle.move_rules.specs.Table.{box_down, door_up, door_down, der_back, con_up, con_down, fix_var, fix_out, fix_back, pair_up, fst_down}
+use Rattle.move_rules.specs.Table.{snd_down}
 use Rattle.move_rules.proofs.Faces.{Among, Faced, above_faced, below_faced}
 
 -- the rows
@@ -50,33 +53,44 @@ second v w a b h = skip v w a (at_wire w w b) h ∙ here w b None
 unfit : {A : Type 0} (w : ℕ) (o : Option A) → or_else (at_wire w w None) o ≡ o
 unfit w o = ap (λ c. or_else (cond c None None) o) (eq-eqb w w refl)
 
+-- a net, where a node's wires lead to it: what is a row of the node is what the table gives there, both ways
 module _ (net : NetTree) where
-  by_up : (n : Node) (w : ℕ) (m : Work) (t : Boxes) (q : Place) → Faced net n → Among w (conclusions n) → plain_up n w m t ≡ Some q → plain net (up w m t) ≡ Some q
+  by_up : (n : Node) (w : ℕ) (m : Work) (t : Boxes) (q : Place) → Faced net n → Among w (conclusions n) → plain_up n w m t ≡ Some q
+      → plain net (up w m t) ≡ Some q
   by_up n w m t q f a e = let h = f.ups w a in ap (λ o. on_found o None (λ i n. plain_up n w m t)) h ∙ e
 
-  by_down : (n : Node) (w : ℕ) (m : Work) (t : Boxes) (q : Place) → Faced net n → Among w (premises n) → plain_down n w m t ≡ Some q → plain net (down w m t) ≡ Some q
+  by_down : (n : Node) (w : ℕ) (m : Work) (t : Boxes) (q : Place) → Faced net n → Among w (premises n) → plain_down n w m t ≡ Some q
+      → plain net (down w m t) ≡ Some q
   by_down n w m t q f a e = let h = f.downs w a in ap (λ o. on_found o None (λ i n. plain_down n w m t)) h ∙ e
 
   -- each row is a move and a way back at a node that is faced
   pub row_leads : (n : Node) (p q : Place) → Faced net n → Row n p q → Leads net p q
   row_leads _ _ _ f (lam_body {b = b} {x = x} {w = w} {m = m} {t = t}) =
       (by_up (Lam b x w) w (R ∷ m) t _ f (inl refl) refl, by_down (Lam b x w) b m t _ f (inl refl) (first b _ _))
-  row_leads _ _ _ f (lam_arg {b = b} {x = x} {w = w} {s = s} {m = m} {t = t}) =
-      (by_down (Lam b x w) x (S s ∷ m) t _ f (inr (inl refl)) (second b x _ _ (λ e. f.apart_down.0 (inl (sym e)))), by_up (Lam b x w) w (L ∷ S s ∷ m) t _ f (inl refl) refl)
+  row_leads _ _ _ f (lam_arg {b = b} {x = x} {w = w} {s = s} {m = m} {t = t}) = (
+    by_down (Lam b x w) x (S s ∷ m) t _ f (inr (inl refl)) (second b x _ _ (λ e. f.apart_down.0 (inl (sym e)))),
+    by_up (Lam b x w) w (L ∷ S s ∷ m) t _ f (inl refl) refl,
+  )
   row_leads _ _ _ f (app_body {f = g} {a = a} {w = w} {m = m} {t = t}) =
       (by_up (App g a w) w m t _ f (inl refl) refl, by_down (App g a w) g (R ∷ m) t _ f (inl refl) (first g _ _))
-  row_leads _ _ _ f (app_call {f = g} {a = a} {w = w} {s = s} {m = m} {t = t}) =
-      (by_down (App g a w) g (L ∷ S s ∷ m) t _ f (inl refl) (first g _ _), by_down (App g a w) a (S s ∷ m) t _ f (inr (inl refl)) (second g a _ _ (λ e. f.apart_down.0 (inl (sym e)))))
+  row_leads _ _ _ f (app_call {f = g} {a = a} {w = w} {s = s} {m = m} {t = t}) = (
+    by_down (App g a w) g (L ∷ S s ∷ m) t _ f (inl refl) (first g _ _),
+    by_down (App g a w) a (S s ∷ m) t _ f (inr (inl refl)) (second g a _ _ (λ e. f.apart_down.0 (inl (sym e)))),
+  )
   row_leads _ _ _ f (box_in {i = i} {o = o} {s = s} {m = m} {t = t}) =
       (by_up (BoxNode i o) o (S s ∷ m) t _ f (inl refl) refl, by_down (BoxNode i o) i m (s ∷ t) _ f (inl refl) refl)
   row_leads _ _ _ f (door_out {i = i} {o = o} {s = s} {u = u} {m = m} {t = t}) =
       (by_down (Door i o) i (S u ∷ m) (s ∷ t) _ f (inl refl) refl, by_up (Door i o) o (S (pair_of s u) ∷ m) t _ f (inl refl) refl)
-  row_leads _ _ _ f (der {w = w} {x = x} {m = m} {t = t}) =
-      (by_up (Der w x) w m t _ f (inl refl) (first w _ _), by_up (Der w x) x (S star ∷ m) t _ f (inr (inl refl)) (second w x _ _ (λ e. f.apart_up.0 (inl (sym e)))))
+  row_leads _ _ _ f (der {w = w} {x = x} {m = m} {t = t}) = (
+    by_up (Der w x) w m t _ f (inl refl) (first w _ _),
+    by_up (Der w x) x (S star ∷ m) t _ f (inr (inl refl)) (second w x _ _ (λ e. f.apart_up.0 (inl (sym e)))),
+  )
   row_leads _ _ _ f (con_left {l = l} {r = r} {w = w} {s = s} {m = m} {t = t}) =
       (by_down (Con l r w) l (S s ∷ m) t _ f (inl refl) (first l _ _), by_up (Con l r w) w (S (left_of s) ∷ m) t _ f (inl refl) refl)
-  row_leads _ _ _ f (con_right {l = l} {r = r} {w = w} {s = s} {m = m} {t = t}) =
-      (by_down (Con l r w) r (S s ∷ m) t _ f (inr (inl refl)) (second l r _ _ (λ e. f.apart_down.0 (inl (sym e)))), by_up (Con l r w) w (S (right_of s) ∷ m) t _ f (inl refl) refl)
+  row_leads _ _ _ f (con_right {l = l} {r = r} {w = w} {s = s} {m = m} {t = t}) = (
+    by_down (Con l r w) r (S s ∷ m) t _ f (inr (inl refl)) (second l r _ _ (λ e. f.apart_down.0 (inl (sym e)))),
+    by_up (Con l r w) w (S (right_of s) ∷ m) t _ f (inl refl) refl,
+  )
   row_leads _ _ _ f (fix_in {b = b} {x = x} {w = w} {m = m} {t = t}) =
       (by_up (FixBox b x w) w m t _ f (inl refl) refl, by_down (FixBox b x w) b m (star ∷ t) _ f (inl refl) (first b _ _))
   row_leads _ _ _ f (fix_again {b = b} {x = x} {w = w} {s = s} {u = u} {m = m} {t = t}) =
@@ -86,10 +100,14 @@ module _ (net : NetTree) where
       )
   row_leads _ _ _ f (pair_left {a = a} {b = b} {w = w} {m = m} {t = t}) =
       (by_up (Pair a b w) w (L ∷ m) t _ f (inl refl) refl, by_down (Pair a b w) a m t _ f (inl refl) (first a _ _))
-  row_leads _ _ _ f (pair_right {a = a} {b = b} {w = w} {m = m} {t = t}) =
-      (by_up (Pair a b w) w (R ∷ m) t _ f (inl refl) refl, by_down (Pair a b w) b m t _ f (inr (inl refl)) (second a b _ _ (λ e. f.apart_down.0 (inl (sym e)))))
-  row_leads _ _ _ f (fst_in {a = a} {w = w} {m = m} {t = t}) = (by_up (Fst a w) w m t _ f (inl refl) refl, by_down (Fst a w) a (L ∷ m) t _ f (inl refl) refl)
-  row_leads _ _ _ f (snd_in {a = a} {w = w} {m = m} {t = t}) = (by_up (Snd a w) w m t _ f (inl refl) refl, by_down (Snd a w) a (R ∷ m) t _ f (inl refl) refl)
+  row_leads _ _ _ f (pair_right {a = a} {b = b} {w = w} {m = m} {t = t}) = (
+    by_up (Pair a b w) w (R ∷ m) t _ f (inl refl) refl,
+    by_down (Pair a b w) b m t _ f (inr (inl refl)) (second a b _ _ (λ e. f.apart_down.0 (inl (sym e)))),
+  )
+  row_leads _ _ _ f (fst_in {a = a} {w = w} {m = m} {t = t}) =
+      (by_up (Fst a w) w m t _ f (inl refl) refl, by_down (Fst a w) a (L ∷ m) t _ f (inl refl) refl)
+  row_leads _ _ _ f (snd_in {a = a} {w = w} {m = m} {t = t}) =
+      (by_up (Snd a w) w m t _ f (inl refl) refl, by_down (Snd a w) a (R ∷ m) t _ f (inl refl) refl)
 
 -- the row itself, or its other way
 abbrev pub Either : Node → Place → Place → Type 0
@@ -120,7 +138,8 @@ at_last {A = A} x w a r = go (nat_eq x w) refl
     go true e h = (eqb-true x w e, h)
     go false e h = cc
 
-two : {A : Type 0} (x y w : ℕ) (a b : Option A) (r : A) → or_else (at_wire x w a) (at_wire y w b) ≡ Some r → ((x ≡ w) × (a ≡ Some r)) ⊎ ((y ≡ w) × (b ≡ Some r))
+two : {A : Type 0} (x y w : ℕ) (a b : Option A) (r : A) → or_else (at_wire x w a) (at_wire y w b) ≡ Some r
+    → ((x ≡ w) × (a ≡ Some r)) ⊎ ((y ≡ w) × (b ≡ Some r))
 two x y w a b r h = ⊎_elim inl (λ g. inr (at_last y w b r g)) (at_first x w a (at_wire y w b) r h)
 
 lam_up_row : (b x c : ℕ) (m : Work) (t : Boxes) (q : Place) → lam_up b x m t ≡ Some q → Either (Lam b x c) (up c m t) q
@@ -154,9 +173,11 @@ pair_up_row a b c (L ∷ m) t q h = got _ _ _ _ h (inl pair_left)
 pair_up_row a b c (R ∷ m) t q h = got _ _ _ _ h (inl pair_right)
 pair_up_row a b c _ t q h = cc
 
+-- what the table gives up the conclusion of a node is a row, or the other way of one
 up_row : (n : Node) (w : ℕ) (m : Work) (t : Boxes) (q : Place) → Among w (conclusions n) → plain_up n w m t ≡ Some q → Either n (up w m t) q
 up_row (Der v x) w m t q a h =
-    ⊎_elim (λ (e, g). at_up _ m t q v w e (got _ _ _ _ g (inl der))) (λ (e, g). at_up _ m t q x w e (der_back_row v x m t q g)) (two v x w _ _ q h)
+    ⊎_elim (λ (e, g). at_up _ m t q v w e (got _ _ _ _ g (inl der))) (λ (e, g). at_up _ m t q x w e (der_back_row v x m t q g))
+    (two v x w _ _ q h)
 up_row (Con l r c) w m t q (inl e) h = at_up _ m t q c w e (con_up_row l r c m t q h)
 up_row (Lam b x c) w m t q (inl e) h = at_up _ m t q c w e (lam_up_row b x c m t q h)
 up_row (App f a c) w m t q (inl e) h = at_up _ m t q c w e (got _ _ _ _ h (inl app_body))
@@ -230,19 +251,26 @@ snd_down_row : (a c : ℕ) (m : Work) (t : Boxes) (q : Place) → snd_down c m t
 snd_down_row a c (R ∷ m) t q h = got _ _ _ _ h (inr snd_in)
 snd_down_row a c _ t q h = cc
 
-down_row : (n : Node) (w : ℕ) (m : Work) (t : Boxes) (q : Place) → Among w (premises n) → plain_down n w m t ≡ Some q → Either n (down w m t) q
+-- and so it is down a premise
+down_row : (n : Node) (w : ℕ) (m : Work) (t : Boxes) (q : Place) → Among w (premises n) → plain_down n w m t ≡ Some q
+    → Either n (down w m t) q
 down_row (Con l r c) w m t q a h =
-    ⊎_elim (λ (e, g). at_down _ m t q l w e (con_left_row l r c m t q g)) (λ (e, g). at_down _ m t q r w e (con_right_row l r c m t q g)) (two l r w _ _ q h)
+    ⊎_elim (λ (e, g). at_down _ m t q l w e (con_left_row l r c m t q g)) (λ (e, g). at_down _ m t q r w e (con_right_row l r c m t q g))
+    (two l r w _ _ q h)
 down_row (Lam b x c) w m t q a h =
-    ⊎_elim (λ (e, g). at_down _ m t q b w e (got _ _ _ _ g (inr lam_body))) (λ (e, g). at_down _ m t q x w e (lam_var_row b x c m t q g)) (two b x w _ _ q h)
+    ⊎_elim (λ (e, g). at_down _ m t q b w e (got _ _ _ _ g (inr lam_body))) (λ (e, g). at_down _ m t q x w e (lam_var_row b x c m t q g))
+    (two b x w _ _ q h)
 down_row (App f x c) w m t q a h =
-    ⊎_elim (λ (e, g). at_down _ m t q f w e (app_fun_row f x c m t q g)) (λ (e, g). at_down _ m t q x w e (app_arg_row f x c m t q g)) (two f x w _ _ q h)
+    ⊎_elim (λ (e, g). at_down _ m t q f w e (app_fun_row f x c m t q g)) (λ (e, g). at_down _ m t q x w e (app_arg_row f x c m t q g))
+    (two f x w _ _ q h)
 down_row (FixBox b x c) w m t q a h =
     ⊎_elim (λ (e, g). at_down _ m t q b w e (fix_out_row b x c m t q g))
-    (λ r. ⊎_elim (λ (e, g). at_down _ m t q x w e (fix_var_row b x c m t q g)) (λ (e, g). at_down _ m t q b w e (fix_back_row b x c m t q g)) (two x b w _ _ q r))
+    (λ r. ⊎_elim (λ (e, g). at_down _ m t q x w e (fix_var_row b x c m t q g))
+    (λ (e, g). at_down _ m t q b w e (fix_back_row b x c m t q g)) (two x b w _ _ q r))
     (at_first b w _ _ q h)
 down_row (Pair a b c) w m t q z h =
-    ⊎_elim (λ (e, g). at_down _ m t q a w e (got _ _ _ _ g (inr pair_left))) (λ (e, g). at_down _ m t q b w e (got _ _ _ _ g (inr pair_right))) (two a b w _ _ q h)
+    ⊎_elim (λ (e, g). at_down _ m t q a w e (got _ _ _ _ g (inr pair_left)))
+    (λ (e, g). at_down _ m t q b w e (got _ _ _ _ g (inr pair_right))) (two a b w _ _ q h)
 down_row (Fst a c) w m t q (inl e) h = at_down _ m t q a w e (fst_down_row a c m t q h)
 down_row (Snd a c) w m t q (inl e) h = at_down _ m t q a w e (snd_down_row a c m t q h)
 down_row (Fst a c) w m t q (inr e) h = elim e [ ]
@@ -253,10 +281,12 @@ down_row (BoxNode i o) w m t q (inr e) h = elim e [ ]
 down_row (Door i o) w m t q (inr e) h = elim e [ ]
 down_row n w m t q a h = cc
 
-pub from_found : {A : Type 0} (o : Option (ℕ × Node)) (f : ℕ → Node → Option A) (r : A) → on_found o None f ≡ Some r → (i : ℕ) × (n : Node) × (o ≡ Some (i, n)) × (f i n ≡ Some r)
+pub from_found : {A : Type 0} (o : Option (ℕ × Node)) (f : ℕ → Node → Option A) (r : A) → on_found o None f ≡ Some r
+    → (i : ℕ) × (n : Node) × (o ≡ Some (i, n)) × (f i n ≡ Some r)
 from_found None f r h = cc
 from_found (Some p) f r h = (p.0, p.1, refl, h)
 
+-- a sound net: a plain rule is a row of the node that is faced, and the row's other way leads back
 module _ (net : NetTree) (sound : Sound net) where
   -- each plain move is a row or its other way, at a node of the net
   pub plain_row : (p q : Place) → plain net p ≡ Some q → (n : Node) × Faced net n × Either n p q

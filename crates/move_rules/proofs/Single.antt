@@ -24,13 +24,15 @@ placed Ask p = refl
 placed (Ans v) p = refl
 
 -- the move of a token at what it was found to face
-pub at_met : (net : NetTree) (k : Token) (i : ℕ) (n : Node) → facing net (place_at k.wire k.up k.stacks) ≡ Some (i, n) → move net (token_of k) ≡ move_at i n (token_of k)
+pub at_met : (net : NetTree) (k : Token) (i : ℕ) (n : Node) → facing net (place_at k.wire k.up k.stacks) ≡ Some (i, n)
+    → move net (token_of k) ≡ move_at i n (token_of k)
 at_met net k i n h =
     move_faced net (token_of k)
     ∙ ap (λ p. on_found (facing net p) stay (λ i n. move_at i n (token_of k))) (placed k.kind (place_at k.wire k.up k.stacks))
     ∙ ap (λ o. on_found o stay (λ i n. move_at i n (token_of k))) h
 
-pub not_faced : (net : NetTree) (k : Token) (o : Option Seen) → option_map numbered o ≡ facing net (place_at k.wire k.up k.stacks) → o ≡ None → NotSolo (move net (token_of k))
+pub not_faced : (net : NetTree) (k : Token) (o : Option Seen) → option_map numbered o ≡ facing net (place_at k.wire k.up k.stacks)
+    → o ≡ None → NotSolo (move net (token_of k))
 not_faced net k o h e =
     let q : move net (token_of k) ≡ stay =
     move_faced net (token_of k)
@@ -38,7 +40,9 @@ not_faced net k o h e =
     ∙ ap (λ f. on_found f stay (λ i n. move_at i n (token_of k))) (sym h ∙ ap (option_map numbered) e) in
     subst NotSolo (sym q) tt
 
-pub made : (net : NetTree) (k k' : Token) (o : Option Seen) (s : Seen) (b : Bool) → option_map numbered o ≡ facing net (place_at k.wire k.up k.stacks) → o ≡ Some s
+-- The node that was found is the net's, its move is the net's move of the token, and a walk through it alone gives the token after.
+pub made : (net : NetTree) (k k' : Token) (o : Option Seen) (s : Seen) (b : Bool)
+    → option_map numbered o ≡ facing net (place_at k.wire k.up k.stacks) → o ≡ Some s
     → Passes s.node k b k' → b ≡ true → SoloMove net k s k'
 made net k k' o s b h e p t =
     let f : facing net (place_at k.wire k.up k.stacks) ≡ Some (s.at, s.node) = sym h ∙ ap (option_map numbered) e in
@@ -53,7 +57,8 @@ made net k k' o s b h e p t =
           ∙ ap (λ z. on_solo z (through [])) q;
     }
 
-pub not_made : (net : NetTree) (k k' : Token) (o : Option Seen) (s : Seen) (b : Bool) → option_map numbered o ≡ facing net (place_at k.wire k.up k.stacks) → o ≡ Some s
+pub not_made : (net : NetTree) (k k' : Token) (o : Option Seen) (s : Seen) (b : Bool)
+    → option_map numbered o ≡ facing net (place_at k.wire k.up k.stacks) → o ≡ Some s
     → Passes s.node k b k' → b ≡ false → NotSolo (move net (token_of k)) × (k' ≡ k)
 not_made net k k' o s b h e p t =
     let f : facing net (place_at k.wire k.up k.stacks) ≡ Some (s.at, s.node) = sym h ∙ ap (option_map numbered) e in
@@ -139,6 +144,8 @@ plain_alone i n (ans v (up w m t)) h = answers_alone i (plain_up n w m t) (ans v
 plain_alone i n (ans v (down w m t)) h = answers_down i n v w m t h
 
 -- where memory was wanting at such a node, the token's move needs nothing else
-pub lacking : (net : NetTree) (k : Token) (o : Option Seen) (s : Seen) → option_map numbered o ≡ facing net (place_at k.wire k.up k.stacks) → o ≡ Some s → IsPlain s.node
+pub lacking : (net : NetTree) (k : Token) (o : Option Seen) (s : Seen) → option_map numbered o ≡ facing net (place_at k.wire k.up k.stacks)
+    → o ≡ Some s → IsPlain s.node
     → Unaided (move net (token_of k))
-lacking net k o s h e p = subst Unaided (sym (at_met net k s.at s.node (sym h ∙ ap (option_map numbered) e))) (plain_alone s.at s.node (token_of k) p)
+lacking net k o s h e p =
+    subst Unaided (sym (at_met net k s.at s.node (sym h ∙ ap (option_map numbered) e))) (plain_alone s.at s.node (token_of k) p)

@@ -1,5 +1,6 @@
 -- Trails of a net's own nodes, and that a token has one walk.
-use Rattle.std.proofs.Common.{◌≡◌, ◌⊎◌, ℕ, zero, suc, ◌≤◌, Bool, true, false, cond, List, [], ◌∷◌, length, Option, Some, None, refl, sym, ap, ◌∙◌, subst, inl, inr, arith}
+use Rattle.std.proofs.Common.{◌≡◌, ◌⊎◌, ℕ, zero, suc, ◌≤◌, Bool, true, false, cond, List, [], ◌∷◌, length, Option, Some, None, refl, sym}
+use Rattle.std.proofs.Common.{ap, ◌∙◌, subst, inl, inr, arith}
 use Rattle.std.specs.Prelude.{slice_get}
 use Rattle.std.specs.List.{All}
 use Rattle.std.proofs.lemmas.List.Elements.{All-head, All-tail}
@@ -17,7 +18,8 @@ use Rattle.move_rules.proofs.Numbers.{MoveAt, move_is}
 use Rattle.move_rules.proofs.Walking.{token_is}
 
 -- the first of a trail is a solo move of a node that is faced
-first_step : (b : Bool) (m : Move) (f : TokenTree → Option TokenTree) (y : TokenTree) → cond b (on_solo m f) None ≡ Some y → (b ≡ true) × ((i : ℕ) × (z : TokenTree) × (m ≡ solo i z) × (f z ≡ Some y))
+first_step : (b : Bool) (m : Move) (f : TokenTree → Option TokenTree) (y : TokenTree) → cond b (on_solo m f) None ≡ Some y
+    → (b ≡ true) × ((i : ℕ) × (z : TokenTree) × (m ≡ solo i z) × (f z ≡ Some y))
 first_step true (solo i z) f y h = (refl, (i, z, refl, h))
 first_step true (fork i l r t) f y h = cc
 first_step true (join i o d v w t) f y h = cc
@@ -25,13 +27,15 @@ first_step true (answer v) f y h = cc
 first_step true stay f y h = cc
 first_step false m f y h = cc
 
-pub trail_walks : (net : NetTree) → Sound net → (trail : List Seen) → All (Stands net) trail → (x y : TokenTree) → through trail x ≡ Some y → Walks net x (numbers trail) y
+pub trail_walks : (net : NetTree) → Sound net → (trail : List Seen) → All (Stands net) trail → (x y : TokenTree) → through trail x ≡ Some y
+    → Walks net x (numbers trail) y
 trail_walks net sound [] a x y h = cc
 trail_walks net sound (s ∷ trail) a x y h =
     let (f, (i, z, m, g)) = first_step (faces s.node (place_of x)) (move_at s.at s.node x) (through trail) y h in
     let faced = faced_there net sound (place_of x) s.at s.node (All-head (Stands net) s trail a) f in
     let e : i ≡ s.at = subst (MoveAt s.at) m (move_is s.at s.node x) in
-    let one : move net x ≡ solo s.at z = move_faced net x ∙ ap (λ o. on_found o stay (λ i n. move_at i n x)) faced ∙ m ∙ ap (λ i. solo i z) e in
+    let one : move net x ≡ solo s.at z =
+    move_faced net x ∙ ap (λ o. on_found o stay (λ i n. move_at i n x)) faced ∙ m ∙ ap (λ i. solo i z) e in
     (z, one, trail_walks net sound trail (All-tail (Stands net) s trail a) z y g)
 
 same_solo : (i j : ℕ) (x y : TokenTree) → solo i x ≡ solo j y → (i ≡ j) × (x ≡ y)
@@ -53,8 +57,13 @@ same_cons s s' t t' e h = λ k. e k ∷ h k
 passage_is : (m m' : Passage) → m.before ≡ m'.before → m.after ≡ m'.after → m.trail ≡ m'.trail → m ≡ m'
 passage_is m m' b a t = λ k. record { before = b k; after = a k; trail = t k }
 
-one_walk_from : (net : NetTree) (most : ℕ) (t t' : List Seen) (x y y' : TokenTree) → Walks net x (numbers t) y → Walks net x (numbers t') y' → All (Stands net) t → All (Stands net) t'
-    → length t ≤ most → length t' ≤ most → (length t ≡ most) ⊎ NotSolo (move net y) → (length t' ≡ most) ⊎ NotSolo (move net y') → (t ≡ t') × (y ≡ y')
+-- Two walks of one token agree move by move: where both go on, the move is one and the same, and neither ends where the other goes on.
+one_walk_from : (net : NetTree) (most : ℕ) (t t' : List Seen) (x y y' : TokenTree)
+    → (walks : Walks net x (numbers t) y) → (walks' : Walks net x (numbers t') y')
+    → (nodes : All (Stands net) t) → (nodes' : All (Stands net) t')
+    → (at_most : length t ≤ most) → (at_most' : length t' ≤ most)
+    → (ends : (length t ≡ most) ⊎ NotSolo (move net y)) → (ends' : (length t' ≡ most) ⊎ NotSolo (move net y'))
+    → (t ≡ t') × (y ≡ y')
 one_walk_from net most [] [] x y y' w w' a a' l l' e e' = (refl, sym w ∙ w')
 one_walk_from net most [] (s ∷ t') x y y' w w' a a' l l' (inl e) e' = absurd (omega arith)
 one_walk_from net most [] (s ∷ t') x y y' w (z, m, w') a a' l l' (inr e) e' = elim (subst NotSolo (ap (move net) (sym w) ∙ m) e) [ ]
@@ -66,12 +75,15 @@ one_walk_from net (suc most) (s ∷ t) (s' ∷ t') x y y' (z, m, w) (z', m', w')
     let n : s.node ≡ s'.node =
     same_node s.node s'.node (sym (All-head (Stands net) s t a) ∙ ap (slice_get net.nodes) i ∙ All-head (Stands net) s' t' a') in
     let (r, k) =
-    one_walk_from net most t t' z y y' w (subst (λ u. Walks net u (numbers t') y') (sym q) w') (All-tail (Stands net) s t a) (All-tail (Stands net) s' t' a')
+    one_walk_from net most t t' z y y' w (subst (λ u. Walks net u (numbers t') y') (sym q) w') (All-tail (Stands net) s t a)
+    (All-tail (Stands net) s' t' a')
     (omega arith) (omega arith) (end_of net (length t) most y e) (end_of net (length t') most y' e') in
     (same_cons s s' t t' (seen_is s s' i n) r, k)
 
 pub one_walk : (net : NetTree) (most : ℕ) (m m' : Passage) → m.before ≡ m'.before → Walked net most m → Walked net most m' → m ≡ m'
 one_walk net most m m' b w w' =
-    let moves : Walks net (token_of m.before) (numbers m'.trail) (token_of m'.after) = subst (λ k. Walks net (token_of k) (numbers m'.trail) (token_of m'.after)) (sym b) w'.moves in
-    let (t, y) = one_walk_from net most m.trail m'.trail (token_of m.before) (token_of m.after) (token_of m'.after) w.moves moves w.nodes w'.nodes w.at_most w'.at_most w.ends w'.ends in
+    let moves : Walks net (token_of m.before) (numbers m'.trail) (token_of m'.after) =
+    subst (λ k. Walks net (token_of k) (numbers m'.trail) (token_of m'.after)) (sym b) w'.moves in
+    let (t, y) = one_walk_from net most m.trail m'.trail (token_of m.before) (token_of m.after) (token_of m'.after) w.moves moves w.nodes
+    w'.nodes w.at_most w'.at_most w.ends w'.ends in
     passage_is m m' b (token_is m.after m'.after y) t

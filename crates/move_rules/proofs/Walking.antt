@@ -1,5 +1,6 @@
 -- A walk, move by move.
-use Rattle.std.proofs.Common.{◌≡◌, ◌⊎◌, ℕ, ◌+◌, ◌-◌, ◌<◌, ◌≤◌, Bool, true, false, cond, List, [], ◌∷◌, ◌++◌, length, Option, Some, None, Result, Ok, Err, refl, sym, ap, ◌∙◌, subst, inl, inr, arith}
+use Rattle.std.proofs.Common.{◌≡◌, ◌⊎◌, ℕ, ◌+◌, ◌-◌, ◌<◌, ◌≤◌, Bool, true, false, cond, List, [], ◌∷◌, ◌++◌, length, Option, Some, None}
+use Rattle.std.proofs.Common.{Result, Ok, Err, refl, sym, ap, ◌∙◌, subst, inl, inr, arith}
 use Rattle.std.specs.List.{All}
 use Rattle.std.specs.Result.{IfOk}
 use Rattle.std.proofs.lemmas.List.{length-append}
@@ -16,7 +17,8 @@ use Rattle.move_rules.specs.Views.{place_at, of_kind, token_of}
 use Rattle.move_rules.specs.Walks.{Walks, numbers, Stands, faces, on_solo, through, SoloMove, Passage, Reached, Walked, MadeIfSolo}
 
 -- one move more behind a walk
-walks_more : (net : NetTree) (trail : List Seen) (s : Seen) (x y z : TokenTree) → Walks net x (numbers trail) y → move net y ≡ solo s.at z → Walks net x (numbers (trail ++ s ∷ [])) z
+walks_more : (net : NetTree) (trail : List Seen) (s : Seen) (x y z : TokenTree) → Walks net x (numbers trail) y → move net y ≡ solo s.at z
+    → Walks net x (numbers (trail ++ s ∷ [])) z
 walks_more net [] s x y z w h = (z, ap (move net) w ∙ h, refl)
 walks_more net (a ∷ trail) s x y z (u, m, w) h = (u, m, walks_more net trail s u y z w h)
 
@@ -24,7 +26,8 @@ walks_more net (a ∷ trail) s x y z (u, m, w) h = (u, m, walks_more net trail s
 abbrev then_through : Bool → Move → (TokenTree → Option TokenTree) → Option TokenTree
 then_through b m f = cond b (on_solo m f) None
 
-then_more : (trail : List Seen) (s : Seen) (y z : TokenTree) (b : Bool) (m : Move) → ((u : TokenTree) → through trail u ≡ Some y → through (trail ++ s ∷ []) u ≡ Some z)
+then_more : (trail : List Seen) (s : Seen) (y z : TokenTree) (b : Bool) (m : Move)
+    → ((u : TokenTree) → through trail u ≡ Some y → through (trail ++ s ∷ []) u ≡ Some z)
     → then_through b m (through trail) ≡ Some y → then_through b m (through (trail ++ s ∷ [])) ≡ Some z
 then_more trail s y z true (solo i u) go h = go u h
 then_more trail s y z true (fork i l r t) go h = cc
@@ -33,12 +36,15 @@ then_more trail s y z true (answer v) go h = cc
 then_more trail s y z true stay go h = cc
 then_more trail s y z false m go h = cc
 
-through_more : (trail : List Seen) (s : Seen) (x y z : TokenTree) → through trail x ≡ Some y → through (s ∷ []) y ≡ Some z → through (trail ++ s ∷ []) x ≡ Some z
+through_more : (trail : List Seen) (s : Seen) (x y z : TokenTree) → through trail x ≡ Some y → through (s ∷ []) y ≡ Some z
+    → through (trail ++ s ∷ []) x ≡ Some z
 through_more [] s x y z h e = let q : x ≡ y = cc in ap (through (s ∷ [])) q ∙ e
-through_more (a ∷ trail) s x y z h e = then_more trail s y z (faces a.node (place_of x)) (move_at a.at a.node x) (λ u g. through_more trail s u y z g e) h
+through_more (a ∷ trail) s x y z h e =
+    then_more trail s y z (faces a.node (place_of x)) (move_at a.at a.node x) (λ u g. through_more trail s u y z g e) h
 
 -- one more on the trail, and one fewer left
-longer : (trail trail' : List Seen) (s : Seen) (left most : ℕ) → length trail + left ≡ most → 0 < left → trail' ≡ trail ++ s ∷ [] → length trail' + (left - 1) ≡ most
+longer : (trail trail' : List Seen) (s : Seen) (left most : ℕ) → length trail + left ≡ most → 0 < left → trail' ≡ trail ++ s ∷ []
+    → length trail' + (left - 1) ≡ most
 longer trail trail' s left most c p t =
     let l : length (trail ++ s ∷ []) ≡ length trail + 1 = length-append trail (s ∷ []) in
     let k : length trail' ≡ length (trail ++ s ∷ []) = ap length t in
@@ -52,7 +58,8 @@ pub record Walking (net : NetTree) (token before after : Token) (trail : List Se
   pub nodes : All (Stands net) trail
   pub count : length trail + left ≡ most
 
-pub begins : (net : NetTree) (token before : Token) (trail : List Seen) (most : ℕ) → before ≡ token → trail ≡ [] → Walking net token before token trail most most
+pub begins : (net : NetTree) (token before : Token) (trail : List Seen) (most : ℕ) → before ≡ token → trail ≡ []
+    → Walking net token before token trail most most
 begins net token before trail most e t = record {
   same = e;
   passed = ap (λ r. through r (token_of before)) t ∙ ap (λ k. Some (token_of k)) e;
@@ -61,12 +68,14 @@ begins net token before trail most e t = record {
   count = let l : length trail ≡ 0 = ap length t in omega (arith, l);
 }
 
+-- one solo move more keeps what a walk on its way is: the trail has the move's node behind it, and one move fewer is left
 pub goes_on : (net : NetTree) (token before after after' : Token) (trail trail' : List Seen) (s : Seen) (left most : ℕ)
     → Walking net token before after trail left most → 0 < left → SoloMove net after s after' → trail' ≡ trail ++ s ∷ []
     → Walking net token before after' trail' (left - 1) most
 goes_on net token before after after' trail trail' s left most w p e t = record {
   same = w.same;
-  passed = ap (λ r. through r (token_of before)) t ∙ through_more trail s (token_of before) (token_of after) (token_of after') w.passed e.passes;
+  passed = ap (λ r. through r (token_of before)) t
+      ∙ through_more trail s (token_of before) (token_of after) (token_of after') w.passed e.passes;
   moves =
       subst (λ r. Walks net (token_of before) (numbers r) (token_of after')) (sym t)
       (walks_more net trail s (token_of before) (token_of after) (token_of after') w.moves e.moves);
@@ -82,22 +91,26 @@ ends_zero net token before after trail left most w e =
 
 -- the end of a walk before a move that is no solo move, with what the last step gave
 pub ends_still : (net : NetTree) (token before after last : Token) (trail : List Seen) (left most : ℕ)
-    → Walking net token before after trail left most → NotSolo (move net (token_of after)) × (last ≡ after) → Walked net most (record { before = before; after = last; trail = trail })
+    → Walking net token before after trail left most → NotSolo (move net (token_of after)) × (last ≡ after)
+    → Walked net most (record { before = before; after = last; trail = trail })
 ends_still net token before after last trail left most w (n, e) =
     let c = w.count in
     subst (λ k. Walked net most (record { before = before; after = k; trail = trail })) (sym e)
     (record { moves = w.moves; nodes = w.nodes; at_most = omega (arith, c); ends = inr n })
 
 pub reached_still : (net : NetTree) (token before after last : Token) (trail : List Seen) (left most : ℕ)
-    → Walking net token before after trail left most → NotSolo (move net (token_of after)) × (last ≡ after) → Reached (record { before = before; after = last; trail = trail })
+    → Walking net token before after trail left most → NotSolo (move net (token_of after)) × (last ≡ after)
+    → Reached (record { before = before; after = last; trail = trail })
 reached_still net token before after last trail left most w (n, e) = w.passed ∙ ap (λ k. Some (token_of k)) (sym e)
 
 -- tokens that are seen alike are alike
 pub token_is : (k k' : Token) → token_of k ≡ token_of k' → k ≡ k'
 token_is k k' h = go k.wire k'.wire k.up k'.up k.kind k'.kind k.stacks.work k'.stacks.work k.stacks.boxes k'.stacks.boxes h
   where
-    go : (w w' : ℕ) (b b' : Bool) (q q' : Kind) (m m' : Work) (t t' : Boxes) → of_kind q (place_at w b (load m t)) ≡ of_kind q' (place_at w' b' (load m' t'))
-        → ◌≡◌ {A = Token} (record { wire = w; up = b; kind = q; stacks = load m t }) (record { wire = w'; up = b'; kind = q'; stacks = load m' t' })
+    go : (w w' : ℕ) (b b' : Bool) (q q' : Kind) (m m' : Work) (t t' : Boxes)
+        → of_kind q (place_at w b (load m t)) ≡ of_kind q' (place_at w' b' (load m' t'))
+        → ◌≡◌ {A = Token} (record { wire = w; up = b; kind = q; stacks = load m t })
+        (record { wire = w'; up = b'; kind = q'; stacks = load m' t' })
     go w w' true true Ask Ask m m' t t' h = cc
     go w w' true true Ask (Ans v) m m' t t' h = cc
     go w w' true true (Ans u) Ask m m' t t' h = cc
@@ -127,7 +140,8 @@ stays net m stay n t e = (t, e)
 pub once : (net : NetTree) (m : Passage) → Walked net 1 m → MadeIfSolo net m (move net (token_of m.before))
 once net m w = go m.trail refl w.moves w.nodes w.at_most w.ends
   where
-    go : (trail : List Seen) → m.trail ≡ trail → Walks net (token_of m.before) (numbers trail) (token_of m.after) → All (Stands net) trail → length trail ≤ 1
+    go : (trail : List Seen) → m.trail ≡ trail → Walks net (token_of m.before) (numbers trail) (token_of m.after) → All (Stands net) trail
+        → length trail ≤ 1
         → (length trail ≡ 1) ⊎ NotSolo (move net (token_of m.after)) → MadeIfSolo net m (move net (token_of m.before))
     go [] t w a l (inl e) = cc
     go [] t w a l (inr n) =

@@ -16,7 +16,8 @@ Goes rule old made new =
 
 -- the token makes its solo move through the node, whatever the node's number, or it has none there and all stays
 abbrev pub Passes : Node → Token → Bool → Token → Type 0
-Passes n old made new = (i : ℕ) → MatchBool made (move_at i n (token_of old) ≡ solo i (token_of new)) (NotSolo (move_at i n (token_of old)) × (new ≡ old))
+Passes n old made new = (i : ℕ)
+    → MatchBool made (move_at i n (token_of old) ≡ solo i (token_of new)) (NotSolo (move_at i n (token_of old)) × (new ≡ old))
 
 -- a node whose rules are all plain: only there a move takes memory
 abbrev pub IsPlain : Node → Type 0

@@ -4,7 +4,7 @@
 --
 -- Plain rules carry questions and answers alike, look at the stacks alone, and hold in both directions: each row of the table is
 -- followed by its other way, which goes from the row's second place, turned, to its first place, turned. Each function below is
--- one row or its other way, told by the shape of the stacks, or the two or three of them that begin at one wire of the node. In all
+-- one row or its other way, known by the shape of the stacks, or the two or three of them that begin at one wire of the node. In all
 -- of them `m` is the rest of the work stack and `t` that of the box stack, which stay.
 --
 -- The table speaks of every net, sound or not: the node is the least one on that side of the wire, and where a node names one
@@ -57,7 +57,7 @@ abbrev pub app_arg : ℕ → Work → Boxes → Option Place
 app_arg f (S s ∷ m) t = Some (up f (L ∷ S s ∷ m) t)
 app_arg f _ t = None
 
--- into a box: the signature tells which copy of it is meant
+-- into a box: the signature says which copy of it is meant
 abbrev pub box_up : ℕ → Work → Boxes → Option Place
 box_up i (S s ∷ m) t = Some (up i m (s ∷ t))
 box_up i _ t = None
@@ -82,7 +82,7 @@ abbrev pub der_back : ℕ → Work → Boxes → Option Place
 der_back w (S star ∷ m) t = Some (down w m t)
 der_back w _ t = None
 
--- a contraction, upwards: the mark tells which of the two uses
+-- a contraction, upwards: the mark says which of the two uses
 abbrev pub con_up : ℕ → ℕ → Work → Boxes → Option Place
 con_up l r (S (left_of s) ∷ m) t = Some (up l (S s ∷ m) t)
 con_up l r (S (right_of s) ∷ m) t = Some (up r (S s ∷ m) t)
@@ -145,7 +145,8 @@ plain_down (Lam b x c) w m t = or_else (at_wire b w (Some (down c (R ∷ m) t)))
 plain_down (App f a c) w m t = or_else (at_wire f w (app_fun a c m t)) (at_wire a w (app_arg f m t))
 plain_down (BoxNode i o) w m t = box_down o m t
 plain_down (Door i o) w m t = door_down o m t
-plain_down (FixBox b x c) w m t = or_else (at_wire b w (fix_out c m t)) (or_else (at_wire x w (fix_var b m t)) (at_wire b w (fix_back x m t)))
+plain_down (FixBox b x c) w m t =
+    or_else (at_wire b w (fix_out c m t)) (or_else (at_wire x w (fix_var b m t)) (at_wire b w (fix_back x m t)))
 plain_down (Pair a b c) w m t = or_else (at_wire a w (Some (down c (L ∷ m) t))) (at_wire b w (Some (down c (R ∷ m) t)))
 plain_down (Fst a c) w m t = fst_down c m t
 plain_down (Snd a c) w m t = snd_down c m t

@@ -1,5 +1,5 @@
 -- Walks: solo moves of one token, one after another, and what is kept of them.
--- A walk is told by its trail, the nodes that it went through with their numbers. It can be told in two ways. `Walks` is about a net:
+-- A walk is given by its trail, the nodes that it went through with their numbers, and in two ways. `Walks` is about a net:
 -- each step is the move that the table gives there. `through` names no net: each node of the trail, by its own rules, makes a solo move
 -- of a token that faces it. What was walked keeps the second for good, whatever net comes later; on a sound net that has the
 -- trail's nodes at their numbers, it gives the first.
@@ -85,7 +85,8 @@ pub record Walked (net : NetTree) (most : ℕ) (m : Passage) : Type 0 where
 
 -- the move was made if it is a solo move, and else none was
 abbrev pub MadeIfSolo : NetTree → Passage → Move → Type 0
-MadeIfSolo net m (solo i x) = (n : Node) × (slice_get net.nodes i ≡ Some n) × (m.trail ≡ record { at = i; node = n } ∷ []) × (token_of m.after ≡ x)
+MadeIfSolo net m (solo i x) =
+    (n : Node) × (slice_get net.nodes i ≡ Some n) × (m.trail ≡ record { at = i; node = n } ∷ []) × (token_of m.after ≡ x)
 MadeIfSolo net m (fork i l r t) = (m.trail ≡ []) × (m.after ≡ m.before)
 MadeIfSolo net m (join i o s v w t) = (m.trail ≡ []) × (m.after ≡ m.before)
 MadeIfSolo net m (answer v) = (m.trail ≡ []) × (m.after ≡ m.before)

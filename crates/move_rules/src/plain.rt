@@ -1,5 +1,5 @@
-//! The plain rules, node by node, in place. Each function takes a token that faces its node; where no rule fits, or memory is
-//! wanting, the token stays as it was.
+//! The plain rules, node by node, in place. Each function takes a token that faces its node; where no rule fits, or memory
+//! runs out, the token stays as it was.
 ghost use Rattle.std.specs.Prelude.{◌≡◌, IfOk, OnErr};
 ghost use Rattle.net_build.specs.declared.node.Node.TheVariants.{Der, Con, Lam, App, BoxNode, Door, FixBox, Pair, Fst, Snd};
 ghost use Rattle.move_rules.specs.Table.{plain_at};

@@ -4,29 +4,37 @@ use Rattle.move_rules.proofs.moved.walk.Goals as goal
 use Rattle.move_rules.proofs.moved.walk.Goals.{else-loop-left-test, then-loop-left-test+in_ok-seen+in-None}
 
 pub loop-left-init : goal.loop-left-init
-loop-left-init c = begins c.args.net.now c.args.token c.in_ok-before.before c.in_ok-trail.trail.items c.args.most c.in_ok-before.ensures c.in_ok-trail.ensures.items
+loop-left-init c = begins c.args.net.now c.args.token c.in_ok-before.before c.in_ok-trail.trail.items c.args.most c.in_ok-before.ensures
+    c.in_ok-trail.ensures.items
 
 pub loop-left-preserved : goal.loop-left-preserved
 loop-left-preserved c =
-    goes_on c.args.net.now c.args.token c.in_ok-before.before c.loop-left.after c.solo_move.new.token c.loop-left.trail.items c.push.new.self.items c.in-Some.seen c.loop-left.left c.args.most
+    goes_on c.args.net.now c.args.token c.in_ok-before.before c.loop-left.after c.solo_move.new.token c.loop-left.trail.items
+    c.push.new.self.items c.in-Some.seen c.loop-left.left c.args.most
     c.loop-left.invariant (omega arith) (rw c.in-Some.is at c.in_ok-seen.ensures.ok) c.in_ok-push-in-Some.ensures.items
 
 pub invariant_of-result : goal.invariant_of-result
 invariant_of-result c =
-    let w : Walking c.args.net.now c.args.token c.in_ok-before.before c.loop-left.after c.loop-left.trail.items c.loop-left.left c.args.most = c.loop-left.invariant in
+    let w : Walking c.args.net.now c.args.token c.in_ok-before.before c.loop-left.after c.loop-left.trail.items c.loop-left.left
+    c.args.most = c.loop-left.invariant in
     elim c.loop-left-test.branch [
       | else-loop-left-test b ↦ rw b.after-is w.passed
       | then-loop-left-test+in_ok-seen+in-None b ↦
-          reached_still c.args.net.now c.args.token c.in_ok-before.before c.loop-left.after c.loop-left-test.after c.loop-left.trail.items c.loop-left.left c.args.most w
+          reached_still c.args.net.now c.args.token c.in_ok-before.before c.loop-left.after c.loop-left-test.after c.loop-left.trail.items
+          c.loop-left.left c.args.most w
           (rw b.after-is (rw b.in-None.is at b.in_ok-seen.ensures.ok))
     ]
 
 pub returns-clause-walked : goal.returns-clause-walked
 returns-clause-walked c =
-    let w : Walking c.args.net.now c.args.token c.in_ok-before.before c.loop-left.after c.loop-left.trail.items c.loop-left.left c.args.most = c.loop-left.invariant in
+    let w : Walking c.args.net.now c.args.token c.in_ok-before.before c.loop-left.after c.loop-left.trail.items c.loop-left.left
+    c.args.most = c.loop-left.invariant in
     elim c.loop-left-test.branch [
-      | else-loop-left-test b ↦ rw b.after-is (ends_zero c.args.net.now c.args.token c.in_ok-before.before c.loop-left.after c.loop-left.trail.items c.loop-left.left c.args.most w (omega arith))
+      | else-loop-left-test b ↦ rw b.after-is
+          (ends_zero c.args.net.now c.args.token c.in_ok-before.before c.loop-left.after c.loop-left.trail.items c.loop-left.left
+          c.args.most w (omega arith))
       | then-loop-left-test+in_ok-seen+in-None b ↦
-          ends_still c.args.net.now c.args.token c.in_ok-before.before c.loop-left.after c.loop-left-test.after c.loop-left.trail.items c.loop-left.left c.args.most w
+          ends_still c.args.net.now c.args.token c.in_ok-before.before c.loop-left.after c.loop-left-test.after c.loop-left.trail.items
+          c.loop-left.left c.args.most w
           (rw b.after-is (rw b.in-None.is at b.in_ok-seen.ensures.ok))
     ]

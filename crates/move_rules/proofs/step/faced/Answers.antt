@@ -3,7 +3,8 @@ use Rattle.move_rules.proofs.step.faced.Goals as goal
 
 pub returns-in-Some-node : goal.returns-in-Some-node
 returns-in-Some-node c =
-    found_is c.args.net.now _ c.in-Some.at c.in-Some-node.node c.number.result c.node.result c.number.ensures c.in-Some.is c.node.ensures c.in-Some-node.is
+    found_is c.args.net.now _ c.in-Some.at c.in-Some-node.node c.number.result c.node.result c.number.ensures c.in-Some.is c.node.ensures
+    c.in-Some-node.is
 
 pub returns-in-None-node : goal.returns-in-None-node
 returns-in-None-node c =
