@@ -44,6 +44,17 @@ flag name = record (new_rule name) { long = Some name; action = Some SetTrue }
 abbrev pub command : Text → List Rule → Shape
 command name rules = record (new_shape name) { rules = rules }
 
+-- what several subcommands begin with: a file, the limits of a run, and what is printed of its log
+abbrev pub file_command : Text → Shape
+file_command name = command name (operand (codes "file") ∷ [])
+
+abbrev pub limited_command : Text → Shape
+limited_command name = command name (operand (codes "file") ∷ workers_option ∷ budget_option ∷ [])
+
+abbrev pub logged_command : Text → Shape
+logged_command name =
+    command name (operand (codes "file") ∷ workers_option ∷ budget_option ∷ flag (codes "schedule") ∷ flag (codes "tally") ∷ [])
+
 -- the subcommands
 abbrev pub run_command : Shape
 run_command = command (codes "run")

@@ -1,6 +1,10 @@
-pub mod Asked
-pub mod Commands
-pub mod Faults
+-- what a reader has to believe: the jobs, the command line as `clap` knows it, and what words ask for at it
 pub mod Jobs
-pub mod Laws
+pub mod Commands
+pub mod Asked
+-- the table that a user knows: plain words, and what they ask for
 pub mod Plain
+-- the laws
+pub mod Laws
+-- what an error of `clap` comes to
+pub mod Faults

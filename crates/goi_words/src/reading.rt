@@ -15,7 +15,11 @@ use pcf_values::Ident;
 use std::alloc::Global;
 
 /// The job that the words ask for. The first word is the program's own name, whatever it is; no words at all are as the name alone.
-/// The numbers of a job are in their ranges. `Refused` comes only where `clap`'s definition refuses the words.
+/// The numbers of a job are in their ranges.
+///
+/// # Errors
+///
+/// `Refused` comes only when `clap`'s definition refuses the words, and `NoMemory` when memory runs out.
 pub fn job_of(alloc: Global, words: &[String]) -> Result<Job, WordFault>
     ensures ok { IfOk result (λ done. job (map string_bytes words.now) ≡ Some (job_of done)) }
     ensures within { IfOk result (λ done. IsWithinLimits (job_of done)) }
