@@ -8,7 +8,8 @@ use Rattle.pcf_values.specs.Terms.{Side, left_side, right_side, TyTree}
 use Rattle.net_build.specs.declared.wire.WireKind.{WireKind}
 use Rattle.net_build.specs.declared.wire.WireKind.TheVariants.{Value, Bang, Variable}
 use Rattle.net_build.specs.declared.node.Node.{Node}
-use Rattle.net_build.specs.declared.node.Node.TheVariants.{Const, Succ, Pred, Plus, Minus, Times, Ifz, Der, Con, Weak, Lam, App, BoxNode, Door, FixBox, Root, Pair, Fst, Snd}
+use Rattle.net_build.specs.declared.node.Node.TheVariants.{Const, Succ, Pred, Plus, Minus, Times, Ifz, Der, Con, Weak, Lam, App, BoxNode}
+use Rattle.net_build.specs.declared.node.Node.TheVariants.{Door, FixBox, Root, Pair, Fst, Snd}
 
 -- a wire: what it carries, in how many boxes it stands, and its type
 pub record WireTree : Type 0 where
@@ -34,55 +35,55 @@ var_wire d t = record { kind = Variable; depth = d; type = t }
 
 -- the node of an operator
 abbrev pub binary_node : Op → ℕ → ℕ → ℕ → Node
-binary_node plus_op a b w = Plus a b w
-binary_node minus_op a b w = Minus a b w
-binary_node times_op a b w = Times a b w
+binary_node plus_op left right wire = Plus left right wire
+binary_node minus_op left right wire = Minus left right wire
+binary_node times_op left right wire = Times left right wire
 
 -- the node that takes a part of a pair
 abbrev pub proj_node : Side → ℕ → ℕ → Node
-proj_node left_side a w = Fst a w
-proj_node right_side a w = Snd a w
+proj_node left_side operand wire = Fst operand wire
+proj_node right_side operand wire = Snd operand wire
 
 -- the wires above a node: it stands below them
 abbrev pub premises : Node → List ℕ
-premises (Const v w) = []
-premises (Succ a w) = a ∷ []
-premises (Pred a w) = a ∷ []
-premises (Plus a b w) = a ∷ b ∷ []
-premises (Minus a b w) = a ∷ b ∷ []
-premises (Times a b w) = a ∷ b ∷ []
-premises (Ifz c p q w) = c ∷ p ∷ q ∷ []
-premises (Der w x) = []
-premises (Con l r w) = l ∷ r ∷ []
-premises (Weak x) = []
-premises (Lam b x w) = b ∷ x ∷ []
-premises (App f a w) = f ∷ a ∷ []
-premises (BoxNode i o) = i ∷ []
-premises (Door i o) = i ∷ []
-premises (FixBox b x w) = b ∷ x ∷ []
-premises (Root w) = w ∷ []
-premises (Pair a b w) = a ∷ b ∷ []
-premises (Fst a w) = a ∷ []
-premises (Snd a w) = a ∷ []
+premises (Const value wire) = []
+premises (Succ operand wire) = operand ∷ []
+premises (Pred operand wire) = operand ∷ []
+premises (Plus left right wire) = left ∷ right ∷ []
+premises (Minus left right wire) = left ∷ right ∷ []
+premises (Times left right wire) = left ∷ right ∷ []
+premises (Ifz condition at_zero otherwise wire) = condition ∷ at_zero ∷ otherwise ∷ []
+premises (Der wire variable) = []
+premises (Con left right wire) = left ∷ right ∷ []
+premises (Weak variable) = []
+premises (Lam body variable wire) = body ∷ variable ∷ []
+premises (App function argument wire) = function ∷ argument ∷ []
+premises (BoxNode inside outside) = inside ∷ []
+premises (Door inside outside) = inside ∷ []
+premises (FixBox body variable wire) = body ∷ variable ∷ []
+premises (Root wire) = wire ∷ []
+premises (Pair left right wire) = left ∷ right ∷ []
+premises (Fst operand wire) = operand ∷ []
+premises (Snd operand wire) = operand ∷ []
 
 -- the wires below a node: it stands above them
 abbrev pub conclusions : Node → List ℕ
-conclusions (Const v w) = w ∷ []
-conclusions (Succ a w) = w ∷ []
-conclusions (Pred a w) = w ∷ []
-conclusions (Plus a b w) = w ∷ []
-conclusions (Minus a b w) = w ∷ []
-conclusions (Times a b w) = w ∷ []
-conclusions (Ifz c p q w) = w ∷ []
-conclusions (Der w x) = w ∷ x ∷ []
-conclusions (Con l r w) = w ∷ []
-conclusions (Weak x) = x ∷ []
-conclusions (Lam b x w) = w ∷ []
-conclusions (App f a w) = w ∷ []
-conclusions (BoxNode i o) = o ∷ []
-conclusions (Door i o) = o ∷ []
-conclusions (FixBox b x w) = w ∷ []
-conclusions (Root w) = []
-conclusions (Pair a b w) = w ∷ []
-conclusions (Fst a w) = w ∷ []
-conclusions (Snd a w) = w ∷ []
+conclusions (Const value wire) = wire ∷ []
+conclusions (Succ operand wire) = wire ∷ []
+conclusions (Pred operand wire) = wire ∷ []
+conclusions (Plus left right wire) = wire ∷ []
+conclusions (Minus left right wire) = wire ∷ []
+conclusions (Times left right wire) = wire ∷ []
+conclusions (Ifz condition at_zero otherwise wire) = wire ∷ []
+conclusions (Der wire variable) = wire ∷ variable ∷ []
+conclusions (Con left right wire) = wire ∷ []
+conclusions (Weak variable) = variable ∷ []
+conclusions (Lam body variable wire) = wire ∷ []
+conclusions (App function argument wire) = wire ∷ []
+conclusions (BoxNode inside outside) = outside ∷ []
+conclusions (Door inside outside) = outside ∷ []
+conclusions (FixBox body variable wire) = wire ∷ []
+conclusions (Root wire) = []
+conclusions (Pair left right wire) = wire ∷ []
+conclusions (Fst operand wire) = wire ∷ []
+conclusions (Snd operand wire) = wire ∷ []
