@@ -1,11 +1,14 @@
 -- How many wires and nodes a built net has, by the term's size and height.
-use Rattle.std.proofs.Common.{◌≡◌, ℕ, zero, suc, ◌+◌, ◌*◌, ◌≤◌, max, List, [], ◌∷◌, ◌++◌, length, length-append, Option, Some, None, refl, ap, arith}
+use Rattle.std.proofs.Common.{◌≡◌, ℕ, zero, suc, ◌+◌, ◌*◌, ◌≤◌, max, List, [], ◌∷◌, ◌++◌, length, length-append, Option, Some, None, refl}
+use Rattle.std.proofs.Common.{ap, arith}
 use Rattle.std.proofs.Math.Nat.{mul-le-mul_left, add-mul, mul-add, suc-mul, le-max_left, le-max_right}
-use Rattle.pcf_values.specs.Terms.{TyTree, nat, arrow, product, TermTree, num, var, succ_of, pred_of, binary, ifz, lam, fix, app, pair, proj, size, height}
+use Rattle.pcf_values.specs.Terms.{TyTree, nat, arrow, product, TermTree, num, var, succ_of, pred_of, binary, ifz, lam, fix, app, pair}
+use Rattle.pcf_values.specs.Terms.{proj, size, height}
 use Rattle.net_build.specs.declared.node.Node.{Node}
 use Rattle.net_build.specs.declared.node.Node.TheVariants.{Succ, Pred, Ifz, Lam, App, BoxNode, FixBox, Root, Pair}
 use Rattle.net_build.specs.Nets.{binary_node, proj_node, value_wire, bang_wire}
-use Rattle.net_build.specs.NetOf.{Part, contract, doors, bound, bound_wire, none_free, one_free, part, domain, codomain, side_type, unary_part, double_part, ifz_part, lam_part, fix_part, app_part, net_of}
+use Rattle.net_build.specs.NetOf.{Part, contract, doors, bound, bound_wire, none_free, one_free, part, domain, codomain, side_type}
+use Rattle.net_build.specs.NetOf.{unary_part, double_part, ifz_part, lam_part, fix_part, app_part, net_of}
 
 -- what a term of size s and height h may have
 room : ℕ → ℕ → ℕ
@@ -40,7 +43,9 @@ above_two s r h k =
     let d = room_add s r (suc m) in
     omega arith
 
-above_three : (s r q h k l : ℕ) → room s h + room r k + room q l + (s + s + (r + r) + (q + q)) + 4 ≤ room (suc (s + r + q)) (suc (max h (max k l)))
+-- the bound of three operands is below that of the whole
+above_three : (s r q h k l : ℕ)
+    → room s h + room r k + room q l + (s + s + (r + r) + (q + q)) + 4 ≤ room (suc (s + r + q)) (suc (max h (max k l)))
 above_three s r q h k l =
     let m = max h (max k l) in
     let a = room_more s h m (le-max_left h (max k l)) in
@@ -63,7 +68,8 @@ record Fits (s h : ℕ) (p : Part) : Type 0 where
   nodes : length p.nodes ≤ room s h
   free : used p.free ≤ s
 
-contract_used : (n d : ℕ) (g : List TyTree) (f f' : List (Option ℕ)) → let c = contract n d g f f' in (used c.free + length c.wires ≤ used f + used f') × (length c.nodes ≡ length c.wires)
+contract_used : (n d : ℕ) (g : List TyTree) (f f' : List (Option ℕ))
+    → let c = contract n d g f f' in (used c.free + length c.wires ≤ used f + used f') × (length c.nodes ≡ length c.wires)
 unfolding used
 contract_used n d [] f f' = (omega arith, refl)
 contract_used n d (a ∷ g) [] f' = (omega arith, refl)
@@ -73,14 +79,16 @@ contract_used n d (a ∷ g) (None ∷ f) (Some r ∷ f') = let (p, q) = contract
 contract_used n d (a ∷ g) (Some l ∷ f) (None ∷ f') = let (p, q) = contract_used n d g f f' in (omega arith, q)
 contract_used n d (a ∷ g) (Some l ∷ f) (Some r ∷ f') = let (p, q) = contract_used (suc n) d g f f' in (omega arith, ap suc q)
 
-doors_used : (n d : ℕ) (g : List TyTree) (f : List (Option ℕ)) → let e = doors n d g f in (used e.free ≤ used f) × (length e.wires ≤ used f) × (length e.nodes ≡ length e.wires)
+doors_used : (n d : ℕ) (g : List TyTree) (f : List (Option ℕ))
+    → let e = doors n d g f in (used e.free ≤ used f) × (length e.wires ≤ used f) × (length e.nodes ≡ length e.wires)
 unfolding used
 doors_used n d [] f = (omega arith, omega arith, refl)
 doors_used n d (a ∷ g) [] = (omega arith, omega arith, refl)
 doors_used n d (a ∷ g) (None ∷ f) = doors_used n d g f
 doors_used n d (a ∷ g) (Some x ∷ f) = let (p, q, r) = doors_used (suc n) d g f in (omega arith, omega arith, ap suc r)
 
-bound_used : (n d : ℕ) (a : TyTree) (f : List (Option ℕ)) → let b = bound n d a f in (used b.free ≤ used f) × (length b.wires ≤ 1) × (length b.nodes ≡ length b.wires)
+bound_used : (n d : ℕ) (a : TyTree) (f : List (Option ℕ))
+    → let b = bound n d a f in (used b.free ≤ used f) × (length b.wires ≤ 1) × (length b.nodes ≡ length b.wires)
 unfolding used
 bound_used n d a [] = (omega arith, omega arith, refl)
 bound_used n d a (None ∷ f) = (omega arith, omega arith, refl)
@@ -107,7 +115,9 @@ unary_fits node t n d p s h f =
       free = omega (arith, f.free);
     }
 
-double_fits : (node : ℕ → ℕ → ℕ → Node) (t : TyTree) (n d : ℕ) (g : List TyTree) (p q : Part) (s r h k : ℕ) → Fits s h p → Fits r k q → Fits (suc (s + r)) (suc (max h k)) (double_part node t n d g p q)
+-- two operands: their bounds add up, with a contraction for each variable of both at most, and one wire
+double_fits : (node : ℕ → ℕ → ℕ → Node) (t : TyTree) (n d : ℕ) (g : List TyTree) (p q : Part) (s r h k : ℕ) → Fits s h p → Fits r k q
+    → Fits (suc (s + r)) (suc (max h k)) (double_part node t n d g p q)
 double_fits node t n d g p q s r h k f f' =
     let m = n + length p.wires + length q.wires in
     let c = contract m d g p.free q.free in
@@ -115,12 +125,32 @@ double_fits node t n d g p q s r h k f f' =
     let (u, e) = contract_used m d g p.free q.free in
     let a = above_two s r h k in
     record {
-      wires = omega (arith, f.wires, f'.wires, f.free, f'.free, length-append p.wires (q.wires ++ (c.wires ++ value_wire d t ∷ [])), length-append q.wires (c.wires ++ value_wire d t ∷ []), length-append c.wires (value_wire d t ∷ []));
-      nodes = omega (arith, f.nodes, f'.nodes, f.free, f'.free, length-append p.nodes (q.nodes ++ (c.nodes ++ node p.out q.out w ∷ [])), length-append q.nodes (c.nodes ++ node p.out q.out w ∷ []), length-append c.nodes (node p.out q.out w ∷ []));
+      wires = omega (
+        arith,
+        f.wires,
+        f'.wires,
+        f.free,
+        f'.free,
+        length-append p.wires (q.wires ++ (c.wires ++ value_wire d t ∷ [])),
+        length-append q.wires (c.wires ++ value_wire d t ∷ []),
+        length-append c.wires (value_wire d t ∷ []),
+      );
+      nodes = omega (
+        arith,
+        f.nodes,
+        f'.nodes,
+        f.free,
+        f'.free,
+        length-append p.nodes (q.nodes ++ (c.nodes ++ node p.out q.out w ∷ [])),
+        length-append q.nodes (c.nodes ++ node p.out q.out w ∷ []),
+        length-append c.nodes (node p.out q.out w ∷ []),
+      );
       free = omega (arith, f.free, f'.free);
     }
 
-ifz_fits : (n d : ℕ) (g : List TyTree) (x y z : Part) (s r q h k l : ℕ) → Fits s h x → Fits r k y → Fits q l z → Fits (suc (s + r + q)) (suc (max h (max k l))) (ifz_part n d g x y z)
+-- three operands: two contractions for each variable at most, and one wire
+ifz_fits : (n d : ℕ) (g : List TyTree) (x y z : Part) (s r q h k l : ℕ) → Fits s h x → Fits r k y → Fits q l z
+    → Fits (suc (s + r + q)) (suc (max h (max k l))) (ifz_part n d g x y z)
 ifz_fits n d g x y z s r q h k l f f' f'' =
     let m = n + length x.wires + length y.wires + length z.wires in
     let i = contract m d g y.free z.free in
@@ -132,11 +162,38 @@ ifz_fits n d g x y z s r q h k l f f' f'' =
     let (u', e') = contract_used (m + length i.wires) d g x.free i.free in
     let a = above_three s r q h k l in
     record {
-      wires = omega (arith, f.wires, f'.wires, f''.wires, f.free, f'.free, f''.free, length-append x.wires (y.wires ++ (z.wires ++ (i.wires ++ (j.wires ++ last)))), length-append y.wires (z.wires ++ (i.wires ++ (j.wires ++ last))), length-append z.wires (i.wires ++ (j.wires ++ last)), length-append i.wires (j.wires ++ last), length-append j.wires last);
-      nodes = omega (arith, f.nodes, f'.nodes, f''.nodes, f.free, f'.free, f''.free, length-append x.nodes (y.nodes ++ (z.nodes ++ (i.nodes ++ (j.nodes ++ node)))), length-append y.nodes (z.nodes ++ (i.nodes ++ (j.nodes ++ node))), length-append z.nodes (i.nodes ++ (j.nodes ++ node)), length-append i.nodes (j.nodes ++ node), length-append j.nodes node);
+      wires = omega (
+        arith,
+        f.wires,
+        f'.wires,
+        f''.wires,
+        f.free,
+        f'.free,
+        f''.free,
+        length-append x.wires (y.wires ++ (z.wires ++ (i.wires ++ (j.wires ++ last)))),
+        length-append y.wires (z.wires ++ (i.wires ++ (j.wires ++ last))),
+        length-append z.wires (i.wires ++ (j.wires ++ last)),
+        length-append i.wires (j.wires ++ last),
+        length-append j.wires last,
+      );
+      nodes = omega (
+        arith,
+        f.nodes,
+        f'.nodes,
+        f''.nodes,
+        f.free,
+        f'.free,
+        f''.free,
+        length-append x.nodes (y.nodes ++ (z.nodes ++ (i.nodes ++ (j.nodes ++ node)))),
+        length-append y.nodes (z.nodes ++ (i.nodes ++ (j.nodes ++ node))),
+        length-append z.nodes (i.nodes ++ (j.nodes ++ node)),
+        length-append i.nodes (j.nodes ++ node),
+        length-append j.nodes node,
+      );
       free = omega (arith, f.free, f'.free, f''.free);
     }
 
+-- a function: at most a wire of its binder, and one
 lam_fits : (n d : ℕ) (b : TyTree) (p : Part) (s h : ℕ) → Fits s h p → Fits (suc s) (suc h) (lam_part n d b p)
 lam_fits n d b p s h f =
     let m = n + length p.wires in
@@ -152,6 +209,7 @@ lam_fits n d b p s h f =
       free = omega (arith, f.free);
     }
 
+-- a fixed point: at most a wire of its binder, a door for each other variable, and one
 fix_fits : (n d : ℕ) (g : List TyTree) (b : TyTree) (p : Part) (s h : ℕ) → Fits s h p → Fits (suc s) (suc h) (fix_part n d g b p)
 fix_fits n d g b p s h f =
     let m = n + length p.wires in
@@ -164,12 +222,28 @@ fix_fits n d g b p s h f =
     let (u', v', e') = doors_used (m + length r.wires) d g r.free in
     let a = above_one s h in
     record {
-      wires = omega (arith, f.wires, f.free, length-append p.wires (r.wires ++ (x.wires ++ last)), length-append r.wires (x.wires ++ last), length-append x.wires last);
-      nodes = omega (arith, f.nodes, f.free, length-append p.nodes (r.nodes ++ (x.nodes ++ node)), length-append r.nodes (x.nodes ++ node), length-append x.nodes node);
+      wires = omega (
+        arith,
+        f.wires,
+        f.free,
+        length-append p.wires (r.wires ++ (x.wires ++ last)),
+        length-append r.wires (x.wires ++ last),
+        length-append x.wires last,
+      );
+      nodes = omega (
+        arith,
+        f.nodes,
+        f.free,
+        length-append p.nodes (r.nodes ++ (x.nodes ++ node)),
+        length-append r.nodes (x.nodes ++ node),
+        length-append x.nodes node,
+      );
       free = omega (arith, f.free);
     }
 
-app_fits : (n d : ℕ) (g : List TyTree) (p q : Part) (s r h k : ℕ) → Fits s h p → Fits r k q → Fits (suc (s + r)) (suc (max h k)) (app_part n d g p q)
+-- an application: a door and a contraction for each variable at most, the box and one wire
+app_fits : (n d : ℕ) (g : List TyTree) (p q : Part) (s r h k : ℕ) → Fits s h p → Fits r k q
+    → Fits (suc (s + r)) (suc (max h k)) (app_part n d g p q)
 app_fits n d g p q s r h k f f' =
     let m = n + length p.wires + length q.wires in
     let x = doors m d g q.free in
@@ -184,11 +258,32 @@ app_fits n d g p q s r h k f f' =
     let (u', e') = contract_used (suc i) d g p.free x.free in
     let a = above_two s r h k in
     record {
-      wires = omega (arith, f.wires, f'.wires, f.free, f'.free, length-append p.wires (q.wires ++ (x.wires ++ (bang ∷ (c.wires ++ last)))), length-append q.wires (x.wires ++ (bang ∷ (c.wires ++ last))), length-append x.wires (bang ∷ (c.wires ++ last)), length-append c.wires last);
-      nodes = omega (arith, f.nodes, f'.nodes, f.free, f'.free, length-append p.nodes (q.nodes ++ (x.nodes ++ (box ∷ (c.nodes ++ node)))), length-append q.nodes (x.nodes ++ (box ∷ (c.nodes ++ node))), length-append x.nodes (box ∷ (c.nodes ++ node)), length-append c.nodes node);
+      wires = omega (
+        arith,
+        f.wires,
+        f'.wires,
+        f.free,
+        f'.free,
+        length-append p.wires (q.wires ++ (x.wires ++ (bang ∷ (c.wires ++ last)))),
+        length-append q.wires (x.wires ++ (bang ∷ (c.wires ++ last))),
+        length-append x.wires (bang ∷ (c.wires ++ last)),
+        length-append c.wires last,
+      );
+      nodes = omega (
+        arith,
+        f.nodes,
+        f'.nodes,
+        f.free,
+        f'.free,
+        length-append p.nodes (q.nodes ++ (x.nodes ++ (box ∷ (c.nodes ++ node)))),
+        length-append q.nodes (x.nodes ++ (box ∷ (c.nodes ++ node))),
+        length-append x.nodes (box ∷ (c.nodes ++ node)),
+        length-append c.nodes node,
+      );
       free = omega (arith, f.free, f'.free);
     }
 
+-- every part is within the bounds of its term's size and height: an induction on the term
 part_fits : (m : TermTree) (n d : ℕ) (g : List TyTree) → Fits (size m) (height m) (part n d g m)
 part_fits (num v) n d g = let a = room_node 0 1 in record { wires = omega arith; nodes = omega arith; free = omega (arith, none_used g) }
 part_fits (var i) n d g = let a = room_node 0 1 in record { wires = omega arith; nodes = omega arith; free = one_used g i (suc n) }
@@ -196,22 +291,27 @@ part_fits (succ_of m) n d g = unary_fits Succ nat n d (part n d g m) (size m) (h
 part_fits (pred_of m) n d g = unary_fits Pred nat n d (part n d g m) (size m) (height m) (part_fits m n d g)
 part_fits (binary o m l) n d g =
     let p = part n d g m in
-    double_fits (binary_node o) nat n d g p (part (n + length p.wires) d g l) (size m) (size l) (height m) (height l) (part_fits m n d g) (part_fits l (n + length p.wires) d g)
+    double_fits (binary_node o) nat n d g p (part (n + length p.wires) d g l) (size m) (size l) (height m) (height l) (part_fits m n d g)
+    (part_fits l (n + length p.wires) d g)
 part_fits (ifz i m l) n d g =
     let x = part n d g i in
     let y = part (n + length x.wires) d g m in
     let z = part (n + length x.wires + length y.wires) d g l in
-    ifz_fits n d g x y z (size i) (size m) (size l) (height i) (height m) (height l) (part_fits i n d g) (part_fits m (n + length x.wires) d g) (part_fits l (n + length x.wires + length y.wires) d g)
+    ifz_fits n d g x y z (size i) (size m) (size l) (height i) (height m) (height l) (part_fits i n d g)
+    (part_fits m (n + length x.wires) d g) (part_fits l (n + length x.wires + length y.wires) d g)
 part_fits (lam b m) n d g = lam_fits n d b (part n d (b ∷ g) m) (size m) (height m) (part_fits m n d (b ∷ g))
 part_fits (fix b m) n d g = fix_fits n d g b (part n (suc d) (b ∷ g) m) (size m) (height m) (part_fits m n (suc d) (b ∷ g))
 part_fits (app m l) n d g =
     let p = part n d g m in
-    app_fits n d g p (part (n + length p.wires) (suc d) g l) (size m) (size l) (height m) (height l) (part_fits m n d g) (part_fits l (n + length p.wires) (suc d) g)
+    app_fits n d g p (part (n + length p.wires) (suc d) g l) (size m) (size l) (height m) (height l) (part_fits m n d g)
+    (part_fits l (n + length p.wires) (suc d) g)
 part_fits (pair m l) n d g =
     let p = part n d g m in
     let q = part (n + length p.wires) d g l in
-    double_fits Pair (product p.type q.type) n d g p q (size m) (size l) (height m) (height l) (part_fits m n d g) (part_fits l (n + length p.wires) d g)
-part_fits (proj s m) n d g = let p = part n d g m in unary_fits (proj_node s) (side_type s p.type) n d p (size m) (height m) (part_fits m n d g)
+    double_fits Pair (product p.type q.type) n d g p q (size m) (size l) (height m) (height l) (part_fits m n d g)
+    (part_fits l (n + length p.wires) d g)
+part_fits (proj s m) n d g = let p =
+    part n d g m in unary_fits (proj_node s) (side_type s p.type) n d p (size m) (height m) (part_fits m n d g)
 
 -- a term has a node
 some_size : (m : TermTree) → 1 ≤ size m
@@ -220,7 +320,8 @@ some_size (var i) = omega arith
 some_size _ = omega arith
 
 -- at most so many wires and nodes
-pub net_size : (m : TermTree) → (length (net_of m).wires ≤ size m * (2 * height m + 4)) × (length (net_of m).nodes ≤ size m * (2 * height m + 4))
+pub net_size : (m : TermTree)
+    → (length (net_of m).wires ≤ size m * (2 * height m + 4)) × (length (net_of m).nodes ≤ size m * (2 * height m + 4))
 unfolding room
 net_size m =
     let p = part zero zero [] m in

@@ -1,14 +1,18 @@
 -- The net of a typed closed term is sound.
-use Rattle.std.proofs.Common.{◌≡◌, ◌⊎◌, ℕ, zero, suc, ◌+◌, ◌<◌, ◌≤◌, List, [], ◌∷◌, ◌++◌, length, length-append, append_assoc, Option, Some, None, refl, sym, ap, ◌∙◌, subst, ⊎_elim, inl, inr, arith}
+use Rattle.std.proofs.Common.{◌≡◌, ◌⊎◌, ℕ, zero, suc, ◌+◌, ◌<◌, ◌≤◌, List, [], ◌∷◌, ◌++◌, length, length-append, append_assoc, Option, Some}
+use Rattle.std.proofs.Common.{None, refl, sym, ap, ◌∙◌, subst, ⊎_elim, inl, inr, arith}
 use Rattle.std.proofs.lemmas.Bool.{cases_eq, eq-eqb, ne_eqb}
 use Rattle.std.specs.Prelude.{slice_get}
 use Rattle.pcf_values.specs.Values.{Op, plus_op, minus_op, times_op}
-use Rattle.pcf_values.specs.Terms.{Side, left_side, right_side, at_side, TyTree, nat, arrow, product, TermTree, num, var, succ_of, pred_of, binary, ifz, lam, fix, app, pair, proj}
+use Rattle.pcf_values.specs.Terms.{Side, left_side, right_side, at_side, TyTree, nat, arrow, product, TermTree, num, var, succ_of, pred_of}
+use Rattle.pcf_values.specs.Terms.{binary, ifz, lam, fix, app, pair, proj}
 use Rattle.pcf_values.specs.Typing.{HasType}
 use Rattle.net_build.specs.declared.node.Node.{Node}
-use Rattle.net_build.specs.declared.node.Node.TheVariants.{Const, Succ, Pred, Ifz, Der, Con, Weak, Lam, App, BoxNode, Door, FixBox, Root, Pair}
+use Rattle.net_build.specs.declared.node.Node.TheVariants.{Const, Succ, Pred, Ifz, Der, Con, Weak, Lam, App, BoxNode, Door, FixBox, Root}
+use Rattle.net_build.specs.declared.node.Node.TheVariants.{Pair}
 use Rattle.net_build.specs.Nets.{NetTree, binary_node, proj_node, premises, conclusions, WireTree, value_wire, var_wire, bang_wire}
-use Rattle.net_build.specs.NetOf.{Part, contract, doors, bound, bound_wire, none_free, one_free, part, type_or_nat, net_of, domain, codomain, side_type, unary_part, double_part, ifz_part, lam_part, fix_part, app_part}
+use Rattle.net_build.specs.NetOf.{Part, contract, doors, bound, bound_wire, none_free, one_free, part, type_or_nat, net_of, domain}
+use Rattle.net_build.specs.NetOf.{codomain, side_type, unary_part, double_part, ifz_part, lam_part, fix_part, app_part}
 use Rattle.net_build.specs.Sound.{roots, Is, Meets, In, Sound}
 use Rattle.net_build.proofs.Count.{made, named_append, counted, ends, Aligned, aligned}
 
@@ -18,6 +22,8 @@ in_parts x [] b h = inr h
 in_parts x (n ∷ a) b (inl e) = inl (inl e)
 in_parts x (n ∷ a) b (inr h) = ⊎_elim (λ p. inl (inr p)) (λ p. inr p) (in_parts x a b h)
 
+-- Each node of a part meets its row in a net that has the part's wires where they are numbered: a lemma a form, and an
+-- induction on the term.
 module _ (net : NetTree) where
   record MeetAll (ns : List Node) : Type 0 where
     each : (x : Node) → In x ns → Meets net x
@@ -47,7 +53,8 @@ module _ (net : NetTree) where
 
   has_right : (n : ℕ) (a b : List WireTree) → Has n (a ++ b) → Has (n + length a) b
   has_right n [] b h = let e : n ≡ n + 0 = omega arith in subst (λ n. Has n b) e h
-  has_right n (k ∷ a) b h = let e : suc n + length a ≡ n + length (k ∷ a) = omega arith in subst (λ n. Has n b) e (has_right (suc n) a b h.1)
+  has_right n (k ∷ a) b h = let e : suc n + length a ≡ n + length (k ∷ a) =
+      omega arith in subst (λ n. Has n b) e (has_right (suc n) a b h.1)
 
   -- each variable's wire is a variable wire of its type at this depth
   abbrev TypedFree : ℕ → List TyTree → List (Option ℕ) → Type 0
@@ -57,7 +64,8 @@ module _ (net : NetTree) where
   TypedFree d (a ∷ g) (Some x ∷ f) = Is net x (var_wire d a) × TypedFree d g f
 
   -- contractions meet their rows, and leave wires of those types
-  contract_typed : (n d : ℕ) (g : List TyTree) (f f' : List (Option ℕ)) → TypedFree d g f → TypedFree d g f' → Has n (contract n d g f f').wires → MeetAll (contract n d g f f').nodes × TypedFree d g (contract n d g f f').free
+  contract_typed : (n d : ℕ) (g : List TyTree) (f f' : List (Option ℕ)) → TypedFree d g f → TypedFree d g f'
+      → Has n (contract n d g f f').wires → MeetAll (contract n d g f f').nodes × TypedFree d g (contract n d g f f').free
   contract_typed n d [] f f' h i w = (meet_none, tt)
   contract_typed n d (a ∷ g) [] f' h i w = (meet_none, i)
   contract_typed n d (a ∷ g) (o ∷ f) [] h i w = (meet_none, h)
@@ -69,7 +77,8 @@ module _ (net : NetTree) where
       (meet_cons (Con l r n) _ (d, a, h.0, i.0, w.0) p, (w.0, q))
 
   -- so do doors, one depth further out
-  doors_typed : (n d : ℕ) (g : List TyTree) (f : List (Option ℕ)) → TypedFree (suc d) g f → Has n (doors n d g f).wires → MeetAll (doors n d g f).nodes × TypedFree d g (doors n d g f).free
+  doors_typed : (n d : ℕ) (g : List TyTree) (f : List (Option ℕ)) → TypedFree (suc d) g f → Has n (doors n d g f).wires
+      → MeetAll (doors n d g f).nodes × TypedFree d g (doors n d g f).free
   doors_typed n d [] f h w = (meet_none, tt)
   doors_typed n d (a ∷ g) [] h w = (meet_none, tt)
   doors_typed n d (a ∷ g) (None ∷ f) h w = doors_typed n d g f h w
@@ -83,7 +92,8 @@ module _ (net : NetTree) where
   no_free d (a ∷ g) = tt
 
   -- a binder's wire is of its type
-  bound_typed : (n d : ℕ) (a : TyTree) (g : List TyTree) (f : List (Option ℕ)) → TypedFree d (a ∷ g) f → Has n (bound n d a f).wires → MeetAll (bound n d a f).nodes × Is net (bound_wire n f) (var_wire d a) × TypedFree d g (bound n d a f).free
+  bound_typed : (n d : ℕ) (a : TyTree) (g : List TyTree) (f : List (Option ℕ)) → TypedFree d (a ∷ g) f → Has n (bound n d a f).wires
+      → MeetAll (bound n d a f).nodes × Is net (bound_wire n f) (var_wire d a) × TypedFree d g (bound n d a f).free
   bound_typed n d a g [] h w = (meet_one (Weak n) (d, a, w.0), w.0, no_free d g)
   bound_typed n d a g (None ∷ f) h w = (meet_one (Weak n) (d, a, w.0), w.0, h)
   bound_typed n d a g (Some x ∷ f) h w = (meet_none, h.0, h.1)
@@ -94,7 +104,8 @@ module _ (net : NetTree) where
   none_typed d (a ∷ g) = none_typed d g
 
   -- one variable is used
-  one_typed : (d : ℕ) (g : List TyTree) (i x : ℕ) (a : TyTree) → slice_get g i ≡ Some a → Is net x (var_wire d a) → TypedFree d g (one_free g i x)
+  one_typed : (d : ℕ) (g : List TyTree) (i x : ℕ) (a : TyTree) → slice_get g i ≡ Some a → Is net x (var_wire d a)
+      → TypedFree d g (one_free g i x)
   one_typed d [] i x a h w = tt
   one_typed d (b ∷ g) zero x a h w = let e : a ≡ b = cc in (subst (λ a. Is net x (var_wire d a)) e w, none_typed d g)
   one_typed d (b ∷ g) (suc i) x a h w = one_typed d g i x a h w
@@ -110,15 +121,22 @@ module _ (net : NetTree) where
   fine_at d g a b p e h = subst (λ a. Fine d g a p) (sym e) h
 
   -- a node of one operand, where it meets its row
-  unary_fine : (node : ℕ → ℕ → Node) (t a : TyTree) (n d : ℕ) (g : List TyTree) (p : Part) → ((w : ℕ) → Is net p.out (value_wire d a) → Is net w (value_wire d t) → Meets net (node p.out w)) →
+  unary_fine : (node : ℕ → ℕ → Node) (t a : TyTree) (n d : ℕ) (g : List TyTree) (p : Part)
+      → ((w : ℕ) → Is net p.out (value_wire d a) → Is net w (value_wire d t) → Meets net (node p.out w)) →
       Fine d g a p → Has n (unary_part node t n d p).wires → Fine d g t (unary_part node t n d p)
   unary_fine node t a n d g p meets r w =
       let u = has_right n p.wires (value_wire d t ∷ []) w in
-      record { meets = meet_append p.nodes _ r.meets (meet_one (node p.out (n + length p.wires)) (meets (n + length p.wires) r.out u.0)); out = u.0; type = refl; free = r.free }
+      record {
+        meets = meet_append p.nodes _ r.meets (meet_one (node p.out (n + length p.wires)) (meets (n + length p.wires) r.out u.0));
+        out = u.0;
+        type = refl;
+        free = r.free;
+      }
 
   -- a node of two operands, where it meets its row
   double_fine : (node : ℕ → ℕ → ℕ → Node) (t a b : TyTree) (n d : ℕ) (g : List TyTree) (p q : Part) →
-      ((w : ℕ) → Is net p.out (value_wire d a) → Is net q.out (value_wire d b) → Is net w (value_wire d t) → Meets net (node p.out q.out w)) →
+      ((w : ℕ) → Is net p.out (value_wire d a) → Is net q.out (value_wire d b) → Is net w (value_wire d t) → Meets net
+      (node p.out q.out w)) →
       Fine d g a p → Fine d g b q → Has n (double_part node t n d g p q).wires → Fine d g t (double_part node t n d g p q)
   double_fine node t a b n d g p q meets x y w =
       let o = n + length p.wires + length q.wires in
@@ -128,24 +146,29 @@ module _ (net : NetTree) where
       let w3 = has_right o c.wires (value_wire d t ∷ []) w2 in
       let (z, f) = contract_typed o d g p.free q.free x.free y.free (has_left o c.wires _ w2) in
       record {
-        meets = meet_append p.nodes _ x.meets (meet_append q.nodes _ y.meets (meet_append c.nodes _ z (meet_one (node p.out q.out (o + length c.wires)) (meets (o + length c.wires) x.out y.out w3.0))));
+        meets = meet_append p.nodes _ x.meets
+            (meet_append q.nodes _ y.meets
+            (meet_append c.nodes _ z (meet_one (node p.out q.out (o + length c.wires)) (meets (o + length c.wires) x.out y.out w3.0))));
         out = w3.0;
         type = refl;
         free = f;
       }
 
   -- an operator's node meets its row, and so does one that takes a part of a pair
-  binary_meets : (o : Op) (d a b w : ℕ) → Is net a (value_wire d nat) → Is net b (value_wire d nat) → Is net w (value_wire d nat) → Meets net (binary_node o a b w)
+  binary_meets : (o : Op) (d a b w : ℕ) → Is net a (value_wire d nat) → Is net b (value_wire d nat) → Is net w (value_wire d nat)
+      → Meets net (binary_node o a b w)
   binary_meets plus_op d a b w h i j = (d, h, i, j)
   binary_meets minus_op d a b w h i j = (d, h, i, j)
   binary_meets times_op d a b w h i j = (d, h, i, j)
 
-  proj_meets : (s : Side) (d a w : ℕ) (t u : TyTree) → Is net a (value_wire d (product t u)) → Is net w (value_wire d (at_side s t u)) → Meets net (proj_node s a w)
+  proj_meets : (s : Side) (d a w : ℕ) (t u : TyTree) → Is net a (value_wire d (product t u)) → Is net w (value_wire d (at_side s t u))
+      → Meets net (proj_node s a w)
   proj_meets left_side d a w t u h i = (d, t, u, h, i)
   proj_meets right_side d a w t u h i = (d, t, u, h, i)
 
   -- the forms, each once its operands are fine
-  ifz_fine : (n d : ℕ) (g : List TyTree) (x y z : Part) → Fine d g nat x → Fine d g nat y → Fine d g nat z → Has n (ifz_part n d g x y z).wires → Fine d g nat (ifz_part n d g x y z)
+  ifz_fine : (n d : ℕ) (g : List TyTree) (x y z : Part) → Fine d g nat x → Fine d g nat y → Fine d g nat z
+      → Has n (ifz_part n d g x y z).wires → Fine d g nat (ifz_part n d g x y z)
   ifz_fine n d g x y z r s t w =
       let o = n + length x.wires + length y.wires + length z.wires in
       let b = contract o d g y.free z.free in
@@ -158,13 +181,19 @@ module _ (net : NetTree) where
       let (u, f) = contract_typed o d g y.free z.free s.free t.free (has_left o b.wires _ w3) in
       let (u', f') = contract_typed (o + length b.wires) d g x.free b.free r.free f (has_left (o + length b.wires) b'.wires _ w4) in
       record {
-        meets = meet_append x.nodes _ r.meets (meet_append y.nodes _ s.meets (meet_append z.nodes _ t.meets (meet_append b.nodes _ u (meet_append b'.nodes _ u' (meet_one (Ifz x.out y.out z.out (o + length b.wires + length b'.wires)) (d, r.out, s.out, t.out, w5.0))))));
+        meets = meet_append x.nodes _ r.meets
+            (meet_append y.nodes _ s.meets
+            (meet_append z.nodes _ t.meets
+            (meet_append b.nodes _ u
+            (meet_append b'.nodes _ u'
+            (meet_one (Ifz x.out y.out z.out (o + length b.wires + length b'.wires)) (d, r.out, s.out, t.out, w5.0))))));
         out = w5.0;
         type = refl;
         free = f';
       }
 
-  lam_fine : (n d : ℕ) (g : List TyTree) (a b : TyTree) (p : Part) → Fine d (a ∷ g) b p → Has n (lam_part n d a p).wires → Fine d g (arrow a b) (lam_part n d a p)
+  lam_fine : (n d : ℕ) (g : List TyTree) (a b : TyTree) (p : Part) → Fine d (a ∷ g) b p → Has n (lam_part n d a p).wires
+      → Fine d g (arrow a b) (lam_part n d a p)
   lam_fine n d g a b p x w =
       let o = n + length p.wires in
       let r = bound o d a p.free in
@@ -174,13 +203,15 @@ module _ (net : NetTree) where
       let e : arrow a p.type ≡ arrow a b = ap (arrow a) x.type in
       let u : Is net (o + length r.wires) (value_wire d (arrow a b)) = subst (λ t. Is net (o + length r.wires) (value_wire d t)) e w2.0 in
       record {
-        meets = meet_append p.nodes _ x.meets (meet_append r.nodes _ y (meet_one (Lam p.out (bound_wire o p.free) (o + length r.wires)) (d, a, b, x.out, z, u)));
+        meets = meet_append p.nodes _ x.meets
+            (meet_append r.nodes _ y (meet_one (Lam p.out (bound_wire o p.free) (o + length r.wires)) (d, a, b, x.out, z, u)));
         out = u;
         type = e;
         free = f;
       }
 
-  fix_fine : (n d : ℕ) (g : List TyTree) (a : TyTree) (p : Part) → Fine (suc d) (a ∷ g) a p → Has n (fix_part n d g a p).wires → Fine d g a (fix_part n d g a p)
+  fix_fine : (n d : ℕ) (g : List TyTree) (a : TyTree) (p : Part) → Fine (suc d) (a ∷ g) a p → Has n (fix_part n d g a p).wires
+      → Fine d g a (fix_part n d g a p)
   fix_fine n d g a p y w =
       let o = n + length p.wires in
       let r = bound o (suc d) a p.free in
@@ -191,13 +222,17 @@ module _ (net : NetTree) where
       let (z, v, f) = bound_typed o (suc d) a g p.free y.free (has_left o r.wires _ w1) in
       let (u, f') = doors_typed (o + length r.wires) d g r.free f (has_left (o + length r.wires) x.wires _ w2) in
       record {
-        meets = meet_append p.nodes _ y.meets (meet_append r.nodes _ z (meet_append x.nodes _ u (meet_one (FixBox p.out (bound_wire o p.free) (o + length r.wires + length x.wires)) (d, a, y.out, v, w3.0))));
+        meets = meet_append p.nodes _ y.meets
+            (meet_append r.nodes _ z
+            (meet_append x.nodes _ u
+            (meet_one (FixBox p.out (bound_wire o p.free) (o + length r.wires + length x.wires)) (d, a, y.out, v, w3.0))));
         out = w3.0;
         type = refl;
         free = f';
       }
 
-  app_fine : (n d : ℕ) (g : List TyTree) (a b : TyTree) (p q : Part) → Fine d g (arrow a b) p → Fine (suc d) g a q → Has n (app_part n d g p q).wires → Fine d g b (app_part n d g p q)
+  app_fine : (n d : ℕ) (g : List TyTree) (a b : TyTree) (p q : Part) → Fine d g (arrow a b) p → Fine (suc d) g a q
+      → Has n (app_part n d g p q).wires → Fine d g b (app_part n d g p q)
   app_fine n d g s t p q y z w =
       let o = n + length p.wires + length q.wires in
       let x = doors o d g q.free in
@@ -210,10 +245,12 @@ module _ (net : NetTree) where
       let (u, f) = doors_typed o d g q.free z.free (has_left o x.wires _ w2) in
       let (u', f') = contract_typed (suc i) d g p.free x.free y.free f (has_left (suc i) b.wires _ w3.1) in
       let bang : Is net i (bang_wire d s) = subst (λ t. Is net i (bang_wire d t)) (ap domain y.type) w3.0 in
-      let out : Is net (suc i + length b.wires) (value_wire d t) = subst (λ t. Is net (suc i + length b.wires) (value_wire d t)) (ap codomain y.type) w4.0 in
+      let out : Is net (suc i + length b.wires) (value_wire d t) =
+      subst (λ t. Is net (suc i + length b.wires) (value_wire d t)) (ap codomain y.type) w4.0 in
       record {
         meets = meet_append p.nodes _ y.meets (meet_append q.nodes _ z.meets (meet_append x.nodes _ u
-            (meet_cons (BoxNode q.out i) _ (d, s, z.out, bang) (meet_append b.nodes _ u' (meet_one (App p.out i (suc i + length b.wires)) (d, s, t, y.out, bang, out))))));
+            (meet_cons (BoxNode q.out i) _ (d, s, z.out, bang)
+            (meet_append b.nodes _ u' (meet_one (App p.out i (suc i + length b.wires)) (d, s, t, y.out, bang, out))))));
         out = out;
         type = ap codomain y.type;
         free = f';
@@ -223,17 +260,21 @@ module _ (net : NetTree) where
   has_two : (n : ℕ) (a b c : List WireTree) → Has n (a ++ (b ++ c)) → Has n a × Has (n + length a) b
   has_two n a b c w = (has_left n a (b ++ c) w, has_left (n + length a) b c (has_right n a (b ++ c) w))
 
-  has_three : (n : ℕ) (a b c e : List WireTree) → Has n (a ++ (b ++ (c ++ e))) → Has n a × Has (n + length a) b × Has (n + length a + length b) c
-  has_three n a b c e w = let w1 = has_right n a (b ++ (c ++ e)) w in let (x, y) = has_two (n + length a) b c e w1 in (has_left n a (b ++ (c ++ e)) w, x, y)
+  has_three : (n : ℕ) (a b c e : List WireTree) → Has n (a ++ (b ++ (c ++ e)))
+      → Has n a × Has (n + length a) b × Has (n + length a + length b) c
+  has_three n a b c e w = let w1 = has_right n a (b ++ (c ++ e)) w in let (x, y) =
+      has_two (n + length a) b c e w1 in (has_left n a (b ++ (c ++ e)) w, x, y)
 
   -- the operands' wires stand where the whole's do, form by form
   unary_has : (node : ℕ → ℕ → Node) (t : TyTree) (n d : ℕ) (p : Part) → Has n (unary_part node t n d p).wires → Has n p.wires
   unary_has node t n d p w = has_left n p.wires _ w
 
-  double_has : (node : ℕ → ℕ → ℕ → Node) (t : TyTree) (n d : ℕ) (g : List TyTree) (p q : Part) → Has n (double_part node t n d g p q).wires → Has n p.wires × Has (n + length p.wires) q.wires
+  double_has : (node : ℕ → ℕ → ℕ → Node) (t : TyTree) (n d : ℕ) (g : List TyTree) (p q : Part) → Has n (double_part node t n d g p q).wires
+      → Has n p.wires × Has (n + length p.wires) q.wires
   double_has node t n d g p q w = has_two n p.wires q.wires _ w
 
-  ifz_has : (n d : ℕ) (g : List TyTree) (x y z : Part) → Has n (ifz_part n d g x y z).wires → Has n x.wires × Has (n + length x.wires) y.wires × Has (n + length x.wires + length y.wires) z.wires
+  ifz_has : (n d : ℕ) (g : List TyTree) (x y z : Part) → Has n (ifz_part n d g x y z).wires
+      → Has n x.wires × Has (n + length x.wires) y.wires × Has (n + length x.wires + length y.wires) z.wires
   ifz_has n d g x y z w = has_three n x.wires y.wires z.wires _ w
 
   lam_has : (n d : ℕ) (a : TyTree) (p : Part) → Has n (lam_part n d a p).wires → Has n p.wires
@@ -267,13 +308,16 @@ module _ (net : NetTree) where
       let q = part (n + length p.wires) d g l in
       let (wp, wq) = double_has (binary_node o) nat n d g p q w in
       fine_at d g a nat _ h.2
-      (double_fine (binary_node o) nat nat nat n d g p q (λ w i j k. binary_meets o d p.out q.out w i j k) (fine m n d g nat h.0 wp) (fine l (n + length p.wires) d g nat h.1 wq) w)
+      (double_fine (binary_node o) nat nat nat n d g p q (λ w i j k. binary_meets o d p.out q.out w i j k) (fine m n d g nat h.0 wp)
+      (fine l (n + length p.wires) d g nat h.1 wq) w)
   fine (ifz i m l) n d g a h w =
       let x = part n d g i in
       let y = part (n + length x.wires) d g m in
       let z = part (n + length x.wires + length y.wires) d g l in
       let (wx, wy, wz) = ifz_has n d g x y z w in
-      fine_at d g a nat _ h.3 (ifz_fine n d g x y z (fine i n d g nat h.0 wx) (fine m (n + length x.wires) d g nat h.1 wy) (fine l (n + length x.wires + length y.wires) d g nat h.2 wz) w)
+      fine_at d g a nat _ h.3
+      (ifz_fine n d g x y z (fine i n d g nat h.0 wx) (fine m (n + length x.wires) d g nat h.1 wy)
+      (fine l (n + length x.wires + length y.wires) d g nat h.2 wz) w)
   fine (lam b m) n d g a h w =
       let p = part n d (b ∷ g) m in
       fine_at d g a (arrow b h.0) _ h.2 (lam_fine n d g b h.0 p (fine m n d (b ∷ g) h.0 h.1 (lam_has n d b p w)) w)
@@ -293,13 +337,15 @@ module _ (net : NetTree) where
       let y = fine l (n + length p.wires) d g h.1 h.3 wq in
       let e : product p.type q.type ≡ product h.0 h.1 = ap (λ t. product t q.type) x.type ∙ ap (product h.0) y.type in
       fine_at d g a (product p.type q.type) _ (h.4 ∙ sym e)
-      (double_fine Pair (product p.type q.type) h.0 h.1 n d g p q (λ w i j k. (d, h.0, h.1, i, j, subst (λ t. Is net w (value_wire d t)) e k)) x y w)
+      (double_fine Pair (product p.type q.type) h.0 h.1 n d g p q
+      (λ w i j k. (d, h.0, h.1, i, j, subst (λ t. Is net w (value_wire d t)) e k)) x y w)
   fine (proj s m) n d g a h w =
       let p = part n d g m in
       let x = fine m n d g (product h.0 h.1) h.2 (unary_has (proj_node s) (side_type s p.type) n d p w) in
       let e : side_type s p.type ≡ at_side s h.0 h.1 = ap (side_type s) x.type in
       fine_at d g a (side_type s p.type) _ (h.3 ∙ sym e)
-      (unary_fine (proj_node s) (side_type s p.type) (product h.0 h.1) n d g p (λ w i j. proj_meets s d p.out w h.0 h.1 i (subst (λ t. Is net w (value_wire d t)) e j)) x w)
+      (unary_fine (proj_node s) (side_type s p.type) (product h.0 h.1) n d g p
+      (λ w i j. proj_meets s d p.out w h.0 h.1 i (subst (λ t. Is net w (value_wire d t)) e j)) x w)
 
 -- the roots of two lists of nodes
 pub roots_append : (a b : List Node) → roots (a ++ b) ≡ roots a + roots b
@@ -332,11 +378,13 @@ both_none : (a b : List Node) → roots a ≡ 0 → roots b ≡ 0 → roots (a +
 both_none a b h i = omega (arith, roots_append a b)
 
 -- the forms have no root, where their operands have none
-double_roots : (node : ℕ → ℕ → ℕ → Node) (t : TyTree) (n d : ℕ) (g : List TyTree) (p q : Part) → ((a b w : ℕ) → roots (node a b w ∷ []) ≡ 0) → roots p.nodes ≡ 0 → roots q.nodes ≡ 0 → roots (double_part node t n d g p q).nodes ≡ 0
+double_roots : (node : ℕ → ℕ → ℕ → Node) (t : TyTree) (n d : ℕ) (g : List TyTree) (p q : Part) → ((a b w : ℕ) → roots (node a b w ∷ []) ≡ 0)
+    → roots p.nodes ≡ 0 → roots q.nodes ≡ 0 → roots (double_part node t n d g p q).nodes ≡ 0
 double_roots node t n d g p q e h i =
     let o = n + length p.wires + length q.wires in
     let c = contract o d g p.free q.free in
-    both_none p.nodes _ h (both_none q.nodes _ i (both_none c.nodes _ (contract_roots o d g p.free q.free) (e p.out q.out (o + length c.wires))))
+    both_none p.nodes _ h
+    (both_none q.nodes _ i (both_none c.nodes _ (contract_roots o d g p.free q.free) (e p.out q.out (o + length c.wires))))
 
 binary_root : (o : Op) (a b w : ℕ) → roots (binary_node o a b w ∷ []) ≡ 0
 binary_root plus_op a b w = refl
@@ -347,21 +395,30 @@ proj_root : (s : Side) (a w : ℕ) → roots (proj_node s a w ∷ []) ≡ 0
 proj_root left_side a w = refl
 proj_root right_side a w = refl
 
-ifz_roots : (n d : ℕ) (g : List TyTree) (x y z : Part) → roots x.nodes ≡ 0 → roots y.nodes ≡ 0 → roots z.nodes ≡ 0 → roots (ifz_part n d g x y z).nodes ≡ 0
+-- three parts without a root make one without a root
+ifz_roots : (n d : ℕ) (g : List TyTree) (x y z : Part) → roots x.nodes ≡ 0 → roots y.nodes ≡ 0 → roots z.nodes ≡ 0
+    → roots (ifz_part n d g x y z).nodes ≡ 0
 ifz_roots n d g x y z h i k =
     let o = n + length x.wires + length y.wires + length z.wires in
     let b = contract o d g y.free z.free in
     let b' = contract (o + length b.wires) d g x.free b.free in
-    both_none x.nodes _ h (both_none y.nodes _ i (both_none z.nodes _ k (both_none b.nodes _ (contract_roots o d g y.free z.free) (both_none b'.nodes _ (contract_roots (o + length b.wires) d g x.free b.free) refl))))
+    both_none x.nodes _ h
+    (both_none y.nodes _ i
+    (both_none z.nodes _ k
+    (both_none b.nodes _ (contract_roots o d g y.free z.free)
+    (both_none b'.nodes _ (contract_roots (o + length b.wires) d g x.free b.free) refl))))
 
 lam_roots : (n d : ℕ) (a : TyTree) (p : Part) → roots p.nodes ≡ 0 → roots (lam_part n d a p).nodes ≡ 0
-lam_roots n d a p h = let o = n + length p.wires in both_none p.nodes _ h (both_none (bound o d a p.free).nodes _ (bound_roots o d a p.free) refl)
+lam_roots n d a p h = let o =
+    n + length p.wires in both_none p.nodes _ h (both_none (bound o d a p.free).nodes _ (bound_roots o d a p.free) refl)
 
 fix_roots : (n d : ℕ) (g : List TyTree) (a : TyTree) (p : Part) → roots p.nodes ≡ 0 → roots (fix_part n d g a p).nodes ≡ 0
 fix_roots n d g a p h =
     let o = n + length p.wires in
     let r = bound o (suc d) a p.free in
-    both_none p.nodes _ h (both_none r.nodes _ (bound_roots o (suc d) a p.free) (both_none (doors (o + length r.wires) d g r.free).nodes _ (doors_roots (o + length r.wires) d g r.free) refl))
+    both_none p.nodes _ h
+    (both_none r.nodes _ (bound_roots o (suc d) a p.free)
+    (both_none (doors (o + length r.wires) d g r.free).nodes _ (doors_roots (o + length r.wires) d g r.free) refl))
 
 app_roots : (n d : ℕ) (g : List TyTree) (p q : Part) → roots p.nodes ≡ 0 → roots q.nodes ≡ 0 → roots (app_part n d g p q).nodes ≡ 0
 app_roots n d g p q h k =
@@ -369,7 +426,9 @@ app_roots n d g p q h k =
     let x = doors o d g q.free in
     let i = o + length x.wires in
     let b = contract (suc i) d g p.free x.free in
-    both_none p.nodes _ h (both_none q.nodes _ k (both_none x.nodes _ (doors_roots o d g q.free) (both_none b.nodes _ (contract_roots (suc i) d g p.free x.free) refl)))
+    both_none p.nodes _ h
+    (both_none q.nodes _ k
+    (both_none x.nodes _ (doors_roots o d g q.free) (both_none b.nodes _ (contract_roots (suc i) d g p.free x.free) refl)))
 
 -- no part has a root
 pub part_roots : (m : TermTree) (n d : ℕ) (g : List TyTree) → roots (part n d g m).nodes ≡ 0
@@ -379,11 +438,13 @@ part_roots (succ_of m) n d g = both_none (part n d g m).nodes _ (part_roots m n 
 part_roots (pred_of m) n d g = both_none (part n d g m).nodes _ (part_roots m n d g) refl
 part_roots (binary o m l) n d g =
     let p = part n d g m in
-    double_roots (binary_node o) nat n d g p (part (n + length p.wires) d g l) (binary_root o) (part_roots m n d g) (part_roots l (n + length p.wires) d g)
+    double_roots (binary_node o) nat n d g p (part (n + length p.wires) d g l) (binary_root o) (part_roots m n d g)
+    (part_roots l (n + length p.wires) d g)
 part_roots (ifz i m l) n d g =
     let x = part n d g i in
     let y = part (n + length x.wires) d g m in
-    ifz_roots n d g x y (part (n + length x.wires + length y.wires) d g l) (part_roots i n d g) (part_roots m (n + length x.wires) d g) (part_roots l (n + length x.wires + length y.wires) d g)
+    ifz_roots n d g x y (part (n + length x.wires + length y.wires) d g l) (part_roots i n d g) (part_roots m (n + length x.wires) d g)
+    (part_roots l (n + length x.wires + length y.wires) d g)
 part_roots (lam b m) n d g = lam_roots n d b (part n d (b ∷ g) m) (part_roots m n d (b ∷ g))
 part_roots (fix b m) n d g = fix_roots n d g b (part n (suc d) (b ∷ g) m) (part_roots m n (suc d) (b ∷ g))
 part_roots (app m l) n d g =
@@ -437,8 +498,11 @@ built_sound m h =
     let downs = λ (w : ℕ). named_append premises p.nodes (Root p.out ∷ []) w in
     record {
       one_root = omega (arith, roots_append p.nodes (Root p.out ∷ []), part_roots m zero zero []);
-      outside = λ w l. let z = made_past zero p.wires w (omega arith) in (omega (arith, ups w, c.ups w), omega (arith, downs w, c.downs w, loose w));
-      once = λ w l. let z = made_once zero p.wires w (omega arith) (omega arith) in (omega (arith, ups w, c.ups w), omega (arith, downs w, c.downs w, loose w));
+      outside = λ w l. let z =
+          made_past zero p.wires w (omega arith) in (omega (arith, ups w, c.ups w), omega (arith, downs w, c.downs w, loose w));
+      once = λ w l. let z =
+          made_once zero p.wires w (omega arith) (omega arith) in
+          (omega (arith, ups w, c.ups w), omega (arith, downs w, c.downs w, loose w));
       rows = (meet_append net p.nodes (Root p.out ∷ []) r.meets (meet_one net (Root p.out) r.out)).each;
     }
   where

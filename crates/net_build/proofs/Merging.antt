@@ -1,5 +1,7 @@
--- Contractions and doors of loose wires: what the code's loops make of two lists of loose wires is what the definition makes of the aligned lists.
-use Rattle.std.proofs.Common.{◌≡◌, ◌⊎◌, ℕ, zero, suc, ◌+◌, ◌≤◌, List, [], ◌∷◌, length, Some, None, refl, sym, ap, ◌∙◌, subst, inl, inr, arith}
+-- Contractions and doors of loose wires: what the code's loops make of two lists of loose wires is what the definition makes of the
+-- aligned lists.
+use Rattle.std.proofs.Common.{◌≡◌, ◌⊎◌, ℕ, zero, suc, ◌+◌, ◌≤◌, List, [], ◌∷◌, length, Some, None, refl, sym, ap, ◌∙◌, subst, inl, inr}
+use Rattle.std.proofs.Common.{arith}
 use Rattle.std.specs.Prelude.{slice_get, nat_eq, nat_lt, if◌then◌else◌}
 use Rattle.std.proofs.lemmas.Bool.{cases_eq, eq-eqb, ne_eqb, lt-ltb, le-ltb}
 use Rattle.pcf_values.specs.Terms.{TyTree}
@@ -41,7 +43,8 @@ merge zero d c n us vs = left_over []
 merge (suc f) d c n [] vs = left_over vs
 merge (suc f) d c n (u ∷ us) [] = left_over (u ∷ us)
 merge (suc f) d c n (u ∷ us) (v ∷ vs) =
-    if nat_eq u.binder v.binder then more (var_wire d (type_at c u.binder)) (Con u.wire v.wire n) (loose u.binder n) (merge f d c (suc n) us vs)
+    if nat_eq u.binder v.binder then more (var_wire d (type_at c u.binder)) (Con u.wire v.wire n) (loose u.binder n)
+    (merge f d c (suc n) us vs)
     else (if nat_lt v.binder u.binder then put u (merge f d c n us (v ∷ vs)) else put v (merge f d c n (u ∷ us) vs))
 
 -- doors of a list, the innermost binder first
@@ -80,7 +83,12 @@ pub spread_at : (k : ℕ) (u : Loose) (us : List Loose) → u.binder ≡ k → s
 spread_at k u us e = rw (eq-eqb u.binder k e) refl
 
 same_under : (k : ℕ) (b : Bundle) (m : Merged) → Same k b m → Same (suc k) (keep None b) m
-same_under k b m h = record { wires = h.wires; nodes = h.nodes; free = ap (λ f. None ∷ f) h.free ∙ sym (spread_under k m.free h.falling); falling = falling_more k m.free h.falling }
+same_under k b m h = record {
+  wires = h.wires;
+  nodes = h.nodes;
+  free = ap (λ f. None ∷ f) h.free ∙ sym (spread_under k m.free h.falling);
+  falling = falling_more k m.free h.falling;
+}
 
 same_put : (k : ℕ) (b : Bundle) (m : Merged) (u : Loose) → u.binder ≡ k → Same k b m → Same (suc k) (keep (Some u.wire) b) (put u m)
 same_put k b m u e h = record {
@@ -90,7 +98,8 @@ same_put k b m u e h = record {
   falling = (omega (arith, e), subst (λ j. Falling j m.free) (sym e) h.falling);
 }
 
-same_more : (k : ℕ) (b : Bundle) (m : Merged) (w : WireTree) (n : Node) (j x : ℕ) → j ≡ k → Same k b m → Same (suc k) (also w n x b) (more w n (loose j x) m)
+same_more : (k : ℕ) (b : Bundle) (m : Merged) (w : WireTree) (n : Node) (j x : ℕ) → j ≡ k → Same k b m
+    → Same (suc k) (also w n x b) (more w n (loose j x) m)
 same_more k b m w n j x e h = record {
   wires = ap (λ l. w ∷ l) h.wires;
   nodes = ap (λ l. n ∷ l) h.nodes;
@@ -110,49 +119,60 @@ none_merge zero d c n (u ∷ us) h = absurd (omega arith)
 none_merge (suc f) d c n vs h = refl
 
 -- the left list's first is further in
-put_left : (f d : ℕ) (c : List TyTree) (n k : ℕ) (u : Loose) (us vs : List Loose) → u.binder ≡ k → Falling k vs → suc (length us) + length vs ≤ suc f → merge (suc f) d c n (u ∷ us) vs ≡ put u (merge f d c n us vs)
+put_left : (f d : ℕ) (c : List TyTree) (n k : ℕ) (u : Loose) (us vs : List Loose) → u.binder ≡ k → Falling k vs
+    → suc (length us) + length vs ≤ suc f → merge (suc f) d c n (u ∷ us) vs ≡ put u (merge f d c n us vs)
 put_left f d c n k u us [] e h l = ap (put u) (sym (merge_none f d c n us (omega arith)))
 put_left f d c n k u us (v ∷ vs) e h l =
     let p = ne_eqb u.binder v.binder (λ q. omega (arith, h.0, q, e)) in
     let q = lt-ltb v.binder u.binder (omega (arith, h.0, e)) in
     rw (p, q) refl
 
-put_right : (f d : ℕ) (c : List TyTree) (n k : ℕ) (v : Loose) (us vs : List Loose) → v.binder ≡ k → Falling k us → length us + suc (length vs) ≤ suc f → merge (suc f) d c n us (v ∷ vs) ≡ put v (merge f d c n us vs)
+put_right : (f d : ℕ) (c : List TyTree) (n k : ℕ) (v : Loose) (us vs : List Loose) → v.binder ≡ k → Falling k us
+    → length us + suc (length vs) ≤ suc f → merge (suc f) d c n us (v ∷ vs) ≡ put v (merge f d c n us vs)
 put_right f d c n k v [] vs e h l = ap (put v) (sym (none_merge f d c n vs (omega arith)))
 put_right f d c n k v (u ∷ us) vs e h l =
     let p = ne_eqb u.binder v.binder (λ q. omega (arith, h.0, q, e)) in
     let q = le-ltb v.binder u.binder (omega (arith, h.0, e)) in
     rw (p, q) refl
 
+-- two falling lists of loose wires are merged as the aligned lists are contracted: an induction on how many entries
+-- are left (f bounds them)
 pub merge_contract : (k f d : ℕ) (c : List TyTree) (n : ℕ) (us vs : List Loose) → length us + length vs ≤ f → Falling k us → Falling k vs →
     Same k (contract n d (levels k c) (spread k us) (spread k vs)) (merge f d c n us vs)
 merge_contract zero f d c n (u ∷ us) vs l h i = absurd (omega (arith, h.0))
 merge_contract zero f d c n [] (v ∷ vs) l h i = absurd (omega (arith, i.0))
-merge_contract zero f d c n [] [] l h i = rw (none_merge f d c n [] (omega arith)) (record { wires = refl; nodes = refl; free = refl; falling = tt })
+merge_contract zero f d c n [] [] l h i =
+    rw (none_merge f d c n [] (omega arith)) (record { wires = refl; nodes = refl; free = refl; falling = tt })
 merge_contract (suc k) f d c n us vs l h i = go f (merge_contract k) us vs l (top_of k us h) (top_of k vs i)
   where
     go : (f : ℕ) →
-        ((f d : ℕ) (c : List TyTree) (n : ℕ) (us vs : List Loose) → length us + length vs ≤ f → Falling k us → Falling k vs → Same k (contract n d (levels k c) (spread k us) (spread k vs)) (merge f d c n us vs)) →
+        ((f d : ℕ) (c : List TyTree) (n : ℕ) (us vs : List Loose) → length us + length vs ≤ f → Falling k us → Falling k vs → Same k
+        (contract n d (levels k c) (spread k us) (spread k vs)) (merge f d c n us vs)) →
         (us vs : List Loose) → length us + length vs ≤ f → Top k us → Top k vs →
         Same (suc k) (contract n d (levels (suc k) c) (spread (suc k) us) (spread (suc k) vs)) (merge f d c n us vs)
     go f ih _ _ l (under us h) (under vs i) = rw (spread_under k us h, spread_under k vs i) (same_under k _ _ (ih f d c n us vs l h i))
     go zero ih _ _ l (at u us' e h) t = absurd (omega arith)
     go zero ih _ _ l (under us h) (at v vs' e i) = absurd (omega arith)
     go (suc f) ih _ _ l (at u us' e h) (under vs i) =
-        rw (spread_at k u us' e, spread_under k vs i, put_left f d c n k u us' vs e i l) (same_put k _ _ u e (ih f d c n us' vs (omega arith) h i))
+        rw (spread_at k u us' e, spread_under k vs i, put_left f d c n k u us' vs e i l)
+        (same_put k _ _ u e (ih f d c n us' vs (omega arith) h i))
     go (suc f) ih _ _ l (under us h) (at v vs' e i) =
-        rw (spread_under k us h, spread_at k v vs' e, put_right f d c n k v us vs' e h l) (same_put k _ _ v e (ih f d c n us vs' (omega arith) h i))
+        rw (spread_under k us h, spread_at k v vs' e, put_right f d c n k v us vs' e h l)
+        (same_put k _ _ v e (ih f d c n us vs' (omega arith) h i))
     go (suc f) ih _ _ l (at u us' e h) (at v vs' e' i) =
         let p = eq-eqb u.binder v.binder (e ∙ sym e') in
         let q : type_at c k ≡ type_at c u.binder = ap (type_at c) (sym e) in
         rw (spread_at k u us' e, spread_at k v vs' e', p, q) (same_more k _ _ _ _ u.binder n e (ih f d c (suc n) us' vs' (omega arith) h i))
 
-pub leave_doors : (k d : ℕ) (c : List TyTree) (n : ℕ) (us : List Loose) → Falling k us → Same k (doors n d (levels k c) (spread k us)) (leave d c n us)
+-- doors for loose wires, by rising index, are those for the aligned list: an induction on the number of binders
+pub leave_doors : (k d : ℕ) (c : List TyTree) (n : ℕ) (us : List Loose) → Falling k us
+    → Same k (doors n d (levels k c) (spread k us)) (leave d c n us)
 leave_doors zero d c n [] h = record { wires = refl; nodes = refl; free = refl; falling = tt }
 leave_doors zero d c n (u ∷ us) h = absurd (omega (arith, h.0))
 leave_doors (suc k) d c n us h = go (leave_doors k) us (top_of k us h)
   where
-    go : ((d : ℕ) (c : List TyTree) (n : ℕ) (us : List Loose) → Falling k us → Same k (doors n d (levels k c) (spread k us)) (leave d c n us)) →
+    go : ((d : ℕ) (c : List TyTree) (n : ℕ) (us : List Loose) → Falling k us → Same k (doors n d (levels k c) (spread k us))
+        (leave d c n us)) →
         (us : List Loose) → Top k us → Same (suc k) (doors n d (levels (suc k) c) (spread (suc k) us)) (leave d c n us)
     go ih _ (under us h) = rw (spread_under k us h) (same_under k _ _ (ih d c n us h))
     go ih _ (at u us' e h) =

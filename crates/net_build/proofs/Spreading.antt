@@ -29,9 +29,12 @@ none_spreads c us e = rw e (record { spreads = spread_none (length c) (context_o
 levels_take : (c : List Ty) (k : ℕ) → k ≤ length c → map ty_of (reverse (take k c)) ≡ levels k (map ty_of c)
 levels_take c zero h = refl
 levels_take c (suc k) h =
-    let e : reverse (take (suc k) c) ≡ get_or c k Nat ∷ reverse (take k c) = ap reverse (take-suc c k Nat (omega arith)) ∙ reverse-append (take k c) (get_or c k Nat ∷ []) in
-    let g : type_at (map ty_of c) k ≡ ty_of (get_or c k Nat) = ap type_or_nat (slice_get-map ty_of c k ∙ ap (option_map ty_of) (slice_get-get_or c k Nat (omega arith))) in
-    ap (map ty_of) e ∙ ap (λ t. t ∷ map ty_of (reverse (take k c))) (sym g) ∙ ap (λ l. type_at (map ty_of c) k ∷ l) (levels_take c k (omega arith))
+    let e : reverse (take (suc k) c) ≡ get_or c k Nat ∷ reverse (take k c) =
+    ap reverse (take-suc c k Nat (omega arith)) ∙ reverse-append (take k c) (get_or c k Nat ∷ []) in
+    let g : type_at (map ty_of c) k ≡ ty_of (get_or c k Nat) =
+    ap type_or_nat (slice_get-map ty_of c k ∙ ap (option_map ty_of) (slice_get-get_or c k Nat (omega arith))) in
+    ap (map ty_of) e ∙ ap (λ t. t ∷ map ty_of (reverse (take k c))) (sym g)
+    ∙ ap (λ l. type_at (map ty_of c) k ∷ l) (levels_take c k (omega arith))
 
 pub context_levels : (c : List Ty) → context_of c ≡ levels (length c) (map ty_of c)
 context_levels c = ap (λ l. map ty_of (reverse l)) (sym (take-length c)) ∙ levels_take c (length c) (omega arith)

@@ -1,7 +1,8 @@
 -- How the code that builds a net keeps what the definition speaks of.
 -- The context is a list of the binders' types, the outermost first. A term's free variables are a list of the wires that are loose, each
 -- with its binder, the innermost binder last: entries only for variables that the term uses.
-use Rattle.std.specs.Prelude.{◌≡◌, ◌<◌, ◌^◌, ℕ, zero, suc, List, [], ◌∷◌, ◌++◌, length, map, reverse, Bool, false, Option, Some, None, nat_eq, nat_lt, ◌-◌, slice_get, if◌then◌else◌, ◌+◌}
+use Rattle.std.specs.Prelude.{◌≡◌, ◌<◌, ◌^◌, ℕ, zero, suc, List, [], ◌∷◌, ◌++◌, length, map, reverse, Bool, false, Option, Some, None}
+use Rattle.std.specs.Prelude.{nat_eq, nat_lt, ◌-◌, slice_get, if◌then◌else◌, ◌+◌}
 use Rattle.pcf_values.specs.declared.ty.Ty.{Ty}
 use Rattle.pcf_values.specs.Terms.{TyTree, nat, left_side, right_side, TermTree, product}
 use Rattle.pcf_values.specs.Views.{ty_of}
@@ -16,7 +17,8 @@ use Rattle.net_build.specs.declared.double.Double.TheVariants as double
 use Rattle.net_build.specs.declared.unary.Unary.{Unary}
 use Rattle.net_build.specs.declared.unary.Unary.TheVariants as unary
 use Rattle.net_build.specs.Nets.{WireTree, value_wire, bang_wire, var_wire}
-use Rattle.net_build.specs.NetOf.{Bundle, Part, contract, doors, bound, bound_wire, part, type_or_nat, side_type, double_end, ifz_end, lam_end, fix_end, app_end, unary_part, double_part, ifz_part, lam_part, fix_part, app_part}
+use Rattle.net_build.specs.NetOf.{Bundle, Part, contract, doors, bound, bound_wire, part, type_or_nat, side_type, double_end, ifz_end}
+use Rattle.net_build.specs.NetOf.{lam_end, fix_end, app_end, unary_part, double_part, ifz_part}
 use Rattle.net_build.specs.Views.{wire_of}
 
 -- the typing context, the nearest binder first
@@ -94,7 +96,8 @@ pub record Bundles (old new : Parts) (b : Bundle) (us : List Loose) : Type 0 whe
 -- contractions and doors of loose wires, built from here
 abbrev pub contract_at : Parts → ℕ → List Loose → List Loose → Bundle
 contract_at s d us vs =
-    contract (length s.wires.items) d (context_of s.context.items) (spread (length s.context.items) (reverse us)) (spread (length s.context.items) (reverse vs))
+    contract (length s.wires.items) d (context_of s.context.items) (spread (length s.context.items) (reverse us))
+    (spread (length s.context.items) (reverse vs))
 
 abbrev pub doors_at : Parts → ℕ → List Loose → Bundle
 doors_at s d us = doors (length s.wires.items) d (context_of s.context.items) (spread (length s.context.items) (reverse us))
@@ -115,7 +118,8 @@ IsFirst u (v ∷ vs) = u ≡ v
 
 -- the innermost of two lists' first wires was taken, by a contraction where both are of one binder
 pub data Takes (old new : Parts) (d : ℕ) : List Loose → List Loose → List Loose → List Loose → Loose → Type 0 where
-  both : (u v w : Loose) (us vs : List Loose) → u.binder ≡ v.binder → Varies old new d u.binder (Con u.wire v.wire (length old.wires.items)) w → Takes old new d (u ∷ us) (v ∷ vs) us vs w
+  both : (u v w : Loose) (us vs : List Loose) → u.binder ≡ v.binder
+      → Varies old new d u.binder (Con u.wire v.wire (length old.wires.items)) w → Takes old new d (u ∷ us) (v ∷ vs) us vs w
   first : (u v : Loose) (us vs : List Loose) → v.binder < u.binder → new ≡ old → Takes old new d (u ∷ us) (v ∷ vs) us (v ∷ vs) u
   second : (u v : Loose) (us vs : List Loose) → u.binder < v.binder → new ≡ old → Takes old new d (u ∷ us) (v ∷ vs) (u ∷ us) vs v
 
@@ -162,10 +166,12 @@ double_type double.Pair t u = product t u
 -- the ends of the forms, built from here of what was placed
 abbrev pub double_here : Double → Parts → ℕ → Placed → Placed → Part
 double_here form s d r r' =
-    double_end (double_node form) (double_type form (wire_type s r.out) (wire_type s r'.out)) (length s.wires.items) d (context_of s.context.items) r.out r'.out (frees s r) (frees s r')
+    double_end (double_node form) (double_type form (wire_type s r.out) (wire_type s r'.out)) (length s.wires.items) d
+    (context_of s.context.items) r.out r'.out (frees s r) (frees s r')
 
 abbrev pub ifz_here : Parts → ℕ → Placed → Placed → Placed → Part
-ifz_here s d r r' r'' = ifz_end (length s.wires.items) d (context_of s.context.items) r.out r'.out r''.out (frees s r) (frees s r') (frees s r'')
+ifz_here s d r r' r'' =
+    ifz_end (length s.wires.items) d (context_of s.context.items) r.out r'.out r''.out (frees s r) (frees s r') (frees s r'')
 
 abbrev pub app_here : Parts → ℕ → Placed → Placed → Part
 app_here s d r r' = app_end (length s.wires.items) d (context_of s.context.items) (wire_type s r.out) r.out r'.out (frees s r) (frees s r')
@@ -191,19 +197,11 @@ abbrev pub body_at : Parts → ℕ → TyTree → TermTree → Part
 body_at s d a t = part (length s.wires.items) d (a ∷ context_of s.context.items) t
 
 abbrev pub double_at : Double → Parts → ℕ → Part → Part → Part
-double_at form s d p q = double_part (double_node form) (double_type form p.type q.type) (length s.wires.items) d (context_of s.context.items) p q
+double_at form s d p q =
+    double_part (double_node form) (double_type form p.type q.type) (length s.wires.items) d (context_of s.context.items) p q
 
 abbrev pub ifz_at : Parts → ℕ → Part → Part → Part → Part
 ifz_at s d p q r = ifz_part (length s.wires.items) d (context_of s.context.items) p q r
-
-abbrev pub app_at : Parts → ℕ → Part → Part → Part
-app_at s d p q = app_part (length s.wires.items) d (context_of s.context.items) p q
-
-abbrev pub lam_at : Parts → ℕ → TyTree → Part → Part
-lam_at s d a p = lam_part (length s.wires.items) d a p
-
-abbrev pub fix_at : Parts → ℕ → TyTree → Part → Part
-fix_at s d a p = fix_part (length s.wires.items) d (context_of s.context.items) a p
 
 -- a body was added, and this is what it gives, with one binder more
 pub record BuildsBody (old new : Parts) (p : Part) (r : Placed) : Type 0 where
@@ -212,9 +210,11 @@ pub record BuildsBody (old new : Parts) (p : Part) (r : Placed) : Type 0 where
 
 -- the binder's variable wire was taken off, or made with a Weak
 pub record Binds (old new : Parts) (d : ℕ) (a : TyTree) (us vs : List Loose) (x : ℕ) : Type 0 where
-  pub grows : Grows old new (bound (length old.wires.items) d a (spread (suc (length old.context.items)) (reverse us))).wires (bound (length old.wires.items) d a (spread (suc (length old.context.items)) (reverse us))).nodes
+  pub grows : Grows old new (bound (length old.wires.items) d a (spread (suc (length old.context.items)) (reverse us))).wires
+      (bound (length old.wires.items) d a (spread (suc (length old.context.items)) (reverse us))).nodes
   pub wire : x ≡ bound_wire (length old.wires.items) (spread (suc (length old.context.items)) (reverse us))
-  pub free : Spreads (length old.context.items) (bound (length old.wires.items) d a (spread (suc (length old.context.items)) (reverse us))).free vs
+  pub free : Spreads (length old.context.items)
+      (bound (length old.wires.items) d a (spread (suc (length old.context.items)) (reverse us))).free vs
 
 -- doors for an argument's variables, and the box on its value wire, built from here
 abbrev pub box_bundle : ℕ → ℕ → List TyTree → TyTree → ℕ → List (Option ℕ) → Bundle

@@ -13,7 +13,8 @@ doubled = app (lam nat (binary plus_op (var 0) (var 0))) (num 3)
 abbrev pub doubled_net : NetTree
 doubled_net = record {
   wires =
-      value_wire 0 nat ∷ var_wire 0 nat ∷ value_wire 0 nat ∷ var_wire 0 nat ∷ var_wire 0 nat ∷ value_wire 0 nat ∷ value_wire 0 (arrow nat nat) ∷ value_wire 1 nat ∷ bang_wire 0 nat ∷ value_wire 0 nat ∷ [];
+      value_wire 0 nat ∷ var_wire 0 nat ∷ value_wire 0 nat ∷ var_wire 0 nat ∷ var_wire 0 nat ∷ value_wire 0 nat ∷
+      value_wire 0 (arrow nat nat) ∷ value_wire 1 nat ∷ bang_wire 0 nat ∷ value_wire 0 nat ∷ [];
   nodes = Der 0 1 ∷ Der 2 3 ∷ Con 1 3 4 ∷ Plus 0 2 5 ∷ Lam 5 4 6 ∷ Const 3 7 ∷ BoxNode 7 8 ∷ App 6 8 9 ∷ Root 9 ∷ [];
 }
 

@@ -1,13 +1,18 @@
 -- The net of a term, by the order in which its parts are built.
+-- It is Girard's translation of call by name into the proof nets of linear logic: the argument of a function stands in a box, as the
+-- function takes it as often as it likes; Der is dereliction, Con contraction, Weak weakening, and BoxNode with its Doors promotion.
+-- Numbers, their operators and fixed points, which that logic hasn't, have nodes of their own.
 -- It is a recursion on the term that joins the lists of the parts, so that a proof by induction on the term sees each part's wires
 -- and nodes as they are. Wires have their final numbers from the start: a part is told the next unused number, and nodes name
 -- wires only, so that no list is ever renumbered. A term's free variables are a list aligned with its typing context, with the
 -- variable's wire at each index that the term uses: rising index is the list's order, and a binder takes the first entry off.
 -- The type of a part is computed beside it; it is a default where the term has no type, so that the definition has no condition.
 use Rattle.std.specs.Prelude.{ℕ, zero, suc, ◌+◌, List, [], ◌∷◌, ◌++◌, length, Option, Some, None, slice_get}
-use Rattle.pcf_values.specs.Terms.{Side, at_side, TyTree, nat, arrow, product, TermTree, num, var, succ_of, pred_of, binary, ifz, lam, fix, app, pair, proj}
+use Rattle.pcf_values.specs.Terms.{Side, at_side, TyTree, nat, arrow, product, TermTree, num, var, succ_of, pred_of, binary, ifz, lam, fix}
+use Rattle.pcf_values.specs.Terms.{app, pair, proj}
 use Rattle.net_build.specs.declared.node.Node.{Node}
-use Rattle.net_build.specs.declared.node.Node.TheVariants.{Const, Succ, Pred, Ifz, Der, Con, Weak, Lam, App, BoxNode, Door, FixBox, Root, Pair}
+use Rattle.net_build.specs.declared.node.Node.TheVariants.{Const, Succ, Pred, Ifz, Der, Con, Weak, Lam, App, BoxNode, Door, FixBox, Root}
+use Rattle.net_build.specs.declared.node.Node.TheVariants.{Pair}
 use Rattle.net_build.specs.Nets.{WireTree, NetTree, value_wire, bang_wire, var_wire, binary_node, proj_node}
 
 -- new wires and nodes, and for each index of the context its variable wire, where it has one

@@ -5,7 +5,8 @@ ghost use Rattle.std.specs.Prelude.{◌≡◌, ◌<◌, ◌+◌, ◌-◌, ◌^�
 ghost use Rattle.pcf_values.specs.Terms.{arrow};
 ghost use Rattle.pcf_values.specs.Views.{ty_of};
 ghost use Rattle.net_build.specs.NetOf.{domain, codomain};
-ghost use Rattle.net_build.specs.Building.{AreLoose, Binds, Builds, Bundles, Falling, Finishes, HasRoom, IsBody, IsPlaced, app_here, box_here, box_wire, double_here, fix_here, ifz_here, lam_here, uses_first};
+ghost use Rattle.net_build.specs.Building.{AreLoose, Binds, Builds, Bundles, Falling, Finishes, HasRoom, IsBody, IsPlaced, app_here};
+ghost use Rattle.net_build.specs.Building.{box_here, box_wire, double_here, fix_here, ifz_here, lam_here, uses_first};
 
 use crate::double::Double;
 use crate::joins::{contract, doors, pop_last};

@@ -41,7 +41,9 @@ fn take(
     requires some_left { 0 < length left.old.items }
     requires some_right { 0 < length right.old.items }
     requires room { length parts.old.wires.items < 2 ^ 32 }
-    ensures { IfOk result (λ u. Takes parts.old parts.new depth (reverse left.old.items) (reverse right.old.items) (reverse left.new.items) (reverse right.new.items) u) }
+    ensures { IfOk result
+        (λ u. Takes parts.old parts.new depth (reverse left.old.items) (reverse right.old.items) (reverse left.new.items)
+        (reverse right.new.items) u) }
 {
     let u = last(left);
     let v = last(right);

@@ -41,6 +41,10 @@ impl Model for Net {
 
 impl Net {
     /// The net of these two lists, as they are: no node need name a wire of the list.
+    ///
+    /// # Errors
+    ///
+    /// `AllocError` where there is no memory for the index of the nodes above and below each wire.
     pub fn from_parts(alloc: Global, wires: Vec<Wire>, nodes: Vec<Node>) -> Result<Net, AllocError>
         requires wires { length wires.items < 2 ^ 32 }
         requires nodes { length nodes.items < 2 ^ 32 }
@@ -115,6 +119,10 @@ impl Net {
     }
 
     /// An equal net.
+    ///
+    /// # Errors
+    ///
+    /// `AllocError` where there is no memory for it.
     pub fn copy(&self, alloc: Global) -> Result<Net, AllocError>
         ensures { IfOk result (λ n. n ≡ self.now) }
     {

@@ -21,6 +21,10 @@ use std::alloc::{AllocError, Global};
 
 /// The net of a program: exactly that of the definition. Its time is that of the net's size, each wire with its type, and at each join of
 /// two operands' variables, and at each box, that of the binders around: no list of free variables is longer.
+///
+/// # Errors
+///
+/// `AllocError` where there is no memory for the net.
 pub fn build(alloc: Global, program: &Typed) -> Result<Net, AllocError>
     requires ground { program.now.1 ≡ nat }
     requires wires { length (net_of program.now.0).wires < 2 ^ 32 }
@@ -184,7 +188,8 @@ fn place_ifz(
     otherwise: &Term,
 ) -> Result<Placed, AllocError>
     requires { HasRoom parts.old depth (part_at parts.old depth (ifz (term_of test.now) (term_of then.now) (term_of otherwise.now))) }
-    ensures { IfOk result (Builds parts.old parts.new (part_at parts.old depth (ifz (term_of test.now) (term_of then.now) (term_of otherwise.now)))) }
+    ensures { IfOk result
+        (Builds parts.old parts.new (part_at parts.old depth (ifz (term_of test.now) (term_of then.now) (term_of otherwise.now)))) }
 {
     let test = place(alloc, parts, depth, test)?;
     let then = place(alloc, parts, depth, then)?;

@@ -17,16 +17,23 @@ pub enum WireKind {
     Variable,
 }
 
-/// A wire of a net: in how many boxes it stands, and the type of what it carries.
+/// A wire of a net.
 #[derive(Drop)]
 pub struct Wire {
+    /// What it carries.
     pub kind: WireKind,
+    /// In how many boxes it stands.
     pub depth: u32,
+    /// The type of what it carries.
     pub ty: Ty,
 }
 
 impl Wire {
     /// An equal wire.
+    ///
+    /// # Errors
+    ///
+    /// `AllocError` where there is no memory for its type.
     pub fn copy(&self, alloc: Global) -> Result<Wire, AllocError>
         ensures { IfOk result (λ w. wire_of w ≡ wire_of self.now) }
     {

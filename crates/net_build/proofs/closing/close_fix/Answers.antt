@@ -10,8 +10,11 @@ pub returns : goal.returns
 returns c =
     let a = ty_of c.args.ty.now in
     let e : c.args.depth + 1 ≡ suc c.args.depth = omega arith in
-    let b = subst (λ d. Binds c.args.parts.now c.bind.new.parts d a c.args.body.free.items c.bind.new.free.items c.in_ok-variable.variable) e c.in_ok-variable.ensures in
+    let b = subst (λ d. Binds c.args.parts.now c.bind.new.parts d a c.args.body.free.items c.bind.new.free.items c.in_ok-variable.variable)
+    e c.in_ok-variable.ensures in
     IfOk-weaker c.finish.result _ _
-    (λ x f. fix_ending c.args.parts.now c.bind.new.parts c.doors.new.parts c.finish.new.parts c.args.depth a (ty_of c.in_ok-copy.field-0) c.args.body c.bind.new.free.items c.in_ok-free.free.items c.in_ok-variable.variable
-    (FixBox c.args.body.out c.in_ok-variable.variable c.next.result) x b c.in_ok-free.ensures c.in_ok-copy.ensures (ap (FixBox c.args.body.out c.in_ok-variable.variable) c.next.ensures) f)
+    (λ x f. fix_ending c.args.parts.now c.bind.new.parts c.doors.new.parts c.finish.new.parts c.args.depth a (ty_of c.in_ok-copy.field-0)
+    c.args.body c.bind.new.free.items c.in_ok-free.free.items c.in_ok-variable.variable
+    (FixBox c.args.body.out c.in_ok-variable.variable c.next.result) x b c.in_ok-free.ensures c.in_ok-copy.ensures
+    (ap (FixBox c.args.body.out c.in_ok-variable.variable) c.next.ensures) f)
     c.finish.ensures

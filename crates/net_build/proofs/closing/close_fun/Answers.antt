@@ -10,6 +10,8 @@ pub returns : goal.returns
 returns c =
     let a = ty_of c.args.ty.now in
     IfOk-weaker c.finish.result _ _
-    (λ x f. lam_ending c.args.parts.now c.bind.new.parts c.finish.new.parts c.args.depth a (ty_of c.in_ok-whole.whole) c.args.body c.bind.new.free.items c.in_ok-variable.variable (Lam c.args.body.out c.in_ok-variable.variable c.next.result) x c.in_ok-variable.ensures
+    (λ x f. lam_ending c.args.parts.now c.bind.new.parts c.finish.new.parts c.args.depth a (ty_of c.in_ok-whole.whole) c.args.body
+    c.bind.new.free.items c.in_ok-variable.variable (Lam c.args.body.out c.in_ok-variable.variable c.next.result) x
+    c.in_ok-variable.ensures
     (c.in_ok-whole.ensures ∙ ap (arrow a) c.ty.ensures) (ap (Lam c.args.body.out c.in_ok-variable.variable) c.next.ensures) f)
     c.finish.ensures

@@ -7,6 +7,8 @@ use Rattle.net_build.proofs.closing.close_ifz.Goals as goal
 pub returns : goal.returns
 returns c =
     IfOk-weaker c.finish.result _ _
-    (λ x f. ifz_ending c.args.parts.now c.contract.new.parts c.contract-2.new.parts c.finish.new.parts c.args.depth c.args.test c.args.then c.args.otherwise c.in_ok-branches.branches.items c.in_ok-free.free.items
-    (Ifz c.args.test.out c.args.then.out c.args.otherwise.out c.next.result) x c.in_ok-branches.ensures c.in_ok-free.ensures (ap (Ifz c.args.test.out c.args.then.out c.args.otherwise.out) c.next.ensures) f)
+    (λ x f. ifz_ending c.args.parts.now c.contract.new.parts c.contract-2.new.parts c.finish.new.parts c.args.depth c.args.test c.args.then
+    c.args.otherwise c.in_ok-branches.branches.items c.in_ok-free.free.items
+    (Ifz c.args.test.out c.args.then.out c.args.otherwise.out c.next.result) x c.in_ok-branches.ensures c.in_ok-free.ensures
+    (ap (Ifz c.args.test.out c.args.then.out c.args.otherwise.out) c.next.ensures) f)
     c.finish.ensures
