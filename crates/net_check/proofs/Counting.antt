@@ -1,5 +1,6 @@
 -- Counts over one node more.
-use Rattle.std.proofs.Common.{◌≡◌, ◌⊎◌, ℕ, zero, suc, ◌+◌, ◌<◌, List, [], ◌∷◌, ◌++◌, length, take, get_or, Option, Some, None, refl, sym, ap, ◌∙◌, subst, inl, inr, arith}
+use Rattle.std.proofs.Common.{◌≡◌, ◌⊎◌, ℕ, zero, suc, ◌+◌, ◌<◌, List, [], ◌∷◌, ◌++◌, length, take, get_or, Option, Some, None, refl, sym}
+use Rattle.std.proofs.Common.{ap, ◌∙◌, subst, inl, inr, arith}
 use Rattle.std.specs.Prelude.{slice_get, slice_set, slice_index, nat_eq, if◌then◌else◌}
 use Rattle.std.proofs.lemmas.Bool.{cases_eq, eq-eqb, ne_eqb}
 use Rattle.std.proofs.lemmas.List.{length-set}
@@ -19,10 +20,12 @@ once_capped (suc zero) = refl
 once_capped (suc (suc n)) = refl
 
 -- one wire counts once more
-bump_one : (cs : List ℕ) (x w m : ℕ) → w < length cs → slice_get cs w ≡ Some (capped m) → slice_get (slice_set cs x (once_more (slice_index cs x))) w ≡ Some (capped ((if nat_eq x w then 1 else 0) + m))
+bump_one : (cs : List ℕ) (x w m : ℕ) → w < length cs → slice_get cs w ≡ Some (capped m)
+    → slice_get (slice_set cs x (once_more (slice_index cs x))) w ≡ Some (capped ((if nat_eq x w then 1 else 0) + m))
 bump_one cs x w m l h = go (cases_eq x w)
   where
-    go : (x ≡ w) ⊎ (x ≡ w → ⊥) → slice_get (slice_set cs x (once_more (slice_index cs x))) w ≡ Some (capped ((if nat_eq x w then 1 else 0) + m))
+    go : (x ≡ w) ⊎ (x ≡ w → ⊥)
+        → slice_get (slice_set cs x (once_more (slice_index cs x))) w ≡ Some (capped ((if nat_eq x w then 1 else 0) + m))
     go (inl e) =
         let q : slice_index cs w ≡ capped m = get_or_from_slice_get cs w (capped m) 0 h in
         let o : 1 + m ≡ suc m = omega arith in
@@ -33,24 +36,29 @@ bump_one cs x w m l h = go (cases_eq x w)
 -- as many counts as before
 bumped_length : (ws cs : List ℕ) → length (bumped ws cs) ≡ length cs
 bumped_length [] cs = refl
-bumped_length (w ∷ ws) cs = bumped_length ws (slice_set cs w (once_more (slice_index cs w))) ∙ length-set cs w (once_more (slice_index cs w))
+bumped_length (w ∷ ws) cs =
+    bumped_length ws (slice_set cs w (once_more (slice_index cs w))) ∙ length-set cs w (once_more (slice_index cs w))
 
 -- the counts over a node's wires
-bumped_entry : (ws cs : List ℕ) (w m : ℕ) → w < length cs → slice_get cs w ≡ Some (capped m) → slice_get (bumped ws cs) w ≡ Some (capped (how_often w ws + m))
+bumped_entry : (ws cs : List ℕ) (w m : ℕ) → w < length cs → slice_get cs w ≡ Some (capped m)
+    → slice_get (bumped ws cs) w ≡ Some (capped (how_often w ws + m))
 bumped_entry [] cs w m l h = let o : 0 + m ≡ m = omega arith in rw o h
 bumped_entry (x ∷ ws) cs w m l h =
     let k = (if nat_eq x w then 1 else 0) in
     let o : how_often w ws + (k + m) ≡ k + how_often w ws + m = omega arith in
     subst (λ n. slice_get (bumped ws (slice_set cs x (once_more (slice_index cs x)))) w ≡ Some (capped n)) o
-    (bumped_entry ws (slice_set cs x (once_more (slice_index cs x))) w (k + m) (rw (length-set cs x (once_more (slice_index cs x))) l) (bump_one cs x w m l h))
+    (bumped_entry ws (slice_set cs x (once_more (slice_index cs x))) w (k + m) (rw (length-set cs x (once_more (slice_index cs x))) l)
+    (bump_one cs x w m l h))
 
 -- one node more is named
-named_snoc : (side : Node → List ℕ) (ns : List Node) (n : Node) (w : ℕ) → named side (ns ++ n ∷ []) w ≡ how_often w (side n) + named side ns w
+named_snoc : (side : Node → List ℕ) (ns : List Node) (n : Node) (w : ℕ)
+    → named side (ns ++ n ∷ []) w ≡ how_often w (side n) + named side ns w
 named_snoc side [] n w = omega arith
 named_snoc side (m ∷ ns) n w = let h = named_snoc side ns n w in omega arith
 
 -- one node more is counted: the one at i, of a list that is the nodes
-pub counted_more : (side : Node → List ℕ) (count i j : ℕ) (xs nodes : List Node) (d : Node) (cs new : List ℕ) → xs ≡ nodes → i < length xs → j ≡ suc i →
+pub counted_more : (side : Node → List ℕ) (count i j : ℕ) (xs nodes : List Node) (d : Node) (cs new : List ℕ) → xs ≡ nodes → i < length xs
+    → j ≡ suc i →
     Counted side count (take i nodes) cs → new ≡ bumped (side (get_or xs i d)) cs → Counted side count (take j nodes) new
 counted_more side count i j xs nodes d cs new e l ej h q =
     subst (λ ns. Counted side count (take i ns) cs → Counted side count (take j ns) new) e more h
@@ -63,7 +71,8 @@ counted_more side count i j xs nodes d cs new e l ej h q =
     })
 
 -- the least wire past the list, over a node's wires and over one node more
-pub lesser_two : (count : ℕ) (a b : Option ℕ) (o : Option ℕ) → lesser_of count (present (b ∷ [])) (lesser_of count (present (a ∷ [])) o) ≡ lesser_of count (present (a ∷ b ∷ [])) o
+pub lesser_two : (count : ℕ) (a b : Option ℕ) (o : Option ℕ)
+    → lesser_of count (present (b ∷ [])) (lesser_of count (present (a ∷ [])) o) ≡ lesser_of count (present (a ∷ b ∷ [])) o
 lesser_two count None None o = refl
 lesser_two count None (Some b) o = refl
 lesser_two count (Some a) None o = refl
@@ -71,22 +80,27 @@ lesser_two count (Some a) (Some b) o = refl
 
 -- the same of three
 pub lesser_three : (count : ℕ) (a b c : Option ℕ) (o : Option ℕ) →
-    lesser_of count (present (c ∷ [])) (lesser_of count (present (b ∷ [])) (lesser_of count (present (a ∷ [])) o)) ≡ lesser_of count (present (a ∷ b ∷ c ∷ [])) o
+    lesser_of count (present (c ∷ [])) (lesser_of count (present (b ∷ [])) (lesser_of count (present (a ∷ [])) o)) ≡ lesser_of count
+    (present (a ∷ b ∷ c ∷ [])) o
 lesser_three count None b c o = lesser_two count b c o
 lesser_three count (Some a) b c o = lesser_two count b c (lesser_of count (a ∷ []) o)
 
 -- one node more
-past_snoc : (count : ℕ) (ns : List Node) (n : Node) (o : Option ℕ) → past_from count (ns ++ n ∷ []) o ≡ lesser_of count (premises n) (lesser_of count (conclusions n) (past_from count ns o))
+past_snoc : (count : ℕ) (ns : List Node) (n : Node) (o : Option ℕ)
+    → past_from count (ns ++ n ∷ []) o ≡ lesser_of count (premises n) (lesser_of count (conclusions n) (past_from count ns o))
 past_snoc count [] n o = refl
 past_snoc count (m ∷ ns) n o = past_snoc count ns n (lesser_of count (premises m) (lesser_of count (conclusions m) o))
 
 -- the least number past the list, over one node more
-pub past_step : (count k i j : ℕ) (xs nodes : List Node) (d : Node) (least new : Option ℕ) → xs ≡ nodes → i < length xs → j ≡ suc i → count ≡ k →
-    least ≡ past_from k (take i nodes) None → new ≡ lesser_of count (premises (get_or xs i d)) (lesser_of count (conclusions (get_or xs i d)) least) →
+pub past_step : (count k i j : ℕ) (xs nodes : List Node) (d : Node) (least new : Option ℕ) → xs ≡ nodes → i < length xs → j ≡ suc i
+    → count ≡ k →
+    least ≡ past_from k (take i nodes) None → new ≡ lesser_of count (premises (get_or xs i d))
+    (lesser_of count (conclusions (get_or xs i d)) least) →
     new ≡ past_from k (take j nodes) None
 past_step count k i j xs nodes d least new e l ej ec h q =
     let n = get_or xs i d in
     let more : past_from k (take j xs) None ≡ lesser_of k (premises n) (lesser_of k (conclusions n) (past_from k (take i xs) None)) =
     rw (ej, take-suc xs i d l) (past_snoc k (take i xs) n None) in
     q ∙ (λ t. lesser_of (ec t) (premises n) (lesser_of (ec t) (conclusions n) (h t)))
-    ∙ sym (subst (λ ns. past_from k (take j ns) None ≡ lesser_of k (premises n) (lesser_of k (conclusions n) (past_from k (take i ns) None))) e more)
+    ∙ sym (subst (λ ns. past_from k (take j ns) None ≡ lesser_of k (premises n)
+    (lesser_of k (conclusions n) (past_from k (take i ns) None))) e more)

@@ -6,10 +6,12 @@ use Rattle.pcf_values.specs.Terms.{TyTree, nat, arrow, product}
 use Rattle.net_build.specs.declared.wire.WireKind.{WireKind}
 use Rattle.net_build.specs.declared.wire.WireKind.TheVariants.{Value, Bang, Variable}
 use Rattle.net_build.specs.declared.node.Node.{Node}
-use Rattle.net_build.specs.declared.node.Node.TheVariants.{Const, Succ, Pred, Plus, Minus, Times, Ifz, Der, Con, Weak, Lam, App, BoxNode, Door, FixBox, Root, Pair, Fst, Snd}
+use Rattle.net_build.specs.declared.node.Node.TheVariants.{Const, Succ, Pred, Plus, Minus, Times, Ifz, Der, Con, Weak, Lam, App, BoxNode}
+use Rattle.net_build.specs.declared.node.Node.TheVariants.{Door, FixBox, Root, Pair, Fst, Snd}
 use Rattle.net_build.specs.Nets.{WireTree, NetTree, value_wire, bang_wire, var_wire}
 use Rattle.net_build.specs.Sound.{Is, Meets}
-use Rattle.net_check.specs.Rows.{same_kind, type_if, depth_in, value_type, bang_type, variable_type, Deep, IsThere, AreOne, IsArrow, IsProduct, IsLeft, IsRight, TypesMeet, DepthsMeet}
+use Rattle.net_check.specs.Rows.{same_kind, type_if, depth_in, value_type, bang_type, variable_type, Deep, IsThere, AreOne, IsArrow}
+use Rattle.net_check.specs.Rows.{IsProduct, IsLeft, IsRight, TypesMeet, DepthsMeet}
 
 same_kind_is : (k l : WireKind) → same_kind k l ≡ true → k ≡ l
 same_kind_is Value Value e = refl
@@ -30,11 +32,13 @@ same_kind_self Variable = refl
 some_is : {A : Type 0} (a b : A) → Some a ≡ Some b → a ≡ b
 some_is a b e = ap (λ o. unwrap_or o a) e
 
-wire_is : (o : Option WireTree) (k : WireKind) (t : TyTree) (d : ℕ) → type_if k o ≡ Some t → depth_in o ≡ Some d → o ≡ Some (record { kind = k; depth = d; type = t })
+wire_is : (o : Option WireTree) (k : WireKind) (t : TyTree) (d : ℕ) → type_if k o ≡ Some t → depth_in o ≡ Some d
+    → o ≡ Some (record { kind = k; depth = d; type = t })
 wire_is None k t d h i = cc
 wire_is (Some w) k t d h i = go (same_kind w.kind k) refl h
   where
-    go : (b : Bool) → same_kind w.kind k ≡ b → (if b then Some w.type else None) ≡ Some t → Some w ≡ Some (record { kind = k; depth = d; type = t })
+    go : (b : Bool) → same_kind w.kind k ≡ b → (if b then Some w.type else None) ≡ Some t
+        → Some w ≡ Some (record { kind = k; depth = d; type = t })
     go false e h = cc
     go true e h =
         let ek = same_kind_is w.kind k e in
@@ -42,10 +46,12 @@ wire_is (Some w) k t d h i = go (same_kind w.kind k) refl h
         let ed = some_is w.depth d i in
         λ j. Some (record { kind = ek j; depth = ed j; type = et j })
 
-type_from : (o : Option WireTree) (k : WireKind) (t : TyTree) (d : ℕ) → o ≡ Some (record { kind = k; depth = d; type = t }) → type_if k o ≡ Some t
+type_from : (o : Option WireTree) (k : WireKind) (t : TyTree) (d : ℕ) → o ≡ Some (record { kind = k; depth = d; type = t })
+    → type_if k o ≡ Some t
 type_from o k t d e = rw (e, same_kind_self k) refl
 
-depth_from : (o : Option WireTree) (k : WireKind) (t : TyTree) (d : ℕ) → o ≡ Some (record { kind = k; depth = d; type = t }) → depth_in o ≡ Some d
+depth_from : (o : Option WireTree) (k : WireKind) (t : TyTree) (d : ℕ) → o ≡ Some (record { kind = k; depth = d; type = t })
+    → depth_in o ≡ Some d
 depth_from o k t d e = rw e refl
 
 -- the shapes, with the types that they name
@@ -75,7 +81,8 @@ arrow_has (Some (arrow s t)) (Some a) (Some b) h = (s, t, refl, ap Some (sym h.0
 arrow_from : (f a b : Option TyTree) (s t : TyTree) → f ≡ Some (arrow s t) → a ≡ Some s → b ≡ Some t → IsArrow f a b
 arrow_from f a b s t e g h = rw (e, g, h) (refl, refl)
 
-product_has : (f a b : Option TyTree) → IsProduct f a b → (s : TyTree) × (t : TyTree) × (f ≡ Some (product s t)) × (a ≡ Some s) × (b ≡ Some t)
+product_has : (f a b : Option TyTree) → IsProduct f a b
+    → (s : TyTree) × (t : TyTree) × (f ≡ Some (product s t)) × (a ≡ Some s) × (b ≡ Some t)
 product_has None a b h = elim h [ ]
 product_has (Some nat) a b h = elim h [ ]
 product_has (Some (arrow s t)) a b h = elim h [ ]
@@ -124,26 +131,37 @@ module _ (net : NetTree) where
   meets_both (Minus a c w) h i = (i.0, v a nat i.0 h.0 i.1, v c nat i.0 h.1 i.2, v w nat i.0 h.2 i.3)
   meets_both (Times a c w) h i = (i.0, v a nat i.0 h.0 i.1, v c nat i.0 h.1 i.2, v w nat i.0 h.2 i.3)
   meets_both (Ifz c p q w) h i = (i.0, v c nat i.0 h.0 i.1, v p nat i.0 h.1 i.2, v q nat i.0 h.2 i.3, v w nat i.0 h.3 i.4)
-  meets_both (Der w y) h i = let (t, e, f) = one_has (value_type net w) (variable_type net y) h in (i.0, t, v w t i.0 e i.1, x y t i.0 f i.2)
+  meets_both (Der w y) h i = let (t, e, f) =
+      one_has (value_type net w) (variable_type net y) h in (i.0, t, v w t i.0 e i.1, x y t i.0 f i.2)
   meets_both (Con l r w) h i =
       let (t, e, f) = one_has (variable_type net l) (variable_type net r) h.0 in
       let (u, g, k) = one_has (variable_type net l) (variable_type net w) h.1 in
       let q : u ≡ t = some_is u t (sym g ∙ e) in
       (i.0, t, x l t i.0 e i.1, x r t i.0 f i.2, x w t i.0 (k ∙ ap Some q) i.3)
   meets_both (Weak y) h i = let (t, e) = there_has (variable_type net y) h in (i.0, t, x y t i.0 e i.1)
-  meets_both (Lam c y w) h i = let (s, t, e, f, g) = arrow_has (value_type net w) (variable_type net y) (value_type net c) h in (i.0, s, t, v c t i.0 g i.1, x y s i.0 f i.2, v w (arrow s t) i.0 e i.3)
-  meets_both (App f a w) h i = let (s, t, e, g, k) = arrow_has (value_type net f) (bang_type net a) (value_type net w) h in (i.0, s, t, v f (arrow s t) i.0 e i.1, b a s i.0 g i.2, v w t i.0 k i.3)
-  meets_both (BoxNode n o) h i = let (t, e, f) = one_has (value_type net n) (bang_type net o) h in (i.0, t, v n t (suc i.0) e i.1, b o t i.0 f i.2)
-  meets_both (Door n o) h i = let (t, e, f) = one_has (variable_type net n) (variable_type net o) h in (i.0, t, x n t (suc i.0) e i.1, x o t i.0 f i.2)
+  meets_both (Lam c y w) h i = let (s, t, e, f, g) =
+      arrow_has (value_type net w) (variable_type net y) (value_type net c) h in
+      (i.0, s, t, v c t i.0 g i.1, x y s i.0 f i.2, v w (arrow s t) i.0 e i.3)
+  meets_both (App f a w) h i = let (s, t, e, g, k) =
+      arrow_has (value_type net f) (bang_type net a) (value_type net w) h in
+      (i.0, s, t, v f (arrow s t) i.0 e i.1, b a s i.0 g i.2, v w t i.0 k i.3)
+  meets_both (BoxNode n o) h i = let (t, e, f) =
+      one_has (value_type net n) (bang_type net o) h in (i.0, t, v n t (suc i.0) e i.1, b o t i.0 f i.2)
+  meets_both (Door n o) h i = let (t, e, f) =
+      one_has (variable_type net n) (variable_type net o) h in (i.0, t, x n t (suc i.0) e i.1, x o t i.0 f i.2)
   meets_both (FixBox c y w) h i =
       let (t, e, f) = one_has (value_type net c) (variable_type net y) h.0 in
       let (u, g, k) = one_has (value_type net c) (value_type net w) h.1 in
       let q : u ≡ t = some_is u t (sym g ∙ e) in
       (i.0, t, v c t (suc i.0) e i.1, x y t (suc i.0) f i.2, v w t i.0 (k ∙ ap Some q) i.3)
   meets_both (Root w) h i = v w nat 0 h i
-  meets_both (Pair a c w) h i = let (s, t, e, f, g) = product_has (value_type net w) (value_type net a) (value_type net c) h in (i.0, s, t, v a s i.0 f i.1, v c t i.0 g i.2, v w (product s t) i.0 e i.3)
-  meets_both (Fst a w) h i = let (s, t, e, f) = left_has (value_type net a) (value_type net w) h in (i.0, s, t, v a (product s t) i.0 e i.1, v w s i.0 f i.2)
-  meets_both (Snd a w) h i = let (s, t, e, f) = right_has (value_type net a) (value_type net w) h in (i.0, s, t, v a (product s t) i.0 e i.1, v w t i.0 f i.2)
+  meets_both (Pair a c w) h i = let (s, t, e, f, g) =
+      product_has (value_type net w) (value_type net a) (value_type net c) h in
+      (i.0, s, t, v a s i.0 f i.1, v c t i.0 g i.2, v w (product s t) i.0 e i.3)
+  meets_both (Fst a w) h i = let (s, t, e, f) =
+      left_has (value_type net a) (value_type net w) h in (i.0, s, t, v a (product s t) i.0 e i.1, v w s i.0 f i.2)
+  meets_both (Snd a w) h i = let (s, t, e, f) =
+      right_has (value_type net a) (value_type net w) h in (i.0, s, t, v a (product s t) i.0 e i.1, v w t i.0 f i.2)
 
   vt : (n : ℕ) (t : TyTree) (d : ℕ) → Is net n (value_wire d t) → value_type net n ≡ Some t
   vt n t d h = type_from (slice_get net.wires n) Value t d h
@@ -163,13 +181,15 @@ module _ (net : NetTree) where
   meets_types (Times a c w) h = (vt a nat h.0 h.1, vt c nat h.0 h.2, vt w nat h.0 h.3)
   meets_types (Ifz c p q w) h = (vt c nat h.0 h.1, vt p nat h.0 h.2, vt q nat h.0 h.3, vt w nat h.0 h.4)
   meets_types (Der w y) h = one_from _ _ h.1 (vt w h.1 h.0 h.2) (xt y h.1 h.0 h.3)
-  meets_types (Con l r w) h = (one_from _ _ h.1 (xt l h.1 h.0 h.2) (xt r h.1 h.0 h.3), one_from _ _ h.1 (xt l h.1 h.0 h.2) (xt w h.1 h.0 h.4))
+  meets_types (Con l r w) h =
+      (one_from _ _ h.1 (xt l h.1 h.0 h.2) (xt r h.1 h.0 h.3), one_from _ _ h.1 (xt l h.1 h.0 h.2) (xt w h.1 h.0 h.4))
   meets_types (Weak y) h = there_from _ h.1 (xt y h.1 h.0 h.2)
   meets_types (Lam c y w) h = arrow_from _ _ _ h.1 h.2 (vt w (arrow h.1 h.2) h.0 h.5) (xt y h.1 h.0 h.4) (vt c h.2 h.0 h.3)
   meets_types (App f a w) h = arrow_from _ _ _ h.1 h.2 (vt f (arrow h.1 h.2) h.0 h.3) (bt a h.1 h.0 h.4) (vt w h.2 h.0 h.5)
   meets_types (BoxNode n o) h = one_from _ _ h.1 (vt n h.1 (suc h.0) h.2) (bt o h.1 h.0 h.3)
   meets_types (Door n o) h = one_from _ _ h.1 (xt n h.1 (suc h.0) h.2) (xt o h.1 h.0 h.3)
-  meets_types (FixBox c y w) h = (one_from _ _ h.1 (vt c h.1 (suc h.0) h.2) (xt y h.1 (suc h.0) h.3), one_from _ _ h.1 (vt c h.1 (suc h.0) h.2) (vt w h.1 h.0 h.4))
+  meets_types (FixBox c y w) h =
+      (one_from _ _ h.1 (vt c h.1 (suc h.0) h.2) (xt y h.1 (suc h.0) h.3), one_from _ _ h.1 (vt c h.1 (suc h.0) h.2) (vt w h.1 h.0 h.4))
   meets_types (Root w) h = vt w nat 0 h
   meets_types (Pair a c w) h = product_from _ _ _ h.1 h.2 (vt w (product h.1 h.2) h.0 h.5) (vt a h.1 h.0 h.3) (vt c h.2 h.0 h.4)
   meets_types (Fst a w) h = left_from _ _ h.1 h.2 (vt a (product h.1 h.2) h.0 h.3) (vt w h.1 h.0 h.4)

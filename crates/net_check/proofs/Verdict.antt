@@ -50,7 +50,8 @@ roots_fault net k e n = subst (λ k. FirstFault net (RootCount k)) (sym e) (root
 pub loose_fault : (net : NetTree) (n : ℕ) → roots net.nodes ≡ 1 → IsFirstLoose net (Some n) → FirstFault net (LooseWire n)
 loose_fault net n r h = loose_wire n r h.0 h.1
 
-pub node_row_fault : (net : NetTree) (n : ℕ) (node : Node) (e : NetFault) → MeetBelow net n → slice_get net.nodes n ≡ Some node → IsNodeFault net n node (Some e) → RowFault net e
+pub node_row_fault : (net : NetTree) (n : ℕ) (node : Node) (e : NetFault) → MeetBelow net n → slice_get net.nodes n ≡ Some node
+    → IsNodeFault net n node (Some e) → RowFault net e
 node_row_fault net n node (TypeClash m) b g f = subst (λ m. RowFault net (TypeClash m)) (sym f.0) (in_types n node b g f.1)
 node_row_fault net n node (DepthClash m) b g f = subst (λ m. RowFault net (DepthClash m)) (sym f.0) (in_depths n node b g f.1 f.2)
 node_row_fault net n node (LooseWire m) b g f = elim f [ ]
@@ -66,7 +67,9 @@ least_is P n m a b c d = go (cases_lt n m) (cases_lt m n)
     go (inr l) (inl k) = absurd (d (a m k))
     go (inr l) (inr k) = omega arith
 
-row_place : (net : NetTree) (n m : ℕ) (a b : Node) → MeetBelow net n → slice_get net.nodes n ≡ Some a → ¬ (TypesMeet net a × DepthsMeet net a) → MeetBelow net m → slice_get net.nodes m ≡ Some b → ¬ (TypesMeet net b × DepthsMeet net b) → n ≡ m
+row_place : (net : NetTree) (n m : ℕ) (a b : Node) → MeetBelow net n → slice_get net.nodes n ≡ Some a
+    → ¬ (TypesMeet net a × DepthsMeet net a) → MeetBelow net m → slice_get net.nodes m ≡ Some b → ¬ (TypesMeet net b × DepthsMeet net b)
+    → n ≡ m
 row_place net n m a b p e x q f y = go (cases_lt n m) (cases_lt m n)
   where
     go : (n < m) ⊎ (m ≤ n) → (m < n) ⊎ (n ≤ m) → n ≡ m
@@ -89,7 +92,8 @@ one_fault net _ _ (loose_wire n r a b) (type_clash m node r' h p e t) = absurd (
 one_fault net _ _ (loose_wire n r a b) (depth_clash m node r' h p e t d) = absurd (b (h n))
 one_fault net _ _ (type_clash n node r h p e t) (root_count r') = absurd (r' r)
 one_fault net _ _ (type_clash n node r h p e t) (loose_wire m r' a b) = absurd (b (h m))
-one_fault net _ _ (type_clash n node r h p e t) (type_clash m node' r' h' p' e' t') = ap TypeClash (row_place net n m node node' p e (λ x. t x.0) p' e' (λ x. t' x.0))
+one_fault net _ _ (type_clash n node r h p e t) (type_clash m node' r' h' p' e' t') =
+    ap TypeClash (row_place net n m node node' p e (λ x. t x.0) p' e' (λ x. t' x.0))
 one_fault net _ _ (type_clash n node r h p e t) (depth_clash m node' r' h' p' e' t' d') =
     let q = row_place net n m node node' p e (λ x. t x.0) p' e' (λ x. d' x.1) in
     absurd (t (subst (TypesMeet net) (sym (row_node net n m node node' q e e')) t'))
@@ -98,4 +102,5 @@ one_fault net _ _ (depth_clash n node r h p e t d) (loose_wire m r' a b) = absur
 one_fault net _ _ (depth_clash n node r h p e t d) (type_clash m node' r' h' p' e' t') =
     let q = row_place net n m node node' p e (λ x. d x.1) p' e' (λ x. t' x.0) in
     absurd (t' (subst (TypesMeet net) (row_node net n m node node' q e e') t))
-one_fault net _ _ (depth_clash n node r h p e t d) (depth_clash m node' r' h' p' e' t' d') = ap DepthClash (row_place net n m node node' p e (λ x. d x.1) p' e' (λ x. d' x.1))
+one_fault net _ _ (depth_clash n node r h p e t d) (depth_clash m node' r' h' p' e' t' d') =
+    ap DepthClash (row_place net n m node node' p e (λ x. d x.1) p' e' (λ x. d' x.1))

@@ -1,5 +1,6 @@
 -- How the code counts: never, once, or more often.
-use Rattle.std.specs.Prelude.{◌≡◌, ◌<◌, ℕ, zero, suc, List, [], ◌∷◌, length, Option, Some, None, nat_lt, if◌then◌else◌, slice_get, slice_set, slice_index}
+use Rattle.std.specs.Prelude.{◌≡◌, ◌<◌, ℕ, zero, suc, List, [], ◌∷◌, length, Option, Some, None, nat_lt, if◌then◌else◌, slice_get}
+use Rattle.std.specs.Prelude.{slice_set, slice_index}
 use Rattle.net_build.specs.declared.node.Node.{Node}
 use Rattle.net_build.specs.Nets.{premises, conclusions}
 use Rattle.net_build.specs.Sound.{named}
@@ -26,7 +27,9 @@ pub record Counted (side : Node → List ℕ) (count : ℕ) (nodes : List Node) 
 -- the least place at which one of two counts isn't 1, where there is one
 abbrev pub IsLeastOdd : List ℕ → List ℕ → Option ℕ → Type 0
 IsLeastOdd xs ys None = (n : ℕ) → n < length xs → (slice_get xs n ≡ Some 1) × (slice_get ys n ≡ Some 1)
-IsLeastOdd xs ys (Some n) = (n < length xs) × ((m : ℕ) → m < n → (slice_get xs m ≡ Some 1) × (slice_get ys m ≡ Some 1)) × ¬ ((slice_get xs n ≡ Some 1) × (slice_get ys n ≡ Some 1))
+IsLeastOdd xs ys (Some n) =
+    (n < length xs) × ((m : ℕ) → m < n → (slice_get xs m ≡ Some 1) × (slice_get ys m ≡ Some 1)) × ¬
+    ((slice_get xs n ≡ Some 1) × (slice_get ys n ≡ Some 1))
 
 -- the lesser of a number and one that is there
 abbrev pub lesser : ℕ → Option ℕ → Option ℕ

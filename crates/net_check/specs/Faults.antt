@@ -11,7 +11,8 @@ use Rattle.net_check.specs.Rows.{TypesMeet, DepthsMeet}
 -- a wire of the list that stands once on each side, or a number past the list that no node names
 abbrev pub Held : NetTree → ℕ → Type 0
 Held net n =
-    (n < length net.wires → (named conclusions net.nodes n ≡ 1) × (named premises net.nodes n ≡ 1)) × (length net.wires ≤ n → (named conclusions net.nodes n ≡ 0) × (named premises net.nodes n ≡ 0))
+    (n < length net.wires → (named conclusions net.nodes n ≡ 1) × (named premises net.nodes n ≡ 1)) ×
+    (length net.wires ≤ n → (named conclusions net.nodes n ≡ 0) × (named premises net.nodes n ≡ 0))
 
 -- each node below this number meets its row
 abbrev pub MeetBelow : NetTree → ℕ → Type 0
@@ -23,9 +24,11 @@ pub data FirstFault (net : NetTree) : NetFault → Type 0 where
   -- the least number that isn't held
   loose_wire : (n : ℕ) → roots net.nodes ≡ 1 → ((m : ℕ) → m < n → Held net m) → ¬ Held net n → FirstFault net (LooseWire n)
   -- the least node that misses its row, in kinds or types
-  type_clash : (n : ℕ) (node : Node) → roots net.nodes ≡ 1 → ((m : ℕ) → Held net m) → MeetBelow net n → slice_get net.nodes n ≡ Some node → ¬ TypesMeet net node → FirstFault net (TypeClash n)
+  type_clash : (n : ℕ) (node : Node) → roots net.nodes ≡ 1 → ((m : ℕ) → Held net m) → MeetBelow net n → slice_get net.nodes n ≡ Some node
+      → ¬ TypesMeet net node → FirstFault net (TypeClash n)
   -- the same, in depths alone
-  depth_clash : (n : ℕ) (node : Node) → roots net.nodes ≡ 1 → ((m : ℕ) → Held net m) → MeetBelow net n → slice_get net.nodes n ≡ Some node → TypesMeet net node → ¬ DepthsMeet net node → FirstFault net (DepthClash n)
+  depth_clash : (n : ℕ) (node : Node) → roots net.nodes ≡ 1 → ((m : ℕ) → Held net m) → MeetBelow net n → slice_get net.nodes n ≡ Some node
+      → TypesMeet net node → ¬ DepthsMeet net node → FirstFault net (DepthClash n)
 
 -- a net has one first fault at most, and a sound net has none
 abbrev pub OneFault : Type 0

@@ -5,7 +5,8 @@ use Rattle.pcf_values.specs.Terms.{TyTree, nat, arrow, product}
 use Rattle.net_build.specs.declared.wire.WireKind.{WireKind}
 use Rattle.net_build.specs.declared.wire.WireKind.TheVariants.{Value, Bang, Variable}
 use Rattle.net_build.specs.declared.node.Node.{Node}
-use Rattle.net_build.specs.declared.node.Node.TheVariants.{Const, Succ, Pred, Plus, Minus, Times, Ifz, Der, Con, Weak, Lam, App, BoxNode, Door, FixBox, Root, Pair, Fst, Snd}
+use Rattle.net_build.specs.declared.node.Node.TheVariants.{Const, Succ, Pred, Plus, Minus, Times, Ifz, Der, Con, Weak, Lam, App, BoxNode}
+use Rattle.net_build.specs.declared.node.Node.TheVariants.{Door, FixBox, Root, Pair, Fst, Snd}
 use Rattle.net_build.specs.Nets.{WireTree, NetTree}
 
 abbrev pub same_kind : WireKind → WireKind → Bool
@@ -97,7 +98,8 @@ TypesMeet net (Pred a w) = (value_type net a ≡ Some nat) × (value_type net w 
 TypesMeet net (Plus a b w) = (value_type net a ≡ Some nat) × (value_type net b ≡ Some nat) × (value_type net w ≡ Some nat)
 TypesMeet net (Minus a b w) = (value_type net a ≡ Some nat) × (value_type net b ≡ Some nat) × (value_type net w ≡ Some nat)
 TypesMeet net (Times a b w) = (value_type net a ≡ Some nat) × (value_type net b ≡ Some nat) × (value_type net w ≡ Some nat)
-TypesMeet net (Ifz c p q w) = (value_type net c ≡ Some nat) × (value_type net p ≡ Some nat) × (value_type net q ≡ Some nat) × (value_type net w ≡ Some nat)
+TypesMeet net (Ifz c p q w) =
+    (value_type net c ≡ Some nat) × (value_type net p ≡ Some nat) × (value_type net q ≡ Some nat) × (value_type net w ≡ Some nat)
 TypesMeet net (Der w x) = AreOne (value_type net w) (variable_type net x)
 TypesMeet net (Con l r w) = AreAllOne (variable_type net l) (variable_type net r) (variable_type net w)
 TypesMeet net (Weak x) = IsThere (variable_type net x)

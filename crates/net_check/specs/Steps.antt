@@ -15,7 +15,8 @@ IsFirstLoose net (Some n) = ((m : ℕ) → m < n → Held net m) × ¬ Held net 
 -- the first node that misses its row, and in which half
 pub data RowFault (net : NetTree) : NetFault → Type 0 where
   in_types : (n : ℕ) (node : Node) → MeetBelow net n → slice_get net.nodes n ≡ Some node → ¬ TypesMeet net node → RowFault net (TypeClash n)
-  in_depths : (n : ℕ) (node : Node) → MeetBelow net n → slice_get net.nodes n ≡ Some node → TypesMeet net node → ¬ DepthsMeet net node → RowFault net (DepthClash n)
+  in_depths : (n : ℕ) (node : Node) → MeetBelow net n → slice_get net.nodes n ≡ Some node → TypesMeet net node → ¬ DepthsMeet net node
+      → RowFault net (DepthClash n)
 
 -- what node n misses of its row: nothing, or kinds and types, or depths alone
 abbrev pub IsNodeFault : NetTree → ℕ → Node → Option NetFault → Type 0

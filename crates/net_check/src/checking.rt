@@ -12,7 +12,12 @@ use crate::tally::count_all;
 use net_build::{Net, Node};
 use std::alloc::{AllocError, Global};
 
-/// Ok exactly where the net is sound, and otherwise its first fault.
+/// Ok exactly when the net is sound, and otherwise its first fault.
+///
+/// # Errors
+///
+/// The first fault: a number of roots that isn't 1, then the least loose wire, then the least node that misses its row.
+/// `NetFault::NoMemory` where there is no memory for the counts.
 pub fn check(alloc: Global, net: &Net) -> Result<(), NetFault>
     ensures sound { IfOk result (λ _. Sound net.now) }
     ensures fault { IfErr result (λ e. e ≢ NetFault.NoMemory → FirstFault net.now e) }

@@ -6,7 +6,8 @@ ghost use Rattle.pcf_values.specs.Terms.{TyTree, nat, arrow, product};
 ghost use Rattle.pcf_values.specs.Views.{ty_of};
 ghost use Rattle.net_build.specs.Views.{wire_of};
 ghost use Rattle.net_build.specs.declared.wire.WireKind.TheVariants.{Value, Bang, Variable};
-ghost use Rattle.net_check.specs.Rows.{AreAllOne, AreOne, Deep, DepthsMeet, IsArrow, IsLeft, IsProduct, IsRight, TypesMeet, depth_in, type_if, value_type};
+ghost use Rattle.net_check.specs.Rows.{AreAllOne, AreOne, Deep, DepthsMeet, IsArrow, IsLeft, IsProduct, IsRight, TypesMeet, depth_in};
+ghost use Rattle.net_check.specs.Rows.{type_if, value_type};
 
 use net_build::{Net, Node, Wire, WireKind};
 use pcf_values::Ty;
@@ -127,7 +128,8 @@ fn are_one(a: Option<&Ty>, b: Option<&Ty>) -> bool
 
 /// Whether all three are there and one type.
 fn are_all_one(a: Option<&Ty>, b: Option<&Ty>, c: Option<&Ty>) -> bool
-    ensures { IsTrue result ↔ AreAllOne (option_map (λ t. ty_of t.now) a.entry) (option_map (λ t. ty_of t.now) b.entry) (option_map (λ t. ty_of t.now) c.entry) }
+    ensures { IsTrue result ↔ AreAllOne (option_map (λ t. ty_of t.now) a.entry) (option_map (λ t. ty_of t.now) b.entry)
+        (option_map (λ t. ty_of t.now) c.entry) }
 {
     match (a, b, c) {
         (Some(a), Some(b), Some(c)) => a.same(b) && a.same(c),
@@ -137,7 +139,8 @@ fn are_all_one(a: Option<&Ty>, b: Option<&Ty>, c: Option<&Ty>) -> bool
 
 /// Whether the first is the type of functions from the second to the third.
 fn is_arrow(function: Option<&Ty>, from: Option<&Ty>, to: Option<&Ty>) -> bool
-    ensures { IsTrue result ↔ IsArrow (option_map (λ t. ty_of t.now) function.entry) (option_map (λ t. ty_of t.now) from.entry) (option_map (λ t. ty_of t.now) to.entry) }
+    ensures { IsTrue result ↔ IsArrow (option_map (λ t. ty_of t.now) function.entry) (option_map (λ t. ty_of t.now) from.entry)
+        (option_map (λ t. ty_of t.now) to.entry) }
 {
     match (function, from, to) {
         (Some(Ty::Arrow(a, b)), Some(from), Some(to)) => a.same(from) && b.same(to),
@@ -147,7 +150,8 @@ fn is_arrow(function: Option<&Ty>, from: Option<&Ty>, to: Option<&Ty>) -> bool
 
 /// Whether the first is the type of pairs of the second and the third.
 fn is_product(pair: Option<&Ty>, left: Option<&Ty>, right: Option<&Ty>) -> bool
-    ensures { IsTrue result ↔ IsProduct (option_map (λ t. ty_of t.now) pair.entry) (option_map (λ t. ty_of t.now) left.entry) (option_map (λ t. ty_of t.now) right.entry) }
+    ensures { IsTrue result ↔ IsProduct (option_map (λ t. ty_of t.now) pair.entry) (option_map (λ t. ty_of t.now) left.entry)
+        (option_map (λ t. ty_of t.now) right.entry) }
 {
     match (pair, left, right) {
         (Some(Ty::Product(a, b)), Some(left), Some(right)) => a.same(left) && b.same(right),

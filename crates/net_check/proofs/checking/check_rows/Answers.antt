@@ -5,7 +5,9 @@ use Rattle.net_check.proofs.checking.check_rows.Goals as goal
 
 pub returns-in-Some-clause-fault : goal.returns-in-Some-clause-fault
 returns-in-Some-clause-fault c =
-    node_row_fault c.args.net.now c.loop-n.n _ c.in-Some.fault c.loop-n.invariant (stands_at c.nodes-node-items.result.now c.args.net.now.nodes c.loop-n.n _ c.nodes-node-items.ensures.nodes c.loop-n-test.true) c.in-Some.ensures
+    node_row_fault c.args.net.now c.loop-n.n _ c.in-Some.fault c.loop-n.invariant
+    (stands_at c.nodes-node-items.result.now c.args.net.now.nodes c.loop-n.n _ c.nodes-node-items.ensures.nodes c.loop-n-test.true)
+    c.in-Some.ensures
 
 pub loop-n-preserved : goal.loop-n-preserved
 loop-n-preserved c =
