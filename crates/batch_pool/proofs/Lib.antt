@@ -3,7 +3,4 @@ mod Asked
 mod Keeping
 mod Standing
 mod Ends
-mod ListLine
-mod ListRead
-mod OneList
 mod Pausing

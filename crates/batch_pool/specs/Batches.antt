@@ -9,7 +9,7 @@ use Rattle.interleave_laws.specs.Runs.{Runs}
 use Rattle.token_pool.specs.declared.entries.Held.{Held}
 use Rattle.token_pool.specs.Pools.{Pool, Holds, Good, started}
 use Rattle.batch_pool.specs.declared.job.BatchJob.{BatchJob}
-use Rattle.batch_pool.specs.Limits.{most_jobs, most_job_budget}
+use Rattle.batch_lists.specs.Limits.{most_jobs, most_job_budget}
 
 -- what workers share
 pub record Batch : Type 0 where

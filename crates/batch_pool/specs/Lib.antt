@@ -1,5 +1,4 @@
--- what a reader has to believe: the limits, the batch, its calls and what is always true of it
-pub mod Limits
+-- what a reader has to believe: the batch, its calls and what is always true of it
 pub mod Batches
 pub mod Asking
 pub mod Booking
@@ -7,12 +6,9 @@ pub mod Ending
 pub mod Benches
 -- the run of a batch
 pub mod Running
--- the list of the jobs as a text, and its first fault
-pub mod Lists
 -- the laws
 pub mod Laws
 -- what serves the code's types and inner calls only
 pub mod Codes
 pub mod Keeping
 pub mod Steps
-pub mod Scanning

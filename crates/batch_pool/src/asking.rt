@@ -4,7 +4,7 @@ ghost use Rattle.token_pool.specs.declared.entries.Held.{Held};
 ghost use Rattle.token_pool.specs.Pools.{Pool};
 ghost use Rattle.batch_pool.specs.Batches.{IsPool, HoldsIn, HoldsNowhere};
 ghost use Rattle.batch_pool.specs.Asking.{GivesToken, HasTicket};
-ghost use Rattle.batch_pool.specs.Limits.{most_jobs};
+ghost use Rattle.batch_lists.specs.Limits.{most_jobs};
 ghost use Rattle.batch_pool.specs.Steps.{Offers, OffersAt, TakesFirst, GivesAgain, IsServing};
 
 use crate::BatchTaken;

@@ -3,9 +3,10 @@
 ghost use Rattle.std.specs.Prelude.{◌≡◌, ◌≤◌, length, IfOk};
 ghost use Rattle.std.specs.List.{All};
 ghost use Rattle.batch_pool.specs.Batches.{JobFits, BatchFits};
-ghost use Rattle.batch_pool.specs.Limits.{most_jobs, most_job_budget};
+ghost use Rattle.batch_lists.specs.Limits.{most_jobs, most_job_budget};
 
-use batch_pool::{BatchJob, BatchLine, read_batch};
+use batch_lists::{BatchLine, read_batch};
+use batch_pool::BatchJob;
 use std::alloc::{AllocError, Global};
 use test_nets::net_of;
 

@@ -1,6 +1,6 @@
 //! Small lists, and what they are read as.
 
-use batch_pool::{BatchFault, BatchLine, read_batch};
+use batch_lists::{BatchFault, BatchLine, read_batch};
 use std::alloc::{AllocError, Global};
 use std::test::Fail;
 

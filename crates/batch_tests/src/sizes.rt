@@ -1,6 +1,6 @@
 //! The greatest lists: many jobs, long names, many bytes.
 
-use batch_pool::{BatchFault, read_batch};
+use batch_lists::{BatchFault, read_batch};
 use std::alloc::{AllocError, Global};
 use std::test::Fail;
 

@@ -6,7 +6,7 @@ use Rattle.pcf_values.specs.Terms.{nat}
 use Rattle.adequacy_laws.specs.Finished.{MapFinishedMeans}
 use Rattle.token_pool.specs.declared.ending.Ended.{Ended}
 use Rattle.batch_pool.specs.declared.job.BatchJob.{BatchJob}
-use Rattle.batch_pool.specs.Limits.{most_jobs, most_job_budget}
+use Rattle.batch_lists.specs.Limits.{most_jobs, most_job_budget}
 use Rattle.batch_pool.specs.Batches.{JobFits, BatchFits}
 use Rattle.batch_pool.specs.Running.{IsRunOf, AreRuns}
 use Rattle.goi_reports.specs.Forms.{AnswerFits}

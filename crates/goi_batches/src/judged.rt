@@ -1,7 +1,7 @@
 //! One program of a list: a job that runs, or the line of its refusal.
 
 ghost use Rattle.std.specs.Prelude.{◌≡◌, ◌≤◌, IfOk};
-ghost use Rattle.batch_pool.specs.Limits.{most_job_budget};
+ghost use Rattle.batch_lists.specs.Limits.{most_job_budget};
 ghost use Rattle.goi_tasks.specs.Refusals.{fault_line};
 ghost use Rattle.goi_batches.specs.Judging.{IsJudged};
 ghost use Rattle.goi_batches.specs.Sections.{listed};

@@ -3,7 +3,7 @@
 ghost use Rattle.goi_batches.specs.Laws.{OneSection};
 
 use adequacy_laws::law_one_length;
-use batch_pool::law_one_list;
+use batch_lists::law_one_list;
 use cbv_terms::law_faults;
 use net_text::law_one_answer as law_one_listing;
 use pcf_reader::{law_one_fault, law_one_tree, law_text_or_fault};

@@ -1,7 +1,7 @@
 //! The run of the programs of a list, and the report on it.
 
 ghost use Rattle.std.specs.Prelude.{◌≡◌, ◌≤◌, List, [], length, IfOk, OnOk};
-ghost use Rattle.batch_pool.specs.Limits.{most_jobs};
+ghost use Rattle.batch_lists.specs.Limits.{most_jobs};
 ghost use Rattle.goi_words.specs.Jobs.{IsWorkers};
 ghost use Rattle.goi_tasks.specs.Outputs.{output, output_of};
 ghost use Rattle.goi_batches.specs.Judging.{AreJudged};

@@ -3,11 +3,11 @@ use Rattle.std.proofs.Common.{◌≡◌, ◌⊎◌, ℕ, suc, ◌+◌, ◌-◌, 
 use Rattle.std.proofs.lemmas.List.Elements.{All-nil, All-cons}
 use Rattle.goi_world.specs.Outside.{Reading, Rose}
 use Rattle.pcf_values.specs.Most.{most_program_bytes}
-use Rattle.batch_pool.specs.declared.fault.BatchFault.{BatchFault}
-use Rattle.batch_pool.specs.declared.fault.BatchFault.TheVariants as list
-use Rattle.batch_pool.specs.declared.line.BatchLine.{BatchLine}
-use Rattle.batch_pool.specs.Limits.{most_list_bytes}
-use Rattle.batch_pool.specs.Lists.{IsList, HasListFault, ReadAsList, StandFor}
+use Rattle.batch_lists.specs.declared.fault.BatchFault.{BatchFault}
+use Rattle.batch_lists.specs.declared.fault.BatchFault.TheVariants as list
+use Rattle.batch_lists.specs.declared.line.BatchLine.{BatchLine}
+use Rattle.batch_lists.specs.Limits.{most_list_bytes}
+use Rattle.batch_lists.specs.Lists.{IsList, HasListFault, ReadAsList, StandFor}
 use Rattle.goi_tasks.specs.declared.fault.Fault.{Fault}
 use Rattle.goi_tasks.specs.declared.fault.Fault.TheVariants.{Batch}
 use Rattle.goi_tasks.specs.declared.stop.Stop.{Stop}

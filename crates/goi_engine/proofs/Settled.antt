@@ -4,10 +4,10 @@ use Rattle.cbn_meaning.specs.Meaning.{Means}
 use Rattle.pcf_values.specs.Terms.{TermTree}
 use Rattle.net_build.specs.NetOf.{net_of}
 use Rattle.demo_text.specs.Demo.{demo_term}
-use Rattle.batch_pool.specs.declared.fault.BatchFault.{BatchFault}
-use Rattle.batch_pool.specs.declared.fault.BatchFault.TheVariants as list
-use Rattle.batch_pool.specs.declared.line.BatchLine.{BatchLine}
-use Rattle.batch_pool.specs.Lists.{IsList, ReadAsList}
+use Rattle.batch_lists.specs.declared.fault.BatchFault.{BatchFault}
+use Rattle.batch_lists.specs.declared.fault.BatchFault.TheVariants as list
+use Rattle.batch_lists.specs.declared.line.BatchLine.{BatchLine}
+use Rattle.batch_lists.specs.Lists.{IsList, ReadAsList}
 use Rattle.goi_tasks.specs.declared.fault.Fault.{Fault}
 use Rattle.goi_tasks.specs.declared.fault.Fault.TheVariants.{Batch}
 use Rattle.goi_tasks.specs.Outputs.{Output}

@@ -15,10 +15,10 @@ use Rattle.goi_tasks.specs.Programs.{number, IsGround, FaultyText}
 use Rattle.goi_tasks.specs.Refusals.{TellsFault}
 use Rattle.goi_tasks.specs.Replaying.{ReportsReplay, FaultySchedule}
 use Rattle.goi_tasks.specs.Tasks.{ReportsText, FaultyFor}
-use Rattle.batch_pool.specs.declared.fault.BatchFault.{BatchFault}
-use Rattle.batch_pool.specs.declared.fault.BatchFault.TheVariants as list
-use Rattle.batch_pool.specs.declared.line.BatchLine.{BatchLine}
-use Rattle.batch_pool.specs.Limits.{most_jobs, most_job_budget}
+use Rattle.batch_lists.specs.declared.fault.BatchFault.{BatchFault}
+use Rattle.batch_lists.specs.declared.fault.BatchFault.TheVariants as list
+use Rattle.batch_lists.specs.declared.line.BatchLine.{BatchLine}
+use Rattle.batch_lists.specs.Limits.{most_jobs, most_job_budget}
 use Rattle.goi_batches.specs.declared.judged.Judged.{Judged}
 use Rattle.goi_batches.specs.Judging.{IsJudged}
 use Rattle.goi_batches.specs.Sections.{listed}

@@ -2,8 +2,8 @@
 
 ghost use Rattle.std.specs.Prelude.{◌≡◌, ◌≤◌, ◌++◌, ◌∷◌, [], List, length, All, IsTrue, IfOk, IfErr, OnOk};
 ghost use Rattle.pcf_values.specs.Most.{most_program_bytes};
-ghost use Rattle.batch_pool.specs.Limits.{most_job_budget, most_jobs};
-ghost use Rattle.batch_pool.specs.Lists.{IsList};
+ghost use Rattle.batch_lists.specs.Limits.{most_job_budget, most_jobs};
+ghost use Rattle.batch_lists.specs.Lists.{IsList};
 ghost use Rattle.goi_words.specs.Jobs.{IsWorkers};
 ghost use Rattle.goi_batches.specs.declared.judged.Judged.{Judged};
 ghost use Rattle.goi_batches.specs.Judging.{IsJudged, AreJudged};
@@ -15,7 +15,7 @@ ghost use Rattle.goi_engine.specs.ListsSeen.{FaultyList, LacksOne, LoadedEach, L
 
 use crate::answer::{Answer, not_loaded, stopped};
 use crate::load::{LoadError, load};
-use batch_pool::{BatchFault, BatchLine, LIST_BYTES, read_batch};
+use batch_lists::{BatchFault, BatchLine, LIST_BYTES, read_batch};
 use gate_workers::Gate;
 use goi_batches::{Judged, judge_program, report_batch};
 use goi_tasks::{Fault, Stop};

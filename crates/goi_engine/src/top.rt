@@ -11,7 +11,7 @@ ghost use Rattle.goi_engine.specs.Verdicts.{ReadFor};
 
 use crate::answer::answer_to;
 use crate::deliver::deliver;
-use batch_pool::law_one_list;
+use batch_lists::law_one_list;
 use cbv_terms::law_faults;
 use gate_workers::Gate;
 use goi_world::{Files, Sink};

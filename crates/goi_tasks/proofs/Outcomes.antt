@@ -12,7 +12,7 @@ use Rattle.cbv_terms.specs.Faults.{IsFirstFault}
 use Rattle.cbv_terms.specs.Laws.{OneFirstFault}
 use Rattle.net_text.specs.declared.fault.NetTextFault.{NetTextFault}
 use Rattle.net_text.specs.Accepted.{ListsProgram, OneAnswer as OneListing}
-use Rattle.batch_pool.specs.Laws.{OneList}
+use Rattle.batch_lists.specs.Laws.{OneList}
 use Rattle.net_build.specs.Nets.{NetTree}
 use Rattle.net_build.specs.NetOf.{net_of}
 use Rattle.interleave_laws.specs.Maps.{MapState, LeadsToMap}

@@ -15,8 +15,8 @@ use Rattle.net_check.specs.declared.fault.NetFault.{NetFault}
 use Rattle.net_check.specs.declared.fault.NetFault.TheVariants as unsound
 use Rattle.net_text.specs.declared.fault.NetTextFault.{NetTextFault}
 use Rattle.net_text.specs.declared.fault.NetTextFault.TheVariants as net_text
-use Rattle.batch_pool.specs.declared.fault.BatchFault.{BatchFault}
-use Rattle.batch_pool.specs.declared.fault.BatchFault.TheVariants as batch
+use Rattle.batch_lists.specs.declared.fault.BatchFault.{BatchFault}
+use Rattle.batch_lists.specs.declared.fault.BatchFault.TheVariants as batch
 use Rattle.goi_tasks.specs.declared.fault.Fault.{Fault}
 use Rattle.goi_tasks.specs.declared.fault.Fault.TheVariants as fault
 use Rattle.goi_tasks.specs.declared.refusal.Refusal.{Refusal}

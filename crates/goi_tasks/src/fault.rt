@@ -1,6 +1,6 @@
 //! Faults of programs, of net files, of schedules and of lists.
 
-use batch_pool::BatchFault;
+use batch_lists::BatchFault;
 use cbv_terms::ByValueFault;
 use net_text::NetTextFault;
 use pcf_reader::ReadFault;

@@ -5,7 +5,7 @@ ghost use Rattle.goi_tasks.specs.Refusals.{most_line, IsLine, TellsFault, fault_
 ghost use Rattle.goi_tasks.specs.Refusals.{read_fault_line, type_fault_line, by_value_fault_line, net_text_fault_line, unsound_line, schedule_fault_line, replay_fault_line, batch_fault_line};
 
 use crate::fault::Fault;
-use batch_pool::BatchFault;
+use batch_lists::BatchFault;
 use cbv_terms::ByValueFault;
 use net_check::NetFault;
 use net_text::NetTextFault;

@@ -1,5 +1,5 @@
 use Rattle.std.proofs.Common.{List, inr, subst}
-use Rattle.batch_pool.specs.declared.line.BatchLine.{BatchLine}
+use Rattle.batch_lists.specs.declared.line.BatchLine.{BatchLine}
 use Rattle.goi_engine.specs.Answers.{AnswersLines}
 use Rattle.goi_engine.specs.FilesSeen.{files_seen}
 use Rattle.goi_engine.specs.ListsSeen.{LoadedEach}

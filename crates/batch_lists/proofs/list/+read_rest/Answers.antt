@@ -1,7 +1,7 @@
 use Rattle.std.proofs.Common.{length, inr}
-use Rattle.schedule_log.proofs.Turns.{not_end}
-use Rattle.batch_pool.proofs.ListRead.{ends_early, ends_late, line_fault, reads_more}
-use Rattle.batch_pool.proofs.list.+read_rest.Goals as goal
+use Rattle.text_lines.proofs.Ends.{not_end}
+use Rattle.batch_lists.proofs.ListRead.{ends_early, ends_late, line_fault, reads_more}
+use Rattle.batch_lists.proofs.list.+read_rest.Goals as goal
 
 pub returns-then-bytes-eq0 : goal.returns-then-bytes-eq0
 returns-then-bytes-eq0 t c = inr (ends_early (length c.args.jobs.now.items) c.args.n c.args.bytes.now c.requires.few c.if-bytes-eq0.true)

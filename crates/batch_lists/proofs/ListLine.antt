@@ -2,14 +2,14 @@
 use Rattle.std.proofs.Common.{◌≡◌, ℕ, ◌<◌, ◌≤◌, true, List, ◌++◌, refl, sym, ap, ◌∙◌, subst, arith}
 use Rattle.std.specs.Prelude.{codes}
 use Rattle.std.specs.Str.Parse.{digits_value}
-use Rattle.schedule_log.specs.Schedules.{Spells}
-use Rattle.schedule_log.specs.Reading.{digits_in, behind, is_number}
-use Rattle.schedule_log.specs.Scanning.{capped}
-use Rattle.schedule_log.proofs.Numbers.{number_is, is_number_is, digits_first, behind_first, digits_behind}
-use Rattle.batch_pool.specs.declared.line.BatchLine.{BatchLine}
-use Rattle.batch_pool.specs.Limits.{most_job_budget}
-use Rattle.batch_pool.specs.Lists.{IsJobLine}
-use Rattle.batch_pool.specs.Scanning.{IsBudgetIn, IsNameIn}
+use Rattle.text_lines.specs.Numbers.{Spells}
+use Rattle.text_lines.specs.Numbers.{digits_in, behind, is_number}
+use Rattle.text_lines.specs.Numbers.{capped}
+use Rattle.text_lines.proofs.Numbers.{number_is, is_number_is, digits_first, behind_first, digits_behind}
+use Rattle.batch_lists.specs.declared.line.BatchLine.{BatchLine}
+use Rattle.batch_lists.specs.Limits.{most_job_budget}
+use Rattle.batch_lists.specs.Lists.{IsJobLine}
+use Rattle.batch_lists.specs.Scanning.{IsBudgetIn, IsNameIn}
 
 module _ (bytes : List ℕ) (n : ℕ) (rest : List ℕ) (x : IsBudgetIn bytes n rest) where
   digits_are : digits_in bytes ≡ x.digits

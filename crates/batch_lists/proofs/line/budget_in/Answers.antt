@@ -1,12 +1,12 @@
 use Rattle.std.proofs.Common.{◌≡◌, ◌≤◌, true, ◌++◌, ◌∙◌, arith}
 use Rattle.std.specs.Prelude.{codes}
 use Rattle.std.specs.Str.Parse.{digits_value}
-use Rattle.schedule_log.specs.Reading.{digits_in, behind, is_number}
-use Rattle.schedule_log.specs.Scanning.{capped}
-use Rattle.batch_pool.specs.Limits.{most_job_budget}
-use Rattle.batch_pool.proofs.ListLine.{no_budget_low, no_budget_high, budget_is, space_behind}
-use Rattle.batch_pool.proofs.line.budget_in.Goals as goal
-use Rattle.batch_pool.proofs.line.budget_in.Goals.{then-value-eq0-via-then-value-eq0, then-value-eq0-via-else-value-eq0+then-value}
+use Rattle.text_lines.specs.Numbers.{digits_in, behind, is_number}
+use Rattle.text_lines.specs.Numbers.{capped}
+use Rattle.batch_lists.specs.Limits.{most_job_budget}
+use Rattle.batch_lists.proofs.ListLine.{no_budget_low, no_budget_high, budget_is, space_behind}
+use Rattle.batch_lists.proofs.line.budget_in.Goals as goal
+use Rattle.batch_lists.proofs.line.budget_in.Goals.{then-value-eq0-via-then-value-eq0, then-value-eq0-via-else-value-eq0+then-value}
 
 pub returns-then-value-eq0 : goal.returns-then-value-eq0
 returns-then-value-eq0 c =

@@ -1,18 +1,18 @@
 //! The reading of a list of jobs.
 ghost use Rattle.std.specs.Prelude.{◌≡◌, ◌⊎◌, ◌<◌, ◌≤◌, ◌+◌, ◌++◌, ◌∷◌, [], List, Err, length, MatchResult};
-ghost use Rattle.schedule_log.specs.Schedules.{lines, end_line};
-ghost use Rattle.batch_pool.specs.declared.fault.BatchFault.TheVariants.{NoMemory};
-ghost use Rattle.batch_pool.specs.declared.line.BatchLine.{BatchLine};
-ghost use Rattle.batch_pool.specs.Limits.{most_jobs, most_list_bytes};
-ghost use Rattle.batch_pool.specs.Lists.{IsJobLine, FirstFault, WholeList, IsList, ReadAsList};
-ghost use Rattle.batch_pool.specs.Scanning.{LineFault};
+ghost use Rattle.text_lines.specs.Lines.{lines, end_line};
+ghost use Rattle.batch_lists.specs.declared.fault.BatchFault.TheVariants.{NoMemory};
+ghost use Rattle.batch_lists.specs.declared.line.BatchLine.{BatchLine};
+ghost use Rattle.batch_lists.specs.Limits.{most_jobs, most_list_bytes};
+ghost use Rattle.batch_lists.specs.Lists.{IsJobLine, FirstFault, WholeList, IsList, ReadAsList};
+ghost use Rattle.batch_lists.specs.Scanning.{LineFault};
 
 use crate::fault::BatchFault;
 use crate::limits::{JOBS, LIST_BYTES};
-use crate::line::{BatchLine, is_end, is_header, job_in};
-use crate::scan::cut_line;
+use crate::line::{BatchLine, is_header, job_in};
 use pcf_values::Ident;
 use std::alloc::Global;
+use text_lines::{cut_line, is_end};
 
 /// The jobs of a list, in turn, or the list's first fault.
 ///

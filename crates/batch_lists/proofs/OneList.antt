@@ -2,17 +2,17 @@
 use Rattle.std.proofs.Common.{◌≡◌, ◌⊎◌, ℕ, suc, ◌+◌, ◌<◌, ◌≤◌, List, [], ◌∷◌, ◌++◌, length, Result, Ok, Err, refl, sym, ap, ◌∙◌, subst, inl, inr, arith}
 use Rattle.std.specs.Prelude.{codes}
 use Rattle.std.specs.Str.Parse.{digits_value}
-use Rattle.schedule_log.specs.Schedules.{lines, end_line}
-use Rattle.schedule_log.specs.Reading.{digits_in}
-use Rattle.schedule_log.specs.Runs.{joined}
-use Rattle.schedule_log.proofs.Lines.{lines_joined}
-use Rattle.schedule_log.proofs.Numbers.{digits_first}
-use Rattle.batch_pool.specs.declared.fault.BatchFault.{BatchFault}
-use Rattle.batch_pool.specs.declared.fault.BatchFault.TheVariants.{NoMemory, TooLong, BadHeader, BadLine, TooMany, NoEnd}
-use Rattle.batch_pool.specs.declared.line.BatchLine.{BatchLine}
-use Rattle.batch_pool.specs.Limits.{most_jobs, most_list_bytes}
-use Rattle.batch_pool.specs.Lists.{list_header, IsJobLine, StandFor, IsNoLine, FaultHere, FirstFault, WholeList, LacksListHeader, ReadAsList}
-use Rattle.batch_pool.proofs.ListLine.{job_budget, job_name}
+use Rattle.text_lines.specs.Lines.{lines, end_line}
+use Rattle.text_lines.specs.Numbers.{digits_in}
+use Rattle.text_lines.specs.Lines.{joined}
+use Rattle.text_lines.proofs.Lines.{lines_joined}
+use Rattle.text_lines.proofs.Numbers.{digits_first}
+use Rattle.batch_lists.specs.declared.fault.BatchFault.{BatchFault}
+use Rattle.batch_lists.specs.declared.fault.BatchFault.TheVariants.{NoMemory, TooLong, BadHeader, BadLine, TooMany, NoEnd}
+use Rattle.batch_lists.specs.declared.line.BatchLine.{BatchLine}
+use Rattle.batch_lists.specs.Limits.{most_jobs, most_list_bytes}
+use Rattle.batch_lists.specs.Lists.{list_header, IsJobLine, StandFor, IsNoLine, FaultHere, FirstFault, WholeList, LacksListHeader, ReadAsList}
+use Rattle.batch_lists.proofs.ListLine.{job_budget, job_name}
 
 -- the last line is no job's
 pub end_no_job : (l : List ℕ) (job : BatchLine) → l ≡ end_line → IsJobLine l job → ⊥

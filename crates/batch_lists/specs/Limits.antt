@@ -1,6 +1,6 @@
 -- The limits of a batch as numbers, each inclusive, under the names that definitions and contracts use.
 use Rattle.std.specs.Prelude.{◌≡◌, ℕ}
-use Rattle.batch_pool.specs.declared.limits.TheConstants.{JOBS, JOB_BUDGET, LIST_BYTES}
+use Rattle.batch_lists.specs.declared.limits.TheConstants.{JOBS, JOB_BUDGET, LIST_BYTES}
 
 -- the most jobs of a batch
 abbrev pub most_jobs : ℕ

@@ -1,14 +1,13 @@
 //! One line of a list of jobs.
 ghost use Rattle.std.specs.Prelude.{◌≡◌, ◌↔◌, ◌<◌, ◌≤◌, ◌++◌, ℕ, List, length, codes, IsTrue, MatchOption};
 ghost use Rattle.std.specs.Str.{IsUtf8};
-ghost use Rattle.schedule_log.specs.Schedules.{end_line};
-ghost use Rattle.batch_pool.specs.declared.line.BatchLine.{BatchLine};
-ghost use Rattle.batch_pool.specs.Lists.{IsJobLine, list_header};
-ghost use Rattle.batch_pool.specs.Scanning.{IsBudgetIn, IsNameIn};
+ghost use Rattle.batch_lists.specs.declared.line.BatchLine.{BatchLine};
+ghost use Rattle.batch_lists.specs.Lists.{IsJobLine, list_header};
+ghost use Rattle.batch_lists.specs.Scanning.{IsBudgetIn, IsNameIn};
 
 use crate::limits::JOB_BUDGET;
-use crate::scan::number_in;
 use pcf_values::Ident;
+use text_lines::number_in;
 
 /// What a line of a list says of a job: its budget, and the name of its program's file.
 #[derive(Drop)]
@@ -24,13 +23,6 @@ pub(crate) fn is_header(line: &[u8]) -> bool
     ensures { IsTrue result ↔ (line.now ≡ list_header) }
 {
     line == b"batch 1\n".as_slice()
-}
-
-/// Whether the line is the last one.
-pub(crate) fn is_end(line: &[u8]) -> bool
-    ensures { IsTrue result ↔ (line.now ≡ end_line) }
-{
-    line == b"end\n".as_slice()
 }
 
 // What stands behind `job` and a space.

@@ -1,7 +1,7 @@
 use Rattle.std.proofs.Common.{◌++◌}
 use Rattle.std.specs.Prelude.{codes}
-use Rattle.batch_pool.proofs.ListLine.{job_budget, job_name}
-use Rattle.batch_pool.proofs.line.job_in.Goals as goal
+use Rattle.batch_lists.proofs.ListLine.{job_budget, job_name}
+use Rattle.batch_lists.proofs.line.job_in.Goals as goal
 
 pub returns-in_default-budget_in : goal.returns-in_default-budget_in
 returns-in_default-budget_in c = λ job x.

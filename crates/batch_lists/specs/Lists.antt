@@ -4,11 +4,12 @@
 -- which stand, and by the line at which they end: it is the least line that can't stand there.
 use Rattle.std.specs.Prelude.{◌≡◌, ◌⊎◌, ℕ, suc, ◌+◌, ◌<◌, ◌≤◌, List, [], ◌∷◌, ◌++◌, length, codes, Result, Ok, Err}
 use Rattle.std.specs.Str.{IsUtf8}
-use Rattle.schedule_log.specs.Schedules.{lines, Spells, end_line, IsEarly}
-use Rattle.batch_pool.specs.declared.fault.BatchFault.{BatchFault}
-use Rattle.batch_pool.specs.declared.fault.BatchFault.TheVariants.{NoMemory, TooLong, BadHeader, BadLine, TooMany, NoEnd}
-use Rattle.batch_pool.specs.declared.line.BatchLine.{BatchLine}
-use Rattle.batch_pool.specs.Limits.{most_jobs, most_job_budget, most_list_bytes}
+use Rattle.text_lines.specs.Lines.{IsEarly, end_line, lines}
+use Rattle.text_lines.specs.Numbers.{Spells}
+use Rattle.batch_lists.specs.declared.fault.BatchFault.{BatchFault}
+use Rattle.batch_lists.specs.declared.fault.BatchFault.TheVariants.{NoMemory, TooLong, BadHeader, BadLine, TooMany, NoEnd}
+use Rattle.batch_lists.specs.declared.line.BatchLine.{BatchLine}
+use Rattle.batch_lists.specs.Limits.{most_jobs, most_job_budget, most_list_bytes}
 
 -- the first line
 abbrev pub list_header : List ℕ

@@ -1,6 +1,6 @@
 //! Faults of a list of jobs.
 ghost use Rattle.std.specs.Prelude.{◌≡◌};
-ghost use Rattle.batch_pool.specs.declared.fault.BatchFault.TheVariants.{NoMemory};
+ghost use Rattle.batch_lists.specs.declared.fault.BatchFault.TheVariants.{NoMemory};
 
 use std::alloc::{AllocError, AllocFailed};
 

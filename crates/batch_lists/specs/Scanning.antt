@@ -1,12 +1,12 @@
 -- The parts of a job line, for the contracts of the calls inside.
 use Rattle.std.specs.Prelude.{◌≡◌, ℕ, ◌<◌, ◌≤◌, List, ◌++◌, length, codes}
 use Rattle.std.specs.Str.{IsUtf8}
-use Rattle.schedule_log.specs.Schedules.{Spells}
-use Rattle.batch_pool.specs.declared.fault.BatchFault.{BatchFault}
-use Rattle.batch_pool.specs.declared.fault.BatchFault.TheVariants.{NoMemory, TooLong, BadHeader, BadLine, TooMany, NoEnd}
-use Rattle.batch_pool.specs.declared.line.BatchLine.{BatchLine}
-use Rattle.batch_pool.specs.Limits.{most_jobs, most_job_budget}
-use Rattle.batch_pool.specs.Lists.{IsJobLine}
+use Rattle.text_lines.specs.Numbers.{Spells}
+use Rattle.batch_lists.specs.declared.fault.BatchFault.{BatchFault}
+use Rattle.batch_lists.specs.declared.fault.BatchFault.TheVariants.{NoMemory, TooLong, BadHeader, BadLine, TooMany, NoEnd}
+use Rattle.batch_lists.specs.declared.line.BatchLine.{BatchLine}
+use Rattle.batch_lists.specs.Limits.{most_jobs, most_job_budget}
+use Rattle.batch_lists.specs.Lists.{IsJobLine}
 
 -- the bytes begin with this budget and a space, and this stands behind
 pub record IsBudgetIn (bytes : List ℕ) (n : ℕ) (rest : List ℕ) : Type 0 where

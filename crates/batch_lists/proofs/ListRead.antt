@@ -1,15 +1,15 @@
 -- The first fault of lines, and what they stand for, line by line.
 use Rattle.std.proofs.Common.{◌≡◌, ◌⊎◌, ℕ, suc, ◌+◌, ◌<◌, ◌≤◌, List, [], ◌∷◌, ◌++◌, append_assoc, length, length-append, Result, Ok, Err, refl, sym, ap, ◌∙◌, subst, inl, inr, arith}
 use Rattle.std.specs.Prelude.{codes, MatchResult}
-use Rattle.schedule_log.specs.Schedules.{lines, end_line}
-use Rattle.schedule_log.proofs.Lines.{IsLine, line_split}
-use Rattle.schedule_log.proofs.Scans.{first_line}
-use Rattle.batch_pool.specs.declared.fault.BatchFault.{BatchFault}
-use Rattle.batch_pool.specs.declared.fault.BatchFault.TheVariants.{NoMemory, TooLong, BadHeader, BadLine, TooMany, NoEnd}
-use Rattle.batch_pool.specs.declared.line.BatchLine.{BatchLine}
-use Rattle.batch_pool.specs.Limits.{most_jobs, most_list_bytes}
-use Rattle.batch_pool.specs.Lists.{list_header, IsJobLine, FaultHere, FirstFault, WholeList, IsList, LacksListHeader, HasListFault, ReadAsList}
-use Rattle.batch_pool.specs.Scanning.{LineFault}
+use Rattle.text_lines.specs.Lines.{lines, end_line}
+use Rattle.text_lines.proofs.Lines.{IsLine, line_split}
+use Rattle.text_lines.proofs.Scans.{first_line}
+use Rattle.batch_lists.specs.declared.fault.BatchFault.{BatchFault}
+use Rattle.batch_lists.specs.declared.fault.BatchFault.TheVariants.{NoMemory, TooLong, BadHeader, BadLine, TooMany, NoEnd}
+use Rattle.batch_lists.specs.declared.line.BatchLine.{BatchLine}
+use Rattle.batch_lists.specs.Limits.{most_jobs, most_list_bytes}
+use Rattle.batch_lists.specs.Lists.{list_header, IsJobLine, FaultHere, FirstFault, WholeList, IsList, LacksListHeader, HasListFault, ReadAsList}
+use Rattle.batch_lists.specs.Scanning.{LineFault}
 
 moved : (m k n j : ℕ) (ls : List (List ℕ)) (f : BatchFault) → m ≡ k → n ≡ j → FaultHere m n ls f → FaultHere k j ls f
 moved m k n j ls f e g h = subst (λ k. FaultHere k j ls f) e (subst (λ j. FaultHere m j ls f) g h)

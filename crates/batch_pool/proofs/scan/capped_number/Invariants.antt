@@ -1,9 +1,0 @@
-use Rattle.std.proofs.Common.{◌≡◌, ◌≤◌, ◌^◌, drop}
-use Rattle.schedule_log.specs.Scanning.{capped_after}
-use Rattle.batch_pool.proofs.scan.capped_number.Given as goal
-
-abbrev pub invariant-loop-i : goal.invariant-loop-i
-invariant-loop-i l = record {
-  few : l.n ≤ 2 ^ 40;
-  value : capped_after l.n (drop l.i l.digits) ≡ capped_after 0 l.digits;
-}

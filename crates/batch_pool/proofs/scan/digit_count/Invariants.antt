@@ -1,6 +1,0 @@
-use Rattle.std.proofs.Common.{◌≡◌, ◌+◌, length, drop}
-use Rattle.schedule_log.specs.Reading.{digits_in}
-use Rattle.batch_pool.proofs.scan.digit_count.Given as goal
-
-abbrev pub invariant-loop-i : goal.invariant-loop-i
-invariant-loop-i l = l.i + length (digits_in (drop l.i l.bytes)) ≡ length (digits_in l.bytes)
