@@ -1,12 +1,14 @@
 -- How a log is filled with the runs of a text that was counted.
-use Rattle.std.proofs.Common.{◌≡◌, ℕ, zero, suc, ◌+◌, ◌≤◌, List, [], ◌∷◌, ◌++◌, append_assoc, replicate, length, Option, Some, Ok, Err, refl, sym, ap, ◌∙◌, subst, arith}
+use Rattle.std.proofs.Common.{◌≡◌, ℕ, zero, suc, ◌+◌, ◌≤◌, List, [], ◌∷◌, ◌++◌, append_assoc, replicate, length, Option, Some, Ok, Err}
+use Rattle.std.proofs.Common.{refl, sym, ap, ◌∙◌, subst, arith}
 use Rattle.std.specs.Prelude.{Result}
 use Rattle.std.proofs.lemmas.List.{length-append}
 use Rattle.schedule_log.specs.declared.entry.Entry.{Entry}
 use Rattle.schedule_log.specs.declared.fault.ScheduleFault.{ScheduleFault}
 use Rattle.schedule_log.specs.declared.version.Version.{Version}
 use Rattle.schedule_log.specs.Logs.{LogSeen, with_entries, read_entries}
-use Rattle.schedule_log.specs.Schedules.{Run, again, moves, tickets_of, end_line, lines}
+use Rattle.text_lines.specs.Lines.{end_line, lines}
+use Rattle.schedule_log.specs.Schedules.{Run, again, moves, tickets_of}
 use Rattle.schedule_log.specs.Reading.{with_run, ended, runs_from, judged_line, counted, runs_or_none}
 use Rattle.schedule_log.proofs.Turns.{run_goes, run_fails}
 use Rattle.schedule_log.proofs.OneWay.{end_told}

@@ -1,5 +1,6 @@
 -- What the reading answers is the first fault, or what the whole text stands for.
-use Rattle.std.proofs.Common.{◌≡◌, ℕ, zero, suc, ◌+◌, ◌^◌, ◌<◌, ◌≤◌, Bool, true, false, ◌&&◌, List, [], ◌∷◌, length, Option, Some, None, Ok, Err, refl, sym, ap, ◌∙◌, subst, inl, inr, arith}
+use Rattle.std.proofs.Common.{◌≡◌, ℕ, zero, suc, ◌+◌, ◌^◌, ◌<◌, ◌≤◌, Bool, true, false, ◌&&◌, List, [], ◌∷◌, length, Option, Some, None, Ok}
+use Rattle.std.proofs.Common.{Err, refl, sym, ap, ◌∙◌, subst, inl, inr, arith}
 use Rattle.std.specs.Prelude.{Result, codes, nat_lt, nat_le, if◌then◌else◌}
 use Rattle.std.specs.Str.{bytes_eq}
 use Rattle.std.proofs.lemmas.Bool.{ltb-true, ltb-false, leb-true, leb-false, and_parts, and_from, both_ways}
@@ -8,10 +9,14 @@ use Rattle.schedule_log.specs.declared.fault.ScheduleFault.{ScheduleFault}
 use Rattle.schedule_log.specs.declared.fault.ScheduleFault.TheVariants.{NoMemory, BadHeader, BadLine, TicketTooWide, NoEnd, TooLong}
 use Rattle.schedule_log.specs.declared.version.Version.{Version}
 use Rattle.schedule_log.specs.declared.version.Version.TheVariants.{One, Two}
-use Rattle.schedule_log.specs.Schedules.{lines, Run, moves, header, end_line, IsMoveLine, MayFollow, last_ticket, FaultHere, FirstFault, Whole, LacksHeader, HasFault, ReadAs}
-use Rattle.schedule_log.specs.Reading.{run_in, is_move_line, may_follow, ended, with_run, judged, runs_from, only_tickets, behind_header, tickets_in}
-use Rattle.schedule_log.proofs.Lines.{IsLine, line_split}
-use Rattle.schedule_log.proofs.Numbers.{same_is, is_same, line_is, is_line, follows_is, is_follows}
+use Rattle.text_lines.specs.Lines.{end_line, lines}
+use Rattle.schedule_log.specs.Schedules.{Run, moves, header, IsMoveLine, MayFollow, last_ticket, FaultHere, FirstFault, Whole, LacksHeader}
+use Rattle.schedule_log.specs.Schedules.{HasFault, ReadAs}
+use Rattle.schedule_log.specs.Reading.{run_in, is_move_line, may_follow, ended, with_run, judged, runs_from, only_tickets, behind_header}
+use Rattle.schedule_log.specs.Reading.{tickets_in}
+use Rattle.text_lines.proofs.Lines.{IsLine, line_split}
+use Rattle.text_lines.proofs.Numbers.{is_same, same_is}
+use Rattle.schedule_log.proofs.Numbers.{line_is, is_line, follows_is, is_follows}
 
 -- what lines from line n on are read as
 abbrev pub RunsRead : Version → Option ℕ → ℕ → ℕ → List (List ℕ) → Result (List Run) ScheduleFault → Type 0

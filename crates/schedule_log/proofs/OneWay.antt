@@ -1,5 +1,6 @@
 -- What bytes are read as is what the reading answers, so there is one such answer at most.
-use Rattle.std.proofs.Common.{◌≡◌, ℕ, zero, suc, ◌+◌, ◌^◌, ◌<◌, ◌≤◌, true, false, ◌&&◌, List, [], ◌∷◌, ◌++◌, length, Option, Some, None, Ok, Err, refl, sym, ap, ◌∙◌, inl, inr, arith}
+use Rattle.std.proofs.Common.{◌≡◌, ℕ, zero, suc, ◌+◌, ◌^◌, ◌<◌, ◌≤◌, true, false, ◌&&◌, List, [], ◌∷◌, ◌++◌, length, Option, Some, None, Ok}
+use Rattle.std.proofs.Common.{Err, refl, sym, ap, ◌∙◌, inl, inr, arith}
 use Rattle.std.specs.Prelude.{Result, nat_le, if◌then◌else◌}
 use Rattle.std.specs.Str.{bytes_eq}
 use Rattle.std.proofs.lemmas.Bool.{lt-ltb, le-ltb, le-leb, lt-leb, and_parts, and_from, both_ways, cases_Bool}
@@ -8,11 +9,15 @@ use Rattle.schedule_log.specs.declared.fault.ScheduleFault.{ScheduleFault}
 use Rattle.schedule_log.specs.declared.fault.ScheduleFault.TheVariants.{NoMemory, BadHeader, BadLine, TicketTooWide, NoEnd, TooLong}
 use Rattle.schedule_log.specs.declared.version.Version.{Version}
 use Rattle.schedule_log.specs.declared.version.Version.TheVariants.{One, Two}
-use Rattle.schedule_log.specs.Schedules.{lines, Run, moves, header, end_line, IsMoveLine, MayFollow, Stand, TicketsFit, last_ticket, IsNoLine, IsWide, IsMuch, IsEarly, FaultHere, FirstFault, Whole, IsSchedule, LacksHeader, HasFault, ReadAs}
-use Rattle.schedule_log.specs.Runs.{joined}
-use Rattle.schedule_log.specs.Reading.{run_in, is_move_line, may_follow, ended, with_run, judged, runs_from, only_tickets, behind_header, tickets_in}
-use Rattle.schedule_log.proofs.Lines.{lines_joined}
-use Rattle.schedule_log.proofs.Numbers.{same_is, is_same, line_is, is_line, follows_is, is_follows}
+use Rattle.text_lines.specs.Lines.{IsEarly, end_line, lines}
+use Rattle.schedule_log.specs.Schedules.{Run, moves, header, IsMoveLine, MayFollow, Stand, TicketsFit, last_ticket, IsNoLine, IsWide}
+use Rattle.schedule_log.specs.Schedules.{IsMuch, FaultHere, FirstFault, Whole, IsSchedule, LacksHeader, HasFault, ReadAs}
+use Rattle.text_lines.specs.Lines.{joined}
+use Rattle.schedule_log.specs.Reading.{run_in, is_move_line, may_follow, ended, with_run, judged, runs_from, only_tickets, behind_header}
+use Rattle.schedule_log.specs.Reading.{tickets_in}
+use Rattle.text_lines.proofs.Lines.{lines_joined}
+use Rattle.text_lines.proofs.Numbers.{is_same, same_is}
+use Rattle.schedule_log.proofs.Numbers.{line_is, is_line, follows_is, is_follows}
 
 -- Bytes that differ are told to.
 pub not_same : (a b : List ℕ) → (a ≡ b → ⊥) → bytes_eq a b ≡ false

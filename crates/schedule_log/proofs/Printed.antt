@@ -1,5 +1,6 @@
 -- What is printed of tickets is a schedule text of them, and how long it is.
-use Rattle.std.proofs.Common.{◌≡◌, ℕ, zero, suc, ◌+◌, ◌*◌, ◌%◌, ◌^◌, ◌<◌, ◌≤◌, Bool, true, false, not, ◌&&◌, List, [], ◌∷◌, ◌++◌, length, get_or, Option, Some, None, Ok, Err, refl, sym, ap, ◌∙◌, arith}
+use Rattle.std.proofs.Common.{◌≡◌, ℕ, zero, suc, ◌+◌, ◌*◌, ◌%◌, ◌^◌, ◌<◌, ◌≤◌, Bool, true, false, not, ◌&&◌, List, [], ◌∷◌, ◌++◌, length}
+use Rattle.std.proofs.Common.{get_or, Option, Some, None, Ok, Err, refl, sym, ap, ◌∙◌, arith}
 use Rattle.schedule_log.specs.declared.fault.ScheduleFault.{ScheduleFault}
 use Rattle.schedule_log.specs.declared.fault.ScheduleFault.TheVariants.{NoMemory}
 use Rattle.std.specs.Prelude.{Result, codes, decimal, nat_eq, if◌then◌else◌}
@@ -7,16 +8,20 @@ use Rattle.std.specs.Str.{all_ascii_digits}
 use Rattle.std.specs.Str.Parse.{digits_value}
 use Rattle.std.proofs.lemmas.Bool.{eqb-true, eqb-false, ne_eqb}
 use Rattle.std.proofs.lemmas.List.{length-append}
-use Rattle.std.proofs.lemmas.Fmt.{decimal_by_steps, decimal_digit, decimal_nonempty, first_decimal, digits_decimal, digits_value-decimal, length-decimal-le}
+use Rattle.std.proofs.lemmas.Fmt.{decimal_by_steps, decimal_digit, decimal_nonempty, first_decimal, digits_decimal, digits_value-decimal}
+use Rattle.std.proofs.lemmas.Fmt.{length-decimal-le}
 use Rattle.std.proofs.lemmas.Str.Parse.{IsNumeralModel, numerals_by_value, tells_all_ascii_digits}
 use Rattle.pcf_values.specs.Most.{most_moves}
 use Rattle.schedule_log.specs.declared.version.Version.TheVariants.{Two}
-use Rattle.schedule_log.specs.Schedules.{Run, again, moves, tickets_of, Spells, header, end_line, MayFollow, Stand, TicketsFit, IsSchedule}
-use Rattle.schedule_log.specs.Runs.{with_ticket, runs_of, run_line, run_lines, joined, schedule_text}
+use Rattle.text_lines.specs.Numbers.{Spells}
+use Rattle.text_lines.specs.Lines.{end_line}
+use Rattle.schedule_log.specs.Schedules.{Run, again, moves, tickets_of, header, MayFollow, Stand, TicketsFit, IsSchedule}
+use Rattle.text_lines.specs.Lines.{joined}
+use Rattle.schedule_log.specs.Runs.{with_ticket, runs_of, run_line, run_lines, schedule_text}
 use Rattle.schedule_log.specs.Laws.{IsReadBack}
 use Rattle.schedule_log.specs.Logs.{Small}
 use Rattle.schedule_log.proofs.OneWay.{one_answer}
-use Rattle.schedule_log.proofs.Lines.{no_feed, no_feed_append, IsLine, line_front, AreLines, joined_lines}
+use Rattle.text_lines.proofs.Lines.{AreLines, IsLine, joined_lines, line_front, no_feed, no_feed_append}
 use Rattle.schedule_log.proofs.Found.{header_is_line}
 
 own : IsNumeralModel (λ ds. all_ascii_digits ds ≡ true) (digits_value 10)

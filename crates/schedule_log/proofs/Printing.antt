@@ -1,12 +1,14 @@
 -- How the runs of tickets grow, one ticket after the other.
-use Rattle.std.proofs.Common.{◌≡◌, ℕ, zero, suc, ◌+◌, ◌<◌, ◌≤◌, Bool, true, false, List, [], ◌∷◌, ◌++◌, append_assoc, length, get_or, drop, drop-cons, refl, sym, ap, ◌∙◌, arith}
+use Rattle.std.proofs.Common.{◌≡◌, ℕ, zero, suc, ◌+◌, ◌<◌, ◌≤◌, Bool, true, false, List, [], ◌∷◌, ◌++◌, append_assoc, length, get_or, drop}
+use Rattle.std.proofs.Common.{drop-cons, refl, sym, ap, ◌∙◌, arith}
 use Rattle.std.proofs.Math.ListN.{drop_of_length-le}
 use Rattle.std.specs.Prelude.{nat_eq, if◌then◌else◌}
 use Rattle.std.proofs.lemmas.Bool.{eqb-true, ne_eqb, eq-eqb}
 use Rattle.schedule_log.specs.declared.entry.Entry.{Entry}
 use Rattle.schedule_log.specs.Logs.{tickets_in_log}
 use Rattle.schedule_log.specs.Schedules.{Run, again}
-use Rattle.schedule_log.specs.Runs.{with_ticket, runs_of, run_line, run_lines, joined}
+use Rattle.text_lines.specs.Lines.{joined}
+use Rattle.schedule_log.specs.Runs.{with_ticket, runs_of, run_line, run_lines}
 
 again_more : (t n : ℕ) (ts : List ℕ) → again t n (t ∷ ts) ≡ again t (suc n) ts
 again_more t zero ts = refl

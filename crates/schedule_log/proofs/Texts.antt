@@ -1,12 +1,14 @@
 -- What is answered of a text is what it is read as.
-use Rattle.std.proofs.Common.{Bool, false, ◌≡◌, ◌⊎◌, ℕ, zero, suc, ◌+◌, ◌<◌, ◌≤◌, List, [], ◌∷◌, length, None, Ok, Err, refl, sym, ap, ◌∙◌, subst, inl, inr, arith}
+use Rattle.std.proofs.Common.{Bool, false, ◌≡◌, ◌⊎◌, ℕ, zero, suc, ◌+◌, ◌<◌, ◌≤◌, List, [], ◌∷◌, length, None, Ok, Err, refl, sym, ap, ◌∙◌}
+use Rattle.std.proofs.Common.{subst, inl, inr, arith}
 use Rattle.std.specs.Prelude.{◌↔◌, IsTrue, Result}
 use Rattle.std.proofs.lemmas.Bool.{both_ways}
 use Rattle.pcf_values.specs.Most.{most_schedule_bytes}
 use Rattle.schedule_log.specs.declared.fault.ScheduleFault.{ScheduleFault}
 use Rattle.schedule_log.specs.declared.fault.ScheduleFault.TheVariants.{NoMemory}
 use Rattle.schedule_log.specs.declared.version.Version.{Version}
-use Rattle.schedule_log.specs.Schedules.{Run, again, moves, tickets_of, header, lines, ReadAs}
+use Rattle.text_lines.specs.Lines.{lines}
+use Rattle.schedule_log.specs.Schedules.{Run, again, moves, tickets_of, header, ReadAs}
 use Rattle.schedule_log.specs.Logs.{LogSeen, empty_log, read_entries, read_log, tickets_in_log}
 use Rattle.schedule_log.specs.Reading.{counted, only_tickets, runs_from, runs_or_none, behind_header, tickets_in}
 use Rattle.schedule_log.proofs.Found.{first_fault_found}

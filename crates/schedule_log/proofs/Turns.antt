@@ -1,13 +1,14 @@
 -- One turn of the reading: a line is judged, and the lines behind it follow.
-use Rattle.std.proofs.Common.{◌≡◌, ℕ, suc, ◌+◌, ◌^◌, ◌<◌, Bool, true, false, ◌&&◌, List, [], ◌∷◌, length, Option, Some, Ok, Err, refl, sym, ap, ◌∙◌, arith}
-use Rattle.std.specs.Prelude.{◌↔◌, IsTrue, Result, nat_lt, nat_le, if◌then◌else◌}
+use Rattle.std.proofs.Common.{◌≡◌, ℕ, suc, ◌+◌, ◌^◌, ◌<◌, Bool, true, false, ◌&&◌, List, [], ◌∷◌, length, Option, Some, Ok, Err, refl, sym}
+use Rattle.std.proofs.Common.{ap, ◌∙◌, arith}
+use Rattle.std.specs.Prelude.{Result, nat_lt, nat_le, if◌then◌else◌}
 use Rattle.schedule_log.specs.declared.fault.ScheduleFault.{ScheduleFault}
 use Rattle.schedule_log.specs.declared.fault.ScheduleFault.TheVariants.{BadLine, TicketTooWide, NoEnd, TooLong}
 use Rattle.schedule_log.specs.declared.version.Version.{Version}
-use Rattle.schedule_log.specs.Schedules.{Run, end_line, lines, moves}
+use Rattle.text_lines.specs.Lines.{end_line, lines}
+use Rattle.schedule_log.specs.Schedules.{Run, moves}
 use Rattle.schedule_log.specs.Reading.{is_move_line, may_follow, run_in, ended, with_run, judged, judged_line, runs_from, counted}
-use Rattle.schedule_log.proofs.Scans.{first_line}
-use Rattle.std.proofs.lemmas.Bool.{both_ways}
+use Rattle.text_lines.proofs.Scans.{first_line}
 use Rattle.pcf_values.specs.Most.{most_moves}
 use Rattle.schedule_log.proofs.OneWay.{not_same, end_told}
 
@@ -102,7 +103,3 @@ pub count_stops : (v : Version) (p : Option ℕ) (m n : ℕ) (rest : List ℕ) (
     counted m (runs_from v p m n (lines rest)) ≡ t → t ≡ Err NoEnd
 count_stops v p m n [] t u g = sym g
 count_stops v p m n (b ∷ rest) t u g = absurd (omega (arith, u))
-
--- A line that is told not to be the last one isn't.
-pub not_end : (b : Bool) (l : List ℕ) → (IsTrue b ↔ (l ≡ end_line)) → b ≡ false → l ≡ end_line → ⊥
-not_end b l d e g = both_ways b e (d.1 g)

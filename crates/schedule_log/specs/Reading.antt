@@ -1,32 +1,16 @@
 -- How a schedule text is read line by line: each line by the digits with which it begins, and by what stands behind them.
-use Rattle.std.specs.Prelude.{◌≡◌, ◌⊎◌, ℕ, suc, ◌+◌, ◌^◌, Bool, true, false, not, ◌&&◌, List, [], ◌∷◌, length, get_or, drop, Option, Some, None, Result, Ok, Err, codes, nat_eq, nat_lt, nat_le, if◌then◌else◌}
+use Rattle.std.specs.Prelude.{◌≡◌, ◌⊎◌, ℕ, suc, ◌+◌, ◌^◌, Bool, true, false, not, ◌&&◌, List, [], ◌∷◌, length, drop, Option, Some}
+use Rattle.std.specs.Prelude.{None, Result, Ok, Err, codes, nat_eq, nat_lt, nat_le, if◌then◌else◌}
 use Rattle.std.specs.Str.{bytes_eq}
-use Rattle.std.specs.Char.{is_ascii_digit}
 use Rattle.std.specs.Str.Parse.{digits_value}
 use Rattle.pcf_values.specs.Most.{most_moves, most_schedule_bytes}
+use Rattle.text_lines.specs.Numbers.{behind, digits_in, is_number}
 use Rattle.schedule_log.specs.declared.fault.ScheduleFault.{ScheduleFault}
 use Rattle.schedule_log.specs.declared.fault.ScheduleFault.TheVariants.{NoMemory, BadHeader, BadLine, TicketTooWide, NoEnd, TooLong}
 use Rattle.schedule_log.specs.declared.version.Version.{Version}
 use Rattle.schedule_log.specs.declared.version.Version.TheVariants.{One, Two}
-use Rattle.schedule_log.specs.Schedules.{Run, header, end_line, lines, moves, tickets_of}
-
--- the digits with which a text begins
-abbrev pub digits_in : List ℕ → List ℕ
-digits_in [] = []
-digits_in (b ∷ bs) = if is_ascii_digit b then b ∷ digits_in bs else []
-
--- what stands behind them
-abbrev pub behind : List ℕ → List ℕ
-behind [] = []
-behind (b ∷ bs) = if is_ascii_digit b then behind bs else b ∷ bs
-
--- digits don't begin with a 0, but for 0 itself
-abbrev pub is_plain : List ℕ → Bool
-is_plain ds = if nat_eq (get_or ds 0 0) 48 then nat_eq (length ds) 1 else true
-
--- digits are a number, without leading zeros
-abbrev pub is_number : List ℕ → Bool
-is_number ds = nat_lt 0 (length ds) && is_plain ds
+use Rattle.text_lines.specs.Lines.{end_line, lines}
+use Rattle.schedule_log.specs.Schedules.{Run, header, moves, tickets_of}
 
 -- the digits of the count, behind the ticket and one byte
 abbrev pub count_in : List ℕ → List ℕ

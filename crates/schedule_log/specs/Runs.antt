@@ -1,7 +1,9 @@
 -- The text of a schedule in version 2: its tickets as longest runs of one ticket, a line a run.
 use Rattle.std.specs.Prelude.{ℕ, suc, List, [], ◌∷◌, ◌++◌, codes, decimal, nat_eq, if◌then◌else◌}
+use Rattle.text_lines.specs.Lines.{joined}
 use Rattle.schedule_log.specs.declared.version.Version.TheVariants.{Two}
-use Rattle.schedule_log.specs.Schedules.{Run, header, end_line}
+use Rattle.text_lines.specs.Lines.{end_line}
+use Rattle.schedule_log.specs.Schedules.{Run, header}
 
 -- one more move of this ticket in front of runs
 abbrev pub with_ticket : ℕ → List Run → List Run
@@ -23,11 +25,6 @@ run_line r = decimal r.ticket ++ (codes " " ++ (decimal r.count ++ codes "\n"))
 abbrev pub run_lines : List Run → List (List ℕ)
 run_lines [] = end_line ∷ []
 run_lines (r ∷ rs) = run_line r ∷ run_lines rs
-
--- lines joined
-abbrev pub joined : List (List ℕ) → List ℕ
-joined [] = []
-joined (l ∷ ls) = l ++ joined ls
 
 -- the text of these tickets
 abbrev pub schedule_text : List ℕ → List ℕ

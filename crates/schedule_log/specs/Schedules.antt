@@ -3,24 +3,15 @@
 -- for one move; in version 2 it is a ticket, a space and a count of 1 or more, and its ticket isn't that of the move line before it.
 -- A fault is told by the lines before it, which stand, and by the line at which they end: it is the least line that can't stand there.
 -- Numbers are digits without leading zeros, of any length, so a ticket or a count that is too great is still a number.
-use Rattle.std.specs.Prelude.{◌≡◌, ◌⊎◌, ℕ, zero, suc, ◌+◌, ◌^◌, ◌<◌, ◌≤◌, true, List, [], ◌∷◌, ◌++◌, length, get_or, Option, Some, None, codes, nat_eq, if◌then◌else◌, Result, Ok, Err}
-use Rattle.std.specs.Str.{all_ascii_digits}
-use Rattle.std.specs.Str.Parse.{digits_value}
+use Rattle.std.specs.Prelude.{◌≡◌, ◌⊎◌, ℕ, zero, suc, ◌+◌, ◌^◌, ◌<◌, ◌≤◌, List, [], ◌∷◌, ◌++◌, length, Option, Some, None}
+use Rattle.std.specs.Prelude.{codes, Result, Ok, Err}
 use Rattle.pcf_values.specs.Most.{most_moves, most_schedule_bytes}
+use Rattle.text_lines.specs.Lines.{IsEarly, end_line, lines}
+use Rattle.text_lines.specs.Numbers.{Spells}
 use Rattle.schedule_log.specs.declared.fault.ScheduleFault.{ScheduleFault}
 use Rattle.schedule_log.specs.declared.fault.ScheduleFault.TheVariants.{NoMemory, BadHeader, BadLine, TicketTooWide, NoEnd, TooLong}
 use Rattle.schedule_log.specs.declared.version.Version.{Version}
 use Rattle.schedule_log.specs.declared.version.Version.TheVariants.{One, Two}
-
--- the first line with one more byte in front
-abbrev pub in_front : ℕ → List (List ℕ) → List (List ℕ)
-in_front b [] = (b ∷ []) ∷ []
-in_front b (l ∷ ls) = (b ∷ l) ∷ ls
-
--- the lines of a text, each with its line feed; bytes behind the last line feed are a last line, which has none
-abbrev pub lines : List ℕ → List (List ℕ)
-lines [] = []
-lines (b ∷ bs) = if nat_eq b 10 then (b ∷ []) ∷ lines bs else in_front b (lines bs)
 
 -- so many moves of one ticket
 pub record Run : Type 0 where
@@ -42,21 +33,10 @@ abbrev pub moves : List Run → ℕ
 moves [] = 0
 moves (r ∷ rs) = r.count + moves rs
 
--- These bytes are this number in decimal, without leading zeros; 0 is `0`.
-pub record Spells (ds : List ℕ) (n : ℕ) : Type 0 where
-  pub some : 0 < length ds
-  pub digits : all_ascii_digits ds ≡ true
-  pub plain : get_or ds 0 0 ≡ 48 → length ds ≡ 1
-  pub value : digits_value 10 ds ≡ n
-
 -- the first line, by the version
 abbrev pub header : Version → List ℕ
 header One = codes "schedule 1\n"
 header Two = codes "schedule 2\n"
-
--- the last line
-abbrev pub end_line : List ℕ
-end_line = codes "end\n"
 
 -- a move line of version 1: a ticket, which moves once
 pub record IsTicketLine (l : List ℕ) (r : Run) : Type 0 where
@@ -121,11 +101,6 @@ pub record IsMuch (v : Version) (p : Option ℕ) (m : ℕ) (l : List ℕ) : Type
   pub follows : MayFollow v p run.ticket
   pub fits : run.ticket < 2 ^ 32
   pub much : most_moves < m + run.count
-
--- the line is `end`, and bytes follow it
-pub record IsEarly (l : List ℕ) (ls : List (List ℕ)) : Type 0 where
-  pub end : l ≡ end_line
-  pub behind : 0 < length ls
 
 -- The fault of line n, the first of these lines, behind m moves and a move line with the ticket p.
 abbrev pub FaultHere : Version → Option ℕ → ℕ → ℕ → List (List ℕ) → ScheduleFault → Type 0

@@ -2,11 +2,12 @@
 ghost use Rattle.std.specs.Prelude.{◌≡◌, ◌≤◌, length, None};
 ghost use Rattle.pcf_values.specs.Most.{most_schedule_bytes};
 ghost use Rattle.schedule_log.specs.Reading.{counted, runs_from};
-ghost use Rattle.schedule_log.specs.Schedules.{lines};
+ghost use Rattle.text_lines.specs.Lines.{lines};
 
 use crate::fault::ScheduleFault;
-use crate::line::{cut_line, is_end, judge};
+use crate::line::judge;
 use crate::version::Version;
+use text_lines::{cut_line, is_end};
 
 /// How many moves the lines behind the header stand for, or their first fault.
 pub fn count_moves(version: Version, bytes: &[u8]) -> Result<u32, ScheduleFault>

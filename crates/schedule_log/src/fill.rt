@@ -3,11 +3,13 @@ ghost use Rattle.std.specs.Prelude.{◌≡◌, ◌+◌, ◌≤◌, length, [], N
 ghost use Rattle.pcf_values.specs.Most.{most_schedule_bytes};
 ghost use Rattle.schedule_log.specs.Logs.{read_entries, with_entries};
 ghost use Rattle.schedule_log.specs.Reading.{counted, runs_from, runs_or_none};
-ghost use Rattle.schedule_log.specs.Schedules.{again, lines, tickets_of};
+ghost use Rattle.text_lines.specs.Lines.{lines};
+ghost use Rattle.schedule_log.specs.Schedules.{again, tickets_of};
 
-use crate::line::{cut_line, is_end, judge};
+use crate::line::judge;
 use crate::log::Log;
 use crate::version::Version;
+use text_lines::{cut_line, is_end};
 
 /// Adds the moves of the lines behind the header, which were counted, each for worker 0.
 pub fn push_moves(log: &mut Log, version: Version, bytes: &[u8])

@@ -2,34 +2,20 @@
 ghost use Rattle.std.specs.Prelude.{◌≡◌, ◌↔◌, ◌+◌, ◌<◌, ◌≤◌, ◌∷◌, length, IsTrue, Ok, Err, IfOk, IfErr};
 ghost use Rattle.pcf_values.specs.Most.{most_moves};
 ghost use Rattle.schedule_log.specs.Reading.{judged_line, may_follow};
-ghost use Rattle.schedule_log.specs.Schedules.{end_line, lines};
+ghost use Rattle.text_lines.specs.Lines.{end_line, lines};
 
 use crate::fault::ScheduleFault;
-use crate::scan::{found_in, line_length};
+use crate::scan::found_in;
 use crate::version::Version;
 use pcf_values::limits::SCHEDULE_MOVES;
 
 /// What a move line stands for, within the limits.
 #[derive(Clone, Copy)]
 pub struct LineRun {
+    /// The ticket.
     pub ticket: u32,
+    /// How often it moves.
     pub count: u32,
-}
-
-/// The first line of a text, with its line feed if it has one, and what stands behind it.
-pub fn cut_line(bytes: &[u8]) -> (&[u8], &[u8])
-    requires { 0 < length bytes.now }
-    ensures first { lines bytes.now ≡ result.0.now ∷ lines result.1.now }
-    ensures shorter { length result.1.now < length bytes.now }
-{
-    bytes.split_at(line_length(bytes))
-}
-
-/// Whether the line is the last one.
-pub fn is_end(line: &[u8]) -> bool
-    ensures { IsTrue result ↔ (line.now ≡ end_line) }
-{
-    line == b"end\n".as_slice()
 }
 
 /// What line `n` stands for, behind `moves` moves and a move line with the ticket `last`, or its fault.

@@ -1,7 +1,8 @@
 //! How a log is printed.
 ghost use Rattle.std.specs.Prelude.{◌≡◌, ◌↔◌, ◌+◌, ◌<◌, ◌^◌, [], ◌∷◌, ◌++◌, length, IsTrue, OnOk, IfOk};
 ghost use Rattle.schedule_log.specs.Logs.{tickets_in_log};
-ghost use Rattle.schedule_log.specs.Runs.{run_line, run_lines, runs_of, joined, schedule_text};
+ghost use Rattle.text_lines.specs.Lines.{joined};
+ghost use Rattle.schedule_log.specs.Runs.{run_line, run_lines, runs_of, schedule_text};
 
 use crate::entry::Entry;
 use crate::log::Log;

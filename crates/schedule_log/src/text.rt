@@ -4,16 +4,17 @@ ghost use Rattle.pcf_values.specs.Most.{most_schedule_bytes};
 ghost use Rattle.schedule_log.specs.declared.fault.ScheduleFault.TheVariants.{NoMemory};
 ghost use Rattle.schedule_log.specs.Logs.{read_log, tickets_in_log, tickets_read};
 ghost use Rattle.schedule_log.specs.Reading.{MaybeRead, only_tickets, runs_from};
-ghost use Rattle.schedule_log.specs.Schedules.{ReadAs, header, lines};
+ghost use Rattle.text_lines.specs.Lines.{lines};
+ghost use Rattle.schedule_log.specs.Schedules.{ReadAs, header};
 
 use crate::count::count_moves;
 use crate::fault::ScheduleFault;
 use crate::fill::push_moves;
-use crate::line::cut_line;
 use crate::log::Log;
 use crate::version::Version;
 use pcf_values::limits::SCHEDULE_BYTES;
 use std::alloc::Global;
+use text_lines::cut_line;
 
 /// The log that a schedule text of either version stands for, with room for its moves exactly, or the text's first fault.
 ///

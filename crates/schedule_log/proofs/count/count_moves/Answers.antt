@@ -1,5 +1,6 @@
 use Rattle.std.proofs.Common.{refl, arith}
-use Rattle.schedule_log.proofs.Turns.{not_end, count_goes, count_fails, count_late}
+use Rattle.text_lines.proofs.Ends.{not_end}
+use Rattle.schedule_log.proofs.Turns.{count_goes, count_fails, count_late}
 use Rattle.schedule_log.proofs.count.count_moves.Goals as goal
 
 pub returns-then-more-gt0 : goal.returns-then-more-gt0

@@ -1,6 +1,6 @@
 use Rattle.std.proofs.Common.{◌≡◌, ◌+◌, ◌≤◌, length, None}
 use Rattle.pcf_values.specs.Most.{most_moves, most_schedule_bytes}
-use Rattle.schedule_log.specs.Schedules.{lines}
+use Rattle.text_lines.specs.Lines.{lines}
 use Rattle.schedule_log.specs.Reading.{counted, runs_from}
 use Rattle.schedule_log.proofs.count.count_moves.Given as goal
 

@@ -1,5 +1,5 @@
 use Rattle.std.proofs.Common.{refl, arith}
-use Rattle.schedule_log.proofs.Turns.{not_end}
+use Rattle.text_lines.proofs.Ends.{not_end}
 use Rattle.schedule_log.proofs.Filling.{filled, fault_leaves, run_left, fills_turn}
 use Rattle.schedule_log.proofs.fill.push_moves.Goals as goal
 

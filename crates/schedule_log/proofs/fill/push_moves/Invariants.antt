@@ -1,6 +1,7 @@
 use Rattle.std.proofs.Common.{◌+◌, ◌≤◌, length, None}
 use Rattle.pcf_values.specs.Most.{most_moves, most_schedule_bytes}
-use Rattle.schedule_log.specs.Schedules.{lines, tickets_of}
+use Rattle.text_lines.specs.Lines.{lines}
+use Rattle.schedule_log.specs.Schedules.{tickets_of}
 use Rattle.schedule_log.specs.Logs.{read_entries}
 use Rattle.schedule_log.specs.Reading.{runs_from, runs_or_none}
 use Rattle.schedule_log.proofs.Filling.{Fills}
