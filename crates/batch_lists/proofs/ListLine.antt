@@ -32,14 +32,17 @@ module _ (bytes : List ℕ) (n : ℕ) (rest : List ℕ) (x : IsBudgetIn bytes n 
       omega (arith, k, few)
 
 -- a number that is 0 or too great is no budget
-pub no_budget_low : (bytes : List ℕ) (value : ℕ) → value ≡ capped (digits_value 10 (digits_in bytes)) → value ≡ 0 → (n : ℕ) (rest : List ℕ) → IsBudgetIn bytes n rest → ⊥
+pub no_budget_low : (bytes : List ℕ) (value : ℕ) → value ≡ capped (digits_value 10 (digits_in bytes)) → value ≡ 0 →
+    (n : ℕ) (rest : List ℕ) → IsBudgetIn bytes n rest → ⊥
 no_budget_low bytes value v e n rest x = let k = value_there bytes n rest x value v in let s = x.some in omega (arith, k, s, e)
 
-pub no_budget_high : (bytes : List ℕ) (value : ℕ) → value ≡ capped (digits_value 10 (digits_in bytes)) → most_job_budget < value → (n : ℕ) (rest : List ℕ) → IsBudgetIn bytes n rest → ⊥
+pub no_budget_high : (bytes : List ℕ) (value : ℕ) → value ≡ capped (digits_value 10 (digits_in bytes)) → most_job_budget < value →
+    (n : ℕ) (rest : List ℕ) → IsBudgetIn bytes n rest → ⊥
 no_budget_high bytes value v l n rest x = let k = value_there bytes n rest x value v in let s = x.few in omega (arith, k, s, l)
 
 -- any other with a space behind it is one
-pub budget_is : (bytes more rest : List ℕ) (value : ℕ) → is_number (digits_in bytes) ≡ true → value ≡ capped (digits_value 10 (digits_in bytes)) → 1 ≤ value → value ≤ most_job_budget →
+pub budget_is : (bytes more rest : List ℕ) (value : ℕ) → is_number (digits_in bytes) ≡ true →
+    value ≡ capped (digits_value 10 (digits_in bytes)) → 1 ≤ value → value ≤ most_job_budget →
     more ≡ behind bytes → more ≡ codes " " ++ rest → IsBudgetIn bytes value rest
 budget_is bytes more rest value told v some few m s =
     let e : digits_value 10 (digits_in bytes) ≡ value = omega (arith, v, few) in
@@ -73,5 +76,7 @@ module _ (line rest : List ℕ) (begins : line ≡ codes "job " ++ rest) (job : 
   job_name n more y = record {
     named = x.named;
     text = x.text;
-    bytes_are = same_space more (job.file ++ codes "\n") (sym (space_behind rest n more y) ∙ space_behind rest job.budget (job.file ++ codes "\n") job_budget);
+    bytes_are =
+        same_space more (job.file ++ codes "\n") (sym (space_behind rest n more y)
+        ∙ space_behind rest job.budget (job.file ++ codes "\n") job_budget);
   }

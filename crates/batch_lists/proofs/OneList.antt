@@ -1,5 +1,6 @@
 -- Bytes are read in one way at most.
-use Rattle.std.proofs.Common.{◌≡◌, ◌⊎◌, ℕ, suc, ◌+◌, ◌<◌, ◌≤◌, List, [], ◌∷◌, ◌++◌, length, Result, Ok, Err, refl, sym, ap, ◌∙◌, subst, inl, inr, arith}
+use Rattle.std.proofs.Common.{◌≡◌, ◌⊎◌, ℕ, suc, ◌+◌, ◌<◌, ◌≤◌, List, [], ◌∷◌, ◌++◌, length, Result, Ok, Err, refl, sym, ap, ◌∙◌, subst, inl}
+use Rattle.std.proofs.Common.{inr, arith}
 use Rattle.std.specs.Prelude.{codes}
 use Rattle.std.specs.Str.Parse.{digits_value}
 use Rattle.text_lines.specs.Lines.{lines, end_line}
@@ -11,7 +12,8 @@ use Rattle.batch_lists.specs.declared.fault.BatchFault.{BatchFault}
 use Rattle.batch_lists.specs.declared.fault.BatchFault.TheVariants.{NoMemory, TooLong, BadHeader, BadLine, TooMany, NoEnd}
 use Rattle.batch_lists.specs.declared.line.BatchLine.{BatchLine}
 use Rattle.batch_lists.specs.Limits.{most_jobs, most_list_bytes}
-use Rattle.batch_lists.specs.Lists.{list_header, IsJobLine, StandFor, IsNoLine, FaultHere, FirstFault, WholeList, LacksListHeader, ReadAsList}
+use Rattle.batch_lists.specs.Lists.{list_header, IsJobLine, StandFor, IsNoLine, FaultHere, FirstFault, WholeList, LacksListHeader}
+use Rattle.batch_lists.specs.Lists.{ReadAsList}
 use Rattle.batch_lists.proofs.ListLine.{job_budget, job_name}
 
 -- the last line is no job's
@@ -41,8 +43,10 @@ one_job l j k x y =
     let rest = x.digits ++ (codes " " ++ (j.file ++ codes "\n")) in
     let bx = job_budget l rest x.line j x in
     let by = job_budget l rest x.line k y in
-    let dx : digits_in rest ≡ bx.digits = ap digits_in bx.bytes_are ∙ digits_first bx.digits 32 (j.file ++ codes "\n") bx.spells.digits refl in
-    let dy : digits_in rest ≡ by.digits = ap digits_in by.bytes_are ∙ digits_first by.digits 32 (k.file ++ codes "\n") by.spells.digits refl in
+    let dx : digits_in rest ≡ bx.digits = ap digits_in bx.bytes_are
+        ∙ digits_first bx.digits 32 (j.file ++ codes "\n") bx.spells.digits refl in
+    let dy : digits_in rest ≡ by.digits = ap digits_in by.bytes_are
+        ∙ digits_first by.digits 32 (k.file ++ codes "\n") by.spells.digits refl in
     let n : j.budget ≡ k.budget = sym bx.spells.value ∙ ap (digits_value 10) (sym dx ∙ dy) ∙ by.spells.value in
     let name = job_name l rest x.line k y j.budget (j.file ++ codes "\n") bx in
     same_job j k n (without_feed j.file k.file name.bytes_are)
@@ -72,7 +76,9 @@ head_is a b ks ls h = cc
 tail_is : (a b : List ℕ) (ks ls : List (List ℕ)) → a ∷ ks ≡ b ∷ ls → ks ≡ ls
 tail_is a b ks ls h = cc
 
-whole_opened : (m n : ℕ) (l : List ℕ) (ls : List (List ℕ)) (jobs : List BatchLine) (before : List (List ℕ)) → l ∷ ls ≡ before ++ end_line ∷ [] → StandFor before jobs →
+-- The first line of a whole list is `end`, or that of its first job.
+whole_opened : (m n : ℕ) (l : List ℕ) (ls : List (List ℕ)) (jobs : List BatchLine) (before : List (List ℕ)) →
+    l ∷ ls ≡ before ++ end_line ∷ [] → StandFor before jobs →
     m + length jobs ≤ most_jobs → Opened m n l ls (Ok jobs)
 whole_opened m n l ls [] [] e s u = inl (head_is l end_line ls [] e, sym (ap (ended_at n) (tail_is l end_line ls [] e)))
 whole_opened m n l ls (job ∷ jobs) [] e s u = absurd s
@@ -94,17 +100,22 @@ whole_opened m n l ls (job ∷ jobs) (k ∷ before) e s u =
       ),
     ))
 
-here_opened : (m n m' n' : ℕ) (l : List ℕ) (ls : List (List ℕ)) (f : BatchFault) → m' ≡ m → n' ≡ n → FaultHere m' n' (l ∷ ls) f → Opened m n l ls (Err f)
+-- A first line that has the fault is `end` with lines behind it, no line of a list, or a job too many.
+here_opened : (m n m' n' : ℕ) (l : List ℕ) (ls : List (List ℕ)) (f : BatchFault) → m' ≡ m → n' ≡ n → FaultHere m' n' (l ∷ ls) f →
+    Opened m n l ls (Err f)
 here_opened m n m' n' l ls (BadLine k) p q (inl h) = inr (inl (h.1, ap (λ k. Err (BadLine k)) (h.0 ∙ q)))
 here_opened m n m' n' l [] (BadLine k) p q (inr h) = absurd (let b = h.1.behind in omega (arith, b))
 here_opened m n m' n' l (x ∷ ls) (BadLine k) p q (inr h) = inl (h.1.end, ap (λ k. Err (BadLine k)) (h.0 ∙ ap suc q))
-here_opened m n m' n' l ls (TooMany k) p q h = inr (inr (h.2, h.3, inl (let b = h.1 in omega (arith, b, p), ap (λ k. Err (TooMany k)) (h.0 ∙ q))))
+here_opened m n m' n' l ls (TooMany k) p q h =
+    inr (inr (h.2, h.3, inl (let b = h.1 in omega (arith, b, p), ap (λ k. Err (TooMany k)) (h.0 ∙ q))))
 here_opened m n m' n' l ls NoMemory p q h = absurd h
 here_opened m n m' n' l ls TooLong p q h = absurd h
 here_opened m n m' n' l ls BadHeader p q h = absurd h
 here_opened m n m' n' l ls NoEnd p q h = absurd h
 
-fault_opened : (m n : ℕ) (l : List ℕ) (ls : List (List ℕ)) (f : BatchFault) (before rest : List (List ℕ)) (jobs : List BatchLine) → l ∷ ls ≡ before ++ rest → StandFor before jobs →
+-- The first line of lines with a first fault has it, or is that of a job before it.
+fault_opened : (m n : ℕ) (l : List ℕ) (ls : List (List ℕ)) (f : BatchFault) (before rest : List (List ℕ)) (jobs : List BatchLine) →
+    l ∷ ls ≡ before ++ rest → StandFor before jobs →
     m + length jobs ≤ most_jobs → FaultHere (m + length jobs) (n + length before) rest f → Opened m n l ls (Err f)
 fault_opened m n l ls f [] rest [] e s u h =
     here_opened m n (m + 0) (n + 0) l ls f (omega arith) (omega arith) (subst (λ ls. FaultHere (m + 0) (n + 0) ls f) (sym e) h)
@@ -147,7 +158,8 @@ none_left : (m n : ℕ) (r : Result (List BatchLine) BatchFault) → RestOf m n 
 none_left m n (Ok jobs) x = absurd (no_whole m jobs x)
 none_left m n (Err f) x = go x.before x.rest x.are (m + length x.jobs) (n + length x.before) x.fault
   where
-    go : (before rest : List (List ℕ)) → (let none : List (List ℕ) = [] in none ≡ before ++ rest) → (a b : ℕ) → FaultHere a b rest f → (let g : Result (List BatchLine) BatchFault = Err f in g ≡ Err NoEnd)
+    go : (before rest : List (List ℕ)) → (let none : List (List ℕ) = [] in none ≡ before ++ rest) → (a b : ℕ) → FaultHere a b rest f →
+        (let g : Result (List BatchLine) BatchFault = Err f in g ≡ Err NoEnd)
     go [] [] e a b h = λ i. Err (h i)
     go [] (k ∷ rest) e a b h = absurd cc
     go (k ∷ before) rest e a b h = absurd cc
@@ -157,7 +169,8 @@ pub one_rest : (m n : ℕ) (ls : List (List ℕ)) (r s : Result (List BatchLine)
 one_rest m n [] r s x y = none_left m n r x ∙ sym (none_left m n s y)
 one_rest m n (l ∷ ls) r s x y = both (opened m n l ls r x) (opened m n l ls s y) (λ r' s' x' y'. one_rest (m + 1) (n + 1) ls r' s' x' y')
   where
-    both : Opened m n l ls r → Opened m n l ls s → ((r' s' : Result (List BatchLine) BatchFault) → RestOf (m + 1) (n + 1) ls r' → RestOf (m + 1) (n + 1) ls s' → r' ≡ s') → r ≡ s
+    both : Opened m n l ls r → Opened m n l ls s →
+        ((r' s' : Result (List BatchLine) BatchFault) → RestOf (m + 1) (n + 1) ls r' → RestOf (m + 1) (n + 1) ls s' → r' ≡ s') → r ≡ s
     both (inl a) (inl b) ih = a.1 ∙ sym b.1
     both (inl a) (inr (inl b)) ih = absurd (b.0.other a.0)
     both (inl a) (inr (inr b)) ih = absurd (end_no_job l b.0 a.0 b.1)
@@ -193,7 +206,8 @@ more_is : (a b : List (List ℕ)) → list_header ∷ a ≡ list_header ∷ b �
 more_is a b h = cc
 
 -- bytes are read in one way
-pub one_list : (bytes : List ℕ) (r s : Result (List BatchLine) BatchFault) → (r ≡ Err NoMemory → ⊥) → (s ≡ Err NoMemory → ⊥) → ReadAsList bytes r → ReadAsList bytes s → r ≡ s
+pub one_list : (bytes : List ℕ) (r s : Result (List BatchLine) BatchFault) → (r ≡ Err NoMemory → ⊥) → (s ≡ Err NoMemory → ⊥) →
+    ReadAsList bytes r → ReadAsList bytes s → r ≡ s
 one_list bytes r s d e x y = both (text_of bytes r d x) (text_of bytes s e y)
   where
     both : Text bytes r → Text bytes s → r ≡ s

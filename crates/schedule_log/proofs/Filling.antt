@@ -47,6 +47,7 @@ run_room : (m room : ℕ) (r : Run) (s : Result (List Run) ScheduleFault) → co
 run_room m room r (Ok rs) h = let e = ok_eq (m + (r.count + moves rs)) room h in omega (arith, e)
 run_room m room r (Err f) h = cc
 
+-- With the entries of the first run added, the lines behind it are left.
 more_fills : (l : LogSeen) (m room : ℕ) (target : List Entry) (r : Run) (t : Result (List Run) ScheduleFault) →
     Fills l m (with_run r t) room target → Fills (with_entries l (times r.ticket r.count)) (m + r.count) t room target
 more_fills l m room target r (Err f) x = absurd (err_not f room x.count)

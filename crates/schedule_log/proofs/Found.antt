@@ -66,12 +66,14 @@ later_whole v p m l ls r rs a b c x = record {
   few = omega (arith, x.few);
 }
 
+-- A move line within the limits stands before what the lines behind it are read as.
 with_read : (v : Version) (p : Option ℕ) (m n : ℕ) (l : List ℕ) (ls : List (List ℕ)) (r : Run) (s : Result (List Run) ScheduleFault) →
     IsMoveLine v l r → MayFollow v p r.ticket → r.ticket < 2 ^ 32 → RunsRead v (Some r.ticket) (m + r.count) (suc n) ls s →
     RunsRead v p m n (l ∷ ls) (with_run r s)
 with_read v p m n l ls r (Ok rs) a b c x = later_whole v p m l ls r rs a b c x
 with_read v p m n l ls r (Err f) a b c x = later v p m n l ls r f a b c x
 
+-- A move line is read as its run, or as the limit that it passes, by the two tests of the limits.
 fits_read : (v : Version) (p : Option ℕ) (m n : ℕ) (l : List ℕ) (ls : List (List ℕ)) (r : Run) (s : Result (List Run) ScheduleFault)
     (t c : Bool) → nat_lt r.ticket (2 ^ 32) ≡ t → nat_le (m + r.count) most_moves ≡ c →
     IsMoveLine v l r → MayFollow v p r.ticket → m ≤ most_moves →
@@ -184,6 +186,7 @@ first_is a l ks ls h = cc
 no_first : (l : List ℕ) (ls : List (List ℕ)) → (let none : List (List ℕ) = [] in none ≡ l ∷ ls) → ⊥
 no_first l ls h = cc
 
+-- A text whose first line is no header begins with none.
 lacks : (bytes l : List ℕ) (ls : List (List ℕ)) → length bytes ≤ most_schedule_bytes → lines bytes ≡ l ∷ ls → (l ≡ header Two → ⊥) →
     (l ≡ header One → ⊥) → LacksHeader bytes
 lacks bytes l ls u e a b = record {

@@ -133,6 +133,7 @@ lines_end : (rs : List Run) → run_lines rs ≡ only_lines rs ++ end_line ∷ [
 lines_end [] = refl
 lines_end (r ∷ rs) = ap (λ ls. run_line r ∷ ls) (lines_end rs)
 
+-- The lines of runs stand for them, where no two neighbours have one ticket.
 stand : (p : Option ℕ) (rs : List Run) → Alternate p rs → TicketsFit rs → moves rs ≤ most_moves → Stand Two p (only_lines rs) rs
 stand p [] a f u = tt
 stand p (r ∷ rs) a f u = (
