@@ -30,7 +30,12 @@ made_high n (k ∷ ks) w h = omega (arith, hit_off n w (λ e. omega (arith, e, h
 -- and each is one
 pub made_once : (n : ℕ) (ws : List WireTree) (w : ℕ) → made n ws w ≤ 1
 made_once n [] w = omega arith
-made_once n (k ∷ ks) w = elim (cases_eq n w) [ inl e ↦ omega (arith, hit_most n w, made_low (suc n) ks w (omega (arith, e))) | inr e ↦ omega (arith, hit_off n w e, made_once (suc n) ks w) ]
+made_once n (k ∷ ks) w =
+    elim (cases_eq n w) [
+      | inl e ↦ omega (arith, hit_most n w, made_low (suc n) ks w (omega (arith, e)))
+      | inr e ↦ omega
+          (arith, hit_off n w e, made_once (suc n) ks w)
+    ]
 
 -- each wire of the list stands in it once, and they are all from n on and below b
 pub record Loose (n b : ℕ) (f : List (Option ℕ)) : Type 0 where
@@ -39,7 +44,8 @@ pub record Loose (n b : ℕ) (f : List (Option ℕ)) : Type 0 where
   pub high : (y : ℕ) → b ≤ y → ends f y ≡ 0
 
 -- the variables of a part
-pub part_loose : (m : TermTree) (n d : ℕ) (g : List TyTree) (a : TyTree) → HasType g m a → Loose n (n + length (part n d g m).wires) (part n d g m).free
+pub part_loose : (m : TermTree) (n d : ℕ) (g : List TyTree) (a : TyTree) → HasType g m a
+    → Loose n (n + length (part n d g m).wires) (part n d g m).free
 part_loose m n d g a h =
     let p = part n d g m in
     let c = counted m n d g a h in
@@ -57,19 +63,28 @@ doors_loose n d (t ∷ g) (None ∷ f) = let i = doors_loose n d g f in record {
 doors_loose n d (t ∷ g) (Some x ∷ f) =
     let i = doors_loose (suc n) d g f in
     record {
-      once = λ y. elim (cases_eq n y) [ inl e ↦ omega (arith, hit_most n y, i.low y (omega (arith, e))) | inr e ↦ omega (arith, hit_off n y e, i.once y) ];
+      once = λ y. elim (cases_eq n y) [
+        | inl e ↦ omega (arith, hit_most n y, i.low y (omega (arith, e)))
+        | inr e ↦ omega
+            (arith, hit_off n y e, i.once y)
+      ];
       low = λ y l. omega (arith, hit_off n y (λ e. omega (arith, e, l)), i.low y (omega (arith, l)));
       high = λ y l. omega (arith, hit_off n y (λ e. omega (arith, e, l)), i.high y (omega (arith, l)));
     }
 
 -- contracted lists, the second behind the first
-pub contract_loose : (n d a b : ℕ) (g : List TyTree) (f f' : List (Option ℕ)) → Aligned g f → Aligned g f' → Loose a b f → Loose b n f' → a ≤ b → b ≤ n → Loose a (n + length (contract n d g f f').wires) (contract n d g f f').free
+pub contract_loose : (n d a b : ℕ) (g : List TyTree) (f f' : List (Option ℕ)) → Aligned g f → Aligned g f' → Loose a b f → Loose b n f'
+    → a ≤ b → b ≤ n → Loose a (n + length (contract n d g f f').wires) (contract n d g f f').free
 contract_loose n d a b g f f' h h' l l' u v =
     let c = contract_counted n d g f f' h h' in
     let ws = (contract n d g f f').wires in
     record {
       once = λ y. elim (cases_lt y n) [
-        | inl k ↦ elim (cases_lt y b) [ inl j ↦ omega (arith, c.downs y, made_low n ws y k, l.once y, l'.low y j) | inr j ↦ omega (arith, c.downs y, made_low n ws y k, l'.once y, l.high y j) ]
+        | inl k ↦ elim (cases_lt y b) [
+          | inl j ↦ omega (arith, c.downs y, made_low n ws y k, l.once y, l'.low y j)
+          | inr j ↦ omega
+              (arith, c.downs y, made_low n ws y k, l'.once y, l.high y j)
+        ]
         | inr k ↦ omega (arith, c.downs y, made_once n ws y, l.high y (omega (arith, v, k)), l'.high y k)
       ];
       low = λ y k. omega (arith, c.downs y, made_low n ws y (omega (arith, k, u, v)), l.low y k, l'.low y (omega (arith, k, u)));
@@ -78,16 +93,24 @@ contract_loose n d a b g f f' h h' l l' u v =
 
 -- both lists together
 pub both_once : (a b c : ℕ) (f f' : List (Option ℕ)) → Loose a b f → Loose b c f' → (y : ℕ) → ends f y + ends f' y ≤ 1
-both_once a b c f f' l l' y = elim (cases_lt y b) [ inl j ↦ omega (arith, l.once y, l'.low y j) | inr j ↦ omega (arith, l'.once y, l.high y j) ]
+both_once a b c f f' l l' y =
+    elim (cases_lt y b) [ inl j ↦ omega (arith, l.once y, l'.low y j) | inr j ↦ omega (arith, l'.once y, l.high y j) ]
 
 -- and none is past the end
-pub both_high : (a b c n : ℕ) (f f' : List (Option ℕ)) → Loose a b f → Loose b c f' → b ≤ n → c ≤ n → (y : ℕ) → n ≤ y → ends f y + ends f' y ≡ 0
+pub both_high : (a b c n : ℕ) (f f' : List (Option ℕ)) → Loose a b f → Loose b c f' → b ≤ n → c ≤ n → (y : ℕ) → n ≤ y
+    → ends f y + ends f' y ≡ 0
 both_high a b c n f f' l l' u v y k = omega (arith, l.high y (omega (arith, u, k)), l'.high y (omega (arith, v, k)))
 
 -- a binder's wire, and the other variables' wires
-pub bound_once : (n m d : ℕ) (t : TyTree) (f : List (Option ℕ)) → Loose n m f → (y : ℕ) → hit (bound_wire m f) y + ends (bound m d t f).free y ≤ 1
+pub bound_once : (n m d : ℕ) (t : TyTree) (f : List (Option ℕ)) → Loose n m f → (y : ℕ)
+    → hit (bound_wire m f) y + ends (bound m d t f).free y ≤ 1
 bound_once n m d t [] l y = omega (arith, hit_most m y)
-bound_once n m d t (None ∷ f) l y = elim (cases_eq m y) [ inl e ↦ omega (arith, hit_most m y, l.high y (omega (arith, e))) | inr e ↦ omega (arith, hit_off m y e, l.once y) ]
+bound_once n m d t (None ∷ f) l y =
+    elim (cases_eq m y) [
+      | inl e ↦ omega (arith, hit_most m y, l.high y (omega (arith, e)))
+      | inr e ↦ omega
+          (arith, hit_off m y e, l.once y)
+    ]
 bound_once n m d t (Some x ∷ f) l y = l.once y
 
 -- a binder's wire is among the part's own
@@ -106,4 +129,8 @@ bound_low n m (Some x ∷ f) l u y k = omega (arith, l.low y k)
 pub bound_loose : (n m d : ℕ) (t : TyTree) (f : List (Option ℕ)) → Loose n m f → Loose n m (bound m d t f).free
 bound_loose n m d t [] l = record { once = λ y. omega arith; low = λ y k. refl; high = λ y k. refl }
 bound_loose n m d t (None ∷ f) l = record { once = λ y. l.once y; low = λ y k. l.low y k; high = λ y k. l.high y k }
-bound_loose n m d t (Some x ∷ f) l = record { once = λ y. omega (arith, l.once y); low = λ y k. omega (arith, l.low y k); high = λ y k. omega (arith, l.high y k) }
+bound_loose n m d t (Some x ∷ f) l = record {
+  once = λ y. omega (arith, l.once y);
+  low = λ y k. omega (arith, l.low y k);
+  high = λ y k. omega (arith, l.high y k);
+}

@@ -1,5 +1,6 @@
 -- What the nodes between a term and its operands do to the marks.
-use Rattle.std.proofs.Common.{◌≡◌, ℕ, suc, ◌+◌, ◌<◌, ◌≤◌, List, [], ◌∷◌, ◌++◌, length, Option, Some, None, refl, sym, ap, ◌∙◌, inl, inr, arith}
+use Rattle.std.proofs.Common.{◌≡◌, ℕ, suc, ◌+◌, ◌<◌, ◌≤◌, List, [], ◌∷◌, ◌++◌, length, Option, Some, None, refl, sym, ap, ◌∙◌, inl, inr}
+use Rattle.std.proofs.Common.{arith}
 use Rattle.std.specs.Prelude.{nat_eq, if◌then◌else◌, slice_set}
 use Rattle.std.proofs.lemmas.Bool.{eq-eqb, cases_lt}
 use Rattle.std.proofs.lemmas.List.{length-set, get_or-set_same, get_or-set_other}
@@ -41,11 +42,13 @@ Marked e (t ∷ g) (None ∷ f) ms = Marked e g f ms
 Marked e (t ∷ g) (Some x ∷ f) ms = (mark_at ms x ≡ mark (length g) e) × Marked e g f ms
 
 -- they stay so where their marks stay
-pub marked_kept : (e : ℕ) (g : List TyTree) (f : List (Option ℕ)) (ms new : List Mark) → ((y : ℕ) → 0 < ends f y → mark_at new y ≡ mark_at ms y) → Marked e g f ms → Marked e g f new
+pub marked_kept : (e : ℕ) (g : List TyTree) (f : List (Option ℕ)) (ms new : List Mark)
+    → ((y : ℕ) → 0 < ends f y → mark_at new y ≡ mark_at ms y) → Marked e g f ms → Marked e g f new
 marked_kept e [] f ms new k h = tt
 marked_kept e (t ∷ g) [] ms new k h = tt
 marked_kept e (t ∷ g) (None ∷ f) ms new k h = marked_kept e g f ms new k h
-marked_kept e (t ∷ g) (Some x ∷ f) ms new k h = (k x (omega (arith, hit_same x)) ∙ h.0, marked_kept e g f ms new (λ y l. k y (omega (arith, l))) h.1)
+marked_kept e (t ∷ g) (Some x ∷ f) ms new k h =
+    (k x (omega (arith, hit_same x)) ∙ h.0, marked_kept e g f ms new (λ y l. k y (omega (arith, l))) h.1)
 
 -- a mark set at a wire
 pub set_here : (ms : List Mark) (x : ℕ) (m : Mark) → x < length ms → mark_at (slice_set ms x m) x ≡ m
@@ -69,7 +72,8 @@ pub inside : (x b k : ℕ) → (b ≤ x → k ≡ 0) → 0 < k → x < b
 inside x b k h p = elim (cases_lt x b) [ inl l ↦ l | inr l ↦ absurd (omega (arith, h l, p)) ]
 
 -- a contraction, for one variable
-shares_one : (around e n l r : ℕ) (nodes ns : List Node) (ms : List Mark) (t : TyTree) (g : List TyTree) (f f' : List (Option ℕ)) → (i : Shares around e nodes (Con l r n ∷ ns) ms g f f') → mark_at i.marks n ≡ mark (length g) e →
+shares_one : (around e n l r : ℕ) (nodes ns : List Node) (ms : List Mark) (t : TyTree) (g : List TyTree) (f f' : List (Option ℕ))
+    → (i : Shares around e nodes (Con l r n ∷ ns) ms g f f') → mark_at i.marks n ≡ mark (length g) e →
     ((y : ℕ) → (hit l y + ends f y) + (hit r y + ends f' y) ≤ 1) → l < length ms → r < length ms →
     Shares around e (Con l r n ∷ nodes) ns ms (t ∷ g) (Some l ∷ f) (Some r ∷ f')
 shares_one around e n l r nodes ns ms t g f f' i at_n once inside_l inside_r =
@@ -94,23 +98,63 @@ shares_one around e n l r nodes ns ms t g f f' i at_n once inside_l inside_r =
     }
 
 -- contractions hand on marks to both sides
-pub shares : (n d around e : ℕ) (g : List TyTree) (f f' : List (Option ℕ)) (ns : List Node) (ms : List Mark) → Marked e g (contract n d g f f').free ms →
-    ((y : ℕ) → ends f y + ends f' y ≤ 1) → ((y : ℕ) → n ≤ y → ends f y + ends f' y ≡ 0) → ((y : ℕ) → length ms ≤ y → ends f y + ends f' y ≡ 0) →
+pub shares : (n d around e : ℕ) (g : List TyTree) (f f' : List (Option ℕ)) (ns : List Node) (ms : List Mark)
+    → Marked e g (contract n d g f f').free ms →
+    ((y : ℕ) → ends f y + ends f' y ≤ 1) → ((y : ℕ) → n ≤ y → ends f y + ends f' y ≡ 0)
+    → ((y : ℕ) → length ms ≤ y → ends f y + ends f' y ≡ 0) →
     Shares around e (contract n d g f f').nodes ns ms g f f'
-shares n d around e [] f f' ns ms h once low room = record { marks = ms; passes = λ want. refl; left = tt; right = tt; kept = λ y z. refl; count = refl }
-shares n d around e (t ∷ g) [] f' ns ms h once low room = record { marks = ms; passes = λ want. refl; left = tt; right = h; kept = λ y z. refl; count = refl }
-shares n d around e (t ∷ g) (o ∷ f) [] ns ms h once low room = record { marks = ms; passes = λ want. refl; left = h; right = tt; kept = λ y z. refl; count = refl }
+shares n d around e [] f f' ns ms h once low room = record {
+  marks = ms;
+  passes = λ want. refl;
+  left = tt;
+  right = tt;
+  kept = λ y z. refl;
+  count = refl;
+}
+shares n d around e (t ∷ g) [] f' ns ms h once low room = record {
+  marks = ms;
+  passes = λ want. refl;
+  left = tt;
+  right = h;
+  kept = λ y z. refl;
+  count = refl;
+}
+shares n d around e (t ∷ g) (o ∷ f) [] ns ms h once low room = record {
+  marks = ms;
+  passes = λ want. refl;
+  left = h;
+  right = tt;
+  kept = λ y z. refl;
+  count = refl;
+}
 shares n d around e (t ∷ g) (None ∷ f) (None ∷ f') ns ms h once low room =
     let r = shares n d around e g f f' ns ms h once low room in
     record { marks = r.marks; passes = r.passes; left = r.left; right = r.right; kept = r.kept; count = r.count }
 shares n d around e (t ∷ g) (None ∷ f) (Some x ∷ f') ns ms h once low room =
-    let r = shares n d around e g f f' ns ms h.1 (λ y. omega (arith, once y)) (λ y l. omega (arith, low y l)) (λ y l. omega (arith, room y l)) in
-    record { marks = r.marks; passes = r.passes; left = r.left; right = (r.kept x (omega (arith, once x, hit_same x)) ∙ h.0, r.right); kept = λ y z. r.kept y (omega (arith, z)); count = r.count }
+    let r = shares n d around e g f f' ns ms h.1 (λ y. omega (arith, once y)) (λ y l. omega (arith, low y l))
+    (λ y l. omega (arith, room y l)) in
+    record {
+      marks = r.marks;
+      passes = r.passes;
+      left = r.left;
+      right = (r.kept x (omega (arith, once x, hit_same x)) ∙ h.0, r.right);
+      kept = λ y z. r.kept y (omega (arith, z));
+      count = r.count;
+    }
 shares n d around e (t ∷ g) (Some x ∷ f) (None ∷ f') ns ms h once low room =
-    let r = shares n d around e g f f' ns ms h.1 (λ y. omega (arith, once y)) (λ y l. omega (arith, low y l)) (λ y l. omega (arith, room y l)) in
-    record { marks = r.marks; passes = r.passes; left = (r.kept x (omega (arith, once x, hit_same x)) ∙ h.0, r.left); right = r.right; kept = λ y z. r.kept y (omega (arith, z)); count = r.count }
+    let r = shares n d around e g f f' ns ms h.1 (λ y. omega (arith, once y)) (λ y l. omega (arith, low y l))
+    (λ y l. omega (arith, room y l)) in
+    record {
+      marks = r.marks;
+      passes = r.passes;
+      left = (r.kept x (omega (arith, once x, hit_same x)) ∙ h.0, r.left);
+      right = r.right;
+      kept = λ y z. r.kept y (omega (arith, z));
+      count = r.count;
+    }
 shares n d around e (t ∷ g) (Some l ∷ f) (Some r ∷ f') ns ms h once low room =
-    let i = shares (suc n) d around e g f f' (Con l r n ∷ ns) ms h.1 (λ y. omega (arith, once y)) (λ y k. omega (arith, low y (omega (arith, k)))) (λ y k. omega (arith, room y k)) in
+    let i = shares (suc n) d around e g f f' (Con l r n ∷ ns) ms h.1 (λ y. omega (arith, once y))
+    (λ y k. omega (arith, low y (omega (arith, k)))) (λ y k. omega (arith, room y k)) in
     shares_one around e n l r (contract (suc n) d g f f').nodes ns ms t g f f' i (i.kept n (omega (arith, low n (omega arith))) ∙ h.0) once
     (inside l (length ms) (hit l l + ends f l + (hit r l + ends f' l)) (room l) (omega (arith, hit_same l)))
     (inside r (length ms) (hit l r + ends f r + (hit r r + ends f' r)) (room r) (omega (arith, hit_same r)))
@@ -124,14 +168,16 @@ pub record Enters (around e : ℕ) (nodes ns : List Node) (ms : List Mark) (g : 
   pub count : length marks ≡ length ms
 
 -- a door, for one variable
-enters_one : (around e n x : ℕ) (nodes ns : List Node) (ms : List Mark) (t : TyTree) (g : List TyTree) (f : List (Option ℕ)) → (i : Enters around e nodes (Door x n ∷ ns) ms g f) → mark_at i.marks n ≡ mark (length g) around →
+enters_one : (around e n x : ℕ) (nodes ns : List Node) (ms : List Mark) (t : TyTree) (g : List TyTree) (f : List (Option ℕ))
+    → (i : Enters around e nodes (Door x n ∷ ns) ms g f) → mark_at i.marks n ≡ mark (length g) around →
     ((y : ℕ) → hit x y + ends f y ≤ 1) → x < length ms →
     Enters around e (Door x n ∷ nodes) ns ms (t ∷ g) (Some x ∷ f)
 enters_one around e n x nodes ns ms t g f i at_n once within =
     let m = mark (length g) e in
     let last = slice_set i.marks x m in
     let entry : entered around e x n i.marks ≡ last =
-    ap (λ z. if nat_eq z.place around then slice_set i.marks x (mark z.level e) else i.marks) at_n ∙ ap (λ b. if b then last else i.marks) (eq-eqb around around refl) in
+    ap (λ z. if nat_eq z.place around then slice_set i.marks x (mark z.level e) else i.marks) at_n
+    ∙ ap (λ b. if b then last else i.marks) (eq-eqb around around refl) in
     let stays : (y : ℕ) → hit x y ≡ 0 → mark_at last y ≡ mark_at i.marks y = λ y z. set_elsewhere i.marks x y m z in
     record {
       marks = last;
@@ -145,27 +191,37 @@ enters_one around e n x nodes ns ms t g f i at_n once within =
     }
 
 -- doors hand on marks to the inside
-pub enters : (n d around e : ℕ) (g : List TyTree) (f : List (Option ℕ)) (ns : List Node) (ms : List Mark) → Marked around g (doors n d g f).free ms →
+pub enters : (n d around e : ℕ) (g : List TyTree) (f : List (Option ℕ)) (ns : List Node) (ms : List Mark)
+    → Marked around g (doors n d g f).free ms →
     ((y : ℕ) → ends f y ≤ 1) → ((y : ℕ) → n ≤ y → ends f y ≡ 0) → ((y : ℕ) → length ms ≤ y → ends f y ≡ 0) →
     Enters around e (doors n d g f).nodes ns ms g f
 enters n d around e [] f ns ms h once low room = record { marks = ms; passes = λ want. refl; within = tt; kept = λ y z. refl; count = refl }
-enters n d around e (t ∷ g) [] ns ms h once low room = record { marks = ms; passes = λ want. refl; within = tt; kept = λ y z. refl; count = refl }
+enters n d around e (t ∷ g) [] ns ms h once low room = record {
+  marks = ms;
+  passes = λ want. refl;
+  within = tt;
+  kept = λ y z. refl;
+  count = refl;
+}
 enters n d around e (t ∷ g) (None ∷ f) ns ms h once low room =
     let r = enters n d around e g f ns ms h once low room in
     record { marks = r.marks; passes = r.passes; within = r.within; kept = r.kept; count = r.count }
 enters n d around e (t ∷ g) (Some x ∷ f) ns ms h once low room =
-    let i = enters (suc n) d around e g f (Door x n ∷ ns) ms h.1 (λ y. omega (arith, once y)) (λ y k. omega (arith, low y (omega (arith, k)))) (λ y k. omega (arith, room y k)) in
+    let i = enters (suc n) d around e g f (Door x n ∷ ns) ms h.1 (λ y. omega (arith, once y))
+    (λ y k. omega (arith, low y (omega (arith, k)))) (λ y k. omega (arith, room y k)) in
     enters_one around e n x (doors (suc n) d g f).nodes ns ms t g f i (i.kept n (omega (arith, low n (omega arith))) ∙ h.0) once
     (inside x (length ms) (hit x x + ends f x) (room x) (omega (arith, hit_same x)))
 
 -- a binder's wire, marked at the binder, and a Weak passed
-pub weak_passes : (n d around e want : ℕ) (t : TyTree) (f : List (Option ℕ)) (ns : List Node) (ms : List Mark) → pass around e want (back (bound n d t f).nodes ns) ms ≡ pass around e want ns ms
+pub weak_passes : (n d around e want : ℕ) (t : TyTree) (f : List (Option ℕ)) (ns : List Node) (ms : List Mark)
+    → pass around e want (back (bound n d t f).nodes ns) ms ≡ pass around e want ns ms
 weak_passes n d around e want t [] ns ms = refl
 weak_passes n d around e want t (None ∷ f) ns ms = refl
 weak_passes n d around e want t (Some x ∷ f) ns ms = refl
 
 -- the body's list is marked where the others' are and the binder's wire is
-pub body_marked : (n d e : ℕ) (t : TyTree) (g : List TyTree) (f : List (Option ℕ)) (ms : List Mark) → Marked e g (bound n d t f).free ms → mark_at ms (bound_wire n f) ≡ mark (length g) e → Marked e (t ∷ g) f ms
+pub body_marked : (n d e : ℕ) (t : TyTree) (g : List TyTree) (f : List (Option ℕ)) (ms : List Mark) → Marked e g (bound n d t f).free ms
+    → mark_at ms (bound_wire n f) ≡ mark (length g) e → Marked e (t ∷ g) f ms
 body_marked n d e t g [] ms h b = tt
 body_marked n d e t g (None ∷ f) ms h b = h
 body_marked n d e t g (Some x ∷ f) ms h b = (b, h)

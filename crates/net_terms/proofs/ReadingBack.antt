@@ -36,7 +36,8 @@ pub term_bounds : (h : ℕ) (net : NetTree) (l : TermTree) → candidate h net �
 term_bounds h net l c = subst (Bounded h (length net.nodes)) c (bounded h net)
 
 -- and so is its own net, by its own height
-pub net_bounds : NetSize → (h : ℕ) (net : NetTree) (l : TermTree) → candidate h net ≡ Some l → (length (net_of l).wires ≤ length net.nodes * (2 * height l + 4)) × (length (net_of l).nodes ≤ length net.nodes * (2 * height l + 4))
+pub net_bounds : NetSize → (h : ℕ) (net : NetTree) (l : TermTree) → candidate h net ≡ Some l
+    → (length (net_of l).wires ≤ length net.nodes * (2 * height l + 4)) × (length (net_of l).nodes ≤ length net.nodes * (2 * height l + 4))
 net_bounds law h net l c =
     let (u, v) = term_bounds h net l c in
     let w : 2 * height l + 4 ≤ 2 * height l + 4 = omega arith in
@@ -60,7 +61,8 @@ pub is_net : (h : ℕ) (net : NetTree) (l : TermTree) → candidate h net ≡ So
 is_net h net l c t e = record { typed = t; within = (term_bounds h net l c).0; net_is = e }
 
 -- what is read is no program whose net it is
-pub not_typed_or_same : (h : ℕ) (net : NetTree) (l : TermTree) → candidate h net ≡ Some l → (HasType [] l nat → net_of l ≡ net → ⊥) → OfNone h net
+pub not_typed_or_same : (h : ℕ) (net : NetTree) (l : TermTree) → candidate h net ≡ Some l → (HasType [] l nat → net_of l ≡ net → ⊥)
+    → OfNone h net
 not_typed_or_same h net l c n m i =
     let e = same_term l m (only_one h net (Some l) m c i) in
     n (subst (λ m. HasType [] m nat) e i.typed) (ap net_of (sym e) ∙ i.net_is)

@@ -15,7 +15,8 @@ cancel (t ∷ x) a b e = cancel x a b (behind_first t (x ++ a) (x ++ b) e)
     behind_first t a b e = cc
 
 -- the first come, and then the others do or don't
-pub first_then : (r : Bool) (before x mid y after : List TyTree) → ComeFirst true before x mid → ComeFirst r mid y after → ComeFirst r before (x ++ y) after
+pub first_then : (r : Bool) (before x mid y after : List TyTree) → ComeFirst true before x mid → ComeFirst r mid y after
+    → ComeFirst r before (x ++ y) after
 first_then true before x mid y after h i = h ∙ ap (λ t. x ++ t) i ∙ sym (append_assoc x y after)
 first_then false before x mid y after h i = λ rest e. i rest (cancel x mid (y ++ rest) (sym h ∙ e ∙ append_assoc x y rest))
 
@@ -24,7 +25,8 @@ pub first_fail : (before x mid y after : List TyTree) → ComeFirst false before
 first_fail before x mid y after h = λ rest e. h (y ++ rest) (e ∙ append_assoc x y rest)
 
 -- one use
-pub one_use : (b : Bool) (t u : TyTree) (before after : List TyTree) → before ≡ t ∷ after → ((b ≡ true) ↔ (t ≡ u)) → ComeFirst b before (u ∷ []) after
+pub one_use : (b : Bool) (t u : TyTree) (before after : List TyTree) → before ≡ t ∷ after → ((b ≡ true) ↔ (t ≡ u))
+    → ComeFirst b before (u ∷ []) after
 one_use true t u before after h i = h ∙ ap (λ t. t ∷ after) (i.0 refl)
 one_use false t u before after h i = λ rest e. differ (i.1 (same t u after rest (sym h ∙ e)))
   where
@@ -50,5 +52,7 @@ not_all true before uses after h f e = no f
 not_all false before uses after h f e = h [] (e ∙ sym (append-nil uses))
 
 -- the same of a closed term
-pub not_used : (b : Bool) (before after : List TyTree) (xs : List Ty) (m : TermTree) → xs ≡ [] → ComeFirst b before (used_types (context_of xs) m) after → b ≡ false → before ≡ used_types [] m → ⊥
-not_used b before after xs m h k f e = not_all b before (used_types (context_of xs) m) after k f (e ∙ ap (λ xs. used_types (context_of xs) m) (sym h))
+pub not_used : (b : Bool) (before after : List TyTree) (xs : List Ty) (m : TermTree) → xs ≡ []
+    → ComeFirst b before (used_types (context_of xs) m) after → b ≡ false → before ≡ used_types [] m → ⊥
+not_used b before after xs m h k f e =
+    not_all b before (used_types (context_of xs) m) after k f (e ∙ ap (λ xs. used_types (context_of xs) m) (sym h))

@@ -3,7 +3,8 @@ use Rattle.std.proofs.Common.{◌≡◌, ◌^◌, Bool, true, false, ◌&&◌, L
 use Rattle.std.specs.Prelude.{nat_lt, if◌then◌else◌}
 use Rattle.std.specs.Prelude.{◌↔◌}
 use Rattle.std.proofs.lemmas.Bool.{lt-ltb, ltb-true, cases_Bool, cases_from_iff, iff_false, MatchBool-at_true}
-use Rattle.pcf_values.specs.Terms.{Side, at_side, TyTree, nat, arrow, product, TermTree, num, var, succ_of, pred_of, binary, ifz, lam, fix, app, pair, proj}
+use Rattle.pcf_values.specs.Terms.{Side, at_side, TyTree, nat, arrow, product, TermTree, num, var, succ_of, pred_of, binary, ifz, lam, fix}
+use Rattle.pcf_values.specs.Terms.{app, pair, proj}
 use Rattle.pcf_values.specs.Typing.{HasType}
 use Rattle.net_terms.specs.Typable.{same_type, if_number, function_to, if_same, fixed, applied, paired, part_type, type_of}
 
@@ -78,16 +79,19 @@ applied_parts t None p h = cc
 applied_parts t (Some nat) p h = cc
 applied_parts t (Some (product a b)) p h = cc
 applied_parts t (Some (arrow a b)) None h = cc
-applied_parts t (Some (arrow a b)) (Some c) h = let (e, f) = chosen (same_type a c) b t h in (a, ap (λ b. Some (arrow a b)) (sym f), ap Some (sym (same_is a c e)))
+applied_parts t (Some (arrow a b)) (Some c) h = let (e, f) =
+    chosen (same_type a c) b t h in (a, ap (λ b. Some (arrow a b)) (sym f), ap Some (sym (same_is a c e)))
 
 -- a pair's type comes from its parts'
-paired_parts : (t : TyTree) (o p : Option TyTree) → paired o p ≡ Some t → (a : TyTree) × (b : TyTree) × (o ≡ Some a) × (p ≡ Some b) × (t ≡ product a b)
+paired_parts : (t : TyTree) (o p : Option TyTree) → paired o p ≡ Some t
+    → (a : TyTree) × (b : TyTree) × (o ≡ Some a) × (p ≡ Some b) × (t ≡ product a b)
 paired_parts t None p h = cc
 paired_parts t (Some a) None h = cc
 paired_parts t (Some a) (Some b) h = (a, b, refl, refl, some_is (product a b) t h)
 
 -- the type of a part of a pair comes from the pair's
-side_parts : (s : Side) (t : TyTree) (o : Option TyTree) → part_type s o ≡ Some t → (a : TyTree) × (b : TyTree) × (o ≡ Some (product a b)) × (t ≡ at_side s a b)
+side_parts : (s : Side) (t : TyTree) (o : Option TyTree) → part_type s o ≡ Some t
+    → (a : TyTree) × (b : TyTree) × (o ≡ Some (product a b)) × (t ≡ at_side s a b)
 side_parts s t None h = cc
 side_parts s t (Some nat) h = cc
 side_parts s t (Some (arrow a b)) h = cc
@@ -124,14 +128,20 @@ found g (num n) t h = ap (λ b. if b then Some nat else None) (lt-ltb n (2 ^ 64)
 found g (var i) t h = h
 found g (succ_of m) t h = ap (λ o. if_number o (Some nat)) (found g m nat h.0) ∙ ap Some (sym h.1)
 found g (pred_of m) t h = ap (λ o. if_number o (Some nat)) (found g m nat h.0) ∙ ap Some (sym h.1)
-found g (binary o m l) t h = ap (λ o. if_number o (if_number (type_of g l) (Some nat))) (found g m nat h.0) ∙ ap (λ o. if_number o (Some nat)) (found g l nat h.1) ∙ ap Some (sym h.2)
+found g (binary o m l) t h =
+    ap (λ o. if_number o (if_number (type_of g l) (Some nat))) (found g m nat h.0) ∙ ap (λ o. if_number o (Some nat)) (found g l nat h.1)
+    ∙ ap Some (sym h.2)
 found g (ifz i m l) t h =
     ap (λ o. if_number o (if_number (type_of g m) (if_number (type_of g l) (Some nat)))) (found g i nat h.0)
-    ∙ ap (λ o. if_number o (if_number (type_of g l) (Some nat))) (found g m nat h.1) ∙ ap (λ o. if_number o (Some nat)) (found g l nat h.2) ∙ ap Some (sym h.3)
+    ∙ ap (λ o. if_number o (if_number (type_of g l) (Some nat))) (found g m nat h.1) ∙ ap (λ o. if_number o (Some nat)) (found g l nat h.2)
+    ∙ ap Some (sym h.3)
 found g (lam a m) t h = ap (function_to a) (found (a ∷ g) m h.0 h.1) ∙ ap Some (sym h.2)
 found g (fix a m) t h = ap (fixed a) (found (a ∷ g) m a h.0) ∙ same_found a a a refl ∙ ap Some (sym h.1)
-found g (app m l) t h = ap (λ o. applied o (type_of g l)) (found g m (arrow h.0 t) h.1) ∙ ap (applied (Some (arrow h.0 t))) (found g l h.0 h.2) ∙ same_found h.0 h.0 t refl
-found g (pair m l) t h = ap (λ o. paired o (type_of g l)) (found g m h.0 h.2) ∙ ap (paired (Some h.0)) (found g l h.1 h.3) ∙ ap Some (sym h.4)
+found g (app m l) t h =
+    ap (λ o. applied o (type_of g l)) (found g m (arrow h.0 t) h.1) ∙ ap (applied (Some (arrow h.0 t))) (found g l h.0 h.2)
+    ∙ same_found h.0 h.0 t refl
+found g (pair m l) t h =
+    ap (λ o. paired o (type_of g l)) (found g m h.0 h.2) ∙ ap (paired (Some h.0)) (found g l h.1 h.3) ∙ ap Some (sym h.4)
 found g (proj s m) t h = ap (part_type s) (found g m (product h.0 h.1) h.2) ∙ ap Some (sym h.3)
 
 -- a test that says whether two types are one is the definition's
@@ -154,5 +164,9 @@ holds true h = refl
 holds false h = cc
 
 -- The test of a program tells programs.
-pub program_test : (b : Bool) (m : TermTree) → ((r : Option TyTree) → if_number (type_of [] m) r ≡ (if b then r else None)) → (b ≡ true) ↔ HasType [] m nat
-program_test b m h = (λ e. typed [] m nat (tested b (type_of [] m) h e), λ t. holds b (ap (λ o. if_number o (Some nat)) (sym (found [] m nat t)) ∙ h (Some nat)))
+pub program_test : (b : Bool) (m : TermTree) → ((r : Option TyTree) → if_number (type_of [] m) r ≡ (if b then r else None))
+    → (b ≡ true) ↔ HasType [] m nat
+program_test b m h = (
+  λ e. typed [] m nat (tested b (type_of [] m) h e),
+  λ t. holds b (ap (λ o. if_number o (Some nat)) (sym (found [] m nat t)) ∙ h (Some nat)),
+)

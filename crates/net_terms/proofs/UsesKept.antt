@@ -1,7 +1,8 @@
 -- The net of a term uses variables as the term does.
 use Rattle.std.proofs.Common.{◌≡◌, ℕ, zero, suc, ◌+◌, List, [], ◌∷◌, ◌++◌, append-nil, length, Option, Some, None, refl, ap, ◌∙◌, subst}
 use Rattle.pcf_values.specs.Values.{Op, plus_op, minus_op, times_op}
-use Rattle.pcf_values.specs.Terms.{Side, left_side, right_side, TyTree, nat, product, TermTree, num, var, succ_of, pred_of, binary, ifz, lam, fix, app, pair, proj}
+use Rattle.pcf_values.specs.Terms.{Side, left_side, right_side, TyTree, nat, product, TermTree, num, var, succ_of, pred_of, binary, ifz}
+use Rattle.pcf_values.specs.Terms.{lam, fix, app, pair, proj}
 use Rattle.net_build.specs.declared.node.Node.{Node}
 use Rattle.net_build.specs.declared.node.Node.TheVariants.{Der, Root, Pair}
 use Rattle.net_build.specs.Nets.{WireTree, NetTree, binary_node, proj_node}
@@ -64,7 +65,8 @@ module _ (ws : List WireTree) where
   proj_unused right_side a w = refl
 
   -- two operands
-  double_uses : (node : ℕ → ℕ → ℕ → Node) (t : TyTree) (n d : ℕ) (g : List TyTree) (p q : Part) (u v : List TyTree) → ((a b w : ℕ) → using_types ws (node a b w ∷ []) ≡ []) → using_types ws p.nodes ≡ u → using_types ws q.nodes ≡ v →
+  double_uses : (node : ℕ → ℕ → ℕ → Node) (t : TyTree) (n d : ℕ) (g : List TyTree) (p q : Part) (u v : List TyTree)
+      → ((a b w : ℕ) → using_types ws (node a b w ∷ []) ≡ []) → using_types ws p.nodes ≡ u → using_types ws q.nodes ≡ v →
       using_types ws (double_part node t n d g p q).nodes ≡ u ++ v
   double_uses node t n d g p q u v h e f =
       let o = n + length p.wires + length q.wires in
@@ -72,50 +74,64 @@ module _ (ws : List WireTree) where
       both p.nodes _ u v e (only q.nodes _ v f (skip c.nodes _ (contract_unused o d g p.free q.free) ∙ h p.out q.out (o + length c.wires)))
 
   -- a condition with its branches
-  ifz_uses : (n d : ℕ) (g : List TyTree) (x y z : Part) (u v s : List TyTree) → using_types ws x.nodes ≡ u → using_types ws y.nodes ≡ v → using_types ws z.nodes ≡ s → using_types ws (ifz_part n d g x y z).nodes ≡ u ++ (v ++ s)
+  ifz_uses : (n d : ℕ) (g : List TyTree) (x y z : Part) (u v s : List TyTree) → using_types ws x.nodes ≡ u → using_types ws y.nodes ≡ v
+      → using_types ws z.nodes ≡ s → using_types ws (ifz_part n d g x y z).nodes ≡ u ++ (v ++ s)
   ifz_uses n d g x y z u v s e f h =
       let o = n + length x.wires + length y.wires + length z.wires in
       let b = contract o d g y.free z.free in
       let c = contract (o + length b.wires) d g x.free b.free in
-      both x.nodes _ u (v ++ s) e (both y.nodes _ v s f (only z.nodes _ s h (skip b.nodes _ (contract_unused o d g y.free z.free) ∙ skip c.nodes _ (contract_unused (o + length b.wires) d g x.free b.free))))
+      both x.nodes _ u (v ++ s) e
+      (both y.nodes _ v s f
+      (only z.nodes _ s h (skip b.nodes _ (contract_unused o d g y.free z.free)
+      ∙ skip c.nodes _ (contract_unused (o + length b.wires) d g x.free b.free))))
 
   -- a function
   lam_uses : (n d : ℕ) (a : TyTree) (p : Part) (u : List TyTree) → using_types ws p.nodes ≡ u → using_types ws (lam_part n d a p).nodes ≡ u
   lam_uses n d a p u e = let o = n + length p.wires in only p.nodes _ u e (skip (bound o d a p.free).nodes _ (bound_unused o d a p.free))
 
   -- a recursive value
-  fix_uses : (n d : ℕ) (g : List TyTree) (a : TyTree) (p : Part) (u : List TyTree) → using_types ws p.nodes ≡ u → using_types ws (fix_part n d g a p).nodes ≡ u
+  fix_uses : (n d : ℕ) (g : List TyTree) (a : TyTree) (p : Part) (u : List TyTree) → using_types ws p.nodes ≡ u
+      → using_types ws (fix_part n d g a p).nodes ≡ u
   fix_uses n d g a p u e =
       let o = n + length p.wires in
       let r = bound o (suc d) a p.free in
-      only p.nodes _ u e (skip r.nodes _ (bound_unused o (suc d) a p.free) ∙ skip (doors (o + length r.wires) d g r.free).nodes _ (doors_unused (o + length r.wires) d g r.free))
+      only p.nodes _ u e (skip r.nodes _ (bound_unused o (suc d) a p.free)
+      ∙ skip (doors (o + length r.wires) d g r.free).nodes _ (doors_unused (o + length r.wires) d g r.free))
 
   -- an application
-  app_uses : (n d : ℕ) (g : List TyTree) (p q : Part) (u v : List TyTree) → using_types ws p.nodes ≡ u → using_types ws q.nodes ≡ v → using_types ws (app_part n d g p q).nodes ≡ u ++ v
+  app_uses : (n d : ℕ) (g : List TyTree) (p q : Part) (u v : List TyTree) → using_types ws p.nodes ≡ u → using_types ws q.nodes ≡ v
+      → using_types ws (app_part n d g p q).nodes ≡ u ++ v
   app_uses n d g p q u v e f =
       let o = n + length p.wires + length q.wires in
       let x = doors o d g q.free in
       let i = o + length x.wires in
       let b = contract (suc i) d g p.free x.free in
-      both p.nodes _ u v e (only q.nodes _ v f (skip x.nodes _ (doors_unused o d g q.free) ∙ skip b.nodes _ (contract_unused (suc i) d g p.free x.free)))
+      both p.nodes _ u v e (only q.nodes _ v f
+      (skip x.nodes _ (doors_unused o d g q.free) ∙ skip b.nodes _ (contract_unused (suc i) d g p.free x.free)))
 
   -- Each part uses variables as its term does.
-  part_uses : (m : TermTree) (n d : ℕ) (g : List TyTree) → Held ws n (part n d g m).wires → using_types ws (part n d g m).nodes ≡ used_types g m
+  part_uses : (m : TermTree) (n d : ℕ) (g : List TyTree) → Held ws n (part n d g m).wires
+      → using_types ws (part n d g m).nodes ≡ used_types g m
   part_uses (num v) n d g h = refl
   part_uses (var i) n d g h = ap (λ o. type_in o ∷ []) h.0
-  part_uses (succ_of m) n d g h = let p = part n d g m in only p.nodes _ (used_types g m) (part_uses m n d g (held_left ws n p.wires _ h)) refl
-  part_uses (pred_of m) n d g h = let p = part n d g m in only p.nodes _ (used_types g m) (part_uses m n d g (held_left ws n p.wires _ h)) refl
-  part_uses (proj s m) n d g h = let p = part n d g m in only p.nodes _ (used_types g m) (part_uses m n d g (held_left ws n p.wires _ h)) (proj_unused s _ _)
+  part_uses (succ_of m) n d g h = let p =
+      part n d g m in only p.nodes _ (used_types g m) (part_uses m n d g (held_left ws n p.wires _ h)) refl
+  part_uses (pred_of m) n d g h = let p =
+      part n d g m in only p.nodes _ (used_types g m) (part_uses m n d g (held_left ws n p.wires _ h)) refl
+  part_uses (proj s m) n d g h = let p =
+      part n d g m in only p.nodes _ (used_types g m) (part_uses m n d g (held_left ws n p.wires _ h)) (proj_unused s _ _)
   part_uses (binary o m l) n d g h =
       let p = part n d g m in
       let k = n + length p.wires in
       let q = part k d g l in
-      double_uses (binary_node o) nat n d g p q (used_types g m) (used_types g l) (binary_unused o) (part_uses m n d g (held_left ws n p.wires _ h)) (part_uses l k d g (held_left ws k q.wires _ (held_right ws n p.wires _ h)))
+      double_uses (binary_node o) nat n d g p q (used_types g m) (used_types g l) (binary_unused o)
+      (part_uses m n d g (held_left ws n p.wires _ h)) (part_uses l k d g (held_left ws k q.wires _ (held_right ws n p.wires _ h)))
   part_uses (pair m l) n d g h =
       let p = part n d g m in
       let k = n + length p.wires in
       let q = part k d g l in
-      double_uses Pair (product p.type q.type) n d g p q (used_types g m) (used_types g l) (λ a b w. refl) (part_uses m n d g (held_left ws n p.wires _ h)) (part_uses l k d g (held_left ws k q.wires _ (held_right ws n p.wires _ h)))
+      double_uses Pair (product p.type q.type) n d g p q (used_types g m) (used_types g l) (λ a b w. refl)
+      (part_uses m n d g (held_left ws n p.wires _ h)) (part_uses l k d g (held_left ws k q.wires _ (held_right ws n p.wires _ h)))
   part_uses (ifz i m l) n d g h =
       let x = part n d g i in
       let k = n + length x.wires in
@@ -123,14 +139,18 @@ module _ (ws : List WireTree) where
       let j = k + length y.wires in
       let z = part j d g l in
       let r = held_right ws n x.wires _ h in
-      ifz_uses n d g x y z (used_types g i) (used_types g m) (used_types g l) (part_uses i n d g (held_left ws n x.wires _ h)) (part_uses m k d g (held_left ws k y.wires _ r)) (part_uses l j d g (held_left ws j z.wires _ (held_right ws k y.wires _ r)))
-  part_uses (lam a m) n d g h = let p = part n d (a ∷ g) m in lam_uses n d a p (used_types (a ∷ g) m) (part_uses m n d (a ∷ g) (held_left ws n p.wires _ h))
-  part_uses (fix a m) n d g h = let p = part n (suc d) (a ∷ g) m in fix_uses n d g a p (used_types (a ∷ g) m) (part_uses m n (suc d) (a ∷ g) (held_left ws n p.wires _ h))
+      ifz_uses n d g x y z (used_types g i) (used_types g m) (used_types g l) (part_uses i n d g (held_left ws n x.wires _ h))
+      (part_uses m k d g (held_left ws k y.wires _ r)) (part_uses l j d g (held_left ws j z.wires _ (held_right ws k y.wires _ r)))
+  part_uses (lam a m) n d g h = let p =
+      part n d (a ∷ g) m in lam_uses n d a p (used_types (a ∷ g) m) (part_uses m n d (a ∷ g) (held_left ws n p.wires _ h))
+  part_uses (fix a m) n d g h = let p =
+      part n (suc d) (a ∷ g) m in fix_uses n d g a p (used_types (a ∷ g) m) (part_uses m n (suc d) (a ∷ g) (held_left ws n p.wires _ h))
   part_uses (app m l) n d g h =
       let p = part n d g m in
       let k = n + length p.wires in
       let q = part k (suc d) g l in
-      app_uses n d g p q (used_types g m) (used_types g l) (part_uses m n d g (held_left ws n p.wires _ h)) (part_uses l k (suc d) g (held_left ws k q.wires _ (held_right ws n p.wires _ h)))
+      app_uses n d g p q (used_types g m) (used_types g l) (part_uses m n d g (held_left ws n p.wires _ h))
+      (part_uses l k (suc d) g (held_left ws k q.wires _ (held_right ws n p.wires _ h)))
 
 -- The net of a term uses variables as the term does.
 pub net_uses : (m : TermTree) → using_types (net_of m).wires (net_of m).nodes ≡ used_types [] m

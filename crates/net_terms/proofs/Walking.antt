@@ -1,5 +1,6 @@
 -- The nodes that are left, one by one.
-use Rattle.std.proofs.Common.{◌≡◌, ℕ, suc, ◌-◌, ◌<◌, ◌≤◌, List, [], ◌∷◌, length, reverse, take, get_or, Option, Some, None, sym, ap, ◌∙◌, subst, arith}
+use Rattle.std.proofs.Common.{◌≡◌, ℕ, suc, ◌-◌, ◌<◌, ◌≤◌, List, [], ◌∷◌, length, reverse, take, get_or, Option, Some, None, sym, ap, ◌∙◌}
+use Rattle.std.proofs.Common.{subst, arith}
 use Rattle.std.specs.Prelude.{slice_get}
 use Rattle.std.proofs.Math.Seq.{take-suc}
 use Rattle.std.proofs.lemmas.List.{reverse-append}
@@ -12,28 +13,35 @@ use Rattle.net_terms.specs.TermOf.{Rest, rest, pass, met, go_on, start, reading}
 use Rattle.net_terms.specs.Walks.{Comes, Passed}
 
 -- the last of the first k nodes
-pub comes : (ns : List Node) (k : ℕ) (o : Option Node) → 0 < k → k ≤ length ns → o ≡ slice_get ns (k - 1) → Comes o (reverse (take k ns)) (reverse (take (k - 1) ns))
+pub comes : (ns : List Node) (k : ℕ) (o : Option Node) → 0 < k → k ≤ length ns → o ≡ slice_get ns (k - 1)
+    → Comes o (reverse (take k ns)) (reverse (take (k - 1) ns))
 comes ns k o p u h =
     let j = k - 1 in
     let d = Weak 0 in
     let e : k ≡ suc j = omega (arith, p) in
     let l : j < length ns = omega (arith, p, u) in
     let x = get_or ns j d in
-    let r : reverse (take k ns) ≡ x ∷ reverse (take j ns) = ap (λ k. reverse (take k ns)) e ∙ ap reverse (take-suc ns j d l) ∙ reverse-append (take j ns) (x ∷ []) in
+    let r : reverse (take k ns) ≡ x ∷ reverse (take j ns) =
+    ap (λ k. reverse (take k ns)) e ∙ ap reverse (take-suc ns j d l) ∙ reverse-append (take j ns) (x ∷ []) in
     subst (λ o. Comes o (reverse (take k ns)) (reverse (take j ns))) (sym (h ∙ slice_get-get_or ns j d l)) r
 
 -- a node that was passed
-pub passed_on : (around e u : ℕ) (p : ℕ × ℕ × ℕ) (n : Node) (before after : List Node) (ms new : List Mark) → Comes (Some n) before after → Passed (Some p) around e u n ms new → pass p.0 p.1 p.2 after new ≡ pass around e u before ms
+pub passed_on : (around e u : ℕ) (p : ℕ × ℕ × ℕ) (n : Node) (before after : List Node) (ms new : List Mark) → Comes (Some n) before after
+    → Passed (Some p) around e u n ms new → pass p.0 p.1 p.2 after new ≡ pass around e u before ms
 passed_on around e u p n before after ms new c h = sym (ap (λ ns. pass around e u ns ms) c ∙ h after)
 
 -- a node that stays
-pub stays : (around e u : ℕ) (n : Node) (before after : List Node) (ms new : List Mark) → Comes (Some n) before after → Passed None around e u n ms new → pass around e u before ms ≡ rest e u before new
-stays around e u n before after ms new c h = ap (λ ns. pass around e u ns ms) c ∙ h.0 after ∙ ap (λ ns. rest e u ns ms) (sym c) ∙ ap (rest e u before) (sym h.1)
+pub stays : (around e u : ℕ) (n : Node) (before after : List Node) (ms new : List Mark) → Comes (Some n) before after
+    → Passed None around e u n ms new → pass around e u before ms ≡ rest e u before new
+stays around e u n before after ms new c h =
+    ap (λ ns. pass around e u ns ms) c ∙ h.0 after ∙ ap (λ ns. rest e u ns ms) (sym c) ∙ ap (rest e u before) (sym h.1)
 
 -- A reading passes the nodes in front, and takes the next one as the term's own, where it is the one that is to come.
-pub begins : (ws : List WireTree) (h k a e u : ℕ) (before : List Node) (ms : List Mark) (r : Rest) (n : Node) (after : List Node) (new : List Mark) → 0 < h → pass a e u before ms ≡ r → r.nodes ≡ n ∷ after → new ≡ r.marks →
+pub begins : (ws : List WireTree) (h k a e u : ℕ) (before : List Node) (ms : List Mark) (r : Rest) (n : Node) (after : List Node)
+    (new : List Mark) → 0 < h → pass a e u before ms ≡ r → r.nodes ≡ n ∷ after → new ≡ r.marks →
     reading ws h k a e u before ms ≡ met r.want (n ∷ after) (start ws (reading ws (h - 1)) k r.place (n ∷ after) new)
 begins ws h k a e u before ms r n after new p q s t =
     let g : h ≡ suc (h - 1) = omega (arith, p) in
     let f = λ (ns : List Node). λ (m : List Mark). met r.want ns (start ws (reading ws (h - 1)) k r.place ns m) in
-    ap (λ h. reading ws h k a e u before ms) g ∙ ap (go_on ws (reading ws (h - 1)) k) q ∙ ap (λ ns. f ns r.marks) s ∙ ap (f (n ∷ after)) (sym t)
+    ap (λ h. reading ws h k a e u before ms) g ∙ ap (go_on ws (reading ws (h - 1)) k) q ∙ ap (λ ns. f ns r.marks) s
+    ∙ ap (f (n ∷ after)) (sym t)

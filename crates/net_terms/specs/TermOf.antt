@@ -5,11 +5,14 @@
 -- with the box in which it stands. No operand is looked for by its wire: it is only asked that the wire is the right one, so that the
 -- term of a sound net is as large as the net says. The walk ends on any list of nodes, and a caller compares the net of the term that
 -- it gives. Heights are bounded by the number that it is given.
-use Rattle.std.specs.Prelude.{ℕ, zero, suc, ◌-◌, List, [], ◌∷◌, length, reverse, replicate, Option, Some, None, nat_eq, nat_lt, if◌then◌else◌, slice_get, slice_index_or, slice_set}
+use Rattle.std.specs.Prelude.{ℕ, zero, suc, ◌-◌, List, [], ◌∷◌, length, reverse, replicate, Option, Some, None, nat_eq, nat_lt}
+use Rattle.std.specs.Prelude.{if◌then◌else◌, slice_get, slice_index_or, slice_set}
 use Rattle.pcf_values.specs.Values.{plus_op, minus_op, times_op}
-use Rattle.pcf_values.specs.Terms.{left_side, right_side, TyTree, nat, TermTree, num, var, succ_of, pred_of, binary, ifz, lam, fix, app, pair, proj}
+use Rattle.pcf_values.specs.Terms.{left_side, right_side, TyTree, nat, TermTree, num, var, succ_of, pred_of, binary, ifz, lam, fix, app}
+use Rattle.pcf_values.specs.Terms.{pair, proj}
 use Rattle.net_build.specs.declared.node.Node.{Node}
-use Rattle.net_build.specs.declared.node.Node.TheVariants.{Const, Succ, Pred, Plus, Minus, Times, Ifz, Der, Con, Weak, Lam, App, BoxNode, Door, FixBox, Root, Pair, Fst, Snd}
+use Rattle.net_build.specs.declared.node.Node.TheVariants.{Const, Succ, Pred, Plus, Minus, Times, Ifz, Der, Con, Weak, Lam, App, BoxNode}
+use Rattle.net_build.specs.declared.node.Node.TheVariants.{Door, FixBox, Root, Pair, Fst, Snd}
 use Rattle.net_build.specs.Nets.{WireTree, NetTree}
 use Rattle.net_build.specs.NetOf.{domain}
 use Rattle.net_terms.specs.declared.walk.Mark.{Mark}
@@ -79,13 +82,15 @@ two f rd None = None
 two f rd (Some b) = one (λ a. f a b.term) (rd b.nodes b.marks)
 
 -- the same of three operands
-abbrev pub three : (TermTree → TermTree → TermTree → TermTree) → (List Node → List Mark → Option Read) → (List Node → List Mark → Option Read) → Option Read → Option Read
+abbrev pub three : (TermTree → TermTree → TermTree → TermTree) → (List Node → List Mark → Option Read)
+    → (List Node → List Mark → Option Read) → Option Read → Option Read
 three f first second None = None
 three f first second (Some c) = two (λ a b. f a b c.term) first (second c.nodes c.marks)
 
 -- the variable of this mark, under k binders in this box
 abbrev pub variable : ℕ → ℕ → Mark → List Node → List Mark → Option Read
-variable k place m ns ms = if nat_eq m.place place then (if nat_lt m.level k then Some (read (var (k - suc m.level)) ns ms) else None) else None
+variable k place m ns ms =
+    if nat_eq m.place place then (if nat_lt m.level k then Some (read (var (k - suc m.level)) ns ms) else None) else None
 
 -- the marks with a binder's wire among them
 abbrev pub set_marked : List Mark → ℕ → ℕ → ℕ → List Mark

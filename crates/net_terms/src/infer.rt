@@ -5,7 +5,8 @@ ghost use Rattle.std.specs.Option.{option_map};
 ghost use Rattle.pcf_values.specs.Terms.{TyTree, nat};
 ghost use Rattle.pcf_values.specs.Typing.{HasType};
 ghost use Rattle.pcf_values.specs.Views.{term_of, ty_of};
-ghost use Rattle.net_terms.specs.Typable.{applied, context_of, fixed, function_to, if_number, if_same, paired, part_type, same_type, type_of};
+ghost use Rattle.net_terms.specs.Typable.{applied, context_of, fixed, function_to, if_number, if_same, paired, part_type, same_type};
+ghost use Rattle.net_terms.specs.Typable.{type_of};
 
 use pcf_values::{Term, Ty};
 use std::alloc::{AllocError, Global};
@@ -75,7 +76,8 @@ fn nat_if(numbers: bool) -> Option<Ty>
 #[cycle(infer)]
 fn is_number(alloc: Global, context: &mut Vec<Ty>, term: &Term) -> Result<bool, AllocError>
     ensures context { OnOk result (context.new.items ≡ context.old.items) }
-    ensures number { IfOk result (λ b. (r : Option TyTree) → if_number (type_of (context_of context.old.items) (term_of term.now)) r ≡ (if b then r else None)) }
+    ensures number { IfOk result
+        (λ b. (r : Option TyTree) → if_number (type_of (context_of context.old.items) (term_of term.now)) r ≡ (if b then r else None)) }
 {
     match infer(alloc, context, term)? {
         Some(Ty::Nat) => Ok(true),
@@ -91,7 +93,8 @@ fn infer_fun(
     body: &Term,
 ) -> Result<Option<Ty>, AllocError>
     ensures context { OnOk result (context.new.items ≡ context.old.items) }
-    ensures ty { IfOk result (λ o. option_map ty_of o ≡ function_to (ty_of ty.now) (type_of (ty_of ty.now ∷ context_of context.old.items) (term_of body.now))) }
+    ensures ty { IfOk result
+        (λ o. option_map ty_of o ≡ function_to (ty_of ty.now) (type_of (ty_of ty.now ∷ context_of context.old.items) (term_of body.now))) }
 {
     match infer_body(alloc, context, ty, body)? {
         Some(to) => {
@@ -110,7 +113,8 @@ fn infer_fix(
     body: &Term,
 ) -> Result<Option<Ty>, AllocError>
     ensures context { OnOk result (context.new.items ≡ context.old.items) }
-    ensures ty { IfOk result (λ o. option_map ty_of o ≡ fixed (ty_of ty.now) (type_of (ty_of ty.now ∷ context_of context.old.items) (term_of body.now))) }
+    ensures ty { IfOk result
+        (λ o. option_map ty_of o ≡ fixed (ty_of ty.now) (type_of (ty_of ty.now ∷ context_of context.old.items) (term_of body.now))) }
 {
     match infer_body(alloc, context, ty, body)? {
         Some(to) => {
@@ -132,7 +136,9 @@ fn infer_app(
     a: &Term,
 ) -> Result<Option<Ty>, AllocError>
     ensures context { OnOk result (context.new.items ≡ context.old.items) }
-    ensures ty { IfOk result (λ o. option_map ty_of o ≡ applied (type_of (context_of context.old.items) (term_of f.now)) (type_of (context_of context.old.items) (term_of a.now))) }
+    ensures ty { IfOk result
+        (λ o. option_map ty_of o ≡ applied (type_of (context_of context.old.items) (term_of f.now))
+        (type_of (context_of context.old.items) (term_of a.now))) }
 {
     match infer(alloc, context, f)? {
         Some(Ty::Arrow(from, to)) => match infer(alloc, context, a)? {
@@ -157,7 +163,9 @@ fn infer_pair(
     b: &Term,
 ) -> Result<Option<Ty>, AllocError>
     ensures context { OnOk result (context.new.items ≡ context.old.items) }
-    ensures ty { IfOk result (λ o. option_map ty_of o ≡ paired (type_of (context_of context.old.items) (term_of a.now)) (type_of (context_of context.old.items) (term_of b.now))) }
+    ensures ty { IfOk result
+        (λ o. option_map ty_of o ≡ paired (type_of (context_of context.old.items) (term_of a.now))
+        (type_of (context_of context.old.items) (term_of b.now))) }
 {
     let Some(left) = infer(alloc, context, a)? else {
         return Ok(None);

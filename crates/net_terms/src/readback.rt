@@ -23,6 +23,10 @@ use std::alloc::{AllocError, Global};
 /// there is none. Where the net has n nodes, the term that is read from it is h high, and n * (2 * h + 4) is 2^32 or more, it may count
 /// as too large for memory. On a sound net the time is that of the net's size, its types included: before anything is made of the types
 /// of the term that is read, it is seen that they are those of the net.
+///
+/// # Errors
+///
+/// `AllocError` where there is no memory for the term, its types or its net, and in the case named above.
 pub fn term_within(alloc: Global, net: &Net, height: u32) -> Result<Option<Typed>, AllocError>
     requires { height ≤ most_term_height }
     ensures { IfOk result (TermOrNone height net.now) }

@@ -34,7 +34,9 @@ pub(crate) fn read(
     requires nodes { walk.old.left ≤ length net.now.nodes }
     requires levels { binders + height < 2 ^ 32 }
     ensures nodes { walk.new.left ≤ length net.now.nodes }
-    ensures term { IfOk result (λ o. Gives term_of o (reading net.now.wires height binders around place want (left net.now walk.old) walk.old.marks.items) (left net.now walk.new) walk.new.marks.items) }
+    ensures term { IfOk result
+        (λ o. Gives term_of o (reading net.now.wires height binders around place want (left net.now walk.old) walk.old.marks.items)
+        (left net.now walk.new) walk.new.marks.items) }
 {
     if height == 0 {
         return Ok(None);
@@ -70,7 +72,10 @@ fn read_boxed(
     requires nodes { walk.old.left ≤ length net.now.nodes }
     requires levels { binders + height < 2 ^ 32 }
     ensures nodes { walk.new.left ≤ length net.now.nodes }
-    ensures term { IfOk result (λ o. Gives (λ t. term_of t.value) o (reading net.now.wires height binders around place want (left net.now walk.old) walk.old.marks.items) (left net.now walk.new) walk.new.marks.items) }
+    ensures term { IfOk result
+        (λ o. Gives (λ t. term_of t.value) o
+        (reading net.now.wires height binders around place want (left net.now walk.old) walk.old.marks.items) (left net.now walk.new)
+        walk.new.marks.items) }
 {
     match read(alloc, net, walk, height, binders, around, place, want)? {
         Some(term) => Ok(Some(Box::new(alloc, term)?)),
@@ -93,7 +98,11 @@ fn begin(
     requires nodes { walk.old.left ≤ length net.now.nodes }
     requires levels { binders + suc height < 2 ^ 32 }
     ensures nodes { walk.new.left ≤ length net.now.nodes }
-    ensures term { IfOk result (λ o. Gives term_of o (met want (node ∷ left net.now walk.old) (start net.now.wires (reading net.now.wires height) binders place (node ∷ left net.now walk.old) walk.old.marks.items)) (left net.now walk.new) walk.new.marks.items) }
+    ensures term { IfOk result
+        (λ o. Gives term_of o
+        (met want (node ∷ left net.now walk.old)
+        (start net.now.wires (reading net.now.wires height) binders place (node ∷ left net.now walk.old) walk.old.marks.items))
+        (left net.now walk.new) walk.new.marks.items) }
 {
     if value_of(node) == want {
         start(alloc, net, walk, node, height, binders, place)
@@ -116,7 +125,10 @@ fn start(
     requires nodes { walk.old.left ≤ length net.now.nodes }
     requires levels { binders + suc height < 2 ^ 32 }
     ensures nodes { walk.new.left ≤ length net.now.nodes }
-    ensures term { IfOk result (λ o. Gives term_of o (start net.now.wires (reading net.now.wires height) binders place (node ∷ left net.now walk.old) walk.old.marks.items) (left net.now walk.new) walk.new.marks.items) }
+    ensures term { IfOk result
+        (λ o. Gives term_of o
+        (start net.now.wires (reading net.now.wires height) binders place (node ∷ left net.now walk.old) walk.old.marks.items)
+        (left net.now walk.new) walk.new.marks.items) }
 {
     match node {
         Node::Const { value, .. } => Ok(Some(Term::Number(value))),
@@ -271,7 +283,10 @@ fn read_one(
     requires nodes { walk.old.left ≤ length net.now.nodes }
     requires levels { binders + suc height < 2 ^ 32 }
     ensures nodes { walk.new.left ≤ length net.now.nodes }
-    ensures term { IfOk result (λ o. Gives term_of o (one (one_term form) (reading net.now.wires height binders place place operand (left net.now walk.old) walk.old.marks.items)) (left net.now walk.new) walk.new.marks.items) }
+    ensures term { IfOk result
+        (λ o. Gives term_of o
+        (one (one_term form) (reading net.now.wires height binders place place operand (left net.now walk.old) walk.old.marks.items))
+        (left net.now walk.new) walk.new.marks.items) }
 {
     match read_boxed(alloc, net, walk, height, binders, place, place, operand)? {
         Some(a) => Ok(Some(form.term(a))),
@@ -294,7 +309,11 @@ fn read_two(
     requires nodes { walk.old.left ≤ length net.now.nodes }
     requires levels { binders + suc height < 2 ^ 32 }
     ensures nodes { walk.new.left ≤ length net.now.nodes }
-    ensures term { IfOk result (λ o. Gives term_of o (two (two_term form) (reading net.now.wires height binders place place first) (reading net.now.wires height binders place place second (left net.now walk.old) walk.old.marks.items)) (left net.now walk.new) walk.new.marks.items) }
+    ensures term { IfOk result
+        (λ o. Gives term_of o
+        (two (two_term form) (reading net.now.wires height binders place place first)
+        (reading net.now.wires height binders place place second (left net.now walk.old) walk.old.marks.items)) (left net.now walk.new)
+        walk.new.marks.items) }
 {
     let Some(b) = read_boxed(alloc, net, walk, height, binders, place, place, second)? else {
         return Ok(None);
@@ -320,7 +339,11 @@ fn read_ifz(
     requires nodes { walk.old.left ≤ length net.now.nodes }
     requires levels { binders + suc height < 2 ^ 32 }
     ensures nodes { walk.new.left ≤ length net.now.nodes }
-    ensures term { IfOk result (λ o. Gives term_of o (three ifz (reading net.now.wires height binders place place test) (reading net.now.wires height binders place place then) (reading net.now.wires height binders place place otherwise (left net.now walk.old) walk.old.marks.items)) (left net.now walk.new) walk.new.marks.items) }
+    ensures term { IfOk result
+        (λ o. Gives term_of o
+        (three ifz (reading net.now.wires height binders place place test) (reading net.now.wires height binders place place then)
+        (reading net.now.wires height binders place place otherwise (left net.now walk.old) walk.old.marks.items)) (left net.now walk.new)
+        walk.new.marks.items) }
 {
     let Some(third) = read_boxed(alloc, net, walk, height, binders, place, place, otherwise)? else {
         return Ok(None);
@@ -349,7 +372,11 @@ fn read_fun(
     requires nodes { walk.old.left ≤ length net.now.nodes }
     requires levels { binders + suc height < 2 ^ 32 }
     ensures nodes { walk.new.left ≤ length net.now.nodes }
-    ensures term { IfOk result (λ o. Gives term_of o (one (lam (domain (type_at net.now.wires wire))) (reading net.now.wires height (suc binders) place place body (left net.now walk.old) (set_marked walk.old.marks.items variable binders place))) (left net.now walk.new) walk.new.marks.items) }
+    ensures term { IfOk result
+        (λ o. Gives term_of o
+        (one (lam (domain (type_at net.now.wires wire)))
+        (reading net.now.wires height (suc binders) place place body (left net.now walk.old)
+        (set_marked walk.old.marks.items variable binders place))) (left net.now walk.new) walk.new.marks.items) }
 {
     let level = binders;
     walk.set(variable, Mark { level, place });
@@ -375,7 +402,11 @@ fn read_fix(
     requires nodes { walk.old.left ≤ length net.now.nodes }
     requires levels { binders + suc height < 2 ^ 32 }
     ensures nodes { walk.new.left ≤ length net.now.nodes }
-    ensures term { IfOk result (λ o. Gives term_of o (one (fix (type_at net.now.wires wire)) (reading net.now.wires height (suc binders) place (suc wire) body (left net.now walk.old) (set_marked walk.old.marks.items variable binders (suc wire)))) (left net.now walk.new) walk.new.marks.items) }
+    ensures term { IfOk result
+        (λ o. Gives term_of o
+        (one (fix (type_at net.now.wires wire))
+        (reading net.now.wires height (suc binders) place (suc wire) body (left net.now walk.old)
+        (set_marked walk.old.marks.items variable binders (suc wire)))) (left net.now walk.new) walk.new.marks.items) }
 {
     let inner = wire as u64 + 1;
     let mark = Mark {

@@ -32,7 +32,9 @@ fn take(
     term: &Term,
 ) -> Result<bool, AllocError>
     ensures context { OnOk result (context.new.items ≡ context.old.items) }
-    ensures uses { IfOk result (λ b. ComeFirst b (using_behind net.now next.old) (used_types (context_of context.old.items) (term_of term.now)) (using_behind net.now next.new)) }
+    ensures uses { IfOk result
+        (λ b. ComeFirst b (using_behind net.now next.old) (used_types (context_of context.old.items) (term_of term.now))
+        (using_behind net.now next.new)) }
 {
     match term {
         Term::Number(_) => Ok(true),
@@ -63,7 +65,10 @@ fn take_two(
     b: &Term,
 ) -> Result<bool, AllocError>
     ensures context { OnOk result (context.new.items ≡ context.old.items) }
-    ensures uses { IfOk result (λ r. ComeFirst r (using_behind net.now next.old) (used_types (context_of context.old.items) (term_of a.now) ++ used_types (context_of context.old.items) (term_of b.now)) (using_behind net.now next.new)) }
+    ensures uses { IfOk result
+        (λ r. ComeFirst r (using_behind net.now next.old)
+        (used_types (context_of context.old.items) (term_of a.now) ++ used_types (context_of context.old.items) (term_of b.now))
+        (using_behind net.now next.new)) }
 {
     if take(alloc, net, context, next, a)? {
         Ok(take(alloc, net, context, next, b)?)
@@ -84,7 +89,11 @@ fn take_three(
     c: &Term,
 ) -> Result<bool, AllocError>
     ensures context { OnOk result (context.new.items ≡ context.old.items) }
-    ensures uses { IfOk result (λ r. ComeFirst r (using_behind net.now next.old) (used_types (context_of context.old.items) (term_of a.now) ++ (used_types (context_of context.old.items) (term_of b.now) ++ used_types (context_of context.old.items) (term_of c.now))) (using_behind net.now next.new)) }
+    ensures uses { IfOk result
+        (λ r. ComeFirst r (using_behind net.now next.old)
+        (used_types (context_of context.old.items) (term_of a.now) ++
+        (used_types (context_of context.old.items) (term_of b.now) ++ used_types (context_of context.old.items) (term_of c.now)))
+        (using_behind net.now next.new)) }
 {
     if take(alloc, net, context, next, a)? {
         Ok(take_two(alloc, net, context, next, b, c)?)
@@ -104,7 +113,9 @@ fn take_body(
     body: &Term,
 ) -> Result<bool, AllocError>
     ensures context { OnOk result (context.new.items ≡ context.old.items) }
-    ensures uses { IfOk result (λ r. ComeFirst r (using_behind net.now next.old) (used_types (ty_of ty.now ∷ context_of context.old.items) (term_of body.now)) (using_behind net.now next.new)) }
+    ensures uses { IfOk result
+        (λ r. ComeFirst r (using_behind net.now next.old) (used_types (ty_of ty.now ∷ context_of context.old.items) (term_of body.now))
+        (using_behind net.now next.new)) }
 {
     context.push(ty.copy(alloc)?)?;
     let fits = take(alloc, net, context, next, body)?;
@@ -114,7 +125,8 @@ fn take_body(
 
 /// Goes past the next use, where it is one of variable `i`.
 fn take_variable(net: &Net, context: &[Ty], next: &mut usize, i: u32) -> bool
-    ensures { ComeFirst result (using_behind net.now next.old) (type_or_nat (slice_get (context_of context.now) i) ∷ []) (using_behind net.now next.new) }
+    ensures { ComeFirst result (using_behind net.now next.old) (type_or_nat (slice_get (context_of context.now) i) ∷ [])
+        (using_behind net.now next.new) }
 {
     match next_use(net, next) {
         Some(wire) => match variable(context, i) {
@@ -127,7 +139,8 @@ fn take_variable(net: &Net, context: &[Ty], next: &mut usize, i: u32) -> bool
 
 /// The value wire of the next node that uses a variable. The walk goes on behind it.
 fn next_use(net: &Net, next: &mut usize) -> Option<u32>
-    ensures { MatchOption result (using_behind net.now next.old ≡ []) (λ w. using_behind net.now next.old ≡ type_at net.now.wires w ∷ using_behind net.now next.new) }
+    ensures { MatchOption result (using_behind net.now next.old ≡ [])
+        (λ w. using_behind net.now next.old ≡ type_at net.now.wires w ∷ using_behind net.now next.new) }
 {
     let nodes = net.nodes();
     while *next < nodes.len() {
@@ -142,7 +155,8 @@ fn next_use(net: &Net, next: &mut usize) -> Option<u32>
 
 /// The type of variable `i`, where there is one.
 fn variable(context: &[Ty], i: u32) -> Option<&Ty>
-    ensures { MatchOption result (slice_get (context_of context.now) i ≡ Option.None) (λ t. slice_get (context_of context.now) i ≡ Option.Some (ty_of t.now)) }
+    ensures { MatchOption result (slice_get (context_of context.now) i ≡ Option.None)
+        (λ t. slice_get (context_of context.now) i ≡ Option.Some (ty_of t.now)) }
 {
     let count = context.len();
     let i = i as usize;

@@ -10,5 +10,7 @@ returns-in_default c = none_read c.args.height c.args.net.now (sym c.in_ok-term.
 
 pub returns-else-branch : goal.returns-else-branch
 returns-else-branch c =
-    let e : Some (term_of c.in-Some.term) ≡ candidate c.args.height c.args.net.now = ap (option_map term_of) (sym c.in-Some.is) ∙ c.in_ok-term.ensures in
-    not_typed_or_same c.args.height c.args.net.now (term_of c.in-Some.term) (sym e) (c.in_ok-is_programs_net.ensures.other c.if-branch.false)
+    let e : Some (term_of c.in-Some.term) ≡ candidate c.args.height c.args.net.now =
+    ap (option_map term_of) (sym c.in-Some.is) ∙ c.in_ok-term.ensures in
+    not_typed_or_same c.args.height c.args.net.now (term_of c.in-Some.term) (sym e)
+    (c.in_ok-is_programs_net.ensures.other c.if-branch.false)

@@ -3,4 +3,5 @@ use Rattle.net_terms.proofs.Walking.{comes}
 use Rattle.net_terms.proofs.walk.next.Goals as goal
 
 pub returns-clause-node : goal.returns-clause-node
-returns-clause-node c = comes c.args.net.now.nodes c.args.walk.now.left c.node-node.result (omega (arith, c.if-walk-eq0.false)) c.requires c.node-node.ensures
+returns-clause-node c =
+    comes c.args.net.now.nodes c.args.walk.now.left c.node-node.result (omega (arith, c.if-walk-eq0.false)) c.requires c.node-node.ensures

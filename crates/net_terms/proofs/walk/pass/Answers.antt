@@ -14,7 +14,8 @@ loop-walk-preserved c =
     let new = c.pass_one.new.walk.marks.items in (
       omega (arith, c.pass_one.ensures.left, c.loop-walk.invariant.0),
       ap (λ k. pass outer inner want (reverse (take (k - 1) ns)) new) c.pass_one.ensures.left
-          ∙ passed_on c.loop-walk.outer c.loop-walk.inner c.loop-walk.next (outer, inner, want) c.in-Some.node (reverse (take k ns)) (reverse (take (k - 1) ns)) c.loop-walk.walk.marks.items new here c.in-Some-pass_one.ensures.passed
+          ∙ passed_on c.loop-walk.outer c.loop-walk.inner c.loop-walk.next (outer, inner, want) c.in-Some.node (reverse (take k ns))
+          (reverse (take (k - 1) ns)) c.loop-walk.walk.marks.items new here c.in-Some-pass_one.ensures.passed
           ∙ c.loop-walk.invariant.1,
     )
 
@@ -25,5 +26,6 @@ returns-in-None-clause-passed c =
     let here = comes ns k (Some c.in-Some.node) (omega (arith, c.loop-walk-test.true)) c.loop-walk.invariant.0 c.in-Some.ensures in
     let new = c.pass_one.new.walk.marks.items in
     sym c.loop-walk.invariant.1
-    ∙ stays c.loop-walk.outer c.loop-walk.inner c.loop-walk.next c.in-Some.node (reverse (take k ns)) (reverse (take (k - 1) ns)) c.loop-walk.walk.marks.items new here c.in-None.ensures.passed
+    ∙ stays c.loop-walk.outer c.loop-walk.inner c.loop-walk.next c.in-Some.node (reverse (take k ns)) (reverse (take (k - 1) ns))
+    c.loop-walk.walk.marks.items new here c.in-None.ensures.passed
     ∙ ap (λ k. rest c.loop-walk.inner c.loop-walk.next (reverse (take k ns)) new) (sym c.pass_one.ensures.left)
