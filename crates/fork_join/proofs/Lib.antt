@@ -1,2 +1,6 @@
+-- the keys of entries: their test and their order
 pub mod Keys
+-- the map of maps and the finite map answer alike, and change alike
 mod Nesting
+-- the two have the same entries in the same order
+mod Rising

@@ -12,11 +12,14 @@ use std::alloc::{AllocError, Global};
 use std::collections::BTreeMap;
 use token_stacks::BoxStack;
 
-// What an open fork has kept.
+/// What an open fork has kept.
 #[derive(Clone, Copy, PartialEq, Eq)]
-pub(crate) enum Kept {
+pub enum Kept {
+    /// No answer came yet.
     Nothing,
+    /// The left operand's value.
     Left(Val),
+    /// The right operand's value.
     Right(Val),
 }
 

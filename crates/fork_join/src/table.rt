@@ -1,11 +1,13 @@
 // The table of open forks.
-ghost use Rattle.std.specs.Prelude.{◌≡◌, None, OnOk, OnErr};
-ghost use Rattle.std.specs.FinMap.{empty, get, insert};
+ghost use Rattle.std.specs.Prelude.{◌≡◌, None, OnOk, OnErr, IfOk, map};
+ghost use Rattle.std.specs.FinMap.{empty, entries, get, insert};
 ghost use Rattle.fork_join.specs.Entries.{pending};
 ghost use Rattle.fork_join.specs.Arrivals.{side_of, IsOpenFor, arrival, after_arrival};
+ghost use Rattle.fork_join.specs.Listed.{open_of};
 
 use crate::forks::{Nodes, arrive_in, begin_in};
-use crate::{Arrived, Side};
+use crate::listing::list_nodes;
+use crate::{Arrived, Open, Side};
 use pcf_values::Val;
 use std::alloc::{AllocError, Global};
 use std::collections::BTreeMap;
@@ -48,6 +50,18 @@ impl JoinTable {
             alloc,
             nodes: BTreeMap::new(alloc),
         }
+    }
+
+    /// The open entries, in the order of their keys: by node, and then by box stack. It takes a number of steps and an amount of memory that
+    /// grow with the number of entries, and of nodes that ever forked.
+    ///
+    /// # Errors
+    ///
+    /// The list runs out of memory.
+    pub fn entries(&self) -> Result<Vec<Open<'_>>, AllocError>
+        ensures { IfOk result (λ list. map open_of list.items ≡ entries self.now) }
+    {
+        list_nodes(self.alloc, &self.nodes)
     }
 
     /// Opens the entry of a node and a box stack, which isn't there yet, with nothing kept. All other entries stay.
