@@ -30,14 +30,20 @@ pub(crate) fn go(net: &Net, core: &mut Core, moves: u32, ticket: u32) -> Result<
     }
 }
 
-/// Whether the step has this name: `forked:` has its new ticket behind it, and `answered:` the answer.
+/// Whether these are the two numbers of a text, which stand there with a comma between them.
+fn are(left: Val, right: Val, text: &str) -> bool {
+    let (a, b) = cut(text, ',');
+    left == Val::Number(number(a) as u64) && right == Val::Number(number(b) as u64)
+}
+
+/// Whether the step has this name: `forked:` has its new ticket behind it, `joined:` both operands' values, and `answered:` the answer.
 fn is_named(stepped: Stepped, name: &str) -> bool {
     let (word, told) = cut(name, ':');
     match stepped {
         Stepped::Went => word == "went",
         Stepped::Forked(ticket) => word == "forked" && ticket == number(told),
         Stepped::Kept => word == "kept",
-        Stepped::Joined => word == "joined",
+        Stepped::Joined(left, right) => word == "joined" && are(left, right, told),
         Stepped::Answered(v) => word == "answered" && v == Val::Number(number(told) as u64),
     }
 }

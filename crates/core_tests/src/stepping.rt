@@ -40,7 +40,7 @@ live 0 1
 1 kept
 live 0
 0 went 1 0 down
-0 joined 3 2 down
+0 joined:1,2 3 2 down
 0 answered:3
 ";
     assert!(rt; plays(rt.alloc(), "1 + 2", rows, 3)?);
@@ -49,7 +49,7 @@ live 0
 1 went 7 1 down
 1 kept
 0 went 5 0 down
-0 joined 0 2 down
+0 joined:5,7 0 2 down
 0 answered:0
 ";
     assert!(rt; plays(rt.alloc(), "5 - 7", rows, 0)?);
@@ -88,7 +88,7 @@ live 1
 1 went 3 4 up * r
 1 went 3 3 up *
 1 went 3 2 down
-1 joined 6 5 down
+1 joined:3,3 6 5 down
 1 went 6 6 down R
 1 went 6 9 down
 1 answered:6

@@ -130,11 +130,13 @@ module _ (net : NetTree) (f : FinMap nat_cmp TokenTree) (g : FinMap key_cmp Entr
     join_is t (Some (has_right w)) Right op u c h = elim h [ ]
 
     -- and its name
-    join_name_is : (o : Option Entry) (p : Side) → IsOpenFor o (side_of p) → name_at o ≡ Some (joined_name (arrival o))
-    join_name_is None p h = elim h [ ]
-    join_name_is (Some pending) p h = refl
-    join_name_is (Some (has_left w)) p h = refl
-    join_name_is (Some (has_right w)) p h = refl
+    join_name_is : (o : Option Entry) (p : Side) (u : Val) → IsOpenFor o (side_of p) → name_at o u ≡ Some (joined_name (arrival o) p u)
+    join_name_is None p u h = elim h [ ]
+    join_name_is (Some pending) p u h = refl
+    join_name_is (Some (has_left w)) Left u h = elim h [ ]
+    join_name_is (Some (has_left w)) Right u h = refl
+    join_name_is (Some (has_right w)) Left u h = refl
+    join_name_is (Some (has_right w)) Right u h = elim h [ ]
 
     module _ (op : Operator) (p : Side) (u : Val) (c : ℕ) (met : MetAt net f i k (Join op p u c)) (t : Boxes) (has : HasBoxes f i t) where
       join_move : (x : TokenTree) → get f i ≡ Some x → move net x ≡ role_move (Join op p u c) k (boxes_at (place_of x)) → move net x ≡ join k (op_of op) (side_of p) u c t
@@ -147,12 +149,12 @@ module _ (net : NetTree) (f : FinMap nat_cmp TokenTree) (g : FinMap key_cmp Entr
           let waits = join_able t (get g (k, t)) p op u c (subst IsSome steps able) in
           steps ∙ join_is t (get g (k, t)) p op u c waits ∙ (λ j. Some (state (sym hf j) (sym hg j) n v))
 
-      pub join_name : step_name net (state f g n v) i ≡ Some (joined_name (arrival (get g (k, t))))
+      pub join_name : step_name net (state f g n v) i ≡ Some (joined_name (arrival (get g (k, t))) p u)
       join_name =
           let (x, e, h, w) = met in
           let steps = acts x _ e (join_move x e h) in
           let waits = join_able t (get g (k, t)) p op u c (subst IsSome steps able) in
-          named x _ e (join_move x e h) ∙ join_name_is (get g (k, t)) p waits
+          named x _ e (join_move x e h) ∙ join_name_is (get g (k, t)) p u waits
 
   -- the answer
   pub last_steps : (k : ℕ) (u : Val) (f' : FinMap nat_cmp TokenTree) → MetAt net f i k (Last u) → f' ≡ remove f i → step_map net (state f g n v) i ≡ Some (state f' g n (Some u))

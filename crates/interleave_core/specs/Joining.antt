@@ -17,20 +17,24 @@ use Rattle.interleave_core.specs.declared.stepped.Stepped.{Stepped}
 use Rattle.interleave_core.specs.declared.stepped.Stepped.TheVariants.{Kept, Joined}
 use Rattle.interleave_core.specs.Roles.{op_of}
 
--- what the operator comes to, where this side has v and the other side has w
+-- the left and the right value, where this side has v and the other side has w
+abbrev pub both_of : Side → Val → Val → Val × Val
+both_of Left v w = (v, w)
+both_of Right v w = (w, v)
+
+-- what the operator comes to
 abbrev pub op_value : Operator → Side → Val → Val → Val
-op_value o Left v w = val_op (op_of o) v w
-op_value o Right v w = val_op (op_of o) w v
+op_value o p v w = val_op (op_of o) (both_of p v w).0 (both_of p v w).1
 
 -- the tokens after an answer arrived
 abbrev pub joined_tokens : Arrived → FinMap nat_cmp TokenTree → ℕ → Operator → Side → Val → ℕ → Boxes → FinMap nat_cmp TokenTree
 joined_tokens First f i o p v c t = remove f i
 joined_tokens (Both w) f i o p v c t = insert f i (ans (op_value o p v w) (down c [] t))
 
--- the name of such a step
-abbrev pub joined_name : Arrived → Stepped
-joined_name First = Kept
-joined_name (Both w) = Joined
+-- the name of such a step, where v came to this side
+abbrev pub joined_name : Arrived → Side → Val → Stepped
+joined_name First p v = Kept
+joined_name (Both w) p v = Joined (both_of p v w).0 (both_of p v w).1
 
 -- tokens and entries after a join at node k and the box stack t
 abbrev pub JoinsAt : (f f' : FinMap nat_cmp TokenTree) (g g' : FinMap key_cmp Entry) (i k : ℕ) → Operator → Side → Val → ℕ → Boxes → Type 0

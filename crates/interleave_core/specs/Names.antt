@@ -3,6 +3,7 @@
 -- move, or a join finds no entry.
 use Rattle.std.specs.Prelude.{ℕ, Option, Some, None}
 use Rattle.std.specs.FinMap.{get}
+use Rattle.pcf_values.specs.declared.val.Val.{Val}
 use Rattle.net_build.specs.Nets.{NetTree}
 use Rattle.fork_join.specs.Entries.{Entry, pending, has_left, has_right}
 use Rattle.move_rules.specs.Places.{TokenTree}
@@ -11,18 +12,18 @@ use Rattle.interleave_core.specs.declared.stepped.Stepped.{Stepped}
 use Rattle.interleave_core.specs.declared.stepped.Stepped.TheVariants.{Went, Forked, Kept, Joined, Answered}
 use Rattle.interleave_laws.specs.Maps.{MapState}
 
--- at a join: the first answer of an entry is kept, and the second one goes on
-abbrev pub name_at : Option Entry → Option Stepped
-name_at None = None
-name_at (Some pending) = Some Kept
-name_at (Some (has_left v)) = Some Joined
-name_at (Some (has_right v)) = Some Joined
+-- at a join to which v came: the first answer of an entry is kept, and the second one goes on; it tells the left and the right value
+abbrev pub name_at : Option Entry → Val → Option Stepped
+name_at None v = None
+name_at (Some pending) v = Some Kept
+name_at (Some (has_left w)) v = Some (Joined w v)
+name_at (Some (has_right w)) v = Some (Joined v w)
 
 -- the name of a move in a state; a fork tells its new ticket
 abbrev pub name_of : Move → MapState → Option Stepped
 name_of (solo n x) S = Some Went
 name_of (fork n l r t) S = Some (Forked S.next)
-name_of (join n o s v w t) S = name_at (get S.entries (n, t))
+name_of (join n o s v w t) S = name_at (get S.entries (n, t)) v
 name_of (answer v) S = Some (Answered v)
 name_of stay S = None
 
@@ -41,5 +42,5 @@ MayTake None = ⊥
 MayTake (Some Went) = Unit {0}
 MayTake (Some (Forked n)) = Unit {0}
 MayTake (Some Kept) = ⊥
-MayTake (Some Joined) = ⊥
+MayTake (Some (Joined v w)) = ⊥
 MayTake (Some (Answered v)) = ⊥

@@ -1,10 +1,12 @@
 // Joins.
 ghost use Rattle.std.specs.Prelude.{◌≡◌};
 ghost use Rattle.std.specs.FinMap.{get};
+ghost use Rattle.pcf_values.specs.Values.{val_op};
 ghost use Rattle.token_stacks.specs.Signatures.{Boxes};
 ghost use Rattle.fork_join.specs.Arrivals.{side_of, IsOpenFor, arrival, after_arrival};
 ghost use Rattle.interleave_core.specs.Forking.{HasBoxes};
-ghost use Rattle.interleave_core.specs.Joining.{op_value, joined_name, JoinsAt};
+ghost use Rattle.interleave_core.specs.Joining.{both_of, joined_name, JoinsAt};
+ghost use Rattle.interleave_core.specs.Roles.{op_of};
 
 use crate::Stepped;
 use crate::live::LiveTokens;
@@ -13,14 +15,20 @@ use fork_join::{Arrived, JoinTable, Side};
 use move_rules::Kind;
 use pcf_values::Val;
 
-// The operator's value, where this side has v and the other side has w.
-fn value(operator: Operator, side: Side, v: Val, w: Val) -> Val
-    ensures { result ≡ op_value operator side v w }
+// The left and the right value, where this side has v and the other side has w.
+fn both(side: Side, v: Val, w: Val) -> (Val, Val)
+    ensures { result ≡ both_of side v w }
 {
-    let (left, right) = match side {
+    match side {
         Side::Left => (v, w),
         Side::Right => (w, v),
-    };
+    }
+}
+
+// The operator's value.
+fn value(operator: Operator, left: Val, right: Val) -> Val
+    ensures { result ≡ val_op (op_of operator) left right }
+{
     match operator {
         Operator::Plus => left.plus(right),
         Operator::Minus => left.minus(right),
@@ -59,7 +67,7 @@ pub(crate) fn join(
     c: u32,
 ) -> Stepped
     requires stands { (t : Boxes) × HasBoxes live.old ticket t × IsOpenFor (get joins.old (at, t)) (side_of side) }
-    ensures { (t : Boxes) × HasBoxes live.old ticket t × JoinsAt live.old live.new joins.old joins.new ticket at operator side v c t × (result ≡ joined_name (arrival (get joins.old (at, t)))) }
+    ensures { (t : Boxes) × HasBoxes live.old ticket t × JoinsAt live.old live.new joins.old joins.new ticket at operator side v c t × (result ≡ joined_name (arrival (get joins.old (at, t))) side v) }
 {
     match arrive(live, joins, ticket, at, side, v) {
         Arrived::First => {
@@ -67,8 +75,9 @@ pub(crate) fn join(
             Stepped::Kept
         }
         Arrived::Both(w) => {
-            live.send(ticket, c, false, Kind::Ans(value(operator, side, v, w)));
-            Stepped::Joined
+            let (left, right) = both(side, v, w);
+            live.send(ticket, c, false, Kind::Ans(value(operator, left, right)));
+            Stepped::Joined(left, right)
         }
     }
 }

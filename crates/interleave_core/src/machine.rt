@@ -1,8 +1,9 @@
 // The machine's state, and its steps.
-ghost use Rattle.std.specs.Prelude.{◌≡◌, ◌↔◌, replicate, Some, OnOk, OnErr, IfOk, IsSome, IfSome, IfNone, IsTrue, length};
+ghost use Rattle.std.specs.Prelude.{◌≡◌, ◌↔◌, map, replicate, Some, OnOk, OnErr, IfOk, IsSome, IfSome, IfNone, IsTrue, length};
 ghost use Rattle.std.specs.Option.{option_map, option_copied, MatchOption};
-ghost use Rattle.std.specs.FinMap.{get, len};
+ghost use Rattle.std.specs.FinMap.{entries, get, len};
 ghost use Rattle.pcf_values.specs.Most.{most_budget};
+ghost use Rattle.fork_join.specs.Listed.{open_of};
 ghost use Rattle.net_build.specs.Sound.{Sound};
 ghost use Rattle.move_rules.specs.Views.{token_of};
 ghost use Rattle.interleave_laws.specs.Start.{start_of};
@@ -16,6 +17,7 @@ use crate::Stepped;
 use crate::acting::step_in;
 use crate::adopting::adopt_in;
 use crate::parts::{Parts, begin};
+use fork_join::Open;
 use move_rules::{Moved, Token};
 use net_build::Net;
 use pcf_values::Val;
@@ -86,18 +88,23 @@ impl Core {
         count as u32
     }
 
-    /// The ticket that the next fork gives out. Takes no memory.
-    pub fn next_ticket(&self) -> u32
-        ensures { result ≡ self.now.next }
-    {
-        self.parts.next
-    }
-
     /// The token of a ticket, and `None` exactly where the ticket isn't live. Takes no memory.
     pub fn token(&self, ticket: u32) -> Option<&Token>
         ensures { option_map token_of (option_copied result) ≡ get self.now.tokens ticket }
     {
         self.parts.live.get(ticket)
+    }
+
+    /// The open entries, in the order of their keys: by node, and then by box stack. It takes a number of steps and an amount of memory that
+    /// grow with the number of entries, and of nodes that ever forked.
+    ///
+    /// # Errors
+    ///
+    /// The list runs out of memory.
+    pub fn open_entries(&self) -> Result<Vec<Open<'_>>, AllocError>
+        ensures { IfOk result (λ list. map open_of list.items ≡ entries self.now.entries) }
+    {
+        self.parts.joins.entries()
     }
 
     /// The answer, and `None` exactly where it didn't come yet. Takes no memory.

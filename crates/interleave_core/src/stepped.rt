@@ -10,8 +10,8 @@ pub enum Stepped {
     Forked(u32),
     /// Its answer was the first of its fork and was kept, and the ticket ended.
     Kept,
-    /// Its answer was the second of its fork, and it went on with what both come to.
-    Joined,
+    /// Its answer was the second of its fork, and it went on with what both come to. The values are the left and the right operand's.
+    Joined(Val, Val),
     /// It brought the run's answer, and ended.
     Answered(Val),
 }
