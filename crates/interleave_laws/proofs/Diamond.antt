@@ -79,26 +79,26 @@ born (opens n s l r) = Some (ask r)
 born _ = None
 
 module _ (S : State) (i : ℕ) where
-  tokens_self : (e : Effect) → (i ≡ S.next → ⊥) → on_tokens e i S.next S.tokens i ≡ self e
+  pub tokens_self : (e : Effect) → (i ≡ S.next → ⊥) → on_tokens e i S.next S.tokens i ≡ self e
   tokens_self (turn x) d = ap (λ b. cond b (Some x) (S.tokens i)) (eq-eqb i i refl)
   tokens_self (opens n s l r) d = ap (λ b. cond b (Some (ask r)) (if nat_eq i i then Some (ask l) else S.tokens i)) (ne_eqb i S.next d) ∙ ap (λ b. cond b (Some (ask l)) (S.tokens i)) (eq-eqb i i refl)
   tokens_self (keeps n s e) d = ap (λ b. cond b None (S.tokens i)) (eq-eqb i i refl)
   tokens_self (closes n s x) d = ap (λ b. cond b (Some x) (S.tokens i)) (eq-eqb i i refl)
 
-  tokens_born : (e : Effect) (x : TokenTree) → born e ≡ Some x → on_tokens e i S.next S.tokens S.next ≡ Some x
+  pub tokens_born : (e : Effect) (x : TokenTree) → born e ≡ Some x → on_tokens e i S.next S.tokens S.next ≡ Some x
   tokens_born (turn y) x h = cc
   tokens_born (opens n s l r) x h = ap (λ b. cond b (Some (ask r)) (if nat_eq S.next i then Some (ask l) else S.tokens S.next)) (eq-eqb S.next S.next refl) ∙ h
   tokens_born (keeps n s e) x h = cc
   tokens_born (closes n s y) x h = cc
 
-  tokens_other : (e : Effect) (j : ℕ) → (j ≡ i → ⊥) → (j ≡ S.next → ⊥) → on_tokens e i S.next S.tokens j ≡ S.tokens j
+  pub tokens_other : (e : Effect) (j : ℕ) → (j ≡ i → ⊥) → (j ≡ S.next → ⊥) → on_tokens e i S.next S.tokens j ≡ S.tokens j
   tokens_other (turn x) j d d' = ap (λ b. cond b (Some x) (S.tokens j)) (ne_eqb j i d)
   tokens_other (opens n s l r) j d d' = ap (λ b. cond b (Some (ask r)) (if nat_eq j i then Some (ask l) else S.tokens j)) (ne_eqb j S.next d') ∙ ap (λ b. cond b (Some (ask l)) (S.tokens j)) (ne_eqb j i d)
   tokens_other (keeps n s e) j d d' = ap (λ b. cond b None (S.tokens j)) (ne_eqb j i d)
   tokens_other (closes n s x) j d d' = ap (λ b. cond b (Some x) (S.tokens j)) (ne_eqb j i d)
 
   -- where a token of the state after comes from
-  tokens_from : (e : Effect) (j : ℕ) (x : TokenTree) → on_tokens e i S.next S.tokens j ≡ Some x → ((j ≡ i) × (self e ≡ Some x)) ⊎ (((j ≡ S.next) × (born e ≡ Some x)) ⊎ ((j ≡ i → ⊥) × (S.tokens j ≡ Some x)))
+  pub tokens_from : (e : Effect) (j : ℕ) (x : TokenTree) → on_tokens e i S.next S.tokens j ≡ Some x → ((j ≡ i) × (self e ≡ Some x)) ⊎ (((j ≡ S.next) × (born e ≡ Some x)) ⊎ ((j ≡ i → ⊥) × (S.tokens j ≡ Some x)))
   tokens_from (turn y) j x = go (nat_eq j i) refl
     where
       go : (b : Bool) → nat_eq j i ≡ b → cond b (Some y) (S.tokens j) ≡ Some x → ((j ≡ i) × (Some y ≡ Some x)) ⊎ (((j ≡ S.next) × (None ≡ Some x)) ⊎ ((j ≡ i → ⊥) × (S.tokens j ≡ Some x)))

@@ -13,6 +13,7 @@ pub mod Others
 pub mod Once
 pub mod Opened
 pub mod Diamond
+pub mod AnyOrder
 pub mod OneWorker
 pub mod Seen
 pub mod MapLaws

@@ -10,6 +10,7 @@ pub mod Tickets
 -- the laws, each file with its statements
 pub mod Progress
 pub mod Diamond
+pub mod AnyOrder
 pub mod OneWorkerLaws
 pub mod TrailLaws
 pub mod MapLaws

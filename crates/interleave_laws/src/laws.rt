@@ -2,6 +2,7 @@
 ghost use Rattle.interleave_laws.specs.Example.{ExampleOne, ExampleAnswer, ExampleOther};
 ghost use Rattle.interleave_laws.specs.Progress.{OnePlace, AskedOnce, OpenedOnce, HasStep, AnsweredEnds, IdleAnswered, OthersStay};
 ghost use Rattle.interleave_laws.specs.Diamond.{Diamond};
+ghost use Rattle.interleave_laws.specs.AnyOrder.{AlikeSteps, AlikeRuns, AnyOrder};
 ghost use Rattle.interleave_laws.specs.OneWorkerLaws.{OneIsLeast, OneLeads, OneFinished, OnePrefix, OneNext, OneContinues, OneEnds};
 ghost use Rattle.interleave_laws.specs.OneWorkerLaws.{OneFinishes, LeastStays, OneWalks, SearchFinds, SearchMisses};
 ghost use Rattle.interleave_laws.specs.TrailLaws.{WalkSteps, WalkStepsMap, TrailStepsMap};
@@ -25,6 +26,14 @@ pub fn law_progress()
 /// Two live tickets may move in either order, and the states without their tickets are one.
 pub fn law_diamond()
     ensures { Diamond }
+{}
+
+/// States that are alike but for their tickets go on alike, by a step and by a whole run. So two moves of different tickets can be exchanged
+/// at any place in a run, and the rest of the run is there again, under other tickets.
+pub fn law_any_order()
+    ensures steps { AlikeSteps }
+    ensures runs { AlikeRuns }
+    ensures order { AnyOrder }
 {}
 
 /// The one worker's log names the least live ticket at each place and is finished within its budget; a ticket that is the least may be

@@ -9,5 +9,6 @@
 mod laws;
 
 pub use laws::{
-    law_diamond, law_example_runs, law_maps, law_one_worker, law_progress, law_trail_steps,
+    law_any_order, law_diamond, law_example_runs, law_maps, law_one_worker, law_progress,
+    law_trail_steps,
 };
