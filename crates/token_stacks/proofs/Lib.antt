@@ -8,3 +8,9 @@ pub mod WorkSteps
 pub mod BoxSteps
 -- Words tell stacks apart, and so does their order: what the two laws cite.
 pub mod WordLaws
+-- Texts of signatures: what the last word says of how the text begins, and what is put down meanwhile.
+pub mod Said
+pub mod Pieces
+-- Texts of stacks: the symbol on top by the last words, and the parts one after another.
+pub mod Stacking
+pub mod Writing

@@ -3,6 +3,7 @@
 pub mod Signatures
 pub mod Rows
 pub mod Words
+pub mod Texts
 pub mod Order
 pub mod Laws
 -- How the logic stores signatures and stacks, so that models can have them. It says nothing of them.
@@ -11,3 +12,4 @@ pub mod Codes
 pub mod Reading
 pub mod Tops
 pub mod Parts
+pub mod Printing
