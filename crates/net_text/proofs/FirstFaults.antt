@@ -1,18 +1,21 @@
 -- The reading of the lines answers the first one that can't stand.
-use Rattle.std.proofs.Common.{◌≡◌, ◌⊎◌, ℕ, zero, suc, ◌+◌, ◌^◌, ◌<◌, ◌≤◌, Bool, true, false, ◌&&◌, List, [], ◌∷◌, ◌++◌, length, take, Option, Some, None, Ok, Err, refl, sym, ap, ◌∙◌, subst, inl, inr, arith}
+use Rattle.std.proofs.Common.{◌≡◌, ◌⊎◌, ℕ, zero, suc, ◌+◌, ◌^◌, ◌<◌, ◌≤◌, Bool, true, false, ◌&&◌, List, [], ◌∷◌, ◌++◌, length, take}
+use Rattle.std.proofs.Common.{Option, Some, None, Ok, Err, refl, sym, ap, ◌∙◌, subst, inl, inr, arith}
 use Rattle.std.specs.Prelude.{Result, nat_lt, nat_le, if◌then◌else◌}
 use Rattle.std.specs.Str.{bytes_eq}
 use Rattle.std.proofs.lemmas.Bool.{lt-ltb, ltb-true, le-leb, leb-true, and_parts, and_from}
 use Rattle.std.proofs.lemmas.Slice.Eq.{bytes_eq-Decides}
 use Rattle.net_build.specs.declared.node.Node.{Node}
-use Rattle.net_build.specs.declared.node.Node.TheVariants.{Const, Succ, Pred, Plus, Minus, Times, Ifz, Der, Con, Weak, Lam, App, BoxNode, Door, FixBox, Root, Pair, Fst, Snd}
+use Rattle.net_build.specs.declared.node.Node.TheVariants.{Const, Succ, Pred, Plus, Minus, Times, Ifz, Der, Con, Weak, Lam, App, BoxNode}
+use Rattle.net_build.specs.declared.node.Node.TheVariants.{Door, FixBox, Root, Pair, Fst, Snd}
 use Rattle.net_build.specs.Nets.{WireTree, NetTree}
 use Rattle.net_text.specs.Listing.{wire_line, node_line, numbers_of}
 use Rattle.net_text.specs.NetText.{numbered, NodeFits, NodesFit, WiresFit, Small, ty_height}
 use Rattle.net_text.specs.Standing.{last_line, NodesStand, WiresStand}
 use Rattle.net_text.specs.WireText.{wire_in}
 use Rattle.net_text.specs.NodeText.{all_small, node_fits, node_in}
-use Rattle.net_text.specs.FirstFault.{if_right, checked_node, node_at, wire_fits, checked_wire, wire_at, ended, with_node, and_nodes, nodes_from, no_wires, with_wire, and_wires, wires_from}
+use Rattle.net_text.specs.FirstFault.{if_right, checked_node, node_at, wire_fits, checked_wire, wire_at, ended, with_node, and_nodes}
+use Rattle.net_text.specs.FirstFault.{nodes_from, no_wires, with_wire, and_wires, wires_from}
 use Rattle.net_text.proofs.NodesRead.{node_read}
 use Rattle.net_text.proofs.WiresRead.{wire_read}
 
@@ -98,19 +101,26 @@ is_node k l x e f =
     ∙ ap (λ b. if_right b x) (and_from (bytes_eq l (node_line k x)) (node_fits x) (is_same l (node_line k x) e) (is_fits x f))
 
 -- a line that is taken for a wire's is that wire's
-pub wire_is : (h k : ℕ) (l : List ℕ) (o : Option WireTree) (w : WireTree) → checked_wire h k l o ≡ Some w → (l ≡ wire_line k w) × (w.depth < 2 ^ 32) × (ty_height w.type ≤ h)
+pub wire_is : (h k : ℕ) (l : List ℕ) (o : Option WireTree) (w : WireTree) → checked_wire h k l o ≡ Some w
+    → (l ≡ wire_line k w) × (w.depth < 2 ^ 32) × (ty_height w.type ≤ h)
 wire_is h k l None w e = cc
 wire_is h k l (Some y) w e =
     let (p, q) = right_parts (bytes_eq l (wire_line k y) && wire_fits h y) y w e in
     let (u, v) = and_parts (bytes_eq l (wire_line k y)) (wire_fits h y) p in
-    let (a, b) = and_parts (nat_lt y.depth (2 ^ 32)) (nat_le (ty_height y.type) h) v in
-    (same_is l (wire_line k y) u ∙ ap (wire_line k) q, subst (λ (w : WireTree). w.depth < 2 ^ 32) q (ltb-true y.depth (2 ^ 32) a), subst (λ (w : WireTree). ty_height w.type ≤ h) q (leb-true (ty_height y.type) h b))
+    let (a, b) = and_parts (nat_lt y.depth (2 ^ 32)) (nat_le (ty_height y.type) h) v in (
+      same_is l (wire_line k y) u
+          ∙ ap (wire_line k) q,
+      subst (λ (w : WireTree). w.depth < 2 ^ 32) q (ltb-true y.depth (2 ^ 32) a),
+      subst (λ (w : WireTree). ty_height w.type ≤ h) q (leb-true (ty_height y.type) h b),
+    )
 
 -- a wire's line is taken for it
 pub is_wire : (h k : ℕ) (l : List ℕ) (w : WireTree) → l ≡ wire_line k w → w.depth < 2 ^ 32 → ty_height w.type ≤ h → wire_at h k l ≡ Some w
 is_wire h k l w e a b =
     ap (λ z. checked_wire h k l (wire_in h k z)) e ∙ ap (checked_wire h k l) (wire_read h k w (omega (arith, a)) b)
-    ∙ ap (λ b. if_right b w) (and_from (bytes_eq l (wire_line k w)) (wire_fits h w) (is_same l (wire_line k w) e) (and_from (nat_lt w.depth (2 ^ 32)) (nat_le (ty_height w.type) h) (lt-ltb w.depth (2 ^ 32) a) (le-leb (ty_height w.type) h b)))
+    ∙ ap (λ b. if_right b w)
+    (and_from (bytes_eq l (wire_line k w)) (wire_fits h w) (is_same l (wire_line k w) e)
+    (and_from (nat_lt w.depth (2 ^ 32)) (nat_le (ty_height w.type) h) (lt-ltb w.depth (2 ^ 32) a) (le-leb (ty_height w.type) h b)))
 
 -- the first bad line of lines that begin with line n: m is its number; Stand is what the lines before it are, Whole what all would be
 pub record Bad (Stand : List (List ℕ) → Type 0) (Whole : List (List ℕ) → Type 0) (n m : ℕ) (ls : List (List ℕ)) : Type 0 where
@@ -152,10 +162,18 @@ no_lines k (x ∷ ns) h = cc
 
 -- no line is left
 none_bad : (k n m : ℕ) → m ≡ n → Bad (NodesStand k) (NodesWhole k) n m []
-none_bad k n m e = record { good = 0; at = omega (arith, e); few = omega arith; before = tt; there = λ u s. absurd (omega (arith, u)); behind = λ u w. no_lines k w.nodes w.are }
+none_bad k n m e = record {
+  good = 0;
+  at = omega (arith, e);
+  few = omega arith;
+  before = tt;
+  there = λ u s. absurd (omega (arith, u));
+  behind = λ u w. no_lines k w.nodes w.are;
+}
 
 -- this line is no node's and not the last
-line_bad : (k n m : ℕ) (l : List ℕ) (ls : List (List ℕ)) → m ≡ n → ((x : Node) → NodeFits x → l ≡ node_line k x → ⊥) → (l ≡ last_line → ⊥) → Bad (NodesStand k) (NodesWhole k) n m (l ∷ ls)
+line_bad : (k n m : ℕ) (l : List ℕ) (ls : List (List ℕ)) → m ≡ n → ((x : Node) → NodeFits x → l ≡ node_line k x → ⊥) → (l ≡ last_line → ⊥)
+    → Bad (NodesStand k) (NodesWhole k) n m (l ∷ ls)
 line_bad k n m l ls e p q = record {
   good = 0;
   at = omega (arith, e);
@@ -166,7 +184,8 @@ line_bad k n m l ls e p q = record {
 }
 
 -- a line behind the last
-behind_bad : (k n m : ℕ) (l l' : List ℕ) (ls : List (List ℕ)) → m ≡ suc n → l ≡ last_line → Bad (NodesStand k) (NodesWhole k) n m (l ∷ l' ∷ ls)
+behind_bad : (k n m : ℕ) (l l' : List ℕ) (ls : List (List ℕ)) → m ≡ suc n → l ≡ last_line
+    → Bad (NodesStand k) (NodesWhole k) n m (l ∷ l' ∷ ls)
 behind_bad k n m l l' ls e f = record {
   good = 1;
   at = omega (arith, e);
@@ -185,12 +204,18 @@ pub others_are : (k l : List ℕ) (ks ls : List (List ℕ)) → k ∷ ks ≡ l �
 others_are k l ks ls h = cc
 
 -- the lines behind a node's are those of the other nodes
-rest_whole : (k : ℕ) (l : List ℕ) (ls : List (List ℕ)) (ns : List Node) → NodesFit ns → numbered node_line k ns ++ last_line ∷ [] ≡ l ∷ ls → (l ≡ last_line → ⊥) → NodesWhole (suc k) ls
+rest_whole : (k : ℕ) (l : List ℕ) (ls : List (List ℕ)) (ns : List Node) → NodesFit ns → numbered node_line k ns ++ last_line ∷ [] ≡ l ∷ ls
+    → (l ≡ last_line → ⊥) → NodesWhole (suc k) ls
 rest_whole k l ls [] f h q = absurd (q (first_is last_line l [] ls h))
-rest_whole k l ls (x ∷ ns) f h q = record { nodes = ns; fit = f.1; are = others_are (node_line k x) l (numbered node_line (suc k) ns ++ last_line ∷ []) ls h }
+rest_whole k l ls (x ∷ ns) f h q = record {
+  nodes = ns;
+  fit = f.1;
+  are = others_are (node_line k x) l (numbered node_line (suc k) ns ++ last_line ∷ []) ls h;
+}
 
 -- the first bad line is a later one
-later_bad : (k n m : ℕ) (l : List ℕ) (ls : List (List ℕ)) (x : Node) → NodeFits x → l ≡ node_line k x → (l ≡ last_line → ⊥) → Bad (NodesStand (suc k)) (NodesWhole (suc k)) (suc n) m ls → Bad (NodesStand k) (NodesWhole k) n m (l ∷ ls)
+later_bad : (k n m : ℕ) (l : List ℕ) (ls : List (List ℕ)) (x : Node) → NodeFits x → l ≡ node_line k x → (l ≡ last_line → ⊥)
+    → Bad (NodesStand (suc k)) (NodesWhole (suc k)) (suc n) m ls → Bad (NodesStand k) (NodesWhole k) n m (l ∷ ls)
 later_bad k n m l ls x f e q b = record {
   good = suc b.good;
   at = omega (arith, b.at);
@@ -206,13 +231,17 @@ with_node_err x m (Ok ns) h = cc
 with_node_err x m (Err j) h = cc
 
 -- the last line, with or without others behind it
-ended_bad : (k n m : ℕ) (l : List ℕ) (ls : List (List ℕ)) → l ≡ last_line → ended n ls ≡ Err m → Bad (NodesStand k) (NodesWhole k) n m (l ∷ ls)
+ended_bad : (k n m : ℕ) (l : List ℕ) (ls : List (List ℕ)) → l ≡ last_line → ended n ls ≡ Err m
+    → Bad (NodesStand k) (NodesWhole k) n m (l ∷ ls)
 ended_bad k n m l [] f h = absurd (nodes_ok [] m (ended n []) refl h)
 ended_bad k n m l (l' ∷ ls) f h = behind_bad k n m l l' ls (nodes_err (suc n) m (ended n (l' ∷ ls)) refl h) f
 
 -- what a line was found to be
-node_bad : (k n m : ℕ) (l : List ℕ) (ls : List (List ℕ)) (o : Option Node) (r : Result (List Node) ℕ) → node_at k l ≡ o → (l ≡ last_line → ⊥) → (r ≡ Err m → Bad (NodesStand (suc k)) (NodesWhole (suc k)) (suc n) m ls) → and_nodes n o r ≡ Err m → Bad (NodesStand k) (NodesWhole k) n m (l ∷ ls)
-node_bad k n m l ls None r e q b h = line_bad k n m l ls (nodes_err n m (and_nodes n None r) refl h) (λ x f g. no_node x (sym e ∙ is_node k l x g f)) q
+node_bad : (k n m : ℕ) (l : List ℕ) (ls : List (List ℕ)) (o : Option Node) (r : Result (List Node) ℕ) → node_at k l ≡ o
+    → (l ≡ last_line → ⊥) → (r ≡ Err m → Bad (NodesStand (suc k)) (NodesWhole (suc k)) (suc n) m ls) → and_nodes n o r ≡ Err m
+    → Bad (NodesStand k) (NodesWhole k) n m (l ∷ ls)
+node_bad k n m l ls None r e q b h =
+    line_bad k n m l ls (nodes_err n m (and_nodes n None r) refl h) (λ x f g. no_node x (sym e ∙ is_node k l x g f)) q
   where
     no_node : (x : Node) → None ≡ Some x → ⊥
     no_node x h = cc
@@ -235,7 +264,8 @@ nodes_bad k n m [] h = none_bad k n m (nodes_err n m (nodes_from k n []) refl h)
 nodes_bad k n m (l ∷ ls) h =
     elim (chosen_nodes (bytes_eq l last_line) (ended n ls) (and_nodes n (node_at k l) (nodes_from (suc k) (suc n) ls)) (Err m) h) [
       | inl c ↦ ended_bad k n m l ls (same_is l last_line c.0) c.1
-      | inr c ↦ node_bad k n m l ls (node_at k l) (nodes_from (suc k) (suc n) ls) refl (λ e. not_true (bytes_eq l last_line) c.0 (is_same l last_line e)) (nodes_bad (suc k) (suc n) m ls) c.1
+      | inr c ↦ node_bad k n m l ls (node_at k l) (nodes_from (suc k) (suc n) ls) refl
+          (λ e. not_true (bytes_eq l last_line) c.0 (is_same l last_line e)) (nodes_bad (suc k) (suc n) m ls) c.1
     ]
 
 pub record WiresWhole (h k : ℕ) (ls : List (List ℕ)) : Type 0 where
@@ -280,13 +310,16 @@ front_stands h k zero l ls s = tt
 front_stands h k (suc g) l ls s = inr s
 
 -- a listing without a wire's line here is one of nodes
-nodes_whole : (h k : ℕ) (l : List ℕ) (ls : List (List ℕ)) (ws : List WireTree) (ns : List Node) → WiresFit h ws → NodesFit ns → numbered wire_line k ws ++ (numbered node_line 0 ns ++ last_line ∷ []) ≡ l ∷ ls →
+nodes_whole : (h k : ℕ) (l : List ℕ) (ls : List (List ℕ)) (ws : List WireTree) (ns : List Node) → WiresFit h ws → NodesFit ns
+    → numbered wire_line k ws ++ (numbered node_line 0 ns ++ last_line ∷ []) ≡ l ∷ ls →
     ((w : WireTree) → w.depth < 2 ^ 32 → ty_height w.type ≤ h → l ≡ wire_line k w → ⊥) → NodesWhole 0 (l ∷ ls)
 nodes_whole h k l ls [] ns f g e q = record { nodes = ns; fit = g; are = e }
-nodes_whole h k l ls (w ∷ ws) ns f g e q = absurd (q w f.0 f.1 (first_is (wire_line k w) l (numbered wire_line (suc k) ws ++ (numbered node_line 0 ns ++ last_line ∷ [])) ls e))
+nodes_whole h k l ls (w ∷ ws) ns f g e q =
+    absurd (q w f.0 f.1 (first_is (wire_line k w) l (numbered wire_line (suc k) ws ++ (numbered node_line 0 ns ++ last_line ∷ [])) ls e))
 
 -- no wire's line
-no_wire_bad : (h k n m : ℕ) (l : List ℕ) (ls : List (List ℕ)) → ((w : WireTree) → w.depth < 2 ^ 32 → ty_height w.type ≤ h → l ≡ wire_line k w → ⊥) → Bad (NodesStand 0) (NodesWhole 0) n m (l ∷ ls) →
+no_wire_bad : (h k n m : ℕ) (l : List ℕ) (ls : List (List ℕ))
+    → ((w : WireTree) → w.depth < 2 ^ 32 → ty_height w.type ≤ h → l ≡ wire_line k w → ⊥) → Bad (NodesStand 0) (NodesWhole 0) n m (l ∷ ls) →
     Bad (WiresStand h k) (WiresWhole h k) n m (l ∷ ls)
 no_wire_bad h k n m l ls q b = record {
   good = b.good;
@@ -298,35 +331,62 @@ no_wire_bad h k n m l ls q b = record {
 }
 
 -- the lines behind a wire's are those of the other wires and the nodes
-rest_wires : (h k : ℕ) (l : List ℕ) (ls : List (List ℕ)) (w : WireTree) → l ≡ wire_line k w → (ws : List WireTree) (ns : List Node) → WiresFit h ws → NodesFit ns → numbered wire_line k ws ++ (numbered node_line 0 ns ++ last_line ∷ []) ≡ l ∷ ls →
+rest_wires : (h k : ℕ) (l : List ℕ) (ls : List (List ℕ)) (w : WireTree) → l ≡ wire_line k w → (ws : List WireTree) (ns : List Node)
+    → WiresFit h ws → NodesFit ns → numbered wire_line k ws ++ (numbered node_line 0 ns ++ last_line ∷ []) ≡ l ∷ ls →
     WiresWhole h (suc k) ls
 rest_wires h k l ls w e [] [] f g i = absurd (wire_not_last k w l e (first_is last_line l [] ls i))
-rest_wires h k l ls w e [] (x ∷ ns) f g i = absurd (wire_not_node k 0 w x l e (first_is (node_line 0 x) l (numbered node_line 1 ns ++ last_line ∷ []) ls i))
+rest_wires h k l ls w e [] (x ∷ ns) f g i =
+    absurd (wire_not_node k 0 w x l e (first_is (node_line 0 x) l (numbered node_line 1 ns ++ last_line ∷ []) ls i))
 rest_wires h k l ls w e (v ∷ ws) ns f g i =
-    record { wires = ws; nodes = ns; wires_fit = f.2; nodes_fit = g; are = others_are (wire_line k v) l (numbered wire_line (suc k) ws ++ (numbered node_line 0 ns ++ last_line ∷ [])) ls i }
+    record {
+      wires = ws;
+      nodes = ns;
+      wires_fit = f.2;
+      nodes_fit = g;
+      are = others_are (wire_line k v) l (numbered wire_line (suc k) ws ++ (numbered node_line 0 ns ++ last_line ∷ [])) ls i;
+    }
 
 -- the first bad line stands behind a wire's
-wire_bad : (h k n m : ℕ) (l : List ℕ) (ls : List (List ℕ)) (w : WireTree) → l ≡ wire_line k w → w.depth < 2 ^ 32 → ty_height w.type ≤ h → Bad (WiresStand h (suc k)) (WiresWhole h (suc k)) (suc n) m ls →
+wire_bad : (h k n m : ℕ) (l : List ℕ) (ls : List (List ℕ)) (w : WireTree) → l ≡ wire_line k w → w.depth < 2 ^ 32 → ty_height w.type ≤ h
+    → Bad (WiresStand h (suc k)) (WiresWhole h (suc k)) (suc n) m ls →
     Bad (WiresStand h k) (WiresWhole h k) n m (l ∷ ls)
 wire_bad h k n m l ls w e d t b = record {
   good = suc b.good;
   at = omega (arith, b.at);
   few = omega (arith, b.few);
   before = inl (w, d, t, e, b.before);
-  there = λ u s. elim s [ inl s ↦ b.there (omega (arith, u)) s.4 | inr s ↦ elim s [ inl s ↦ wire_not_node k 0 w s.0 l e s.2 | inr s ↦ wire_not_last k w l e s.0 ] ];
+  there = λ u s. elim s [
+    | inl s ↦ b.there (omega (arith, u)) s.4
+    | inr s ↦ elim
+        s [ inl s ↦ wire_not_node k 0 w s.0 l e s.2 | inr s ↦ wire_not_last k w l e s.0 ]
+  ];
   behind = λ u v. b.behind (omega (arith, u)) (rest_wires h k l ls w e v.wires v.nodes v.wires_fit v.nodes_fit v.are);
 }
 
 -- what a line was found to be
-found_bad : (h k n m : ℕ) (l : List ℕ) (ls : List (List ℕ)) (o : Option WireTree) (r : Result NetTree ℕ) (s : Result (List Node) ℕ) → wire_at h k l ≡ o →
-    (r ≡ Err m → Bad (WiresStand h (suc k)) (WiresWhole h (suc k)) (suc n) m ls) → (s ≡ Err m → Bad (NodesStand 0) (NodesWhole 0) n m (l ∷ ls)) → and_wires o r s ≡ Err m → Bad (WiresStand h k) (WiresWhole h k) n m (l ∷ ls)
-found_bad h k n m l ls None r s e b c i = no_wire_bad h k n m l ls (λ w d t f. no_wire w (sym e ∙ is_wire h k l w f d t)) (c (no_wires_err m s i))
+found_bad : (h k n m : ℕ) (l : List ℕ) (ls : List (List ℕ)) (o : Option WireTree) (r : Result NetTree ℕ) (s : Result (List Node) ℕ)
+    → wire_at h k l ≡ o →
+    (r ≡ Err m → Bad (WiresStand h (suc k)) (WiresWhole h (suc k)) (suc n) m ls) →
+    (s ≡ Err m → Bad (NodesStand 0) (NodesWhole 0) n m (l ∷ ls)) → and_wires o r s ≡ Err m → Bad (WiresStand h k) (WiresWhole h k) n m
+    (l ∷ ls)
+found_bad h k n m l ls None r s e b c i =
+    no_wire_bad h k n m l ls (λ w d t f. no_wire w (sym e ∙ is_wire h k l w f d t)) (c (no_wires_err m s i))
   where
     no_wire : (w : WireTree) → None ≡ Some w → ⊥
     no_wire w h = cc
-found_bad h k n m l ls (Some w) r s e b c i = let (p, d, t) = wire_is h k l (wire_in h k l) w e in wire_bad h k n m l ls w p d t (b (with_wire_err w m r i))
+found_bad h k n m l ls (Some w) r s e b c i = let (p, d, t) =
+    wire_is h k l (wire_in h k l) w e in wire_bad h k n m l ls w p d t (b (with_wire_err w m r i))
 
 -- The answer is the first bad line, of lines that stand behind the first k wires.
 pub wires_bad : (h k n m : ℕ) (ls : List (List ℕ)) → wires_from h k n ls ≡ Err m → Bad (WiresStand h k) (WiresWhole h k) n m ls
-wires_bad h k n m [] e = record { good = 0; at = omega (arith, net_err n m (wires_from h k n []) refl e); few = omega arith; before = tt; there = λ u s. absurd (omega (arith, u)); behind = λ u w. no_net k w.wires w.nodes w.are }
-wires_bad h k n m (l ∷ ls) e = found_bad h k n m l ls (wire_at h k l) (wires_from h (suc k) (suc n) ls) (nodes_from zero n (l ∷ ls)) refl (wires_bad h (suc k) (suc n) m ls) (nodes_bad zero n m (l ∷ ls)) e
+wires_bad h k n m [] e = record {
+  good = 0;
+  at = omega (arith, net_err n m (wires_from h k n []) refl e);
+  few = omega arith;
+  before = tt;
+  there = λ u s. absurd (omega (arith, u));
+  behind = λ u w. no_net k w.wires w.nodes w.are;
+}
+wires_bad h k n m (l ∷ ls) e =
+    found_bad h k n m l ls (wire_at h k l) (wires_from h (suc k) (suc n) ls) (nodes_from zero n (l ∷ ls)) refl
+    (wires_bad h (suc k) (suc n) m ls) (nodes_bad zero n m (l ∷ ls)) e

@@ -1,12 +1,20 @@
-pub mod FirstFaults
-pub mod LinesFit
-pub mod Listed
-pub mod NodesRead
-pub mod OneAnswers
+-- The lines of a text: the first by its length; the lines joined are the text, and those of a listing are its net's.
 pub mod Scans
-pub mod SmallNets
 pub mod Splitting
+-- Lines stand one behind the other exactly when a listing begins with them.
 pub mod Standings
-pub mod TextsRead
+-- One line: a printed type, a wire and a node are read from it.
 pub mod TypesRead
 pub mod WiresRead
+pub mod NodesRead
+-- A line is read as the definition reads it, where what was read fits and has that very line.
+pub mod LinesFit
+-- What the reading of the lines answers: the net whose listing they are, or the first line that can't stand there.
+pub mod Listed
+pub mod FirstFaults
+-- The code's loops over lines give what the definition reads from them.
+pub mod TextsRead
+-- Bytes list one net, and so they have one answer; what is listed is accepted.
+pub mod OneAnswers
+-- The net of a closed term has small depths and numbers, so that only its types and its length limit a listing.
+pub mod SmallNets

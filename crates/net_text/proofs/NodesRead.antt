@@ -2,7 +2,8 @@
 use Rattle.std.proofs.Common.{◌≡◌, ℕ, ◌^◌, ◌<◌, List, [], ◌∷◌, ◌++◌, length, Some, refl, ap, ◌∙◌, arith}
 use Rattle.std.specs.Prelude.{decimal}
 use Rattle.net_build.specs.declared.node.Node.{Node}
-use Rattle.net_build.specs.declared.node.Node.TheVariants.{Const, Succ, Pred, Plus, Minus, Times, Ifz, Der, Con, Weak, Lam, App, BoxNode, Door, FixBox, Root, Pair, Fst, Snd}
+use Rattle.net_build.specs.declared.node.Node.TheVariants.{Const, Succ, Pred, Plus, Minus, Times, Ifz, Der, Con, Weak, Lam, App, BoxNode}
+use Rattle.net_build.specs.declared.node.Node.TheVariants.{Door, FixBox, Root, Pair, Fst, Snd}
 use Rattle.net_text.specs.Listing.{node_line, numbers_of, numbers_text, name_text}
 use Rattle.net_text.specs.NetText.{NodeFits, Small}
 use Rattle.net_text.specs.WireText.{after, number_from}
@@ -29,7 +30,8 @@ number_ends n (m ∷ ns) = refl
 numbers_read : (ns : List ℕ) → Wide ns → numbers_in (length ns) (numbers_text ns) ≡ Some ns
 numbers_read [] h = refl
 numbers_read (n ∷ ns) h =
-    ap (λ (d : ℕ × List ℕ). with_first d.0 (numbers_in (length ns) d.1)) (number_counts n h.0 (numbers_text ns) ∙ number_ends n ns) ∙ ap (with_first n) (numbers_read ns h.1)
+    ap (λ (d : ℕ × List ℕ). with_first d.0 (numbers_in (length ns) d.1)) (number_counts n h.0 (numbers_text ns) ∙ number_ends n ns)
+    ∙ ap (with_first n) (numbers_read ns h.1)
 
 -- so are those of a node
 pub fits_wide : (x : Node) → NodeFits x → Wide (numbers_of x)
@@ -77,4 +79,5 @@ name_read (Snd a w) h = ap (λ o. after o (node_with form.Snd)) (numbers_read (a
 
 -- A node is read from its line.
 pub node_read : (k : ℕ) (x : Node) → NodeFits x → node_in k (node_line k x) ≡ Some x
-node_read k x h = ap (λ o. after o from_name) (behind_itself (decimal k) (name_text x ++ numbers_text (numbers_of x))) ∙ name_read x (fits_wide x h)
+node_read k x h = ap (λ o. after o from_name) (behind_itself (decimal k) (name_text x ++ numbers_text (numbers_of x)))
+    ∙ name_read x (fits_wide x h)

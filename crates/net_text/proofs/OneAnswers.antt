@@ -1,5 +1,6 @@
 -- Bytes list one net, and so they have one answer; what is listed is accepted.
-use Rattle.std.proofs.Common.{◌≡◌, ℕ, zero, suc, ◌-◌, ◌<◌, ◌≤◌, List, [], ◌∷◌, ◌++◌, length, take, Ok, Err, refl, sym, ap, ◌∙◌, subst, inl, inr, arith}
+use Rattle.std.proofs.Common.{◌≡◌, ℕ, zero, suc, ◌-◌, ◌<◌, ◌≤◌, List, [], ◌∷◌, ◌++◌, length, take, Ok, Err, refl, sym, ap, ◌∙◌, subst, inl}
+use Rattle.std.proofs.Common.{inr, arith}
 use Rattle.std.specs.Prelude.{Result, MatchResult}
 use Rattle.std.proofs.lemmas.Bool.{cases_eq, cases_lt}
 use Rattle.pcf_values.specs.Terms.{TyTree, TermTree}
@@ -28,7 +29,8 @@ abbrev Lines : Type 0
 Lines = List (List ℕ)
 
 -- the lines of a text that lists a net
-text_lines : (h : ℕ) (bytes : List ℕ) (net : NetTree) → length bytes ≤ most_text_bytes → NetFits h net → bytes ≡ listing net → lines bytes ≡ listing_lines net
+text_lines : (h : ℕ) (bytes : List ℕ) (net : NetTree) → length bytes ≤ most_text_bytes → NetFits h net → bytes ≡ listing net
+    → lines bytes ≡ listing_lines net
 text_lines h bytes net u f e =
     let (p, q) = listing_long net in
     let l : length bytes ≡ length (listing net) = ap length e in
@@ -39,9 +41,11 @@ same_net : (a b : NetTree) → (let r : Result NetTree ℕ = Ok a in r ≡ Ok b)
 same_net a b h = cc
 
 -- bytes are the listing of one net, whatever the bound on types
-one_net : (h : ℕ) (bytes : List ℕ) (a b : NetTree) → length bytes ≤ most_text_bytes → NetFits h a → NetFits h b → bytes ≡ listing a → bytes ≡ listing b → a ≡ b
+one_net : (h : ℕ) (bytes : List ℕ) (a b : NetTree) → length bytes ≤ most_text_bytes → NetFits h a → NetFits h b → bytes ≡ listing a
+    → bytes ≡ listing b → a ≡ b
 one_net h bytes a b u f g p q =
-    same_net a b (sym (listing_read h a f) ∙ ap (net_of_lines h) (sym (text_lines h bytes a u f p) ∙ text_lines h bytes b u g q) ∙ listing_read h b g)
+    same_net a b (sym (listing_read h a f) ∙ ap (net_of_lines h) (sym (text_lines h bytes a u f p) ∙ text_lines h bytes b u g q)
+    ∙ listing_read h b g)
 
 -- Bytes list one net.
 pub one_text : (bytes : List ℕ) (a b : NetTree) → TextOf bytes a → TextOf bytes b → a ≡ b
@@ -57,7 +61,10 @@ front_of_front : (i j : ℕ) (ls : Lines) → i ≤ j → Front i ls (take j ls)
 front_of_front zero j ls h = record { rest = take j ls; are = refl }
 front_of_front (suc i) zero ls h = absurd (omega (arith, h))
 front_of_front (suc i) (suc j) [] h = record { rest = []; are = refl }
-front_of_front (suc i) (suc j) (l ∷ ls) h = let f = front_of_front i j ls (omega (arith, h)) in record { rest = f.rest; are = ap (λ t. l ∷ t) f.are }
+front_of_front (suc i) (suc j) (l ∷ ls) h = let f = front_of_front i j ls (omega (arith, h)) in record {
+  rest = f.rest;
+  are = ap (λ t. l ∷ t) f.are;
+}
 
 -- lines are in front of those behind them
 front_of_all : (i : ℕ) (ls : Lines) → Front i ls ls
@@ -69,7 +76,12 @@ front_of_all (suc i) (l ∷ ls) = let f = front_of_all i ls in record { rest = f
 fewer_begin : (h i j : ℕ) (ls : Lines) → i ≤ j → Begins h (take j ls) → Begins h (take i ls)
 fewer_begin h i j ls l b =
     let f = front_of_front i j ls l in
-    record { net = b.net; more = f.rest ++ b.more; fits = b.fits; lines_are = b.lines_are ∙ ap (λ t. t ++ b.more) f.are ∙ apart (take i ls) f.rest b.more }
+    record {
+      net = b.net;
+      more = f.rest ++ b.more;
+      fits = b.fits;
+      lines_are = b.lines_are ∙ ap (λ t. t ++ b.more) f.are ∙ apart (take i ls) f.rest b.more;
+    }
   where
     apart : (a b c : Lines) → (a ++ b) ++ c ≡ a ++ (b ++ c)
     apart [] b c = refl
@@ -97,10 +109,12 @@ lines_not_bad h n net ls f e b =
 
 -- a listing has no bad line
 pub not_bad : (n : ℕ) (bytes : List ℕ) (net : NetTree) → TextOf bytes net → FirstBad most_type_height n (lines bytes) → ⊥
-not_bad n bytes net t b = lines_not_bad most_type_height n net (lines bytes) t.fits (sym (text_lines most_type_height bytes net t.short t.fits t.is)) b
+not_bad n bytes net t b =
+    lines_not_bad most_type_height n net (lines bytes) t.fits (sym (text_lines most_type_height bytes net t.short t.fits t.is)) b
 
 -- a listing is read
-pub read_listed : (bytes : List ℕ) (net : NetTree) (r : Result NetTree NetTextFault) → NetOfText bytes r → TextOf bytes net → MatchResult r (λ n. n ≡ net) (λ e. e ≡ NoMemory)
+pub read_listed : (bytes : List ℕ) (net : NetTree) (r : Result NetTree NetTextFault) → NetOfText bytes r → TextOf bytes net
+    → MatchResult r (λ n. n ≡ net) (λ e. e ≡ NoMemory)
 read_listed bytes net (Ok a) s t = one_text bytes a net s t
 read_listed bytes net (Err NoMemory) s t = refl
 read_listed bytes net (Err TooLong) s t = absurd (omega (arith, s, t.short))
@@ -113,7 +127,11 @@ pub program_text : (bytes : List ℕ) (m : TermTree) → ListsProgram bytes m �
 program_text bytes m l =
     let (p, q) = listing_long (net_of m) in
     let k : length bytes ≡ length (listing (net_of m)) = ap length l.is in
-    record { short = l.short; fits = term_net_fits most_type_height m l.typed (omega (arith, l.within)) l.types (omega (arith, p, k, l.short)); is = l.is }
+    record {
+      short = l.short;
+      fits = term_net_fits most_type_height m l.typed (omega (arith, l.within)) l.types (omega (arith, p, k, l.short));
+      is = l.is;
+    }
 
 -- what lists a term's net lists that program
 program_is : (bytes : List ℕ) (net : NetTree) (m : TermTree) → TextOf bytes net → IsNetOf most_term_height net m → ListsProgram bytes m
@@ -130,7 +148,8 @@ fault_first bytes (NotSound f) h = absurd h
 fault_first bytes NotOfTerm h = absurd h
 
 -- what is found of the net that the bytes list, is found of the bytes
-pub sorted_accepts : (bytes : List ℕ) (net : NetTree) (r : Result (TermTree × TyTree) NetTextFault) → TextOf bytes net → Sorted net r → Accepts bytes r
+pub sorted_accepts : (bytes : List ℕ) (net : NetTree) (r : Result (TermTree × TyTree) NetTextFault) → TextOf bytes net → Sorted net r
+    → Accepts bytes r
 sorted_accepts bytes net (Ok p) t s = (program_is bytes net p.0 t s.0, s.1)
 sorted_accepts bytes net (Err NoMemory) t s = tt
 sorted_accepts bytes net (Err (NotSound f)) t s = (net, t, s)
@@ -151,7 +170,8 @@ not_sound : NoFault → (net : NetTree) (m : TermTree) (f : NetFault) → IsNetO
 not_sound law net m f i k = law net f k (subst Sound i.net_is (built_sound m i.typed))
 
 -- a program that is listed is accepted
-pub sorted_takes : NoFault → (bytes : List ℕ) (net : NetTree) (r : Result (TermTree × TyTree) NetTextFault) (m : TermTree) → TextOf bytes net → Sorted net r → ListsProgram bytes m → MatchResult r (λ p. p.0 ≡ m) (λ e. e ≡ NoMemory)
+pub sorted_takes : NoFault → (bytes : List ℕ) (net : NetTree) (r : Result (TermTree × TyTree) NetTextFault) (m : TermTree)
+    → TextOf bytes net → Sorted net r → ListsProgram bytes m → MatchResult r (λ p. p.0 ≡ m) (λ e. e ≡ NoMemory)
 sorted_takes law bytes net (Ok p) m t s l = one_program most_term_height net p.0 m s.0 (is_net_of bytes net m t l)
 sorted_takes law bytes net (Err NoMemory) m t s l = refl
 sorted_takes law bytes net (Err (NotSound f)) m t s l = absurd (not_sound law net m f (is_net_of bytes net m t l) s)
@@ -165,7 +185,8 @@ Answer = Result (TermTree × TyTree) NetTextFault
 
 -- the same of bytes that are seen as accepted in two ways
 same_program : (bytes : List ℕ) (m l : TermTree) → ListsProgram bytes m → ListsProgram bytes l → m ≡ l
-same_program bytes m l a b = one_term m l a.typed b.typed (one_text bytes (net_of m) (net_of l) (program_text bytes m a) (program_text bytes l b))
+same_program bytes m l a b =
+    one_term m l a.typed b.typed (one_text bytes (net_of m) (net_of l) (program_text bytes m a) (program_text bytes l b))
 
 -- Bytes have one answer.
 pub one_answer : OneFault → NoFault → OneAnswer
@@ -185,18 +206,22 @@ one_answer one none bytes (Err TooLong) (Err NotOfTerm) p q n k = absurd (omega 
 one_answer one none bytes (Err (BadLine i)) (Ok b) p q n k = absurd (not_bad i bytes (net_of b.0) (program_text bytes b.0 q.0) p.1)
 one_answer one none bytes (Err (BadLine i)) (Err NoMemory) p q n k = absurd (k refl)
 one_answer one none bytes (Err (BadLine i)) (Err TooLong) p q n k = absurd (omega (arith, p.0, q))
-one_answer one none bytes (Err (BadLine i)) (Err (BadLine j)) p q n k = ap (λ x. Err (BadLine x)) (one_bad most_type_height i j (lines bytes) p.1 q.1)
+one_answer one none bytes (Err (BadLine i)) (Err (BadLine j)) p q n k =
+    ap (λ x. Err (BadLine x)) (one_bad most_type_height i j (lines bytes) p.1 q.1)
 one_answer one none bytes (Err (BadLine i)) (Err (NotSound f)) p q n k = absurd (not_bad i bytes q.0 q.1 p.1)
 one_answer one none bytes (Err (BadLine i)) (Err NotOfTerm) p q n k = absurd (not_bad i bytes q.0 q.1 p.1)
 one_answer one none bytes (Err (NotSound f)) (Ok b) p q n k = absurd (not_sound none p.0 b.0 f (is_net_of bytes p.0 b.0 p.1 q.0) p.2)
 one_answer one none bytes (Err (NotSound f)) (Err NoMemory) p q n k = absurd (k refl)
 one_answer one none bytes (Err (NotSound f)) (Err TooLong) p q n k = absurd (omega (arith, q, p.1.short))
 one_answer one none bytes (Err (NotSound f)) (Err (BadLine j)) p q n k = absurd (not_bad j bytes p.0 p.1 q.1)
-one_answer one none bytes (Err (NotSound f)) (Err (NotSound g)) p q n k = ap (λ x. Err (NotSound x)) (one p.0 f g p.2 (subst (λ net. FirstFault net g) (one_text bytes q.0 p.0 q.1 p.1) q.2))
-one_answer one none bytes (Err (NotSound f)) (Err NotOfTerm) p q n k = absurd (none p.0 f p.2 (subst Sound (one_text bytes q.0 p.0 q.1 p.1) q.2))
+one_answer one none bytes (Err (NotSound f)) (Err (NotSound g)) p q n k =
+    ap (λ x. Err (NotSound x)) (one p.0 f g p.2 (subst (λ net. FirstFault net g) (one_text bytes q.0 p.0 q.1 p.1) q.2))
+one_answer one none bytes (Err (NotSound f)) (Err NotOfTerm) p q n k =
+    absurd (none p.0 f p.2 (subst Sound (one_text bytes q.0 p.0 q.1 p.1) q.2))
 one_answer one none bytes (Err NotOfTerm) (Ok b) p q n k = absurd (p.3 b.0 (is_net_of bytes p.0 b.0 p.1 q.0))
 one_answer one none bytes (Err NotOfTerm) (Err NoMemory) p q n k = absurd (k refl)
 one_answer one none bytes (Err NotOfTerm) (Err TooLong) p q n k = absurd (omega (arith, q, p.1.short))
 one_answer one none bytes (Err NotOfTerm) (Err (BadLine j)) p q n k = absurd (not_bad j bytes p.0 p.1 q.1)
-one_answer one none bytes (Err NotOfTerm) (Err (NotSound g)) p q n k = absurd (none q.0 g q.2 (subst Sound (one_text bytes p.0 q.0 p.1 q.1) p.2))
+one_answer one none bytes (Err NotOfTerm) (Err (NotSound g)) p q n k =
+    absurd (none q.0 g q.2 (subst Sound (one_text bytes p.0 q.0 p.1 q.1) p.2))
 one_answer one none bytes (Err NotOfTerm) (Err NotOfTerm) p q n k = refl

@@ -40,7 +40,8 @@ Accepts bytes (Err NotOfTerm) = (net : NetTree) × TextOf bytes net × Sound net
 
 -- Bytes have one answer, want of memory aside.
 abbrev pub OneAnswer : Type 0
-OneAnswer = (bytes : List ℕ) (r s : Result (TermTree × TyTree) NetTextFault) → Accepts bytes r → Accepts bytes s → r ≢ Err NoMemory → s ≢ Err NoMemory → r ≡ s
+OneAnswer = (bytes : List ℕ) (r s : Result (TermTree × TyTree) NetTextFault) → Accepts bytes r → Accepts bytes s → r ≢ Err NoMemory
+    → s ≢ Err NoMemory → r ≡ s
 
 -- The term whose net it is, or the fault that it is that of none. Want of memory says nothing, and there is no other fault.
 abbrev pub Answers : ℕ → NetTree → Result (TermTree × TyTree) NetTextFault → Type 0

@@ -1,6 +1,7 @@
 -- The wires and nodes that the lines of a text list, or the number of the first line that can't stand there.
 -- Each line is read by its beginning, and is right where the line of what was read is that line.
-use Rattle.std.specs.Prelude.{ℕ, zero, suc, ◌^◌, Bool, ◌&&◌, List, [], ◌∷◌, Option, Some, None, Result, Ok, Err, codes, nat_lt, nat_le, if◌then◌else◌}
+use Rattle.std.specs.Prelude.{ℕ, zero, suc, ◌^◌, Bool, ◌&&◌, List, [], ◌∷◌, Option, Some, None, Result, Ok, Err, codes, nat_lt, nat_le}
+use Rattle.std.specs.Prelude.{if◌then◌else◌}
 use Rattle.std.specs.Str.{bytes_eq}
 use Rattle.net_build.specs.declared.node.Node.{Node}
 use Rattle.net_build.specs.Nets.{WireTree, NetTree}

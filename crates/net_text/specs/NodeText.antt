@@ -1,7 +1,8 @@
 -- A node's line, read from its beginning to its end, as a wire's line is: its form by its name, and then its numbers.
 use Rattle.std.specs.Prelude.{◌^◌, ℕ, zero, suc, Bool, true, ◌&&◌, List, [], ◌∷◌, Option, Some, None, codes, decimal, nat_lt}
 use Rattle.net_build.specs.declared.node.Node.{Node}
-use Rattle.net_build.specs.declared.node.Node.TheVariants.{Const, Succ, Pred, Plus, Minus, Times, Ifz, Der, Con, Weak, Lam, App, BoxNode, Door, FixBox, Root, Pair, Fst, Snd}
+use Rattle.net_build.specs.declared.node.Node.TheVariants.{Const, Succ, Pred, Plus, Minus, Times, Ifz, Der, Con, Weak, Lam, App, BoxNode}
+use Rattle.net_build.specs.declared.node.Node.TheVariants.{Door, FixBox, Root, Pair, Fst, Snd}
 use Rattle.net_text.specs.declared.form.Form.{Form}
 use Rattle.net_text.specs.declared.form.Form.TheVariants as form
 use Rattle.net_text.specs.Listing.{numbers_of}
@@ -55,7 +56,8 @@ count_of form.Snd = 2
 -- the forms, in the order in which their names are tried: `Const` before `Con`, with which it begins
 abbrev pub all_forms : List Form
 all_forms =
-    form.Const ∷ form.Succ ∷ form.Pred ∷ form.Plus ∷ form.Minus ∷ form.Times ∷ form.Ifz ∷ form.Der ∷ form.Con ∷ form.Weak ∷ form.Lam ∷ form.App
+    form.Const ∷ form.Succ ∷ form.Pred ∷ form.Plus ∷ form.Minus ∷ form.Times ∷ form.Ifz ∷ form.Der ∷ form.Con ∷ form.Weak ∷ form.Lam ∷
+    form.App
     ∷ form.BoxNode ∷ form.Door ∷ form.FixBox ∷ form.Root ∷ form.Pair ∷ form.Fst ∷ form.Snd ∷ []
 
 -- the form whose name the text begins with, and what stands behind it; or else another form

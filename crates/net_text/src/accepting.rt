@@ -15,6 +15,10 @@ use std::alloc::Global;
 
 /// The closed term of type `nat` whose net the bytes list, or the first fault: too many bytes, a line that can't stand where it stands, a
 /// net that isn't sound, or a net that is no such term's. A term that is answered is no higher than `net_terms::limits::TERM_HEIGHT`.
+///
+/// # Errors
+///
+/// `NetTextFault::TooLong`, `BadLine`, `NotSound` or `NotOfTerm`, the first of these that is the case, in this order; or `NoMemory`.
 pub fn accept(alloc: Global, bytes: &[u8]) -> Result<Typed, NetTextFault>
     ensures answer { Accepts bytes.now result }
     // A program that the bytes list is accepted, unless memory runs out.

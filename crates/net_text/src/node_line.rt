@@ -6,7 +6,8 @@ ghost use Rattle.std.specs.Str.{bytes_eq};
 ghost use Rattle.net_build.specs.declared.node.Node.TheVariants.{Const};
 ghost use Rattle.net_text.specs.FirstFault.{node_at};
 ghost use Rattle.net_text.specs.Listing.{node_line};
-ghost use Rattle.net_text.specs.NodeText.{all_forms, constant, form_among, four_node, from_form, from_name, node_in, node_with, numbers_in, one_node, small_node, three_node, two_node};
+ghost use Rattle.net_text.specs.NodeText.{all_forms, constant, form_among, four_node, from_form, from_name, node_in, node_with, numbers_in};
+ghost use Rattle.net_text.specs.NodeText.{one_node, small_node, three_node, two_node};
 ghost use Rattle.net_text.specs.Scanning.{fitting_node, in_half, words_among};
 
 use crate::form::Form;

@@ -13,6 +13,10 @@ use pcf_reader::print_ty;
 use std::alloc::{AllocError, Global};
 
 /// The listing of a net, with a line for each wire and each node by number.
+///
+/// # Errors
+///
+/// `AllocError` where there is no memory for the text.
 pub fn print_net(alloc: Global, net: &Net) -> Result<Vec<u8>, AllocError>
     ensures { IfOk result (λ v. v.items ≡ listing net.now) }
 {
@@ -122,7 +126,8 @@ fn push_numbers(text: &mut Vec<u8>, node: Node) -> Result<(), AllocError>
 
 /// Appends the number that a constant has before those of its wires.
 fn push_constant(text: &mut Vec<u8>, node: Node) -> Result<(), AllocError>
-    ensures { OnOk result (text.new.items ++ numbers_text (premises node ++ conclusions node) ≡ text.old.items ++ numbers_text (numbers_of node)) }
+    ensures { OnOk result
+        (text.new.items ++ numbers_text (premises node ++ conclusions node) ≡ text.old.items ++ numbers_text (numbers_of node)) }
 {
     match node {
         Node::Const { value, .. } => push_number(text, b" ", value),

@@ -22,6 +22,10 @@ use std::alloc::{AllocError, Global};
 
 /// The net of which the bytes are the listing, or the first line that can't stand there in one. More than `limits::NET_TEXT_BYTES` bytes
 /// are refused.
+///
+/// # Errors
+///
+/// `NetTextFault::TooLong` for more bytes than the limit, `BadLine` with the first line that can't stand there, and `NoMemory`.
 pub fn read_net(alloc: Global, bytes: &[u8]) -> Result<Net, NetTextFault>
     ensures answer { NetOfText bytes.now result }
     // A listing within the limits is read, unless memory runs out.
@@ -70,7 +74,9 @@ fn read_parts(alloc: Global, height: u32, bytes: &[u8]) -> Result<Net, NetTextFa
 
 /// The wires whose lines stand in front, and the bytes from the first other line on.
 fn read_wires(alloc: Global, height: u32, bytes: &[u8]) -> Result<(Vec<Wire>, &[u8]), AllocError>
-    ensures wires { IfOk result (λ r. wires_from height 0 2 (lines bytes.now) ≡ with_wires (map wire_of r.0.items) (no_wires (nodes_from 0 (length r.0.items + 2) (lines r.1.now)))) }
+    ensures wires { IfOk result
+        (λ r. wires_from height 0 2 (lines bytes.now) ≡ with_wires (map wire_of r.0.items)
+        (no_wires (nodes_from 0 (length r.0.items + 2) (lines r.1.now)))) }
     ensures few { IfOk result (λ r. length r.0.items + length r.1.now ≤ length bytes.now) }
 {
     let mut wires = Vec::new(alloc);

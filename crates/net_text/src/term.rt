@@ -15,6 +15,10 @@ use std::alloc::Global;
 /// The closed term of type `nat` of which the net is built, where it is no higher than `net_terms::limits::TERM_HEIGHT`: there is at most
 /// one. A net that isn't sound is that of none. Where the net has n nodes, the term that is read from it is h high, and n * (2 * h + 4) is
 /// 2^32 or more, it may count as too large for memory; a sound net whose listing is within `limits::NET_TEXT_BYTES` has too few nodes.
+///
+/// # Errors
+///
+/// `NetTextFault::NotOfTerm` where there is no such term, and `NoMemory`.
 pub fn term_of(alloc: Global, net: &Net) -> Result<Typed, NetTextFault>
     ensures { Answers most_term_height net.now result }
 {

@@ -73,7 +73,9 @@ fn read_factor<'a>(
     text: &'a [u8],
     height: u32,
 ) -> Result<Option<(Box<Ty>, &'a [u8])>, AllocError>
-    ensures { IfOk result (λ o. option_map (λ r. (ty_of r.0.value, r.1.now)) o ≡ if_follows (codes " * ") product (readers height).right (Some (ty_of left.value, text.now))) }
+    ensures { IfOk result
+        (λ o. option_map (λ r. (ty_of r.0.value, r.1.now)) o ≡ if_follows (codes " * ") product (readers height).right
+        (Some (ty_of left.value, text.now))) }
 {
     match behind(b" * ", text) {
         Some(more) => match read_right(alloc, more, height)? {

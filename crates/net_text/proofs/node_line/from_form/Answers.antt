@@ -6,4 +6,5 @@ use Rattle.net_text.proofs.node_line.from_form.Goals as goal
 pub returns-in-Some : goal.returns-in-Some
 returns-in-Some c =
     c.node_with.ensures
-    ∙ form_read c.args.form c.count.result c.args.text.now c.in-Some.numbers.items c.deref.result.now c.count.ensures (ap (option_map (λ v. v.items)) (sym c.in-Some.is) ∙ c.in_ok-numbers.ensures) c.deref.ensures.value
+    ∙ form_read c.args.form c.count.result c.args.text.now c.in-Some.numbers.items c.deref.result.now c.count.ensures
+    (ap (option_map (λ v. v.items)) (sym c.in-Some.is) ∙ c.in_ok-numbers.ensures) c.deref.ensures.value

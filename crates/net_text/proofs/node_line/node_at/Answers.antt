@@ -4,7 +4,8 @@ use Rattle.net_text.proofs.node_line.node_at.Goals as goal
 
 pub returns-else-branch : goal.returns-else-branch
 returns-else-branch c =
-    sym (node_here c.args.k c.args.line.now c.in-Some.node false (sym c.in_ok-node.ensures ∙ c.in-Some.is) (sym c.if-branch.false ∙ c.in_ok-is_line-in-Some.ensures))
+    sym (node_here c.args.k c.args.line.now c.in-Some.node false (sym c.in_ok-node.ensures ∙ c.in-Some.is)
+    (sym c.if-branch.false ∙ c.in_ok-is_line-in-Some.ensures))
 
 pub returns-in-None : goal.returns-in-None
 returns-in-None c = sym (no_node_here c.args.k c.args.line.now (sym c.in_ok-node.ensures ∙ c.in-None.is))

@@ -13,7 +13,11 @@ loop-rest-preserved c =
     let n : c.len.result ≡ length c.loop-rest.wires.items = omega (arith, c.len.ensures) in
     record {
       few = omega (arith, p.len, c.cut_line.ensures.shorter, c.loop-rest.invariant.few);
-      wires = wires_go c.args.height (length c.loop-rest.wires.items) (length c.loop-rest.wires.items + 2) (length c.push.new.self.items) (length c.push.new.self.items + 2) (map wire_of c.loop-rest.wires.items) (map wire_of c.push.new.self.items) (wire_of c.in-Some.wire)
-          c.loop-rest.rest.now line c.cut_line.result.1.now _ c.cut_line.ensures.first (ap (λ k. wire_at c.args.height k line) (sym n) ∙ sym c.in_ok-wire.ensures ∙ ap (option_map wire_of) c.in-Some.is) (omega (arith, p.len)) (omega (arith, p.len))
+      wires = wires_go c.args.height (length c.loop-rest.wires.items) (length c.loop-rest.wires.items + 2) (length c.push.new.self.items)
+          (length c.push.new.self.items + 2) (map wire_of c.loop-rest.wires.items) (map wire_of c.push.new.self.items)
+          (wire_of c.in-Some.wire)
+          c.loop-rest.rest.now line c.cut_line.result.1.now _ c.cut_line.ensures.first
+          (ap (λ k. wire_at c.args.height k line) (sym n) ∙ sym c.in_ok-wire.ensures ∙ ap (option_map wire_of) c.in-Some.is)
+          (omega (arith, p.len)) (omega (arith, p.len))
           (ap (map wire_of) p.items ∙ map-append wire_of c.loop-rest.wires.items (c.in-Some.wire ∷ [])) c.loop-rest.invariant.wires;
     }
