@@ -19,6 +19,14 @@ use net_build::{Net, Node};
 use pcf_values::{Term, Ty};
 use std::alloc::{AllocError, Global};
 
+/// What the operands of a node share: how high each may be, how many binders are around it, and in which box it is read.
+#[derive(Clone, Copy)]
+pub(crate) struct Scope {
+    pub(crate) height: u32,
+    pub(crate) binders: u32,
+    pub(crate) place: u64,
+}
+
 /// The term of at most this height that comes next, under so many binders; `None` where the definition reads none.
 #[cycle(read)]
 pub(crate) fn read(
@@ -105,85 +113,47 @@ fn begin(
         (left net.now walk.new) walk.new.marks.items) }
 {
     if value_of(node) == want {
-        start(alloc, net, walk, node, height, binders, place)
+        let scope = Scope {
+            height,
+            binders,
+            place,
+        };
+        start(alloc, net, walk, node, scope)
     } else {
         Ok(None)
     }
 }
 
-/// The term whose own node this is, with operands of at most this height.
+/// The term whose own node this is, with operands that are read so.
 #[cycle(read)]
 fn start(
     alloc: Global,
     net: &Net,
     walk: &mut Walk,
     node: Node,
-    height: u32,
-    binders: u32,
-    place: u64,
+    scope: Scope,
 ) -> Result<Option<Term>, AllocError>
     requires nodes { walk.old.left ≤ length net.now.nodes }
-    requires levels { binders + suc height < 2 ^ 32 }
+    requires levels { scope.binders + suc scope.height < 2 ^ 32 }
     ensures nodes { walk.new.left ≤ length net.now.nodes }
     ensures term { IfOk result
         (λ o. Gives term_of o
-        (start net.now.wires (reading net.now.wires height) binders place (node ∷ left net.now walk.old) walk.old.marks.items)
+        (start net.now.wires (reading net.now.wires scope.height) scope.binders scope.place (node ∷ left net.now walk.old)
+        walk.old.marks.items)
         (left net.now walk.new) walk.new.marks.items) }
 {
     match node {
         Node::Const { value, .. } => Ok(Some(Term::Number(value))),
-        Node::Der { variable, .. } => Ok(variable_of(walk.mark(variable), binders, place)),
-        Node::Succ { operand, .. } => read_one(
-            alloc,
-            net,
-            walk,
-            One::Succ,
-            operand,
-            height,
-            binders,
-            place,
-        ),
-        Node::Pred { operand, .. } => read_one(
-            alloc,
-            net,
-            walk,
-            One::Pred,
-            operand,
-            height,
-            binders,
-            place,
-        ),
-        Node::Fst { operand, .. } => read_one(
-            alloc,
-            net,
-            walk,
-            One::Fst,
-            operand,
-            height,
-            binders,
-            place,
-        ),
-        Node::Snd { operand, .. } => read_one(
-            alloc,
-            net,
-            walk,
-            One::Snd,
-            operand,
-            height,
-            binders,
-            place,
-        ),
-        Node::Plus { left, right, .. } => read_two(
-            alloc,
-            net,
-            walk,
-            Two::Plus,
-            left,
-            right,
-            height,
-            binders,
-            place,
-        ),
+        Node::Der { variable, .. } => Ok(variable_of(
+            walk.mark(variable),
+            scope.binders,
+            scope.place,
+        )),
+        Node::Succ { operand, .. } => read_one(alloc, net, walk, One::Succ, operand, scope),
+        Node::Pred { operand, .. } => read_one(alloc, net, walk, One::Pred, operand, scope),
+        Node::Fst { operand, .. } => read_one(alloc, net, walk, One::Fst, operand, scope),
+        Node::Snd { operand, .. } => read_one(alloc, net, walk, One::Snd, operand, scope),
+        Node::Plus { left, right, .. } => read_two(alloc, net, walk, Two::Plus, left, right, scope),
         Node::Minus { left, right, .. } => read_two(
             alloc,
             net,
@@ -191,9 +161,7 @@ fn start(
             Two::Minus,
             left,
             right,
-            height,
-            binders,
-            place,
+            scope,
         ),
         Node::Times { left, right, .. } => read_two(
             alloc,
@@ -202,58 +170,30 @@ fn start(
             Two::Times,
             left,
             right,
-            height,
-            binders,
-            place,
+            scope,
         ),
         Node::App {
             function,
             argument,
             ..
-        } => read_two(
-            alloc,
-            net,
-            walk,
-            Two::App,
-            function,
-            argument,
-            height,
-            binders,
-            place,
-        ),
-        Node::Pair { left, right, .. } => read_two(
-            alloc,
-            net,
-            walk,
-            Two::Pair,
-            left,
-            right,
-            height,
-            binders,
-            place,
-        ),
+        } => read_two(alloc, net, walk, Two::App, function, argument, scope),
+        Node::Pair { left, right, .. } => read_two(alloc, net, walk, Two::Pair, left, right, scope),
         Node::Ifz {
             condition,
             then,
             otherwise,
             ..
-        } => read_ifz(
-            alloc, net, walk, condition, then, otherwise, height, binders, place,
-        ),
+        } => read_ifz(alloc, net, walk, condition, then, otherwise, scope),
         Node::Lam {
             body,
             variable,
             wire,
-        } => read_fun(
-            alloc, net, walk, body, variable, wire, height, binders, place,
-        ),
+        } => read_fun(alloc, net, walk, body, variable, wire, scope),
         Node::FixBox {
             body,
             variable,
             wire,
-        } => read_fix(
-            alloc, net, walk, body, variable, wire, height, binders, place,
-        ),
+        } => read_fix(alloc, net, walk, body, variable, wire, scope),
         _ => Ok(None),
     }
 }
@@ -276,19 +216,27 @@ fn read_one(
     walk: &mut Walk,
     form: One,
     operand: u32,
-    height: u32,
-    binders: u32,
-    place: u64,
+    scope: Scope,
 ) -> Result<Option<Term>, AllocError>
     requires nodes { walk.old.left ≤ length net.now.nodes }
-    requires levels { binders + suc height < 2 ^ 32 }
+    requires levels { scope.binders + suc scope.height < 2 ^ 32 }
     ensures nodes { walk.new.left ≤ length net.now.nodes }
     ensures term { IfOk result
         (λ o. Gives term_of o
-        (one (one_term form) (reading net.now.wires height binders place place operand (left net.now walk.old) walk.old.marks.items))
+        (one (one_term form) (reading net.now.wires scope.height scope.binders scope.place scope.place operand (left net.now walk.old)
+        walk.old.marks.items))
         (left net.now walk.new) walk.new.marks.items) }
 {
-    match read_boxed(alloc, net, walk, height, binders, place, place, operand)? {
+    match read_boxed(
+        alloc,
+        net,
+        walk,
+        scope.height,
+        scope.binders,
+        scope.place,
+        scope.place,
+        operand,
+    )? {
         Some(a) => Ok(Some(form.term(a))),
         None => Ok(None),
     }
@@ -302,23 +250,41 @@ fn read_two(
     form: Two,
     first: u32,
     second: u32,
-    height: u32,
-    binders: u32,
-    place: u64,
+    scope: Scope,
 ) -> Result<Option<Term>, AllocError>
     requires nodes { walk.old.left ≤ length net.now.nodes }
-    requires levels { binders + suc height < 2 ^ 32 }
+    requires levels { scope.binders + suc scope.height < 2 ^ 32 }
     ensures nodes { walk.new.left ≤ length net.now.nodes }
     ensures term { IfOk result
         (λ o. Gives term_of o
-        (two (two_term form) (reading net.now.wires height binders place place first)
-        (reading net.now.wires height binders place place second (left net.now walk.old) walk.old.marks.items)) (left net.now walk.new)
+        (two (two_term form) (reading net.now.wires scope.height scope.binders scope.place scope.place first)
+        (reading net.now.wires scope.height scope.binders scope.place scope.place second (left net.now walk.old) walk.old.marks.items))
+        (left net.now walk.new)
         walk.new.marks.items) }
 {
-    let Some(b) = read_boxed(alloc, net, walk, height, binders, place, place, second)? else {
+    let Some(b) = read_boxed(
+        alloc,
+        net,
+        walk,
+        scope.height,
+        scope.binders,
+        scope.place,
+        scope.place,
+        second,
+    )?
+    else {
         return Ok(None);
     };
-    match read_boxed(alloc, net, walk, height, binders, place, place, first)? {
+    match read_boxed(
+        alloc,
+        net,
+        walk,
+        scope.height,
+        scope.binders,
+        scope.place,
+        scope.place,
+        first,
+    )? {
         Some(a) => Ok(Some(form.term(a, b))),
         None => Ok(None),
     }
@@ -332,26 +298,55 @@ fn read_ifz(
     test: u32,
     then: u32,
     otherwise: u32,
-    height: u32,
-    binders: u32,
-    place: u64,
+    scope: Scope,
 ) -> Result<Option<Term>, AllocError>
     requires nodes { walk.old.left ≤ length net.now.nodes }
-    requires levels { binders + suc height < 2 ^ 32 }
+    requires levels { scope.binders + suc scope.height < 2 ^ 32 }
     ensures nodes { walk.new.left ≤ length net.now.nodes }
     ensures term { IfOk result
         (λ o. Gives term_of o
-        (three ifz (reading net.now.wires height binders place place test) (reading net.now.wires height binders place place then)
-        (reading net.now.wires height binders place place otherwise (left net.now walk.old) walk.old.marks.items)) (left net.now walk.new)
+        (three ifz (reading net.now.wires scope.height scope.binders scope.place scope.place test)
+        (reading net.now.wires scope.height scope.binders scope.place scope.place then)
+        (reading net.now.wires scope.height scope.binders scope.place scope.place otherwise (left net.now walk.old) walk.old.marks.items))
+        (left net.now walk.new)
         walk.new.marks.items) }
 {
-    let Some(third) = read_boxed(alloc, net, walk, height, binders, place, place, otherwise)? else {
+    let Some(third) = read_boxed(
+        alloc,
+        net,
+        walk,
+        scope.height,
+        scope.binders,
+        scope.place,
+        scope.place,
+        otherwise,
+    )?
+    else {
         return Ok(None);
     };
-    let Some(second) = read_boxed(alloc, net, walk, height, binders, place, place, then)? else {
+    let Some(second) = read_boxed(
+        alloc,
+        net,
+        walk,
+        scope.height,
+        scope.binders,
+        scope.place,
+        scope.place,
+        then,
+    )?
+    else {
         return Ok(None);
     };
-    match read_boxed(alloc, net, walk, height, binders, place, place, test)? {
+    match read_boxed(
+        alloc,
+        net,
+        walk,
+        scope.height,
+        scope.binders,
+        scope.place,
+        scope.place,
+        test,
+    )? {
         Some(first) => Ok(Some(Term::Ifz(first, second, third))),
         None => Ok(None),
     }
@@ -365,23 +360,33 @@ fn read_fun(
     body: u32,
     variable: u32,
     wire: u32,
-    height: u32,
-    binders: u32,
-    place: u64,
+    scope: Scope,
 ) -> Result<Option<Term>, AllocError>
     requires nodes { walk.old.left ≤ length net.now.nodes }
-    requires levels { binders + suc height < 2 ^ 32 }
+    requires levels { scope.binders + suc scope.height < 2 ^ 32 }
     ensures nodes { walk.new.left ≤ length net.now.nodes }
     ensures term { IfOk result
         (λ o. Gives term_of o
         (one (lam (domain (type_at net.now.wires wire)))
-        (reading net.now.wires height (suc binders) place place body (left net.now walk.old)
-        (set_marked walk.old.marks.items variable binders place))) (left net.now walk.new) walk.new.marks.items) }
+        (reading net.now.wires scope.height (suc scope.binders) scope.place scope.place body (left net.now walk.old)
+        (set_marked walk.old.marks.items variable scope.binders scope.place))) (left net.now walk.new) walk.new.marks.items) }
 {
-    let level = binders;
-    walk.set(variable, Mark { level, place });
+    let mark = Mark {
+        level: scope.binders,
+        place: scope.place,
+    };
+    walk.set(variable, mark);
     let ty = from_of(alloc, net, wire)?;
-    match read_boxed(alloc, net, walk, height, binders + 1, place, place, body)? {
+    match read_boxed(
+        alloc,
+        net,
+        walk,
+        scope.height,
+        scope.binders + 1,
+        scope.place,
+        scope.place,
+        body,
+    )? {
         Some(inside) => Ok(Some(Term::Fun(ty, inside))),
         None => Ok(None),
     }
@@ -395,27 +400,34 @@ fn read_fix(
     body: u32,
     variable: u32,
     wire: u32,
-    height: u32,
-    binders: u32,
-    place: u64,
+    scope: Scope,
 ) -> Result<Option<Term>, AllocError>
     requires nodes { walk.old.left ≤ length net.now.nodes }
-    requires levels { binders + suc height < 2 ^ 32 }
+    requires levels { scope.binders + suc scope.height < 2 ^ 32 }
     ensures nodes { walk.new.left ≤ length net.now.nodes }
     ensures term { IfOk result
         (λ o. Gives term_of o
         (one (fix (type_at net.now.wires wire))
-        (reading net.now.wires height (suc binders) place (suc wire) body (left net.now walk.old)
-        (set_marked walk.old.marks.items variable binders (suc wire)))) (left net.now walk.new) walk.new.marks.items) }
+        (reading net.now.wires scope.height (suc scope.binders) scope.place (suc wire) body (left net.now walk.old)
+        (set_marked walk.old.marks.items variable scope.binders (suc wire)))) (left net.now walk.new) walk.new.marks.items) }
 {
     let inner = wire as u64 + 1;
     let mark = Mark {
-        level: binders,
+        level: scope.binders,
         place: inner,
     };
     walk.set(variable, mark);
     let ty = type_of_wire(alloc, net, wire)?;
-    match read_boxed(alloc, net, walk, height, binders + 1, place, inner, body)? {
+    match read_boxed(
+        alloc,
+        net,
+        walk,
+        scope.height,
+        scope.binders + 1,
+        scope.place,
+        inner,
+        body,
+    )? {
         Some(inside) => Ok(Some(Term::Fix(ty, inside))),
         None => Ok(None),
     }

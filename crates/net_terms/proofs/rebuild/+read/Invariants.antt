@@ -11,19 +11,19 @@ abbrev pub decreases-begin : goal.decreases-begin
 decreases-begin l = 5 * l.height + 4
 
 abbrev pub decreases-read_one : goal.decreases-read_one
-decreases-read_one l = 5 * l.height + 2
+decreases-read_one l = 5 * l.scope.height + 2
 
 abbrev pub decreases-read_two : goal.decreases-read_two
-decreases-read_two l = 5 * l.height + 2
+decreases-read_two l = 5 * l.scope.height + 2
 
 abbrev pub decreases-read_ifz : goal.decreases-read_ifz
-decreases-read_ifz l = 5 * l.height + 2
+decreases-read_ifz l = 5 * l.scope.height + 2
 
 abbrev pub decreases-read_fun : goal.decreases-read_fun
-decreases-read_fun l = 5 * l.height + 2
+decreases-read_fun l = 5 * l.scope.height + 2
 
 abbrev pub decreases-read_fix : goal.decreases-read_fix
-decreases-read_fix l = 5 * l.height + 2
+decreases-read_fix l = 5 * l.scope.height + 2
 
 abbrev pub decreases-start : goal.decreases-start
-decreases-start l = 5 * l.height + 3
+decreases-start l = 5 * l.scope.height + 3
