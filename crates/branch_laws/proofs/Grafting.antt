@@ -38,7 +38,7 @@ module _ (f : Tokens) (i n : ℕ) (below : i < n) where
       set_token (grafted_tokens f i n g) (name i n k) o j ≡ grafted_tokens f i n (set_token g k o) j
   put_at g zero o j = go (nat_eq j i) (cond (nat_lt j n) (f j) (g (suc (j - n)))) ∙
       ap (λ q. cond (nat_eq j i) o (cond (nat_lt j n) (f j) (cond q o (g (suc (j - n))))))
-        (sym (ne_eqb (suc (j - n)) 0 (λ q. omega arith)))
+      (sym (ne_eqb (suc (j - n)) 0 (λ q. omega arith)))
     where
       go : (b : Bool) (z : Option TokenTree) → cond b o (cond b (g 0) z) ≡ cond b o z
       go true z = refl

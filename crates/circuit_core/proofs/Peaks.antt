@@ -1,0 +1,82 @@
+-- What a run needs up to its answer is all that it needs.
+use Rattle.std.proofs.Common.{◌≡◌, ℕ, zero, suc, ◌+◌, ◌-◌, ◌≤◌, cond, length, Option, Some, None, refl, sym, ap}
+use Rattle.std.proofs.Common.{◌∙◌, subst, ⊎_elim, arith}
+use Rattle.std.proofs.lemmas.Bool.{cases_lt, eq-eqb}
+use Rattle.pcf_values.specs.declared.val.Val.{Val}
+use Rattle.net_build.specs.Nets.{NetTree}
+use Rattle.move_rules.specs.Places.{TokenTree}
+use Rattle.interleave_laws.specs.States.{State}
+use Rattle.interleave_laws.specs.Runs.{Runs, LeadsTo}
+use Rattle.interleave_laws.specs.OneWorker.{one}
+use Rattle.interleave_laws.proofs.Running.{answered_idle}
+use Rattle.interleave_laws.proofs.OneWorker.{one_finished}
+use Rattle.adequacy_laws.specs.Questions.{Length}
+use Rattle.adequacy_laws.proofs.Agreeing.{agrees}
+use Rattle.circuit_core.specs.Processor.{Registers, tick_on, tick, ticks, reset, ring_at, token_at}
+use Rattle.circuit_core.specs.Enough.{TokenFits, Sized, RunFits, bits_of, bits_peak, forks_peak}
+use Rattle.circuit_core.proofs.Processor.{Fits, fitting, idle_ticks}
+
+-- so many ticks and so many more
+ticks_more : (net : NetTree) (a b c : ℕ) (R : Registers) → c ≡ a + b → ticks net c R ≡ ticks net b (ticks net a R)
+ticks_more net zero b c R e = let z : c ≡ b = omega arith in ap (λ c. ticks net c R) z
+ticks_more net (suc a) b zero R e = absurd (omega arith)
+ticks_more net (suc a) b (suc c) R e = ticks_more net a b c (tick net R) (omega arith)
+
+bits_within : (net : NetTree) (k j : ℕ) (R : Registers) → j ≤ k → bits_of (ticks net j R).live ≤ bits_peak net k R
+bits_within net zero zero R l = omega arith
+bits_within net zero (suc j) R l = absurd (omega arith)
+bits_within net (suc k) zero R l = omega arith
+bits_within net (suc k) (suc j) R l = let h = bits_within net k j (tick net R) (omega arith) in omega arith
+
+forks_within : (net : NetTree) (k j : ℕ) (R : Registers) → j ≤ k → length (ticks net j R).forks ≤ forks_peak net k R
+forks_within net zero zero R l = omega arith
+forks_within net zero (suc j) R l = absurd (omega arith)
+forks_within net (suc k) zero R l = omega arith
+forks_within net (suc k) (suc j) R l = let h = forks_within net k j (tick net R) (omega arith) in omega arith
+
+token_fits : (N : ℕ) (c : Option (ℕ × TokenTree)) → bits_of c ≤ N → TokenFits N c
+token_fits N None l = tt
+token_fits N (Some c) l = (omega arith, omega arith)
+
+none_some : {A : Type 0} (a : A) → None ≡ Some a → ⊥
+none_some a h = cc
+
+-- once the length is reached, no token is left
+rests : (net : NetTree) → Runs net → (v : Val) (n : ℕ) → Length net v n →
+    tick net (ticks net n (reset net)) ≡ ticks net n (reset net)
+rests net runs v n h = go (fitting net runs n)
+  where
+    R : Registers
+    R = ticks net n (reset net)
+
+    idle : (S : State) → Fits R S → ((j : ℕ) → S.tokens j ≡ None) → (c : Option (ℕ × TokenTree)) → R.live ≡ c →
+        tick net R ≡ R
+    idle S f none None e = ap (λ b. cond b R (tick_on net R.live R)) f.ready ∙ ap (λ c. tick_on net c R) e
+    idle S f none (Some c) e =
+        absurd (none_some c.1 (sym (none c.0) ∙ f.shows.tokens c.0 ∙ ap (λ l. token_at l R.ring c.0) e ∙
+        ap (λ b. cond b (Some c.1) (ring_at R.ring c.0)) (eq-eqb c.0 c.0 refl)))
+
+    ended : (S : State) → LeadsTo net (one net n) S → Fits R S → (o : Option Val) → S.answered ≡ o → tick net R ≡ R
+    ended S l f (Some w) e = idle S f (answered_idle net runs.sound (one net n) S l w e).0 R.live refl
+    ended S l f None e =
+        let z : length (one net n) ≡ n = (one_finished net runs n S l).1 e in
+        let a = ((agrees net runs.sound (one net n) S l).answers v).1 (subst (Length net v) (sym z) h) in
+        absurd (none_some v (sym e ∙ a))
+
+    go : ((S : State) × LeadsTo net (one net n) S × Fits R S) → tick net R ≡ R
+    go (S, l, f) = ended S l f S.answered refl
+
+pub peaks_fit : (net : NetTree) → Runs net → (v : Val) (n : ℕ) → Length net v n → (N E : ℕ) →
+    bits_peak net n (reset net) ≤ N → forks_peak net n (reset net) ≤ E → RunFits net N E
+peaks_fit net runs v n h N E b f k = ⊎_elim (λ l. after (omega arith)) (λ l. before k l) (cases_lt n k)
+  where
+    before : (j : ℕ) → j ≤ n → Sized N E (ticks net j (reset net))
+    before j l =
+        let x = bits_within net n j (reset net) l in
+        let y = forks_within net n j (reset net) l in
+        record { token = token_fits N (ticks net j (reset net)).live (omega arith); forks = omega arith }
+
+    after : n ≤ k → Sized N E (ticks net k (reset net))
+    after l =
+        let e = ticks_more net n (k - n) k (reset net) (omega arith) in
+        subst (Sized N E) (sym (e ∙ idle_ticks net (k - n) (ticks net n (reset net)) (rests net runs v n h))) (before n (omega arith))

@@ -1,0 +1,157 @@
+-- The circuit: the registers with bits, and one cycle of its clock.
+-- The token has the number of the innermost fork around it, `mine`, and a fork that of the one around it, so that a join looks at one entry
+-- and searches nothing. A join compares that entry's node and box stack with its own, and raises `full` where they differ. `full` is raised
+-- too where a stack has more than N bits, where no fork of E is free, and where E questions wait. No register says whether the token asks
+-- or answers, and none holds a ticket.
+use Rattle.std.specs.Prelude.{ℕ, zero, suc, Bool, true, false, List, [], ◌∷◌, ◌++◌, length, Option, Some, None, nat_eq, nat_lt}
+use Rattle.std.specs.Prelude.{◌&&◌, ◌||◌, if◌then◌else◌}
+use Rattle.pcf_values.specs.declared.val.Val.{Val}
+use Rattle.pcf_values.specs.declared.val.Val.TheVariants.{Number}
+use Rattle.pcf_values.specs.Values.{val_succ, val_pred, Op, val_op, at_zero}
+use Rattle.pcf_values.specs.Terms.{Side, left_side, right_side}
+use Rattle.net_build.specs.Nets.{NetTree}
+use Rattle.interleave_laws.specs.Start.{start_of}
+use Rattle.circuit_core.specs.Rows.{Row, CONST, SUCC, PRED, TEST, FORK, JOIN, ANSWER, DEAD}
+use Rattle.circuit_core.specs.Rows.{Channel, falls, row_of, channel_of}
+use Rattle.circuit_core.specs.Bits.{Bits, Load, bit_row, over, same_bits}
+
+-- the token: where it comes by, the value that it has if it answers, both stacks, and the fork around it
+pub record Token : Type 0 where
+  pub value : Val
+  pub channel : Channel
+  pub work : Bits
+  pub boxes : Bits
+  pub mine : ℕ
+
+-- a right question that waits
+pub record Question : Type 0 where
+  pub channel : Channel
+  pub boxes : Bits
+  pub mine : ℕ
+
+-- an open fork: the one around it, its node and box stack, and what it was answered first
+pub record Slot : Type 0 where
+  pub around : ℕ
+  pub node : ℕ
+  pub boxes : Bits
+  pub answered : Option Val
+
+pub record Circuit : Type 0 where
+  pub live : Option Token
+  pub queue : List Question
+  -- the forks by their numbers
+  pub slots : ℕ → Option Slot
+  pub result : Option Val
+  pub full : Bool
+  pub moves : ℕ
+
+abbrev pub set_slot : (ℕ → Option Slot) → ℕ → Option Slot → ℕ → Option Slot
+set_slot f s x j = if nat_eq j s then x else f j
+
+-- k where no fork is, and else the other
+abbrev pub or_free : Option Slot → ℕ → Option ℕ → Option ℕ
+or_free None k o = Some k
+or_free (Some f) k o = o
+
+-- the first of n forks from k on that isn't open
+abbrev pub free_from : (ℕ → Option Slot) → ℕ → ℕ → Option ℕ
+free_from f k zero = None
+free_from f k (suc n) = or_free (f k) k (free_from f (suc k) n)
+
+-- it is full
+abbrev pub stuck : Circuit → Circuit
+stuck C = record C { full = true }
+
+abbrev pub goes : Circuit → Token → Circuit
+goes C k = record C { live = Some k }
+
+-- the first question of the queue as the token, and the rest
+abbrev pub next_token : Val → List Question → Option Token
+next_token v [] = None
+next_token v (q ∷ qs) = Some (record { value = v; channel = q.channel; work = []; boxes = q.boxes; mine = q.mine })
+
+abbrev pub later : List Question → List Question
+later [] = []
+later (q ∷ qs) = qs
+
+-- what the operator comes to, where this side has v and the other has u
+abbrev pub both : Op → Side → Val → Val → Val
+both o left_side v u = val_op o v u
+both o right_side v u = val_op o u v
+
+-- a row of stacks
+abbrev pub shifted : ℕ → Load → Token → Circuit → Circuit
+shifted N l k C = if over N l.work || over N l.boxes then stuck C else goes C
+    (record k { channel = l.channel; work = l.work; boxes = l.boxes })
+
+-- a fork at node i, with the slot that is free and whether there is room in the queue
+abbrev pub split : Option ℕ → Bool → ℕ → Channel → Channel → Token → Circuit → Circuit
+split None room i c d k C = stuck C
+split (Some f) false i c d k C = stuck C
+split (Some f) true i c d k C = record C {
+  live = Some (record k { channel = c; mine = f });
+  queue = C.queue ++ record { channel = d; boxes = k.boxes; mine = f } ∷ [];
+  slots = set_slot C.slots f (Some (record { around = k.mine; node = i; boxes = k.boxes; answered = None }));
+}
+
+-- an answer at its own fork: the first is kept, and the second goes on
+abbrev pub arrive : Option Val → Slot → Op → Side → ℕ → Token → Circuit → Circuit
+arrive None f o s w k C = record C {
+  live = next_token k.value C.queue;
+  queue = later C.queue;
+  slots = set_slot C.slots k.mine (Some (record f { answered = Some k.value }));
+}
+arrive (Some u) f o s w k C = record C {
+  live = Some (record k { value = both o s k.value u; channel = falls w; mine = f.around });
+  slots = set_slot C.slots k.mine None;
+}
+
+-- an answer at the innermost fork, if it is the one of node i and these boxes
+abbrev pub compare : Option Slot → ℕ → Op → Side → ℕ → Token → Circuit → Circuit
+compare None i o s w k C = stuck C
+compare (Some f) i o s w k C = if nat_eq i f.node && same_bits k.boxes f.boxes then arrive f.answered f o s w k C else stuck C
+
+-- a row of node i
+abbrev pub operate : ℕ → ℕ → ℕ → Row → Token → Circuit → Circuit
+operate N E i (CONST n c) k C = goes C (record k { value = Number n; channel = c })
+operate N E i (SUCC c) k C = goes C (record k { value = val_succ k.value; channel = c })
+operate N E i (PRED c) k C = goes C (record k { value = val_pred k.value; channel = c })
+operate N E i (TEST c d) k C = goes C (record k { channel = at_zero k.value c d })
+operate N E i (FORK c d) k C = split (free_from C.slots 0 E) (nat_lt (length C.queue) E) i c d k C
+operate N E i (JOIN o s w) k C = compare (C.slots k.mine) i o s w k C
+operate N E i ANSWER k C = record C { live = None; result = Some k.value }
+operate N E i DEAD k C = stuck C
+operate N E i r k C = shifted N (bit_row r k.work k.boxes) k C
+
+-- the row that was found
+abbrev pub operate_on : ℕ → ℕ → Option (ℕ × Row) → Token → Circuit → Circuit
+operate_on N E None k C = stuck C
+operate_on N E (Some r) k C = operate N E r.0 r.1 k C
+
+abbrev pub clock_on : NetTree → ℕ → ℕ → Option Token → Circuit → Circuit
+clock_on net N E None C = C
+clock_on net N E (Some k) C = operate_on N E (row_of net k.channel) k (record C { moves = suc C.moves })
+
+-- one cycle, with stacks of N bits and E forks
+abbrev pub clock : NetTree → ℕ → ℕ → Circuit → Circuit
+clock net N E C = if C.full then C else clock_on net N E C.live C
+
+-- so many cycles
+abbrev pub clocks : NetTree → ℕ → ℕ → ℕ → Circuit → Circuit
+clocks net N E zero C = C
+clocks net N E (suc k) C = clocks net N E k (clock net N E C)
+
+-- the circuit after reset
+abbrev pub powered : NetTree → Circuit
+powered net = record {
+  live = Some (record { value = Number 0; channel = channel_of (start_of net); work = []; boxes = []; mine = 0 });
+  queue = [];
+  slots = λ j. None;
+  result = None;
+  full = false;
+  moves = 0;
+}
+
+-- the circuit k cycles after reset
+abbrev pub circuit : NetTree → ℕ → ℕ → ℕ → Circuit
+circuit net N E k = clocks net N E k (powered net)
