@@ -1,5 +1,4 @@
--- The lines of a text: the first by its length; the lines joined are the text, and those of a listing are its net's.
-pub mod Scans
+-- The lines of a text joined are the text, and those of a listing are its net's.
 pub mod Splitting
 -- Lines stand one behind the other exactly when a listing begins with them.
 pub mod Standings

@@ -19,7 +19,8 @@ use Rattle.net_text.specs.Accepted.{Accepts, ListsProgram, OneAnswer, Sorted}
 use Rattle.net_text.specs.FirstFault.{net_of_lines}
 use Rattle.net_text.specs.Limits.{most_text_bytes, most_type_height}
 use Rattle.net_text.specs.Listing.{listing}
-use Rattle.net_text.specs.NetText.{Begins, FirstBad, NetFits, NetOfText, TextOf, lines, listing_lines}
+use Rattle.text_lines.specs.Lines.{lines}
+use Rattle.net_text.specs.NetText.{Begins, FirstBad, NetFits, NetOfText, TextOf, listing_lines}
 use Rattle.net_text.proofs.Listed.{listing_read}
 use Rattle.net_text.proofs.SmallNets.{fit_types, listing_long, term_net_fits}
 use Rattle.net_text.proofs.Splitting.{listing_split}

@@ -11,7 +11,8 @@ use Rattle.net_text.specs.declared.fault.NetTextFault.TheVariants.{NoMemory, Bad
 use Rattle.net_text.specs.FirstFault.{and_nodes, and_wires, ended, net_of_lines, no_wires, node_at, nodes_from, wire_at, wires_from}
 use Rattle.net_text.specs.FirstFault.{with_node, with_wire}
 use Rattle.net_text.specs.Limits.{most_text_bytes, most_type_height}
-use Rattle.net_text.specs.NetText.{NetOfText, in_front, lines}
+use Rattle.text_lines.specs.Lines.{in_front, lines}
+use Rattle.net_text.specs.NetText.{NetOfText}
 use Rattle.net_text.specs.Scanning.{Blames, with_nodes, with_wires}
 use Rattle.net_text.specs.Standing.{last_line}
 use Rattle.net_text.proofs.FirstFaults.{is_same, same_is}

@@ -14,7 +14,8 @@ use Rattle.net_text.specs.declared.fault.NetTextFault.{NetTextFault}
 use Rattle.net_text.specs.declared.fault.NetTextFault.TheVariants.{NoMemory, BadLine, NotSound, NotOfTerm, TooLong}
 use Rattle.net_text.specs.Limits.{most_text_bytes, most_type_height}
 use Rattle.net_text.specs.Listing.{listing}
-use Rattle.net_text.specs.NetText.{FirstBad, TextOf, lines, ty_height}
+use Rattle.text_lines.specs.Lines.{lines}
+use Rattle.net_text.specs.NetText.{FirstBad, TextOf, ty_height}
 
 -- no wire's type is higher than h
 abbrev pub TypesWithin : ℕ → List WireTree → Type 0

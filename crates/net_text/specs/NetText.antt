@@ -4,6 +4,7 @@
 use Rattle.std.specs.Prelude.{◌≡◌, ℕ, suc, ◌-◌, ◌^◌, ◌<◌, ◌≤◌, max, List, [], ◌∷◌, ◌++◌, length, take, codes, nat_eq, if◌then◌else◌, Result}
 use Rattle.std.specs.Prelude.{Ok, Err}
 use Rattle.pcf_values.specs.Terms.{TyTree, nat, arrow, product}
+use Rattle.text_lines.specs.Lines.{lines}
 use Rattle.net_build.specs.declared.node.Node.{Node}
 use Rattle.net_build.specs.declared.node.Node.TheVariants.{Const}
 use Rattle.net_build.specs.Nets.{WireTree, NetTree}
@@ -11,16 +12,6 @@ use Rattle.net_text.specs.declared.fault.NetTextFault.{NetTextFault}
 use Rattle.net_text.specs.declared.fault.NetTextFault.TheVariants.{NoMemory, BadLine, NotSound, NotOfTerm, TooLong}
 use Rattle.net_text.specs.Limits.{most_text_bytes, most_type_height}
 use Rattle.net_text.specs.Listing.{wire_line, node_line, numbers_of, listing}
-
--- the first line with one more byte in front
-abbrev pub in_front : ℕ → List (List ℕ) → List (List ℕ)
-in_front b [] = (b ∷ []) ∷ []
-in_front b (l ∷ ls) = (b ∷ l) ∷ ls
-
--- the lines of a text, each with its line feed; bytes behind the last line feed are a last line, which has none
-abbrev pub lines : List ℕ → List (List ℕ)
-lines [] = []
-lines (b ∷ bs) = if nat_eq b 10 then (b ∷ []) ∷ lines bs else in_front b (lines bs)
 
 -- the lines of a listing
 abbrev pub numbered : {A : Type 0} → (ℕ → A → List ℕ) → ℕ → List A → List (List ℕ)

@@ -1,4 +1,4 @@
--- What the code finds at the front of a text: how long the first line is, and a number, where the code has it.
+-- What the code finds at the front of a text: a number, where the code has it.
 use Rattle.std.specs.Prelude.{◌≡◌, ℕ, suc, ◌^◌, List, [], ◌∷◌, ◌++◌, Option, Some, None, Result, Ok, Err, nat_eq, nat_lt, if◌then◌else◌}
 use Rattle.net_build.specs.declared.node.Node.{Node}
 use Rattle.net_build.specs.Nets.{WireTree, NetTree}
@@ -6,11 +6,6 @@ use Rattle.net_text.specs.declared.fault.NetTextFault.{NetTextFault}
 use Rattle.net_text.specs.declared.fault.NetTextFault.TheVariants.{NoMemory, BadLine, NotSound, NotOfTerm, TooLong}
 use Rattle.net_text.specs.NodeText.{node_fits}
 use Rattle.net_text.specs.FirstFault.{if_right, wire_fits}
-
--- how many bytes the first line has, with its line feed
-abbrev pub first_length : List ℕ → ℕ
-first_length [] = 0
-first_length (b ∷ bs) = if nat_eq b 10 then 1 else suc (first_length bs)
 
 -- a number of 64 bits, or none where it is larger
 abbrev pub in_word : ℕ → Option ℕ

@@ -8,17 +8,18 @@ ghost use Rattle.net_build.specs.Views.{wire_of};
 ghost use Rattle.net_text.specs.declared.fault.NetTextFault.TheVariants.{NoMemory};
 ghost use Rattle.net_text.specs.FirstFault.{net_of_lines, no_wires, nodes_from, wires_from};
 ghost use Rattle.net_text.specs.Limits.{most_text_bytes};
-ghost use Rattle.net_text.specs.NetText.{NetOfText, TextOf, lines};
+ghost use Rattle.text_lines.specs.Lines.{lines};
+ghost use Rattle.net_text.specs.NetText.{NetOfText, TextOf};
 ghost use Rattle.net_text.specs.Scanning.{Blames, with_wires};
 ghost use Rattle.net_text.specs.Standing.{last_line};
 
 use crate::NetTextFault;
 use crate::limits::{NET_TEXT_BYTES, TYPE_HEIGHT};
 use crate::node_line::node_at;
-use crate::scan::cut_line;
 use crate::wire_line::wire_at;
 use net_build::{Net, Node, Wire};
 use std::alloc::{AllocError, Global};
+use text_lines::cut_line;
 
 /// The net of which the bytes are the listing, or the first line that can't stand there in one. More than `limits::NET_TEXT_BYTES` bytes
 /// are refused.

@@ -1,33 +1,10 @@
-//! What stands at the front of a text: a line, a word, a number.
+//! What stands at the front of a text: a word, a number.
 
 ghost use Rattle.std.specs.Prelude.{◌≡◌, ◌<◌, ◌≤◌, ◌+◌, ◌-◌, ◌*◌, ◌∷◌, ℕ, length};
 ghost use Rattle.std.specs.Option.{option_map};
-ghost use Rattle.net_text.specs.NetText.{lines};
-ghost use Rattle.net_text.specs.Scanning.{first_length, in_word};
+ghost use Rattle.net_text.specs.Scanning.{in_word};
 ghost use Rattle.net_text.specs.TypeText.{behind};
 ghost use Rattle.net_text.specs.WireText.{digit, number_from};
-
-/// The first line of a text, with its line feed if it has one, and what stands behind it.
-pub(crate) fn cut_line(bytes: &[u8]) -> (&[u8], &[u8])
-    requires { 0 < length bytes.now }
-    ensures first { lines bytes.now ≡ result.0.now ∷ lines result.1.now }
-    ensures shorter { length result.1.now < length bytes.now }
-{
-    bytes.split_at(line_length(bytes))
-}
-
-/// How many bytes the first line has, with its line feed.
-fn line_length(bytes: &[u8]) -> usize
-    ensures value { result ≡ first_length bytes.now }
-    ensures within { result ≤ length bytes.now }
-{
-    for i in 0..bytes.len() {
-        if bytes[i] == b'\n' {
-            return i + 1;
-        }
-    }
-    bytes.len()
-}
 
 /// What stands behind a word, where the text begins with it.
 pub(crate) fn behind<'a>(word: &[u8], text: &'a [u8]) -> Option<&'a [u8]>

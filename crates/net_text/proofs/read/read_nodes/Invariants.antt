@@ -1,7 +1,7 @@
 use Rattle.std.proofs.Common.{◌≡◌, ◌+◌, ◌≤◌, length}
 use Rattle.net_text.specs.FirstFault.{nodes_from}
 use Rattle.net_text.specs.Limits.{most_text_bytes}
-use Rattle.net_text.specs.NetText.{lines}
+use Rattle.text_lines.specs.Lines.{lines}
 use Rattle.net_text.specs.Scanning.{with_nodes}
 use Rattle.net_text.proofs.read.read_nodes.Given as goal
 

@@ -1,7 +1,7 @@
 use Rattle.std.proofs.Common.{◌≡◌, ◌+◌, ◌≤◌, length, map}
 use Rattle.net_build.specs.Views.{wire_of}
 use Rattle.net_text.specs.FirstFault.{wires_from}
-use Rattle.net_text.specs.NetText.{lines}
+use Rattle.text_lines.specs.Lines.{lines}
 use Rattle.net_text.specs.Scanning.{with_wires}
 use Rattle.net_text.proofs.read.read_wires.Given as goal
 

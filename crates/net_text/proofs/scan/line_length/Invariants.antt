@@ -1,6 +1,0 @@
-use Rattle.std.proofs.Common.{◌≡◌, ◌+◌, drop}
-use Rattle.net_text.specs.Scanning.{first_length}
-use Rattle.net_text.proofs.scan.line_length.Given as goal
-
-abbrev pub invariant-loop-i : goal.invariant-loop-i
-invariant-loop-i l = l.i + first_length (drop l.i l.bytes) ≡ first_length l.bytes
