@@ -17,10 +17,11 @@ use Rattle.move_rules.specs.declared.token.Kind.{Kind}
 use Rattle.move_rules.specs.declared.token.Token.{Token}
 use Rattle.move_rules.specs.Places.{TokenTree, place_of}
 use Rattle.move_rules.specs.Views.{token_of, of_kind, place_at}
+use Rattle.move_rules.specs.Walks.{SoloStep}
 use Rattle.move_rules.proofs.Single.{placed}
 use Rattle.interleave_core.specs.Forking.{HasBoxes, work_at, boxes_at}
 use Rattle.interleave_core.specs.LiveMap.{live_entries, live_of}
-use Rattle.interleave_core.specs.Moving.{ChangesIn, Changes, Solo, SoloAt, UnaidedIn, UnaidedAt, Sent}
+use Rattle.interleave_core.specs.Moving.{ChangesIn, Changes, SoloAt, UnaidedIn, UnaidedAt, Sent}
 use Rattle.interleave_laws.proofs.Tickets.{test_nat}
 
 -- a change of one key, as it is seen
@@ -146,14 +147,14 @@ module _ (m : BTreeMap ℕ Token) (f : FinMap nat_cmp TokenTree) (view : live_of
   changes n i (x, y, e, p, h) = (x, y, seen_live i ∙ ap (option_map token_of) e, p, live_put m n i y h ∙ ap (λ f. finite.insert f i (token_of y)) view)
 
   -- a solo move in place
-  solo_live : (net : NetTree) (n : BTreeMap ℕ Token) (i : ℕ) (made : Bool) → ChangesIn (Solo net made) m i n → SoloAt net f i made (live_of n)
+  solo_live : (net : NetTree) (n : BTreeMap ℕ Token) (i : ℕ) (made : Bool) → ChangesIn (SoloStep net made) m i n → SoloAt net f i made (live_of n)
   solo_live net n i true (x, y, e, (k, mv), h) =
       (token_of x, seen_live i ∙ ap (option_map token_of) e, (k, token_of y, mv, live_put m n i y h ∙ ap (λ f. finite.insert f i (token_of y)) view))
   solo_live net n i false (x, y, e, (none, same), h) =
       (token_of x, seen_live i ∙ ap (option_map token_of) e, (none, all_stay n (λ q. h q ∙ ap (λ y. cond (is_at (nat_cmp i) q) (Some y) (tree.get nat_cmp m q)) same ∙ put_back i q x e)))
 
   -- where there was memory for it
-  pub solo_ok : {E : Type 0} (net : NetTree) (n : BTreeMap ℕ Token) (i : ℕ) (r : Result Bool E) → IfOk r (λ made. ChangesIn (Solo net made) m i n) → IfOk r (λ made. SoloAt net f i made (live_of n))
+  pub solo_ok : {E : Type 0} (net : NetTree) (n : BTreeMap ℕ Token) (i : ℕ) (r : Result Bool E) → IfOk r (λ made. ChangesIn (SoloStep net made) m i n) → IfOk r (λ made. SoloAt net f i made (live_of n))
   solo_ok net n i (Ok made) h = solo_live net n i made h
   solo_ok net n i (Err e) h = tt
 

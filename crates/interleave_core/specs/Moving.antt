@@ -21,10 +21,6 @@ ChangesIn P m i n = (x y : Token) × (tree.get nat_cmp m i ≡ Some x) × P x y 
 abbrev pub Changes : (Token → Token → Type 0) → FinMap nat_cmp TokenTree → ℕ → FinMap nat_cmp TokenTree → Type 0
 Changes P f i g = (x y : Token) × (get f i ≡ Some (token_of x)) × P x y × (g ≡ insert f i (token_of y))
 
--- the token makes its solo move, or its move is none and it stays
-abbrev pub Solo : NetTree → Bool → Token → Token → Type 0
-Solo net made x y = MatchBool made ((k : ℕ) × (move net (token_of x) ≡ solo k (token_of y))) (NotSolo (move net (token_of x)) × (y ≡ x))
-
 -- the ticket's token makes its solo move, or its move is none and all stays
 abbrev pub SoloAt : NetTree → FinMap nat_cmp TokenTree → ℕ → Bool → FinMap nat_cmp TokenTree → Type 0
 SoloAt net f i made g = (x : TokenTree) × (get f i ≡ Some x) × MatchBool made ((k : ℕ) × (y : TokenTree) × (move net x ≡ solo k y) × (g ≡ insert f i y)) (NotSolo (move net x) × (g ≡ f))
@@ -44,6 +40,14 @@ sent x w u k = record { wire = w; up = u; kind = k; stacks = x.stacks }
 -- it is sent so
 abbrev pub Sent : ℕ → Bool → Kind → Token → Token → Type 0
 Sent w u k x y = y ≡ sent x w u k
+
+-- the token makes so many solo moves
+abbrev pub Makes : NetTree → ℕ → Token → Token → Type 0
+Makes net n x y = (trail : List ℕ) × Walks net (token_of x) trail (token_of y) × (length trail ≡ n)
+
+-- as many as are wanted, and fewer only where its next move is no solo move
+abbrev pub GoesOn : NetTree → ℕ → ℕ → Token → Token → Type 0
+GoesOn net most n x y = Makes net n x y × (n ≤ most) × ((n ≡ most) ⊎ NotSolo (move net (token_of y)))
 
 -- the token makes solo moves, each of which is written down by its ticket behind a list that has at most so many entries then
 abbrev pub Trails : NetTree → ℕ → List ℕ → List ℕ → ℕ → Token → Token → Type 0

@@ -7,10 +7,11 @@ ghost use Rattle.std.specs.FinMap.{empty, get, insert, remove, len};
 ghost use Rattle.token_stacks.specs.Signatures.{Boxes, load};
 ghost use Rattle.move_rules.specs.Moves.{move, NotSolo, Unaided};
 ghost use Rattle.move_rules.specs.Views.{place_at, of_kind, token_of};
+ghost use Rattle.move_rules.specs.Walks.{SoloStep};
 ghost use Rattle.interleave_core.specs.Forking.{HasBoxes};
-ghost use Rattle.interleave_core.specs.Moving.{ChangesIn, Changes, Solo, SoloAt, UnaidedIn, UnaidedAt, Sent, Trails, WalksOn};
+ghost use Rattle.interleave_core.specs.Moving.{ChangesIn, Changes, SoloAt, UnaidedIn, UnaidedAt, Sent, GoesOn, WalksOn};
 
-use move_rules::{Kind, Token, solo_move};
+use move_rules::{Kind, Token, solo_step};
 use net_build::Net;
 use std::alloc::{AllocError, Global};
 use std::collections::BTreeMap;
@@ -96,33 +97,36 @@ fn next_in(tokens: &Tokens, after: u32) -> Option<u32>
     }
 }
 
-// A token's next move in its place, if it is a solo move.
-fn solo_of(net: &Net, token: &mut Token) -> Result<bool, AllocError>
-    ensures ok { IfOk result (λ made. Solo net.now made token.old token.new) }
-    ensures err { OnErr result (token.new ≡ token.old) }
-    ensures unaided { OnErr result (Unaided (move net.now (token_of token.old))) }
-{
-    match solo_move(net, token)? {
-        Some(_) => Ok(true),
-        None => Ok(false),
-    }
-}
-
-// The same of the token of a ticket.
+// The next move of a ticket's token in its place, if it is a solo move.
 fn solo_in(net: &Net, tokens: &mut Tokens, ticket: u32) -> Result<bool, AllocError>
     requires { IsSome (tree.get nat_cmp tokens.old ticket) }
-    ensures ok { IfOk result (λ made. ChangesIn (Solo net.now made) tokens.old ticket tokens.new) }
+    ensures ok { IfOk result (λ made. ChangesIn (SoloStep net.now made) tokens.old ticket tokens.new) }
     ensures err { OnErr result ((q : ℕ) → tree.get nat_cmp tokens.new q ≡ tree.get nat_cmp tokens.old q) }
     ensures unaided { OnErr result (UnaidedIn net.now tokens.old ticket) }
 {
     match tokens.get_mut(&ticket) {
-        Some(token) => solo_of(net, token),
+        Some(token) => solo_step(net, token),
         None => unreachable!(),
     }
 }
 
-// A token's solo moves in its place, each written down by its ticket, until the list has so many entries or the next move is no solo
-// move. After want of memory some of them are made and written down.
+// A token's solo moves in its place, at most so many, until the next move is no solo move; how many they are. After want of memory some of
+// them are made.
+fn moves_of(net: &Net, token: &mut Token, most: u32) -> Result<u32, AllocError>
+    ensures { IfOk result (λ n. GoesOn net.now most n token.old token.new) }
+{
+    let mut made = 0;
+    while made < most {
+        if !solo_step(net, token)? {
+            break;
+        }
+        made += 1;
+    }
+    Ok(made)
+}
+
+// The same, each move written down by the token's ticket, until the list has so many entries. After want of memory some of them are made,
+// and none is written down.
 fn walk_of(
     net: &Net,
     token: &mut Token,
@@ -133,12 +137,8 @@ fn walk_of(
     requires { length tickets.old.items ≤ most }
     ensures { OnOk result (WalksOn net.now ticket tickets.old.items tickets.new.items most token.old token.new) }
 {
-    while tickets.len() < most as usize {
-        match solo_move(net, token)? {
-            Some(_) => tickets.push(ticket)?,
-            None => break,
-        }
-    }
+    let made = moves_of(net, token, most - tickets.len() as u32)?;
+    tickets.resize(tickets.len() + made as usize, ticket)?;
     Ok(())
 }
 
@@ -249,7 +249,7 @@ impl LiveTokens {
     }
 
     // Makes the ticket's solo moves on this net in place, each written down by its ticket, until the list has so many entries or the
-    // next move is no solo move. After want of memory some of them are made and written down.
+    // next move is no solo move. After want of memory some of them are made, and none is written down.
     pub(crate) fn walk(
         &mut self,
         net: &Net,
