@@ -2,7 +2,7 @@
 
 use crate::rows::{Says, cut, first_wrong};
 use crate::texts::{Written, number};
-use move_rules::{Kind, Moved, Seen, Token, faced, plain_move, solo_move, walk};
+use move_rules::{Kind, Moved, Seen, Token, faced, plain_move, solo_move, solo_step, walk};
 use net_build::Net;
 use pcf_values::Val;
 use std::alloc::{AllocError, Global};
@@ -168,6 +168,21 @@ fn leads_in_place(
     to.is(alloc, &token)
 }
 
+/// Whether the step that answers no node leads there too, and says whether it was made.
+fn leads_alone(
+    alloc: Global,
+    net: &Net,
+    numbers: &str,
+    from: Written<'_>,
+    to: Written<'_>,
+) -> Result<bool, AllocError> {
+    let mut token = from.made(alloc)?;
+    if solo_step(net, &mut token)? == numbers.is_empty() {
+        return Ok(false);
+    }
+    to.is(alloc, &token)
+}
+
 /// Whether the token gets from the one place to the other by its next move and in place.
 pub(crate) fn steps(
     alloc: Global,
@@ -178,7 +193,11 @@ pub(crate) fn steps(
     let (from, to) = cut(tokens, '|');
     let from = Written::token(from);
     let to = Written::token(to);
-    Ok(leads(alloc, net, 1, numbers, from, to)? && leads_in_place(alloc, net, numbers, from, to)?)
+    Ok(
+        leads(alloc, net, 1, numbers, from, to)?
+            && leads_in_place(alloc, net, numbers, from, to)?
+            && leads_alone(alloc, net, numbers, from, to)?,
+    )
 }
 
 #[test]
