@@ -227,3 +227,56 @@ short_read bytes false e = leb-false (length bytes) most_schedule_bytes e
 -- What is answered of any bytes is what they are read as.
 pub first_fault_found : (bytes : List ℕ) → ReadAs bytes (tickets_in bytes)
 first_fault_found bytes = short_read bytes (nat_le (length bytes) most_schedule_bytes) refl
+
+-- the runs that were read, or a fault other than want of memory
+abbrev Tells : Result (List Run) ScheduleFault → Type 0
+Tells s = s ≡ Err NoMemory → ⊥
+
+with_tells : (r : Run) (s : Result (List Run) ScheduleFault) → Tells s → Tells (with_run r s)
+with_tells r (Ok rs) h e = cc
+with_tells r (Err f) h e = h e
+
+ended_tells : (n : ℕ) (ls : List (List ℕ)) → Tells (ended n ls)
+ended_tells n [] e = cc
+ended_tells n (l ∷ ls) e = cc
+
+-- a line by its three tests
+line_tells : (b t c : Bool) (n : ℕ) (r : Run) (s : Result (List Run) ScheduleFault) → Tells s →
+    Tells (if b then (if t then (if c then with_run r s else Err (TooLong n)) else Err (TicketTooWide n)) else Err (BadLine n))
+line_tells true true true n r s h e = with_tells r s h e
+line_tells true true false n r s h e = cc
+line_tells true false c n r s h e = cc
+line_tells false t c n r s h e = cc
+
+runs_tell : (v : Version) (p : Option ℕ) (m n : ℕ) (ls : List (List ℕ)) → Tells (runs_from v p m n ls)
+runs_tell v p m n [] = λ e. cc
+runs_tell v p m n (l ∷ ls) =
+    go (bytes_eq l end_line) (runs_from v (Some (run_in v l).ticket) (m + (run_in v l).count) (suc n) ls)
+    (runs_tell v (Some (run_in v l).ticket) (m + (run_in v l).count) (suc n) ls)
+  where
+    go : (b : Bool) (s : Result (List Run) ScheduleFault) → Tells s →
+        Tells (if b then ended n ls else judged (is_move_line v l && may_follow v p (run_in v l).ticket) m n (run_in v l) s)
+    go true s h = ended_tells n ls
+    go false s h = line_tells (is_move_line v l && may_follow v p (run_in v l).ticket) (nat_lt (run_in v l).ticket (2 ^ 32))
+        (nat_le (m + (run_in v l).count) most_moves) n (run_in v l) s h
+
+header_tells : (ls : List (List ℕ)) → Tells (behind_header ls)
+header_tells [] = λ e. cc
+header_tells (l ∷ ls) = go (bytes_eq l (header Two)) (bytes_eq l (header One))
+  where
+    go : (t o : Bool) → Tells (if t then runs_from Two None 0 2 ls else if o then runs_from One None 0 2 ls else Err BadHeader)
+    go true o = runs_tell Two None 0 2 ls
+    go false true = runs_tell One None 0 2 ls
+    go false false = λ e. cc
+
+tickets_tell : (s : Result (List Run) ScheduleFault) → Tells s → only_tickets s ≡ Err NoMemory → ⊥
+tickets_tell (Ok rs) h e = cc
+tickets_tell (Err f) h e = let same : f ≡ NoMemory = cc in h (ap Err same)
+
+-- No bytes are answered by want of memory.
+pub memory_not_wanted : (bytes : List ℕ) → tickets_in bytes ≡ Err NoMemory → ⊥
+memory_not_wanted bytes = go (nat_le (length bytes) most_schedule_bytes)
+  where
+    go : (b : Bool) → (if b then only_tickets (behind_header (lines bytes)) else Err (TooLong 0)) ≡ Err NoMemory → ⊥
+    go true e = tickets_tell (behind_header (lines bytes)) (header_tells (lines bytes)) e
+    go false e = cc

@@ -10,9 +10,9 @@ use Rattle.schedule_log.specs.Runs.{schedule_text}
 use Rattle.schedule_log.specs.declared.entry.Entry.{Entry}
 use Rattle.schedule_log.specs.Tally.{tally, WorkersUpTo}
 
--- Reading answers the tickets or the first fault of any bytes.
+-- Reading answers the tickets or the first fault of any bytes, and never want of memory, of which nothing is said.
 abbrev pub FirstFaultFound : Type 0
-FirstFaultFound = (bytes : List ℕ) → ReadAs bytes (tickets_in bytes)
+FirstFaultFound = (bytes : List ℕ) → (tickets_in bytes ≡ Err NoMemory → ⊥) × ReadAs bytes (tickets_in bytes)
 
 -- No bytes are read in two ways, but for want of memory.
 abbrev pub OneAnswer : Type 0
