@@ -15,10 +15,10 @@ use Rattle.interleave_laws.proofs.MapLaws.{seen_leads, run_both}
 use Rattle.interleave_laws.proofs.OneWorker.{least_found, least_search, one_finishes, one_continues}
 use Rattle.interleave_core.proofs.AloneRuns.{least_seen}
 use Rattle.schedule_log.specs.declared.entry.Entry.{Entry}
-use Rattle.schedule_log.specs.Logs.{tickets_in_log}
+use Rattle.schedule_log.specs.Logs.{IsMadeBy, by, tickets_in_log}
 use Rattle.token_pool.specs.declared.ending.Ended.{Ended}
-use Rattle.token_pool.specs.Pools.{Pool, Good, IsMadeBy}
-use Rattle.token_pool.specs.Ending.{by, remaining, finished, Finishes, Suits, Replays}
+use Rattle.token_pool.specs.Pools.{Pool, Good}
+use Rattle.token_pool.specs.Ending.{remaining, finished, Finishes, Suits, Replays}
 use Rattle.token_pool.proofs.Moving.{tickets_both, tickets_length}
 
 -- where a finisher stands

@@ -3,7 +3,7 @@ use Rattle.std.proofs.Common.{◌≡◌, ℕ, suc, ◌+◌, ◌<◌, Bool, true,
 use Rattle.std.specs.Prelude.{is_some}
 use Rattle.std.specs.Option.{IsSome}
 use Rattle.std.specs.Ordering.{nat_cmp}
-use Rattle.std.specs.FinMap.{FinMap, get, insert, get-insert, len, len-insert, get-retain_keys, nat_cmp-IsAntisymmetric}
+use Rattle.std.specs.FinMap.{FinMap, get, insert, get-insert, get-empty, empty_of_len, len, len-insert, get-retain_keys, nat_cmp-IsAntisymmetric}
 use Rattle.std.proofs.lemmas.Bool.{cases_lt, cases_eq, ne_eqb, eq-eqb}
 use Rattle.std.proofs.lemmas.Cmp.{nat_cmp_total}
 use Rattle.move_rules.specs.Places.{TokenTree}
@@ -102,6 +102,13 @@ module _ (tokens : FinMap nat_cmp TokenTree) (held : List (Option Held)) where
         go : (o : Option ℕ) → least_from (λ i. get (free_in tokens held) i) 0 next ≡ o → None ≡ least_from (λ i. get (free_in tokens held) i) 0 next
         go None e = sym e
         go (Some i) e = let (_, (x, f), _) = least_found (λ i. get (free_in tokens held) i) next 0 i e in let g = none i in absurd cc
+
+    -- where as many tickets are held as are live, none is free
+    pub all_held : count_held held ≡ len tokens → len tokens ≡ len (free_in tokens held) + count_held held
+        → None ≡ least_from (λ i. get (free_in tokens held) i) 0 next
+    all_held e all =
+        let none = empty_of_len (free_in tokens held) (omega (arith, e, all)) in
+        nothing (λ q. ap (λ f. get f q) none ∙ get-empty nat_cmp q)
 
     pub empty : ((q : ℕ) → get tokens q ≡ None) → None ≡ least_from (λ i. get (free_in tokens held) i) 0 next
     empty none = nothing (λ q. none_free q (none q))

@@ -1,5 +1,5 @@
 -- What a good pool gives to the calls that it makes, and what they give to it.
-use Rattle.std.proofs.Common.{◌≡◌, ◌<◌, ◌≤◌, ◌+◌, ℕ, false, List, [], ◌++◌, length, replicate, set, slice_get, Option, Some, None, sym, ap, ◌∙◌, subst, arith}
+use Rattle.std.proofs.Common.{◌≡◌, ◌<◌, ◌≤◌, ◌+◌, ◌^◌, ℕ, false, List, [], ◌++◌, length, replicate, set, slice_get, Option, Some, None, sym, ap, ◌∙◌, subst, arith}
 use Rattle.std.specs.Option.{IsSome}
 use Rattle.std.specs.FinMap.{get, len}
 use Rattle.pcf_values.specs.Most.{most_budget}
@@ -15,13 +15,13 @@ use Rattle.schedule_log.specs.Logs.{tickets_in_log}
 use Rattle.token_pool.specs.declared.entries.Held.{Held}
 use Rattle.token_pool.specs.declared.entries.Told.{Told}
 use Rattle.token_pool.specs.declared.entries.Told.TheVariants.{Stopped, Token, Ended, Idle, Reserved}
-use Rattle.token_pool.specs.Pools.{Pool, InLimits, Good, Holds, count_held, none_held_by, started}
+use Rattle.token_pool.specs.Pools.{Pool, InLimits, Good, Holds, allowances, count_held, none_held_by, started}
 use Rattle.token_pool.specs.Codes.{pool}
 use Rattle.token_pool.specs.Turns.{turn, held_after, taken, flat, own, count_free}
 use Rattle.token_pool.specs.Pieces.{TellsLive}
 use Rattle.token_pool.specs.declared.entries.Booked.TheVariants.{Done}
 use Rattle.token_pool.specs.Booking.{moves_of, Moves, Books, BookedAs}
-use Rattle.token_pool.proofs.Holding.{in_sum}
+use Rattle.token_pool.proofs.Holding.{in_sum, sum_after_set}
 use Rattle.token_pool.proofs.Moving.{book_keeps, tickets_length}
 use Rattle.token_pool.proofs.Free.{counted}
 use Rattle.token_pool.proofs.Starting.{start_good}
@@ -38,6 +38,10 @@ module _ (p : Pool) (good : Good p) where
   -- each live token is free or held
   pub all_counted : len p.state.tokens ≡ count_free p + count_held p.held
   all_counted = counted p.state.tokens p.held good.live good.apart
+
+-- what is set aside for all workers is a number of the code's
+pub within_small : (p : Pool) → Good p → allowances p.held < 2 ^ 32
+within_small p good = let i = good.within in let b = good.limits.few_moves in omega (arith, i, b)
 
 -- what a worker is told is live
 pub told_live : (p P : Pool) (w : ℕ) (t : Told) → Good p → p ≡ P → w < P.workers → t ≡ turn P w → TellsLive p.state t
@@ -79,6 +83,10 @@ module _ (p : Pool) (good : Good p) (w : ℕ) (h : Held) (owned : own p.held w �
 
   pub still_reached : IsReachedWithin p.net most_budget p.state
   still_reached = reached p good (let f = fits 1 (good.allowed w h holds) in omega (arith, f))
+
+  -- less is set aside for all where it lets go
+  pub let_go_small : allowances (set p.held w None) < 2 ^ 32
+  let_go_small = let s = sum_after_set p.held w (Some h) None holds in let i = within_small p good in omega (arith, s, i)
 
   module _ (n : ℕ) (S : MapState) (log : List Entry) (held : List (Option Held)) (made : run_map p.net p.state (replicate n h.ticket) ≡ Some S) (e : log ≡ p.log ++ moves_of n h.ticket w) (f : held ≡ set p.held w None) where
     pub books : Books p (record p { state = S; log = log; held = held }) w h n

@@ -1,19 +1,15 @@
 -- What the finisher makes of a pool.
 -- Held tickets are free again, and the least live one moves until the answer or the budget, as the one worker would from there. Its
 -- moves are written down for the number of workers, which is no worker's.
-use Rattle.std.specs.Prelude.{◌≡◌, ◌-◌, ℕ, List, ◌++◌, length, map}
+use Rattle.std.specs.Prelude.{◌≡◌, ◌-◌, ℕ, List, ◌++◌, length}
 use Rattle.net_build.specs.Nets.{NetTree}
 use Rattle.interleave_laws.specs.Runs.{Finished}
 use Rattle.interleave_laws.specs.OneWorker.{one_from, one}
 use Rattle.interleave_laws.specs.Maps.{MapState, LeadsToMap, seen}
 use Rattle.schedule_log.specs.declared.entry.Entry.{Entry}
-use Rattle.schedule_log.specs.Logs.{tickets_in_log}
+use Rattle.schedule_log.specs.Logs.{IsMadeBy, by, tickets_in_log}
 use Rattle.token_pool.specs.declared.ending.Ended.{Ended}
-use Rattle.token_pool.specs.Pools.{Pool, IsMadeBy}
-
--- moves of these tickets, all by one worker
-abbrev pub by : ℕ → List ℕ → List Entry
-by w tickets = map (λ i. record { ticket = i; worker = w }) tickets
+use Rattle.token_pool.specs.Pools.{Pool}
 
 -- what the one worker makes of a state, and of as much of the budget as is left
 abbrev pub remaining : NetTree → MapState → ℕ → List Entry → List ℕ

@@ -9,3 +9,4 @@ pub mod Benches
 pub mod Laws
 -- what serves the code's types only
 pub mod Codes
+pub mod Counts

@@ -3,7 +3,6 @@
 -- state is the one that its tickets lead to. The allowance of a held ticket is the number of moves that are set aside for it, so that
 -- moves made elsewhere can be booked later within the budget.
 use Rattle.std.specs.Prelude.{◌≡◌, ◌≤◌, ◌+◌, ℕ, suc, Bool, false, List, [], ◌∷◌, length, replicate, Option, Some, None, slice_get}
-use Rattle.std.specs.List.{All}
 use Rattle.pcf_values.specs.Most.{most_budget, most_workers}
 use Rattle.net_build.specs.Nets.{NetTree}
 use Rattle.interleave_laws.specs.Start.{start_of}
@@ -12,7 +11,7 @@ use Rattle.interleave_laws.specs.OneWorker.{IsOneWorkers}
 use Rattle.interleave_laws.specs.Maps.{MapState, start_map, LeadsToMap}
 use Rattle.interleave_laws.specs.Tickets.{IsLive, IsLeastLive}
 use Rattle.schedule_log.specs.declared.entry.Entry.{Entry}
-use Rattle.schedule_log.specs.Logs.{tickets_in_log}
+use Rattle.schedule_log.specs.Logs.{IsMadeBy, tickets_in_log}
 use Rattle.token_pool.specs.declared.entries.Held.{Held}
 
 -- what workers share
@@ -58,10 +57,6 @@ pub record InLimits (budget workers : ℕ) : Type 0 where
 pub record Alone (p : Pool) : Type 0 where
   pub ours : IsOneWorkers p.net (tickets_in_log p.log)
   pub least : (w : ℕ) (h : Held) → Holds p.held w h → IsLeastLive p.state h.ticket
-
--- each move was made by a worker, or by the finisher, whose number is that of the workers
-abbrev pub IsMadeBy : ℕ → List Entry → Type 0
-IsMadeBy workers log = All (λ e. e.worker ≤ workers) log
 
 -- what is true of every pool
 pub record Good (p : Pool) : Type 0 where

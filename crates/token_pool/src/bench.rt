@@ -4,7 +4,7 @@ ghost use Rattle.token_pool.specs.Benches.{MakesWalk, TurnFor, GivesTurn, TakesI
 ghost use Rattle.interleave_laws.specs.Maps.{MapState};
 ghost use Rattle.token_pool.specs.declared.entries.Told.{Told};
 ghost use Rattle.token_pool.specs.Pieces.{Hands};
-ghost use Rattle.token_pool.specs.Booking.{halted};
+ghost use Rattle.token_pool.specs.Booking.{HoldsOther, halted};
 
 use crate::{Piece, PoolState, Taken};
 use gate_workers::{Bench, Turn};
@@ -49,7 +49,11 @@ impl Bench for PoolState {
         walk(alloc, tool, piece.token, piece.allowance)
     }
 
-    fn hand_in(&mut self, worker: u32, made: Moved) -> Result<(), AllocError> {
+    fn hand_in(&mut self, worker: u32, made: Moved) -> Result<(), AllocError>
+        ensures ok { IfOk result (λ _. TakesIn self.old worker made self.new) }
+        ensures err { OnErr result (self.new ≡ self.old) }
+        ensures ample { OnErr result (HoldsOther self.old worker made) }
+    {
         if self.has_place(worker) {
             self.book(worker, made)?;
         }

@@ -42,7 +42,5 @@ pub(crate) fn write_down(log: &mut Log, count: u32, ticket: u32, worker: u32)
     requires { length log.old.entries + count ≤ log.old.room }
     ensures { log.new ≡ with_entries log.old (moves_of count ticket worker) }
 {
-    for _ in 0..count {
-        log.push(ticket, worker);
-    }
+    log.push_many(ticket, worker, count);
 }

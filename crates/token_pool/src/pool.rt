@@ -15,9 +15,9 @@ ghost use Rattle.token_pool.specs.Ending.{Suits, Finishes, Replays};
 use crate::booking::{play, write_down};
 use crate::ending::play_on;
 use crate::pieces::hand;
-use crate::places::{held_by, holders, set_aside};
-use crate::turns::{hold, let_go, next_line};
-use crate::{Booked, Ended, Held, Taken, Told};
+use crate::places::Places;
+use crate::turns::next_line;
+use crate::{Booked, Ended, Taken, Told};
 use interleave_core::Core;
 use move_rules::Moved;
 use net_build::Net;
@@ -35,7 +35,7 @@ pub struct PoolState {
     workers: u32,
     core: Core,
     log: Log,
-    held: Vec<Option<Held>>,
+    held: Places,
     stopped: bool,
 }
 
@@ -48,9 +48,9 @@ impl Model for PoolState {
 
     ghost coded = { pool_code };
 
-    ghost view = { λ a. pool a.net a.budget a.workers a.core a.log.entries a.held.items a.stopped };
+    ghost view = { λ a. pool a.net a.budget a.workers a.core a.log.entries a.held a.stopped };
 
-    ghost invariant = { λ a. Good (pool a.net a.budget a.workers a.core a.log.entries a.held.items a.stopped) × (a.budget ≤ a.log.room) };
+    ghost invariant = { λ a. Good (pool a.net a.budget a.workers a.core a.log.entries a.held a.stopped) × (a.budget ≤ a.log.room) };
 }
 
 // The net in memory of its own, and the machine's state at its start.
@@ -64,16 +64,12 @@ fn begin(alloc: Global, net: &Net) -> Result<(Net, Core), AllocError>
 }
 
 // Room for the whole log, and a place for each worker.
-fn lists_of(
-    alloc: Global,
-    budget: u32,
-    workers: u32,
-) -> Result<(Log, Vec<Option<Held>>), AllocError>
+fn lists_of(alloc: Global, budget: u32, workers: u32) -> Result<(Log, Places), AllocError>
     ensures log { IfOk result (λ p. p.0 ≡ empty_log budget) }
-    ensures held { IfOk result (λ p. p.1.items ≡ none_held_by workers) }
+    ensures held { IfOk result (λ p. p.1 ≡ none_held_by workers) }
 {
     let log = Log::with_room(alloc, budget)?;
-    let held = vec![in alloc; None; workers as usize]?;
+    let held = Places::free(alloc, workers)?;
     Ok((log, held))
 }
 
@@ -114,7 +110,7 @@ impl PoolState {
     pub fn held_count(&self) -> u32
         ensures { result ≡ count_held self.now.held }
     {
-        holders(&self.held) as u32
+        self.held.holders() as u32
     }
 
     /// How many live tickets no worker holds. Takes no memory.
@@ -128,7 +124,7 @@ impl PoolState {
     fn spent(&self) -> u32
         ensures { result ≡ spent self.now }
     {
-        self.log.len() + set_aside(&self.held)
+        self.log.len() + self.held.set_aside()
     }
 
     /// For how many pieces it is worth to wake a worker: as many as tickets are free, and none where the whole budget is made or set
@@ -171,7 +167,7 @@ impl PoolState {
         if self.stopped {
             return Told::Stopped;
         }
-        if let Some(held) = held_by(&self.held, worker) {
+        if let Some(held) = self.held.held_by(worker) {
             return Told::Token(held);
         }
         next_line(
@@ -198,7 +194,7 @@ impl PoolState {
     {
         let told = self.told(worker);
         let taken = hand(&self.core, told)?;
-        hold(&mut self.held, worker, told);
+        self.held.hold(worker, told);
         Ok(taken)
     }
 
@@ -214,13 +210,13 @@ impl PoolState {
         ensures err { OnErr result (self.new ≡ self.old) }
         ensures ample { OnErr result (HoldsOther self.old worker moved) }
     {
-        let Some(held) = held_by(&self.held, worker) else {
+        let Some(held) = self.held.held_by(worker) else {
             return Ok(Booked::NothingHeld);
         };
         let done = self.log.len();
         let count = play(&mut self.core, &self.net, held, moved)?;
         write_down(&mut self.log, count, held.ticket, worker);
-        let_go(&mut self.held, worker);
+        self.held.let_go(worker);
         Ok(Booked::Done(done))
     }
 

@@ -1,23 +1,28 @@
 //! What a worker is told that asks for work.
-ghost use Rattle.std.specs.Prelude.{◌≡◌, ◌<◌, ◌≤◌, ◌+◌, ℕ, None, set, vec_len};
+ghost use Rattle.std.specs.Prelude.{◌≡◌, ◌<◌, ◌≤◌, ◌+◌, ℕ};
+ghost use Rattle.std.specs.FinMap.{len};
 ghost use Rattle.interleave_laws.specs.Tickets.{IsLive};
-ghost use Rattle.token_pool.specs.Pools.{allowances};
-ghost use Rattle.token_pool.specs.Turns.{least_free_of, allowance, offered, ends, next_lines, held_after};
+ghost use Rattle.token_pool.specs.Pools.{allowances, count_held};
+ghost use Rattle.token_pool.specs.Turns.{free_in, least_free_of, allowance, offered, ends, next_lines};
 
-use crate::places::{holds, nobody_holds, set_aside};
+use crate::places::Places;
 use crate::{Held, Told};
 use interleave_core::Core;
 use pcf_values::Val;
 
-/// The least live ticket that no worker holds.
-pub(crate) fn least_free(core: &Core, places: &[Option<Held>]) -> Option<u32>
+/// The least live ticket that no worker holds. Where as many are held as are live there is none, and no ticket is looked at.
+pub(crate) fn least_free(core: &Core, places: &Places) -> Option<u32>
     requires low { (i : ℕ) → IsLive core.now i → i < core.now.next }
+    requires counted { len core.now.tokens ≡ len (free_in core.now.tokens places.now) + count_held places.now }
     ensures { result ≡ least_free_of core.now places.now }
 {
+    if places.holders() == core.live_count() as usize {
+        return None;
+    }
     let Some(mut ticket) = core.least_live() else {
         return None;
     };
-    while holds(places, ticket) {
+    while places.holds(ticket) {
         match core.next_live(ticket) {
             Some(next) => ticket = next,
             None => return None,
@@ -50,21 +55,16 @@ pub(crate) fn offer(made: u32, budget: u32, workers: u32, ticket: u32) -> Told
 }
 
 // Whether there is an answer, or the whole budget is made and nothing is held.
-fn has_ended(answer: Option<Val>, made: u32, budget: u32, places: &[Option<Held>]) -> bool
+fn has_ended(answer: Option<Val>, made: u32, budget: u32, places: &Places) -> bool
     ensures { result ≡ ends answer made budget places.now }
 {
-    answer.is_some() || (made == budget && nobody_holds(places))
+    answer.is_some() || (made == budget && places.nobody_holds())
 }
 
 /// What a worker is told that holds nothing, where the pool isn't stopped.
-pub(crate) fn next_line(
-    core: &Core,
-    made: u32,
-    places: &[Option<Held>],
-    budget: u32,
-    workers: u32,
-) -> Told
+pub(crate) fn next_line(core: &Core, made: u32, places: &Places, budget: u32, workers: u32) -> Told
     requires low { (i : ℕ) → IsLive core.now i → i < core.now.next }
+    requires counted { len core.now.tokens ≡ len (free_in core.now.tokens places.now) + count_held places.now }
     requires within { made + allowances places.now ≤ budget }
     requires some { 1 ≤ workers }
     ensures { result ≡ next_lines core.now made places.now budget workers }
@@ -73,25 +73,7 @@ pub(crate) fn next_line(
         return Told::Ended;
     }
     match least_free(core, places) {
-        Some(ticket) => offer(made + set_aside(places), budget, workers, ticket),
+        Some(ticket) => offer(made + places.set_aside(), budget, workers, ticket),
         None => Told::Idle,
     }
-}
-
-/// A worker holds what it is told.
-pub(crate) fn hold(places: &mut Vec<Option<Held>>, worker: u32, told: Told)
-    requires { worker < vec_len places.old }
-    ensures { places.new.items ≡ held_after told places.old.items worker }
-{
-    if let Told::Token(held) = told {
-        places[worker as usize] = Some(held);
-    }
-}
-
-/// A worker holds nothing any more.
-pub(crate) fn let_go(places: &mut Vec<Option<Held>>, worker: u32)
-    requires { worker < vec_len places.old }
-    ensures { places.new.items ≡ set places.old.items worker None }
-{
-    places[worker as usize] = None;
 }

@@ -1,5 +1,5 @@
 use Rattle.std.proofs.Common.{sym, ◌∙◌}
-use Rattle.token_pool.proofs.Free.{begins, goes, empty, passes, finds}
+use Rattle.token_pool.proofs.Free.{begins, goes, empty, passes, finds, all_held}
 use Rattle.token_pool.proofs.turns.least_free.Goals as goal
 
 pub loop-ticket-init : goal.loop-ticket-init
@@ -18,3 +18,8 @@ returns-in-None c =
 
 pub returns : goal.returns
 returns c = finds c.args.core.now.tokens c.args.places.now c.args.core.now.next c.requires.low c.loop-ticket.ticket c.loop-ticket.invariant (sym c.holds.ensures ∙ c.loop-ticket-test.false)
+
+pub returns-then-holders-live_count : goal.returns-then-holders-live_count
+returns-then-holders-live_count c =
+    all_held c.args.core.now.tokens c.args.places.now c.args.core.now.next c.requires.low
+    (sym c.holders.ensures.count ∙ c.if-holders-live_count.true ∙ c.live_count.ensures) c.requires.counted

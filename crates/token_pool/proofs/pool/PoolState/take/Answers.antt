@@ -1,4 +1,5 @@
-use Rattle.token_pool.proofs.Standing.{told_live, told_good}
+use Rattle.std.proofs.Common.{refl}
+use Rattle.token_pool.proofs.Standing.{told_live, told_good, within_small}
 use Rattle.token_pool.specs.contracts.pool.PoolState.{the_view}
 use Rattle.token_pool.proofs.pool.PoolState.take.Goals as goal
 
@@ -9,7 +10,13 @@ hand-requires c =
 
 pub invariant_of-self : goal.invariant_of-self
 invariant_of-self c = (
-  told_good (the_view c.self.inside) c.args.self.now c.args.worker c.told-told.result c.hold.new.places.items c.self.invariant.0 c.self.view_is c.requires c.told-told.ensures
+  told_good (the_view c.self.inside) c.args.self.now c.args.worker c.told-told.result c.hold.new.self c.self.invariant.0 c.self.view_is c.requires c.told-told.ensures
       c.hold.ensures,
   c.self.invariant.1,
 )
+
+pub hold-requires-clause-small : goal.hold-requires-clause-small
+hold-requires-clause-small c =
+    let p = the_view c.self.inside in
+    within_small _ (told_good p c.args.self.now c.args.worker c.told-told.result _ c.self.invariant.0 c.self.view_is c.requires
+    c.told-told.ensures refl)
