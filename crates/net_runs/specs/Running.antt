@@ -8,9 +8,7 @@ use Rattle.interleave_laws.specs.Runs.{Finished}
 use Rattle.interleave_laws.specs.OneWorker.{one}
 use Rattle.interleave_laws.specs.Maps.{MapState, LeadsToMap}
 use Rattle.schedule_log.specs.declared.entry.Entry.{Entry}
-use Rattle.schedule_log.specs.Logs.{tickets_in_log}
-use Rattle.token_pool.specs.Pools.{IsMadeBy}
-use Rattle.token_pool.specs.Ending.{by}
+use Rattle.schedule_log.specs.Logs.{IsMadeBy, by, tickets_in_log}
 
 -- The log is a run of the net by so many workers within a budget of moves, and this is its answer, or none.
 pub record IsRun (net : NetTree) (workers budget : ℕ) (answer : Option Val) (log : List Entry) : Type 0 where

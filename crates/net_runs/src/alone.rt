@@ -1,8 +1,8 @@
 //! The run of one worker.
+ghost use Rattle.schedule_log.specs.Logs.{by};
 ghost use Rattle.std.specs.Prelude.{◌≡◌, ◌≤◌, ◌<◌, ◌^◌, IfOk, length};
 ghost use Rattle.pcf_values.specs.Most.{most_budget};
 ghost use Rattle.interleave_laws.specs.Runs.{Runs};
-ghost use Rattle.token_pool.specs.Ending.{by};
 ghost use Rattle.net_runs.specs.Running.{IsRun, IsFirstWorkers};
 
 use interleave_core::run_one;
@@ -12,8 +12,13 @@ use schedule_log::Log;
 use std::alloc::{AllocError, Global};
 use token_pool::Ended;
 
-/// The run of one worker, which moves the least live token at each turn, in place. All moves are of worker 0.
-pub(crate) fn run_alone(alloc: Global, net: &Net, budget: u32) -> Result<Ended, AllocError>
+/// The run of one worker within a budget of moves, with no lock, no thread and no gate: its answer, if it came to one, and its log. The
+/// least live token moves at each turn, in place, and all moves are of worker 0. Memory for the log is taken when the run is over.
+///
+/// # Errors
+///
+/// Out of memory; nothing is kept then.
+pub fn run_alone(alloc: Global, net: &Net, budget: u32) -> Result<Ended, AllocError>
     requires runs { Runs net.now }
     requires budget { (1 ≤ budget) × (budget ≤ most_budget) }
     ensures run { IfOk result (λ e. IsRun net.now 1 budget e.answer e.log.entries) }

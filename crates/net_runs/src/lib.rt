@@ -9,4 +9,5 @@
 mod alone;
 mod running;
 
+pub use alone::run_alone;
 pub use running::run_net;

@@ -21,7 +21,7 @@ use token_pool::{Ended, PoolState};
 ///
 /// # Errors
 ///
-/// Want of memory.
+/// Out of memory; the pool, its log and all threads are gone then.
 pub fn run_net<R: Threads + Wait + Sync, G: Gate>(
     rt: &R,
     alloc: Global,

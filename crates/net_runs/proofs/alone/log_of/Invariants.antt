@@ -1,5 +1,5 @@
+use Rattle.schedule_log.specs.Logs.{by}
 use Rattle.std.proofs.Common.{◌≡◌, length, take}
-use Rattle.token_pool.specs.Ending.{by}
 use Rattle.net_runs.proofs.alone.log_of.Given as goal
 
 abbrev pub invariant-loop-ticket : goal.invariant-loop-ticket
