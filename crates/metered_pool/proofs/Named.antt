@@ -7,11 +7,11 @@ use Rattle.net_build.specs.Nets.{NetTree}
 use Rattle.interleave_laws.specs.Runs.{Finished}
 use Rattle.interleave_laws.specs.Maps.{LeadsToMap}
 use Rattle.schedule_log.specs.declared.entry.Entry.{Entry}
-use Rattle.schedule_log.specs.Logs.{tickets_in_log}
+use Rattle.schedule_log.specs.Logs.{IsMadeBy, by, tickets_in_log}
 use Rattle.schedule_log.specs.Tally.{tally_of}
 use Rattle.token_pool.specs.declared.ending.Ended.{Ended}
-use Rattle.token_pool.specs.Pools.{Pool, IsMadeBy}
-use Rattle.token_pool.specs.Ending.{by, remaining, Finishes, Replays}
+use Rattle.token_pool.specs.Pools.{Pool}
+use Rattle.token_pool.specs.Ending.{remaining, Finishes, Replays}
 use Rattle.token_pool.proofs.Finishing.{tickets_by, made_by}
 use Rattle.net_runs.specs.Running.{IsRun}
 

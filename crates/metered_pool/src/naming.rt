@@ -1,8 +1,6 @@
 //! The log of one worker.
 ghost use Rattle.std.specs.Prelude.{◌≡◌, ◌<◌, ◌^◌, length, IfOk};
-ghost use Rattle.schedule_log.specs.Logs.{tickets_in_log};
-ghost use Rattle.token_pool.specs.Pools.{IsMadeBy};
-ghost use Rattle.token_pool.specs.Ending.{by};
+ghost use Rattle.schedule_log.specs.Logs.{IsMadeBy, by, tickets_in_log};
 
 use schedule_log::{Entry, Log};
 use std::alloc::{AllocError, Global};
