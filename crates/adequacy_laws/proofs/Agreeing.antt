@@ -52,5 +52,6 @@ module _ (net : NetTree) (sound : Sound net) (log : List ℕ) (S : State) (h : L
   }
 
 -- a state of finite maps agrees as what it answers
-pub map_agrees : (net : NetTree) → Sound net → (log : List ℕ) (S : MapState) → LeadsToMap net log S → AgreesWithLength net log S.answered
+pub map_agrees : (net : NetTree) → Sound net → (log : List ℕ) (S : MapState) → LeadsToMap net log S →
+    AgreesWithLength net log S.answered
 map_agrees net sound log S h = agrees net sound log (seen S) (seen_leads net log S h)

@@ -124,7 +124,8 @@ module _ (m : TermTree) (typed : HasType [] m nat) (sound : Sound (net_of m)) wh
       tells_means log S.answered budget (finished_tells (net_of m) sound log S h budget f)
 
   -- the same where states are finite maps
-  pub map_finished_means : (log : List ℕ) (S : MapState) → LeadsToMap (net_of m) log S → (budget : ℕ) → Finished S.answered log budget →
+  pub map_finished_means : (log : List ℕ) (S : MapState) → LeadsToMap (net_of m) log S → (budget : ℕ) →
+      Finished S.answered log budget →
       TellsMeaning m log S.answered budget
   map_finished_means log S h budget f =
       tells_means log S.answered budget (map_finished_tells (net_of m) sound log S h budget f)
@@ -139,7 +140,8 @@ module _ (m : TermTree) (typed : HasType [] m nat) (sound : Sound (net_of m)) wh
 
   -- a budget of a program's length brings its value
   pub enough_budget : (v : Val) → Means m v → (n : ℕ) × Length (net_of m) v n × (
-      (log : List ℕ) (S : MapState) → LeadsToMap (net_of m) log S → (budget : ℕ) → Finished S.answered log budget → n ≤ budget →
+      (log : List ℕ) (S : MapState) → LeadsToMap (net_of m) log S → (budget : ℕ) → Finished S.answered log budget →
+      n ≤ budget →
       S.answered ≡ Some v)
   enough_budget v e =
       let (n, l) = means_has_length v e in

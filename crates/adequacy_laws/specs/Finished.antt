@@ -51,7 +51,8 @@ FinishedTells = InEveryState (λ net log S. (budget : ℕ) → Finished S.answer
 
 -- the same where states are finite maps
 abbrev pub MapFinishedTells : Type 0
-MapFinishedTells = InEveryMapState (λ net log S. (budget : ℕ) → Finished S.answered log budget → TellsLength net log S.answered budget)
+MapFinishedTells = InEveryMapState (λ net log S. (budget : ℕ) → Finished S.answered log budget →
+    TellsLength net log S.answered budget)
 
 -- every finished run of a program's net tells its meaning, whatever the order of moves was
 abbrev pub FinishedMeans : Type 0
@@ -75,5 +76,6 @@ OneMeans = OfEveryProgram (λ m.
 abbrev pub EnoughBudget : Type 0
 EnoughBudget = OfEveryProgram (λ m. (v : Val) → Means m v →
     (n : ℕ) × Length (net_of m) v n × (
-    (log : List ℕ) (S : MapState) → LeadsToMap (net_of m) log S → (budget : ℕ) → Finished S.answered log budget → n ≤ budget →
+    (log : List ℕ) (S : MapState) → LeadsToMap (net_of m) log S → (budget : ℕ) → Finished S.answered log budget →
+    n ≤ budget →
     S.answered ≡ Some v))

@@ -1,5 +1,6 @@
 -- The map of maps and the finite map answer alike, and change alike.
-use Rattle.std.proofs.Common.{◌≡◌, ℕ, Bool, true, false, cond, ◌&&◌, List, [], ◌∷◌, ◌++◌, Option, Some, None, Result, Ok, Err}
+use Rattle.std.proofs.Common.{◌≡◌, ℕ, Bool, true, false, cond, ◌&&◌, List, [], ◌∷◌, ◌++◌, Option, Some, None, Result}
+use Rattle.std.proofs.Common.{Ok, Err}
 use Rattle.std.proofs.Common.{refl, sym, ap, ◌∙◌, subst}
 use Rattle.std.specs.Prelude.{nat_eq}
 use Rattle.std.specs.declared.cmp.Ordering.{Ordering}
@@ -131,7 +132,8 @@ pub puts : (old new : Nodes) (n : ℕ) (t : Boxes) (o : Option Forks) (f' : Fork
     → ((u : Boxes) → tree.get box_cmp f' u ≡ cond (is_eq (box_cmp t u)) kept (in_forks o u)) → Puts old new n t kept
 puts old new n t o f' kept e outer inner =
     let tied = tied_itself nat_cmp_total n in
-    let at_n : tree.get nat_cmp new n ≡ Some f' = outer n ∙ ap (λ (r : Ordering). cond (is_eq r) (Some f') (tree.get nat_cmp old n)) tied in
+    let at_n : tree.get nat_cmp new n ≡ Some f' = outer n ∙
+    ap (λ (r : Ordering). cond (is_eq r) (Some f') (tree.get nat_cmp old n)) tied in
     record {
       here =
           ap (λ (z : Option Forks). in_forks z t) at_n ∙ inner t
@@ -151,7 +153,8 @@ put_at : (old new : Nodes) (n : ℕ) (t : Boxes) (kept : Option Kept) → Puts o
 put_at old new n t kept p m u = go (nat_eq m n) (box_eq u t) refl refl
   where
     go : (a b : Bool) → nat_eq m n ≡ a → box_eq u t ≡ b → entry_at new m u ≡ cond (a && b) kept (entry_at old m u)
-    go true true h g = ap (λ m. entry_at new m u) (eqb-true m n h) ∙ ap (λ u. entry_at new n u) ((boxes_in_order.equal u t).0 g) ∙ p.here
+    go true true h g = ap (λ m. entry_at new m u) (eqb-true m n h) ∙ ap (λ u. entry_at new n u) ((boxes_in_order.equal u t).0 g) ∙
+        p.here
     go true false h g =
         let same = eqb-true m n h in
         let differs : u ≡ t → ⊥ = λ e. let y = (boxes_in_order.equal u t).1 e in let bad : true ≡ false = sym y ∙ g in cc in
@@ -227,7 +230,8 @@ same_arrival (Some (Right w)) = refl
 
 -- the finite map changes as an answer changes it
 arrived : (old new : Nodes) (n : ℕ) (t : Boxes) (s : Side) (v : Val) (o : Option Kept)
-    → IsOrdered nat_cmp old → IsOrdered nat_cmp new → IsOpenFor (option_map entry_of o) (side_of s) → Puts old new n t (kept_after o s v)
+    → IsOrdered nat_cmp old → IsOrdered nat_cmp new → IsOpenFor (option_map entry_of o) (side_of s) →
+    Puts old new n t (kept_after o s v)
     → table_of new ≡ with_arrival (option_map entry_of o) (table_of old) (n, t) (side_of s) v
 arrived old new n t s v None so sn h q = elim h [ ]
 arrived old new n t s v (Some Nothing) so sn h q =

@@ -52,7 +52,8 @@ before_node n t m [] rest below h = h
 before_node n t m (x ∷ xs) rest below h = ap (λ r. ordering_then r (box_cmp t x.0)) below
 
 -- and of all nodes above it
-before_all : (n : ℕ) (t : Boxes) (es : List (ℕ × Forks)) → AllByRecursion (λ m. nat_cmp n m ≡ Less) (keys_of es) → Before (n, t) (flat es)
+before_all : (n : ℕ) (t : Boxes) (es : List (ℕ × Forks)) → AllByRecursion (λ m. nat_cmp n m ≡ Less) (keys_of es) →
+    Before (n, t) (flat es)
 before_all n t [] h = tt
 before_all n t (e ∷ es) h = before_node n t e.0 e.1.entries (flat es) h.0 (before_all n t es h.1)
 

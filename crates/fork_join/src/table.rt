@@ -52,8 +52,8 @@ impl JoinTable {
         }
     }
 
-    /// The open entries, in the order of their keys: by node, and then by box stack. It takes a number of steps and an amount of memory that
-    /// grow with the number of entries, and of nodes that ever forked.
+    /// The open entries, in the order of their keys: by node, and then by box stack. It takes steps and memory that grow with the number
+    /// of entries, and of nodes that ever forked.
     ///
     /// # Errors
     ///

@@ -24,18 +24,26 @@ as_often i [] = refl
 as_often i (s ∷ trail) = ap (λ l. i ∷ l) (as_often i trail)
 
 -- as many steps of the ticket as the trail is long
-adopted_steps : (net : NetTree) → Sound net → (S : MapState) (i : ℕ) (m : Passage) (most n : ℕ) → Reached m → Accepts net S i m most → n ≡ length m.trail → run_map net S (replicate n i) ≡ Some (adopted S i m)
-adopted_steps net sound S i m most n r a e = ap (λ n. run_map net S (replicate n i)) e ∙ ap (run_map net S) (as_often i m.trail) ∙ trail_map net sound m r a.3 S i a.0
+adopted_steps : (net : NetTree) → Sound net → (S : MapState) (i : ℕ) (m : Passage) (most n : ℕ) → Reached m →
+    Accepts net S i m most → n ≡ length m.trail → run_map net S (replicate n i) ≡ Some (adopted S i m)
+adopted_steps net sound S i m most n r a e = ap (λ n. run_map net S (replicate n i)) e ∙ ap (run_map net S) (as_often i m.trail) ∙
+    trail_map net sound m r a.3 S i a.0
 
-module _ (net : NetTree) (f f' : FinMap nat_cmp TokenTree) (g : FinMap key_cmp Entry) (n : ℕ) (v : Option Val) (i : ℕ) (m : Passage) (most : ℕ) where
+module _ (net : NetTree) (f f' : FinMap nat_cmp TokenTree) (g : FinMap key_cmp Entry) (n : ℕ) (v : Option Val) (i : ℕ) (m : Passage)
+    (most : ℕ) where
   -- where it is taken over, these are its steps
-  pub adopted_moves : Sound net → (S : MapState) → state f g n v ≡ S → (r : Option ℕ) → (IsSome r ↔ AcceptsIn net f i m most) → Reached m → IfSome r (λ k. k ≡ length m.trail) → IfSome r (λ k. f' ≡ insert f i (token_of m.after))
+  pub adopted_moves : Sound net → (S : MapState) → state f g n v ≡ S → (r : Option ℕ) →
+      (IsSome r ↔ AcceptsIn net f i m most) → Reached m → IfSome r (λ k. k ≡ length m.trail) →
+      IfSome r (λ k. f' ≡ insert f i (token_of m.after))
       → IfSome r (λ k. run_map net S (replicate k i) ≡ Some (state f' g n v))
   adopted_moves sound S view None a r e h = tt
   adopted_moves sound S view (Some k) a r e h =
-      ap (λ S. run_map net S (replicate k i)) (sym view) ∙ adopted_steps net sound (state f g n v) i m most k r (a.0 refl) e ∙ ap (λ f. Some (state f g n v)) (sym h)
+      ap (λ S. run_map net S (replicate k i)) (sym view) ∙ adopted_steps net sound (state f g n v) i m most k r (a.0 refl) e ∙
+      ap (λ f. Some (state f g n v)) (sym h)
 
   -- and no more tickets are live than before
-  pub adopted_counts : (r : Option ℕ) → (IsSome r ↔ AcceptsIn net f i m most) → IfSome r (λ k. f' ≡ insert f i (token_of m.after)) → IfNone r (f' ≡ f) → Few (state f g n v) → Few (state f' g n v)
+  pub adopted_counts : (r : Option ℕ) → (IsSome r ↔ AcceptsIn net f i m most) →
+      IfSome r (λ k. f' ≡ insert f i (token_of m.after)) → IfNone r (f' ≡ f) → Few (state f g n v) → Few (state f' g n v)
   adopted_counts None a h s few = subst (λ f. Few (state f g n v)) (sym s) few
-  adopted_counts (Some k) a h s few = subst (λ f. Few (state f g n v)) (sym h) (adopted_few (state f g n v) i (token_of m.before) (token_of m.after) (a.0 refl).0 few)
+  adopted_counts (Some k) a h s few = subst (λ f. Few (state f g n v)) (sym h)
+      (adopted_few (state f g n v) i (token_of m.before) (token_of m.after) (a.0 refl).0 few)

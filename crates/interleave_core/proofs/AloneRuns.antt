@@ -1,5 +1,6 @@
 -- The one worker's run, walk by walk and move by move.
-use Rattle.std.proofs.Common.{◌≡◌, ℕ, suc, ◌<◌, ◌≤◌, cond, List, [], ◌∷◌, ◌++◌, length, Some, refl, sym, ap, ◌∙◌, subst, arith, ⊎_elim}
+use Rattle.std.proofs.Common.{◌≡◌, ℕ, suc, ◌<◌, ◌≤◌, cond, List, [], ◌∷◌, ◌++◌, length, Some, refl, sym, ap}
+use Rattle.std.proofs.Common.{◌∙◌, subst, arith, ⊎_elim}
 use Rattle.std.specs.Prelude.{map}
 use Rattle.std.specs.Option.{IsSome}
 use Rattle.std.specs.Ordering.{nat_cmp}
@@ -47,7 +48,8 @@ least_seen S i (h, below) = record { live = the_some (get S.tokens i) h; below =
 
 module _ (net : NetTree) (runs : Runs net) (log : List ℕ) (S : MapState) (a : RunsAlone net log S) where
   -- one move of the least live ticket
-  pub goes_on : (i : ℕ) (T : MapState) (log' : List ℕ) → IsLeastLive S i → step_map net S i ≡ Some T → log' ≡ log ++ i ∷ [] → RunsAlone net log' T
+  pub goes_on : (i : ℕ) (T : MapState) (log' : List ℕ) → IsLeastLive S i → step_map net S i ≡ Some T → log' ≡ log ++ i ∷
+      [] → RunsAlone net log' T
   goes_on i T log' least s e =
       let longer : length (log ++ i ∷ []) ≡ suc (length log) = let k = length-append log (i ∷ []) in omega (arith, k) in
       let one_step : run_map net S (i ∷ []) ≡ Some T = ap (λ o. then_run_map o (λ S. Some S)) s in
@@ -58,7 +60,8 @@ module _ (net : NetTree) (runs : Runs net) (log : List ℕ) (S : MapState) (a : 
 
   -- at the budget, or where nothing is live, the run is done
   pub full : (budget : ℕ) → length log ≤ budget → (length log < budget → ⊥) → log ≡ one net budget
-  full budget l n = let z : length log ≡ budget = ⊎_elim (λ m. absurd (n m)) (λ m. omega arith) (cases_lt (length log) budget) in sym a.ours ∙ ap (one net) z
+  full budget l n = let z : length log ≡ budget = ⊎_elim (λ m. absurd (n m)) (λ m. omega arith) (cases_lt (length log) budget) in
+      sym a.ours ∙ ap (one net) z
 
   -- and so it is where nothing is live
   pub idle : (budget : ℕ) → length log ≤ budget → NoneLive S → log ≡ one net budget
@@ -88,11 +91,13 @@ module _ (net : NetTree) (runs : Runs net) (p : Parts) (f : FinMap nat_cmp Token
   walk_alone a =
       let (x, y, e, ((trail, w, is, few), ends), h) = c in
       let run = walk_map net trail (state_of p) i (token_of x) (token_of y) e w in
-      let to : run_map net (state_of p) (map (λ n. i) trail) ≡ Some walked = run ∙ ap (λ f. Some (state f p.joins p.next p.answer)) (sym h) in
+      let to : run_map net (state_of p) (map (λ n. i) trail) ≡ Some walked = run ∙
+      ap (λ f. Some (state f p.joins p.next p.answer)) (sym h) in
       let led = seen_leads net log (state_of p) a.leads in
       subst (λ l. RunsAlone net l walked) (sym is) (record {
         leads = run_both net log (map (λ n. i) trail) (start_map (start_of net)) (state_of p) walked a.leads to;
-        ours = one_walks net runs log (seen (state_of p)) led trail i (token_of x) (token_of y) a.ours (least_seen (state_of p) i least) e w;
+        ours = one_walks net runs log (seen (state_of p)) led trail i (token_of x) (token_of y) a.ours (least_seen (state_of p) i least) e
+            w;
       })
 
   walk_least : IsLeastLive walked i

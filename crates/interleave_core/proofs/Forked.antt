@@ -31,7 +31,8 @@ module _ (f : FinMap nat_cmp TokenTree) (i n : ℕ) (x : TokenTree) (here : get 
       at_put (insert f n r) i q l ∙ ap (cond (nat_eq q i) (Some l)) (at_put f n q r) ∙ go q (nat_eq q i) (nat_eq q n) refl refl
       ∙ sym (at_put (insert f i l) n q r ∙ ap (cond (nat_eq q n) (Some r)) (at_put f i q l)))
     where
-      go : (q : ℕ) (a b : Bool) → nat_eq q i ≡ a → nat_eq q n ≡ b → cond a (Some l) (cond b (Some r) (get f q)) ≡ cond b (Some r) (cond a (Some l) (get f q))
+      go : (q : ℕ) (a b : Bool) → nat_eq q i ≡ a → nat_eq q n ≡ b →
+          cond a (Some l) (cond b (Some r) (get f q)) ≡ cond b (Some r) (cond a (Some l) (get f q))
       go q true true h g = absurd (differ (sym (eqb-true q i h) ∙ eqb-true q n g))
       go q true false h g = refl
       go q false true h g = refl
@@ -59,21 +60,35 @@ pub one_stack : (f : FinMap nat_cmp TokenTree) (i : ℕ) (t u : Boxes) → HasBo
 one_stack f i t u (x, e, _, b) (y, e', _, b') = sym b ∙ ap (λ x. boxes_at (place_of x)) (some_one x y (sym e ∙ e')) ∙ b'
 
 -- the copied box stack has no entry where the ticket's has none
-pub no_entry : (f : FinMap nat_cmp TokenTree) (g : FinMap key_cmp Entry) (i k b : ℕ) (r : TokenTree) (u : Boxes) → ((t : Boxes) × HasBoxes f i t × (get g (k, t) ≡ None)) → Copies f i b r u → get g (k, u) ≡ None
+pub no_entry : (f : FinMap nat_cmp TokenTree) (g : FinMap key_cmp Entry) (i k b : ℕ) (r : TokenTree) (u : Boxes) →
+    ((t : Boxes) × HasBoxes f i t × (get g (k, t) ≡ None)) → Copies f i b r u → get g (k, u) ≡ None
 no_entry f g i k b r u (t, s, none) (s', _) = ap (λ t. get g (k, t)) (one_stack f i u t s' s) ∙ none
 
 -- a ticket keeps its box stack while a new ticket is given a token
-pub still_has : (f f1 : FinMap nat_cmp TokenTree) (i n b : ℕ) (r : TokenTree) (t : Boxes) → Copies f i b r t → get f n ≡ None → f1 ≡ insert f n r → HasBoxes f1 i t
-still_has f f1 i n b r t ((x, here, w, bs), er) fresh h =
-    (x, ap (λ f. get f i) h ∙ at_put f n i r ∙ ap (λ c. cond c (Some r) (get f i)) (ne_eqb i n (differ f i n x here fresh)) ∙ here, w, bs)
+pub still_has : (f f1 : FinMap nat_cmp TokenTree) (i n b : ℕ) (r : TokenTree) (t : Boxes) → Copies f i b r t → get f n ≡ None →
+    f1 ≡ insert f n r → HasBoxes f1 i t
+still_has f f1 i n b r t ((x, here, w, bs), er) fresh h = (
+  x,
+  ap (λ f. get f i) h ∙ at_put f n i r ∙ ap (λ c. cond c (Some r) (get f i)) (ne_eqb i n (differ f i n x here fresh)) ∙ here,
+  w,
+  bs,
+)
 
 -- the whole fork
-pub forked : (f f1 f2 : FinMap nat_cmp TokenTree) (g g' : FinMap key_cmp Entry) (i n k a b : ℕ) (r : TokenTree) (t : Boxes) → Copies f i b r t → get f n ≡ None
-    → f1 ≡ insert f n r → ((u : Boxes) → HasBoxes f1 i u → f2 ≡ insert f1 i (ask (up a [] u))) → g' ≡ insert g (k, t) pending → ForksTo f f2 g g' i n k a b
+pub forked : (f f1 f2 : FinMap nat_cmp TokenTree) (g g' : FinMap key_cmp Entry) (i n k a b : ℕ) (r : TokenTree) (t : Boxes) →
+    Copies f i b r t → get f n ≡ None
+    → f1 ≡ insert f n r → ((u : Boxes) → HasBoxes f1 i u → f2 ≡ insert f1 i (ask (up a [] u))) →
+    g' ≡ insert g (k, t) pending → ForksTo f f2 g g' i n k a b
 forked f f1 f2 g g' i n k a b r t (s, er) fresh h1 h2 hg =
-    let (x, here, _, _) = s in
-    (t, s, h2 t (still_has f f1 i n b r t (s, er) fresh h1) ∙ ap (λ f. insert f i (ask (up a [] t))) h1 ∙ either_first f i n x here fresh (ask (up a [] t)) r ∙ (λ k. insert (insert f i (ask (up a [] t))) n (er k)), hg)
+    let (x, here, _, _) = s in (
+      t,
+      s,
+      h2 t (still_has f f1 i n b r t (s, er) fresh h1) ∙ ap (λ f. insert f i (ask (up a [] t))) h1 ∙
+          either_first f i n x here fresh (ask (up a [] t)) r ∙ (λ k. insert (insert f i (ask (up a [] t))) n (er k)),
+      hg,
+    )
 
 -- the ticket is there while a new ticket is given a token
-pub there : (f f1 : FinMap nat_cmp TokenTree) (i n b : ℕ) (r : TokenTree) (t : Boxes) → Copies f i b r t → get f n ≡ None → f1 ≡ insert f n r → IsSome (get f1 i)
+pub there : (f f1 : FinMap nat_cmp TokenTree) (i n b : ℕ) (r : TokenTree) (t : Boxes) → Copies f i b r t → get f n ≡ None →
+    f1 ≡ insert f n r → IsSome (get f1 i)
 there f f1 i n b r t (s, er) fresh h = let (x, here, _, _) = s in subst (λ f. IsSome (get f i)) (sym h) (still_there f i n x here fresh r)

@@ -29,11 +29,13 @@ one_token y x q = cc
 
 module _ (net : NetTree) (f : FinMap nat_cmp TokenTree) (g : FinMap key_cmp Entry) (n : ℕ) (v : Option Val) (i : ℕ) where
   -- the step is that of the token's move
-  acts : (x : TokenTree) (m : Move) → get f i ≡ Some x → move net x ≡ m → step_map net (state f g n v) i ≡ act_map m (state f g n v) i
+  acts : (x : TokenTree) (m : Move) → get f i ≡ Some x → move net x ≡ m →
+      step_map net (state f g n v) i ≡ act_map m (state f g n v) i
   acts x m e h = ap (λ o. step_map_on net o (state f g n v) i) e ∙ ap (λ m. act_map m (state f g n v) i) h
 
   -- and so is its name
-  named : (x : TokenTree) (m : Move) → get f i ≡ Some x → move net x ≡ m → step_name net (state f g n v) i ≡ name_of m (state f g n v)
+  named : (x : TokenTree) (m : Move) → get f i ≡ Some x → move net x ≡ m →
+      step_name net (state f g n v) i ≡ name_of m (state f g n v)
   named x m e h = ap (λ o. name_on net o (state f g n v)) e ∙ ap (λ m. name_of m (state f g n v)) h
 
   -- a solo move
@@ -88,12 +90,14 @@ module _ (net : NetTree) (f : FinMap nat_cmp TokenTree) (g : FinMap key_cmp Entr
     its_boxes x t e (y, e', _, bt) = ap (λ x. boxes_at (place_of x)) (one_token x y (sym e ∙ e')) ∙ bt
 
     -- the fork
-    pub fork_steps : (a b : ℕ) (f' : FinMap nat_cmp TokenTree) (g' : FinMap key_cmp Entry) → MetAt net f i k (Fork a b) → ForksTo f f' g g' i n k a b → step_map net (state f g n v) i ≡ Some (state f' g' (suc n) v)
+    pub fork_steps : (a b : ℕ) (f' : FinMap nat_cmp TokenTree) (g' : FinMap key_cmp Entry) → MetAt net f i k (Fork a b) →
+        ForksTo f f' g g' i n k a b → step_map net (state f g n v) i ≡ Some (state f' g' (suc n) v)
     fork_steps a b f' g' (x, e, h, _) (t, has, hf, hg) =
         let move_is : move net x ≡ fork k (up a [] t) (up b [] t) t = h ∙ ap (role_move (Fork a b) k) (its_boxes x t e has) in
         let steps = acts x _ e move_is in
         let none = fork_able t (get g (k, t)) (up a [] t) (up b [] t) (subst IsSome steps able) in
-        steps ∙ ap (λ o. fork_map o (state f g n v) i k (up a [] t) (up b [] t) t) none ∙ (λ j. Some (state (sym hf j) (sym hg j) (suc n) v))
+        steps ∙ ap (λ o. fork_map o (state f g n v) i k (up a [] t) (up b [] t) t) none ∙
+        (λ j. Some (state (sym hf j) (sym hg j) (suc n) v))
 
     -- and its name
     pub fork_name : (a b : ℕ) → MetAt net f i k (Fork a b) → step_name net (state f g n v) i ≡ Some (Forked n)
@@ -104,7 +108,8 @@ module _ (net : NetTree) (f : FinMap nat_cmp TokenTree) (g : FinMap key_cmp Entr
     fork_takes a b met = subst MayTake (sym (fork_name a b met)) tt
 
     -- a join that is made found an entry that waits
-    join_able : (t : Boxes) (o : Option Entry) (p : Side) (op : Operator) (u : Val) (c : ℕ) → IsSome (join_map o (state f g n v) i k (op_of op) (side_of p) u c t) → IsOpenFor o (side_of p)
+    join_able : (t : Boxes) (o : Option Entry) (p : Side) (op : Operator) (u : Val) (c : ℕ) →
+        IsSome (join_map o (state f g n v) i k (op_of op) (side_of p) u c t) → IsOpenFor o (side_of p)
     join_able t None p op u c h = cc
     join_able t (Some pending) Left op u c h = tt
     join_able t (Some pending) Right op u c h = tt
@@ -114,14 +119,16 @@ module _ (net : NetTree) (f : FinMap nat_cmp TokenTree) (g : FinMap key_cmp Entr
     join_able t (Some (has_right w)) Right op u c h = cc
 
     -- a token that joins finds an entry that waits for its side
-    pub join_stands : (op : Operator) (p : Side) (u : Val) (c : ℕ) → MetAt net f i k (Join op p u c) → (t : Boxes) × HasBoxes f i t × IsOpenFor (get g (k, t)) (side_of p)
+    pub join_stands : (op : Operator) (p : Side) (u : Val) (c : ℕ) → MetAt net f i k (Join op p u c) → (t : Boxes) ×
+        HasBoxes f i t × IsOpenFor (get g (k, t)) (side_of p)
     join_stands op p u c (x, e, h, w) =
         let t = boxes_at (place_of x) in
         (t, (x, e, w, refl), join_able t (get g (k, t)) p op u c (subst IsSome (acts x _ e h) able))
 
     -- the join, by its entry
     join_is : (t : Boxes) (o : Option Entry) (p : Side) (op : Operator) (u : Val) (c : ℕ) → IsOpenFor o (side_of p)
-        → join_map o (state f g n v) i k (op_of op) (side_of p) u c t ≡ Some (state (joined_tokens (arrival o) f i op p u c t) (with_arrival o g (k, t) (side_of p) u) n v)
+        → join_map o (state f g n v) i k (op_of op) (side_of p) u c t ≡ Some
+        (state (joined_tokens (arrival o) f i op p u c t) (with_arrival o g (k, t) (side_of p) u) n v)
     join_is t None p op u c h = elim h [ ]
     join_is t (Some pending) p op u c h = refl
     join_is t (Some (has_left w)) Left op u c h = elim h [ ]
@@ -130,7 +137,8 @@ module _ (net : NetTree) (f : FinMap nat_cmp TokenTree) (g : FinMap key_cmp Entr
     join_is t (Some (has_right w)) Right op u c h = elim h [ ]
 
     -- and its name
-    join_name_is : (o : Option Entry) (p : Side) (u : Val) → IsOpenFor o (side_of p) → name_at o u ≡ Some (joined_name (arrival o) p u)
+    join_name_is : (o : Option Entry) (p : Side) (u : Val) → IsOpenFor o (side_of p) →
+        name_at o u ≡ Some (joined_name (arrival o) p u)
     join_name_is None p u h = elim h [ ]
     join_name_is (Some pending) p u h = refl
     join_name_is (Some (has_left w)) Left u h = elim h [ ]
@@ -139,10 +147,12 @@ module _ (net : NetTree) (f : FinMap nat_cmp TokenTree) (g : FinMap key_cmp Entr
     join_name_is (Some (has_right w)) Right u h = elim h [ ]
 
     module _ (op : Operator) (p : Side) (u : Val) (c : ℕ) (met : MetAt net f i k (Join op p u c)) (t : Boxes) (has : HasBoxes f i t) where
-      join_move : (x : TokenTree) → get f i ≡ Some x → move net x ≡ role_move (Join op p u c) k (boxes_at (place_of x)) → move net x ≡ join k (op_of op) (side_of p) u c t
+      join_move : (x : TokenTree) → get f i ≡ Some x → move net x ≡ role_move (Join op p u c) k (boxes_at (place_of x)) →
+          move net x ≡ join k (op_of op) (side_of p) u c t
       join_move x e h = h ∙ ap (role_move (Join op p u c) k) (its_boxes x t e has)
 
-      pub join_steps : (f' : FinMap nat_cmp TokenTree) (g' : FinMap key_cmp Entry) → JoinsAt f f' g g' i k op p u c t → step_map net (state f g n v) i ≡ Some (state f' g' n v)
+      pub join_steps : (f' : FinMap nat_cmp TokenTree) (g' : FinMap key_cmp Entry) → JoinsAt f f' g g' i k op p u c t →
+          step_map net (state f g n v) i ≡ Some (state f' g' n v)
       join_steps f' g' (hf, hg) =
           let (x, e, h, w) = met in
           let steps = acts x _ e (join_move x e h) in
@@ -157,7 +167,8 @@ module _ (net : NetTree) (f : FinMap nat_cmp TokenTree) (g : FinMap key_cmp Entr
           named x _ e (join_move x e h) ∙ join_name_is (get g (k, t)) p u waits
 
   -- the answer
-  pub last_steps : (k : ℕ) (u : Val) (f' : FinMap nat_cmp TokenTree) → MetAt net f i k (Last u) → f' ≡ remove f i → step_map net (state f g n v) i ≡ Some (state f' g n (Some u))
+  pub last_steps : (k : ℕ) (u : Val) (f' : FinMap nat_cmp TokenTree) → MetAt net f i k (Last u) → f' ≡ remove f i →
+      step_map net (state f g n v) i ≡ Some (state f' g n (Some u))
   last_steps k u f' (x, e, h, w) hf = acts x (answer u) e h ∙ ap (λ f. Some (state f g n (Some u))) (sym hf)
 
   -- and its name

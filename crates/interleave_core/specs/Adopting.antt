@@ -11,7 +11,8 @@ use Rattle.interleave_laws.specs.Maps.{MapState}
 
 -- the walk begins with the ticket's token, has at least one move and at most so many, and each node of its trail is the net's
 abbrev pub AcceptsIn : NetTree → FinMap nat_cmp TokenTree → ℕ → Passage → ℕ → Type 0
-AcceptsIn net tokens i m most = (get tokens i ≡ Some (token_of m.before)) × (1 ≤ length m.trail) × (length m.trail ≤ most) × All (Stands net) m.trail
+AcceptsIn net tokens i m most = (get tokens i ≡ Some (token_of m.before)) × (1 ≤ length m.trail) × (length m.trail ≤ most) ×
+    All (Stands net) m.trail
 
 -- the state may take the walk over
 abbrev pub Accepts : NetTree → MapState → ℕ → Passage → ℕ → Type 0

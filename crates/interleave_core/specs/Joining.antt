@@ -27,7 +27,8 @@ abbrev pub op_value : Operator → Side → Val → Val → Val
 op_value o p v w = val_op (op_of o) (both_of p v w).0 (both_of p v w).1
 
 -- the tokens after an answer arrived
-abbrev pub joined_tokens : Arrived → FinMap nat_cmp TokenTree → ℕ → Operator → Side → Val → ℕ → Boxes → FinMap nat_cmp TokenTree
+abbrev pub joined_tokens : Arrived → FinMap nat_cmp TokenTree → ℕ → Operator → Side → Val → ℕ → Boxes →
+    FinMap nat_cmp TokenTree
 joined_tokens First f i o p v c t = remove f i
 joined_tokens (Both w) f i o p v c t = insert f i (ans (op_value o p v w) (down c [] t))
 
@@ -37,5 +38,7 @@ joined_name First p v = Kept
 joined_name (Both w) p v = Joined (both_of p v w).0 (both_of p v w).1
 
 -- tokens and entries after a join at node k and the box stack t
-abbrev pub JoinsAt : (f f' : FinMap nat_cmp TokenTree) (g g' : FinMap key_cmp Entry) (i k : ℕ) → Operator → Side → Val → ℕ → Boxes → Type 0
-JoinsAt f f' g g' i k o p v c t = (f' ≡ joined_tokens (arrival (get g (k, t))) f i o p v c t) × (g' ≡ after_arrival g (k, t) (side_of p) v)
+abbrev pub JoinsAt : (f f' : FinMap nat_cmp TokenTree) (g g' : FinMap key_cmp Entry) (i k : ℕ) → Operator → Side → Val → ℕ →
+    Boxes → Type 0
+JoinsAt f f' g g' i k o p v c t = (f' ≡ joined_tokens (arrival (get g (k, t))) f i o p v c t) ×
+    (g' ≡ after_arrival g (k, t) (side_of p) v)

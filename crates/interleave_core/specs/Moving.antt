@@ -15,7 +15,8 @@ use Rattle.move_rules.specs.Walks.{Walks}
 
 -- the token of the ticket changes so, and all others stay
 abbrev pub ChangesIn : (Token → Token → Type 0) → BTreeMap ℕ Token → ℕ → BTreeMap ℕ Token → Type 0
-ChangesIn P m i n = (x y : Token) × (tree.get nat_cmp m i ≡ Some x) × P x y × ((q : ℕ) → tree.get nat_cmp n q ≡ cond (is_at (nat_cmp i) q) (Some y) (tree.get nat_cmp m q))
+ChangesIn P m i n = (x y : Token) × (tree.get nat_cmp m i ≡ Some x) × P x y ×
+    ((q : ℕ) → tree.get nat_cmp n q ≡ cond (is_at (nat_cmp i) q) (Some y) (tree.get nat_cmp m q))
 
 -- the same of the finite map
 abbrev pub Changes : (Token → Token → Type 0) → FinMap nat_cmp TokenTree → ℕ → FinMap nat_cmp TokenTree → Type 0
@@ -23,7 +24,8 @@ Changes P f i g = (x y : Token) × (get f i ≡ Some (token_of x)) × P x y × (
 
 -- the ticket's token makes its solo move, or its move is none and all stays
 abbrev pub SoloAt : NetTree → FinMap nat_cmp TokenTree → ℕ → Bool → FinMap nat_cmp TokenTree → Type 0
-SoloAt net f i made g = (x : TokenTree) × (get f i ≡ Some x) × MatchBool made ((k : ℕ) × (y : TokenTree) × (move net x ≡ solo k y) × (g ≡ insert f i y)) (NotSolo (move net x) × (g ≡ f))
+SoloAt net f i made g = (x : TokenTree) × (get f i ≡ Some x) ×
+    MatchBool made ((k : ℕ) × (y : TokenTree) × (move net x ≡ solo k y) × (g ≡ insert f i y)) (NotSolo (move net x) × (g ≡ f))
 
 -- the move of the ticket's token needs nothing but that token
 abbrev pub UnaidedIn : NetTree → BTreeMap ℕ Token → ℕ → Type 0
@@ -51,7 +53,8 @@ GoesOn net most n x y = Makes net n x y × (n ≤ most) × ((n ≡ most) ⊎ Not
 
 -- the token makes solo moves, each of which is written down by its ticket behind a list that has at most so many entries then
 abbrev pub Trails : NetTree → ℕ → List ℕ → List ℕ → ℕ → Token → Token → Type 0
-Trails net i before after most x y = (trail : List ℕ) × Walks net (token_of x) trail (token_of y) × (after ≡ before ++ map (λ n. i) trail) × (length after ≤ most)
+Trails net i before after most x y = (trail : List ℕ) × Walks net (token_of x) trail (token_of y) ×
+    (after ≡ before ++ map (λ n. i) trail) × (length after ≤ most)
 
 -- until the list is full, or the next move is no solo move
 abbrev pub WalksOn : NetTree → ℕ → List ℕ → List ℕ → ℕ → Token → Token → Type 0

@@ -1,5 +1,6 @@
 -- What a step is called: by the move of the ticket's token, and at a join by what its entry keeps.
--- The names tell what a step did to the live tickets. It is none just where the step is none because the ticket isn't live, its token has no
+-- The names tell what a step did to the live tickets. It is none just where the step is none because the ticket isn't live, its token has
+-- no
 -- move, or a join finds no entry.
 use Rattle.std.specs.Prelude.{ℕ, Option, Some, None}
 use Rattle.std.specs.FinMap.{get}

@@ -46,7 +46,8 @@ fn arrive(
     v: Val,
 ) -> Arrived
     requires stands { (t : Boxes) × HasBoxes live.now ticket t × IsOpenFor (get joins.old (at, t)) (side_of side) }
-    ensures { (t : Boxes) × HasBoxes live.now ticket t × (result ≡ arrival (get joins.old (at, t))) × (joins.new ≡ after_arrival joins.old (at, t) (side_of side) v) }
+    ensures { (t : Boxes) × HasBoxes live.now ticket t × (result ≡ arrival (get joins.old (at, t))) ×
+        (joins.new ≡ after_arrival joins.old (at, t) (side_of side) v) }
 {
     match live.get(ticket) {
         Some(token) => joins.arrive(at, token.stacks.boxes(), side, v),
@@ -67,7 +68,8 @@ pub(crate) fn join(
     c: u32,
 ) -> Stepped
     requires stands { (t : Boxes) × HasBoxes live.old ticket t × IsOpenFor (get joins.old (at, t)) (side_of side) }
-    ensures { (t : Boxes) × HasBoxes live.old ticket t × JoinsAt live.old live.new joins.old joins.new ticket at operator side v c t × (result ≡ joined_name (arrival (get joins.old (at, t))) side v) }
+    ensures { (t : Boxes) × HasBoxes live.old ticket t × JoinsAt live.old live.new joins.old joins.new ticket at operator side v c t ×
+        (result ≡ joined_name (arrival (get joins.old (at, t))) side v) }
 {
     match arrive(live, joins, ticket, at, side, v) {
         Arrived::First => {

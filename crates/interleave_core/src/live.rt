@@ -76,7 +76,8 @@ fn replace_in(tokens: &mut Tokens, ticket: u32, token: Token)
 
 // The least ticket that has a token.
 fn least_in(tokens: &Tokens) -> Option<u32>
-    ensures { MatchOption result ((q : ℕ) → tree.get nat_cmp tokens.now q ≡ None) (λ i. IsSome (tree.get nat_cmp tokens.now i) × ((q : ℕ) → q < i → tree.get nat_cmp tokens.now q ≡ None)) }
+    ensures { MatchOption result ((q : ℕ) → tree.get nat_cmp tokens.now q ≡ None) (λ i. IsSome (tree.get nat_cmp tokens.now i) ×
+        ((q : ℕ) → q < i → tree.get nat_cmp tokens.now q ≡ None)) }
 {
     match tokens.first_key_value() {
         Some((ticket, _)) => Some(*ticket),
@@ -86,7 +87,8 @@ fn least_in(tokens: &Tokens) -> Option<u32>
 
 // The least ticket above this one that has a token.
 fn next_in(tokens: &Tokens, after: u32) -> Option<u32>
-    ensures { MatchOption result ((q : ℕ) → after < q → tree.get nat_cmp tokens.now q ≡ None) (λ i. (after < i) × IsSome (tree.get nat_cmp tokens.now i) × ((q : ℕ) → after < q → q < i → tree.get nat_cmp tokens.now q ≡ None)) }
+    ensures { MatchOption result ((q : ℕ) → after < q → tree.get nat_cmp tokens.now q ≡ None) (λ i. (after < i) ×
+        IsSome (tree.get nat_cmp tokens.now i) × ((q : ℕ) → after < q → q < i → tree.get nat_cmp tokens.now q ≡ None)) }
 {
     match tokens
         .range((Bound::Excluded(after), Bound::Unbounded))
@@ -225,14 +227,16 @@ impl LiveTokens {
 
     // The least ticket that has a token, and `None` exactly where there is none. Takes no memory.
     pub(crate) fn least(&self) -> Option<u32>
-        ensures { MatchOption result ((q : ℕ) → get self.now q ≡ None) (λ i. IsSome (get self.now i) × ((q : ℕ) → q < i → get self.now q ≡ None)) }
+        ensures { MatchOption result ((q : ℕ) → get self.now q ≡ None) (λ i. IsSome (get self.now i) ×
+            ((q : ℕ) → q < i → get self.now q ≡ None)) }
     {
         least_in(&self.tokens)
     }
 
     // The least ticket above this one that has a token, and `None` exactly where there is none. Takes no memory.
     pub(crate) fn next(&self, after: u32) -> Option<u32>
-        ensures { MatchOption result ((q : ℕ) → after < q → get self.now q ≡ None) (λ i. (after < i) × IsSome (get self.now i) × ((q : ℕ) → after < q → q < i → get self.now q ≡ None)) }
+        ensures { MatchOption result ((q : ℕ) → after < q → get self.now q ≡ None) (λ i. (after < i) × IsSome (get self.now i) ×
+            ((q : ℕ) → after < q → q < i → get self.now q ≡ None)) }
     {
         next_in(&self.tokens, after)
     }
@@ -268,7 +272,8 @@ impl LiveTokens {
     // Takes no memory.
     pub(crate) fn send(&mut self, ticket: u32, wire: u32, up: bool, kind: Kind)
         requires { IsSome (get self.old ticket) }
-        ensures { (t : Boxes) → HasBoxes self.old ticket t → self.new ≡ insert self.old ticket (of_kind kind (place_at wire up (load [] t))) }
+        ensures { (t : Boxes) → HasBoxes self.old ticket t →
+            self.new ≡ insert self.old ticket (of_kind kind (place_at wire up (load [] t))) }
     {
         send_in(&mut self.tokens, ticket, wire, up, kind)
     }

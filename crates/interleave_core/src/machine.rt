@@ -51,6 +51,10 @@ impl Model for Core {
 
 impl Core {
     /// The state in which a run of this net begins: ticket 0 asks for the value of the net's first root.
+    ///
+    /// # Errors
+    ///
+    /// Want of memory.
     pub fn start(alloc: Global, net: &Net) -> Result<Core, AllocError>
         ensures { IfOk result (λ c. c ≡ start_map (start_of net.now)) }
     {
@@ -95,8 +99,8 @@ impl Core {
         self.parts.live.get(ticket)
     }
 
-    /// The open entries, in the order of their keys: by node, and then by box stack. It takes a number of steps and an amount of memory that
-    /// grow with the number of entries, and of nodes that ever forked.
+    /// The open entries, in the order of their keys: by node, and then by box stack. It takes steps and memory that grow with the number
+    /// of entries, and of nodes that ever forked.
     ///
     /// # Errors
     ///

@@ -53,6 +53,10 @@ fn go_on(
 ///
 /// A ticket is looked up once for all its moves up to the next fork, join or answer. Besides the net and the live tokens, the run takes
 /// the memory of its list.
+///
+/// # Errors
+///
+/// Want of memory.
 pub fn run_one(alloc: Global, net: &Net, budget: u32) -> Result<Ran, AllocError>
     requires runs { Runs net.now }
     requires budget { (1 ≤ budget) × (budget ≤ most_budget) }

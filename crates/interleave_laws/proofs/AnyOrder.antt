@@ -2,7 +2,8 @@
 -- A move is determined by its token and by the entry at its key, which both states have; and what it makes of the tokens concerns its own
 -- ticket and a new one. That the other tokens stay alike needs that the moving one stands nowhere else, which no two tokens at one place
 -- give.
-use Rattle.std.proofs.Common.{◌≡◌, ◌≢◌, ℕ, suc, ◌<◌, List, [], ◌∷◌, ◌++◌, length, Option, Some, None, refl, sym, ap, ◌∙◌, subst}
+use Rattle.std.proofs.Common.{◌≡◌, ◌≢◌, ℕ, suc, ◌<◌, List, [], ◌∷◌, ◌++◌, length, Option, Some, None, refl, sym}
+use Rattle.std.proofs.Common.{ap, ◌∙◌, subst}
 use Rattle.std.proofs.Common.{⊎_elim, cond, arith}
 use Rattle.pcf_values.specs.declared.val.Val.{Val}
 use Rattle.token_stacks.specs.Signatures.{Boxes}
@@ -25,7 +26,8 @@ one_token x y h = cc
 
 -- a token that one ticket alone has, in two states of which the second has all tokens of the first
 module _ (S T : State) (i j : ℕ) (x : TokenTree) (here : T.tokens j ≡ Some x) (alone : (k : ℕ) → S.tokens k ≡ Some x → k ≡ i)
-    (low : (k : ℕ) (y : TokenTree) → T.tokens k ≡ Some y → k < T.next) (stays : (y : TokenTree) → StandsIn S y → StandsIn T y) where
+    (low : (k : ℕ) (y : TokenTree) → T.tokens k ≡ Some y → k < T.next) (stays : (y : TokenTree) → StandsIn S y →
+    StandsIn T y) where
   -- what is live in the first after the token's effect is live in the second after it
   goes : (e : Effect) (y : TokenTree) → StandsIn (made_of e S i) y → StandsIn (made_of e T j) y
   goes e y (k, h) =
@@ -35,7 +37,8 @@ module _ (S T : State) (i j : ℕ) (x : TokenTree) (here : T.tokens j ≡ Some x
     where
       beside : (k ≡ i → ⊥) → S.tokens k ≡ Some y → StandsIn T y → StandsIn (made_of e T j) y
       beside differs old (m, there) =
-          let apart : m ≡ j → ⊥ = λ q. let same = one_token y x (sym there ∙ ap T.tokens q ∙ here) in differs (alone k (old ∙ ap Some same)) in
+          let apart : m ≡ j → ⊥ =
+          λ q. let same = one_token y x (sym there ∙ ap T.tokens q ∙ here) in differs (alone k (old ∙ ap Some same)) in
           let below : m ≡ T.next → ⊥ = λ q. let l = low m y there in omega (arith, l, q) in
           (m, tokens_other T j e m apart below ∙ there)
 
@@ -60,7 +63,8 @@ module _ (S T : State) (i j : ℕ) (x : TokenTree) (twins : Twins S T i j x) whe
   }
 
   -- and after the answer, which takes its token away as a first answer does
-  ended : (v : Val) → SameBare (record S { tokens = set_token S.tokens i None; answered = Some v }) (record T { tokens = set_token T.tokens j None; answered = Some v })
+  ended : (v : Val) → SameBare (record S { tokens = set_token S.tokens i None; answered = Some v })
+      (record T { tokens = set_token T.tokens j None; answered = Some v })
   ended v = record {
     stays = goes S T i j x twins.in_second twins.first_alone twins.second_low twins.alike.stays (keeps 0 [] pending);
     back = goes T S j i x twins.in_first twins.second_alone twins.first_low twins.alike.back (keeps 0 [] pending);
@@ -89,7 +93,8 @@ module _ (S T : State) (i j : ℕ) (x : TokenTree) (twins : Twins S T i j x) whe
   moves (fork n l r t) S' h =
       go (T.entries n t) refl (sym (ap (λ o. fork_on o S i n l r t) (twins.alike.entries n t)) ∙ h)
     where
-      go : (o : Option Entry) → T.entries n t ≡ o → fork_on o S i n l r t ≡ Some S' → Both (fork_on (T.entries n t) T j n l r t) S'
+      go : (o : Option Entry) → T.entries n t ≡ o → fork_on o S i n l r t ≡ Some S' →
+          Both (fork_on (T.entries n t) T j n l r t) S'
       go None q h =
           let e = opens n t l r in
           (made_of e T j, ap (λ o. fork_on o T j n l r t) q, known (made_of e S i) (made_of e T j) S' h (made e))
@@ -97,10 +102,12 @@ module _ (S T : State) (i j : ℕ) (x : TokenTree) (twins : Twins S T i j x) whe
   moves (join n op s v w t) S' h =
       go (T.entries n t) refl (sym (ap (λ o. join_on o S i n op s v w t) (twins.alike.entries n t)) ∙ h)
     where
-      and_so : (o : Option Entry) → T.entries n t ≡ o → Both (join_on o T j n op s v w t) S' → Both (join_on (T.entries n t) T j n op s v w t) S'
+      and_so : (o : Option Entry) → T.entries n t ≡ o → Both (join_on o T j n op s v w t) S' →
+          Both (join_on (T.entries n t) T j n op s v w t) S'
       and_so o q (T', g, alike) = (T', ap (λ o. join_on o T j n op s v w t) q ∙ g, alike)
 
-      go : (o : Option Entry) → T.entries n t ≡ o → join_on o S i n op s v w t ≡ Some S' → Both (join_on (T.entries n t) T j n op s v w t) S'
+      go : (o : Option Entry) → T.entries n t ≡ o → join_on o S i n op s v w t ≡ Some S' →
+          Both (join_on (T.entries n t) T j n op s v w t) S'
       go None q h = cc
       go (Some pending) q h =
           let e = keeps n t (kept_as s v) in
@@ -110,7 +117,8 @@ module _ (S T : State) (i j : ℕ) (x : TokenTree) (twins : Twins S T i j x) whe
   moves (answer v) S' h = (
     record T { tokens = set_token T.tokens j None; answered = Some v },
     refl,
-    known (record S { tokens = set_token S.tokens i None; answered = Some v }) (record T { tokens = set_token T.tokens j None; answered = Some v }) S' h (ended v),
+    known (record S { tokens = set_token S.tokens i None; answered = Some v })
+        (record T { tokens = set_token T.tokens j None; answered = Some v }) S' h (ended v),
   )
   moves stay S' h = cc
 
@@ -158,7 +166,8 @@ module _ (net : NetTree) (sound : Sound net) where
       alike_runs rest (log ++ i ∷ []) (log' ++ j ∷ []) S1 T1
       (run_append net log _ S S1 i leads steps) (run_append net log' _ T T1 j leads' steps') alike1 S' runs1)
     where
-      by_step : (x : TokenTree) → S.tokens i ≡ Some x → (o : Option State) → step net S i ≡ o → then_run o (λ S. run net S rest) ≡ Some S'
+      by_step : (x : TokenTree) → S.tokens i ≡ Some x → (o : Option State) → step net S i ≡ o →
+          then_run o (λ S. run net S rest) ≡ Some S'
           → Shorter S i T rest S' → Follows T (i ∷ rest) S'
       by_step x at_i None steps h shorter = cc
       by_step x at_i (Some S1) steps h shorter =
@@ -183,11 +192,13 @@ two_steps net S S1 S2 i j rest first second =
 pub any_order : (net : NetTree) → Runs net → (log : List ℕ) (S : State) → LeadsTo net log S
     → (i j : ℕ) (x y : TokenTree) → S.tokens i ≡ Some x → S.tokens j ≡ Some y → i ≢ j
     → (rest : List ℕ) (S' : State) → run net S (i ∷ j ∷ rest) ≡ Some S'
-    → (rest' : List ℕ) × (T' : State) × (length rest' ≡ length rest) × (run net S (j ∷ i ∷ rest') ≡ Some T') × SameBare S' T'
+    → (rest' : List ℕ) × (T' : State) × (length rest' ≡ length rest) × (run net S (j ∷ i ∷ rest') ≡ Some T') ×
+    SameBare S' T'
 any_order net runs log S leads i j x y at_i at_j differ rest S' goes_on =
     let (S1, S12, S2, S21, first, then_j, second, then_i, alike) = diamond net runs log S leads i j x y at_i at_j differ in
     let one = run_append net (log ++ i ∷ []) _ S1 S12 j (run_append net log _ S S1 i leads first) then_j in
     let two = run_append net (log ++ j ∷ []) _ S2 S21 i (run_append net log _ S S2 j leads second) then_i in
     let from_here : run net S12 rest ≡ Some S' = sym (two_steps net S S1 S12 i j rest first then_j) ∙ goes_on in
-    let (rest', T', long, runs', alike') = alike_runs net runs.sound rest ((log ++ i ∷ []) ++ j ∷ []) ((log ++ j ∷ []) ++ i ∷ []) S12 S21 one two alike S' from_here in
+    let (rest', T', long, runs', alike') = alike_runs net runs.sound rest ((log ++ i ∷ []) ++ j ∷ []) ((log ++ j ∷ []) ++ i ∷
+    []) S12 S21 one two alike S' from_here in
     (rest', T', long, two_steps net S S2 S21 j i rest' second then_i ∙ runs', alike')

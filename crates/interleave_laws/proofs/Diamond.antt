@@ -1,7 +1,8 @@
 -- Two live tickets may move in either order.
 -- Each move is an effect. Two effects of different tickets concern different keys, and then they commute but for the names of new
 -- tickets; or they are both answers of one entry, and then the token that goes on has the other's ticket and is else the same.
-use Rattle.std.proofs.Common.{◌≡◌, ◌≢◌, ◌⊎◌, ℕ, suc, ◌<◌, ◌≤◌, Bool, true, false, cond, List, [], ◌∷◌, ◌++◌, Option, Some, None, refl, sym, ap, ◌∙◌, subst, ⊎_elim, inl, inr, arith}
+use Rattle.std.proofs.Common.{◌≡◌, ◌≢◌, ◌⊎◌, ℕ, suc, ◌<◌, ◌≤◌, Bool, true, false, cond, List, [], ◌∷◌}
+use Rattle.std.proofs.Common.{◌++◌, Option, Some, None, refl, sym, ap, ◌∙◌, subst, ⊎_elim, inl, inr, arith}
 use Rattle.std.proofs.lemmas.Bool.{eq-eqb, ne_eqb, eqb-true, eqb-false}
 use Rattle.std.specs.Prelude.{nat_eq, if◌then◌else◌, slice_get}
 use Rattle.pcf_values.specs.declared.val.Val.{Val}
@@ -16,7 +17,8 @@ use Rattle.net_build.specs.Sides.{node_below}
 use Rattle.net_build.specs.Sound.{Sound}
 use Rattle.move_rules.specs.Places.{Place, up, down, turned, TokenTree, ask, ans}
 use Rattle.move_rules.specs.Table.{on_found, plain_up, plain_down}
-use Rattle.move_rules.specs.Moves.{Look, dead, constant, pass, one, test, two, look, Move, solo, fork, join, answer, stay, solo_at, or_stay, operand_down, ans_down, move, ask_move}
+use Rattle.move_rules.specs.Moves.{Look, dead, constant, pass, one, test, two, look, Move, solo, fork, join, answer, stay, solo_at, or_stay}
+use Rattle.move_rules.specs.Moves.{operand_down, ans_down, move, ask_move}
 use Rattle.move_rules.proofs.Faces.{below_faced}
 use Rattle.interleave_laws.specs.States.{Entries, other, State, start, step, step_on}
 use Rattle.interleave_laws.specs.Runs.{Runs, LeadsTo}
@@ -55,7 +57,8 @@ effect_of (answer v) E = None
 effect_of stay E = None
 
 -- the second answer is an effect
-closes_does : (n : ℕ) (op : Op) (d : Side) (v : Val) (w : ℕ) (s : Boxes) (e : Entry) (u : Val) (y : TokenTree) → other op e d v ≡ Some u → y ≡ ans u (down w [] s) → joins n op d v w s (Some e) ≡ Some (closes n s y)
+closes_does : (n : ℕ) (op : Op) (d : Side) (v : Val) (w : ℕ) (s : Boxes) (e : Entry) (u : Val) (y : TokenTree) →
+    other op e d v ≡ Some u → y ≡ ans u (down w [] s) → joins n op d v w s (Some e) ≡ Some (closes n s y)
 closes_does n op d v w s pending u y h q = cc
 closes_does n op d v w s (has_left z) u y h q = ap (closed n w s) h ∙ ap (λ y. Some (closes n s y)) (sym q)
 closes_does n op d v w s (has_right z) u y h q = ap (closed n w s) h ∙ ap (λ y. Some (closes n s y)) (sym q)
@@ -64,8 +67,10 @@ closes_does n op d v w s (has_right z) u y h q = ap (closed n w s) h ∙ ap (λ 
 does_effect : (net : NetTree) (E : Entries) (x : TokenTree) (e : Effect) → Does net E x e → effect_of (move net x) E ≡ Some e
 does_effect net E x (turn y) (k, h) = ap (λ m. effect_of m E) h
 does_effect net E x (opens n s l r) (h, g) = ap (λ m. effect_of m E) h ∙ ap (forks n s l r) g
-does_effect net E x (keeps n s e) (op, d, v, w, h, g, q) = ap (λ m. effect_of m E) h ∙ ap (joins n op d v w s) g ∙ ap (λ e. Some (keeps n s e)) (sym q)
-does_effect net E x (closes n s y) (op, d, v, w, e, u, h, g, z, q) = ap (λ m. effect_of m E) h ∙ ap (joins n op d v w s) g ∙ closes_does n op d v w s e u y z q
+does_effect net E x (keeps n s e) (op, d, v, w, h, g, q) = ap (λ m. effect_of m E) h ∙ ap (joins n op d v w s) g ∙
+    ap (λ e. Some (keeps n s e)) (sym q)
+does_effect net E x (closes n s y) (op, d, v, w, e, u, h, g, z, q) = ap (λ m. effect_of m E) h ∙ ap (joins n op d v w s) g ∙
+    closes_does n op d v w s e u y z q
 
 -- what becomes of the ticket, and the new ticket's token
 abbrev self : Effect → Option TokenTree
@@ -81,43 +86,53 @@ born _ = None
 module _ (S : State) (i : ℕ) where
   pub tokens_self : (e : Effect) → (i ≡ S.next → ⊥) → on_tokens e i S.next S.tokens i ≡ self e
   tokens_self (turn x) d = ap (λ b. cond b (Some x) (S.tokens i)) (eq-eqb i i refl)
-  tokens_self (opens n s l r) d = ap (λ b. cond b (Some (ask r)) (if nat_eq i i then Some (ask l) else S.tokens i)) (ne_eqb i S.next d) ∙ ap (λ b. cond b (Some (ask l)) (S.tokens i)) (eq-eqb i i refl)
+  tokens_self (opens n s l r) d = ap (λ b. cond b (Some (ask r)) (if nat_eq i i then Some (ask l) else S.tokens i)) (ne_eqb i S.next d) ∙
+      ap (λ b. cond b (Some (ask l)) (S.tokens i)) (eq-eqb i i refl)
   tokens_self (keeps n s e) d = ap (λ b. cond b None (S.tokens i)) (eq-eqb i i refl)
   tokens_self (closes n s x) d = ap (λ b. cond b (Some x) (S.tokens i)) (eq-eqb i i refl)
 
   pub tokens_born : (e : Effect) (x : TokenTree) → born e ≡ Some x → on_tokens e i S.next S.tokens S.next ≡ Some x
   tokens_born (turn y) x h = cc
-  tokens_born (opens n s l r) x h = ap (λ b. cond b (Some (ask r)) (if nat_eq S.next i then Some (ask l) else S.tokens S.next)) (eq-eqb S.next S.next refl) ∙ h
+  tokens_born (opens n s l r) x h = ap (λ b. cond b (Some (ask r)) (if nat_eq S.next i then Some (ask l) else S.tokens S.next))
+      (eq-eqb S.next S.next refl) ∙ h
   tokens_born (keeps n s e) x h = cc
   tokens_born (closes n s y) x h = cc
 
-  pub tokens_other : (e : Effect) (j : ℕ) → (j ≡ i → ⊥) → (j ≡ S.next → ⊥) → on_tokens e i S.next S.tokens j ≡ S.tokens j
+  pub tokens_other : (e : Effect) (j : ℕ) → (j ≡ i → ⊥) → (j ≡ S.next → ⊥) →
+      on_tokens e i S.next S.tokens j ≡ S.tokens j
   tokens_other (turn x) j d d' = ap (λ b. cond b (Some x) (S.tokens j)) (ne_eqb j i d)
-  tokens_other (opens n s l r) j d d' = ap (λ b. cond b (Some (ask r)) (if nat_eq j i then Some (ask l) else S.tokens j)) (ne_eqb j S.next d') ∙ ap (λ b. cond b (Some (ask l)) (S.tokens j)) (ne_eqb j i d)
+  tokens_other (opens n s l r) j d d' = ap (λ b. cond b (Some (ask r)) (if nat_eq j i then Some (ask l) else S.tokens j))
+      (ne_eqb j S.next d') ∙ ap (λ b. cond b (Some (ask l)) (S.tokens j)) (ne_eqb j i d)
   tokens_other (keeps n s e) j d d' = ap (λ b. cond b None (S.tokens j)) (ne_eqb j i d)
   tokens_other (closes n s x) j d d' = ap (λ b. cond b (Some x) (S.tokens j)) (ne_eqb j i d)
 
   -- where a token of the state after comes from
-  pub tokens_from : (e : Effect) (j : ℕ) (x : TokenTree) → on_tokens e i S.next S.tokens j ≡ Some x → ((j ≡ i) × (self e ≡ Some x)) ⊎ (((j ≡ S.next) × (born e ≡ Some x)) ⊎ ((j ≡ i → ⊥) × (S.tokens j ≡ Some x)))
+  pub tokens_from : (e : Effect) (j : ℕ) (x : TokenTree) → on_tokens e i S.next S.tokens j ≡ Some x →
+      ((j ≡ i) × (self e ≡ Some x)) ⊎ (((j ≡ S.next) × (born e ≡ Some x)) ⊎ ((j ≡ i → ⊥) × (S.tokens j ≡ Some x)))
   tokens_from (turn y) j x = go (nat_eq j i) refl
     where
-      go : (b : Bool) → nat_eq j i ≡ b → cond b (Some y) (S.tokens j) ≡ Some x → ((j ≡ i) × (Some y ≡ Some x)) ⊎ (((j ≡ S.next) × (None ≡ Some x)) ⊎ ((j ≡ i → ⊥) × (S.tokens j ≡ Some x)))
+      go : (b : Bool) → nat_eq j i ≡ b → cond b (Some y) (S.tokens j) ≡ Some x → ((j ≡ i) × (Some y ≡ Some x)) ⊎
+          (((j ≡ S.next) × (None ≡ Some x)) ⊎ ((j ≡ i → ⊥) × (S.tokens j ≡ Some x)))
       go true e h = inl (eqb-true j i e, h)
       go false e h = inr (inr (eqb-false j i e, h))
   tokens_from (opens n s l r) j x = go (nat_eq j S.next) (nat_eq j i) refl refl
     where
-      go : (b c : Bool) → nat_eq j S.next ≡ b → nat_eq j i ≡ c → cond b (Some (ask r)) (cond c (Some (ask l)) (S.tokens j)) ≡ Some x → ((j ≡ i) × (Some (ask l) ≡ Some x)) ⊎ (((j ≡ S.next) × (Some (ask r) ≡ Some x)) ⊎ ((j ≡ i → ⊥) × (S.tokens j ≡ Some x)))
+      go : (b c : Bool) → nat_eq j S.next ≡ b → nat_eq j i ≡ c →
+          cond b (Some (ask r)) (cond c (Some (ask l)) (S.tokens j)) ≡ Some x → ((j ≡ i) × (Some (ask l) ≡ Some x)) ⊎
+          (((j ≡ S.next) × (Some (ask r) ≡ Some x)) ⊎ ((j ≡ i → ⊥) × (S.tokens j ≡ Some x)))
       go true c e e' h = inr (inl (eqb-true j S.next e, h))
       go false true e e' h = inl (eqb-true j i e', h)
       go false false e e' h = inr (inr (eqb-false j i e', h))
   tokens_from (keeps n s y) j x = go (nat_eq j i) refl
     where
-      go : (b : Bool) → nat_eq j i ≡ b → cond b None (S.tokens j) ≡ Some x → ((j ≡ i) × (None ≡ Some x)) ⊎ (((j ≡ S.next) × (None ≡ Some x)) ⊎ ((j ≡ i → ⊥) × (S.tokens j ≡ Some x)))
+      go : (b : Bool) → nat_eq j i ≡ b → cond b None (S.tokens j) ≡ Some x → ((j ≡ i) × (None ≡ Some x)) ⊎
+          (((j ≡ S.next) × (None ≡ Some x)) ⊎ ((j ≡ i → ⊥) × (S.tokens j ≡ Some x)))
       go true e h = cc
       go false e h = inr (inr (eqb-false j i e, h))
   tokens_from (closes n s y) j x = go (nat_eq j i) refl
     where
-      go : (b : Bool) → nat_eq j i ≡ b → cond b (Some y) (S.tokens j) ≡ Some x → ((j ≡ i) × (Some y ≡ Some x)) ⊎ (((j ≡ S.next) × (None ≡ Some x)) ⊎ ((j ≡ i → ⊥) × (S.tokens j ≡ Some x)))
+      go : (b : Bool) → nat_eq j i ≡ b → cond b (Some y) (S.tokens j) ≡ Some x → ((j ≡ i) × (Some y ≡ Some x)) ⊎
+          (((j ≡ S.next) × (None ≡ Some x)) ⊎ ((j ≡ i → ⊥) × (S.tokens j ≡ Some x)))
       go true e h = inl (eqb-true j i e, h)
       go false e h = inr (inr (eqb-false j i e, h))
 
@@ -135,14 +150,18 @@ born_grows (closes n s y) nx x h = cc
 
 -- the tokens after two moves, whatever the order
 abbrev After : State → ℕ → ℕ → Effect → Effect → TokenTree → Type 0
-After S i j e f x = (self e ≡ Some x) ⊎ ((self f ≡ Some x) ⊎ ((born e ≡ Some x) ⊎ ((born f ≡ Some x) ⊎ ((k : ℕ) × (k ≡ i → ⊥) × (k ≡ j → ⊥) × (S.tokens k ≡ Some x)))))
+After S i j e f x = (self e ≡ Some x) ⊎
+    ((self f ≡ Some x) ⊎ ((born e ≡ Some x) ⊎
+    ((born f ≡ Some x) ⊎ ((k : ℕ) × (k ≡ i → ⊥) × (k ≡ j → ⊥) × (S.tokens k ≡ Some x)))))
 
-module _ (S : State) (i j : ℕ) (apart : i ≡ j → ⊥) (low : (k : ℕ) (x : TokenTree) → S.tokens k ≡ Some x → k < S.next) (li : i < S.next) (lj : j < S.next) where
+module _ (S : State) (i j : ℕ) (apart : i ≡ j → ⊥) (low : (k : ℕ) (x : TokenTree) → S.tokens k ≡ Some x →
+    k < S.next) (li : i < S.next) (lj : j < S.next) where
   -- what is live after two effects
   after_two : (e f : Effect) (x : TokenTree) → StandsIn (made_of f (made_of e S i) j) x → After S i j e f x
   after_two e f x (k, h) =
       ⊎_elim (λ (_, q). inr (inl q)) (⊎_elim (λ (_, q). inr (inr (inr (inl q)))) (λ (d, q).
-      ⊎_elim (λ (_, z). inl z) (⊎_elim (λ (_, z). inr (inr (inl z))) (λ (d', z). inr (inr (inr (inr (k, d', d, z)))))) (tokens_from S i e k x q)))
+      ⊎_elim (λ (_, z). inl z) (⊎_elim (λ (_, z). inr (inr (inl z))) (λ (d', z). inr (inr (inr (inr (k, d', d, z))))))
+      (tokens_from S i e k x q)))
       (tokens_from (made_of e S i) j f k x h)
 
   -- and the other way round
@@ -184,7 +203,8 @@ some_true true h = absurd (h refl)
 some_true false h = refl
 
 -- the effect stays where the entry that it reads stays
-same_effect : (m : Move) (E F : Entries) → ((n : ℕ) (t : Boxes) → reads m n t ≡ true → E n t ≡ F n t) → effect_of m E ≡ effect_of m F
+same_effect : (m : Move) (E F : Entries) → ((n : ℕ) (t : Boxes) → reads m n t ≡ true → E n t ≡ F n t) →
+    effect_of m E ≡ effect_of m F
 same_effect (solo k z) E F h = refl
 same_effect (fork n l r s) E F h = ap (forks n s l r) (h n s (key_same n s))
 same_effect (join n op d v w s) E F h = ap (joins n op d v w s) (h n s (key_same n s))
@@ -192,7 +212,8 @@ same_effect (answer v) E F h = refl
 same_effect stay E F h = refl
 
 -- the effect of a join is at its key
-joins_at : (n : ℕ) (op : Op) (d : Side) (v : Val) (w : ℕ) (s : Boxes) (o : Option Entry) (e : Effect) → joins n op d v w s o ≡ Some e → (m : ℕ) (t : Boxes) → at_key e m t ≡ same_key m t n s
+joins_at : (n : ℕ) (op : Op) (d : Side) (v : Val) (w : ℕ) (s : Boxes) (o : Option Entry) (e : Effect) →
+    joins n op d v w s o ≡ Some e → (m : ℕ) (t : Boxes) → at_key e m t ≡ same_key m t n s
 joins_at n op d v w s o e = go o
   where
     at : (f : Effect) → f ≡ e → (m : ℕ) (t : Boxes) → at_key e m t ≡ at_key f m t
@@ -209,7 +230,8 @@ joins_at n op d v w s o e = go o
     go (Some (has_right u)) h = last (other op (has_right u) d v) h
 
 -- the key of the effect is that of the move
-key_reads : (m : Move) (E : Entries) (e : Effect) (n : ℕ) (t : Boxes) → effect_of m E ≡ Some e → at_key e n t ≡ true → reads m n t ≡ true
+key_reads : (m : Move) (E : Entries) (e : Effect) (n : ℕ) (t : Boxes) → effect_of m E ≡ Some e → at_key e n t ≡ true →
+    reads m n t ≡ true
 key_reads (solo k z) E e n t h g = let q : turn z ≡ e = cc in let r = ap (λ e. at_key e n t) q ∙ g in cc
 key_reads (fork m l r s) E e n t h g = go (E m s) h
   where
@@ -221,49 +243,62 @@ key_reads (answer v) E e n t h g = cc
 key_reads stay E e n t h g = cc
 
 -- where both joins are at one node their conclusions are one
-solo_no_join : (i : ℕ) (o : Option Place) (f : Place → TokenTree) (n : ℕ) (op : Op) (d : Side) (v : Val) (w : ℕ) (s : Boxes) → solo_at i o f ≡ join n op d v w s → ⊥
+solo_no_join : (i : ℕ) (o : Option Place) (f : Place → TokenTree) (n : ℕ) (op : Op) (d : Side) (v : Val) (w : ℕ) (s : Boxes) →
+    solo_at i o f ≡ join n op d v w s → ⊥
 solo_no_join i None f n op d v w s h = cc
 solo_no_join i (Some p) f n op d v w s h = cc
 
-ifz_no_join : (a b c : Bool) (x y z : Move) → (k : ℕ) (p q r : TokenTree) → x ≡ solo k p → y ≡ solo k q → z ≡ solo k r → (n : ℕ) (op : Op) (d : Side) (v : Val) (w : ℕ) (s : Boxes) → or_stay (cond a x stay) (or_stay (cond b y stay) (cond c z stay)) ≡ join n op d v w s → ⊥
-ifz_no_join true b c x y z k p q r ex ey ez n op d v w s h = let g : or_stay (solo k p) (or_stay (cond b y stay) (cond c z stay)) ≡ join n op d v w s = ap (λ x. or_stay x (or_stay (cond b y stay) (cond c z stay))) (sym ex) ∙ h in cc
-ifz_no_join false true c x y z k p q r ex ey ez n op d v w s h = let g : or_stay (solo k q) (cond c z stay) ≡ join n op d v w s = ap (λ y. or_stay y (cond c z stay)) (sym ey) ∙ h in cc
+ifz_no_join : (a b c : Bool) (x y z : Move) → (k : ℕ) (p q r : TokenTree) → x ≡ solo k p → y ≡ solo k q → z ≡ solo k r →
+    (n : ℕ) (op : Op) (d : Side) (v : Val) (w : ℕ) (s : Boxes) →
+    or_stay (cond a x stay) (or_stay (cond b y stay) (cond c z stay)) ≡ join n op d v w s → ⊥
+ifz_no_join true b c x y z k p q r ex ey ez n op d v w s h =
+    let g : or_stay (solo k p) (or_stay (cond b y stay) (cond c z stay)) ≡ join n op d v w s =
+    ap (λ x. or_stay x (or_stay (cond b y stay) (cond c z stay))) (sym ex) ∙ h in cc
+ifz_no_join false true c x y z k p q r ex ey ez n op d v w s h =
+    let g : or_stay (solo k q) (cond c z stay) ≡ join n op d v w s = ap (λ y. or_stay y (cond c z stay)) (sym ey) ∙ h in cc
 ifz_no_join false false true x y z k p q r ex ey ez n op d v w s h = let g : solo k r ≡ join n op d v w s = sym ez ∙ h in cc
 ifz_no_join false false false x y z k p q r ex ey ez n op d v w s h = cc
 
-operand_node : (i : ℕ) (op' : Op) (x y c : ℕ) (u : Val) (a : ℕ) (t : Boxes) (n : ℕ) (op : Op) (d : Side) (v : Val) (w : ℕ) (s : Boxes) → operand_down i op' x y c u a t ≡ join n op d v w s →
+operand_node : (i : ℕ) (op' : Op) (x y c : ℕ) (u : Val) (a : ℕ) (t : Boxes) (n : ℕ) (op : Op) (d : Side) (v : Val) (w : ℕ)
+    (s : Boxes) → operand_down i op' x y c u a t ≡ join n op d v w s →
     (x' : ℕ) × (y' : ℕ) × (binary_node op' x y c ≡ binary_node op x' y' w) × (i ≡ n)
 operand_node i op' x y c u a t n op d v w s h = go (nat_eq x a) (nat_eq y a) h
   where
-    same : (e : Side) → join i op' e u c t ≡ join n op d v w s → (x' : ℕ) × (y' : ℕ) × (binary_node op' x y c ≡ binary_node op x' y' w) × (i ≡ n)
+    same : (e : Side) → join i op' e u c t ≡ join n op d v w s → (x' : ℕ) × (y' : ℕ) ×
+        (binary_node op' x y c ≡ binary_node op x' y' w) × (i ≡ n)
     same e h =
         let q : c ≡ w = cc in
         let o : op' ≡ op = cc in
         let r : i ≡ n = cc in
         (x, y, ap (binary_node op' x y) q ∙ ap (λ o. binary_node o x y w) o, r)
 
-    go : (b e : Bool) → or_stay (cond b (join i op' left_side u c t) stay) (cond e (join i op' right_side u c t) stay) ≡ join n op d v w s → (x' : ℕ) × (y' : ℕ) × (binary_node op' x y c ≡ binary_node op x' y' w) × (i ≡ n)
+    go : (b e : Bool) → or_stay (cond b (join i op' left_side u c t) stay) (cond e (join i op' right_side u c t) stay) ≡ join n op d v w
+        s → (x' : ℕ) × (y' : ℕ) × (binary_node op' x y c ≡ binary_node op x' y' w) × (i ≡ n)
     go true e h = same left_side h
     go false true h = same right_side h
     go false false h = cc
 
 -- a join comes from its node's operand
-join_node : (i : ℕ) (nd : Node) (u : Val) (a : ℕ) (m : Work) (t : Boxes) (n : ℕ) (op : Op) (d : Side) (v : Val) (w : ℕ) (s : Boxes) → ans_down i nd u a m t ≡ join n op d v w s → (x : ℕ) × (y : ℕ) × (nd ≡ binary_node op x y w) × (i ≡ n)
+join_node : (i : ℕ) (nd : Node) (u : Val) (a : ℕ) (m : Work) (t : Boxes) (n : ℕ) (op : Op) (d : Side) (v : Val) (w : ℕ)
+    (s : Boxes) → ans_down i nd u a m t ≡ join n op d v w s → (x : ℕ) × (y : ℕ) × (nd ≡ binary_node op x y w) × (i ≡ n)
 join_node i (Plus x y c) u a [] t n op d v w s h = operand_node i plus_op x y c u a t n op d v w s h
 join_node i (Minus x y c) u a [] t n op d v w s h = operand_node i minus_op x y c u a t n op d v w s h
 join_node i (Times x y c) u a [] t n op d v w s h = operand_node i times_op x y c u a t n op d v w s h
 join_node i (Succ x c) u a [] t n op d v w s h = cc
 join_node i (Pred x c) u a [] t n op d v w s h = cc
-join_node i (Ifz b p q c) u a [] t n op d v w s h = absurd (ifz_no_join (nat_eq b a) (nat_eq p a) (nat_eq q a) _ _ _ i _ _ _ refl refl refl n op d v w s h)
+join_node i (Ifz b p q c) u a [] t n op d v w s h =
+    absurd (ifz_no_join (nat_eq b a) (nat_eq p a) (nat_eq q a) _ _ _ i _ _ _ refl refl refl n op d v w s h)
 join_node i (Root c) u a [] t n op d v w s h = cc
 join_node i nd u a m t n op d v w s h = absurd (solo_no_join i (plain_down nd a m t) (ans u) n op d v w s h)
 
 -- a move at a node that was found
-found_move : (o : Option (ℕ × Node)) (f : ℕ → Node → Move) (m : Move) → (m ≡ stay → ⊥) → on_found o stay f ≡ m → (i : ℕ) × (n : Node) × (o ≡ Some (i, n)) × (f i n ≡ m)
+found_move : (o : Option (ℕ × Node)) (f : ℕ → Node → Move) (m : Move) → (m ≡ stay → ⊥) → on_found o stay f ≡ m →
+    (i : ℕ) × (n : Node) × (o ≡ Some (i, n)) × (f i n ≡ m)
 found_move None f m c h = absurd (c (sym h))
 found_move (Some p) f m c h = (p.0, p.1, refl, h)
 
-ask_no_join : (l : Look) (p : Place) (n : ℕ) (op : Op) (d : Side) (v : Val) (w : ℕ) (s : Boxes) → ask_move l p ≡ join n op d v w s → ⊥
+ask_no_join : (l : Look) (p : Place) (n : ℕ) (op : Op) (d : Side) (v : Val) (w : ℕ) (s : Boxes) →
+    ask_move l p ≡ join n op d v w s → ⊥
 ask_no_join dead p n op d v w s h = cc
 ask_no_join (constant k x) p n op d v w s h = cc
 ask_no_join (pass k q) p n op d v w s h = cc
@@ -271,11 +306,13 @@ ask_no_join (one k f q) p n op d v w s h = cc
 ask_no_join (test k c a b) p n op d v w s h = cc
 ask_no_join (two k o t a b) p n op d v w s h = cc
 
-node_at : (net : NetTree) (i n : ℕ) (nd : Node) (op : Op) (w : ℕ) → (x : ℕ) × (y : ℕ) × (nd ≡ binary_node op x y w) × (i ≡ n) → slice_get net.nodes i ≡ Some nd → (a b : ℕ) × (slice_get net.nodes n ≡ Some (binary_node op a b w))
+node_at : (net : NetTree) (i n : ℕ) (nd : Node) (op : Op) (w : ℕ) → (x : ℕ) × (y : ℕ) × (nd ≡ binary_node op x y w) ×
+    (i ≡ n) → slice_get net.nodes i ≡ Some nd → (a b : ℕ) × (slice_get net.nodes n ≡ Some (binary_node op a b w))
 node_at net i n nd op w (x, y, q, r) h = (x, y, subst (λ n. slice_get net.nodes n ≡ Some (binary_node op x y w)) r (h ∙ ap Some q))
 
 -- a join is at a node of its operation and its conclusion
-join_out : (net : NetTree) → Sound net → (x : TokenTree) (n : ℕ) (op : Op) (d : Side) (v : Val) (w : ℕ) (s : Boxes) → move net x ≡ join n op d v w s → (a b : ℕ) × (slice_get net.nodes n ≡ Some (binary_node op a b w))
+join_out : (net : NetTree) → Sound net → (x : TokenTree) (n : ℕ) (op : Op) (d : Side) (v : Val) (w : ℕ) (s : Boxes) →
+    move net x ≡ join n op d v w s → (a b : ℕ) × (slice_get net.nodes n ≡ Some (binary_node op a b w))
 join_out net sound (ask p) n op d v w s h = absurd (ask_no_join (look net p) p n op d v w s h)
 join_out net sound (ans u (up c m t)) n op d v w s h =
     let (i, nd, e, g) = found_move _ (λ i n. solo_at i (plain_up n c m t) (ans u)) (join n op d v w s) (λ z. cc) h in
@@ -296,7 +333,8 @@ record Meet (n : ℕ) (s : Boxes) (e f e' f' : Effect) : Type 0 where
   other_last : e' ≡ closes n s out
 
 -- no join follows the second answer of an entry
-last_once : {A : Type 0} (n : ℕ) (op : Op) (s : Boxes) (w : ℕ) (d : Side) (v : Val) (o : Option Val) (e f : Effect) → closed n w s o ≡ Some e → joins n op d v w s (new_entry e) ≡ Some f → A
+last_once : {A : Type 0} (n : ℕ) (op : Op) (s : Boxes) (w : ℕ) (d : Side) (v : Val) (o : Option Val) (e f : Effect) →
+    closed n w s o ≡ Some e → joins n op d v w s (new_entry e) ≡ Some f → A
 last_once n op s w d v None e f h g = cc
 last_once n op s w d v (Some u) e f h g =
     let p : closes n s (ans u (down w [] s)) ≡ e = cc in
@@ -304,9 +342,12 @@ last_once n op s w d v (Some u) e f h g =
 
 -- two answers of one entry
 two_joins : (n : ℕ) (op : Op) (s : Boxes) (w : ℕ) (d d' : Side) (v v' : Val) (o : Option Entry) (e f e' f' : Effect) →
-    joins n op d v w s o ≡ Some e → joins n op d' v' w s o ≡ Some f → joins n op d' v' w s (new_entry e) ≡ Some f' → joins n op d v w s (new_entry f) ≡ Some e' → Meet n s e f e' f'
+    joins n op d v w s o ≡ Some e → joins n op d' v' w s o ≡ Some f → joins n op d' v' w s (new_entry e) ≡ Some f' →
+    joins n op d v w s (new_entry f) ≡ Some e' → Meet n s e f e' f'
 two_joins n op s w d d' v v' None e f e' f' h g h' g' = cc
-two_joins n op s w d d' v v' (Some pending) e f e' f' h g h' g' = go d d' (sym pe) (sym pf) (sym (ap (λ e. joins n op d' v' w s (new_entry e)) pe) ∙ h') (sym (ap (λ f. joins n op d v w s (new_entry f)) pf) ∙ g')
+two_joins n op s w d d' v v' (Some pending) e f e' f' h g h' g' =
+    go d d' (sym pe) (sym pf) (sym (ap (λ e. joins n op d' v' w s (new_entry e)) pe) ∙
+    h') (sym (ap (λ f. joins n op d v w s (new_entry f)) pf) ∙ g')
   where
     pe : e ≡ keeps n s (kept_as d v)
     pe = cc
@@ -314,11 +355,29 @@ two_joins n op s w d d' v v' (Some pending) e f e' f' h g h' g' = go d d' (sym p
     pf : f ≡ keeps n s (kept_as d' v')
     pf = cc
 
-    go : (d d' : Side) → keeps n s (kept_as d v) ≡ e → keeps n s (kept_as d' v') ≡ f → joins n op d' v' w s (Some (kept_as d v)) ≡ Some f' → joins n op d v w s (Some (kept_as d' v')) ≡ Some e' → Meet n s e f e' f'
+    go : (d d' : Side) → keeps n s (kept_as d v) ≡ e → keeps n s (kept_as d' v') ≡ f →
+        joins n op d' v' w s (Some (kept_as d v)) ≡ Some f' → joins n op d v w s (Some (kept_as d' v')) ≡ Some e' →
+        Meet n s e f e' f'
     go left_side left_side a b h g = cc
     go right_side right_side a b h g = cc
-    go left_side right_side a b h g = record { k1 = has_left v; k2 = has_right v'; out = ans (val_op op v v') (down w [] s); first = sym a; second = sym b; last = cc; other_last = cc }
-    go right_side left_side a b h g = record { k1 = has_right v; k2 = has_left v'; out = ans (val_op op v' v) (down w [] s); first = sym a; second = sym b; last = cc; other_last = cc }
+    go left_side right_side a b h g = record {
+      k1 = has_left v;
+      k2 = has_right v';
+      out = ans (val_op op v v') (down w [] s);
+      first = sym a;
+      second = sym b;
+      last = cc;
+      other_last = cc;
+    }
+    go right_side left_side a b h g = record {
+      k1 = has_right v;
+      k2 = has_left v';
+      out = ans (val_op op v' v) (down w [] s);
+      first = sym a;
+      second = sym b;
+      last = cc;
+      other_last = cc;
+    }
 two_joins n op s w d d' v v' (Some (has_left u)) e f e' f' h g h' g' = last_once n op s w d' v' (other op (has_left u) d v) e f' h h'
 two_joins n op s w d d' v v' (Some (has_right u)) e f e' f' h g h' g' = last_once n op s w d' v' (other op (has_right u) d v) e f' h h'
 
@@ -330,32 +389,39 @@ swap_after S i j e f x (inr (inr (inl h))) = inr (inr (inr (inl h)))
 swap_after S i j e f x (inr (inr (inr (inl h)))) = inr (inr (inl h))
 swap_after S i j e f x (inr (inr (inr (inr (k, d, d', h))))) = inr (inr (inr (inr (k, d', d, h))))
 
-module _ (S : State) (i j : ℕ) (apart : i ≡ j → ⊥) (low : (k : ℕ) (x : TokenTree) → S.tokens k ≡ Some x → k < S.next) (li : i < S.next) (lj : j < S.next) where
+module _ (S : State) (i j : ℕ) (apart : i ≡ j → ⊥) (low : (k : ℕ) (x : TokenTree) → S.tokens k ≡ Some x →
+    k < S.next) (li : i < S.next) (lj : j < S.next) where
   -- moves whose effects are at different keys
   commute : (e f : Effect) → Clear (at_key e) (at_key f) → SameBare (made_of f (made_of e S i) j) (made_of e (made_of f S j) i)
   commute e f clear = record {
-    stays = λ x h. two_after S j i (λ q. apart (sym q)) low lj li f e x (swap_after S i j e f x (after_two S i j apart low li lj e f x h));
+    stays = λ x h. two_after S j i (λ q. apart (sym q)) low lj li f e x
+        (swap_after S i j e f x (after_two S i j apart low li lj e f x h));
     back = λ x h. two_after S i j apart low li lj e f x (swap_after S j i f e x (after_two S j i (λ q. apart (sym q)) low lj li f e x h));
     entries = λ n t. go (at_key e n t) (at_key f n t) (clear n t) (new_entry e) (new_entry f) (S.entries n t);
     answered = refl;
   }
     where
-      go : (b c : Bool) → (b ≡ true → c ≡ true → ⊥) → (x y z : Option Entry) → cond c y (cond b x z) ≡ cond b x (cond c y z)
+      go : (b c : Bool) → (b ≡ true → c ≡ true → ⊥) → (x y z : Option Entry) →
+          cond c y (cond b x z) ≡ cond b x (cond c y z)
       go true true h x y z = absurd (h refl refl)
       go true false h x y z = refl
       go false true h x y z = refl
       go false false h x y z = refl
 
   -- the two answers of one entry
-  meet : (n : ℕ) (s : Boxes) (k1 k2 : Entry) (out : TokenTree) → SameBare (made_of (closes n s out) (made_of (keeps n s k1) S i) j) (made_of (closes n s out) (made_of (keeps n s k2) S j) i)
+  meet : (n : ℕ) (s : Boxes) (k1 k2 : Entry) (out : TokenTree) →
+      SameBare (made_of (closes n s out) (made_of (keeps n s k1) S i) j) (made_of (closes n s out) (made_of (keeps n s k2) S j) i)
   meet n s k1 k2 out = record {
-    stays = λ x h. two_after S j i (λ q. apart (sym q)) low lj li (keeps n s k2) (closes n s out) x (go i j k1 k2 x (after_two S i j apart low li lj (keeps n s k1) (closes n s out) x h));
-    back = λ x h. two_after S i j apart low li lj (keeps n s k1) (closes n s out) x (go j i k2 k1 x (after_two S j i (λ q. apart (sym q)) low lj li (keeps n s k2) (closes n s out) x h));
+    stays = λ x h. two_after S j i (λ q. apart (sym q)) low lj li (keeps n s k2) (closes n s out) x
+        (go i j k1 k2 x (after_two S i j apart low li lj (keeps n s k1) (closes n s out) x h));
+    back = λ x h. two_after S i j apart low li lj (keeps n s k1) (closes n s out) x
+        (go j i k2 k1 x (after_two S j i (λ q. apart (sym q)) low lj li (keeps n s k2) (closes n s out) x h));
     entries = λ m t. same (same_key m t n s) (S.entries m t);
     answered = refl;
   }
     where
-      go : (i j : ℕ) (k1 k2 : Entry) (x : TokenTree) → After S i j (keeps n s k1) (closes n s out) x → After S j i (keeps n s k2) (closes n s out) x
+      go : (i j : ℕ) (k1 k2 : Entry) (x : TokenTree) → After S i j (keeps n s k1) (closes n s out) x →
+          After S j i (keeps n s k2) (closes n s out) x
       go i j k1 k2 x (inl h) = inl h
       go i j k1 k2 x (inr (inl h)) = inr (inl h)
       go i j k1 k2 x (inr (inr (inl h))) = inr (inr (inl h))
@@ -367,11 +433,13 @@ module _ (S : State) (i j : ℕ) (apart : i ≡ j → ⊥) (low : (k : ℕ) (x :
       same false z = refl
 
 -- effects of different keys
-clear_keys : (n : ℕ) (s : Boxes) (m : ℕ) (t : Boxes) → same_key n s m t ≡ false → Clear (λ k u. same_key k u n s) (λ k u. same_key k u m t)
+clear_keys : (n : ℕ) (s : Boxes) (m : ℕ) (t : Boxes) → same_key n s m t ≡ false →
+    Clear (λ k u. same_key k u n s) (λ k u. same_key k u m t)
 clear_keys n s m t h k u a b =
     let (p, q) = key_true k u n s a in
     let (p', q') = key_true k u m t b in
-    let same : same_key n s m t ≡ true = ap (λ n. same_key n s m t) (sym p ∙ p') ∙ ap (λ s. same_key m s m t) (sym q ∙ q') ∙ key_same m t in
+    let same : same_key n s m t ≡ true = ap (λ n. same_key n s m t) (sym p ∙ p') ∙ ap (λ s. same_key m s m t) (sym q ∙ q') ∙
+    key_same m t in
     let bad : true ≡ false = sym same ∙ h in cc
 
 -- the moves read different entries, or they are the two answers of one entry; E is before, F after the first and G after the second
@@ -379,8 +447,10 @@ abbrev Verdict : Move → Move → Effect → Effect → Effect → Effect → T
 Verdict m l e f e' f' = Clear (reads m) (reads l) ⊎ ((n : ℕ) × (s : Boxes) × Meet n s e f e' f')
 
 -- two effects are of different keys, or join at one entry
-keyed : (net : NetTree) → Sound net → (x y : TokenTree) (E : Entries) (m l : Move) → move net x ≡ m → move net y ≡ l → (e f e' f' : Effect) →
-    effect_of m E ≡ Some e → effect_of l E ≡ Some f → effect_of l (on_entries e E) ≡ Some f' → effect_of m (on_entries f E) ≡ Some e' → Verdict m l e f e' f'
+keyed : (net : NetTree) → Sound net → (x y : TokenTree) (E : Entries) (m l : Move) → move net x ≡ m → move net y ≡ l →
+    (e f e' f' : Effect) →
+    effect_of m E ≡ Some e → effect_of l E ≡ Some f → effect_of l (on_entries e E) ≡ Some f' →
+    effect_of m (on_entries f E) ≡ Some e' → Verdict m l e f e' f'
 keyed net sound x y E (solo k z) l p q e f e' f' a b c d = inl (λ n t h g. cc)
 keyed net sound x y E (answer v) l p q e f e' f' a b c d = cc
 keyed net sound x y E stay l p q e f e' f' a b c d = cc
@@ -392,7 +462,8 @@ keyed net sound x y E (join n op g v w s) (answer u) p q e f e' f' a b c d = cc
 keyed net sound x y E (join n op g v w s) stay p q e f e' f' a b c d = cc
 keyed net sound x y E (fork n i r s) (fork m i' r' t) p q e f e' f' a b c d = go (same_key m t n s) refl (E n s) a
   where
-    go : (o : Bool) → same_key m t n s ≡ o → (z : Option Entry) → forks n s i r z ≡ Some e → Verdict (fork n i r s) (fork m i' r' t) e f e' f'
+    go : (o : Bool) → same_key m t n s ≡ o → (z : Option Entry) → forks n s i r z ≡ Some e →
+        Verdict (fork n i r s) (fork m i' r' t) e f e' f'
     go false o z h = inl (λ k u a b. clear_keys m t n s o k u b a)
     go true o (Some z) h = cc
     go true o None h =
@@ -402,7 +473,8 @@ keyed net sound x y E (fork n i r s) (fork m i' r' t) p q e f e' f' a b c d = go
         let bad : None ≡ Some f' = sym (ap (forks m t i' r') now) ∙ c in cc
 keyed net sound x y E (fork n i r s) (join m op g v w t) p q e f e' f' a b c d = go (same_key m t n s) refl (E n s) refl a
   where
-    go : (o : Bool) → same_key m t n s ≡ o → (z : Option Entry) → E n s ≡ z → forks n s i r z ≡ Some e → Verdict (fork n i r s) (join m op g v w t) e f e' f'
+    go : (o : Bool) → same_key m t n s ≡ o → (z : Option Entry) → E n s ≡ z → forks n s i r z ≡ Some e →
+        Verdict (fork n i r s) (join m op g v w t) e f e' f'
     go false o z y h = inl (λ k u a b. clear_keys m t n s o k u b a)
     go true o (Some z) y h = cc
     go true o None y h =
@@ -411,7 +483,8 @@ keyed net sound x y E (fork n i r s) (join m op g v w t) p q e f e' f' a b c d =
         let bad : None ≡ Some f = sym (ap (joins m op g v w t) none) ∙ b in cc
 keyed net sound x y E (join n op g v w s) (fork m i r t) p q e f e' f' a b c d = go (same_key n s m t) refl (E m t) refl b
   where
-    go : (o : Bool) → same_key n s m t ≡ o → (z : Option Entry) → E m t ≡ z → forks m t i r z ≡ Some f → Verdict (join n op g v w s) (fork m i r t) e f e' f'
+    go : (o : Bool) → same_key n s m t ≡ o → (z : Option Entry) → E m t ≡ z → forks m t i r z ≡ Some f →
+        Verdict (join n op g v w s) (fork m i r t) e f e' f'
     go false o z y h = inl (λ k u a b. clear_keys n s m t o k u a b)
     go true o (Some z) y h = cc
     go true o None y h =
@@ -426,33 +499,41 @@ keyed net sound x y E (join n op g v w s) (join m op' g' v' w' t) p q e f e' f' 
         let (k, k') = key_true m t n s o in
         let (a1, a2, st) = join_out net sound x n op g v w s p in
         let (b1, b2, st') = join_out net sound y m op' g' v' w' t q in
-        let same : binary_node op a1 a2 w ≡ binary_node op' b1 b2 w' = let e : Some (binary_node op a1 a2 w) ≡ Some (binary_node op' b1 b2 w') = sym st ∙ ap (slice_get net.nodes) (sym k) ∙ st' in cc in
+        let same : binary_node op a1 a2 w ≡ binary_node op' b1 b2 w' =
+        let e : Some (binary_node op a1 a2 w) ≡ Some (binary_node op' b1 b2 w') = sym st ∙ ap (slice_get net.nodes) (sym k) ∙
+        st' in cc in
         let (y, z) = binary_same op op' a1 a2 w b1 b2 w' same in
         let there : (E : Entries) → joins m op' g' v' w' t (E m t) ≡ joins n op g' v' w s (E n s) =
-        λ E. ap (λ m. joins m op' g' v' w' t (E m t)) k ∙ ap (λ t. joins n op' g' v' w' t (E n t)) k' ∙ ap (λ w. joins n op' g' v' w s (E n s)) (sym z) ∙ ap (λ op. joins n op g' v' w s (E n s)) (sym y) in
+        λ E. ap (λ m. joins m op' g' v' w' t (E m t)) k ∙ ap (λ t. joins n op' g' v' w' t (E n t)) k' ∙
+        ap (λ w. joins n op' g' v' w s (E n s)) (sym z) ∙ ap (λ op. joins n op g' v' w s (E n s)) (sym y) in
         let b' : joins n op g' v' w s (E n s) ≡ Some f = sym (there E) ∙ b in
         let ke = joins_at n op g v w s (E n s) e a n s ∙ key_same n s in
         let kf = joins_at n op g' v' w s (E n s) f b' n s ∙ key_same n s in
-        let c' : joins n op g' v' w s (new_entry e) ≡ Some f' = sym (ap (joins n op g' v' w s) (entries_here e E n s ke)) ∙ sym (there (on_entries e E)) ∙ c in
+        let c' : joins n op g' v' w s (new_entry e) ≡ Some f' = sym (ap (joins n op g' v' w s) (entries_here e E n s ke)) ∙
+        sym (there (on_entries e E)) ∙ c in
         let d' : joins n op g v w s (new_entry f) ≡ Some e' = sym (ap (joins n op g v w s) (entries_here f E n s kf)) ∙ d in
         inr (n, s, two_joins n op s w g g' v v' (E n s) e f e' f' a b' c' d')
 
 module _ (net : NetTree) (runs : Runs net) where
   -- a live ticket's effect, where another is live
-  live_effect : {n : ℕ} (S : State) (i j : ℕ) (x y : TokenTree) → Accounted net (start_of net) n S → (move net x ≢ stay) → S.tokens i ≡ Some x → S.tokens j ≡ Some y → (i ≡ j → ⊥) → (e : Effect) × Does net S.entries x e
+  live_effect : {n : ℕ} (S : State) (i j : ℕ) (x y : TokenTree) → Accounted net (start_of net) n S → (move net x ≢ stay) →
+      S.tokens i ≡ Some x → S.tokens j ≡ Some y → (i ≡ j → ⊥) → (e : Effect) × Does net S.entries x e
   live_effect S i j x y (inr o) m ex ey d = let bad : None ≡ Some x = sym (o.no_tokens i) ∙ ex in absurd cc
-  live_effect {n} S i j x y (inl (t, live)) m ex ey d = go (out_of net runs.sound (start_of net) (starts_of net runs.sound) n i S x t live ex)
+  live_effect {n} S i j x y (inl (t, live)) m ex ey d =
+      go (out_of net runs.sound (start_of net) (starts_of net runs.sound) n i S x t live ex)
     where
       go : Outcome net S.entries i S.next x t (start_of net) → (e : Effect) × Does net S.entries x e
       go (inl (v, k, q, z)) =
-          let h : cond (nat_eq j i) (Some (ans v (turned (start_of net)))) None ≡ Some y = ap (λ t. token_in t (start_of net) j) (sym q) ∙ sym (live.has_tokens j) ∙ ey in
+          let h : cond (nat_eq j i) (Some (ans v (turned (start_of net)))) None ≡ Some y =
+          ap (λ t. token_in t (start_of net) j) (sym q) ∙ sym (live.has_tokens j) ∙ ey in
           let f = ne_eqb j i (λ r. d (sym r)) in
           let bad : None ≡ Some y = sym (ap (λ b. cond b (Some (ans v (turned (start_of net)))) None) f) ∙ h in absurd cc
       go (inr (inl (q, z, l))) = absurd (m (ap (move net) z ∙ ap (λ l. ask_move l q) l))
       go (inr (inr g)) = (g.effect, g.does)
 
   -- the effect of a ticket that doesn't end the run
-  next_effect : {n : ℕ} (S : State) (j : ℕ) (y : TokenTree) (E : Entries) (f : Effect) → Accounted net (start_of net) n S → (move net y ≢ stay) → S.tokens j ≡ Some y → effect_of (move net y) E ≡ Some f → (e : Effect) × Does net S.entries y e
+  next_effect : {n : ℕ} (S : State) (j : ℕ) (y : TokenTree) (E : Entries) (f : Effect) → Accounted net (start_of net) n S →
+      (move net y ≢ stay) → S.tokens j ≡ Some y → effect_of (move net y) E ≡ Some f → (e : Effect) × Does net S.entries y e
   next_effect S j y E f (inr o) m ey h = let bad : None ≡ Some y = sym (o.no_tokens j) ∙ ey in absurd cc
   next_effect {n} S j y E f (inl (t, live)) m ey h = go (out_of net runs.sound (start_of net) (starts_of net runs.sound) n j S y t live ey)
     where
@@ -464,8 +545,10 @@ module _ (net : NetTree) (runs : Runs net) where
       go (inr (inr g)) = (g.effect, g.does)
 
   -- two live tickets may move in either order
-  pub diamond : (log : List ℕ) (S : State) → LeadsTo net log S → (i j : ℕ) (x y : TokenTree) → S.tokens i ≡ Some x → S.tokens j ≡ Some y → i ≢ j →
-      (S1 S12 S2 S21 : State) × (step net S i ≡ Some S1) × (step net S1 j ≡ Some S12) × (step net S j ≡ Some S2) × (step net S2 i ≡ Some S21) × SameBare S12 S21
+  pub diamond : (log : List ℕ) (S : State) → LeadsTo net log S → (i j : ℕ) (x y : TokenTree) → S.tokens i ≡ Some x →
+      S.tokens j ≡ Some y → i ≢ j →
+      (S1 S12 S2 S21 : State) × (step net S i ≡ Some S1) × (step net S1 j ≡ Some S12) × (step net S j ≡ Some S2) ×
+      (step net S2 i ≡ Some S21) × SameBare S12 S21
   diamond log S h i j x y ex ey d =
       let s = starts_of net runs.sound in
       let inv = reached net runs.sound (start_of net) s log S h in
@@ -504,12 +587,18 @@ module _ (net : NetTree) (runs : Runs net) where
             (keyed net runs.sound x y S.entries (move net x) (move net y) refl refl e f e' f' fe ff ff' fe'),
       )
     where
-      same : (S : State) (i j : ℕ) → (i ≡ j → ⊥) → ((k : ℕ) (x : TokenTree) → S.tokens k ≡ Some x → k < S.next) → i < S.next → j < S.next → (e f e' f' : Effect) (m l : Move) →
-          effect_of m S.entries ≡ Some e → effect_of l S.entries ≡ Some f → effect_of l (on_entries e S.entries) ≡ Some f' → effect_of m (on_entries f S.entries) ≡ Some e' →
+      same : (S : State) (i j : ℕ) → (i ≡ j → ⊥) → ((k : ℕ) (x : TokenTree) → S.tokens k ≡ Some x → k < S.next) →
+          i < S.next → j < S.next → (e f e' f' : Effect) (m l : Move) →
+          effect_of m S.entries ≡ Some e → effect_of l S.entries ≡ Some f → effect_of l (on_entries e S.entries) ≡ Some f' →
+          effect_of m (on_entries f S.entries) ≡ Some e' →
           Verdict m l e f e' f' → SameBare (made_of f' (made_of e S i) j) (made_of e' (made_of f S j) i)
       same S i j d low li lj e f e' f' m l fe ff ff' fe' (inl clear) =
-          let keep_l : effect_of l (on_entries e S.entries) ≡ effect_of l S.entries = same_effect l _ _ (λ n t r. entries_other e S.entries n t (some_true (at_key e n t) (λ k. clear n t (key_reads m S.entries e n t fe k) r))) in
-          let keep_m : effect_of m (on_entries f S.entries) ≡ effect_of m S.entries = same_effect m _ _ (λ n t r. entries_other f S.entries n t (some_true (at_key f n t) (λ k. clear n t r (key_reads l S.entries f n t ff k)))) in
+          let keep_l : effect_of l (on_entries e S.entries) ≡ effect_of l S.entries =
+          same_effect l _ _ (λ n t r. entries_other e S.entries n t
+          (some_true (at_key e n t) (λ k. clear n t (key_reads m S.entries e n t fe k) r))) in
+          let keep_m : effect_of m (on_entries f S.entries) ≡ effect_of m S.entries =
+          same_effect m _ _ (λ n t r. entries_other f S.entries n t
+          (some_true (at_key f n t) (λ k. clear n t r (key_reads l S.entries f n t ff k)))) in
           let qf : Some f ≡ Some f' = sym (keep_l ∙ ff) ∙ ff' in
           let qe : Some e ≡ Some e' = sym (keep_m ∙ fe) ∙ fe' in
           let pf : f ≡ f' = cc in
@@ -520,6 +609,8 @@ module _ (net : NetTree) (runs : Runs net) where
       same S i j d low li lj e f e' f' m l fe ff ff' fe' (inr (n, s, g)) =
           subst (λ f'. SameBare (made_of f' (made_of e S i) j) (made_of e' (made_of f S j) i)) (sym g.last)
           (subst (λ e'. SameBare (made_of (closes n s g.out) (made_of e S i) j) (made_of e' (made_of f S j) i)) (sym g.other_last)
-          (subst (λ e. SameBare (made_of (closes n s g.out) (made_of e S i) j) (made_of (closes n s g.out) (made_of f S j) i)) (sym g.first)
-          (subst (λ f. SameBare (made_of (closes n s g.out) (made_of (keeps n s g.k1) S i) j) (made_of (closes n s g.out) (made_of f S j) i)) (sym g.second)
+          (subst (λ e. SameBare (made_of (closes n s g.out) (made_of e S i) j) (made_of (closes n s g.out) (made_of f S j) i))
+          (sym g.first)
+          (subst (λ f. SameBare (made_of (closes n s g.out) (made_of (keeps n s g.k1) S i) j)
+          (made_of (closes n s g.out) (made_of f S j) i)) (sym g.second)
           (meet S i j d low li lj n s g.k1 g.k2 g.out))))

@@ -1,6 +1,7 @@
 -- What one move does to tokens and entries, in one part of a tree and in the whole.
 -- The outcome for a live ticket: its answer is the tree's own, or its question meets nothing, or the tree goes on by one effect.
-use Rattle.std.proofs.Common.{◌≡◌, ◌⊎◌, ℕ, suc, ◌+◌, Bool, true, false, cond, Option, Some, None, refl, sym, ap, ◌∙◌, subst, ⊎_elim, inl, inr}
+use Rattle.std.proofs.Common.{◌≡◌, ◌⊎◌, ℕ, suc, ◌+◌, Bool, true, false, cond, Option, Some, None, refl, sym, ap}
+use Rattle.std.proofs.Common.{◌∙◌, subst, ⊎_elim, inl, inr}
 use Rattle.std.proofs.lemmas.Bool.{eqb-true}
 use Rattle.std.specs.Prelude.{nat_eq}
 use Rattle.pcf_values.specs.declared.val.Val.{Val}
@@ -12,7 +13,9 @@ use Rattle.move_rules.specs.Moves.{dead, look}
 use Rattle.move_rules.specs.Table.{or_else}
 use Rattle.interleave_laws.specs.States.{Tokens, Entries}
 use Rattle.fork_join.proofs.Keys.{key_true}
-use Rattle.interleave_laws.proofs.Tree.{Tree, asking, coming, kept, passed, applied, tested, chosen, forked, Open, Valid, token_in, status, entry_in, tickets, spent, Visited, AsksPlace, Differ, Effect, turn, opens, keeps, closes, on_tokens, on_entries, at_key, more, fewer}
+use Rattle.interleave_laws.proofs.Tree.{Tree, asking, coming, kept, passed, applied, tested, chosen, forked, Open, Valid, token_in, status}
+use Rattle.interleave_laws.proofs.Tree.{entry_in, tickets, spent, Visited, AsksPlace, Differ, Effect, turn, opens, keeps, closes, on_tokens}
+use Rattle.interleave_laws.proofs.Tree.{on_entries, at_key, more, fewer}
 use Rattle.interleave_laws.proofs.Below.{BelowKey, EffectBelow, Does}
 
 pub open_or_kept : (t : Tree) → Open t ⊎ ((v : Val) × (n : ℕ) × (t ≡ kept v n))
@@ -101,7 +104,8 @@ pub push_some : {A : Type 0} (b : Bool) (x : A) (o r : Option A) → or_else (co
 push_some true x o r = refl
 push_some false x o r = refl
 
-pub push_none : {A : Type 0} (b : Bool) (o r : Option A) → (b ≡ true → r ≡ None) → or_else (cond b None o) r ≡ cond b None (or_else o r)
+pub push_none : {A : Type 0} (b : Bool) (o r : Option A) → (b ≡ true → r ≡ None) →
+    or_else (cond b None o) r ≡ cond b None (or_else o r)
 push_none true o r h = h refl
 push_none false o r h = refl
 
@@ -110,27 +114,37 @@ pull true x o r h = ap (λ o. or_else o x) (h refl)
 pull false x o r h = refl
 
 -- a change of one side's tokens is one of both
-pub tokens_left : (e : Effect) (i nx : ℕ) (f f' g : Tokens) → ((j : ℕ) → f' j ≡ on_tokens e i nx f j) → g i ≡ None → (j : ℕ) → or_else (f' j) (g j) ≡ on_tokens e i nx (λ j. or_else (f j) (g j)) j
+pub tokens_left : (e : Effect) (i nx : ℕ) (f f' g : Tokens) → ((j : ℕ) → f' j ≡ on_tokens e i nx f j) → g i ≡ None →
+    (j : ℕ) → or_else (f' j) (g j) ≡ on_tokens e i nx (λ j. or_else (f j) (g j)) j
 tokens_left (turn x) i nx f f' g h z j = ap (λ o. or_else o (g j)) (h j) ∙ push_some (nat_eq j i) x (f j) (g j)
 tokens_left (opens n s l r) i nx f f' g h z j =
-    ap (λ o. or_else o (g j)) (h j) ∙ push_some (nat_eq j nx) (ask r) _ (g j) ∙ ap (cond (nat_eq j nx) (Some (ask r))) (push_some (nat_eq j i) (ask l) (f j) (g j))
-tokens_left (keeps n s e) i nx f f' g h z j = ap (λ o. or_else o (g j)) (h j) ∙ push_none (nat_eq j i) (f j) (g j) (λ q. ap g (eqb-true j i q) ∙ z)
+    ap (λ o. or_else o (g j)) (h j) ∙ push_some (nat_eq j nx) (ask r) _ (g j) ∙
+    ap (cond (nat_eq j nx) (Some (ask r))) (push_some (nat_eq j i) (ask l) (f j) (g j))
+tokens_left (keeps n s e) i nx f f' g h z j = ap (λ o. or_else o (g j)) (h j) ∙
+    push_none (nat_eq j i) (f j) (g j) (λ q. ap g (eqb-true j i q) ∙ z)
 tokens_left (closes n s x) i nx f f' g h z j = ap (λ o. or_else o (g j)) (h j) ∙ push_some (nat_eq j i) x (f j) (g j)
 
-pub tokens_right : (e : Effect) (i nx : ℕ) (f g g' : Tokens) → ((j : ℕ) → g' j ≡ on_tokens e i nx g j) → f i ≡ None → f nx ≡ None → (j : ℕ) → or_else (f j) (g' j) ≡ on_tokens e i nx (λ j. or_else (f j) (g j)) j
-tokens_right (turn x) i nx f g g' h z y j = ap (or_else (f j)) (h j) ∙ pull (nat_eq j i) (Some x) (f j) (g j) (λ q. ap f (eqb-true j i q) ∙ z)
+pub tokens_right : (e : Effect) (i nx : ℕ) (f g g' : Tokens) → ((j : ℕ) → g' j ≡ on_tokens e i nx g j) → f i ≡ None →
+    f nx ≡ None → (j : ℕ) → or_else (f j) (g' j) ≡ on_tokens e i nx (λ j. or_else (f j) (g j)) j
+tokens_right (turn x) i nx f g g' h z y j = ap (or_else (f j)) (h j) ∙
+    pull (nat_eq j i) (Some x) (f j) (g j) (λ q. ap f (eqb-true j i q) ∙ z)
 tokens_right (opens n s l r) i nx f g g' h z y j =
     ap (or_else (f j)) (h j) ∙ pull (nat_eq j nx) (Some (ask r)) (f j) _ (λ q. ap f (eqb-true j nx q) ∙ y)
     ∙ ap (cond (nat_eq j nx) (Some (ask r))) (pull (nat_eq j i) (Some (ask l)) (f j) (g j) (λ q. ap f (eqb-true j i q) ∙ z))
-tokens_right (keeps n s e) i nx f g g' h z y j = ap (or_else (f j)) (h j) ∙ pull (nat_eq j i) None (f j) (g j) (λ q. ap f (eqb-true j i q) ∙ z)
-tokens_right (closes n s x) i nx f g g' h z y j = ap (or_else (f j)) (h j) ∙ pull (nat_eq j i) (Some x) (f j) (g j) (λ q. ap f (eqb-true j i q) ∙ z)
+tokens_right (keeps n s e) i nx f g g' h z y j = ap (or_else (f j)) (h j) ∙
+    pull (nat_eq j i) None (f j) (g j) (λ q. ap f (eqb-true j i q) ∙ z)
+tokens_right (closes n s x) i nx f g g' h z y j = ap (or_else (f j)) (h j) ∙
+    pull (nat_eq j i) (Some x) (f j) (g j) (λ q. ap f (eqb-true j i q) ∙ z)
 
 module _ (net : NetTree) where
   pub hit_below : (p : Place) (f : Effect) (m : ℕ) (t : Boxes) → at_key f m t ≡ true → EffectBelow net p f → BelowKey net p m t
   hit_below p (turn x) m t h g = cc
-  hit_below p (opens n s l r) m t h g = let (a, b) = key_true m t n s h in subst (λ m. BelowKey net p m t) (sym a) (subst (λ t. BelowKey net p n t) (sym b) g)
-  hit_below p (keeps n s e) m t h g = let (a, b) = key_true m t n s h in subst (λ m. BelowKey net p m t) (sym a) (subst (λ t. BelowKey net p n t) (sym b) g)
-  hit_below p (closes n s x) m t h g = let (a, b) = key_true m t n s h in subst (λ m. BelowKey net p m t) (sym a) (subst (λ t. BelowKey net p n t) (sym b) g)
+  hit_below p (opens n s l r) m t h g = let (a, b) = key_true m t n s h in
+      subst (λ m. BelowKey net p m t) (sym a) (subst (λ t. BelowKey net p n t) (sym b) g)
+  hit_below p (keeps n s e) m t h g = let (a, b) = key_true m t n s h in
+      subst (λ m. BelowKey net p m t) (sym a) (subst (λ t. BelowKey net p n t) (sym b) g)
+  hit_below p (closes n s x) m t h g = let (a, b) = key_true m t n s h in
+      subst (λ m. BelowKey net p m t) (sym a) (subst (λ t. BelowKey net p n t) (sym b) g)
 
   -- one step of the tree at p by the token x of ticket i
   pub record Progress (E : Entries) (i nx : ℕ) (x : TokenTree) (t : Tree) (p : Place) : Type 0 where
@@ -151,4 +165,5 @@ module _ (net : NetTree) where
   -- the answer is back, or the question fits nothing, or the tree goes on
   abbrev pub Outcome : Entries → ℕ → ℕ → TokenTree → Tree → Place → Type 0
   Outcome E i nx x t p =
-      ((v : Val) × (n : ℕ) × (t ≡ coming i v n) × (x ≡ ans v (turned p))) ⊎ (((q : Place) × (x ≡ ask q) × (look net q ≡ dead)) ⊎ Progress E i nx x t p)
+      ((v : Val) × (n : ℕ) × (t ≡ coming i v n) × (x ≡ ans v (turned p))) ⊎
+      (((q : Place) × (x ≡ ask q) × (look net q ≡ dead)) ⊎ Progress E i nx x t p)

@@ -1,5 +1,6 @@
 -- No entry is opened twice: a fork asks its left operand, and an entry has one fork, so that the operand would be asked twice.
-use Rattle.std.proofs.Common.{◌≡◌, ℕ, Bool, true, false, cond, List, [], ◌∷◌, ◌++◌, Option, Some, None, refl, sym, ap, ◌∙◌, subst, ⊎_elim, inl, inr}
+use Rattle.std.proofs.Common.{◌≡◌, ℕ, Bool, true, false, cond, List, [], ◌∷◌, ◌++◌, Option, Some, None, refl, sym, ap}
+use Rattle.std.proofs.Common.{◌∙◌, subst, ⊎_elim, inl, inr}
 use Rattle.std.specs.Prelude.{nat_eq}
 use Rattle.pcf_values.specs.declared.val.Val.{Val}
 use Rattle.pcf_values.specs.Values.{Op}
@@ -12,7 +13,8 @@ use Rattle.net_build.specs.declared.node.Node.TheVariants.{Succ, Pred, Plus, Min
 use Rattle.net_build.specs.Sides.{node_above, node_below}
 use Rattle.move_rules.specs.Places.{Place, up, down, TokenTree, ask, ans}
 use Rattle.move_rules.specs.Table.{on_found, plain_up, plain_down}
-use Rattle.move_rules.specs.Moves.{Look, dead, constant, pass, one, test, two, look, Move, solo, fork, join, answer, stay, solo_at, or_stay, if_wire, ans_down, ask_move, move}
+use Rattle.move_rules.specs.Moves.{Look, dead, constant, pass, one, test, two, look, Move, solo, fork, join, answer, stay, solo_at, or_stay}
+use Rattle.move_rules.specs.Moves.{if_wire, ans_down, ask_move, move}
 use Rattle.interleave_laws.specs.Start.{start_of}
 use Rattle.interleave_laws.specs.States.{State, start, step}
 use Rattle.interleave_laws.specs.Asked.{asked_by, asked_of, asked_on, asked_in, opened_by, opened_of, opened_on, opened_in, Member, Once}
@@ -62,7 +64,8 @@ no_answer i (Times a b c) v w [] t = no_operand a b w _ _ tt tt
 no_answer i (Root c) v w [] t = tt
 no_answer i n v w m t = no_solo i (plain_down n w m t) v
 
-no_found : (o : Option (ℕ × Node)) (f : ℕ → Node → Move) → ((i : ℕ) (n : Node) → NoFork (f i n)) → NoFork (on_found o stay f)
+no_found : (o : Option (ℕ × Node)) (f : ℕ → Node → Move) → ((i : ℕ) (n : Node) → NoFork (f i n)) →
+    NoFork (on_found o stay f)
 no_found None f h = tt
 no_found (Some p) f h = h p.0 p.1
 
@@ -75,7 +78,8 @@ none_opened (answer v) k n h = h
 none_opened stay k n h = h
 
 -- a fork is what a question of two operands makes
-fork_look : (l : Look) (p : Place) (n : ℕ) (a b : Place) (t : Boxes) → ask_move l p ≡ fork n a b t → (op : Op) × (l ≡ two n op t a b)
+fork_look : (l : Look) (p : Place) (n : ℕ) (a b : Place) (t : Boxes) → ask_move l p ≡ fork n a b t → (op : Op) ×
+    (l ≡ two n op t a b)
 fork_look dead p n a b t h = cc
 fork_look (constant i v) p n a b t h = cc
 fork_look (pass i q) p n a b t h = cc
@@ -116,8 +120,10 @@ module _ (net : NetTree) where
       go (test i c x y) e h = elim h [ ]
       go (two i op u x y) e (inl z) = (p, op, x, y, e ∙ ap (λ (k : Key). two k.0 op k.1 x y) (sym z), inl refl)
       go (two i op u x y) e (inr z) = elim z [ ]
-  token_opens (ans v (up w m t)) k h = absurd (none_opened (move net (ans v (up w m t))) k (no_found (node_above net w) _ (λ i n. no_solo i (plain_up n w m t) v)) h)
-  token_opens (ans v (down w m t)) k h = absurd (none_opened (move net (ans v (down w m t))) k (no_found (node_below net w) _ (λ i n. no_answer i n v w m t)) h)
+  token_opens (ans v (up w m t)) k h =
+      absurd (none_opened (move net (ans v (up w m t))) k (no_found (node_above net w) _ (λ i n. no_solo i (plain_up n w m t) v)) h)
+  token_opens (ans v (down w m t)) k h = absurd
+      (none_opened (move net (ans v (down w m t))) k (no_found (node_below net w) _ (λ i n. no_answer i n v w m t)) h)
 
   opens : (o : Option TokenTree) (k : Key) → Member k (opened_of net o) → AsksFor net k (asked_of net o)
   opens None k h = elim h [ ]
@@ -128,10 +134,12 @@ module _ (net : NetTree) where
   log_opens [] S k h = elim h [ ]
   log_opens (i ∷ log) S k h =
       ⊎_elim (λ m. let (p, op, l, r, e, z) = opens (S.tokens i) k m in (p, op, l, r, e, member_left l _ _ z))
-      (λ m. let (p, op, l, r, e, z) = rest (λ T. log_opens log T k) (step net S i) m in (p, op, l, r, e, member_right l (asked_of net (S.tokens i)) _ z))
+      (λ m. let (p, op, l, r, e, z) = rest (λ T. log_opens log T k) (step net S i) m in
+      (p, op, l, r, e, member_right l (asked_of net (S.tokens i)) _ z))
       (member_parts k (opened_of net (S.tokens i)) _ h)
     where
-      rest : ((T : State) → Member k (opened_in net T log) → AsksFor net k (asked_in net T log)) → (o : Option State) → Member k (opened_on o (λ T. opened_in net T log)) → AsksFor net k (asked_on o (λ T. asked_in net T log))
+      rest : ((T : State) → Member k (opened_in net T log) → AsksFor net k (asked_in net T log)) → (o : Option State) →
+          Member k (opened_on o (λ T. opened_in net T log)) → AsksFor net k (asked_on o (λ T. asked_in net T log))
       rest ih None m = elim m [ ]
       rest ih (Some T) m = ih T m
 
@@ -150,14 +158,16 @@ module _ (net : NetTree) (sound : Sound net) where
       meet q (r ∷ a) once (inr h) g = meet q a once.1 h g
 
   -- what a move opens, and then what opens none of it
-  single : (m : Move) (ks : List Key) → Once ks → ((k : Key) → Member k (opened_by m) → Member k ks → ⊥) → Once (opened_by m ++ ks)
+  single : (m : Move) (ks : List Key) → Once ks → ((k : Key) → Member k (opened_by m) → Member k ks → ⊥) →
+      Once (opened_by m ++ ks)
   single (solo i x) ks h d = h
   single (fork n l r t) ks h d = (d (n, t) (inl refl), h)
   single (join i o s v w t) ks h d = h
   single (answer v) ks h d = h
   single stay ks h d = h
 
-  single_of : (o : Option TokenTree) (ks : List Key) → Once ks → ((k : Key) → Member k (opened_of net o) → Member k ks → ⊥) → Once (opened_of net o ++ ks)
+  single_of : (o : Option TokenTree) (ks : List Key) → Once ks → ((k : Key) → Member k (opened_of net o) → Member k ks → ⊥) →
+      Once (opened_of net o ++ ks)
   single_of None ks h d = h
   single_of (Some x) ks h d = single (move net x) ks h d
 
@@ -169,11 +179,13 @@ module _ (net : NetTree) (sound : Sound net) where
       single_of (S.tokens i) _ (rest (opened_from log) (step net S i) (once_right asked _ h))
       (λ k m m'. not_again k asked _ h (opens net (S.tokens i) k m) (later k (step net S i) m'))
     where
-      rest : ((T : State) → Once (asked_in net T log) → Once (opened_in net T log)) → (o : Option State) → Once (asked_on o (λ T. asked_in net T log)) → Once (opened_on o (λ T. opened_in net T log))
+      rest : ((T : State) → Once (asked_in net T log) → Once (opened_in net T log)) → (o : Option State) →
+          Once (asked_on o (λ T. asked_in net T log)) → Once (opened_on o (λ T. opened_in net T log))
       rest ih None h = tt
       rest ih (Some T) h = ih T h
 
-      later : (k : Key) (o : Option State) → Member k (opened_on o (λ T. opened_in net T log)) → AsksFor net k (asked_on o (λ T. asked_in net T log))
+      later : (k : Key) (o : Option State) → Member k (opened_on o (λ T. opened_in net T log)) →
+          AsksFor net k (asked_on o (λ T. asked_in net T log))
       later k None m = elim m [ ]
       later k (Some T) m = log_opens net log T k m
 

@@ -31,7 +31,8 @@ some_state S T h = cc
 fork_leaves : (o : Option Entry) (S T : State) (i n : ℕ) (l r : Place) (t : Boxes) → fork_on o S i n l r t ≡ Some T → Leaves S i T
 fork_leaves (Some e) S T i n l r t h = cc
 fork_leaves None S T i n l r t h = λ j d e.
-    ap (λ (U : State). U.tokens j) (sym (some_state _ T h)) ∙ past (set_token S.tokens i (Some (ask l))) S.next (Some (ask r)) j e ∙ past S.tokens i (Some (ask l)) j d
+    ap (λ (U : State). U.tokens j) (sym (some_state _ T h)) ∙ past (set_token S.tokens i (Some (ask l))) S.next (Some (ask r)) j e ∙
+    past S.tokens i (Some (ask l)) j d
 
 -- the second answer
 last_leaves : (o : Option Val) (S T : State) (i n w : ℕ) (t : Boxes) → last_on o S i n w t ≡ Some T → Leaves S i T
@@ -39,9 +40,11 @@ last_leaves None S T i n w t h = cc
 last_leaves (Some u) S T i n w t h = λ j d e. ap (λ (U : State). U.tokens j) (sym (some_state _ T h)) ∙ past S.tokens i _ j d
 
 -- a join
-join_leaves : (o : Option Entry) (S T : State) (i n : ℕ) (op : Op) (s : Side) (v : Val) (w : ℕ) (t : Boxes) → join_on o S i n op s v w t ≡ Some T → Leaves S i T
+join_leaves : (o : Option Entry) (S T : State) (i n : ℕ) (op : Op) (s : Side) (v : Val) (w : ℕ) (t : Boxes) →
+    join_on o S i n op s v w t ≡ Some T → Leaves S i T
 join_leaves None S T i n op s v w t h = cc
-join_leaves (Some pending) S T i n op s v w t h = λ j d e. ap (λ (U : State). U.tokens j) (sym (some_state _ T h)) ∙ past S.tokens i None j d
+join_leaves (Some pending) S T i n op s v w t h = λ j d e. ap (λ (U : State). U.tokens j) (sym (some_state _ T h)) ∙
+    past S.tokens i None j d
 join_leaves (Some (has_left u)) S T i n op s v w t h = last_leaves (other op (has_left u) s v) S T i n w t h
 join_leaves (Some (has_right u)) S T i n op s v w t h = last_leaves (other op (has_right u) s v) S T i n w t h
 
@@ -59,5 +62,7 @@ step_leaves net None S T i h = cc
 step_leaves net (Some x) S T i h = act_leaves (move net x) S T i h
 
 -- on a sound net, what was live is below the next ticket
-pub others_live : (net : NetTree) → Sound net → (log : List ℕ) (S : State) → LeadsTo net log S → (T : State) (i j : ℕ) (y : TokenTree) → step net S i ≡ Some T → j ≢ i → S.tokens j ≡ Some y → T.tokens j ≡ Some y
-others_live net sound log S h T i j y s d e = let l = low net sound log S h j y e in step_leaves net (S.tokens i) S T i s j d (λ q. omega arith) ∙ e
+pub others_live : (net : NetTree) → Sound net → (log : List ℕ) (S : State) → LeadsTo net log S →
+    (T : State) (i j : ℕ) (y : TokenTree) → step net S i ≡ Some T → j ≢ i → S.tokens j ≡ Some y → T.tokens j ≡ Some y
+others_live net sound log S h T i j y s d e = let l = low net sound log S h j y e in
+    step_leaves net (S.tokens i) S T i s j d (λ q. omega arith) ∙ e

@@ -22,7 +22,8 @@ module _ (net : NetTree) where
 
 module _ (net : NetTree) (sound : Sound net) (starts : Starts net (start_of net)) where
   -- each live ticket has its step
-  pub progress : Runs net → (log : List ℕ) (S : State) → LeadsTo net log S → (i : ℕ) (x : TokenTree) → S.tokens i ≡ Some x → (S' : State) × (step net S i ≡ Some S')
+  pub progress : Runs net → (log : List ℕ) (S : State) → LeadsTo net log S → (i : ℕ) (x : TokenTree) → S.tokens i ≡ Some x →
+      (S' : State) × (step net S i ≡ Some S')
   progress runs log S h i x e = go (reached net sound (start_of net) starts log S h)
     where
       go : Accounted net (start_of net) (length log) S → (S' : State) × (step net S i ≡ Some S')
@@ -30,6 +31,7 @@ module _ (net : NetTree) (sound : Sound net) (starts : Starts net (start_of net)
       go (inl (t, live)) = end (out_of net sound (start_of net) starts (length log) i S x t live e)
         where
           end : Outcome net S.entries i S.next x t (start_of net) → (S' : State) × (step net S i ≡ Some S')
-          end (inl (v, m, _, q)) = (_, ap (λ o. step_on net o S i) e ∙ ap (λ m. act m S i) (ap (move net) q ∙ ends net sound (start_of net) starts v))
+          end (inl (v, m, _, q)) =
+              (_, ap (λ o. step_on net o S i) e ∙ ap (λ m. act m S i) (ap (move net) q ∙ ends net sound (start_of net) starts v))
           end (inr (inl (q, y, l))) = absurd (runs.moves log S h i x e (ap (move net) y ∙ ap (λ l. ask_move l q) l))
           end (inr (inr y)) = (made_of y.effect S i, ap (λ o. step_on net o S i) e ∙ does_step net S i x y.effect y.does)

@@ -23,4 +23,5 @@ is_equal Greater h = cc
 
 -- the tests of tickets
 pub test_nat : (j i : ℕ) → eq_by_cmp nat_cmp j i ≡ nat_eq j i
-test_nat j i = same_bool _ _ (λ h. eq-eqb j i (nat_cmp-IsAntisymmetric j i (is_equal _ h))) (λ h. let e = eqb-true j i h in subst (λ i. eq_by_cmp nat_cmp j i ≡ true) e ((eq_by_cmp_equiv nat_cmp_total).refl j))
+test_nat j i = same_bool _ _ (λ h. eq-eqb j i (nat_cmp-IsAntisymmetric j i (is_equal _ h))) (λ h. let e = eqb-true j i h in
+    subst (λ i. eq_by_cmp nat_cmp j i ≡ true) e ((eq_by_cmp_equiv nat_cmp_total).refl j))

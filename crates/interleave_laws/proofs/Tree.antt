@@ -43,9 +43,12 @@ Open (forked k op s a b l r) = Unit {0}
 pub data Gives (net : NetTree) : Place → Val → ℕ → Type 0 where
   by_number : {p : Place} {k n : ℕ} → look net p ≡ constant k n → Gives net p (Number n) 1
   by_pass : {p q : Place} {k n : ℕ} {v : Val} → look net p ≡ pass k q → Gives net q v n → Gives net p v (n + 2)
-  by_one : {p q : Place} {k n : ℕ} {f : Val → Val} {v : Val} → look net p ≡ one k f q → Gives net q v n → Gives net p (f v) (n + 2)
-  by_test : {p c a b : Place} {k n m : ℕ} {v w : Val} → look net p ≡ test k c a b → Gives net c w m → Gives net (at_zero w a b) v n → Gives net p v (n + (m + 3))
-  by_two : {p a b : Place} {k n m : ℕ} {op : Op} {s : Boxes} {v w : Val} → look net p ≡ two k op s a b → Gives net a v n → Gives net b w m → Gives net p (val_op op v w) (n + m + 3)
+  by_one : {p q : Place} {k n : ℕ} {f : Val → Val} {v : Val} → look net p ≡ one k f q → Gives net q v n →
+      Gives net p (f v) (n + 2)
+  by_test : {p c a b : Place} {k n m : ℕ} {v w : Val} → look net p ≡ test k c a b → Gives net c w m →
+      Gives net (at_zero w a b) v n → Gives net p v (n + (m + 3))
+  by_two : {p a b : Place} {k n m : ℕ} {op : Op} {s : Boxes} {v w : Val} → look net p ≡ two k op s a b → Gives net a v n →
+      Gives net b w m → Gives net p (val_op op v w) (n + m + 3)
 
 -- the tree fits the net at a place
 abbrev pub Valid : NetTree → Tree → Place → Type 0

@@ -17,7 +17,8 @@ InAlikeStates P = (net : NetTree) → Sound net → (log log' : List ℕ) (S T :
 
 -- a token makes the same step in both, under the ticket that it has in each, and they are alike afterwards
 abbrev pub AlikeSteps : Type 0
-AlikeSteps = InAlikeStates (λ net S T. (i j : ℕ) (x : TokenTree) → S.tokens i ≡ Some x → T.tokens j ≡ Some x → (S' : State) → step net S i ≡ Some S' →
+AlikeSteps = InAlikeStates (λ net S T. (i j : ℕ) (x : TokenTree) → S.tokens i ≡ Some x → T.tokens j ≡ Some x → (S' : State) →
+    step net S i ≡ Some S' →
     (T' : State) × (step net T j ≡ Some T') × SameBare S' T')
 
 -- a log of the one has a log of the other with as many entries, and the states to which they lead are alike

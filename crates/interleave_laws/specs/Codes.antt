@@ -18,5 +18,7 @@ StateParts = FinMap nat_cmp TokenTree × (FinMap key_cmp Entry × (ℕ × Option
 
 abbrev pub state_code : Coded MapState
 state_code =
-    code_by StateParts (coded× (map.code coded_ℕ token_code) (coded× (map.code key_code entry_code) (coded× coded_ℕ (coded_option val_code))))
-    (λ S. (S.tokens, (S.entries, (S.next, S.answered)))) (λ p. record { tokens = p.0; entries = p.1.0; next = p.1.1.0; answered = p.1.1.1 }) (λ _. refl)
+    code_by StateParts (coded× (map.code coded_ℕ token_code)
+    (coded× (map.code key_code entry_code) (coded× coded_ℕ (coded_option val_code))))
+    (λ S. (S.tokens, (S.entries, (S.next, S.answered))))
+    (λ p. record { tokens = p.0; entries = p.1.0; next = p.1.1.0; answered = p.1.1.1 }) (λ _. refl)

@@ -10,4 +10,5 @@ use Rattle.interleave_laws.specs.Bare.{SameBare}
 -- two live tickets may move in either order, and the states without their tickets are one
 abbrev pub Diamond : Type 0
 Diamond = InEveryRun (λ net log S. (i j : ℕ) (x y : TokenTree) → S.tokens i ≡ Some x → S.tokens j ≡ Some y → i ≢ j →
-    (S1 S12 S2 S21 : State) × (step net S i ≡ Some S1) × (step net S1 j ≡ Some S12) × (step net S j ≡ Some S2) × (step net S2 i ≡ Some S21) × SameBare S12 S21)
+    (S1 S12 S2 S21 : State) × (step net S i ≡ Some S1) × (step net S1 j ≡ Some S12) × (step net S j ≡ Some S2) ×
+    (step net S2 i ≡ Some S21) × SameBare S12 S21)

@@ -7,7 +7,8 @@ use Rattle.move_rules.specs.Places.{Place, TokenTree, place_of}
 use Rattle.interleave_laws.specs.Start.{start_of}
 use Rattle.interleave_laws.specs.States.{State, start, step, run}
 use Rattle.interleave_laws.specs.Runs.{LeadsTo}
-use Rattle.interleave_laws.specs.Maps.{MapState, start_map, step_map, run_map, LeadsToMap, IsReachedWithin, seen, option_seen, SameBareMap, InEveryMapState, InEveryMapRun}
+use Rattle.interleave_laws.specs.Maps.{MapState, start_map, step_map, run_map, LeadsToMap, IsReachedWithin, seen, option_seen, SameBareMap}
+use Rattle.interleave_laws.specs.Maps.{InEveryMapState, InEveryMapRun}
 
 -- a state of finite maps starts as what it answers
 abbrev pub SeenStarts : Type 0
@@ -38,7 +39,8 @@ abbrev pub StartReached : Type 0
 StartReached = (net : NetTree) → IsReachedWithin net 1 (start_map (start_of net))
 
 abbrev pub StepReached : Type 0
-StepReached = (net : NetTree) (n i : ℕ) (S T : MapState) → IsReachedWithin net n S → step_map net S i ≡ Some T → IsReachedWithin net (suc n) T
+StepReached = (net : NetTree) (n i : ℕ) (S T : MapState) → IsReachedWithin net n S → step_map net S i ≡ Some T →
+    IsReachedWithin net (suc n) T
 
 -- what is reached in few moves is so in more
 abbrev pub MoreReached : Type 0
@@ -54,11 +56,13 @@ MapLow = InEveryMapState (λ net log S. (i : ℕ) (x : TokenTree) → get S.toke
 
 -- no two live tokens stand at one place
 abbrev pub MapOnePlace : Type 0
-MapOnePlace = InEveryMapState (λ net log S. (i j : ℕ) (x y : TokenTree) → get S.tokens i ≡ Some x → get S.tokens j ≡ Some y → place_of x ≡ place_of y → i ≡ j)
+MapOnePlace = InEveryMapState (λ net log S. (i j : ℕ) (x y : TokenTree) → get S.tokens i ≡ Some x → get S.tokens j ≡ Some y →
+    place_of x ≡ place_of y → i ≡ j)
 
 -- on a net that runs each live ticket has its step
 abbrev pub MapHasStep : Type 0
-MapHasStep = InEveryMapRun (λ net log S. (i : ℕ) (x : TokenTree) → get S.tokens i ≡ Some x → (T : MapState) × (step_map net S i ≡ Some T))
+MapHasStep = InEveryMapRun (λ net log S. (i : ℕ) (x : TokenTree) → get S.tokens i ≡ Some x → (T : MapState) ×
+    (step_map net S i ≡ Some T))
 
 -- where there is an answer, no token is live and no entry is left
 abbrev pub MapAnsweredEnds : Type 0
@@ -70,9 +74,12 @@ MapIdleAnswered = InEveryMapState (λ net log S. S.tokens ≡ empty → (v : Val
 
 -- a step leaves the token of each other live ticket
 abbrev pub MapOthersStay : Type 0
-MapOthersStay = InEveryMapState (λ net log S. (T : MapState) (i j : ℕ) (y : TokenTree) → step_map net S i ≡ Some T → j ≢ i → get S.tokens j ≡ Some y → get T.tokens j ≡ Some y)
+MapOthersStay = InEveryMapState (λ net log S. (T : MapState) (i j : ℕ) (y : TokenTree) → step_map net S i ≡ Some T → j ≢ i →
+    get S.tokens j ≡ Some y → get T.tokens j ≡ Some y)
 
 -- two live tickets may move in either order
 abbrev pub MapDiamond : Type 0
-MapDiamond = InEveryMapRun (λ net log S. (i j : ℕ) (x y : TokenTree) → get S.tokens i ≡ Some x → get S.tokens j ≡ Some y → i ≢ j →
-    (S1 S12 S2 S21 : MapState) × (step_map net S i ≡ Some S1) × (step_map net S1 j ≡ Some S12) × (step_map net S j ≡ Some S2) × (step_map net S2 i ≡ Some S21) × SameBareMap S12 S21)
+MapDiamond = InEveryMapRun (λ net log S. (i j : ℕ) (x y : TokenTree) → get S.tokens i ≡ Some x → get S.tokens j ≡ Some y →
+    i ≢ j →
+    (S1 S12 S2 S21 : MapState) × (step_map net S i ≡ Some S1) × (step_map net S1 j ≡ Some S12) × (step_map net S j ≡ Some S2) ×
+    (step_map net S2 i ≡ Some S21) × SameBareMap S12 S21)

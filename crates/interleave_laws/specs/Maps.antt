@@ -41,12 +41,14 @@ fork_map None S i n l r t = Some (record S {
 -- the second answer at a join
 abbrev pub last_map : Option Val → MapState → ℕ → ℕ → ℕ → Boxes → Option MapState
 last_map None S i n w t = None
-last_map (Some u) S i n w t = Some (record S { tokens = map.insert S.tokens i (ans u (down w [] t)); entries = map.remove S.entries (n, t) })
+last_map (Some u) S i n w t =
+    Some (record S { tokens = map.insert S.tokens i (ans u (down w [] t)); entries = map.remove S.entries (n, t) })
 
 -- a join
 abbrev pub join_map : Option Entry → MapState → ℕ → ℕ → Op → Side → Val → ℕ → Boxes → Option MapState
 join_map None S i n o s v w t = None
-join_map (Some pending) S i n o s v w t = Some (record S { tokens = map.remove S.tokens i; entries = map.insert S.entries (n, t) (kept_as s v) })
+join_map (Some pending) S i n o s v w t =
+    Some (record S { tokens = map.remove S.tokens i; entries = map.insert S.entries (n, t) (kept_as s v) })
 join_map (Some e) S i n o s v w t = last_map (other o e s v) S i n w t
 
 -- the state after a move of the ticket

@@ -12,7 +12,8 @@ use Rattle.interleave_laws.specs.OneWorker.{least_from, one_from, one, IsOneWork
 
 -- at each place of its log the one worker moves the least live ticket
 abbrev pub OneIsLeast : Type 0
-OneIsLeast = (net : NetTree) (b : ℕ) (S : State) (a c : List ℕ) (i : ℕ) → one net b ≡ a ++ i ∷ c → LeadsTo net a S → Least S i
+OneIsLeast = (net : NetTree) (b : ℕ) (S : State) (a c : List ℕ) (i : ℕ) → one net b ≡ a ++ i ∷ c → LeadsTo net a S →
+    Least S i
 
 -- the one worker's log leads to a state
 abbrev pub OneLeads : Type 0
@@ -32,24 +33,29 @@ OneNext = InEveryRun (λ net log S. (i : ℕ) → IsOneWorkers net log → Least
 
 -- and with what the one worker makes of the state that it leads to, it is the one worker's log of so many moves more
 abbrev pub OneContinues : Type 0
-OneContinues = (net : NetTree) (log : List ℕ) (S : State) → LeadsTo net log S → IsOneWorkers net log → (b : ℕ) → one net (length log + b) ≡ log ++ one_from net S b
+OneContinues = (net : NetTree) (log : List ℕ) (S : State) → LeadsTo net log S → IsOneWorkers net log → (b : ℕ) →
+    one net (length log + b) ≡ log ++ one_from net S b
 
 -- and once it answers, it is the one worker's log with any higher bound
 abbrev pub OneEnds : Type 0
-OneEnds = InEveryRun (λ net log S. (v : Val) → IsOneWorkers net log → S.answered ≡ Some v → (b : ℕ) → length log ≤ b → one net b ≡ log)
+OneEnds = InEveryRun (λ net log S. (v : Val) → IsOneWorkers net log → S.answered ≡ Some v → (b : ℕ) → length log ≤ b →
+    one net b ≡ log)
 
 -- the least live ticket is the least one after its own step too, as long as it lives
 abbrev pub LeastStays : Type 0
-LeastStays = InEveryRun (λ net log S. (T : State) (i : ℕ) (y : TokenTree) → Least S i → step net S i ≡ Some T → T.tokens i ≡ Some y → Least T i)
+LeastStays = InEveryRun (λ net log S. (T : State) (i : ℕ) (y : TokenTree) → Least S i → step net S i ≡ Some T →
+    T.tokens i ≡ Some y → Least T i)
 
 -- a log of the one worker with a walk of the least live ticket behind it is the one worker's
 abbrev pub OneWalks : Type 0
 OneWalks =
-    InEveryRun (λ net log S. (trail : List ℕ) (i : ℕ) (x y : TokenTree) → IsOneWorkers net log → Least S i → S.tokens i ≡ Some x → Walks net x trail y → IsOneWorkers net (log ++ map (λ n. i) trail))
+    InEveryRun (λ net log S. (trail : List ℕ) (i : ℕ) (x y : TokenTree) → IsOneWorkers net log → Least S i →
+    S.tokens i ≡ Some x → Walks net x trail y → IsOneWorkers net (log ++ map (λ n. i) trail))
 
 -- from every state that a log leads to, the one worker goes on to an answer, or as far as it may
 abbrev pub OneFinishes : Type 0
-OneFinishes = InEveryRun (λ net log S. (b : ℕ) → (T : State) × LeadsTo net (log ++ one_from net S b) T × Finished T.answered (one_from net S b) b)
+OneFinishes = InEveryRun (λ net log S. (b : ℕ) → (T : State) × LeadsTo net (log ++ one_from net S b) T ×
+    Finished T.answered (one_from net S b) b)
 
 -- i is the first live ticket from k on
 abbrev pub FirstFrom : Tokens → ℕ → ℕ → Type 0

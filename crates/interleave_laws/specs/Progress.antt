@@ -13,7 +13,8 @@ use Rattle.interleave_laws.specs.Asked.{asked_in, opened_in, Once}
 
 -- no two live tokens stand at one place
 abbrev pub OnePlace : Type 0
-OnePlace = InEveryState (λ net log S. (i j : ℕ) (x y : TokenTree) → S.tokens i ≡ Some x → S.tokens j ≡ Some y → place_of x ≡ place_of y → i ≡ j)
+OnePlace = InEveryState (λ net log S. (i j : ℕ) (x y : TokenTree) → S.tokens i ≡ Some x → S.tokens j ≡ Some y →
+    place_of x ≡ place_of y → i ≡ j)
 
 -- no place is asked twice, the start's among them
 abbrev pub AskedOnce : Type 0
@@ -29,7 +30,8 @@ HasStep = InEveryRun (λ net log S. (i : ℕ) (x : TokenTree) → S.tokens i ≡
 
 -- where there is an answer, no token is live and no entry is left
 abbrev pub AnsweredEnds : Type 0
-AnsweredEnds = InEveryState (λ net log S. (v : Val) → S.answered ≡ Some v → ((j : ℕ) → S.tokens j ≡ None) × ((n : ℕ) (t : Boxes) → S.entries n t ≡ None))
+AnsweredEnds = InEveryState (λ net log S. (v : Val) → S.answered ≡ Some v → ((j : ℕ) → S.tokens j ≡ None) ×
+    ((n : ℕ) (t : Boxes) → S.entries n t ≡ None))
 
 -- where no token is live, there is an answer
 abbrev pub IdleAnswered : Type 0
@@ -37,4 +39,5 @@ IdleAnswered = InEveryState (λ net log S. ((j : ℕ) → S.tokens j ≡ None) �
 
 -- a step leaves the token of each other live ticket
 abbrev pub OthersStay : Type 0
-OthersStay = InEveryState (λ net log S. (T : State) (i j : ℕ) (y : TokenTree) → step net S i ≡ Some T → j ≢ i → S.tokens j ≡ Some y → T.tokens j ≡ Some y)
+OthersStay = InEveryState (λ net log S. (T : State) (i j : ℕ) (y : TokenTree) → step net S i ≡ Some T → j ≢ i →
+    S.tokens j ≡ Some y → T.tokens j ≡ Some y)

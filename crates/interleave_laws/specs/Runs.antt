@@ -21,7 +21,8 @@ Finished answered log budget = (length log ≤ budget) × (answered ≡ None →
 pub record Runs (net : NetTree) : Type 0 where
   pub sound : Sound net
   -- each live token of each state that a log leads to has a move
-  pub moves : (log : List ℕ) (S : State) → LeadsTo net log S → (i : ℕ) (x : TokenTree) → S.tokens i ≡ Some x → move net x ≢ stay
+  pub moves : (log : List ℕ) (S : State) → LeadsTo net log S → (i : ℕ) (x : TokenTree) → S.tokens i ≡ Some x →
+      move net x ≢ stay
 
 -- it holds in every state that a log leads to, on every sound net
 abbrev pub InEveryState : (NetTree → List ℕ → State → Type 0) → Type 0

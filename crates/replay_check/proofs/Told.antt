@@ -1,5 +1,6 @@
 -- What a list of tickets comes to is one thing: what its tickets tell, one after the other.
-use Rattle.std.proofs.Common.{◌≡◌, ℕ, suc, ◌+◌, List, [], ◌∷◌, ◌++◌, append_assoc, length, Option, Some, None, Ok, Err, refl, sym, ap, ◌∙◌, subst, arith}
+use Rattle.std.proofs.Common.{◌≡◌, ℕ, suc, ◌+◌, List, [], ◌∷◌, ◌++◌, append_assoc, length, Option, Some, None, Ok}
+use Rattle.std.proofs.Common.{Err, refl, sym, ap, ◌∙◌, subst, arith}
 use Rattle.std.specs.Prelude.{Result}
 use Rattle.std.specs.FinMap.{get}
 use Rattle.pcf_values.specs.declared.val.Val.{Val}
@@ -48,7 +49,8 @@ pub dead_stops : (net : NetTree) (S : MapState) (t : ℕ) → get S.tokens t ≡
 dead_stops net S t e = ap (λ x. step_map_on net x S t) e
 
 -- A list that stops tells its fault.
-stop_told : (net : NetTree) (S T : MapState) (n t : ℕ) (before rest : List ℕ) → run_map net S before ≡ Some T → get T.tokens t ≡ None →
+stop_told : (net : NetTree) (S T : MapState) (n t : ℕ) (before rest : List ℕ) → run_map net S before ≡ Some T →
+    get T.tokens t ≡ None →
     told_from net S n (before ++ t ∷ rest) ≡ Err (fault_at T.answered (n + length before) t)
 stop_told net S T n t [] rest h d =
     let e : S ≡ T = cc in
@@ -59,7 +61,8 @@ stop_told net S T n t (u ∷ before) rest h d = go (step_map net S u) (λ V k. s
   where
     go : (o : Option MapState) → ((V : MapState) → run_map net V before ≡ Some T →
         told_from net V (suc n) (before ++ t ∷ rest) ≡ Err (fault_at T.answered (suc n + length before) t)) →
-        then_run_map o (λ V. run_map net V before) ≡ Some T → on_step o S n u (λ V. told_from net V (suc n) (before ++ t ∷ rest)) ≡ Err
+        then_run_map o (λ V. run_map net V before) ≡ Some T →
+        on_step o S n u (λ V. told_from net V (suc n) (before ++ t ∷ rest)) ≡ Err
         (fault_at T.answered (n + suc (length before)) t)
     go None f h = cc
     go (Some V) f h = let m : suc n + length before ≡ n + suc (length before) = omega arith in f V h
@@ -81,14 +84,16 @@ stop_is net ts f x =
     ∙ (λ i. Err (fault_at x.state.answered (m i) x.ticket)) ∙ (λ i. Err (sym x.fault i))
 
 -- What a list comes to is what it tells.
-told_is : (net : NetTree) (ts : List ℕ) (r : Result Replayed ReplayFault) → (r ≡ Err NoMemory → ⊥) → ReplaysAs net ts r → told net ts ≡ r
+told_is : (net : NetTree) (ts : List ℕ) (r : Result Replayed ReplayFault) → (r ≡ Err NoMemory → ⊥) → ReplaysAs net ts r →
+    told net ts ≡ r
 told_is net ts (Ok r) q x = run_is net ts r x
 told_is net ts (Err NoMemory) q x = absurd (q refl)
 told_is net ts (Err (NotLive p t)) q x = stop_is net ts (NotLive p t) x
 told_is net ts (Err (AfterAnswer p)) q x = stop_is net ts (AfterAnswer p) x
 
 -- A list comes to one thing at most.
-pub one_replay : (net : NetTree) (ts : List ℕ) (r s : Result Replayed ReplayFault) → (r ≡ Err NoMemory → ⊥) → (s ≡ Err NoMemory → ⊥) →
+pub one_replay : (net : NetTree) (ts : List ℕ) (r s : Result Replayed ReplayFault) → (r ≡ Err NoMemory → ⊥) →
+    (s ≡ Err NoMemory → ⊥) →
     ReplaysAs net ts r → ReplaysAs net ts s → r ≡ s
 one_replay net ts r s p q x y = sym (told_is net ts r p x) ∙ told_is net ts s q y
 
@@ -120,7 +125,8 @@ run_parts net S (t ∷ before) rest = go (step_map net S t) (λ V. run_parts net
     go (Some V) f = f V
 
 -- A list that leads to a state, and one more ticket that steps from there.
-pub one_more : (net : NetTree) (before : List ℕ) (t : ℕ) (S T : MapState) → LeadsToMap net before S → step_map net S t ≡ Some T →
+pub one_more : (net : NetTree) (before : List ℕ) (t : ℕ) (S T : MapState) → LeadsToMap net before S →
+    step_map net S t ≡ Some T →
     LeadsToMap net (before ++ t ∷ []) T
 one_more net before t S T h e =
     run_parts net (start_map (start_of net)) before (t ∷ [])

@@ -9,4 +9,5 @@ returns-clause-name c =
 pub returns-clause-steps : goal.returns-clause-steps
 returns-clause-steps c =
     let p = c.args.parts.now in
-    last_steps c.args.net.now p.live p.joins p.next p.answer c.args.ticket c.args.at c.args.v c.take.new.self c.requires.met c.take.ensures.rest
+    last_steps c.args.net.now p.live p.joins p.next p.answer c.args.ticket c.args.at c.args.v c.take.new.self c.requires.met
+    c.take.ensures.rest

@@ -82,4 +82,5 @@ returns-clause-alone c =
     let s = state c.walk.new.self p.joins p.next p.answer in
     let stepped = c.in_ok-act.ensures.steps in
     let pushed = c.in_ok-push.ensures.items in
-    goes_on c.args.net.now c.requires.runs on s after.alone c.args.ticket (state_of c.act.new.parts) c.push.new.self.items after.least stepped pushed
+    goes_on c.args.net.now c.requires.runs on s after.alone c.args.ticket (state_of c.act.new.parts) c.push.new.self.items after.least
+    stepped pushed

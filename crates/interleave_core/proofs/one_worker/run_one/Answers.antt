@@ -10,6 +10,7 @@ returns-clause-tickets c =
     let S = state_of c.loop-parts.parts in
     let i = c.loop-parts.invariant in
     elim c.loop-parts-test.branch [
-      | else-loop-parts-test w ↦ full c.args.net.now c.requires.runs log S i.0 c.args.budget i.1 (λ t. let l = c.len.ensures in let f = w.loop-parts-test in absurd (omega (arith, l, f, t)))
+      | else-loop-parts-test w ↦ full c.args.net.now c.requires.runs log S i.0 c.args.budget i.1 (λ t. let l = c.len.ensures in
+          let f = w.loop-parts-test in absurd (omega (arith, l, f, t)))
       | then-loop-parts-test+in-None w ↦ idle c.args.net.now c.requires.runs log S i.0 c.args.budget i.1 w.in-None.ensures
     ]

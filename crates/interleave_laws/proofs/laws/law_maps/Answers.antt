@@ -1,5 +1,6 @@
 use Rattle.interleave_laws.proofs.Seen.{start_seen, step_seen, run_seen, seen_same}
-use Rattle.interleave_laws.proofs.MapLaws.{start_reached, step_reached, more_reached, leads_seen, seen_leads, tickets_most, map_low, map_place, map_step, map_answered, map_idle, map_others, map_diamond}
+use Rattle.interleave_laws.proofs.MapLaws.{start_reached, step_reached, more_reached, leads_seen, seen_leads, tickets_most, map_low}
+use Rattle.interleave_laws.proofs.MapLaws.{map_place, map_step, map_answered, map_idle, map_others, map_diamond}
 use Rattle.interleave_laws.proofs.laws.law_maps.Goals as goal
 
 pub returns-clause-starts : goal.returns-clause-starts

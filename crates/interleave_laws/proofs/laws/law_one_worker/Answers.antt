@@ -1,4 +1,5 @@
-use Rattle.interleave_laws.proofs.OneWorker.{one_least, one_leads, one_finished, one_next, one_ends, one_finishes, one_prefix, one_continues, least_found, least_none}
+use Rattle.interleave_laws.proofs.OneWorker.{one_least, one_leads, one_finished, one_next, one_ends, one_finishes, one_prefix}
+use Rattle.interleave_laws.proofs.OneWorker.{one_continues, least_found, least_none}
 use Rattle.interleave_laws.proofs.Stays.{least_stays, one_walks}
 use Rattle.interleave_laws.proofs.laws.law_one_worker.Goals as goal
 

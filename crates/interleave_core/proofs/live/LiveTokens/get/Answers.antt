@@ -6,4 +6,5 @@ use Rattle.interleave_core.proofs.LiveSeen.{live_get}
 use Rattle.interleave_core.proofs.live.LiveTokens.get.Goals as goal
 
 pub returns : goal.returns
-returns c = ap (option_map token_of) c.look_in.ensures ∙ sym (live_get c.self.inside.tokens c.args.ticket) ∙ ap (λ f. get f c.args.ticket) c.self.view_is
+returns c = ap (option_map token_of) c.look_in.ensures ∙ sym (live_get c.self.inside.tokens c.args.ticket) ∙
+    ap (λ f. get f c.args.ticket) c.self.view_is

@@ -5,4 +5,5 @@ pub walk_in-requires-clause-there : goal.walk_in-requires-clause-there
 walk_in-requires-clause-there c = has_live c.self.inside.tokens c.args.self.now c.self.view_is c.args.ticket c.requires.there
 
 pub returns : goal.returns
-returns c = on_ok c.walk_in.result c.walk_in.ensures (λ h. changes c.self.inside.tokens c.args.self.now c.self.view_is c.walk_in.new.tokens c.args.ticket h)
+returns c = on_ok c.walk_in.result c.walk_in.ensures
+    (λ h. changes c.self.inside.tokens c.args.self.now c.self.view_is c.walk_in.new.tokens c.args.ticket h)

@@ -26,4 +26,5 @@ step_in-requires-clause-room c =
 
 pub invariant_of-self : goal.invariant_of-self
 invariant_of-self c =
-    kept_few c.args.net.now (state_of c.self.inside.parts) (state_of c.step_in.new.parts) c.args.ticket c.step_in.result c.self.invariant c.step_in.ensures.steps c.step_in.ensures.stays
+    kept_few c.args.net.now (state_of c.self.inside.parts) (state_of c.step_in.new.parts) c.args.ticket c.step_in.result c.self.invariant
+    c.step_in.ensures.steps c.step_in.ensures.stays
