@@ -18,6 +18,10 @@ use std::alloc::Global;
 ///
 /// `typed` is the term of `program`, with its type. The answer is closed and of type `nat`. It is made in one walk over the term, and its
 /// types are written as often as the translation has them.
+///
+/// # Errors
+///
+/// The first fault of a program that has no translation: its height before the others, then the least place. Or want of memory.
 pub fn by_value(alloc: Global, program: &Named, typed: &Typed) -> Result<Typed, ByValueFault>
     requires typed { type_of [] (named_of program.now) ≡ Ok typed.now }
     requires ground { typed.now.1 ≡ nat }

@@ -54,6 +54,10 @@ fn read_text(alloc: Global, text: &str) -> Result<Named, ReadFault>
 ///
 /// The text is read once from left to right, within a stack that does not grow with its length: at most
 /// `limits::OPEN_PHRASES` phrases are open.
+///
+/// # Errors
+///
+/// The very first fault of the bytes, with its place: an offset in bytes from 0. Or want of memory.
 pub fn read_program(alloc: Global, bytes: &[u8]) -> Result<Named, ReadFault>
     // What is read is a program's text.
     ensures found { IfOk result (λ t. Text bytes.now (named_of t)) }

@@ -9,6 +9,10 @@ use pcf_values::{Ident, Named, Raw, Ty};
 use std::alloc::{AllocError, Global};
 
 /// The spelling of a type: `nat`, `A -> B` or `A * B`, with parentheses exactly where the grammar needs them.
+///
+/// # Errors
+///
+/// Want of memory.
 pub fn print_ty(alloc: Global, ty: &Ty) -> Result<Vec<u8>, AllocError>
     ensures { IfOk result (λ v. v.items ≡ ty_text (ty_of ty.now)) }
 {
@@ -18,6 +22,10 @@ pub fn print_ty(alloc: Global, ty: &Ty) -> Result<Vec<u8>, AllocError>
 }
 
 /// The spelling of a term on one line, with single spaces, and parentheses exactly where the grammar needs them.
+///
+/// # Errors
+///
+/// Want of memory.
 pub fn print_term(alloc: Global, term: &Named) -> Result<Vec<u8>, AllocError>
     ensures { IfOk result (λ v. v.items ≡ term_text (named_of term.now)) }
 {

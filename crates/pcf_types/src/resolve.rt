@@ -16,6 +16,10 @@ use std::alloc::Global;
 /// The program's term with its type, or its first fault of scope or type from left to right.
 ///
 /// The rules are those of Church's simply typed terms with numbers, products and `fix`. The nearest binder of a name binds it.
+///
+/// # Errors
+///
+/// The first fault of scope or type, with the place of the part: an offset in bytes from 0. Or want of memory.
 pub fn resolve_and_type(alloc: Global, program: &Named) -> Result<Typed, TypeFault>
     requires { named_height (named_of program.now) < 2 ^ 32 }
     ensures typed { IfOk result (λ p. type_of [] (named_of program.now) ≡ Ok p) }
@@ -34,6 +38,10 @@ pub fn resolve_and_type(alloc: Global, program: &Named) -> Result<Typed, TypeFau
 pub struct NotGround;
 
 /// Whether the program is of type `nat`, as one that is run has to be.
+///
+/// # Errors
+///
+/// `NotGround`, exactly when the type is another one.
 pub fn ground(program: &Typed) -> Result<(), NotGround>
     ensures { IsOk result ↔ (program.now.1 ≡ nat) }
 {

@@ -19,6 +19,10 @@ impl Model for Ident {
 
 impl Ident {
     /// The name with the bytes of this text.
+    ///
+    /// # Errors
+    ///
+    /// Want of memory.
     pub fn from_text(alloc: Global, text: &str) -> Result<Ident, AllocError>
         ensures { IfOk result (λ a. a ≡ text.now) }
     {
@@ -35,6 +39,10 @@ impl Ident {
     }
 
     /// An equal name.
+    ///
+    /// # Errors
+    ///
+    /// Want of memory.
     pub fn copy(&self, alloc: Global) -> Result<Ident, AllocError>
         ensures { IfOk result (λ a. a ≡ self.now) }
     {

@@ -10,7 +10,9 @@ use std::alloc::{AllocError, Global};
 #[cycle(named)]
 #[derive(Drop)]
 pub struct Named {
+    /// The place.
     pub at: u32,
+    /// The node itself.
     pub raw: Raw,
 }
 
@@ -18,24 +20,42 @@ pub struct Named {
 #[cycle(named)]
 #[derive(Drop)]
 pub enum Raw {
+    /// A number.
     Number(u64),
+    /// A variable, by its name.
     Name(Ident),
+    /// `succ`, one more.
     Succ(Box<Named>),
+    /// `pred`, one less, and 0 of 0.
     Pred(Box<Named>),
+    /// A sum.
     Plus(Box<Named>, Box<Named>),
+    /// A difference, 0 where it would be below.
     Minus(Box<Named>, Box<Named>),
+    /// A product.
     Times(Box<Named>, Box<Named>),
+    /// `ifz`: the condition, the part for 0, and the part for all else.
     Ifz(Box<Named>, Box<Named>, Box<Named>),
+    /// A function: the name that it binds, its type, and the body.
     Fun(Ident, Ty, Box<Named>),
+    /// A fixed point: the name that it binds, its type, and the body.
     Fix(Ident, Ty, Box<Named>),
+    /// A function applied to an argument.
     App(Box<Named>, Box<Named>),
+    /// A pair.
     Pair(Box<Named>, Box<Named>),
+    /// The first part of a pair.
     Fst(Box<Named>),
+    /// The second part of a pair.
     Snd(Box<Named>),
 }
 
 impl Named {
     /// An equal term, with equal places.
+    ///
+    /// # Errors
+    ///
+    /// Want of memory.
     #[cycle(copy)]
     #[tactic(auto, using(crate::proofs::Heights::raw_height))]
     pub fn copy(&self, alloc: Global) -> Result<Named, AllocError>
@@ -50,6 +70,10 @@ impl Named {
 
 impl Raw {
     /// An equal node.
+    ///
+    /// # Errors
+    ///
+    /// Want of memory.
     #[cycle(copy)]
     pub fn copy(&self, alloc: Global) -> Result<Raw, AllocError>
         ensures { IfOk result (λ t. raw_of t ≡ raw_of self.now) }

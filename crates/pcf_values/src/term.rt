@@ -9,24 +9,42 @@ use std::alloc::{AllocError, Global};
 /// A term. `Var(0)` is the nearest binder's variable.
 #[derive(Drop)]
 pub enum Term {
+    /// A number.
     Number(u64),
+    /// A variable: how many binders stand between it and its own.
     Var(u32),
+    /// `succ`, one more.
     Succ(Box<Term>),
+    /// `pred`, one less, and 0 of 0.
     Pred(Box<Term>),
+    /// A sum.
     Plus(Box<Term>, Box<Term>),
+    /// A difference, 0 where it would be below.
     Minus(Box<Term>, Box<Term>),
+    /// A product.
     Times(Box<Term>, Box<Term>),
+    /// `ifz`: the condition, the part for 0, and the part for all else.
     Ifz(Box<Term>, Box<Term>, Box<Term>),
+    /// A function: the type of what it binds, and the body.
     Fun(Ty, Box<Term>),
+    /// A fixed point: the type of what it binds, and the body.
     Fix(Ty, Box<Term>),
+    /// A function applied to an argument.
     App(Box<Term>, Box<Term>),
+    /// A pair.
     Pair(Box<Term>, Box<Term>),
+    /// The first part of a pair.
     Fst(Box<Term>),
+    /// The second part of a pair.
     Snd(Box<Term>),
 }
 
 impl Term {
     /// An equal term.
+    ///
+    /// # Errors
+    ///
+    /// Want of memory.
     #[cycle(copy)]
     pub fn copy(&self, alloc: Global) -> Result<Term, AllocError>
         ensures { IfOk result (λ t. term_of t ≡ term_of self.now) }

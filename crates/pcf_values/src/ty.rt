@@ -18,6 +18,10 @@ pub enum Ty {
 
 impl Ty {
     /// An equal type.
+    ///
+    /// # Errors
+    ///
+    /// Want of memory.
     #[cycle(copy)]
     pub fn copy(&self, alloc: Global) -> Result<Ty, AllocError>
         ensures { IfOk result (λ t. ty_of t ≡ ty_of self.now) }
