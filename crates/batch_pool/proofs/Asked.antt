@@ -1,5 +1,7 @@
 -- What a worker is told by a pool that isn't stopped, and what that says of the pool; and a search through the jobs, one after another.
-use Rattle.std.proofs.Common.{◌≡◌, ◌⊎◌, ◌<◌, ◌≤◌, ◌+◌, ◌-◌, ℕ, Bool, true, false, nat_eq, if◌then◌else◌, List, length, set, slice_get, Option, Some, None, refl, sym, ap, ◌∙◌, subst, inl, inr, ⊎_elim, Result, Ok, Err, OnErr, arith}
+use Rattle.std.proofs.Common.{◌≡◌, ◌⊎◌, ◌<◌, ◌≤◌, ◌+◌, ◌-◌, ℕ, Bool, true, false, nat_eq}
+use Rattle.std.proofs.Common.{if◌then◌else◌, List, length, set, slice_get, Option, Some, None, refl, sym, ap, ◌∙◌, subst, inl}
+use Rattle.std.proofs.Common.{inr, ⊎_elim, Result, Ok, Err, OnErr, arith}
 use Rattle.std.proofs.lemmas.Bool.{cases_eq}
 use Rattle.std.proofs.lemmas.Option.{slice_get_within}
 use Rattle.token_pool.specs.declared.entries.Held.{Held}
@@ -8,7 +10,8 @@ use Rattle.token_pool.specs.declared.entries.Told.TheVariants.{Stopped, Token, E
 use Rattle.token_pool.specs.Pools.{Pool, Holds, allowances}
 use Rattle.token_pool.specs.declared.pieces.Piece.{Piece}
 use Rattle.token_pool.specs.Pieces.{IsPieceOf}
-use Rattle.token_pool.specs.Turns.{turn, held_after, taken, is_ended, own, flat, on_own, on_free, offered, allowance, next_lines, least_free}
+use Rattle.token_pool.specs.Turns.{turn, held_after, taken, is_ended, own, flat, on_own, on_free, offered, allowance, next_lines}
+use Rattle.token_pool.specs.Turns.{least_free}
 use Rattle.batch_pool.specs.Batches.{IsPool, HoldsIn, HoldsNowhere}
 use Rattle.batch_pool.specs.Asking.{AllOver, GivesToken, NoneGivesBelow, NoneGives, HasTicket}
 use Rattle.batch_pool.specs.declared.asking.Offer.{Offer}
@@ -33,18 +36,21 @@ module _ (p : Pool) (w : ℕ) (running : p.stopped ≡ false) where
 
   -- what a worker holds is told to it again
   pub told_again : (h : Held) → Holds p.held w h → turn p w ≡ Token h
-  told_again h at = ap (λ b. if b then Stopped else on_own (own p.held w) (next_lines p.state (length p.log) p.held p.budget p.workers)) running
+  told_again h at = ap (λ b. if b then Stopped else on_own (own p.held w) (next_lines p.state (length p.log) p.held p.budget p.workers))
+      running
       ∙ ap (λ o. on_own o (next_lines p.state (length p.log) p.held p.budget p.workers)) (owns (slice_get p.held w) h at)
 
   module _ (free : (h : Held) → Holds p.held w h → ⊥) where
     pub told_next : turn p w ≡ next_lines p.state (length p.log) p.held p.budget p.workers
-    told_next = ap (λ b. if b then Stopped else on_own (own p.held w) (next_lines p.state (length p.log) p.held p.budget p.workers)) running
+    told_next = ap (λ b. if b then Stopped else on_own (own p.held w) (next_lines p.state (length p.log) p.held p.budget p.workers))
+        running
         ∙ ap (λ o. on_own o (next_lines p.state (length p.log) p.held p.budget p.workers)) (owns_none (slice_get p.held w) free)
 
     rest : Told
     rest = on_free (least_free p) (offered (length p.log + allowances p.held) p.budget p.workers)
 
-    no_end : (b : Bool) (n left i : ℕ) → (let t : Told = if b then Reserved else Token (record { ticket = i; allowance = n }) in t ≡ Ended) → ⊥
+    no_end : (b : Bool) (n left i : ℕ) → (let t : Told = if b then Reserved else Token (record { ticket = i; allowance = n }) in
+        t ≡ Ended) → ⊥
     no_end true n left i e = cc
     no_end false n left i e = cc
 
@@ -52,7 +58,8 @@ module _ (p : Pool) (w : ℕ) (running : p.stopped ≡ false) where
     never_ends None made budget workers e = cc
     never_ends (Some i) made budget workers e = no_end (nat_eq made budget) (allowance (budget - made) workers) 0 i e
 
-    ends_so : (b : Bool) (o : Option ℕ) (made budget workers : ℕ) → (if b then Ended else on_free o (offered made budget workers)) ≡ Ended → b ≡ true
+    ends_so : (b : Bool) (o : Option ℕ) (made budget workers : ℕ) →
+        (if b then Ended else on_free o (offered made budget workers)) ≡ Ended → b ≡ true
     ends_so true o made budget workers e = refl
     ends_so false o made budget workers e = absurd (never_ends o made budget workers e)
 
@@ -67,7 +74,8 @@ module _ (p : Pool) (w : ℕ) (running : p.stopped ≡ false) where
 
     -- and one that has nothing now isn't
     pub open_is : (turn p w ≡ Idle) ⊎ (turn p w ≡ Reserved) → is_ended p ≡ false
-    open_is h = waits_so (is_ended p) (on_free (least_free p) (offered (length p.log + allowances p.held) p.budget p.workers)) (turn p w) (sym told_next) h
+    open_is h = waits_so (is_ended p) (on_free (least_free p) (offered (length p.log + allowances p.held) p.budget p.workers)) (turn p w)
+        (sym told_next) h
 
 over_gives_none : (t : Told) (h : Held) → t ≡ Ended → t ≡ Token h → ⊥
 over_gives_none t h e k = cc
@@ -92,7 +100,8 @@ pub record Searched (pools : List Pool) (w n : ℕ) (over : Bool) : Type 0 where
 pub search_begins : (pools : List Pool) (w : ℕ) → Searched pools w 0 true
 search_begins pools w = record { none = λ j p l at g. absurd (omega arith); below = λ j p l at. absurd (omega arith) }
 
-module _ (pools : List Pool) (w : ℕ) (serving : IsServing pools w) (free : HoldsNowhere pools w) (n : ℕ) (over : Bool) (s : Searched pools w n over) (p : Pool) (at : IsPool pools n p) where
+module _ (pools : List Pool) (w : ℕ) (serving : IsServing pools w) (free : HoldsNowhere pools w) (n : ℕ) (over : Bool)
+    (s : Searched pools w n over) (p : Pool) (at : IsPool pools n p) where
   free_here : (h : Held) → Holds p.held w h → ⊥
   free_here h held = free n h (p, at, held)
 
@@ -160,10 +169,17 @@ module _ (pools : List Pool) (w j : ℕ) (serving : IsServing pools w) (h : Held
   gives_it k after x =
       let (g, told, piece, new) = x.offers in
       let e : x.old ≡ holds.0 = one_there (slice_get pools j) x.old holds.0 x.job holds.1 in
-      let same : g ≡ h = same_ticket g h (turn holds.0 w) (ap (λ (p : Pool). turn p w) (sym e) ∙ told) told_here in
-      (holds.0, h, holds.1, holds.2, told_here, subst (λ (p : Pool). IsPieceOf p.state h k) e (subst (λ g. IsPieceOf x.old.state g k) same piece))
+      let same : g ≡ h = same_ticket g h (turn holds.0 w) (ap (λ (p : Pool). turn p w) (sym e) ∙ told) told_here in (
+        holds.0,
+        h,
+        holds.1,
+        holds.2,
+        told_here,
+        subst (λ (p : Pool). IsPieceOf p.state h k) e (subst (λ g. IsPieceOf x.old.state g k) same piece),
+      )
 
-  pub gives_again : (o : Offer) (k : Piece) (after : List Pool) → o ≡ offer.Token k → OffersAt pools w j o after → GivesAgain pools w j k
+  pub gives_again : (o : Offer) (k : Piece) (after : List Pool) → o ≡ offer.Token k → OffersAt pools w j o after →
+      GivesAgain pools w j k
   gives_again o k after e x = gives_it k after (subst (λ o. OffersAt pools w j o after) e x)
 
   stays_it : (k : Piece) (after : List Pool) → OffersAt pools w j (offer.Token k) after → after ≡ pools
@@ -206,7 +222,8 @@ module _ (pools now : List Pool) (w j : ℕ) (over : Bool) (x : Comes pools now 
       }
 
   -- the first job that gives a ticket
-  pub gives_first : (o : Offer) (k : Piece) (after : List Pool) → o ≡ offer.Token k → OffersAt now w j o after → GivesFirst pools w j k after
+  pub gives_first : (o : Offer) (k : Piece) (after : List Pool) → o ≡ offer.Token k → OffersAt now w j o after →
+      GivesFirst pools w j k after
   gives_first o k after e a = first_it k after (subst (λ o. OffersAt pools w j o after) e (there o after a))
 
   module _ (serving : IsServing pools w) (free : HoldsNowhere pools w) where
@@ -223,23 +240,29 @@ module _ (pools now : List Pool) (w j : ℕ) (over : Bool) (x : Comes pools now 
     }
 
     -- the search goes on behind a job that waits
-    pub comes_waiting : (o : Offer) (after : List Pool) (b : Bool) → o ≡ offer.Waits → b ≡ false → OffersAt now w j o after → Comes pools after w (j + 1) b
-    comes_waiting o after b e f a = subst (Comes pools after w (j + 1)) (sym f) (waiting_it after (subst (λ o. OffersAt pools w j o after) e (there o after a)))
+    pub comes_waiting : (o : Offer) (after : List Pool) (b : Bool) → o ≡ offer.Waits → b ≡ false → OffersAt now w j o after →
+        Comes pools after w (j + 1) b
+    comes_waiting o after b e f a = subst (Comes pools after w (j + 1)) (sym f)
+        (waiting_it after (subst (λ o. OffersAt pools w j o after) e (there o after a)))
 
     -- and behind one that is over
-    pub comes_over : (o : Offer) (after : List Pool) (b : Bool) → o ≡ offer.Over → b ≡ over → OffersAt now w j o after → Comes pools after w (j + 1) b
-    comes_over o after b e f a = subst (Comes pools after w (j + 1)) (sym f) (over_it after (subst (λ o. OffersAt pools w j o after) e (there o after a)))
+    pub comes_over : (o : Offer) (after : List Pool) (b : Bool) → o ≡ offer.Over → b ≡ over → OffersAt now w j o after →
+        Comes pools after w (j + 1) b
+    comes_over o after b e f a = subst (Comes pools after w (j + 1)) (sym f)
+        (over_it after (subst (λ o. OffersAt pools w j o after) e (there o after a)))
 
 pub comes_first : (pools : List Pool) (w : ℕ) → Comes pools pools w 0 true
 comes_first pools w = record { same = refl; search = search_begins pools w }
 
 -- what is told where no job gave a ticket
-pub ends_over : (pools now : List Pool) (w n : ℕ) (over : Bool) (t : BatchTaken) → Comes pools now w n over → length pools ≤ n → over ≡ true → t ≡ answer.Ended → TakesFirst pools w t now
+pub ends_over : (pools now : List Pool) (w n : ℕ) (over : Bool) (t : BatchTaken) → Comes pools now w n over → length pools ≤ n →
+    over ≡ true → t ≡ answer.Ended → TakesFirst pools w t now
 ends_over pools now w n over t x l e f =
     let s = subst (λ b. Below b pools n) e x.search.below in
     subst (λ t. TakesFirst pools w t now) (sym f) (all_over pools n l s, x.same)
 
-pub ends_waiting : (pools now : List Pool) (w n : ℕ) (over : Bool) (t : BatchTaken) → Comes pools now w n over → length pools ≤ n → over ≡ false → t ≡ answer.Pause → TakesFirst pools w t now
+pub ends_waiting : (pools now : List Pool) (w n : ℕ) (over : Bool) (t : BatchTaken) → Comes pools now w n over →
+    length pools ≤ n → over ≡ false → t ≡ answer.Pause → TakesFirst pools w t now
 ends_waiting pools now w n over t x l e f =
     let s = subst (λ b. Below b pools n) e x.search.below in
     subst (λ t. TakesFirst pools w t now) (sym f) (not_all_over pools n s, none_at_all pools w n l x.search.none, x.same)

@@ -1,5 +1,6 @@
 -- The ends of the jobs one after another, and why they are runs.
-use Rattle.std.proofs.Common.{◌≡◌, ◌≤◌, ◌-◌, ℕ, suc, take, List, [], ◌∷◌, ◌++◌, append_assoc, length, get_or, drop, Option, Some, None, Result, Ok, Err, IfOk, OnOk, refl, sym, ap, ◌∙◌, subst, arith}
+use Rattle.std.proofs.Common.{◌≡◌, ◌≤◌, ◌-◌, ℕ, suc, take, List, [], ◌∷◌, ◌++◌, append_assoc, length, get_or}
+use Rattle.std.proofs.Common.{drop, Option, Some, None, Result, Ok, Err, IfOk, OnOk, refl, sym, ap, ◌∙◌, subst, arith}
 use Rattle.token_pool.specs.declared.ending.Ended.{Ended}
 use Rattle.token_pool.specs.Pools.{Pool}
 use Rattle.token_pool.specs.Ending.{Suits, Finishes, Replays}
@@ -15,7 +16,8 @@ if_ok_so (Ok a) P Q h f = f a h
 if_ok_so (Err e) P Q h f = tt
 
 module _ {E : Type 0} (job : BatchJob) (w : ℕ) (p : Pool) (r : Result Ended E) where
-  ends_from : (r : Result Ended E) → (Suits p job.net job.budget w → IfOk r (Finishes p)) → ((Suits p job.net job.budget w → ⊥) → IfOk r (Finishes (job_started w job))) →
+  ends_from : (r : Result Ended E) → (Suits p job.net job.budget w → IfOk r (Finishes p)) →
+      ((Suits p job.net job.budget w → ⊥) → IfOk r (Finishes (job_started w job))) →
       IfOk r (EndsFrom p job w)
   ends_from (Ok e) same other = record { same = same; other = other }
   ends_from (Err e) same other = tt
@@ -48,17 +50,26 @@ popped_rest : (pools rest : List Pool) (o : Option Pool) → Pops pools o rest �
 popped_rest pools rest None h = ap behind_first h.0 ∙ sym h.1
 popped_rest pools rest (Some p) h = ap behind_first h
 
-module _ (pools rest : List Pool) (o : Option Pool) (pops : Pops pools o rest) (jobs : List BatchJob) (job : BatchJob) (some : 1 ≤ length jobs) (is : job ≡ get_or jobs 0 job)
-    (w : ℕ) (e : Ended) (end : EndsAs o job w e) (replays : Replays job.net job.budget w e) (old mid new : List Ended) (pushed : mid ≡ old ++ e ∷ []) where
+module _ (pools rest : List Pool) (o : Option Pool) (pops : Pops pools o rest) (jobs : List BatchJob) (job : BatchJob)
+    (some : 1 ≤ length jobs) (is : job ≡ get_or jobs 0 job)
+    (w : ℕ) (e : Ended) (end : EndsAs o job w e) (replays : Replays job.net job.budget w e) (old mid new : List Ended)
+    (pushed : mid ≡ old ++ e ∷ []) where
   each : (more : List Ended) → EndsEach rest (others jobs) w more → EndsEach pools jobs w (e ∷ more)
   each more h =
       let first : EndsAs (first_pool pools) job w e = subst (λ o. EndsAs o job w e) (sym (popped_first pools rest o pops)) end in
-      let others : EndsEach (behind_first pools) (others jobs) w more = subst (λ ps. EndsEach ps (others jobs) w more) (sym (popped_rest pools rest o pops)) h in
+      let others : EndsEach (behind_first pools) (others jobs) w more =
+      subst (λ ps. EndsEach ps (others jobs) w more) (sym (popped_rest pools rest o pops)) h in
       subst (λ js. EndsEach pools js w (e ∷ more)) (sym (first_and_rest jobs job some is)) (first, replays, others)
 
   -- one end more
-  pub ends_more : {A E : Type 0} (r : Result A E) → OnOk r ((more : List Ended) × (new ≡ mid ++ more) × EndsEach rest (others jobs) w more) → OnOk r ((more : List Ended) × (new ≡ old ++ more) × EndsEach pools jobs w more)
-  ends_more (Ok a) (more, is_new, h) = (e ∷ more, is_new ∙ ap (λ es. es ++ more) pushed ∙ append_assoc old (e ∷ []) more, each more h)
+  pub ends_more : {A E : Type 0} (r : Result A E) →
+      OnOk r ((more : List Ended) × (new ≡ mid ++ more) × EndsEach rest (others jobs) w more) →
+      OnOk r ((more : List Ended) × (new ≡ old ++ more) × EndsEach pools jobs w more)
+  ends_more (Ok a) (more, is_new, h) = (
+    e ∷ more,
+    is_new ∙ ap (λ es. es ++ more) pushed ∙ append_assoc old (e ∷ []) more,
+    each more h,
+  )
   ends_more (Err x) h = tt
 
 is_run : (job : BatchJob) (w : ℕ) (e : Ended) → 2 ≤ w → Replays job.net job.budget w e → IsRunOf job w e
@@ -75,13 +86,15 @@ is_run job w e l h = record {
 }
 
 -- ends that replay are runs
-pub ends_are_runs : (pools : List Pool) (jobs : List BatchJob) (w : ℕ) (ends : List Ended) → 2 ≤ w → EndsEach pools jobs w ends → AreRuns jobs w ends
+pub ends_are_runs : (pools : List Pool) (jobs : List BatchJob) (w : ℕ) (ends : List Ended) → 2 ≤ w → EndsEach pools jobs w ends →
+    AreRuns jobs w ends
 ends_are_runs pools [] w [] l h = tt
 ends_are_runs pools [] w (e ∷ ends) l h = absurd h
 ends_are_runs pools (job ∷ jobs) w [] l h = absurd h
 ends_are_runs pools (job ∷ jobs) w (e ∷ ends) l h = (is_run job w e l h.1, ends_are_runs (behind_first pools) jobs w ends l h.2)
 
-pub runs_of_ends : {V E : Type 0} (items : V → List Ended) (r : Result V E) (pools : List Pool) (jobs all : List BatchJob) (w : ℕ) → jobs ≡ all → 2 ≤ w →
+pub runs_of_ends : {V E : Type 0} (items : V → List Ended) (r : Result V E) (pools : List Pool) (jobs all : List BatchJob) (w : ℕ) →
+    jobs ≡ all → 2 ≤ w →
     IfOk r (λ v. EndsEach pools jobs w (items v)) → IfOk r (λ v. AreRuns all w (items v))
 runs_of_ends items r pools jobs all w e l h =
     if_ok_so r (λ v. EndsEach pools jobs w (items v)) (λ v. AreRuns all w (items v)) h

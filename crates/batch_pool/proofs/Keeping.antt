@@ -1,5 +1,6 @@
 -- What stays true of a batch where one of its pools goes on.
-use Rattle.std.proofs.Common.{◌≡◌, ◌⊎◌, ◌<◌, ◌≤◌, ℕ, Bool, List, length-set, set, slice_get, Option, Some, None, refl, sym, ap, ◌∙◌, subst, inl, inr, ⊎_elim, arith}
+use Rattle.std.proofs.Common.{◌≡◌, ◌⊎◌, ◌<◌, ◌≤◌, ℕ, Bool, List, length-set, set, slice_get, Option, Some, None}
+use Rattle.std.proofs.Common.{refl, sym, ap, ◌∙◌, subst, inl, inr, ⊎_elim, arith}
 use Rattle.std.proofs.lemmas.Bool.{cases_eq}
 use Rattle.move_rules.specs.Walks.{Passage}
 use Rattle.token_pool.specs.declared.entries.Held.{Held}
@@ -52,14 +53,16 @@ module _ (pools : List Pool) (w j : ℕ) (p q : Pool) (x : Change pools w j p q)
       (λ e. (
         q,
         subst (λ i. IsPool (set pools j q) i q) (sym e) new_there,
-        x.stay v h d (subst (λ (r : Pool). Holds r.held v h) (one_there (slice_get pools j) r p (subst (λ i. IsPool pools i r) e at) x.at) held),
+        x.stay v h d (subst (λ (r : Pool). Holds r.held v h) (one_there (slice_get pools j) r p (subst (λ i. IsPool pools i r) e at) x.at)
+            held),
       ))
       (λ e. (r, others_stay pools j i q r e at, held)) (cases_eq i j)
 
   module _ (workers : ℕ) (stopped : Bool) (g : BatchGood (batch pools workers stopped)) where
     apart_after : (v i k : ℕ) (a b : Held) → HoldsIn (set pools j q) v i a → HoldsIn (set pools j q) v k b → i ≡ k
     apart_after v i k a b s t = ⊎_elim
-        (λ e. only_after i a (subst (λ v. HoldsIn (set pools j q) v i a) e s) ∙ sym (only_after k b (subst (λ v. HoldsIn (set pools j q) v k b) e t)))
+        (λ e. only_after i a (subst (λ v. HoldsIn (set pools j q) v i a) e s) ∙
+        sym (only_after k b (subst (λ v. HoldsIn (set pools j q) v k b) e t)))
         (λ e. g.apart v i k a b (back v i a e s) (back v k b e t)) (cases_eq v w)
 
     -- the batch stays good
@@ -69,8 +72,10 @@ module _ (pools : List Pool) (w j : ℕ) (p q : Pool) (x : Change pools w j p q)
       some_workers = g.some_workers;
       few_workers = g.few_workers;
       good = λ i r at. ⊎_elim (λ e. subst Good e.1 x.good) (λ e. g.good i r e.1) (pool_after i r at);
-      served = λ i r at. ⊎_elim (λ e. ap (λ (r : Pool). r.workers) (sym e.1) ∙ x.served ∙ g.served j p x.at) (λ e. g.served i r e.1) (pool_after i r at);
-      running = λ i r at. ⊎_elim (λ e. ap (λ (r : Pool). r.stopped) (sym e.1) ∙ x.flag ∙ g.running j p x.at) (λ e. g.running i r e.1) (pool_after i r at);
+      served = λ i r at. ⊎_elim (λ e. ap (λ (r : Pool). r.workers) (sym e.1) ∙ x.served ∙
+          g.served j p x.at) (λ e. g.served i r e.1) (pool_after i r at);
+      running = λ i r at. ⊎_elim (λ e. ap (λ (r : Pool). r.stopped) (sym e.1) ∙ x.flag ∙
+          g.running j p x.at) (λ e. g.running i r e.1) (pool_after i r at);
       apart = apart_after;
     }
 
@@ -79,12 +84,14 @@ module _ (pools : List Pool) (w j : ℕ) (p q : Pool) (x : Change pools w j p q)
   place_stays (Some i) v d k = (k.0, forth v i k.0 d k.1)
 
   -- what is known of the others stays so
-  pub knows_after : (places : List (Option ℕ)) (o : Option ℕ) → Knows places pools → Place o (set pools j q) w → Knows (set places w o) (set pools j q)
+  pub knows_after : (places : List (Option ℕ)) (o : Option ℕ) → Knows places pools → Place o (set pools j q) w →
+      Knows (set places w o) (set pools j q)
   knows_after places o k here v o' at = ⊎_elim
       (λ e. subst (λ v. Place o' (set pools j q) v) (sym e.0) (subst (λ o. Place o (set pools j q) w) e.1 here))
       (λ e. place_stays o' v e.0 (k v o' e.1)) (got_after_set places w v o o' at)
 
-  pub kept_after : (workers : ℕ) (stopped : Bool) (places : List (Option ℕ)) (o : Option ℕ) → Kept pools workers stopped places → Place o (set pools j q) w → Kept (set pools j q) workers stopped (set places w o)
+  pub kept_after : (workers : ℕ) (stopped : Bool) (places : List (Option ℕ)) (o : Option ℕ) → Kept pools workers stopped places →
+      Place o (set pools j q) w → Kept (set pools j q) workers stopped (set places w o)
   kept_after workers stopped places o k here = record {
     good = good_after workers stopped k.good;
     each = length-set places w o ∙ k.each;
@@ -92,10 +99,12 @@ module _ (pools : List Pool) (w j : ℕ) (p q : Pool) (x : Change pools w j p q)
   }
 
 -- what is held at other places where one place is written
-pub stays_set : (held : List (Option Held)) (w : ℕ) (o : Option Held) (v : ℕ) (h : Held) → (v ≡ w → ⊥) → Holds held v h → Holds (set held w o) v h
+pub stays_set : (held : List (Option Held)) (w : ℕ) (o : Option Held) (v : ℕ) (h : Held) → (v ≡ w → ⊥) → Holds held v h →
+    Holds (set held w o) v h
 stays_set held w o v h d at = others_stay held w v o (Some h) d at
 
-pub held_set : (held : List (Option Held)) (w : ℕ) (o : Option Held) (v : ℕ) (h : Held) → (v ≡ w → ⊥) → Holds (set held w o) v h → Holds held v h
+pub held_set : (held : List (Option Held)) (w : ℕ) (o : Option Held) (v : ℕ) (h : Held) → (v ≡ w → ⊥) →
+    Holds (set held w o) v h → Holds held v h
 held_set held w o v h d at = ⊎_elim (λ e. absurd (d e.0)) (λ e. e.1) (got_after_set held w v o (Some h) at)
 
 module _ (pools : List Pool) (w j : ℕ) (p : Pool) (at : IsPool pools j p) (good : Good p) (l : w < p.workers) where
@@ -119,7 +128,8 @@ module _ (pools : List Pool) (w j : ℕ) (p : Pool) (at : IsPool pools j p) (goo
     takes_place = (h, (taken p w, put_there pools j (taken p w) p at, (gives p w h good l told).0))
 
   -- a worker's moves are booked
-  module _ (q : Pool) (m : Passage) (k : ℕ) (booked : BookedAs p q w m (Done k)) (only : (i : ℕ) (h : Held) → HoldsIn pools w i h → i ≡ j) (keeps : BookKeeps) where
+  module _ (q : Pool) (m : Passage) (k : ℕ) (booked : BookedAs p q w m (Done k)) (only : (i : ℕ) (h : Held) → HoldsIn pools w i h →
+      i ≡ j) (keeps : BookKeeps) where
     some_moves : (h : Held) (n : ℕ) → 1 ≤ h.allowance → Moves p.net p.state h m n → (1 ≤ n) × (n ≤ h.allowance)
     some_moves h n a (inl (accepts, e)) = let b = accepts.1 in let c = accepts.2 in (omega (arith, e, b), omega (arith, e, c))
     some_moves h n a (inr (other, e)) = (omega (arith, e), omega (arith, e, a))
@@ -142,7 +152,8 @@ module _ (pools : List Pool) (w j : ℕ) (p : Pool) (at : IsPool pools j p) (goo
         }
 
     none_here : (g : Held) → Holds q.held w g → ⊥
-    none_here g a = ⊎_elim (λ e. no_none g e.1) (λ e. e.0 refl) (got_after_set p.held w w None (Some g) (subst (λ (k : List (Option Held)). Holds k w g) held_is_not a))
+    none_here g a = ⊎_elim (λ e. no_none g e.1) (λ e. e.0 refl)
+        (got_after_set p.held w w None (Some g) (subst (λ (k : List (Option Held)). Holds k w g) held_is_not a))
       where
         no_none : (g : Held) → (let o : Option Held = None in o ≡ Some g) → ⊥
         no_none g e = cc
@@ -150,4 +161,5 @@ module _ (pools : List Pool) (w j : ℕ) (p : Pool) (at : IsPool pools j p) (goo
     pub leaves_place : Place None (set pools j q) w
     leaves_place i g s =
         let e = only_after pools w j p q book_changes i g s in
-        none_here g (subst (λ (r : Pool). Holds r.held w g) (one_there (slice_get (set pools j q) j) s.0 q (subst (λ i. IsPool (set pools j q) i s.0) e s.1) (put_there pools j q p at)) s.2)
+        none_here g (subst (λ (r : Pool). Holds r.held w g)
+        (one_there (slice_get (set pools j q) j) s.0 q (subst (λ i. IsPool (set pools j q) i s.0) e s.1) (put_there pools j q p at)) s.2)

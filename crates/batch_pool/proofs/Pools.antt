@@ -1,9 +1,11 @@
 -- Lists of pools, and what they are after a change of one of them.
-use Rattle.std.proofs.Common.{◌≡◌, ◌⊎◌, ℕ, zero, suc, List, [], ◌∷◌, set, slice_get, Option, Some, refl, sym, ap, inl, inr, ⊎_elim, arith}
+use Rattle.std.proofs.Common.{◌≡◌, ◌⊎◌, ℕ, zero, suc, List, [], ◌∷◌, set, slice_get, Option, Some, refl, sym, ap, inl}
+use Rattle.std.proofs.Common.{inr, ⊎_elim, arith}
 
 module _ {A : Type 0} where
   -- what a place has afterwards is what was put there, or what another place had before
-  pub got_after_set : (xs : List A) (j i : ℕ) (x y : A) → slice_get (set xs j x) i ≡ Some y → ((i ≡ j) × (x ≡ y)) ⊎ ((i ≡ j → ⊥) × (slice_get xs i ≡ Some y))
+  pub got_after_set : (xs : List A) (j i : ℕ) (x y : A) → slice_get (set xs j x) i ≡ Some y → ((i ≡ j) × (x ≡ y)) ⊎
+      ((i ≡ j → ⊥) × (slice_get xs i ≡ Some y))
   got_after_set [] j i x y h = absurd cc
   got_after_set (z ∷ zs) zero zero x y h = inl (refl, cc)
   got_after_set (z ∷ zs) zero (suc i) x y h = inr ((λ e. omega arith), h)
@@ -16,7 +18,8 @@ module _ {A : Type 0} where
   put_there (z ∷ zs) zero x y h = refl
   put_there (z ∷ zs) (suc j) x y h = put_there zs j x y h
 
-  pub others_stay : (xs : List A) (j i : ℕ) (x y : A) → (i ≡ j → ⊥) → slice_get xs i ≡ Some y → slice_get (set xs j x) i ≡ Some y
+  pub others_stay : (xs : List A) (j i : ℕ) (x y : A) → (i ≡ j → ⊥) → slice_get xs i ≡ Some y →
+      slice_get (set xs j x) i ≡ Some y
   others_stay [] j i x y d h = h
   others_stay (z ∷ zs) zero zero x y d h = absurd (d refl)
   others_stay (z ∷ zs) zero (suc i) x y d h = h

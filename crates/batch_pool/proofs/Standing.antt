@@ -1,5 +1,6 @@
 -- What a batch that stands gives to the calls that it makes, and what they give to it.
-use Rattle.std.proofs.Common.{◌≡◌, ◌<◌, ℕ, zero, suc, Bool, false, List, [], ◌∷◌, length, set, map, replicate, slice_get, Option, Some, None, refl, sym, ap, ◌∙◌, subst, inl, inr, arith}
+use Rattle.std.proofs.Common.{◌≡◌, ◌<◌, ℕ, zero, suc, Bool, false, List, [], ◌∷◌, length, set, map, replicate, slice_get}
+use Rattle.std.proofs.Common.{Option, Some, None, refl, sym, ap, ◌∙◌, subst, inl, inr, arith}
 use Rattle.std.proofs.lemmas.List.{length-replicate}
 use Rattle.std.proofs.lemmas.Option.{slice_get_within, get_or_from_slice_get}
 use Rattle.move_rules.specs.Walks.{Passage}
@@ -24,7 +25,8 @@ use Rattle.batch_pool.proofs.Pools.{set_same, one_there}
 use Rattle.batch_pool.proofs.Asked.{taken_again, owns}
 use Rattle.batch_pool.proofs.Keeping.{kept_after, take_changes, takes_place, book_changes, leaves_place}
 
-module _ (pools : List Pool) (workers : ℕ) (stopped : Bool) (places : List (Option ℕ)) (kept : Kept pools workers stopped places) (B : Batch) (v : batch pools workers stopped ≡ B) (w : ℕ) (l : w < B.workers) where
+module _ (pools : List Pool) (workers : ℕ) (stopped : Bool) (places : List (Option ℕ)) (kept : Kept pools workers stopped places)
+    (B : Batch) (v : batch pools workers stopped ≡ B) (w : ℕ) (l : w < B.workers) where
   -- the worker has a place
   pub within : w < workers
   within = subst (λ (b : Batch). w < b.workers) (sym v) l
@@ -43,7 +45,8 @@ module _ (pools : List Pool) (workers : ℕ) (stopped : Bool) (places : List (Op
   in_pool j p at = let e = kept.good.served j p at in let k = within in omega (arith, e, k)
 
   -- a ticket that is handed out again
-  pub handed_again : stopped ≡ false → (j : ℕ) (k : Piece) (after : List Pool) → GivesAgain pools w j k → after ≡ pools → Handed B w j k (batch after workers stopped)
+  pub handed_again : stopped ≡ false → (j : ℕ) (k : Piece) (after : List Pool) → GivesAgain pools w j k → after ≡ pools →
+      Handed B w j k (batch after workers stopped)
   handed_again running j k after (p, h, at, holds, told, piece) e =
       subst (λ B. Handed B w j k (batch after workers stopped)) v (record {
         running = running;
@@ -53,11 +56,13 @@ module _ (pools : List Pool) (workers : ℕ) (stopped : Bool) (places : List (Op
         told = told;
         piece = piece;
         least = inl holds;
-        after = ap (λ ps. batch ps workers stopped) (e ∙ sym (ap (set pools j) (taken_again p w h holds told) ∙ set_same pools j p at));
+        after = ap (λ ps. batch ps workers stopped)
+            (e ∙ sym (ap (set pools j) (taken_again p w h holds told) ∙ set_same pools j p at));
       })
 
   -- what is handed to a worker that held nothing
-  pub takes_first : stopped ≡ false → HoldsNowhere pools w → (t : BatchTaken) (after : List Pool) → TakesFirst pools w t after → Takes B w t (batch after workers stopped)
+  pub takes_first : stopped ≡ false → HoldsNowhere pools w → (t : BatchTaken) (after : List Pool) → TakesFirst pools w t after →
+      Takes B w t (batch after workers stopped)
   takes_first running free t after x = subst (λ B. Takes B w t (batch after workers stopped)) v (go t x)
     where
       go : (t : BatchTaken) → TakesFirst pools w t after → Takes (batch pools workers stopped) w t (batch after workers stopped)
@@ -79,26 +84,30 @@ module _ (pools : List Pool) (workers : ℕ) (stopped : Bool) (places : List (Op
   same_kept after next e f = subst (λ ps. Kept ps workers stopped next) (sym e) (subst (Kept pools workers stopped) (sym f) kept)
 
   -- what is kept once it took
-  pub kept_taken : HoldsNowhere pools w → TakeKeeps → GivesHeld → (t : BatchTaken) (after : List Pool) (next : List (Option ℕ)) → TakesFirst pools w t after → next ≡ places_after t places w → Kept after workers stopped next
+  pub kept_taken : HoldsNowhere pools w → TakeKeeps → GivesHeld → (t : BatchTaken) (after : List Pool) (next : List (Option ℕ)) →
+      TakesFirst pools w t after → next ≡ places_after t places w → Kept after workers stopped next
   kept_taken free keeps gives (answer.Token j k) after next x e =
       let p = x.pool in
       let good = kept.good.good j p x.job in
       let in_it = in_pool j p x.job in
       subst (λ ps. Kept ps workers stopped next) (sym x.after_it) (subst (Kept (set pools j (taken p w)) workers stopped) (sym e)
-      (kept_after pools w j p (taken p w) (take_changes pools w j p x.job good in_it x.held x.told free keeps gives) workers stopped places (Some j) kept
+      (kept_after pools w j p (taken p w) (take_changes pools w j p x.job good in_it x.held x.told free keeps gives) workers stopped places
+      (Some j) kept
       (takes_place pools w j p x.job good in_it x.held x.told free keeps gives)))
   kept_taken free keeps gives answer.Pause after next x e = same_kept after next x.2 e
   kept_taken free keeps gives answer.Ended after next x e = same_kept after next x.1 e
   kept_taken free keeps gives answer.Stopped after next x e = absurd x
 
-  nothing_not : (p : Pool) (h : Held) (k : Booked) (q : Pool) (m : Passage) → Holds p.held w h → BookedAs p q w m k → (n : ℕ) × (k ≡ Done n)
+  nothing_not : (p : Pool) (h : Held) (k : Booked) (q : Pool) (m : Passage) → Holds p.held w h → BookedAs p q w m k → (n : ℕ) ×
+      (k ≡ Done n)
   nothing_not p h (Done n) q m holds x = (n, refl)
   nothing_not p h NothingHeld q m holds x = absurd (some_none h (sym (owns (slice_get p.held w) h holds) ∙ x.0))
     where
       some_none : (h : Held) → (let o : Option Held = Some h in o ≡ None) → ⊥
       some_none h e = cc
 
-  module _ (j : ℕ) (h : Held) (holds : HoldsIn pools w j h) (m : Passage) (after : List Pool) (k : Booked) (x : BooksAt pools w j m after k) where
+  module _ (j : ℕ) (h : Held) (holds : HoldsIn pools w j h) (m : Passage) (after : List Pool) (k : Booked)
+      (x : BooksAt pools w j m after k) where
     held_old : Holds x.old.held w h
     held_old = subst (λ (p : Pool). Holds p.held w h) (one_there (slice_get pools j) holds.0 x.old holds.1 x.job) holds.2
 
@@ -117,11 +126,13 @@ module _ (pools : List Pool) (workers : ℕ) (stopped : Bool) (places : List (Op
         let good = kept.good.good j x.old x.job in
         let in_it = in_pool j x.old x.job in
         subst (λ ps. Kept ps workers stopped next) (sym x.after_it) (subst (Kept (set pools j x.new) workers stopped) (sym e)
-        (kept_after pools w j x.old x.new (book_changes pools w j x.old x.job good in_it x.new m done.0 booked_done only keeps) workers stopped places None kept
+        (kept_after pools w j x.old x.new (book_changes pools w j x.old x.job good in_it x.new m done.0 booked_done only keeps) workers
+        stopped places None kept
         (leaves_place pools w j x.old x.job good in_it x.new m done.0 booked_done only keeps)))
 
     pub books_there : BatchBooks B (batch after workers stopped) w m k
-    books_there = subst (λ B. BatchBooks B (batch after workers stopped) w m k) v (subst (λ k. BatchBooks (batch pools workers stopped) (batch after workers stopped) w m k) (sym done.1)
+    books_there = subst (λ B. BatchBooks B (batch after workers stopped) w m k) v
+        (subst (λ k. BatchBooks (batch pools workers stopped) (batch after workers stopped) w m k) (sym done.1)
         (j, x.old, x.new, x.job, booked_done, ap (λ ps. batch ps workers stopped) x.after_it))
 
   -- where it holds nothing, nothing is booked
@@ -140,7 +151,8 @@ none_of (suc n) zero o h = cc
 none_of (suc n) (suc w) o h = none_of n w o h
 
 -- each pool of a list that is made from jobs is one of them
-made_of : (f : BatchJob → Pool) (jobs : List BatchJob) (j : ℕ) (p : Pool) → slice_get (map f jobs) j ≡ Some p → (job : BatchJob) × (slice_get jobs j ≡ Some job) × (p ≡ f job)
+made_of : (f : BatchJob → Pool) (jobs : List BatchJob) (j : ℕ) (p : Pool) → slice_get (map f jobs) j ≡ Some p →
+    (job : BatchJob) × (slice_get jobs j ≡ Some job) × (p ≡ f job)
 made_of f [] j p h = absurd cc
 made_of f (job ∷ jobs) zero p h = (job, refl, cc)
 made_of f (job ∷ jobs) (suc j) p h = made_of f jobs j p h
@@ -171,16 +183,20 @@ module _ (law : StartGood) (jobs : List BatchJob) (workers : ℕ) (fits : BatchF
     few_jobs = let n = length_made (job_started workers) jobs in let m = fits.few_jobs in omega (arith, n, m);
     some_workers = fits.some_workers;
     few_workers = fits.few_workers;
-    good = λ j p at. let (job, there, e) = made_of (job_started workers) jobs j p at in subst Good (sym e) (job_good job (job_fits j job there));
+    good = λ j p at. let (job, there, e) = made_of (job_started workers) jobs j p at in
+        subst Good (sym e) (job_good job (job_fits j job there));
     served = λ j p at. let (job, there, e) = made_of (job_started workers) jobs j p at in ap (λ (p : Pool). p.workers) e;
     running = λ j p at. let (job, there, e) = made_of (job_started workers) jobs j p at in ap (λ (p : Pool). p.stopped) e;
     apart = λ w i j g h s t. absurd (held_by_none w i g s);
   }
 
   -- what is kept at the start
-  pub start_kept : (pools : List Pool) (places : List (Option ℕ)) → pools ≡ map (job_started workers) jobs → places ≡ replicate workers None → Kept pools workers false places
-  start_kept pools places e f = subst (λ ps. Kept ps workers false places) (sym e) (subst (Kept (map (job_started workers) jobs) workers false) (sym f) (record {
-    good = start_good;
-    each = length-replicate workers None;
-    knows = λ w o at. subst (λ o. Place o (map (job_started workers) jobs) w) (sym (none_of workers w o at)) (λ j h s. held_by_none w j h s);
-  }))
+  pub start_kept : (pools : List Pool) (places : List (Option ℕ)) → pools ≡ map (job_started workers) jobs →
+      places ≡ replicate workers None → Kept pools workers false places
+  start_kept pools places e f = subst (λ ps. Kept ps workers false places) (sym e)
+      (subst (Kept (map (job_started workers) jobs) workers false) (sym f) (record {
+        good = start_good;
+        each = length-replicate workers None;
+        knows = λ w o at. subst (λ o. Place o (map (job_started workers) jobs) w) (sym (none_of workers w o at))
+            (λ j h s. held_by_none w j h s);
+      }))

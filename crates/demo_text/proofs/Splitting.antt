@@ -1,5 +1,6 @@
 -- The text of the generated program splits into the tokens of its phrase.
-use Rattle.std.proofs.Common.{◌≡◌, ℕ, zero, suc, ◌+◌, max, List, [], ◌∷◌, ◌++◌, map, refl, sym, ap, ◌∙◌, subst, arith, append_assoc}
+use Rattle.std.proofs.Common.{◌≡◌, ℕ, zero, suc, ◌+◌, max, List, [], ◌∷◌, ◌++◌, map, refl, sym, ap, ◌∙◌, subst}
+use Rattle.std.proofs.Common.{arith, append_assoc}
 use Rattle.std.specs.Prelude.{codes}
 use Rattle.std.proofs.lemmas.List.{map-append}
 use Rattle.pcf_values.specs.Named.{the_fun}
@@ -59,7 +60,8 @@ then_more [] a w items = refl
 then_more (x ∷ u) a w items = ap (λ z. placed x ∷ z) (then_more u a w items)
 
 -- a part with a token behind it, before other tokens
-then_none : (u : List Written) (a : Written) (items : List Placed) → map placed (u ++ a ∷ []) ++ items ≡ map placed u ++ (placed a ∷ items)
+then_none : (u : List Written) (a : Written) (items : List Placed) → map placed (u ++ a ∷ []) ++ items ≡ map placed u ++
+    (placed a ∷ items)
 then_none [] a items = refl
 then_none (x ∷ u) a items = ap (λ z. placed x ∷ z) (then_none u a items)
 
@@ -92,10 +94,12 @@ sum_splits (suc depth) o at rest items h =
     then_more first (plain close Close) more items
     ∙ ap (λ z. map placed first ++ (at_place close Close ∷ at_place ((close + 1) + 1) Plus ∷ at_place ((close + 1) + 3) Open ∷ z))
     (then_none second (plain (right + w) Close) items) in
-    subst (λ z. Splits at (40 ∷ z) (map placed (expr_text o (sum_phrase (suc depth) at)) ++ items)) (sym (doubled_before s (41 ∷ rest)))
+    subst (λ z. Splits at (40 ∷ z) (map placed (expr_text o (sum_phrase (suc depth) at)) ++ items))
+    (sym (doubled_before s (41 ∷ rest)))
     (subst (λ z. Splits at (40 ∷ (s ++ (codes ") + (" ++ (s ++ (41 ∷ 41 ∷ rest))))) (at_place at Open ∷ z)) (sym tokens)
     (open_piece at _ _ (sum_splits depth (suc o) (at + 1) (codes " + (" ++ (s ++ (41 ∷ 41 ∷ rest))) _ (close_piece close _ _
-    (plus_piece (close + 1) _ _ (open_piece ((close + 1) + 3) _ _ (sum_splits depth (suc o) right (41 ∷ rest) _ (close_piece (right + w) _ _
+    (plus_piece (close + 1) _ _ (open_piece ((close + 1) + 3) _ _
+    (sum_splits depth (suc o) right (41 ∷ rest) _ (close_piece (right + w) _ _
     (to (at + (w + w + 7)) ((right + w) + 1) _ _ (omega arith) h)))))))))
 
 -- ---- the program
@@ -131,7 +135,8 @@ demo_splits n =
     map-append placed ((sum ++ close ∷ []) ++ tail_tokens n) (end ∷ []) ∙ then_more sum close (tail_tokens n) (placed end ∷ []) in
     subst (λ z. Splits 0 (demo_text n)
     (at_place 0 Open ∷ at_place 1 (Bind the_fun) ∷ at_place 5
-    (Name (codes "d")) ∷ at_place 6 Colon ∷ at_place 7 Nat ∷ at_place 10 Arrow ∷ at_place 12 Nat ∷ at_place 15 Dot ∷ z)) (sym tokens)
+    (Name (codes "d")) ∷ at_place 6 Colon ∷ at_place 7 Nat ∷ at_place 10 Arrow ∷ at_place 12 Nat ∷ at_place 15 Dot ∷ z))
+    (sym tokens)
     (open_piece 0 _ _ (binder_splits the_fun 1 _ _ (d_piece 5 _ _ (colon_clear (codes "nat->nat. " ++ s)) (colon_piece 6 _ _
     (nat_piece 7 _ _ (dash_clear (codes ">nat. " ++ s))
     (arrow_piece 10 _ _ (nat_piece 12 _ _ (dot_clear (32 ∷ s)) (dot_piece 15 _ _ (blank_piece 16 _ _

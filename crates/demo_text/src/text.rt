@@ -7,6 +7,10 @@ ghost use Rattle.demo_text.specs.Demo.{demo_text, doubled, program_of, sum_text}
 use std::alloc::{AllocError, Global};
 
 /// The text of the generated program of a number.
+///
+/// # Errors
+///
+/// `AllocError` when memory runs out.
 pub fn demo_text(alloc: Global, n: u32) -> Result<Vec<u8>, AllocError>
     requires { n ≤ most_demo }
     ensures { IfOk result (λ v. v.items ≡ demo_text n) }

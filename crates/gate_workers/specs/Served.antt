@@ -21,5 +21,6 @@ abbrev pub Reached : {B M : Type 0} → (B → ℕ → M → B → Type 0) → B
 Reached takes_in old w brought new = (new ≡ old) ⊎ HandedIn takes_in old w brought new
 
 -- the bench was stopped there
-abbrev pub Halted : {B M : Type 0} → (B → ℕ → M → B → Type 0) → (B → B → Type 0) → B → ℕ → Option (Result M AllocError) → B → Type 0
+abbrev pub Halted : {B M : Type 0} → (B → ℕ → M → B → Type 0) → (B → B → Type 0) → B → ℕ →
+    Option (Result M AllocError) → B → Type 0
 Halted {B} takes_in halts old w brought new = (reached : B) × Reached takes_in old w brought reached × halts reached new

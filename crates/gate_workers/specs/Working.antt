@@ -24,7 +24,8 @@ abbrev pub GoesHome : {B P : Type 0} → (B → ℕ → Turn P → B → Type 0)
 GoesHome gives halts w = Given gives w Over ⊎ Stopped halts
 
 -- what worker w brought was taken in before it went home, or a bench was stopped
-abbrev pub Leaves : {B M P : Type 0} → (B → ℕ → M → B → Type 0) → (B → ℕ → Turn P → B → Type 0) → (B → B → Type 0)
+abbrev pub Leaves : {B M P : Type 0} → (B → ℕ → M → B → Type 0) → (B → ℕ → Turn P → B → Type 0) →
+    (B → B → Type 0)
     → ℕ → Option (Result M AllocError) → Type 0
 Leaves takes_in gives halts w brought = (TakenIn takes_in w brought × Given gives w Over) ⊎ Stopped halts
 

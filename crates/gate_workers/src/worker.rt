@@ -44,7 +44,8 @@ impl<B: Bench> Idle<B> {
     fn visit<R: Wait>(self, rt: &R, hall: &Hall<B>) -> Option<Result<Busy<B>, Idle<B>>>
         ensures same { IfSome result (λ r. IfOk r (λ b. (b.number ≡ self.number) × (b.turns ≡ self.turns))) }
         ensures given { IfSome result (λ r. IfOk r (λ b. Given B.gives b.number (Piece b.piece))) }
-        ensures paused { IfSome result (λ r. IfErr r (λ i. (i.number ≡ self.number) × (i.turns ≡ self.turns) × (i.brought ≡ None))) }
+        ensures paused { IfSome result (λ r. IfErr r
+            (λ i. (i.number ≡ self.number) × (i.turns ≡ self.turns) × (i.brought ≡ None))) }
         ensures taken_in { IfSome result (λ _. TakenIn B.takes_in self.number self.brought) }
         ensures home { IfNone result (Leaves B.takes_in B.gives B.halts self.number self.brought) }
     {

@@ -1,5 +1,6 @@
 -- How a tally grows by one move, and what its counts add up to.
-use Rattle.std.proofs.Common.{◌≡◌, ℕ, zero, suc, ◌+◌, ◌<◌, ◌≤◌, List, [], ◌∷◌, length, take, get_or, refl, sym, ap, ◌∙◌, arith}
+use Rattle.std.proofs.Common.{◌≡◌, ℕ, zero, suc, ◌+◌, ◌<◌, ◌≤◌, List, [], ◌∷◌, length, take, get_or, refl, sym}
+use Rattle.std.proofs.Common.{ap, ◌∙◌, arith}
 use Rattle.std.specs.Prelude.{set, replicate, cond, false, nat_eq, sum}
 use Rattle.std.proofs.lemmas.Bool.{eq-eqb, ne_eqb}
 use Rattle.std.proofs.lemmas.List.{take_all, length-take-le}
@@ -66,7 +67,8 @@ from_at es worker w zero (suc n) d e h = let s : worker ≡ w = e ∙ omega arit
 from_at es worker w (suc j) (suc n) d e h = from_at es worker (suc w) j n d (omega (arith, e)) (omega (arith, h))
 
 -- The count at a worker's place is that worker's.
-pub tally_at : (es : List Entry) (workers worker d : ℕ) → worker ≤ workers → get_or (tally es workers) worker d ≡ tally_of es worker
+pub tally_at : (es : List Entry) (workers worker d : ℕ) → worker ≤ workers →
+    get_or (tally es workers) worker d ≡ tally_of es worker
 tally_at es workers worker d h = from_at es worker 0 worker (suc workers) d (omega arith) (omega (arith, h))
 
 -- The tally of no moves is all zeros.

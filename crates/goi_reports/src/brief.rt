@@ -9,6 +9,10 @@ use pcf_values::Val;
 use std::alloc::{AllocError, Global};
 
 /// The report of a schedule that was run: its answer, if it came to one, and how many moves it has.
+///
+/// # Errors
+///
+/// `AllocError` when memory runs out.
 pub fn replay_report(alloc: Global, answer: Option<Val>, moves: u32) -> Result<Vec<u8>, AllocError>
     ensures report { IfOk result (λ v. v.items ≡ replay_report answer moves) }
 
@@ -22,6 +26,10 @@ pub fn replay_report(alloc: Global, answer: Option<Val>, moves: u32) -> Result<V
 
 /// The report of the generated program of the number `n`, whose term has so many nodes, types not counted: the number, the nodes,
 /// and then what a run of it tells.
+///
+/// # Errors
+///
+/// `AllocError` when memory runs out.
 pub fn demo_report(
     alloc: Global,
     n: u32,

@@ -11,6 +11,10 @@ use pcf_values::{Named, Ty};
 use std::alloc::{AllocError, Global};
 
 /// The report on a program's type, and with `term` on the program itself.
+///
+/// # Errors
+///
+/// `AllocError` when memory runs out.
 pub fn check_report(alloc: Global, ty: &Ty, term: bool, tree: &Named) -> Result<Vec<u8>, AllocError>
     ensures report { IfOk result (λ v. v.items ≡ check_report (ty_of ty.now) term (named_of tree.now)) }
 

@@ -16,6 +16,10 @@ use std::alloc::{AllocError, Global};
 
 /// The report of a run by so many workers: its answer, if it came to one, how many moves its log has, with `schedule` the text of the
 /// log, and with `tally` how many of the moves each worker booked, and the finisher behind them.
+///
+/// # Errors
+///
+/// `AllocError` when memory runs out.
 pub fn run_report(
     alloc: Global,
     answer: Option<Val>,

@@ -17,7 +17,9 @@ use std::alloc::{AllocError, Global};
 /// What one worker made of a net: the tickets that moved, in turn, and the answer if it came.
 #[derive(Drop)]
 pub struct Ran {
+    /// The tickets that moved, in turn.
     pub tickets: Vec<u32>,
+    /// The answer, if it came within the budget.
     pub answer: Option<Val>,
 }
 

@@ -50,7 +50,8 @@ pub nothing : (f : Table) (k : Key) → f ≡ empty → get f k ≡ None
 nothing f k h = ap (λ f. get f k) h ∙ get-empty key_cmp k
 
 -- what an answer leaves at its key, and beside it
-with_here : (o : Option Entry) (f : Table) (k : Key) (s : Side) (v : Val) → get f k ≡ o → get (with_arrival o f k s v) k ≡ kept_then o s v
+with_here : (o : Option Entry) (f : Table) (k : Key) (s : Side) (v : Val) → get f k ≡ o →
+    get (with_arrival o f k s v) k ≡ kept_then o s v
 with_here None f k s v h = h
 with_here (Some pending) f k s v h = inserted f k (kept_as s v)
 with_here (Some (has_left w)) f k s v h = removed f k

@@ -88,14 +88,7 @@ fn meet_apart(
 }
 
 /// The same of two nodes, and box stacks with a box or none; whether the first key is the lower one.
-fn met(
-    alloc: Global,
-    a: u32,
-    s: bool,
-    b: u32,
-    t: bool,
-    lower: bool,
-) -> Result<bool, AllocError> {
+fn met(alloc: Global, a: u32, s: bool, b: u32, t: bool, lower: bool) -> Result<bool, AllocError> {
     let first = opened(alloc, s)?;
     let second = opened(alloc, t)?;
     let mut table = JoinTable::new(alloc);

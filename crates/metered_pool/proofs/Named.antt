@@ -1,5 +1,6 @@
 -- The log of one worker: where the finisher made no move, all are the first worker's, and where it made some, they are given to it.
-use Rattle.std.proofs.Common.{◌≡◌, ◌+◌, ◌≤◌, ℕ, zero, suc, nat_eq, cond, List, [], ◌∷◌, map, length, Option, refl, sym, ap, ◌∙◌, subst, length-append, arith}
+use Rattle.std.proofs.Common.{◌≡◌, ◌+◌, ◌≤◌, ℕ, zero, suc, nat_eq, cond, List, [], ◌∷◌, map, length, Option, refl}
+use Rattle.std.proofs.Common.{sym, ap, ◌∙◌, subst, length-append, arith}
 use Rattle.std.proofs.lemmas.List.Elements.{All-tail}
 use Rattle.std.proofs.lemmas.List.Sums.{sum_by-cons}
 use Rattle.pcf_values.specs.declared.val.Val.{Val}
@@ -57,14 +58,16 @@ longer p e f =
     omega (arith, n, length-append p.log more)
 
 -- and so has what is made of it under the first worker's number
-pub named_longer : (p : Pool) (e named : Ended) → Finishes p e → named.log.entries ≡ by 0 (tickets_in_log e.log.entries) → length p.log ≤ length named.log.entries
+pub named_longer : (p : Pool) (e named : Ended) → Finishes p e → named.log.entries ≡ by 0 (tickets_in_log e.log.entries) →
+    length p.log ≤ length named.log.entries
 named_longer p e named f is =
     let l = longer p e f in
     let n = ap length is ∙ length_by 0 (tickets_in_log e.log.entries) ∙ length_tickets e.log.entries in
     omega (arith, l, n)
 
 -- what replays for one worker is a run of it, also with all moves under the first worker's number
-pub named_run : (net : NetTree) (b workers : ℕ) (e named : Ended) → workers ≡ 1 → Replays net b workers e → named.answer ≡ e.answer
+pub named_run : (net : NetTree) (b workers : ℕ) (e named : Ended) → workers ≡ 1 → Replays net b workers e →
+    named.answer ≡ e.answer
     → named.log.entries ≡ by 0 (tickets_in_log e.log.entries) → IsRun net workers b named.answer named.log.entries
 named_run net b workers e named single r same is =
     let tickets = tickets_in_log e.log.entries in
@@ -74,7 +77,8 @@ named_run net b workers e named single r same is =
       state = S;
       led = subst (λ (l : List ℕ). LeadsToMap net l S) (sym back) leads;
       answers = same ∙ answers;
-      finished = subst (λ (l : List ℕ). Finished named.answer l b) (sym back) (subst (λ (a : Option Val). Finished a tickets b) (sym same) r.ends);
+      finished = subst (λ (l : List ℕ). Finished named.answer l b) (sym back)
+          (subst (λ (a : Option Val). Finished a tickets b) (sym same) r.ends);
       booked = subst (λ k. IsMadeBy k named.log.entries) (sym single) (subst (IsMadeBy 1) (sym is) (made_by 1 0 (omega arith) tickets));
       alone = λ h. back ∙ r.alone h;
     }

@@ -1,5 +1,6 @@
 -- Readings with the number of moves behind them.
-use Rattle.std.proofs.Common.{◌≡◌, ℕ, ◌≤◌, List, [], ◌∷◌, ◌++◌, length, subst, sym, ap, ◌∙◌, length-append, arith}
+use Rattle.std.proofs.Common.{◌≡◌, ℕ, ◌≤◌, List, [], ◌∷◌, ◌++◌, length, subst, sym, ap, ◌∙◌, length-append}
+use Rattle.std.proofs.Common.{arith}
 use Rattle.std.specs.Prelude.{All, Contains}
 use Rattle.std.specs.List.Sorted.{IsNonDecreasing}
 use Rattle.std.proofs.lemmas.List.Elements.{All-contains, All-weaker, All-tail}
@@ -9,15 +10,19 @@ use Rattle.progress_meter.proofs.Lists.{last_of-push, never_down-push, at_most_l
 use Rattle.metered_pool.specs.Progress.{IsProgress}
 
 -- the readings behind the first never go down
-pub tail_rises : (published readings items : List ℕ) → readings ≡ 0 ∷ items → AreReadingsOf published readings → IsNonDecreasing items
+pub tail_rises : (published readings items : List ℕ) → readings ≡ 0 ∷ items → AreReadingsOf published readings →
+    IsNonDecreasing items
 tail_rises published readings items is are = IsNonDecreasingBy-drop (λ x. x) 1 (0 ∷ items) (subst IsNonDecreasing is are.0)
 
 -- and none of them is above what was published last
-pub tail_within : (published readings items : List ℕ) → readings ≡ 0 ∷ items → RisesFromZero published → AreReadingsOf published readings → All (λ n. n ≤ last_of published) items
+pub tail_within : (published readings items : List ℕ) → readings ≡ 0 ∷ items → RisesFromZero published →
+    AreReadingsOf published readings → All (λ n. n ≤ last_of published) items
 tail_within published readings items is rises are =
     let most = last_of published in
     let all : All (λ n. n ≤ most) published = at_most_last published rises.rises in
-    let within : All (λ n. n ≤ most) readings = All-weaker (Contains published) (λ n. n ≤ most) (λ x there. All-contains (λ n. n ≤ most) published x all there) readings are.1 in
+    let within : All (λ n. n ≤ most) readings =
+    All-weaker (Contains published) (λ n. n ≤ most) (λ x there. All-contains (λ n. n ≤ most) published x all there) readings
+    are.1 in
     All-tail (λ n. n ≤ most) 0 items (subst (All (λ n. n ≤ most)) is within)
 
 -- the last of numbers none of which is above a bound isn't above it
@@ -27,7 +32,8 @@ last_within most (x ∷ []) all = all 0 0 (omega arith)
 last_within most (x ∷ y ∷ ys) all = last_within most (y ∷ ys) (All-tail (λ n. n ≤ most) x (y ∷ ys) all)
 
 -- sixteen readings that never go down, none above the moves that are booked, with at least as many moves behind them
-pub progresses : (booked moves : ℕ) (readings numbers : List ℕ) → length readings ≡ 16 → IsNonDecreasing readings → All (λ n. n ≤ booked) readings
+pub progresses : (booked moves : ℕ) (readings numbers : List ℕ) → length readings ≡ 16 → IsNonDecreasing readings →
+    All (λ n. n ≤ booked) readings
     → booked ≤ moves → numbers ≡ readings ++ moves ∷ [] → IsProgress moves numbers
 progresses booked moves readings numbers many rises within more is =
     let below = last_within booked readings within in

@@ -1,5 +1,6 @@
 -- In a sound net each wire of a node leads to that node.
-use Rattle.std.proofs.Common.{◌≡◌, ◌⊎◌, ℕ, zero, suc, ◌+◌, ◌≤◌, Bool, true, false, cond, List, [], ◌∷◌, ◌++◌, length, Option, Some, None}
+use Rattle.std.proofs.Common.{◌≡◌, ◌⊎◌, ℕ, zero, suc, ◌+◌, ◌≤◌, Bool, true, false, cond, List, [], ◌∷◌}
+use Rattle.std.proofs.Common.{◌++◌, length, Option, Some, None}
 use Rattle.std.proofs.Common.{refl, sym, ap, ◌∙◌, subst, ⊎_elim, inl, inr, arith}
 use Rattle.std.proofs.lemmas.Bool.{eqb-true, eq-eqb, cases_lt, lt-ltb}
 use Rattle.std.specs.Prelude.{nat_eq, nat_lt, slice_get, ◌<◌}
@@ -75,7 +76,8 @@ named_at side (x ∷ ns) zero n w h a = let e : n ≡ x = cc in
 named_at side (x ∷ ns) (suc i) n w h a = let k = named_at side ns i n w h a in omega arith
 
 -- the least node that has the wire is the only one
-least_is : (side : Node → List ℕ) (ns : List Node) (k i : ℕ) (n : Node) (w : ℕ) → named side ns w ≤ 1 → slice_get ns i ≡ Some n
+least_is : (side : Node → List ℕ) (ns : List Node) (k i : ℕ) (n : Node) (w : ℕ) → named side ns w ≤ 1 →
+    slice_get ns i ≡ Some n
     → Among w (side n) → least side k ns w ≡ Some (k + i, n)
 least_is side [] k i n w le h a = cc
 least_is side (x ∷ ns) k zero n w le h a =
@@ -111,7 +113,8 @@ pub least_in : (side : Node → List ℕ) (ns : List Node) (k : ℕ) (w i : ℕ)
 least_in side [] k w i n h = cc
 least_in side (x ∷ ns) k w i n h = go (least_in side ns (suc k) w i n) (has (side x) w) refl h
   where
-    go : (least side (suc k) ns w ≡ Some (i, n) → (j : ℕ) × (i ≡ suc k + j) × (slice_get ns j ≡ Some n) × Among w (side n)) → (b : Bool)
+    go : (least side (suc k) ns w ≡ Some (i, n) → (j : ℕ) × (i ≡ suc k + j) × (slice_get ns j ≡ Some n) × Among w (side n)) →
+        (b : Bool)
         → has (side x) w ≡ b → cond b (Some (k, x)) (least side (suc k) ns w) ≡ Some (i, n)
         → (j : ℕ) × (i ≡ k + j) × (slice_get (x ∷ ns) j ≡ Some n) × Among w (side n)
     go ih true e h =
@@ -138,7 +141,8 @@ module _ (net : NetTree) (sound : Sound net) where
       (λ l. let h = sound.outside w l in (omega arith, omega arith)) (cases_lt w (length net.wires))
 
   -- a wire that a node names is in the list
-  pub inside : (side : Node → List ℕ) (i : ℕ) (n : Node) (w : ℕ) → ((v : ℕ) → length net.wires ≤ v → named side net.nodes v ≡ 0)
+  pub inside : (side : Node → List ℕ) (i : ℕ) (n : Node) (w : ℕ) →
+      ((v : ℕ) → length net.wires ≤ v → named side net.nodes v ≡ 0)
       → slice_get net.nodes i ≡ Some n → Among w (side n) → w < length net.wires
   inside side i n w out h a =
       ⊎_elim (λ l. l) (λ l. let z = out w l in let k = named_at side net.nodes i n w h a in absurd (omega (arith, z, k)))
@@ -160,7 +164,8 @@ module _ (net : NetTree) (sound : Sound net) where
             ∙ ap (λ k. Some (k, n)) z;
         apart_up = often_apart (conclusions n)
             (λ w. let a = often_named conclusions net.nodes i n w h in let b = (at_most w).0 in omega arith);
-        apart_down = often_apart (premises n) (λ w. let a = often_named premises net.nodes i n w h in let b = (at_most w).1 in omega arith);
+        apart_down = often_apart (premises n) (λ w. let a = often_named premises net.nodes i n w h in let b = (at_most w).1 in
+            omega arith);
       }
 
   pub faced_at-at : (i : ℕ) (n : Node) (h : slice_get net.nodes i ≡ Some n) → (faced_at i n h).at ≡ i
@@ -168,12 +173,14 @@ module _ (net : NetTree) (sound : Sound net) where
   faced_at-at i n h = refl
 
   -- what a wire leads to is faced there
-  pub above_faced : (w i : ℕ) (n : Node) → node_above net w ≡ Some (i, n) → (f : Faced net n) × (f.at ≡ i) × Among w (conclusions n)
+  pub above_faced : (w i : ℕ) (n : Node) → node_above net w ≡ Some (i, n) → (f : Faced net n) × (f.at ≡ i) ×
+      Among w (conclusions n)
   above_faced w i n h =
       let (j, e, q, a) = least_in conclusions net.nodes zero w i n (let_through (nat_lt w (length net.wires)) _ _ h) in
       (faced_at j n q, omega (arith, faced_at-at j n q), a)
 
-  pub below_faced : (w i : ℕ) (n : Node) → node_below net w ≡ Some (i, n) → (f : Faced net n) × (f.at ≡ i) × Among w (premises n)
+  pub below_faced : (w i : ℕ) (n : Node) → node_below net w ≡ Some (i, n) → (f : Faced net n) × (f.at ≡ i) ×
+      Among w (premises n)
   below_faced w i n h =
       let (j, e, q, a) = least_in premises net.nodes zero w i n (let_through (nat_lt w (length net.wires)) _ _ h) in
       (faced_at j n q, omega (arith, faced_at-at j n q), a)

@@ -44,14 +44,16 @@ node_met net p i h = go (facing net p) refl h
 one_some : {A : Type 0} (x y : A) → Some x ≡ Some y → x ≡ y
 one_some x y h = cc
 
-pub found_is : (net : NetTree) (p : Place) (i : ℕ) (n : Node) (f : Option ℕ) (o : Option Node) → f ≡ number_of (facing net p) → f ≡ Some i
+pub found_is : (net : NetTree) (p : Place) (i : ℕ) (n : Node) (f : Option ℕ) (o : Option Node) → f ≡ number_of (facing net p) →
+    f ≡ Some i
     → o ≡ slice_get net.nodes i → o ≡ Some n
     → Some (i, n) ≡ facing net p
 found_is net p i n f o h e g q =
     let (m, s, r) = node_met net p i (sym e ∙ h) in
     ap (λ m. Some (i, m)) (one_some n m (sym q ∙ g ∙ s)) ∙ sym r
 
-pub found_none : (net : NetTree) (p : Place) (i : ℕ) (f : Option ℕ) (o : Option Node) → f ≡ number_of (facing net p) → f ≡ Some i
+pub found_none : (net : NetTree) (p : Place) (i : ℕ) (f : Option ℕ) (o : Option Node) → f ≡ number_of (facing net p) →
+    f ≡ Some i
     → o ≡ slice_get net.nodes i → o ≡ None
     → None ≡ facing net p
 found_none net p i f o h e g q =
@@ -79,7 +81,8 @@ move_faced net (ans v (up w m t)) = refl
 move_faced net (ans v (down w m t)) = refl
 
 -- a node of a sound net is the one that its wires' tokens face
-pub faced_there : (net : NetTree) → Sound net → (p : Place) (i : ℕ) (n : Node) → slice_get net.nodes i ≡ Some n → faces n p ≡ true
+pub faced_there : (net : NetTree) → Sound net → (p : Place) (i : ℕ) (n : Node) → slice_get net.nodes i ≡ Some n →
+    faces n p ≡ true
     → facing net p ≡ Some (i, n)
 faced_there net sound (up w m t) i n h f =
     (faced_at net sound i n h).ups w (has_among (conclusions n) w f) ∙ ap (λ k. Some (k, n)) (faced_at-at net sound i n h)

@@ -1,5 +1,6 @@
 -- The plain rules of the table as a relation, and retrace.
-use Rattle.std.proofs.Common.{◌≡◌, ◌⊎◌, ℕ, Bool, true, false, cond, [], ◌∷◌, Option, Some, None, refl, sym, ap, ◌∙◌, subst, ⊎_elim, inl}
+use Rattle.std.proofs.Common.{◌≡◌, ◌⊎◌, ℕ, Bool, true, false, cond, [], ◌∷◌, Option, Some, None, refl, sym, ap}
+use Rattle.std.proofs.Common.{◌∙◌, subst, ⊎_elim, inl}
 use Rattle.std.proofs.Common.{inr}
 use Rattle.std.proofs.lemmas.Bool.{eqb-true, eq-eqb, ne_eqb}
 use Rattle.std.specs.Prelude.{nat_eq}
@@ -22,12 +23,14 @@ pub data Row : Node → Place → Place → Type 0 where
   app_body : {f a w : ℕ} {m : Work} {t : Boxes} → Row (App f a w) (up w m t) (up f (R ∷ m) t)
   app_call : {f a w : ℕ} {s : Sig} {m : Work} {t : Boxes} → Row (App f a w) (down f (L ∷ S s ∷ m) t) (up a (S s ∷ m) t)
   box_in : {i o : ℕ} {s : Sig} {m : Work} {t : Boxes} → Row (BoxNode i o) (up o (S s ∷ m) t) (up i m (s ∷ t))
-  door_out : {i o : ℕ} {s u : Sig} {m : Work} {t : Boxes} → Row (Door i o) (down i (S u ∷ m) (s ∷ t)) (down o (S (pair_of s u) ∷ m) t)
+  door_out : {i o : ℕ} {s u : Sig} {m : Work} {t : Boxes} →
+      Row (Door i o) (down i (S u ∷ m) (s ∷ t)) (down o (S (pair_of s u) ∷ m) t)
   der : {w x : ℕ} {m : Work} {t : Boxes} → Row (Der w x) (up w m t) (down x (S star ∷ m) t)
   con_left : {l r w : ℕ} {s : Sig} {m : Work} {t : Boxes} → Row (Con l r w) (down l (S s ∷ m) t) (down w (S (left_of s) ∷ m) t)
   con_right : {l r w : ℕ} {s : Sig} {m : Work} {t : Boxes} → Row (Con l r w) (down r (S s ∷ m) t) (down w (S (right_of s) ∷ m) t)
   fix_in : {b x w : ℕ} {m : Work} {t : Boxes} → Row (FixBox b x w) (up w m t) (up b m (star ∷ t))
-  fix_again : {b x w : ℕ} {s u : Sig} {m : Work} {t : Boxes} → Row (FixBox b x w) (down x (S s ∷ m) (u ∷ t)) (up b m (again u s ∷ t))
+  fix_again : {b x w : ℕ} {s u : Sig} {m : Work} {t : Boxes} →
+      Row (FixBox b x w) (down x (S s ∷ m) (u ∷ t)) (up b m (again u s ∷ t))
   pair_left : {a b w : ℕ} {m : Work} {t : Boxes} → Row (Pair a b w) (up w (L ∷ m) t) (up a m t)
   pair_right : {a b w : ℕ} {m : Work} {t : Boxes} → Row (Pair a b w) (up w (R ∷ m) t) (up b m t)
   fst_in : {a w : ℕ} {m : Work} {t : Boxes} → Row (Fst a w) (up w m t) (up a (L ∷ m) t)
@@ -55,11 +58,13 @@ unfit w o = ap (λ c. or_else (cond c None None) o) (eq-eqb w w refl)
 
 -- a net, where a node's wires lead to it: what is a row of the node is what the table gives there, both ways
 module _ (net : NetTree) where
-  by_up : (n : Node) (w : ℕ) (m : Work) (t : Boxes) (q : Place) → Faced net n → Among w (conclusions n) → plain_up n w m t ≡ Some q
+  by_up : (n : Node) (w : ℕ) (m : Work) (t : Boxes) (q : Place) → Faced net n → Among w (conclusions n) →
+      plain_up n w m t ≡ Some q
       → plain net (up w m t) ≡ Some q
   by_up n w m t q f a e = let h = f.ups w a in ap (λ o. on_found o None (λ i n. plain_up n w m t)) h ∙ e
 
-  by_down : (n : Node) (w : ℕ) (m : Work) (t : Boxes) (q : Place) → Faced net n → Among w (premises n) → plain_down n w m t ≡ Some q
+  by_down : (n : Node) (w : ℕ) (m : Work) (t : Boxes) (q : Place) → Faced net n → Among w (premises n) →
+      plain_down n w m t ≡ Some q
       → plain net (down w m t) ≡ Some q
   by_down n w m t q f a e = let h = f.downs w a in ap (λ o. on_found o None (λ i n. plain_down n w m t)) h ∙ e
 
@@ -123,10 +128,12 @@ at_down : (n : Node) (m : Work) (t : Boxes) (q : Place) (c w : ℕ) → c ≡ w 
 at_down n m t q c w e h = subst (λ w. Either n (down w m t) q) e h
 
 -- the rule at the wire, or what comes after it
-at_first : {A : Type 0} (x w : ℕ) (a o : Option A) (r : A) → or_else (at_wire x w a) o ≡ Some r → ((x ≡ w) × (a ≡ Some r)) ⊎ (o ≡ Some r)
+at_first : {A : Type 0} (x w : ℕ) (a o : Option A) (r : A) → or_else (at_wire x w a) o ≡ Some r → ((x ≡ w) × (a ≡ Some r)) ⊎
+    (o ≡ Some r)
 at_first {A = A} x w a o r = go (nat_eq x w) refl a
   where
-    go : (c : Bool) → nat_eq x w ≡ c → (a : Option A) → or_else (cond c a None) o ≡ Some r → ((x ≡ w) × (a ≡ Some r)) ⊎ (o ≡ Some r)
+    go : (c : Bool) → nat_eq x w ≡ c → (a : Option A) → or_else (cond c a None) o ≡ Some r → ((x ≡ w) × (a ≡ Some r)) ⊎
+        (o ≡ Some r)
     go true e (Some z) h = inl (eqb-true x w e, h)
     go true e None h = inr h
     go false e a h = inr h
@@ -174,7 +181,8 @@ pair_up_row a b c (R ∷ m) t q h = got _ _ _ _ h (inl pair_right)
 pair_up_row a b c _ t q h = cc
 
 -- what the table gives up the conclusion of a node is a row, or the other way of one
-up_row : (n : Node) (w : ℕ) (m : Work) (t : Boxes) (q : Place) → Among w (conclusions n) → plain_up n w m t ≡ Some q → Either n (up w m t) q
+up_row : (n : Node) (w : ℕ) (m : Work) (t : Boxes) (q : Place) → Among w (conclusions n) → plain_up n w m t ≡ Some q →
+    Either n (up w m t) q
 up_row (Der v x) w m t q a h =
     ⊎_elim (λ (e, g). at_up _ m t q v w e (got _ _ _ _ g (inl der))) (λ (e, g). at_up _ m t q x w e (der_back_row v x m t q g))
     (two v x w _ _ q h)
@@ -202,7 +210,8 @@ con_left_row : (l r c : ℕ) (m : Work) (t : Boxes) (q : Place) → con_down lef
 con_left_row l r c (S s ∷ m) t q h = got _ _ _ _ h (inl con_left)
 con_left_row l r c _ t q h = cc
 
-con_right_row : (l r c : ℕ) (m : Work) (t : Boxes) (q : Place) → con_down right_of c m t ≡ Some q → Either (Con l r c) (down r m t) q
+con_right_row : (l r c : ℕ) (m : Work) (t : Boxes) (q : Place) → con_down right_of c m t ≡ Some q →
+    Either (Con l r c) (down r m t) q
 con_right_row l r c (S s ∷ m) t q h = got _ _ _ _ h (inl con_right)
 con_right_row l r c _ t q h = cc
 
@@ -255,10 +264,12 @@ snd_down_row a c _ t q h = cc
 down_row : (n : Node) (w : ℕ) (m : Work) (t : Boxes) (q : Place) → Among w (premises n) → plain_down n w m t ≡ Some q
     → Either n (down w m t) q
 down_row (Con l r c) w m t q a h =
-    ⊎_elim (λ (e, g). at_down _ m t q l w e (con_left_row l r c m t q g)) (λ (e, g). at_down _ m t q r w e (con_right_row l r c m t q g))
+    ⊎_elim (λ (e, g). at_down _ m t q l w e (con_left_row l r c m t q g))
+    (λ (e, g). at_down _ m t q r w e (con_right_row l r c m t q g))
     (two l r w _ _ q h)
 down_row (Lam b x c) w m t q a h =
-    ⊎_elim (λ (e, g). at_down _ m t q b w e (got _ _ _ _ g (inr lam_body))) (λ (e, g). at_down _ m t q x w e (lam_var_row b x c m t q g))
+    ⊎_elim (λ (e, g). at_down _ m t q b w e (got _ _ _ _ g (inr lam_body)))
+    (λ (e, g). at_down _ m t q x w e (lam_var_row b x c m t q g))
     (two b x w _ _ q h)
 down_row (App f x c) w m t q a h =
     ⊎_elim (λ (e, g). at_down _ m t q f w e (app_fun_row f x c m t q g)) (λ (e, g). at_down _ m t q x w e (app_arg_row f x c m t q g))

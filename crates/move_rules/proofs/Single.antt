@@ -72,7 +72,8 @@ pub step_made : (net : NetTree) (k k' : Token) (n : Node) (b : Bool)
     → SoloStep net b k k'
 step_made net k k' n b found passed = go (facing net (place_at k.wire k.up k.stacks)) refl found
   where
-    there : (i : ℕ) → facing net (place_at k.wire k.up k.stacks) ≡ Some (i, n) → (c : Bool) → Passes n k c k' → SoloStep net c k k'
+    there : (i : ℕ) → facing net (place_at k.wire k.up k.stacks) ≡ Some (i, n) → (c : Bool) → Passes n k c k' →
+        SoloStep net c k k'
     there i h true p = (i, at_met net k i n h ∙ p i)
     there i h false p = (subst NotSolo (sym (at_met net k i n h)) (p i).0, (p i).1)
 
@@ -144,7 +145,8 @@ plain_alone i n (ans v (up w m t)) h = answers_alone i (plain_up n w m t) (ans v
 plain_alone i n (ans v (down w m t)) h = answers_down i n v w m t h
 
 -- where memory was wanting at such a node, the token's move needs nothing else
-pub lacking : (net : NetTree) (k : Token) (o : Option Seen) (s : Seen) → option_map numbered o ≡ facing net (place_at k.wire k.up k.stacks)
+pub lacking : (net : NetTree) (k : Token) (o : Option Seen) (s : Seen) →
+    option_map numbered o ≡ facing net (place_at k.wire k.up k.stacks)
     → o ≡ Some s → IsPlain s.node
     → Unaided (move net (token_of k))
 lacking net k o s h e p =

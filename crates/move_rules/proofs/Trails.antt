@@ -1,5 +1,6 @@
 -- Trails of a net's own nodes, and that a token has one walk.
-use Rattle.std.proofs.Common.{◌≡◌, ◌⊎◌, ℕ, zero, suc, ◌≤◌, Bool, true, false, cond, List, [], ◌∷◌, length, Option, Some, None, refl, sym}
+use Rattle.std.proofs.Common.{◌≡◌, ◌⊎◌, ℕ, zero, suc, ◌≤◌, Bool, true, false, cond, List, [], ◌∷◌, length, Option}
+use Rattle.std.proofs.Common.{Some, None, refl, sym}
 use Rattle.std.proofs.Common.{ap, ◌∙◌, subst, inl, inr, arith}
 use Rattle.std.specs.Prelude.{slice_get}
 use Rattle.std.specs.List.{All}
@@ -27,7 +28,8 @@ first_step true (answer v) f y h = cc
 first_step true stay f y h = cc
 first_step false m f y h = cc
 
-pub trail_walks : (net : NetTree) → Sound net → (trail : List Seen) → All (Stands net) trail → (x y : TokenTree) → through trail x ≡ Some y
+pub trail_walks : (net : NetTree) → Sound net → (trail : List Seen) → All (Stands net) trail → (x y : TokenTree) →
+    through trail x ≡ Some y
     → Walks net x (numbers trail) y
 trail_walks net sound [] a x y h = cc
 trail_walks net sound (s ∷ trail) a x y h =
@@ -47,7 +49,8 @@ same_node n n' h = cc
 seen_is : (s s' : Seen) → s.at ≡ s'.at → s.node ≡ s'.node → s ≡ s'
 seen_is s s' e h = λ k. record { at = e k; node = h k }
 
-end_of : (net : NetTree) (n most : ℕ) (y : TokenTree) → (suc n ≡ suc most) ⊎ NotSolo (move net y) → (n ≡ most) ⊎ NotSolo (move net y)
+end_of : (net : NetTree) (n most : ℕ) (y : TokenTree) → (suc n ≡ suc most) ⊎ NotSolo (move net y) → (n ≡ most) ⊎
+    NotSolo (move net y)
 end_of net n most y (inl e) = inl (omega (arith, e))
 end_of net n most y (inr e) = inr e
 
@@ -80,7 +83,8 @@ one_walk_from net (suc most) (s ∷ t) (s' ∷ t') x y y' (z, m, w) (z', m', w')
     (omega arith) (omega arith) (end_of net (length t) most y e) (end_of net (length t') most y' e') in
     (same_cons s s' t t' (seen_is s s' i n) r, k)
 
-pub one_walk : (net : NetTree) (most : ℕ) (m m' : Passage) → m.before ≡ m'.before → Walked net most m → Walked net most m' → m ≡ m'
+pub one_walk : (net : NetTree) (most : ℕ) (m m' : Passage) → m.before ≡ m'.before → Walked net most m → Walked net most m' →
+    m ≡ m'
 one_walk net most m m' b w w' =
     let moves : Walks net (token_of m.before) (numbers m'.trail) (token_of m'.after) =
     subst (λ k. Walks net (token_of k) (numbers m'.trail) (token_of m'.after)) (sym b) w'.moves in

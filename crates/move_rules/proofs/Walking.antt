@@ -1,5 +1,6 @@
 -- A walk, move by move.
-use Rattle.std.proofs.Common.{◌≡◌, ◌⊎◌, ℕ, ◌+◌, ◌-◌, ◌<◌, ◌≤◌, Bool, true, false, cond, List, [], ◌∷◌, ◌++◌, length, Option, Some, None}
+use Rattle.std.proofs.Common.{◌≡◌, ◌⊎◌, ℕ, ◌+◌, ◌-◌, ◌<◌, ◌≤◌, Bool, true, false, cond, List, [], ◌∷◌}
+use Rattle.std.proofs.Common.{◌++◌, length, Option, Some, None}
 use Rattle.std.proofs.Common.{Result, Ok, Err, refl, sym, ap, ◌∙◌, subst, inl, inr, arith}
 use Rattle.std.specs.List.{All}
 use Rattle.std.specs.Result.{IfOk}
@@ -17,7 +18,8 @@ use Rattle.move_rules.specs.Views.{place_at, of_kind, token_of}
 use Rattle.move_rules.specs.Walks.{Walks, numbers, Stands, faces, on_solo, through, SoloMove, Passage, Reached, Walked, MadeIfSolo}
 
 -- one move more behind a walk
-walks_more : (net : NetTree) (trail : List Seen) (s : Seen) (x y z : TokenTree) → Walks net x (numbers trail) y → move net y ≡ solo s.at z
+walks_more : (net : NetTree) (trail : List Seen) (s : Seen) (x y z : TokenTree) → Walks net x (numbers trail) y →
+    move net y ≡ solo s.at z
     → Walks net x (numbers (trail ++ s ∷ [])) z
 walks_more net [] s x y z w h = (z, ap (move net) w ∙ h, refl)
 walks_more net (a ∷ trail) s x y z (u, m, w) h = (u, m, walks_more net trail s u y z w h)
@@ -43,7 +45,8 @@ through_more (a ∷ trail) s x y z h e =
     then_more trail s y z (faces a.node (place_of x)) (move_at a.at a.node x) (λ u g. through_more trail s u y z g e) h
 
 -- one more on the trail, and one fewer left
-longer : (trail trail' : List Seen) (s : Seen) (left most : ℕ) → length trail + left ≡ most → 0 < left → trail' ≡ trail ++ s ∷ []
+longer : (trail trail' : List Seen) (s : Seen) (left most : ℕ) → length trail + left ≡ most → 0 < left → trail' ≡ trail ++ s ∷
+    []
     → length trail' + (left - 1) ≡ most
 longer trail trail' s left most c p t =
     let l : length (trail ++ s ∷ []) ≡ length trail + 1 = length-append trail (s ∷ []) in
@@ -84,7 +87,8 @@ goes_on net token before after after' trail trail' s left most w p e t = record 
 }
 
 pub ends_zero : (net : NetTree) (token before after : Token) (trail : List Seen) (left most : ℕ)
-    → Walking net token before after trail left most → left ≡ 0 → Walked net most (record { before = before; after = after; trail = trail })
+    → Walking net token before after trail left most → left ≡ 0 →
+    Walked net most (record { before = before; after = after; trail = trail })
 ends_zero net token before after trail left most w e =
     let c = w.count in
     record { moves = w.moves; nodes = w.nodes; at_most = omega (arith, c); ends = inl (omega (arith, c, e)) }
@@ -140,7 +144,8 @@ stays net m stay n t e = (t, e)
 pub once : (net : NetTree) (m : Passage) → Walked net 1 m → MadeIfSolo net m (move net (token_of m.before))
 once net m w = go m.trail refl w.moves w.nodes w.at_most w.ends
   where
-    go : (trail : List Seen) → m.trail ≡ trail → Walks net (token_of m.before) (numbers trail) (token_of m.after) → All (Stands net) trail
+    go : (trail : List Seen) → m.trail ≡ trail → Walks net (token_of m.before) (numbers trail) (token_of m.after) →
+        All (Stands net) trail
         → length trail ≤ 1
         → (length trail ≡ 1) ⊎ NotSolo (move net (token_of m.after)) → MadeIfSolo net m (move net (token_of m.before))
     go [] t w a l (inl e) = cc
@@ -151,7 +156,8 @@ once net m w = go m.trail refl w.moves w.nodes w.at_most w.ends
         subst (MadeIfSolo net m) (sym h) (s.node, All-head (Stands net) s [] a, t, sym q)
     go (s ∷ r ∷ trail) t w a l e = absurd (omega arith)
 
-pub once_ok : {E : Type 0} (net : NetTree) (token : Token) (r : Result Passage E) → IfOk r (λ m. m.before ≡ token) → IfOk r (Walked net 1)
+pub once_ok : {E : Type 0} (net : NetTree) (token : Token) (r : Result Passage E) → IfOk r (λ m. m.before ≡ token) →
+    IfOk r (Walked net 1)
     → IfOk r (λ m. MadeIfSolo net m (move net (token_of token)))
 once_ok net token (Ok m) e w = subst (λ k. MadeIfSolo net m (move net (token_of k))) e (once net m w)
 once_ok net token (Err x) e w = tt

@@ -23,5 +23,6 @@ OneWalk = (net : NetTree) (most : ℕ) (m m' : Passage) → m.before ≡ m'.befo
 
 -- on a sound net, where a trail of its nodes leads from x to y by the nodes' own rules, it is a walk of the net's moves
 abbrev pub TrailWalks : Type 0
-TrailWalks = (net : NetTree) → Sound net → (trail : List Seen) → All (Stands net) trail → (x y : TokenTree) → through trail x ≡ Some y
+TrailWalks = (net : NetTree) → Sound net → (trail : List Seen) → All (Stands net) trail → (x y : TokenTree) →
+    through trail x ≡ Some y
     → Walks net x (numbers trail) y

@@ -3,7 +3,8 @@
 -- each step is the move that the table gives there. `through` names no net: each node of the trail, by its own rules, makes a solo move
 -- of a token that faces it. What was walked keeps the second for good, whatever net comes later; on a sound net that has the
 -- trail's nodes at their numbers, it gives the first.
-use Rattle.std.specs.Prelude.{◌≡◌, ◌≤◌, ◌⊎◌, ℕ, Bool, List, [], ◌∷◌, length, map, Option, Some, None, slice_get, MatchOption, if◌then◌else◌}
+use Rattle.std.specs.Prelude.{◌≡◌, ◌≤◌, ◌⊎◌, ℕ, Bool, List, [], ◌∷◌, length, map, Option, Some, None, slice_get}
+use Rattle.std.specs.Prelude.{MatchOption, if◌then◌else◌}
 use Rattle.std.specs.List.{All}
 use Rattle.std.specs.Bool.{MatchBool}
 use Rattle.net_build.specs.declared.node.Node.{Node}

@@ -28,7 +28,8 @@ has_read v w last after was loaded =
     }
 
 -- a writer goes on with what it publishes
-pub has_published : (v w : View) (last : ℕ) (after : List ℕ) → Writes v last → last_of (published_of v) ≤ slice_index after 0 → Stored v [] after w
+pub has_published : (v w : View) (last : ℕ) (after : List ℕ) → Writes v last → last_of (published_of v) ≤ slice_index after 0 →
+    Stored v [] after w
     → Writes w (slice_index after 0)
 has_published v w last after was up stored =
     let n = slice_index after 0 in
@@ -37,11 +38,13 @@ has_published v w last after was up stored =
       is_writer = stored ∙ (λ i. Publishes (sym now i) (sym same i));
       last_is = sym (ap last_of now ∙ last_of-push (published_of v) n);
       rises = subst RisesFromZero (sym now) (rises-push (published_of v) n was.rises up);
-      settled = subst (λ (x : List ℕ × List (List ℕ)). All (AreReadingsOf x.0) x.1) (λ i. (sym now i, sym same i)) (all_more (published_of v) n (settled_of v) was.settled);
+      settled = subst (λ (x : List ℕ × List (List ℕ)). All (AreReadingsOf x.0) x.1) (λ i. (sym now i, sym same i))
+          (all_more (published_of v) n (settled_of v) was.settled);
     }
 
 -- a writer goes on with the readings w that it took in
-pub has_settled : (v w now after : View) (last : ℕ) → Writes v last → now ≡ with_readings v w → Compared now [] [] after → Writes after last
+pub has_settled : (v w now after : View) (last : ℕ) → Writes v last → now ≡ with_readings v w → Compared now [] [] after →
+    Writes after last
 has_settled v w now after last was joined compared =
     let is : after ≡ with_readings v w = compared.0 ∙ joined in
     let all = subst (λ (u : View). All (AreReadingsOf (published_of u)) (settled_of u)) joined compared.1 in record {
@@ -52,7 +55,9 @@ has_settled v w now after last was joined compared =
     }
 
 -- and learns of them that they are of what it published
-pub has_compared : (v w now after : View) → now ≡ with_readings v w → Compared now [] [] after → AreReadingsOf (published_of v) (readings_of w)
+pub has_compared : (v w now after : View) → now ≡ with_readings v w → Compared now [] [] after →
+    AreReadingsOf (published_of v) (readings_of w)
 has_compared v w now after joined compared =
     let all = subst (λ (u : View). All (AreReadingsOf (published_of u)) (settled_of u)) joined compared.1 in
-    All-contains (AreReadingsOf (published_of v)) (settled_of v ++ readings_of w ∷ []) (readings_of w) all (Contains-push (settled_of v) (readings_of w))
+    All-contains (AreReadingsOf (published_of v)) (settled_of v ++ readings_of w ∷
+    []) (readings_of w) all (Contains-push (settled_of v) (readings_of w))

@@ -1,5 +1,6 @@
 -- Lists of numbers whose last one grows, and the places of a list.
-use Rattle.std.proofs.Common.{◌≡◌, ℕ, zero, suc, ◌-◌, ◌<◌, ◌≤◌, List, [], ◌∷◌, ◌++◌, length, get_or, refl, sym, ap, ◌∙◌, subst, arith, length-append}
+use Rattle.std.proofs.Common.{◌≡◌, ℕ, zero, suc, ◌-◌, ◌<◌, ◌≤◌, List, [], ◌∷◌, ◌++◌, length, get_or, refl}
+use Rattle.std.proofs.Common.{sym, ap, ◌∙◌, subst, arith, length-append}
 use Rattle.std.specs.Prelude.{All, Contains}
 use Rattle.std.specs.List.Sorted.{IsNonDecreasing}
 use Rattle.std.proofs.lemmas.List.Elements.{All-weaker, All-contains, Contains-append_left, Contains-get_or, All-push}
@@ -63,15 +64,18 @@ pub last_published : (log : List ℕ) → 0 < length log → Contains log (last_
 last_published log some_number = subst (Contains log) (last_at log 0 some_number) (Contains-get_or log (length log - 1) 0 (omega arith))
 
 -- readings stay readings while more is published
-pub readings_more : (log : List ℕ) (n : ℕ) (readings : List ℕ) → AreReadingsOf log readings → AreReadingsOf (log ++ n ∷ []) readings
+pub readings_more : (log : List ℕ) (n : ℕ) (readings : List ℕ) → AreReadingsOf log readings →
+    AreReadingsOf (log ++ n ∷ []) readings
 readings_more log n readings are =
     (are.0, All-weaker (Contains log) (Contains (log ++ n ∷ [])) (λ x. Contains-append_left log (n ∷ []) x) readings are.1)
 
-pub all_more : (log : List ℕ) (n : ℕ) (settled : List (List ℕ)) → All (AreReadingsOf log) settled → All (AreReadingsOf (log ++ n ∷ [])) settled
+pub all_more : (log : List ℕ) (n : ℕ) (settled : List (List ℕ)) → All (AreReadingsOf log) settled →
+    All (AreReadingsOf (log ++ n ∷ [])) settled
 all_more log n settled are = All-weaker (AreReadingsOf log) (AreReadingsOf (log ++ n ∷ [])) (readings_more log n) settled are
 
 -- and with one more reading, of the number published last
-pub readings-push : (log readings : List ℕ) → 0 < length log → IsNonDecreasing log → AreReadingsOf log readings → AreReadingsOf log (readings ++ last_of log ∷ [])
+pub readings-push : (log readings : List ℕ) → 0 < length log → IsNonDecreasing log → AreReadingsOf log readings →
+    AreReadingsOf log (readings ++ last_of log ∷ [])
 readings-push log readings some_number rises are = (
   never_down-push readings (last_of log) are.0 (last_reading log readings rises are),
   All-push (Contains log) readings (last_of log) are.1 (last_published log some_number),
@@ -81,7 +85,8 @@ readings-push log readings some_number rises are = (
 pub readings_of_zero : (log : List ℕ) → 0 < length log → get_or log 0 0 ≡ 0 → AreReadingsOf log (0 ∷ [])
 readings_of_zero log some_number begins = (zero_rises.rises, λ k d inside. (0, some_number, zero_at log some_number begins k d inside))
   where
-    zero_at : (log : List ℕ) → 0 < length log → get_or log 0 0 ≡ 0 → (k d : ℕ) → k < 1 → get_or log 0 (get_or (0 ∷ []) k d) ≡ get_or (0 ∷ []) k d
+    zero_at : (log : List ℕ) → 0 < length log → get_or log 0 0 ≡ 0 → (k d : ℕ) → k < 1 →
+        get_or log 0 (get_or (0 ∷ []) k d) ≡ get_or (0 ∷ []) k d
     zero_at [] some_number begins k d inside = absurd (omega arith)
     zero_at (x ∷ xs) some_number begins zero d inside = begins
     zero_at (x ∷ xs) some_number begins (suc k) d inside = absurd (omega arith)

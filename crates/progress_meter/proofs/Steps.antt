@@ -1,6 +1,7 @@
 -- Each step of an end keeps the rule: first at a view that is written out, and at the end of the file at a view that is known to be a
 -- writer's or a reader's.
-use Rattle.std.proofs.Common.{◌≡◌, ◌≢◌, ℕ, zero, suc, ◌≤◌, List, [], ◌∷◌, ◌++◌, set, Bool, true, false, true≢false, refl, sym, ap, ◌∙◌, subst, ⊎_elim, arith}
+use Rattle.std.proofs.Common.{◌≡◌, ◌≢◌, ℕ, zero, suc, ◌≤◌, List, [], ◌∷◌, ◌++◌, set, Bool, true, false}
+use Rattle.std.proofs.Common.{true≢false, refl, sym, ap, ◌∙◌, subst, ⊎_elim, arith}
 use Rattle.std.specs.Prelude.{slice_index, All}
 use Rattle.std.proofs.lemmas.List.Elements.{All-push}
 use mathlib.Core.Option.{some, some-ne-none, some-injective}
@@ -13,7 +14,8 @@ use Rattle.progress_meter.specs.Meters.{last_of, RisesFromZero, AreReadingsOf}
 use Rattle.progress_meter.specs.Rule.{new_writer, new_reader, published_of, settled_of, readings_of, IsWriter, IsReader, Fits, Kept}
 use Rattle.progress_meter.specs.Rule.{Loaded, Stored, Compared, with_readings}
 use Rattle.progress_meter.specs.Steps.{StepsKeep}
-use Rattle.progress_meter.proofs.Lists.{last_of-push, zero_rises, rises-push, last_reading, readings_more, all_more, readings-push, readings_of_zero, is_inside}
+use Rattle.progress_meter.proofs.Lists.{last_of-push, zero_rises, rises-push, last_reading, readings_more, all_more, readings-push}
+use Rattle.progress_meter.proofs.Lists.{readings_of_zero, is_inside}
 
 abbrev is_writer : View → Bool
 is_writer (Publishes published settled) = true
@@ -21,11 +23,14 @@ is_writer (Reads readings) = false
 is_writer Spent = false
 
 -- two seats are two, where the one has the writer's view and the other doesn't
-apart : (views : List View) (i j : ℕ) (v w : View) → get_elem? views i ≡ some v → get_elem? views j ≡ some w → is_writer v ≡ false → is_writer w ≡ true → i ≢ j
-apart views i j v w at there one other same = true≢false (sym other ∙ ap is_writer (some-injective w v (sym there ∙ ap (get_elem? views) (sym same) ∙ at)) ∙ one)
+apart : (views : List View) (i j : ℕ) (v w : View) → get_elem? views i ≡ some v → get_elem? views j ≡ some w →
+    is_writer v ≡ false → is_writer w ≡ true → i ≢ j
+apart views i j v w at there one other same = true≢false
+    (sym other ∙ ap is_writer (some-injective w v (sym there ∙ ap (get_elem? views) (sym same) ∙ at)) ∙ one)
 
 -- each view fits after one seat's view became w
-fits_set : (writer : ℕ) (log : List ℕ) (views : List View) (by : ℕ) (w : View) → ((j : ℕ) (u : View) → j ≢ by → get_elem? views j ≡ some u → Fits writer log j u) → Fits writer log by w
+fits_set : (writer : ℕ) (log : List ℕ) (views : List View) (by : ℕ) (w : View) →
+    ((j : ℕ) (u : View) → j ≢ by → get_elem? views j ≡ some u → Fits writer log j u) → Fits writer log by w
     → (j : ℕ) (u : View) → get_elem? (set views by w) j ≡ some u → Fits writer log j u
 fits_set writer log views by w others mine j u e =
     ⊎_elim
@@ -34,26 +39,30 @@ fits_set writer log views by w others mine j u e =
     (at_set views by j w u e)
 
 -- a view at another seat than the writer's still fits when more is published
-fits_longer : (writer : ℕ) (log : List ℕ) (n seat : ℕ) → seat ≢ writer → (v : View) → Fits writer log seat v → Fits writer (log ++ n ∷ []) seat v
+fits_longer : (writer : ℕ) (log : List ℕ) (n seat : ℕ) → seat ≢ writer → (v : View) → Fits writer log seat v →
+    Fits writer (log ++ n ∷ []) seat v
 fits_longer writer log n seat other (Publishes published settled) fits = absurd (other fits.0)
 fits_longer writer log n seat other (Reads readings) fits = readings_more log n readings fits
 fits_longer writer log n seat other Spent fits = tt
 
 -- a view of a seat other than the writer's changes, and the word stays
-changes : (by : ℕ) (v w : View) (words : List ℕ) (views : List View) (h : Kept words views) → get_elem? views by ≡ some v → is_writer v ≡ false → Fits h.writer h.log by w
+changes : (by : ℕ) (v w : View) (words : List ℕ) (views : List View) (h : Kept words views) → get_elem? views by ≡ some v →
+    is_writer v ≡ false → Fits h.writer h.log by w
     → Kept words (set views by w)
 changes by v w words views h at reader fits = record {
   writer = h.writer;
   log = h.log;
   settled = h.settled;
-  is_there = set_else views by h.writer w (λ e. apart views by h.writer v (Publishes h.log h.settled) at h.is_there reader refl (sym e)) ∙ h.is_there;
+  is_there = set_else views by h.writer w (λ e. apart views by h.writer v (Publishes h.log h.settled) at h.is_there reader refl (sym e))
+      ∙ h.is_there;
   rises = h.rises;
   ends = h.ends;
   each = fits_set h.writer h.log views by w (λ j u _ e. h.each j u e) fits;
 }
 
 -- a new seat comes with a view that fits at each seat
-comes : (w : View) (words : List ℕ) (views : List View) (h : Kept words views) → ((j : ℕ) → Fits h.writer h.log j w) → Kept words (views ++ w ∷ [])
+comes : (w : View) (words : List ℕ) (views : List View) (h : Kept words views) → ((j : ℕ) → Fits h.writer h.log j w) →
+    Kept words (views ++ w ∷ [])
 comes w words views h fits = record {
   writer = h.writer;
   log = h.log;
@@ -81,10 +90,12 @@ makes = record {
     one (suc seat) v e = absurd (some-ne-none v (sym e))
 
 -- Split of the writer: the first reader comes with the list of 0.
-first_reader : (by : ℕ) (published : List ℕ) (settled : List (List ℕ)) → Forks Kept by (Publishes published settled) (Publishes published settled) new_reader
+first_reader : (by : ℕ) (published : List ℕ) (settled : List (List ℕ)) →
+    Forks Kept by (Publishes published settled) (Publishes published settled) new_reader
 first_reader by published settled words views h at =
     let p = h.rises in
-    subst (λ l. Kept words (l ++ new_reader ∷ [])) (sym (set_again views by (Publishes published settled) at)) (comes new_reader words views h (λ j. readings_of_zero h.log p.some_number p.begins))
+    subst (λ l. Kept words (l ++ new_reader ∷ [])) (sym (set_again views by (Publishes published settled) at))
+    (comes new_reader words views h (λ j. readings_of_zero h.log p.some_number p.begins))
 
 -- Split of a reader: the second reader has the readings of the first.
 second_reader : (by : ℕ) (readings : List ℕ) → Forks Kept by (Reads readings) (Reads readings) (Reads readings)
@@ -105,9 +116,13 @@ loads by readings words views h at =
     let word = slice_index words 0 in
     let p = h.rises in
     let fits : AreReadingsOf h.log readings = h.each by (Reads readings) at in
-    let more : AreReadingsOf h.log (readings ++ word ∷ []) = subst (λ n. AreReadingsOf h.log (readings ++ n ∷ [])) h.ends (readings-push h.log readings p.some_number p.rises fits) in
-    let w = Reads (readings ++ word ∷ []) in
-    (w, changes by (Reads readings) w words views h at refl more, (refl, subst (λ n. last_of readings ≤ n) h.ends (last_reading h.log readings p.rises fits)))
+    let more : AreReadingsOf h.log (readings ++ word ∷ []) =
+    subst (λ n. AreReadingsOf h.log (readings ++ n ∷ [])) h.ends (readings-push h.log readings p.some_number p.rises fits) in
+    let w = Reads (readings ++ word ∷ []) in (
+      w,
+      changes by (Reads readings) w words views h at refl more,
+      (refl, subst (λ n. last_of readings ≤ n) h.ends (last_reading h.log readings p.rises fits)),
+    )
 
 -- Load of the writer: it learns of the readings that it has.
 compares : (by : ℕ) (published : List ℕ) (settled : List (List ℕ)) → Turns Kept by (Publishes published settled) (λ x. x) Compared
@@ -117,7 +132,8 @@ compares by published settled words views h at =
     (v, subst (Kept words) (sym (set_again views by v at)) h, (refl, subst (λ l. All (AreReadingsOf l) settled) (sym fits.1) fits.2))
 
 -- Store: the word, and the writer's list grows by it.
-stores : (by : ℕ) (published : List ℕ) (settled : List (List ℕ)) (n : ℕ) → last_of published ≤ n → Turns Kept by (Publishes published settled) (λ _. n ∷ []) Stored
+stores : (by : ℕ) (published : List ℕ) (settled : List (List ℕ)) (n : ℕ) → last_of published ≤ n →
+    Turns Kept by (Publishes published settled) (λ _. n ∷ []) Stored
 stores by published settled n up words views h at =
     let v = Publishes published settled in
     let p = h.rises in
@@ -134,7 +150,8 @@ stores by published settled n up words views h at =
         rises = rises-push published n (subst RisesFromZero (sym fits.1) p) up;
         ends = last_of-push published n;
         each = fits_set by more views by w
-            (λ j u other e. subst (λ l. Fits by l j u) (sym longer) (fits_longer by h.log n j other u (subst (λ i. Fits i h.log j u) (sym fits.0) (h.each j u e))))
+            (λ j u other e. subst (λ l. Fits by l j u) (sym longer)
+            (fits_longer by h.log n j other u (subst (λ i. Fits i h.log j u) (sym fits.0) (h.each j u e))))
             (refl, refl, subst (λ l. All (AreReadingsOf l) settled) (sym longer) (all_more h.log n settled fits.2));
       },
       refl,
@@ -157,8 +174,12 @@ joins by published settled other readings words views h at distinct there =
       rises = subst RisesFromZero (sym fits.1) h.rises;
       ends = ap last_of fits.1 ∙ h.ends;
       each = fits_set by published views by w
-          (λ j u _ e. subst (λ (x : ℕ × List ℕ). Fits x.0 x.1 j u) (λ i. (sym fits.0 i, sym fits.1 i)) (h.each j u e))
-          (refl, refl, subst (λ l. All (AreReadingsOf l) (settled ++ readings ∷ [])) (sym fits.1) (All-push (AreReadingsOf h.log) settled readings fits.2 are));
+          (λ j u _ e. subst (λ (x : ℕ × List ℕ). Fits x.0 x.1 j u) (λ i. (sym fits.0 i, sym fits.1 i)) (h.each j u e)) (
+            refl,
+            refl,
+            subst (λ l. All (AreReadingsOf l) (settled ++ readings ∷ [])) (sym fits.1)
+                (All-push (AreReadingsOf h.log) settled readings fits.2 are),
+          );
     } in
     changes other (Reads readings) Spent words (set views by w) joined there refl tt
 
@@ -178,12 +199,16 @@ loads_as by v is = subst (λ (u : View). Turns Kept by u (λ x. x) Loaded) (sym 
 pub compares_as : (by : ℕ) (v : View) → IsWriter v → Turns Kept by v (λ x. x) Compared
 compares_as by v is = subst (λ (u : View). Turns Kept by u (λ x. x) Compared) (sym is) (compares by (published_of v) (settled_of v))
 
-pub stores_as : (by : ℕ) (v : View) (n : ℕ) → IsWriter v → last_of (published_of v) ≤ n → Turns Kept by v (λ _. n ∷ []) Stored
-stores_as by v n is up = subst (λ (u : View). Turns Kept by u (λ _. n ∷ []) Stored) (sym is) (stores by (published_of v) (settled_of v) n up)
+pub stores_as : (by : ℕ) (v : View) (n : ℕ) → IsWriter v → last_of (published_of v) ≤ n →
+    Turns Kept by v (λ _. n ∷ []) Stored
+stores_as by v n is up = subst (λ (u : View). Turns Kept by u (λ _. n ∷ []) Stored) (sym is)
+    (stores by (published_of v) (settled_of v) n up)
 
-pub joins_as : (by : ℕ) (v : View) (other : ℕ) (w : View) → IsWriter v → IsReader w → Merges Kept by v other w (with_readings v w) Spent
+pub joins_as : (by : ℕ) (v : View) (other : ℕ) (w : View) → IsWriter v → IsReader w →
+    Merges Kept by v other w (with_readings v w) Spent
 joins_as by v other w writer reader =
-    subst (λ (x : View × View). Merges Kept by x.0 other x.1 (with_readings v w) Spent) (λ i. (sym writer i, sym reader i)) (joins by (published_of v) (settled_of v) other (readings_of w))
+    subst (λ (x : View × View). Merges Kept by x.0 other x.1 (with_readings v w) Spent) (λ i. (sym writer i, sym reader i))
+    (joins by (published_of v) (settled_of v) other (readings_of w))
 
 -- The rule holds of a new meter, and each step keeps it.
 pub steps_keep : StepsKeep

@@ -1,5 +1,6 @@
 -- How a log is filled with the runs of a text that was counted.
-use Rattle.std.proofs.Common.{◌≡◌, ℕ, zero, suc, ◌+◌, ◌≤◌, List, [], ◌∷◌, ◌++◌, append_assoc, replicate, length, Option, Some, Ok, Err}
+use Rattle.std.proofs.Common.{◌≡◌, ℕ, zero, suc, ◌+◌, ◌≤◌, List, [], ◌∷◌, ◌++◌, append_assoc, replicate, length}
+use Rattle.std.proofs.Common.{Option, Some, Ok, Err}
 use Rattle.std.proofs.Common.{refl, sym, ap, ◌∙◌, subst, arith}
 use Rattle.std.specs.Prelude.{Result}
 use Rattle.std.proofs.lemmas.List.{length-append}
@@ -69,7 +70,8 @@ pub record Turn (l : LogSeen) (m room : ℕ) (target : List Entry) (r : Run) (t 
   pub goes_on : (k : LogSeen) → k ≡ with_entries l (times r.ticket r.count) → Fills k (m + r.count) t room target
 
 -- What is left begins with a run.
-pub fills_turn : (l : LogSeen) (m room : ℕ) (target : List Entry) (r : Run) (s t : Result (List Run) ScheduleFault) → s ≡ with_run r t →
+pub fills_turn : (l : LogSeen) (m room : ℕ) (target : List Entry) (r : Run) (s t : Result (List Run) ScheduleFault) →
+    s ≡ with_run r t →
     Fills l m s room target → Turn l m room target r t
 fills_turn l m room target r s t e f = record {
   room_left = let u = run_room m room r t (sym (ap (counted m) e) ∙ f.count) in omega (arith, u, f.room_is, f.length_is);
@@ -84,7 +86,8 @@ filled l m room target s e f =
     sym (append_none l.entries) ∙ ap (λ rs. l.entries ++ read_entries (tickets_of rs)) (sym e) ∙ f.entries
 
 -- The last line leaves nothing.
-pub end_leaves : (v : Version) (p : Option ℕ) (m n : ℕ) (rest line more : List ℕ) → lines rest ≡ line ∷ lines more → line ≡ end_line →
+pub end_leaves : (v : Version) (p : Option ℕ) (m n : ℕ) (rest line more : List ℕ) → lines rest ≡ line ∷ lines more →
+    line ≡ end_line →
     runs_or_none (runs_from v p m n (lines rest)) ≡ []
 end_leaves v p m n rest line more e q = ap (λ ls. runs_or_none (runs_from v p m n ls)) e
     ∙ ap runs_or_none (end_told v p m n line (lines more) q) ∙ none (lines more)
@@ -94,7 +97,8 @@ end_leaves v p m n rest line more e q = ap (λ ls. runs_or_none (runs_from v p m
     none (l ∷ ls) = refl
 
 -- A line with a fault leaves nothing.
-pub fault_leaves : (v : Version) (p : Option ℕ) (m n : ℕ) (rest line more : List ℕ) (f : ScheduleFault) → lines rest ≡ line ∷ lines more →
+pub fault_leaves : (v : Version) (p : Option ℕ) (m n : ℕ) (rest line more : List ℕ) (f : ScheduleFault) → lines rest ≡ line ∷
+    lines more →
     (line ≡ end_line → ⊥) → judged_line v p m n line ≡ Err f → runs_or_none (runs_from v p m n (lines rest)) ≡ []
 fault_leaves v p m n rest line more f e q h = ap (λ ls. runs_or_none (runs_from v p m n ls)) e
     ∙ ap runs_or_none (run_fails v p m n line (lines more) f q h)

@@ -1,5 +1,6 @@
 -- What the reading answers is the first fault, or what the whole text stands for.
-use Rattle.std.proofs.Common.{◌≡◌, ℕ, zero, suc, ◌+◌, ◌^◌, ◌<◌, ◌≤◌, Bool, true, false, ◌&&◌, List, [], ◌∷◌, length, Option, Some, None, Ok}
+use Rattle.std.proofs.Common.{◌≡◌, ℕ, zero, suc, ◌+◌, ◌^◌, ◌<◌, ◌≤◌, Bool, true, false, ◌&&◌, List, []}
+use Rattle.std.proofs.Common.{◌∷◌, length, Option, Some, None, Ok}
 use Rattle.std.proofs.Common.{Err, refl, sym, ap, ◌∙◌, subst, inl, inr, arith}
 use Rattle.std.specs.Prelude.{Result, codes, nat_lt, nat_le, if◌then◌else◌}
 use Rattle.std.specs.Str.{bytes_eq}
@@ -23,12 +24,14 @@ abbrev pub RunsRead : Version → Option ℕ → ℕ → ℕ → List (List ℕ)
 RunsRead v p m n ls (Ok rs) = Whole v p m ls rs
 RunsRead v p m n ls (Err f) = FirstFault v p m n ls f
 
-moved : (v : Version) (p : Option ℕ) (m k n j : ℕ) (ls : List (List ℕ)) (f : ScheduleFault) → m ≡ k → n ≡ j → FaultHere v p m n ls f →
+moved : (v : Version) (p : Option ℕ) (m k n j : ℕ) (ls : List (List ℕ)) (f : ScheduleFault) → m ≡ k → n ≡ j →
+    FaultHere v p m n ls f →
     FaultHere v p k j ls f
 moved v p m k n j ls f e g h = subst (λ k. FaultHere v p k j ls f) e (subst (λ j. FaultHere v p m j ls f) g h)
 
 -- The first line has the fault.
-here : (v : Version) (p : Option ℕ) (m n : ℕ) (ls : List (List ℕ)) (f : ScheduleFault) → m ≤ most_moves → FaultHere v p m n ls f →
+here : (v : Version) (p : Option ℕ) (m n : ℕ) (ls : List (List ℕ)) (f : ScheduleFault) → m ≤ most_moves →
+    FaultHere v p m n ls f →
     FirstFault v p m n ls f
 here v p m n ls f u h = record {
   before = [];
@@ -42,8 +45,10 @@ here v p m n ls f u h = record {
 }
 
 -- A later line has it.
-later : (v : Version) (p : Option ℕ) (m n : ℕ) (l : List ℕ) (ls : List (List ℕ)) (r : Run) (f : ScheduleFault) → IsMoveLine v l r →
-    MayFollow v p r.ticket → r.ticket < 2 ^ 32 → FirstFault v (Some r.ticket) (m + r.count) (suc n) ls f → FirstFault v p m n (l ∷ ls) f
+later : (v : Version) (p : Option ℕ) (m n : ℕ) (l : List ℕ) (ls : List (List ℕ)) (r : Run) (f : ScheduleFault) →
+    IsMoveLine v l r →
+    MayFollow v p r.ticket → r.ticket < 2 ^ 32 → FirstFault v (Some r.ticket) (m + r.count) (suc n) ls f →
+    FirstFault v p m n (l ∷ ls) f
 later v p m n l ls r f a b c x = record {
   before = l ∷ x.before;
   rest = x.rest;
@@ -56,7 +61,8 @@ later v p m n l ls r f a b c x = record {
       (suc n + length x.before) (n + suc (length x.before)) x.rest f (omega arith) (omega arith) x.fault;
 }
 
-later_whole : (v : Version) (p : Option ℕ) (m : ℕ) (l : List ℕ) (ls : List (List ℕ)) (r : Run) (rs : List Run) → IsMoveLine v l r →
+later_whole : (v : Version) (p : Option ℕ) (m : ℕ) (l : List ℕ) (ls : List (List ℕ)) (r : Run) (rs : List Run) →
+    IsMoveLine v l r →
     MayFollow v p r.ticket → r.ticket < 2 ^ 32 → Whole v (Some r.ticket) (m + r.count) ls rs → Whole v p m (l ∷ ls) (r ∷ rs)
 later_whole v p m l ls r rs a b c x = record {
   before = l ∷ x.before;
@@ -67,7 +73,8 @@ later_whole v p m l ls r rs a b c x = record {
 }
 
 -- A move line within the limits stands before what the lines behind it are read as.
-with_read : (v : Version) (p : Option ℕ) (m n : ℕ) (l : List ℕ) (ls : List (List ℕ)) (r : Run) (s : Result (List Run) ScheduleFault) →
+with_read : (v : Version) (p : Option ℕ) (m n : ℕ) (l : List ℕ) (ls : List (List ℕ)) (r : Run) (s : Result (List Run) ScheduleFault)
+    →
     IsMoveLine v l r → MayFollow v p r.ticket → r.ticket < 2 ^ 32 → RunsRead v (Some r.ticket) (m + r.count) (suc n) ls s →
     RunsRead v p m n (l ∷ ls) (with_run r s)
 with_read v p m n l ls r (Ok rs) a b c x = later_whole v p m l ls r rs a b c x
@@ -96,7 +103,8 @@ fits_read v p m n l ls r s false c e g a b u x =
     here v p m n (l ∷ ls) (TicketTooWide n) u (refl, record { run = r; is = a; follows = b; wide = ltb-false r.ticket (2 ^ 32) e })
 
 -- a line that is told to be no move line, or not to follow
-pub no_line : (v : Version) (p : Option ℕ) (l : List ℕ) → (is_move_line v l && may_follow v p (run_in v l).ticket) ≡ false → (r : Run) →
+pub no_line : (v : Version) (p : Option ℕ) (l : List ℕ) → (is_move_line v l && may_follow v p (run_in v l).ticket) ≡ false →
+    (r : Run) →
     IsMoveLine v l r → MayFollow v p r.ticket → ⊥
 no_line v p l e r a b =
     let t = is_line v l r a in
@@ -104,7 +112,8 @@ no_line v p l e r a b =
     both_ways (is_move_line v l && may_follow v p (run_in v l).ticket) e
     (and_from (is_move_line v l) (may_follow v p (run_in v l).ticket) t.is g)
 
-judged_read : (v : Version) (p : Option ℕ) (m n : ℕ) (l : List ℕ) (ls : List (List ℕ)) (s : Result (List Run) ScheduleFault) (b : Bool) →
+judged_read : (v : Version) (p : Option ℕ) (m n : ℕ) (l : List ℕ) (ls : List (List ℕ)) (s : Result (List Run) ScheduleFault)
+    (b : Bool) →
     (is_move_line v l && may_follow v p (run_in v l).ticket) ≡ b → (l ≡ end_line → ⊥) → m ≤ most_moves →
     (m + (run_in v l).count ≤ most_moves → RunsRead v (Some (run_in v l).ticket) (m + (run_in v l).count) (suc n) ls s) →
     RunsRead v p m n (l ∷ ls) (judged b m n (run_in v l) s)
@@ -117,16 +126,19 @@ judged_read v p m n l ls s false e q u x = here v p m n (l ∷ ls) (BadLine n) u
 ended_read : (v : Version) (p : Option ℕ) (m n : ℕ) (l : List ℕ) (ls : List (List ℕ)) → l ≡ end_line → m ≤ most_moves →
     RunsRead v p m n (l ∷ ls) (ended n ls)
 ended_read v p m n l [] e u = record { before = []; are = λ i. e i ∷ []; stand = tt; tickets = tt; few = omega (arith, u) }
-ended_read v p m n l (k ∷ ls) e u = here v p m n (l ∷ k ∷ ls) (BadLine (suc n)) u (inr (refl, record { end = e; behind = omega arith }))
+ended_read v p m n l (k ∷ ls) e u = here v p m n (l ∷ k ∷ ls) (BadLine (suc n)) u
+    (inr (refl, record { end = e; behind = omega arith }))
 
-chosen_read : (v : Version) (p : Option ℕ) (m n : ℕ) (l : List ℕ) (ls : List (List ℕ)) (s : Result (List Run) ScheduleFault) (e : Bool) →
+chosen_read : (v : Version) (p : Option ℕ) (m n : ℕ) (l : List ℕ) (ls : List (List ℕ)) (s : Result (List Run) ScheduleFault)
+    (e : Bool) →
     bytes_eq l end_line ≡ e → m ≤ most_moves → ((l ≡ end_line → ⊥) → RunsRead v p m n (l ∷ ls) s) →
     RunsRead v p m n (l ∷ ls) (if e then ended n ls else s)
 chosen_read v p m n l ls s true e u x = ended_read v p m n l ls (same_is l end_line e) u
 chosen_read v p m n l ls s false e u x = x (λ g. both_ways (bytes_eq l end_line) e (is_same l end_line g))
 
 -- What is answered of lines is their first fault, or the runs for which all stand.
-pub runs_read : (v : Version) (p : Option ℕ) (m n : ℕ) (ls : List (List ℕ)) → m ≤ most_moves → RunsRead v p m n ls (runs_from v p m n ls)
+pub runs_read : (v : Version) (p : Option ℕ) (m n : ℕ) (ls : List (List ℕ)) → m ≤ most_moves →
+    RunsRead v p m n ls (runs_from v p m n ls)
 runs_read v p m n [] u = here v p m n [] NoEnd u refl
 runs_read v p m n (l ∷ ls) u =
     chosen_read v p m n l ls (judged (is_move_line v l && may_follow v p (run_in v l).ticket) m n (run_in v l)
@@ -168,7 +180,8 @@ fault_read bytes (TooLong (suc n)) h = h
 
 -- what a text is read as whose first line is a header
 body_read : (bytes : List ℕ) (v : Version) (more : List (List ℕ)) (s : Result (List Run) ScheduleFault) →
-    length bytes ≤ most_schedule_bytes → lines bytes ≡ header v ∷ more → RunsRead v None 0 2 more s → ReadAs bytes (only_tickets s)
+    length bytes ≤ most_schedule_bytes → lines bytes ≡ header v ∷ more → RunsRead v None 0 2 more s →
+    ReadAs bytes (only_tickets s)
 body_read bytes v more (Ok rs) u e x = record {
   version = v;
   more = more;
@@ -187,7 +200,8 @@ no_first : (l : List ℕ) (ls : List (List ℕ)) → (let none : List (List ℕ)
 no_first l ls h = cc
 
 -- A text whose first line is no header begins with none.
-lacks : (bytes l : List ℕ) (ls : List (List ℕ)) → length bytes ≤ most_schedule_bytes → lines bytes ≡ l ∷ ls → (l ≡ header Two → ⊥) →
+lacks : (bytes l : List ℕ) (ls : List (List ℕ)) → length bytes ≤ most_schedule_bytes → lines bytes ≡ l ∷ ls →
+    (l ≡ header Two → ⊥) →
     (l ≡ header One → ⊥) → LacksHeader bytes
 lacks bytes l ls u e a b = record {
   short = u;
@@ -199,7 +213,8 @@ lacks bytes l ls u e a b = record {
     other One h = b h
     other Two h = a h
 
-header_read : (bytes l : List ℕ) (ls : List (List ℕ)) (t o : Bool) → bytes_eq l (header Two) ≡ t → bytes_eq l (header One) ≡ o →
+header_read : (bytes l : List ℕ) (ls : List (List ℕ)) (t o : Bool) → bytes_eq l (header Two) ≡ t →
+    bytes_eq l (header One) ≡ o →
     length bytes ≤ most_schedule_bytes → lines bytes ≡ l ∷ ls →
     ReadAs bytes (only_tickets (if t then runs_from Two None 0 2 ls else if o then runs_from One None 0 2 ls else Err BadHeader))
 header_read bytes l ls true o g h u e = body_read bytes Two ls (runs_from Two None 0 2 ls) u (e

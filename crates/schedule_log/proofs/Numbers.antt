@@ -32,7 +32,8 @@ run_line_is l (b ∷ bs) e a h =
       some = leb-true 1 (digits_value 10 (digits_in bs)) w;
       line = sym (digits_behind l)
           ∙ ap (λ t. digits_in l ++ t) (e
-          ∙ (λ i. eqb-true b 32 p i ∷ (sym (digits_behind bs) ∙ ap (λ t. digits_in bs ++ t) (same_is (behind bs) (codes "\n") u)) i));
+          ∙ (λ i. eqb-true b 32 p i ∷ (sym (digits_behind bs) ∙ ap (λ t. digits_in bs ++ t) (same_is (behind bs) (codes "\n") u))
+          i));
     }
 
 -- A move line that is told is one, and stands for the run that is read.

@@ -1,5 +1,6 @@
 -- What bytes are read as is what the reading answers, so there is one such answer at most.
-use Rattle.std.proofs.Common.{◌≡◌, ℕ, zero, suc, ◌+◌, ◌^◌, ◌<◌, ◌≤◌, true, false, ◌&&◌, List, [], ◌∷◌, ◌++◌, length, Option, Some, None, Ok}
+use Rattle.std.proofs.Common.{◌≡◌, ℕ, zero, suc, ◌+◌, ◌^◌, ◌<◌, ◌≤◌, true, false, ◌&&◌, List, [], ◌∷◌}
+use Rattle.std.proofs.Common.{◌++◌, length, Option, Some, None, Ok}
 use Rattle.std.proofs.Common.{Err, refl, sym, ap, ◌∙◌, inl, inr, arith}
 use Rattle.std.specs.Prelude.{Result, nat_le, if◌then◌else◌}
 use Rattle.std.specs.Str.{bytes_eq}
@@ -76,7 +77,8 @@ much_told v p m n l ls w =
     ∙ ap (λ t. if t then with_run r s else Err (TooLong n)) (lt-leb (m + r.count) most_moves w.much)
 
 -- a line that is told to be a move line, and to follow
-told_line : (v : Version) (p : Option ℕ) (l : List ℕ) → IsNoLine v p l → (is_move_line v l && may_follow v p (run_in v l).ticket) ≡ true → ⊥
+told_line : (v : Version) (p : Option ℕ) (l : List ℕ) → IsNoLine v p l →
+    (is_move_line v l && may_follow v p (run_in v l).ticket) ≡ true → ⊥
 told_line v p l q e = let (a, b) = and_parts (is_move_line v l) (may_follow v p (run_in v l).ticket) e in
     q.none (run_in v l) (line_is v l a) (follows_is v p (run_in v l).ticket b)
 
@@ -86,7 +88,8 @@ no_line_told v p m n l ls q =
     let s = runs_from v (Some (run_in v l).ticket) (m + (run_in v l).count) (suc n) ls in
     let b = is_move_line v l && may_follow v p (run_in v l).ticket in
     let no : b ≡ false = elim (cases_Bool b) [ inl e ↦ absurd (told_line v p l q e) | inr e ↦ e ] in
-    ap (λ e. if e then ended n ls else judged b m n (run_in v l) s) (not_same l end_line q.other) ∙ ap (λ b. judged b m n (run_in v l) s) no
+    ap (λ e. if e then ended n ls else judged b m n (run_in v l) s) (not_same l end_line q.other) ∙
+    ap (λ b. judged b m n (run_in v l) s) no
 
 -- The line `end` is read as the last.
 pub end_told : (v : Version) (p : Option ℕ) (m n : ℕ) (l : List ℕ) (ls : List (List ℕ)) → l ≡ end_line →
@@ -127,7 +130,8 @@ runs_ok [] = refl
 runs_ok (r ∷ rs) = ap (with_run r) (runs_ok rs)
 
 -- Lines that stand are read, and those behind them follow.
-before_told : (v : Version) (p : Option ℕ) (m n : ℕ) (before rest : List (List ℕ)) (rs : List Run) → Stand v p before rs → TicketsFit rs →
+before_told : (v : Version) (p : Option ℕ) (m n : ℕ) (before rest : List (List ℕ)) (rs : List Run) → Stand v p before rs →
+    TicketsFit rs →
     m + moves rs ≤ most_moves →
     runs_from v p m n (before ++ rest) ≡ with_runs rs (runs_from v (last_ticket p rs) (m + moves rs) (n + length before) rest)
 before_told v p m n [] rest [] a b u = let e : m ≡ m + 0 = omega arith in let g : n ≡ n + 0 = omega arith in
@@ -164,7 +168,8 @@ header_told One more = refl
 header_told Two more = refl
 
 -- A text that is not too long is read by its lines.
-pub short_told : (bytes : List ℕ) → length bytes ≤ most_schedule_bytes → tickets_in bytes ≡ only_tickets (behind_header (lines bytes))
+pub short_told : (bytes : List ℕ) → length bytes ≤ most_schedule_bytes →
+    tickets_in bytes ≡ only_tickets (behind_header (lines bytes))
 short_told bytes u = ap (λ b. if b then only_tickets (behind_header (lines bytes))
     else Err (TooLong 0)) (le-leb (length bytes) most_schedule_bytes u)
 
@@ -179,7 +184,8 @@ has_told bytes f x =
     ∙ ap only_tickets (first_told x.version None 0 2 x.more f x.first)
 
 -- A first line that is no header is a fault.
-pub other_header : (l : List ℕ) (ls : List (List ℕ)) → (l ≡ header Two → ⊥) → (l ≡ header One → ⊥) → behind_header (l ∷ ls) ≡ Err BadHeader
+pub other_header : (l : List ℕ) (ls : List (List ℕ)) → (l ≡ header Two → ⊥) → (l ≡ header One → ⊥) →
+    behind_header (l ∷ ls) ≡ Err BadHeader
 other_header l ls a b =
     ap (λ t. if t then runs_from Two None 0 2 ls else if bytes_eq l (header One) then runs_from One None 0 2 ls
     else Err BadHeader) (not_same l (header Two) a)
@@ -201,7 +207,8 @@ long_told bytes u = ap (λ b. if b then only_tickets (behind_header (lines bytes
     else Err (TooLong 0)) (lt-leb (length bytes) most_schedule_bytes u)
 
 -- What bytes are read as, want of memory aside, is what is answered.
-pub one_answer : (bytes : List ℕ) (r : Result (List ℕ) ScheduleFault) → (r ≡ Err NoMemory → ⊥) → ReadAs bytes r → tickets_in bytes ≡ r
+pub one_answer : (bytes : List ℕ) (r : Result (List ℕ) ScheduleFault) → (r ≡ Err NoMemory → ⊥) → ReadAs bytes r →
+    tickets_in bytes ≡ r
 one_answer bytes (Ok tickets) q x = schedule_told bytes tickets x
 one_answer bytes (Err NoMemory) q x = absurd (q refl)
 one_answer bytes (Err BadHeader) q x = lacks_told bytes x
@@ -212,6 +219,7 @@ one_answer bytes (Err (TooLong zero)) q x = long_told bytes x
 one_answer bytes (Err (TooLong (suc n))) q x = has_told bytes (TooLong (suc n)) x
 
 -- So no two answers differ.
-pub same_answer : (bytes : List ℕ) (r s : Result (List ℕ) ScheduleFault) → (r ≡ Err NoMemory → ⊥) → (s ≡ Err NoMemory → ⊥) →
+pub same_answer : (bytes : List ℕ) (r s : Result (List ℕ) ScheduleFault) → (r ≡ Err NoMemory → ⊥) →
+    (s ≡ Err NoMemory → ⊥) →
     ReadAs bytes r → ReadAs bytes s → r ≡ s
 same_answer bytes r s p q x y = sym (one_answer bytes r p x) ∙ one_answer bytes s q y

@@ -1,5 +1,6 @@
 -- What is printed of tickets is a schedule text of them, and how long it is.
-use Rattle.std.proofs.Common.{◌≡◌, ℕ, zero, suc, ◌+◌, ◌*◌, ◌%◌, ◌^◌, ◌<◌, ◌≤◌, Bool, true, false, not, ◌&&◌, List, [], ◌∷◌, ◌++◌, length}
+use Rattle.std.proofs.Common.{◌≡◌, ℕ, zero, suc, ◌+◌, ◌*◌, ◌%◌, ◌^◌, ◌<◌, ◌≤◌, Bool, true, false, not}
+use Rattle.std.proofs.Common.{◌&&◌, List, [], ◌∷◌, ◌++◌, length}
 use Rattle.std.proofs.Common.{get_or, Option, Some, None, Ok, Err, refl, sym, ap, ◌∙◌, arith}
 use Rattle.schedule_log.specs.declared.fault.ScheduleFault.{ScheduleFault}
 use Rattle.schedule_log.specs.declared.fault.ScheduleFault.TheVariants.{NoMemory}
@@ -188,7 +189,8 @@ printed_is_short tickets s u =
     omega (arith, m, e)
 
 -- What is printed is the text of these tickets.
-pub printed_is_read : (tickets : List ℕ) → Small tickets → length tickets ≤ most_moves → IsSchedule (schedule_text tickets) tickets
+pub printed_is_read : (tickets : List ℕ) → Small tickets → length tickets ≤ most_moves →
+    IsSchedule (schedule_text tickets) tickets
 printed_is_read tickets s u =
     let rs = runs_of tickets in
     let e = runs_moves tickets in

@@ -1,5 +1,6 @@
 -- How the runs of tickets grow, one ticket after the other.
-use Rattle.std.proofs.Common.{◌≡◌, ℕ, zero, suc, ◌+◌, ◌<◌, ◌≤◌, Bool, true, false, List, [], ◌∷◌, ◌++◌, append_assoc, length, get_or, drop}
+use Rattle.std.proofs.Common.{◌≡◌, ℕ, zero, suc, ◌+◌, ◌<◌, ◌≤◌, Bool, true, false, List, [], ◌∷◌, ◌++◌}
+use Rattle.std.proofs.Common.{append_assoc, length, get_or, drop}
 use Rattle.std.proofs.Common.{drop-cons, refl, sym, ap, ◌∙◌, arith}
 use Rattle.std.proofs.Math.ListN.{drop_of_length-le}
 use Rattle.std.specs.Prelude.{nat_eq, if◌then◌else◌}
@@ -35,7 +36,8 @@ behind_other t u (r ∷ rs) q = behind_joined (nat_eq u r.ticket) t u r rs refl 
 one_more : (t n : ℕ) (rs : List Run) → with_ticket t (run t n ∷ rs) ≡ run t (suc n) ∷ rs
 one_more t n rs = ap (λ b. joined_to b t (run t n) rs) (eq-eqb t t refl)
 
-run_ends : (t n u : ℕ) (ts : List ℕ) → (t ≡ u → ⊥) → runs_of (again t (suc n) (u ∷ ts)) ≡ run t (suc n) ∷ runs_of (u ∷ ts)
+run_ends : (t n u : ℕ) (ts : List ℕ) → (t ≡ u → ⊥) → runs_of (again t (suc n) (u ∷ ts)) ≡ run t (suc n) ∷
+    runs_of (u ∷ ts)
 run_ends t zero u ts q = behind_other t u (runs_of ts) q
 run_ends t (suc n) u ts q = ap (with_ticket t) (run_ends t n u ts q) ∙ one_more t (suc n) (runs_of (u ∷ ts))
 
@@ -64,7 +66,8 @@ no_more t zero u = absurd (omega (arith, u))
 no_more t (suc n) u = ap (λ rs. joined (run_lines rs)) (last_run t n)
 
 -- One turn of the printing, behind which x is written: the next move is of the same ticket.
-pub goes_on : (x y : List ℕ) (t u n m i : ℕ) (rest : List Entry) (d : Entry) → i < length rest → (get_or rest i d).ticket ≡ t → u ≡ t →
+pub goes_on : (x y : List ℕ) (t u n m i : ℕ) (rest : List Entry) (d : Entry) → i < length rest → (get_or rest i d).ticket ≡ t →
+    u ≡ t →
     m ≡ n + 1 →
     x ++ unwritten t n (drop i rest) ≡ y → x ++ unwritten u m (drop (i + 1) rest) ≡ y
 goes_on x y t u n m i rest d k h e f g =
@@ -75,7 +78,8 @@ goes_on x y t u n m i rest d k h e f g =
     ∙ g
 
 -- It is of another ticket, and the line of the run is written.
-pub ends_run : (x z y : List ℕ) (t u n m i : ℕ) (rest : List Entry) (d : Entry) → i < length rest → ((get_or rest i d).ticket ≡ t → ⊥) →
+pub ends_run : (x z y : List ℕ) (t u n m i : ℕ) (rest : List Entry) (d : Entry) → i < length rest →
+    ((get_or rest i d).ticket ≡ t → ⊥) →
     1 ≤ n → z ≡ x ++ run_line (record { ticket = t; count = n }) → u ≡ (get_or rest i d).ticket → m ≡ 1 →
     x ++ unwritten t n (drop i rest) ≡ y → z ++ unwritten u m (drop (i + 1) rest) ≡ y
 ends_run x z y t u n m i rest d k h s w e f g =

@@ -4,6 +4,7 @@ use Rattle.schedule_log.specs.declared.entry.Entry.{Entry}
 use Rattle.schedule_log.specs.Logs.{Small, tickets_in_log}
 
 -- They are so with one more move behind them.
-pub small_with : (es : List Entry) (e : Entry) → Small (tickets_in_log es) → e.ticket < 2 ^ 32 → Small (tickets_in_log (es ++ e ∷ []))
+pub small_with : (es : List Entry) (e : Entry) → Small (tickets_in_log es) → e.ticket < 2 ^ 32 →
+    Small (tickets_in_log (es ++ e ∷ []))
 small_with [] e h u = (u, tt)
 small_with (d ∷ es) e h u = (h.0, small_with es e h.1 u)

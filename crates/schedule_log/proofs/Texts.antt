@@ -1,5 +1,6 @@
 -- What is answered of a text is what it is read as.
-use Rattle.std.proofs.Common.{Bool, false, ◌≡◌, ◌⊎◌, ℕ, zero, suc, ◌+◌, ◌<◌, ◌≤◌, List, [], ◌∷◌, length, None, Ok, Err, refl, sym, ap, ◌∙◌}
+use Rattle.std.proofs.Common.{Bool, false, ◌≡◌, ◌⊎◌, ℕ, zero, suc, ◌+◌, ◌<◌, ◌≤◌, List, [], ◌∷◌, length}
+use Rattle.std.proofs.Common.{None, Ok, Err, refl, sym, ap, ◌∙◌}
 use Rattle.std.proofs.Common.{subst, inl, inr, arith}
 use Rattle.std.specs.Prelude.{◌↔◌, IsTrue, Result}
 use Rattle.std.proofs.lemmas.Bool.{both_ways}
@@ -53,7 +54,8 @@ is_filled (Err f) room l c e = absurd (err_not f room c)
     err_not f n h = cc
 
 -- A log made empty with the room that was counted is filled.
-pub log_filled : (s : Result (List Run) ScheduleFault) (moves : ℕ) (k l : LogSeen) → counted 0 s ≡ Ok moves → k ≡ empty_log moves →
+pub log_filled : (s : Result (List Run) ScheduleFault) (moves : ℕ) (k l : LogSeen) → counted 0 s ≡ Ok moves →
+    k ≡ empty_log moves →
     l.entries ≡ read_entries (tickets_of (runs_or_none s)) → l.room ≡ k.room → Filled s l
 log_filled s moves k l c e f g =
     let h : l.room ≡ moves = g ∙ ap (λ (k : LogSeen). k.room) e in
@@ -71,12 +73,14 @@ fault_is (Err g) f h = fault_eq g f h
         (let a : Result (List ℕ) ScheduleFault = Err g in a ≡ Err f)
     fault_eq g f h = cc
 
-answered : (bytes : List ℕ) (r t : Result (List ℕ) ScheduleFault) → tickets_in bytes ≡ t → ((r ≡ Err NoMemory) ⊎ (t ≡ r)) → ReadAs bytes r
+answered : (bytes : List ℕ) (r t : Result (List ℕ) ScheduleFault) → tickets_in bytes ≡ t →
+    ((r ≡ Err NoMemory) ⊎ (t ≡ r)) → ReadAs bytes r
 answered bytes r t e (inl h) = subst (ReadAs bytes) (sym h) tt
 answered bytes r t e (inr h) = subst (ReadAs bytes) (e ∙ h) (first_fault_found bytes)
 
 -- The lines behind a header are read.
-pub body_answered : (bytes line rest : List ℕ) (v : Version) (r : Result (List ℕ) ScheduleFault) → length bytes ≤ most_schedule_bytes →
+pub body_answered : (bytes line rest : List ℕ) (v : Version) (r : Result (List ℕ) ScheduleFault) →
+    length bytes ≤ most_schedule_bytes →
     lines bytes ≡ line ∷ lines rest → line ≡ header v →
     ((r ≡ Err NoMemory) ⊎ (only_tickets (runs_from v None 0 2 (lines rest)) ≡ r)) → ReadAs bytes r
 body_answered bytes line rest v r u e h a =

@@ -1,5 +1,6 @@
 -- One turn of the reading: a line is judged, and the lines behind it follow.
-use Rattle.std.proofs.Common.{◌≡◌, ℕ, suc, ◌+◌, ◌^◌, ◌<◌, Bool, true, false, ◌&&◌, List, [], ◌∷◌, length, Option, Some, Ok, Err, refl, sym}
+use Rattle.std.proofs.Common.{◌≡◌, ℕ, suc, ◌+◌, ◌^◌, ◌<◌, Bool, true, false, ◌&&◌, List, [], ◌∷◌, length}
+use Rattle.std.proofs.Common.{Option, Some, Ok, Err, refl, sym}
 use Rattle.std.proofs.Common.{ap, ◌∙◌, arith}
 use Rattle.std.specs.Prelude.{Result, nat_lt, nat_le, if◌then◌else◌}
 use Rattle.schedule_log.specs.declared.fault.ScheduleFault.{ScheduleFault}
@@ -47,7 +48,8 @@ run_goes v p m n l ls r q h =
     ∙ ap (λ (r : Run). with_run r (runs_from v (Some r.ticket) (m + r.count) (suc n) ls)) j.run
 
 -- A line that is judged to have a fault ends the reading with it.
-pub run_fails : (v : Version) (p : Option ℕ) (m n : ℕ) (l : List ℕ) (ls : List (List ℕ)) (f : ScheduleFault) → (l ≡ end_line → ⊥) →
+pub run_fails : (v : Version) (p : Option ℕ) (m n : ℕ) (l : List ℕ) (ls : List (List ℕ)) (f : ScheduleFault) →
+    (l ≡ end_line → ⊥) →
     judged_line v p m n l ≡ Err f → runs_from v p m n (l ∷ ls) ≡ Err f
 run_fails v p m n l ls f q h =
     let a = run_in v l in
@@ -62,7 +64,8 @@ counted_more m r (Err f) = refl
 -- One turn of the counting.
 pub count_goes : (v : Version) (p : Option ℕ) (m n j : ℕ) (rest line more : List ℕ) (r : Run) (t : Result ℕ ScheduleFault) →
     lines rest ≡ line ∷ lines more → (line ≡ end_line → ⊥) → judged_line v p m n line ≡ Ok r → j ≡ n + 1 →
-    counted m (runs_from v p m n (lines rest)) ≡ t → counted (m + r.count) (runs_from v (Some r.ticket) (m + r.count) j (lines more)) ≡ t
+    counted m (runs_from v p m n (lines rest)) ≡ t →
+    counted (m + r.count) (runs_from v (Some r.ticket) (m + r.count) j (lines more)) ≡ t
 count_goes v p m n j rest line more r t e q h w g =
     let j' : j ≡ suc n = omega (arith, w) in
     ap (λ j. counted (m + r.count) (runs_from v (Some r.ticket) (m + r.count) j (lines more))) j'
@@ -71,7 +74,8 @@ count_goes v p m n j rest line more r t e q h w g =
     ∙ g
 
 -- The counting ends with the fault of a line.
-pub count_fails : (v : Version) (p : Option ℕ) (m n : ℕ) (rest line more : List ℕ) (f : ScheduleFault) (t : Result ℕ ScheduleFault) →
+pub count_fails : (v : Version) (p : Option ℕ) (m n : ℕ) (rest line more : List ℕ) (f : ScheduleFault) (t : Result ℕ ScheduleFault)
+    →
     lines rest ≡ line ∷ lines more → (line ≡ end_line → ⊥) → judged_line v p m n line ≡ Err f →
     counted m (runs_from v p m n (lines rest)) ≡ t → t ≡ Err f
 count_fails v p m n rest line more f t e q h g = sym g ∙ ap (λ ls. counted m (runs_from v p m n ls)) e
@@ -95,7 +99,8 @@ pub count_late : (v : Version) (p : Option ℕ) (m n j : ℕ) (rest line more : 
     counted m (runs_from v p m n (lines rest)) ≡ t → t ≡ Err (BadLine j)
 count_late v p m n j rest line more t e q u w g =
     let j' : suc n ≡ j = omega (arith, w) in
-    sym g ∙ ap (λ ls. counted m (runs_from v p m n ls)) e ∙ ap (counted m) (end_told v p m n line (lines more) q ∙ ended_late n more u)
+    sym g ∙ ap (λ ls. counted m (runs_from v p m n ls)) e ∙
+    ap (counted m) (end_told v p m n line (lines more) q ∙ ended_late n more u)
     ∙ (λ i. Err (BadLine (j' i)))
 
 -- It ends with a fault where no line is left.

@@ -22,7 +22,8 @@ OneAnswer = (bytes : List ℕ) (r s : Result (List ℕ) ScheduleFault) →
 -- What is printed of at most 10,000,000 tickets is their text, and is read as nothing else.
 pub record IsReadBack (tickets : List ℕ) : Type 0 where
   pub text : ReadAs (schedule_text tickets) (Ok tickets)
-  pub only : (r : Result (List ℕ) ScheduleFault) → (r ≡ Err NoMemory → ⊥) → ReadAs (schedule_text tickets) r → r ≡ Ok tickets
+  pub only : (r : Result (List ℕ) ScheduleFault) → (r ≡ Err NoMemory → ⊥) → ReadAs (schedule_text tickets) r →
+      r ≡ Ok tickets
 
 -- What is printed is read back.
 abbrev pub PrintedIsRead : Type 0

@@ -1,5 +1,6 @@
 -- What contracts see of a log: its entries and its room.
-use Rattle.std.specs.Prelude.{ℕ, zero, suc, ◌<◌, ◌≤◌, ◌^◌, List, [], ◌∷◌, ◌++◌, All, length, map, Option, Some, None, Result, Ok, Err}
+use Rattle.std.specs.Prelude.{ℕ, zero, suc, ◌<◌, ◌≤◌, ◌^◌, List, [], ◌∷◌, ◌++◌, All, length, map, Option, Some}
+use Rattle.std.specs.Prelude.{None, Result, Ok, Err}
 use Rattle.schedule_log.specs.declared.entry.Entry.{Entry}
 use Rattle.schedule_log.specs.declared.fault.ScheduleFault.{ScheduleFault}
 

@@ -24,7 +24,9 @@ pub record RowsOfVersionOne : Type 0 where
   pub cut_71 : Gives (take 71 thirty) (Err NoEnd)
   pub cut_72 : Gives (take 72 thirty) (Err (BadLine 32))
   pub cut_74 : Gives (take 74 thirty) (Err (BadLine 32))
-  pub whole : Gives (take 75 thirty) (Ok (0 ∷ 0 ∷ 0 ∷ 0 ∷ 0 ∷ 0 ∷ 0 ∷ 0 ∷ 0 ∷ 0 ∷ 0 ∷ 0 ∷ 0 ∷ 0 ∷ 0 ∷ 1 ∷ 1 ∷ 1 ∷ 1 ∷ 1 ∷ 1 ∷ 1 ∷ 1 ∷ 1 ∷
+  pub whole : Gives (take 75 thirty) (Ok
+      (0 ∷ 0 ∷ 0 ∷ 0 ∷ 0 ∷ 0 ∷ 0 ∷ 0 ∷ 0 ∷ 0 ∷ 0 ∷ 0 ∷ 0 ∷ 0 ∷ 0 ∷ 1 ∷ 1 ∷ 1 ∷ 1 ∷ 1 ∷ 1 ∷ 1 ∷
+      1 ∷ 1 ∷
       1 ∷ 1 ∷ 1 ∷ 1 ∷ 1 ∷ 1 ∷ []))
   pub widest : Gives (codes "schedule 1\n4294967295\nend\n") (Ok (4294967295 ∷ []))
   pub no_text : Gives [] (Err BadHeader)

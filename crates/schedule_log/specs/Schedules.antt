@@ -3,7 +3,8 @@
 -- for one move; in version 2 it is a ticket, a space and a count of 1 or more, and its ticket isn't that of the move line before it.
 -- A fault is told by the lines before it, which stand, and by the line at which they end: it is the least line that can't stand there.
 -- Numbers are digits without leading zeros, of any length, so a ticket or a count that is too great is still a number.
-use Rattle.std.specs.Prelude.{◌≡◌, ◌⊎◌, ℕ, zero, suc, ◌+◌, ◌^◌, ◌<◌, ◌≤◌, List, [], ◌∷◌, ◌++◌, length, Option, Some, None}
+use Rattle.std.specs.Prelude.{◌≡◌, ◌⊎◌, ℕ, zero, suc, ◌+◌, ◌^◌, ◌<◌, ◌≤◌, List, [], ◌∷◌, ◌++◌}
+use Rattle.std.specs.Prelude.{length, Option, Some, None}
 use Rattle.std.specs.Prelude.{codes, Result, Ok, Err}
 use Rattle.pcf_values.specs.Most.{most_moves, most_schedule_bytes}
 use Rattle.text_lines.specs.Lines.{IsEarly, end_line, lines}

@@ -28,6 +28,10 @@ impl Model for Log {
 
 impl Log {
     /// An empty log with room for so many moves, which it takes at once.
+    ///
+    /// # Errors
+    ///
+    /// Want of memory.
     pub fn with_room(alloc: Global, room: u32) -> Result<Log, AllocError>
         ensures { IfOk result (λ log. log ≡ empty_log room) }
     {
@@ -105,6 +109,10 @@ impl Log {
     }
 
     /// Another log with the same moves and the same room.
+    ///
+    /// # Errors
+    ///
+    /// Want of memory.
     pub fn copy(&self, alloc: Global) -> Result<Log, AllocError>
         ensures { IfOk result (λ log. log ≡ self.now) }
     {

@@ -10,6 +10,10 @@ use itoa::Buffer;
 use std::alloc::{AllocError, Global};
 
 /// The text of a log in version 2: a line for each longest run of one ticket.
+///
+/// # Errors
+///
+/// Want of memory.
 pub fn print_schedule(alloc: Global, log: &Log) -> Result<Vec<u8>, AllocError>
     ensures { IfOk result (λ text. text.items ≡ schedule_text (tickets_in_log log.now.entries)) }
 {

@@ -19,6 +19,10 @@ use text_lines::cut_line;
 /// The log that a schedule text of either version stands for, with room for its moves exactly, or the text's first fault.
 ///
 /// Each move has worker 0. A text of more than `SCHEDULE_BYTES` bytes, or of more than `SCHEDULE_MOVES` moves, is refused.
+///
+/// # Errors
+///
+/// The first fault of the text, with its line, counted from 1. Or want of memory.
 pub fn read_schedule(alloc: Global, bytes: &[u8]) -> Result<Log, ScheduleFault>
     ensures answer { ReadAs bytes.now (tickets_read result) }
     ensures log { IfOk result (λ log. log ≡ read_log (tickets_in_log log.entries)) }

@@ -1,6 +1,7 @@
 -- The digits with which bytes begin, by their length, and numbers that are counted digit by digit, up to the bound.
 -- Counting with the bound at each digit is counting without it and taking the bound at the end, since the bound, times ten, is above it.
-use Rattle.std.proofs.Common.{◌≡◌, ℕ, ◌+◌, ◌-◌, ◌*◌, Bool, true, false, List, [], ◌∷◌, length, take, drop, refl, ap, ◌∙◌, arith}
+use Rattle.std.proofs.Common.{◌≡◌, ℕ, ◌+◌, ◌-◌, ◌*◌, Bool, true, false, List, [], ◌∷◌, length, take, drop, refl}
+use Rattle.std.proofs.Common.{ap, ◌∙◌, arith}
 use Rattle.std.specs.Prelude.{if◌then◌else◌}
 use Rattle.std.specs.Char.{is_ascii_digit}
 use Rattle.std.specs.Str.{all_ascii_digits}
@@ -56,7 +57,8 @@ pub number_capped : (bs : List ℕ) → capped_after 0 (digits_in bs) ≡ capped
 number_capped bs = capped_on 0 (digits_in bs) ∙ ap capped (own.same (digits_in bs) (own.to (digits_in bs) (digits_in_are bs)))
 
 -- A number that is counted over so many first bytes is the digits' value, up to the bound.
-pub number_at : (bs : List ℕ) (k : ℕ) (ds : List ℕ) (n : ℕ) → k ≡ length (digits_in bs) → ds ≡ take k bs → n ≡ capped_after 0 ds →
+pub number_at : (bs : List ℕ) (k : ℕ) (ds : List ℕ) (n : ℕ) → k ≡ length (digits_in bs) → ds ≡ take k bs →
+    n ≡ capped_after 0 ds →
     n ≡ capped (digits_value 10 (digits_in bs))
 number_at bs k ds n e f g = g ∙ ap (capped_after 0) (f ∙ ap (λ k. take k bs) e ∙ digits_taken bs) ∙ number_capped bs
 

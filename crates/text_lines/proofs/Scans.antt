@@ -1,11 +1,13 @@
 -- The first line of a text, by its length.
-use Rattle.std.proofs.Common.{◌≡◌, ℕ, suc, ◌<◌, ◌≤◌, Bool, true, false, List, [], ◌∷◌, length, take, drop, refl, sym, ap, ◌∙◌, arith}
+use Rattle.std.proofs.Common.{◌≡◌, ℕ, suc, ◌<◌, ◌≤◌, Bool, true, false, List, [], ◌∷◌, length, take, drop, refl}
+use Rattle.std.proofs.Common.{sym, ap, ◌∙◌, arith}
 use Rattle.std.specs.Prelude.{nat_eq, if◌then◌else◌}
 use Rattle.text_lines.specs.Lines.{in_front, lines}
 use Rattle.text_lines.specs.Scanning.{first_length}
 
 -- one byte more in front
-line_at : (c : Bool) (b : ℕ) (bs : List ℕ) → (0 < length bs → lines bs ≡ take (first_length bs) bs ∷ lines (drop (first_length bs) bs)) →
+line_at : (c : Bool) (b : ℕ) (bs : List ℕ) → (0 < length bs → lines bs ≡ take (first_length bs) bs ∷
+    lines (drop (first_length bs) bs)) →
     (if c then (b ∷ []) ∷ lines bs else in_front b (lines bs)) ≡ take (if c then 1
     else suc (first_length bs)) (b ∷ bs) ∷ lines (drop (if c then 1 else suc (first_length bs)) (b ∷ bs))
 line_at true b bs h = refl

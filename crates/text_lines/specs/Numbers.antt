@@ -1,6 +1,7 @@
 -- Numbers in decimal, as digits without leading zeros; 0 is `0`. They may have any length.
 -- Digits are taken from the front of a text as far as they reach, so a number is always followed by another byte or by nothing.
-use Rattle.std.specs.Prelude.{◌≡◌, ℕ, ◌<◌, ◌^◌, min, Bool, true, ◌&&◌, List, [], ◌∷◌, length, get_or, nat_eq, nat_lt, if◌then◌else◌}
+use Rattle.std.specs.Prelude.{◌≡◌, ℕ, ◌<◌, ◌^◌, min, Bool, true, ◌&&◌, List, [], ◌∷◌, length, get_or, nat_eq}
+use Rattle.std.specs.Prelude.{nat_lt, if◌then◌else◌}
 use Rattle.std.specs.Char.{is_ascii_digit}
 use Rattle.std.specs.Str.{all_ascii_digits}
 use Rattle.std.specs.Str.Parse.{digits_value}

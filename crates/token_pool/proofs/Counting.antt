@@ -1,5 +1,6 @@
 -- The numbers that are kept beside the list of what workers hold, and what they are after a change at one place.
-use Rattle.std.proofs.Common.{◌≡◌, ℕ, zero, suc, ◌+◌, ◌-◌, ◌<◌, ◌≤◌, ◌^◌, List, [], ◌∷◌, length, set, replicate, slice_get, nat_eq, Option, Some, None, refl, sym, ap, ◌∙◌, arith, length-set}
+use Rattle.std.proofs.Common.{◌≡◌, ℕ, zero, suc, ◌+◌, ◌-◌, ◌<◌, ◌≤◌, ◌^◌, List, [], ◌∷◌, length, set}
+use Rattle.std.proofs.Common.{replicate, slice_get, nat_eq, Option, Some, None, refl, sym, ap, ◌∙◌, arith, length-set}
 use Rattle.std.proofs.lemmas.Bool.{ne_eqb}
 use Rattle.std.proofs.lemmas.List.{length-replicate}
 use Rattle.token_pool.specs.declared.entries.Held.{Held}
@@ -69,7 +70,8 @@ holder_in [] w a h = absurd cc
 holder_in (x ∷ xs) zero a h = let e : x ≡ a = cc in let s = ap holder e in let all = count_first x xs in omega (arith, s, all)
 holder_in (x ∷ xs) (suc w) a h = let ih = holder_in xs w a h in let all = count_first x xs in omega (arith, ih, all)
 
-allowance_in : (held : List (Option Held)) (w : ℕ) (a : Option Held) → slice_get held w ≡ Some a → allowance_of a ≤ allowances held
+allowance_in : (held : List (Option Held)) (w : ℕ) (a : Option Held) → slice_get held w ≡ Some a →
+    allowance_of a ≤ allowances held
 allowance_in [] w a h = absurd cc
 allowance_in (x ∷ xs) zero a h = let e : x ≡ a = cc in let s = ap allowance_of e in omega (arith, s)
 allowance_in (x ∷ xs) (suc w) a h = let ih = allowance_in xs w a h in omega (arith, ih)

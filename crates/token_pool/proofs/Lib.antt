@@ -1,8 +1,16 @@
+-- the numbers that are kept beside the list of what workers hold
 mod Counting
+-- the list of what workers hold, changed at one place
 mod Holding
+-- a pool starts good
 mod Starting
+-- what a worker's turn leaves
 mod Taking
+-- what booked moves leave
 mod Moving
+-- which tokens are free, and the search for the least one
 mod Free
+-- what a good pool gives to its calls, and what they give back
 mod Standing
+-- the finisher's moves, one after another
 pub mod Finishing

@@ -1,5 +1,7 @@
 -- What booked moves leave.
-use Rattle.std.proofs.Common.{◌≡◌, ◌<◌, ◌≤◌, ℕ, zero, suc, List, [], ◌∷◌, ◌++◌, length, set, replicate, Option, Some, None, refl, sym, ap, ◌∙◌, subst, ⊎_elim, append_assoc, append-nil, length-append, length-set, arith}
+use Rattle.std.proofs.Common.{◌≡◌, ◌<◌, ◌≤◌, ℕ, zero, suc, List, [], ◌∷◌, ◌++◌, length, set, replicate, Option}
+use Rattle.std.proofs.Common.{Some, None, refl, sym, ap, ◌∙◌, subst, ⊎_elim, append_assoc, append-nil, length-append, length-set}
+use Rattle.std.proofs.Common.{arith}
 use Rattle.std.specs.Option.{IsSome}
 use Rattle.std.specs.FinMap.{get}
 use Rattle.std.proofs.lemmas.List.{length-replicate}
@@ -31,18 +33,21 @@ record Many (net : NetTree) (log : List ℕ) (S : MapState) (i n : ℕ) (T : Map
   pub ours : IsOneWorkers net log → (1 ≤ n → Least (seen S) i) → IsOneWorkers net (log ++ replicate n i)
 
 -- a ticket that makes a step is live
-steps_live : (net : NetTree) (S T : MapState) (i n : ℕ) → 1 ≤ n → run_map net S (replicate n i) ≡ Some T → (y : TokenTree) × (get S.tokens i ≡ Some y)
+steps_live : (net : NetTree) (S T : MapState) (i n : ℕ) → 1 ≤ n → run_map net S (replicate n i) ≡ Some T → (y : TokenTree) ×
+    (get S.tokens i ≡ Some y)
 steps_live net S T i zero l h = absurd (omega arith)
 steps_live net S T i (suc n) l h = go (get S.tokens i) refl
   where
     go : (o : Option TokenTree) → get S.tokens i ≡ o → (y : TokenTree) × (get S.tokens i ≡ Some y)
     go (Some y) e = (y, e)
     go None e =
-        let none : run_map net S (i ∷ replicate n i) ≡ None = ap (λ o. then_run_map (step_map_on net o S i) (λ S. run_map net S (replicate n i))) e in
+        let none : run_map net S (i ∷ replicate n i) ≡ None =
+        ap (λ o. then_run_map (step_map_on net o S i) (λ S. run_map net S (replicate n i))) e in
         absurd cc
 
 module _ (net : NetTree) (runs : Runs net) where
-  many : (n i : ℕ) (log : List ℕ) (S T : MapState) → LeadsToMap net log S → run_map net S (replicate n i) ≡ Some T → Many net log S i n T
+  many : (n i : ℕ) (log : List ℕ) (S T : MapState) → LeadsToMap net log S → run_map net S (replicate n i) ≡ Some T →
+      Many net log S i n T
   many zero i log S T l h =
       let e : S ≡ T = cc in
       record {
@@ -58,8 +63,10 @@ module _ (net : NetTree) (runs : Runs net) where
       together : (log ++ i ∷ []) ++ replicate n i ≡ log ++ replicate (suc n) i
       together = append_assoc log (i ∷ []) (replicate n i)
 
-      go : ((S T : MapState) → LeadsToMap net (log ++ i ∷ []) S → run_map net S (replicate n i) ≡ Some T → Many net (log ++ i ∷ []) S i n T)
-          → (o : Option MapState) → step_map net S i ≡ o → then_run_map o (λ S. run_map net S (replicate n i)) ≡ Some T → Many net log S i (suc n) T
+      go : ((S T : MapState) → LeadsToMap net (log ++ i ∷ []) S → run_map net S (replicate n i) ≡ Some T →
+          Many net (log ++ i ∷ []) S i n T)
+          → (o : Option MapState) → step_map net S i ≡ o → then_run_map o (λ S. run_map net S (replicate n i)) ≡ Some T →
+          Many net log S i (suc n) T
       go ih None e h = absurd cc
       go ih (Some U) e h =
           let next = run_both net log (i ∷ []) (start_map (start_of net)) S U l (ap (λ o. then_run_map o (λ S. Some S)) e) in
@@ -71,8 +78,10 @@ module _ (net : NetTree) (runs : Runs net) where
             stays = λ j x at d.
                 rest.stays j x (map_others net runs.sound log S l U i j x e d at) d;
             ours = λ its least.
-                subst (IsOneWorkers net) together (rest.ours (ap (one net) longer ∙ one_next net runs log (seen S) led i its (least (omega arith)))
-                (λ k. let (y, at) = steps_live net U T i n k h in least_stays net runs log (seen S) led (seen U) i y (least (omega arith)) stepped at));
+                subst (IsOneWorkers net) together
+                (rest.ours (ap (one net) longer ∙ one_next net runs log (seen S) led i its (least (omega arith)))
+                (λ k. let (y, at) = steps_live net U T i n k h in
+                least_stays net runs log (seen S) led (seen U) i y (least (omega arith)) stepped at));
           }
 
 -- the tickets of one log behind another
@@ -89,7 +98,8 @@ tickets_of : (n i w : ℕ) → tickets_in_log (moves_of n i w) ≡ replicate n i
 tickets_of zero i w = refl
 tickets_of (suc n) i w = ap (λ l. i ∷ l) (tickets_of n i w)
 
-module _ (p : Pool) (good : Good p) (w : ℕ) (h : Held) (at : Holds p.held w h) (l : w < p.workers) (n : ℕ) (some : 1 ≤ n) (few : n ≤ h.allowance) (T : MapState) (steps : run_map p.net p.state (replicate n h.ticket) ≡ Some T) where
+module _ (p : Pool) (good : Good p) (w : ℕ) (h : Held) (at : Holds p.held w h) (l : w < p.workers) (n : ℕ) (some : 1 ≤ n)
+    (few : n ≤ h.allowance) (T : MapState) (steps : run_map p.net p.state (replicate n h.ticket) ≡ Some T) where
   names : tickets_in_log p.log ++ replicate n h.ticket ≡ tickets_in_log (p.log ++ moves_of n h.ticket w)
   names = ap (λ l. tickets_in_log p.log ++ l) (sym (tickets_of n h.ticket w)) ∙ sym (tickets_both p.log (moves_of n h.ticket w))
 
@@ -122,9 +132,11 @@ module _ (p : Pool) (good : Good p) (w : ℕ) (h : Held) (at : Holds p.held w h)
         let k : length (moves_of n h.ticket w) ≡ n = length-replicate n _ in
         let i = good.within in
         omega (arith, s, m, k, i, few);
-    makers = All-append (λ e. e.worker ≤ p.workers) p.log (moves_of n h.ticket w) good.makers (All-replicate (λ (e : Entry). e.worker ≤ p.workers) n _ (omega arith));
+    makers = All-append (λ e. e.worker ≤ p.workers) p.log (moves_of n h.ticket w) good.makers
+        (All-replicate (λ (e : Entry). e.worker ≤ p.workers) n _ (omega arith));
     alone = λ single. record {
-      ours = subst (IsOneWorkers p.net) names (made.ours (good.alone single).ours (λ _. least_seen p.state h.ticket ((good.alone single).least w h at)));
+      ours = subst (IsOneWorkers p.net) names (made.ours (good.alone single).ours
+          (λ _. least_seen p.state h.ticket ((good.alone single).least w h at)));
       least = λ v g a. absurd (alone_holds single v g (other_held v g a));
     };
   }
@@ -135,7 +147,8 @@ module _ (p : Pool) (good : Good p) (w : ℕ) (h : Held) (at : Holds p.held w h)
       alone_holds : p.workers ≡ 1 → (v : ℕ) (g : Held) → (v ≡ w → ⊥) × Holds p.held v g → ⊥
       alone_holds single v g (d, a) = let b = place v g a in let c = good.places in d (omega (arith, b, c, single, l))
 
-pub book_keeps : (p q : Pool) (w : ℕ) (h : Held) (n : ℕ) → Good p → Holds p.held w h → w < p.workers → 1 ≤ n → n ≤ h.allowance → Books p q w h n → Good q
+pub book_keeps : (p q : Pool) (w : ℕ) (h : Held) (n : ℕ) → Good p → Holds p.held w h → w < p.workers → 1 ≤ n →
+    n ≤ h.allowance → Books p q w h n → Good q
 book_keeps p q w h n good at l some few b = subst Good (sym b.rest) (books_good p good w h at l n some few q.state b.steps)
 
 pub stop_keeps : (p : Pool) → Good p → Good (halted p)

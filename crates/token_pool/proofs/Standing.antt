@@ -1,5 +1,6 @@
 -- What a good pool gives to the calls that it makes, and what they give to it.
-use Rattle.std.proofs.Common.{◌≡◌, ◌<◌, ◌≤◌, ◌+◌, ◌^◌, ℕ, false, List, [], ◌++◌, length, replicate, set, slice_get, Option, Some, None, sym, ap, ◌∙◌, subst, arith}
+use Rattle.std.proofs.Common.{◌≡◌, ◌<◌, ◌≤◌, ◌+◌, ◌^◌, ℕ, false, List, [], ◌++◌, length, replicate, set}
+use Rattle.std.proofs.Common.{slice_get, Option, Some, None, sym, ap, ◌∙◌, subst, arith}
 use Rattle.std.specs.Option.{IsSome}
 use Rattle.std.specs.FinMap.{get, len}
 use Rattle.pcf_values.specs.Most.{most_budget}
@@ -55,13 +56,18 @@ told_live p P w t good e l h = go t (h ∙ ap (λ P. turn P w) (sym e))
     go Reserved h = tt
 
 -- and a pool in which the worker holds it is good
-pub told_good : (p P : Pool) (w : ℕ) (t : Told) (held : List (Option Held)) → Good p → p ≡ P → w < P.workers → t ≡ turn P w → held ≡ held_after t p.held w → Good (record p { held = held })
+pub told_good : (p P : Pool) (w : ℕ) (t : Told) (held : List (Option Held)) → Good p → p ≡ P → w < P.workers →
+    t ≡ turn P w → held ≡ held_after t p.held w → Good (record p { held = held })
 told_good p P w t held good e l h s =
-    let k : taken p w ≡ record p { held = held } = ap (λ (h : List (Option Held)). record p { held = h }) (ap (λ t. held_after t p.held w) (ap (λ P. turn P w) e ∙ sym h) ∙ sym s) in
+    let k : taken p w ≡ record p { held = held } =
+    ap (λ (h : List (Option Held)). record p { held = h }) (ap (λ t. held_after t p.held w) (ap (λ P. turn P w) e ∙ sym h) ∙
+    sym s) in
     subst Good k (take_keeps p w good (subst (λ (P : Pool). w < P.workers) (sym e) l))
 
-pub start_ready : (net net' : NetTree) (budget workers : ℕ) (S : MapState) (log : List Entry) (held : List (Option Held)) → Runs net → InLimits budget workers
-    → net' ≡ net → S ≡ start_map (start_of net) → log ≡ [] → held ≡ none_held_by workers → Good (pool net' budget workers S log held false)
+pub start_ready : (net net' : NetTree) (budget workers : ℕ) (S : MapState) (log : List Entry) (held : List (Option Held)) → Runs net →
+    InLimits budget workers
+    → net' ≡ net → S ≡ start_map (start_of net) → log ≡ [] → held ≡ none_held_by workers →
+    Good (pool net' budget workers S log held false)
 start_ready net net' budget workers S log held runs limits e f g h =
     let k : pool net' budget workers S log held false ≡ started net budget workers =
     ap (λ n. pool n budget workers S log held false) e ∙ ap (λ S. pool net budget workers S log held false) f
@@ -88,16 +94,29 @@ module _ (p : Pool) (good : Good p) (w : ℕ) (h : Held) (owned : own p.held w �
   pub let_go_small : allowances (set p.held w None) < 2 ^ 32
   let_go_small = let s = sum_after_set p.held w (Some h) None holds in let i = within_small p good in omega (arith, s, i)
 
-  module _ (n : ℕ) (S : MapState) (log : List Entry) (held : List (Option Held)) (made : run_map p.net p.state (replicate n h.ticket) ≡ Some S) (e : log ≡ p.log ++ moves_of n h.ticket w) (f : held ≡ set p.held w None) where
+  module _ (n : ℕ) (S : MapState) (log : List Entry) (held : List (Option Held))
+      (made : run_map p.net p.state (replicate n h.ticket) ≡ Some S) (e : log ≡ p.log ++
+      moves_of n h.ticket w) (f : held ≡ set p.held w None) where
     pub books : Books p (record p { state = S; log = log; held = held }) w h n
     books = record {
       steps = made;
-      rest = ap (λ l. record p { state = S; log = l; held = held }) e ∙ ap (λ k. record p { state = S; log = p.log ++ moves_of n h.ticket w; held = k }) f;
+      rest = ap (λ l. record p { state = S; log = l; held = held }) e ∙
+          ap (λ k. record p { state = S; log = p.log ++ moves_of n h.ticket w; held = k }) f;
     }
 
-    pub still_good : (P : Pool) → p ≡ P → w < P.workers → 1 ≤ n → n ≤ h.allowance → Good (record p { state = S; log = log; held = held })
+    pub still_good : (P : Pool) → p ≡ P → w < P.workers → 1 ≤ n → n ≤ h.allowance →
+        Good (record p { state = S; log = log; held = held })
     still_good P q l some few =
-        book_keeps p (record p { state = S; log = log; held = held }) w h n good holds (subst (λ (P : Pool). w < P.workers) (sym q) l) some few books
+        book_keeps p (record p { state = S; log = log; held = held }) w h n good holds (subst (λ (P : Pool). w < P.workers) (sym q) l) some
+        few books
 
-    pub booked_as : (P : Pool) (m : Passage) (k : ℕ) → p ≡ P → k ≡ length p.log → Moves p.net p.state h m n → BookedAs P (record p { state = S; log = log; held = held }) w m (Done k)
-    booked_as P m k q c moves = subst (λ P. BookedAs P (record p { state = S; log = log; held = held }) w m (Done k)) q (h, n, holds, c, moves, books)
+    pub booked_as : (P : Pool) (m : Passage) (k : ℕ) → p ≡ P → k ≡ length p.log → Moves p.net p.state h m n →
+        BookedAs P (record p { state = S; log = log; held = held }) w m (Done k)
+    booked_as P m k q c moves = subst (λ P. BookedAs P (record p { state = S; log = log; held = held }) w m (Done k)) q (
+      h,
+      n,
+      holds,
+      c,
+      moves,
+      books,
+    )

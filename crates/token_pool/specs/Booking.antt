@@ -34,7 +34,8 @@ HoldsOther p w m = (h : Held) × Holds p.held w h × (Accepts p.net p.state h.ti
 -- what a worker that hands in a walk is told: that it holds nothing, or after how many moves its own were booked
 abbrev pub BookedAs : Pool → Pool → ℕ → Passage → Booked → Type 0
 BookedAs p q w m NothingHeld = (own p.held w ≡ None) × (q ≡ p)
-BookedAs p q w m (Done k) = (h : Held) × (n : ℕ) × Holds p.held w h × (k ≡ length p.log) × Moves p.net p.state h m n × Books p q w h n
+BookedAs p q w m (Done k) = (h : Held) × (n : ℕ) × Holds p.held w h × (k ≡ length p.log) × Moves p.net p.state h m n ×
+    Books p q w h n
 
 -- the pool, stopped
 abbrev pub halted : Pool → Pool

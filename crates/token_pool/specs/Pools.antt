@@ -2,7 +2,8 @@
 -- What each worker holds is a list with a place for each worker. The log of the moves made is all that a run may choose: the machine's
 -- state is the one that its tickets lead to. The allowance of a held ticket is the number of moves that are set aside for it, so that
 -- moves made elsewhere can be booked later within the budget.
-use Rattle.std.specs.Prelude.{◌≡◌, ◌≤◌, ◌+◌, ℕ, suc, Bool, false, List, [], ◌∷◌, length, replicate, Option, Some, None, slice_get}
+use Rattle.std.specs.Prelude.{◌≡◌, ◌≤◌, ◌+◌, ℕ, suc, Bool, false, List, [], ◌∷◌, length, replicate, Option, Some}
+use Rattle.std.specs.Prelude.{None, slice_get}
 use Rattle.pcf_values.specs.Most.{most_budget, most_workers}
 use Rattle.net_build.specs.Nets.{NetTree}
 use Rattle.interleave_laws.specs.Start.{start_of}

@@ -1,7 +1,8 @@
 -- What a worker is given, by the first of six lines that holds, and what the pool is afterwards.
 -- A token that is free is a live one whose ticket nobody holds. Where none is free, somebody holds one: a run that has no live token
 -- has its answer. Where a token is free but all of the budget is made or set aside, something is set aside for somebody.
-use Rattle.std.specs.Prelude.{◌≡◌, ◌<◌, ◌+◌, ◌-◌, ◌/◌, ℕ, min, max, ◌&&◌, ◌||◌, ◌∷◌, nat_eq, if◌then◌else◌}
+use Rattle.std.specs.Prelude.{◌≡◌, ◌<◌, ◌+◌, ◌-◌, ◌/◌, ℕ, min, max, ◌&&◌, ◌||◌, ◌∷◌, nat_eq}
+use Rattle.std.specs.Prelude.{if◌then◌else◌}
 use Rattle.std.specs.Prelude.{Bool, true, false, not, List, [], length, set, Option, Some, None, is_some, slice_get}
 use Rattle.std.specs.Ordering.{nat_cmp}
 use Rattle.std.specs.FinMap.{FinMap, get, retain_keys, len}

@@ -75,6 +75,10 @@ fn lists_of(alloc: Global, budget: u32, workers: u32) -> Result<(Log, Places), A
 
 impl PoolState {
     /// The pool in which a run of this net begins, with a copy of the net of its own. It takes all the memory that its log will need.
+    ///
+    /// # Errors
+    ///
+    /// Want of memory.
     pub fn start(
         alloc: Global,
         net: &Net,

@@ -1,5 +1,6 @@
 -- Each step on the words of a box stack is the step on its signatures.
-use Rattle.std.proofs.Common.{◌≡◌, ℕ, ◌+◌, ◌-◌, ◌<◌, ◌≤◌, List, [], ◌∷◌, ◌++◌, length, get_or, set, take, drop, refl, sym, ◌∙◌, ap, subst}
+use Rattle.std.proofs.Common.{◌≡◌, ℕ, ◌+◌, ◌-◌, ◌<◌, ◌≤◌, List, [], ◌∷◌, ◌++◌, length, get_or, set}
+use Rattle.std.proofs.Common.{take, drop, refl, sym, ◌∙◌, ap, subst}
 use Rattle.std.proofs.Common.{arith, length-append, Option, Some, None, Bool, eq-eqb}
 use Rattle.std.proofs.lemmas.List.{append_assoc}
 use Rattle.std.specs.Option.{IsSome}
@@ -50,16 +51,19 @@ long_box [] ws n e h p = absurd (let q : length ws ≡ 0 = ap length e in omega 
 pub empty_box : (t : List Sig) (ws : List ℕ) → ws ≡ box_words t → ws ≡ [] → t ≡ []
 empty_box [] ws e h = refl
 empty_box (s ∷ t) ws e h =
-    absurd (let q : length ws ≡ 0 = ap length h in let r : length ws ≡ length (box_words t) + length (entry s) = length_both (box_words t)
+    absurd (let q : length ws ≡ 0 = ap length h in
+    let r : length ws ≡ length (box_words t) + length (entry s) = length_both (box_words t)
     (entry s) ws e in omega (arith, length-append (body s) (length (body s) ∷ [])))
 
 pub empty_words : (t : List Sig) (ws : List ℕ) → ws ≡ box_words t → t ≡ [] → ws ≡ []
 empty_words t ws e h = e ∙ ap box_words h
 
-entry_words : (s : Sig) (t : List Sig) (ws : List ℕ) → ws ≡ box_words (s ∷ t) → ws ≡ (box_words t ++ body s) ++ length (body s) ∷ []
+entry_words : (s : Sig) (t : List Sig) (ws : List ℕ) → ws ≡ box_words (s ∷ t) → ws ≡ (box_words t ++ body s) ++
+    length (body s) ∷ []
 entry_words s t ws e = e ∙ sym (append_assoc (box_words t) (body s) (length (body s) ∷ []))
 
-pub entry_length : (s : Sig) (t : List Sig) (ws : List ℕ) → ws ≡ box_words (s ∷ t) → length ws ≡ length (box_words t) + length (body s) + 1
+pub entry_length : (s : Sig) (t : List Sig) (ws : List ℕ) → ws ≡ box_words (s ∷ t) →
+    length ws ≡ length (box_words t) + length (body s) + 1
 entry_length s t ws e =
     omega (
       arith,
@@ -67,13 +71,15 @@ entry_length s t ws e =
       length-append (box_words t) (body s),
     )
 
-size_b : (s : Sig) (t : List Sig) (ws : List ℕ) (n k : ℕ) → ws ≡ box_words (s ∷ t) → n ≡ length ws → k ≡ get_or ws (n - 1) k
+size_b : (s : Sig) (t : List Sig) (ws : List ℕ) (n k : ℕ) → ws ≡ box_words (s ∷ t) → n ≡ length ws →
+    k ≡ get_or ws (n - 1) k
     → k ≡ length (body s)
 size_b s t ws n k e h r =
     word_at (box_words t ++ body s) (length (body s)) [] ws (n - 1) k (entry_words s t ws e)
     (omega (arith, entry_length s t ws e, length-append (box_words t) (body s))) r
 
-tag_b : (s : Sig) (t : List Sig) (ws : List ℕ) (n a : ℕ) → ws ≡ box_words (s ∷ t) → n ≡ length ws → a ≡ get_or ws (n - 2) a → a ≡ tag s
+tag_b : (s : Sig) (t : List Sig) (ws : List ℕ) (n a : ℕ) → ws ≡ box_words (s ∷ t) → n ≡ length ws →
+    a ≡ get_or ws (n - 2) a → a ≡ tag s
 tag_b s t ws n a e h r =
     word_at (box_words t ++ stem s) (tag s) (length (body s) ∷ []) ws (n - 2) a
     (e ∙ ap (λ (z : List ℕ). box_words t ++ (z ++ length (body s) ∷ [])) (body_ends s)
@@ -81,7 +87,8 @@ tag_b s t ws n a e h r =
     ∙ sym (append_assoc (box_words t) (stem s) (tag s ∷ length (body s) ∷ [])))
     (omega (arith, entry_length s t ws e, length-append (box_words t) (stem s), body_long s)) r
 
-pub box_fits : (t : List Sig) (ws : List ℕ) (n k : ℕ) → ws ≡ box_words t → BoxTop t → n ≡ length ws → k ≡ get_or ws (n - 1) k
+pub box_fits : (t : List Sig) (ws : List ℕ) (n k : ℕ) → ws ≡ box_words t → BoxTop t → n ≡ length ws →
+    k ≡ get_or ws (n - 1) k
     → (k ≤ n - 1) × (1 ≤ k) × (2 ≤ n)
 box_fits t ws n k e T h q =
     let e' : ws ≡ box_words (T.sig ∷ T.rest) = e ∙ ap box_words T.is in
@@ -91,15 +98,18 @@ box_fits t ws n k e T h q =
       omega (arith, entry_length T.sig T.rest ws e', body_long T.sig),
     )
 
-pub box_top_is : (t : List Sig) (ws : List ℕ) (n k : ℕ) → ws ≡ box_words t → BoxTop t → n ≡ length ws → k ≡ get_or ws (n - 1) k
+pub box_top_is : (t : List Sig) (ws : List ℕ) (n k : ℕ) → ws ≡ box_words t → BoxTop t → n ≡ length ws →
+    k ≡ get_or ws (n - 1) k
     → Some (take (n - 1 - (n - 1 - k)) (drop (n - 1 - k) ws)) ≡ box_body t
 box_top_is t ws n k e T h q =
     let e' : ws ≡ box_words (T.sig ∷ T.rest) = e ∙ ap box_words T.is in
     let size : k ≡ length (body T.sig) = size_b T.sig T.rest ws n k e' h q in
-    ap (λ (z : List ℕ). Some z) (piece_at (box_words T.rest) (body T.sig) (length (body T.sig) ∷ []) ws (n - 1 - k) (n - 1 - (n - 1 - k)) e'
+    ap (λ (z : List ℕ). Some z) (piece_at (box_words T.rest) (body T.sig) (length (body T.sig) ∷ []) ws (n - 1 - k)
+    (n - 1 - (n - 1 - k)) e'
     (omega (arith, entry_length T.sig T.rest ws e')) (omega (arith, entry_length T.sig T.rest ws e'))) ∙ ap box_body (sym T.is)
 
-pub box_pushes : (s : Sig) (b : List ℕ) (t : List Sig) (ws vs : List ℕ) → b ≡ body s → ws ≡ box_words t → vs ≡ ws ++ (b ++ length b ∷ [])
+pub box_pushes : (s : Sig) (b : List ℕ) (t : List Sig) (ws vs : List ℕ) → b ≡ body s → ws ≡ box_words t → vs ≡ ws ++
+    (b ++ length b ∷ [])
     → vs ≡ box_words (s ∷ t)
 box_pushes s b t ws vs f e v =
     v ∙ ap (λ (z : List ℕ). z ++ (b ++ length b ∷ [])) e ∙ ap (λ (z : List ℕ). box_words t ++ (z ++ length z ∷ [])) f
@@ -116,7 +126,8 @@ pops_box t ws vs n k e T h q v =
     }
 
 -- a signature whose body has one word is a `*`, and what is left lies before both of its words
-pub pops_box_star : (t : List Sig) (ws vs : List ℕ) (n k : ℕ) → (held : ws ≡ box_words t) → (T : BoxTop t) → (long : n ≡ length ws)
+pub pops_box_star : (t : List Sig) (ws vs : List ℕ) (n k : ℕ) → (held : ws ≡ box_words t) → (T : BoxTop t) →
+    (long : n ≡ length ws)
     → (sized : k ≡ get_or ws (n - 1) k) → (one : k ≡ 1) → (cut : vs ≡ take (n - 2) ws) → BoxTurns (popped_box_star t) vs
 pops_box_star t ws vs n k e T h q u v =
     let e' : ws ≡ box_words (T.sig ∷ T.rest) = e ∙ ap box_words T.is in
@@ -128,7 +139,8 @@ pops_box_star t ws vs n k e T h q u v =
       words = v ∙ take_after (box_words T.rest) (entry T.sig) ws (n - 2) e' (omega (arith, entry_length T.sig T.rest ws e'));
     }
 
-entry_made : (r : List Sig) (s : Sig) (b : List ℕ) (j : ℕ) → body s ≡ b → j ≡ length b → (box_words r ++ b) ++ j ∷ [] ≡ box_words (s ∷ r)
+entry_made : (r : List Sig) (s : Sig) (b : List ℕ) (j : ℕ) → body s ≡ b → j ≡ length b → (box_words r ++ b) ++ j ∷
+    [] ≡ box_words (s ∷ r)
 entry_made r s b j e h =
     ap (λ (z : ℕ). (box_words r ++ b) ++ z ∷ []) h
     ∙ ap (λ (z : List ℕ). (box_words r ++ z) ++ length z ∷ []) (sym e)
@@ -136,7 +148,8 @@ entry_made r s b j e h =
 
 -- The second part of a `y` comes from another stack: it lies above the size of the first part, and the two change places. Then its
 -- own size goes where the first part's was brought to, and the size of the whole to the end.
-pub joins : (s : Sig) (b : List ℕ) (t : List Sig) (ws us xs vs : List ℕ) (n k l : ℕ) → (of_s : b ≡ body s) → (held : ws ≡ box_words t)
+pub joins : (s : Sig) (b : List ℕ) (t : List Sig) (ws us xs vs : List ℕ) (n k l : ℕ) → (of_s : b ≡ body s) →
+    (held : ws ≡ box_words t)
     → (T : BoxTop t) → (long : n ≡ length ws) → (sized : k ≡ get_or ws (n - 1) k) → (added : us ≡ ws ++ (b ++ 4 ∷ 0 ∷ []))
     → (longer : l ≡ length us) → (brought : Swaps us xs (n - 1) n (n + length b))
     → (sizes : vs ≡ set (set xs (l - 3) (length b)) (l - 1) (l - (n - k))) → BoxTurns (joined s t) vs
@@ -152,9 +165,11 @@ joins s b t ws us xs vs n k l of_s held T long sized added longer brought sizes 
     let ll : l ≡ length ws + (length b + 2) =
     omega (arith, longer, length_both ws (b ++ 4 ∷ 0 ∷ []) us added, length-append b (4 ∷ 0 ∷ [])) in
     let us' : us ≡ A ++ (z ∷ [] ++ (b ++ 4 ∷ 0 ∷ [])) =
-    added ∙ ap (λ (y : List ℕ). y ++ (b ++ 4 ∷ 0 ∷ [])) (entry_words x r ws e') ∙ append_assoc A (z ∷ []) (b ++ 4 ∷ 0 ∷ []) in
+    added ∙ ap (λ (y : List ℕ). y ++ (b ++ 4 ∷ 0 ∷ [])) (entry_words x r ws e') ∙
+    append_assoc A (z ∷ []) (b ++ 4 ∷ 0 ∷ []) in
     let moved : xs ≡ (A ++ b) ++ z ∷ 4 ∷ 0 ∷ [] =
-    brought.parts A (z ∷ []) b (4 ∷ 0 ∷ []) us' (omega arith) (omega arith) (omega arith) ∙ sym (append_assoc A b (z ∷ 4 ∷ 0 ∷ [])) in
+    brought.parts A (z ∷ []) b (4 ∷ 0 ∷ []) us' (omega arith) (omega arith) (omega arith) ∙
+    sym (append_assoc A b (z ∷ 4 ∷ 0 ∷ [])) in
     let lAb : length (A ++ b) ≡ length A + length b = length-append A b in
     let G : List ℕ = ((A ++ b) ++ length b ∷ []) ++ 4 ∷ [] in
     let lG : length G ≡ length A + length b + 2 =
@@ -168,13 +183,15 @@ joins s b t ws us xs vs n k l of_s held T long sized added longer brought sizes 
     let C : List ℕ = b ++ length b ∷ 4 ∷ [] in
     let G_is : G ≡ box_words r ++ (body x ++ C) =
     sym (one_on (A ++ b) (length b) (4 ∷ [])) ∙ append_assoc A b (length b ∷ 4 ∷ []) ∙ append_assoc (box_words r) (body x) C in
-    let lB : length (body x ++ C) ≡ z + (length b + 2) = omega (arith, length-append (body x) C, length-append b (length b ∷ 4 ∷ [])) in
+    let lB : length (body x ++ C) ≡ z + (length b + 2) =
+    omega (arith, length-append (body x) C, length-append b (length b ∷ 4 ∷ [])) in
     record {
       left = again x s ∷ r;
       is = ap (joined s) T.is;
       words =
           sizes ∙ two ∙ ap (λ (y : List ℕ). y ++ j ∷ []) G_is
-          ∙ entry_made r (again x s) (body x ++ C) j (ap (λ (y : List ℕ). body x ++ (y ++ length y ∷ 4 ∷ [])) (sym of_s)) (omega arith);
+          ∙ entry_made r (again x s) (body x ++ C) j (ap (λ (y : List ℕ). body x ++ (y ++ length y ∷ 4 ∷ [])) (sym of_s))
+          (omega arith);
     }
 
 -- a `y` on top
@@ -191,7 +208,8 @@ again_tagged (right_of s) r h = absurd (omega arith)
 again_tagged (pair_of s u) r h = absurd (omega arith)
 again_tagged (again s u) r h = record { first = s; second = u; rest = r; is = refl }
 
-pub again_top : (t : List Sig) (ws : List ℕ) (n a : ℕ) → (held : ws ≡ box_words t) → (long : n ≡ length ws) → (enough : 2 ≤ n)
+pub again_top : (t : List Sig) (ws : List ℕ) (n a : ℕ) → (held : ws ≡ box_words t) → (long : n ≡ length ws) →
+    (enough : 2 ≤ n)
     → (read : a ≡ get_or ws (n - 2) a) → (found : a ≡ 4) → AgainTop t
 again_top t ws n a e h p q u =
     let T : BoxTop t = long_box t ws n e h (omega arith) in
@@ -207,7 +225,8 @@ some_again (right_of s ∷ t) h = cc
 some_again (pair_of s u ∷ t) h = cc
 some_again [] h = cc
 
-pub no_again : (t : List Sig) (ws : List ℕ) (n a : ℕ) → ws ≡ box_words t → n ≡ length ws → a ≡ get_or ws (n - 2) a → (a ≡ 4 → ⊥)
+pub no_again : (t : List Sig) (ws : List ℕ) (n a : ℕ) → ws ≡ box_words t → n ≡ length ws → a ≡ get_or ws (n - 2) a →
+    (a ≡ 4 → ⊥)
     → None ≡ again_body t
 no_again [] ws n a e h r p = refl
 no_again (star ∷ t) ws n a e h r p = refl
@@ -236,7 +255,8 @@ again_words t ws n j e T h p =
     let le : length ws ≡ length (box_words r) + length (body (again u s)) + 1 = entry_length (again u s) r ws e' in
     let lp : length (body (again u s)) ≡ length (body u) + length (body s) + 2 = length_again u s in
     let open_is : ws ≡ (box_words r ++ body u) ++ (body s ++ length (body s) ∷ 4 ∷ length (body (again u s)) ∷ []) =
-    e' ∙ ap (λ (z : List ℕ). box_words r ++ z) (append_assoc (body u) (body s ++ length (body s) ∷ 4 ∷ []) (length (body (again u s)) ∷ [])
+    e' ∙ ap (λ (z : List ℕ). box_words r ++ z) (append_assoc (body u) (body s ++ length (body s) ∷ 4 ∷ [])
+    (length (body (again u s)) ∷ [])
     ∙ ap (λ (z : List ℕ). body u ++ z) (append_assoc (body s) (length (body s) ∷ 4 ∷ []) (length (body (again u s)) ∷ [])))
     ∙ sym (append_assoc (box_words r) (body u) (body s ++ length (body s) ∷ 4 ∷ length (body (again u s)) ∷ [])) in
     let F : List ℕ = (box_words r ++ body u) ++ body s in
@@ -267,7 +287,8 @@ again_body_is t ws n j T w =
     let two : j ≡ length (body T.second) = w.second in
     let all : n ≡ length (box_words T.rest) + length (body T.first) + length (body T.second) + 3 = w.whole in
     ap (λ (z : List ℕ). Some z)
-    (piece_at (box_words T.rest ++ body T.first) (body T.second) (length (body T.second) ∷ 4 ∷ length (body (again T.first T.second)) ∷ [])
+    (piece_at (box_words T.rest ++ body T.first) (body T.second) (length (body T.second) ∷ 4 ∷
+    length (body (again T.first T.second)) ∷ [])
     ws (n - 3 - j) (n - 3 - (n - 3 - j)) w.words
     (omega (arith, length-append (box_words T.rest) (body T.first))) (omega arith))
     ∙ ap again_body (sym T.is)
@@ -302,7 +323,8 @@ parts t ws vs n k j e T w h q v =
           ∙ entry_made r u (body u) y refl (omega arith);
     }
 
-pub empty_test : (t : List Sig) (ws : List ℕ) (n : ℕ) (b : Bool) → ws ≡ box_words t → n ≡ length ws → b ≡ (n == 0) → IsTrue b ↔ (t ≡ [])
+pub empty_test : (t : List Sig) (ws : List ℕ) (n : ℕ) (b : Bool) → ws ≡ box_words t → n ≡ length ws → b ≡ (n == 0) →
+    IsTrue b ↔ (t ≡ [])
 empty_test [] ws n b e h q =
     let z : n ≡ 0 = h ∙ ap length e in
     (λ _. refl, λ _. q ∙ eq-eqb n 0 z)

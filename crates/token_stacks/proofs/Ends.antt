@@ -1,5 +1,6 @@
 -- What the words of a signature end in, and reads and writes at the end of words.
-use Rattle.std.proofs.Common.{◌≡◌, ℕ, ◌+◌, List, [], ◌∷◌, ◌++◌, length, get_or, set, take, drop, refl, sym, ◌∙◌, ap, arith, length-append}
+use Rattle.std.proofs.Common.{◌≡◌, ℕ, ◌+◌, List, [], ◌∷◌, ◌++◌, length, get_or, set, take, drop, refl, sym, ◌∙◌}
+use Rattle.std.proofs.Common.{ap, arith, length-append}
 use Rattle.std.proofs.lemmas.List.{append_assoc, get_or_at, set_at, take_at, drop_at}
 use Rattle.token_stacks.specs.Signatures.{Sig, star, left_of, right_of, pair_of, again}
 use Rattle.token_stacks.specs.Words.{body}
@@ -64,7 +65,8 @@ length_again s u = omega
     (arith, length-append (body s) (body u ++ length (body u) ∷ 4 ∷ []), length-append (body u) (length (body u) ∷ 4 ∷ []))
 
 -- a word that is read after f
-pub word_at : (f : List ℕ) (x : ℕ) (g ws : List ℕ) (i a : ℕ) → ws ≡ f ++ x ∷ g → i ≡ length f → a ≡ get_or ws i a → a ≡ x
+pub word_at : (f : List ℕ) (x : ℕ) (g ws : List ℕ) (i a : ℕ) → ws ≡ f ++ x ∷ g → i ≡ length f → a ≡ get_or ws i a →
+    a ≡ x
 word_at f x g ws i a e h r = r ∙ ap (λ (z : List ℕ). get_or z i a) e ∙ get_or_at f x g a i (sym h)
 
 -- one word moves from the second list to the first
@@ -74,7 +76,8 @@ one_on f x g = sym (append_assoc f (x ∷ []) g)
 pub length_on : (f : List ℕ) (x : ℕ) → length (f ++ x ∷ []) ≡ length f + 1
 length_on f x = length-append f (x ∷ [])
 
-pub set_after : (f : List ℕ) (x : ℕ) (g ws : List ℕ) (i y : ℕ) → ws ≡ f ++ x ∷ g → i ≡ length f → set ws i y ≡ f ++ y ∷ g
+pub set_after : (f : List ℕ) (x : ℕ) (g ws : List ℕ) (i y : ℕ) → ws ≡ f ++ x ∷ g → i ≡ length f → set ws i y ≡ f ++
+    y ∷ g
 set_after f x g ws i y e h = ap (λ (z : List ℕ). set z i y) e ∙ set_at f x g y i (sym h)
 
 pub take_after : (f g ws : List ℕ) (n : ℕ) → ws ≡ f ++ g → n ≡ length f → take n ws ≡ f

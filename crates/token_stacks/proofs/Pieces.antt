@@ -1,5 +1,6 @@
 -- What is put down of a signature's text: pieces behind others, and the last one taken off.
-use Rattle.std.proofs.Common.{◌≡◌, ℕ, ◌+◌, ◌*◌, ◌<◌, List, [], ◌∷◌, ◌++◌, append_assoc, length, codes, sym, ap, subst, ◌∙◌, arith, Result}
+use Rattle.std.proofs.Common.{◌≡◌, ℕ, ◌+◌, ◌*◌, ◌<◌, List, [], ◌∷◌, ◌++◌, append_assoc, length, codes, sym}
+use Rattle.std.proofs.Common.{ap, subst, ◌∙◌, arith, Result}
 use Rattle.std.proofs.Common.{OnOk}
 use Rattle.std.proofs.lemmas.List.{append-nil}
 use denote.Bor.{Bor}
@@ -43,10 +44,12 @@ parts_last (q ∷ ps) p a = parts_last ps p a.1
 
 -- A mark, and a signature put down behind it.
 pub marked_said : (old new mark : List ℕ) (before after : List Piece) (ws : Bor (List ℕ)) (d : ℕ) (s : Sig) → ws.now ≡ body s →
-    new ≡ old ++ mark → after ≡ before ++ Part ws d ∷ [] → Writes old new before after (mark ++ sig_text d s) (3 * length ws.now + 1)
+    new ≡ old ++ mark → after ≡ before ++ Part ws d ∷ [] →
+    Writes old new before after (mark ++ sig_text d s) (3 * length ws.now + 1)
 marked_said old new mark before after ws d s e n p = record {
   text = (λ i. n i ++ pieces_text (p i))
-      ∙ ap (λ z. (old ++ mark) ++ z) (pieces_text_append before (Part ws d ∷ []) ∙ ap (λ z. z ++ pieces_text before) (part_text s ws d e))
+      ∙ ap (λ z. (old ++ mark) ++ z) (pieces_text_append before (Part ws d ∷ []) ∙
+      ap (λ z. z ++ pieces_text before) (part_text s ws d e))
       ∙ append_assoc old mark (sig_text d s ++ pieces_text before)
       ∙ ap (λ z. old ++ z) (sym (append_assoc mark (sig_text d s) (pieces_text before)));
   parts = λ a. subst AreParts (sym p) (parts_append before (Part ws d ∷ []) a (record { sig = s; is = e }, tt));

@@ -1,5 +1,6 @@
 -- What the last word of a signature says of its text: how the text begins, and what is put down behind it.
-use Rattle.std.proofs.Common.{◌≡◌, ℕ, zero, suc, ◌+◌, ◌-◌, ◌*◌, ◌<◌, ◌≤◌, List, [], ◌∷◌, ◌++◌, append_assoc, length, get_or, take, drop}
+use Rattle.std.proofs.Common.{◌≡◌, ℕ, zero, suc, ◌+◌, ◌-◌, ◌*◌, ◌<◌, ◌≤◌, List, [], ◌∷◌, ◌++◌}
+use Rattle.std.proofs.Common.{append_assoc, length, get_or, take, drop}
 use Rattle.std.proofs.Common.{codes, Result, Ok, Err, OnOk, is_ok, if◌then◌else◌, refl, sym, ap, ◌∙◌, arith, length-append}
 use Rattle.std.proofs.lemmas.List.{get_or_at}
 use Rattle.token_stacks.specs.Signatures.{Sig, star, left_of, right_of, pair_of, again}
@@ -96,7 +97,8 @@ no_tag : (a b : ℕ) → a ≡ b → (a ≡ b → ⊥) → ⊥
 no_tag a b e n = n e
 
 -- the same text in other words, with more to do
-pub writes_as : {old new : List ℕ} {before after : List Piece} (x y : List ℕ) (m n : ℕ) → x ≡ y → m ≤ n → Writes old new before after x m →
+pub writes_as : {old new : List ℕ} {before after : List Piece} (x y : List ℕ) (m n : ℕ) → x ≡ y → m ≤ n →
+    Writes old new before after x m →
     Writes old new before after y n
 writes_as {old} {new} {before} {after} x y m n e h w = record {
   text = w.text ∙ ap (λ z. old ++ (z ++ pieces_text before)) e;
@@ -105,7 +107,8 @@ writes_as {old} {new} {before} {after} x y m n e h w = record {
 }
 
 -- what is written at once
-pub writes_now : (old new : List ℕ) (before : List Piece) (x : List ℕ) (n : ℕ) → 1 ≤ n → new ≡ old ++ x → Writes old new before before x n
+pub writes_now : (old new : List ℕ) (before : List Piece) (x : List ℕ) (n : ℕ) → 1 ≤ n → new ≡ old ++ x →
+    Writes old new before before x n
 writes_now old new before x n h e = record {
   text = ap (λ z. z ++ pieces_text before) e ∙ append_assoc old x (pieces_text before);
   parts = λ p. p;
@@ -156,7 +159,8 @@ pair_said r s w d rest old new before after m n one deep more e said = go s (par
 
 -- and the form that is left
 pub again_said : {A E : Type 0} (r : Result A E) (s : Sig) (w d : ℕ) (rest old new : List ℕ) (before after : List Piece) (m n : ℕ) →
-    (w ≡ 0 → ⊥) → (w ≡ 1 → ⊥) → (w ≡ 2 → ⊥) → (w ≡ 3 → ⊥) → (d ≡ 0 → ⊥) → m ≤ n → rest ++ w ∷ [] ≡ body s →
+    (w ≡ 0 → ⊥) → (w ≡ 1 → ⊥) → (w ≡ 2 → ⊥) → (w ≡ 3 → ⊥) → (d ≡ 0 → ⊥) → m ≤ n → rest ++ w ∷
+    [] ≡ body s →
     ((t u : Sig) → rest ≡ body t ++ (body u ++ length (body u) ∷ []) →
     OnOk r (Writes old new before after (two (codes "y(") (codes ")") (d - 1) t u) m)) →
     OnOk r (Writes old new before after (sig_text d s) n)

@@ -1,5 +1,6 @@
 -- What stands on top of a stack, by its last words.
-use Rattle.std.proofs.Common.{◌≡◌, ℕ, zero, suc, true, false, ◌+◌, ◌-◌, ◌<◌, List, [], ◌∷◌, ◌++◌, append_assoc, length, get_or, take}
+use Rattle.std.proofs.Common.{◌≡◌, ℕ, zero, suc, true, false, ◌+◌, ◌-◌, ◌<◌, List, [], ◌∷◌, ◌++◌}
+use Rattle.std.proofs.Common.{append_assoc, length, get_or, take}
 use Rattle.std.proofs.Common.{drop, map, refl, sym, ap, ◌∙◌, arith, length-append}
 use Rattle.std.specs.Bool.{◌==◌}
 use Rattle.std.proofs.lemmas.Bool.{eqb-true}
@@ -25,7 +26,8 @@ pub record OnTop (ws : List ℕ) (k : ℕ) (x : Sym) (m : Work) : Type 0 where
   pub rest : take (length ws - 2 - k) ws ≡ work_words m
 
 -- Where the last word is neither that of `R` nor that of `L`, a signature is on top.
-pub sig_on_top : (x : Sym) (m : Work) (ws : List ℕ) → ws ≡ work_words m ++ symbol x → (get_or ws (length ws - 1) 0 ≡ 5 → ⊥) →
+pub sig_on_top : (x : Sym) (m : Work) (ws : List ℕ) → ws ≡ work_words m ++ symbol x →
+    (get_or ws (length ws - 1) 0 ≡ 5 → ⊥) →
     (get_or ws (length ws - 1) 0 ≡ 6 → ⊥) → OnTop ws (get_or ws (length ws - 2) 0) x m
 sig_on_top R m ws e r l = absurd (r (last_is (work_words m) 5 ws e))
 sig_on_top L m ws e r l = absurd (l (last_is (work_words m) 6 ws e))

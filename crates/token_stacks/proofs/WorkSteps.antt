@@ -1,5 +1,6 @@
 -- Each step on the words of a work stack is the step on its symbols.
-use Rattle.std.proofs.Common.{◌≡◌, ℕ, ◌+◌, ◌-◌, ◌<◌, ◌≤◌, ◌⊎◌, inl, inr, List, [], ◌∷◌, ◌++◌, length, get_or, set, take, drop, refl, sym}
+use Rattle.std.proofs.Common.{◌≡◌, ℕ, ◌+◌, ◌-◌, ◌<◌, ◌≤◌, ◌⊎◌, inl, inr, List, [], ◌∷◌, ◌++◌}
+use Rattle.std.proofs.Common.{length, get_or, set, take, drop, refl, sym}
 use Rattle.std.proofs.Common.{◌∙◌, ap, subst, arith, length-append, Option, Some, None, Bool, eq-eqb}
 use Rattle.std.proofs.lemmas.List.{append_assoc}
 use Rattle.std.specs.Option.{IsSome}
@@ -43,10 +44,12 @@ pub record SigTop (m : List Sym) : Type 0 where
   pub rest : List Sym
   pub is : m ≡ S sig ∷ rest
 
-last_r : (m : List Sym) (ws : List ℕ) (n a : ℕ) → ws ≡ work_words (R ∷ m) → n ≡ length ws → a ≡ get_or ws (n - 1) a → a ≡ 5
+last_r : (m : List Sym) (ws : List ℕ) (n a : ℕ) → ws ≡ work_words (R ∷ m) → n ≡ length ws → a ≡ get_or ws (n - 1) a →
+    a ≡ 5
 last_r m ws n a e h r = word_at (work_words m) 5 [] ws (n - 1) a e (omega (arith, length_both (work_words m) (5 ∷ []) ws e)) r
 
-last_l : (m : List Sym) (ws : List ℕ) (n a : ℕ) → ws ≡ work_words (L ∷ m) → n ≡ length ws → a ≡ get_or ws (n - 1) a → a ≡ 6
+last_l : (m : List Sym) (ws : List ℕ) (n a : ℕ) → ws ≡ work_words (L ∷ m) → n ≡ length ws → a ≡ get_or ws (n - 1) a →
+    a ≡ 6
 last_l m ws n a e h r = word_at (work_words m) 6 [] ws (n - 1) a e (omega (arith, length_both (work_words m) (6 ∷ []) ws e)) r
 
 -- the words below a signature's size, its size and its mark
@@ -63,13 +66,15 @@ sig_length s m ws e =
       length-append (work_words m) (body s),
     )
 
-last_s : (s : Sig) (m : List Sym) (ws : List ℕ) (n a : ℕ) → ws ≡ work_words (S s ∷ m) → n ≡ length ws → a ≡ get_or ws (n - 1) a → a ≡ 7
+last_s : (s : Sig) (m : List Sym) (ws : List ℕ) (n a : ℕ) → ws ≡ work_words (S s ∷ m) → n ≡ length ws →
+    a ≡ get_or ws (n - 1) a → a ≡ 7
 last_s s m ws n a e h r =
     word_at ((work_words m ++ body s) ++ length (body s) ∷ []) 7 [] ws (n - 1) a
     (sig_words s m ws e ∙ one_on (work_words m ++ body s) (length (body s)) (7 ∷ []))
     (omega (arith, sig_length s m ws e, length_on (work_words m ++ body s) (length (body s)), length-append (work_words m) (body s))) r
 
-size_s : (s : Sig) (m : List Sym) (ws : List ℕ) (n k : ℕ) → ws ≡ work_words (S s ∷ m) → n ≡ length ws → k ≡ get_or ws (n - 2) k
+size_s : (s : Sig) (m : List Sym) (ws : List ℕ) (n k : ℕ) → ws ≡ work_words (S s ∷ m) → n ≡ length ws →
+    k ≡ get_or ws (n - 2) k
     → k ≡ length (body s)
 size_s s m ws n k e h r =
     word_at (work_words m ++ body s) (length (body s)) (7 ∷ []) ws (n - 2) k (sig_words s m ws e)
@@ -83,7 +88,8 @@ tag_words s m ws e =
     ∙ ap (λ (z : List ℕ). work_words m ++ z) (append_assoc (stem s) (tag s ∷ []) (length (body s) ∷ 7 ∷ []))
     ∙ sym (append_assoc (work_words m) (stem s) (tag s ∷ length (body s) ∷ 7 ∷ []))
 
-tag_s : (s : Sig) (m : List Sym) (ws : List ℕ) (n a : ℕ) → ws ≡ work_words (S s ∷ m) → n ≡ length ws → a ≡ get_or ws (n - 3) a → a ≡ tag s
+tag_s : (s : Sig) (m : List Sym) (ws : List ℕ) (n a : ℕ) → ws ≡ work_words (S s ∷ m) → n ≡ length ws →
+    a ≡ get_or ws (n - 3) a → a ≡ tag s
 tag_s s m ws n a e h r =
     word_at (work_words m ++ stem s) (tag s) (length (body s) ∷ 7 ∷ []) ws (n - 3) a (tag_words s m ws e)
     (omega (arith, sig_length s m ws e, length-append (work_words m) (stem s), body_long s)) r
@@ -102,8 +108,10 @@ some_top (R ∷ m) h = cc
 some_top (L ∷ m) h = cc
 
 -- steps: the words after a call, and what they stand for
-pub pops_symbol : (w : ℕ) (m : List Sym) (ws vs : List ℕ) (n a : ℕ) → (held : ws ≡ work_words m) → (marks : (w ≡ 5) ⊎ (w ≡ 6))
-    → (long : n ≡ length ws) → (enough : 0 < n) → (read : a ≡ get_or ws (n - 1) a) → (found : a ≡ w) → (cut : vs ≡ take (n - 1) ws)
+pub pops_symbol : (w : ℕ) (m : List Sym) (ws vs : List ℕ) (n a : ℕ) → (held : ws ≡ work_words m) →
+    (marks : (w ≡ 5) ⊎ (w ≡ 6))
+    → (long : n ≡ length ws) → (enough : 0 < n) → (read : a ≡ get_or ws (n - 1) a) → (found : a ≡ w) →
+    (cut : vs ≡ take (n - 1) ws)
     → Turns (popped w m) vs
 pops_symbol w [] ws vs n a e c h p r t v = absurd (let q : length ws ≡ 0 = ap length e in omega arith)
 pops_symbol w (R ∷ m) ws vs n a e c h p r t v =
@@ -128,7 +136,8 @@ pops_symbol w (S s ∷ m) ws vs n a e c h p r t v =
     absurd (let q : a ≡ 7 = last_s s m ws n a e h r in elim c [ inl x ↦ omega arith | inr x ↦ omega arith ])
 
 -- a signature whose body has one word is a `*`, and what is left lies before its three words
-pub pops_star : (m : List Sym) (ws vs : List ℕ) (n a k : ℕ) → (held : ws ≡ work_words m) → (long : n ≡ length ws) → (enough : 0 < n)
+pub pops_star : (m : List Sym) (ws vs : List ℕ) (n a k : ℕ) → (held : ws ≡ work_words m) → (long : n ≡ length ws) →
+    (enough : 0 < n)
     → (read : a ≡ get_or ws (n - 1) a) → (found : a ≡ 7) → (sized : k ≡ get_or ws (n - 2) k) → (one : k ≡ 1)
     → (cut : vs ≡ take (n - 3) ws) → Turns (popped_star m) vs
 pops_star m ws vs n a k e h p r t q u v =
@@ -146,7 +155,8 @@ pops_star m ws vs n a k e h p r t q u v =
     }
 
 -- what is left lies before the words of the signature, its size and its mark
-pub pops_signature : (m : List Sym) (ws vs : List ℕ) (n k : ℕ) → (held : ws ≡ work_words m) → (T : SigTop m) → (long : n ≡ length ws)
+pub pops_signature : (m : List Sym) (ws vs : List ℕ) (n k : ℕ) → (held : ws ≡ work_words m) → (T : SigTop m) →
+    (long : n ≡ length ws)
     → (sized : k ≡ get_or ws (n - 2) k) → (cut : vs ≡ take (n - 2 - k) ws) → Turns (popped_signature m) vs
 pops_signature m ws vs n k e T h q v =
     let e' : ws ≡ work_words (S T.sig ∷ T.rest) = e ∙ ap work_words T.is in
@@ -160,7 +170,8 @@ pops_signature m ws vs n k e T h q v =
     }
 
 -- the size of the signature on top leaves room for it
-pub size_fits : (m : List Sym) (ws : List ℕ) (n k : ℕ) → ws ≡ work_words m → SigTop m → n ≡ length ws → k ≡ get_or ws (n - 2) k
+pub size_fits : (m : List Sym) (ws : List ℕ) (n k : ℕ) → ws ≡ work_words m → SigTop m → n ≡ length ws →
+    k ≡ get_or ws (n - 2) k
     → (k ≤ n - 2) × (1 ≤ k) × (3 ≤ n)
 size_fits m ws n k e T h q =
     let e' : ws ≡ work_words (S T.sig ∷ T.rest) = e ∙ ap work_words T.is in
@@ -176,14 +187,16 @@ no_top (R ∷ m) ws n e h p = refl
 no_top (L ∷ m) ws n e h p = refl
 no_top (S s ∷ m) ws n e h p = absurd (omega (arith, sig_length s m ws e, body_long s))
 
-pub other_top : (m : List Sym) (ws : List ℕ) (n a : ℕ) → ws ≡ work_words m → n ≡ length ws → a ≡ get_or ws (n - 1) a → (a ≡ 7 → ⊥)
+pub other_top : (m : List Sym) (ws : List ℕ) (n a : ℕ) → ws ≡ work_words m → n ≡ length ws → a ≡ get_or ws (n - 1) a →
+    (a ≡ 7 → ⊥)
     → None ≡ top_body m
 other_top [] ws n a e h r p = refl
 other_top (R ∷ m) ws n a e h r p = refl
 other_top (L ∷ m) ws n a e h r p = refl
 other_top (S s ∷ m) ws n a e h r p = absurd (p (last_s s m ws n a e h r))
 
-pub top_is : (m : List Sym) (ws : List ℕ) (n k : ℕ) → ws ≡ work_words m → SigTop m → n ≡ length ws → k ≡ get_or ws (n - 2) k
+pub top_is : (m : List Sym) (ws : List ℕ) (n k : ℕ) → ws ≡ work_words m → SigTop m → n ≡ length ws →
+    k ≡ get_or ws (n - 2) k
     → Some (take (n - 2 - (n - 2 - k)) (drop (n - 2 - k) ws)) ≡ top_body m
 top_is m ws n k e T h q =
     let e' : ws ≡ work_words (S T.sig ∷ T.rest) = e ∙ ap work_words T.is in
@@ -206,7 +219,8 @@ marked_body w c s =
     elim c [ inl e ↦ subst P (sym e) refl | inr e ↦ subst P (sym e) refl ]
 
 -- the mark goes over the size of the signature, the size over the old end, and the end is the new word
-pub wraps : (w : ℕ) (m : List Sym) (ws us vs : List ℕ) (n k : ℕ) → (held : ws ≡ work_words m) → (marks : (w ≡ 1) ⊎ (w ≡ 2))
+pub wraps : (w : ℕ) (m : List Sym) (ws us vs : List ℕ) (n k : ℕ) → (held : ws ≡ work_words m) →
+    (marks : (w ≡ 1) ⊎ (w ≡ 2))
     → (T : SigTop m) → (long : n ≡ length ws) → (sized : k ≡ get_or ws (n - 2) k) → (added : us ≡ ws ++ 7 ∷ [])
     → (written : vs ≡ set (set us (n - 2) w) (n - 1) (k + 1)) → Turns (wrapped w m) vs
 wraps w m ws us vs n k e c T h q u v =
@@ -240,14 +254,16 @@ lowers g x k j ws vs n e h v =
     let one : set ws (n - 3) j ≡ (g ++ j ∷ []) ++ k ∷ 7 ∷ [] =
     set_after g x (k ∷ 7 ∷ []) ws (n - 3) j e (omega arith) ∙ one_on g j (k ∷ 7 ∷ []) in
     let two : set (set ws (n - 3) j) (n - 2) 7 ≡ ((g ++ j ∷ []) ++ 7 ∷ []) ++ 7 ∷ [] =
-    set_after (g ++ j ∷ []) k (7 ∷ []) (set ws (n - 3) j) (n - 2) 7 one (omega (arith, length_on g j)) ∙ one_on (g ++ j ∷ []) 7 (7 ∷ []) in
+    set_after (g ++ j ∷ []) k (7 ∷ []) (set ws (n - 3) j) (n - 2) 7 one (omega (arith, length_on g j)) ∙
+    one_on (g ++ j ∷ []) 7 (7 ∷ []) in
     v ∙ take_after ((g ++ j ∷ []) ++ 7 ∷ []) (7 ∷ []) (set (set ws (n - 3) j) (n - 2) 7) (n - 1) two
     (omega (arith, length_on g j, length_on (g ++ j ∷ []) 7))
     ∙ sym (one_on g j (7 ∷ []))
 
 -- the mark before the size is the one that was asked for, so the signature is one so marked, and its size goes over the mark
 unwraps_at : (w : ℕ) (s : Sig) (r : List Sym) (ws vs : List ℕ) (n k a : ℕ) → (held : ws ≡ work_words (S s ∷ r))
-    → (marks : (w ≡ 1) ⊎ (w ≡ 2)) → (long : n ≡ length ws) → (sized : k ≡ get_or ws (n - 2) k) → (read : a ≡ get_or ws (n - 3) a)
+    → (marks : (w ≡ 1) ⊎ (w ≡ 2)) → (long : n ≡ length ws) → (sized : k ≡ get_or ws (n - 2) k) →
+    (read : a ≡ get_or ws (n - 3) a)
     → (found : a ≡ w) → (cut : vs ≡ take (n - 1) (set (set ws (n - 3) (k - 1)) (n - 2) 7)) → Turns (unwrapped w (S s ∷ r)) vs
 unwraps_at w star r ws vs n k a e c h q t u v =
     absurd (let z : a ≡ 0 = tag_s star r ws n a e h t in elim c [ inl x ↦ omega arith | inr x ↦ omega arith ])
@@ -278,8 +294,10 @@ unwraps_at w (pair_of s s') r ws vs n k a e c h q t u v =
 unwraps_at w (again s s') r ws vs n k a e c h q t u v =
     absurd (let z : a ≡ 4 = tag_s (again s s') r ws n a e h t in elim c [ inl x ↦ omega arith | inr x ↦ omega arith ])
 
-pub unwraps : (w : ℕ) (m : List Sym) (ws vs : List ℕ) (n k a : ℕ) → (held : ws ≡ work_words m) → (marks : (w ≡ 1) ⊎ (w ≡ 2))
-    → (T : SigTop m) → (long : n ≡ length ws) → (sized : k ≡ get_or ws (n - 2) k) → (read : a ≡ get_or ws (n - 3) a) → (found : a ≡ w)
+pub unwraps : (w : ℕ) (m : List Sym) (ws vs : List ℕ) (n k a : ℕ) → (held : ws ≡ work_words m) →
+    (marks : (w ≡ 1) ⊎ (w ≡ 2))
+    → (T : SigTop m) → (long : n ≡ length ws) → (sized : k ≡ get_or ws (n - 2) k) → (read : a ≡ get_or ws (n - 3) a) →
+    (found : a ≡ w)
     → (cut : vs ≡ take (n - 1) (set (set ws (n - 3) (k - 1)) (n - 2) 7)) → Turns (unwrapped w m) vs
 unwraps w m ws vs n k a e c T h q t u v =
     let P : List Sym → Type 0 = λ x. Turns (unwrapped w x) vs in
@@ -302,7 +320,8 @@ no_mark w (S (pair_of s u) ∷ m) ws n a e h t p c = refl
 no_mark w (S (again s u) ∷ m) ws n a e h t p c = refl
 
 -- a pair is put together: the first part comes from another stack, above the second, and the two change places
-pub pairs : (s : Sig) (b : List ℕ) (m : List Sym) (ws us xs vs : List ℕ) (n k l : ℕ) → (of_s : b ≡ body s) → (held : ws ≡ work_words m)
+pub pairs : (s : Sig) (b : List ℕ) (m : List Sym) (ws us xs vs : List ℕ) (n k l : ℕ) → (of_s : b ≡ body s) →
+    (held : ws ≡ work_words m)
     → (T : SigTop m) → (long : n ≡ length ws) → (sized : k ≡ get_or ws (n - 2) k) → (added : us ≡ ws ++ (b ++ 0 ∷ 7 ∷ []))
     → (longer : l ≡ length us) → (brought : Swaps us xs (n - 2 - k) n (n + length b))
     → (written : vs ≡ set (set xs (l - 2 - 1) 3) (l - 2) (l - 2 - (n - 2 - k))) → Turns (paired s m) vs
@@ -391,7 +410,8 @@ pub record PairWords (s u : Sig) (r : List Sym) (ws : List ℕ) (n k j : ℕ) : 
   pub whole : n ≡ length (work_words r) + length (body s) + length (body u) + 4
 
 -- the words of a stack with a pair on top, part by part
-pub pair_words : (m : List Sym) (ws : List ℕ) (n k j : ℕ) → (held : ws ≡ work_words m) → (T : PairTop m) → (long : n ≡ length ws)
+pub pair_words : (m : List Sym) (ws : List ℕ) (n k j : ℕ) → (held : ws ≡ work_words m) → (T : PairTop m) →
+    (long : n ≡ length ws)
     → (sized : k ≡ get_or ws (n - 2) k) → (sized_second : j ≡ get_or ws (n - 4) j) → PairWords T.first T.second T.rest ws n k j
 pair_words m ws n k j e T h q p =
     let s : Sig = T.first in
@@ -403,7 +423,8 @@ pair_words m ws n k j e T h q p =
     let open_is : ws ≡ work_words r ++ (body s ++ (body u ++ length (body u) ∷ 3 ∷ k ∷ 7 ∷ [])) =
     e' ∙ ap (λ (z : List ℕ). work_words r ++ z)
     (append_assoc (body s) (body u ++ length (body u) ∷ 3 ∷ []) (length (body (pair_of s u)) ∷ 7 ∷ [])
-    ∙ ap (λ (z : List ℕ). body s ++ z) (append_assoc (body u) (length (body u) ∷ 3 ∷ []) (length (body (pair_of s u)) ∷ 7 ∷ [])))
+    ∙ ap (λ (z : List ℕ). body s ++ z) (append_assoc (body u) (length (body u) ∷ 3 ∷ [])
+    (length (body (pair_of s u)) ∷ 7 ∷ [])))
     ∙ ap (λ (z : ℕ). work_words r ++ (body s ++ (body u ++ length (body u) ∷ 3 ∷ z ∷ 7 ∷ []))) (sym size) in
     let F : List ℕ = work_words r ++ (body s ++ body u) in
     let lF : length F ≡ length (work_words r) + length (body s) + length (body u) =
@@ -429,13 +450,15 @@ pair_body_is m ws n k j T w =
     let two : j ≡ length (body u) = w.second in
     let all : n ≡ length (work_words T.rest) + length (body s) + length (body u) + 4 = w.whole in
     ap (λ (z : List ℕ). Some z)
-    (piece_at (work_words T.rest) (body s) (body u ++ length (body u) ∷ 3 ∷ k ∷ 7 ∷ []) ws (n - 2 - k) (n - 4 - j - (n - 2 - k)) w.words
+    (piece_at (work_words T.rest) (body s) (body u ++ length (body u) ∷ 3 ∷ k ∷ 7 ∷
+    []) ws (n - 2 - k) (n - 4 - j - (n - 2 - k)) w.words
     (omega arith) (omega arith))
     ∙ ap pair_body (sym T.is)
 
 -- The end is written over the pair's own mark, the second part with its size and that end is copied down over the first, and what is
 -- behind it goes.
-pub unpairs : (m : List Sym) (ws us xs vs : List ℕ) (n k j : ℕ) → (T : PairTop m) → (lie : PairWords T.first T.second T.rest ws n k j)
+pub unpairs : (m : List Sym) (ws us xs vs : List ℕ) (n k j : ℕ) → (T : PairTop m) →
+    (lie : PairWords T.first T.second T.rest ws n k j)
     → (written : us ≡ set ws (n - 3) 7)
     → (copied : xs ≡ (take (n - 2 - k) us ++ take (n - 2 - (n - 4 - j)) (drop (n - 4 - j) us))
     ++ drop (n - 2 - k + (n - 2 - (n - 4 - j))) us)
@@ -462,11 +485,13 @@ unpairs m ws us xs vs n k j T w y z v =
     let V : List ℕ = body u ++ length (body u) ∷ 7 ∷ [] in
     let lV : length V ≡ length (body u) + 2 = length-append (body u) (length (body u) ∷ 7 ∷ []) in
     let us' : us ≡ M ++ (body s ++ (V ++ k ∷ 7 ∷ [])) =
-    y ∙ set_after F 3 (k ∷ 7 ∷ []) ws (n - 3) 7 (w.words ∙ F_is (3 ∷ k ∷ 7 ∷ [])) (omega arith) ∙ sym (F_is (7 ∷ k ∷ 7 ∷ []))
+    y ∙ set_after F 3 (k ∷ 7 ∷ []) ws (n - 3) 7 (w.words ∙ F_is (3 ∷ k ∷ 7 ∷ [])) (omega arith) ∙
+    sym (F_is (7 ∷ k ∷ 7 ∷ []))
     ∙ ap (λ (z : List ℕ). M ++ (body s ++ z)) (sym (append_assoc (body u) (length (body u) ∷ 7 ∷ []) (k ∷ 7 ∷ []))) in
     let front : take (n - 2 - k) us ≡ M = take_after M (body s ++ (V ++ k ∷ 7 ∷ [])) us (n - 2 - k) us' (omega arith) in
     let moved : take (n - 2 - (n - 4 - j)) (drop (n - 4 - j) us) ≡ V =
-    piece_at (M ++ body s) V (k ∷ 7 ∷ []) us (n - 4 - j) (n - 2 - (n - 4 - j)) (us' ∙ sym (append_assoc M (body s) (V ++ k ∷ 7 ∷ [])))
+    piece_at (M ++ body s) V (k ∷ 7 ∷ []) us (n - 4 - j) (n - 2 - (n - 4 - j)) (us' ∙
+    sym (append_assoc M (body s) (V ++ k ∷ 7 ∷ [])))
     (omega (arith, length-append M (body s))) (omega arith) in
     let D : List ℕ = drop (n - 2 - k + (n - 2 - (n - 4 - j))) us in
     let copied : xs ≡ (M ++ V) ++ D =
@@ -491,7 +516,8 @@ not_paired (R ∷ m) e = refl
 not_paired (L ∷ m) e = refl
 not_paired (S s ∷ m) e = cc
 
-pub other_mark : (m : List Sym) (ws : List ℕ) (n a : ℕ) → ws ≡ work_words m → n ≡ length ws → a ≡ get_or ws (n - 3) a → (a ≡ 3 → ⊥)
+pub other_mark : (m : List Sym) (ws : List ℕ) (n a : ℕ) → ws ≡ work_words m → n ≡ length ws → a ≡ get_or ws (n - 3) a →
+    (a ≡ 3 → ⊥)
     → None ≡ pair_body m
 other_mark [] ws n a e h r p = refl
 other_mark (R ∷ m) ws n a e h r p = refl
@@ -502,10 +528,12 @@ other_mark (S (right_of s) ∷ m) ws n a e h r p = refl
 other_mark (S (pair_of s u) ∷ m) ws n a e h r p = absurd (p (tag_s (pair_of s u) m ws n a e h r))
 other_mark (S (again s u) ∷ m) ws n a e h r p = refl
 
-pub pushes : (s : Sig) (b : List ℕ) (m : List Sym) (ws vs : List ℕ) → b ≡ body s → ws ≡ work_words m → vs ≡ ws ++ (b ++ length b ∷ 7 ∷ [])
+pub pushes : (s : Sig) (b : List ℕ) (m : List Sym) (ws vs : List ℕ) → b ≡ body s → ws ≡ work_words m → vs ≡ ws ++
+    (b ++ length b ∷ 7 ∷ [])
     → vs ≡ work_words (S s ∷ m)
 pushes s b m ws vs f e v =
-    v ∙ ap (λ (z : List ℕ). z ++ (b ++ length b ∷ 7 ∷ [])) e ∙ ap (λ (z : List ℕ). work_words m ++ (z ++ length z ∷ 7 ∷ [])) f
+    v ∙ ap (λ (z : List ℕ). z ++ (b ++ length b ∷ 7 ∷ [])) e ∙
+    ap (λ (z : List ℕ). work_words m ++ (z ++ length z ∷ 7 ∷ [])) f
 
 -- the places of a pair's parts, for what the code owes
 pub pair_fits : (s u : Sig) (r : List Sym) (ws : List ℕ) (n k j : ℕ) → PairWords s u r ws n k j
@@ -537,7 +565,8 @@ work_empty_test (S s ∷ m) ws n b e h q =
     (λ y. absurd (let w : n ≡ 0 = eqb-true n 0 (sym q ∙ y) in omega arith), λ y. cc)
 
 -- an `L` over a signature
-pub pops_argument : (m : List Sym) (ws vs : List ℕ) (n a b : ℕ) → (held : ws ≡ work_words m) → (long : n ≡ length ws) → (enough : 2 ≤ n)
+pub pops_argument : (m : List Sym) (ws vs : List ℕ) (n a b : ℕ) → (held : ws ≡ work_words m) → (long : n ≡ length ws) →
+    (enough : 2 ≤ n)
     → (read : a ≡ get_or ws (n - 1) a) → (found : a ≡ 6) → (under : b ≡ get_or ws (n - 2) b) → (found_under : b ≡ 7)
     → (cut : vs ≡ take (n - 1) ws) → Turns (argument_left m) vs
 pops_argument [] ws vs n a b e h p r t q u v = absurd (let q : length ws ≡ 0 = ap length e in omega arith)
@@ -546,19 +575,23 @@ pops_argument (S s ∷ m) ws vs n a b e h p r t q u v = absurd (let z : a ≡ 7 
 pops_argument (L ∷ []) ws vs n a b e h p r t q u v = absurd (let q : length ws ≡ 1 = ap length e in omega arith)
 pops_argument (L ∷ R ∷ m) ws vs n a b e h p r t q u v =
     absurd (let z : b ≡ 5 = word_at (work_words m) 5 (6 ∷ []) ws (n - 2) b (e ∙ append_assoc (work_words m) (5 ∷ []) (6 ∷ []))
-    (omega (arith, length_both (work_words m) (5 ∷ 6 ∷ []) ws (e ∙ append_assoc (work_words m) (5 ∷ []) (6 ∷ [])))) q in omega arith)
+    (omega (arith, length_both (work_words m) (5 ∷ 6 ∷ []) ws (e ∙ append_assoc (work_words m) (5 ∷ []) (6 ∷ [])))) q in
+    omega arith)
 pops_argument (L ∷ L ∷ m) ws vs n a b e h p r t q u v =
     absurd (let z : b ≡ 6 = word_at (work_words m) 6 (6 ∷ []) ws (n - 2) b (e ∙ append_assoc (work_words m) (6 ∷ []) (6 ∷ []))
-    (omega (arith, length_both (work_words m) (6 ∷ 6 ∷ []) ws (e ∙ append_assoc (work_words m) (6 ∷ []) (6 ∷ [])))) q in omega arith)
+    (omega (arith, length_both (work_words m) (6 ∷ 6 ∷ []) ws (e ∙ append_assoc (work_words m) (6 ∷ []) (6 ∷ [])))) q in
+    omega arith)
 pops_argument (L ∷ S s ∷ m) ws vs n a b e h p r t q u v =
     record {
       left = S s ∷ m;
       is = refl;
-      words = v ∙ take_after (work_words (S s ∷ m)) (6 ∷ []) ws (n - 1) e (omega (arith, length_both (work_words (S s ∷ m)) (6 ∷ []) ws e));
+      words = v ∙ take_after (work_words (S s ∷ m)) (6 ∷ []) ws (n - 1) e
+          (omega (arith, length_both (work_words (S s ∷ m)) (6 ∷ []) ws e));
     }
 
 -- the word of a symbol under an `L`
-under_l : (s : Sig) (m : List Sym) (ws : List ℕ) (n b : ℕ) → ws ≡ work_words (L ∷ S s ∷ m) → n ≡ length ws → b ≡ get_or ws (n - 2) b → b ≡ 7
+under_l : (s : Sig) (m : List Sym) (ws : List ℕ) (n b : ℕ) → ws ≡ work_words (L ∷ S s ∷ m) → n ≡ length ws →
+    b ≡ get_or ws (n - 2) b → b ≡ 7
 under_l s m ws n b e h q =
     let f : List ℕ = (work_words m ++ body s) ++ length (body s) ∷ [] in
     let lf : length f ≡ length (work_words m) + length (body s) + 1 =
@@ -569,7 +602,8 @@ under_l s m ws n b e h q =
     ∙ one_on (work_words m ++ body s) (length (body s)) (7 ∷ 6 ∷ []) in
     word_at f 7 (6 ∷ []) ws (n - 2) b open_is (omega (arith, length_both f (7 ∷ 6 ∷ []) ws open_is)) q
 
-pub no_argument_one : (m : List Sym) (ws : List ℕ) (n : ℕ) → ws ≡ work_words m → n ≡ length ws → n < 2 → argument_left m ≡ None
+pub no_argument_one : (m : List Sym) (ws : List ℕ) (n : ℕ) → ws ≡ work_words m → n ≡ length ws → n < 2 →
+    argument_left m ≡ None
 no_argument_one [] ws n e h p = refl
 no_argument_one (R ∷ m) ws n e h p = refl
 no_argument_one (S s ∷ m) ws n e h p = refl
@@ -579,14 +613,16 @@ no_argument_one (L ∷ L ∷ m) ws n e h p = refl
 no_argument_one (L ∷ S s ∷ m) ws n e h p =
     absurd (omega (arith, length_both (work_words (S s ∷ m)) (6 ∷ []) ws e, sig_length s m (work_words (S s ∷ m)) refl))
 
-pub no_argument_top : (m : List Sym) (ws : List ℕ) (n a : ℕ) → ws ≡ work_words m → n ≡ length ws → a ≡ get_or ws (n - 1) a → (a ≡ 6 → ⊥)
+pub no_argument_top : (m : List Sym) (ws : List ℕ) (n a : ℕ) → ws ≡ work_words m → n ≡ length ws →
+    a ≡ get_or ws (n - 1) a → (a ≡ 6 → ⊥)
     → argument_left m ≡ None
 no_argument_top [] ws n a e h r p = refl
 no_argument_top (R ∷ m) ws n a e h r p = refl
 no_argument_top (S s ∷ m) ws n a e h r p = refl
 no_argument_top (L ∷ m) ws n a e h r p = absurd (p (last_l m ws n a e h r))
 
-pub no_argument_under : (m : List Sym) (ws : List ℕ) (n b : ℕ) → ws ≡ work_words m → n ≡ length ws → b ≡ get_or ws (n - 2) b → (b ≡ 7 → ⊥)
+pub no_argument_under : (m : List Sym) (ws : List ℕ) (n b : ℕ) → ws ≡ work_words m → n ≡ length ws →
+    b ≡ get_or ws (n - 2) b → (b ≡ 7 → ⊥)
     → argument_left m ≡ None
 no_argument_under [] ws n b e h r p = refl
 no_argument_under (R ∷ m) ws n b e h r p = refl
@@ -596,7 +632,8 @@ no_argument_under (L ∷ R ∷ m) ws n b e h r p = refl
 no_argument_under (L ∷ L ∷ m) ws n b e h r p = refl
 no_argument_under (L ∷ S s ∷ m) ws n b e h r p = absurd (p (under_l s m ws n b e h r))
 
-pub pushes_argument : (m : List Sym) (ws vs : List ℕ) → ws ≡ work_words m → SigTop m → vs ≡ ws ++ 6 ∷ [] → Turns (argument_made m) vs
+pub pushes_argument : (m : List Sym) (ws vs : List ℕ) → ws ≡ work_words m → SigTop m → vs ≡ ws ++ 6 ∷ [] →
+    Turns (argument_made m) vs
 pushes_argument m ws vs e T v =
     record {
       left = L ∷ m;

@@ -1,5 +1,6 @@
 -- A stack that is written part by part, and one that is written whole.
-use Rattle.std.proofs.Common.{◌≡◌, ℕ, zero, suc, ◌+◌, ◌-◌, ◌≤◌, List, [], ◌∷◌, ◌++◌, append_assoc, length, map, codes, decimal, refl, sym}
+use Rattle.std.proofs.Common.{◌≡◌, ℕ, zero, suc, ◌+◌, ◌-◌, ◌≤◌, List, [], ◌∷◌, ◌++◌, append_assoc, length}
+use Rattle.std.proofs.Common.{map, codes, decimal, refl, sym}
 use Rattle.std.proofs.Common.{ap, ◌∙◌, arith, length-append}
 use Rattle.std.proofs.lemmas.List.{append-nil}
 use Rattle.token_stacks.specs.Signatures.{Sig, star, left_of, right_of, pair_of, again, Sym, S, Work, Boxes}
@@ -39,7 +40,8 @@ no_parts (suc left) deep x m e = absurd (omega (arith, e))
 
 -- One part more is written.
 pub next_part : (f : Form) (ws rest : List ℕ) (left deep : ℕ) (text new goal : List ℕ) (s : StandsFor f ws left deep text goal) →
-    (t : Topped f ws s.symbols) → (left ≡ 0 → ⊥) → new ≡ (text ++ codes ".") ++ sym_text deep t.top → TakesTop f ws rest t.rest →
+    (t : Topped f ws s.symbols) → (left ≡ 0 → ⊥) → new ≡ (text ++ codes ".") ++ sym_text deep t.top →
+    TakesTop f ws rest t.rest →
     StandsFor f rest (left - 1) deep new goal
 next_part f ws rest left deep text new goal s t some e take =
     let x : List ℕ = sym_text deep t.top in
@@ -57,7 +59,8 @@ next_part f ws rest left deep text new goal s t some e take =
 
 -- No part more is written, but how many are left.
 pub left_out : (f : Form) (ws : List ℕ) (left deep n : ℕ) (text new goal : List ℕ) (s : StandsFor f ws left deep text goal) →
-    (t : Topped f ws s.symbols) → left ≡ 0 → n ≡ length s.symbols → new ≡ (text ++ codes ".") ++ (codes "+" ++ decimal n) → new ≡ goal
+    (t : Topped f ws s.symbols) → left ≡ 0 → n ≡ length s.symbols → new ≡ (text ++ codes ".") ++ (codes "+" ++ decimal n) →
+    new ≡ goal
 left_out f ws left deep n text new goal s t none count e =
     let x : List ℕ = codes "+" ++ decimal (length (t.top ∷ t.rest)) in
     e

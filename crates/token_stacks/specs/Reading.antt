@@ -4,7 +4,8 @@
 -- read before the next symbol. Words that stand for no stack are read as some stack or other; the types that keep words keep
 -- beside them that the stack's own words are these. The two laws at the end of each reading say that it gives back the stack whose words
 -- are read, so that no two stacks have the same words.
-use Rattle.std.specs.Prelude.{ℕ, zero, suc, Bool, true, false, ◌≡◌, ◌==◌, List, [], ◌∷◌, ◌++◌, length, cond, reverse, refl}
+use Rattle.std.specs.Prelude.{ℕ, zero, suc, Bool, true, false, ◌≡◌, ◌==◌, List, [], ◌∷◌, ◌++◌, length, cond, reverse}
+use Rattle.std.specs.Prelude.{refl}
 use Rattle.std.proofs.Common.{◌∙◌, ap, sym}
 use Rattle.std.proofs.lemmas.List.{reverse-append, append_assoc, append-nil}
 use Rattle.token_stacks.specs.Signatures.{Sig, star, left_of, right_of, pair_of, again, Sym, R, L, S, Work, Boxes}
@@ -67,7 +68,8 @@ reverse_one : (a : List ℕ) (x : ℕ) (rest : List ℕ) → reverse (a ++ x ∷
 reverse_one a x rest = ap (λ (z : List ℕ). z ++ rest) (reverse-append a (x ∷ []))
 
 -- the words of a body, read from its end, are its signature
-read_body : (k : Bool) (s : Sig) (rest : List ℕ) (p : ℕ) → read k (reverse (body s) ++ rest) false (suc p) ≡ S s ∷ read k rest false p
+read_body : (k : Bool) (s : Sig) (rest : List ℕ) (p : ℕ) → read k (reverse (body s) ++ rest) false (suc p) ≡ S s ∷
+    read k rest false p
 unfolding read
 read_body k star rest p = refl
 read_body k (left_of s) rest p =
@@ -86,9 +88,11 @@ pub work_of-words : (m : Work) → work_of (work_words m) ≡ m
 unfolding work_of read
 work_of-words [] = refl
 work_of-words (R ∷ m) =
-    ap (λ (z : List ℕ). read false z false 0) (reverse-append (work_words m) (5 ∷ [])) ∙ ap (λ (z : List Sym). R ∷ z) (work_of-words m)
+    ap (λ (z : List ℕ). read false z false 0) (reverse-append (work_words m) (5 ∷ [])) ∙
+    ap (λ (z : List Sym). R ∷ z) (work_of-words m)
 work_of-words (L ∷ m) =
-    ap (λ (z : List ℕ). read false z false 0) (reverse-append (work_words m) (6 ∷ [])) ∙ ap (λ (z : List Sym). L ∷ z) (work_of-words m)
+    ap (λ (z : List ℕ). read false z false 0) (reverse-append (work_words m) (6 ∷ [])) ∙
+    ap (λ (z : List Sym). L ∷ z) (work_of-words m)
 work_of-words (S s ∷ m) =
     ap (λ (z : List ℕ). read false z false 0)
     (sym (append-nil (reverse (work_words (S s ∷ m)))) ∙ reverse_three (work_words m) (body s) (length (body s)) 7 [])

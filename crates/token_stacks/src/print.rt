@@ -1,5 +1,6 @@
 // Stacks as text, from their words. Nothing recurses: what is still to be written of a signature stands in a list.
-ghost use Rattle.std.specs.Prelude.{◌≡◌, ◌∷◌, [], ◌++◌, ◌≤◌, ◌+◌, ◌*◌, IfOk, OnOk, codes, decimal, length, map};
+ghost use Rattle.std.specs.Prelude.{◌≡◌, ◌∷◌, [], ◌++◌, ◌≤◌, ◌+◌, ◌*◌, IfOk, OnOk, codes, decimal, length};
+ghost use Rattle.std.specs.Prelude.{map};
 ghost use Rattle.token_stacks.specs.Signatures.{Sig, Sym, S, Work, Boxes};
 ghost use Rattle.token_stacks.specs.Words.{body, work_words, box_words};
 ghost use Rattle.token_stacks.specs.Texts.{sig_text, sym_text, dots, dotted, first_parts, work_text, boxes_text, key_text};
@@ -17,6 +18,10 @@ const MOST_DEEP: usize = 12;
 const MOST_PARTS: usize = 8;
 
 /// Appends the text of a token's work stack: its top so many parts, each signature so deep.
+///
+/// # Errors
+///
+/// Want of memory; what is appended by then says nothing.
 pub fn push_work(alloc: Global, text: &mut Vec<u8>, stacks: &Stacks) -> Result<(), AllocError>
     ensures { OnOk result (text.new.items ≡ text.old.items ++ work_text stacks.now.work) }
 {
@@ -31,6 +36,10 @@ pub fn push_work(alloc: Global, text: &mut Vec<u8>, stacks: &Stacks) -> Result<(
 }
 
 /// Appends the text of a box stack: its top so many parts, each so deep.
+///
+/// # Errors
+///
+/// Want of memory; what is appended by then says nothing.
 pub fn push_boxes(alloc: Global, text: &mut Vec<u8>, boxes: &BoxStack) -> Result<(), AllocError>
     ensures { OnOk result (text.new.items ≡ text.old.items ++ boxes_text boxes.now) }
 {
@@ -45,6 +54,10 @@ pub fn push_boxes(alloc: Global, text: &mut Vec<u8>, boxes: &BoxStack) -> Result
 }
 
 /// Appends the whole text of a box stack, which is the key of something.
+///
+/// # Errors
+///
+/// Want of memory; what is appended by then says nothing.
 pub fn push_key(alloc: Global, text: &mut Vec<u8>, boxes: &BoxStack) -> Result<(), AllocError>
     ensures { OnOk result (text.new.items ≡ text.old.items ++ key_text boxes.now) }
 {

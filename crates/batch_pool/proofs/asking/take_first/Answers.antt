@@ -1,6 +1,7 @@
 use Rattle.std.proofs.Common.{◌≤◌, length, rules}
 use Rattle.batch_pool.specs.Asking.{HasTicket}
-use Rattle.batch_pool.proofs.Asked.{on_err, comes_first, gives_first, comes_waiting, comes_over, ends_over, ends_waiting, ticket_there, serving_there}
+use Rattle.batch_pool.proofs.Asked.{on_err, comes_first, gives_first, comes_waiting, comes_over, ends_over, ends_waiting, ticket_there}
+use Rattle.batch_pool.proofs.Asked.{serving_there}
 use Rattle.batch_pool.proofs.asking.take_first.Goals as goal
 use Rattle.batch_pool.proofs.asking.take_first.Goals.{in-Waits, in-Over, then-over, else-over}
 

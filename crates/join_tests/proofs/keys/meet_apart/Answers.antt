@@ -6,4 +6,5 @@ pub begin-requires : goal.begin-requires
 begin-requires c = nothing c.args.table.now (c.args.a, c.args.s.now) c.requires.fresh
 
 pub begin-requires-2 : goal.begin-requires-2
-begin-requires-2 c = c.in_ok-begin.ensures.others _ c.requires.apart.1 ∙ nothing c.args.table.now (c.args.b, c.args.t.now) c.requires.fresh
+begin-requires-2 c = c.in_ok-begin.ensures.others _ c.requires.apart.1 ∙
+    nothing c.args.table.now (c.args.b, c.args.t.now) c.requires.fresh

@@ -7,4 +7,5 @@ pub returns : goal.returns
 returns c =
     let moves = c.args.moves.now in
     let end : length moves ≤ c.loop-entry.entry-index = search rules in
-    ap (λ l. l.entries) c.loop-entry.invariant ∙ ap (map first_worker's) (take_all c.loop-entry.entry-index moves end) ∙ each_first moves
+    ap (λ l. l.entries) c.loop-entry.invariant ∙ ap (map first_worker's) (take_all c.loop-entry.entry-index moves end) ∙
+    each_first moves

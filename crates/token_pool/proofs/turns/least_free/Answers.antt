@@ -7,17 +7,20 @@ loop-ticket-init c = begins c.args.core.now.tokens c.args.places.now c.in-Some.t
 
 pub loop-ticket-preserved : goal.loop-ticket-preserved
 loop-ticket-preserved c =
-    goes c.args.core.now.tokens c.args.places.now c.loop-ticket.ticket c.in-Some-next_live.next c.loop-ticket.invariant (sym c.holds.ensures ∙ c.loop-ticket-test.true) c.in-Some-next_live.ensures
+    goes c.args.core.now.tokens c.args.places.now c.loop-ticket.ticket c.in-Some-next_live.next c.loop-ticket.invariant
+    (sym c.holds.ensures ∙ c.loop-ticket-test.true) c.in-Some-next_live.ensures
 
 pub returns-in_default : goal.returns-in_default
 returns-in_default c = empty c.args.core.now.tokens c.args.places.now c.args.core.now.next c.requires.low c.in_default.ensures
 
 pub returns-in-None : goal.returns-in-None
 returns-in-None c =
-    passes c.args.core.now.tokens c.args.places.now c.args.core.now.next c.requires.low c.loop-ticket.ticket c.loop-ticket.invariant (sym c.holds.ensures ∙ c.loop-ticket-test.true) c.in-None.ensures
+    passes c.args.core.now.tokens c.args.places.now c.args.core.now.next c.requires.low c.loop-ticket.ticket c.loop-ticket.invariant
+    (sym c.holds.ensures ∙ c.loop-ticket-test.true) c.in-None.ensures
 
 pub returns : goal.returns
-returns c = finds c.args.core.now.tokens c.args.places.now c.args.core.now.next c.requires.low c.loop-ticket.ticket c.loop-ticket.invariant (sym c.holds.ensures ∙ c.loop-ticket-test.false)
+returns c = finds c.args.core.now.tokens c.args.places.now c.args.core.now.next c.requires.low c.loop-ticket.ticket c.loop-ticket.invariant
+    (sym c.holds.ensures ∙ c.loop-ticket-test.false)
 
 pub returns-then-holders-live_count : goal.returns-then-holders-live_count
 returns-then-holders-live_count c =

@@ -20,7 +20,8 @@ returns-in_err-booked-in-Some-clause-ample c =
 pub invariant_of-self-in-Some : goal.invariant_of-self-in-Some
 invariant_of-self-in-Some c =
     let a = c.self.inside in
-    let held = place_here a.pools.items a.workers a.stopped a.places.items c.self.invariant c.args.self.now c.self.view_is c.args.worker c.requires
+    let held = place_here a.pools.items a.workers a.stopped a.places.items c.self.invariant c.args.self.now c.self.view_is c.args.worker
+    c.requires
     c.deref.result.now (Some c.in-Some.job) c.deref.ensures.value c.in-Some.ensures in
     kept_booked a.pools.items a.workers a.stopped a.places.items c.self.invariant c.args.self.now c.self.view_is c.args.worker c.requires
     c.in-Some.job held.0 held.1 c.args.moved c.book_job.new.pools.items c.in_ok-booked-in-Some.booked c.in_ok-booked-in-Some.ensures.ok
@@ -29,7 +30,8 @@ invariant_of-self-in-Some c =
 pub returns-in_ok-booked-in-Some-clause-ok : goal.returns-in_ok-booked-in-Some-clause-ok
 returns-in_ok-booked-in-Some-clause-ok c =
     let a = c.self.inside in
-    let held = place_here a.pools.items a.workers a.stopped a.places.items c.self.invariant c.args.self.now c.self.view_is c.args.worker c.requires
+    let held = place_here a.pools.items a.workers a.stopped a.places.items c.self.invariant c.args.self.now c.self.view_is c.args.worker
+    c.requires
     c.deref.result.now (Some c.in-Some.job) c.deref.ensures.value c.in-Some.ensures in
     books_there a.pools.items a.workers a.stopped a.places.items c.self.invariant c.args.self.now c.self.view_is c.args.worker c.requires
     c.in-Some.job held.0 held.1 c.args.moved c.book_job.new.pools.items c.in_ok-booked-in-Some.booked c.in_ok-booked-in-Some.ensures.ok
@@ -37,7 +39,8 @@ returns-in_ok-booked-in-Some-clause-ok c =
 pub returns-in-None-clause-ok : goal.returns-in-None-clause-ok
 returns-in-None-clause-ok c =
     let a = c.self.inside in
-    let free = place_here a.pools.items a.workers a.stopped a.places.items c.self.invariant c.args.self.now c.self.view_is c.args.worker c.requires
+    let free = place_here a.pools.items a.workers a.stopped a.places.items c.self.invariant c.args.self.now c.self.view_is c.args.worker
+    c.requires
     c.deref.result.now None c.deref.ensures.value c.in-None.ensures in
     books_nothing a.pools.items a.workers a.stopped a.places.items c.self.invariant c.args.self.now c.self.view_is c.args.worker c.requires
     c.args.moved free

@@ -33,7 +33,8 @@ returns-in_err-taken-in-None-clause-ample c =
 pub invariant_of-self-in-None : goal.invariant_of-self-in-None
 invariant_of-self-in-None c =
     let a = c.self.inside in
-    let free = place_here a.pools.items a.workers a.stopped a.places.items c.self.invariant c.args.self.now c.self.view_is c.args.worker c.requires
+    let free = place_here a.pools.items a.workers a.stopped a.places.items c.self.invariant c.args.self.now c.self.view_is c.args.worker
+    c.requires
     c.deref.result.now None c.deref.ensures.value c.in-None.ensures in
     kept_taken a.pools.items a.workers a.stopped a.places.items c.self.invariant c.args.self.now c.self.view_is c.args.worker c.requires
     free c.law_take_keeps.ensures.good c.law_take_keeps.ensures.held c.in_ok-taken-in-None.taken c.take_first.new.pools.items
@@ -49,7 +50,8 @@ returns-in_ok-piece-in-Some-clause-ok c =
 pub returns-in_ok-taken-in-None-clause-ok : goal.returns-in_ok-taken-in-None-clause-ok
 returns-in_ok-taken-in-None-clause-ok c =
     let a = c.self.inside in
-    let free = place_here a.pools.items a.workers a.stopped a.places.items c.self.invariant c.args.self.now c.self.view_is c.args.worker c.requires
+    let free = place_here a.pools.items a.workers a.stopped a.places.items c.self.invariant c.args.self.now c.self.view_is c.args.worker
+    c.requires
     c.deref.result.now None c.deref.ensures.value c.in-None.ensures in
     takes_first a.pools.items a.workers a.stopped a.places.items c.self.invariant c.args.self.now c.self.view_is c.args.worker c.requires
     c.if-self.false free c.in_ok-taken-in-None.taken c.take_first.new.pools.items c.in_ok-taken-in-None.ensures.ok

@@ -16,11 +16,13 @@ invariant_of-self g c =
 pub returns-clause-last : goal.returns-clause-last
 returns-clause-last g c =
     let i = c.self.invariant in
-    let h = has_read (cell_view c.self.inside.end) (cell_view c.load_as.new.pass) c.self.inside.last c.load_as.result i.1 c.load_as.ensures.rule in
+    let h = has_read (cell_view c.self.inside.end) (cell_view c.load_as.new.pass) c.self.inside.last c.load_as.result i.1
+    c.load_as.ensures.rule in
     sym h.last_is
 
 pub returns-clause-rises : goal.returns-clause-rises
 returns-clause-rises g c =
     let i = c.self.invariant in
-    let h = has_read (cell_view c.self.inside.end) (cell_view c.load_as.new.pass) c.self.inside.last c.load_as.result i.1 c.load_as.ensures.rule in
+    let h = has_read (cell_view c.self.inside.end) (cell_view c.load_as.new.pass) c.self.inside.last c.load_as.result i.1
+    c.load_as.ensures.rule in
     h.rises

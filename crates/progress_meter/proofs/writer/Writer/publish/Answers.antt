@@ -5,7 +5,8 @@ use Rattle.progress_meter.proofs.Ends.{has_published}
 use Rattle.progress_meter.proofs.writer.Writer.publish.Goals as goal
 
 pub swap_as-requires : goal.swap_as-requires
-swap_as-requires g c = let i = c.self.invariant in (search rules, (search rules, (search rules, stores_as _ _ c.args.n i.1.is_writer (search rules))))
+swap_as-requires g c = let i = c.self.invariant in
+    (search rules, (search rules, (search rules, stores_as _ _ c.args.n i.1.is_writer (search rules))))
 
 pub invariant_of-self : goal.invariant_of-self
 invariant_of-self g c =

@@ -25,8 +25,11 @@ invariant_of-self g c =
     let v = cell_view c.self.inside.end in
     let w = cell_view c.split_pass-whole.result in
     let now = cell_view c.join_pass.new.pass in
-    let s = c.load_as.ensures in
-    (s.cell.0 ∙ c.join_pass.ensures.0.0 ∙ i.0, has_settled v w now (cell_view c.load_as.new.pass) c.self.inside.last i.1 c.join_pass.ensures.1 s.rule)
+    let s = c.load_as.ensures in (
+      s.cell.0 ∙ c.join_pass.ensures.0.0 ∙ i.0,
+      has_settled v w now (cell_view c.load_as.new.pass) c.self.inside.last i.1
+          c.join_pass.ensures.1 s.rule,
+    )
 
 pub returns-clause-readings : goal.returns-clause-readings
 returns-clause-readings g c =
@@ -35,7 +38,8 @@ returns-clause-readings g c =
     let w = cell_view c.split_pass-whole.result in
     let now = cell_view c.join_pass.new.pass in
     let are = has_compared v w now (cell_view c.load_as.new.pass) c.join_pass.ensures.1 c.load_as.ensures.rule in
-    subst (λ (x : List ℕ × List ℕ). AreReadingsOf x.0 x.1) (λ i. (ap (λ p. p.published) c.self.view_is i, ap readings_of whole i)) are
+    subst (λ (x : List ℕ × List ℕ). AreReadingsOf x.0 x.1) (λ i. (ap (λ p. p.published) c.self.view_is i, ap readings_of whole i))
+    are
 
 pub returns-clause-faithful : goal.returns-clause-faithful
 returns-clause-faithful g c =

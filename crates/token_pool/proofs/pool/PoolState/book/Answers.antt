@@ -12,7 +12,8 @@ play-requires-clause-reached c =
 pub write_down-requires : goal.write_down-requires
 write_down-requires c =
     let owned = sym c.in-Some.ensures in
-    let f = fits (the_view c.self.inside) c.self.invariant.0 c.args.worker c.in-Some.held owned c.in_ok-count.count c.in_ok-count.ensures.few.1 in
+    let f = fits (the_view c.self.inside) c.self.invariant.0 c.args.worker c.in-Some.held owned c.in_ok-count.count
+    c.in_ok-count.ensures.few.1 in
     let r = c.self.invariant.1 in
     omega (arith, f, r)
 

@@ -10,7 +10,8 @@ hand-requires c =
 
 pub invariant_of-self : goal.invariant_of-self
 invariant_of-self c = (
-  told_good (the_view c.self.inside) c.args.self.now c.args.worker c.told-told.result c.hold.new.self c.self.invariant.0 c.self.view_is c.requires c.told-told.ensures
+  told_good (the_view c.self.inside) c.args.self.now c.args.worker c.told-told.result c.hold.new.self c.self.invariant.0 c.self.view_is
+      c.requires c.told-told.ensures
       c.hold.ensures,
   c.self.invariant.1,
 )

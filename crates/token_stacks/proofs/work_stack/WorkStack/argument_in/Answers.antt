@@ -12,7 +12,10 @@ returns-then-n-lt2 c =
     let h = c.len-n.ensures ∙ c.self.inside.words.ok.0 in
     elim c.then-n-lt2.branch [
       | then-n-lt2-via-then-n-lt2 w ↦ (no_argument_one _ _ _ e h w.if-n-lt2.true, refl)
-      | then-n-lt2-via-else-n-lt2+then-index-ne-SYMBOL_L w ↦ (no_argument_top _ _ _ _ e h w.index.ensures w.if-index-ne-SYMBOL_L.true, refl)
+      | then-n-lt2-via-else-n-lt2+then-index-ne-SYMBOL_L w ↦ (
+        no_argument_top _ _ _ _ e h w.index.ensures w.if-index-ne-SYMBOL_L.true,
+        refl,
+      )
       | then-n-lt2-via-else-n-lt2+else-index-ne-SYMBOL_L+then-index-ne-SIGNATURE w ↦
           (no_argument_under _ _ _ _ e h w.index-else-index-ne-SYMBOL_L.ensures w.if-index-ne-SIGNATURE.true, refl)
     ]
