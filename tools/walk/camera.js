@@ -1,0 +1,89 @@
+// What part of the net the picture shows, and how large.
+
+const camera = {
+  x: 0,
+  y: 0,
+  scale: 1,
+  // Whether somebody has moved it: then it is left alone where the window changes its size.
+  moved: false,
+};
+const SCALES = { least: 0.01, most: 4, legible: 0.6, close: 0.85, whole: 1.7 };
+
+function pictureSize() {
+  const { width, height } = byId("picture").getBoundingClientRect();
+  return { width: width || 800, height: height || 600 };
+}
+
+function applyCamera() {
+  drawing.root.setAttribute("transform", `translate(${camera.x.toFixed(2)} ${camera.y.toFixed(2)}) scale(${camera.scale.toFixed(4)})`);
+  byId("picture").classList.toggle("far", camera.scale < 0.3);
+  if (!playing.motion) drawMap();
+}
+
+function centre(x, y) {
+  const { width, height } = pictureSize();
+  camera.x = width / 2 - x * camera.scale;
+  camera.y = height / 2 - y * camera.scale;
+  applyCamera();
+}
+
+// The whole net.
+function showAll() {
+  const { width, height } = pictureSize();
+  const { left, right, top, bottom } = view.layout.bounds;
+  const scale = Math.min(width / (right - left + 140), height / (bottom - top + 90), SCALES.whole);
+  camera.scale = Math.max(scale, SCALES.least);
+  centre((left + right) / 2, (top + bottom) / 2);
+}
+
+// The whole net where it is legible so, and else the token at a legible size.
+function showHome() {
+  showAll();
+  if (camera.scale >= SCALES.legible) return;
+  const { x, y } = focusPoint();
+  camera.scale = SCALES.close;
+  centre(x, y);
+}
+
+// Where the move that is shown happened.
+function focusPoint() {
+  const shown = shownToken();
+  if (shown) return restPoint(shown.token);
+  const move = view.run.lastMove();
+  return view.layout.places[move ? move.node : view.net.nodes.length - 1];
+}
+
+// Moves only as far as is needed to have a point well inside the picture; `share` is how much of that at once.
+function follow(point, share) {
+  if (!view.follow) return;
+  const { width, height } = pictureSize();
+  const { left, right, top, bottom } = view.layout.bounds;
+  const off = (place, size) => {
+    const rim = size * 0.24;
+    return place < rim ? rim - place : place > size - rim ? size - rim - place : 0;
+  };
+  const byX = (right - left) * camera.scale < width - 40 ? 0 : off(point.x * camera.scale + camera.x, width);
+  const byY = (bottom - top) * camera.scale < height - 40 ? 0 : off(point.y * camera.scale + camera.y, height);
+  if (byX === 0 && byY === 0) return;
+  camera.x += byX * share;
+  camera.y += byY * share;
+  applyCamera();
+}
+
+// Larger or smaller, with this point of the picture (its middle where none is given) left where it is.
+function zoom(factor, atX = pictureSize().width / 2, atY = pictureSize().height / 2) {
+  camera.moved = true;
+  const scale = Math.min(SCALES.most, Math.max(SCALES.least, camera.scale * factor));
+  const ratio = scale / camera.scale;
+  camera.x = atX - (atX - camera.x) * ratio;
+  camera.y = atY - (atY - camera.y) * ratio;
+  camera.scale = scale;
+  applyCamera();
+}
+
+function pan(byX, byY) {
+  camera.moved = true;
+  camera.x += byX;
+  camera.y += byY;
+  applyCamera();
+}

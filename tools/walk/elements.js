@@ -1,0 +1,34 @@
+// Short ways to make elements and to find the page's own. The names of SVG are taken from the page's picture, so that no address stands
+// in the page.
+
+const byId = id => document.getElementById(id);
+const SVG_NAMES = byId("picture").namespaceURI;
+
+function filled(made, attributes, children) {
+  for (const name in attributes) made.setAttribute(name, attributes[name]);
+  made.append(...children);
+  return made;
+}
+
+// An element of a picture.
+function shape(tag, attributes = {}, ...children) {
+  return filled(document.createElementNS(SVG_NAMES, tag), attributes, children);
+}
+
+// An element of the page.
+function element(tag, attributes = {}, ...children) {
+  return filled(document.createElement(tag), attributes, children);
+}
+
+// The value of one of the style sheet's variables, in the theme that is shown.
+const styleValue = name => getComputedStyle(document.documentElement).getPropertyValue(name).trim();
+
+// A canvas of so many pixels of the page, sharp on every screen, and its brush.
+function sizedCanvas(canvas, width, height) {
+  const ratio = devicePixelRatio || 1;
+  canvas.width = Math.round(width * ratio);
+  canvas.height = Math.round(height * ratio);
+  const brush = canvas.getContext("2d");
+  brush.scale(ratio, ratio);
+  return brush;
+}

@@ -1,0 +1,81 @@
+// Where the text beside each wire is put: just below the node that the wire leaves, on the side where it meets the least.
+
+const LABEL = { height: 11, gap: 6, cell: 24, search: 4000 };
+
+// {x, y, anchor} for each wire.
+function placeLabels(net, layout, types) {
+  const crowd = net.nodes.length <= LABEL.search ? new Crowd(layout) : null;
+  return net.wires.map(wire => {
+    const width = wireText(wire, types).length * SIZES.letter;
+    const choices = labelChoices(net, layout, wire, types);
+    if (!crowd) return choices[0];
+    let best = null;
+    for (const choice of choices) {
+      choice.cost += crowd.count(boxOf(choice, width), wire.id);
+      if (!best || choice.cost < best.cost) best = choice;
+    }
+    crowd.addBox(boxOf(best, width));
+    return best;
+  });
+}
+
+function labelChoices(net, layout, wire, types) {
+  const [start, next] = layout.points[wire.id];
+  const siblings = net.nodes[wire.above].down;
+  const outerLeft = siblings.length > 1 ? siblings.indexOf(wire.id) === 0 : next[0] > start[0] + 30 && !types;
+  const choices = [];
+  for (const [late, share] of (types ? [0.12, 0.2, 0.3] : [0.2, 0.13, 0.3, 0.45]).entries()) {
+    for (const left of [outerLeft, !outerLeft]) {
+      const [x, y] = curvePoint(start, next, share);
+      const side = left === outerLeft ? 0 : 4;
+      choices.push({ x: x + (left ? -LABEL.gap : LABEL.gap), y: y + 4, anchor: left ? "end" : "start", cost: late * 2 + side });
+    }
+  }
+  return choices;
+}
+
+const boxOf = (choice, width) => {
+  const left = choice.anchor === "end" ? choice.x - width : choice.x;
+  return { left: left - 1, right: left + width + 1, top: choice.y - LABEL.height + 1, bottom: choice.y + 3 };
+};
+
+// Points of everything that is drawn, by cells of a grid, so that what a box meets is found at once.
+class Crowd {
+  constructor(layout) {
+    this.cells = new Map();
+    layout.points.forEach((points, wire) => {
+      for (let at = 1; at < points.length; at++) {
+        const steps = Math.max(1, Math.ceil(Math.hypot(points[at][0] - points[at - 1][0], points[at][1] - points[at - 1][1]) / 6));
+        for (let step = 0; step < steps; step++) this.add(...curvePoint(points[at - 1], points[at], step / steps), wire);
+      }
+    });
+    for (const { x, y, width } of layout.places) {
+      this.addBox({ left: x - width / 2, right: x + width / 2, top: y - SIZES.nodeHeight / 2, bottom: y + SIZES.nodeHeight / 2 });
+    }
+  }
+
+  add(x, y, wire) {
+    const key = Math.floor(x / LABEL.cell) * 1000003 + Math.floor(y / LABEL.cell);
+    const cell = this.cells.get(key);
+    if (cell) cell.push(x, y, wire); else this.cells.set(key, [x, y, wire]);
+  }
+
+  addBox({ left, right, top, bottom }) {
+    for (let x = left; x <= right; x += 6) for (let y = top; y <= bottom; y += 5) this.add(x, y, -1);
+  }
+
+  // What a box meets: each point of another counts ten, of its own wire one.
+  count({ left, right, top, bottom }, own) {
+    let count = 0;
+    for (let column = Math.floor(left / LABEL.cell); column <= Math.floor(right / LABEL.cell); column++) {
+      for (let row = Math.floor(top / LABEL.cell); row <= Math.floor(bottom / LABEL.cell); row++) {
+        const cell = this.cells.get(column * 1000003 + row) || [];
+        for (let at = 0; at < cell.length; at += 3) {
+          const [x, y, wire] = [cell[at], cell[at + 1], cell[at + 2]];
+          if (x >= left && x <= right && y >= top && y <= bottom) count += wire === own ? 1 : 10;
+        }
+      }
+    }
+    return count;
+  }
+}

@@ -1,0 +1,50 @@
+// The log: a line for each move. Only the lines that are seen are in the page.
+
+const LOG_LINE = 22;
+
+function sizeLog() {
+  byId("log-lines").style.height = view.run.length * LOG_LINE + "px";
+  drawLog();
+}
+
+function drawLog() {
+  const { run } = view;
+  const box = byId("log");
+  const from = Math.max(0, Math.floor(box.scrollTop / LOG_LINE) - 3);
+  const to = Math.min(run.length, Math.ceil((box.scrollTop + box.clientHeight) / LOG_LINE) + 3);
+  const lines = [];
+  for (let at = from; at < to; at++) lines.push(logLine(at));
+  byId("log-lines").replaceChildren(...lines);
+}
+
+function logLine(at) {
+  const { run } = view;
+  const move = run.move(at);
+  const when = at === run.state.at - 1 ? " now" : at >= run.state.at ? " later" : "";
+  const ticket = element("b", {}, "t" + move.ticket);
+  ticket.style.color = colourOf(move.ticket, move.worker);
+  const line = element("div", { class: "line" + when, title: run.trace.lines[at], "data-at": at },
+    element("span", { class: "count" }, String(move.number)), ticket, ` ${move.name} ${move.node}  ${logEnd(move)}`);
+  line.style.top = at * LOG_LINE + "px";
+  return line;
+}
+
+function logEnd(move) {
+  switch (move.kind) {
+    case "kept": return "kept " + move.in + " " + move.before.value;
+    case "answer": return "answer " + move.value;
+    case "fork": return "fork t" + move.ticket2;
+    case "joined": return "join " + move.after.value;
+    default: return move.after.value + (move.after.direction === "up" ? "↑" : "↓") + move.after.wire + " " + move.after.work;
+  }
+}
+
+// Has the line of the last move in sight.
+function scrollLog() {
+  const box = byId("log");
+  const top = (view.run.state.at - 1) * LOG_LINE;
+  if (top < box.scrollTop + LOG_LINE || top > box.scrollTop + box.clientHeight - 2 * LOG_LINE) {
+    box.scrollTop = Math.max(0, top - box.clientHeight / 2);
+  }
+  drawLog();
+}

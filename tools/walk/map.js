@@ -1,0 +1,69 @@
+// The whole net in small, with all tokens and what the picture shows, where the picture shows only a part.
+
+const MAP = { width: 210, height: 130, rim: 4, tokens: 400 };
+let mapGround = null;
+
+function forgetMap() { mapGround = null; }
+
+function mapMeasure() {
+  const { left, right, top, bottom } = view.layout.bounds;
+  const width = right - left;
+  const height = bottom - top;
+  const least = Math.min(MAP.width / width, MAP.height / height);
+  const byX = Math.max(least, Math.min(MAP.width / width, 1));
+  const byY = Math.max(least, Math.min(MAP.height / height, 60 / height));
+  return {
+    byX, byY, width: Math.ceil(width * byX + 2 * MAP.rim), height: Math.ceil(height * byY + 2 * MAP.rim),
+    x: place => (place - left) * byX + MAP.rim, y: place => (place - top) * byY + MAP.rim,
+  };
+}
+
+function drawMap() {
+  const canvas = byId("map");
+  const size = pictureSize();
+  const { left, right, top, bottom } = view.layout.bounds;
+  const fits = (right - left) * camera.scale < size.width * 1.15 && (bottom - top) * camera.scale < size.height * 1.15;
+  canvas.hidden = size.width < 560 || fits;
+  if (canvas.hidden) return;
+  const measure = mapMeasure();
+  if (!mapGround) mapGround = drawMapGround(measure);
+  canvas.style.width = measure.width + "px";
+  canvas.style.height = measure.height + "px";
+  const brush = sizedCanvas(canvas, measure.width, measure.height);
+  brush.drawImage(mapGround, 0, 0, measure.width, measure.height);
+  let count = 0;
+  for (const [ticket, token] of view.run.state.live) {
+    if (++count > MAP.tokens) break;
+    const { x, y } = restPoint(token);
+    brush.fillStyle = styleValue("--k" + ticket % COLOURS);
+    brush.fillRect(measure.x(x) - 2, measure.y(y) - 2, 4, 4);
+  }
+  brush.strokeStyle = styleValue("--accent");
+  brush.lineWidth = 1.5;
+  brush.strokeRect(measure.x(-camera.x / camera.scale), measure.y(-camera.y / camera.scale),
+    Math.max(4, size.width / camera.scale * measure.byX), Math.max(4, size.height / camera.scale * measure.byY));
+}
+
+function drawMapGround(measure) {
+  const canvas = document.createElement("canvas");
+  const brush = sizedCanvas(canvas, measure.width, measure.height);
+  const colours = { fix: styleValue("--fix-line"), box: styleValue("--box-line") };
+  brush.globalAlpha = 0.6;
+  for (const { left, right, top, bottom, fix } of view.layout.frames) {
+    brush.strokeStyle = fix ? colours.fix : colours.box;
+    brush.strokeRect(measure.x(left), measure.y(top), (right - left) * measure.byX, (bottom - top) * measure.byY);
+  }
+  brush.globalAlpha = 0.8;
+  brush.fillStyle = styleValue("--faint");
+  for (const { x, y } of view.layout.places) brush.fillRect(measure.x(x) - 1, measure.y(y) - 0.7, 2, 1.4);
+  return canvas;
+}
+
+// A press on the map moves the picture there.
+function pressMap(event) {
+  const rect = byId("map").getBoundingClientRect();
+  const measure = mapMeasure();
+  const { left, top } = view.layout.bounds;
+  camera.moved = true;
+  centre((event.clientX - rect.left - MAP.rim) / measure.byX + left, (event.clientY - rect.top - MAP.rim) / measure.byY + top);
+}

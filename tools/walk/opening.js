@@ -1,0 +1,65 @@
+// Opening what was printed: texts inside the page, or files that are chosen or dropped. Files are told by how they begin.
+
+// {name, file, program, net, trace}. Nothing that is open changes where these can't be shown.
+function openWalk({ name, file, program, net: netText, trace: traceText }) {
+  const net = readNet(netText);
+  const layout = new Layout(net, view.types);
+  const run = new Run(readTrace(traceText), net);
+  if (playing.on || playing.motion) pause();
+  Object.assign(view, { name, file: file || name, program, netText, net, layout, run, onlyWire: null });
+  camera.moved = false;
+  forgetMap();
+  forgetStrip();
+  document.title = name + " · a walk of goi";
+  byId("name").textContent = name;
+  byId("summary").textContent = summaryText();
+  byId("slider").max = run.length;
+  byId("now").min = run.first;
+  byId("now").max = run.first + run.length;
+  byId("of").textContent = run.trace.moves === null ? run.first + run.length : run.trace.moves;
+  byId("nothing").hidden = true;
+  document.body.classList.remove("closed");
+  drawProgram();
+  drawNet();
+  sizeLog();
+  show(0, true);
+  showHome();
+}
+
+function summaryText() {
+  const { run, net } = view;
+  const { value, moves, lines } = run.trace;
+  const many = (count, what) => count + " " + what + (count === 1 ? "" : "s");
+  const parts = [value === null ? `no value within ${moves} moves` : `value ${value}, ${many(moves, "move")}`];
+  if (!run.whole && lines.length > 0) parts.push(`here moves ${run.first} to ${run.first + run.length - 1}`);
+  parts.push(many(net.nodes.length, "node"), many(run.tickets(), "ticket"));
+  if (run.workers > 1) parts.push(many(run.workers, "worker"));
+  return parts.join(" · ");
+}
+
+// A trace alone is shown on the net that is open.
+async function openFiles(files) {
+  try {
+    const found = { name: "", program: "", net: "", trace: "" };
+    for (const file of files) {
+      const text = await file.text();
+      if (text.startsWith("net 1\n")) found.net = text;
+      else if (/^trace 1$/m.test(text)) found.trace = text;
+      else Object.assign(found, { program: text, name: file.name });
+      if (!found.name) found.name = file.name.replace(/\.(net|trace)$/, "");
+    }
+    if (!found.trace) throw new Error("No trace is among these files.");
+    if (!found.net && view.net) Object.assign(found, { net: view.netText, program: view.program, name: view.name, file: view.file });
+    if (!found.net) throw new Error("No net is among these files.");
+    openWalk(found);
+  } catch (error) {
+    tellTrouble(error.message);
+  }
+}
+
+function tellTrouble(text) {
+  byId("nothing").hidden = false;
+  document.body.classList.toggle("closed", view.run === null);
+  byId("back-to-walk").hidden = view.run === null;
+  byId("trouble").textContent = text;
+}

@@ -1,0 +1,151 @@
+// What the last move was, in words; its token's stacks; the live tokens, the open forks and the answer.
+
+const ROWS_SHOWN = 60;
+const CELLS_SHOWN = 6;
+
+// A ticket's number; a press goes to its next move.
+function ticketButton(ticket, worker, text) {
+  const button = element("button", { class: "ticket", title: "to the next move of ticket " + ticket, "data-ticket": ticket }, text);
+  button.style.color = colourOf(ticket, worker);
+  button.setAttribute("aria-label", "ticket " + ticket + ", to its next move");
+  button.addEventListener("click", () => nextOf(view.run.ticketOf, ticket, 1));
+  return button;
+}
+
+// The move at this place of the trace; null at the beginning.
+function tellMove(move) {
+  if (!move) return tellStart();
+  const rule = ruleOf(move);
+  const asks = move.before.value === "?";
+  const worker = view.run.workers > 1 ? ` worker ${move.worker},` : "";
+  const what = asks ? " a question" : ` an answer, ${move.before.value},`;
+  const who = element("div", {}, ticketButton(move.ticket, move.worker, "ticket " + move.ticket), `${worker}${what} at node ${move.node}`);
+  const parts = [element("div", { class: "title" }, rule.title), who, element("p", {}, rule.say)];
+  if (rule.from) {
+    const arrow = element("span", { role: "img", "aria-label": "becomes" }, "→");
+    parts.push(element("div", { class: "rule" }, rulePlace(rule.from, move.before), arrow, rulePlace(rule.to, move.after)));
+  }
+  if (move.kind === "answer") parts.push(element("p", {}, element("b", {}, "value " + move.value)));
+  byId("say").replaceChildren(...parts);
+  tellStacks(move.before, move.after || move.before);
+}
+
+function tellStart() {
+  const shown = shownToken();
+  const { first } = view.run;
+  const title = element("div", { class: "title" }, first === 0 ? "The run begins" : "The part from move " + first + " on");
+  if (!shown) {
+    byId("say").replaceChildren(title, element("p", {}, "No token is live here."));
+    tellStacks({ work: "-", boxes: "-" }, { work: "-", boxes: "-" });
+    return;
+  }
+  const { ticket, token } = shown;
+  const text = first === 0 && token.value === "?"
+    ? `One token, under ticket ${ticket}, asks for the program's value. The question goes up wire ${token.wire}. Both its stacks are empty.`
+    : `So many tokens are live before move ${first}: ${view.run.state.live.size}. The least ticket is ${ticket}.`;
+  byId("say").replaceChildren(title, element("p", {}, text));
+  tellStacks(token, token);
+}
+
+// One side of a row of the table.
+function rulePlace([port, direction, work, boxes], token) {
+  const place = `${port} ${direction === "up" ? "↑" : "↓"}, wire ${token.wire}`;
+  return element("div", {}, place, element("span", { class: "code" }, work + (boxes === "t" ? "" : " at " + boxes)));
+}
+
+function tellStacks(before, after) {
+  byId("work").replaceChildren(stackCells(before.work, after.work));
+  byId("boxes").replaceChildren(stackCells(before.boxes, after.boxes));
+  byId("work-count").textContent = countParts(after.work);
+  byId("boxes-count").textContent = countParts(after.boxes);
+  tellOther();
+}
+
+// How many parts a stack has, with those that the trace leaves out.
+function countParts(stack) {
+  const parts = stackParts(stack);
+  const last = parts[parts.length - 1] || "";
+  return last.startsWith("+") ? parts.length - 1 + Number(last.slice(1)) : parts.length;
+}
+
+// A stack after a move: what came off, what was put on top, and the rest.
+function stackCells(before, after) {
+  const old = stackParts(before);
+  const now = stackParts(after);
+  let same = 0;
+  while (same < old.length && same < now.length && old[old.length - 1 - same] === now[now.length - 1 - same]) same++;
+  const cell = (kind, note) => part => element("div", { class: kind, title: note + part }, part);
+  const rest = now.slice(now.length - same);
+  const cells = element("div", { class: "cells" }, ...old.slice(0, old.length - same).map(cell("cell gone", "came off: ")),
+    ...now.slice(0, now.length - same).map(cell("cell new", "new: ")), ...rest.slice(0, CELLS_SHOWN).map(cell("cell", "")));
+  if (rest.length > CELLS_SHOWN) cells.append(element("div", { class: "empty" }, "and " + (rest.length - CELLS_SHOWN) + " below"));
+  if (now.length === 0) cells.append(element("div", { class: "empty" }, "empty"));
+  return cells;
+}
+
+function tellTables() {
+  const { state } = view.run;
+  const move = view.run.lastMove();
+  const mover = move ? move.ticket : -1;
+  const all = [...state.live].sort((one, two) => one[0] - two[0]);
+  const { onlyWire } = view;
+  const wanted = onlyWire === null ? all : all.filter(([, token]) => token.wire === onlyWire);
+  byId("live-count").textContent = onlyWire === null ? all.length : wanted.length + " of " + all.length + ", on wire " + onlyWire;
+  byId("live-all").hidden = onlyWire === null;
+  byId("live").replaceChildren(...firstRows(wanted, mover).map(([ticket, token]) => liveRow(ticket, token, ticket === mover)));
+  tellCut(byId("live"), wanted.length);
+  byId("open-count").textContent = state.open.size;
+  byId("open").replaceChildren(...[...state.open.values()].slice(-ROWS_SHOWN).reverse().map(openRow));
+  tellCut(byId("open"), state.open.size);
+  byId("none-open").hidden = state.open.size > 0;
+  byId("answer").textContent = answerText();
+}
+
+// The first rows, and that of the token that moved.
+function firstRows(rows, ticket) {
+  const shown = rows.slice(0, ROWS_SHOWN);
+  const mover = rows.find(row => row[0] === ticket);
+  return mover && !shown.includes(mover) ? [mover, ...shown] : shown;
+}
+
+function tellCut(table, count) {
+  if (count <= ROWS_SHOWN) return;
+  table.append(element("tr", {}, element("td", { colspan: 5, class: "empty" }, `and ${count - ROWS_SHOWN} more`)));
+}
+
+function liveRow(ticket, token, moved) {
+  const code = text => element("td", { class: "code", title: text }, text);
+  const button = ticketButton(ticket, view.run.lastWorkerOf(ticket), String(ticket));
+  const does = token.value === "?" ? "asks" : "= " + token.value;
+  const where = token.wire + (token.direction === "up" ? " ↑" : " ↓");
+  return element("tr", moved ? { class: "now" } : {}, element("td", {}, button), element("td", {}, does), element("td", {}, where),
+    code(token.work), code(token.boxes));
+}
+
+function openRow({ node, boxes, left, right }) {
+  return element("tr", {}, element("td", {}, view.net.nodes[node].name + " " + node), element("td", { class: "code", title: boxes }, boxes),
+    element("td", {}, left === null ? "waits" : left), element("td", {}, right === null ? "waits" : right));
+}
+
+function answerText() {
+  const { state, trace, length } = view.run;
+  if (state.answer !== null) return state.answer;
+  const over = state.at === length && trace.value === null && trace.moves !== null && movesMade() >= trace.moves;
+  return over ? "none within " + trace.moves + " moves" : "not yet";
+}
+
+// The next two moves, and their exchange where it can be had.
+function tellSwap() {
+  const why = whyNoSwap(view.run);
+  const { run } = view;
+  byId("swap-save").disabled = why !== null;
+  byId("swap-how").hidden = why !== null;
+  if (why !== null) { byId("swap-say").textContent = why; return; }
+  const [one, two] = [run.move(run.state.at), run.move(run.state.at + 1)];
+  const moves = `Moves ${one.number} and ${two.number} are of tickets ${one.ticket} and ${two.ticket}.`;
+  byId("swap-say").textContent = moves + " They can be exchanged.";
+  byId("swap-command").textContent = `goi replay ${shellWord(view.file)} ${swapName()} --trace`;
+}
+
+const fileStem = () => view.name.replace(/\.[^.]*$/, "").replace(/[^\w-]+/g, "-") || "walk";
+const swapName = () => fileStem() + "-swap-" + view.run.state.at + ".schedule";

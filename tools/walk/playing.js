@@ -1,0 +1,244 @@
+// Going along the run: by jumps, move by move with motion, and by itself.
+
+const playing = { on: false, speed: 1, motion: null, told: 0 };
+const SPEEDS = [0.25, 0.5, 1, 2, 4, 10, 50, 500];
+const MOVE_TIME = 620;
+const wantsStillness = matchMedia("(prefers-reduced-motion: reduce)");
+
+// Shows the state behind so many lines of the trace.
+function show(at, quiet = false) {
+  endMotion();
+  view.run.go(at);
+  drawState();
+  tellState(quiet);
+}
+
+// Everything that tells the state in words, and the picture's marks.
+function tellState(quiet) {
+  const { run } = view;
+  const move = run.lastMove();
+  markNode(move ? move.node : null);
+  follow(focusPoint(), 1);
+  const now = performance.now();
+  // While many moves pass in a second, words come now and then.
+  const passing = playing.on && playing.speed > 20 && run.state.at < run.length && now - playing.told < 120;
+  if (!passing) {
+    playing.told = now;
+    drawTrail();
+    drawCard();
+    markProgram(move ? move.node : null);
+    tellMove(move);
+    tellTables();
+    tellSwap();
+    scrollLog();
+  }
+  drawStrip();
+  byId("slider").value = run.state.at;
+  byId("slider").setAttribute("aria-valuetext", `${movesMade()} of ${run.first + run.length} moves`);
+  if (document.activeElement !== byId("now") || !playing.on) byId("now").value = movesMade();
+  const rule = move ? ruleOf(move) : null;
+  const text = move ? `Move ${move.number}, ticket ${move.ticket}. ${rule.title}. ${rule.say}` : "The run begins.";
+  byId("picture").setAttribute("aria-label", `A net with ${run.state.live.size} live tokens. ${text}`);
+  if (!quiet) byId("announce").textContent = text;
+  if (!playing.on) rememberPlace();
+}
+
+// The number of moves is in the address, so that a place can be passed on.
+let placeTimer = 0;
+function rememberPlace() {
+  clearTimeout(placeTimer);
+  placeTimer = setTimeout(() => history.replaceState(null, "", "#move=" + movesMade()), 300);
+}
+
+function endMotion() {
+  if (!playing.motion) return;
+  cancelAnimationFrame(playing.motion.frame);
+  const { finish } = playing.motion;
+  playing.motion = null;
+  finish();
+}
+
+// Makes the next move with motion: the token runs into the node and out of it again.
+function step(then = () => {}) {
+  const { run } = view;
+  if (run.state.at >= run.length) { pause(); return; }
+  const time = MOVE_TIME / playing.speed;
+  if (wantsStillness.matches || time < 25 || document.hidden) { show(run.state.at + 1, playing.on); then(); return; }
+  endMotion();
+  const at = run.state.at;
+  const move = run.move(at);
+  const glyphsMoved = startMotion(move);
+  tellMove(move);
+  markProgram(move.node);
+  markNode(move.node);
+  const begin = performance.now();
+  const frame = now => {
+    const share = Math.min(1, (now - begin) / time);
+    drawMotion(move, glyphsMoved, share < 0.5 ? 2 * share * share : 1 - (2 - 2 * share) ** 2 / 2);
+    if (share < 1) { playing.motion.frame = requestAnimationFrame(frame); return; }
+    endMotion();
+    then();
+  };
+  const finish = () => {
+    for (const { glyph } of glyphsMoved) glyph.group.style.opacity = 1;
+    run.go(at + 1);
+    drawState();
+    tellState(playing.on);
+  };
+  playing.motion = { frame: requestAnimationFrame(frame), finish };
+}
+
+// The glyphs that a move moves, each with the token that it becomes; without one where the token ends.
+function startMotion(move) {
+  drawing.layers.card.replaceChildren();
+  const colour = colourOf(move.ticket, move.worker);
+  const glyph = glyphOf(move.ticket);
+  dressGlyph(glyph, move.ticket, move.before, colour);
+  drawing.layers.tokens.append(glyph.group);
+  const moved = [{ glyph, ticket: move.ticket, after: move.after, colour }];
+  if (move.kind === "fork") {
+    const second = glyphOf(move.ticket2);
+    second.group.style.opacity = 0;
+    const colour2 = colourOf(move.ticket2, move.worker);
+    dressGlyph(second, move.ticket2, move.after2, colour2);
+    moved.push({ glyph: second, ticket: move.ticket2, after: move.after2, colour: colour2 });
+  }
+  return moved;
+}
+
+const between = (from, to, share) => ({ x: from.x + (to.x - from.x) * share, y: from.y + (to.y - from.y) * share });
+
+// A third of the time into the node, then across it, then to where the token rests.
+function drawMotion(move, glyphsMoved, share) {
+  const { before } = move;
+  const rest = restDistance(before);
+  const end = before.direction === "up" ? 0 : wireLength(before.wire);
+  const into = 0.34;
+  if (share < into) {
+    putGlyph(glyphsMoved[0].glyph, pointOn(before.wire, rest + (end - rest) * share / into));
+    return;
+  }
+  const left = (share - into) / (1 - into);
+  const enters = pointOn(before.wire, end);
+  for (const { glyph, ticket, after, colour } of glyphsMoved) {
+    if (!after) {
+      putGlyph(glyph, between(enters, view.layout.places[move.node], left));
+      glyph.group.style.opacity = 1 - left;
+      continue;
+    }
+    glyph.group.style.opacity = 1;
+    dressGlyph(glyph, ticket, after, colour);
+    const point = motionPoint(enters, after, left);
+    putGlyph(glyph, point);
+    if (ticket === move.ticket) follow(point, 0.16);
+  }
+}
+
+function motionPoint(enters, after, share) {
+  const across = 0.3;
+  const start = after.direction === "up" ? wireLength(after.wire) : 0;
+  if (share < across) return between(enters, pointOn(after.wire, start), share / across);
+  return pointOn(after.wire, start + (restDistance(after) - start) * (share - across) / (1 - across));
+}
+
+function play() {
+  if (view.run.state.at >= view.run.length) show(0);
+  playing.on = true;
+  tellPlaying();
+  playOn();
+}
+
+function playOn() {
+  const { run } = view;
+  if (!playing.on) return;
+  if (run.state.at >= run.length) { pause(); return; }
+  const time = MOVE_TIME / playing.speed;
+  if (time >= 25 && !wantsStillness.matches && !document.hidden) { step(playOn); return; }
+  show(run.state.at + Math.max(1, Math.round(16 / time)), true);
+  setTimeout(playOn, wantsStillness.matches ? Math.max(time, 16) : 16);
+}
+
+function pause() {
+  playing.on = false;
+  tellPlaying();
+  endMotion();
+  if (view.run) rememberPlace();
+}
+
+function tellPlaying() {
+  byId("play").textContent = playing.on ? "❚❚ Pause" : "▶ Play";
+  byId("play").setAttribute("aria-pressed", playing.on);
+}
+
+function setSpeed(speed) {
+  playing.speed = speed;
+  byId("speed").value = String(speed);
+}
+
+const changeSpeed = by => setSpeed(SPEEDS[Math.max(0, Math.min(SPEEDS.length - 1, SPEEDS.indexOf(playing.speed) + by))]);
+
+function jump(at) {
+  pause();
+  show(at);
+}
+
+function forth(count = 1) {
+  pause();
+  if (count === 1) step(); else show(view.run.state.at + count);
+}
+
+function back(count = 1) {
+  pause();
+  show(view.run.state.at - count);
+}
+
+// To the state behind the next fork, join or answer, or the last one before.
+function nextMark(direction) {
+  const { run } = view;
+  pause();
+  const places = run.marks.map(mark => mark.at + 1);
+  const at = run.state.at;
+  const found = direction > 0 ? places.find(place => place > at) : places.findLast(place => place < at);
+  show(found !== undefined ? found : direction > 0 ? run.length : 0);
+}
+
+// To the next move (or the last one before) for which a list has this number: at a node, or of a ticket. Behind the last comes the first.
+function nextOf(list, wanted, direction) {
+  const { run } = view;
+  pause();
+  const from = run.state.at - 1;
+  for (let count = 1; count <= run.length; count++) {
+    const at = (((from + direction * count) % run.length) + run.length) % run.length;
+    if (list[at] === wanted) { show(at + 1); return; }
+  }
+}
+
+// From a question to its answer and back: the place on the same wire with the same stacks, the other way round.
+function otherEnd() {
+  const { run } = view;
+  const shown = shownToken();
+  if (!shown || isCut(shown.token)) return null;
+  const { token } = shown;
+  const same = other => other && other.wire === token.wire && other.work === token.work && other.boxes === token.boxes &&
+    other.direction !== token.direction && (other.value === "?") !== (token.value === "?");
+  if (token.value === "?") {
+    for (let at = run.state.at; at < run.length; at++) if (same(run.move(at).after)) return at + 1;
+    return null;
+  }
+  for (let at = run.state.at - 2; at >= 0; at--) if (same(run.move(at).after) || same(run.move(at).after2)) return at + 1;
+  return run.first === 0 && run.trace.live.some(({ words }) => same(tokenOf(words, 2))) ? 0 : null;
+}
+
+function goOther() {
+  const found = otherEnd();
+  pause();
+  if (found === null) byId("announce").textContent = "The other end isn't in this trace, or the stacks are cut, so that it can't be told.";
+  else show(found);
+}
+
+function tellOther() {
+  const shown = shownToken();
+  const button = byId("other");
+  button.textContent = shown && shown.token.value !== "?" ? "◂ its question here" : "▸ its answer here";
+  button.disabled = !shown || isCut(shown.token);
+}

@@ -1,0 +1,40 @@
+// Files that the page gives away: a picture of the moment, and a schedule.
+
+function saveFile(name, type, text) {
+  const link = element("a", { href: URL.createObjectURL(new Blob([text], { type })), download: name });
+  link.click();
+  setTimeout(() => URL.revokeObjectURL(link.href), 1000);
+}
+
+// The whole net at this moment as SVG that stands alone.
+function pictureText() {
+  const { run, layout } = view;
+  const copy = byId("picture").cloneNode(true);
+  const { left, right, top, bottom } = layout.bounds;
+  const [width, height] = [right - left + 100, bottom - top + 100];
+  copy.firstChild.removeAttribute("transform");
+  for (const name of ["id", "class", "tabindex"]) copy.removeAttribute(name);
+  copy.setAttribute("viewBox", [left - 50, top - 30, width, height].map(Math.round).join(" "));
+  copy.setAttribute("width", Math.round(width));
+  copy.setAttribute("height", Math.round(height));
+  const move = run.lastMove();
+  const when = `${view.name}, after ${movesMade()} of ${run.trace.moves} moves`;
+  const last = move ? `: ${ruleOf(move).title} (ticket ${move.ticket}, node ${move.node})` : "";
+  copy.prepend(shape("title", {}, when), shape("style", {}, pictureStyle()),
+    shape("rect", { x: left - 50, y: top - 30, width, height, style: "fill:var(--bg)" }));
+  copy.append(shape("text", { x: left - 40, y: bottom + 50, style: "font-size:13px;fill:var(--ink)" }, when + last));
+  return new XMLSerializer().serializeToString(copy) + "\n";
+}
+
+// The colours of the theme that is shown, and the rules of what a picture has.
+function pictureStyle() {
+  const rules = [...document.styleSheets[0].cssRules];
+  const names = [...rules[0].style].filter(name => name.startsWith("--"));
+  const colours = names.map(name => `${name}:${styleValue(name)}`).join(";");
+  const used = /^\.(frame|wire|node|label|trail|token|card|tie|entry|pile|answer)/;
+  const drawn = rules.filter(rule => rule.selectorText && used.test(rule.selectorText)).map(rule => rule.cssText);
+  return `svg{${colours};font-family:system-ui,'DejaVu Sans',sans-serif}\n${drawn.join("\n")}`;
+}
+
+const savePicture = () => saveFile(`${fileStem()}-${movesMade()}.svg`, "image/svg+xml", pictureText());
+const saveSwap = () => saveFile(swapName(), "text/plain", swappedSchedule(view.run));

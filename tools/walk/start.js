@@ -1,0 +1,30 @@
+// The page begins: what is inside it is opened, and what its address says is done.
+
+function goToAddress() {
+  const wanted = new URLSearchParams(location.hash.slice(1));
+  if (wanted.has("theme")) setTheme(wanted.get("theme"));
+  if (wanted.has("types") && !view.types) setTypes(true);
+  if (wanted.has("zoom")) zoom(Number(wanted.get("zoom")) / camera.scale);
+  const move = Number(wanted.get("move"));
+  if (wanted.has("move") && move !== movesMade()) jump(move - view.run.first);
+}
+
+function start() {
+  joinHands();
+  const inside = byId("data").textContent;
+  if (inside === "") return;
+  try {
+    openWalk(JSON.parse(inside));
+  } catch (error) {
+    tellTrouble(error.message);
+    return;
+  }
+  goToAddress();
+}
+
+// For the tests, and for whoever looks at the page with a browser's own tools.
+window.walk = {
+  view, camera, playing, keys: KEYS, show: jump, setSpeed, setTypes, setTheme, setColourBy, openFiles, pictureText, whyNoSwap,
+  swappedSchedule,
+};
+start();
