@@ -1,0 +1,163 @@
+// What .ci/page asks of a page in the browser. It reads what is shown, and what the page was given to draw.
+
+const byId = id => document.getElementById(id);
+
+// What the page's own tables show behind so many moves, for each of a list.
+function shownStates(places) {
+  const cells = row => [...row.children].map(cell => cell.textContent);
+  const rows = id => [...document.querySelectorAll(`#${id} tr`)].filter(row => row.children.length > 1).map(cells);
+  return places.map(at => {
+    walk.show(at);
+    const marked = document.querySelector("#picture .node.at");
+    return {
+      live: rows("live"), liveCount: byId("live-count").textContent, open: rows("open"), openCount: byId("open-count").textContent,
+      answer: byId("answer").textContent, now: byId("now").value, node: marked ? Number(marked.dataset.node) : null,
+      glyphs: document.querySelectorAll("#picture .token").length,
+    };
+  });
+}
+
+// Opens files of these names and texts; what the page says of them, and the name of what is open then.
+async function openTexts(files) {
+  await walk.openFiles(files.map(([name, text]) => new File([text], name)));
+  return { trouble: byId("nothing").hidden ? "" : byId("trouble").textContent, name: walk.view.name };
+}
+
+const middleOf = selector => {
+  const { x, y, width, height } = document.querySelector(selector).getBoundingClientRect();
+  return [x + width / 2, y + height / 2];
+};
+
+// Contrast of two colours, as WCAG counts it.
+function lightOf(colour) {
+  const parts = colour.match(/[\d.]+/g).slice(0, 3).map(part => Number(part) / 255);
+  const [red, green, blue] = parts.map(part => part <= 0.03928 ? part / 12.92 : ((part + 0.055) / 1.055) ** 2.4);
+  return 0.2126 * red + 0.7152 * green + 0.0722 * blue;
+}
+function contrast(one, two) {
+  const [a, b] = [lightOf(one), lightOf(two)];
+  return (Math.max(a, b) + 0.05) / (Math.min(a, b) + 0.05);
+}
+
+// The first ground below an element that isn't seen through.
+function groundOf(element) {
+  for (let at = element; at; at = at.parentElement) {
+    const { backgroundColor } = getComputedStyle(at);
+    if (/^rgb\(/.test(backgroundColor)) return backgroundColor;
+  }
+  return "rgb(255, 255, 255)";
+}
+
+function colourNamed(name) {
+  const probe = document.createElement("i");
+  probe.style.color = `var(${name})`;
+  document.body.append(probe);
+  const { color } = getComputedStyle(probe);
+  probe.remove();
+  return color;
+}
+
+// Texts whose contrast is below 4.5, and how many were looked at, in a theme, with colours by ticket or by worker, behind so many moves.
+function lowContrasts(theme, colourBy, at) {
+  walk.setTheme(theme);
+  walk.setColourBy(colourBy);
+  walk.show(at);
+  const low = [];
+  let count = 0;
+  const hold = (what, ink, paper) => {
+    count++;
+    const found = contrast(ink, paper);
+    if (found < 4.5) low.push(what + " " + found.toFixed(2));
+  };
+  const own = element => [...element.childNodes].some(node => node.nodeType === Node.TEXT_NODE && node.data.trim());
+  for (const element of document.querySelectorAll("body *")) {
+    if (element.closest("svg") || element.matches("script, style, option") || !own(element)) continue;
+    const what = `${element.tagName} ${element.id || element.className}: ${element.textContent.slice(0, 30)}`;
+    hold(what, getComputedStyle(element).color, groundOf(element));
+  }
+  for (const text of document.querySelectorAll("#picture text, #picture tspan")) {
+    if (!own(text)) continue;
+    const grounds = text.closest(".label") ? ["--bg", "--box1", "--box2", "--fix1"].map(colourNamed) : [groundOfSign(text)];
+    for (const ground of grounds) hold("picture: " + text.textContent, getComputedStyle(text).fill, ground);
+  }
+  return [low, count];
+}
+
+// A text of the picture stands on the rectangle of its own group.
+const groundOfSign = text => getComputedStyle(text.closest("g").querySelector("rect")).fill;
+
+// Controls without a name, and things that the keyboard can reach.
+function nameless() {
+  const nameOf = it => it.getAttribute("aria-label") || it.textContent.trim() || (it.labels && it.labels[0] ? it.labels[0].textContent : "");
+  const all = [...document.querySelectorAll("button, input, select, summary, dialog, [role]:not([role=alert]), [tabindex]")];
+  return all.filter(it => !nameOf(it).trim()).map(it => it.outerHTML.slice(0, 80));
+}
+
+// How much the page runs over its window, and which controls are outside.
+function outside() {
+  const controls = [...document.querySelectorAll("button, input, select")].filter(it => it.offsetParent && !it.closest("dialog"));
+  const out = controls.filter(it => {
+    const { left, right } = it.getBoundingClientRect();
+    return left < -1 || right > innerWidth + 1;
+  });
+  return [document.scrollingElement.scrollWidth - innerWidth, out.map(it => it.id)];
+}
+
+// Texts beside wires that meet another wire, a node or one another.
+function metTexts() {
+  const texts = [...document.querySelectorAll("#picture .label")].map(it => ({ text: it.textContent, box: it.getBBox() }));
+  const inside = (box, x, y) => x > box.x && x < box.x + box.width && y > box.y + 1 && y < box.y + box.height - 2;
+  const over = (a, b) => a.x < b.x + b.width && b.x < a.x + a.width && a.y + 1 < b.y + b.height - 1 && b.y + 1 < a.y + a.height - 1;
+  const met = new Set();
+  [...document.querySelectorAll("#picture .wire")].forEach((path, wire) => {
+    for (let at = 0, length = path.getTotalLength(); at < length; at += 3) {
+      const { x, y } = path.getPointAtLength(at);
+      for (const { text, box } of texts) if (parseInt(text, 10) !== wire && inside(box, x, y)) met.add(`${text} and wire ${wire}`);
+    }
+  });
+  for (const { x, y, width } of walk.view.layout.places) {
+    const node = { x: x - width / 2, y: y - 13, width, height: 26 };
+    for (const { text, box } of texts) if (over(box, node)) met.add(`${text} and a node`);
+  }
+  texts.forEach((one, at) => {
+    for (const two of texts.slice(at + 1)) if (over(one.box, two.box)) met.add(`${one.text} and ${two.text}`);
+  });
+  return [...met];
+}
+
+// Nodes that overlap, wires that don't end at their nodes or run up, nodes that aren't in as many frames as their wires are deep.
+function layoutFaults() {
+  const { net, layout } = walk.view;
+  const faults = [];
+  const boxes = layout.places.map(({ x, y, width }, id) => ({ id, left: x - width / 2, right: x + width / 2, top: y - 13, bottom: y + 13 }));
+  boxes.sort((one, two) => one.left - two.left);
+  boxes.forEach((one, at) => {
+    for (let next = at + 1; next < boxes.length && boxes[next].left < one.right; next++) {
+      const two = boxes[next];
+      if (Math.min(one.bottom, two.bottom) - Math.max(one.top, two.top) > 0.5) faults.push(`nodes ${one.id} and ${two.id}`);
+    }
+  });
+  for (const { id, above, below } of net.wires) {
+    const points = layout.points[id];
+    const meets = ([x, y], node, side) => Math.abs(y - node.y - side * 13) < 0.6 && Math.abs(x - node.x) <= node.width / 2;
+    const [upper, lower] = [layout.places[above], layout.places[below]];
+    if (!meets(points[0], upper, 1) || !meets(points[points.length - 1], lower, -1)) faults.push(`ends of wire ${id}`);
+    if (points.some((point, at) => at > 0 && point[1] < points[at - 1][1])) faults.push(`wire ${id} runs up`);
+  }
+  for (const { id, up, down } of net.nodes) {
+    const { x, y } = layout.places[id];
+    const depth = Math.min(...[...up, ...down].map(wire => net.wires[wire].depth));
+    const around = layout.frames.filter(({ left, right, top, bottom }) => x > left && x < right && y > top && y < bottom - 0.5);
+    if (around.length !== depth) faults.push(`frames of node ${id}`);
+  }
+  return faults;
+}
+
+// Whether the page offers to exchange the two moves behind each of these places.
+function swapsOffered(places) {
+  const { run } = walk.view;
+  return places.map(at => {
+    run.go(at);
+    return walk.whyNoSwap(run) === null;
+  });
+}
