@@ -10,7 +10,8 @@ use Rattle.goi_engine.specs.declared.answer.Answer.{Answer}
 use Rattle.goi_engine.specs.declared.answer.Answer.TheVariants.{Prints, Refused, BadWords, NotRead, NoMemory}
 use Rattle.goi_engine.specs.Answers.{AnswersSchedule, MadeNet, AnswersDeed}
 use Rattle.goi_engine.specs.Deeds.{Deed, with_text, with_schedule, with_list, generated}
-use Rattle.goi_engine.specs.FilesSeen.{files_seen, FilesState, FilesKept, Possibly, OfFile, ReadsWithin, LoadedBy}
+use Rattle.goi_world.specs.Seen.{files_seen, FilesState, FilesKept}
+use Rattle.goi_engine.specs.FilesSeen.{Possibly, OfFile, ReadsWithin, LoadedBy}
 use Rattle.goi_tasks.specs.Outputs.{output_of}
 use Rattle.goi_tasks.specs.Programs.{IsGround}
 use Rattle.goi_tasks.specs.Replaying.{ReportsReplay, FaultySchedule}
@@ -37,26 +38,53 @@ module _ (file moves : List ℕ) (old new : FilesState) where
 
     -- the program's term is t, and the schedule was answered
     with_term : (a : Answer) → AnswersSchedule t moves old new a → AnswersDeed (with_schedule file moves) old new a
-    with_term (Prints r) (same, of) =
-        (same, (ground.0, possibly_goes (old.told file) (λ b. IsGround b t) (λ b. OfGround b (λ u. OfFile old moves (λ text. ReportsReplay u text (output_of r)))) (λ b g. (t, g, of)) ground.1))
-    with_term (Refused r) (same, (f, of, line)) =
-        (same, (f, (ground.0, possibly_goes (old.told file) (λ b. IsGround b t) (λ b. FaultyEither b (λ u. OfFile old moves (λ text. FaultySchedule u text f)) f) (λ b g. inr (t, g, of)) ground.1), line))
+    with_term (Prints r) (same, of) = (
+      same,
+      (
+        ground.0,
+        possibly_goes (old.told file) (λ b. IsGround b t)
+            (λ b. OfGround b (λ u. OfFile old moves (λ text. ReportsReplay u text (output_of r)))) (λ b g. (t, g, of)) ground.1,
+      ),
+    )
+    with_term (Refused r) (same, (f, of, line)) = (
+      same,
+      (
+        f,
+        (
+          ground.0,
+          possibly_goes (old.told file) (λ b. IsGround b t)
+              (λ b. FaultyEither b (λ u. OfFile old moves (λ text. FaultySchedule u text f)) f) (λ b g. inr (t, g, of)) ground.1,
+        ),
+        line,
+      ),
+    )
     with_term BadWords h = h
-    with_term NotRead h = (tt, record { cause = ⊎_elim (λ (l : IsTrue (old.lacks moves)). inl (inr (has_number, l))) (λ r. inr r) h.cause; sure = λ s. inr (has_number, h.sure s) })
+    with_term NotRead h = (
+      tt,
+      record {
+        cause = ⊎_elim (λ (l : IsTrue (old.lacks moves)). inl (inr (has_number, l))) (λ r. inr r) h.cause;
+        sure = λ s. inr (has_number, h.sure s);
+      },
+    )
     with_term NoMemory h = h
 
-  pub schedule_job : (mid : FilesState) (net : NetTree) (a : Answer) → FilesKept old mid → MadeNet file old mid net → ((t : TermTree) → HasType [] t nat → net ≡ net_of t → AnswersSchedule t moves mid new a) → AnswersDeed (with_schedule file moves) old new a
+  pub schedule_job : (mid : FilesState) (net : NetTree) (a : Answer) → FilesKept old mid → MadeNet file old mid net →
+      ((t : TermTree) → HasType [] t nat → net ≡ net_of t → AnswersSchedule t moves mid new a) →
+      AnswersDeed (with_schedule file moves) old new a
   schedule_job mid net a kept made h =
-      with_term made.term made.ground a (subst (λ (s : FilesState). AnswersSchedule made.term moves s new a) (same_state old mid kept made.faults) (h made.term made.typed made.net_is))
+      with_term made.term made.ground a
+      (subst (λ (s : FilesState). AnswersSchedule made.term moves s new a) (same_state old mid kept made.faults)
+      (h made.term made.typed made.net_is))
 
 -- ---- no file
 
 -- a file of which nothing was read
 unread : {S : Type 0} (one : S → Reading → S → Type 0) (name : List ℕ) (limit : ℕ) (old : S) → LoadedBy one name limit old old
-unread one name limit old = record { log = []; came = refl; few = omega arith; each = All-nil (ReadsWithin name limit) }
+unread one name limit old = record { log = []; came = refl; few = omega arith; each = All-nil (ReadsWithin name limit); onwards = tt }
 
 -- reading nothing is within every deed's reads
-pub nothing_read : {S : Type 0} (one : S → Reading → S → Type 0) (told : List ℕ → Option (List ℕ)) (asked : Option Deed) (old : S) → ReadFor one told asked old old
+pub nothing_read : {S : Type 0} (one : S → Reading → S → Type 0) (told : List ℕ → Option (List ℕ)) (asked : Option Deed) (old : S) →
+    ReadFor one told asked old old
 nothing_read one told None old = refl
 nothing_read one told (Some (with_text task file)) old = unread one file _ old
 nothing_read one told (Some (with_schedule file moves)) old = record { mid = old; program = unread one file _ old; schedule = inl refl }

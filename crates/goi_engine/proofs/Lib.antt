@@ -1,7 +1,14 @@
-pub mod Answered
-pub mod Kept
-pub mod Lists
+-- loading: what one read adds to what was loaded, and which reads were made
 pub mod Loading
-pub mod Settled
+-- what was loaded of a file says all that its bytes say, although no more than its limit and one byte is read
 pub mod Told
+-- from the answers to a deed's files to the answer to the deed
+pub mod Answered
+-- the same for a list and the programs of its lines
+pub mod Lists
+-- a deed has one output or one first fault, by the laws of the crates below
+pub mod Settled
+-- a text is written piece by piece
 pub mod Writing
+-- a right answer that is delivered keeps the promise
+pub mod Kept

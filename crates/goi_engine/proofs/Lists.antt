@@ -1,7 +1,9 @@
 -- What was loaded of a list and of its programs says all that the files say of them.
-use Rattle.std.proofs.Common.{◌≡◌, ◌⊎◌, ℕ, suc, ◌+◌, ◌-◌, ◌<◌, ◌≤◌, Bool, List, [], ◌∷◌, ◌++◌, append_assoc, get_or, length, take, drop, Option, Some, None, IfSome, Result, Ok, Err, IfOk, IfErr, OnOk, refl, sym, IsTrue, inl, inr, ap, ◌∙◌, subst, ⊎_elim, arith, All}
+use Rattle.std.proofs.Common.{◌≡◌, ℕ, suc, ◌+◌, ◌-◌, ◌<◌, ◌≤◌, List, [], ◌∷◌, ◌++◌, append_assoc, get_or, length, take, drop}
+use Rattle.std.proofs.Common.{Option, Some, None, IfSome, Result, Ok, Err, IfOk, IfErr, OnOk, refl, sym, IsTrue, inl, inr, ap, ◌∙◌, subst}
+use Rattle.std.proofs.Common.{⊎_elim, arith, All}
 use Rattle.std.proofs.lemmas.List.Elements.{All-nil, All-cons}
-use Rattle.goi_world.specs.Outside.{Reading, Rose}
+use Rattle.goi_world.specs.Outside.{Reading}
 use Rattle.pcf_values.specs.Most.{most_program_bytes}
 use Rattle.batch_lists.specs.declared.fault.BatchFault.{BatchFault}
 use Rattle.batch_lists.specs.declared.fault.BatchFault.TheVariants as list
@@ -13,7 +15,7 @@ use Rattle.goi_tasks.specs.declared.fault.Fault.TheVariants.{Batch}
 use Rattle.goi_tasks.specs.declared.stop.Stop.{Stop}
 use Rattle.goi_tasks.specs.declared.stop.Stop.TheVariants as stop
 use Rattle.goi_tasks.specs.Outputs.{Output, output_of}
-use Rattle.goi_tasks.specs.Programs.{number, FaultyText, IsNet}
+use Rattle.goi_tasks.specs.Programs.{number}
 use Rattle.goi_batches.specs.declared.judged.Judged.{Judged}
 use Rattle.goi_batches.specs.declared.judged.Judged.TheVariants.{Runs, Refused as Told}
 use Rattle.goi_batches.specs.Judging.{IsJudged, AreJudged}
@@ -22,9 +24,11 @@ use Rattle.goi_engine.specs.declared.answer.Answer.{Answer}
 use Rattle.goi_engine.specs.declared.answer.Answer.TheVariants.{Prints, Refused, BadWords, NotRead, NoMemory}
 use Rattle.goi_engine.specs.declared.load.LoadError.{LoadError}
 use Rattle.goi_engine.specs.declared.load.LoadError.TheVariants.{Memory, Failed}
-use Rattle.goi_engine.specs.Answers.{Says, AnswersDeed, AnswersLines, AnswersList, AreJudgedIn, IsStopped, LineFits, LinesFit, NotReadAs, NotLoaded, LoadedLines, stop_of_list}
+use Rattle.goi_engine.specs.Answers.{Says, AnswersDeed, AnswersLines, AnswersList, AreJudgedIn, IsStopped, LineFits, LinesFit}
+use Rattle.goi_engine.specs.Answers.{NotLoaded, LoadedLines, stop_of_list}
 use Rattle.goi_engine.specs.Deeds.{with_list}
-use Rattle.goi_engine.specs.FilesSeen.{FilesState, FilesKept, Possibly, OfFile, LoadedBy}
+use Rattle.goi_world.specs.Seen.{FilesState, FilesKept}
+use Rattle.goi_engine.specs.FilesSeen.{Possibly, OfFile, LoadedBy}
 use Rattle.goi_engine.specs.ListsSeen.{OfList, FaultyList, unlisted, AreSectionsIn, ReportsLines, LacksOne, LoadedEach, LoadedList}
 use Rattle.goi_engine.proofs.Answered.{same_state}
 use Rattle.goi_engine.proofs.Told.{Same, possible, ground_goes, faulty_goes}
@@ -34,7 +38,8 @@ use Rattle.goi_engine.proofs.Told.{Same, possible, ground_goes, faulty_goes}
 no_line_fault : (v : List ℕ) (f : BatchFault) → most_list_bytes < length v → HasListFault v f → ⊥
 no_line_fault v f n h = omega (arith, n, h.short)
 
-list_too_long : (v bytes : List ℕ) (f : BatchFault) → most_list_bytes < length v → most_list_bytes < length bytes → ReadAsList v (Err f) → ReadAsList bytes (Err f)
+list_too_long : (v bytes : List ℕ) (f : BatchFault) → most_list_bytes < length v → most_list_bytes < length bytes → ReadAsList v (Err f) →
+    ReadAsList bytes (Err f)
 list_too_long v bytes list.NoMemory m n h = tt
 list_too_long v bytes list.TooLong m n h = n
 list_too_long v bytes list.BadHeader m n h = absurd (omega (arith, m, h.short))
@@ -57,23 +62,34 @@ faulty_list_goes : (f : Fault) (v bytes : List ℕ) → Same most_list_bytes v b
 faulty_list_goes _ v bytes s (unlisted f n h) = unlisted f n (read_goes f v bytes s h)
 
 -- Below, a list's file was loaded.
-module _ (file : List ℕ) (workers : ℕ) (old : FilesState) (v : List ℕ) (had : IsTrue (old.lacks file) → ⊥) (e : IfSome (old.told file) (λ bytes. v ≡ take (most_list_bytes + 1) bytes)) where
+module _ (file : List ℕ) (workers : ℕ) (old : FilesState) (v : List ℕ) (had : IsTrue (old.lacks file) → ⊥)
+    (e : IfSome (old.told file) (λ bytes. v ≡ take (most_list_bytes + 1) bytes)) where
   of_list : (P : List BatchLine → Type 0) → OfList v P → OfFile old file (λ bytes. OfList bytes P)
   of_list P h = (had, possible most_list_bytes (λ b. OfList b P) (of_list_goes P) (old.told file) v e h)
 
   of_answer : (new : FilesState) (a : Answer) → AnswersList workers v old new a → AnswersDeed (with_list file workers) old new a
   of_answer new (Prints r) (same, h) = (same, of_list (λ lines. ReportsLines old workers lines (output_of r)) h)
-  of_answer new (Refused r) (same, (f, h, line)) = (same, (f, (had, possible most_list_bytes (λ b. FaultyList b f) (faulty_list_goes f) (old.told file) v e h), line))
+  of_answer new (Refused r) (same, (f, h, line)) =
+      (same, (f, (had, possible most_list_bytes (λ b. FaultyList b f) (faulty_list_goes f) (old.told file) v e h), line))
   of_answer new BadWords h = h
-  of_answer new NotRead h = (tt, record { cause = ⊎_elim (λ (l : OfList v (LacksOne old)). inl (inr (of_list (LacksOne old) l))) (λ r. inr r) h.cause; sure = λ s. inr (of_list (LacksOne old) (h.sure s)) })
+  of_answer new NotRead h = (
+    tt,
+    record {
+      cause = ⊎_elim (λ (l : OfList v (LacksOne old)). inl (inr (of_list (LacksOne old) l))) (λ r. inr r) h.cause;
+      sure = λ s. inr (of_list (LacksOne old) (h.sure s));
+    },
+  )
   of_answer new NoMemory h = h
 
   -- so what is answered to it is the answer to the deed
-  pub list_job : (mid new : FilesState) (a : Answer) → FilesKept old mid → mid.faults ≡ old.faults → AnswersList workers v mid new a → AnswersDeed (with_list file workers) old new a
-  list_job mid new a kept same h = of_answer new a (subst (λ (s : FilesState). AnswersList workers v s new a) (same_state old mid kept same) h)
+  pub list_job : (mid new : FilesState) (a : Answer) → FilesKept old mid → mid.faults ≡ old.faults → AnswersList workers v mid new a →
+      AnswersDeed (with_list file workers) old new a
+  list_job mid new a kept same h =
+      of_answer new a (subst (λ (s : FilesState). AnswersList workers v s new a) (same_state old mid kept same) h)
 
   -- and so it is with the reads
-  pub list_reads : {S : Type 0} (one : S → Reading → S → Type 0) (first mid last : S) → LoadedBy one file most_list_bytes first mid → LoadedLines one v mid last → LoadedList one (old.told file) file first last
+  pub list_reads : {S : Type 0} (one : S → Reading → S → Type 0) (first mid last : S) → LoadedBy one file most_list_bytes first mid →
+      LoadedLines one v mid last → LoadedList one (old.told file) file first last
   list_reads one first mid last l (inl same) = record { mid = mid; list = l; programs = inl same }
   list_reads one first mid last l (inr (lines, is, each)) = record {
     mid = mid;
@@ -82,17 +98,20 @@ module _ (file : List ℕ) (workers : ℕ) (old : FilesState) (v : List ℕ) (ha
   }
 
 -- nothing more was read of a list that was loaded
-pub only_list : {S : Type 0} (one : S → Reading → S → Type 0) (told : Option (List ℕ)) (file : List ℕ) (first last : S) → LoadedBy one file most_list_bytes first last → LoadedList one told file first last
+pub only_list : {S : Type 0} (one : S → Reading → S → Type 0) (told : Option (List ℕ)) (file : List ℕ) (first last : S) →
+    LoadedBy one file most_list_bytes first last → LoadedList one told file first last
 only_list one told file first last l = record { mid = last; list = l; programs = inl refl }
 
 -- ---- the answer to the text of a list
 
 module _ (bytes : List ℕ) (workers : ℕ) (old new : FilesState) where
-  pub lines_job : (lines : List BatchLine) → IsList bytes lines → (a : Answer) → AnswersLines workers lines old new a → AnswersList workers bytes old new a
+  pub lines_job : (lines : List BatchLine) → IsList bytes lines → (a : Answer) → AnswersLines workers lines old new a →
+      AnswersList workers bytes old new a
   lines_job lines is (Prints r) (same, h) = (same, (lines, is, h))
   lines_job lines is (Refused r) (same, (f, h, line)) = absurd h
   lines_job lines is BadWords h = h
-  lines_job lines is NotRead h = record { cause = ⊎_elim (λ (l : LacksOne old lines). inl (lines, is, l)) (λ r. inr r) h.cause; sure = λ s. (lines, is, h.sure s) }
+  lines_job lines is NotRead h =
+      record { cause = ⊎_elim (λ (l : LacksOne old lines). inl (lines, is, l)) (λ r. inr r) h.cause; sure = λ s. (lines, is, h.sure s) }
   lines_job lines is NoMemory h = h
 
   no_lines_job : new.faults ≡ old.faults → (a : Answer) → Says (λ o. ⊥) (FaultyList bytes) a → AnswersList workers bytes old new a
@@ -102,21 +121,29 @@ module _ (bytes : List ℕ) (workers : ℕ) (old new : FilesState) where
   no_lines_job same NotRead h = absurd h
   no_lines_job same NoMemory h = same
 
-pub none_job : (bytes : List ℕ) (workers : ℕ) (old : FilesState) (a : Answer) → Says (λ o. ⊥) (FaultyList bytes) a → AnswersList workers bytes old old a
+pub none_job : (bytes : List ℕ) (workers : ℕ) (old : FilesState) (a : Answer) → Says (λ o. ⊥) (FaultyList bytes) a →
+    AnswersList workers bytes old old a
 none_job bytes workers old a h = no_lines_job bytes workers old old refl a h
 
 -- ---- the programs of its lines
 
-judged_goes : (budget : ℕ) (j : Judged) (v bytes : List ℕ) → Same most_program_bytes v bytes → IsJudged (listed budget v) j → IsJudged (listed budget bytes) j
+judged_goes : (budget : ℕ) (j : Judged) (v bytes : List ℕ) → Same most_program_bytes v bytes → IsJudged (listed budget v) j →
+    IsJudged (listed budget bytes) j
 judged_goes budget (Runs job) v bytes s h =
     let n = h.net in
-    record { net = record { term = n.term; ground = ground_goes n.term v bytes s n.ground; typed = n.typed; net_is = n.net_is }; budget = h.budget; fits = h.fits }
+    record {
+      net = record { term = n.term; ground = ground_goes n.term v bytes s n.ground; typed = n.typed; net_is = n.net_is };
+      budget = h.budget;
+      fits = h.fits;
+    }
 judged_goes budget (Told line) v bytes s (f, h, is) = (f, faulty_goes number f v bytes s h, is)
 
 -- what the program that was loaded of a line's file came to
-pub judged_in : {E : Type 0} (old : FilesState) (file : List ℕ) (budget : ℕ) (v : List ℕ) → (IsTrue (old.lacks file) → ⊥) → IfSome (old.told file) (λ bytes. v ≡ take (most_program_bytes + 1) bytes) → (r : Result Judged E) →
+pub judged_in : {E : Type 0} (old : FilesState) (file : List ℕ) (budget : ℕ) (v : List ℕ) → (IsTrue (old.lacks file) → ⊥) →
+    IfSome (old.told file) (λ bytes. v ≡ take (most_program_bytes + 1) bytes) → (r : Result Judged E) →
     IfOk r (IsJudged (listed budget v)) → IfOk r (λ j. OfFile old file (λ bytes. IsJudged (listed budget bytes) j))
-judged_in old file budget v had e (Ok j) h = (had, possible most_program_bytes (λ b. IsJudged (listed budget b) j) (judged_goes budget j) (old.told file) v e h)
+judged_in old file budget v had e (Ok j) h =
+    (had, possible most_program_bytes (λ b. IsJudged (listed budget b) j) (judged_goes budget j) (old.told file) v e h)
 judged_in old file budget v had e (Err x) h = tt
 
 -- nothing more was read
@@ -140,34 +167,46 @@ first_and_rest (y ∷ ys) x l e =
 
 -- Below, the first of some lines was come to.
 module _ (lines : List BatchLine) (line : BatchLine) (some : 1 ≤ length lines) (is : line ≡ get_or lines 0 line) where
-  pub read_one : {S : Type 0} (one : S → Reading → S → Type 0) (first mid : S) → LoadedBy one line.file most_program_bytes first mid → LoadedEach one lines first mid
-  read_one one first mid l = subst (λ ls. LoadedEach one ls first mid) (sym (first_and_rest lines line some is)) (inr (mid, l, nothing_more one (others lines) mid))
+  pub read_one : {S : Type 0} (one : S → Reading → S → Type 0) (first mid : S) → LoadedBy one line.file most_program_bytes first mid →
+      LoadedEach one lines first mid
+  read_one one first mid l =
+      subst (λ ls. LoadedEach one ls first mid) (sym (first_and_rest lines line some is))
+      (inr (mid, l, nothing_more one (others lines) mid))
 
-  pub read_more : {S : Type 0} (one : S → Reading → S → Type 0) (first mid last : S) → LoadedBy one line.file most_program_bytes first mid → LoadedEach one (others lines) mid last → LoadedEach one lines first last
-  read_more one first mid last l more = subst (λ ls. LoadedEach one ls first last) (sym (first_and_rest lines line some is)) (inr (mid, l, more))
+  pub read_more : {S : Type 0} (one : S → Reading → S → Type 0) (first mid last : S) → LoadedBy one line.file most_program_bytes first mid →
+      LoadedEach one (others lines) mid last → LoadedEach one lines first last
+  read_more one first mid last l more =
+      subst (λ ls. LoadedEach one ls first last) (sym (first_and_rest lines line some is)) (inr (mid, l, more))
 
   module _ (old : FilesState) where
-    lacks_first : (new : FilesState) (e : LoadError) → NotLoaded (IsTrue (old.lacks line.file)) old new e → NotLoaded (LacksOne old (line ∷ others lines)) old new e
+    lacks_first : (new : FilesState) (e : LoadError) → NotLoaded (IsTrue (old.lacks line.file)) old new e →
+        NotLoaded (LacksOne old (line ∷ others lines)) old new e
     lacks_first new Memory h = h
     lacks_first new Failed h = record { cause = ⊎_elim (λ l. inl (inl l)) (λ r. inr r) h.cause; sure = λ s. inl (h.sure s) }
 
-    pub not_first : (new : FilesState) (e : LoadError) → NotLoaded (IsTrue (old.lacks line.file)) old new e → NotLoaded (LacksOne old lines) old new e
+    pub not_first : (new : FilesState) (e : LoadError) → NotLoaded (IsTrue (old.lacks line.file)) old new e →
+        NotLoaded (LacksOne old lines) old new e
     not_first new e h = subst (λ ls. NotLoaded (LacksOne old ls) old new e) (sym (first_and_rest lines line some is)) (lacks_first new e h)
 
-    lacks_more : (new : FilesState) (e : LoadError) → NotLoaded (LacksOne old (others lines)) old new e → NotLoaded (LacksOne old (line ∷ others lines)) old new e
+    lacks_more : (new : FilesState) (e : LoadError) → NotLoaded (LacksOne old (others lines)) old new e →
+        NotLoaded (LacksOne old (line ∷ others lines)) old new e
     lacks_more new Memory h = h
     lacks_more new Failed h = record { cause = ⊎_elim (λ l. inl (inr l)) (λ r. inr r) h.cause; sure = λ s. inr (h.sure s) }
 
     -- Below, its program was judged, and the files are as before.
     module _ (mid : FilesState) (kept : FilesKept old mid) (same : mid.faults ≡ old.faults) where
-      pub not_more : {A : Type 0} (new : FilesState) (r : Result A LoadError) → IfErr r (NotLoaded (LacksOne mid (others lines)) mid new) → IfErr r (NotLoaded (LacksOne old lines) old new)
+      pub not_more : {A : Type 0} (new : FilesState) (r : Result A LoadError) → IfErr r (NotLoaded (LacksOne mid (others lines)) mid new) →
+          IfErr r (NotLoaded (LacksOne old lines) old new)
       not_more new (Ok x) h = h
       not_more new (Err e) h =
           let k = subst (λ s. NotLoaded (LacksOne s (others lines)) s new e) (same_state old mid kept same) h in
           subst (λ ls. NotLoaded (LacksOne old ls) old new e) (sym (first_and_rest lines line some is)) (lacks_more new e k)
 
-      pub judged_more : {A : Type 0} (j : Judged) (before put after : List Judged) → OfFile old line.file (λ bytes. IsJudged (listed line.budget bytes) j) → put ≡ before ++ j ∷ [] → (r : Result A LoadError) →
-          OnOk r ((more : List Judged) × (after ≡ put ++ more) × AreJudgedIn mid (others lines) more) → OnOk r ((more : List Judged) × (after ≡ before ++ more) × AreJudgedIn old lines more)
+      -- and the lines behind it are judged, and so all of them are
+      pub judged_more : {A : Type 0} (j : Judged) (before put after : List Judged) →
+          OfFile old line.file (λ bytes. IsJudged (listed line.budget bytes) j) → put ≡ before ++ j ∷ [] → (r : Result A LoadError) →
+          OnOk r ((more : List Judged) × (after ≡ put ++ more) × AreJudgedIn mid (others lines) more) → OnOk r
+          ((more : List Judged) × (after ≡ before ++ more) × AreJudgedIn old lines more)
       judged_more j before put after h pushed (Err e) x = x
       judged_more j before put after h pushed (Ok y) (more, is_more, each) =
           let rest = subst (λ s. AreJudgedIn s (others lines) more) (same_state old mid kept same) each in (
@@ -189,13 +228,17 @@ pub record Chosen (files : FilesState) (workers : ℕ) (lines : List BatchLine) 
 record OneChosen (files : FilesState) (workers : ℕ) (line : BatchLine) (j : Judged) : Type 0 where
   pub bytes : List ℕ
   pub judged : IsJudged (listed line.budget bytes) j
-  pub told : (s : Section) → IsSection workers (listed line.budget bytes) s → OfFile files line.file (λ b. IsSection workers (listed line.budget b) s)
+  pub told : (s : Section) → IsSection workers (listed line.budget bytes) s →
+      OfFile files line.file (λ b. IsSection workers (listed line.budget b) s)
 
-choose_told : (known : Option (List ℕ)) (budget workers : ℕ) (j : Judged) → Possibly known (λ b. IsJudged (listed budget b) j) → (bytes : List ℕ) × IsJudged (listed budget bytes) j × ((s : Section) → IsSection workers (listed budget bytes) s → Possibly known (λ b. IsSection workers (listed budget b) s))
+choose_told : (known : Option (List ℕ)) (budget workers : ℕ) (j : Judged) → Possibly known (λ b. IsJudged (listed budget b) j) →
+    (bytes : List ℕ) × IsJudged (listed budget bytes) j ×
+    ((s : Section) → IsSection workers (listed budget bytes) s → Possibly known (λ b. IsSection workers (listed budget b) s))
 choose_told None budget workers j (b, h) = (b, h, λ s k. (b, k))
 choose_told (Some b) budget workers j h = (b, h, λ s k. k)
 
-choose_one : (files : FilesState) (workers : ℕ) (line : BatchLine) (j : Judged) → OfFile files line.file (λ bytes. IsJudged (listed line.budget bytes) j) → OneChosen files workers line j
+choose_one : (files : FilesState) (workers : ℕ) (line : BatchLine) (j : Judged) →
+    OfFile files line.file (λ bytes. IsJudged (listed line.budget bytes) j) → OneChosen files workers line j
 choose_one files workers line j (had, h) =
     let (b, k, tell) = choose_told (files.told line.file) line.budget workers j h in
     record { bytes = b; judged = k; told = λ s x. (had, tell s x) }
@@ -204,12 +247,15 @@ told_none : (files : FilesState) (workers : ℕ) (ss : List Section) → AreSect
 told_none files workers [] h = tt
 told_none files workers (s ∷ ss) h = h
 
-told_cons : (files : FilesState) (workers : ℕ) (line : BatchLine) (lines : List BatchLine) (p : Listed) (ps : List Listed) → ((s : Section) → IsSection workers p s → OfFile files line.file (λ b. IsSection workers (listed line.budget b) s)) →
-    ((ss : List Section) → AreSections workers ps ss → AreSectionsIn files workers lines ss) → (ss : List Section) → AreSections workers (p ∷ ps) ss → AreSectionsIn files workers (line ∷ lines) ss
+told_cons : (files : FilesState) (workers : ℕ) (line : BatchLine) (lines : List BatchLine) (p : Listed) (ps : List Listed) →
+    ((s : Section) → IsSection workers p s → OfFile files line.file (λ b. IsSection workers (listed line.budget b) s)) →
+    ((ss : List Section) → AreSections workers ps ss → AreSectionsIn files workers lines ss) → (ss : List Section) → AreSections workers
+    (p ∷ ps) ss → AreSectionsIn files workers (line ∷ lines) ss
 told_cons files workers line lines p ps one more [] h = h
 told_cons files workers line lines p ps one more (s ∷ ss) (h, hs) = (one s h, more ss hs)
 
-pub choose : (files : FilesState) (workers : ℕ) (lines : List BatchLine) (js : List Judged) → AreJudgedIn files lines js → Chosen files workers lines js
+pub choose : (files : FilesState) (workers : ℕ) (lines : List BatchLine) (js : List Judged) → AreJudgedIn files lines js →
+    Chosen files workers lines js
 choose files workers [] [] h = record { texts = []; judged = tt; told = told_none files workers; count = refl }
 choose files workers [] (j ∷ js) h = absurd h
 choose files workers (l ∷ ls) [] h = absurd h
@@ -223,14 +269,17 @@ choose files workers (l ∷ ls) (j ∷ js) (h, hs) =
       count = ap suc r.count;
     }
 
-reports_lines : (files : FilesState) (workers : ℕ) (lines : List BatchLine) (js : List Judged) → AreJudgedIn files lines js → (o : Output) → ((ps : List Listed) → AreJudged ps js → ReportsBatch workers ps o) → ReportsLines files workers lines o
+reports_lines : (files : FilesState) (workers : ℕ) (lines : List BatchLine) (js : List Judged) → AreJudgedIn files lines js → (o : Output) →
+    ((ps : List Listed) → AreJudged ps js → ReportsBatch workers ps o) → ReportsLines files workers lines o
 reports_lines files workers lines js h o k =
     let c = choose files workers lines js h in
     let r = k c.texts c.judged in
     record { sections = r.sections; are = c.told r.sections r.are; output_is = r.output_is }
 
 -- the answer to programs that were loaded and judged is that to their lines
-pub programs_job : (old new : FilesState) (workers : ℕ) (lines : List BatchLine) (js : List Judged) → new.faults ≡ old.faults → AreJudgedIn old lines js → (a : Answer) → Says (λ o. (ps : List Listed) → AreJudged ps js → ReportsBatch workers ps o) (λ f. ⊥) a → AnswersLines workers lines old new a
+pub programs_job : (old new : FilesState) (workers : ℕ) (lines : List BatchLine) (js : List Judged) → new.faults ≡ old.faults →
+    AreJudgedIn old lines js → (a : Answer) → Says (λ o. (ps : List Listed) → AreJudged ps js → ReportsBatch workers ps o) (λ f. ⊥) a →
+    AnswersLines workers lines old new a
 programs_job old new workers lines js same h (Prints r) k = (same, reports_lines old workers lines js h (output_of r) k)
 programs_job old new workers lines js same h (Refused r) (f, x, line) = absurd x
 programs_job old new workers lines js same h BadWords k = k
@@ -238,13 +287,16 @@ programs_job old new workers lines js same h NotRead k = absurd k
 programs_job old new workers lines js same h NoMemory k = same
 
 -- and so it is where one wasn't loaded
-pub unread_job : (old new : FilesState) (workers : ℕ) (lines : List BatchLine) (e : LoadError) (a : Answer) → (e ≡ Failed → a ≡ NotRead) → (e ≡ Memory → a ≡ NoMemory) → NotLoaded (LacksOne old lines) old new e → AnswersLines workers lines old new a
+pub unread_job : (old new : FilesState) (workers : ℕ) (lines : List BatchLine) (e : LoadError) (a : Answer) → (e ≡ Failed → a ≡ NotRead) →
+    (e ≡ Memory → a ≡ NoMemory) → NotLoaded (LacksOne old lines) old new e → AnswersLines workers lines old new a
 unread_job old new workers lines Failed a f m h = subst (λ x. AnswersLines workers lines old new x) (sym (f refl)) h
 unread_job old new workers lines Memory a f m h = subst (λ x. AnswersLines workers lines old new x) (sym (m refl)) h
 
 -- the programs that were added to none are all
-pub all_judged : (files : FilesState) (lines : List BatchLine) (before after : List Judged) → before ≡ [] → (more : List Judged) × (after ≡ before ++ more) × AreJudgedIn files lines more → AreJudgedIn files lines after
-all_judged files lines before after none (more, is, each) = subst (λ js. AreJudgedIn files lines js) (sym (is ∙ ap (λ js. js ++ more) none)) each
+pub all_judged : (files : FilesState) (lines : List BatchLine) (before after : List Judged) → before ≡ [] →
+    (more : List Judged) × (after ≡ before ++ more) × AreJudgedIn files lines more → AreJudgedIn files lines after
+all_judged files lines before after none (more, is, each) =
+    subst (λ js. AreJudgedIn files lines js) (sym (is ∙ ap (λ js. js ++ more) none)) each
 
 -- ---- a list that was read
 
@@ -265,12 +317,15 @@ module _ (bytes : List ℕ) where
   list_fault list.NoMemory h g e = let k : stop.Memory ≡ stop.Fault g = e in absurd cc
   list_fault list.TooLong h g e = subst (FaultyList bytes) (fault_is (Batch list.TooLong) g e) (unlisted list.TooLong (λ k. cc) h)
   list_fault list.BadHeader h g e = subst (FaultyList bytes) (fault_is (Batch list.BadHeader) g e) (unlisted list.BadHeader (λ k. cc) h)
-  list_fault (list.BadLine n) h g e = subst (FaultyList bytes) (fault_is (Batch (list.BadLine n)) g e) (unlisted (list.BadLine n) (λ k. cc) h)
-  list_fault (list.TooMany n) h g e = subst (FaultyList bytes) (fault_is (Batch (list.TooMany n)) g e) (unlisted (list.TooMany n) (λ k. cc) h)
+  list_fault (list.BadLine n) h g e =
+      subst (FaultyList bytes) (fault_is (Batch (list.BadLine n)) g e) (unlisted (list.BadLine n) (λ k. cc) h)
+  list_fault (list.TooMany n) h g e =
+      subst (FaultyList bytes) (fault_is (Batch (list.TooMany n)) g e) (unlisted (list.TooMany n) (λ k. cc) h)
   list_fault list.NoEnd h g e = subst (FaultyList bytes) (fault_is (Batch list.NoEnd) g e) (unlisted list.NoEnd (λ k. cc) h)
 
   -- and one that wasn't
-  pub list_stopped : (f : BatchFault) (s : Stop) (a : Answer) → ReadAsList bytes (Err f) → s ≡ stop_of_list f → IsStopped s a → Says (λ o. ⊥) (FaultyList bytes) a
+  pub list_stopped : (f : BatchFault) (s : Stop) (a : Answer) → ReadAsList bytes (Err f) → s ≡ stop_of_list f → IsStopped s a →
+      Says (λ o. ⊥) (FaultyList bytes) a
   list_stopped f s (Prints r) h e k = k
   list_stopped f s (Refused r) h e (g, is, tells) = (g, list_fault f h g (sym e ∙ is), tells)
   list_stopped f s BadWords h e k = k
@@ -278,6 +333,7 @@ module _ (bytes : List ℕ) where
   list_stopped f s NoMemory h e k = tt
 
 -- where only memory was wanting, nothing was left unread
-pub only_memory : {A : Type 0} (lacks : Type 0) (old new : FilesState) (r : Result A LoadError) → new.faults ≡ old.faults → IfErr r (λ e. e ≡ Memory) → IfErr r (NotLoaded lacks old new)
+pub only_memory : {A : Type 0} (lacks : Type 0) (old new : FilesState) (r : Result A LoadError) → new.faults ≡ old.faults →
+    IfErr r (λ e. e ≡ Memory) → IfErr r (NotLoaded lacks old new)
 only_memory lacks old new (Ok x) same h = h
 only_memory lacks old new (Err e) same h = subst (NotLoaded lacks old new) (sym h) same

@@ -1,13 +1,13 @@
 -- What comes of a deed is settled by what the files tell: it has one status or one fault.
-use Rattle.std.proofs.Common.{◌≡◌, ℕ, List, [], ◌∷◌, length, Option, Some, None, Result, Ok, Err, IsTrue, refl, sym, ap, ◌∙◌, subst, inl, inr, ⊎_elim}
+use Rattle.std.proofs.Common.{◌≡◌, ℕ, List, [], ◌∷◌, length, Option, Some, None, Result, Ok, Err, IsTrue, refl, sym, ap, ◌∙◌, subst, inl}
+use Rattle.std.proofs.Common.{inr, ⊎_elim}
 use Rattle.cbn_meaning.specs.Meaning.{Means}
 use Rattle.pcf_values.specs.Terms.{TermTree}
 use Rattle.net_build.specs.NetOf.{net_of}
 use Rattle.demo_text.specs.Demo.{demo_term}
 use Rattle.batch_lists.specs.declared.fault.BatchFault.{BatchFault}
-use Rattle.batch_lists.specs.declared.fault.BatchFault.TheVariants as list
 use Rattle.batch_lists.specs.declared.line.BatchLine.{BatchLine}
-use Rattle.batch_lists.specs.Lists.{IsList, ReadAsList}
+use Rattle.batch_lists.specs.Lists.{IsList}
 use Rattle.goi_tasks.specs.declared.fault.Fault.{Fault}
 use Rattle.goi_tasks.specs.declared.fault.Fault.TheVariants.{Batch}
 use Rattle.goi_tasks.specs.Outputs.{Output}
@@ -15,17 +15,20 @@ use Rattle.goi_tasks.specs.Programs.{number, FaultyText}
 use Rattle.goi_tasks.specs.Replaying.{ReportsReplay, EndsReplay, FaultySchedule}
 use Rattle.goi_tasks.specs.Running.{demo_budget}
 use Rattle.goi_tasks.specs.Tasks.{ReportsText, FaultyFor, EndsText}
-use Rattle.goi_tasks.proofs.Outcomes.{Known, same_ground, ground_sound, one_text_fault, text_end, report_sound, end_sound, one_fault_for, schedule_sound, one_schedule_fault, replay_end, one_run_end, run_ends}
+use Rattle.goi_tasks.proofs.Outcomes.{Known, same_ground, ground_sound, one_text_fault, text_end, report_sound, end_sound, one_fault_for}
+use Rattle.goi_tasks.proofs.Outcomes.{schedule_sound, one_schedule_fault, replay_end, one_run_end, run_ends}
 use Rattle.goi_engine.specs.Deeds.{Deed, with_text, with_schedule, with_list, generated}
 use Rattle.goi_batches.specs.Sections.{listed, Section, IsSection, statuses_of, batch_status, EndsListed}
 use Rattle.goi_batches.proofs.One.{section_end}
 use Rattle.goi_engine.specs.ListsSeen.{OfList, FaultyList, unlisted, AreSectionsIn, ReportsLines, EndEachIn, EndLines, LacksOne}
-use Rattle.goi_engine.specs.FilesSeen.{FilesState, Possibly, OfFile, OfTold}
+use Rattle.goi_world.specs.Seen.{FilesState}
+use Rattle.goi_engine.specs.FilesSeen.{Possibly, OfFile, OfTold}
 use Rattle.goi_engine.specs.Verdicts.{OfGround, HasNumber, FaultyEither, Reports, Refuses, LacksFor, CanDo, Faulty, SurelyLacks}
 
 -- ---- the told bytes of a file are the possible ones
 
-meets : (told : Option (List ℕ)) (P Q : List ℕ → Type 0) → Possibly told P → (bytes : List ℕ) × (told ≡ Some bytes) × Q bytes → (bytes : List ℕ) × P bytes × Q bytes
+meets : (told : Option (List ℕ)) (P Q : List ℕ → Type 0) → Possibly told P → (bytes : List ℕ) × (told ≡ Some bytes) × Q bytes →
+    (bytes : List ℕ) × P bytes × Q bytes
 meets None P Q p (b, e, q) = let k : None ≡ Some b = e in cc
 meets (Some c) P Q p (b, e, q) = let k : b ≡ c = cc in (c, p, subst Q k q)
 
@@ -50,11 +53,13 @@ module _ (known : Known) where
   same_lines bytes a b h k = ap (lines_or a) (known.one_list bytes (Ok a) (Ok b) (λ e. cc) (λ e. cc) h k)
 
   list_sound : (bytes : List ℕ) (ls : List BatchLine) (f : Fault) → IsList bytes ls → FaultyList bytes f → ⊥
-  list_sound bytes ls _ h (unlisted f n k) = no_list ls f (known.one_list bytes (Ok ls) (Err f) (λ e. cc) (λ e. n (ap (list_fault_or f) e)) h k)
+  list_sound bytes ls _ h (unlisted f n k) =
+      no_list ls f (known.one_list bytes (Ok ls) (Err f) (λ e. cc) (λ e. n (ap (list_fault_or f) e)) h k)
 
   one_list_fault : (bytes : List ℕ) (f g : Fault) → FaultyList bytes f → FaultyList bytes g → f ≡ g
   one_list_fault bytes _ _ (unlisted f n h) (unlisted g m k) =
-      ap Batch (ap (list_fault_or f) (known.one_list bytes (Err f) (Err g) (λ e. n (ap (list_fault_or f) e)) (λ e. m (ap (list_fault_or g) e)) h k))
+      ap Batch
+      (ap (list_fault_or f) (known.one_list bytes (Err f) (Err g) (λ e. n (ap (list_fault_or f) e)) (λ e. m (ap (list_fault_or g) e)) h k))
 
   both_lines : (bytes : List ℕ) (P Q : List BatchLine → Type 0) → OfList bytes P → OfList bytes Q → (ls : List BatchLine) × P ls × Q ls
   both_lines bytes P Q (a, h, p) (b, k, q) = (b, subst P (same_lines bytes a b h k) p, q)
@@ -62,17 +67,22 @@ module _ (known : Known) where
   -- ---- and so have its programs
 
   module _ (files : FilesState) (workers : ℕ) where
-    each_end : (ls : List BatchLine) (ss : List Section) (es : List ℕ) → AreSectionsIn files workers ls ss → EndEachIn files workers ls es → statuses_of ss ≡ es
+    -- what is told of each line ends as the line does, since a file that is told has one text
+    each_end : (ls : List BatchLine) (ss : List Section) (es : List ℕ) → AreSectionsIn files workers ls ss → EndEachIn files workers ls es →
+        statuses_of ss ≡ es
     each_end [] [] [] h k = refl
     each_end [] [] (e ∷ es) h k = absurd k
     each_end [] (s ∷ ss) es h k = absurd h
     each_end (l ∷ ls) [] es h k = absurd h
     each_end (l ∷ ls) (s ∷ ss) [] h k = absurd k
     each_end (l ∷ ls) (s ∷ ss) (e ∷ es) (h, hs) (k, ks) =
-        let (b, p, q) = meets (files.told l.file) (λ b. IsSection workers (listed l.budget b) s) (λ b. EndsListed workers (listed l.budget b) e) h.1 k in
-        ap (λ (n : ℕ). n ∷ statuses_of ss) (section_end known workers (listed l.budget b) s e p q) ∙ ap (λ (ns : List ℕ). e ∷ ns) (each_end ls ss es hs ks)
+        let (b, p, q) = meets (files.told l.file) (λ b. IsSection workers (listed l.budget b) s)
+        (λ b. EndsListed workers (listed l.budget b) e) h.1 k in
+        ap (λ (n : ℕ). n ∷ statuses_of ss) (section_end known workers (listed l.budget b) s e p q) ∙ ap (λ (ns : List ℕ). e ∷ ns)
+        (each_end ls ss es hs ks)
 
-    lines_end : (ls : List BatchLine) (o : Output) (own : ℕ) → ReportsLines files workers ls o → EndLines files workers ls own → o.status ≡ own
+    lines_end : (ls : List BatchLine) (o : Output) (own : ℕ) → ReportsLines files workers ls o → EndLines files workers ls own →
+        o.status ≡ own
     lines_end ls o own h (ends, each, is) =
         ap (λ (x : Output). x.status) h.output_is ∙ ap batch_status (each_end ls h.sections ends h.are each) ∙ sym is
 
@@ -82,7 +92,8 @@ module _ (known : Known) where
     had_each (l ∷ ls) (s ∷ ss) (h, hs) (inl k) = h.0 k
     had_each (l ∷ ls) (s ∷ ss) (h, hs) (inr k) = had_each ls ss hs k
 
-    tells_each : ((name : List ℕ) → IsTrue (files.lacks name) → files.told name ≡ None) → (ls : List BatchLine) (es : List ℕ) → LacksOne files ls → EndEachIn files workers ls es → ⊥
+    tells_each : ((name : List ℕ) → IsTrue (files.lacks name) → files.told name ≡ None) → (ls : List BatchLine) (es : List ℕ) →
+        LacksOne files ls → EndEachIn files workers ls es → ⊥
     tells_each untold [] es l h = l
     tells_each untold (l ∷ ls) [] k h = h
     tells_each untold (l ∷ ls) (e ∷ es) (inl k) ((b, told, x), hs) = never_lacked files.told l.file b (untold l.file k) told
@@ -101,7 +112,8 @@ module _ (known : Known) (files : FilesState) where
   abbrev AtTold : List ℕ → (TermTree → List ℕ → Type 0) → TermTree → Type 0
   AtTold moves P t = OfTold files moves (P t)
 
-  both_moves : (bytes moves : List ℕ) (P Q : TermTree → List ℕ → Type 0) → OfGround bytes (AtMoves moves P) → OfGround bytes (AtTold moves Q) → (t : TermTree) × (text : List ℕ) × P t text × Q t text
+  both_moves : (bytes moves : List ℕ) (P Q : TermTree → List ℕ → Type 0) → OfGround bytes (AtMoves moves P) →
+      OfGround bytes (AtTold moves Q) → (t : TermTree) × (text : List ℕ) × P t text × Q t text
   both_moves bytes moves P Q h k =
       let (t, x, y) = both_ground bytes (AtMoves moves P) (AtTold moves Q) h k in
       let (c, r, e) = meets (files.told moves) (P t) (Q t) x.1 y in
@@ -115,15 +127,18 @@ module _ (known : Known) (files : FilesState) where
       let (b, p, q) = meets (files.told file) (λ b. ReportsText task b o) (λ b. EndsText task b own) h.1 k in
       text_end known task b o own p q
   one_status (with_schedule file moves) o own h k =
-      let (b, p, q) = meets (files.told file) (λ b. OfGround b (AtMoves moves (λ t text. ReportsReplay t text o))) (λ b. OfGround b (AtTold moves (λ t text. EndsReplay t text own))) h.1 k in
+      let (b, p, q) = meets (files.told file) (λ b. OfGround b (AtMoves moves (λ t text. ReportsReplay t text o)))
+      (λ b. OfGround b (AtTold moves (λ t text. EndsReplay t text own))) h.1 k in
       let (t, c, r, e) = both_moves b moves (λ t text. ReportsReplay t text o) (λ t text. EndsReplay t text own) p q in
       replay_end known t c o own r e
   one_status (with_list file workers) o own h k =
-      let (b, p, q) = meets (files.told file) (λ b. OfList b (λ ls. ReportsLines files workers ls o)) (λ b. OfList b (λ ls. EndLines files workers ls own)) h.1 k in
+      let (b, p, q) = meets (files.told file) (λ b. OfList b (λ ls. ReportsLines files workers ls o))
+      (λ b. OfList b (λ ls. EndLines files workers ls own)) h.1 k in
       let (ls, r, e) = both_lines known b (λ ls. ReportsLines files workers ls o) (λ ls. EndLines files workers ls own) p q in
       lines_end known files workers ls o own r e
   one_status (generated n workers) o own h k =
-      one_run_end demo_budget (net_of (demo_term n)) o.status own (run_ends (Means (demo_term n)) (net_of (demo_term n)) demo_budget h.answer (length h.log) o.status h.tells) k
+      one_run_end demo_budget (net_of (demo_term n)) o.status own
+      (run_ends (Means (demo_term n)) (net_of (demo_term n)) demo_budget h.answer (length h.log) o.status h.tells) k
 
   -- what has a right output has no fault
   pub no_fault : (d : Deed) (o : Output) (f : Fault) → Reports d files o → Faulty d files f → ⊥
@@ -131,10 +146,12 @@ module _ (known : Known) (files : FilesState) where
       let (b, p, q) = meets (files.told file) (λ b. ReportsText task b o) (λ b. FaultyFor task b f) h.1 k in
       report_sound known task b o f p q
   no_fault (with_schedule file moves) o f h (b, e, inl k) =
-      let (b, p, q) = meets (files.told file) (λ b. OfGround b (AtMoves moves (λ t text. ReportsReplay t text o))) (λ b. FaultyText number b f) h.1 (b, e, k) in
+      let (b, p, q) = meets (files.told file) (λ b. OfGround b (AtMoves moves (λ t text. ReportsReplay t text o)))
+      (λ b. FaultyText number b f) h.1 (b, e, k) in
       ground_sound known.one_tree known.not_both b p.0 f p.1 q
   no_fault (with_schedule file moves) o f h (b, e, inr k) =
-      let (b, p, q) = meets (files.told file) (λ b. OfGround b (AtMoves moves (λ t text. ReportsReplay t text o))) (λ b. OfGround b (AtTold moves (λ t text. FaultySchedule t text f))) h.1 (b, e, k) in
+      let (b, p, q) = meets (files.told file) (λ b. OfGround b (AtMoves moves (λ t text. ReportsReplay t text o)))
+      (λ b. OfGround b (AtTold moves (λ t text. FaultySchedule t text f))) h.1 (b, e, k) in
       let (t, c, r, s) = both_moves b moves (λ t text. ReportsReplay t text o) (λ t text. FaultySchedule t text f) p q in
       schedule_sound known t c f r.tickets r.state r.schedule r.led s
   no_fault (with_list file workers) o f h k =
@@ -148,7 +165,8 @@ module _ (known : Known) (files : FilesState) where
       let (b, p, q) = meets (files.told file) (λ b. FaultyFor task b f) (λ b. EndsText task b own) h.1 k in
       end_sound known task b own f q p
   no_refusal (with_schedule file moves) f own h k =
-      let (b, p, q) = meets (files.told file) (λ b. FaultyEither b (AtMoves moves (λ t text. FaultySchedule t text f)) f) (λ b. OfGround b (AtTold moves (λ t text. EndsReplay t text own))) h.1 k in
+      let (b, p, q) = meets (files.told file) (λ b. FaultyEither b (AtMoves moves (λ t text. FaultySchedule t text f)) f)
+      (λ b. OfGround b (AtTold moves (λ t text. EndsReplay t text own))) h.1 k in
       ⊎_elim (λ (x : FaultyText number b f). ground_sound known.one_tree known.not_both b q.0 f q.1 x)
       (λ (x : OfGround b (AtMoves moves (λ t text. FaultySchedule t text f))).
       let (t, c, r, s) = both_moves b moves (λ t text. FaultySchedule t text f) (λ t text. EndsReplay t text own) x q in
@@ -159,7 +177,8 @@ module _ (known : Known) (files : FilesState) where
       list_sound known b q.0 f q.1 p
   no_refusal (generated n workers) f own h k = h
 
-  same_either : (moves b : List ℕ) (f g : Fault) → FaultyEither b (AtMoves moves (λ t text. FaultySchedule t text f)) f → FaultyEither b (AtTold moves (λ t text. FaultySchedule t text g)) g → f ≡ g
+  same_either : (moves b : List ℕ) (f g : Fault) → FaultyEither b (AtMoves moves (λ t text. FaultySchedule t text f)) f →
+      FaultyEither b (AtTold moves (λ t text. FaultySchedule t text g)) g → f ≡ g
   same_either moves b f g (inl h) (inl k) = one_text_fault known number b f g h k
   same_either moves b f g (inl h) (inr (t, k, x)) = absurd (ground_sound known.one_tree known.not_both b t f k h)
   same_either moves b f g (inr (t, h, x)) (inl k) = absurd (ground_sound known.one_tree known.not_both b t g h k)
@@ -173,7 +192,8 @@ module _ (known : Known) (files : FilesState) where
       let (b, p, q) = meets (files.told file) (λ b. FaultyFor task b f) (λ b. FaultyFor task b g) h.1 k in
       one_fault_for known task b f g p q
   same_fault (with_schedule file moves) f g h k =
-      let (b, p, q) = meets (files.told file) (λ b. FaultyEither b (AtMoves moves (λ t text. FaultySchedule t text f)) f) (λ b. FaultyEither b (AtTold moves (λ t text. FaultySchedule t text g)) g) h.1 k in
+      let (b, p, q) = meets (files.told file) (λ b. FaultyEither b (AtMoves moves (λ t text. FaultySchedule t text f)) f)
+      (λ b. FaultyEither b (AtTold moves (λ t text. FaultySchedule t text g)) g) h.1 k in
       same_either moves b f g p q
   same_fault (with_list file workers) f g h k =
       let (b, p, q) = meets (files.told file) (λ b. FaultyList b f) (λ b. FaultyList b g) h.1 k in
@@ -191,7 +211,8 @@ module _ (known : Known) (files : FilesState) where
       p.2.0 l
   had_for_report (with_list file workers) o h (inl l) = h.0 l
   had_for_report (with_list file workers) o h (inr k) =
-      let (b, p, q) = meets (files.told file) (λ b. OfList b (λ ls. ReportsLines files workers ls o)) (λ b. OfList b (LacksOne files)) h.1 k in
+      let (b, p, q) = meets (files.told file) (λ b. OfList b (λ ls. ReportsLines files workers ls o)) (λ b. OfList b (LacksOne files))
+      h.1 k in
       let (ls, r, e) = both_lines known b (λ ls. ReportsLines files workers ls o) (LacksOne files) p q in
       had_each known files workers ls r.sections r.are e
   had_for_report (generated n workers) o h l = l
@@ -202,7 +223,8 @@ module _ (known : Known) (files : FilesState) where
   had_for_refusal (with_schedule file moves) f h (inl l) = h.0 l
   had_for_refusal (with_schedule file moves) f h (inr (k, l)) =
       let (b, p, q) = meets (files.told file) (λ b. FaultyEither b (AtMoves moves (λ t text. FaultySchedule t text f)) f) HasNumber h.1 k in
-      ⊎_elim (λ (x : FaultyText number b f). ground_sound known.one_tree known.not_both b q.0 f q.1 x) (λ (x : OfGround b (AtMoves moves (λ t text. FaultySchedule t text f))). x.2.0 l) p
+      ⊎_elim (λ (x : FaultyText number b f). ground_sound known.one_tree known.not_both b q.0 f q.1 x)
+      (λ (x : OfGround b (AtMoves moves (λ t text. FaultySchedule t text f))). x.2.0 l) p
   had_for_refusal (with_list file workers) f h (inl l) = h.0 l
   had_for_refusal (with_list file workers) f h (inr k) =
       let (b, p, q) = meets (files.told file) (λ b. FaultyList b f) (λ b. OfList b (LacksOne files)) h.1 k in
@@ -211,24 +233,28 @@ module _ (known : Known) (files : FilesState) where
 
   -- where what is lacked isn't told, what can be done or refused lacks nothing that it comes to
   module _ (untold : (name : List ℕ) → IsTrue (files.lacks name) → files.told name ≡ None) where
+    -- a deed that can be done comes to no file that is lacked
     pub can_has : (d : Deed) (own : ℕ) → LacksFor d files → CanDo d files own → ⊥
     can_has (with_text task file) own l (b, e, k) = never_lacked files.told file b (untold file l) e
     can_has (with_schedule file moves) own (inl l) (b, e, k) = never_lacked files.told file b (untold file l) e
     can_has (with_schedule file moves) own (inr (h, l)) (b, e, (t, g, (c, told, x))) = never_lacked files.told moves c (untold moves l) told
     can_has (with_list file workers) own (inl l) (b, e, k) = never_lacked files.told file b (untold file l) e
     can_has (with_list file workers) own (inr h) k =
-        let (b, p, q) = meets (files.told file) (λ b. OfList b (LacksOne files)) (λ b. OfList b (λ ls. EndLines files workers ls own)) h.1 k in
+        let (b, p, q) = meets (files.told file) (λ b. OfList b (LacksOne files)) (λ b. OfList b (λ ls. EndLines files workers ls own))
+        h.1 k in
         let (ls, l, e) = both_lines known b (LacksOne files) (λ ls. EndLines files workers ls own) p q in
         tells_each known files workers untold ls e.0 l e.1
     can_has (generated n workers) own l k = l
 
+    -- nor does one that is refused for a fault which the files tell
     pub faulty_has : (d : Deed) (f : Fault) → LacksFor d files → Faulty d files f → ⊥
     faulty_has (with_text task file) f l (b, e, k) = never_lacked files.told file b (untold file l) e
     faulty_has (with_schedule file moves) f (inl l) (b, e, k) = never_lacked files.told file b (untold file l) e
     faulty_has (with_schedule file moves) f (inr (h, l)) (b, e, inl k) =
         let (c, p, q) = meets (files.told file) HasNumber (λ b. FaultyText number b f) h.1 (b, e, k) in
         ground_sound known.one_tree known.not_both c p.0 f p.1 q
-    faulty_has (with_schedule file moves) f (inr (h, l)) (b, e, inr (t, g, (c, told, x))) = never_lacked files.told moves c (untold moves l) told
+    faulty_has (with_schedule file moves) f (inr (h, l)) (b, e, inr (t, g, (c, told, x))) =
+        never_lacked files.told moves c (untold moves l) told
     faulty_has (with_list file workers) f (inl l) (b, e, k) = never_lacked files.told file b (untold file l) e
     faulty_has (with_list file workers) f (inr h) k =
         let (b, p, q) = meets (files.told file) (λ b. OfList b (LacksOne files)) (λ b. FaultyList b f) h.1 k in

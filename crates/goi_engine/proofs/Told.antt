@@ -1,5 +1,6 @@
 -- What was loaded of a file says all that its bytes say: it is the file itself, or more bytes than there may be.
-use Rattle.std.proofs.Common.{◌≡◌, ◌⊎◌, ℕ, zero, suc, ◌+◌, ◌<◌, ◌≤◌, List, length, take, Option, Some, None, IfSome, Result, Ok, Err, IfOk, IfErr, refl, sym, IsTrue, inl, inr, ap, ◌∙◌, subst, ⊎_elim, arith}
+use Rattle.std.proofs.Common.{◌≡◌, ◌⊎◌, ℕ, zero, suc, ◌+◌, ◌<◌, ◌≤◌, List, length, take, Option, Some, None, IfSome, Result, Ok, Err, IfOk}
+use Rattle.std.proofs.Common.{IfErr, refl, sym, IsTrue, inl, inr, ap, ◌∙◌, subst, ⊎_elim, arith}
 use Rattle.std.proofs.lemmas.List.{take_all, length-take-le}
 use Rattle.std.proofs.lemmas.Bool.{cases_lt}
 use Rattle.pcf_values.specs.Most.{most_program_bytes, most_schedule_bytes}
@@ -23,7 +24,8 @@ use Rattle.goi_tasks.specs.declared.task.Task.TheVariants.{Run, Check, ShowNet, 
 use Rattle.goi_engine.specs.declared.answer.Answer.{Answer}
 use Rattle.goi_engine.specs.declared.answer.Answer.TheVariants.{Prints, Refused, BadWords, NotRead, NoMemory}
 use Rattle.goi_engine.specs.Answers.{Says, AnswersFile, AnswersNoNet, MadeNet}
-use Rattle.goi_engine.specs.FilesSeen.{FilesState, Possibly}
+use Rattle.goi_world.specs.Seen.{FilesState}
+use Rattle.goi_engine.specs.FilesSeen.{Possibly}
 use Rattle.goi_tasks.specs.NetFiles.{FaultyListing, unlisted}
 use Rattle.goi_tasks.specs.Outputs.{Output, output_of}
 use Rattle.goi_tasks.specs.Programs.{Wanted, any_type, number, IsProgram, IsGround, FaultyText, unread, of_tree, IsNet}
@@ -47,7 +49,8 @@ abbrev pub Agrees : Option (List ℕ) → List ℕ → Type 0
 Agrees told bytes = (told ≡ None) ⊎ (told ≡ Some bytes)
 
 -- so there are bytes that agree with what is told
-told_bytes : (limit : ℕ) (told : Option (List ℕ)) (v : List ℕ) → IfSome told (λ bytes. v ≡ take (limit + 1) bytes) → (bytes : List ℕ) × Agrees told bytes × Same limit v bytes
+told_bytes : (limit : ℕ) (told : Option (List ℕ)) (v : List ℕ) → IfSome told (λ bytes. v ≡ take (limit + 1) bytes) →
+    (bytes : List ℕ) × Agrees told bytes × Same limit v bytes
 told_bytes limit None v e = (v, inl refl, inl refl)
 told_bytes limit (Some bytes) v e = (bytes, inr refl, same_bytes limit v bytes e)
 
@@ -57,7 +60,8 @@ possibly (Some b) bytes P (inl e) p = let h : None ≡ Some b = sym e in cc
 possibly (Some b) bytes P (inr e) p = let h : bytes ≡ b = cc in subst P h p
 
 -- what is possible of what was loaded is possible of the file
-pub possible : (limit : ℕ) (P : List ℕ → Type 0) → ((v bytes : List ℕ) → Same limit v bytes → P v → P bytes) → (told : Option (List ℕ)) (v : List ℕ) → IfSome told (λ bytes. v ≡ take (limit + 1) bytes) → P v → Possibly told P
+pub possible : (limit : ℕ) (P : List ℕ → Type 0) → ((v bytes : List ℕ) → Same limit v bytes → P v → P bytes) →
+    (told : Option (List ℕ)) (v : List ℕ) → IfSome told (λ bytes. v ≡ take (limit + 1) bytes) → P v → Possibly told P
 possible limit P goes told v e h = let t = told_bytes limit told v e in possibly told t.0 P t.1 (goes v t.0 t.2 h)
 
 -- ---- the text of a program
@@ -68,7 +72,8 @@ no_text bytes tree n x = omega (arith, x.1.short)
 no_token_fault : (bytes : List ℕ) (f : ReadFault) → most_program_bytes < length bytes → TokenFault bytes f → ⊥
 no_token_fault bytes f n h = omega (arith, h.1.short)
 
-too_long : (v bytes : List ℕ) (f : ReadFault) → most_program_bytes < length v → most_program_bytes < length bytes → FirstFault v f → FirstFault bytes f
+too_long : (v bytes : List ℕ) (f : ReadFault) → most_program_bytes < length v → most_program_bytes < length bytes → FirstFault v f →
+    FirstFault bytes f
 too_long v bytes read.TooLong m n h = n
 too_long v bytes (read.NotText at) m n h = absurd (omega (arith, h.0))
 too_long v bytes read.NoMemory m n h = h
@@ -86,15 +91,19 @@ first_goes : (v bytes : List ℕ) (f : ReadFault) → Same most_program_bytes v 
 first_goes v bytes f (inl e) x = subst (λ (b : List ℕ). FirstFault b f) e x
 first_goes v bytes f (inr n) x = too_long v bytes f n.0 n.1 x
 
-program_goes : (wanted : Wanted) (tree : NamedTree) (t : TermTree) (A : TyTree) (v bytes : List ℕ) → Same most_program_bytes v bytes → IsProgram wanted v tree t A → IsProgram wanted bytes tree t A
+program_goes : (wanted : Wanted) (tree : NamedTree) (t : TermTree) (A : TyTree) (v bytes : List ℕ) → Same most_program_bytes v bytes →
+    IsProgram wanted v tree t A → IsProgram wanted bytes tree t A
 program_goes wanted tree t A v bytes s h = record { text = text_goes v bytes tree s h.text; typed = h.typed; will_do = h.will_do }
 
-pub faulty_goes : (wanted : Wanted) (f : Fault) (v bytes : List ℕ) → Same most_program_bytes v bytes → FaultyText wanted v f → FaultyText wanted bytes f
+pub faulty_goes : (wanted : Wanted) (f : Fault) (v bytes : List ℕ) → Same most_program_bytes v bytes → FaultyText wanted v f →
+    FaultyText wanted bytes f
 faulty_goes wanted _ v bytes s (unread f h) = unread f (first_goes v bytes f s h)
 faulty_goes wanted f v bytes s (of_tree tree _ x h) = of_tree tree f (text_goes v bytes tree s x) h
 
-of_program_goes : (wanted : Wanted) (P : NamedTree → TermTree → TyTree → Type 0) (v bytes : List ℕ) → Same most_program_bytes v bytes → OfProgram wanted v P → OfProgram wanted bytes P
-of_program_goes wanted P v bytes s h = record { tree = h.tree; term = h.term; type = h.type; is = program_goes wanted h.tree h.term h.type v bytes s h.is; so = h.so }
+of_program_goes : (wanted : Wanted) (P : NamedTree → TermTree → TyTree → Type 0) (v bytes : List ℕ) → Same most_program_bytes v bytes →
+    OfProgram wanted v P → OfProgram wanted bytes P
+of_program_goes wanted P v bytes s h =
+    record { tree = h.tree; term = h.term; type = h.type; is = program_goes wanted h.tree h.term h.type v bytes s h.is; so = h.so }
 
 -- ---- the listing of a net
 
@@ -105,7 +114,8 @@ lists_goes t v bytes (inr n) h = absurd (omega (arith, n.0, h.short))
 no_text_of : (v : List ℕ) (net : NetTree) → most_text_bytes < length v → TextOf v net → ⊥
 no_text_of v net n h = omega (arith, n, h.short)
 
-far_too_long : (v bytes : List ℕ) (f : NetTextFault) → most_text_bytes < length v → most_text_bytes < length bytes → Accepts v (Err f) → Accepts bytes (Err f)
+far_too_long : (v bytes : List ℕ) (f : NetTextFault) → most_text_bytes < length v → most_text_bytes < length bytes → Accepts v (Err f) →
+    Accepts bytes (Err f)
 far_too_long v bytes listing.NoMemory m n h = tt
 far_too_long v bytes listing.TooLong m n h = n
 far_too_long v bytes (listing.BadLine k) m n h = absurd (omega (arith, m, h.0))
@@ -127,11 +137,13 @@ fault_goes (Check term) f v bytes s h = faulty_goes any_type f v bytes s h
 fault_goes ShowNet f v bytes s h = faulty_goes number f v bytes s h
 fault_goes (RunNet workers budget schedule tally) f v bytes s h = listing_goes f v bytes s h
 
-pub report_goes : (task : Task) (o : Output) (v bytes : List ℕ) → Same (most_bytes task) v bytes → ReportsText task v o → ReportsText task bytes o
+pub report_goes : (task : Task) (o : Output) (v bytes : List ℕ) → Same (most_bytes task) v bytes → ReportsText task v o →
+    ReportsText task bytes o
 report_goes (Run workers budget schedule tally by_value progress) o v bytes s h = of_program_goes (wanted_by_run by_value) _ v bytes s h
 report_goes (Check term) o v bytes s h = of_program_goes any_type _ v bytes s h
 report_goes ShowNet o v bytes s h = of_program_goes number _ v bytes s h
-report_goes (RunNet workers budget schedule tally) o v bytes s h = record { term = h.term; lists = lists_goes h.term v bytes s h.lists; so = h.so }
+report_goes (RunNet workers budget schedule tally) o v bytes s h =
+    record { term = h.term; lists = lists_goes h.term v bytes s h.lists; so = h.so }
 
 pub ground_goes : (t : TermTree) (v bytes : List ℕ) → Same most_program_bytes v bytes → IsGround v t → IsGround bytes t
 ground_goes t v bytes s (tree, h) = (tree, program_goes number tree t nat v bytes s h)
@@ -141,7 +153,8 @@ ground_goes t v bytes s (tree, h) = (tree, program_goes number tree t nat v byte
 no_fault_line : (text : List ℕ) (f : ScheduleFault) → most_schedule_bytes < length text → HasFault text f → ⊥
 no_fault_line text f n h = omega (arith, h.short)
 
-much_too_long : (v text : List ℕ) (r : Result (List ℕ) ScheduleFault) → most_schedule_bytes < length v → most_schedule_bytes < length text → ReadAs v r → ReadAs text r
+much_too_long : (v text : List ℕ) (r : Result (List ℕ) ScheduleFault) → most_schedule_bytes < length v → most_schedule_bytes < length text →
+    ReadAs v r → ReadAs text r
 much_too_long v text (Ok tickets) m n h = absurd (omega (arith, h.short))
 much_too_long v text (Err schedule.NoMemory) m n h = h
 much_too_long v text (Err schedule.BadHeader) m n h = absurd (omega (arith, h.short))
@@ -155,7 +168,8 @@ schedule_goes : (r : Result (List ℕ) ScheduleFault) (v text : List ℕ) → Sa
 schedule_goes r v text (inl e) h = subst (λ (b : List ℕ). ReadAs b r) e h
 schedule_goes r v text (inr n) h = much_too_long v text r n.0 n.1 h
 
-pub replay_goes : (t : TermTree) (o : Output) (v text : List ℕ) → Same most_schedule_bytes v text → ReportsReplay t v o → ReportsReplay t text o
+pub replay_goes : (t : TermTree) (o : Output) (v text : List ℕ) → Same most_schedule_bytes v text → ReportsReplay t v o →
+    ReportsReplay t text o
 replay_goes t o v text s h = record {
   tickets = h.tickets;
   schedule = schedule_goes (Ok h.tickets) v text s h.schedule;
@@ -165,7 +179,8 @@ replay_goes t o v text s h = record {
   output_is = h.output_is;
 }
 
-pub moves_goes : (t : TermTree) (f : Fault) (v text : List ℕ) → Same most_schedule_bytes v text → FaultySchedule t v f → FaultySchedule t text f
+pub moves_goes : (t : TermTree) (f : Fault) (v text : List ℕ) → Same most_schedule_bytes v text → FaultySchedule t v f →
+    FaultySchedule t text f
 moves_goes t _ v text s (no_schedule f n h) = no_schedule f n (schedule_goes (Err f) v text s h)
 moves_goes t _ v text s (unmoved f tickets n h k) = unmoved f tickets n (schedule_goes (Ok tickets) v text s h) k
 
@@ -173,16 +188,21 @@ moves_goes t _ v text s (unmoved f tickets n h k) = unmoved f tickets n (schedul
 
 -- what is said of what was loaded is the answer to the file
 pub answers_file : (limit : ℕ) (R : List ℕ → Output → Type 0) (P : List ℕ → Fault → Type 0) →
-    ((o : Output) (v bytes : List ℕ) → Same limit v bytes → R v o → R bytes o) → ((f : Fault) (v bytes : List ℕ) → Same limit v bytes → P v f → P bytes f) →
-    (file : List ℕ) (old new : FilesState) (v : List ℕ) (a : Answer) → new.faults ≡ old.faults → (IsTrue (old.lacks file) → ⊥) → IfSome (old.told file) (λ bytes. v ≡ take (limit + 1) bytes) → Says (R v) (P v) a → AnswersFile R P file old new a
-answers_file limit R P goes moves file old new v (Prints r) same had e h = (same, (had, possible limit (λ b. R b (output_of r)) (goes (output_of r)) (old.told file) v e h))
-answers_file limit R P goes moves file old new v (Refused r) same had e (f, h, line) = (same, (f, (had, possible limit (λ b. P b f) (moves f) (old.told file) v e h), line))
+    ((o : Output) (v bytes : List ℕ) → Same limit v bytes → R v o → R bytes o) →
+    ((f : Fault) (v bytes : List ℕ) → Same limit v bytes → P v f → P bytes f) →
+    (file : List ℕ) (old new : FilesState) (v : List ℕ) (a : Answer) → new.faults ≡ old.faults → (IsTrue (old.lacks file) → ⊥) → IfSome
+    (old.told file) (λ bytes. v ≡ take (limit + 1) bytes) → Says (R v) (P v) a → AnswersFile R P file old new a
+answers_file limit R P goes moves file old new v (Prints r) same had e h =
+    (same, (had, possible limit (λ b. R b (output_of r)) (goes (output_of r)) (old.told file) v e h))
+answers_file limit R P goes moves file old new v (Refused r) same had e (f, h, line) =
+    (same, (f, (had, possible limit (λ b. P b f) (moves f) (old.told file) v e h), line))
 answers_file limit R P goes moves file old new v BadWords same had e h = h
 answers_file limit R P goes moves file old new v NotRead same had e h = absurd h
 answers_file limit R P goes moves file old new v NoMemory same had e h = same
 
 -- the net of what was loaded is that of the file's program
-made_net : (file : List ℕ) (old new : FilesState) (v : List ℕ) (net : NetTree) → new.faults ≡ old.faults → (IsTrue (old.lacks file) → ⊥) → IfSome (old.told file) (λ bytes. v ≡ take (most_program_bytes + 1) bytes) → IsNet v net → MadeNet file old new net
+made_net : (file : List ℕ) (old new : FilesState) (v : List ℕ) (net : NetTree) → new.faults ≡ old.faults → (IsTrue (old.lacks file) → ⊥) →
+    IfSome (old.told file) (λ bytes. v ≡ take (most_program_bytes + 1) bytes) → IsNet v net → MadeNet file old new net
 made_net file old new v net same had e h = record {
   term = h.term;
   ground = (had, possible most_program_bytes (λ b. IsGround b h.term) (ground_goes h.term) (old.told file) v e h.ground);
@@ -191,11 +211,15 @@ made_net file old new v net same had e h = record {
   faults = same;
 }
 
-pub nets_made : {E : Type 0} (file : List ℕ) (old new : FilesState) (v : List ℕ) (r : Result NetTree E) → new.faults ≡ old.faults → (IsTrue (old.lacks file) → ⊥) → IfSome (old.told file) (λ bytes. v ≡ take (most_program_bytes + 1) bytes) → IfOk r (λ net. IsNet v net) → IfOk r (λ net. MadeNet file old new net)
+pub nets_made : {E : Type 0} (file : List ℕ) (old new : FilesState) (v : List ℕ) (r : Result NetTree E) → new.faults ≡ old.faults →
+    (IsTrue (old.lacks file) → ⊥) → IfSome (old.told file) (λ bytes. v ≡ take (most_program_bytes + 1) bytes) →
+    IfOk r (λ net. IsNet v net) → IfOk r (λ net. MadeNet file old new net)
 nets_made file old new v (Ok net) same had e h = made_net file old new v net same had e h
 nets_made file old new v (Err x) same had e h = h
 
-pub none_made : {N : Type 0} (file : List ℕ) (old new : FilesState) (v : List ℕ) (r : Result N Answer) → new.faults ≡ old.faults → (IsTrue (old.lacks file) → ⊥) → IfSome (old.told file) (λ bytes. v ≡ take (most_program_bytes + 1) bytes) →
+pub none_made : {N : Type 0} (file : List ℕ) (old new : FilesState) (v : List ℕ) (r : Result N Answer) → new.faults ≡ old.faults →
+    (IsTrue (old.lacks file) → ⊥) → IfSome (old.told file) (λ bytes. v ≡ take (most_program_bytes + 1) bytes) →
     IfErr r (λ a. Says (λ o. ⊥) (FaultyText number v) a) → IfErr r (λ a. AnswersNoNet file old new a)
 none_made file old new v (Ok net) same had e h = h
-none_made file old new v (Err a) same had e h = answers_file most_program_bytes (λ bytes o. ⊥) (FaultyText number) (λ o v b s x. x) (faulty_goes number) file old new v a same had e h
+none_made file old new v (Err a) same had e h =
+    answers_file most_program_bytes (λ bytes o. ⊥) (FaultyText number) (λ o v b s x. x) (faulty_goes number) file old new v a same had e h

@@ -1,6 +1,6 @@
 -- The answer to the words, by what is seen of the files before it and after it.
 use Rattle.std.specs.Prelude.{◌≡◌, ◌⊎◌, ◌≤◌, ℕ, List, [], ◌∷◌, length, All, IsTrue, Option, None, Some}
-use Rattle.goi_world.specs.Outside.{Rose, Reading}
+use Rattle.goi_world.specs.Outside.{Reading}
 use Rattle.pcf_values.specs.Terms.{TermTree, nat}
 use Rattle.pcf_values.specs.Typing.{HasType}
 use Rattle.net_build.specs.Nets.{NetTree}
@@ -27,9 +27,10 @@ use Rattle.goi_engine.specs.declared.load.LoadError.{LoadError}
 use Rattle.goi_engine.specs.declared.load.LoadError.TheVariants.{Memory, Failed}
 use Rattle.goi_engine.specs.declared.answer.Answer.TheVariants.{Prints, Refused, BadWords, NotRead, NoMemory}
 use Rattle.goi_engine.specs.Deeds.{Deed}
-use Rattle.goi_engine.specs.FilesSeen.{FilesState, OfFile}
+use Rattle.goi_world.specs.Seen.{FilesState}
+use Rattle.goi_engine.specs.FilesSeen.{OfFile}
 use Rattle.goi_engine.specs.ListsSeen.{OfList, FaultyList, ReportsLines, LacksOne, LoadedEach}
-use Rattle.goi_engine.specs.Verdicts.{Reports, Refuses, LacksFor, ReadsFiles}
+use Rattle.goi_engine.specs.Verdicts.{Reports, Refuses, NotReadAs, NotReadFor}
 
 -- the answer is a right output, or a refusal for a fault that is there, or want of memory
 abbrev pub Says : (Output → Type 0) → (Fault → Type 0) → Answer → Type 0
@@ -38,15 +39,6 @@ Says reports faulty (Refused refusal) = (f : Fault) × faulty f × TellsFault f 
 Says reports faulty BadWords = ⊥
 Says reports faulty NotRead = ⊥
 Says reports faulty NoMemory = Unit {0}
-
--- a file was not read: it is lacked, or a read of it failed, which steady files never do
-pub record NotReadAs (lacks : Type 0) (old new : FilesState) : Type 0 where
-  pub cause : lacks ⊎ Rose old.faults new.faults
-  pub sure : IsTrue old.steady → lacks
-
--- a file of the deed was not read
-abbrev pub NotReadFor : Deed → FilesState → FilesState → Type 0
-NotReadFor d old new = ReadsFiles d × NotReadAs (LacksFor d old) old new
 
 -- the answer over files, by what is a right output, a fault that is there and a file that is lacked
 abbrev pub AnswersWith : (Output → Type 0) → (Fault → Type 0) → Type 0 → FilesState → FilesState → Answer → Type 0
@@ -59,7 +51,8 @@ AnswersWith reports faulty lacks old new NoMemory = new.faults ≡ old.faults
 -- the same with the bytes of one file
 abbrev pub AnswersFile : (List ℕ → Output → Type 0) → (List ℕ → Fault → Type 0) → List ℕ → FilesState → FilesState → Answer → Type 0
 AnswersFile reports faulty file old new a =
-    AnswersWith (λ o. OfFile old file (λ bytes. reports bytes o)) (λ f. OfFile old file (λ bytes. faulty bytes f)) (IsTrue (old.lacks file)) old new a
+    AnswersWith (λ o. OfFile old file (λ bytes. reports bytes o)) (λ f. OfFile old file (λ bytes. faulty bytes f)) (IsTrue (old.lacks file))
+    old new a
 
 -- the answer to a task on the text of a file
 abbrev pub AnswersTask : Task → List ℕ → FilesState → FilesState → Answer → Type 0

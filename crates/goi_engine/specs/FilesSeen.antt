@@ -1,24 +1,8 @@
--- What is seen of files, and what may be said of the bytes of one.
+-- What may be said of the bytes of a file by what is seen of it, and which reads load one.
 -- Nothing may be told of a file, as of the files of the system. Then its bytes are some bytes, and what is said of it is said of those.
-use Rattle.std.specs.Prelude.{◌≡◌, ℕ, ◌+◌, ◌≤◌, Bool, IsTrue, List, length, All, Option, None, Some}
+use Rattle.std.specs.Prelude.{◌≡◌, ℕ, ◌+◌, ◌<◌, ◌≤◌, IsTrue, List, [], ◌∷◌, length, All, Option, None, Some}
 use Rattle.goi_world.specs.Outside.{Reading, CameBy}
-
--- what the files tell and lack, their count of faults, and whether it is certain that no read fails but of a lacked name
-pub record FilesState : Type 0 where
-  pub told : List ℕ → Option (List ℕ)
-  pub lacks : List ℕ → Bool
-  pub faults : ℕ
-  pub steady : Bool
-
-abbrev pub files_seen : (List ℕ → Option (List ℕ)) → (List ℕ → Bool) → ℕ → Bool → FilesState
-files_seen told lacks faults steady = record { told = told; lacks = lacks; faults = faults; steady = steady }
-
--- what stays as it was, whatever is read
-pub record FilesKept (old new : FilesState) : Type 0 where
-  pub told : new.told ≡ old.told
-  pub lacks : new.lacks ≡ old.lacks
-  pub steady : new.steady ≡ old.steady
-  pub quiet : IsTrue old.steady → new.faults ≡ old.faults
+use Rattle.goi_world.specs.Seen.{FilesState}
 
 -- the told bytes are so, or some bytes where none are told
 abbrev pub Possibly : Option (List ℕ) → (List ℕ → Type 0) → Type 0
@@ -38,10 +22,16 @@ pub record ReadsWithin (name : List ℕ) (limit : ℕ) (r : Reading) : Type 0 wh
   pub named : r.name ≡ name
   pub within : r.at + r.room ≤ limit + 1
 
--- a file of at most so many bytes was loaded: by reads of it alone, no more than one a byte and one, and none past one byte more than
--- the limit
+-- the reads, the last of them first, are of places that go on, each behind the one before it and all of them before this place
+abbrev pub Onwards : ℕ → List Reading → Type 0
+Onwards place [] = Unit {0}
+Onwards place (r ∷ log) = (r.at < place) × Onwards r.at log
+
+-- a file of at most so many bytes was loaded: by reads of it alone, no more than one a byte and one, at places that go on, none of them
+-- past one byte more than the limit
 pub record LoadedBy {S : Type 0} (one : S → Reading → S → Type 0) (name : List ℕ) (limit : ℕ) (old new : S) : Type 0 where
   pub log : List Reading
   pub came : CameBy one old log new
   pub few : length log ≤ limit + 1
   pub each : All (ReadsWithin name limit) log
+  pub onwards : Onwards (limit + 1) log

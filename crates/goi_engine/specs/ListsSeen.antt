@@ -12,7 +12,8 @@ use Rattle.goi_tasks.specs.declared.fault.Fault.{Fault}
 use Rattle.goi_tasks.specs.declared.fault.Fault.TheVariants.{Batch}
 use Rattle.goi_tasks.specs.Outputs.{Output, output}
 use Rattle.goi_batches.specs.Sections.{listed, Section, IsSection, statuses_of, batch_status, batch_report, EndsListed}
-use Rattle.goi_engine.specs.FilesSeen.{FilesState, Possibly, OfFile, OfTold, LoadedBy}
+use Rattle.goi_world.specs.Seen.{FilesState}
+use Rattle.goi_engine.specs.FilesSeen.{Possibly, OfFile, OfTold, LoadedBy}
 
 -- the bytes are a list, and this is so of its lines
 abbrev pub OfList : List ℕ → (List BatchLine → Type 0) → Type 0
@@ -27,7 +28,8 @@ abbrev pub AreSectionsIn : FilesState → ℕ → List BatchLine → List Sectio
 AreSectionsIn files workers [] [] = Unit {0}
 AreSectionsIn files workers [] (s ∷ ss) = ⊥
 AreSectionsIn files workers (l ∷ ls) [] = ⊥
-AreSectionsIn files workers (l ∷ ls) (s ∷ ss) = OfFile files l.file (λ bytes. IsSection workers (listed l.budget bytes) s) × AreSectionsIn files workers ls ss
+AreSectionsIn files workers (l ∷ ls) (s ∷ ss) =
+    OfFile files l.file (λ bytes. IsSection workers (listed l.budget bytes) s) × AreSectionsIn files workers ls ss
 
 -- the output for the programs of these lines
 pub record ReportsLines (files : FilesState) (workers : ℕ) (lines : List BatchLine) (o : Output) : Type 0 where
@@ -40,7 +42,8 @@ abbrev pub EndEachIn : FilesState → ℕ → List BatchLine → List ℕ → Ty
 EndEachIn files workers [] [] = Unit {0}
 EndEachIn files workers [] (e ∷ es) = ⊥
 EndEachIn files workers (l ∷ ls) [] = ⊥
-EndEachIn files workers (l ∷ ls) (e ∷ es) = OfTold files l.file (λ bytes. EndsListed workers (listed l.budget bytes) e) × EndEachIn files workers ls es
+EndEachIn files workers (l ∷ ls) (e ∷ es) =
+    OfTold files l.file (λ bytes. EndsListed workers (listed l.budget bytes) e) × EndEachIn files workers ls es
 
 -- and with which status they end together
 abbrev pub EndLines : FilesState → ℕ → List BatchLine → ℕ → Type 0
@@ -54,7 +57,8 @@ LacksOne files (l ∷ ls) = IsTrue (files.lacks l.file) ⊎ LacksOne files ls
 -- the files of these lines were loaded one after another, as far as it came, each up to its limit
 abbrev pub LoadedEach : {S : Type 0} → (S → Reading → S → Type 0) → List BatchLine → S → S → Type 0
 LoadedEach one [] old new = new ≡ old
-LoadedEach {S = S} one (l ∷ ls) old new = (new ≡ old) ⊎ ((mid : S) × LoadedBy one l.file most_program_bytes old mid × LoadedEach one ls mid new)
+LoadedEach {S = S} one (l ∷ ls) old new =
+    (new ≡ old) ⊎ ((mid : S) × LoadedBy one l.file most_program_bytes old mid × LoadedEach one ls mid new)
 
 -- the list's file was loaded, and then those of its lines, or nothing more was read; where the list's bytes are told, the lines are theirs
 pub record LoadedList {S : Type 0} (one : S → Reading → S → Type 0) (told : Option (List ℕ)) (file : List ℕ) (old new : S) : Type 0 where

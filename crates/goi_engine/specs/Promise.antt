@@ -1,161 +1,162 @@
 -- What the top call promises: for each status, what it means, what was written, and why it comes; and what comes where nothing fails.
--- The files are seen as `FilesState`, the sinks as `SinkState`. What isn't told of a file is left open only so far as it must be: the
--- report is then the right one for some bytes, and so is the line of a fault.
+-- The files are seen as `FilesState` before the call and after it, each sink as a `SinkTurn`. What isn't told of a file is left open only
+-- so far as it must be: the report is then the right one for some bytes, and so is the line of a fault.
 use Rattle.std.specs.Prelude.{◌≡◌, ◌≢◌, ◌⊎◌, ℕ, ◌≤◌, List, length, Option, None, Some}
 use Rattle.goi_world.specs.Outside.{Rose}
+use Rattle.goi_world.specs.Seen.{FilesState, FilesKept}
 use Rattle.goi_tasks.specs.declared.fault.Fault.{Fault}
 use Rattle.goi_tasks.specs.Outputs.{Output}
-use Rattle.goi_engine.specs.Answers.{NotReadFor}
 use Rattle.goi_engine.specs.Deeds.{Deed}
-use Rattle.goi_engine.specs.Delivers.{SinkState, Untouched, Wrote, Broke}
-use Rattle.goi_engine.specs.FilesSeen.{FilesState, FilesKept}
+use Rattle.goi_engine.specs.Writes.{SinkTurn, Untouched, Wrote, Broke}
 use Rattle.goi_tasks.specs.Refusals.{most_line, IsLine, fault_line, fault_status, words_line, read_line, memory_line, write_line}
-use Rattle.goi_engine.specs.Verdicts.{Reports, Refuses, CanDo, Faulty, SurelyLacks}
+use Rattle.goi_engine.specs.Verdicts.{Reports, Refuses, NotReadFor, CanDo, Faulty, SurelyLacks}
 
--- everything outside, at one moment
-pub record World : Type 0 where
-  pub files : FilesState
-  pub out : SinkState
-  pub err : SinkState
+-- everything outside, in a call: what is seen of the files before it and after it, and what came of both sinks
+pub record Call : Type 0 where
+  pub old : FilesState
+  pub new : FilesState
+  pub out : SinkTurn
+  pub err : SinkTurn
 
-abbrev pub world : FilesState → SinkState → SinkState → World
-world files out err = record { files = files; out = out; err = err }
+abbrev pub call : FilesState → FilesState → SinkTurn → SinkTurn → Call
+call old new out err = record { old = old; new = new; out = out; err = err }
 
 -- the line was written to `err` whole, and nothing to `out`
-pub record WroteLine (line : List ℕ) (old new : World) : Type 0 where
-  pub out : Untouched old.out new.out
-  pub err : Wrote line old.err new.err
+pub record WroteLine (line : List ℕ) (c : Call) : Type 0 where
+  pub out : Untouched c.out
+  pub err : Wrote line c.err
 
 -- the output of the deed, which ends with this status, was written whole: the report to `out`, and the notes behind it to `err`
-pub record Printed (status : ℕ) (d : Deed) (old new : World) : Type 0 where
+pub record Printed (status : ℕ) (d : Deed) (c : Call) : Type 0 where
   pub output : Output
-  pub right : Reports d old.files output
+  pub right : Reports d c.old output
   pub of_status : output.status ≡ status
-  pub out : Wrote output.report old.out new.out
-  pub err : Wrote output.notes old.err new.err
+  pub out : Wrote output.report c.out
+  pub err : Wrote output.notes c.err
 
 -- the line of a fault of this status was written, which is the deed's first
-pub record RefusedFault (status : ℕ) (d : Deed) (old new : World) : Type 0 where
+pub record RefusedFault (status : ℕ) (d : Deed) (c : Call) : Type 0 where
   pub fault : Fault
-  pub right : Refuses d old.files fault
+  pub right : Refuses d c.old fault
   pub of_status : fault_status fault ≡ status
   pub line : List ℕ
   pub is_line : IsLine fault line
-  pub wrote : WroteLine line old new
+  pub wrote : WroteLine line c
 
--- `out` failed behind a prefix of the deed's report; then the line that says so was written to `err`, or a prefix of it before `err`
--- failed too
-pub record OutFailed (asked : Option Deed) (old new : World) : Type 0 where
+-- `out` failed behind a prefix of the deed's report, and no more was offered to it; then the line that says so was written to `err`, or a
+-- prefix of it before `err` failed too
+pub record OutFailed (asked : Option Deed) (c : Call) : Type 0 where
   pub d : Deed
   pub is_asked : asked ≡ Some d
   pub output : Output
-  pub right : Reports d old.files output
-  pub out : Broke output.report old.out new.out
-  pub err : Wrote write_line old.err new.err ⊎ Broke write_line old.err new.err
+  pub right : Reports d c.old output
+  pub out : Broke output.report c.out
+  pub err : Wrote write_line c.err ⊎ Broke write_line c.err
 
 -- the line of the refusal that stands: of the words, of a file that was not read, of want of memory, or of the deed's first fault
-pub data RefusalLine (asked : Option Deed) (old new : World) : List ℕ → Type 0 where
-  of_words : asked ≡ None → RefusalLine asked old new words_line
-  of_read : (d : Deed) → asked ≡ Some d → NotReadFor d old.files new.files → RefusalLine asked old new read_line
-  of_memory : RefusalLine asked old new memory_line
-  of_fault : (d : Deed) (f : Fault) (line : List ℕ) → asked ≡ Some d → Refuses d old.files f → IsLine f line → RefusalLine asked old new line
+pub data RefusalLine (asked : Option Deed) (c : Call) : List ℕ → Type 0 where
+  of_words : asked ≡ None → RefusalLine asked c words_line
+  of_read : (d : Deed) → asked ≡ Some d → NotReadFor d c.old c.new → RefusalLine asked c read_line
+  of_memory : RefusalLine asked c memory_line
+  of_fault : (d : Deed) (f : Fault) (line : List ℕ) → asked ≡ Some d → Refuses d c.old f → IsLine f line → RefusalLine asked c line
 
 -- `err` failed behind a prefix of that line, and nothing was written to `out`
-pub record ErrFailed (asked : Option Deed) (old new : World) : Type 0 where
+pub record ErrFailed (asked : Option Deed) (c : Call) : Type 0 where
   pub line : List ℕ
-  pub stands : RefusalLine asked old new line
-  pub out : Untouched old.out new.out
-  pub err : Broke line old.err new.err
+  pub stands : RefusalLine asked c line
+  pub out : Untouched c.out
+  pub err : Broke line c.err
 
 -- the whole report was written, and `err` failed behind a prefix of its notes
-pub record NotesFailed (asked : Option Deed) (old new : World) : Type 0 where
+pub record NotesFailed (asked : Option Deed) (c : Call) : Type 0 where
   pub d : Deed
   pub is_asked : asked ≡ Some d
   pub output : Output
-  pub right : Reports d old.files output
-  pub out : Wrote output.report old.out new.out
-  pub err : Broke output.notes old.err new.err
+  pub right : Reports d c.old output
+  pub out : Wrote output.report c.out
+  pub err : Broke output.notes c.err
 
 -- what status 0 means: all is done, and the report stands in `out`; status 5: so does the report of a run that came to no value, or of a
 -- list of which a program came to none; and status 1, where a program of a list is refused: so does the report on that list
-abbrev pub MeansPrinted : ℕ → Option Deed → World → World → Type 0
-MeansPrinted status asked old new = (d : Deed) × (asked ≡ Some d) × Printed status d old new
+abbrev pub MeansPrinted : ℕ → Option Deed → Call → Type 0
+MeansPrinted status asked c = (d : Deed) × (asked ≡ Some d) × Printed status d c
 
 -- status 1: the program has a fault, and the line that tells it stands in `err`; and status 7: so it is with the schedule, the net file or
 -- the list
-abbrev pub MeansFault : ℕ → Option Deed → World → World → Type 0
-MeansFault status asked old new = (d : Deed) × (asked ≡ Some d) × RefusedFault status d old new
+abbrev pub MeansFault : ℕ → Option Deed → Call → Type 0
+MeansFault status asked c = (d : Deed) × (asked ≡ Some d) × RefusedFault status d c
 
 -- status 2: the words ask for nothing
-abbrev pub MeansBadWords : Option Deed → World → World → Type 0
-MeansBadWords asked old new = (asked ≡ None) × WroteLine words_line old new
+abbrev pub MeansBadWords : Option Deed → Call → Type 0
+MeansBadWords asked c = (asked ≡ None) × WroteLine words_line c
 
 -- status 3: a file of the deed was not read
-abbrev pub MeansNotRead : Option Deed → World → World → Type 0
-MeansNotRead asked old new = (d : Deed) × (asked ≡ Some d) × NotReadFor d old.files new.files × WroteLine read_line old new
+abbrev pub MeansNotRead : Option Deed → Call → Type 0
+MeansNotRead asked c = (d : Deed) × (asked ≡ Some d) × NotReadFor d c.old c.new × WroteLine read_line c
 
 -- status 4: a write failed
-abbrev pub MeansNotWritten : Option Deed → World → World → Type 0
-MeansNotWritten asked old new = OutFailed asked old new ⊎ ErrFailed asked old new ⊎ NotesFailed asked old new
+abbrev pub MeansNotWritten : Option Deed → Call → Type 0
+MeansNotWritten asked c = OutFailed asked c ⊎ ErrFailed asked c ⊎ NotesFailed asked c
 
 -- status 6: there was no memory
-abbrev pub MeansNoMemory : World → World → Type 0
-MeansNoMemory old new = WroteLine memory_line old new
+abbrev pub MeansNoMemory : Call → Type 0
+MeansNoMemory c = WroteLine memory_line c
 
 -- a sink's count of faults stayed
-abbrev pub Quiet : SinkState → SinkState → Type 0
-Quiet old new = new.faults ≡ old.faults
+abbrev pub Quiet : SinkTurn → Type 0
+Quiet t = t.new.faults ≡ t.old.faults
 
 -- no device failed
-pub record NoneFailed (old new : World) : Type 0 where
-  pub files : Rose old.files.faults new.files.faults → ⊥
-  pub out : Rose old.out.faults new.out.faults → ⊥
-  pub err : Rose old.err.faults new.err.faults → ⊥
+pub record NoneFailed (c : Call) : Type 0 where
+  pub files : Rose c.old.faults c.new.faults → ⊥
+  pub out : Rose c.out.old.faults c.out.new.faults → ⊥
+  pub err : Rose c.err.old.faults c.err.new.faults → ⊥
 
 -- the sinks are sure to take what may come: `out` any report of the deed, and `err` any line of a refusal and the notes of any output
-pub record SureRoom (asked : Option Deed) (old : World) : Type 0 where
-  pub out : (d : Deed) (o : Output) → asked ≡ Some d → Reports d old.files o → length o.report ≤ old.out.spare
-  pub err : most_line ≤ old.err.spare
-  pub notes : (d : Deed) (o : Output) → asked ≡ Some d → Reports d old.files o → length o.notes ≤ old.err.spare
+pub record SureRoom (asked : Option Deed) (c : Call) : Type 0 where
+  pub out : (d : Deed) (o : Output) → asked ≡ Some d → Reports d c.old o → length o.report ≤ c.out.old.spare
+  pub err : most_line ≤ c.err.old.spare
+  pub notes : (d : Deed) (o : Output) → asked ≡ Some d → Reports d c.old o → length o.notes ≤ c.err.old.spare
 
 -- where the files tell what the deed needs: what it can be done with gives its report, with the status with which it ends on it
-abbrev pub CompleteReport : Option Deed → World → World → ℕ → Type 0
-CompleteReport asked old new status = (d : Deed) (own : ℕ) → asked ≡ Some d → CanDo d old.files own → NoneFailed old new → (status ≡ own) ⊎ (status ≡ 6)
+abbrev pub CompleteReport : Option Deed → Call → ℕ → Type 0
+CompleteReport asked c status = (d : Deed) (own : ℕ) → asked ≡ Some d → CanDo d c.old own → NoneFailed c → (status ≡ own) ⊎ (status ≡ 6)
 
 -- and what has a fault gives the line of that fault, and its status
-abbrev pub CompleteFault : Option Deed → World → World → ℕ → Type 0
-CompleteFault asked old new status =
-    (d : Deed) (f : Fault) → asked ≡ Some d → Faulty d old.files f → NoneFailed old new → ((status ≡ fault_status f) × WroteLine (fault_line f) old new) ⊎ (status ≡ 6)
+abbrev pub CompleteFault : Option Deed → Call → ℕ → Type 0
+CompleteFault asked c status =
+    (d : Deed) (f : Fault) → asked ≡ Some d → Faulty d c.old f → NoneFailed c → ((status ≡ fault_status f) × WroteLine (fault_line f) c) ⊎
+    (status ≡ 6)
 
 -- words that ask for nothing are refused
-abbrev pub CompleteWords : Option Deed → World → World → ℕ → Type 0
-CompleteWords asked old new status = asked ≡ None → NoneFailed old new → (status ≡ 2) ⊎ (status ≡ 6)
+abbrev pub CompleteWords : Option Deed → Call → ℕ → Type 0
+CompleteWords asked c status = asked ≡ None → NoneFailed c → (status ≡ 2) ⊎ (status ≡ 6)
 
 -- a file that is lacked can't be read, where it is certain that the deed comes to it
-abbrev pub CompleteLacked : Option Deed → World → World → ℕ → Type 0
-CompleteLacked asked old new status = (d : Deed) → asked ≡ Some d → SurelyLacks d old.files → NoneFailed old new → (status ≡ 3) ⊎ (status ≡ 6)
+abbrev pub CompleteLacked : Option Deed → Call → ℕ → Type 0
+CompleteLacked asked c status = (d : Deed) → asked ≡ Some d → SurelyLacks d c.old → NoneFailed c → (status ≡ 3) ⊎ (status ≡ 6)
 
--- the promise of the top call, for the deed that was asked for, the world before and after it, and the status that it gave
-pub record Promise (asked : Option Deed) (old new : World) (status : ℕ) : Type 0 where
-  pub done : status ≡ 0 → MeansPrinted 0 asked old new
-  pub fault : status ≡ 1 → MeansFault 1 asked old new ⊎ MeansPrinted 1 asked old new
-  pub bad_words : status ≡ 2 → MeansBadWords asked old new
-  pub not_read : status ≡ 3 → MeansNotRead asked old new
-  pub not_written : status ≡ 4 → MeansNotWritten asked old new
-  pub no_value : status ≡ 5 → MeansPrinted 5 asked old new
-  pub no_memory : status ≡ 6 → MeansNoMemory old new
-  pub file_fault : status ≡ 7 → MeansFault 7 asked old new
+-- the promise of the top call, for the deed that was asked for, what is seen of the call from outside, and the status that it gave
+pub record Promise (asked : Option Deed) (c : Call) (status : ℕ) : Type 0 where
+  pub done : status ≡ 0 → MeansPrinted 0 asked c
+  pub fault : status ≡ 1 → MeansFault 1 asked c ⊎ MeansPrinted 1 asked c
+  pub bad_words : status ≡ 2 → MeansBadWords asked c
+  pub not_read : status ≡ 3 → MeansNotRead asked c
+  pub not_written : status ≡ 4 → MeansNotWritten asked c
+  pub no_value : status ≡ 5 → MeansPrinted 5 asked c
+  pub no_memory : status ≡ 6 → MeansNoMemory c
+  pub file_fault : status ≡ 7 → MeansFault 7 asked c
   -- no other status comes
   pub statuses : (status ≡ 0) ⊎ (status ≡ 1) ⊎ (status ≡ 2) ⊎ (status ≡ 3) ⊎ (status ≡ 4) ⊎ (status ≡ 5) ⊎ (status ≡ 6) ⊎ (status ≡ 7)
   -- what the files tell and lack stays
-  pub files : FilesKept old.files new.files
+  pub files : FilesKept c.old c.new
   -- a sink's count of faults changes only with status 4, and the files' count only where a file could not be read
-  pub quiet : status ≢ 4 → Quiet old.out new.out × Quiet old.err new.err
-  pub read : status ≢ 3 → status ≢ 4 → new.files.faults ≡ old.files.faults
+  pub quiet : status ≢ 4 → Quiet c.out × Quiet c.err
+  pub read : status ≢ 3 → status ≢ 4 → c.new.faults ≡ c.old.faults
   -- where the sinks are sure to take what may come, no write fails
-  pub sure : SureRoom asked old → status ≢ 4
+  pub sure : SureRoom asked c → status ≢ 4
   -- what comes where nothing fails
-  pub reports : CompleteReport asked old new status
-  pub refuses : CompleteFault asked old new status
-  pub refuses_words : CompleteWords asked old new status
-  pub refuses_lacked : CompleteLacked asked old new status
+  pub reports : CompleteReport asked c status
+  pub refuses : CompleteFault asked c status
+  pub refuses_words : CompleteWords asked c status
+  pub refuses_lacked : CompleteLacked asked c status

@@ -2,7 +2,7 @@
 -- A replay judges the program first, and the schedule's file is read where the program is a number. A list is judged first, and then its
 -- programs are read; a fault of a program is told in the report. The generated program needs no file.
 use Rattle.std.specs.Prelude.{◌≡◌, ◌⊎◌, ℕ, IsTrue, List, Option, None, Some}
-use Rattle.goi_world.specs.Outside.{Reading}
+use Rattle.goi_world.specs.Outside.{Rose, Reading}
 use Rattle.pcf_values.specs.Most.{most_program_bytes, most_schedule_bytes}
 use Rattle.pcf_values.specs.Terms.{TermTree}
 use Rattle.net_build.specs.NetOf.{net_of}
@@ -15,7 +15,8 @@ use Rattle.goi_tasks.specs.Replaying.{ReportsReplay, EndsReplay, FaultySchedule}
 use Rattle.goi_tasks.specs.Tasks.{most_bytes, ReportsText, FaultyFor, EndsText}
 use Rattle.goi_engine.specs.Deeds.{Deed, with_text, with_schedule, with_list, generated}
 use Rattle.goi_engine.specs.ListsSeen.{OfList, FaultyList, ReportsLines, EndLines, LacksOne, LoadedList}
-use Rattle.goi_engine.specs.FilesSeen.{FilesState, OfFile, OfTold, LoadedBy}
+use Rattle.goi_world.specs.Seen.{FilesState}
+use Rattle.goi_engine.specs.FilesSeen.{OfFile, OfTold, LoadedBy}
 
 -- the text is a program whose term is a number, of which this holds
 abbrev pub OfGround : List ℕ → (TermTree → Type 0) → Type 0
@@ -30,7 +31,8 @@ HasNumber bytes = OfGround bytes (λ t. Unit {0})
 -- its output, by what the files tell
 abbrev pub Reports : Deed → FilesState → Output → Type 0
 Reports (with_text task file) files o = OfFile files file (λ bytes. ReportsText task bytes o)
-Reports (with_schedule file moves) files o = OfFile files file (λ bytes. OfGround bytes (λ t. OfFile files moves (λ text. ReportsReplay t text o)))
+Reports (with_schedule file moves) files o =
+    OfFile files file (λ bytes. OfGround bytes (λ t. OfFile files moves (λ text. ReportsReplay t text o)))
 Reports (with_list file workers) files o = OfFile files file (λ bytes. OfList bytes (λ lines. ReportsLines files workers lines o))
 Reports (generated n workers) files o = ReportsDemo n workers o
 
@@ -41,7 +43,8 @@ FaultyEither bytes schedule f = FaultyText number bytes f ⊎ OfGround bytes sch
 -- its first fault, by what the files tell
 abbrev pub Refuses : Deed → FilesState → Fault → Type 0
 Refuses (with_text task file) files f = OfFile files file (λ bytes. FaultyFor task bytes f)
-Refuses (with_schedule file moves) files f = OfFile files file (λ bytes. FaultyEither bytes (λ t. OfFile files moves (λ text. FaultySchedule t text f)) f)
+Refuses (with_schedule file moves) files f =
+    OfFile files file (λ bytes. FaultyEither bytes (λ t. OfFile files moves (λ text. FaultySchedule t text f)) f)
 Refuses (with_list file workers) files f = OfFile files file (λ bytes. FaultyList bytes f)
 Refuses (generated n workers) files f = ⊥
 
@@ -57,14 +60,16 @@ LacksFor (generated n workers) files = ⊥
 -- the files tell enough for the deed, which can be done with them and ends with this status
 abbrev pub CanDo : Deed → FilesState → ℕ → Type 0
 CanDo (with_text task file) files status = OfTold files file (λ bytes. EndsText task bytes status)
-CanDo (with_schedule file moves) files status = OfTold files file (λ bytes. OfGround bytes (λ t. OfTold files moves (λ text. EndsReplay t text status)))
+CanDo (with_schedule file moves) files status =
+    OfTold files file (λ bytes. OfGround bytes (λ t. OfTold files moves (λ text. EndsReplay t text status)))
 CanDo (with_list file workers) files status = OfTold files file (λ bytes. OfList bytes (λ lines. EndLines files workers lines status))
 CanDo (generated n workers) files status = EndsRun demo_budget (net_of (demo_term n)) status
 
 -- the files tell enough for the deed, and this is its first fault
 abbrev pub Faulty : Deed → FilesState → Fault → Type 0
 Faulty (with_text task file) files f = OfTold files file (λ bytes. FaultyFor task bytes f)
-Faulty (with_schedule file moves) files f = OfTold files file (λ bytes. FaultyEither bytes (λ t. OfTold files moves (λ text. FaultySchedule t text f)) f)
+Faulty (with_schedule file moves) files f =
+    OfTold files file (λ bytes. FaultyEither bytes (λ t. OfTold files moves (λ text. FaultySchedule t text f)) f)
 Faulty (with_list file workers) files f = OfTold files file (λ bytes. FaultyList bytes f)
 Faulty (generated n workers) files f = ⊥
 
@@ -83,6 +88,15 @@ ReadsFiles (with_text task file) = Unit {0}
 ReadsFiles (with_schedule file moves) = Unit {0}
 ReadsFiles (with_list file workers) = Unit {0}
 ReadsFiles (generated n workers) = ⊥
+
+-- a file was not read: it is lacked, or a read of it failed, which steady files never do
+pub record NotReadAs (lacks : Type 0) (old new : FilesState) : Type 0 where
+  pub cause : lacks ⊎ Rose old.faults new.faults
+  pub sure : IsTrue old.steady → lacks
+
+-- a file of the deed was not read
+abbrev pub NotReadFor : Deed → FilesState → FilesState → Type 0
+NotReadFor d old new = ReadsFiles d × NotReadAs (LacksFor d old) old new
 
 -- a program's file was loaded, and then the schedule's, or nothing more was read
 pub record LoadedBoth {S : Type 0} (one : S → Reading → S → Type 0) (file moves : List ℕ) (old new : S) : Type 0 where

@@ -10,7 +10,8 @@ ghost use Rattle.goi_words.specs.Asked.{job};
 ghost use Rattle.goi_words.specs.Jobs.{IsDemo, IsWithinLimits, IsWorkers, job_of};
 ghost use Rattle.goi_engine.specs.Answers.{Answers, AnswersDeed, AnswersTask, AnswersSchedule, AnswersNoNet, MadeNet, Says, IsStopped};
 ghost use Rattle.goi_engine.specs.Deeds.{deed, deed_of, with_schedule};
-ghost use Rattle.goi_engine.specs.FilesSeen.{FilesKept, LoadedBy, files_seen};
+ghost use Rattle.goi_engine.specs.FilesSeen.{LoadedBy};
+ghost use Rattle.goi_world.specs.Seen.{FilesKept};
 ghost use Rattle.goi_tasks.specs.Programs.{number, FaultyText, IsNet};
 ghost use Rattle.goi_tasks.specs.Replaying.{ReportsReplay, FaultySchedule};
 ghost use Rattle.goi_tasks.specs.Running.{ReportsDemo};
@@ -56,9 +57,9 @@ pub(crate) fn answer_to<R: Threads + Wait + Sync, F: Files, G: Gate>(
     files: &mut F,
     gate: &G,
 ) -> Answer
-    ensures kept { FilesKept (files_seen (F.told files.old) (F.lacks files.old) (F.faults files.old) (F.steady files.old)) (files_seen (F.told files.new) (F.lacks files.new) (F.faults files.new) (F.steady files.new)) }
-    ensures answers { Answers (deed (job (map string_bytes words.now))) (files_seen (F.told files.old) (F.lacks files.old) (F.faults files.old) (F.steady files.old)) (files_seen (F.told files.new) (F.lacks files.new) (F.faults files.new) (F.steady files.new)) result }
-    ensures reads { ReadFor F.reads (F.told files.old) (deed (job (map string_bytes words.now))) files.old files.new }
+    ensures kept { FilesKept (F.seen files.old) (F.seen files.new) }
+    ensures answers { Answers (deed (job (map string_bytes words.now))) (F.seen files.old) (F.seen files.new) result }
+    ensures reads { ReadFor F.reads (F.seen files.old).told (deed (job (map string_bytes words.now))) files.old files.new }
 {
     match job_of(alloc, words) {
         Ok(job) => {
@@ -80,9 +81,9 @@ fn answer_job<R: Threads + Wait + Sync, F: Files, G: Gate>(
     gate: &G,
 ) -> Answer
     requires { IsWithinLimits (job_of job.now) }
-    ensures kept { FilesKept (files_seen (F.told files.old) (F.lacks files.old) (F.faults files.old) (F.steady files.old)) (files_seen (F.told files.new) (F.lacks files.new) (F.faults files.new) (F.steady files.new)) }
-    ensures answers { AnswersDeed (deed_of (job_of job.now)) (files_seen (F.told files.old) (F.lacks files.old) (F.faults files.old) (F.steady files.old)) (files_seen (F.told files.new) (F.lacks files.new) (F.faults files.new) (F.steady files.new)) result }
-    ensures reads { ReadFor F.reads (F.told files.old) (Some (deed_of (job_of job.now))) files.old files.new }
+    ensures kept { FilesKept (F.seen files.old) (F.seen files.new) }
+    ensures answers { AnswersDeed (deed_of (job_of job.now)) (F.seen files.old) (F.seen files.new) result }
+    ensures reads { ReadFor F.reads (F.seen files.old).told (Some (deed_of (job_of job.now))) files.old files.new }
 {
     match job {
         Job::Run {
@@ -164,8 +165,8 @@ fn answer_task<R: Threads + Wait + Sync, F: Files, G: Gate>(
     gate: &G,
 ) -> Answer
     requires { IsWithin task }
-    ensures kept { FilesKept (files_seen (F.told files.old) (F.lacks files.old) (F.faults files.old) (F.steady files.old)) (files_seen (F.told files.new) (F.lacks files.new) (F.faults files.new) (F.steady files.new)) }
-    ensures answers { AnswersTask task file.now (files_seen (F.told files.old) (F.lacks files.old) (F.faults files.old) (F.steady files.old)) (files_seen (F.told files.new) (F.lacks files.new) (F.faults files.new) (F.steady files.new)) result }
+    ensures kept { FilesKept (F.seen files.old) (F.seen files.new) }
+    ensures answers { AnswersTask task file.now (F.seen files.old) (F.seen files.new) result }
     ensures reads { LoadedBy F.reads file.now (most_bytes task) files.old files.new }
 {
     match load(alloc, files, file, most_bytes(task)) {
@@ -217,8 +218,8 @@ fn answer_text<R: Threads + Wait + Sync, G: Gate>(
 
 /// The answer to a schedule on the net of a program.
 fn answer_replay<F: Files>(alloc: Global, files: &mut F, file: &str, schedule: &str) -> Answer
-    ensures kept { FilesKept (files_seen (F.told files.old) (F.lacks files.old) (F.faults files.old) (F.steady files.old)) (files_seen (F.told files.new) (F.lacks files.new) (F.faults files.new) (F.steady files.new)) }
-    ensures answers { AnswersDeed (with_schedule file.now schedule.now) (files_seen (F.told files.old) (F.lacks files.old) (F.faults files.old) (F.steady files.old)) (files_seen (F.told files.new) (F.lacks files.new) (F.faults files.new) (F.steady files.new)) result }
+    ensures kept { FilesKept (F.seen files.old) (F.seen files.new) }
+    ensures answers { AnswersDeed (with_schedule file.now schedule.now) (F.seen files.old) (F.seen files.new) result }
     ensures reads { LoadedBoth F.reads file.now schedule.now files.old files.new }
 {
     law_never_stuck();
@@ -234,9 +235,9 @@ fn answer_replay<F: Files>(alloc: Global, files: &mut F, file: &str, schedule: &
 
 /// The net of the program of a file, or the answer where there is none.
 fn load_net<F: Files>(alloc: Global, files: &mut F, file: &str) -> Result<Net, Answer>
-    ensures kept { FilesKept (files_seen (F.told files.old) (F.lacks files.old) (F.faults files.old) (F.steady files.old)) (files_seen (F.told files.new) (F.lacks files.new) (F.faults files.new) (F.steady files.new)) }
-    ensures net { IfOk result (λ net. MadeNet file.now (files_seen (F.told files.old) (F.lacks files.old) (F.faults files.old) (F.steady files.old)) (files_seen (F.told files.new) (F.lacks files.new) (F.faults files.new) (F.steady files.new)) net) }
-    ensures none { IfErr result (λ a. AnswersNoNet file.now (files_seen (F.told files.old) (F.lacks files.old) (F.faults files.old) (F.steady files.old)) (files_seen (F.told files.new) (F.lacks files.new) (F.faults files.new) (F.steady files.new)) a) }
+    ensures kept { FilesKept (F.seen files.old) (F.seen files.new) }
+    ensures net { IfOk result (λ net. MadeNet file.now (F.seen files.old) (F.seen files.new) net) }
+    ensures none { IfErr result (λ a. AnswersNoNet file.now (F.seen files.old) (F.seen files.new) a) }
     ensures reads { LoadedBy F.reads file.now most_program_bytes files.old files.new }
 {
     match load(alloc, files, file, PROGRAM_BYTES as u32) {
@@ -259,8 +260,9 @@ fn make_net(alloc: Global, bytes: &[u8]) -> Result<Net, Answer>
 /// The answer to the schedule of a file, on the net of a program.
 fn answer_schedule<F: Files>(alloc: Global, files: &mut F, file: &str, net: &Net) -> Answer
     requires { Runs net.now }
-    ensures kept { FilesKept (files_seen (F.told files.old) (F.lacks files.old) (F.faults files.old) (F.steady files.old)) (files_seen (F.told files.new) (F.lacks files.new) (F.faults files.new) (F.steady files.new)) }
-    ensures answers { (t : TermTree) → HasType [] t nat → net.now ≡ net_of t → AnswersSchedule t file.now (files_seen (F.told files.old) (F.lacks files.old) (F.faults files.old) (F.steady files.old)) (files_seen (F.told files.new) (F.lacks files.new) (F.faults files.new) (F.steady files.new)) result }
+    ensures kept { FilesKept (F.seen files.old) (F.seen files.new) }
+    ensures answers { (t : TermTree) → HasType [] t nat → net.now ≡ net_of t →
+        AnswersSchedule t file.now (F.seen files.old) (F.seen files.new) result }
     ensures reads { LoadedBy F.reads file.now most_schedule_bytes files.old files.new }
 {
     match load(alloc, files, file, SCHEDULE_BYTES as u32) {
@@ -272,7 +274,8 @@ fn answer_schedule<F: Files>(alloc: Global, files: &mut F, file: &str, net: &Net
 /// The answer to the text of a schedule, on the net of a program.
 fn answer_moves(alloc: Global, bytes: &[u8], net: &Net) -> Answer
     requires { Runs net.now }
-    ensures { (t : TermTree) → HasType [] t nat → net.now ≡ net_of t → Says (ReportsReplay t bytes.now) (FaultySchedule t bytes.now) result }
+    ensures { (t : TermTree) → HasType [] t nat → net.now ≡ net_of t →
+        Says (ReportsReplay t bytes.now) (FaultySchedule t bytes.now) result }
 {
     match report_replay(alloc, net, bytes) {
         Ok(report) => Answer::Prints(report),

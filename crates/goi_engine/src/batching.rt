@@ -8,9 +8,11 @@ ghost use Rattle.goi_words.specs.Jobs.{IsWorkers};
 ghost use Rattle.goi_batches.specs.declared.judged.Judged.{Judged};
 ghost use Rattle.goi_batches.specs.Judging.{IsJudged, AreJudged};
 ghost use Rattle.goi_batches.specs.Sections.{Listed, listed, ReportsBatch};
-ghost use Rattle.goi_engine.specs.Answers.{AnswersDeed, AnswersLines, AnswersList, AreJudgedIn, LineFits, LinesFit, LoadedLines, NotLoaded, Says, stop_of_list};
+ghost use Rattle.goi_engine.specs.Answers.{AnswersDeed, AnswersLines, AnswersList, AreJudgedIn, LineFits, LinesFit, LoadedLines, NotLoaded};
+ghost use Rattle.goi_engine.specs.Answers.{Says, stop_of_list};
 ghost use Rattle.goi_engine.specs.Deeds.{with_list};
-ghost use Rattle.goi_engine.specs.FilesSeen.{FilesKept, LoadedBy, OfFile, files_seen};
+ghost use Rattle.goi_engine.specs.FilesSeen.{LoadedBy, OfFile};
+ghost use Rattle.goi_world.specs.Seen.{FilesKept};
 ghost use Rattle.goi_engine.specs.ListsSeen.{FaultyList, LacksOne, LoadedEach, LoadedList};
 
 use crate::answer::{Answer, not_loaded, stopped};
@@ -35,9 +37,9 @@ pub(crate) fn answer_batch<R: Threads + Wait + Sync, F: Files, G: Gate>(
     gate: &G,
 ) -> Answer
     requires { IsWorkers workers }
-    ensures kept { FilesKept (files_seen (F.told files.old) (F.lacks files.old) (F.faults files.old) (F.steady files.old)) (files_seen (F.told files.new) (F.lacks files.new) (F.faults files.new) (F.steady files.new)) }
-    ensures answers { AnswersDeed (with_list file.now workers) (files_seen (F.told files.old) (F.lacks files.old) (F.faults files.old) (F.steady files.old)) (files_seen (F.told files.new) (F.lacks files.new) (F.faults files.new) (F.steady files.new)) result }
-    ensures reads { LoadedList F.reads (F.told files.old file.now) file.now files.old files.new }
+    ensures kept { FilesKept (F.seen files.old) (F.seen files.new) }
+    ensures answers { AnswersDeed (with_list file.now workers) (F.seen files.old) (F.seen files.new) result }
+    ensures reads { LoadedList F.reads ((F.seen files.old).told file.now) file.now files.old files.new }
 {
     match load(alloc, files, file, LIST_BYTES as u32) {
         Ok(bytes) => answer_list(rt, alloc, files, &bytes, workers, gate),
@@ -55,8 +57,8 @@ fn answer_list<R: Threads + Wait + Sync, F: Files, G: Gate>(
     gate: &G,
 ) -> Answer
     requires { IsWorkers workers }
-    ensures kept { FilesKept (files_seen (F.told files.old) (F.lacks files.old) (F.faults files.old) (F.steady files.old)) (files_seen (F.told files.new) (F.lacks files.new) (F.faults files.new) (F.steady files.new)) }
-    ensures answers { AnswersList workers bytes.now (files_seen (F.told files.old) (F.lacks files.old) (F.faults files.old) (F.steady files.old)) (files_seen (F.told files.new) (F.lacks files.new) (F.faults files.new) (F.steady files.new)) result }
+    ensures kept { FilesKept (F.seen files.old) (F.seen files.new) }
+    ensures answers { AnswersList workers bytes.now (F.seen files.old) (F.seen files.new) result }
     ensures reads { LoadedLines F.reads bytes.now files.old files.new }
 {
     match read_list(alloc, bytes) {
@@ -98,8 +100,8 @@ fn answer_lines<R: Threads + Wait + Sync, F: Files, G: Gate>(
 ) -> Answer
     requires workers { IsWorkers workers }
     requires fit { LinesFit lines.now }
-    ensures kept { FilesKept (files_seen (F.told files.old) (F.lacks files.old) (F.faults files.old) (F.steady files.old)) (files_seen (F.told files.new) (F.lacks files.new) (F.faults files.new) (F.steady files.new)) }
-    ensures answers { AnswersLines workers lines.now (files_seen (F.told files.old) (F.lacks files.old) (F.faults files.old) (F.steady files.old)) (files_seen (F.told files.new) (F.lacks files.new) (F.faults files.new) (F.steady files.new)) result }
+    ensures kept { FilesKept (F.seen files.old) (F.seen files.new) }
+    ensures answers { AnswersLines workers lines.now (F.seen files.old) (F.seen files.new) result }
     ensures reads { LoadedEach F.reads lines.now files.old files.new }
 {
     let mut programs = Vec::new(alloc);
@@ -136,10 +138,11 @@ fn load_programs<F: Files>(
     programs: &mut Vec<Judged>,
 ) -> Result<(), LoadError>
     requires { All LineFits lines.now }
-    ensures kept { FilesKept (files_seen (F.told files.old) (F.lacks files.old) (F.faults files.old) (F.steady files.old)) (files_seen (F.told files.new) (F.lacks files.new) (F.faults files.new) (F.steady files.new)) }
-    ensures judged { OnOk result ((more : List Judged) × (programs.new.items ≡ programs.old.items ++ more) × AreJudgedIn (files_seen (F.told files.old) (F.lacks files.old) (F.faults files.old) (F.steady files.old)) lines.now more) }
-    ensures quiet { OnOk result (F.faults files.new ≡ F.faults files.old) }
-    ensures not_loaded { IfErr result (NotLoaded (LacksOne (files_seen (F.told files.old) (F.lacks files.old) (F.faults files.old) (F.steady files.old)) lines.now) (files_seen (F.told files.old) (F.lacks files.old) (F.faults files.old) (F.steady files.old)) (files_seen (F.told files.new) (F.lacks files.new) (F.faults files.new) (F.steady files.new))) }
+    ensures kept { FilesKept (F.seen files.old) (F.seen files.new) }
+    ensures judged { OnOk result ((more : List Judged) ×
+        (programs.new.items ≡ programs.old.items ++ more) × AreJudgedIn (F.seen files.old) lines.now more) }
+    ensures quiet { OnOk result ((F.seen files.new).faults ≡ (F.seen files.old).faults) }
+    ensures not_loaded { IfErr result (NotLoaded (LacksOne (F.seen files.old) lines.now) (F.seen files.old) (F.seen files.new)) }
     ensures reads { LoadedEach F.reads lines.now files.old files.new }
 {
     match lines {
@@ -167,10 +170,10 @@ fn load_program<F: Files>(
     line: &BatchLine,
 ) -> Result<Judged, LoadError>
     requires { LineFits line.now }
-    ensures kept { FilesKept (files_seen (F.told files.old) (F.lacks files.old) (F.faults files.old) (F.steady files.old)) (files_seen (F.told files.new) (F.lacks files.new) (F.faults files.new) (F.steady files.new)) }
-    ensures judged { IfOk result (λ j. OfFile (files_seen (F.told files.old) (F.lacks files.old) (F.faults files.old) (F.steady files.old)) line.now.file (λ bytes. IsJudged (listed line.now.budget bytes) j)) }
-    ensures quiet { OnOk result (F.faults files.new ≡ F.faults files.old) }
-    ensures not_loaded { IfErr result (NotLoaded (IsTrue (F.lacks files.old line.now.file)) (files_seen (F.told files.old) (F.lacks files.old) (F.faults files.old) (F.steady files.old)) (files_seen (F.told files.new) (F.lacks files.new) (F.faults files.new) (F.steady files.new))) }
+    ensures kept { FilesKept (F.seen files.old) (F.seen files.new) }
+    ensures judged { IfOk result (λ j. OfFile (F.seen files.old) line.now.file (λ bytes. IsJudged (listed line.now.budget bytes) j)) }
+    ensures quiet { OnOk result ((F.seen files.new).faults ≡ (F.seen files.old).faults) }
+    ensures not_loaded { IfErr result (NotLoaded (IsTrue ((F.seen files.old).lacks line.now.file)) (F.seen files.old) (F.seen files.new)) }
     ensures reads { LoadedBy F.reads line.now.file most_program_bytes files.old files.new }
 {
     match load(alloc, files, line.file.as_str(), PROGRAM_BYTES as u32) {

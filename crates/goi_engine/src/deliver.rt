@@ -2,31 +2,31 @@
 
 ghost use Rattle.std.specs.Prelude.{◌≡◌, ◌⊎◌, MatchResult};
 ghost use Rattle.goi_tasks.specs.Outputs.{output_of};
-ghost use Rattle.goi_engine.specs.Delivers.{sink, Wrote, Broke, Reported, Delivered};
+ghost use Rattle.goi_engine.specs.Writes.{ByWrites, Wrote, Broke};
+ghost use Rattle.goi_engine.specs.Delivers.{Reported, Delivered};
 
 use crate::answer::Answer;
 use goi_tasks::Report;
 use goi_world::{Failed, Sink};
 
-/// Writes a text whole, or a prefix of it before a failure.
+/// Writes a text whole, or a prefix of it before a failure. Behind a failed write nothing more is offered.
 pub(crate) fn write_all<S: Sink>(out: &mut S, text: &[u8]) -> Result<(), Failed>
-    ensures { MatchResult result
-        (λ _. Wrote text.now (sink (S.written out.old) (S.faults out.old) (S.spare out.old)) (sink (S.written out.new) (S.faults out.new) (S.spare out.new)))
-        (λ _. Broke text.now (sink (S.written out.old) (S.faults out.old) (S.spare out.old)) (sink (S.written out.new) (S.faults out.new) (S.spare out.new))) }
+    ensures { ByWrites S.seen S.writes out.old out.new (λ turn. MatchResult result (λ _. Wrote text.now turn) (λ _. Broke text.now turn)) }
 {
     let mut rest = text;
     while !rest.is_empty() {
-        let count = out.write(rest)?;
-        rest = rest.split_at(count).1;
+        match out.write(rest) {
+            Ok(count) => rest = rest.split_at(count).1,
+            Err(failed) => return Err(failed),
+        }
     }
     Ok(())
 }
 
 /// Writes the report to `out`, or the line of a refusal to `err`, and gives the status.
 pub(crate) fn deliver<O: Sink, E: Sink>(answer: &Answer, out: &mut O, err: &mut E) -> u8
-    ensures { Delivered answer.now
-        (sink (O.written out.old) (O.faults out.old) (O.spare out.old)) (sink (O.written out.new) (O.faults out.new) (O.spare out.new))
-        (sink (E.written err.old) (E.faults err.old) (E.spare err.old)) (sink (E.written err.new) (E.faults err.new) (E.spare err.new)) result }
+    ensures { ByWrites O.seen O.writes out.old out.new (λ o. ByWrites E.seen E.writes err.old err.new (λ e.
+        Delivered answer.now o e result)) }
 {
     match answer {
         Answer::Prints(report) => print(out, err, report),
@@ -39,9 +39,8 @@ pub(crate) fn deliver<O: Sink, E: Sink>(answer: &Answer, out: &mut O, err: &mut 
 
 /// Writes the report to `out` and its notes to `err`, and gives its status; or says on `err` that `out` failed.
 fn print<O: Sink, E: Sink>(out: &mut O, err: &mut E, report: &Report) -> u8
-    ensures { Reported (output_of report.now)
-        (sink (O.written out.old) (O.faults out.old) (O.spare out.old)) (sink (O.written out.new) (O.faults out.new) (O.spare out.new))
-        (sink (E.written err.old) (E.faults err.old) (E.spare err.old)) (sink (E.written err.new) (E.faults err.new) (E.spare err.new)) result }
+    ensures { ByWrites O.seen O.writes out.old out.new (λ o. ByWrites E.seen E.writes err.old err.new (λ e.
+        Reported (output_of report.now) o e result)) }
 {
     match write_all(out, &report.text) {
         Ok(()) => tell(err, report.status, &report.notes),
@@ -54,8 +53,8 @@ fn print<O: Sink, E: Sink>(out: &mut O, err: &mut E, report: &Report) -> u8
 
 /// Writes the line of a refusal, or the notes of a report, and gives the status that goes with it.
 fn tell<E: Sink>(err: &mut E, status: u8, line: &[u8]) -> u8
-    ensures { (result ≡ status) × Wrote line.now (sink (E.written err.old) (E.faults err.old) (E.spare err.old)) (sink (E.written err.new) (E.faults err.new) (E.spare err.new))
-        ⊎ (result ≡ 4) × Broke line.now (sink (E.written err.old) (E.faults err.old) (E.spare err.old)) (sink (E.written err.new) (E.faults err.new) (E.spare err.new)) }
+    ensures { ByWrites E.seen E.writes err.old err.new (λ turn.
+        ((result ≡ status) × Wrote line.now turn) ⊎ ((result ≡ 4) × Broke line.now turn)) }
 {
     match write_all(err, line) {
         Ok(()) => status,

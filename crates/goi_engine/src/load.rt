@@ -2,6 +2,7 @@
 
 ghost use Rattle.std.specs.Prelude.{◌≡◌, ◌⊎◌, ◌<◌, ◌≤◌, ◌+◌, ℕ, IsTrue, length, take, IsErr, OnOk, IfOk, IfSome, IsErrOf};
 ghost use Rattle.goi_world.specs.Outside.{Rose, reading};
+ghost use Rattle.goi_world.specs.Seen.{FilesKept};
 ghost use Rattle.pcf_values.specs.Most.{most_schedule_bytes};
 ghost use Rattle.goi_engine.specs.FilesSeen.{LoadedBy};
 ghost use Rattle.goi_engine.specs.Loads.{Loads};
@@ -16,7 +17,9 @@ const PIECE_BYTES: usize = 65_536;
 /// Why a file wasn't loaded.
 #[derive(Clone, Copy)]
 pub(crate) enum LoadError {
+    /// There was no memory.
     Memory,
+    /// The file is lacked, or a read of it failed.
     Failed,
 }
 
@@ -30,7 +33,7 @@ impl From<AllocError> for LoadError {
 
 /// The bytes of a file, or as many as show that it has more than so many.
 ///
-/// Each turn but the last takes a byte, and the last may find the end.
+/// Each turn but the last takes a byte, and the last may find the end. No place is read twice.
 pub(crate) fn load<F: Files>(
     alloc: Global,
     files: &mut F,
@@ -38,18 +41,16 @@ pub(crate) fn load<F: Files>(
     limit: u32,
 ) -> Result<Vec<u8>, LoadError>
     requires { limit ≤ most_schedule_bytes }
-    ensures told { F.told files.new ≡ F.told files.old }
-    ensures lacks { F.lacks files.new ≡ F.lacks files.old }
-    ensures steady { F.steady files.new ≡ F.steady files.old }
-    ensures quiet { IsTrue (F.steady files.old) → F.faults files.new ≡ F.faults files.old }
-    ensures bytes { IfOk result (λ v. IfSome (F.told files.old name.now) (λ bytes. v.items ≡ take (limit + 1) bytes)) }
+    ensures kept { FilesKept (F.seen files.old) (F.seen files.new) }
+    ensures bytes { IfOk result (λ v. IfSome ((F.seen files.old).told name.now) (λ bytes. v.items ≡ take (limit + 1) bytes)) }
     ensures no_further { IfOk result (λ v. length v.items ≤ limit + 1) }
     ensures reads { LoadedBy F.reads name.now limit files.old files.new }
-    ensures lacked { IsTrue (F.lacks files.old name.now) → IsErr result }
-    ensures ok { OnOk result (F.faults files.new ≡ F.faults files.old) }
-    ensures memory { IsErrOf result LoadError.Memory → F.faults files.new ≡ F.faults files.old }
-    ensures failed { IsErrOf result LoadError.Failed → IsTrue (F.lacks files.old name.now) ⊎ Rose (F.faults files.old) (F.faults files.new) }
-    ensures sure { IsTrue (F.steady files.old) → IsErrOf result LoadError.Failed → IsTrue (F.lacks files.old name.now) }
+    ensures lacked { IsTrue ((F.seen files.old).lacks name.now) → IsErr result }
+    ensures ok { OnOk result ((F.seen files.new).faults ≡ (F.seen files.old).faults) }
+    ensures memory { IsErrOf result LoadError.Memory → (F.seen files.new).faults ≡ (F.seen files.old).faults }
+    ensures failed { IsErrOf result LoadError.Failed →
+        IsTrue ((F.seen files.old).lacks name.now) ⊎ Rose (F.seen files.old).faults (F.seen files.new).faults }
+    ensures sure { IsTrue (F.seen files.old).steady → IsErrOf result LoadError.Failed → IsTrue ((F.seen files.old).lacks name.now) }
 {
     let enough = limit + 1;
     let mut piece = zeros(alloc, PIECE_BYTES)?;
@@ -83,17 +84,16 @@ fn load_piece<F: Files>(
 ) -> Result<usize, LoadError>
     requires some { 0 < length piece.old }
     requires room { length bytes.old.items + length piece.old ≤ limit + 1 }
-    ensures told { F.told files.new ≡ F.told files.old }
-    ensures lacks { F.lacks files.new ≡ F.lacks files.old }
-    ensures steady { F.steady files.new ≡ F.steady files.old }
-    ensures quiet { IsTrue (F.steady files.old) → F.faults files.new ≡ F.faults files.old }
-    ensures reads { (room : ℕ) × (length bytes.old.items + room ≤ limit + 1) × F.reads files.old (reading name.now (length bytes.old.items) room) files.new }
-    ensures loads { IfOk result (λ n. Loads limit (F.told files.old name.now) bytes.old.items bytes.new.items n) }
-    ensures lacked { IsTrue (F.lacks files.old name.now) → IsErr result }
-    ensures ok { OnOk result (F.faults files.new ≡ F.faults files.old) }
-    ensures memory { IsErrOf result LoadError.Memory → F.faults files.new ≡ F.faults files.old }
-    ensures failed { IsErrOf result LoadError.Failed → IsTrue (F.lacks files.old name.now) ⊎ Rose (F.faults files.old) (F.faults files.new) }
-    ensures sure { IsTrue (F.steady files.old) → IsErrOf result LoadError.Failed → IsTrue (F.lacks files.old name.now) }
+    ensures kept { FilesKept (F.seen files.old) (F.seen files.new) }
+    ensures reads { (room : ℕ) × (length bytes.old.items + room ≤ limit + 1) ×
+        F.reads files.old (reading name.now (length bytes.old.items) room) files.new }
+    ensures loads { IfOk result (λ n. Loads limit ((F.seen files.old).told name.now) bytes.old.items bytes.new.items n) }
+    ensures lacked { IsTrue ((F.seen files.old).lacks name.now) → IsErr result }
+    ensures ok { OnOk result ((F.seen files.new).faults ≡ (F.seen files.old).faults) }
+    ensures memory { IsErrOf result LoadError.Memory → (F.seen files.new).faults ≡ (F.seen files.old).faults }
+    ensures failed { IsErrOf result LoadError.Failed →
+        IsTrue ((F.seen files.old).lacks name.now) ⊎ Rose (F.seen files.old).faults (F.seen files.new).faults }
+    ensures sure { IsTrue (F.seen files.old).steady → IsErrOf result LoadError.Failed → IsTrue ((F.seen files.old).lacks name.now) }
 {
     let _ = limit;
     match files.read(name, bytes.len() as u64, piece) {

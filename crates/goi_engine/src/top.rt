@@ -1,12 +1,11 @@
 //! The top call.
 
 ghost use Rattle.std.specs.Prelude.{map, string_bytes};
-ghost use Rattle.goi_engine.specs.Delivers.{sink};
+ghost use Rattle.goi_engine.specs.Writes.{ByWrites};
 ghost use Rattle.net_text.specs.Accepted.{OneAnswer};
 ghost use Rattle.goi_words.specs.Asked.{job};
 ghost use Rattle.goi_engine.specs.Deeds.{deed};
-ghost use Rattle.goi_engine.specs.FilesSeen.{files_seen};
-ghost use Rattle.goi_engine.specs.Promise.{world, Promise};
+ghost use Rattle.goi_engine.specs.Promise.{call, Promise};
 ghost use Rattle.goi_engine.specs.Verdicts.{ReadFor};
 
 use crate::answer::answer_to;
@@ -46,13 +45,11 @@ pub fn goi<R: Threads + Wait + Sync, F: Files, O: Sink, E: Sink, G: Gate>(
     err: &mut E,
     gate: &G,
 ) -> u8
-    ensures promise { let asked = deed (job (map string_bytes words.now)) in
-        let old = world (files_seen (F.told files.old) (F.lacks files.old) (F.faults files.old) (F.steady files.old)) (sink (O.written out.old) (O.faults out.old) (O.spare out.old)) (sink (E.written err.old) (E.faults err.old) (E.spare err.old)) in
-        let new = world (files_seen (F.told files.new) (F.lacks files.new) (F.faults files.new) (F.steady files.new)) (sink (O.written out.new) (O.faults out.new) (O.spare out.new)) (sink (E.written err.new) (E.faults err.new) (E.spare err.new)) in
-        Promise asked old new result }
+    ensures promise { ByWrites O.seen O.writes out.old out.new (λ o. ByWrites E.seen E.writes err.old err.new (λ e.
+        Promise (deed (job (map string_bytes words.now))) (call (F.seen files.old) (F.seen files.new) o e) result)) }
 
     // The files are read for the job alone, and not too often.
-    ensures reads { ReadFor F.reads (F.told files.old) (deed (job (map string_bytes words.now))) files.old files.new }
+    ensures reads { ReadFor F.reads (F.seen files.old).told (deed (job (map string_bytes words.now))) files.old files.new }
 {
     law_one_tree();
     law_one_fault();

@@ -2,9 +2,11 @@
 --
 -- They are a list of names with bytes, of which nothing ever changes, beside the numbers of the calls that fail and two
 -- counts. A call on a name that no file has fails in any case: it counts as a call, but never as a fault.
-use Rattle.std.specs.Prelude.{ℕ, ◌-◌, min, Bool, ◌&&◌, ◌||◌, List, ◌++◌, length, map, take, drop, Option, is_none, is_some, if◌then◌else◌, Vec}
+use Rattle.std.specs.Prelude.{ℕ, ◌-◌, min, Bool, ◌&&◌, ◌||◌, List, ◌++◌, length, map, take, drop, Option, is_none, is_some, if◌then◌else◌}
+use Rattle.std.specs.Prelude.{Vec}
 use Rattle.std.specs.declared.alloc.Global.{Global}
-use Rattle.goi_world.specs.Outside.{bytes_of, count_after, listed}
+use Rattle.goi_world.specs.Outside.{bytes_of, count_after, listed, none_listed}
+use Rattle.goi_world.specs.Seen.{FilesState, files_seen}
 
 -- the files, how many bytes a read gives at most, which calls fail, and how many calls and faults there were
 pub record FilesInMemory : Type 0 where
@@ -52,3 +54,7 @@ after_read m name = record m {
   calls = count_after m.calls;
   faults = if next_fails m && is_some (bytes_of m.files name) then count_after m.faults else m.faults;
 }
+
+-- what is seen of them: each read is certain where no call is listed to fail
+abbrev pub memory_files_seen : FilesInMemory → FilesState
+memory_files_seen m = files_seen (told_by m) (lacked_by m) m.faults (none_listed m.fails)

@@ -5,7 +5,9 @@
 --
 -- A count is kept in 64 bits. It stands still at the last number of these, so that no count wraps. There nobody can see
 -- a further rise, and so a count that stands at its last number counts as risen.
-use Rattle.std.specs.Prelude.{◌≡◌, ℕ, ◌+◌, ◌-◌, ◌^◌, ◌<◌, ◌≤◌, ◌==◌, min, Bool, IsTrue, List, [], ◌∷◌, ◌++◌, length, take, drop, Option, None, Some, is_none, nat_eq, if◌then◌else◌, refl}
+use Rattle.std.specs.Prelude.{◌≡◌, ℕ, ◌+◌, ◌-◌, ◌^◌, ◌<◌, ◌≤◌, ◌==◌, min, Bool, IsTrue, List, [], ◌∷◌, ◌++◌, length, take, drop}
+use Rattle.std.specs.Prelude.{if◌then◌else◌, refl}
+use Rattle.std.specs.Prelude.{Option, None, Some, is_none, Result, Ok, Err, nat_eq}
 use Rattle.std.specs.List.{list_any}
 use Rattle.std.specs.Str.{bytes_eq}
 use Rattle.std.specs.Option.{option_map}
@@ -27,11 +29,24 @@ pub record Reading : Type 0 where
 abbrev pub reading : List ℕ → ℕ → ℕ → Reading
 reading name at room = record { name = name; at = at; room = room }
 
--- files came from their first state to this one by these reads and no others, the last of them first; `one` says what a read makes of
--- a state
-abbrev pub CameBy : {S : Type 0} → (S → Reading → S → Type 0) → S → List Reading → S → Type 0
+-- a write: which piece was offered, and how many bytes of it were taken, which is none where it failed
+pub record Writing : Type 0 where
+  pub piece : List ℕ
+  pub taken : Option ℕ
+
+-- how many bytes a write took, by what it answered
+abbrev pub taken_by : {E : Type 0} → Result ℕ E → Option ℕ
+taken_by (Ok n) = Some n
+taken_by (Err e) = None
+
+abbrev pub writing : {E : Type 0} → List ℕ → Result ℕ E → Writing
+writing piece answer = record { piece = piece; taken = taken_by answer }
+
+-- a device came from its first state to this one by these reads or writes and no others, the last of them first; `one` says what one of
+-- them makes of a state
+abbrev pub CameBy : {S A : Type 0} → (S → A → S → Type 0) → S → List A → S → Type 0
 CameBy one first [] now = now ≡ first
-CameBy {S} one first (r ∷ log) now = (mid : S) × CameBy one first log mid × one mid r now
+CameBy {S = S} one first (a ∷ log) now = (mid : S) × CameBy one first log mid × one mid a now
 
 -- the buffer begins with n bytes of a file from an offset on; there are none only at the file's end or without room
 pub record IsPiece (bytes : List ℕ) (at n : ℕ) (buf : List ℕ) : Type 0 where

@@ -1,8 +1,10 @@
 -- A sink in memory, and what a write to it does.
 --
 -- It holds the bytes that were written, beside its room, the numbers of the calls that fail and two counts.
-use Rattle.std.specs.Prelude.{ℕ, ◌-◌, min, Bool, ◌&&◌, ◌||◌, not, List, [], ◌++◌, length, take, ◌==◌, if◌then◌else◌}
-use Rattle.goi_world.specs.Outside.{count_after, listed, none_listed}
+use Rattle.std.specs.Prelude.{◌≡◌, ℕ, ◌-◌, min, Bool, ◌&&◌, ◌||◌, not, List, [], ◌++◌, length, take, Option, None, Some, ◌==◌}
+use Rattle.std.specs.Prelude.{if◌then◌else◌}
+use Rattle.goi_world.specs.Outside.{count_after, listed, none_listed, Writing}
+use Rattle.goi_world.specs.Seen.{SinkState, sink_seen}
 
 -- the bytes so far, for how many there is room in all, how many a write takes at most, which calls fail, and how many calls
 -- and faults there were
@@ -37,6 +39,19 @@ after_write s piece =
     then record s { calls = count_after s.calls; faults = count_after s.faults }
     else record s { calls = count_after s.calls; bytes = s.bytes ++ take (write_length s piece) piece }
 
+-- how many bytes a write of this piece takes, which is none where it fails
+abbrev pub write_takes : SinkInMemory → List ℕ → Option ℕ
+write_takes s piece = if write_fails s piece then None else Some (write_length s piece)
+
+-- one state became another by this write
+pub record WroteOnce (s : SinkInMemory) (w : Writing) (now : SinkInMemory) : Type 0 where
+  pub after : now ≡ after_write s w.piece
+  pub takes : w.taken ≡ write_takes s w.piece
+
 -- so many bytes are sure to be taken: the room that is left, where no call is listed to fail
 abbrev pub sure_room : SinkInMemory → ℕ
 sure_room s = if none_listed s.fails then room_left s else 0
+
+-- what is seen of it
+abbrev pub memory_sink_seen : SinkInMemory → SinkState
+memory_sink_seen s = sink_seen (Some s.bytes) s.faults (sure_room s)

@@ -1,5 +1,5 @@
 // Files of the system.
-ghost use Rattle.std.specs.Prelude.{◌≡◌, ◌≤◌, false, None, OnOk, OnErr, IfOk, length};
+ghost use Rattle.std.specs.Prelude.{◌≡◌, ◌≤◌, OnOk, OnErr, IfOk, length};
 ghost use Rattle.std.proofs.Common.{rules};
 ghost use Rattle.goi_world.specs.FilesOnDisk.{unread_files, one_read, one_failed};
 
@@ -53,12 +53,9 @@ impl<'a, R: rt::Files + AllocGlobal> DiskFiles<'a, R> {
 
 impl<'a, R: rt::Files + AllocGlobal> Files for DiskFiles<'a, R> {
     ghost use Rattle.goi_world.specs.Outside.{count_after};
+    ghost use Rattle.goi_world.specs.FilesOnDisk.{disk_files_seen};
 
-    ghost told = { λ _ _. None };
-
-    ghost lacks = { λ _ _. false };
-
-    ghost faults = { λ files. files.faults };
+    ghost seen = { disk_files_seen };
 
     ghost reads = { λ before _ now. now.reads ≡ count_after before.reads };
 

@@ -1,11 +1,12 @@
 //! The outside as the program sees it: files that are read, and sinks that are written.
 //!
 //! `Files` and `Sink` say what any device may be relied on for: a call fails only where the count
-//! of faults rose, or on a name that no file has; a read changes no file, and each read can be
-//! told from the state that it leaves; a write appends exactly what it counts. `MemoryFiles` and `MemorySink` are devices in memory, of which everything is
-//! known, failures in chosen calls among it. `DiskFiles` and `StdSink` are the real ones, and tell
-//! nothing of their bytes: what a disk or a terminal does is trusted. What to do after a failure
-//! is left to the caller.
+//! of faults rose, or on a name that no file has; a read changes no file; a write appends exactly
+//! what it counts; and each read and each write can be told from the state that it leaves.
+//! `MemoryFiles` and `MemorySink` are devices in memory, of which everything is known, failures in
+//! chosen calls among it. `DiskFiles` and `StdSink` are the real ones, and tell nothing of their
+//! bytes: what a disk or a terminal does is trusted. What to do after a failure is left to the
+//! caller.
 #![tactic(auto)]
 
 mod disk;

@@ -1,5 +1,6 @@
 // Files in memory, which fail where they are told to.
-ghost use Rattle.std.specs.Prelude.{◌≡◌, ◌↔◌, ◌-◌, ◌++◌, ◌≤◌, IsTrue, length, min, take, drop, IsErr, OnErr, IfOk, IfSome, MatchOption, None, Some};
+ghost use Rattle.std.specs.Prelude.{◌≡◌, ◌↔◌, ◌-◌, ◌++◌, ◌≤◌, IsTrue, length, min, take, drop, IsErr, OnErr, IfOk, IfSome};
+ghost use Rattle.std.specs.Prelude.{MatchOption, None, Some};
 ghost use Rattle.goi_world.specs.Outside.{bytes_of, IsPiece};
 ghost use Rattle.goi_world.specs.FilesInMemory.{files_of, new_files, told_by, read_fails, read_length, read_into, after_read};
 
@@ -25,7 +26,13 @@ impl Model for MemoryFiles {
 
     ghost Value = { FilesInMemory };
 
-    ghost view = { λ m. record { files = files_of m.files.items; most = m.most; fails = m.fails.items; calls = m.calls; faults = m.faults } };
+    ghost view = { λ m. record {
+      files = files_of m.files.items;
+      most = m.most;
+      fails = m.fails.items;
+      calls = m.calls;
+      faults = m.faults;
+    } };
 
     ghost invariant = { λ m. 1 ≤ m.most };
 }
@@ -50,18 +57,12 @@ impl MemoryFiles {
 }
 
 impl Files for MemoryFiles {
-    ghost use Rattle.goi_world.specs.Outside.{none_listed, untold};
-    ghost use Rattle.goi_world.specs.FilesInMemory.{told_by, lacked_by, after_read};
+    ghost use Rattle.goi_world.specs.Outside.{untold};
+    ghost use Rattle.goi_world.specs.FilesInMemory.{memory_files_seen, told_by, after_read};
 
-    ghost told = { told_by };
-
-    ghost lacks = { lacked_by };
-
-    ghost faults = { λ m. m.faults };
+    ghost seen = { memory_files_seen };
 
     ghost reads = { λ before r now. now ≡ after_read before r.name };
-
-    ghost steady = { λ m. none_listed m.fails };
 
     ghost lacked_untold = { λ m name. untold (told_by m name) };
 
@@ -88,7 +89,9 @@ impl Files for MemoryFiles {
 }
 
 fn find_file<'a>(files: &'a [(Ident, Vec<u8>)], name: &str) -> Option<&'a [u8]>
-    ensures { MatchOption result (bytes_of (files_of files.now) name.now ≡ None) (λ b. bytes_of (files_of files.now) name.now ≡ Some b.now) }
+    ensures { MatchOption result
+        (bytes_of (files_of files.now) name.now ≡ None)
+        (λ b. bytes_of (files_of files.now) name.now ≡ Some b.now) }
 {
     let mut rest = files;
     while let [file, after @ ..] = rest {

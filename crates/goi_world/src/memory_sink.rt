@@ -26,7 +26,14 @@ impl Model for MemorySink {
 
     ghost Value = { SinkInMemory };
 
-    ghost view = { λ s. record { bytes = s.bytes.items; room = s.room; most = s.most; fails = s.fails.items; calls = s.calls; faults = s.faults } };
+    ghost view = { λ s. record {
+      bytes = s.bytes.items;
+      room = s.room;
+      most = s.most;
+      fails = s.fails.items;
+      calls = s.calls;
+      faults = s.faults;
+    } };
 
     // The whole room is reserved from the first day on, so that no write takes memory.
     ghost invariant = { λ s. (1 ≤ s.most) × (vec_len s.bytes ≤ s.room) × (s.room ≤ vec_capacity s.bytes) };
@@ -38,6 +45,10 @@ impl MemorySink {
     ///
     /// A write takes at most `most` bytes, of which there is to be one at least, and the calls whose
     /// numbers, from 1, stand in `fails` fail.
+    ///
+    /// # Errors
+    ///
+    /// [`AllocError`], where there is no memory for the room.
     pub fn new(
         alloc: Global,
         room: u64,
@@ -67,14 +78,11 @@ impl MemorySink {
 }
 
 impl Sink for MemorySink {
-    ghost use Rattle.std.specs.Prelude.{Some};
-    ghost use Rattle.goi_world.specs.SinkInMemory.{sure_room};
+    ghost use Rattle.goi_world.specs.SinkInMemory.{memory_sink_seen, WroteOnce};
 
-    ghost written = { λ s. Some s.bytes };
+    ghost seen = { memory_sink_seen };
 
-    ghost faults = { λ s. s.faults };
-
-    ghost spare = { sure_room };
+    ghost writes = { WroteOnce };
 
     fn write(&mut self, piece: &[u8]) -> Result<usize, Failed>
         ensures after { self.new ≡ after_write self.old piece.now }

@@ -1,48 +1,56 @@
 // Writers of std.
-ghost use Rattle.std.specs.Prelude.{◌≡◌, ◌<◌, ◌≤◌, None, OnOk, OnErr, IfOk, length};
-ghost use Rattle.goi_world.specs.Outside.{count_after};
+ghost use Rattle.std.specs.Prelude.{◌≡◌, ◌<◌, ◌≤◌, IfOk, length};
+ghost use Rattle.goi_world.specs.Outside.{taken_by};
+ghost use Rattle.goi_world.specs.SinkOfWriter.{unwritten, one_write};
 
 use crate::{Failed, Sink};
 use std::io::Write;
 use std::marker::Model;
 
-/// A sink over a writer, of which nothing is known but how often a write has failed.
+/// A sink over a writer, of which nothing is known but how many writes there were, and how many failed.
 #[derive(Drop)]
 pub struct StdSink<W: Write> {
     writer: W,
+    writes: u64,
     faults: u64,
 }
 
 impl<W: Write> Model for StdSink<W> {
-    ghost use Rattle.std.specs.Prelude.{ℕ};
+    ghost use Rattle.goi_world.specs.SinkOfWriter.{SinkOfWriter};
 
-    ghost Value = { ℕ };
+    ghost Value = { SinkOfWriter };
 
-    ghost view = { λ sink. sink.faults };
+    ghost view = { λ sink. record { writes = sink.writes; faults = sink.faults } };
 }
 
 impl<W: Write> StdSink<W> {
     /// A sink that hands each piece to this writer.
     pub fn over(writer: W) -> StdSink<W>
-        ensures { result ≡ 0 }
+        ensures { result ≡ unwritten }
     {
-        StdSink { writer, faults: 0 }
+        StdSink {
+            writer,
+            writes: 0,
+            faults: 0,
+        }
     }
 }
 
 impl<W: Write> Sink for StdSink<W> {
-    ghost written = { λ _. None };
+    ghost use Rattle.goi_world.specs.SinkOfWriter.{writer_sink_seen, one_write};
 
-    ghost faults = { λ faults. faults };
+    ghost seen = { writer_sink_seen };
+
+    ghost writes = { λ before w now. now ≡ one_write before w.taken };
 
     // A write that takes nothing of a piece that isn't empty is a fault.
     fn write(&mut self, piece: &[u8]) -> Result<usize, Failed>
         ensures bound { IfOk result (λ n. n ≤ length piece.now) }
         ensures some { IfOk result (λ n. 0 < length piece.now → 0 < n) }
-        ensures ok { OnOk result (self.new ≡ self.old) }
-        ensures err { OnErr result (self.new ≡ count_after self.old) }
-        ensures later { self.old ≤ self.new }
+        ensures after { self.new ≡ one_write self.old (taken_by result) }
+        ensures later { self.old.faults ≤ self.new.faults }
     {
+        self.writes = self.writes.saturating_add(1);
         match self.writer.write(piece) {
             Ok(count) if count > 0 || piece.is_empty() => Ok(count),
             _ => {

@@ -1,14 +1,16 @@
 use Rattle.std.proofs.Common.{ℕ, List, subst}
 use Rattle.pcf_values.specs.Most.{most_schedule_bytes}
 use Rattle.goi_engine.specs.Answers.{Says}
-use Rattle.goi_engine.specs.FilesSeen.{files_seen}
 use Rattle.goi_tasks.specs.Replaying.{ReportsReplay, FaultySchedule}
 use Rattle.goi_engine.proofs.Told.{answers_file, replay_goes, moves_goes}
 use Rattle.goi_engine.proofs.answer.answer_schedule.Goals as goal
 
 pub returns-in-Ok-clause-answers : goal.returns-in-Ok-clause-answers
 returns-in-Ok-clause-answers g c = λ t typed same.
-    let old = (files_seen (g.F.Files.told c.args.files.now) (g.F.Files.lacks c.args.files.now) (g.F.Files.faults c.args.files.now) (g.F.Files.steady c.args.files.now)) in
-    let new = (files_seen (g.F.Files.told c.load.new.files) (g.F.Files.lacks c.load.new.files) (g.F.Files.faults c.load.new.files) (g.F.Files.steady c.load.new.files)) in
-    answers_file most_schedule_bytes (ReportsReplay t) (FaultySchedule t) (replay_goes t) (moves_goes t) c.args.file.now old new c.in-Ok.bytes.items c.answer_moves.result c.in-Ok.ensures.ok
-    (λ h. let k = c.in-Ok.ensures.lacked h in cc) c.in-Ok.ensures.bytes (subst (λ (b : List ℕ). Says (ReportsReplay t b) (FaultySchedule t b) c.answer_moves.result) c.deref.ensures.value (c.answer_moves.ensures t typed same))
+    let old = g.F.Files.seen c.args.files.now in
+    let new = g.F.Files.seen c.load.new.files in
+    answers_file most_schedule_bytes (ReportsReplay t) (FaultySchedule t) (replay_goes t) (moves_goes t) c.args.file.now old new
+    c.in-Ok.bytes.items c.answer_moves.result c.in-Ok.ensures.ok
+    (λ h. let k = c.in-Ok.ensures.lacked h in cc) c.in-Ok.ensures.bytes
+    (subst (λ (b : List ℕ). Says (ReportsReplay t b) (FaultySchedule t b) c.answer_moves.result) c.deref.ensures.value
+    (c.answer_moves.ensures t typed same))

@@ -1,6 +1,5 @@
 use Rattle.std.proofs.Common.{◌≡◌, ◌+◌, ℕ, List, take, IfSome, subst}
 use Rattle.goi_engine.specs.Answers.{Says}
-use Rattle.goi_engine.specs.FilesSeen.{files_seen}
 use Rattle.goi_tasks.specs.Tasks.{most_bytes, ReportsText, FaultyFor}
 use Rattle.goi_engine.proofs.Told.{answers_file, report_goes, fault_goes}
 use Rattle.goi_engine.proofs.answer.answer_task.Goals as goal
@@ -8,9 +7,11 @@ use Rattle.goi_engine.proofs.answer.answer_task.Goals as goal
 pub returns-in-Ok-clause-answers : goal.returns-in-Ok-clause-answers
 returns-in-Ok-clause-answers g c =
     let task = c.args.task in
-    let old = (files_seen (g.F.Files.told c.args.files.now) (g.F.Files.lacks c.args.files.now) (g.F.Files.faults c.args.files.now) (g.F.Files.steady c.args.files.now)) in
-    let new = (files_seen (g.F.Files.told c.load.new.files) (g.F.Files.lacks c.load.new.files) (g.F.Files.faults c.load.new.files) (g.F.Files.steady c.load.new.files)) in
-    answers_file (most_bytes task) (ReportsText task) (FaultyFor task) (report_goes task) (fault_goes task) c.args.file.now old new c.in-Ok.bytes.items c.answer_text.result c.in-Ok.ensures.ok
+    let old = g.F.Files.seen c.args.files.now in
+    let new = g.F.Files.seen c.load.new.files in
+    answers_file (most_bytes task) (ReportsText task) (FaultyFor task) (report_goes task) (fault_goes task) c.args.file.now old new
+    c.in-Ok.bytes.items c.answer_text.result c.in-Ok.ensures.ok
     (λ h. let k = c.in-Ok.ensures.lacked h in cc)
-    (subst (λ (limit : ℕ). IfSome (old.told c.args.file.now) (λ bytes. c.in-Ok.bytes.items ≡ take (limit + 1) bytes)) c.most_bytes.ensures c.in-Ok.ensures.bytes)
+    (subst (λ (limit : ℕ). IfSome (old.told c.args.file.now) (λ bytes. c.in-Ok.bytes.items ≡ take (limit + 1) bytes)) c.most_bytes.ensures
+    c.in-Ok.ensures.bytes)
     (subst (λ (b : List ℕ). Says (ReportsText task b) (FaultyFor task b) c.answer_text.result) c.deref.ensures.value c.answer_text.ensures)

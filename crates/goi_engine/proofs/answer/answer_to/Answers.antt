@@ -5,4 +5,5 @@ use Rattle.goi_engine.proofs.Answered.{nothing_read}
 use Rattle.goi_engine.proofs.answer.answer_to.Goals as goal
 
 pub returns-in-Err-NoMemory-clause-reads : goal.returns-in-Err-NoMemory-clause-reads
-returns-in-Err-NoMemory-clause-reads g c = nothing_read g.F.Files.reads (g.F.Files.told c.args.files.now) (deed (job (map string_bytes c.args.words.now))) c.args.files.now
+returns-in-Err-NoMemory-clause-reads g c =
+    nothing_read g.F.Files.reads (g.F.Files.seen c.args.files.now).told (deed (job (map string_bytes c.args.words.now))) c.args.files.now

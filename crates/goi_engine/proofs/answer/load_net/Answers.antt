@@ -1,20 +1,22 @@
 use Rattle.std.proofs.Common.{ℕ, List, IfOk, IfErr, subst}
 use Rattle.goi_engine.specs.Answers.{Says}
-use Rattle.goi_engine.specs.FilesSeen.{files_seen}
 use Rattle.goi_tasks.specs.Programs.{number, FaultyText, IsNet}
 use Rattle.goi_engine.proofs.Told.{nets_made, none_made}
 use Rattle.goi_engine.proofs.answer.load_net.Goals as goal
 
 pub returns-in-Ok-clause-net : goal.returns-in-Ok-clause-net
 returns-in-Ok-clause-net g c =
-    let old = (files_seen (g.F.Files.told c.args.files.now) (g.F.Files.lacks c.args.files.now) (g.F.Files.faults c.args.files.now) (g.F.Files.steady c.args.files.now)) in
-    let new = (files_seen (g.F.Files.told c.load.new.files) (g.F.Files.lacks c.load.new.files) (g.F.Files.faults c.load.new.files) (g.F.Files.steady c.load.new.files)) in
-    nets_made c.args.file.now old new c.in-Ok.bytes.items c.make_net.result c.in-Ok.ensures.ok (λ h. let k = c.in-Ok.ensures.lacked h in cc) c.in-Ok.ensures.bytes
+    let old = g.F.Files.seen c.args.files.now in
+    let new = g.F.Files.seen c.load.new.files in
+    nets_made c.args.file.now old new c.in-Ok.bytes.items c.make_net.result c.in-Ok.ensures.ok (λ h. let k = c.in-Ok.ensures.lacked h in cc)
+    c.in-Ok.ensures.bytes
     (subst (λ (b : List ℕ). IfOk c.make_net.result (λ net. IsNet b net)) c.deref.ensures.value c.make_net.ensures.net)
 
 pub returns-in-Ok-clause-none : goal.returns-in-Ok-clause-none
 returns-in-Ok-clause-none g c =
-    let old = (files_seen (g.F.Files.told c.args.files.now) (g.F.Files.lacks c.args.files.now) (g.F.Files.faults c.args.files.now) (g.F.Files.steady c.args.files.now)) in
-    let new = (files_seen (g.F.Files.told c.load.new.files) (g.F.Files.lacks c.load.new.files) (g.F.Files.faults c.load.new.files) (g.F.Files.steady c.load.new.files)) in
-    none_made c.args.file.now old new c.in-Ok.bytes.items c.make_net.result c.in-Ok.ensures.ok (λ h. let k = c.in-Ok.ensures.lacked h in cc) c.in-Ok.ensures.bytes
-    (subst (λ (b : List ℕ). IfErr c.make_net.result (λ a. Says (λ o. ⊥) (FaultyText number b) a)) c.deref.ensures.value c.make_net.ensures.none)
+    let old = g.F.Files.seen c.args.files.now in
+    let new = g.F.Files.seen c.load.new.files in
+    none_made c.args.file.now old new c.in-Ok.bytes.items c.make_net.result c.in-Ok.ensures.ok (λ h. let k = c.in-Ok.ensures.lacked h in cc)
+    c.in-Ok.ensures.bytes
+    (subst (λ (b : List ℕ). IfErr c.make_net.result (λ a. Says (λ o. ⊥) (FaultyText number b) a)) c.deref.ensures.value
+    c.make_net.ensures.none)

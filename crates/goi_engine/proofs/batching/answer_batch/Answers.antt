@@ -1,23 +1,27 @@
 use Rattle.std.proofs.Common.{ℕ, List, subst}
 use Rattle.goi_engine.specs.Answers.{AnswersList, LoadedLines}
-use Rattle.goi_engine.specs.FilesSeen.{files_seen}
 use Rattle.goi_engine.proofs.Lists.{list_job, list_reads, only_list}
 use Rattle.goi_engine.proofs.batching.answer_batch.Goals as goal
 
 pub returns-in-Ok-clause-answers : goal.returns-in-Ok-clause-answers
 returns-in-Ok-clause-answers g c =
-    let old = (files_seen (g.F.Files.told c.args.files.now) (g.F.Files.lacks c.args.files.now) (g.F.Files.faults c.args.files.now) (g.F.Files.steady c.args.files.now)) in
-    let mid = (files_seen (g.F.Files.told c.load.new.files) (g.F.Files.lacks c.load.new.files) (g.F.Files.faults c.load.new.files) (g.F.Files.steady c.load.new.files)) in
-    let new = (files_seen (g.F.Files.told c.answer_list.new.files) (g.F.Files.lacks c.answer_list.new.files) (g.F.Files.faults c.answer_list.new.files) (g.F.Files.steady c.answer_list.new.files)) in
-    list_job c.args.file.now c.args.workers old c.in-Ok.bytes.items (λ h. let k = c.in-Ok.ensures.lacked h in cc) c.in-Ok.ensures.bytes mid new c.answer_list.result
-    (record { told = c.in-Ok.ensures.told; lacks = c.in-Ok.ensures.lacks; steady = c.in-Ok.ensures.steady; quiet = c.in-Ok.ensures.quiet }) c.in-Ok.ensures.ok
+    let old = g.F.Files.seen c.args.files.now in
+    let mid = g.F.Files.seen c.load.new.files in
+    let new = g.F.Files.seen c.answer_list.new.files in
+    list_job c.args.file.now c.args.workers old c.in-Ok.bytes.items (λ h. let k = c.in-Ok.ensures.lacked h in cc) c.in-Ok.ensures.bytes mid
+    new c.answer_list.result
+    c.in-Ok.ensures.kept c.in-Ok.ensures.ok
     (subst (λ (b : List ℕ). AnswersList c.args.workers b mid new c.answer_list.result) c.deref.ensures.value c.answer_list.ensures.answers)
 
 pub returns-in-Ok-clause-reads : goal.returns-in-Ok-clause-reads
 returns-in-Ok-clause-reads g c =
-    let old = (files_seen (g.F.Files.told c.args.files.now) (g.F.Files.lacks c.args.files.now) (g.F.Files.faults c.args.files.now) (g.F.Files.steady c.args.files.now)) in
-    list_reads c.args.file.now c.args.workers old c.in-Ok.bytes.items (λ h. let k = c.in-Ok.ensures.lacked h in cc) c.in-Ok.ensures.bytes g.F.Files.reads c.args.files.now c.load.new.files c.answer_list.new.files c.in-Ok.ensures.reads
-    (subst (λ (b : List ℕ). LoadedLines g.F.Files.reads b c.load.new.files c.answer_list.new.files) c.deref.ensures.value c.answer_list.ensures.reads)
+    let old = g.F.Files.seen c.args.files.now in
+    list_reads c.args.file.now c.args.workers old c.in-Ok.bytes.items (λ h. let k = c.in-Ok.ensures.lacked h in cc) c.in-Ok.ensures.bytes
+    g.F.Files.reads c.args.files.now c.load.new.files c.answer_list.new.files c.in-Ok.ensures.reads
+    (subst (λ (b : List ℕ). LoadedLines g.F.Files.reads b c.load.new.files c.answer_list.new.files) c.deref.ensures.value
+    c.answer_list.ensures.reads)
 
 pub returns-in-Err-clause-reads : goal.returns-in-Err-clause-reads
-returns-in-Err-clause-reads g c = only_list g.F.Files.reads (g.F.Files.told c.args.files.now c.args.file.now) c.args.file.now c.args.files.now c.load.new.files c.in-Err.ensures.reads
+returns-in-Err-clause-reads g c =
+    only_list g.F.Files.reads ((g.F.Files.seen c.args.files.now).told c.args.file.now) c.args.file.now c.args.files.now c.load.new.files
+    c.in-Err.ensures.reads

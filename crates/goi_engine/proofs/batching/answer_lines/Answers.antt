@@ -1,25 +1,27 @@
 use Rattle.std.proofs.Common.{arith}
-use Rattle.goi_engine.specs.FilesSeen.{files_seen}
 use Rattle.goi_engine.proofs.Lists.{all_judged, choose, programs_job}
 use Rattle.goi_engine.proofs.batching.answer_lines.Goals as goal
 
 pub answer_programs-requires-clause-judged : goal.answer_programs-requires-clause-judged
 answer_programs-requires-clause-judged g c κs within =
-    let old = (files_seen (g.F.Files.told c.args.files.now) (g.F.Files.lacks c.args.files.now) (g.F.Files.faults c.args.files.now) (g.F.Files.steady c.args.files.now)) in
+    let old = g.F.Files.seen c.args.files.now in
     let js = c.load_programs.new.programs.items in
-    let k = choose old c.args.workers c.args.lines.now js (all_judged old c.args.lines.now c.new-programs.result.items js c.new-programs.ensures.items c.in-Ok.ensures.judged) in
+    let k = choose old c.args.workers c.args.lines.now js
+    (all_judged old c.args.lines.now c.new-programs.result.items js c.new-programs.ensures.items c.in-Ok.ensures.judged) in
     (k.texts, k.judged)
 
 pub answer_programs-requires-clause-few : goal.answer_programs-requires-clause-few
 answer_programs-requires-clause-few g c κs within =
-    let old = (files_seen (g.F.Files.told c.args.files.now) (g.F.Files.lacks c.args.files.now) (g.F.Files.faults c.args.files.now) (g.F.Files.steady c.args.files.now)) in
+    let old = g.F.Files.seen c.args.files.now in
     let js = c.load_programs.new.programs.items in
-    let k = choose old c.args.workers c.args.lines.now js (all_judged old c.args.lines.now c.new-programs.result.items js c.new-programs.ensures.items c.in-Ok.ensures.judged) in
+    let k = choose old c.args.workers c.args.lines.now js
+    (all_judged old c.args.lines.now c.new-programs.result.items js c.new-programs.ensures.items c.in-Ok.ensures.judged) in
     omega (arith, k.count, c.requires.fit.few)
 
 pub returns-in-Ok-clause-answers : goal.returns-in-Ok-clause-answers
 returns-in-Ok-clause-answers g c =
-    let old = (files_seen (g.F.Files.told c.args.files.now) (g.F.Files.lacks c.args.files.now) (g.F.Files.faults c.args.files.now) (g.F.Files.steady c.args.files.now)) in
+    let old = g.F.Files.seen c.args.files.now in
     let js = c.load_programs.new.programs.items in
-    programs_job old (files_seen (g.F.Files.told c.load_programs.new.files) (g.F.Files.lacks c.load_programs.new.files) (g.F.Files.faults c.load_programs.new.files) (g.F.Files.steady c.load_programs.new.files)) c.args.workers c.args.lines.now js c.in-Ok.ensures.quiet
-    (all_judged old c.args.lines.now c.new-programs.result.items js c.new-programs.ensures.items c.in-Ok.ensures.judged) c.answer_programs.result c.answer_programs.ensures
+    programs_job old (g.F.Files.seen c.load_programs.new.files) c.args.workers c.args.lines.now js c.in-Ok.ensures.quiet
+    (all_judged old c.args.lines.now c.new-programs.result.items js c.new-programs.ensures.items c.in-Ok.ensures.judged)
+    c.answer_programs.result c.answer_programs.ensures

@@ -2,20 +2,24 @@ use Rattle.std.proofs.Common.{◌≡◌, ◌+◌, ℕ, List, take, IfOk, IfSome,
 use Rattle.pcf_values.specs.Most.{most_program_bytes}
 use Rattle.goi_batches.specs.Judging.{IsJudged}
 use Rattle.goi_batches.specs.Sections.{listed}
-use Rattle.goi_engine.specs.FilesSeen.{files_seen}
 use Rattle.goi_engine.proofs.Lists.{judged_in, only_memory}
 use Rattle.goi_engine.proofs.batching.load_program.Goals as goal
 
 pub returns-in-Ok-clause-judged : goal.returns-in-Ok-clause-judged
 returns-in-Ok-clause-judged g c =
-    let old = (files_seen (g.F.Files.told c.args.files.now) (g.F.Files.lacks c.args.files.now) (g.F.Files.faults c.args.files.now) (g.F.Files.steady c.args.files.now)) in
+    let old = g.F.Files.seen c.args.files.now in
     let line = c.args.line.now in
     judged_in old line.file line.budget c.in-Ok.bytes.items
-    (λ h. let k = c.in-Ok.ensures.lacked (subst (λ (n : List ℕ). IsTrue (g.F.Files.lacks c.args.files.now n)) (sym c.as_str.ensures) h) in cc)
-    (subst (λ (n : List ℕ). IfSome (g.F.Files.told c.args.files.now n) (λ bytes. c.in-Ok.bytes.items ≡ take (most_program_bytes + 1) bytes)) c.as_str.ensures c.in-Ok.ensures.bytes)
-    c.judge_loaded.result (subst (λ (b : List ℕ). IfOk c.judge_loaded.result (IsJudged (listed line.budget b))) c.deref.ensures.value c.judge_loaded.ensures.judged)
+    (λ h. let k = c.in-Ok.ensures.lacked
+    (subst (λ (n : List ℕ). IsTrue ((g.F.Files.seen c.args.files.now).lacks n)) (sym c.as_str.ensures) h) in cc)
+    (subst
+    (λ (n : List ℕ). IfSome ((g.F.Files.seen c.args.files.now).told n) (λ bytes. c.in-Ok.bytes.items ≡ take (most_program_bytes + 1) bytes))
+    c.as_str.ensures c.in-Ok.ensures.bytes)
+    c.judge_loaded.result
+    (subst (λ (b : List ℕ). IfOk c.judge_loaded.result (IsJudged (listed line.budget b))) c.deref.ensures.value
+    c.judge_loaded.ensures.judged)
 
 pub returns-in-Ok-clause-not_loaded : goal.returns-in-Ok-clause-not_loaded
 returns-in-Ok-clause-not_loaded g c =
-    only_memory (IsTrue (g.F.Files.lacks c.args.files.now c.args.line.now.file)) (files_seen (g.F.Files.told c.args.files.now) (g.F.Files.lacks c.args.files.now) (g.F.Files.faults c.args.files.now) (g.F.Files.steady c.args.files.now))
-    (files_seen (g.F.Files.told c.load.new.files) (g.F.Files.lacks c.load.new.files) (g.F.Files.faults c.load.new.files) (g.F.Files.steady c.load.new.files)) c.judge_loaded.result c.in-Ok.ensures.ok c.judge_loaded.ensures.memory
+    only_memory (IsTrue ((g.F.Files.seen c.args.files.now).lacks c.args.line.now.file)) (g.F.Files.seen c.args.files.now)
+    (g.F.Files.seen c.load.new.files) c.judge_loaded.result c.in-Ok.ensures.ok c.judge_loaded.ensures.memory

@@ -17,7 +17,9 @@ returns g c =
       one_replay = c.law_one_replay.ensures;
       one_list = c.law_one_list.ensures;
     } in
-    record {
-      promise = kept known _ _ c.answer_to-answer.result (deed (job (map string_bytes c.args.words.now))) c.deliver.result c.answer_to-answer.ensures.kept (g.met.F.Files.lacked_untold c.args.files.now) c.answer_to-answer.ensures.answers c.deliver.ensures;
-      reads = c.answer_to-answer.ensures.reads;
-    }
+    let asked = deed (job (map string_bytes c.args.words.now)) in
+    let answer = c.answer_to-answer in
+    let (outs, came_out, (errs, came_err, delivered)) = c.deliver.ensures in
+    let untold = g.met.F.Files.lacked_untold c.args.files.now in
+    let promise = kept known _ answer.result asked c.deliver.result answer.ensures.kept untold answer.ensures.answers delivered in
+    record { promise = (outs, came_out, (errs, came_err, promise)); reads = answer.ensures.reads }

@@ -6,8 +6,7 @@ use Rattle.goi_world.proofs.disk.DiskFilesFiles.TheImpl.Goals as goal
 
 pub read-tells : goal.read-tells
 read-tells g c = record {
-  told = refl;
-  lacks = refl;
+  kept = record { told = refl; lacks = refl; steady = refl; quiet = λ h. cc };
   reads = c.ensures.counted;
   bound = c.ensures.bound;
   bytes = IfOk-weaker c.result _ _ (λ n h. tt) c.ensures.bound;
@@ -15,7 +14,5 @@ read-tells g c = record {
   later = c.ensures.later;
   ok = on_ok_weaker c.result (λ h. ap (λ (f : FilesOnDisk). f.faults) h) c.ensures.ok;
   failed = on_err_weaker c.result (λ h. inr (let e = ap (λ (f : FilesOnDisk). f.faults) h in omega (arith, e))) c.ensures.err;
-  steady = refl;
   sure = λ h. cc;
-  quiet = λ h. cc;
 }
