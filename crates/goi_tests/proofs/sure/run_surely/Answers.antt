@@ -45,10 +45,10 @@ returns g c =
     record {
       written = λ file workers budget by_value asked. p.sure (record {
         out = λ d o e h. let short = run_short d _ file workers budget by_value o
-          (one_deed _ d (run file workers budget false false by_value false) e asked) h in omega (arith, short.0, c.requires.out);
+            (one_deed _ d (run file workers budget false false by_value false) e asked) h in omega (arith, short.0, c.requires.out);
         err = c.requires.err;
         notes = λ d o e h. let short = run_short d _ file workers budget by_value o
-          (one_deed _ d (run file workers budget false false by_value false) e asked) h in omega (arith, short.1);
+            (one_deed _ d (run file workers budget false false by_value false) e asked) h in omega (arith, short.1);
       });
       read = λ file workers budget by_value asked status.
           let m = p.not_read status in
