@@ -1,6 +1,6 @@
 -- Plain words are taken, and mean what the table says.
 use Rattle.goi_words.specs.Laws.{PlainWordsAreTaken}
-use Rattle.goi_words.specs.Plain.{ask_batch, ask_check, ask_demo, ask_net, ask_replay, ask_run, ask_run_net}
+use Rattle.goi_words.specs.Plain.{ask_batch, ask_check, ask_demo, ask_net, ask_replay, ask_run, ask_run_net, ask_trace}
 use Rattle.goi_words.proofs.BatchWords.{batch_words}
 use Rattle.goi_words.proofs.CheckWords.{check_words}
 use Rattle.goi_words.proofs.DemoWords.{demo_words}
@@ -8,6 +8,7 @@ use Rattle.goi_words.proofs.NetWords.{net_words}
 use Rattle.goi_words.proofs.ReplayWords.{replay_words}
 use Rattle.goi_words.proofs.RunNetWords.{run_net_words}
 use Rattle.goi_words.proofs.RunWords.{run_words}
+use Rattle.goi_words.proofs.TraceWords.{trace_words}
 
 -- a command at a time
 pub plain_words_are_taken : PlainWordsAreTaken
@@ -18,3 +19,4 @@ plain_words_are_taken program (ask_replay file moves) = replay_words program fil
 plain_words_are_taken program (ask_demo n) = demo_words program n
 plain_words_are_taken program (ask_run_net file) = run_net_words program file
 plain_words_are_taken program (ask_batch file) = batch_words program file
+plain_words_are_taken program (ask_trace file) = trace_words program file

@@ -8,11 +8,13 @@ use Rattle.std.specs.Fmt.{decimal}
 use Rattle.std.specs.Str.{bytes_eq}
 use Rattle.clap.specs.Walk.{Held, Row, Rule, Text, arg_by_id, arg_by_long, has_row, row_text}
 use Rattle.clap.specs.Simple.{Shape, filled}
-use Rattle.pcf_values.specs.Most.{most_workers, most_budget}
-use Rattle.goi_words.specs.Commands.{budget_option, flag, number_option, workers_option}
+use Rattle.pcf_values.specs.Most.{most_workers, most_budget, most_moves}
+use Rattle.goi_words.specs.Defaults.{most_traced, default_budget, default_from, default_most, default_workers}
+use Rattle.goi_words.specs.Commands.{budget_option, flag, from_option, most_option, number_option, workers_option}
 use Rattle.goi_words.specs.Asked.{number_in, ◌>>=◌}
 use Rattle.goi_words.specs.Plain.{AreDistinct, IsInRange, Setting, budget, budget_in, is_given, is_same_option, option_name, option_value}
-use Rattle.goi_words.specs.Plain.{by_value, progress, schedule, setting_words, tally, term, workers, workers_in}
+use Rattle.goi_words.specs.Plain.{by_value, progress, schedule, setting_words, tally, term, traced, workers, workers_in}
+use Rattle.goi_words.specs.Plain.{from, from_in, most, most_in}
 use Rattle.goi_words.proofs.Decimals.{decimal_kept, decimal_number, decimal_passes, decimal_value}
 use Rattle.goi_words.proofs.Rows.{absent_more, given, row_at, used_first}
 use Rattle.goi_words.proofs.Walks.{Holds, Names, Reads, flag_read, option_read, then}
@@ -26,6 +28,9 @@ rule_for tally = filled (flag (codes "tally"))
 rule_for term = filled (flag (codes "term"))
 rule_for by_value = filled (flag (codes "by-value"))
 rule_for progress = filled (flag (codes "progress"))
+rule_for traced = filled (flag (codes "trace"))
+rule_for (from n) = filled from_option
+rule_for (most n) = filled most_option
 
 -- the row of an option
 abbrev pub row_for : Setting → Row
@@ -50,16 +55,16 @@ known sh s rule own = record { not_dashes = refl; name = option_name s; long = r
 
 module _ (sh : Shape) (once : sh.args_override_self ≡ false) (h : Held) (rows : List Row) (p : ℕ)
     (rest : List Text) (holds : Holds sh h rows) where
-  number_read : (name : Text) (least most n : ℕ) (default : Text)
-      → Names sh (codes "--" ++ name) (filled (number_option name least most default))
-      → least ≤ n → n ≤ most → n < 2 ^ 32 → has_row name rows ≡ false
+  number_read : (name : Text) (least greatest n : ℕ) (default : Text)
+      → Names sh (codes "--" ++ name) (filled (number_option name least greatest default))
+      → least ≤ n → n ≤ greatest → n < 2 ^ 32 → has_row name rows ≡ false
       → Reads sh h p p ((codes "--" ++ name) ∷ decimal n ∷ rest) rest
-      (rows ++ given (filled (number_option name least most default)) (decimal n ∷ []) ∷ [])
-  number_read name least most n default names low high small absent =
-      let rule = filled (number_option name least most default) in
+      (rows ++ given (filled (number_option name least greatest default)) (decimal n ∷ []) ∷ [])
+  number_read name least greatest n default names low high small absent =
+      let rule = filled (number_option name least greatest default) in
       subst (Reads sh h p p ((codes "--" ++ name) ∷ decimal n ∷ rest) rest) (used_first rule (decimal n ∷ []) rows (λ _. refl) absent)
       (option_read sh rule (codes "--" ++ name) (decimal n) h rows p rest holds names (decimal_value n small) refl
-      (rw (once, absent, decimal_passes n small least most low high) refl))
+      (rw (once, absent, decimal_passes n small least greatest low high) refl))
 
   switch_read : (name : Text) → Names sh (codes "--" ++ name) (filled (flag name)) → has_row name rows ≡ false
       → Reads sh h p p ((codes "--" ++ name) ∷ rest) rest (rows ++ given (filled (flag name)) [] ∷ [])
@@ -78,6 +83,11 @@ module _ (sh : Shape) (once : sh.args_override_self ≡ false) (h : Held) (rows 
   one_setting term knows range absent = switch_read (codes "term") knows absent
   one_setting by_value knows range absent = switch_read (codes "by-value") knows absent
   one_setting progress knows range absent = switch_read (codes "progress") knows absent
+  one_setting traced knows range absent = switch_read (codes "trace") knows absent
+  one_setting (from n) knows range absent =
+      number_read (codes "from") 0 most_moves n (codes "0") knows (omega arith) range (omega (arith, range)) absent
+  one_setting (most n) knows range absent =
+      number_read (codes "most") 1 most_traced n (codes "100000") knows range.0 range.1 (omega (arith, range.1)) absent
 
 -- ---- any number of options, in any order
 
@@ -121,23 +131,37 @@ abbrev pub set_at : Option Row → Bool
 set_at row = option_map_or (λ text. bytes_eq text (codes "true")) (option_and_then row_text row) false
 
 -- the number of an option that is given
-number_there : (n : ℕ) (name : Text) (least most : ℕ) (default : Text) → n < 2 ^ 32
-    → number_at (Some (given (filled (number_option name least most default)) (decimal n ∷ []))) ≡ Some n
-number_there n name least most default small = rw (decimal_kept n small, decimal_number n small) refl
+number_there : (n : ℕ) (name : Text) (least greatest : ℕ) (default : Text) → n < 2 ^ 32
+    → number_at (Some (given (filled (number_option name least greatest default)) (decimal n ∷ []))) ≡ Some n
+number_there n name least greatest default small = rw (decimal_kept n small, decimal_number n small) refl
 
 -- the number of workers that is found
-pub workers_there : (ss : List Setting) (default : Option Row) → AllByRecursion IsInRange ss → number_at default ≡ Some 1
+pub workers_there : (ss : List Setting) (default : Option Row) → AllByRecursion IsInRange ss → number_at default ≡ Some default_workers
     → number_at (option_or (row_at (codes "workers") (map row_for ss)) default) ≡ Some (workers_in ss)
 workers_there [] default ranges is = is
 workers_there (workers n ∷ ss) default ranges is = number_there n (codes "workers") 1 most_workers (codes "1") (omega (arith, ranges.0.1))
 workers_there (s ∷ ss) default ranges is = workers_there ss default ranges.1 is
 
 -- the budget that is found
-pub budget_there : (ss : List Setting) (default : Option Row) → AllByRecursion IsInRange ss → number_at default ≡ Some 10000
+pub budget_there : (ss : List Setting) (default : Option Row) → AllByRecursion IsInRange ss → number_at default ≡ Some default_budget
     → number_at (option_or (row_at (codes "budget") (map row_for ss)) default) ≡ Some (budget_in ss)
 budget_there [] default ranges is = is
 budget_there (budget n ∷ ss) default ranges is = number_there n (codes "budget") 1 most_budget (codes "10000") (omega (arith, ranges.0.1))
 budget_there (s ∷ ss) default ranges is = budget_there ss default ranges.1 is
+
+-- the first entry of a trace that is found
+pub from_there : (ss : List Setting) (default : Option Row) → AllByRecursion IsInRange ss → number_at default ≡ Some default_from
+    → number_at (option_or (row_at (codes "from") (map row_for ss)) default) ≡ Some (from_in ss)
+from_there [] default ranges is = is
+from_there (from n ∷ ss) default ranges is = number_there n (codes "from") 0 most_moves (codes "0") (omega (arith, ranges.0))
+from_there (s ∷ ss) default ranges is = from_there ss default ranges.1 is
+
+-- the most moves of a trace that are found
+pub most_there : (ss : List Setting) (default : Option Row) → AllByRecursion IsInRange ss → number_at default ≡ Some default_most
+    → number_at (option_or (row_at (codes "most") (map row_for ss)) default) ≡ Some (most_in ss)
+most_there [] default ranges is = is
+most_there (most n ∷ ss) default ranges is = number_there n (codes "most") 1 most_traced (codes "100000") (omega (arith, ranges.0.1))
+most_there (s ∷ ss) default ranges is = most_there ss default ranges.1 is
 
 -- a flag: each option of its name sets it
 abbrev pub IsFlag : Setting → Type 0
@@ -184,3 +208,8 @@ by_value_is_flag _ same = cc
 pub progress_is_flag : IsFlag progress
 progress_is_flag progress same = refl
 progress_is_flag _ same = cc
+
+-- the sixth flag
+pub traced_is_flag : IsFlag traced
+traced_is_flag traced same = refl
+traced_is_flag _ same = cc

@@ -21,6 +21,7 @@ use Rattle.goi_words.proofs.ReplayWords.{replay_taken}
 use Rattle.goi_words.proofs.RunNetWords.{run_net_taken}
 use Rattle.goi_words.proofs.RunWords.{run_taken}
 use Rattle.goi_words.proofs.Taken.{HasJob, TakenHasJob}
+use Rattle.goi_words.proofs.TraceWords.{trace_taken}
 
 -- ---- the first level
 
@@ -30,7 +31,7 @@ whole = built goi_command
 
 -- each subcommand has a job for the words that it takes
 each_has_a_job : AllByRecursion TakenHasJob whole.subs
-each_has_a_job = (run_taken, (check_taken, (net_taken, (replay_taken, (demo_taken, (run_net_taken, (batch_taken, tt)))))))
+each_has_a_job = (run_taken, (check_taken, (net_taken, (replay_taken, (demo_taken, (run_net_taken, (batch_taken, (trace_taken, tt))))))))
 
 -- the command asks for a subcommand
 asks_for_one : (rows : List Row) (b : Bool) → check_fault whole.top rows b ≡ [] → b ≡ true

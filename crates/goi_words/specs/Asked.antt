@@ -9,7 +9,8 @@ use Rattle.std.specs.Str.Parse.{digits_value, without_leading_plus}
 use Rattle.clap.specs.ValueTests.{is_numeral}
 use Rattle.clap.specs.Words.{Kinds, Row, Text, fault_of, first_of, one_of, subcommand_of}
 use Rattle.goi_words.specs.Commands.{goi_command}
-use Rattle.goi_words.specs.Jobs.{JobTree, run, check, show_net, replay, demo, run_net, batch}
+use Rattle.goi_words.specs.Jobs.{JobTree, run, check, show_net, replay, demo, run_net, batch, trace}
+use Rattle.goi_words.specs.declared.jobs.Window.{Window}
 
 infixl 10 ◌>>=◌
 abbrev pub ◌>>=◌ : {A B : Type 0} → Option A → (A → Option B) → Option B
@@ -34,7 +35,19 @@ number_of name rows = one_of name rows >>= number_in
 abbrev pub is_set : Text → List Row → Bool
 is_set name rows = option_map_or (λ text. bytes_eq text (codes "true")) (one_of name rows) false
 
--- the job of each subcommand, with what was found for its arguments
+-- the part of a trace that was found
+abbrev pub window_of : List Row → Option Window
+window_of rows = do
+  from ← number_of (codes "from") rows
+  most ← number_of (codes "most") rows
+  Some (record { from = from; most = most })
+
+-- a part of a trace, where a trace is asked for
+abbrev pub if_traced : Bool → Window → Option Window
+if_traced is_traced window = if is_traced then Some window else None
+
+-- The job of each subcommand, with what was found for its arguments. `replay` reads the part of a trace always, and asks for it with
+-- `--trace` alone: `clap`'s definition has no word for an option that wants another, and so doesn't refuse the part without it.
 abbrev pub run_job : List Row → Option JobTree
 run_job rows = do
   file ← text_of (codes "file") rows
@@ -57,7 +70,8 @@ abbrev pub replay_job : List Row → Option JobTree
 replay_job rows = do
   file ← text_of (codes "file") rows
   schedule ← text_of (codes "schedule") rows
-  Some (replay file schedule)
+  window ← window_of rows
+  Some (replay file schedule (if_traced (is_set (codes "trace") rows) window))
 
 abbrev pub demo_job : List Row → Option JobTree
 demo_job rows = do
@@ -78,6 +92,14 @@ batch_job rows = do
   workers ← number_of (codes "workers") rows
   Some (batch file workers)
 
+abbrev pub trace_job : List Row → Option JobTree
+trace_job rows = do
+  file ← text_of (codes "file") rows
+  workers ← number_of (codes "workers") rows
+  budget ← number_of (codes "budget") rows
+  window ← window_of rows
+  Some (trace file workers budget (is_set (codes "by-value") rows) window)
+
 -- the job of the subcommand of this name
 abbrev pub job_on : Text → List Row → Option JobTree
 job_on name rows =
@@ -88,6 +110,7 @@ job_on name rows =
     else if bytes_eq name (codes "demo") then demo_job rows
     else if bytes_eq name (codes "run-net") then run_net_job rows
     else if bytes_eq name (codes "batch") then batch_job rows
+    else if bytes_eq name (codes "trace") then trace_job rows
     else None
 
 -- no kind of error is listed

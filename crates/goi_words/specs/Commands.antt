@@ -5,7 +5,8 @@
 use Rattle.std.specs.Prelude.{◌≡◌, ℕ, true, false, pos, List, [], ◌∷◌, Some, codes}
 use Rattle.clap.specs.Words.{App, Rule, Shape, Text, app_of, new_rule}
 use Rattle.clap.specs.Simple.{new_shape}
-use Rattle.pcf_values.specs.Most.{most_workers, most_budget, most_demo}
+use Rattle.pcf_values.specs.Most.{most_workers, most_budget, most_demo, most_moves}
+use Rattle.goi_words.specs.Defaults.{most_traced}
 use Rattle.clap.specs.declared.builder.action.ArgAction.TheVariants.{Set, SetTrue}
 use Rattle.clap.specs.declared.builder.command.Command.{Command}
 use Rattle.clap.specs.declared.builder.command.Command.TheViews.{out-Command}
@@ -36,6 +37,14 @@ workers_option = number_option (codes "workers") 1 most_workers (codes "1")
 abbrev pub budget_option : Rule
 budget_option = number_option (codes "budget") 1 most_budget (codes "10000")
 
+-- the entry with which a trace begins
+abbrev pub from_option : Rule
+from_option = number_option (codes "from") 0 most_moves (codes "0")
+
+-- the most moves of a trace
+abbrev pub most_option : Rule
+most_option = number_option (codes "most") 1 most_traced (codes "100000")
+
 -- an option `--name` that is given or not
 abbrev pub flag : Text → Rule
 flag name = record (new_rule name) { long = Some name; action = Some SetTrue }
@@ -55,6 +64,14 @@ abbrev pub logged_command : Text → Shape
 logged_command name =
     command name (operand (codes "file") ∷ workers_option ∷ budget_option ∷ flag (codes "schedule") ∷ flag (codes "tally") ∷ [])
 
+-- `replay` and `trace` without the part of the trace
+abbrev pub bare_replay_command : Shape
+bare_replay_command = command (codes "replay") (operand (codes "file") ∷ operand (codes "schedule") ∷ flag (codes "trace") ∷ [])
+
+abbrev pub bare_trace_command : Shape
+bare_trace_command =
+    command (codes "trace") (operand (codes "file") ∷ workers_option ∷ budget_option ∷ flag (codes "by-value") ∷ [])
+
 -- the subcommands
 abbrev pub run_command : Shape
 run_command = command (codes "run")
@@ -68,7 +85,8 @@ abbrev pub net_command : Shape
 net_command = command (codes "net") (operand (codes "file") ∷ [])
 
 abbrev pub replay_command : Shape
-replay_command = command (codes "replay") (operand (codes "file") ∷ operand (codes "schedule") ∷ [])
+replay_command = command (codes "replay")
+    (operand (codes "file") ∷ operand (codes "schedule") ∷ flag (codes "trace") ∷ from_option ∷ most_option ∷ [])
 
 abbrev pub demo_command : Shape
 demo_command = command (codes "demo") (number_operand ∷ workers_option ∷ [])
@@ -79,6 +97,10 @@ run_net_command = command (codes "run-net")
 
 abbrev pub batch_command : Shape
 batch_command = command (codes "batch") (operand (codes "file") ∷ workers_option ∷ [])
+
+abbrev pub trace_command : Shape
+trace_command = command (codes "trace")
+    (operand (codes "file") ∷ workers_option ∷ budget_option ∷ flag (codes "by-value") ∷ from_option ∷ most_option ∷ [])
 
 -- the program without its subcommands
 abbrev pub bare_command : App
@@ -95,7 +117,8 @@ bare_command = record {
 abbrev pub goi_command : App
 goi_command = record {
   top = record bare_command.top { is_leaf = false };
-  subs = run_command ∷ check_command ∷ net_command ∷ replay_command ∷ demo_command ∷ run_net_command ∷ batch_command ∷ [];
+  subs = run_command ∷ check_command ∷ net_command ∷ replay_command ∷ demo_command ∷ run_net_command ∷ batch_command
+      ∷ trace_command ∷ [];
 }
 
 -- the command of the code is this subcommand

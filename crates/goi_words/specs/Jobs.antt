@@ -1,9 +1,11 @@
 -- What the words of the command line can ask for, and the ranges of its numbers.
 -- A job has the options of its command with their values, given or by default. Its files are named by the bytes of their names.
-use Rattle.std.specs.Prelude.{◌≤◌, ⊤, ℕ, Bool, List}
-use Rattle.pcf_values.specs.Most.{most_workers, most_budget, most_demo}
+use Rattle.std.specs.Prelude.{◌≤◌, ⊤, ℕ, Bool, List, Option, None, Some}
+use Rattle.pcf_values.specs.Most.{most_workers, most_budget, most_demo, most_moves}
+use Rattle.goi_words.specs.Defaults.{most_traced}
 use Rattle.goi_words.specs.declared.jobs.Job.{Job}
-use Rattle.goi_words.specs.declared.jobs.Job.TheVariants.{Run, Check, ShowNet, Replay, Demo, RunNet, Batch}
+use Rattle.goi_words.specs.declared.jobs.Job.TheVariants.{Run, Check, ShowNet, Replay, Demo, RunNet, Batch, Trace}
+use Rattle.goi_words.specs.declared.jobs.Window.{Window}
 
 -- a job
 pub data JobTree : Type 0 where
@@ -14,24 +16,28 @@ pub data JobTree : Type 0 where
   check : List ℕ → Bool → JobTree
   -- print the listing of the net of the program of a file
   show_net : List ℕ → JobTree
-  -- run the schedule of the second file on the net of the program of the first
-  replay : List ℕ → List ℕ → JobTree
+  -- run the schedule of the second file on the net of the program of the first, and print this part of its trace where asked
+  replay : List ℕ → List ℕ → Option Window → JobTree
   -- run the program that is generated for a number, with so many workers
   demo : ℕ → ℕ → JobTree
   -- run the net whose listing is the file, with so many workers and at most so many moves; print its schedule and its tally where asked
   run_net : List ℕ → ℕ → ℕ → Bool → Bool → JobTree
   -- run the programs that the file lists, with so many workers
   batch : List ℕ → ℕ → JobTree
+  -- run the program of a file, with so many workers and at most so many moves, and by value in place of by name where asked; print
+  -- this part of the run's trace
+  trace : List ℕ → ℕ → ℕ → Bool → Window → JobTree
 
 -- the job of the code
 abbrev pub job_of : Job → JobTree
 job_of (Run file workers budget schedule tally by_value progress) = run file workers budget schedule tally by_value progress
 job_of (Check file term) = check file term
 job_of (ShowNet file) = show_net file
-job_of (Replay file schedule) = replay file schedule
+job_of (Replay file schedule window) = replay file schedule window
 job_of (Demo n workers) = demo n workers
 job_of (RunNet file workers budget schedule tally) = run_net file workers budget schedule tally
 job_of (Batch file workers) = batch file workers
+job_of (Trace file workers budget by_value window) = trace file workers budget by_value window
 
 -- a number of workers, a budget and the number of a generated program that the command line can ask for
 abbrev pub IsWorkers : ℕ → Type 0
@@ -43,10 +49,28 @@ IsBudget n = (1 ≤ n) × (n ≤ most_budget)
 abbrev pub IsDemo : ℕ → Type 0
 IsDemo n = n ≤ most_demo
 
+-- an entry with which a trace can begin, and a number of moves that it can have
+abbrev pub IsFrom : ℕ → Type 0
+IsFrom n = n ≤ most_moves
+
+abbrev pub IsMost : ℕ → Type 0
+IsMost n = (1 ≤ n) × (n ≤ most_traced)
+
+-- the part of a trace that the command line can ask for
+abbrev pub IsWindow : Window → Type 0
+IsWindow window = IsFrom window.from × IsMost window.most
+
+-- the part that is asked for, if one is
+abbrev pub IsWindowIfAny : Option Window → Type 0
+IsWindowIfAny None = ⊤
+IsWindowIfAny (Some window) = IsWindow window
+
 -- the numbers of a job are in their ranges
 abbrev pub IsWithinLimits : JobTree → Type 0
 IsWithinLimits (run file workers budget schedule tally by_value progress) = IsWorkers workers × IsBudget budget
 IsWithinLimits (demo n workers) = IsDemo n × IsWorkers workers
 IsWithinLimits (run_net file workers budget schedule tally) = IsWorkers workers × IsBudget budget
 IsWithinLimits (batch file workers) = IsWorkers workers
+IsWithinLimits (replay file schedule window) = IsWindowIfAny window
+IsWithinLimits (trace file workers budget by_value window) = IsWorkers workers × IsBudget budget × IsWindow window
 IsWithinLimits _ = ⊤

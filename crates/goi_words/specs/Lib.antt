@@ -1,4 +1,5 @@
--- what a reader has to believe: the jobs, the command line as `clap` knows it, and what words ask for at it
+-- what a reader has to believe: the numbers, the jobs, the command line as `clap` knows it, and what words ask for at it
+pub mod Defaults
 pub mod Jobs
 pub mod Commands
 pub mod Asked

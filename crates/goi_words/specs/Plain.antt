@@ -7,7 +7,11 @@ use Rattle.std.specs.List.{AllByRecursion, flat_map, list_any}
 use Rattle.std.specs.Fmt.{decimal}
 use Rattle.std.specs.Str.{bytes_eq}
 use Rattle.clap.specs.Words.{Text}
-use Rattle.goi_words.specs.Jobs.{IsBudget, IsDemo, IsWorkers, JobTree, run, check, show_net, replay, demo, run_net, batch}
+use Rattle.goi_words.specs.Jobs.{IsBudget, IsDemo, IsFrom, IsMost, IsWorkers, JobTree}
+use Rattle.goi_words.specs.Jobs.{run, check, show_net, replay, demo, run_net, batch, trace}
+use Rattle.goi_words.specs.Defaults.{default_budget, default_from, default_most, default_workers}
+use Rattle.goi_words.specs.Asked.{if_traced}
+use Rattle.goi_words.specs.declared.jobs.Window.{Window}
 
 -- a command with its operands
 pub data Request : Type 0 where
@@ -18,6 +22,7 @@ pub data Request : Type 0 where
   ask_demo : ℕ → Request
   ask_run_net : Text → Request
   ask_batch : Text → Request
+  ask_trace : Text → Request
 
 -- an option as it is given
 pub data Setting : Type 0 where
@@ -28,6 +33,9 @@ pub data Setting : Type 0 where
   term : Setting
   by_value : Setting
   progress : Setting
+  traced : Setting
+  from : ℕ → Setting
+  most : ℕ → Setting
 
 -- ---- the words
 
@@ -40,6 +48,7 @@ request_words (ask_replay file moves) = codes "replay" ∷ file ∷ moves ∷ []
 request_words (ask_demo n) = codes "demo" ∷ decimal n ∷ []
 request_words (ask_run_net file) = codes "run-net" ∷ file ∷ []
 request_words (ask_batch file) = codes "batch" ∷ file ∷ []
+request_words (ask_trace file) = codes "trace" ∷ file ∷ []
 
 -- the name of an option
 abbrev pub option_name : Setting → Text
@@ -50,11 +59,16 @@ option_name tally = codes "tally"
 option_name term = codes "term"
 option_name by_value = codes "by-value"
 option_name progress = codes "progress"
+option_name traced = codes "trace"
+option_name (from n) = codes "from"
+option_name (most n) = codes "most"
 
 -- the word behind its name, where it has a value
 abbrev pub option_value : Setting → List Text
 option_value (workers n) = decimal n ∷ []
 option_value (budget n) = decimal n ∷ []
+option_value (from n) = decimal n ∷ []
+option_value (most n) = decimal n ∷ []
 option_value _ = []
 
 -- the words of an option
@@ -81,6 +95,7 @@ HasPlainOperands (ask_replay file moves) = IsFileName file × IsFileName moves
 HasPlainOperands (ask_demo n) = IsDemo n
 HasPlainOperands (ask_run_net file) = IsFileName file
 HasPlainOperands (ask_batch file) = IsFileName file
+HasPlainOperands (ask_trace file) = IsFileName file
 
 -- the names of a command's options
 abbrev pub options_of : Request → List Text
@@ -90,6 +105,8 @@ options_of (ask_check file) = codes "term" ∷ []
 options_of (ask_demo n) = codes "workers" ∷ []
 options_of (ask_run_net file) = codes "workers" ∷ codes "budget" ∷ codes "schedule" ∷ codes "tally" ∷ []
 options_of (ask_batch file) = codes "workers" ∷ []
+options_of (ask_replay file moves) = codes "trace" ∷ codes "from" ∷ codes "most" ∷ []
+options_of (ask_trace file) = codes "workers" ∷ codes "budget" ∷ codes "by-value" ∷ codes "from" ∷ codes "most" ∷ []
 options_of _ = []
 
 -- the command has the option
@@ -100,6 +117,8 @@ has_option request s = list_any (λ name. bytes_eq name (option_name s)) (option
 abbrev pub IsInRange : Setting → Type 0
 IsInRange (workers n) = IsWorkers n
 IsInRange (budget n) = IsBudget n
+IsInRange (from n) = IsFrom n
+IsInRange (most n) = IsMost n
 IsInRange _ = ⊤
 
 -- both are uses of one option
@@ -120,17 +139,33 @@ pub record IsPlain (request : Request) (settings : List Setting) : Type 0 where
 
 -- ---- what they ask for
 
--- the number of workers is the one that is given, and else 1
+-- the number of workers is the one that is given, and else the default
 abbrev pub workers_in : List Setting → ℕ
-workers_in [] = 1
+workers_in [] = default_workers
 workers_in (workers n ∷ settings) = n
 workers_in (s ∷ settings) = workers_in settings
 
--- the budget is the one that is given, and else 10000
+-- the budget is the one that is given, and else the default
 abbrev pub budget_in : List Setting → ℕ
-budget_in [] = 10000
+budget_in [] = default_budget
 budget_in (budget n ∷ settings) = n
 budget_in (s ∷ settings) = budget_in settings
+
+-- a trace begins with the entry that is given, and else with the first one
+abbrev pub from_in : List Setting → ℕ
+from_in [] = default_from
+from_in (from n ∷ settings) = n
+from_in (s ∷ settings) = from_in settings
+
+-- the most moves of a trace are those that are given, and else the default
+abbrev pub most_in : List Setting → ℕ
+most_in [] = default_most
+most_in (most n ∷ settings) = n
+most_in (s ∷ settings) = most_in settings
+
+-- the part of a trace
+abbrev pub window_in : List Setting → Window
+window_in settings = record { from = from_in settings; most = most_in settings }
 
 -- an option is given
 abbrev pub is_given : Setting → List Setting → Bool
@@ -143,8 +178,10 @@ meant (ask_run file) settings =
     (is_given progress settings)
 meant (ask_check file) settings = check file (is_given term settings)
 meant (ask_net file) settings = show_net file
-meant (ask_replay file moves) settings = replay file moves
+meant (ask_replay file moves) settings = replay file moves (if_traced (is_given traced settings) (window_in settings))
 meant (ask_demo n) settings = demo n (workers_in settings)
 meant (ask_run_net file) settings =
     run_net file (workers_in settings) (budget_in settings) (is_given schedule settings) (is_given tally settings)
 meant (ask_batch file) settings = batch file (workers_in settings)
+meant (ask_trace file) settings =
+    trace file (workers_in settings) (budget_in settings) (is_given by_value settings) (window_in settings)

@@ -7,10 +7,12 @@
 #![tactic(auto)]
 
 mod commands;
+mod defaults;
 mod jobs;
 mod laws;
 mod reading;
 
-pub use jobs::{Job, WordFault};
+pub use defaults::{DEFAULT_BUDGET, DEFAULT_FROM, DEFAULT_MOST, DEFAULT_WORKERS, TRACED_MOVES};
+pub use jobs::{Job, Window, WordFault};
 pub use laws::{law_help, law_no_words, law_plain_words, law_taken_words};
 pub use reading::job_of;

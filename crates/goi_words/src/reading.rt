@@ -4,12 +4,12 @@ ghost use Rattle.std.specs.Prelude.{◌≡◌, ◌≢◌, IfOk, IsErrOf, None, S
 ghost use Rattle.clap.specs.Words.{fault_of, found_of, rows_of, subcommand_of, subcommand_rows_of};
 ghost use Rattle.goi_words.specs.Commands.{goi_command};
 ghost use Rattle.goi_words.specs.Asked.{is_set, is_taken, job, job_on, number_of, text_of};
-ghost use Rattle.goi_words.specs.Asked.{batch_job, check_job, demo_job, net_job, replay_job, run_job, run_net_job};
+ghost use Rattle.goi_words.specs.Asked.{batch_job, check_job, demo_job, if_traced, net_job, replay_job, run_job, run_net_job, trace_job, window_of};
 ghost use Rattle.goi_words.specs.Jobs.{IsWithinLimits, job_of};
 ghost use Rattle.goi_words.specs.declared.jobs.WordFault.TheVariants.{Refused};
 
 use crate::commands::goi_command;
-use crate::{Job, WordFault};
+use crate::{Job, Window, WordFault};
 use clap::ArgMatches;
 use pcf_values::Ident;
 use std::alloc::Global;
@@ -57,6 +57,7 @@ fn job_on(alloc: Global, name: &str, found: &ArgMatches<'_>) -> Result<Job, Word
         "demo" => demo_job(alloc, found),
         "run-net" => run_net_job(alloc, found),
         "batch" => batch_job(alloc, found),
+        "trace" => trace_job(alloc, found),
         _ => Err(WordFault::Refused),
     }
 }
@@ -106,9 +107,11 @@ fn replay_job(alloc: Global, found: &ArgMatches<'_>) -> Result<Job, WordFault>
 {
     let file = text_of(found, "file").ok_or(WordFault::Refused)?;
     let schedule = text_of(found, "schedule").ok_or(WordFault::Refused)?;
+    let window = window_of(found).ok_or(WordFault::Refused)?;
     Ok(Job::Replay {
         file: Ident::from_text(alloc, file)?,
         schedule: Ident::from_text(alloc, schedule)?,
+        window: if_traced(is_set(found, "trace"), window),
     })
 }
 
@@ -147,6 +150,39 @@ fn batch_job(alloc: Global, found: &ArgMatches<'_>) -> Result<Job, WordFault>
         file: Ident::from_text(alloc, file)?,
         workers,
     })
+}
+
+fn trace_job(alloc: Global, found: &ArgMatches<'_>) -> Result<Job, WordFault>
+    ensures ok { IfOk result (λ done. trace_job (rows_of (found_of found.now)) ≡ Some (job_of done)) }
+    ensures refused { IsErrOf result Refused → trace_job (rows_of (found_of found.now)) ≡ None }
+{
+    let file = text_of(found, "file").ok_or(WordFault::Refused)?;
+    let workers = number_of(found, "workers").ok_or(WordFault::Refused)?;
+    let budget = number_of(found, "budget").ok_or(WordFault::Refused)?;
+    let window = window_of(found).ok_or(WordFault::Refused)?;
+    Ok(Job::Trace {
+        file: Ident::from_text(alloc, file)?,
+        workers,
+        budget,
+        by_value: is_set(found, "by-value"),
+        window,
+    })
+}
+
+/// The part of a trace that was found.
+fn window_of(found: &ArgMatches<'_>) -> Option<Window>
+    ensures { result ≡ window_of (rows_of (found_of found.now)) }
+{
+    let from = number_of(found, "from")?;
+    let most = number_of(found, "most")?;
+    Some(Window { from, most })
+}
+
+/// The part of a trace, where a trace is asked for.
+fn if_traced(is_traced: bool, window: Window) -> Option<Window>
+    ensures { result ≡ if_traced is_traced window }
+{
+    if is_traced { Some(window) } else { None }
 }
 
 /// The text that was found for an argument.
