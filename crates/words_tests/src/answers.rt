@@ -1,11 +1,19 @@
 //! What words are answered, told as text.
 
-use goi_words::{Job, WordFault, job_of};
+use goi_words::{Job, Window, WordFault, job_of};
 use std::alloc::{AllocError, Global};
 
 /// The name of a flag that is set, behind a blank.
 fn flag<'a>(is_set: bool, name: &'a str) -> &'a str {
     if is_set { name } else { "" }
+}
+
+/// The part of a trace as text, behind a blank.
+fn part(alloc: Global, window: Option<Window>) -> Result<String, AllocError> {
+    match window {
+        Some(Window { from, most }) => format!(in alloc; " trace {from} {most}"),
+        None => String::from_str(alloc, ""),
+    }
 }
 
 /// A job as text, with the names of files in brackets, and the names of the flags that are set behind the numbers.
@@ -37,10 +45,15 @@ fn told(alloc: Global, job: &Job) -> Result<String, AllocError> {
             let file = file.as_str();
             format!(in alloc; "net [{file}]")
         }
-        Job::Replay { file, schedule } => {
+        Job::Replay {
+            file,
+            schedule,
+            window,
+        } => {
             let file = file.as_str();
             let schedule = schedule.as_str();
-            format!(in alloc; "replay [{file}] [{schedule}]")
+            let part = part(alloc, *window)?;
+            format!(in alloc; "replay [{file}] [{schedule}]{part}")
         }
         Job::Demo { n, workers } => format!(in alloc; "demo {n} {workers}"),
         Job::RunNet {
@@ -58,6 +71,18 @@ fn told(alloc: Global, job: &Job) -> Result<String, AllocError> {
         Job::Batch { file, workers } => {
             let file = file.as_str();
             format!(in alloc; "batch [{file}] {workers}")
+        }
+        Job::Trace {
+            file,
+            workers,
+            budget,
+            by_value,
+            window,
+        } => {
+            let file = file.as_str();
+            let by_value = flag(*by_value, " by-value");
+            let part = part(alloc, Some(*window))?;
+            format!(in alloc; "trace [{file}] {workers} {budget}{by_value}{part}")
         }
     }
 }

@@ -135,6 +135,68 @@ fn lists_of_programs(rt: HostRuntime) -> Result<(), Fail> {
 }
 
 #[test]
+fn traces(rt: HostRuntime) -> Result<(), Fail> {
+    let rows = [
+        ("goi,trace,p", "trace [p] 1 10000 trace 0 100000"),
+        (
+            "goi,trace,p,--most,1000000,--by-value,--from,10000000,--budget,5,--workers,2",
+            "trace [p] 2 5 by-value trace 10000000 1000000",
+        ),
+        (
+            "goi,trace,--from=7,p,--most=1",
+            "trace [p] 1 10000 trace 7 1",
+        ),
+        ("goi,trace,trace", "trace [trace] 1 10000 trace 0 100000"),
+        ("goi,trace", "refused"),
+        ("goi,trace,p,q", "refused"),
+        ("goi,trace,p,--most,0", "refused"),
+        ("goi,trace,p,--most,1000001", "refused"),
+        ("goi,trace,p,--from,10000001", "refused"),
+        ("goi,trace,p,--from,-1", "refused"),
+        ("goi,trace,p,--from,1,--from,1", "refused"),
+        ("goi,trace,p,--trace", "refused"),
+        ("goi,trace,p,--schedule", "refused"),
+        ("goi,trace,p,--tally", "refused"),
+        ("goi,run,p,--from,1", "refused"),
+    ];
+    for (row, wanted) in rows {
+        let got = answer(rt.alloc(), row)?;
+        assert!(rt; got.as_str() == wanted, "{row}: {got}");
+    }
+    Ok(())
+}
+
+/// The part of a trace is read without `--trace` too, and asks for nothing then.
+#[test]
+fn traces_of_schedules(rt: HostRuntime) -> Result<(), Fail> {
+    let rows = [
+        ("goi,replay,p,q,--trace", "replay [p] [q] trace 0 100000"),
+        (
+            "goi,replay,p,q,--most,2,--trace,--from,3",
+            "replay [p] [q] trace 3 2",
+        ),
+        (
+            "goi,replay,--trace,p,--from=3,q",
+            "replay [p] [q] trace 3 100000",
+        ),
+        ("goi,replay,p,q,--from,3", "replay [p] [q]"),
+        ("goi,replay,p,q,--most,2", "replay [p] [q]"),
+        ("goi,replay,p,q,--from,10000001", "refused"),
+        ("goi,replay,p,q,--most,0", "refused"),
+        ("goi,replay,p,q,--trace,--most,0", "refused"),
+        ("goi,replay,p,q,--trace,--from,10000001", "refused"),
+        ("goi,replay,p,q,--trace,--trace", "refused"),
+        ("goi,replay,p,--trace", "refused"),
+        ("goi,replay,p,q,--by-value", "refused"),
+    ];
+    for (row, wanted) in rows {
+        let got = answer(rt.alloc(), row)?;
+        assert!(rt; got.as_str() == wanted, "{row}: {got}");
+    }
+    Ok(())
+}
+
+#[test]
 fn numbers(rt: HostRuntime) -> Result<(), Fail> {
     let rows = [
         // out of range
