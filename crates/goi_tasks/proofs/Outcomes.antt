@@ -17,6 +17,7 @@ use Rattle.net_build.specs.Nets.{NetTree}
 use Rattle.net_build.specs.NetOf.{net_of}
 use Rattle.interleave_laws.specs.Maps.{MapState, LeadsToMap}
 use Rattle.adequacy_laws.specs.Finished.{Within, Beyond}
+use Rattle.goi_words.specs.declared.jobs.Window.{Window}
 use Rattle.schedule_log.specs.declared.fault.ScheduleFault.{ScheduleFault}
 use Rattle.schedule_log.specs.declared.fault.ScheduleFault.TheVariants as schedule
 use Rattle.schedule_log.specs.Laws.{OneAnswer}
@@ -29,7 +30,7 @@ use Rattle.replay_check.specs.Replays.{ReplaysAs}
 use Rattle.goi_tasks.specs.declared.fault.Fault.{Fault}
 use Rattle.goi_tasks.specs.declared.fault.Fault.TheVariants.{Read, Typing, ByValue, NetText, Schedule, Moves}
 use Rattle.goi_tasks.specs.declared.task.Task.{Task}
-use Rattle.goi_tasks.specs.declared.task.Task.TheVariants.{Run, Check, ShowNet, RunNet}
+use Rattle.goi_tasks.specs.declared.task.Task.TheVariants.{Run, Check, ShowNet, RunNet, Trace}
 use Rattle.goi_tasks.specs.NetFiles.{FaultyListing, unlisted}
 use Rattle.goi_tasks.specs.Outputs.{Output}
 use Rattle.goi_tasks.specs.Programs.{Wanted, any_type, number, strict_number, WillDo, IsProgram, IsGround, FaultyTree, untyped, no_number, untranslated, FaultyText, unread, of_tree}
@@ -126,13 +127,16 @@ text_status (Run workers budget schedule tally by_value progress) bytes o h = ru
 text_status (Check term) bytes o h = inl (ap (λ (x : Output). x.status) h.so)
 text_status ShowNet bytes o h = inl (ap (λ (x : Output). x.status) h.so)
 text_status (RunNet workers budget schedule tally) bytes o h = run_status _ (net_of h.term) budget h.so.answer (length h.so.log) o.status h.so.tells
+text_status (Trace workers budget by_value window) bytes o h =
+    run_status _ (net_run by_value h.term) budget h.so.answer (length h.so.log) o.status h.so.tells
 
 replay_ends : (answer : Option Val) (status : ℕ) → status ≡ replay_status answer → (status ≡ 0) ⊎ (status ≡ 5)
 replay_ends (Some v) status e = inl e
 replay_ends None status e = inr e
 
-pub schedule_status : (t : TermTree) (text : List ℕ) (o : Output) → ReportsReplay t text o → (o.status ≡ 0) ⊎ (o.status ≡ 5)
-schedule_status t text o h = replay_ends h.state.answered o.status (ap (λ (x : Output). x.status) h.output_is)
+pub schedule_status : (t : TermTree) (window : Option Window) (text : List ℕ) (o : Output) → ReportsReplay t window text o →
+    (o.status ≡ 0) ⊎ (o.status ≡ 5)
+schedule_status t window text o h = replay_ends h.state.answered o.status (ap (λ (x : Output). x.status) h.output_is)
 
 -- ---- what the code answers says it
 
@@ -229,6 +233,11 @@ module _ (known : Known) where
   text_end (RunNet workers budget schedule tally) bytes o own h k =
       let e : h.term ≡ k.term = same_listed bytes h.term k.term h.lists k.lists in
       one_run_end budget (net_of k.term) o.status own (subst (λ (t : TermTree). EndsRun budget (net_of t) o.status) e (run_ends _ (net_of h.term) budget h.so.answer (length h.so.log) o.status h.so.tells)) k.so
+  text_end (Trace workers budget by_value window) bytes o own h k =
+      let e : h.term ≡ k.term = same_program (wanted_by_run by_value) bytes _ _ h k in
+      one_run_end budget (net_run by_value k.term) o.status own
+      (subst (λ (t : TermTree). EndsRun budget (net_run by_value t) o.status) e
+      (run_ends _ (net_run by_value h.term) budget h.so.answer (length h.so.log) o.status h.so.tells)) k.so
 
   -- what has an output has no fault
   pub report_sound : (task : Task) (bytes : List ℕ) (o : Output) (f : Fault) → ReportsText task bytes o → FaultyFor task bytes f → ⊥
@@ -236,6 +245,8 @@ module _ (known : Known) where
   report_sound (Check term) bytes o f h k = text_sound known.one_tree known.not_both any_type bytes h.tree h.term h.type f h.is k
   report_sound ShowNet bytes o f h k = text_sound known.one_tree known.not_both number bytes h.tree h.term h.type f h.is k
   report_sound (RunNet workers budget schedule tally) bytes o f h k = listing_sound bytes h.term f h.lists k
+  report_sound (Trace workers budget by_value window) bytes o f h k =
+      text_sound known.one_tree known.not_both (wanted_by_run by_value) bytes h.tree h.term h.type f h.is k
 
   -- nor has what the task ends on
   pub end_sound : (task : Task) (bytes : List ℕ) (own : ℕ) (f : Fault) → EndsText task bytes own → FaultyFor task bytes f → ⊥
@@ -243,6 +254,8 @@ module _ (known : Known) where
   end_sound (Check term) bytes own f h k = text_sound known.one_tree known.not_both any_type bytes h.tree h.term h.type f h.is k
   end_sound ShowNet bytes own f h k = text_sound known.one_tree known.not_both number bytes h.tree h.term h.type f h.is k
   end_sound (RunNet workers budget schedule tally) bytes own f h k = listing_sound bytes h.term f h.lists k
+  end_sound (Trace workers budget by_value window) bytes own f h k =
+      text_sound known.one_tree known.not_both (wanted_by_run by_value) bytes h.tree h.term h.type f h.is k
 
   -- two faults are one
   pub one_fault_for : (task : Task) (bytes : List ℕ) (f g : Fault) → FaultyFor task bytes f → FaultyFor task bytes g → f ≡ g
@@ -250,6 +263,7 @@ module _ (known : Known) where
   one_fault_for (Check term) bytes f g h k = one_text_fault any_type bytes f g h k
   one_fault_for ShowNet bytes f g h k = one_text_fault number bytes f g h k
   one_fault_for (RunNet workers budget schedule tally) bytes f g h k = one_listing_fault bytes f g h k
+  one_fault_for (Trace workers budget by_value window) bytes f g h k = one_text_fault (wanted_by_run by_value) bytes f g h k
 
   -- ---- a text is one schedule, or has one fault, and so it is with its moves
 
@@ -283,7 +297,8 @@ module _ (known : Known) where
       ap Moves (ap (replay_fault_or f) (known.one_replay (net_of t) ts (Err f) (Err g) (λ e. n (ap (replay_fault_or f) e)) (λ e. m (ap (replay_fault_or g) e)) h
       (subst (λ (l : List ℕ). ReplaysAs (net_of t) l (Err g)) e k)))
 
-  pub replay_end : (t : TermTree) (text : List ℕ) (o : Output) (own : ℕ) → ReportsReplay t text o → EndsReplay t text own → o.status ≡ own
-  replay_end t text o own h k =
+  pub replay_end : (t : TermTree) (window : Option Window) (text : List ℕ) (o : Output) (own : ℕ) → ReportsReplay t window text o →
+      EndsReplay t text own → o.status ≡ own
+  replay_end t window text o own h k =
       let e = same_tickets text h.tickets k.tickets h.schedule k.schedule in
       ap (λ (x : Output). x.status) h.output_is ∙ ap (λ (S : MapState). replay_status S.answered) (same_state (net_of t) h.tickets k.tickets h.state k.state e h.led k.led) ∙ sym k.ends

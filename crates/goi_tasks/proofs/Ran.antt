@@ -1,6 +1,8 @@
 -- What a run of a program's net says of the program, and the report that is made of it.
-use Rattle.std.proofs.Common.{◌≡◌, ℕ, ◌<◌, ◌^◌, Bool, true, false, List, [], ◌∷◌, length, Option, Some, None, refl, sym, ap, ◌∙◌, subst, arith}
+use Rattle.std.proofs.Common.{◌≡◌, ℕ, ◌<◌, ◌≤◌, ◌^◌, Bool, true, false, List, [], ◌∷◌, ◌++◌, length, Option, Some, None}
+use Rattle.std.proofs.Common.{refl, sym, ap, ◌∙◌, subst, arith}
 use Rattle.pcf_values.specs.declared.val.Val.{Val}
+use Rattle.pcf_values.specs.Most.{most_moves}
 use Rattle.pcf_values.specs.Terms.{TermTree, nat, size}
 use Rattle.pcf_values.specs.Typing.{HasType}
 use Rattle.cbn_meaning.specs.Meaning.{Means}
@@ -19,12 +21,14 @@ use Rattle.goi_reports.specs.Forms.{AnswerFits}
 use Rattle.goi_reports.specs.Reports.{run_report, demo_report}
 use Rattle.goi_words.specs.Jobs.{IsBudget}
 use Rattle.net_runs.specs.Running.{IsRun, IsFirstWorkers}
-use Rattle.goi_tasks.specs.declared.task.Task.TheVariants.{Run}
+use Rattle.walk_text.specs.Traces.{LeadsSomewhere, trace_text}
+use Rattle.goi_words.specs.declared.jobs.Window.{Window}
+use Rattle.goi_tasks.specs.declared.task.Task.TheVariants.{Run, Trace}
 use Rattle.goi_tasks.specs.Notes.{NotesOf}
 use Rattle.goi_tasks.specs.Outputs.{Output, output}
 use Rattle.goi_tasks.specs.Programs.{IsStrictNet}
 use Rattle.goi_tasks.specs.Replaying.{replay_status}
-use Rattle.goi_tasks.specs.Running.{demo_budget, Tells, ReportsRun, ReportsDemo}
+use Rattle.goi_tasks.specs.Running.{demo_budget, Tells, ReportsRun, ReportsTrace, ReportsDemo}
 use Rattle.goi_tasks.specs.Tasks.{ReportsText}
 use Rattle.goi_tasks.proofs.Brief.{brief}
 
@@ -67,6 +71,35 @@ module _ (law : MapFinishedMeans) (t : TermTree) (typed : HasType [] t nat) (net
         notes = told_notes;
         short = λ f g. brief answer log workers schedule tally text f g is fits (few (net_of t) workers budget answer log b own);
       }
+
+  -- and so is that of a run whose walk is told
+  pub reports_trace : (workers budget : ℕ) (window : Window) (answer : Option Val) (log : List Entry) →
+      IsRun net workers budget answer log → (workers ≡ 1 → IsFirstWorkers net budget log) →
+      (status : ℕ) → status ≡ replay_status answer → (text : List ℕ) →
+      text ≡ run_report answer log workers false false ++ trace_text net log window.from window.most →
+      (o : Output) → o ≡ output status text [] → ReportsTrace workers budget false window t o
+  reports_trace workers budget window answer log r alone status e text is o told =
+      let own : IsRun (net_of t) workers budget answer log = subst (λ (n : NetTree). IsRun n workers budget answer log) same r in
+      let lines = run_report answer log workers false false in
+      record {
+        answer = answer;
+        log = log;
+        is_run = own;
+        alone = λ one. subst (λ (n : NetTree). IsFirstWorkers n budget log) same (alone one);
+        tells = tells law t typed workers budget answer log own o.status (ap (λ (x : Output). x.status) told ∙ e);
+        report_is =
+            ap (λ (x : Output). x.report) told ∙ is ∙ ap (λ (n : NetTree). lines ++ trace_text n log window.from window.most) same;
+        no_notes = ap (λ (x : Output). x.notes) told;
+      }
+
+-- a run leads somewhere, and has no more moves than a log may have
+pub run_leads : (net : NetTree) (workers budget : ℕ) (answer : Option Val) (log : List Entry) → IsRun net workers budget answer log →
+    LeadsSomewhere net log
+run_leads net workers budget answer log r = (r.state, r.led)
+
+pub run_few : (net : NetTree) (workers budget : ℕ) (answer : Option Val) (log : List Entry) → IsBudget budget →
+    IsRun net workers budget answer log → length log ≤ most_moves
+run_few net workers budget answer log b r = let h = tickets_length log in omega (arith, h, r.finished.0, b.1)
 
 -- and so is that of the generated program
 pub reports_demo : MapFinishedMeans → (n workers : ℕ) → HasType [] (demo_term n) nat → (answer : Option Val) (log : List Entry) → IsRun (net_of (demo_term n)) workers demo_budget answer log → (status : ℕ) → status ≡ replay_status answer →
@@ -111,6 +144,35 @@ strict_output law bytes net is workers budget schedule tally progress o h =
       type = nat;
       is = record { text = is.text; typed = k.accepted; will_do = (refl, k.faultless) };
       so = strictly law k.term k.typed k.has workers budget schedule tally progress o (h (translated k.term) k.runs k.net_is);
+    }
+
+-- the same of one whose walk is told
+strict_walk : (law : SameValues) (t : TermTree) → HasType [] t nat → HasTranslation t → (workers budget : ℕ) (window : Window) (o : Output) →
+    ReportsTrace workers budget false window (translated t) o → ReportsTrace workers budget true window t o
+strict_walk law t typed has workers budget window o h = record {
+  answer = h.answer;
+  log = h.log;
+  is_run = h.is_run;
+  alone = h.alone;
+  tells =
+      by_value_tells (Means (translated t)) (MeansByValue t) (λ v m. (law t typed has v).1 m) (net_of (translated t)) budget h.answer
+      (length h.log) o.status h.tells;
+  report_is = h.report_is;
+  no_notes = h.no_notes;
+}
+
+pub strict_trace : (law : SameValues) (bytes : List ℕ) (net : NetTree) → IsStrictNet bytes net →
+    (workers budget : ℕ) (window : Window) (o : Output) →
+    ((t : TermTree) → HasType [] t nat → net ≡ net_of t → ReportsTrace workers budget false window t o) →
+    ReportsText (Trace workers budget true window) bytes o
+strict_trace law bytes net is workers budget window o h =
+    let k = is.made in
+    record {
+      tree = is.tree;
+      term = k.term;
+      type = nat;
+      is = record { text = is.text; typed = k.accepted; will_do = (refl, k.faultless) };
+      so = strict_walk law k.term k.typed k.has workers budget window o (h (translated k.term) k.runs k.net_is);
     }
 
 -- the net of a program that runs by value runs

@@ -15,18 +15,20 @@ use Rattle.adequacy_laws.specs.Lengths.{MapEqualLengths}
 use Rattle.schedule_log.specs.declared.fault.ScheduleFault.{ScheduleFault}
 use Rattle.schedule_log.specs.declared.fault.ScheduleFault.TheVariants as schedule
 use Rattle.schedule_log.specs.declared.entry.Entry.{Entry}
-use Rattle.schedule_log.specs.Logs.{tickets_in_log}
+use Rattle.schedule_log.specs.Logs.{LogSeen, read_entries, read_log, tickets_in_log}
+use Rattle.walk_text.specs.Traces.{LeadsSomewhere}
+use Rattle.goi_words.specs.declared.jobs.Window.{Window}
 use Rattle.schedule_log.specs.Schedules.{Run, again, tickets_of, moves, IsSchedule, ReadAs}
 use Rattle.replay_check.specs.declared.fault.ReplayFault.{ReplayFault}
 use Rattle.replay_check.specs.declared.fault.ReplayFault.TheVariants as replay
 use Rattle.replay_check.specs.declared.replayed.Replayed.{Replayed}
 use Rattle.replay_check.specs.Replays.{IsRunOf, ReplaysAs}
-use Rattle.goi_reports.specs.Reports.{replay_report}
 use Rattle.goi_tasks.specs.declared.fault.Fault.{Fault}
 use Rattle.goi_tasks.specs.declared.report.Report.{Report}
 use Rattle.goi_tasks.specs.declared.stop.Stop.{Stop}
 use Rattle.goi_tasks.specs.Outputs.{Output, output, output_of}
-use Rattle.goi_tasks.specs.Replaying.{replay_status, Agrees, ReportsReplay, FaultySchedule, unread, unmoved, IsReplayed, FaultyReplay, no_moves}
+use Rattle.goi_tasks.specs.Replaying.{replay_status, replay_text, replay_output, Agrees, ReportsReplay, FaultySchedule, unread, unmoved}
+use Rattle.goi_tasks.specs.Replaying.{IsReplayed, FaultyReplay, no_moves}
 use Rattle.goi_tasks.specs.Stops.{StopsFor, stop_of_schedule, stop_of_replay}
 use Rattle.goi_tasks.proofs.Texts.{faults_weaker}
 
@@ -50,16 +52,30 @@ few_moves text log h =
     let m = log_length log in
     omega (arith, e, n, m, h.whole.few)
 
+-- a log that was read has the entries of its tickets
+pub read_so : (l : LogSeen) → l ≡ read_log (tickets_in_log l.entries) → l.entries ≡ read_entries (tickets_in_log l.entries)
+read_so l e = ap (λ (m : LogSeen). m.entries) e
+
+-- a log that has a run leads somewhere
+pub leads_of : (net : NetTree) (log : List Entry) (r : Replayed) → IsRunOf net (tickets_in_log log) r → LeadsSomewhere net log
+leads_of net log r h = (h.state, h.led)
+
 -- the output of a replay
-pub replayed : (net : NetTree) (tickets : List ℕ) (r : Replayed) → IsRunOf net tickets r → (status : ℕ) → status ≡ replay_status r.answer → (text : List ℕ) → text ≡ replay_report r.answer r.moves → (o : Output) → o ≡ output status text [] →
-    IsReplayed net tickets o
-replayed net tickets r h status e text is o same = record {
+pub replayed : (net : NetTree) (window : Option Window) (log : List Entry) (r : Replayed) → log ≡ read_entries (tickets_in_log log) →
+    IsRunOf net (tickets_in_log log) r → (status : ℕ) → status ≡ replay_status r.answer → (text : List ℕ) →
+    text ≡ replay_text window net log r.answer r.moves → (o : Output) → o ≡ output status text [] →
+    IsReplayed net window (tickets_in_log log) o
+replayed net window log r own h status e text is o same = record {
   state = h.state;
   led = h.led;
   output_is =
       same
       ∙ ap (λ (s : ℕ). output s text []) (e ∙ ap replay_status h.answer)
-      ∙ ap (λ (x : List ℕ). output (replay_status h.state.answered) x []) (is ∙ ap (λ (a : Option Val). replay_report a r.moves) h.answer ∙ ap (λ (m : ℕ). replay_report h.state.answered m) h.moves);
+      ∙ ap (λ (x : List ℕ). output (replay_status h.state.answered) x [])
+      (is
+      ∙ ap (λ (es : List Entry). replay_text window net es r.answer r.moves) own
+      ∙ ap (λ (a : Option Val). replay_text window net (read_entries (tickets_in_log log)) a r.moves) h.answer
+      ∙ ap (λ (m : ℕ). replay_text window net (read_entries (tickets_in_log log)) h.state.answered m) h.moves);
 }
 
 -- an answer is what the term means, and then the list is as long as the net
@@ -68,8 +84,9 @@ agrees t tickets None h = tt
 agrees t tickets (Some v) h = h v refl
 
 module _ (lengths : MapEqualLengths) (means : MeansLength) (t : TermTree) (typed : HasType [] t nat) (net : NetTree) (runs : Runs net) (same : net ≡ net_of t) where
-  right : (text tickets : List ℕ) → IsSchedule text tickets → (o : Output) → IsReplayed net tickets o → ReportsReplay t text o
-  right text tickets s o h =
+  right : (window : Option Window) (text tickets : List ℕ) → IsSchedule text tickets → (o : Output) → IsReplayed net window tickets o →
+      ReportsReplay t window text o
+  right window text tickets s o h =
       let agree = lengths net runs.sound tickets h.state h.led in
       record {
         tickets = tickets;
@@ -79,14 +96,16 @@ module _ (lengths : MapEqualLengths) (means : MeansLength) (t : TermTree) (typed
         agrees = agrees t tickets h.state.answered (λ v e.
             let long : Length (net_of t) v (length tickets) = subst (λ (n : NetTree). Length n v (length tickets)) same ((agree.answers v).0 e) in
             ((means t typed v).1 (length tickets, long), long));
-        output_is = h.output_is;
+        output_is = subst (λ (n : NetTree). o ≡ replay_output window n tickets h.state) same h.output_is;
       }
 
 -- so the report is that of the schedule on the term's net
-pub rights : MapEqualLengths → MeansLength → (net : NetTree) → Runs net → (text tickets : List ℕ) → IsSchedule text tickets → (r : Result Report Stop) → IfOk r (λ v. IsReplayed net tickets (output_of v)) →
-    IfOk r (λ v. (t : TermTree) → HasType [] t nat → net ≡ net_of t → ReportsReplay t text (output_of v))
-rights lengths means net runs text tickets s (Ok v) h = λ t typed same. right lengths means t typed net runs same text tickets s (output_of v) h
-rights lengths means net runs text tickets s (Err e) h = h
+pub rights : MapEqualLengths → MeansLength → (net : NetTree) → Runs net → (window : Option Window) (text tickets : List ℕ) →
+    IsSchedule text tickets → (r : Result Report Stop) → IfOk r (λ v. IsReplayed net window tickets (output_of v)) →
+    IfOk r (λ v. (t : TermTree) → HasType [] t nat → net ≡ net_of t → ReportsReplay t window text (output_of v))
+rights lengths means net runs window text tickets s (Ok v) h = λ t typed same.
+    right lengths means t typed net runs same window text tickets s (output_of v) h
+rights lengths means net runs window text tickets s (Err e) h = h
 
 -- and the fault is that of the schedule
 faulty : (net : NetTree) (text tickets : List ℕ) → IsSchedule text tickets → (f : Fault) → FaultyReplay net tickets f → (t : TermTree) → net ≡ net_of t → FaultySchedule t text f

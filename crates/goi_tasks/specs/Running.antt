@@ -1,7 +1,7 @@
 -- A run of a program: what it came to, which report it has, and with which status it ends.
 -- What a run is stands in `net_runs`, with the order of its moves left open where there are several workers; so nothing that is told
 -- here depends on it.
-use Rattle.std.specs.Prelude.{◌≡◌, ◌⊎◌, ℕ, ◌≤◌, Bool, true, false, List, [], length, Option, None, Some}
+use Rattle.std.specs.Prelude.{◌≡◌, ◌⊎◌, ℕ, ◌≤◌, ◌++◌, Bool, true, false, List, [], length, Option, None, Some}
 use Rattle.pcf_values.specs.declared.val.Val.{Val}
 use Rattle.pcf_values.specs.Terms.{TermTree, size}
 use Rattle.cbn_meaning.specs.Meaning.{Means}
@@ -14,6 +14,8 @@ use Rattle.adequacy_laws.specs.Finished.{Within, Beyond}
 use Rattle.schedule_log.specs.declared.entry.Entry.{Entry}
 use Rattle.goi_reports.specs.Reports.{run_report, demo_report}
 use Rattle.net_runs.specs.Running.{IsRun, IsFirstWorkers}
+use Rattle.walk_text.specs.Traces.{trace_text}
+use Rattle.goi_words.specs.declared.jobs.Window.{Window}
 use Rattle.demo_text.specs.Demo.{demo_term}
 use Rattle.goi_tasks.specs.Notes.{NotesOf}
 use Rattle.goi_tasks.specs.Outputs.{Output}
@@ -42,6 +44,18 @@ pub record ReportsNet (means : Val → Type 0) (net : NetTree) (workers budget :
   pub notes : NotesOf progress (length log) o.notes
   pub short : schedule ≡ false → tally ≡ false → length o.report ≤ most_line
 
+-- The output of a run of the net of a program of this meaning whose walk is told: the two lines of a run, and behind them this part of
+-- the trace of that very run's log.
+pub record ReportsWalk (means : Val → Type 0) (net : NetTree) (workers budget : ℕ) (window : Window) (o : Output) : Type 0 where
+  pub answer : Option Val
+  pub log : List Entry
+  pub is_run : IsRun net workers budget answer log
+  -- one worker moves alone, under the number of the first; so the whole text is known
+  pub alone : workers ≡ 1 → IsFirstWorkers net budget log
+  pub tells : Tells means net budget answer (length log) o.status
+  pub report_is : o.report ≡ run_report answer log workers false false ++ trace_text net log window.from window.most
+  pub no_notes : o.notes ≡ []
+
 -- what a term means, by name or by value
 abbrev pub meaning : Bool → TermTree → Val → Type 0
 meaning false t = Means t
@@ -55,6 +69,10 @@ net_run true t = net_of (translated t)
 -- the output of a run of a term, by value where asked
 abbrev pub ReportsRun : ℕ → ℕ → Bool → Bool → Bool → Bool → TermTree → Output → Type 0
 ReportsRun workers budget schedule tally by_value progress t o = ReportsNet (meaning by_value t) (net_run by_value t) workers budget schedule tally progress o
+
+-- the output of a run of a term whose walk is told, by value where asked
+abbrev pub ReportsTrace : ℕ → ℕ → Bool → Window → TermTree → Output → Type 0
+ReportsTrace workers budget by_value window t o = ReportsWalk (meaning by_value t) (net_run by_value t) workers budget window o
 
 -- the output of a run of the generated program of a number
 pub record ReportsDemo (n workers : ℕ) (o : Output) : Type 0 where

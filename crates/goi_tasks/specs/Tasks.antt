@@ -9,15 +9,15 @@ use Rattle.net_build.specs.NetOf.{net_of}
 use Rattle.net_text.specs.Accepted.{ListsProgram}
 use Rattle.net_text.specs.Limits.{most_text_bytes}
 use Rattle.net_text.specs.Listing.{listing}
-use Rattle.goi_words.specs.Jobs.{IsWorkers, IsBudget}
+use Rattle.goi_words.specs.Jobs.{IsWorkers, IsBudget, IsWindow}
 use Rattle.goi_reports.specs.Reports.{check_report}
 use Rattle.goi_tasks.specs.declared.fault.Fault.{Fault}
 use Rattle.goi_tasks.specs.declared.task.Task.{Task}
-use Rattle.goi_tasks.specs.declared.task.Task.TheVariants.{Run, Check, ShowNet, RunNet}
+use Rattle.goi_tasks.specs.declared.task.Task.TheVariants.{Run, Check, ShowNet, RunNet, Trace}
 use Rattle.goi_tasks.specs.NetFiles.{FaultyListing}
 use Rattle.goi_tasks.specs.Outputs.{Output, output}
 use Rattle.goi_tasks.specs.Programs.{Wanted, any_type, number, strict_number, IsProgram, FaultyText}
-use Rattle.goi_tasks.specs.Running.{net_run, ReportsRun, EndsRun}
+use Rattle.goi_tasks.specs.Running.{net_run, ReportsRun, ReportsTrace, EndsRun}
 
 -- ---- programs
 
@@ -48,6 +48,8 @@ ReportsText (Run workers budget schedule tally by_value progress) bytes o = OfPr
 ReportsText (Check term) bytes o = OfProgram any_type bytes (λ tree t A. o ≡ output 0 (check_report A term tree) [])
 ReportsText ShowNet bytes o = OfProgram number bytes (λ tree t A. o ≡ output 0 (listing (net_of t)) [])
 ReportsText (RunNet workers budget schedule tally) bytes o = OfListing bytes (λ t. ReportsRun workers budget schedule tally false false t o)
+ReportsText (Trace workers budget by_value window) bytes o =
+    OfProgram (wanted_by_run by_value) bytes (λ tree t A. ReportsTrace workers budget by_value window t o)
 
 -- the first fault of a text with which it can't be done
 abbrev pub FaultyFor : Task → List ℕ → Fault → Type 0
@@ -55,6 +57,7 @@ FaultyFor (Run workers budget schedule tally by_value progress) bytes f = Faulty
 FaultyFor (Check term) bytes f = FaultyText any_type bytes f
 FaultyFor ShowNet bytes f = FaultyText number bytes f
 FaultyFor (RunNet workers budget schedule tally) bytes f = FaultyListing bytes f
+FaultyFor (Trace workers budget by_value window) bytes f = FaultyText (wanted_by_run by_value) bytes f
 
 -- it can be done with the text, and ends with this status
 abbrev pub EndsText : Task → List ℕ → ℕ → Type 0
@@ -62,6 +65,8 @@ EndsText (Run workers budget schedule tally by_value progress) bytes status = Of
 EndsText (Check term) bytes status = OfProgram any_type bytes (λ tree t A. status ≡ 0)
 EndsText ShowNet bytes status = OfProgram number bytes (λ tree t A. status ≡ 0)
 EndsText (RunNet workers budget schedule tally) bytes status = OfListing bytes (λ t. EndsRun budget (net_of t) status)
+EndsText (Trace workers budget by_value window) bytes status =
+    OfProgram (wanted_by_run by_value) bytes (λ tree t A. EndsRun budget (net_run by_value t) status)
 
 -- how many bytes its text has at the most
 abbrev pub most_bytes : Task → ℕ
@@ -69,6 +74,7 @@ most_bytes (Run workers budget schedule tally by_value progress) = most_program_
 most_bytes (Check term) = most_program_bytes
 most_bytes ShowNet = most_program_bytes
 most_bytes (RunNet workers budget schedule tally) = most_text_bytes
+most_bytes (Trace workers budget by_value window) = most_program_bytes
 
 -- the numbers of a task are in their ranges
 abbrev pub IsWithin : Task → Type 0
@@ -76,6 +82,7 @@ IsWithin (Run workers budget schedule tally by_value progress) = IsWorkers worke
 IsWithin (Check term) = Unit {0}
 IsWithin ShowNet = Unit {0}
 IsWithin (RunNet workers budget schedule tally) = IsWorkers workers × IsBudget budget
+IsWithin (Trace workers budget by_value window) = IsWorkers workers × IsBudget budget × IsWindow window
 
 -- the report on the type of a tree, and with `term` on the tree
 abbrev pub ChecksTree : Bool → NamedTree → List ℕ → Type 0

@@ -2,7 +2,7 @@
 
 ghost use Rattle.std.specs.Prelude.{◌≡◌, [], true, false, IfOk, IfErr};
 ghost use Rattle.goi_words.specs.Jobs.{IsBudget, IsWorkers};
-ghost use Rattle.goi_tasks.specs.declared.task.Task.TheVariants.{Run, ShowNet, RunNet};
+ghost use Rattle.goi_tasks.specs.declared.task.Task.TheVariants.{Run, ShowNet, RunNet, Trace};
 ghost use Rattle.goi_tasks.specs.NetFiles.{FaultyListing};
 ghost use Rattle.goi_tasks.specs.Outputs.{output_of};
 ghost use Rattle.goi_tasks.specs.Programs.{number, strict_number, FaultyText};
@@ -12,12 +12,13 @@ ghost use Rattle.goi_tasks.specs.Tasks.{IsWithin, ReportsText, FaultyFor};
 use crate::net_file::net_of_listing;
 use crate::program::{check_text, net_by_value, net_of_text};
 use crate::report::{Report, plain};
-use crate::running::report_run;
+use crate::running::{report_run, report_trace};
 use crate::stop::Stop;
 use crate::task::Task;
 use adequacy_laws::law_never_stuck;
 use cbv_terms::law_by_value;
 use gate_workers::Gate;
+use goi_words::Window;
 use net_text::print_net;
 use std::alloc::Global;
 use std::sync::Wait;
@@ -64,6 +65,18 @@ pub fn report_text<R: Threads + Wait + Sync, G: Gate>(
             schedule,
             tally,
         } => run_listing(rt, alloc, bytes, workers, budget, schedule, tally, gate),
+        Task::Trace {
+            workers,
+            budget,
+            by_value: false,
+            window,
+        } => trace_by_name(rt, alloc, bytes, workers, budget, window, gate),
+        Task::Trace {
+            workers,
+            budget,
+            by_value: true,
+            window,
+        } => trace_by_value(rt, alloc, bytes, workers, budget, window, gate),
     }
 }
 
@@ -117,6 +130,51 @@ fn run_by_value<R: Threads + Wait + Sync, G: Gate>(
         rt, alloc, &net, workers, budget, schedule, tally, progress, gate,
     );
     drop(net);
+    Ok(report?)
+}
+
+/// The report of a run of a text's program, with its trace.
+fn trace_by_name<R: Threads + Wait + Sync, G: Gate>(
+    rt: &R,
+    alloc: Global,
+    bytes: &[u8],
+    workers: u32,
+    budget: u32,
+    window: Window,
+    gate: &G,
+) -> Result<Report, Stop>
+    requires workers { IsWorkers workers }
+    requires budget { IsBudget budget }
+    ensures report { IfOk result (λ r. ReportsText (Trace workers budget false window) bytes.now (output_of r)) }
+    ensures fault { IfErr result (λ e. StopsFor (FaultyText number bytes.now) e) }
+{
+    law_never_stuck();
+    let net = net_of_text(alloc, bytes)?;
+    let report = report_trace(rt, alloc, &net, workers, budget, window, gate);
+    drop(net);
+    Ok(report?)
+}
+
+/// The report of a run of a text's program by value, with its trace.
+fn trace_by_value<R: Threads + Wait + Sync, G: Gate>(
+    rt: &R,
+    alloc: Global,
+    bytes: &[u8],
+    workers: u32,
+    budget: u32,
+    window: Window,
+    gate: &G,
+) -> Result<Report, Stop>
+    requires workers { IsWorkers workers }
+    requires budget { IsBudget budget }
+    ensures report { IfOk result (λ r. ReportsText (Trace workers budget true window) bytes.now (output_of r)) }
+    ensures fault { IfErr result (λ e. StopsFor (FaultyText strict_number bytes.now) e) }
+{
+    law_never_stuck();
+    law_by_value();
+    let translated = net_by_value(alloc, bytes)?;
+    let report = report_trace(rt, alloc, &translated, workers, budget, window, gate);
+    drop(translated);
     Ok(report?)
 }
 

@@ -6,9 +6,10 @@ ghost use Rattle.pcf_values.specs.Terms.{TermTree, nat};
 ghost use Rattle.pcf_values.specs.Typing.{HasType};
 ghost use Rattle.net_build.specs.NetOf.{net_of};
 ghost use Rattle.interleave_laws.specs.Runs.{Runs};
-ghost use Rattle.schedule_log.specs.Logs.{tickets_in_log};
+ghost use Rattle.schedule_log.specs.Logs.{read_entries, tickets_in_log};
+ghost use Rattle.walk_text.specs.Traces.{LeadsSomewhere};
 ghost use Rattle.goi_tasks.specs.Outputs.{output_of};
-ghost use Rattle.goi_tasks.specs.Replaying.{ReportsReplay, FaultySchedule, IsReplayed, FaultyReplay};
+ghost use Rattle.goi_tasks.specs.Replaying.{ReportsReplay, FaultySchedule, IsReplayed, FaultyReplay, replay_text};
 ghost use Rattle.goi_tasks.specs.Stops.{StopsFor};
 
 use crate::report::{Report, plain};
@@ -16,33 +17,65 @@ use crate::running::status_of;
 use crate::stop::Stop;
 use adequacy_laws::{law_adequacy, law_lengths};
 use goi_reports::replay_report;
+use goi_words::Window;
 use net_build::Net;
-use replay_check::replay;
+use replay_check::{Replayed, replay};
 use schedule_log::{Log, read_schedule};
-use std::alloc::Global;
+use std::alloc::{AllocError, Global};
+use walk_text::push_trace;
 
-/// The report of the schedule that a text is, run on the net of a program; or the schedule's first fault.
-pub fn report_replay(alloc: Global, net: &Net, bytes: &[u8]) -> Result<Report, Stop>
+/// The report of the schedule that a text is, run on the net of a program, and behind it this part of its trace where it is asked for.
+///
+/// # Errors
+///
+/// The first fault of the schedule's text, or the first of its moves that isn't legal. Or want of memory.
+pub fn report_replay(
+    alloc: Global,
+    net: &Net,
+    bytes: &[u8],
+    window: Option<Window>,
+) -> Result<Report, Stop>
     requires runs { Runs net.now }
-    ensures report { IfOk result (λ r. (t : TermTree) → HasType [] t nat → net.now ≡ net_of t → ReportsReplay t bytes.now (output_of r)) }
+    ensures report { IfOk result (λ r. (t : TermTree) → HasType [] t nat → net.now ≡ net_of t → ReportsReplay t window bytes.now (output_of r)) }
     ensures fault { IfErr result (λ e. StopsFor (λ f. (t : TermTree) → net.now ≡ net_of t → FaultySchedule t bytes.now f) e) }
 {
     law_lengths();
     law_adequacy();
     let log = read_schedule(alloc, bytes)?;
-    let report = report_log(alloc, net, &log);
+    let report = report_log(alloc, net, &log, window);
     drop(log);
     report
 }
 
 /// The report of a schedule.
-fn report_log(alloc: Global, net: &Net, log: &Log) -> Result<Report, Stop>
+fn report_log(alloc: Global, net: &Net, log: &Log, window: Option<Window>) -> Result<Report, Stop>
     requires runs { Runs net.now }
     requires few { length log.now.entries ≤ most_moves }
-    ensures report { IfOk result (λ r. IsReplayed net.now (tickets_in_log log.now.entries) (output_of r)) }
+    requires told { log.now.entries ≡ read_entries (tickets_in_log log.now.entries) }
+    ensures report { IfOk result (λ r. IsReplayed net.now window (tickets_in_log log.now.entries) (output_of r)) }
     ensures fault { IfErr result (λ e. StopsFor (FaultyReplay net.now (tickets_in_log log.now.entries)) e) }
 {
     let replayed = replay(alloc, net, log)?;
-    let text = replay_report(alloc, replayed.answer, replayed.moves)?;
+    let text = told_replay(alloc, net, log, replayed, window)?;
     Ok(plain(alloc, text, status_of(replayed.answer)))
+}
+
+/// The lines of a replay, and this part of the trace of its log where it is asked for.
+fn told_replay(
+    alloc: Global,
+    net: &Net,
+    log: &Log,
+    replayed: Replayed,
+    window: Option<Window>,
+) -> Result<Vec<u8>, AllocError>
+    requires runs { Runs net.now }
+    requires few { length log.now.entries ≤ most_moves }
+    requires leads { LeadsSomewhere net.now log.now.entries }
+    ensures { IfOk result (λ v. v.items ≡ replay_text window net.now log.now.entries replayed.answer replayed.moves) }
+{
+    let mut text = replay_report(alloc, replayed.answer, replayed.moves)?;
+    if let Some(window) = window {
+        push_trace(alloc, &mut text, net, log, window.from, window.most)?;
+    }
+    Ok(text)
 }

@@ -3,6 +3,7 @@
 ghost use Rattle.std.specs.Prelude.{◌≡◌};
 ghost use Rattle.goi_tasks.specs.Tasks.{most_bytes};
 
+use goi_words::Window;
 use net_text::limits::NET_TEXT_BYTES;
 use pcf_values::limits::PROGRAM_BYTES;
 
@@ -31,6 +32,13 @@ pub enum Task {
         budget: u32,
         schedule: bool,
         tally: bool,
+    },
+    /// Run the program as `Run` does with the same numbers, and tell this part of the run's trace.
+    Trace {
+        workers: u32,
+        budget: u32,
+        by_value: bool,
+        window: Window,
     },
 }
 
