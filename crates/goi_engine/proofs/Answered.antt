@@ -14,6 +14,7 @@ use Rattle.goi_world.specs.Seen.{files_seen, FilesState, FilesKept}
 use Rattle.goi_engine.specs.FilesSeen.{Possibly, OfFile, ReadsWithin, LoadedBy}
 use Rattle.goi_tasks.specs.Outputs.{output_of}
 use Rattle.goi_tasks.specs.Programs.{IsGround}
+use Rattle.goi_words.specs.declared.jobs.Window.{Window}
 use Rattle.goi_tasks.specs.Replaying.{ReportsReplay, FaultySchedule}
 use Rattle.goi_engine.specs.Verdicts.{OfGround, HasNumber, FaultyEither, ReadFor}
 
@@ -31,19 +32,19 @@ possibly_goes : (told : Option (List ℕ)) (P Q : List ℕ → Type 0) → ((b :
 possibly_goes None P Q k (b, p) = (b, k b p)
 possibly_goes (Some b) P Q k p = k b p
 
-module _ (file moves : List ℕ) (old new : FilesState) where
+module _ (file moves : List ℕ) (window : Option Window) (old new : FilesState) where
   module _ (t : TermTree) (ground : OfFile old file (λ bytes. IsGround bytes t)) where
     has_number : OfFile old file HasNumber
     has_number = (ground.0, possibly_goes (old.told file) (λ b. IsGround b t) HasNumber (λ b g. (t, g, tt)) ground.1)
 
     -- the program's term is t, and the schedule was answered
-    with_term : (a : Answer) → AnswersSchedule t moves old new a → AnswersDeed (with_schedule file moves) old new a
+    with_term : (a : Answer) → AnswersSchedule t window moves old new a → AnswersDeed (with_schedule file moves window) old new a
     with_term (Prints r) (same, of) = (
       same,
       (
         ground.0,
         possibly_goes (old.told file) (λ b. IsGround b t)
-            (λ b. OfGround b (λ u. OfFile old moves (λ text. ReportsReplay u text (output_of r)))) (λ b g. (t, g, of)) ground.1,
+            (λ b. OfGround b (λ u. OfFile old moves (λ text. ReportsReplay u window text (output_of r)))) (λ b g. (t, g, of)) ground.1,
       ),
     )
     with_term (Refused r) (same, (f, of, line)) = (
@@ -69,11 +70,11 @@ module _ (file moves : List ℕ) (old new : FilesState) where
     with_term NoMemory h = h
 
   pub schedule_job : (mid : FilesState) (net : NetTree) (a : Answer) → FilesKept old mid → MadeNet file old mid net →
-      ((t : TermTree) → HasType [] t nat → net ≡ net_of t → AnswersSchedule t moves mid new a) →
-      AnswersDeed (with_schedule file moves) old new a
+      ((t : TermTree) → HasType [] t nat → net ≡ net_of t → AnswersSchedule t window moves mid new a) →
+      AnswersDeed (with_schedule file moves window) old new a
   schedule_job mid net a kept made h =
       with_term made.term made.ground a
-      (subst (λ (s : FilesState). AnswersSchedule made.term moves s new a) (same_state old mid kept made.faults)
+      (subst (λ (s : FilesState). AnswersSchedule made.term window moves s new a) (same_state old mid kept made.faults)
       (h made.term made.typed made.net_is))
 
 -- ---- no file
@@ -87,6 +88,6 @@ pub nothing_read : {S : Type 0} (one : S → Reading → S → Type 0) (told : L
     ReadFor one told asked old old
 nothing_read one told None old = refl
 nothing_read one told (Some (with_text task file)) old = unread one file _ old
-nothing_read one told (Some (with_schedule file moves)) old = record { mid = old; program = unread one file _ old; schedule = inl refl }
+nothing_read one told (Some (with_schedule file moves window)) old = record { mid = old; program = unread one file _ old; schedule = inl refl }
 nothing_read one told (Some (with_list file workers)) old = record { mid = old; list = unread one file _ old; programs = inl refl }
 nothing_read one told (Some (generated n workers)) old = refl

@@ -203,11 +203,11 @@ two_of_three status (inr e) = inr (inr e)
 three_statuses : (d : Deed) (files : FilesState) (o : Output) → Reports d files o → OneOfThree o.status
 three_statuses (with_text task file) files o h =
     two_of_three o.status (some_bytes (files.told file) (λ b. ReportsText task b o) (OneOfTwo o.status) (λ b x. text_status task b o x) h.1)
-three_statuses (with_schedule file moves) files o h =
-    let OfMoves : List ℕ → Type 0 = λ b. OfGround b (λ t. OfFile files moves (λ text. ReportsReplay t text o)) in
+three_statuses (with_schedule file moves window) files o h =
+    let OfMoves : List ℕ → Type 0 = λ b. OfGround b (λ t. OfFile files moves (λ text. ReportsReplay t window text o)) in
     two_of_three o.status (
     some_bytes (files.told file) OfMoves (OneOfTwo o.status)
-    (λ b x. some_bytes (files.told moves) (λ text. ReportsReplay x.0 text o) (OneOfTwo o.status) (λ text y. schedule_status x.0 text o y)
+    (λ b x. some_bytes (files.told moves) (λ text. ReportsReplay x.0 window text o) (OneOfTwo o.status) (λ text y. schedule_status x.0 window text o y)
     x.2.1)
     h.1
     )

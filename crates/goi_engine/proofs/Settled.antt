@@ -126,11 +126,11 @@ module _ (known : Known) (files : FilesState) where
   one_status (with_text task file) o own h k =
       let (b, p, q) = meets (files.told file) (λ b. ReportsText task b o) (λ b. EndsText task b own) h.1 k in
       text_end known task b o own p q
-  one_status (with_schedule file moves) o own h k =
-      let (b, p, q) = meets (files.told file) (λ b. OfGround b (AtMoves moves (λ t text. ReportsReplay t text o)))
+  one_status (with_schedule file moves window) o own h k =
+      let (b, p, q) = meets (files.told file) (λ b. OfGround b (AtMoves moves (λ t text. ReportsReplay t window text o)))
       (λ b. OfGround b (AtTold moves (λ t text. EndsReplay t text own))) h.1 k in
-      let (t, c, r, e) = both_moves b moves (λ t text. ReportsReplay t text o) (λ t text. EndsReplay t text own) p q in
-      replay_end known t c o own r e
+      let (t, c, r, e) = both_moves b moves (λ t text. ReportsReplay t window text o) (λ t text. EndsReplay t text own) p q in
+      replay_end known t window c o own r e
   one_status (with_list file workers) o own h k =
       let (b, p, q) = meets (files.told file) (λ b. OfList b (λ ls. ReportsLines files workers ls o))
       (λ b. OfList b (λ ls. EndLines files workers ls own)) h.1 k in
@@ -145,14 +145,14 @@ module _ (known : Known) (files : FilesState) where
   no_fault (with_text task file) o f h k =
       let (b, p, q) = meets (files.told file) (λ b. ReportsText task b o) (λ b. FaultyFor task b f) h.1 k in
       report_sound known task b o f p q
-  no_fault (with_schedule file moves) o f h (b, e, inl k) =
-      let (b, p, q) = meets (files.told file) (λ b. OfGround b (AtMoves moves (λ t text. ReportsReplay t text o)))
+  no_fault (with_schedule file moves window) o f h (b, e, inl k) =
+      let (b, p, q) = meets (files.told file) (λ b. OfGround b (AtMoves moves (λ t text. ReportsReplay t window text o)))
       (λ b. FaultyText number b f) h.1 (b, e, k) in
       ground_sound known.one_tree known.not_both b p.0 f p.1 q
-  no_fault (with_schedule file moves) o f h (b, e, inr k) =
-      let (b, p, q) = meets (files.told file) (λ b. OfGround b (AtMoves moves (λ t text. ReportsReplay t text o)))
+  no_fault (with_schedule file moves window) o f h (b, e, inr k) =
+      let (b, p, q) = meets (files.told file) (λ b. OfGround b (AtMoves moves (λ t text. ReportsReplay t window text o)))
       (λ b. OfGround b (AtTold moves (λ t text. FaultySchedule t text f))) h.1 (b, e, k) in
-      let (t, c, r, s) = both_moves b moves (λ t text. ReportsReplay t text o) (λ t text. FaultySchedule t text f) p q in
+      let (t, c, r, s) = both_moves b moves (λ t text. ReportsReplay t window text o) (λ t text. FaultySchedule t text f) p q in
       schedule_sound known t c f r.tickets r.state r.schedule r.led s
   no_fault (with_list file workers) o f h k =
       let (b, p, q) = meets (files.told file) (λ b. OfList b (λ ls. ReportsLines files workers ls o)) (λ b. FaultyList b f) h.1 k in
@@ -164,7 +164,7 @@ module _ (known : Known) (files : FilesState) where
   no_refusal (with_text task file) f own h k =
       let (b, p, q) = meets (files.told file) (λ b. FaultyFor task b f) (λ b. EndsText task b own) h.1 k in
       end_sound known task b own f q p
-  no_refusal (with_schedule file moves) f own h k =
+  no_refusal (with_schedule file moves window) f own h k =
       let (b, p, q) = meets (files.told file) (λ b. FaultyEither b (AtMoves moves (λ t text. FaultySchedule t text f)) f)
       (λ b. OfGround b (AtTold moves (λ t text. EndsReplay t text own))) h.1 k in
       ⊎_elim (λ (x : FaultyText number b f). ground_sound known.one_tree known.not_both b q.0 f q.1 x)
@@ -191,7 +191,7 @@ module _ (known : Known) (files : FilesState) where
   same_fault (with_text task file) f g h k =
       let (b, p, q) = meets (files.told file) (λ b. FaultyFor task b f) (λ b. FaultyFor task b g) h.1 k in
       one_fault_for known task b f g p q
-  same_fault (with_schedule file moves) f g h k =
+  same_fault (with_schedule file moves window) f g h k =
       let (b, p, q) = meets (files.told file) (λ b. FaultyEither b (AtMoves moves (λ t text. FaultySchedule t text f)) f)
       (λ b. FaultyEither b (AtTold moves (λ t text. FaultySchedule t text g)) g) h.1 k in
       same_either moves b f g p q
@@ -205,9 +205,9 @@ module _ (known : Known) (files : FilesState) where
   -- a deed with a right output lacked none
   pub had_for_report : (d : Deed) (o : Output) → Reports d files o → SurelyLacks d files → ⊥
   had_for_report (with_text task file) o h l = h.0 l
-  had_for_report (with_schedule file moves) o h (inl l) = h.0 l
-  had_for_report (with_schedule file moves) o h (inr (k, l)) =
-      let (b, p, q) = meets (files.told file) (λ b. OfGround b (AtMoves moves (λ t text. ReportsReplay t text o))) HasNumber h.1 k in
+  had_for_report (with_schedule file moves window) o h (inl l) = h.0 l
+  had_for_report (with_schedule file moves window) o h (inr (k, l)) =
+      let (b, p, q) = meets (files.told file) (λ b. OfGround b (AtMoves moves (λ t text. ReportsReplay t window text o))) HasNumber h.1 k in
       p.2.0 l
   had_for_report (with_list file workers) o h (inl l) = h.0 l
   had_for_report (with_list file workers) o h (inr k) =
@@ -220,8 +220,8 @@ module _ (known : Known) (files : FilesState) where
   -- nor did one that is refused for a fault
   pub had_for_refusal : (d : Deed) (f : Fault) → Refuses d files f → SurelyLacks d files → ⊥
   had_for_refusal (with_text task file) f h l = h.0 l
-  had_for_refusal (with_schedule file moves) f h (inl l) = h.0 l
-  had_for_refusal (with_schedule file moves) f h (inr (k, l)) =
+  had_for_refusal (with_schedule file moves window) f h (inl l) = h.0 l
+  had_for_refusal (with_schedule file moves window) f h (inr (k, l)) =
       let (b, p, q) = meets (files.told file) (λ b. FaultyEither b (AtMoves moves (λ t text. FaultySchedule t text f)) f) HasNumber h.1 k in
       ⊎_elim (λ (x : FaultyText number b f). ground_sound known.one_tree known.not_both b q.0 f q.1 x)
       (λ (x : OfGround b (AtMoves moves (λ t text. FaultySchedule t text f))). x.2.0 l) p
@@ -236,8 +236,8 @@ module _ (known : Known) (files : FilesState) where
     -- a deed that can be done comes to no file that is lacked
     pub can_has : (d : Deed) (own : ℕ) → LacksFor d files → CanDo d files own → ⊥
     can_has (with_text task file) own l (b, e, k) = never_lacked files.told file b (untold file l) e
-    can_has (with_schedule file moves) own (inl l) (b, e, k) = never_lacked files.told file b (untold file l) e
-    can_has (with_schedule file moves) own (inr (h, l)) (b, e, (t, g, (c, told, x))) = never_lacked files.told moves c (untold moves l) told
+    can_has (with_schedule file moves window) own (inl l) (b, e, k) = never_lacked files.told file b (untold file l) e
+    can_has (with_schedule file moves window) own (inr (h, l)) (b, e, (t, g, (c, told, x))) = never_lacked files.told moves c (untold moves l) told
     can_has (with_list file workers) own (inl l) (b, e, k) = never_lacked files.told file b (untold file l) e
     can_has (with_list file workers) own (inr h) k =
         let (b, p, q) = meets (files.told file) (λ b. OfList b (LacksOne files)) (λ b. OfList b (λ ls. EndLines files workers ls own))
@@ -249,11 +249,11 @@ module _ (known : Known) (files : FilesState) where
     -- nor does one that is refused for a fault which the files tell
     pub faulty_has : (d : Deed) (f : Fault) → LacksFor d files → Faulty d files f → ⊥
     faulty_has (with_text task file) f l (b, e, k) = never_lacked files.told file b (untold file l) e
-    faulty_has (with_schedule file moves) f (inl l) (b, e, k) = never_lacked files.told file b (untold file l) e
-    faulty_has (with_schedule file moves) f (inr (h, l)) (b, e, inl k) =
+    faulty_has (with_schedule file moves window) f (inl l) (b, e, k) = never_lacked files.told file b (untold file l) e
+    faulty_has (with_schedule file moves window) f (inr (h, l)) (b, e, inl k) =
         let (c, p, q) = meets (files.told file) HasNumber (λ b. FaultyText number b f) h.1 (b, e, k) in
         ground_sound known.one_tree known.not_both c p.0 f p.1 q
-    faulty_has (with_schedule file moves) f (inr (h, l)) (b, e, inr (t, g, (c, told, x))) =
+    faulty_has (with_schedule file moves window) f (inr (h, l)) (b, e, inr (t, g, (c, told, x))) =
         never_lacked files.told moves c (untold moves l) told
     faulty_has (with_list file workers) f (inl l) (b, e, k) = never_lacked files.told file b (untold file l) e
     faulty_has (with_list file workers) f (inr h) k =

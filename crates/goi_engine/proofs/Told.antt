@@ -20,7 +20,7 @@ use Rattle.schedule_log.specs.declared.fault.ScheduleFault.TheVariants as schedu
 use Rattle.schedule_log.specs.Schedules.{HasFault, ReadAs}
 use Rattle.goi_tasks.specs.declared.fault.Fault.{Fault}
 use Rattle.goi_tasks.specs.declared.task.Task.{Task}
-use Rattle.goi_tasks.specs.declared.task.Task.TheVariants.{Run, Check, ShowNet, RunNet}
+use Rattle.goi_tasks.specs.declared.task.Task.TheVariants.{Run, Check, ShowNet, RunNet, Trace}
 use Rattle.goi_engine.specs.declared.answer.Answer.{Answer}
 use Rattle.goi_engine.specs.declared.answer.Answer.TheVariants.{Prints, Refused, BadWords, NotRead, NoMemory}
 use Rattle.goi_engine.specs.Answers.{Says, AnswersFile, AnswersNoNet, MadeNet}
@@ -29,6 +29,7 @@ use Rattle.goi_engine.specs.FilesSeen.{Possibly}
 use Rattle.goi_tasks.specs.NetFiles.{FaultyListing, unlisted}
 use Rattle.goi_tasks.specs.Outputs.{Output, output_of}
 use Rattle.goi_tasks.specs.Programs.{Wanted, any_type, number, IsProgram, IsGround, FaultyText, unread, of_tree, IsNet}
+use Rattle.goi_words.specs.declared.jobs.Window.{Window}
 use Rattle.goi_tasks.specs.Replaying.{ReportsReplay, FaultySchedule, unread as no_schedule, unmoved}
 use Rattle.goi_tasks.specs.Tasks.{wanted_by_run, OfProgram, most_bytes, ReportsText, FaultyFor}
 
@@ -136,6 +137,7 @@ fault_goes (Run workers budget schedule tally by_value progress) f v bytes s h =
 fault_goes (Check term) f v bytes s h = faulty_goes any_type f v bytes s h
 fault_goes ShowNet f v bytes s h = faulty_goes number f v bytes s h
 fault_goes (RunNet workers budget schedule tally) f v bytes s h = listing_goes f v bytes s h
+fault_goes (Trace workers budget by_value window) f v bytes s h = faulty_goes (wanted_by_run by_value) f v bytes s h
 
 pub report_goes : (task : Task) (o : Output) (v bytes : List ℕ) → Same (most_bytes task) v bytes → ReportsText task v o →
     ReportsText task bytes o
@@ -144,6 +146,7 @@ report_goes (Check term) o v bytes s h = of_program_goes any_type _ v bytes s h
 report_goes ShowNet o v bytes s h = of_program_goes number _ v bytes s h
 report_goes (RunNet workers budget schedule tally) o v bytes s h =
     record { term = h.term; lists = lists_goes h.term v bytes s h.lists; so = h.so }
+report_goes (Trace workers budget by_value window) o v bytes s h = of_program_goes (wanted_by_run by_value) _ v bytes s h
 
 pub ground_goes : (t : TermTree) (v bytes : List ℕ) → Same most_program_bytes v bytes → IsGround v t → IsGround bytes t
 ground_goes t v bytes s (tree, h) = (tree, program_goes number tree t nat v bytes s h)
@@ -168,9 +171,9 @@ schedule_goes : (r : Result (List ℕ) ScheduleFault) (v text : List ℕ) → Sa
 schedule_goes r v text (inl e) h = subst (λ (b : List ℕ). ReadAs b r) e h
 schedule_goes r v text (inr n) h = much_too_long v text r n.0 n.1 h
 
-pub replay_goes : (t : TermTree) (o : Output) (v text : List ℕ) → Same most_schedule_bytes v text → ReportsReplay t v o →
-    ReportsReplay t text o
-replay_goes t o v text s h = record {
+pub replay_goes : (t : TermTree) (window : Option Window) (o : Output) (v text : List ℕ) → Same most_schedule_bytes v text → ReportsReplay t window v o →
+    ReportsReplay t window text o
+replay_goes t window o v text s h = record {
   tickets = h.tickets;
   schedule = schedule_goes (Ok h.tickets) v text s h.schedule;
   state = h.state;

@@ -13,6 +13,7 @@ use Rattle.goi_tasks.specs.declared.task.Task.{Task}
 use Rattle.goi_tasks.specs.Outputs.{Output, output_of}
 use Rattle.goi_tasks.specs.Programs.{number, IsGround, FaultyText}
 use Rattle.goi_tasks.specs.Refusals.{TellsFault}
+use Rattle.goi_words.specs.declared.jobs.Window.{Window}
 use Rattle.goi_tasks.specs.Replaying.{ReportsReplay, FaultySchedule}
 use Rattle.goi_tasks.specs.Tasks.{ReportsText, FaultyFor}
 use Rattle.batch_lists.specs.declared.fault.BatchFault.{BatchFault}
@@ -59,8 +60,8 @@ abbrev pub AnswersTask : Task → List ℕ → FilesState → FilesState → Ans
 AnswersTask task file old new a = AnswersFile (ReportsText task) (FaultyFor task) file old new a
 
 -- the answer to a schedule's file on the net of a term
-abbrev pub AnswersSchedule : TermTree → List ℕ → FilesState → FilesState → Answer → Type 0
-AnswersSchedule t file old new a = AnswersFile (ReportsReplay t) (FaultySchedule t) file old new a
+abbrev pub AnswersSchedule : TermTree → Option Window → List ℕ → FilesState → FilesState → Answer → Type 0
+AnswersSchedule t window file old new a = AnswersFile (ReportsReplay t window) (FaultySchedule t) file old new a
 
 -- the net of the program of a file was made
 pub record MadeNet (file : List ℕ) (old new : FilesState) (net : NetTree) : Type 0 where

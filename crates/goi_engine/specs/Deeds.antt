@@ -1,15 +1,16 @@
 -- What a job does with files: a task with the text of one, a schedule on the net of a program, the programs of a list, or a run
 -- that needs no file.
 use Rattle.std.specs.Prelude.{ℕ, List, Option, None, Some}
-use Rattle.goi_words.specs.Jobs.{JobTree, run, check, show_net, replay, demo, run_net, batch}
+use Rattle.goi_words.specs.Jobs.{JobTree, run, check, show_net, replay, demo, run_net, batch, trace}
+use Rattle.goi_words.specs.declared.jobs.Window.{Window}
 use Rattle.goi_tasks.specs.declared.task.Task.{Task}
-use Rattle.goi_tasks.specs.declared.task.Task.TheVariants.{Run, Check, ShowNet, RunNet}
+use Rattle.goi_tasks.specs.declared.task.Task.TheVariants.{Run, Check, ShowNet, RunNet, Trace}
 
 pub data Deed : Type 0 where
   -- a task with the text of this file
   with_text : Task → List ℕ → Deed
-  -- the schedule of the second file, run on the net of the program of the first
-  with_schedule : List ℕ → List ℕ → Deed
+  -- the schedule of the second file, run on the net of the program of the first, with this part of its trace where it is asked for
+  with_schedule : List ℕ → List ℕ → Option Window → Deed
   -- the run of the programs that this file lists, with so many workers
   with_list : List ℕ → ℕ → Deed
   -- the run of the program that is generated for a number, with so many workers
@@ -20,10 +21,11 @@ abbrev pub deed_of : JobTree → Deed
 deed_of (run file workers budget schedule tally by_value progress) = with_text (Run workers budget schedule tally by_value progress) file
 deed_of (check file term) = with_text (Check term) file
 deed_of (show_net file) = with_text ShowNet file
-deed_of (replay file moves) = with_schedule file moves
+deed_of (replay file moves window) = with_schedule file moves window
 deed_of (demo n workers) = generated n workers
 deed_of (run_net file workers budget schedule tally) = with_text (RunNet workers budget schedule tally) file
 deed_of (batch file workers) = with_list file workers
+deed_of (trace file workers budget by_value window) = with_text (Trace workers budget by_value window) file
 
 -- the deed of the job that was asked for, if one was
 abbrev pub deed : Option JobTree → Option Deed

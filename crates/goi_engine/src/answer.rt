@@ -26,7 +26,7 @@ use goi_tasks::{
     Refusal, Report, Stop, Task, most_bytes, net_of_text, refuse, report_demo, report_replay,
     report_text,
 };
-use goi_words::{Job, WordFault, job_of};
+use goi_words::{Job, Window, WordFault, job_of};
 use goi_world::Files;
 use net_build::Net;
 use pcf_values::limits::{PROGRAM_BYTES, SCHEDULE_BYTES};
@@ -118,12 +118,11 @@ fn answer_job<R: Threads + Wait + Sync, F: Files, G: Gate>(
             gate,
         ),
         Job::ShowNet { file } => answer_task(rt, alloc, files, file.as_str(), Task::ShowNet, gate),
-        Job::Replay { file, schedule } => answer_replay(
-            alloc,
-            files,
-            file.as_str(),
-            schedule.as_str(),
-        ),
+        Job::Replay {
+            file,
+            schedule,
+            window,
+        } => answer_replay(alloc, files, file.as_str(), schedule.as_str(), *window),
         Job::Batch { file, workers } => answer_batch(
             rt,
             alloc,
@@ -149,6 +148,25 @@ fn answer_job<R: Threads + Wait + Sync, F: Files, G: Gate>(
                 budget: *budget,
                 schedule: *schedule,
                 tally: *tally,
+            },
+            gate,
+        ),
+        Job::Trace {
+            file,
+            workers,
+            budget,
+            by_value: strictly,
+            window,
+        } => answer_task(
+            rt,
+            alloc,
+            files,
+            file.as_str(),
+            Task::Trace {
+                workers: *workers,
+                budget: *budget,
+                by_value: *strictly,
+                window: *window,
             },
             gate,
         ),
@@ -217,15 +235,21 @@ fn answer_text<R: Threads + Wait + Sync, G: Gate>(
 }
 
 /// The answer to a schedule on the net of a program.
-fn answer_replay<F: Files>(alloc: Global, files: &mut F, file: &str, schedule: &str) -> Answer
+fn answer_replay<F: Files>(
+    alloc: Global,
+    files: &mut F,
+    file: &str,
+    schedule: &str,
+    window: Option<Window>,
+) -> Answer
     ensures kept { FilesKept (F.seen files.old) (F.seen files.new) }
-    ensures answers { AnswersDeed (with_schedule file.now schedule.now) (F.seen files.old) (F.seen files.new) result }
+    ensures answers { AnswersDeed (with_schedule file.now schedule.now window) (F.seen files.old) (F.seen files.new) result }
     ensures reads { LoadedBoth F.reads file.now schedule.now files.old files.new }
 {
     law_never_stuck();
     match load_net(alloc, files, file) {
         Ok(net) => {
-            let answer = answer_schedule(alloc, files, schedule, &net);
+            let answer = answer_schedule(alloc, files, schedule, &net, window);
             drop(net);
             answer
         }
@@ -258,26 +282,32 @@ fn make_net(alloc: Global, bytes: &[u8]) -> Result<Net, Answer>
 }
 
 /// The answer to the schedule of a file, on the net of a program.
-fn answer_schedule<F: Files>(alloc: Global, files: &mut F, file: &str, net: &Net) -> Answer
+fn answer_schedule<F: Files>(
+    alloc: Global,
+    files: &mut F,
+    file: &str,
+    net: &Net,
+    window: Option<Window>,
+) -> Answer
     requires { Runs net.now }
     ensures kept { FilesKept (F.seen files.old) (F.seen files.new) }
     ensures answers { (t : TermTree) → HasType [] t nat → net.now ≡ net_of t →
-        AnswersSchedule t file.now (F.seen files.old) (F.seen files.new) result }
+        AnswersSchedule t window file.now (F.seen files.old) (F.seen files.new) result }
     ensures reads { LoadedBy F.reads file.now most_schedule_bytes files.old files.new }
 {
     match load(alloc, files, file, SCHEDULE_BYTES as u32) {
-        Ok(bytes) => answer_moves(alloc, &bytes, net),
+        Ok(bytes) => answer_moves(alloc, &bytes, net, window),
         Err(error) => not_loaded(error),
     }
 }
 
 /// The answer to the text of a schedule, on the net of a program.
-fn answer_moves(alloc: Global, bytes: &[u8], net: &Net) -> Answer
+fn answer_moves(alloc: Global, bytes: &[u8], net: &Net, window: Option<Window>) -> Answer
     requires { Runs net.now }
     ensures { (t : TermTree) → HasType [] t nat → net.now ≡ net_of t →
-        Says (ReportsReplay t bytes.now) (FaultySchedule t bytes.now) result }
+        Says (ReportsReplay t window bytes.now) (FaultySchedule t bytes.now) result }
 {
-    match report_replay(alloc, net, bytes) {
+    match report_replay(alloc, net, bytes, window) {
         Ok(report) => Answer::Prints(report),
         Err(stop) => stopped(alloc, stop),
     }
