@@ -4,7 +4,8 @@ const byId = id => document.getElementById(id);
 
 // What the page's own tables show behind so many moves, for each of a list.
 function shownStates(places) {
-  const cells = row => [...row.children].map(cell => cell.textContent);
+  // A long stack is cut, and its cell has the whole of it as its title.
+  const cells = row => [...row.children].map(cell => cell.title || cell.textContent);
   const rows = id => [...document.querySelectorAll(`#${id} tr`)].filter(row => row.children.length > 1).map(cells);
   return places.map(at => {
     walk.show(at);
@@ -151,6 +152,30 @@ function layoutFaults() {
     if (around.length !== depth) faults.push(`frames of node ${id}`);
   }
   return faults;
+}
+
+// Of a question and its answer each leads to the other: the moves at which that doesn't hold, and how many were tried.
+function otherEnds() {
+  const wrong = [];
+  let count = 0;
+  for (let at = 1; at <= walk.view.run.length; at++) {
+    walk.show(at);
+    if (byId("other").disabled) continue;
+    count++;
+    walk.goOther();
+    const there = walk.view.run.state.at;
+    walk.goOther();
+    if (there === at || walk.view.run.state.at !== at) wrong.push(at);
+  }
+  return [wrong, count];
+}
+
+// Nodes that the window shows and that aren't in the picture, and whether they are drawn in rough.
+function missingNodes() {
+  const { left, right, top, bottom } = walk.shownRange();
+  const drawn = new Set([...document.querySelectorAll("#picture .node")].map(it => Number(it.dataset.node)));
+  const inside = ({ x, y }) => x >= left && x <= right && y >= top && y <= bottom;
+  return [walk.view.layout.places.filter((place, id) => inside(place) && !drawn.has(id)).length, !byId("rough").hidden];
 }
 
 // Whether the page offers to exchange the two moves behind each of these places.

@@ -59,7 +59,10 @@ function nearThings(point, width) {
   const things = [];
   const near = (x, y, far) => Math.abs(x - point.x) < width + 160 && Math.abs(y - point.y) < far;
   const add = (left, top, right, bottom, weight) => things.push({ left, top, right, bottom, weight });
-  for (const { x, y, width: wide } of view.layout.places) if (near(x, y, 160)) add(x - wide / 2, y - 13, x + wide / 2, y + 13, 4);
+  for (const id of drawing.nodes.keys()) {
+    const { x, y, width: wide } = view.layout.places[id];
+    if (near(x, y, 160)) add(x - wide / 2, y - 13, x + wide / 2, y + 13, 4);
+  }
   let count = 0;
   for (const token of view.run.state.live.values()) {
     if (++count > 400) break;
@@ -67,7 +70,8 @@ function nearThings(point, width) {
     add(x - 17, y - 22, x + 17, y + 22, 5);
   }
   const text = view.types ? 90 : 14;
-  for (const points of view.layout.points) {
+  for (const id of drawing.wires.keys()) {
+    const points = view.layout.points[id];
     if (near(points[0][0], points[0][1], 200)) add(points[0][0] - text, points[0][1] + 4, points[0][0] + text, points[0][1] + 24, 0.5);
     for (let at = 1; at < points.length; at++) {
       const [fromX, fromY] = points[at - 1];

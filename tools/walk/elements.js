@@ -20,6 +20,10 @@ function element(tag, attributes = {}, ...children) {
   return filled(document.createElement(tag), attributes, children);
 }
 
+// The beginning of a text that would be cut anyway: laying out a stack of ten thousand letters takes longer than all the rest.
+const BRIEF = 60;
+const brief = text => text.length > BRIEF ? text.slice(0, BRIEF) + "…" : text;
+
 // The value of one of the style sheet's variables, in the theme that is shown.
 const styleValue = name => getComputedStyle(document.documentElement).getPropertyValue(name).trim();
 

@@ -155,10 +155,13 @@ function joinHands() {
     event.preventDefault();
     openFiles([...event.dataTransfer.files]);
   });
+  addEventListener("beforeprint", beginSheet);
+  addEventListener("afterprint", endSheet);
   addEventListener("hashchange", () => { if (view.run) goToAddress(); });
   new ResizeObserver(() => {
     if (!view.run) return;
     forgetStrip();
+    forgetMap();
     drawStrip();
     drawLog();
     if (!camera.moved) showHome(); else applyCamera();

@@ -24,7 +24,7 @@ function logLine(at) {
   const ticket = element("b", {}, "t" + move.ticket);
   ticket.style.color = colourOf(move.ticket, move.worker);
   const line = element("div", { class: "line" + when, title: run.trace.lines[at], "data-at": at },
-    element("span", { class: "count" }, String(move.number)), ticket, ` ${move.name} ${move.node}  ${logEnd(move)}`);
+    element("span", { class: "count" }, String(move.number)), ticket, ` ${move.name} ${move.node}  ${brief(logEnd(move))}`);
   line.style.top = at * LOG_LINE + "px";
   return line;
 }

@@ -1,6 +1,6 @@
 // The whole net in small, with all tokens and what the picture shows, where the picture shows only a part.
 
-const MAP = { width: 210, height: 130, rim: 4, tokens: 400 };
+const MAP = { width: 210, height: 130, narrow: 0.7, rim: 4, tokens: 400 };
 let mapGround = null;
 
 function forgetMap() { mapGround = null; }
@@ -9,9 +9,11 @@ function mapMeasure() {
   const { left, right, top, bottom } = view.layout.bounds;
   const width = right - left;
   const height = bottom - top;
-  const least = Math.min(MAP.width / width, MAP.height / height);
-  const byX = Math.max(least, Math.min(MAP.width / width, 1));
-  const byY = Math.max(least, Math.min(MAP.height / height, 60 / height));
+  const share = innerWidth > 1000 ? 1 : MAP.narrow;
+  const [most, tall] = [MAP.width * share, MAP.height * share];
+  const least = Math.min(most / width, tall / height);
+  const byX = Math.max(least, Math.min(most / width, 1));
+  const byY = Math.max(least, Math.min(tall / height, 60 / height));
   return {
     byX, byY, width: Math.ceil(width * byX + 2 * MAP.rim), height: Math.ceil(height * byY + 2 * MAP.rim),
     x: place => (place - left) * byX + MAP.rim, y: place => (place - top) * byY + MAP.rim,

@@ -74,7 +74,7 @@ function stackCells(before, after) {
   const now = stackParts(after);
   let same = 0;
   while (same < old.length && same < now.length && old[old.length - 1 - same] === now[now.length - 1 - same]) same++;
-  const cell = (kind, note) => part => element("div", { class: kind, title: note + part }, part);
+  const cell = (kind, note) => part => element("div", { class: kind, title: note + part }, brief(part));
   const rest = now.slice(now.length - same);
   const cells = element("div", { class: "cells" }, ...old.slice(0, old.length - same).map(cell("cell gone", "came off: ")),
     ...now.slice(0, now.length - same).map(cell("cell new", "new: ")), ...rest.slice(0, CELLS_SHOWN).map(cell("cell", "")));
@@ -92,11 +92,10 @@ function tellTables() {
   const wanted = onlyWire === null ? all : all.filter(([, token]) => token.wire === onlyWire);
   byId("live-count").textContent = onlyWire === null ? all.length : wanted.length + " of " + all.length + ", on wire " + onlyWire;
   byId("live-all").hidden = onlyWire === null;
-  byId("live").replaceChildren(...firstRows(wanted, mover).map(([ticket, token]) => liveRow(ticket, token, ticket === mover)));
-  tellCut(byId("live"), wanted.length);
+  const liveRows = firstRows(wanted, mover).map(([ticket, token]) => liveRow(ticket, token, ticket === mover));
+  keepRows(byId("live"), [...liveRows, ...cutRow(wanted.length, 5)]);
   byId("open-count").textContent = state.open.size;
-  byId("open").replaceChildren(...[...state.open.values()].slice(-ROWS_SHOWN).reverse().map(openRow));
-  tellCut(byId("open"), state.open.size);
+  keepRows(byId("open"), [...[...state.open.values()].slice(-ROWS_SHOWN).reverse().map(openRow), ...cutRow(state.open.size, 4)]);
   byId("none-open").hidden = state.open.size > 0;
   byId("answer").textContent = answerText();
 }
@@ -108,14 +107,40 @@ function firstRows(rows, ticket) {
   return mover && !shown.includes(mover) ? [mover, ...shown] : shown;
 }
 
-function tellCut(table, count) {
-  if (count <= ROWS_SHOWN) return;
-  table.append(element("tr", {}, element("td", { colspan: 5, class: "empty" }, `and ${count - ROWS_SHOWN} more`)));
+// Puts rows {key, looks, make} into a table. Rows that look the same stay, since laying out a table takes the most of a jump.
+function keepRows(table, rows) {
+  const keys = new Set(rows.map(row => row.key));
+  const known = new Map();
+  for (const child of [...table.children]) if (keys.has(child.key)) known.set(child.key, child); else child.remove();
+  let place = table.firstElementChild;
+  for (const { key, looks, make } of rows) {
+    let row = known.get(key);
+    if (!row || row.looks !== looks) {
+      const made = Object.assign(make(), { key, looks });
+      if (row) row.replaceWith(made);
+      if (row && row === place) place = made;
+      row = made;
+    }
+    if (row === place) place = place.nextElementSibling; else table.insertBefore(row, place);
+  }
+}
+
+// The row that says how many are left out.
+function cutRow(count, columns) {
+  if (count <= ROWS_SHOWN) return [];
+  const text = `and ${count - ROWS_SHOWN} more`;
+  return [{ key: "more", looks: text, make: () => element("tr", {}, element("td", { colspan: columns, class: "empty" }, text)) }];
 }
 
 function liveRow(ticket, token, moved) {
-  const code = text => element("td", { class: "code", title: text }, text);
-  const button = ticketButton(ticket, view.run.lastWorkerOf(ticket), String(ticket));
+  const worker = view.run.lastWorkerOf(ticket);
+  const looks = [token.value, token.direction, token.wire, token.work, token.boxes, colourOf(ticket, worker), moved].join(" ");
+  return { key: String(ticket), looks, make: () => makeLiveRow(ticket, token, moved, worker) };
+}
+
+function makeLiveRow(ticket, token, moved, worker) {
+  const code = text => element("td", { class: "code", title: text }, brief(text));
+  const button = ticketButton(ticket, worker, String(ticket));
   const does = token.value === "?" ? "asks" : "= " + token.value;
   const where = token.wire + (token.direction === "up" ? " ↑" : " ↓");
   return element("tr", moved ? { class: "now" } : {}, element("td", {}, button), element("td", {}, does), element("td", {}, where),
@@ -123,8 +148,11 @@ function liveRow(ticket, token, moved) {
 }
 
 function openRow({ node, boxes, left, right }) {
-  return element("tr", {}, element("td", {}, view.net.nodes[node].name + " " + node), element("td", { class: "code", title: boxes }, boxes),
-    element("td", {}, left === null ? "waits" : left), element("td", {}, right === null ? "waits" : right));
+  const name = view.net.nodes[node].name + " " + node;
+  const sides = [left, right].map(side => side === null ? "waits" : side);
+  const make = () => element("tr", {}, element("td", {}, name), element("td", { class: "code", title: boxes }, brief(boxes)),
+    ...sides.map(side => element("td", {}, side)));
+  return { key: name + " " + boxes, looks: sides.join(" "), make };
 }
 
 function answerText() {

@@ -5,9 +5,10 @@ const SPEEDS = [0.25, 0.5, 1, 2, 4, 10, 50, 500];
 const MOVE_TIME = 620;
 const wantsStillness = matchMedia("(prefers-reduced-motion: reduce)");
 
-// Shows the state behind so many lines of the trace.
-function show(at, quiet = false) {
+// Shows the state behind so many lines of the trace, and looks at a token.
+function show(at, quiet = false, chosen = null) {
   endMotion();
+  view.chosen = chosen;
   view.run.go(at);
   drawState();
   tellState(quiet);
@@ -80,6 +81,7 @@ function step(then = () => {}) {
     then();
   };
   const finish = () => {
+    view.chosen = null;
     for (const { glyph } of glyphsMoved) glyph.group.style.opacity = 1;
     run.go(at + 1);
     drawState();
@@ -213,7 +215,7 @@ function nextOf(list, wanted, direction) {
   }
 }
 
-// From a question to its answer and back: the place on the same wire with the same stacks, the other way round.
+// From a question to its answer and back: the place on the same wire with the same stacks, the other way round. {at, chosen} or null.
 function otherEnd() {
   const { run } = view;
   const shown = shownToken();
@@ -222,18 +224,23 @@ function otherEnd() {
   const same = other => other && other.wire === token.wire && other.work === token.work && other.boxes === token.boxes &&
     other.direction !== token.direction && (other.value === "?") !== (token.value === "?");
   if (token.value === "?") {
-    for (let at = run.state.at; at < run.length; at++) if (same(run.move(at).after)) return at + 1;
+    for (let at = run.state.at; at < run.length; at++) if (same(run.move(at).after)) return { at: at + 1, chosen: null };
     return null;
   }
-  for (let at = run.state.at - 2; at >= 0; at--) if (same(run.move(at).after) || same(run.move(at).after2)) return at + 1;
-  return run.first === 0 && run.trace.live.some(({ words }) => same(tokenOf(words, 2))) ? 0 : null;
+  for (let at = run.state.at - 2; at >= 0; at--) {
+    const move = run.move(at);
+    if (same(move.after)) return { at: at + 1, chosen: null };
+    if (same(move.after2)) return { at: at + 1, chosen: move.ticket2 };
+  }
+  const first = run.trace.live.find(({ words }) => same(tokenOf(words, 2)));
+  return first ? { at: 0, chosen: Number(first.words[1]) } : null;
 }
 
 function goOther() {
   const found = otherEnd();
   pause();
   if (found === null) byId("announce").textContent = "The other end isn't in this trace, or the stacks are cut, so that it can't be told.";
-  else show(found);
+  else show(found.at, false, found.chosen);
 }
 
 function tellOther() {

@@ -9,11 +9,9 @@ function saveFile(name, type, text) {
 // The whole net at this moment as SVG that stands alone.
 function pictureText() {
   const { run, layout } = view;
-  const copy = byId("picture").cloneNode(true);
+  const copy = wholePicture();
   const { left, right, top, bottom } = layout.bounds;
   const [width, height] = [right - left + 100, bottom - top + 100];
-  copy.firstChild.removeAttribute("transform");
-  for (const name of ["id", "class", "tabindex"]) copy.removeAttribute(name);
   copy.setAttribute("viewBox", [left - 50, top - 30, width, height].map(Math.round).join(" "));
   copy.setAttribute("width", Math.round(width));
   copy.setAttribute("height", Math.round(height));
@@ -24,6 +22,23 @@ function pictureText() {
     shape("rect", { x: left - 50, y: top - 30, width, height, style: "fill:var(--bg)" }));
   copy.append(shape("text", { x: left - 40, y: bottom + 50, style: "font-size:13px;fill:var(--ink)" }, when + last));
   return new XMLSerializer().serializeToString(copy) + "\n";
+}
+
+// The net drawn whole, with the tokens and what else changes with the moves as the window has them.
+function wholePicture() {
+  const { net, layout } = view;
+  const { trail, entries, piles, card, tokens } = drawing.layers;
+  const groupOf = (list, draw) => {
+    const group = shape("g");
+    for (const it of list) group.append(draw(it));
+    return group;
+  };
+  const nodes = groupOf(net.nodes, node => drawNode(node, layout.places[node.id]));
+  if (markedNode !== null) nodes.children[markedNode].classList.add("at");
+  const labels = groupOf(net.wires, wire => drawLabel(wire, drawing.labelPlaces[wire.id]));
+  const changing = [entries, piles, card, tokens].map(layer => layer.cloneNode(true));
+  return shape("svg", { role: "img", "aria-label": byId("picture").getAttribute("aria-label") },
+    groupOf(layout.frames, drawFrame), groupOf(net.wires, drawWire), trail.cloneNode(true), labels, nodes, ...changing);
 }
 
 // The colours of the theme that is shown, and the rules of what a picture has.

@@ -17,10 +17,10 @@ function forgetTokens() {
 }
 
 function wireLength(wire) {
-  if (!wireLengths.has(wire)) wireLengths.set(wire, drawing.paths[wire].getTotalLength());
+  if (!wireLengths.has(wire)) wireLengths.set(wire, pathOf(wire).getTotalLength());
   return wireLengths.get(wire);
 }
-const pointOn = (wire, distance) => drawing.paths[wire].getPointAtLength(distance);
+const pointOn = (wire, distance) => pathOf(wire).getPointAtLength(distance);
 
 // How far along its wire a token waits: near the node that it faces.
 function restDistance({ wire, direction }) {

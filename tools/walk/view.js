@@ -13,6 +13,8 @@ const view = {
   follow: true,
   card: true,
   colourBy: "ticket",
+  // The ticket whose token is looked at where it isn't the one that moved last, or null.
+  chosen: null,
   // The wire whose tokens alone are listed, or null.
   onlyWire: null,
 };
@@ -24,11 +26,14 @@ const colourOf = (ticket, worker) => "var(--k" + colourNumber(ticket, worker) + 
 // The colour of a live token in the state that is shown.
 const tokenColour = ticket => colourOf(ticket, view.colourBy === "worker" ? view.run.lastWorkerOf(ticket) : 0);
 
-// The token that moved last with its ticket; the first live one at the start; null where none is left.
+// The token that is looked at, with its ticket: the chosen one, or the one that moved last; the first live one at the start; null where
+// none is left.
 function shownToken() {
+  const { live } = view.run.state;
+  if (live.has(view.chosen)) return { ticket: view.chosen, token: live.get(view.chosen) };
   const move = view.run.lastMove();
   if (move) return move.after ? { ticket: move.ticket, token: move.after } : null;
-  const first = view.run.state.live.entries().next();
+  const first = live.entries().next();
   return first.done ? null : { ticket: first.value[0], token: first.value[1] };
 }
 

@@ -1,0 +1,23 @@
+// The printed sheet: light, with the whole net where the window doesn't show a part of a large one.
+
+let themeBefore = null;
+
+function beginSheet() {
+  if (!view.run) return;
+  endMotion();
+  themeBefore = document.documentElement.dataset.theme || "";
+  document.documentElement.dataset.theme = "light";
+  byId("when").textContent = `after ${movesMade()} of ${view.run.trace.moves} moves`;
+  const whole = drawing.range === null;
+  const { left, right, top, bottom } = whole ? view.layout.bounds : shownRange();
+  byId("picture").setAttribute("viewBox", [left - 20, top - 20, right - left + 40, bottom - top + 40].map(Math.round).join(" "));
+  drawing.root.removeAttribute("transform");
+}
+
+function endSheet() {
+  if (!view.run || themeBefore === null) return;
+  if (themeBefore === "") delete document.documentElement.dataset.theme; else document.documentElement.dataset.theme = themeBefore;
+  themeBefore = null;
+  byId("picture").removeAttribute("viewBox");
+  applyCamera();
+}
