@@ -89,7 +89,8 @@ const groundOfSign = text => getComputedStyle(text.closest("g").querySelector("r
 
 // Controls without a name, and things that the keyboard can reach.
 function nameless() {
-  const nameOf = it => it.getAttribute("aria-label") || it.textContent.trim() || (it.labels && it.labels[0] ? it.labels[0].textContent : "");
+  const labelOf = it => it.labels && it.labels[0] ? it.labels[0].textContent : "";
+  const nameOf = it => it.getAttribute("aria-label") || it.textContent.trim() || labelOf(it);
   const all = [...document.querySelectorAll("button, input, select, summary, dialog, [role]:not([role=alert]), [tabindex]")];
   return all.filter(it => !nameOf(it).trim()).map(it => it.outerHTML.slice(0, 80));
 }
@@ -130,7 +131,8 @@ function metTexts() {
 function layoutFaults() {
   const { net, layout } = walk.view;
   const faults = [];
-  const boxes = layout.places.map(({ x, y, width }, id) => ({ id, left: x - width / 2, right: x + width / 2, top: y - 13, bottom: y + 13 }));
+  const boxOf = ({ x, y, width }, id) => ({ id, left: x - width / 2, right: x + width / 2, top: y - 13, bottom: y + 13 });
+  const boxes = layout.places.map(boxOf);
   boxes.sort((one, two) => one.left - two.left);
   boxes.forEach((one, at) => {
     for (let next = at + 1; next < boxes.length && boxes[next].left < one.right; next++) {

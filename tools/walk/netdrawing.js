@@ -119,13 +119,15 @@ function drawWire(wire) {
 }
 
 function drawLabel(wire, { x, y, anchor }) {
-  return shape("text", { class: view.types ? "label typed" : "label", x, y, "text-anchor": anchor }, wireText(wire, view.types));
+  const label = shape("text", { class: view.types ? "label typed" : "label", x, y, "text-anchor": anchor }, wireText(wire, view.types));
+  makeRoom(label, wire.id);
+  return label;
 }
 
 function drawNode(node, { x, y, width }) {
   const kind = ROUND_NODES.has(node.name) ? "node round" : node.name === "Const" ? "node number" : "node";
   const text = shape("text", { y: 4.5 }, signOf(node), shape("tspan", { class: "id", dx: 3 }, String(node.id)));
-  const title = `node ${node.id}: ${node.name}, ${TITLES[node.name]}. Press to go to the next move here.`;
+  const title = `node ${node.id}: ${node.name}, ${TITLES[node.name]}`;
   const radius = ROUND_NODES.has(node.name) ? 13 : 6;
   const box = shape("rect", { x: -width / 2, y: -SIZES.nodeHeight / 2, width, height: SIZES.nodeHeight, rx: radius });
   return shape("g", { class: kind, transform: `translate(${x} ${y})`, "data-node": node.id }, box, text, shape("title", {}, title));

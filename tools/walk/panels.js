@@ -172,7 +172,7 @@ function tellSwap() {
   const [one, two] = [run.move(run.state.at), run.move(run.state.at + 1)];
   const moves = `Moves ${one.number} and ${two.number} are of tickets ${one.ticket} and ${two.ticket}.`;
   byId("swap-say").textContent = moves + " They can be exchanged.";
-  byId("swap-command").textContent = `goi replay ${shellWord(view.file)} ${swapName()} --trace`;
+  byId("swap-command").textContent = `./goi replay ${shellWord(view.file)} ${swapName()} --trace`;
 }
 
 const fileStem = () => view.name.replace(/\.[^.]*$/, "").replace(/[^\w-]+/g, "-") || "walk";

@@ -39,7 +39,8 @@ function tellState(quiet) {
   if (document.activeElement !== byId("now") || !playing.on) byId("now").value = movesMade();
   const rule = move ? ruleOf(move) : null;
   const text = move ? `Move ${move.number}, ticket ${move.ticket}. ${rule.title}. ${rule.say}` : "The run begins.";
-  byId("picture").setAttribute("aria-label", `A net with ${run.state.live.size} live tokens. ${text}`);
+  const count = run.state.live.size;
+  byId("picture").setAttribute("aria-label", `A net with ${count} live ${count === 1 ? "token" : "tokens"}. ${text}`);
   if (!quiet) byId("announce").textContent = text;
   if (!playing.on) rememberPlace();
 }

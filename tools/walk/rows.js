@@ -83,7 +83,7 @@ const ROWS = [
 const OPERATORS = { Plus: ["+", "sum"], Minus: ["−", "difference"], Times: ["×", "product"] };
 
 const TITLES = {
-  Const: "a number", Succ: "succ", Pred: "pred", Plus: "plus", Minus: "minus", Times: "times", Ifz: "a test for 0",
+  Const: "a number", Succ: "one more", Pred: "one less", Plus: "a sum", Minus: "a difference", Times: "a product", Ifz: "a test for 0",
   Der: "a use of a variable", Con: "two uses of one variable", Weak: "a variable without a use", Lam: "a function", App: "an application",
   Box: "the box of an argument", Door: "a door of a box", FixBox: "a recursive term", Root: "the root", Pair: "a pair",
   Fst: "the first part of a pair", Snd: "the second part of a pair",

@@ -11,17 +11,23 @@ function pictureText() {
   const { run, layout } = view;
   const copy = wholePicture();
   const { left, right, top, bottom } = layout.bounds;
-  const [width, height] = [right - left + 100, bottom - top + 100];
+  // Room for two lines of words below.
+  const width = Math.max(right - left + 100, 400);
+  const height = bottom - top + 110;
   copy.setAttribute("viewBox", [left - 50, top - 30, width, height].map(Math.round).join(" "));
   copy.setAttribute("width", Math.round(width));
   copy.setAttribute("height", Math.round(height));
   const move = run.lastMove();
   const when = `${view.name}, after ${movesMade()} of ${run.trace.moves} moves`;
-  const last = move ? `: ${ruleOf(move).title} (ticket ${move.ticket}, node ${move.node})` : "";
+  const last = move ? `${ruleOf(move).title} (ticket ${move.ticket}, node ${move.node})` : "";
+  const line = (y, text) => shape("text", { x: left - 40, y: bottom + y, style: "font-size:13px;fill:var(--ink)" }, text);
   copy.prepend(shape("title", {}, when), shape("style", {}, pictureStyle()),
     shape("rect", { x: left - 50, y: top - 30, width, height, style: "fill:var(--bg)" }));
-  copy.append(shape("text", { x: left - 40, y: bottom + 50, style: "font-size:13px;fill:var(--ink)" }, when + last));
-  return new XMLSerializer().serializeToString(copy) + "\n";
+  copy.append(line(46, when), line(65, last));
+  // Not every reader of pictures knows the style sheet's variables. An element is a line.
+  const text = new XMLSerializer().serializeToString(copy);
+  const coloured = text.replaceAll(/var\((--[\w-]+)\)/g, (_, name) => styleValue(name));
+  return coloured.replaceAll(/(<\/(?:g|path|rect|text|title|style)>|\/>)(?=<)/g, "$1\n") + "\n";
 }
 
 // The net drawn whole, with the tokens and what else changes with the moves as the window has them.
@@ -41,14 +47,12 @@ function wholePicture() {
     groupOf(layout.frames, drawFrame), groupOf(net.wires, drawWire), trail.cloneNode(true), labels, nodes, ...changing);
 }
 
-// The colours of the theme that is shown, and the rules of what a picture has.
+// The rules of what a picture has.
 function pictureStyle() {
   const rules = [...document.styleSheets[0].cssRules];
-  const names = [...rules[0].style].filter(name => name.startsWith("--"));
-  const colours = names.map(name => `${name}:${styleValue(name)}`).join(";");
   const used = /^\.(frame|wire|node|label|trail|token|card|tie|entry|pile|answer)/;
   const drawn = rules.filter(rule => rule.selectorText && used.test(rule.selectorText)).map(rule => rule.cssText);
-  return `svg{${colours};font-family:system-ui,'DejaVu Sans',sans-serif}\n${drawn.join("\n")}`;
+  return `svg { font-family: system-ui, 'DejaVu Sans', sans-serif; }\n${drawn.join("\n")}\n`;
 }
 
 const savePicture = () => saveFile(`${fileStem()}-${movesMade()}.svg`, "image/svg+xml", pictureText());

@@ -5,13 +5,15 @@ const piles = new Map();
 const badges = new Map();
 const wireLengths = new Map();
 const restPoints = new Map();
+// Wires with a token beside their text, and how many.
+const besideText = new Map();
 let answerSign = null;
 // More tokens than these on one wire are a pile with its number.
 const SIDE_BY_SIDE = 3;
 
 // A new picture has no tokens yet.
 function forgetTokens() {
-  for (const known of [glyphs, piles, badges, wireLengths, restPoints]) known.clear();
+  for (const known of [glyphs, piles, badges, wireLengths, restPoints, besideText]) known.clear();
   answerSign = null;
   markedNode = null;
 }
@@ -81,11 +83,30 @@ function drawState() {
   }
   const shown = new Set();
   for (const [spot, tickets] of bySpot) drawSpot(spot, tickets, last ? last.ticket : -1, shown);
+  moveTexts(bySpot);
   dropOthers(piles, spot => bySpot.has(spot) && bySpot.get(spot).length > SIDE_BY_SIDE);
   dropOthers(glyphs, ticket => shown.has(ticket));
   drawEntries(state.open);
   drawAnswer(state.answer);
   drawMap();
+}
+
+// The text of a wire makes room for a token that waits at its upper end, and goes where there are several.
+function moveTexts(bySpot) {
+  const before = [...besideText.keys()];
+  besideText.clear();
+  for (const [spot, tickets] of bySpot) if (spot % 2 === 1) besideText.set(spot >> 1, tickets.length);
+  for (const wire of new Set([...before, ...besideText.keys()])) {
+    const elements = drawing.wires.get(wire);
+    if (elements) makeRoom(elements[1], wire);
+  }
+}
+
+function makeRoom(label, wire) {
+  const count = besideText.get(wire) || 0;
+  const aside = drawing.labelPlaces[wire].anchor === "end" ? -9 : 17;
+  if (count === 1) label.setAttribute("transform", `translate(${aside} 0)`); else label.removeAttribute("transform");
+  label.classList.toggle("covered", count > 1);
 }
 
 // Takes what isn't wanted any more out of the picture.
