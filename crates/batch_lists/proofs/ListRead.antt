@@ -112,14 +112,14 @@ RestRead m n ls old new r =
 pub reads_more : {A : Type 0} (bytes line more : List ℕ) (n : ℕ) (old mid new : List BatchLine) (r : Result A BatchFault) →
     lines bytes ≡ line ∷ lines more →
     ((job : BatchLine) × IsJobLine line job × (length old < most_jobs) × (mid ≡ old ++ job ∷ [])) →
-        RestRead (length mid) (n + 1) (lines more) mid new r →
+    RestRead (length mid) (n + 1) (lines more) mid new r →
     RestRead (length old) n (lines bytes) old new r
 reads_more bytes line more n old mid new (Ok a) e (job, is, room, pushed) (xs, is_new, whole) =
     let longer : length mid ≡ length old + 1 = let k = ap length pushed in let q = length-append old (job ∷ []) in omega (arith, k, q) in (
       job ∷ xs,
       is_new ∙ ap (λ ys. ys ++ xs) pushed ∙ append_assoc old (job ∷ []) xs,
       subst (λ ls. WholeList (length old) ls (job ∷ xs)) (sym e)
-      (later_whole (length old) line (lines more) job xs is (subst (λ k. WholeList k (lines more) xs) longer whole)),
+          (later_whole (length old) line (lines more) job xs is (subst (λ k. WholeList k (lines more) xs) longer whole)),
     )
 reads_more bytes line more n old mid new (Err f) e (job, is, room, pushed) (inl h) = inl h
 reads_more bytes line more n old mid new (Err f) e (job, is, room, pushed) (inr h) =

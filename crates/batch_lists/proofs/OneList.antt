@@ -44,9 +44,9 @@ one_job l j k x y =
     let bx = job_budget l rest x.line j x in
     let by = job_budget l rest x.line k y in
     let dx : digits_in rest ≡ bx.digits = ap digits_in bx.bytes_are
-        ∙ digits_first bx.digits 32 (j.file ++ codes "\n") bx.spells.digits refl in
+    ∙ digits_first bx.digits 32 (j.file ++ codes "\n") bx.spells.digits refl in
     let dy : digits_in rest ≡ by.digits = ap digits_in by.bytes_are
-        ∙ digits_first by.digits 32 (k.file ++ codes "\n") by.spells.digits refl in
+    ∙ digits_first by.digits 32 (k.file ++ codes "\n") by.spells.digits refl in
     let n : j.budget ≡ k.budget = sym bx.spells.value ∙ ap (digits_value 10) (sym dx ∙ dy) ∙ by.spells.value in
     let name = job_name l rest x.line k y j.budget (j.file ++ codes "\n") bx in
     same_job j k n (without_feed j.file k.file name.bytes_are)

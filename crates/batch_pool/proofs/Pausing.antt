@@ -39,7 +39,7 @@ waits p w running free undone none =
     offer : (i : ℕ) (b : Bool) →
         turn p w ≡ (if b then Reserved else Token
         (record { ticket = i; allowance = allowance (p.budget - (length p.log + allowances p.held)) p.workers })) →
-          (turn p w ≡ Idle) ⊎
+        (turn p w ≡ Idle) ⊎
         (turn p w ≡ Reserved)
     offer i true e = inr e
     offer i false e = absurd (none

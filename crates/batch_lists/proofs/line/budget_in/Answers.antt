@@ -15,7 +15,7 @@ returns-then-value-eq0 c =
     elim c.then-value-eq0.branch [
       | then-value-eq0-via-then-value-eq0 w ↦ no_budget_low bytes c.in-Some.value v w.if-value-eq0.true
       | then-value-eq0-via-else-value-eq0+then-value w ↦
-        no_budget_high bytes c.in-Some.value v (let l = w.if-value.true in omega (arith, l))
+          no_budget_high bytes c.in-Some.value v (let l = w.if-value.true in omega (arith, l))
     ]
 
 pub returns-in-Some-behind_space : goal.returns-in-Some-behind_space
