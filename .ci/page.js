@@ -172,6 +172,43 @@ function otherEnds() {
   return [wrong, count];
 }
 
+// Moves whose row or sentence doesn't fit: the row's directions and tops of stacks are held against the tokens of the line.
+function wrongRows() {
+  const wrong = [];
+  const { run } = walk.view;
+  for (let at = 0; at < run.length; at++) {
+    const move = run.move(at);
+    const { title, say, from, to } = walk.ruleOf(move);
+    const tells = title.startsWith(move.name + ": ") && !/undefined|null|NaN|\bV\b/.test(say) && say.length > 20;
+    const numbers = !from && (move.before.work === "-" || move.before.work === undefined);
+    const row = from && tops(from, move.before) && tops(to, move.after) && from[0] === move.in && to[0] === move.out;
+    if (!tells || !(row || numbers)) wrong.push(move.number + " " + title + " " + say);
+  }
+  return wrong;
+}
+
+// Whether a token goes the row's way and has on top of its stacks what the row says.
+function tops([, direction, work, boxes], token) {
+  const top = (pattern, stack) => {
+    const parts = pattern.split(".").slice(0, -1);
+    const found = stack === "-" ? [] : stack.split(".");
+    return parts.every((part, at) => {
+      if (found[at] === undefined) return false;
+      if (/^[LR*]$/.test(part)) return found[at] === part;
+      if (/^[su]$/.test(part)) return !/^[LR]$/.test(found[at]);
+      return found[at].startsWith(part[0]);
+    });
+  };
+  return direction === token.direction && top(work, token.work) && top(boxes, token.boxes);
+}
+
+// Drops files of these names and texts on the page.
+function dropTexts(files) {
+  const dataTransfer = new DataTransfer();
+  for (const [name, text] of files) dataTransfer.items.add(new File([text], name));
+  document.dispatchEvent(new DragEvent("drop", { dataTransfer, bubbles: true, cancelable: true }));
+}
+
 // Nodes that the window shows and that aren't in the picture, and whether they are drawn in rough.
 function missingNodes() {
   const { left, right, top, bottom } = walk.shownRange();

@@ -63,6 +63,10 @@ function nearThings(point, width) {
     const { x, y, width: wide } = view.layout.places[id];
     if (near(x, y, 160)) add(x - wide / 2, y - 13, x + wide / 2, y + 13, 4);
   }
+  for (const id of badges.keys()) {
+    const { x, y, width: wide } = view.layout.places[id];
+    if (near(x, y, 160)) add(x - wide / 2 - 66, y - 8, x - wide / 2, y + 8, 4);
+  }
   let count = 0;
   for (const token of view.run.state.live.values()) {
     if (++count > 400) break;
