@@ -7,7 +7,7 @@ const camera = {
   // Whether somebody has moved it: then it is left alone where the window changes its size.
   moved: false,
 };
-const SCALES = { least: 0.002, most: 4, legible: 0.6, close: 0.85, whole: 1.7 };
+const SCALES = { least: 0.002, most: 4, texts: 0.42, legible: 0.6, close: 0.85, whole: 1.7 };
 
 function pictureSize() {
   const { width, height } = byId("picture").getBoundingClientRect();
@@ -16,7 +16,7 @@ function pictureSize() {
 
 function applyCamera() {
   drawing.root.setAttribute("transform", `translate(${camera.x.toFixed(2)} ${camera.y.toFixed(2)}) scale(${camera.scale.toFixed(4)})`);
-  byId("picture").classList.toggle("far", camera.scale < 0.3);
+  byId("picture").classList.toggle("far", camera.scale < SCALES.texts);
   drawNear();
   if (!playing.motion) drawMap();
 }

@@ -33,7 +33,7 @@ function readNet(text) {
   const nodes = [];
   if (lines[0] !== "net 1") refuse(0);
   for (let at = 1; at < lines.length; at++) {
-    if (lines[at] === "end") return { wires, nodes };
+    if (lines[at] === "end") return wholeNet(wires, nodes);
     const words = lines[at].split(" ");
     if (words[0] === "wire" && Number(words[1]) === wires.length && nodes.length === 0) wires.push(readWire(words));
     else if (words[0] === "node" && Number(words[1]) === nodes.length && readNode(words, nodes.length, wires)) {
@@ -42,6 +42,12 @@ function readNet(text) {
     } else refuse(at);
   }
   throw new Error("The net has no line `end`.");
+}
+
+function wholeNet(wires, nodes) {
+  const loose = wires.find(wire => wire.above < 0 || wire.below < 0);
+  if (loose) throw new Error("Wire " + loose.id + " of the net has an end without a node.");
+  return { wires, nodes };
 }
 
 function readWire(words) {
