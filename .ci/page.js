@@ -14,8 +14,15 @@ function shownStates(places) {
       live: rows("live"), liveCount: byId("live-count").textContent, open: rows("open"), openCount: byId("open-count").textContent,
       answer: byId("answer").textContent, now: byId("now").value, node: marked ? Number(marked.dataset.node) : null,
       glyphs: document.querySelectorAll("#picture .token").length,
+      stacks: ["work", "boxes"].map(id => shownStack(id)),
     };
   });
+}
+
+// A stack's panel: how many parts came off and were put on, the parts that are left, and their number.
+function shownStack(id) {
+  const cells = kind => [...document.querySelectorAll(`#${id} .cell${kind}`)].map(cell => cell.title.replace(/^(came off|new): /, ""));
+  return { gone: cells(".gone").length, fresh: cells(".new").length, parts: cells(":not(.gone)"), count: byId(id + "-count").textContent };
 }
 
 // Opens files of these names and texts; what the page says of them, and the name of what is open then.

@@ -56,30 +56,41 @@ function rulePlace([port, direction, work, boxes], token) {
 function tellStacks(before, after) {
   byId("work").replaceChildren(stackCells(before.work, after.work));
   byId("boxes").replaceChildren(stackCells(before.boxes, after.boxes));
-  byId("work-count").textContent = countParts(after.work);
-  byId("boxes-count").textContent = countParts(after.boxes);
+  byId("work-count").textContent = wholeStack(after.work).count;
+  byId("boxes-count").textContent = wholeStack(after.boxes).count;
   tellOther();
 }
 
-// How many parts a stack has, with those that the trace leaves out.
-function countParts(stack) {
+// The parts of a stack that the trace has, and how many there are with those that it leaves out.
+function wholeStack(stack) {
   const parts = stackParts(stack);
-  const last = parts[parts.length - 1] || "";
-  return last.startsWith("+") ? parts.length - 1 + Number(last.slice(1)) : parts.length;
+  if (parts.length === 0 || !parts[parts.length - 1].startsWith("+")) return { parts, count: parts.length };
+  const left = Number(parts.pop().slice(1));
+  return { parts, count: parts.length + left };
+}
+
+// How many parts two stacks have in common, from below. What the trace leaves out is far below the top, and stays.
+function commonParts(old, now) {
+  let same = 0;
+  while (same < old.count && same < now.count) {
+    const [one, two] = [old.parts[old.count - 1 - same], now.parts[now.count - 1 - same]];
+    if (one !== undefined && two !== undefined && one !== two) break;
+    same++;
+  }
+  return same;
 }
 
 // A stack after a move: what came off, what was put on top, and the rest.
 function stackCells(before, after) {
-  const old = stackParts(before);
-  const now = stackParts(after);
-  let same = 0;
-  while (same < old.length && same < now.length && old[old.length - 1 - same] === now[now.length - 1 - same]) same++;
+  const [old, now] = [wholeStack(before), wholeStack(after)];
+  const same = commonParts(old, now);
+  const fresh = now.count - same;
+  const rest = now.parts.slice(fresh, fresh + CELLS_SHOWN);
   const cell = (kind, note) => part => element("div", { class: kind, title: note + part }, brief(part));
-  const rest = now.slice(now.length - same);
-  const cells = element("div", { class: "cells" }, ...old.slice(0, old.length - same).map(cell("cell gone", "came off: ")),
-    ...now.slice(0, now.length - same).map(cell("cell new", "new: ")), ...rest.slice(0, CELLS_SHOWN).map(cell("cell", "")));
-  if (rest.length > CELLS_SHOWN) cells.append(element("div", { class: "empty" }, "and " + (rest.length - CELLS_SHOWN) + " below"));
-  if (now.length === 0) cells.append(element("div", { class: "empty" }, "empty"));
+  const cells = element("div", { class: "cells" }, ...old.parts.slice(0, old.count - same).map(cell("cell gone", "came off: ")),
+    ...now.parts.slice(0, fresh).map(cell("cell new", "new: ")), ...rest.map(cell("cell", "")));
+  if (same > rest.length) cells.append(element("div", { class: "empty" }, `and ${same - rest.length} below`));
+  if (now.count === 0) cells.append(element("div", { class: "empty" }, "empty"));
   return cells;
 }
 

@@ -24,7 +24,7 @@ function start() {
 
 // For the tests, and for whoever looks at the page with a browser's own tools.
 window.walk = {
-  view, camera, playing, drawing, keys: KEYS, show: jump, showAll, zoom, shownRange, goOther, setSpeed, setTypes, setTheme, setColourBy, ruleOf,
-  openFiles, pictureText, whyNoSwap, swappedSchedule,
+  view, camera, playing, drawing, keys: KEYS, show: jump, showAll, zoom, shownRange, goOther, setSpeed, setTypes, setTheme, setColourBy,
+  openFiles, ruleOf, pictureText, whyNoSwap, swappedSchedule,
 };
 start();
