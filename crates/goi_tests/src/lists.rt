@@ -1,7 +1,9 @@
 //! Lists of programs as whole calls: what each status writes, and what failing devices leave.
 
-use crate::calls::{Devices, SOUND, fed, leaves};
-use crate::rows::first_wrong;
+use crate::programs::{Devices, SOUND, answered, texts};
+use crate::rows::cut;
+use goi_world::MemoryFiles;
+use pcf_values::Ident;
 use std::alloc::{AllocError, Global};
 use std::sync::Wait;
 use std::test::Fail;
@@ -12,97 +14,114 @@ const THREE: &str = "batch 1;job 30 p9;job 5 p5;job 10 p1;end;";
 
 const TOLD: &str = "1 job 0;value 6;moves 30;job 1;no value;moves 5;job 2;refused: Unexpected(0);";
 
-/// Whether `goi batch s` with this list leaves this, where `p` is empty.
-fn list_leaves<R: Threads + Wait + Sync>(
+fn push_file(
+    alloc: Global,
+    held: &mut Vec<(Ident, Vec<u8>)>,
+    name: &str,
+    text: &str,
+) -> Result<(), AllocError> {
+    let mut bytes = Vec::new(alloc);
+    for byte in text.as_bytes() {
+        bytes.push(if *byte == b';' { b'\n' } else { *byte })?;
+    }
+    held.push((Ident::from_text(alloc, name)?, bytes))?;
+    Ok(())
+}
+
+/// The files of a call: the list `l`, with a line feed for each `;`, and its programs.
+fn listed(alloc: Global, list: &str, devices: Devices<'_>) -> Result<MemoryFiles, AllocError> {
+    let mut held = Vec::new(alloc);
+    push_file(alloc, &mut held, "l", list)?;
+    push_file(alloc, &mut held, "p9", "(fun x:nat. x + x) 3")?;
+    push_file(alloc, &mut held, "p5", "1 + 2")?;
+    push_file(alloc, &mut held, "p1", "")?;
+    push_file(alloc, &mut held, " -n", "succ 4")?;
+    push_file(alloc, &mut held, "y", "fix y:nat. y")?;
+    Ok(MemoryFiles::new(held, devices.most.max(1), devices.reads.to_vec(alloc)?))
+}
+
+/// Whether a call with these words and this list leaves this.
+fn leaves<R: Threads + Wait + Sync>(
     rt: &R,
     alloc: Global,
+    words: &str,
     list: &str,
     devices: Devices<'_>,
     wanted: &str,
 ) -> Result<bool, AllocError> {
-    let list = fed(alloc, list.as_bytes())?;
-    leaves(rt, alloc, "goi batch s", b"", &list, devices, wanted)
+    let words = texts(alloc, words)?;
+    let mut files = listed(alloc, list, devices)?;
+    Ok(answered(rt, alloc, &words, &mut files, devices)?.as_slice() == wanted.as_bytes())
+}
+
+/// The number of the first line that isn't so. A row is the words of a call, the list, and what the call leaves.
+fn first_wrong<R: Threads + Wait + Sync>(
+    rt: &R,
+    alloc: Global,
+    table: &str,
+) -> Result<Option<usize>, AllocError> {
+    for (i, row) in table.split('\n').enumerate() {
+        let (words, rest) = cut(row);
+        let (list, wanted) = cut(rest);
+        if !row.is_empty() && !leaves(rt, alloc, words, list, SOUND, wanted)? {
+            return Ok(Some(i));
+        }
+    }
+    Ok(None)
 }
 
 #[test]
 fn lists(rt: HostRuntime) -> Result<(), Fail> {
     let table = "
-goi batch s --workers 1||batch 1;job 30 p9;job 5 p5;job 10 p1;end;|1 job 0;value 6;moves 30;job 1;no value;moves 5;job 2;refused: Unexpected(0);
-goi batch s --workers 4||batch 1;job 30 p9;job 5 p5;job 10 p1;end;|1 job 0;value 6;moves 30;job 1;no value;moves 5;job 2;refused: Unexpected(0);
-goi batch s||batch 1;job 30 p9;job 5 p5;end;|5 job 0;value 6;moves 30;job 1;no value;moves 5;
-goi batch s --workers 4||batch 1;job 30 p9;job 5 p5;end;|5 job 0;value 6;moves 30;job 1;no value;moves 5;
-goi batch s||batch 1;job 30 p9;end;|0 job 0;value 6;moves 30;
-goi batch s||batch 1;end;|0 
-goi batch s --workers 4||batch 1;end;|0 
-goi batch s --workers 4||batch 1;job 2000 y;job 100000 p9;end;|5 job 0;no value;moves 2000;job 1;value 6;moves 30;
-goi batch s||batch 1;job 100 s;end;|1 job 0;refused: Unbound(0);
-goi batch s||batch 1;job 4  -n;end;|0 job 0;value 5;moves 4;
-goi batch s||batch 1;job 0 p9;end;|7 refused: BadLine(2);
-goi batch s||batch 1;job 030 p9;end;|7 refused: BadLine(2);
-goi batch s||batch 1;job 100001 p9;end;|7 refused: BadLine(2);
-goi batch s||batch 1;job 30 p9;|7 refused: NoEnd;
-goi batch s||batch 1;job 30 p9;end;end;|7 refused: BadLine(4);
-goi batch s||job 30 p9;end;|7 refused: BadHeader;
-goi batch s||batch 1;job 30 p9;job 5 lacked;job 10 p1;end;|3 read failed;
-goi batch lacked||batch 1;end;|3 read failed;
-goi batch s --workers 65||batch 1;end;|2 refused words;
+goi batch l --workers 1|batch 1;job 30 p9;job 5 p5;job 10 p1;end;|1 job 0;value 6;moves 30;job 1;no value;moves 5;job 2;refused: Unexpected(0);
+goi batch l --workers 4|batch 1;job 30 p9;job 5 p5;job 10 p1;end;|1 job 0;value 6;moves 30;job 1;no value;moves 5;job 2;refused: Unexpected(0);
+goi batch l|batch 1;job 30 p9;job 5 p5;end;|5 job 0;value 6;moves 30;job 1;no value;moves 5;
+goi batch l --workers 4|batch 1;job 30 p9;job 5 p5;end;|5 job 0;value 6;moves 30;job 1;no value;moves 5;
+goi batch l|batch 1;job 30 p9;end;|0 job 0;value 6;moves 30;
+goi batch l|batch 1;end;|0 
+goi batch l --workers 4|batch 1;end;|0 
+goi batch l --workers 4|batch 1;job 2000 y;job 100000 p9;end;|5 job 0;no value;moves 2000;job 1;value 6;moves 30;
+goi batch l|batch 1;job 100 l;end;|1 job 0;refused: Unbound(0);
+goi batch l|batch 1;job 4  -n;end;|0 job 0;value 5;moves 4;
+goi batch l|batch 1;job 0 p9;end;|7 refused: BadLine(2);
+goi batch l|batch 1;job 030 p9;end;|7 refused: BadLine(2);
+goi batch l|batch 1;job 100001 p9;end;|7 refused: BadLine(2);
+goi batch l|batch 1;job 30 p9;|7 refused: NoEnd;
+goi batch l|batch 1;job 30 p9;end;end;|7 refused: BadLine(4);
+goi batch l|job 30 p9;end;|7 refused: BadHeader;
+goi batch l|batch 1;job 30 p9;job 5 lacked;job 10 p1;end;|3 read failed;
+goi batch lacked|batch 1;end;|3 read failed;
+goi batch l --workers 65|batch 1;end;|2 refused words;
 ";
     assert!(rt; first_wrong(&rt, rt.alloc(), table)? == None);
     Ok(())
 }
 
-/// A list of this many lines that name one file.
-fn repeated(alloc: Global, lines: u32) -> Result<Vec<u8>, AllocError> {
-    let mut list = fed(alloc, b"batch 1;")?;
-    for _ in 0..lines {
-        list.extend_from_slice(b"job 30 p9\n")?;
-    }
-    list.extend_from_slice(b"end\n")?;
-    Ok(list)
-}
-
-/// What is told of it.
-fn told_of(alloc: Global, lines: u32) -> Result<String, AllocError> {
-    let mut told = String::from_str(alloc, "0 ")?;
-    for n in 0..lines {
-        told.push_str(&format!(in alloc; "job {n};value 6;moves 30;")?)?;
-    }
-    Ok(told)
-}
-
-/// Whether a list of this many lines that name one file leaves this.
-fn repeated_leaves<R: Threads + Wait + Sync>(
+/// Whether a list of this many lines that name one file leaves what is told of them all, or the fault of the line that is too many.
+fn repeated<R: Threads + Wait + Sync>(
     rt: &R,
     alloc: Global,
     lines: u32,
     words: &str,
-    wanted: &str,
 ) -> Result<bool, AllocError> {
-    let list = repeated(alloc, lines)?;
-    leaves(rt, alloc, words, b"", &list, SOUND, wanted)
-}
-
-/// Whether a list of 64 lines leaves what is told of all of them, whatever the workers.
-fn all_are_told<R: Threads + Wait + Sync>(rt: &R, alloc: Global) -> Result<bool, AllocError> {
-    let told = told_of(alloc, 64)?;
-    Ok(
-        repeated_leaves(rt, alloc, 64, "goi batch s", &told)?
-            && repeated_leaves(rt, alloc, 64, "goi batch s --workers 4", &told)?,
-    )
+    let mut list = String::from_str(alloc, "batch 1;")?;
+    let mut wanted = String::from_str(alloc, "0 ")?;
+    for n in 0..lines {
+        list.push_str("job 30 p9;")?;
+        wanted.push_str(&format!(in alloc; "job {n};value 6;moves 30;")?)?;
+    }
+    list.push_str("end;")?;
+    if lines > 64 {
+        wanted = String::from_str(alloc, "7 refused: TooMany(66);")?;
+    }
+    leaves(rt, alloc, words, &list, SOUND, &wanted)
 }
 
 #[test]
 fn one_file_in_all_lines(rt: HostRuntime) -> Result<(), Fail> {
-    assert!(rt; all_are_told(&rt, rt.alloc())?);
-    assert!(rt;
-        repeated_leaves(
-            &rt,
-            rt.alloc(),
-            65,
-            "goi batch s",
-            "7 refused: TooMany(66);"
-        )?
-    );
+    assert!(rt; repeated(&rt, rt.alloc(), 64, "goi batch l")?);
+    assert!(rt; repeated(&rt, rt.alloc(), 64, "goi batch l --workers 4")?);
+    assert!(rt; repeated(&rt, rt.alloc(), 65, "goi batch l")?);
     Ok(())
 }
 
@@ -137,7 +156,7 @@ fn failing<R: Threads + Wait + Sync>(
         errs,
         ..SOUND
     };
-    list_leaves(rt, alloc, list, devices, wanted)
+    leaves(rt, alloc, "goi batch l", list, devices, wanted)
 }
 
 /// Whether the list's report is cut as far as an output takes it that fails at once, or behind ten bytes.
@@ -150,7 +169,14 @@ fn is_cut<R: Threads + Wait + Sync>(rt: &R, alloc: Global, list: &str) -> Result
     Ok(
         failing(rt, alloc, list, &[], &[1], &[], "4 write failed;")?
             && failing(rt, alloc, list, &[], &[1], &[1], "4 ")?
-            && list_leaves(rt, alloc, list, devices, "4 job 0;valuwrite failed;")?,
+            && leaves(
+                rt,
+                alloc,
+                "goi batch l",
+                list,
+                devices,
+                "4 job 0;valuwrite failed;",
+            )?,
     )
 }
 

@@ -1,9 +1,10 @@
 //! A call of `goi` in which two workers hold pieces at once.
 
-use crate::calls::{SOUND, fed, told_at};
-use crate::rows::cut;
 use crate::several::{sums, tally_of};
 use gate_workers::Gate;
+use goi_engine::goi;
+use goi_world::{MemoryFiles, MemorySink};
+use pcf_values::Ident;
 use std::alloc::{AllocError, Global};
 use std::sync::Wait;
 use std::sync::atomic::{AtomicU64, Ordering};
@@ -126,6 +127,32 @@ impl Gate for Meeting {
     }
 }
 
+/// What `goi run p --workers 2 --schedule --tally` prints on a program, with this gate.
+fn printed<R: Threads + Wait + Sync>(
+    rt: &R,
+    alloc: Global,
+    gate: &Meeting,
+) -> Result<Vec<u8>, AllocError> {
+    let mut words = Vec::new(alloc);
+    for word in ["goi", "run", "p", "--workers", "2", "--schedule", "--tally"] {
+        words.push(String::from_str(alloc, word)?)?;
+    }
+    let mut held = Vec::new(alloc);
+    held.push((
+        Ident::from_text(alloc, "p")?,
+        Vec::from_slice(alloc, b"(fun x:nat. x + x) 3")?,
+    ))?;
+    let mut files = MemoryFiles::new(held, 1_000_000, Vec::new(alloc));
+    let mut out = MemorySink::new(alloc, 10_000, 1_000_000, Vec::new(alloc))?;
+    let mut err = MemorySink::new(alloc, 100, 1_000_000, Vec::new(alloc))?;
+    let status = goi(rt, alloc, &words, &mut files, &mut out, &mut err, gate);
+    let mut seen = vec![in alloc; b'0'.saturating_add(status), b' ']?;
+    for byte in out.written() {
+        seen.push(if *byte == b'\n' { b';' } else { *byte })?;
+    }
+    Ok(seen)
+}
+
 /// Whether two workers who meet at the gate come to 6 in 30 moves by another schedule than one worker's, each with a move for each of its
 /// pieces at least, and nobody else with any.
 fn meets<R: Threads + Wait + Sync>(
@@ -133,8 +160,7 @@ fn meets<R: Threads + Wait + Sync>(
     alloc: Global,
     gate: &Meeting,
 ) -> Result<bool, AllocError> {
-    let words = "goi run p --workers 2 --schedule --tally";
-    let seen = told_at(rt, alloc, words, b"(fun x:nat. x + x) 3", b"", SOUND, gate)?;
+    let seen = printed(rt, alloc, gate)?;
     let first = u64::from(tally_of(&seen, b"worker 0 "));
     let second = u64::from(tally_of(&seen, b"worker 1 "));
     Ok(
@@ -154,37 +180,5 @@ fn two_workers_of_goi_hold_pieces_at_once(rt: HostRuntime) -> Result<(), Fail> {
     assert_eq!(rt; gate.met.load(Ordering::SeqCst), 1);
     assert!(rt; gate.first.load(Ordering::SeqCst) >= 1);
     assert!(rt; gate.second.load(Ordering::SeqCst) >= 1);
-    Ok(())
-}
-
-/// Whether two workers meet in the call of a row, and what it leaves begins as the row says.
-fn meets_in<R: Threads + Wait + Sync>(
-    rt: &R,
-    alloc: Global,
-    row: &str,
-) -> Result<bool, AllocError> {
-    let (words, rest) = cut(row);
-    let (p, rest) = cut(rest);
-    let (s, wanted) = cut(rest);
-    let s = fed(alloc, s.as_bytes())?;
-    let gate = Meeting::new();
-    let seen = told_at(rt, alloc, words, p.as_bytes(), &s, SOUND, &gate)?;
-    Ok(seen.starts_with(wanted.as_bytes()) && gate.have_met())
-}
-
-/// No clause says that two workers run where two were asked for.
-#[test]
-fn two_workers_meet_whatever_the_command(rt: HostRuntime) -> Result<(), Fail> {
-    let table = "
-goi run p --workers 2|(fun x:nat. x + x) 3||0 value 6;moves 30;
-goi run p --workers 2 --by-value|(fun x:nat. x + x) 3||0 value 6;moves 
-goi run p --workers 2 --progress|(fun x:nat. x + x) 3||0 value 6;moves 30;progress 
-goi run-net s --workers 2||net 1;wire 0 value 0 nat;wire 1 var 0 nat;wire 2 value 0 nat;wire 3 var 0 nat;wire 4 var 0 nat;wire 5 value 0 nat;wire 6 value 0 nat -> nat;wire 7 value 1 nat;wire 8 bang 0 nat;wire 9 value 0 nat;node 0 Der 0 1;node 1 Der 2 3;node 2 Con 1 3 4;node 3 Plus 0 2 5;node 4 Lam 5 4 6;node 5 Const 3 7;node 6 Box 7 8;node 7 App 6 8 9;node 8 Root 9;end;|0 value 6;moves 30;
-goi demo 1 --workers 2|||0 demo 1;nodes 13;value 4;moves 126;
-goi batch s --workers 2|(fun x:nat. x + x) 3|batch 1;job 30 p;job 30 p;end;|0 job 0;value 6;moves 30;job 1;value 6;moves 30;
-";
-    for row in table.split('\n') {
-        assert!(rt; row.is_empty() || meets_in(&rt, rt.alloc(), row)?);
-    }
     Ok(())
 }

@@ -1,7 +1,11 @@
 //! Runs by value, runs of nets from files, and runs with their progress.
 
-use crate::calls::{Devices, SOUND, told};
-use crate::rows::first_wrong;
+use crate::programs::{SOUND, told};
+use crate::rows::{cut, first_wrong};
+use gate_workers::OpenGate;
+use goi_engine::goi;
+use goi_world::{MemoryFiles, MemorySink};
+use pcf_values::Ident;
 use std::alloc::{AllocError, Global};
 use std::sync::Wait;
 use std::test::Fail;
@@ -10,19 +14,19 @@ use std::thread::Threads;
 #[test]
 fn by_value(rt: HostRuntime) -> Result<(), Fail> {
     let table = "
-goi run p --by-value|4||0 value 4;moves 34;
-goi run p --by-value|(fun x:nat. 7) ((fix f:nat->nat. fun n:nat. f n) 0)||5 no value;moves 10000;
-goi run p --by-value --workers 4|(fun x:nat. 7) ((fix f:nat->nat. fun n:nat. f n) 0)||5 no value;moves 10000;
-goi run p|(fun x:nat. 7) ((fix f:nat->nat. fun n:nat. f n) 0)||0 value 7;moves 6;
-goi run p --by-value|(fix f:nat->nat. fun n:nat. ifz n then 0 else n + f (pred n)) 3||0 value 6;moves 2376;
-goi run p --by-value --workers 4|(fix f:nat->nat. fun n:nat. ifz n then 0 else n + f (pred n)) 3||0 value 6;moves 2376;
-goi run p --by-value|fix y:nat. y||1 refused: ByValueFix(0);
-goi run p --by-value|fst (1, 2)||1 refused: ByValuePair(0);
-goi run p --by-value|(fun x:nat * nat. 1) (2, 3)||1 refused: ByValuePair(1);
-goi run p --by-value|1 + fst (1, fix y:nat. y)||1 refused: ByValuePair(4);
-goi run p --by-value|fun x:nat. fst (1, 2)||1 refused: NotGround;
-goi run p --by-value|x||1 refused: Unbound(0);
-goi run p --by-value --tally|4||0 value 4;moves 34;worker 0 34;finisher 0;
+goi run p --by-value|4|0 value 4;moves 34;
+goi run p --by-value|(fun x:nat. 7) ((fix f:nat->nat. fun n:nat. f n) 0)|5 no value;moves 10000;
+goi run p --by-value --workers 4|(fun x:nat. 7) ((fix f:nat->nat. fun n:nat. f n) 0)|5 no value;moves 10000;
+goi run p|(fun x:nat. 7) ((fix f:nat->nat. fun n:nat. f n) 0)|0 value 7;moves 6;
+goi run p --by-value|(fix f:nat->nat. fun n:nat. ifz n then 0 else n + f (pred n)) 3|0 value 6;moves 2376;
+goi run p --by-value --workers 4|(fix f:nat->nat. fun n:nat. ifz n then 0 else n + f (pred n)) 3|0 value 6;moves 2376;
+goi run p --by-value|fix y:nat. y|1 refused: ByValueFix(0);
+goi run p --by-value|fst (1, 2)|1 refused: ByValuePair(0);
+goi run p --by-value|(fun x:nat * nat. 1) (2, 3)|1 refused: ByValuePair(1);
+goi run p --by-value|1 + fst (1, fix y:nat. y)|1 refused: ByValuePair(4);
+goi run p --by-value|fun x:nat. fst (1, 2)|1 refused: NotGround;
+goi run p --by-value|x|1 refused: Unbound(0);
+goi run p --by-value --tally|4|0 value 4;moves 34;worker 0 34;finisher 0;
 ";
     assert!(rt; first_wrong(&rt, rt.alloc(), table)? == None);
     Ok(())
@@ -36,7 +40,7 @@ fn begins<R: Threads + Wait + Sync>(
     text: &str,
     lines: &str,
 ) -> Result<bool, AllocError> {
-    let seen = told(rt, alloc, words, text.as_bytes(), b"", SOUND)?;
+    let seen = told(rt, alloc, words, text.as_bytes(), SOUND)?;
     Ok(seen.starts_with(lines.as_bytes()))
 }
 
@@ -64,34 +68,95 @@ fn a_function_by_value(rt: HostRuntime) -> Result<(), Fail> {
     Ok(())
 }
 
+/// A text with a line feed for each `;`.
+fn feed_lines(alloc: Global, text: &str) -> Result<Vec<u8>, AllocError> {
+    let mut lines = Vec::new(alloc);
+    for byte in text.as_bytes() {
+        lines.push(if *byte == b';' { b'\n' } else { *byte })?;
+    }
+    Ok(lines)
+}
+
+/// Whether a row is so: words, the text of `p` with `;` for each line feed, and what the call leaves.
+fn holds<R: Threads + Wait + Sync>(rt: &R, alloc: Global, row: &str) -> Result<bool, AllocError> {
+    let (words, rest) = cut(row);
+    let (text, wanted) = cut(rest);
+    let lines = feed_lines(alloc, text)?;
+    let seen = told(rt, alloc, words, &lines, SOUND)?;
+    Ok(seen.as_slice() == wanted.as_bytes())
+}
+
+/// The number of the first line that isn't so. Empty lines are no rows.
+fn first_wrong_file<R: Threads + Wait + Sync>(
+    rt: &R,
+    alloc: Global,
+    table: &str,
+) -> Result<Option<usize>, AllocError> {
+    for (i, row) in table.split('\n').enumerate() {
+        if !row.is_empty() && !holds(rt, alloc, row)? {
+            return Ok(Some(i));
+        }
+    }
+    Ok(None)
+}
+
 #[test]
 fn net_files(rt: HostRuntime) -> Result<(), Fail> {
     let table = "
-goi run-net p|net 1;wire 0 value 0 nat;wire 1 var 0 nat;wire 2 value 0 nat;wire 3 var 0 nat;wire 4 var 0 nat;wire 5 value 0 nat;wire 6 value 0 nat -> nat;wire 7 value 1 nat;wire 8 bang 0 nat;wire 9 value 0 nat;node 0 Der 0 1;node 1 Der 2 3;node 2 Con 1 3 4;node 3 Plus 0 2 5;node 4 Lam 5 4 6;node 5 Const 3 7;node 6 Box 7 8;node 7 App 6 8 9;node 8 Root 9;end;||0 value 6;moves 30;
-goi run-net p --workers 4|net 1;wire 0 value 0 nat;wire 1 var 0 nat;wire 2 value 0 nat;wire 3 var 0 nat;wire 4 var 0 nat;wire 5 value 0 nat;wire 6 value 0 nat -> nat;wire 7 value 1 nat;wire 8 bang 0 nat;wire 9 value 0 nat;node 0 Der 0 1;node 1 Der 2 3;node 2 Con 1 3 4;node 3 Plus 0 2 5;node 4 Lam 5 4 6;node 5 Const 3 7;node 6 Box 7 8;node 7 App 6 8 9;node 8 Root 9;end;||0 value 6;moves 30;
-goi run-net p|net 1;wire 0 value 0 nat;wire 1 var 0 nat;wire 2 value 0 nat;wire 3 var 0 nat;wire 4 var 0 nat;wire 5 value 0 nat;wire 6 value 0 nat -> nat;wire 7 value 1 nat;wire 8 bang 0 nat;wire 9 value 0 nat;node 0 Der 0 1;node 1 Der 2 3;node 2 Con 1 3 4;node 3 Plus 0 2 5;node 4 Lam 5 4 6;node 5 Const 3 7;node 6 Box 7 8;node 7 App 6 8 9;node 8 Root 9;||7 refused: BadLine(21);
-goi run-net p --tally|net 1;wire 0 value 0 nat;wire 1 var 0 nat;wire 2 value 0 nat;wire 3 var 0 nat;wire 4 var 0 nat;wire 5 value 0 nat;wire 6 value 0 nat -> nat;wire 7 value 1 nat;wire 8 bang 0 nat;wire 9 value 0 nat;node 0 Der 0 1;node 1 Der 2 3;node 2 Con 1 3 4;node 3 Plus 0 2 5;node 4 Lam 5 4 6;node 5 Const 4 7;node 6 Box 7 8;node 7 App 6 8 9;node 8 Root 9;end;||0 value 8;moves 30;worker 0 30;finisher 0;
-goi run-net p --budget 29|net 1;wire 0 value 0 nat;wire 1 var 0 nat;wire 2 value 0 nat;wire 3 var 0 nat;wire 4 var 0 nat;wire 5 value 0 nat;wire 6 value 0 nat -> nat;wire 7 value 1 nat;wire 8 bang 0 nat;wire 9 value 0 nat;node 0 Der 0 1;node 1 Der 2 3;node 2 Con 1 3 4;node 3 Plus 0 2 5;node 4 Lam 5 4 6;node 5 Const 3 7;node 6 Box 7 8;node 7 App 6 8 9;node 8 Root 9;end;||5 no value;moves 29;
-goi run-net p|net 1;wire 0 value 0 nat;node 0 Root 0;node 1 Const 5 0;end;||7 refused: NotOfTerm;
-goi run-net p|net 1;wire 0 value 0 nat;wire 1 value 0 nat;node 0 Succ 0 0;node 1 Const 3 1;node 2 Root 1;end;||7 refused: NotOfTerm;
-goi run-net p|net 1;wire 0 value 1 nat;node 0 Const 5 0;node 1 Root 0;end;||7 refused: NotSound(DepthClash(1));
-goi run-net p|||7 refused: BadLine(1);
-goi run-net p|1 + 2||7 refused: BadLine(1);
-goi run-net q|||3 read failed;
-goi run p|net 1;||1 refused: Unbound(0);
+goi run-net p|net 1;wire 0 value 0 nat;wire 1 var 0 nat;wire 2 value 0 nat;wire 3 var 0 nat;wire 4 var 0 nat;wire 5 value 0 nat;wire 6 value 0 nat -> nat;wire 7 value 1 nat;wire 8 bang 0 nat;wire 9 value 0 nat;node 0 Der 0 1;node 1 Der 2 3;node 2 Con 1 3 4;node 3 Plus 0 2 5;node 4 Lam 5 4 6;node 5 Const 3 7;node 6 Box 7 8;node 7 App 6 8 9;node 8 Root 9;end;|0 value 6;moves 30;
+goi run-net p --workers 4|net 1;wire 0 value 0 nat;wire 1 var 0 nat;wire 2 value 0 nat;wire 3 var 0 nat;wire 4 var 0 nat;wire 5 value 0 nat;wire 6 value 0 nat -> nat;wire 7 value 1 nat;wire 8 bang 0 nat;wire 9 value 0 nat;node 0 Der 0 1;node 1 Der 2 3;node 2 Con 1 3 4;node 3 Plus 0 2 5;node 4 Lam 5 4 6;node 5 Const 3 7;node 6 Box 7 8;node 7 App 6 8 9;node 8 Root 9;end;|0 value 6;moves 30;
+goi run-net p|net 1;wire 0 value 0 nat;wire 1 var 0 nat;wire 2 value 0 nat;wire 3 var 0 nat;wire 4 var 0 nat;wire 5 value 0 nat;wire 6 value 0 nat -> nat;wire 7 value 1 nat;wire 8 bang 0 nat;wire 9 value 0 nat;node 0 Der 0 1;node 1 Der 2 3;node 2 Con 1 3 4;node 3 Plus 0 2 5;node 4 Lam 5 4 6;node 5 Const 3 7;node 6 Box 7 8;node 7 App 6 8 9;node 8 Root 9;|7 refused: BadLine(21);
+goi run-net p --tally|net 1;wire 0 value 0 nat;wire 1 var 0 nat;wire 2 value 0 nat;wire 3 var 0 nat;wire 4 var 0 nat;wire 5 value 0 nat;wire 6 value 0 nat -> nat;wire 7 value 1 nat;wire 8 bang 0 nat;wire 9 value 0 nat;node 0 Der 0 1;node 1 Der 2 3;node 2 Con 1 3 4;node 3 Plus 0 2 5;node 4 Lam 5 4 6;node 5 Const 4 7;node 6 Box 7 8;node 7 App 6 8 9;node 8 Root 9;end;|0 value 8;moves 30;worker 0 30;finisher 0;
+goi run-net p --budget 29|net 1;wire 0 value 0 nat;wire 1 var 0 nat;wire 2 value 0 nat;wire 3 var 0 nat;wire 4 var 0 nat;wire 5 value 0 nat;wire 6 value 0 nat -> nat;wire 7 value 1 nat;wire 8 bang 0 nat;wire 9 value 0 nat;node 0 Der 0 1;node 1 Der 2 3;node 2 Con 1 3 4;node 3 Plus 0 2 5;node 4 Lam 5 4 6;node 5 Const 3 7;node 6 Box 7 8;node 7 App 6 8 9;node 8 Root 9;end;|5 no value;moves 29;
+goi run-net p|net 1;wire 0 value 0 nat;node 0 Root 0;node 1 Const 5 0;end;|7 refused: NotOfTerm;
+goi run-net p|net 1;wire 0 value 0 nat;wire 1 value 0 nat;node 0 Succ 0 0;node 1 Const 3 1;node 2 Root 1;end;|7 refused: NotOfTerm;
+goi run-net p|net 1;wire 0 value 1 nat;node 0 Const 5 0;node 1 Root 0;end;|7 refused: NotSound(DepthClash(1));
+goi run-net p||7 refused: BadLine(1);
+goi run-net p|1 + 2|7 refused: BadLine(1);
+goi run-net q||3 read failed;
+goi run p|net 1;|1 refused: Unbound(0);
 ";
-    assert!(rt; first_wrong(&rt, rt.alloc(), table)? == None);
+    assert!(rt; first_wrong_file(&rt, rt.alloc(), table)? == None);
     Ok(())
 }
 
-/// What stands behind the notes' lines, which end with `;`: how many there are where each is `progress N` and the numbers never go down,
-/// and the last number; else nothing.
+/// The words of a call.
+fn texts(alloc: Global, words: &str) -> Result<Vec<String>, AllocError> {
+    let mut given = Vec::new(alloc);
+    for word in words.split(' ') {
+        given.push(String::from_str(alloc, word)?)?;
+    }
+    Ok(given)
+}
+
+/// A call on a file `p` with an error output in which so many bytes have room: its status, and what was written to both sinks.
+fn noted<R: Threads + Wait + Sync>(
+    rt: &R,
+    alloc: Global,
+    words: &str,
+    text: &str,
+    room: u64,
+) -> Result<(u8, MemorySink, MemorySink), AllocError> {
+    let words = texts(alloc, words)?;
+    let mut held = Vec::new(alloc);
+    held.push((
+        Ident::from_text(alloc, "p")?,
+        Vec::from_slice(alloc, text.as_bytes())?,
+    ))?;
+    let mut files = MemoryFiles::new(held, 1_000_000, Vec::new(alloc));
+    let mut out = MemorySink::new(alloc, 1000, 1_000_000, Vec::new(alloc))?;
+    let mut err = MemorySink::new(alloc, room, 1_000_000, Vec::new(alloc))?;
+    let status = goi(rt, alloc, &words, &mut files, &mut out, &mut err, &OpenGate);
+    Ok((status, out, err))
+}
+
+/// How many lines these notes have where each is `progress N` and the numbers never go down, and the last number; else nothing.
 fn counts(notes: &[u8]) -> Option<(u32, u32)> {
     let mut lines = 0u32;
     let mut last = 0u32;
     let mut number = 0u32;
     for byte in notes {
-        if *byte == b';' {
+        if *byte == b'\n' {
             if number < last {
                 return None;
             }
@@ -109,14 +174,6 @@ fn counts(notes: &[u8]) -> Option<(u32, u32)> {
     Some((lines, last))
 }
 
-/// Whether notes are 17 lines that begin so and end with this number.
-fn are_notes(notes: Option<&[u8]>, moves: u32) -> bool {
-    match notes {
-        Some(notes) => notes.starts_with(b"progress ") && counts(notes) == Some((17, moves)),
-        None => false,
-    }
-}
-
 /// Whether a run with its progress leaves this report, and 17 notes that end with its moves.
 fn shows<R: Threads + Wait + Sync>(
     rt: &R,
@@ -126,8 +183,13 @@ fn shows<R: Threads + Wait + Sync>(
     report: &str,
     moves: u32,
 ) -> Result<bool, AllocError> {
-    let seen = told(rt, alloc, words, text.as_bytes(), b"", SOUND)?;
-    Ok(are_notes(seen.strip_prefix(report.as_bytes()), moves))
+    let (status, out, err) = noted(rt, alloc, words, text, 1000)?;
+    Ok(
+        status == 0
+            && out.written() == report.as_bytes()
+            && err.written().starts_with(b"progress ")
+            && counts(err.written()) == Some((17, moves)),
+    )
 }
 
 #[test]
@@ -140,7 +202,7 @@ fn progress(rt: HostRuntime) -> Result<(), Fail> {
             rt.alloc(),
             "goi run p --progress",
             double,
-            "0 value 6;moves 30;",
+            "value 6\nmoves 30\n",
             30
         )?
     );
@@ -150,7 +212,7 @@ fn progress(rt: HostRuntime) -> Result<(), Fail> {
             rt.alloc(),
             "goi run p --progress --workers 4",
             double,
-            "0 value 6;moves 30;",
+            "value 6\nmoves 30\n",
             30
         )?
     );
@@ -160,7 +222,7 @@ fn progress(rt: HostRuntime) -> Result<(), Fail> {
             rt.alloc(),
             "goi run p --progress --workers 2 --by-value",
             sum,
-            "0 value 6;moves 2376;",
+            "value 6\nmoves 2376\n",
             2376
         )?
     );
@@ -173,24 +235,19 @@ fn notes_fail<R: Threads + Wait + Sync>(
     alloc: Global,
     room: u64,
 ) -> Result<bool, AllocError> {
-    let words = "goi run p --progress --tally";
-    let devices = Devices {
-        err_room: room,
-        ..SOUND
-    };
-    let seen = told(rt, alloc, words, b"(fun x:nat. x + x) 3", b"", devices)?;
-    Ok(is_cut_note(
-        seen.strip_prefix(b"4 value 6;moves 30;worker 0 30;finisher 0;"),
+    let (status, out, err) = noted(
+        rt,
+        alloc,
+        "goi run p --progress --tally",
+        "(fun x:nat. x + x) 3",
         room,
-    ))
-}
-
-/// Whether these are so many bytes of notes.
-fn is_cut_note(notes: Option<&[u8]>, room: u64) -> bool {
-    match notes {
-        Some(notes) => notes.len() as u64 == room && notes.starts_with(b"prog"),
-        None => false,
-    }
+    )?;
+    Ok(
+        status == 4
+            && out.written() == b"value 6\nmoves 30\nworker 0 30\nfinisher 0\n".as_slice()
+            && err.written().len() as u64 == room
+            && err.written().starts_with(b"prog"),
+    )
 }
 
 #[test]

@@ -1,48 +1,165 @@
-//! What each status writes, at the texts of programs and at their limits, and what every failing device leaves.
+//! Whole calls over files and sinks in memory: what each status writes, and what every failing device leaves.
 
-use crate::calls::{Devices, SOUND, leaves, refuses_no_words, told};
 use crate::rows::{cut, first_wrong};
+use gate_workers::OpenGate;
+use goi_engine::goi;
+use goi_world::{MemoryFiles, MemorySink};
 use pcf_reader::read_program;
-use pcf_values::{Named, Raw};
+use pcf_values::{Ident, Named, Raw};
 use std::alloc::{AllocError, Global};
 use std::sync::Wait;
 use std::test::Fail;
 use std::thread::Threads;
 
-/// Whether this is what `goi run p` leaves on a text.
+/// The devices of a call: how many bytes a call of each takes at most, how much the output holds, and which calls fail.
+#[derive(Clone, Copy)]
+pub(crate) struct Devices<'a> {
+    pub(crate) most: u64,
+    pub(crate) room: u64,
+    pub(crate) reads: &'a [u64],
+    pub(crate) outs: &'a [u64],
+    pub(crate) errs: &'a [u64],
+}
+
+pub(crate) const SOUND: Devices<'static> = Devices {
+    most: 1_000_000,
+    room: 2_000_000,
+    reads: &[],
+    outs: &[],
+    errs: &[],
+};
+
+/// The files of a call: `p` with this text, and `s`, the text of a schedule.
+fn files(
+    alloc: Global,
+    text: &[u8],
+    schedule: &[u8],
+    devices: Devices<'_>,
+) -> Result<MemoryFiles, AllocError> {
+    let mut held = Vec::new(alloc);
+    held.push((Ident::from_text(alloc, "p")?, text.to_vec(alloc)?))?;
+    held.push((Ident::from_text(alloc, "s")?, schedule.to_vec(alloc)?))?;
+    Ok(MemoryFiles::new(held, devices.most.max(1), devices.reads.to_vec(alloc)?))
+}
+
+fn sink(alloc: Global, room: u64, most: u64, fails: &[u64]) -> Result<MemorySink, AllocError> {
+    MemorySink::new(alloc, room, most.max(1), fails.to_vec(alloc)?)
+}
+
+pub(crate) fn texts(alloc: Global, words: &str) -> Result<Vec<String>, AllocError> {
+    let mut given = Vec::new(alloc);
+    for word in words.split(' ') {
+        given.push(String::from_str(alloc, word)?)?;
+    }
+    Ok(given)
+}
+
+/// A text with `;` for each line feed.
+fn push_lines(to: &mut Vec<u8>, text: &[u8]) -> Result<(), AllocError> {
+    for byte in text {
+        to.push(if *byte == b'\n' { b';' } else { *byte })?;
+    }
+    Ok(())
+}
+
+/// A status and what was written to both sinks, with `;` for each line feed.
+fn seen(
+    alloc: Global,
+    status: u8,
+    out: &MemorySink,
+    err: &MemorySink,
+) -> Result<Vec<u8>, AllocError> {
+    let mut seen = vec![in alloc; b'0'.saturating_add(status), b' ']?;
+    push_lines(&mut seen, out.written())?;
+    push_lines(&mut seen, err.written())?;
+    Ok(seen)
+}
+
+pub(crate) fn answered<R: Threads + Wait + Sync>(
+    rt: &R,
+    alloc: Global,
+    words: &Vec<String>,
+    files: &mut MemoryFiles,
+    devices: Devices<'_>,
+) -> Result<Vec<u8>, AllocError> {
+    let mut out = sink(alloc, devices.room, devices.most, devices.outs)?;
+    let mut err = sink(alloc, 100, devices.most, devices.errs)?;
+    let status = goi(rt, alloc, words, files, &mut out, &mut err, &OpenGate);
+    seen(alloc, status, &out, &err)
+}
+
+/// What a call with these words leaves: its status, and what was written to the output and to the error output, with `;` for each
+/// line feed.
+pub(crate) fn told<R: Threads + Wait + Sync>(
+    rt: &R,
+    alloc: Global,
+    words: &str,
+    text: &[u8],
+    devices: Devices<'_>,
+) -> Result<Vec<u8>, AllocError> {
+    told_both(rt, alloc, words, text, b"", devices)
+}
+
+/// The same where `s` has a text too.
+pub(crate) fn told_both<R: Threads + Wait + Sync>(
+    rt: &R,
+    alloc: Global,
+    words: &str,
+    text: &[u8],
+    schedule: &[u8],
+    devices: Devices<'_>,
+) -> Result<Vec<u8>, AllocError> {
+    let words = texts(alloc, words)?;
+    let mut files = files(alloc, text, schedule, devices)?;
+    answered(rt, alloc, &words, &mut files, devices)
+}
+
+/// Whether a call with these words leaves this.
+pub(crate) fn leaves<R: Threads + Wait + Sync>(
+    rt: &R,
+    alloc: Global,
+    words: &str,
+    text: &[u8],
+    devices: Devices<'_>,
+    wanted: &str,
+) -> Result<bool, AllocError> {
+    Ok(told(rt, alloc, words, text, devices)?.as_slice() == wanted.as_bytes())
+}
+
+/// The same for `goi run p`.
 fn run_leaves<R: Threads + Wait + Sync>(
     rt: &R,
     alloc: Global,
     text: &[u8],
     wanted: &str,
 ) -> Result<bool, AllocError> {
-    leaves(rt, alloc, "goi run p", text, b"", SOUND, wanted)
+    leaves(rt, alloc, "goi run p", text, SOUND, wanted)
 }
 
 #[test]
 fn what_is_printed(rt: HostRuntime) -> Result<(), Fail> {
     let table = "
-goi run p|0||0 value 0;moves 2;
-goi run p|succ 4||0 value 5;moves 4;
-goi run p|pred 0||0 value 0;moves 4;
-goi run p| \t\rsucc\t(pred\r0007) # seven||0 value 7;moves 6;
-goi run p|18446744073709551615||0 value 18446744073709551615;moves 2;
-goi run p|succ 18446744073709551615||0 value overflow;moves 4;
-goi run p|pred succ 18446744073709551615||0 value overflow;moves 6;
-goi check p|fun x:nat. x||0 type nat -> nat;
-goi check p|(1, fun x:nat. x)||0 type nat * (nat -> nat);
-goi check p|7 - 2 * 3||0 type nat;
-goi check p|fun v:nat. fun v:nat->nat. v||0 type nat -> (nat -> nat) -> nat -> nat;
-goi check p|fun v:nat->nat. fun v:nat. v||0 type (nat -> nat) -> nat -> nat;
-goi check p|fun v:nat->nat. fun w:nat. v||0 type (nat -> nat) -> nat -> nat -> nat;
-goi check p|snd (1, fun v:nat. v)||0 type nat -> nat;
-goi check p|fst (1, fun v:nat. v)||0 type nat;
-goi check p|fun v:(nat->nat)*nat. (fst v) (snd v)||0 type (nat -> nat) * nat -> nat;
-goi check p|fix v:nat->nat. fun w:nat. ifz w then 0 else w + v (pred w)||0 type nat -> nat;
-goi check p|(fix v:nat->nat. fun w:nat. ifz w then 0 else w + v (pred w)) 3||0 type nat;
-goi check p --term|(fun x:nat. x+x) 0007||0 type nat;term (fun x:nat. x + x) 7;
-goi check p --term|fst (1, fix y:nat. y)||0 type nat;term fst (1, fix y:nat. y);
-goi check p --term|1 - (2 - 3) * 4||0 type nat;term 1 - (2 - 3) * 4;
+goi run p|0|0 value 0;moves 2;
+goi run p|succ 4|0 value 5;moves 4;
+goi run p|pred 0|0 value 0;moves 4;
+goi run p| \t\rsucc\t(pred\r0007) # seven|0 value 7;moves 6;
+goi run p|18446744073709551615|0 value 18446744073709551615;moves 2;
+goi run p|succ 18446744073709551615|0 value overflow;moves 4;
+goi run p|pred succ 18446744073709551615|0 value overflow;moves 6;
+goi check p|fun x:nat. x|0 type nat -> nat;
+goi check p|(1, fun x:nat. x)|0 type nat * (nat -> nat);
+goi check p|7 - 2 * 3|0 type nat;
+goi check p|fun v:nat. fun v:nat->nat. v|0 type nat -> (nat -> nat) -> nat -> nat;
+goi check p|fun v:nat->nat. fun v:nat. v|0 type (nat -> nat) -> nat -> nat;
+goi check p|fun v:nat->nat. fun w:nat. v|0 type (nat -> nat) -> nat -> nat -> nat;
+goi check p|snd (1, fun v:nat. v)|0 type nat -> nat;
+goi check p|fst (1, fun v:nat. v)|0 type nat;
+goi check p|fun v:(nat->nat)*nat. (fst v) (snd v)|0 type (nat -> nat) * nat -> nat;
+goi check p|fix v:nat->nat. fun w:nat. ifz w then 0 else w + v (pred w)|0 type nat -> nat;
+goi check p|(fix v:nat->nat. fun w:nat. ifz w then 0 else w + v (pred w)) 3|0 type nat;
+goi check p --term|(fun x:nat. x+x) 0007|0 type nat;term (fun x:nat. x + x) 7;
+goi check p --term|fst (1, fix y:nat. y)|0 type nat;term fst (1, fix y:nat. y);
+goi check p --term|1 - (2 - 3) * 4|0 type nat;term 1 - (2 - 3) * 4;
 ";
     assert!(rt; first_wrong(&rt, rt.alloc(), table)? == None);
     assert!(rt;
@@ -59,25 +176,25 @@ goi check p --term|1 - (2 - 3) * 4||0 type nat;term 1 - (2 - 3) * 4;
 #[test]
 fn runs(rt: HostRuntime) -> Result<(), Fail> {
     let table = "
-goi run p|1 + 2||0 value 3;moves 6;
-goi run p|(fun x:nat. 7) (fix y:nat. y)||0 value 7;moves 6;
-goi run p|fix y:nat. y||5 no value;moves 10000;
-goi run p|(fun x:nat. x + x) 3||0 value 6;moves 30;
-goi run p|18446744073709551615 + 1||0 value overflow;moves 6;
-goi run p|ifz succ 18446744073709551615 then 1 else 2||0 value 2;moves 8;
-goi run p|succ 18446744073709551615 + fix y:nat. y||1 refused: Unexpected(28);
-goi run p|succ 18446744073709551615 + (fix y:nat. y)||5 no value;moves 10000;
-goi run p|(fix f:nat->nat. fun n:nat. ifz n then 0 else n + f (pred n)) 3||0 value 6;moves 330;
-goi run p|(fun d:nat->nat. d 1 + d 2) (fun x:nat. x + x)||0 value 6;moves 126;
-goi run p|(fun f:(nat->nat)->nat. f (fun x:nat. succ x)) (fun g:nat->nat. g 5)||0 value 6;moves 64;
-goi run p|5 - 7||0 value 0;moves 6;
-goi run p|18446744073709551615 * 2||0 value overflow;moves 6;
-goi run p|2 + 3 * 4||0 value 14;moves 10;
-goi run p|7 - 2 - 1||0 value 4;moves 10;
-goi run p|fst (1, fix y:nat. y)||0 value 1;moves 6;
-goi run p|(fun p:nat * nat. fst p - snd p) (9, 4)||0 value 5;moves 38;
-goi run p|(fix f:nat->nat. fun n:nat. ifz n then 1 else n * f (pred n)) 3||0 value 6;moves 330;
-goi run p|(fix f:nat->nat. fun n:nat. ifz n then 7 else (fix g:nat->nat. fun m:nat. ifz m then f (pred n) else g (pred m)) 1) 1||0 value 7;moves 136;
+goi run p|1 + 2|0 value 3;moves 6;
+goi run p|(fun x:nat. 7) (fix y:nat. y)|0 value 7;moves 6;
+goi run p|fix y:nat. y|5 no value;moves 10000;
+goi run p|(fun x:nat. x + x) 3|0 value 6;moves 30;
+goi run p|18446744073709551615 + 1|0 value overflow;moves 6;
+goi run p|ifz succ 18446744073709551615 then 1 else 2|0 value 2;moves 8;
+goi run p|succ 18446744073709551615 + fix y:nat. y|1 refused: Unexpected(28);
+goi run p|succ 18446744073709551615 + (fix y:nat. y)|5 no value;moves 10000;
+goi run p|(fix f:nat->nat. fun n:nat. ifz n then 0 else n + f (pred n)) 3|0 value 6;moves 330;
+goi run p|(fun d:nat->nat. d 1 + d 2) (fun x:nat. x + x)|0 value 6;moves 126;
+goi run p|(fun f:(nat->nat)->nat. f (fun x:nat. succ x)) (fun g:nat->nat. g 5)|0 value 6;moves 64;
+goi run p|5 - 7|0 value 0;moves 6;
+goi run p|18446744073709551615 * 2|0 value overflow;moves 6;
+goi run p|2 + 3 * 4|0 value 14;moves 10;
+goi run p|7 - 2 - 1|0 value 4;moves 10;
+goi run p|fst (1, fix y:nat. y)|0 value 1;moves 6;
+goi run p|(fun p:nat * nat. fst p - snd p) (9, 4)|0 value 5;moves 38;
+goi run p|(fix f:nat->nat. fun n:nat. ifz n then 1 else n * f (pred n)) 3|0 value 6;moves 330;
+goi run p|(fix f:nat->nat. fun n:nat. ifz n then 7 else (fix g:nat->nat. fun m:nat. ifz m then f (pred n) else g (pred m)) 1) 1|0 value 7;moves 136;
 ";
     assert!(rt; first_wrong(&rt, rt.alloc(), table)? == None);
     Ok(())
@@ -86,22 +203,22 @@ goi run p|(fix f:nat->nat. fun n:nat. ifz n then 7 else (fix g:nat->nat. fun m:n
 #[test]
 fn budgets_schedules_and_tallies(rt: HostRuntime) -> Result<(), Fail> {
     let table = "
-goi run p --budget 6|1 + 2||0 value 3;moves 6;
-goi run p --budget 5|1 + 2||5 no value;moves 5;
-goi run p --budget 1|fix y:nat. y||5 no value;moves 1;
-goi run p --budget 7|fix y:nat. y||5 no value;moves 7;
-goi run p --budget 10000|fix y:nat. y||5 no value;moves 10000;
-goi run p --budget 100000|fix y:nat. y||5 no value;moves 100000;
-goi run p --budget 10000000|0||0 value 0;moves 2;
-goi run p --workers 64 --budget 10000|0||0 value 0;moves 2;
-goi run p --schedule|1 + 2||0 value 3;moves 6;schedule 2;0 3;1 3;end;
-goi run p --schedule|(fun x:nat. x + x) 3||0 value 6;moves 30;schedule 2;0 15;1 15;end;
-goi run p --schedule --budget 4|1 + 2||5 no value;moves 4;schedule 2;0 3;1 1;end;
-goi run p --tally|1 + 2||0 value 3;moves 6;worker 0 6;finisher 0;
-goi run --tally p --schedule|1 + 2||0 value 3;moves 6;schedule 2;0 3;1 3;end;worker 0 6;finisher 0;
-goi demo 0|x||0 demo 0;nodes 9;value 2;moves 58;
-goi demo 6|x||0 demo 6;nodes 261;value 128;moves 5890;
-goi demo 12|x||0 demo 12;nodes 16389;value 8192;moves 524290;
+goi run p --budget 6|1 + 2|0 value 3;moves 6;
+goi run p --budget 5|1 + 2|5 no value;moves 5;
+goi run p --budget 1|fix y:nat. y|5 no value;moves 1;
+goi run p --budget 7|fix y:nat. y|5 no value;moves 7;
+goi run p --budget 10000|fix y:nat. y|5 no value;moves 10000;
+goi run p --budget 100000|fix y:nat. y|5 no value;moves 100000;
+goi run p --budget 10000000|0|0 value 0;moves 2;
+goi run p --workers 64 --budget 10000|0|0 value 0;moves 2;
+goi run p --schedule|1 + 2|0 value 3;moves 6;schedule 2;0 3;1 3;end;
+goi run p --schedule|(fun x:nat. x + x) 3|0 value 6;moves 30;schedule 2;0 15;1 15;end;
+goi run p --schedule --budget 4|1 + 2|5 no value;moves 4;schedule 2;0 3;1 1;end;
+goi run p --tally|1 + 2|0 value 3;moves 6;worker 0 6;finisher 0;
+goi run --tally p --schedule|1 + 2|0 value 3;moves 6;schedule 2;0 3;1 3;end;worker 0 6;finisher 0;
+goi demo 0|x|0 demo 0;nodes 9;value 2;moves 58;
+goi demo 6|x|0 demo 6;nodes 261;value 128;moves 5890;
+goi demo 12|x|0 demo 12;nodes 16389;value 8192;moves 524290;
 ";
     assert!(rt; first_wrong(&rt, rt.alloc(), table)? == None);
     Ok(())
@@ -110,11 +227,11 @@ goi demo 12|x||0 demo 12;nodes 16389;value 8192;moves 524290;
 #[test]
 fn listings(rt: HostRuntime) -> Result<(), Fail> {
     let table = "
-goi net p|(fun x:nat. x + x) 3||0 net 1;wire 0 value 0 nat;wire 1 var 0 nat;wire 2 value 0 nat;wire 3 var 0 nat;wire 4 var 0 nat;wire 5 value 0 nat;wire 6 value 0 nat -> nat;wire 7 value 1 nat;wire 8 bang 0 nat;wire 9 value 0 nat;node 0 Der 0 1;node 1 Der 2 3;node 2 Con 1 3 4;node 3 Plus 0 2 5;node 4 Lam 5 4 6;node 5 Const 3 7;node 6 Box 7 8;node 7 App 6 8 9;node 8 Root 9;end;
-goi net p|fix y:nat. y||0 net 1;wire 0 value 1 nat;wire 1 var 1 nat;wire 2 value 0 nat;node 0 Der 0 1;node 1 FixBox 0 1 2;node 2 Root 2;end;
-goi net p|(fun x:nat. ifz x then x else x) 1||0 net 1;wire 0 value 0 nat;wire 1 var 0 nat;wire 2 value 0 nat;wire 3 var 0 nat;wire 4 value 0 nat;wire 5 var 0 nat;wire 6 var 0 nat;wire 7 var 0 nat;wire 8 value 0 nat;wire 9 value 0 nat -> nat;wire 10 value 1 nat;wire 11 bang 0 nat;wire 12 value 0 nat;node 0 Der 0 1;node 1 Der 2 3;node 2 Der 4 5;node 3 Con 3 5 6;node 4 Con 1 6 7;node 5 Ifz 0 2 4 8;node 6 Lam 8 7 9;node 7 Const 1 10;node 8 Box 10 11;node 9 App 9 11 12;node 10 Root 12;end;
-goi net p|fst (snd (1, (2 - 3, pred 4 * 5)))||0 net 1;wire 0 value 0 nat;wire 1 value 0 nat;wire 2 value 0 nat;wire 3 value 0 nat;wire 4 value 0 nat;wire 5 value 0 nat;wire 6 value 0 nat;wire 7 value 0 nat;wire 8 value 0 nat * nat;wire 9 value 0 nat * nat * nat;wire 10 value 0 nat * nat;wire 11 value 0 nat;node 0 Const 1 0;node 1 Const 2 1;node 2 Const 3 2;node 3 Minus 1 2 3;node 4 Const 4 4;node 5 Pred 4 5;node 6 Const 5 6;node 7 Times 5 6 7;node 8 Pair 3 7 8;node 9 Pair 0 8 9;node 10 Snd 9 10;node 11 Fst 10 11;node 12 Root 11;end;
-goi net p|(fun f:nat->nat. fix x:nat. f x) (fun z:nat. succ 1)||0 net 1;wire 0 value 1 nat -> nat;wire 1 var 1 nat -> nat;wire 2 value 2 nat;wire 3 var 2 nat;wire 4 var 1 nat;wire 5 bang 1 nat;wire 6 value 1 nat;wire 7 var 0 nat -> nat;wire 8 value 0 nat;wire 9 value 0 (nat -> nat) -> nat;wire 10 value 1 nat;wire 11 value 1 nat;wire 12 var 1 nat;wire 13 value 1 nat -> nat;wire 14 bang 0 nat -> nat;wire 15 value 0 nat;node 0 Der 0 1;node 1 Der 2 3;node 2 Door 3 4;node 3 Box 2 5;node 4 App 0 5 6;node 5 Door 1 7;node 6 FixBox 6 4 8;node 7 Lam 8 7 9;node 8 Const 1 10;node 9 Succ 10 11;node 10 Weak 12;node 11 Lam 11 12 13;node 12 Box 13 14;node 13 App 9 14 15;node 14 Root 15;end;
+goi net p|(fun x:nat. x + x) 3|0 net 1;wire 0 value 0 nat;wire 1 var 0 nat;wire 2 value 0 nat;wire 3 var 0 nat;wire 4 var 0 nat;wire 5 value 0 nat;wire 6 value 0 nat -> nat;wire 7 value 1 nat;wire 8 bang 0 nat;wire 9 value 0 nat;node 0 Der 0 1;node 1 Der 2 3;node 2 Con 1 3 4;node 3 Plus 0 2 5;node 4 Lam 5 4 6;node 5 Const 3 7;node 6 Box 7 8;node 7 App 6 8 9;node 8 Root 9;end;
+goi net p|fix y:nat. y|0 net 1;wire 0 value 1 nat;wire 1 var 1 nat;wire 2 value 0 nat;node 0 Der 0 1;node 1 FixBox 0 1 2;node 2 Root 2;end;
+goi net p|(fun x:nat. ifz x then x else x) 1|0 net 1;wire 0 value 0 nat;wire 1 var 0 nat;wire 2 value 0 nat;wire 3 var 0 nat;wire 4 value 0 nat;wire 5 var 0 nat;wire 6 var 0 nat;wire 7 var 0 nat;wire 8 value 0 nat;wire 9 value 0 nat -> nat;wire 10 value 1 nat;wire 11 bang 0 nat;wire 12 value 0 nat;node 0 Der 0 1;node 1 Der 2 3;node 2 Der 4 5;node 3 Con 3 5 6;node 4 Con 1 6 7;node 5 Ifz 0 2 4 8;node 6 Lam 8 7 9;node 7 Const 1 10;node 8 Box 10 11;node 9 App 9 11 12;node 10 Root 12;end;
+goi net p|fst (snd (1, (2 - 3, pred 4 * 5)))|0 net 1;wire 0 value 0 nat;wire 1 value 0 nat;wire 2 value 0 nat;wire 3 value 0 nat;wire 4 value 0 nat;wire 5 value 0 nat;wire 6 value 0 nat;wire 7 value 0 nat;wire 8 value 0 nat * nat;wire 9 value 0 nat * nat * nat;wire 10 value 0 nat * nat;wire 11 value 0 nat;node 0 Const 1 0;node 1 Const 2 1;node 2 Const 3 2;node 3 Minus 1 2 3;node 4 Const 4 4;node 5 Pred 4 5;node 6 Const 5 6;node 7 Times 5 6 7;node 8 Pair 3 7 8;node 9 Pair 0 8 9;node 10 Snd 9 10;node 11 Fst 10 11;node 12 Root 11;end;
+goi net p|(fun f:nat->nat. fix x:nat. f x) (fun z:nat. succ 1)|0 net 1;wire 0 value 1 nat -> nat;wire 1 var 1 nat -> nat;wire 2 value 2 nat;wire 3 var 2 nat;wire 4 var 1 nat;wire 5 bang 1 nat;wire 6 value 1 nat;wire 7 var 0 nat -> nat;wire 8 value 0 nat;wire 9 value 0 (nat -> nat) -> nat;wire 10 value 1 nat;wire 11 value 1 nat;wire 12 var 1 nat;wire 13 value 1 nat -> nat;wire 14 bang 0 nat -> nat;wire 15 value 0 nat;node 0 Der 0 1;node 1 Der 2 3;node 2 Door 3 4;node 3 Box 2 5;node 4 App 0 5 6;node 5 Door 1 7;node 6 FixBox 6 4 8;node 7 Lam 8 7 9;node 8 Const 1 10;node 9 Succ 10 11;node 10 Weak 12;node 11 Lam 11 12 13;node 12 Box 13 14;node 13 App 9 14 15;node 14 Root 15;end;
 ";
     assert!(rt; first_wrong(&rt, rt.alloc(), table)? == None);
     Ok(())
@@ -123,70 +240,77 @@ goi net p|(fun f:nat->nat. fix x:nat. f x) (fun z:nat. succ 1)||0 net 1;wire 0 v
 #[test]
 fn faults_of_programs(rt: HostRuntime) -> Result<(), Fail> {
     let table = "
-goi run p|||1 refused: Unexpected(0);
-goi run p|0 )||1 refused: Unexpected(2);
-goi run p|$||1 refused: BadToken(0);
-goi run p|18446744073709551616||1 refused: NumberTooWide(0);
-goi run p|x||1 refused: Unbound(0);
-goi run p|1 2||1 refused: FunctionWanted(0);
-goi run p|fix x:nat. fun y:nat. y||1 refused: FixMismatch(11);
-goi run p|fun x:nat. x||1 refused: NotGround;
-goi check p|1 -> 2||1 refused: Unexpected(2);
-goi check p|v||1 refused: Unbound(0);
-goi check p|(1) 2||1 refused: FunctionWanted(1);
-goi check p|1 z||1 refused: FunctionWanted(0);
-goi check p|(fun v:nat. v) (fun y:nat. z)||1 refused: Unbound(27);
-goi check p|(fun x:nat. x) (fun y:nat. y)||1 refused: ArgumentMismatch(16);
-goi check p|(fun v:nat->nat. v) 1||1 refused: ArgumentMismatch(20);
-goi check p|succ (fun v:nat. v)||1 refused: NatWanted(6);
-goi check p|pred (1, 2)||1 refused: NatWanted(5);
-goi check p|fst 1||1 refused: PairWanted(4);
-goi check p|snd (fun v:nat. v)||1 refused: PairWanted(5);
-goi check p|(1, 1) + (2, 2)||1 refused: NatWanted(0);
-goi check p|1 - (2, 2)||1 refused: NatWanted(4);
-goi check p|(fun v:nat. v) * 1||1 refused: NatWanted(1);
-goi check p|ifz (1, 2) then z else z||1 refused: NatWanted(4);
-goi check p|ifz 0 then (1, 2) else z||1 refused: NatWanted(11);
-goi check p|ifz 0 then 0 else (1, 2)||1 refused: NatWanted(18);
-goi check p|fix v:nat. (1, 1)||1 refused: FixMismatch(11);
-goi check p|(1, z)||1 refused: Unbound(4);
-goi check p|z + (1, 1)||1 refused: Unbound(0);
-goi check p|fun v:nat. fun w:nat. z||1 refused: Unbound(22);
-goi net p|fun fst:nat. 1||1 refused: Unexpected(4);
-goi net p|succ (fun x:nat. x)||1 refused: NatWanted(6);
-goi net p|(1, 2)||1 refused: NotGround;
+goi run p||1 refused: Unexpected(0);
+goi run p|0 )|1 refused: Unexpected(2);
+goi run p|$|1 refused: BadToken(0);
+goi run p|18446744073709551616|1 refused: NumberTooWide(0);
+goi run p|x|1 refused: Unbound(0);
+goi run p|1 2|1 refused: FunctionWanted(0);
+goi run p|fix x:nat. fun y:nat. y|1 refused: FixMismatch(11);
+goi run p|fun x:nat. x|1 refused: NotGround;
+goi check p|1 -> 2|1 refused: Unexpected(2);
+goi check p|v|1 refused: Unbound(0);
+goi check p|(1) 2|1 refused: FunctionWanted(1);
+goi check p|1 z|1 refused: FunctionWanted(0);
+goi check p|(fun v:nat. v) (fun y:nat. z)|1 refused: Unbound(27);
+goi check p|(fun x:nat. x) (fun y:nat. y)|1 refused: ArgumentMismatch(16);
+goi check p|(fun v:nat->nat. v) 1|1 refused: ArgumentMismatch(20);
+goi check p|succ (fun v:nat. v)|1 refused: NatWanted(6);
+goi check p|pred (1, 2)|1 refused: NatWanted(5);
+goi check p|fst 1|1 refused: PairWanted(4);
+goi check p|snd (fun v:nat. v)|1 refused: PairWanted(5);
+goi check p|(1, 1) + (2, 2)|1 refused: NatWanted(0);
+goi check p|1 - (2, 2)|1 refused: NatWanted(4);
+goi check p|(fun v:nat. v) * 1|1 refused: NatWanted(1);
+goi check p|ifz (1, 2) then z else z|1 refused: NatWanted(4);
+goi check p|ifz 0 then (1, 2) else z|1 refused: NatWanted(11);
+goi check p|ifz 0 then 0 else (1, 2)|1 refused: NatWanted(18);
+goi check p|fix v:nat. (1, 1)|1 refused: FixMismatch(11);
+goi check p|(1, z)|1 refused: Unbound(4);
+goi check p|z + (1, 1)|1 refused: Unbound(0);
+goi check p|fun v:nat. fun w:nat. z|1 refused: Unbound(22);
+goi net p|fun fst:nat. 1|1 refused: Unexpected(4);
+goi net p|succ (fun x:nat. x)|1 refused: NatWanted(6);
+goi net p|(1, 2)|1 refused: NotGround;
 ";
     assert!(rt; first_wrong(&rt, rt.alloc(), table)? == None);
     assert!(rt; run_leaves(&rt, rt.alloc(), b"1\xFF", "1 refused: NotText(1);")?);
     Ok(())
 }
 
+/// Whether a call without any words is refused.
+fn refuses_no_words<R: Threads + Wait + Sync>(rt: &R, alloc: Global) -> Result<bool, AllocError> {
+    let mut files = files(alloc, b"0", b"", SOUND)?;
+    let seen = answered(rt, alloc, &Vec::new(alloc), &mut files, SOUND)?;
+    Ok(seen.as_slice() == b"2 refused words;".as_slice())
+}
+
 #[test]
 fn other_refusals(rt: HostRuntime) -> Result<(), Fail> {
     // the first call has one word, which is empty
     let table = "
-|0||2 refused words;
-goi|0||2 refused words;
-goi run|0||2 refused words;
-goi go p|0||2 refused words;
-goi help|0||2 refused words;
-goi run --help|0||2 refused words;
-goi run -p|0||2 refused words;
-goi run p --term|0||2 refused words;
-goi run p --budget 0|0||2 refused words;
-goi run p --budget 10000001|0||2 refused words;
-goi run p --workers 0|0||2 refused words;
-goi run p --workers 65|0||2 refused words;
-goi run q --workers 65|0||2 refused words;
-goi replay p|0||2 refused words;
-goi demo 13|0||2 refused words;
-goi demo p|0||2 refused words;
-goi run |0||3 read failed;
-goi run q|0||3 read failed;
-goi run -- --budget|0||3 read failed;
-goi check --term p|0||0 type nat;term 0;
-goi run --budget=1 p|0||5 no value;moves 1;
-goi run -- p|0||0 value 0;moves 2;
+|0|2 refused words;
+goi|0|2 refused words;
+goi run|0|2 refused words;
+goi go p|0|2 refused words;
+goi help|0|2 refused words;
+goi run --help|0|2 refused words;
+goi run -p|0|2 refused words;
+goi run p --term|0|2 refused words;
+goi run p --budget 0|0|2 refused words;
+goi run p --budget 10000001|0|2 refused words;
+goi run p --workers 0|0|2 refused words;
+goi run p --workers 65|0|2 refused words;
+goi run q --workers 65|0|2 refused words;
+goi replay p|0|2 refused words;
+goi demo 13|0|2 refused words;
+goi demo p|0|2 refused words;
+goi run |0|3 read failed;
+goi run q|0|3 read failed;
+goi run -- --budget|0|3 read failed;
+goi check --term p|0|0 type nat;term 0;
+goi run --budget=1 p|0|5 no value;moves 1;
+goi run -- p|0|0 value 0;moves 2;
 ";
     assert!(rt; first_wrong(&rt, rt.alloc(), table)? == None);
     assert!(rt; refuses_no_words(&rt, rt.alloc())?);
@@ -201,39 +325,24 @@ fn push(text: &mut Vec<u8>, piece: &[u8], count: u32) -> Result<(), AllocError> 
     Ok(())
 }
 
-/// These pieces, each so many times, one after another.
-fn joined(alloc: Global, pieces: &[(&[u8], u32)]) -> Result<Vec<u8>, AllocError> {
+/// A piece so many times, `0`, and another piece as many times.
+fn nested(alloc: Global, open: &[u8], close: &[u8], count: u32) -> Result<Vec<u8>, AllocError> {
     let mut text = Vec::new(alloc);
-    for (piece, count) in pieces {
-        push(&mut text, piece, *count)?;
-    }
+    push(&mut text, open, count)?;
+    push(&mut text, b"0", 1)?;
+    push(&mut text, close, count)?;
     Ok(text)
 }
 
 /// So many groups `(1 1 .. 1)` of 64 ones as a sum.
 fn groups(alloc: Global, count: u32) -> Result<Vec<u8>, AllocError> {
-    let group = joined(alloc, &[(b"(1", 1), (b" 1", 63), (b")", 1)])?;
-    sum_of(alloc, b"", &group, count, b"")
-}
-
-/// A text, a sum of a piece so many times, and a text.
-fn sum_of(
-    alloc: Global,
-    front: &[u8],
-    piece: &[u8],
-    count: u32,
-    back: &[u8],
-) -> Result<Vec<u8>, AllocError> {
-    let more = joined(alloc, &[(b"+", 1), (piece, 1)])?;
-    joined(
-        alloc,
-        &[
-            (front, 1),
-            (piece, 1),
-            (&more, count.saturating_sub(1)),
-            (back, 1),
-        ],
-    )
+    let mut text = Vec::new(alloc);
+    for group in 0..count {
+        push(&mut text, if group == 0 { b"(1" } else { b"+(1" }, 1)?;
+        push(&mut text, b" 1", 63)?;
+        push(&mut text, b")", 1)?;
+    }
+    Ok(text)
 }
 
 /// Whether this is what `goi run p` leaves on a nested text.
@@ -245,14 +354,7 @@ fn nested_leaves<R: Threads + Wait + Sync>(
     count: u32,
     wanted: &str,
 ) -> Result<bool, AllocError> {
-    let text = joined(
-        alloc,
-        &[
-            (open.as_bytes(), count),
-            (b"0", 1),
-            (close.as_bytes(), count),
-        ],
-    )?;
+    let text = nested(alloc, open.as_bytes(), close.as_bytes(), count)?;
     run_leaves(rt, alloc, &text, wanted)
 }
 
@@ -296,7 +398,7 @@ fn failed_read_leaves<R: Threads + Wait + Sync>(
         reads: &[failing],
         ..SOUND
     };
-    leaves(rt, alloc, "goi run p", b"succ 4", b"", devices, wanted)
+    leaves(rt, alloc, "goi run p", b"succ 4", devices, wanted)
 }
 
 #[test]
@@ -315,14 +417,12 @@ fn reads_that_fail(rt: HostRuntime) -> Result<(), Fail> {
 
 /// So many ones with a text between them.
 fn ones(alloc: Global, between: &[u8], count: u32) -> Result<Vec<u8>, AllocError> {
-    let more = joined(alloc, &[(between, 1), (b"1", 1)])?;
-    joined(alloc, &[(b"1", 1), (&more, count.saturating_sub(1))])
-}
-
-/// So many ones as a sum in parentheses, and a text.
-fn group(alloc: Global, count: u32, back: &[u8]) -> Result<Vec<u8>, AllocError> {
-    let ones = ones(alloc, b"+", count)?;
-    joined(alloc, &[(b"(", 1), (&ones, 1), (b")", 1), (back, 1)])
+    let mut text = b"1"[..].to_vec(alloc)?;
+    for _ in 1..count {
+        push(&mut text, between, 1)?;
+        push(&mut text, b"1", 1)?;
+    }
+    Ok(text)
 }
 
 /// A text, so many groups of so many ones, and one more group and a text behind them, all as sums.
@@ -333,9 +433,18 @@ fn sums(
     last: u32,
     back: &[u8],
 ) -> Result<Vec<u8>, AllocError> {
-    let each = group(alloc, size, b"+")?;
-    let end = group(alloc, last, back)?;
-    joined(alloc, &[(front, 1), (&each, count), (&end, 1)])
+    let mut text = front.to_vec(alloc)?;
+    let group = ones(alloc, b"+", size)?;
+    for _ in 0..count {
+        push(&mut text, b"(", 1)?;
+        push(&mut text, &group, 1)?;
+        push(&mut text, b")+", 1)?;
+    }
+    push(&mut text, b"(", 1)?;
+    push(&mut text, &ones(alloc, b"+", last)?, 1)?;
+    push(&mut text, b")", 1)?;
+    push(&mut text, back, 1)?;
+    Ok(text)
 }
 
 /// A text, a sum, a product and an application in one another so many times, so many ones, and a text.
@@ -346,17 +455,12 @@ fn high(
     width: u32,
     back: &[u8],
 ) -> Result<Vec<u8>, AllocError> {
-    let ones = ones(alloc, b"+", width)?;
-    joined(
-        alloc,
-        &[
-            (front, 1),
-            (b"1+1*f(0,", levels),
-            (&ones, 1),
-            (b")", levels),
-            (back, 1),
-        ],
-    )
+    let mut text = front.to_vec(alloc)?;
+    push(&mut text, b"1+1*f(0,", levels)?;
+    push(&mut text, &ones(alloc, b"+", width)?, 1)?;
+    push(&mut text, b")", levels)?;
+    push(&mut text, back, 1)?;
+    Ok(text)
 }
 
 fn sums_leave<R: Threads + Wait + Sync>(
@@ -489,19 +593,11 @@ fn failed_write_leaves<R: Threads + Wait + Sync>(
     let devices = Devices {
         most: 8,
         room: room.parse().unwrap_or(0),
+        reads: &[],
         outs: &[out.parse().unwrap_or(0)],
         errs: &[err.parse().unwrap_or(0)],
-        ..SOUND
     };
-    leaves(
-        rt,
-        alloc,
-        "goi run p",
-        text.as_bytes(),
-        b"",
-        devices,
-        wanted,
-    )
+    leaves(rt, alloc, "goi run p", text.as_bytes(), devices, wanted)
 }
 
 #[test]
@@ -521,23 +617,23 @@ succ 4|4 |4000|1|1
     Ok(())
 }
 
+fn push_doubled(text: &mut Vec<u8>, doublings: u32) -> Result<(), AllocError> {
+    if doublings == 0 {
+        return push(text, b"d 1", 1);
+    }
+    push(text, b"(", 1)?;
+    push_doubled(text, doublings - 1)?;
+    push(text, b") + (", 1)?;
+    push_doubled(text, doublings - 1)?;
+    push(text, b")", 1)
+}
+
 /// A function `d` applied to 1, in a sum of this many doublings, and `d` itself doubles too.
 fn doubled(alloc: Global, doublings: u32) -> Result<Vec<u8>, AllocError> {
-    let mut sum = b"d 1"[..].to_vec(alloc)?;
-    for _ in 0..doublings {
-        sum = joined(
-            alloc,
-            &[(b"(", 1), (&sum, 1), (b") + (", 1), (&sum, 1), (b")", 1)],
-        )?;
-    }
-    joined(
-        alloc,
-        &[
-            (b"(fun d:nat->nat. ", 1),
-            (&sum, 1),
-            (b") (fun x:nat. x + x)\n", 1),
-        ],
-    )
+    let mut text = b"(fun d:nat->nat. "[..].to_vec(alloc)?;
+    push_doubled(&mut text, doublings)?;
+    push(&mut text, b") (fun x:nat. x + x)\n", 1)?;
+    Ok(text)
 }
 
 /// The nodes of a read term, types not counted.
@@ -589,7 +685,7 @@ fn sizes<R: Threads + Wait + Sync>(
 ) -> Result<(u64, u64, u64), AllocError> {
     let text = doubled(alloc, doublings)?;
     let tree = read(alloc, &text)?;
-    let seen = told(rt, alloc, "goi net p", &text, b"", SOUND)?;
+    let seen = told(rt, alloc, "goi net p", &text, SOUND)?;
     // the listing's first line begins with an n too, but stands behind the status
     Ok((size(&tree), lines(&seen, b'w'), lines(&seen, b'n')))
 }

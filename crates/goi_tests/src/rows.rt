@@ -1,6 +1,6 @@
 //! Tables of rows as texts: a row a line, in parts between `|`, which no token of the language has.
 
-use crate::calls::{Devices, SOUND, fed, leaves};
+use crate::programs::{SOUND, leaves};
 use std::alloc::{AllocError, Global};
 use std::sync::Wait;
 use std::thread::Threads;
@@ -10,29 +10,22 @@ pub(crate) fn cut(text: &str) -> (&str, &str) {
     text.split_once('|').unwrap_or((text, ""))
 }
 
-/// Whether a row is so: the words of a call, the texts of `p` and `s` with `;` for each line feed, and what the call leaves.
-pub(crate) fn holds<R: Threads + Wait + Sync>(
-    rt: &R,
-    alloc: Global,
-    row: &str,
-    devices: Devices<'_>,
-) -> Result<bool, AllocError> {
+/// Whether a call with a row's words, on a file `p` with its text, leaves what the row says.
+fn holds<R: Threads + Wait + Sync>(rt: &R, alloc: Global, row: &str) -> Result<bool, AllocError> {
     let (words, rest) = cut(row);
-    let (p, rest) = cut(rest);
-    let (s, wanted) = cut(rest);
-    let p = fed(alloc, p.as_bytes())?;
-    let s = fed(alloc, s.as_bytes())?;
-    leaves(rt, alloc, words, &p, &s, devices, wanted)
+    let (text, wanted) = cut(rest);
+    leaves(rt, alloc, words, text.as_bytes(), SOUND, wanted)
 }
 
-/// The number of the first line of a table that isn't so. Empty lines are no rows.
+/// The number of the first line that isn't so. A row is the words of a call, the text of a file `p`, and what the call leaves. Empty
+/// lines are no rows.
 pub(crate) fn first_wrong<R: Threads + Wait + Sync>(
     rt: &R,
     alloc: Global,
     table: &str,
 ) -> Result<Option<usize>, AllocError> {
     for (i, row) in table.split('\n').enumerate() {
-        if !row.is_empty() && !holds(rt, alloc, row, SOUND)? {
+        if !row.is_empty() && !holds(rt, alloc, row)? {
             return Ok(Some(i));
         }
     }

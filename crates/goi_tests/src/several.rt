@@ -1,7 +1,7 @@
 //! Runs of several workers: their value and their moves, which don't depend on the order in which they come, and what their schedules
 //! and tallies add up to.
 
-use crate::calls::{SOUND, fed, leaves, told};
+use crate::programs::{SOUND, told, told_both};
 use crate::rows::first_wrong;
 use std::alloc::{AllocError, Global};
 use std::sync::Wait;
@@ -11,18 +11,18 @@ use std::thread::Threads;
 #[test]
 fn several_workers(rt: HostRuntime) -> Result<(), Fail> {
     let table = "
-goi run p --workers 2|(fun x:nat. x + x) 3||0 value 6;moves 30;
-goi run p --workers 64|(fun x:nat. x + x) 3||0 value 6;moves 30;
-goi run p --workers 2|(fun d:nat->nat. d 1 + d 2) (fun x:nat. x + x)||0 value 6;moves 126;
-goi run p --workers 64|(fun d:nat->nat. d 1 + d 2) (fun x:nat. x + x)||0 value 6;moves 126;
-goi run p --workers 2 --budget 125|(fun d:nat->nat. d 1 + d 2) (fun x:nat. x + x)||5 no value;moves 125;
-goi run p --workers 4|fix y:nat. y||5 no value;moves 10000;
-goi run p --workers 64|0||0 value 0;moves 2;
-goi run p --workers 1|(fun d:nat->nat. d 1 + d 2) (fun x:nat. x + x)||0 value 6;moves 126;
-goi run p --workers 64|(fun p:nat * nat. fst p - snd p) (9, 4)||0 value 5;moves 38;
-goi run p --workers 2|(fun p:nat * nat. fst p - snd p) (9, 4)||0 value 5;moves 38;
-goi demo 1 --workers 4|x||0 demo 1;nodes 13;value 4;moves 126;
-goi demo 12 --workers 4|x||0 demo 12;nodes 16389;value 8192;moves 524290;
+goi run p --workers 2|(fun x:nat. x + x) 3|0 value 6;moves 30;
+goi run p --workers 64|(fun x:nat. x + x) 3|0 value 6;moves 30;
+goi run p --workers 2|(fun d:nat->nat. d 1 + d 2) (fun x:nat. x + x)|0 value 6;moves 126;
+goi run p --workers 64|(fun d:nat->nat. d 1 + d 2) (fun x:nat. x + x)|0 value 6;moves 126;
+goi run p --workers 2 --budget 125|(fun d:nat->nat. d 1 + d 2) (fun x:nat. x + x)|5 no value;moves 125;
+goi run p --workers 4|fix y:nat. y|5 no value;moves 10000;
+goi run p --workers 64|0|0 value 0;moves 2;
+goi run p --workers 1|(fun d:nat->nat. d 1 + d 2) (fun x:nat. x + x)|0 value 6;moves 126;
+goi run p --workers 64|(fun p:nat * nat. fst p - snd p) (9, 4)|0 value 5;moves 38;
+goi run p --workers 2|(fun p:nat * nat. fst p - snd p) (9, 4)|0 value 5;moves 38;
+goi demo 1 --workers 4|x|0 demo 1;nodes 13;value 4;moves 126;
+goi demo 12 --workers 4|x|0 demo 12;nodes 16389;value 8192;moves 524290;
 ";
     assert!(rt; first_wrong(&rt, rt.alloc(), table)? == None);
     Ok(())
@@ -84,24 +84,23 @@ fn number_at(bytes: &[u8]) -> u32 {
     number
 }
 
-/// The schedule in a report, from its third line to the line `end`.
-pub(crate) fn schedule_part(report: &[u8]) -> &[u8] {
+/// The schedule of a report with a line feed for each `;`, from its third line to the line `end`.
+fn schedule_of(alloc: Global, report: &[u8]) -> Result<Vec<u8>, AllocError> {
+    let mut schedule = Vec::new(alloc);
     let mut lines = 0u32;
-    let mut from = 0usize;
     let mut ended = false;
-    for (at, byte) in report.iter().enumerate() {
+    let mut done = false;
+    for byte in report {
+        if lines >= 2 && !done {
+            schedule.push(if *byte == b';' { b'\n' } else { *byte })?;
+        }
         ended = ended || (lines >= 3 && *byte == b'e');
         if *byte == b';' {
             lines = lines.saturating_add(1);
-            if lines == 2 {
-                from = at.saturating_add(1);
-            }
-            if ended {
-                return report.get(from..at.saturating_add(1)).unwrap_or(b"");
-            }
+            done = ended;
         }
     }
-    b""
+    Ok(schedule)
 }
 
 /// Whether the schedule and the tally of a run add up to its moves, and its schedule is replayed to the run's own first two lines.
@@ -113,20 +112,20 @@ fn is_consistent<R: Threads + Wait + Sync>(
     moves: u32,
     lines: &str,
 ) -> Result<bool, AllocError> {
-    let report = told(rt, alloc, words, text.as_bytes(), b"", SOUND)?;
-    let schedule = fed(alloc, schedule_part(&report))?;
+    let report = told(rt, alloc, words, text.as_bytes(), SOUND)?;
+    let schedule = schedule_of(alloc, &report)?;
+    let replayed = told_both(
+        rt,
+        alloc,
+        "goi replay p s",
+        text.as_bytes(),
+        &schedule,
+        SOUND,
+    )?;
     Ok(
         report.starts_with(lines.as_bytes())
             && sums(&report) == (moves, moves)
-            && leaves(
-                rt,
-                alloc,
-                "goi replay p s",
-                text.as_bytes(),
-                &schedule,
-                SOUND,
-                lines,
-            )?,
+            && replayed.as_slice() == lines.as_bytes(),
     )
 }
 
