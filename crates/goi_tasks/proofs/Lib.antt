@@ -1,4 +1,6 @@
 pub mod Brief
+-- why what one worker's run came to, as numbers, is what the text's program means
+pub mod InNumbers
 pub mod Outcomes
 pub mod Ran
 pub mod Replayed
@@ -6,3 +8,5 @@ pub mod Short
 pub mod Shown
 pub mod Sized
 pub mod Texts
+-- why what comes of a text is settled by its bytes, seen from outside
+mod Settling

@@ -205,7 +205,7 @@ module _ (known : Known) where
       one_tree_fault known.one_first_fault wanted tree f g h (subst (λ (u : NamedTree). FaultyTree wanted u g) e k)
 
   -- two of one program
-  same_program : (wanted : Wanted) (bytes : List ℕ) (P Q : NamedTree → TermTree → TyTree → Type 0) (h : OfProgram wanted bytes P) (k : OfProgram wanted bytes Q) → h.term ≡ k.term
+  pub same_program : (wanted : Wanted) (bytes : List ℕ) (P Q : NamedTree → TermTree → TyTree → Type 0) (h : OfProgram wanted bytes P) (k : OfProgram wanted bytes Q) → h.term ≡ k.term
   same_program wanted bytes P Q h k = same_term known.one_tree known.not_both wanted wanted bytes h.tree k.tree h.term k.term h.type k.type h.is k.is
 
   -- ---- a listing is that of one program, or has one fault

@@ -117,7 +117,7 @@ reports_demo law n workers typed answer log r status e nodes moves a b text is o
     }
 
 -- a run of the translated term says what the term means by value
-by_value_tells : (means other : Val → Type 0) → ((v : Val) → means v → other v) → (net : NetTree) (budget : ℕ) (answer : Option Val) (moves status : ℕ) → Tells means net budget answer moves status → Tells other net budget answer moves status
+pub by_value_tells : (means other : Val → Type 0) → ((v : Val) → means v → other v) → (net : NetTree) (budget : ℕ) (answer : Option Val) (moves status : ℕ) → Tells means net budget answer moves status → Tells other net budget answer moves status
 by_value_tells means other go net budget None moves status h = h
 by_value_tells means other go net budget (Some v) moves status h = (h.0, go v h.1, h.2, h.3)
 

@@ -2,7 +2,7 @@
 -- A text is judged in this order: it is read, its scope and its types are checked, its type is looked at where a number is wanted, and
 -- then whether it has a translation where it is to be run by value.
 -- A program here is a term; what is done with it is told elsewhere.
-use Rattle.std.specs.Prelude.{◌≡◌, ◌≢◌, ℕ, List, [], Ok, Err}
+use Rattle.std.specs.Prelude.{◌≡◌, ◌≢◌, ◌⊎◌, ℕ, List, [], Ok, Err}
 use Rattle.pcf_values.specs.Terms.{TyTree, nat, TermTree}
 use Rattle.pcf_values.specs.Typing.{HasType}
 use Rattle.pcf_values.specs.Named.{NamedTree}
@@ -40,6 +40,10 @@ pub record IsProgram (wanted : Wanted) (bytes : List ℕ) (tree : NamedTree) (t 
 abbrev pub IsGround : List ℕ → TermTree → Type 0
 IsGround bytes t = (tree : NamedTree) × IsProgram number bytes tree t nat
 
+-- and this is so of it
+abbrev pub OfGround : List ℕ → (TermTree → Type 0) → Type 0
+OfGround bytes P = (t : TermTree) × IsGround bytes t × P t
+
 -- the tree is refused for this fault, which is its first
 pub data FaultyTree (wanted : Wanted) (tree : NamedTree) : Fault → Type 0 where
   -- its scope or its types are at fault
@@ -55,6 +59,10 @@ pub data FaultyText (wanted : Wanted) (bytes : List ℕ) : Fault → Type 0 wher
   unread : (f : ReadFault) → FirstFault bytes f → FaultyText wanted bytes (Read f)
   -- it stands for a tree that is refused
   of_tree : (tree : NamedTree) (f : Fault) → Text bytes tree → FaultyTree wanted tree f → FaultyText wanted bytes f
+
+-- a program's text is refused for this fault, or it is a program whose term is a number, and a second text is refused for it
+abbrev pub FaultyEither : List ℕ → (TermTree → Type 0) → Fault → Type 0
+FaultyEither bytes second f = FaultyText number bytes f ⊎ OfGround bytes second
 
 -- this is the fault of a program of a type other than `nat`
 pub data IsUnfit (A : TyTree) : Fault → Type 0 where

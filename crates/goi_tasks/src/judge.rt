@@ -2,16 +2,17 @@
 
 ghost use Rattle.std.specs.Prelude.{◌≡◌, [], true, false, IfOk, IfErr};
 ghost use Rattle.goi_words.specs.Jobs.{IsBudget, IsWorkers};
-ghost use Rattle.goi_tasks.specs.declared.task.Task.TheVariants.{Run, ShowNet, RunNet, Trace};
+ghost use Rattle.goi_tasks.specs.declared.task.Task.TheVariants.{Run, RunNet, Trace};
 ghost use Rattle.goi_tasks.specs.NetFiles.{FaultyListing};
 ghost use Rattle.goi_tasks.specs.Outputs.{output_of};
 ghost use Rattle.goi_tasks.specs.Programs.{number, strict_number, FaultyText};
 ghost use Rattle.goi_tasks.specs.Stops.{StopsFor};
 ghost use Rattle.goi_tasks.specs.Tasks.{IsWithin, ReportsText, FaultyFor};
 
+use crate::alone::{check_alone, list_alone};
 use crate::net_file::net_of_listing;
-use crate::program::{check_text, net_by_value, net_of_text};
-use crate::report::{Report, plain};
+use crate::program::{net_by_value, net_of_text};
+use crate::report::Report;
 use crate::running::{report_run, report_trace};
 use crate::stop::Stop;
 use crate::task::Task;
@@ -19,7 +20,6 @@ use adequacy_laws::law_never_stuck;
 use cbv_terms::law_by_value;
 use gate_workers::Gate;
 use goi_words::Window;
-use net_text::print_net;
 use std::alloc::Global;
 use std::sync::Wait;
 use std::thread::Threads;
@@ -57,8 +57,8 @@ pub fn report_text<R: Threads + Wait + Sync, G: Gate>(
         } => run_by_value(
             rt, alloc, bytes, workers, budget, schedule, tally, progress, gate,
         ),
-        Task::Check { term } => Ok(plain(alloc, check_text(alloc, bytes, term)?, 0)),
-        Task::ShowNet => list_text(alloc, bytes),
+        Task::Check { term } => check_alone(alloc, bytes, term),
+        Task::ShowNet => list_alone(alloc, bytes),
         Task::RunNet {
             workers,
             budget,
@@ -201,15 +201,4 @@ fn run_listing<R: Threads + Wait + Sync, G: Gate>(
     );
     drop(net);
     Ok(report?)
-}
-
-/// The listing of the net of a text's program.
-fn list_text(alloc: Global, bytes: &[u8]) -> Result<Report, Stop>
-    ensures report { IfOk result (λ r. ReportsText ShowNet bytes.now (output_of r)) }
-    ensures fault { IfErr result (λ e. StopsFor (FaultyText number bytes.now) e) }
-{
-    let net = net_of_text(alloc, bytes)?;
-    let text = print_net(alloc, &net);
-    drop(net);
-    Ok(plain(alloc, text?, 0))
 }

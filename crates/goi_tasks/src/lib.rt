@@ -5,6 +5,7 @@
 //! and sinks are left to the crate above.
 #![tactic(auto)]
 
+mod alone;
 mod demo;
 mod fault;
 mod judge;
@@ -15,9 +16,14 @@ mod refusal;
 mod replaying;
 mod report;
 mod running;
+mod settled;
 mod stop;
 mod task;
 
+pub use alone::{
+    Told, check_alone, list_alone, replay_alone, run_listing_alone, run_text_alone, tell_text,
+    trace_text_alone,
+};
 pub use demo::report_demo;
 pub use fault::Fault;
 pub use judge::report_text;
@@ -25,5 +31,6 @@ pub use program::net_of_text;
 pub use refusal::{Refusal, refuse};
 pub use replaying::report_replay;
 pub use report::Report;
+pub use settled::law_settled;
 pub use stop::Stop;
 pub use task::{Task, most_bytes};

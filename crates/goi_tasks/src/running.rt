@@ -111,7 +111,7 @@ pub(crate) fn report_trace<R: Threads + Wait + Sync, G: Gate>(
 }
 
 /// The lines of a run, and this part of the trace of its log.
-fn told_walk(
+pub(crate) fn told_walk(
     alloc: Global,
     net: &Net,
     answer: Option<Val>,

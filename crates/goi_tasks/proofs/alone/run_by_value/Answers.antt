@@ -1,0 +1,13 @@
+use Rattle.std.proofs.Common.{false}
+use Rattle.goi_tasks.specs.Outputs.{output_of}
+use Rattle.goi_tasks.proofs.Ran.{strict_runs, strict_output}
+use Rattle.goi_tasks.proofs.alone.run_by_value.Goals as goal
+
+pub report_alone-report-requires-clause-runs : goal.report_alone-report-requires-clause-runs
+report_alone-report-requires-clause-runs c =
+    strict_runs c.law_never_stuck.ensures.runs c.args.bytes.now c.in_ok-net.net c.in_ok-net.ensures.net
+
+pub returns-clause-report : goal.returns-clause-report
+returns-clause-report c =
+    strict_output c.law_by_value.ensures c.args.bytes.now c.in_ok-net.net c.in_ok-net.ensures.net 1 c.args.budget
+    c.args.schedule c.args.tally false (output_of c.in_ok-report.field-0) c.in_ok-report.ensures

@@ -1,0 +1,32 @@
+//! The law that what comes of a text is settled by its bytes.
+
+ghost use Rattle.net_text.specs.Accepted.{OneAnswer};
+ghost use Rattle.goi_tasks.specs.Settles.{TextsSettle};
+
+use batch_lists::law_one_list;
+use cbv_terms::law_faults;
+use pcf_reader::{law_one_fault, law_one_tree, law_text_or_fault};
+use replay_check::law_one_replay;
+use schedule_log::law_one_answer;
+
+/// What comes of a text is settled by its bytes: a task on it ends with one status, or the text has one first fault, and so it is with a
+/// schedule on a program's net.
+pub fn law_settled()
+    ensures { TextsSettle }
+{
+    law_one_tree();
+    law_one_fault();
+    law_text_or_fault();
+    law_faults();
+    law_one_listing();
+    law_one_answer();
+    law_one_replay();
+    law_one_list();
+}
+
+/// A listing is that of one program, or has one first fault.
+fn law_one_listing()
+    ensures { OneAnswer }
+{
+    net_text::law_one_answer();
+}
