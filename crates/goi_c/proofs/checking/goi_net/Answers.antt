@@ -1,0 +1,15 @@
+use Rattle.goi_tasks.specs.declared.task.Task.TheVariants.{ShowNet}
+use Rattle.goi_c.proofs.Called.{called}
+use Rattle.goi_c.proofs.Owned.{owned}
+use Rattle.goi_c.proofs.checking.goi_net.Goals as goal
+
+pub returns-clause-calls : goal.returns-clause-calls
+returns-clause-calls c =
+    let h = c.list_alone-listed in
+    called _ _ h.result _ h.ensures.report h.ensures.fault c.give_result.ensures
+
+pub returns-clause-own : goal.returns-clause-own
+returns-clause-own c =
+    let h = c.list_alone-listed in
+    owned _ _ _ (c.law_settled.ensures.tasks ShowNet c.args.text.now) _
+    (called _ _ h.result _ h.ensures.report h.ensures.fault c.give_result.ensures)

@@ -1,0 +1,131 @@
+-- What the calls promise to a caller that isn't written in Rattle. Each is a task on the caller's bytes, and what is given back is the
+-- task's output, the line of the first fault, or nothing where there was no memory or the numbers ask for nothing.
+use Rattle.std.specs.Prelude.{◌≡◌, ◌≢◌, ◌≤◌, ◌<◌, ◌/◌, ◌%◌, ℕ, Bool, false, List, length, Option, None, Some}
+use Rattle.std.specs.Prelude.{nat_eq}
+use Rattle.pcf_values.specs.declared.val.Val.{Val}
+use Rattle.pcf_values.specs.declared.val.Val.TheVariants.{Number, Overflow}
+use Rattle.goi_words.specs.declared.jobs.Window.{Window}
+use Rattle.goi_words.specs.Jobs.{IsBudget, IsWindow}
+use Rattle.goi_tasks.specs.declared.fault.Fault.{Fault}
+use Rattle.goi_tasks.specs.declared.task.Task.{Task}
+use Rattle.goi_tasks.specs.declared.task.Task.TheVariants.{Run, RunNet, Trace}
+use Rattle.goi_tasks.specs.Alone.{TellsText}
+use Rattle.goi_tasks.specs.Outputs.{Output}
+use Rattle.goi_tasks.specs.Refusals.{most_line, IsLine, fault_status}
+use Rattle.goi_tasks.specs.Programs.{FaultyEither, OfGround}
+use Rattle.goi_tasks.specs.Replaying.{replay_status, ReportsReplay, EndsReplay, FaultySchedule}
+use Rattle.goi_tasks.specs.Tasks.{ReportsText, FaultyFor, EndsText}
+use Rattle.goi_c.specs.declared.telling.Answer.{Answer}
+use Rattle.goi_c.specs.Backs.{Back, Comes, Gives, Nothing}
+
+-- ---- flags
+
+-- call by value is asked for, and the schedule is
+abbrev pub by_value_in : ℕ → Bool
+by_value_in flags = nat_eq (flags % 2) 1
+
+abbrev pub schedule_in : ℕ → Bool
+schedule_in flags = nat_eq (flags / 2) 1
+
+-- the numbers of a run ask for something: its budget is within the limits, and no other flag is set
+abbrev pub IsAsked : ℕ → ℕ → ℕ → Type 0
+IsAsked flags_end budget flags = IsBudget budget × (flags < flags_end)
+
+-- ---- texts
+
+-- a right output is given back, or the line of a fault that is there, or there was no memory
+pub data Calls (reports : Output → Type 0) (faulty : Fault → Type 0) (b : Back) : Type 0 where
+  prints : (o : Output) → reports o → Gives o.status o.report b → Calls reports faulty b
+  refuses : (f : Fault) (line : List ℕ) → faulty f → IsLine f line → Gives (fault_status f) line b → Calls reports faulty b
+  no_memory : Nothing 6 b → Calls reports faulty b
+
+-- the call of a task on a text
+abbrev pub CallsTask : Task → List ℕ → Back → Type 0
+CallsTask task bytes b = Calls (ReportsText task bytes) (FaultyFor task bytes) b
+
+-- the call of a schedule on the net of a text's program
+abbrev pub CallsReplay : List ℕ → List ℕ → Back → Type 0
+CallsReplay bytes schedule b =
+    Calls (λ o. OfGround bytes (λ t. ReportsReplay t None schedule o)) (λ f. FaultyEither bytes (λ t. FaultySchedule t schedule f) f) b
+
+-- where this is asked for, this is so, and else nothing is done
+pub record WhereAsked (asked : Type 0) (b : Back) (so : Type 0) : Type 0 where
+  pub right : asked → so
+  pub wrong : (asked → ⊥) → Nothing 2 b
+
+-- the task for which these numbers ask
+abbrev pub run_task : ℕ → ℕ → Task
+run_task budget flags = Run 1 budget (schedule_in flags) false (by_value_in flags) false
+
+-- the call of a run of a text's program, and of a listed one, which has no call by value
+abbrev pub CallsRun : List ℕ → ℕ → ℕ → Back → Type 0
+CallsRun bytes budget flags b = WhereAsked (IsAsked 4 budget flags) b (CallsTask (run_task budget flags) bytes b)
+
+abbrev pub CallsListed : List ℕ → ℕ → Bool → Back → Type 0
+CallsListed bytes budget schedule b = WhereAsked (IsBudget budget) b (CallsTask (RunNet 1 budget schedule false) bytes b)
+
+-- the part of a trace that these numbers name
+abbrev pub part : ℕ → ℕ → Window
+part from most = record { from = from; most = most }
+
+-- the call of a run of a text's program, by value where the flags ask for it, with that part of its trace
+abbrev pub IsAskedTrace : ℕ → ℕ → Window → Type 0
+IsAskedTrace budget flags window = IsAsked 2 budget flags × IsWindow window
+
+abbrev pub trace_task : ℕ → ℕ → Window → Task
+trace_task budget flags window = Trace 1 budget (nat_eq flags 1) window
+
+abbrev pub CallsTrace : List ℕ → ℕ → ℕ → Window → Back → Type 0
+CallsTrace bytes budget flags window b =
+    WhereAsked (IsAskedTrace budget flags window) b (CallsTask (trace_task budget flags window) bytes b)
+
+-- ---- which status
+
+-- What can be done ends with the status with which it ends, and what has a fault with that of the fault, but for room and memory.
+pub record Owns (ends : ℕ → Type 0) (faulty : Fault → Type 0) (b : Back) : Type 0 where
+  pub done : (own : ℕ) → ends own → Comes own b
+  pub refused : (f : Fault) → faulty f → Comes (fault_status f) b
+
+-- so it is with a task on a text, and with a schedule on the net of a text's program
+abbrev pub OwnsTask : Task → List ℕ → Back → Type 0
+OwnsTask task bytes b = Owns (EndsText task bytes) (FaultyFor task bytes) b
+
+abbrev pub OwnsReplay : List ℕ → List ℕ → Back → Type 0
+OwnsReplay bytes schedule b =
+    Owns (λ own. OfGround bytes (λ t. EndsReplay t schedule own)) (λ f. FaultyEither bytes (λ t. FaultySchedule t schedule f) f) b
+
+-- a buffer for a line has room for whatever a call gives back that tells no more than lines
+abbrev pub HasRoom : Back → Type 0
+HasRoom b = most_line ≤ length b.old → b.status ≢ 4
+
+-- ---- numbers
+
+-- the answer in numbers: the kind is 0 for none, 1 for a number and 2 for overflow
+abbrev pub AnswerIs : Option Val → ℕ → Answer → Type 0
+AnswerIs None moves a = (a.kind ≡ 0) × (a.value ≡ 0) × (a.moves ≡ moves)
+AnswerIs (Some (Number n)) moves a = (a.kind ≡ 1) × (a.value ≡ n) × (a.moves ≡ moves)
+AnswerIs (Some Overflow) moves a = (a.kind ≡ 2) × (a.value ≡ 0) × (a.moves ≡ moves)
+
+-- the task of a run in numbers
+abbrev pub tell_task : Bool → ℕ → Task
+tell_task by_value budget = Run 1 budget false false by_value false
+
+-- what a run in numbers gives back: what it came to, with its status, or the line of a fault that is there, or there was no memory
+pub data TellsRun (by_value : Bool) (budget : ℕ) (bytes : List ℕ) (a : Answer) (b : Back) : Type 0 where
+  ran : (answer : Option Val) (moves : ℕ) → TellsText by_value budget bytes answer moves → AnswerIs answer moves a →
+      Nothing (replay_status answer) b → TellsRun by_value budget bytes a b
+  refused : (f : Fault) (line : List ℕ) → FaultyFor (tell_task by_value budget) bytes f → IsLine f line → AnswerIs None 0 a →
+      Gives (fault_status f) line b → TellsRun by_value budget bytes a b
+  no_memory : AnswerIs None 0 a → Nothing 6 b → TellsRun by_value budget bytes a b
+
+-- the call of a run in numbers; where its numbers ask for nothing, there is no answer
+pub record CallsTell (bytes : List ℕ) (budget flags : ℕ) (a : Answer) (b : Back) : Type 0 where
+  pub right : IsAsked 2 budget flags → TellsRun (nat_eq flags 1) budget bytes a b
+  pub wrong : (IsAsked 2 budget flags → ⊥) → Nothing 2 b
+  pub no_answer : (IsAsked 2 budget flags → ⊥) → AnswerIs None 0 a
+
+-- ---- the version
+
+-- 1.0.0
+abbrev pub version : ℕ
+version = 10000
