@@ -1,0 +1,248 @@
+//! A geometry-of-interaction machine for PCF, over the calls of `goi.h`.
+//!
+//! ```
+//! let answer = goi::tell("(fun x:nat. x + x) 3", goi::BUDGET, false).unwrap();
+//! assert_eq!((answer.value, answer.moves), (Some(goi::Val::Number(6)), 30));
+//! ```
+//!
+//! Each call runs in a thread of its own with a stack of `STACK_SIZE`, since a thread of Rust has less than the deepest programs take.
+
+/// The calls, as `goi.h` declares them, with all that it asks of a caller.
+pub mod sys {
+    /// What a run came to: the value where `kind` is 1, and 0 where it is 0 for none or 2 for an overflow.
+    #[repr(C)]
+    #[derive(Clone, Copy, Default)]
+    pub struct Answer {
+        pub value: u64,
+        pub moves: u32,
+        pub kind: u32,
+    }
+
+    #[rustfmt::skip]
+    extern "C" {
+        pub fn goi_tell(
+            text: *const u8, text_size: usize, budget: u32, flags: u32, answer: *mut Answer, out: *mut u8, out_size: usize,
+            needed: *mut usize,
+        ) -> u32;
+        pub fn goi_run(
+            text: *const u8, text_size: usize, budget: u32, flags: u32, out: *mut u8, out_size: usize, needed: *mut usize,
+        ) -> u32;
+        pub fn goi_trace(
+            text: *const u8, text_size: usize, budget: u32, flags: u32, from: u32, most: u32, out: *mut u8, out_size: usize,
+            needed: *mut usize,
+        ) -> u32;
+        pub fn goi_run_net(
+            text: *const u8, text_size: usize, budget: u32, schedule: bool, out: *mut u8, out_size: usize, needed: *mut usize,
+        ) -> u32;
+        pub fn goi_check(text: *const u8, text_size: usize, term: bool, out: *mut u8, out_size: usize, needed: *mut usize) -> u32;
+        pub fn goi_net(text: *const u8, text_size: usize, out: *mut u8, out_size: usize, needed: *mut usize) -> u32;
+        pub fn goi_replay(
+            text: *const u8, text_size: usize, schedule: *const u8, schedule_size: usize, out: *mut u8, out_size: usize, needed: *mut usize,
+        ) -> u32;
+        pub fn goi_version() -> u32;
+    }
+}
+
+/// The default budget of moves.
+pub const BUDGET: u32 = 10_000;
+/// The most that a run may be allowed.
+pub const BUDGET_MAX: u32 = 10_000_000;
+/// Enough for any fault's line and any run without its schedule.
+pub const LINE_SIZE: usize = 64;
+/// How much of the stack a call may take.
+pub const STACK_SIZE: usize = 4 << 20;
+
+/// A value.
+#[derive(Clone, Copy, Debug, PartialEq, Eq)]
+pub enum Val {
+    Number(u64),
+    /// A number past 64 bits was met.
+    Overflow,
+}
+
+/// What a run came to.
+#[derive(Clone, Copy, Debug, PartialEq, Eq)]
+pub struct Answer {
+    /// The value, or none within the budget.
+    pub value: Option<Val>,
+    /// The moves that were made; the whole budget where there is no value.
+    pub moves: u32,
+}
+
+/// Why there is no answer.
+#[derive(Clone, Debug, PartialEq, Eq)]
+pub enum Error {
+    /// The program, the schedule or the listing has a fault, and this tells it, as in `Unexpected(0)`.
+    Refused(String),
+    /// A number is outside its range: the budget isn't from 1 to 10,000,000.
+    BadCall,
+    /// There was no memory.
+    NoMemory,
+}
+
+impl std::fmt::Display for Error {
+    fn fmt(&self, f: &mut std::fmt::Formatter<'_>) -> std::fmt::Result {
+        match self {
+            Error::Refused(fault) => write!(f, "refused: {fault}"),
+            Error::BadCall => write!(f, "a number is outside its range"),
+            Error::NoMemory => write!(f, "no memory"),
+        }
+    }
+}
+
+impl std::error::Error for Error {}
+
+fn error_of(status: u32, line: &[u8]) -> Error {
+    match status {
+        2 => Error::BadCall,
+        6 => Error::NoMemory,
+        _ => Error::Refused(String::from_utf8_lossy(line).trim_end().trim_start_matches("refused: ").to_owned()),
+    }
+}
+
+/// What a call answers in a thread with room on its stack; no thread is no memory.
+fn apart<T: Send>(call: impl FnOnce() -> Result<T, Error> + Send) -> Result<T, Error> {
+    std::thread::scope(|scope| {
+        // (the pages above the call's are the thread's own)
+        let thread = std::thread::Builder::new().stack_size(STACK_SIZE + (1 << 16)).spawn_scoped(scope, call);
+        thread.map_err(|_| Error::NoMemory)?.join().expect("a call never panics")
+    })
+}
+
+/// Calls with as much room as the text takes.
+fn text_of(call: impl Fn(&mut [u8], &mut usize) -> u32 + Send) -> Result<String, Error> {
+    apart(move || {
+        let (mut out, mut needed) = (vec![0; LINE_SIZE], 0);
+        loop {
+            let status = call(&mut out, &mut needed);
+            match status {
+                4 => out.resize(needed, 0),
+                0 | 5 => return Ok(String::from_utf8_lossy(&out[..needed]).into_owned()),
+                _ => return Err(error_of(status, &out[..needed])),
+            }
+        }
+    })
+}
+
+// SAFETY, of all that follows: each pointer is that of a live value of the declared type and size, none overlaps another, and the stack
+// has the room that goi.h asks for.
+
+/// What the program comes to.
+pub fn tell(text: impl AsRef<[u8]>, budget: u32, by_value: bool) -> Result<Answer, Error> {
+    let text = text.as_ref();
+    apart(|| {
+        let (mut answer, mut line, mut needed) = (sys::Answer::default(), [0; LINE_SIZE], 0);
+        let flags = u32::from(by_value);
+        let (at, size) = (line.as_mut_ptr(), line.len());
+        let status = unsafe { sys::goi_tell(text.as_ptr(), text.len(), budget, flags, &mut answer, at, size, &mut needed) };
+        let value = match answer.kind {
+            1 => Some(Val::Number(answer.value)),
+            2 => Some(Val::Overflow),
+            _ => None,
+        };
+        match status {
+            0 | 5 => Ok(Answer { value, moves: answer.moves }),
+            _ => Err(error_of(status, &line[..needed])),
+        }
+    })
+}
+
+/// What `goi run` prints, with the schedule behind it where asked.
+pub fn run(text: impl AsRef<[u8]>, budget: u32, by_value: bool, schedule: bool) -> Result<String, Error> {
+    let text = text.as_ref();
+    let flags = u32::from(by_value) + 2 * u32::from(schedule);
+    text_of(|out, needed| unsafe { sys::goi_run(text.as_ptr(), text.len(), budget, flags, out.as_mut_ptr(), out.len(), needed) })
+}
+
+/// What `goi trace` prints: the value and the moves, and the walk from a move on, of at most so many moves.
+pub fn trace(text: impl AsRef<[u8]>, budget: u32, by_value: bool, from: u32, most: u32) -> Result<String, Error> {
+    let text = text.as_ref();
+    let flags = u32::from(by_value);
+    text_of(|out, needed| unsafe {
+        let (at, size) = (out.as_mut_ptr(), out.len());
+        sys::goi_trace(text.as_ptr(), text.len(), budget, flags, from, most, at, size, needed)
+    })
+}
+
+/// What `goi run-net` prints, for the program whose net the text lists.
+pub fn run_net(text: impl AsRef<[u8]>, budget: u32, schedule: bool) -> Result<String, Error> {
+    let text = text.as_ref();
+    text_of(|out, needed| unsafe { sys::goi_run_net(text.as_ptr(), text.len(), budget, schedule, out.as_mut_ptr(), out.len(), needed) })
+}
+
+/// What `goi check` prints: the type, and with `term` the program itself.
+pub fn check(text: impl AsRef<[u8]>, term: bool) -> Result<String, Error> {
+    let text = text.as_ref();
+    text_of(|out, needed| unsafe { sys::goi_check(text.as_ptr(), text.len(), term, out.as_mut_ptr(), out.len(), needed) })
+}
+
+/// The listing of the program's net, as `goi net` prints it.
+pub fn net(text: impl AsRef<[u8]>) -> Result<String, Error> {
+    let text = text.as_ref();
+    text_of(|out, needed| unsafe { sys::goi_net(text.as_ptr(), text.len(), out.as_mut_ptr(), out.len(), needed) })
+}
+
+/// What `goi replay` prints: what the schedule comes to on the program's net.
+pub fn replay(text: impl AsRef<[u8]>, schedule: impl AsRef<[u8]>) -> Result<String, Error> {
+    let (text, schedule) = (text.as_ref(), schedule.as_ref());
+    text_of(|out, needed| unsafe {
+        let (at, size) = (out.as_mut_ptr(), out.len());
+        sys::goi_replay(text.as_ptr(), text.len(), schedule.as_ptr(), schedule.len(), at, size, needed)
+    })
+}
+
+/// The library's version: ten thousand times its first number, a hundred times its second, and its third.
+pub fn version() -> u32 {
+    unsafe { sys::goi_version() }
+}
+
+#[cfg(test)]
+mod tests {
+    use super::*;
+
+    const DOUBLE: &str = "(fun x:nat. x + x) 3";
+
+    #[test]
+    fn answers() {
+        assert_eq!(tell(DOUBLE, BUDGET, false), Ok(Answer { value: Some(Val::Number(6)), moves: 30 }));
+        assert_eq!(tell("succ 18446744073709551615", BUDGET, false).unwrap().value, Some(Val::Overflow));
+        assert_eq!(tell("fix y:nat. y", 77, false), Ok(Answer { value: None, moves: 77 }));
+        assert_eq!(tell("", BUDGET, false), Err(Error::Refused("Unexpected(0)".into())));
+        assert_eq!(tell("1", 0, false), Err(Error::BadCall));
+        assert_eq!(tell("1", BUDGET_MAX + 1, false), Err(Error::BadCall));
+        assert_eq!(version() / 10_000, 1);
+    }
+
+    #[test]
+    fn texts() {
+        assert_eq!(check("fun x:nat. x", false).unwrap(), "type nat -> nat\n");
+        let told = run(DOUBLE, BUDGET, false, true).unwrap();
+        let schedule = &told[told.find("schedule ").unwrap()..];
+        assert_eq!(replay(DOUBLE, schedule).unwrap(), "value 6\nmoves 30\n");
+        assert!(trace(DOUBLE, BUDGET, false, 0, 1000).unwrap().starts_with("value 6\nmoves 30\ntrace "));
+        assert_eq!(trace(DOUBLE, BUDGET, false, 0, 0), Err(Error::BadCall));
+        let listing = net(DOUBLE).unwrap();
+        assert_eq!(run_net(&listing, BUDGET, false).unwrap(), "value 6\nmoves 30\n");
+        assert_eq!(run_net("net 2\n", BUDGET, false), Err(Error::Refused("BadLine(1)".into())));
+    }
+
+    #[test]
+    fn deep() {
+        let text = format!("{}0{}", "(".repeat(500), ")".repeat(500));
+        assert_eq!(tell(text, BUDGET, false).unwrap().value, Some(Val::Number(0)));
+    }
+
+    #[test]
+    fn many_threads() {
+        let texts: Vec<String> = (0..16).map(|n| format!("(fun x:nat. x + x) {n}")).collect();
+        std::thread::scope(|s| {
+            for (n, text) in texts.iter().enumerate() {
+                s.spawn(move || {
+                    for _ in 0..100 {
+                        assert_eq!(tell(text, BUDGET, false).unwrap().value, Some(Val::Number(2 * n as u64)));
+                    }
+                });
+            }
+        });
+    }
+}
