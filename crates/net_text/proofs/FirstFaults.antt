@@ -9,9 +9,10 @@ use Rattle.net_build.specs.declared.node.Node.{Node}
 use Rattle.net_build.specs.declared.node.Node.TheVariants.{Const, Succ, Pred, Plus, Minus, Times, Ifz, Der, Con, Weak, Lam, App, BoxNode}
 use Rattle.net_build.specs.declared.node.Node.TheVariants.{Door, FixBox, Root, Pair, Fst, Snd}
 use Rattle.net_build.specs.Nets.{WireTree, NetTree}
+use Rattle.text_lines.specs.Lines.{end_line}
 use Rattle.net_text.specs.Listing.{wire_line, node_line, numbers_of}
 use Rattle.net_text.specs.NetText.{numbered, NodeFits, NodesFit, WiresFit, Small, ty_height}
-use Rattle.net_text.specs.Standing.{last_line, NodesStand, WiresStand}
+use Rattle.net_text.specs.Standing.{NodesStand, WiresStand}
 use Rattle.net_text.specs.WireText.{wire_in}
 use Rattle.net_text.specs.NodeText.{all_small, node_fits, node_in}
 use Rattle.net_text.specs.FirstFault.{if_right, checked_node, node_at, wire_fits, checked_wire, wire_at, ended, with_node, and_nodes}
@@ -135,7 +136,7 @@ pub record Bad (Stand : List (List ℕ) → Type 0) (Whole : List (List ℕ) →
 pub record NodesWhole (k : ℕ) (ls : List (List ℕ)) : Type 0 where
   pub nodes : List Node
   pub fit : NodesFit nodes
-  pub are : numbered node_line k nodes ++ last_line ∷ [] ≡ ls
+  pub are : numbered node_line k nodes ++ end_line ∷ [] ≡ ls
 
 -- two faults of one reading are one
 nodes_err : (n m : ℕ) (r : Result (List Node) ℕ) → r ≡ Err n → r ≡ Err m → m ≡ n
@@ -151,12 +152,12 @@ first_byte [] = 0
 first_byte (b ∷ bs) = b
 
 -- a node's line is not the last
-not_last : (k : ℕ) (x : Node) (l : List ℕ) → l ≡ node_line k x → l ≡ last_line → ⊥
+not_last : (k : ℕ) (x : Node) (l : List ℕ) → l ≡ node_line k x → l ≡ end_line → ⊥
 unfolding first_byte
 not_last k x l e f = let z : 110 ≡ 101 = ap first_byte (sym e ∙ f) in absurd (omega (arith, z))
 
 -- nodes and the last line are some lines
-no_lines : (k : ℕ) (ns : List Node) → numbered node_line k ns ++ last_line ∷ [] ≡ [] → ⊥
+no_lines : (k : ℕ) (ns : List Node) → numbered node_line k ns ++ end_line ∷ [] ≡ [] → ⊥
 no_lines k [] h = cc
 no_lines k (x ∷ ns) h = cc
 
@@ -172,7 +173,7 @@ none_bad k n m e = record {
 }
 
 -- this line is no node's and not the last
-line_bad : (k n m : ℕ) (l : List ℕ) (ls : List (List ℕ)) → m ≡ n → ((x : Node) → NodeFits x → l ≡ node_line k x → ⊥) → (l ≡ last_line → ⊥)
+line_bad : (k n m : ℕ) (l : List ℕ) (ls : List (List ℕ)) → m ≡ n → ((x : Node) → NodeFits x → l ≡ node_line k x → ⊥) → (l ≡ end_line → ⊥)
     → Bad (NodesStand k) (NodesWhole k) n m (l ∷ ls)
 line_bad k n m l ls e p q = record {
   good = 0;
@@ -184,7 +185,7 @@ line_bad k n m l ls e p q = record {
 }
 
 -- a line behind the last
-behind_bad : (k n m : ℕ) (l l' : List ℕ) (ls : List (List ℕ)) → m ≡ suc n → l ≡ last_line
+behind_bad : (k n m : ℕ) (l l' : List ℕ) (ls : List (List ℕ)) → m ≡ suc n → l ≡ end_line
     → Bad (NodesStand k) (NodesWhole k) n m (l ∷ l' ∷ ls)
 behind_bad k n m l l' ls e f = record {
   good = 1;
@@ -204,17 +205,17 @@ pub others_are : (k l : List ℕ) (ks ls : List (List ℕ)) → k ∷ ks ≡ l �
 others_are k l ks ls h = cc
 
 -- the lines behind a node's are those of the other nodes
-rest_whole : (k : ℕ) (l : List ℕ) (ls : List (List ℕ)) (ns : List Node) → NodesFit ns → numbered node_line k ns ++ last_line ∷ [] ≡ l ∷ ls
-    → (l ≡ last_line → ⊥) → NodesWhole (suc k) ls
-rest_whole k l ls [] f h q = absurd (q (first_is last_line l [] ls h))
+rest_whole : (k : ℕ) (l : List ℕ) (ls : List (List ℕ)) (ns : List Node) → NodesFit ns → numbered node_line k ns ++ end_line ∷ [] ≡ l ∷ ls
+    → (l ≡ end_line → ⊥) → NodesWhole (suc k) ls
+rest_whole k l ls [] f h q = absurd (q (first_is end_line l [] ls h))
 rest_whole k l ls (x ∷ ns) f h q = record {
   nodes = ns;
   fit = f.1;
-  are = others_are (node_line k x) l (numbered node_line (suc k) ns ++ last_line ∷ []) ls h;
+  are = others_are (node_line k x) l (numbered node_line (suc k) ns ++ end_line ∷ []) ls h;
 }
 
 -- the first bad line is a later one
-later_bad : (k n m : ℕ) (l : List ℕ) (ls : List (List ℕ)) (x : Node) → NodeFits x → l ≡ node_line k x → (l ≡ last_line → ⊥)
+later_bad : (k n m : ℕ) (l : List ℕ) (ls : List (List ℕ)) (x : Node) → NodeFits x → l ≡ node_line k x → (l ≡ end_line → ⊥)
     → Bad (NodesStand (suc k)) (NodesWhole (suc k)) (suc n) m ls → Bad (NodesStand k) (NodesWhole k) n m (l ∷ ls)
 later_bad k n m l ls x f e q b = record {
   good = suc b.good;
@@ -231,14 +232,14 @@ with_node_err x m (Ok ns) h = cc
 with_node_err x m (Err j) h = cc
 
 -- the last line, with or without others behind it
-ended_bad : (k n m : ℕ) (l : List ℕ) (ls : List (List ℕ)) → l ≡ last_line → ended n ls ≡ Err m
+ended_bad : (k n m : ℕ) (l : List ℕ) (ls : List (List ℕ)) → l ≡ end_line → ended n ls ≡ Err m
     → Bad (NodesStand k) (NodesWhole k) n m (l ∷ ls)
 ended_bad k n m l [] f h = absurd (nodes_ok [] m (ended n []) refl h)
 ended_bad k n m l (l' ∷ ls) f h = behind_bad k n m l l' ls (nodes_err (suc n) m (ended n (l' ∷ ls)) refl h) f
 
 -- what a line was found to be
 node_bad : (k n m : ℕ) (l : List ℕ) (ls : List (List ℕ)) (o : Option Node) (r : Result (List Node) ℕ) → node_at k l ≡ o
-    → (l ≡ last_line → ⊥) → (r ≡ Err m → Bad (NodesStand (suc k)) (NodesWhole (suc k)) (suc n) m ls) → and_nodes n o r ≡ Err m
+    → (l ≡ end_line → ⊥) → (r ≡ Err m → Bad (NodesStand (suc k)) (NodesWhole (suc k)) (suc n) m ls) → and_nodes n o r ≡ Err m
     → Bad (NodesStand k) (NodesWhole k) n m (l ∷ ls)
 node_bad k n m l ls None r e q b h =
     line_bad k n m l ls (nodes_err n m (and_nodes n None r) refl h) (λ x f g. no_node x (sym e ∙ is_node k l x g f)) q
@@ -262,10 +263,10 @@ not_true b h g = cc
 pub nodes_bad : (k n m : ℕ) (ls : List (List ℕ)) → nodes_from k n ls ≡ Err m → Bad (NodesStand k) (NodesWhole k) n m ls
 nodes_bad k n m [] h = none_bad k n m (nodes_err n m (nodes_from k n []) refl h)
 nodes_bad k n m (l ∷ ls) h =
-    elim (chosen_nodes (bytes_eq l last_line) (ended n ls) (and_nodes n (node_at k l) (nodes_from (suc k) (suc n) ls)) (Err m) h) [
-      | inl c ↦ ended_bad k n m l ls (same_is l last_line c.0) c.1
+    elim (chosen_nodes (bytes_eq l end_line) (ended n ls) (and_nodes n (node_at k l) (nodes_from (suc k) (suc n) ls)) (Err m) h) [
+      | inl c ↦ ended_bad k n m l ls (same_is l end_line c.0) c.1
       | inr c ↦ node_bad k n m l ls (node_at k l) (nodes_from (suc k) (suc n) ls) refl
-          (λ e. not_true (bytes_eq l last_line) c.0 (is_same l last_line e)) (nodes_bad (suc k) (suc n) m ls) c.1
+          (λ e. not_true (bytes_eq l end_line) c.0 (is_same l end_line e)) (nodes_bad (suc k) (suc n) m ls) c.1
     ]
 
 pub record WiresWhole (h k : ℕ) (ls : List (List ℕ)) : Type 0 where
@@ -273,7 +274,7 @@ pub record WiresWhole (h k : ℕ) (ls : List (List ℕ)) : Type 0 where
   pub nodes : List Node
   pub wires_fit : WiresFit h wires
   pub nodes_fit : NodesFit nodes
-  pub are : numbered wire_line k wires ++ (numbered node_line 0 nodes ++ last_line ∷ []) ≡ ls
+  pub are : numbered wire_line k wires ++ (numbered node_line 0 nodes ++ end_line ∷ []) ≡ ls
 
 -- two faults of one reading of a net are one
 pub net_err : (n m : ℕ) (r : Result NetTree ℕ) → r ≡ Err n → r ≡ Err m → m ≡ n
@@ -290,7 +291,7 @@ with_wire_err w m (Ok net) h = cc
 with_wire_err w m (Err j) h = cc
 
 -- a listing has lines
-no_net : (k : ℕ) (ws : List WireTree) (ns : List Node) → numbered wire_line k ws ++ (numbered node_line 0 ns ++ last_line ∷ []) ≡ [] → ⊥
+no_net : (k : ℕ) (ws : List WireTree) (ns : List Node) → numbered wire_line k ws ++ (numbered node_line 0 ns ++ end_line ∷ []) ≡ [] → ⊥
 no_net k [] ns h = no_lines 0 ns h
 no_net k (w ∷ ws) ns h = cc
 
@@ -300,7 +301,7 @@ unfolding first_byte
 wire_not_node k j w x l e f = let z : 119 ≡ 110 = ap first_byte (sym e ∙ f) in absurd (omega (arith, z))
 
 -- nor is it the last
-wire_not_last : (k : ℕ) (w : WireTree) (l : List ℕ) → l ≡ wire_line k w → l ≡ last_line → ⊥
+wire_not_last : (k : ℕ) (w : WireTree) (l : List ℕ) → l ≡ wire_line k w → l ≡ end_line → ⊥
 unfolding first_byte
 wire_not_last k w l e f = let z : 119 ≡ 101 = ap first_byte (sym e ∙ f) in absurd (omega (arith, z))
 
@@ -311,11 +312,11 @@ front_stands h k (suc g) l ls s = inr s
 
 -- a listing without a wire's line here is one of nodes
 nodes_whole : (h k : ℕ) (l : List ℕ) (ls : List (List ℕ)) (ws : List WireTree) (ns : List Node) → WiresFit h ws → NodesFit ns
-    → numbered wire_line k ws ++ (numbered node_line 0 ns ++ last_line ∷ []) ≡ l ∷ ls →
+    → numbered wire_line k ws ++ (numbered node_line 0 ns ++ end_line ∷ []) ≡ l ∷ ls →
     ((w : WireTree) → w.depth < 2 ^ 32 → ty_height w.type ≤ h → l ≡ wire_line k w → ⊥) → NodesWhole 0 (l ∷ ls)
 nodes_whole h k l ls [] ns f g e q = record { nodes = ns; fit = g; are = e }
 nodes_whole h k l ls (w ∷ ws) ns f g e q =
-    absurd (q w f.0 f.1 (first_is (wire_line k w) l (numbered wire_line (suc k) ws ++ (numbered node_line 0 ns ++ last_line ∷ [])) ls e))
+    absurd (q w f.0 f.1 (first_is (wire_line k w) l (numbered wire_line (suc k) ws ++ (numbered node_line 0 ns ++ end_line ∷ [])) ls e))
 
 -- no wire's line
 no_wire_bad : (h k n m : ℕ) (l : List ℕ) (ls : List (List ℕ))
@@ -332,18 +333,18 @@ no_wire_bad h k n m l ls q b = record {
 
 -- the lines behind a wire's are those of the other wires and the nodes
 rest_wires : (h k : ℕ) (l : List ℕ) (ls : List (List ℕ)) (w : WireTree) → l ≡ wire_line k w → (ws : List WireTree) (ns : List Node)
-    → WiresFit h ws → NodesFit ns → numbered wire_line k ws ++ (numbered node_line 0 ns ++ last_line ∷ []) ≡ l ∷ ls →
+    → WiresFit h ws → NodesFit ns → numbered wire_line k ws ++ (numbered node_line 0 ns ++ end_line ∷ []) ≡ l ∷ ls →
     WiresWhole h (suc k) ls
-rest_wires h k l ls w e [] [] f g i = absurd (wire_not_last k w l e (first_is last_line l [] ls i))
+rest_wires h k l ls w e [] [] f g i = absurd (wire_not_last k w l e (first_is end_line l [] ls i))
 rest_wires h k l ls w e [] (x ∷ ns) f g i =
-    absurd (wire_not_node k 0 w x l e (first_is (node_line 0 x) l (numbered node_line 1 ns ++ last_line ∷ []) ls i))
+    absurd (wire_not_node k 0 w x l e (first_is (node_line 0 x) l (numbered node_line 1 ns ++ end_line ∷ []) ls i))
 rest_wires h k l ls w e (v ∷ ws) ns f g i =
     record {
       wires = ws;
       nodes = ns;
       wires_fit = f.2;
       nodes_fit = g;
-      are = others_are (wire_line k v) l (numbered wire_line (suc k) ws ++ (numbered node_line 0 ns ++ last_line ∷ [])) ls i;
+      are = others_are (wire_line k v) l (numbered wire_line (suc k) ws ++ (numbered node_line 0 ns ++ end_line ∷ [])) ls i;
     }
 
 -- the first bad line stands behind a wire's

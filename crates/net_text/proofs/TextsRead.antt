@@ -11,10 +11,9 @@ use Rattle.net_text.specs.declared.fault.NetTextFault.TheVariants.{NoMemory, Bad
 use Rattle.net_text.specs.FirstFault.{and_nodes, and_wires, ended, net_of_lines, no_wires, node_at, nodes_from, wire_at, wires_from}
 use Rattle.net_text.specs.FirstFault.{with_node, with_wire}
 use Rattle.net_text.specs.Limits.{most_text_bytes, most_type_height}
-use Rattle.text_lines.specs.Lines.{in_front, lines}
+use Rattle.text_lines.specs.Lines.{end_line, in_front, lines}
 use Rattle.net_text.specs.NetText.{NetOfText}
 use Rattle.net_text.specs.Scanning.{Blames, with_nodes, with_wires}
-use Rattle.net_text.specs.Standing.{last_line}
 use Rattle.net_text.proofs.FirstFaults.{is_same, same_is}
 use Rattle.net_text.proofs.Listed.{first_fault, net_listed}
 use Rattle.net_text.proofs.Splitting.{text_is}
@@ -76,10 +75,10 @@ wires_end h k n ws [] whole u before = sym before
 wires_end h k n ws (b ∷ bytes) whole u before = absurd (omega (arith, u))
 
 -- a node's line was read
-nodes_here : (k n : ℕ) (bytes line more : List ℕ) → lines bytes ≡ line ∷ lines more → (line ≡ last_line → ⊥)
+nodes_here : (k n : ℕ) (bytes line more : List ℕ) → lines bytes ≡ line ∷ lines more → (line ≡ end_line → ⊥)
     → nodes_from k n (lines bytes) ≡ and_nodes n (node_at k line) (nodes_from (suc k) (suc n) (lines more))
 nodes_here k n bytes line more cut other =
-    ap (nodes_from k n) cut ∙ chosen (bytes_eq line last_line) (ended n (lines more)) _ (λ e. other (same_is line last_line e))
+    ap (nodes_from k n) cut ∙ chosen (bytes_eq line end_line) (ended n (lines more)) _ (λ e. other (same_is line end_line e))
   where
     chosen : (b : Bool) (r s : Result (List Node) ℕ) → (b ≡ true → ⊥) → (if b then r else s) ≡ s
     chosen true r s h = absurd (h refl)
@@ -87,7 +86,7 @@ nodes_here k n bytes line more cut other =
 
 -- the loop over the nodes goes on
 pub nodes_go : (k n k' n' : ℕ) (ns xs : List Node) (x : Node) (bytes line more : List ℕ) (whole : Result (List Node) ℕ)
-    → lines bytes ≡ line ∷ lines more → (line ≡ last_line → ⊥) → node_at k line ≡ Some x → k' ≡ suc k → n' ≡ suc n → xs ≡ ns ++ x ∷ [] →
+    → lines bytes ≡ line ∷ lines more → (line ≡ end_line → ⊥) → node_at k line ≡ Some x → k' ≡ suc k → n' ≡ suc n → xs ≡ ns ++ x ∷ [] →
     with_nodes ns (nodes_from k n (lines bytes)) ≡ whole → with_nodes xs (nodes_from k' n' (lines more)) ≡ whole
 nodes_go k n k' n' ns xs x bytes line more whole cut other found kk nn put before =
     let here : nodes_from k n (lines bytes) ≡ with_node x (nodes_from (suc k) (suc n) (lines more)) =
@@ -101,22 +100,22 @@ nodes_go k n k' n' ns xs x bytes line more whole cut other found kk nn put befor
 
 -- a line that is no node's
 pub nodes_stop : (k n : ℕ) (ns : List Node) (bytes line more : List ℕ) (whole : Result (List Node) ℕ) → lines bytes ≡ line ∷ lines more
-    → (line ≡ last_line → ⊥) → node_at k line ≡ None → with_nodes ns (nodes_from k n (lines bytes)) ≡ whole → whole ≡ Err n
+    → (line ≡ end_line → ⊥) → node_at k line ≡ None → with_nodes ns (nodes_from k n (lines bytes)) ≡ whole → whole ≡ Err n
 nodes_stop k n ns bytes line more whole cut other found before =
     sym before ∙ ap (with_nodes ns)
     (nodes_here k n bytes line more cut other ∙ ap (λ o. and_nodes n o (nodes_from (suc k) (suc n) (lines more))) found)
 
 -- the last line, alone or with bytes behind it
-last_here : (k n : ℕ) (bytes line more : List ℕ) → lines bytes ≡ line ∷ lines more → line ≡ last_line
+last_here : (k n : ℕ) (bytes line more : List ℕ) → lines bytes ≡ line ∷ lines more → line ≡ end_line
     → nodes_from k n (lines bytes) ≡ ended n (lines more)
 last_here k n bytes line more cut e =
     ap (nodes_from k n) cut
     ∙ ap (λ b. if b then ended n (lines more) else and_nodes n (node_at k line) (nodes_from (suc k) (suc n) (lines more)))
-    (is_same line last_line e)
+    (is_same line end_line e)
 
 -- the last line ends them
 pub nodes_done : (k n : ℕ) (ns : List Node) (bytes line more : List ℕ) (whole : Result (List Node) ℕ) → lines bytes ≡ line ∷ lines more
-    → line ≡ last_line → length more ≤ 0 → with_nodes ns (nodes_from k n (lines bytes)) ≡ whole → whole ≡ Ok ns
+    → line ≡ end_line → length more ≤ 0 → with_nodes ns (nodes_from k n (lines bytes)) ≡ whole → whole ≡ Ok ns
 nodes_done k n ns bytes line [] whole cut e u before =
     sym before ∙ ap (with_nodes ns) (last_here k n bytes line [] cut e) ∙ ap (λ xs. Ok xs) (append-nil ns)
 nodes_done k n ns bytes line (b ∷ more) whole cut e u before = absurd (omega (arith, u))
@@ -132,7 +131,7 @@ ended_late n b more = fed (nat_eq b 10) n b (lines more)
 
 -- bytes stand behind the last line
 pub nodes_late : (k n m : ℕ) (ns : List Node) (bytes line more : List ℕ) (whole : Result (List Node) ℕ) → lines bytes ≡ line ∷ lines more
-    → line ≡ last_line → 0 < length more → m ≡ suc n → with_nodes ns (nodes_from k n (lines bytes)) ≡ whole → whole ≡ Err m
+    → line ≡ end_line → 0 < length more → m ≡ suc n → with_nodes ns (nodes_from k n (lines bytes)) ≡ whole → whole ≡ Err m
 nodes_late k n m ns bytes line [] whole cut e u i before = absurd (omega (arith, u))
 nodes_late k n m ns bytes line (b ∷ more) whole cut e u i before =
     sym before ∙ ap (with_nodes ns) (last_here k n bytes line (b ∷ more) cut e ∙ ended_late n b more) ∙ ap (λ j. Err j) (sym i)

@@ -5,9 +5,9 @@ use Rattle.std.specs.Prelude.{if◌then◌else◌}
 use Rattle.std.specs.Str.{bytes_eq}
 use Rattle.net_build.specs.declared.node.Node.{Node}
 use Rattle.net_build.specs.Nets.{WireTree, NetTree}
+use Rattle.text_lines.specs.Lines.{end_line}
 use Rattle.net_text.specs.Listing.{wire_line, node_line}
 use Rattle.net_text.specs.NetText.{ty_height}
-use Rattle.net_text.specs.Standing.{last_line}
 use Rattle.net_text.specs.WireText.{wire_in}
 use Rattle.net_text.specs.NodeText.{node_fits, node_in}
 
@@ -55,7 +55,7 @@ and_nodes n (Some x) r = with_node x r
 -- the nodes from number k on; the first of these lines is line n
 abbrev pub nodes_from : ℕ → ℕ → List (List ℕ) → Result (List Node) ℕ
 nodes_from k n [] = Err n
-nodes_from k n (l ∷ ls) = if bytes_eq l last_line then ended n ls else and_nodes n (node_at k l) (nodes_from (suc k) (suc n) ls)
+nodes_from k n (l ∷ ls) = if bytes_eq l end_line then ended n ls else and_nodes n (node_at k l) (nodes_from (suc k) (suc n) ls)
 
 -- a net of nodes alone
 abbrev pub no_wires : Result (List Node) ℕ → Result NetTree ℕ

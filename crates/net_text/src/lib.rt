@@ -1,10 +1,11 @@
 //! Nets as texts: printed, read back, and understood as the nets of programs.
 //!
-//! `print_net` writes the listing of a net, and `read_net` reads one again or tells the first line that can't stand in one. `term_of`
-//! answers the one closed term of type `nat`, of at most a given height, whose net a net is, and `accept` takes a net file for the
-//! program that it lists, or tells its first fault. `specs/NetText.antt` says which bytes are a listing, and `specs/Accepted.antt` what
-//! a net file is accepted as; the laws say that bytes have one answer. Each call goes over its input once, within a stack that doesn't
-//! grow with its length. Whether a net is sound is asked of `net_check`, and which term it is the net of, of `net_terms`.
+//! `print_net` writes the listing of a net, `name_text` the name of a node in it, and `read_net` reads one again or reports the first line
+//! that can't stand in one. `term_of` answers the one closed term of type `nat`, of at most a given height, whose net a net is, and
+//! `accept` takes a net file for the program that it lists, or reports its first fault. `specs/NetText.antt` says which bytes are a
+//! listing, and `specs/Accepted.antt` what a net file is accepted as; the laws say that bytes have one answer. Each call goes over its
+//! input once, within a stack that doesn't grow with its length. Whether a net is sound is asked of `net_check`, and which term it is
+//! the net of, of `net_terms`.
 #![tactic(auto)]
 
 mod accepting;
@@ -23,6 +24,6 @@ mod wire_line;
 pub use accepting::accept;
 pub use fault::NetTextFault;
 pub use laws::{law_limits, law_one_answer, law_standing, law_texts_read, law_type_read};
-pub use print::print_net;
+pub use print::{name_text, print_net};
 pub use read::read_net;
 pub use term::term_of;

@@ -88,7 +88,8 @@ pub(crate) fn push_node(text: &mut Vec<u8>, n: u64, node: Node) -> Result<(), Al
     Ok(())
 }
 
-fn name_text(node: Node) -> &'static [u8]
+/// The name of a node, behind a space, as a listing has it.
+pub fn name_text(node: Node) -> &'static [u8]
     ensures { result.now ≡ name_text node }
 {
     match node {

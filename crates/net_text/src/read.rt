@@ -8,10 +8,9 @@ ghost use Rattle.net_build.specs.Views.{wire_of};
 ghost use Rattle.net_text.specs.declared.fault.NetTextFault.TheVariants.{NoMemory};
 ghost use Rattle.net_text.specs.FirstFault.{net_of_lines, no_wires, nodes_from, wires_from};
 ghost use Rattle.net_text.specs.Limits.{most_text_bytes};
-ghost use Rattle.text_lines.specs.Lines.{lines};
+ghost use Rattle.text_lines.specs.Lines.{end_line, lines};
 ghost use Rattle.net_text.specs.NetText.{NetOfText, TextOf};
 ghost use Rattle.net_text.specs.Scanning.{Blames, with_wires};
-ghost use Rattle.net_text.specs.Standing.{last_line};
 
 use crate::NetTextFault;
 use crate::limits::{NET_TEXT_BYTES, TYPE_HEIGHT};
@@ -19,7 +18,7 @@ use crate::node_line::node_at;
 use crate::wire_line::wire_at;
 use net_build::{Net, Node, Wire};
 use std::alloc::{AllocError, Global};
-use text_lines::cut_line;
+use text_lines::{cut_line, is_end};
 
 /// The net of which the bytes are the listing, or the first line that can't stand there in one. More than `limits::NET_TEXT_BYTES` bytes
 /// are refused.
@@ -105,7 +104,7 @@ fn read_nodes(alloc: Global, first: u32, bytes: &[u8]) -> Result<Vec<Node>, NetT
     let mut n = first;
     while rest.len() > 0 {
         let (line, more) = cut_line(rest);
-        if is_last(line) {
+        if is_end(line) {
             if more.len() > 0 {
                 return Err(NetTextFault::BadLine(n + 1));
             }
@@ -119,11 +118,4 @@ fn read_nodes(alloc: Global, first: u32, bytes: &[u8]) -> Result<Vec<Node>, NetT
         rest = more;
     }
     Err(NetTextFault::BadLine(n))
-}
-
-/// Whether the line is the last one of a listing.
-fn is_last(line: &[u8]) -> bool
-    ensures { IsTrue result ↔ (line.now ≡ last_line) }
-{
-    line == b"end\n".as_slice()
 }

@@ -26,6 +26,10 @@ use pcf_values::{Ident, Raw, Ty};
 use std::alloc::Global;
 
 /// An expression.
+///
+/// # Errors
+///
+/// The first fault of the text, where it is met in the expression or at the token behind it, or `NoMemory`.
 #[cycle(terms)]
 pub fn expr(reader: &mut Reader, alloc: Global, depth: u32) -> Result<Part, ReadFault>
     requires { depth ≤ most_open }

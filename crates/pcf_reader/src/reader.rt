@@ -71,6 +71,10 @@ impl<'a> Reader<'a> {
     }
 
     /// Counts nodes and goes on to the next token.
+    ///
+    /// # Errors
+    ///
+    /// `TooLarge` where the nodes are too many, and the fault of the next token where it is none.
     pub fn take(&mut self, count: u32) -> Result<(), ReadFault>
         requires end { self.old.here ≡ end_token → ⊥ }
         requires count { count ≤ 2 }
@@ -87,6 +91,10 @@ impl<'a> Reader<'a> {
     }
 
     /// The same, for a name, which is answered.
+    ///
+    /// # Errors
+    ///
+    /// Those of `take`, and `NoMemory` where there is no memory for the name.
     pub fn take_name(&mut self, alloc: Global, count: u32) -> Result<Ident, ReadFault>
         requires name { (name : List ℕ) × (self.old.here ≡ name_token name) }
         requires count { count ≤ 2 }
@@ -101,6 +109,10 @@ impl<'a> Reader<'a> {
     }
 
     /// The same, for a token that stands at a depth: so many phrases are open there, or so high is what stands left of it.
+    ///
+    /// # Errors
+    ///
+    /// Those of `may_open` and of `take`, in this order.
     pub fn take_at(&mut self, depth: u32, count: u32) -> Result<(), ReadFault>
         requires end { self.old.here ≡ end_token → ⊥ }
         requires count { count ≤ 2 }
@@ -115,6 +127,10 @@ impl<'a> Reader<'a> {
 }
 
 /// That a token may stand at a place with this depth.
+///
+/// # Errors
+///
+/// `TooDeep` where the depth is the limit or above.
 pub fn may_open(at: u32, depth: u32) -> Result<(), ReadFault>
     ensures ok { OnOk result (depth < most_open) }
     ensures deep { IfErr result (λ f. (f ≡ ReadFault.TooDeep at) × (most_open ≤ depth)) }
@@ -157,6 +173,10 @@ fn reader_of<'a>(
 
 #[tactic(auto, using(crate::proofs::LexSteps::blank_more, crate::proofs::LexSteps::comment_first))]
 /// A reader at the first token of a text that stands at a place, after so many nodes.
+///
+/// # Errors
+///
+/// The fault of that token, where it is none or too wide.
 pub fn reader_at(text: &str, at: u32, nodes: u32) -> Result<Reader<'_>, ReadFault>
     requires short { at + length text.now ≤ most_program_bytes }
     requires few { nodes ≤ most_nodes }

@@ -27,6 +27,10 @@ fn place_of(tree: &Named) -> u32
 }
 
 /// A node over parts that are this high at most.
+///
+/// # Errors
+///
+/// `NoMemory` alone.
 pub fn over(alloc: Global, at: u32, raw: Raw, below: u32) -> Result<Part, ReadFault>
     requires { below ≤ most_read_height }
     ensures ok { IfOk result (λ p. part_of p ≡ record { tree = raw_of raw at; height = below + 1 }) }
@@ -51,6 +55,10 @@ pub fn wrapped(inner: Part) -> Part
 }
 
 /// A word and its atom.
+///
+/// # Errors
+///
+/// `NoMemory` alone.
 pub fn prefixed(alloc: Global, at: u32, word: Word, inner: Part) -> Result<Part, ReadFault>
     requires { inner.height ≤ most_read_height }
     ensures ok { IfOk result (λ p. part_of p ≡ higher (word_tree at (word_of word)) (part_of inner)) }
@@ -66,6 +74,10 @@ pub fn prefixed(alloc: Global, at: u32, word: Word, inner: Part) -> Result<Part,
 }
 
 /// An operator between two parts, at the place of the left one.
+///
+/// # Errors
+///
+/// `NoMemory` alone.
 pub fn operated(
     alloc: Global,
     operator: Operator,
@@ -87,6 +99,10 @@ pub fn operated(
 }
 
 /// An application.
+///
+/// # Errors
+///
+/// `NoMemory` alone.
 pub fn applied(alloc: Global, left: Part, right: Part) -> Result<Part, ReadFault>
     requires { (left.height ≤ most_read_height) × (right.height ≤ most_read_height) }
     ensures ok { IfOk result (λ p. part_of p ≡ app_part (part_of left) (part_of right)) }
@@ -98,6 +114,10 @@ pub fn applied(alloc: Global, left: Part, right: Part) -> Result<Part, ReadFault
 }
 
 /// A pair.
+///
+/// # Errors
+///
+/// `NoMemory` alone.
 pub fn paired(alloc: Global, at: u32, left: Part, right: Part) -> Result<Part, ReadFault>
     requires { (left.height ≤ most_read_height) × (right.height ≤ most_read_height) }
     ensures ok { IfOk result (λ p. part_of p ≡ join (pair_tree at) (part_of left) (part_of right)) }
@@ -108,6 +128,10 @@ pub fn paired(alloc: Global, at: u32, left: Part, right: Part) -> Result<Part, R
 }
 
 /// A choice.
+///
+/// # Errors
+///
+/// `NoMemory` alone.
 pub fn chosen(alloc: Global, at: u32, test: Part, yes: Part, no: Part) -> Result<Part, ReadFault>
     requires { (test.height ≤ most_read_height) × (yes.height ≤ most_read_height) × (no.height ≤ most_read_height) }
     ensures ok { IfOk result (λ p. part_of p ≡ choice_part at (part_of test) (part_of yes) (part_of no)) }
@@ -118,6 +142,10 @@ pub fn chosen(alloc: Global, at: u32, test: Part, yes: Part, no: Part) -> Result
 }
 
 /// A function or a fixed point.
+///
+/// # Errors
+///
+/// `NoMemory` alone.
 pub fn bound(
     alloc: Global,
     at: u32,

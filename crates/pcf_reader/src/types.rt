@@ -14,6 +14,10 @@ use pcf_values::Ty;
 use std::alloc::Global;
 
 /// A type.
+///
+/// # Errors
+///
+/// The first fault of the text, where it is met in the type or at the token behind it, or `NoMemory`.
 #[cycle(types)]
 pub fn type_of(reader: &mut Reader, alloc: Global, depth: u32) -> Result<Box<Ty>, ReadFault>
     requires { depth ≤ most_open }

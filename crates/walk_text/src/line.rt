@@ -9,12 +9,13 @@ ghost use Rattle.walk_text.specs.Lines.{mover_text, move_line, token_text, came,
 ghost use Rattle.walk_text.specs.Telling.{Begins, boxes_by, in_port, is_operator, out_port, told_text, onward_text, forked_text};
 ghost use Rattle.walk_text.specs.Telling.{values_text};
 
-use crate::ports::{at_operator, came_by, left_by, name};
+use crate::ports::{at_operator, came_by, left_by};
 use crate::token::push_token;
 use crate::words::{push_numbered, push_value};
 use interleave_core::{Core, Stepped};
 use move_rules::{Seen, Token, faced};
 use net_build::{Net, Node};
+use net_text::name_text;
 use pcf_values::Val;
 use schedule_log::Entry;
 use std::alloc::{AllocError, Global};
@@ -94,7 +95,7 @@ fn push_mover(text: &mut Vec<u8>, k: u32, entry: Entry, met: Seen) -> Result<(),
     push_numbered(text, b" worker ", entry.worker.into())?;
     push_numbered(text, b" ticket ", entry.ticket.into())?;
     push_numbered(text, b" node ", met.at.into())?;
-    text.extend_from_slice(name(met.node))
+    text.extend_from_slice(name_text(met.node))
 }
 
 // Appends a port between spaces.

@@ -1,37 +1,9 @@
-// The names of a node's wires, and the names of nodes.
+// The names of a node's wires.
 ghost use Rattle.std.specs.Prelude.{◌≡◌, ◌∷◌, [], codes};
-ghost use Rattle.net_text.specs.Listing.{name_text};
 ghost use Rattle.walk_text.specs.Ports.{port, above_port, below_port};
 ghost use Rattle.walk_text.specs.Telling.{is_operator, in_port, out_port};
 
 use net_build::Node;
-
-// The name of a node, behind a space.
-pub(crate) fn name(node: Node) -> &'static [u8]
-    ensures { result.now ≡ name_text node }
-{
-    match node {
-        Node::Const { .. } => b" Const",
-        Node::Succ { .. } => b" Succ",
-        Node::Pred { .. } => b" Pred",
-        Node::Plus { .. } => b" Plus",
-        Node::Minus { .. } => b" Minus",
-        Node::Times { .. } => b" Times",
-        Node::Ifz { .. } => b" Ifz",
-        Node::Der { .. } => b" Der",
-        Node::Con { .. } => b" Con",
-        Node::Weak { .. } => b" Weak",
-        Node::Lam { .. } => b" Lam",
-        Node::App { .. } => b" App",
-        Node::BoxNode { .. } => b" Box",
-        Node::Door { .. } => b" Door",
-        Node::FixBox { .. } => b" FixBox",
-        Node::Root { .. } => b" Root",
-        Node::Pair { .. } => b" Pair",
-        Node::Fst { .. } => b" Fst",
-        Node::Snd { .. } => b" Snd",
-    }
-}
 
 // Whether entries are opened and closed at the node.
 pub(crate) fn at_operator(node: Node) -> bool

@@ -7,7 +7,7 @@ use Rattle.net_text.proofs.read.read_nodes.Goals as goal
 pub returns-then-more-gt0-clause-fault : goal.returns-then-more-gt0-clause-fault
 returns-then-more-gt0-clause-fault c =
     nodes_late (length c.loop-rest.nodes.items) c.loop-rest.n (c.loop-rest.n + 1) c.loop-rest.nodes.items c.loop-rest.rest.now
-    c.cut_line.result.0.now c.cut_line.result.1.now _ c.cut_line.ensures.first (c.is_last.ensures.0 c.if-is_last.true)
+    c.cut_line.result.0.now c.cut_line.result.1.now _ c.cut_line.ensures.first (c.is_end.ensures.0 c.if-is_end.true)
     c.if-more-gt0.true (omega arith) c.loop-rest.invariant.nodes
 
 pub loop-rest-preserved : goal.loop-rest-preserved
@@ -20,7 +20,7 @@ loop-rest-preserved c =
       nodes = nodes_go (length c.loop-rest.nodes.items) c.loop-rest.n (length c.push.new.self.items) (c.loop-rest.n + 1)
           c.loop-rest.nodes.items c.push.new.self.items c.in-Some.node c.loop-rest.rest.now c.cut_line.result.0.now c.cut_line.result.1.now
           _
-          c.cut_line.ensures.first (iff_false c.is_last.ensures c.if-is_last.false)
+          c.cut_line.ensures.first (iff_false c.is_end.ensures c.if-is_end.false)
           (ap (λ k. node_at k c.cut_line.result.0.now) (sym n) ∙ sym c.in_ok-node.ensures ∙ c.in-Some.is) (omega (arith, p.len))
           (omega arith) p.items c.loop-rest.invariant.nodes;
     }
