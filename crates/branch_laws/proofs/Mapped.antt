@@ -24,7 +24,7 @@ use Rattle.interleave_laws.specs.Maps.{MapState, start_map, step_map, run_map, L
 use Rattle.interleave_laws.proofs.Seen.{tokens_put, step_seen, run_seen, seen_same}
 use Rattle.interleave_laws.proofs.MapLaws.{from_seen, seen_leads, run_both}
 use Rattle.interleave_laws.proofs.TrailSteps.{walk_map}
-use Rattle.interleave_core.proofs.Counting.{Few, step_few}
+use Rattle.interleave_laws.proofs.Few.{Few, step_few}
 use Rattle.std.proofs.lemmas.List.{length-append, length-map}
 use Rattle.branch_laws.specs.Branches.{start_at, name, grafted_tokens, grafted_entries, grafted, start_map_at, GraftOf}
 use Rattle.branch_laws.proofs.Grafting.{graft_put}

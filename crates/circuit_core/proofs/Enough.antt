@@ -15,12 +15,11 @@ use Rattle.token_stacks.specs.Signatures.{Work, Boxes}
 use Rattle.net_build.specs.Nets.{NetTree}
 use Rattle.net_build.specs.Sound.{Sound}
 use Rattle.fork_join.specs.Entries.{Entry, Key, pending, has_left, has_right, kept_as, same_key}
-use Rattle.move_rules.specs.Places.{Place, up, down, turned, TokenTree, ask, ans, place_of}
+use Rattle.move_rules.specs.Places.{Place, up, down, turned, TokenTree, ask, ans, place_of, work_at, boxes_at}
 use Rattle.move_rules.specs.Moves.{two, look, solo, fork, join, solo_at, move}
 use Rattle.interleave_laws.specs.States.{State, other}
 use Rattle.interleave_laws.specs.Runs.{Runs, LeadsTo}
 use Rattle.interleave_laws.specs.OneWorker.{one}
-use Rattle.interleave_core.specs.Forking.{work_at, boxes_at}
 use Rattle.interleave_laws.proofs.Parents.{key_place}
 use Rattle.interleave_laws.proofs.Running.{one_place}
 use Rattle.interleave_laws.proofs.Apart.{asked}

@@ -16,7 +16,7 @@ use Rattle.interleave_laws.specs.Maps.{MapState, run_map}
 use Rattle.interleave_core.specs.Adopting.{AcceptsIn, Accepts, adopted}
 use Rattle.interleave_core.specs.Parts.{state}
 use Rattle.interleave_laws.proofs.TrailSteps.{trail_map}
-use Rattle.interleave_core.proofs.Counting.{Few, adopted_few}
+use Rattle.interleave_laws.proofs.Few.{Few, adopted_few}
 
 -- a ticket for each node of a trail
 as_often : (i : ℕ) (trail : List Seen) → replicate (length trail) i ≡ map (λ (s : Seen). i) trail

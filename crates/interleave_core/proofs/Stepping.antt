@@ -10,14 +10,14 @@ use Rattle.fork_join.specs.Arrivals.{IsOpenFor, arrival, with_arrival, side_of}
 use Rattle.fork_join.specs.declared.side.Side.{Side}
 use Rattle.fork_join.specs.declared.side.Side.TheVariants.{Left, Right}
 use Rattle.net_build.specs.Nets.{NetTree}
-use Rattle.move_rules.specs.Places.{Place, TokenTree, up, place_of}
+use Rattle.move_rules.specs.Places.{Place, TokenTree, up, place_of, boxes_at}
 use Rattle.move_rules.specs.Moves.{Move, solo, fork, join, answer, stay, move, Unaided}
 use Rattle.interleave_core.specs.declared.roles.Operator.{Operator}
 use Rattle.interleave_core.specs.declared.roles.Role.TheVariants.{Fork, Join, Last, Still}
 use Rattle.interleave_core.specs.declared.stepped.Stepped.TheVariants.{Went, Forked, Answered}
 use Rattle.interleave_laws.specs.Maps.{MapState, step_map, step_map_on, act_map, fork_map, join_map}
 use Rattle.interleave_core.specs.Names.{step_name, name_on, name_of, name_at, MayTake}
-use Rattle.interleave_core.specs.Forking.{HasBoxes, ForksTo, boxes_at}
+use Rattle.interleave_core.specs.Forking.{HasBoxes, ForksTo}
 use Rattle.interleave_core.specs.Joining.{JoinsAt, joined_tokens, joined_name}
 use Rattle.interleave_core.specs.Roles.{op_of, role_move, MetAt, StandsStill}
 use Rattle.interleave_core.specs.Moving.{SoloAt, UnaidedAt}

@@ -2,19 +2,9 @@
 use Rattle.std.specs.Prelude.{◌≡◌, ℕ, [], Some}
 use Rattle.std.specs.Ordering.{nat_cmp}
 use Rattle.std.specs.FinMap.{FinMap, get, insert}
-use Rattle.token_stacks.specs.Signatures.{Work, Boxes}
+use Rattle.token_stacks.specs.Signatures.{Boxes}
 use Rattle.fork_join.specs.Entries.{Entry, pending, key_cmp}
-use Rattle.move_rules.specs.Places.{Place, up, down, TokenTree, ask, place_of}
-
--- the work stack of a place
-abbrev pub work_at : Place → Work
-work_at (up w m t) = m
-work_at (down w m t) = m
-
--- the box stack of a place
-abbrev pub boxes_at : Place → Boxes
-boxes_at (up w m t) = t
-boxes_at (down w m t) = t
+use Rattle.move_rules.specs.Places.{up, TokenTree, ask, place_of, work_at, boxes_at}
 
 -- the ticket has a token with an empty work stack, and that box stack
 abbrev pub HasBoxes : FinMap nat_cmp TokenTree → ℕ → Boxes → Type 0

@@ -11,13 +11,12 @@ use Rattle.net_build.specs.declared.node.Node.{Node}
 use Rattle.net_build.specs.declared.node.Node.TheVariants.{Plus, Minus, Times, Root}
 use Rattle.move_rules.specs.declared.token.Kind.{Kind}
 use Rattle.move_rules.specs.declared.token.Kind.TheVariants.{Ask, Ans}
-use Rattle.move_rules.specs.Places.{up, TokenTree, place_of}
+use Rattle.move_rules.specs.Places.{up, TokenTree, place_of, work_at, boxes_at}
 use Rattle.move_rules.specs.Moves.{Move, fork, join, answer, stay, move, NotSolo}
 use Rattle.interleave_core.specs.declared.roles.Operator.{Operator}
 use Rattle.interleave_core.specs.declared.roles.Operator.TheVariants.{Plus as ThePlus, Minus as TheMinus, Times as TheTimes}
 use Rattle.interleave_core.specs.declared.roles.Role.{Role}
 use Rattle.interleave_core.specs.declared.roles.Role.TheVariants.{Fork, Join, Last, Still}
-use Rattle.interleave_core.specs.Forking.{work_at, boxes_at}
 
 -- the operator that the code names
 abbrev pub op_of : Operator → Op

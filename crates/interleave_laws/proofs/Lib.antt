@@ -46,3 +46,5 @@ pub mod MapLaws
 pub mod TrailSteps
 -- what a state that a log leads to gives the step of a live ticket
 pub mod Going
+-- no more tickets are live than were given out
+pub mod Few

@@ -5,7 +5,7 @@ use Rattle.pcf_values.specs.Most.{most_budget}
 use Rattle.interleave_laws.specs.Maps.{MapState, IsReachedWithin}
 use Rattle.interleave_core.specs.Parts.{state_of}
 use Rattle.interleave_laws.proofs.Going.{able, fresh, room}
-use Rattle.interleave_core.proofs.Counting.{kept_few}
+use Rattle.interleave_laws.proofs.Few.{kept_few}
 use Rattle.interleave_core.proofs.machine.Core.step.Goals as goal
 
 pub step_in-requires-clause-able : goal.step_in-requires-clause-able
