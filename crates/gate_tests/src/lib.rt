@@ -6,6 +6,4 @@
 #[cfg(test)]
 mod benches;
 #[cfg(test)]
-mod gates;
-#[cfg(test)]
 mod workers;

@@ -1,10 +1,9 @@
 //! Benches driven by one worker, by two, and by as many as there may be.
 
 use crate::benches::{Numbers, Relay};
-use crate::gates::{Counting, Meeting};
 use gate_workers::{OpenGate, drive};
-use std::sync::atomic::Ordering;
 use std::test::Fail;
+use test_gates::{Counting, Meeting};
 
 #[test]
 fn each_number_is_worked_once(rt: HostRuntime) -> Result<(), Fail> {
@@ -21,8 +20,8 @@ fn each_number_is_worked_once(rt: HostRuntime) -> Result<(), Fail> {
         assert_eq!(rt; bench.sum, 1_501_500);
         assert_eq!(rt; bench.held, 0);
         assert_eq!(rt; bench.stops, 0);
-        assert_eq!(rt; gate.calls.load(Ordering::SeqCst), 1000);
-        assert_eq!(rt; gate.wrong.load(Ordering::SeqCst), 0);
+        assert_eq!(rt; gate.calls(), 1000);
+        assert_eq!(rt; gate.wrong_turns(), 0);
     }
     Ok(())
 }
@@ -46,7 +45,7 @@ fn two_workers_are_past_the_lock_at_once(rt: HostRuntime) -> Result<(), Fail> {
     let gate = Meeting::new();
     let bench = drive(&rt, rt.alloc(), Numbers::down_from(100, 0), &1, 2, &gate);
     assert_eq!(rt; bench.sum, 5050);
-    assert_eq!(rt; gate.met.load(Ordering::SeqCst), 1);
+    assert!(rt; gate.have_met());
     Ok(())
 }
 

@@ -14,7 +14,8 @@ const THREE: &str = "batch 1;job 30 p9;job 5 p5;job 10 p1;end;";
 
 const TOLD: &str = "1 job 0;value 6;moves 30;job 1;no value;moves 5;job 2;refused: Unexpected(0);";
 
-fn push_file(
+/// One more file, with a line feed for each `;` of its text.
+pub(crate) fn push_file(
     alloc: Global,
     held: &mut Vec<(Ident, Vec<u8>)>,
     name: &str,

@@ -1,184 +1,105 @@
-//! A call of `goi` in which two workers hold pieces at once.
+//! Calls of `goi` in which two workers hold pieces at once.
 
+use crate::lists::push_file;
+use crate::programs::{SOUND, answered_at, texts};
+use crate::rows::cut;
 use crate::several::{sums, tally_of};
-use gate_workers::Gate;
-use goi_engine::goi;
-use goi_world::{MemoryFiles, MemorySink};
-use pcf_values::Ident;
+use goi_world::MemoryFiles;
 use std::alloc::{AllocError, Global};
 use std::sync::Wait;
-use std::sync::atomic::{AtomicU64, Ordering};
 use std::test::Fail;
-use std::thread;
 use std::thread::Threads;
+use test_gates::Meeting;
 
-/// Lets one of two workers wait for the other until both are inside at once. Of the two that met, the one that waited goes on when the
-/// one that came in calls again, and that next call returns when the one that waited calls again. All other calls return at once. No
-/// wait lasts for ever.
-#[derive(Drop)]
-pub(crate) struct Meeting {
-    /// How many workers are inside and look for each other.
-    inside: AtomicU64,
-    /// How many meetings there were.
-    met: AtomicU64,
-    /// How often each worker called.
-    first: AtomicU64,
-    second: AtomicU64,
-    /// Which worker came in, and how often it and the one that waited had called at the meeting.
-    comer: AtomicU64,
-    comer_calls: AtomicU64,
-    waiter_calls: AtomicU64,
+/// The listing of the net of `(fun x:nat. x + x) 3`.
+const DOUBLE: &str = "net 1;\
+wire 0 value 0 nat;wire 1 var 0 nat;wire 2 value 0 nat;wire 3 var 0 nat;wire 4 var 0 nat;wire 5 value 0 nat;\
+wire 6 value 0 nat -> nat;wire 7 value 1 nat;wire 8 bang 0 nat;wire 9 value 0 nat;\
+node 0 Der 0 1;node 1 Der 2 3;node 2 Con 1 3 4;node 3 Plus 0 2 5;node 4 Lam 5 4 6;node 5 Const 3 7;node 6 Box 7 8;\
+node 7 App 6 8 9;node 8 Root 9;end;";
+
+/// The files of a call: a program `p`, the listing `n` of its net, and the list `l` of it twice.
+fn files(alloc: Global) -> Result<MemoryFiles, AllocError> {
+    let mut held = Vec::new(alloc);
+    push_file(alloc, &mut held, "p", "(fun x:nat. x + x) 3")?;
+    push_file(alloc, &mut held, "n", DOUBLE)?;
+    push_file(alloc, &mut held, "l", "batch 1;job 30 p;job 29 p;end;")?;
+    Ok(MemoryFiles::new(held, 1_000_000, Vec::new(alloc)))
 }
 
-/// Waits until the count is above what was seen of it, but not for ever.
-fn wait_above(count: &AtomicU64, seen: u64) {
-    for _n in 0..1_000_000 {
-        if count.load(Ordering::SeqCst) > seen {
-            break;
-        }
-        thread::yield_now();
-    }
-}
-
-impl Meeting {
-    /// Nobody came.
-    fn new() -> Meeting {
-        Meeting {
-            inside: AtomicU64::new(0),
-            met: AtomicU64::new(0),
-            first: AtomicU64::new(0),
-            second: AtomicU64::new(0),
-            comer: AtomicU64::new(0),
-            comer_calls: AtomicU64::new(0),
-            waiter_calls: AtomicU64::new(0),
-        }
-    }
-
-    /// The calls of a worker.
-    fn calls(&self, worker: u32) -> &AtomicU64 {
-        if worker == 0 {
-            &self.first
-        } else {
-            &self.second
-        }
-    }
-
-    /// The calls of the other worker.
-    fn other_calls(&self, worker: u32) -> &AtomicU64 {
-        if worker == 0 {
-            &self.second
-        } else {
-            &self.first
-        }
-    }
-
-    /// Whether there was a meeting.
-    fn have_met(&self) -> bool {
-        self.met.load(Ordering::SeqCst) > 0
-    }
-
-    /// Remembers that this worker came in while the other one waited.
-    fn meet(&self, worker: u32) {
-        self.comer.store(u64::from(worker), Ordering::SeqCst);
-        self.comer_calls.store(self.calls(worker).load(Ordering::SeqCst), Ordering::SeqCst);
-        self.waiter_calls.store(
-            self.other_calls(worker).load(Ordering::SeqCst),
-            Ordering::SeqCst,
-        );
-        self.met.store(1, Ordering::SeqCst);
-    }
-
-    /// Waits for the other worker, and after a meeting until it calls again.
-    fn wait(&self, worker: u32) {
-        wait_above(&self.met, 0);
-        if self.have_met() {
-            wait_above(
-                self.other_calls(worker),
-                self.comer_calls.load(Ordering::SeqCst),
-            );
-        }
-    }
-
-    /// Whether this call, of that number, is the next of the worker that came in.
-    fn is_next(&self, worker: u32, before: u64) -> bool {
-        self.comer.load(Ordering::SeqCst) == u64::from(worker)
-            && self.comer_calls.load(Ordering::SeqCst) == before
-    }
-}
-
-impl Gate for Meeting {
-    fn between(&self, worker: u32, _turn: u64) {
-        let before = self.calls(worker).fetch_add(1, Ordering::SeqCst);
-        if self.have_met() {
-            if self.is_next(worker, before) {
-                wait_above(
-                    self.other_calls(worker),
-                    self.waiter_calls.load(Ordering::SeqCst),
-                );
-            }
-            return;
-        }
-        if self.inside.fetch_add(1, Ordering::SeqCst) > 0 {
-            self.meet(worker);
-        } else {
-            self.wait(worker);
-        }
-        self.inside.fetch_sub(1, Ordering::SeqCst);
-    }
-}
-
-/// What `goi run p --workers 2 --schedule --tally` prints on a program, with this gate.
-fn printed<R: Threads + Wait + Sync>(
+/// What a call of two workers on these files leaves, at this gate.
+fn left<R: Threads + Wait + Sync>(
     rt: &R,
     alloc: Global,
+    words: &str,
     gate: &Meeting,
 ) -> Result<Vec<u8>, AllocError> {
-    let mut words = Vec::new(alloc);
-    for word in ["goi", "run", "p", "--workers", "2", "--schedule", "--tally"] {
-        words.push(String::from_str(alloc, word)?)?;
-    }
-    let mut held = Vec::new(alloc);
-    held.push((
-        Ident::from_text(alloc, "p")?,
-        Vec::from_slice(alloc, b"(fun x:nat. x + x) 3")?,
-    ))?;
-    let mut files = MemoryFiles::new(held, 1_000_000, Vec::new(alloc));
-    let mut out = MemorySink::new(alloc, 10_000, 1_000_000, Vec::new(alloc))?;
-    let mut err = MemorySink::new(alloc, 100, 1_000_000, Vec::new(alloc))?;
-    let status = goi(rt, alloc, &words, &mut files, &mut out, &mut err, gate);
-    let mut seen = vec![in alloc; b'0'.saturating_add(status), b' ']?;
-    for byte in out.written() {
-        seen.push(if *byte == b'\n' { b';' } else { *byte })?;
-    }
-    Ok(seen)
+    let words = texts(alloc, words)?;
+    let mut files = files(alloc)?;
+    answered_at(rt, alloc, &words, &mut files, SOUND, gate)
 }
 
-/// Whether two workers who meet at the gate come to 6 in 30 moves by another schedule than one worker's, each with a move for each of its
-/// pieces at least, and nobody else with any.
-fn meets<R: Threads + Wait + Sync>(
+/// Whether two workers meet in a row's call, each with a piece at least, and it leaves what begins as the row says.
+fn meets<R: Threads + Wait + Sync>(rt: &R, alloc: Global, row: &str) -> Result<bool, AllocError> {
+    let (words, wanted) = cut(row);
+    let gate = Meeting::new();
+    let seen = left(rt, alloc, words, &gate)?;
+    Ok(
+        seen.starts_with(wanted.as_bytes())
+            && gate.have_met()
+            && gate.calls_of_first() > 0
+            && gate.calls_of_second() > 0,
+    )
+}
+
+/// The number of the first line in whose call two workers don't meet. Empty lines are no rows.
+fn first_alone<R: Threads + Wait + Sync>(
     rt: &R,
     alloc: Global,
-    gate: &Meeting,
-) -> Result<bool, AllocError> {
-    let seen = printed(rt, alloc, gate)?;
-    let first = u64::from(tally_of(&seen, b"worker 0 "));
-    let second = u64::from(tally_of(&seen, b"worker 1 "));
-    Ok(
-        seen.starts_with(b"0 value 6;moves 30;schedule 2;")
-            && !seen.starts_with(b"0 value 6;moves 30;schedule 2;0 15;1 15;end;")
-            && sums(&seen) == (30, 30)
-            && first + second == 30
-            && first >= gate.first.load(Ordering::SeqCst).max(1)
-            && second >= gate.second.load(Ordering::SeqCst).max(1),
-    )
+    table: &str,
+) -> Result<Option<usize>, AllocError> {
+    for (i, row) in table.split('\n').enumerate() {
+        if !row.is_empty() && !meets(rt, alloc, row)? {
+            return Ok(Some(i));
+        }
+    }
+    Ok(None)
+}
+
+#[test]
+fn two_workers_meet_in_each_command(rt: HostRuntime) -> Result<(), Fail> {
+    let table = "
+goi run p --workers 2|0 value 6;moves 30;
+goi run p --workers 2 --by-value|0 value 6;moves
+goi run p --workers 2 --progress|0 value 6;moves 30;progress
+goi trace p --workers 2|0 value 6;moves 30;trace 1;
+goi run-net n --workers 2|0 value 6;moves 30;
+goi demo 1 --workers 2|0 demo 1;nodes 13;value 4;moves 126;
+goi batch l --workers 2|5 job 0;value 6;moves 30;job 1;no value;moves 29;
+";
+    assert!(rt; first_alone(&rt, rt.alloc(), table)? == None);
+    Ok(())
+}
+
+/// Whether a report is that of 6 in 30 moves by another schedule than one worker's, in which each of two workers has a move for each of
+/// its pieces at least, and nobody else has any.
+fn is_shared(seen: &[u8], gate: &Meeting) -> bool {
+    let first = u64::from(tally_of(seen, b"worker 0 "));
+    let second = u64::from(tally_of(seen, b"worker 1 "));
+    seen.starts_with(b"0 value 6;moves 30;schedule 2;")
+        && !seen.starts_with(b"0 value 6;moves 30;schedule 2;0 15;1 15;end;")
+        && sums(seen) == (30, 30)
+        && first + second == 30
+        && first >= gate.calls_of_first().max(1)
+        && second >= gate.calls_of_second().max(1)
 }
 
 #[test]
 fn two_workers_of_goi_hold_pieces_at_once(rt: HostRuntime) -> Result<(), Fail> {
     let gate = Meeting::new();
-    assert!(rt; meets(&rt, rt.alloc(), &gate)?);
-    assert_eq!(rt; gate.met.load(Ordering::SeqCst), 1);
-    assert!(rt; gate.first.load(Ordering::SeqCst) >= 1);
-    assert!(rt; gate.second.load(Ordering::SeqCst) >= 1);
+    let words = "goi run p --workers 2 --schedule --tally";
+    let seen = left(&rt, rt.alloc(), words, &gate)?;
+    assert!(rt; is_shared(&seen, &gate));
+    assert!(rt; gate.have_met());
     Ok(())
 }

@@ -1,7 +1,7 @@
 //! Whole calls over files and sinks in memory: what each status writes, and what every failing device leaves.
 
 use crate::rows::{cut, first_wrong};
-use gate_workers::OpenGate;
+use gate_workers::{Gate, OpenGate};
 use goi_engine::goi;
 use goi_world::{MemoryFiles, MemorySink};
 use pcf_reader::read_program;
@@ -75,6 +75,21 @@ fn seen(
     Ok(seen)
 }
 
+/// What a call with these words leaves, at a gate.
+pub(crate) fn answered_at<R: Threads + Wait + Sync, G: Gate>(
+    rt: &R,
+    alloc: Global,
+    words: &Vec<String>,
+    files: &mut MemoryFiles,
+    devices: Devices<'_>,
+    gate: &G,
+) -> Result<Vec<u8>, AllocError> {
+    let mut out = sink(alloc, devices.room, devices.most, devices.outs)?;
+    let mut err = sink(alloc, 1000, devices.most, devices.errs)?;
+    let status = goi(rt, alloc, words, files, &mut out, &mut err, gate);
+    seen(alloc, status, &out, &err)
+}
+
 pub(crate) fn answered<R: Threads + Wait + Sync>(
     rt: &R,
     alloc: Global,
@@ -82,10 +97,7 @@ pub(crate) fn answered<R: Threads + Wait + Sync>(
     files: &mut MemoryFiles,
     devices: Devices<'_>,
 ) -> Result<Vec<u8>, AllocError> {
-    let mut out = sink(alloc, devices.room, devices.most, devices.outs)?;
-    let mut err = sink(alloc, 100, devices.most, devices.errs)?;
-    let status = goi(rt, alloc, words, files, &mut out, &mut err, &OpenGate);
-    seen(alloc, status, &out, &err)
+    answered_at(rt, alloc, words, files, devices, &OpenGate)
 }
 
 /// What a call with these words leaves: its status, and what was written to the output and to the error output, with `;` for each

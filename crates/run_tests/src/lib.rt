@@ -5,8 +5,6 @@
 #![tactic(auto)]
 
 #[cfg(test)]
-mod gates;
-#[cfg(test)]
 mod meetings;
 #[cfg(test)]
 mod runs;

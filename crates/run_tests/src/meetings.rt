@@ -2,7 +2,6 @@
 
 ghost use Rattle.interleave_laws.specs.Runs.{Runs};
 
-use crate::gates::Meeting;
 use gate_workers::OpenGate;
 use net_build::Net;
 use net_runs::run_net;
@@ -10,9 +9,9 @@ use pcf_values::Val;
 use schedule_log::Log;
 use std::alloc::{AllocError, Global};
 use std::sync::Wait;
-use std::sync::atomic::Ordering;
 use std::test::Fail;
 use std::thread::Threads;
+use test_gates::Meeting;
 use test_nets::net_of;
 
 /// Whether two logs have the same tickets.
@@ -46,8 +45,8 @@ fn are_all_theirs(log: &Log, gate: &Meeting) -> bool {
     let second = log.tally_of(1);
     first >= 1
         && second >= 1
-        && u64::from(first) >= gate.first.load(Ordering::SeqCst)
-        && u64::from(second) >= gate.second.load(Ordering::SeqCst)
+        && u64::from(first) >= gate.calls_of_first()
+        && u64::from(second) >= gate.calls_of_second()
         && log.tally_of(2) == 0
         && u64::from(first) + u64::from(second) == 30
 }
@@ -73,8 +72,8 @@ fn meets<R: Threads + Wait + Sync>(
 fn two_workers_hold_pieces_at_once(rt: HostRuntime) -> Result<(), Fail> {
     let gate = Meeting::new();
     assert!(rt; meets(&rt, rt.alloc(), &gate)?);
-    assert_eq!(rt; gate.met.load(Ordering::SeqCst), 1);
-    assert!(rt; gate.first.load(Ordering::SeqCst) >= 1);
-    assert!(rt; gate.second.load(Ordering::SeqCst) >= 1);
+    assert!(rt; gate.have_met());
+    assert!(rt; gate.calls_of_first() >= 1);
+    assert!(rt; gate.calls_of_second() >= 1);
     Ok(())
 }
