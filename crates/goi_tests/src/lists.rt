@@ -74,8 +74,10 @@ fn first_wrong<R: Threads + Wait + Sync>(
 #[test]
 fn lists(rt: HostRuntime) -> Result<(), Fail> {
     let table = "
-goi batch l --workers 1|batch 1;job 30 p9;job 5 p5;job 10 p1;end;|1 job 0;value 6;moves 30;job 1;no value;moves 5;job 2;refused: Unexpected(0);
-goi batch l --workers 4|batch 1;job 30 p9;job 5 p5;job 10 p1;end;|1 job 0;value 6;moves 30;job 1;no value;moves 5;job 2;refused: Unexpected(0);
+goi batch l --workers 1|batch 1;job 30 p9;job 5 p5;job 10 p1;end;|1 job 0;value 6;moves 30;job 1;no value;moves 5;job 2;\
+refused: Unexpected(0);
+goi batch l --workers 4|batch 1;job 30 p9;job 5 p5;job 10 p1;end;|1 job 0;value 6;moves 30;job 1;no value;moves 5;job 2;\
+refused: Unexpected(0);
 goi batch l|batch 1;job 30 p9;job 5 p5;end;|5 job 0;value 6;moves 30;job 1;no value;moves 5;
 goi batch l --workers 4|batch 1;job 30 p9;job 5 p5;end;|5 job 0;value 6;moves 30;job 1;no value;moves 5;
 goi batch l|batch 1;job 30 p9;end;|0 job 0;value 6;moves 30;

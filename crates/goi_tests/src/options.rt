@@ -103,11 +103,23 @@ fn first_wrong_file<R: Threads + Wait + Sync>(
 #[test]
 fn net_files(rt: HostRuntime) -> Result<(), Fail> {
     let table = "
-goi run-net p|net 1;wire 0 value 0 nat;wire 1 var 0 nat;wire 2 value 0 nat;wire 3 var 0 nat;wire 4 var 0 nat;wire 5 value 0 nat;wire 6 value 0 nat -> nat;wire 7 value 1 nat;wire 8 bang 0 nat;wire 9 value 0 nat;node 0 Der 0 1;node 1 Der 2 3;node 2 Con 1 3 4;node 3 Plus 0 2 5;node 4 Lam 5 4 6;node 5 Const 3 7;node 6 Box 7 8;node 7 App 6 8 9;node 8 Root 9;end;|0 value 6;moves 30;
-goi run-net p --workers 4|net 1;wire 0 value 0 nat;wire 1 var 0 nat;wire 2 value 0 nat;wire 3 var 0 nat;wire 4 var 0 nat;wire 5 value 0 nat;wire 6 value 0 nat -> nat;wire 7 value 1 nat;wire 8 bang 0 nat;wire 9 value 0 nat;node 0 Der 0 1;node 1 Der 2 3;node 2 Con 1 3 4;node 3 Plus 0 2 5;node 4 Lam 5 4 6;node 5 Const 3 7;node 6 Box 7 8;node 7 App 6 8 9;node 8 Root 9;end;|0 value 6;moves 30;
-goi run-net p|net 1;wire 0 value 0 nat;wire 1 var 0 nat;wire 2 value 0 nat;wire 3 var 0 nat;wire 4 var 0 nat;wire 5 value 0 nat;wire 6 value 0 nat -> nat;wire 7 value 1 nat;wire 8 bang 0 nat;wire 9 value 0 nat;node 0 Der 0 1;node 1 Der 2 3;node 2 Con 1 3 4;node 3 Plus 0 2 5;node 4 Lam 5 4 6;node 5 Const 3 7;node 6 Box 7 8;node 7 App 6 8 9;node 8 Root 9;|7 refused: BadLine(21);
-goi run-net p --tally|net 1;wire 0 value 0 nat;wire 1 var 0 nat;wire 2 value 0 nat;wire 3 var 0 nat;wire 4 var 0 nat;wire 5 value 0 nat;wire 6 value 0 nat -> nat;wire 7 value 1 nat;wire 8 bang 0 nat;wire 9 value 0 nat;node 0 Der 0 1;node 1 Der 2 3;node 2 Con 1 3 4;node 3 Plus 0 2 5;node 4 Lam 5 4 6;node 5 Const 4 7;node 6 Box 7 8;node 7 App 6 8 9;node 8 Root 9;end;|0 value 8;moves 30;worker 0 30;finisher 0;
-goi run-net p --budget 29|net 1;wire 0 value 0 nat;wire 1 var 0 nat;wire 2 value 0 nat;wire 3 var 0 nat;wire 4 var 0 nat;wire 5 value 0 nat;wire 6 value 0 nat -> nat;wire 7 value 1 nat;wire 8 bang 0 nat;wire 9 value 0 nat;node 0 Der 0 1;node 1 Der 2 3;node 2 Con 1 3 4;node 3 Plus 0 2 5;node 4 Lam 5 4 6;node 5 Const 3 7;node 6 Box 7 8;node 7 App 6 8 9;node 8 Root 9;end;|5 no value;moves 29;
+goi run-net p|net 1;wire 0 value 0 nat;wire 1 var 0 nat;wire 2 value 0 nat;wire 3 var 0 nat;wire 4 var 0 nat;wire 5 value 0 nat;\
+wire 6 value 0 nat -> nat;wire 7 value 1 nat;wire 8 bang 0 nat;wire 9 value 0 nat;node 0 Der 0 1;node 1 Der 2 3;node 2 Con 1 3 4;\
+node 3 Plus 0 2 5;node 4 Lam 5 4 6;node 5 Const 3 7;node 6 Box 7 8;node 7 App 6 8 9;node 8 Root 9;end;|0 value 6;moves 30;
+goi run-net p --workers 4|net 1;wire 0 value 0 nat;wire 1 var 0 nat;wire 2 value 0 nat;wire 3 var 0 nat;wire 4 var 0 nat;\
+wire 5 value 0 nat;wire 6 value 0 nat -> nat;wire 7 value 1 nat;wire 8 bang 0 nat;wire 9 value 0 nat;node 0 Der 0 1;node 1 Der 2 3;\
+node 2 Con 1 3 4;node 3 Plus 0 2 5;node 4 Lam 5 4 6;node 5 Const 3 7;node 6 Box 7 8;node 7 App 6 8 9;node 8 Root 9;end;|0 value 6;moves 30;
+goi run-net p|net 1;wire 0 value 0 nat;wire 1 var 0 nat;wire 2 value 0 nat;wire 3 var 0 nat;wire 4 var 0 nat;wire 5 value 0 nat;\
+wire 6 value 0 nat -> nat;wire 7 value 1 nat;wire 8 bang 0 nat;wire 9 value 0 nat;node 0 Der 0 1;node 1 Der 2 3;node 2 Con 1 3 4;\
+node 3 Plus 0 2 5;node 4 Lam 5 4 6;node 5 Const 3 7;node 6 Box 7 8;node 7 App 6 8 9;node 8 Root 9;|7 refused: BadLine(21);
+goi run-net p --tally|net 1;wire 0 value 0 nat;wire 1 var 0 nat;wire 2 value 0 nat;wire 3 var 0 nat;wire 4 var 0 nat;wire 5 value 0 nat;\
+wire 6 value 0 nat -> nat;wire 7 value 1 nat;wire 8 bang 0 nat;wire 9 value 0 nat;node 0 Der 0 1;node 1 Der 2 3;node 2 Con 1 3 4;\
+node 3 Plus 0 2 5;node 4 Lam 5 4 6;node 5 Const 4 7;node 6 Box 7 8;node 7 App 6 8 9;node 8 Root 9;end;|0 value 8;moves 30;worker 0 30;\
+finisher 0;
+goi run-net p --budget 29|net 1;wire 0 value 0 nat;wire 1 var 0 nat;wire 2 value 0 nat;wire 3 var 0 nat;wire 4 var 0 nat;\
+wire 5 value 0 nat;wire 6 value 0 nat -> nat;wire 7 value 1 nat;wire 8 bang 0 nat;wire 9 value 0 nat;node 0 Der 0 1;node 1 Der 2 3;\
+node 2 Con 1 3 4;node 3 Plus 0 2 5;node 4 Lam 5 4 6;node 5 Const 3 7;node 6 Box 7 8;node 7 App 6 8 9;node 8 Root 9;end;|5 no value;\
+moves 29;
 goi run-net p|net 1;wire 0 value 0 nat;node 0 Root 0;node 1 Const 5 0;end;|7 refused: NotOfTerm;
 goi run-net p|net 1;wire 0 value 0 nat;wire 1 value 0 nat;node 0 Succ 0 0;node 1 Const 3 1;node 2 Root 1;end;|7 refused: NotOfTerm;
 goi run-net p|net 1;wire 0 value 1 nat;node 0 Const 5 0;node 1 Root 0;end;|7 refused: NotSound(DepthClash(1));

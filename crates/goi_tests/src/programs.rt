@@ -206,7 +206,8 @@ goi run p|7 - 2 - 1|0 value 4;moves 10;
 goi run p|fst (1, fix y:nat. y)|0 value 1;moves 6;
 goi run p|(fun p:nat * nat. fst p - snd p) (9, 4)|0 value 5;moves 38;
 goi run p|(fix f:nat->nat. fun n:nat. ifz n then 1 else n * f (pred n)) 3|0 value 6;moves 330;
-goi run p|(fix f:nat->nat. fun n:nat. ifz n then 7 else (fix g:nat->nat. fun m:nat. ifz m then f (pred n) else g (pred m)) 1) 1|0 value 7;moves 136;
+goi run p|(fix f:nat->nat. fun n:nat. ifz n then 7 else (fix g:nat->nat. fun m:nat. ifz m then f (pred n) else g (pred m)) 1) 1|0 value 7;\
+moves 136;
 ";
     assert!(rt; first_wrong(&rt, rt.alloc(), table)? == None);
     Ok(())
@@ -239,11 +240,25 @@ goi demo 12|x|0 demo 12;nodes 16389;value 8192;moves 524290;
 #[test]
 fn listings(rt: HostRuntime) -> Result<(), Fail> {
     let table = "
-goi net p|(fun x:nat. x + x) 3|0 net 1;wire 0 value 0 nat;wire 1 var 0 nat;wire 2 value 0 nat;wire 3 var 0 nat;wire 4 var 0 nat;wire 5 value 0 nat;wire 6 value 0 nat -> nat;wire 7 value 1 nat;wire 8 bang 0 nat;wire 9 value 0 nat;node 0 Der 0 1;node 1 Der 2 3;node 2 Con 1 3 4;node 3 Plus 0 2 5;node 4 Lam 5 4 6;node 5 Const 3 7;node 6 Box 7 8;node 7 App 6 8 9;node 8 Root 9;end;
+goi net p|(fun x:nat. x + x) 3|0 net 1;wire 0 value 0 nat;wire 1 var 0 nat;wire 2 value 0 nat;wire 3 var 0 nat;wire 4 var 0 nat;\
+wire 5 value 0 nat;wire 6 value 0 nat -> nat;wire 7 value 1 nat;wire 8 bang 0 nat;wire 9 value 0 nat;node 0 Der 0 1;node 1 Der 2 3;\
+node 2 Con 1 3 4;node 3 Plus 0 2 5;node 4 Lam 5 4 6;node 5 Const 3 7;node 6 Box 7 8;node 7 App 6 8 9;node 8 Root 9;end;
 goi net p|fix y:nat. y|0 net 1;wire 0 value 1 nat;wire 1 var 1 nat;wire 2 value 0 nat;node 0 Der 0 1;node 1 FixBox 0 1 2;node 2 Root 2;end;
-goi net p|(fun x:nat. ifz x then x else x) 1|0 net 1;wire 0 value 0 nat;wire 1 var 0 nat;wire 2 value 0 nat;wire 3 var 0 nat;wire 4 value 0 nat;wire 5 var 0 nat;wire 6 var 0 nat;wire 7 var 0 nat;wire 8 value 0 nat;wire 9 value 0 nat -> nat;wire 10 value 1 nat;wire 11 bang 0 nat;wire 12 value 0 nat;node 0 Der 0 1;node 1 Der 2 3;node 2 Der 4 5;node 3 Con 3 5 6;node 4 Con 1 6 7;node 5 Ifz 0 2 4 8;node 6 Lam 8 7 9;node 7 Const 1 10;node 8 Box 10 11;node 9 App 9 11 12;node 10 Root 12;end;
-goi net p|fst (snd (1, (2 - 3, pred 4 * 5)))|0 net 1;wire 0 value 0 nat;wire 1 value 0 nat;wire 2 value 0 nat;wire 3 value 0 nat;wire 4 value 0 nat;wire 5 value 0 nat;wire 6 value 0 nat;wire 7 value 0 nat;wire 8 value 0 nat * nat;wire 9 value 0 nat * nat * nat;wire 10 value 0 nat * nat;wire 11 value 0 nat;node 0 Const 1 0;node 1 Const 2 1;node 2 Const 3 2;node 3 Minus 1 2 3;node 4 Const 4 4;node 5 Pred 4 5;node 6 Const 5 6;node 7 Times 5 6 7;node 8 Pair 3 7 8;node 9 Pair 0 8 9;node 10 Snd 9 10;node 11 Fst 10 11;node 12 Root 11;end;
-goi net p|(fun f:nat->nat. fix x:nat. f x) (fun z:nat. succ 1)|0 net 1;wire 0 value 1 nat -> nat;wire 1 var 1 nat -> nat;wire 2 value 2 nat;wire 3 var 2 nat;wire 4 var 1 nat;wire 5 bang 1 nat;wire 6 value 1 nat;wire 7 var 0 nat -> nat;wire 8 value 0 nat;wire 9 value 0 (nat -> nat) -> nat;wire 10 value 1 nat;wire 11 value 1 nat;wire 12 var 1 nat;wire 13 value 1 nat -> nat;wire 14 bang 0 nat -> nat;wire 15 value 0 nat;node 0 Der 0 1;node 1 Der 2 3;node 2 Door 3 4;node 3 Box 2 5;node 4 App 0 5 6;node 5 Door 1 7;node 6 FixBox 6 4 8;node 7 Lam 8 7 9;node 8 Const 1 10;node 9 Succ 10 11;node 10 Weak 12;node 11 Lam 11 12 13;node 12 Box 13 14;node 13 App 9 14 15;node 14 Root 15;end;
+goi net p|(fun x:nat. ifz x then x else x) 1|0 net 1;wire 0 value 0 nat;wire 1 var 0 nat;wire 2 value 0 nat;wire 3 var 0 nat;\
+wire 4 value 0 nat;wire 5 var 0 nat;wire 6 var 0 nat;wire 7 var 0 nat;wire 8 value 0 nat;wire 9 value 0 nat -> nat;wire 10 value 1 nat;\
+wire 11 bang 0 nat;wire 12 value 0 nat;node 0 Der 0 1;node 1 Der 2 3;node 2 Der 4 5;node 3 Con 3 5 6;node 4 Con 1 6 7;node 5 Ifz 0 2 4 8;\
+node 6 Lam 8 7 9;node 7 Const 1 10;node 8 Box 10 11;node 9 App 9 11 12;node 10 Root 12;end;
+goi net p|fst (snd (1, (2 - 3, pred 4 * 5)))|0 net 1;wire 0 value 0 nat;wire 1 value 0 nat;wire 2 value 0 nat;wire 3 value 0 nat;\
+wire 4 value 0 nat;wire 5 value 0 nat;wire 6 value 0 nat;wire 7 value 0 nat;wire 8 value 0 nat * nat;wire 9 value 0 nat * nat * nat;\
+wire 10 value 0 nat * nat;wire 11 value 0 nat;node 0 Const 1 0;node 1 Const 2 1;node 2 Const 3 2;node 3 Minus 1 2 3;node 4 Const 4 4;\
+node 5 Pred 4 5;node 6 Const 5 6;node 7 Times 5 6 7;node 8 Pair 3 7 8;node 9 Pair 0 8 9;node 10 Snd 9 10;node 11 Fst 10 11;\
+node 12 Root 11;end;
+goi net p|(fun f:nat->nat. fix x:nat. f x) (fun z:nat. succ 1)|0 net 1;wire 0 value 1 nat -> nat;wire 1 var 1 nat -> nat;\
+wire 2 value 2 nat;wire 3 var 2 nat;wire 4 var 1 nat;wire 5 bang 1 nat;wire 6 value 1 nat;wire 7 var 0 nat -> nat;wire 8 value 0 nat;\
+wire 9 value 0 (nat -> nat) -> nat;wire 10 value 1 nat;wire 11 value 1 nat;wire 12 var 1 nat;wire 13 value 1 nat -> nat;\
+wire 14 bang 0 nat -> nat;wire 15 value 0 nat;node 0 Der 0 1;node 1 Der 2 3;node 2 Door 3 4;node 3 Box 2 5;node 4 App 0 5 6;\
+node 5 Door 1 7;node 6 FixBox 6 4 8;node 7 Lam 8 7 9;node 8 Const 1 10;node 9 Succ 10 11;node 10 Weak 12;node 11 Lam 11 12 13;\
+node 12 Box 13 14;node 13 App 9 14 15;node 14 Root 15;end;
 ";
     assert!(rt; first_wrong(&rt, rt.alloc(), table)? == None);
     Ok(())

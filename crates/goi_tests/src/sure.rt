@@ -29,8 +29,10 @@ pub fn run_surely<R: Threads + Wait + Sync, G: Gate>(
     requires files { IsTrue (none_listed files.old.fails) }
     requires out { most_line ≤ sure_room out.old }
     requires err { most_line ≤ sure_room err.old }
-    ensures written { (file : List ℕ) (workers budget : ℕ) (by_value : Bool) → job (map string_bytes words.now) ≡ Some (run file workers budget false false by_value false) → result ≢ 4 }
-    ensures read { (file : List ℕ) (workers budget : ℕ) (by_value : Bool) → job (map string_bytes words.now) ≡ Some (run file workers budget false false by_value false) → result ≡ 3 → IsTrue (lacked_by files.old file) }
+    ensures written { (file : List ℕ) (workers budget : ℕ) (by_value : Bool) → job (map string_bytes words.now) ≡ Some
+        (run file workers budget false false by_value false) → result ≢ 4 }
+    ensures read { (file : List ℕ) (workers budget : ℕ) (by_value : Bool) → job (map string_bytes words.now) ≡ Some
+        (run file workers budget false false by_value false) → result ≡ 3 → IsTrue (lacked_by files.old file) }
 {
     goi(rt, alloc, words, files, out, err, gate)
 }
