@@ -8,6 +8,8 @@ const camera = {
   moved: false,
 };
 const SCALES = { least: 0.002, most: 4, texts: 0.42, legible: 0.6, close: 0.85, whole: 1.7 };
+// What the buttons above and the legend below take of the picture, and what is left free at its sides.
+const RIMS = { above: 46, below: 40, side: 24 };
 
 function pictureSize() {
   const { width, height } = byId("picture").getBoundingClientRect();
@@ -32,9 +34,9 @@ function centre(x, y) {
 function showAll() {
   const { width, height } = pictureSize();
   const { left, right, top, bottom } = view.layout.bounds;
-  const scale = Math.min(width / (right - left + 140), height / (bottom - top + 90), SCALES.whole);
+  const scale = Math.min(width / (right - left + 140), (height - RIMS.above - RIMS.below) / (bottom - top + 14), SCALES.whole);
   camera.scale = Math.max(scale, SCALES.least);
-  centre((left + right) / 2, (top + bottom) / 2);
+  centre((left + right) / 2, (top + bottom) / 2 + (RIMS.below - RIMS.above) / 2 / camera.scale);
 }
 
 // The whole net where it is legible so, and else the token at a legible size.
@@ -42,8 +44,23 @@ function showHome() {
   showAll();
   if (camera.scale >= SCALES.legible) return;
   const { x, y } = focusPoint();
+  const { width, height } = pictureSize();
   camera.scale = SCALES.close;
-  centre(x, y);
+  Object.assign(camera, withinNet(width / 2 - x * camera.scale, height / 2 - y * camera.scale));
+  applyCamera();
+}
+
+// The place of the camera that is nearest to x and y and shows no more than a rim of what is beside the net. The map has its own room.
+function withinNet(x, y) {
+  const { width, height } = pictureSize();
+  const { left, right, top, bottom } = view.layout.bounds;
+  const above = width < MAP.least ? RIMS.above : mapMeasure().height + 24;
+  const within = (at, low, high, size, before, after) => {
+    const most = before - low * camera.scale;
+    const least = size - after - high * camera.scale;
+    return least > most ? (most + least) / 2 : Math.min(most, Math.max(least, at));
+  };
+  return { x: within(x, left, right, width, RIMS.side, RIMS.side), y: within(y, top, bottom, height, above, RIMS.below) };
 }
 
 // Where the move that is shown happened.
@@ -54,7 +71,8 @@ function focusPoint() {
   return view.layout.places[move ? move.node : view.net.nodes.length - 1];
 }
 
-// Moves only as far as is needed to have a point well inside the picture; `share` is how much of that at once.
+// Moves only as far as is needed to have a point well inside the picture, or near its edge where the net ends there; `share` is how much
+// of that at once.
 function follow(point, share) {
   if (!view.follow) return;
   const { width, height } = pictureSize();
@@ -66,8 +84,11 @@ function follow(point, share) {
   const byX = (right - left) * camera.scale < width - 40 ? 0 : off(point.x * camera.scale + camera.x, width);
   const byY = (bottom - top) * camera.scale < height - 40 ? 0 : off(point.y * camera.scale + camera.y, height);
   if (byX === 0 && byY === 0) return;
-  camera.x += byX * share;
-  camera.y += byY * share;
+  const { x, y } = withinNet(camera.x + byX, camera.y + byY);
+  const [moveX, moveY] = [byX === 0 ? 0 : x - camera.x, byY === 0 ? 0 : y - camera.y];
+  if (Math.abs(moveX) + Math.abs(moveY) < 0.5) return;
+  camera.x += moveX * share;
+  camera.y += moveY * share;
   applyCamera();
 }
 

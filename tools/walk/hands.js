@@ -54,6 +54,7 @@ function listWire(wire) {
 function fitAll() {
   camera.moved = true;
   showAll();
+  drawCard();
 }
 
 const marked = () => view.run.lastMove();
@@ -165,6 +166,7 @@ function joinHands() {
     drawStrip();
     drawLog();
     if (!camera.moved) showHome(); else applyCamera();
+    drawCard();
   }).observe(byId("net"));
   joinPointer();
 }

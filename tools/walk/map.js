@@ -1,6 +1,6 @@
 // The whole net in small, with all tokens and what the picture shows, where the picture shows only a part.
 
-const MAP = { width: 210, height: 130, narrow: 0.7, rim: 4, tokens: 400 };
+const MAP = { width: 210, height: 130, narrow: 0.7, rim: 4, tokens: 400, least: 560 };
 let mapGround = null;
 
 function forgetMap() { mapGround = null; }
@@ -25,7 +25,7 @@ function drawMap() {
   const size = pictureSize();
   const { left, right, top, bottom } = view.layout.bounds;
   const fits = (right - left) * camera.scale < size.width * 1.15 && (bottom - top) * camera.scale < size.height * 1.15;
-  canvas.hidden = size.width < 560 || fits;
+  canvas.hidden = size.width < MAP.least || fits;
   if (canvas.hidden) return;
   const measure = mapMeasure();
   if (!mapGround) mapGround = drawMapGround(measure);
