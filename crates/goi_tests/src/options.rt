@@ -1,11 +1,7 @@
 //! Runs by value, runs of nets from files, and runs with their progress.
 
-use crate::programs::{SOUND, told};
+use crate::programs::{Devices, SOUND, told};
 use crate::rows::{cut, first_wrong};
-use gate_workers::OpenGate;
-use goi_engine::goi;
-use goi_world::{MemoryFiles, MemorySink};
-use pcf_values::Ident;
 use std::alloc::{AllocError, Global};
 use std::sync::Wait;
 use std::test::Fail;
@@ -132,43 +128,13 @@ goi run p|net 1;|1 refused: Unbound(0);
     Ok(())
 }
 
-/// The words of a call.
-fn texts(alloc: Global, words: &str) -> Result<Vec<String>, AllocError> {
-    let mut given = Vec::new(alloc);
-    for word in words.split(' ') {
-        given.push(String::from_str(alloc, word)?)?;
-    }
-    Ok(given)
-}
-
-/// A call on a file `p` with an error output in which so many bytes have room: its status, and what was written to both sinks.
-fn noted<R: Threads + Wait + Sync>(
-    rt: &R,
-    alloc: Global,
-    words: &str,
-    text: &str,
-    room: u64,
-) -> Result<(u8, MemorySink, MemorySink), AllocError> {
-    let words = texts(alloc, words)?;
-    let mut held = Vec::new(alloc);
-    held.push((
-        Ident::from_text(alloc, "p")?,
-        Vec::from_slice(alloc, text.as_bytes())?,
-    ))?;
-    let mut files = MemoryFiles::new(held, 1_000_000, Vec::new(alloc));
-    let mut out = MemorySink::new(alloc, 1000, 1_000_000, Vec::new(alloc))?;
-    let mut err = MemorySink::new(alloc, room, 1_000_000, Vec::new(alloc))?;
-    let status = goi(rt, alloc, &words, &mut files, &mut out, &mut err, &OpenGate);
-    Ok((status, out, err))
-}
-
-/// How many lines these notes have where each is `progress N` and the numbers never go down, and the last number; else nothing.
+/// How many notes these are where each is `progress N;` and the numbers never go down, and the last number; else nothing.
 fn counts(notes: &[u8]) -> Option<(u32, u32)> {
     let mut lines = 0u32;
     let mut last = 0u32;
     let mut number = 0u32;
     for byte in notes {
-        if *byte == b'\n' {
+        if *byte == b';' {
             if number < last {
                 return None;
             }
@@ -186,7 +152,7 @@ fn counts(notes: &[u8]) -> Option<(u32, u32)> {
     Some((lines, last))
 }
 
-/// Whether a run with its progress leaves this report, and 17 notes that end with its moves.
+/// Whether a run with its progress leaves this report, and 17 notes behind it that end with its moves.
 fn shows<R: Threads + Wait + Sync>(
     rt: &R,
     alloc: Global,
@@ -195,13 +161,11 @@ fn shows<R: Threads + Wait + Sync>(
     report: &str,
     moves: u32,
 ) -> Result<bool, AllocError> {
-    let (status, out, err) = noted(rt, alloc, words, text, 1000)?;
-    Ok(
-        status == 0
-            && out.written() == report.as_bytes()
-            && err.written().starts_with(b"progress ")
-            && counts(err.written()) == Some((17, moves)),
-    )
+    let seen = told(rt, alloc, words, text.as_bytes(), SOUND)?;
+    Ok(match seen.strip_prefix(report.as_bytes()) {
+        Some(notes) => notes.starts_with(b"progress ") && counts(notes) == Some((17, moves)),
+        None => false,
+    })
 }
 
 #[test]
@@ -214,7 +178,7 @@ fn progress(rt: HostRuntime) -> Result<(), Fail> {
             rt.alloc(),
             "goi run p --progress",
             double,
-            "value 6\nmoves 30\n",
+            "0 value 6;moves 30;",
             30
         )?
     );
@@ -224,7 +188,7 @@ fn progress(rt: HostRuntime) -> Result<(), Fail> {
             rt.alloc(),
             "goi run p --progress --workers 4",
             double,
-            "value 6\nmoves 30\n",
+            "0 value 6;moves 30;",
             30
         )?
     );
@@ -234,7 +198,7 @@ fn progress(rt: HostRuntime) -> Result<(), Fail> {
             rt.alloc(),
             "goi run p --progress --workers 2 --by-value",
             sum,
-            "value 6\nmoves 2376\n",
+            "0 value 6;moves 2376;",
             2376
         )?
     );
@@ -245,20 +209,16 @@ fn progress(rt: HostRuntime) -> Result<(), Fail> {
 fn notes_fail<R: Threads + Wait + Sync>(
     rt: &R,
     alloc: Global,
-    room: u64,
+    notes: u64,
 ) -> Result<bool, AllocError> {
-    let (status, out, err) = noted(
-        rt,
-        alloc,
-        "goi run p --progress --tally",
-        "(fun x:nat. x + x) 3",
-        room,
-    )?;
+    let devices = Devices { notes, ..SOUND };
+    let words = "goi run p --progress --tally";
+    let seen = told(rt, alloc, words, b"(fun x:nat. x + x) 3", devices)?;
     Ok(
-        status == 4
-            && out.written() == b"value 6\nmoves 30\nworker 0 30\nfinisher 0\n".as_slice()
-            && err.written().len() as u64 == room
-            && err.written().starts_with(b"prog"),
+        match seen.strip_prefix(b"4 value 6;moves 30;worker 0 30;finisher 0;") {
+            Some(told) => told.len() as u64 == notes && told.starts_with(b"prog"),
+            None => false,
+        },
     )
 }
 

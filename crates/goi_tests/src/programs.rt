@@ -16,6 +16,8 @@ use std::thread::Threads;
 pub(crate) struct Devices<'a> {
     pub(crate) most: u64,
     pub(crate) room: u64,
+    /// How much the error output holds.
+    pub(crate) notes: u64,
     pub(crate) reads: &'a [u64],
     pub(crate) outs: &'a [u64],
     pub(crate) errs: &'a [u64],
@@ -24,6 +26,7 @@ pub(crate) struct Devices<'a> {
 pub(crate) const SOUND: Devices<'static> = Devices {
     most: 1_000_000,
     room: 2_000_000,
+    notes: 1000,
     reads: &[],
     outs: &[],
     errs: &[],
@@ -85,7 +88,7 @@ pub(crate) fn answered_at<R: Threads + Wait + Sync, G: Gate>(
     gate: &G,
 ) -> Result<Vec<u8>, AllocError> {
     let mut out = sink(alloc, devices.room, devices.most, devices.outs)?;
-    let mut err = sink(alloc, 1000, devices.most, devices.errs)?;
+    let mut err = sink(alloc, devices.notes, devices.most, devices.errs)?;
     let status = goi(rt, alloc, words, files, &mut out, &mut err, gate);
     seen(alloc, status, &out, &err)
 }
@@ -623,6 +626,7 @@ fn failed_write_leaves<R: Threads + Wait + Sync>(
         reads: &[],
         outs: &[out.parse().unwrap_or(0)],
         errs: &[err.parse().unwrap_or(0)],
+        ..SOUND
     };
     leaves(rt, alloc, "goi run p", text.as_bytes(), devices, wanted)
 }
