@@ -1,18 +1,23 @@
 -- What the last word of a signature says of its text: how the text begins, and what is put down behind it.
 use Rattle.std.proofs.Common.{◌≡◌, ℕ, zero, suc, ◌+◌, ◌-◌, ◌*◌, ◌<◌, ◌≤◌, List, [], ◌∷◌, ◌++◌}
 use Rattle.std.proofs.Common.{append_assoc, length, get_or, take, drop}
-use Rattle.std.proofs.Common.{codes, Result, Ok, Err, OnOk, is_ok, if◌then◌else◌, refl, sym, ap, ◌∙◌, arith, length-append}
+use Rattle.std.proofs.Common.{codes, Result, Ok, Err, OnOk, IfOk, is_ok, Option, if◌then◌else◌}
+use Rattle.std.proofs.Common.{refl, sym, ap, ◌∙◌, arith, length-append}
 use Rattle.std.proofs.lemmas.List.{get_or_at}
 use Rattle.token_stacks.specs.Signatures.{Sig, star, left_of, right_of, pair_of, again}
 use Rattle.token_stacks.specs.Words.{body}
 use Rattle.token_stacks.specs.Texts.{sig_text}
 use Rattle.token_stacks.specs.declared.print.Piece.{Piece}
-use Rattle.token_stacks.specs.Printing.{pieces_text, Writes}
+use Rattle.token_stacks.specs.Printing.{held, pieces_text, Writes}
 use Rattle.token_stacks.proofs.Ends.{stem, tag, body_ends, length_on, take_after, drop_after}
 
 pub ok_map : {A E P Q : Type 0} (r : Result A E) → (P → Q) → OnOk r P → OnOk r Q
 ok_map (Ok a) f p = f p
 ok_map (Err e) f p = p
+
+pub if_map : {A E : Type 0} {P Q : A → Type 0} (r : Result A E) → ((a : A) → P a → Q a) → IfOk r P → IfOk r Q
+if_map (Ok a) f p = f a p
+if_map (Err e) f p = p
 
 -- a list that is shorter than 1
 pub nothing : (xs : List ℕ) → length xs < 1 → xs ≡ []
@@ -115,59 +120,75 @@ writes_now old new before x n h e = record {
   less = omega (arith, h);
 }
 
+-- the same behind what is written first
+pub writes_behind : (old mid new x : List ℕ) (before after : List Piece) (y : List ℕ) (n : ℕ) → mid ≡ old ++ x →
+    Writes mid new before after y n → Writes old new before after (x ++ y) n
+writes_behind old mid new x before after y n e w = record {
+  text = w.text
+      ∙ ap (λ z. z ++ (y ++ pieces_text before)) e
+      ∙ append_assoc old x (y ++ pieces_text before)
+      ∙ ap (λ z. old ++ z) (sym (append_assoc x y (pieces_text before)));
+  parts = w.parts;
+  less = w.less;
+}
+
 -- a mark with one signature behind it
-pub left_said : {A E : Type 0} (r : Result A E) (s : Sig) (w d : ℕ) (rest old new : List ℕ) (before after : List Piece) (m n : ℕ) →
+pub left_said : {E : Type 0} (r : Result (Option Piece) E) (s : Sig) (w d : ℕ) (rest old new : List ℕ)
+    (before after : List Piece) (m n : ℕ) →
     w ≡ 1 → (d ≡ 0 → ⊥) → m ≤ n → rest ++ w ∷ [] ≡ body s →
-    ((t : Sig) → rest ≡ body t → OnOk r (Writes old new before after (codes "l" ++ sig_text (d - 1) t) m)) →
-    OnOk r (Writes old new before after (sig_text d s) n)
+    ((t : Sig) → rest ≡ body t → IfOk r (λ h. Writes old new before (after ++ held h) (108 ∷ sig_text (d - 1) t) m)) →
+    IfOk r (λ h. Writes old new before (after ++ held h) (sig_text d s) n)
 left_said r s w d rest old new before after m n one deep more e said = go s (parts rest w s e)
   where
-    go : (s : Sig) → Parts rest w s → OnOk r (Writes old new before after (sig_text d s) n)
-    go (left_of t) p = ok_map r (writes_as _ _ m n (deeper_left d t deep) more) (said t p.front)
+    go : (s : Sig) → Parts rest w s → IfOk r (λ h. Writes old new before (after ++ held h) (sig_text d s) n)
+    go (left_of t) p = if_map r (λ h. writes_as _ _ m n (deeper_left d t deep) more) (said t p.front)
     go star p = absurd (no_tag 1 0 (sym one ∙ p.last) (omega arith))
     go (right_of t) p = absurd (no_tag 1 2 (sym one ∙ p.last) (omega arith))
     go (pair_of t u) p = absurd (no_tag 1 3 (sym one ∙ p.last) (omega arith))
     go (again t u) p = absurd (no_tag 1 4 (sym one ∙ p.last) (omega arith))
 
-pub right_said : {A E : Type 0} (r : Result A E) (s : Sig) (w d : ℕ) (rest old new : List ℕ) (before after : List Piece) (m n : ℕ) →
+pub right_said : {E : Type 0} (r : Result (Option Piece) E) (s : Sig) (w d : ℕ) (rest old new : List ℕ)
+    (before after : List Piece) (m n : ℕ) →
     w ≡ 2 → (d ≡ 0 → ⊥) → m ≤ n → rest ++ w ∷ [] ≡ body s →
-    ((t : Sig) → rest ≡ body t → OnOk r (Writes old new before after (codes "r" ++ sig_text (d - 1) t) m)) →
-    OnOk r (Writes old new before after (sig_text d s) n)
+    ((t : Sig) → rest ≡ body t → IfOk r (λ h. Writes old new before (after ++ held h) (114 ∷ sig_text (d - 1) t) m)) →
+    IfOk r (λ h. Writes old new before (after ++ held h) (sig_text d s) n)
 right_said r s w d rest old new before after m n one deep more e said = go s (parts rest w s e)
   where
-    go : (s : Sig) → Parts rest w s → OnOk r (Writes old new before after (sig_text d s) n)
-    go (right_of t) p = ok_map r (writes_as _ _ m n (deeper_right d t deep) more) (said t p.front)
+    go : (s : Sig) → Parts rest w s → IfOk r (λ h. Writes old new before (after ++ held h) (sig_text d s) n)
+    go (right_of t) p = if_map r (λ h. writes_as _ _ m n (deeper_right d t deep) more) (said t p.front)
     go star p = absurd (no_tag 2 0 (sym one ∙ p.last) (omega arith))
     go (left_of t) p = absurd (no_tag 2 1 (sym one ∙ p.last) (omega arith))
     go (pair_of t u) p = absurd (no_tag 2 3 (sym one ∙ p.last) (omega arith))
     go (again t u) p = absurd (no_tag 2 4 (sym one ∙ p.last) (omega arith))
 
 -- two signatures
-pub pair_said : {A E : Type 0} (r : Result A E) (s : Sig) (w d : ℕ) (rest old new : List ℕ) (before after : List Piece) (m n : ℕ) →
+pub pair_said : {E : Type 0} (r : Result (Option Piece) E) (s : Sig) (w d : ℕ) (rest old new : List ℕ)
+    (before after : List Piece) (m n : ℕ) →
     w ≡ 3 → (d ≡ 0 → ⊥) → m ≤ n → rest ++ w ∷ [] ≡ body s →
     ((t u : Sig) → rest ≡ body t ++ (body u ++ length (body u) ∷ []) →
-    OnOk r (Writes old new before after (two (codes "<") (codes ">") (d - 1) t u) m)) →
-    OnOk r (Writes old new before after (sig_text d s) n)
+    IfOk r (λ h. Writes old new before (after ++ held h) (two (codes "<") (codes ">") (d - 1) t u) m)) →
+    IfOk r (λ h. Writes old new before (after ++ held h) (sig_text d s) n)
 pair_said r s w d rest old new before after m n one deep more e said = go s (parts rest w s e)
   where
-    go : (s : Sig) → Parts rest w s → OnOk r (Writes old new before after (sig_text d s) n)
-    go (pair_of t u) p = ok_map r (writes_as _ _ m n (deeper_pair d t u deep) more) (said t u p.front)
+    go : (s : Sig) → Parts rest w s → IfOk r (λ h. Writes old new before (after ++ held h) (sig_text d s) n)
+    go (pair_of t u) p = if_map r (λ h. writes_as _ _ m n (deeper_pair d t u deep) more) (said t u p.front)
     go star p = absurd (no_tag 3 0 (sym one ∙ p.last) (omega arith))
     go (left_of t) p = absurd (no_tag 3 1 (sym one ∙ p.last) (omega arith))
     go (right_of t) p = absurd (no_tag 3 2 (sym one ∙ p.last) (omega arith))
     go (again t u) p = absurd (no_tag 3 4 (sym one ∙ p.last) (omega arith))
 
 -- and the form that is left
-pub again_said : {A E : Type 0} (r : Result A E) (s : Sig) (w d : ℕ) (rest old new : List ℕ) (before after : List Piece) (m n : ℕ) →
+pub again_said : {E : Type 0} (r : Result (Option Piece) E) (s : Sig) (w d : ℕ) (rest old new : List ℕ)
+    (before after : List Piece) (m n : ℕ) →
     (w ≡ 0 → ⊥) → (w ≡ 1 → ⊥) → (w ≡ 2 → ⊥) → (w ≡ 3 → ⊥) → (d ≡ 0 → ⊥) → m ≤ n → rest ++ w ∷
     [] ≡ body s →
     ((t u : Sig) → rest ≡ body t ++ (body u ++ length (body u) ∷ []) →
-    OnOk r (Writes old new before after (two (codes "y(") (codes ")") (d - 1) t u) m)) →
-    OnOk r (Writes old new before after (sig_text d s) n)
+    IfOk r (λ h. Writes old new before (after ++ held h) (two (codes "y(") (codes ")") (d - 1) t u) m)) →
+    IfOk r (λ h. Writes old new before (after ++ held h) (sig_text d s) n)
 again_said r s w d rest old new before after m n n0 n1 n2 n3 deep more e said = go s (parts rest w s e)
   where
-    go : (s : Sig) → Parts rest w s → OnOk r (Writes old new before after (sig_text d s) n)
-    go (again t u) p = ok_map r (writes_as _ _ m n (deeper_again d t u deep) more) (said t u p.front)
+    go : (s : Sig) → Parts rest w s → IfOk r (λ h. Writes old new before (after ++ held h) (sig_text d s) n)
+    go (again t u) p = if_map r (λ h. writes_as _ _ m n (deeper_again d t u deep) more) (said t u p.front)
     go star p = absurd (n0 p.last)
     go (left_of t) p = absurd (n1 p.last)
     go (right_of t) p = absurd (n2 p.last)

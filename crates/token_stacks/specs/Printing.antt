@@ -1,13 +1,14 @@
 -- What the code of texts speaks of: either stack as a list of symbols, the symbol on top, and what is still to be written of a
 -- signature. Only private contracts cite it.
-use Rattle.std.specs.Prelude.{◌≡◌, ◌<◌, ℕ, ◌+◌, ◌*◌, List, [], ◌∷◌, ◌++◌, length, map}
+use Rattle.std.specs.Prelude.{◌≡◌, ◌<◌, ℕ, ◌+◌, ◌*◌, List, [], ◌∷◌, ◌++◌, length, map, codes}
+use Rattle.std.specs.Prelude.{Option, Some, None}
 use Rattle.token_stacks.specs.Signatures.{Sig, star, Sym, R, L, S, Work, Boxes}
 use Rattle.token_stacks.specs.Words.{body, work_words, box_words}
 use Rattle.token_stacks.specs.Reading.{boxes_of}
 use Rattle.token_stacks.specs.Texts.{sig_text}
 use Rattle.token_stacks.specs.Tops.{IsBody}
 use Rattle.token_stacks.specs.declared.print.Piece.{Piece}
-use Rattle.token_stacks.specs.declared.print.Piece.TheVariants.{Mark, Part}
+use Rattle.token_stacks.specs.declared.print.Piece.TheVariants.{Mark, Part, Second}
 use Rattle.token_stacks.specs.declared.print.Form.{Form}
 use Rattle.token_stacks.specs.declared.print.Form.TheVariants.{Symbols, Signatures}
 use Rattle.token_stacks.specs.declared.print.Symbol.{Symbol}
@@ -46,8 +47,14 @@ sig_of ws = top_sig (boxes_of (ws ++ length ws ∷ []))
 abbrev pub piece_text : Piece → List ℕ
 piece_text (Mark b) = b ∷ []
 piece_text (Part ws d) = sig_text d (sig_of ws.now)
+piece_text (Second ws d b) = codes "," ++ (sig_text d (sig_of ws.now) ++ b ∷ [])
 
--- and for pieces, the last one first
+-- what is in hand, as a list
+abbrev pub held : Option Piece → List Piece
+held None = []
+held (Some p) = p ∷ []
+
+-- what is to be written for pieces, the last one first
 abbrev pub pieces_text : List Piece → List ℕ
 pieces_text [] = []
 pieces_text (p ∷ ps) = pieces_text ps ++ piece_text p
@@ -56,6 +63,7 @@ pieces_text (p ∷ ps) = pieces_text ps ++ piece_text p
 abbrev pub IsPart : Piece → Type 0
 IsPart (Mark b) = Unit {0}
 IsPart (Part ws d) = IsBody ws.now
+IsPart (Second ws d b) = IsBody ws.now
 
 abbrev pub AreParts : List Piece → Type 0
 AreParts [] = Unit {0}
@@ -65,6 +73,7 @@ AreParts (p ∷ ps) = IsPart p × AreParts ps
 abbrev pub piece_work : Piece → ℕ
 piece_work (Mark b) = 1
 piece_work (Part ws d) = 3 * length ws.now
+piece_work (Second ws d b) = 3 * length ws.now + 2
 
 abbrev pub pieces_work : List Piece → ℕ
 pieces_work [] = 0

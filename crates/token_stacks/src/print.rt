@@ -1,11 +1,12 @@
 // Stacks as text, from their words. Nothing recurses: what is still to be written of a signature stands in a list.
 ghost use Rattle.std.specs.Prelude.{◌≡◌, ◌∷◌, [], ◌++◌, ◌≤◌, ◌+◌, ◌*◌, IfOk, OnOk, codes, decimal, length};
-ghost use Rattle.std.specs.Prelude.{map};
+ghost use Rattle.std.specs.Prelude.{map, List};
+ghost use Rattle.std.specs.Option.{MatchOption};
 ghost use Rattle.token_stacks.specs.Signatures.{Sig, Sym, S, Work, Boxes};
 ghost use Rattle.token_stacks.specs.Words.{body, work_words, box_words};
 ghost use Rattle.token_stacks.specs.Texts.{sig_text, sym_text, dots, dotted, first_parts, work_text, boxes_text, key_text};
 ghost use Rattle.token_stacks.specs.Tops.{IsBody};
-ghost use Rattle.token_stacks.specs.Printing.{IsStack, IsTop, TakesTop, AreParts, IsPart, piece_text, piece_work, Writes};
+ghost use Rattle.token_stacks.specs.Printing.{IsStack, IsTop, TakesTop, AreParts, IsPart, held, piece_text, piece_work, Writes};
 
 use crate::words::{LEFT, PAIR, RIGHT, STAR, SYMBOL_L, SYMBOL_R};
 use crate::{BoxStack, Stacks};
@@ -16,6 +17,9 @@ use std::alloc::{AllocError, Global};
 const MOST_DEEP: usize = 12;
 
 const MOST_PARTS: usize = 8;
+
+// For so many pieces there is room at once.
+const ROOM: usize = 16;
 
 /// Appends the text of a token's work stack: its top so many parts, each signature so deep.
 ///
@@ -98,7 +102,7 @@ fn push_stack(
     if words.is_empty() {
         return text.extend_from_slice(b"-");
     }
-    let mut todo = Vec::new(alloc);
+    let mut todo = Vec::with_capacity(alloc, ROOM)?;
     let rest = push_top(text, &mut todo, form, words, deep)?;
     push_rest(text, &mut todo, form, rest, most - 1, deep)
 }
@@ -217,11 +221,13 @@ fn top_signature(words: &[u64]) -> (Symbol<'_>, &[u64])
     (Symbol::Signature(&words[at..n - 1]), &words[..at])
 }
 
-// What is still to be written of a signature: one byte, or a part of it by its words, so deep.
+// What is still to be written of a signature: one byte, a part of it by its words, so deep, or the second of two parts, so deep, with
+// the byte behind it.
 #[derive(Clone, Copy)]
 pub(crate) enum Piece<'a> {
     Mark(u8),
     Part(&'a [u64], usize),
+    Second(&'a [u64], usize, u8),
 }
 
 // Appends the text of a signature by its words, so deep. The list serves for what is put down meanwhile.
@@ -236,44 +242,79 @@ fn push_sig<'a>(
     ensures text { (s : Sig) → words.now ≡ body s → OnOk result (text.new.items ≡ text.old.items ++ sig_text deep s) }
     ensures nothing { OnOk result (todo.new.items ≡ []) }
 {
-    push_part(text, todo, words, deep)?;
-    while let Some(piece) = todo.pop() {
-        push_piece(text, todo, piece)?;
+    let mut hand = Some(Piece::Part(words, deep));
+    while let Some(piece) = take_next(todo, hand) {
+        hand = push_piece(text, todo, piece)?;
     }
     Ok(())
 }
 
-// Writes a piece, or its begin.
+// The piece in hand, or else the one that was put down last. What comes next is mostly in hand, and never on the list.
+fn take_next<'a>(todo: &mut Vec<Piece<'a>>, hand: Option<Piece<'a>>) -> Option<Piece<'a>>
+    ensures { MatchOption result ((todo.old.items ++ held hand.entry ≡ []) × (todo.new.items ≡ []))
+        (λ p. todo.old.items ++ held hand.entry ≡ todo.new.items ++ p ∷ []) }
+{
+    match hand {
+        Some(piece) => Some(piece),
+        None => todo.pop(),
+    }
+}
+
+// Writes a piece, or its begin, and hands out what comes next of it, if anything does.
 fn push_piece<'a>(
     text: &mut Vec<u8>,
     todo: &mut Vec<Piece<'a>>,
     piece: Piece<'a>,
-) -> Result<(), AllocError>
+) -> Result<Option<Piece<'a>>, AllocError>
     requires { IsPart piece }
-    ensures { OnOk result
-        (Writes text.old.items text.new.items todo.old.items todo.new.items (piece_text piece.entry) (piece_work piece.entry)) }
+    ensures { IfOk result (λ h. Writes text.old.items text.new.items todo.old.items (todo.new.items ++ held h)
+        (piece_text piece.entry) (piece_work piece.entry)) }
 {
     match piece {
-        Piece::Mark(byte) => {
-            text.push(byte)?;
-            Ok(())
-        }
+        Piece::Mark(byte) => push_mark(text, byte),
         Piece::Part(words, deep) => push_part(text, todo, words, deep),
+        Piece::Second(words, deep, close) => push_second(text, todo, words, deep, close),
     }
 }
 
-// Writes the begin of a signature's text, and puts down what is to follow.
+// Writes a byte, and nothing comes behind it.
+fn push_mark<'a>(text: &mut Vec<u8>, byte: u8) -> Result<Option<Piece<'a>>, AllocError>
+    ensures { (before : List Piece) → IfOk result (λ h.
+        Writes text.old.items text.new.items before (before ++ held h) (byte ∷ []) 1) }
+{
+    text.push(byte)?;
+    Ok(None)
+}
+
+// Writes what stands before the second of two parts, and puts down what stands behind it.
+fn push_second<'a>(
+    text: &mut Vec<u8>,
+    todo: &mut Vec<Piece<'a>>,
+    words: &'a [u64],
+    deep: usize,
+    close: u8,
+) -> Result<Option<Piece<'a>>, AllocError>
+    ensures { (s : Sig) → words.now ≡ body s → IfOk result (λ h.
+        Writes text.old.items text.new.items todo.old.items (todo.new.items ++ held h)
+        (codes "," ++ (sig_text deep s ++ close ∷ [])) (3 * length words.now + 2)) }
+{
+    text.push(b',')?;
+    todo.push(Piece::Mark(close))?;
+    Ok(Some(Piece::Part(words, deep)))
+}
+
+// Writes the begin of a signature's text, hands out what comes next, and puts down what is to follow.
 fn push_part<'a>(
     text: &mut Vec<u8>,
     todo: &mut Vec<Piece<'a>>,
     words: &'a [u64],
     deep: usize,
-) -> Result<(), AllocError>
-    ensures { (s : Sig) → words.now ≡ body s → OnOk result
-        (Writes text.old.items text.new.items todo.old.items todo.new.items (sig_text deep s) (3 * length words.now)) }
+) -> Result<Option<Piece<'a>>, AllocError>
+    ensures { (s : Sig) → words.now ≡ body s → IfOk result (λ h.
+        Writes text.old.items text.new.items todo.old.items (todo.new.items ++ held h) (sig_text deep s) (3 * length words.now)) }
 {
     match words {
-        [] => Ok(()),
+        [] => Ok(None),
         [rest @ .., form] => push_last(text, todo, *form, rest, deep),
     }
 }
@@ -285,12 +326,12 @@ fn push_last<'a>(
     form: u64,
     rest: &'a [u64],
     deep: usize,
-) -> Result<(), AllocError>
-    ensures { (s : Sig) → rest.now ++ form ∷ [] ≡ body s → OnOk result
-        (Writes text.old.items text.new.items todo.old.items todo.new.items (sig_text deep s) (3 * length rest.now + 3)) }
+) -> Result<Option<Piece<'a>>, AllocError>
+    ensures { (s : Sig) → rest.now ++ form ∷ [] ≡ body s → IfOk result (λ h.
+        Writes text.old.items text.new.items todo.old.items (todo.new.items ++ held h) (sig_text deep s) (3 * length rest.now + 3)) }
 {
     if form == STAR {
-        return text.extend_from_slice(b"*");
+        return push_mark(text, b'*');
     }
     push_form(text, todo, form, rest, deep)
 }
@@ -302,59 +343,59 @@ fn push_form<'a>(
     form: u64,
     rest: &'a [u64],
     deep: usize,
-) -> Result<(), AllocError>
-    ensures { (s : Sig) → rest.now ++ form ∷ [] ≡ body s → (form ≡ 0 → ⊥) → OnOk result
-        (Writes text.old.items text.new.items todo.old.items todo.new.items (sig_text deep s) (3 * length rest.now + 3)) }
+) -> Result<Option<Piece<'a>>, AllocError>
+    ensures { (s : Sig) → rest.now ++ form ∷ [] ≡ body s → (form ≡ 0 → ⊥) → IfOk result (λ h.
+        Writes text.old.items text.new.items todo.old.items (todo.new.items ++ held h) (sig_text deep s) (3 * length rest.now + 3)) }
 {
     if deep == 0 {
-        return text.extend_from_slice(b"~");
+        return push_mark(text, b'~');
     }
     if form == LEFT {
-        return push_marked(text, todo, b"l", rest, deep - 1);
+        return push_marked(text, b'l', rest, deep - 1);
     }
     if form == RIGHT {
-        return push_marked(text, todo, b"r", rest, deep - 1);
+        return push_marked(text, b'r', rest, deep - 1);
     }
     if form == PAIR {
-        return push_two(text, todo, b"<", b'>', rest, deep - 1);
+        return push_two(text, todo, b'<', b'>', rest, deep - 1);
     }
-    push_two(text, todo, b"y(", b')', rest, deep - 1)
+    text.push(b'y')?;
+    push_two(text, todo, b'(', b')', rest, deep - 1)
 }
 
-// Writes a mark, and puts the signature behind it down.
+// Writes a mark, and hands out the signature behind it.
 fn push_marked<'a>(
     text: &mut Vec<u8>,
-    todo: &mut Vec<Piece<'a>>,
-    mark: &[u8],
+    mark: u8,
     rest: &'a [u64],
     deep: usize,
-) -> Result<(), AllocError>
-    ensures { (s : Sig) → rest.now ≡ body s → OnOk result
-        (Writes text.old.items text.new.items todo.old.items todo.new.items (mark.now ++ sig_text deep s) (3 * length rest.now + 1)) }
+) -> Result<Option<Piece<'a>>, AllocError>
+    ensures { (s : Sig) (before : List Piece) → rest.now ≡ body s → IfOk result (λ h.
+        Writes text.old.items text.new.items before (before ++ held h) (mark ∷ sig_text deep s) (3 * length rest.now + 1)) }
 {
-    text.extend_from_slice(mark)?;
-    todo.push(Piece::Part(rest, deep))?;
-    Ok(())
+    text.push(mark)?;
+    Ok(Some(Piece::Part(rest, deep)))
 }
 
-// Writes what opens two signatures, of which the second has its length behind it, and puts both down with what closes them.
+// Writes what opens two signatures, of which the second has its length behind it, puts the second down with what closes them, and hands
+// out the first.
 fn push_two<'a>(
     text: &mut Vec<u8>,
     todo: &mut Vec<Piece<'a>>,
-    begin: &[u8],
+    begin: u8,
     close: u8,
     rest: &'a [u64],
     deep: usize,
-) -> Result<(), AllocError>
-    ensures { (s u : Sig) → rest.now ≡ body s ++ (body u ++ length (body u) ∷ []) → OnOk result
-        (Writes text.old.items text.new.items todo.old.items todo.new.items
-        (begin.now ++ (sig_text deep s ++ (codes "," ++ (sig_text deep u ++ close ∷ [])))) (3 * length rest.now + 3)) }
+) -> Result<Option<Piece<'a>>, AllocError>
+    ensures { (s u : Sig) → rest.now ≡ body s ++ (body u ++ length (body u) ∷ []) → IfOk result (λ h.
+        Writes text.old.items text.new.items todo.old.items (todo.new.items ++ held h)
+        (begin ∷ (sig_text deep s ++ (codes "," ++ (sig_text deep u ++ close ∷ [])))) (3 * length rest.now + 3)) }
 {
     let [both @ .., count] = rest else {
-        return Ok(());
+        return Ok(None);
     };
     if *count > both.len() as u64 {
-        return Ok(());
+        return Ok(None);
     }
     let (first, second) = both.split_at(both.len() - *count as usize);
     push_both(text, todo, begin, close, first, second, deep)
@@ -364,36 +405,18 @@ fn push_two<'a>(
 fn push_both<'a>(
     text: &mut Vec<u8>,
     todo: &mut Vec<Piece<'a>>,
-    begin: &[u8],
+    begin: u8,
     close: u8,
     first: &'a [u64],
     second: &'a [u64],
     deep: usize,
-) -> Result<(), AllocError>
-    ensures { (s u : Sig) → first.now ≡ body s → second.now ≡ body u → OnOk result
-        (Writes text.old.items text.new.items todo.old.items todo.new.items
-        (begin.now ++ (sig_text deep s ++ (codes "," ++ (sig_text deep u ++ close ∷ []))))
+) -> Result<Option<Piece<'a>>, AllocError>
+    ensures { (s u : Sig) → first.now ≡ body s → second.now ≡ body u → IfOk result (λ h.
+        Writes text.old.items text.new.items todo.old.items (todo.new.items ++ held h)
+        (begin ∷ (sig_text deep s ++ (codes "," ++ (sig_text deep u ++ close ∷ []))))
         (3 * length first.now + 3 * length second.now + 3)) }
 {
-    text.extend_from_slice(begin)?;
-    put_both(todo, first, second, close, deep)
-}
-
-// Puts two signatures down, with what stands between and behind them.
-fn put_both<'a>(
-    todo: &mut Vec<Piece<'a>>,
-    first: &'a [u64],
-    second: &'a [u64],
-    close: u8,
-    deep: usize,
-) -> Result<(), AllocError>
-    ensures { OnOk result
-        (todo.new.items ≡ todo.old.items
-        ++ Piece.Mark close ∷ Piece.Part second.entry deep ∷ Piece.Mark 44 ∷ Piece.Part first.entry deep ∷ []) }
-{
-    todo.push(Piece::Mark(close))?;
-    todo.push(Piece::Part(second, deep))?;
-    todo.push(Piece::Mark(b','))?;
-    todo.push(Piece::Part(first, deep))?;
-    Ok(())
+    text.push(begin)?;
+    todo.push(Piece::Second(second, deep, close))?;
+    Ok(Some(Piece::Part(first, deep)))
 }
