@@ -1,5 +1,5 @@
 -- Each step on the words of a box stack is the step on its signatures.
-use Rattle.std.proofs.Common.{◌≡◌, ℕ, ◌+◌, ◌-◌, ◌<◌, ◌≤◌, List, [], ◌∷◌, ◌++◌, length, get_or, set}
+use Rattle.std.proofs.Common.{◌≡◌, ℕ, ◌+◌, ◌-◌, ◌<◌, ◌≤◌, List, [], ◌∷◌, ◌++◌, length, get_or, set, slice_index_or}
 use Rattle.std.proofs.Common.{take, drop, refl, sym, ◌∙◌, ap, subst}
 use Rattle.std.proofs.Common.{arith, length-append, Option, Some, None, Bool, eq-eqb}
 use Rattle.std.proofs.lemmas.List.{append_assoc}
@@ -9,7 +9,6 @@ use Rattle.std.proofs.lemmas.Bool.{eqb-true}
 use Rattle.token_stacks.specs.Signatures.{Sig, star, left_of, right_of, pair_of, again}
 use Rattle.token_stacks.specs.Words.{body, entry, box_words}
 use Rattle.token_stacks.specs.Reading.{boxes_of, boxes_of-words}
-use Rattle.token_stacks.specs.Parts.{Swaps}
 use Rattle.token_stacks.specs.Tops.{box_body, again_body, popped_box, popped_box_star, joined, parted}
 use Rattle.token_stacks.proofs.Ends.{stem, tag, body_ends, body_long, star_short, length_again, word_at, one_on, length_on, set_after}
 use Rattle.token_stacks.proofs.Ends.{take_after, piece_at, length_both, Starts, body_starts}
@@ -146,40 +145,54 @@ entry_made r s b j e h =
     ∙ ap (λ (z : List ℕ). (box_words r ++ z) ++ length z ∷ []) (sym e)
     ∙ append_assoc (box_words r) (body s) (length (body s) ∷ [])
 
--- The second part of a `y` comes from another stack: it lies above the size of the first part, and the two change places. Then its
--- own size goes where the first part's was brought to, and the size of the whole to the end.
-pub joins : (s : Sig) (b : List ℕ) (t : List Sig) (ws us xs vs : List ℕ) (n k l : ℕ) → (of_s : b ≡ body s) →
+-- The size of a signature on top is no more than the stack has words.
+pub size_within : (t : List Sig) (ws : List ℕ) (n k : ℕ) → ws ≡ box_words t → BoxTop t → n ≡ length ws → k ≡ get_or ws (n - 1) k →
+    k ≤ n
+size_within t ws n k held T long sized =
+    let e : ws ≡ box_words (T.sig ∷ T.rest) = held ∙ ap box_words T.is in
+    let size = size_b T.sig T.rest ws n k e long sized in
+    let lw = entry_length T.sig T.rest ws e in omega (arith, size, lw, long)
+
+-- the first word of a body and the others
+pub split_body : (s : Sig) (b first rest : List ℕ) → b ≡ body s → first ≡ take 1 b → rest ≡ drop 1 b →
+    slice_index_or first 0 0 ∷ rest ≡ b
+split_body s [] first rest e f g = absurd (let l = ap length e in omega (arith, l, body_long s))
+split_body s (x ∷ b) first rest e f g = λ i. slice_index_or (f i) 0 0 ∷ g i
+
+-- The second part of a `y` comes from another stack: its first word goes where the size of the first part was, the others and its own size
+-- behind that, and the size of the whole to the end.
+pub joins : (s : Sig) (b rest : List ℕ) (first : ℕ) (t : List Sig) (ws us vs : List ℕ) (n k l : ℕ) → (of_s : b ≡ body s) →
     (held : ws ≡ box_words t)
-    → (T : BoxTop t) → (long : n ≡ length ws) → (sized : k ≡ get_or ws (n - 1) k) → (added : us ≡ ws ++ (b ++ 4 ∷ 0 ∷ []))
-    → (longer : l ≡ length us) → (brought : Swaps us xs (n - 1) n (n + length b))
-    → (sizes : vs ≡ set (set xs (l - 3) (length b)) (l - 1) (l - (n - k))) → BoxTurns (joined s t) vs
-joins s b t ws us xs vs n k l of_s held T long sized added longer brought sizes =
+    → (T : BoxTop t) → (long : n ≡ length ws) → (sized : k ≡ get_or ws (n - 1) k) → (split : first ∷ rest ≡ b)
+    → (added : us ≡ ws ++ (rest ++ length b ∷ 4 ∷ 0 ∷ [])) → (longer : l ≡ length us)
+    → (sizes : vs ≡ set (set us (n - 1) first) (l - 1) (l - (n - k))) → BoxTurns (joined s t) vs
+joins s b rest first t ws us vs n k l of_s held T long sized split added longer sizes =
     let x : Sig = T.sig in
     let r : List Sig = T.rest in
     let A : List ℕ = box_words r ++ body x in
     let z : ℕ = length (body x) in
+    let E : List ℕ = length b ∷ 4 ∷ 0 ∷ [] in
     let e' : ws ≡ box_words (x ∷ r) = held ∙ ap box_words T.is in
     let size : k ≡ z = size_b x r ws n k e' long sized in
     let lw : length ws ≡ length (box_words r) + z + 1 = entry_length x r ws e' in
     let lA : length A ≡ length (box_words r) + z = length-append (box_words r) (body x) in
-    let ll : l ≡ length ws + (length b + 2) =
-    omega (arith, longer, length_both ws (b ++ 4 ∷ 0 ∷ []) us added, length-append b (4 ∷ 0 ∷ [])) in
-    let us' : us ≡ A ++ (z ∷ [] ++ (b ++ 4 ∷ 0 ∷ [])) =
-    added ∙ ap (λ (y : List ℕ). y ++ (b ++ 4 ∷ 0 ∷ [])) (entry_words x r ws e') ∙
-    append_assoc A (z ∷ []) (b ++ 4 ∷ 0 ∷ []) in
-    let moved : xs ≡ (A ++ b) ++ z ∷ 4 ∷ 0 ∷ [] =
-    brought.parts A (z ∷ []) b (4 ∷ 0 ∷ []) us' (omega arith) (omega arith) (omega arith) ∙
-    sym (append_assoc A b (z ∷ 4 ∷ 0 ∷ [])) in
+    let lb : length rest + 1 ≡ length b = let h = ap length split in omega (arith, h) in
+    let ll : l ≡ length ws + (length rest + 3) =
+    omega (arith, longer, length_both ws (rest ++ E) us added, length-append rest E) in
+    let us' : us ≡ A ++ (z ∷ (rest ++ E)) =
+    added ∙ ap (λ (y : List ℕ). y ++ (rest ++ E)) (entry_words x r ws e') ∙ append_assoc A (z ∷ []) (rest ++ E) in
+    let put : set us (n - 1) first ≡ (A ++ b) ++ E =
+    set_after A z (rest ++ E) us (n - 1) first us' (omega arith) ∙ ap (λ (y : List ℕ). A ++ (y ++ E)) split
+    ∙ sym (append_assoc A b E) in
     let lAb : length (A ++ b) ≡ length A + length b = length-append A b in
     let G : List ℕ = ((A ++ b) ++ length b ∷ []) ++ 4 ∷ [] in
     let lG : length G ≡ length A + length b + 2 =
     omega (arith, length_on ((A ++ b) ++ length b ∷ []) 4, length_on (A ++ b) (length b), lAb) in
-    let one : set xs (l - 3) (length b) ≡ G ++ 0 ∷ [] =
-    set_after (A ++ b) z (4 ∷ 0 ∷ []) xs (l - 3) (length b) moved (omega arith)
-    ∙ one_on (A ++ b) (length b) (4 ∷ 0 ∷ []) ∙ one_on ((A ++ b) ++ length b ∷ []) 4 (0 ∷ []) in
+    let one : set us (n - 1) first ≡ G ++ 0 ∷ [] =
+    put ∙ one_on (A ++ b) (length b) (4 ∷ 0 ∷ []) ∙ one_on ((A ++ b) ++ length b ∷ []) 4 (0 ∷ []) in
     let j : ℕ = l - (n - k) in
-    let two : set (set xs (l - 3) (length b)) (l - 1) j ≡ G ++ j ∷ [] =
-    set_after G 0 [] (set xs (l - 3) (length b)) (l - 1) j one (omega arith) in
+    let two : set (set us (n - 1) first) (l - 1) j ≡ G ++ j ∷ [] =
+    set_after G 0 [] (set us (n - 1) first) (l - 1) j one (omega arith) in
     let C : List ℕ = b ++ length b ∷ 4 ∷ [] in
     let G_is : G ≡ box_words r ++ (body x ++ C) =
     sym (one_on (A ++ b) (length b) (4 ∷ [])) ∙ append_assoc A b (length b ∷ 4 ∷ []) ∙ append_assoc (box_words r) (body x) C in

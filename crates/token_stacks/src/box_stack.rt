@@ -5,7 +5,7 @@ ghost use Rattle.token_stacks.specs.Signatures.{Sig, star};
 ghost use Rattle.token_stacks.specs.Words.{body as words_of, box_words};
 ghost use Rattle.token_stacks.specs.Tops.{IsBody, Steps, box_body, again_body, popped_box, popped_box_star, joined, parted};
 
-use crate::words::{AGAIN, STAR, append, bring_down};
+use crate::words::{AGAIN, STAR, append};
 use std::alloc::{AllocError, Global};
 use std::cmp::Ordering;
 use std::marker::Model;
@@ -186,10 +186,10 @@ impl BoxStack {
     {
         let n = self.words.len();
         let size = self.words[n - 1] as usize;
-        append(&mut self.words, body, &[AGAIN, STAR])?;
+        let (first, rest) = body.split_at(1);
+        append(&mut self.words, rest, &[body.len() as u64, AGAIN, STAR])?;
         let end = self.words.len();
-        bring_down(&mut self.words, body, n - 1, n);
-        self.words[end - 3] = body.len() as u64;
+        self.words[n - 1] = first[0];
         self.words[end - 1] = (end - (n - size)) as u64;
         Ok(())
     }
