@@ -1,5 +1,6 @@
 -- Each step on the words of a box stack is the step on its signatures.
-use Rattle.std.proofs.Common.{◌≡◌, ℕ, ◌+◌, ◌-◌, ◌<◌, ◌≤◌, List, [], ◌∷◌, ◌++◌, length, get_or, set, slice_index_or}
+use Rattle.std.proofs.Common.{◌≡◌, ℕ, ◌+◌, ◌-◌, ◌<◌, ◌≤◌, List, [], ◌∷◌, ◌++◌, length}
+use Rattle.std.proofs.Common.{get_or, set, slice_index_or}
 use Rattle.std.proofs.Common.{take, drop, refl, sym, ◌∙◌, ap, subst}
 use Rattle.std.proofs.Common.{arith, length-append, Option, Some, None, Bool, eq-eqb}
 use Rattle.std.proofs.lemmas.List.{append_assoc}
@@ -161,8 +162,8 @@ split_body s (x ∷ b) first rest e f g = λ i. slice_index_or (f i) 0 0 ∷ g i
 
 -- The second part of a `y` comes from another stack: its first word goes where the size of the first part was, the others and its own size
 -- behind that, and the size of the whole to the end.
-pub joins : (s : Sig) (b rest : List ℕ) (first : ℕ) (t : List Sig) (ws us vs : List ℕ) (n k l : ℕ) → (of_s : b ≡ body s) →
-    (held : ws ≡ box_words t)
+pub joins : (s : Sig) (b rest : List ℕ) (first : ℕ) (t : List Sig) (ws us vs : List ℕ) (n k l : ℕ) →
+    (of_s : b ≡ body s) → (held : ws ≡ box_words t)
     → (T : BoxTop t) → (long : n ≡ length ws) → (sized : k ≡ get_or ws (n - 1) k) → (split : first ∷ rest ≡ b)
     → (added : us ≡ ws ++ (rest ++ length b ∷ 4 ∷ 0 ∷ [])) → (longer : l ≡ length us)
     → (sizes : vs ≡ set (set us (n - 1) first) (l - 1) (l - (n - k))) → BoxTurns (joined s t) vs
