@@ -9,7 +9,7 @@ const camera = {
 };
 const SCALES = { least: 0.002, most: 4, texts: 0.42, legible: 0.6, close: 0.85, whole: 1.7 };
 // What the buttons above and the legend below take of the picture, and what is left free at its sides.
-const RIMS = { above: 46, below: 40, side: 24 };
+const RIMS = { above: 44, below: 36, side: 24 };
 
 function pictureSize() {
   const { width, height } = byId("picture").getBoundingClientRect();
