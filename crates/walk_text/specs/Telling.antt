@@ -66,6 +66,16 @@ pub record Begins (net : NetTree) (S : MapState) (k worker ticket : ℕ) (s : Se
   pub text : new ≡ old ++ line_begin k worker ticket s token
   pub before_is : before ≡ token_text (boxes_by (is_operator s.node)) token
 
+-- a text that is kept beside a ticket is that of the ticket's token in the state, its box stack cut
+abbrev pub Shows : MapState → Option ℕ → List ℕ → Type 0
+Shows S None text = Unit {0}
+Shows S (Some i) text = (x : TokenTree) → get S.tokens i ≡ Some x → text ≡ token_text boxes_text x
+
+-- the same of this ticket and its token
+abbrev pub IsShown : ℕ → TokenTree → Option ℕ → List ℕ → Type 0
+IsShown i x None text = Unit {0}
+IsShown i x (Some j) text = (j ≡ i) × (text ≡ token_text boxes_text x)
+
 -- what a token that goes on shows behind the one before, if it is there
 abbrev pub onward_text : Node → List ℕ → Option TokenTree → List ℕ
 onward_text n before None = []

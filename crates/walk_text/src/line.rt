@@ -1,13 +1,14 @@
 // The line of one move.
-ghost use Rattle.std.specs.Prelude.{◌≡◌, ◌++◌, [], Some, OnOk, IfOk, IsSome, codes};
+ghost use Rattle.std.specs.Prelude.{◌≡◌, ◌++◌, [], Some, None, false, OnOk, IfOk, IsSome, IsTrue, codes, if◌then◌else◌};
 ghost use Rattle.std.specs.FinMap.{get};
+ghost use Rattle.token_stacks.specs.Texts.{boxes_text};
 ghost use Rattle.pcf_values.specs.Most.{most_budget};
 ghost use Rattle.interleave_laws.specs.Runs.{Runs};
 ghost use Rattle.interleave_laws.specs.Maps.{step_map, seen, IsReachedWithin};
 ghost use Rattle.move_rules.specs.Views.{token_of};
 ghost use Rattle.walk_text.specs.Lines.{mover_text, move_line, token_text, came, val_text};
-ghost use Rattle.walk_text.specs.Telling.{Begins, boxes_by, in_port, is_operator, out_port, told_text, onward_text, forked_text};
-ghost use Rattle.walk_text.specs.Telling.{values_text};
+ghost use Rattle.walk_text.specs.Telling.{Begins, Shows, IsShown, boxes_by, in_port, is_operator, out_port, told_text, onward_text};
+ghost use Rattle.walk_text.specs.Telling.{forked_text, values_text};
 
 use crate::ports::{at_operator, came_by, left_by};
 use crate::token::push_token;
@@ -20,11 +21,19 @@ use pcf_values::Val;
 use schedule_log::Entry;
 use std::alloc::{AllocError, Global};
 
-// Makes the move of an entry, and appends its line. The text of the token before the move stands in `before` meanwhile.
+// The text of a token. With a ticket it is that of the ticket's token, its box stack cut, so that the next move of the ticket finds its
+// token written.
+#[derive(Drop)]
+pub(crate) struct Shown {
+    pub(crate) text: Vec<u8>,
+    pub(crate) ticket: Option<u32>,
+}
+
+// Makes the move of an entry, and appends its line. What is shown is the token behind the last move, and afterwards the one behind this.
 pub(crate) fn push_move(
     alloc: Global,
     text: &mut Vec<u8>,
-    before: &mut Vec<u8>,
+    shown: &mut Shown,
     core: &mut Core,
     net: &Net,
     k: u32,
@@ -33,32 +42,36 @@ pub(crate) fn push_move(
     requires runs { Runs net.now }
     requires reached { IsReachedWithin net.now most_budget core.old }
     requires able { IsSome (step_map net.now core.old entry.ticket) }
+    requires shown { Shows core.old shown.old.ticket shown.old.text.items }
     ensures line { OnOk result (text.new.items ≡ text.old.items ++ move_line net.now (seen core.old) k entry.worker entry.ticket) }
     ensures steps { OnOk result (step_map net.now core.old entry.ticket ≡ Some core.new) }
+    ensures shown { OnOk result (Shows core.new shown.new.ticket shown.new.text.items) }
 {
-    let met = begin(alloc, text, before, core, net, k, entry)?;
+    let met = begin(alloc, text, shown, core, net, k, entry)?;
     let stepped = core.step(net, entry.ticket)?;
-    push_told(alloc, text, before, core, met.node, entry.ticket, stepped)?;
+    push_told(alloc, text, shown, core, met.node, entry.ticket, stepped)?;
     text.extend_from_slice(b"\n")
 }
 
-// Begins the line of an entry, up to the port by which its token came, and writes the token beside it.
+// Begins the line of an entry, up to the port by which its token came, and shows the token.
 fn begin(
     alloc: Global,
     text: &mut Vec<u8>,
-    before: &mut Vec<u8>,
+    shown: &mut Shown,
     core: &Core,
     net: &Net,
     k: u32,
     entry: Entry,
 ) -> Result<Seen, AllocError>
     requires able { IsSome (step_map net.now core.now entry.ticket) }
-    ensures { IfOk result (λ s. Begins net.now core.now k entry.worker entry.ticket s text.old.items text.new.items before.new.items) }
+    requires shown { Shows core.now shown.old.ticket shown.old.text.items }
+    ensures { IfOk result
+        (λ s. Begins net.now core.now k entry.worker entry.ticket s text.old.items text.new.items shown.new.text.items) }
 {
     match core.token(entry.ticket) {
         Some(token) => match faced(net, token) {
             Some(met) => {
-                push_begin(alloc, text, before, token, met, k, entry)?;
+                push_begin(alloc, text, shown, token, met, k, entry)?;
                 Ok(met)
             }
             None => unreachable!(),
@@ -71,20 +84,60 @@ fn begin(
 fn push_begin(
     alloc: Global,
     text: &mut Vec<u8>,
-    before: &mut Vec<u8>,
+    shown: &mut Shown,
     token: &Token,
     met: Seen,
     k: u32,
     entry: Entry,
 ) -> Result<(), AllocError>
+    requires shown { shown.old.ticket ≡ Some entry.ticket → shown.old.text.items ≡ token_text boxes_text (token_of token.now) }
     ensures text { OnOk result (text.new.items ≡ text.old.items ++ (mover_text k entry.worker entry.ticket met.at met.node
         ++ (codes " " ++ (in_port met.node token.now.up token.now.wire ++ codes " ")))) }
-    ensures before { OnOk result (before.new.items ≡ token_text (boxes_by (is_operator met.node)) (token_of token.now)) }
+    ensures before { OnOk result (shown.new.text.items ≡ token_text (boxes_by (is_operator met.node)) (token_of token.now)) }
 {
     push_mover(text, k, entry, met)?;
     push_port(text, came_by(met.node, token.up, token.wire))?;
-    before.clear();
-    push_token(alloc, before, token, at_operator(met.node))
+    show(alloc, shown, token, at_operator(met.node), entry.ticket)
+}
+
+// Writes a ticket's token, unless it is written already.
+fn show(
+    alloc: Global,
+    shown: &mut Shown,
+    token: &Token,
+    whole: bool,
+    ticket: u32,
+) -> Result<(), AllocError>
+    requires { shown.old.ticket ≡ Some ticket → shown.old.text.items ≡ token_text boxes_text (token_of token.now) }
+    ensures { OnOk result (shown.new.text.items ≡ token_text (boxes_by whole) (token_of token.now)) }
+{
+    if is_shown(shown, whole, ticket) {
+        return Ok(());
+    }
+    write_token(alloc, &mut shown.text, token, whole)
+}
+
+// Whether a ticket's token is written so.
+fn is_shown(shown: &Shown, whole: bool, ticket: u32) -> bool
+    ensures { IsTrue result → (shown.now.ticket ≡ Some ticket) × (whole ≡ false) }
+{
+    match shown.ticket {
+        Some(other) => other == ticket && !whole,
+        None => false,
+    }
+}
+
+// Writes a token in the place of what is there.
+fn write_token(
+    alloc: Global,
+    text: &mut Vec<u8>,
+    token: &Token,
+    whole: bool,
+) -> Result<(), AllocError>
+    ensures { OnOk result (text.new.items ≡ token_text (boxes_by whole) (token_of token.now)) }
+{
+    text.clear();
+    push_token(alloc, text, token, whole)
 }
 
 // Appends who moved, and where.
@@ -107,8 +160,76 @@ fn push_port(text: &mut Vec<u8>, port: &[u8]) -> Result<(), AllocError>
     text.extend_from_slice(b" ")
 }
 
-// Appends what a step of a ticket came to, in the state behind it, with the text of the token before.
+// Appends what a step of a ticket came to, in the state behind it. What is shown is the token before, and then the one that went on.
 fn push_told(
+    alloc: Global,
+    text: &mut Vec<u8>,
+    shown: &mut Shown,
+    core: &Core,
+    node: Node,
+    ticket: u32,
+    stepped: Stepped,
+) -> Result<(), AllocError>
+    ensures text { OnOk result
+        (text.new.items ≡ text.old.items ++ told_text node shown.old.text.items stepped core.now ticket) }
+    ensures shown { OnOk result (Shows core.now shown.new.ticket shown.new.text.items) }
+{
+    shown.ticket = None;
+    match stepped {
+        Stepped::Went => push_next(alloc, text, shown, core, node, ticket),
+        _ => push_turn(alloc, text, &shown.text, core, node, ticket, stepped),
+    }
+}
+
+// The same of a solo move, behind which the token is shown.
+fn push_next(
+    alloc: Global,
+    text: &mut Vec<u8>,
+    shown: &mut Shown,
+    core: &Core,
+    node: Node,
+    ticket: u32,
+) -> Result<(), AllocError>
+    requires nothing { shown.old.ticket ≡ None }
+    ensures text { OnOk result
+        (text.new.items ≡ text.old.items ++ onward_text node shown.old.text.items (get core.now.tokens ticket)) }
+    ensures shown { OnOk result (Shows core.now shown.new.ticket shown.new.text.items) }
+{
+    match core.token(ticket) {
+        Some(token) => push_shown(alloc, text, shown, node, token, ticket),
+        None => Ok(()),
+    }
+}
+
+// The same of a token.
+fn push_shown(
+    alloc: Global,
+    text: &mut Vec<u8>,
+    shown: &mut Shown,
+    node: Node,
+    token: &Token,
+    ticket: u32,
+) -> Result<(), AllocError>
+    ensures text { OnOk result (text.new.items ≡ text.old.items ++ came (out_port node token.now.up token.now.wire) shown.old.text.items
+        (token_text (boxes_by (is_operator node)) (token_of token.now))) }
+    ensures shown { OnOk result (IsShown ticket (token_of token.now) shown.new.ticket shown.new.text.items) }
+{
+    let whole = at_operator(node);
+    push_came(text, left_by(node, token.up, token.wire), &shown.text)?;
+    write_token(alloc, &mut shown.text, token, whole)?;
+    shown.ticket = unless(whole, ticket);
+    text.extend_from_slice(&shown.text)
+}
+
+// The ticket, unless its token is written whole.
+fn unless(whole: bool, ticket: u32) -> Option<u32>
+    ensures { result ≡ (if whole then None else Some ticket) }
+{
+    if whole { None } else { Some(ticket) }
+}
+
+// Appends what a step of a ticket came to, with the text of the token before.
+fn push_turn(
     alloc: Global,
     text: &mut Vec<u8>,
     before: &[u8],

@@ -8,7 +8,7 @@ ghost use Rattle.interleave_laws.specs.Start.{start_of};
 ghost use Rattle.schedule_log.specs.Logs.{tickets_in_log};
 ghost use Rattle.walk_text.specs.Traces.{LeadsSomewhere, lines_from};
 
-use crate::line::push_move;
+use crate::line::{Shown, push_move};
 use interleave_core::Core;
 use net_build::Net;
 use schedule_log::Entry;
@@ -53,9 +53,12 @@ pub(crate) fn push_moves(
     ensures { OnOk result (text.new.items ≡ text.old.items
         ++ concat (lines_from net.now (seen core.old) from (take (to - from) (drop from entries.now)))) }
 {
-    let mut before = Vec::new(alloc);
+    let mut shown = Shown {
+        text: Vec::new(alloc),
+        ticket: None,
+    };
     for i in from..to {
-        push_move(alloc, text, &mut before, core, net, i as u32, entries[i])?;
+        push_move(alloc, text, &mut shown, core, net, i as u32, entries[i])?;
     }
     Ok(())
 }

@@ -1,5 +1,3 @@
-use Rattle.std.proofs.Common.{◌++◌, ap, ◌∙◌}
-use Rattle.walk_text.specs.Telling.{told_text}
 use Rattle.walk_text.proofs.Playing.{ok_map, from_if, low_reached}
 use Rattle.walk_text.proofs.Told.{line_told}
 use Rattle.walk_text.proofs.line.push_move.Goals as goal
@@ -10,7 +8,5 @@ returns-clause-line c =
     (line_told c.args.net.now c.args.core.now c.step.new.self _ _ _ c.in_ok-met.met c.in_ok-stepped.stepped _ _ _ _ _
     (low_reached c.args.net.now _ c.args.core.now _ c.requires.runs c.requires.reached c.requires.able) c.in_ok-met.ensures
     c.in_ok-stepped.ensures.steps c.in_ok-stepped.ensures.name
-    (c.in_ok-push_told.ensures
-    ∙ ap (λ z. c.begin.new.text.items ++ told_text c.in_ok-met.met.node z c.in_ok-stepped.stepped c.step.new.self c.args.entry.ticket)
-    c.deref.ensures.value))
+    c.in_ok-push_told.ensures.text)
     (from_if c.extend_from_slice.result c.extend_from_slice.new.self.items _ _ c.extend_from_slice.ensures.items)

@@ -14,6 +14,7 @@ push_move-requires-clause-able c =
 
 pub loop-i-preserved : goal.loop-i-preserved
 loop-i-preserved c = record {
+  shown = c.in_ok-push_move.ensures.shown;
   led = led_on c.args.net.now c.args.entries.now c.loop-i.i _ c.loop-i.core c.push_move.new.core
       (omega (arith, c.loop-i-test.true, c.requires.within)) c.loop-i.invariant.led c.in_ok-push_move.ensures.steps;
   text = line_on c.args.net.now c.args.entries.now c.loop-i.i c.args.to _ c.loop-i.core c.push_move.new.core c.loop-i.text.items
