@@ -7,14 +7,17 @@ const camera = {
   // Whether somebody has moved it: then it is left alone where the window changes its size.
   moved: false,
 };
-const SCALES = { least: 0.002, most: 4, texts: 0.42, legible: 0.6, close: 0.85, whole: 1.7 };
-// What the buttons above and the legend below take of the picture, and what is left free at its sides.
-const RIMS = { above: 44, below: 36, side: 24 };
+const SCALES = { least: 0.002, most: 4, texts: 0.42, legible: 0.56, close: 0.85, whole: 1.7 };
+// What the buttons above take of the picture, and what is left free at its sides and around the legend below.
+const RIMS = { above: 44, side: 24, legend: 13 };
 
 function pictureSize() {
   const { width, height } = byId("picture").getBoundingClientRect();
   return { width: width || 800, height: height || 600 };
 }
+
+// What the legend takes of the picture: it has several lines where the window is narrow.
+const rimBelow = () => document.querySelector(".legend").offsetHeight + RIMS.legend;
 
 function applyCamera() {
   drawing.root.setAttribute("transform", `translate(${camera.x.toFixed(2)} ${camera.y.toFixed(2)}) scale(${camera.scale.toFixed(4)})`);
@@ -34,9 +37,10 @@ function centre(x, y) {
 function showAll() {
   const { width, height } = pictureSize();
   const { left, right, top, bottom } = view.layout.bounds;
-  const scale = Math.min(width / (right - left + 140), (height - RIMS.above - RIMS.below) / (bottom - top + 14), SCALES.whole);
+  const below = rimBelow();
+  const scale = Math.min(width / (right - left + 140), (height - RIMS.above - below) / (bottom - top + 14), SCALES.whole);
   camera.scale = Math.max(scale, SCALES.least);
-  centre((left + right) / 2, (top + bottom) / 2 + (RIMS.below - RIMS.above) / 2 / camera.scale);
+  centre((left + right) / 2, (top + bottom) / 2 + (below - RIMS.above) / 2 / camera.scale);
 }
 
 // The whole net where it is legible so, and else the token at a legible size.
@@ -60,7 +64,7 @@ function withinNet(x, y) {
     const least = size - after - high * camera.scale;
     return least > most ? (most + least) / 2 : Math.min(most, Math.max(least, at));
   };
-  return { x: within(x, left, right, width, RIMS.side, RIMS.side), y: within(y, top, bottom, height, above, RIMS.below) };
+  return { x: within(x, left, right, width, RIMS.side, RIMS.side), y: within(y, top, bottom, height, above, rimBelow()) };
 }
 
 // Where the move that is shown happened.
