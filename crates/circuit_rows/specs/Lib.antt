@@ -1,0 +1,2 @@
+-- How the code's channels and rows are seen.
+pub mod Views

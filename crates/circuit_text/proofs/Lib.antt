@@ -1,0 +1,2 @@
+-- the sizes, one behind the other
+pub mod Sizes

@@ -1,0 +1,104 @@
+-- The line of a row in the `case` of a circuit's text. A channel is told by its number, and behind the row stand the wire, the direction
+-- and the node for whoever reads it.
+use Rattle.std.specs.Prelude.{ℕ, List, [], ◌++◌, Option, Some, None, codes, decimal}
+use Rattle.pcf_values.specs.Values.{Op, plus_op, minus_op, times_op}
+use Rattle.pcf_values.specs.Terms.{Side, left_side, right_side}
+use Rattle.net_build.specs.Nets.{NetTree}
+use Rattle.circuit_core.specs.Rows.{Channel, rises, falls, number, Row, GO, CONST, SUCC, PRED, TEST, FORK, JOIN, ANSWER, STAR, UNSTAR}
+use Rattle.circuit_core.specs.Rows.{LEFT, RIGHT, CON, PUSHR, PUSHL, SELECT, POP, BOXIN, BOXOUT, DOOROUT, DOORIN, FIXIN, FIXOUT, FIXVAR}
+use Rattle.circuit_core.specs.Rows.{DEAD, row_of}
+
+-- a channel by name
+abbrev pub channel_text : Channel → List ℕ
+channel_text (rises w) = codes "up " ++ decimal w
+channel_text (falls w) = codes "down " ++ decimal w
+
+-- the operation at an operator, by the side from which the answer comes
+abbrev pub join_text : Op → Side → List ℕ
+join_text plus_op left_side = codes "PLUSL"
+join_text plus_op right_side = codes "PLUSR"
+join_text minus_op left_side = codes "MINUSL"
+join_text minus_op right_side = codes "MINUSR"
+join_text times_op left_side = codes "TIMESL"
+join_text times_op right_side = codes "TIMESR"
+
+-- the name of an operation
+abbrev pub op_text : Row → List ℕ
+op_text (GO c) = codes "GO"
+op_text (CONST n c) = codes "CONST"
+op_text (SUCC c) = codes "SUCC"
+op_text (PRED c) = codes "PRED"
+op_text (TEST z o) = codes "TEST"
+op_text (FORK l r) = codes "FORK"
+op_text (JOIN o s w) = join_text o s
+op_text ANSWER = codes "ANSWER"
+op_text (STAR c) = codes "STAR"
+op_text (UNSTAR c) = codes "UNSTAR"
+op_text (LEFT c) = codes "LEFT"
+op_text (RIGHT c) = codes "RIGHT"
+op_text (CON l r) = codes "CON"
+op_text (PUSHR c) = codes "PUSHR"
+op_text (PUSHL c) = codes "PUSHL"
+op_text (SELECT r l) = codes "SELECT"
+op_text (POP c) = codes "POP"
+op_text (BOXIN c) = codes "BOXIN"
+op_text (BOXOUT c) = codes "BOXOUT"
+op_text (DOOROUT c) = codes "DOOROUT"
+op_text (DOORIN c) = codes "DOORIN"
+op_text (FIXIN c) = codes "FIXIN"
+op_text (FIXOUT o i) = codes "FIXOUT"
+op_text (FIXVAR c) = codes "FIXVAR"
+op_text DEAD = codes "DEAD"
+
+-- the channel that a row sends to, and both of them where it has two: the second is the one at `L`, at a right mark, from inside, or at
+-- a number other than 0
+abbrev pub one_text : Channel → List ℕ
+one_text c = codes " to = " ++ (decimal (number c) ++ codes ";")
+
+abbrev pub two_text : Channel → Channel → List ℕ
+two_text c d = one_text c ++ (codes " other = " ++ (decimal (number d) ++ codes ";"))
+
+-- what a row has behind its operation
+abbrev pub fields_text : Row → List ℕ
+fields_text (GO c) = one_text c
+fields_text (CONST n c) = one_text c ++ (codes " number = 64'd" ++ (decimal n ++ codes ";"))
+fields_text (SUCC c) = one_text c
+fields_text (PRED c) = one_text c
+fields_text (TEST z o) = two_text z o
+fields_text (FORK l r) = two_text l r
+fields_text (JOIN o s w) = one_text (falls w)
+fields_text ANSWER = []
+fields_text (STAR c) = one_text c
+fields_text (UNSTAR c) = one_text c
+fields_text (LEFT c) = one_text c
+fields_text (RIGHT c) = one_text c
+fields_text (CON l r) = two_text l r
+fields_text (PUSHR c) = one_text c
+fields_text (PUSHL c) = one_text c
+fields_text (SELECT r l) = two_text r l
+fields_text (POP c) = one_text c
+fields_text (BOXIN c) = one_text c
+fields_text (BOXOUT c) = one_text c
+fields_text (DOOROUT c) = one_text c
+fields_text (DOORIN c) = one_text c
+fields_text (FIXIN c) = one_text c
+fields_text (FIXOUT o i) = two_text o i
+fields_text (FIXVAR c) = one_text c
+fields_text DEAD = []
+
+-- a row: its operation and what it has
+unfoldable pub row_text : Row → List ℕ
+row_text r = op_text r ++ (codes ";" ++ fields_text r)
+
+-- the end of its line: the channel by name, and the node
+unfoldable pub comment_text : Channel → ℕ → List ℕ
+comment_text c i = codes " end  // " ++ (channel_text c ++ (codes ", node " ++ (decimal i ++ codes "\n")))
+
+-- the line of a channel's row, which is that of this node; none where there is no row
+abbrev pub row_line : Channel → Option (ℕ × Row) → List ℕ
+row_line c None = []
+row_line c (Some r) = codes "      " ++ (decimal (number c) ++ (codes ": begin op = " ++ (row_text r.1 ++ comment_text c r.0)))
+
+-- both lines of a wire
+unfoldable pub wire_lines : NetTree → ℕ → List ℕ
+wire_lines net w = row_line (rises w) (row_of net (rises w)) ++ row_line (falls w) (row_of net (falls w))
