@@ -9,8 +9,8 @@ function beginSheet() {
   document.documentElement.dataset.theme = "light";
   byId("when").textContent = `after ${movesMade()} of ${view.run.trace.moves} moves`;
   const whole = drawing.range === null;
-  const { left, right, top, bottom } = whole ? view.layout.bounds : shownRange();
-  byId("picture").setAttribute("viewBox", [left - 20, top - 20, right - left + 40, bottom - top + 40].map(Math.round).join(" "));
+  const { left, right, top, bottom } = whole ? { ...view.layout.bounds, ...reach(20) } : shownRange();
+  byId("picture").setAttribute("viewBox", [left, top - 20, right - left, bottom - top + 40].map(Math.round).join(" "));
   drawing.root.removeAttribute("transform");
 }
 

@@ -10,24 +10,36 @@ function saveFile(name, type, text) {
 function pictureText() {
   const { run, layout } = view;
   const copy = wholePicture();
-  const { left, right, top, bottom } = layout.bounds;
+  const { top, bottom } = layout.bounds;
+  const { left, right } = reach(50);
   // Room for two lines of words below.
-  const width = Math.max(right - left + 100, 400);
+  const width = Math.max(right - left, 400);
   const height = bottom - top + 110;
-  copy.setAttribute("viewBox", [left - 50, top - 30, width, height].map(Math.round).join(" "));
+  copy.setAttribute("viewBox", [left, top - 30, width, height].map(Math.round).join(" "));
   copy.setAttribute("width", Math.round(width));
   copy.setAttribute("height", Math.round(height));
   const move = run.lastMove();
   const when = `${view.name}, after ${movesMade()} of ${run.trace.moves} moves`;
   const last = move ? `${ruleOf(move).title} (ticket ${move.ticket}, node ${move.node})` : "";
-  const line = (y, text) => shape("text", { x: left - 40, y: bottom + y, style: "font-size:13px;fill:var(--ink)" }, text);
+  const line = (y, text) => shape("text", { x: left + 10, y: bottom + y, style: "font-size:13px;fill:var(--ink)" }, text);
   copy.prepend(shape("title", {}, when), shape("style", {}, pictureStyle()),
-    shape("rect", { x: left - 50, y: top - 30, width, height, style: "fill:var(--bg)" }));
+    shape("rect", { x: left, y: top - 30, width, height, style: "fill:var(--bg)" }));
   copy.append(line(46, when), line(65, last));
   // Not every reader of pictures knows the style sheet's variables. An element is a line.
   const text = new XMLSerializer().serializeToString(copy);
   const coloured = text.replaceAll(/var\((--[\w-]+)\)/g, (_, name) => styleValue(name));
   return coloured.replaceAll(/(<\/(?:g|path|rect|text|title|style)>|\/>)(?=<)/g, "$1\n") + "\n";
+}
+
+// How far the whole net reaches to either side with so much room beside it, or with what is drawn beside its nodes at this moment.
+function reach(room) {
+  let { left, right } = view.layout.bounds;
+  [left, right] = [left - room, right + room];
+  for (const name of ["entries", "piles", "card", "tokens"]) {
+    const { x, width } = drawing.layers[name].getBBox();
+    if (width > 0) [left, right] = [Math.min(left, x - 8), Math.max(right, x + width + 8)];
+  }
+  return { left, right };
 }
 
 // The net drawn whole, with the tokens and what else changes with the moves as the window has them.
