@@ -98,7 +98,7 @@ const KEYS = {
 function pressKey(event) {
   if (!view.run || byId("keys").open || event.ctrlKey || event.metaKey || event.altKey) return;
   const { target, key } = event;
-  if (target.matches("select") || target.matches("input[type=number]") || (target.matches("button, summary") && key === " ")) return;
+  if (target.matches("select, textarea, input[type=number]") || (target.matches("button, summary") && key === " ")) return;
   if (target.matches("#log, #program, .scroll") && ["Home", "End"].includes(key)) return;
   if (!Object.hasOwn(KEYS, key)) return;
   event.preventDefault();
@@ -153,6 +153,7 @@ function joinHands() {
   byId("files").addEventListener("change", () => openFiles([...byId("files").files]));
   document.addEventListener("dragover", event => event.preventDefault());
   document.addEventListener("drop", event => {
+    if (event.dataTransfer.files.length === 0) return;
     event.preventDefault();
     openFiles([...event.dataTransfer.files]);
   });

@@ -49,7 +49,7 @@ function tellState(quiet) {
 let placeTimer = 0;
 function rememberPlace() {
   clearTimeout(placeTimer);
-  placeTimer = setTimeout(() => history.replaceState(null, "", "#move=" + movesMade()), 300);
+  placeTimer = setTimeout(() => history.replaceState(null, "", `#${view.address}move=${movesMade()}`), 300);
 }
 
 function endMotion() {

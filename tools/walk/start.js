@@ -22,9 +22,9 @@ function start() {
   goToAddress();
 }
 
-// For the tests, and for whoever looks at the page with a browser's own tools.
+// For the page with the machine inside, for the tests, and for whoever looks at the page with a browser's own tools.
 window.walk = {
   view, camera, playing, drawing, keys: KEYS, show: jump, showAll, zoom, shownRange, goOther, setSpeed, setTypes, setTheme, setColourBy,
-  openFiles, ruleOf, pictureText, whyNoSwap, swappedSchedule,
+  openFiles, openWalk, goToAddress, readNet, readTerm, namesIn, ruleOf, pictureText, whyNoSwap, swappedSchedule,
 };
 start();

@@ -17,6 +17,9 @@ const view = {
   chosen: null,
   // The wire whose tokens alone are listed, or null.
   onlyWire: null,
+  // What the address has in front of the number of moves, and what runs a program that is opened alone: for a page with the machine inside.
+  address: "",
+  runProgram: null,
 };
 
 const COLOURS = 8;

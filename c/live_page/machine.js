@@ -1,0 +1,93 @@
+// The machine: the calls of goi.h on the module, in a worker of the browser. No proof covers this file: it hands texts and numbers in, and
+// gives back what the module put into its memory.
+
+const NO_ROOM = 4;
+const NO_MEMORY = 6;
+// So much room is given for what a call puts out. Where that is too little, the call says how much it wants, and is made again.
+const ROOM = 1 << 24;
+// goi_tell also puts out a value, a number of moves and a kind.
+const ANSWER_SIZE = 16;
+
+// An instance of the module, as a function that makes calls: {status, text} comes back, and {answer} of goi_tell. A call that throws was cut
+// off, by the browser's stack or by the module's: the instance is then half way through it, and must not be called again.
+function machineOf(module) {
+  const { exports } = new WebAssembly.Instance(module);
+  const { memory, goi_room: room, goi_room_back: roomBack } = exports;
+  const taken = [];
+
+  // Addresses and sizes are numbers of 64 bits. 0n is no address.
+  const take = size => {
+    const at = room(BigInt(size));
+    if (at !== 0n) taken.push(at);
+    return at;
+  };
+  const bytesAt = (at, size) => new Uint8Array(memory.buffer, Number(at), size);
+  const numbersAt = (at, size) => new DataView(memory.buffer, Number(at), size);
+
+  // The texts' addresses and sizes, in the order of the call's parameters; null where there is no memory for them.
+  const handIn = texts => {
+    const given = [];
+    for (const text of texts) {
+      const bytes = new TextEncoder().encode(text);
+      const at = take(bytes.length);
+      if (at === 0n) return null;
+      bytesAt(at, bytes.length).set(bytes);
+      given.push(at, BigInt(bytes.length));
+    }
+    return given;
+  };
+
+  const answerAt = at => {
+    const view = numbersAt(at, ANSWER_SIZE);
+    return { value: String(view.getBigUint64(0, true)), moves: view.getUint32(8, true), kind: view.getUint32(12, true) };
+  };
+
+  const made = (name, texts, numbers, size) => {
+    const nothing = { status: NO_MEMORY, text: "" };
+    const given = handIn(texts);
+    const needed = take(8);
+    const answer = name === "goi_tell" ? take(ANSWER_SIZE) : null;
+    const out = take(size);
+    if (given === null || needed === 0n || answer === 0n || out === 0n) return nothing;
+    const status = exports[name](...given, ...numbers, ...(answer === null ? [] : [answer]), out, BigInt(size), needed) >>> 0;
+    const length = Number(numbersAt(needed, 8).getBigUint64(0, true));
+    if (status === NO_ROOM) return { status, length };
+    const text = new TextDecoder().decode(bytesAt(out, length));
+    return answer === null ? { status, text } : { status, text, answer: answerAt(answer) };
+  };
+
+  return {
+    // As goi.h has them: the texts, then the numbers and flags.
+    call(name, texts, numbers, size = ROOM) {
+      let found = { status: NO_ROOM, length: size };
+      while (found.status === NO_ROOM) {
+        found = made(name, texts, numbers, found.length);
+        while (taken.length > 0) roomBack(taken.pop());
+      }
+      return found;
+    },
+    size: () => memory.buffer.byteLength,
+    limit: bytes => exports.goi_room_most(BigInt(bytes)),
+    version: () => exports.goi_version(),
+  };
+}
+
+// A worker is sent the module first, with the most memory that it may take, and then one call after the other.
+if (typeof WorkerGlobalScope !== "undefined") {
+  let machine = null;
+  onmessage = ({ data }) => {
+    if (data.module) {
+      machine = machineOf(data.module);
+      machine.limit(data.most);
+      return;
+    }
+    const [call, ...asked] = data;
+    const began = performance.now();
+    try {
+      const found = machine.call(...asked);
+      postMessage([call, { ...found, milliseconds: performance.now() - began, size: machine.size() }]);
+    } catch (error) {
+      postMessage([call, { cut: String(error) }]);
+    }
+  };
+}

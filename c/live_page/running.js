@@ -1,0 +1,211 @@
+// What is asked of the machine, and what is shown of its answers.
+
+const OK = 0;
+const REFUSED = 1;
+const NO_VALUE = 5;
+const NO_MEMORY = 6;
+const BY_VALUE = 1;
+const MOST_BUDGET = 10000000;
+// A page shows so many moves of a run, as `goi trace` prints them where nothing else is asked.
+const MOST_SHOWN = 100000;
+
+const given = JSON.parse(byId("goi-given").textContent);
+// What a press on `run` or `check` began, until it has ended.
+let underWay = null;
+
+const byValue = () => byId("own-by-value").getAttribute("aria-pressed") === "true";
+
+function budgetGiven() {
+  const budget = Math.min(Math.max(Math.trunc(Number(byId("own-budget").value)) || 1, 1), MOST_BUDGET);
+  byId("own-budget").value = budget;
+  return budget;
+}
+
+// What is said below the buttons: the machine's own lines, and an aside.
+function say(text, aside = "", isBad = false) {
+  const line = (words, name) => {
+    const made = document.createElement("span");
+    made.className = name;
+    made.textContent = words;
+    return made;
+  };
+  byId("own-said").replaceChildren(line(text, isBad ? "bad" : ""), text && aside ? "\n" : "", line(aside, "aside"));
+}
+
+const seconds = milliseconds => milliseconds < 1000 ? `${Math.round(milliseconds)} ms` : `${(milliseconds / 1000).toFixed(1)} s`;
+const lineOf = text => text.split("\n", 2).join(", ").replace(/, $/, "");
+
+// The line of a refusal, in the text its place, and what tools/why says of it.
+function sayRefusal(text, line) {
+  const [, name, place] = /^refused: (\w+)(?:\((\d+)\))?/.exec(line) ?? [];
+  if (place === undefined) {
+    say(line, given.ofFiles[name] ?? "", true);
+    return;
+  }
+  const { index, row, column } = placeOf(text, Number(place));
+  const ends = name === "Unexpected" && index === text.length;
+  say(line, `line ${row}, column ${column}: ${ends ? given.atEnd : given.ofPrograms[name] ?? ""}`, true);
+  markCharacter(index);
+}
+
+const CUT = `The program is nested too deeply for this browser: its stack ended before the machine did. ${given.heights} The machine was started
+anew. The program goi on a computer has room for each program that it reads.`.replaceAll("\n", " ");
+
+// What is said where a call has no answer to show.
+function sayNothingCame(text, found) {
+  if (found.stopped) say("stopped");
+  else if (found.cut) say("cut off", `${CUT} (${found.cut})`, true);
+  else if (found.status === REFUSED) sayRefusal(text, found.text.trim());
+  else if (found.status === NO_MEMORY) say("no memory", `The run wanted more than the ${asking.most / 2 ** 20} MiB that the page may take.`, true);
+  else say(`status ${found.status}`, found.text, true);
+}
+
+// Does what a press asks for, one at a time: a new press ends what is under way.
+async function begin(task) {
+  stopAsking();
+  const own = {};
+  underWay = own;
+  document.body.classList.add("busy");
+  byId("own-stop").disabled = false;
+  unmark();
+  say("");
+  try {
+    await task(() => underWay === own);
+  } catch (error) {
+    if (underWay === own) say("the page failed", error.message, true);
+  }
+  if (underWay !== own) return;
+  underWay = null;
+  document.body.classList.remove("busy");
+  byId("own-stop").disabled = true;
+}
+
+// Makes calls until one has no answer to show, and says so then: null. The text is the one to which a place of a fault belongs.
+async function asked(text, name, texts, numbers, isMine) {
+  const found = await ask(name, texts, numbers);
+  if (!isMine()) return null;
+  if (found.status === OK || found.status === NO_VALUE) return found;
+  sayNothingCame(text, found);
+  return null;
+}
+
+const check = () => begin(async isMine => {
+  const text = programGiven();
+  const found = await asked(text, "goi_check", [text], [1], isMine);
+  if (found) say(found.text.trim(), seconds(found.milliseconds));
+});
+
+// Runs the program, and opens its walk.
+const run = (asWalk = () => {}) => begin(async isMine => {
+  const text = programGiven();
+  const budget = budgetGiven();
+  const strict = byValue();
+  const traced = await asked(text, "goi_trace", [text], [budget, strict ? BY_VALUE : 0, 0, MOST_SHOWN], isMine);
+  if (!traced) return;
+  const report = lineOf(traced.text);
+  const listed = await asked(text, "goi_net", [text], [], isMine);
+  if (!listed) return;
+  const walked = strict ? await translated(text, listed.text, isMine) : { program: text, net: listed.text };
+  if (!walked) return;
+  if (!walked.net) {
+    say(report, `The walk can't be shown: ${walked.why}`);
+    return;
+  }
+  walk.openWalk({ ...namesOf(text, strict), ...walked, trace: traced.text });
+  const moves = Number(/^moves (\d+)$/m.exec(traced.text)[1]);
+  const part = moves > MOST_SHOWN ? `; the first ${MOST_SHOWN} moves are shown` : "";
+  say(report, seconds(traced.milliseconds) + part);
+  rememberProgram(text, strict, budget);
+  asWalk();
+});
+
+// The text and the net of the translation by value. Its text is deeper than the program, so that the machine can refuse to read it.
+async function translated(text, net, isMine) {
+  const program = translationOf(text, walk.readNet(net));
+  const found = await ask("goi_net", [program], []);
+  if (!isMine()) return null;
+  if (found.status === OK) return { program, net: found.text };
+  return { why: `as a text the translation is too large for the machine to read (${found.text?.trim() || (found.cut ? "cut off" : "no memory")}).` };
+}
+
+// How the walk is called: as the example is, where its text is unchanged, and the translation by its own name.
+function namesOf(text, strict) {
+  const example = Object.keys(given.examples).find(name => given.examples[name] === text);
+  const name = example ?? "program.pcf";
+  if (strict) return { name: `${name}, by value`, file: name.replace(/\.pcf$/, "-by-value.pcf") };
+  return { name, file: example ? `examples/${name}` : name };
+}
+
+// A short program is in the address, so that it can be passed on with its moment.
+function rememberProgram(text, strict, budget) {
+  const address = new URLSearchParams();
+  if (text.length <= 4000) {
+    address.set("program", text);
+    if (strict) address.set("by-value", 1);
+    address.set("budget", budget);
+  }
+  walk.view.address = address.size > 0 ? address + "&" : "";
+}
+
+// The program that the address has, or the one that is shown at first.
+function beginWithAddress() {
+  const wanted = new URLSearchParams(location.hash.slice(1));
+  const example = given.examples[wanted.get("example")];
+  if (wanted.get("program") === programGiven() && walk.view.run) return;
+  putProgram(wanted.get("program") ?? example ?? given.examples[given.first]);
+  setByValue(wanted.get("by-value") === "1");
+  if (wanted.has("budget")) byId("own-budget").value = wanted.get("budget");
+  showExample();
+  run(walk.goToAddress);
+}
+
+function setByValue(on) {
+  byId("own-by-value").setAttribute("aria-pressed", on);
+}
+
+// The list shows the example whose text is in the box.
+function showExample() {
+  byId("own-example").value = Object.keys(given.examples).find(name => given.examples[name] === programGiven()) ?? "";
+}
+
+function stop() {
+  if (underWay) stopAsking();
+}
+
+function joinButtons() {
+  byId("own-example").append(...Object.keys(given.examples).map(name => new Option(name.replace(/\.pcf$/, ""), name)));
+  byId("own-run").addEventListener("click", () => run());
+  byId("own-check").addEventListener("click", check);
+  byId("own-stop").addEventListener("click", stop);
+  byId("own-by-value").addEventListener("click", () => setByValue(!byValue()));
+  byId("own-example").addEventListener("change", () => {
+    const text = given.examples[byId("own-example").value];
+    if (text === undefined) return;
+    putProgram(text);
+    run();
+  });
+  byId("own-text").addEventListener("input", () => {
+    unmark();
+    showExample();
+  });
+  byId("own-text").addEventListener("scroll", scrollMarks);
+  byId("own").addEventListener("keydown", event => {
+    if (event.key === "Escape") stop();
+    if (event.key !== "Enter" || !(event.ctrlKey || event.metaKey)) return;
+    event.preventDefault();
+    run();
+  });
+  walk.view.runProgram = text => {
+    putProgram(text);
+    showExample();
+    run();
+  };
+  addEventListener("hashchange", () => {
+    if (new URLSearchParams(location.hash.slice(1)).has("program")) beginWithAddress();
+  });
+}
+
+// For the tests, and for whoever looks at the page with a browser's own tools.
+window.machine = { ask, asking, stop, translationOf, placeOf };
+joinButtons();
+beginWithAddress();
