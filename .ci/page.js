@@ -80,6 +80,8 @@ function lowContrasts(theme, colourBy, at) {
   const own = element => [...element.childNodes].some(node => node.nodeType === Node.TEXT_NODE && node.data.trim());
   for (const element of document.querySelectorAll("body *")) {
     if (element.closest("svg") || element.matches("script, style, option") || !own(element)) continue;
+    // (What is clear lies behind a text that isn't.)
+    if (getComputedStyle(element).color === "rgba(0, 0, 0, 0)") continue;
     const what = `${element.tagName} ${element.id || element.className}: ${element.textContent.slice(0, 30)}`;
     hold(what, getComputedStyle(element).color, groundOf(element));
   }

@@ -2,6 +2,7 @@
 
 import base64
 import json
+import re
 import shutil
 import socket
 import subprocess
@@ -80,6 +81,9 @@ class Browser:
     def sheet(self):
         """The page as it is printed, as PDF."""
         return base64.b64decode(self.call("POST", "/print", {"page": {"width": 21.0, "height": 29.7}}))
+
+    def name(self):
+        return re.search(r"Chrome/\S+", self.script("return navigator.userAgent"))[0]
 
     def close(self):
         try:

@@ -8,8 +8,12 @@ const ROOM = 1 << 24;
 // goi_tell also puts out a value, a number of moves and a kind.
 const ANSWER_SIZE = 16;
 
-// An instance of the module, as a function that makes calls: {status, text} comes back, and {answer} of goi_tell. A call that throws was cut
-// off, by the browser's stack or by the module's: the instance is then half way through it, and must not be called again.
+// A call of the module. Where the browser can make it wait for a promise, it gives it a stack of its own for that, which is larger than a
+// worker's: nothing is waited for here, but the deepest programs have room.
+const withStack = call => typeof WebAssembly.promising === "function" ? WebAssembly.promising(call) : call;
+
+// An instance of the module, and the calls on it, one at a time: {status, text} comes of each, and {answer} of goi_tell. A call that throws
+// was cut off, by the browser's stack or by the module's: the instance is then half way through it, and must not be called again.
 function machineOf(module) {
   const { exports } = new WebAssembly.Instance(module);
   const { memory, goi_room: room, goi_room_back: roomBack } = exports;
@@ -42,14 +46,15 @@ function machineOf(module) {
     return { value: String(view.getBigUint64(0, true)), moves: view.getUint32(8, true), kind: view.getUint32(12, true) };
   };
 
-  const made = (name, texts, numbers, size) => {
+  const made = async (name, texts, numbers, size) => {
     const nothing = { status: NO_MEMORY, text: "" };
     const given = handIn(texts);
     const needed = take(8);
     const answer = name === "goi_tell" ? take(ANSWER_SIZE) : null;
     const out = take(size);
     if (given === null || needed === 0n || answer === 0n || out === 0n) return nothing;
-    const status = exports[name](...given, ...numbers, ...(answer === null ? [] : [answer]), out, BigInt(size), needed) >>> 0;
+    const words = [...given, ...numbers, ...(answer === null ? [] : [answer]), out, BigInt(size), needed];
+    const status = await withStack(exports[name])(...words) >>> 0;
     const length = Number(numbersAt(needed, 8).getBigUint64(0, true));
     if (status === NO_ROOM) return { status, length };
     const text = new TextDecoder().decode(bytesAt(out, length));
@@ -58,10 +63,10 @@ function machineOf(module) {
 
   return {
     // As goi.h has them: the texts, then the numbers and flags.
-    call(name, texts, numbers, size = ROOM) {
+    async call(name, texts, numbers, size = ROOM) {
       let found = { status: NO_ROOM, length: size };
       while (found.status === NO_ROOM) {
-        found = made(name, texts, numbers, found.length);
+        found = await made(name, texts, numbers, found.length);
         while (taken.length > 0) roomBack(taken.pop());
       }
       return found;
@@ -75,7 +80,7 @@ function machineOf(module) {
 // A worker is sent the module first, with the most memory that it may take, and then one call after the other.
 if (typeof WorkerGlobalScope !== "undefined") {
   let machine = null;
-  onmessage = ({ data }) => {
+  onmessage = async ({ data }) => {
     if (data.module) {
       machine = machineOf(data.module);
       machine.limit(data.most);
@@ -84,7 +89,7 @@ if (typeof WorkerGlobalScope !== "undefined") {
     const [call, ...asked] = data;
     const began = performance.now();
     try {
-      const found = machine.call(...asked);
+      const found = await machine.call(...asked);
       postMessage([call, { ...found, milliseconds: performance.now() - began, size: machine.size() }]);
     } catch (error) {
       postMessage([call, { cut: String(error) }]);

@@ -5,14 +5,18 @@ const REFUSED = 1;
 const NO_VALUE = 5;
 const NO_MEMORY = 6;
 const BY_VALUE = 1;
+const BUDGET = 10000;
 const MOST_BUDGET = 10000000;
 // A page shows so many moves of a run, as `goi trace` prints them where nothing else is asked.
 const MOST_SHOWN = 100000;
+// An address has programs up to so many characters.
+const MOST_ADDRESS = 4000;
 
 const given = JSON.parse(byId("goi-given").textContent);
 // What a press on `run` or `check` began, until it has ended.
 let underWay = null;
 
+const exampleOf = text => Object.keys(given.examples).find(name => given.examples[name] === text);
 const byValue = () => byId("own-by-value").getAttribute("aria-pressed") === "true";
 
 function budgetGiven() {
@@ -130,31 +134,31 @@ async function translated(text, net, isMine) {
 
 // How the walk is called: as the example is, where its text is unchanged, and the translation by its own name.
 function namesOf(text, strict) {
-  const example = Object.keys(given.examples).find(name => given.examples[name] === text);
+  const example = exampleOf(text);
   const name = example ?? "program.pcf";
   if (strict) return { name: `${name}, by value`, file: name.replace(/\.pcf$/, "-by-value.pcf") };
   return { name, file: example ? `examples/${name}` : name };
 }
 
-// A short program is in the address, so that it can be passed on with its moment.
+// The program is in the address, so that it can be passed on with its moment: by its name where it is an example, and a very long one not.
 function rememberProgram(text, strict, budget) {
   const address = new URLSearchParams();
-  if (text.length <= 4000) {
-    address.set("program", text);
-    if (strict) address.set("by-value", 1);
-    address.set("budget", budget);
-  }
-  walk.view.address = address.size > 0 ? address + "&" : "";
+  const example = exampleOf(text);
+  if (example) address.set("example", example.replace(/\.pcf$/, ""));
+  else if (text.length <= MOST_ADDRESS) address.set("program", text);
+  if (strict) address.set("by-value", 1);
+  if (budget !== BUDGET) address.set("budget", budget);
+  walk.view.address = address + "&";
 }
 
-// The program that the address has, or the one that is shown at first.
+// Runs the program that the address has; without one, what is shown at first.
 function beginWithAddress() {
   const wanted = new URLSearchParams(location.hash.slice(1));
-  const example = given.examples[wanted.get("example")];
-  if (wanted.get("program") === programGiven() && walk.view.run) return;
-  putProgram(wanted.get("program") ?? example ?? given.examples[given.first]);
+  const text = wanted.get("program") ?? given.examples[wanted.get("example") + ".pcf"];
+  if (walk.view.run && (text === undefined || text === programGiven())) return;
+  putProgram(text ?? given.examples[given.first]);
   setByValue(wanted.get("by-value") === "1");
-  if (wanted.has("budget")) byId("own-budget").value = wanted.get("budget");
+  byId("own-budget").value = wanted.get("budget") ?? BUDGET;
   showExample();
   run(walk.goToAddress);
 }
@@ -165,7 +169,7 @@ function setByValue(on) {
 
 // The list shows the example whose text is in the box.
 function showExample() {
-  byId("own-example").value = Object.keys(given.examples).find(name => given.examples[name] === programGiven()) ?? "";
+  byId("own-example").value = exampleOf(programGiven()) ?? "";
 }
 
 function stop() {
@@ -200,9 +204,7 @@ function joinButtons() {
     showExample();
     run();
   };
-  addEventListener("hashchange", () => {
-    if (new URLSearchParams(location.hash.slice(1)).has("program")) beginWithAddress();
-  });
+  addEventListener("hashchange", beginWithAddress);
 }
 
 // For the tests, and for whoever looks at the page with a browser's own tools.

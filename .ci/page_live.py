@@ -1,0 +1,460 @@
+"""Tries the page with the machine inside, out/goi.html, as c/live-page makes it.
+
+`try_without` is part of `.ci/page --without-browser`, and tries the module in Node where Node is there and c/build has left the library's
+LLVM module; `try_live` tries the page in a browser. Both take the script `.ci/page` as `page`, for its counts and its folds.
+"""
+
+import base64
+import contextlib
+import hashlib
+import importlib.machinery
+import importlib.util
+import json
+import os
+import pathlib
+import re
+import shutil
+import subprocess
+import time
+
+import page_browser as browser
+import page_firefox as firefox
+import page_programs as programs
+
+TOP = pathlib.Path(__file__).resolve().parent.parent
+PAGE = TOP / "out/goi.html"
+# So many levels are never cut off: with the stack that a browser gives a call that may wait for a promise, and without it.
+LEVELS = {"Chrome": 500, "Firefox": 300, "without": 150}
+
+
+def script(name, path):
+    loader = importlib.machinery.SourceFileLoader(name, str(TOP / path))
+    made = importlib.util.module_from_spec(importlib.util.spec_from_loader(name, loader))
+    loader.exec_module(made)
+    return made
+
+
+# Without a browser.
+
+
+def try_without(page, program, folder):
+    live, build = script("live_page", "c/live-page"), script("build", "c/build")
+    try_whole(page, live, live.page(b"\0asm\1\0\0\0"))
+    try_refusals(page, live)
+    if shutil.which("node") is None:
+        print("skipped: the machine in a page, tried in Node, since node isn't there")
+    elif shutil.which("rt") is None or not live.is_built(build, build.kit_of()):
+        print("skipped: the machine in a page, tried in Node, since c/out has no module of these sources; c/build makes it")
+    elif made(page, "--kept"):
+        try_in_node(page, program, folder)
+
+
+def made(page, *words):
+    """Makes the page; answers whether it was made."""
+    ran = subprocess.run([str(TOP / "c/live-page"), *words], stdin=subprocess.DEVNULL, capture_output=True, text=True)
+    page.judge("c/live-page", (ran.returncode, ran.stderr[-2000:]), (0, ""))
+    return ran.returncode == 0
+
+
+def try_whole(page, live, whole):
+    """The page is walk.html with parts put in; it names no address, and its policy allows its two scripts, its module and its worker."""
+    plain = (TOP / "tools/walk.html").read_text(encoding="utf-8")
+    left = iter(whole.split("\n"))
+    lacking = [line for line in plain.split("\n") if "Content-Security-Policy" not in line and "Open a walk" not in line and line not in left]
+    page.judge("each line of walk.html is in the live page, in its order", lacking, [])
+    for mark in ("http:", "https:", "//", "ftp:", "src=", "href=", "@import", "<link", "<iframe", "<img", "fetch(", "XMLHttpRequest",
+                 "WebSocket", "import(", "importScripts", "sendBeacon", "EventSource", "eval(", "innerHTML", "document.write"):
+        page.judge(f"{mark} in goi.html", whole.count(mark), 0)
+    policy = re.search(r'http-equiv="Content-Security-Policy" content="([^"]*)"', whole)[1]
+    scripts = re.findall(r"<script>(.*?)</script>", whole, re.S)
+    hashes = " ".join(f"'sha256-{base64.b64encode(hashlib.sha256(it.encode()).digest()).decode()}'" for it in scripts)
+    wanted = f"default-src 'none'; style-src 'unsafe-inline'; script-src {hashes} 'wasm-unsafe-eval'; worker-src blob:; "
+    page.judge("two scripts", len(scripts), 2)
+    page.judge("the policy of goi.html", policy, wanted + "base-uri 'none'; form-action 'none'")
+    given = json.loads(re.search(r'id="goi-given">(.*?)</script>', whole, re.S)[1])
+    page.judge("the examples of goi.html", given["examples"], programs.TEXTS)
+    page.judge("it is the same when it is made again", live.page(b"\0asm\1\0\0\0"), whole)
+
+
+def try_refusals(page, live):
+    """What isn't known of a module is refused, and not guessed."""
+    head = b"\0asm\1\0\0\0"
+
+    def module(body):
+        code = bytes([1, len(body) + 1, 0]) + body
+        return head + b"\1\4\1\x60\0\0\3\2\1\0\5\3\1\4\1\x0a" + bytes([len(code)]) + code
+
+    def narrowed(given):
+        try:
+            return live.narrow(given)
+        except (ValueError, IndexError, KeyError) as error:
+            return type(error).__name__
+
+    # i64.const 0, i64.const 7, i64.store; end: the address waits for its value
+    store = narrowed(module(b"\x42\0\x42\7\x37\3\0\x0b"))
+    page.judge("a store", store[-16:], b"\1\1\x7e\x42\0\x42\7\x21\0\xa7\x20\0\x37\3\0\x0b")
+    for name, given in (
+        ("a table's call", module(b"\x11\0\0\x0b")),
+        ("a body without an end", module(b"\x01")),
+        ("another head", b"\0asm\2\0\0\0"),
+        ("imports", head + b"\2\1\1"),
+        ("a memory of 32 bits", module(b"\x0b").replace(b"\5\3\1\4\1", b"\5\3\1\0\1")),
+    ):
+        page.judge(f"{name} is refused", isinstance(narrowed(given), str))
+    for name, given in (
+        ("no module", ""),
+        ("a module for one processor", 'target triple = "x"\n  call void asm sideeffect "", ""()\n'),
+        ("two heads", 'target datalayout = "x"\ntarget datalayout = "x"\ntarget triple = "x"\n'),
+    ):
+        with contextlib.suppress(ValueError):
+            live.retarget(given)
+            page.judge(f"{name} is refused", False)
+            continue
+        page.judge(f"{name} is refused", True)
+
+
+def in_node(calls):
+    """What the machine of the page answers in Node."""
+    words = ["node", str(TOP / ".ci/page_machine.js"), str(PAGE)]
+    ran = subprocess.run(words, input=json.dumps(calls), capture_output=True, text=True, timeout=600)
+    if ran.returncode:
+        raise RuntimeError(ran.stderr[-2000:])
+    return json.loads(ran.stdout)
+
+
+def try_in_node(page, program, folder):
+    began = time.time()
+    calls = programs.Calls(program, folder)
+    for name, text in programs.TEXTS.items():
+        calls.of_program(name, text, rooms=(None, 0, 1, 64))
+    for name, text in programs.LISTINGS.items():
+        calls.of_listing(name, text)
+    for at, text in enumerate(programs.generated(200)):
+        add_generated(calls, at, text)
+    found = in_node(calls.calls)
+    page.judge(f"{len(found)} answers in Node are the program's", calls.faults(found), [])
+    try_memory(page, program, folder)
+    print(f"the machine in Node: {len(found)} answers, {time.time() - began:.1f} s")
+
+
+def add_generated(calls, at, text):
+    file, name = calls.file(text), f"generated {at}"
+    for flags in (0, 1):
+        calls.add(name, "goi_run", [text], [1000, flags], "run", file, "--budget", "1000", *["--by-value"] * flags)
+    calls.add(name, "goi_check", [text], [1], "check", file, "--term")
+    calls.add(name, "goi_net", [text], [], "net", file)
+
+
+def try_memory(page, program, folder):
+    """With less and less memory a call has the right answer or none."""
+    calls, room = programs.Calls(program, folder), 1 << 16
+    text = programs.TEXTS["fibonacci.pcf"]
+    file = calls.file(text)
+    known = {words: calls.printed(*words) for words in ((("run", file, "--by-value")), (("trace", file)), (("net", file)))}
+    whole = 4 << 20  # the module's stack; its data and its heap come behind
+    for most in range(whole + 100, whole + 900000, 2003):
+        for call, numbers, words in (
+            ("goi_run", [10000, 1], ("run", file, "--by-value")),
+            ("goi_trace", [10000, 0, 0, 100000], ("trace", file)),
+            ("goi_net", [], ("net", file)),
+        ):
+            calls.add(f"{most} bytes", call, [text], numbers, room=room, most=most, known=known[words])
+    found = in_node(calls.calls)
+    none = [it for it in found if it.get("status") == 6]
+    wrong = [it for it in calls.faults(found) if "'status': 6" not in it[1]]
+    page.judge("calls without memory", (wrong, 100 < len(none) < len(found) - 100), ([], True))
+
+
+# In a browser.
+
+
+ASK_ALL = """
+const found = [];
+for (const [name, texts, numbers] of arguments[0]) found.push(await machine.ask(name, texts, numbers));
+return found;
+"""
+RUN = """
+const [text, byValue, budget] = arguments;
+const box = document.getElementById("own-text");
+box.value = text;
+box.dispatchEvent(new Event("input"));
+if ((document.getElementById("own-by-value").getAttribute("aria-pressed") === "true") !== byValue) document.getElementById("own-by-value").click();
+document.getElementById("own-budget").value = budget;
+document.getElementById("own-run").click();
+"""
+SAID = "return document.getElementById('own-said').textContent"
+IDLE = "return !document.body.classList.contains('busy')"
+
+
+def waits(window, code, seconds=30):
+    """Whether this comes to hold within some seconds."""
+    until = time.time() + seconds
+    while not window.script(code):
+        if time.time() > until:
+            return False
+        time.sleep(0.03)
+    return True
+
+
+def runs(window, text, by_value=False, budget=10000):
+    """Puts a program into the box and presses `run`; what is said when it has ended."""
+    window.script(RUN, text, by_value, budget)
+    waits(window, IDLE, 100)
+    return window.script(SAID)
+
+
+def quiet(page, window, name):
+    page.judge(f"{name}: console", [line["message"] for line in window.log() if line["level"] == "SEVERE"], [])
+    fetched = window.script("return performance.getEntriesByType('resource').map(it => it.name).filter(name => !name.startsWith('blob:'))")
+    page.judge(f"{name}: nothing is fetched", fetched, [])
+
+
+def try_answers(page, window, program, folder):
+    """Each call of each example, and of generated programs, through the page's worker."""
+    calls = programs.Calls(program, folder)
+    for name, text in programs.TEXTS.items():
+        calls.of_program(name, text)
+    for name, text in programs.LISTINGS.items():
+        calls.of_listing(name, text)
+    for at, text in enumerate(programs.generated(200)):
+        add_generated(calls, at, text)
+    found = []
+    for at in range(0, len(calls.calls), 100):
+        found += window.script(ASK_ALL, [it[:3] for it in calls.calls[at : at + 100]])
+    page.judge(f"{len(found)} answers in the browser are the program's", calls.faults(found), [])
+    print(f"{len(found)} answers of the page's worker are held against the program's")
+    quiet(page, window, "calls")
+
+
+def shown_trace(window):
+    return window.script("const { trace } = walk.view.run; return trace.lines")
+
+
+def moves_of(trace):
+    return [line for line in trace.split("\n") if line.startswith("move ")]
+
+
+def try_typed(page, window, program, folder):
+    """A program that is run in the page is shown as its opened trace is."""
+    calls = programs.Calls(program, folder)
+    for name, text in programs.TEXTS.items():
+        file = calls.file(text)
+        (status, trace), (_, net) = calls.printed("trace", file), calls.printed("net", file)
+        said = runs(window, text)
+        if status not in (0, 5):
+            page.judge(f"{name}: refused", said.split("\n")[0], trace.strip())
+            continue
+        page.judge(f"{name}: what is said", said.split("\n")[0], ", ".join(trace.split("\n")[:2]))
+        page.judge(f"{name}: the walk is the trace", shown_trace(window), moves_of(trace))
+        page.judge(f"{name}: its name", window.script("return walk.view.file"), f"examples/{name}")
+        page.try_states(window, page.Shown(name, net), f"{name} run in the page", trace, 24)
+        quiet(page, window, name)
+    window.script("document.getElementById('own-text').select()")
+    window.keys("(fun x:nat. x * x) 12")
+    chord(window, CONTROL, ENTER)
+    page.judge("typed, and run by its key", waits(window, "return walk.view.run.trace.value === '144'"))
+    page.judge("keys of the walk stay out of the box", window.script("return walk.view.program"), "(fun x:nat. x * x) 12")
+    window.script("document.getElementById('own-check').click()")
+    page.judge("checked", waits(window, SAID + ".startsWith('type nat\\nterm (fun x:nat. x * x) 12')"))
+
+
+CONTROL, ENTER = "\ue009", "\ue007"
+
+
+def chord(window, held, key):
+    actions = [{"type": "keyDown", "value": held}, {"type": "keyDown", "value": key}, {"type": "keyUp", "value": key}]
+    actions.append({"type": "keyUp", "value": held})
+    window.call("POST", "/actions", {"actions": [{"type": "key", "id": "keys", "actions": actions}]})
+
+
+def try_by_value(page, window, program, folder):
+    """A run by value walks the net of the translation that tools/by-value prints."""
+    calls, count = programs.Calls(program, folder), 0
+    for name, text in [*programs.TEXTS.items(), *((f"generated {at}", it) for at, it in enumerate(programs.generated(40, seed=7)))]:
+        file = calls.file(text, f"{len(name)}{count}")
+        status, trace = calls.printed("trace", file, "--by-value")
+        said = runs(window, text, by_value=True)
+        if status not in (0, 5):
+            page.judge(f"{name}: refused by value", said.split("\n")[0], trace.strip())
+            continue
+        count += 1
+        by_value = subprocess.run([str(TOP / "tools/by-value"), file], env={**os.environ, "GOI": program}, capture_output=True, text=True)
+        _, net = calls.printed("net", calls.file(by_value.stdout, f"translation{count}"))
+        page.judge(f"{name}: the walk by value", shown_trace(window), moves_of(trace))
+        page.judge(f"{name}: the net by value", window.script("return walk.view.netText"), net)
+    page.judge("runs by value", count >= 20)
+    quiet(page, window, "by value")
+
+
+def try_refused(page, window):
+    """A refusal says the machine's line, its place, and what it means; the character is marked."""
+    mark = "const mark = document.querySelector('#own-marks mark'); return mark && [mark.textContent, mark.previousSibling.textContent.length]"
+    for text, line, says, marked in (
+        ("(fun x:nat. x + ) 3", "refused: Unexpected(16)", "line 1, column 17: no program goes on with this", [")", 16]),
+        ("# größe\n1 +\n  größe", "refused: Unbound(16)", "line 3, column 3: no `fun` and no `fix` around binds this name", ["g", 14]),
+        ("1 + ", "refused: Unexpected(4)", "line 1, column 5: the program ends here and is not whole", [" ", 4]),
+        ("1 +\n", "refused: Unexpected(4)", "line 2, column 1: the program ends here and is not whole", [" ", 4]),
+        ("1 + 𝒳", "refused: Unbound(4)", "line 1, column 5: no `fun` and no `fix` around binds this name", ["𝒳", 4]),
+        ("2 𝒳$", "refused: BadToken(6)", "line 1, column 4: no token begins here", ["$", 4]),
+        ("fun x:nat. x", "refused: NotGround", "the program is not of type `nat`", None),
+    ):
+        said = runs(window, text)
+        page.judge(f"refused: {text!r}", (said.split("\n")[0], says in said), (line, True))
+        page.judge(f"marked: {text!r}", window.script(mark), marked)
+    page.judge("what ran last is open still", window.script("return walk.view.run !== null"))
+    runs(window, "(fun x:nat. x + ) 3")
+    window.script("document.getElementById('own-text').dispatchEvent(new Event('input'))")
+    page.judge("a change takes the mark away", window.script(mark), None)
+    quiet(page, window, "refusals")
+
+
+SUM = "(fix sum:nat->nat. fun n:nat. ifz n then 0 else n + sum (pred n)) %d"
+
+
+def try_stopped(page, window):
+    """While a run is made the page goes on, and the run can be stopped."""
+    runs(window, programs.TEXTS["double.pcf"])
+    window.script(RUN, SUM % 2000, False, 10000000)
+    time.sleep(0.5)
+    page.judge("a long run is under way", window.script(IDLE), False)
+    window.script("walk.show(17)")
+    page.judge("and the page goes on", window.script("return document.getElementById('now').value"), "17")
+    page.judge("within a moment", window.script("const began = performance.now(); walk.show(5); return performance.now() - began < 1000"))
+    page.press(window, *page.ask(window, "middleOf", "#own-stop"))
+    page.judge("stopped", (waits(window, IDLE, 5), window.script(SAID)), (True, "stopped"))
+    page.judge("after a stop", runs(window, "1 + 2").split("\n")[0], "value 3, moves 6")
+    window.script(RUN, SUM % 2000, False, 10000000)
+    page.judge("another run ends the one under way", runs(window, "1 + 3").split("\n")[0], "value 4, moves 6")
+    quiet(page, window, "stops")
+
+
+def try_without_memory(page, window):
+    least = "machine.asking.worker?.terminate(); machine.asking.worker = null; machine.asking.most = arguments[0] * 2 ** 20;"
+    window.script(least, 24)
+    said = runs(window, SUM % 200, budget=1000000)
+    page.judge("a run out of memory", said, "no memory\nThe run wanted more than the 24 MiB that the page may take.")
+    window.script(least, 1024)
+    page.judge("after a run out of memory", runs(window, "1 + 2").split("\n")[0], "value 3, moves 6")
+    quiet(page, window, "memory")
+
+
+def deep_calls(program, folder, names, steps):
+    calls = programs.Calls(program, folder)
+    for name in names:
+        limit = programs.DEEPEST[name][3]
+        for levels in sorted({*range(steps, limit, steps), limit}):
+            text = programs.deep(name, levels)
+            file = calls.file(text)
+            for flags in (0, 1):
+                calls.add(f"{name} {levels}", "goi_run", [text], [1000, flags], "run", file, "--budget", "1000", *["--by-value"] * flags)
+            calls.add(f"{name} {levels}", "goi_check", [text], [1], "check", file, "--term")
+            calls.add(f"{name} {levels}", "goi_net", [text], [], "net", file)
+            calls.add(f"{name} {levels}", "goi_trace", [text], [1000, 0, 0, 50], "trace", file, "--budget", "1000", "--most", "50")
+    return calls
+
+
+def try_levels(page, window, calls, least, how):
+    """Each answer is the program's, or the call was cut off; and that comes only above so many levels."""
+    found = []
+    for at in range(0, len(calls.calls), 20):
+        found += window.script(ASK_ALL, [it[:3] for it in calls.calls[at : at + 20]])
+    page.judge(f"deep programs {how}", [it for it in calls.faults(found) if "'cut'" not in it[1]], [])
+    cut = {}
+    for name, came in zip(calls.names, found, strict=True):
+        shape, levels = name.split(":")[0].split(" ")
+        if "cut" in came:
+            cut[shape] = min(cut.get(shape, 999), int(levels))
+    page.judge(f"least levels that were cut off {how}", {shape: levels for shape, levels in cut.items() if levels <= least}, {})
+    print(f"{window.name()} {how}:", ", ".join(f"{it} are cut off from {cut[it]} levels on" for it in cut) or "no program is cut off")
+    return cut
+
+
+def try_deepest(page, window, program, folder):
+    """The deepest programs have the program's answer, or are cut off; and the page goes on."""
+    calls = deep_calls(program, folder, programs.DEEPEST, 250)
+    cut = try_levels(page, window, calls, LEVELS[window.name().split("/")[0]], "with a stack of its own")
+    said = runs(window, programs.deep("arguments", 498)).split("\n")[0]
+    page.judge("the deepest program in the page", said, "cut off" if cut else "value 501, moves 2998")
+    # an older browser, which has no such stack
+    window.script("""
+      const text = document.getElementById("goi-machine");
+      text.textContent = "WebAssembly.promising = undefined;" + text.textContent;
+      machine.asking.worker?.terminate();
+      machine.asking.worker = null;""")
+    calls = deep_calls(program, folder, ["products", "pairs", "arguments"], 50)
+    cut = try_levels(page, window, calls, LEVELS["without"], "with a worker's stack")
+    page.judge("some are cut off", len(cut) > 0)
+    said = runs(window, programs.deep("pairs", 498))
+    page.judge("what is said of it", (said.split("\n")[0], "nested too deeply for this browser" in said), ("cut off", True))
+    page.judge("after it", runs(window, "1 + 2").split("\n")[0], "value 3, moves 6")
+    quiet(page, window, "deep programs")
+    window.open(PAGE.as_uri())
+
+
+def try_address(page, window):
+    window.open(PAGE.as_uri() + "#example=sum&move=786")
+    page.judge("an example and a move", waits(window, "return walk.view.run && walk.view.name === 'sum.pcf' && document.getElementById('now').value === '786'"))
+    window.open("about:blank")
+    window.open(PAGE.as_uri() + "#program=%28fun+x%3Anat.+x%29+5&by-value=1&budget=77&move=5")
+    page.judge("a program in the address", waits(window, "return walk.view.run && document.getElementById('now').value === '5'"))
+    page.judge("and how it is run", window.script(SAID).split("\n")[0], "no value, moves 77")
+    time.sleep(0.5)
+    page.judge("it stays there", window.script("return location.hash"), "#program=%28fun+x%3Anat.+x%29+5&by-value=1&budget=77&move=5")
+    window.script("location.hash = '#program=1+%2B+2'")
+    page.judge("another one", waits(window, "return walk.view.run.trace.value === '3'"))
+    quiet(page, window, "addresses")
+
+
+def try_opened(page, window):
+    page.ask(window, "openTexts", [("p.pcf", "2 * 3")])
+    page.judge("a file with a program is run", waits(window, "return walk.view.run.trace.value === '6'"))
+    said = page.ask(window, "openTexts", [("p.net", "net 1\nend\n")])["trouble"]
+    page.judge("a net without a trace", said, "No trace is among these files.")
+    quiet(page, window, "files")
+
+
+def try_looks(page, window):
+    window.open(PAGE.as_uri() + "#example=sum")
+    page.judge("the first look", waits(window, "return walk.view.run !== null"))
+    for text in (programs.TEXTS["double.pcf"], "(fun x:nat. x + ) 3", programs.deep("arguments", 498)):
+        runs(window, text)
+        for theme in ("light", "dark"):
+            low, count = page.ask(window, "lowContrasts", theme, "ticket", 3)
+            page.judge(f"contrast in {theme}", (low, count > 100), ([], True))
+    page.judge("each control has a name", page.ask(window, "nameless"), [])
+    for width in (1440, 1000, 800, 480):
+        window.resize(width, 900)
+        page.judge(f"{width} pixels wide", page.ask(window, "outside"), [0, []])
+    window.resize(1440, 900)
+
+
+def try_live(page, program, folder):
+    if not made(page):
+        return
+    try_whole(page, script("live_page", "c/live-page"), PAGE.read_text(encoding="utf-8"))
+    try_window(page, browser.Browser(), program, folder)
+    if firefox.program() is None:
+        print("skipped: the machine in Firefox, since it isn't there;", firefox.HOW)
+        return
+    try_window(page, firefox.Firefox(), program, folder)
+
+
+def try_window(page, window, program, folder):
+    began = time.time()
+    try:
+        window.open(PAGE.as_uri())
+        page.judge("the first program has run", waits(window, "return walk.view.run !== null"))
+        try_answers(page, window, program, folder)
+        try_typed(page, window, program, folder)
+        try_by_value(page, window, program, folder)
+        try_refused(page, window)
+        try_stopped(page, window)
+        try_without_memory(page, window)
+        try_deepest(page, window, program, folder)
+        try_address(page, window)
+        try_opened(page, window)
+        try_looks(page, window)
+        quiet(page, window, "the whole")
+        print(f"the page with the machine in {window.name()}: {time.time() - began:.1f} s")
+    finally:
+        window.close()
