@@ -12,15 +12,14 @@ const machineOf = new Function(inside("goi-machine") + "\nreturn machineOf;")();
 const module_ = new WebAssembly.Module(zlib.gunzipSync(Buffer.from(inside("goi-module"), "base64")));
 
 async function main() {
-  let machine = null;
+  const machines = new Map();
   const found = [];
   for (const [name, texts, numbers, room, most] of JSON.parse(fs.readFileSync(0, "utf8"))) {
-    machine ??= machineOf(module_);
-    machine.limit(most ?? 2 ** 30);
+    if (!machines.has(most)) machines.set(most, machineOf(module_, most ?? 2 ** 30));
     try {
-      found.push(await machine.call(name, texts, numbers, room ?? undefined));
+      found.push(await machines.get(most).call(name, texts, numbers, room ?? undefined));
     } catch (error) {
-      machine = null;
+      machines.delete(most);
       found.push({ cut: String(error) });
     }
   }

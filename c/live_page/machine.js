@@ -8,16 +8,14 @@ const ROOM = 1 << 24;
 // goi_tell also puts out a value, a number of moves and a kind.
 const ANSWER_SIZE = 16;
 
-// A call of the module. Where the browser can make it wait for a promise, it gives it a stack of its own for that, which is larger than a
-// worker's: nothing is waited for here, but the deepest programs have room.
-const withStack = call => typeof WebAssembly.promising === "function" ? WebAssembly.promising(call) : call;
-
-// An instance of the module, and the calls on it, one at a time: {status, text} comes of each, and {answer} of goi_tell. A call that throws
-// was cut off, by the browser's stack or by the module's: the instance is then half way through it, and must not be called again.
-function machineOf(module) {
+// An instance of the module, with so much memory at the most, and the calls on it, one at a time: {status, text} comes of each, and {answer}
+// of goi_tell. A call that throws was cut off, by the browser's stack or by the module's: the instance is then half way through it, and must
+// not be called again. `entered` makes of a function of the module the one that is called.
+function machineOf(module, most, entered = call => call) {
   const { exports } = new WebAssembly.Instance(module);
   const { memory, goi_room: room, goi_room_back: roomBack } = exports;
   const taken = [];
+  exports.goi_room_most(BigInt(most));
 
   // Addresses and sizes are numbers of 64 bits. 0n is no address.
   const take = size => {
@@ -54,7 +52,7 @@ function machineOf(module) {
     const out = take(size);
     if (given === null || needed === 0n || answer === 0n || out === 0n) return nothing;
     const words = [...given, ...numbers, ...(answer === null ? [] : [answer]), out, BigInt(size), needed];
-    const status = await withStack(exports[name])(...words) >>> 0;
+    const status = await entered(exports[name])(...words) >>> 0;
     const length = Number(numbersAt(needed, 8).getBigUint64(0, true));
     if (status === NO_ROOM) return { status, length };
     const text = new TextDecoder().decode(bytesAt(out, length));
@@ -72,27 +70,36 @@ function machineOf(module) {
       return found;
     },
     size: () => memory.buffer.byteLength,
-    limit: bytes => exports.goi_room_most(BigInt(bytes)),
-    version: () => exports.goi_version(),
   };
 }
 
 // A worker is sent the module first, with the most memory that it may take, and then one call after the other.
 if (typeof WorkerGlobalScope !== "undefined") {
+  let given = null;
   let machine = null;
+
+  // A call that was cut off is made once more, by a new instance, where the browser has a larger stack for it: it gives one to a call that
+  // may wait for a promise. Nothing is waited for here.
+  const answered = async asked => {
+    try {
+      machine ??= machineOf(given.module, given.most);
+      return { ...await machine.call(...asked), size: machine.size() };
+    } catch (error) {
+      machine = null;
+      if (typeof WebAssembly.promising !== "function") return { cut: String(error) };
+    }
+    const another = machineOf(given.module, given.most, WebAssembly.promising);
+    return { ...await another.call(...asked), size: another.size() };
+  };
+
   onmessage = async ({ data }) => {
     if (data.module) {
-      machine = machineOf(data.module);
-      machine.limit(data.most);
+      given = data;
       return;
     }
     const [call, ...asked] = data;
     const began = performance.now();
-    try {
-      const found = await machine.call(...asked);
-      postMessage([call, { ...found, milliseconds: performance.now() - began, size: machine.size() }]);
-    } catch (error) {
-      postMessage([call, { cut: String(error) }]);
-    }
+    const found = await answered(asked).catch(error => ({ cut: String(error) }));
+    postMessage([call, { ...found, milliseconds: performance.now() - began }]);
   };
 }
