@@ -46,7 +46,10 @@ class Socket:
     def send(self, text):
         data, mask = text.encode(), os.urandom(4)
         length = len(data)
-        size = bytes([0x80 | length]) if length < 126 else b"\xfe" + struct.pack(">H", length) if length < 1 << 16 else b"\xff" + struct.pack(">Q", length)
+        if length < 126:
+            size = bytes([0x80 | length])
+        else:
+            size = b"\xfe" + struct.pack(">H", length) if length < 1 << 16 else b"\xff" + struct.pack(">Q", length)
         repeated = mask * (length // 4 + 1)
         masked = int.from_bytes(data, "big") ^ int.from_bytes(repeated[:length], "big")
         self.stream.sendall(b"\x81" + size + mask + masked.to_bytes(length, "big"))

@@ -80,8 +80,10 @@ class Generator:
         return f"fix {name}:{type_}. {self.bound('fun', type_, size, (*scope, (name, type_)))}"
 
     def applied(self, type_, size, scope):
+        if type_ == PAIR:
+            return "3, 4"
         if type_ != NAT:
-            return f"fun a{len(scope)}:{NAT if type_ == FUNCTION else FUNCTION}. {self.term(NAT, size, scope)}" if type_ != PAIR else "3, 4"
+            return f"fun a{len(scope)}:{NAT if type_ == FUNCTION else FUNCTION}. {self.term(NAT, size, scope)}"
         taken = self.dice.choice([NAT, FUNCTION])
         return f"{self.term(FUNCTION if taken == NAT else HIGHER, size, scope)} {self.term(taken, size, scope)}"
 
@@ -91,7 +93,8 @@ class Generator:
     def program(self):
         """Mostly a program of type nat; now and then one of another type, or one that is broken somewhere."""
         type_ = NAT if self.dice.random() < 0.9 else self.dice.choice([FUNCTION, PAIR])
-        text = f"# {self.dice.choice(['a program', 'ein schönes Programm', '語'])}\n{self.term(type_, self.dice.choice([1, 4, 12, 30]))}\n"
+        comment = self.dice.choice(["a program", "ein schönes Programm", "語"])
+        text = f"# {comment}\n{self.term(type_, self.dice.choice([1, 4, 12, 30]))}\n"
         if self.dice.random() < 0.3:
             at = self.dice.randrange(len(text))
             text = text[:at] + self.dice.choice(["", ")", "(", "x", "99999999999999999999", "é", "$", " fun ", ":nat"]) + text[at + 1 :]

@@ -24,7 +24,8 @@ function typeText(type) {
   return (type.left === "nat" ? left : `(${left})`) + " -> " + typeText(type.right);
 }
 
-// A', and the type of what hands on a value of A': a number stays, and a function takes its argument and what is to be done with its result.
+// A', and the type of what hands on a value of A': a number stays, and a function takes its argument and what is to be done with its
+// result.
 const typeOfValue = type => type === "nat" ? type : { left: typeOfValue(type.left), right: typeOfWaiting(type.right) };
 const typeOfWaiting = type => ({ left: { left: typeOfValue(type), right: "nat" }, right: "nat" });
 

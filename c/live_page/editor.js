@@ -11,8 +11,8 @@ function placeOf(text, offset) {
   return { index: before.length, row: rows.length, column: [...rows.at(-1)].length + 1 };
 }
 
-// Marks the character at this index, or a space where a line or the text ends there. Behind the text, which is clear, lies the same text with
-// the mark in it.
+// Marks the character at this index, or a space where a line or the text ends there. The box can't mark a part of its text: behind it lies
+// the same text once more, in letters that aren't seen, with the mark in it.
 function markCharacter(index) {
   const text = programGiven();
   const character = String.fromCodePoint(text.codePointAt(index) ?? 32);

@@ -1,10 +1,10 @@
 /* The heap of the WebAssembly module, in the place of malloc. No proof covers it.
  *
- * It defines the three functions that the kit's c/liblibc_c.a defines over malloc, and two for the page. A block has HEAD bytes before it,
- * in which its class is noted. The classes are sizes, four from one power of two to the next. A block that is given back goes on the list of its
- * class, and the next one of that class is taken from there; where there is none, it is cut off the memory's unused end, which grows as it
- * is needed. No block is split or joined: a call of goi.h gives back all that it took, and when nothing is out any more, the whole memory
- * is unused again.
+ * It defines the three functions that the kit's c/liblibc_c.a defines over malloc, and three for the page. A block has HEAD bytes before
+ * it, in which its class is noted. The classes are sizes, four from one power of two to the next. A block that is given back goes on the
+ * list of its class, and the next one of that class is taken from there. Where there is none, it is cut off the memory's unused end, which
+ * grows as it is needed. No block is split or joined: a call of goi.h gives back all that it took, and when nothing is out any more, the
+ * whole memory is unused again.
  */
 typedef unsigned long long size;
 typedef unsigned char byte;

@@ -8,9 +8,9 @@ const ROOM = 1 << 24;
 // goi_tell also puts out a value, a number of moves and a kind.
 const ANSWER_SIZE = 16;
 
-// An instance of the module, with so much memory at the most, and the calls on it, one at a time: {status, text} comes of each, and {answer}
-// of goi_tell. A call that throws was cut off, by the browser's stack or by the module's: the instance is then half way through it, and must
-// not be called again. `entered` makes of a function of the module the one that is called.
+// An instance of the module, with so much memory at the most, and the calls on it, one at a time: {status, text} comes of each, and
+// {answer} of goi_tell. A call that throws was cut off, by the browser's stack or by the module's: the instance is then half way through
+// it, and must not be called again. `entered` makes of a function of the module the one that is called.
 function machineOf(module, most, entered = call => call) {
   const { exports } = new WebAssembly.Instance(module);
   const { memory, goi_room: room, goi_room_back: roomBack } = exports;

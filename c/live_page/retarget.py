@@ -1,7 +1,7 @@
 """Makes the LLVM module that the kit builds of goi_c for x86-64 one for WebAssembly with addresses of 64 bits. No proof covers it.
 
-The kit builds for WebAssembly itself, but refuses an export that reaches the heap, as each of goi_c's does. Its modules for the two have the
-same code: both lay values out in bytes, with pointers of 8. What is changed here is what the kit's two modules of one crate differ in:
+The kit builds for WebAssembly itself, but refuses an export that reaches the heap, as each of goi_c's does. Its modules for the two have
+the same code: both lay values out in bytes, with pointers of 8. What is changed here is what the kit's two modules of one crate differ in:
 
   1. the layout, the triple and the processor, in the head and in the attributes;
   2. each function begins by testing that its frame lies above address 16. A module's stack begins at its address 0, with no guard below
@@ -16,7 +16,8 @@ import re
 
 TRIPLE = "wasm64-unknown-unknown"
 LAYOUT = "e-m:e-p:64:64-p10:8:8-p20:8:8-i64:64-i128:128-n32:64-S128-ni:1:10:20"
-OF_PROCESSOR = '"no-builtin-bcmp" "no-builtin-memcmp" "no-builtin-strlen" "probe-stack"="inline-asm" "stack-probe-size"="3072" "target-cpu"="lime1"'
+PROBES = '"probe-stack"="inline-asm" "stack-probe-size"="3072"'
+OF_PROCESSOR = f'"no-builtin-bcmp" "no-builtin-memcmp" "no-builtin-strlen" {PROBES} "target-cpu"="lime1"'
 
 TEST = """\
   %frame.of.it = call ptr @llvm.frameaddress.p0(i32 0)
@@ -47,7 +48,7 @@ def retarget(text):
         raise ValueError("the module has code for one processor alone")
     text = once(r'^target datalayout = ".*"$', f'target datalayout = "{LAYOUT}"', text)
     text = once(r'^target triple = ".*"$', f'target triple = "{TRIPLE}"', text)
-    text, changed = re.subn(r'"probe-stack"="inline-asm" "stack-probe-size"="3072" "target-cpu"="x86-64[^"]*"', OF_PROCESSOR, text)
+    text, changed = re.subn(PROBES + ' "target-cpu"="x86-64[^"]*"', OF_PROCESSOR, text)
     if not changed or "x86" in text:
         raise ValueError("the module's attributes are others")
     lines, exports = [], []

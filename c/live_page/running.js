@@ -52,15 +52,14 @@ function sayRefusal(text, line) {
   markCharacter(index);
 }
 
-const CUT = `The program is nested too deeply for this browser: its stack ended before the machine did. ${given.heights} The machine was started
-anew. The program goi on a computer has room for each program that it reads.`.replaceAll("\n", " ");
+const CUT = "The program is nested too deeply for this browser: its stack ended before the machine did. The machine was started anew.";
 
 // What is said where a call has no answer to show.
 function sayNothingCame(text, found) {
   if (found.stopped) say("stopped");
-  else if (found.cut) say("cut off", `${CUT} (${found.cut})`, true);
+  else if (found.cut) say("cut off", `${CUT} ${given.heights} (${found.cut})`, true);
   else if (found.status === REFUSED) sayRefusal(text, found.text.trim());
-  else if (found.status === NO_MEMORY) say("no memory", `The run wanted more than the ${asking.most / 2 ** 20} MiB that the page may take.`, true);
+  else if (found.status === NO_MEMORY) say("no memory", `It wanted more than the ${asking.most / 2 ** 20} MiB that it may take.`, true);
   else say(`status ${found.status}`, found.text, true);
 }
 
@@ -129,7 +128,8 @@ async function translated(text, net, isMine) {
   const found = await ask("goi_net", [program], []);
   if (!isMine()) return null;
   if (found.status === OK) return { program, net: found.text };
-  return { why: `as a text the translation is too large for the machine to read (${found.text?.trim() || (found.cut ? "cut off" : "no memory")}).` };
+  const said = found.text?.trim() || (found.cut ? "cut off" : "no memory");
+  return { why: `as a text the translation is too large for the machine to read (${said}).` };
 }
 
 // How the walk is called: as the example is, where its text is unchanged, and the translation by its own name.
