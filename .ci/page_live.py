@@ -188,7 +188,7 @@ if ((strict.getAttribute("aria-pressed") === "true") !== byValue) strict.click()
 document.getElementById("own-budget").value = budget;
 document.getElementById("own-run").click();
 """
-SAID = "return document.getElementById('own-said').textContent"
+SAID = "return [...document.getElementById('own-said').children].map(it => it.textContent).join('\\n')"
 IDLE = "return !document.body.classList.contains('busy')"
 
 
@@ -329,7 +329,7 @@ def try_stopped(page, window):
     page.judge("and the page goes on", window.script("return document.getElementById('now').value"), "17")
     page.judge("within a moment", window.script("const began = performance.now(); walk.show(5); return performance.now() - began < 1000"))
     page.press(window, *page.ask(window, "middleOf", "#own-stop"))
-    page.judge("stopped", (waits(window, IDLE, 5), window.script(SAID)), (True, "stopped"))
+    page.judge("stopped", (waits(window, IDLE, 5), window.script(SAID).split("\n")[0]), (True, "stopped"))
     page.judge("after a stop", runs(window, "1 + 2").split("\n")[0], "value 3, moves 6")
     window.script(RUN, SUM % 2000, False, 10000000)
     page.judge("another run ends the one under way", runs(window, "1 + 3").split("\n")[0], "value 4, moves 6")
@@ -340,7 +340,8 @@ def try_without_memory(page, window):
     least = "machine.asking.worker?.terminate(); machine.asking.worker = null; machine.asking.most = arguments[0] * 2 ** 20;"
     window.script(least, 24)
     said = runs(window, SUM % 200, budget=1000000)
-    page.judge("a run out of memory", said, "no memory\nIt wanted more than the 24 MiB that it may take.")
+    wanted = "no memory\nIt wanted more than the 24 MiB that it may take.\nThe walk that is shown is still that of program.pcf."
+    page.judge("a run out of memory", said, wanted)
     window.script(least, 1024)
     page.judge("after a run out of memory", runs(window, "1 + 2").split("\n")[0], "value 3, moves 6")
     quiet(page, window, "memory")

@@ -25,16 +25,20 @@ function budgetGiven() {
   return budget;
 }
 
+function line(words, name) {
+  const made = document.createElement("div");
+  made.className = name;
+  made.textContent = words;
+  return made;
+}
+
 // What is said below the buttons: the machine's own lines, and an aside.
 function say(text, aside = "", isBad = false) {
-  const line = (words, name) => {
-    const made = document.createElement("span");
-    made.className = name;
-    made.textContent = words;
-    return made;
-  };
-  byId("own-said").replaceChildren(line(text, isBad ? "bad" : ""), text && aside ? "\n" : "", line(aside, "aside"));
+  byId("own-said").replaceChildren(line(text, isBad ? "bad" : "fine"));
+  if (aside) addAside(aside);
 }
+
+const addAside = words => byId("own-said").append(line(words, "aside"));
 
 const seconds = milliseconds => milliseconds < 1000 ? `${Math.round(milliseconds)} ms` : `${(milliseconds / 1000).toFixed(1)} s`;
 const lineOf = text => text.split("\n", 2).join(", ").replace(/, $/, "");
@@ -54,13 +58,14 @@ function sayRefusal(text, line) {
 
 const CUT = "The program is nested too deeply for this browser: its stack ended before the machine did. The machine was started anew.";
 
-// What is said where a call has no answer to show.
+// What is said where a call has no answer to show. What was open before stays so, which is said as well.
 function sayNothingCame(text, found) {
   if (found.stopped) say("stopped");
   else if (found.cut) say("cut off", `${CUT} ${given.heights} (${found.cut})`, true);
   else if (found.status === REFUSED) sayRefusal(text, found.text.trim());
   else if (found.status === NO_MEMORY) say("no memory", `It wanted more than the ${asking.most / 2 ** 20} MiB that it may take.`, true);
   else say(`status ${found.status}`, found.text, true);
+  if (walk.view.run) addAside(`The walk that is shown is still that of ${walk.view.name}.`);
 }
 
 // Does what a press asks for, one at a time: a new press ends what is under way.
