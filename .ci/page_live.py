@@ -422,6 +422,7 @@ def try_address(page, window):
 def try_opened(page, window):
     page.ask(window, "openTexts", [("p.pcf", "2 * 3")])
     page.judge("a file with a program is run", waits(window, "return walk.view.run.trace.value === '6'"))
+    page.judge("and has its name", window.script("return walk.view.file"), "p.pcf")
     said = page.ask(window, "openTexts", [("p.net", "net 1\nend\n")])["trouble"]
     page.judge("a net without a trace", said, "No trace is among these files.")
     quiet(page, window, "files")
@@ -430,7 +431,7 @@ def try_opened(page, window):
 def try_looks(page, window):
     window.open(PAGE.as_uri() + "#example=sum")
     page.judge("the first look", waits(window, "return walk.view.run !== null"))
-    for text in (programs.TEXTS["double.pcf"], "(fun x:nat. x + ) 3", programs.deep("arguments", 498)):
+    for text in (programs.TEXTS["double.pcf"], "(fun x:nat. x + ) 3"):
         runs(window, text)
         for theme in ("light", "dark"):
             low, count = page.ask(window, "lowContrasts", theme, "ticket", 3)

@@ -15,6 +15,8 @@ const MOST_ADDRESS = 4000;
 const given = JSON.parse(byId("goi-given").textContent);
 // What a press on `run` or `check` began, until it has ended.
 let underWay = null;
+// The file whose program was put into the box last.
+let opened = { name: "", text: null };
 
 const exampleOf = text => Object.keys(given.examples).find(name => given.examples[name] === text);
 const byValue = () => byId("own-by-value").getAttribute("aria-pressed") === "true";
@@ -120,6 +122,7 @@ const run = (asWalk = () => {}) => begin(async isMine => {
     return;
   }
   walk.openWalk({ ...namesOf(text, strict), ...walked, trace: traced.text });
+  byId("own-save").disabled = false;
   const moves = Number(/^moves (\d+)$/m.exec(traced.text)[1]);
   const part = moves > MOST_SHOWN ? `; the first ${MOST_SHOWN} moves are shown` : "";
   say(report, seconds(traced.milliseconds) + part);
@@ -137,13 +140,16 @@ async function translated(text, net, isMine) {
   return { why: `as a text the translation is too large for the machine to read (${said}).` };
 }
 
-// How the walk is called: as the example is, where its text is unchanged, and the translation by its own name.
+// How the walk is called: as the example or the opened file is, where its text is unchanged; and the translation by a name of its own.
 function namesOf(text, strict) {
   const example = exampleOf(text);
-  const name = example ?? "program.pcf";
-  if (strict) return { name: `${name}, by value`, file: name.replace(/\.pcf$/, "-by-value.pcf") };
+  const name = example ?? (text === opened.text ? opened.name : "program.pcf");
+  if (strict) return { name: `${name}, by value`, file: name.replace(/(\.pcf)?$/, "-by-value.pcf") };
   return { name, file: example ? `examples/${name}` : name };
 }
+
+// The program that is shown, as a file: `goi replay` wants it beside a schedule that was saved.
+const saveProgram = () => walk.saveFile(walk.view.file.split("/").pop(), "text/plain", walk.view.program);
 
 // The program is in the address, so that it can be passed on with its moment: by its name where it is an example, and a very long one not.
 function rememberProgram(text, strict, budget) {
@@ -158,14 +164,15 @@ function rememberProgram(text, strict, budget) {
 
 // Runs the program that the address has; without one, what is shown at first.
 function beginWithAddress() {
-  const wanted = new URLSearchParams(location.hash.slice(1));
+  const { hash } = location;
+  const wanted = new URLSearchParams(hash.slice(1));
   const text = wanted.get("program") ?? given.examples[wanted.get("example") + ".pcf"];
   if (walk.view.run && (text === undefined || text === programGiven())) return;
   putProgram(text ?? given.examples[given.first]);
   setByValue(wanted.get("by-value") === "1");
   byId("own-budget").value = wanted.get("budget") ?? BUDGET;
   showExample();
-  run(walk.goToAddress);
+  run(() => walk.goToAddress(hash));
 }
 
 function setByValue(on) {
@@ -204,8 +211,10 @@ function joinButtons() {
     event.preventDefault();
     run();
   });
-  walk.view.runProgram = text => {
+  byId("own-save").addEventListener("click", saveProgram);
+  walk.view.runProgram = (text, name) => {
     putProgram(text);
+    opened = { name, text: programGiven() };
     showExample();
     run();
   };

@@ -48,7 +48,7 @@ async function openFiles(files) {
       else Object.assign(found, { program: text, name: file.name });
       if (!found.name) found.name = file.name.replace(/\.(net|trace)$/, "");
     }
-    if (found.program && !found.net && !found.trace && view.runProgram) { view.runProgram(found.program); return; }
+    if (found.program && !found.net && !found.trace && view.runProgram) { view.runProgram(found.program, found.name); return; }
     if (!found.trace) throw new Error("No trace is among these files.");
     if (!found.net && view.net) Object.assign(found, { net: view.netText, program: view.program, name: view.name, file: view.file });
     if (!found.net) throw new Error("No net is among these files.");

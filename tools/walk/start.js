@@ -1,7 +1,7 @@
 // The page begins: what is inside it is opened, and what its address says is done.
 
-function goToAddress() {
-  const wanted = new URLSearchParams(location.hash.slice(1));
+function goToAddress(hash = location.hash) {
+  const wanted = new URLSearchParams(hash.slice(1));
   if (wanted.has("theme")) setTheme(wanted.get("theme"));
   if (wanted.has("types") && !view.types) setTypes(true);
   if (wanted.has("zoom")) zoom(Number(wanted.get("zoom")) / camera.scale);
@@ -25,6 +25,6 @@ function start() {
 // For the page with the machine inside, for the tests, and for whoever looks at the page with a browser's own tools.
 window.walk = {
   view, camera, playing, drawing, keys: KEYS, show: jump, showAll, zoom, shownRange, goOther, setSpeed, setTypes, setTheme, setColourBy,
-  openFiles, openWalk, goToAddress, readNet, readTerm, namesIn, ruleOf, pictureText, whyNoSwap, swappedSchedule,
+  openFiles, openWalk, goToAddress, saveFile, readNet, readTerm, namesIn, ruleOf, pictureText, whyNoSwap, swappedSchedule,
 };
 start();
