@@ -3,7 +3,7 @@ use Rattle.std.proofs.Common.{◌≡◌, ◌≤◌, ◌∙◌, ℕ, false, List,
 use Rattle.std.specs.List.{All}
 use Rattle.std.proofs.lemmas.List.Elements.{All-nil, All-cons}
 use Rattle.pcf_values.specs.Terms.{nat}
-use Rattle.adequacy_laws.specs.Finished.{MapFinishedMeans}
+use Rattle.program_runs.specs.Laws.{RunsTell}
 use Rattle.token_pool.specs.declared.ending.Ended.{Ended}
 use Rattle.batch_pool.specs.declared.job.BatchJob.{BatchJob}
 use Rattle.batch_lists.specs.Limits.{most_jobs, most_job_budget}
@@ -16,7 +16,7 @@ use Rattle.goi_tasks.specs.Outputs.{Output, output, output_of}
 use Rattle.goi_tasks.specs.declared.report.Report.{Report}
 use Rattle.goi_tasks.specs.Replaying.{replay_status}
 use Rattle.goi_tasks.specs.Tasks.{ReportsText}
-use Rattle.goi_tasks.proofs.Ran.{reports_run}
+use Rattle.goi_tasks.proofs.Ran.{reports_net, run_of}
 use Rattle.goi_batches.specs.declared.judged.Judged.{Judged}
 use Rattle.goi_batches.specs.declared.judged.Judged.TheVariants.{Runs, Refused}
 use Rattle.goi_batches.specs.Judging.{IsJobOf, IsJudged, AreJudged}
@@ -60,16 +60,20 @@ ends_fit (Runs job ∷ js) workers (e ∷ es) (h, hs) = (h.run.booked, ends_fit 
 
 -- ---- and what is told of it is right
 
-module _ (law : MapFinishedMeans) (workers : ℕ) where
+module _ (law : RunsTell) (workers : ℕ) where
   job_section : (p : Listed) (job : BatchJob) (e : Ended) → IsJobOf p job → IsRunOf job workers e → AnswerFits e.answer → IsSection workers p (end_section workers e)
   job_section p job e h r fits =
       let n = h.net in
       let b = h.fits in
       let text = run_report e.answer e.log.entries workers false false in
       let budget : IsBudget job.budget = (b.some_moves, omega (arith, b.few_moves)) in
-      let so = reports_run law n.term n.typed job.net n.net_is workers job.budget false false false budget e.answer e.log.entries r.run r.alone fits [] refl (replay_status e.answer) refl text refl in
-      let one : ReportsText (run_alone workers job.budget) p.bytes (output (replay_status e.answer) text []) = record { tree = n.ground.0; term = n.term; type = nat; is = n.ground.1; so = so } in
-      runs (output (replay_status e.answer) text []) (subst (λ (k : ℕ). ReportsText (run_alone workers k) p.bytes (output (replay_status e.answer) text [])) h.budget one)
+      let run = run_of law n.term n.typed job.net n.net_is workers job.budget e.answer e.log.entries r.run r.alone in
+      let so = reports_net _ _ workers job.budget false false false budget e.answer e.log.entries run fits [] refl (replay_status e.answer) refl text
+      refl in
+      let o = output (replay_status e.answer) text [] in
+      let one : ReportsText (run_alone workers job.budget) p.bytes o =
+      record { tree = n.ground.0; term = n.term; type = nat; is = n.ground.1; so = so } in
+      runs o (subst (λ (k : ℕ). ReportsText (run_alone workers k) p.bytes o) h.budget one)
 
   sections_told : (ps : List Listed) (js : List Judged) (es : List Ended) → AreJudged ps js → AreRuns (jobs_of js) workers es → EachFits (marks_of js) es → AreSections workers ps (told_by workers (marks_of js) es)
   sections_told [] [] es h r fits = tt

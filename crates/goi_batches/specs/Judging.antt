@@ -3,7 +3,9 @@ use Rattle.std.specs.Prelude.{◌≡◌, ℕ, List, [], ◌∷◌}
 use Rattle.batch_pool.specs.declared.job.BatchJob.{BatchJob}
 use Rattle.batch_pool.specs.Batches.{JobFits}
 use Rattle.goi_tasks.specs.declared.fault.Fault.{Fault}
-use Rattle.goi_tasks.specs.Programs.{number, FaultyText, IsNet}
+use Rattle.program_runs.specs.Nets.{IsNet}
+use Rattle.program_runs.specs.Programs.{number}
+use Rattle.goi_tasks.specs.Programs.{FaultyText}
 use Rattle.goi_tasks.specs.Refusals.{fault_line}
 use Rattle.goi_batches.specs.declared.judged.Judged.{Judged}
 use Rattle.goi_batches.specs.declared.judged.Judged.TheVariants.{Runs, Refused}

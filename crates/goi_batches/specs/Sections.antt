@@ -7,7 +7,8 @@ use Rattle.goi_tasks.specs.declared.fault.Fault.{Fault}
 use Rattle.goi_tasks.specs.declared.task.Task.{Task}
 use Rattle.goi_tasks.specs.declared.task.Task.TheVariants.{Run}
 use Rattle.goi_tasks.specs.Outputs.{Output, output}
-use Rattle.goi_tasks.specs.Programs.{number, FaultyText}
+use Rattle.program_runs.specs.Programs.{number}
+use Rattle.goi_tasks.specs.Programs.{FaultyText}
 use Rattle.goi_tasks.specs.Refusals.{fault_line}
 use Rattle.goi_tasks.specs.Tasks.{ReportsText, EndsText}
 

@@ -4,9 +4,8 @@ ghost use Rattle.goi_batches.specs.Laws.{OneSection};
 
 use adequacy_laws::law_one_length;
 use batch_lists::law_one_list;
-use cbv_terms::law_faults;
 use net_text::law_one_answer as law_one_listing;
-use pcf_reader::{law_one_fault, law_one_tree, law_text_or_fault};
+use program_runs::law_one_program;
 use replay_check::law_one_replay;
 use schedule_log::law_one_answer;
 
@@ -15,10 +14,7 @@ pub fn law_one_section()
     ensures { OneSection }
 {
     law_one_length();
-    law_one_tree();
-    law_one_fault();
-    law_text_or_fault();
-    law_faults();
+    law_one_program();
     law_one_listing();
     law_one_answer();
     law_one_replay();

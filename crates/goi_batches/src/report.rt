@@ -11,10 +11,10 @@ ghost use Rattle.goi_batches.specs.Telling.{told_by, Fit, EachFits};
 use crate::judged::Judged;
 use crate::sections::{batch_status, push_sections};
 use crate::sorting::sort;
-use adequacy_laws::law_finished;
 use batch_pool::run_batch;
 use gate_workers::Gate;
 use goi_tasks::Report;
+use program_runs::law_tells;
 use std::alloc::{AllocError, Global};
 use std::sync::Wait;
 use std::thread::Threads;
@@ -39,7 +39,7 @@ pub fn report_batch<R: Threads + Wait + Sync, G: Gate>(
     requires workers { IsWorkers workers }
     ensures { IfOk result (λ r. (ps : List Listed) → AreJudged ps programs.items → ReportsBatch workers ps (output_of r)) }
 {
-    law_finished();
+    law_tells();
     let (marks, jobs) = sort(alloc, programs)?;
     let ends = run_batch(rt, alloc, &jobs, workers, gate);
     drop(jobs);

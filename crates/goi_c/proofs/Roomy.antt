@@ -1,15 +1,12 @@
 -- Why a buffer for a line has room for whatever a run gives back that doesn't tell its schedule.
 use Rattle.std.proofs.Common.{◌≡◌, ◌≢◌, ℕ, ◌≤◌, Bool, false, List, length, Option, Some, None, refl, sym, ◌∙◌, inl, inr, arith}
 use Rattle.pcf_values.specs.declared.val.Val.{Val}
-use Rattle.net_build.specs.Nets.{NetTree}
-use Rattle.net_build.specs.NetOf.{net_of}
 use Rattle.goi_tasks.specs.declared.fault.Fault.{Fault}
 use Rattle.goi_tasks.specs.declared.fault.Fault.TheVariants as fault
 use Rattle.goi_tasks.specs.declared.task.Task.TheVariants.{Run, RunNet}
 use Rattle.goi_tasks.specs.Outputs.{Output}
 use Rattle.goi_tasks.specs.Refusals.{most_line, fault_status}
 use Rattle.goi_tasks.specs.Replaying.{replay_status}
-use Rattle.goi_tasks.specs.Running.{Tells, net_run}
 use Rattle.goi_tasks.specs.Tasks.{ReportsText}
 use Rattle.goi_c.specs.declared.telling.Answer.{Answer}
 use Rattle.goi_c.specs.Backs.{Back, Gives}
@@ -21,16 +18,12 @@ roomy b status text short other (inl p) room = λ f. other (sym p.status_is ∙ 
 roomy b status text short other (inr p) room = λ f. omega (arith, short, room, p.lacks)
 
 -- no status of a run is that of no room, nor that of a fault
-ended : (means : Val → Type 0) (net : NetTree) (budget : ℕ) (answer : Option Val) (moves status : ℕ) →
-    Tells means net budget answer moves status → status ≢ 4
-ended means net budget (Some v) moves status h = λ f. (let e = h.0 in omega (arith, e, f))
-ended means net budget None moves status h = λ f. (let e = h.0 in omega (arith, e, f))
+ended : (answer : Option Val) (status : ℕ) → status ≡ replay_status answer → status ≢ 4
+ended (Some v) status e = λ f. omega (arith, e, f)
+ended None status e = λ f. omega (arith, e, f)
 
 refused_other : (f : Fault) → fault_status f ≢ 4
-refused_other (fault.Read f) = λ e. omega (arith, e)
-refused_other (fault.Typing f) = λ e. omega (arith, e)
-refused_other fault.NotGround = λ e. omega (arith, e)
-refused_other (fault.ByValue f) = λ e. omega (arith, e)
+refused_other (fault.Program f) = λ e. omega (arith, e)
 refused_other (fault.NetText f) = λ e. omega (arith, e)
 refused_other (fault.Schedule f) = λ e. omega (arith, e)
 refused_other (fault.Moves f) = λ e. omega (arith, e)
@@ -48,20 +41,16 @@ pub run_fits : (budget : ℕ) (schedule by_value : Bool) → schedule ≡ false 
     Calls (ReportsText (Run 1 budget schedule false by_value false) bytes) faulty b → HasRoom b
 run_fits budget schedule by_value none bytes faulty b =
     lines_fit (ReportsText (Run 1 budget schedule false by_value false) bytes) faulty
-    (λ o r. (r.so.short none refl, ended _ (net_run by_value r.term) budget r.so.answer (length r.so.log) o.status r.so.tells)) b
+    (λ o r. (r.so.short none refl, ended r.so.answer o.status r.so.ends)) b
 
 pub listed_fits : (budget : ℕ) (schedule : Bool) → schedule ≡ false → (bytes : List ℕ) (faulty : Fault → Type 0) (b : Back) →
     Calls (ReportsText (RunNet 1 budget schedule false) bytes) faulty b → HasRoom b
 listed_fits budget schedule none bytes faulty b =
     lines_fit (ReportsText (RunNet 1 budget schedule false) bytes) faulty
-    (λ o r. (r.so.short none refl, ended _ (net_of r.term) budget r.so.answer (length r.so.log) o.status r.so.tells)) b
+    (λ o r. (r.so.short none refl, ended r.so.answer o.status r.so.ends)) b
 
 -- and so does a run in numbers
-answered : (answer : Option Val) → replay_status answer ≢ 4
-answered (Some v) = λ e. omega (arith, e)
-answered None = λ e. omega (arith, e)
-
 pub told_fits : (by_value : Bool) (budget : ℕ) (bytes : List ℕ) (a : Answer) (b : Back) → TellsRun by_value budget bytes a b → HasRoom b
-told_fits by_value budget bytes a b (ran answer moves t is n) room = λ f. answered answer (sym n.status_is ∙ f)
+told_fits by_value budget bytes a b (ran answer moves t is n) room = λ f. ended answer (replay_status answer) refl (sym n.status_is ∙ f)
 told_fits by_value budget bytes a b (refused f line h is none g) room = roomy b (fault_status f) line is.short (refused_other f) g room
 told_fits by_value budget bytes a b (told_no_memory none n) room = λ f. (let e = n.status_is in omega (arith, e, f))

@@ -12,7 +12,8 @@ use Rattle.goi_tasks.specs.declared.task.Task.TheVariants.{Run, RunNet, Trace}
 use Rattle.goi_tasks.specs.Alone.{TellsText}
 use Rattle.goi_tasks.specs.Outputs.{Output}
 use Rattle.goi_tasks.specs.Refusals.{most_line, IsLine, fault_status}
-use Rattle.goi_tasks.specs.Programs.{FaultyEither, OfGround}
+use Rattle.program_runs.specs.Programs.{OfGround}
+use Rattle.goi_tasks.specs.Programs.{FaultyEither}
 use Rattle.goi_tasks.specs.Replaying.{replay_status, ReportsReplay, EndsReplay, FaultySchedule}
 use Rattle.goi_tasks.specs.Tasks.{ReportsText, FaultyFor, EndsText}
 use Rattle.goi_c.specs.declared.telling.Answer.{Answer}

@@ -13,10 +13,11 @@ use Rattle.goi_engine.specs.Deeds.{Deed, with_text, with_schedule, with_list, ge
 use Rattle.goi_world.specs.Seen.{files_seen, FilesState, FilesKept}
 use Rattle.goi_engine.specs.FilesSeen.{Possibly, OfFile, ReadsWithin, LoadedBy}
 use Rattle.goi_tasks.specs.Outputs.{output_of}
-use Rattle.goi_tasks.specs.Programs.{IsGround}
+use Rattle.program_runs.specs.Programs.{IsGround, OfGround}
+use Rattle.goi_tasks.specs.Programs.{FaultyEither}
 use Rattle.goi_words.specs.declared.jobs.Window.{Window}
 use Rattle.goi_tasks.specs.Replaying.{ReportsReplay, FaultySchedule}
-use Rattle.goi_engine.specs.Verdicts.{OfGround, HasNumber, FaultyEither, ReadFor}
+use Rattle.goi_engine.specs.Verdicts.{HasNumber, ReadFor}
 
 -- what is seen of the files is the same in both states where all that is seen is
 pub same_state : (old new : FilesState) → FilesKept old new → new.faults ≡ old.faults → new ≡ old

@@ -1,13 +1,10 @@
 -- The promise of the top call is kept: an answer that is right for the words and the files, and is delivered, is what it promises.
 use Rattle.std.proofs.Common.{◌≡◌, ◌≢◌, ◌⊎◌, ℕ, ◌≤◌, List, length, Option, Some, None, IsTrue, refl, sym, ap, ◌∙◌, subst, inl, inr}
 use Rattle.std.proofs.Common.{⊎_elim, arith}
-use Rattle.cbn_meaning.specs.Meaning.{Means}
-use Rattle.net_build.specs.NetOf.{net_of}
-use Rattle.demo_text.specs.Demo.{demo_term}
 use Rattle.goi_tasks.specs.declared.fault.Fault.{Fault}
 use Rattle.goi_engine.specs.declared.answer.Answer.{Answer}
 use Rattle.goi_engine.specs.declared.answer.Answer.TheVariants.{Prints, Refused, BadWords, NotRead, NoMemory}
-use Rattle.goi_tasks.specs.declared.fault.Fault.TheVariants.{Read, Typing, NotGround, ByValue, NetText, Schedule, Moves, Batch}
+use Rattle.goi_tasks.specs.declared.fault.Fault.TheVariants.{Program, NetText, Schedule, Moves, Batch}
 use Rattle.goi_engine.specs.Answers.{AnswersDeed, Answers}
 use Rattle.goi_engine.specs.Deeds.{Deed, with_text, with_schedule, with_list, generated}
 use Rattle.goi_engine.specs.Writes.{Wrote}
@@ -20,13 +17,13 @@ use Rattle.goi_engine.specs.Promise.{MeansPrinted, MeansFault, MeansBadWords, Me
 use Rattle.goi_engine.specs.Promise.{CompleteReport, CompleteFault, CompleteWords, CompleteLacked, Promise}
 use Rattle.goi_tasks.specs.Refusals.{most_line, fault_line, fault_status, words_line, read_line, memory_line}
 use Rattle.goi_tasks.specs.Replaying.{ReportsReplay}
-use Rattle.goi_tasks.specs.Running.{demo_budget}
 use Rattle.goi_tasks.specs.Tasks.{ReportsText}
 use Rattle.goi_tasks.proofs.Outcomes.{Known, text_status, schedule_status, run_status}
 use Rattle.goi_batches.specs.Sections.{statuses_of}
 use Rattle.goi_batches.proofs.One.{three}
 use Rattle.goi_engine.specs.ListsSeen.{OfList, ReportsLines}
-use Rattle.goi_engine.specs.Verdicts.{OfGround, Reports, CanDo, Faulty, SurelyLacks}
+use Rattle.program_runs.specs.Programs.{OfGround}
+use Rattle.goi_engine.specs.Verdicts.{Reports, CanDo, Faulty, SurelyLacks}
 use Rattle.goi_engine.proofs.Settled.{one_status, no_fault, no_refusal, same_fault, had_for_report, had_for_refusal, can_has, faulty_has}
 
 -- the files' count of faults stayed
@@ -216,16 +213,12 @@ three_statuses (with_list file workers) files o h =
     (λ b x.
     let r = x.2 in
     subst OneOfThree (sym (ap (λ (y : Output). y.status) r.output_is)) (three (statuses_of r.sections))) h.1
-three_statuses (generated n workers) files o h =
-    two_of_three o.status (run_status (Means (demo_term n)) (net_of (demo_term n)) demo_budget h.answer (length h.log) o.status h.tells)
+three_statuses (generated n workers) files o h = two_of_three o.status (run_status h.answer o.status h.ends)
 
 -- a fault ends with its status
 fault_outcome : (d : Deed) (c : Call) (f : Fault) → MeansFault (fault_status f) (Some d) c → SameFaults c →
     Outcome (Some d) c (fault_status f)
-fault_outcome d c (Read f) m h = fault m h
-fault_outcome d c (Typing f) m h = fault m h
-fault_outcome d c NotGround m h = fault m h
-fault_outcome d c (ByValue f) m h = fault m h
+fault_outcome d c (Program f) m h = fault m h
 fault_outcome d c (NetText f) m h = file_fault m h
 fault_outcome d c (Schedule f) m h = file_fault m h
 fault_outcome d c (Moves f) m h = file_fault m h

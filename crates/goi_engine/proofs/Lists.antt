@@ -15,7 +15,7 @@ use Rattle.goi_tasks.specs.declared.fault.Fault.TheVariants.{Batch}
 use Rattle.goi_tasks.specs.declared.stop.Stop.{Stop}
 use Rattle.goi_tasks.specs.declared.stop.Stop.TheVariants as stop
 use Rattle.goi_tasks.specs.Outputs.{Output, output_of}
-use Rattle.goi_tasks.specs.Programs.{number}
+use Rattle.program_runs.specs.Programs.{number}
 use Rattle.goi_batches.specs.declared.judged.Judged.{Judged}
 use Rattle.goi_batches.specs.declared.judged.Judged.TheVariants.{Runs, Refused as Told}
 use Rattle.goi_batches.specs.Judging.{IsJudged, AreJudged}

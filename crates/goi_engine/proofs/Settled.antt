@@ -11,11 +11,13 @@ use Rattle.batch_lists.specs.Lists.{IsList}
 use Rattle.goi_tasks.specs.declared.fault.Fault.{Fault}
 use Rattle.goi_tasks.specs.declared.fault.Fault.TheVariants.{Batch}
 use Rattle.goi_tasks.specs.Outputs.{Output}
-use Rattle.goi_tasks.specs.Programs.{number, FaultyText}
+use Rattle.program_runs.specs.Programs.{number, OfGround}
+use Rattle.program_runs.proofs.OneProgram.{same_ground}
+use Rattle.goi_tasks.specs.Programs.{FaultyText, FaultyEither}
 use Rattle.goi_tasks.specs.Replaying.{ReportsReplay, EndsReplay, FaultySchedule}
 use Rattle.goi_tasks.specs.Running.{demo_budget}
 use Rattle.goi_tasks.specs.Tasks.{ReportsText, FaultyFor, EndsText}
-use Rattle.goi_tasks.proofs.Outcomes.{Known, same_ground, ground_sound, one_text_fault, text_end, report_sound, end_sound, one_fault_for}
+use Rattle.goi_tasks.proofs.Outcomes.{Known, ground_sound, one_text_fault, text_end, report_sound, end_sound, one_fault_for}
 use Rattle.goi_tasks.proofs.Outcomes.{schedule_sound, one_schedule_fault, replay_end, one_run_end, run_ends}
 use Rattle.goi_engine.specs.Deeds.{Deed, with_text, with_schedule, with_list, generated}
 use Rattle.goi_batches.specs.Sections.{listed, Section, IsSection, statuses_of, batch_status, EndsListed}
@@ -23,7 +25,7 @@ use Rattle.goi_batches.proofs.One.{section_end}
 use Rattle.goi_engine.specs.ListsSeen.{OfList, FaultyList, unlisted, AreSectionsIn, ReportsLines, EndEachIn, EndLines, LacksOne}
 use Rattle.goi_world.specs.Seen.{FilesState}
 use Rattle.goi_engine.specs.FilesSeen.{Possibly, OfFile, OfTold}
-use Rattle.goi_engine.specs.Verdicts.{OfGround, HasNumber, FaultyEither, Reports, Refuses, LacksFor, CanDo, Faulty, SurelyLacks}
+use Rattle.goi_engine.specs.Verdicts.{HasNumber, Reports, Refuses, LacksFor, CanDo, Faulty, SurelyLacks}
 
 -- ---- the told bytes of a file are the possible ones
 
@@ -103,7 +105,7 @@ module _ (known : Known) (files : FilesState) where
   -- ---- both of one program
 
   both_ground : (bytes : List ℕ) (P Q : TermTree → Type 0) → OfGround bytes P → OfGround bytes Q → (t : TermTree) × P t × Q t
-  both_ground bytes P Q (t, g, p) (u, h, q) = (u, subst P (same_ground known.one_tree known.not_both bytes t u g h) p, q)
+  both_ground bytes P Q (t, g, p) (u, h, q) = (u, subst P (same_ground known.one_program bytes t u g h) p, q)
 
   -- and of one schedule
   abbrev AtMoves : List ℕ → (TermTree → List ℕ → Type 0) → TermTree → Type 0
@@ -138,7 +140,7 @@ module _ (known : Known) (files : FilesState) where
       lines_end known files workers ls o own r e
   one_status (generated n workers) o own h k =
       one_run_end demo_budget (net_of (demo_term n)) o.status own
-      (run_ends (Means (demo_term n)) (net_of (demo_term n)) demo_budget h.answer (length h.log) o.status h.tells) k
+      (run_ends (Means (demo_term n)) (net_of (demo_term n)) demo_budget h.answer (length h.log) o.status h.ends h.run.tells) k
 
   -- what has a right output has no fault
   pub no_fault : (d : Deed) (o : Output) (f : Fault) → Reports d files o → Faulty d files f → ⊥
@@ -148,7 +150,7 @@ module _ (known : Known) (files : FilesState) where
   no_fault (with_schedule file moves window) o f h (b, e, inl k) =
       let (b, p, q) = meets (files.told file) (λ b. OfGround b (AtMoves moves (λ t text. ReportsReplay t window text o)))
       (λ b. FaultyText number b f) h.1 (b, e, k) in
-      ground_sound known.one_tree known.not_both b p.0 f p.1 q
+      ground_sound known.one_program b p.0 f p.1 q
   no_fault (with_schedule file moves window) o f h (b, e, inr k) =
       let (b, p, q) = meets (files.told file) (λ b. OfGround b (AtMoves moves (λ t text. ReportsReplay t window text o)))
       (λ b. OfGround b (AtTold moves (λ t text. FaultySchedule t text f))) h.1 (b, e, k) in
@@ -167,7 +169,7 @@ module _ (known : Known) (files : FilesState) where
   no_refusal (with_schedule file moves window) f own h k =
       let (b, p, q) = meets (files.told file) (λ b. FaultyEither b (AtMoves moves (λ t text. FaultySchedule t text f)) f)
       (λ b. OfGround b (AtTold moves (λ t text. EndsReplay t text own))) h.1 k in
-      ⊎_elim (λ (x : FaultyText number b f). ground_sound known.one_tree known.not_both b q.0 f q.1 x)
+      ⊎_elim (λ (x : FaultyText number b f). ground_sound known.one_program b q.0 f q.1 x)
       (λ (x : OfGround b (AtMoves moves (λ t text. FaultySchedule t text f))).
       let (t, c, r, s) = both_moves b moves (λ t text. FaultySchedule t text f) (λ t text. EndsReplay t text own) x q in
       schedule_sound known t c f s.tickets s.state s.schedule s.led r)
@@ -180,8 +182,8 @@ module _ (known : Known) (files : FilesState) where
   same_either : (moves b : List ℕ) (f g : Fault) → FaultyEither b (AtMoves moves (λ t text. FaultySchedule t text f)) f →
       FaultyEither b (AtTold moves (λ t text. FaultySchedule t text g)) g → f ≡ g
   same_either moves b f g (inl h) (inl k) = one_text_fault known number b f g h k
-  same_either moves b f g (inl h) (inr (t, k, x)) = absurd (ground_sound known.one_tree known.not_both b t f k h)
-  same_either moves b f g (inr (t, h, x)) (inl k) = absurd (ground_sound known.one_tree known.not_both b t g h k)
+  same_either moves b f g (inl h) (inr (t, k, x)) = absurd (ground_sound known.one_program b t f k h)
+  same_either moves b f g (inr (t, h, x)) (inl k) = absurd (ground_sound known.one_program b t g h k)
   same_either moves b f g (inr h) (inr k) =
       let (t, c, r, s) = both_moves b moves (λ t text. FaultySchedule t text f) (λ t text. FaultySchedule t text g) h k in
       one_schedule_fault known t c f g r s
@@ -223,7 +225,7 @@ module _ (known : Known) (files : FilesState) where
   had_for_refusal (with_schedule file moves window) f h (inl l) = h.0 l
   had_for_refusal (with_schedule file moves window) f h (inr (k, l)) =
       let (b, p, q) = meets (files.told file) (λ b. FaultyEither b (AtMoves moves (λ t text. FaultySchedule t text f)) f) HasNumber h.1 k in
-      ⊎_elim (λ (x : FaultyText number b f). ground_sound known.one_tree known.not_both b q.0 f q.1 x)
+      ⊎_elim (λ (x : FaultyText number b f). ground_sound known.one_program b q.0 f q.1 x)
       (λ (x : OfGround b (AtMoves moves (λ t text. FaultySchedule t text f))). x.2.0 l) p
   had_for_refusal (with_list file workers) f h (inl l) = h.0 l
   had_for_refusal (with_list file workers) f h (inr k) =
@@ -252,7 +254,7 @@ module _ (known : Known) (files : FilesState) where
     faulty_has (with_schedule file moves window) f (inl l) (b, e, k) = never_lacked files.told file b (untold file l) e
     faulty_has (with_schedule file moves window) f (inr (h, l)) (b, e, inl k) =
         let (c, p, q) = meets (files.told file) HasNumber (λ b. FaultyText number b f) h.1 (b, e, k) in
-        ground_sound known.one_tree known.not_both c p.0 f p.1 q
+        ground_sound known.one_program c p.0 f p.1 q
     faulty_has (with_schedule file moves window) f (inr (h, l)) (b, e, inr (t, g, (c, told, x))) =
         never_lacked files.told moves c (untold moves l) told
     faulty_has (with_list file workers) f (inl l) (b, e, k) = never_lacked files.told file b (untold file l) e

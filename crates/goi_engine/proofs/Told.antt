@@ -28,10 +28,13 @@ use Rattle.goi_world.specs.Seen.{FilesState}
 use Rattle.goi_engine.specs.FilesSeen.{Possibly}
 use Rattle.goi_tasks.specs.NetFiles.{FaultyListing, unlisted}
 use Rattle.goi_tasks.specs.Outputs.{Output, output_of}
-use Rattle.goi_tasks.specs.Programs.{Wanted, any_type, number, IsProgram, IsGround, FaultyText, unread, of_tree, IsNet}
+use Rattle.program_runs.specs.declared.fault.ProgramFault.{ProgramFault}
+use Rattle.program_runs.specs.Nets.{IsNet}
+use Rattle.program_runs.specs.Programs.{Wanted, any_type, number, wanted_by_run, IsProgram, OfProgram, IsGround, FaultyProgram, unread, of_tree}
+use Rattle.goi_tasks.specs.Programs.{FaultyText, no_program}
 use Rattle.goi_words.specs.declared.jobs.Window.{Window}
 use Rattle.goi_tasks.specs.Replaying.{ReportsReplay, FaultySchedule, unread as no_schedule, unmoved}
-use Rattle.goi_tasks.specs.Tasks.{wanted_by_run, OfProgram, most_bytes, ReportsText, FaultyFor}
+use Rattle.goi_tasks.specs.Tasks.{most_bytes, ReportsText, FaultyFor}
 
 -- these are the same bytes, or both are more than there may be
 abbrev pub Same : ℕ → List ℕ → List ℕ → Type 0
@@ -96,10 +99,14 @@ program_goes : (wanted : Wanted) (tree : NamedTree) (t : TermTree) (A : TyTree) 
     IsProgram wanted v tree t A → IsProgram wanted bytes tree t A
 program_goes wanted tree t A v bytes s h = record { text = text_goes v bytes tree s h.text; typed = h.typed; will_do = h.will_do }
 
+program_fault_goes : (wanted : Wanted) (f : ProgramFault) (v bytes : List ℕ) → Same most_program_bytes v bytes → FaultyProgram wanted v f →
+    FaultyProgram wanted bytes f
+program_fault_goes wanted _ v bytes s (unread f h) = unread f (first_goes v bytes f s h)
+program_fault_goes wanted f v bytes s (of_tree tree _ x h) = of_tree tree f (text_goes v bytes tree s x) h
+
 pub faulty_goes : (wanted : Wanted) (f : Fault) (v bytes : List ℕ) → Same most_program_bytes v bytes → FaultyText wanted v f →
     FaultyText wanted bytes f
-faulty_goes wanted _ v bytes s (unread f h) = unread f (first_goes v bytes f s h)
-faulty_goes wanted f v bytes s (of_tree tree _ x h) = of_tree tree f (text_goes v bytes tree s x) h
+faulty_goes wanted _ v bytes s (no_program f h) = no_program f (program_fault_goes wanted f v bytes s h)
 
 of_program_goes : (wanted : Wanted) (P : NamedTree → TermTree → TyTree → Type 0) (v bytes : List ℕ) → Same most_program_bytes v bytes →
     OfProgram wanted v P → OfProgram wanted bytes P

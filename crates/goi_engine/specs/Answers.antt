@@ -11,7 +11,8 @@ use Rattle.goi_tasks.specs.declared.stop.Stop.{Stop}
 use Rattle.goi_tasks.specs.declared.stop.Stop.TheVariants as stop
 use Rattle.goi_tasks.specs.declared.task.Task.{Task}
 use Rattle.goi_tasks.specs.Outputs.{Output, output_of}
-use Rattle.goi_tasks.specs.Programs.{number, IsGround, FaultyText}
+use Rattle.program_runs.specs.Programs.{number, IsGround}
+use Rattle.goi_tasks.specs.Programs.{FaultyText}
 use Rattle.goi_tasks.specs.Refusals.{TellsFault}
 use Rattle.goi_words.specs.declared.jobs.Window.{Window}
 use Rattle.goi_tasks.specs.Replaying.{ReportsReplay, FaultySchedule}

@@ -4,12 +4,12 @@
 use Rattle.std.specs.Prelude.{◌≡◌, ◌⊎◌, ℕ, IsTrue, List, Option, None, Some}
 use Rattle.goi_world.specs.Outside.{Rose, Reading}
 use Rattle.pcf_values.specs.Most.{most_program_bytes, most_schedule_bytes}
-use Rattle.pcf_values.specs.Terms.{TermTree}
 use Rattle.net_build.specs.NetOf.{net_of}
 use Rattle.demo_text.specs.Demo.{demo_term}
 use Rattle.goi_tasks.specs.declared.fault.Fault.{Fault}
 use Rattle.goi_tasks.specs.Outputs.{Output}
-use Rattle.goi_tasks.specs.Programs.{number, IsGround, FaultyText}
+use Rattle.program_runs.specs.Programs.{OfGround}
+use Rattle.goi_tasks.specs.Programs.{FaultyEither}
 use Rattle.goi_tasks.specs.Running.{demo_budget, ReportsDemo, EndsRun}
 use Rattle.goi_tasks.specs.Replaying.{ReportsReplay, EndsReplay, FaultySchedule}
 use Rattle.goi_tasks.specs.Tasks.{most_bytes, ReportsText, FaultyFor, EndsText}
@@ -17,10 +17,6 @@ use Rattle.goi_engine.specs.Deeds.{Deed, with_text, with_schedule, with_list, ge
 use Rattle.goi_engine.specs.ListsSeen.{OfList, FaultyList, ReportsLines, EndLines, LacksOne, LoadedList}
 use Rattle.goi_world.specs.Seen.{FilesState}
 use Rattle.goi_engine.specs.FilesSeen.{OfFile, OfTold, LoadedBy}
-
--- the text is a program whose term is a number, of which this holds
-abbrev pub OfGround : List ℕ → (TermTree → Type 0) → Type 0
-OfGround bytes P = (t : TermTree) × IsGround bytes t × P t
 
 -- the text is a program whose term is a number
 abbrev pub HasNumber : List ℕ → Type 0
@@ -35,10 +31,6 @@ Reports (with_schedule file moves window) files o =
     OfFile files file (λ bytes. OfGround bytes (λ t. OfFile files moves (λ text. ReportsReplay t window text o)))
 Reports (with_list file workers) files o = OfFile files file (λ bytes. OfList bytes (λ lines. ReportsLines files workers lines o))
 Reports (generated n workers) files o = ReportsDemo n workers o
-
--- a program's text is refused for this fault, or the schedule of another file is, on the net of the program
-abbrev pub FaultyEither : List ℕ → (TermTree → Type 0) → Fault → Type 0
-FaultyEither bytes schedule f = FaultyText number bytes f ⊎ OfGround bytes schedule
 
 -- its first fault, by what the files tell
 abbrev pub Refuses : Deed → FilesState → Fault → Type 0

@@ -12,7 +12,9 @@ ghost use Rattle.goi_engine.specs.Answers.{Answers, AnswersDeed, AnswersTask, An
 ghost use Rattle.goi_engine.specs.Deeds.{deed, deed_of, with_schedule};
 ghost use Rattle.goi_engine.specs.FilesSeen.{LoadedBy};
 ghost use Rattle.goi_world.specs.Seen.{FilesKept};
-ghost use Rattle.goi_tasks.specs.Programs.{number, FaultyText, IsNet};
+ghost use Rattle.program_runs.specs.Nets.{IsNet};
+ghost use Rattle.program_runs.specs.Programs.{number};
+ghost use Rattle.goi_tasks.specs.Programs.{FaultyText};
 ghost use Rattle.goi_tasks.specs.Replaying.{ReportsReplay, FaultySchedule};
 ghost use Rattle.goi_tasks.specs.Running.{ReportsDemo};
 ghost use Rattle.goi_tasks.specs.Tasks.{IsWithin, ReportsText, FaultyFor, most_bytes};

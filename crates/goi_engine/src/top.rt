@@ -11,10 +11,9 @@ ghost use Rattle.goi_engine.specs.Verdicts.{ReadFor};
 use crate::answer::answer_to;
 use crate::deliver::deliver;
 use batch_lists::law_one_list;
-use cbv_terms::law_faults;
 use gate_workers::Gate;
 use goi_world::{Files, Sink};
-use pcf_reader::{law_one_fault, law_one_tree, law_text_or_fault};
+use program_runs::law_one_program;
 use replay_check::law_one_replay;
 use schedule_log::law_one_answer;
 use std::alloc::Global;
@@ -51,10 +50,7 @@ pub fn goi<R: Threads + Wait + Sync, F: Files, O: Sink, E: Sink, G: Gate>(
     // The files are read for the job alone, and not too often.
     ensures reads { ReadFor F.reads (F.seen files.old).told (deed (job (map string_bytes words.now))) files.old files.new }
 {
-    law_one_tree();
-    law_one_fault();
-    law_text_or_fault();
-    law_faults();
+    law_one_program();
     law_one_listing();
     law_one_answer();
     law_one_replay();

@@ -1,6 +1,4 @@
 pub mod Brief
--- why what one worker's run came to, as numbers, is what the text's program means
-pub mod InNumbers
 pub mod Outcomes
 pub mod Ran
 pub mod Replayed

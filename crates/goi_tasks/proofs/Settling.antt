@@ -1,18 +1,21 @@
 -- Why what comes of a text is settled by its bytes, for whoever looks at it from outside.
-use Rattle.std.proofs.Common.{◌≡◌, ℕ, Bool, false, List, Option, None, subst, inl, inr}
+use Rattle.std.proofs.Common.{◌≡◌, ℕ, Bool, false, List, Option, None, refl, subst, inl, inr}
 use Rattle.pcf_values.specs.declared.val.Val.{Val}
 use Rattle.pcf_values.specs.Terms.{TermTree}
+use Rattle.program_runs.specs.Programs.{number, wanted_by_run, OfGround}
+use Rattle.program_runs.specs.Running.{net_run}
+use Rattle.program_runs.proofs.OneProgram.{same_ground, same_program}
 use Rattle.goi_tasks.specs.declared.fault.Fault.{Fault}
 use Rattle.goi_tasks.specs.declared.task.Task.{Task}
 use Rattle.goi_tasks.specs.declared.task.Task.TheVariants.{Run}
 use Rattle.goi_tasks.specs.Alone.{TellsText}
 use Rattle.goi_tasks.specs.Outputs.{Output}
-use Rattle.goi_tasks.specs.Programs.{number, FaultyEither, OfGround}
+use Rattle.goi_tasks.specs.Programs.{FaultyEither}
 use Rattle.goi_tasks.specs.Replaying.{replay_status, ReportsReplay, EndsReplay, FaultySchedule}
-use Rattle.goi_tasks.specs.Running.{net_run, EndsRun}
+use Rattle.goi_tasks.specs.Running.{EndsRun}
 use Rattle.goi_tasks.specs.Settles.{Settles, TextsSettle, status_of_output, status_of_run}
-use Rattle.goi_tasks.specs.Tasks.{wanted_by_run, ReportsText, FaultyFor, EndsText}
-use Rattle.goi_tasks.proofs.Outcomes.{Known, same_ground, ground_sound, text_sound, one_text_fault, same_program, text_end, report_sound}
+use Rattle.goi_tasks.specs.Tasks.{ReportsText, FaultyFor, EndsText}
+use Rattle.goi_tasks.proofs.Outcomes.{Known, ground_sound, text_sound, one_text_fault, text_end, report_sound}
 use Rattle.goi_tasks.proofs.Outcomes.{end_sound, one_fault_for, schedule_sound, one_schedule_fault, replay_end, one_run_end, run_ends}
 
 module _ (known : Known) where
@@ -30,17 +33,17 @@ module _ (known : Known) where
       TellsText by_value budget bytes answer moves → EndsText (Run 1 budget false false by_value false) bytes own →
       replay_status answer ≡ own
   numbers_end by_value budget bytes answer moves own h k =
-      let e : h.term ≡ k.term = same_program known (wanted_by_run by_value) bytes _ _ h k in
+      let e : h.term ≡ k.term = same_program known.one_program (wanted_by_run by_value) bytes _ _ h k in
       one_run_end budget (net_run by_value k.term) (replay_status answer) own
       (subst (λ (t : TermTree). EndsRun budget (net_run by_value t) (replay_status answer)) e
-      (run_ends _ (net_run by_value h.term) budget answer moves (replay_status answer) h.so)) k.so
+      (run_ends _ (net_run by_value h.term) budget answer moves (replay_status answer) refl h.so)) k.so
 
   numbers_settle : (by_value : Bool) (budget : ℕ) (bytes : List ℕ) →
       Settles status_of_run (λ r. TellsText by_value budget bytes r.0 r.1) (EndsText (Run 1 budget false false by_value false) bytes)
       (FaultyFor (Run 1 budget false false by_value false) bytes)
   numbers_settle by_value budget bytes = record {
     one_status = λ r own h k. numbers_end by_value budget bytes r.0 r.1 own h k;
-    right_or_faulty = λ r f h k. text_sound known.one_tree known.not_both (wanted_by_run by_value) bytes h.tree h.term h.type f h.is k;
+    right_or_faulty = λ r f h k. text_sound known.one_program (wanted_by_run by_value) bytes h.tree h.term h.type f h.is k;
     ends_or_faulty = λ own f h k. end_sound known (Run 1 budget false false by_value false) bytes own f h k;
     one_fault = λ f g h k. one_fault_for known (Run 1 budget false false by_value false) bytes f g h k;
   }
@@ -53,7 +56,7 @@ module _ (known : Known) where
 
     -- both of one program
     both : (P Q : TermTree → Type 0) → OfGround bytes P → OfGround bytes Q → (t : TermTree) × P t × Q t
-    both P Q (t, g, p) (u, h, q) = (u, subst P (same_ground known.one_tree known.not_both bytes t u g h) p, q)
+    both P Q (t, g, p) (u, h, q) = (u, subst P (same_ground known.one_program bytes t u g h) p, q)
 
     replays_end : (o : Output) (own : ℕ) → OfGround bytes (λ t. ReportsReplay t None schedule o) →
         OfGround bytes (λ t. EndsReplay t schedule own) → o.status ≡ own
@@ -62,21 +65,21 @@ module _ (known : Known) where
         replay_end known t None schedule o own r e
 
     replays_sound : (o : Output) (f : Fault) → OfGround bytes (λ t. ReportsReplay t None schedule o) → Faulty f → ⊥
-    replays_sound o f (t, g, r) (inl k) = ground_sound known.one_tree known.not_both bytes t f g k
+    replays_sound o f (t, g, r) (inl k) = ground_sound known.one_program bytes t f g k
     replays_sound o f h (inr k) =
         let (t, r, s) = both (λ t. ReportsReplay t None schedule o) (λ t. FaultySchedule t schedule f) h k in
         schedule_sound known t schedule f r.tickets r.state r.schedule r.led s
 
     ends_sound : (own : ℕ) (f : Fault) → OfGround bytes (λ t. EndsReplay t schedule own) → Faulty f → ⊥
-    ends_sound own f (t, g, r) (inl k) = ground_sound known.one_tree known.not_both bytes t f g k
+    ends_sound own f (t, g, r) (inl k) = ground_sound known.one_program bytes t f g k
     ends_sound own f h (inr k) =
         let (t, r, s) = both (λ t. EndsReplay t schedule own) (λ t. FaultySchedule t schedule f) h k in
         schedule_sound known t schedule f r.tickets r.state r.schedule r.led s
 
     one_either : (f g : Fault) → Faulty f → Faulty g → f ≡ g
     one_either f g (inl h) (inl k) = one_text_fault known number bytes f g h k
-    one_either f g (inl h) (inr (t, k, x)) = absurd (ground_sound known.one_tree known.not_both bytes t f k h)
-    one_either f g (inr (t, h, x)) (inl k) = absurd (ground_sound known.one_tree known.not_both bytes t g h k)
+    one_either f g (inl h) (inr (t, k, x)) = absurd (ground_sound known.one_program bytes t f k h)
+    one_either f g (inr (t, h, x)) (inl k) = absurd (ground_sound known.one_program bytes t g h k)
     one_either f g (inr h) (inr k) =
         let (t, r, s) = both (λ t. FaultySchedule t schedule f) (λ t. FaultySchedule t schedule g) h k in
         one_schedule_fault known t schedule f g r s

@@ -1,29 +1,12 @@
--- The net of a program within the limits, or of its translation, has fewer than 2 ^ 32 wires and nodes; and so has one that is listed.
-use Rattle.std.proofs.Common.{◌≡◌, ℕ, suc, List, [], ◌∷◌, ◌++◌, codes, decimal, ap, length-append, ◌+◌, ◌*◌, ◌^◌, ◌<◌, ◌≤◌, length, arith}
-use Rattle.std.proofs.Math.Nat.{mul-le-mul_right}
-use Rattle.pcf_values.specs.Terms.{TermTree, size, height}
+-- A net that is listed has fewer than 2 ^ 32 wires and nodes.
+use Rattle.std.proofs.Common.{◌≡◌, ℕ, suc, List, [], ◌∷◌, ◌++◌, codes, decimal, ap, length-append, ◌^◌, ◌<◌, ◌≤◌, length, arith}
+use Rattle.pcf_values.specs.Terms.{TermTree}
 use Rattle.net_build.specs.NetOf.{net_of}
-use Rattle.net_build.specs.Laws.{NetSize}
 use Rattle.net_build.specs.declared.node.Node.{Node}
 use Rattle.net_build.specs.Nets.{WireTree, NetTree}
 use Rattle.pcf_reader.specs.Printed.{ty_text}
 use Rattle.net_text.specs.Accepted.{ListsProgram}
 use Rattle.net_text.specs.Listing.{kind_text, name_text, numbers_text, numbers_of, wire_line, node_line, lines_of, listing}
-
-module _ (bound : NetSize) (m : TermTree) (small : size m ≤ 10 * 32768 + 3) (low : height m ≤ 2600) where
-  most : size m * (2 * height m + 4) < 2 ^ 32
-  most =
-      let k = 2 * height m + 4 in
-      let a : size m * k ≤ 327683 * k = mul-le-mul_right k (omega (arith, small)) in
-      omega arith
-
-  pub few_wires : length (net_of m).wires < 2 ^ 32
-  few_wires = omega (arith, most, (bound m).0)
-
-  pub few_nodes : length (net_of m).nodes < 2 ^ 32
-  few_nodes = omega (arith, most, (bound m).1)
-
--- ---- the net that a listing of few bytes lists
 
 some_line : {A : Type 0} (line : ℕ → A → List ℕ) (n : ℕ) (xs : List A) → ((k : ℕ) (x : A) → 1 ≤ length (line k x)) → length xs ≤ length (lines_of line n xs)
 some_line line n [] each = omega arith

@@ -1,32 +1,23 @@
--- From a tree and its faults to those of the text that stands for it.
-use Rattle.std.proofs.Common.{◌≡◌, ◌≢◌, ◌∙◌, ℕ, Bool, List, [], Result, Ok, Err, IfOk, IfErr, Vec, Global, refl, ap, subst}
-use Rattle.pcf_values.specs.Terms.{TyTree, TermTree, nat}
-use Rattle.pcf_values.specs.Typing.{HasType}
+-- From the faults of a program's text to those of a task, and from the report on a tree's type to that on its text's.
+use Rattle.std.proofs.Common.{◌≡◌, ◌≢◌, ℕ, Bool, List, [], Result, Ok, Err, IfOk, IfErr, Vec, Global, ap}
 use Rattle.pcf_values.specs.Named.{NamedTree}
-use Rattle.pcf_reader.specs.declared.fault.ReadFault.{ReadFault}
-use Rattle.pcf_reader.specs.declared.fault.ReadFault.TheVariants as read
-use Rattle.pcf_reader.specs.Correct.{Text, Faults}
-use Rattle.pcf_types.specs.Checking.{type_of}
-use Rattle.pcf_types.specs.declared.fault.TypeFault.{TypeFault}
-use Rattle.pcf_types.specs.declared.fault.TypeFault.TheVariants as typing
-use Rattle.cbv_terms.specs.declared.fault.ByValueFault.{ByValueFault}
-use Rattle.cbv_terms.specs.declared.fault.ByValueFault.TheVariants as by_value
-use Rattle.cbv_terms.specs.Faults.{IsFirstFault, IsFaultless}
-use Rattle.cbv_terms.specs.Laws.{TranslatedIsTyped}
-use Rattle.cbv_terms.specs.Translation.{Accepted, translated}
-use Rattle.net_build.specs.Nets.{NetTree}
-use Rattle.net_build.specs.NetOf.{net_of}
+use Rattle.pcf_reader.specs.Correct.{Text}
+use Rattle.net_text.specs.declared.fault.NetTextFault.{NetTextFault}
+use Rattle.net_text.specs.declared.fault.NetTextFault.TheVariants as listing
+use Rattle.net_text.specs.Accepted.{Accepts}
+use Rattle.program_runs.specs.declared.fault.ProgramFault.{ProgramFault}
+use Rattle.program_runs.specs.declared.no_run.NoRun.{NoRun}
+use Rattle.program_runs.specs.declared.no_run.NoRun.TheVariants as no_run
+use Rattle.program_runs.specs.NoRuns.{NoRunFor}
+use Rattle.program_runs.specs.Programs.{Wanted, FaultyTree, of_tree}
 use Rattle.goi_tasks.specs.declared.fault.Fault.{Fault}
 use Rattle.goi_tasks.specs.declared.stop.Stop.{Stop}
 use Rattle.goi_tasks.specs.declared.stop.Stop.TheVariants as stop
 use Rattle.goi_tasks.specs.declared.task.Task.TheVariants.{Check}
-use Rattle.net_text.specs.declared.fault.NetTextFault.{NetTextFault}
-use Rattle.net_text.specs.declared.fault.NetTextFault.TheVariants as listing
-use Rattle.net_text.specs.Accepted.{Accepts}
 use Rattle.goi_tasks.specs.NetFiles.{FaultyListing, unlisted}
 use Rattle.goi_tasks.specs.Outputs.{output}
-use Rattle.goi_tasks.specs.Programs.{Wanted, number, strict_number, FaultyTree, untyped, no_number, untranslated, FaultyText, unread, of_tree, IsUnfit, other_type, IsNetOfTree, IsNet, IsTranslated, IsStrictNetOfTree, IsStrictNet}
-use Rattle.goi_tasks.specs.Stops.{StopsFor, stop_of_read, stop_of_type, stop_of_by_value, stop_of_net_text}
+use Rattle.goi_tasks.specs.Programs.{IsProgramFault, no_program, FaultyText}
+use Rattle.goi_tasks.specs.Stops.{StopsFor, stop_of_no_run, stop_of_net_text}
 use Rattle.goi_tasks.specs.Tasks.{ReportsText, ChecksTree}
 
 -- what stops for one cause stops for a weaker one
@@ -34,47 +25,25 @@ pub stops_weaker : (P Q : Fault → Type 0) (e : Stop) → ((f : Fault) → P f 
 stops_weaker P Q stop.Memory k h = h
 stops_weaker P Q (stop.Fault f) k h = k f h
 
-pub faults_weaker : {A : Type 0} (P Q : Fault → Type 0) (r : Result A Stop) → ((f : Fault) → P f → Q f) → IfErr r (λ e. StopsFor P e) → IfErr r (λ e. StopsFor Q e)
+pub faults_weaker : {A : Type 0} (P Q : Fault → Type 0) (r : Result A Stop) → ((f : Fault) → P f → Q f) →
+    IfErr r (λ e. StopsFor P e) → IfErr r (λ e. StopsFor Q e)
 faults_weaker P Q (Ok v) k h = h
 faults_weaker P Q (Err e) k h = stops_weaker P Q e k h
 
-pub faults_of_text : {A : Type 0} (wanted : Wanted) (bytes : List ℕ) (tree : NamedTree) (r : Result A Stop) → Text bytes tree → IfErr r (λ e. StopsFor (FaultyTree wanted tree) e) → IfErr r (λ e. StopsFor (FaultyText wanted bytes) e)
-faults_of_text wanted bytes tree r x h = faults_weaker (FaultyTree wanted tree) (FaultyText wanted bytes) r (λ f. of_tree tree f x) h
+-- what a program has no run for, a task on it stops for
+pub stops_program : (P : ProgramFault → Type 0) (e : NoRun) → NoRunFor P e → StopsFor (IsProgramFault P) (stop_of_no_run e)
+stops_program P no_run.Memory h = tt
+stops_program P (no_run.Fault f) h = no_program f h
 
--- the fault of a program that is no number is one of its tree
-unfit_tree : (tree : NamedTree) (t : TermTree) (A : TyTree) (f : Fault) → type_of [] tree ≡ Ok (t, A) → IsUnfit A f → FaultyTree number tree f
-unfit_tree tree t A _ d (other_type n) = no_number t A (λ e. cc) d n
+-- the fault of a tree is one of its text
+tree_fault : (wanted : Wanted) (bytes : List ℕ) (tree : NamedTree) (f : Fault) → Text bytes tree → IsProgramFault (FaultyTree wanted tree) f →
+    FaultyText wanted bytes f
+tree_fault wanted bytes tree _ x (no_program f h) = no_program f (of_tree tree f x h)
 
-pub faults_of_tree : {A : Type 0} (tree : NamedTree) (p : TermTree × TyTree) (r : Result A Stop) → type_of [] tree ≡ Ok p → IfErr r (λ e. StopsFor (IsUnfit p.1) e) → IfErr r (λ e. StopsFor (FaultyTree number tree) e)
-faults_of_tree tree p r d h = faults_weaker (IsUnfit p.1) (FaultyTree number tree) r (λ f. unfit_tree tree p.0 p.1 f d) h
-
--- a text that stands for no tree stops for its first fault
-pub stops_unread : (wanted : Wanted) (bytes : List ℕ) (f : ReadFault) → Faults bytes f → StopsFor (FaultyText wanted bytes) (stop_of_read f)
-stops_unread wanted bytes read.NoMemory h = tt
-stops_unread wanted bytes (read.NotText at) h = unread (read.NotText at) h
-stops_unread wanted bytes (read.BadToken at) h = unread (read.BadToken at) h
-stops_unread wanted bytes (read.NumberTooWide at) h = unread (read.NumberTooWide at) h
-stops_unread wanted bytes (read.Unexpected at) h = unread (read.Unexpected at) h
-stops_unread wanted bytes (read.TooDeep at) h = unread (read.TooDeep at) h
-stops_unread wanted bytes (read.TooLarge at) h = unread (read.TooLarge at) h
-stops_unread wanted bytes read.TooLong h = unread read.TooLong h
-
--- a tree without a type stops for its fault
-pub stops_untyped : (wanted : Wanted) (tree : NamedTree) (f : TypeFault) → (f ≢ typing.NoMemory → type_of [] tree ≡ Err f) → StopsFor (FaultyTree wanted tree) (stop_of_type f)
-stops_untyped wanted tree typing.NoMemory h = tt
-stops_untyped wanted tree (typing.Unbound at) h = untyped (typing.Unbound at) (h (λ e. cc))
-stops_untyped wanted tree (typing.FunctionWanted at) h = untyped (typing.FunctionWanted at) (h (λ e. cc))
-stops_untyped wanted tree (typing.ArgumentMismatch at) h = untyped (typing.ArgumentMismatch at) (h (λ e. cc))
-stops_untyped wanted tree (typing.NatWanted at) h = untyped (typing.NatWanted at) (h (λ e. cc))
-stops_untyped wanted tree (typing.FixMismatch at) h = untyped (typing.FixMismatch at) (h (λ e. cc))
-stops_untyped wanted tree (typing.PairWanted at) h = untyped (typing.PairWanted at) (h (λ e. cc))
-
--- a number without a translation stops for its first fault
-pub stops_untranslated : (tree : NamedTree) (t : TermTree) (f : ByValueFault) → type_of [] tree ≡ Ok (t, nat) → (f ≢ by_value.NoMemory → IsFirstFault tree f) → StopsFor (FaultyTree strict_number tree) (stop_of_by_value f)
-stops_untranslated tree t by_value.NoMemory d h = tt
-stops_untranslated tree t (by_value.ByValueFix at) d h = untranslated t (by_value.ByValueFix at) refl d (h (λ e. cc))
-stops_untranslated tree t (by_value.ByValuePair at) d h = untranslated t (by_value.ByValuePair at) refl d (h (λ e. cc))
-stops_untranslated tree t by_value.ByValueDeep d h = untranslated t by_value.ByValueDeep refl d (h (λ e. cc))
+pub faults_of_text : {A : Type 0} (wanted : Wanted) (bytes : List ℕ) (tree : NamedTree) (r : Result A Stop) → Text bytes tree →
+    IfErr r (λ e. StopsFor (IsProgramFault (FaultyTree wanted tree)) e) → IfErr r (λ e. StopsFor (FaultyText wanted bytes) e)
+faults_of_text wanted bytes tree r x h =
+    faults_weaker (IsProgramFault (FaultyTree wanted tree)) (FaultyText wanted bytes) r (λ f k. tree_fault wanted bytes tree f x k) h
 
 -- a listing that isn't accepted stops for its first fault
 pub stops_unlisted : (bytes : List ℕ) (f : NetTextFault) → Accepts bytes (Err f) → StopsFor (FaultyListing bytes) (stop_of_net_text f)
@@ -84,49 +53,14 @@ stops_unlisted bytes (listing.NotSound f) h = unlisted (listing.NotSound f) (λ 
 stops_unlisted bytes listing.NotOfTerm h = unlisted listing.NotOfTerm (λ e. cc) h
 stops_unlisted bytes listing.TooLong h = unlisted listing.TooLong (λ e. cc) h
 
--- the net of a program is that of its tree
-net_tree : (tree : NamedTree) (p : TermTree × TyTree) (net : NetTree) → type_of [] tree ≡ Ok p → p.1 ≡ nat → HasType [] p.0 nat → net ≡ net_of p.0 → IsNetOfTree tree net
-net_tree tree p net d e h same = record { term = p.0; accepted = subst (λ (A : TyTree). type_of [] tree ≡ Ok (p.0, A)) e d; typed = h; net_is = same }
-
-pub nets_of_tree : {E : Type 0} (tree : NamedTree) (p : TermTree × TyTree) (r : Result NetTree E) → type_of [] tree ≡ Ok p → IfOk r (λ net. p.1 ≡ nat) → IfOk r (λ net. HasType [] p.0 nat) → IfOk r (λ net. net ≡ net_of p.0) → IfOk r (λ net. IsNetOfTree tree net)
-nets_of_tree tree p (Ok net) d e h same = net_tree tree p net d e h same
-nets_of_tree tree p (Err x) d e h same = e
-
--- and the net of a tree is that of its text
--- the net that runs a tree by value is that which runs its text so
-pub strict_nets_of_text : {E : Type 0} (bytes : List ℕ) (tree : NamedTree) (r : Result NetTree E) → Text bytes tree → IfOk r (λ net. IsStrictNetOfTree tree net) → IfOk r (λ net. IsStrictNet bytes net)
-strict_nets_of_text bytes tree (Ok net) x h = record { tree = tree; text = x; made = h }
-strict_nets_of_text bytes tree (Err e) x h = h
-
--- and so is that of a translated program
-pub strict_net_of_tree : (tree : NamedTree) (p : TermTree × TyTree) (net : NetTree) → IsTranslated tree p → net ≡ net_of p.0 → IsStrictNetOfTree tree net
-strict_net_of_tree tree p net h same = record {
-  term = h.term;
-  accepted = h.accepted;
-  typed = h.typed;
-  faultless = h.faultless;
-  has = h.has;
-  runs = h.runs;
-  net_is = same ∙ ap (λ (q : TermTree × TyTree). net_of q.0) h.is;
-}
-
--- what was translated is the tree's program
-pub translated_tree : TranslatedIsTyped → (tree : NamedTree) (q p : TermTree × TyTree) → type_of [] tree ≡ Ok q → q.1 ≡ nat → HasType [] q.0 nat → p ≡ (translated q.0, nat) → Accepted q.0 → IsFaultless tree → IsTranslated tree p
-translated_tree law tree q p d e typed is accepted faultless = record {
-  term = q.0;
-  accepted = subst (λ (A : TyTree). type_of [] tree ≡ Ok (q.0, A)) e d;
-  typed = typed;
-  faultless = faultless;
-  has = accepted.1;
-  runs = law q.0 typed accepted.1;
-  is = is;
-}
-
-pub nets_of_text : {E : Type 0} (bytes : List ℕ) (tree : NamedTree) (r : Result NetTree E) → Text bytes tree → IfOk r (λ net. IsNetOfTree tree net) → IfOk r (λ net. IsNet bytes net)
-nets_of_text bytes tree (Ok net) x h = record { term = h.term; ground = (tree, record { text = x; typed = h.accepted; will_do = refl }); typed = h.typed; net_is = h.net_is }
-nets_of_text bytes tree (Err e) x h = h
-
 -- the report on a tree's type is one on its text
-pub checks_text : {E : Type 0} (term : Bool) (bytes : List ℕ) (tree : NamedTree) (r : Result (Vec ℕ Global) E) → Text bytes tree → IfOk r (λ v. ChecksTree term tree v.items) → IfOk r (λ v. ReportsText (Check term) bytes (output 0 v.items []))
-checks_text term bytes tree (Ok v) x (t, A, d, same) = record { tree = tree; term = t; type = A; is = record { text = x; typed = d; will_do = tt }; so = ap (λ (text : List ℕ). output 0 text []) same }
+pub checks_text : {E : Type 0} (term : Bool) (bytes : List ℕ) (tree : NamedTree) (r : Result (Vec ℕ Global) E) → Text bytes tree →
+    IfOk r (λ v. ChecksTree term tree v.items) → IfOk r (λ v. ReportsText (Check term) bytes (output 0 v.items []))
+checks_text term bytes tree (Ok v) x (t, A, d, same) = record {
+  tree = tree;
+  term = t;
+  type = A;
+  is = record { text = x; typed = d; will_do = tt };
+  so = ap (λ (text : List ℕ). output 0 text []) same;
+}
 checks_text term bytes tree (Err e) x h = h

@@ -1,109 +1,20 @@
--- Which texts are programs that a task can be done with, and what is the first fault of one that isn't.
--- A text is judged in this order: it is read, its scope and its types are checked, its type is looked at where a number is wanted, and
--- then whether it has a translation where it is to be run by value.
--- A program here is a term; what is done with it is told elsewhere.
-use Rattle.std.specs.Prelude.{◌≡◌, ◌≢◌, ◌⊎◌, ℕ, List, [], Ok, Err}
-use Rattle.pcf_values.specs.Terms.{TyTree, nat, TermTree}
-use Rattle.pcf_values.specs.Typing.{HasType}
-use Rattle.pcf_values.specs.Named.{NamedTree}
-use Rattle.pcf_reader.specs.declared.fault.ReadFault.{ReadFault}
-use Rattle.pcf_reader.specs.Correct.{Text, FirstFault}
-use Rattle.pcf_types.specs.declared.fault.TypeFault.{TypeFault}
-use Rattle.pcf_types.specs.Checking.{type_of}
-use Rattle.cbv_terms.specs.declared.fault.ByValueFault.{ByValueFault}
-use Rattle.cbv_terms.specs.Faults.{IsFirstFault, IsFaultless}
-use Rattle.cbv_terms.specs.Translation.{HasTranslation, translated}
-use Rattle.net_build.specs.Nets.{NetTree}
-use Rattle.net_build.specs.NetOf.{net_of}
+-- The faults of programs' texts among all the faults that a task may meet.
+-- Which texts are programs, and what is the first fault of one that isn't, stands in `program_runs`.
+use Rattle.std.specs.Prelude.{◌⊎◌, ℕ, List}
+use Rattle.pcf_values.specs.Terms.{TermTree}
+use Rattle.program_runs.specs.declared.fault.ProgramFault.{ProgramFault}
+use Rattle.program_runs.specs.Programs.{Wanted, number, FaultyProgram, OfGround}
 use Rattle.goi_tasks.specs.declared.fault.Fault.{Fault}
-use Rattle.goi_tasks.specs.declared.fault.Fault.TheVariants.{Read, Typing, NotGround, ByValue}
+use Rattle.goi_tasks.specs.declared.fault.Fault.TheVariants.{Program}
 
--- what is wanted of a program: that it has a type, that its type is `nat`, or that it is a number and has a translation by value
-pub data Wanted : Type 0 where
-  any_type : Wanted
-  number : Wanted
-  strict_number : Wanted
+-- it is a fault of a program, of which this holds
+pub data IsProgramFault (P : ProgramFault → Type 0) : Fault → Type 0 where
+  no_program : (f : ProgramFault) → P f → IsProgramFault P (Program f)
 
--- a program of this tree and this type will do
-abbrev pub WillDo : Wanted → NamedTree → TyTree → Type 0
-WillDo any_type tree A = Unit {0}
-WillDo number tree A = A ≡ nat
-WillDo strict_number tree A = (A ≡ nat) × IsFaultless tree
-
--- the text stands for this tree, which is this term of this type, and the type will do
-pub record IsProgram (wanted : Wanted) (bytes : List ℕ) (tree : NamedTree) (t : TermTree) (A : TyTree) : Type 0 where
-  pub text : Text bytes tree
-  pub typed : type_of [] tree ≡ Ok (t, A)
-  pub will_do : WillDo wanted tree A
-
--- the text is a program of this term, whose type is `nat`
-abbrev pub IsGround : List ℕ → TermTree → Type 0
-IsGround bytes t = (tree : NamedTree) × IsProgram number bytes tree t nat
-
--- and this is so of it
-abbrev pub OfGround : List ℕ → (TermTree → Type 0) → Type 0
-OfGround bytes P = (t : TermTree) × IsGround bytes t × P t
-
--- the tree is refused for this fault, which is its first
-pub data FaultyTree (wanted : Wanted) (tree : NamedTree) : Fault → Type 0 where
-  -- its scope or its types are at fault
-  untyped : (f : TypeFault) → type_of [] tree ≡ Err f → FaultyTree wanted tree (Typing f)
-  -- a number is wanted, and it has another type
-  no_number : (t : TermTree) (A : TyTree) → wanted ≢ any_type → type_of [] tree ≡ Ok (t, A) → A ≢ nat → FaultyTree wanted tree NotGround
-  -- it is a number that is to be run by value, and has no translation
-  untranslated : (t : TermTree) (f : ByValueFault) → wanted ≡ strict_number → type_of [] tree ≡ Ok (t, nat) → IsFirstFault tree f → FaultyTree wanted tree (ByValue f)
-
--- the text is refused for this fault, which is its first
-pub data FaultyText (wanted : Wanted) (bytes : List ℕ) : Fault → Type 0 where
-  -- it stands for no tree
-  unread : (f : ReadFault) → FirstFault bytes f → FaultyText wanted bytes (Read f)
-  -- it stands for a tree that is refused
-  of_tree : (tree : NamedTree) (f : Fault) → Text bytes tree → FaultyTree wanted tree f → FaultyText wanted bytes f
+-- the text is refused as such a program for this fault, which is its first
+abbrev pub FaultyText : Wanted → List ℕ → Fault → Type 0
+FaultyText wanted bytes = IsProgramFault (FaultyProgram wanted bytes)
 
 -- a program's text is refused for this fault, or it is a program whose term is a number, and a second text is refused for it
 abbrev pub FaultyEither : List ℕ → (TermTree → Type 0) → Fault → Type 0
 FaultyEither bytes second f = FaultyText number bytes f ⊎ OfGround bytes second
-
--- this is the fault of a program of a type other than `nat`
-pub data IsUnfit (A : TyTree) : Fault → Type 0 where
-  other_type : A ≢ nat → IsUnfit A NotGround
-
--- this is the net of the tree's term, whose type is `nat`
-pub record IsNetOfTree (tree : NamedTree) (net : NetTree) : Type 0 where
-  pub term : TermTree
-  pub accepted : type_of [] tree ≡ Ok (term, nat)
-  pub typed : HasType [] term nat
-  pub net_is : net ≡ net_of term
-
--- this is the net of the text's program, whose type is `nat`
-pub record IsNet (bytes : List ℕ) (net : NetTree) : Type 0 where
-  pub term : TermTree
-  pub ground : IsGround bytes term
-  pub typed : HasType [] term nat
-  pub net_is : net ≡ net_of term
-
--- this program runs the tree's term by value, which is of type `nat` and has a translation
-pub record IsTranslated (tree : NamedTree) (p : TermTree × TyTree) : Type 0 where
-  pub term : TermTree
-  pub accepted : type_of [] tree ≡ Ok (term, nat)
-  pub typed : HasType [] term nat
-  pub faultless : IsFaultless tree
-  pub has : HasTranslation term
-  pub runs : HasType [] (translated term) nat
-  pub is : p ≡ (translated term, nat)
-
--- this is the net that runs the tree's term by value, which is of type `nat` and has a translation
-pub record IsStrictNetOfTree (tree : NamedTree) (net : NetTree) : Type 0 where
-  pub term : TermTree
-  pub accepted : type_of [] tree ≡ Ok (term, nat)
-  pub typed : HasType [] term nat
-  pub faultless : IsFaultless tree
-  pub has : HasTranslation term
-  pub runs : HasType [] (translated term) nat
-  pub net_is : net ≡ net_of (translated term)
-
--- and that of the text's program
-pub record IsStrictNet (bytes : List ℕ) (net : NetTree) : Type 0 where
-  pub tree : NamedTree
-  pub text : Text bytes tree
-  pub made : IsStrictNetOfTree tree net

@@ -17,6 +17,8 @@ use Rattle.net_text.specs.declared.fault.NetTextFault.{NetTextFault}
 use Rattle.net_text.specs.declared.fault.NetTextFault.TheVariants as net_text
 use Rattle.batch_lists.specs.declared.fault.BatchFault.{BatchFault}
 use Rattle.batch_lists.specs.declared.fault.BatchFault.TheVariants as batch
+use Rattle.program_runs.specs.declared.fault.ProgramFault.{ProgramFault}
+use Rattle.program_runs.specs.declared.fault.ProgramFault.TheVariants as program
 use Rattle.goi_tasks.specs.declared.fault.Fault.{Fault}
 use Rattle.goi_tasks.specs.declared.fault.Fault.TheVariants as fault
 use Rattle.goi_tasks.specs.declared.refusal.Refusal.{Refusal}
@@ -77,6 +79,13 @@ by_value_fault_line (by_value.ByValueFix at) = placed_line (codes "ByValueFix") 
 by_value_fault_line (by_value.ByValuePair at) = placed_line (codes "ByValuePair") at
 by_value_fault_line by_value.ByValueDeep = plain_line (codes "ByValueDeep")
 
+-- the line of a fault of a program
+abbrev pub program_fault_line : ProgramFault → List ℕ
+program_fault_line (program.Read f) = read_fault_line f
+program_fault_line (program.Typing f) = type_fault_line f
+program_fault_line program.NotGround = plain_line (codes "NotGround")
+program_fault_line (program.ByValue f) = by_value_fault_line f
+
 -- a net that isn't sound is refused with its own fault
 abbrev pub unsound_line : NetFault → List ℕ
 unsound_line unsound.NoMemory = plain_line (codes "NoMemory")
@@ -102,10 +111,7 @@ batch_fault_line batch.NoEnd = plain_line (codes "NoEnd")
 
 -- the line of a fault
 abbrev pub fault_line : Fault → List ℕ
-fault_line (fault.Read f) = read_fault_line f
-fault_line (fault.Typing f) = type_fault_line f
-fault_line fault.NotGround = plain_line (codes "NotGround")
-fault_line (fault.ByValue f) = by_value_fault_line f
+fault_line (fault.Program f) = program_fault_line f
 fault_line (fault.NetText f) = net_text_fault_line f
 fault_line (fault.Schedule f) = schedule_fault_line f
 fault_line (fault.Moves f) = replay_fault_line f
@@ -113,10 +119,7 @@ fault_line (fault.Batch f) = batch_fault_line f
 
 -- the status of a fault: 1 where a program has it, and 7 where a schedule, a net file or a list has
 abbrev pub fault_status : Fault → ℕ
-fault_status (fault.Read f) = 1
-fault_status (fault.Typing f) = 1
-fault_status fault.NotGround = 1
-fault_status (fault.ByValue f) = 1
+fault_status (fault.Program f) = 1
 fault_status (fault.NetText f) = 7
 fault_status (fault.Schedule f) = 7
 fault_status (fault.Moves f) = 7

@@ -1,12 +1,13 @@
 -- What comes of a text is settled by its bytes: it is right and ends with one status, or it has one fault.
 use Rattle.std.specs.Prelude.{◌≡◌, ℕ, Bool, false, List, Option, None}
 use Rattle.pcf_values.specs.declared.val.Val.{Val}
+use Rattle.program_runs.specs.Programs.{OfGround}
 use Rattle.goi_tasks.specs.declared.fault.Fault.{Fault}
 use Rattle.goi_tasks.specs.declared.task.Task.{Task}
 use Rattle.goi_tasks.specs.declared.task.Task.TheVariants.{Run}
 use Rattle.goi_tasks.specs.Alone.{TellsText}
 use Rattle.goi_tasks.specs.Outputs.{Output}
-use Rattle.goi_tasks.specs.Programs.{FaultyEither, OfGround}
+use Rattle.goi_tasks.specs.Programs.{FaultyEither}
 use Rattle.goi_tasks.specs.Replaying.{replay_status, ReportsReplay, EndsReplay, FaultySchedule}
 use Rattle.goi_tasks.specs.Tasks.{ReportsText, FaultyFor, EndsText}
 

@@ -1,6 +1,6 @@
 -- What is done with the text of one file: the output, the first fault of a text with which it can't be done, and the status with which
 -- it ends. The text is that of a program, or the listing of a program's net.
-use Rattle.std.specs.Prelude.{◌≡◌, ℕ, Bool, true, false, List, [], Ok}
+use Rattle.std.specs.Prelude.{◌≡◌, ℕ, Bool, false, List, [], Ok}
 use Rattle.pcf_values.specs.Most.{most_program_bytes}
 use Rattle.pcf_values.specs.Terms.{TyTree, TermTree}
 use Rattle.pcf_values.specs.Named.{NamedTree}
@@ -9,6 +9,8 @@ use Rattle.net_build.specs.NetOf.{net_of}
 use Rattle.net_text.specs.Accepted.{ListsProgram}
 use Rattle.net_text.specs.Limits.{most_text_bytes}
 use Rattle.net_text.specs.Listing.{listing}
+use Rattle.program_runs.specs.Programs.{any_type, number, OfProgram, wanted_by_run}
+use Rattle.program_runs.specs.Running.{net_run}
 use Rattle.goi_words.specs.Jobs.{IsWorkers, IsBudget, IsWindow}
 use Rattle.goi_reports.specs.Reports.{check_report}
 use Rattle.goi_tasks.specs.declared.fault.Fault.{Fault}
@@ -16,23 +18,10 @@ use Rattle.goi_tasks.specs.declared.task.Task.{Task}
 use Rattle.goi_tasks.specs.declared.task.Task.TheVariants.{Run, Check, ShowNet, RunNet, Trace}
 use Rattle.goi_tasks.specs.NetFiles.{FaultyListing}
 use Rattle.goi_tasks.specs.Outputs.{Output, output}
-use Rattle.goi_tasks.specs.Programs.{Wanted, any_type, number, strict_number, IsProgram, FaultyText}
-use Rattle.goi_tasks.specs.Running.{net_run, ReportsRun, ReportsTrace, EndsRun}
+use Rattle.goi_tasks.specs.Programs.{FaultyText}
+use Rattle.goi_tasks.specs.Running.{ReportsRun, ReportsTrace, EndsRun}
 
--- ---- programs
-
--- what a run wants of its program
-abbrev pub wanted_by_run : Bool → Wanted
-wanted_by_run false = number
-wanted_by_run true = strict_number
-
--- the text is such a program, and this is so of its tree, its term and its type
-pub record OfProgram (wanted : Wanted) (bytes : List ℕ) (P : NamedTree → TermTree → TyTree → Type 0) : Type 0 where
-  pub tree : NamedTree
-  pub term : TermTree
-  pub type : TyTree
-  pub is : IsProgram wanted bytes tree term type
-  pub so : P tree term type
+-- ---- listings
 
 -- the bytes list the net of a program, of whose term this is so
 pub record OfListing (bytes : List ℕ) (P : TermTree → Type 0) : Type 0 where

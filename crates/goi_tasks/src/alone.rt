@@ -6,31 +6,32 @@ ghost use Rattle.pcf_values.specs.Terms.{TermTree, nat};
 ghost use Rattle.pcf_values.specs.Typing.{HasType};
 ghost use Rattle.net_build.specs.NetOf.{net_of};
 ghost use Rattle.interleave_laws.specs.Runs.{Runs};
+ghost use Rattle.program_runs.specs.Programs.{any_type, number, strict_number, OfGround};
 ghost use Rattle.goi_words.specs.Jobs.{IsBudget};
 ghost use Rattle.goi_tasks.specs.declared.task.Task.TheVariants.{Run, Check, ShowNet, RunNet, Trace};
-ghost use Rattle.goi_tasks.specs.Alone.{RanTo, TellsText};
+ghost use Rattle.goi_tasks.specs.Alone.{TellsText};
 ghost use Rattle.goi_tasks.specs.NetFiles.{FaultyListing};
 ghost use Rattle.goi_tasks.specs.Outputs.{output_of};
-ghost use Rattle.goi_tasks.specs.Programs.{any_type, number, strict_number, FaultyEither, FaultyText, OfGround};
+ghost use Rattle.goi_tasks.specs.Programs.{FaultyEither, FaultyText};
 ghost use Rattle.goi_tasks.specs.Replaying.{ReportsReplay, FaultySchedule};
 ghost use Rattle.goi_tasks.specs.Running.{ReportsRun, ReportsTrace};
 ghost use Rattle.goi_tasks.specs.Stops.{StopsFor};
 ghost use Rattle.goi_tasks.specs.Tasks.{ReportsText, FaultyFor};
 
 use crate::net_file::net_of_listing;
-use crate::program::{check_text, net_by_value, net_of_text};
+use crate::program::{check_text, net_by_value, net_of_text, run_asked};
 use crate::replaying::report_replay;
 use crate::report::{Report, plain};
-use crate::running::{status_of, told_walk};
+use crate::running::{report_ran, status_of, told_walk};
 use crate::stop::Stop;
-use adequacy_laws::{law_finished, law_never_stuck};
+use adequacy_laws::law_never_stuck;
 use cbv_terms::law_by_value;
-use goi_reports::run_report;
 use goi_words::Window;
 use net_build::Net;
 use net_runs::run_alone;
 use net_text::print_net;
 use pcf_values::Val;
+use program_runs::law_tells;
 use std::alloc::{AllocError, Global};
 
 /// What a run came to.
@@ -52,49 +53,7 @@ pub fn tell_text(alloc: Global, bytes: &[u8], budget: u32, by_value: bool) -> Re
     ensures told { IfOk result (λ r. TellsText by_value budget bytes.now r.answer r.moves) }
     ensures fault { IfErr result (λ e. StopsFor (FaultyFor (Run 1 budget false false by_value false) bytes.now) e) }
 {
-    if by_value {
-        tell_by_value(alloc, bytes, budget)
-    } else {
-        tell_by_name(alloc, bytes, budget)
-    }
-}
-
-/// What the run of a text's program by name comes to.
-fn tell_by_name(alloc: Global, bytes: &[u8], budget: u32) -> Result<Told, Stop>
-    requires budget { IsBudget budget }
-    ensures told { IfOk result (λ r. TellsText false budget bytes.now r.answer r.moves) }
-    ensures fault { IfErr result (λ e. StopsFor (FaultyText number bytes.now) e) }
-{
-    law_never_stuck();
-    law_finished();
-    let net = net_of_text(alloc, bytes)?;
-    let told = tell_net(alloc, &net, budget);
-    drop(net);
-    Ok(told?)
-}
-
-/// What the run of a text's program by value comes to.
-fn tell_by_value(alloc: Global, bytes: &[u8], budget: u32) -> Result<Told, Stop>
-    requires budget { IsBudget budget }
-    ensures told { IfOk result (λ r. TellsText true budget bytes.now r.answer r.moves) }
-    ensures fault { IfErr result (λ e. StopsFor (FaultyText strict_number bytes.now) e) }
-{
-    law_never_stuck();
-    law_finished();
-    law_by_value();
-    let net = net_by_value(alloc, bytes)?;
-    let told = tell_net(alloc, &net, budget);
-    drop(net);
-    Ok(told?)
-}
-
-/// What the run of a net comes to.
-fn tell_net(alloc: Global, net: &Net, budget: u32) -> Result<Told, AllocError>
-    requires runs { Runs net.now }
-    requires budget { IsBudget budget }
-    ensures { IfOk result (λ r. RanTo net.now budget r.answer r.moves) }
-{
-    let ended = run_alone(alloc, net, budget)?;
+    let ended = run_asked(alloc, bytes, budget, by_value)?;
     let told = Told {
         answer: ended.answer,
         moves: ended.log.len(),
@@ -121,11 +80,10 @@ pub fn run_text_alone(
     ensures report { IfOk result (λ r. ReportsText (Run 1 budget schedule tally by_value false) bytes.now (output_of r)) }
     ensures fault { IfErr result (λ e. StopsFor (FaultyFor (Run 1 budget schedule tally by_value false) bytes.now) e) }
 {
-    if by_value {
-        run_by_value(alloc, bytes, budget, schedule, tally)
-    } else {
-        run_by_name(alloc, bytes, budget, schedule, tally)
-    }
+    let ended = run_asked(alloc, bytes, budget, by_value)?;
+    let report = report_ran(alloc, ended.answer, &ended.log, 1, schedule, tally);
+    drop(ended);
+    Ok(report?)
 }
 
 /// The report of a run of the program whose net a text lists.
@@ -151,45 +109,6 @@ pub fn run_listing_alone(
     Ok(report?)
 }
 
-/// The report of a run of a text's program by name.
-fn run_by_name(
-    alloc: Global,
-    bytes: &[u8],
-    budget: u32,
-    schedule: bool,
-    tally: bool,
-) -> Result<Report, Stop>
-    requires budget { IsBudget budget }
-    ensures report { IfOk result (λ r. ReportsText (Run 1 budget schedule tally false false) bytes.now (output_of r)) }
-    ensures fault { IfErr result (λ e. StopsFor (FaultyText number bytes.now) e) }
-{
-    law_never_stuck();
-    let net = net_of_text(alloc, bytes)?;
-    let report = report_alone(alloc, &net, budget, schedule, tally);
-    drop(net);
-    Ok(report?)
-}
-
-/// The report of a run of a text's program by value.
-fn run_by_value(
-    alloc: Global,
-    bytes: &[u8],
-    budget: u32,
-    schedule: bool,
-    tally: bool,
-) -> Result<Report, Stop>
-    requires budget { IsBudget budget }
-    ensures report { IfOk result (λ r. ReportsText (Run 1 budget schedule tally true false) bytes.now (output_of r)) }
-    ensures fault { IfErr result (λ e. StopsFor (FaultyText strict_number bytes.now) e) }
-{
-    law_never_stuck();
-    law_by_value();
-    let net = net_by_value(alloc, bytes)?;
-    let report = report_alone(alloc, &net, budget, schedule, tally);
-    drop(net);
-    Ok(report?)
-}
-
 /// The report of a run of a net.
 fn report_alone(
     alloc: Global,
@@ -203,12 +122,11 @@ fn report_alone(
     ensures { IfOk result (λ r. (t : TermTree) → HasType [] t nat → net.now ≡ net_of t →
         ReportsRun 1 budget schedule tally false false t (output_of r)) }
 {
-    law_finished();
+    law_tells();
     let ended = run_alone(alloc, net, budget)?;
-    let answer = ended.answer;
-    let text = run_report(alloc, answer, &ended.log, 1, schedule, tally);
+    let report = report_ran(alloc, ended.answer, &ended.log, 1, schedule, tally);
     drop(ended);
-    Ok(plain(alloc, text?, status_of(answer)))
+    report
 }
 
 /// The report of a run of a text's program within a budget of moves, by value where asked, and behind it this part of the run's trace.
@@ -268,7 +186,7 @@ fn trace_alone(alloc: Global, net: &Net, budget: u32, window: Window) -> Result<
     ensures { IfOk result (λ r. (t : TermTree) → HasType [] t nat → net.now ≡ net_of t →
         ReportsTrace 1 budget false window t (output_of r)) }
 {
-    law_finished();
+    law_tells();
     let walked = run_alone(alloc, net, budget)?;
     let answer = walked.answer;
     let text = told_walk(alloc, net, answer, &walked.log, 1, budget, window);

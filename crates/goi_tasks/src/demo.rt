@@ -1,27 +1,21 @@
 //! The run of the generated program.
 
-ghost use Rattle.std.specs.Prelude.{◌≡◌, [], IfOk};
-ghost use Rattle.pcf_values.specs.Terms.{nat, size};
-ghost use Rattle.pcf_values.specs.Typing.{HasType};
+ghost use Rattle.std.specs.Prelude.{◌≡◌, IfOk};
+ghost use Rattle.pcf_values.specs.Terms.{size};
+ghost use Rattle.cbn_meaning.specs.Meaning.{Means};
 ghost use Rattle.net_build.specs.NetOf.{net_of};
-ghost use Rattle.interleave_laws.specs.Runs.{Runs};
 ghost use Rattle.demo_text.specs.Demo.{demo_term};
 ghost use Rattle.goi_words.specs.Jobs.{IsDemo, IsWorkers};
-ghost use Rattle.net_runs.specs.Running.{IsRun};
+ghost use Rattle.program_runs.specs.Running.{IsProgramRun};
 ghost use Rattle.goi_tasks.specs.Outputs.{output_of};
 ghost use Rattle.goi_tasks.specs.Running.{ReportsDemo, demo_budget};
 
-use crate::program::net_of_text;
 use crate::report::{Report, plain};
 use crate::running::status_of;
-use crate::stop::Stop;
-use adequacy_laws::{law_finished, law_never_stuck};
 use demo_text::{demo_text, law_demo_is_typed, law_demo_size};
 use gate_workers::Gate;
 use goi_reports::demo_report;
-use net_build::Net;
-use net_runs::run_net;
-use pcf_reader::{law_one_tree, law_text_or_fault};
+use program_runs::{NoRun, law_one_program, run_program_together};
 use std::alloc::{AllocError, Global};
 use std::sync::Wait;
 use std::thread::Threads;
@@ -42,7 +36,6 @@ pub fn report_demo<R: Threads + Wait + Sync, G: Gate>(
     requires workers { IsWorkers workers }
     ensures { IfOk result (λ r. ReportsDemo n workers (output_of r)) }
 {
-    law_finished();
     let ended = run_demo(rt, alloc, n, workers, gate)?;
     let answer = ended.answer;
     let text = demo_report(alloc, n, nodes_of(n), answer, ended.log.len());
@@ -60,31 +53,15 @@ fn run_demo<R: Threads + Wait + Sync, G: Gate>(
 ) -> Result<Ended, AllocError>
     requires n { IsDemo n }
     requires workers { IsWorkers workers }
-    ensures run { IfOk result (λ r. IsRun (net_of (demo_term n)) workers demo_budget r.answer r.log.entries) }
-    ensures typed { IfOk result (λ r. HasType [] (demo_term n) nat) }
+    ensures { IfOk result (λ r. IsProgramRun (Means (demo_term n)) (net_of (demo_term n)) workers demo_budget r.answer r.log.entries) }
 {
-    let net = demo_net(alloc, n)?;
-    let run = run_net(rt, alloc, &net, BUDGET, workers, gate);
-    drop(net);
-    run
-}
-
-/// The net of the generated program of a number.
-fn demo_net(alloc: Global, n: u32) -> Result<Net, AllocError>
-    requires { IsDemo n }
-    ensures net { IfOk result (λ net. net ≡ net_of (demo_term n)) }
-    ensures typed { IfOk result (λ net. HasType [] (demo_term n) nat) }
-    ensures runs { IfOk result (λ net. Runs net) }
-{
-    law_never_stuck();
     law_demo_is_typed();
-    law_one_tree();
-    law_text_or_fault();
+    law_one_program();
     let text = demo_text(alloc, n)?;
-    match net_of_text(alloc, &text) {
-        Ok(net) => Ok(net),
-        Err(Stop::Memory) => Err(AllocError),
-        Err(Stop::Fault(_)) => unreachable!(),
+    match run_program_together(rt, alloc, &text, BUDGET, workers, gate) {
+        Ok(ended) => Ok(ended),
+        Err(NoRun::Memory) => Err(AllocError),
+        Err(NoRun::Fault(_)) => unreachable!(),
     }
 }
 

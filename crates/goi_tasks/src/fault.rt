@@ -1,24 +1,16 @@
 //! Faults of programs, of net files, of schedules and of lists.
 
 use batch_lists::BatchFault;
-use cbv_terms::ByValueFault;
 use net_text::NetTextFault;
-use pcf_reader::ReadFault;
-use pcf_types::TypeFault;
+use program_runs::ProgramFault;
 use replay_check::ReplayFault;
 use schedule_log::ScheduleFault;
 
 /// Why a program, a net file, a schedule or a list of programs is refused.
 #[derive(Clone, Copy)]
 pub enum Fault {
-    /// The program's text isn't in the grammar, or passes a limit.
-    Read(ReadFault),
-    /// Its scope or its types are at fault.
-    Typing(TypeFault),
-    /// Its type isn't `nat`.
-    NotGround,
-    /// It has no translation by value.
-    ByValue(ByValueFault),
+    /// The program's text has a fault.
+    Program(ProgramFault),
     /// The file isn't the listing of a program's net.
     NetText(NetTextFault),
     /// The schedule's text isn't in the grammar, or passes a limit.

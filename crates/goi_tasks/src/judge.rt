@@ -1,19 +1,20 @@
 //! A task on a text: the report, or the first fault.
 
 ghost use Rattle.std.specs.Prelude.{◌≡◌, [], true, false, IfOk, IfErr};
+ghost use Rattle.program_runs.specs.Programs.{number, strict_number, wanted_by_run};
 ghost use Rattle.goi_words.specs.Jobs.{IsBudget, IsWorkers};
 ghost use Rattle.goi_tasks.specs.declared.task.Task.TheVariants.{Run, RunNet, Trace};
 ghost use Rattle.goi_tasks.specs.NetFiles.{FaultyListing};
 ghost use Rattle.goi_tasks.specs.Outputs.{output_of};
-ghost use Rattle.goi_tasks.specs.Programs.{number, strict_number, FaultyText};
+ghost use Rattle.goi_tasks.specs.Programs.{FaultyText};
 ghost use Rattle.goi_tasks.specs.Stops.{StopsFor};
 ghost use Rattle.goi_tasks.specs.Tasks.{IsWithin, ReportsText, FaultyFor};
 
 use crate::alone::{check_alone, list_alone};
 use crate::net_file::net_of_listing;
-use crate::program::{net_by_value, net_of_text};
+use crate::program::{net_by_value, net_of_text, run_asked_together};
 use crate::report::Report;
-use crate::running::{report_run, report_trace};
+use crate::running::{report_ran, report_run, report_trace, report_watched};
 use crate::stop::Stop;
 use crate::task::Task;
 use adequacy_laws::law_never_stuck;
@@ -42,21 +43,27 @@ pub fn report_text<R: Threads + Wait + Sync, G: Gate>(
             budget,
             schedule,
             tally,
-            by_value: false,
-            progress,
+            by_value,
+            progress: false,
         } => run_text(
-            rt, alloc, bytes, workers, budget, schedule, tally, progress, gate,
+            rt, alloc, bytes, workers, budget, schedule, tally, by_value, gate,
         ),
         Task::Run {
             workers,
             budget,
             schedule,
             tally,
+            by_value: false,
+            progress: true,
+        } => watch_by_name(rt, alloc, bytes, workers, budget, schedule, tally, gate),
+        Task::Run {
+            workers,
+            budget,
+            schedule,
+            tally,
             by_value: true,
-            progress,
-        } => run_by_value(
-            rt, alloc, bytes, workers, budget, schedule, tally, progress, gate,
-        ),
+            progress: true,
+        } => watch_by_value(rt, alloc, bytes, workers, budget, schedule, tally, gate),
         Task::Check { term } => check_alone(alloc, bytes, term),
         Task::ShowNet => list_alone(alloc, bytes),
         Task::RunNet {
@@ -80,7 +87,7 @@ pub fn report_text<R: Threads + Wait + Sync, G: Gate>(
     }
 }
 
-/// The report of a run of a text's program.
+/// The report of a run of a text's program, by value where asked.
 fn run_text<R: Threads + Wait + Sync, G: Gate>(
     rt: &R,
     alloc: Global,
@@ -89,25 +96,22 @@ fn run_text<R: Threads + Wait + Sync, G: Gate>(
     budget: u32,
     schedule: bool,
     tally: bool,
-    progress: bool,
+    by_value: bool,
     gate: &G,
 ) -> Result<Report, Stop>
     requires workers { IsWorkers workers }
     requires budget { IsBudget budget }
-    ensures report { IfOk result (λ r. ReportsText (Run workers budget schedule tally false progress) bytes.now (output_of r)) }
-    ensures fault { IfErr result (λ e. StopsFor (FaultyText number bytes.now) e) }
+    ensures report { IfOk result (λ r. ReportsText (Run workers budget schedule tally by_value false) bytes.now (output_of r)) }
+    ensures fault { IfErr result (λ e. StopsFor (FaultyText (wanted_by_run by_value) bytes.now) e) }
 {
-    law_never_stuck();
-    let net = net_of_text(alloc, bytes)?;
-    let report = report_run(
-        rt, alloc, &net, workers, budget, schedule, tally, progress, gate,
-    );
-    drop(net);
+    let ended = run_asked_together(rt, alloc, bytes, budget, workers, by_value, gate)?;
+    let report = report_ran(alloc, ended.answer, &ended.log, workers, schedule, tally);
+    drop(ended);
     Ok(report?)
 }
 
-/// The report of a run of a text's program by value.
-fn run_by_value<R: Threads + Wait + Sync, G: Gate>(
+/// The report of a run of a text's program, with its progress.
+fn watch_by_name<R: Threads + Wait + Sync, G: Gate>(
     rt: &R,
     alloc: Global,
     bytes: &[u8],
@@ -115,20 +119,40 @@ fn run_by_value<R: Threads + Wait + Sync, G: Gate>(
     budget: u32,
     schedule: bool,
     tally: bool,
-    progress: bool,
     gate: &G,
 ) -> Result<Report, Stop>
     requires workers { IsWorkers workers }
     requires budget { IsBudget budget }
-    ensures report { IfOk result (λ r. ReportsText (Run workers budget schedule tally true progress) bytes.now (output_of r)) }
+    ensures report { IfOk result (λ r. ReportsText (Run workers budget schedule tally false true) bytes.now (output_of r)) }
+    ensures fault { IfErr result (λ e. StopsFor (FaultyText number bytes.now) e) }
+{
+    law_never_stuck();
+    let net = net_of_text(alloc, bytes)?;
+    let report = report_watched(rt, alloc, &net, workers, budget, schedule, tally, gate);
+    drop(net);
+    Ok(report?)
+}
+
+/// The report of a run of a text's program by value, with its progress.
+fn watch_by_value<R: Threads + Wait + Sync, G: Gate>(
+    rt: &R,
+    alloc: Global,
+    bytes: &[u8],
+    workers: u32,
+    budget: u32,
+    schedule: bool,
+    tally: bool,
+    gate: &G,
+) -> Result<Report, Stop>
+    requires workers { IsWorkers workers }
+    requires budget { IsBudget budget }
+    ensures report { IfOk result (λ r. ReportsText (Run workers budget schedule tally true true) bytes.now (output_of r)) }
     ensures fault { IfErr result (λ e. StopsFor (FaultyText strict_number bytes.now) e) }
 {
     law_never_stuck();
     law_by_value();
     let net = net_by_value(alloc, bytes)?;
-    let report = report_run(
-        rt, alloc, &net, workers, budget, schedule, tally, progress, gate,
-    );
+    let report = report_watched(rt, alloc, &net, workers, budget, schedule, tally, gate);
     drop(net);
     Ok(report?)
 }
@@ -196,9 +220,7 @@ fn run_listing<R: Threads + Wait + Sync, G: Gate>(
 {
     law_never_stuck();
     let net = net_of_listing(alloc, bytes)?;
-    let report = report_run(
-        rt, alloc, &net, workers, budget, schedule, tally, false, gate,
-    );
+    let report = report_run(rt, alloc, &net, workers, budget, schedule, tally, gate);
     drop(net);
     Ok(report?)
 }

@@ -1,30 +1,32 @@
-//! From the text of a program to its type, or to its net.
+//! From the text of a program to its type, to the net on which it runs, and to its run.
 
-ghost use Rattle.std.specs.Prelude.{◌≡◌, ◌<◌, ◌≤◌, ◌+◌, ◌*◌, [], ◌↔◌, Ok, IsTrue, IfOk, IfErr};
-ghost use Rattle.pcf_values.specs.Most.{most_nodes};
-ghost use Rattle.pcf_values.specs.Terms.{nat, size, height};
-ghost use Rattle.pcf_values.specs.Typing.{HasType};
-ghost use Rattle.pcf_values.specs.Named.{named_size, named_height};
+ghost use Rattle.std.specs.Prelude.{◌≡◌, ◌≤◌, [], true, false, IfOk, IfErr};
+ghost use Rattle.pcf_values.specs.Named.{named_height};
 ghost use Rattle.pcf_values.specs.Views.{named_of};
-ghost use Rattle.pcf_types.specs.Checking.{type_of};
-ghost use Rattle.cbv_terms.specs.Faults.{IsFaultless};
-ghost use Rattle.cbv_terms.specs.Translation.{Accepted, translated};
-ghost use Rattle.net_build.specs.NetOf.{net_of};
+ghost use Rattle.program_runs.specs.Nets.{IsNet, IsStrictNet};
+ghost use Rattle.program_runs.specs.Programs.{any_type, number, strict_number, wanted_by_run, FaultyTree};
+ghost use Rattle.program_runs.specs.Running.{RunsText};
+ghost use Rattle.goi_words.specs.Jobs.{IsBudget, IsWorkers};
 ghost use Rattle.goi_tasks.specs.declared.task.Task.TheVariants.{Check};
 ghost use Rattle.goi_tasks.specs.Outputs.{output};
-ghost use Rattle.goi_tasks.specs.Programs.{any_type, number, strict_number, FaultyText, FaultyTree, IsNet, IsNetOfTree, IsStrictNet, IsStrictNetOfTree, IsTranslated, IsUnfit};
+ghost use Rattle.goi_tasks.specs.Programs.{FaultyText, IsProgramFault};
 ghost use Rattle.goi_tasks.specs.Stops.{StopsFor};
 ghost use Rattle.goi_tasks.specs.Tasks.{ReportsText, ChecksTree};
 
-use crate::fault::Fault;
 use crate::stop::Stop;
-use cbv_terms::{by_value, law_translated};
+use gate_workers::Gate;
 use goi_reports::check_report;
-use net_build::{Net, build, law_net_size};
+use net_build::Net;
 use pcf_reader::{law_bounded, read_program};
-use pcf_types::{ground, law_keeps_size, resolve_and_type};
-use pcf_values::{Named, Typed};
-use std::alloc::{AllocError, Global};
+use pcf_types::resolve_and_type;
+use pcf_values::Named;
+use program_runs::{
+    run_program, run_program_by_value, run_program_by_value_together, run_program_together,
+};
+use std::alloc::Global;
+use std::sync::Wait;
+use std::thread::Threads;
+use token_pool::Ended;
 
 /// The report on the type of a text's program, and with `term` on the program itself; or the text's first fault.
 pub(crate) fn check_text(alloc: Global, bytes: &[u8], term: bool) -> Result<Vec<u8>, Stop>
@@ -42,7 +44,7 @@ pub(crate) fn check_text(alloc: Global, bytes: &[u8], term: bool) -> Result<Vec<
 fn check_tree(alloc: Global, tree: &Named, term: bool) -> Result<Vec<u8>, Stop>
     requires height { named_height (named_of tree.now) ≤ 2600 }
     ensures report { IfOk result (λ v. ChecksTree term (named_of tree.now) v.items) }
-    ensures fault { IfErr result (λ e. StopsFor (FaultyTree any_type (named_of tree.now)) e) }
+    ensures fault { IfErr result (λ e. StopsFor (IsProgramFault (FaultyTree any_type (named_of tree.now))) e) }
 {
     let program = resolve_and_type(alloc, tree)?;
     let report = check_report(alloc, program.ty(), term, tree);
@@ -55,40 +57,7 @@ pub fn net_of_text(alloc: Global, bytes: &[u8]) -> Result<Net, Stop>
     ensures net { IfOk result (λ net. IsNet bytes.now net) }
     ensures fault { IfErr result (λ e. StopsFor (FaultyText number bytes.now) e) }
 {
-    law_bounded();
-    let tree = read_program(alloc, bytes)?;
-    let net = net_of_tree(alloc, &tree);
-    drop(tree);
-    net
-}
-
-/// The net of a tree.
-fn net_of_tree(alloc: Global, tree: &Named) -> Result<Net, Stop>
-    requires size { named_size (named_of tree.now) ≤ most_nodes }
-    requires height { named_height (named_of tree.now) ≤ 2600 }
-    ensures net { IfOk result (λ net. IsNetOfTree (named_of tree.now) net) }
-    ensures fault { IfErr result (λ e. StopsFor (FaultyTree number (named_of tree.now)) e) }
-{
-    law_keeps_size();
-    let program = resolve_and_type(alloc, tree)?;
-    let net = net_of_program(alloc, &program);
-    drop(program);
-    net
-}
-
-/// The net of a program, which has to be a number.
-fn net_of_program(alloc: Global, program: &Typed) -> Result<Net, Stop>
-    requires size { size program.now.0 ≤ most_nodes }
-    requires height { height program.now.0 ≤ 2600 }
-    ensures ground { IfOk result (λ net. program.now.1 ≡ nat) }
-    ensures typed { IfOk result (λ net. HasType [] program.now.0 nat) }
-    ensures net { IfOk result (λ net. net ≡ net_of program.now.0) }
-    ensures unfit { IfErr result (λ e. StopsFor (IsUnfit program.now.1) e) }
-{
-    if !is_ground(program) {
-        return Err(Stop::Fault(Fault::NotGround));
-    }
-    Ok(net_of(alloc, program)?)
+    Ok(program_runs::net_of_text(alloc, bytes)?)
 }
 
 /// The net that runs a text's program by value; or the text's first fault.
@@ -96,91 +65,97 @@ pub(crate) fn net_by_value(alloc: Global, bytes: &[u8]) -> Result<Net, Stop>
     ensures net { IfOk result (λ net. IsStrictNet bytes.now net) }
     ensures fault { IfErr result (λ e. StopsFor (FaultyText strict_number bytes.now) e) }
 {
-    law_bounded();
-    let tree = read_program(alloc, bytes)?;
-    let net = strict_net_of_tree(alloc, &tree);
-    drop(tree);
-    net
+    Ok(program_runs::net_by_value(alloc, bytes)?)
 }
 
-/// The net that runs a tree by value.
-fn strict_net_of_tree(alloc: Global, tree: &Named) -> Result<Net, Stop>
-    requires size { named_size (named_of tree.now) ≤ most_nodes }
-    requires height { named_height (named_of tree.now) ≤ 2600 }
-    ensures net { IfOk result (λ net. IsStrictNetOfTree (named_of tree.now) net) }
-    ensures fault { IfErr result (λ e. StopsFor (FaultyTree strict_number (named_of tree.now)) e) }
+/// The run of a text's program by one worker, by value where asked; or the text's first fault.
+pub(crate) fn run_asked(
+    alloc: Global,
+    bytes: &[u8],
+    budget: u32,
+    by_value: bool,
+) -> Result<Ended, Stop>
+    requires budget { IsBudget budget }
+    ensures run { IfOk result (λ r. RunsText by_value 1 budget bytes.now r.answer r.log.entries) }
+    ensures fault { IfErr result (λ e. StopsFor (FaultyText (wanted_by_run by_value) bytes.now) e) }
 {
-    let program = translate_tree(alloc, tree)?;
-    let net = net_of(alloc, &program);
-    drop(program);
-    Ok(net?)
-}
-
-/// The program that runs a tree by value.
-fn translate_tree(alloc: Global, tree: &Named) -> Result<Typed, Stop>
-    requires size { named_size (named_of tree.now) ≤ most_nodes }
-    requires height { named_height (named_of tree.now) ≤ 2600 }
-    ensures translated { IfOk result (λ p. IsTranslated (named_of tree.now) p) }
-    ensures size { IfOk result (λ p. size p.0 ≤ 10 * most_nodes + 3) }
-    ensures height { IfOk result (λ p. height p.0 < 2600) }
-    ensures fault { IfErr result (λ e. StopsFor (FaultyTree strict_number (named_of tree.now)) e) }
-{
-    law_keeps_size();
-    law_translated();
-    let program = resolve_and_type(alloc, tree)?;
-    let translated = translate_program(alloc, tree, &program);
-    drop(program);
-    translated
-}
-
-/// The program that runs a tree's program by value, which has to be a number.
-fn translate_program(alloc: Global, tree: &Named, program: &Typed) -> Result<Typed, Stop>
-    requires typed { type_of [] (named_of tree.now) ≡ Ok program.now }
-    ensures ground { IfOk result (λ p. program.now.1 ≡ nat) }
-    ensures typed { IfOk result (λ p. HasType [] program.now.0 nat) }
-    ensures translated { IfOk result (λ p. p ≡ (translated program.now.0, nat)) }
-    ensures accepted { IfOk result (λ p. Accepted program.now.0) }
-    ensures faultless { IfOk result (λ p. IsFaultless (named_of tree.now)) }
-    ensures size { IfOk result (λ p. size p.0 ≤ 10 * size program.now.0 + 3) }
-    ensures height { IfOk result (λ p. height p.0 < 2600) }
-    ensures fault { IfErr result (λ e. StopsFor (FaultyTree strict_number (named_of tree.now)) e) }
-{
-    if !is_ground(program) {
-        return Err(Stop::Fault(Fault::NotGround));
+    if by_value {
+        run_strictly(alloc, bytes, budget)
+    } else {
+        run_by_name(alloc, bytes, budget)
     }
-    translate_number(alloc, tree, program)
 }
 
-/// The program that runs a tree's program by value, which is a number.
-fn translate_number(alloc: Global, tree: &Named, program: &Typed) -> Result<Typed, Stop>
-    requires typed { type_of [] (named_of tree.now) ≡ Ok program.now }
-    requires ground { program.now.1 ≡ nat }
-    ensures translated { IfOk result (λ p. p ≡ (translated program.now.0, nat)) }
-    ensures accepted { IfOk result (λ p. Accepted program.now.0) }
-    ensures faultless { IfOk result (λ p. IsFaultless (named_of tree.now)) }
-    ensures size { IfOk result (λ p. size p.0 ≤ 10 * size program.now.0 + 3) }
-    ensures height { IfOk result (λ p. height p.0 < 2600) }
-    ensures fault { IfErr result (λ e. StopsFor (FaultyTree strict_number (named_of tree.now)) e) }
+/// The run by one worker by name.
+fn run_by_name(alloc: Global, bytes: &[u8], budget: u32) -> Result<Ended, Stop>
+    requires budget { IsBudget budget }
+    ensures run { IfOk result (λ r. RunsText false 1 budget bytes.now r.answer r.log.entries) }
+    ensures fault { IfErr result (λ e. StopsFor (FaultyText number bytes.now) e) }
 {
-    Ok(by_value(alloc, tree, program)?)
+    Ok(run_program(alloc, bytes, budget)?)
 }
 
-/// Whether a program's type is `nat`.
-fn is_ground(program: &Typed) -> bool
-    ensures typed { IsTrue result → HasType [] program.now.0 nat }
-    ensures ground { IsTrue result ↔ (program.now.1 ≡ nat) }
+/// The run by one worker by value.
+fn run_strictly(alloc: Global, bytes: &[u8], budget: u32) -> Result<Ended, Stop>
+    requires budget { IsBudget budget }
+    ensures run { IfOk result (λ r. RunsText true 1 budget bytes.now r.answer r.log.entries) }
+    ensures fault { IfErr result (λ e. StopsFor (FaultyText strict_number bytes.now) e) }
 {
-    let _ = program.term();
-    ground(program).is_ok()
+    Ok(run_program_by_value(alloc, bytes, budget)?)
 }
 
-/// The net of a ground program, or of a translated one.
-fn net_of(alloc: Global, program: &Typed) -> Result<Net, AllocError>
-    requires ground { program.now.1 ≡ nat }
-    requires size { size program.now.0 ≤ 10 * most_nodes + 3 }
-    requires height { height program.now.0 ≤ 2600 }
-    ensures { IfOk result (λ net. net ≡ net_of program.now.0) }
+/// The run of a text's program by so many workers, by value where asked; or the text's first fault.
+pub(crate) fn run_asked_together<R: Threads + Wait + Sync, G: Gate>(
+    rt: &R,
+    alloc: Global,
+    bytes: &[u8],
+    budget: u32,
+    workers: u32,
+    by_value: bool,
+    gate: &G,
+) -> Result<Ended, Stop>
+    requires workers { IsWorkers workers }
+    requires budget { IsBudget budget }
+    ensures run { IfOk result (λ r. RunsText by_value workers budget bytes.now r.answer r.log.entries) }
+    ensures fault { IfErr result (λ e. StopsFor (FaultyText (wanted_by_run by_value) bytes.now) e) }
 {
-    law_net_size();
-    build(alloc, program)
+    if by_value {
+        run_strictly_together(rt, alloc, bytes, budget, workers, gate)
+    } else {
+        run_by_name_together(rt, alloc, bytes, budget, workers, gate)
+    }
+}
+
+/// The run by so many workers by name.
+fn run_by_name_together<R: Threads + Wait + Sync, G: Gate>(
+    rt: &R,
+    alloc: Global,
+    bytes: &[u8],
+    budget: u32,
+    workers: u32,
+    gate: &G,
+) -> Result<Ended, Stop>
+    requires workers { IsWorkers workers }
+    requires budget { IsBudget budget }
+    ensures run { IfOk result (λ r. RunsText false workers budget bytes.now r.answer r.log.entries) }
+    ensures fault { IfErr result (λ e. StopsFor (FaultyText number bytes.now) e) }
+{
+    Ok(run_program_together(rt, alloc, bytes, budget, workers, gate)?)
+}
+
+/// The run by so many workers by value.
+fn run_strictly_together<R: Threads + Wait + Sync, G: Gate>(
+    rt: &R,
+    alloc: Global,
+    bytes: &[u8],
+    budget: u32,
+    workers: u32,
+    gate: &G,
+) -> Result<Ended, Stop>
+    requires workers { IsWorkers workers }
+    requires budget { IsBudget budget }
+    ensures run { IfOk result (λ r. RunsText true workers budget bytes.now r.answer r.log.entries) }
+    ensures fault { IfErr result (λ e. StopsFor (FaultyText strict_number bytes.now) e) }
+{
+    Ok(run_program_by_value_together(rt, alloc, bytes, budget, workers, gate)?)
 }

@@ -2,7 +2,8 @@
 
 ghost use Rattle.std.specs.Prelude.{◌≡◌, ◌≤◌, length, IfOk, string_bytes};
 ghost use Rattle.goi_tasks.specs.Refusals.{most_line, IsLine, TellsFault, fault_status, plain_line, placed_line, inner_line, ticket_line};
-ghost use Rattle.goi_tasks.specs.Refusals.{read_fault_line, type_fault_line, by_value_fault_line, net_text_fault_line, unsound_line, schedule_fault_line, replay_fault_line, batch_fault_line};
+ghost use Rattle.goi_tasks.specs.Refusals.{program_fault_line, read_fault_line, type_fault_line, by_value_fault_line, net_text_fault_line};
+ghost use Rattle.goi_tasks.specs.Refusals.{unsound_line, schedule_fault_line, replay_fault_line, batch_fault_line};
 
 use crate::fault::Fault;
 use batch_lists::BatchFault;
@@ -11,6 +12,7 @@ use net_check::NetFault;
 use net_text::NetTextFault;
 use pcf_reader::ReadFault;
 use pcf_types::TypeFault;
+use program_runs::ProgramFault;
 use replay_check::ReplayFault;
 use schedule_log::ScheduleFault;
 use std::alloc::{AllocError, Global};
@@ -39,7 +41,7 @@ fn fault_status(fault: Fault) -> u8
     ensures { result ≡ fault_status fault }
 {
     match fault {
-        Fault::Read(_) | Fault::Typing(_) | Fault::NotGround | Fault::ByValue(_) => 1,
+        Fault::Program(_) => 1,
         Fault::NetText(_) | Fault::Schedule(_) | Fault::Moves(_) | Fault::Batch(_) => 7,
     }
 }
@@ -49,16 +51,25 @@ fn fault_line(alloc: Global, fault: Fault) -> Result<Vec<u8>, AllocError>
     ensures { IfOk result (λ v. IsLine fault v.items) }
 {
     let text = match fault {
-        Fault::Read(fault) => read_line(alloc, fault),
-        Fault::Typing(fault) => type_line(alloc, fault),
-        Fault::NotGround => plain_line(alloc, "NotGround"),
-        Fault::ByValue(fault) => by_value_line(alloc, fault),
+        Fault::Program(fault) => program_line(alloc, fault),
         Fault::NetText(fault) => net_text_line(alloc, fault),
         Fault::Schedule(fault) => schedule_line(alloc, fault),
         Fault::Moves(fault) => replay_line(alloc, fault),
         Fault::Batch(fault) => batch_line(alloc, fault),
     };
     Ok(text?.into_bytes())
+}
+
+fn program_line(alloc: Global, fault: ProgramFault) -> Result<String, AllocError>
+    ensures line { IfOk result (λ text. string_bytes text ≡ program_fault_line fault) }
+    ensures short { IfOk result (λ text. length (string_bytes text) ≤ most_line) }
+{
+    match fault {
+        ProgramFault::Read(fault) => read_line(alloc, fault),
+        ProgramFault::Typing(fault) => type_line(alloc, fault),
+        ProgramFault::NotGround => plain_line(alloc, "NotGround"),
+        ProgramFault::ByValue(fault) => by_value_line(alloc, fault),
+    }
 }
 
 fn read_line(alloc: Global, fault: ReadFault) -> Result<String, AllocError>

@@ -4,8 +4,7 @@ ghost use Rattle.net_text.specs.Accepted.{OneAnswer};
 ghost use Rattle.goi_tasks.specs.Settles.{TextsSettle};
 
 use batch_lists::law_one_list;
-use cbv_terms::law_faults;
-use pcf_reader::{law_one_fault, law_one_tree, law_text_or_fault};
+use program_runs::law_one_program;
 use replay_check::law_one_replay;
 use schedule_log::law_one_answer;
 
@@ -14,10 +13,7 @@ use schedule_log::law_one_answer;
 pub fn law_settled()
     ensures { TextsSettle }
 {
-    law_one_tree();
-    law_one_fault();
-    law_text_or_fault();
-    law_faults();
+    law_one_program();
     law_one_listing();
     law_one_answer();
     law_one_replay();

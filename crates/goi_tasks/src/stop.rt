@@ -1,10 +1,10 @@
 //! Why there is no report.
 
 use crate::fault::Fault;
-use cbv_terms::ByValueFault;
 use net_text::NetTextFault;
 use pcf_reader::ReadFault;
 use pcf_types::TypeFault;
+use program_runs::NoRun;
 use replay_check::ReplayFault;
 use schedule_log::ScheduleFault;
 use std::alloc::AllocError;
@@ -27,6 +27,20 @@ impl From<AllocError> for Stop {
     }
 }
 
+impl From<NoRun> for Stop {
+    ghost use Rattle.std.specs.Prelude.{◌≡◌};
+    ghost use Rattle.goi_tasks.specs.Stops.{stop_of_no_run};
+
+    ghost from_gives = { λ n e. e ≡ stop_of_no_run n };
+
+    fn from(none: NoRun) -> Stop {
+        match none {
+            NoRun::Memory => Stop::Memory,
+            NoRun::Fault(fault) => Stop::Fault(Fault::Program(fault)),
+        }
+    }
+}
+
 impl From<ReadFault> for Stop {
     ghost use Rattle.std.specs.Prelude.{◌≡◌};
     ghost use Rattle.goi_tasks.specs.Stops.{stop_of_read};
@@ -34,10 +48,7 @@ impl From<ReadFault> for Stop {
     ghost from_gives = { λ f e. e ≡ stop_of_read f };
 
     fn from(fault: ReadFault) -> Stop {
-        match fault {
-            ReadFault::NoMemory => Stop::Memory,
-            _ => Stop::Fault(Fault::Read(fault)),
-        }
+        Stop::from(NoRun::from(fault))
     }
 }
 
@@ -48,10 +59,7 @@ impl From<TypeFault> for Stop {
     ghost from_gives = { λ f e. e ≡ stop_of_type f };
 
     fn from(fault: TypeFault) -> Stop {
-        match fault {
-            TypeFault::NoMemory => Stop::Memory,
-            _ => Stop::Fault(Fault::Typing(fault)),
-        }
+        Stop::from(NoRun::from(fault))
     }
 }
 
@@ -79,20 +87,6 @@ impl From<ReplayFault> for Stop {
         match fault {
             ReplayFault::NoMemory => Stop::Memory,
             _ => Stop::Fault(Fault::Moves(fault)),
-        }
-    }
-}
-
-impl From<ByValueFault> for Stop {
-    ghost use Rattle.std.specs.Prelude.{◌≡◌};
-    ghost use Rattle.goi_tasks.specs.Stops.{stop_of_by_value};
-
-    ghost from_gives = { λ f e. e ≡ stop_of_by_value f };
-
-    fn from(fault: ByValueFault) -> Stop {
-        match fault {
-            ByValueFault::NoMemory => Stop::Memory,
-            _ => Stop::Fault(Fault::ByValue(fault)),
         }
     }
 }

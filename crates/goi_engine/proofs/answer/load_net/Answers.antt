@@ -1,6 +1,8 @@
 use Rattle.std.proofs.Common.{ℕ, List, IfOk, IfErr, subst}
 use Rattle.goi_engine.specs.Answers.{Says}
-use Rattle.goi_tasks.specs.Programs.{number, FaultyText, IsNet}
+use Rattle.program_runs.specs.Nets.{IsNet}
+use Rattle.program_runs.specs.Programs.{number}
+use Rattle.goi_tasks.specs.Programs.{FaultyText}
 use Rattle.goi_engine.proofs.Told.{nets_made, none_made}
 use Rattle.goi_engine.proofs.answer.load_net.Goals as goal
 

@@ -1,5 +1,6 @@
 use Rattle.goi_tasks.specs.Outputs.{output_of}
-use Rattle.goi_tasks.proofs.Ran.{strict_runs, strict_trace}
+use Rattle.program_runs.proofs.Telling.{strict_runs}
+use Rattle.goi_tasks.proofs.Ran.{strict_trace}
 use Rattle.goi_tasks.proofs.alone.trace_by_value.Goals as goal
 
 pub trace_alone-report-requires-clause-runs : goal.trace_alone-report-requires-clause-runs

@@ -1,5 +1,6 @@
 use Rattle.goi_tasks.specs.Outputs.{output_of}
-use Rattle.goi_tasks.proofs.Ran.{strict_runs, strict_trace}
+use Rattle.program_runs.proofs.Telling.{strict_runs}
+use Rattle.goi_tasks.proofs.Ran.{strict_trace}
 use Rattle.goi_tasks.proofs.judge.trace_by_value.Goals as goal
 
 pub report_trace-report-requires-clause-runs : goal.report_trace-report-requires-clause-runs

@@ -1,8 +1,10 @@
 use Rattle.std.proofs.Common.{arith}
 use Rattle.pcf_values.specs.Views.{named_of}
-use Rattle.goi_tasks.specs.Programs.{any_type, FaultyText}
+use Rattle.program_runs.specs.Programs.{any_type, FaultyProgram}
+use Rattle.program_runs.proofs.Texts.{stops_unread}
+use Rattle.goi_tasks.specs.Programs.{FaultyText}
 use Rattle.goi_tasks.proofs.Replayed.{stops_by}
-use Rattle.goi_tasks.proofs.Texts.{checks_text, faults_of_text, stops_unread}
+use Rattle.goi_tasks.proofs.Texts.{checks_text, faults_of_text, stops_program}
 use Rattle.goi_tasks.proofs.program.check_text.Goals as goal
 
 pub check_tree-report-requires : goal.check_tree-report-requires
@@ -11,10 +13,17 @@ check_tree-report-requires c =
     omega (arith, b.2)
 
 pub returns-clause-report : goal.returns-clause-report
-returns-clause-report c = checks_text c.args.term c.args.bytes.now (named_of c.in_ok-tree.tree) c.check_tree-report.result c.in_ok-tree.ensures.found c.check_tree-report.ensures.report
+returns-clause-report c =
+    checks_text c.args.term c.args.bytes.now (named_of c.in_ok-tree.tree) c.check_tree-report.result c.in_ok-tree.ensures.found
+    c.check_tree-report.ensures.report
 
 pub returns-clause-fault : goal.returns-clause-fault
-returns-clause-fault c = faults_of_text any_type c.args.bytes.now (named_of c.in_ok-tree.tree) c.check_tree-report.result c.in_ok-tree.ensures.found c.check_tree-report.ensures.fault
+returns-clause-fault c =
+    faults_of_text any_type c.args.bytes.now (named_of c.in_ok-tree.tree) c.check_tree-report.result c.in_ok-tree.ensures.found
+    c.check_tree-report.ensures.fault
 
 pub returns-in_err-tree-clause-fault : goal.returns-in_err-tree-clause-fault
-returns-in_err-tree-clause-fault c = stops_by c.from_residual.result _ (FaultyText any_type c.args.bytes.now) c.from_residual.ensures.1 (stops_unread any_type c.args.bytes.now _ c.in_err-tree.ensures.fault)
+returns-in_err-tree-clause-fault c =
+    let bytes = c.args.bytes.now in
+    stops_by c.from_residual.result _ (FaultyText any_type bytes) c.from_residual.ensures.1
+    (stops_program (FaultyProgram any_type bytes) _ (stops_unread any_type bytes _ c.in_err-tree.ensures.fault))

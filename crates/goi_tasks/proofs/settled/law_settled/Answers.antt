@@ -4,10 +4,7 @@ use Rattle.goi_tasks.proofs.settled.law_settled.Goals as goal
 pub returns : goal.returns
 returns c =
     texts_settle (record {
-      one_tree = c.law_one_tree.ensures;
-      one_fault = c.law_one_fault.ensures;
-      not_both = c.law_text_or_fault.ensures.not_both;
-      one_first_fault = c.law_faults.ensures.one;
+      one_program = c.law_one_program.ensures;
       one_listing = c.law_one_listing.ensures;
       one_answer = c.law_one_answer.ensures;
       one_replay = c.law_one_replay.ensures;

@@ -1,5 +1,0 @@
-use Rattle.goi_tasks.specs.Programs.{other_type}
-use Rattle.goi_tasks.proofs.program.net_of_program.Goals as goal
-
-pub returns-then-not-is_ground-clause-unfit : goal.returns-then-not-is_ground-clause-unfit
-returns-then-not-is_ground-clause-unfit c = other_type (λ e. let h = c.is_ground.ensures.ground.1 e in cc)

@@ -1,0 +1,45 @@
+-- A run of a text's program: its answer, or none within the budget, with the log of its moves, and what they say of the program.
+-- What a run of a net is stands in `net_runs`, with the order of its moves left open where there are several workers; so what is said of
+-- the program doesn't depend on it.
+use Rattle.std.specs.Prelude.{◌≡◌, ℕ, ◌≤◌, Bool, true, false, List, length, Option, None, Some}
+use Rattle.pcf_values.specs.declared.val.Val.{Val}
+use Rattle.pcf_values.specs.Terms.{TermTree}
+use Rattle.cbn_meaning.specs.Meaning.{Means}
+use Rattle.cbv_terms.specs.ByValue.{MeansByValue}
+use Rattle.cbv_terms.specs.Translation.{translated}
+use Rattle.net_build.specs.Nets.{NetTree}
+use Rattle.net_build.specs.NetOf.{net_of}
+use Rattle.adequacy_laws.specs.Questions.{Length}
+use Rattle.adequacy_laws.specs.Finished.{Beyond}
+use Rattle.schedule_log.specs.declared.entry.Entry.{Entry}
+use Rattle.net_runs.specs.Running.{IsRun, IsFirstWorkers}
+use Rattle.program_runs.specs.Programs.{OfProgram, wanted_by_run}
+
+-- what a term means, by name or by value
+abbrev pub meaning : Bool → TermTree → Val → Type 0
+meaning false t = Means t
+meaning true t = MeansByValue t
+
+-- the net on which it is run: its own, or that of its translation
+abbrev pub net_run : Bool → TermTree → NetTree
+net_run false t = net_of t
+net_run true t = net_of (translated t)
+
+-- What an answer, or none, and a number of moves within a budget say of a program of this meaning and its net: an answer is what the
+-- program means, and the net is as long as there were moves; no answer says that the net's length is absent or above the budget, and that
+-- the budget was spent.
+abbrev pub Tells : (Val → Type 0) → NetTree → ℕ → Option Val → ℕ → Type 0
+Tells means net budget (Some v) moves = means v × Length net v moves × (moves ≤ budget)
+Tells means net budget None moves = Beyond net budget × (moves ≡ budget)
+
+-- The log is a run of the net of a program of this meaning, by so many workers within a budget of moves, and this is its answer, or none.
+pub record IsProgramRun (means : Val → Type 0) (net : NetTree) (workers budget : ℕ) (answer : Option Val) (log : List Entry) : Type 0 where
+  pub is_run : IsRun net workers budget answer log
+  -- one worker moves alone, under the number of the first; so the whole log is known
+  pub alone : workers ≡ 1 → IsFirstWorkers net budget log
+  pub tells : Tells means net budget answer (length log)
+
+-- the text is a program of type `nat`, with a translation where it runs by value, and this is a run of it
+abbrev pub RunsText : Bool → ℕ → ℕ → List ℕ → Option Val → List Entry → Type 0
+RunsText by_value workers budget bytes answer log =
+    OfProgram (wanted_by_run by_value) bytes (λ tree t A. IsProgramRun (meaning by_value t) (net_run by_value t) workers budget answer log)

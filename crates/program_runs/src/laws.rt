@@ -1,0 +1,26 @@
+//! What is always true of programs and of their runs.
+
+ghost use Rattle.program_runs.specs.Laws.{OneProgram, MovesTell, RunsTell};
+
+use adequacy_laws::law_finished;
+use cbv_terms::law_faults;
+use pcf_reader::{law_one_fault, law_one_tree, law_text_or_fault};
+
+/// A text is one program, or has one first fault, and never both.
+pub fn law_one_program()
+    ensures { OneProgram }
+{
+    law_one_tree();
+    law_one_fault();
+    law_text_or_fault();
+    law_faults();
+}
+
+/// Each run of the net of a program of type `nat` says what the program means: an answer is its value, after as many moves as the net is
+/// long, and no answer says that the net's length is absent or above the budget. So do moves that were made one by one.
+pub fn law_tells()
+    ensures runs { RunsTell }
+    ensures moves { MovesTell }
+{
+    law_finished();
+}
