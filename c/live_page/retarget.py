@@ -8,8 +8,8 @@ the same code: both lay values out in bytes, with pointers of 8. What is changed
      it, and a frame at 0 would have an address that reads as null;
   3. an exported function has its name as an attribute.
 
-The kit's module also notes when a call has begun and ended, so that none can follow on one that was cut off. The page sees to that: a
-worker whose call was cut off is ended, and its module with it.
+The kit's module also notes when a call has begun and ended, so that none can follow on one that was cut off. The page sees to that: an
+instance of the module whose call was cut off gets no other (machine.js).
 """
 
 import re

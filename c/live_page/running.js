@@ -42,8 +42,9 @@ function say(text, aside = "", isBad = false) {
 
 const addAside = words => byId("own-said").append(line(words, "aside"));
 
-const seconds = milliseconds => milliseconds < 1000 ? `${Math.round(milliseconds)} ms` : `${(milliseconds / 1000).toFixed(1)} s`;
-const lineOf = text => text.split("\n", 2).join(", ").replace(/, $/, "");
+const timeText = milliseconds => milliseconds < 1000 ? `${Math.round(milliseconds)} ms` : `${(milliseconds / 1000).toFixed(1)} s`;
+// The value and the moves, with which the machine's answer begins.
+const reportOf = text => text.split("\n", 2).join(", ").replace(/, $/, "");
 
 // The line of a refusal, in the text its place, and what tools/why says of it.
 function sayRefusal(text, line) {
@@ -102,7 +103,7 @@ async function asked(text, name, texts, numbers, isMine) {
 const check = () => begin(async isMine => {
   const text = programGiven();
   const found = await asked(text, "goi_check", [text], [1], isMine);
-  if (found) say(found.text.trim(), seconds(found.milliseconds));
+  if (found) say(found.text.trim(), timeText(found.milliseconds));
 });
 
 // Runs the program, and opens its walk.
@@ -112,7 +113,7 @@ const run = (asWalk = () => {}) => begin(async isMine => {
   const strict = byValue();
   const traced = await asked(text, "goi_trace", [text], [budget, strict ? BY_VALUE : 0, 0, MOST_SHOWN], isMine);
   if (!traced) return;
-  const report = lineOf(traced.text);
+  const report = reportOf(traced.text);
   const listed = await asked(text, "goi_net", [text], [], isMine);
   if (!listed) return;
   const walked = strict ? await translated(text, listed.text, isMine) : { program: text, net: listed.text };
@@ -125,7 +126,7 @@ const run = (asWalk = () => {}) => begin(async isMine => {
   byId("own-save").disabled = false;
   const moves = Number(/^moves (\d+)$/m.exec(traced.text)[1]);
   const part = moves > MOST_SHOWN ? `; the first ${MOST_SHOWN} moves are shown` : "";
-  say(report, seconds(traced.milliseconds) + part);
+  say(report, timeText(traced.milliseconds) + part);
   rememberProgram(text, strict, budget);
   asWalk();
 });
@@ -136,8 +137,8 @@ async function translated(text, net, isMine) {
   const found = await ask("goi_net", [program], []);
   if (!isMine()) return null;
   if (found.status === OK) return { program, net: found.text };
-  const said = found.text?.trim() || (found.cut ? "cut off" : "no memory");
-  return { why: `as a text the translation is too large for the machine to read (${said}).` };
+  const said = found.text?.trim() || (found.stopped ? "stopped" : found.cut ? "cut off" : "no memory");
+  return { why: `the machine gives no net of the translation's text (${said}).` };
 }
 
 // How the walk is called: as the example or the opened file is, where its text is unchanged; and the translation by a name of its own.

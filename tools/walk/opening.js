@@ -6,7 +6,7 @@ function openWalk({ name, file, program, net: netText, trace: traceText }) {
   const layout = new Layout(net, view.types);
   const run = new Run(readTrace(traceText), net);
   if (playing.on || playing.motion) pause();
-  Object.assign(view, { name, file: file || name, program, netText, net, layout, run, onlyWire: null });
+  Object.assign(view, { name, file: file || name, program, netText, net, layout, run, onlyWire: null, address: "" });
   camera.moved = false;
   forgetMap();
   forgetStrip();
