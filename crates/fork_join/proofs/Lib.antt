@@ -4,3 +4,5 @@ pub mod Keys
 mod Nesting
 -- the two have the same entries in the same order
 mod Rising
+-- a table into which another's entries are put
+mod Filling

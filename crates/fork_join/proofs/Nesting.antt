@@ -23,7 +23,7 @@ use Rattle.pcf_values.specs.declared.val.Val.{Val}
 use Rattle.token_stacks.specs.Signatures.{Boxes}
 use Rattle.token_stacks.specs.Order.{box_eq, box_cmp, box_cmp-total, box_cmp-same}
 use Rattle.token_stacks.proofs.WordLaws.{boxes_in_order}
-use Rattle.fork_join.specs.Entries.{Entry, pending, same_key, kept_as, Key, key_cmp}
+use Rattle.fork_join.specs.Entries.{Entry, same_key, kept_as, Key, key_cmp}
 use Rattle.fork_join.specs.Arrivals.{side_of, IsOpenFor, arrival, with_arrival, after_arrival}
 use Rattle.fork_join.specs.declared.side.Side.{Side}
 use Rattle.fork_join.specs.declared.side.Side.TheVariants.{Left as LeftSide, Right as RightSide}
@@ -147,6 +147,14 @@ puts old new n t o f' kept e outer inner =
           ap (λ (z : Option Forks). in_forks z u) (outer m ∙ other);
     }
 
+-- where a node has no forks, there is nothing to take out
+pub puts_nothing : (old : Nodes) (n : ℕ) (t : Boxes) → tree.get nat_cmp old n ≡ None → Puts old old n t None
+puts_nothing old n t e = record {
+  here = ap (λ (z : Option Forks). in_forks z t) e;
+  same_node = λ u ne. refl;
+  other_nodes = λ m u ne. refl;
+}
+
 -- what is put at one key, key by key
 put_at : (old new : Nodes) (n : ℕ) (t : Boxes) (kept : Option Kept) → Puts old new n t kept → (m : ℕ) (u : Boxes)
     → entry_at new m u ≡ cond (same_key m u n t) kept (entry_at old m u)
@@ -239,11 +247,24 @@ arrived old new n t s v (Some Nothing) so sn h q =
 arrived old new n t s v (Some (Left w)) so sn h q = table_gone old new n t so sn q
 arrived old new n t s v (Some (Right w)) so sn h q = table_gone old new n t so sn q
 
+-- what is seen of an entry is there where it is
+some_there : (o : Option Kept) → IsSome o → IsSome (option_map entry_of o)
+some_there None h = cc
+some_there (Some x) h = refl
+
+some_back : (o : Option Kept) → IsSome (option_map entry_of o) → IsSome o
+some_back None h = cc
+some_back (Some x) h = refl
+
 -- the same, by what the table is seen as
 module _ (m : Nodes) (f : FinMap key_cmp Entry) (view : table_of m ≡ f) (n : ℕ) (t : Boxes) (so : IsOrdered nat_cmp m) where
   -- what is kept
   seen_get : finite.get f (n, t) ≡ option_map entry_of (entry_at m n t)
   seen_get = ap (λ f. finite.get f (n, t)) (sym view) ∙ table_get m n t so
+
+  -- it is there where the finite map has it
+  pub seen_has : (IsSome (entry_at m n t) → IsSome (finite.get f (n, t))) × (IsSome (finite.get f (n, t)) → IsSome (entry_at m n t))
+  seen_has = (λ h. subst IsSome (sym seen_get) (some_there (entry_at m n t) h), λ h. some_back (entry_at m n t) (subst IsSome seen_get h))
 
   -- the entry that an answer wants is there
   pub seen_there : (s : Side) → IsOpenFor (finite.get f (n, t)) (side_of s) → IsSome (entry_at m n t)
@@ -263,9 +284,13 @@ module _ (m : Nodes) (f : FinMap key_cmp Entry) (view : table_of m ≡ f) (n : �
       ∙ ap (λ g. with_arrival (finite.get f (n, t)) g (n, t) (side_of s) v) view
 
   -- the table with the new entry
-  pub seen_begun : (new : Nodes) → IsOrdered nat_cmp new → Puts m new n t (Some Nothing)
-      → table_of new ≡ finite.insert f (n, t) pending
-  seen_begun new sn q = table_put m new n t so sn Nothing q ∙ ap (λ f. finite.insert f (n, t) pending) view
+  pub seen_put : (new : Nodes) (k : Kept) → IsOrdered nat_cmp new → Puts m new n t (Some k)
+      → table_of new ≡ finite.insert f (n, t) (entry_of k)
+  seen_put new k sn q = table_put m new n t so sn k q ∙ ap (λ f. finite.insert f (n, t) (entry_of k)) view
+
+  -- the table without the entry
+  pub seen_removed : (new : Nodes) → IsOrdered nat_cmp new → Puts m new n t None → table_of new ≡ finite.remove f (n, t)
+  seen_removed new sn q = table_gone m new n t so sn q ∙ ap (λ f. finite.remove f (n, t)) view
 
   -- the table where nothing changed
   pub seen_kept : (new : Nodes) → IsOrdered nat_cmp new → Keeps m new → table_of new ≡ f

@@ -1,5 +1,5 @@
 // Maps of maps, and the one entry of them that a call changes.
-ghost use Rattle.std.specs.Prelude.{◌≡◌, Some, None, IsSome, OnOk, OnErr};
+ghost use Rattle.std.specs.Prelude.{◌≡◌, ◌↔◌, Some, None, IsSome, IsTrue, OnOk, OnErr};
 ghost use Rattle.std.specs.BTreeMap as tree;
 ghost use Rattle.std.specs.BTreeMap.{IsUnchanged, IsOrdered};
 ghost use Rattle.std.specs.Ordering.{nat_cmp};
@@ -29,11 +29,11 @@ pub(crate) type Forks = BTreeMap<BoxStack, Kept>;
 // The open forks of all nodes.
 pub(crate) type Nodes = BTreeMap<u32, Forks>;
 
-fn open(forks: &mut Forks, boxes: BoxStack) -> Result<(), AllocError>
-    ensures ok { OnOk result (PutsIn forks.old forks.new boxes (Some Kept.Nothing)) }
+fn open(forks: &mut Forks, boxes: BoxStack, kept: Kept) -> Result<(), AllocError>
+    ensures ok { OnOk result (PutsIn forks.old forks.new boxes (Some kept)) }
     ensures err { OnErr result (IsUnchanged forks.old forks.new) }
 {
-    forks.insert(boxes, Kept::Nothing)?;
+    forks.insert(boxes, kept)?;
     Ok(())
 }
 
@@ -92,23 +92,24 @@ fn land(forks: &mut Forks, boxes: &BoxStack, side: Side, v: Val) -> Arrived
     arrived
 }
 
-// Opens an entry, in the map of its node. After want of memory no entry is another one.
-pub(crate) fn begin_in(
+// Puts an entry with what it keeps into the map of its node. Where memory runs out no entry is another one.
+pub(crate) fn put_in(
     nodes: &mut Nodes,
     alloc: Global,
     node: u32,
     boxes: BoxStack,
+    kept: Kept,
 ) -> Result<(), AllocError>
     requires { IsOrdered nat_cmp nodes.old }
-    ensures ok { OnOk result (Puts nodes.old nodes.new node boxes (Some Kept.Nothing)) }
+    ensures ok { OnOk result (Puts nodes.old nodes.new node boxes (Some kept)) }
     ensures err { OnErr result (Keeps nodes.old nodes.new) }
     ensures ordered { IsOrdered nat_cmp nodes.new }
 {
     match nodes.get_mut(&node) {
-        Some(forks) => open(forks, boxes)?,
+        Some(forks) => open(forks, boxes, kept)?,
         None => {
             let mut forks = BTreeMap::new(alloc);
-            open(&mut forks, boxes)?;
+            open(&mut forks, boxes, kept)?;
             nodes.insert(node, forks)?;
         }
     }
@@ -132,5 +133,27 @@ pub(crate) fn arrive_in(
     match nodes.get_mut(&node) {
         Some(forks) => land(forks, boxes, side, v),
         None => unreachable!(),
+    }
+}
+
+// Takes an entry out, if it is there.
+pub(crate) fn remove_in(nodes: &mut Nodes, node: u32, boxes: &BoxStack)
+    requires { IsOrdered nat_cmp nodes.old }
+    ensures rest { Puts nodes.old nodes.new node boxes.now None }
+    ensures ordered { IsOrdered nat_cmp nodes.new }
+{
+    match nodes.get_mut(&node) {
+        Some(forks) => close(forks, boxes),
+        None => {}
+    }
+}
+
+// Whether there is an entry.
+pub(crate) fn has_in(nodes: &Nodes, node: u32, boxes: &BoxStack) -> bool
+    ensures { IsTrue result ↔ IsSome (entry_at nodes.now node boxes.now) }
+{
+    match nodes.get(&node) {
+        Some(forks) => forks.contains_key(boxes),
+        None => false,
     }
 }

@@ -1,11 +1,15 @@
 // The table of open forks.
-ghost use Rattle.std.specs.Prelude.{◌≡◌, None, OnOk, OnErr, IfOk, map};
-ghost use Rattle.std.specs.FinMap.{empty, entries, get, insert};
+ghost use Rattle.std.specs.Prelude.{◌≡◌, ◌↔◌, ℕ, None, IsSome, IsTrue, OnOk, OnErr, IfOk, map};
+ghost use Rattle.std.specs.Option.{option_or};
+ghost use Rattle.std.specs.FinMap.{empty, entries, get, insert, remove};
+ghost use Rattle.token_stacks.specs.Signatures.{Boxes};
 ghost use Rattle.fork_join.specs.Entries.{pending};
 ghost use Rattle.fork_join.specs.Arrivals.{side_of, IsOpenFor, arrival, after_arrival};
 ghost use Rattle.fork_join.specs.Listed.{open_of};
+ghost use Rattle.fork_join.specs.Nested.{entry_of};
 
-use crate::forks::{Nodes, arrive_in, begin_in};
+use crate::adding::put_all;
+use crate::forks::{Kept, Nodes, arrive_in, has_in, put_in, remove_in};
 use crate::listing::list_nodes;
 use crate::{Arrived, Open, Side};
 use pcf_values::Val;
@@ -74,7 +78,44 @@ impl JoinTable {
         ensures ok { OnOk result (self.new ≡ insert self.old (node, boxes) pending) }
         ensures err { OnErr result (self.new ≡ self.old) }
     {
-        begin_in(&mut self.nodes, self.alloc, node, boxes)
+        self.put(node, boxes, Kept::Nothing)
+    }
+
+    // Puts an entry under a node and a box stack, in the place of what is there. All other entries stay. Where memory runs out the table is
+    // as it was, and the box stack is dropped.
+    pub(crate) fn put(&mut self, node: u32, boxes: BoxStack, kept: Kept) -> Result<(), AllocError>
+        ensures ok { OnOk result (self.new ≡ insert self.old (node, boxes) (entry_of kept)) }
+        ensures err { OnErr result (self.new ≡ self.old) }
+    {
+        put_in(&mut self.nodes, self.alloc, node, boxes, kept)
+    }
+
+    // Takes the entry of a node and a box stack out, if it is there. All other entries stay. Takes no memory.
+    pub(crate) fn remove(&mut self, node: u32, boxes: &BoxStack)
+        ensures { self.new ≡ remove self.old (node, boxes.now) }
+    {
+        remove_in(&mut self.nodes, node, boxes);
+    }
+
+    /// Whether there is an entry for a node and a box stack. Takes no memory.
+    pub fn has(&self, node: u32, boxes: &BoxStack) -> bool
+        ensures { IsTrue result ↔ IsSome (get self.now (node, boxes.now)) }
+    {
+        has_in(&self.nodes, node, boxes)
+    }
+
+    /// Takes a copy of each entry of another table, which has none that is here too. All own entries stay. It takes steps and memory that
+    /// grow with the number of the other's entries, and of nodes that ever forked there; a look-up costs a logarithm of the number here.
+    ///
+    /// # Errors
+    ///
+    /// Out of memory; the table is as it was.
+    pub fn add_all(&mut self, other: &JoinTable) -> Result<(), AllocError>
+        requires { (n : ℕ) (t : Boxes) → IsSome (get other.now (n, t)) → get self.old (n, t) ≡ None }
+        ensures ok { OnOk result ((n : ℕ) (t : Boxes) → get self.new (n, t) ≡ option_or (get other.now (n, t)) (get self.old (n, t))) }
+        ensures err { OnErr result (self.new ≡ self.old) }
+    {
+        put_all(self, other)
     }
 
     /// Brings the answer of a side to the entry of a node and a box stack, where that side isn't kept.

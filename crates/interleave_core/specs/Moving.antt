@@ -47,6 +47,10 @@ Sent w u k x y = y ≡ sent x w u k
 abbrev pub Makes : NetTree → ℕ → Token → Token → Type 0
 Makes net n x y = (trail : List ℕ) × Walks net (token_of x) trail (token_of y) × (length trail ≡ n)
 
+-- the token makes some solo moves, or none
+abbrev pub MakesSome : NetTree → Token → Token → Type 0
+MakesSome net x y = (n : ℕ) × Makes net n x y
+
 -- as many as are wanted, and fewer only where its next move is no solo move
 abbrev pub GoesOn : NetTree → ℕ → ℕ → Token → Token → Type 0
 GoesOn net most n x y = Makes net n x y × (n ≤ most) × ((n ≡ most) ⊎ NotSolo (move net (token_of y)))

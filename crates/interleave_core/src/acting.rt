@@ -18,7 +18,7 @@ use pcf_values::Val;
 use std::alloc::AllocError;
 
 // The fork of a ticket at a node to two operands.
-fn split(
+pub(crate) fn split(
     parts: &mut Parts,
     net: &Net,
     ticket: u32,
@@ -42,7 +42,7 @@ fn split(
 }
 
 // The join of a ticket's answer at an operator, whose conclusion is c. Takes no memory.
-fn meet(
+pub(crate) fn meet(
     parts: &mut Parts,
     net: &Net,
     ticket: u32,

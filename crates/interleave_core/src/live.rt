@@ -9,7 +9,7 @@ ghost use Rattle.move_rules.specs.Moves.{move, NotSolo, Unaided};
 ghost use Rattle.move_rules.specs.Views.{place_at, of_kind, token_of};
 ghost use Rattle.move_rules.specs.Walks.{SoloStep};
 ghost use Rattle.interleave_core.specs.Forking.{HasBoxes};
-ghost use Rattle.interleave_core.specs.Moving.{ChangesIn, Changes, SoloAt, UnaidedIn, UnaidedAt, Sent, GoesOn, WalksOn};
+ghost use Rattle.interleave_core.specs.Moving.{ChangesIn, Changes, SoloAt, UnaidedIn, UnaidedAt, Sent, MakesSome, GoesOn, WalksOn};
 
 use move_rules::{Kind, Token, solo_step};
 use net_build::Net;
@@ -115,7 +115,8 @@ fn solo_in(net: &Net, tokens: &mut Tokens, ticket: u32) -> Result<bool, AllocErr
 // A token's solo moves in its place, at most so many, until the next move is no solo move; how many they are. After want of memory some of
 // them are made.
 fn moves_of(net: &Net, token: &mut Token, most: u32) -> Result<u32, AllocError>
-    ensures { IfOk result (λ n. GoesOn net.now most n token.old token.new) }
+    ensures ok { IfOk result (λ n. GoesOn net.now most n token.old token.new) }
+    ensures err { OnErr result (MakesSome net.now token.old token.new) }
 {
     let mut made = 0;
     while made < most {
@@ -158,6 +159,18 @@ fn walk_in(
 {
     match tokens.get_mut(&ticket) {
         Some(token) => walk_of(net, token, ticket, tickets, most),
+        None => unreachable!(),
+    }
+}
+
+// The solo moves of a ticket's token in its place, as many as `moves_of` makes.
+fn go_in(net: &Net, tokens: &mut Tokens, ticket: u32, most: u32) -> Result<u32, AllocError>
+    requires { IsSome (tree.get nat_cmp tokens.old ticket) }
+    ensures ok { IfOk result (λ n. ChangesIn (GoesOn net.now most n) tokens.old ticket tokens.new) }
+    ensures err { OnErr result (ChangesIn (MakesSome net.now) tokens.old ticket tokens.new) }
+{
+    match tokens.get_mut(&ticket) {
+        Some(token) => moves_of(net, token, most),
         None => unreachable!(),
     }
 }
@@ -266,6 +279,16 @@ impl LiveTokens {
         ensures { OnOk result (Changes (WalksOn net.now ticket tickets.old.items tickets.new.items most) self.old ticket self.new) }
     {
         walk_in(net, &mut self.tokens, ticket, tickets, most)
+    }
+
+    // Makes the ticket's solo moves on this net in place, at most so many, until the next is no solo move; how many they are. Where
+    // memory runs out some of them are made.
+    pub(crate) fn go(&mut self, net: &Net, ticket: u32, most: u32) -> Result<u32, AllocError>
+        requires { IsSome (get self.old ticket) }
+        ensures ok { IfOk result (λ n. Changes (GoesOn net.now most n) self.old ticket self.new) }
+        ensures err { OnErr result (Changes (MakesSome net.now) self.old ticket self.new) }
+    {
+        go_in(net, &mut self.tokens, ticket, most)
     }
 
     // The token of a ticket, whose work stack is empty, goes to a wire, up or down, as a question or an answer; its box stack stays.

@@ -1,7 +1,10 @@
 // The machine's state, and its steps.
-ghost use Rattle.std.specs.Prelude.{◌≡◌, ◌↔◌, map, replicate, Some, OnOk, OnErr, IfOk, IsSome, IfSome, IfNone, IsTrue, length};
+ghost use Rattle.std.specs.Prelude.{◌≡◌, ◌↔◌, ◌+◌, ◌<◌, ◌≤◌, ◌^◌, ℕ, map, replicate, Some, None, OnOk, OnErr, IfOk, IsSome, IfSome};
+ghost use Rattle.std.specs.Prelude.{IfNone, IsTrue, length};
+ghost use Rattle.std.specs.Bool.{MatchBool};
 ghost use Rattle.std.specs.Option.{option_map, option_copied, MatchOption};
-ghost use Rattle.std.specs.FinMap.{entries, get, len};
+ghost use Rattle.std.specs.FinMap.{entries, get, len, insert, empty};
+ghost use Rattle.interleave_core.specs.Parts.{state};
 ghost use Rattle.pcf_values.specs.Most.{most_budget};
 ghost use Rattle.fork_join.specs.Listed.{open_of};
 ghost use Rattle.net_build.specs.Sound.{Sound};
@@ -12,11 +15,16 @@ ghost use Rattle.interleave_laws.specs.Maps.{start_map, step_map, run_map, IsRea
 ghost use Rattle.interleave_laws.specs.Tickets.{IsLive, NoneLive, IsLeastLive, NoneLiveAbove, IsNextLive};
 ghost use Rattle.interleave_core.specs.Names.{step_name, MayTake};
 ghost use Rattle.interleave_core.specs.Adopting.{Accepts, adopted};
+ghost use Rattle.interleave_core.specs.Owning.{GoesAlone, OwnAble, StepsOwn, StandsForeign};
+ghost use Rattle.interleave_core.specs.Grafts.{Grafts};
+ghost use Rattle.token_stacks.specs.Signatures.{Boxes};
 
 use crate::Stepped;
 use crate::acting::step_in;
 use crate::adopting::adopt_in;
-use crate::parts::{Parts, begin};
+use crate::grafting::graft_in;
+use crate::owning::step_own;
+use crate::parts::{Parts, begin, begin_at};
 use fork_join::Open;
 use move_rules::{Moved, Token};
 use net_build::Net;
@@ -38,7 +46,7 @@ impl Model for Core {
     ghost use Rattle.std.specs.FinMap.{len};
     ghost use Rattle.interleave_laws.specs.Maps.{MapState};
     ghost use Rattle.interleave_laws.specs.Codes.{state_code};
-    ghost use Rattle.interleave_core.specs.Parts.{state_of};
+    ghost use Rattle.interleave_core.specs.Parts.{state_of, state};
 
     ghost Value = { MapState };
 
@@ -148,5 +156,78 @@ impl Core {
         ensures stays { IfNone result (self.new ≡ self.old) }
     {
         adopt_in(&mut self.parts.live, net, ticket, moved, most)
+    }
+
+    /// The state in which one token runs by itself: it is live under ticket 0, and there is nothing else.
+    ///
+    /// # Errors
+    ///
+    /// Out of memory; the token is dropped.
+    pub fn alone(alloc: Global, token: Token) -> Result<Core, AllocError>
+        ensures { IfOk result (λ c. c ≡ state (insert empty 0 (token_of token)) empty 1 None) }
+    {
+        let parts = begin_at(alloc, token)?;
+        Ok(Core { parts })
+    }
+
+    /// The ticket that a fork would give out next. Takes no memory.
+    pub fn next_ticket(&self) -> u32
+        ensures { result ≡ self.now.next }
+    {
+        self.parts.next
+    }
+
+    /// Makes the solo moves of a live ticket on this net, at most `most`, until its next move is a fork, a join, the answer, or none; how
+    /// many they are. The ticket is looked up once for all of them. It holds for every state on every net.
+    ///
+    /// # Errors
+    ///
+    /// Out of memory; some of the moves may be made then.
+    pub fn walk(&mut self, net: &Net, ticket: u32, most: u32) -> Result<u32, AllocError>
+        requires live { IsLive self.old ticket }
+        ensures { IfOk result (λ n. GoesAlone net.now self.old ticket most n self.new) }
+    {
+        self.parts.live.go(net, ticket, most)
+    }
+
+    /// Makes the one move of a live ticket on this net, but no answer and no join whose entry isn't there: before those it answers `false`,
+    /// and all stays. It serves a token that runs by itself, of whose own forks alone something is known; so it asks for what such a run
+    /// has, and not that a log leads to the state.
+    ///
+    /// # Errors
+    ///
+    /// Out of memory; the state is as it was.
+    pub fn step_own(&mut self, net: &Net, ticket: u32) -> Result<bool, AllocError>
+        requires live { IsLive self.old ticket }
+        requires able { OwnAble net.now self.old ticket }
+        requires fresh { get self.old.tokens self.old.next ≡ None }
+        requires room { self.old.next + 1 < 2 ^ 32 }
+        ensures ok { IfOk result (λ moved. MatchBool moved (StepsOwn net.now self.old ticket self.new)
+            (StandsForeign net.now self.old ticket × (self.new ≡ self.old))) }
+        ensures err { OnErr result (self.new ≡ self.old) }
+    {
+        step_own(&mut self.parts, net, ticket)
+    }
+
+    /// Puts another state into this one, in the place of a live ticket: its token of ticket 0 under that ticket, its other tokens under the
+    /// tickets that come next, and its entries with those that are here. No entry of the one may be one of the other.
+    ///
+    /// Each of its tokens but the first takes a look-up here, each of its entries one and a copy of its box stack.
+    ///
+    /// # Errors
+    ///
+    /// Out of memory; the state is as it was.
+    pub fn graft(&mut self, ticket: u32, branch: Core) -> Result<(), AllocError>
+        requires live { IsLive self.old ticket }
+        requires low { (q : ℕ) → self.old.next ≤ q → get self.old.tokens q ≡ None }
+        requires branch_low { (q : ℕ) → branch.next ≤ q → get branch.tokens q ≡ None }
+        requires begun { 1 ≤ branch.next }
+        requires room { self.old.next + branch.next ≤ 2 ^ 32 }
+        requires apart { (n : ℕ) (t : Boxes) → IsSome (get branch.entries (n, t)) → get self.old.entries (n, t) ≡ None }
+        ensures ok { OnOk result (Grafts self.old ticket branch self.new) }
+        ensures err { OnErr result (self.new ≡ self.old) }
+    {
+        let Core { parts } = branch;
+        graft_in(&mut self.parts, ticket, parts)
     }
 }

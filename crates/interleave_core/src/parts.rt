@@ -1,8 +1,10 @@
 // The parts of a state, side by side.
-ghost use Rattle.std.specs.Prelude.{◌≡◌, IfOk};
+ghost use Rattle.std.specs.Prelude.{◌≡◌, None, IfOk};
+ghost use Rattle.std.specs.FinMap.{insert, empty};
 ghost use Rattle.interleave_laws.specs.Start.{start_of};
 ghost use Rattle.interleave_laws.specs.Maps.{start_map};
-ghost use Rattle.interleave_core.specs.Parts.{state_of};
+ghost use Rattle.interleave_core.specs.Parts.{state_of, state};
+ghost use Rattle.move_rules.specs.Views.{token_of};
 
 use crate::live::LiveTokens;
 use crate::root::root;
@@ -27,16 +29,23 @@ pub(crate) fn begin(alloc: Global, net: &Net) -> Result<Parts, AllocError>
     ensures { IfOk result (λ p. state_of p ≡ start_map (start_of net.now)) }
 {
     let wire = root(net);
-    let mut live = LiveTokens::new(alloc);
-    live.put(
-        0,
+    Ok(begin_at(
+        alloc,
         Token {
             wire,
             up: true,
             kind: Kind::Ask,
             stacks: Stacks::empty(alloc),
         },
-    )?;
+    )?)
+}
+
+// The parts with which a token's run by itself begins: it is ticket 0.
+pub(crate) fn begin_at(alloc: Global, token: Token) -> Result<Parts, AllocError>
+    ensures { IfOk result (λ p. state_of p ≡ state (insert empty 0 (token_of token)) empty 1 None) }
+{
+    let mut live = LiveTokens::new(alloc);
+    live.put(0, token)?;
     Ok(Parts {
         live,
         joins: JoinTable::new(alloc),

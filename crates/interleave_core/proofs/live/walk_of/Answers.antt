@@ -15,4 +15,4 @@ returns c =
     let two : c.len-2.result ≡ length old.items = omega (arith, l2, has) in
     let list = filled old.items n c.args.ticket c.len-2.result (vec_len old) after two has c.in_ok-resize.ensures.items in
     written c.args.net.now c.args.ticket n c.len.result old.items after c.args.most c.args.token.now c.moves_of.new.token
-    one c.requires c.in_ok-made.ensures list
+    one c.requires c.in_ok-made.ensures.ok list

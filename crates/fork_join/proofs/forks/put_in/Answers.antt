@@ -1,7 +1,7 @@
 use Rattle.std.proofs.Common.{Some, None, sym, arith}
 use Rattle.std.proofs.lemmas.Grind.{common_steps}
 use Rattle.fork_join.proofs.Nesting.{puts}
-use Rattle.fork_join.proofs.forks.begin_in.Goals as goal
+use Rattle.fork_join.proofs.forks.put_in.Goals as goal
 
 pub returns-in_ok-open-in-Some-clause-ok : goal.returns-in_ok-open-in-Some-clause-ok
 returns-in_ok-open-in-Some-clause-ok c =
