@@ -6,9 +6,12 @@ ghost use Rattle.token_pool.specs.Pools.{InLimits};
 ghost use Rattle.net_runs.specs.Running.{IsRun, IsFirstWorkers};
 
 use crate::alone::run_alone;
+use branch_pool::BranchPool;
+use branch_runs::{NamedNet, OnNet};
 use gate_workers::{Gate, drive};
 use net_build::Net;
 use std::alloc::{AllocError, Global};
+use std::marker::Brand;
 use std::sync::Wait;
 use std::thread::Threads;
 use token_pool::{Ended, PoolState};
@@ -16,8 +19,8 @@ use token_pool::{Ended, PoolState};
 /// The run of a net by so many workers within a budget of moves: its answer, if it came to one, and its log.
 ///
 /// One worker walks in place, with no lock, no thread and no gate, and its log names worker 0. Several share a pool, in threads of their
-/// own as far as threads can be had, and each passes the gate before each of its pieces; what they leave is finished behind them, under
-/// the number of workers. Memory for the whole log is taken at once then.
+/// own as far as threads can be had: each plays branches of the run by itself, and passes the gate before each of them. What they leave is
+/// finished behind them, under the number of workers. Memory for the whole log is taken at once then.
 ///
 /// # Errors
 ///
@@ -57,6 +60,28 @@ fn run_together<R: Threads + Wait + Sync, G: Gate>(
     ensures { IfOk result (λ e. IsRun net.now workers budget e.answer e.log.entries) }
 {
     let pool = PoolState::start(alloc, net, budget, workers)?;
-    let pool = drive(rt, alloc, pool, net, workers, gate);
+    let tool = net.copy(alloc)?;
+    let pool = play_together::<Brand, R, G>(rt, alloc, pool, tool, workers, gate);
     Ok(pool.finish(alloc, net, budget, workers)?)
+}
+
+// Workers play branches of the pool's run, on the net that `N` names, until there is nothing to play for any of them.
+fn play_together<N: OnNet + Send + Sync, R: Threads + Wait + Sync, G: Gate>(
+    rt: &R,
+    alloc: Global,
+    pool: PoolState,
+    net: Net,
+    workers: u32,
+    gate: &G,
+) -> PoolState
+    requires runs { Runs N.net }
+    requires named { net ≡ N.net }
+    requires suits { pool.net ≡ N.net }
+    requires some { 1 ≤ workers }
+    ensures { result.net ≡ N.net }
+{
+    let bench: BranchPool<N> = BranchPool::new(pool);
+    let tool: NamedNet<N> = NamedNet::new(net);
+    let bench = drive(rt, alloc, bench, &tool, workers, gate);
+    bench.into_pool()
 }

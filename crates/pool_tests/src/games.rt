@@ -20,7 +20,7 @@ pub(crate) fn number(text: &str) -> u32 {
 }
 
 /// What stands before the first blank, and what stands behind it.
-fn cut(text: &str) -> (&str, &str) {
+pub(crate) fn cut(text: &str) -> (&str, &str) {
     text.split_once(' ').unwrap_or((text, ""))
 }
 

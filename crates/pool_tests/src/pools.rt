@@ -3,6 +3,7 @@
 ghost use Rattle.interleave_laws.specs.Runs.{Runs};
 ghost use Rattle.token_pool.specs.Pools.{InLimits};
 
+use crate::branches::ended;
 use crate::games::{number, played};
 use net_build::Net;
 use pcf_values::Val;
@@ -143,6 +144,59 @@ const FINISHED: Game<'static> = Game {
     makers: "0 1 1 1 1 1",
 };
 
+/// The left half of `(1 + 2) + (3 + 4)` as one branch, and the right one in pieces, since it was alone.
+const HALVES: Game<'static> = Game {
+    budget: 100,
+    workers: 2,
+    rows: "\
+0 turn 50 plain
+0 plays 1
+0 turn 49 all
+1 turn 25 plain
+1 plays 2
+1 turn 24 all
+1 plays 3
+0 plays 8
+",
+    answer: "10",
+    tickets: "0 1 1 0 0 0 3 3 1 2 2 2 3 3",
+    makers: "0 1 1 0 0 0 0 0 2 2 2 2 2 2",
+};
+
+/// A branch of another worker's token is one step, and a worker without a place changes nothing.
+const REFUSED: Game<'static> = Game {
+    budget: 100,
+    workers: 2,
+    rows: "\
+0 plays 1
+0 turn 49 all
+1 turn 25 plain
+1 brings 0 2
+2 turn over
+2 brings 0 2
+",
+    answer: "10",
+    tickets: "0 1 0 0 0 1 1 2 2 2 3 3 3 3",
+    makers: "0 1 2 2 2 2 2 2 2 2 2 2 2 2",
+};
+
+/// A budget of eight moves, of which each piece gets a half.
+const SHORT: Game<'static> = Game {
+    budget: 8,
+    workers: 2,
+    rows: "\
+0 turn 4 plain
+0 plays 1
+0 turn 3 all
+1 turn 2 plain
+1 plays 2
+0 plays 5
+",
+    answer: "-",
+    tickets: "0 1 0 0 0 1 1 2",
+    makers: "0 1 0 0 0 2 2 2",
+};
+
 fn two_workers(alloc: Global) -> Result<bool, AllocError> {
     let net = net_of(alloc, "1 + 2")?;
     Ok(is_so(alloc, &net, BOTH)? && is_so(alloc, &net, RIGHT_FIRST)?)
@@ -151,6 +205,32 @@ fn two_workers(alloc: Global) -> Result<bool, AllocError> {
 fn ends(alloc: Global) -> Result<bool, AllocError> {
     let net = net_of(alloc, "1 + 2")?;
     Ok(is_so(alloc, &net, SMALL)? && is_so(alloc, &net, FINISHED)?)
+}
+
+/// Whether a game whose pieces are branches is so.
+fn is_branched(alloc: Global, net: &Net, game: Game<'_>) -> Result<bool, AllocError>
+    requires runs { Runs net.now }
+    requires limits { InLimits game.budget game.workers }
+{
+    let Some(ended) = ended(alloc, net, game.budget, game.workers, game.rows)? else {
+        return Ok(false);
+    };
+    Ok(is_answer(ended.answer, game.answer) && has_moves(&ended.log, game.tickets, game.makers))
+}
+
+fn branches(alloc: Global) -> Result<bool, AllocError> {
+    let net = net_of(alloc, "(1 + 2) + (3 + 4)")?;
+    Ok(
+        is_branched(alloc, &net, HALVES)?
+            && is_branched(alloc, &net, REFUSED)?
+            && is_branched(alloc, &net, SHORT)?,
+    )
+}
+
+#[test]
+fn two_workers_play_branches(rt: HostRuntime) -> Result<(), Fail> {
+    assert!(rt; branches(rt.alloc())?);
+    Ok(())
 }
 
 #[test]

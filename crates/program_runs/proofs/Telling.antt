@@ -40,7 +40,8 @@ pub runs_tell : MapFinishedMeans → RunsTell
 runs_tell law t typed workers budget answer log r alone =
     let tickets = tickets_in_log log in
     let finished = subst (λ (a : Option Val). Finished a tickets budget) r.answers r.finished in
-    let means = subst (λ (a : Option Val). TellsMeaning t tickets a budget) (sym r.answers) (law t typed tickets r.state r.led budget finished) in
+    let means = subst (λ (a : Option Val). TellsMeaning t tickets a budget) (sym r.answers)
+    (law t typed tickets r.state r.led budget finished) in
     record { is_run = r; alone = alone; tells = told t budget tickets answer (length log) (tickets_length log) means }
 
 -- what a run says of one meaning, it says of another that is had wherever the first is
@@ -60,7 +61,8 @@ other_meaning means other go net workers budget answer log h = record {
 
 -- ---- the net of a text runs, and what a run of it is worth
 
-pub strict_runs : ((t : TermTree) → HasType [] t nat → Runs (net_of t)) → (bytes : List ℕ) (net : NetTree) → IsStrictNet bytes net → Runs net
+pub strict_runs : ((t : TermTree) → HasType [] t nat → Runs (net_of t)) → (bytes : List ℕ) (net : NetTree) → IsStrictNet bytes net →
+    Runs net
 strict_runs law bytes net is =
     let k = is.made in subst (λ (n : NetTree). Runs n) (sym k.net_is) (law (translated k.term) k.runs)
 

@@ -50,7 +50,7 @@ fn comes_to<R: Threads + Wait + Sync>(
     )
 }
 
-/// Whether one worker, two and 64 come to this.
+/// Whether one worker, two, four and 64 come to this.
 fn comes_to_by_all<R: Threads + Wait + Sync>(
     rt: &R,
     alloc: Global,
@@ -61,6 +61,7 @@ fn comes_to_by_all<R: Threads + Wait + Sync>(
     Ok(
         comes_to(rt, alloc, row, 1)?
             && comes_to(rt, alloc, row, 2)?
+            && comes_to(rt, alloc, row, 4)?
             && comes_to(rt, alloc, row, 64)?,
     )
 }
@@ -105,6 +106,30 @@ const SCARCE: Row<'static> = Row {
     moves: 29,
 };
 
+/// A budget of one move.
+const ONE: Row<'static> = Row {
+    text: "(fun d:nat->nat. d 1 + d 2) (fun x:nat. x + x)",
+    budget: 1,
+    value: None,
+    moves: 1,
+};
+
+/// A budget of five moves, fewer than many workers are.
+const FIVE: Row<'static> = Row {
+    text: "(fun d:nat->nat. d 1 + d 2) (fun x:nat. x + x)",
+    budget: 5,
+    value: None,
+    moves: 5,
+};
+
+/// A budget in the midst of a run that forks again and again.
+const MIDST: Row<'static> = Row {
+    text: "(fix f:nat->nat. fun n:nat. ifz n then 0 else n + f (pred n)) 20",
+    budget: 777,
+    value: None,
+    moves: 777,
+};
+
 #[test]
 fn each_number_of_workers_comes_to_the_answer(rt: HostRuntime) -> Result<(), Fail> {
     assert!(rt; comes_to_by_all(&rt, rt.alloc(), DOUBLE)?);
@@ -117,5 +142,13 @@ fn each_number_of_workers_comes_to_the_answer(rt: HostRuntime) -> Result<(), Fai
 fn each_number_of_workers_keeps_to_the_budget(rt: HostRuntime) -> Result<(), Fail> {
     assert!(rt; comes_to_by_all(&rt, rt.alloc(), ENOUGH)?);
     assert!(rt; comes_to_by_all(&rt, rt.alloc(), SCARCE)?);
+    Ok(())
+}
+
+#[test]
+fn each_number_of_workers_stops_in_the_midst(rt: HostRuntime) -> Result<(), Fail> {
+    assert!(rt; comes_to_by_all(&rt, rt.alloc(), ONE)?);
+    assert!(rt; comes_to_by_all(&rt, rt.alloc(), FIVE)?);
+    assert!(rt; comes_to_by_all(&rt, rt.alloc(), MIDST)?);
     Ok(())
 }

@@ -1,8 +1,7 @@
 -- The finisher's moves, one after another.
 use Rattle.std.proofs.Common.{◌≡◌, ◌+◌, ◌-◌, ◌<◌, ◌≤◌, ℕ, zero, suc, Result, IfOk, List, [], ◌∷◌, ◌++◌}
 use Rattle.std.proofs.Common.{length, Option, Some, None, refl, sym, ap, ◌∙◌, subst, append_assoc, append-nil, length-append, arith}
-use Rattle.std.specs.List.{AllByRecursion}
-use Rattle.std.proofs.lemmas.List.Elements.{All-append, All-from_recursion}
+use Rattle.std.proofs.lemmas.List.Elements.{All-append}
 use Rattle.pcf_values.specs.Most.{most_budget}
 use Rattle.net_build.specs.Nets.{NetTree}
 use Rattle.interleave_laws.specs.Start.{start_of}
@@ -20,7 +19,7 @@ use Rattle.schedule_log.specs.Logs.{IsMadeBy, by, tickets_in_log}
 use Rattle.token_pool.specs.declared.ending.Ended.{Ended}
 use Rattle.token_pool.specs.Pools.{Pool, Good}
 use Rattle.token_pool.specs.Ending.{remaining, finished, Finishes, Suits, Replays}
-use Rattle.token_pool.proofs.Moving.{tickets_both, tickets_length}
+use Rattle.token_pool.proofs.Moving.{tickets_both, tickets_length, tickets_by, made_by}
 
 -- where a finisher stands
 pub record Plays (net : NetTree) (S0 : MapState) (budget w : ℕ) (log0 log : List Entry) (S : MapState) : Type 0 where
@@ -73,19 +72,6 @@ module _ (net : NetTree) (runs : Runs net) (S0 : MapState) (budget w : ℕ) (log
       go : (o : Option ℕ) → least_live (seen S) ≡ o → least_live (seen S) ≡ None
       go None e = e
       go (Some i) e = let (_, (x, f), _) = least_found (seen S).tokens S.next 0 i e in let n = none i in absurd cc
-
--- the tickets of moves that are made by one worker
-pub tickets_by : (w : ℕ) (log : List ℕ) → tickets_in_log (by w log) ≡ log
-tickets_by w [] = refl
-tickets_by w (i ∷ log) = ap (λ l. i ∷ l) (tickets_by w log)
-
-each_by : (n w : ℕ) → w ≤ n → (tickets : List ℕ) → AllByRecursion (λ (e : Entry). e.worker ≤ n) (by w tickets)
-each_by n w l [] = tt
-each_by n w l (i ∷ tickets) = (l, each_by n w l tickets)
-
--- and their makers, where that worker is one of so many or the finisher
-pub made_by : (n w : ℕ) → w ≤ n → (tickets : List ℕ) → IsMadeBy n (by w tickets)
-made_by n w l tickets = All-from_recursion (λ (e : Entry). e.worker ≤ n) (by w tickets) (each_by n w l tickets)
 
 -- what is finished so replays
 pub finishes_replays : (p : Pool) (e : Ended) → Good p → Finishes p e → Replays p.net p.budget p.workers e

@@ -7,7 +7,11 @@ mod Starting
 -- what a worker's turn leaves
 mod Taking
 -- what booked moves leave
-mod Moving
+pub mod Moving
+-- what booked branches leave
+mod Branching
+-- a branch's moves, written down
+mod Writing
 -- which tokens are free, and the search for the least one
 mod Free
 -- what a good pool gives to its calls, and what they give back

@@ -5,7 +5,8 @@ use Rattle.std.proofs.Common.{arith}
 use Rattle.std.specs.Option.{IsSome}
 use Rattle.std.specs.FinMap.{get}
 use Rattle.std.proofs.lemmas.List.{length-replicate}
-use Rattle.std.proofs.lemmas.List.Elements.{All-append, All-replicate}
+use Rattle.std.specs.List.{AllByRecursion}
+use Rattle.std.proofs.lemmas.List.Elements.{All-append, All-from_recursion}
 use Rattle.std.proofs.lemmas.Option.{slice_get_within}
 use Rattle.net_build.specs.Nets.{NetTree}
 use Rattle.move_rules.specs.Places.{TokenTree}
@@ -20,7 +21,7 @@ use Rattle.interleave_laws.proofs.OneWorker.{one_next}
 use Rattle.interleave_laws.proofs.Stays.{least_stays}
 use Rattle.interleave_core.proofs.AloneRuns.{least_seen}
 use Rattle.schedule_log.specs.declared.entry.Entry.{Entry}
-use Rattle.schedule_log.specs.Logs.{tickets_in_log}
+use Rattle.schedule_log.specs.Logs.{IsMadeBy, by, tickets_in_log}
 use Rattle.token_pool.specs.declared.entries.Held.{Held}
 use Rattle.token_pool.specs.Pools.{Pool, Holds, Good}
 use Rattle.token_pool.specs.Booking.{moves_of, Books, halted}
@@ -94,62 +95,97 @@ pub tickets_length : (log : List Entry) → length (tickets_in_log log) ≡ leng
 tickets_length [] = refl
 tickets_length (e ∷ log) = ap suc (tickets_length log)
 
-tickets_of : (n i w : ℕ) → tickets_in_log (moves_of n i w) ≡ replicate n i
-tickets_of zero i w = refl
-tickets_of (suc n) i w = ap (λ l. i ∷ l) (tickets_of n i w)
+-- the tickets of moves that are made by one worker
+pub tickets_by : (w : ℕ) (log : List ℕ) → tickets_in_log (by w log) ≡ log
+tickets_by w [] = refl
+tickets_by w (i ∷ log) = ap (λ l. i ∷ l) (tickets_by w log)
 
-module _ (p : Pool) (good : Good p) (w : ℕ) (h : Held) (at : Holds p.held w h) (l : w < p.workers) (n : ℕ) (some : 1 ≤ n)
-    (few : n ≤ h.allowance) (T : MapState) (steps : run_map p.net p.state (replicate n h.ticket) ≡ Some T) where
-  names : tickets_in_log p.log ++ replicate n h.ticket ≡ tickets_in_log (p.log ++ moves_of n h.ticket w)
-  names = ap (λ l. tickets_in_log p.log ++ l) (sym (tickets_of n h.ticket w)) ∙ sym (tickets_both p.log (moves_of n h.ticket w))
+each_by : (n w : ℕ) → w ≤ n → (tickets : List ℕ) → AllByRecursion (λ (e : Entry). e.worker ≤ n) (by w tickets)
+each_by n w l [] = tt
+each_by n w l (i ∷ tickets) = (l, each_by n w l tickets)
 
-  made : Many p.net (tickets_in_log p.log) p.state h.ticket n T
-  made = many p.net good.runs n h.ticket (tickets_in_log p.log) p.state T good.leads steps
+-- and their makers, where that worker is one of so many or the finisher
+pub made_by : (n w : ℕ) → w ≤ n → (tickets : List ℕ) → IsMadeBy n (by w tickets)
+made_by n w l tickets = All-from_recursion (λ (e : Entry). e.worker ≤ n) (by w tickets) (each_by n w l tickets)
 
+-- so many moves of one ticket
+by_many : (n i w : ℕ) → by w (replicate n i) ≡ moves_of n i w
+by_many zero i w = refl
+by_many (suc n) i w = ap (λ (l : List Entry). record { ticket = i; worker = w } ∷ l) (by_many n i w)
+
+-- Moves of these tickets, at most as many as are set aside for what is held, lead to T. Other tickets that are live stay so, and where
+-- one worker runs alone the moves are its own.
+pub record Leads (p : Pool) (h : Held) (tickets : List ℕ) (T : MapState) : Type 0 where
+  pub leads : LeadsToMap p.net (tickets_in_log p.log ++ tickets) T
+  pub stays : (j : ℕ) (x : TokenTree) → get p.state.tokens j ≡ Some x → (j ≡ h.ticket → ⊥) → get T.tokens j ≡ Some x
+  pub ours : p.workers ≡ 1 → IsOneWorkers p.net (tickets_in_log p.log ++ tickets)
+  pub few : length tickets ≤ h.allowance
+
+module _ (p : Pool) (good : Good p) (w : ℕ) (h : Held) (at : Holds p.held w h) (l : w < p.workers) where
   -- what is held afterwards was held by another before
   other_held : (v : ℕ) (g : Held) → Holds (set p.held w None) v g → (v ≡ w → ⊥) × Holds p.held v g
   other_held v g a = ⊎_elim (λ q. absurd cc) (λ q. q) (held_after_set p.held w v None g a)
 
-  stay_live : (v : ℕ) (g : Held) → (v ≡ w → ⊥) × Holds p.held v g → IsLive T g.ticket
-  stay_live v g (d, a) = go (get p.state.tokens g.ticket) refl (good.live v g a)
-    where
-      go : (o : Option TokenTree) → get p.state.tokens g.ticket ≡ o → IsSome o → IsLive T g.ticket
-      go None e s = absurd cc
-      go (Some x) e s = subst IsSome (sym (made.stays g.ticket x e (λ q. d (good.apart v w g h a at q)))) refl
+  module _ (tickets : List ℕ) (T : MapState) (made : Leads p h tickets T) where
+    names : tickets_in_log p.log ++ tickets ≡ tickets_in_log (p.log ++ by w tickets)
+    names = ap (λ l. tickets_in_log p.log ++ l) (sym (tickets_by w tickets)) ∙ sym (tickets_both p.log (by w tickets))
 
-  books_good : Good (record p { state = T; log = p.log ++ moves_of n h.ticket w; held = set p.held w None })
-  books_good = record {
-    runs = good.runs;
-    limits = good.limits;
-    places = length-set p.held w None ∙ good.places;
-    leads = subst (λ k. LeadsToMap p.net k T) names made.leads;
-    live = λ v g a. stay_live v g (other_held v g a);
-    apart = λ v u g k a b e. good.apart v u g k (other_held v g a).1 (other_held u k b).1 e;
-    allowed = λ v g a. good.allowed v g (other_held v g a).1;
-    within =
-        let s = sum_after_set p.held w (Some h) None at in
-        let m = length-append p.log (moves_of n h.ticket w) in
-        let k : length (moves_of n h.ticket w) ≡ n = length-replicate n _ in
-        let i = good.within in
-        omega (arith, s, m, k, i, few);
-    makers = All-append (λ e. e.worker ≤ p.workers) p.log (moves_of n h.ticket w) good.makers
-        (All-replicate (λ (e : Entry). e.worker ≤ p.workers) n _ (omega arith));
-    alone = λ single. record {
-      ours = subst (IsOneWorkers p.net) names (made.ours (good.alone single).ours
-          (λ _. least_seen p.state h.ticket ((good.alone single).least w h at)));
-      least = λ v g a. absurd (alone_holds single v g (other_held v g a));
-    };
-  }
-    where
-      place : (v : ℕ) (g : Held) → Holds p.held v g → v < length p.held
-      place v g a = slice_get_within p.held v (Some g) a
+    stay_live : (v : ℕ) (g : Held) → (v ≡ w → ⊥) × Holds p.held v g → IsLive T g.ticket
+    stay_live v g (d, a) = go (get p.state.tokens g.ticket) refl (good.live v g a)
+      where
+        go : (o : Option TokenTree) → get p.state.tokens g.ticket ≡ o → IsSome o → IsLive T g.ticket
+        go None e s = absurd cc
+        go (Some x) e s = subst IsSome (sym (made.stays g.ticket x e (λ q. d (good.apart v w g h a at q)))) refl
 
-      alone_holds : p.workers ≡ 1 → (v : ℕ) (g : Held) → (v ≡ w → ⊥) × Holds p.held v g → ⊥
-      alone_holds single v g (d, a) = let b = place v g a in let c = good.places in d (omega (arith, b, c, single, l))
+    pub leads_good : Good (record p { state = T; log = p.log ++ by w tickets; held = set p.held w None })
+    leads_good = record {
+      runs = good.runs;
+      limits = good.limits;
+      places = length-set p.held w None ∙ good.places;
+      leads = subst (λ k. LeadsToMap p.net k T) names made.leads;
+      live = λ v g a. stay_live v g (other_held v g a);
+      apart = λ v u g k a b e. good.apart v u g k (other_held v g a).1 (other_held u k b).1 e;
+      allowed = λ v g a. good.allowed v g (other_held v g a).1;
+      within =
+          let s = sum_after_set p.held w (Some h) None at in
+          let m = length-append p.log (by w tickets) in
+          let k = tickets_length (by w tickets) in
+          let n = ap length (tickets_by w tickets) in
+          let i = good.within in
+          let few = made.few in
+          omega (arith, s, m, k, n, i, few);
+      makers = All-append (λ e. e.worker ≤ p.workers) p.log (by w tickets) good.makers (made_by p.workers w (omega arith) tickets);
+      alone = λ single. record {
+        ours = subst (IsOneWorkers p.net) names (made.ours single);
+        least = λ v g a. absurd (alone_holds single v g (other_held v g a));
+      };
+    }
+      where
+        place : (v : ℕ) (g : Held) → Holds p.held v g → v < length p.held
+        place v g a = slice_get_within p.held v (Some g) a
+
+        alone_holds : p.workers ≡ 1 → (v : ℕ) (g : Held) → (v ≡ w → ⊥) × Holds p.held v g → ⊥
+        alone_holds single v g (d, a) = let b = place v g a in let c = good.places in d (omega (arith, b, c, single, l))
+
+  -- so many steps of the held ticket
+  pub many_leads : (n : ℕ) → n ≤ h.allowance → (T : MapState) → run_map p.net p.state (replicate n h.ticket) ≡ Some T →
+      Leads p h (replicate n h.ticket) T
+  many_leads n few T steps =
+      let made = many p.net good.runs n h.ticket (tickets_in_log p.log) p.state T good.leads steps in
+      let k : length (replicate n h.ticket) ≡ n = length-replicate n h.ticket in
+      record {
+        leads = made.leads;
+        stays = made.stays;
+        ours = λ single. made.ours (good.alone single).ours (λ _. least_seen p.state h.ticket ((good.alone single).least w h at));
+        few = omega (arith, k, few);
+      }
 
 pub book_keeps : (p q : Pool) (w : ℕ) (h : Held) (n : ℕ) → Good p → Holds p.held w h → w < p.workers → 1 ≤ n →
     n ≤ h.allowance → Books p q w h n → Good q
-book_keeps p q w h n good at l some few b = subst Good (sym b.rest) (books_good p good w h at l n some few q.state b.steps)
+book_keeps p q w h n good at l some few b =
+    let good' = leads_good p good w h at l (replicate n h.ticket) q.state (many_leads p good w h at l n few q.state b.steps) in
+    subst Good (sym b.rest) (subst (λ (log : List Entry). Good (record p { state = q.state; log = p.log ++ log; held = set p.held w None }))
+    (by_many n h.ticket w) good')
 
 pub stop_keeps : (p : Pool) → Good p → Good (halted p)
 stop_keeps p good = record {

@@ -18,15 +18,19 @@ use Rattle.token_pool.specs.declared.entries.Told.{Told}
 use Rattle.token_pool.specs.declared.entries.Told.TheVariants.{Stopped, Token, Ended, Idle, Reserved}
 use Rattle.token_pool.specs.Pools.{Pool, InLimits, Good, Holds, allowances, count_held, none_held_by, started}
 use Rattle.token_pool.specs.Codes.{pool}
-use Rattle.token_pool.specs.Turns.{turn, held_after, taken, flat, own, count_free}
-use Rattle.token_pool.specs.Pieces.{TellsLive}
+use Rattle.token_pool.specs.Turns.{turn, held_after, flat, own, count_free}
+use Rattle.token_pool.specs.Turns as turns
+use Rattle.token_pool.specs.Pieces.{TellsLive, Hands}
+use Rattle.token_pool.specs.declared.pieces.Taken.{Taken}
+use Rattle.token_pool.specs.declared.pieces.Taken.TheVariants as taken
+use Rattle.token_pool.specs.Branches.{HandsSeed, branch_turn, branch_taken}
 use Rattle.token_pool.specs.declared.entries.Booked.TheVariants.{Done}
 use Rattle.token_pool.specs.Booking.{moves_of, Moves, Books, BookedAs}
 use Rattle.token_pool.proofs.Holding.{in_sum, sum_after_set}
 use Rattle.token_pool.proofs.Moving.{book_keeps, tickets_length}
 use Rattle.token_pool.proofs.Free.{counted}
 use Rattle.token_pool.proofs.Starting.{start_good}
-use Rattle.token_pool.proofs.Taking.{take_keeps, take_gives}
+use Rattle.token_pool.proofs.Taking.{take_keeps, take_gives, take_branch_keeps, take_branch_gives}
 
 module _ (p : Pool) (good : Good p) where
   pub low : (i : ℕ) → IsSome (get p.state.tokens i) → i < p.state.next
@@ -59,10 +63,58 @@ told_live p P w t good e l h = go t (h ∙ ap (λ P. turn P w) (sym e))
 pub told_good : (p P : Pool) (w : ℕ) (t : Told) (held : List (Option Held)) → Good p → p ≡ P → w < P.workers →
     t ≡ turn P w → held ≡ held_after t p.held w → Good (record p { held = held })
 told_good p P w t held good e l h s =
-    let k : taken p w ≡ record p { held = held } =
+    let k : turns.taken p w ≡ record p { held = held } =
     ap (λ (h : List (Option Held)). record p { held = h }) (ap (λ t. held_after t p.held w) (ap (λ P. turn P w) e ∙ sym h) ∙
     sym s) in
     subst Good k (take_keeps p w good (subst (λ (P : Pool). w < P.workers) (sym e) l))
+
+-- the same of a worker that plays branches
+pub branch_told_live : (p P : Pool) (w : ℕ) (t : Told) → Good p → p ≡ P → w < P.workers → t ≡ branch_turn P w → TellsLive p.state t
+branch_told_live p P w t good e l h = go t (h ∙ ap (λ P. branch_turn P w) (sym e))
+  where
+    go : (t : Told) → t ≡ branch_turn p w → TellsLive p.state t
+    go Stopped h = tt
+    go (Token k) h = (take_branch_gives p w k good (subst (λ (P : Pool). w < P.workers) (sym e) l) (sym h)).1
+    go Ended h = tt
+    go Idle h = tt
+    go Reserved h = tt
+
+pub branch_told_good : (p P : Pool) (w : ℕ) (t : Told) (held : List (Option Held)) → Good p → p ≡ P → w < P.workers →
+    t ≡ branch_turn P w → held ≡ held_after t p.held w → Good (record p { held = held })
+branch_told_good p P w t held good e l h s =
+    let k : branch_taken p w ≡ record p { held = held } =
+    ap (λ (h : List (Option Held)). record p { held = h }) (ap (λ t. held_after t p.held w) (ap (λ P. branch_turn P w) e ∙ sym h) ∙
+    sym s) in
+    subst Good k (take_branch_keeps p w good (subst (λ (P : Pool). w < P.workers) (sym e) l))
+
+-- what is handed out is a seed
+pub hands_seed : (p P : Pool) (w : ℕ) (t : Told) (r : Taken) → Good p → p ≡ P → w < P.workers → t ≡ branch_turn P w →
+    Hands p.state t r → HandsSeed P.net r
+hands_seed p P w t r good e l h hands = subst (λ (P : Pool). HandsSeed P.net r) e (go t r (h ∙ ap (λ P. branch_turn P w) (sym e)) hands)
+  where
+    place : w < p.workers
+    place = subst (λ (P : Pool). w < P.workers) (sym e) l
+
+    few : (h : Held) → Token h ≡ branch_turn p w → h.allowance ≤ most_budget
+    few h q =
+        let here = (take_branch_gives p w h good place (sym q)).0 in
+        let s = in_sum (branch_taken p w).held w h here in
+        let i = (take_branch_keeps p w good place).within in
+        let b = good.limits.few_moves in
+        omega (arith, s, i, b)
+
+    go : (t : Told) (r : Taken) → t ≡ branch_turn p w → Hands p.state t r → HandsSeed p.net r
+    go (Token h) (taken.Token k) q is =
+        let a = is.allowance in
+        let f = few h q in ((tickets_in_log p.log, p.state, h.ticket, good.leads, is.token), omega (arith, a, f))
+    go t taken.Idle q is = tt
+    go t taken.Reserved q is = tt
+    go t taken.Ended q is = tt
+    go t taken.Stopped q is = tt
+    go Stopped (taken.Token k) q is = absurd is
+    go Ended (taken.Token k) q is = absurd is
+    go Idle (taken.Token k) q is = absurd is
+    go Reserved (taken.Token k) q is = absurd is
 
 pub start_ready : (net net' : NetTree) (budget workers : ℕ) (S : MapState) (log : List Entry) (held : List (Option Held)) → Runs net →
     InLimits budget workers
@@ -89,6 +141,13 @@ module _ (p : Pool) (good : Good p) (w : ℕ) (h : Held) (owned : own p.held w �
 
   pub still_reached : IsReachedWithin p.net most_budget p.state
   still_reached = reached p good (let f = fits 1 (good.allowed w h holds) in omega (arith, f))
+
+  -- no more are set aside than a run may have moves
+  pub few_aside : h.allowance ≤ most_budget
+  few_aside = let s = in_sum p.held w h holds in let i = good.within in let b = good.limits.few_moves in omega (arith, s, i, b)
+
+  pub some_aside : 1 ≤ h.allowance
+  some_aside = good.allowed w h holds
 
   -- less is set aside for all where it lets go
   pub let_go_small : allowances (set p.held w None) < 2 ^ 32

@@ -19,6 +19,7 @@ use Rattle.token_pool.specs.declared.entries.Told.TheVariants.{Stopped, Token, E
 use Rattle.token_pool.specs.Pools.{Pool, Holds, Good}
 use Rattle.token_pool.specs.Turns.{IsLeastFree, is_held, none_held, free, least_free, spent, allowance, is_ended, flat, own, on_own}
 use Rattle.token_pool.specs.Turns.{on_free, turn, held_after, taken}
+use Rattle.token_pool.specs.Branches.{words_in, for_branch, widened, branch_turn, branch_taken}
 use Rattle.token_pool.proofs.Holding.{none_aside, at_place, held_after_set, set_same, sum_after_set, not_held, some_held, none_is}
 use Rattle.token_pool.proofs.Holding.{none_alone}
 use Rattle.token_pool.proofs.Free.{free_at}
@@ -99,25 +100,30 @@ reserved_line false None false (Some i) false a q = absurd cc
 part_of : (q r : ℕ) → q ≤ r → 1 ≤ r → (1 ≤ min 64 (max 1 q)) × (min 64 (max 1 q) ≤ r)
 part_of q r l m = (omega arith, omega arith)
 
+branch_part_of : (q r words : ℕ) → q ≤ r → 1 ≤ r → (1 ≤ min (max 1 q) (max 4096 words)) ×
+    (min (max 1 q) (max 4096 words) ≤ r)
+branch_part_of q r words l m = (omega arith, omega arith)
+
 -- a token that is free is live, and its ticket isn't held
 free_live : (b : Bool) (o : Option TokenTree) (x : TokenTree) → (if b then None else o) ≡ Some x → (b ≡ false) × (o ≡ Some x)
 free_live true o x h = absurd cc
 free_live false o x h = (refl, h)
 
 module _ (p : Pool) (good : Good p) where
-  -- a free ticket is given to a worker that holds nothing
+  -- what is left where the budget isn't made or set aside
+  some_left : nat_eq (spent p) p.budget ≡ false → 1 ≤ p.budget - spent p
+  some_left room = ⊎_elim (λ k. omega arith)
+      (λ k. let i = good.within in let e = eq-eqb (spent p) p.budget (omega (arith, i, k)) in
+      let bad : true ≡ false = sym e ∙ room in absurd cc) (cases_lt (spent p) p.budget)
+
+  -- a free ticket is given to a worker that holds nothing, with some of what is left
   gives_good : (w : ℕ) (h : Held) → w < p.workers → slice_get p.held w ≡ Some None → least_free p ≡ Some h.ticket →
-      nat_eq (spent p) p.budget ≡ false → h.allowance ≡ allowance (p.budget - spent p) p.workers →
-      Good (record p { held = set p.held w (Some h) })
-  gives_good w h l own found room allowed =
+      1 ≤ h.allowance → h.allowance ≤ p.budget - spent p → Good (record p { held = set p.held w (Some h) })
+  gives_good w h l own found some few =
       let (_, (x, f), below) = least_found (λ i. get (free p) i) p.state.next 0 h.ticket found in
       let (nobody, here) = free_live (is_held p.held h.ticket) (get p.state.tokens h.ticket) x
       (sym (free_at p.state.tokens p.held h.ticket) ∙ f) in
       let apart' = not_held p.held h.ticket nobody in
-      let left : 1 ≤ p.budget - spent p = ⊎_elim (λ k. omega arith)
-      (λ k. let i = good.within in let e = eq-eqb (spent p) p.budget (omega (arith, i, k)) in
-      let bad : true ≡ false = sym e ∙ room in absurd cc) (cases_lt (spent p) p.budget) in
-      let part = part_of ((p.budget - spent p) / p.workers) (p.budget - spent p) (div-le_self (p.budget - spent p) p.workers) left in
       let sum = sum_after_set p.held w None (Some h) own in
       record {
         runs = good.runs;
@@ -136,9 +142,9 @@ module _ (p : Pool) (good : Good p) where
             (held_after_set p.held w u (Some h) k bt))
             (held_after_set p.held w v (Some h) g at);
         allowed = λ v g at. ⊎_elim
-            (λ q. let e : h ≡ g = cc in let s = ap (λ (k : Held). k.allowance) e in let m = part.0 in omega (arith, s, m, allowed))
+            (λ q. let e : h ≡ g = cc in let s = ap (λ (k : Held). k.allowance) e in omega (arith, s, some))
             (λ q. good.allowed v g q.1) (held_after_set p.held w v (Some h) g at);
-        within = let m = part.1 in let i = good.within in omega (arith, sum, m, i, allowed);
+        within = let i = good.within in omega (arith, sum, i, few);
         makers = good.makers;
         alone = λ one. record {
           ours = (good.alone one).ours;
@@ -165,7 +171,12 @@ module _ (p : Pool) (good : Good p) where
   keeps w l Reserved e = good
   keeps w l (Token h) e = ⊎_elim
       (λ own. subst (λ held. Good (record p { held = held })) (sym (set_same p.held w (Some h) own)) good)
-      (λ g. gives_good w h l (own_place w l g.own) g.found g.room g.allowed)
+      (λ g. let part = part_of ((p.budget - spent p) / p.workers) (p.budget - spent p) (div-le_self (p.budget - spent p) p.workers)
+      (some_left g.room) in
+      let a = g.allowed in
+      let some = part.0 in
+      let few = part.1 in
+      gives_good w h l (own_place w l g.own) g.found (omega (arith, a, some)) (omega (arith, a, few)))
       (lines p.stopped (slice_get p.held w) (is_ended p) (least_free p) (nat_eq (spent p) p.budget)
       (allowance (p.budget - spent p) p.workers) h e)
 
@@ -177,6 +188,30 @@ module _ (p : Pool) (good : Good p) where
       let at : Holds (taken p w).held w h = ap (λ t. slice_get (held_after t p.held w) w) e ∙
       at_place p.held w (Some h) (omega (arith, k)) in
       (at, (keeps w l (turn p w) refl).live w h at)
+
+  -- a worker that plays branches is given more of what is left
+  branch_keeps : (w : ℕ) → w < p.workers → (o : Option Held) → own p.held w ≡ o → (t : Told) → turn p w ≡ t →
+      Good (record p { held = held_after (if is_some o then t else widened p t) p.held w })
+  branch_keeps w l (Some g) q t e = keeps w l t e
+  branch_keeps w l None q Stopped e = good
+  branch_keeps w l None q Ended e = good
+  branch_keeps w l None q Idle e = good
+  branch_keeps w l None q Reserved e = good
+  branch_keeps w l None q (Token h) e = ⊎_elim
+      (λ own. let bad = ap flat own in absurd cc)
+      (λ g. let part = branch_part_of ((p.budget - spent p) / p.workers) (p.budget - spent p)
+      (words_in (get p.state.tokens h.ticket)) (div-le_self (p.budget - spent p) p.workers) (some_left g.room) in
+      gives_good w (for_branch p h) l (own_place w l g.own) g.found part.0 part.1)
+      (lines p.stopped (slice_get p.held w) (is_ended p) (least_free p) (nat_eq (spent p) p.budget)
+      (allowance (p.budget - spent p) p.workers) h e)
+
+  branch_held : (w : ℕ) (h : Held) → w < p.workers → branch_turn p w ≡ Token h → Holds (branch_taken p w).held w h ×
+      IsSome (get p.state.tokens h.ticket)
+  branch_held w h l e =
+      let k = good.places in
+      let at : Holds (branch_taken p w).held w h = ap (λ t. slice_get (held_after t p.held w) w) e ∙
+      at_place p.held w (Some h) (omega (arith, k)) in
+      (at, (branch_keeps w l (own p.held w) refl (turn p w) refl).live w h at)
 
   idle_holds : (w : ℕ) → turn p w ≡ Idle → (v : ℕ) × (h : Held) × Holds p.held v h
   idle_holds w e =
@@ -207,6 +242,13 @@ take_keeps p w good l = keeps p good w l (turn p w) refl
 pub take_gives : (p : Pool) (w : ℕ) (h : Held) → Good p → w < p.workers → turn p w ≡ Token h → Holds (taken p w).held w h ×
     IsSome (get p.state.tokens h.ticket)
 take_gives p w h good l e = gives_held p good w h l e
+
+pub take_branch_keeps : (p : Pool) (w : ℕ) → Good p → w < p.workers → Good (branch_taken p w)
+take_branch_keeps p w good l = branch_keeps p good w l (own p.held w) refl (turn p w) refl
+
+pub take_branch_gives : (p : Pool) (w : ℕ) (h : Held) → Good p → w < p.workers → branch_turn p w ≡ Token h →
+    Holds (branch_taken p w).held w h × IsSome (get p.state.tokens h.ticket)
+take_branch_gives p w h good l e = branch_held p good w h l e
 
 pub take_idles : (p : Pool) (w : ℕ) → Good p → turn p w ≡ Idle → (v : ℕ) × (h : Held) × Holds p.held v h
 take_idles p w good e = idle_holds p good w e

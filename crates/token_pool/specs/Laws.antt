@@ -1,5 +1,5 @@
 -- What keeps a pool good.
-use Rattle.std.specs.Prelude.{◌≡◌, ◌≤◌, ◌<◌, ◌⊎◌, ℕ, Some, None}
+use Rattle.std.specs.Prelude.{◌≡◌, ◌≤◌, ◌<◌, ◌⊎◌, ℕ, List, Some, None}
 use Rattle.net_build.specs.Nets.{NetTree}
 use Rattle.interleave_laws.specs.Runs.{Runs}
 use Rattle.interleave_laws.specs.Tickets.{IsLive}
@@ -7,7 +7,9 @@ use Rattle.token_pool.specs.declared.entries.Held.{Held}
 use Rattle.token_pool.specs.declared.entries.Told.TheVariants.{Token, Idle, Reserved}
 use Rattle.token_pool.specs.Pools.{Pool, Holds, InLimits, Good, started}
 use Rattle.token_pool.specs.Turns.{own, turn, taken, IsLeastFree}
+use Rattle.branch_runs.specs.Branching.{Grown, IsBranch}
 use Rattle.token_pool.specs.Booking.{Books, halted}
+use Rattle.token_pool.specs.Branches.{branch_turn, branch_taken, BranchMoves, BooksAll}
 use Rattle.token_pool.specs.declared.ending.Ended.{Ended}
 use Rattle.token_pool.specs.Ending.{Finishes, Replays}
 
@@ -49,3 +51,15 @@ StopKeeps = (p : Pool) → Good p → Good (halted p)
 -- what is made of a good pool by the finisher replays on its net
 abbrev pub FinishReplays : Type 0
 FinishReplays = (p : Pool) (e : Ended) → Good p → Finishes p e → Replays p.net p.budget p.workers e
+
+-- the same of a pool whose pieces are branches
+abbrev pub TakeBranchKeeps : Type 0
+TakeBranchKeeps = (p : Pool) (w : ℕ) → Good p → w < p.workers → Good (branch_taken p w)
+
+abbrev pub GivesBranchHeld : Type 0
+GivesBranchHeld = (p : Pool) (w : ℕ) (h : Held) → Good p → w < p.workers → branch_turn p w ≡ Token h →
+    Holds (branch_taken p w).held w h × IsLive p.state h.ticket
+
+abbrev pub BookBranchKeeps : Type 0
+BookBranchKeeps = (p q : Pool) (w : ℕ) (h : Held) (b : Grown) (tickets : List ℕ) → Good p → Holds p.held w h → w < p.workers →
+    IsBranch p.net b → BranchMoves p.state p.workers h b tickets → BooksAll p q w tickets → Good q

@@ -5,6 +5,7 @@ pub mod Pieces
 pub mod Booking
 pub mod Ending
 pub mod Benches
+pub mod Branches
 -- the laws
 pub mod Laws
 -- what serves the code's types only

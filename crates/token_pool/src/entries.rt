@@ -5,7 +5,7 @@
 pub struct Held {
     /// The token's number.
     pub ticket: u32,
-    /// How many of its moves may be booked at once, 1 to 64.
+    /// How many moves may be booked of it at once: of its own 1 to 64, and more where what it is given for is a branch.
     pub allowance: u32,
 }
 

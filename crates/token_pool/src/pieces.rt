@@ -17,7 +17,7 @@ pub struct Piece {
     pub ticket: u32,
     /// The token, in memory of the piece's own.
     pub token: Token,
-    /// How many of its moves may be booked at once, 1 to 64.
+    /// How many moves may be booked of it at once: of its own 1 to 64, and more where what it is given for is a branch.
     pub allowance: u32,
 }
 

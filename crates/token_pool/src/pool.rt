@@ -11,13 +11,16 @@ ghost use Rattle.token_pool.specs.Pools.{InLimits, Good, started, count_held, no
 ghost use Rattle.token_pool.specs.Turns.{turn, taken, count_free, spent, spare_pieces};
 ghost use Rattle.token_pool.specs.Booking.{BookedAs, HoldsOther, halted};
 ghost use Rattle.token_pool.specs.Ending.{Suits, Finishes, Replays};
+ghost use Rattle.token_pool.specs.Branches.{for_branch, widened, branch_turn, branch_taken, HandsSeed, plays_plain, BookedBranch};
 
 use crate::booking::{play, write_down};
+use crate::branches::{branch_part, play_branch, words_at, write_made};
 use crate::ending::play_on;
 use crate::pieces::hand;
 use crate::places::Places;
 use crate::turns::next_line;
-use crate::{Booked, Ended, Taken, Told};
+use crate::{Booked, Ended, Held, Taken, Told};
+use branch_runs::{Branch, OnNet};
 use interleave_core::Core;
 use move_rules::Moved;
 use net_build::Net;
@@ -157,8 +160,8 @@ impl PoolState {
         self.core.answer()
     }
 
-    // Whether there is a place for a worker of this number.
-    pub(crate) fn has_place(&self, worker: u32) -> bool
+    /// Whether there is a place for a worker of this number: the workers count from 0. Takes no memory.
+    pub fn has_place(&self, worker: u32) -> bool
         ensures { IsTrue result ↔ (worker < self.now.workers) }
     {
         worker < self.workers
@@ -220,6 +223,98 @@ impl PoolState {
         let done = self.log.len();
         let count = play(&mut self.core, &self.net, held, moved)?;
         write_down(&mut self.log, count, held.ticket, worker);
+        self.held.let_go(worker);
+        Ok(Booked::Done(done))
+    }
+
+    // A free ticket with what is set aside for a branch of it.
+    fn for_branch(&self, held: Held) -> Held
+        ensures { result ≡ for_branch self.now held }
+    {
+        let left = self.budget - self.spent();
+        let words = words_at(&self.core, held.ticket);
+        Held {
+            ticket: held.ticket,
+            allowance: branch_part(left, self.workers, words),
+        }
+    }
+
+    // What a worker is told that holds nothing, for a branch.
+    fn widened(&self, told: Told) -> Told
+        ensures { result ≡ widened self.now told }
+    {
+        match told {
+            Told::Token(held) => Told::Token(self.for_branch(held)),
+            Told::Stopped => Told::Stopped,
+            Told::Ended => Told::Ended,
+            Told::Idle => Told::Idle,
+            Told::Reserved => Told::Reserved,
+        }
+    }
+
+    // What a worker is told that plays branches.
+    fn told_branch(&self, worker: u32) -> Told
+        ensures { result ≡ branch_turn self.now worker }
+    {
+        let told = self.told(worker);
+        if self.held.held_by(worker).is_some() {
+            return told;
+        }
+        self.widened(told)
+    }
+
+    /// Whether a branch that is given out now is to be plain: with one worker, and while fewer tickets are free than there are workers.
+    /// Takes no memory.
+    pub fn plays_plain(&self) -> bool
+        ensures { result ≡ plays_plain self.now }
+    {
+        self.workers == 1 || self.free_count() < self.workers
+    }
+
+    /// Gives a worker that asks for a branch to play what `take` would give it, but with as many moves set aside for a free ticket as a
+    /// branch may have. After want of memory all is as before.
+    ///
+    /// # Errors
+    ///
+    /// Want of memory, and only where there is a token to hand out.
+    pub fn take_branch(&mut self, worker: u32) -> Result<Taken, AllocError>
+        requires { worker < self.old.workers }
+        ensures handed { IfOk result (Hands self.old.state (branch_turn self.old worker)) }
+        ensures seed { IfOk result (HandsSeed self.old.net) }
+        ensures ok { OnOk result (self.new ≡ branch_taken self.old worker) }
+        ensures err { OnErr result (self.new ≡ self.old) }
+        ensures ample { OnErr result ((h : Held) × (branch_turn self.old worker ≡ Token h)) }
+    {
+        let told = self.told_branch(worker);
+        let taken = hand(&self.core, told)?;
+        self.held.hold(worker, told);
+        Ok(taken)
+    }
+
+    /// Books a branch of the token that the worker holds, where it has at least one move and no more than are set aside, and is plain if
+    /// there is one worker; otherwise it makes exactly one step of that token. The worker holds nothing afterwards. After want of memory
+    /// all is as before.
+    ///
+    /// # Errors
+    ///
+    /// Want of memory.
+    pub fn book_branch<N: OnNet>(
+        &mut self,
+        worker: u32,
+        branch: Branch<N>,
+    ) -> Result<Booked, AllocError>
+        requires place { worker < self.old.workers }
+        requires named { self.old.net ≡ N.net }
+        ensures ok { IfOk result (BookedBranch self.old self.new worker branch) }
+        ensures err { OnErr result (self.new ≡ self.old) }
+    {
+        let Some(held) = self.held.held_by(worker) else {
+            return Ok(Booked::NothingHeld);
+        };
+        let done = self.log.len();
+        let next = self.core.next_ticket();
+        let made = play_branch(&mut self.core, &self.net, held, self.workers, branch)?;
+        write_made(&mut self.log, held.ticket, next, worker, made);
         self.held.let_go(worker);
         Ok(Booked::Done(done))
     }

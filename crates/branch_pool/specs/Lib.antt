@@ -1,0 +1,2 @@
+-- what a reader has to believe: what a worker is given to play, and what is taken in
+pub mod Benches

@@ -1,0 +1,2 @@
+-- what a row leaves was reached in so many moves
+mod Reaching

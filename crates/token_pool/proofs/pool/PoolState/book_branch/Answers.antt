@@ -1,0 +1,60 @@
+use Rattle.std.proofs.Common.{◌≤◌, ◌++◌, length, sym, ap, ◌∙◌, subst, arith}
+use Rattle.schedule_log.specs.Logs.{LogSeen, by}
+use Rattle.token_pool.specs.contracts.pool.PoolState.{the_view}
+use Rattle.token_pool.specs.Branches.{made_tickets}
+use Rattle.token_pool.proofs.Standing.{still_reached, fits, holds, few_aside, let_go_small}
+use Rattle.token_pool.proofs.Branching.{is_branch, branch_good, branch_booked}
+use Rattle.token_pool.proofs.pool.PoolState.book_branch.Goals as goal
+
+pub play_branch-requires-clause-reached : goal.play_branch-requires-clause-reached
+play_branch-requires-clause-reached g c =
+    still_reached (the_view c.self.inside) c.self.invariant.0 c.args.worker c.in-Some.held (sym c.in-Some.ensures)
+
+pub play_branch-requires-clause-small : goal.play_branch-requires-clause-small
+play_branch-requires-clause-small g c =
+    few_aside (the_view c.self.inside) c.self.invariant.0 c.args.worker c.in-Some.held (sym c.in-Some.ensures)
+
+pub write_made-requires-clause-room : goal.write_made-requires-clause-room
+write_made-requires-clause-room g c =
+    let tickets = made_tickets c.in-Some.held.ticket c.next_ticket-next.result c.in_ok-made.made in
+    let few = subst (λ n. length (made_tickets c.in-Some.held.ticket n c.in_ok-made.made) ≤ c.in-Some.held.allowance)
+    (sym c.next_ticket-next.ensures) c.in_ok-made.ensures.few in
+    let f = fits (the_view c.self.inside) c.self.invariant.0 c.args.worker c.in-Some.held (sym c.in-Some.ensures) (length tickets) few in
+    let r = c.self.invariant.1 in
+    omega (arith, f, r)
+
+pub let_go-requires-clause-small : goal.let_go-requires-clause-small
+let_go-requires-clause-small g c =
+    let_go_small (the_view c.self.inside) c.self.invariant.0 c.args.worker c.in-Some.held (sym c.in-Some.ensures)
+
+pub invariant_of-self-2 : goal.invariant_of-self-2
+invariant_of-self-2 g c =
+    let p = the_view c.self.inside in
+    let i = c.in-Some.held.ticket in
+    let made = c.in_ok-made.made in
+    let room = ap (λ (l : LogSeen). l.room) c.write_made.ensures in
+    let r = c.self.invariant.1 in (
+      branch_good p c.self.invariant.0 c.args.worker c.in-Some.held
+          (holds p c.self.invariant.0 c.args.worker c.in-Some.held (sym c.in-Some.ensures)) c.args.branch
+          (is_branch p c.args.self.now g.N.OnNet.net c.self.view_is c.requires.named _ c.args.branch c.branch.view_is c.branch.invariant)
+          (made_tickets i c.self.inside.core.next made) c.in_ok-made.ensures.moves c.play_branch.new.core c.write_made.new.log.entries
+          c.let_go.new.self c.in_ok-made.ensures.steps
+          (ap (λ (l : LogSeen). l.entries) c.write_made.ensures
+          ∙ ap (λ n. c.self.inside.log.entries ++ by c.args.worker (made_tickets i n made)) c.next_ticket-next.ensures)
+          c.let_go.ensures c.args.self.now c.self.view_is c.requires.place,
+      omega (arith, r, room),
+    )
+
+pub returns-clause-ok : goal.returns-clause-ok
+returns-clause-ok g c =
+    let p = the_view c.self.inside in
+    let i = c.in-Some.held.ticket in
+    let made = c.in_ok-made.made in
+    branch_booked p c.self.invariant.0 c.args.worker c.in-Some.held
+    (holds p c.self.invariant.0 c.args.worker c.in-Some.held (sym c.in-Some.ensures)) c.args.branch
+    (is_branch p c.args.self.now g.N.OnNet.net c.self.view_is c.requires.named _ c.args.branch c.branch.view_is c.branch.invariant)
+    (made_tickets i c.self.inside.core.next made) c.in_ok-made.ensures.moves c.play_branch.new.core c.write_made.new.log.entries
+    c.let_go.new.self c.in_ok-made.ensures.steps
+    (ap (λ (l : LogSeen). l.entries) c.write_made.ensures
+    ∙ ap (λ n. c.self.inside.log.entries ++ by c.args.worker (made_tickets i n made)) c.next_ticket-next.ensures)
+    c.let_go.ensures c.args.self.now c.len-done.result c.self.view_is c.len-done.ensures

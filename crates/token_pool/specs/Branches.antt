@@ -1,0 +1,103 @@
+-- What a worker is given that plays branches, and what is booked of them.
+-- It is told what any other worker is told, but what is set aside for a free ticket is more: enough that a branch pays for the two visits
+-- and the copies of its token. Booking a branch is as many moves of a run as the branch has, each under the ticket that its own ticket
+-- is called in the pool's state. What isn't taken over is one step of the held ticket.
+use Rattle.std.specs.Prelude.{◌≡◌, ◌≤◌, ◌⊎◌, ℕ, ◌+◌, ◌-◌, ◌/◌, min, max, nat_eq, nat_lt, ◌||◌, if◌then◌else◌, Bool, true}
+use Rattle.std.specs.Prelude.{List, [], ◌∷◌, ◌++◌, length, map, set, Option, Some, None, is_some}
+use Rattle.std.specs.FinMap.{get}
+use Rattle.pcf_values.specs.Most.{most_budget}
+use Rattle.token_stacks.specs.Words.{work_words, box_words}
+use Rattle.net_build.specs.Nets.{NetTree}
+use Rattle.move_rules.specs.Places.{TokenTree, place_of, work_at, boxes_at}
+use Rattle.move_rules.specs.Views.{token_of}
+use Rattle.interleave_laws.specs.Maps.{MapState, run_map}
+use Rattle.branch_laws.specs.Branches.{name}
+use Rattle.branch_laws.specs.Laws.{Occurs}
+use Rattle.branch_runs.specs.Branching.{Grown}
+use Rattle.schedule_log.specs.Logs.{by}
+use Rattle.token_pool.specs.declared.entries.Held.{Held}
+use Rattle.token_pool.specs.declared.entries.Booked.{Booked}
+use Rattle.token_pool.specs.declared.entries.Booked.TheVariants.{Done, NothingHeld}
+use Rattle.token_pool.specs.declared.entries.Told.{Told}
+use Rattle.token_pool.specs.declared.entries.Told.TheVariants as told
+use Rattle.token_pool.specs.declared.pieces.Taken.{Taken}
+use Rattle.token_pool.specs.declared.pieces.Taken.TheVariants as taken
+use Rattle.token_pool.specs.Pools.{Pool, Holds}
+use Rattle.token_pool.specs.Turns.{turn, held_after, own, spent, count_free}
+
+-- how many words both stacks of a token have
+abbrev pub words_of : TokenTree → ℕ
+words_of x = length (work_words (work_at (place_of x))) + length (box_words (boxes_at (place_of x)))
+
+abbrev pub words_in : Option TokenTree → ℕ
+words_in None = 0
+words_in (Some x) = words_of x
+
+-- what is set aside for a branch: a worker's part of what is left, at least 1, and at most 4,096 or as many moves as the token has words
+abbrev pub branch_allowance : ℕ → ℕ → ℕ → ℕ
+branch_allowance left workers words = min (max 1 (left / workers)) (max 4096 words)
+
+-- a free ticket with a branch's allowance
+abbrev pub for_branch : Pool → Held → Held
+for_branch p h = record {
+  ticket = h.ticket;
+  allowance = branch_allowance (p.budget - spent p) p.workers (words_in (get p.state.tokens h.ticket));
+}
+
+abbrev pub widened : Pool → Told → Told
+widened p (told.Token h) = told.Token (for_branch p h)
+widened p told.Stopped = told.Stopped
+widened p told.Ended = told.Ended
+widened p told.Idle = told.Idle
+widened p told.Reserved = told.Reserved
+
+-- what a worker that plays branches is told: what it holds, if it holds something, and else what any other is told, for a branch
+abbrev pub branch_turn : Pool → ℕ → Told
+branch_turn p w = if is_some (own p.held w) then turn p w else widened p (turn p w)
+
+-- the worker holds what it was given, and all else stays
+abbrev pub branch_taken : Pool → ℕ → Pool
+branch_taken p w = record p { held = held_after (branch_turn p w) p.held w }
+
+-- what is handed out is a token of the net's runs, and as many moves as a run may have are enough for it
+abbrev pub HandsSeed : NetTree → Taken → Type 0
+HandsSeed net (taken.Token k) = Occurs net (token_of k.token) × (k.allowance ≤ most_budget)
+HandsSeed net taken.Idle = Unit {0}
+HandsSeed net taken.Reserved = Unit {0}
+HandsSeed net taken.Ended = Unit {0}
+HandsSeed net taken.Stopped = Unit {0}
+
+-- whether branches are to be plain: where there is one worker, and while fewer tickets are free than there are workers, so that each fork
+-- is booked at once, and others can take what it forked
+abbrev pub plays_plain : Pool → Bool
+plays_plain p = nat_eq p.workers 1 || nat_lt (count_free p) p.workers
+
+-- the branch is taken over: it is one of the held ticket's token, with at least one move and no more than are set aside, and plain
+-- where there is one worker
+pub record TakesOver (S : MapState) (workers : ℕ) (h : Held) (b : Grown) : Type 0 where
+  pub token : get S.tokens h.ticket ≡ Some b.before
+  pub some : 1 ≤ length b.log
+  pub few : length b.log ≤ h.allowance
+  pub plain : workers ≡ 1 → b.plain ≡ true
+
+-- the tickets that move: those of a branch that is taken over, as they are called in the state, and else the held one, once
+abbrev pub BranchMoves : MapState → ℕ → Held → Grown → List ℕ → Type 0
+BranchMoves S workers h b tickets =
+    (TakesOver S workers h b × (tickets ≡ map (name h.ticket S.next) b.log)) ⊎
+    ((TakesOver S workers h b → ⊥) × (tickets ≡ h.ticket ∷ []))
+
+-- moves of these tickets lead from p to q, where worker w holds nothing
+pub record BooksAll (p q : Pool) (w : ℕ) (tickets : List ℕ) : Type 0 where
+  pub steps : run_map p.net p.state tickets ≡ Some q.state
+  pub rest : q ≡ record p { state = q.state; log = p.log ++ by w tickets; held = set p.held w None }
+
+-- what a worker that hands in a branch is told: that it holds nothing, or after how many moves its own were booked
+abbrev pub BookedBranch : Pool → Pool → ℕ → Grown → Booked → Type 0
+BookedBranch p q w b NothingHeld = (own p.held w ≡ None) × (q ≡ p)
+BookedBranch p q w b (Done k) = (h : Held) × (tickets : List ℕ) × Holds p.held w h × (k ≡ length p.log) ×
+    BranchMoves p.state p.workers h b tickets × BooksAll p q w tickets
+
+-- the tickets that move, of a branch's own ones, where it was taken over
+abbrev pub made_tickets : ℕ → ℕ → Option (List ℕ) → List ℕ
+made_tickets i next None = i ∷ []
+made_tickets i next (Some own) = map (name i next) own
