@@ -19,7 +19,8 @@ use Rattle.batch_pool.specs.declared.asking.Offer.TheVariants as offer
 use Rattle.batch_pool.specs.declared.pieces.BatchTaken.{BatchTaken}
 use Rattle.batch_pool.specs.declared.pieces.BatchTaken.TheVariants as answer
 use Rattle.batch_pool.specs.Steps.{OffersAt, IsServing, GivesAgain, GivesFirst, TakesFirst}
-use Rattle.batch_pool.proofs.Pools.{one_there, set_same}
+use Rattle.batch_pool.specs.Keeping.{ArePassed, Spared, Counted}
+use Rattle.batch_pool.proofs.Pools.{one_there, set_same, got_after_set}
 
 -- what is held at a place is what its worker owns
 pub owns : (o : Option (Option Held)) (h : Held) → o ≡ Some (Some h) → flat o ≡ Some h
@@ -67,6 +68,11 @@ module _ (p : Pool) (w : ℕ) (running : p.stopped ≡ false) where
     pub over_is : turn p w ≡ Ended → is_ended p ≡ true
     over_is e = ends_so (is_ended p) (least_free p) (length p.log + allowances p.held) p.budget p.workers (sym told_next ∙ e)
 
+    -- a pool that is over has nothing any more
+    pub over_told : is_ended p ≡ true → turn p w ≡ Ended
+    over_told e = told_next ∙
+        ap (λ b. if b then Ended else on_free (least_free p) (offered (length p.log + allowances p.held) p.budget p.workers)) e
+
     waits_so : (b : Bool) (t u : Told) → (if b then Ended else t) ≡ u → (u ≡ Idle) ⊎ (u ≡ Reserved) → b ≡ false
     waits_so true t u e (inl h) = absurd cc
     waits_so true t u e (inr h) = absurd cc
@@ -97,8 +103,12 @@ pub record Searched (pools : List Pool) (w n : ℕ) (over : Bool) : Type 0 where
   pub none : NoneGivesBelow pools w n
   pub below : Below over pools n
 
-pub search_begins : (pools : List Pool) (w : ℕ) → Searched pools w 0 true
-search_begins pools w = record { none = λ j p l at g. absurd (omega arith); below = λ j p l at. absurd (omega arith) }
+-- jobs that are over give no ticket, so that a search may begin behind them
+search_begins : (pools : List Pool) (w n : ℕ) → IsServing pools w → HoldsNowhere pools w → ArePassed pools n → Searched pools w n true
+search_begins pools w n serving free over = record {
+  none = λ j p l at g. over_gives_none (turn p w) g.0 (over_told p w (serving j p at).1 (λ h k. free j h (p, at, k)) (over j p l at)) g.1;
+  below = over;
+}
 
 module _ (pools : List Pool) (w : ℕ) (serving : IsServing pools w) (free : HoldsNowhere pools w) (n : ℕ) (over : Bool)
     (s : Searched pools w n over) (p : Pool) (at : IsPool pools n p) where
@@ -199,14 +209,31 @@ stays_over pools w j after x = x.after_it ∙ ap (set pools j) x.offers.1 ∙ se
 pub stays_waiting : (pools : List Pool) (w j : ℕ) (after : List Pool) → OffersAt pools w j offer.Waits after → after ≡ pools
 stays_waiting pools w j after x = x.after_it ∙ ap (set pools j) x.offers.1 ∙ set_same pools j x.old x.job
 
--- where the search has come to, with the jobs as they are now
-pub record Comes (pools now : List Pool) (w n : ℕ) (over : Bool) : Type 0 where
+-- where the search has come to, with the jobs as they are now, and with so many that it knows to be over
+pub record Comes (pools now : List Pool) (w n : ℕ) (over : Bool) (passed spare : ℕ) : Type 0 where
   pub same : now ≡ pools
   pub search : Searched pools w n over
+  pub behind : passed ≤ n
+  pub counted : Counted now passed spare
 
-module _ (pools now : List Pool) (w j : ℕ) (over : Bool) (x : Comes pools now w j over) where
+module _ (pools now : List Pool) (w j : ℕ) (over : Bool) (passed spare : ℕ) (x : Comes pools now w j over passed spare) where
   there : (o : Offer) (after : List Pool) → OffersAt now w j o after → OffersAt pools w j o after
   there o after a = subst (λ (now : List Pool). OffersAt now w j o after) x.same a
+
+  still_passed : (after : List Pool) → after ≡ pools → ArePassed after passed
+  still_passed after e = subst (λ (ps : List Pool). ArePassed ps passed) (x.same ∙ sym e) x.counted.over
+
+  -- one job more is passed where all are over so far
+  passes : (after : List Pool) (b : Bool) → after ≡ pools → Below b pools (j + 1) →
+      ((if b then j + 1 else passed) ≤ j + 1) × ArePassed after (if b then j + 1 else passed)
+  passes after true e below = (omega arith, subst (λ (ps : List Pool). ArePassed ps (j + 1)) (sym e) below)
+  passes after false e below = let l = x.behind in (omega (arith, l), still_passed after e)
+
+  -- where a job behind them goes on, they stay over
+  pub passed_stay : (o : Offer) (after : List Pool) → OffersAt now w j o after → ArePassed after passed
+  passed_stay o after a = subst (λ (ps : List Pool). ArePassed ps passed) (sym a.after_it)
+      (λ i p l at. ⊎_elim (λ e. absurd (let b = x.behind in let i = e.0 in omega (arith, b, i, l))) (λ e. x.counted.over i p l e.1)
+      (got_after_set now j i a.new p at))
 
   first_it : (k : Piece) (after : List Pool) → OffersAt pools w j (offer.Token k) after → GivesFirst pools w j k after
   first_it k after a =
@@ -227,43 +254,63 @@ module _ (pools now : List Pool) (w j : ℕ) (over : Bool) (x : Comes pools now 
   gives_first o k after e a = first_it k after (subst (λ o. OffersAt pools w j o after) e (there o after a))
 
   module _ (serving : IsServing pools w) (free : HoldsNowhere pools w) where
-    waiting_it : (after : List Pool) → OffersAt pools w j offer.Waits after → Comes pools after w (j + 1) false
-    waiting_it after a = record {
-      same = stays_waiting pools w j after a;
-      search = goes_waiting pools w serving free j over x.search a.old a.job a.offers.0;
-    }
+    waiting_it : (after : List Pool) (n : ℕ) → Spared after n → OffersAt pools w j offer.Waits after →
+        Comes pools after w (j + 1) false passed n
+    waiting_it after n s a =
+        let same = stays_waiting pools w j after a in
+        let l = x.behind in
+        record {
+          same = same;
+          search = goes_waiting pools w serving free j over x.search a.old a.job a.offers.0;
+          behind = omega (arith, l);
+          counted = record { over = still_passed after same; spared = s };
+        }
 
-    over_it : (after : List Pool) → OffersAt pools w j offer.Over after → Comes pools after w (j + 1) over
-    over_it after a = record {
-      same = stays_over pools w j after a;
-      search = goes_over pools w serving free j over x.search a.old a.job a.offers.0;
-    }
+    over_it : (after : List Pool) (n k : ℕ) → Spared after n → k ≡ (if over then j + 1 else passed) →
+        OffersAt pools w j offer.Over after → Comes pools after w (j + 1) over k n
+    over_it after n k s e a =
+        let same = stays_over pools w j after a in
+        let search = goes_over pools w serving free j over x.search a.old a.job a.offers.0 in
+        let y = passes after over same search.below in
+        record {
+          same = same;
+          search = search;
+          behind = subst (λ k. k ≤ j + 1) (sym e) y.0;
+          counted = record { over = subst (ArePassed after) (sym e) y.1; spared = s };
+        }
 
     -- the search goes on behind a job that waits
-    pub comes_waiting : (o : Offer) (after : List Pool) (b : Bool) → o ≡ offer.Waits → b ≡ false → OffersAt now w j o after →
-        Comes pools after w (j + 1) b
-    comes_waiting o after b e f a = subst (Comes pools after w (j + 1)) (sym f)
-        (waiting_it after (subst (λ o. OffersAt pools w j o after) e (there o after a)))
+    pub comes_waiting : (o : Offer) (after : List Pool) (b : Bool) (k n : ℕ) → o ≡ offer.Waits → b ≡ false → k ≡ passed →
+        Spared after n → OffersAt now w j o after → Comes pools after w (j + 1) b k n
+    comes_waiting o after b k n e f g s a = subst (λ k. Comes pools after w (j + 1) b k n) (sym g)
+        (subst (λ b. Comes pools after w (j + 1) b passed n) (sym f)
+        (waiting_it after n s (subst (λ o. OffersAt pools w j o after) e (there o after a))))
 
     -- and behind one that is over
-    pub comes_over : (o : Offer) (after : List Pool) (b : Bool) → o ≡ offer.Over → b ≡ over → OffersAt now w j o after →
-        Comes pools after w (j + 1) b
-    comes_over o after b e f a = subst (Comes pools after w (j + 1)) (sym f)
-        (over_it after (subst (λ o. OffersAt pools w j o after) e (there o after a)))
+    pub comes_over : (o : Offer) (after : List Pool) (b : Bool) (k n : ℕ) → o ≡ offer.Over → b ≡ over →
+        k ≡ (if over then j + 1 else passed) → Spared after n → OffersAt now w j o after → Comes pools after w (j + 1) b k n
+    comes_over o after b k n e f g s a = subst (λ b. Comes pools after w (j + 1) b k n) (sym f)
+        (over_it after n k s g (subst (λ o. OffersAt pools w j o after) e (there o after a)))
 
-pub comes_first : (pools : List Pool) (w : ℕ) → Comes pools pools w 0 true
-comes_first pools w = record { same = refl; search = search_begins pools w }
+pub comes_first : (pools : List Pool) (w passed spare : ℕ) → IsServing pools w → HoldsNowhere pools w → Counted pools passed spare →
+    Comes pools pools w passed true passed spare
+comes_first pools w passed spare serving free x = record {
+  same = refl;
+  search = search_begins pools w passed serving free x.over;
+  behind = omega arith;
+  counted = x;
+}
 
 -- what is told where no job gave a ticket
-pub ends_over : (pools now : List Pool) (w n : ℕ) (over : Bool) (t : BatchTaken) → Comes pools now w n over → length pools ≤ n →
-    over ≡ true → t ≡ answer.Ended → TakesFirst pools w t now
-ends_over pools now w n over t x l e f =
+pub ends_over : (pools now : List Pool) (w n : ℕ) (over : Bool) (k m : ℕ) (t : BatchTaken) → Comes pools now w n over k m →
+    length pools ≤ n → over ≡ true → t ≡ answer.Ended → TakesFirst pools w t now
+ends_over pools now w n over k m t x l e f =
     let s = subst (λ b. Below b pools n) e x.search.below in
     subst (λ t. TakesFirst pools w t now) (sym f) (all_over pools n l s, x.same)
 
-pub ends_waiting : (pools now : List Pool) (w n : ℕ) (over : Bool) (t : BatchTaken) → Comes pools now w n over →
+pub ends_waiting : (pools now : List Pool) (w n : ℕ) (over : Bool) (k m : ℕ) (t : BatchTaken) → Comes pools now w n over k m →
     length pools ≤ n → over ≡ false → t ≡ answer.Pause → TakesFirst pools w t now
-ends_waiting pools now w n over t x l e f =
+ends_waiting pools now w n over k m t x l e f =
     let s = subst (λ b. Below b pools n) e x.search.below in
     subst (λ t. TakesFirst pools w t now) (sym f) (not_all_over pools n s, none_at_all pools w n l x.search.none, x.same)
 

@@ -1,4 +1,5 @@
 mod Pools
+mod Counts
 mod Asked
 mod Keeping
 mod Standing

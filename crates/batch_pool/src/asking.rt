@@ -1,13 +1,15 @@
 //! How the jobs are asked for a ticket, the least one first.
-ghost use Rattle.std.specs.Prelude.{◌≡◌, ◌<◌, ◌≤◌, ℕ, false, length, IfOk, OnErr};
+ghost use Rattle.std.specs.Prelude.{◌≡◌, ◌<◌, ◌≤◌, ◌+◌, ℕ, false, length, IfOk, OnErr, if◌then◌else◌};
 ghost use Rattle.token_pool.specs.declared.entries.Held.{Held};
 ghost use Rattle.token_pool.specs.Pools.{Pool};
 ghost use Rattle.batch_pool.specs.Batches.{IsPool, HoldsIn, HoldsNowhere};
 ghost use Rattle.batch_pool.specs.Asking.{GivesToken, HasTicket};
 ghost use Rattle.batch_lists.specs.Limits.{most_jobs};
+ghost use Rattle.batch_pool.specs.Keeping.{Spared, Counted};
 ghost use Rattle.batch_pool.specs.Steps.{Offers, OffersAt, TakesFirst, GivesAgain, IsServing};
 
 use crate::BatchTaken;
+use crate::spare::{spare_after, spare_at};
 use std::alloc::AllocError;
 use token_pool::{Piece, PoolState, Taken};
 
@@ -67,24 +69,62 @@ pub(crate) fn take_again(
     }
 }
 
+// What a job has for a worker, with what is spare in all jobs counted anew.
+fn ask_next(
+    pools: &mut Vec<PoolState>,
+    spare: &mut u64,
+    job: usize,
+    worker: u32,
+) -> Result<Offer, AllocError>
+    requires serving { IsServing pools.old.items worker }
+    requires within { job < length pools.old.items }
+    requires spared { Spared pools.old.items spare.old }
+    ensures ok { IfOk result (λ offer. OffersAt pools.old.items worker job offer pools.new.items) }
+    ensures err { OnErr result (pools.new.items ≡ pools.old.items) }
+    ensures ample { OnErr result (HasTicket pools.old.items worker) }
+    ensures spared { Spared pools.new.items spare.new }
+{
+    let before = spare_at(pools, job);
+    let offer = ask_job(pools, job, worker)?;
+    let now = spare_at(pools, job);
+    *spare = spare_after(*spare, before, now);
+    Ok(offer)
+}
+
+// One job more is passed where all jobs before it and itself are over.
+fn pass(passed: &mut usize, over: bool, job: usize)
+    requires within { job < most_jobs }
+    ensures { passed.new ≡ (if over then job + 1 else passed.old) }
+{
+    if over {
+        *passed = job + 1;
+    }
+}
+
 /// Asks the jobs in turn, where a worker holds nothing, until one gives a ticket. Where none does, all are over or some aren't.
 ///
-/// The call goes over all jobs before the one that gives, also over those that are over: of each it looks at the answer, or else at the
-/// count of its moves and at the places of its workers.
-pub(crate) fn take_first(pools: &mut Vec<PoolState>, worker: u32) -> Result<BatchTaken, AllocError>
+/// The call begins behind the jobs that are known to be over, and passes over those that it finds to be so behind them.
+pub(crate) fn take_first(
+    pools: &mut Vec<PoolState>,
+    passed: &mut usize,
+    spare: &mut u64,
+    worker: u32,
+) -> Result<BatchTaken, AllocError>
     requires serving { IsServing pools.old.items worker }
     requires free { HoldsNowhere pools.old.items worker }
     requires few { length pools.old.items ≤ most_jobs }
+    requires counted { Counted pools.old.items passed.old spare.old }
     ensures ok { IfOk result (λ taken. TakesFirst pools.old.items worker taken pools.new.items) }
     ensures err { OnErr result (pools.new.items ≡ pools.old.items) }
     ensures ample { OnErr result (HasTicket pools.old.items worker) }
+    ensures counted { Counted pools.new.items passed.new spare.new }
 {
     let mut over = true;
-    for job in 0..pools.len() {
-        match ask_job(pools, job, worker)? {
+    for job in *passed..pools.len() {
+        match ask_next(pools, spare, job, worker)? {
             Offer::Token(piece) => return Ok(BatchTaken::Token(job as u32, piece)),
             Offer::Waits => over = false,
-            Offer::Over => {}
+            Offer::Over => pass(passed, over, job),
         }
     }
     Ok(if over {

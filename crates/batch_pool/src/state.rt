@@ -26,12 +26,14 @@ pub struct BatchState {
     workers: u32,
     stopped: bool,
     places: Vec<Option<u32>>,
+    passed: usize,
+    spare: u64,
 }
 
 impl Model for BatchState {
     ghost use Rattle.batch_pool.specs.Batches.{Batch};
     ghost use Rattle.batch_pool.specs.Codes.{batch_code, batch};
-    ghost use Rattle.batch_pool.specs.Keeping.{Kept};
+    ghost use Rattle.batch_pool.specs.Keeping.{Kept, Counted};
 
     ghost Value = { Batch };
 
@@ -39,7 +41,7 @@ impl Model for BatchState {
 
     ghost view = { λ a. batch a.pools.items a.workers a.stopped };
 
-    ghost invariant = { λ a. Kept a.pools.items a.workers a.stopped a.places.items };
+    ghost invariant = { λ a. Kept a.pools.items a.workers a.stopped a.places.items × Counted a.pools.items a.passed a.spare };
 }
 
 impl BatchState {
@@ -55,11 +57,14 @@ impl BatchState {
         law_start_good();
         let pools = start_jobs(alloc, jobs, workers)?;
         let places = free_places(alloc, workers)?;
+        let spare = spare_of(&pools);
         Ok(BatchState {
             pools,
             workers,
             stopped: false,
             places,
+            passed: 0,
+            spare,
         })
     }
 
@@ -81,7 +86,7 @@ impl BatchState {
     /// Gives a worker that asks for work what the first of five lines says that holds, and a ticket of some job with it. After want of
     /// memory all is as before.
     ///
-    /// The call goes over the jobs before the one that gives a ticket, 63 at most, also over those that are over.
+    /// The call goes over the jobs before the one that gives a ticket, 63 at most, but for those at the front that are over.
     ///
     /// # Errors
     ///
@@ -103,7 +108,7 @@ impl BatchState {
                 Ok(BatchTaken::Token(job, piece))
             }
             None => {
-                let taken = take_first(&mut self.pools, worker)?;
+                let taken = take_first(&mut self.pools, &mut self.passed, &mut self.spare, worker)?;
                 remember(&mut self.places, worker, &taken);
                 Ok(taken)
             }
@@ -126,7 +131,8 @@ impl BatchState {
         law_book_keeps();
         match place_of(&self.places, worker) {
             Some(job) => {
-                let booked = book_job(&mut self.pools, job, worker, moved)?;
+                let booked = book_job(&mut self.pools, &mut self.spare, job, worker, moved)?;
+                self.passed = self.passed.min(job as usize);
                 forget(&mut self.places, worker);
                 Ok(booked)
             }
@@ -145,7 +151,7 @@ impl BatchState {
     pub(crate) fn spare_pieces(&self) -> u32
         ensures { result ≡ min (spare_in self.now.pools) (2 ^ 32 - 1) }
     {
-        spare_of(&self.pools)
+        self.spare.min(u32::MAX as u64) as u32
     }
 
     /// Finishes the jobs: a batch that was stopped has no memory left, and no ends; else each job ends as its own pool does, and a job

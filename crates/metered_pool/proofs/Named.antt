@@ -13,7 +13,7 @@ use Rattle.schedule_log.specs.Tally.{tally_of}
 use Rattle.token_pool.specs.declared.ending.Ended.{Ended}
 use Rattle.token_pool.specs.Pools.{Pool}
 use Rattle.token_pool.specs.Ending.{remaining, Finishes, Replays}
-use Rattle.token_pool.proofs.Finishing.{tickets_by, made_by}
+use Rattle.token_pool.proofs.Moving.{tickets_by, made_by}
 use Rattle.net_runs.specs.Running.{IsRun}
 
 -- the same move under the first worker's number

@@ -1,7 +1,9 @@
-use Rattle.std.proofs.Common.{length, refl}
+use Rattle.std.proofs.Common.{length, set, refl, sym, subst}
 use Rattle.std.proofs.lemmas.Option.{slice_get_read, slice_get_within}
 use Rattle.batch_pool.specs.Booking.{HoldsOtherIn}
+use Rattle.batch_pool.specs.Keeping.{Spared}
 use Rattle.batch_pool.proofs.Asked.{on_err}
+use Rattle.batch_pool.proofs.Counts.{changes}
 use Rattle.batch_pool.proofs.booking.book_job.Goals as goal
 
 pub returns-in_err-booked-clause-ample : goal.returns-in_err-booked-clause-ample
@@ -28,3 +30,34 @@ returns-clause-ok c =
       booked = c.in_ok-booked.ensures.ok;
       after_it = refl;
     }
+
+pub spare_after-requires-clause-part : goal.spare_after-requires-clause-part
+spare_after-requires-clause-part c =
+    let pools = c.args.pools.now.items in
+    let holds = c.requires.holds.1 in
+    let at = slice_get_read pools (length pools) c.args.job c.index_mut.result.now refl
+    (slice_get_within pools c.args.job holds.0 holds.1) c.index_mut.ensures.value in
+    (changes pools (set pools c.args.job c.book.new.self) c.deref.result.now c.deref-2.result.now c.args.job c.index_mut.result.now
+    c.book.new.self c.args.spare.now c.spare_at-before.result c.spare_at-now.result c.requires.spared at refl c.deref.ensures.value
+    c.spare_at-before.ensures c.deref-2.ensures.value c.spare_at-now.ensures).part
+
+pub spare_after-requires-clause-small : goal.spare_after-requires-clause-small
+spare_after-requires-clause-small c =
+    let pools = c.args.pools.now.items in
+    let holds = c.requires.holds.1 in
+    let at = slice_get_read pools (length pools) c.args.job c.index_mut.result.now refl
+    (slice_get_within pools c.args.job holds.0 holds.1) c.index_mut.ensures.value in
+    (changes pools (set pools c.args.job c.book.new.self) c.deref.result.now c.deref-2.result.now c.args.job c.index_mut.result.now
+    c.book.new.self c.args.spare.now c.spare_at-before.result c.spare_at-now.result c.requires.spared at refl c.deref.ensures.value
+    c.spare_at-before.ensures c.deref-2.ensures.value c.spare_at-now.ensures).small
+
+pub returns-clause-spared : goal.returns-clause-spared
+returns-clause-spared c =
+    let pools = c.args.pools.now.items in
+    let holds = c.requires.holds.1 in
+    let at = slice_get_read pools (length pools) c.args.job c.index_mut.result.now refl
+    (slice_get_within pools c.args.job holds.0 holds.1) c.index_mut.ensures.value in
+    subst (Spared (set pools c.args.job c.book.new.self)) (sym c.spare_after.ensures)
+    (changes pools (set pools c.args.job c.book.new.self) c.deref.result.now c.deref-2.result.now c.args.job c.index_mut.result.now
+    c.book.new.self c.args.spare.now c.spare_at-before.result c.spare_at-now.result c.requires.spared at refl c.deref.ensures.value
+    c.spare_at-before.ensures c.deref-2.ensures.value c.spare_at-now.ensures).spared
