@@ -65,27 +65,34 @@ pub(crate) fn read(
     }
 }
 
-/// The same in a box.
+/// The operand that comes next, in a box of its own on the heap; it is read as one that begins in the net's box `inner`.
 #[cycle(read)]
-fn read_boxed(
+fn read_operand(
     alloc: Global,
     net: &Net,
     walk: &mut Walk,
-    height: u32,
-    binders: u32,
-    around: u64,
-    place: u64,
+    scope: Scope,
+    inner: u64,
     want: u32,
 ) -> Result<Option<Box<Term>>, AllocError>
     requires nodes { walk.old.left ≤ length net.now.nodes }
-    requires levels { binders + height < 2 ^ 32 }
+    requires levels { scope.binders + scope.height < 2 ^ 32 }
     ensures nodes { walk.new.left ≤ length net.now.nodes }
     ensures term { IfOk result
         (λ o. Gives (λ t. term_of t.value) o
-        (reading net.now.wires height binders around place want (left net.now walk.old) walk.old.marks.items) (left net.now walk.new)
-        walk.new.marks.items) }
+        (reading net.now.wires scope.height scope.binders scope.place inner want (left net.now walk.old) walk.old.marks.items)
+        (left net.now walk.new) walk.new.marks.items) }
 {
-    match read(alloc, net, walk, height, binders, around, place, want)? {
+    match read(
+        alloc,
+        net,
+        walk,
+        scope.height,
+        scope.binders,
+        scope.place,
+        inner,
+        want,
+    )? {
         Some(term) => Ok(Some(Box::new(alloc, term)?)),
         None => Ok(None),
     }
@@ -227,16 +234,7 @@ fn read_one(
         walk.old.marks.items))
         (left net.now walk.new) walk.new.marks.items) }
 {
-    match read_boxed(
-        alloc,
-        net,
-        walk,
-        scope.height,
-        scope.binders,
-        scope.place,
-        scope.place,
-        operand,
-    )? {
+    match read_operand(alloc, net, walk, scope, scope.place, operand)? {
         Some(a) => Ok(Some(form.term(a))),
         None => Ok(None),
     }
@@ -262,29 +260,10 @@ fn read_two(
         (left net.now walk.new)
         walk.new.marks.items) }
 {
-    let Some(b) = read_boxed(
-        alloc,
-        net,
-        walk,
-        scope.height,
-        scope.binders,
-        scope.place,
-        scope.place,
-        second,
-    )?
-    else {
+    let Some(b) = read_operand(alloc, net, walk, scope, scope.place, second)? else {
         return Ok(None);
     };
-    match read_boxed(
-        alloc,
-        net,
-        walk,
-        scope.height,
-        scope.binders,
-        scope.place,
-        scope.place,
-        first,
-    )? {
+    match read_operand(alloc, net, walk, scope, scope.place, first)? {
         Some(a) => Ok(Some(form.term(a, b))),
         None => Ok(None),
     }
@@ -311,42 +290,13 @@ fn read_ifz(
         (left net.now walk.new)
         walk.new.marks.items) }
 {
-    let Some(third) = read_boxed(
-        alloc,
-        net,
-        walk,
-        scope.height,
-        scope.binders,
-        scope.place,
-        scope.place,
-        otherwise,
-    )?
-    else {
+    let Some(third) = read_operand(alloc, net, walk, scope, scope.place, otherwise)? else {
         return Ok(None);
     };
-    let Some(second) = read_boxed(
-        alloc,
-        net,
-        walk,
-        scope.height,
-        scope.binders,
-        scope.place,
-        scope.place,
-        then,
-    )?
-    else {
+    let Some(second) = read_operand(alloc, net, walk, scope, scope.place, then)? else {
         return Ok(None);
     };
-    match read_boxed(
-        alloc,
-        net,
-        walk,
-        scope.height,
-        scope.binders,
-        scope.place,
-        scope.place,
-        test,
-    )? {
+    match read_operand(alloc, net, walk, scope, scope.place, test)? {
         Some(first) => Ok(Some(Term::Ifz(first, second, third))),
         None => Ok(None),
     }
@@ -377,16 +327,11 @@ fn read_fun(
     };
     walk.set(variable, mark);
     let ty = from_of(alloc, net, wire)?;
-    match read_boxed(
-        alloc,
-        net,
-        walk,
-        scope.height,
-        scope.binders + 1,
-        scope.place,
-        scope.place,
-        body,
-    )? {
+    let under = Scope {
+        binders: scope.binders + 1,
+        ..scope
+    };
+    match read_operand(alloc, net, walk, under, scope.place, body)? {
         Some(inside) => Ok(Some(Term::Fun(ty, inside))),
         None => Ok(None),
     }
@@ -418,16 +363,11 @@ fn read_fix(
     };
     walk.set(variable, mark);
     let ty = type_of_wire(alloc, net, wire)?;
-    match read_boxed(
-        alloc,
-        net,
-        walk,
-        scope.height,
-        scope.binders + 1,
-        scope.place,
-        inner,
-        body,
-    )? {
+    let under = Scope {
+        binders: scope.binders + 1,
+        ..scope
+    };
+    match read_operand(alloc, net, walk, under, inner, body)? {
         Some(inside) => Ok(Some(Term::Fix(ty, inside))),
         None => Ok(None),
     }

@@ -4,8 +4,8 @@ use Rattle.net_terms.proofs.rebuild.+read.Given as goal
 abbrev pub decreases-read : goal.decreases-read
 decreases-read l = 5 * l.height
 
-abbrev pub decreases-read_boxed : goal.decreases-read_boxed
-decreases-read_boxed l = 5 * l.height + 1
+abbrev pub decreases-read_operand : goal.decreases-read_operand
+decreases-read_operand l = 5 * l.scope.height + 1
 
 abbrev pub decreases-begin : goal.decreases-begin
 decreases-begin l = 5 * l.height + 4
