@@ -1,4 +1,4 @@
-//! What a circuit for a net is, and that it computes what the net's program means. Laws alone, no code yet.
+//! What a circuit for a net is, and that it computes what the net's program means. Laws alone.
 //!
 //! A net becomes a table of rows, one for each wire and direction. A processor of one token goes by them, a move in a cycle: the token's
 //! place, its value and both stacks are registers, the stacks as bits; right questions wait in a queue, and open forks have slots. Where

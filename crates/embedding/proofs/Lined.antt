@@ -23,7 +23,8 @@ module _ {T E : Type 0} (way bytes : List ℕ) (spelled : T → List ℕ) (r : R
   line_of line h (Err x) e = e
 
   -- the line of what came of the text
-  pub line_ran : (answer : Option Val) (moves : ℕ) → WalksText bytes answer moves → IfOk r (λ text. spelled text ≡ run_line way answer moves) →
+  pub line_ran : (answer : Option Val) (moves : ℕ) → WalksText bytes answer moves →
+      IfOk r (λ text. spelled text ≡ run_line way answer moves) →
       IsRunLine r
   line_ran answer moves (t, g, h) e = line_of (run_line way answer moves) (ran t answer moves g h) r e
 

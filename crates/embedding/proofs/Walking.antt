@@ -1,5 +1,6 @@
 -- How moves by hand add up, and what they say of the program in the end.
-use Rattle.std.proofs.Common.{◌≡◌, ℕ, suc, ◌+◌, ◌≤◌, ◌<◌, List, [], ◌∷◌, ◌++◌, length, Option, Some, None, Result, Ok, Err, OnOk, refl, sym, ap, ◌∙◌, subst, arith}
+use Rattle.std.proofs.Common.{◌≡◌, ℕ, suc, ◌+◌, ◌≤◌, ◌<◌, List, [], ◌∷◌, ◌++◌, length, Option, Some, None, Result, Ok, Err, OnOk, refl}
+use Rattle.std.proofs.Common.{sym, ap, ◌∙◌, subst, arith}
 use Rattle.std.proofs.lemmas.List.{length-append}
 use Rattle.pcf_values.specs.declared.val.Val.{Val}
 use Rattle.pcf_values.specs.Most.{most_budget}
@@ -41,7 +42,8 @@ one_more net S T i moves at s =
     }
 
 -- where nothing is live there is an answer, so that the moves are finished; and so they are where the budget is spent
-pub idle : MapLed → IdleAnswered → (net : NetTree) → Sound net → (S : MapState) (moves : ℕ) → moves ≤ 10000 → IsAt net S moves → NoneLive S →
+pub idle : MapLed → IdleAnswered → (net : NetTree) → Sound net → (S : MapState) (moves : ℕ) → moves ≤ 10000 → IsAt net S moves →
+    NoneLive S →
     IsWalked net S.answered moves
 idle led law net sound S moves few at none =
     let (v, e) = law net sound at.log (seen S) (led net at.log S at.led) none in
@@ -56,13 +58,15 @@ spent net S moves few all at =
     record { state = S; at = at; answer_is = refl; finished = (omega (arith, e, at.long), λ n. omega (arith, e, at.long)) }
 
 -- what is told of a state is told of the answer and the number that were taken from it
-pub taken : (net : NetTree) (S : MapState) (moves : ℕ) (answer : Option Val) (n : ℕ) → answer ≡ S.answered → n ≡ moves → IsWalked net S.answered moves →
+pub taken : (net : NetTree) (S : MapState) (moves : ℕ) (answer : Option Val) (n : ℕ) → answer ≡ S.answered → n ≡ moves →
+    IsWalked net S.answered moves →
     IsWalked net answer n
 taken net S moves answer n e f w =
     subst (λ (a : Option Val). IsWalked net a n) (sym e) (subst (λ (m : ℕ). IsWalked net S.answered m) (sym f) w)
 
 -- what they say of the text's program
-pub walks_text : MovesTell → (bytes : List ℕ) (net : NetTree) → IsNet bytes net → (answer : Option Val) (moves : ℕ) → IsWalked net answer moves →
+pub walks_text : MovesTell → (bytes : List ℕ) (net : NetTree) → IsNet bytes net → (answer : Option Val) (moves : ℕ) →
+    IsWalked net answer moves →
     WalksText bytes answer moves
 walks_text law bytes net is answer moves w =
     let t = is.term in

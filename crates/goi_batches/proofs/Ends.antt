@@ -1,5 +1,6 @@
 -- What is told of the runs of judged programs is what is told of the programs.
-use Rattle.std.proofs.Common.{◌≡◌, ◌≤◌, ◌∙◌, ℕ, false, List, [], ◌∷◌, length, Option, Some, None, Result, Ok, Err, IfOk, OnOk, refl, sym, ap, subst, arith}
+use Rattle.std.proofs.Common.{◌≡◌, ◌≤◌, ◌∙◌, ℕ, false, List, [], ◌∷◌, length, Option, Some, None, Result, Ok, Err, IfOk, OnOk, refl}
+use Rattle.std.proofs.Common.{sym, ap, subst, arith}
 use Rattle.std.specs.List.{All}
 use Rattle.std.proofs.lemmas.List.Elements.{All-nil, All-cons}
 use Rattle.pcf_values.specs.Terms.{nat}
@@ -20,7 +21,8 @@ use Rattle.goi_tasks.proofs.Ran.{reports_net, run_of}
 use Rattle.goi_batches.specs.declared.judged.Judged.{Judged}
 use Rattle.goi_batches.specs.declared.judged.Judged.TheVariants.{Runs, Refused}
 use Rattle.goi_batches.specs.Judging.{IsJobOf, IsJudged, AreJudged}
-use Rattle.goi_batches.specs.Sections.{Listed, Section, section, run_alone, IsSection, runs, refused, AreSections, ReportsBatch, statuses_of, batch_status, batch_report}
+use Rattle.goi_batches.specs.Sections.{Listed, Section, section, run_alone, IsSection, runs, refused, AreSections}
+use Rattle.goi_batches.specs.Sections.{ReportsBatch, statuses_of, batch_status, batch_report}
 use Rattle.goi_batches.specs.Telling.{Mark, jobs_of, marks_of, told_by, Fit, EachFits, end_section}
 
 -- ---- the jobs can be run
@@ -42,7 +44,8 @@ few_marks [] = refl
 few_marks (Runs job ∷ js) = let h = few_marks js in omega (arith, h)
 few_marks (Refused line ∷ js) = let h = few_marks js in omega (arith, h)
 
-pub batch_fits : (ps : List Listed) (js : List Judged) (workers : ℕ) → AreJudged ps js → length js ≤ most_jobs → IsWorkers workers → BatchFits (jobs_of js) workers
+pub batch_fits : (ps : List Listed) (js : List Judged) (workers : ℕ) → AreJudged ps js → length js ≤ most_jobs → IsWorkers workers →
+    BatchFits (jobs_of js) workers
 batch_fits ps js workers h few w = record {
   each = jobs_fit ps js h;
   few_jobs = let k = few_jobs js in omega (arith, k, few);
@@ -61,35 +64,44 @@ ends_fit (Runs job ∷ js) workers (e ∷ es) (h, hs) = (h.run.booked, ends_fit 
 -- ---- and what is told of it is right
 
 module _ (law : RunsTell) (workers : ℕ) where
-  job_section : (p : Listed) (job : BatchJob) (e : Ended) → IsJobOf p job → IsRunOf job workers e → AnswerFits e.answer → IsSection workers p (end_section workers e)
+  job_section : (p : Listed) (job : BatchJob) (e : Ended) → IsJobOf p job → IsRunOf job workers e → AnswerFits e.answer →
+      IsSection workers p (end_section workers e)
   job_section p job e h r fits =
       let n = h.net in
       let b = h.fits in
       let text = run_report e.answer e.log.entries workers false false in
       let budget : IsBudget job.budget = (b.some_moves, omega (arith, b.few_moves)) in
       let run = run_of law n.term n.typed job.net n.net_is workers job.budget e.answer e.log.entries r.run r.alone in
-      let so = reports_net _ _ workers job.budget false false false budget e.answer e.log.entries run fits [] refl (replay_status e.answer) refl text
-      refl in
+      let so = reports_net _ _ workers job.budget false false false budget e.answer e.log.entries run fits [] refl (replay_status e.answer)
+      refl text refl in
       let o = output (replay_status e.answer) text [] in
       let one : ReportsText (run_alone workers job.budget) p.bytes o =
       record { tree = n.ground.0; term = n.term; type = nat; is = n.ground.1; so = so } in
       runs o (subst (λ (k : ℕ). ReportsText (run_alone workers k) p.bytes o) h.budget one)
 
-  sections_told : (ps : List Listed) (js : List Judged) (es : List Ended) → AreJudged ps js → AreRuns (jobs_of js) workers es → EachFits (marks_of js) es → AreSections workers ps (told_by workers (marks_of js) es)
+  sections_told : (ps : List Listed) (js : List Judged) (es : List Ended) → AreJudged ps js → AreRuns (jobs_of js) workers es →
+      EachFits (marks_of js) es → AreSections workers ps (told_by workers (marks_of js) es)
   sections_told [] [] es h r fits = tt
   sections_told [] (j ∷ js) es h r fits = absurd h
   sections_told (p ∷ ps) [] es h r fits = absurd h
   sections_told (p ∷ ps) (Runs job ∷ js) [] h r fits = absurd r
-  sections_told (p ∷ ps) (Runs job ∷ js) (e ∷ es) (h, hs) (r, rs) (fit, fits) = (job_section p job e h r fit, sections_told ps js es hs rs fits)
+  sections_told (p ∷ ps) (Runs job ∷ js) (e ∷ es) (h, hs) (r, rs) (fit, fits) =
+      (job_section p job e h r fit, sections_told ps js es hs rs fits)
   sections_told (p ∷ ps) (Refused line ∷ js) es ((f, faulty, is), hs) r (fit, fits) =
       (subst (λ (l : List ℕ). IsSection workers p (section 1 l)) (sym is) (refused f faulty), sections_told ps js es hs r fits)
 
   -- so the report on them is right
-  pub batch_told : {E : Type 0} (js : List Judged) (ms : List Mark) (jobs : List BatchJob) (es : List Ended) → ms ≡ marks_of js → jobs ≡ jobs_of js → AreRuns jobs workers es → (r : Result Report E) →
-      IfOk r (λ v. output_of v ≡ output (batch_status (statuses_of (told_by workers ms es))) (batch_report (told_by workers ms es)) []) → OnOk r (EachFits ms es) → IfOk r (λ v. (ps : List Listed) → AreJudged ps js → ReportsBatch workers ps (output_of v))
+  pub batch_told : {E : Type 0} (js : List Judged) (ms : List Mark) (jobs : List BatchJob) (es : List Ended) → ms ≡ marks_of js →
+      jobs ≡ jobs_of js → AreRuns jobs workers es → (r : Result Report E) →
+      IfOk r (λ v. output_of v ≡ output (batch_status (statuses_of (told_by workers ms es))) (batch_report (told_by workers ms es)) []) →
+      OnOk r (EachFits ms es) → IfOk r (λ v. (ps : List Listed) → AreJudged ps js → ReportsBatch workers ps (output_of v))
   batch_told js ms jobs es same also run (Err e) h fits = tt
   batch_told js ms jobs es same also run (Ok v) h fits = λ ps judged. record {
     sections = told_by workers (marks_of js) es;
-    are = sections_told ps js es judged (subst (λ (k : List BatchJob). AreRuns k workers es) also run) (subst (λ (k : List Mark). EachFits k es) same fits);
-    output_is = h ∙ ap (λ (k : List Mark). output (batch_status (statuses_of (told_by workers k es))) (batch_report (told_by workers k es)) []) same;
+    are = sections_told ps js es judged (subst (λ (k : List BatchJob). AreRuns k workers es) also run)
+        (subst (λ (k : List Mark). EachFits k es) same fits);
+    output_is =
+        h
+        ∙ ap (λ (k : List Mark). output (batch_status (statuses_of (told_by workers k es))) (batch_report (told_by workers k es)) [])
+        same;
   }

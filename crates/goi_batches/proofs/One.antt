@@ -56,7 +56,8 @@ same_told one means net budget None (Some w) m n (beyond, spent) (p, long, most)
 same_told one means net budget None None m n (beyond, spent) (far, all) = ap (λ (x : ℕ). told None x 5) (spent ∙ sym all)
 
 -- the section of a run's output is what it came to
-told_of : (workers budget : ℕ) (means : Val → Type 0) (net : NetTree) (o : Output) (h : ReportsNet means net workers budget false false false o) →
+told_of : (workers budget : ℕ) (means : Val → Type 0) (net : NetTree) (o : Output)
+    (h : ReportsNet means net workers budget false false false o) →
     section o.status o.report ≡ told h.answer (length h.log) (replay_status h.answer)
 told_of workers budget means net o h = ap (λ (z : List ℕ). section o.status z) h.report_is ∙ ap (told h.answer (length h.log)) h.ends
 
@@ -72,16 +73,19 @@ module _ (known : Known) where
   -- ---- a program's section
 
   module _ (lengths : OneLength) where
-    same_run : (p : Listed) (workers others : ℕ) (o u : Output) → ReportsText (run_alone workers p.budget) p.bytes o → ReportsText (run_alone others p.budget) p.bytes u → section o.status o.report ≡ section u.status u.report
+    same_run : (p : Listed) (workers others : ℕ) (o u : Output) → ReportsText (run_alone workers p.budget) p.bytes o →
+        ReportsText (run_alone others p.budget) p.bytes u → section o.status o.report ≡ section u.status u.report
     same_run p workers others o u h k =
         let e : h.term ≡ k.term = same_program known.one_program number p.bytes _ _ h k in
         let tells = subst (λ (t : TermTree). Tells (Means t) (net_of t) p.budget h.so.answer (length h.so.log)) e h.so.run.tells in
         told_of workers p.budget (Means h.term) (net_of h.term) o h.so
-        ∙ same_told lengths (Means k.term) (net_of k.term) p.budget h.so.answer k.so.answer (length h.so.log) (length k.so.log) tells k.so.run.tells
+        ∙ same_told lengths (Means k.term) (net_of k.term) p.budget h.so.answer k.so.answer (length h.so.log) (length k.so.log)
+        tells k.so.run.tells
         ∙ sym (told_of others p.budget (Means k.term) (net_of k.term) u k.so)
 
     pub one_section : OneSection
     one_section p workers others _ _ (runs o h) (runs u k) = same_run p workers others o u h k
     one_section p workers others _ _ (runs o h) (refused f k) = absurd (report_sound known (run_alone workers p.budget) p.bytes o f h k)
     one_section p workers others _ _ (refused f h) (runs o k) = absurd (report_sound known (run_alone others p.budget) p.bytes o f k h)
-    one_section p workers others _ _ (refused f h) (refused g k) = ap (λ (x : Fault). section 1 (fault_line x)) (one_text_fault known number p.bytes f g h k)
+    one_section p workers others _ _ (refused f h) (refused g k) =
+        ap (λ (x : Fault). section 1 (fault_line x)) (one_text_fault known number p.bytes f g h k)

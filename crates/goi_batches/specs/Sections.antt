@@ -83,4 +83,5 @@ pub record ReportsBatch (workers : ℕ) (ps : List Listed) (o : Output) : Type 0
 
 -- a run of this program alone ends with this status, or it is refused
 abbrev pub EndsListed : ℕ → Listed → ℕ → Type 0
-EndsListed workers p status = EndsText (run_alone workers p.budget) p.bytes status ⊎ ((f : Fault) × FaultyText number p.bytes f × (status ≡ 1))
+EndsListed workers p status =
+    EndsText (run_alone workers p.budget) p.bytes status ⊎ ((f : Fault) × FaultyText number p.bytes f × (status ≡ 1))

@@ -56,7 +56,10 @@ fn tell(
     requires few { length marks.now ≤ most_jobs }
     requires fit { Fit workers marks.now ends.now }
     requires workers { IsWorkers workers }
-    ensures report { IfOk result (λ r. output_of r ≡ output (batch_status (statuses_of (told_by workers marks.now ends.now))) (batch_report (told_by workers marks.now ends.now)) []) }
+    ensures report { IfOk result (λ r.
+        output_of r ≡
+        output (batch_status (statuses_of (told_by workers marks.now ends.now)))
+        (batch_report (told_by workers marks.now ends.now)) []) }
     ensures fits { OnOk result (EachFits marks.now ends.now) }
 {
     let mut text = Vec::new(alloc);

@@ -89,6 +89,7 @@ pub nothing_read : {S : Type 0} (one : S → Reading → S → Type 0) (told : L
     ReadFor one told asked old old
 nothing_read one told None old = refl
 nothing_read one told (Some (with_text task file)) old = unread one file _ old
-nothing_read one told (Some (with_schedule file moves window)) old = record { mid = old; program = unread one file _ old; schedule = inl refl }
+nothing_read one told (Some (with_schedule file moves window)) old =
+    record { mid = old; program = unread one file _ old; schedule = inl refl }
 nothing_read one told (Some (with_list file workers)) old = record { mid = old; list = unread one file _ old; programs = inl refl }
 nothing_read one told (Some (generated n workers)) old = refl

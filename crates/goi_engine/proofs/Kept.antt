@@ -12,7 +12,8 @@ use Rattle.goi_engine.specs.Delivers.{Reported, RefusedAs, Delivered}
 use Rattle.goi_tasks.specs.Outputs.{Output, output_of}
 use Rattle.goi_world.specs.Seen.{FilesKept, FilesState, SinkState}
 use Rattle.goi_engine.specs.FilesSeen.{Possibly, OfFile}
-use Rattle.goi_engine.specs.Promise.{Call, WroteLine, Printed, RefusedFault, RefusalLine, of_words, of_read, of_memory, of_fault, Quiet, NoneFailed, SureRoom}
+use Rattle.goi_engine.specs.Promise.{Call, WroteLine, Printed, RefusedFault, RefusalLine, of_words, of_read, of_memory}
+use Rattle.goi_engine.specs.Promise.{of_fault, Quiet, NoneFailed, SureRoom}
 use Rattle.goi_engine.specs.Promise.{MeansPrinted, MeansFault, MeansBadWords, MeansNotRead, MeansNotWritten, MeansNoMemory}
 use Rattle.goi_engine.specs.Promise.{CompleteReport, CompleteFault, CompleteWords, CompleteLacked, Promise}
 use Rattle.goi_tasks.specs.Refusals.{most_line, fault_line, fault_status, words_line, read_line, memory_line}
@@ -204,7 +205,8 @@ three_statuses (with_schedule file moves window) files o h =
     let OfMoves : List ℕ → Type 0 = λ b. OfGround b (λ t. OfFile files moves (λ text. ReportsReplay t window text o)) in
     two_of_three o.status (
     some_bytes (files.told file) OfMoves (OneOfTwo o.status)
-    (λ b x. some_bytes (files.told moves) (λ text. ReportsReplay x.0 window text o) (OneOfTwo o.status) (λ text y. schedule_status x.0 window text o y)
+    (λ b x. some_bytes (files.told moves) (λ text. ReportsReplay x.0 window text o) (OneOfTwo o.status)
+    (λ text y. schedule_status x.0 window text o y)
     x.2.1)
     h.1
     )
@@ -237,7 +239,8 @@ outcome_deed d c (Refused r) status (h, (f, right, tells)) delivered =
     let line = r.line.items in
     refusal (Some d) c r.status line status (of_fault d f line refl right tells.line)
     (λ w.
-    let refused : RefusedFault (fault_status f) d c = record { fault = f; right = right; of_status = refl; line = line; is_line = tells.line; wrote = w } in
+    let refused : RefusedFault (fault_status f) d c =
+    record { fault = f; right = right; of_status = refl; line = line; is_line = tells.line; wrote = w } in
     subst (λ (s : ℕ). Outcome (Some d) c s) (sym tells.status) (fault_outcome d c f (d, refl, refused) h)) delivered
 outcome_deed d c BadWords status h delivered = absurd h
 outcome_deed d c NotRead status h delivered =

@@ -239,7 +239,8 @@ module _ (known : Known) (files : FilesState) where
     pub can_has : (d : Deed) (own : ℕ) → LacksFor d files → CanDo d files own → ⊥
     can_has (with_text task file) own l (b, e, k) = never_lacked files.told file b (untold file l) e
     can_has (with_schedule file moves window) own (inl l) (b, e, k) = never_lacked files.told file b (untold file l) e
-    can_has (with_schedule file moves window) own (inr (h, l)) (b, e, (t, g, (c, told, x))) = never_lacked files.told moves c (untold moves l) told
+    can_has (with_schedule file moves window) own (inr (h, l)) (b, e, (t, g, (c, told, x))) =
+        never_lacked files.told moves c (untold moves l) told
     can_has (with_list file workers) own (inl l) (b, e, k) = never_lacked files.told file b (untold file l) e
     can_has (with_list file workers) own (inr h) k =
         let (b, p, q) = meets (files.told file) (λ b. OfList b (LacksOne files)) (λ b. OfList b (λ ls. EndLines files workers ls own))

@@ -20,7 +20,7 @@ use Rattle.schedule_log.specs.declared.fault.ScheduleFault.TheVariants as schedu
 use Rattle.schedule_log.specs.Schedules.{HasFault, ReadAs}
 use Rattle.goi_tasks.specs.declared.fault.Fault.{Fault}
 use Rattle.goi_tasks.specs.declared.task.Task.{Task}
-use Rattle.goi_tasks.specs.declared.task.Task.TheVariants.{Run, Check, ShowNet, RunNet, Trace}
+use Rattle.goi_tasks.specs.declared.task.Task.TheVariants.{Run, Check, ShowNet, RunNet, Trace, Circuit}
 use Rattle.goi_engine.specs.declared.answer.Answer.{Answer}
 use Rattle.goi_engine.specs.declared.answer.Answer.TheVariants.{Prints, Refused, BadWords, NotRead, NoMemory}
 use Rattle.goi_engine.specs.Answers.{Says, AnswersFile, AnswersNoNet, MadeNet}
@@ -30,7 +30,8 @@ use Rattle.goi_tasks.specs.NetFiles.{FaultyListing, unlisted}
 use Rattle.goi_tasks.specs.Outputs.{Output, output_of}
 use Rattle.program_runs.specs.declared.fault.ProgramFault.{ProgramFault}
 use Rattle.program_runs.specs.Nets.{IsNet}
-use Rattle.program_runs.specs.Programs.{Wanted, any_type, number, wanted_by_run, IsProgram, OfProgram, IsGround, FaultyProgram, unread, of_tree}
+use Rattle.program_runs.specs.Programs.{Wanted, any_type, number, wanted_by_run, IsProgram, OfProgram}
+use Rattle.program_runs.specs.Programs.{IsGround, FaultyProgram, unread, of_tree}
 use Rattle.goi_tasks.specs.Programs.{FaultyText, no_program}
 use Rattle.goi_words.specs.declared.jobs.Window.{Window}
 use Rattle.goi_tasks.specs.Replaying.{ReportsReplay, FaultySchedule, unread as no_schedule, unmoved}
@@ -143,6 +144,7 @@ pub fault_goes : (task : Task) (f : Fault) (v bytes : List ℕ) → Same (most_b
 fault_goes (Run workers budget schedule tally by_value progress) f v bytes s h = faulty_goes (wanted_by_run by_value) f v bytes s h
 fault_goes (Check term) f v bytes s h = faulty_goes any_type f v bytes s h
 fault_goes ShowNet f v bytes s h = faulty_goes number f v bytes s h
+fault_goes (Circuit stack forks) f v bytes s h = faulty_goes number f v bytes s h
 fault_goes (RunNet workers budget schedule tally) f v bytes s h = listing_goes f v bytes s h
 fault_goes (Trace workers budget by_value window) f v bytes s h = faulty_goes (wanted_by_run by_value) f v bytes s h
 
@@ -151,6 +153,7 @@ pub report_goes : (task : Task) (o : Output) (v bytes : List ℕ) → Same (most
 report_goes (Run workers budget schedule tally by_value progress) o v bytes s h = of_program_goes (wanted_by_run by_value) _ v bytes s h
 report_goes (Check term) o v bytes s h = of_program_goes any_type _ v bytes s h
 report_goes ShowNet o v bytes s h = of_program_goes number _ v bytes s h
+report_goes (Circuit stack forks) o v bytes s h = of_program_goes number _ v bytes s h
 report_goes (RunNet workers budget schedule tally) o v bytes s h =
     record { term = h.term; lists = lists_goes h.term v bytes s h.lists; so = h.so }
 report_goes (Trace workers budget by_value window) o v bytes s h = of_program_goes (wanted_by_run by_value) _ v bytes s h
@@ -178,7 +181,8 @@ schedule_goes : (r : Result (List ℕ) ScheduleFault) (v text : List ℕ) → Sa
 schedule_goes r v text (inl e) h = subst (λ (b : List ℕ). ReadAs b r) e h
 schedule_goes r v text (inr n) h = much_too_long v text r n.0 n.1 h
 
-pub replay_goes : (t : TermTree) (window : Option Window) (o : Output) (v text : List ℕ) → Same most_schedule_bytes v text → ReportsReplay t window v o →
+pub replay_goes : (t : TermTree) (window : Option Window) (o : Output) (v text : List ℕ) → Same most_schedule_bytes v text →
+    ReportsReplay t window v o →
     ReportsReplay t window text o
 replay_goes t window o v text s h = record {
   tickets = h.tickets;

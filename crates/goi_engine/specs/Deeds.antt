@@ -1,10 +1,10 @@
 -- What a job does with files: a task with the text of one, a schedule on the net of a program, the programs of a list, or a run
 -- that needs no file.
 use Rattle.std.specs.Prelude.{ℕ, List, Option, None, Some}
-use Rattle.goi_words.specs.Jobs.{JobTree, run, check, show_net, replay, demo, run_net, batch, trace}
+use Rattle.goi_words.specs.Jobs.{JobTree, run, check, show_net, replay, demo, run_net, batch, trace, circuit}
 use Rattle.goi_words.specs.declared.jobs.Window.{Window}
 use Rattle.goi_tasks.specs.declared.task.Task.{Task}
-use Rattle.goi_tasks.specs.declared.task.Task.TheVariants.{Run, Check, ShowNet, RunNet, Trace}
+use Rattle.goi_tasks.specs.declared.task.Task.TheVariants.{Run, Check, ShowNet, RunNet, Trace, Circuit}
 
 pub data Deed : Type 0 where
   -- a task with the text of this file
@@ -26,6 +26,7 @@ deed_of (demo n workers) = generated n workers
 deed_of (run_net file workers budget schedule tally) = with_text (RunNet workers budget schedule tally) file
 deed_of (batch file workers) = with_list file workers
 deed_of (trace file workers budget by_value window) = with_text (Trace workers budget by_value window) file
+deed_of (circuit file stack forks) = with_text (Circuit stack forks) file
 
 -- the deed of the job that was asked for, if one was
 abbrev pub deed : Option JobTree → Option Deed

@@ -120,6 +120,17 @@ fn answer_job<R: Threads + Wait + Sync, F: Files, G: Gate>(
             gate,
         ),
         Job::ShowNet { file } => answer_task(rt, alloc, files, file.as_str(), Task::ShowNet, gate),
+        Job::Circuit { file, stack, forks } => answer_task(
+            rt,
+            alloc,
+            files,
+            file.as_str(),
+            Task::Circuit {
+                stack: *stack,
+                forks: *forks,
+            },
+            gate,
+        ),
         Job::Replay {
             file,
             schedule,

@@ -1,5 +1,6 @@
 -- The report of a run that tells neither its schedule nor its tally is short.
-use Rattle.std.proofs.Common.{◌≡◌, ℕ, ◌^◌, ◌<◌, ◌≤◌, Bool, false, List, [], ◌++◌, length, codes, decimal, Option, Some, None, ap, ◌∙◌, arith, length-append}
+use Rattle.std.proofs.Common.{◌≡◌, ℕ, ◌^◌, ◌<◌, ◌≤◌, Bool, false, List, [], ◌++◌, length, codes, decimal, Option, Some, None}
+use Rattle.std.proofs.Common.{ap, ◌∙◌, arith, length-append}
 use Rattle.std.proofs.lemmas.Fmt.{length-decimal-le}
 use Rattle.pcf_values.specs.declared.val.Val.{Val}
 use Rattle.pcf_values.specs.declared.val.Val.TheVariants.{Number, Overflow}
@@ -25,14 +26,25 @@ moves_short moves few =
     let d : length x ≤ 10 = length-decimal-le 10 moves (omega arith) (omega arith) (omega arith) in
     omega (arith, d, length-append (codes "moves ") (x ++ codes "\n"), length-append x (codes "\n"))
 
-plain_brief : (answer : Option Val) (log : List Entry) (workers : ℕ) → AnswerFits answer → length log < 2 ^ 32 → length (run_report answer log workers false false) ≤ most_line
+plain_brief : (answer : Option Val) (log : List Entry) (workers : ℕ) → AnswerFits answer → length log < 2 ^ 32 →
+    length (run_report answer log workers false false) ≤ most_line
 plain_brief answer log workers fits few =
     let v = value_short answer fits in
     let m = moves_short (length log) few in
-    omega (arith, v, m, length-append (value_line answer ++ moves_line (length log)) ([] ++ []), length-append (value_line answer) (moves_line (length log)))
+    omega (
+      arith,
+      v,
+      m,
+      length-append (value_line answer ++ moves_line (length log)) ([] ++ []),
+      length-append (value_line answer) (moves_line (length log)),
+    )
 
-pub brief : (answer : Option Val) (log : List Entry) (workers : ℕ) (schedule tally : Bool) (text : List ℕ) → schedule ≡ false → tally ≡ false → text ≡ run_report answer log workers schedule tally → AnswerFits answer → length log < 2 ^ 32 → length text ≤ most_line
+pub brief : (answer : Option Val) (log : List Entry) (workers : ℕ) (schedule tally : Bool) (text : List ℕ) → schedule ≡ false →
+    tally ≡ false → text ≡ run_report answer log workers schedule tally → AnswerFits answer → length log < 2 ^ 32 → length text ≤ most_line
 brief answer log workers schedule tally text f g is fits few =
-    let same : length text ≡ length (run_report answer log workers false false) = ap length is ∙ ap (λ (b : Bool). length (run_report answer log workers b tally)) f ∙ ap (λ (b : Bool). length (run_report answer log workers false b)) g in
+    let same : length text ≡ length (run_report answer log workers false false) =
+    ap length is
+    ∙ ap (λ (b : Bool). length (run_report answer log workers b tally)) f
+    ∙ ap (λ (b : Bool). length (run_report answer log workers false b)) g in
     let short = plain_brief answer log workers fits few in
     omega (arith, same, short)

@@ -1,6 +1,7 @@
 -- What comes of a text is settled by its bytes: it is one program or has one fault, and a task ends on it with one status; and so it is
 -- with a schedule.
-use Rattle.std.proofs.Common.{◌≡◌, ◌≢◌, ◌⊎◌, ℕ, Bool, false, List, [], length, Option, Some, None, Result, Ok, Err, refl, sym, ap, ◌∙◌, subst, inl, inr, arith}
+use Rattle.std.proofs.Common.{◌≡◌, ◌≢◌, ◌⊎◌, ℕ, Bool, false, List, [], length, Option, Some, None, Result, Ok, Err, refl, sym, ap, ◌∙◌}
+use Rattle.std.proofs.Common.{subst, inl, inr, arith}
 use Rattle.pcf_values.specs.declared.val.Val.{Val}
 use Rattle.pcf_values.specs.Terms.{TyTree, TermTree, nat}
 use Rattle.pcf_values.specs.Named.{NamedTree}
@@ -29,7 +30,7 @@ use Rattle.program_runs.proofs.OneProgram.{same_program}
 use Rattle.goi_tasks.specs.declared.fault.Fault.{Fault}
 use Rattle.goi_tasks.specs.declared.fault.Fault.TheVariants.{Program, NetText, Schedule, Moves}
 use Rattle.goi_tasks.specs.declared.task.Task.{Task}
-use Rattle.goi_tasks.specs.declared.task.Task.TheVariants.{Run, Check, ShowNet, RunNet, Trace}
+use Rattle.goi_tasks.specs.declared.task.Task.TheVariants.{Run, Check, ShowNet, RunNet, Trace, Circuit}
 use Rattle.goi_tasks.specs.NetFiles.{FaultyListing, unlisted}
 use Rattle.goi_tasks.specs.Outputs.{Output}
 use Rattle.goi_tasks.specs.Programs.{no_program, FaultyText}
@@ -57,7 +58,8 @@ one_run_end budget net a b (inl (e, w)) (inr (f, x)) = absurd (not_both_ends bud
 one_run_end budget net a b (inr (e, w)) (inl (f, x)) = absurd (not_both_ends budget net x w)
 one_run_end budget net a b (inr (e, w)) (inr (f, x)) = e ∙ sym f
 
-pub run_ends : (means : Val → Type 0) (net : NetTree) (budget : ℕ) (answer : Option Val) (moves status : ℕ) → status ≡ replay_status answer →
+pub run_ends : (means : Val → Type 0) (net : NetTree) (budget : ℕ) (answer : Option Val) (moves status : ℕ) →
+    status ≡ replay_status answer →
     Tells means net budget answer moves → EndsRun budget net status
 run_ends means net budget None moves status e (beyond, spent) = inr (e, beyond)
 run_ends means net budget (Some v) moves status e (m, long, within) = inl (e, (v, (moves, long, within)))
@@ -81,6 +83,7 @@ pub text_status : (task : Task) (bytes : List ℕ) (o : Output) → ReportsText 
 text_status (Run workers budget schedule tally by_value progress) bytes o h = run_status h.so.answer o.status h.so.ends
 text_status (Check term) bytes o h = inl (ap (λ (x : Output). x.status) h.so)
 text_status ShowNet bytes o h = inl (ap (λ (x : Output). x.status) h.so)
+text_status (Circuit stack forks) bytes o h = inl (ap (λ (x : Output). x.status) h.so)
 text_status (RunNet workers budget schedule tally) bytes o h = run_status h.so.answer o.status h.so.ends
 text_status (Trace workers budget by_value window) bytes o h = run_status h.so.answer o.status h.so.ends
 
@@ -145,11 +148,14 @@ module _ (known : Known) where
   same_listed bytes t u h k = ap (listed_or t) (known.one_listing bytes (Ok (t, nat)) (Ok (u, nat)) (h, refl) (k, refl) (λ e. cc) (λ e. cc))
 
   listing_sound : (bytes : List ℕ) (t : TermTree) (f : Fault) → ListsProgram bytes t → FaultyListing bytes f → ⊥
-  listing_sound bytes t _ h (unlisted f n k) = no_listing (Ok (t, nat)) (Err f) (t, nat) f refl refl (known.one_listing bytes (Ok (t, nat)) (Err f) (h, refl) k (λ e. cc) (λ e. n (ap (listing_fault_or f) e)))
+  listing_sound bytes t _ h (unlisted f n k) =
+      no_listing (Ok (t, nat)) (Err f) (t, nat) f refl refl
+      (known.one_listing bytes (Ok (t, nat)) (Err f) (h, refl) k (λ e. cc) (λ e. n (ap (listing_fault_or f) e)))
 
   one_listing_fault : (bytes : List ℕ) (f g : Fault) → FaultyListing bytes f → FaultyListing bytes g → f ≡ g
   one_listing_fault bytes _ _ (unlisted f n h) (unlisted g m k) =
-      ap NetText (ap (listing_fault_or f) (known.one_listing bytes (Err f) (Err g) h k (λ e. n (ap (listing_fault_or f) e)) (λ e. m (ap (listing_fault_or g) e))))
+      ap NetText (ap (listing_fault_or f)
+      (known.one_listing bytes (Err f) (Err g) h k (λ e. n (ap (listing_fault_or f) e)) (λ e. m (ap (listing_fault_or g) e))))
 
   -- ---- a task has one status on a text or one fault
 
@@ -158,32 +164,40 @@ module _ (known : Known) where
   text_end (Run workers budget schedule tally by_value progress) bytes o own h k =
       let e : h.term ≡ k.term = same_program known.one_program (wanted_by_run by_value) bytes _ _ h k in
       one_run_end budget (net_run by_value k.term) o.status own
-      (subst (λ (t : TermTree). EndsRun budget (net_run by_value t) o.status) e (report_ends (meaning by_value h.term) (net_run by_value h.term) workers budget schedule tally progress o h.so)) k.so
+      (subst (λ (t : TermTree). EndsRun budget (net_run by_value t) o.status) e
+      (report_ends (meaning by_value h.term) (net_run by_value h.term) workers budget schedule tally progress o h.so)) k.so
   text_end (Check term) bytes o own h k = ap (λ (x : Output). x.status) h.so ∙ sym k.so
   text_end ShowNet bytes o own h k = ap (λ (x : Output). x.status) h.so ∙ sym k.so
+  text_end (Circuit stack forks) bytes o own h k = ap (λ (x : Output). x.status) h.so ∙ sym k.so
   text_end (RunNet workers budget schedule tally) bytes o own h k =
       let e : h.term ≡ k.term = same_listed bytes h.term k.term h.lists k.lists in
       one_run_end budget (net_of k.term) o.status own
-      (subst (λ (t : TermTree). EndsRun budget (net_of t) o.status) e (report_ends (Means h.term) (net_of h.term) workers budget schedule tally false o h.so)) k.so
+      (subst (λ (t : TermTree). EndsRun budget (net_of t) o.status) e
+      (report_ends (Means h.term) (net_of h.term) workers budget schedule tally false o h.so)) k.so
   text_end (Trace workers budget by_value window) bytes o own h k =
       let e : h.term ≡ k.term = same_program known.one_program (wanted_by_run by_value) bytes _ _ h k in
       one_run_end budget (net_run by_value k.term) o.status own
-      (subst (λ (t : TermTree). EndsRun budget (net_run by_value t) o.status) e (walk_ends (meaning by_value h.term) (net_run by_value h.term) workers budget window o h.so)) k.so
+      (subst (λ (t : TermTree). EndsRun budget (net_run by_value t) o.status) e
+      (walk_ends (meaning by_value h.term) (net_run by_value h.term) workers budget window o h.so)) k.so
 
   -- what has an output has no fault
   pub report_sound : (task : Task) (bytes : List ℕ) (o : Output) (f : Fault) → ReportsText task bytes o → FaultyFor task bytes f → ⊥
-  report_sound (Run workers budget schedule tally by_value progress) bytes o f h k = text_sound known.one_program (wanted_by_run by_value) bytes h.tree h.term h.type f h.is k
+  report_sound (Run workers budget schedule tally by_value progress) bytes o f h k =
+      text_sound known.one_program (wanted_by_run by_value) bytes h.tree h.term h.type f h.is k
   report_sound (Check term) bytes o f h k = text_sound known.one_program any_type bytes h.tree h.term h.type f h.is k
   report_sound ShowNet bytes o f h k = text_sound known.one_program number bytes h.tree h.term h.type f h.is k
+  report_sound (Circuit stack forks) bytes o f h k = text_sound known.one_program number bytes h.tree h.term h.type f h.is k
   report_sound (RunNet workers budget schedule tally) bytes o f h k = listing_sound bytes h.term f h.lists k
   report_sound (Trace workers budget by_value window) bytes o f h k =
       text_sound known.one_program (wanted_by_run by_value) bytes h.tree h.term h.type f h.is k
 
   -- nor has what the task ends on
   pub end_sound : (task : Task) (bytes : List ℕ) (own : ℕ) (f : Fault) → EndsText task bytes own → FaultyFor task bytes f → ⊥
-  end_sound (Run workers budget schedule tally by_value progress) bytes own f h k = text_sound known.one_program (wanted_by_run by_value) bytes h.tree h.term h.type f h.is k
+  end_sound (Run workers budget schedule tally by_value progress) bytes own f h k =
+      text_sound known.one_program (wanted_by_run by_value) bytes h.tree h.term h.type f h.is k
   end_sound (Check term) bytes own f h k = text_sound known.one_program any_type bytes h.tree h.term h.type f h.is k
   end_sound ShowNet bytes own f h k = text_sound known.one_program number bytes h.tree h.term h.type f h.is k
+  end_sound (Circuit stack forks) bytes own f h k = text_sound known.one_program number bytes h.tree h.term h.type f h.is k
   end_sound (RunNet workers budget schedule tally) bytes own f h k = listing_sound bytes h.term f h.lists k
   end_sound (Trace workers budget by_value window) bytes own f h k =
       text_sound known.one_program (wanted_by_run by_value) bytes h.tree h.term h.type f h.is k
@@ -193,6 +207,7 @@ module _ (known : Known) where
   one_fault_for (Run workers budget schedule tally by_value progress) bytes f g h k = one_text_fault (wanted_by_run by_value) bytes f g h k
   one_fault_for (Check term) bytes f g h k = one_text_fault any_type bytes f g h k
   one_fault_for ShowNet bytes f g h k = one_text_fault number bytes f g h k
+  one_fault_for (Circuit stack forks) bytes f g h k = one_text_fault number bytes f g h k
   one_fault_for (RunNet workers budget schedule tally) bytes f g h k = one_listing_fault bytes f g h k
   one_fault_for (Trace workers budget by_value window) bytes f g h k = one_text_fault (wanted_by_run by_value) bytes f g h k
 
@@ -207,29 +222,35 @@ module _ (known : Known) where
   same_state : (net : NetTree) (a b : List ℕ) (S T : MapState) → a ≡ b → LeadsToMap net a S → LeadsToMap net b T → S ≡ T
   same_state net a b S T e h k = ap (state_or S) (sym (subst (λ (l : List ℕ). LeadsToMap net l S) e h) ∙ k)
 
-  no_replay : (net : NetTree) (f : ReplayFault) (tickets : List ℕ) (S : MapState) → LeadsToMap net tickets S → f ≢ replay.NoMemory → ReplaysAs net tickets (Err f) → ⊥
+  no_replay : (net : NetTree) (f : ReplayFault) (tickets : List ℕ) (S : MapState) → LeadsToMap net tickets S → f ≢ replay.NoMemory →
+      ReplaysAs net tickets (Err f) → ⊥
   no_replay net f tickets S h n k =
       let r : Replayed = record { answer = S.answered; moves = length tickets } in
       let run : ReplaysAs net tickets (Ok r) = record { state = S; led = h; answer = refl; moves = refl } in
       err_or_ok f r (known.one_replay net tickets (Err f) (Ok r) (λ e. n (ap (replay_fault_or f) e)) (λ e. cc) k run)
 
-  pub schedule_sound : (t : TermTree) (text : List ℕ) (f : Fault) (tickets : List ℕ) (S : MapState) → IsSchedule text tickets → LeadsToMap (net_of t) tickets S → FaultySchedule t text f → ⊥
+  pub schedule_sound : (t : TermTree) (text : List ℕ) (f : Fault) (tickets : List ℕ) (S : MapState) → IsSchedule text tickets →
+      LeadsToMap (net_of t) tickets S → FaultySchedule t text f → ⊥
   schedule_sound t text _ tickets S s h (no_schedule f n k) = not_schedule text tickets f s n k
   schedule_sound t text _ tickets S s h (unmoved f ts n r k) =
       no_replay (net_of t) f tickets S h n (subst (λ (l : List ℕ). ReplaysAs (net_of t) l (Err f)) (same_tickets text ts tickets r s) k)
 
   pub one_schedule_fault : (t : TermTree) (text : List ℕ) (f g : Fault) → FaultySchedule t text f → FaultySchedule t text g → f ≡ g
   one_schedule_fault t text _ _ (no_schedule f n h) (no_schedule g m k) =
-      ap Schedule (ap (schedule_fault_or f) (known.one_answer text (Err f) (Err g) (λ e. n (ap (schedule_fault_or f) e)) (λ e. m (ap (schedule_fault_or g) e)) h k))
+      ap Schedule (ap (schedule_fault_or f)
+      (known.one_answer text (Err f) (Err g) (λ e. n (ap (schedule_fault_or f) e)) (λ e. m (ap (schedule_fault_or g) e)) h k))
   one_schedule_fault t text _ _ (no_schedule f n h) (unmoved g ts m s k) = absurd (not_schedule text ts f s n h)
   one_schedule_fault t text _ _ (unmoved f ts n s h) (no_schedule g m k) = absurd (not_schedule text ts g s m k)
   one_schedule_fault t text _ _ (unmoved f ts n s h) (unmoved g us m r k) =
       let e : us ≡ ts = same_tickets text us ts r s in
-      ap Moves (ap (replay_fault_or f) (known.one_replay (net_of t) ts (Err f) (Err g) (λ e. n (ap (replay_fault_or f) e)) (λ e. m (ap (replay_fault_or g) e)) h
+      ap Moves (ap (replay_fault_or f)
+      (known.one_replay (net_of t) ts (Err f) (Err g) (λ e. n (ap (replay_fault_or f) e)) (λ e. m (ap (replay_fault_or g) e)) h
       (subst (λ (l : List ℕ). ReplaysAs (net_of t) l (Err g)) e k)))
 
   pub replay_end : (t : TermTree) (window : Option Window) (text : List ℕ) (o : Output) (own : ℕ) → ReportsReplay t window text o →
       EndsReplay t text own → o.status ≡ own
   replay_end t window text o own h k =
       let e = same_tickets text h.tickets k.tickets h.schedule k.schedule in
-      ap (λ (x : Output). x.status) h.output_is ∙ ap (λ (S : MapState). replay_status S.answered) (same_state (net_of t) h.tickets k.tickets h.state k.state e h.led k.led) ∙ sym k.ends
+      ap (λ (x : Output). x.status) h.output_is
+      ∙ ap (λ (S : MapState). replay_status S.answered) (same_state (net_of t) h.tickets k.tickets h.state k.state e h.led k.led)
+      ∙ sym k.ends

@@ -36,7 +36,8 @@ use Rattle.goi_tasks.specs.Tasks.{ReportsText}
 use Rattle.goi_tasks.proofs.Brief.{brief}
 
 -- a run has no more moves than 32 bits count
-few : (net : NetTree) (workers budget : ℕ) (answer : Option Val) (log : List Entry) → IsBudget budget → IsRun net workers budget answer log →
+few : (net : NetTree) (workers budget : ℕ) (answer : Option Val) (log : List Entry) → IsBudget budget →
+    IsRun net workers budget answer log →
     length log < 2 ^ 32
 few net workers budget answer log b r = let h = tickets_length log in omega (arith, h, r.finished.0, b.1)
 
@@ -64,7 +65,8 @@ Reported workers schedule tally answer log o =
     ReportsRun workers budget schedule tally by_value false t o
 
 -- what is reported of a run of a text's program is reported of the text, and so it is with its numbers
-pub reports_text : (by_value : Bool) (workers budget : ℕ) (schedule tally : Bool) (bytes : List ℕ) (answer : Option Val) (log : List Entry) →
+pub reports_text : (by_value : Bool) (workers budget : ℕ) (schedule tally : Bool) (bytes : List ℕ) (answer : Option Val)
+    (log : List Entry) →
     IsBudget budget → RunsText by_value workers budget bytes answer log → (o : Output) →
     Reported workers schedule tally answer log o → ReportsText (Run workers budget schedule tally by_value false) bytes o
 reports_text by_value workers budget schedule tally bytes answer log within h o k = record {
@@ -135,7 +137,8 @@ run_few net workers budget answer log b r = let h = tickets_length log in omega 
 
 -- the output of the generated program's run
 pub reports_demo : (n workers : ℕ) (answer : Option Val) (log : List Entry) →
-    IsProgramRun (Means (demo_term n)) (net_of (demo_term n)) workers demo_budget answer log → (status : ℕ) → status ≡ replay_status answer →
+    IsProgramRun (Means (demo_term n)) (net_of (demo_term n)) workers demo_budget answer log → (status : ℕ) →
+    status ≡ replay_status answer →
     (nodes moves : ℕ) → nodes ≡ size (demo_term n) → moves ≡ length log → (text : List ℕ) → text ≡ demo_report n nodes answer moves →
     (o : Output) → o ≡ output status text [] → ReportsDemo n workers o
 reports_demo n workers answer log r status e nodes moves a b text is o same = record {
@@ -156,7 +159,8 @@ module _ (law : SameValues) (t : TermTree) (typed : HasType [] t nat) (has : Has
       IsProgramRun (Means (translated t)) (net_of (translated t)) workers budget answer log →
       IsProgramRun (MeansByValue t) (net_of (translated t)) workers budget answer log
   strict_run workers budget answer log r =
-      other_meaning (Means (translated t)) (MeansByValue t) (λ v m. (law t typed has v).1 m) (net_of (translated t)) workers budget answer log r
+      other_meaning (Means (translated t)) (MeansByValue t) (λ v m. (law t typed has v).1 m) (net_of (translated t)) workers budget answer
+      log r
 
   strictly : (workers budget : ℕ) (schedule tally progress : Bool) (o : Output) →
       ReportsRun workers budget schedule tally false progress (translated t) o → ReportsRun workers budget schedule tally true progress t o

@@ -1,5 +1,6 @@
 -- What a schedule that was run on a program's net says of the program.
-use Rattle.std.proofs.Common.{◌≡◌, ℕ, zero, suc, ◌+◌, ◌≤◌, List, [], ◌∷◌, length, Result, Ok, Err, IfOk, IfErr, IsErrAnd, Option, Some, None, refl, sym, ap, ◌∙◌, subst, arith}
+use Rattle.std.proofs.Common.{◌≡◌, ℕ, zero, suc, ◌+◌, ◌≤◌, List, [], ◌∷◌, length, Result, Ok, Err, IfOk, IfErr, IsErrAnd, Option, Some}
+use Rattle.std.proofs.Common.{None, refl, sym, ap, ◌∙◌, subst, arith}
 use Rattle.pcf_values.specs.declared.val.Val.{Val}
 use Rattle.pcf_values.specs.Most.{most_moves}
 use Rattle.pcf_values.specs.Terms.{TermTree, nat}
@@ -79,11 +80,13 @@ replayed net window log r own h status e text is o same = record {
 }
 
 -- an answer is what the term means, and then the list is as long as the net
-agrees : (t : TermTree) (tickets : List ℕ) (answer : Option Val) → ((v : Val) → answer ≡ Some v → Means t v × Length (net_of t) v (length tickets)) → Agrees t answer (length tickets)
+agrees : (t : TermTree) (tickets : List ℕ) (answer : Option Val) →
+    ((v : Val) → answer ≡ Some v → Means t v × Length (net_of t) v (length tickets)) → Agrees t answer (length tickets)
 agrees t tickets None h = tt
 agrees t tickets (Some v) h = h v refl
 
-module _ (lengths : MapEqualLengths) (means : MeansLength) (t : TermTree) (typed : HasType [] t nat) (net : NetTree) (runs : Runs net) (same : net ≡ net_of t) where
+module _ (lengths : MapEqualLengths) (means : MeansLength) (t : TermTree) (typed : HasType [] t nat) (net : NetTree) (runs : Runs net)
+    (same : net ≡ net_of t) where
   right : (window : Option Window) (text tickets : List ℕ) → IsSchedule text tickets → (o : Output) → IsReplayed net window tickets o →
       ReportsReplay t window text o
   right window text tickets s o h =
@@ -94,7 +97,8 @@ module _ (lengths : MapEqualLengths) (means : MeansLength) (t : TermTree) (typed
         state = h.state;
         led = subst (λ (n : NetTree). LeadsToMap n tickets h.state) same h.led;
         agrees = agrees t tickets h.state.answered (λ v e.
-            let long : Length (net_of t) v (length tickets) = subst (λ (n : NetTree). Length n v (length tickets)) same ((agree.answers v).0 e) in
+            let long : Length (net_of t) v (length tickets) =
+            subst (λ (n : NetTree). Length n v (length tickets)) same ((agree.answers v).0 e) in
             ((means t typed v).1 (length tickets, long), long));
         output_is = subst (λ (n : NetTree). o ≡ replay_output window n tickets h.state) same h.output_is;
       }
@@ -108,20 +112,27 @@ rights lengths means net runs window text tickets s (Ok v) h = λ t typed same.
 rights lengths means net runs window text tickets s (Err e) h = h
 
 -- and the fault is that of the schedule
-faulty : (net : NetTree) (text tickets : List ℕ) → IsSchedule text tickets → (f : Fault) → FaultyReplay net tickets f → (t : TermTree) → net ≡ net_of t → FaultySchedule t text f
+faulty : (net : NetTree) (text tickets : List ℕ) → IsSchedule text tickets → (f : Fault) → FaultyReplay net tickets f → (t : TermTree) →
+    net ≡ net_of t → FaultySchedule t text f
 faulty net text tickets s _ (no_moves f n h) = λ t same. unmoved f tickets n s (subst (λ (n : NetTree). ReplaysAs n tickets (Err f)) same h)
 
-pub faulties : (net : NetTree) (text tickets : List ℕ) → IsSchedule text tickets → (r : Result Report Stop) → IfErr r (λ e. StopsFor (FaultyReplay net tickets) e) → IfErr r (λ e. StopsFor (λ f. (t : TermTree) → net ≡ net_of t → FaultySchedule t text f) e)
-faulties net text tickets s r h = faults_weaker (FaultyReplay net tickets) (λ f. (t : TermTree) → net ≡ net_of t → FaultySchedule t text f) r (faulty net text tickets s) h
+pub faulties : (net : NetTree) (text tickets : List ℕ) → IsSchedule text tickets → (r : Result Report Stop) →
+    IfErr r (λ e. StopsFor (FaultyReplay net tickets) e) →
+    IfErr r (λ e. StopsFor (λ f. (t : TermTree) → net ≡ net_of t → FaultySchedule t text f) e)
+faulties net text tickets s r h =
+    faults_weaker (FaultyReplay net tickets) (λ f. (t : TermTree) → net ≡ net_of t → FaultySchedule t text f) r
+    (faulty net text tickets s) h
 
 -- a replay that goes wrong stops for its fault
-pub stops_unmoved : (net : NetTree) (tickets : List ℕ) (f : ReplayFault) → ReplaysAs net tickets (Err f) → StopsFor (FaultyReplay net tickets) (stop_of_replay f)
+pub stops_unmoved : (net : NetTree) (tickets : List ℕ) (f : ReplayFault) → ReplaysAs net tickets (Err f) →
+    StopsFor (FaultyReplay net tickets) (stop_of_replay f)
 stops_unmoved net tickets replay.NoMemory h = tt
 stops_unmoved net tickets (replay.NotLive place ticket) h = no_moves (replay.NotLive place ticket) (λ e. cc) h
 stops_unmoved net tickets (replay.AfterAnswer place) h = no_moves (replay.AfterAnswer place) (λ e. cc) h
 
 -- a text that is no schedule
-pub not_read : (net : NetTree) (text : List ℕ) (f : ScheduleFault) → ReadAs text (Err f) → StopsFor (λ g. (t : TermTree) → net ≡ net_of t → FaultySchedule t text g) (stop_of_schedule f)
+pub not_read : (net : NetTree) (text : List ℕ) (f : ScheduleFault) → ReadAs text (Err f) →
+    StopsFor (λ g. (t : TermTree) → net ≡ net_of t → FaultySchedule t text g) (stop_of_schedule f)
 not_read net text schedule.NoMemory h = tt
 not_read net text schedule.BadHeader h = λ t same. unread _ (λ e. cc) h
 not_read net text (schedule.BadLine n) h = λ t same. unread _ (λ e. cc) h
@@ -129,6 +140,7 @@ not_read net text (schedule.TicketTooWide n) h = λ t same. unread _ (λ e. cc) 
 not_read net text schedule.NoEnd h = λ t same. unread _ (λ e. cc) h
 not_read net text (schedule.TooLong n) h = λ t same. unread _ (λ e. cc) h
 
-pub stops_by : {V : Type 0} (r : Result V Stop) (s : Stop) (P : Fault → Type 0) → IsErrAnd r (λ e. e ≡ s) → StopsFor P s → IfErr r (λ e. StopsFor P e)
+pub stops_by : {V : Type 0} (r : Result V Stop) (s : Stop) (P : Fault → Type 0) → IsErrAnd r (λ e. e ≡ s) → StopsFor P s →
+    IfErr r (λ e. StopsFor P e)
 stops_by (Ok v) s P h p = absurd h
 stops_by (Err e) s P h p = subst (λ (x : Stop). StopsFor P x) (sym h) p

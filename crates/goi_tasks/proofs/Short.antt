@@ -11,15 +11,32 @@ pub placed_short : (name : List ℕ) (at : ℕ) → length name ≤ 20 → at < 
 placed_short name at h fits =
     let place = decimal at in
     let d : length place ≤ 10 = length-decimal-le 10 at (omega arith) (omega arith) (omega arith) in
-    omega (arith, h, d, length-append (codes "refused: ") (name ++ (codes "(" ++ (place ++ codes ")\n"))), length-append name (codes "(" ++ (place ++ codes ")\n")), length-append (codes "(") (place ++ codes ")\n"), length-append place (codes ")\n"))
+    omega (
+      arith,
+      h,
+      d,
+      length-append (codes "refused: ") (name ++ (codes "(" ++ (place ++ codes ")\n"))),
+      length-append name (codes "(" ++ (place ++ codes ")\n")),
+      length-append (codes "(") (place ++ codes ")\n"),
+      length-append place (codes ")\n"),
+    )
 
 pub inner_short : (name : List ℕ) (at : ℕ) → length name ≤ 20 → at < 2 ^ 32 → length (inner_line name at) ≤ most_line
 inner_short name at h fits =
     let place = decimal at in
     let d : length place ≤ 10 = length-decimal-le 10 at (omega arith) (omega arith) (omega arith) in
-    omega (arith, h, d, length-append (codes "refused: NotSound(") (name ++ (codes "(" ++ (place ++ codes "))\n"))), length-append name (codes "(" ++ (place ++ codes "))\n")), length-append (codes "(") (place ++ codes "))\n"), length-append place (codes "))\n"))
+    omega (
+      arith,
+      h,
+      d,
+      length-append (codes "refused: NotSound(") (name ++ (codes "(" ++ (place ++ codes "))\n"))),
+      length-append name (codes "(" ++ (place ++ codes "))\n")),
+      length-append (codes "(") (place ++ codes "))\n"),
+      length-append place (codes "))\n"),
+    )
 
-pub ticket_short : (name : List ℕ) (at ticket : ℕ) → length name ≤ 20 → at < 2 ^ 32 → ticket < 2 ^ 32 → length (ticket_line name at ticket) ≤ most_line
+pub ticket_short : (name : List ℕ) (at ticket : ℕ) → length name ≤ 20 → at < 2 ^ 32 → ticket < 2 ^ 32 →
+    length (ticket_line name at ticket) ≤ most_line
 ticket_short name at ticket h fits few =
     let place = decimal at in
     let t = decimal ticket in
@@ -27,4 +44,15 @@ ticket_short name at ticket h fits few =
     let e : length t ≤ 10 = length-decimal-le 10 ticket (omega arith) (omega arith) (omega arith) in
     let end = t ++ codes ")\n" in
     let inner = place ++ (codes "," ++ end) in
-    omega (arith, h, d, e, length-append (codes "refused: ") (name ++ (codes "(" ++ inner)), length-append name (codes "(" ++ inner), length-append (codes "(") inner, length-append place (codes "," ++ end), length-append (codes ",") end, length-append t (codes ")\n"))
+    omega (
+      arith,
+      h,
+      d,
+      e,
+      length-append (codes "refused: ") (name ++ (codes "(" ++ inner)),
+      length-append name (codes "(" ++ inner),
+      length-append (codes "(") inner,
+      length-append place (codes "," ++ end),
+      length-append (codes ",") end,
+      length-append t (codes ")\n"),
+    )

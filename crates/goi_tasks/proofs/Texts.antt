@@ -36,7 +36,8 @@ stops_program P no_run.Memory h = tt
 stops_program P (no_run.Fault f) h = no_program f h
 
 -- the fault of a tree is one of its text
-tree_fault : (wanted : Wanted) (bytes : List ℕ) (tree : NamedTree) (f : Fault) → Text bytes tree → IsProgramFault (FaultyTree wanted tree) f →
+tree_fault : (wanted : Wanted) (bytes : List ℕ) (tree : NamedTree) (f : Fault) → Text bytes tree →
+    IsProgramFault (FaultyTree wanted tree) f →
     FaultyText wanted bytes f
 tree_fault wanted bytes tree _ x (no_program f h) = no_program f (of_tree tree f x h)
 

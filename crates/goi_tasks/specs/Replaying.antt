@@ -65,7 +65,8 @@ pub data FaultySchedule (t : TermTree) (text : List ℕ) : Fault → Type 0 wher
   -- it is no schedule
   unread : (f : ScheduleFault) → f ≢ schedule.NoMemory → ReadAs text (Err f) → FaultySchedule t text (Schedule f)
   -- it is one that the term's net can't run
-  unmoved : (f : ReplayFault) (tickets : List ℕ) → f ≢ replay.NoMemory → IsSchedule text tickets → ReplaysAs (net_of t) tickets (Err f) → FaultySchedule t text (Moves f)
+  unmoved : (f : ReplayFault) (tickets : List ℕ) → f ≢ replay.NoMemory → IsSchedule text tickets → ReplaysAs (net_of t) tickets (Err f) →
+      FaultySchedule t text (Moves f)
 
 -- the output of the run of these tickets on the net, with this part of its trace where it is asked for
 pub record IsReplayed (net : NetTree) (window : Option Window) (tickets : List ℕ) (o : Output) : Type 0 where

@@ -23,7 +23,8 @@ abbrev pub demo_budget : ℕ
 demo_budget = 1000000
 
 -- the output of a run of the net of a program of this meaning; its report is short where neither schedule nor tally is asked for
-pub record ReportsNet (means : Val → Type 0) (net : NetTree) (workers budget : ℕ) (schedule tally progress : Bool) (o : Output) : Type 0 where
+pub record ReportsNet (means : Val → Type 0) (net : NetTree) (workers budget : ℕ) (schedule tally progress : Bool)
+    (o : Output) : Type 0 where
   pub answer : Option Val
   pub log : List Entry
   pub run : IsProgramRun means net workers budget answer log
@@ -44,7 +45,8 @@ pub record ReportsWalk (means : Val → Type 0) (net : NetTree) (workers budget 
 
 -- the output of a run of a term, by value where asked
 abbrev pub ReportsRun : ℕ → ℕ → Bool → Bool → Bool → Bool → TermTree → Output → Type 0
-ReportsRun workers budget schedule tally by_value progress t o = ReportsNet (meaning by_value t) (net_run by_value t) workers budget schedule tally progress o
+ReportsRun workers budget schedule tally by_value progress t o =
+    ReportsNet (meaning by_value t) (net_run by_value t) workers budget schedule tally progress o
 
 -- the output of a run of a term whose walk is told, by value where asked
 abbrev pub ReportsTrace : ℕ → ℕ → Bool → Window → TermTree → Output → Type 0

@@ -25,6 +25,10 @@ use token_pool::Ended;
 const BUDGET: u32 = 1_000_000;
 
 /// The report of a run of the generated program of a number.
+///
+/// # Errors
+///
+/// Want of memory.
 pub fn report_demo<R: Threads + Wait + Sync, G: Gate>(
     rt: &R,
     alloc: Global,

@@ -11,6 +11,7 @@ ghost use Rattle.goi_tasks.specs.Stops.{StopsFor};
 ghost use Rattle.goi_tasks.specs.Tasks.{IsWithin, ReportsText, FaultyFor};
 
 use crate::alone::{check_alone, list_alone};
+use crate::circuit::circuit_alone;
 use crate::net_file::net_of_listing;
 use crate::program::{net_by_value, net_of_text, run_asked_together};
 use crate::report::Report;
@@ -26,6 +27,10 @@ use std::sync::Wait;
 use std::thread::Threads;
 
 /// The report of a task on a text, or the text's first fault.
+///
+/// # Errors
+///
+/// The first fault of the text as one for this task. Or want of memory.
 pub fn report_text<R: Threads + Wait + Sync, G: Gate>(
     rt: &R,
     alloc: Global,
@@ -66,6 +71,7 @@ pub fn report_text<R: Threads + Wait + Sync, G: Gate>(
         } => watch_by_value(rt, alloc, bytes, workers, budget, schedule, tally, gate),
         Task::Check { term } => check_alone(alloc, bytes, term),
         Task::ShowNet => list_alone(alloc, bytes),
+        Task::Circuit { stack, forks } => circuit_alone(alloc, bytes, stack, forks),
         Task::RunNet {
             workers,
             budget,

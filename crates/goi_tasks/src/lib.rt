@@ -6,6 +6,7 @@
 #![tactic(auto)]
 
 mod alone;
+mod circuit;
 mod demo;
 mod fault;
 mod judge;
@@ -24,6 +25,7 @@ pub use alone::{
     Told, check_alone, list_alone, replay_alone, run_listing_alone, run_text_alone, tell_text,
     trace_text_alone,
 };
+pub use circuit::circuit_alone;
 pub use demo::report_demo;
 pub use fault::Fault;
 pub use judge::report_text;

@@ -27,6 +27,10 @@ pub struct Refusal {
 }
 
 /// The refusal for a fault.
+///
+/// # Errors
+///
+/// Want of memory.
 pub fn refuse(alloc: Global, fault: Fault) -> Result<Refusal, AllocError>
     ensures { IfOk result (λ r. TellsFault fault r) }
 {

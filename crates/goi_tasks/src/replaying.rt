@@ -36,7 +36,8 @@ pub fn report_replay(
     window: Option<Window>,
 ) -> Result<Report, Stop>
     requires runs { Runs net.now }
-    ensures report { IfOk result (λ r. (t : TermTree) → HasType [] t nat → net.now ≡ net_of t → ReportsReplay t window bytes.now (output_of r)) }
+    ensures report { IfOk result (λ r.
+        (t : TermTree) → HasType [] t nat → net.now ≡ net_of t → ReportsReplay t window bytes.now (output_of r)) }
     ensures fault { IfErr result (λ e. StopsFor (λ f. (t : TermTree) → net.now ≡ net_of t → FaultySchedule t bytes.now f) e) }
 {
     law_lengths();

@@ -40,6 +40,11 @@ pub enum Task {
         by_value: bool,
         window: Window,
     },
+    /// Print the circuit of the program's net, with stacks of so many bits and so many forks.
+    Circuit {
+        stack: u32,
+        forks: u32,
+    },
 }
 
 /// How many bytes the text of a task has at the most.

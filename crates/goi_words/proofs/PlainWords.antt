@@ -1,8 +1,9 @@
 -- Plain words are taken, and mean what the table says.
 use Rattle.goi_words.specs.Laws.{PlainWordsAreTaken}
-use Rattle.goi_words.specs.Plain.{ask_batch, ask_check, ask_demo, ask_net, ask_replay, ask_run, ask_run_net, ask_trace}
+use Rattle.goi_words.specs.Plain.{ask_batch, ask_check, ask_circuit, ask_demo, ask_net, ask_replay, ask_run, ask_run_net, ask_trace}
 use Rattle.goi_words.proofs.BatchWords.{batch_words}
 use Rattle.goi_words.proofs.CheckWords.{check_words}
+use Rattle.goi_words.proofs.CircuitWords.{circuit_words}
 use Rattle.goi_words.proofs.DemoWords.{demo_words}
 use Rattle.goi_words.proofs.NetWords.{net_words}
 use Rattle.goi_words.proofs.ReplayWords.{replay_words}
@@ -20,3 +21,4 @@ plain_words_are_taken program (ask_demo n) = demo_words program n
 plain_words_are_taken program (ask_run_net file) = run_net_words program file
 plain_words_are_taken program (ask_batch file) = batch_words program file
 plain_words_are_taken program (ask_trace file) = trace_words program file
+plain_words_are_taken program (ask_circuit file) = circuit_words program file

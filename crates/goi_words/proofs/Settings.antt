@@ -9,12 +9,14 @@ use Rattle.std.specs.Str.{bytes_eq}
 use Rattle.clap.specs.Walk.{Held, Row, Rule, Text, arg_by_id, arg_by_long, has_row, row_text}
 use Rattle.clap.specs.Simple.{Shape, filled}
 use Rattle.pcf_values.specs.Most.{most_workers, most_budget, most_moves}
-use Rattle.goi_words.specs.Defaults.{most_traced, default_budget, default_from, default_most, default_workers}
-use Rattle.goi_words.specs.Commands.{budget_option, flag, from_option, most_option, number_option, workers_option}
+use Rattle.goi_words.specs.Defaults.{most_traced, default_budget, default_forks, default_from, default_most, default_stack, default_workers}
+use Rattle.goi_words.specs.Defaults.{least_stack, most_stack, most_forks}
+use Rattle.goi_words.specs.Commands.{budget_option, flag, forks_option, from_option}
+use Rattle.goi_words.specs.Commands.{most_option, number_option, stack_option, workers_option}
 use Rattle.goi_words.specs.Asked.{number_in, ◌>>=◌}
 use Rattle.goi_words.specs.Plain.{AreDistinct, IsInRange, Setting, budget, budget_in, is_given, is_same_option, option_name, option_value}
 use Rattle.goi_words.specs.Plain.{by_value, progress, schedule, setting_words, tally, term, traced, workers, workers_in}
-use Rattle.goi_words.specs.Plain.{from, from_in, most, most_in}
+use Rattle.goi_words.specs.Plain.{forks, forks_in, from, from_in, most, most_in, stack, stack_in}
 use Rattle.goi_words.proofs.Decimals.{decimal_kept, decimal_number, decimal_passes, decimal_value}
 use Rattle.goi_words.proofs.Rows.{absent_more, given, row_at, used_first}
 use Rattle.goi_words.proofs.Walks.{Holds, Names, Reads, flag_read, option_read, then}
@@ -31,6 +33,8 @@ rule_for progress = filled (flag (codes "progress"))
 rule_for traced = filled (flag (codes "trace"))
 rule_for (from n) = filled from_option
 rule_for (most n) = filled most_option
+rule_for (stack n) = filled stack_option
+rule_for (forks n) = filled forks_option
 
 -- the row of an option
 abbrev pub row_for : Setting → Row
@@ -88,6 +92,10 @@ module _ (sh : Shape) (once : sh.args_override_self ≡ false) (h : Held) (rows 
       number_read (codes "from") 0 most_moves n (codes "0") knows (omega arith) range (omega (arith, range)) absent
   one_setting (most n) knows range absent =
       number_read (codes "most") 1 most_traced n (codes "100000") knows range.0 range.1 (omega (arith, range.1)) absent
+  one_setting (stack n) knows range absent =
+      number_read (codes "stack") least_stack most_stack n (codes "128") knows range.0 range.1 (omega (arith, range.1)) absent
+  one_setting (forks n) knows range absent =
+      number_read (codes "forks") 1 most_forks n (codes "64") knows range.0 range.1 (omega (arith, range.1)) absent
 
 -- ---- any number of options, in any order
 
@@ -162,6 +170,21 @@ pub most_there : (ss : List Setting) (default : Option Row) → AllByRecursion I
 most_there [] default ranges is = is
 most_there (most n ∷ ss) default ranges is = number_there n (codes "most") 1 most_traced (codes "100000") (omega (arith, ranges.0.1))
 most_there (s ∷ ss) default ranges is = most_there ss default ranges.1 is
+
+-- the bits of a circuit's stacks that are found
+pub stack_there : (ss : List Setting) (default : Option Row) → AllByRecursion IsInRange ss → number_at default ≡ Some default_stack
+    → number_at (option_or (row_at (codes "stack") (map row_for ss)) default) ≡ Some (stack_in ss)
+stack_there [] default ranges is = is
+stack_there (stack n ∷ ss) default ranges is =
+    number_there n (codes "stack") least_stack most_stack (codes "128") (omega (arith, ranges.0.0, ranges.0.1))
+stack_there (s ∷ ss) default ranges is = stack_there ss default ranges.1 is
+
+-- the forks of a circuit that are found
+pub forks_there : (ss : List Setting) (default : Option Row) → AllByRecursion IsInRange ss → number_at default ≡ Some default_forks
+    → number_at (option_or (row_at (codes "forks") (map row_for ss)) default) ≡ Some (forks_in ss)
+forks_there [] default ranges is = is
+forks_there (forks n ∷ ss) default ranges is = number_there n (codes "forks") 1 most_forks (codes "64") (omega (arith, ranges.0.1))
+forks_there (s ∷ ss) default ranges is = forks_there ss default ranges.1 is
 
 -- a flag: each option of its name sets it
 abbrev pub IsFlag : Setting → Type 0

@@ -15,6 +15,7 @@ use Rattle.goi_words.proofs.Entering.{entered_job as job_by}
 use Rattle.goi_words.proofs.Found.{found_in, none_else}
 use Rattle.goi_words.proofs.BatchWords.{batch_taken}
 use Rattle.goi_words.proofs.CheckWords.{check_taken}
+use Rattle.goi_words.proofs.CircuitWords.{circuit_taken}
 use Rattle.goi_words.proofs.DemoWords.{demo_taken}
 use Rattle.goi_words.proofs.NetWords.{net_taken}
 use Rattle.goi_words.proofs.ReplayWords.{replay_taken}
@@ -31,7 +32,10 @@ whole = built goi_command
 
 -- each subcommand has a job for the words that it takes
 each_has_a_job : AllByRecursion TakenHasJob whole.subs
-each_has_a_job = (run_taken, (check_taken, (net_taken, (replay_taken, (demo_taken, (run_net_taken, (batch_taken, (trace_taken, tt))))))))
+each_has_a_job = (
+  run_taken,
+  (check_taken, (net_taken, (replay_taken, (demo_taken, (run_net_taken, (batch_taken, (trace_taken, (circuit_taken, tt)))))))),
+)
 
 -- the command asks for a subcommand
 asks_for_one : (rows : List Row) (b : Bool) → check_fault whole.top rows b ≡ [] → b ≡ true

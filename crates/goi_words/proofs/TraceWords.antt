@@ -95,7 +95,10 @@ tame = (
       option_tame _ (codes "budget") 1 most_budget (codes "10000") refl,
       (
         flag_tame _ (codes "by-value") refl,
-        (option_tame _ (codes "from") 0 most_moves (codes "0") refl, (option_tame _ (codes "most") 1 most_traced (codes "100000") refl, tt)),
+        (
+          option_tame _ (codes "from") 0 most_moves (codes "0") refl,
+          (option_tame _ (codes "most") 1 most_traced (codes "100000") refl, tt),
+        ),
       ),
     ),
   ),

@@ -9,7 +9,7 @@ use Rattle.std.specs.Str.Parse.{digits_value, without_leading_plus}
 use Rattle.clap.specs.ValueTests.{is_numeral}
 use Rattle.clap.specs.Words.{Kinds, Row, Text, fault_of, first_of, one_of, subcommand_of}
 use Rattle.goi_words.specs.Commands.{goi_command}
-use Rattle.goi_words.specs.Jobs.{JobTree, run, check, show_net, replay, demo, run_net, batch, trace}
+use Rattle.goi_words.specs.Jobs.{JobTree, run, check, show_net, replay, demo, run_net, batch, trace, circuit}
 use Rattle.goi_words.specs.declared.jobs.Window.{Window}
 
 infixl 10 ◌>>=◌
@@ -100,6 +100,13 @@ trace_job rows = do
   window ← window_of rows
   Some (trace file workers budget (is_set (codes "by-value") rows) window)
 
+abbrev pub circuit_job : List Row → Option JobTree
+circuit_job rows = do
+  file ← text_of (codes "file") rows
+  stack ← number_of (codes "stack") rows
+  forks ← number_of (codes "forks") rows
+  Some (circuit file stack forks)
+
 -- the job of the subcommand of this name
 abbrev pub job_on : Text → List Row → Option JobTree
 job_on name rows =
@@ -111,6 +118,7 @@ job_on name rows =
     else if bytes_eq name (codes "run-net") then run_net_job rows
     else if bytes_eq name (codes "batch") then batch_job rows
     else if bytes_eq name (codes "trace") then trace_job rows
+    else if bytes_eq name (codes "circuit") then circuit_job rows
     else None
 
 -- no kind of error is listed

@@ -6,7 +6,7 @@ use Rattle.std.specs.Prelude.{◌≡◌, ℕ, true, false, pos, List, [], ◌∷
 use Rattle.clap.specs.Words.{App, Rule, Shape, Text, app_of, new_rule}
 use Rattle.clap.specs.Simple.{new_shape}
 use Rattle.pcf_values.specs.Most.{most_workers, most_budget, most_demo, most_moves}
-use Rattle.goi_words.specs.Defaults.{most_traced}
+use Rattle.goi_words.specs.Defaults.{most_traced, least_stack, most_stack, most_forks}
 use Rattle.clap.specs.declared.builder.action.ArgAction.TheVariants.{Set, SetTrue}
 use Rattle.clap.specs.declared.builder.command.Command.{Command}
 use Rattle.clap.specs.declared.builder.command.Command.TheViews.{out-Command}
@@ -44,6 +44,14 @@ from_option = number_option (codes "from") 0 most_moves (codes "0")
 -- the most moves of a trace
 abbrev pub most_option : Rule
 most_option = number_option (codes "most") 1 most_traced (codes "100000")
+
+-- the bits of a circuit's stacks
+abbrev pub stack_option : Rule
+stack_option = number_option (codes "stack") least_stack most_stack (codes "128")
+
+-- the forks of a circuit
+abbrev pub forks_option : Rule
+forks_option = number_option (codes "forks") 1 most_forks (codes "64")
 
 -- an option `--name` that is given or not
 abbrev pub flag : Text → Rule
@@ -102,6 +110,9 @@ abbrev pub trace_command : Shape
 trace_command = command (codes "trace")
     (operand (codes "file") ∷ workers_option ∷ budget_option ∷ flag (codes "by-value") ∷ from_option ∷ most_option ∷ [])
 
+abbrev pub circuit_command : Shape
+circuit_command = command (codes "circuit") (operand (codes "file") ∷ stack_option ∷ forks_option ∷ [])
+
 -- the program without its subcommands
 abbrev pub bare_command : App
 bare_command = record {
@@ -118,7 +129,7 @@ abbrev pub goi_command : App
 goi_command = record {
   top = record bare_command.top { is_leaf = false };
   subs = run_command ∷ check_command ∷ net_command ∷ replay_command ∷ demo_command ∷ run_net_command ∷ batch_command
-      ∷ trace_command ∷ [];
+      ∷ trace_command ∷ circuit_command ∷ [];
 }
 
 -- the command of the code is this subcommand

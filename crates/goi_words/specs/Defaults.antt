@@ -1,5 +1,5 @@
--- The numbers of the command line that no other crate speaks of: what an option is where the words don't give it, and the most moves
--- of a trace. What goes into a run, as the most workers, is limited where all crates find it.
+-- The numbers of the command line that no other crate speaks of: what an option is where the words don't give it, the most moves of a
+-- trace, and the sizes of a circuit. What goes into a run, as the most workers, is limited where all crates find it.
 use Rattle.std.specs.Prelude.{ℕ}
 
 -- the workers of a run
@@ -21,3 +21,20 @@ default_most = 100000
 -- the most moves of a trace that can be asked for
 abbrev pub most_traced : ℕ
 most_traced = 1000000
+
+-- the bits of each stack of a circuit, and the fewest and the most that can be asked for
+abbrev pub default_stack : ℕ
+default_stack = 128
+
+abbrev pub least_stack : ℕ
+least_stack = 8
+
+abbrev pub most_stack : ℕ
+most_stack = 4096
+
+-- the forks of a circuit that can be open at once, and the most that can be asked for
+abbrev pub default_forks : ℕ
+default_forks = 64
+
+abbrev pub most_forks : ℕ
+most_forks = 1024

@@ -2,9 +2,9 @@
 -- A job has the options of its command with their values, given or by default. Its files are named by the bytes of their names.
 use Rattle.std.specs.Prelude.{◌≤◌, ⊤, ℕ, Bool, List, Option, None, Some}
 use Rattle.pcf_values.specs.Most.{most_workers, most_budget, most_demo, most_moves}
-use Rattle.goi_words.specs.Defaults.{most_traced}
+use Rattle.goi_words.specs.Defaults.{most_traced, least_stack, most_stack, most_forks}
 use Rattle.goi_words.specs.declared.jobs.Job.{Job}
-use Rattle.goi_words.specs.declared.jobs.Job.TheVariants.{Run, Check, ShowNet, Replay, Demo, RunNet, Batch, Trace}
+use Rattle.goi_words.specs.declared.jobs.Job.TheVariants.{Run, Check, ShowNet, Replay, Demo, RunNet, Batch, Trace, Circuit}
 use Rattle.goi_words.specs.declared.jobs.Window.{Window}
 
 -- a job
@@ -27,6 +27,8 @@ pub data JobTree : Type 0 where
   -- run the program of a file, with so many workers and at most so many moves, and by value in place of by name where asked; print
   -- this part of the run's trace
   trace : List ℕ → ℕ → ℕ → Bool → Window → JobTree
+  -- print the circuit of the program of a file, with stacks of so many bits and so many forks
+  circuit : List ℕ → ℕ → ℕ → JobTree
 
 -- the job of the code
 abbrev pub job_of : Job → JobTree
@@ -38,6 +40,7 @@ job_of (Demo n workers) = demo n workers
 job_of (RunNet file workers budget schedule tally) = run_net file workers budget schedule tally
 job_of (Batch file workers) = batch file workers
 job_of (Trace file workers budget by_value window) = trace file workers budget by_value window
+job_of (Circuit file stack forks) = circuit file stack forks
 
 -- a number of workers, a budget and the number of a generated program that the command line can ask for
 abbrev pub IsWorkers : ℕ → Type 0
@@ -65,6 +68,13 @@ abbrev pub IsWindowIfAny : Option Window → Type 0
 IsWindowIfAny None = ⊤
 IsWindowIfAny (Some window) = IsWindow window
 
+-- the bits of a circuit's stacks, and its forks, that the command line can ask for
+abbrev pub IsStack : ℕ → Type 0
+IsStack n = (least_stack ≤ n) × (n ≤ most_stack)
+
+abbrev pub IsForks : ℕ → Type 0
+IsForks n = (1 ≤ n) × (n ≤ most_forks)
+
 -- the numbers of a job are in their ranges
 abbrev pub IsWithinLimits : JobTree → Type 0
 IsWithinLimits (run file workers budget schedule tally by_value progress) = IsWorkers workers × IsBudget budget
@@ -73,4 +83,5 @@ IsWithinLimits (run_net file workers budget schedule tally) = IsWorkers workers 
 IsWithinLimits (batch file workers) = IsWorkers workers
 IsWithinLimits (replay file schedule window) = IsWindowIfAny window
 IsWithinLimits (trace file workers budget by_value window) = IsWorkers workers × IsBudget budget × IsWindow window
+IsWithinLimits (circuit file stack forks) = IsStack stack × IsForks forks
 IsWithinLimits _ = ⊤

@@ -7,9 +7,9 @@ use Rattle.std.specs.List.{AllByRecursion, flat_map, list_any}
 use Rattle.std.specs.Fmt.{decimal}
 use Rattle.std.specs.Str.{bytes_eq}
 use Rattle.clap.specs.Words.{Text}
-use Rattle.goi_words.specs.Jobs.{IsBudget, IsDemo, IsFrom, IsMost, IsWorkers, JobTree}
-use Rattle.goi_words.specs.Jobs.{run, check, show_net, replay, demo, run_net, batch, trace}
-use Rattle.goi_words.specs.Defaults.{default_budget, default_from, default_most, default_workers}
+use Rattle.goi_words.specs.Jobs.{IsBudget, IsDemo, IsForks, IsFrom, IsMost, IsStack, IsWorkers, JobTree}
+use Rattle.goi_words.specs.Jobs.{run, check, show_net, replay, demo, run_net, batch, trace, circuit}
+use Rattle.goi_words.specs.Defaults.{default_budget, default_forks, default_from, default_most, default_stack, default_workers}
 use Rattle.goi_words.specs.Asked.{if_traced}
 use Rattle.goi_words.specs.declared.jobs.Window.{Window}
 
@@ -23,6 +23,7 @@ pub data Request : Type 0 where
   ask_run_net : Text → Request
   ask_batch : Text → Request
   ask_trace : Text → Request
+  ask_circuit : Text → Request
 
 -- an option as it is given
 pub data Setting : Type 0 where
@@ -36,6 +37,8 @@ pub data Setting : Type 0 where
   traced : Setting
   from : ℕ → Setting
   most : ℕ → Setting
+  stack : ℕ → Setting
+  forks : ℕ → Setting
 
 -- ---- the words
 
@@ -49,6 +52,7 @@ request_words (ask_demo n) = codes "demo" ∷ decimal n ∷ []
 request_words (ask_run_net file) = codes "run-net" ∷ file ∷ []
 request_words (ask_batch file) = codes "batch" ∷ file ∷ []
 request_words (ask_trace file) = codes "trace" ∷ file ∷ []
+request_words (ask_circuit file) = codes "circuit" ∷ file ∷ []
 
 -- the name of an option
 abbrev pub option_name : Setting → Text
@@ -62,6 +66,8 @@ option_name progress = codes "progress"
 option_name traced = codes "trace"
 option_name (from n) = codes "from"
 option_name (most n) = codes "most"
+option_name (stack n) = codes "stack"
+option_name (forks n) = codes "forks"
 
 -- the word behind its name, where it has a value
 abbrev pub option_value : Setting → List Text
@@ -69,6 +75,8 @@ option_value (workers n) = decimal n ∷ []
 option_value (budget n) = decimal n ∷ []
 option_value (from n) = decimal n ∷ []
 option_value (most n) = decimal n ∷ []
+option_value (stack n) = decimal n ∷ []
+option_value (forks n) = decimal n ∷ []
 option_value _ = []
 
 -- the words of an option
@@ -96,6 +104,7 @@ HasPlainOperands (ask_demo n) = IsDemo n
 HasPlainOperands (ask_run_net file) = IsFileName file
 HasPlainOperands (ask_batch file) = IsFileName file
 HasPlainOperands (ask_trace file) = IsFileName file
+HasPlainOperands (ask_circuit file) = IsFileName file
 
 -- the names of a command's options
 abbrev pub options_of : Request → List Text
@@ -107,6 +116,7 @@ options_of (ask_run_net file) = codes "workers" ∷ codes "budget" ∷ codes "sc
 options_of (ask_batch file) = codes "workers" ∷ []
 options_of (ask_replay file moves) = codes "trace" ∷ codes "from" ∷ codes "most" ∷ []
 options_of (ask_trace file) = codes "workers" ∷ codes "budget" ∷ codes "by-value" ∷ codes "from" ∷ codes "most" ∷ []
+options_of (ask_circuit file) = codes "stack" ∷ codes "forks" ∷ []
 options_of _ = []
 
 -- the command has the option
@@ -119,6 +129,8 @@ IsInRange (workers n) = IsWorkers n
 IsInRange (budget n) = IsBudget n
 IsInRange (from n) = IsFrom n
 IsInRange (most n) = IsMost n
+IsInRange (stack n) = IsStack n
+IsInRange (forks n) = IsForks n
 IsInRange _ = ⊤
 
 -- both are uses of one option
@@ -163,6 +175,18 @@ most_in [] = default_most
 most_in (most n ∷ settings) = n
 most_in (s ∷ settings) = most_in settings
 
+-- the bits of a circuit's stacks are those that are given, and else the default
+abbrev pub stack_in : List Setting → ℕ
+stack_in [] = default_stack
+stack_in (stack n ∷ settings) = n
+stack_in (s ∷ settings) = stack_in settings
+
+-- the forks of a circuit are those that are given, and else the default
+abbrev pub forks_in : List Setting → ℕ
+forks_in [] = default_forks
+forks_in (forks n ∷ settings) = n
+forks_in (s ∷ settings) = forks_in settings
+
 -- the part of a trace
 abbrev pub window_in : List Setting → Window
 window_in settings = record { from = from_in settings; most = most_in settings }
@@ -185,3 +209,4 @@ meant (ask_run_net file) settings =
 meant (ask_batch file) settings = batch file (workers_in settings)
 meant (ask_trace file) settings =
     trace file (workers_in settings) (budget_in settings) (is_given by_value settings) (window_in settings)
+meant (ask_circuit file) settings = circuit file (stack_in settings) (forks_in settings)

@@ -1,5 +1,5 @@
 //! The numbers of the command line that no other crate speaks of: what an option is where the words don't give it, as the word that it
-//! stands for, and the most moves of a trace.
+//! stands for, the most moves of a trace, and the sizes of a circuit.
 
 /// The workers of a run where the words give none.
 pub const DEFAULT_WORKERS: &str = "1";
@@ -15,3 +15,18 @@ pub const DEFAULT_MOST: &str = "100000";
 
 /// The most moves of a trace that can be asked for.
 pub const TRACED_MOVES: u32 = 1_000_000;
+
+/// The bits of each stack of a circuit where the words don't say.
+pub const DEFAULT_STACK: &str = "128";
+
+/// The fewest bits of each stack of a circuit that can be asked for.
+pub const LEAST_STACK: u32 = 8;
+
+/// The most bits of each stack of a circuit that can be asked for.
+pub const MOST_STACK: u32 = 4096;
+
+/// The forks of a circuit that can be open at once where the words don't say.
+pub const DEFAULT_FORKS: &str = "64";
+
+/// The most forks of a circuit that can be asked for.
+pub const MOST_FORKS: u32 = 1024;

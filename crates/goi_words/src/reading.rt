@@ -4,7 +4,8 @@ ghost use Rattle.std.specs.Prelude.{◌≡◌, ◌≢◌, IfOk, IsErrOf, None, S
 ghost use Rattle.clap.specs.Words.{fault_of, found_of, rows_of, subcommand_of, subcommand_rows_of};
 ghost use Rattle.goi_words.specs.Commands.{goi_command};
 ghost use Rattle.goi_words.specs.Asked.{is_set, is_taken, job, job_on, number_of, text_of};
-ghost use Rattle.goi_words.specs.Asked.{batch_job, check_job, demo_job, if_traced, net_job, replay_job, run_job, run_net_job, trace_job, window_of};
+ghost use Rattle.goi_words.specs.Asked.{batch_job, check_job, circuit_job, demo_job, if_traced, net_job, replay_job, run_job};
+ghost use Rattle.goi_words.specs.Asked.{run_net_job, trace_job, window_of};
 ghost use Rattle.goi_words.specs.Jobs.{IsWithinLimits, job_of};
 ghost use Rattle.goi_words.specs.declared.jobs.WordFault.TheVariants.{Refused};
 
@@ -58,6 +59,7 @@ fn job_on(alloc: Global, name: &str, found: &ArgMatches<'_>) -> Result<Job, Word
         "run-net" => run_net_job(alloc, found),
         "batch" => batch_job(alloc, found),
         "trace" => trace_job(alloc, found),
+        "circuit" => circuit_job(alloc, found),
         _ => Err(WordFault::Refused),
     }
 }
@@ -166,6 +168,20 @@ fn trace_job(alloc: Global, found: &ArgMatches<'_>) -> Result<Job, WordFault>
         budget,
         by_value: is_set(found, "by-value"),
         window,
+    })
+}
+
+fn circuit_job(alloc: Global, found: &ArgMatches<'_>) -> Result<Job, WordFault>
+    ensures ok { IfOk result (λ done. circuit_job (rows_of (found_of found.now)) ≡ Some (job_of done)) }
+    ensures refused { IsErrOf result Refused → circuit_job (rows_of (found_of found.now)) ≡ None }
+{
+    let file = text_of(found, "file").ok_or(WordFault::Refused)?;
+    let stack = number_of(found, "stack").ok_or(WordFault::Refused)?;
+    let forks = number_of(found, "forks").ok_or(WordFault::Refused)?;
+    Ok(Job::Circuit {
+        file: Ident::from_text(alloc, file)?,
+        stack,
+        forks,
     })
 }
 

@@ -84,6 +84,10 @@ fn told(alloc: Global, job: &Job) -> Result<String, AllocError> {
             let part = part(alloc, Some(*window))?;
             format!(in alloc; "trace [{file}] {workers} {budget}{by_value}{part}")
         }
+        Job::Circuit { file, stack, forks } => {
+            let file = file.as_str();
+            format!(in alloc; "circuit [{file}] {stack} {forks}")
+        }
     }
 }
 

@@ -166,6 +166,29 @@ fn traces(rt: HostRuntime) -> Result<(), Fail> {
     Ok(())
 }
 
+#[test]
+fn circuits(rt: HostRuntime) -> Result<(), Fail> {
+    let rows = [
+        ("goi,circuit,p", "circuit [p] 128 64"),
+        ("goi,circuit,p,--forks,1024,--stack,8", "circuit [p] 8 1024"),
+        ("goi,circuit,--stack=4096,p,--forks=1", "circuit [p] 4096 1"),
+        ("goi,circuit", "refused"),
+        ("goi,circuit,p,q", "refused"),
+        ("goi,circuit,p,--stack,7", "refused"),
+        ("goi,circuit,p,--stack,4097", "refused"),
+        ("goi,circuit,p,--forks,0", "refused"),
+        ("goi,circuit,p,--forks,1025", "refused"),
+        ("goi,circuit,p,--stack,8,--stack,8", "refused"),
+        ("goi,circuit,p,--workers,1", "refused"),
+        ("goi,run,p,--stack,8", "refused"),
+    ];
+    for (row, wanted) in rows {
+        let got = answer(rt.alloc(), row)?;
+        assert!(rt; got.as_str() == wanted, "{row}: {got}");
+    }
+    Ok(())
+}
+
 /// The part of a trace is read without `--trace` too, and asks for nothing then.
 #[test]
 fn traces_of_schedules(rt: HostRuntime) -> Result<(), Fail> {

@@ -11,5 +11,6 @@ returns-in-None c =
 pub returns : goal.returns
 returns c =
     let at = c.loop-moves in
-    taken c.args.net.now at.core at.moves c.come_to-2.result.answer c.come_to-2.result.moves c.come_to-2.ensures.answer c.come_to-2.ensures.moves
+    taken c.args.net.now at.core at.moves c.come_to-2.result.answer c.come_to-2.result.moves c.come_to-2.ensures.answer
+    c.come_to-2.ensures.moves
     (spent c.args.net.now at.core at.moves at.invariant.0 c.loop-moves-test.false at.invariant.1)

@@ -9,7 +9,8 @@ pub returns-in-Ok-clause-answers : goal.returns-in-Ok-clause-answers
 returns-in-Ok-clause-answers g c = λ t typed same.
     let old = g.F.Files.seen c.args.files.now in
     let new = g.F.Files.seen c.load.new.files in
-    answers_file most_schedule_bytes (ReportsReplay t c.args.window) (FaultySchedule t) (replay_goes t c.args.window) (moves_goes t) c.args.file.now old new
+    answers_file most_schedule_bytes (ReportsReplay t c.args.window) (FaultySchedule t) (replay_goes t c.args.window) (moves_goes t)
+    c.args.file.now old new
     c.in-Ok.bytes.items c.answer_moves.result c.in-Ok.ensures.ok
     (λ h. let k = c.in-Ok.ensures.lacked h in cc) c.in-Ok.ensures.bytes
     (subst (λ (b : List ℕ). Says (ReportsReplay t c.args.window b) (FaultySchedule t b) c.answer_moves.result) c.deref.ensures.value

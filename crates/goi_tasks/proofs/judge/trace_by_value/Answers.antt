@@ -9,5 +9,6 @@ report_trace-report-requires-clause-runs g c lives within =
 
 pub returns-clause-report : goal.returns-clause-report
 returns-clause-report g c =
-    strict_trace c.law_by_value.ensures c.args.bytes.now c.in_ok-translated.translated c.in_ok-translated.ensures.net c.args.workers c.args.budget c.args.window
+    strict_trace c.law_by_value.ensures c.args.bytes.now c.in_ok-translated.translated c.in_ok-translated.ensures.net c.args.workers
+    c.args.budget c.args.window
     (output_of c.in_ok-report.field-0) c.in_ok-report.ensures

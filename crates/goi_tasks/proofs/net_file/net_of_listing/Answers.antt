@@ -6,7 +6,8 @@ use Rattle.goi_tasks.proofs.net_file.net_of_listing.Goals as goal
 
 pub returns-in_err-program-clause-fault : goal.returns-in_err-program-clause-fault
 returns-in_err-program-clause-fault c =
-    stops_by c.from_residual.result _ (FaultyListing c.args.bytes.now) c.from_residual.ensures.1 (stops_unlisted c.args.bytes.now _ c.in_err-program.ensures.answer)
+    stops_by c.from_residual.result _ (FaultyListing c.args.bytes.now) c.from_residual.ensures.1
+    (stops_unlisted c.args.bytes.now _ c.in_err-program.ensures.answer)
 
 pub build-net-requires-clause-wires : goal.build-net-requires-clause-wires
 build-net-requires-clause-wires c = (few_listed c.args.bytes.now c.in_ok-program.program.0 c.in_ok-program.ensures.answer.0).0

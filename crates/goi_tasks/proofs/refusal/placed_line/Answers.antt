@@ -6,5 +6,7 @@ use Rattle.goi_tasks.proofs.refusal.placed_line.Goals as goal
 
 pub returns-clause-short : goal.returns-clause-short
 returns-clause-short c =
-    IfOk-weaker c.format.result (λ text. string_bytes text ≡ placed_line c.args.name.now c.args.at) (λ text. length (string_bytes text) ≤ most_line)
-    (λ text h. subst (λ (bs : List ℕ). length bs ≤ most_line) (sym h) (placed_short c.args.name.now c.args.at c.requires c.ranges.at.fits)) c.format.ensures.ok
+    IfOk-weaker c.format.result (λ text. string_bytes text ≡ placed_line c.args.name.now c.args.at)
+    (λ text. length (string_bytes text) ≤ most_line)
+    (λ text h. subst (λ (bs : List ℕ). length bs ≤ most_line) (sym h) (placed_short c.args.name.now c.args.at c.requires c.ranges.at.fits))
+    c.format.ensures.ok

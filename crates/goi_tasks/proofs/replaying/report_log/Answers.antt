@@ -16,4 +16,5 @@ pub returns-in_err-replayed-clause-fault : goal.returns-in_err-replayed-clause-f
 returns-in_err-replayed-clause-fault c =
     let net = c.args.net.now in
     let tickets = tickets_in_log c.args.log.now.entries in
-    stops_by c.from_residual.result _ (FaultyReplay net tickets) c.from_residual.ensures.1 (stops_unmoved net tickets _ c.in_err-replayed.ensures)
+    stops_by c.from_residual.result _ (FaultyReplay net tickets) c.from_residual.ensures.1
+    (stops_unmoved net tickets _ c.in_err-replayed.ensures)

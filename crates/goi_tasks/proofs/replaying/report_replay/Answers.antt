@@ -18,9 +18,12 @@ returns-clause-report c =
     (tickets_in_log c.in_ok-log.log.entries) c.in_ok-log.ensures.answer c.report_log-report.result c.report_log-report.ensures.report
 
 pub returns-clause-fault : goal.returns-clause-fault
-returns-clause-fault c = faulties c.args.net.now c.args.bytes.now (tickets_in_log c.in_ok-log.log.entries) c.in_ok-log.ensures.answer c.report_log-report.result c.report_log-report.ensures.fault
+returns-clause-fault c =
+    faulties c.args.net.now c.args.bytes.now (tickets_in_log c.in_ok-log.log.entries) c.in_ok-log.ensures.answer c.report_log-report.result
+    c.report_log-report.ensures.fault
 
 pub returns-in_err-log-clause-fault : goal.returns-in_err-log-clause-fault
 returns-in_err-log-clause-fault c =
-    stops_by c.from_residual.result _ (λ f. (t : TermTree) → c.args.net.now ≡ net_of t → FaultySchedule t c.args.bytes.now f) c.from_residual.ensures.1
+    stops_by c.from_residual.result _ (λ f. (t : TermTree) → c.args.net.now ≡ net_of t → FaultySchedule t c.args.bytes.now f)
+    c.from_residual.ensures.1
     (not_read c.args.net.now c.args.bytes.now _ c.in_err-log.ensures.answer)

@@ -8,5 +8,6 @@ use Rattle.goi_tasks.proofs.running.report_ran.Goals as goal
 pub returns : goal.returns
 returns c = λ by_value t budget within run.
     subst (λ (o : Output). ReportsRun c.args.workers budget c.args.schedule c.args.tally by_value false t o) (sym c.plain.ensures)
-    (reports_net (meaning by_value t) (net_run by_value t) c.args.workers budget c.args.schedule c.args.tally false within c.args.answer c.args.log.now.entries run
+    (reports_net (meaning by_value t) (net_run by_value t) c.args.workers budget c.args.schedule c.args.tally false within c.args.answer
+    c.args.log.now.entries run
     c.in_ok-text.ensures.form.fits [] refl c.status_of.result c.status_of.ensures c.in_ok-text.text.items c.in_ok-text.ensures.report)

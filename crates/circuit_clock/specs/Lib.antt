@@ -1,0 +1,2 @@
+-- How the code's registers are seen.
+pub mod Views
