@@ -26,17 +26,29 @@ function labelChoices(net, layout, wire, types) {
   const choices = [];
   for (const [late, share] of (types ? [0.12, 0.2, 0.3] : [0.2, 0.13, 0.3, 0.45]).entries()) {
     for (const left of [outerLeft, !outerLeft]) {
-      const [x, y] = curvePoint(start, next, share);
+      const y = curvePoint(start, next, share)[1] + 4;
+      const x = wireEdge(start, next, y, left) + (left ? -LABEL.gap : LABEL.gap);
       const side = left === outerLeft ? 0 : 4;
-      choices.push({ x: x + (left ? -LABEL.gap : LABEL.gap), y: y + 4, anchor: left ? "end" : "start", cost: late * 2 + side });
+      choices.push({ x, y, anchor: left ? "end" : "start", cost: late * 2 + side });
     }
   }
   return choices;
 }
 
+// How far a wire comes to the left, or to the right, where a text with this base line is beside it.
+function wireEdge(start, next, y, left) {
+  let far = null;
+  for (let share = 0; share <= 1; share += 0.04) {
+    const [x, height] = curvePoint(start, next, share);
+    if (height < y - LABEL.height || height > y + 2) continue;
+    if (far === null || (left ? x < far : x > far)) far = x;
+  }
+  return far === null ? start[0] : far;
+}
+
 const boxOf = (choice, width) => {
   const left = choice.anchor === "end" ? choice.x - width : choice.x;
-  return { left: left - 1, right: left + width + 1, top: choice.y - LABEL.height + 1, bottom: choice.y + 3 };
+  return { left: left - 3, right: left + width + 3, top: choice.y - LABEL.height + 1, bottom: choice.y + 3 };
 };
 
 // Points of everything that is drawn, by cells of a grid, so that what a box meets is found at once.
