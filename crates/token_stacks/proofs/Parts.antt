@@ -1,5 +1,5 @@
--- A piece of a list that is brought down to an earlier place.
-use Rattle.std.proofs.Common.{◌≡◌, ℕ, ◌+◌, ◌-◌, List, ◌++◌, length, take, drop, sym, ◌∙◌, ap, arith}
+-- A piece of a list that is brought down to an earlier place, or put there.
+use Rattle.std.proofs.Common.{◌≡◌, ℕ, ◌+◌, ◌-◌, ◌≤◌, List, ◌++◌, length, take, drop, sym, ◌∙◌, ap, arith}
 use Rattle.std.proofs.Common.{length-append}
 use Rattle.std.proofs.lemmas.List.{append_assoc, take_at, drop_at, take-append-drop, length-take-le}
 use borrow.Rule.Slice.PartMut.{post_of}
@@ -56,3 +56,13 @@ brought ws us xs r p n from middle h x ln y st = record {
       ap (λ (z : List ℕ). take n (z ++ drop (length z) us)) whole
       ∙ take_at (a ++ (c ++ (b ++ d))) (drop (length (a ++ (c ++ (b ++ d)))) us) n long;
 }
+
+-- a piece that was added at the end and changed places with what stands from `from` on is put there
+pub put_of : (ws us xs p t : List ℕ) (from n : ℕ) → from ≤ length ws → n ≡ length ws → us ≡ ws ++ (p ++ t)
+    → Swaps us xs from n (n + length p) → xs ≡ take from ws ++ (p ++ (drop from ws ++ t))
+put_of ws us xs p t from n h l e s =
+    let a : List ℕ = take from ws in
+    let b : List ℕ = drop from ws in
+    let both : length a + length b ≡ n = omega (arith, length-append a b, ap length (take-append-drop from ws)) in
+    s.parts a b p t (e ∙ ap (λ (z : List ℕ). z ++ (p ++ t)) (sym (take-append-drop from ws)) ∙ append_assoc a b (p ++ t))
+    (length-take-le from ws h) both (omega arith)

@@ -11,10 +11,9 @@ use Rattle.token_stacks.specs.Words.{body, work_words}
 use Rattle.token_stacks.specs.Reading.{work_of, work_of-words}
 use Rattle.token_stacks.specs.Tops.{top_body, pair_body, popped, argument_left, argument_made, popped_star, popped_signature, wrapped}
 use Rattle.token_stacks.specs.Tops.{unwrapped, marked, paired, unpaired}
-use Rattle.token_stacks.specs.Parts.{Swaps}
 pub use Rattle.token_stacks.proofs.Ends.{length_both}
 use Rattle.token_stacks.proofs.Ends.{stem, tag, body_ends, body_long, star_short, length_pair, word_at, one_on, length_on, set_after}
-use Rattle.token_stacks.proofs.Ends.{take_after, piece_at}
+use Rattle.token_stacks.proofs.Ends.{take_after, drop_after, piece_at}
 
 -- the words are those of this work stack
 pub work_stands : (m : List Sym) (ws : List ℕ) → ws ≡ work_words m → work_words (work_of ws) ≡ ws
@@ -319,13 +318,13 @@ no_mark w (S (right_of s) ∷ m) ws n a e h t p c =
 no_mark w (S (pair_of s u) ∷ m) ws n a e h t p c = refl
 no_mark w (S (again s u) ∷ m) ws n a e h t p c = refl
 
--- a pair is put together: the first part comes from another stack, above the second, and the two change places
-pub pairs : (s : Sig) (b : List ℕ) (m : List Sym) (ws us xs vs : List ℕ) (n k l : ℕ) → (of_s : b ≡ body s) →
+-- a pair is put together: the first part comes from another stack, and is put below the second
+pub pairs : (s : Sig) (b : List ℕ) (m : List Sym) (ws xs vs : List ℕ) (n k l : ℕ) → (of_s : b ≡ body s) →
     (held : ws ≡ work_words m)
-    → (T : SigTop m) → (long : n ≡ length ws) → (sized : k ≡ get_or ws (n - 2) k) → (added : us ≡ ws ++ (b ++ 0 ∷ 7 ∷ []))
-    → (longer : l ≡ length us) → (brought : Swaps us xs (n - 2 - k) n (n + length b))
+    → (T : SigTop m) → (long : n ≡ length ws) → (sized : k ≡ get_or ws (n - 2) k)
+    → (below : xs ≡ take (n - 2 - k) ws ++ (b ++ (drop (n - 2 - k) ws ++ 0 ∷ 7 ∷ []))) → (longer : l ≡ length xs)
     → (written : vs ≡ set (set xs (l - 2 - 1) 3) (l - 2) (l - 2 - (n - 2 - k))) → Turns (paired s m) vs
-pairs s b m ws us xs vs n k l f e T h q u lh w v =
+pairs s b m ws xs vs n k l f e T h q p lh v =
     let t : Sig = T.sig in
     let r : List Sym = T.rest in
     let M : List ℕ = work_words r in
@@ -334,11 +333,18 @@ pairs s b m ws us xs vs n k l f e T h q u lh w v =
     let lw : length ws ≡ length M + length (body t) + 2 = sig_length t r ws e' in
     let U : List ℕ = body t ++ length (body t) ∷ 7 ∷ [] in
     let lU : length U ≡ length (body t) + 2 = length-append (body t) (length (body t) ∷ 7 ∷ []) in
-    let lb : length (b ++ 0 ∷ 7 ∷ []) ≡ length b + 2 = length-append b (0 ∷ 7 ∷ []) in
-    let ll : l ≡ length M + length (body t) + 2 + length b + 2 = omega (arith, length_both ws (b ++ 0 ∷ 7 ∷ []) us u) in
-    let us' : us ≡ M ++ (U ++ (b ++ 0 ∷ 7 ∷ [])) =
-    u ∙ ap (λ (z : List ℕ). z ++ (b ++ 0 ∷ 7 ∷ [])) e' ∙ append_assoc M U (b ++ 0 ∷ 7 ∷ []) in
-    let swapped : xs ≡ M ++ (b ++ (U ++ 0 ∷ 7 ∷ [])) = w.parts M U b (0 ∷ 7 ∷ []) us' (omega arith) (omega arith) (omega arith) in
+    let front : take (n - 2 - k) ws ≡ M = take_after M U ws (n - 2 - k) e' (omega arith) in
+    let rest : drop (n - 2 - k) ws ≡ U = drop_after M U ws (n - 2 - k) e' (omega arith) in
+    let swapped : xs ≡ M ++ (b ++ (U ++ 0 ∷ 7 ∷ [])) =
+    p ∙ ap (λ (z : List ℕ). z ++ (b ++ (drop (n - 2 - k) ws ++ 0 ∷ 7 ∷ []))) front
+    ∙ ap (λ (z : List ℕ). M ++ (b ++ (z ++ 0 ∷ 7 ∷ []))) rest in
+    let ll : l ≡ length M + length (body t) + 2 + length b + 2 =
+    omega (
+      arith,
+      length_both M (b ++ (U ++ 0 ∷ 7 ∷ [])) xs swapped,
+      length-append b (U ++ 0 ∷ 7 ∷ []),
+      length-append U (0 ∷ 7 ∷ []),
+    ) in
     let F : List ℕ = (M ++ (b ++ body t)) ++ length (body t) ∷ [] in
     let lF : length F ≡ length M + length b + length (body t) + 1 =
     omega (arith, length_on (M ++ (b ++ body t)) (length (body t)), length-append M (b ++ body t), length-append b (body t)) in

@@ -6,7 +6,7 @@ ghost use Rattle.token_stacks.specs.Words.{body as words_of, work_words};
 ghost use Rattle.token_stacks.specs.Tops.{IsBody, Steps, top_body, pair_body, popped, argument_left, argument_made, popped_star};
 ghost use Rattle.token_stacks.specs.Tops.{popped_signature, wrapped, unwrapped, paired, unpaired};
 
-use crate::words::{PAIR, SIGNATURE, STAR, SYMBOL_L, SYMBOL_R, append, bring_down};
+use crate::words::{PAIR, SIGNATURE, STAR, SYMBOL_L, SYMBOL_R, append, put_below};
 use std::alloc::{AllocError, Global};
 use std::marker::Model;
 
@@ -211,11 +211,11 @@ impl WorkStack {
     {
         let n = self.words.len();
         let size = self.words[n - 2] as usize;
-        append(&mut self.words, body, &[STAR, SIGNATURE])?;
+        let from = n - 2 - size;
+        put_below(&mut self.words, from, body, &[STAR, SIGNATURE])?;
         let end = self.words.len() - 2;
-        bring_down(&mut self.words, body, n - 2 - size, n);
         self.words[end - 1] = PAIR;
-        self.words[end] = (end - (n - 2 - size)) as u64;
+        self.words[end] = (end - from) as u64;
         Ok(())
     }
 
