@@ -1,6 +1,6 @@
 //! Lists of words, each with what it asks for: the words between commas, the program's name first.
 
-use crate::answers::{answer, answer_to};
+use crate::answers::{answer_to, first_wrong};
 use std::test::Fail;
 
 #[test]
@@ -38,10 +38,8 @@ fn plain_words(rt: HostRuntime) -> Result<(), Fail> {
             "run [p] 2 5 schedule tally by-value progress",
         ),
     ];
-    for (row, wanted) in rows {
-        let got = answer(rt.alloc(), row)?;
-        assert!(rt; got.as_str() == wanted, "{row}: {got}");
-    }
+    let wrong = first_wrong(rt.alloc(), rows.as_slice())?;
+    assert!(rt; wrong.is_empty(), "{wrong}");
     Ok(())
 }
 
@@ -75,10 +73,8 @@ fn commands_and_operands(rt: HostRuntime) -> Result<(), Fail> {
         ("goi,--version", "refused"),
         ("goi,run,help", "run [help] 1 10000"),
     ];
-    for (row, wanted) in rows {
-        let got = answer(rt.alloc(), row)?;
-        assert!(rt; got.as_str() == wanted, "{row}: {got}");
-    }
+    let wrong = first_wrong(rt.alloc(), rows.as_slice())?;
+    assert!(rt; wrong.is_empty(), "{wrong}");
     Ok(())
 }
 
@@ -103,10 +99,8 @@ fn nets_from_files(rt: HostRuntime) -> Result<(), Fail> {
         ("goi,run-net,n,--term", "refused"),
         ("goi,run_net,n", "refused"),
     ];
-    for (row, wanted) in rows {
-        let got = answer(rt.alloc(), row)?;
-        assert!(rt; got.as_str() == wanted, "{row}: {got}");
-    }
+    let wrong = first_wrong(rt.alloc(), rows.as_slice())?;
+    assert!(rt; wrong.is_empty(), "{wrong}");
     Ok(())
 }
 
@@ -127,10 +121,8 @@ fn lists_of_programs(rt: HostRuntime) -> Result<(), Fail> {
         ("goi,batch,l,--tally", "refused"),
         ("goi,batch,l,--progress", "refused"),
     ];
-    for (row, wanted) in rows {
-        let got = answer(rt.alloc(), row)?;
-        assert!(rt; got.as_str() == wanted, "{row}: {got}");
-    }
+    let wrong = first_wrong(rt.alloc(), rows.as_slice())?;
+    assert!(rt; wrong.is_empty(), "{wrong}");
     Ok(())
 }
 
@@ -159,10 +151,8 @@ fn traces(rt: HostRuntime) -> Result<(), Fail> {
         ("goi,trace,p,--tally", "refused"),
         ("goi,run,p,--from,1", "refused"),
     ];
-    for (row, wanted) in rows {
-        let got = answer(rt.alloc(), row)?;
-        assert!(rt; got.as_str() == wanted, "{row}: {got}");
-    }
+    let wrong = first_wrong(rt.alloc(), rows.as_slice())?;
+    assert!(rt; wrong.is_empty(), "{wrong}");
     Ok(())
 }
 
@@ -182,10 +172,8 @@ fn circuits(rt: HostRuntime) -> Result<(), Fail> {
         ("goi,circuit,p,--workers,1", "refused"),
         ("goi,run,p,--stack,8", "refused"),
     ];
-    for (row, wanted) in rows {
-        let got = answer(rt.alloc(), row)?;
-        assert!(rt; got.as_str() == wanted, "{row}: {got}");
-    }
+    let wrong = first_wrong(rt.alloc(), rows.as_slice())?;
+    assert!(rt; wrong.is_empty(), "{wrong}");
     Ok(())
 }
 
@@ -212,10 +200,8 @@ fn traces_of_schedules(rt: HostRuntime) -> Result<(), Fail> {
         ("goi,replay,p,--trace", "refused"),
         ("goi,replay,p,q,--by-value", "refused"),
     ];
-    for (row, wanted) in rows {
-        let got = answer(rt.alloc(), row)?;
-        assert!(rt; got.as_str() == wanted, "{row}: {got}");
-    }
+    let wrong = first_wrong(rt.alloc(), rows.as_slice())?;
+    assert!(rt; wrong.is_empty(), "{wrong}");
     Ok(())
 }
 
@@ -247,10 +233,8 @@ fn numbers(rt: HostRuntime) -> Result<(), Fail> {
         ("goi,run,p,--budget", "refused"),
         ("goi,demo,", "refused"),
     ];
-    for (row, wanted) in rows {
-        let got = answer(rt.alloc(), row)?;
-        assert!(rt; got.as_str() == wanted, "{row}: {got}");
-    }
+    let wrong = first_wrong(rt.alloc(), rows.as_slice())?;
+    assert!(rt; wrong.is_empty(), "{wrong}");
     Ok(())
 }
 
@@ -286,10 +270,8 @@ fn options(rt: HostRuntime) -> Result<(), Fail> {
         ("goi,run,p,--by_value", "refused"),
         ("goi,run,p,--by", "refused"),
     ];
-    for (row, wanted) in rows {
-        let got = answer(rt.alloc(), row)?;
-        assert!(rt; got.as_str() == wanted, "{row}: {got}");
-    }
+    let wrong = first_wrong(rt.alloc(), rows.as_slice())?;
+    assert!(rt; wrong.is_empty(), "{wrong}");
     Ok(())
 }
 
@@ -314,10 +296,8 @@ fn names_of_files(rt: HostRuntime) -> Result<(), Fail> {
         ("goi,run,a b", "run [a b] 1 10000"),
         ("goi,check,λ.pcf", "check [λ.pcf] false"),
     ];
-    for (row, wanted) in rows {
-        let got = answer(rt.alloc(), row)?;
-        assert!(rt; got.as_str() == wanted, "{row}: {got}");
-    }
+    let wrong = first_wrong(rt.alloc(), rows.as_slice())?;
+    assert!(rt; wrong.is_empty(), "{wrong}");
     Ok(())
 }
 
