@@ -6,7 +6,7 @@ use Rattle.token_pool.specs.Pools.{Pool}
 use Rattle.token_pool.specs.Ending.{Suits, Finishes, Replays}
 use Rattle.batch_pool.specs.declared.job.BatchJob.{BatchJob}
 use Rattle.batch_pool.specs.Batches.{job_started}
-use Rattle.batch_pool.specs.Ending.{EndsFrom, EndsAs, EndsEach, first_pool, behind_first}
+use Rattle.batch_pool.specs.Ending.{EndsFrom, EndsAs, EndsEach, first_of, behind_first}
 use Rattle.batch_pool.specs.Running.{IsRunOf, AreRuns}
 use Rattle.batch_pool.specs.Steps.{Pops}
 
@@ -27,28 +27,28 @@ module _ {E : Type 0} (job : BatchJob) (w : ℕ) (p : Pool) (r : Result Ended E)
       ((Suits p job.net job.budget w → ⊥) → IfOk r (Finishes (job_started w job))) → IfOk r (EndsAs o job w)
   ends_as o e same other = subst (λ o. IfOk r (EndsAs o job w)) (sym e) (ends_from r same other)
 
-all_taken : {A : Type 0} (xs : List A) → take (length xs) xs ≡ xs
+pub all_taken : {A : Type 0} (xs : List A) → take (length xs) xs ≡ xs
 all_taken [] = refl
 all_taken (x ∷ xs) = ap (λ ys. x ∷ ys) (all_taken xs)
 
 -- the elements behind the first
-abbrev others : List BatchJob → List BatchJob
+abbrev pub others : List BatchJob → List BatchJob
 others xs = take (length xs - 1) (drop 1 xs)
 
 -- a list that isn't empty is its first and those behind it
-first_and_rest : (xs : List BatchJob) (x : BatchJob) → 1 ≤ length xs → x ≡ get_or xs 0 x → xs ≡ x ∷ others xs
+pub first_and_rest : (xs : List BatchJob) (x : BatchJob) → 1 ≤ length xs → x ≡ get_or xs 0 x → xs ≡ x ∷ others xs
 first_and_rest [] x l e = absurd (omega (arith, l))
 first_and_rest (y ∷ ys) x l e =
     let n : length ys ≡ suc (length ys) - 1 = omega arith in
     ap (λ z. z ∷ ys) (sym e) ∙ ap (λ zs. x ∷ zs) (sym (all_taken ys) ∙ ap (λ n. take n ys) n)
 
-popped_first : (pools rest : List Pool) (o : Option Pool) → Pops pools o rest → first_pool pools ≡ o
-popped_first pools rest None h = ap first_pool h.0
-popped_first pools rest (Some p) h = ap first_pool h
+pub popped_first : {A : Type 0} (xs rest : List A) (o : Option A) → Pops xs o rest → first_of xs ≡ o
+popped_first xs rest None h = ap first_of h.0
+popped_first xs rest (Some x) h = ap first_of h
 
-popped_rest : (pools rest : List Pool) (o : Option Pool) → Pops pools o rest → behind_first pools ≡ rest
-popped_rest pools rest None h = ap behind_first h.0 ∙ sym h.1
-popped_rest pools rest (Some p) h = ap behind_first h
+pub popped_rest : {A : Type 0} (xs rest : List A) (o : Option A) → Pops xs o rest → behind_first xs ≡ rest
+popped_rest xs rest None h = ap behind_first h.0 ∙ sym h.1
+popped_rest xs rest (Some x) h = ap behind_first h
 
 module _ (pools rest : List Pool) (o : Option Pool) (pops : Pops pools o rest) (jobs : List BatchJob) (job : BatchJob)
     (some : 1 ≤ length jobs) (is : job ≡ get_or jobs 0 job)
@@ -56,7 +56,7 @@ module _ (pools rest : List Pool) (o : Option Pool) (pops : Pops pools o rest) (
     (pushed : mid ≡ old ++ e ∷ []) where
   each : (more : List Ended) → EndsEach rest (others jobs) w more → EndsEach pools jobs w (e ∷ more)
   each more h =
-      let first : EndsAs (first_pool pools) job w e = subst (λ o. EndsAs o job w e) (sym (popped_first pools rest o pops)) end in
+      let first : EndsAs (first_of pools) job w e = subst (λ o. EndsAs o job w e) (sym (popped_first pools rest o pops)) end in
       let others : EndsEach (behind_first pools) (others jobs) w more =
       subst (λ ps. EndsEach ps (others jobs) w more) (sym (popped_rest pools rest o pops)) h in
       subst (λ js. EndsEach pools js w (e ∷ more)) (sym (first_and_rest jobs job some is)) (first, replays, others)

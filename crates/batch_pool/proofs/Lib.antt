@@ -5,3 +5,4 @@ mod Keeping
 mod Standing
 mod Ends
 mod Pausing
+mod Whole

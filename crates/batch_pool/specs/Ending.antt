@@ -20,15 +20,15 @@ abbrev pub EndsAs : Option Pool → BatchJob → ℕ → Ended → Type 0
 EndsAs None job workers e = Finishes (job_started workers job) e
 EndsAs (Some p) job workers e = EndsFrom p job workers e
 
--- the first pool, if there is one
-abbrev pub first_pool : List Pool → Option Pool
-first_pool [] = None
-first_pool (p ∷ pools) = Some p
+-- the first of a list, if there is one
+abbrev pub first_of : {A : Type 0} → List A → Option A
+first_of [] = None
+first_of (x ∷ xs) = Some x
 
--- the pools behind it
-abbrev pub behind_first : List Pool → List Pool
+-- those behind it
+abbrev pub behind_first : {A : Type 0} → List A → List A
 behind_first [] = []
-behind_first (p ∷ pools) = pools
+behind_first (x ∷ xs) = xs
 
 -- each job has its end, in turn, and each end replays on its job's net
 abbrev pub EndsEach : List Pool → List BatchJob → ℕ → List Ended → Type 0
@@ -36,4 +36,4 @@ EndsEach pools [] workers [] = Unit {0}
 EndsEach pools [] workers (e ∷ ends) = ⊥
 EndsEach pools (job ∷ jobs) workers [] = ⊥
 EndsEach pools (job ∷ jobs) workers (e ∷ ends) =
-    EndsAs (first_pool pools) job workers e × Replays job.net job.budget workers e × EndsEach (behind_first pools) jobs workers ends
+    EndsAs (first_of pools) job workers e × Replays job.net job.budget workers e × EndsEach (behind_first pools) jobs workers ends

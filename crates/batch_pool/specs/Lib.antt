@@ -12,3 +12,4 @@ pub mod Laws
 pub mod Codes
 pub mod Keeping
 pub mod Steps
+pub mod Apart

@@ -64,7 +64,7 @@ pub record BooksAt (pools : List Pool) (w j : ℕ) (m : Passage) (after : List P
   pub booked : BookedAs old new w m k
   pub after_it : after ≡ set pools j new
 
--- the first pool that is left, and those behind it
-abbrev pub Pops : List Pool → Option Pool → List Pool → Type 0
-Pops pools None rest = (pools ≡ []) × (rest ≡ [])
-Pops pools (Some p) rest = pools ≡ p ∷ rest
+-- the first that is left, and those behind it
+abbrev pub Pops : {A : Type 0} → List A → Option A → List A → Type 0
+Pops xs None rest = (xs ≡ []) × (rest ≡ [])
+Pops xs (Some x) rest = xs ≡ x ∷ rest

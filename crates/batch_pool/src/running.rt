@@ -5,6 +5,7 @@ ghost use Rattle.token_pool.specs.declared.ending.Ended.{Ended};
 ghost use Rattle.batch_pool.specs.Batches.{JobFits, BatchFits};
 ghost use Rattle.batch_pool.specs.Running.{IsRunOf, AreRuns};
 
+use crate::apart::run_apart;
 use crate::{BatchJob, BatchState};
 use gate_workers::{Gate, drive};
 use net_runs::run_net;
@@ -16,9 +17,15 @@ use token_pool::Ended;
 /// The runs of these jobs by so many workers, in turn: each is a run of its own job's net within its own job's budget.
 ///
 /// One worker runs the jobs one after another, each in place, with no lock, no thread and no gate, and all its moves are of worker 0.
-/// Several share the jobs behind one lock, in threads of their own as far as threads can be had, and each passes the gate before each of
-/// its pieces; what they leave of a job is finished behind them, under the number of workers. Memory for the logs of all jobs is taken
-/// at once then.
+/// Several run in threads of their own as far as threads can be had.
+///
+/// Where there are at least as many jobs as workers, each job is one worker's. All that the workers share is the number of the next job:
+/// a worker takes it, passes the gate and runs that job alone, with no lock, and then takes the next, until there is none. Its moves are
+/// booked under its own number. Memory for a job's log is taken when its run is over.
+///
+/// Where there are fewer jobs than workers, the workers share the jobs' tokens behind one lock, and each passes the gate before each of
+/// its pieces. What they leave of a job is finished behind them, under the number of workers. Memory for the logs of all jobs is taken at
+/// once then.
 ///
 /// # Errors
 ///
@@ -35,6 +42,8 @@ pub fn run_batch<R: Threads + Wait + Sync, G: Gate>(
 {
     if workers == 1 {
         run_each(rt, alloc, jobs, gate)
+    } else if workers as usize <= jobs.len() {
+        run_apart(rt, alloc, jobs, workers, gate)
     } else {
         run_together(rt, alloc, jobs, workers, gate)
     }
