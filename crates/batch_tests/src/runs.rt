@@ -5,12 +5,13 @@ ghost use Rattle.pcf_values.specs.Most.{most_workers};
 
 use crate::jobs::{jobs_of, number};
 use batch_pool::run_batch;
-use gate_workers::OpenGate;
+use gate_workers::{Gate, OpenGate};
 use pcf_values::Val;
 use std::alloc::{AllocError, Global};
 use std::sync::Wait;
 use std::test::Fail;
 use std::thread::Threads;
+use test_gates::{Counting, Meeting};
 use token_pool::Ended;
 
 /// Whether a job's end is so: `V:M` for a value after so many moves, and `-:M` for no value.
@@ -38,6 +39,23 @@ pub(crate) fn are_ends(ends: &[Ended], wanted: &str) -> bool {
     rows.next().is_none()
 }
 
+/// The ends of a list of programs that so many workers run behind this gate.
+fn ends_of<R: Threads + Wait + Sync, G: Gate>(
+    rt: &R,
+    alloc: Global,
+    list: &str,
+    workers: u32,
+    gate: &G,
+) -> Result<Vec<Ended>, AllocError>
+    requires some { 1 ≤ workers }
+    requires few { workers ≤ most_workers }
+{
+    let jobs = jobs_of(alloc, list)?;
+    let ends = run_batch(rt, alloc, &jobs, workers, gate);
+    drop(jobs);
+    ends
+}
+
 /// Whether so many workers make these ends of a list of programs.
 fn comes_to<R: Threads + Wait + Sync>(
     rt: &R,
@@ -49,10 +67,41 @@ fn comes_to<R: Threads + Wait + Sync>(
     requires some { 1 ≤ workers }
     requires few { workers ≤ most_workers }
 {
-    let jobs = jobs_of(alloc, list)?;
-    let ends = run_batch(rt, alloc, &jobs, workers, &OpenGate);
-    drop(jobs);
-    Ok(are_ends(&ends?, wanted))
+    let ends = ends_of(rt, alloc, list, workers, &OpenGate)?;
+    Ok(are_ends(&ends, wanted))
+}
+
+/// Whether one of so many workers booked all moves of this run.
+fn is_one_workers(end: &Ended, workers: u32) -> bool {
+    let first = end.log.worker(0).unwrap_or(workers);
+    for n in 1..end.log.len() {
+        if end.log.worker(n) != Some(first) {
+            return false;
+        }
+    }
+    first < workers
+}
+
+/// Whether so many workers make these ends of a list of programs, and pass the gate so often, where each run is one worker's.
+fn comes_apart_to<R: Threads + Wait + Sync>(
+    rt: &R,
+    alloc: Global,
+    list: &str,
+    workers: u32,
+    wanted: &str,
+    passes: u64,
+) -> Result<bool, AllocError>
+    requires some { 1 ≤ workers }
+    requires few { workers ≤ most_workers }
+{
+    let gate = Counting::new(alloc, workers)?;
+    let ends = ends_of(rt, alloc, list, workers, &gate)?;
+    for end in &ends {
+        if !is_one_workers(end, workers) {
+            return Ok(false);
+        }
+    }
+    Ok(are_ends(&ends, wanted) && gate.calls() == passes && gate.wrong_turns() == 0)
 }
 
 #[test]
@@ -71,6 +120,36 @@ end
     assert!(rt; comes_to(&rt, rt.alloc(), list, 2, wanted)?);
     assert!(rt; comes_to(&rt, rt.alloc(), list, 4, wanted)?);
     assert!(rt; comes_to(&rt, rt.alloc(), list, 64, wanted)?);
+    Ok(())
+}
+
+/// Four jobs, and their ends.
+const FOUR: &str = "batch 1
+job 30 (fun x:nat. x + x) 3
+job 5 1 + 2
+job 100 fix y:nat. y
+job 6 1 + 2
+end
+";
+
+const FOUR_ENDS: &str = "6:30 -:5 -:100 3:6";
+
+#[test]
+fn each_job_is_one_workers(rt: HostRuntime) -> Result<(), Fail> {
+    assert!(rt; comes_apart_to(&rt, rt.alloc(), FOUR, 1, FOUR_ENDS, 0)?);
+    assert!(rt; comes_apart_to(&rt, rt.alloc(), FOUR, 2, FOUR_ENDS, 4)?);
+    assert!(rt; comes_apart_to(&rt, rt.alloc(), FOUR, 3, FOUR_ENDS, 4)?);
+    assert!(rt; comes_apart_to(&rt, rt.alloc(), FOUR, 4, FOUR_ENDS, 4)?);
+    assert!(rt; comes_to(&rt, rt.alloc(), FOUR, 5, FOUR_ENDS)?);
+    Ok(())
+}
+
+#[test]
+fn two_workers_have_jobs_at_once(rt: HostRuntime) -> Result<(), Fail> {
+    let gate = Meeting::new();
+    let ends = ends_of(&rt, rt.alloc(), FOUR, 2, &gate)?;
+    assert!(rt; are_ends(&ends, FOUR_ENDS));
+    assert!(rt; gate.have_met());
     Ok(())
 }
 
