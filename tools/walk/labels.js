@@ -2,6 +2,9 @@
 
 const LABEL = { height: 11, gap: 6, cell: 24, search: 4000 };
 
+// What a point belongs to that is no wire's.
+const NODE = -1, TEXT = -2;
+
 // {x, y, anchor} for each wire.
 function placeLabels(net, layout, types) {
   const crowd = net.nodes.length <= LABEL.search ? new Crowd(layout) : null;
@@ -14,7 +17,7 @@ function placeLabels(net, layout, types) {
       choice.cost += crowd.count(boxOf(choice, width), wire.id);
       if (!best || choice.cost < best.cost) best = choice;
     }
-    crowd.addBox(boxOf(best, width));
+    crowd.addBox(boxOf(best, width), TEXT);
     return best;
   });
 }
@@ -48,7 +51,7 @@ function wireEdge(start, next, y, left) {
 
 const boxOf = (choice, width) => {
   const left = choice.anchor === "end" ? choice.x - width : choice.x;
-  return { left: left - 3, right: left + width + 3, top: choice.y - LABEL.height + 1, bottom: choice.y + 3 };
+  return { left: left - 5, right: left + width + 5, top: choice.y - LABEL.height + 1, bottom: choice.y + 3 };
 };
 
 // Points of everything that is drawn, by cells of a grid, so that what a box meets is found at once.
@@ -62,7 +65,7 @@ class Crowd {
       }
     });
     for (const { x, y, width } of layout.places) {
-      this.addBox({ left: x - width / 2, right: x + width / 2, top: y - SIZES.nodeHeight / 2, bottom: y + SIZES.nodeHeight / 2 });
+      this.addBox({ left: x - width / 2, right: x + width / 2, top: y - SIZES.nodeHeight / 2, bottom: y + SIZES.nodeHeight / 2 }, NODE);
     }
   }
 
@@ -72,11 +75,15 @@ class Crowd {
     if (cell) cell.push(x, y, wire); else this.cells.set(key, [x, y, wire]);
   }
 
-  addBox({ left, right, top, bottom }) {
-    for (let x = left; x <= right; x += 6) for (let y = top; y <= bottom; y += 5) this.add(x, y, -1);
+  // (both edges of a box have points, so that two texts side by side keep their distance)
+  addBox({ left, right, top, bottom }, what) {
+    const across = Math.max(1, Math.ceil((right - left) / 6)), down = Math.max(1, Math.ceil((bottom - top) / 5));
+    for (let column = 0; column <= across; column++) {
+      for (let row = 0; row <= down; row++) this.add(left + (right - left) * column / across, top + (bottom - top) * row / down, what);
+    }
   }
 
-  // What a box meets: each point of another counts ten, of its own wire one.
+  // What a box meets: each point of another wire or of a node counts ten, of another text thirty, of its own wire one.
   count({ left, right, top, bottom }, own) {
     let count = 0;
     for (let column = Math.floor(left / LABEL.cell); column <= Math.floor(right / LABEL.cell); column++) {
@@ -84,7 +91,7 @@ class Crowd {
         const cell = this.cells.get(column * 1000003 + row) || [];
         for (let at = 0; at < cell.length; at += 3) {
           const [x, y, wire] = [cell[at], cell[at + 1], cell[at + 2]];
-          if (x >= left && x <= right && y >= top && y <= bottom) count += wire === own ? 1 : 10;
+          if (x >= left && x <= right && y >= top && y <= bottom) count += wire === own ? 1 : wire === TEXT ? 30 : 10;
         }
       }
     }
