@@ -124,13 +124,23 @@ bare_command = record {
   subs = [];
 }
 
+-- the program with these subcommands
+abbrev pub with_commands : List Shape → App
+with_commands commands = record { top = record bare_command.top { is_leaf = false }; subs = commands }
+
+-- with its first three, and its first six
+abbrev pub three_commands : App
+three_commands = with_commands (run_command ∷ check_command ∷ net_command ∷ [])
+
+abbrev pub six_commands : App
+six_commands = with_commands
+    (run_command ∷ check_command ∷ net_command ∷ replay_command ∷ demo_command ∷ run_net_command ∷ [])
+
 -- the whole command line
 abbrev pub goi_command : App
-goi_command = record {
-  top = record bare_command.top { is_leaf = false };
-  subs = run_command ∷ check_command ∷ net_command ∷ replay_command ∷ demo_command ∷ run_net_command ∷ batch_command
-      ∷ trace_command ∷ circuit_command ∷ [];
-}
+goi_command = with_commands
+    (run_command ∷ check_command ∷ net_command ∷ replay_command ∷ demo_command ∷ run_net_command ∷ batch_command
+    ∷ trace_command ∷ circuit_command ∷ [])
 
 -- the command of the code is this subcommand
 abbrev pub IsCommand : Shape → Command → Type 0
