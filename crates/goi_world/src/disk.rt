@@ -8,11 +8,10 @@ use std::io::{Read, Seek, SeekFrom};
 use std::marker::Model;
 use std::{fs, io, rt};
 
-/// A file that was opened, and how far it has been read. Where there was no memory to keep its name it has none, and the next read opens
-/// the file again.
+/// A file that was opened, by its name, and how far it has been read.
 #[derive(Drop)]
 struct Opened<F: Drop> {
-    name: Option<String>,
+    name: String,
     file: F,
     at: u64,
 }
@@ -90,36 +89,55 @@ fn read_on<R: rt::Files + AllocGlobal>(
 ) -> io::Result<usize>
     ensures { IfOk result (λ n. n ≤ length buf.new) }
 {
-    let mut file = match opened.take() {
-        Some(file) if is_named(&file.name, name) => file,
-        _ => open(rt, name)?,
-    };
-    let count = read_at(&mut file, at, buf)?;
-    *opened = Some(file);
-    Ok(count)
-}
-
-// Whether the name that was kept is this one.
-fn is_named(kept: &Option<String>, name: &str) -> bool {
-    match kept {
-        Some(kept) => kept.as_str() == name,
-        None => false,
+    match opened.take() {
+        Some(mut file) if file.name.as_str() == name => {
+            let count = read_at(&mut file, at, buf)?;
+            *opened = Some(file);
+            Ok(count)
+        }
+        _ => read_first(rt, opened, name, at, buf),
     }
 }
 
-// A file at its beginning. Where its name can't be kept it has to be one in which a place can be sought, since it will be opened again:
-// a pipe would wait for another writer then.
-fn open<R: rt::Files + AllocGlobal>(rt: &R, name: &str) -> io::Result<Opened<R::File>> {
-    let kept = String::from_str(rt.alloc(), name).ok();
+// Opens a file and reads it at a place. It stays open where there is memory to keep its name.
+fn read_first<R: rt::Files + AllocGlobal>(
+    rt: &R,
+    opened: &mut Option<Opened<R::File>>,
+    name: &str,
+    at: u64,
+    buf: &mut [u8],
+) -> io::Result<usize>
+    ensures { IfOk result (λ n. n ≤ length buf.new) }
+{
+    match String::from_str(rt.alloc(), name) {
+        Ok(kept) => {
+            let file = fs::open(rt, name)?;
+            let mut file = Opened {
+                name: kept,
+                file,
+                at: 0,
+            };
+            let count = read_at(&mut file, at, buf)?;
+            *opened = Some(file);
+            Ok(count)
+        }
+        Err(_) => read_once(rt, name, at, buf),
+    }
+}
+
+// Reads a file that will be opened again. A place has to be sought in it even at its beginning, so a pipe, which would wait for another
+// writer then, fails here.
+fn read_once<R: rt::Files + AllocGlobal>(
+    rt: &R,
+    name: &str,
+    at: u64,
+    buf: &mut [u8],
+) -> io::Result<usize>
+    ensures { IfOk result (λ n. n ≤ length buf.new) }
+{
     let mut file = fs::open(rt, name)?;
-    if kept.is_none() {
-        file.seek(SeekFrom::Start(0))?;
-    }
-    Ok(Opened {
-        name: kept,
-        file,
-        at: 0,
-    })
+    file.seek(SeekFrom::Start(at))?;
+    file.read(buf)
 }
 
 // Seeks only where the place isn't the one that was come to.
@@ -136,29 +154,4 @@ fn read_at<F: Read + Seek + Drop>(
     let count = file.file.read(buf)?;
     file.at = at.saturating_add(count as u64);
     Ok(count)
-}
-
-#[cfg(test)]
-mod tests {
-    use super::*;
-    use std::test::Fail;
-
-    // An open file without a name, as after a refused request for memory, is no file that is asked for.
-    #[test]
-    fn opens_anew_where_no_name_was_kept(rt: HostRuntime) -> Result<(), Fail> {
-        fs::write(&rt, "one", "1")?;
-        fs::write(&rt, "two", "2")?;
-        let nameless = Opened {
-            name: None,
-            file: fs::open(&rt, "one")?,
-            at: 0,
-        };
-        let mut opened = Some(nameless);
-        let mut buffer = [0u8; 1];
-        let count = read_on(&rt, &mut opened, "two", 0, &mut buffer)?;
-        assert!(rt; count == 1 && buffer[0] == b'2');
-        fs::remove_file(&rt, "one")?;
-        fs::remove_file(&rt, "two")?;
-        Ok(())
-    }
 }
