@@ -31,77 +31,63 @@ fn leaves_loose(alloc: Global, n: u32, line: &[u8], wire: u32) -> Result<bool, A
     Ok(fault_with(alloc, n, line)? == Some(NetTextFault::NotSound(NetFault::LooseWire(wire))))
 }
 
-#[test]
-fn changed_nodes_first(rt: HostRuntime) -> Result<(), Fail> {
-    let rows: [(u32, &[u8], u32); 15] = [
-        (45, b"node 0 Der 1 1", 0),
-        (45, b"node 0 Der 0 2", 1),
-        (46, b"node 1 Fst 1 2", 0),
-        (46, b"node 1 Fst 0 3", 2),
-        (47, b"node 2 Pred 3 3", 2),
-        (47, b"node 2 Pred 2 4", 3),
-        (49, b"node 4 Succ 5 6", 4),
-        (49, b"node 4 Succ 4 7", 6),
-        (51, b"node 6 Snd 8 9", 7),
-        (51, b"node 6 Snd 7 10", 9),
-        (52, b"node 7 Const 2 11", 10),
-        (53, b"node 8 Times 10 10 11", 9),
-        (53, b"node 8 Times 9 11 11", 10),
-        (53, b"node 8 Times 9 10 12", 11),
-        (54, b"node 9 Weak 13", 12),
-    ];
-    for (n, line, wire) in rows {
-        assert!(rt; leaves_loose(rt.alloc(), n, line, wire)?);
-    }
-    Ok(())
+/// Whether a row is so: the number of a line, another line in its place, and the wire that is loose then.
+fn holds(alloc: Global, row: &str) -> Result<bool, AllocError> {
+    let (n, rest) = row.split_once('|').unwrap_or((row, ""));
+    let (line, wire) = rest.split_once('|').unwrap_or((rest, ""));
+    let (n, wire) = (n.parse().unwrap_or(0), wire.parse().unwrap_or(0));
+    leaves_loose(alloc, n, line.as_bytes(), wire)
 }
 
 #[test]
-fn changed_nodes_second(rt: HostRuntime) -> Result<(), Fail> {
-    let rows: [(u32, &[u8], u32); 15] = [
-        (55, b"node 10 Lam 12 12 13", 11),
-        (55, b"node 10 Lam 11 13 13", 12),
-        (55, b"node 10 Lam 11 12 14", 13),
-        (57, b"node 12 Door 9 15", 8),
-        (57, b"node 12 Door 8 16", 15),
-        (58, b"node 13 FixBox 14 14 16", 13),
-        (58, b"node 13 FixBox 13 15 16", 14),
-        (58, b"node 13 FixBox 13 14 17", 16),
-        (62, b"node 17 Minus 20 20 22", 19),
-        (62, b"node 17 Minus 19 21 22", 20),
-        (62, b"node 17 Minus 19 20 23", 22),
-        (65, b"node 20 Box 23 25", 22),
-        (65, b"node 20 Box 22 26", 25),
-        (66, b"node 21 Con 16 24 26", 15),
-        (66, b"node 21 Con 15 25 26", 24),
-    ];
-    for (n, line, wire) in rows {
-        assert!(rt; leaves_loose(rt.alloc(), n, line, wire)?);
-    }
-    Ok(())
-}
-
-#[test]
-fn changed_nodes_third(rt: HostRuntime) -> Result<(), Fail> {
-    let rows: [(u32, &[u8], u32); 15] = [
-        (66, b"node 21 Con 15 24 27", 26),
-        (67, b"node 22 App 17 25 27", 16),
-        (67, b"node 22 App 16 26 27", 25),
-        (67, b"node 22 App 16 25 28", 27),
-        (70, b"node 25 Ifz 4 6 27 30", 3),
-        (70, b"node 25 Ifz 3 7 27 30", 6),
-        (70, b"node 25 Ifz 3 6 28 30", 27),
-        (70, b"node 25 Ifz 3 6 27 31", 30),
-        (79, b"node 34 Plus 38 38 39", 37),
-        (79, b"node 34 Plus 37 39 39", 38),
-        (79, b"node 34 Plus 37 38 40", 39),
-        (80, b"node 35 Pair 37 39 40", 36),
-        (80, b"node 35 Pair 36 40 40", 39),
-        (80, b"node 35 Pair 36 39 41", 40),
-        (83, b"node 38 Root 41", 41),
-    ];
-    for (n, line, wire) in rows {
-        assert!(rt; leaves_loose(rt.alloc(), n, line, wire)?);
+fn changed_nodes(rt: HostRuntime) -> Result<(), Fail> {
+    let table = "45|node 0 Der 1 1|0
+45|node 0 Der 0 2|1
+46|node 1 Fst 1 2|0
+46|node 1 Fst 0 3|2
+47|node 2 Pred 3 3|2
+47|node 2 Pred 2 4|3
+49|node 4 Succ 5 6|4
+49|node 4 Succ 4 7|6
+51|node 6 Snd 8 9|7
+51|node 6 Snd 7 10|9
+52|node 7 Const 2 11|10
+53|node 8 Times 10 10 11|9
+53|node 8 Times 9 11 11|10
+53|node 8 Times 9 10 12|11
+54|node 9 Weak 13|12
+55|node 10 Lam 12 12 13|11
+55|node 10 Lam 11 13 13|12
+55|node 10 Lam 11 12 14|13
+57|node 12 Door 9 15|8
+57|node 12 Door 8 16|15
+58|node 13 FixBox 14 14 16|13
+58|node 13 FixBox 13 15 16|14
+58|node 13 FixBox 13 14 17|16
+62|node 17 Minus 20 20 22|19
+62|node 17 Minus 19 21 22|20
+62|node 17 Minus 19 20 23|22
+65|node 20 Box 23 25|22
+65|node 20 Box 22 26|25
+66|node 21 Con 16 24 26|15
+66|node 21 Con 15 25 26|24
+66|node 21 Con 15 24 27|26
+67|node 22 App 17 25 27|16
+67|node 22 App 16 26 27|25
+67|node 22 App 16 25 28|27
+70|node 25 Ifz 4 6 27 30|3
+70|node 25 Ifz 3 7 27 30|6
+70|node 25 Ifz 3 6 28 30|27
+70|node 25 Ifz 3 6 27 31|30
+79|node 34 Plus 38 38 39|37
+79|node 34 Plus 37 39 39|38
+79|node 34 Plus 37 38 40|39
+80|node 35 Pair 37 39 40|36
+80|node 35 Pair 36 40 40|39
+80|node 35 Pair 36 39 41|40
+83|node 38 Root 41|41";
+    for row in table.split('\n') {
+        assert!(rt; holds(rt.alloc(), row)?, "{row}");
     }
     Ok(())
 }

@@ -27,29 +27,34 @@ fn fault_with(alloc: Global, n: u32, line: &[u8]) -> Result<Option<NetTextFault>
     Ok(fault(alloc, &text))
 }
 
+/// Whether the line of a row is refused: the number of a line, and another line in its place.
+fn cannot_stand(alloc: Global, row: &str) -> Result<bool, AllocError> {
+    let (n, line) = row.split_once('|').unwrap_or((row, ""));
+    let n = n.parse().unwrap_or(0);
+    Ok(fault_with(alloc, n, line.as_bytes())? == Some(NetTextFault::BadLine(n)))
+}
+
 #[test]
 fn lines_that_cannot_stand(rt: HostRuntime) -> Result<(), Fail> {
-    let rows: [(u32, &[u8]); 17] = [
-        (1, b"net 2"),
-        (1, b"net  1"),
-        (2, b"wire 00 value 0 nat"),
-        (2, b"wire 1 value 0 nat"),
-        (2, b"wire 0 value 00 nat"),
-        (2, b"wire 0 value 0 (nat)"),
-        (2, b"wire 0 value 0 nat "),
-        (2, b"wire 0  value 0 nat"),
-        (2, b"wire 0 values 0 nat"),
-        (2, b"wire 0 value 0 nat->nat"),
-        (12, b"node 1 Der 0 1"),
-        (12, b"node 0 Der 0"),
-        (12, b"node 0 Der 0 1 2"),
-        (12, b"node 0 der 0 1"),
-        (14, b"wire 10 var 0 nat"),
-        (17, b"node 5 Const 18446744073709551616 7"),
-        (20, b"node 8 Root 4294967296"),
-    ];
-    for (n, line) in rows {
-        assert!(rt; fault_with(rt.alloc(), n, line)? == Some(NetTextFault::BadLine(n)));
+    let table = "1|net 2
+1|net  1
+2|wire 00 value 0 nat
+2|wire 1 value 0 nat
+2|wire 0 value 00 nat
+2|wire 0 value 0 (nat)
+2|wire 0 value 0 nat 
+2|wire 0  value 0 nat
+2|wire 0 values 0 nat
+2|wire 0 value 0 nat->nat
+12|node 1 Der 0 1
+12|node 0 Der 0
+12|node 0 Der 0 1 2
+12|node 0 der 0 1
+14|wire 10 var 0 nat
+17|node 5 Const 18446744073709551616 7
+20|node 8 Root 4294967296";
+    for row in table.split('\n') {
+        assert!(rt; cannot_stand(rt.alloc(), row)?, "{row}");
     }
     Ok(())
 }

@@ -15,27 +15,32 @@ fn are_most(alloc: Global, open: &[u8], close: &[u8], count: u32) -> Result<bool
     Ok(refusal(alloc, &text) == None && refusal(alloc, &deeper) == Some(ReadFault::TooDeep(place)))
 }
 
+/// The same of a row: what opens, what closes it, and how many of them are 500 phrases.
+fn is_most(alloc: Global, row: &str) -> Result<bool, AllocError> {
+    let (open, rest) = row.split_once('|').unwrap_or((row, ""));
+    let (close, count) = rest.split_once('|').unwrap_or((rest, ""));
+    let count = count.parse().unwrap_or(0);
+    are_most(alloc, open.as_bytes(), close.as_bytes(), count)
+}
+
 #[test]
 fn open_phrases(rt: HostRuntime) -> Result<(), Fail> {
-    // what opens, what closes it, and how many of them are 500 phrases
-    let rows: [(&[u8], &[u8], u32); 14] = [
-        (b"(", b")", 500),
-        (b"(0,", b")", 500),
-        (b"succ ", b"", 500),
-        (b"pred ", b"", 500),
-        (b"fst ", b"", 500),
-        (b"snd ", b"", 500),
-        (b"fun x:nat.", b"", 500),
-        (b"fix x:nat.", b"", 500),
-        (b"ifz ", b" then 1 else 2", 500),
-        (b"ifz 0 then ", b" else 2", 500),
-        (b"ifz 0 then 1 else ", b"", 500),
-        (b"(succ ", b")", 250),
-        (b"fst(", b")", 250),
-        (b"fun x:nat.ifz 0 then ", b" else 2", 250),
-    ];
-    for (open, close, count) in rows {
-        assert!(rt; are_most(rt.alloc(), open, close, count)?);
+    let table = "(|)|500
+(0,|)|500
+succ ||500
+pred ||500
+fst ||500
+snd ||500
+fun x:nat.||500
+fix x:nat.||500
+ifz | then 1 else 2|500
+ifz 0 then | else 2|500
+ifz 0 then 1 else ||500
+(succ |)|250
+fst(|)|250
+fun x:nat.ifz 0 then | else 2|250";
+    for row in table.split('\n') {
+        assert!(rt; is_most(rt.alloc(), row)?, "{row}");
     }
     Ok(())
 }

@@ -44,11 +44,12 @@ fn high_sum(alloc: Global) -> Result<Vec<u8>, AllocError> {
     Ok(text)
 }
 
-/// Whether each of these behind a text is too large, at so many bytes past the text.
-fn passes(alloc: Global, front: &[u8], rows: &[(&[u8], u32)]) -> Result<bool, AllocError> {
-    for (back, at) in rows {
-        let place = end_of(front).saturating_add(*at);
-        if !fails(alloc, front, back, ReadFault::TooLarge(place))? {
+/// Whether each row's text behind another one is too large, at so many bytes past that one as the row says.
+fn passes(alloc: Global, front: &[u8], table: &str) -> Result<bool, AllocError> {
+    for row in table.split('\n') {
+        let (back, at) = row.split_once('|').unwrap_or((row, ""));
+        let place = end_of(front).saturating_add(at.parse().unwrap_or(0));
+        if !fails(alloc, front, back.as_bytes(), ReadFault::TooLarge(place))? {
             return Ok(false);
         }
     }
@@ -57,62 +58,54 @@ fn passes(alloc: Global, front: &[u8], rows: &[(&[u8], u32)]) -> Result<bool, Al
 
 /// An argument counts a node more at its first token, a parenthesis too.
 fn are_counted_behind_a_part(alloc: Global) -> Result<bool, AllocError> {
-    let last: [(&[u8], u32); 6] = [
-        (b" 1", 1),
-        (b" (1)", 2),
-        (b" ((x))", 3),
-        (b" succ 1", 1),
-        (b" +1", 2),
-        (b" *1", 2),
-    ];
+    let last = " 1|1
+ (1)|2
+ ((x))|3
+ succ 1|1
+ +1|2
+ *1|2";
     let sum = with_sum(alloc, b"")?;
-    Ok(refusal(alloc, &sum) == None && passes(alloc, &sum, &last)?)
+    Ok(refusal(alloc, &sum) == None && passes(alloc, &sum, last)?)
 }
 
 fn are_counted_behind_a_full_part(alloc: Global) -> Result<bool, AllocError> {
-    let more: [(&[u8], u32); 10] = [
-        (b" 1", 1),
-        (b" x", 1),
-        (b" (1)", 1),
-        (b" succ 1", 1),
-        (b" pred 1", 1),
-        (b" fst 1", 1),
-        (b" snd 1", 1),
-        (b" +1", 1),
-        (b" -1", 1),
-        (b" *1", 1),
-    ];
+    let more = " 1|1
+ x|1
+ (1)|1
+ succ 1|1
+ pred 1|1
+ fst 1|1
+ snd 1|1
+ +1|1
+ -1|1
+ *1|1";
     let full = with_sum(alloc, b"succ ")?;
-    Ok(refusal(alloc, &full) == None && passes(alloc, &full, &more)?)
+    Ok(refusal(alloc, &full) == None && passes(alloc, &full, more)?)
 }
 
 fn are_counted_in_branches(alloc: Global) -> Result<bool, AllocError> {
-    let branches: [(&[u8], u32); 6] = [
-        (b" then 1", 6),
-        (b" then x", 6),
-        (b" then (1)", 7),
-        (b" then fun x:nat.1", 6),
-        (b" then fix x:nat.1", 6),
-        (b" then ifz 1 then 1 else 1", 6),
-    ];
+    let branches = " then 1|6
+ then x|6
+ then (1)|7
+ then fun x:nat.1|6
+ then fix x:nat.1|6
+ then ifz 1 then 1 else 1|6";
     let test = with_sum(alloc, b"ifz ")?;
-    passes(alloc, &test, &branches)
+    passes(alloc, &test, branches)
 }
 
 fn are_counted_in_types(alloc: Global) -> Result<bool, AllocError> {
-    let types: [(&[u8], u32); 4] = [
-        (b" then fun x:nat.1", 12),
-        (b" then fun x:(nat).1", 13),
-        (b" then fix x:nat->nat.1", 12),
-        (b" then 1 else 2", 13),
-    ];
+    let types = " then fun x:nat.1|12
+ then fun x:(nat).1|13
+ then fix x:nat->nat.1|12
+ then 1 else 2|13";
     let test = smaller_test(alloc)?;
-    passes(alloc, &test, &types)
+    passes(alloc, &test, types)
 }
 
 fn are_counted_in_pairs(alloc: Global) -> Result<bool, AllocError> {
     let pair = with_sum(alloc, b"(succ ")?;
-    passes(alloc, &pair, &[(b",1)", 0), (b")+1", 1)])
+    passes(alloc, &pair, ",1)|0\n)+1|1")
 }
 
 /// At one token all other faults come before too many nodes.

@@ -173,13 +173,20 @@ pub(crate) fn answer(alloc: Global, row: &str) -> Result<String, AllocError> {
     answer_to(alloc, words.as_slice())
 }
 
-/// The first row of words that ask for something else than the row says, with what they ask for; and nothing where there is none.
-pub(crate) fn first_wrong(alloc: Global, rows: &[(&str, &str)]) -> Result<String, AllocError> {
-    for (row, wanted) in rows {
-        let got = answer(alloc, row)?;
-        if got.as_str() != *wanted {
-            return format!(in alloc; "{row}: {got}");
+/// The first row of words that ask for something else than the row says, with what they ask for; and nothing where there is none. A row
+/// is a line, with the answer behind `|`. Empty lines are no rows, nor are those that begin with `#`.
+pub(crate) fn first_wrong(alloc: Global, table: &str) -> Result<String, AllocError> {
+    for row in table.split('\n') {
+        let (words, wanted) = row.split_once('|').unwrap_or((row, ""));
+        if !row.is_empty() && !row.starts_with('#') && !asks(alloc, words, wanted)? {
+            let got = answer(alloc, words)?;
+            return format!(in alloc; "{words}: {got}");
         }
     }
     String::from_str(alloc, "")
+}
+
+/// Whether these words ask for this.
+fn asks(alloc: Global, words: &str, wanted: &str) -> Result<bool, AllocError> {
+    Ok(answer(alloc, words)?.as_str() == wanted)
 }
