@@ -1,7 +1,7 @@
 //! Lists of programs as whole calls: what each status writes, and what failing devices leave.
 
-use crate::programs::{Devices, SOUND, answered, texts};
-use crate::rows::cut;
+use crate::programs::{Devices, SOUND, answered, push_bytes, texts};
+use crate::rows::{cut, feed_lines};
 use goi_world::MemoryFiles;
 use pcf_values::Ident;
 use std::alloc::{AllocError, Global};
@@ -21,23 +21,24 @@ pub(crate) fn push_file(
     name: &str,
     text: &str,
 ) -> Result<(), AllocError> {
-    let mut bytes = Vec::new(alloc);
-    for byte in text.as_bytes() {
-        bytes.push(if *byte == b';' { b'\n' } else { *byte })?;
-    }
-    held.push((Ident::from_text(alloc, name)?, bytes))?;
-    Ok(())
+    let bytes = feed_lines(alloc, text)?;
+    push_bytes(alloc, held, name, &bytes)
 }
 
 /// The files of a call: the list `l`, with a line feed for each `;`, and its programs.
 fn listed(alloc: Global, list: &str, devices: Devices<'_>) -> Result<MemoryFiles, AllocError> {
     let mut held = Vec::new(alloc);
-    push_file(alloc, &mut held, "l", list)?;
-    push_file(alloc, &mut held, "p9", "(fun x:nat. x + x) 3")?;
-    push_file(alloc, &mut held, "p5", "1 + 2")?;
-    push_file(alloc, &mut held, "p1", "")?;
-    push_file(alloc, &mut held, " -n", "succ 4")?;
-    push_file(alloc, &mut held, "y", "fix y:nat. y")?;
+    let texts = [
+        ("l", list),
+        ("p9", "(fun x:nat. x + x) 3"),
+        ("p5", "1 + 2"),
+        ("p1", ""),
+        (" -n", "succ 4"),
+        ("y", "fix y:nat. y"),
+    ];
+    for (name, text) in texts {
+        push_file(alloc, &mut held, name, text)?;
+    }
     Ok(MemoryFiles::new(held, devices.most.max(1), devices.reads.to_vec(alloc)?))
 }
 

@@ -1,7 +1,7 @@
 //! Runs by value, runs of nets from files, and runs with their progress.
 
 use crate::programs::{Devices, SOUND, told};
-use crate::rows::{cut, first_wrong};
+use crate::rows::first_wrong;
 use std::alloc::{AllocError, Global};
 use std::sync::Wait;
 use std::test::Fail;
@@ -64,38 +64,6 @@ fn a_function_by_value(rt: HostRuntime) -> Result<(), Fail> {
     Ok(())
 }
 
-/// A text with a line feed for each `;`.
-fn feed_lines(alloc: Global, text: &str) -> Result<Vec<u8>, AllocError> {
-    let mut lines = Vec::new(alloc);
-    for byte in text.as_bytes() {
-        lines.push(if *byte == b';' { b'\n' } else { *byte })?;
-    }
-    Ok(lines)
-}
-
-/// Whether a row is so: words, the text of `p` with `;` for each line feed, and what the call leaves.
-fn holds<R: Threads + Wait + Sync>(rt: &R, alloc: Global, row: &str) -> Result<bool, AllocError> {
-    let (words, rest) = cut(row);
-    let (text, wanted) = cut(rest);
-    let lines = feed_lines(alloc, text)?;
-    let seen = told(rt, alloc, words, &lines, SOUND)?;
-    Ok(seen.as_slice() == wanted.as_bytes())
-}
-
-/// The number of the first line that isn't so. Empty lines are no rows.
-fn first_wrong_file<R: Threads + Wait + Sync>(
-    rt: &R,
-    alloc: Global,
-    table: &str,
-) -> Result<Option<usize>, AllocError> {
-    for (i, row) in table.split('\n').enumerate() {
-        if !row.is_empty() && !holds(rt, alloc, row)? {
-            return Ok(Some(i));
-        }
-    }
-    Ok(None)
-}
-
 #[test]
 fn net_files(rt: HostRuntime) -> Result<(), Fail> {
     let table = "
@@ -124,7 +92,7 @@ goi run-net p|1 + 2|7 refused: BadLine(1);
 goi run-net q||3 read failed;
 goi run p|net 1;|1 refused: Unbound(0);
 ";
-    assert!(rt; first_wrong_file(&rt, rt.alloc(), table)? == None);
+    assert!(rt; first_wrong(&rt, rt.alloc(), table)? == None);
     Ok(())
 }
 

@@ -4,8 +4,7 @@ use crate::rows::{cut, first_wrong};
 use gate_workers::{Gate, OpenGate};
 use goi_engine::goi;
 use goi_world::{MemoryFiles, MemorySink};
-use pcf_reader::read_program;
-use pcf_values::{Ident, Named, Raw};
+use pcf_values::Ident;
 use std::alloc::{AllocError, Global};
 use std::sync::Wait;
 use std::test::Fail;
@@ -32,6 +31,18 @@ pub(crate) const SOUND: Devices<'static> = Devices {
     errs: &[],
 };
 
+/// One more file.
+pub(crate) fn push_bytes(
+    alloc: Global,
+    held: &mut Vec<(Ident, Vec<u8>)>,
+    name: &str,
+    bytes: &[u8],
+) -> Result<(), AllocError> {
+    let name = Ident::from_text(alloc, name)?;
+    held.push((name, bytes.to_vec(alloc)?))?;
+    Ok(())
+}
+
 /// The files of a call: `p` with this text, and `s`, the text of a schedule.
 fn files(
     alloc: Global,
@@ -40,8 +51,9 @@ fn files(
     devices: Devices<'_>,
 ) -> Result<MemoryFiles, AllocError> {
     let mut held = Vec::new(alloc);
-    held.push((Ident::from_text(alloc, "p")?, text.to_vec(alloc)?))?;
-    held.push((Ident::from_text(alloc, "s")?, schedule.to_vec(alloc)?))?;
+    for (name, bytes) in [("p", text), ("s", schedule)] {
+        push_bytes(alloc, &mut held, name, bytes)?;
+    }
     Ok(MemoryFiles::new(held, devices.most.max(1), devices.reads.to_vec(alloc)?))
 }
 
@@ -347,55 +359,57 @@ goi run -- p|0|0 value 0;moves 2;
     Ok(())
 }
 
-/// A piece so many times behind a text.
-fn push(text: &mut Vec<u8>, piece: &[u8], count: u32) -> Result<(), AllocError> {
-    for _ in 0..count {
-        text.extend_from_slice(piece)?;
-    }
-    Ok(())
-}
-
-/// A piece so many times, `0`, and another piece as many times.
-fn nested(alloc: Global, open: &[u8], close: &[u8], count: u32) -> Result<Vec<u8>, AllocError> {
+/// Texts one behind the other, each so many times.
+fn repeated(alloc: Global, pieces: &[(&[u8], u32)]) -> Result<Vec<u8>, AllocError> {
     let mut text = Vec::new(alloc);
-    push(&mut text, open, count)?;
-    push(&mut text, b"0", 1)?;
-    push(&mut text, close, count)?;
-    Ok(text)
-}
-
-/// So many groups `(1 1 .. 1)` of 64 ones as a sum.
-fn groups(alloc: Global, count: u32) -> Result<Vec<u8>, AllocError> {
-    let mut text = Vec::new(alloc);
-    for group in 0..count {
-        push(&mut text, if group == 0 { b"(1" } else { b"+(1" }, 1)?;
-        push(&mut text, b" 1", 63)?;
-        push(&mut text, b")", 1)?;
+    for (piece, count) in pieces {
+        for _ in 0..*count {
+            text.extend_from_slice(piece)?;
+        }
     }
     Ok(text)
 }
 
-/// Whether this is what `goi run p` leaves on a nested text.
-fn nested_leaves<R: Threads + Wait + Sync>(
+/// Whether this is what `goi run p` leaves on such a text.
+fn repeated_leaves<R: Threads + Wait + Sync>(
     rt: &R,
     alloc: Global,
-    open: &str,
-    close: &str,
-    count: u32,
+    pieces: &[(&[u8], u32)],
     wanted: &str,
 ) -> Result<bool, AllocError> {
-    let text = nested(alloc, open.as_bytes(), close.as_bytes(), count)?;
+    let text = repeated(alloc, pieces)?;
     run_leaves(rt, alloc, &text, wanted)
 }
 
+/// The same where `0` is between as many texts on either side.
+fn nested_leaves<'x, R: Threads + Wait + Sync>(
+    rt: &R,
+    alloc: Global,
+    open: &'x str,
+    close: &'x str,
+    count: u32,
+    wanted: &str,
+) -> Result<bool, AllocError> {
+    let (open, close) = (open.as_bytes(), close.as_bytes());
+    repeated_leaves(
+        rt,
+        alloc,
+        &[(open, count), (b"0", 1), (close, count)],
+        wanted,
+    )
+}
+
+/// The same where so many groups `(1 1 .. 1)` of 64 ones are a sum.
 fn groups_leave<R: Threads + Wait + Sync>(
     rt: &R,
     alloc: Global,
     count: u32,
     wanted: &str,
 ) -> Result<bool, AllocError> {
-    let text = groups(alloc, count)?;
-    run_leaves(rt, alloc, &text, wanted)
+    let first = repeated(alloc, &[(b"(1", 1), (b" 1", 63), (b")", 1)])?;
+    let more = repeated(alloc, &[(b"+", 1), (&first, 1)])?;
+    let pieces: [(&[u8], u32); 2] = [(&first, 1), (&more, count.saturating_sub(1))];
+    repeated_leaves(rt, alloc, &pieces, wanted)
 }
 
 fn keeps_the_limits<R: Threads + Wait + Sync>(rt: &R, alloc: Global) -> Result<bool, AllocError> {
@@ -445,77 +459,57 @@ fn reads_that_fail(rt: HostRuntime) -> Result<(), Fail> {
     Ok(())
 }
 
-/// So many ones with a text between them.
-fn ones(alloc: Global, between: &[u8], count: u32) -> Result<Vec<u8>, AllocError> {
-    let mut text = b"1"[..].to_vec(alloc)?;
-    for _ in 1..count {
-        push(&mut text, between, 1)?;
-        push(&mut text, b"1", 1)?;
-    }
-    Ok(text)
+/// So many ones as a sum in parentheses, and a text behind it.
+fn ones(alloc: Global, count: u32, back: &[u8]) -> Result<Vec<u8>, AllocError> {
+    repeated(
+        alloc,
+        &[
+            (b"(1", 1),
+            (b"+1", count.saturating_sub(1)),
+            (b")", 1),
+            (back, 1),
+        ],
+    )
 }
 
-/// A text, so many groups of so many ones, and one more group and a text behind them, all as sums.
-fn sums(
-    alloc: Global,
-    front: &[u8],
-    (count, size): (u32, u32),
-    last: u32,
-    back: &[u8],
-) -> Result<Vec<u8>, AllocError> {
-    let mut text = front.to_vec(alloc)?;
-    let group = ones(alloc, b"+", size)?;
-    for _ in 0..count {
-        push(&mut text, b"(", 1)?;
-        push(&mut text, &group, 1)?;
-        push(&mut text, b")+", 1)?;
-    }
-    push(&mut text, b"(", 1)?;
-    push(&mut text, &ones(alloc, b"+", last)?, 1)?;
-    push(&mut text, b")", 1)?;
-    push(&mut text, back, 1)?;
-    Ok(text)
-}
-
-/// A text, a sum, a product and an application in one another so many times, so many ones, and a text.
-fn high(
-    alloc: Global,
-    front: &[u8],
-    levels: u32,
-    width: u32,
-    back: &[u8],
-) -> Result<Vec<u8>, AllocError> {
-    let mut text = front.to_vec(alloc)?;
-    push(&mut text, b"1+1*f(0,", levels)?;
-    push(&mut text, &ones(alloc, b"+", width)?, 1)?;
-    push(&mut text, b")", levels)?;
-    push(&mut text, back, 1)?;
-    Ok(text)
-}
-
+/// Whether this is what `goi run p` leaves on a text, so many groups of so many ones, one more group, and a text behind them, all as sums.
 fn sums_leave<R: Threads + Wait + Sync>(
     rt: &R,
     alloc: Global,
     front: &str,
-    groups: (u32, u32),
+    (count, size): (u32, u32),
     last: u32,
     back: &str,
     wanted: &str,
 ) -> Result<bool, AllocError> {
-    let text = sums(alloc, front.as_bytes(), groups, last, back.as_bytes())?;
-    run_leaves(rt, alloc, &text, wanted)
+    let group = ones(alloc, size, b"+")?;
+    let last = ones(alloc, last, back.as_bytes())?;
+    repeated_leaves(
+        rt,
+        alloc,
+        &[(front.as_bytes(), 1), (&group, count), (&last, 1)],
+        wanted,
+    )
 }
 
-fn high_leaves<R: Threads + Wait + Sync>(
+/// The same where a sum, a product and an application are in one another so many times, around 500 ones.
+fn high_leaves<'x, R: Threads + Wait + Sync>(
     rt: &R,
     alloc: Global,
-    front: &str,
+    front: &'x str,
     levels: u32,
-    back: &str,
+    back: &'x str,
     wanted: &str,
 ) -> Result<bool, AllocError> {
-    let text = high(alloc, front.as_bytes(), levels, 500, back.as_bytes())?;
-    run_leaves(rt, alloc, &text, wanted)
+    let pieces: [(&[u8], u32); 6] = [
+        (front.as_bytes(), 1),
+        (b"1+1*f(0,", levels),
+        (b"1", 1),
+        (b"+1", 499),
+        (b")", levels),
+        (back.as_bytes(), 1),
+    ];
+    repeated_leaves(rt, alloc, &pieces, wanted)
 }
 
 fn ones_leave<R: Threads + Wait + Sync>(
@@ -524,8 +518,12 @@ fn ones_leave<R: Threads + Wait + Sync>(
     count: u32,
     wanted: &str,
 ) -> Result<bool, AllocError> {
-    let text = ones(alloc, b" + ", count)?;
-    run_leaves(rt, alloc, &text, wanted)
+    repeated_leaves(
+        rt,
+        alloc,
+        &[(b"1", 1), (b" + 1", count.saturating_sub(1))],
+        wanted,
+    )
 }
 
 #[test]
@@ -648,43 +646,22 @@ succ 4|4 |4000|1|1
     Ok(())
 }
 
-fn push_doubled(text: &mut Vec<u8>, doublings: u32) -> Result<(), AllocError> {
-    if doublings == 0 {
-        return push(text, b"d 1", 1);
-    }
-    push(text, b"(", 1)?;
-    push_doubled(text, doublings - 1)?;
-    push(text, b") + (", 1)?;
-    push_doubled(text, doublings - 1)?;
-    push(text, b")", 1)
+/// A sum of two of what a text has.
+fn twice(alloc: Global, text: &[u8]) -> Result<Vec<u8>, AllocError> {
+    repeated(
+        alloc,
+        &[(b"(", 1), (text, 1), (b") + (", 1), (text, 1), (b")", 1)],
+    )
 }
 
 /// A function `d` applied to 1, in a sum of this many doublings, and `d` itself doubles too.
 fn doubled(alloc: Global, doublings: u32) -> Result<Vec<u8>, AllocError> {
-    let mut text = b"(fun d:nat->nat. "[..].to_vec(alloc)?;
-    push_doubled(&mut text, doublings)?;
-    push(&mut text, b") (fun x:nat. x + x)\n", 1)?;
-    Ok(text)
-}
-
-/// The nodes of a read term, types not counted.
-#[cycle(size)]
-fn size(tree: &Named) -> u64 {
-    match &tree.raw {
-        Raw::Number(_) | Raw::Name(_) => 1,
-        Raw::Succ(a)
-        | Raw::Pred(a)
-        | Raw::Fst(a)
-        | Raw::Snd(a)
-        | Raw::Fun(_, _, a)
-        | Raw::Fix(_, _, a) => size(a).saturating_add(1),
-        Raw::Plus(a, b) | Raw::Minus(a, b) | Raw::Times(a, b) | Raw::App(a, b) | Raw::Pair(a, b) =>
-            size(a).saturating_add(size(b)).saturating_add(1),
-        Raw::Ifz(a, b, c) => size(a)
-            .saturating_add(size(b))
-            .saturating_add(size(c))
-            .saturating_add(1),
+    let mut sum = b"d 1"[..].to_vec(alloc)?;
+    for _ in 0..doublings {
+        sum = twice(alloc, &sum)?;
     }
+    let (front, back) = (b"(fun d:nat->nat. ", b") (fun x:nat. x + x)\n");
+    repeated(alloc, &[(front, 1), (&sum, 1), (back, 1)])
 }
 
 /// How many lines begin with this letter.
@@ -700,38 +677,29 @@ fn lines(text: &[u8], letter: u8) -> u64 {
     found
 }
 
-/// The tree of a program, and want of memory where it isn't read.
-fn read(alloc: Global, text: &[u8]) -> Result<Box<Named>, AllocError> {
-    match read_program(alloc, text) {
-        Ok(tree) => Ok(Box::new(alloc, tree)?),
-        Err(_) => Err(AllocError),
-    }
-}
-
-/// The nodes of a doubled sum's term, and the wires and the nodes of its net.
+/// The wires and the nodes of a doubled sum's net.
 fn sizes<R: Threads + Wait + Sync>(
     rt: &R,
     alloc: Global,
     doublings: u32,
-) -> Result<(u64, u64, u64), AllocError> {
+) -> Result<(u64, u64), AllocError> {
     let text = doubled(alloc, doublings)?;
-    let tree = read(alloc, &text)?;
     let seen = told(rt, alloc, "goi net p", &text, SOUND)?;
     // the listing's first line begins with an n too, but stands behind the status
-    Ok((size(&tree), lines(&seen, b'w'), lines(&seen, b'n')))
+    Ok((lines(&seen, b'w'), lines(&seen, b'n')))
 }
 
 #[test]
 fn sizes_of_doubled_sums(rt: HostRuntime) -> Result<(), Fail> {
-    // how often the sum is doubled, the nodes of the term, and the wires and the nodes of its net
-    let rows: [(u32, u64, u64, u64); 4] = [
-        (0, 9, 15, 13),
-        (1, 13, 22, 19),
-        (6, 261, 456, 391),
-        (12, 16_389, 28_680, 24_583),
+    // how often the sum is doubled, and the wires and the nodes of its net
+    let rows: [(u32, u64, u64); 4] = [
+        (0, 15, 13),
+        (1, 22, 19),
+        (6, 456, 391),
+        (12, 28_680, 24_583),
     ];
-    for (doublings, term, wires, nodes) in rows {
-        assert!(rt; sizes(&rt, rt.alloc(), doublings)? == (term, wires, nodes));
+    for (doublings, wires, nodes) in rows {
+        assert!(rt; sizes(&rt, rt.alloc(), doublings)? == (wires, nodes));
     }
     Ok(())
 }

@@ -10,15 +10,25 @@ pub(crate) fn cut(text: &str) -> (&str, &str) {
     text.split_once('|').unwrap_or((text, ""))
 }
 
+/// A text with a line feed for each `;`.
+pub(crate) fn feed_lines(alloc: Global, text: &str) -> Result<Vec<u8>, AllocError> {
+    let mut lines = Vec::new(alloc);
+    for byte in text.as_bytes() {
+        lines.push(if *byte == b';' { b'\n' } else { *byte })?;
+    }
+    Ok(lines)
+}
+
 /// Whether a call with a row's words, on a file `p` with its text, leaves what the row says.
 fn holds<R: Threads + Wait + Sync>(rt: &R, alloc: Global, row: &str) -> Result<bool, AllocError> {
     let (words, rest) = cut(row);
     let (text, wanted) = cut(rest);
-    leaves(rt, alloc, words, text.as_bytes(), SOUND, wanted)
+    let lines = feed_lines(alloc, text)?;
+    leaves(rt, alloc, words, &lines, SOUND, wanted)
 }
 
-/// The number of the first line that isn't so. A row is the words of a call, the text of a file `p`, and what the call leaves. Empty
-/// lines are no rows.
+/// The number of the first line that isn't so. A row is the words of a call, the text of a file `p` with `;` for each line feed, and what
+/// the call leaves. Empty lines are no rows.
 pub(crate) fn first_wrong<R: Threads + Wait + Sync>(
     rt: &R,
     alloc: Global,

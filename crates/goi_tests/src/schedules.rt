@@ -1,20 +1,11 @@
 //! Calls of `replay`: schedules that are run, and each refusal of one in the order in which they come.
 
 use crate::programs::{SOUND, told, told_both};
-use crate::rows::cut;
+use crate::rows::{cut, feed_lines};
 use std::alloc::{AllocError, Global};
 use std::sync::Wait;
 use std::test::Fail;
 use std::thread::Threads;
-
-/// A text with a line feed for each `;`.
-fn feed_lines(alloc: Global, text: &str) -> Result<Vec<u8>, AllocError> {
-    let mut lines = Vec::new(alloc);
-    for byte in text.as_bytes() {
-        lines.push(if *byte == b';' { b'\n' } else { *byte })?;
-    }
-    Ok(lines)
-}
 
 /// Whether `goi replay p s` on these texts leaves this.
 fn replay_leaves<R: Threads + Wait + Sync>(
