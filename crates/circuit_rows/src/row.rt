@@ -12,7 +12,7 @@ pub struct Channel {
 }
 
 /// A strict operator.
-#[derive(Clone, Copy, PartialEq, Eq)]
+#[derive(Clone, Copy)]
 pub enum Operator {
     /// The sum.
     Plus,
@@ -23,7 +23,7 @@ pub enum Operator {
 }
 
 /// What a circuit does with a token that comes by a channel, with the channels that it sends to.
-#[derive(Clone, Copy, PartialEq, Eq)]
+#[derive(Clone, Copy)]
 pub enum Row {
     /// The token goes on as it is.
     Go {
@@ -163,7 +163,7 @@ pub enum Row {
 }
 
 /// A row with the number of its node.
-#[derive(Clone, Copy, PartialEq, Eq)]
+#[derive(Clone, Copy)]
 pub struct Found {
     /// The number of the node.
     pub node: u32,

@@ -11,7 +11,7 @@ use net_build::{Net, Node};
 use pcf_values::Val;
 
 // A strict operator.
-#[derive(Clone, Copy, PartialEq, Eq)]
+#[derive(Clone, Copy)]
 pub(crate) enum Operator {
     Plus,
     Minus,
@@ -20,7 +20,7 @@ pub(crate) enum Operator {
 
 // What comes of a token: it forks to two operands, it joins at an operator with its value, whose conclusion is that wire, it is the
 // answer, or it has no move.
-#[derive(Clone, Copy, PartialEq, Eq)]
+#[derive(Clone, Copy)]
 pub(crate) enum Role {
     Fork(u32, u32),
     Join(Operator, Side, Val, u32),

@@ -2,7 +2,7 @@
 use pcf_values::Val;
 
 /// What became of the ticket that moved.
-#[derive(Clone, Copy, PartialEq, Eq)]
+#[derive(Clone, Copy)]
 pub enum Stepped {
     /// It went on by a move that needs no other token.
     Went,

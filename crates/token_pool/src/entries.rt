@@ -25,7 +25,7 @@ pub enum Told {
 }
 
 /// What a worker is told that hands in its walk.
-#[derive(Clone, Copy, PartialEq, Eq)]
+#[derive(Clone, Copy)]
 pub enum Booked {
     /// Its moves were booked behind so many others.
     Done(u32),
