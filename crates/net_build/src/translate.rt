@@ -260,6 +260,6 @@ fn place_body(
 {
     parts.context.push(ty.copy(alloc)?)?;
     let placed = place(alloc, parts, depth, body)?;
-    parts.context.pop();
+    drop(parts.context.pop());
     Ok(placed)
 }

@@ -192,7 +192,7 @@ fn infer_body(
 {
     context.push(ty.copy(alloc)?)?;
     let found = infer(alloc, context, body)?;
-    context.pop();
+    drop(context.pop());
     Ok(found)
 }
 
