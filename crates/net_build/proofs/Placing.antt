@@ -1,7 +1,7 @@
 -- A term whose parts are placed one after another is placed as the definition says.
 use Rattle.std.proofs.Common.{◌≡◌, ℕ, zero, suc, ◌+◌, ◌-◌, ◌⊎◌, ◌<◌, ◌≤◌, List, [], ◌∷◌, ◌++◌, length, map, reverse, Some, None, refl, sym}
 use Rattle.std.proofs.Common.{ap, ◌∙◌, subst, inl, inr, arith}
-use Rattle.std.specs.Prelude.{slice_get}
+use Rattle.std.specs.Prelude.{◌^◌, slice_get}
 use Rattle.std.proofs.lemmas.Bool.{cases_lt, lt-ltb, le-ltb}
 use Rattle.std.proofs.lemmas.List.{append-nil, length-append}
 use Rattle.pcf_values.specs.Terms.{TyTree, TermTree, var, ifz, lam, fix, app}
@@ -11,10 +11,12 @@ use Rattle.net_build.specs.declared.parts.Parts.{Parts}
 use Rattle.net_build.specs.declared.parts.Loose.{Loose}
 use Rattle.net_build.specs.declared.parts.Placed.{Placed}
 use Rattle.net_build.specs.declared.double.Double.{Double}
-use Rattle.net_build.specs.Nets.{value_wire, var_wire}
+use Rattle.net_build.specs.declared.unary.Unary.{Unary}
+use Rattle.net_build.specs.Nets.{WireTree, value_wire, var_wire}
 use Rattle.net_build.specs.NetOf.{Part, double_end, ifz_end, lam_end, fix_end, app_end, part, none_free, one_free, type_or_nat}
 use Rattle.net_build.specs.Views.{wire_of}
 use Rattle.net_build.specs.Building.{HasRoom, context_of, spread, Grows, Spreads, Gives, Builds, BuildsBody, frees, body_frees, wire_type}
+use Rattle.net_build.specs.Building.{Falling, IsPlaced, IsBody, unary_of}
 use Rattle.net_build.specs.Building.{part_at, second_at, third_at, body_at, double_node, double_type, double_here, double_of, ifz_here}
 use Rattle.net_build.specs.Building.{lam_here, fix_here, app_here, one_at}
 use Rattle.net_build.proofs.Growing.{grows_then, grows_length, kept_type, new_type, new_inside}
@@ -34,6 +36,100 @@ moved_twice s0 s1 s2 p q d t g h =
     grows_length s1 s2 q.wires q.nodes h ∙ ap (λ m. m + length q.wires) (grows_length s0 s1 p.wires p.nodes g) in
     let c = h.context ∙ g.context in
     λ k. part (n k) d (context_of (c k)) t
+
+-- room for two lists is room for the first
+first_fits : (x : ℕ) (ws vs : List WireTree) → x + length (ws ++ vs) < 2 ^ 32 → x + length ws < 2 ^ 32
+first_fits x ws vs h = omega (arith, h, length-append ws vs)
+
+-- and for what comes behind the first
+behind_fits : (d n m l : ℕ) (ws vs : List WireTree) → m ≡ n + length ws → l ≡ length vs → d + n + length (ws ++ vs) < 2 ^ 32
+    → d + m + l < 2 ^ 32
+behind_fits d n m l ws vs e f h = omega (arith, e, f, h, length-append ws vs)
+
+-- room for three lists is room for the second, from where the first ends
+middle_fits : (d n m l : ℕ) (ws vs us : List WireTree) → m ≡ n + length ws → l ≡ length vs
+    → d + n + length (ws ++ (vs ++ us)) < 2 ^ 32 → d + m + l < 2 ^ 32
+middle_fits d n m l ws vs us e f h = omega (arith, e, f, h, length-append ws (vs ++ us), length-append vs us)
+
+-- one depth further in too, where the third has a wire
+deeper_fits : (d n m l : ℕ) (ws vs us xs : List WireTree) (x : WireTree) → m ≡ n + length ws → l ≡ length vs
+    → d + n + length (ws ++ (vs ++ (us ++ x ∷ xs))) < 2 ^ 32 → suc d + m + l < 2 ^ 32
+deeper_fits d n m l ws vs us xs x e f h =
+    let k : length (us ++ x ∷ xs) ≡ length us + suc (length xs) = length-append us (x ∷ xs) in
+    omega (arith, e, f, h, k, length-append ws (vs ++ (us ++ x ∷ xs)), length-append vs (us ++ x ∷ xs))
+
+-- room for three lists is room for the third, from where the second ends
+last_fits : (d n m l : ℕ) (ws vs us : List WireTree) → m ≡ n + length ws + length vs → l ≡ length us
+    → d + n + length (ws ++ (vs ++ us)) < 2 ^ 32 → d + m + l < 2 ^ 32
+last_fits d n m l ws vs us e f h = omega (arith, e, f, h, length-append ws (vs ++ us), length-append vs us)
+
+-- room for the whole is room for the operand, and for a wire behind it
+pub unary_room : (form : Unary) (s : Parts) (d : ℕ) (a : TermTree) → HasRoom s d (unary_of form s d a) → HasRoom s d (part_at s d a)
+unary_room form s d a h = first_fits (d + length s.wires.items) (part_at s d a).wires _ h
+
+pub unary_next_room : (form : Unary) (s0 s1 : Parts) (d : ℕ) (a : TermTree) (r1 : Placed) → Builds s0 s1 (part_at s0 d a) r1
+    → HasRoom s0 d (unary_of form s0 d a) → length s1.wires.items < 2 ^ 32
+unary_next_room form s0 s1 d a r1 g h =
+    let p = part_at s0 d a in
+    let n = length s0.wires.items in
+    let k : d + length s1.wires.items + 1 < 2 ^ 32 = behind_fits d n _ 1 p.wires _ (grows_length s0 s1 p.wires p.nodes g.grows) refl h in
+    omega (arith, k)
+
+-- room for the whole is room for the first of two operands
+pub double_first_room : (form : Double) (s : Parts) (d : ℕ) (a b : TermTree) → HasRoom s d (double_of form s d a b)
+    → HasRoom s d (part_at s d a)
+double_first_room form s d a b h = first_fits (d + length s.wires.items) (part_at s d a).wires _ h
+
+-- and for the second, from where the first ends
+pub double_second_room : (form : Double) (s0 s1 : Parts) (d : ℕ) (a b : TermTree) (r1 : Placed) → Builds s0 s1 (part_at s0 d a) r1
+    → HasRoom s0 d (double_of form s0 d a b) → HasRoom s1 d (part_at s1 d b)
+double_second_room form s0 s1 d a b r1 g h =
+    let p = part_at s0 d a in
+    let q = second_at s0 d p b in
+    let e : length (part_at s1 d b).wires ≡ length q.wires = ap (λ q. length q.wires) (moved s0 s1 p d b g.grows) in
+    middle_fits d (length s0.wires.items) _ _ p.wires q.wires _ (grows_length s0 s1 p.wires p.nodes g.grows) e h
+
+-- the same of a condition and the branch behind it
+pub ifz_first_room : (s : Parts) (d : ℕ) (a b c : TermTree) → HasRoom s d (part_at s d (ifz a b c)) → HasRoom s d (part_at s d a)
+ifz_first_room s d a b c h = first_fits (d + length s.wires.items) (part_at s d a).wires _ h
+
+pub ifz_second_room : (s0 s1 : Parts) (d : ℕ) (a b c : TermTree) (r1 : Placed) → Builds s0 s1 (part_at s0 d a) r1
+    → HasRoom s0 d (part_at s0 d (ifz a b c)) → HasRoom s1 d (part_at s1 d b)
+ifz_second_room s0 s1 d a b c r1 g h =
+    let p = part_at s0 d a in
+    let q = second_at s0 d p b in
+    let e : length (part_at s1 d b).wires ≡ length q.wires = ap (λ q. length q.wires) (moved s0 s1 p d b g.grows) in
+    middle_fits d (length s0.wires.items) _ _ p.wires q.wires _ (grows_length s0 s1 p.wires p.nodes g.grows) e h
+
+-- of a function, and of its argument, which stands one depth further in
+pub app_first_room : (s : Parts) (d : ℕ) (a b : TermTree) → HasRoom s d (part_at s d (app a b)) → HasRoom s d (part_at s d a)
+app_first_room s d a b h = first_fits (d + length s.wires.items) (part_at s d a).wires _ h
+
+app_second_room : (s0 s1 : Parts) (d : ℕ) (a b : TermTree) (r1 : Placed) → Builds s0 s1 (part_at s0 d a) r1
+    → HasRoom s0 d (part_at s0 d (app a b)) → HasRoom s1 (suc d) (part_at s1 (suc d) b)
+app_second_room s0 s1 d a b r1 g h =
+    let p = part_at s0 d a in
+    let q = second_at s0 (suc d) p b in
+    let e : length (part_at s1 (suc d) b).wires ≡ length q.wires = ap (λ q. length q.wires) (moved s0 s1 p (suc d) b g.grows) in
+    deeper_fits d (length s0.wires.items) _ _ p.wires q.wires _ _ _ (grows_length s0 s1 p.wires p.nodes g.grows) e h
+
+pub app_second_room_at : (s0 s1 : Parts) (d d' : ℕ) (a b : TermTree) (r1 : Placed) → d' ≡ suc d → Builds s0 s1 (part_at s0 d a) r1
+    → HasRoom s0 d (part_at s0 d (app a b)) → HasRoom s1 d' (part_at s1 d' b)
+app_second_room_at s0 s1 d d' a b r1 e g h = subst (λ d'. HasRoom s1 d' (part_at s1 d' b)) (sym e) (app_second_room s0 s1 d a b r1 g h)
+
+-- of the body of a function
+pub lam_first_room : (s : Parts) (d : ℕ) (t : TyTree) (m : TermTree) → HasRoom s d (part_at s d (lam t m)) → HasRoom s d (body_at s d t m)
+lam_first_room s d t m h = first_fits (d + length s.wires.items) (body_at s d t m).wires _ h
+
+-- a term that was just placed stands there
+pub placed_new : (s0 s1 : Parts) (p : Part) (r : Placed) → Builds s0 s1 p r → IsPlaced s1 r
+placed_new s0 s1 p r h =
+    (h.gives.inside, subst (λ c. Falling (length c) (reverse r.free.items)) (sym h.grows.context) h.gives.free.falling)
+
+-- and a body that was just placed
+pub placed_body : (s0 s1 : Parts) (p : Part) (r : Placed) → BuildsBody s0 s1 p r → IsBody s1 r
+placed_body s0 s1 p r h =
+    (h.gives.inside, subst (λ c. Falling (suc (length c)) (reverse r.free.items)) (sym h.grows.context) h.gives.free.falling)
 
 -- what a placed term leaves loose is what its part does, from any state with that context
 free_at : (s n s' : Parts) (p : Part) (r : Placed) → Gives (length s.context.items) n p r → s'.context.items ≡ s.context.items
@@ -64,6 +160,15 @@ module _ (form : Double) (s0 s1 : Parts) (d : ℕ) (a b : TermTree) (r1 : Placed
         let t : wire_type s2 r1.out ≡ p.type = kept_type s1 s2 q.wires q.nodes r1.out double_i.grows h.gives.inside ∙ h.gives.type in
         λ k. double_end (double_node form) (double_type form (t k) (double_i.gives.type k)) (n k) d (context_of (c k)) (h.gives.out k)
         (double_i.gives.out k) (f k) (f' k)
+
+    -- room for the whole is room for its end
+    pub double_close_room : HasRoom s0 d (double_of form s0 d a b) → HasRoom s2 d (double_here form s2 d r1 r2)
+    double_close_room k =
+        let p = part_at s0 d a in
+        let q = second_at s0 d p b in
+        let n : length s2.wires.items ≡ length s0.wires.items + length p.wires + length q.wires =
+        grows_length s1 s2 q.wires q.nodes double_i.grows ∙ ap (λ m. m + length q.wires) (grows_length s0 s1 p.wires p.nodes h.grows) in
+        last_fits d (length s0.wires.items) _ _ p.wires q.wires _ n (ap (λ q. length q.wires) double_path) k
 
     -- both operands and the end are the whole
     pub double_builds : (s3 : Parts) (r : Placed) → Builds s2 s3 (double_here form s2 d r1 r2) r → Builds s0 s3 (double_of form s0 d a b) r
@@ -205,6 +310,16 @@ module _ (s0 s1 : Parts) (d : ℕ) (a b : TermTree) (r1 : Placed) (h : Builds s0
         let t : wire_type s2 r1.out ≡ p.type = kept_type s1 s2 q.wires q.nodes r1.out app_i.grows h.gives.inside ∙ h.gives.type in
         λ k. app_end (n k) d (context_of (c k)) (t k) (h.gives.out k) (app_i.gives.out k) (f k) (f' k)
 
+    -- room for the whole is room for its end
+    pub app_close_room : HasRoom s0 d (part_at s0 d (app a b)) → HasRoom s2 d (app_here s2 d r1 r2)
+    unfolding app_rest
+    app_close_room k =
+        let p = part_at s0 d a in
+        let q = second_at s0 (suc d) p b in
+        let n : length s2.wires.items ≡ length s0.wires.items + length p.wires + length q.wires =
+        grows_length s1 s2 q.wires q.nodes app_i.grows ∙ ap (λ m. m + length q.wires) (grows_length s0 s1 p.wires p.nodes h.grows) in
+        last_fits d (length s0.wires.items) _ _ p.wires q.wires app_rest.wires n (ap (λ q. length q.wires) app_path) k
+
     -- function, argument and the end are the whole
     pub app_builds : (s3 : Parts) (r : Placed) → Builds s2 s3 (app_here s2 d r1 r2) r → Builds s0 s3 (part_at s0 d (app a b)) r
     unfolding app_rest
@@ -228,6 +343,12 @@ module _ (s0 s1 : Parts) (d : ℕ) (t : TyTree) (m : TermTree) (r1 : Placed) (h 
       let n = grows_length s0 s1 p.wires p.nodes h.grows in
       let f = body_free_at s0 s1 s1 p r1 h.gives h.grows.context in
       λ k. lam_end (n k) d t (h.gives.type k) (h.gives.out k) (f k)
+
+  -- room for the whole is room for its end
+  pub lam_close_room : HasRoom s0 d (part_at s0 d (lam t m)) → HasRoom s1 d (lam_here s1 d t r1)
+  lam_close_room k =
+      let p = body_at s0 d t m in
+      behind_fits d (length s0.wires.items) _ _ p.wires _ (grows_length s0 s1 p.wires p.nodes h.grows) (ap (λ q. length q.wires) lam_path) k
 
   -- the body and the end are the whole
   pub lam_builds : (s2 : Parts) (r : Placed) → Builds s1 s2 (lam_here s1 d t r1) r → Builds s0 s2 (part_at s0 d (lam t m)) r
@@ -267,6 +388,12 @@ pub app_builds_at : (s0 s1 s2 s3 : Parts) (d d' : ℕ) (a b : TermTree) (r1 r2 r
     Builds s0 s3 (part_at s0 d (app a b)) r
 app_builds_at s0 s1 s2 s3 d d' a b r1 r2 r e h i j =
     app_builds s0 s1 d a b r1 h s2 r2 (subst (λ d'. Builds s1 s2 (part_at s1 d' b) r2) e i) s3 r j
+
+-- room for the whole is room for its end, where the argument's depth is told as a number of its own
+pub app_close_room_at : (s0 s1 s2 : Parts) (d d' : ℕ) (a b : TermTree) (r1 r2 : Placed) → d' ≡ suc d → Builds s0 s1 (part_at s0 d a) r1
+    → Builds s1 s2 (part_at s1 d' b) r2 → HasRoom s0 d (part_at s0 d (app a b)) → HasRoom s2 d (app_here s2 d r1 r2)
+app_close_room_at s0 s1 s2 d d' a b r1 r2 e h i k =
+    app_close_room s0 s1 d a b r1 h s2 r2 (subst (λ d'. Builds s1 s2 (part_at s1 d' b) r2) e i) k
 
 -- the same of a body whose depth is told as a number of its own: room for its end
 pub fix_close_room_at : (s0 s1 : Parts) (d d' : ℕ) (t : TyTree) (m : TermTree) (r1 : Placed) → d' ≡ suc d
