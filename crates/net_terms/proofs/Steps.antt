@@ -10,11 +10,11 @@ use Rattle.net_build.specs.declared.node.Node.TheVariants.{Ifz, Lam, App, BoxNod
 use Rattle.net_build.specs.Nets.{WireTree, value_wire, bang_wire}
 use Rattle.net_build.specs.NetOf.{Part, contract, doors, bound, bound_wire, domain, codomain, unary_part, double_part, ifz_part, lam_part}
 use Rattle.net_build.specs.NetOf.{fix_part, app_part}
-use Rattle.net_build.proofs.Count.{Aligned}
+use Rattle.net_build.proofs.Count.{Aligned, ends}
 use Rattle.net_terms.specs.declared.walk.Mark.{Mark}
 use Rattle.net_terms.specs.TermOf.{mark, mark_at, type_at, type_in, rest, pass, go_on, Read, read, one, two, three, reading}
-use Rattle.net_terms.proofs.Marking.{back, back_append, hit_same, Marked, marked_kept, set_here, set_elsewhere, shares, enters, weak_passes}
-use Rattle.net_terms.proofs.Marking.{body_marked}
+use Rattle.net_terms.proofs.Marking.{back, back_append, hit, hit_same, Marked, marked_kept, set_here, set_elsewhere, shares, enters}
+use Rattle.net_terms.proofs.Marking.{weak_passes, body_marked}
 use Rattle.net_terms.proofs.Loose.{hit_off, Loose, doors_loose, contract_loose, both_once, both_high, bound_once, bound_inside, bound_low}
 use Rattle.net_terms.proofs.Loose.{bound_loose}
 
@@ -107,6 +107,196 @@ size_six : (a b c d i : List WireTree) (x : WireTree)
     → length (a ++ (b ++ (c ++ (d ++ (i ++ x ∷ []))))) ≡ length a + (length b + (length c + (length d + (length i + 1))))
 size_six a b c d i x = omega (arith, length-append a (b ++ (c ++ (d ++ (i ++ x ∷ [])))), size_five b c d i x)
 
+-- of five, with one wire among them
+size_boxed : (a b c d : List WireTree) (y x : WireTree)
+    → length (a ++ (b ++ (c ++ (y ∷ (d ++ x ∷ []))))) ≡ length a + (length b + (length c + (1 + (length d + 1))))
+size_boxed a b c d y x = omega (
+  arith,
+  length-append a (b ++ (c ++ (y ∷ (d ++ x ∷ [])))),
+  length-append b (c ++ (y ∷ (d ++ x ∷ []))),
+  length-append c (y ∷ (d ++ x ∷ [])),
+  size_two d x,
+)
+
+-- The numbers behind each of four pieces of wires, one behind the other from n on, are at most m.
+record Within (n a b c d m : ℕ) : Type 0 where
+  first : n + a ≤ m
+  second : n + a + b ≤ m
+  third : n + a + b + c ≤ m
+  fourth : n + a + b + c + d ≤ m
+
+-- they are so where the whole list fits
+within : (l n a b c d r m : ℕ) → l ≡ a + (b + (c + (d + r))) → n + l ≤ m → Within n a b c d m
+within l n a b c d r m size room =
+    record { first = omega arith; second = omega arith; third = omega arith; fourth = omega arith }
+
+-- numbers are in order
+level : (n : ℕ) → n ≤ n
+level n = omega arith
+
+-- the next number is not before
+next : (n : ℕ) → n ≤ suc n
+next n = omega arith
+
+-- nor is a sum
+up : (n a : ℕ) → n ≤ n + a
+up n a = omega arith
+
+-- nor a sum of three
+up_two : (n a b : ℕ) → n ≤ n + a + b
+up_two n a b = omega arith
+
+-- what is past a later number is past an earlier one
+past : (n m y : ℕ) → n ≤ m → m ≤ y → n ≤ y
+past n m y u v = omega arith
+
+-- what is before an earlier number is before a later one
+before : (y n a : ℕ) → y < n → y < n + a
+before y n a u = omega arith
+
+-- the same, by a bound
+under : (y n m : ℕ) → y < n → n ≤ m → y < m
+under y n m u v = omega arith
+
+-- a bound on one length bounds another that is the same
+as_long : (n a b : ℕ) → b ≡ a → n ≤ a → n ≤ b
+as_long n a b e u = omega arith
+
+-- none here and none there
+both_none : (a b : ℕ) → a ≡ 0 → b ≡ 0 → a + b ≡ 0
+both_none a b u v = omega arith
+
+-- of at most one in all, one is there and none here
+none_here : (a b : ℕ) → 0 < b → a + b ≤ 1 → a ≡ 0
+none_here a b u v = omega arith
+
+-- one is here and none there
+none_there : (a b : ℕ) → a ≡ 1 → a + b ≤ 1 → b ≡ 0
+none_there a b u v = omega arith
+
+-- a wire before all of a list is none of them
+not_among : (n b v : ℕ) (f : List (Option ℕ)) → Loose n b f → v < n → (y : ℕ) → 0 < ends f y → hit v y ≡ 0
+not_among n b v f l j y u = hit_off v y (λ e. omega (arith, u, l.low y (omega (arith, e, j))))
+
+-- marks are as many as before where they are so after each of two steps
+same_count : (ms new last : List Mark) → length last ≡ length new → length new ≡ length ms → length last ≡ length ms
+same_count ms new last u v = u ∙ v
+
+-- What lists of wires from n on share keeps the marks below n, and so do two steps after it.
+kept_past : (n a b : ℕ) (f f' : List (Option ℕ)) (ms shared new last : List Mark) →
+    (here : Loose n (n + a) f) → (there : Loose (n + a) b f') →
+    (apart : (y : ℕ) → ends f y + ends f' y ≡ 0 → mark_at shared y ≡ mark_at ms y) →
+    (later : (y : ℕ) → y < n + a → mark_at new y ≡ mark_at shared y) →
+    (sooner : (y : ℕ) → y < n → mark_at last y ≡ mark_at new y) → (y : ℕ) → y < n → mark_at last y ≡ mark_at ms y
+kept_past n a b f f' ms shared new last here there apart later sooner y u =
+    let v = before y n a u in
+    sooner y u ∙ later y v ∙ apart y (both_none (ends f y) (ends f' y) (here.low y u) (there.low y v))
+
+-- what goes through doors keeps them, and so does a step after it
+kept_entered : (n b : ℕ) (f : List (Option ℕ)) (ms new last : List Mark) → Loose n b f →
+    (apart : (y : ℕ) → ends f y ≡ 0 → mark_at new y ≡ mark_at ms y) →
+    (sooner : (y : ℕ) → y < n → mark_at last y ≡ mark_at new y) → (y : ℕ) → y < n → mark_at last y ≡ mark_at ms y
+kept_entered n b f ms new last l apart sooner y u = sooner y u ∙ apart y (l.low y u)
+
+-- a binder's mark keeps them, and so does a step after it
+kept_bound : (n a : ℕ) (f : List (Option ℕ)) (ms last : List Mark) (m : Mark) → Loose n (n + a) f →
+    (sooner : (y : ℕ) → y < n → mark_at last y ≡ mark_at (slice_set ms (bound_wire (n + a) f) m) y) →
+    (y : ℕ) → y < n → mark_at last y ≡ mark_at ms y
+kept_bound n a f ms last m l sooner y u =
+    sooner y u ∙ set_elsewhere ms (bound_wire (n + a) f) y m (bound_low n (n + a) f l (up n a) y u)
+
+-- a binder's mark stays where only other wires are marked
+binder_kept : (f : List (Option ℕ)) (ms new : List Mark) (v : ℕ) (m : Mark) →
+    (apart : (y : ℕ) → ends f y ≡ 0 → mark_at new y ≡ mark_at (slice_set ms v m) y) →
+    hit v v + ends f v ≤ 1 → v < length ms → mark_at new v ≡ m
+binder_kept f ms new v m apart u j = apart v (none_there (hit v v) (ends f v) (hit_same v) u) ∙ set_here ms v m j
+
+-- two operands are read one after the other, behind what they share
+double_read : (ws : List WireTree) (h k around e w o o' : ℕ) (f : TermTree → TermTree → TermTree) (x : Node) (a b : TermTree)
+    (p q c more : List Node) (ms shared new last : List Mark) →
+    (step : (ns : List Node) (ms : List Mark) → reading ws (suc h) k around e w (x ∷ ns) ms ≡ two f (reading ws h k e e o)
+    (reading ws h k e e o' ns ms)) →
+    (passes : pass e e o' (back c (back q (back p more))) ms ≡ pass e e o' (back q (back p more)) shared) →
+    (second : reading ws h k e e o' (back q (back p more)) shared ≡ Some (read b (back p more) new)) →
+    (first : reading ws h k e e o (back p more) new ≡ Some (read a more last)) →
+    reading ws (suc h) k around e w (back (p ++ (q ++ (c ++ x ∷ []))) more) ms ≡ Some (read (f a b) more last)
+double_read ws h k around e w o o' f x a b p q c more ms shared new last step passes second first =
+    let ns = back q (back p more) in
+    ap (λ ns. reading ws (suc h) k around e w ns ms) (back_four p q c x more) ∙ step (back c ns) ms
+    ∙ ap (two f (reading ws h k e e o)) (reading_pass ws h k e e o' e e o' (back c ns) ns ms shared passes ∙ second)
+    ∙ ap (one (λ a. f a b)) first
+
+-- so are three, of which two share first
+ifz_read : (ws : List WireTree) (h k around e w o o' o'' : ℕ) (a b b' : TermTree) (c p q i j more : List Node)
+    (ms shared shared' new new' last : List Mark) →
+    (passes : pass e e o'' (back j (back i (back q (back p (back c more))))) ms
+    ≡ pass e e o'' (back i (back q (back p (back c more)))) shared) →
+    (passes' : pass e e o'' (back i (back q (back p (back c more)))) shared ≡ pass e e o'' (back q (back p (back c more))) shared') →
+    (third : reading ws h k e e o'' (back q (back p (back c more))) shared' ≡ Some (read b' (back p (back c more)) new)) →
+    (second : reading ws h k e e o' (back p (back c more)) new ≡ Some (read b (back c more) new')) →
+    (first : reading ws h k e e o (back c more) new' ≡ Some (read a more last)) →
+    reading ws (suc h) k around e w (back (c ++ (p ++ (q ++ (i ++ (j ++ Ifz o o' o'' w ∷ []))))) more) ms
+    ≡ Some (read (ifz a b b') more last)
+ifz_read ws h k around e w o o' o'' a b b' c p q i j more ms shared shared' new new' last passes passes' third second first =
+    let ns = back q (back p (back c more)) in
+    ap (λ ns. reading ws (suc h) k around e w ns ms) (back_six c p q i j (Ifz o o' o'' w) more)
+    ∙ same_met w (three ifz (reading ws h k e e o) (reading ws h k e e o') (reading ws h k e e o'' (back j (back i ns)) ms))
+    ∙ ap (three ifz (reading ws h k e e o) (reading ws h k e e o'))
+    (reading_pass ws h k e e o'' e e o'' (back j (back i ns)) ns ms shared' (passes ∙ passes') ∙ third)
+    ∙ ap (two (λ c p. ifz c p b') (reading ws h k e e o)) second ∙ ap (one (λ c. ifz c b b')) first
+
+-- a body is read under a binder
+lam_read : (ws : List WireTree) (h k around e w o v : ℕ) (a : TyTree) (m : TermTree) (p b more : List Node) (ms last : List Mark) →
+    (shown : domain (type_at ws w) ≡ a) →
+    (weak : pass e e o (back b (back p more)) (slice_set ms v (mark k e)) ≡ pass e e o (back p more) (slice_set ms v (mark k e))) →
+    (body : reading ws h (suc k) e e o (back p more) (slice_set ms v (mark k e)) ≡ Some (read m more last)) →
+    reading ws (suc h) k around e w (back (p ++ (b ++ Lam o v w ∷ [])) more) ms ≡ Some (read (lam a m) more last)
+lam_read ws h k around e w o v a m p b more ms last shown weak body =
+    let ns = back p more in
+    let ms' = slice_set ms v (mark k e) in
+    ap (λ ns. reading ws (suc h) k around e w ns ms) (back_three p b (Lam o v w) more)
+    ∙ same_met w (one (lam (domain (type_at ws w))) (reading ws h (suc k) e e o (back b ns) ms'))
+    ∙ ap (λ t. one (lam t) (reading ws h (suc k) e e o (back b ns) ms')) shown
+    ∙ ap (one (lam a)) (reading_pass ws h (suc k) e e o e e o (back b ns) ns ms' ms' weak ∙ body)
+
+-- and behind the doors of a box
+fix_read : (ws : List WireTree) (h k around e w o v : ℕ) (a : TyTree) (m : TermTree) (p b i more : List Node)
+    (ms entered last : List Mark) → (shown : type_at ws w ≡ a) →
+    (passes : pass e (suc w) o (back i (back b (back p more))) (slice_set ms v (mark k (suc w)))
+    ≡ pass e (suc w) o (back b (back p more)) entered) →
+    (weak : pass e (suc w) o (back b (back p more)) entered ≡ pass e (suc w) o (back p more) entered) →
+    (body : reading ws h (suc k) e (suc w) o (back p more) entered ≡ Some (read m more last)) →
+    reading ws (suc h) k around e w (back (p ++ (b ++ (i ++ FixBox o v w ∷ []))) more) ms ≡ Some (read (fix a m) more last)
+fix_read ws h k around e w o v a m p b i more ms entered last shown passes weak body =
+    let ns = back p more in
+    let ms' = slice_set ms v (mark k (suc w)) in
+    let held = back i (back b ns) in
+    ap (λ ns. reading ws (suc h) k around e w ns ms) (back_four p b i (FixBox o v w) more)
+    ∙ same_met w (one (fix (type_at ws w)) (reading ws h (suc k) e (suc w) o held ms'))
+    ∙ ap (λ t. one (fix t) (reading ws h (suc k) e (suc w) o held ms')) shown
+    ∙ ap (one (fix a)) (reading_pass ws h (suc k) e (suc w) o e (suc w) o held ns ms' entered (passes ∙ weak) ∙ body)
+
+-- an argument is read in its box, and then the function
+app_read : (ws : List WireTree) (h k around e w o o' z : ℕ) (a b : TermTree) (p q i c more : List Node)
+    (ms shared entered new last : List Mark) →
+    (passes : pass e e z (back c (BoxNode o' z ∷ back i (back q (back p more)))) ms
+    ≡ pass e e z (BoxNode o' z ∷ back i (back q (back p more))) shared) →
+    (enter : pass e (suc z) o' (back i (back q (back p more))) shared ≡ pass e (suc z) o' (back q (back p more)) entered) →
+    (second : reading ws h k e (suc z) o' (back q (back p more)) entered ≡ Some (read b (back p more) new)) →
+    (first : reading ws h k e e o (back p more) new ≡ Some (read a more last)) →
+    reading ws (suc h) k around e w (back (p ++ (q ++ (i ++ (BoxNode o' z ∷ (c ++ App o z w ∷ []))))) more) ms
+    ≡ Some (read (app a b) more last)
+app_read ws h k around e w o o' z a b p q i c more ms shared entered new last passes enter second first =
+    let ns = back q (back p more) in
+    let y = BoxNode o' z in
+    let ns' = back c (y ∷ back i ns) in
+    let box : pass e e z (y ∷ back i ns) shared ≡ pass e (suc z) o' (back i ns) shared =
+    ap (λ b. if b then pass e (suc z) o' (back i ns) shared else rest e z (y ∷ back i ns) shared) (eq-eqb z z refl) in
+    ap (λ ns. reading ws (suc h) k around e w ns ms) (back_boxed p q i c y (App o z w) more)
+    ∙ same_met w (two app (reading ws h k e e o) (reading ws h k e e z ns' ms))
+    ∙ ap (two app (reading ws h k e e o)) (reading_pass ws h k e e z e (suc z) o' ns' ns ms entered (passes ∙ box ∙ enter) ∙ second)
+    ∙ ap (one (λ a. app a b)) first
+
 -- one operand
 pub unary_reads : (ws : List WireTree) (f : TermTree → TermTree) (node : ℕ → ℕ → Node) (t : TyTree) (h n d : ℕ) (g : List TyTree)
     (m : TermTree) (p : Part) →
@@ -117,7 +307,9 @@ unary_reads ws f node t h n d g m p step ip around e more ms mk room =
     let w = n + length p.wires in
     let x = node p.out w in
     let k = length g in
-    let r = ip e e more ms mk (omega (arith, room, size_two p.wires (value_wire d t))) in
+    let size = size_two p.wires (value_wire d t) in
+    let fit = within (length (unary_part node t n d p).wires) n (length p.wires) 1 0 0 0 (length ms) size room in
+    let r = ip e e more ms mk fit.first in
     record {
       marks = r.marks;
       is = ap (λ ns. reading ws (suc h) k around e w ns ms) (back_two p.nodes x more) ∙ step p.out w k around e (back p.nodes more) ms
@@ -141,27 +333,26 @@ pub double_reads : (ws : List WireTree) (f : TermTree → TermTree → TermTree)
     Readable ws h g a n p → Readable ws h g b (n + length p.wires) q → Readable ws (suc h) g (f a b) n (double_part node t n d g p q)
 double_reads ws f node t h n d g a b p q step lp lq ip iq around e more ms mk room =
     let k = length g in
-    let m = n + length p.wires + length q.wires in
+    let n' = n + length p.wires in
+    let m = n' + length q.wires in
     let c = contract m d g p.free q.free in
     let w = m + length c.wires in
-    let x = node p.out q.out w in
-    let z = size_four p.wires q.wires c.wires (value_wire d t) in
-    let s = shares m d e e g p.free q.free (back q.nodes (back p.nodes more)) ms mk (both_once n (n + length p.wires) m p.free q.free lp lq)
-    (both_high n (n + length p.wires) m m p.free q.free lp lq (omega arith) (omega arith))
-    (both_high n (n + length p.wires) m (length ms) p.free q.free lp lq (omega (arith, room, z)) (omega (arith, room, z))) in
-    let rq = iq e e (back p.nodes more) s.marks s.right (omega (arith, room, z, s.count)) in
-    let rp = ip e e more rq.marks (behind n (n + length p.wires) e g p.free s.marks rq.marks lp rq.kept s.left)
-    (omega (arith, room, z, s.count, rq.count)) in
+    let size = size_four p.wires q.wires c.wires (value_wire d t) in
+    let l = length (double_part node t n d g p q).wires in
+    let fit = within l n (length p.wires) (length q.wires) (length c.wires) 1 0 (length ms) size room in
+    let s = shares m d e e g p.free q.free (back q.nodes (back p.nodes more)) ms mk (both_once n n' m p.free q.free lp lq)
+    (both_high n n' m m p.free q.free lp lq (up n' (length q.wires)) (level m))
+    (both_high n n' m (length ms) p.free q.free lp lq fit.first fit.second) in
+    let rq = iq e e (back p.nodes more) s.marks s.right (as_long m (length ms) (length s.marks) s.count fit.second) in
+    let count = same_count ms s.marks rq.marks rq.count s.count in
+    let rp = ip e e more rq.marks (behind n n' e g p.free s.marks rq.marks lp rq.kept s.left)
+    (as_long n' (length ms) (length rq.marks) count fit.first) in
     record {
       marks = rp.marks;
-      is = ap (λ ns. reading ws (suc h) k around e w ns ms) (back_four p.nodes q.nodes c.nodes x more)
-          ∙ step p.out q.out w k around e (back c.nodes (back q.nodes (back p.nodes more))) ms
-          ∙ ap (two f (reading ws h k e e p.out))
-          (reading_pass ws h k e e q.out e e q.out (back c.nodes (back q.nodes (back p.nodes more))) (back q.nodes (back p.nodes more)) ms
-          s.marks (s.passes q.out) ∙ rq.is)
-          ∙ ap (one (λ a. f a b)) rp.is;
-      kept = λ y l. rp.kept y l ∙ rq.kept y (omega (arith, l)) ∙ s.kept y (omega (arith, lp.low y l, lq.low y (omega (arith, l))));
-      count = rp.count ∙ rq.count ∙ s.count;
+      is = double_read ws h k around e w p.out q.out f (node p.out q.out w) a b p.nodes q.nodes c.nodes more ms s.marks rq.marks rp.marks
+          (step p.out q.out w k around e) (s.passes q.out) rq.is rp.is;
+      kept = kept_past n (length p.wires) m p.free q.free ms s.marks rq.marks rp.marks lp lq s.kept rq.kept rp.kept;
+      count = same_count ms rq.marks rp.marks rp.count count;
     }
 
 -- condition, then and else
@@ -180,36 +371,36 @@ ifz_reads ws h n d g a b b' c p q ac ap' aq lc lp lq ic ip iq around e more ms m
     let m' = m + length i.wires in
     let j = contract m' d g c.free i.free in
     let w = m' + length j.wires in
-    let x = Ifz c.out p.out q.out w in
-    let z = size_six c.wires p.wires q.wires i.wires j.wires (value_wire d nat) in
-    let l = contract_loose m d n' n'' g p.free q.free ap' aq lp lq (omega arith) (omega arith) in
+    let size = size_six c.wires p.wires q.wires i.wires j.wires (value_wire d nat) in
+    let long = length (ifz_part n d g c p q).wires in
+    let r = length j.wires + 1 in
+    let fit = within long n (length c.wires) (length p.wires) (length q.wires) (length i.wires) r (length ms) size room in
+    let after_p = past n' m m' (up_two n' (length p.wires) (length q.wires)) (up m (length i.wires)) in
+    let l = contract_loose m d n' n'' g p.free q.free ap' aq lp lq (up n' (length p.wires)) (up n'' (length q.wires)) in
     let ns = back c.nodes more in
     let ns' = back q.nodes (back p.nodes ns) in
     let s = shares m' d e e g c.free i.free (back i.nodes ns') ms mk (both_once n n' m' c.free i.free lc l)
-    (both_high n n' m' m' c.free i.free lc l (omega arith) (omega arith))
-    (both_high n n' m' (length ms) c.free i.free lc l (omega (arith, room, z)) (omega (arith, room, z))) in
+    (both_high n n' m' m' c.free i.free lc l after_p (level m'))
+    (both_high n n' m' (length ms) c.free i.free lc l fit.first fit.fourth) in
     let s' = shares m d e e g p.free q.free ns' s.marks s.right (both_once n' n'' m p.free q.free lp lq)
-    (both_high n' n'' m m p.free q.free lp lq (omega arith) (omega arith))
-    (both_high n' n'' m (length s.marks) p.free q.free lp lq (omega (arith, room, z, s.count)) (omega (arith, room, z, s.count))) in
-    let rq = iq e e (back p.nodes ns) s'.marks s'.right (omega (arith, room, z, s.count, s'.count)) in
+    (both_high n' n'' m m p.free q.free lp lq (up n'' (length q.wires)) (level m))
+    (both_high n' n'' m (length s.marks) p.free q.free lp lq (as_long n'' (length ms) (length s.marks) s.count fit.second)
+    (as_long m (length ms) (length s.marks) s.count fit.third)) in
+    let count' = same_count ms s.marks s'.marks s'.count s.count in
+    let rq = iq e e (back p.nodes ns) s'.marks s'.right (as_long m (length ms) (length s'.marks) count' fit.third) in
+    let count_q = same_count ms s'.marks rq.marks rq.count count' in
     let rp = ip e e ns rq.marks (behind n' n'' e g p.free s'.marks rq.marks lp rq.kept s'.left)
-    (omega (arith, room, z, s.count, s'.count, rq.count)) in
-    let kept : (y : ℕ) → y < n'
-    → mark_at rp.marks y ≡ mark_at s.marks y =
-    λ y u. rp.kept y u ∙ rq.kept y (omega (arith, u)) ∙ s'.kept y (omega (arith, lp.low y u, lq.low y (omega (arith, u)))) in
+    (as_long n'' (length ms) (length rq.marks) count_q fit.second) in
+    let count_p = same_count ms rq.marks rp.marks rp.count count_q in
+    let kept = kept_past n' (length p.wires) m p.free q.free s.marks s'.marks rq.marks rp.marks lp lq s'.kept rq.kept rp.kept in
     let rc = ic e e more rp.marks (behind n n' e g c.free s.marks rp.marks lc kept s.left)
-    (omega (arith, room, z, s.count, s'.count, rq.count, rp.count)) in
+    (as_long n' (length ms) (length rp.marks) count_p fit.first) in
     record {
       marks = rc.marks;
-      is = ap (λ ns. reading ws (suc h) k around e w ns ms) (back_six c.nodes p.nodes q.nodes i.nodes j.nodes x more)
-          ∙ same_met w (three ifz (reading ws h k e e c.out) (reading ws h k e e p.out)
-          (reading ws h k e e q.out (back j.nodes (back i.nodes ns')) ms))
-          ∙ ap (three ifz (reading ws h k e e c.out) (reading ws h k e e p.out))
-          (reading_pass ws h k e e q.out e e q.out (back j.nodes (back i.nodes ns')) ns' ms s'.marks (s.passes q.out ∙ s'.passes q.out)
-          ∙ rq.is)
-          ∙ ap (two (λ c p. ifz c p b') (reading ws h k e e c.out)) rp.is ∙ ap (one (λ c. ifz c b b')) rc.is;
-      kept = λ y u. rc.kept y u ∙ kept y (omega (arith, u)) ∙ s.kept y (omega (arith, lc.low y u, l.low y (omega (arith, u))));
-      count = rc.count ∙ rp.count ∙ rq.count ∙ s'.count ∙ s.count;
+      is = ifz_read ws h k around e w c.out p.out q.out a b b' c.nodes p.nodes q.nodes i.nodes j.nodes more
+          ms s.marks s'.marks rq.marks rp.marks rc.marks (s.passes q.out) (s'.passes q.out) rq.is rp.is rc.is;
+      kept = kept_past n (length c.wires) m' c.free i.free ms s.marks rp.marks rc.marks lc l s.kept kept rc.kept;
+      count = same_count ms rp.marks rc.marks rc.count count_p;
     }
 
 -- a body under a binder
@@ -222,27 +413,24 @@ lam_reads ws h n d a g m p l held ip around e more ms mk room =
     let b = bound o d a p.free in
     let w = o + length b.wires in
     let v = bound_wire o p.free in
-    let x = Lam p.out v w in
-    let z = size_three p.wires b.wires (value_wire d (arrow a p.type)) in
+    let size = size_three p.wires b.wires (value_wire d (arrow a p.type)) in
+    let fit = within (length (lam_part n d a p).wires) n (length p.wires) (length b.wires) 1 0 0 (length ms) size room in
     let ns = back p.nodes more in
     let ms' = slice_set ms v (mark k e) in
     let held' = held_right ws o b.wires (value_wire d (arrow a p.type) ∷ [])
     (held_right ws n p.wires (b.wires ++ value_wire d (arrow a p.type) ∷ []) held) in
     let ty : domain (type_at ws w) ≡ a = ap (λ o. domain (type_in o)) held'.0 in
-    let u = marked_kept e g b.free ms ms' (λ y u. set_elsewhere ms v y (mark k e) (omega (arith, u, bound_once n o d a p.free l y))) mk in
+    let u = marked_kept e g b.free ms ms'
+    (λ y u. set_elsewhere ms v y (mark k e) (none_here (hit v y) (ends b.free y) u (bound_once n o d a p.free l y))) mk in
     let c = length-set ms v (mark k e) in
-    let r = ip e e more ms'
-    (body_marked o d e a g p.free ms' u (set_here ms v (mark k e) (omega (arith, room, z, bound_inside n o d a p.free l))))
-    (omega (arith, room, z, c)) in
+    let inside_v = under v (o + length b.wires) (length ms) (bound_inside n o d a p.free l) fit.second in
+    let r = ip e e more ms' (body_marked o d e a g p.free ms' u (set_here ms v (mark k e) inside_v))
+    (as_long o (length ms) (length ms') c fit.first) in
     record {
       marks = r.marks;
-      is = ap (λ ns. reading ws (suc h) k around e w ns ms) (back_three p.nodes b.nodes x more)
-          ∙ same_met w (one (lam (domain (type_at ws w))) (reading ws h (suc k) e e p.out (back b.nodes ns) ms'))
-          ∙ ap (λ t. one (lam t) (reading ws h (suc k) e e p.out (back b.nodes ns) ms')) ty
-          ∙ ap (one (lam a)) (reading_pass ws h (suc k) e e p.out e e p.out (back b.nodes ns) ns ms' ms'
-          (weak_passes o d e e p.out a p.free ns ms') ∙ r.is);
-      kept = λ y u. r.kept y u ∙ set_elsewhere ms v y (mark k e) (bound_low n o p.free l (omega arith) y u);
-      count = r.count ∙ c;
+      is = lam_read ws h k around e w p.out v a m p.nodes b.nodes more ms r.marks ty (weak_passes o d e e p.out a p.free ns ms') r.is;
+      kept = kept_bound n (length p.wires) p.free ms r.marks (mark k e) l r.kept;
+      count = same_count ms ms' r.marks r.count c;
     }
 
 -- a body in a box of its own
@@ -257,8 +445,9 @@ fix_reads ws h n d g a m p l held ip around e more ms mk room =
     let i = doors o' d g b.free in
     let w = o' + length i.wires in
     let v = bound_wire o p.free in
-    let x = FixBox p.out v w in
-    let z = size_four p.wires b.wires i.wires (value_wire d a) in
+    let size = size_four p.wires b.wires i.wires (value_wire d a) in
+    let long = length (fix_part n d g a p).wires in
+    let fit = within long n (length p.wires) (length b.wires) (length i.wires) 1 0 (length ms) size room in
     let ns = back p.nodes more in
     let e' = suc w in
     let at = mark k e' in
@@ -272,21 +461,20 @@ fix_reads ws h n d g a m p l held ip around e more ms mk room =
     let lb = bound_loose n o (suc d) a p.free l in
     let li = doors_loose o' d g b.free in
     let u = marked_kept e g i.free ms ms'
-    (λ y u. set_elsewhere ms v y at (hit_off v y (λ j. omega (arith, u, j, inside_v, li.low y (omega (arith, j, inside_v)))))) mk in
-    let t = enters o' d e e' g b.free (back b.nodes ns) ms' u lb.once (λ y j. lb.high y (omega (arith, j)))
-    (λ y j. lb.high y (omega (arith, j, room, z, c))) in
-    let at_v : mark_at t.marks v ≡ at =
-    t.kept v (omega (arith, hit_same v, bound_once n o (suc d) a p.free l v)) ∙ set_here ms v at (omega (arith, room, z, inside_v)) in
-    let r = ip e e' more t.marks (body_marked o (suc d) e' a g p.free t.marks t.within at_v) (omega (arith, room, z, c, t.count)) in
+    (λ y u. set_elsewhere ms v y at (not_among o' (o' + length i.wires) v i.free li inside_v y u)) mk in
+    let t = enters o' d e e' g b.free (back b.nodes ns) ms' u lb.once (λ y j. lb.high y (past o o' y (up o (length b.wires)) j))
+    (λ y j. lb.high y (past o (length ms') y (as_long o (length ms) (length ms') c fit.first) j)) in
+    let fits = under v o' (length ms) inside_v fit.second in
+    let at_v = binder_kept b.free ms t.marks v at t.kept (bound_once n o (suc d) a p.free l v) fits in
+    let count = same_count ms ms' t.marks t.count c in
+    let r = ip e e' more t.marks (body_marked o (suc d) e' a g p.free t.marks t.within at_v)
+    (as_long o (length ms) (length t.marks) count fit.first) in
     record {
       marks = r.marks;
-      is = ap (λ ns. reading ws (suc h) k around e w ns ms) (back_four p.nodes b.nodes i.nodes x more)
-          ∙ same_met w (one (fix (type_at ws w)) (reading ws h (suc k) e e' p.out (back i.nodes (back b.nodes ns)) ms'))
-          ∙ ap (λ t. one (fix t) (reading ws h (suc k) e e' p.out (back i.nodes (back b.nodes ns)) ms')) ty
-          ∙ ap (one (fix a)) (reading_pass ws h (suc k) e e' p.out e e' p.out (back i.nodes (back b.nodes ns)) ns ms' t.marks
-          (t.passes p.out ∙ weak_passes o (suc d) e e' p.out a p.free ns t.marks) ∙ r.is);
-      kept = λ y u. r.kept y u ∙ t.kept y (lb.low y u) ∙ set_elsewhere ms v y at (bound_low n o p.free l (omega arith) y u);
-      count = r.count ∙ t.count ∙ c;
+      is = fix_read ws h k around e w p.out v a m p.nodes b.nodes i.nodes more ms t.marks r.marks ty (t.passes p.out)
+          (weak_passes o (suc d) e e' p.out a p.free ns t.marks) r.is;
+      kept = kept_bound n (length p.wires) p.free ms r.marks at l (kept_entered n o b.free ms' t.marks r.marks lb t.kept r.kept);
+      count = same_count ms t.marks r.marks r.count count;
     }
 
 -- a function, and its argument in a box
@@ -301,42 +489,31 @@ app_reads ws h n d g a b p q lp lq ip iq around e more ms mk room =
     let o = m + length i.wires in
     let c = contract (suc o) d g p.free i.free in
     let w = suc o + length c.wires in
-    let x = App p.out o w in
     let y = BoxNode q.out o in
     let e' = suc o in
     let bang = bang_wire d (domain p.type) in
     let last = value_wire d (codomain p.type) in
-    let z : length (p.wires ++ (q.wires ++ (i.wires ++ (bang ∷ (c.wires ++ last ∷ []))))) ≡ length p.wires +
-    (length q.wires + (length i.wires + (1 + (length c.wires + 1)))) =
-    omega (
-      arith,
-      length-append p.wires (q.wires ++ (i.wires ++ (bang ∷ (c.wires ++ last ∷ [])))),
-      length-append q.wires (i.wires ++ (bang ∷ (c.wires ++ last ∷ []))),
-      length-append i.wires (bang ∷ (c.wires ++ last ∷ [])),
-      size_two c.wires last,
-    ) in
+    let size = size_boxed p.wires q.wires i.wires c.wires bang last in
+    let long = length (app_part n d g p q).wires in
+    let fit = within long n (length p.wires) (length q.wires) (length i.wires) 1 (length c.wires + 1) (length ms) size room in
     let li = doors_loose m d g q.free in
-    let li' : Loose n' o i.free = record { once = li.once; low = λ y u. li.low y (omega (arith, u)); high = li.high } in
+    let li' : Loose n' o i.free = record { once = li.once; low = λ y u. li.low y (before y n' (length q.wires) u); high = li.high } in
     let ns = back p.nodes more in
     let ns' = back q.nodes ns in
     let s = shares (suc o) d e e g p.free i.free (y ∷ back i.nodes ns') ms mk (both_once n n' o p.free i.free lp li')
-    (both_high n n' o (suc o) p.free i.free lp li' (omega arith) (omega arith))
-    (both_high n n' o (length ms) p.free i.free lp li' (omega (arith, room, z)) (omega (arith, room, z))) in
-    let t = enters m d e e' g q.free ns' s.marks s.right lq.once lq.high (λ y j. lq.high y (omega (arith, j, room, z, s.count))) in
-    let rq = iq e e' ns t.marks t.within (omega (arith, room, z, s.count, t.count)) in
-    let box : pass e e o (y ∷ back i.nodes ns') s.marks ≡ pass e e' q.out (back i.nodes ns') s.marks =
-    ap (λ b. if b then pass e e' q.out (back i.nodes ns') s.marks else rest e o (y ∷ back i.nodes ns') s.marks) (eq-eqb o o refl) in
-    let kept : (y : ℕ) → y < n' → mark_at rq.marks y ≡ mark_at s.marks y = λ y u. rq.kept y u ∙ t.kept y (lq.low y u) in
+    (both_high n n' o (suc o) p.free i.free lp li' (past n' o (suc o) (up_two n' (length q.wires) (length i.wires)) (next o)) (next o))
+    (both_high n n' o (length ms) p.free i.free lp li' fit.first fit.third) in
+    let room_s = as_long m (length ms) (length s.marks) s.count fit.second in
+    let t = enters m d e e' g q.free ns' s.marks s.right lq.once lq.high (λ y j. lq.high y (past m (length s.marks) y room_s j)) in
+    let rq = iq e e' ns t.marks t.within (as_long m (length s.marks) (length t.marks) t.count room_s) in
+    let count = same_count ms t.marks rq.marks rq.count (same_count ms s.marks t.marks t.count s.count) in
+    let kept = kept_entered n' m q.free s.marks t.marks rq.marks lq t.kept rq.kept in
     let rp = ip e e more rq.marks (behind n n' e g p.free s.marks rq.marks lp kept s.left)
-    (omega (arith, room, z, s.count, t.count, rq.count)) in
+    (as_long n' (length ms) (length rq.marks) count fit.first) in
     record {
       marks = rp.marks;
-      is = ap (λ ns. reading ws (suc h) k around e w ns ms) (back_boxed p.nodes q.nodes i.nodes c.nodes y x more)
-          ∙ same_met w (two app (reading ws h k e e p.out) (reading ws h k e e o (back c.nodes (y ∷ back i.nodes ns')) ms))
-          ∙ ap (two app (reading ws h k e e p.out))
-          (reading_pass ws h k e e o e e' q.out (back c.nodes (y ∷ back i.nodes ns')) ns' ms t.marks (s.passes o ∙ box ∙ t.passes q.out)
-          ∙ rq.is)
-          ∙ ap (one (λ a. app a b)) rp.is;
-      kept = λ y u. rp.kept y u ∙ kept y (omega (arith, u)) ∙ s.kept y (omega (arith, lp.low y u, li.low y (omega (arith, u))));
-      count = rp.count ∙ rq.count ∙ t.count ∙ s.count;
+      is = app_read ws h k around e w p.out q.out o a b p.nodes q.nodes i.nodes c.nodes more ms s.marks t.marks rq.marks rp.marks
+          (s.passes o) (t.passes q.out) rq.is rp.is;
+      kept = kept_past n (length p.wires) o p.free i.free ms s.marks rq.marks rp.marks lp li' s.kept kept rp.kept;
+      count = same_count ms rq.marks rp.marks rp.count count;
     }
