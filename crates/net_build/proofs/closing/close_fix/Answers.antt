@@ -1,3 +1,5 @@
+use Rattle.std.proofs.lemmas.Grind.{common_steps}
+use Rattle.std.proofs.Common.{rules}
 use Rattle.std.proofs.Common.{◌≡◌, suc, ◌+◌, ap, subst, arith}
 use Rattle.std.proofs.lemmas.Result.{IfOk-weaker}
 use Rattle.pcf_values.specs.Views.{ty_of}
@@ -18,3 +20,18 @@ returns c =
     (FixBox c.args.body.out c.in_ok-variable.variable c.next.result) x b c.in_ok-free.ensures c.in_ok-copy.ensures
     (ap (FixBox c.args.body.out c.in_ok-variable.variable) c.next.ensures) f)
     c.finish.ensures
+
+pub doors-requires-clause-falling : goal.doors-requires-clause-falling
+doors-requires-clause-falling c = search rules
+
+pub doors-requires-clause-room : goal.doors-requires-clause-room
+doors-requires-clause-room c = grind (arith, common_steps)
+
+pub bind-requires-clause-falling : goal.bind-requires-clause-falling
+bind-requires-clause-falling c = search rules
+
+pub bind-requires-clause-room : goal.bind-requires-clause-room
+bind-requires-clause-room c = search rules
+
+pub next-requires : goal.next-requires
+next-requires c = grind (arith, common_steps)

@@ -1,3 +1,5 @@
+use Rattle.std.proofs.lemmas.Grind.{common_steps}
+use Rattle.std.proofs.Common.{arith}
 use Rattle.std.proofs.Common.{ap}
 use Rattle.std.proofs.lemmas.Result.{IfOk-weaker}
 use Rattle.net_build.specs.declared.node.Node.TheVariants.{Ifz}
@@ -12,3 +14,12 @@ returns c =
     (Ifz c.args.test.out c.args.then.out c.args.otherwise.out c.next.result) x c.in_ok-branches.ensures c.in_ok-free.ensures
     (ap (Ifz c.args.test.out c.args.then.out c.args.otherwise.out) c.next.ensures) f)
     c.finish.ensures
+
+pub contract-requires-clause-room : goal.contract-requires-clause-room
+contract-requires-clause-room c = grind (arith, common_steps)
+
+pub contract-requires-2-clause-room : goal.contract-requires-2-clause-room
+contract-requires-2-clause-room c = grind (arith, common_steps)
+
+pub next-requires : goal.next-requires
+next-requires c = grind (arith, common_steps)

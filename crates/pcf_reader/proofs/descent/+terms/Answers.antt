@@ -12,3 +12,12 @@ parens-returns-in_ok-take-in-Comma-clause-goes t c =
     let behind : resume (begin_expr (in_parens c.args.at k)) c.args.reader.now ≡ resume
     (begin_expr (in_second c.args.at (part_of c.in_ok-first.first) k)) c.take-in-Comma.new.self = search rules in
     gives_from _ _ _ c.second_of.result behind (c.second_of.ensures.goes k e)
+
+pub application-returns-in_err-argument-clause-goes : goal.application-returns-in_err-argument-clause-goes
+application-returns-in_err-argument-clause-goes t c = search rules
+
+pub application-loop-alloc-preserved : goal.application-loop-alloc-preserved
+application-loop-alloc-preserved t c = search rules
+
+pub sum-loop-reader-preserved-in-Plus : goal.sum-loop-reader-preserved-in-Plus
+sum-loop-reader-preserved-in-Plus t c = search rules

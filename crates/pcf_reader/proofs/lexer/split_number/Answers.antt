@@ -52,3 +52,6 @@ loop-first-preserved c =
             ∙ ap (λ i. lex (chars c.in-Some.more.now) i (in_number start (10 * n + d))) (omega (arith, l, short)),
       ),
     )
+
+pub with_digit-value-requires : goal.with_digit-value-requires
+with_digit-value-requires c = search rules
