@@ -1,5 +1,5 @@
 -- Each form of the translation hands on the results of its form of term.
-use Rattle.std.proofs.Common.{◌≡◌, ℕ, zero, suc, ◌+◌, ◌<◌, refl, sym, ap, ◌∙◌, subst, arith}
+use Rattle.std.proofs.Common.{◌≡◌, ℕ, zero, suc, ◌+◌, ◌<◌, ◌≤◌, refl, sym, ap, ◌∙◌, subst, arith}
 use Rattle.pcf_values.specs.declared.val.Val.{Val}
 use Rattle.pcf_values.specs.declared.val.Val.TheVariants.{Number, Overflow}
 use Rattle.pcf_values.specs.Values.{val_succ, val_pred, Op, val_op, at_zero}
@@ -98,6 +98,58 @@ ifz_k p q = ifz (var 0) (app p (var 1)) (app q (var 1))
 abbrev app_k : TermTree
 app_k = app (app (var 1) (var 0)) (var 2)
 
+-- a sum of parts of a depth is within the bound that the depth is within
+one_within : (i k n r : ℕ) → i + k ≤ n → i ≡ suc r → r + k ≤ n
+one_within i k n r l q = omega arith
+
+-- and of two parts
+two_within : (i k n r b : ℕ) → i + k ≤ n → i ≡ suc (r + b) → r + (b + k) ≤ n
+two_within i k n r b l q = omega arith
+
+-- the second of two parts alone
+rest_within : (i k n r b : ℕ) → i + k ≤ n → i ≡ suc (r + b) → b + k ≤ n
+rest_within i k n r b l q = omega arith
+
+-- and of three parts
+three_within : (i k n r b j : ℕ) → i + k ≤ n → i ≡ suc (r + b + j) → r + suc (b + j + k) ≤ n
+three_within i k n r b j l q = omega arith
+
+-- the second and the third of three parts alone
+last_within : (i k n r b j : ℕ) → i + k ≤ n → i ≡ suc (r + b + j) → b + (j + k) ≤ n
+last_within i k n r b j l q = omega arith
+
+-- a sum's last part is at most the sum
+last_most : (b k : ℕ) → k ≤ b + k
+last_most b k = omega arith
+
+-- and the last two of three parts are less than what is left after the first
+last_less : (b j k : ℕ) → j + k < suc (b + j + k)
+last_less b j k = omega arith
+
+-- what falls from a bound stays within it
+under_within : (z i n : ℕ) → z < i → i ≤ n → z ≤ n
+under_within z i n q l = omega arith
+
+-- a number is at most itself
+itself : (a : ℕ) → a ≤ a
+itself a = omega arith
+
+-- what is less is at most as much
+less_most : (a b : ℕ) → a < b → a ≤ b
+less_most a b l = omega arith
+
+-- a part is less than what it is a part of
+part_below : (z i j : ℕ) → z ≡ suc (i + j) → j < z
+part_below z i j q = omega arith
+
+-- two steps that fall, after one another
+falls_twice : (a b c : ℕ) → c < b → b < a → c < a
+falls_twice a b c q p = omega arith
+
+-- three steps
+falls_once_more : (a b c d : ℕ) → d < c → c < b → b < a → d < a
+falls_once_more a b c d r q p = falls_twice a b d (falls_twice b c d r q) p
+
 pub succ_hands : (t : TyTree) (n : ℕ) (m : TermTree) (s : Env) (c : TermTree) → AllClosed s →
     ((x : TermTree) → Closed x → Good nat n m (close zero (cons x s) c)) →
     Good nat n (succ_of m) (close zero s (lam t (app c (lam nat succ_k))))
@@ -106,18 +158,18 @@ succ_hands t n m s c cs h = record {
       let (r, v, dm, q, e) = by_succ_inv d in
       fwd (app (close zero s (lam t (app c (lam nat succ_k)))) x) (app (close zero (cons x s) c) (close zero (cons x s) (lam nat succ_k)))
       (value a) (enter t s (app c (lam nat succ_k)) x cs)
-      ((h x cx).forth r k (value v) (omega arith) dm (close zero (cons x s) (lam nat succ_k))
+      ((h x cx).forth r k (value v) (one_within i k n r l q) dm (close zero (cons x s) (lam nat succ_k))
       (close_closed (lam nat succ_k) (cons x s) (cons_closed x s cx cs)) a
       (λ y g. fwd (app (close zero (cons x s) (lam nat succ_k)) y) (app x (succ_of y)) (value a)
       (enter nat (cons x s) succ_k y (cons_closed x s cx cs))
       (f (succ_of y) (subst (λ w. Stands nat k w (succ_of y)) (sym e) (succ_stands k v y g)))));
   back = λ i l x cx a d.
       let (z, q, d1) = (enter t s (app c (lam nat succ_k)) x cs).back i (value a) d in
-      let (w, y, j, hm, g, q1, d2) = (h x cx).back z (omega arith) (close zero (cons x s) (lam nat succ_k))
+      let (w, y, j, hm, g, q1, d2) = (h x cx).back z (under_within z i n q l) (close zero (cons x s) (lam nat succ_k))
       (close_closed (lam nat succ_k) (cons x s) (cons_closed x s cx cs)) a d1 in
       let (z2, q2, d3) = (enter nat (cons x s) succ_k y (cons_closed x s cx cs)).back j (value a) d2 in
       let (u, hu, gu) = succ_result z2 m w y hm g in
-      (u, succ_of y, z2, hu, gu, omega arith, d3);
+      (u, succ_of y, z2, hu, gu, falls_twice i j z2 q2 (falls_twice i z j q1 q), d3);
 }
 
 pub pred_hands : (t : TyTree) (n : ℕ) (m : TermTree) (s : Env) (c : TermTree) → AllClosed s →
@@ -128,18 +180,18 @@ pred_hands t n m s c cs h = record {
       let (r, v, dm, q, e) = by_pred_inv d in
       fwd (app (close zero s (lam t (app c (lam nat pred_k)))) x) (app (close zero (cons x s) c) (close zero (cons x s) (lam nat pred_k)))
       (value a) (enter t s (app c (lam nat pred_k)) x cs)
-      ((h x cx).forth r k (value v) (omega arith) dm (close zero (cons x s) (lam nat pred_k))
+      ((h x cx).forth r k (value v) (one_within i k n r l q) dm (close zero (cons x s) (lam nat pred_k))
       (close_closed (lam nat pred_k) (cons x s) (cons_closed x s cx cs)) a
       (λ y g. fwd (app (close zero (cons x s) (lam nat pred_k)) y) (app x (pred_of y)) (value a)
       (enter nat (cons x s) pred_k y (cons_closed x s cx cs))
       (f (pred_of y) (subst (λ w. Stands nat k w (pred_of y)) (sym e) (pred_stands k v y g)))));
   back = λ i l x cx a d.
       let (z, q, d1) = (enter t s (app c (lam nat pred_k)) x cs).back i (value a) d in
-      let (w, y, j, hm, g, q1, d2) = (h x cx).back z (omega arith) (close zero (cons x s) (lam nat pred_k))
+      let (w, y, j, hm, g, q1, d2) = (h x cx).back z (under_within z i n q l) (close zero (cons x s) (lam nat pred_k))
       (close_closed (lam nat pred_k) (cons x s) (cons_closed x s cx cs)) a d1 in
       let (z2, q2, d3) = (enter nat (cons x s) pred_k y (cons_closed x s cx cs)).back j (value a) d2 in
       let (u, hu, gu) = pred_result z2 m w y hm g in
-      (u, pred_of y, z2, hu, gu, omega arith, d3);
+      (u, pred_of y, z2, hu, gu, falls_twice i j z2 q2 (falls_twice i z j q1 q), d3);
 }
 
 pub binary_hands : (o : Op) (t : TyTree) (n : ℕ) (m m' : TermTree) (s : Env) (c c' : TermTree) → AllClosed s
@@ -153,31 +205,33 @@ binary_hands o t n m m' s c c' cs h h' = record {
       let s1 = cons x s in
       let c1 = cons_closed x s cx cs in
       fwd (app (close zero s (lam t (app c k1))) x) (app (close zero s1 c) (close zero s1 k1)) (value a) (enter t s (app c k1) x cs)
-      ((h x cx).forth r (b + k) (value v) (omega arith) dm (close zero s1 k1) (close_closed k1 s1 c1) a
+      ((h x cx).forth r (b + k) (value v) (two_within i k n r b l q) dm (close zero s1 k1) (close_closed k1 s1 c1) a
       (λ y g.
       let s2 = cons y s1 in
       let c2 = cons_closed y s1 g.0 c1 in
       let k2 = lam nat (op_k o) in
       fwd (app (close zero s1 k1) y) (app (close zero s2 c') (close zero s2 k2)) (value a) (enter nat s1 (app c' k2) y c1)
-      ((h' x y cx g.0).forth b k (value u) (omega arith) dn (close zero s2 k2) (close_closed k2 s2 c2) a
+      ((h' x y cx g.0).forth b k (value u) (rest_within i k n r b l q) dn (close zero s2 k2) (close_closed k2 s2 c2) a
       (λ z g'.
       fwd (app (close zero s2 k2) z) (app x (binary o y z)) (value a) (enter nat s2 (op_k o) z c2)
       (f (binary o y z) (subst (λ w. Stands nat k w (binary o y z)) (sym e)
-      (binary_stands k o v u y z (stands_less nat (b + k) k (value v) y (omega arith) g) g')))))));
+      (binary_stands k o v u y z (stands_less nat (b + k) k (value v) y (last_most b k) g) g')))))));
   back = λ i l x cx a d.
       let k1 = lam nat (app c' (lam nat (op_k o))) in
       let k2 = lam nat (op_k o) in
       let s1 = cons x s in
       let c1 = cons_closed x s cx cs in
       let (z, q, d1) = (enter t s (app c k1) x cs).back i (value a) d in
-      let (w, y, j, hm, g, q1, d2) = (h x cx).back z (omega arith) (close zero s1 k1) (close_closed k1 s1 c1) a d1 in
+      let (w, y, j, hm, g, q1, d2) = (h x cx).back z (under_within z i n q l) (close zero s1 k1) (close_closed k1 s1 c1) a d1 in
       let s2 = cons y s1 in
       let c2 = cons_closed y s1 g.0 c1 in
       let (z2, q2, d3) = (enter nat s1 (app c' k2) y c1).back j (value a) d2 in
-      let (w', y', j', hm', g', q3, d4) = (h' x y cx g.0).back z2 (omega arith) (close zero s2 k2) (close_closed k2 s2 c2) a d3 in
+      let f : z2 < i = falls_once_more i z j z2 q2 q1 q in
+      let w2 : z2 ≤ n = under_within z2 i n f l in
+      let (w', y', j', hm', g', q3, d4) = (h' x y cx g.0).back z2 w2 (close zero s2 k2) (close_closed k2 s2 c2) a d3 in
       let (z3, q4, d5) = (enter nat s2 (op_k o) y' c2).back j' (value a) d4 in
       let (u, hu, gu) = binary_result z3 o m m' w w' y y' hm hm' g g' in
-      (u, binary o y y', z3, hu, gu, omega arith, d5);
+      (u, binary o y y', z3, hu, gu, falls_once_more i z2 j' z3 q4 q3 f, d5);
 }
 
 at_app : (v : Val) (p q x : TermTree) → at_zero v (app p x) (app q x) ≡ app (at_zero v p q) x
@@ -203,12 +257,12 @@ ifz_hands t n m p q s c cp cq cs h hp hq = record {
       let s1 = cons x s in
       let c1 = cons_closed x s cx cs in
       fwd (app (close zero s (lam t (app c k1))) x) (app (close zero s1 c) (close zero s1 k1)) (value a) (enter t s (app c k1) x cs)
-      ((h x cx).forth r (b + k) (value v) (omega arith) dm (close zero s1 k1) (close_closed k1 s1 c1) a
+      ((h x cx).forth r (b + k) (value v) (two_within i k n r b l e) dm (close zero s1 k1) (close_closed k1 s1 c1) a
       (λ y g.
       let s2 = cons y s1 in
       let pc = close zero s2 cp in
       let qc = close zero s2 cq in
-      let left = (at_good v n p q pc qc (hp x y cx g.0) (hq x y cx g.0)).forth b k w (omega arith) dn x cx a f in
+      let left = (at_good v n p q pc qc (hp x y cx g.0) (hq x y cx g.0)).forth b k w (rest_within i k n r b l e) dn x cx a f in
       fwd (app (close zero s1 k1) y) (ifz y (app pc x) (app qc x)) (value a) (enter nat s1 (ifz_k cp cq) y c1)
       (ifz_ev y (app pc x) (app qc x) v (value a) (stands_ev (b + k) (value v) y g)
       (subst (λ o. HasEv o (value a)) (sym (at_app v pc qc x)) left))));
@@ -217,26 +271,65 @@ ifz_hands t n m p q s c cp cq cs h hp hq = record {
       let s1 = cons x s in
       let c1 = cons_closed x s cx cs in
       let (z, l1, d1) = (enter t s (app c k1) x cs).back i (value a) d in
-      let (w, y, j, hm, g, l2, d2) = (h x cx).back z (omega arith) (close zero s1 k1) (close_closed k1 s1 c1) a d1 in
+      let (w, y, j, hm, g, l2, d2) = (h x cx).back z (under_within z i n l1 l) (close zero s1 k1) (close_closed k1 s1 c1) a d1 in
       let s2 = cons y s1 in
       let pc = close zero s2 cp in
       let qc = close zero s2 cq in
       let (z2, l3, d3) = (enter nat s1 (ifz_k cp cq) y c1).back j (value a) d2 in
       let (i1, i2, v, dy, db, l4) = ifz_inv d3 in
       let db' = subst (λ o. Ev i2 o (value a)) (at_app v pc qc x) db in
-      let (w', y', j', hb, g', l5, d4) = (at_good v n p q pc qc (hp x y cx g.0) (hq x y cx g.0)).back i2 (omega arith) x cx a db' in
-      (w', y', j', ifz_result j m p q w y v w' hm g (i1, dy) hb, g', omega arith, d4);
+      let f : i2 < i = falls_twice i z2 i2 (part_below z2 i1 i2 l4) (falls_once_more i z j z2 l3 l2 l1) in
+      let good = at_good v n p q pc qc (hp x y cx g.0) (hq x y cx g.0) in
+      let (w', y', j', hb, g', l5, d4) = good.back i2 (under_within i2 i n f l) x cx a db' in
+      (w', y', j', ifz_result j m p q w y v w' hm g (i1, dy) hb, g', falls_twice i i2 j' l5 f, d4);
 }
+
+-- equal closures have equal bodies
+same_body : (t t' : TyTree) (m m' : TermTree) → closure t m ≡ closure t' m' → m' ≡ m
+same_body t t' m m' e = cc
 
 -- the body of a result_type of arrow type
 stands_body : (a b : TyTree) (n : ℕ) (t : TyTree) (m : TermTree) (y : TermTree) → Stands (arrow a b) n (closure t m) y → (j : ℕ) →
     j < n → (x : Res) (z : TermTree) → Stands a j x z → Good b j (subst_at m zero (quote x)) (app y z)
-stands_body a b n t m y (c, (t', m', e, cl, f)) j l x z h = let q : m' ≡ m = cc in
-    subst (λ m. Good b j (subst_at m zero (quote x)) (app y z)) q (f j l x z h)
+stands_body a b n t m y (c, (t', m', e, cl, f)) j l x z h =
+    subst (λ m. Good b j (subst_at m zero (quote x)) (app y z)) (same_body t t' m m' e) (f j l x z h)
 
+-- a result of arrow type is a closure, and what stands for it leads to the body
 stands_fun : (a b : TyTree) (n : ℕ) (w : Res) (y : TermTree) → Stands (arrow a b) n w y → (t : TyTree) × (m : TermTree) ×
-    (w ≡ closure t m)
-stands_fun a b n w y (c, (t', m', e, cl, f)) = (t', m', e)
+    (w ≡ closure t m) × ((j : ℕ) → j < n → (x : Res) (z : TermTree) → Stands a j x z →
+    Good b j (subst_at m zero (quote x)) (app y z))
+stands_fun a b n w y (c, (t', m', e, cl, f)) = (t', m', e, f)
+
+-- what a term comes to, and what stands for it and leads a continuation on, after fewer steps
+abbrev Led : TyTree → ℕ → TermTree → TermTree → Val → Type 0
+Led b j m x v = (w : Res) × (y : TermTree) × (i : ℕ) × HasEvByValue m w × Stands b i w y × (i < j) × Ev i (app x y) (value v)
+
+-- an application whose function and argument are at hand
+app_rest : (a b t2 : TyTree) (s : Env) (j z2 j1 : ℕ) (m m' : TermTree) (w w1 : Res) (x y y1 : TermTree) (v : Val) →
+    AllClosed (cons y (cons x s)) → Closed x → HasEvByValue m w → Stands (arrow a b) j w y → HasEvByValue m' w1 → Stands a j1 w1 y1
+    → z2 < j → j1 < z2 → Ev j1 (app (close zero (cons y (cons x s)) (lam t2 app_k)) y1) (value v) → Led b j (app m m') x v
+app_rest a b t2 s j z2 j1 m m' w w1 x y y1 v c2 cx hm g hm1 g1 l3 l4 d =
+    let (z3, l5, d5) = (enter t2 (cons y (cons x s)) app_k y1 c2).back j1 (value v) d in
+    let (t', mb, e, step) = stands_fun a b j w y g in
+    let f : z3 < j = falls_once_more j z2 j1 z3 l5 l4 l3 in
+    let body = step z3 f w1 y1 (stands_less a j1 z3 w1 y1 (less_most z3 j1 l5) g1) in
+    let (w2, y2, j2, hm2, g2, l6, d6) = body.back z3 (itself z3) x cx v d5 in
+    (w2, y2, j2, app_result t' m m' mb w1 w2 (subst (HasEvByValue m) e hm) hm1 hm2, g2, falls_twice j z3 j2 l6 f, d6)
+
+-- an application whose function is at hand
+app_argument : (a b t1 t2 : TyTree) (n : ℕ) (s : Env) (m m' c' : TermTree) (j : ℕ) (w : Res) (x y : TermTree) (v : Val) →
+    AllClosed (cons x s) → Closed x → ((x y : TermTree) → Closed x → Closed y → Good a n m' (close zero (cons y (cons x s)) c'))
+    → j ≤ n → HasEvByValue m w → Stands (arrow a b) j w y
+    → Ev j (app (close zero (cons x s) (lam t1 (app c' (lam t2 app_k)))) y) (value v) → Led b j (app m m') x v
+app_argument a b t1 t2 n s m m' c' j w x y v c1 cx h' l hm g d =
+    let s1 = cons x s in
+    let s2 = cons y s1 in
+    let c2 = cons_closed y s1 g.0 c1 in
+    let k2 = lam t2 app_k in
+    let (z2, l3, d3) = (enter t1 s1 (app c' k2) y c1).back j (value v) d in
+    let q : z2 ≤ n = under_within z2 j n l3 l in
+    let (w1, y1, j1, hm1, g1, l4, d4) = (h' x y cx g.0).back z2 q (close zero s2 k2) (close_closed k2 s2 c2) v d3 in
+    app_rest a b t2 s j z2 j1 m m' w w1 x y y1 v c2 cx hm g hm1 g1 l3 l4 d4
 
 pub app_hands : (a b : TyTree) (t t1 t2 : TyTree) (n : ℕ) (m m' : TermTree) (s : Env) (c c' : TermTree) → AllClosed s
     → ((x : TermTree) → Closed x → Good (arrow a b) n m (close zero (cons x s) c))
@@ -249,32 +342,26 @@ app_hands a b t t1 t2 n m m' s c c' cs h h' = record {
       let s1 = cons x s in
       let c1 = cons_closed x s cx cs in
       fwd (app (close zero s (lam t (app c k1))) x) (app (close zero s1 c) (close zero s1 k1)) (value v) (enter t s (app c k1) x cs)
-      ((h x cx).forth i1 (suc (i2 + i3 + k)) (closure t' mb) (omega arith) df (close zero s1 k1) (close_closed k1 s1 c1) v
+      ((h x cx).forth i1 (suc (i2 + i3 + k)) (closure t' mb) (three_within i k n i1 i2 i3 l e) df (close zero s1 k1)
+      (close_closed k1 s1 c1) v
       (λ y g.
       let cy = g.0 in
       let s2 = cons y s1 in
       let c2 = cons_closed y s1 cy c1 in
       let k2 = lam t2 app_k in
       fwd (app (close zero s1 k1) y) (app (close zero s2 c') (close zero s2 k2)) (value v) (enter t1 s1 (app c' k2) y c1)
-      ((h' x y cx cy).forth i2 (i3 + k) w1 (omega arith) dx (close zero s2 k2) (close_closed k2 s2 c2) v
+      ((h' x y cx cy).forth i2 (i3 + k) w1 (last_within i k n i1 i2 i3 l e) dx (close zero s2 k2) (close_closed k2 s2 c2) v
       (λ z g'.
       fwd (app (close zero s2 k2) z) (app (app y z) x) (value v) (enter t2 s2 app_k z c2)
-      ((stands_body a b (suc (i2 + i3 + k)) t' mb y g (i3 + k) (omega arith) w1 z g').forth i3 k w (omega arith) db x cx v f)))));
+      ((stands_body a b (suc (i2 + i3 + k)) t' mb y g (i3 + k) (last_less i2 i3 k) w1 z g').forth i3 k w (itself (i3 + k)) db x cx v
+      f)))));
   back = λ i l x cx v d.
       let k1 = lam t1 (app c' (lam t2 app_k)) in
-      let k2 = lam t2 app_k in
       let s1 = cons x s in
       let c1 = cons_closed x s cx cs in
       let (z, l1, d1) = (enter t s (app c k1) x cs).back i (value v) d in
-      let (w, y, j, hm, g, l2, d2) = (h x cx).back z (omega arith) (close zero s1 k1) (close_closed k1 s1 c1) v d1 in
-      let s2 = cons y s1 in
-      let c2 = cons_closed y s1 g.0 c1 in
-      let (z2, l3, d3) = (enter t1 s1 (app c' k2) y c1).back j (value v) d2 in
-      let (w1, y1, j1, hm1, g1, l4, d4) = (h' x y cx g.0).back z2 (omega arith) (close zero s2 k2) (close_closed k2 s2 c2) v d3 in
-      let (z3, l5, d5) = (enter t2 s2 app_k y1 c2).back j1 (value v) d4 in
-      let (t', mb, e) = stands_fun a b j w y g in
-      let g' = subst (λ w. Stands (arrow a b) j w y) e g in
-      let body = stands_body a b j t' mb y g' z3 (omega arith) w1 y1 (stands_less a j1 z3 w1 y1 (omega arith) g1) in
-      let (w2, y2, j2, hm2, g2, l6, d6) = body.back z3 (omega arith) x cx v d5 in
-      (w2, y2, j2, app_result t' m m' mb w1 w2 (subst (HasEvByValue m) e hm) hm1 hm2, g2, omega arith, d6);
+      let (w, y, j, hm, g, l2, d2) = (h x cx).back z (under_within z i n l1 l) (close zero s1 k1) (close_closed k1 s1 c1) v d1 in
+      let f : j < i = falls_twice i z j l2 l1 in
+      let (w2, y2, j2, hm2, g2, l3, d3) = app_argument a b t1 t2 n s m m' c' j w x y v c1 cx h' (under_within j i n f l) hm g d2 in
+      (w2, y2, j2, hm2, g2, falls_twice i j j2 l3 f, d3);
 }

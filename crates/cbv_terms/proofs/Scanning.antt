@@ -14,6 +14,11 @@ use Rattle.cbv_terms.specs.Translation.{has_product}
 use Rattle.cbv_terms.specs.Faults.{is_of_fun, BinderFault, FixFault, HasFault, IsFault, NoLater, IsFirstFault, IsFaultless}
 use Rattle.cbv_terms.specs.Scan.{IsLeast, Finds, lesser, where_holds, first_of}
 
+-- what follows in either case
+pub in_either : {A B C : Type 0} → A ⊎ B → (A → C) → (B → C) → C
+in_either (inl a) f g = f a
+in_either (inr b) f g = g b
+
 either : {A B C : Type 0} → (A → C) → (B → C) → A ⊎ B → C
 either f g (inl a) = f a
 either f g (inr b) = g b
@@ -65,6 +70,13 @@ least_fix at t m false e = ((e, refl), λ a (h, q). let r : a ≡ at = cc in ome
 
 pub no_fix_pair : (at : ℕ) (t : TyTree) (m : NamedTree) → IsLeast (λ a. FixFault at t m (ByValuePair a)) None
 no_fix_pair at t m a (e, q) = cc
+
+-- where no fault is
+pub finds_none : (z : Least) → z.fixes ≡ None → z.pairs ≡ None → Finds (λ f. ⊥) z
+finds_none z e q = record {
+  fixes = subst (IsLeast (λ a. ⊥)) (sym e) (λ a h. h);
+  pairs = subst (IsLeast (λ a. ⊥)) (sym q) (λ a h. h);
+}
 
 pub finds_pair : (at : ℕ) (z : Least) → z.fixes ≡ None → z.pairs ≡ Some at → Finds (λ f. f ≡ ByValuePair at) z
 finds_pair at z e q = record {

@@ -1,10 +1,11 @@
 -- What the code of each form makes is what the definition says of the form, at the binders and the depth at hand.
-use Rattle.std.proofs.Common.{◌≡◌, ℕ, suc, ◌+◌, ◌-◌, List, [], ◌∷◌, ◌++◌, reverse, Some, Result, Ok, Err, refl}
+use Rattle.std.proofs.Common.{◌≡◌, ℕ, suc, ◌+◌, ◌-◌, ◌*◌, ◌^◌, ◌<◌, List, [], ◌∷◌, ◌++◌, reverse, Some, Result, Ok, Err, refl}
 use Rattle.std.proofs.Common.{sym, ap, ◌∙◌, subst, arith}
 use Rattle.std.specs.Prelude.{slice_get, IfOk}
 use Rattle.pcf_values.specs.declared.term.Term.{Term}
 use Rattle.pcf_values.specs.Values.{Op}
-use Rattle.pcf_values.specs.Terms.{TyTree, nat, arrow, product, TermTree, var, succ_of, pred_of, binary, ifz, lam, fix, app, height}
+use Rattle.pcf_values.specs.Terms.{TyTree, nat, arrow, product, TermTree, num, var, succ_of, pred_of, binary, ifz, lam, fix, app, height}
+use Rattle.pcf_values.specs.Terms.{size}
 use Rattle.pcf_values.specs.Typing.{HasType}
 use Rattle.pcf_values.specs.Views.{ty_of, term_of}
 use Rattle.cbv_terms.specs.declared.binder.Binder.{Binder}
@@ -22,6 +23,38 @@ use Rattle.cbv_terms.proofs.Placing.{map_pushed, variable_place, variable_type}
 moved : (s old new : List Binder) (d : ℕ) (m : TermTree) (made : Made) → s ≡ old →
     Makes s new (context_of s) (map_of d s) m made → Makes old new (context_of old) (map_of d old) m made
 moved s old new d m made e h = subst (λ s. Makes s new (context_of s) (map_of d s) m made) e h
+
+-- a term said by its parts as they are at hand
+pub one_part : (f : TermTree → TermTree) (m a x : Term) → term_of m ≡ f (term_of a) → x ≡ a → term_of m ≡ f (term_of x)
+one_part f m a x e p = e ∙ ap (λ x. f (term_of x)) (sym p)
+
+-- and by two parts
+pub two_parts : (f : TermTree → TermTree → TermTree) (m a b x y : Term) → term_of m ≡ f (term_of a) (term_of b) → x ≡ a → y ≡ b →
+    term_of m ≡ f (term_of x) (term_of y)
+two_parts f m a b x y e p q = one_part (λ t. f t (term_of y)) m a x (one_part (f (term_of a)) m b y e q) p
+
+-- and by three parts
+pub three_parts : (f : TermTree → TermTree → TermTree → TermTree) (m a b c x y z : Term) →
+    term_of m ≡ f (term_of a) (term_of b) (term_of c) → x ≡ a → y ≡ b → z ≡ c → term_of m ≡ f (term_of x) (term_of y) (term_of z)
+three_parts f m a b c x y z e p q r = one_part (λ t. f t (term_of y) (term_of z)) m a x (two_parts (f (term_of a)) m b c y z e q r) p
+
+-- what is left of a term is smaller by the cycle's measure
+less_left : (t s k : ℕ) → 3 * s ≡ t → s ≡ suc k → 3 * k + 2 < t
+less_left t s k e q = omega arith
+
+-- at a part of a term that is said in other words
+pub part_falls : (t k : ℕ) (m m' : TermTree) → m ≡ m' → 3 * size m ≡ t → size m' ≡ suc k → 3 * k + 2 < t
+part_falls t k m m' e h q = less_left t (size m) k h (ap size e ∙ q)
+
+-- what is asked of a term is asked of the same term in other words
+pub asked_of : (bs : List Binder) (d : ℕ) (m m' : TermTree) → m ≡ m' → IsReady bs d (context_of bs) m → d + 5 * height m < 2 ^ 32 →
+    IsReady bs d (context_of bs) m' × (d + 5 * height m' < 2 ^ 32)
+asked_of bs d m m' e h r = (subst (IsReady bs d (context_of bs)) e h, subst (λ m. d + 5 * height m < 2 ^ 32) e r)
+
+-- and what is told of the one is told of the other
+pub made_of : {E : Type 0} (r : Result Made E) (old new : List Binder) (d : ℕ) (m m' : TermTree) → m ≡ m' →
+    IfOk r (Makes old new (context_of old) (map_of d old) m') → IfOk r (Makes old new (context_of old) (map_of d old) m)
+made_of r old new d m m' e h = subst (λ m. IfOk r (Makes old new (context_of old) (map_of d old) m)) (sym e) h
 
 -- a part that is translated under one or two binders more
 once : (d : ℕ) (old new : List Binder) (m : TermTree) (made : Made) → AreAround d (reverse old) →
@@ -116,6 +149,12 @@ inner_ready bs s b d a m e l h = subst (λ s. IsReady s (d + 1) (a ∷ context_o
 })
 
 -- what is made
+pub number_makes : (bs : List Binder) (d n : ℕ) (m : TermTree) (made : Made) → m ≡ num n
+    → term_of made.term.value ≡ lam (continuation_type nat) (app (var 0) (num n)) → known_of made.ty ≡ nat
+    → Makes bs bs (context_of bs) (map_of d bs) m made
+number_makes bs d n m made e h q =
+    subst (λ m. Makes bs bs (context_of bs) (map_of d bs) m made) (sym e) (record { term = h; typed = q; binders = refl })
+
 pub variable_makes : (bs : List Binder) (d i : ℕ) (b : Binder) (made : Made) → AreAround d (reverse bs) →
     slice_get (reverse bs) i ≡ Some b
     → term_of made.term.value ≡ lam (continuation_type (ty_of b.ty.now)) (app (var 0) (var (d - b.level)))

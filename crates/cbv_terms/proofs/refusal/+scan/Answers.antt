@@ -1,8 +1,9 @@
-use Rattle.std.proofs.Common.{◌⊎◌, sym, subst}
+use Rattle.std.proofs.Common.{◌≡◌, ◌⊎◌, sym, subst}
 use Rattle.pcf_values.specs.Views.{ty_of, raw_of, named_of}
 use Rattle.cbv_terms.specs.Faults.{BinderFault, FixFault, HasFault}
 use Rattle.cbv_terms.specs.Scan.{Finds}
-use Rattle.cbv_terms.proofs.Scanning.{finds_both, finds_binder, finds_fix}
+use Rattle.cbv_terms.specs.declared.fault.ByValueFault.TheVariants.{ByValuePair}
+use Rattle.cbv_terms.proofs.Scanning.{in_either, finds_none, finds_pair, finds_both, finds_binder, finds_fix}
 use Rattle.cbv_terms.proofs.refusal.+scan.Goals as goal
 
 pub returns-in-Ifz : goal.returns-in-Ifz
@@ -34,3 +35,62 @@ returns-in-Fix t c =
     (finds_both (FixFault at (ty_of of.ty) body) (λ f. BinderFault at (ty_of of.ty) f ⊎
     HasFault body f) c.fixed_at.result c.both-in-Fix.result c.both-in-Fix-2.result h rest c.both-in-Fix-2.ensures.fixes
     c.both-in-Fix-2.ensures.pairs)
+
+pub returns-in-Number : goal.returns-in-Number
+returns-in-Number t c =
+    let at = c.args.tree.now.at in
+    let none = finds_none c.found-in-Number.result c.found-in-Number.ensures.fixes c.found-in-Number.ensures.pairs in
+    in_either c.in-Number.is (λ (x, e). subst (λ r. Finds (HasFault (raw_of r at)) c.found-in-Number.result) (sym e) none)
+    (λ (x, e). subst (λ r. Finds (HasFault (raw_of r at)) c.found-in-Number.result) (sym e) none)
+
+pub returns-in-Succ : goal.returns-in-Succ
+returns-in-Succ t c =
+    let at = c.args.tree.now.at in
+    let h = subst (λ n. Finds (HasFault (named_of n)) c.scan-in-Succ.result) c.deref-in-Succ.ensures c.scan-in-Succ.ensures in
+    in_either c.in-Succ.is (λ e. subst (λ r. Finds (HasFault (raw_of r at)) c.scan-in-Succ.result) (sym e) h)
+    (λ e. subst (λ r. Finds (HasFault (raw_of r at)) c.scan-in-Succ.result) (sym e) h)
+
+pub returns-in-Plus : goal.returns-in-Plus
+returns-in-Plus t c =
+    let at = c.args.tree.now.at in
+    let h = subst (λ n. Finds (HasFault (named_of n)) c.scan-in-Plus.result) c.deref-in-Plus.ensures c.scan-in-Plus.ensures in
+    let i = subst (λ n. Finds (HasFault (named_of n)) c.scan-in-Plus-2.result) c.deref-in-Plus-2.ensures c.scan-in-Plus-2.ensures in
+    let both = finds_both (HasFault (named_of c.in-Plus.a.value)) (HasFault (named_of c.in-Plus.b.value)) c.scan-in-Plus.result
+    c.scan-in-Plus-2.result c.both-in-Plus.result h i c.both-in-Plus.ensures.fixes c.both-in-Plus.ensures.pairs in
+    in_either c.in-Plus.is (λ e. subst (λ r. Finds (HasFault (raw_of r at)) c.both-in-Plus.result) (sym e) both)
+    (λ x. in_either x (λ e. subst (λ r. Finds (HasFault (raw_of r at)) c.both-in-Plus.result) (sym e) both)
+    (λ y. in_either y (λ e. subst (λ r. Finds (HasFault (raw_of r at)) c.both-in-Plus.result) (sym e) both)
+    (λ e. subst (λ r. Finds (HasFault (raw_of r at)) c.both-in-Plus.result) (sym e) both)))
+
+pub returns-in-Fun : goal.returns-in-Fun
+returns-in-Fun t c =
+    let at = c.args.tree.now.at in
+    let of = c.in-Fun in
+    let h = finds_binder at (ty_of of.ty) c.typed_at.result c.typed_at.ensures.fixes c.typed_at.ensures.pairs in
+    let i = subst (λ n. Finds (HasFault (named_of n)) c.scan-in-Fun.result) c.deref-in-Fun.ensures c.scan-in-Fun.ensures in
+    subst (λ r. Finds (HasFault (raw_of r at)) c.both-in-Fun.result) (sym of.is)
+    (finds_both (BinderFault at (ty_of of.ty)) (HasFault (named_of of.body.value)) c.typed_at.result c.scan-in-Fun.result
+    c.both-in-Fun.result h i c.both-in-Fun.ensures.fixes c.both-in-Fun.ensures.pairs)
+
+pub returns-in-Pair : goal.returns-in-Pair
+returns-in-Pair t c =
+    let at = c.args.tree.now.at in
+    let of = c.in-Pair in
+    let h = finds_pair at c.found.result c.found.ensures.fixes c.found.ensures.pairs in
+    let i = subst (λ n. Finds (HasFault (named_of n)) c.scan-in-Pair.result) c.deref-in-Pair.ensures c.scan-in-Pair.ensures in
+    let j = subst (λ n. Finds (HasFault (named_of n)) c.scan-in-Pair-2.result) c.deref-in-Pair-2.ensures c.scan-in-Pair-2.ensures in
+    let rest = finds_both (HasFault (named_of of.a.value)) (HasFault (named_of of.b.value)) c.scan-in-Pair.result c.scan-in-Pair-2.result
+    c.both-in-Pair.result i j c.both-in-Pair.ensures.fixes c.both-in-Pair.ensures.pairs in
+    subst (λ r. Finds (HasFault (raw_of r at)) c.both-in-Pair-2.result) (sym of.is)
+    (finds_both (λ f. f ≡ ByValuePair at) (λ f. HasFault (named_of of.a.value) f ⊎ HasFault (named_of of.b.value) f) c.found.result
+    c.both-in-Pair.result c.both-in-Pair-2.result h rest c.both-in-Pair-2.ensures.fixes c.both-in-Pair-2.ensures.pairs)
+
+pub returns-in-Fst : goal.returns-in-Fst
+returns-in-Fst t c =
+    let at = c.args.tree.now.at in
+    let h = finds_pair at c.found-in-Fst.result c.found-in-Fst.ensures.fixes c.found-in-Fst.ensures.pairs in
+    let i = subst (λ n. Finds (HasFault (named_of n)) c.scan-in-Fst.result) c.deref-in-Fst.ensures c.scan-in-Fst.ensures in
+    let both = finds_both (λ f. f ≡ ByValuePair at) (HasFault (named_of c.in-Fst.a.value)) c.found-in-Fst.result c.scan-in-Fst.result
+    c.both-in-Fst.result h i c.both-in-Fst.ensures.fixes c.both-in-Fst.ensures.pairs in
+    in_either c.in-Fst.is (λ e. subst (λ r. Finds (HasFault (raw_of r at)) c.both-in-Fst.result) (sym e) both)
+    (λ e. subst (λ r. Finds (HasFault (raw_of r at)) c.both-in-Fst.result) (sym e) both)

@@ -1,47 +1,158 @@
 use Rattle.std.proofs.Common.{rules, ◌≡◌, ◌+◌, ◌*◌, ◌^◌, ◌<◌, refl, sym, ap, ◌∙◌, subst, arith}
-use Rattle.std.specs.Prelude.{IfOk, vec_len}
-use Rattle.pcf_values.specs.Terms.{ifz, lam, fix, height}
+use Rattle.std.specs.Prelude.{vec_len}
+use Rattle.pcf_values.specs.Values.{plus_op, minus_op, times_op}
+use Rattle.pcf_values.specs.Terms.{var, succ_of, pred_of, binary, ifz, lam, fix, app, height}
 use Rattle.pcf_values.specs.Views.{ty_of, term_of}
-use Rattle.cbv_terms.specs.Views.{op_of, context_of, map_of, IsReady, Makes}
+use Rattle.cbv_terms.specs.Views.{op_of, context_of, IsReady}
 use Rattle.cbv_terms.proofs.Placing.{taken_off}
 use Rattle.cbv_terms.proofs.Translating.{ready_at, unary_ready, unary_height, left_ready, right_ready, test_ready, then_ready, else_ready}
 use Rattle.cbv_terms.proofs.Translating.{function_ready, argument_ready, fun_ready, fix_ready, body_ready, inner_ready, unary_makes}
 use Rattle.cbv_terms.proofs.Translating.{double_makes, ifz_makes, function_arrow, app_makes, body_makes, function_makes, fun_makes}
-use Rattle.cbv_terms.proofs.Translating.{fix_makes, both_ok}
+use Rattle.cbv_terms.proofs.Translating.{fix_makes, both_ok, one_part, two_parts, three_parts, part_falls, asked_of, made_of, number_makes}
 use Rattle.cbv_terms.proofs.translate.+translate.Goals as goal
+
+pub translate-translate_variable-requires : goal.translate-translate_variable-requires
+translate-translate_variable-requires t c = record {
+  ready = subst (IsReady c.args.binders.now.items c.args.depth (context_of c.args.binders.now.items)) (ap term_of c.in-Var.is)
+      c.requires.ready;
+}
+
+pub translate-translate_unary-requires : goal.translate-translate_unary-requires
+translate-translate_unary-requires t c =
+    let e = one_part succ_of c.args.term.now _ _ (ap term_of c.in-Succ.is) c.deref.ensures in (
+      part_falls t _ _ _ e c.decreases refl,
+      asked_of c.args.binders.now.items c.args.depth _ _ e c.requires.ready c.requires.room,
+    )
+
+pub translate-translate_unary-requires-in-Pred : goal.translate-translate_unary-requires-in-Pred
+translate-translate_unary-requires-in-Pred t c =
+    let e = one_part pred_of c.args.term.now _ _ (ap term_of c.in-Pred.is) c.deref-in-Pred.ensures in (
+      part_falls t _ _ _ e c.decreases refl,
+      asked_of c.args.binders.now.items c.args.depth _ _ e c.requires.ready c.requires.room,
+    )
+
+pub translate-translate_double-requires : goal.translate-translate_double-requires
+translate-translate_double-requires t c =
+    let e = two_parts (binary plus_op) c.args.term.now _ _ _ _ (ap term_of c.in-Plus.is)
+    c.deref-in-Plus.ensures c.deref-in-Plus-2.ensures in (
+      part_falls t _ _ _ e c.decreases refl,
+      asked_of c.args.binders.now.items c.args.depth _ _ e c.requires.ready c.requires.room,
+    )
+
+pub translate-translate_double-requires-in-Minus : goal.translate-translate_double-requires-in-Minus
+translate-translate_double-requires-in-Minus t c =
+    let e = two_parts (binary minus_op) c.args.term.now _ _ _ _ (ap term_of c.in-Minus.is)
+    c.deref-in-Minus.ensures c.deref-in-Minus-2.ensures in (
+      part_falls t _ _ _ e c.decreases refl,
+      asked_of c.args.binders.now.items c.args.depth _ _ e c.requires.ready c.requires.room,
+    )
+
+pub translate-translate_double-requires-in-Times : goal.translate-translate_double-requires-in-Times
+translate-translate_double-requires-in-Times t c =
+    let e = two_parts (binary times_op) c.args.term.now _ _ _ _ (ap term_of c.in-Times.is)
+    c.deref-in-Times.ensures c.deref-in-Times-2.ensures in (
+      part_falls t _ _ _ e c.decreases refl,
+      asked_of c.args.binders.now.items c.args.depth _ _ e c.requires.ready c.requires.room,
+    )
+
+pub translate-translate_ifz-requires : goal.translate-translate_ifz-requires
+translate-translate_ifz-requires t c =
+    let e = three_parts ifz c.args.term.now _ _ _ _ _ _ (ap term_of c.in-Ifz.is)
+    c.deref-in-Ifz.ensures c.deref-in-Ifz-2.ensures c.deref-in-Ifz-3.ensures in (
+      part_falls t _ _ _ e c.decreases refl,
+      asked_of c.args.binders.now.items c.args.depth _ _ e c.requires.ready c.requires.room,
+    )
 
 pub translate-translate_fun-requires : goal.translate-translate_fun-requires
 translate-translate_fun-requires t c =
-    let e : term_of c.args.term.now ≡ lam (ty_of c.in-Fun.ty) (term_of c.deref-in-Fun.result.now) = ap term_of c.in-Fun.is ∙
-    ap (λ m. lam (ty_of c.in-Fun.ty) (term_of m)) (sym c.deref-in-Fun.ensures) in (
-      search rules,
-      (
-        subst (IsReady c.args.binders.now.items c.args.depth (context_of c.args.binders.now.items)) e c.requires.ready,
-        subst (λ m. c.args.depth + 5 * height m < 2 ^ 32) e c.requires.room,
-      ),
+    let e = one_part (lam (ty_of c.in-Fun.ty)) c.args.term.now _ _ (ap term_of c.in-Fun.is) c.deref-in-Fun.ensures in (
+      part_falls t _ _ _ e c.decreases refl,
+      asked_of c.args.binders.now.items c.args.depth _ _ e c.requires.ready c.requires.room,
     )
 
 pub translate-translate_fix-requires : goal.translate-translate_fix-requires
 translate-translate_fix-requires t c =
-    let e : term_of c.args.term.now ≡ fix (ty_of c.in-Fix.ty) (term_of c.deref-in-Fix.result.now) = ap term_of c.in-Fix.is ∙
-    ap (λ m. fix (ty_of c.in-Fix.ty) (term_of m)) (sym c.deref-in-Fix.ensures) in (
-      search rules,
-      (
-        subst (IsReady c.args.binders.now.items c.args.depth (context_of c.args.binders.now.items)) e c.requires.ready,
-        subst (λ m. c.args.depth + 5 * height m < 2 ^ 32) e c.requires.room,
-      ),
+    let e = one_part (fix (ty_of c.in-Fix.ty)) c.args.term.now _ _ (ap term_of c.in-Fix.is) c.deref-in-Fix.ensures in (
+      part_falls t _ _ _ e c.decreases refl,
+      asked_of c.args.binders.now.items c.args.depth _ _ e c.requires.ready c.requires.room,
     )
+
+pub translate-translate_app-requires : goal.translate-translate_app-requires
+translate-translate_app-requires t c =
+    let e = two_parts app c.args.term.now _ _ _ _ (ap term_of c.in-App.is) c.deref-in-App.ensures c.deref-in-App-2.ensures in (
+      part_falls t _ _ _ e c.decreases refl,
+      asked_of c.args.binders.now.items c.args.depth _ _ e c.requires.ready c.requires.room,
+    )
+
+pub translate-returns-in-Number : goal.translate-returns-in-Number
+translate-returns-in-Number t c =
+    both_ok c.hand_on.result _ _ _
+    (λ made e q. number_makes c.args.binders.now.items c.args.depth c.in-Number.n (term_of c.args.term.now) made
+    (ap term_of c.in-Number.is) e q)
+    c.hand_on.ensures.term c.hand_on.ensures.typed
+
+pub translate-returns-in-Var : goal.translate-returns-in-Var
+translate-returns-in-Var t c =
+    made_of c.translate_variable.result c.args.binders.now.items c.args.binders.now.items c.args.depth (term_of c.args.term.now)
+    (var c.in-Var.i) (ap term_of c.in-Var.is) c.translate_variable.ensures
+
+pub translate-returns-in-Succ : goal.translate-returns-in-Succ
+translate-returns-in-Succ t c =
+    let e = one_part succ_of c.args.term.now _ _ (ap term_of c.in-Succ.is) c.deref.ensures in
+    made_of c.translate_unary.result c.args.binders.now.items c.translate_unary.new.binders.items c.args.depth _ _ e
+    c.translate_unary.ensures
+
+pub translate-returns-in-Pred : goal.translate-returns-in-Pred
+translate-returns-in-Pred t c =
+    let e = one_part pred_of c.args.term.now _ _ (ap term_of c.in-Pred.is) c.deref-in-Pred.ensures in
+    made_of c.translate_unary-in-Pred.result c.args.binders.now.items c.translate_unary-in-Pred.new.binders.items c.args.depth _ _ e
+    c.translate_unary-in-Pred.ensures
+
+pub translate-returns-in-Plus : goal.translate-returns-in-Plus
+translate-returns-in-Plus t c =
+    let e = two_parts (binary plus_op) c.args.term.now _ _ _ _ (ap term_of c.in-Plus.is)
+    c.deref-in-Plus.ensures c.deref-in-Plus-2.ensures in
+    made_of c.translate_double.result c.args.binders.now.items c.translate_double.new.binders.items c.args.depth _ _ e
+    c.translate_double.ensures
+
+pub translate-returns-in-Minus : goal.translate-returns-in-Minus
+translate-returns-in-Minus t c =
+    let e = two_parts (binary minus_op) c.args.term.now _ _ _ _ (ap term_of c.in-Minus.is)
+    c.deref-in-Minus.ensures c.deref-in-Minus-2.ensures in
+    made_of c.translate_double-in-Minus.result c.args.binders.now.items c.translate_double-in-Minus.new.binders.items c.args.depth _ _ e
+    c.translate_double-in-Minus.ensures
+
+pub translate-returns-in-Times : goal.translate-returns-in-Times
+translate-returns-in-Times t c =
+    let e = two_parts (binary times_op) c.args.term.now _ _ _ _ (ap term_of c.in-Times.is)
+    c.deref-in-Times.ensures c.deref-in-Times-2.ensures in
+    made_of c.translate_double-in-Times.result c.args.binders.now.items c.translate_double-in-Times.new.binders.items c.args.depth _ _ e
+    c.translate_double-in-Times.ensures
 
 pub translate-returns-in-Ifz : goal.translate-returns-in-Ifz
 translate-returns-in-Ifz t c =
-    let e : ifz (term_of c.deref-in-Ifz.result.now) (term_of c.deref-in-Ifz-2.result.now) (term_of c.deref-in-Ifz-3.result.now) ≡ term_of
-    c.args.term.now =
-    (λ k. ifz (term_of (c.deref-in-Ifz.ensures k)) (term_of (c.deref-in-Ifz-2.ensures k)) (term_of (c.deref-in-Ifz-3.ensures k))) ∙
-    sym (ap term_of c.in-Ifz.is) in
-    subst
-    (λ m. IfOk c.translate_ifz.result (Makes c.args.binders.now.items c.translate_ifz.new.binders.items
-    (context_of c.args.binders.now.items) (map_of c.args.depth c.args.binders.now.items) m))
-    e c.translate_ifz.ensures
+    let e = three_parts ifz c.args.term.now _ _ _ _ _ _ (ap term_of c.in-Ifz.is)
+    c.deref-in-Ifz.ensures c.deref-in-Ifz-2.ensures c.deref-in-Ifz-3.ensures in
+    made_of c.translate_ifz.result c.args.binders.now.items c.translate_ifz.new.binders.items c.args.depth _ _ e
+    c.translate_ifz.ensures
+
+pub translate-returns-in-Fun : goal.translate-returns-in-Fun
+translate-returns-in-Fun t c =
+    let e = one_part (lam (ty_of c.in-Fun.ty)) c.args.term.now _ _ (ap term_of c.in-Fun.is) c.deref-in-Fun.ensures in
+    made_of c.translate_fun.result c.args.binders.now.items c.translate_fun.new.binders.items c.args.depth _ _ e
+    c.translate_fun.ensures
+
+pub translate-returns-in-Fix : goal.translate-returns-in-Fix
+translate-returns-in-Fix t c =
+    let e = one_part (fix (ty_of c.in-Fix.ty)) c.args.term.now _ _ (ap term_of c.in-Fix.is) c.deref-in-Fix.ensures in
+    made_of c.translate_fix.result c.args.binders.now.items c.translate_fix.new.binders.items c.args.depth _ _ e
+    c.translate_fix.ensures
+
+pub translate-returns-in-App : goal.translate-returns-in-App
+translate-returns-in-App t c =
+    let e = two_parts app c.args.term.now _ _ _ _ (ap term_of c.in-App.is) c.deref-in-App.ensures c.deref-in-App-2.ensures in
+    made_of c.translate_app.result c.args.binders.now.items c.translate_app.new.binders.items c.args.depth _ _ e
+    c.translate_app.ensures
 
 pub translate_app-translate-requires : goal.translate_app-translate-requires
 translate_app-translate-requires t c = (
