@@ -218,6 +218,7 @@ impl PoolState {
         ensures ample { OnErr result (HoldsOther self.old worker moved) }
     {
         let Some(held) = self.held.held_by(worker) else {
+            drop(moved);
             return Ok(Booked::NothingHeld);
         };
         let done = self.log.len();
@@ -344,15 +345,16 @@ impl PoolState {
             workers,
             mut core,
             mut log,
+            held,
             ..
         } = self;
+        drop(held);
         let done = play_on(&mut core, &net, &mut log, budget, workers);
         drop(net);
+        let answer = core.answer();
+        drop(core);
         done?;
-        Ok(Ended {
-            answer: core.answer(),
-            log,
-        })
+        Ok(Ended { answer, log })
     }
 
     /// Finishes a run of this net: a pool that was stopped has no memory left, and no answer; one of this net, budget and number of
@@ -377,12 +379,14 @@ impl PoolState {
         ensures replays { IfOk result (Replays net.now budget workers) }
     {
         if self.stopped {
+            drop(self);
             return Err(AllocError);
         }
         if self.suits(net, budget, workers) {
-            self.close()
-        } else {
-            PoolState::start(alloc, net, budget, workers)?.close()
+            return self.close();
         }
+        drop(self);
+        let begun = PoolState::start(alloc, net, budget, workers)?;
+        begun.close()
     }
 }

@@ -5,13 +5,13 @@ use Rattle.token_pool.proofs.pool.PoolState.close.Goals as goal
 
 pub returns-clause-finishes : goal.returns-clause-finishes
 returns-clause-finishes c =
-    let e : Ended = record { answer = c.answer.result; log = c.play_on-done.new.log } in
+    let e : Ended = record { answer = c.answer-answer.result; log = c.play_on-done.new.log } in
     finishes (the_view c.self.inside) c.args.self c.self.view_is e c.play_on-done.new.core c.in_ok-done.ensures.leads
-    c.answer.ensures c.in_ok-done.ensures.moves
+    c.answer-answer.ensures c.in_ok-done.ensures.moves
 
 pub returns-clause-replays : goal.returns-clause-replays
 returns-clause-replays c =
     let p = the_view c.self.inside in
-    let e : Ended = record { answer = c.answer.result; log = c.play_on-done.new.log } in
+    let e : Ended = record { answer = c.answer-answer.result; log = c.play_on-done.new.log } in
     replays p c.args.self c.self.view_is c.self.invariant.0 e
-    (finishes p c.args.self c.self.view_is e c.play_on-done.new.core c.in_ok-done.ensures.leads c.answer.ensures c.in_ok-done.ensures.moves)
+    (finishes p c.args.self c.self.view_is e c.play_on-done.new.core c.in_ok-done.ensures.leads c.answer-answer.ensures c.in_ok-done.ensures.moves)
