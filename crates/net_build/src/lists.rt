@@ -41,7 +41,7 @@ pub(crate) fn same_nodes(left: &[Node], right: &[Node]) -> bool
         return false;
     }
     for (i, node) in left.iter().enumerate() {
-        if *node != right[i] {
+        if !node.same(right[i]) {
             return false;
         }
     }

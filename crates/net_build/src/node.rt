@@ -1,6 +1,6 @@
 //! The nodes of a net.
 
-ghost use Rattle.std.specs.Prelude.{◌≡◌, ◌∷◌, []};
+ghost use Rattle.std.specs.Prelude.{◌≡◌, ◌↔◌, ◌∷◌, [], IsTrue};
 ghost use Rattle.net_build.specs.Nets.{premises, conclusions};
 ghost use Rattle.net_build.specs.Sides.{present};
 
@@ -160,6 +160,13 @@ pub enum Node {
 }
 
 impl Node {
+    /// Whether both are one node, with the same wires.
+    pub fn same(self, other: Node) -> bool
+        ensures { IsTrue result ↔ (self ≡ other) }
+    {
+        self == other
+    }
+
     /// The wires above this node, in their order.
     pub fn premises(self) -> (Option<u32>, Option<u32>, Option<u32>)
         ensures { present (result.0 ∷ result.1 ∷ result.2 ∷ []) ≡ premises self }
