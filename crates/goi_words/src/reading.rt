@@ -1,6 +1,6 @@
 //! The job that a list of words asks for, read off from what `clap` finds in them.
 
-ghost use Rattle.std.specs.Prelude.{◌≡◌, ◌≢◌, IfOk, IsErrOf, None, Some, false, [], map, option_map, string_bytes};
+ghost use Rattle.std.specs.Prelude.{◌≡◌, ◌≢◌, IfOk, IfErr, IsErrOf, None, Some, false, [], map, option_map, string_bytes};
 ghost use Rattle.clap.specs.Words.{fault_of, found_of, rows_of, subcommand_of, subcommand_rows_of};
 ghost use Rattle.goi_words.specs.Commands.{goi_command};
 ghost use Rattle.goi_words.specs.Asked.{is_set, is_taken, job, job_on, number_of, text_of};
@@ -68,9 +68,9 @@ fn run_job(alloc: Global, found: &ArgMatches<'_>) -> Result<Job, WordFault>
     ensures ok { IfOk result (λ done. run_job (rows_of (found_of found.now)) ≡ Some (job_of done)) }
     ensures refused { IsErrOf result Refused → run_job (rows_of (found_of found.now)) ≡ None }
 {
-    let file = text_of(found, "file").ok_or(WordFault::Refused)?;
-    let workers = number_of(found, "workers").ok_or(WordFault::Refused)?;
-    let budget = number_of(found, "budget").ok_or(WordFault::Refused)?;
+    let file = text_in(found, "file")?;
+    let workers = number_in(found, "workers")?;
+    let budget = number_in(found, "budget")?;
     Ok(Job::Run {
         file: Ident::from_text(alloc, file)?,
         workers,
@@ -86,7 +86,7 @@ fn check_job(alloc: Global, found: &ArgMatches<'_>) -> Result<Job, WordFault>
     ensures ok { IfOk result (λ done. check_job (rows_of (found_of found.now)) ≡ Some (job_of done)) }
     ensures refused { IsErrOf result Refused → check_job (rows_of (found_of found.now)) ≡ None }
 {
-    let file = text_of(found, "file").ok_or(WordFault::Refused)?;
+    let file = text_in(found, "file")?;
     Ok(Job::Check {
         file: Ident::from_text(alloc, file)?,
         term: is_set(found, "term"),
@@ -97,7 +97,7 @@ fn net_job(alloc: Global, found: &ArgMatches<'_>) -> Result<Job, WordFault>
     ensures ok { IfOk result (λ done. net_job (rows_of (found_of found.now)) ≡ Some (job_of done)) }
     ensures refused { IsErrOf result Refused → net_job (rows_of (found_of found.now)) ≡ None }
 {
-    let file = text_of(found, "file").ok_or(WordFault::Refused)?;
+    let file = text_in(found, "file")?;
     Ok(Job::ShowNet {
         file: Ident::from_text(alloc, file)?,
     })
@@ -107,8 +107,8 @@ fn replay_job(alloc: Global, found: &ArgMatches<'_>) -> Result<Job, WordFault>
     ensures ok { IfOk result (λ done. replay_job (rows_of (found_of found.now)) ≡ Some (job_of done)) }
     ensures refused { IsErrOf result Refused → replay_job (rows_of (found_of found.now)) ≡ None }
 {
-    let file = text_of(found, "file").ok_or(WordFault::Refused)?;
-    let schedule = text_of(found, "schedule").ok_or(WordFault::Refused)?;
+    let file = text_in(found, "file")?;
+    let schedule = text_in(found, "schedule")?;
     let window = window_of(found).ok_or(WordFault::Refused)?;
     Ok(Job::Replay {
         file: Ident::from_text(alloc, file)?,
@@ -121,8 +121,8 @@ fn demo_job(_alloc: Global, found: &ArgMatches<'_>) -> Result<Job, WordFault>
     ensures ok { IfOk result (λ done. demo_job (rows_of (found_of found.now)) ≡ Some (job_of done)) }
     ensures refused { IsErrOf result Refused → demo_job (rows_of (found_of found.now)) ≡ None }
 {
-    let n = number_of(found, "n").ok_or(WordFault::Refused)?;
-    let workers = number_of(found, "workers").ok_or(WordFault::Refused)?;
+    let n = number_in(found, "n")?;
+    let workers = number_in(found, "workers")?;
     Ok(Job::Demo { n, workers })
 }
 
@@ -130,9 +130,9 @@ fn run_net_job(alloc: Global, found: &ArgMatches<'_>) -> Result<Job, WordFault>
     ensures ok { IfOk result (λ done. run_net_job (rows_of (found_of found.now)) ≡ Some (job_of done)) }
     ensures refused { IsErrOf result Refused → run_net_job (rows_of (found_of found.now)) ≡ None }
 {
-    let file = text_of(found, "file").ok_or(WordFault::Refused)?;
-    let workers = number_of(found, "workers").ok_or(WordFault::Refused)?;
-    let budget = number_of(found, "budget").ok_or(WordFault::Refused)?;
+    let file = text_in(found, "file")?;
+    let workers = number_in(found, "workers")?;
+    let budget = number_in(found, "budget")?;
     Ok(Job::RunNet {
         file: Ident::from_text(alloc, file)?,
         workers,
@@ -146,8 +146,8 @@ fn batch_job(alloc: Global, found: &ArgMatches<'_>) -> Result<Job, WordFault>
     ensures ok { IfOk result (λ done. batch_job (rows_of (found_of found.now)) ≡ Some (job_of done)) }
     ensures refused { IsErrOf result Refused → batch_job (rows_of (found_of found.now)) ≡ None }
 {
-    let file = text_of(found, "file").ok_or(WordFault::Refused)?;
-    let workers = number_of(found, "workers").ok_or(WordFault::Refused)?;
+    let file = text_in(found, "file")?;
+    let workers = number_in(found, "workers")?;
     Ok(Job::Batch {
         file: Ident::from_text(alloc, file)?,
         workers,
@@ -158,9 +158,9 @@ fn trace_job(alloc: Global, found: &ArgMatches<'_>) -> Result<Job, WordFault>
     ensures ok { IfOk result (λ done. trace_job (rows_of (found_of found.now)) ≡ Some (job_of done)) }
     ensures refused { IsErrOf result Refused → trace_job (rows_of (found_of found.now)) ≡ None }
 {
-    let file = text_of(found, "file").ok_or(WordFault::Refused)?;
-    let workers = number_of(found, "workers").ok_or(WordFault::Refused)?;
-    let budget = number_of(found, "budget").ok_or(WordFault::Refused)?;
+    let file = text_in(found, "file")?;
+    let workers = number_in(found, "workers")?;
+    let budget = number_in(found, "budget")?;
     let window = window_of(found).ok_or(WordFault::Refused)?;
     Ok(Job::Trace {
         file: Ident::from_text(alloc, file)?,
@@ -175,9 +175,9 @@ fn circuit_job(alloc: Global, found: &ArgMatches<'_>) -> Result<Job, WordFault>
     ensures ok { IfOk result (λ done. circuit_job (rows_of (found_of found.now)) ≡ Some (job_of done)) }
     ensures refused { IsErrOf result Refused → circuit_job (rows_of (found_of found.now)) ≡ None }
 {
-    let file = text_of(found, "file").ok_or(WordFault::Refused)?;
-    let stack = number_of(found, "stack").ok_or(WordFault::Refused)?;
-    let forks = number_of(found, "forks").ok_or(WordFault::Refused)?;
+    let file = text_in(found, "file")?;
+    let stack = number_in(found, "stack")?;
+    let forks = number_in(found, "forks")?;
     Ok(Job::Circuit {
         file: Ident::from_text(alloc, file)?,
         stack,
@@ -199,6 +199,22 @@ fn if_traced(is_traced: bool, window: Window) -> Option<Window>
     ensures { result ≡ if_traced is_traced window }
 {
     if is_traced { Some(window) } else { None }
+}
+
+/// The text that was found for an argument, which has to be there.
+fn text_in<'a>(found: &ArgMatches<'a>, name: &str) -> Result<&'a str, WordFault>
+    ensures ok { IfOk result (λ s. text_of name.now (rows_of (found_of found.now)) ≡ Some s.now) }
+    ensures refused { IfErr result (λ f. text_of name.now (rows_of (found_of found.now)) ≡ None) }
+{
+    text_of(found, name).ok_or(WordFault::Refused)
+}
+
+/// The number that was found for an argument, which has to be there.
+fn number_in(found: &ArgMatches<'_>, name: &str) -> Result<u32, WordFault>
+    ensures ok { IfOk result (λ n. number_of name.now (rows_of (found_of found.now)) ≡ Some n) }
+    ensures refused { IfErr result (λ f. number_of name.now (rows_of (found_of found.now)) ≡ None) }
+{
+    number_of(found, name).ok_or(WordFault::Refused)
 }
 
 /// The text that was found for an argument.
