@@ -1,6 +1,7 @@
 -- The ends of the jobs one after another, and why they are runs.
 use Rattle.std.proofs.Common.{◌≡◌, ◌≤◌, ◌-◌, ℕ, suc, take, List, [], ◌∷◌, ◌++◌, append_assoc, length, get_or}
-use Rattle.std.proofs.Common.{drop, Option, Some, None, Result, Ok, Err, IfOk, OnOk, refl, sym, ap, ◌∙◌, subst, arith}
+use Rattle.std.proofs.Common.{drop, Option, Some, None, Result, Ok, Err, IfOk, OnOk, refl, sym, ap, ◌∙◌, subst, arith, All}
+use Rattle.std.proofs.lemmas.List.Elements.{All-take, All-drop}
 use Rattle.token_pool.specs.declared.ending.Ended.{Ended}
 use Rattle.token_pool.specs.Pools.{Pool}
 use Rattle.token_pool.specs.Ending.{Suits, Finishes, Replays}
@@ -42,6 +43,14 @@ first_and_rest (y ∷ ys) x l e =
     let n : length ys ≡ suc (length ys) - 1 = omega arith in
     ap (λ z. z ∷ ys) (sym e) ∙ ap (λ zs. x ∷ zs) (sym (all_taken ys) ∙ ap (λ n. take n ys) n)
 
+-- what is so of each element is so of the first
+pub fits_first : (P : BatchJob → Type 0) (xs : List BatchJob) (x : BatchJob) → 1 ≤ length xs → x ≡ get_or xs 0 x → All P xs → P x
+fits_first P xs x l e h = subst P (sym e) (h 0 x l)
+
+-- and of each behind it
+pub fit_others : (P : BatchJob → Type 0) (xs : List BatchJob) → All P xs → All P (others xs)
+fit_others P xs h = All-take P (length xs - 1) (drop 1 xs) (All-drop P 1 xs h)
+
 pub popped_first : {A : Type 0} (xs rest : List A) (o : Option A) → Pops xs o rest → first_of xs ≡ o
 popped_first xs rest None h = ap first_of h.0
 popped_first xs rest (Some x) h = ap first_of h
@@ -71,6 +80,18 @@ module _ (pools rest : List Pool) (o : Option Pool) (pops : Pops pools o rest) (
     each more h,
   )
   ends_more (Err x) h = tt
+
+module _ (jobs : List BatchJob) (job : BatchJob) (some : 1 ≤ length jobs) (is : job ≡ get_or jobs 0 job) (e : Ended) (run : IsRunOf job 1 e)
+    (old mid new : List Ended) (pushed : mid ≡ old ++ e ∷ []) where
+  -- one run more
+  pub runs_more : {A E : Type 0} (r : Result A E) → OnOk r ((more : List Ended) × (new ≡ mid ++ more) × AreRuns (others jobs) 1 more) →
+      OnOk r ((more : List Ended) × (new ≡ old ++ more) × AreRuns jobs 1 more)
+  runs_more (Ok a) (more, is_new, h) = (
+    e ∷ more,
+    is_new ∙ ap (λ es. es ++ more) pushed ∙ append_assoc old (e ∷ []) more,
+    subst (λ js. AreRuns js 1 (e ∷ more)) (sym (first_and_rest jobs job some is)) (run, h),
+  )
+  runs_more (Err x) h = tt
 
 is_run : (job : BatchJob) (w : ℕ) (e : Ended) → 2 ≤ w → Replays job.net job.budget w e → IsRunOf job w e
 is_run job w e l h = record {

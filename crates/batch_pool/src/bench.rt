@@ -59,6 +59,8 @@ impl Bench for BatchState {
     fn hand_in(&mut self, worker: u32, made: Moved) -> Result<(), AllocError> {
         if self.has_place(worker) {
             self.book(worker, made)?;
+        } else {
+            drop(made);
         }
         Ok(())
     }

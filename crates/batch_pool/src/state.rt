@@ -136,7 +136,10 @@ impl BatchState {
                 forget(&mut self.places, worker);
                 Ok(booked)
             }
-            None => Ok(Booked::NothingHeld),
+            None => {
+                drop(moved);
+                Ok(Booked::NothingHeld)
+            }
         }
     }
 

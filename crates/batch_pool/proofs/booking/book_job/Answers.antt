@@ -1,4 +1,4 @@
-use Rattle.std.proofs.Common.{length, set, refl, sym, subst}
+use Rattle.std.proofs.Common.{◌∙◌, length, set, refl, sym, ap, subst, arith, length-set}
 use Rattle.std.proofs.lemmas.Option.{slice_get_read, slice_get_within}
 use Rattle.batch_pool.specs.Booking.{HoldsOtherIn}
 use Rattle.batch_pool.specs.Keeping.{Spared}
@@ -61,3 +61,25 @@ returns-clause-spared c =
     (changes pools (set pools c.args.job c.book.new.self) c.deref.result.now c.deref-2.result.now c.args.job c.index_mut.result.now
     c.book.new.self c.args.spare.now c.spare_at-before.result c.spare_at-now.result c.requires.spared at refl c.deref.ensures.value
     c.spare_at-before.ensures c.deref-2.ensures.value c.spare_at-now.ensures).spared
+
+pub spare_at-before-requires : goal.spare_at-before-requires
+spare_at-before-requires c =
+    let holds = c.requires.holds.1 in
+    omega (arith, ap length c.deref.ensures.value, slice_get_within c.args.pools.now.items c.args.job holds.0 holds.1)
+
+pub book-requires : goal.book-requires
+book-requires c =
+    let pools = c.args.pools.now.items in
+    let holds = c.requires.holds.1 in
+    (c.requires.serving c.args.job c.index_mut.result.now (slice_get_read pools (length pools) c.args.job c.index_mut.result.now refl
+    (slice_get_within pools c.args.job holds.0 holds.1) c.index_mut.ensures.value)).0
+
+pub spare_at-now-requires : goal.spare_at-now-requires
+spare_at-now-requires c =
+    let pools = c.args.pools.now.items in
+    let holds = c.requires.holds.1 in
+    omega (
+      arith,
+      ap length c.deref-2.ensures.value ∙ length-set pools c.args.job c.book.new.self,
+      slice_get_within pools c.args.job holds.0 holds.1,
+    )
