@@ -15,7 +15,7 @@ fn is_node(net: &Net, seen: Seen) -> bool
     ensures { IsTrue result ↔ Stands net.now seen }
 {
     match net.node(seen.at) {
-        Some(node) => node == seen.node,
+        Some(node) => node.same(seen.node),
         None => false,
     }
 }
