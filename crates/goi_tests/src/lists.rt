@@ -1,7 +1,7 @@
-//! Lists of programs as whole calls: what each status writes, and what failing devices leave.
+//! Lists of programs as whole calls: what failing devices leave.
 
-use crate::programs::{Devices, SOUND, answered, push_bytes, texts};
-use crate::rows::{cut, feed_lines};
+use crate::devices::{Devices, SOUND, answered, push_bytes, texts};
+use crate::rows::feed_lines;
 use goi_world::MemoryFiles;
 use pcf_values::Ident;
 use std::alloc::{AllocError, Global};
@@ -33,8 +33,6 @@ fn listed(alloc: Global, list: &str, devices: Devices<'_>) -> Result<MemoryFiles
         ("p9", "(fun x:nat. x + x) 3"),
         ("p5", "1 + 2"),
         ("p1", ""),
-        (" -n", "succ 4"),
-        ("y", "fix y:nat. y"),
     ];
     for (name, text) in texts {
         push_file(alloc, &mut held, name, text)?;
@@ -54,79 +52,6 @@ fn leaves<R: Threads + Wait + Sync>(
     let words = texts(alloc, words)?;
     let mut files = listed(alloc, list, devices)?;
     Ok(answered(rt, alloc, &words, &mut files, devices)?.as_slice() == wanted.as_bytes())
-}
-
-/// The number of the first line that isn't so. A row is the words of a call, the list, and what the call leaves.
-fn first_wrong<R: Threads + Wait + Sync>(
-    rt: &R,
-    alloc: Global,
-    table: &str,
-) -> Result<Option<usize>, AllocError> {
-    for (i, row) in table.split('\n').enumerate() {
-        let (words, rest) = cut(row);
-        let (list, wanted) = cut(rest);
-        if !row.is_empty() && !leaves(rt, alloc, words, list, SOUND, wanted)? {
-            return Ok(Some(i));
-        }
-    }
-    Ok(None)
-}
-
-#[test]
-fn lists(rt: HostRuntime) -> Result<(), Fail> {
-    let table = "
-goi batch l --workers 1|batch 1;job 30 p9;job 5 p5;job 10 p1;end;|1 job 0;value 6;moves 30;job 1;no value;moves 5;job 2;\
-refused: Unexpected(0);
-goi batch l --workers 4|batch 1;job 30 p9;job 5 p5;job 10 p1;end;|1 job 0;value 6;moves 30;job 1;no value;moves 5;job 2;\
-refused: Unexpected(0);
-goi batch l|batch 1;job 30 p9;job 5 p5;end;|5 job 0;value 6;moves 30;job 1;no value;moves 5;
-goi batch l --workers 4|batch 1;job 30 p9;job 5 p5;end;|5 job 0;value 6;moves 30;job 1;no value;moves 5;
-goi batch l|batch 1;job 30 p9;end;|0 job 0;value 6;moves 30;
-goi batch l|batch 1;end;|0 
-goi batch l --workers 4|batch 1;end;|0 
-goi batch l --workers 4|batch 1;job 2000 y;job 100000 p9;end;|5 job 0;no value;moves 2000;job 1;value 6;moves 30;
-goi batch l|batch 1;job 100 l;end;|1 job 0;refused: Unbound(0);
-goi batch l|batch 1;job 4  -n;end;|0 job 0;value 5;moves 4;
-goi batch l|batch 1;job 0 p9;end;|7 refused: BadLine(2);
-goi batch l|batch 1;job 030 p9;end;|7 refused: BadLine(2);
-goi batch l|batch 1;job 100001 p9;end;|7 refused: BadLine(2);
-goi batch l|batch 1;job 30 p9;|7 refused: NoEnd;
-goi batch l|batch 1;job 30 p9;end;end;|7 refused: BadLine(4);
-goi batch l|job 30 p9;end;|7 refused: BadHeader;
-goi batch l|batch 1;job 30 p9;job 5 lacked;job 10 p1;end;|3 read failed;
-goi batch lacked|batch 1;end;|3 read failed;
-goi batch l --workers 65|batch 1;end;|2 refused words;
-";
-    assert!(rt; first_wrong(&rt, rt.alloc(), table)? == None);
-    Ok(())
-}
-
-/// Whether a list of this many lines that name one file leaves what is told of them all, or the fault of the line that is too many.
-fn repeated<R: Threads + Wait + Sync>(
-    rt: &R,
-    alloc: Global,
-    lines: u32,
-    words: &str,
-) -> Result<bool, AllocError> {
-    let mut list = String::from_str(alloc, "batch 1;")?;
-    let mut wanted = String::from_str(alloc, "0 ")?;
-    for n in 0..lines {
-        list.push_str("job 30 p9;")?;
-        wanted.push_str(&format!(in alloc; "job {n};value 6;moves 30;")?)?;
-    }
-    list.push_str("end;")?;
-    if lines > 64 {
-        wanted = String::from_str(alloc, "7 refused: TooMany(66);")?;
-    }
-    leaves(rt, alloc, words, &list, SOUND, &wanted)
-}
-
-#[test]
-fn one_file_in_all_lines(rt: HostRuntime) -> Result<(), Fail> {
-    assert!(rt; repeated(&rt, rt.alloc(), 64, "goi batch l")?);
-    assert!(rt; repeated(&rt, rt.alloc(), 64, "goi batch l --workers 4")?);
-    assert!(rt; repeated(&rt, rt.alloc(), 65, "goi batch l")?);
-    Ok(())
 }
 
 /// A list for each status that a report comes with: 1, 5 and 0.

@@ -1,9 +1,8 @@
 //! Calls of `goi` in which two workers hold pieces at once.
 
+use crate::devices::{SOUND, answered_at, texts};
 use crate::lists::push_file;
-use crate::programs::{SOUND, answered_at, texts};
 use crate::rows::cut;
-use crate::several::{sums, tally_of};
 use goi_world::MemoryFiles;
 use std::alloc::{AllocError, Global};
 use std::sync::Wait;
@@ -85,6 +84,62 @@ goi batch l --workers 2|5 job 0;value 6;moves 30;job 1;no value;moves 29;job 2;v
 ";
     assert!(rt; first_alone(&rt, rt.alloc(), table)? == None);
     Ok(())
+}
+
+/// The sums of the numbers at the ends of a report's lines: of the lines of its schedule, and of those of its tally.
+fn sums(report: &[u8]) -> (u32, u32) {
+    let mut schedule = 0u32;
+    let mut tally = 0u32;
+    let mut lines = 0u32;
+    let mut number = 0u32;
+    let mut ended = false;
+    for byte in report {
+        // the lines of a schedule have digits and blanks alone, and its last one is `end`
+        ended = ended || (lines >= 3 && *byte == b'e');
+        if *byte == b';' {
+            if ended {
+                tally = tally.saturating_add(number);
+            } else if lines >= 3 {
+                schedule = schedule.saturating_add(number);
+            }
+            lines = lines.saturating_add(1);
+        }
+        number = if byte.is_ascii_digit() {
+            number
+                .wrapping_mul(10)
+                .wrapping_add(u32::from(byte.wrapping_sub(b'0')))
+        } else {
+            0
+        };
+    }
+    (schedule, tally)
+}
+
+/// The number behind the last place at which these bytes stand in a report, or 0.
+fn tally_of(report: &[u8], name: &[u8]) -> u32 {
+    let mut number = 0u32;
+    let mut rest = report;
+    for _ in 0..report.len() {
+        if let Some(behind) = rest.strip_prefix(name) {
+            number = number_at(behind);
+        }
+        rest = rest.split_first().map_or(rest, |(_, more)| more);
+    }
+    number
+}
+
+/// The number in decimal with which these bytes begin.
+fn number_at(bytes: &[u8]) -> u32 {
+    let mut number = 0u32;
+    for byte in bytes {
+        if !byte.is_ascii_digit() {
+            break;
+        }
+        number = number
+            .wrapping_mul(10)
+            .wrapping_add(u32::from(byte.wrapping_sub(b'0')));
+    }
+    number
 }
 
 /// Whether a report is that of 6 in 30 moves by another schedule than one worker's, in which each of two workers has a move for each of

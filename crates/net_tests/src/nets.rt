@@ -1,17 +1,21 @@
-//! Nets of programs, and calls on nets that no program has.
+//! Nets of the highest terms, which are built and read back, and calls on nets that no program has.
 
-ghost use Rattle.std.specs.Prelude.{◌≡◌, ◌≤◌, ◌+◌, ◌*◌, [], IfOk};
+ghost use Rattle.std.specs.Prelude.{◌≡◌, ◌≤◌, ◌+◌, ◌*◌, [], length, IfOk};
 ghost use Rattle.pcf_values.specs.Terms.{nat, var, lam, app, size, height};
 ghost use Rattle.pcf_values.specs.Typing.{HasType};
 ghost use Rattle.pcf_values.specs.Views.{term_of};
 
 use net_build::{Net, Node, Wire, WireKind, build, law_net_size};
+use net_text::{NetTextFault, term_of};
 use pcf_values::{Term, Ty, Typed};
 use std::alloc::{AllocError, Global};
 use std::test::Fail;
 
-/// How many times the identity is applied: with a height past that of every program.
-const TIMES: u32 = 2600;
+/// How many times the identity is applied, so that the term is higher than that of any program.
+const HIGH: u32 = 2600;
+
+/// How many times, so that the term is of the greatest height that is read back.
+const TIMES: u32 = 2598;
 
 /// The identity applied to a term.
 fn applied(alloc: Global, argument: Term) -> Result<Term, AllocError>
@@ -36,20 +40,56 @@ fn tower(alloc: Global, times: u32) -> Result<Term, AllocError>
 }
 
 /// The net of a tower.
-fn high_net(alloc: Global) -> Result<Net, AllocError> {
+fn high_net(alloc: Global, times: u32) -> Result<Net, AllocError>
+    requires { times ≤ 2600 }
+{
     law_net_size();
-    let term = tower(alloc, TIMES)?;
+    let term = tower(alloc, times)?;
     let program = Typed::of(term, Ty::Nat);
     build(alloc, &program)
 }
 
 #[test]
 fn a_high_term_is_built(rt: HostRuntime) -> Result<(), Fail> {
-    let net = high_net(rt.alloc())?;
-    assert!(rt; net.node_count() == 4 * TIMES + 2);
-    assert!(rt; net.wire_count() == 5 * TIMES + 1);
+    let net = high_net(rt.alloc(), HIGH)?;
+    assert!(rt; net.node_count() == 4 * HIGH + 2);
+    assert!(rt; net.wire_count() == 5 * HIGH + 1);
     let copy = net.copy(rt.alloc())?;
     assert!(rt; net.same(&copy));
+    Ok(())
+}
+
+#[test]
+fn a_high_term_is_read_back(rt: HostRuntime) -> Result<(), Fail> {
+    let net = high_net(rt.alloc(), TIMES)?;
+    assert!(rt; term_of(rt.alloc(), &net).is_ok());
+    Ok(())
+}
+
+#[test]
+fn a_higher_term_is_not(rt: HostRuntime) -> Result<(), Fail> {
+    let net = high_net(rt.alloc(), TIMES + 1)?;
+    assert!(rt; matches!(&term_of(rt.alloc(), &net), Err(NetTextFault::NotOfTerm)));
+    Ok(())
+}
+
+fn nat_wire(alloc: Global) -> Result<Vec<Wire>, AllocError>
+    ensures { IfOk result (λ v. length v.items ≡ 1) }
+{
+    let wire = Wire {
+        kind: WireKind::Value,
+        depth: 0,
+        ty: Ty::Nat,
+    };
+    Ok(Vec::from_array(alloc, [wire])?)
+}
+
+#[test]
+fn nodes_out_of_order_are_no_term(rt: HostRuntime) -> Result<(), Fail> {
+    let nodes = [Node::Root { wire: 0 }, Node::Const { value: 5, wire: 0 }];
+    let nodes = Vec::from_array(rt.alloc(), nodes)?;
+    let net = Net::from_parts(rt.alloc(), nat_wire(rt.alloc())?, nodes)?;
+    assert!(rt; matches!(&term_of(rt.alloc(), &net), Err(NetTextFault::NotOfTerm)));
     Ok(())
 }
 

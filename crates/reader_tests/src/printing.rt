@@ -43,3 +43,28 @@ fun x:(nat*nat)*(nat*nat).x|fun x:(nat * nat) * nat * nat. x
     assert!(rt; twice.as_slice() == b"(fun x:nat. x + x) 7".as_slice());
     Ok(())
 }
+
+/// A front so many times, `0`, and a back as many times.
+fn nested(alloc: Global, open: &[u8], close: &[u8], count: u32) -> Result<Vec<u8>, AllocError> {
+    let mut text = Vec::new(alloc);
+    for _ in 0..count {
+        text.extend_from_slice(open)?;
+    }
+    text.extend_from_slice(b"0")?;
+    for _ in 0..count {
+        text.extend_from_slice(close)?;
+    }
+    Ok(text)
+}
+
+/// How many bytes are printed of the highest program: so many times a sum, a product and an application in one another.
+fn length_of_highest(alloc: Global, levels: u32) -> Result<usize, AllocError> {
+    let tall = nested(alloc, b"1+1*f(", b")", levels)?;
+    Ok(respelled(alloc, &tall)?.len())
+}
+
+#[test]
+fn the_highest_program(rt: HostRuntime) -> Result<(), Fail> {
+    assert!(rt; length_of_highest(rt.alloc(), 500)? == 5999);
+    Ok(())
+}

@@ -1,6 +1,5 @@
 //! Tables of rows as texts: a row a line, with a text and what is answered on it, parted by `|`, which no token of the language has.
 
-use crate::faults::fault;
 use crate::outline::outline;
 use crate::printing::respelled;
 use std::alloc::{AllocError, Global};
@@ -8,8 +7,6 @@ use std::alloc::{AllocError, Global};
 /// What is asked of a text.
 #[derive(Clone, Copy)]
 pub(crate) enum Asked {
-    /// The fault of reading it, or `none`.
-    Fault,
     /// Its tree as it is printed.
     Spelling,
     /// Its tree with all places.
@@ -28,7 +25,6 @@ pub(crate) fn cut(text: &[u8], byte: u8) -> (&[u8], &[u8]) {
 
 fn answer(alloc: Global, asked: Asked, text: &[u8]) -> Result<Vec<u8>, AllocError> {
     match asked {
-        Asked::Fault => fault(alloc, text),
         Asked::Spelling => respelled(alloc, text),
         Asked::Tree => outline(alloc, text, true),
     }

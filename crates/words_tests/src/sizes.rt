@@ -1,84 +1,73 @@
-//! Many words, and words of a megabyte.
+//! No words at all, and words of a megabyte, which are longer than the system hands to a program.
 
-use crate::answers::{answer, answer_to};
+use goi_words::{Job, WordFault, job_of};
 use std::alloc::{AllocError, Global};
 use std::test::Fail;
 
 /// How many characters a long word has.
 const LONG: u32 = 1_048_576;
 
-/// Words, and the last of them so many times again.
-fn answer_to_many(
-    alloc: Global,
-    front: &str,
-    last: &str,
-    again: u32,
-) -> Result<String, AllocError> {
-    let mut words = Vec::new(alloc);
-    for word in front.split(',') {
-        words.push(String::from_str(alloc, word)?)?;
-    }
-    for _ in 0..again {
-        words.push(String::from_str(alloc, last)?)?;
-    }
-    answer_to(alloc, words.as_slice())
-}
-
 #[test]
-fn ten_thousand_words(rt: HostRuntime) -> Result<(), Fail> {
-    let rows = [
-        ("goi", "run"),
-        ("goi,run", "p"),
-        ("goi,run,p", "--tally"),
-        ("goi,run,p,--budget,5", "--"),
-        ("goi,replay,p,q", "--workers"),
-    ];
-    for (front, last) in rows {
-        let got = answer_to_many(rt.alloc(), front, last, 10_000)?;
-        assert!(rt;
-            got.as_str() == "refused",
-            "{front}, and many {last}: {got}"
-        );
-    }
+fn no_words(rt: HostRuntime) -> Result<(), Fail> {
+    let words: [String; 0] = [];
+    assert!(rt; matches!(job_of(rt.alloc(), &words), Err(WordFault::Refused)));
     Ok(())
 }
 
-/// A text with so many characters between a front and an end.
-fn long_text(alloc: Global, front: &str, middle: &str, end: &str) -> Result<String, AllocError> {
+/// A text, and a piece so many times behind it.
+fn long_text(alloc: Global, front: &str, piece: &str, count: u32) -> Result<String, AllocError> {
     let mut text = String::from_str(alloc, front)?;
-    for _ in 0..LONG {
-        text.push_str(middle)?;
+    for _ in 0..count {
+        text.push_str(piece)?;
     }
-    text.push_str(end)?;
     Ok(text)
 }
 
-/// A long word makes words that are refused, and a long number is read.
+/// The words of a call of `goi`.
+fn words_of(alloc: Global, command: &str, last: String) -> Result<Vec<String>, AllocError> {
+    let mut words = Vec::new(alloc);
+    words.push(String::from_str(alloc, "goi")?)?;
+    words.push(String::from_str(alloc, command)?)?;
+    words.push(last)?;
+    Ok(words)
+}
+
+/// Whether a call is refused whose last word has this front and so many of this letter.
+fn is_refused(alloc: Global, command: &str, front: &str, letter: &str) -> Result<bool, AllocError> {
+    let last = long_text(alloc, front, letter, LONG)?;
+    let words = words_of(alloc, command, last)?;
+    Ok(matches!(job_of(alloc, &words), Err(WordFault::Refused)))
+}
+
 #[test]
 fn long_words(rt: HostRuntime) -> Result<(), Fail> {
-    let rows = [
-        ("goi,", "x", ",p", "refused"),
-        ("goi,run,p,--", "x", "", "refused"),
-        ("goi,run,-", "t", "", "refused"),
-        ("goi,run,p,--budget,", "9", "", "refused"),
-        ("goi,run,p,--budget,", "0", "5", "run [p] 1 5"),
-        ("", "x", ",demo,1", "demo 1 1"),
-    ];
-    for (front, middle, end, wanted) in rows {
-        let row = long_text(rt.alloc(), front, middle, end)?;
-        let got = answer(rt.alloc(), &row)?;
-        assert!(rt; got.as_str() == wanted, "{front} {middle}: {got}");
-    }
+    assert!(rt; is_refused(rt.alloc(), "run", "--", "x")?);
+    assert!(rt; is_refused(rt.alloc(), "run", "-", "t")?);
+    assert!(rt; is_refused(rt.alloc(), "demo", "", "9")?);
     Ok(())
 }
 
-/// The long name of a file is kept whole.
+/// Whether a job is to print the net of the file of this name.
+fn shows_net(job: &Job, name: &str) -> bool {
+    match job {
+        Job::ShowNet { file } => file.as_str() == name,
+        _ => false,
+    }
+}
+
+/// Whether the long name of a file is kept whole.
+fn is_kept(alloc: Global) -> Result<bool, AllocError> {
+    let name = long_text(alloc, "/", "p", LONG)?;
+    let words = words_of(alloc, "net", name)?;
+    let wanted = long_text(alloc, "/", "p", LONG)?;
+    match job_of(alloc, &words) {
+        Ok(job) => Ok(shows_net(&job, &wanted)),
+        Err(_) => Ok(false),
+    }
+}
+
 #[test]
-fn long_name(rt: HostRuntime) -> Result<(), Fail> {
-    let name = long_text(rt.alloc(), "/", "p", ".pcf")?;
-    let row = long_text(rt.alloc(), "goi,net,/", "p", ".pcf")?;
-    let wanted = format!(in rt.alloc(); "net [{name}]")?;
-    let got = answer(rt.alloc(), &row)?;
-    assert!(rt; got == wanted);
+fn a_long_name(rt: HostRuntime) -> Result<(), Fail> {
+    assert!(rt; is_kept(rt.alloc())?);
     Ok(())
 }
