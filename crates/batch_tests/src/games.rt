@@ -163,17 +163,34 @@ fn is_so(
     works_so(alloc, jobs, batch, worker, rest)
 }
 
+/// Whether all rows are so, in turn.
+fn are_so(
+    alloc: Global,
+    jobs: &Vec<BatchJob>,
+    batch: &mut BatchState,
+    rows: &str,
+) -> Result<bool, AllocError>
+    requires { batch.old.workers ≡ 2 }
+{
+    for row in rows.lines() {
+        if !is_so(alloc, jobs, batch, row)? {
+            return Ok(false);
+        }
+    }
+    Ok(true)
+}
+
 /// Plays a batch of two workers by its table, and answers it, or none where a row isn't so.
 fn played(alloc: Global, jobs: &Vec<BatchJob>, rows: &str) -> Result<Option<BatchState>, AllocError>
     requires { BatchFits jobs.now.items 2 }
 {
     let mut batch = BatchState::start(alloc, jobs, 2)?;
-    for row in rows.lines() {
-        if !is_so(alloc, jobs, &mut batch, row)? {
-            return Ok(None);
-        }
+    let so = are_so(alloc, jobs, &mut batch, rows);
+    if so == Ok(true) {
+        return Ok(Some(batch));
     }
-    Ok(Some(batch))
+    drop(batch);
+    so.map(|_| None)
 }
 
 /// Whether a batch that is played so is finished for these jobs to these ends; `none` where it has none.
@@ -190,10 +207,27 @@ fn finishes(
     let Some(batch) = played(alloc, first, rows)? else {
         return Ok(false);
     };
-    match batch.finish(alloc, jobs, 2) {
+    let finished = batch.finish(alloc, jobs, 2);
+    match finished {
         Ok(ends) => Ok(are_ends(&ends, wanted)),
         Err(_) => Ok(wanted == "none"),
     }
+}
+
+/// The same where the jobs are those of a list.
+fn finishes_others(
+    alloc: Global,
+    first: &Vec<BatchJob>,
+    rows: &str,
+    other: &str,
+    wanted: &str,
+) -> Result<bool, AllocError>
+    requires { BatchFits first.now.items 2 }
+{
+    let jobs = jobs_of(alloc, other)?;
+    let so = finishes(alloc, first, rows, &jobs, wanted);
+    drop(jobs);
+    so
 }
 
 /// Whether a batch of one list that is played so is finished for the jobs of another list to these ends.
@@ -205,8 +239,7 @@ fn is_game(
     wanted: &str,
 ) -> Result<bool, AllocError> {
     let first = jobs_of(alloc, list)?;
-    let jobs = jobs_of(alloc, other)?;
-    finishes(alloc, &first, rows, &jobs, wanted)
+    finishes_others(alloc, &first, rows, other, wanted)
 }
 
 /// Two jobs: the one comes to 3 in six moves, and the other in two.

@@ -221,6 +221,30 @@ struct Table<'a> {
     rows: &'a str,
 }
 
+/// Whether all rows are so, in turn.
+fn are_so<N: OnNet>(
+    alloc: Global,
+    net: &NamedNet<N>,
+    core: &mut Core,
+    table: Table<'_>,
+) -> Result<bool, AllocError>
+    requires runs { Runs N.net }
+    requires reached { IsReachedWithin N.net 1 core.old }
+{
+    let mut moves = 0;
+    for row in table.rows.lines() {
+        if moves > 1000 {
+            return Ok(false);
+        }
+        let (so, made) = is_so(alloc, net, core, moves, row)?;
+        if !so {
+            return Ok(false);
+        }
+        moves += made;
+    }
+    Ok(true)
+}
+
 /// Whether each row is so, from the start of the net that `N` names.
 fn plays_all<N: OnNet>(alloc: Global, net: Net, table: Table<'_>) -> Result<bool, AllocError>
     requires named { net ≡ N.net }
@@ -228,18 +252,9 @@ fn plays_all<N: OnNet>(alloc: Global, net: Net, table: Table<'_>) -> Result<bool
 {
     let mut core = Core::start(alloc, &net)?;
     let net: NamedNet<N> = NamedNet::new(net);
-    let mut moves = 0;
-    for row in table.rows.lines() {
-        if moves > 1000 {
-            return Ok(false);
-        }
-        let (so, made) = is_so(alloc, &net, &mut core, moves, row)?;
-        if !so {
-            return Ok(false);
-        }
-        moves += made;
-    }
-    Ok(true)
+    let so = are_so(alloc, &net, &mut core, table);
+    drop(core);
+    so
 }
 
 /// Whether each row of the table is so, from the start of the net on.

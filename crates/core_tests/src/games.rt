@@ -100,26 +100,39 @@ fn stands_so(alloc: Global, core: &Core, row: &str) -> Result<Option<bool>, Allo
     }
 }
 
-/// Plays a run by its table, and answers its last state, or none where a row isn't so.
-pub(crate) fn played(alloc: Global, net: &Net, rows: &str) -> Result<Option<Core>, AllocError>
-    requires { Runs net.now }
+/// Whether all rows are so, in turn.
+fn are_so(alloc: Global, net: &Net, core: &mut Core, rows: &str) -> Result<bool, AllocError>
+    requires runs { Runs net.now }
+    requires reached { IsReachedWithin net.now 1 core.old }
 {
-    let mut core = Core::start(alloc, net)?;
     let mut moves = 0;
     for row in rows.lines() {
-        match stands_so(alloc, &core, row)? {
+        match stands_so(alloc, core, row)? {
             Some(true) => {}
-            Some(false) => return Ok(None),
+            Some(false) => return Ok(false),
             None => {
                 let (ticket, rest) = cut(row, ' ');
                 if moves == MOST_MOVES
-                    || !moves_so(alloc, net, &mut core, moves, number(ticket), rest)?
+                    || !moves_so(alloc, net, core, moves, number(ticket), rest)?
                 {
-                    return Ok(None);
+                    return Ok(false);
                 }
                 moves += 1;
             }
         }
     }
-    Ok(Some(core))
+    Ok(true)
+}
+
+/// Plays a run by its table, and answers its last state, or none where a row isn't so.
+pub(crate) fn played(alloc: Global, net: &Net, rows: &str) -> Result<Option<Core>, AllocError>
+    requires { Runs net.now }
+{
+    let mut core = Core::start(alloc, net)?;
+    let so = are_so(alloc, net, &mut core, rows);
+    if so == Ok(true) {
+        return Ok(Some(core));
+    }
+    drop(core);
+    so.map(|_| None)
 }

@@ -85,6 +85,21 @@ struct Table<'a> {
     rows: &'a str,
 }
 
+/// Whether all rows are so, in turn.
+fn are_so<N: OnNet + Send + Sync>(
+    alloc: Global,
+    net: &NamedNet<N>,
+    pool: &mut BranchPool<N>,
+    table: Table<'_>,
+) -> Result<bool, AllocError> {
+    for row in table.rows.lines() {
+        if !is_so(alloc, net, pool, row)? {
+            return Ok(false);
+        }
+    }
+    Ok(true)
+}
+
 /// Plays a pool by its table, and answers it, or none where a row isn't so.
 fn plays_all<N: OnNet + Send + Sync>(
     alloc: Global,
@@ -98,12 +113,14 @@ fn plays_all<N: OnNet + Send + Sync>(
 {
     let net: NamedNet<N> = NamedNet::new(net);
     let mut bench: BranchPool<N> = BranchPool::new(pool);
-    for row in table.rows.lines() {
-        if !is_so(alloc, &net, &mut bench, row)? {
-            return Ok(None);
-        }
+    let so = are_so(alloc, &net, &mut bench, table);
+    drop(net);
+    let pool = bench.into_pool();
+    if so == Ok(true) {
+        return Ok(Some(pool));
     }
-    Ok(Some(bench.into_pool()))
+    drop(pool);
+    so.map(|_| None)
 }
 
 /// What a pool for so many workers is finished to, after these rows; none where a row isn't so.

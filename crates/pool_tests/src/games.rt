@@ -167,6 +167,24 @@ fn is_so(
     works_so(alloc, net, pool, worker, rest)
 }
 
+/// Whether all rows are so, in turn.
+fn are_so(
+    alloc: Global,
+    net: &Net,
+    pool: &mut PoolState,
+    workers: u32,
+    rows: &str,
+) -> Result<bool, AllocError>
+    requires { workers ≡ pool.old.workers }
+{
+    for row in rows.lines() {
+        if !is_so(alloc, net, pool, workers, row)? {
+            return Ok(false);
+        }
+    }
+    Ok(true)
+}
+
 /// Plays a pool by its table, and answers it, or none where a row isn't so.
 pub(crate) fn played(
     alloc: Global,
@@ -179,10 +197,10 @@ pub(crate) fn played(
     requires limits { InLimits budget workers }
 {
     let mut pool = PoolState::start(alloc, net, budget, workers)?;
-    for row in rows.lines() {
-        if !is_so(alloc, net, &mut pool, workers, row)? {
-            return Ok(None);
-        }
+    let so = are_so(alloc, net, &mut pool, workers, rows);
+    if so == Ok(true) {
+        return Ok(Some(pool));
     }
-    Ok(Some(pool))
+    drop(pool);
+    so.map(|_| None)
 }

@@ -1,6 +1,6 @@
 use Rattle.std.proofs.Common.{◌+◌, ◌≤◌}
 use Rattle.interleave_laws.specs.Maps.{IsReachedWithin}
-use Rattle.core_tests.proofs.games.played.Given as goal
+use Rattle.core_tests.proofs.games.are_so.Given as goal
 
 abbrev pub invariant-loop-row : goal.invariant-loop-row
 invariant-loop-row l =

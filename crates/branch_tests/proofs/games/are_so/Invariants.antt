@@ -1,6 +1,6 @@
 use Rattle.std.proofs.Common.{◌+◌, ◌≤◌}
 use Rattle.interleave_laws.specs.Maps.{IsReachedWithin}
-use Rattle.branch_tests.proofs.games.plays_all.Given as goal
+use Rattle.branch_tests.proofs.games.are_so.Given as goal
 
 abbrev pub invariant-loop-row : goal.invariant-loop-row
 invariant-loop-row g l =
