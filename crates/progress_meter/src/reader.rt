@@ -1,9 +1,10 @@
 //! The end that reads.
-ghost use Rattle.std.specs.Prelude.{◌≡◌, ◌≤◌, IfOk};
+ghost use Rattle.std.specs.Prelude.{◌≡◌, ◌≤◌, ◌∷◌, [], IfOk};
 ghost use Rattle.std.specs.Arc.{arc_value};
 ghost use Rattle.crossbeam_utils.specs.Seq.{cell_view};
 ghost use Rattle.progress_meter.specs.Meters.{last_of, first_listener, with_reading, RisesFromZero};
-ghost use Rattle.progress_meter.specs.Rule.{new_reader};
+ghost use Rattle.crossbeam_utils.specs.Register.{Turns};
+ghost use Rattle.progress_meter.specs.Rule.{new_reader, Kept, Loaded};
 ghost use Rattle.progress_meter.specs.declared.rule.View.TheVariants.{Reads};
 
 use crate::rule::{Cell, End, Loads, SecondReader};
@@ -36,6 +37,17 @@ impl Model for Reader {
     ghost invariant = { λ r. (r.end.table_id ≡ (arc_value r.cell).table.shared.table_id) × Listens (cell_view r.end) r.last };
 }
 
+/// Loads the word where a reader may.
+fn load<R: Wait>(rt: &R, cell: &Cell, end: &mut End) -> u64
+    requires cell { end.old.table_id ≡ cell.now.table.shared.table_id }
+    requires rule { Turns Kept end.old.id (cell_view end.old) (λ x. x) Loaded }
+    ensures cell { end.new.table_id ≡ end.old.table_id }
+    ensures loaded { Loaded (cell_view end.old) (result ∷ []) (result ∷ []) (cell_view end.new) }
+{
+    let [n] = cell.load_as::<Loads, R>(rt, end);
+    n
+}
+
 impl Reader {
     // A reader that has read nothing but 0.
     pub(crate) fn new(cell: Arc<Cell, Global>, end: End) -> Reader
@@ -62,7 +74,7 @@ impl Reader {
         ensures not_below { last_of self.old.readings ≤ result }
         ensures rises { RisesFromZero self.new.readings }
     {
-        let [n] = self.cell.load_as::<Loads, R>(rt, &mut self.end);
+        let n = load(rt, &self.cell, &mut self.end);
         self.last = n;
         n
     }

@@ -1,5 +1,8 @@
 //! The end that publishes.
-ghost use Rattle.std.specs.Prelude.{◌≡◌, ◌≤◌, IfOk};
+ghost use Rattle.std.specs.Prelude.{◌≡◌, ◌≤◌, ◌∷◌, [], IfOk};
+ghost use Rattle.crossbeam_utils.specs.Seq.{cell_view};
+ghost use Rattle.crossbeam_utils.specs.Register.{Turns};
+ghost use Rattle.progress_meter.specs.Rule.{Compared, IsReader, IsWriter, Kept, Stored, with_readings};
 ghost use Rattle.progress_meter.specs.Meters.{first_publisher, first_listener, last_of, with_number, with_settled, AreReadingsOf, Faithful};
 
 use crate::Reader;
@@ -52,6 +55,37 @@ pub fn meter(alloc: Global) -> Result<(Writer, Reader), AllocError>
     Ok((writer, reader))
 }
 
+/// Stores a number where that keeps the rule.
+fn store<R: Wait>(rt: &R, cell: &Cell, end: &mut End, n: u64)
+    requires cell { end.old.table_id ≡ cell.now.table.shared.table_id }
+    requires rule { Turns Kept end.old.id (cell_view end.old) (λ _. n ∷ []) Stored }
+    ensures cell { end.new.table_id ≡ end.old.table_id }
+    ensures stored { Stored (cell_view end.old) [] (n ∷ []) (cell_view end.new) }
+{
+    cell.swap_as::<Stores, R>(rt, end, [n]);
+}
+
+/// Puts a reader's view beside the writer's: it moves to a new seat first, since the seat that made its steps can't be joined.
+fn take_in(cell: &Cell, end: &mut End, mut readings: End)
+    requires cell { (end.old.table_id ≡ cell.now.table.shared.table_id) × (readings.table_id ≡ end.old.table_id) }
+    requires views { IsWriter (cell_view end.old) × IsReader (cell_view readings) }
+    ensures cell { end.new.table_id ≡ end.old.table_id }
+    ensures joined { cell_view end.new ≡ with_readings (cell_view end.old) (cell_view readings) }
+{
+    let whole = cell.split_pass::<WholeView>(&mut readings);
+    cell.join_pass::<Settles>(end, whole);
+}
+
+/// Loads the word as the writer, which learns what the rule says of all that it has.
+fn compare<R: Wait>(rt: &R, cell: &Cell, end: &mut End)
+    requires cell { end.old.table_id ≡ cell.now.table.shared.table_id }
+    requires rule { Turns Kept end.old.id (cell_view end.old) (λ x. x) Compared }
+    ensures cell { end.new.table_id ≡ end.old.table_id }
+    ensures compared { Compared (cell_view end.old) [] [] (cell_view end.new) }
+{
+    cell.load_as::<Compares, R>(rt, end);
+}
+
 impl Writer {
     /// The number published last. Takes no memory.
     pub fn last(&self) -> u64
@@ -67,7 +101,7 @@ impl Writer {
         ensures published { self.new ≡ with_number self.old n }
         ensures last { last_of self.new.published ≡ n }
     {
-        self.cell.swap_as::<Stores, R>(rt, &mut self.end, [n]);
+        store(rt, &self.cell, &mut self.end, n);
         self.last = n;
     }
 
@@ -79,9 +113,8 @@ impl Writer {
         ensures readings { AreReadingsOf self.old.published reader.readings }
         ensures faithful { Faithful self.new }
     {
-        let mut end = reader.into_end();
-        let whole = self.cell.split_pass::<WholeView>(&mut end);
-        self.cell.join_pass::<Settles>(&mut self.end, whole);
-        self.cell.load_as::<Compares, R>(rt, &mut self.end);
+        let readings = reader.into_end();
+        take_in(&self.cell, &mut self.end, readings);
+        compare(rt, &self.cell, &mut self.end);
     }
 }

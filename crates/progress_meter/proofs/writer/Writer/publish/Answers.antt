@@ -4,20 +4,19 @@ use Rattle.progress_meter.proofs.Steps.{stores_as}
 use Rattle.progress_meter.proofs.Ends.{has_published}
 use Rattle.progress_meter.proofs.writer.Writer.publish.Goals as goal
 
-pub swap_as-requires : goal.swap_as-requires
-swap_as-requires g c = let i = c.self.invariant in
-    (search rules, (search rules, (search rules, stores_as _ _ c.args.n i.1.is_writer (search rules))))
+pub store-requires-clause-rule : goal.store-requires-clause-rule
+store-requires-clause-rule g c = stores_as _ _ c.args.n c.self.invariant.1.is_writer (search rules)
 
 pub invariant_of-self : goal.invariant_of-self
 invariant_of-self g c =
     let i = c.self.invariant in
-    let s = c.swap_as.ensures in
+    let s = c.store.ensures in
     let v = cell_view c.self.inside.end in
-    (s.cell.0 ∙ i.0, has_published v (cell_view c.swap_as.new.pass) c.self.inside.last (c.args.n ∷ []) i.1 (search rules) s.rule)
+    (s.cell ∙ i.0, has_published v (cell_view c.store.new.end) c.self.inside.last (c.args.n ∷ []) i.1 (search rules) s.stored)
 
 pub returns-clause-last : goal.returns-clause-last
 returns-clause-last g c =
     let i = c.self.invariant in
     let v = cell_view c.self.inside.end in
-    let h = has_published v (cell_view c.swap_as.new.pass) c.self.inside.last (c.args.n ∷ []) i.1 (search rules) c.swap_as.ensures.rule in
+    let h = has_published v (cell_view c.store.new.end) c.self.inside.last (c.args.n ∷ []) i.1 (search rules) c.store.ensures.stored in
     sym h.last_is
