@@ -1,8 +1,9 @@
 //! The run of a net, read beside its workers.
-ghost use Rattle.std.specs.Prelude.{◌≡◌, ◌≤◌, [], ◌∷◌, length, All, IfOk};
+ghost use Rattle.std.specs.Prelude.{◌≡◌, ◌≤◌, [], ◌∷◌, length, All, IfOk, OnOk};
 ghost use Rattle.std.specs.List.Sorted.{IsNonDecreasing};
 ghost use Rattle.pcf_values.specs.Most.{most_budget, most_workers};
 ghost use Rattle.interleave_laws.specs.Runs.{Runs};
+ghost use Rattle.progress_meter.specs.Meters.{last_of};
 ghost use Rattle.token_pool.specs.Pools.{InLimits};
 ghost use Rattle.token_pool.specs.Ending.{Suits};
 ghost use Rattle.net_runs.specs.Running.{IsRun, IsFirstWorkers};
@@ -70,11 +71,11 @@ fn drive_new<R: Threads + Wait + Sync, G: Gate>(
     ensures booked { IfOk result (λ r. All (λ n. n ≤ length r.0.log) r.1.items) }
 {
     let readings = Vec::with_capacity(alloc, 17)?;
-    let pool = PoolState::start(alloc, net, budget, workers)?;
     let (writer, reader) = meter(alloc)?;
-    Ok(drive_watched::<Brand, R, G>(
+    let pool = PoolState::start(alloc, net, budget, workers)?;
+    drive_watched::<Brand, R, G>(
         rt, alloc, net, workers, gate, pool, writer, reader, readings,
-    )?)
+    )
 }
 
 // Drives the pool, and reads on the meter beside. The readings never go down, and none is above the number of moves of the pool that came
@@ -116,13 +117,28 @@ fn drive_watched<M: Watched + Send + Sync, R: Threads + Wait + Sync, G: Gate>(
             bench
         },
     );
-    let (reader, readings) = answer?;
-    let (pool, mut writer) = bench.into_parts();
-    writer.settle(rt, reader);
-    Ok((pool, readings))
+    let (pool, writer) = bench.into_parts();
+    match answer {
+        Ok((reader, readings)) => Ok((pool, settled(rt, writer, reader, readings))),
+        Err(error) => {
+            drop(pool);
+            Err(error)
+        }
+    }
 }
 
-// Sixteen readings, each after twice the pause of the one before.
+// The readings of a reader that the writer has settled: they never went down, and none is above the number that was published last.
+fn settled<R: Wait>(rt: &R, mut writer: Writer, reader: Reader, readings: Vec<u64>) -> Vec<u64>
+    requires reader { (reader.meter ≡ writer.meter) × (reader.readings ≡ 0 ∷ readings.items) }
+    ensures same { result ≡ readings }
+    ensures never_down { IsNonDecreasing readings.items }
+    ensures booked { All (λ n. n ≤ last_of writer.published) readings.items }
+{
+    writer.settle(rt, reader);
+    readings
+}
+
+// The reader after sixteen readings, and these.
 fn read_all<R: Wait>(
     rt: &R,
     mut reader: Reader,
@@ -132,11 +148,27 @@ fn read_all<R: Wait>(
     requires { readings.items ≡ [] }
     ensures { IfOk result (λ r. HasRead reader r.0 r.1.items) }
 {
+    match push_all(rt, &mut reader, &mut readings, pace) {
+        Ok(()) => Ok((reader, readings)),
+        Err(error) => Err(error),
+    }
+}
+
+// Adds sixteen readings, each after twice the pause of the one before.
+fn push_all<R: Wait>(
+    rt: &R,
+    reader: &mut Reader,
+    readings: &mut Vec<u64>,
+    pace: &Pace,
+) -> Result<(), AllocError>
+    requires { readings.old.items ≡ [] }
+    ensures { OnOk result (HasRead reader.old reader.new readings.new.items) }
+{
     for n in 0..16u32 {
         pace.pause(rt, 100u64 << n);
         readings.push(reader.read(rt))?;
     }
-    Ok((reader, readings))
+    Ok(())
 }
 
 // Finishes the run that this pool is of. The moves go on behind those that were booked, and where there is one worker all are its own.
