@@ -97,20 +97,29 @@ pub fn walk(alloc: Global, net: &Net, token: Token, most: u32) -> Result<Moved, 
 {
     let before = token.copy()?;
     let mut after = token;
-    let mut trail = Vec::with_capacity(alloc, most.min(FIRST_ROOM) as usize)?;
-    let mut left = most;
-    while left > 0 {
-        match solo_move(net, &mut after)? {
-            Some(seen) => trail.push(seen)?,
-            None => break,
-        }
-        left -= 1;
-    }
+    let trail = follow(alloc, net, &mut after, most)?;
     Ok(Moved {
         before,
         after,
         trail,
     })
+}
+
+/// Makes the token's next moves in place, until `most` are made or the next is no solo move, and answers their nodes.
+fn follow(alloc: Global, net: &Net, token: &mut Token, most: u32) -> Result<Vec<Seen>, AllocError>
+    ensures reached { IfOk result (λ v. Reached (record { before = token.old; after = token.new; trail = v.items })) }
+    ensures walked { IfOk result (λ v. Walked net.now most (record { before = token.old; after = token.new; trail = v.items })) }
+{
+    let mut trail = Vec::with_capacity(alloc, most.min(FIRST_ROOM) as usize)?;
+    let mut left = most;
+    while left > 0 {
+        match solo_move(net, token)? {
+            Some(seen) => trail.push(seen)?,
+            None => break,
+        }
+        left -= 1;
+    }
+    Ok(trail)
 }
 
 /// Makes the token's next move on this net if it is a solo move, by a plain rule or by that of a constant, `succ`, `pred` or a test, and

@@ -1,5 +1,7 @@
 -- What the walk reads decides whose net a net is.
-use Rattle.std.proofs.Common.{◌≡◌, ℕ, ◌+◌, ◌*◌, ◌<◌, ◌≤◌, [], length, Option, Some, None, sym, ap, ◌∙◌, subst, arith}
+use Rattle.std.proofs.Common.{◌≡◌, refl, ℕ, ◌+◌, ◌*◌, ◌<◌, ◌≤◌, [], length, Option, Some, None, sym, ap, ◌∙◌, subst, arith}
+use Rattle.std.specs.Prelude.{Bool, true, false}
+use Rattle.std.specs.Bool.{then_some}
 use Rattle.std.proofs.Math.Nat.{mul-le-mul}
 use Rattle.pcf_values.specs.Terms.{TermTree, nat, size, height}
 use Rattle.pcf_values.specs.Typing.{HasType}
@@ -22,6 +24,11 @@ same_term m l h = cc
 -- no reading gives none
 no_term : (m : TermTree) → None ≡ Some m → ⊥
 no_term m h = cc
+
+-- what a test keeps is right, where it is for both of the test's answers
+pub kept_is : {T : Type 0} (P : Option T → Type 0) (b : Bool) (x : T) → (b ≡ true → P (Some x)) → (b ≡ false → P None) → P (then_some b x)
+kept_is P true x y n = y refl
+kept_is P false x y n = n refl
 
 -- where nothing is read, the net is that of no term
 pub none_read : (h : ℕ) (net : NetTree) → candidate h net ≡ None → OfNone h net

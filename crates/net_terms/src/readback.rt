@@ -1,6 +1,6 @@
 //! The term that a net was built of.
 
-ghost use Rattle.std.specs.Prelude.{◌≡◌, ◌≤◌, ◌<◌, ◌+◌, ◌*◌, ◌^◌, Option, Some, length, replicate, IfOk, IsTrue, IsFalse, [], ◌∷◌};
+ghost use Rattle.std.specs.Prelude.{◌≡◌, ◌↔◌, ◌≤◌, ◌<◌, ◌+◌, ◌*◌, ◌^◌, Option, Some, length, replicate, IfOk, IsTrue, IsFalse, [], ◌∷◌};
 ghost use Rattle.std.specs.Option.{option_map};
 ghost use Rattle.pcf_values.specs.Terms.{nat, height, size};
 ghost use Rattle.pcf_values.specs.Typing.{HasType};
@@ -31,9 +31,23 @@ pub fn term_within(alloc: Global, net: &Net, height: u32) -> Result<Option<Typed
     requires { height ≤ most_term_height }
     ensures { IfOk result (TermOrNone height net.now) }
 {
-    let Some(term) = read_root(alloc, net, height)? else {
-        return Ok(None);
-    };
+    match read_root(alloc, net, height)? {
+        Some(term) => program_within(alloc, net, height, term),
+        None => Ok(None),
+    }
+}
+
+/// The term with its type, if it is a program and the net is its.
+fn program_within(
+    alloc: Global,
+    net: &Net,
+    height: u32,
+    term: Term,
+) -> Result<Option<Typed>, AllocError>
+    requires bound { height ≤ most_term_height }
+    requires only { candidate height net.now ≡ Some (term_of term) }
+    ensures { IfOk result (TermOrNone height net.now) }
+{
     if is_programs_net(alloc, net, &term)? {
         checked(alloc, net, height, Typed::of(term, Ty::Nat))
     } else {
@@ -66,17 +80,24 @@ fn checked(
     requires only { candidate height net.now ≡ Some program.0 }
     ensures { IfOk result (TermOrNone height net.now) }
 {
+    let same = is_net_of(alloc, net, height, &program)?;
+    Ok(same.then_some(program))
+}
+
+/// Whether the net is that of the term that is read from it.
+fn is_net_of(alloc: Global, net: &Net, height: u32, program: &Typed) -> Result<bool, AllocError>
+    requires bound { height ≤ most_term_height }
+    requires ground { program.now.1 ≡ nat }
+    requires only { candidate height net.now ≡ Some program.now.0 }
+    ensures { IfOk result (λ b. IsTrue b ↔ (net_of program.now.0 ≡ net.now)) }
+{
     let own_height = height_of(program.term());
     if net.node_count() as u64 * (2 * own_height as u64 + 4) >= 4_294_967_296 {
         return Err(AllocError);
     }
     law_net_size();
-    let built = build(alloc, &program)?;
-    if built.same(net) {
-        Ok(Some(program))
-    } else {
-        Ok(None)
-    }
+    let built = build(alloc, program)?;
+    Ok(built.same(net))
 }
 
 /// The one term of at most this height that the net can be the net of.
