@@ -3,9 +3,9 @@
 use Rattle.std.specs.Prelude.{ℕ}
 use Rattle.pcf_values.specs.declared.val.Val.{Val}
 use Rattle.pcf_values.specs.declared.val.Val.TheVariants.{Number, Overflow}
-use Rattle.pcf_values.specs.Values.{plus_op, minus_op, times_op}
+use Rattle.pcf_values.specs.declared.operator.Operator.TheVariants.{Plus, Minus, Times}
 use Rattle.pcf_values.specs.Terms.{nat, arrow, product, TermTree, num, var, succ_of, pred_of, binary, ifz, lam, fix, app, pair, proj}
-use Rattle.pcf_values.specs.Terms.{left_side, right_side}
+use Rattle.pcf_values.specs.declared.side.Side.TheVariants.{Left, Right}
 use Rattle.net_build.specs.NetOf.{net_of}
 use Rattle.adequacy_laws.specs.Questions.{Length}
 
@@ -15,19 +15,19 @@ loops = fix nat (var 0)
 
 -- `fun x:nat. x + x`
 abbrev pub double : TermTree
-double = lam nat (binary plus_op (var 0) (var 0))
+double = lam nat (binary Plus (var 0) (var 0))
 
 -- `fun p:nat*nat. fst p - snd p`
 abbrev pub difference_of_parts : TermTree
-difference_of_parts = lam (product nat nat) (binary minus_op (proj left_side (var 0)) (proj right_side (var 0)))
+difference_of_parts = lam (product nat nat) (binary Minus (proj Left (var 0)) (proj Right (var 0)))
 
 -- `fix f:nat->nat. fun n:nat. ifz n then 0 else n + f (pred n)`
 abbrev pub sum_to : TermTree
-sum_to = fix (arrow nat nat) (lam nat (ifz (var 0) (num 0) (binary plus_op (var 0) (app (var 1) (pred_of (var 0))))))
+sum_to = fix (arrow nat nat) (lam nat (ifz (var 0) (num 0) (binary Plus (var 0) (app (var 1) (pred_of (var 0))))))
 
 -- `fun d:nat->nat. d 1 + d 2`
 abbrev pub at_one_and_two : TermTree
-at_one_and_two = lam (arrow nat nat) (binary plus_op (app (var 0) (num 1)) (app (var 0) (num 2)))
+at_one_and_two = lam (arrow nat nat) (binary Plus (app (var 0) (num 1)) (app (var 0) (num 2)))
 
 -- `fun f:(nat->nat)->nat. f (fun x:nat. succ x)` and `fun g:nat->nat. g 5`
 abbrev pub at_succ : TermTree
@@ -42,12 +42,12 @@ Comes m v n = Length (net_of m) v n
 
 pub record ExampleLengths : Type 0 where
   -- `1 + 2`, `5 - 7`, and a product past the greatest number
-  pub sum : Comes (binary plus_op (num 1) (num 2)) (Number 3) 6
-  pub difference : Comes (binary minus_op (num 5) (num 7)) (Number 0) 6
-  pub past_limit : Comes (binary times_op (num 18446744073709551615) (num 2)) Overflow 6
+  pub sum : Comes (binary Plus (num 1) (num 2)) (Number 3) 6
+  pub difference : Comes (binary Minus (num 5) (num 7)) (Number 0) 6
+  pub past_limit : Comes (binary Times (num 18446744073709551615) (num 2)) Overflow 6
   -- an argument and a part of a pair that aren't asked for may loop
   pub argument_unasked : Comes (app (lam nat (num 7)) loops) (Number 7) 6
-  pub part_unasked : Comes (proj left_side (pair (num 1) loops)) (Number 1) 6
+  pub part_unasked : Comes (proj Left (pair (num 1) loops)) (Number 1) 6
   -- overflow is no zero
   pub overflow_is_no_zero : Comes (ifz (succ_of (num 18446744073709551615)) (num 1) (num 2)) (Number 2) 8
   -- a variable that is used twice is asked for twice

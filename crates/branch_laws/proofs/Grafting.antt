@@ -8,8 +8,8 @@ use Rattle.std.proofs.Math.Path.{fun_ext}
 use Rattle.std.proofs.lemmas.Bool.{eq-eqb, ne_eqb, le-ltb, lt-ltb, cases_lt, cases_eq}
 use Rattle.std.specs.Prelude.{nat_eq, nat_lt}
 use Rattle.pcf_values.specs.declared.val.Val.{Val}
-use Rattle.pcf_values.specs.Values.{Op}
-use Rattle.pcf_values.specs.Terms.{Side}
+use Rattle.pcf_values.specs.declared.operator.Operator.{Operator}
+use Rattle.pcf_values.specs.declared.side.Side.{Side}
 use Rattle.token_stacks.specs.Signatures.{Boxes}
 use Rattle.fork_join.specs.Entries.{Entry, pending, has_left, has_right, kept_as, same_key}
 use Rattle.fork_join.proofs.Keys.{key_true}
@@ -155,7 +155,7 @@ module _ (S : State) (i : ℕ) (below : i < S.next) where
       )
 
   -- a join whose entry is the branch's is a join of that entry
-  JoinGrafts : Option Entry → State → ℕ → ℕ → Op → Side → Val → ℕ → Boxes → State → Type 0
+  JoinGrafts : Option Entry → State → ℕ → ℕ → Operator → Side → Val → ℕ → Boxes → State → Type 0
   JoinGrafts o B k n op s v w t C = (join_on o (grafted S i B) (name i S.next k) n op s v w t ≡ Some (grafted S i C)) × Fits S C
 
   last_grafts : (o : Option Val) (B C : State) (k n w : ℕ) (t : Boxes) → Fits S B → S.entries n t ≡ None →
@@ -170,7 +170,7 @@ module _ (S : State) (i : ℕ) (below : i < S.next) where
         record { apart = apart_set S.entries B.entries n t None none fits.apart; begun = fits.begun },
       )
 
-  join_some : (y : Entry) (B C : State) (k n : ℕ) (op : Op) (s : Side) (v : Val) (w : ℕ) (t : Boxes) → Fits S B →
+  join_some : (y : Entry) (B C : State) (k n : ℕ) (op : Operator) (s : Side) (v : Val) (w : ℕ) (t : Boxes) → Fits S B →
       S.entries n t ≡ None → join_on (Some y) B k n op s v w t ≡ Some C → JoinGrafts (Some y) B k n op s v w t C
   unfolding JoinGrafts
   join_some pending B C k n op s v w t fits none h =
@@ -184,7 +184,7 @@ module _ (S : State) (i : ℕ) (below : i < S.next) where
   join_some (has_left u) B C k n op s v w t fits none h = last_grafts (other op (has_left u) s v) B C k n w t fits none h
   join_some (has_right u) B C k n op s v w t fits none h = last_grafts (other op (has_right u) s v) B C k n w t fits none h
 
-  join_grafts : (o : Option Entry) (B C : State) (k n : ℕ) (op : Op) (s : Side) (v : Val) (w : ℕ) (t : Boxes) → Fits S B →
+  join_grafts : (o : Option Entry) (B C : State) (k n : ℕ) (op : Operator) (s : Side) (v : Val) (w : ℕ) (t : Boxes) → Fits S B →
       B.entries n t ≡ o → join_on o B k n op s v w t ≡ Some C → Grafts (join n op s v w t) B k C
   unfolding JoinGrafts
   join_grafts None B C k n op s v w t fits eb h = cc

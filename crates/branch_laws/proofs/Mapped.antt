@@ -8,8 +8,8 @@ use Rattle.std.specs.FinMap as finmap
 use Rattle.std.specs.FinMap.{get-empty}
 use Rattle.std.specs.Ordering.{nat_cmp}
 use Rattle.pcf_values.specs.declared.val.Val.{Val}
-use Rattle.pcf_values.specs.Values.{Op}
-use Rattle.pcf_values.specs.Terms.{Side}
+use Rattle.pcf_values.specs.declared.operator.Operator.{Operator}
+use Rattle.pcf_values.specs.declared.side.Side.{Side}
 use Rattle.token_stacks.specs.Signatures.{Boxes}
 use Rattle.fork_join.specs.Entries.{Entry, pending, has_left, has_right, key_cmp}
 use Rattle.net_build.specs.Nets.{NetTree}
@@ -168,7 +168,7 @@ last_next : (o : Option Val) (S T : State) (i n w : ℕ) (t : Boxes) → last_on
 last_next None S T i n w t h = cc
 last_next (Some u) S T i n w t h = grown S _ T (omega arith) h
 
-join_next : (e : Option Entry) (S T : State) (i n : ℕ) (op : Op) (d : Side) (v : Val) (w : ℕ) (t : Boxes) →
+join_next : (e : Option Entry) (S T : State) (i n : ℕ) (op : Operator) (d : Side) (v : Val) (w : ℕ) (t : Boxes) →
     join_on e S i n op d v w t ≡ Some T → T.next ≤ suc S.next
 join_next None S T i n op d v w t h = cc
 join_next (Some pending) S T i n op d v w t h = grown S _ T (omega arith) h
@@ -228,7 +228,7 @@ not_both (Some y) e h = cc
 -- a live ticket has its step where its entry is the branch's
 pub map_able : (net : NetTree) → Runs net → (x : TokenTree) → Occurs net x → (l : List ℕ) (B : MapState) →
     BranchedMap net x l B → (k : ℕ) (y : TokenTree) → finmap.get B.tokens k ≡ Some y →
-    ((n : ℕ) (o : Op) (s : Side) (v : Val) (w : ℕ) (t : Boxes) → move net y ≡ join n o s v w t →
+    ((n : ℕ) (o : Operator) (s : Side) (v : Val) (w : ℕ) (t : Boxes) → move net y ≡ join n o s v w t →
     IsSome (finmap.get B.entries (n, t))) → IsSome (step_map net B k)
 map_able net runs x (log, S, i, led, here) l B b k y e own = go (step_map net B k) refl
   where

@@ -5,8 +5,8 @@ use Rattle.std.proofs.Math.Path.{fun_ext}
 use Rattle.std.proofs.lemmas.Bool.{eq-eqb, ne_eqb, le-ltb, lt-ltb, cases_lt, cases_eq}
 use Rattle.std.specs.Prelude.{nat_lt, map, replicate}
 use Rattle.pcf_values.specs.declared.val.Val.{Val}
-use Rattle.pcf_values.specs.Values.{Op}
-use Rattle.pcf_values.specs.Terms.{Side}
+use Rattle.pcf_values.specs.declared.operator.Operator.{Operator}
+use Rattle.pcf_values.specs.declared.side.Side.{Side}
 use Rattle.token_stacks.specs.Signatures.{Boxes}
 use Rattle.fork_join.specs.Entries.{Entry, pending, has_left, has_right}
 use Rattle.net_build.specs.Nets.{NetTree}
@@ -37,7 +37,7 @@ last_answer : (o : Option Val) (S T : State) (i n w : ℕ) (t : Boxes) → last_
 last_answer None S T i n w t h none = cc
 last_answer (Some u) S T i n w t h none = kept_answer S _ T refl h none
 
-join_answer : (e : Option Entry) (S T : State) (i n : ℕ) (op : Op) (d : Side) (v : Val) (w : ℕ) (t : Boxes) →
+join_answer : (e : Option Entry) (S T : State) (i n : ℕ) (op : Operator) (d : Side) (v : Val) (w : ℕ) (t : Boxes) →
     join_on e S i n op d v w t ≡ Some T → T.answered ≡ None → S.answered ≡ None
 join_answer None S T i n op d v w t h none = cc
 join_answer (Some pending) S T i n op d v w t h none = kept_answer S _ T refl h none
@@ -76,7 +76,7 @@ run_answer net (i ∷ l) S T h none = go (step net S i) refl (λ U. run_answer n
 
 -- an answer that comes to a join whose entry isn't the branch's
 abbrev pub Foreign : State → Move → Type 0
-Foreign B m = (n : ℕ) × (o : Op) × (s : Side) × (v : Val) × (w : ℕ) × (t : Boxes) × (m ≡ join n o s v w t) ×
+Foreign B m = (n : ℕ) × (o : Operator) × (s : Side) × (v : Val) × (w : ℕ) × (t : Boxes) × (m ≡ join n o s v w t) ×
     (B.entries n t ≡ None)
 
 -- a join that has a step in one state has it in each that has the same there
@@ -85,7 +85,7 @@ last_both : (o : Option Val) (G T B : State) (i k n w : ℕ) (t : Boxes) → las
 last_both None G T B i k n w t h g = cc
 last_both (Some u) G T B i k n w t h g = cc
 
-join_both : (y : Entry) (G T B : State) (i k n : ℕ) (op : Op) (s : Side) (v : Val) (w : ℕ) (t : Boxes) →
+join_both : (y : Entry) (G T B : State) (i k n : ℕ) (op : Operator) (s : Side) (v : Val) (w : ℕ) (t : Boxes) →
     join_on (Some y) G i n op s v w t ≡ Some T → join_on (Some y) B k n op s v w t ≡ None → ⊥
 join_both pending G T B i k n op s v w t h g = cc
 join_both (has_left u) G T B i k n op s v w t h g = last_both (other op (has_left u) s v) G T B i k n w t h g
@@ -99,7 +99,7 @@ module _ (S : State) (i : ℕ) (below : i < S.next) where
       let there : (grafted S i B).entries n t ≡ Some y = ap (λ o. or_else o (S.entries n t)) e in
       let bad : None ≡ Some T = sym (ap (λ o. fork_on o (grafted S i B) (name i S.next k) n l r t) there) ∙ has in cc
 
-  join_stops : (B : State) (k n : ℕ) (op : Op) (s : Side) (v : Val) (w : ℕ) (t : Boxes) (o : Option Entry) → B.entries n t ≡ o →
+  join_stops : (B : State) (k n : ℕ) (op : Operator) (s : Side) (v : Val) (w : ℕ) (t : Boxes) (o : Option Entry) → B.entries n t ≡ o →
       HasAct S i below (join n op s v w t) B k → join_on o B k n op s v w t ≡ None → Foreign B (join n op s v w t)
   join_stops B k n op s v w t None e has h = (n, op, s, v, w, t, refl, e)
   join_stops B k n op s v w t (Some y) e (T, has) h =

@@ -2,7 +2,7 @@
 use Rattle.std.specs.Prelude.{◌≡◌, ℕ, List, [], ◌∷◌, ◌++◌, map, Option, Some, None}
 use Rattle.std.specs.Option.{IsSome}
 use Rattle.pcf_values.specs.declared.val.Val.TheVariants.{Number}
-use Rattle.pcf_values.specs.Values.{plus_op}
+use Rattle.pcf_values.specs.declared.operator.Operator.TheVariants.{Plus}
 use Rattle.pcf_values.specs.Terms.{num, binary}
 use Rattle.net_build.specs.Nets.{NetTree}
 use Rattle.net_build.specs.NetOf.{net_of}
@@ -39,7 +39,7 @@ ExampleStops = played_alone second 12 ≡ None
 
 -- the net of `(1 + 2) + (3 + 4)`
 abbrev pub halves_net : NetTree
-halves_net = net_of (binary plus_op (binary plus_op (num 1) (num 2)) (binary plus_op (num 3) (num 4)))
+halves_net = net_of (binary Plus (binary Plus (num 1) (num 2)) (binary Plus (num 3) (num 4)))
 
 -- a half alone: it forks, its left operand comes and is kept, and its right one comes and goes on
 abbrev pub half : List ℕ

@@ -4,8 +4,8 @@ use Rattle.std.specs.Prelude.{replicate, Option, Some, None}
 use Rattle.std.specs.Option.{IsSome}
 use Rattle.std.specs.FinMap.{get, insert, len}
 use Rattle.pcf_values.specs.declared.val.Val.{Val}
-use Rattle.pcf_values.specs.Values.{Op}
-use Rattle.pcf_values.specs.Terms.{Side}
+use Rattle.pcf_values.specs.declared.operator.Operator.{Operator}
+use Rattle.pcf_values.specs.declared.side.Side.{Side}
 use Rattle.token_stacks.specs.Signatures.{Boxes}
 use Rattle.fork_join.specs.Entries.{Entry}
 use Rattle.net_build.specs.Nets.{NetTree}
@@ -51,7 +51,7 @@ BranchLow = OfEveryBranch (λ net log S i l B. (k : ℕ) (y : TokenTree) → B.t
 abbrev pub BranchStops : Type 0
 BranchStops = InEveryRun (λ net log S. (i : ℕ) (x : TokenTree) → S.tokens i ≡ Some x → (l : List ℕ) (B : State) →
     Branched net x l B → (k : ℕ) (y : TokenTree) → B.tokens k ≡ Some y → step net B k ≡ None →
-    (n : ℕ) × (o : Op) × (s : Side) × (v : Val) × (w : ℕ) × (t : Boxes) × (move net y ≡ join n o s v w t) ×
+    (n : ℕ) × (o : Operator) × (s : Side) × (v : Val) × (w : ℕ) × (t : Boxes) × (move net y ≡ join n o s v w t) ×
     (B.entries n t ≡ None))
 
 -- every other ticket of the state has what it had
@@ -98,7 +98,7 @@ MapBranchLow = OfEveryMapBranch (λ net log S i l B. (k : ℕ) (y : TokenTree) �
 abbrev pub MapBranchStops : Type 0
 MapBranchStops = InEveryMapRun (λ net log S. (i : ℕ) (x : TokenTree) → get S.tokens i ≡ Some x → (l : List ℕ) (B : MapState) →
     BranchedMap net x l B → (k : ℕ) (y : TokenTree) → get B.tokens k ≡ Some y → step_map net B k ≡ None →
-    (n : ℕ) × (o : Op) × (s : Side) × (v : Val) × (w : ℕ) × (t : Boxes) × (move net y ≡ join n o s v w t) ×
+    (n : ℕ) × (o : Operator) × (s : Side) × (v : Val) × (w : ℕ) × (t : Boxes) × (move net y ≡ join n o s v w t) ×
     (get B.entries (n, t) ≡ None))
 
 -- a state that was reached in few moves goes on to one that is reached in as many more as the branch has
@@ -154,7 +154,7 @@ MapBranchFresh = (net : NetTree) → Sound net → (x : TokenTree) → Occurs ne
 abbrev pub MapBranchAble : Type 0
 MapBranchAble = (net : NetTree) → Runs net → (x : TokenTree) → Occurs net x → (l : List ℕ) (B : MapState) →
     BranchedMap net x l B → (k : ℕ) (y : TokenTree) → get B.tokens k ≡ Some y →
-    ((n : ℕ) (o : Op) (s : Side) (v : Val) (w : ℕ) (t : Boxes) → move net y ≡ join n o s v w t →
+    ((n : ℕ) (o : Operator) (s : Side) (v : Val) (w : ℕ) (t : Boxes) → move net y ≡ join n o s v w t →
     IsSome (get B.entries (n, t))) → IsSome (step_map net B k)
 
 -- the log of a plain branch is the ticket's

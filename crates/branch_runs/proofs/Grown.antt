@@ -10,8 +10,8 @@ use Rattle.std.specs.FinMap as finmap
 use Rattle.std.specs.FinMap.{get}
 use Rattle.std.proofs.lemmas.List.Elements.{All-append, All-replicate, All-nil}
 use Rattle.pcf_values.specs.declared.val.Val.{Val}
-use Rattle.pcf_values.specs.Values.{Op}
-use Rattle.pcf_values.specs.Terms.{Side}
+use Rattle.pcf_values.specs.declared.operator.Operator.{Operator}
+use Rattle.pcf_values.specs.declared.side.Side.{Side}
 use Rattle.token_stacks.specs.Signatures.{Boxes}
 use Rattle.fork_join.specs.Entries.{Entry, pending, has_left, has_right}
 use Rattle.net_build.specs.Nets.{NetTree}
@@ -38,7 +38,7 @@ last_rises : (o : Option Val) (S T : MapState) (i n w : ℕ) (t : Boxes) → las
 last_rises None S T i n w t h = cc
 last_rises (Some u) S T i n w t h = rises_of S _ T (omega arith) h
 
-join_rises : (o : Option Entry) (S T : MapState) (i n : ℕ) (op : Op) (d : Side) (v : Val) (w : ℕ) (t : Boxes) →
+join_rises : (o : Option Entry) (S T : MapState) (i n : ℕ) (op : Operator) (d : Side) (v : Val) (w : ℕ) (t : Boxes) →
     join_map o S i n op d v w t ≡ Some T → S.next ≤ T.next
 join_rises None S T i n op d v w t h = cc
 join_rises (Some pending) S T i n op d v w t h = rises_of S _ T (omega arith) h

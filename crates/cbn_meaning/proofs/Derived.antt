@@ -2,8 +2,10 @@
 use Rattle.std.proofs.Common.{◌≡◌, ℕ, zero, suc, ◌+◌, ◌<◌, Some, refl, subst, arith}
 use Rattle.pcf_values.specs.declared.val.Val.{Val}
 use Rattle.pcf_values.specs.declared.val.Val.TheVariants.{Number}
-use Rattle.pcf_values.specs.Values.{val_succ, val_pred, Op, val_op, at_zero}
-use Rattle.pcf_values.specs.Terms.{TyTree, Side, at_side, TermTree, num, var, succ_of, pred_of, binary, ifz, lam, fix, app, pair, proj}
+use Rattle.pcf_values.specs.Values.{val_succ, val_pred, val_op, at_zero}
+use Rattle.pcf_values.specs.declared.operator.Operator.{Operator}
+use Rattle.pcf_values.specs.Terms.{TyTree, at_side, TermTree, num, var, succ_of, pred_of, binary, ifz, lam, fix, app, pair, proj}
+use Rattle.pcf_values.specs.declared.side.Side.{Side}
 use Rattle.cbn_meaning.specs.Substitution.{subst_at}
 use Rattle.cbn_meaning.specs.Meaning.{Res, value, closure, paired, eval, on_value}
 use Rattle.cbn_meaning.specs.Derivations.{Ev, ev_num, ev_lam, ev_succ, ev_pred, ev_binary, ev_ifz, ev_fix, ev_app, ev_pair, ev_proj, HasEv}
@@ -32,7 +34,7 @@ pub pred_inv : {s : ℕ} {a : TermTree} {x : Res} → Ev s (pred_of a) x → (r 
     (x ≡ value (val_pred v))
 pred_inv (ev_pred {s = r} {v = v} h) = (r, v, h, refl, refl)
 
-pub binary_inv : {s : ℕ} {o : Op} {a b : TermTree} {x : Res} → Ev s (binary o a b) x → (r k : ℕ) × (v w : Val) ×
+pub binary_inv : {s : ℕ} {o : Operator} {a b : TermTree} {x : Res} → Ev s (binary o a b) x → (r k : ℕ) × (v w : Val) ×
     Ev r a (value v) × Ev k b (value w) × (s ≡ suc (r + k)) × (x ≡ value (val_op o v w))
 binary_inv (ev_binary {s = r} {r = k} {v = v} {w = w} h g) = (r, k, v, w, h, g, refl, refl)
 

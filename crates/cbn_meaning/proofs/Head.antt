@@ -1,8 +1,9 @@
 -- Head steps of a term, and that a term has one value.
 use Rattle.std.proofs.Common.{◌≡◌, ◌↔◌, zero, suc, ◌+◌, Some, sym, ◌∙◌, subst, arith}
 use Rattle.pcf_values.specs.declared.val.Val.{Val}
-use Rattle.pcf_values.specs.Values.{Op}
-use Rattle.pcf_values.specs.Terms.{TyTree, Side, at_side, TermTree, succ_of, pred_of, binary, ifz, lam, fix, app, pair, proj}
+use Rattle.pcf_values.specs.declared.operator.Operator.{Operator}
+use Rattle.pcf_values.specs.Terms.{TyTree, at_side, TermTree, succ_of, pred_of, binary, ifz, lam, fix, app, pair, proj}
+use Rattle.pcf_values.specs.declared.side.Side.{Side}
 use Rattle.cbn_meaning.specs.Substitution.{subst_at}
 use Rattle.cbn_meaning.specs.Meaning.{value, closure, paired, Means, Head}
 use Rattle.cbn_meaning.specs.Derivations.{Ev, ev_succ, ev_pred, ev_binary, ev_ifz, ev_lam, ev_fix, ev_app, ev_pair, ev_proj, HasEv, Steps}
@@ -67,7 +68,7 @@ pred_steps m m' h = record {
       (suc z, omega arith, subst (Ev (suc z) (pred_of m')) (sym x) (ev_pred f'));
 }
 
-binary_steps : (o : Op) (m m' n : TermTree) → Steps m m' → Steps (binary o m n) (binary o m' n)
+binary_steps : (o : Operator) (m m' n : TermTree) → Steps m m' → Steps (binary o m n) (binary o m' n)
 binary_steps o m m' n h = record {
   forth = λ s r e. let (i, k, v, w, f, g, _, x) = binary_inv e in let (z, f') = h.forth i (value v) f in
       subst (HasEv (binary o m n)) (sym x) (suc (z + k), ev_binary f' g);

@@ -5,8 +5,12 @@ use Rattle.std.specs.Prelude.{slice_get}
 use Rattle.std.proofs.lemmas.Bool.{cases_lt, cases_order, lt-ltb, le-ltb}
 use Rattle.pcf_values.specs.declared.val.Val.{Val}
 use Rattle.pcf_values.specs.declared.val.Val.TheVariants.{Number, Overflow}
-use Rattle.pcf_values.specs.Values.{within, val_succ, val_pred, Op, plus_op, minus_op, times_op, val_op, at_zero}
-use Rattle.pcf_values.specs.Terms.{TyTree, nat, arrow, product, Side, left_side, right_side, at_side, TermTree, num, var, succ_of, pred_of}
+use Rattle.pcf_values.specs.Values.{within, val_succ, val_pred, val_op, at_zero}
+use Rattle.pcf_values.specs.declared.operator.Operator.{Operator}
+use Rattle.pcf_values.specs.declared.operator.Operator.TheVariants.{Plus, Minus, Times}
+use Rattle.pcf_values.specs.Terms.{TyTree, nat, arrow, product, at_side, TermTree, num, var, succ_of, pred_of}
+use Rattle.pcf_values.specs.declared.side.Side.{Side}
+use Rattle.pcf_values.specs.declared.side.Side.TheVariants.{Left, Right}
 use Rattle.pcf_values.specs.Terms.{binary, ifz, lam, fix, app, pair, proj}
 use Rattle.pcf_values.specs.Typing.{HasType}
 use Rattle.cbn_meaning.specs.Substitution.{replaced, subst_at}
@@ -104,8 +108,8 @@ product_right e = cc
 -- a part of a pair has the type's part
 part_typed : (s : Side) (m n : TermTree) (a b c d : TyTree) → HasType [] m c → HasType [] n d → product a b ≡ product c d →
     HasType [] (at_side s m n) (at_side s a b)
-part_typed left_side m n a b c d i j e = subst (HasType [] m) (sym (product_left e)) i
-part_typed right_side m n a b c d i j e = subst (HasType [] n) (sym (product_right e)) j
+part_typed Left m n a b c d i j e = subst (HasType [] m) (sym (product_left e)) i
+part_typed Right m n a b c d i j e = subst (HasType [] n) (sym (product_right e)) j
 
 -- a step at the head
 pub head_keeps_type : (m n : TermTree) (t : TyTree) → HasType [] m t → Head m n → HasType [] n t
@@ -149,16 +153,16 @@ pred_fits Overflow h = refl
 minus_fits : (a b : ℕ) → a < 2 ^ 64 → a - b < 2 ^ 64
 minus_fits a b h = omega arith
 
-op_fits : (o : Op) (v w : Val) → Fits v → Fits w → Fits (val_op o v w)
-op_fits plus_op (Number a) (Number b) h k = within_fits (a + b)
-op_fits minus_op (Number a) (Number b) h k = (minus_fits a b h.0, refl)
-op_fits times_op (Number a) (Number b) h k = within_fits (a * b)
-op_fits plus_op (Number a) Overflow h k = refl
-op_fits minus_op (Number a) Overflow h k = refl
-op_fits times_op (Number a) Overflow h k = refl
-op_fits plus_op Overflow w h k = refl
-op_fits minus_op Overflow w h k = refl
-op_fits times_op Overflow w h k = refl
+op_fits : (o : Operator) (v w : Val) → Fits v → Fits w → Fits (val_op o v w)
+op_fits Plus (Number a) (Number b) h k = within_fits (a + b)
+op_fits Minus (Number a) (Number b) h k = (minus_fits a b h.0, refl)
+op_fits Times (Number a) (Number b) h k = within_fits (a * b)
+op_fits Plus (Number a) Overflow h k = refl
+op_fits Minus (Number a) Overflow h k = refl
+op_fits Times (Number a) Overflow h k = refl
+op_fits Plus Overflow w h k = refl
+op_fits Minus Overflow w h k = refl
+op_fits Times Overflow w h k = refl
 
 branch_typed : (v : Val) (p q : TermTree) → HasType [] p nat → HasType [] q nat → HasType [] (at_zero v p q) nat
 branch_typed (Number zero) p q h k = h

@@ -4,8 +4,10 @@
 use Rattle.std.specs.Prelude.{ℕ, suc, ◌+◌, ◌<◌}
 use Rattle.pcf_values.specs.declared.val.Val.{Val}
 use Rattle.pcf_values.specs.declared.val.Val.TheVariants.{Number}
-use Rattle.pcf_values.specs.Values.{val_succ, val_pred, Op, val_op, at_zero}
-use Rattle.pcf_values.specs.Terms.{TyTree, Side, at_side, TermTree, num, succ_of, pred_of, binary, ifz, lam, fix, app, pair, proj}
+use Rattle.pcf_values.specs.Values.{val_succ, val_pred, val_op, at_zero}
+use Rattle.pcf_values.specs.declared.operator.Operator.{Operator}
+use Rattle.pcf_values.specs.Terms.{TyTree, at_side, TermTree, num, succ_of, pred_of, binary, ifz, lam, fix, app, pair, proj}
+use Rattle.pcf_values.specs.declared.side.Side.{Side}
 use Rattle.cbn_meaning.specs.Substitution.{subst_at}
 use Rattle.cbn_meaning.specs.Meaning.{Res, value, closure, paired}
 
@@ -15,7 +17,7 @@ pub data Ev : ℕ → TermTree → Res → Type 0 where
   ev_lam : {a : TyTree} {m : TermTree} → Ev 1 (lam a m) (closure a m)
   ev_succ : {s : ℕ} {a : TermTree} {v : Val} → Ev s a (value v) → Ev (suc s) (succ_of a) (value (val_succ v))
   ev_pred : {s : ℕ} {a : TermTree} {v : Val} → Ev s a (value v) → Ev (suc s) (pred_of a) (value (val_pred v))
-  ev_binary : {s r : ℕ} {o : Op} {a b : TermTree} {v w : Val} → Ev s a (value v) → Ev r b (value w) →
+  ev_binary : {s r : ℕ} {o : Operator} {a b : TermTree} {v w : Val} → Ev s a (value v) → Ev r b (value w) →
       Ev (suc (s + r)) (binary o a b) (value (val_op o v w))
   ev_ifz : {s r : ℕ} {c p q : TermTree} {v : Val} {x : Res} → Ev s c (value v) → Ev r (at_zero v p q) x →
       Ev (suc (s + r)) (ifz c p q) x

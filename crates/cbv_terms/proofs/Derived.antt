@@ -4,7 +4,8 @@ use Rattle.std.proofs.Common.{◌∙◌, subst, inl, inr, arith}
 use Rattle.std.proofs.lemmas.Bool.{cases_lt}
 use Rattle.pcf_values.specs.declared.val.Val.{Val}
 use Rattle.pcf_values.specs.declared.val.Val.TheVariants.{Number}
-use Rattle.pcf_values.specs.Values.{val_succ, val_pred, Op, val_op, at_zero}
+use Rattle.pcf_values.specs.Values.{val_succ, val_pred, val_op, at_zero}
+use Rattle.pcf_values.specs.declared.operator.Operator.{Operator}
 use Rattle.pcf_values.specs.Terms.{TyTree, TermTree, num, var, succ_of, pred_of, binary, ifz, lam, fix, app, pair, proj}
 use Rattle.cbn_meaning.specs.Substitution.{subst_at}
 use Rattle.cbn_meaning.specs.Meaning.{Res, value, closure, on_value, on_closure}
@@ -65,7 +66,7 @@ pub data EvByValue : ℕ → TermTree → Res → Type 0 where
   by_lam : {a : TyTree} {m : TermTree} → EvByValue 1 (lam a m) (closure a m)
   by_succ : {s : ℕ} {a : TermTree} {v : Val} → EvByValue s a (value v) → EvByValue (suc s) (succ_of a) (value (val_succ v))
   by_pred : {s : ℕ} {a : TermTree} {v : Val} → EvByValue s a (value v) → EvByValue (suc s) (pred_of a) (value (val_pred v))
-  by_binary : {s r : ℕ} {o : Op} {a b : TermTree} {v w : Val} → EvByValue s a (value v) → EvByValue r b (value w) →
+  by_binary : {s r : ℕ} {o : Operator} {a b : TermTree} {v w : Val} → EvByValue s a (value v) → EvByValue r b (value w) →
       EvByValue (suc (s + r)) (binary o a b) (value (val_op o v w))
   by_ifz : {s r : ℕ} {c p q : TermTree} {v : Val} {x : Res} → EvByValue s c (value v) → EvByValue r (at_zero v p q) x →
       EvByValue (suc (s + r)) (ifz c p q) x
@@ -81,7 +82,7 @@ pub by_pred_inv : {s : ℕ} {a : TermTree} {x : Res} → EvByValue s (pred_of a)
     (s ≡ suc r) × (x ≡ value (val_pred v))
 by_pred_inv (by_pred {s = r} {v = v} h) = (r, v, h, refl, refl)
 
-pub by_binary_inv : {s : ℕ} {o : Op} {a b : TermTree} {x : Res} → EvByValue s (binary o a b) x → (r k : ℕ) × (v w : Val) ×
+pub by_binary_inv : {s : ℕ} {o : Operator} {a b : TermTree} {x : Res} → EvByValue s (binary o a b) x → (r k : ℕ) × (v w : Val) ×
     EvByValue r a (value v) × EvByValue k b (value w) × (s ≡ suc (r + k)) × (x ≡ value (val_op o v w))
 by_binary_inv (by_binary {s = r} {r = k} {v = v} {w = w} h g) = (r, k, v, w, h, g, refl, refl)
 

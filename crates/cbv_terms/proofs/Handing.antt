@@ -2,7 +2,8 @@
 use Rattle.std.proofs.Common.{◌≡◌, ℕ, zero, suc, ◌+◌, ◌<◌, ◌≤◌, refl, sym, ap, ◌∙◌, subst, arith}
 use Rattle.pcf_values.specs.declared.val.Val.{Val}
 use Rattle.pcf_values.specs.declared.val.Val.TheVariants.{Number, Overflow}
-use Rattle.pcf_values.specs.Values.{val_succ, val_pred, Op, val_op, at_zero}
+use Rattle.pcf_values.specs.Values.{val_succ, val_pred, val_op, at_zero}
+use Rattle.pcf_values.specs.declared.operator.Operator.{Operator}
 use Rattle.pcf_values.specs.Terms.{TyTree, nat, arrow, TermTree, var, succ_of, pred_of, binary, ifz, lam, app}
 use Rattle.cbn_meaning.specs.Substitution.{subst_at, Closed, Env, cons, AllClosed, close}
 use Rattle.cbn_meaning.specs.Meaning.{Res, value, closure}
@@ -28,7 +29,7 @@ succ_closed y c k p = ap succ_of (c k p)
 pred_closed : (y : TermTree) → Closed y → Closed (pred_of y)
 pred_closed y c k p = ap pred_of (c k p)
 
-binary_closed : (o : Op) (y z : TermTree) → Closed y → Closed z → Closed (binary o y z)
+binary_closed : (o : Operator) (y z : TermTree) → Closed y → Closed z → Closed (binary o y z)
 binary_closed o y z c d k p = let a = c k p in let b = d k p in cc
 
 succ_stands : (n : ℕ) (v : Val) (y : TermTree) → Stands nat n (value v) y → Stands nat n (value (val_succ v)) (succ_of y)
@@ -37,7 +38,7 @@ succ_stands n v y g = let (s, e) = stands_ev n (value v) y g in (succ_closed y g
 pred_stands : (n : ℕ) (v : Val) (y : TermTree) → Stands nat n (value v) y → Stands nat n (value (val_pred v)) (pred_of y)
 pred_stands n v y g = let (s, e) = stands_ev n (value v) y g in (pred_closed y g.0, (val_pred v, refl, (suc s, ev_pred e)))
 
-binary_stands : (n : ℕ) (o : Op) (v u : Val) (y z : TermTree) → Stands nat n (value v) y → Stands nat n (value u) z →
+binary_stands : (n : ℕ) (o : Operator) (v u : Val) (y z : TermTree) → Stands nat n (value v) y → Stands nat n (value u) z →
     Stands nat n (value (val_op o v u)) (binary o y z)
 binary_stands n o v u y z g h =
     let (s, e) = stands_ev n (value v) y g in
@@ -61,7 +62,7 @@ pred_result k m w y (r, d) (c, (v, e, h)) = (
   pred_stands k v y (c, (v, refl, h)),
 )
 
-binary_result : (k : ℕ) (o : Op) (m m' : TermTree) (w w' : Res) (y y' : TermTree) → HasEvByValue m w → HasEvByValue m' w' →
+binary_result : (k : ℕ) (o : Operator) (m m' : TermTree) (w w' : Res) (y y' : TermTree) → HasEvByValue m w → HasEvByValue m' w' →
     Stands nat k w y → Stands nat k w' y' → (u : Res) × HasEvByValue (binary o m m') u × Stands nat k u (binary o y y')
 binary_result k o m m' w w' y y' (r, d) (r', d') (c, (v, e, h)) (c', (v', e', h')) = (
   value (val_op o v v'),
@@ -89,7 +90,7 @@ succ_k = app (var 1) (succ_of (var 0))
 abbrev pred_k : TermTree
 pred_k = app (var 1) (pred_of (var 0))
 
-abbrev op_k : Op → TermTree
+abbrev op_k : Operator → TermTree
 op_k o = app (var 2) (binary o (var 1) (var 0))
 
 abbrev ifz_k : TermTree → TermTree → TermTree
@@ -194,7 +195,7 @@ pred_hands t n m s c cs h = record {
       (u, pred_of y, z2, hu, gu, falls_twice i j z2 q2 (falls_twice i z j q1 q), d3);
 }
 
-pub binary_hands : (o : Op) (t : TyTree) (n : ℕ) (m m' : TermTree) (s : Env) (c c' : TermTree) → AllClosed s
+pub binary_hands : (o : Operator) (t : TyTree) (n : ℕ) (m m' : TermTree) (s : Env) (c c' : TermTree) → AllClosed s
     → ((x : TermTree) → Closed x → Good nat n m (close zero (cons x s) c))
     → ((x y : TermTree) → Closed x → Closed y → Good nat n m' (close zero (cons y (cons x s)) c'))
     → Good nat n (binary o m m') (close zero s (lam t (app c (lam nat (app c' (lam nat (op_k o)))))))

@@ -3,7 +3,7 @@ use Rattle.std.proofs.Common.{◌≡◌, ℕ, suc, ◌+◌, ◌-◌, ◌*◌, �
 use Rattle.std.proofs.Common.{sym, ap, ◌∙◌, subst, arith}
 use Rattle.std.specs.Prelude.{slice_get, IfOk}
 use Rattle.pcf_values.specs.declared.term.Term.{Term}
-use Rattle.pcf_values.specs.Values.{Op}
+use Rattle.pcf_values.specs.declared.operator.Operator.{Operator}
 use Rattle.pcf_values.specs.Terms.{TyTree, nat, arrow, product, TermTree, num, var, succ_of, pred_of, binary, ifz, lam, fix, app, height}
 use Rattle.pcf_values.specs.Terms.{size}
 use Rattle.pcf_values.specs.Typing.{HasType}
@@ -85,11 +85,11 @@ pub unary_ready : (form : Unary) (bs : List Binder) (d : ℕ) (a : TermTree) →
 unary_ready Succ bs d a h = let (t, g) = h.typed in deeper bs d a h.taken (nat, g.0) h.around
 unary_ready Pred bs d a h = let (t, g) = h.typed in deeper bs d a h.taken (nat, g.0) h.around
 
-pub left_ready : (o : Op) (bs : List Binder) (d : ℕ) (a b : TermTree) → IsReady bs d (context_of bs) (binary o a b) →
+pub left_ready : (o : Operator) (bs : List Binder) (d : ℕ) (a b : TermTree) → IsReady bs d (context_of bs) (binary o a b) →
     IsReady bs (d + 1) (context_of bs) a
 left_ready o bs d a b h = let (t, g) = h.typed in deeper bs d a h.taken.0 (nat, g.0) h.around
 
-pub right_ready : (o : Op) (bs : List Binder) (d : ℕ) (a b : TermTree) → IsReady bs d (context_of bs) (binary o a b) →
+pub right_ready : (o : Operator) (bs : List Binder) (d : ℕ) (a b : TermTree) → IsReady bs d (context_of bs) (binary o a b) →
     IsReady bs (d + 2) (context_of bs) b
 right_ready o bs d a b h = let (t, g) = h.typed in deeper_twice bs d b h.taken.1 (nat, g.1) h.around
 
@@ -188,7 +188,7 @@ unary_makes Pred old new d a part made r h e q =
           h.binders;
     }
 
-pub double_makes : (o : Op) (old s new : List Binder) (d : ℕ) (a b : TermTree) (left right made : Made) → AreAround d (reverse old)
+pub double_makes : (o : Operator) (old s new : List Binder) (d : ℕ) (a b : TermTree) (left right made : Made) → AreAround d (reverse old)
     → Makes old s (context_of old) (map_of (d + 1) old) a left
     → Makes s new (context_of s) (map_of (d + 2) s) b right
     → term_of made.term.value ≡ lam (continuation_type nat)

@@ -3,7 +3,7 @@
 use Rattle.std.specs.Prelude.{◌≡◌, [], ◌∷◌}
 use Rattle.pcf_values.specs.declared.val.Val.{Val}
 use Rattle.pcf_values.specs.declared.val.Val.TheVariants.{Number, Overflow}
-use Rattle.pcf_values.specs.Values.{plus_op, minus_op}
+use Rattle.pcf_values.specs.declared.operator.Operator.TheVariants.{Plus, Minus}
 use Rattle.pcf_values.specs.Terms.{nat, arrow, product, TermTree, num, var, succ_of, pred_of, binary, ifz, lam, fix, app}
 use Rattle.pcf_values.specs.Named.{the_fst, the_fix, NamedTree, number_at, name_at, word_at, binary_at, pair_at, bind_at}
 use Rattle.cbn_meaning.specs.Meaning.{Means}
@@ -18,11 +18,11 @@ unused_loop = app (lam nat (num 7)) (app (fix (arrow nat nat) (lam nat (app (var
 
 -- `(fix f:nat->nat. fun n:nat. ifz n then 0 else n + f (pred n)) 3`
 abbrev pub sum_to_three : TermTree
-sum_to_three = app (fix (arrow nat nat) (lam nat (ifz (var 0) (num 0) (binary plus_op (var 0) (app (var 1) (pred_of (var 0))))))) (num 3)
+sum_to_three = app (fix (arrow nat nat) (lam nat (ifz (var 0) (num 0) (binary Plus (var 0) (app (var 1) (pred_of (var 0))))))) (num 3)
 
 -- `(fun x:nat. fun y:nat. x - y) 5 3`
 abbrev pub difference : TermTree
-difference = app (app (lam nat (lam nat (binary minus_op (var 1) (var 0)))) (num 5)) (num 3)
+difference = app (app (lam nat (lam nat (binary Minus (var 1) (var 0)))) (num 5)) (num 3)
 
 -- `(fun x:nat. x) (succ 18446744073709551615)`
 abbrev pub past_limit : TermTree
@@ -60,7 +60,7 @@ fix_of_pair = bind_at 1 the_fix (121 ∷ []) (product nat nat) (name_at 16 (121 
 
 -- `fst (1, 2) + (fix y:nat. y)`
 abbrev pub pair_before_fix : NamedTree
-pair_before_fix = binary_at 0 plus_op part_of_pair (bind_at 14 the_fix (121 ∷ []) nat (name_at 25 (121 ∷ [])))
+pair_before_fix = binary_at 0 Plus part_of_pair (bind_at 14 the_fix (121 ∷ []) nat (name_at 25 (121 ∷ [])))
 
 pub record ExampleFaults : Type 0 where
   pub fix_refused : IsFirstFault fix_of_number (ByValueFix 0)

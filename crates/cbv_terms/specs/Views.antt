@@ -2,7 +2,8 @@
 -- is known of one.
 use Rattle.std.specs.Prelude.{◌≡◌, ◌+◌, ◌-◌, ◌<◌, ℕ, zero, suc, List, [], ◌∷◌, map, reverse}
 use Rattle.pcf_values.specs.declared.term.Term.{Term}
-use Rattle.pcf_values.specs.Values.{Op, plus_op, minus_op, times_op}
+use Rattle.pcf_values.specs.declared.operator.Operator.{Operator}
+use Rattle.pcf_values.specs.declared.operator.Operator.TheVariants.{Plus as plus_op, Minus as minus_op, Times as times_op}
 use Rattle.pcf_values.specs.Terms.{TyTree, nat, arrow, TermTree, succ_of, pred_of, lam}
 use Rattle.pcf_values.specs.Typing.{HasType}
 use Rattle.pcf_values.specs.Views.{ty_of, term_of}
@@ -25,7 +26,7 @@ abbrev pub unary_of : Unary → TermTree → TermTree
 unary_of Succ = succ_of
 unary_of Pred = pred_of
 
-abbrev pub op_of : Double → Op
+abbrev pub op_of : Double → Operator
 op_of Plus = plus_op
 op_of Minus = minus_op
 op_of Times = times_op

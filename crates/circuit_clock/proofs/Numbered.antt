@@ -6,8 +6,8 @@ use Rattle.std.proofs.Math.Path.{fun_ext}
 use Rattle.std.specs.Prelude.{nat_eq, slice_set, replicate}
 use Rattle.pcf_values.specs.declared.val.Val.{Val}
 use Rattle.pcf_values.specs.declared.val.Val.TheVariants.{Number}
-use Rattle.pcf_values.specs.Values.{Op}
-use Rattle.pcf_values.specs.Terms.{Side}
+use Rattle.pcf_values.specs.declared.operator.Operator.{Operator}
+use Rattle.pcf_values.specs.declared.side.Side.{Side}
 use Rattle.std.specs.Option.{option_map}
 use Rattle.std.proofs.lemmas.Bool.{eqb-true, eqb-false, eq-eqb}
 use Rattle.circuit_core.specs.Rows as rows
@@ -104,7 +104,7 @@ pub free_nowhere : (f : ℕ → Option circuit.Slot) (j n : ℕ) → n ≤ j →
 free_nowhere f j n h = let e : n - j ≡ 0 = omega (arith, h) in ap (free_from f j) e
 
 -- an answer at a fork that was taken out first
-pub arrive_taken : (u : Option Val) (f : circuit.Slot) (o : Op) (s : Side) (w : ℕ) (k : circuit.Token) (C : circuit.Circuit)
+pub arrive_taken : (u : Option Val) (f : circuit.Slot) (o : Operator) (s : Side) (w : ℕ) (k : circuit.Token) (C : circuit.Circuit)
     (taken : ℕ → Option circuit.Slot) → taken ≡ set_slot C.slots k.mine None
     → arrive u f o s w k (record C { slots = taken }) ≡ arrive u f o s w k C
 arrive_taken None f o s w k C taken e =

@@ -5,8 +5,10 @@ use Rattle.std.proofs.lemmas.Bool.{eqb-true, eqb-false, and_parts}
 use Rattle.std.specs.Prelude.{nat_eq, nat_lt}
 use Rattle.pcf_values.specs.declared.val.Val.{Val}
 use Rattle.pcf_values.specs.declared.val.Val.TheVariants.{Number}
-use Rattle.pcf_values.specs.Values.{val_succ, val_pred, Op, val_op, at_zero}
-use Rattle.pcf_values.specs.Terms.{Side, left_side, right_side}
+use Rattle.pcf_values.specs.Values.{val_succ, val_pred, val_op, at_zero}
+use Rattle.pcf_values.specs.declared.operator.Operator.{Operator}
+use Rattle.pcf_values.specs.declared.side.Side.{Side}
+use Rattle.pcf_values.specs.declared.side.Side.TheVariants.{Left, Right}
 use Rattle.token_stacks.specs.Signatures.{Work, Boxes}
 use Rattle.net_build.specs.Nets.{NetTree}
 use Rattle.fork_join.specs.Entries.{Entry, pending, has_left, has_right, kept_as, same_key}
@@ -245,7 +247,7 @@ module _ (N E : ℕ) where
           (key_or (same_key f.node g.stack i t) f.node g.stack i t refl))
 
   -- an answer at its fork
-  module _ (R : Registers) (C : Circuit) (j i : ℕ) (o : Op) (s : Side) (v : Val) (w : ℕ) (e : Channel) (t : Boxes) (k : Token)
+  module _ (R : Registers) (C : Circuit) (j i : ℕ) (o : Operator) (s : Side) (v : Val) (w : ℕ) (e : Channel) (t : Boxes) (k : Token)
       (h : Rest R C) (b : Bears k e [] t) (z : k.value ≡ v) (f : Slot) (here : C.slots k.mine ≡ Some f) (node : i ≡ f.node)
       (boxes : k.boxes ≡ f.boxes) where
     -- another slot has another key
@@ -285,8 +287,8 @@ module _ (N E : ℕ) where
         fs = kept i t (kept_as s v) R.forks
 
         as_kept : (s : Side) → IsAnswered (kept_as s v) (Some k.value)
-        as_kept left_side = z
-        as_kept right_side = z
+        as_kept Left = z
+        as_kept Right = z
 
         mine : IsFork fs (record f { answered = Some k.value })
         mine = record {
@@ -326,20 +328,20 @@ module _ (N E : ℕ) where
       where
         go : (p : Side) → s ≡ p → (last_of (other o (has_left x) p v) R j i w t).full ≡ false →
             Along (last_of (other o (has_left x) p v) R j i w t) (arrive (Some u) f o s w k C)
-        go left_side e full = not_full full
-        go right_side e full =
+        go Left e full = not_full full
+        go Right e full =
             inr (closes u (val_op o x v) (ap (λ p. both o p k.value u) e ∙ ap (λ u. val_op o u k.value) a ∙ ap (val_op o x) z))
     arrives (has_right x) q (Some u) a full = go s refl full
       where
         go : (p : Side) → s ≡ p → (last_of (other o (has_right x) p v) R j i w t).full ≡ false →
             Along (last_of (other o (has_right x) p v) R j i w t) (arrive (Some u) f o s w k C)
-        go right_side e full = not_full full
-        go left_side e full =
+        go Right e full = not_full full
+        go Left e full =
             inr (closes u (val_op o v x) (ap (λ p. both o p k.value u) e ∙ ap (λ u. val_op o k.value u) a ∙
             ap (λ v. val_op o v x) z))
 
   -- an answer at the innermost fork
-  compares : (R : Registers) (C : Circuit) (j i : ℕ) (o : Op) (s : Side) (v : Val) (w : ℕ) (e : Channel) (t : Boxes) (k : Token) →
+  compares : (R : Registers) (C : Circuit) (j i : ℕ) (o : Operator) (s : Side) (v : Val) (w : ℕ) (e : Channel) (t : Boxes) (k : Token) →
       Rest R C → Bears k e [] t → k.value ≡ v →
       (p : Option Slot) → C.slots k.mine ≡ p → (meets (fork_at R.forks i t) R j i o s v w t).full ≡ false →
       Along (meets (fork_at R.forks i t) R j i o s v w t) (compare p i o s w k C)

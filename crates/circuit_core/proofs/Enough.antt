@@ -9,8 +9,9 @@ use Rattle.std.proofs.lemmas.Bool.{eq-eqb, ne_eqb, lt-ltb, le-ltb, cases_eq, and
 use Rattle.std.specs.Prelude.{nat_eq, nat_lt}
 use Rattle.pcf_values.specs.declared.val.Val.{Val}
 use Rattle.pcf_values.specs.declared.val.Val.TheVariants.{Number}
-use Rattle.pcf_values.specs.Values.{val_succ, val_pred, Op, at_zero}
-use Rattle.pcf_values.specs.Terms.{Side}
+use Rattle.pcf_values.specs.Values.{val_succ, val_pred, at_zero}
+use Rattle.pcf_values.specs.declared.operator.Operator.{Operator}
+use Rattle.pcf_values.specs.declared.side.Side.{Side}
 use Rattle.token_stacks.specs.Signatures.{Work, Boxes}
 use Rattle.net_build.specs.Nets.{NetTree}
 use Rattle.net_build.specs.Sound.{Sound}
@@ -173,7 +174,7 @@ module _ (net : NetTree) (sound : Sound net) where
 
   record SlotNests (f : ℕ → Option Slot) (g : Slot) : Type 0 where
     place : Place
-    op : Op
+    op : Operator
     stack : Boxes
     left : Place
     right : Place
@@ -186,7 +187,7 @@ module _ (net : NetTree) (sound : Sound net) where
     node : ℕ
     stack : Boxes
     place : Place
-    op : Op
+    op : Operator
     left : Place
     stands : look net place ≡ two node op stack left p
 
@@ -231,7 +232,7 @@ module _ (net : NetTree) (sound : Sound net) where
 
   record ForkOpen (fs : List OpenFork) (n : ℕ) (u : Boxes) : Type 0 where
     place : Place
-    op : Op
+    op : Operator
     left : Place
     right : Place
     stands : look net place ≡ two n op u left right
@@ -457,7 +458,7 @@ module _ (net : NetTree) (sound : Sound net) where
         more : (m : ℕ) (p : Place) → Around C.slots m p → Around (set_slot C.slots s (Some new)) m p
         more m p a = around_new C.slots s (Some new) m p empty a
 
-        stands : (op : Op) × (look net p ≡ two i op t (at c [] t) (at d [] t))
+        stands : (op : Operator) × (look net p ≡ two i op t (at c [] t) (at d [] t))
         stands = fork_inner net sound i p (at c [] t) (at d [] t) t mv
 
         mine : SlotNests (set_slot C.slots s (Some new)) new
@@ -473,9 +474,9 @@ module _ (net : NetTree) (sound : Sound net) where
         }
 
     -- an answer at its fork
-    module _ (R : Registers) (C : Circuit) (j i : ℕ) (o : Op) (s : Side) (v : Val) (w : ℕ) (e : Channel) (t : Boxes) (k : Token)
+    module _ (R : Registers) (C : Circuit) (j i : ℕ) (o : Operator) (s : Side) (v : Val) (w : ℕ) (e : Channel) (t : Boxes) (k : Token)
         (h : Rest R C) (n : NestRest E R C) (b : Bears k e [] t) (z : k.value ≡ v) (f : Slot) (here : C.slots k.mine ≡ Some f)
-        (node : i ≡ f.node) (boxes : k.boxes ≡ f.boxes) (op' : Op) (left right : Place)
+        (node : i ≡ f.node) (boxes : k.boxes ≡ f.boxes) (op' : Operator) (left right : Place)
         (stands : look net (up w [] t) ≡ two i op' t left right) (y : Entry) (there : fork_at R.forks i t ≡ Some y) where
       mine : SlotNests C.slots f
       mine = n.slots k.mine f here
@@ -596,7 +597,7 @@ module _ (net : NetTree) (sound : Sound net) where
           go (Some x) full facts = closes_on u x facts
 
     -- an answer is at the innermost fork
-    compares_on : (R : Registers) (C : Circuit) (j i : ℕ) (o : Op) (s : Side) (v : Val) (w : ℕ) (e : Channel) (t : Boxes) (q : Place)
+    compares_on : (R : Registers) (C : Circuit) (j i : ℕ) (o : Operator) (s : Side) (v : Val) (w : ℕ) (e : Channel) (t : Boxes) (q : Place)
         (k : Token) → Rest R C → NestRest E R C → Around C.slots k.mine (turned q) → Bears k e [] t → k.value ≡ v →
         move net (ans v q) ≡ join i o s v w t → (meets (fork_at R.forks i t) R j i o s v w t).full ≡ false →
         Facts (meets (fork_at R.forks i t) R j i o s v w t) →

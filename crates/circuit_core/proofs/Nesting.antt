@@ -6,8 +6,10 @@ use Rattle.std.proofs.Common.{◌∙◌, subst, inl, inr}
 use Rattle.std.specs.Prelude.{nat_eq}
 use Rattle.pcf_values.specs.declared.val.Val.{Val}
 use Rattle.pcf_values.specs.declared.val.Val.TheVariants.{Number, Overflow}
-use Rattle.pcf_values.specs.Values.{Op, at_zero}
-use Rattle.pcf_values.specs.Terms.{Side, left_side, right_side}
+use Rattle.pcf_values.specs.Values.{at_zero}
+use Rattle.pcf_values.specs.declared.operator.Operator.{Operator}
+use Rattle.pcf_values.specs.declared.side.Side.{Side}
+use Rattle.pcf_values.specs.declared.side.Side.TheVariants.{Left, Right}
 use Rattle.token_stacks.specs.Signatures.{Boxes}
 use Rattle.net_build.specs.Nets.{NetTree}
 use Rattle.net_build.specs.Sound.{Sound}
@@ -38,7 +40,7 @@ NotTwo (two i o t a b) = ⊥
 -- the node and box stack of the innermost fork around a place; none at the start
 pub data Inner (net : NetTree) : Place → Option Key → Type 0 where
   in_root : {p : Place} → p ≡ start_of net → Inner net p None
-  in_fork : {p : Place} (r a b : Place) (k : ℕ) (op : Op) (s : Boxes) → look net r ≡ two k op s a b → Child (two k op s a b) p →
+  in_fork : {p : Place} (r a b : Place) (k : ℕ) (op : Operator) (s : Boxes) → look net r ≡ two k op s a b → Child (two k op s a b) p →
       Inner net p (Some (k, s))
   in_other : {p : Place} {o : Option Key} (r : Place) (l : Look) → look net r ≡ l → NotTwo l → Child l p → Inner net r o →
       Inner net p o
@@ -80,12 +82,12 @@ module _ (net : NetTree) (sound : Sound net) where
   no_parent : (p r : Place) → p ≡ start_of net → parent net p ≡ Some r → ⊥
   no_parent p r e h = let z : None ≡ Some r = sym (top net sound (start_of net) starts) ∙ ap (parent net) (sym e) ∙ h in cc
 
-  same_two : (k k' : ℕ) (op op' : Op) (s s' : Boxes) (a b a' b' : Place) → two k op s a b ≡ two k' op' s' a' b' →
+  same_two : (k k' : ℕ) (op op' : Operator) (s s' : Boxes) (a b a' b' : Place) → two k op s a b ≡ two k' op' s' a' b' →
       ◌≡◌ {A = Option Key} (Some (k, s)) (Some (k', s'))
   same_two k k' op op' s s' a b a' b' h = let e : k ≡ k' = cc in let g : s ≡ s' = cc in ap (λ k. Some (k, s)) e ∙
       ap (λ s. Some (k', s)) g
 
-  not_both : (r : Place) (l : Look) (k : ℕ) (op : Op) (s : Boxes) (a b : Place) → look net r ≡ l → NotTwo l →
+  not_both : (r : Place) (l : Look) (k : ℕ) (op : Operator) (s : Boxes) (a b : Place) → look net r ≡ l → NotTwo l →
       look net r ≡ two k op s a b → ⊥
   not_both r l k op s a b h n g = subst NotTwo (sym h ∙ g) n
 
@@ -149,12 +151,12 @@ module _ (net : NetTree) (sound : Sound net) where
   child_answer i o v p r (two k op t a b) y h n c g e = elim n [ ]
 
   -- an answer at a fork joins there
-  fork_answer : (v : Val) (p r a b : Place) (k : ℕ) (op : Op) (s : Boxes) → look net r ≡ two k op s a b →
+  fork_answer : (v : Val) (p r a b : Place) (k : ℕ) (op : Operator) (s : Boxes) → look net r ≡ two k op s a b →
       Child (two k op s a b) p → (d : Side) × (w : ℕ) × (move net (ans v (turned p)) ≡ join k op d v w s) × (r ≡ up w [] s)
   fork_answer v p r a b k op s h (inl e) = let f = known net sound r (two k op s a b) h in
-      (left_side, f.out, ap (λ p. move net (ans v (turned p))) (sym e) ∙ f.left_joins v, f.is_up)
+      (Left, f.out, ap (λ p. move net (ans v (turned p))) (sym e) ∙ f.left_joins v, f.is_up)
   fork_answer v p r a b k op s h (inr e) = let f = known net sound r (two k op s a b) h in
-      (right_side, f.out, ap (λ p. move net (ans v (turned p))) (sym e) ∙ f.right_joins v, f.is_up)
+      (Right, f.out, ap (λ p. move net (ans v (turned p))) (sym e) ∙ f.right_joins v, f.is_up)
 
   -- at the start the answer is the program's
   root_answer : (v : Val) (q : Place) → turned q ≡ start_of net → move net (ans v q) ≡ answer v
@@ -186,11 +188,11 @@ module _ (net : NetTree) (sound : Sound net) where
   solo_inner i o (ans v q) y g e = solo_answer i o v q y g e
 
   -- a fork is at its own place
-  pub fork_inner : (i : ℕ) (p l r : Place) (t : Boxes) → move net (ask p) ≡ fork i l r t → (op : Op) ×
+  pub fork_inner : (i : ℕ) (p l r : Place) (t : Boxes) → move net (ask p) ≡ fork i l r t → (op : Operator) ×
       (look net p ≡ two i op t l r)
   fork_inner i p l r t = go (look net p) refl
     where
-      go : (k : Look) → look net p ≡ k → ask_move k p ≡ fork i l r t → (op : Op) × (look net p ≡ two i op t l r)
+      go : (k : Look) → look net p ≡ k → ask_move k p ≡ fork i l r t → (op : Operator) × (look net p ≡ two i op t l r)
       go dead h e = absurd cc
       go (constant j n) h e = absurd cc
       go (pass j q) h e = absurd cc
@@ -207,9 +209,9 @@ module _ (net : NetTree) (sound : Sound net) where
           )
 
   -- an answer that joins is at its innermost fork, which is at the place to which the second answer goes back
-  pub join_inner : (i : ℕ) (op : Op) (d : Side) (v : Val) (w : ℕ) (t : Boxes) (q : Place) (o : Option Key) →
+  pub join_inner : (i : ℕ) (op : Operator) (d : Side) (v : Val) (w : ℕ) (t : Boxes) (q : Place) (o : Option Key) →
       Inner net (turned q) o → move net (ans v q) ≡ join i op d v w t →
-      (o ≡ Some (i, t)) × ((op' : Op) × (a : Place) × (b : Place) × (look net (up w [] t) ≡ two i op' t a b))
+      (o ≡ Some (i, t)) × ((op' : Operator) × (a : Place) × (b : Place) × (look net (up w [] t) ≡ two i op' t a b))
   join_inner i op d v w t q o (in_root e) h = let z : answer v ≡ join i op d v w t = sym (root_answer v q e) ∙ h in absurd cc
   join_inner i op d v w t q o (in_fork r a b k op' s l c) h =
       let (d', w', g, is) = fork_answer v (turned q) r a b k op' s l c in
@@ -230,7 +232,7 @@ module _ (net : NetTree) (sound : Sound net) where
     where
       other_way : (l : Look) → look net r ≡ l → NotTwo l → Child l (turned q) →
           move net (ans v (turned (turned q))) ≡ join i op d v w t →
-          (o ≡ Some (i, t)) × ((op' : Op) × (a : Place) × (b : Place) × (look net (up w [] t) ≡ two i op' t a b))
+          (o ≡ Some (i, t)) × ((op' : Operator) × (a : Place) × (b : Place) × (look net (up w [] t) ≡ two i op' t a b))
       other_way dead h n c e = elim c [ ]
       other_way (constant k m) h n c e = elim c [ ]
       other_way (pass k p) h n c e = let (j, b) = (known net sound r (pass k p) h).1 v in
@@ -316,7 +318,7 @@ module _ (net : NetTree) (sound : Sound net) where
 
   -- the forks of a tree
   abbrev Forks : ℕ → Boxes → Option Key → Entries → Type 0
-  Forks n u o g = (q : Place) × (op : Op) × (a : Place) × (b : Place) × (look net q ≡ two n op u a b) × Found q o g
+  Forks n u o g = (q : Place) × (op : Operator) × (a : Place) × (b : Place) × (look net q ≡ two n op u a b) × Found q o g
 
   tree_forks : (t : Tree) (p : Place) (o : Option Key) (n : ℕ) (u : Boxes) (e : Entry) → Valid net t p → Inner net p o →
       entry_in t n u ≡ Some e → Forks n u o (entry_in t)
@@ -363,11 +365,11 @@ module _ (net : NetTree) (sound : Sound net) where
 
   -- and so is the one around an open fork
   pub fork_open : (log : List ℕ) (S : State) → LeadsTo net log S → (n : ℕ) (u : Boxes) (e : Entry) → S.entries n u ≡ Some e →
-      (q : Place) × (op : Op) × (a : Place) × (b : Place) × (look net q ≡ two n op u a b) ×
+      (q : Place) × (op : Operator) × (a : Place) × (b : Place) × (look net q ≡ two n op u a b) ×
       ((o : Option Key) × Inner net q o × Opened S.entries o)
   fork_open log S h n u e g = go (reached net sound (start_of net) starts log S h)
     where
-      go : {m : ℕ} → Accounted net (start_of net) m S → (q : Place) × (op : Op) × (a : Place) × (b : Place) ×
+      go : {m : ℕ} → Accounted net (start_of net) m S → (q : Place) × (op : Operator) × (a : Place) × (b : Place) ×
           (look net q ≡ two n op u a b) × ((o : Option Key) × Inner net q o × Opened S.entries o)
       go (inr o) = let z : None ≡ Some e = sym (o.no_entries n u) ∙ g in absurd cc
       go (inl (t, live)) =

@@ -4,8 +4,8 @@ use Rattle.std.proofs.Common.{Option, Some, None, refl, sym, ap, ◌∙◌, subs
 use Rattle.std.proofs.lemmas.Bool.{eqb-true, eq-eqb, ne_eqb}
 use Rattle.std.specs.Prelude.{nat_eq}
 use Rattle.pcf_values.specs.declared.val.Val.{Val}
-use Rattle.pcf_values.specs.Values.{Op}
-use Rattle.pcf_values.specs.Terms.{Side}
+use Rattle.pcf_values.specs.declared.operator.Operator.{Operator}
+use Rattle.pcf_values.specs.declared.side.Side.{Side}
 use Rattle.token_stacks.specs.Signatures.{Boxes}
 use Rattle.net_build.specs.Nets.{NetTree}
 use Rattle.fork_join.specs.Entries.{Entry, pending, has_left, has_right, kept_as, same_key}
@@ -137,7 +137,7 @@ module _ (R : Registers) (S : State) (i : ℕ) (x : TokenTree) (live : R.live �
   last_fits None n w t T h = absurd (none_some T h)
   last_fits (Some u) n w t T h = subst (Fits (last_of (Some u) R i n w t)) (same_some _ T h) (close_fits n t (ans u (down w [] t)))
 
-  meet_fits : (e : Option Entry) → (n : ℕ) (o : Op) (s : Side) (v : Val) (w : ℕ) (t : Boxes) (T : State) →
+  meet_fits : (e : Option Entry) → (n : ℕ) (o : Operator) (s : Side) (v : Val) (w : ℕ) (t : Boxes) (T : State) →
       fork_at R.forks n t ≡ e → join_on e S i n o s v w t ≡ Some T → Fits (meets e R i n o s v w t) T
   meet_fits None n o s v w t T g h = absurd (none_some T h)
   meet_fits (Some pending) n o s v w t T g h = subst (Fits (meets (Some pending) R i n o s v w t)) (same_some _ T h)
@@ -188,7 +188,7 @@ last_moves : (o : Option Val) (R : Registers) (i n w : ℕ) (t : Boxes) → (las
 last_moves None R i n w t = refl
 last_moves (Some u) R i n w t = refl
 
-meets_moves : (e : Option Entry) (R : Registers) (i n : ℕ) (o : Op) (s : Side) (v : Val) (w : ℕ) (t : Boxes) →
+meets_moves : (e : Option Entry) (R : Registers) (i n : ℕ) (o : Operator) (s : Side) (v : Val) (w : ℕ) (t : Boxes) →
     (meets e R i n o s v w t).moves ≡ R.moves
 meets_moves None R i n o s v w t = refl
 meets_moves (Some pending) R i n o s v w t = refl

@@ -10,8 +10,9 @@ use Rattle.std.proofs.lemmas.Bool.{eqb-true, ne_eqb}
 use Rattle.std.specs.Prelude.{nat_eq}
 use Rattle.pcf_values.specs.declared.val.Val.{Val}
 use Rattle.pcf_values.specs.declared.val.Val.TheVariants.{Number, Overflow}
-use Rattle.pcf_values.specs.Values.{Op, at_zero}
-use Rattle.pcf_values.specs.Terms.{left_side, right_side}
+use Rattle.pcf_values.specs.Values.{at_zero}
+use Rattle.pcf_values.specs.declared.operator.Operator.{Operator}
+use Rattle.pcf_values.specs.declared.side.Side.TheVariants.{Left, Right}
 use Rattle.token_stacks.specs.Signatures.{star, left_of, right_of, pair_of, again, R, L, S, Work, Boxes}
 use Rattle.net_build.specs.declared.node.Node.{Node}
 use Rattle.net_build.specs.declared.node.Node.TheVariants.{Const, Succ, Pred, Plus, Minus, Times, Ifz, Der, Con, Lam, App, BoxNode, Door}
@@ -229,13 +230,13 @@ asks_up i (Times x y c) w [] t a e h = refl
 asks_up i n w m t a e h = passes i (row_up n w) m t (up w m t) (plain_up n w m t) (up_leads n w m t a) h
 
 -- an operand's answer
-joins : (i : ℕ) (o : Op) (a b c : ℕ) (v : Val) (w : ℕ) (t : Boxes) → operand_down i o a b c v w t ≢ stay →
-    operand_down i o a b c v w t ≡ answer_row i (if_at a w (JOIN o left_side c) (JOIN o right_side c)) v [] t
+joins : (i : ℕ) (o : Operator) (a b c : ℕ) (v : Val) (w : ℕ) (t : Boxes) → operand_down i o a b c v w t ≢ stay →
+    operand_down i o a b c v w t ≡ answer_row i (if_at a w (JOIN o Left c) (JOIN o Right c)) v [] t
 joins i o a b c v w t = go (nat_eq a w) (nat_eq b w)
   where
-    go : (x y : Bool) → or_stay (cond x (join i o left_side v c t) stay) (cond y (join i o right_side v c t) stay) ≢ stay →
-        or_stay (cond x (join i o left_side v c t) stay) (cond y (join i o right_side v c t) stay) ≡ answer_row i
-        (cond x (JOIN o left_side c) (JOIN o right_side c)) v [] t
+    go : (x y : Bool) → or_stay (cond x (join i o Left v c t) stay) (cond y (join i o Right v c t) stay) ≢ stay →
+        or_stay (cond x (join i o Left v c t) stay) (cond y (join i o Right v c t) stay) ≡ answer_row i
+        (cond x (JOIN o Left c) (JOIN o Right c)) v [] t
     go true y h = refl
     go false true h = refl
     go false false h = absurd (h refl)

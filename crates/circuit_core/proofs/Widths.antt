@@ -5,8 +5,8 @@ use Rattle.std.proofs.lemmas.Bool.{ltb-true, ltb-false}
 use Rattle.std.proofs.lemmas.List.{length-append}
 use Rattle.std.specs.Prelude.{nat_eq, nat_lt}
 use Rattle.pcf_values.specs.declared.val.Val.{Val}
-use Rattle.pcf_values.specs.Values.{Op}
-use Rattle.pcf_values.specs.Terms.{Side}
+use Rattle.pcf_values.specs.declared.operator.Operator.{Operator}
+use Rattle.pcf_values.specs.declared.side.Side.{Side}
 use Rattle.net_build.specs.Nets.{NetTree}
 use Rattle.circuit_core.specs.Rows.{Row, CONST, SUCC, PRED, TEST, FORK, JOIN, ANSWER, DEAD}
 use Rattle.circuit_core.specs.Rows.{Channel, row_of}
@@ -68,7 +68,7 @@ module _ (N E : ℕ) where
   later_less [] = omega arith
   later_less (q ∷ qs) = omega arith
 
-  arrive_width : (v : Option Val) (f : Slot) (o : Op) (s : Side) (c : ℕ) (k : Token) (C : Circuit) → Widths N E C →
+  arrive_width : (v : Option Val) (f : Slot) (o : Operator) (s : Side) (c : ℕ) (k : Token) (C : Circuit) → Widths N E C →
       TokenWidth N E (Some k) → C.slots k.mine ≡ Some f → Widths N E (arrive v f o s c k C)
   arrive_width None f o s c k C w h e =
       let l = later_less C.queue in
@@ -89,7 +89,7 @@ module _ (N E : ℕ) where
     slots = λ a g q. ⊎_elim (λ (_, x). absurd (none_some g x)) (λ (_, x). w.slots a g x) (set_cases C.slots k.mine None a g q);
   }
 
-  compare_width : (p : Option Slot) (i : ℕ) (o : Op) (s : Side) (c : ℕ) (k : Token) (C : Circuit) → Widths N E C →
+  compare_width : (p : Option Slot) (i : ℕ) (o : Operator) (s : Side) (c : ℕ) (k : Token) (C : Circuit) → Widths N E C →
       TokenWidth N E (Some k) → C.slots k.mine ≡ p → Widths N E (compare p i o s c k C)
   compare_width None i o s c k C w h e = stays_full C w
   compare_width (Some f) i o s c k C w h e = go (nat_eq i f.node && same_bits k.boxes f.boxes)

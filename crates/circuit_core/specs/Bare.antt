@@ -3,15 +3,15 @@
 -- left
 -- out of the hardware, on every net that runs.
 use Rattle.std.specs.Prelude.{◌≡◌, ℕ, zero, suc, true, Option, Some, None, if◌then◌else◌}
-use Rattle.pcf_values.specs.Values.{Op}
-use Rattle.pcf_values.specs.Terms.{Side}
+use Rattle.pcf_values.specs.declared.operator.Operator.{Operator}
+use Rattle.pcf_values.specs.declared.side.Side.{Side}
 use Rattle.net_build.specs.Nets.{NetTree}
 use Rattle.interleave_laws.specs.Runs.{Runs}
 use Rattle.circuit_core.specs.Rows.{Row, FORK, JOIN, row_of}
 use Rattle.circuit_core.specs.Circuit.{Token, Slot, Circuit, free_from, stuck, split, arrive, operate, powered, circuit}
 
 -- an answer at its fork
-abbrev pub arrive_at : Option Slot → Op → Side → ℕ → Token → Circuit → Circuit
+abbrev pub arrive_at : Option Slot → Operator → Side → ℕ → Token → Circuit → Circuit
 arrive_at None o s w k C = stuck C
 arrive_at (Some f) o s w k C = arrive f.answered f o s w k C
 

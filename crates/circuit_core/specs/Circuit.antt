@@ -7,8 +7,10 @@ use Rattle.std.specs.Prelude.{ℕ, zero, suc, Bool, true, false, List, [], ◌�
 use Rattle.std.specs.Prelude.{◌&&◌, ◌||◌, if◌then◌else◌}
 use Rattle.pcf_values.specs.declared.val.Val.{Val}
 use Rattle.pcf_values.specs.declared.val.Val.TheVariants.{Number}
-use Rattle.pcf_values.specs.Values.{val_succ, val_pred, Op, val_op, at_zero}
-use Rattle.pcf_values.specs.Terms.{Side, left_side, right_side}
+use Rattle.pcf_values.specs.Values.{val_succ, val_pred, val_op, at_zero}
+use Rattle.pcf_values.specs.declared.operator.Operator.{Operator}
+use Rattle.pcf_values.specs.declared.side.Side.{Side}
+use Rattle.pcf_values.specs.declared.side.Side.TheVariants.{Left, Right}
 use Rattle.net_build.specs.Nets.{NetTree}
 use Rattle.interleave_laws.specs.Start.{start_of}
 use Rattle.circuit_core.specs.Rows.{Row, CONST, SUCC, PRED, TEST, FORK, JOIN, ANSWER, DEAD}
@@ -75,9 +77,9 @@ later [] = []
 later (q ∷ qs) = qs
 
 -- what the operator comes to, where this side has v and the other has u
-abbrev pub both : Op → Side → Val → Val → Val
-both o left_side v u = val_op o v u
-both o right_side v u = val_op o u v
+abbrev pub both : Operator → Side → Val → Val → Val
+both o Left v u = val_op o v u
+both o Right v u = val_op o u v
 
 -- a row of stacks
 abbrev pub shifted : ℕ → Load → Token → Circuit → Circuit
@@ -95,7 +97,7 @@ split (Some f) true i c d k C = record C {
 }
 
 -- an answer at its own fork: the first is kept, and the second goes on
-abbrev pub arrive : Option Val → Slot → Op → Side → ℕ → Token → Circuit → Circuit
+abbrev pub arrive : Option Val → Slot → Operator → Side → ℕ → Token → Circuit → Circuit
 arrive None f o s w k C = record C {
   live = next_token k.value C.queue;
   queue = later C.queue;
@@ -107,7 +109,7 @@ arrive (Some u) f o s w k C = record C {
 }
 
 -- an answer at the innermost fork, if it is the one of node i and these boxes
-abbrev pub compare : Option Slot → ℕ → Op → Side → ℕ → Token → Circuit → Circuit
+abbrev pub compare : Option Slot → ℕ → Operator → Side → ℕ → Token → Circuit → Circuit
 compare None i o s w k C = stuck C
 compare (Some f) i o s w k C = if nat_eq i f.node && same_bits k.boxes f.boxes then arrive f.answered f o s w k C else stuck C
 

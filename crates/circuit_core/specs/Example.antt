@@ -2,8 +2,9 @@
 use Rattle.std.specs.Prelude.{◌≡◌, ℕ, zero, suc, Bool, true, false, List, [], ◌∷◌, Option, Some, None}
 use Rattle.pcf_values.specs.declared.val.Val.{Val}
 use Rattle.pcf_values.specs.declared.val.Val.TheVariants.{Number}
-use Rattle.pcf_values.specs.Values.{plus_op}
-use Rattle.pcf_values.specs.Terms.{left_side, right_side, nat, num, succ_of, binary, ifz}
+use Rattle.pcf_values.specs.declared.operator.Operator.TheVariants.{Plus as plus_op}
+use Rattle.pcf_values.specs.Terms.{nat, num, succ_of, binary, ifz}
+use Rattle.pcf_values.specs.declared.side.Side.TheVariants.{Left, Right}
 use Rattle.net_build.specs.declared.node.Node.TheVariants.{Const, Succ, Plus, Root}
 use Rattle.net_build.specs.Nets.{NetTree, value_wire}
 use Rattle.net_build.specs.NetOf.{net_of}
@@ -42,16 +43,16 @@ ExampleSuccRows = rows_from succ_net 0 2 ≡ Some (0, CONST 4 (falls 0)) ∷ Som
 abbrev pub ExampleSumRows : Type 0
 ExampleSumRows =
     rows_from sum_net 0 3 ≡
-    Some (0, CONST 1 (falls 0)) ∷ Some (2, JOIN plus_op left_side 2) ∷ Some (1, CONST 2 (falls 1)) ∷
-    Some (2, JOIN plus_op right_side 2) ∷ Some (2, FORK (rises 0) (rises 1)) ∷ Some (3, ANSWER) ∷ []
+    Some (0, CONST 1 (falls 0)) ∷ Some (2, JOIN plus_op Left 2) ∷ Some (1, CONST 2 (falls 1)) ∷
+    Some (2, JOIN plus_op Right 2) ∷ Some (2, FORK (rises 0) (rises 1)) ∷ Some (3, ANSWER) ∷ []
 
 -- twenty rows, in the order of the printed text
 abbrev pub ExampleDoubleRows : Type 0
 ExampleDoubleRows =
     rows_from doubled_net 0 10 ≡
-    Some (0, STAR (falls 1)) ∷ Some (3, JOIN plus_op left_side 5)
+    Some (0, STAR (falls 1)) ∷ Some (3, JOIN plus_op Left 5)
     ∷ Some (0, UNSTAR (falls 0)) ∷ Some (2, LEFT (falls 4))
-    ∷ Some (1, STAR (falls 3)) ∷ Some (3, JOIN plus_op right_side 5)
+    ∷ Some (1, STAR (falls 3)) ∷ Some (3, JOIN plus_op Right 5)
     ∷ Some (1, UNSTAR (falls 2)) ∷ Some (2, RIGHT (falls 4))
     ∷ Some (2, CON (rises 1) (rises 3)) ∷ Some (4, PUSHL (falls 6))
     ∷ Some (3, FORK (rises 0) (rises 2)) ∷ Some (4, PUSHR (falls 6))

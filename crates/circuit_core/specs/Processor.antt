@@ -7,8 +7,8 @@
 use Rattle.std.specs.Prelude.{ℕ, zero, suc, Bool, true, false, List, [], ◌∷◌, ◌++◌, Option, Some, None, nat_eq}
 use Rattle.std.specs.Prelude.{if◌then◌else◌}
 use Rattle.pcf_values.specs.declared.val.Val.{Val}
-use Rattle.pcf_values.specs.Values.{Op}
-use Rattle.pcf_values.specs.Terms.{Side}
+use Rattle.pcf_values.specs.declared.operator.Operator.{Operator}
+use Rattle.pcf_values.specs.declared.side.Side.{Side}
 use Rattle.token_stacks.specs.Signatures.{Boxes}
 use Rattle.net_build.specs.Nets.{NetTree}
 use Rattle.fork_join.specs.Entries.{Entry, pending, has_left, has_right, kept_as, same_key}
@@ -70,7 +70,7 @@ last_of None R i n w t = record R { full = true }
 last_of (Some u) R i n w t = record R { live = Some (i, ans u (down w [] t)); forks = closed n t R.forks }
 
 -- an answer at what its fork has
-abbrev pub meets : Option Entry → Registers → ℕ → ℕ → Op → Side → Val → ℕ → Boxes → Registers
+abbrev pub meets : Option Entry → Registers → ℕ → ℕ → Operator → Side → Val → ℕ → Boxes → Registers
 meets None R i n o s v w t = record R { full = true }
 meets (Some pending) R i n o s v w t = record R { live = taken R.ring; ring = rest R.ring; forks = kept n t (kept_as s v) R.forks }
 meets (Some (has_left u)) R i n o s v w t = last_of (other o (has_left u) s v) R i n w t

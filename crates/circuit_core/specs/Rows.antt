@@ -6,8 +6,11 @@
 use Rattle.std.specs.Prelude.{ℕ, [], ◌∷◌, Option, Some, None, nat_eq, if◌then◌else◌, ◌+◌, ◌*◌}
 use Rattle.pcf_values.specs.declared.val.Val.{Val}
 use Rattle.pcf_values.specs.declared.val.Val.TheVariants.{Number}
-use Rattle.pcf_values.specs.Values.{val_succ, val_pred, Op, plus_op, minus_op, times_op, at_zero}
-use Rattle.pcf_values.specs.Terms.{Side, left_side, right_side}
+use Rattle.pcf_values.specs.Values.{val_succ, val_pred, at_zero}
+use Rattle.pcf_values.specs.declared.operator.Operator.{Operator}
+use Rattle.pcf_values.specs.declared.operator.Operator.TheVariants.{Plus as plus_op, Minus as minus_op, Times as times_op}
+use Rattle.pcf_values.specs.declared.side.Side.{Side}
+use Rattle.pcf_values.specs.declared.side.Side.TheVariants.{Left, Right}
 use Rattle.token_stacks.specs.Signatures.{star, left_of, right_of, pair_of, again, R, L, S, Work, Boxes}
 use Rattle.net_build.specs.declared.node.Node.{Node}
 use Rattle.net_build.specs.declared.node.Node.TheVariants.{Const, Succ, Pred, Plus, Minus, Times, Ifz, Der, Con, Weak, Lam, App, BoxNode}
@@ -38,7 +41,7 @@ pub data Row : Type 0 where
   TEST : (zero other : Channel) → Row
   FORK : (left right : Channel) → Row
   -- PLUSL, PLUSR, MINUSL .. of the text; it sends down a wire
-  JOIN : Op → Side → (wire : ℕ) → Row
+  JOIN : Operator → Side → (wire : ℕ) → Row
   ANSWER : Row
   STAR : Channel → Row
   UNSTAR : Channel → Row
@@ -92,9 +95,9 @@ abbrev pub row_down : Node → ℕ → Row
 row_down (Const v c) w = DEAD
 row_down (Succ a c) w = SUCC (falls c)
 row_down (Pred a c) w = PRED (falls c)
-row_down (Plus a b c) w = if_at a w (JOIN plus_op left_side c) (JOIN plus_op right_side c)
-row_down (Minus a b c) w = if_at a w (JOIN minus_op left_side c) (JOIN minus_op right_side c)
-row_down (Times a b c) w = if_at a w (JOIN times_op left_side c) (JOIN times_op right_side c)
+row_down (Plus a b c) w = if_at a w (JOIN plus_op Left c) (JOIN plus_op Right c)
+row_down (Minus a b c) w = if_at a w (JOIN minus_op Left c) (JOIN minus_op Right c)
+row_down (Times a b c) w = if_at a w (JOIN times_op Left c) (JOIN times_op Right c)
 row_down (Ifz b p q c) w = if_at b w (TEST (rises p) (rises q)) (GO (falls c))
 row_down (Der v x) w = DEAD
 row_down (Con l r c) w = if_at l w (LEFT (falls c)) (RIGHT (falls c))

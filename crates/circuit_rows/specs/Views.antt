@@ -1,6 +1,7 @@
 -- The views of this crate's types: the code's channels and rows as those of `circuit_core`.
 use Rattle.std.specs.Prelude.{ℕ, if◌then◌else◌}
-use Rattle.pcf_values.specs.Values.{Op, plus_op, minus_op, times_op}
+use Rattle.pcf_values.specs.declared.operator.Operator.{Operator}
+use Rattle.pcf_values.specs.declared.operator.Operator.TheVariants.{Plus as plus_op, Minus as minus_op, Times as times_op}
 use Rattle.fork_join.specs.Arrivals.{side_of}
 use Rattle.net_build.specs.declared.node.Node.{Node}
 use Rattle.circuit_core.specs.Rows as rows
@@ -15,7 +16,7 @@ use Rattle.circuit_rows.specs.declared.row.Found.{Found}
 abbrev pub channel_of : Channel → rows.Channel
 channel_of c = if c.up then rows.rises c.wire else rows.falls c.wire
 
-abbrev pub op_of : Operator → Op
+abbrev pub op_of : Operator → Operator
 op_of Plus = plus_op
 op_of Minus = minus_op
 op_of Times = times_op

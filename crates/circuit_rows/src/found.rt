@@ -5,7 +5,7 @@ ghost use Rattle.std.specs.Option.{option_map};
 ghost use Rattle.net_build.specs.Sides.{number_of};
 ghost use Rattle.move_rules.specs.Table.{facing};
 ghost use Rattle.move_rules.specs.Views.{numbered};
-ghost use Rattle.pcf_values.specs.Terms.{left_side, right_side};
+ghost use Rattle.pcf_values.specs.declared.side.Side.TheVariants.{Left as left_side, Right as right_side};
 ghost use Rattle.circuit_core.specs.Rows.{at, rises, falls, if_at, row_up, row_down, row_of, JOIN};
 ghost use Rattle.circuit_rows.specs.Views.{channel_of, op_of, row_view, found_of, row_at};
 

@@ -1,8 +1,10 @@
 -- The line of a row in the `case` of a circuit's text. A channel is told by its number, and behind the row stand the wire, the direction
 -- and the node for whoever reads it.
 use Rattle.std.specs.Prelude.{ℕ, List, [], ◌++◌, Option, Some, None, codes, decimal}
-use Rattle.pcf_values.specs.Values.{Op, plus_op, minus_op, times_op}
-use Rattle.pcf_values.specs.Terms.{Side, left_side, right_side}
+use Rattle.pcf_values.specs.declared.operator.Operator.{Operator}
+use Rattle.pcf_values.specs.declared.operator.Operator.TheVariants.{Plus, Minus, Times}
+use Rattle.pcf_values.specs.declared.side.Side.{Side}
+use Rattle.pcf_values.specs.declared.side.Side.TheVariants.{Left, Right}
 use Rattle.net_build.specs.Nets.{NetTree}
 use Rattle.circuit_core.specs.Rows.{Channel, rises, falls, number, Row, GO, CONST, SUCC, PRED, TEST, FORK, JOIN, ANSWER, STAR, UNSTAR}
 use Rattle.circuit_core.specs.Rows.{LEFT, RIGHT, CON, PUSHR, PUSHL, SELECT, POP, BOXIN, BOXOUT, DOOROUT, DOORIN, FIXIN, FIXOUT, FIXVAR}
@@ -14,13 +16,13 @@ channel_text (rises w) = codes "up " ++ decimal w
 channel_text (falls w) = codes "down " ++ decimal w
 
 -- the operation at an operator, by the side from which the answer comes
-abbrev pub join_text : Op → Side → List ℕ
-join_text plus_op left_side = codes "PLUSL"
-join_text plus_op right_side = codes "PLUSR"
-join_text minus_op left_side = codes "MINUSL"
-join_text minus_op right_side = codes "MINUSR"
-join_text times_op left_side = codes "TIMESL"
-join_text times_op right_side = codes "TIMESR"
+abbrev pub join_text : Operator → Side → List ℕ
+join_text Plus Left = codes "PLUSL"
+join_text Plus Right = codes "PLUSR"
+join_text Minus Left = codes "MINUSL"
+join_text Minus Right = codes "MINUSR"
+join_text Times Left = codes "TIMESL"
+join_text Times Right = codes "TIMESR"
 
 -- the name of an operation
 abbrev pub op_text : Row → List ℕ

@@ -5,7 +5,8 @@ use Rattle.std.specs.Prelude.{ℕ, Bool, ◌&&◌, nat_eq}
 use Rattle.std.specs.declared.cmp.Ordering.{Ordering}
 use Rattle.std.specs.Ordering.{nat_cmp, on, then_cmp}
 use Rattle.pcf_values.specs.declared.val.Val.{Val}
-use Rattle.pcf_values.specs.Terms.{Side, left_side, right_side}
+use Rattle.pcf_values.specs.declared.side.Side.{Side}
+use Rattle.pcf_values.specs.declared.side.Side.TheVariants.{Left, Right}
 use Rattle.token_stacks.specs.Signatures.{Boxes}
 use Rattle.token_stacks.specs.Order.{box_eq, box_cmp}
 
@@ -17,8 +18,8 @@ pub data Entry : Type 0 where
 
 -- the first answer of a fork, as it is kept
 abbrev pub kept_as : Side → Val → Entry
-kept_as left_side v = has_left v
-kept_as right_side v = has_right v
+kept_as Left v = has_left v
+kept_as Right v = has_right v
 
 -- the key of an entry: node and box stack
 abbrev pub Key : Type 0

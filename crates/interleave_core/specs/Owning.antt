@@ -4,8 +4,8 @@ use Rattle.std.specs.Prelude.{◌≡◌, ◌≤◌, ◌⊎◌, ℕ, List, length
 use Rattle.std.specs.Option.{IsSome}
 use Rattle.std.specs.FinMap.{get, insert}
 use Rattle.pcf_values.specs.declared.val.Val.{Val}
-use Rattle.pcf_values.specs.Values.{Op}
-use Rattle.pcf_values.specs.Terms.{Side}
+use Rattle.pcf_values.specs.declared.operator.Operator.{Operator}
+use Rattle.pcf_values.specs.declared.side.Side.{Side}
 use Rattle.token_stacks.specs.Signatures.{Boxes}
 use Rattle.net_build.specs.Nets.{NetTree}
 use Rattle.move_rules.specs.Places.{TokenTree}
@@ -27,7 +27,7 @@ pub record GoesAlone (net : NetTree) (S : MapState) (i most n : ℕ) (T : MapSta
 
 -- the entry of each join of this token is there
 abbrev pub JoinsOwn : NetTree → MapState → TokenTree → Type 0
-JoinsOwn net S x = (n : ℕ) (o : Op) (s : Side) (v : Val) (w : ℕ) (t : Boxes) → move net x ≡ join n o s v w t → IsSome (get S.entries (n, t))
+JoinsOwn net S x = (n : ℕ) (o : Operator) (s : Side) (v : Val) (w : ℕ) (t : Boxes) → move net x ≡ join n o s v w t → IsSome (get S.entries (n, t))
 
 -- the ticket has its step where its token doesn't join, and where its entry is there
 abbrev pub OwnAble : NetTree → MapState → ℕ → Type 0

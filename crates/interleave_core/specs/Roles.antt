@@ -2,7 +2,8 @@
 use Rattle.std.specs.Prelude.{◌≡◌, ℕ, Bool, true, false, [], ◌∷◌, Some, nat_eq, if◌then◌else◌}
 use Rattle.std.specs.Ordering.{nat_cmp}
 use Rattle.std.specs.FinMap.{FinMap, get}
-use Rattle.pcf_values.specs.Values.{Op, plus_op, minus_op, times_op}
+use Rattle.pcf_values.specs.declared.operator.Operator.{Operator}
+use Rattle.pcf_values.specs.declared.operator.Operator.TheVariants.{Plus as plus_op, Minus as minus_op, Times as times_op}
 use Rattle.token_stacks.specs.Signatures.{Work, Boxes}
 use Rattle.fork_join.specs.declared.side.Side.TheVariants.{Left, Right}
 use Rattle.fork_join.specs.Arrivals.{side_of}
@@ -19,7 +20,7 @@ use Rattle.interleave_core.specs.declared.roles.Role.{Role}
 use Rattle.interleave_core.specs.declared.roles.Role.TheVariants.{Fork, Join, Last, Still}
 
 -- the operator that the code names
-abbrev pub op_of : Operator → Op
+abbrev pub op_of : Operator → Operator
 op_of ThePlus = plus_op
 op_of TheMinus = minus_op
 op_of TheTimes = times_op

@@ -6,7 +6,8 @@ use Rattle.std.proofs.Common.{subst, ⊎_elim, inl, inr, arith}
 use Rattle.std.proofs.lemmas.Bool.{eq-eqb, eqb-true}
 use Rattle.std.specs.Prelude.{nat_eq, if◌then◌else◌}
 use Rattle.pcf_values.specs.declared.val.Val.{Val}
-use Rattle.pcf_values.specs.Values.{Op, at_zero}
+use Rattle.pcf_values.specs.Values.{at_zero}
+use Rattle.pcf_values.specs.declared.operator.Operator.{Operator}
 use Rattle.token_stacks.specs.Signatures.{Boxes}
 use Rattle.fork_join.specs.Entries.{Entry, same_key}
 use Rattle.net_build.specs.Nets.{NetTree}
@@ -28,7 +29,7 @@ use Rattle.interleave_laws.proofs.Growing.{end_passed, end_applied, end_tested, 
 
 module _ (net : NetTree) (sound : Sound net) (root : Place) (top : parent net root ≡ None) where
   -- below a child stands no place with the key of its parent, and none with a key of the other child's tree
-  pub not_own : (k : ℕ) (op : Op) (s : Boxes) (a b p c : Place) (m : ℕ) (t : Boxes) → look net p ≡ two k op s a b →
+  pub not_own : (k : ℕ) (op : Operator) (s : Boxes) (a b p c : Place) (m : ℕ) (t : Boxes) → look net p ≡ two k op s a b →
       Rooted net sound root top p → parent net c ≡ Some p → BelowKey net c m t → same_key m t k s ≡ true → ⊥
   not_own k op s a b p c m t h d g (q, n, op', a', b', l, z) e =
       let (y, y') = key_true m t k s e in
@@ -47,7 +48,7 @@ module _ (net : NetTree) (sound : Sound net) (root : Place) (top : parent net ro
 
   module _ (E : Entries) (i nx : ℕ) (x : TokenTree) where
     -- what one move makes of the left part, it makes of the whole
-    pub up_left : (k : ℕ) (op : Op) (s : Boxes) (a b : Place) (l r : Tree) (p : Place) → look net p ≡ two k op s a b →
+    pub up_left : (k : ℕ) (op : Operator) (s : Boxes) (a b : Place) (l r : Tree) (p : Place) → look net p ≡ two k op s a b →
         Rooted net sound root top p → Open l → Valid net r b → token_in r b i ≡ None → Progress net E i nx x l a →
         Progress net E i nx x (forked k op s a b l r) p
     up_left k op s a b l r p h d o v u g =
@@ -90,7 +91,7 @@ module _ (net : NetTree) (sound : Sound net) (root : Place) (top : parent net ro
             ap (λ e. cond e (new_entry g.effect) (entry_in l m t)) z)
 
     -- and so it is of the right part
-    pub up_right : (k : ℕ) (op : Op) (s : Boxes) (a b : Place) (l r : Tree) (p : Place) → look net p ≡ two k op s a b →
+    pub up_right : (k : ℕ) (op : Operator) (s : Boxes) (a b : Place) (l r : Tree) (p : Place) → look net p ≡ two k op s a b →
         Rooted net sound root top p → Open r → Valid net l a → token_in l a i ≡ None → token_in l a nx ≡ None →
         Progress net E i nx x r b → Progress net E i nx x (forked k op s a b l r) p
     up_right k op s a b l r p h d o v u u' g =
@@ -136,7 +137,7 @@ module _ (net : NetTree) (sound : Sound net) (root : Place) (top : parent net ro
             ap (λ e. cond e (new_entry g.effect) (entry_in r m t)) z)
 
     -- what the tree says of the entries holds of each child
-    pub agree_left : (k : ℕ) (op : Op) (s : Boxes) (a b : Place) (l r : Tree) (p : Place) → look net p ≡ two k op s a b →
+    pub agree_left : (k : ℕ) (op : Operator) (s : Boxes) (a b : Place) (l r : Tree) (p : Place) → look net p ≡ two k op s a b →
         Rooted net sound root top p → Valid net r b → Agree net E (forked k op s a b l r) p → Agree net E l a
     agree_left k op s a b l r p h d v g q m n op' u a' b' y z =
         let f : Fork net p k op s a b = known net sound p (two k op s a b) h in
@@ -150,7 +151,7 @@ module _ (net : NetTree) (sound : Sound net) (root : Place) (top : parent net ro
         now false e key none = none_right (entry_in l n u) (entry_in r n u) none
 
     -- entries that agree with the whole agree with its right part
-    pub agree_right : (k : ℕ) (op : Op) (s : Boxes) (a b : Place) (l r : Tree) (p : Place) → look net p ≡ two k op s a b →
+    pub agree_right : (k : ℕ) (op : Operator) (s : Boxes) (a b : Place) (l r : Tree) (p : Place) → look net p ≡ two k op s a b →
         Rooted net sound root top p → Valid net l a → Agree net E (forked k op s a b l r) p → Agree net E r b
     agree_right k op s a b l r p h d v g q m n op' u a' b' y z =
         let f : Fork net p k op s a b = known net sound p (two k op s a b) h in
@@ -165,7 +166,7 @@ module _ (net : NetTree) (sound : Sound net) (root : Place) (top : parent net ro
         now false e key none = ap (λ o. or_else o (entry_in r n u)) none
 
     -- a fork's own entry is there
-    pub own_entry : (k : ℕ) (op : Op) (s : Boxes) (a b : Place) (l r : Tree) (p : Place) → look net p ≡ two k op s a b →
+    pub own_entry : (k : ℕ) (op : Operator) (s : Boxes) (a b : Place) (l r : Tree) (p : Place) → look net p ≡ two k op s a b →
         Agree net E (forked k op s a b l r) p → E k s ≡ Some (status l r)
     own_entry k op s a b l r p h g = g p zero k op s a b h refl ∙
         ap (λ c. cond c (Some (status l r)) (or_else (entry_in l k s) (entry_in r k s))) (key_same k s)

@@ -5,8 +5,9 @@ use Rattle.std.proofs.Common.{◌≡◌, ◌⊎◌, ℕ, zero, suc, ◌+◌, ◌
 use Rattle.std.proofs.Common.{refl, sym, ap, ◌∙◌, subst, ⊎_elim, inl, inr, arith}
 use Rattle.std.specs.Prelude.{nat_eq, if◌then◌else◌}
 use Rattle.pcf_values.specs.declared.val.Val.{Val}
-use Rattle.pcf_values.specs.Values.{Op, at_zero}
-use Rattle.pcf_values.specs.Terms.{Side}
+use Rattle.pcf_values.specs.Values.{at_zero}
+use Rattle.pcf_values.specs.declared.operator.Operator.{Operator}
+use Rattle.pcf_values.specs.declared.side.Side.{Side}
 use Rattle.token_stacks.specs.Signatures.{Boxes}
 use Rattle.fork_join.specs.Entries.{Entry, pending, kept_as, same_key}
 use Rattle.net_build.specs.Nets.{NetTree}
@@ -74,7 +75,7 @@ module _ (net : NetTree) where
 
   -- an entry of a place below p
   abbrev pub BelowKey : Place → ℕ → Boxes → Type 0
-  BelowKey p n s = (q : Place) × (m : ℕ) × (op : Op) × (a : Place) × (b : Place) × (look net q ≡ two n op s a b) ×
+  BelowKey p n s = (q : Place) × (m : ℕ) × (op : Operator) × (a : Place) × (b : Place) × (look net q ≡ two n op s a b) ×
       (ancestor net m q ≡ Some p)
 
   -- an effect concerns what stands below a place
@@ -86,16 +87,16 @@ module _ (net : NetTree) where
 
   -- the entries of the places below p are those of the tree
   abbrev pub Agree : Entries → Tree → Place → Type 0
-  Agree E t p = (q : Place) (m n : ℕ) (op : Op) (s : Boxes) (a b : Place) → look net q ≡ two n op s a b →
+  Agree E t p = (q : Place) (m n : ℕ) (op : Operator) (s : Boxes) (a b : Place) → look net q ≡ two n op s a b →
       ancestor net m q ≡ Some p → E n s ≡ entry_in t n s
 
   -- the effect is what the machine does with the token
   abbrev pub Does : Entries → TokenTree → Effect → Type 0
   Does E x (turn y) = (k : ℕ) × (move net x ≡ solo k y)
   Does E x (opens n s l r) = (move net x ≡ fork n l r s) × (E n s ≡ None)
-  Does E x (keeps n s e) = (op : Op) × (d : Side) × (v : Val) × (w : ℕ) × (move net x ≡ join n op d v w s) ×
+  Does E x (keeps n s e) = (op : Operator) × (d : Side) × (v : Val) × (w : ℕ) × (move net x ≡ join n op d v w s) ×
       (E n s ≡ Some pending) × (e ≡ kept_as d v)
-  Does E x (closes n s y) = (op : Op) × (d : Side) × (v : Val) × (w : ℕ) × (e : Entry) × (u : Val) ×
+  Does E x (closes n s y) = (op : Operator) × (d : Side) × (v : Val) × (w : ℕ) × (e : Entry) × (u : Val) ×
       (move net x ≡ join n op d v w s) × (E n s ≡ Some e) × (other op e d v ≡ Some u) × (y ≡ ans u (down w [] s))
 
   -- what stands below a question stands below the place that asked it

@@ -6,8 +6,11 @@ use Rattle.std.proofs.Common.{◌++◌, Option, Some, None, refl, sym, ap, ◌�
 use Rattle.std.proofs.lemmas.Bool.{eq-eqb, ne_eqb, eqb-true, eqb-false}
 use Rattle.std.specs.Prelude.{nat_eq, if◌then◌else◌, slice_get}
 use Rattle.pcf_values.specs.declared.val.Val.{Val}
-use Rattle.pcf_values.specs.Values.{Op, plus_op, minus_op, times_op, val_op}
-use Rattle.pcf_values.specs.Terms.{Side, left_side, right_side}
+use Rattle.pcf_values.specs.Values.{val_op}
+use Rattle.pcf_values.specs.declared.operator.Operator.{Operator}
+use Rattle.pcf_values.specs.declared.operator.Operator.TheVariants.{Plus as plus_op, Minus as minus_op, Times as times_op}
+use Rattle.pcf_values.specs.declared.side.Side.{Side}
+use Rattle.pcf_values.specs.declared.side.Side.TheVariants.{Left, Right}
 use Rattle.token_stacks.specs.Signatures.{Work, Boxes}
 use Rattle.fork_join.specs.Entries.{Entry, pending, has_left, has_right, kept_as, same_key}
 use Rattle.net_build.specs.Nets.{NetTree, binary_node}
@@ -38,7 +41,7 @@ closed n w s None = None
 closed n w s (Some u) = Some (closes n s (ans u (down w [] s)))
 
 -- the effect of a join, by its entry
-abbrev joins : ℕ → Op → Side → Val → ℕ → Boxes → Option Entry → Option Effect
+abbrev joins : ℕ → Operator → Side → Val → ℕ → Boxes → Option Entry → Option Effect
 joins n op d v w s None = None
 joins n op d v w s (Some pending) = Some (keeps n s (kept_as d v))
 joins n op d v w s (Some e) = closed n w s (other op e d v)
@@ -57,7 +60,7 @@ effect_of (answer v) E = None
 effect_of stay E = None
 
 -- the second answer is an effect
-closes_does : (n : ℕ) (op : Op) (d : Side) (v : Val) (w : ℕ) (s : Boxes) (e : Entry) (u : Val) (y : TokenTree) →
+closes_does : (n : ℕ) (op : Operator) (d : Side) (v : Val) (w : ℕ) (s : Boxes) (e : Entry) (u : Val) (y : TokenTree) →
     other op e d v ≡ Some u → y ≡ ans u (down w [] s) → joins n op d v w s (Some e) ≡ Some (closes n s y)
 closes_does n op d v w s pending u y h q = cc
 closes_does n op d v w s (has_left z) u y h q = ap (closed n w s) h ∙ ap (λ y. Some (closes n s y)) (sym q)
@@ -212,7 +215,7 @@ same_effect (answer v) E F h = refl
 same_effect stay E F h = refl
 
 -- the effect of a join is at its key
-joins_at : (n : ℕ) (op : Op) (d : Side) (v : Val) (w : ℕ) (s : Boxes) (o : Option Entry) (e : Effect) →
+joins_at : (n : ℕ) (op : Operator) (d : Side) (v : Val) (w : ℕ) (s : Boxes) (o : Option Entry) (e : Effect) →
     joins n op d v w s o ≡ Some e → (m : ℕ) (t : Boxes) → at_key e m t ≡ same_key m t n s
 joins_at n op d v w s o e = go o
   where
@@ -243,13 +246,13 @@ key_reads (answer v) E e n t h g = cc
 key_reads stay E e n t h g = cc
 
 -- where both joins are at one node their conclusions are one
-solo_no_join : (i : ℕ) (o : Option Place) (f : Place → TokenTree) (n : ℕ) (op : Op) (d : Side) (v : Val) (w : ℕ) (s : Boxes) →
+solo_no_join : (i : ℕ) (o : Option Place) (f : Place → TokenTree) (n : ℕ) (op : Operator) (d : Side) (v : Val) (w : ℕ) (s : Boxes) →
     solo_at i o f ≡ join n op d v w s → ⊥
 solo_no_join i None f n op d v w s h = cc
 solo_no_join i (Some p) f n op d v w s h = cc
 
 ifz_no_join : (a b c : Bool) (x y z : Move) → (k : ℕ) (p q r : TokenTree) → x ≡ solo k p → y ≡ solo k q → z ≡ solo k r →
-    (n : ℕ) (op : Op) (d : Side) (v : Val) (w : ℕ) (s : Boxes) →
+    (n : ℕ) (op : Operator) (d : Side) (v : Val) (w : ℕ) (s : Boxes) →
     or_stay (cond a x stay) (or_stay (cond b y stay) (cond c z stay)) ≡ join n op d v w s → ⊥
 ifz_no_join true b c x y z k p q r ex ey ez n op d v w s h =
     let g : or_stay (solo k p) (or_stay (cond b y stay) (cond c z stay)) ≡ join n op d v w s =
@@ -259,7 +262,7 @@ ifz_no_join false true c x y z k p q r ex ey ez n op d v w s h =
 ifz_no_join false false true x y z k p q r ex ey ez n op d v w s h = let g : solo k r ≡ join n op d v w s = sym ez ∙ h in cc
 ifz_no_join false false false x y z k p q r ex ey ez n op d v w s h = cc
 
-operand_node : (i : ℕ) (op' : Op) (x y c : ℕ) (u : Val) (a : ℕ) (t : Boxes) (n : ℕ) (op : Op) (d : Side) (v : Val) (w : ℕ)
+operand_node : (i : ℕ) (op' : Operator) (x y c : ℕ) (u : Val) (a : ℕ) (t : Boxes) (n : ℕ) (op : Operator) (d : Side) (v : Val) (w : ℕ)
     (s : Boxes) → operand_down i op' x y c u a t ≡ join n op d v w s →
     (x' : ℕ) × (y' : ℕ) × (binary_node op' x y c ≡ binary_node op x' y' w) × (i ≡ n)
 operand_node i op' x y c u a t n op d v w s h = go (nat_eq x a) (nat_eq y a) h
@@ -272,14 +275,14 @@ operand_node i op' x y c u a t n op d v w s h = go (nat_eq x a) (nat_eq y a) h
         let r : i ≡ n = cc in
         (x, y, ap (binary_node op' x y) q ∙ ap (λ o. binary_node o x y w) o, r)
 
-    go : (b e : Bool) → or_stay (cond b (join i op' left_side u c t) stay) (cond e (join i op' right_side u c t) stay) ≡ join n op d v w
+    go : (b e : Bool) → or_stay (cond b (join i op' Left u c t) stay) (cond e (join i op' Right u c t) stay) ≡ join n op d v w
         s → (x' : ℕ) × (y' : ℕ) × (binary_node op' x y c ≡ binary_node op x' y' w) × (i ≡ n)
-    go true e h = same left_side h
-    go false true h = same right_side h
+    go true e h = same Left h
+    go false true h = same Right h
     go false false h = cc
 
 -- a join comes from its node's operand
-join_node : (i : ℕ) (nd : Node) (u : Val) (a : ℕ) (m : Work) (t : Boxes) (n : ℕ) (op : Op) (d : Side) (v : Val) (w : ℕ)
+join_node : (i : ℕ) (nd : Node) (u : Val) (a : ℕ) (m : Work) (t : Boxes) (n : ℕ) (op : Operator) (d : Side) (v : Val) (w : ℕ)
     (s : Boxes) → ans_down i nd u a m t ≡ join n op d v w s → (x : ℕ) × (y : ℕ) × (nd ≡ binary_node op x y w) × (i ≡ n)
 join_node i (Plus x y c) u a [] t n op d v w s h = operand_node i plus_op x y c u a t n op d v w s h
 join_node i (Minus x y c) u a [] t n op d v w s h = operand_node i minus_op x y c u a t n op d v w s h
@@ -297,7 +300,7 @@ found_move : (o : Option (ℕ × Node)) (f : ℕ → Node → Move) (m : Move) �
 found_move None f m c h = absurd (c (sym h))
 found_move (Some p) f m c h = (p.0, p.1, refl, h)
 
-ask_no_join : (l : Look) (p : Place) (n : ℕ) (op : Op) (d : Side) (v : Val) (w : ℕ) (s : Boxes) →
+ask_no_join : (l : Look) (p : Place) (n : ℕ) (op : Operator) (d : Side) (v : Val) (w : ℕ) (s : Boxes) →
     ask_move l p ≡ join n op d v w s → ⊥
 ask_no_join dead p n op d v w s h = cc
 ask_no_join (constant k x) p n op d v w s h = cc
@@ -306,12 +309,12 @@ ask_no_join (one k f q) p n op d v w s h = cc
 ask_no_join (test k c a b) p n op d v w s h = cc
 ask_no_join (two k o t a b) p n op d v w s h = cc
 
-node_at : (net : NetTree) (i n : ℕ) (nd : Node) (op : Op) (w : ℕ) → (x : ℕ) × (y : ℕ) × (nd ≡ binary_node op x y w) ×
+node_at : (net : NetTree) (i n : ℕ) (nd : Node) (op : Operator) (w : ℕ) → (x : ℕ) × (y : ℕ) × (nd ≡ binary_node op x y w) ×
     (i ≡ n) → slice_get net.nodes i ≡ Some nd → (a b : ℕ) × (slice_get net.nodes n ≡ Some (binary_node op a b w))
 node_at net i n nd op w (x, y, q, r) h = (x, y, subst (λ n. slice_get net.nodes n ≡ Some (binary_node op x y w)) r (h ∙ ap Some q))
 
 -- a join is at a node of its operation and its conclusion
-join_out : (net : NetTree) → Sound net → (x : TokenTree) (n : ℕ) (op : Op) (d : Side) (v : Val) (w : ℕ) (s : Boxes) →
+join_out : (net : NetTree) → Sound net → (x : TokenTree) (n : ℕ) (op : Operator) (d : Side) (v : Val) (w : ℕ) (s : Boxes) →
     move net x ≡ join n op d v w s → (a b : ℕ) × (slice_get net.nodes n ≡ Some (binary_node op a b w))
 join_out net sound (ask p) n op d v w s h = absurd (ask_no_join (look net p) p n op d v w s h)
 join_out net sound (ans u (up c m t)) n op d v w s h =
@@ -333,7 +336,7 @@ record Meet (n : ℕ) (s : Boxes) (e f e' f' : Effect) : Type 0 where
   other_last : e' ≡ closes n s out
 
 -- no join follows the second answer of an entry
-last_once : {A : Type 0} (n : ℕ) (op : Op) (s : Boxes) (w : ℕ) (d : Side) (v : Val) (o : Option Val) (e f : Effect) →
+last_once : {A : Type 0} (n : ℕ) (op : Operator) (s : Boxes) (w : ℕ) (d : Side) (v : Val) (o : Option Val) (e f : Effect) →
     closed n w s o ≡ Some e → joins n op d v w s (new_entry e) ≡ Some f → A
 last_once n op s w d v None e f h g = cc
 last_once n op s w d v (Some u) e f h g =
@@ -341,7 +344,7 @@ last_once n op s w d v (Some u) e f h g =
     let bad : None ≡ Some f = ap (λ e. joins n op d v w s (new_entry e)) p ∙ g in absurd cc
 
 -- two answers of one entry
-two_joins : (n : ℕ) (op : Op) (s : Boxes) (w : ℕ) (d d' : Side) (v v' : Val) (o : Option Entry) (e f e' f' : Effect) →
+two_joins : (n : ℕ) (op : Operator) (s : Boxes) (w : ℕ) (d d' : Side) (v v' : Val) (o : Option Entry) (e f e' f' : Effect) →
     joins n op d v w s o ≡ Some e → joins n op d' v' w s o ≡ Some f → joins n op d' v' w s (new_entry e) ≡ Some f' →
     joins n op d v w s (new_entry f) ≡ Some e' → Meet n s e f e' f'
 two_joins n op s w d d' v v' None e f e' f' h g h' g' = cc
@@ -358,9 +361,9 @@ two_joins n op s w d d' v v' (Some pending) e f e' f' h g h' g' =
     go : (d d' : Side) → keeps n s (kept_as d v) ≡ e → keeps n s (kept_as d' v') ≡ f →
         joins n op d' v' w s (Some (kept_as d v)) ≡ Some f' → joins n op d v w s (Some (kept_as d' v')) ≡ Some e' →
         Meet n s e f e' f'
-    go left_side left_side a b h g = cc
-    go right_side right_side a b h g = cc
-    go left_side right_side a b h g = record {
+    go Left Left a b h g = cc
+    go Right Right a b h g = cc
+    go Left Right a b h g = record {
       k1 = has_left v;
       k2 = has_right v';
       out = ans (val_op op v v') (down w [] s);
@@ -369,7 +372,7 @@ two_joins n op s w d d' v v' (Some pending) e f e' f' h g h' g' =
       last = cc;
       other_last = cc;
     }
-    go right_side left_side a b h g = record {
+    go Right Left a b h g = record {
       k1 = has_right v;
       k2 = has_left v';
       out = ans (val_op op v' v) (down w [] s);

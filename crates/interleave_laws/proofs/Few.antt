@@ -8,8 +8,8 @@ use Rattle.std.specs.FinMap as finite
 use Rattle.std.specs.FinMap.{FinMap, len-empty, len-insert, len-remove}
 use Rattle.std.proofs.lemmas.Cmp.{nat_cmp_total}
 use Rattle.pcf_values.specs.declared.val.Val.{Val}
-use Rattle.pcf_values.specs.Values.{Op}
-use Rattle.pcf_values.specs.Terms.{Side}
+use Rattle.pcf_values.specs.declared.operator.Operator.{Operator}
+use Rattle.pcf_values.specs.declared.side.Side.{Side}
 use Rattle.token_stacks.specs.Signatures.{Boxes}
 use Rattle.fork_join.specs.Entries.{Entry, pending, has_left, has_right}
 use Rattle.net_build.specs.Nets.{NetTree}
@@ -55,7 +55,7 @@ last_few None S T i n w t x e h s = cc
 last_few (Some u) S T i n w t x e h s = few_of _ T (let k = same_count S.tokens i x (ans u (down w [] t)) e in omega (arith, k, h)) s
 
 -- a join
-join_few : (o : Option Entry) (S T : MapState) (i n : ℕ) (op : Op) (d : Side) (v : Val) (w : ℕ) (t : Boxes) (x : TokenTree) →
+join_few : (o : Option Entry) (S T : MapState) (i n : ℕ) (op : Operator) (d : Side) (v : Val) (w : ℕ) (t : Boxes) (x : TokenTree) →
     finite.get S.tokens i ≡ Some x → Few S → join_map o S i n op d v w t ≡ Some T → Few T
 join_few None S T i n op d v w t x e h s = cc
 join_few (Some pending) S T i n op d v w t x e h s = few_of _ T (let k = no_more S.tokens i in omega (arith, k, h)) s

@@ -5,8 +5,9 @@ use Rattle.std.proofs.lemmas.Bool.{eqb-true}
 use Rattle.std.specs.Prelude.{nat_eq}
 use Rattle.pcf_values.specs.declared.val.Val.{Val}
 use Rattle.pcf_values.specs.declared.val.Val.TheVariants.{Number, Overflow}
-use Rattle.pcf_values.specs.Values.{Op, val_op, at_zero}
-use Rattle.pcf_values.specs.Terms.{left_side, right_side}
+use Rattle.pcf_values.specs.Values.{val_op, at_zero}
+use Rattle.pcf_values.specs.declared.operator.Operator.{Operator}
+use Rattle.pcf_values.specs.declared.side.Side.TheVariants.{Left, Right}
 use Rattle.token_stacks.specs.Signatures.{Boxes}
 use Rattle.fork_join.specs.Entries.{has_left, has_right, same_key}
 use Rattle.net_build.specs.Nets.{NetTree}
@@ -61,7 +62,7 @@ module _ (net : NetTree) (sound : Sound net) (root : Place) (top : parent net ro
       (a ≡ b → ⊥) → Below net a q → Below net b q → ⊥
   not_two p a b q d h g differ (m, e) (n, z) = not_both net sound root top p a b q m n d h g differ e z
 
-  pub the_fork : (p : Place) (k : ℕ) (op : Op) (s : Boxes) (a b : Place) → look net p ≡ two k op s a b → Fork net p k op s a b
+  pub the_fork : (p : Place) (k : ℕ) (op : Operator) (s : Boxes) (a b : Place) → look net p ≡ two k op s a b → Fork net p k op s a b
   the_fork p k op s a b h = known net sound p (two k op s a b) h
 
   pub asks_here : (p : Place) (l : Look) → look net p ≡ l → x ≡ ask p → (i ≡ nx → ⊥) → Agree net E (asking i) p →
@@ -335,7 +336,7 @@ module _ (net : NetTree) (sound : Sound net) (root : Place) (top : parent net ro
             (below_down net sound p (at_zero w a b) r (branch_parent net sound k c a b p w h)));
       }
 
-  pub left_last : (k : ℕ) (op : Op) (s : Boxes) (a b : Place) (v w : Val) (n m : ℕ) (p : Place) → look net p ≡ two k op s a b →
+  pub left_last : (k : ℕ) (op : Operator) (s : Boxes) (a b : Place) (v w : Val) (n m : ℕ) (p : Place) → look net p ≡ two k op s a b →
       Gives net a v n → Gives net b w m → x ≡ ans v (turned a) → E k s ≡ Some (has_right w) →
       Progress net E i nx x (forked k op s a b (coming i v n) (kept w m)) p
   left_last k op s a b v w n m p h y z e g =
@@ -345,7 +346,7 @@ module _ (net : NetTree) (sound : Sound net) (root : Place) (top : parent net ro
         effect = closes k s (ans (val_op op v w) (turned p));
         does = (
           op,
-          left_side,
+          Left,
           v,
           f.out,
           has_right w,
@@ -377,7 +378,7 @@ module _ (net : NetTree) (sound : Sound net) (root : Place) (top : parent net ro
       gone true = refl
       gone false = refl
 
-  pub right_last : (k : ℕ) (op : Op) (s : Boxes) (a b : Place) (v w : Val) (n m : ℕ) (p : Place) → look net p ≡ two k op s a b →
+  pub right_last : (k : ℕ) (op : Operator) (s : Boxes) (a b : Place) (v w : Val) (n m : ℕ) (p : Place) → look net p ≡ two k op s a b →
       Gives net a v n → Gives net b w m → x ≡ ans w (turned b) → E k s ≡ Some (has_left v) →
       Progress net E i nx x (forked k op s a b (kept v n) (coming i w m)) p
   right_last k op s a b v w n m p h y z e g =
@@ -387,7 +388,7 @@ module _ (net : NetTree) (sound : Sound net) (root : Place) (top : parent net ro
         effect = closes k s (ans (val_op op v w) (turned p));
         does = (
           op,
-          right_side,
+          Right,
           w,
           f.out,
           has_left v,
@@ -419,7 +420,7 @@ module _ (net : NetTree) (sound : Sound net) (root : Place) (top : parent net ro
       gone true = refl
       gone false = refl
 
-  pub left_first : (k : ℕ) (op : Op) (s : Boxes) (a b : Place) (v : Val) (n : ℕ) (r : Tree) (p : Place) →
+  pub left_first : (k : ℕ) (op : Operator) (s : Boxes) (a b : Place) (v : Val) (n : ℕ) (r : Tree) (p : Place) →
       look net p ≡ two k op s a b → Gives net a v n → Open r → Valid net r b → token_in r b i ≡ None →
       x ≡ ans v (turned a) → E k s ≡ Some (status (coming i v n) r) → Progress net E i nx x (forked k op s a b (coming i v n) r) p
   left_first k op s a b v n r p h y o z u e g =
@@ -427,7 +428,7 @@ module _ (net : NetTree) (sound : Sound net) (root : Place) (top : parent net ro
       record {
         tree = forked k op s a b (kept v n) r;
         effect = keeps k s (has_left v);
-        does = (op, left_side, v, f.out, ap (move net) e ∙ f.left_joins v, g ∙ ap Some (right_pending (coming i v n) r tt o), refl);
+        does = (op, Left, v, f.out, ap (move net) e ∙ f.left_joins v, g ∙ ap Some (right_pending (coming i v n) r tt o), refl);
         valid = (h, inr o, y, z);
         opened = tt;
         spends = omega arith;
@@ -445,7 +446,7 @@ module _ (net : NetTree) (sound : Sound net) (root : Place) (top : parent net ro
       now j true q = q refl
       now j false q = refl
 
-  pub right_first : (k : ℕ) (op : Op) (s : Boxes) (a b : Place) (w : Val) (m : ℕ) (l : Tree) (p : Place) →
+  pub right_first : (k : ℕ) (op : Operator) (s : Boxes) (a b : Place) (w : Val) (m : ℕ) (l : Tree) (p : Place) →
       look net p ≡ two k op s a b → Gives net b w m → Open l → Valid net l a → token_in l a i ≡ None →
       x ≡ ans w (turned b) → E k s ≡ Some (status l (coming i w m)) → Progress net E i nx x (forked k op s a b l (coming i w m)) p
   right_first k op s a b w m l p h y o z u e g =
@@ -453,7 +454,7 @@ module _ (net : NetTree) (sound : Sound net) (root : Place) (top : parent net ro
       record {
         tree = forked k op s a b l (kept w m);
         effect = keeps k s (has_right w);
-        does = (op, right_side, w, f.out, ap (move net) e ∙ f.right_joins w, g ∙ ap Some (right_pending l (coming i w m) o tt), refl);
+        does = (op, Right, w, f.out, ap (move net) e ∙ f.right_joins w, g ∙ ap Some (right_pending l (coming i w m) o tt), refl);
         valid = (h, inl o, z, y);
         opened = tt;
         spends = omega arith;

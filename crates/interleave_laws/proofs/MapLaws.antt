@@ -6,8 +6,8 @@ use Rattle.std.specs.FinMap.{get-empty}
 use Rattle.std.specs.Ordering.{nat_cmp}
 use Rattle.std.proofs.lemmas.List.{length-append}
 use Rattle.pcf_values.specs.declared.val.Val.{Val}
-use Rattle.pcf_values.specs.Values.{Op}
-use Rattle.pcf_values.specs.Terms.{Side}
+use Rattle.pcf_values.specs.declared.operator.Operator.{Operator}
+use Rattle.pcf_values.specs.declared.side.Side.{Side}
 use Rattle.token_stacks.specs.Signatures.{Boxes}
 use Rattle.fork_join.specs.Entries.{Entry, pending, has_left, has_right, key_cmp}
 use Rattle.net_build.specs.Nets.{NetTree}
@@ -35,7 +35,7 @@ last_next None S T i n w t h = cc
 last_next (Some u) S T i n w t h = grown S _ T (omega arith) h
 
 -- a join
-join_next : (e : Option Entry) (S T : State) (i n : ℕ) (op : Op) (d : Side) (v : Val) (w : ℕ) (t : Boxes) →
+join_next : (e : Option Entry) (S T : State) (i n : ℕ) (op : Operator) (d : Side) (v : Val) (w : ℕ) (t : Boxes) →
     join_on e S i n op d v w t ≡ Some T → T.next ≤ suc S.next
 join_next None S T i n op d v w t h = cc
 join_next (Some pending) S T i n op d v w t h = grown S _ T (omega arith) h

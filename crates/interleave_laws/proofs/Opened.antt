@@ -3,7 +3,7 @@ use Rattle.std.proofs.Common.{◌≡◌, ℕ, Bool, true, false, cond, List, [],
 use Rattle.std.proofs.Common.{◌∙◌, subst, ⊎_elim, inl, inr}
 use Rattle.std.specs.Prelude.{nat_eq}
 use Rattle.pcf_values.specs.declared.val.Val.{Val}
-use Rattle.pcf_values.specs.Values.{Op}
+use Rattle.pcf_values.specs.declared.operator.Operator.{Operator}
 use Rattle.token_stacks.specs.Signatures.{Work, Boxes}
 use Rattle.fork_join.specs.Entries.{Key}
 use Rattle.net_build.specs.Nets.{NetTree}
@@ -78,7 +78,7 @@ none_opened (answer v) k n h = h
 none_opened stay k n h = h
 
 -- a fork is what a question of two operands makes
-fork_look : (l : Look) (p : Place) (n : ℕ) (a b : Place) (t : Boxes) → ask_move l p ≡ fork n a b t → (op : Op) ×
+fork_look : (l : Look) (p : Place) (n : ℕ) (a b : Place) (t : Boxes) → ask_move l p ≡ fork n a b t → (op : Operator) ×
     (l ≡ two n op t a b)
 fork_look dead p n a b t h = cc
 fork_look (constant i v) p n a b t h = cc
@@ -89,7 +89,7 @@ fork_look (two i op u x y) p n a b t h = (op, cc)
 
 -- the fork of an entry, and that its left operand is asked in a list
 abbrev AsksFor : NetTree → Key → List Place → Type 0
-AsksFor net k qs = (p : Place) × (op : Op) × (l r : Place) × (look net p ≡ two k.0 op k.1 l r) × Member l qs
+AsksFor net k qs = (p : Place) × (op : Operator) × (l r : Place) × (look net p ≡ two k.0 op k.1 l r) × Member l qs
 
 -- what stands in the first list stands in both
 member_left : {A : Type 0} (q : A) (a b : List A) → Member q a → Member q (a ++ b)

@@ -3,8 +3,8 @@
 use Rattle.std.proofs.Common.{◌≡◌, ◌≢◌, ℕ, cond, List, Option, Some, None, sym, ap, ◌∙◌, arith}
 use Rattle.std.proofs.lemmas.Bool.{ne_eqb}
 use Rattle.pcf_values.specs.declared.val.Val.{Val}
-use Rattle.pcf_values.specs.Values.{Op}
-use Rattle.pcf_values.specs.Terms.{Side}
+use Rattle.pcf_values.specs.declared.operator.Operator.{Operator}
+use Rattle.pcf_values.specs.declared.side.Side.{Side}
 use Rattle.token_stacks.specs.Signatures.{Boxes}
 use Rattle.fork_join.specs.Entries.{Entry, pending, has_left, has_right}
 use Rattle.net_build.specs.Nets.{NetTree}
@@ -40,7 +40,7 @@ last_leaves None S T i n w t h = cc
 last_leaves (Some u) S T i n w t h = λ j d e. ap (λ (U : State). U.tokens j) (sym (some_state _ T h)) ∙ past S.tokens i _ j d
 
 -- a join
-join_leaves : (o : Option Entry) (S T : State) (i n : ℕ) (op : Op) (s : Side) (v : Val) (w : ℕ) (t : Boxes) →
+join_leaves : (o : Option Entry) (S T : State) (i n : ℕ) (op : Operator) (s : Side) (v : Val) (w : ℕ) (t : Boxes) →
     join_on o S i n op s v w t ≡ Some T → Leaves S i T
 join_leaves None S T i n op s v w t h = cc
 join_leaves (Some pending) S T i n op s v w t h = λ j d e. ap (λ (U : State). U.tokens j) (sym (some_state _ T h)) ∙

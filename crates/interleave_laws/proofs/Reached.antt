@@ -5,8 +5,8 @@ use Rattle.std.proofs.Common.{length, Option, Some, None, refl, sym, ap, ◌∙�
 use Rattle.std.proofs.lemmas.Bool.{ne_eqb, eqb-true}
 use Rattle.std.specs.Prelude.{nat_eq, slice_get}
 use Rattle.pcf_values.specs.declared.val.Val.{Val}
-use Rattle.pcf_values.specs.Values.{Op}
-use Rattle.pcf_values.specs.Terms.{Side}
+use Rattle.pcf_values.specs.declared.operator.Operator.{Operator}
+use Rattle.pcf_values.specs.declared.side.Side.{Side}
 use Rattle.token_stacks.specs.Signatures.{Boxes}
 use Rattle.fork_join.specs.Entries.{Entry, pending, has_left, has_right}
 use Rattle.net_build.specs.Nets.{NetTree}
@@ -62,7 +62,7 @@ made_of e S i = record {
 }
 
 -- a join has its effect
-join_does : (S : State) (i n : ℕ) (op : Op) (d : Side) (v : Val) (w : ℕ) (s : Boxes) (e : Entry) (u : Val) →
+join_does : (S : State) (i n : ℕ) (op : Operator) (d : Side) (v : Val) (w : ℕ) (s : Boxes) (e : Entry) (u : Val) →
     other op e d v ≡ Some u → join_on (Some e) S i n op d v w s ≡ Some (made_of (closes n s (ans u (down w [] s))) S i)
 join_does S i n op d v w s pending u h = cc
 join_does S i n op d v w s (has_left z) u h = ap (λ o. last_on o S i n w s) h

@@ -8,8 +8,8 @@ use Rattle.std.specs.FinMap.{FinMap, get-empty, get-insert, get-remove, same_map
 use Rattle.std.specs.Ordering.{nat_cmp}
 use Rattle.std.proofs.lemmas.Cmp.{nat_cmp_total}
 use Rattle.pcf_values.specs.declared.val.Val.{Val}
-use Rattle.pcf_values.specs.Values.{Op}
-use Rattle.pcf_values.specs.Terms.{Side}
+use Rattle.pcf_values.specs.declared.operator.Operator.{Operator}
+use Rattle.pcf_values.specs.declared.side.Side.{Side}
 use Rattle.token_stacks.specs.Signatures.{Boxes}
 use Rattle.fork_join.specs.Entries.{Entry, pending, has_left, has_right, kept_as, key_cmp}
 use Rattle.net_build.specs.Nets.{NetTree}
@@ -57,7 +57,7 @@ last_seen (Some u) S i n w t =
     })
 
 -- a join
-join_seen : (e : Option Entry) (S : MapState) (i n : ℕ) (op : Op) (s : Side) (v : Val) (w : ℕ) (t : Boxes) →
+join_seen : (e : Option Entry) (S : MapState) (i n : ℕ) (op : Operator) (s : Side) (v : Val) (w : ℕ) (t : Boxes) →
     option_seen (join_map e S i n op s v w t) ≡ join_on e (seen S) i n op s v w t
 join_seen None S i n op s v w t = refl
 join_seen (Some pending) S i n op s v w t =

@@ -7,7 +7,8 @@ use Rattle.std.proofs.Common.{◌≡◌, ◌⊎◌, ℕ, zero, suc, ◌+◌, Boo
 use Rattle.std.specs.Prelude.{nat_eq, if◌then◌else◌}
 use Rattle.pcf_values.specs.declared.val.Val.{Val}
 use Rattle.pcf_values.specs.declared.val.Val.TheVariants.{Number}
-use Rattle.pcf_values.specs.Values.{Op, val_op, at_zero}
+use Rattle.pcf_values.specs.Values.{val_op, at_zero}
+use Rattle.pcf_values.specs.declared.operator.Operator.{Operator}
 use Rattle.token_stacks.specs.Signatures.{Boxes}
 use Rattle.fork_join.specs.Entries.{Entry, pending, has_left, has_right, same_key}
 use Rattle.net_build.specs.Nets.{NetTree}
@@ -26,7 +27,7 @@ pub data Tree : Type 0 where
   applied : (k : ℕ) → (Val → Val) → (q : Place) → Tree → Tree
   tested : (k : ℕ) → (c a b : Place) → Tree → Tree
   chosen : (k : ℕ) → (c a b : Place) → Val → (n : ℕ) → Tree → Tree
-  forked : (k : ℕ) → Op → Boxes → (a b : Place) → Tree → Tree → Tree
+  forked : (k : ℕ) → Operator → Boxes → (a b : Place) → Tree → Tree → Tree
 
 -- the question isn't kept at a join
 abbrev pub Open : Tree → Type 0
@@ -47,7 +48,7 @@ pub data Gives (net : NetTree) : Place → Val → ℕ → Type 0 where
       Gives net p (f v) (n + 2)
   by_test : {p c a b : Place} {k n m : ℕ} {v w : Val} → look net p ≡ test k c a b → Gives net c w m →
       Gives net (at_zero w a b) v n → Gives net p v (n + (m + 3))
-  by_two : {p a b : Place} {k n m : ℕ} {op : Op} {s : Boxes} {v w : Val} → look net p ≡ two k op s a b → Gives net a v n →
+  by_two : {p a b : Place} {k n m : ℕ} {op : Operator} {s : Boxes} {v w : Val} → look net p ≡ two k op s a b → Gives net a v n →
       Gives net b w m → Gives net p (val_op op v w) (n + m + 3)
 
 -- the tree fits the net at a place

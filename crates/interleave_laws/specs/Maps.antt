@@ -6,8 +6,8 @@ use Rattle.std.specs.FinMap as map
 use Rattle.std.specs.FinMap.{FinMap}
 use Rattle.std.specs.Ordering.{nat_cmp}
 use Rattle.pcf_values.specs.declared.val.Val.{Val}
-use Rattle.pcf_values.specs.Values.{Op}
-use Rattle.pcf_values.specs.Terms.{Side}
+use Rattle.pcf_values.specs.declared.operator.Operator.{Operator}
+use Rattle.pcf_values.specs.declared.side.Side.{Side}
 use Rattle.token_stacks.specs.Signatures.{Boxes}
 use Rattle.fork_join.specs.Entries.{Entry, pending, kept_as, key_cmp}
 use Rattle.net_build.specs.Nets.{NetTree}
@@ -45,7 +45,7 @@ last_map (Some u) S i n w t =
     Some (record S { tokens = map.insert S.tokens i (ans u (down w [] t)); entries = map.remove S.entries (n, t) })
 
 -- a join
-abbrev pub join_map : Option Entry → MapState → ℕ → ℕ → Op → Side → Val → ℕ → Boxes → Option MapState
+abbrev pub join_map : Option Entry → MapState → ℕ → ℕ → Operator → Side → Val → ℕ → Boxes → Option MapState
 join_map None S i n o s v w t = None
 join_map (Some pending) S i n o s v w t =
     Some (record S { tokens = map.remove S.tokens i; entries = map.insert S.entries (n, t) (kept_as s v) })

@@ -3,7 +3,7 @@ use Rattle.std.specs.Prelude.{◌≡◌, false, Option, Some, None}
 use Rattle.std.specs.FinMap.{FinMap, get}
 use Rattle.std.specs.Ordering.{eq_by_cmp}
 use Rattle.pcf_values.specs.declared.val.Val.{Val}
-use Rattle.pcf_values.specs.Terms.{Side}
+use Rattle.pcf_values.specs.declared.side.Side.{Side}
 use Rattle.fork_join.specs.Entries.{Entry, pending, has_left, has_right, kept_as, Key, key_cmp}
 
 -- two keys aren't one, asked in either order

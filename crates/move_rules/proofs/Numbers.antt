@@ -2,7 +2,7 @@
 use Rattle.std.proofs.Common.{◌≡◌, ℕ, Bool, true, false, cond, [], Option, Some, None, refl}
 use Rattle.std.specs.Prelude.{nat_eq}
 use Rattle.pcf_values.specs.declared.val.Val.{Val}
-use Rattle.pcf_values.specs.Values.{Op}
+use Rattle.pcf_values.specs.declared.operator.Operator.{Operator}
 use Rattle.token_stacks.specs.Signatures.{Work, Boxes}
 use Rattle.net_build.specs.declared.node.Node.{Node}
 use Rattle.net_build.specs.declared.node.Node.TheVariants.{Const, Succ, Pred, Plus, Minus, Times, Ifz, Root}
@@ -72,7 +72,7 @@ if_is i x w m h = go (nat_eq x w)
     go true = h
     go false = tt
 
-operand_is : (i : ℕ) (o : Op) (a b c : ℕ) (v : Val) (w : ℕ) (t : Boxes) → MoveAt i (operand_down i o a b c v w t)
+operand_is : (i : ℕ) (o : Operator) (a b c : ℕ) (v : Val) (w : ℕ) (t : Boxes) → MoveAt i (operand_down i o a b c v w t)
 operand_is i o a b c v w t = or_is i _ _ (if_is i a w _ refl) (if_is i b w _ refl)
 
 ans_down_is : (i : ℕ) (n : Node) (v : Val) (w : ℕ) (m : Work) (t : Boxes) → MoveAt i (ans_down i n v w m t)

@@ -7,8 +7,11 @@
 use Rattle.std.specs.Prelude.{ℕ, [], Option, Some, None, nat_eq, if◌then◌else◌}
 use Rattle.pcf_values.specs.declared.val.Val.{Val}
 use Rattle.pcf_values.specs.declared.val.Val.TheVariants.{Number}
-use Rattle.pcf_values.specs.Values.{val_succ, val_pred, Op, plus_op, minus_op, times_op, at_zero}
-use Rattle.pcf_values.specs.Terms.{Side, left_side, right_side}
+use Rattle.pcf_values.specs.Values.{val_succ, val_pred, at_zero}
+use Rattle.pcf_values.specs.declared.operator.Operator.{Operator}
+use Rattle.pcf_values.specs.declared.operator.Operator.TheVariants.{Plus as plus_op, Minus as minus_op, Times as times_op}
+use Rattle.pcf_values.specs.declared.side.Side.{Side}
+use Rattle.pcf_values.specs.declared.side.Side.TheVariants.{Left, Right}
 use Rattle.token_stacks.specs.Signatures.{Work, Boxes}
 use Rattle.net_build.specs.declared.node.Node.{Node}
 use Rattle.net_build.specs.declared.node.Node.TheVariants.{Const, Succ, Pred, Plus, Minus, Times, Ifz, Root}
@@ -25,7 +28,7 @@ pub data Look : Type 0 where
   pass : (node : ℕ) → Place → Look
   one : (node : ℕ) → (Val → Val) → Place → Look
   test : (node : ℕ) → (c p q : Place) → Look
-  two : (node : ℕ) → Op → Boxes → (a b : Place) → Look
+  two : (node : ℕ) → Operator → Boxes → (a b : Place) → Look
 
 abbrev pub pass_at : ℕ → Option Place → Look
 pass_at i None = dead
@@ -56,7 +59,7 @@ look net (down w m t) = on_found (node_below net w) dead (λ i n. pass_at i (pla
 pub data Move : Type 0 where
   solo : (node : ℕ) → TokenTree → Move
   fork : (node : ℕ) → (l r : Place) → (t : Boxes) → Move
-  join : (node : ℕ) → Op → Side → Val → (w : ℕ) → (t : Boxes) → Move
+  join : (node : ℕ) → Operator → Side → Val → (w : ℕ) → (t : Boxes) → Move
   answer : Val → Move
   stay : Move
 
@@ -86,8 +89,8 @@ abbrev pub if_wire : ℕ → ℕ → Move → Move
 if_wire x w m = if nat_eq x w then m else stay
 
 -- the answer of an operator's operand
-abbrev pub operand_down : ℕ → Op → (a b c : ℕ) → Val → ℕ → Boxes → Move
-operand_down i o a b c v w t = or_stay (if_wire a w (join i o left_side v c t)) (if_wire b w (join i o right_side v c t))
+abbrev pub operand_down : ℕ → Operator → (a b c : ℕ) → Val → ℕ → Boxes → Move
+operand_down i o a b c v w t = or_stay (if_wire a w (join i o Left v c t)) (if_wire b w (join i o Right v c t))
 
 -- the move of an answer at node n, whose number is i, that it comes to down the premise w
 abbrev pub ans_down : ℕ → Node → Val → ℕ → Work → Boxes → Move

@@ -3,8 +3,11 @@ use Rattle.std.proofs.Common.{◌≡◌, ◌⊎◌, ℕ, zero, suc, ◌+◌, ◌
 use Rattle.std.proofs.Common.{None, refl, sym, ap, ◌∙◌, subst, ⊎_elim, inl, inr, arith}
 use Rattle.std.proofs.lemmas.Bool.{cases_eq, eq-eqb, ne_eqb}
 use Rattle.std.specs.Prelude.{slice_get}
-use Rattle.pcf_values.specs.Values.{Op, plus_op, minus_op, times_op}
-use Rattle.pcf_values.specs.Terms.{Side, left_side, right_side, at_side, TyTree, nat, arrow, product, TermTree, num, var, succ_of, pred_of}
+use Rattle.pcf_values.specs.declared.operator.Operator.{Operator}
+use Rattle.pcf_values.specs.declared.operator.Operator.TheVariants.{Plus, Minus, Times}
+use Rattle.pcf_values.specs.Terms.{at_side, TyTree, nat, arrow, product, TermTree, num, var, succ_of, pred_of}
+use Rattle.pcf_values.specs.declared.side.Side.{Side}
+use Rattle.pcf_values.specs.declared.side.Side.TheVariants.{Left, Right}
 use Rattle.pcf_values.specs.Terms.{binary, ifz, lam, fix, app, pair, proj}
 use Rattle.pcf_values.specs.Typing.{HasType}
 use Rattle.net_build.specs.declared.node.Node.{Node}
@@ -155,16 +158,16 @@ module _ (net : NetTree) where
       }
 
   -- an operator's node meets its row, and so does one that takes a part of a pair
-  binary_meets : (o : Op) (d a b w : ℕ) → Is net a (value_wire d nat) → Is net b (value_wire d nat) → Is net w (value_wire d nat)
+  binary_meets : (o : Operator) (d a b w : ℕ) → Is net a (value_wire d nat) → Is net b (value_wire d nat) → Is net w (value_wire d nat)
       → Meets net (binary_node o a b w)
-  binary_meets plus_op d a b w h i j = (d, h, i, j)
-  binary_meets minus_op d a b w h i j = (d, h, i, j)
-  binary_meets times_op d a b w h i j = (d, h, i, j)
+  binary_meets Plus d a b w h i j = (d, h, i, j)
+  binary_meets Minus d a b w h i j = (d, h, i, j)
+  binary_meets Times d a b w h i j = (d, h, i, j)
 
   proj_meets : (s : Side) (d a w : ℕ) (t u : TyTree) → Is net a (value_wire d (product t u)) → Is net w (value_wire d (at_side s t u))
       → Meets net (proj_node s a w)
-  proj_meets left_side d a w t u h i = (d, t, u, h, i)
-  proj_meets right_side d a w t u h i = (d, t, u, h, i)
+  proj_meets Left d a w t u h i = (d, t, u, h, i)
+  proj_meets Right d a w t u h i = (d, t, u, h, i)
 
   -- the forms, each once its operands are fine
   ifz_fine : (n d : ℕ) (g : List TyTree) (x y z : Part) → Fine d g nat x → Fine d g nat y → Fine d g nat z
@@ -386,14 +389,14 @@ double_roots node t n d g p q e h i =
     both_none p.nodes _ h
     (both_none q.nodes _ i (both_none c.nodes _ (contract_roots o d g p.free q.free) (e p.out q.out (o + length c.wires))))
 
-binary_root : (o : Op) (a b w : ℕ) → roots (binary_node o a b w ∷ []) ≡ 0
-binary_root plus_op a b w = refl
-binary_root minus_op a b w = refl
-binary_root times_op a b w = refl
+binary_root : (o : Operator) (a b w : ℕ) → roots (binary_node o a b w ∷ []) ≡ 0
+binary_root Plus a b w = refl
+binary_root Minus a b w = refl
+binary_root Times a b w = refl
 
 proj_root : (s : Side) (a w : ℕ) → roots (proj_node s a w ∷ []) ≡ 0
-proj_root left_side a w = refl
-proj_root right_side a w = refl
+proj_root Left a w = refl
+proj_root Right a w = refl
 
 -- three parts without a root make one without a root
 ifz_roots : (n d : ℕ) (g : List TyTree) (x y z : Part) → roots x.nodes ≡ 0 → roots y.nodes ≡ 0 → roots z.nodes ≡ 0

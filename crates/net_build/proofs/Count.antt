@@ -2,8 +2,11 @@
 use Rattle.std.proofs.Common.{◌≡◌, ℕ, zero, suc, ◌+◌, List, [], ◌∷◌, ◌++◌, length, Option, Some, None, refl, ap, ◌∙◌, arith}
 use Rattle.std.specs.Prelude.{nat_eq, if◌then◌else◌}
 use Rattle.std.specs.Prelude.{slice_get}
-use Rattle.pcf_values.specs.Values.{Op, plus_op, minus_op, times_op}
-use Rattle.pcf_values.specs.Terms.{Side, left_side, right_side, TyTree, nat, arrow, product, TermTree, num, var, succ_of, pred_of, binary}
+use Rattle.pcf_values.specs.declared.operator.Operator.{Operator}
+use Rattle.pcf_values.specs.declared.operator.Operator.TheVariants.{Plus, Minus, Times}
+use Rattle.pcf_values.specs.Terms.{TyTree, nat, arrow, product, TermTree, num, var, succ_of, pred_of, binary}
+use Rattle.pcf_values.specs.declared.side.Side.{Side}
+use Rattle.pcf_values.specs.declared.side.Side.TheVariants.{Left, Right}
 use Rattle.pcf_values.specs.Terms.{ifz, lam, fix, app, pair, proj}
 use Rattle.pcf_values.specs.Typing.{HasType}
 use Rattle.net_build.specs.declared.node.Node.{Node}
@@ -273,14 +276,14 @@ app_counted n d g p q ap aq hp hq =
     (λ w. omega arith)
 
 -- the wires of an operator's node, and of one that takes a part of a pair
-binary_ends : (o : Op) (a b w : ℕ) → (conclusions (binary_node o a b w) ≡ w ∷ []) × (premises (binary_node o a b w) ≡ a ∷ b ∷ [])
-binary_ends plus_op a b w = (refl, refl)
-binary_ends minus_op a b w = (refl, refl)
-binary_ends times_op a b w = (refl, refl)
+binary_ends : (o : Operator) (a b w : ℕ) → (conclusions (binary_node o a b w) ≡ w ∷ []) × (premises (binary_node o a b w) ≡ a ∷ b ∷ [])
+binary_ends Plus a b w = (refl, refl)
+binary_ends Minus a b w = (refl, refl)
+binary_ends Times a b w = (refl, refl)
 
 proj_ends : (s : Side) (a w : ℕ) → (conclusions (proj_node s a w) ≡ w ∷ []) × (premises (proj_node s a w) ≡ a ∷ [])
-proj_ends left_side a w = (refl, refl)
-proj_ends right_side a w = (refl, refl)
+proj_ends Left a w = (refl, refl)
+proj_ends Right a w = (refl, refl)
 
 -- every typed part gives its value wire and its variables' wires, and uses up all others
 pub counted : (m : TermTree) (n d : ℕ) (g : List TyTree) (a : TyTree) → HasType g m a → PartCounted n (part n d g m)

@@ -4,7 +4,8 @@
 use Rattle.std.specs.Prelude.{◌≡◌, ◌<◌, ◌^◌, ℕ, zero, suc, List, [], ◌∷◌, ◌++◌, length, map, reverse, Bool, false, Option, Some, None}
 use Rattle.std.specs.Prelude.{nat_eq, nat_lt, ◌-◌, slice_get, if◌then◌else◌, ◌+◌}
 use Rattle.pcf_values.specs.declared.ty.Ty.{Ty}
-use Rattle.pcf_values.specs.Terms.{TyTree, nat, left_side, right_side, TermTree, product}
+use Rattle.pcf_values.specs.Terms.{TyTree, nat, TermTree, product}
+use Rattle.pcf_values.specs.declared.side.Side.TheVariants.{Left, Right}
 use Rattle.pcf_values.specs.Views.{ty_of}
 use Rattle.net_build.specs.declared.node.Node.{Node}
 use Rattle.net_build.specs.declared.node.Node.TheVariants as node
@@ -137,8 +138,8 @@ unary_node unary.Snd = node.Snd
 abbrev pub unary_type : Unary → TyTree → TyTree
 unary_type unary.Succ t = nat
 unary_type unary.Pred t = nat
-unary_type unary.Fst t = side_type left_side t
-unary_type unary.Snd t = side_type right_side t
+unary_type unary.Fst t = side_type Left t
+unary_type unary.Snd t = side_type Right t
 
 -- the part of a form with one operand, built from here
 abbrev pub unary_at : Unary → Parts → ℕ → Part → Part

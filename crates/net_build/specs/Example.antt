@@ -1,7 +1,7 @@
 -- The net of `(fun x:nat. x + x) 3`, node by node: what the definition comes to on a term with a binder, a box, and a variable that is
 -- used twice. The prover computes it.
 use Rattle.std.specs.Prelude.{◌≡◌, [], ◌∷◌}
-use Rattle.pcf_values.specs.Values.{plus_op}
+use Rattle.pcf_values.specs.declared.operator.Operator.TheVariants.{Plus as plus_op}
 use Rattle.pcf_values.specs.Terms.{TermTree, nat, arrow, num, var, binary, lam, app}
 use Rattle.net_build.specs.declared.node.Node.TheVariants.{Const, Plus, Der, Con, Lam, App, BoxNode, Root}
 use Rattle.net_build.specs.Nets.{NetTree, value_wire, bang_wire, var_wire}

@@ -3,8 +3,11 @@
 -- order of the listing, so that the code's own type of nodes serves as it is; a wire's type is seen as a tree.
 -- A list of lists would do for both sides of a node, but each row is written out, since the two tables are what a reader looks up.
 use Rattle.std.specs.Prelude.{ℕ, List, [], ◌∷◌}
-use Rattle.pcf_values.specs.Values.{Op, plus_op, minus_op, times_op}
-use Rattle.pcf_values.specs.Terms.{Side, left_side, right_side, TyTree}
+use Rattle.pcf_values.specs.declared.operator.Operator.{Operator}
+use Rattle.pcf_values.specs.declared.operator.Operator.TheVariants.{Plus as plus_op, Minus as minus_op, Times as times_op}
+use Rattle.pcf_values.specs.Terms.{TyTree}
+use Rattle.pcf_values.specs.declared.side.Side.{Side}
+use Rattle.pcf_values.specs.declared.side.Side.TheVariants.{Left, Right}
 use Rattle.net_build.specs.declared.wire.WireKind.{WireKind}
 use Rattle.net_build.specs.declared.wire.WireKind.TheVariants.{Value, Bang, Variable}
 use Rattle.net_build.specs.declared.node.Node.{Node}
@@ -34,15 +37,15 @@ abbrev pub var_wire : ℕ → TyTree → WireTree
 var_wire d t = record { kind = Variable; depth = d; type = t }
 
 -- the node of an operator
-abbrev pub binary_node : Op → ℕ → ℕ → ℕ → Node
+abbrev pub binary_node : Operator → ℕ → ℕ → ℕ → Node
 binary_node plus_op left right wire = Plus left right wire
 binary_node minus_op left right wire = Minus left right wire
 binary_node times_op left right wire = Times left right wire
 
 -- the node that takes a part of a pair
 abbrev pub proj_node : Side → ℕ → ℕ → Node
-proj_node left_side operand wire = Fst operand wire
-proj_node right_side operand wire = Snd operand wire
+proj_node Left operand wire = Fst operand wire
+proj_node Right operand wire = Snd operand wire
 
 -- the wires above a node: it stands below them
 abbrev pub premises : Node → List ℕ

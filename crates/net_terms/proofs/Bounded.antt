@@ -3,8 +3,9 @@ use Rattle.std.proofs.Common.{◌≡◌, ℕ, zero, suc, ◌+◌, ◌≤◌, max
 use Rattle.std.proofs.Common.{arith}
 use Rattle.std.specs.Prelude.{◌-◌, nat_eq, nat_lt, reverse, replicate, if◌then◌else◌}
 use Rattle.std.proofs.lemmas.List.{length-reverse}
-use Rattle.pcf_values.specs.Values.{plus_op, minus_op, times_op}
-use Rattle.pcf_values.specs.Terms.{left_side, right_side, TermTree, var, succ_of, pred_of, binary, ifz, lam, fix, app, pair, proj, size}
+use Rattle.pcf_values.specs.declared.operator.Operator.TheVariants.{Plus as plus_op, Minus as minus_op, Times as times_op}
+use Rattle.pcf_values.specs.Terms.{TermTree, var, succ_of, pred_of, binary, ifz, lam, fix, app, pair, proj, size}
+use Rattle.pcf_values.specs.declared.side.Side.TheVariants.{Left, Right}
 use Rattle.pcf_values.specs.Terms.{height}
 use Rattle.net_build.specs.declared.node.Node.{Node}
 use Rattle.net_build.specs.declared.node.Node.TheVariants.{Const, Succ, Pred, Plus, Minus, Times, Ifz, Der, Con, Weak, Lam, App, BoxNode}
@@ -98,9 +99,9 @@ start_fits ws rd h k e (Der w x ∷ ns) ms r =
 start_fits ws rd h k e (Succ a w ∷ ns) ms r = one_fits succ_of h (length ns) (rd k e e a ns ms) (λ a. refl) (λ a. refl) (r k e e a ns ms)
 start_fits ws rd h k e (Pred a w ∷ ns) ms r = one_fits pred_of h (length ns) (rd k e e a ns ms) (λ a. refl) (λ a. refl) (r k e e a ns ms)
 start_fits ws rd h k e (Fst a w ∷ ns) ms r =
-    one_fits (proj left_side) h (length ns) (rd k e e a ns ms) (λ a. refl) (λ a. refl) (r k e e a ns ms)
+    one_fits (proj Left) h (length ns) (rd k e e a ns ms) (λ a. refl) (λ a. refl) (r k e e a ns ms)
 start_fits ws rd h k e (Snd a w ∷ ns) ms r =
-    one_fits (proj right_side) h (length ns) (rd k e e a ns ms) (λ a. refl) (λ a. refl) (r k e e a ns ms)
+    one_fits (proj Right) h (length ns) (rd k e e a ns ms) (λ a. refl) (λ a. refl) (r k e e a ns ms)
 start_fits ws rd h k e (Plus a b w ∷ ns) ms r =
     two_fits (binary plus_op) h (length ns) (rd k e e a) (rd k e e b ns ms) (λ a b. refl) (λ a b. refl) (r k e e a) (r k e e b ns ms)
 start_fits ws rd h k e (Minus a b w ∷ ns) ms r =

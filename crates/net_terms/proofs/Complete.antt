@@ -5,8 +5,11 @@ use Rattle.std.specs.Prelude.{replicate, nat_lt, if◌then◌else◌, slice_get}
 use Rattle.std.proofs.Math.Nat.{le-max_left, le-max_right}
 use Rattle.std.proofs.lemmas.Bool.{eq-eqb, lt-ltb}
 use Rattle.std.proofs.lemmas.List.{reverse-append, length-replicate}
-use Rattle.pcf_values.specs.Values.{Op, plus_op, minus_op, times_op}
-use Rattle.pcf_values.specs.Terms.{Side, left_side, right_side, TyTree, nat, arrow, product, TermTree, num, var, succ_of, pred_of, binary}
+use Rattle.pcf_values.specs.declared.operator.Operator.{Operator}
+use Rattle.pcf_values.specs.declared.operator.Operator.TheVariants.{Plus, Minus, Times}
+use Rattle.pcf_values.specs.Terms.{TyTree, nat, arrow, product, TermTree, num, var, succ_of, pred_of, binary}
+use Rattle.pcf_values.specs.declared.side.Side.{Side}
+use Rattle.pcf_values.specs.declared.side.Side.TheVariants.{Left, Right}
 use Rattle.pcf_values.specs.Terms.{ifz, lam, fix, app, pair, proj, height}
 use Rattle.pcf_values.specs.Typing.{HasType}
 use Rattle.net_build.specs.declared.node.Node.{Node}
@@ -38,17 +41,17 @@ index_is k place i l ns ms h =
     ∙ ap (λ i. Some (read (var i) ns ms)) (omega (arith, h))
 
 -- the node of an operator is read as the operator
-binary_step : (ws : List WireTree) (h : ℕ) (o : Op) (x y w k around e : ℕ) (ns : List Node) (ms : List Mark)
+binary_step : (ws : List WireTree) (h : ℕ) (o : Operator) (x y w k around e : ℕ) (ns : List Node) (ms : List Mark)
     → reading ws (suc h) k around e w (binary_node o x y w ∷ ns) ms ≡ two (binary o) (reading ws h k e e x) (reading ws h k e e y ns ms)
-binary_step ws h plus_op x y w k around e ns ms = same_met w (two (binary plus_op) (reading ws h k e e x) (reading ws h k e e y ns ms))
-binary_step ws h minus_op x y w k around e ns ms = same_met w (two (binary minus_op) (reading ws h k e e x) (reading ws h k e e y ns ms))
-binary_step ws h times_op x y w k around e ns ms = same_met w (two (binary times_op) (reading ws h k e e x) (reading ws h k e e y ns ms))
+binary_step ws h Plus x y w k around e ns ms = same_met w (two (binary Plus) (reading ws h k e e x) (reading ws h k e e y ns ms))
+binary_step ws h Minus x y w k around e ns ms = same_met w (two (binary Minus) (reading ws h k e e x) (reading ws h k e e y ns ms))
+binary_step ws h Times x y w k around e ns ms = same_met w (two (binary Times) (reading ws h k e e x) (reading ws h k e e y ns ms))
 
 -- the node that takes a part of a pair is read so
 proj_step : (ws : List WireTree) (h : ℕ) (s : Side) (a w k around e : ℕ) (ns : List Node) (ms : List Mark)
     → reading ws (suc h) k around e w (proj_node s a w ∷ ns) ms ≡ one (proj s) (reading ws h k e e a ns ms)
-proj_step ws h left_side a w k around e ns ms = same_met w (one (proj left_side) (reading ws h k e e a ns ms))
-proj_step ws h right_side a w k around e ns ms = same_met w (one (proj right_side) (reading ws h k e e a ns ms))
+proj_step ws h Left a w k around e ns ms = same_met w (one (proj Left) (reading ws h k e e a ns ms))
+proj_step ws h Right a w k around e ns ms = same_met w (one (proj Right) (reading ws h k e e a ns ms))
 
 -- two pieces in front of others
 first_two : (ws : List WireTree) (n : ℕ) (a b c : List WireTree) → Held ws n (a ++ (b ++ c)) → Held ws n a × Held ws (n + length a) b

@@ -3,7 +3,8 @@ use Rattle.std.proofs.Common.{◌≡◌, ◌^◌, Bool, true, false, ◌&&◌, L
 use Rattle.std.specs.Prelude.{nat_lt, if◌then◌else◌}
 use Rattle.std.specs.Prelude.{◌↔◌}
 use Rattle.std.proofs.lemmas.Bool.{lt-ltb, ltb-true, cases_Bool, cases_from_iff, iff_false, MatchBool-at_true}
-use Rattle.pcf_values.specs.Terms.{Side, at_side, TyTree, nat, arrow, product, TermTree, num, var, succ_of, pred_of, binary, ifz, lam, fix}
+use Rattle.pcf_values.specs.Terms.{at_side, TyTree, nat, arrow, product, TermTree, num, var, succ_of, pred_of, binary, ifz, lam, fix}
+use Rattle.pcf_values.specs.declared.side.Side.{Side}
 use Rattle.pcf_values.specs.Terms.{app, pair, proj}
 use Rattle.pcf_values.specs.Typing.{HasType}
 use Rattle.net_terms.specs.Typable.{same_type, if_number, function_to, if_same, fixed, applied, paired, part_type, type_of}

@@ -1,7 +1,10 @@
 -- The net of a term uses variables as the term does.
 use Rattle.std.proofs.Common.{◌≡◌, ℕ, zero, suc, ◌+◌, List, [], ◌∷◌, ◌++◌, append-nil, length, Option, Some, None, refl, ap, ◌∙◌, subst}
-use Rattle.pcf_values.specs.Values.{Op, plus_op, minus_op, times_op}
-use Rattle.pcf_values.specs.Terms.{Side, left_side, right_side, TyTree, nat, product, TermTree, num, var, succ_of, pred_of, binary, ifz}
+use Rattle.pcf_values.specs.declared.operator.Operator.{Operator}
+use Rattle.pcf_values.specs.declared.operator.Operator.TheVariants.{Plus, Minus, Times}
+use Rattle.pcf_values.specs.Terms.{TyTree, nat, product, TermTree, num, var, succ_of, pred_of, binary, ifz}
+use Rattle.pcf_values.specs.declared.side.Side.{Side}
+use Rattle.pcf_values.specs.declared.side.Side.TheVariants.{Left, Right}
 use Rattle.pcf_values.specs.Terms.{lam, fix, app, pair, proj}
 use Rattle.net_build.specs.declared.node.Node.{Node}
 use Rattle.net_build.specs.declared.node.Node.TheVariants.{Der, Root, Pair}
@@ -54,15 +57,15 @@ module _ (ws : List WireTree) where
   both a b u v e h = uses_append a b ∙ (λ i. e i ++ h i)
 
   -- an operator uses none
-  binary_unused : (o : Op) (a b w : ℕ) → using_types ws (binary_node o a b w ∷ []) ≡ []
-  binary_unused plus_op a b w = refl
-  binary_unused minus_op a b w = refl
-  binary_unused times_op a b w = refl
+  binary_unused : (o : Operator) (a b w : ℕ) → using_types ws (binary_node o a b w ∷ []) ≡ []
+  binary_unused Plus a b w = refl
+  binary_unused Minus a b w = refl
+  binary_unused Times a b w = refl
 
   -- nor does what takes a part of a pair
   proj_unused : (s : Side) (a w : ℕ) → using_types ws (proj_node s a w ∷ []) ≡ []
-  proj_unused left_side a w = refl
-  proj_unused right_side a w = refl
+  proj_unused Left a w = refl
+  proj_unused Right a w = refl
 
   -- two operands
   double_uses : (node : ℕ → ℕ → ℕ → Node) (t : TyTree) (n d : ℕ) (g : List TyTree) (p q : Part) (u v : List TyTree)

@@ -1,7 +1,8 @@
 -- What the code's reading gives, seen through the views of terms.
 use Rattle.std.specs.Prelude.{◌≡◌, List, Option, Some, None}
-use Rattle.pcf_values.specs.Values.{plus_op, minus_op, times_op}
-use Rattle.pcf_values.specs.Terms.{TermTree, left_side, right_side, succ_of, pred_of, binary, app, pair, proj}
+use Rattle.pcf_values.specs.declared.operator.Operator.TheVariants.{Plus as plus_op, Minus as minus_op, Times as times_op}
+use Rattle.pcf_values.specs.Terms.{TermTree, succ_of, pred_of, binary, app, pair, proj}
+use Rattle.pcf_values.specs.declared.side.Side.TheVariants.{Left, Right}
 use Rattle.net_build.specs.declared.node.Node.{Node}
 use Rattle.net_terms.specs.declared.walk.Mark.{Mark}
 use Rattle.net_terms.specs.declared.forms.One.{One}
@@ -14,8 +15,8 @@ use Rattle.net_terms.specs.TermOf.{Read, read}
 abbrev pub one_term : One → TermTree → TermTree
 one_term one.Succ = succ_of
 one_term one.Pred = pred_of
-one_term one.Fst = proj left_side
-one_term one.Snd = proj right_side
+one_term one.Fst = proj Left
+one_term one.Snd = proj Right
 
 -- the term of a form with two operands
 abbrev pub two_term : Two → TermTree → TermTree → TermTree

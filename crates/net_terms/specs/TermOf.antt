@@ -7,8 +7,9 @@
 -- it gives. Heights are bounded by the number that it is given.
 use Rattle.std.specs.Prelude.{ℕ, zero, suc, ◌-◌, List, [], ◌∷◌, length, reverse, replicate, Option, Some, None, nat_eq, nat_lt}
 use Rattle.std.specs.Prelude.{if◌then◌else◌, slice_get, slice_index_or, slice_set}
-use Rattle.pcf_values.specs.Values.{plus_op, minus_op, times_op}
-use Rattle.pcf_values.specs.Terms.{left_side, right_side, TyTree, nat, TermTree, num, var, succ_of, pred_of, binary, ifz, lam, fix, app}
+use Rattle.pcf_values.specs.declared.operator.Operator.TheVariants.{Plus as plus_op, Minus as minus_op, Times as times_op}
+use Rattle.pcf_values.specs.Terms.{TyTree, nat, TermTree, num, var, succ_of, pred_of, binary, ifz, lam, fix, app}
+use Rattle.pcf_values.specs.declared.side.Side.TheVariants.{Left, Right}
 use Rattle.pcf_values.specs.Terms.{pair, proj}
 use Rattle.net_build.specs.declared.node.Node.{Node}
 use Rattle.net_build.specs.declared.node.Node.TheVariants.{Const, Succ, Pred, Plus, Minus, Times, Ifz, Der, Con, Weak, Lam, App, BoxNode}
@@ -115,8 +116,8 @@ start ws rd k place (Lam b x w ∷ ns) ms = one (lam (domain (type_at ws w))) (r
 start ws rd k place (App f a w ∷ ns) ms = two app (rd k place place f) (rd k place place a ns ms)
 start ws rd k place (FixBox b x w ∷ ns) ms = one (fix (type_at ws w)) (rd (suc k) place (suc w) b ns (set_marked ms x k (suc w)))
 start ws rd k place (Pair a b w ∷ ns) ms = two pair (rd k place place a) (rd k place place b ns ms)
-start ws rd k place (Fst a w ∷ ns) ms = one (proj left_side) (rd k place place a ns ms)
-start ws rd k place (Snd a w ∷ ns) ms = one (proj right_side) (rd k place place a ns ms)
+start ws rd k place (Fst a w ∷ ns) ms = one (proj Left) (rd k place place a ns ms)
+start ws rd k place (Snd a w ∷ ns) ms = one (proj Right) (rd k place place a ns ms)
 start ws rd k place (n ∷ ns) ms = None
 
 -- the value wire of a term's own node, and the last wire of any other

@@ -4,8 +4,11 @@ use Rattle.std.proofs.Common.{refl, sym, ap, ◌∙◌, inl, inr, arith}
 use Rattle.std.proofs.Math.Nat.{le-max_left, le-max_right}
 use Rattle.std.proofs.lemmas.Bool.{cases_lt, eq-eqb}
 use Rattle.std.specs.Prelude.{codes, if◌then◌else◌}
-use Rattle.pcf_values.specs.Values.{Op, plus_op, minus_op, times_op}
-use Rattle.pcf_values.specs.Terms.{Side, left_side, right_side, TyTree, nat, arrow, product, TermTree, num, var, succ_of, pred_of, binary}
+use Rattle.pcf_values.specs.declared.operator.Operator.{Operator}
+use Rattle.pcf_values.specs.declared.operator.Operator.TheVariants.{Plus as plus_op, Minus as minus_op, Times as times_op}
+use Rattle.pcf_values.specs.Terms.{TyTree, nat, arrow, product, TermTree, num, var, succ_of, pred_of, binary}
+use Rattle.pcf_values.specs.declared.side.Side.{Side}
+use Rattle.pcf_values.specs.declared.side.Side.TheVariants.{Left, Right}
 use Rattle.pcf_values.specs.Terms.{ifz, lam, fix, app, pair, proj, height}
 use Rattle.pcf_values.specs.Typing.{HasType}
 use Rattle.net_build.specs.declared.node.Node.{Node}
@@ -88,15 +91,15 @@ double_low b node t n d g p q e h i k =
     join b p.wires _ p.nodes _ i (join b q.wires _ q.nodes _ k (join b c.wires _ c.nodes _ (contract_low b o d g p.free q.free h) last))
 
 -- an operator is no constant
-binary_fits : (o : Op) (a b w : ℕ) → ConstsFit (binary_node o a b w ∷ [])
+binary_fits : (o : Operator) (a b w : ℕ) → ConstsFit (binary_node o a b w ∷ [])
 binary_fits plus_op a b w = tt
 binary_fits minus_op a b w = tt
 binary_fits times_op a b w = tt
 
 -- nor is what takes a part of a pair
 proj_fits : (s : Side) (a w : ℕ) → ConstsFit (proj_node s a w ∷ [])
-proj_fits left_side a w = tt
-proj_fits right_side a w = tt
+proj_fits Left a w = tt
+proj_fits Right a w = tt
 
 -- a condition with its branches
 ifz_low : (b n d : ℕ) (g : List TyTree) (x y z : Part) → d ≤ b → Low b x.wires x.nodes → Low b y.wires y.nodes → Low b z.wires z.nodes

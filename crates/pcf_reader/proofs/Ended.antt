@@ -1,7 +1,7 @@
 -- The end of a text, or what is no token, stands last and alone.
 use Rattle.std.proofs.Common.{◌≡◌, ◌⊎◌, ℕ, ◌+◌, List, [], ◌∷◌, ◌++◌, map, Some, Ok, Err, refl, sym, ap}
 use Rattle.std.proofs.Common.{◌∙◌, subst, inl, inr}
-use Rattle.pcf_values.specs.Values.{plus_op, minus_op, times_op}
+use Rattle.pcf_values.specs.declared.operator.Operator.TheVariants.{Plus, Minus, Times}
 use Rattle.pcf_values.specs.Terms.{TyTree, arrow as arrow_ty, product}
 use Rattle.pcf_values.specs.Named.{NamedTree, bind_at}
 use Rattle.pcf_reader.specs.Tokens.{Token, End, Junk, Placed}
@@ -92,12 +92,12 @@ end_expr (in_else o c p k) e at = end_expr k (choice_part o c p e) at
 
 ends_product : (k : ProductK) (m : Part) (at : ℕ) → IsLast (end_product k m at End)
 ends_product (first_product k) m at = end_expr k m at
-ends_product (right_of_plus s k) m at = end_expr k (binary plus_op s m) at
-ends_product (right_of_minus s k) m at = end_expr k (binary minus_op s m) at
+ends_product (right_of_plus s k) m at = end_expr k (binary Plus s m) at
+ends_product (right_of_minus s k) m at = end_expr k (binary Minus s m) at
 
 ends_app : (k : AppK) (f : Part) (at : ℕ) → IsLast (end_app k f at End)
 ends_app (first_app k) f at = ends_product k f at
-ends_app (right_of_times m k) f at = ends_product k (binary times_op m f) at
+ends_app (right_of_times m k) f at = ends_product k (binary Times m f) at
 
 -- and around a type
 ends_type : (k : TypeK) (t : TyTree) (at : ℕ) → IsLast (end_type k t at End)

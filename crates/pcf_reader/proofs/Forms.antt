@@ -4,7 +4,8 @@ use Rattle.std.proofs.Common.{ap, ◌∙◌, subst, arith, length-append}
 use Rattle.std.specs.Prelude.{codes, decimal}
 use Rattle.std.specs.Str.{chars}
 use Rattle.pcf_values.specs.Most.{most_open}
-use Rattle.pcf_values.specs.Values.{Op, plus_op, minus_op, times_op}
+use Rattle.pcf_values.specs.declared.operator.Operator.{Operator}
+use Rattle.pcf_values.specs.declared.operator.Operator.TheVariants.{Plus as plus_op, Minus as minus_op, Times as times_op}
 use Rattle.pcf_values.specs.Named.{NamedTree, number_at, name_at, word_at, binary_at, pair_at, ifz_at, bind_at, apply_at, Word, Binder}
 use Rattle.pcf_values.specs.Named.{the_fun, the_fix}
 use Rattle.pcf_reader.specs.Tokens.{Token, Close, Colon, Dot, Comma, Plus, Minus, Times, Then, Else, Name, Placed}
@@ -297,7 +298,7 @@ apply_form i f a u v =
 
 -- An operator between phrases of two kinds: its token, and the form that makes of both operands a phrase of the left one's kind. What
 -- such a phrase stands for and is written with is told once for all operators.
-record Operator (op : Op) (X Y : Type 0) (part : X → Part) (text : ℕ → ℕ → ℕ → X → List Written) (right_part : Y →
+record Operator (op : Operator) (X Y : Type 0) (part : X → Part) (text : ℕ → ℕ → ℕ → X → List Written) (right_part : Y →
     Part) (right_text : ℕ → ℕ → ℕ → Y → List Written) : Type 0 where
   token : Token
   form : X → ℕ → Y → X
@@ -345,7 +346,7 @@ the_times = record {
 
 -- two operands and the operator between them
 module _
-    (op : Op) (X Y : Type 0) (part : X → Part) (text : ℕ → ℕ → ℕ → X → List Written) (right_part : Y →
+    (op : Operator) (X Y : Type 0) (part : X → Part) (text : ℕ → ℕ → ℕ → X → List Written) (right_part : Y →
     Part) (right_text : ℕ → ℕ → ℕ → Y → List Written)
     (f : Operator op X Y part text right_part right_text)
     (a b : NamedTree) (a_bytes b_bytes : List ℕ) (a_onto b_onto : List ℕ → List ℕ) (a_height b_height : ℕ) (A B : ℕ →
@@ -383,7 +384,7 @@ module _
       }
 
 -- each operator between its operands
-binary_form : (i : ℕ) (op : Op) (a b : NamedTree) → FormsOf a → FormsOf b → FormsOf (binary_at i op a b)
+binary_form : (i : ℕ) (op : Operator) (a b : NamedTree) → FormsOf a → FormsOf b → FormsOf (binary_at i op a b)
 binary_form i plus_op a b u v =
     from_sum _ _ (binary_at i plus_op a b) _ _ (λ at. operated plus_op Sum Product sum_part as_sum product_part as_product the_plus a b _ _
     _ _ _ _ _ _ i at (u.sum at) (v.product _))

@@ -6,7 +6,8 @@ use Rattle.std.specs.Str.{chars, all_scalars}
 use Rattle.std.proofs.lemmas.Bool.{ltb-true, and_parts, and_from}
 use Rattle.std.proofs.lemmas.Str.{encodes-append, encode_ascii}
 use lib.Utf8.{low_scalar}
-use Rattle.pcf_values.specs.Values.{Op, plus_op, minus_op, times_op}
+use Rattle.pcf_values.specs.declared.operator.Operator.{Operator}
+use Rattle.pcf_values.specs.declared.operator.Operator.TheVariants.{Plus, Minus, Times}
 use Rattle.pcf_values.specs.Terms.{TyTree, nat, arrow, product}
 use Rattle.pcf_values.specs.Named.{NamedTree, number_at, name_at, word_at, binary_at, pair_at, ifz_at, bind_at, apply_at, Word, the_succ}
 use Rattle.pcf_values.specs.Named.{the_pred, the_fst, the_snd, Binder, the_fun, the_fix}
@@ -109,10 +110,10 @@ binder_low : (b : Binder) → all_low (binder_text b) ≡ true
 binder_low the_fun = refl
 binder_low the_fix = refl
 
-op_low : (op : Op) → all_low (op_text op) ≡ true
-op_low plus_op = refl
-op_low minus_op = refl
-op_low times_op = refl
+op_low : (op : Operator) → all_low (op_text op) ≡ true
+op_low Plus = refl
+op_low Minus = refl
+op_low Times = refl
 
 -- a term
 pub own_shows : (t : NamedTree) → Fine t → Shows (λ r. own_onto t r) (term_text t)

@@ -3,7 +3,7 @@ use Rattle.std.proofs.Common.{◌≡◌, ℕ, ◌+◌, ◌^◌, ◌<◌, ◌≤�
 use Rattle.std.proofs.Common.{if◌then◌else◌, refl, sym, ap, ◌∙◌, arith, add-zero, add_assoc}
 use Rattle.std.proofs.lemmas.Bool.{lt-ltb, lt-leb, le-ltb}
 use Rattle.pcf_values.specs.Most.{most_nodes, most_open}
-use Rattle.pcf_values.specs.Values.{plus_op, minus_op, times_op}
+use Rattle.pcf_values.specs.declared.operator.Operator.TheVariants.{Plus, Minus, Times}
 use Rattle.pcf_values.specs.Terms.{TyTree, arrow, product}
 use Rattle.pcf_values.specs.Named.{NamedTree, bind_at}
 use Rattle.pcf_reader.specs.Tokens.{Token, Number, End, Junk, Placed}
@@ -33,12 +33,12 @@ junk_expr (in_else o c p k) e at = junk_expr k (choice_part o c p e) at
 
 junk_product : (k : ProductK) (m : Part) (at : ℕ) → end_product k m at Junk ≡ refuse
 junk_product (first_product k) m at = junk_expr k m at
-junk_product (right_of_plus s k) m at = junk_expr k (binary plus_op s m) at
-junk_product (right_of_minus s k) m at = junk_expr k (binary minus_op s m) at
+junk_product (right_of_plus s k) m at = junk_expr k (binary Plus s m) at
+junk_product (right_of_minus s k) m at = junk_expr k (binary Minus s m) at
 
 junk_app : (k : AppK) (f : Part) (at : ℕ) → end_app k f at Junk ≡ refuse
 junk_app (first_app k) f at = junk_product k f at
-junk_app (right_of_times m k) f at = junk_product k (binary times_op m f) at
+junk_app (right_of_times m k) f at = junk_product k (binary Times m f) at
 
 junk_type : (k : TypeK) (t : TyTree) (at : ℕ) → end_type k t at Junk ≡ refuse
 junk_type (of_binder o b x k) t at = refl

@@ -6,7 +6,8 @@
 -- What the limits speak of is kept with each written token: how deep it stands and how many nodes it counts. Thus the limits are
 -- facts about a list of tokens, and no rule of the grammar speaks of them.
 use Rattle.std.specs.Prelude.{ℕ, suc, ◌+◌, max, List, [], ◌∷◌, ◌++◌}
-use Rattle.pcf_values.specs.Values.{Op, plus_op, minus_op, times_op}
+use Rattle.pcf_values.specs.declared.operator.Operator.{Operator}
+use Rattle.pcf_values.specs.declared.operator.Operator.TheVariants.{Plus as plus_op, Minus as minus_op, Times as times_op}
 use Rattle.pcf_values.specs.Terms.{TyTree, nat, arrow, product}
 use Rattle.pcf_values.specs.Named.{Word, Binder, NamedTree, number_at, name_at, word_at, binary_at, pair_at, ifz_at, bind_at, apply_at}
 use Rattle.pcf_values.specs.Named.{place_of}
@@ -78,7 +79,7 @@ pub record Part : Type 0 where
 abbrev pub join : (NamedTree → NamedTree → NamedTree) → Part → Part → Part
 join f a b = record { tree = f a.tree b.tree; height = suc (max a.height b.height) }
 
-abbrev pub binary : Op → Part → Part → Part
+abbrev pub binary : Operator → Part → Part → Part
 binary op a b = join (binary_at (place_of a.tree) op) a b
 
 abbrev pub app_part : Part → Part → Part

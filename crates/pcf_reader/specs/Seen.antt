@@ -12,7 +12,8 @@ use Rattle.pcf_reader.specs.declared.token.Binder.{Binder}
 use Rattle.pcf_reader.specs.declared.token.Binder.TheVariants.{Fun, Fix}
 use Rattle.pcf_reader.specs.declared.token.Operator.{Operator}
 use Rattle.pcf_reader.specs.declared.token.Operator.TheVariants as operator
-use Rattle.pcf_values.specs.Values.{Op, plus_op, minus_op, times_op}
+use Rattle.pcf_values.specs.declared.operator.Operator.{Operator}
+use Rattle.pcf_values.specs.declared.operator.Operator.TheVariants.{Plus as plus_op, Minus as minus_op, Times as times_op}
 use Rattle.pcf_reader.specs.declared.token.Token.{Token}
 use Rattle.pcf_reader.specs.declared.token.Token.TheVariants.{Open, Close, Colon, Dot, Comma, Plus, Minus, Times, Arrow, Ifz, Then, Else}
 use Rattle.pcf_reader.specs.declared.token.Token.TheVariants.{Nat, Bind, Before, Number, Name, End}
@@ -27,7 +28,7 @@ abbrev pub binder_of : Binder → syntax.Binder
 binder_of Fun = syntax.the_fun
 binder_of Fix = syntax.the_fix
 
-abbrev pub op_of : Operator → Op
+abbrev pub op_of : Operator → Operator
 op_of operator.Plus = plus_op
 op_of operator.Minus = minus_op
 op_of operator.Times = times_op

@@ -1,7 +1,9 @@
 -- A tree that stands for a typed term is accepted; both the term and the type are unique.
 use Rattle.std.proofs.Common.{◌≡◌, ℕ, List, ◌∷◌, Some, Ok, refl, sym, ap, ◌∙◌, subst}
 use Rattle.std.specs.Prelude.{slice_get}
-use Rattle.pcf_values.specs.Terms.{TyTree, nat, arrow, product, Side, left_side, right_side, at_side, TermTree, num, var, succ_of, pred_of}
+use Rattle.pcf_values.specs.Terms.{TyTree, nat, arrow, product, at_side, TermTree, num, var, succ_of, pred_of}
+use Rattle.pcf_values.specs.declared.side.Side.{Side}
+use Rattle.pcf_values.specs.declared.side.Side.TheVariants.{Left, Right}
 use Rattle.pcf_values.specs.Terms.{binary, ifz, lam, fix, app, pair, proj}
 use Rattle.pcf_values.specs.Typing.{HasType}
 use Rattle.pcf_values.specs.Named.{the_succ, the_pred, the_fst, the_snd, the_fun, the_fix, NamedTree, number_at, name_at, word_at}
@@ -26,10 +28,10 @@ complete (word_at at the_pred a) g m (b, r, e) =
     subst (Accepts g (word_at at the_pred a)) (sym e) (λ t h. rw (complete a g b r nat h.0) (ap (λ t. Ok (pred_of b, t)) (sym h.1)))
 complete (word_at at the_fst a) g m (b, r, e) =
     subst (Accepts g (word_at at the_fst a)) (sym e)
-    (λ t (c, d, h, q). rw (complete a g b r (product c d) h) (ap (λ t. Ok (proj left_side b, t)) (sym q)))
+    (λ t (c, d, h, q). rw (complete a g b r (product c d) h) (ap (λ t. Ok (proj Left b, t)) (sym q)))
 complete (word_at at the_snd a) g m (b, r, e) =
     subst (Accepts g (word_at at the_snd a)) (sym e)
-    (λ t (c, d, h, q). rw (complete a g b r (product c d) h) (ap (λ t. Ok (proj right_side b, t)) (sym q)))
+    (λ t (c, d, h, q). rw (complete a g b r (product c d) h) (ap (λ t. Ok (proj Right b, t)) (sym q)))
 complete (binary_at at o a b) g m (c, d, r, s, e) =
     subst (Accepts g (binary_at at o a b)) (sym e)
     (λ t h. rw (complete a g c r nat h.0, complete b g d s nat h.1) (ap (λ t. Ok (binary o c d, t)) (sym h.2)))
@@ -71,8 +73,8 @@ product_right : {a b c d : TyTree} → product a b ≡ product c d → b ≡ d
 product_right e = cc
 
 side_same : (s : Side) (a b c d : TyTree) → product a b ≡ product c d → at_side s a b ≡ at_side s c d
-side_same left_side a b c d e = product_left e
-side_same right_side a b c d e = product_right e
+side_same Left a b c d e = product_left e
+side_same Right a b c d e = product_right e
 
 pub one_type : (g : List TyTree) (m : TermTree) (t u : TyTree) → HasType g m t → HasType g m u → t ≡ u
 one_type g (num n) t u h k = h.1 ∙ sym k.1

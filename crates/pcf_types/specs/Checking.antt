@@ -4,7 +4,8 @@
 use Rattle.std.specs.Prelude.{ℕ, suc, ◌^◌, ◌<◌, Bool, true, false, ◌&&◌, List, [], ◌∷◌, Option, Some, None, Result, Ok}
 use Rattle.std.specs.Prelude.{Err, if◌then◌else◌}
 use Rattle.std.specs.Str.{bytes_eq}
-use Rattle.pcf_values.specs.Terms.{TyTree, nat, arrow, product, left_side, right_side, TermTree, num, var, succ_of, pred_of, binary, ifz}
+use Rattle.pcf_values.specs.Terms.{TyTree, nat, arrow, product, TermTree, num, var, succ_of, pred_of, binary, ifz}
+use Rattle.pcf_values.specs.declared.side.Side.TheVariants.{Left, Right}
 use Rattle.pcf_values.specs.Terms.{lam, fix, app, pair, proj}
 use Rattle.pcf_values.specs.Named.{the_succ, the_pred, the_fst, the_snd, the_fun, the_fix, NamedTree, number_at, name_at, word_at}
 use Rattle.pcf_values.specs.Named.{binary_at, pair_at, ifz_at, bind_at, apply_at, place_of}
@@ -93,8 +94,8 @@ type_of g (number_at at n) = Ok (num n, nat)
 type_of g (name_at at x) = variable at (nearest x g)
 type_of g (word_at at the_succ a) = go_on (number (place_of a) (type_of g a)) (λ m. Ok (succ_of m, nat))
 type_of g (word_at at the_pred a) = go_on (number (place_of a) (type_of g a)) (λ m. Ok (pred_of m, nat))
-type_of g (word_at at the_fst a) = go_on (both (place_of a) (type_of g a)) (λ p. Ok (proj left_side p.0, p.1))
-type_of g (word_at at the_snd a) = go_on (both (place_of a) (type_of g a)) (λ p. Ok (proj right_side p.0, p.2))
+type_of g (word_at at the_fst a) = go_on (both (place_of a) (type_of g a)) (λ p. Ok (proj Left p.0, p.1))
+type_of g (word_at at the_snd a) = go_on (both (place_of a) (type_of g a)) (λ p. Ok (proj Right p.0, p.2))
 type_of g (binary_at at o a b) = go_on (numbers (number (place_of a) (type_of g a)) (number (place_of b) (type_of g b)))
     (λ p. Ok (binary o p.0 p.1, nat))
 type_of g (pair_at at a b) = go_on (type_of g a) (λ j. go_on (type_of g b) (λ k. Ok (pair j.0 k.0, product j.1 k.1)))

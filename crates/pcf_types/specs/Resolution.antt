@@ -2,7 +2,8 @@
 -- nearest one. The relation knows no type and no fault. It is the other half of what the checker is measured by, beside the typing
 -- relation.
 use Rattle.std.specs.Prelude.{◌≡◌, ◌≢◌, ◌<◌, ℕ, List, ◌∷◌, Some, slice_get}
-use Rattle.pcf_values.specs.Terms.{TyTree, left_side, right_side, TermTree, num, var, succ_of, pred_of, binary, ifz, lam, fix, app, pair}
+use Rattle.pcf_values.specs.Terms.{TyTree, TermTree, num, var, succ_of, pred_of, binary, ifz, lam, fix, app, pair}
+use Rattle.pcf_values.specs.declared.side.Side.TheVariants.{Left, Right}
 use Rattle.pcf_values.specs.Terms.{proj}
 use Rattle.pcf_values.specs.Named.{Word, the_succ, the_pred, the_fst, the_snd, Binder, the_fun, the_fix, NamedTree, number_at, name_at}
 use Rattle.pcf_values.specs.Named.{word_at, binary_at, pair_at, ifz_at, bind_at, apply_at}
@@ -15,8 +16,8 @@ Binds s x i = (slice_get s i ≡ Some x) × ((j : ℕ) → j < i → slice_get s
 abbrev pub word_term : Word → TermTree → TermTree
 word_term the_succ m = succ_of m
 word_term the_pred m = pred_of m
-word_term the_fst m = proj left_side m
-word_term the_snd m = proj right_side m
+word_term the_fst m = proj Left m
+word_term the_snd m = proj Right m
 
 -- the term that a binder with its type makes of a body
 abbrev pub binder_term : Binder → TyTree → TermTree → TermTree

@@ -6,8 +6,11 @@ use Rattle.std.specs.Coded.{Coded, code_by, coded_ℕ, coded_option, coded×}
 use base.Stored.{Gv, gnil, gnum, gcons}
 use Rattle.pcf_values.specs.declared.val.Val.{Val}
 use Rattle.pcf_values.specs.declared.val.Val.TheVariants.{Number, Overflow}
-use Rattle.pcf_values.specs.Values.{Op, plus_op, minus_op, times_op}
-use Rattle.pcf_values.specs.Terms.{TyTree, nat, arrow, product, Side, left_side, right_side, TermTree, num, var, succ_of, pred_of, binary}
+use Rattle.pcf_values.specs.declared.operator.Operator.{Operator}
+use Rattle.pcf_values.specs.declared.operator.Operator.TheVariants.{Plus, Minus, Times}
+use Rattle.pcf_values.specs.Terms.{TyTree, nat, arrow, product, TermTree, num, var, succ_of, pred_of, binary}
+use Rattle.pcf_values.specs.declared.side.Side.{Side}
+use Rattle.pcf_values.specs.declared.side.Side.TheVariants.{Left, Right}
 use Rattle.pcf_values.specs.Terms.{ifz, lam, fix, app, pair, proj}
 
 abbrev pub val_parts : Val → Option ℕ
@@ -50,32 +53,32 @@ abbrev pub ty_code : Coded TyTree
 ty_code = record { code = ty_cells; inj = λ s t h. sym (ty_back s) ∙ ap cells_ty h ∙ ty_back t }
 
 -- an operator and a side as a number, and back
-abbrev pub op_number : Op → ℕ
-op_number plus_op = 0
-op_number minus_op = 1
-op_number times_op = 2
+abbrev pub op_number : Operator → ℕ
+op_number Plus = 0
+op_number Minus = 1
+op_number Times = 2
 
-abbrev pub number_op : ℕ → Op
-number_op zero = plus_op
-number_op (suc zero) = minus_op
-number_op (suc (suc n)) = times_op
+abbrev pub number_op : ℕ → Operator
+number_op zero = Plus
+number_op (suc zero) = Minus
+number_op (suc (suc n)) = Times
 
-pub op_back : (o : Op) → number_op (op_number o) ≡ o
-op_back plus_op = refl
-op_back minus_op = refl
-op_back times_op = refl
+pub op_back : (o : Operator) → number_op (op_number o) ≡ o
+op_back Plus = refl
+op_back Minus = refl
+op_back Times = refl
 
 abbrev pub side_number : Side → ℕ
-side_number left_side = 0
-side_number right_side = 1
+side_number Left = 0
+side_number Right = 1
 
 abbrev pub number_side : ℕ → Side
-number_side zero = left_side
-number_side (suc n) = right_side
+number_side zero = Left
+number_side (suc n) = Right
 
 pub side_back : (s : Side) → number_side (side_number s) ≡ s
-side_back left_side = refl
-side_back right_side = refl
+side_back Left = refl
+side_back Right = refl
 
 -- a node: which form it is, what it holds beside terms, and up to three terms
 abbrev pub cell : ℕ → Gv → Gv → Gv → Gv → Gv

@@ -2,7 +2,7 @@
 -- A place is an offset in bytes from the beginning of the text. The words that stand before an atom are one form, and so are the
 -- binders and the operators, as in the grammar.
 use Rattle.std.specs.Prelude.{ℕ, suc, ◌+◌, max, List}
-use Rattle.pcf_values.specs.Values.{Op}
+use Rattle.pcf_values.specs.declared.operator.Operator.{Operator}
 use Rattle.pcf_values.specs.Terms.{TyTree}
 
 -- a word before an atom
@@ -21,7 +21,7 @@ pub data NamedTree : Type 0 where
   number_at : ℕ → ℕ → NamedTree
   name_at : ℕ → List ℕ → NamedTree
   word_at : ℕ → Word → NamedTree → NamedTree
-  binary_at : ℕ → Op → NamedTree → NamedTree → NamedTree
+  binary_at : ℕ → Operator → NamedTree → NamedTree → NamedTree
   pair_at : ℕ → NamedTree → NamedTree → NamedTree
   ifz_at : ℕ → NamedTree → NamedTree → NamedTree → NamedTree
   bind_at : ℕ → Binder → List ℕ → TyTree → NamedTree → NamedTree

@@ -2,7 +2,9 @@
 -- Variables are indexes, the nearest binder first, so that no name can be captured. The strict operators are one form with its
 -- operator, and `fst` and `snd` are one form with its side, so that each rule for them is stated and proved once.
 use Rattle.std.specs.Prelude.{ℕ, suc, ◌+◌, max}
-use Rattle.pcf_values.specs.Values.{Op}
+use Rattle.pcf_values.specs.declared.operator.Operator.{Operator}
+use Rattle.pcf_values.specs.declared.side.Side.{Side}
+use Rattle.pcf_values.specs.declared.side.Side.TheVariants.{Left, Right}
 
 -- the type of numbers, of functions, and of pairs
 pub data TyTree : Type 0 where
@@ -10,22 +12,17 @@ pub data TyTree : Type 0 where
   arrow : TyTree → TyTree → TyTree
   product : TyTree → TyTree → TyTree
 
--- an operand of an operator, or a part of a pair
-pub data Side : Type 0 where
-  left_side : Side
-  right_side : Side
-
 -- the first on the left, the second on the right
 abbrev pub at_side : {A : Type 0} → Side → A → A → A
-at_side left_side a b = a
-at_side right_side a b = b
+at_side Left a b = a
+at_side Right a b = b
 
 pub data TermTree : Type 0 where
   num : ℕ → TermTree
   var : ℕ → TermTree
   succ_of : TermTree → TermTree
   pred_of : TermTree → TermTree
-  binary : Op → TermTree → TermTree → TermTree
+  binary : Operator → TermTree → TermTree → TermTree
   ifz : TermTree → TermTree → TermTree → TermTree
   lam : TyTree → TermTree → TermTree
   fix : TyTree → TermTree → TermTree

@@ -1,10 +1,12 @@
 -- Values and what the operations on them come to.
 -- A value is a number below 2 ^ 64, or `overflow`. The operations compute on unbounded numbers and compare once with the limit, so
--- that no definition speaks of machine words. The three strict operators are one type with one meaning function: each rule that
--- treats them alike is then stated once.
+-- that no definition speaks of machine words. The three strict operators are the code's own enum, with one meaning function: each
+-- rule that treats them alike is then stated once.
 use Rattle.std.specs.Prelude.{ℕ, zero, suc, ◌+◌, ◌-◌, ◌*◌, ◌^◌, nat_lt, if◌then◌else◌}
 use Rattle.pcf_values.specs.declared.val.Val.{Val}
 use Rattle.pcf_values.specs.declared.val.Val.TheVariants.{Number, Overflow}
+use Rattle.pcf_values.specs.declared.operator.Operator.{Operator}
+use Rattle.pcf_values.specs.declared.operator.Operator.TheVariants.{Plus, Minus, Times}
 
 -- the number where it is below 2 ^ 64, and else overflow
 abbrev pub within : ℕ → Val
@@ -26,17 +28,11 @@ on_numbers f (Number a) (Number b) = f a b
 on_numbers f (Number a) Overflow = Overflow
 on_numbers f Overflow b = Overflow
 
--- the strict operators: they ask both operands
-pub data Op : Type 0 where
-  plus_op : Op
-  minus_op : Op
-  times_op : Op
-
--- what an operator comes to, the left operand's value first; a difference below 0 is 0
-abbrev pub val_op : Op → Val → Val → Val
-val_op plus_op u v = on_numbers (λ a b. within (a + b)) u v
-val_op minus_op u v = on_numbers (λ a b. Number (a - b)) u v
-val_op times_op u v = on_numbers (λ a b. within (a * b)) u v
+-- what a strict operator, which asks both operands, comes to, the left operand's value first; a difference below 0 is 0
+abbrev pub val_op : Operator → Val → Val → Val
+val_op Plus u v = on_numbers (λ a b. within (a + b)) u v
+val_op Minus u v = on_numbers (λ a b. Number (a - b)) u v
+val_op Times u v = on_numbers (λ a b. within (a * b)) u v
 
 -- the branch that a test takes: the first at 0, and else the second
 abbrev pub at_zero : {A : Type 0} → Val → A → A → A

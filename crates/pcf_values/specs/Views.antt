@@ -8,8 +8,7 @@ use Rattle.pcf_values.specs.declared.term.Term.TheVariants as term
 use Rattle.pcf_values.specs.declared.named.Named.{Named}
 use Rattle.pcf_values.specs.declared.named.Raw.{Raw}
 use Rattle.pcf_values.specs.declared.named.Raw.TheVariants as raw
-use Rattle.pcf_values.specs.Values.{plus_op, minus_op, times_op}
-use Rattle.pcf_values.specs.Terms.{TyTree, nat, arrow, product, left_side, right_side, TermTree, num, var, succ_of, pred_of, binary, ifz}
+use Rattle.pcf_values.specs.Terms.{TyTree, nat, arrow, product, at_side, TermTree, num, var, succ_of, pred_of, binary, ifz}
 use Rattle.pcf_values.specs.Terms.{lam, fix, app, pair, proj}
 use Rattle.pcf_values.specs.Named.{the_succ, the_pred, the_fst, the_snd, the_fun, the_fix, NamedTree, number_at, name_at, word_at}
 use Rattle.pcf_values.specs.Named.{binary_at, pair_at, ifz_at, bind_at, apply_at}
@@ -24,16 +23,13 @@ term_of (term.Number n) = num n
 term_of (term.Var i) = var i
 term_of (term.Succ' p a) = succ_of (term_of a)
 term_of (term.Pred' p a) = pred_of (term_of a)
-term_of (term.Plus' p a q b) = binary plus_op (term_of a) (term_of b)
-term_of (term.Minus' p a q b) = binary minus_op (term_of a) (term_of b)
-term_of (term.Times' p a q b) = binary times_op (term_of a) (term_of b)
+term_of (term.Binary' o p a q b) = binary o (term_of a) (term_of b)
 term_of (term.Ifz' p c q t r e) = ifz (term_of c) (term_of t) (term_of e)
 term_of (term.Fun' A p m) = lam (ty_of A) (term_of m)
 term_of (term.Fix' A p m) = fix (ty_of A) (term_of m)
 term_of (term.App' p f q a) = app (term_of f) (term_of a)
 term_of (term.Pair' p a q b) = pair (term_of a) (term_of b)
-term_of (term.Fst' p a) = proj left_side (term_of a)
-term_of (term.Snd' p a) = proj right_side (term_of a)
+term_of (term.Proj' s p a) = proj s (term_of a)
 
 -- the tree of a node at a place
 abbrev pub raw_of : Raw → ℕ → NamedTree
@@ -41,16 +37,13 @@ raw_of (raw.Number n) at = number_at at n
 raw_of (raw.Name x) at = name_at at x
 raw_of (raw.Succ' p i a) at = word_at at the_succ (raw_of a i)
 raw_of (raw.Pred' p i a) at = word_at at the_pred (raw_of a i)
-raw_of (raw.Plus' p i a q j b) at = binary_at at plus_op (raw_of a i) (raw_of b j)
-raw_of (raw.Minus' p i a q j b) at = binary_at at minus_op (raw_of a i) (raw_of b j)
-raw_of (raw.Times' p i a q j b) at = binary_at at times_op (raw_of a i) (raw_of b j)
+raw_of (raw.Binary' o p i a q j b) at = binary_at at o (raw_of a i) (raw_of b j)
 raw_of (raw.Ifz' p i c q j a r k b) at = ifz_at at (raw_of c i) (raw_of a j) (raw_of b k)
 raw_of (raw.Fun' x t p i m) at = bind_at at the_fun x (ty_of t) (raw_of m i)
 raw_of (raw.Fix' x t p i m) at = bind_at at the_fix x (ty_of t) (raw_of m i)
 raw_of (raw.App' p i f q j a) at = apply_at at (raw_of f i) (raw_of a j)
 raw_of (raw.Pair' p i a q j b) at = pair_at at (raw_of a i) (raw_of b j)
-raw_of (raw.Fst' p i a) at = word_at at the_fst (raw_of a i)
-raw_of (raw.Snd' p i a) at = word_at at the_snd (raw_of a i)
+raw_of (raw.Proj' s p i a) at = word_at at (at_side s the_fst the_snd) (raw_of a i)
 
 abbrev pub named_of : Named → NamedTree
 named_of n = raw_of n.raw n.at

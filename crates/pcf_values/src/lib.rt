@@ -1,6 +1,6 @@
 //! Values, types and terms of PCF, as data.
 //!
-//! Everything above speaks of programs in this crate's words: `Val` with its arithmetic, `Ident`, `Ty`, `Named` (a term as it is
+//! Everything above speaks of programs in this crate's words: `Val` with its arithmetic, `Operator`, `Side`, `Ident`, `Ty`, `Named` (a term as it is
 //! read, with names and places), `Term` (with variables by index) and `Typed`, a closed term that keeps its type.
 //! Each operation on values is its definition in `specs/Values.antt`; each tree is seen by contracts through a view of
 //! `specs/Views.antt`; the typing relation stands in `specs/Typing.antt`. Reading and checking are left to the crates above.
@@ -10,6 +10,8 @@ mod ident;
 mod laws;
 pub mod limits;
 mod named;
+mod operator;
+mod side;
 mod term;
 mod ty;
 mod typed;
@@ -18,6 +20,8 @@ mod val;
 pub use ident::Ident;
 pub use laws::law_limits;
 pub use named::{Named, Raw};
+pub use operator::Operator;
+pub use side::Side;
 pub use term::Term;
 pub use ty::Ty;
 pub use typed::Typed;

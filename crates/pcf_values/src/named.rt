@@ -3,7 +3,7 @@
 ghost use Rattle.std.specs.Prelude.{◌≡◌, IfOk};
 ghost use Rattle.pcf_values.specs.Views.{named_of, raw_of};
 
-use crate::{Ident, Ty};
+use crate::{Ident, Operator, Side, Ty};
 use std::alloc::{AllocError, Global};
 
 /// A node with its place: an offset in bytes from the beginning of the text.
@@ -28,12 +28,8 @@ pub enum Raw {
     Succ(Box<Named>),
     /// `pred`, one less, and 0 of 0.
     Pred(Box<Named>),
-    /// A sum.
-    Plus(Box<Named>, Box<Named>),
-    /// A difference, 0 where it would be below.
-    Minus(Box<Named>, Box<Named>),
-    /// A product.
-    Times(Box<Named>, Box<Named>),
+    /// An operator between two terms.
+    Binary(Operator, Box<Named>, Box<Named>),
     /// `ifz`: the condition, the part for 0, and the part for all else.
     Ifz(Box<Named>, Box<Named>, Box<Named>),
     /// A function: the name that it binds, its type, and the body.
@@ -44,10 +40,8 @@ pub enum Raw {
     App(Box<Named>, Box<Named>),
     /// A pair.
     Pair(Box<Named>, Box<Named>),
-    /// The first part of a pair.
-    Fst(Box<Named>),
-    /// The second part of a pair.
-    Snd(Box<Named>),
+    /// `fst` or `snd`: the part of a pair on a side.
+    Proj(Side, Box<Named>),
 }
 
 impl Named {
@@ -83,17 +77,9 @@ impl Raw {
             Raw::Name(x) => Ok(Raw::Name(x.copy(alloc)?)),
             Raw::Succ(a) => Ok(Raw::Succ(copy_box(alloc, a)?)),
             Raw::Pred(a) => Ok(Raw::Pred(copy_box(alloc, a)?)),
-            Raw::Plus(a, b) => {
+            Raw::Binary(operator, a, b) => {
                 let (a, b) = copy_both(alloc, a, b)?;
-                Ok(Raw::Plus(a, b))
-            }
-            Raw::Minus(a, b) => {
-                let (a, b) = copy_both(alloc, a, b)?;
-                Ok(Raw::Minus(a, b))
-            }
-            Raw::Times(a, b) => {
-                let (a, b) = copy_both(alloc, a, b)?;
-                Ok(Raw::Times(a, b))
+                Ok(Raw::Binary(*operator, a, b))
             }
             Raw::Ifz(c, p, q) => {
                 let (p, q) = copy_both(alloc, p, q)?;
@@ -117,8 +103,7 @@ impl Raw {
                 let (a, b) = copy_both(alloc, a, b)?;
                 Ok(Raw::Pair(a, b))
             }
-            Raw::Fst(a) => Ok(Raw::Fst(copy_box(alloc, a)?)),
-            Raw::Snd(a) => Ok(Raw::Snd(copy_box(alloc, a)?)),
+            Raw::Proj(side, a) => Ok(Raw::Proj(*side, copy_box(alloc, a)?)),
         }
     }
 }

@@ -3,7 +3,7 @@
 ghost use Rattle.std.specs.Prelude.{◌≡◌, IfOk};
 ghost use Rattle.pcf_values.specs.Views.{term_of};
 
-use crate::Ty;
+use crate::{Operator, Side, Ty};
 use std::alloc::{AllocError, Global};
 
 /// A term. `Var(0)` is the nearest binder's variable.
@@ -17,12 +17,8 @@ pub enum Term {
     Succ(Box<Term>),
     /// `pred`, one less, and 0 of 0.
     Pred(Box<Term>),
-    /// A sum.
-    Plus(Box<Term>, Box<Term>),
-    /// A difference, 0 where it would be below.
-    Minus(Box<Term>, Box<Term>),
-    /// A product.
-    Times(Box<Term>, Box<Term>),
+    /// An operator between two terms.
+    Binary(Operator, Box<Term>, Box<Term>),
     /// `ifz`: the condition, the part for 0, and the part for all else.
     Ifz(Box<Term>, Box<Term>, Box<Term>),
     /// A function: the type of what it binds, and the body.
@@ -33,10 +29,8 @@ pub enum Term {
     App(Box<Term>, Box<Term>),
     /// A pair.
     Pair(Box<Term>, Box<Term>),
-    /// The first part of a pair.
-    Fst(Box<Term>),
-    /// The second part of a pair.
-    Snd(Box<Term>),
+    /// `fst` or `snd`: the part of a pair on a side.
+    Proj(Side, Box<Term>),
 }
 
 impl Term {
@@ -54,17 +48,9 @@ impl Term {
             Term::Var(i) => Ok(Term::Var(*i)),
             Term::Succ(a) => Ok(Term::Succ(copy_box(alloc, a)?)),
             Term::Pred(a) => Ok(Term::Pred(copy_box(alloc, a)?)),
-            Term::Plus(a, b) => {
+            Term::Binary(operator, a, b) => {
                 let (a, b) = copy_both(alloc, a, b)?;
-                Ok(Term::Plus(a, b))
-            }
-            Term::Minus(a, b) => {
-                let (a, b) = copy_both(alloc, a, b)?;
-                Ok(Term::Minus(a, b))
-            }
-            Term::Times(a, b) => {
-                let (a, b) = copy_both(alloc, a, b)?;
-                Ok(Term::Times(a, b))
+                Ok(Term::Binary(*operator, a, b))
             }
             Term::Ifz(c, p, q) => {
                 let (p, q) = copy_both(alloc, p, q)?;
@@ -86,8 +72,7 @@ impl Term {
                 let (a, b) = copy_both(alloc, a, b)?;
                 Ok(Term::Pair(a, b))
             }
-            Term::Fst(a) => Ok(Term::Fst(copy_box(alloc, a)?)),
-            Term::Snd(a) => Ok(Term::Snd(copy_box(alloc, a)?)),
+            Term::Proj(side, a) => Ok(Term::Proj(*side, copy_box(alloc, a)?)),
         }
     }
 }

@@ -7,8 +7,9 @@ use Rattle.std.specs.FinMap.{get, insert, get-insert}
 use Rattle.std.proofs.lemmas.Cmp.{nat_cmp_total}
 use Rattle.interleave_laws.proofs.Tickets.{test_nat}
 use Rattle.pcf_values.specs.declared.val.Val.{Val}
-use Rattle.pcf_values.specs.Values.{Op}
-use Rattle.pcf_values.specs.Terms.{Side, left_side, right_side}
+use Rattle.pcf_values.specs.declared.operator.Operator.{Operator}
+use Rattle.pcf_values.specs.declared.side.Side.{Side}
+use Rattle.pcf_values.specs.declared.side.Side.TheVariants.{Left, Right}
 use Rattle.token_stacks.specs.Signatures.{Work, Boxes}
 use Rattle.token_stacks.specs.Texts.{boxes_text, key_text}
 use Rattle.fork_join.specs.Entries.{Entry, pending, has_left, has_right}
@@ -211,19 +212,19 @@ module _ (S T : MapState) (t : ℕ) (n : Node) (x : TokenTree) (low : t < S.next
       (token_text (boxes_by a) (ans u (down c [] bx))) ++ values_text v w) f
       ∙ came_more (leaves_by n (down c [] bx)) (token_text key_text x) (token_text key_text (ans u (down c [] bx))) (values_text v w)
 
-  join_told : (b : Bool) (o : Op) (d : Side) (v : Val) (i c : ℕ) (bx : Boxes) (s : Stepped) (k : Option Entry) →
+  join_told : (b : Bool) (o : Operator) (d : Side) (v : Val) (i c : ℕ) (bx : Boxes) (s : Stepped) (k : Option Entry) →
       b ≡ is_operator n → b ≡ true → join_map k S t i o d v c bx ≡ Some T → name_at k v ≡ Some s →
       told_text n (token_text (boxes_by b) x) s T t ≡ join_text n x o d v c bx k
   join_told b o d v i c bx s None e f made name = absurd (none_some T made)
   join_told b o d v i c bx s (Some pending) e f made name =
       ap (λ s. told_text n (token_text (boxes_by b) x) s T t) (sym (one_some _ s name))
       ∙ ap (λ a. came (codes "-") (token_text (boxes_by a) x) (codes "kept")) f
-  join_told b o right_side v i c bx s (Some (has_left u)) e f made name =
+  join_told b o Right v i c bx s (Some (has_left u)) e f made name =
       last_told b _ u v i c bx s e f made (one_some _ s name)
-  join_told b o left_side v i c bx s (Some (has_left u)) e f made name = absurd (none_some T made)
-  join_told b o left_side v i c bx s (Some (has_right u)) e f made name =
+  join_told b o Left v i c bx s (Some (has_left u)) e f made name = absurd (none_some T made)
+  join_told b o Left v i c bx s (Some (has_right u)) e f made name =
       last_told b _ v u i c bx s e f made (one_some _ s name)
-  join_told b o right_side v i c bx s (Some (has_right u)) e f made name = absurd (none_some T made)
+  join_told b o Right v i c bx s (Some (has_right u)) e f made name = absurd (none_some T made)
 
   answer_told : (b : Bool) (v : Val) (s : Stepped) → b ≡ false → Answered v ≡ s →
       told_text n (token_text (boxes_by b) x) s T t ≡ came (codes "-") (token_text boxes_text x) (codes "answer " ++ val_text v)

@@ -4,8 +4,9 @@
 use Rattle.std.specs.Prelude.{ℕ, List, [], ◌++◌, Option, Some, None, codes, decimal}
 use Rattle.pcf_values.specs.declared.val.Val.{Val}
 use Rattle.pcf_values.specs.declared.val.Val.TheVariants.{Number, Overflow}
-use Rattle.pcf_values.specs.Values.{Op}
-use Rattle.pcf_values.specs.Terms.{Side, left_side, right_side}
+use Rattle.pcf_values.specs.declared.operator.Operator.{Operator}
+use Rattle.pcf_values.specs.declared.side.Side.{Side}
+use Rattle.pcf_values.specs.declared.side.Side.TheVariants.{Left, Right}
 use Rattle.token_stacks.specs.Signatures.{Boxes}
 use Rattle.token_stacks.specs.Texts.{work_text, boxes_text, key_text}
 use Rattle.net_build.specs.declared.node.Node.{Node}
@@ -56,8 +57,8 @@ kept_text (has_right v) = val_text v
 
 -- both values at a join, the left one's first
 abbrev pub both_text : Side → Entry → Val → List ℕ
-both_text left_side e v = then_word (val_text v) (kept_text e)
-both_text right_side e v = then_word (kept_text e) (val_text v)
+both_text Left e v = then_word (val_text v) (kept_text e)
+both_text Right e v = then_word (kept_text e) (val_text v)
 
 -- the second answer of a join: the token goes on with what both come to
 abbrev pub joined_text : Node → TokenTree → Side → Entry → Val → Option Val → ℕ → Boxes → List ℕ
@@ -67,7 +68,7 @@ joined_text n x s e v (Some u) w t =
     (token_text key_text (ans u (down w [] t)) ++ (codes " joined " ++ both_text s e v))
 
 -- an answer at a join, by what its entry keeps
-abbrev pub join_text : Node → TokenTree → Op → Side → Val → ℕ → Boxes → Option Entry → List ℕ
+abbrev pub join_text : Node → TokenTree → Operator → Side → Val → ℕ → Boxes → Option Entry → List ℕ
 join_text n x o s v w t None = []
 join_text n x o s v w t (Some pending) = came (codes "-") (token_text key_text x) (codes "kept")
 join_text n x o s v w t (Some e) = joined_text n x s e v (other o e s v) w t

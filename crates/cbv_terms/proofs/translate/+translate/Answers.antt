@@ -1,6 +1,6 @@
 use Rattle.std.proofs.Common.{rules, ◌≡◌, ◌+◌, ◌*◌, ◌^◌, ◌<◌, refl, sym, ap, ◌∙◌, subst, arith}
 use Rattle.std.specs.Prelude.{vec_len}
-use Rattle.pcf_values.specs.Values.{plus_op, minus_op, times_op}
+use Rattle.pcf_values.specs.declared.operator.Operator.TheVariants.{Plus as plus_op, Minus as minus_op, Times as times_op}
 use Rattle.pcf_values.specs.Terms.{var, succ_of, pred_of, binary, ifz, lam, fix, app, height}
 use Rattle.pcf_values.specs.Views.{ty_of, term_of}
 use Rattle.cbv_terms.specs.Views.{op_of, context_of, IsReady}
