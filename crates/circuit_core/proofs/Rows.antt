@@ -15,8 +15,8 @@ use Rattle.pcf_values.specs.declared.operator.Operator.{Operator}
 use Rattle.pcf_values.specs.declared.side.Side.TheVariants.{Left, Right}
 use Rattle.token_stacks.specs.Signatures.{star, left_of, right_of, pair_of, again, R, L, S, Work, Boxes}
 use Rattle.net_build.specs.declared.node.Node.{Node}
-use Rattle.net_build.specs.declared.node.Node.TheVariants.{Const, Succ, Pred, Plus, Minus, Times, Ifz, Der, Con, Lam, App, BoxNode, Door}
-use Rattle.net_build.specs.declared.node.Node.TheVariants.{FixBox, Root, Pair, Fst, Snd}
+use Rattle.net_build.specs.declared.node.Node.TheVariants.{Const, Succ, Pred, Ifz, Der, Con, Lam, App, BoxNode, Door, Binary, Proj}
+use Rattle.net_build.specs.declared.node.Node.TheVariants.{FixBox, Root, Pair}
 use Rattle.net_build.specs.Nets.{NetTree, premises, conclusions}
 use Rattle.net_build.specs.Sides.{node_above, node_below}
 use Rattle.net_build.specs.Sound.{Sound}
@@ -149,8 +149,7 @@ up_leads (BoxNode i o) w m t a = box_up_leads i m t
 up_leads (Door i o) w m t a = door_up_leads i m t
 up_leads (FixBox b x c) w m t a = λ q h. h
 up_leads (Pair x b c) w m t a = pair_leads x b m t
-up_leads (Fst x c) w m t a = λ q h. h
-up_leads (Snd x c) w m t a = λ q h. h
+up_leads (Proj d x c) w m t a = λ q h. h
 up_leads n w m t a = λ q h. cc
 
 -- down a premise
@@ -185,8 +184,8 @@ down_leads (FixBox b x c) w m t a = go (nat_eq b w) refl
     go false e = there (nat_eq x w)
 down_leads (Pair x y c) w m t a = both_lead (PUSHL (falls c)) (PUSHR (falls c)) m t x y w _ _ (λ e g. a.0 (inl (g ∙ sym e))) (λ q h. h)
     (λ q h. h)
-down_leads (Fst x c) w m t a = fst_leads c m t
-down_leads (Snd x c) w m t a = snd_leads c m t
+down_leads (Proj Left x c) w m t a = fst_leads c m t
+down_leads (Proj Right x c) w m t a = snd_leads c m t
 down_leads n w m t a = λ q h. cc
 
 -- a row that leads somewhere is a row of stacks alone, for questions and answers alike
@@ -224,9 +223,7 @@ asks_up i (Const v c) w [] t a (inr e) h = elim e [ ]
 asks_up i (Succ x c) w [] t a e h = refl
 asks_up i (Pred x c) w [] t a e h = refl
 asks_up i (Ifz b p q c) w [] t a e h = refl
-asks_up i (Plus x y c) w [] t a e h = refl
-asks_up i (Minus x y c) w [] t a e h = refl
-asks_up i (Times x y c) w [] t a e h = refl
+asks_up i (Binary o x y c) w [] t a e h = refl
 asks_up i n w m t a e h = passes i (row_up n w) m t (up w m t) (plain_up n w m t) (up_leads n w m t a) h
 
 -- an operand's answer
@@ -270,9 +267,7 @@ answers_down : (i : ℕ) (n : Node) (v : Val) (w : ℕ) (m : Work) (t : Boxes) �
 answers_down i (Succ x c) v w [] t a h = refl
 answers_down i (Pred x c) v w [] t a h = refl
 answers_down i (Ifz b p q c) v w [] t a h = tests i b p q c v w t h
-answers_down i (Plus x y c) v w [] t a h = joins i _ x y c v w t h
-answers_down i (Minus x y c) v w [] t a h = joins i _ x y c v w t h
-answers_down i (Times x y c) v w [] t a h = joins i _ x y c v w t h
+answers_down i (Binary o x y c) v w [] t a h = joins i _ x y c v w t h
 answers_down i (Root c) v w [] t a h = refl
 answers_down i n v w m t a h = carries i (row_down n w) v m t (plain_down n w m t) (down_leads n w m t a) h
 

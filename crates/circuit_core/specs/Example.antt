@@ -2,10 +2,10 @@
 use Rattle.std.specs.Prelude.{◌≡◌, ℕ, zero, suc, Bool, true, false, List, [], ◌∷◌, Option, Some, None}
 use Rattle.pcf_values.specs.declared.val.Val.{Val}
 use Rattle.pcf_values.specs.declared.val.Val.TheVariants.{Number}
-use Rattle.pcf_values.specs.declared.operator.Operator.TheVariants.{Plus as plus_op}
+use Rattle.pcf_values.specs.declared.operator.Operator.TheVariants.{Plus}
 use Rattle.pcf_values.specs.Terms.{nat, num, succ_of, binary, ifz}
 use Rattle.pcf_values.specs.declared.side.Side.TheVariants.{Left, Right}
-use Rattle.net_build.specs.declared.node.Node.TheVariants.{Const, Succ, Plus, Root}
+use Rattle.net_build.specs.declared.node.Node.TheVariants.{Const, Succ, Root}
 use Rattle.net_build.specs.Nets.{NetTree, value_wire}
 use Rattle.net_build.specs.NetOf.{net_of}
 use Rattle.net_build.specs.Example.{doubled_net}
@@ -34,7 +34,7 @@ sum_net = record {
 }
 
 abbrev pub ExampleNets : Type 0
-ExampleNets = (net_of (succ_of (num 4)) ≡ succ_net) × (net_of (binary plus_op (num 1) (num 2)) ≡ sum_net)
+ExampleNets = (net_of (succ_of (num 4)) ≡ succ_net) × (net_of (binary Plus (num 1) (num 2)) ≡ sum_net)
 
 abbrev pub ExampleSuccRows : Type 0
 ExampleSuccRows = rows_from succ_net 0 2 ≡ Some (0, CONST 4 (falls 0)) ∷ Some (1, SUCC (falls 1)) ∷ Some (1, GO (rises 0)) ∷
@@ -43,16 +43,16 @@ ExampleSuccRows = rows_from succ_net 0 2 ≡ Some (0, CONST 4 (falls 0)) ∷ Som
 abbrev pub ExampleSumRows : Type 0
 ExampleSumRows =
     rows_from sum_net 0 3 ≡
-    Some (0, CONST 1 (falls 0)) ∷ Some (2, JOIN plus_op Left 2) ∷ Some (1, CONST 2 (falls 1)) ∷
-    Some (2, JOIN plus_op Right 2) ∷ Some (2, FORK (rises 0) (rises 1)) ∷ Some (3, ANSWER) ∷ []
+    Some (0, CONST 1 (falls 0)) ∷ Some (2, JOIN Plus Left 2) ∷ Some (1, CONST 2 (falls 1)) ∷
+    Some (2, JOIN Plus Right 2) ∷ Some (2, FORK (rises 0) (rises 1)) ∷ Some (3, ANSWER) ∷ []
 
 -- twenty rows, in the order of the printed text
 abbrev pub ExampleDoubleRows : Type 0
 ExampleDoubleRows =
     rows_from doubled_net 0 10 ≡
-    Some (0, STAR (falls 1)) ∷ Some (3, JOIN plus_op Left 5)
+    Some (0, STAR (falls 1)) ∷ Some (3, JOIN Plus Left 5)
     ∷ Some (0, UNSTAR (falls 0)) ∷ Some (2, LEFT (falls 4))
-    ∷ Some (1, STAR (falls 3)) ∷ Some (3, JOIN plus_op Right 5)
+    ∷ Some (1, STAR (falls 3)) ∷ Some (3, JOIN Plus Right 5)
     ∷ Some (1, UNSTAR (falls 2)) ∷ Some (2, RIGHT (falls 4))
     ∷ Some (2, CON (rises 1) (rises 3)) ∷ Some (4, PUSHL (falls 6))
     ∷ Some (3, FORK (rises 0) (rises 2)) ∷ Some (4, PUSHR (falls 6))
@@ -105,7 +105,7 @@ ExampleDoubleCircuit = (ports doubled_net 16 2 40 ≡ (Some (Number 6), (false, 
 
 -- `ifz 1 + 2 then 0 else 3 + 4` opens its second fork where its first one was
 abbrev pub twice_net : NetTree
-twice_net = net_of (ifz (binary plus_op (num 1) (num 2)) (num 0) (binary plus_op (num 3) (num 4)))
+twice_net = net_of (ifz (binary Plus (num 1) (num 2)) (num 0) (binary Plus (num 3) (num 4)))
 
 abbrev pub ExampleOneFork : Type 0
 ExampleOneFork = ports twice_net 8 1 40 ≡ (Some (Number 7), (false, 14))

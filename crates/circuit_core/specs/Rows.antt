@@ -8,13 +8,12 @@ use Rattle.pcf_values.specs.declared.val.Val.{Val}
 use Rattle.pcf_values.specs.declared.val.Val.TheVariants.{Number}
 use Rattle.pcf_values.specs.Values.{val_succ, val_pred, at_zero}
 use Rattle.pcf_values.specs.declared.operator.Operator.{Operator}
-use Rattle.pcf_values.specs.declared.operator.Operator.TheVariants.{Plus as plus_op, Minus as minus_op, Times as times_op}
 use Rattle.pcf_values.specs.declared.side.Side.{Side}
 use Rattle.pcf_values.specs.declared.side.Side.TheVariants.{Left, Right}
 use Rattle.token_stacks.specs.Signatures.{star, left_of, right_of, pair_of, again, R, L, S, Work, Boxes}
 use Rattle.net_build.specs.declared.node.Node.{Node}
-use Rattle.net_build.specs.declared.node.Node.TheVariants.{Const, Succ, Pred, Plus, Minus, Times, Ifz, Der, Con, Weak, Lam, App, BoxNode}
-use Rattle.net_build.specs.declared.node.Node.TheVariants.{Door, FixBox, Root, Pair, Fst, Snd}
+use Rattle.net_build.specs.declared.node.Node.TheVariants.{Const, Succ, Pred, Ifz, Der, Con, Weak, Lam, App, BoxNode, Binary, Proj}
+use Rattle.net_build.specs.declared.node.Node.TheVariants.{Door, FixBox, Root, Pair}
 use Rattle.net_build.specs.Nets.{NetTree}
 use Rattle.net_build.specs.Sides.{node_above, node_below}
 use Rattle.move_rules.specs.Places.{Place, up, down, TokenTree, ask, ans, place_of}
@@ -73,9 +72,7 @@ abbrev pub row_up : Node → ℕ → Row
 row_up (Const v c) w = CONST v (falls c)
 row_up (Succ a c) w = GO (rises a)
 row_up (Pred a c) w = GO (rises a)
-row_up (Plus a b c) w = FORK (rises a) (rises b)
-row_up (Minus a b c) w = FORK (rises a) (rises b)
-row_up (Times a b c) w = FORK (rises a) (rises b)
+row_up (Binary o a b c) w = FORK (rises a) (rises b)
 row_up (Ifz b p q c) w = GO (rises b)
 row_up (Der v x) w = if_at v w (STAR (falls x)) (UNSTAR (falls v))
 row_up (Con l r c) w = CON (rises l) (rises r)
@@ -87,17 +84,15 @@ row_up (Door i o) w = DOORIN (rises i)
 row_up (FixBox b x c) w = FIXIN (rises b)
 row_up (Root c) w = DEAD
 row_up (Pair a b c) w = SELECT (rises b) (rises a)
-row_up (Fst a c) w = PUSHL (rises a)
-row_up (Snd a c) w = PUSHR (rises a)
+row_up (Proj Left a c) w = PUSHL (rises a)
+row_up (Proj Right a c) w = PUSHR (rises a)
 
 -- the row of a token that comes down the premise w of a node
 abbrev pub row_down : Node → ℕ → Row
 row_down (Const v c) w = DEAD
 row_down (Succ a c) w = SUCC (falls c)
 row_down (Pred a c) w = PRED (falls c)
-row_down (Plus a b c) w = if_at a w (JOIN plus_op Left c) (JOIN plus_op Right c)
-row_down (Minus a b c) w = if_at a w (JOIN minus_op Left c) (JOIN minus_op Right c)
-row_down (Times a b c) w = if_at a w (JOIN times_op Left c) (JOIN times_op Right c)
+row_down (Binary o a b c) w = if_at a w (JOIN o Left c) (JOIN o Right c)
 row_down (Ifz b p q c) w = if_at b w (TEST (rises p) (rises q)) (GO (falls c))
 row_down (Der v x) w = DEAD
 row_down (Con l r c) w = if_at l w (LEFT (falls c)) (RIGHT (falls c))
@@ -109,8 +104,7 @@ row_down (Door i o) w = DOOROUT (falls o)
 row_down (FixBox b x c) w = if_at b w (FIXOUT (falls c) (rises x)) (FIXVAR (rises b))
 row_down (Root c) w = ANSWER
 row_down (Pair a b c) w = if_at a w (PUSHL (falls c)) (PUSHR (falls c))
-row_down (Fst a c) w = POP (falls c)
-row_down (Snd a c) w = POP (falls c)
+row_down (Proj d a c) w = POP (falls c)
 
 -- a row with the number of its node
 abbrev pub found_row : Option (ℕ × Node) → (Node → Row) → Option (ℕ × Row)

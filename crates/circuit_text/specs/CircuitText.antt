@@ -2,7 +2,6 @@
 -- are sealed as the fixed ones are.
 use Rattle.std.specs.Prelude.{ℕ, Bool, true, false, List, [], ◌∷◌, ◌++◌, length, codes, decimal, if◌then◌else◌}
 use Rattle.net_build.specs.declared.node.Node.{Node}
-use Rattle.net_build.specs.declared.node.Node.TheVariants.{Times}
 use Rattle.net_build.specs.Nets.{NetTree}
 use Rattle.net_text.specs.Listing.{lines_of}
 use Rattle.interleave_laws.specs.Start.{start_of}

@@ -5,7 +5,7 @@ use Rattle.pcf_values.specs.declared.val.Val.{Val}
 use Rattle.pcf_values.specs.declared.side.Side.TheVariants.{Left as left_side, Right as right_side}
 use Rattle.token_stacks.specs.Signatures.{Work, Boxes, load}
 use Rattle.net_build.specs.declared.node.Node.{Node}
-use Rattle.net_build.specs.declared.node.Node.TheVariants.{Const, Succ, Pred, Plus, Minus, Times, Ifz, Root}
+use Rattle.net_build.specs.declared.node.Node.TheVariants.{Const, Succ, Pred, Ifz, Root, Binary}
 use Rattle.move_rules.specs.declared.token.Token.{Token}
 use Rattle.move_rules.specs.declared.token.Kind.{Kind}
 use Rattle.move_rules.specs.declared.token.Kind.TheVariants.{Ask, Ans}
@@ -37,32 +37,24 @@ asks_up i (Const v c) w [] t p h = elim h [ ]
 asks_up i (Succ a c) w [] t p h = elim h [ ]
 asks_up i (Pred a c) w [] t p h = elim h [ ]
 asks_up i (Ifz b x y c) w [] t p h = elim h [ ]
-asks_up i (Plus a b c) w [] t p h = refl
-asks_up i (Minus a b c) w [] t p h = refl
-asks_up i (Times a b c) w [] t p h = refl
+asks_up i (Binary o a b c) w [] t p h = refl
 asks_up i n w [] t p h = pass_stays i (plain_up n w [] t) p h
 asks_up i (Const v c) w (x ∷ m) t p h = refl
 asks_up i (Succ a c) w (x ∷ m) t p h = refl
 asks_up i (Pred a c) w (x ∷ m) t p h = refl
 asks_up i (Ifz b y z c) w (x ∷ m) t p h = refl
-asks_up i (Plus a b c) w (x ∷ m) t p h = refl
-asks_up i (Minus a b c) w (x ∷ m) t p h = refl
-asks_up i (Times a b c) w (x ∷ m) t p h = refl
+asks_up i (Binary o a b c) w (x ∷ m) t p h = refl
 asks_up i n w (x ∷ m) t p h = pass_stays i (plain_up n w (x ∷ m) t) p h
 
 -- a question from above has no role
 no_ask_down : (i : ℕ) (n : Node) (w : ℕ) (m : Work) (t : Boxes) → stay ≡ role_move (role_of n Ask false w m) i t
-no_ask_down i (Plus a b c) w [] t = refl
-no_ask_down i (Minus a b c) w [] t = refl
-no_ask_down i (Times a b c) w [] t = refl
+no_ask_down i (Binary o a b c) w [] t = refl
 no_ask_down i n w [] t = refl
 no_ask_down i n w (x ∷ m) t = refl
 
 -- nor has an answer from below
 no_ans_up : (i : ℕ) (n : Node) (v : Val) (w : ℕ) (m : Work) (t : Boxes) → stay ≡ role_move (role_of n (Ans v) true w m) i t
-no_ans_up i (Plus a b c) v w [] t = refl
-no_ans_up i (Minus a b c) v w [] t = refl
-no_ans_up i (Times a b c) v w [] t = refl
+no_ans_up i (Binary o a b c) v w [] t = refl
 no_ans_up i n v w [] t = refl
 no_ans_up i n v w (x ∷ m) t = refl
 
@@ -104,9 +96,7 @@ answers_down i n v w [] t h = solo_stays i (plain_down n w [] t) v h
 answers_down i (Succ a c) v w (x ∷ m) t h = refl
 answers_down i (Pred a c) v w (x ∷ m) t h = refl
 answers_down i (Ifz b y z c) v w (x ∷ m) t h = refl
-answers_down i (Plus a b c) v w (x ∷ m) t h = refl
-answers_down i (Minus a b c) v w (x ∷ m) t h = refl
-answers_down i (Times a b c) v w (x ∷ m) t h = refl
+answers_down i (Binary o a b c) v w (x ∷ m) t h = refl
 answers_down i (Root c) v w (x ∷ m) t h = refl
 answers_down i n v w (x ∷ m) t h = solo_stays i (plain_down n w (x ∷ m) t) v h
 

@@ -3,13 +3,13 @@ use Rattle.std.specs.Prelude.{◌≡◌, ℕ, Bool, true, false, [], ◌∷◌, 
 use Rattle.std.specs.Ordering.{nat_cmp}
 use Rattle.std.specs.FinMap.{FinMap, get}
 use Rattle.pcf_values.specs.declared.operator.Operator.{Operator}
-use Rattle.pcf_values.specs.declared.operator.Operator.TheVariants.{Plus as plus_op, Minus as minus_op, Times as times_op}
+use Rattle.pcf_values.specs.declared.operator.Operator.TheVariants.{Plus, Minus, Times}
 use Rattle.token_stacks.specs.Signatures.{Work, Boxes}
 use Rattle.fork_join.specs.declared.side.Side.TheVariants.{Left, Right}
 use Rattle.fork_join.specs.Arrivals.{side_of}
 use Rattle.net_build.specs.Nets.{NetTree}
 use Rattle.net_build.specs.declared.node.Node.{Node}
-use Rattle.net_build.specs.declared.node.Node.TheVariants.{Plus, Minus, Times, Root}
+use Rattle.net_build.specs.declared.node.Node.TheVariants.{Root}
 use Rattle.move_rules.specs.declared.token.Kind.{Kind}
 use Rattle.move_rules.specs.declared.token.Kind.TheVariants.{Ask, Ans}
 use Rattle.move_rules.specs.Places.{up, TokenTree, place_of, work_at, boxes_at}
@@ -21,9 +21,9 @@ use Rattle.interleave_core.specs.declared.roles.Role.TheVariants.{Fork, Join, La
 
 -- the operator that the code names
 abbrev pub op_of : Operator → Operator
-op_of ThePlus = plus_op
-op_of TheMinus = minus_op
-op_of TheTimes = times_op
+op_of ThePlus = Plus
+op_of TheMinus = Minus
+op_of TheTimes = Times
 
 -- at the node of an operator, with its operands and its conclusion: a question from below forks, and an operand's answer joins
 abbrev pub operand_role : Operator → (a b c : ℕ) → Kind → Bool → ℕ → Role

@@ -7,7 +7,7 @@ use Rattle.pcf_values.specs.Values.{at_zero}
 use Rattle.token_stacks.specs.Signatures.{Work, Boxes}
 use Rattle.net_build.specs.Nets.{NetTree}
 use Rattle.net_build.specs.declared.node.Node.{Node}
-use Rattle.net_build.specs.declared.node.Node.TheVariants.{Const, Succ, Pred, Plus, Minus, Times, Ifz}
+use Rattle.net_build.specs.declared.node.Node.TheVariants.{Const, Succ, Pred, Ifz, Binary}
 use Rattle.net_build.specs.Sides.{node_above, node_below}
 use Rattle.net_build.specs.Sound.{Sound}
 use Rattle.move_rules.specs.Places.{Place, up, down, turned, TokenTree, ask, ans}
@@ -150,9 +150,7 @@ turn_down i n m t w r h = go n (plain_down n w m t) refl h
     go (Succ a c) (Some s) e h = cc
     go (Pred a c) (Some s) e h = cc
     go (Ifz b p q c) (Some s) e h = cc
-    go (Plus a b c) (Some s) e h = cc
-    go (Minus a b c) (Some s) e h = cc
-    go (Times a b c) (Some s) e h = cc
+    go (Binary o a b c) (Some s) e h = cc
     go n (Some s) e h = inr (back s h)
 
 turn_up : (i : ℕ) (n : Node) (w : ℕ) (m : Work) (t : Boxes) (r : Place) → turned_option (plain_up n w m t) ≡ Some r →
@@ -161,9 +159,7 @@ turn_up i (Const v c) w m t r h = cc
 turn_up i (Succ a c) w m t r h = cc
 turn_up i (Pred a c) w m t r h = cc
 turn_up i (Ifz b p q c) w m t r h = cc
-turn_up i (Plus a b c) w m t r h = cc
-turn_up i (Minus a b c) w m t r h = cc
-turn_up i (Times a b c) w m t r h = cc
+turn_up i (Binary o a b c) w m t r h = cc
 turn_up i n w m t r h = go (plain_up n w m t) h
   where
     go : (o : Option Place) → turned_option o ≡ Some r → pass_at i o ≡ pass i (turned r)

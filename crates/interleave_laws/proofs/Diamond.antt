@@ -8,14 +8,13 @@ use Rattle.std.specs.Prelude.{nat_eq, if◌then◌else◌, slice_get}
 use Rattle.pcf_values.specs.declared.val.Val.{Val}
 use Rattle.pcf_values.specs.Values.{val_op}
 use Rattle.pcf_values.specs.declared.operator.Operator.{Operator}
-use Rattle.pcf_values.specs.declared.operator.Operator.TheVariants.{Plus as plus_op, Minus as minus_op, Times as times_op}
 use Rattle.pcf_values.specs.declared.side.Side.{Side}
 use Rattle.pcf_values.specs.declared.side.Side.TheVariants.{Left, Right}
 use Rattle.token_stacks.specs.Signatures.{Work, Boxes}
 use Rattle.fork_join.specs.Entries.{Entry, pending, has_left, has_right, kept_as, same_key}
-use Rattle.net_build.specs.Nets.{NetTree, binary_node}
+use Rattle.net_build.specs.Nets.{NetTree}
 use Rattle.net_build.specs.declared.node.Node.{Node}
-use Rattle.net_build.specs.declared.node.Node.TheVariants.{Succ, Pred, Plus, Minus, Times, Ifz, Root}
+use Rattle.net_build.specs.declared.node.Node.TheVariants.{Succ, Pred, Ifz, Root, Binary}
 use Rattle.net_build.specs.Sides.{node_below}
 use Rattle.net_build.specs.Sound.{Sound}
 use Rattle.move_rules.specs.Places.{Place, up, down, turned, TokenTree, ask, ans}
@@ -264,29 +263,27 @@ ifz_no_join false false false x y z k p q r ex ey ez n op d v w s h = cc
 
 operand_node : (i : ℕ) (op' : Operator) (x y c : ℕ) (u : Val) (a : ℕ) (t : Boxes) (n : ℕ) (op : Operator) (d : Side) (v : Val) (w : ℕ)
     (s : Boxes) → operand_down i op' x y c u a t ≡ join n op d v w s →
-    (x' : ℕ) × (y' : ℕ) × (binary_node op' x y c ≡ binary_node op x' y' w) × (i ≡ n)
+    (x' : ℕ) × (y' : ℕ) × (Binary op' x y c ≡ Binary op x' y' w) × (i ≡ n)
 operand_node i op' x y c u a t n op d v w s h = go (nat_eq x a) (nat_eq y a) h
   where
     same : (e : Side) → join i op' e u c t ≡ join n op d v w s → (x' : ℕ) × (y' : ℕ) ×
-        (binary_node op' x y c ≡ binary_node op x' y' w) × (i ≡ n)
+        (Binary op' x y c ≡ Binary op x' y' w) × (i ≡ n)
     same e h =
         let q : c ≡ w = cc in
         let o : op' ≡ op = cc in
         let r : i ≡ n = cc in
-        (x, y, ap (binary_node op' x y) q ∙ ap (λ o. binary_node o x y w) o, r)
+        (x, y, ap (Binary op' x y) q ∙ ap (λ o. Binary o x y w) o, r)
 
     go : (b e : Bool) → or_stay (cond b (join i op' Left u c t) stay) (cond e (join i op' Right u c t) stay) ≡ join n op d v w
-        s → (x' : ℕ) × (y' : ℕ) × (binary_node op' x y c ≡ binary_node op x' y' w) × (i ≡ n)
+        s → (x' : ℕ) × (y' : ℕ) × (Binary op' x y c ≡ Binary op x' y' w) × (i ≡ n)
     go true e h = same Left h
     go false true h = same Right h
     go false false h = cc
 
 -- a join comes from its node's operand
 join_node : (i : ℕ) (nd : Node) (u : Val) (a : ℕ) (m : Work) (t : Boxes) (n : ℕ) (op : Operator) (d : Side) (v : Val) (w : ℕ)
-    (s : Boxes) → ans_down i nd u a m t ≡ join n op d v w s → (x : ℕ) × (y : ℕ) × (nd ≡ binary_node op x y w) × (i ≡ n)
-join_node i (Plus x y c) u a [] t n op d v w s h = operand_node i plus_op x y c u a t n op d v w s h
-join_node i (Minus x y c) u a [] t n op d v w s h = operand_node i minus_op x y c u a t n op d v w s h
-join_node i (Times x y c) u a [] t n op d v w s h = operand_node i times_op x y c u a t n op d v w s h
+    (s : Boxes) → ans_down i nd u a m t ≡ join n op d v w s → (x : ℕ) × (y : ℕ) × (nd ≡ Binary op x y w) × (i ≡ n)
+join_node i (Binary o x y c) u a [] t n op d v w s h = operand_node i o x y c u a t n op d v w s h
 join_node i (Succ x c) u a [] t n op d v w s h = cc
 join_node i (Pred x c) u a [] t n op d v w s h = cc
 join_node i (Ifz b p q c) u a [] t n op d v w s h =
@@ -309,13 +306,13 @@ ask_no_join (one k f q) p n op d v w s h = cc
 ask_no_join (test k c a b) p n op d v w s h = cc
 ask_no_join (two k o t a b) p n op d v w s h = cc
 
-node_at : (net : NetTree) (i n : ℕ) (nd : Node) (op : Operator) (w : ℕ) → (x : ℕ) × (y : ℕ) × (nd ≡ binary_node op x y w) ×
-    (i ≡ n) → slice_get net.nodes i ≡ Some nd → (a b : ℕ) × (slice_get net.nodes n ≡ Some (binary_node op a b w))
-node_at net i n nd op w (x, y, q, r) h = (x, y, subst (λ n. slice_get net.nodes n ≡ Some (binary_node op x y w)) r (h ∙ ap Some q))
+node_at : (net : NetTree) (i n : ℕ) (nd : Node) (op : Operator) (w : ℕ) → (x : ℕ) × (y : ℕ) × (nd ≡ Binary op x y w) ×
+    (i ≡ n) → slice_get net.nodes i ≡ Some nd → (a b : ℕ) × (slice_get net.nodes n ≡ Some (Binary op a b w))
+node_at net i n nd op w (x, y, q, r) h = (x, y, subst (λ n. slice_get net.nodes n ≡ Some (Binary op x y w)) r (h ∙ ap Some q))
 
 -- a join is at a node of its operation and its conclusion
 join_out : (net : NetTree) → Sound net → (x : TokenTree) (n : ℕ) (op : Operator) (d : Side) (v : Val) (w : ℕ) (s : Boxes) →
-    move net x ≡ join n op d v w s → (a b : ℕ) × (slice_get net.nodes n ≡ Some (binary_node op a b w))
+    move net x ≡ join n op d v w s → (a b : ℕ) × (slice_get net.nodes n ≡ Some (Binary op a b w))
 join_out net sound (ask p) n op d v w s h = absurd (ask_no_join (look net p) p n op d v w s h)
 join_out net sound (ans u (up c m t)) n op d v w s h =
     let (i, nd, e, g) = found_move _ (λ i n. solo_at i (plain_up n c m t) (ans u)) (join n op d v w s) (λ z. cc) h in
@@ -502,8 +499,8 @@ keyed net sound x y E (join n op g v w s) (join m op' g' v' w' t) p q e f e' f' 
         let (k, k') = key_true m t n s o in
         let (a1, a2, st) = join_out net sound x n op g v w s p in
         let (b1, b2, st') = join_out net sound y m op' g' v' w' t q in
-        let same : binary_node op a1 a2 w ≡ binary_node op' b1 b2 w' =
-        let e : Some (binary_node op a1 a2 w) ≡ Some (binary_node op' b1 b2 w') = sym st ∙ ap (slice_get net.nodes) (sym k) ∙
+        let same : Binary op a1 a2 w ≡ Binary op' b1 b2 w' =
+        let e : Some (Binary op a1 a2 w) ≡ Some (Binary op' b1 b2 w') = sym st ∙ ap (slice_get net.nodes) (sym k) ∙
         st' in cc in
         let (y, z) = binary_same op op' a1 a2 w b1 b2 w' same in
         let there : (E : Entries) → joins m op' g' v' w' t (E m t) ≡ joins n op g' v' w s (E n s) =

@@ -9,7 +9,7 @@ use Rattle.fork_join.specs.Entries.{Key}
 use Rattle.net_build.specs.Nets.{NetTree}
 use Rattle.net_build.specs.Sound.{Sound}
 use Rattle.net_build.specs.declared.node.Node.{Node}
-use Rattle.net_build.specs.declared.node.Node.TheVariants.{Succ, Pred, Plus, Minus, Times, Ifz, Root}
+use Rattle.net_build.specs.declared.node.Node.TheVariants.{Succ, Pred, Ifz, Root, Binary}
 use Rattle.net_build.specs.Sides.{node_above, node_below}
 use Rattle.move_rules.specs.Places.{Place, up, down, TokenTree, ask, ans}
 use Rattle.move_rules.specs.Table.{on_found, plain_up, plain_down}
@@ -58,9 +58,7 @@ no_answer i (Pred a c) v w [] t = tt
 no_answer i (Ifz b p q c) v w [] t =
     no_either (if_wire b w (solo i _)) _ (no_wire b w (solo i _) tt)
     (no_operand p q w (solo i (ans v (down c [] t))) (solo i (ans v (down c [] t))) tt tt)
-no_answer i (Plus a b c) v w [] t = no_operand a b w _ _ tt tt
-no_answer i (Minus a b c) v w [] t = no_operand a b w _ _ tt tt
-no_answer i (Times a b c) v w [] t = no_operand a b w _ _ tt tt
+no_answer i (Binary o a b c) v w [] t = no_operand a b w _ _ tt tt
 no_answer i (Root c) v w [] t = tt
 no_answer i n v w m t = no_solo i (plain_down n w m t) v
 

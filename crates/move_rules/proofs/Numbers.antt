@@ -5,7 +5,7 @@ use Rattle.pcf_values.specs.declared.val.Val.{Val}
 use Rattle.pcf_values.specs.declared.operator.Operator.{Operator}
 use Rattle.token_stacks.specs.Signatures.{Work, Boxes}
 use Rattle.net_build.specs.declared.node.Node.{Node}
-use Rattle.net_build.specs.declared.node.Node.TheVariants.{Const, Succ, Pred, Plus, Minus, Times, Ifz, Root}
+use Rattle.net_build.specs.declared.node.Node.TheVariants.{Const, Succ, Pred, Ifz, Root, Binary}
 use Rattle.move_rules.specs.Places.{Place, up, down, TokenTree, ask, ans}
 use Rattle.move_rules.specs.Table.{plain_up, plain_down}
 use Rattle.move_rules.specs.Moves.{Look, dead, constant, pass, one, test, two, pass_at, look_up, look_at, Move, solo, fork, join, answer}
@@ -37,9 +37,7 @@ look_up_is i (Const v c) w [] t = refl
 look_up_is i (Succ a c) w [] t = refl
 look_up_is i (Pred a c) w [] t = refl
 look_up_is i (Ifz b p q c) w [] t = refl
-look_up_is i (Plus a b c) w [] t = refl
-look_up_is i (Minus a b c) w [] t = refl
-look_up_is i (Times a b c) w [] t = refl
+look_up_is i (Binary o a b c) w [] t = refl
 look_up_is i n w m t = pass_is i (plain_up n w m t)
 
 look_is : (i : ℕ) (n : Node) (p : Place) → LookAt i (look_at i n p)
@@ -79,9 +77,7 @@ ans_down_is : (i : ℕ) (n : Node) (v : Val) (w : ℕ) (m : Work) (t : Boxes) �
 ans_down_is i (Succ a c) v w [] t = refl
 ans_down_is i (Pred a c) v w [] t = refl
 ans_down_is i (Ifz b p q c) v w [] t = or_is i _ _ (if_is i b w _ refl) (or_is i _ _ (if_is i p w _ refl) (if_is i q w _ refl))
-ans_down_is i (Plus a b c) v w [] t = operand_is i _ a b c v w t
-ans_down_is i (Minus a b c) v w [] t = operand_is i _ a b c v w t
-ans_down_is i (Times a b c) v w [] t = operand_is i _ a b c v w t
+ans_down_is i (Binary o a b c) v w [] t = operand_is i _ a b c v w t
 ans_down_is i (Root c) v w [] t = tt
 ans_down_is i n v w m t = solo_is i (plain_down n w m t) (ans v)
 

@@ -6,7 +6,7 @@ use Rattle.std.proofs.lemmas.Bool.{eqb-true, eq-eqb, ne_eqb}
 use Rattle.std.specs.Prelude.{nat_eq}
 use Rattle.token_stacks.specs.Signatures.{Sig, star, left_of, right_of, pair_of, again, R, L, S, Work, Boxes}
 use Rattle.net_build.specs.declared.node.Node.{Node}
-use Rattle.net_build.specs.declared.node.Node.TheVariants.{Der, Con, Lam, App, BoxNode, Door, FixBox, Pair, Fst, Snd}
+use Rattle.net_build.specs.declared.node.Node.TheVariants.{Der, Con, Lam, App, BoxNode, Door, FixBox, Pair, Proj}
 use Rattle.net_build.specs.Nets.{NetTree, premises, conclusions}
 use Rattle.net_build.specs.Sides.{node_above, node_below}
 use Rattle.net_build.specs.Sound.{Sound}
@@ -15,6 +15,7 @@ use Rattle.move_rules.specs.Table.{at_wire, or_else, on_found, plain_up, plain_d
 use Rattle.move_rules.specs.Table.{box_down, door_up, door_down, der_back, con_up, con_down, fix_var, fix_out, fix_back, pair_up, fst_down}
 use Rattle.move_rules.specs.Table.{snd_down}
 use Rattle.move_rules.proofs.Faces.{Among, Faced, above_faced, below_faced}
+use Rattle.pcf_values.specs.declared.side.Side.TheVariants.{Left, Right}
 
 -- the rows
 pub data Row : Node → Place → Place → Type 0 where
@@ -33,8 +34,8 @@ pub data Row : Node → Place → Place → Type 0 where
       Row (FixBox b x w) (down x (S s ∷ m) (u ∷ t)) (up b m (again u s ∷ t))
   pair_left : {a b w : ℕ} {m : Work} {t : Boxes} → Row (Pair a b w) (up w (L ∷ m) t) (up a m t)
   pair_right : {a b w : ℕ} {m : Work} {t : Boxes} → Row (Pair a b w) (up w (R ∷ m) t) (up b m t)
-  fst_in : {a w : ℕ} {m : Work} {t : Boxes} → Row (Fst a w) (up w m t) (up a (L ∷ m) t)
-  snd_in : {a w : ℕ} {m : Work} {t : Boxes} → Row (Snd a w) (up w m t) (up a (R ∷ m) t)
+  fst_in : {a w : ℕ} {m : Work} {t : Boxes} → Row (Proj Left a w) (up w m t) (up a (L ∷ m) t)
+  snd_in : {a w : ℕ} {m : Work} {t : Boxes} → Row (Proj Right a w) (up w m t) (up a (R ∷ m) t)
 
 -- a plain move and its way back
 abbrev pub Leads : NetTree → Place → Place → Type 0
@@ -110,9 +111,9 @@ module _ (net : NetTree) where
     by_down (Pair a b w) b m t _ f (inr (inl refl)) (second a b _ _ (λ e. f.apart_down.0 (inl (sym e)))),
   )
   row_leads _ _ _ f (fst_in {a = a} {w = w} {m = m} {t = t}) =
-      (by_up (Fst a w) w m t _ f (inl refl) refl, by_down (Fst a w) a (L ∷ m) t _ f (inl refl) refl)
+      (by_up (Proj Left a w) w m t _ f (inl refl) refl, by_down (Proj Left a w) a (L ∷ m) t _ f (inl refl) refl)
   row_leads _ _ _ f (snd_in {a = a} {w = w} {m = m} {t = t}) =
-      (by_up (Snd a w) w m t _ f (inl refl) refl, by_down (Snd a w) a (R ∷ m) t _ f (inl refl) refl)
+      (by_up (Proj Right a w) w m t _ f (inl refl) refl, by_down (Proj Right a w) a (R ∷ m) t _ f (inl refl) refl)
 
 -- the row itself, or its other way
 abbrev pub Either : Node → Place → Place → Type 0
@@ -193,8 +194,8 @@ up_row (BoxNode i o) w m t q (inl e) h = at_up _ m t q o w e (box_up_row i o m t
 up_row (Door i o) w m t q (inl e) h = at_up _ m t q o w e (door_up_row i o m t q h)
 up_row (FixBox b x c) w m t q (inl e) h = at_up _ m t q c w e (got _ _ _ _ h (inl fix_in))
 up_row (Pair a b c) w m t q (inl e) h = at_up _ m t q c w e (pair_up_row a b c m t q h)
-up_row (Fst a c) w m t q (inl e) h = at_up _ m t q c w e (got _ _ _ _ h (inl fst_in))
-up_row (Snd a c) w m t q (inl e) h = at_up _ m t q c w e (got _ _ _ _ h (inl snd_in))
+up_row (Proj Left a c) w m t q (inl e) h = at_up _ m t q c w e (got _ _ _ _ h (inl fst_in))
+up_row (Proj Right a c) w m t q (inl e) h = at_up _ m t q c w e (got _ _ _ _ h (inl snd_in))
 up_row (Con l r c) w m t q (inr e) h = elim e [ ]
 up_row (Lam b x c) w m t q (inr e) h = elim e [ ]
 up_row (App f a c) w m t q (inr e) h = elim e [ ]
@@ -202,8 +203,7 @@ up_row (BoxNode i o) w m t q (inr e) h = elim e [ ]
 up_row (Door i o) w m t q (inr e) h = elim e [ ]
 up_row (FixBox b x c) w m t q (inr e) h = elim e [ ]
 up_row (Pair a b c) w m t q (inr e) h = elim e [ ]
-up_row (Fst a c) w m t q (inr e) h = elim e [ ]
-up_row (Snd a c) w m t q (inr e) h = elim e [ ]
+up_row (Proj d a c) w m t q (inr e) h = elim e [ ]
 up_row n w m t q a h = cc
 
 con_left_row : (l r c : ℕ) (m : Work) (t : Boxes) (q : Place) → con_down left_of c m t ≡ Some q → Either (Con l r c) (down l m t) q
@@ -252,11 +252,11 @@ fix_var_row : (b x c : ℕ) (m : Work) (t : Boxes) (q : Place) → fix_var b m t
 fix_var_row b x c (S s ∷ m) (u ∷ t) q h = got _ _ _ _ h (inl fix_again)
 fix_var_row b x c _ _ q h = cc
 
-fst_down_row : (a c : ℕ) (m : Work) (t : Boxes) (q : Place) → fst_down c m t ≡ Some q → Either (Fst a c) (down a m t) q
+fst_down_row : (a c : ℕ) (m : Work) (t : Boxes) (q : Place) → fst_down c m t ≡ Some q → Either (Proj Left a c) (down a m t) q
 fst_down_row a c (L ∷ m) t q h = got _ _ _ _ h (inr fst_in)
 fst_down_row a c _ t q h = cc
 
-snd_down_row : (a c : ℕ) (m : Work) (t : Boxes) (q : Place) → snd_down c m t ≡ Some q → Either (Snd a c) (down a m t) q
+snd_down_row : (a c : ℕ) (m : Work) (t : Boxes) (q : Place) → snd_down c m t ≡ Some q → Either (Proj Right a c) (down a m t) q
 snd_down_row a c (R ∷ m) t q h = got _ _ _ _ h (inr snd_in)
 snd_down_row a c _ t q h = cc
 
@@ -282,10 +282,9 @@ down_row (FixBox b x c) w m t q a h =
 down_row (Pair a b c) w m t q z h =
     ⊎_elim (λ (e, g). at_down _ m t q a w e (got _ _ _ _ g (inr pair_left)))
     (λ (e, g). at_down _ m t q b w e (got _ _ _ _ g (inr pair_right))) (two a b w _ _ q h)
-down_row (Fst a c) w m t q (inl e) h = at_down _ m t q a w e (fst_down_row a c m t q h)
-down_row (Snd a c) w m t q (inl e) h = at_down _ m t q a w e (snd_down_row a c m t q h)
-down_row (Fst a c) w m t q (inr e) h = elim e [ ]
-down_row (Snd a c) w m t q (inr e) h = elim e [ ]
+down_row (Proj Left a c) w m t q (inl e) h = at_down _ m t q a w e (fst_down_row a c m t q h)
+down_row (Proj Right a c) w m t q (inl e) h = at_down _ m t q a w e (snd_down_row a c m t q h)
+down_row (Proj d a c) w m t q (inr e) h = elim e [ ]
 down_row (BoxNode i o) w m t q (inl e) h = at_down _ m t q i w e (box_down_row i o m t q h)
 down_row (Door i o) w m t q (inl e) h = at_down _ m t q i w e (door_down_row i o m t q h)
 down_row (BoxNode i o) w m t q (inr e) h = elim e [ ]

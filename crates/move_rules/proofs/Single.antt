@@ -17,6 +17,7 @@ use Rattle.move_rules.specs.Views.{place_at, of_kind, token_of, numbered}
 use Rattle.move_rules.specs.Walks.{faces, on_solo, through, SoloMove, SoloStep}
 use Rattle.move_rules.specs.Steps.{Passes, IsPlain, node_of}
 use Rattle.move_rules.proofs.Facing.{Met, met, move_faced}
+use Rattle.net_build.specs.declared.node.Node.TheVariants.{Binary, Proj}
 
 -- where a token stands, whatever its kind
 pub placed : (k : Kind) (p : Place) → place_of (of_kind k p) ≡ p
@@ -103,14 +104,11 @@ asks_up i (node.BoxNode b o) w m t h = asks_alone i (plain_up (node.BoxNode b o)
 asks_up i (node.Door b o) w m t h = asks_alone i (plain_up (node.Door b o) w m t) (up w m t)
 asks_up i (node.FixBox b x c) w m t h = asks_alone i (plain_up (node.FixBox b x c) w m t) (up w m t)
 asks_up i (node.Pair a b c) w m t h = asks_alone i (plain_up (node.Pair a b c) w m t) (up w m t)
-asks_up i (node.Fst a c) w m t h = asks_alone i (plain_up (node.Fst a c) w m t) (up w m t)
-asks_up i (node.Snd a c) w m t h = asks_alone i (plain_up (node.Snd a c) w m t) (up w m t)
+asks_up i (Proj d a c) w m t h = asks_alone i (plain_up (Proj d a c) w m t) (up w m t)
 asks_up i (node.Const n c) w m t h = absurd h
 asks_up i (node.Succ a c) w m t h = absurd h
 asks_up i (node.Pred a c) w m t h = absurd h
-asks_up i (node.Plus a b c) w m t h = absurd h
-asks_up i (node.Minus a b c) w m t h = absurd h
-asks_up i (node.Times a b c) w m t h = absurd h
+asks_up i (Binary o a b c) w m t h = absurd h
 asks_up i (node.Ifz b p q c) w m t h = absurd h
 asks_up i (node.Weak x) w m t h = absurd h
 asks_up i (node.Root c) w m t h = absurd h
@@ -125,14 +123,11 @@ answers_down i (node.BoxNode b o) v w m t h = answers_alone i (plain_down (node.
 answers_down i (node.Door b o) v w m t h = answers_alone i (plain_down (node.Door b o) w m t) (ans v)
 answers_down i (node.FixBox b x c) v w m t h = answers_alone i (plain_down (node.FixBox b x c) w m t) (ans v)
 answers_down i (node.Pair a b c) v w m t h = answers_alone i (plain_down (node.Pair a b c) w m t) (ans v)
-answers_down i (node.Fst a c) v w m t h = answers_alone i (plain_down (node.Fst a c) w m t) (ans v)
-answers_down i (node.Snd a c) v w m t h = answers_alone i (plain_down (node.Snd a c) w m t) (ans v)
+answers_down i (Proj d a c) v w m t h = answers_alone i (plain_down (Proj d a c) w m t) (ans v)
 answers_down i (node.Const n c) v w m t h = absurd h
 answers_down i (node.Succ a c) v w m t h = absurd h
 answers_down i (node.Pred a c) v w m t h = absurd h
-answers_down i (node.Plus a b c) v w m t h = absurd h
-answers_down i (node.Minus a b c) v w m t h = absurd h
-answers_down i (node.Times a b c) v w m t h = absurd h
+answers_down i (Binary o a b c) v w m t h = absurd h
 answers_down i (node.Ifz b p q c) v w m t h = absurd h
 answers_down i (node.Weak x) v w m t h = absurd h
 answers_down i (node.Root c) v w m t h = absurd h

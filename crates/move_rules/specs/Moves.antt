@@ -9,12 +9,11 @@ use Rattle.pcf_values.specs.declared.val.Val.{Val}
 use Rattle.pcf_values.specs.declared.val.Val.TheVariants.{Number}
 use Rattle.pcf_values.specs.Values.{val_succ, val_pred, at_zero}
 use Rattle.pcf_values.specs.declared.operator.Operator.{Operator}
-use Rattle.pcf_values.specs.declared.operator.Operator.TheVariants.{Plus as plus_op, Minus as minus_op, Times as times_op}
 use Rattle.pcf_values.specs.declared.side.Side.{Side}
 use Rattle.pcf_values.specs.declared.side.Side.TheVariants.{Left, Right}
 use Rattle.token_stacks.specs.Signatures.{Work, Boxes}
 use Rattle.net_build.specs.declared.node.Node.{Node}
-use Rattle.net_build.specs.declared.node.Node.TheVariants.{Const, Succ, Pred, Plus, Minus, Times, Ifz, Root}
+use Rattle.net_build.specs.declared.node.Node.TheVariants.{Const, Succ, Pred, Ifz, Root, Binary}
 use Rattle.net_build.specs.Nets.{NetTree}
 use Rattle.net_build.specs.Sides.{node_above, node_below}
 use Rattle.move_rules.specs.Places.{Place, up, down, turned, TokenTree, ask, ans}
@@ -40,9 +39,7 @@ look_up i (Const v c) w [] t = constant i v
 look_up i (Succ a c) w [] t = one i val_succ (up a [] t)
 look_up i (Pred a c) w [] t = one i val_pred (up a [] t)
 look_up i (Ifz b p q c) w [] t = test i (up b [] t) (up p [] t) (up q [] t)
-look_up i (Plus a b c) w [] t = two i plus_op t (up a [] t) (up b [] t)
-look_up i (Minus a b c) w [] t = two i minus_op t (up a [] t) (up b [] t)
-look_up i (Times a b c) w [] t = two i times_op t (up a [] t) (up b [] t)
+look_up i (Binary o a b c) w [] t = two i o t (up a [] t) (up b [] t)
 look_up i n w m t = pass_at i (plain_up n w m t)
 
 -- what a question meets at node n, whose number is i, if it faces that node
@@ -99,9 +96,7 @@ ans_down i (Pred a c) v w [] t = solo i (ans (val_pred v) (down c [] t))
 ans_down i (Ifz b p q c) v w [] t =
     or_stay (if_wire b w (solo i (ask (up (at_zero v p q) [] t))))
     (or_stay (if_wire p w (solo i (ans v (down c [] t)))) (if_wire q w (solo i (ans v (down c [] t)))))
-ans_down i (Plus a b c) v w [] t = operand_down i plus_op a b c v w t
-ans_down i (Minus a b c) v w [] t = operand_down i minus_op a b c v w t
-ans_down i (Times a b c) v w [] t = operand_down i times_op a b c v w t
+ans_down i (Binary o a b c) v w [] t = operand_down i o a b c v w t
 ans_down i (Root c) v w [] t = answer v
 ans_down i n v w m t = solo_at i (plain_down n w m t) (ans v)
 

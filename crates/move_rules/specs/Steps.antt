@@ -2,7 +2,7 @@
 use Rattle.std.specs.Prelude.{◌≡◌, ℕ, Bool, Option, Some, None}
 use Rattle.std.specs.Bool.{MatchBool}
 use Rattle.net_build.specs.declared.node.Node.{Node}
-use Rattle.net_build.specs.declared.node.Node.TheVariants.{Der, Con, Lam, App, BoxNode, Door, FixBox, Pair, Fst, Snd}
+use Rattle.net_build.specs.declared.node.Node.TheVariants.{Der, Con, Lam, App, BoxNode, Door, FixBox, Pair, Proj}
 use Rattle.move_rules.specs.declared.token.Token.{Token}
 use Rattle.move_rules.specs.Places.{Place}
 use Rattle.move_rules.specs.Moves.{solo, move_at, NotSolo}
@@ -29,8 +29,7 @@ IsPlain (BoxNode i o) = Unit {0}
 IsPlain (Door i o) = Unit {0}
 IsPlain (FixBox b x w) = Unit {0}
 IsPlain (Pair a b w) = Unit {0}
-IsPlain (Fst a w) = Unit {0}
-IsPlain (Snd a w) = Unit {0}
+IsPlain (Proj d a w) = Unit {0}
 IsPlain _ = ⊥
 
 -- the node that was found, without its number

@@ -13,10 +13,11 @@
 use Rattle.std.specs.Prelude.{ℕ, [], ◌∷◌, Option, Some, None, nat_eq, if◌then◌else◌}
 use Rattle.token_stacks.specs.Signatures.{Sig, star, left_of, right_of, pair_of, again, R, L, S, Work, Boxes}
 use Rattle.net_build.specs.declared.node.Node.{Node}
-use Rattle.net_build.specs.declared.node.Node.TheVariants.{Der, Con, Lam, App, BoxNode, Door, FixBox, Pair, Fst, Snd}
+use Rattle.net_build.specs.declared.node.Node.TheVariants.{Der, Con, Lam, App, BoxNode, Door, FixBox, Pair, Proj}
 use Rattle.net_build.specs.Nets.{NetTree}
 use Rattle.net_build.specs.Sides.{node_above, node_below}
 use Rattle.move_rules.specs.Places.{Place, up, down}
+use Rattle.pcf_values.specs.declared.side.Side.TheVariants.{Left, Right}
 
 -- the first of two that is there
 abbrev pub or_else : {A : Type 0} → Option A → Option A → Option A
@@ -134,8 +135,8 @@ plain_up (BoxNode i o) w m t = box_up i m t
 plain_up (Door i o) w m t = door_up i m t
 plain_up (FixBox b x c) w m t = Some (up b m (star ∷ t))
 plain_up (Pair a b c) w m t = pair_up a b m t
-plain_up (Fst a c) w m t = Some (up a (L ∷ m) t)
-plain_up (Snd a c) w m t = Some (up a (R ∷ m) t)
+plain_up (Proj Left a c) w m t = Some (up a (L ∷ m) t)
+plain_up (Proj Right a c) w m t = Some (up a (R ∷ m) t)
 plain_up _ w m t = None
 
 -- the rules at a node, for a token that comes down its premise w
@@ -148,8 +149,8 @@ plain_down (Door i o) w m t = door_down o m t
 plain_down (FixBox b x c) w m t =
     or_else (at_wire b w (fix_out c m t)) (or_else (at_wire x w (fix_var b m t)) (at_wire b w (fix_back x m t)))
 plain_down (Pair a b c) w m t = or_else (at_wire a w (Some (down c (L ∷ m) t))) (at_wire b w (Some (down c (R ∷ m) t)))
-plain_down (Fst a c) w m t = fst_down c m t
-plain_down (Snd a c) w m t = snd_down c m t
+plain_down (Proj Left a c) w m t = fst_down c m t
+plain_down (Proj Right a c) w m t = snd_down c m t
 plain_down _ w m t = None
 
 -- the rules at a node, for a token that faces it

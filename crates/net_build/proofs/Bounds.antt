@@ -5,8 +5,8 @@ use Rattle.std.proofs.Math.Nat.{mul-le-mul_left, add-mul, mul-add, suc-mul, le-m
 use Rattle.pcf_values.specs.Terms.{TyTree, nat, arrow, product, TermTree, num, var, succ_of, pred_of, binary, ifz, lam, fix, app, pair}
 use Rattle.pcf_values.specs.Terms.{proj, size, height}
 use Rattle.net_build.specs.declared.node.Node.{Node}
-use Rattle.net_build.specs.declared.node.Node.TheVariants.{Succ, Pred, Ifz, Lam, App, BoxNode, FixBox, Root, Pair}
-use Rattle.net_build.specs.Nets.{binary_node, proj_node, value_wire, bang_wire}
+use Rattle.net_build.specs.declared.node.Node.TheVariants.{Succ, Pred, Ifz, Lam, App, BoxNode, FixBox, Root, Pair, Binary, Proj}
+use Rattle.net_build.specs.Nets.{value_wire, bang_wire}
 use Rattle.net_build.specs.NetOf.{Part, contract, doors, bound, bound_wire, none_free, one_free, part, domain, codomain, side_type}
 use Rattle.net_build.specs.NetOf.{unary_part, double_part, ifz_part, lam_part, fix_part, app_part, net_of}
 
@@ -291,7 +291,7 @@ part_fits (succ_of m) n d g = unary_fits Succ nat n d (part n d g m) (size m) (h
 part_fits (pred_of m) n d g = unary_fits Pred nat n d (part n d g m) (size m) (height m) (part_fits m n d g)
 part_fits (binary o m l) n d g =
     let p = part n d g m in
-    double_fits (binary_node o) nat n d g p (part (n + length p.wires) d g l) (size m) (size l) (height m) (height l) (part_fits m n d g)
+    double_fits (Binary o) nat n d g p (part (n + length p.wires) d g l) (size m) (size l) (height m) (height l) (part_fits m n d g)
     (part_fits l (n + length p.wires) d g)
 part_fits (ifz i m l) n d g =
     let x = part n d g i in
@@ -311,7 +311,7 @@ part_fits (pair m l) n d g =
     double_fits Pair (product p.type q.type) n d g p q (size m) (size l) (height m) (height l) (part_fits m n d g)
     (part_fits l (n + length p.wires) d g)
 part_fits (proj s m) n d g = let p =
-    part n d g m in unary_fits (proj_node s) (side_type s p.type) n d p (size m) (height m) (part_fits m n d g)
+    part n d g m in unary_fits (Proj s) (side_type s p.type) n d p (size m) (height m) (part_fits m n d g)
 
 -- a term has a node
 some_size : (m : TermTree) → 1 ≤ size m

@@ -4,16 +4,15 @@ use Rattle.std.proofs.Common.{None, refl, sym, ap, ◌∙◌, subst, ⊎_elim, i
 use Rattle.std.proofs.lemmas.Bool.{cases_eq, eq-eqb, ne_eqb}
 use Rattle.std.specs.Prelude.{slice_get}
 use Rattle.pcf_values.specs.declared.operator.Operator.{Operator}
-use Rattle.pcf_values.specs.declared.operator.Operator.TheVariants.{Plus, Minus, Times}
 use Rattle.pcf_values.specs.Terms.{at_side, TyTree, nat, arrow, product, TermTree, num, var, succ_of, pred_of}
 use Rattle.pcf_values.specs.declared.side.Side.{Side}
 use Rattle.pcf_values.specs.declared.side.Side.TheVariants.{Left, Right}
 use Rattle.pcf_values.specs.Terms.{binary, ifz, lam, fix, app, pair, proj}
 use Rattle.pcf_values.specs.Typing.{HasType}
 use Rattle.net_build.specs.declared.node.Node.{Node}
-use Rattle.net_build.specs.declared.node.Node.TheVariants.{Const, Succ, Pred, Ifz, Der, Con, Weak, Lam, App, BoxNode, Door, FixBox, Root}
+use Rattle.net_build.specs.declared.node.Node.TheVariants.{Const, Succ, Pred, Ifz, Der, Con, Weak, Lam, App, BoxNode, Door, FixBox, Root, Binary, Proj}
 use Rattle.net_build.specs.declared.node.Node.TheVariants.{Pair}
-use Rattle.net_build.specs.Nets.{NetTree, binary_node, proj_node, premises, conclusions, WireTree, value_wire, var_wire, bang_wire}
+use Rattle.net_build.specs.Nets.{NetTree, premises, conclusions, WireTree, value_wire, var_wire, bang_wire}
 use Rattle.net_build.specs.NetOf.{Part, contract, doors, bound, bound_wire, none_free, one_free, part, type_or_nat, net_of, domain}
 use Rattle.net_build.specs.NetOf.{codomain, side_type, unary_part, double_part, ifz_part, lam_part, fix_part, app_part}
 use Rattle.net_build.specs.Sound.{roots, Is, Meets, In, Sound}
@@ -159,13 +158,11 @@ module _ (net : NetTree) where
 
   -- an operator's node meets its row, and so does one that takes a part of a pair
   binary_meets : (o : Operator) (d a b w : ℕ) → Is net a (value_wire d nat) → Is net b (value_wire d nat) → Is net w (value_wire d nat)
-      → Meets net (binary_node o a b w)
-  binary_meets Plus d a b w h i j = (d, h, i, j)
-  binary_meets Minus d a b w h i j = (d, h, i, j)
-  binary_meets Times d a b w h i j = (d, h, i, j)
+      → Meets net (Binary o a b w)
+  binary_meets o d a b w h i j = (d, h, i, j)
 
   proj_meets : (s : Side) (d a w : ℕ) (t u : TyTree) → Is net a (value_wire d (product t u)) → Is net w (value_wire d (at_side s t u))
-      → Meets net (proj_node s a w)
+      → Meets net (Proj s a w)
   proj_meets Left d a w t u h i = (d, t, u, h, i)
   proj_meets Right d a w t u h i = (d, t, u, h, i)
 
@@ -309,9 +306,9 @@ module _ (net : NetTree) where
   fine (binary o m l) n d g a h w =
       let p = part n d g m in
       let q = part (n + length p.wires) d g l in
-      let (wp, wq) = double_has (binary_node o) nat n d g p q w in
+      let (wp, wq) = double_has (Binary o) nat n d g p q w in
       fine_at d g a nat _ h.2
-      (double_fine (binary_node o) nat nat nat n d g p q (λ w i j k. binary_meets o d p.out q.out w i j k) (fine m n d g nat h.0 wp)
+      (double_fine (Binary o) nat nat nat n d g p q (λ w i j k. binary_meets o d p.out q.out w i j k) (fine m n d g nat h.0 wp)
       (fine l (n + length p.wires) d g nat h.1 wq) w)
   fine (ifz i m l) n d g a h w =
       let x = part n d g i in
@@ -344,10 +341,10 @@ module _ (net : NetTree) where
       (λ w i j k. (d, h.0, h.1, i, j, subst (λ t. Is net w (value_wire d t)) e k)) x y w)
   fine (proj s m) n d g a h w =
       let p = part n d g m in
-      let x = fine m n d g (product h.0 h.1) h.2 (unary_has (proj_node s) (side_type s p.type) n d p w) in
+      let x = fine m n d g (product h.0 h.1) h.2 (unary_has (Proj s) (side_type s p.type) n d p w) in
       let e : side_type s p.type ≡ at_side s h.0 h.1 = ap (side_type s) x.type in
       fine_at d g a (side_type s p.type) _ (h.3 ∙ sym e)
-      (unary_fine (proj_node s) (side_type s p.type) (product h.0 h.1) n d g p
+      (unary_fine (Proj s) (side_type s p.type) (product h.0 h.1) n d g p
       (λ w i j. proj_meets s d p.out w h.0 h.1 i (subst (λ t. Is net w (value_wire d t)) e j)) x w)
 
 -- the roots of two lists of nodes
@@ -389,12 +386,10 @@ double_roots node t n d g p q e h i =
     both_none p.nodes _ h
     (both_none q.nodes _ i (both_none c.nodes _ (contract_roots o d g p.free q.free) (e p.out q.out (o + length c.wires))))
 
-binary_root : (o : Operator) (a b w : ℕ) → roots (binary_node o a b w ∷ []) ≡ 0
-binary_root Plus a b w = refl
-binary_root Minus a b w = refl
-binary_root Times a b w = refl
+binary_root : (o : Operator) (a b w : ℕ) → roots (Binary o a b w ∷ []) ≡ 0
+binary_root o a b w = refl
 
-proj_root : (s : Side) (a w : ℕ) → roots (proj_node s a w ∷ []) ≡ 0
+proj_root : (s : Side) (a w : ℕ) → roots (Proj s a w ∷ []) ≡ 0
 proj_root Left a w = refl
 proj_root Right a w = refl
 
@@ -441,7 +436,7 @@ part_roots (succ_of m) n d g = both_none (part n d g m).nodes _ (part_roots m n 
 part_roots (pred_of m) n d g = both_none (part n d g m).nodes _ (part_roots m n d g) refl
 part_roots (binary o m l) n d g =
     let p = part n d g m in
-    double_roots (binary_node o) nat n d g p (part (n + length p.wires) d g l) (binary_root o) (part_roots m n d g)
+    double_roots (Binary o) nat n d g p (part (n + length p.wires) d g l) (binary_root o) (part_roots m n d g)
     (part_roots l (n + length p.wires) d g)
 part_roots (ifz i m l) n d g =
     let x = part n d g i in

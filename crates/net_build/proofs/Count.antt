@@ -3,15 +3,14 @@ use Rattle.std.proofs.Common.{◌≡◌, ℕ, zero, suc, ◌+◌, List, [], ◌�
 use Rattle.std.specs.Prelude.{nat_eq, if◌then◌else◌}
 use Rattle.std.specs.Prelude.{slice_get}
 use Rattle.pcf_values.specs.declared.operator.Operator.{Operator}
-use Rattle.pcf_values.specs.declared.operator.Operator.TheVariants.{Plus, Minus, Times}
 use Rattle.pcf_values.specs.Terms.{TyTree, nat, arrow, product, TermTree, num, var, succ_of, pred_of, binary}
 use Rattle.pcf_values.specs.declared.side.Side.{Side}
 use Rattle.pcf_values.specs.declared.side.Side.TheVariants.{Left, Right}
 use Rattle.pcf_values.specs.Terms.{ifz, lam, fix, app, pair, proj}
 use Rattle.pcf_values.specs.Typing.{HasType}
 use Rattle.net_build.specs.declared.node.Node.{Node}
-use Rattle.net_build.specs.declared.node.Node.TheVariants.{Succ, Pred, Ifz, Lam, App, BoxNode, FixBox, Pair}
-use Rattle.net_build.specs.Nets.{binary_node, proj_node, premises, conclusions, WireTree, value_wire, bang_wire}
+use Rattle.net_build.specs.declared.node.Node.TheVariants.{Succ, Pred, Ifz, Lam, App, BoxNode, FixBox, Pair, Binary, Proj}
+use Rattle.net_build.specs.Nets.{premises, conclusions, WireTree, value_wire, bang_wire}
 use Rattle.net_build.specs.NetOf.{Part, contract, doors, bound, bound_wire, none_free, one_free, part, domain, codomain, side_type}
 use Rattle.net_build.specs.NetOf.{unary_part, double_part, ifz_part, lam_part, fix_part, app_part}
 use Rattle.net_build.specs.Sound.{how_often, named}
@@ -276,12 +275,10 @@ app_counted n d g p q ap aq hp hq =
     (λ w. omega arith)
 
 -- the wires of an operator's node, and of one that takes a part of a pair
-binary_ends : (o : Operator) (a b w : ℕ) → (conclusions (binary_node o a b w) ≡ w ∷ []) × (premises (binary_node o a b w) ≡ a ∷ b ∷ [])
-binary_ends Plus a b w = (refl, refl)
-binary_ends Minus a b w = (refl, refl)
-binary_ends Times a b w = (refl, refl)
+binary_ends : (o : Operator) (a b w : ℕ) → (conclusions (Binary o a b w) ≡ w ∷ []) × (premises (Binary o a b w) ≡ a ∷ b ∷ [])
+binary_ends o a b w = (refl, refl)
 
-proj_ends : (s : Side) (a w : ℕ) → (conclusions (proj_node s a w) ≡ w ∷ []) × (premises (proj_node s a w) ≡ a ∷ [])
+proj_ends : (s : Side) (a w : ℕ) → (conclusions (Proj s a w) ≡ w ∷ []) × (premises (Proj s a w) ≡ a ∷ [])
 proj_ends Left a w = (refl, refl)
 proj_ends Right a w = (refl, refl)
 
@@ -294,7 +291,7 @@ counted (pred_of m) n d g a h = unary_counted Pred nat n d (part n d g m) (λ a 
 counted (binary o m l) n d g a h =
     let p = part n d g m in
     let q = part (n + length p.wires) d g l in
-    double_counted (binary_node o) nat n d g p q (binary_ends o) (aligned m n d g) (aligned l _ d g) (counted m n d g nat h.0)
+    double_counted (Binary o) nat n d g p q (binary_ends o) (aligned m n d g) (aligned l _ d g) (counted m n d g nat h.0)
     (counted l (n + length p.wires) d g nat h.1)
 counted (ifz i m l) n d g a h =
     let x = part n d g i in
@@ -316,4 +313,4 @@ counted (pair m l) n d g a h =
     (counted m n d g h.0 h.2) (counted l (n + length p.wires) d g h.1 h.3)
 counted (proj s m) n d g a h =
     let p = part n d g m in
-    unary_counted (proj_node s) (side_type s p.type) n d p (proj_ends s) (counted m n d g (product h.0 h.1) h.2)
+    unary_counted (Proj s) (side_type s p.type) n d p (proj_ends s) (counted m n d g (product h.0 h.1) h.2)

@@ -22,3 +22,5 @@ mod Joining
 mod Ending
 -- A term whose parts are placed one after another is placed as the definition says.
 mod Placing
+-- another number at a node leaves its wires, and so both indexes
+pub mod Renumbering

@@ -9,7 +9,7 @@ use Rattle.pcf_values.specs.declared.side.Side.TheVariants.{Left, Right}
 use Rattle.pcf_values.specs.Views.{ty_of}
 use Rattle.net_build.specs.declared.node.Node.{Node}
 use Rattle.net_build.specs.declared.node.Node.TheVariants as node
-use Rattle.net_build.specs.declared.node.Node.TheVariants.{Con}
+use Rattle.net_build.specs.declared.node.Node.TheVariants.{Con, Binary, Proj}
 use Rattle.net_build.specs.declared.parts.Parts.{Parts}
 use Rattle.net_build.specs.declared.parts.Loose.{Loose}
 use Rattle.net_build.specs.declared.parts.Placed.{Placed}
@@ -132,14 +132,12 @@ frees s r = spread (length s.context.items) (reverse r.free.items)
 abbrev pub unary_node : Unary → ℕ → ℕ → Node
 unary_node unary.Succ = node.Succ
 unary_node unary.Pred = node.Pred
-unary_node unary.Fst = node.Fst
-unary_node unary.Snd = node.Snd
+unary_node (unary.Proj d) = Proj d
 
 abbrev pub unary_type : Unary → TyTree → TyTree
 unary_type unary.Succ t = nat
 unary_type unary.Pred t = nat
-unary_type unary.Fst t = side_type Left t
-unary_type unary.Snd t = side_type Right t
+unary_type (unary.Proj d) t = side_type d t
 
 -- the part of a form with one operand, built from here
 abbrev pub unary_at : Unary → Parts → ℕ → Part → Part
@@ -153,15 +151,11 @@ pub record Finishes (old new : Parts) (d : ℕ) (t : TyTree) (n : Node) (loose :
 
 -- the node and the type of a form with two operands
 abbrev pub double_node : Double → ℕ → ℕ → ℕ → Node
-double_node double.Plus a b w = node.Plus a b w
-double_node double.Minus a b w = node.Minus a b w
-double_node double.Times a b w = node.Times a b w
+double_node (double.Binary o) a b w = Binary o a b w
 double_node double.Pair a b w = node.Pair a b w
 
 abbrev pub double_type : Double → TyTree → TyTree → TyTree
-double_type double.Plus t u = nat
-double_type double.Minus t u = nat
-double_type double.Times t u = nat
+double_type (double.Binary o) t u = nat
 double_type double.Pair t u = product t u
 
 -- the ends of the forms, built from here of what was placed

@@ -7,6 +7,8 @@ pub mod Sound
 pub mod Laws
 pub mod Example
 pub mod Views
+-- a net with another number at a node
+pub mod Numbers
 -- How the logic stores nets, so that models can have them. It says nothing of them.
 pub mod Codes
 -- What private contracts and proofs use alone: the index that a net keeps, and the builder's state.

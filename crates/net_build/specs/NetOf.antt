@@ -12,9 +12,9 @@ use Rattle.pcf_values.specs.Terms.{at_side, TyTree, nat, arrow, product, TermTre
 use Rattle.pcf_values.specs.declared.side.Side.{Side}
 use Rattle.pcf_values.specs.Terms.{app, pair, proj}
 use Rattle.net_build.specs.declared.node.Node.{Node}
-use Rattle.net_build.specs.declared.node.Node.TheVariants.{Const, Succ, Pred, Ifz, Der, Con, Weak, Lam, App, BoxNode, Door, FixBox, Root}
+use Rattle.net_build.specs.declared.node.Node.TheVariants.{Const, Succ, Pred, Ifz, Der, Con, Weak, Lam, App, BoxNode, Door, FixBox, Root, Binary, Proj}
 use Rattle.net_build.specs.declared.node.Node.TheVariants.{Pair}
-use Rattle.net_build.specs.Nets.{WireTree, NetTree, value_wire, bang_wire, var_wire, binary_node, proj_node}
+use Rattle.net_build.specs.Nets.{WireTree, NetTree, value_wire, bang_wire, var_wire}
 
 -- new wires and nodes, and for each index of the context its variable wire, where it has one
 pub record Bundle : Type 0 where
@@ -202,7 +202,7 @@ part n d g (var i) =
     record { wires = value_wire d t ∷ var_wire d t ∷ []; nodes = Der n (suc n) ∷ []; out = n; type = t; free = one_free g i (suc n) }
 part n d g (succ_of a) = unary_part Succ nat n d (part n d g a)
 part n d g (pred_of a) = unary_part Pred nat n d (part n d g a)
-part n d g (binary o a b) = let p = part n d g a in double_part (binary_node o) nat n d g p (part (n + length p.wires) d g b)
+part n d g (binary o a b) = let p = part n d g a in double_part (Binary o) nat n d g p (part (n + length p.wires) d g b)
 part n d g (ifz c p q) =
     let x = part n d g c in
     let y = part (n + length x.wires) d g p in
@@ -214,7 +214,7 @@ part n d g (pair a b) =
     let p = part n d g a in
     let q = part (n + length p.wires) d g b in
     double_part Pair (product p.type q.type) n d g p q
-part n d g (proj s a) = let p = part n d g a in unary_part (proj_node s) (side_type s p.type) n d p
+part n d g (proj s a) = let p = part n d g a in unary_part (Proj s) (side_type s p.type) n d p
 
 -- the net of a closed term: its part at depth 0, and a Root on its value wire
 abbrev pub net_of : TermTree → NetTree

@@ -4,9 +4,10 @@
 use Rattle.std.specs.Prelude.{◌≡◌, ◌⊎◌, ℕ, suc, ◌+◌, ◌<◌, ◌≤◌, List, [], ◌∷◌, length, Some, nat_eq, if◌then◌else◌, slice_get}
 use Rattle.pcf_values.specs.Terms.{TyTree, nat, arrow, product}
 use Rattle.net_build.specs.declared.node.Node.{Node}
-use Rattle.net_build.specs.declared.node.Node.TheVariants.{Const, Succ, Pred, Plus, Minus, Times, Ifz, Der, Con, Weak, Lam, App, BoxNode}
-use Rattle.net_build.specs.declared.node.Node.TheVariants.{Door, FixBox, Root, Pair, Fst, Snd}
+use Rattle.net_build.specs.declared.node.Node.TheVariants.{Const, Succ, Pred, Ifz, Der, Con, Weak, Lam, App, BoxNode, Binary, Proj}
+use Rattle.net_build.specs.declared.node.Node.TheVariants.{Door, FixBox, Root, Pair}
 use Rattle.net_build.specs.Nets.{WireTree, value_wire, bang_wire, var_wire, NetTree, premises, conclusions}
+use Rattle.pcf_values.specs.declared.side.Side.TheVariants.{Left, Right}
 
 -- how often a number stands in a list
 abbrev pub how_often : ℕ → List ℕ → ℕ
@@ -39,9 +40,7 @@ Meets net (Succ operand wire) =
     (d : ℕ) × Is net operand (value_wire d nat) × Is net wire (value_wire d nat)
 Meets net (Pred operand wire) =
     (d : ℕ) × Is net operand (value_wire d nat) × Is net wire (value_wire d nat)
-Meets net (Plus left right wire) = Numbers net left right wire
-Meets net (Minus left right wire) = Numbers net left right wire
-Meets net (Times left right wire) = Numbers net left right wire
+Meets net (Binary operator left right wire) = Numbers net left right wire
 Meets net (Ifz condition at_zero otherwise wire) =
     (d : ℕ) × Is net condition (value_wire d nat) × Is net at_zero (value_wire d nat) × Is net otherwise (value_wire d nat) ×
     Is net wire (value_wire d nat)
@@ -67,9 +66,9 @@ Meets net (Root wire) = Is net wire (value_wire 0 nat)
 Meets net (Pair left right wire) =
     (d : ℕ) × (s : TyTree) × (t : TyTree) × Is net left (value_wire d s) × Is net right (value_wire d t) ×
     Is net wire (value_wire d (product s t))
-Meets net (Fst operand wire) =
+Meets net (Proj Left operand wire) =
     (d : ℕ) × (s : TyTree) × (t : TyTree) × Is net operand (value_wire d (product s t)) × Is net wire (value_wire d s)
-Meets net (Snd operand wire) =
+Meets net (Proj Right operand wire) =
     (d : ℕ) × (s : TyTree) × (t : TyTree) × Is net operand (value_wire d (product s t)) × Is net wire (value_wire d t)
 
 -- the node is one of the list

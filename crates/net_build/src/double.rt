@@ -5,14 +5,12 @@ ghost use Rattle.pcf_values.specs.Views.{ty_of};
 ghost use Rattle.net_build.specs.Building.{double_node, double_type};
 
 use crate::Node;
-use pcf_values::Ty;
+use pcf_values::{Operator, Ty};
 use std::alloc::{AllocError, Global};
 
 #[derive(Clone, Copy)]
 pub(crate) enum Double {
-    Plus,
-    Minus,
-    Times,
+    Binary(Operator),
     Pair,
 }
 
@@ -22,9 +20,12 @@ impl Double {
         ensures { result ≡ double_node self left right wire }
     {
         match self {
-            Double::Plus => Node::Plus { left, right, wire },
-            Double::Minus => Node::Minus { left, right, wire },
-            Double::Times => Node::Times { left, right, wire },
+            Double::Binary(operator) => Node::Binary {
+                operator,
+                left,
+                right,
+                wire,
+            },
             Double::Pair => Node::Pair { left, right, wire },
         }
     }
@@ -34,7 +35,7 @@ impl Double {
         ensures { IfOk result (λ t. ty_of t ≡ double_type self (ty_of left.now) (ty_of right.now)) }
     {
         match self {
-            Double::Plus | Double::Minus | Double::Times => Ok(Ty::Nat),
+            Double::Binary(_) => Ok(Ty::Nat),
             Double::Pair => {
                 let left = Box::new(alloc, left.copy(alloc)?)?;
                 Ok(Ty::Product(left, Box::new(alloc, right.copy(alloc)?)?))

@@ -5,6 +5,7 @@ ghost use Rattle.std.specs.Option.{option_map};
 ghost use Rattle.net_build.specs.Views.{wire_of};
 ghost use Rattle.net_build.specs.Sides.{node_above, node_below, number_of};
 ghost use Rattle.net_build.specs.Kept.{entry_at};
+ghost use Rattle.net_build.specs.Numbers.{set_at, with_number};
 
 use crate::index::{Side, index};
 use crate::lists::{copy_wires, same_nodes, same_wires};
@@ -131,6 +132,13 @@ impl Net {
         Net::from_parts(alloc, wires, nodes)
     }
 
+    /// Gives the node of this number another number, if it is a number's. Else nothing changes. It takes the same time for every net.
+    pub fn set_number(&mut self, node: u32, value: u64)
+        ensures { self.new ≡ with_number self.old node value }
+    {
+        set_number(&mut self.nodes, node as usize, value);
+    }
+
     /// Whether both nets have equal wires and equal nodes, in one order.
     pub fn same(&self, other: &Net) -> bool
         ensures { IsTrue result ↔ (self.now ≡ other.now) }
@@ -145,5 +153,16 @@ fn entry(index: &[Option<u32>], wire: u32) -> Option<u32>
     match index.get(wire as usize) {
         Some(n) => *n,
         None => None,
+    }
+}
+
+/// Gives the node at this place another number, if it is a number's and there is one.
+fn set_number(nodes: &mut Vec<Node>, at: usize, value: u64)
+    ensures { nodes.new.items ≡ set_at at value nodes.old.items }
+{
+    if at < nodes.len() {
+        if let Node::Const { wire, .. } = nodes[at] {
+            nodes[at] = Node::Const { value, wire };
+        }
     }
 }

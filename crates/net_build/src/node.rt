@@ -4,6 +4,8 @@ ghost use Rattle.std.specs.Prelude.{◌≡◌, ◌↔◌, ◌∷◌, [], IsTrue}
 ghost use Rattle.net_build.specs.Nets.{premises, conclusions};
 ghost use Rattle.net_build.specs.Sides.{present};
 
+use pcf_values::{Operator, Side};
+
 /// A node, with the numbers of its wires in the order in which a listing gives them. A premise is a wire above the node, and a
 /// conclusion a wire below it.
 #[derive(Clone, Copy, PartialEq, Eq)]
@@ -29,26 +31,10 @@ pub enum Node {
         /// The conclusion: its value wire.
         wire: u32,
     },
-    /// The sum of two numbers.
-    Plus {
-        /// The first premise: the left operand's value wire.
-        left: u32,
-        /// The second premise: the right operand's value wire.
-        right: u32,
-        /// The conclusion: its value wire.
-        wire: u32,
-    },
-    /// The difference of two numbers, 0 where the right one is larger.
-    Minus {
-        /// The first premise: the left operand's value wire.
-        left: u32,
-        /// The second premise: the right operand's value wire.
-        right: u32,
-        /// The conclusion: its value wire.
-        wire: u32,
-    },
-    /// The product of two numbers.
-    Times {
+    /// An operator on two numbers.
+    Binary {
+        /// Which operator, which is no wire.
+        operator: Operator,
         /// The first premise: the left operand's value wire.
         left: u32,
         /// The second premise: the right operand's value wire.
@@ -143,15 +129,10 @@ pub enum Node {
         /// The conclusion: its value wire.
         wire: u32,
     },
-    /// The left part of a pair.
-    Fst {
-        /// The premise: the pair's value wire.
-        operand: u32,
-        /// The conclusion: its value wire.
-        wire: u32,
-    },
-    /// The right part of a pair.
-    Snd {
+    /// A part of a pair.
+    Proj {
+        /// Which part, which is no wire.
+        side: Side,
         /// The premise: the pair's value wire.
         operand: u32,
         /// The conclusion: its value wire.
@@ -173,13 +154,9 @@ impl Node {
     {
         match self {
             Node::Const { .. } | Node::Der { .. } | Node::Weak { .. } => (None, None, None),
-            Node::Succ { operand, .. }
-            | Node::Pred { operand, .. }
-            | Node::Fst { operand, .. }
-            | Node::Snd { operand, .. } => { (Some(operand), None, None) }
-            Node::Plus { left, right, .. }
-            | Node::Minus { left, right, .. }
-            | Node::Times { left, right, .. }
+            Node::Succ { operand, .. } | Node::Pred { operand, .. } | Node::Proj { operand, .. } =>
+                { (Some(operand), None, None) }
+            Node::Binary { left, right, .. }
             | Node::Pair { left, right, .. }
             | Node::Con { left, right, .. } => (Some(left), Some(right), None),
             Node::Ifz {
@@ -209,17 +186,14 @@ impl Node {
             Node::Const { wire, .. }
             | Node::Succ { wire, .. }
             | Node::Pred { wire, .. }
-            | Node::Plus { wire, .. }
-            | Node::Minus { wire, .. }
-            | Node::Times { wire, .. }
+            | Node::Binary { wire, .. }
             | Node::Ifz { wire, .. }
             | Node::Con { wire, .. }
             | Node::Lam { wire, .. }
             | Node::App { wire, .. }
             | Node::FixBox { wire, .. }
             | Node::Pair { wire, .. }
-            | Node::Fst { wire, .. }
-            | Node::Snd { wire, .. } => (Some(wire), None),
+            | Node::Proj { wire, .. } => (Some(wire), None),
             Node::Der { wire, variable } => (Some(wire), Some(variable)),
             Node::Weak { variable } => (Some(variable), None),
             Node::BoxNode { outside, .. } | Node::Door { outside, .. } => (Some(outside), None),

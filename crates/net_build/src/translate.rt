@@ -52,16 +52,15 @@ fn place(alloc: Global, parts: &mut Parts, depth: u32, term: &Term) -> Result<Pl
         Term::Var(i) => place_variable(alloc, parts, depth, *i),
         Term::Succ(a) => place_unary(alloc, parts, depth, Unary::Succ, a),
         Term::Pred(a) => place_unary(alloc, parts, depth, Unary::Pred, a),
-        Term::Plus(a, b) => place_double(alloc, parts, depth, Double::Plus, a, b),
-        Term::Minus(a, b) => place_double(alloc, parts, depth, Double::Minus, a, b),
-        Term::Times(a, b) => place_double(alloc, parts, depth, Double::Times, a, b),
+        Term::Binary(operator, a, b) => {
+            place_double(alloc, parts, depth, Double::Binary(*operator), a, b)
+        }
         Term::Ifz(test, then, otherwise) => place_ifz(alloc, parts, depth, test, then, otherwise),
         Term::Fun(ty, body) => place_fun(alloc, parts, depth, ty, body),
         Term::Fix(ty, body) => place_fix(alloc, parts, depth, ty, body),
         Term::App(function, argument) => place_app(alloc, parts, depth, function, argument),
         Term::Pair(a, b) => place_double(alloc, parts, depth, Double::Pair, a, b),
-        Term::Fst(a) => place_unary(alloc, parts, depth, Unary::Fst, a),
-        Term::Snd(a) => place_unary(alloc, parts, depth, Unary::Snd, a),
+        Term::Proj(side, a) => place_unary(alloc, parts, depth, Unary::Proj(*side), a),
     }
 }
 

@@ -5,15 +5,14 @@ ghost use Rattle.pcf_values.specs.Views.{ty_of};
 ghost use Rattle.net_build.specs.Building.{unary_node, unary_type};
 
 use crate::Node;
-use pcf_values::Ty;
+use pcf_values::{Side, Ty};
 use std::alloc::{AllocError, Global};
 
 #[derive(Clone, Copy)]
 pub(crate) enum Unary {
     Succ,
     Pred,
-    Fst,
-    Snd,
+    Proj(Side),
 }
 
 impl Unary {
@@ -24,8 +23,11 @@ impl Unary {
         match self {
             Unary::Succ => Node::Succ { operand, wire },
             Unary::Pred => Node::Pred { operand, wire },
-            Unary::Fst => Node::Fst { operand, wire },
-            Unary::Snd => Node::Snd { operand, wire },
+            Unary::Proj(side) => Node::Proj {
+                side,
+                operand,
+                wire,
+            },
         }
     }
 
@@ -34,8 +36,8 @@ impl Unary {
         ensures { IfOk result (λ t. ty_of t ≡ unary_type self (ty_of operand.now)) }
     {
         match (self, operand) {
-            (Unary::Fst, Ty::Product(left, _)) => left.copy(alloc),
-            (Unary::Snd, Ty::Product(_, right)) => right.copy(alloc),
+            (Unary::Proj(Side::Left), Ty::Product(left, _)) => left.copy(alloc),
+            (Unary::Proj(Side::Right), Ty::Product(_, right)) => right.copy(alloc),
             _ => Ok(Ty::Nat),
         }
     }

@@ -6,12 +6,13 @@ use Rattle.pcf_values.specs.Terms.{TyTree, nat, arrow, product}
 use Rattle.net_build.specs.declared.wire.WireKind.{WireKind}
 use Rattle.net_build.specs.declared.wire.WireKind.TheVariants.{Value, Bang, Variable}
 use Rattle.net_build.specs.declared.node.Node.{Node}
-use Rattle.net_build.specs.declared.node.Node.TheVariants.{Const, Succ, Pred, Plus, Minus, Times, Ifz, Der, Con, Weak, Lam, App, BoxNode}
-use Rattle.net_build.specs.declared.node.Node.TheVariants.{Door, FixBox, Root, Pair, Fst, Snd}
+use Rattle.net_build.specs.declared.node.Node.TheVariants.{Const, Succ, Pred, Ifz, Der, Con, Weak, Lam, App, BoxNode, Binary, Proj}
+use Rattle.net_build.specs.declared.node.Node.TheVariants.{Door, FixBox, Root, Pair}
 use Rattle.net_build.specs.Nets.{WireTree, NetTree, value_wire, bang_wire, var_wire}
 use Rattle.net_build.specs.Sound.{Is, Meets}
 use Rattle.net_check.specs.Rows.{same_kind, type_if, depth_in, value_type, bang_type, variable_type, Deep, IsThere, AreOne, IsArrow}
 use Rattle.net_check.specs.Rows.{IsProduct, IsLeft, IsRight, TypesMeet, DepthsMeet}
+use Rattle.pcf_values.specs.declared.side.Side.TheVariants.{Left, Right}
 
 same_kind_is : (k l : WireKind) → same_kind k l ≡ true → k ≡ l
 same_kind_is Value Value e = refl
@@ -127,9 +128,7 @@ module _ (net : NetTree) where
   meets_both (Const c w) h i = (i.0, v w nat i.0 h i.1)
   meets_both (Succ a w) h i = (i.0, v a nat i.0 h.0 i.1, v w nat i.0 h.1 i.2)
   meets_both (Pred a w) h i = (i.0, v a nat i.0 h.0 i.1, v w nat i.0 h.1 i.2)
-  meets_both (Plus a c w) h i = (i.0, v a nat i.0 h.0 i.1, v c nat i.0 h.1 i.2, v w nat i.0 h.2 i.3)
-  meets_both (Minus a c w) h i = (i.0, v a nat i.0 h.0 i.1, v c nat i.0 h.1 i.2, v w nat i.0 h.2 i.3)
-  meets_both (Times a c w) h i = (i.0, v a nat i.0 h.0 i.1, v c nat i.0 h.1 i.2, v w nat i.0 h.2 i.3)
+  meets_both (Binary o a c w) h i = (i.0, v a nat i.0 h.0 i.1, v c nat i.0 h.1 i.2, v w nat i.0 h.2 i.3)
   meets_both (Ifz c p q w) h i = (i.0, v c nat i.0 h.0 i.1, v p nat i.0 h.1 i.2, v q nat i.0 h.2 i.3, v w nat i.0 h.3 i.4)
   meets_both (Der w y) h i = let (t, e, f) =
       one_has (value_type net w) (variable_type net y) h in (i.0, t, v w t i.0 e i.1, x y t i.0 f i.2)
@@ -158,9 +157,9 @@ module _ (net : NetTree) where
   meets_both (Pair a c w) h i = let (s, t, e, f, g) =
       product_has (value_type net w) (value_type net a) (value_type net c) h in
       (i.0, s, t, v a s i.0 f i.1, v c t i.0 g i.2, v w (product s t) i.0 e i.3)
-  meets_both (Fst a w) h i = let (s, t, e, f) =
+  meets_both (Proj Left a w) h i = let (s, t, e, f) =
       left_has (value_type net a) (value_type net w) h in (i.0, s, t, v a (product s t) i.0 e i.1, v w s i.0 f i.2)
-  meets_both (Snd a w) h i = let (s, t, e, f) =
+  meets_both (Proj Right a w) h i = let (s, t, e, f) =
       right_has (value_type net a) (value_type net w) h in (i.0, s, t, v a (product s t) i.0 e i.1, v w t i.0 f i.2)
 
   vt : (n : ℕ) (t : TyTree) (d : ℕ) → Is net n (value_wire d t) → value_type net n ≡ Some t
@@ -176,9 +175,7 @@ module _ (net : NetTree) where
   meets_types (Const c w) h = vt w nat h.0 h.1
   meets_types (Succ a w) h = (vt a nat h.0 h.1, vt w nat h.0 h.2)
   meets_types (Pred a w) h = (vt a nat h.0 h.1, vt w nat h.0 h.2)
-  meets_types (Plus a c w) h = (vt a nat h.0 h.1, vt c nat h.0 h.2, vt w nat h.0 h.3)
-  meets_types (Minus a c w) h = (vt a nat h.0 h.1, vt c nat h.0 h.2, vt w nat h.0 h.3)
-  meets_types (Times a c w) h = (vt a nat h.0 h.1, vt c nat h.0 h.2, vt w nat h.0 h.3)
+  meets_types (Binary o a c w) h = (vt a nat h.0 h.1, vt c nat h.0 h.2, vt w nat h.0 h.3)
   meets_types (Ifz c p q w) h = (vt c nat h.0 h.1, vt p nat h.0 h.2, vt q nat h.0 h.3, vt w nat h.0 h.4)
   meets_types (Der w y) h = one_from _ _ h.1 (vt w h.1 h.0 h.2) (xt y h.1 h.0 h.3)
   meets_types (Con l r w) h =
@@ -192,8 +189,8 @@ module _ (net : NetTree) where
       (one_from _ _ h.1 (vt c h.1 (suc h.0) h.2) (xt y h.1 (suc h.0) h.3), one_from _ _ h.1 (vt c h.1 (suc h.0) h.2) (vt w h.1 h.0 h.4))
   meets_types (Root w) h = vt w nat 0 h
   meets_types (Pair a c w) h = product_from _ _ _ h.1 h.2 (vt w (product h.1 h.2) h.0 h.5) (vt a h.1 h.0 h.3) (vt c h.2 h.0 h.4)
-  meets_types (Fst a w) h = left_from _ _ h.1 h.2 (vt a (product h.1 h.2) h.0 h.3) (vt w h.1 h.0 h.4)
-  meets_types (Snd a w) h = right_from _ _ h.1 h.2 (vt a (product h.1 h.2) h.0 h.3) (vt w h.2 h.0 h.4)
+  meets_types (Proj Left a w) h = left_from _ _ h.1 h.2 (vt a (product h.1 h.2) h.0 h.3) (vt w h.1 h.0 h.4)
+  meets_types (Proj Right a w) h = right_from _ _ h.1 h.2 (vt a (product h.1 h.2) h.0 h.3) (vt w h.2 h.0 h.4)
 
   dp : (n : ℕ) (k : WireKind) (t : TyTree) (d : ℕ) → Is net n (record { kind = k; depth = d; type = t }) → Deep net n d
   dp n k t d h = depth_from (slice_get net.wires n) k t d h
@@ -202,9 +199,7 @@ module _ (net : NetTree) where
   meets_depths (Const c w) h = (h.0, dp w Value nat h.0 h.1)
   meets_depths (Succ a w) h = (h.0, dp a Value nat h.0 h.1, dp w Value nat h.0 h.2)
   meets_depths (Pred a w) h = (h.0, dp a Value nat h.0 h.1, dp w Value nat h.0 h.2)
-  meets_depths (Plus a c w) h = (h.0, dp a Value nat h.0 h.1, dp c Value nat h.0 h.2, dp w Value nat h.0 h.3)
-  meets_depths (Minus a c w) h = (h.0, dp a Value nat h.0 h.1, dp c Value nat h.0 h.2, dp w Value nat h.0 h.3)
-  meets_depths (Times a c w) h = (h.0, dp a Value nat h.0 h.1, dp c Value nat h.0 h.2, dp w Value nat h.0 h.3)
+  meets_depths (Binary o a c w) h = (h.0, dp a Value nat h.0 h.1, dp c Value nat h.0 h.2, dp w Value nat h.0 h.3)
   meets_depths (Ifz c p q w) h = (h.0, dp c Value nat h.0 h.1, dp p Value nat h.0 h.2, dp q Value nat h.0 h.3, dp w Value nat h.0 h.4)
   meets_depths (Der w y) h = (h.0, dp w Value h.1 h.0 h.2, dp y Variable h.1 h.0 h.3)
   meets_depths (Con l r w) h = (h.0, dp l Variable h.1 h.0 h.2, dp r Variable h.1 h.0 h.3, dp w Variable h.1 h.0 h.4)
@@ -216,5 +211,5 @@ module _ (net : NetTree) where
   meets_depths (FixBox c y w) h = (h.0, dp c Value h.1 (suc h.0) h.2, dp y Variable h.1 (suc h.0) h.3, dp w Value h.1 h.0 h.4)
   meets_depths (Root w) h = dp w Value nat 0 h
   meets_depths (Pair a c w) h = (h.0, dp a Value h.1 h.0 h.3, dp c Value h.2 h.0 h.4, dp w Value (product h.1 h.2) h.0 h.5)
-  meets_depths (Fst a w) h = (h.0, dp a Value (product h.1 h.2) h.0 h.3, dp w Value h.1 h.0 h.4)
-  meets_depths (Snd a w) h = (h.0, dp a Value (product h.1 h.2) h.0 h.3, dp w Value h.2 h.0 h.4)
+  meets_depths (Proj Left a w) h = (h.0, dp a Value (product h.1 h.2) h.0 h.3, dp w Value h.1 h.0 h.4)
+  meets_depths (Proj Right a w) h = (h.0, dp a Value (product h.1 h.2) h.0 h.3, dp w Value h.2 h.0 h.4)

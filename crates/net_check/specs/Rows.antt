@@ -5,9 +5,10 @@ use Rattle.pcf_values.specs.Terms.{TyTree, nat, arrow, product}
 use Rattle.net_build.specs.declared.wire.WireKind.{WireKind}
 use Rattle.net_build.specs.declared.wire.WireKind.TheVariants.{Value, Bang, Variable}
 use Rattle.net_build.specs.declared.node.Node.{Node}
-use Rattle.net_build.specs.declared.node.Node.TheVariants.{Const, Succ, Pred, Plus, Minus, Times, Ifz, Der, Con, Weak, Lam, App, BoxNode}
-use Rattle.net_build.specs.declared.node.Node.TheVariants.{Door, FixBox, Root, Pair, Fst, Snd}
+use Rattle.net_build.specs.declared.node.Node.TheVariants.{Const, Succ, Pred, Ifz, Der, Con, Weak, Lam, App, BoxNode, Binary, Proj}
+use Rattle.net_build.specs.declared.node.Node.TheVariants.{Door, FixBox, Root, Pair}
 use Rattle.net_build.specs.Nets.{WireTree, NetTree}
+use Rattle.pcf_values.specs.declared.side.Side.TheVariants.{Left, Right}
 
 abbrev pub same_kind : WireKind → WireKind → Bool
 same_kind Value Value = true
@@ -95,9 +96,7 @@ abbrev pub TypesMeet : NetTree → Node → Type 0
 TypesMeet net (Const v w) = value_type net w ≡ Some nat
 TypesMeet net (Succ a w) = (value_type net a ≡ Some nat) × (value_type net w ≡ Some nat)
 TypesMeet net (Pred a w) = (value_type net a ≡ Some nat) × (value_type net w ≡ Some nat)
-TypesMeet net (Plus a b w) = (value_type net a ≡ Some nat) × (value_type net b ≡ Some nat) × (value_type net w ≡ Some nat)
-TypesMeet net (Minus a b w) = (value_type net a ≡ Some nat) × (value_type net b ≡ Some nat) × (value_type net w ≡ Some nat)
-TypesMeet net (Times a b w) = (value_type net a ≡ Some nat) × (value_type net b ≡ Some nat) × (value_type net w ≡ Some nat)
+TypesMeet net (Binary o a b w) = (value_type net a ≡ Some nat) × (value_type net b ≡ Some nat) × (value_type net w ≡ Some nat)
 TypesMeet net (Ifz c p q w) =
     (value_type net c ≡ Some nat) × (value_type net p ≡ Some nat) × (value_type net q ≡ Some nat) × (value_type net w ≡ Some nat)
 TypesMeet net (Der w x) = AreOne (value_type net w) (variable_type net x)
@@ -110,17 +109,15 @@ TypesMeet net (Door i o) = AreOne (variable_type net i) (variable_type net o)
 TypesMeet net (FixBox b x w) = AreAllOne (value_type net b) (variable_type net x) (value_type net w)
 TypesMeet net (Root w) = value_type net w ≡ Some nat
 TypesMeet net (Pair a b w) = IsProduct (value_type net w) (value_type net a) (value_type net b)
-TypesMeet net (Fst a w) = IsLeft (value_type net a) (value_type net w)
-TypesMeet net (Snd a w) = IsRight (value_type net a) (value_type net w)
+TypesMeet net (Proj Left a w) = IsLeft (value_type net a) (value_type net w)
+TypesMeet net (Proj Right a w) = IsRight (value_type net a) (value_type net w)
 
 -- the node's wires are at the depths that its row asks
 abbrev pub DepthsMeet : NetTree → Node → Type 0
 DepthsMeet net (Const v w) = (d : ℕ) × Deep net w d
 DepthsMeet net (Succ a w) = (d : ℕ) × Deep net a d × Deep net w d
 DepthsMeet net (Pred a w) = (d : ℕ) × Deep net a d × Deep net w d
-DepthsMeet net (Plus a b w) = (d : ℕ) × Deep net a d × Deep net b d × Deep net w d
-DepthsMeet net (Minus a b w) = (d : ℕ) × Deep net a d × Deep net b d × Deep net w d
-DepthsMeet net (Times a b w) = (d : ℕ) × Deep net a d × Deep net b d × Deep net w d
+DepthsMeet net (Binary o a b w) = (d : ℕ) × Deep net a d × Deep net b d × Deep net w d
 DepthsMeet net (Ifz c p q w) = (d : ℕ) × Deep net c d × Deep net p d × Deep net q d × Deep net w d
 DepthsMeet net (Der w x) = (d : ℕ) × Deep net w d × Deep net x d
 DepthsMeet net (Con l r w) = (d : ℕ) × Deep net l d × Deep net r d × Deep net w d
@@ -132,5 +129,4 @@ DepthsMeet net (Door i o) = (d : ℕ) × Deep net i (suc d) × Deep net o d
 DepthsMeet net (FixBox b x w) = (d : ℕ) × Deep net b (suc d) × Deep net x (suc d) × Deep net w d
 DepthsMeet net (Root w) = Deep net w 0
 DepthsMeet net (Pair a b w) = (d : ℕ) × Deep net a d × Deep net b d × Deep net w d
-DepthsMeet net (Fst a w) = (d : ℕ) × Deep net a d × Deep net w d
-DepthsMeet net (Snd a w) = (d : ℕ) × Deep net a d × Deep net w d
+DepthsMeet net (Proj s a w) = (d : ℕ) × Deep net a d × Deep net w d

@@ -6,15 +6,14 @@ use Rattle.std.proofs.Math.Nat.{le-max_left, le-max_right}
 use Rattle.std.proofs.lemmas.Bool.{eq-eqb, lt-ltb}
 use Rattle.std.proofs.lemmas.List.{reverse-append, length-replicate}
 use Rattle.pcf_values.specs.declared.operator.Operator.{Operator}
-use Rattle.pcf_values.specs.declared.operator.Operator.TheVariants.{Plus, Minus, Times}
 use Rattle.pcf_values.specs.Terms.{TyTree, nat, arrow, product, TermTree, num, var, succ_of, pred_of, binary}
 use Rattle.pcf_values.specs.declared.side.Side.{Side}
 use Rattle.pcf_values.specs.declared.side.Side.TheVariants.{Left, Right}
 use Rattle.pcf_values.specs.Terms.{ifz, lam, fix, app, pair, proj, height}
 use Rattle.pcf_values.specs.Typing.{HasType}
 use Rattle.net_build.specs.declared.node.Node.{Node}
-use Rattle.net_build.specs.declared.node.Node.TheVariants.{Succ, Pred, Pair, Root}
-use Rattle.net_build.specs.Nets.{WireTree, binary_node, proj_node}
+use Rattle.net_build.specs.declared.node.Node.TheVariants.{Succ, Pred, Pair, Root, Binary, Proj}
+use Rattle.net_build.specs.Nets.{WireTree}
 use Rattle.net_build.specs.NetOf.{part, net_of, one_free, side_type}
 use Rattle.net_build.proofs.Count.{aligned}
 use Rattle.net_terms.specs.declared.walk.Mark.{Mark}
@@ -42,14 +41,12 @@ index_is k place i l ns ms h =
 
 -- the node of an operator is read as the operator
 binary_step : (ws : List WireTree) (h : ℕ) (o : Operator) (x y w k around e : ℕ) (ns : List Node) (ms : List Mark)
-    → reading ws (suc h) k around e w (binary_node o x y w ∷ ns) ms ≡ two (binary o) (reading ws h k e e x) (reading ws h k e e y ns ms)
-binary_step ws h Plus x y w k around e ns ms = same_met w (two (binary Plus) (reading ws h k e e x) (reading ws h k e e y ns ms))
-binary_step ws h Minus x y w k around e ns ms = same_met w (two (binary Minus) (reading ws h k e e x) (reading ws h k e e y ns ms))
-binary_step ws h Times x y w k around e ns ms = same_met w (two (binary Times) (reading ws h k e e x) (reading ws h k e e y ns ms))
+    → reading ws (suc h) k around e w (Binary o x y w ∷ ns) ms ≡ two (binary o) (reading ws h k e e x) (reading ws h k e e y ns ms)
+binary_step ws h o x y w k around e ns ms = same_met w (two (binary o) (reading ws h k e e x) (reading ws h k e e y ns ms))
 
 -- the node that takes a part of a pair is read so
 proj_step : (ws : List WireTree) (h : ℕ) (s : Side) (a w k around e : ℕ) (ns : List Node) (ms : List Mark)
-    → reading ws (suc h) k around e w (proj_node s a w ∷ ns) ms ≡ one (proj s) (reading ws h k e e a ns ms)
+    → reading ws (suc h) k around e w (Proj s a w ∷ ns) ms ≡ one (proj s) (reading ws h k e e a ns ms)
 proj_step ws h Left a w k around e ns ms = same_met w (one (proj Left) (reading ws h k e e a ns ms))
 proj_step ws h Right a w k around e ns ms = same_met w (one (proj Right) (reading ws h k e e a ns ms))
 
@@ -93,14 +90,14 @@ reads (pred_of m) ws (suc h) n d g a t u held =
     unary_reads ws pred_of Pred nat h n d g m (part n d g m) (λ a w k around e ns ms. same_met w (one pred_of (reading ws h k e e a ns ms)))
     (reads m ws h n d g nat t.0 (omega (arith, u)) (held_left ws n (part n d g m).wires _ held))
 reads (proj s m) ws (suc h) n d g a t u held =
-    unary_reads ws (proj s) (proj_node s) (side_type s (part n d g m).type) h n d g m (part n d g m) (proj_step ws h s)
+    unary_reads ws (proj s) (Proj s) (side_type s (part n d g m).type) h n d g m (part n d g m) (proj_step ws h s)
     (reads m ws h n d g (product t.0 t.1) t.2 (omega (arith, u)) (held_left ws n (part n d g m).wires _ held))
 reads (binary o m l) ws (suc h) n d g a t u held =
     let p = part n d g m in
     let n' = n + length p.wires in
     let q = part n' d g l in
     let w = first_two ws n p.wires q.wires _ held in
-    double_reads ws (binary o) (binary_node o) nat h n d g m l p q (binary_step ws h o) (part_loose m n d g nat t.0)
+    double_reads ws (binary o) (Binary o) nat h n d g m l p q (binary_step ws h o) (part_loose m n d g nat t.0)
     (part_loose l n' d g nat t.1)
     (reads m ws h n d g nat t.0 (omega (arith, u, le-max_left (height m) (height l))) w.0)
     (reads l ws h n' d g nat t.1 (omega (arith, u, le-max_right (height m) (height l))) w.1)

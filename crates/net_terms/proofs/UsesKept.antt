@@ -1,14 +1,13 @@
 -- The net of a term uses variables as the term does.
 use Rattle.std.proofs.Common.{◌≡◌, ℕ, zero, suc, ◌+◌, List, [], ◌∷◌, ◌++◌, append-nil, length, Option, Some, None, refl, ap, ◌∙◌, subst}
 use Rattle.pcf_values.specs.declared.operator.Operator.{Operator}
-use Rattle.pcf_values.specs.declared.operator.Operator.TheVariants.{Plus, Minus, Times}
 use Rattle.pcf_values.specs.Terms.{TyTree, nat, product, TermTree, num, var, succ_of, pred_of, binary, ifz}
 use Rattle.pcf_values.specs.declared.side.Side.{Side}
 use Rattle.pcf_values.specs.declared.side.Side.TheVariants.{Left, Right}
 use Rattle.pcf_values.specs.Terms.{lam, fix, app, pair, proj}
 use Rattle.net_build.specs.declared.node.Node.{Node}
-use Rattle.net_build.specs.declared.node.Node.TheVariants.{Der, Root, Pair}
-use Rattle.net_build.specs.Nets.{WireTree, NetTree, binary_node, proj_node}
+use Rattle.net_build.specs.declared.node.Node.TheVariants.{Der, Root, Pair, Binary, Proj}
+use Rattle.net_build.specs.Nets.{WireTree, NetTree}
 use Rattle.net_build.specs.NetOf.{Part, contract, doors, bound, part, net_of, double_part, ifz_part, lam_part, fix_part, app_part}
 use Rattle.net_terms.specs.TermOf.{type_at, type_in}
 use Rattle.net_terms.specs.Uses.{used_types, using_types}
@@ -57,13 +56,11 @@ module _ (ws : List WireTree) where
   both a b u v e h = uses_append a b ∙ (λ i. e i ++ h i)
 
   -- an operator uses none
-  binary_unused : (o : Operator) (a b w : ℕ) → using_types ws (binary_node o a b w ∷ []) ≡ []
-  binary_unused Plus a b w = refl
-  binary_unused Minus a b w = refl
-  binary_unused Times a b w = refl
+  binary_unused : (o : Operator) (a b w : ℕ) → using_types ws (Binary o a b w ∷ []) ≡ []
+  binary_unused o a b w = refl
 
   -- nor does what takes a part of a pair
-  proj_unused : (s : Side) (a w : ℕ) → using_types ws (proj_node s a w ∷ []) ≡ []
+  proj_unused : (s : Side) (a w : ℕ) → using_types ws (Proj s a w ∷ []) ≡ []
   proj_unused Left a w = refl
   proj_unused Right a w = refl
 
@@ -127,7 +124,7 @@ module _ (ws : List WireTree) where
       let p = part n d g m in
       let k = n + length p.wires in
       let q = part k d g l in
-      double_uses (binary_node o) nat n d g p q (used_types g m) (used_types g l) (binary_unused o)
+      double_uses (Binary o) nat n d g p q (used_types g m) (used_types g l) (binary_unused o)
       (part_uses m n d g (held_left ws n p.wires _ h)) (part_uses l k d g (held_left ws k q.wires _ (held_right ws n p.wires _ h)))
   part_uses (pair m l) n d g h =
       let p = part n d g m in

@@ -1,6 +1,5 @@
 -- What the code's reading gives, seen through the views of terms.
 use Rattle.std.specs.Prelude.{◌≡◌, List, Option, Some, None}
-use Rattle.pcf_values.specs.declared.operator.Operator.TheVariants.{Plus as plus_op, Minus as minus_op, Times as times_op}
 use Rattle.pcf_values.specs.Terms.{TermTree, succ_of, pred_of, binary, app, pair, proj}
 use Rattle.pcf_values.specs.declared.side.Side.TheVariants.{Left, Right}
 use Rattle.net_build.specs.declared.node.Node.{Node}
@@ -15,14 +14,11 @@ use Rattle.net_terms.specs.TermOf.{Read, read}
 abbrev pub one_term : One → TermTree → TermTree
 one_term one.Succ = succ_of
 one_term one.Pred = pred_of
-one_term one.Fst = proj Left
-one_term one.Snd = proj Right
+one_term (one.Proj d) = proj d
 
 -- the term of a form with two operands
 abbrev pub two_term : Two → TermTree → TermTree → TermTree
-two_term two.Plus = binary plus_op
-two_term two.Minus = binary minus_op
-two_term two.Times = binary times_op
+two_term (two.Binary o) = binary o
 two_term two.App = app
 two_term two.Pair = pair
 

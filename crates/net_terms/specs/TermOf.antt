@@ -7,13 +7,12 @@
 -- it gives. Heights are bounded by the number that it is given.
 use Rattle.std.specs.Prelude.{ℕ, zero, suc, ◌-◌, List, [], ◌∷◌, length, reverse, replicate, Option, Some, None, nat_eq, nat_lt}
 use Rattle.std.specs.Prelude.{if◌then◌else◌, slice_get, slice_index_or, slice_set}
-use Rattle.pcf_values.specs.declared.operator.Operator.TheVariants.{Plus as plus_op, Minus as minus_op, Times as times_op}
 use Rattle.pcf_values.specs.Terms.{TyTree, nat, TermTree, num, var, succ_of, pred_of, binary, ifz, lam, fix, app}
 use Rattle.pcf_values.specs.declared.side.Side.TheVariants.{Left, Right}
 use Rattle.pcf_values.specs.Terms.{pair, proj}
 use Rattle.net_build.specs.declared.node.Node.{Node}
-use Rattle.net_build.specs.declared.node.Node.TheVariants.{Const, Succ, Pred, Plus, Minus, Times, Ifz, Der, Con, Weak, Lam, App, BoxNode}
-use Rattle.net_build.specs.declared.node.Node.TheVariants.{Door, FixBox, Root, Pair, Fst, Snd}
+use Rattle.net_build.specs.declared.node.Node.TheVariants.{Const, Succ, Pred, Ifz, Der, Con, Weak, Lam, App, BoxNode, Binary, Proj}
+use Rattle.net_build.specs.declared.node.Node.TheVariants.{Door, FixBox, Root, Pair}
 use Rattle.net_build.specs.Nets.{WireTree, NetTree}
 use Rattle.net_build.specs.NetOf.{domain}
 use Rattle.net_terms.specs.declared.walk.Mark.{Mark}
@@ -108,16 +107,13 @@ start ws rd k place (Const v w ∷ ns) ms = Some (read (num v) ns ms)
 start ws rd k place (Der w x ∷ ns) ms = variable k place (mark_at ms x) ns ms
 start ws rd k place (Succ a w ∷ ns) ms = one succ_of (rd k place place a ns ms)
 start ws rd k place (Pred a w ∷ ns) ms = one pred_of (rd k place place a ns ms)
-start ws rd k place (Plus a b w ∷ ns) ms = two (binary plus_op) (rd k place place a) (rd k place place b ns ms)
-start ws rd k place (Minus a b w ∷ ns) ms = two (binary minus_op) (rd k place place a) (rd k place place b ns ms)
-start ws rd k place (Times a b w ∷ ns) ms = two (binary times_op) (rd k place place a) (rd k place place b ns ms)
+start ws rd k place (Binary o a b w ∷ ns) ms = two (binary o) (rd k place place a) (rd k place place b ns ms)
 start ws rd k place (Ifz c p q w ∷ ns) ms = three ifz (rd k place place c) (rd k place place p) (rd k place place q ns ms)
 start ws rd k place (Lam b x w ∷ ns) ms = one (lam (domain (type_at ws w))) (rd (suc k) place place b ns (set_marked ms x k place))
 start ws rd k place (App f a w ∷ ns) ms = two app (rd k place place f) (rd k place place a ns ms)
 start ws rd k place (FixBox b x w ∷ ns) ms = one (fix (type_at ws w)) (rd (suc k) place (suc w) b ns (set_marked ms x k (suc w)))
 start ws rd k place (Pair a b w ∷ ns) ms = two pair (rd k place place a) (rd k place place b ns ms)
-start ws rd k place (Fst a w ∷ ns) ms = one (proj Left) (rd k place place a ns ms)
-start ws rd k place (Snd a w ∷ ns) ms = one (proj Right) (rd k place place a ns ms)
+start ws rd k place (Proj d a w ∷ ns) ms = one (proj d) (rd k place place a ns ms)
 start ws rd k place (n ∷ ns) ms = None
 
 -- the value wire of a term's own node, and the last wire of any other
@@ -125,9 +121,7 @@ abbrev pub value_of : Node → ℕ
 value_of (Const v w) = w
 value_of (Succ a w) = w
 value_of (Pred a w) = w
-value_of (Plus a b w) = w
-value_of (Minus a b w) = w
-value_of (Times a b w) = w
+value_of (Binary o a b w) = w
 value_of (Ifz c p q w) = w
 value_of (Der w x) = w
 value_of (Con l r w) = w
@@ -139,8 +133,7 @@ value_of (Door i o) = o
 value_of (FixBox b x w) = w
 value_of (Root w) = w
 value_of (Pair a b w) = w
-value_of (Fst a w) = w
-value_of (Snd a w) = w
+value_of (Proj d a w) = w
 
 -- what is read, where the next node's value wire is the one that is to come
 abbrev pub met : ℕ → List Node → Option Read → Option Read

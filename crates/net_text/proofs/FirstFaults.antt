@@ -6,8 +6,8 @@ use Rattle.std.specs.Str.{bytes_eq}
 use Rattle.std.proofs.lemmas.Bool.{lt-ltb, ltb-true, le-leb, leb-true, and_parts, and_from}
 use Rattle.std.proofs.lemmas.Slice.Eq.{bytes_eq-Decides}
 use Rattle.net_build.specs.declared.node.Node.{Node}
-use Rattle.net_build.specs.declared.node.Node.TheVariants.{Const, Succ, Pred, Plus, Minus, Times, Ifz, Der, Con, Weak, Lam, App, BoxNode}
-use Rattle.net_build.specs.declared.node.Node.TheVariants.{Door, FixBox, Root, Pair, Fst, Snd}
+use Rattle.net_build.specs.declared.node.Node.TheVariants.{Const, Succ, Pred, Ifz, Der, Con, Weak, Lam, App, BoxNode, Binary, Proj}
+use Rattle.net_build.specs.declared.node.Node.TheVariants.{Door, FixBox, Root, Pair}
 use Rattle.net_build.specs.Nets.{WireTree, NetTree}
 use Rattle.text_lines.specs.Lines.{end_line}
 use Rattle.net_text.specs.Listing.{wire_line, node_line, numbers_of}
@@ -35,9 +35,7 @@ fits_is : (x : Node) → node_fits x ≡ true → NodeFits x
 fits_is (Const v w) h = let (p, q) = and_parts (nat_lt v (2 ^ 64)) (nat_lt w (2 ^ 32)) h in (ltb-true v (2 ^ 64) p, ltb-true w (2 ^ 32) q)
 fits_is (Succ a w) h = small_is (numbers_of (Succ a w)) h
 fits_is (Pred a w) h = small_is (numbers_of (Pred a w)) h
-fits_is (Plus a b w) h = small_is (numbers_of (Plus a b w)) h
-fits_is (Minus a b w) h = small_is (numbers_of (Minus a b w)) h
-fits_is (Times a b w) h = small_is (numbers_of (Times a b w)) h
+fits_is (Binary o a b w) h = small_is (numbers_of (Binary o a b w)) h
 fits_is (Ifz c p q w) h = small_is (numbers_of (Ifz c p q w)) h
 fits_is (Der w x) h = small_is (numbers_of (Der w x)) h
 fits_is (Con l r w) h = small_is (numbers_of (Con l r w)) h
@@ -49,17 +47,14 @@ fits_is (Door i o) h = small_is (numbers_of (Door i o)) h
 fits_is (FixBox b x w) h = small_is (numbers_of (FixBox b x w)) h
 fits_is (Root w) h = small_is (numbers_of (Root w)) h
 fits_is (Pair a b w) h = small_is (numbers_of (Pair a b w)) h
-fits_is (Fst a w) h = small_is (numbers_of (Fst a w)) h
-fits_is (Snd a w) h = small_is (numbers_of (Snd a w)) h
+fits_is (Proj d a w) h = small_is (numbers_of (Proj d a w)) h
 
 -- in both directions
 is_fits : (x : Node) → NodeFits x → node_fits x ≡ true
 is_fits (Const v w) h = and_from (nat_lt v (2 ^ 64)) (nat_lt w (2 ^ 32)) (lt-ltb v (2 ^ 64) h.0) (lt-ltb w (2 ^ 32) h.1)
 is_fits (Succ a w) h = is_small (numbers_of (Succ a w)) h
 is_fits (Pred a w) h = is_small (numbers_of (Pred a w)) h
-is_fits (Plus a b w) h = is_small (numbers_of (Plus a b w)) h
-is_fits (Minus a b w) h = is_small (numbers_of (Minus a b w)) h
-is_fits (Times a b w) h = is_small (numbers_of (Times a b w)) h
+is_fits (Binary o a b w) h = is_small (numbers_of (Binary o a b w)) h
 is_fits (Ifz c p q w) h = is_small (numbers_of (Ifz c p q w)) h
 is_fits (Der w x) h = is_small (numbers_of (Der w x)) h
 is_fits (Con l r w) h = is_small (numbers_of (Con l r w)) h
@@ -71,8 +66,7 @@ is_fits (Door i o) h = is_small (numbers_of (Door i o)) h
 is_fits (FixBox b x w) h = is_small (numbers_of (FixBox b x w)) h
 is_fits (Root w) h = is_small (numbers_of (Root w)) h
 is_fits (Pair a b w) h = is_small (numbers_of (Pair a b w)) h
-is_fits (Fst a w) h = is_small (numbers_of (Fst a w)) h
-is_fits (Snd a w) h = is_small (numbers_of (Snd a w)) h
+is_fits (Proj d a w) h = is_small (numbers_of (Proj d a w)) h
 
 -- texts that are found equal are equal
 pub same_is : (a b : List ℕ) → bytes_eq a b ≡ true → a ≡ b

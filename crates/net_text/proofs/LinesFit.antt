@@ -205,9 +205,7 @@ one_fits form.Root a = refl
 one_fits form.Const a = sym (if_none (all_small (a ∷ [])))
 one_fits form.Succ a = sym (if_none (all_small (a ∷ [])))
 one_fits form.Pred a = sym (if_none (all_small (a ∷ [])))
-one_fits form.Plus a = sym (if_none (all_small (a ∷ [])))
-one_fits form.Minus a = sym (if_none (all_small (a ∷ [])))
-one_fits form.Times a = sym (if_none (all_small (a ∷ [])))
+one_fits (form.Binary o) a = sym (if_none (all_small (a ∷ [])))
 one_fits form.Ifz a = sym (if_none (all_small (a ∷ [])))
 one_fits form.Der a = sym (if_none (all_small (a ∷ [])))
 one_fits form.Con a = sym (if_none (all_small (a ∷ [])))
@@ -217,8 +215,7 @@ one_fits form.BoxNode a = sym (if_none (all_small (a ∷ [])))
 one_fits form.Door a = sym (if_none (all_small (a ∷ [])))
 one_fits form.FixBox a = sym (if_none (all_small (a ∷ [])))
 one_fits form.Pair a = sym (if_none (all_small (a ∷ [])))
-one_fits form.Fst a = sym (if_none (all_small (a ∷ [])))
-one_fits form.Snd a = sym (if_none (all_small (a ∷ [])))
+one_fits (form.Proj d) a = sym (if_none (all_small (a ∷ [])))
 
 -- a node of two numbers
 pub two_fits : (f : Form) (a b : ℕ) → fitting_node (two_node f a b) ≡ (if all_small (a ∷ b ∷ []) then two_node f a b else None)
@@ -227,12 +224,9 @@ two_fits form.Pred a b = refl
 two_fits form.Der a b = refl
 two_fits form.BoxNode a b = refl
 two_fits form.Door a b = refl
-two_fits form.Fst a b = refl
-two_fits form.Snd a b = refl
+two_fits (form.Proj d) a b = refl
 two_fits form.Const a b = sym (if_none (all_small (a ∷ b ∷ [])))
-two_fits form.Plus a b = sym (if_none (all_small (a ∷ b ∷ [])))
-two_fits form.Minus a b = sym (if_none (all_small (a ∷ b ∷ [])))
-two_fits form.Times a b = sym (if_none (all_small (a ∷ b ∷ [])))
+two_fits (form.Binary o) a b = sym (if_none (all_small (a ∷ b ∷ [])))
 two_fits form.Ifz a b = sym (if_none (all_small (a ∷ b ∷ [])))
 two_fits form.Con a b = sym (if_none (all_small (a ∷ b ∷ [])))
 two_fits form.Weak a b = sym (if_none (all_small (a ∷ b ∷ [])))
@@ -245,9 +239,7 @@ two_fits form.Pair a b = sym (if_none (all_small (a ∷ b ∷ [])))
 -- a node of three numbers
 pub three_fits : (f : Form) (a b c : ℕ)
     → fitting_node (three_node f a b c) ≡ (if all_small (a ∷ b ∷ c ∷ []) then three_node f a b c else None)
-three_fits form.Plus a b c = refl
-three_fits form.Minus a b c = refl
-three_fits form.Times a b c = refl
+three_fits (form.Binary o) a b c = refl
 three_fits form.Con a b c = refl
 three_fits form.Lam a b c = refl
 three_fits form.App a b c = refl
@@ -262,8 +254,7 @@ three_fits form.Weak a b c = sym (if_none (all_small (a ∷ b ∷ c ∷ [])))
 three_fits form.BoxNode a b c = sym (if_none (all_small (a ∷ b ∷ c ∷ [])))
 three_fits form.Door a b c = sym (if_none (all_small (a ∷ b ∷ c ∷ [])))
 three_fits form.Root a b c = sym (if_none (all_small (a ∷ b ∷ c ∷ [])))
-three_fits form.Fst a b c = sym (if_none (all_small (a ∷ b ∷ c ∷ [])))
-three_fits form.Snd a b c = sym (if_none (all_small (a ∷ b ∷ c ∷ [])))
+three_fits (form.Proj d) a b c = sym (if_none (all_small (a ∷ b ∷ c ∷ [])))
 
 -- a node of four numbers
 pub four_fits : (f : Form) (a b c d : ℕ)
@@ -272,9 +263,7 @@ four_fits form.Ifz a b c d = refl
 four_fits form.Const a b c d = sym (if_none (all_small (a ∷ b ∷ c ∷ d ∷ [])))
 four_fits form.Succ a b c d = sym (if_none (all_small (a ∷ b ∷ c ∷ d ∷ [])))
 four_fits form.Pred a b c d = sym (if_none (all_small (a ∷ b ∷ c ∷ d ∷ [])))
-four_fits form.Plus a b c d = sym (if_none (all_small (a ∷ b ∷ c ∷ d ∷ [])))
-four_fits form.Minus a b c d = sym (if_none (all_small (a ∷ b ∷ c ∷ d ∷ [])))
-four_fits form.Times a b c d = sym (if_none (all_small (a ∷ b ∷ c ∷ d ∷ [])))
+four_fits (form.Binary o) a b c d = sym (if_none (all_small (a ∷ b ∷ c ∷ d ∷ [])))
 four_fits form.Der a b c d = sym (if_none (all_small (a ∷ b ∷ c ∷ d ∷ [])))
 four_fits form.Con a b c d = sym (if_none (all_small (a ∷ b ∷ c ∷ d ∷ [])))
 four_fits form.Weak a b c d = sym (if_none (all_small (a ∷ b ∷ c ∷ d ∷ [])))
@@ -285,8 +274,7 @@ four_fits form.Door a b c d = sym (if_none (all_small (a ∷ b ∷ c ∷ d ∷ [
 four_fits form.FixBox a b c d = sym (if_none (all_small (a ∷ b ∷ c ∷ d ∷ [])))
 four_fits form.Root a b c d = sym (if_none (all_small (a ∷ b ∷ c ∷ d ∷ [])))
 four_fits form.Pair a b c d = sym (if_none (all_small (a ∷ b ∷ c ∷ d ∷ [])))
-four_fits form.Fst a b c d = sym (if_none (all_small (a ∷ b ∷ c ∷ d ∷ [])))
-four_fits form.Snd a b c d = sym (if_none (all_small (a ∷ b ∷ c ∷ d ∷ [])))
+four_fits (form.Proj s) a b c d = sym (if_none (all_small (a ∷ b ∷ c ∷ d ∷ [])))
 
 -- the numbers that were read are the line's
 word_is : (b : Bool) (n v : ℕ) → Some v ≡ (if b then Some n else None) → n ≡ v

@@ -2,8 +2,8 @@
 use Rattle.std.proofs.Common.{◌≡◌, ℕ, ◌^◌, ◌<◌, List, [], ◌∷◌, ◌++◌, length, Some, refl, ap, ◌∙◌, arith}
 use Rattle.std.specs.Prelude.{decimal}
 use Rattle.net_build.specs.declared.node.Node.{Node}
-use Rattle.net_build.specs.declared.node.Node.TheVariants.{Const, Succ, Pred, Plus, Minus, Times, Ifz, Der, Con, Weak, Lam, App, BoxNode}
-use Rattle.net_build.specs.declared.node.Node.TheVariants.{Door, FixBox, Root, Pair, Fst, Snd}
+use Rattle.net_build.specs.declared.node.Node.TheVariants.{Const, Succ, Pred, Ifz, Der, Con, Weak, Lam, App, BoxNode, Binary, Proj}
+use Rattle.net_build.specs.declared.node.Node.TheVariants.{Door, FixBox, Root, Pair}
 use Rattle.net_text.specs.Listing.{node_line, numbers_of, numbers_text, name_text}
 use Rattle.net_text.specs.NetText.{NodeFits, Small}
 use Rattle.net_text.specs.WireText.{after, number_from}
@@ -38,9 +38,7 @@ pub fits_wide : (x : Node) → NodeFits x → Wide (numbers_of x)
 fits_wide (Const v w) h = (h.0, (omega (arith, h.1), tt))
 fits_wide (Succ a w) h = small_wide (numbers_of (Succ a w)) h
 fits_wide (Pred a w) h = small_wide (numbers_of (Pred a w)) h
-fits_wide (Plus a b w) h = small_wide (numbers_of (Plus a b w)) h
-fits_wide (Minus a b w) h = small_wide (numbers_of (Minus a b w)) h
-fits_wide (Times a b w) h = small_wide (numbers_of (Times a b w)) h
+fits_wide (Binary o a b w) h = small_wide (numbers_of (Binary o a b w)) h
 fits_wide (Ifz c p q w) h = small_wide (numbers_of (Ifz c p q w)) h
 fits_wide (Der w x) h = small_wide (numbers_of (Der w x)) h
 fits_wide (Con l r w) h = small_wide (numbers_of (Con l r w)) h
@@ -52,17 +50,14 @@ fits_wide (Door i o) h = small_wide (numbers_of (Door i o)) h
 fits_wide (FixBox b x w) h = small_wide (numbers_of (FixBox b x w)) h
 fits_wide (Root w) h = small_wide (numbers_of (Root w)) h
 fits_wide (Pair a b w) h = small_wide (numbers_of (Pair a b w)) h
-fits_wide (Fst a w) h = small_wide (numbers_of (Fst a w)) h
-fits_wide (Snd a w) h = small_wide (numbers_of (Snd a w)) h
+fits_wide (Proj d a w) h = small_wide (numbers_of (Proj d a w)) h
 
 -- a node is read from its name on
 name_read : (x : Node) → Wide (numbers_of x) → from_name (name_text x ++ numbers_text (numbers_of x)) ≡ Some x
 name_read (Const v w) h = ap (λ o. after o (node_with form.Const)) (numbers_read (v ∷ w ∷ []) h)
 name_read (Succ a w) h = ap (λ o. after o (node_with form.Succ)) (numbers_read (a ∷ w ∷ []) h)
 name_read (Pred a w) h = ap (λ o. after o (node_with form.Pred)) (numbers_read (a ∷ w ∷ []) h)
-name_read (Plus a b w) h = ap (λ o. after o (node_with form.Plus)) (numbers_read (a ∷ b ∷ w ∷ []) h)
-name_read (Minus a b w) h = ap (λ o. after o (node_with form.Minus)) (numbers_read (a ∷ b ∷ w ∷ []) h)
-name_read (Times a b w) h = ap (λ o. after o (node_with form.Times)) (numbers_read (a ∷ b ∷ w ∷ []) h)
+name_read (Binary op a b w) h = ap (λ o. after o (node_with (form.Binary op))) (numbers_read (a ∷ b ∷ w ∷ []) h)
 name_read (Ifz c p q w) h = ap (λ o. after o (node_with form.Ifz)) (numbers_read (c ∷ p ∷ q ∷ w ∷ []) h)
 name_read (Der w x) h = ap (λ o. after o (node_with form.Der)) (numbers_read (w ∷ x ∷ []) h)
 name_read (Con l r w) h = ap (λ o. after o (node_with form.Con)) (numbers_read (l ∷ r ∷ w ∷ []) h)
@@ -74,8 +69,7 @@ name_read (Door i o) h = ap (λ o. after o (node_with form.Door)) (numbers_read 
 name_read (FixBox b x w) h = ap (λ o. after o (node_with form.FixBox)) (numbers_read (b ∷ x ∷ w ∷ []) h)
 name_read (Root w) h = ap (λ o. after o (node_with form.Root)) (numbers_read (w ∷ []) h)
 name_read (Pair a b w) h = ap (λ o. after o (node_with form.Pair)) (numbers_read (a ∷ b ∷ w ∷ []) h)
-name_read (Fst a w) h = ap (λ o. after o (node_with form.Fst)) (numbers_read (a ∷ w ∷ []) h)
-name_read (Snd a w) h = ap (λ o. after o (node_with form.Snd)) (numbers_read (a ∷ w ∷ []) h)
+name_read (Proj d a w) h = ap (λ o. after o (node_with (form.Proj d))) (numbers_read (a ∷ w ∷ []) h)
 
 -- A node is read from its line.
 pub node_read : (k : ℕ) (x : Node) → NodeFits x → node_in k (node_line k x) ≡ Some x

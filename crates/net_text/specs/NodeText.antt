@@ -1,8 +1,8 @@
 -- A node's line, read from its beginning to its end, as a wire's line is: its form by its name, and then its numbers.
 use Rattle.std.specs.Prelude.{◌^◌, ℕ, zero, suc, Bool, true, ◌&&◌, List, [], ◌∷◌, Option, Some, None, codes, decimal, nat_lt}
 use Rattle.net_build.specs.declared.node.Node.{Node}
-use Rattle.net_build.specs.declared.node.Node.TheVariants.{Const, Succ, Pred, Plus, Minus, Times, Ifz, Der, Con, Weak, Lam, App, BoxNode}
-use Rattle.net_build.specs.declared.node.Node.TheVariants.{Door, FixBox, Root, Pair, Fst, Snd}
+use Rattle.net_build.specs.declared.node.Node.TheVariants.{Const, Succ, Pred, Ifz, Der, Con, Weak, Lam, App, BoxNode, Binary, Proj}
+use Rattle.net_build.specs.declared.node.Node.TheVariants.{Door, FixBox, Root, Pair}
 use Rattle.net_text.specs.declared.form.Form.{Form}
 use Rattle.net_text.specs.declared.form.Form.TheVariants as form
 use Rattle.net_text.specs.Listing.{numbers_of}
@@ -14,9 +14,7 @@ abbrev pub name_of : Form → List ℕ
 name_of form.Const = codes " Const"
 name_of form.Succ = codes " Succ"
 name_of form.Pred = codes " Pred"
-name_of form.Plus = codes " Plus"
-name_of form.Minus = codes " Minus"
-name_of form.Times = codes " Times"
+name_of (form.Binary o) = codes " Binary o"
 name_of form.Ifz = codes " Ifz"
 name_of form.Der = codes " Der"
 name_of form.Con = codes " Con"
@@ -28,17 +26,14 @@ name_of form.Door = codes " Door"
 name_of form.FixBox = codes " FixBox"
 name_of form.Root = codes " Root"
 name_of form.Pair = codes " Pair"
-name_of form.Fst = codes " Fst"
-name_of form.Snd = codes " Snd"
+name_of (form.Proj d) = codes " Proj d"
 
 -- how many numbers its line has
 abbrev pub count_of : Form → ℕ
 count_of form.Const = 2
 count_of form.Succ = 2
 count_of form.Pred = 2
-count_of form.Plus = 3
-count_of form.Minus = 3
-count_of form.Times = 3
+count_of (form.Binary o) = 3
 count_of form.Ifz = 4
 count_of form.Der = 2
 count_of form.Con = 3
@@ -50,8 +45,7 @@ count_of form.Door = 2
 count_of form.FixBox = 3
 count_of form.Root = 1
 count_of form.Pair = 3
-count_of form.Fst = 2
-count_of form.Snd = 2
+count_of (form.Proj d) = 2
 
 -- the forms, in the order in which their names are tried: `Const` before `Con`, with which it begins
 abbrev pub all_forms : List Form
@@ -98,15 +92,12 @@ two_node form.Pred a b = Some (Pred a b)
 two_node form.Der a b = Some (Der a b)
 two_node form.BoxNode a b = Some (BoxNode a b)
 two_node form.Door a b = Some (Door a b)
-two_node form.Fst a b = Some (Fst a b)
-two_node form.Snd a b = Some (Snd a b)
+two_node (form.Proj d) a b = Some (Proj d a b)
 two_node f a b = None
 
 -- with three
 abbrev pub three_node : Form → ℕ → ℕ → ℕ → Option Node
-three_node form.Plus a b w = Some (Plus a b w)
-three_node form.Minus a b w = Some (Minus a b w)
-three_node form.Times a b w = Some (Times a b w)
+three_node (form.Binary o) a b w = Some (Binary o a b w)
 three_node form.Con a b w = Some (Con a b w)
 three_node form.Lam a b w = Some (Lam a b w)
 three_node form.App a b w = Some (App a b w)

@@ -6,7 +6,7 @@ use Rattle.pcf_values.specs.declared.val.Val.{Val}
 use Rattle.token_stacks.specs.Signatures.{Work, Boxes}
 use Rattle.fork_join.specs.Entries.{Entry as Kept, pending, has_left, has_right}
 use Rattle.net_build.specs.declared.node.Node.{Node}
-use Rattle.net_build.specs.declared.node.Node.TheVariants.{Succ, Pred, Plus, Minus, Times, Ifz, Root}
+use Rattle.net_build.specs.declared.node.Node.TheVariants.{Succ, Pred, Ifz, Root, Binary}
 use Rattle.net_build.specs.Nets.{NetTree}
 use Rattle.net_build.specs.Sides.{has, node_above, node_below}
 use Rattle.net_build.specs.Sound.{Sound}
@@ -92,9 +92,7 @@ brings i (Pred a c) v w [] t u e = absurd (gives _ u tt e)
 brings i (Ifz b p q c) v w [] t u e = absurd (gives _ u
     (no_either (if_wire b w (solo i _)) _ (no_wire b w (solo i _) tt)
     (no_operand p q w (solo i (ans v (down c [] t))) (solo i (ans v (down c [] t))) tt tt)) e)
-brings i (Plus a b c) v w [] t u e = absurd (gives _ u (no_operand a b w _ _ tt tt) e)
-brings i (Minus a b c) v w [] t u e = absurd (gives _ u (no_operand a b w _ _ tt tt) e)
-brings i (Times a b c) v w [] t u e = absurd (gives _ u (no_operand a b w _ _ tt tt) e)
+brings i (Binary o a b c) v w [] t u e = absurd (gives _ u (no_operand a b w _ _ tt tt) e)
 brings i n v w m t u e = absurd (gives _ u (no_solo i (plain_down n w m t) v) e)
 
 -- ---- the step that brings the answer

@@ -14,7 +14,7 @@ use Rattle.token_stacks.specs.Signatures.{Work, Boxes}
 use Rattle.token_stacks.specs.Texts.{boxes_text, key_text}
 use Rattle.fork_join.specs.Entries.{Entry, pending, has_left, has_right}
 use Rattle.net_build.specs.declared.node.Node.{Node}
-use Rattle.net_build.specs.declared.node.Node.TheVariants.{Const, Succ, Pred, Plus, Minus, Times, Ifz, Root}
+use Rattle.net_build.specs.declared.node.Node.TheVariants.{Const, Succ, Pred, Ifz, Root, Binary}
 use Rattle.net_build.specs.Nets.{NetTree}
 use Rattle.move_rules.specs.declared.token.Seen.{Seen}
 use Rattle.move_rules.specs.Places.{Place, up, down, TokenTree, ask, ans, place_of}
@@ -60,15 +60,11 @@ no_operator b None e = tt
 no_operator b (Some p) e = e
 
 plain_up_fits : (n : Node) (w : ℕ) (m : Work) (t : Boxes) → FitsPlain (is_operator n) (plain_up n w m t)
-plain_up_fits (Plus a b c) w m t = tt
-plain_up_fits (Minus a b c) w m t = tt
-plain_up_fits (Times a b c) w m t = tt
+plain_up_fits (Binary o a b c) w m t = tt
 plain_up_fits n w m t = no_operator (is_operator n) (plain_up n w m t) refl
 
 plain_down_fits : (n : Node) (w : ℕ) (m : Work) (t : Boxes) → FitsPlain (is_operator n) (plain_down n w m t)
-plain_down_fits (Plus a b c) w m t = tt
-plain_down_fits (Minus a b c) w m t = tt
-plain_down_fits (Times a b c) w m t = tt
+plain_down_fits (Binary o a b c) w m t = tt
 plain_down_fits n w m t = no_operator (is_operator n) (plain_down n w m t) refl
 
 pass_fits : (b : Bool) (i : ℕ) (o : Option Place) → FitsPlain b o → FitsLook b (pass_at i o)
@@ -84,9 +80,7 @@ look_up_fits i (Const v c) w [] t = refl
 look_up_fits i (Succ a c) w [] t = refl
 look_up_fits i (Pred a c) w [] t = refl
 look_up_fits i (Ifz b p q c) w [] t = refl
-look_up_fits i (Plus a b c) w [] t = refl
-look_up_fits i (Minus a b c) w [] t = refl
-look_up_fits i (Times a b c) w [] t = refl
+look_up_fits i (Binary o a b c) w [] t = refl
 look_up_fits i n w m t = pass_fits (is_operator n) i (plain_up n w m t) (plain_up_fits n w m t)
 
 look_fits : (i : ℕ) (n : Node) (p : Place) → FitsLook (is_operator n) (look_at i n p)
@@ -124,9 +118,7 @@ ans_fits i (Pred a c) v w [] t = refl
 ans_fits i (Ifz b p q c) v w [] t =
     either_fits false (if_wire b w (solo i _)) _ (wire_fits false b w (solo i _) refl)
     (both_fit false p q w (solo i (ans v (down c [] t))) (solo i (ans v (down c [] t))) refl refl)
-ans_fits i (Plus a b c) v w [] t = both_fit true a b w _ _ refl refl
-ans_fits i (Minus a b c) v w [] t = both_fit true a b w _ _ refl refl
-ans_fits i (Times a b c) v w [] t = both_fit true a b w _ _ refl refl
+ans_fits i (Binary o a b c) v w [] t = both_fit true a b w _ _ refl refl
 ans_fits i (Root c) v w [] t = refl
 ans_fits i n v w m t = solo_fits (is_operator n) i (plain_down n w m t) (ans v) (plain_down_fits n w m t)
 

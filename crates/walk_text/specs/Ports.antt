@@ -1,8 +1,8 @@
 -- The names of a node's wires: NAME with the names of two wires is a row of the table of moves, as docs/WALK.md has it.
 use Rattle.std.specs.Prelude.{ℕ, List, [], ◌∷◌, codes, nat_eq, if◌then◌else◌}
 use Rattle.net_build.specs.declared.node.Node.{Node}
-use Rattle.net_build.specs.declared.node.Node.TheVariants.{Const, Succ, Pred, Plus, Minus, Times, Ifz, Der, Con, Weak, Lam, App}
-use Rattle.net_build.specs.declared.node.Node.TheVariants.{BoxNode, Door, FixBox, Root, Pair, Fst, Snd}
+use Rattle.net_build.specs.declared.node.Node.TheVariants.{Const, Succ, Pred, Ifz, Der, Con, Weak, Lam, App, Binary, Proj}
+use Rattle.net_build.specs.declared.node.Node.TheVariants.{BoxNode, Door, FixBox, Root, Pair}
 use Rattle.net_build.specs.Nets.{premises, conclusions}
 use Rattle.move_rules.specs.Places.{Place, up, down}
 
@@ -11,9 +11,7 @@ abbrev pub above_names : Node → List (List ℕ)
 above_names (Const v w) = []
 above_names (Succ a w) = codes "operand" ∷ []
 above_names (Pred a w) = codes "operand" ∷ []
-above_names (Plus a b w) = codes "left" ∷ codes "right" ∷ []
-above_names (Minus a b w) = codes "left" ∷ codes "right" ∷ []
-above_names (Times a b w) = codes "left" ∷ codes "right" ∷ []
+above_names (Binary o a b w) = codes "left" ∷ codes "right" ∷ []
 above_names (Ifz c p q w) = codes "condition" ∷ codes "then" ∷ codes "else" ∷ []
 above_names (Der w x) = []
 above_names (Con l r w) = codes "left" ∷ codes "right" ∷ []
@@ -25,17 +23,14 @@ above_names (Door i o) = codes "inside" ∷ []
 above_names (FixBox b x w) = codes "body" ∷ codes "variable" ∷ []
 above_names (Root w) = codes "value" ∷ []
 above_names (Pair a b w) = codes "first" ∷ codes "second" ∷ []
-above_names (Fst a w) = codes "operand" ∷ []
-above_names (Snd a w) = codes "operand" ∷ []
+above_names (Proj d a w) = codes "operand" ∷ []
 
 -- the names of the wires below a node, in the order of its conclusions
 abbrev pub below_names : Node → List (List ℕ)
 below_names (Const v w) = codes "conclusion" ∷ []
 below_names (Succ a w) = codes "conclusion" ∷ []
 below_names (Pred a w) = codes "conclusion" ∷ []
-below_names (Plus a b w) = codes "conclusion" ∷ []
-below_names (Minus a b w) = codes "conclusion" ∷ []
-below_names (Times a b w) = codes "conclusion" ∷ []
+below_names (Binary o a b w) = codes "conclusion" ∷ []
 below_names (Ifz c p q w) = codes "conclusion" ∷ []
 below_names (Der w x) = codes "value" ∷ codes "variable" ∷ []
 below_names (Con l r w) = codes "conclusion" ∷ []
@@ -47,8 +42,7 @@ below_names (Door i o) = codes "outside" ∷ []
 below_names (FixBox b x w) = codes "conclusion" ∷ []
 below_names (Root w) = []
 below_names (Pair a b w) = codes "conclusion" ∷ []
-below_names (Fst a w) = codes "conclusion" ∷ []
-below_names (Snd a w) = codes "conclusion" ∷ []
+below_names (Proj d a w) = codes "conclusion" ∷ []
 
 -- the name of the first wire that is this one, and `-` where none is
 abbrev pub port : List ℕ → List (List ℕ) → ℕ → List ℕ

@@ -1,7 +1,7 @@
 -- Whole traces with their texts. The prover computes them.
 use Rattle.std.specs.Prelude.{◌≡◌, ℕ, zero, suc, List, [], ◌∷◌, ◌++◌, codes}
 use Rattle.pcf_values.specs.Terms.{nat}
-use Rattle.net_build.specs.declared.node.Node.TheVariants.{Const, Succ, Plus, Root}
+use Rattle.net_build.specs.declared.node.Node.TheVariants.{Const, Succ, Root}
 use Rattle.net_build.specs.Nets.{NetTree, value_wire}
 use Rattle.net_build.specs.Example.{doubled_net}
 use Rattle.schedule_log.specs.declared.entry.Entry.{Entry}

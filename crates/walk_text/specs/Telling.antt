@@ -5,7 +5,7 @@ use Rattle.pcf_values.specs.declared.val.Val.{Val}
 use Rattle.token_stacks.specs.Signatures.{Boxes, Load}
 use Rattle.token_stacks.specs.Texts.{work_text, boxes_text, key_text}
 use Rattle.net_build.specs.declared.node.Node.{Node}
-use Rattle.net_build.specs.declared.node.Node.TheVariants.{Plus, Minus, Times}
+use Rattle.net_build.specs.declared.node.Node.TheVariants.{Binary}
 use Rattle.net_build.specs.Nets.{NetTree}
 use Rattle.move_rules.specs.declared.token.Kind.{Kind}
 use Rattle.move_rules.specs.declared.token.Kind.TheVariants.{Ask, Ans}
@@ -42,9 +42,7 @@ way_text up = if up then codes " up " else codes " down "
 
 -- a node at which an entry is opened or closed
 abbrev pub is_operator : Node → Bool
-is_operator (Plus a b w) = true
-is_operator (Minus a b w) = true
-is_operator (Times a b w) = true
+is_operator (Binary o a b w) = true
 is_operator _ = false
 
 -- the port by which a token comes, and the one by which it leaves, by the wire and the direction
