@@ -7,12 +7,13 @@ use Rattle.pcf_values.specs.declared.val.Val.{Val}
 use Rattle.pcf_values.specs.declared.val.Val.TheVariants.{Number, Overflow}
 use Rattle.pcf_values.specs.Values.{within, val_succ, val_pred, val_op, at_zero}
 use Rattle.pcf_values.specs.declared.operator.Operator.{Operator}
-use Rattle.pcf_values.specs.declared.operator.Operator.TheVariants.{Plus, Minus, Times}
 use Rattle.pcf_values.specs.Terms.{TyTree, nat, arrow, product, at_side, TermTree, num, var, succ_of, pred_of}
 use Rattle.pcf_values.specs.declared.side.Side.{Side}
 use Rattle.pcf_values.specs.declared.side.Side.TheVariants.{Left, Right}
 use Rattle.pcf_values.specs.Terms.{binary, ifz, lam, fix, app, pair, proj}
 use Rattle.pcf_values.specs.Typing.{HasType}
+use Rattle.pcf_values.proofs.Types.{arrow_left, arrow_right, product_left, product_right}
+use Rattle.pcf_values.proofs.Arithmetic.{IsSmall, within_small, op_small}
 use Rattle.cbn_meaning.specs.Substitution.{replaced, subst_at}
 use Rattle.cbn_meaning.specs.Meaning.{Res, value, closure, paired, eval, on_value, Head}
 use Rattle.cbn_meaning.specs.Laws.{ResultHasType}
@@ -93,18 +94,6 @@ pub subst_keeps_type : (g : List TyTree) (m n : TermTree) (a t : TyTree) → Has
     HasType g (subst_at m 0 n) t
 subst_keeps_type g m n a t e h = subst_typed m [] g n a t e h
 
-pub arrow_left : {a b c d : TyTree} → arrow a b ≡ arrow c d → a ≡ c
-arrow_left e = cc
-
-pub arrow_right : {a b c d : TyTree} → arrow a b ≡ arrow c d → b ≡ d
-arrow_right e = cc
-
-product_left : {a b c d : TyTree} → product a b ≡ product c d → a ≡ c
-product_left e = cc
-
-product_right : {a b c d : TyTree} → product a b ≡ product c d → b ≡ d
-product_right e = cc
-
 -- a part of a pair has the type's part
 part_typed : (s : Side) (m n : TermTree) (a b c d : TyTree) → HasType [] m c → HasType [] n d → product a b ≡ product c d →
     HasType [] (at_side s m n) (at_side s a b)
@@ -134,15 +123,16 @@ head_keeps_type _ n t h k = elim k [ ]
 abbrev pub Fits : Val → Type 0
 Fits v = ResultHasType (value v) nat
 
-within_fits : (n : ℕ) → Fits (within n)
-within_fits n = go (cases_lt n (2 ^ 64))
-  where
-    go : (n < 2 ^ 64) ⊎ (2 ^ 64 ≤ n) → Fits (within n)
-    go (inl l) = subst (λ b. Fits (cond b (Number n) Overflow)) (sym (lt-ltb n (2 ^ 64) l)) (l, refl)
-    go (inr l) = subst (λ b. Fits (cond b (Number n) Overflow)) (sym (le-ltb n (2 ^ 64) l)) refl
+small_fits : (v : Val) → IsSmall v → Fits v
+small_fits (Number n) h = (h, refl)
+small_fits Overflow h = refl
+
+fits_small : (v : Val) → Fits v → IsSmall v
+fits_small (Number n) h = h.0
+fits_small Overflow h = tt
 
 succ_fits : (v : Val) → Fits v → Fits (val_succ v)
-succ_fits (Number n) h = within_fits (n + 1)
+succ_fits (Number n) h = small_fits (within (n + 1)) (within_small (n + 1))
 succ_fits Overflow h = refl
 
 pred_fits : (v : Val) → Fits v → Fits (val_pred v)
@@ -150,19 +140,8 @@ pred_fits (Number zero) h = h
 pred_fits (Number (suc n)) h = (omega (arith, h.0), refl)
 pred_fits Overflow h = refl
 
-minus_fits : (a b : ℕ) → a < 2 ^ 64 → a - b < 2 ^ 64
-minus_fits a b h = omega arith
-
-op_fits : (o : Operator) (v w : Val) → Fits v → Fits w → Fits (val_op o v w)
-op_fits Plus (Number a) (Number b) h k = within_fits (a + b)
-op_fits Minus (Number a) (Number b) h k = (minus_fits a b h.0, refl)
-op_fits Times (Number a) (Number b) h k = within_fits (a * b)
-op_fits Plus (Number a) Overflow h k = refl
-op_fits Minus (Number a) Overflow h k = refl
-op_fits Times (Number a) Overflow h k = refl
-op_fits Plus Overflow w h k = refl
-op_fits Minus Overflow w h k = refl
-op_fits Times Overflow w h k = refl
+op_fits : (o : Operator) (v w : Val) → Fits v → Fits (val_op o v w)
+op_fits o v w h = small_fits (val_op o v w) (op_small o v w (fits_small v h))
 
 branch_typed : (v : Val) (p q : TermTree) → HasType [] p nat → HasType [] q nat → HasType [] (at_zero v p q) nat
 branch_typed (Number zero) p q h k = h
@@ -194,7 +173,7 @@ result_keeps_type (suc d) (binary o a b) t r h e =
     let (w, j, k) = from_value (eval d b) (λ w. Some (value (val_op o v w))) r g in
     let q : value (val_op o v w) ≡ r = cc in
     subst (λ r. ResultHasType r t) q (subst (ResultHasType (value (val_op o v w))) (sym h.2)
-    (op_fits o v w (result_keeps_type d a nat (value v) h.0 i) (result_keeps_type d b nat (value w) h.1 j)))
+    (op_fits o v w (result_keeps_type d a nat (value v) h.0 i)))
 result_keeps_type (suc d) (ifz c p q) t r h e =
     let (v, i, g) = from_value (eval d c) (λ v. eval d (at_zero v p q)) r e in
     subst (ResultHasType r) (sym h.3) (result_keeps_type d (at_zero v p q) nat r (branch_typed v p q h.1 h.2) g)

@@ -5,9 +5,10 @@ use Rattle.std.specs.Prelude.{◌↔◌}
 use Rattle.std.proofs.lemmas.Bool.{lt-ltb, ltb-true, cases_Bool, cases_from_iff, iff_false, MatchBool-at_true}
 use Rattle.pcf_values.specs.Terms.{at_side, TyTree, nat, arrow, product, TermTree, num, var, succ_of, pred_of, binary, ifz, lam, fix}
 use Rattle.pcf_values.specs.declared.side.Side.{Side}
-use Rattle.pcf_values.specs.Terms.{app, pair, proj}
+use Rattle.pcf_values.specs.Terms.{app, pair, proj, same_type}
 use Rattle.pcf_values.specs.Typing.{HasType}
-use Rattle.net_terms.specs.Typable.{same_type, if_number, function_to, if_same, fixed, applied, paired, part_type, type_of}
+use Rattle.net_terms.specs.Typable.{if_number, function_to, if_same, fixed, applied, paired, part_type, type_of}
+use Rattle.pcf_values.proofs.Types.{same_refl, same_is}
 
 -- two tests that pass
 pub both_true : (a b : Bool) → a ≡ true → b ≡ true → (a && b) ≡ true
@@ -23,30 +24,6 @@ first_true false b h = h
 second_true : (a b : Bool) → (a && b) ≡ true → b ≡ true
 second_true true b h = h
 second_true false b h = cc
-
--- a type is itself
-pub same_refl : (a : TyTree) → same_type a a ≡ true
-same_refl nat = refl
-same_refl (arrow a b) = both_true (same_type a a) (same_type b b) (same_refl a) (same_refl b)
-same_refl (product a b) = both_true (same_type a a) (same_type b b) (same_refl a) (same_refl b)
-
--- types that are found one are one
-pub same_is : (a b : TyTree) → same_type a b ≡ true → a ≡ b
-same_is nat nat h = refl
-same_is nat (arrow c d) h = cc
-same_is nat (product c d) h = cc
-same_is (arrow a b) nat h = cc
-same_is (arrow a b) (arrow c d) h =
-    let p = same_is a c (first_true (same_type a c) (same_type b d) h) in
-    let q = same_is b d (second_true (same_type a c) (same_type b d) h) in
-    λ k. arrow (p k) (q k)
-same_is (arrow a b) (product c d) h = cc
-same_is (product a b) nat h = cc
-same_is (product a b) (arrow c d) h = cc
-same_is (product a b) (product c d) h =
-    let p = same_is a c (first_true (same_type a c) (same_type b d) h) in
-    let q = same_is b d (second_true (same_type a c) (same_type b d) h) in
-    λ k. product (p k) (q k)
 
 -- the definitions' steps, taken apart
 number_parts : (o r : Option TyTree) (t : TyTree) → if_number o r ≡ Some t → (o ≡ Some nat) × (r ≡ Some t)

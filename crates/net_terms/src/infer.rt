@@ -2,10 +2,10 @@
 
 ghost use Rattle.std.specs.Prelude.{◌≡◌, ◌↔◌, ◌∷◌, [], ◌^◌, IsTrue, Option, Some, None, IfOk, OnOk, nat_lt, slice_get, if◌then◌else◌};
 ghost use Rattle.std.specs.Option.{option_map};
-ghost use Rattle.pcf_values.specs.Terms.{TyTree, nat};
+ghost use Rattle.pcf_values.specs.Terms.{TyTree, nat, same_type};
 ghost use Rattle.pcf_values.specs.Typing.{HasType};
 ghost use Rattle.pcf_values.specs.Views.{term_of, ty_of};
-ghost use Rattle.net_terms.specs.Typable.{applied, context_of, fixed, function_to, if_number, if_same, paired, part_type, same_type};
+ghost use Rattle.net_terms.specs.Typable.{applied, context_of, fixed, function_to, if_number, if_same, paired, part_type};
 ghost use Rattle.net_terms.specs.Typable.{type_of};
 
 use pcf_values::{Term, Ty};

@@ -1,7 +1,8 @@
 -- The count and the height of what is read.
 use Rattle.std.proofs.Common.{◌≡◌, ℕ, suc, ◌+◌, ◌*◌, ◌<◌, ◌≤◌, List, [], ◌∷◌, ◌++◌, refl, subst, arith}
 use Rattle.pcf_values.specs.Most.{most_nodes, most_open}
-use Rattle.pcf_values.specs.Named.{NamedTree, number_at, name_at, word_at, binary_at, pair_at, ifz_at, bind_at, apply_at, named_size}
+use Rattle.pcf_values.specs.Named.{NamedTree, number_at, name_at, word_at, binary_at, pair_at, ifz_at, bind_at, apply_at}
+use Rattle.pcf_values.specs.NamedSize.{named_size}
 use Rattle.pcf_values.specs.Named.{named_height}
 use Rattle.pcf_reader.specs.Tokens.{Close, Dot, Comma, Plus, Minus, Times, Arrow, Then, Else, End}
 use Rattle.pcf_reader.specs.Grammar.{Type_, only_ptype, arrow_type, PType, only_tatom, times_type, TAtom, nat_type, paren_type, Expr}

@@ -27,4 +27,3 @@ pub mod Fits
 pub mod Fine
 pub mod Shows
 pub mod Back
-mod Placed

@@ -1,6 +1,7 @@
 -- What the crate is for, beside what its calls answer: laws over texts and trees.
 use Rattle.std.specs.Prelude.{◌≡◌, ◌⊎◌, ℕ, ◌≤◌, List, length}
-use Rattle.pcf_values.specs.Named.{NamedTree, named_size, named_height}
+use Rattle.pcf_values.specs.Named.{NamedTree, named_height}
+use Rattle.pcf_values.specs.NamedSize.{named_size}
 use Rattle.pcf_reader.specs.Correct.{Text, FirstFault}
 use Rattle.pcf_reader.specs.Printed.{term_text, placeless}
 use Rattle.pcf_values.specs.Most.{most_nodes, most_program_bytes}

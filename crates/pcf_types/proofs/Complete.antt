@@ -12,6 +12,7 @@ use Rattle.pcf_types.specs.declared.fault.TypeFault.TheVariants.{FixMismatch, Ar
 use Rattle.pcf_types.specs.Checking.{Context, variable, type_of}
 use Rattle.pcf_types.specs.Resolution.{Resolves, word_term, binder_term}
 use Rattle.pcf_types.specs.Correct.{names_in, types_in}
+use Rattle.pcf_values.proofs.Types.{arrow_right, product_left, product_right}
 use Rattle.pcf_types.proofs.SameTypes.{as_type_same}
 use Rattle.pcf_types.proofs.Nearest.{found_nearest, one_binder}
 
@@ -62,15 +63,6 @@ typed_accepted g tree m t r h = complete tree g m r t h
 
 one_get : (g : List TyTree) (i : ℕ) (t u : TyTree) → slice_get g i ≡ Some t → slice_get g i ≡ Some u → t ≡ u
 one_get g i t u h k = let e : Some t ≡ Some u = sym h ∙ k in cc
-
-arrow_right : {a b c d : TyTree} → arrow a b ≡ arrow c d → b ≡ d
-arrow_right e = cc
-
-product_left : {a b c d : TyTree} → product a b ≡ product c d → a ≡ c
-product_left e = cc
-
-product_right : {a b c d : TyTree} → product a b ≡ product c d → b ≡ d
-product_right e = cc
 
 side_same : (s : Side) (a b c d : TyTree) → product a b ≡ product c d → at_side s a b ≡ at_side s c d
 side_same Left a b c d e = product_left e

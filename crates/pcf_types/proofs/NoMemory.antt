@@ -1,11 +1,11 @@
 -- Want of memory is no answer of the definition.
 use Rattle.std.proofs.Common.{◌≡◌, ◌≢◌, ℕ, Bool, true, false, cond, ap, ◌∷◌, Option, Some, None, Result, Ok, Err}
-use Rattle.pcf_values.specs.Terms.{TyTree, nat, arrow, product, TermTree}
+use Rattle.pcf_values.specs.Terms.{TyTree, nat, arrow, product, TermTree, same_type}
 use Rattle.pcf_values.specs.Named.{the_succ, the_pred, the_fst, the_snd, the_fun, the_fix, NamedTree, number_at, name_at, word_at}
 use Rattle.pcf_values.specs.Named.{binary_at, pair_at, ifz_at, bind_at, apply_at, place_of}
 use Rattle.pcf_types.specs.declared.fault.TypeFault.{TypeFault}
 use Rattle.pcf_types.specs.declared.fault.TypeFault.TheVariants.{NoMemory, FixMismatch, ArgumentMismatch}
-use Rattle.pcf_types.specs.Checking.{Context, Answer, go_on, same_type, as_nat, number, numbers, as_function, as_pair, of_type, variable}
+use Rattle.pcf_types.specs.Checking.{Context, Answer, go_on, as_nat, number, numbers, as_function, as_pair, of_type, variable}
 use Rattle.pcf_types.specs.Checking.{nearest, type_of}
 
 abbrev pub Clean : {A : Type 0} → Result A TypeFault → Type 0

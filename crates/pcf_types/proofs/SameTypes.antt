@@ -1,38 +1,16 @@
 -- The definition's test of two types is equality.
 use Rattle.std.proofs.Common.{◌≡◌, ◌≢◌, ℕ, Bool, true, false, cond, Ok, Err, refl, sym, ap, ◌∙◌}
-use Rattle.std.proofs.lemmas.Bool.{and_parts, and_from}
-use Rattle.pcf_values.specs.Terms.{TyTree, nat, arrow, product, TermTree}
+use Rattle.pcf_values.specs.Terms.{TyTree, nat, arrow, product, TermTree, same_type}
 use Rattle.pcf_types.specs.declared.fault.TypeFault.{TypeFault}
 use Rattle.pcf_values.specs.declared.named.Named.{Named}
 use Rattle.pcf_values.specs.Named.{place_of}
 use Rattle.pcf_values.specs.Views.{named_of}
 use Rattle.pcf_types.specs.declared.fault.TypeFault.TheVariants.{NatWanted}
 use Rattle.pcf_types.specs.declared.scope.Scope.{Scope}
-use Rattle.pcf_types.specs.Checking.{Answer, same_type, as_type, of_type, as_nat, number}
+use Rattle.pcf_types.specs.Checking.{Answer, as_type, of_type, as_nat, number}
 use Rattle.pcf_types.specs.Views.{type_in, number_in, of_type_in}
+use Rattle.pcf_values.proofs.Types.{same_refl, same_is}
 use Rattle.pcf_types.proofs.Places.{place}
-
-pub same_refl : (a : TyTree) → same_type a a ≡ true
-same_refl nat = refl
-same_refl (arrow a b) = and_from (same_type a a) (same_type b b) (same_refl a) (same_refl b)
-same_refl (product a b) = and_from (same_type a a) (same_type b b) (same_refl a) (same_refl b)
-
-pub same_is : (a b : TyTree) → same_type a b ≡ true → a ≡ b
-same_is nat nat h = refl
-same_is nat (arrow c d) h = cc
-same_is nat (product c d) h = cc
-same_is (arrow a b) nat h = cc
-same_is (arrow a b) (arrow c d) h =
-    let p = same_is a c (and_parts (same_type a c) (same_type b d) h).0 in
-    let q = same_is b d (and_parts (same_type a c) (same_type b d) h).1 in
-    λ k. arrow (p k) (q k)
-same_is (arrow a b) (product c d) h = cc
-same_is (product a b) nat h = cc
-same_is (product a b) (arrow c d) h = cc
-same_is (product a b) (product c d) h =
-    let p = same_is a c (and_parts (same_type a c) (same_type b d) h).0 in
-    let q = same_is b d (and_parts (same_type a c) (same_type b d) h).1 in
-    λ k. product (p k) (q k)
 
 bool_cases : {A : Type 0} (b : Bool) (m n : A) (h : b ≡ true → ⊥) → cond b m n ≡ n
 bool_cases true m n h = absurd (h refl)

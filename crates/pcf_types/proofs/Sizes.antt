@@ -2,7 +2,8 @@
 use Rattle.std.proofs.Common.{◌≡◌, ℕ, suc, ◌+◌, max, List, Ok, refl, ap, ◌∙◌}
 use Rattle.pcf_values.specs.Terms.{TyTree, TermTree, size, height}
 use Rattle.pcf_values.specs.Named.{Word, the_succ, the_pred, the_fst, the_snd, Binder, the_fun, the_fix, NamedTree, number_at, name_at}
-use Rattle.pcf_values.specs.Named.{word_at, binary_at, pair_at, ifz_at, bind_at, apply_at, named_size, named_height}
+use Rattle.pcf_values.specs.Named.{word_at, binary_at, pair_at, ifz_at, bind_at, apply_at, named_height}
+use Rattle.pcf_values.specs.NamedSize.{named_size}
 use Rattle.pcf_types.specs.Checking.{Context, type_of}
 use Rattle.pcf_types.specs.Resolution.{Resolves, word_term, binder_term}
 use Rattle.pcf_types.proofs.Sound.{good}

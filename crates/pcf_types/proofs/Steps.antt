@@ -1,10 +1,10 @@
 -- What each step of the definition was made of where it gave a term.
 use Rattle.std.proofs.Common.{◌≡◌, ℕ, Bool, true, false, cond, Result, Ok, Err, refl, ap, ◌∙◌}
-use Rattle.pcf_values.specs.Terms.{TyTree, nat, arrow, product, TermTree}
+use Rattle.pcf_values.specs.Terms.{TyTree, nat, arrow, product, TermTree, same_type}
 use Rattle.pcf_types.specs.declared.fault.TypeFault.{TypeFault}
-use Rattle.pcf_types.specs.Checking.{Answer, go_on, same_type, as_nat, number, numbers, as_function, function, as_pair, both, as_type}
+use Rattle.pcf_types.specs.Checking.{Answer, go_on, as_nat, number, numbers, as_function, function, as_pair, both, as_type}
 use Rattle.pcf_types.specs.Checking.{of_type}
-use Rattle.pcf_types.proofs.SameTypes.{same_is}
+use Rattle.pcf_values.proofs.Types.{same_is}
 
 abbrev in_ok : {A : Type 0} → A → Result A TypeFault → A
 in_ok d (Ok a) = a

@@ -26,15 +26,6 @@ abbrev pub go_on : {A B : Type 0} → Result A TypeFault → (A → Result B Typ
 go_on (Ok a) f = f a
 go_on (Err e) f = Err e
 
--- whether both are one type
-abbrev pub same_type : TyTree → TyTree → Bool
-same_type nat nat = true
-same_type (arrow a b) (arrow c d) = same_type a c && same_type b d
-same_type (product a b) (product c d) = same_type a c && same_type b d
-same_type nat _ = false
-same_type (arrow a b) _ = false
-same_type (product a b) _ = false
-
 -- one binder further out
 abbrev pub further : Option (ℕ × TyTree) → Option (ℕ × TyTree)
 further None = None

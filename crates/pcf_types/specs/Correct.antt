@@ -3,7 +3,8 @@
 use Rattle.std.specs.Prelude.{◌≡◌, ◌≢◌, ℕ, List, map, Ok, Err}
 use Rattle.pcf_values.specs.Terms.{TyTree, TermTree, size, height}
 use Rattle.pcf_values.specs.Typing.{HasType}
-use Rattle.pcf_values.specs.Named.{NamedTree, named_size, named_height}
+use Rattle.pcf_values.specs.Named.{NamedTree, named_height}
+use Rattle.pcf_values.specs.NamedSize.{named_size}
 use Rattle.pcf_types.specs.declared.fault.TypeFault.TheVariants.{NoMemory}
 use Rattle.pcf_types.specs.Checking.{Context, type_of, NumbersFit}
 use Rattle.pcf_types.specs.Resolution.{Resolves}

@@ -6,5 +6,9 @@ pub mod Typing
 pub mod Named
 pub mod Views
 pub mod Most
+-- What laws and measures speak of, and no promise of the program needs: the size of a term as it is read, and that the constants of
+-- `limits` are the limits.
+pub mod NamedSize
+pub mod Constants
 -- How the logic stores values, types and terms, so that models can have them. It says nothing of them.
 pub mod Codes

@@ -1,8 +1,6 @@
 -- The limits of the program as numbers, each inclusive, under the names that definitions and contracts use. The constants of
 -- `limits` are these numbers, which is what `law_limits` says.
-use Rattle.std.specs.Prelude.{◌≡◌, ℕ}
-use Rattle.pcf_values.specs.declared.limits.TheConstants.{PROGRAM_BYTES, SCHEDULE_BYTES, PROGRAM_NODES, OPEN_PHRASES, WORKERS, BUDGET}
-use Rattle.pcf_values.specs.declared.limits.TheConstants.{SCHEDULE_MOVES, DEMO}
+use Rattle.std.specs.Prelude.{ℕ}
 
 -- the most bytes of a program's file
 abbrev pub most_program_bytes : ℕ
@@ -35,14 +33,3 @@ most_moves = 10000000
 -- the largest number of a generated program
 abbrev pub most_demo : ℕ
 most_demo = 12
-
--- each constant is the number of its name
-pub record LimitsAre : Type 0 where
-  pub program_bytes : PROGRAM_BYTES ≡ most_program_bytes
-  pub schedule_bytes : SCHEDULE_BYTES ≡ most_schedule_bytes
-  pub nodes : PROGRAM_NODES ≡ most_nodes
-  pub open_phrases : OPEN_PHRASES ≡ most_open
-  pub workers : WORKERS ≡ most_workers
-  pub budget : BUDGET ≡ most_budget
-  pub moves : SCHEDULE_MOVES ≡ most_moves
-  pub demo : DEMO ≡ most_demo

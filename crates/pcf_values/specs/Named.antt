@@ -1,7 +1,7 @@
 -- Terms as they are read: with names in place of indexes, and with the place in the text of each node.
 -- A place is an offset in bytes from the beginning of the text. The words that stand before an atom are one form, and so are the
 -- binders and the operators, as in the grammar.
-use Rattle.std.specs.Prelude.{ℕ, suc, ◌+◌, max, List}
+use Rattle.std.specs.Prelude.{ℕ, suc, max, List}
 use Rattle.pcf_values.specs.declared.operator.Operator.{Operator}
 use Rattle.pcf_values.specs.Terms.{TyTree}
 
@@ -36,17 +36,6 @@ place_of (pair_at at a b) = at
 place_of (ifz_at at c p q) = at
 place_of (bind_at at b x t m) = at
 place_of (apply_at at f a) = at
-
--- how many nodes the term has, its types and its parentheses not counted
-abbrev pub named_size : NamedTree → ℕ
-named_size (number_at at n) = 1
-named_size (name_at at x) = 1
-named_size (word_at at w a) = suc (named_size a)
-named_size (binary_at at o a b) = suc (named_size a + named_size b)
-named_size (pair_at at a b) = suc (named_size a + named_size b)
-named_size (ifz_at at c p q) = suc (named_size c + named_size p + named_size q)
-named_size (bind_at at b x t m) = suc (named_size m)
-named_size (apply_at at f a) = suc (named_size f + named_size a)
 
 -- the length of a longest path from the root to a leaf, types and parentheses aside; a leaf has height 1
 abbrev pub named_height : NamedTree → ℕ

@@ -1,7 +1,7 @@
 -- Types and terms as trees: what contracts see of `Ty` and `Term`, without where their parts lie in memory.
 -- Variables are indexes, the nearest binder first, so that no name can be captured. The strict operators are one form with its
 -- operator, and `fst` and `snd` are one form with its side, so that each rule for them is stated and proved once.
-use Rattle.std.specs.Prelude.{ℕ, suc, ◌+◌, max}
+use Rattle.std.specs.Prelude.{ℕ, suc, ◌+◌, max, Bool, true, false, ◌&&◌}
 use Rattle.pcf_values.specs.declared.operator.Operator.{Operator}
 use Rattle.pcf_values.specs.declared.side.Side.{Side}
 use Rattle.pcf_values.specs.declared.side.Side.TheVariants.{Left, Right}
@@ -11,6 +11,15 @@ pub data TyTree : Type 0 where
   nat : TyTree
   arrow : TyTree → TyTree → TyTree
   product : TyTree → TyTree → TyTree
+
+-- whether both are one type
+abbrev pub same_type : TyTree → TyTree → Bool
+same_type nat nat = true
+same_type (arrow a b) (arrow c d) = same_type a c && same_type b d
+same_type (product a b) (product c d) = same_type a c && same_type b d
+same_type nat _ = false
+same_type (arrow a b) _ = false
+same_type (product a b) _ = false
 
 -- the first on the left, the second on the right
 abbrev pub at_side : {A : Type 0} → Side → A → A → A

@@ -1,6 +1,6 @@
 //! What the constants of `limits` are, as a contract.
 
-ghost use Rattle.pcf_values.specs.Most.{LimitsAre};
+ghost use Rattle.pcf_values.specs.Constants.{LimitsAre};
 
 /// Each limit is the number that definitions and contracts call by its name.
 pub fn law_limits()

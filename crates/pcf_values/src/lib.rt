@@ -1,7 +1,7 @@
 //! Values, types and terms of PCF, as data.
 //!
-//! Everything above speaks of programs in this crate's words: `Val` with its arithmetic, `Operator`, `Side`, `Ident`, `Ty`, `Named` (a term as it is
-//! read, with names and places), `Term` (with variables by index) and `Typed`, a closed term that keeps its type.
+//! Everything above speaks of programs in this crate's words: `Val` with its arithmetic, `Operator`, `Side`, `Ident`, `Ty`, `Named` (a
+//! term as it is read, with names and places), `Term` (with variables by index) and `Typed`, a closed term that keeps its type.
 //! Each operation on values is its definition in `specs/Values.antt`; each tree is seen by contracts through a view of
 //! `specs/Views.antt`; the typing relation stands in `specs/Typing.antt`. Reading and checking are left to the crates above.
 #![tactic(auto)]

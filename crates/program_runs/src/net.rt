@@ -4,7 +4,8 @@ ghost use Rattle.std.specs.Prelude.{◌≡◌, ◌<◌, ◌≤◌, ◌+◌, ◌*
 ghost use Rattle.pcf_values.specs.Most.{most_nodes};
 ghost use Rattle.pcf_values.specs.Terms.{nat, size, height};
 ghost use Rattle.pcf_values.specs.Typing.{HasType};
-ghost use Rattle.pcf_values.specs.Named.{named_size, named_height};
+ghost use Rattle.pcf_values.specs.Named.{named_height};
+ghost use Rattle.pcf_values.specs.NamedSize.{named_size};
 ghost use Rattle.pcf_values.specs.Views.{named_of};
 ghost use Rattle.pcf_types.specs.Checking.{type_of};
 ghost use Rattle.cbv_terms.specs.Faults.{IsFaultless};

@@ -6,7 +6,8 @@
 
 ghost use Rattle.std.specs.Prelude.{◌≡◌, ◌≤◌, [], IfOk, IsTrue};
 ghost use Rattle.pcf_values.specs.Terms.{nat, size, height};
-ghost use Rattle.pcf_values.specs.Named.{named_size, named_height};
+ghost use Rattle.pcf_values.specs.Named.{named_height};
+ghost use Rattle.pcf_values.specs.NamedSize.{named_size};
 ghost use Rattle.pcf_values.specs.Views.{named_of};
 ghost use Rattle.pcf_values.specs.Typing.{HasType};
 ghost use Rattle.interleave_laws.specs.Runs.{Runs};

@@ -1,5 +1,5 @@
 use Rattle.std.proofs.Common.{◌+◌, ◌*◌}
-use Rattle.pcf_values.specs.Named.{named_size}
+use Rattle.pcf_values.specs.NamedSize.{named_size}
 use Rattle.pcf_values.specs.Views.{named_of}
 use Rattle.pcf_reader.proofs.print.+print_terms.Given as goal
 

@@ -1,5 +1,6 @@
-use Rattle.pcf_reader.proofs.Placed.{placed}
+use Rattle.std.proofs.Common.{sym}
+use Rattle.pcf_values.proofs.Places.{raw_place}
 use Rattle.pcf_reader.proofs.terms.place_of.Goals as goal
 
 pub returns : goal.returns
-returns c = placed c.args.tree.now.raw c.args.tree.now.at
+returns c = sym (raw_place c.args.tree.now.raw c.args.tree.now.at)
