@@ -386,13 +386,6 @@ double_roots node t n d g p q e h i =
     both_none p.nodes _ h
     (both_none q.nodes _ i (both_none c.nodes _ (contract_roots o d g p.free q.free) (e p.out q.out (o + length c.wires))))
 
-binary_root : (o : Operator) (a b w : ℕ) → roots (Binary o a b w ∷ []) ≡ 0
-binary_root o a b w = refl
-
-proj_root : (s : Side) (a w : ℕ) → roots (Proj s a w ∷ []) ≡ 0
-proj_root Left a w = refl
-proj_root Right a w = refl
-
 -- three parts without a root make one without a root
 ifz_roots : (n d : ℕ) (g : List TyTree) (x y z : Part) → roots x.nodes ≡ 0 → roots y.nodes ≡ 0 → roots z.nodes ≡ 0
     → roots (ifz_part n d g x y z).nodes ≡ 0
@@ -436,7 +429,7 @@ part_roots (succ_of m) n d g = both_none (part n d g m).nodes _ (part_roots m n 
 part_roots (pred_of m) n d g = both_none (part n d g m).nodes _ (part_roots m n d g) refl
 part_roots (binary o m l) n d g =
     let p = part n d g m in
-    double_roots (Binary o) nat n d g p (part (n + length p.wires) d g l) (binary_root o) (part_roots m n d g)
+    double_roots (Binary o) nat n d g p (part (n + length p.wires) d g l) (λ a b w. refl) (part_roots m n d g)
     (part_roots l (n + length p.wires) d g)
 part_roots (ifz i m l) n d g =
     let x = part n d g i in
@@ -452,7 +445,7 @@ part_roots (pair m l) n d g =
     let p = part n d g m in
     let q = part (n + length p.wires) d g l in
     double_roots Pair (product p.type q.type) n d g p q (λ a b w. refl) (part_roots m n d g) (part_roots l (n + length p.wires) d g)
-part_roots (proj s m) n d g = both_none (part n d g m).nodes _ (part_roots m n d g) (proj_root s _ _)
+part_roots (proj s m) n d g = both_none (part n d g m).nodes _ (part_roots m n d g) refl
 
 -- the entry at a seam
 pub nth_seam : (pre : List WireTree) (k : WireTree) (ks : List WireTree) → slice_get (pre ++ k ∷ ks) (length pre) ≡ Some k

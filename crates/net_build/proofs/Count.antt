@@ -5,7 +5,6 @@ use Rattle.std.specs.Prelude.{slice_get}
 use Rattle.pcf_values.specs.declared.operator.Operator.{Operator}
 use Rattle.pcf_values.specs.Terms.{TyTree, nat, arrow, product, TermTree, num, var, succ_of, pred_of, binary}
 use Rattle.pcf_values.specs.declared.side.Side.{Side}
-use Rattle.pcf_values.specs.declared.side.Side.TheVariants.{Left, Right}
 use Rattle.pcf_values.specs.Terms.{ifz, lam, fix, app, pair, proj}
 use Rattle.pcf_values.specs.Typing.{HasType}
 use Rattle.net_build.specs.declared.node.Node.{Node}
@@ -279,8 +278,7 @@ binary_ends : (o : Operator) (a b w : ℕ) → (conclusions (Binary o a b w) ≡
 binary_ends o a b w = (refl, refl)
 
 proj_ends : (s : Side) (a w : ℕ) → (conclusions (Proj s a w) ≡ w ∷ []) × (premises (Proj s a w) ≡ a ∷ [])
-proj_ends Left a w = (refl, refl)
-proj_ends Right a w = (refl, refl)
+proj_ends s a w = (refl, refl)
 
 -- every typed part gives its value wire and its variables' wires, and uses up all others
 pub counted : (m : TermTree) (n d : ℕ) (g : List TyTree) (a : TyTree) → HasType g m a → PartCounted n (part n d g m)

@@ -1,13 +1,13 @@
 -- The index that a net keeps beside its lists: for each wire the number of the least node on one side of it.
 use Rattle.std.specs.Prelude.{◌≡◌, ◌<◌, ℕ, List, [], ◌∷◌, length, Option, Some, slice_get, slice_set}
 use Rattle.net_build.specs.declared.node.Node.{Node}
-use Rattle.net_build.specs.declared.index.Side.{Side}
-use Rattle.net_build.specs.declared.index.Side.TheVariants.{Above, Below}
+use Rattle.net_build.specs.declared.index.Face.{Face}
+use Rattle.net_build.specs.declared.index.Face.TheVariants.{Above, Below}
 use Rattle.net_build.specs.Nets.{premises, conclusions}
 use Rattle.net_build.specs.Sides.{least, number_of}
 
 -- the wires that have the node on this side of them
-abbrev pub wires_with : Side → Node → List ℕ
+abbrev pub wires_with : Face → Node → List ℕ
 wires_with Above = conclusions
 wires_with Below = premises
 

@@ -9,7 +9,7 @@ use std::alloc::{AllocError, Global};
 
 /// The side of a wire on which a node stands.
 #[derive(Clone, Copy)]
-pub(crate) enum Side {
+pub(crate) enum Face {
     Above,
     Below,
 }
@@ -17,19 +17,19 @@ pub(crate) enum Side {
 /// For each of `wires` wires the least node on that side of it. What a node names past these wires is left out.
 pub(crate) fn index(
     alloc: Global,
-    side: Side,
+    face: Face,
     wires: usize,
     nodes: &[Node],
 ) -> Result<Vec<Option<u32>>, AllocError>
     requires { length nodes.now < 2 ^ 32 }
-    ensures { IfOk result (λ v. Indexes (wires_with side) wires 0 nodes.now v.items) }
+    ensures { IfOk result (λ v. Indexes (wires_with face) wires 0 nodes.now v.items) }
 {
     let mut least = none_of(alloc, wires)?;
     let mut n = nodes.len();
     // From the last node to the first, so that the least one is written last.
     while n > 0 {
         n -= 1;
-        mark_each(&mut least, side, nodes[n], n as u32);
+        mark_each(&mut least, face, nodes[n], n as u32);
     }
     Ok(least)
 }
@@ -40,24 +40,24 @@ fn none_of(alloc: Global, count: usize) -> Result<Vec<Option<u32>>, AllocError>
     vec![in alloc; None; count]
 }
 
-fn mark_each(least: &mut Vec<Option<u32>>, side: Side, node: Node, n: u32)
-    ensures { least.new.items ≡ marked n (wires_with side node) least.old.items }
+fn mark_each(least: &mut Vec<Option<u32>>, face: Face, node: Node, n: u32)
+    ensures { least.new.items ≡ marked n (wires_with face node) least.old.items }
 {
-    let (first, second, third) = on_side(side, node);
+    let (first, second, third) = on_face(face, node);
     mark(least, first, n);
     mark(least, second, n);
     mark(least, third, n);
 }
 
-fn on_side(side: Side, node: Node) -> (Option<u32>, Option<u32>, Option<u32>)
-    ensures { present (result.0 ∷ result.1 ∷ result.2 ∷ []) ≡ wires_with side node }
+fn on_face(face: Face, node: Node) -> (Option<u32>, Option<u32>, Option<u32>)
+    ensures { present (result.0 ∷ result.1 ∷ result.2 ∷ []) ≡ wires_with face node }
 {
-    match side {
-        Side::Above => {
+    match face {
+        Face::Above => {
             let (first, second) = node.conclusions();
             (first, second, None)
         }
-        Side::Below => node.premises(),
+        Face::Below => node.premises(),
     }
 }
 

@@ -7,7 +7,7 @@ ghost use Rattle.net_build.specs.Sides.{node_above, node_below, number_of};
 ghost use Rattle.net_build.specs.Kept.{entry_at};
 ghost use Rattle.net_build.specs.Numbers.{set_at, with_number};
 
-use crate::index::{Side, index};
+use crate::index::{Face, index};
 use crate::lists::{copy_wires, same_nodes, same_wires};
 use crate::{Node, Wire};
 use std::alloc::{AllocError, Global};
@@ -51,8 +51,8 @@ impl Net {
         requires nodes { length nodes.items < 2 ^ 32 }
         ensures { IfOk result (λ n. n ≡ record { wires = map wire_of wires.items; nodes = nodes.items }) }
     {
-        let above = index(alloc, Side::Above, wires.len(), &nodes)?;
-        let below = index(alloc, Side::Below, wires.len(), &nodes)?;
+        let above = index(alloc, Face::Above, wires.len(), &nodes)?;
+        let below = index(alloc, Face::Below, wires.len(), &nodes)?;
         Ok(Net {
             wires,
             nodes,
