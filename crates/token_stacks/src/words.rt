@@ -1,5 +1,5 @@
 // The words of the encoding, and two steps on vectors of words that no clause on stacks speaks of.
-ghost use Rattle.std.specs.Prelude.{◌≡◌, ◌++◌, ◌+◌, ◌≤◌, OnOk, OnErr, length, take, drop, vec_len};
+ghost use Rattle.std.specs.Prelude.{◌≡◌, ◌++◌, ◌+◌, ◌≤◌, OnOk, OnErr, length, take, drop, vec_len, vec_capacity};
 ghost use Rattle.token_stacks.specs.Parts.{Swaps, put_at};
 
 use std::alloc::AllocError;
@@ -22,20 +22,42 @@ pub(crate) const SYMBOL_L: u64 = 6;
 
 pub(crate) const SIGNATURE: u64 = 7;
 
-// Adds both pieces at the end, or neither.
+// Adds a piece, for which there is room.
+fn add_piece(words: &mut Vec<u64>, piece: &[u64])
+    requires { vec_len words.old + length piece.now ≤ vec_capacity words.old }
+    ensures items { words.new.items ≡ words.old.items ++ piece.now }
+    ensures len { vec_len words.new ≡ vec_len words.old + length piece.now }
+    ensures capacity { vec_capacity words.old ≤ vec_capacity words.new }
+{
+    if piece.len() == 1 {
+        words.push_reserved(piece[0]);
+        return;
+    }
+    match words.extend_from_slice(piece) {
+        Ok(()) => {}
+        Err(_) => unreachable!(),
+    }
+}
+
+// Adds few words, for which there is room, one by one.
+fn add_ends(words: &mut Vec<u64>, ends: &[u64])
+    requires { vec_len words.old + length ends.now ≤ vec_capacity words.old }
+    ensures { words.new.items ≡ words.old.items ++ ends.now }
+{
+    for word in ends {
+        words.push_reserved(*word);
+    }
+}
+
+// Adds both pieces at the end, or neither. The second is short: the ends of a signature.
 pub(crate) fn append(words: &mut Vec<u64>, piece: &[u64], tail: &[u64]) -> Result<(), AllocError>
     ensures ok { OnOk result (words.new.items ≡ words.old.items ++ (piece.now ++ tail.now)) }
     ensures err { OnErr result (words.new.items ≡ words.old.items) }
 {
-    let n = words.len();
-    words.extend_from_slice(piece)?;
-    match words.extend_from_slice(tail) {
-        Ok(()) => Ok(()),
-        Err(error) => {
-            words.truncate(n);
-            Err(error)
-        }
-    }
+    words.reserve(piece.len() + tail.len())?;
+    add_piece(words, piece);
+    add_ends(words, tail);
+    Ok(())
 }
 
 // From so many words on a piece is put below others without a place that is made for it first.
