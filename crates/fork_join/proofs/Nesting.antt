@@ -24,10 +24,10 @@ use Rattle.token_stacks.specs.Signatures.{Boxes}
 use Rattle.token_stacks.specs.Order.{box_eq, box_cmp, box_cmp-total, box_cmp-same}
 use Rattle.token_stacks.proofs.WordLaws.{boxes_in_order}
 use Rattle.fork_join.specs.Entries.{Entry, same_key, kept_as, Key, key_cmp}
-use Rattle.fork_join.specs.Arrivals.{side_of, IsOpenFor, arrival, with_arrival, after_arrival}
-use Rattle.fork_join.specs.declared.side.Side.{Side}
-use Rattle.fork_join.specs.declared.side.Side.TheVariants.{Left as LeftSide, Right as RightSide}
-use Rattle.fork_join.specs.declared.side.Arrived.TheVariants.{Both}
+use Rattle.fork_join.specs.Arrivals.{IsOpenFor, arrival, with_arrival, after_arrival}
+use Rattle.pcf_values.specs.declared.side.Side.{Side}
+use Rattle.pcf_values.specs.declared.side.Side.TheVariants.{Left as LeftSide, Right as RightSide}
+use Rattle.fork_join.specs.declared.outcome.Arrived.TheVariants.{Both}
 use Rattle.fork_join.specs.declared.forks.Kept.{Kept}
 use Rattle.fork_join.specs.declared.forks.Kept.TheVariants.{Nothing, Left, Right}
 use Rattle.fork_join.specs.Nested.{entry_of, kept_at, arrival_at, kept_after, Forks, Nodes, in_forks, entry_at, tagged, flat, table_of}
@@ -220,12 +220,12 @@ taken_out old middle new t x s v w h p q u =
     ∙ ap (λ (y : Option Kept). cond b y (tree.get box_cmp old u)) (sym (closes (tree.get box_cmp old t) s v w h))
 
 -- the code's word for the first answer stands for the definition's
-kept_side : (s : Side) (v : Val) → entry_of (kept_at s v) ≡ kept_as (side_of s) v
+kept_side : (s : Side) (v : Val) → entry_of (kept_at s v) ≡ kept_as s v
 kept_side LeftSide v = refl
 kept_side RightSide v = refl
 
 -- what is open for an answer is there
-open_there : (o : Option Kept) (s : Side) → IsOpenFor (option_map entry_of o) (side_of s) → IsSome o
+open_there : (o : Option Kept) (s : Side) → IsOpenFor (option_map entry_of o) s → IsSome o
 open_there None s h = elim h [ ]
 open_there (Some k) s h = refl
 
@@ -238,9 +238,9 @@ same_arrival (Some (Right w)) = refl
 
 -- the finite map changes as an answer changes it
 arrived : (old new : Nodes) (n : ℕ) (t : Boxes) (s : Side) (v : Val) (o : Option Kept)
-    → IsOrdered nat_cmp old → IsOrdered nat_cmp new → IsOpenFor (option_map entry_of o) (side_of s) →
+    → IsOrdered nat_cmp old → IsOrdered nat_cmp new → IsOpenFor (option_map entry_of o) s →
     Puts old new n t (kept_after o s v)
-    → table_of new ≡ with_arrival (option_map entry_of o) (table_of old) (n, t) (side_of s) v
+    → table_of new ≡ with_arrival (option_map entry_of o) (table_of old) (n, t) s v
 arrived old new n t s v None so sn h q = elim h [ ]
 arrived old new n t s v (Some Nothing) so sn h q =
     table_put old new n t so sn (kept_at s v) q ∙ ap (finite.insert (table_of old) (n, t)) (kept_side s v)
@@ -267,8 +267,8 @@ module _ (m : Nodes) (f : FinMap key_cmp Entry) (view : table_of m ≡ f) (n : �
   seen_has = (λ h. subst IsSome (sym seen_get) (some_there (entry_at m n t) h), λ h. some_back (entry_at m n t) (subst IsSome seen_get h))
 
   -- the entry that an answer wants is there
-  pub seen_there : (s : Side) → IsOpenFor (finite.get f (n, t)) (side_of s) → IsSome (entry_at m n t)
-  seen_there s h = open_there (entry_at m n t) s (subst (λ o. IsOpenFor o (side_of s)) seen_get h)
+  pub seen_there : (s : Side) → IsOpenFor (finite.get f (n, t)) s → IsSome (entry_at m n t)
+  seen_there s h = open_there (entry_at m n t) s (subst (λ o. IsOpenFor o s) seen_get h)
 
   -- what comes of the answer
   pub seen_arrival : arrival_at (entry_at m n t) ≡ arrival (finite.get f (n, t))
@@ -276,12 +276,12 @@ module _ (m : Nodes) (f : FinMap key_cmp Entry) (view : table_of m ≡ f) (n : �
 
   -- the table after the answer
   pub seen_arrived : (new : Nodes) (s : Side) (v : Val) → IsOrdered nat_cmp new
-      → IsOpenFor (finite.get f (n, t)) (side_of s) → Puts m new n t (kept_after (entry_at m n t) s v)
-      → table_of new ≡ after_arrival f (n, t) (side_of s) v
+      → IsOpenFor (finite.get f (n, t)) s → Puts m new n t (kept_after (entry_at m n t) s v)
+      → table_of new ≡ after_arrival f (n, t) s v
   seen_arrived new s v sn h q =
-      arrived m new n t s v (entry_at m n t) so sn (subst (λ o. IsOpenFor o (side_of s)) seen_get h) q
-      ∙ ap (λ o. with_arrival o (table_of m) (n, t) (side_of s) v) (sym seen_get)
-      ∙ ap (λ g. with_arrival (finite.get f (n, t)) g (n, t) (side_of s) v) view
+      arrived m new n t s v (entry_at m n t) so sn (subst (λ o. IsOpenFor o s) seen_get h) q
+      ∙ ap (λ o. with_arrival o (table_of m) (n, t) s v) (sym seen_get)
+      ∙ ap (λ g. with_arrival (finite.get f (n, t)) g (n, t) s v) view
 
   -- the table with the new entry
   pub seen_put : (new : Nodes) (k : Kept) → IsOrdered nat_cmp new → Puts m new n t (Some k)

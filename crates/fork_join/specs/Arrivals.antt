@@ -5,26 +5,19 @@ use Rattle.std.specs.Prelude.{Option, Some, None}
 use Rattle.std.specs.FinMap.{FinMap, get, insert, remove}
 use Rattle.pcf_values.specs.declared.val.Val.{Val}
 use Rattle.pcf_values.specs.declared.side.Side.{Side}
-use Rattle.pcf_values.specs.declared.side.Side.TheVariants.{Left as left_side, Right as right_side}
+use Rattle.pcf_values.specs.declared.side.Side.TheVariants.{Left, Right}
 use Rattle.fork_join.specs.Entries.{Entry, pending, has_left, has_right, kept_as, Key, key_cmp}
-use Rattle.fork_join.specs.declared.side.Side.{Side as CodeSide}
-use Rattle.fork_join.specs.declared.side.Side.TheVariants.{Left, Right}
-use Rattle.fork_join.specs.declared.side.Arrived.{Arrived}
-use Rattle.fork_join.specs.declared.side.Arrived.TheVariants.{First, Both}
-
--- the side that the code names
-abbrev pub side_of : CodeSide → Side
-side_of Left = left_side
-side_of Right = right_side
+use Rattle.fork_join.specs.declared.outcome.Arrived.{Arrived}
+use Rattle.fork_join.specs.declared.outcome.Arrived.TheVariants.{First, Both}
 
 -- the entry is there, and this side isn't kept in it
 abbrev pub IsOpenFor : Option Entry → Side → Type 0
 IsOpenFor None s = ⊥
 IsOpenFor (Some pending) s = Unit {0}
-IsOpenFor (Some (has_left v)) left_side = ⊥
-IsOpenFor (Some (has_left v)) right_side = Unit {0}
-IsOpenFor (Some (has_right v)) left_side = Unit {0}
-IsOpenFor (Some (has_right v)) right_side = ⊥
+IsOpenFor (Some (has_left v)) Left = ⊥
+IsOpenFor (Some (has_left v)) Right = Unit {0}
+IsOpenFor (Some (has_right v)) Left = Unit {0}
+IsOpenFor (Some (has_right v)) Right = ⊥
 
 -- the other side's value, where it is kept
 abbrev pub arrival : Option Entry → Arrived

@@ -11,10 +11,10 @@ use Rattle.pcf_values.specs.declared.val.Val.{Val}
 use Rattle.token_stacks.specs.Signatures.{Boxes}
 use Rattle.token_stacks.specs.Order.{box_cmp}
 use Rattle.fork_join.specs.Entries.{Entry, pending, has_left, has_right, Key, key_cmp}
-use Rattle.fork_join.specs.declared.side.Side.{Side}
-use Rattle.fork_join.specs.declared.side.Side.TheVariants.{Left as LeftSide, Right as RightSide}
-use Rattle.fork_join.specs.declared.side.Arrived.{Arrived}
-use Rattle.fork_join.specs.declared.side.Arrived.TheVariants.{First, Both}
+use Rattle.pcf_values.specs.declared.side.Side.{Side}
+use Rattle.pcf_values.specs.declared.side.Side.TheVariants.{Left as LeftSide, Right as RightSide}
+use Rattle.fork_join.specs.declared.outcome.Arrived.{Arrived}
+use Rattle.fork_join.specs.declared.outcome.Arrived.TheVariants.{First, Both}
 use Rattle.fork_join.specs.declared.forks.Kept.{Kept}
 use Rattle.fork_join.specs.declared.forks.Kept.TheVariants.{Nothing, Left, Right}
 

@@ -6,8 +6,8 @@ ghost use Rattle.std.specs.Ordering.{nat_cmp};
 ghost use Rattle.token_stacks.specs.Order.{box_cmp};
 ghost use Rattle.fork_join.specs.Nested.{kept_at, arrival_at, kept_first, kept_after, PutsIn, entry_at, Puts, Keeps};
 
-use crate::{Arrived, Side};
-use pcf_values::Val;
+use crate::Arrived;
+use pcf_values::{Side, Val};
 use std::alloc::{AllocError, Global};
 use std::collections::BTreeMap;
 use token_stacks::BoxStack;

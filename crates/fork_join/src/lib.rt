@@ -10,10 +10,10 @@
 mod adding;
 mod forks;
 mod listing;
-mod side;
+mod outcome;
 mod table;
 
 pub use forks::Kept;
 pub use listing::Open;
-pub use side::{Arrived, Side};
+pub use outcome::Arrived;
 pub use table::JoinTable;

@@ -4,15 +4,15 @@ ghost use Rattle.std.specs.Option.{option_or};
 ghost use Rattle.std.specs.FinMap.{empty, entries, get, insert, remove};
 ghost use Rattle.token_stacks.specs.Signatures.{Boxes};
 ghost use Rattle.fork_join.specs.Entries.{pending};
-ghost use Rattle.fork_join.specs.Arrivals.{side_of, IsOpenFor, arrival, after_arrival};
+ghost use Rattle.fork_join.specs.Arrivals.{IsOpenFor, arrival, after_arrival};
 ghost use Rattle.fork_join.specs.Listed.{open_of};
 ghost use Rattle.fork_join.specs.Nested.{entry_of};
 
 use crate::adding::put_all;
 use crate::forks::{Kept, Nodes, arrive_in, has_in, put_in, remove_in};
 use crate::listing::list_nodes;
-use crate::{Arrived, Open, Side};
-use pcf_values::Val;
+use crate::{Arrived, Open};
+use pcf_values::{Side, Val};
 use std::alloc::{AllocError, Global};
 use std::collections::BTreeMap;
 use std::marker::Model;
@@ -123,9 +123,9 @@ impl JoinTable {
     /// `First` comes exactly where nothing was kept, and the value is kept for the side. `Both` gives the other side's kept value, and
     /// the entry is gone. All other entries stay. Takes no memory.
     pub fn arrive(&mut self, node: u32, boxes: &BoxStack, side: Side, v: Val) -> Arrived
-        requires { IsOpenFor (get self.old (node, boxes.now)) (side_of side) }
+        requires { IsOpenFor (get self.old (node, boxes.now)) side }
         ensures arrived { result ≡ arrival (get self.old (node, boxes.now)) }
-        ensures rest { self.new ≡ after_arrival self.old (node, boxes.now) (side_of side) v }
+        ensures rest { self.new ≡ after_arrival self.old (node, boxes.now) side v }
     {
         arrive_in(&mut self.nodes, node, boxes, side, v)
     }
