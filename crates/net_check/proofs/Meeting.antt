@@ -2,7 +2,7 @@
 use Rattle.std.proofs.Common.{◌≡◌, ℕ, suc, Option, Some, None, Bool, true, false, refl, sym, ap, ◌∙◌}
 use Rattle.std.specs.Prelude.{slice_get, if◌then◌else◌}
 use Rattle.std.specs.Option.{unwrap_or}
-use Rattle.pcf_values.specs.Terms.{TyTree, nat, arrow, product}
+use Rattle.pcf_values.specs.Terms.{TyTree, nat, arrow, product, at_side}
 use Rattle.net_build.specs.declared.wire.WireKind.{WireKind}
 use Rattle.net_build.specs.declared.wire.WireKind.TheVariants.{Value, Bang, Variable}
 use Rattle.net_build.specs.declared.node.Node.{Node}
@@ -11,7 +11,8 @@ use Rattle.net_build.specs.declared.node.Node.TheVariants.{Door, FixBox, Root, P
 use Rattle.net_build.specs.Nets.{WireTree, NetTree, value_wire, bang_wire, var_wire}
 use Rattle.net_build.specs.Sound.{Is, Meets}
 use Rattle.net_check.specs.Rows.{same_kind, type_if, depth_in, value_type, bang_type, variable_type, Deep, IsThere, AreOne, IsArrow}
-use Rattle.net_check.specs.Rows.{IsProduct, IsLeft, IsRight, TypesMeet, DepthsMeet}
+use Rattle.net_check.specs.Rows.{IsProduct, IsPart, TypesMeet, DepthsMeet}
+use Rattle.pcf_values.specs.declared.side.Side.{Side}
 use Rattle.pcf_values.specs.declared.side.Side.TheVariants.{Left, Right}
 
 same_kind_is : (k l : WireKind) → same_kind k l ≡ true → k ≡ l
@@ -94,25 +95,16 @@ product_has (Some (product s t)) (Some a) (Some b) h = (s, t, refl, ap Some (sym
 product_from : (f a b : Option TyTree) (s t : TyTree) → f ≡ Some (product s t) → a ≡ Some s → b ≡ Some t → IsProduct f a b
 product_from f a b s t e g h = rw (e, g, h) (refl, refl)
 
-left_has : (f a : Option TyTree) → IsLeft f a → (s : TyTree) × (t : TyTree) × (f ≡ Some (product s t)) × (a ≡ Some s)
-left_has None a h = elim h [ ]
-left_has (Some nat) a h = elim h [ ]
-left_has (Some (arrow s t)) a h = elim h [ ]
-left_has (Some (product s t)) None h = elim h [ ]
-left_has (Some (product s t)) (Some a) h = (s, t, refl, ap Some (sym h))
+part_has : (side : Side) (f a : Option TyTree) → IsPart side f a
+    → (s : TyTree) × (t : TyTree) × (f ≡ Some (product s t)) × (a ≡ Some (at_side side s t))
+part_has side None a h = elim h [ ]
+part_has side (Some nat) a h = elim h [ ]
+part_has side (Some (arrow s t)) a h = elim h [ ]
+part_has side (Some (product s t)) None h = elim h [ ]
+part_has side (Some (product s t)) (Some a) h = (s, t, refl, ap Some (sym h))
 
-left_from : (f a : Option TyTree) (s t : TyTree) → f ≡ Some (product s t) → a ≡ Some s → IsLeft f a
-left_from f a s t e g = rw (e, g) refl
-
-right_has : (f a : Option TyTree) → IsRight f a → (s : TyTree) × (t : TyTree) × (f ≡ Some (product s t)) × (a ≡ Some t)
-right_has None a h = elim h [ ]
-right_has (Some nat) a h = elim h [ ]
-right_has (Some (arrow s t)) a h = elim h [ ]
-right_has (Some (product s t)) None h = elim h [ ]
-right_has (Some (product s t)) (Some a) h = (s, t, refl, ap Some (sym h))
-
-right_from : (f a : Option TyTree) (s t : TyTree) → f ≡ Some (product s t) → a ≡ Some t → IsRight f a
-right_from f a s t e g = rw (e, g) refl
+part_from : (side : Side) (f a : Option TyTree) (s t : TyTree) → f ≡ Some (product s t) → a ≡ Some (at_side side s t) → IsPart side f a
+part_from side f a s t e g = rw (e, g) refl
 
 module _ (net : NetTree) where
   v : (n : ℕ) (t : TyTree) (d : ℕ) → value_type net n ≡ Some t → Deep net n d → Is net n (value_wire d t)
@@ -158,9 +150,9 @@ module _ (net : NetTree) where
       product_has (value_type net w) (value_type net a) (value_type net c) h in
       (i.0, s, t, v a s i.0 f i.1, v c t i.0 g i.2, v w (product s t) i.0 e i.3)
   meets_both (Proj Left a w) h i = let (s, t, e, f) =
-      left_has (value_type net a) (value_type net w) h in (i.0, s, t, v a (product s t) i.0 e i.1, v w s i.0 f i.2)
+      part_has Left (value_type net a) (value_type net w) h in (i.0, s, t, v a (product s t) i.0 e i.1, v w s i.0 f i.2)
   meets_both (Proj Right a w) h i = let (s, t, e, f) =
-      right_has (value_type net a) (value_type net w) h in (i.0, s, t, v a (product s t) i.0 e i.1, v w t i.0 f i.2)
+      part_has Right (value_type net a) (value_type net w) h in (i.0, s, t, v a (product s t) i.0 e i.1, v w t i.0 f i.2)
 
   vt : (n : ℕ) (t : TyTree) (d : ℕ) → Is net n (value_wire d t) → value_type net n ≡ Some t
   vt n t d h = type_from (slice_get net.wires n) Value t d h
@@ -189,8 +181,8 @@ module _ (net : NetTree) where
       (one_from _ _ h.1 (vt c h.1 (suc h.0) h.2) (xt y h.1 (suc h.0) h.3), one_from _ _ h.1 (vt c h.1 (suc h.0) h.2) (vt w h.1 h.0 h.4))
   meets_types (Root w) h = vt w nat 0 h
   meets_types (Pair a c w) h = product_from _ _ _ h.1 h.2 (vt w (product h.1 h.2) h.0 h.5) (vt a h.1 h.0 h.3) (vt c h.2 h.0 h.4)
-  meets_types (Proj Left a w) h = left_from _ _ h.1 h.2 (vt a (product h.1 h.2) h.0 h.3) (vt w h.1 h.0 h.4)
-  meets_types (Proj Right a w) h = right_from _ _ h.1 h.2 (vt a (product h.1 h.2) h.0 h.3) (vt w h.2 h.0 h.4)
+  meets_types (Proj Left a w) h = part_from Left _ _ h.1 h.2 (vt a (product h.1 h.2) h.0 h.3) (vt w h.1 h.0 h.4)
+  meets_types (Proj Right a w) h = part_from Right _ _ h.1 h.2 (vt a (product h.1 h.2) h.0 h.3) (vt w h.2 h.0 h.4)
 
   dp : (n : ℕ) (k : WireKind) (t : TyTree) (d : ℕ) → Is net n (record { kind = k; depth = d; type = t }) → Deep net n d
   dp n k t d h = depth_from (slice_get net.wires n) k t d h

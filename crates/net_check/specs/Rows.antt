@@ -1,14 +1,14 @@
 -- The rows of the nodes in two halves: what they ask of kinds and types, and what they ask of depths.
 -- A node meets its row where it meets both halves. They stand apart since a fault says which half was missed, kinds and types first.
 use Rattle.std.specs.Prelude.{◌≡◌, ℕ, suc, Option, Some, None, slice_get, if◌then◌else◌, Bool, true, false}
-use Rattle.pcf_values.specs.Terms.{TyTree, nat, arrow, product}
+use Rattle.pcf_values.specs.Terms.{TyTree, nat, arrow, product, at_side}
 use Rattle.net_build.specs.declared.wire.WireKind.{WireKind}
 use Rattle.net_build.specs.declared.wire.WireKind.TheVariants.{Value, Bang, Variable}
 use Rattle.net_build.specs.declared.node.Node.{Node}
 use Rattle.net_build.specs.declared.node.Node.TheVariants.{Const, Succ, Pred, Ifz, Der, Con, Weak, Lam, App, BoxNode, Binary, Proj}
 use Rattle.net_build.specs.declared.node.Node.TheVariants.{Door, FixBox, Root, Pair}
 use Rattle.net_build.specs.Nets.{WireTree, NetTree}
-use Rattle.pcf_values.specs.declared.side.Side.TheVariants.{Left, Right}
+use Rattle.pcf_values.specs.declared.side.Side.{Side}
 
 abbrev pub same_kind : WireKind → WireKind → Bool
 same_kind Value Value = true
@@ -72,20 +72,13 @@ IsProduct (Some nat) a b = ⊥
 IsProduct (Some (arrow s t)) a b = ⊥
 IsProduct None a b = ⊥
 
--- the first is of pairs with the second as their left part, or as their right part
-abbrev pub IsLeft : Option TyTree → Option TyTree → Type 0
-IsLeft (Some (product s t)) (Some a) = s ≡ a
-IsLeft (Some (product s t)) None = ⊥
-IsLeft (Some nat) a = ⊥
-IsLeft (Some (arrow s t)) a = ⊥
-IsLeft None a = ⊥
-
-abbrev pub IsRight : Option TyTree → Option TyTree → Type 0
-IsRight (Some (product s t)) (Some a) = t ≡ a
-IsRight (Some (product s t)) None = ⊥
-IsRight (Some nat) a = ⊥
-IsRight (Some (arrow s t)) a = ⊥
-IsRight None a = ⊥
+-- the first is of pairs whose part on this side is of the second
+abbrev pub IsPart : Side → Option TyTree → Option TyTree → Type 0
+IsPart side (Some (product s t)) (Some a) = at_side side s t ≡ a
+IsPart side (Some (product s t)) None = ⊥
+IsPart side (Some nat) a = ⊥
+IsPart side (Some (arrow s t)) a = ⊥
+IsPart side None a = ⊥
 
 -- the wire stands in so many boxes
 abbrev pub Deep : NetTree → ℕ → ℕ → Type 0
@@ -109,8 +102,7 @@ TypesMeet net (Door i o) = AreOne (variable_type net i) (variable_type net o)
 TypesMeet net (FixBox b x w) = AreAllOne (value_type net b) (variable_type net x) (value_type net w)
 TypesMeet net (Root w) = value_type net w ≡ Some nat
 TypesMeet net (Pair a b w) = IsProduct (value_type net w) (value_type net a) (value_type net b)
-TypesMeet net (Proj Left a w) = IsLeft (value_type net a) (value_type net w)
-TypesMeet net (Proj Right a w) = IsRight (value_type net a) (value_type net w)
+TypesMeet net (Proj side a w) = IsPart side (value_type net a) (value_type net w)
 
 -- the node's wires are at the depths that its row asks
 abbrev pub DepthsMeet : NetTree → Node → Type 0
@@ -129,4 +121,4 @@ DepthsMeet net (Door i o) = (d : ℕ) × Deep net i (suc d) × Deep net o d
 DepthsMeet net (FixBox b x w) = (d : ℕ) × Deep net b (suc d) × Deep net x (suc d) × Deep net w d
 DepthsMeet net (Root w) = Deep net w 0
 DepthsMeet net (Pair a b w) = (d : ℕ) × Deep net a d × Deep net b d × Deep net w d
-DepthsMeet net (Proj s a w) = (d : ℕ) × Deep net a d × Deep net w d
+DepthsMeet net (Proj side a w) = (d : ℕ) × Deep net a d × Deep net w d

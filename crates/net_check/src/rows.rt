@@ -6,11 +6,11 @@ ghost use Rattle.pcf_values.specs.Terms.{TyTree, nat, arrow, product};
 ghost use Rattle.pcf_values.specs.Views.{ty_of};
 ghost use Rattle.net_build.specs.Views.{wire_of};
 ghost use Rattle.net_build.specs.declared.wire.WireKind.TheVariants.{Value, Bang, Variable};
-ghost use Rattle.net_check.specs.Rows.{AreAllOne, AreOne, Deep, DepthsMeet, IsArrow, IsLeft, IsProduct, IsRight, TypesMeet, depth_in};
+ghost use Rattle.net_check.specs.Rows.{AreAllOne, AreOne, Deep, DepthsMeet, IsArrow, IsPart, IsProduct, TypesMeet, depth_in};
 ghost use Rattle.net_check.specs.Rows.{type_if, value_type};
 
 use net_build::{Net, Node, Wire, WireKind};
-use pcf_values::Ty;
+use pcf_values::{Side, Ty};
 
 /// Whether the node's wires are of the kinds and types that its row asks.
 pub(crate) fn types_meet(net: &Net, node: Node) -> bool
@@ -20,11 +20,12 @@ pub(crate) fn types_meet(net: &Net, node: Node) -> bool
         Node::Const { wire, .. } | Node::Root { wire } => is_nat(net, wire),
         Node::Succ { operand, wire } | Node::Pred { operand, wire } => is_nat(net, operand)
             && is_nat(net, wire),
-        Node::Plus { left, right, wire }
-        | Node::Minus { left, right, wire }
-        | Node::Times { left, right, wire } => {
-            is_nat(net, left) && is_nat(net, right) && is_nat(net, wire)
-        }
+        Node::Binary {
+            left,
+            right,
+            wire,
+            ..
+        } => { is_nat(net, left) && is_nat(net, right) && is_nat(net, wire) }
         Node::Ifz {
             condition,
             then,
@@ -71,8 +72,11 @@ pub(crate) fn types_meet(net: &Net, node: Node) -> bool
             value(net, left),
             value(net, right),
         ),
-        Node::Fst { operand, wire } => is_left(value(net, operand), value(net, wire)),
-        Node::Snd { operand, wire } => is_right(value(net, operand), value(net, wire)),
+        Node::Proj {
+            side,
+            operand,
+            wire,
+        } => is_part(side, value(net, operand), value(net, wire)),
     }
 }
 
@@ -159,22 +163,15 @@ fn is_product(pair: Option<&Ty>, left: Option<&Ty>, right: Option<&Ty>) -> bool
     }
 }
 
-/// Whether the first is the type of pairs whose left part has the second.
-fn is_left(pair: Option<&Ty>, part: Option<&Ty>) -> bool
-    ensures { IsTrue result ↔ IsLeft (option_map (λ t. ty_of t.now) pair.entry) (option_map (λ t. ty_of t.now) part.entry) }
+/// Whether the first is the type of pairs whose part on this side has the second.
+fn is_part(side: Side, pair: Option<&Ty>, part: Option<&Ty>) -> bool
+    ensures { IsTrue result ↔ IsPart side (option_map (λ t. ty_of t.now) pair.entry) (option_map (λ t. ty_of t.now) part.entry) }
 {
     match (pair, part) {
-        (Some(Ty::Product(a, _)), Some(part)) => a.same(part),
-        _ => false,
-    }
-}
-
-/// Whether the first is the type of pairs whose right part has the second.
-fn is_right(pair: Option<&Ty>, part: Option<&Ty>) -> bool
-    ensures { IsTrue result ↔ IsRight (option_map (λ t. ty_of t.now) pair.entry) (option_map (λ t. ty_of t.now) part.entry) }
-{
-    match (pair, part) {
-        (Some(Ty::Product(_, b)), Some(part)) => b.same(part),
+        (Some(Ty::Product(a, b)), Some(part)) => match side {
+            Side::Left => a.same(part),
+            Side::Right => b.same(part),
+        },
         _ => false,
     }
 }
@@ -189,12 +186,14 @@ pub(crate) fn depths_meet(net: &Net, node: Node) -> bool
         Node::Root { wire } => depth(net, wire) == Some(0),
         Node::Succ { operand, wire }
         | Node::Pred { operand, wire }
-        | Node::Fst { operand, wire }
-        | Node::Snd { operand, wire } => level(net, operand, wire),
+        | Node::Proj { operand, wire, .. } => level(net, operand, wire),
         Node::Der { wire, variable } => level(net, wire, variable),
-        Node::Plus { left, right, wire }
-        | Node::Minus { left, right, wire }
-        | Node::Times { left, right, wire }
+        Node::Binary {
+            left,
+            right,
+            wire,
+            ..
+        }
         | Node::Pair { left, right, wire } => { level(net, left, right) && level(net, left, wire) }
         Node::Con { left, right, wire } => level(net, left, right) && level(net, left, wire),
         Node::Lam {
