@@ -4,7 +4,7 @@ use Rattle.std.proofs.Common.{ap, ◌∙◌, subst, inl, inr, arith}
 use Rattle.std.specs.Prelude.{◌^◌, slice_get}
 use Rattle.std.proofs.lemmas.Bool.{cases_lt, lt-ltb, le-ltb}
 use Rattle.std.proofs.lemmas.List.{append-nil, length-append}
-use Rattle.pcf_values.specs.Terms.{TyTree, TermTree, var, ifz, lam, fix, app}
+use Rattle.pcf_values.specs.Terms.{TyTree, nat, TermTree, var, ifz, lam, fix, app}
 use Rattle.net_build.specs.declared.node.Node.{Node}
 use Rattle.net_build.specs.declared.node.Node.TheVariants.{Der}
 use Rattle.net_build.specs.declared.parts.Parts.{Parts}
@@ -17,7 +17,7 @@ use Rattle.net_build.specs.NetOf.{Part, double_end, ifz_end, lam_end, fix_end, a
 use Rattle.net_build.specs.Views.{wire_of}
 use Rattle.net_build.specs.Building.{HasRoom, context_of, spread, Grows, Spreads, Gives, Builds, BuildsBody, frees, body_frees, wire_type}
 use Rattle.net_build.specs.Building.{Falling, IsPlaced, IsBody, unary_of}
-use Rattle.net_build.specs.Building.{part_at, second_at, third_at, body_at, double_node, double_type, double_here, double_of, ifz_here}
+use Rattle.net_build.specs.Building.{part_at, second_at, third_at, body_at, double_node, double_type, double_here, double_of, giving, ifz_here}
 use Rattle.net_build.specs.Building.{lam_here, fix_here, app_here, one_at}
 use Rattle.net_build.proofs.Growing.{grows_then, grows_length, kept_type, new_type, new_inside}
 use Rattle.net_build.proofs.Ending.{before, after}
@@ -148,7 +148,7 @@ module _ (form : Double) (s0 s1 : Parts) (d : ℕ) (a b : TermTree) (r1 : Placed
     -- the end that is built from there is the definition's
     double_path : double_here form s2 d r1 r2 ≡
         (let p = part_at s0 d a in let q = second_at s0 d p b in double_end (double_node form) (double_type form p.type q.type)
-        (length s0.wires.items + length p.wires + length q.wires) d (context_of s0.context.items) p.out q.out p.free q.free)
+        (length s0.wires.items + length p.wires + length q.wires) d (context_of s0.context.items) p q)
     double_path =
         let p = part_at s0 d a in
         let q = second_at s0 d p b in
@@ -158,8 +158,8 @@ module _ (form : Double) (s0 s1 : Parts) (d : ℕ) (a b : TermTree) (r1 : Placed
         let f = free_at s0 s1 s2 p r1 h.gives c in
         let f' = free_at s1 s2 s2 q r2 double_i.gives double_i.grows.context in
         let t : wire_type s2 r1.out ≡ p.type = kept_type s1 s2 q.wires q.nodes r1.out double_i.grows h.gives.inside ∙ h.gives.type in
-        λ k. double_end (double_node form) (double_type form (t k) (double_i.gives.type k)) (n k) d (context_of (c k)) (h.gives.out k)
-        (double_i.gives.out k) (f k) (f' k)
+        λ k. double_end (double_node form) (double_type form (t k) (double_i.gives.type k)) (n k) d (context_of (c k))
+        (giving (h.gives.out k) (t k) (f k)) (giving (double_i.gives.out k) (double_i.gives.type k) (f' k))
 
     -- room for the whole is room for its end
     pub double_close_room : HasRoom s0 d (double_of form s0 d a b) → HasRoom s2 d (double_here form s2 d r1 r2)
@@ -176,7 +176,7 @@ module _ (form : Double) (s0 s1 : Parts) (d : ℕ) (a b : TermTree) (r1 : Placed
         let p = part_at s0 d a in
         let q = second_at s0 d p b in
         let c = double_end (double_node form) (double_type form p.type q.type) (length s0.wires.items + length p.wires + length q.wires) d
-        (context_of s0.context.items) p.out q.out p.free q.free in
+        (context_of s0.context.items) p q in
         let j' : Builds s2 s3 c r = subst (λ t. Builds s2 s3 t r) double_path j in
         after s0 s1 s3 p.wires p.nodes (before q.wires q.nodes c) r h.grows (after s1 s2 s3 q.wires q.nodes c r double_i.grows j')
 
@@ -196,8 +196,7 @@ module _ (s0 s1 : Parts) (d : ℕ) (a b c : TermTree) (r1 : Placed) (h : Builds 
       let p = part_at s0 d a in
       let q = second_at s0 d p b in
       let r = third_at s0 d p q c in
-      ifz_end (length s0.wires.items + length p.wires + length q.wires + length r.wires) d (context_of s0.context.items) p.out q.out r.out
-      p.free q.free r.free
+      ifz_end (length s0.wires.items + length p.wires + length q.wires + length r.wires) d (context_of s0.context.items) p q r
 
   module _ (s2 : Parts) (r2 : Placed) (i : Builds s1 s2 (part_at s1 d b) r2) where
     ifz_i : Builds s1 s2 (second_at s0 d (part_at s0 d a) b) r2
@@ -252,7 +251,8 @@ module _ (s0 s1 : Parts) (d : ℕ) (a b c : TermTree) (r1 : Placed) (h : Builds 
           let f = free_at s0 s1 s3 p r1 h.gives e in
           let f' = free_at s1 s2 s3 q r2 ifz_i.gives (ifz_j.grows.context ∙ ifz_i.grows.context) in
           let f'' = free_at s2 s3 s3 r r3 ifz_j.gives ifz_j.grows.context in
-          λ k. ifz_end (ifz_next k) d (context_of (e k)) (h.gives.out k) (ifz_i.gives.out k) (ifz_j.gives.out k) (f k) (f' k) (f'' k)
+          λ k. ifz_end (ifz_next k) d (context_of (e k)) (giving (h.gives.out k) nat (f k)) (giving (ifz_i.gives.out k) nat (f' k))
+          (giving (ifz_j.gives.out k) nat (f'' k))
 
       -- room for the whole is room for its end
       pub ifz_close_room : HasRoom s0 d (part_at s0 d (ifz a b c)) → HasRoom s3 d (ifz_here s3 d r1 r2 r3)
@@ -290,7 +290,7 @@ module _ (s0 s1 : Parts) (d : ℕ) (a b : TermTree) (r1 : Placed) (h : Builds s0
   app_rest =
       let p = part_at s0 d a in
       let q = second_at s0 (suc d) p b in
-      app_end (length s0.wires.items + length p.wires + length q.wires) d (context_of s0.context.items) p.type p.out q.out p.free q.free
+      app_end (length s0.wires.items + length p.wires + length q.wires) d (context_of s0.context.items) p q
 
   module _ (s2 : Parts) (r2 : Placed) (i : Builds s1 s2 (part_at s1 (suc d) b) r2) where
     app_i : Builds s1 s2 (second_at s0 (suc d) (part_at s0 d a) b) r2
@@ -308,7 +308,7 @@ module _ (s0 s1 : Parts) (d : ℕ) (a b : TermTree) (r1 : Placed) (h : Builds s0
         let f = free_at s0 s1 s2 p r1 h.gives c in
         let f' = free_at s1 s2 s2 q r2 app_i.gives app_i.grows.context in
         let t : wire_type s2 r1.out ≡ p.type = kept_type s1 s2 q.wires q.nodes r1.out app_i.grows h.gives.inside ∙ h.gives.type in
-        λ k. app_end (n k) d (context_of (c k)) (t k) (h.gives.out k) (app_i.gives.out k) (f k) (f' k)
+        λ k. app_end (n k) d (context_of (c k)) (giving (h.gives.out k) (t k) (f k)) (giving (app_i.gives.out k) (app_i.gives.type k) (f' k))
 
     -- room for the whole is room for its end
     pub app_close_room : HasRoom s0 d (part_at s0 d (app a b)) → HasRoom s2 d (app_here s2 d r1 r2)
@@ -337,12 +337,12 @@ body_free_at s n s' p r g e = ap (λ c. spread (suc (length c)) (reverse r.free.
 
 -- the body of a function, at its depth
 module _ (s0 s1 : Parts) (d : ℕ) (t : TyTree) (m : TermTree) (r1 : Placed) (h : BuildsBody s0 s1 (body_at s0 d t m) r1) where
-  lam_path : lam_here s1 d t r1 ≡ (let p = body_at s0 d t m in lam_end (length s0.wires.items + length p.wires) d t p.type p.out p.free)
+  lam_path : lam_here s1 d t r1 ≡ (let p = body_at s0 d t m in lam_end (length s0.wires.items + length p.wires) d t p)
   lam_path =
       let p = body_at s0 d t m in
       let n = grows_length s0 s1 p.wires p.nodes h.grows in
       let f = body_free_at s0 s1 s1 p r1 h.gives h.grows.context in
-      λ k. lam_end (n k) d t (h.gives.type k) (h.gives.out k) (f k)
+      λ k. lam_end (n k) d t (giving (h.gives.out k) (h.gives.type k) (f k))
 
   -- room for the whole is room for its end
   pub lam_close_room : HasRoom s0 d (part_at s0 d (lam t m)) → HasRoom s1 d (lam_here s1 d t r1)
@@ -354,24 +354,24 @@ module _ (s0 s1 : Parts) (d : ℕ) (t : TyTree) (m : TermTree) (r1 : Placed) (h 
   pub lam_builds : (s2 : Parts) (r : Placed) → Builds s1 s2 (lam_here s1 d t r1) r → Builds s0 s2 (part_at s0 d (lam t m)) r
   lam_builds s2 r j =
       let p = body_at s0 d t m in
-      let c = lam_end (length s0.wires.items + length p.wires) d t p.type p.out p.free in
+      let c = lam_end (length s0.wires.items + length p.wires) d t p in
       after s0 s1 s2 p.wires p.nodes c r h.grows (subst (λ t. Builds s1 s2 t r) lam_path j)
 
 -- the body of a fixed point, one depth further in
 module _ (s0 s1 : Parts) (d : ℕ) (t : TyTree) (m : TermTree) (r1 : Placed) (h : BuildsBody s0 s1 (body_at s0 (suc d) t m) r1) where
   fix_path : fix_here s1 d t r1 ≡
-      (let p = body_at s0 (suc d) t m in fix_end (length s0.wires.items + length p.wires) d (context_of s0.context.items) t p.out p.free)
+      (let p = body_at s0 (suc d) t m in fix_end (length s0.wires.items + length p.wires) d (context_of s0.context.items) t p)
   fix_path =
       let p = body_at s0 (suc d) t m in
       let n = grows_length s0 s1 p.wires p.nodes h.grows in
       let f = body_free_at s0 s1 s1 p r1 h.gives h.grows.context in
-      λ k. fix_end (n k) d (context_of (h.grows.context k)) t (h.gives.out k) (f k)
+      λ k. fix_end (n k) d (context_of (h.grows.context k)) t (giving (h.gives.out k) nat (f k))
 
   -- room for the whole is room for its end
   pub fix_close_room : HasRoom s0 d (part_at s0 d (fix t m)) → HasRoom s1 d (fix_here s1 d t r1)
   fix_close_room l =
       let p = body_at s0 (suc d) t m in
-      let c = fix_end (length s0.wires.items + length p.wires) d (context_of s0.context.items) t p.out p.free in
+      let c = fix_end (length s0.wires.items + length p.wires) d (context_of s0.context.items) t p in
       let e : length (fix_here s1 d t r1).wires ≡ length c.wires = ap (λ q. length q.wires) fix_path in
       omega (arith, l, e, grows_length s0 s1 p.wires p.nodes h.grows, length-append p.wires c.wires)
 
@@ -379,7 +379,7 @@ module _ (s0 s1 : Parts) (d : ℕ) (t : TyTree) (m : TermTree) (r1 : Placed) (h 
   pub fix_builds : (s2 : Parts) (r : Placed) → Builds s1 s2 (fix_here s1 d t r1) r → Builds s0 s2 (part_at s0 d (fix t m)) r
   fix_builds s2 r j =
       let p = body_at s0 (suc d) t m in
-      let c = fix_end (length s0.wires.items + length p.wires) d (context_of s0.context.items) t p.out p.free in
+      let c = fix_end (length s0.wires.items + length p.wires) d (context_of s0.context.items) t p in
       after s0 s1 s2 p.wires p.nodes c r h.grows (subst (λ t. Builds s1 s2 t r) fix_path j)
 
 -- the same, where the argument's depth is told as a number of its own

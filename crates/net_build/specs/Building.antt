@@ -158,28 +158,37 @@ abbrev pub double_type : Double → TyTree → TyTree → TyTree
 double_type (double.Binary o) t u = nat
 double_type double.Pair t u = product t u
 
+-- what an operand gives, as a part whose wires and nodes are no matter: an end doesn't ask for them
+abbrev pub giving : ℕ → TyTree → List (Option ℕ) → Part
+giving out type free = record { wires = []; nodes = []; out = out; type = type; free = free }
+
+abbrev pub placed : Parts → Placed → Part
+placed s r = giving r.out (wire_type s r.out) (frees s r)
+
 -- the ends of the forms, built from here of what was placed
 abbrev pub double_here : Double → Parts → ℕ → Placed → Placed → Part
 double_here form s d r r' =
     double_end (double_node form) (double_type form (wire_type s r.out) (wire_type s r'.out)) (length s.wires.items) d
-    (context_of s.context.items) r.out r'.out (frees s r) (frees s r')
+    (context_of s.context.items) (placed s r) (placed s r')
 
 abbrev pub ifz_here : Parts → ℕ → Placed → Placed → Placed → Part
-ifz_here s d r r' r'' =
-    ifz_end (length s.wires.items) d (context_of s.context.items) r.out r'.out r''.out (frees s r) (frees s r') (frees s r'')
+ifz_here s d r r' r'' = ifz_end (length s.wires.items) d (context_of s.context.items) (placed s r) (placed s r') (placed s r'')
 
 abbrev pub app_here : Parts → ℕ → Placed → Placed → Part
-app_here s d r r' = app_end (length s.wires.items) d (context_of s.context.items) (wire_type s r.out) r.out r'.out (frees s r) (frees s r')
+app_here s d r r' = app_end (length s.wires.items) d (context_of s.context.items) (placed s r) (placed s r')
 
 -- of a body, which has one binder more
 abbrev pub body_frees : Parts → Placed → List (Option ℕ)
 body_frees s r = spread (suc (length s.context.items)) (reverse r.free.items)
 
+abbrev pub placed_body : Parts → Placed → Part
+placed_body s r = giving r.out (wire_type s r.out) (body_frees s r)
+
 abbrev pub lam_here : Parts → ℕ → TyTree → Placed → Part
-lam_here s d a r = lam_end (length s.wires.items) d a (wire_type s r.out) r.out (body_frees s r)
+lam_here s d a r = lam_end (length s.wires.items) d a (placed_body s r)
 
 abbrev pub fix_here : Parts → ℕ → TyTree → Placed → Part
-fix_here s d a r = fix_end (length s.wires.items) d (context_of s.context.items) a r.out (body_frees s r)
+fix_here s d a r = fix_end (length s.wires.items) d (context_of s.context.items) a (placed_body s r)
 
 -- the part of a term with more than one operand, or under a binder, built from here
 abbrev pub second_at : Parts → ℕ → Part → TermTree → Part

@@ -100,99 +100,100 @@ side_type s (arrow a b) = nat
 side_type s (product a b) = at_side s a b
 
 -- Each form is built in one way: its operands' parts, one after another, and after them the form's end, which is the last wires and
--- nodes. An end is told the next wire, the depth, and of each operand what it gives: its value wire, its variables, its type.
+-- nodes. An end is told the next wire, the depth, and its operands' parts, of which it asks what each gives: its value wire, its type,
+-- its variables.
 
 -- a part and then the rest, which gives what the whole gives
 abbrev pub after : Part → Part → Part
 after p e = record { wires = p.wires ++ e.wires; nodes = p.nodes ++ e.nodes; out = e.out; type = e.type; free = e.free }
 
 -- one operand: the node that is made of its wire and the new value wire
-abbrev pub unary_end : (ℕ → ℕ → Node) → TyTree → ℕ → ℕ → ℕ → List (Option ℕ) → Part
-unary_end node t w d o f = record { wires = value_wire d t ∷ []; nodes = node o w ∷ []; out = w; type = t; free = f }
+abbrev pub unary_end : (ℕ → ℕ → Node) → TyTree → ℕ → ℕ → Part → Part
+unary_end node t w d p = record { wires = value_wire d t ∷ []; nodes = node p.out w ∷ []; out = w; type = t; free = p.free }
 
 -- two operands at one depth: contractions of their variables, and the node that is made of their wires and the new value wire
-abbrev pub double_end : (ℕ → ℕ → ℕ → Node) → TyTree → ℕ → ℕ → List TyTree → ℕ → ℕ → List (Option ℕ) → List (Option ℕ) → Part
-double_end node t m d g o o' f f' =
-    let c = contract m d g f f' in
+abbrev pub double_end : (ℕ → ℕ → ℕ → Node) → TyTree → ℕ → ℕ → List TyTree → Part → Part → Part
+double_end node t m d g p q =
+    let c = contract m d g p.free q.free in
     let w = m + length c.wires in
-    record { wires = c.wires ++ value_wire d t ∷ []; nodes = c.nodes ++ node o o' w ∷ []; out = w; type = t; free = c.free }
+    record { wires = c.wires ++ value_wire d t ∷ []; nodes = c.nodes ++ node p.out q.out w ∷ []; out = w; type = t; free = c.free }
 
 -- condition, then and else: the branches are contracted first, and then the condition with them
-abbrev pub ifz_end : ℕ → ℕ → List TyTree → ℕ → ℕ → ℕ → List (Option ℕ) → List (Option ℕ) → List (Option ℕ) → Part
-ifz_end m d g o o' o'' f f' f'' =
-    let i = contract m d g f' f'' in
-    let j = contract (m + length i.wires) d g f i.free in
+abbrev pub ifz_end : ℕ → ℕ → List TyTree → Part → Part → Part → Part
+ifz_end m d g c p q =
+    let i = contract m d g p.free q.free in
+    let j = contract (m + length i.wires) d g c.free i.free in
     let w = m + length i.wires + length j.wires in
     record {
       wires = i.wires ++ (j.wires ++ value_wire d nat ∷ []);
-      nodes = i.nodes ++ (j.nodes ++ Ifz o o' o'' w ∷ []);
+      nodes = i.nodes ++ (j.nodes ++ Ifz c.out p.out q.out w ∷ []);
       out = w;
       type = nat;
       free = j.free;
     }
 
 -- the body, in a context with the binder's type: the binder's wire, and the function
-abbrev pub lam_end : ℕ → ℕ → TyTree → TyTree → ℕ → List (Option ℕ) → Part
-lam_end m d a t o f =
-    let b = bound m d a f in
+abbrev pub lam_end : ℕ → ℕ → TyTree → Part → Part
+lam_end m d a p =
+    let b = bound m d a p.free in
     let w = m + length b.wires in
     record {
-      wires = b.wires ++ value_wire d (arrow a t) ∷ [];
-      nodes = b.nodes ++ Lam o (bound_wire m f) w ∷ [];
+      wires = b.wires ++ value_wire d (arrow a p.type) ∷ [];
+      nodes = b.nodes ++ Lam p.out (bound_wire m p.free) w ∷ [];
       out = w;
-      type = arrow a t;
+      type = arrow a p.type;
       free = b.free;
     }
 
 -- the body in a box: the binder's wire, inside, and doors by which its other variables leave
-abbrev pub fix_end : ℕ → ℕ → List TyTree → TyTree → ℕ → List (Option ℕ) → Part
-fix_end m d g a o f =
-    let b = bound m (suc d) a f in
+abbrev pub fix_end : ℕ → ℕ → List TyTree → TyTree → Part → Part
+fix_end m d g a p =
+    let b = bound m (suc d) a p.free in
     let e = doors (m + length b.wires) d g b.free in
     let w = m + length b.wires + length e.wires in
     record {
       wires = b.wires ++ (e.wires ++ value_wire d a ∷ []);
-      nodes = b.nodes ++ (e.nodes ++ FixBox o (bound_wire m f) w ∷ []);
+      nodes = b.nodes ++ (e.nodes ++ FixBox p.out (bound_wire m p.free) w ∷ []);
       out = w;
       type = a;
       free = e.free;
     }
 
--- the function, of type t, and the argument in a box: doors by which its variables leave, the box, and contractions with the function's
-abbrev pub app_end : ℕ → ℕ → List TyTree → TyTree → ℕ → ℕ → List (Option ℕ) → List (Option ℕ) → Part
-app_end m d g t o o' f f' =
-    let e = doors m d g f' in
+-- the function, and the argument in a box: doors by which its variables leave, the box, and contractions with the function's
+abbrev pub app_end : ℕ → ℕ → List TyTree → Part → Part → Part
+app_end m d g p q =
+    let e = doors m d g q.free in
     let b = m + length e.wires in
-    let c = contract (suc b) d g f e.free in
+    let c = contract (suc b) d g p.free e.free in
     let w = suc b + length c.wires in
     record {
-      wires = e.wires ++ (bang_wire d (domain t) ∷ (c.wires ++ value_wire d (codomain t) ∷ []));
-      nodes = e.nodes ++ (BoxNode o' b ∷ (c.nodes ++ App o b w ∷ []));
+      wires = e.wires ++ (bang_wire d (domain p.type) ∷ (c.wires ++ value_wire d (codomain p.type) ∷ []));
+      nodes = e.nodes ++ (BoxNode q.out b ∷ (c.nodes ++ App p.out b w ∷ []));
       out = w;
-      type = codomain t;
+      type = codomain p.type;
       free = c.free;
     }
 
 -- the forms: their operands, and their end (n is the next wire, d the depth, g the context)
 abbrev pub unary_part : (ℕ → ℕ → Node) → TyTree → ℕ → ℕ → Part → Part
-unary_part node t n d p = after p (unary_end node t (n + length p.wires) d p.out p.free)
+unary_part node t n d p = after p (unary_end node t (n + length p.wires) d p)
 
 abbrev pub double_part : (ℕ → ℕ → ℕ → Node) → TyTree → ℕ → ℕ → List TyTree → Part → Part → Part
-double_part node t n d g p q = after p (after q (double_end node t (n + length p.wires + length q.wires) d g p.out q.out p.free q.free))
+double_part node t n d g p q = after p (after q (double_end node t (n + length p.wires + length q.wires) d g p q))
 
 abbrev pub ifz_part : ℕ → ℕ → List TyTree → Part → Part → Part → Part
 ifz_part n d g c p q =
     let m = n + length c.wires + length p.wires + length q.wires in
-    after c (after p (after q (ifz_end m d g c.out p.out q.out c.free p.free q.free)))
+    after c (after p (after q (ifz_end m d g c p q)))
 
 abbrev pub lam_part : ℕ → ℕ → TyTree → Part → Part
-lam_part n d a p = after p (lam_end (n + length p.wires) d a p.type p.out p.free)
+lam_part n d a p = after p (lam_end (n + length p.wires) d a p)
 
 abbrev pub fix_part : ℕ → ℕ → List TyTree → TyTree → Part → Part
-fix_part n d g a p = after p (fix_end (n + length p.wires) d g a p.out p.free)
+fix_part n d g a p = after p (fix_end (n + length p.wires) d g a p)
 
 abbrev pub app_part : ℕ → ℕ → List TyTree → Part → Part → Part
-app_part n d g p q = after p (after q (app_end (n + length p.wires + length q.wires) d g p.type p.out q.out p.free q.free))
+app_part n d g p q = after p (after q (app_end (n + length p.wires + length q.wires) d g p q))
 
 -- the wires and nodes of a term, from a next wire number, at a depth, in a context
 abbrev pub part : ℕ → ℕ → List TyTree → TermTree → Part
