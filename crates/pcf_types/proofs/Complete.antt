@@ -6,7 +6,7 @@ use Rattle.pcf_values.specs.declared.side.Side.{Side}
 use Rattle.pcf_values.specs.declared.side.Side.TheVariants.{Left, Right}
 use Rattle.pcf_values.specs.Terms.{binary, ifz, lam, fix, app, pair, proj}
 use Rattle.pcf_values.specs.Typing.{HasType}
-use Rattle.pcf_values.specs.Named.{the_succ, the_pred, the_fst, the_snd, the_fun, the_fix, NamedTree, number_at, name_at, word_at}
+use Rattle.pcf_values.specs.Named.{the_succ, the_pred, the_part, the_fun, the_fix, NamedTree, number_at, name_at, word_at}
 use Rattle.pcf_values.specs.Named.{binary_at, pair_at, ifz_at, bind_at, apply_at, place_of}
 use Rattle.pcf_types.specs.declared.fault.TypeFault.TheVariants.{FixMismatch, ArgumentMismatch}
 use Rattle.pcf_types.specs.Checking.{Context, variable, type_of}
@@ -27,12 +27,9 @@ complete (word_at at the_succ a) g m (b, r, e) =
     subst (Accepts g (word_at at the_succ a)) (sym e) (λ t h. rw (complete a g b r nat h.0) (ap (λ t. Ok (succ_of b, t)) (sym h.1)))
 complete (word_at at the_pred a) g m (b, r, e) =
     subst (Accepts g (word_at at the_pred a)) (sym e) (λ t h. rw (complete a g b r nat h.0) (ap (λ t. Ok (pred_of b, t)) (sym h.1)))
-complete (word_at at the_fst a) g m (b, r, e) =
-    subst (Accepts g (word_at at the_fst a)) (sym e)
-    (λ t (c, d, h, q). rw (complete a g b r (product c d) h) (ap (λ t. Ok (proj Left b, t)) (sym q)))
-complete (word_at at the_snd a) g m (b, r, e) =
-    subst (Accepts g (word_at at the_snd a)) (sym e)
-    (λ t (c, d, h, q). rw (complete a g b r (product c d) h) (ap (λ t. Ok (proj Right b, t)) (sym q)))
+complete (word_at at (the_part s) a) g m (b, r, e) =
+    subst (Accepts g (word_at at (the_part s) a)) (sym e)
+    (λ t (c, d, h, q). rw (complete a g b r (product c d) h) (ap (λ t. Ok (proj s b, t)) (sym q)))
 complete (binary_at at o a b) g m (c, d, r, s, e) =
     subst (Accepts g (binary_at at o a b)) (sym e)
     (λ t h. rw (complete a g c r nat h.0, complete b g d s nat h.1) (ap (λ t. Ok (binary o c d, t)) (sym h.2)))

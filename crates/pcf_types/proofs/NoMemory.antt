@@ -1,7 +1,7 @@
 -- Want of memory is no answer of the definition.
 use Rattle.std.proofs.Common.{◌≡◌, ◌≢◌, ℕ, Bool, true, false, cond, ap, ◌∷◌, Option, Some, None, Result, Ok, Err}
 use Rattle.pcf_values.specs.Terms.{TyTree, nat, arrow, product, TermTree, same_type}
-use Rattle.pcf_values.specs.Named.{the_succ, the_pred, the_fst, the_snd, the_fun, the_fix, NamedTree, number_at, name_at, word_at}
+use Rattle.pcf_values.specs.Named.{the_succ, the_pred, the_part, the_fun, the_fix, NamedTree, number_at, name_at, word_at}
 use Rattle.pcf_values.specs.Named.{binary_at, pair_at, ifz_at, bind_at, apply_at, place_of}
 use Rattle.pcf_types.specs.declared.fault.TypeFault.{TypeFault}
 use Rattle.pcf_types.specs.declared.fault.TypeFault.TheVariants.{NoMemory, FixMismatch, ArgumentMismatch}
@@ -68,9 +68,7 @@ never_memory g (number_at at n) = clean_ok _
 never_memory g (name_at at x) = clean_variable at (nearest x g)
 never_memory g (word_at at the_succ a) = clean_on _ _ (number_clean (place_of a) (type_of g a) (never_memory g a)) (λ m. clean_ok _)
 never_memory g (word_at at the_pred a) = clean_on _ _ (number_clean (place_of a) (type_of g a) (never_memory g a)) (λ m. clean_ok _)
-never_memory g (word_at at the_fst a) = clean_on _ _ (clean_on (type_of g a) _ (never_memory g a) (λ j. clean_pair (place_of a) j.0 j.1))
-    (λ p. clean_ok _)
-never_memory g (word_at at the_snd a) = clean_on _ _ (clean_on (type_of g a) _ (never_memory g a) (λ j. clean_pair (place_of a) j.0 j.1))
+never_memory g (word_at at (the_part s) a) = clean_on _ _ (clean_on (type_of g a) _ (never_memory g a) (λ j. clean_pair (place_of a) j.0 j.1))
     (λ p. clean_ok _)
 never_memory g (binary_at at o a b) =
     clean_on _ _ (numbers_clean _ _ (number_clean (place_of a) (type_of g a) (never_memory g a))

@@ -1,7 +1,7 @@
 -- The term has the tree's number of nodes and its height.
 use Rattle.std.proofs.Common.{◌≡◌, ℕ, suc, ◌+◌, max, List, Ok, refl, ap, ◌∙◌}
 use Rattle.pcf_values.specs.Terms.{TyTree, TermTree, size, height}
-use Rattle.pcf_values.specs.Named.{Word, the_succ, the_pred, the_fst, the_snd, Binder, the_fun, the_fix, NamedTree, number_at, name_at}
+use Rattle.pcf_values.specs.Named.{Word, the_succ, the_pred, the_part, Binder, the_fun, the_fix, NamedTree, number_at, name_at}
 use Rattle.pcf_values.specs.Named.{word_at, binary_at, pair_at, ifz_at, bind_at, apply_at, named_height}
 use Rattle.pcf_values.specs.NamedSize.{named_size}
 use Rattle.pcf_types.specs.Checking.{Context, type_of}
@@ -11,14 +11,12 @@ use Rattle.pcf_types.proofs.Sound.{good}
 word_size : (w : Word) (m : TermTree) → size (word_term w m) ≡ suc (size m)
 word_size the_succ m = refl
 word_size the_pred m = refl
-word_size the_fst m = refl
-word_size the_snd m = refl
+word_size (the_part s) m = refl
 
 word_height : (w : Word) (m : TermTree) → height (word_term w m) ≡ suc (height m)
 word_height the_succ m = refl
 word_height the_pred m = refl
-word_height the_fst m = refl
-word_height the_snd m = refl
+word_height (the_part s) m = refl
 
 binder_size : (b : Binder) (a : TyTree) (m : TermTree) → size (binder_term b a m) ≡ suc (size m)
 binder_size the_fun a m = refl

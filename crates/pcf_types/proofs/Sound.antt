@@ -1,13 +1,13 @@
 -- What is accepted is the term that the tree stands for, with a type that it has.
 use Rattle.std.proofs.Common.{◌≡◌, ℕ, List, ◌∷◌, Option, Some, None, Ok, refl, subst}
-use Rattle.pcf_values.specs.Terms.{TyTree, nat, arrow, product, TermTree, num, var, succ_of, pred_of, binary, ifz}
-use Rattle.pcf_values.specs.declared.side.Side.TheVariants.{Left, Right}
+use Rattle.pcf_values.specs.Terms.{TyTree, nat, arrow, product, at_side, TermTree, num, var, succ_of, pred_of, binary, ifz}
 use Rattle.pcf_values.specs.Terms.{lam, fix, app, pair, proj}
 use Rattle.pcf_values.specs.Typing.{HasType}
-use Rattle.pcf_values.specs.Named.{the_succ, the_pred, the_fst, the_snd, the_fun, the_fix, NamedTree, number_at, name_at, word_at}
+use Rattle.pcf_values.specs.Named.{the_succ, the_pred, the_part, the_fun, the_fix, NamedTree, number_at, name_at, word_at}
 use Rattle.pcf_values.specs.Named.{binary_at, pair_at, ifz_at, bind_at, apply_at, place_of}
 use Rattle.pcf_types.specs.declared.fault.TypeFault.TheVariants.{FixMismatch, ArgumentMismatch}
-use Rattle.pcf_types.specs.Checking.{Context, number, numbers, function, both, of_type, variable, nearest, type_of, NumbersFit}
+use Rattle.pcf_types.specs.Checking.{Context, number, numbers, function, both, of_type, variable, nearest, type_of}
+use Rattle.pcf_types.specs.Numbers.{NumbersFit}
 use Rattle.pcf_types.specs.Resolution.{Resolves}
 use Rattle.pcf_types.specs.Correct.{names_in, types_in}
 use Rattle.pcf_types.proofs.Steps.{ok_is, from_go_on, from_number, from_numbers, from_function, from_both, from_of_type}
@@ -37,14 +37,11 @@ good (word_at at the_pred a) g p h =
     let (m, e, k) = from_go_on (number (place_of a) (type_of g a)) (λ m. Ok (pred_of m, nat)) p h in
     let (r, t) = good a g (m, nat) (from_number (place_of a) (type_of g a) m e) in
     subst (Good g (word_at at the_pred a)) (ok_is (pred_of m, nat) p k) ((m, r, refl), λ l. (t l, refl))
-good (word_at at the_fst a) g p h =
-    let (q, e, k) = from_go_on (both (place_of a) (type_of g a)) (λ p. Ok (proj Left p.0, p.1)) p h in
+good (word_at at (the_part s) a) g p h =
+    let (q, e, k) = from_go_on (both (place_of a) (type_of g a)) (λ p. Ok (proj s p.0, at_side s p.1 p.2)) p h in
     let (r, t) = good a g (q.0, product q.1 q.2) (from_both (place_of a) (type_of g a) q e) in
-    subst (Good g (word_at at the_fst a)) (ok_is (proj Left q.0, q.1) p k) ((q.0, r, refl), λ l. (q.1, q.2, t l, refl))
-good (word_at at the_snd a) g p h =
-    let (q, e, k) = from_go_on (both (place_of a) (type_of g a)) (λ p. Ok (proj Right p.0, p.2)) p h in
-    let (r, t) = good a g (q.0, product q.1 q.2) (from_both (place_of a) (type_of g a) q e) in
-    subst (Good g (word_at at the_snd a)) (ok_is (proj Right q.0, q.2) p k) ((q.0, r, refl), λ l. (q.1, q.2, t l, refl))
+    subst (Good g (word_at at (the_part s) a)) (ok_is (proj s q.0, at_side s q.1 q.2) p k)
+    ((q.0, r, refl), λ l. (q.1, q.2, t l, refl))
 good (binary_at at o a b) g p h =
     let ra = number (place_of a) (type_of g a) in
     let rb = number (place_of b) (type_of g b) in

@@ -1,13 +1,11 @@
 -- Scope and types of a term as it is read: the term with indexes and its type, or the first fault.
 -- The definition goes from left to right, so that the first fault counts. Each part is typed in full before what is asked of its type
 -- is looked at, and before the next part.
-use Rattle.std.specs.Prelude.{ℕ, suc, ◌^◌, ◌<◌, Bool, true, false, ◌&&◌, List, [], ◌∷◌, Option, Some, None, Result, Ok}
-use Rattle.std.specs.Prelude.{Err, if◌then◌else◌}
+use Rattle.std.specs.Prelude.{ℕ, suc, List, [], ◌∷◌, Option, Some, None, Result, Ok, Err, if◌then◌else◌}
 use Rattle.std.specs.Str.{bytes_eq}
-use Rattle.pcf_values.specs.Terms.{TyTree, nat, arrow, product, TermTree, num, var, succ_of, pred_of, binary, ifz}
-use Rattle.pcf_values.specs.declared.side.Side.TheVariants.{Left, Right}
+use Rattle.pcf_values.specs.Terms.{TyTree, nat, arrow, product, at_side, same_type, TermTree, num, var, succ_of, pred_of, binary, ifz}
 use Rattle.pcf_values.specs.Terms.{lam, fix, app, pair, proj}
-use Rattle.pcf_values.specs.Named.{the_succ, the_pred, the_fst, the_snd, the_fun, the_fix, NamedTree, number_at, name_at, word_at}
+use Rattle.pcf_values.specs.Named.{the_succ, the_pred, the_part, the_fun, the_fix, NamedTree, number_at, name_at, word_at}
 use Rattle.pcf_values.specs.Named.{binary_at, pair_at, ifz_at, bind_at, apply_at, place_of}
 use Rattle.pcf_types.specs.declared.fault.TypeFault.{TypeFault}
 use Rattle.pcf_types.specs.declared.fault.TypeFault.TheVariants.{Unbound, FunctionWanted, ArgumentMismatch, NatWanted, FixMismatch}
@@ -85,8 +83,7 @@ type_of g (number_at at n) = Ok (num n, nat)
 type_of g (name_at at x) = variable at (nearest x g)
 type_of g (word_at at the_succ a) = go_on (number (place_of a) (type_of g a)) (λ m. Ok (succ_of m, nat))
 type_of g (word_at at the_pred a) = go_on (number (place_of a) (type_of g a)) (λ m. Ok (pred_of m, nat))
-type_of g (word_at at the_fst a) = go_on (both (place_of a) (type_of g a)) (λ p. Ok (proj Left p.0, p.1))
-type_of g (word_at at the_snd a) = go_on (both (place_of a) (type_of g a)) (λ p. Ok (proj Right p.0, p.2))
+type_of g (word_at at (the_part s) a) = go_on (both (place_of a) (type_of g a)) (λ p. Ok (proj s p.0, at_side s p.1 p.2))
 type_of g (binary_at at o a b) = go_on (numbers (number (place_of a) (type_of g a)) (number (place_of b) (type_of g b)))
     (λ p. Ok (binary o p.0 p.1, nat))
 type_of g (pair_at at a b) = go_on (type_of g a) (λ j. go_on (type_of g b) (λ k. Ok (pair j.0 k.0, product j.1 k.1)))
@@ -98,14 +95,3 @@ type_of g (bind_at at the_fix x a m) = go_on (of_type a (FixMismatch (place_of m
 type_of g (apply_at at f a) =
     go_on (function (place_of f) (type_of g f))
     (λ p. go_on (of_type p.1 (ArgumentMismatch (place_of a)) (type_of g a)) (λ n. Ok (app p.0 n, p.2)))
-
--- each number in the tree is a value
-abbrev pub NumbersFit : NamedTree → Type 0
-NumbersFit (number_at at n) = n < 2 ^ 64
-NumbersFit (name_at at x) = Unit {0}
-NumbersFit (word_at at w a) = NumbersFit a
-NumbersFit (binary_at at o a b) = NumbersFit a × NumbersFit b
-NumbersFit (pair_at at a b) = NumbersFit a × NumbersFit b
-NumbersFit (ifz_at at c a b) = NumbersFit c × NumbersFit a × NumbersFit b
-NumbersFit (bind_at at b x t m) = NumbersFit m
-NumbersFit (apply_at at f a) = NumbersFit f × NumbersFit a

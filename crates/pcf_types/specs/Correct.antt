@@ -6,7 +6,8 @@ use Rattle.pcf_values.specs.Typing.{HasType}
 use Rattle.pcf_values.specs.Named.{NamedTree, named_height}
 use Rattle.pcf_values.specs.NamedSize.{named_size}
 use Rattle.pcf_types.specs.declared.fault.TypeFault.TheVariants.{NoMemory}
-use Rattle.pcf_types.specs.Checking.{Context, type_of, NumbersFit}
+use Rattle.pcf_types.specs.Checking.{Context, type_of}
+use Rattle.pcf_types.specs.Numbers.{NumbersFit}
 use Rattle.pcf_types.specs.Resolution.{Resolves}
 
 -- the names and the types of a context's binders

@@ -2,10 +2,8 @@
 -- nearest one. The relation knows no type and no fault. It is the other half of what the checker is measured by, beside the typing
 -- relation.
 use Rattle.std.specs.Prelude.{◌≡◌, ◌≢◌, ◌<◌, ℕ, List, ◌∷◌, Some, slice_get}
-use Rattle.pcf_values.specs.Terms.{TyTree, TermTree, num, var, succ_of, pred_of, binary, ifz, lam, fix, app, pair}
-use Rattle.pcf_values.specs.declared.side.Side.TheVariants.{Left, Right}
-use Rattle.pcf_values.specs.Terms.{proj}
-use Rattle.pcf_values.specs.Named.{Word, the_succ, the_pred, the_fst, the_snd, Binder, the_fun, the_fix, NamedTree, number_at, name_at}
+use Rattle.pcf_values.specs.Terms.{TyTree, TermTree, num, var, succ_of, pred_of, binary, ifz, lam, fix, app, pair, proj}
+use Rattle.pcf_values.specs.Named.{Word, the_succ, the_pred, the_part, Binder, the_fun, the_fix, NamedTree, number_at, name_at}
 use Rattle.pcf_values.specs.Named.{word_at, binary_at, pair_at, ifz_at, bind_at, apply_at}
 
 -- the binder of index i binds the name, and no nearer one does; the names of the binders come the nearest first
@@ -16,8 +14,7 @@ Binds s x i = (slice_get s i ≡ Some x) × ((j : ℕ) → j < i → slice_get s
 abbrev pub word_term : Word → TermTree → TermTree
 word_term the_succ m = succ_of m
 word_term the_pred m = pred_of m
-word_term the_fst m = proj Left m
-word_term the_snd m = proj Right m
+word_term (the_part s) m = proj s m
 
 -- the term that a binder with its type makes of a body
 abbrev pub binder_term : Binder → TyTree → TermTree → TermTree

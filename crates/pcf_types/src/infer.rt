@@ -3,7 +3,8 @@
 ghost use Rattle.std.specs.Prelude.{◌≡◌, ◌≢◌, suc, ◌<◌, ◌+◌, ◌^◌, length, Ok, Err, IfOk, IfErr};
 ghost use Rattle.pcf_values.specs.Views.{term_of, ty_of, named_of};
 ghost use Rattle.pcf_values.specs.Named.{named_height};
-ghost use Rattle.pcf_types.specs.Checking.{variable, nearest, NumbersFit};
+ghost use Rattle.pcf_types.specs.Checking.{variable, nearest};
+ghost use Rattle.pcf_types.specs.Numbers.{NumbersFit};
 ghost use Rattle.pcf_types.specs.Views.{scope_of, known_of, Shallow, type_in, number_in, numbers_in, function_in, parts_in, of_type_in};
 ghost use Rattle.pcf_types.specs.Views.{ifz_in, fun_in, fix_in, app_in, pair_in};
 ghost use Rattle.pcf_types.specs.declared.fault.TypeFault.TheVariants.{NoMemory};
@@ -49,30 +50,18 @@ pub(crate) fn infer<'p>(
         Raw::Name(name) => variable(alloc, scope, name, tree.at),
         Raw::Succ(a) => Judged::nat(alloc, Term::Succ(number(alloc, scope, a)?)),
         Raw::Pred(a) => Judged::nat(alloc, Term::Pred(number(alloc, scope, a)?)),
-        Raw::Plus(a, b) => {
+        Raw::Binary(operator, a, b) => {
             let (a, b) = numbers(alloc, scope, a, b)?;
-            Judged::nat(alloc, Term::Plus(a, b))
-        }
-        Raw::Minus(a, b) => {
-            let (a, b) = numbers(alloc, scope, a, b)?;
-            Judged::nat(alloc, Term::Minus(a, b))
-        }
-        Raw::Times(a, b) => {
-            let (a, b) = numbers(alloc, scope, a, b)?;
-            Judged::nat(alloc, Term::Times(a, b))
+            Judged::nat(alloc, Term::Binary(*operator, a, b))
         }
         Raw::Ifz(c, p, q) => choice(alloc, scope, c, p, q),
         Raw::Fun(name, ty, body) => function_of(alloc, scope, name, ty, body),
         Raw::Fix(name, ty, body) => fixed_point(alloc, scope, name, ty, body),
         Raw::App(f, a) => application(alloc, scope, f, a),
         Raw::Pair(a, b) => pair_of(alloc, scope, a, b),
-        Raw::Fst(a) => {
-            let a = paired(alloc, scope, a)?;
-            Judged::of(alloc, Term::Fst(a.term), a.left)
-        }
-        Raw::Snd(a) => {
-            let a = paired(alloc, scope, a)?;
-            Judged::of(alloc, Term::Snd(a.term), a.right)
+        Raw::Proj(side, a) => {
+            let pair = paired(alloc, scope, a)?;
+            pair.part(alloc, *side)
         }
     }
 }

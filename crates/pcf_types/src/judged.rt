@@ -1,7 +1,7 @@
 //! Terms with their types, and what may be asked of the type.
 
 ghost use Rattle.std.specs.Prelude.{◌≡◌, Ok, Err, IfOk, IfErr};
-ghost use Rattle.pcf_values.specs.Terms.{nat};
+ghost use Rattle.pcf_values.specs.Terms.{nat, at_side, proj};
 ghost use Rattle.pcf_values.specs.Views.{term_of, ty_of};
 ghost use Rattle.pcf_types.specs.Checking.{as_type};
 ghost use Rattle.pcf_types.specs.Views.{known_of, answer_of};
@@ -9,7 +9,7 @@ ghost use Rattle.pcf_types.specs.declared.fault.TypeFault.TheVariants.{NoMemory}
 
 use crate::TypeFault;
 use crate::known::Known;
-use pcf_values::{Term, Ty};
+use pcf_values::{Side, Term, Ty};
 use std::alloc::Global;
 
 /// A term with its type.
@@ -65,6 +65,21 @@ impl<'p> Judged<'p> {
             Ok(self.term)
         } else {
             Err(fault)
+        }
+    }
+}
+
+impl<'p> Paired<'p> {
+    /// The part of the pair on this side.
+    pub(crate) fn part(self, alloc: Global, side: Side) -> Result<Judged<'p>, TypeFault>
+        ensures ok { IfOk result (λ j. answer_of (proj side (term_of self.entry.term.value))
+            (at_side side (known_of self.entry.left) (known_of self.entry.right)) ≡ Ok (term_of j.term.value, known_of j.ty)) }
+        ensures fault { IfErr result (λ f. f ≡ NoMemory) }
+    {
+        let term = Term::Proj(side, self.term);
+        match side {
+            Side::Left => Judged::of(alloc, term, self.left),
+            Side::Right => Judged::of(alloc, term, self.right),
         }
     }
 }

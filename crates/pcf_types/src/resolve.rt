@@ -4,7 +4,8 @@ ghost use Rattle.std.specs.Prelude.{◌≡◌, ◌≢◌, ◌↔◌, ◌<◌, �
 ghost use Rattle.pcf_values.specs.Terms.{nat};
 ghost use Rattle.pcf_values.specs.Named.{named_height};
 ghost use Rattle.pcf_values.specs.Views.{named_of};
-ghost use Rattle.pcf_types.specs.Checking.{type_of, NumbersFit};
+ghost use Rattle.pcf_types.specs.Checking.{type_of};
+ghost use Rattle.pcf_types.specs.Numbers.{NumbersFit};
 ghost use Rattle.pcf_types.specs.declared.fault.TypeFault.TheVariants.{NoMemory};
 
 use crate::TypeFault;

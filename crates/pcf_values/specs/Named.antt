@@ -3,14 +3,15 @@
 -- binders and the operators, as in the grammar.
 use Rattle.std.specs.Prelude.{ℕ, suc, max, List}
 use Rattle.pcf_values.specs.declared.operator.Operator.{Operator}
+use Rattle.pcf_values.specs.declared.side.Side.{Side}
 use Rattle.pcf_values.specs.Terms.{TyTree}
 
 -- a word before an atom
 pub data Word : Type 0 where
   the_succ : Word
   the_pred : Word
-  the_fst : Word
-  the_snd : Word
+  -- `fst` or `snd`, the part of a pair on a side
+  the_part : Side → Word
 
 pub data Binder : Type 0 where
   the_fun : Binder

@@ -8,9 +8,9 @@ use Rattle.pcf_values.specs.declared.term.Term.TheVariants as term
 use Rattle.pcf_values.specs.declared.named.Named.{Named}
 use Rattle.pcf_values.specs.declared.named.Raw.{Raw}
 use Rattle.pcf_values.specs.declared.named.Raw.TheVariants as raw
-use Rattle.pcf_values.specs.Terms.{TyTree, nat, arrow, product, at_side, TermTree, num, var, succ_of, pred_of, binary, ifz}
+use Rattle.pcf_values.specs.Terms.{TyTree, nat, arrow, product, TermTree, num, var, succ_of, pred_of, binary, ifz}
 use Rattle.pcf_values.specs.Terms.{lam, fix, app, pair, proj}
-use Rattle.pcf_values.specs.Named.{the_succ, the_pred, the_fst, the_snd, the_fun, the_fix, NamedTree, number_at, name_at, word_at}
+use Rattle.pcf_values.specs.Named.{the_succ, the_pred, the_part, the_fun, the_fix, NamedTree, number_at, name_at, word_at}
 use Rattle.pcf_values.specs.Named.{binary_at, pair_at, ifz_at, bind_at, apply_at}
 
 abbrev pub ty_of : Ty → TyTree
@@ -43,7 +43,7 @@ raw_of (raw.Fun' x t p i m) at = bind_at at the_fun x (ty_of t) (raw_of m i)
 raw_of (raw.Fix' x t p i m) at = bind_at at the_fix x (ty_of t) (raw_of m i)
 raw_of (raw.App' p i f q j a) at = apply_at at (raw_of f i) (raw_of a j)
 raw_of (raw.Pair' p i a q j b) at = pair_at at (raw_of a i) (raw_of b j)
-raw_of (raw.Proj' s p i a) at = word_at at (at_side s the_fst the_snd) (raw_of a i)
+raw_of (raw.Proj' s p i a) at = word_at at (the_part s) (raw_of a i)
 
 abbrev pub named_of : Named → NamedTree
 named_of n = raw_of n.raw n.at
