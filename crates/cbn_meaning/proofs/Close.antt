@@ -7,7 +7,8 @@ use Rattle.std.proofs.lemmas.Option.{slice_get_within}
 use Rattle.pcf_values.specs.Terms.{TyTree, nat, arrow, product, TermTree, num, var, succ_of, pred_of, binary, ifz, lam, fix, app, pair}
 use Rattle.pcf_values.specs.Terms.{proj}
 use Rattle.pcf_values.specs.Typing.{HasType}
-use Rattle.cbn_meaning.specs.Substitution.{replaced, subst_at, Closed, Env, cons, AllClosed, close_var, close}
+use Rattle.cbn_meaning.specs.Substitution.{replaced, subst_at}
+use Rattle.cbn_meaning.specs.Environments.{Closed, Env, cons, AllClosed, close_var, close}
 
 pub cons_closed : (n : TermTree) (e : Env) → Closed n → AllClosed e → AllClosed (cons n e)
 cons_closed n e h g zero = h

@@ -5,7 +5,8 @@ use Rattle.pcf_values.specs.declared.operator.Operator.{Operator}
 use Rattle.pcf_values.specs.Terms.{TyTree, at_side, TermTree, succ_of, pred_of, binary, ifz, lam, fix, app, pair, proj}
 use Rattle.pcf_values.specs.declared.side.Side.{Side}
 use Rattle.cbn_meaning.specs.Substitution.{subst_at}
-use Rattle.cbn_meaning.specs.Meaning.{value, closure, paired, Means, Head}
+use Rattle.cbn_meaning.specs.Meaning.{value, closure, paired, Means}
+use Rattle.cbn_meaning.specs.HeadSteps.{Head}
 use Rattle.cbn_meaning.specs.Derivations.{Ev, ev_succ, ev_pred, ev_binary, ev_ifz, ev_lam, ev_fix, ev_app, ev_pair, ev_proj, HasEv, Steps}
 use Rattle.cbn_meaning.proofs.Depth.{eval_le}
 use Rattle.cbn_meaning.proofs.Derived.{succ_inv, pred_inv, binary_inv, ifz_inv, fix_inv, app_inv, lam_inv, proj_inv, pair_inv, ev_eval}
@@ -52,7 +53,7 @@ proj_steps d m m' h = record {
       (suc (z + k), omega arith, ev_proj f' g);
 }
 
-succ_steps : (m m' : TermTree) → Steps m m' → Steps (succ_of m) (succ_of m')
+pub succ_steps : (m m' : TermTree) → Steps m m' → Steps (succ_of m) (succ_of m')
 succ_steps m m' h = record {
   forth = λ s r e. let (i, v, f, _, x) = succ_inv e in let (z, f') = h.forth i (value v) f in
       subst (HasEv (succ_of m)) (sym x) (suc z, ev_succ f');
@@ -60,7 +61,7 @@ succ_steps m m' h = record {
       (suc z, omega arith, subst (Ev (suc z) (succ_of m')) (sym x) (ev_succ f'));
 }
 
-pred_steps : (m m' : TermTree) → Steps m m' → Steps (pred_of m) (pred_of m')
+pub pred_steps : (m m' : TermTree) → Steps m m' → Steps (pred_of m) (pred_of m')
 pred_steps m m' h = record {
   forth = λ s r e. let (i, v, f, _, x) = pred_inv e in let (z, f') = h.forth i (value v) f in
       subst (HasEv (pred_of m)) (sym x) (suc z, ev_pred f');
@@ -68,7 +69,7 @@ pred_steps m m' h = record {
       (suc z, omega arith, subst (Ev (suc z) (pred_of m')) (sym x) (ev_pred f'));
 }
 
-binary_steps : (o : Operator) (m m' n : TermTree) → Steps m m' → Steps (binary o m n) (binary o m' n)
+pub binary_steps : (o : Operator) (m m' n : TermTree) → Steps m m' → Steps (binary o m n) (binary o m' n)
 binary_steps o m m' n h = record {
   forth = λ s r e. let (i, k, v, w, f, g, _, x) = binary_inv e in let (z, f') = h.forth i (value v) f in
       subst (HasEv (binary o m n)) (sym x) (suc (z + k), ev_binary f' g);
@@ -76,7 +77,7 @@ binary_steps o m m' n h = record {
       (suc (z + k), omega arith, subst (Ev (suc (z + k)) (binary o m' n)) (sym x) (ev_binary f' g));
 }
 
-ifz_steps : (m m' p q : TermTree) → Steps m m' → Steps (ifz m p q) (ifz m' p q)
+pub ifz_steps : (m m' p q : TermTree) → Steps m m' → Steps (ifz m p q) (ifz m' p q)
 ifz_steps m m' p q h = record {
   forth = λ s r e. let (i, k, v, f, g, _) = ifz_inv e in let (z, f') = h.forth i (value v) f in (suc (z + k), ev_ifz f' g);
   back = λ s r e. let (i, k, v, f, g, x) = ifz_inv e in let (z, l, f') = h.back i (value v) f in (suc (z + k), omega arith, ev_ifz f' g);

@@ -1,8 +1,8 @@
 -- What keeps the type of a closed term: more context, substitution, a step at the head, and evaluation.
-use Rattle.std.proofs.Common.{◌≡◌, ◌⊎◌, ℕ, zero, suc, ◌+◌, ◌-◌, ◌*◌, ◌^◌, ◌<◌, ◌≤◌, cond, List, []}
+use Rattle.std.proofs.Common.{◌≡◌, ◌⊎◌, ℕ, zero, suc, ◌+◌, ◌<◌, ◌≤◌, List, []}
 use Rattle.std.proofs.Common.{◌∷◌, ◌++◌, length, Some, refl, sym, subst, inl, inr, arith}
 use Rattle.std.specs.Prelude.{slice_get}
-use Rattle.std.proofs.lemmas.Bool.{cases_lt, cases_order, lt-ltb, le-ltb}
+use Rattle.std.proofs.lemmas.Bool.{cases_order}
 use Rattle.pcf_values.specs.declared.val.Val.{Val}
 use Rattle.pcf_values.specs.declared.val.Val.TheVariants.{Number, Overflow}
 use Rattle.pcf_values.specs.Values.{within, val_succ, val_pred, val_op, at_zero}
@@ -15,7 +15,8 @@ use Rattle.pcf_values.specs.Typing.{HasType}
 use Rattle.pcf_values.proofs.Types.{arrow_left, arrow_right, product_left, product_right}
 use Rattle.pcf_values.proofs.Arithmetic.{IsSmall, within_small, op_small}
 use Rattle.cbn_meaning.specs.Substitution.{replaced, subst_at}
-use Rattle.cbn_meaning.specs.Meaning.{Res, value, closure, paired, eval, on_value, Head}
+use Rattle.cbn_meaning.specs.Meaning.{Res, value, closure, paired, eval, on_value}
+use Rattle.cbn_meaning.specs.HeadSteps.{Head}
 use Rattle.cbn_meaning.specs.Laws.{ResultHasType}
 use Rattle.cbn_meaning.proofs.Close.{replaced_below, replaced_here, replaced_above}
 use Rattle.cbn_meaning.proofs.Depth.{from_value, from_closure, from_pair}

@@ -5,7 +5,8 @@ use Rattle.pcf_values.specs.declared.val.Val.TheVariants.{Number, Overflow}
 use Rattle.pcf_values.specs.Terms.{TyTree, nat, TermTree, num, lam, pair}
 use Rattle.pcf_values.specs.Typing.{HasType}
 use Rattle.cbn_meaning.specs.Substitution.{subst_at}
-use Rattle.cbn_meaning.specs.Meaning.{Res, value, closure, paired, eval, Means, Head}
+use Rattle.cbn_meaning.specs.Meaning.{Res, value, closure, paired, eval, Means}
+use Rattle.cbn_meaning.specs.HeadSteps.{Head}
 use Rattle.cbn_meaning.specs.Derivations.{Ev, HasEv, Steps}
 
 -- more depth keeps a result

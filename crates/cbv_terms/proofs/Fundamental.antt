@@ -7,7 +7,8 @@ use Rattle.pcf_values.specs.declared.val.Val.{Val}
 use Rattle.pcf_values.specs.declared.val.Val.TheVariants.{Number}
 use Rattle.pcf_values.specs.Terms.{TyTree, nat, arrow, TermTree, num, var, succ_of, pred_of, binary, ifz, lam, fix, app, pair, proj}
 use Rattle.pcf_values.specs.Typing.{HasType}
-use Rattle.cbn_meaning.specs.Substitution.{subst_at, Closed, Env, cons, AllClosed, close}
+use Rattle.cbn_meaning.specs.Substitution.{subst_at}
+use Rattle.cbn_meaning.specs.Environments.{Closed, Env, cons, AllClosed, close}
 use Rattle.cbn_meaning.specs.Meaning.{Res, value, closure, Means}
 use Rattle.cbn_meaning.specs.Derivations.{ev_num, HasEv, Steps}
 use Rattle.cbn_meaning.proofs.Derived.{ev_eval, eval_ev}

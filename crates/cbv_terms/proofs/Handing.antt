@@ -5,7 +5,8 @@ use Rattle.pcf_values.specs.declared.val.Val.TheVariants.{Number, Overflow}
 use Rattle.pcf_values.specs.Values.{val_succ, val_pred, val_op, at_zero}
 use Rattle.pcf_values.specs.declared.operator.Operator.{Operator}
 use Rattle.pcf_values.specs.Terms.{TyTree, nat, arrow, TermTree, var, succ_of, pred_of, binary, ifz, lam, app}
-use Rattle.cbn_meaning.specs.Substitution.{subst_at, Closed, Env, cons, AllClosed, close}
+use Rattle.cbn_meaning.specs.Substitution.{subst_at}
+use Rattle.cbn_meaning.specs.Environments.{Closed, Env, cons, AllClosed, close}
 use Rattle.cbn_meaning.specs.Meaning.{Res, value, closure}
 use Rattle.cbn_meaning.specs.Derivations.{Ev, ev_succ, ev_pred, ev_binary, ev_ifz, HasEv}
 use Rattle.cbn_meaning.proofs.Derived.{ifz_inv, ev_eval}

@@ -4,7 +4,8 @@ use Rattle.std.proofs.Common.{◌≡◌, ℕ, zero, ◌+◌, ◌<◌, ◌≤◌,
 use Rattle.pcf_values.specs.declared.val.Val.{Val}
 use Rattle.pcf_values.specs.declared.val.Val.TheVariants.{Number, Overflow}
 use Rattle.pcf_values.specs.Terms.{TyTree, nat, arrow, product, TermTree, var, lam, app}
-use Rattle.cbn_meaning.specs.Substitution.{subst_at, Closed, Env, cons, AllClosed, close}
+use Rattle.cbn_meaning.specs.Substitution.{subst_at}
+use Rattle.cbn_meaning.specs.Environments.{Closed, Env, cons, AllClosed, close}
 use Rattle.cbn_meaning.specs.Meaning.{Res, value, closure}
 use Rattle.cbn_meaning.specs.Derivations.{Ev, HasEv, Steps}
 use Rattle.cbn_meaning.proofs.Head.{beta, app_steps}
