@@ -41,7 +41,7 @@ node_met net p i h = go (facing net p) refl h
         let z : i ≡ j = cc in
         (n, ap (slice_get net.nodes) z ∙ (met net p j n q).stands, q ∙ ap (λ k. Some (k, n)) (sym z))
 
-one_some : {A : Type 0} (x y : A) → Some x ≡ Some y → x ≡ y
+pub one_some : {A : Type 0} (x y : A) → Some x ≡ Some y → x ≡ y
 one_some x y h = cc
 
 pub found_is : (net : NetTree) (p : Place) (i : ℕ) (n : Node) (f : Option ℕ) (o : Option Node) → f ≡ number_of (facing net p) →

@@ -1,11 +1,13 @@
 //! The plain rules, node by node, in place. Each function takes a token that faces its node; where no rule fits, or memory
 //! runs out, the token stays as it was.
 ghost use Rattle.std.specs.Prelude.{◌≡◌, IfOk, OnErr};
-ghost use Rattle.net_build.specs.declared.node.Node.TheVariants.{Der, Con, Lam, App, BoxNode, Door, FixBox, Pair, Fst, Snd};
+ghost use Rattle.net_build.specs.declared.node.Node.TheVariants.{Der, Con, Lam, App, BoxNode, Door, FixBox, Pair, Proj};
+ghost use Rattle.pcf_values.specs.declared.side.Side.TheVariants.{Left, Right};
 ghost use Rattle.move_rules.specs.Table.{plain_at};
 ghost use Rattle.move_rules.specs.Steps.{Goes};
 
 use crate::Token;
+use pcf_values::Side;
 use std::alloc::AllocError;
 
 pub(crate) fn lam_moves(token: &mut Token, b: u32, x: u32, w: u32) -> Result<bool, AllocError>
@@ -196,8 +198,8 @@ pub(crate) fn pair_moves(token: &mut Token, a: u32, b: u32, w: u32) -> Result<bo
     Ok(false)
 }
 
-pub(crate) fn fst_moves(token: &mut Token, a: u32, w: u32) -> Result<bool, AllocError>
-    ensures ok { IfOk result (λ made. Goes (plain_at (Fst a w)) token.old made token.new) }
+fn fst_moves(token: &mut Token, a: u32, w: u32) -> Result<bool, AllocError>
+    ensures ok { IfOk result (λ made. Goes (plain_at (Proj Left a w)) token.old made token.new) }
     ensures err { OnErr result (token.new ≡ token.old) }
 {
     if token.up {
@@ -212,8 +214,8 @@ pub(crate) fn fst_moves(token: &mut Token, a: u32, w: u32) -> Result<bool, Alloc
     Ok(false)
 }
 
-pub(crate) fn snd_moves(token: &mut Token, a: u32, w: u32) -> Result<bool, AllocError>
-    ensures ok { IfOk result (λ made. Goes (plain_at (Snd a w)) token.old made token.new) }
+fn snd_moves(token: &mut Token, a: u32, w: u32) -> Result<bool, AllocError>
+    ensures ok { IfOk result (λ made. Goes (plain_at (Proj Right a w)) token.old made token.new) }
     ensures err { OnErr result (token.new ≡ token.old) }
 {
     if token.up {
@@ -226,4 +228,14 @@ pub(crate) fn snd_moves(token: &mut Token, a: u32, w: u32) -> Result<bool, Alloc
         return Ok(true);
     }
     Ok(false)
+}
+
+pub(crate) fn proj_moves(token: &mut Token, side: Side, a: u32, w: u32) -> Result<bool, AllocError>
+    ensures ok { IfOk result (λ made. Goes (plain_at (Proj side a w)) token.old made token.new) }
+    ensures err { OnErr result (token.new ≡ token.old) }
+{
+    match side {
+        Side::Left => fst_moves(token, a, w),
+        Side::Right => snd_moves(token, a, w),
+    }
 }

@@ -10,14 +10,15 @@ ghost use Rattle.move_rules.specs.Walks.{SoloMoves, SoloStep};
 
 use crate::ground::{const_moves, pred_moves, succ_moves, test_moves};
 use crate::plain::{
-    app_moves, box_moves, con_moves, der_moves, door_moves, fix_moves, fst_moves, lam_moves,
-    pair_moves, snd_moves,
+    app_moves, box_moves, con_moves, der_moves, door_moves, fix_moves, lam_moves, pair_moves,
+    proj_moves,
 };
 use crate::{Seen, Token};
 use net_build::{Net, Node};
 use std::alloc::AllocError;
 
 // The move through a node that the token faces.
+#[inline(always)]
 fn pass(token: &mut Token, node: &Node) -> Result<bool, AllocError>
     ensures ok { IfOk result (λ made. Passes node.now token.old made token.new) }
     ensures err { OnErr result (token.new ≡ token.old) }
@@ -53,13 +54,12 @@ fn pass(token: &mut Token, node: &Node) -> Result<bool, AllocError>
             wire,
         } => fix_moves(token, body, variable, wire),
         Node::Pair { left, right, wire } => pair_moves(token, left, right, wire),
-        Node::Fst { operand, wire } => fst_moves(token, operand, wire),
-        Node::Snd { operand, wire } => snd_moves(token, operand, wire),
-        Node::Plus { .. }
-        | Node::Minus { .. }
-        | Node::Times { .. }
-        | Node::Weak { .. }
-        | Node::Root { .. } => Ok(false),
+        Node::Proj {
+            side,
+            operand,
+            wire,
+        } => proj_moves(token, side, operand, wire),
+        Node::Binary { .. } | Node::Weak { .. } | Node::Root { .. } => Ok(false),
     }
 }
 
@@ -111,6 +111,7 @@ fn faced_node<'n>(net: &'n Net, token: &Token) -> Option<&'n Node>
 /// # Errors
 ///
 /// Only where memory runs out for what a stack grows by; then the token stays. A fork, a join and the answer take no memory.
+#[inline(always)]
 pub fn solo_step(net: &Net, token: &mut Token) -> Result<bool, AllocError>
     ensures ok { IfOk result (λ made. SoloStep net.now made token.old token.new) }
     ensures err { OnErr result (token.new ≡ token.old) }
