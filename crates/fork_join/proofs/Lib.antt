@@ -1,7 +1,7 @@
 -- the keys of entries: their test and their order
 pub mod Keys
 -- the map of maps and the finite map answer alike, and change alike
-mod Nesting
+pub mod Nesting
 -- the two have the same entries in the same order
 mod Rising
 -- a table into which another's entries are put
