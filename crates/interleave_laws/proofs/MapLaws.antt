@@ -26,16 +26,16 @@ use Rattle.interleave_laws.proofs.Others.{others_live}
 use Rattle.interleave_laws.proofs.Seen.{start_seen, step_seen, run_seen, same_tokens, same_entries}
 
 -- a step makes one ticket at most
-grown : (S U T : State) → U.next ≤ suc S.next → Some U ≡ Some T → T.next ≤ suc S.next
+pub grown : (S U T : State) → U.next ≤ suc S.next → Some U ≡ Some T → T.next ≤ suc S.next
 grown S U T l h = let q : U ≡ T = cc in subst (λ (T : State). T.next ≤ suc S.next) q l
 
 -- the second answer
-last_next : (o : Option Val) (S T : State) (i n w : ℕ) (t : Boxes) → last_on o S i n w t ≡ Some T → T.next ≤ suc S.next
+pub last_next : (o : Option Val) (S T : State) (i n w : ℕ) (t : Boxes) → last_on o S i n w t ≡ Some T → T.next ≤ suc S.next
 last_next None S T i n w t h = cc
 last_next (Some u) S T i n w t h = grown S _ T (omega arith) h
 
 -- a join
-join_next : (e : Option Entry) (S T : State) (i n : ℕ) (op : Operator) (d : Side) (v : Val) (w : ℕ) (t : Boxes) →
+pub join_next : (e : Option Entry) (S T : State) (i n : ℕ) (op : Operator) (d : Side) (v : Val) (w : ℕ) (t : Boxes) →
     join_on e S i n op d v w t ≡ Some T → T.next ≤ suc S.next
 join_next None S T i n op d v w t h = cc
 join_next (Some pending) S T i n op d v w t h = grown S _ T (omega arith) h
@@ -43,13 +43,13 @@ join_next (Some (has_left u)) S T i n op d v w t h = last_next (other op (has_le
 join_next (Some (has_right u)) S T i n op d v w t h = last_next (other op (has_right u) d v) S T i n w t h
 
 -- a fork
-fork_next : (e : Option Entry) (S T : State) (i n : ℕ) (l r : Place) (t : Boxes) → fork_on e S i n l r t ≡ Some T →
+pub fork_next : (e : Option Entry) (S T : State) (i n : ℕ) (l r : Place) (t : Boxes) → fork_on e S i n l r t ≡ Some T →
     T.next ≤ suc S.next
 fork_next None S T i n l r t h = grown S _ T (omega arith) h
 fork_next (Some e) S T i n l r t h = cc
 
 -- any move
-act_next : (m : Move) (S T : State) (i : ℕ) → act m S i ≡ Some T → T.next ≤ suc S.next
+pub act_next : (m : Move) (S T : State) (i : ℕ) → act m S i ≡ Some T → T.next ≤ suc S.next
 act_next (solo n x) S T i h = grown S _ T (omega arith) h
 act_next (fork n l r t) S T i h = fork_next (S.entries n t) S T i n l r t h
 act_next (join n op d v w t) S T i h = join_next (S.entries n t) S T i n op d v w t h
@@ -65,7 +65,7 @@ step_next net S T i h = go (S.tokens i) h
     go (Some x) h = act_next (move net x) S T i h
 
 -- a run makes as many tickets as it has moves at most
-run_next : (net : NetTree) (log : List ℕ) (S T : State) → run net S log ≡ Some T → T.next ≤ S.next + length log
+pub run_next : (net : NetTree) (log : List ℕ) (S T : State) → run net S log ≡ Some T → T.next ≤ S.next + length log
 run_next net [] S T h = let q : S ≡ T = cc in subst (λ (T : State). T.next ≤ S.next + 0) q (omega arith)
 run_next net (i ∷ log) S T h = go (λ U. run_next net log U T) (step net S i) refl h
   where
