@@ -3,9 +3,7 @@ use Rattle.std.proofs.Common.{◌≡◌, ℕ, zero, suc, ◌+◌, ◌≤◌, max
 use Rattle.std.proofs.Common.{arith}
 use Rattle.std.specs.Prelude.{◌-◌, nat_eq, nat_lt, reverse, replicate, if◌then◌else◌}
 use Rattle.std.proofs.lemmas.List.{length-reverse}
-use Rattle.pcf_values.specs.declared.operator.Operator.TheVariants.{Plus, Minus, Times}
 use Rattle.pcf_values.specs.Terms.{TermTree, var, succ_of, pred_of, binary, ifz, lam, fix, app, pair, proj, size}
-use Rattle.pcf_values.specs.declared.side.Side.TheVariants.{Left, Right}
 use Rattle.pcf_values.specs.Terms.{height}
 use Rattle.net_build.specs.declared.node.Node.{Node}
 use Rattle.net_build.specs.declared.node.Node.TheVariants.{Const, Succ, Pred, Ifz, Der, Con, Weak, Lam, App, BoxNode, Binary, Proj}
@@ -98,10 +96,8 @@ start_fits ws rd h k e (Der w x ∷ ns) ms r =
     (fits_if (nat_lt m.level k) (suc h) (length (Der w x ∷ ns)) v f)
 start_fits ws rd h k e (Succ a w ∷ ns) ms r = one_fits succ_of h (length ns) (rd k e e a ns ms) (λ a. refl) (λ a. refl) (r k e e a ns ms)
 start_fits ws rd h k e (Pred a w ∷ ns) ms r = one_fits pred_of h (length ns) (rd k e e a ns ms) (λ a. refl) (λ a. refl) (r k e e a ns ms)
-start_fits ws rd h k e (Proj Left a w ∷ ns) ms r =
-    one_fits (proj Left) h (length ns) (rd k e e a ns ms) (λ a. refl) (λ a. refl) (r k e e a ns ms)
-start_fits ws rd h k e (Proj Right a w ∷ ns) ms r =
-    one_fits (proj Right) h (length ns) (rd k e e a ns ms) (λ a. refl) (λ a. refl) (r k e e a ns ms)
+start_fits ws rd h k e (Proj side a w ∷ ns) ms r =
+    one_fits (proj side) h (length ns) (rd k e e a ns ms) (λ a. refl) (λ a. refl) (r k e e a ns ms)
 start_fits ws rd h k e (Binary o a b w ∷ ns) ms r =
     two_fits (binary o) h (length ns) (rd k e e a) (rd k e e b ns ms) (λ a b. refl) (λ a b. refl) (r k e e a) (r k e e b ns ms)
 start_fits ws rd h k e (App f a w ∷ ns) ms r =

@@ -8,7 +8,6 @@ use Rattle.std.proofs.lemmas.List.{reverse-append, length-replicate}
 use Rattle.pcf_values.specs.declared.operator.Operator.{Operator}
 use Rattle.pcf_values.specs.Terms.{TyTree, nat, arrow, product, TermTree, num, var, succ_of, pred_of, binary}
 use Rattle.pcf_values.specs.declared.side.Side.{Side}
-use Rattle.pcf_values.specs.declared.side.Side.TheVariants.{Left, Right}
 use Rattle.pcf_values.specs.Terms.{ifz, lam, fix, app, pair, proj, height}
 use Rattle.pcf_values.specs.Typing.{HasType}
 use Rattle.net_build.specs.declared.node.Node.{Node}
@@ -47,8 +46,7 @@ binary_step ws h o x y w k around e ns ms = same_met w (two (binary o) (reading 
 -- the node that takes a part of a pair is read so
 proj_step : (ws : List WireTree) (h : ℕ) (s : Side) (a w k around e : ℕ) (ns : List Node) (ms : List Mark)
     → reading ws (suc h) k around e w (Proj s a w ∷ ns) ms ≡ one (proj s) (reading ws h k e e a ns ms)
-proj_step ws h Left a w k around e ns ms = same_met w (one (proj Left) (reading ws h k e e a ns ms))
-proj_step ws h Right a w k around e ns ms = same_met w (one (proj Right) (reading ws h k e e a ns ms))
+proj_step ws h s a w k around e ns ms = same_met w (one (proj s) (reading ws h k e e a ns ms))
 
 -- two pieces in front of others
 first_two : (ws : List WireTree) (n : ℕ) (a b c : List WireTree) → Held ws n (a ++ (b ++ c)) → Held ws n a × Held ws (n + length a) b

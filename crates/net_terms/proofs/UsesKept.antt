@@ -1,9 +1,6 @@
 -- The net of a term uses variables as the term does.
 use Rattle.std.proofs.Common.{◌≡◌, ℕ, zero, suc, ◌+◌, List, [], ◌∷◌, ◌++◌, append-nil, length, Option, Some, None, refl, ap, ◌∙◌, subst}
-use Rattle.pcf_values.specs.declared.operator.Operator.{Operator}
 use Rattle.pcf_values.specs.Terms.{TyTree, nat, product, TermTree, num, var, succ_of, pred_of, binary, ifz}
-use Rattle.pcf_values.specs.declared.side.Side.{Side}
-use Rattle.pcf_values.specs.declared.side.Side.TheVariants.{Left, Right}
 use Rattle.pcf_values.specs.Terms.{lam, fix, app, pair, proj}
 use Rattle.net_build.specs.declared.node.Node.{Node}
 use Rattle.net_build.specs.declared.node.Node.TheVariants.{Der, Root, Pair, Binary, Proj}
@@ -54,15 +51,6 @@ module _ (ws : List WireTree) where
   -- uses in front and behind
   both : (a b : List Node) (u v : List TyTree) → using_types ws a ≡ u → using_types ws b ≡ v → using_types ws (a ++ b) ≡ u ++ v
   both a b u v e h = uses_append a b ∙ (λ i. e i ++ h i)
-
-  -- an operator uses none
-  binary_unused : (o : Operator) (a b w : ℕ) → using_types ws (Binary o a b w ∷ []) ≡ []
-  binary_unused o a b w = refl
-
-  -- nor does what takes a part of a pair
-  proj_unused : (s : Side) (a w : ℕ) → using_types ws (Proj s a w ∷ []) ≡ []
-  proj_unused Left a w = refl
-  proj_unused Right a w = refl
 
   -- two operands
   double_uses : (node : ℕ → ℕ → ℕ → Node) (t : TyTree) (n d : ℕ) (g : List TyTree) (p q : Part) (u v : List TyTree)
@@ -119,12 +107,12 @@ module _ (ws : List WireTree) where
   part_uses (pred_of m) n d g h = let p =
       part n d g m in only p.nodes _ (used_types g m) (part_uses m n d g (held_left ws n p.wires _ h)) refl
   part_uses (proj s m) n d g h = let p =
-      part n d g m in only p.nodes _ (used_types g m) (part_uses m n d g (held_left ws n p.wires _ h)) (proj_unused s _ _)
+      part n d g m in only p.nodes _ (used_types g m) (part_uses m n d g (held_left ws n p.wires _ h)) refl
   part_uses (binary o m l) n d g h =
       let p = part n d g m in
       let k = n + length p.wires in
       let q = part k d g l in
-      double_uses (Binary o) nat n d g p q (used_types g m) (used_types g l) (binary_unused o)
+      double_uses (Binary o) nat n d g p q (used_types g m) (used_types g l) (λ a b w. refl)
       (part_uses m n d g (held_left ws n p.wires _ h)) (part_uses l k d g (held_left ws k q.wires _ (held_right ws n p.wires _ h)))
   part_uses (pair m l) n d g h =
       let p = part n d g m in

@@ -1,7 +1,6 @@
 -- What the code's reading gives, seen through the views of terms.
 use Rattle.std.specs.Prelude.{◌≡◌, List, Option, Some, None}
 use Rattle.pcf_values.specs.Terms.{TermTree, succ_of, pred_of, binary, app, pair, proj}
-use Rattle.pcf_values.specs.declared.side.Side.TheVariants.{Left, Right}
 use Rattle.net_build.specs.declared.node.Node.{Node}
 use Rattle.net_terms.specs.declared.walk.Mark.{Mark}
 use Rattle.net_terms.specs.declared.forms.One.{One}
@@ -14,11 +13,11 @@ use Rattle.net_terms.specs.TermOf.{Read, read}
 abbrev pub one_term : One → TermTree → TermTree
 one_term one.Succ = succ_of
 one_term one.Pred = pred_of
-one_term (one.Proj d) = proj d
+one_term (one.Proj side) = proj side
 
 -- the term of a form with two operands
 abbrev pub two_term : Two → TermTree → TermTree → TermTree
-two_term (two.Binary o) = binary o
+two_term (two.Binary operator) = binary operator
 two_term two.App = app
 two_term two.Pair = pair
 

@@ -8,7 +8,6 @@
 use Rattle.std.specs.Prelude.{ℕ, zero, suc, ◌-◌, List, [], ◌∷◌, length, reverse, replicate, Option, Some, None, nat_eq, nat_lt}
 use Rattle.std.specs.Prelude.{if◌then◌else◌, slice_get, slice_index_or, slice_set}
 use Rattle.pcf_values.specs.Terms.{TyTree, nat, TermTree, num, var, succ_of, pred_of, binary, ifz, lam, fix, app}
-use Rattle.pcf_values.specs.declared.side.Side.TheVariants.{Left, Right}
 use Rattle.pcf_values.specs.Terms.{pair, proj}
 use Rattle.net_build.specs.declared.node.Node.{Node}
 use Rattle.net_build.specs.declared.node.Node.TheVariants.{Const, Succ, Pred, Ifz, Der, Con, Weak, Lam, App, BoxNode, Binary, Proj}
@@ -113,7 +112,7 @@ start ws rd k place (Lam b x w ∷ ns) ms = one (lam (domain (type_at ws w))) (r
 start ws rd k place (App f a w ∷ ns) ms = two app (rd k place place f) (rd k place place a ns ms)
 start ws rd k place (FixBox b x w ∷ ns) ms = one (fix (type_at ws w)) (rd (suc k) place (suc w) b ns (set_marked ms x k (suc w)))
 start ws rd k place (Pair a b w ∷ ns) ms = two pair (rd k place place a) (rd k place place b ns ms)
-start ws rd k place (Proj d a w ∷ ns) ms = one (proj d) (rd k place place a ns ms)
+start ws rd k place (Proj side a w ∷ ns) ms = one (proj side) (rd k place place a ns ms)
 start ws rd k place (n ∷ ns) ms = None
 
 -- the value wire of a term's own node, and the last wire of any other
@@ -133,7 +132,7 @@ value_of (Door i o) = o
 value_of (FixBox b x w) = w
 value_of (Root w) = w
 value_of (Pair a b w) = w
-value_of (Proj d a w) = w
+value_of (Proj side a w) = w
 
 -- what is read, where the next node's value wire is the one that is to come
 abbrev pub met : ℕ → List Node → Option Read → Option Read

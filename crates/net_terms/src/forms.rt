@@ -4,14 +4,13 @@ ghost use Rattle.std.specs.Prelude.{◌≡◌};
 ghost use Rattle.pcf_values.specs.Views.{term_of};
 ghost use Rattle.net_terms.specs.Reads.{one_term, two_term};
 
-use pcf_values::Term;
+use pcf_values::{Operator, Side, Term};
 
 #[derive(Clone, Copy)]
 pub(crate) enum One {
     Succ,
     Pred,
-    Fst,
-    Snd,
+    Proj(Side),
 }
 
 impl One {
@@ -22,17 +21,14 @@ impl One {
         match self {
             One::Succ => Term::Succ(a),
             One::Pred => Term::Pred(a),
-            One::Fst => Term::Fst(a),
-            One::Snd => Term::Snd(a),
+            One::Proj(side) => Term::Proj(side, a),
         }
     }
 }
 
 #[derive(Clone, Copy)]
 pub(crate) enum Two {
-    Plus,
-    Minus,
-    Times,
+    Binary(Operator),
     App,
     Pair,
 }
@@ -43,9 +39,7 @@ impl Two {
         ensures { term_of result ≡ two_term self (term_of a.value) (term_of b.value) }
     {
         match self {
-            Two::Plus => Term::Plus(a, b),
-            Two::Minus => Term::Minus(a, b),
-            Two::Times => Term::Times(a, b),
+            Two::Binary(operator) => Term::Binary(operator, a, b),
             Two::App => Term::App(a, b),
             Two::Pair => Term::Pair(a, b),
         }

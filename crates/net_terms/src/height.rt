@@ -13,17 +13,11 @@ pub(crate) fn height_of(term: &Term) -> u32
 {
     match term {
         Term::Number(_) | Term::Var(_) => 1,
-        Term::Succ(a)
-        | Term::Pred(a)
-        | Term::Fst(a)
-        | Term::Snd(a)
-        | Term::Fun(_, a)
-        | Term::Fix(_, a) => 1 + height_of(a),
-        Term::Plus(a, b)
-        | Term::Minus(a, b)
-        | Term::Times(a, b)
-        | Term::App(a, b)
-        | Term::Pair(a, b) => 1 + height_of(a).max(height_of(b)),
+        Term::Succ(a) | Term::Pred(a) | Term::Proj(_, a) | Term::Fun(_, a) | Term::Fix(_, a) => 1
+            + height_of(a),
+        Term::Binary(_, a, b) | Term::App(a, b) | Term::Pair(a, b) => {
+            1 + height_of(a).max(height_of(b))
+        }
         Term::Ifz(c, p, q) => 1 + height_of(c).max(height_of(p).max(height_of(q))),
     }
 }

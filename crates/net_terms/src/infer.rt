@@ -8,7 +8,7 @@ ghost use Rattle.pcf_values.specs.Views.{term_of, ty_of};
 ghost use Rattle.net_terms.specs.Typable.{applied, context_of, fixed, function_to, if_number, if_same, paired, part_type};
 ghost use Rattle.net_terms.specs.Typable.{type_of};
 
-use pcf_values::{Term, Ty};
+use pcf_values::{Side, Term, Ty};
 use std::alloc::{AllocError, Global};
 
 /// Whether a term is closed and of type `nat`.
@@ -34,7 +34,7 @@ pub(crate) fn infer(
         Term::Number(n) => Ok(number_type(*n)),
         Term::Var(i) => variable_type(alloc, context, *i),
         Term::Succ(a) | Term::Pred(a) => Ok(nat_if(is_number(alloc, context, a)?)),
-        Term::Plus(a, b) | Term::Minus(a, b) | Term::Times(a, b) => {
+        Term::Binary(_, a, b) => {
             Ok(nat_if(is_number(alloc, context, a)? && is_number(alloc, context, b)?))
         }
         Term::Ifz(test, then, otherwise) => {
@@ -47,14 +47,20 @@ pub(crate) fn infer(
         Term::Fix(ty, body) => infer_fix(alloc, context, ty, body),
         Term::App(f, a) => infer_app(alloc, context, f, a),
         Term::Pair(a, b) => infer_pair(alloc, context, a, b),
-        Term::Fst(a) => match infer(alloc, context, a)? {
-            Some(Ty::Product(left, _)) => Ok(Some(Box::into_inner(left))),
-            _ => Ok(None),
+        Term::Proj(side, a) => Ok(part_type(*side, infer(alloc, context, a)?)),
+    }
+}
+
+/// The type of the part of a pair on this side, where it is a pair.
+fn part_type(side: Side, pair: Option<Ty>) -> Option<Ty>
+    ensures { option_map ty_of result ≡ part_type side (option_map ty_of pair) }
+{
+    match pair {
+        Some(Ty::Product(left, right)) => match side {
+            Side::Left => Some(Box::into_inner(left)),
+            Side::Right => Some(Box::into_inner(right)),
         },
-        Term::Snd(a) => match infer(alloc, context, a)? {
-            Some(Ty::Product(_, right)) => Ok(Some(Box::into_inner(right))),
-            _ => Ok(None),
-        },
+        _ => None,
     }
 }
 

@@ -158,27 +158,15 @@ fn start(
         )),
         Node::Succ { operand, .. } => read_one(alloc, net, walk, One::Succ, operand, scope),
         Node::Pred { operand, .. } => read_one(alloc, net, walk, One::Pred, operand, scope),
-        Node::Fst { operand, .. } => read_one(alloc, net, walk, One::Fst, operand, scope),
-        Node::Snd { operand, .. } => read_one(alloc, net, walk, One::Snd, operand, scope),
-        Node::Plus { left, right, .. } => read_two(alloc, net, walk, Two::Plus, left, right, scope),
-        Node::Minus { left, right, .. } => read_two(
-            alloc,
-            net,
-            walk,
-            Two::Minus,
+        Node::Proj { side, operand, .. } => {
+            read_one(alloc, net, walk, One::Proj(side), operand, scope)
+        }
+        Node::Binary {
+            operator,
             left,
             right,
-            scope,
-        ),
-        Node::Times { left, right, .. } => read_two(
-            alloc,
-            net,
-            walk,
-            Two::Times,
-            left,
-            right,
-            scope,
-        ),
+            ..
+        } => read_two(alloc, net, walk, Two::Binary(operator), left, right, scope),
         Node::App {
             function,
             argument,

@@ -39,14 +39,10 @@ fn take(
     match term {
         Term::Number(_) => Ok(true),
         Term::Var(i) => Ok(take_variable(net, context, next, *i)),
-        Term::Succ(a) | Term::Pred(a) | Term::Fst(a) | Term::Snd(a) => {
-            take(alloc, net, context, next, a)
+        Term::Succ(a) | Term::Pred(a) | Term::Proj(_, a) => take(alloc, net, context, next, a),
+        Term::Binary(_, a, b) | Term::App(a, b) | Term::Pair(a, b) => {
+            take_two(alloc, net, context, next, a, b)
         }
-        Term::Plus(a, b)
-        | Term::Minus(a, b)
-        | Term::Times(a, b)
-        | Term::App(a, b)
-        | Term::Pair(a, b) => take_two(alloc, net, context, next, a, b),
         Term::Ifz(c, p, q) => take_three(alloc, net, context, next, c, p, q),
         Term::Fun(ty, body) | Term::Fix(ty, body) => {
             take_body(alloc, net, context, next, ty, body)

@@ -131,9 +131,7 @@ pub(crate) fn value_of(node: Node) -> u32
         Node::Const { wire, .. }
         | Node::Succ { wire, .. }
         | Node::Pred { wire, .. }
-        | Node::Plus { wire, .. }
-        | Node::Minus { wire, .. }
-        | Node::Times { wire, .. }
+        | Node::Binary { wire, .. }
         | Node::Ifz { wire, .. }
         | Node::Der { wire, .. }
         | Node::Con { wire, .. }
@@ -142,8 +140,7 @@ pub(crate) fn value_of(node: Node) -> u32
         | Node::FixBox { wire, .. }
         | Node::Root { wire }
         | Node::Pair { wire, .. }
-        | Node::Fst { wire, .. }
-        | Node::Snd { wire, .. } => wire,
+        | Node::Proj { wire, .. } => wire,
         Node::Weak { variable } => variable,
         Node::BoxNode { outside, .. } | Node::Door { outside, .. } => outside,
     }
