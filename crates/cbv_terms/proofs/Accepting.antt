@@ -3,7 +3,7 @@ use Rattle.std.proofs.Common.{◌≡◌, ◌⊎◌, ℕ, ◌<◌, ◌≤◌, Boo
 use Rattle.std.proofs.Common.{inl, inr, arith}
 use Rattle.std.proofs.lemmas.Bool.{cases_lt}
 use Rattle.pcf_values.specs.Terms.{TyTree, nat, arrow, product, TermTree, lam, fix}
-use Rattle.pcf_values.specs.Named.{the_succ, the_pred, the_fst, the_snd, the_fun, the_fix, NamedTree, number_at, name_at, word_at}
+use Rattle.pcf_values.specs.Named.{the_succ, the_pred, the_part, the_fun, the_fix, NamedTree, number_at, name_at, word_at}
 use Rattle.pcf_values.specs.Named.{binary_at, pair_at, ifz_at, bind_at, apply_at, named_height}
 use Rattle.pcf_types.specs.Checking.{type_of}
 use Rattle.pcf_types.specs.Resolution.{Resolves}
@@ -12,7 +12,8 @@ use Rattle.pcf_types.proofs.Sizes.{typed_size}
 use Rattle.cbv_terms.specs.declared.fault.ByValueFault.{ByValueFault}
 use Rattle.cbv_terms.specs.declared.fault.ByValueFault.TheVariants.{NoMemory, ByValueFix, ByValuePair, ByValueDeep}
 use Rattle.cbv_terms.specs.declared.limit.TheConstants.{BY_VALUE_HEIGHT}
-use Rattle.cbv_terms.specs.Translation.{has_product, HasTranslation, Accepted}
+use Rattle.cbv_terms.specs.Translation.{has_product}
+use Rattle.cbv_terms.specs.Accepted.{HasTranslation, Accepted}
 use Rattle.cbv_terms.specs.Faults.{is_of_fun, BinderFault, FixFault, HasFault, IsFaultless}
 
 abbrev Clean : NamedTree → Type 0
@@ -48,8 +49,7 @@ clean_taken (number_at at n) s m e h = subst HasTranslation (sym e) tt
 clean_taken (name_at at x) s m (i, d, e) h = subst HasTranslation (sym e) tt
 clean_taken (word_at at the_succ a) s m (b, r, e) h = subst HasTranslation (sym e) (clean_taken a s b r h)
 clean_taken (word_at at the_pred a) s m (b, r, e) h = subst HasTranslation (sym e) (clean_taken a s b r h)
-clean_taken (word_at at the_fst a) s m r h = absurd (h (ByValuePair at) (inl refl))
-clean_taken (word_at at the_snd a) s m r h = absurd (h (ByValuePair at) (inl refl))
+clean_taken (word_at at (the_part i) a) s m r h = absurd (h (ByValuePair at) (inl refl))
 clean_taken (binary_at at o a b) s m (c, d, r, q, e) h =
     subst HasTranslation (sym e) (clean_taken a s c r (λ f w. h f (inl w)), clean_taken b s d q (λ f w. h f (inr w)))
 clean_taken (pair_at at a b) s m r h = absurd (h (ByValuePair at) (inl refl))
@@ -91,8 +91,7 @@ lam_of_fun (number_at at n) s a b c m e = cc
 lam_of_fun (name_at at x) s a b c m (i, d, e) = cc
 lam_of_fun (word_at at the_succ t) s a b c m (n, r, e) = cc
 lam_of_fun (word_at at the_pred t) s a b c m (n, r, e) = cc
-lam_of_fun (word_at at the_fst t) s a b c m (n, r, e) = cc
-lam_of_fun (word_at at the_snd t) s a b c m (n, r, e) = cc
+lam_of_fun (word_at at (the_part i) t) s a b c m (n, r, e) = cc
 lam_of_fun (binary_at at o t u) s a b c m (x, y, r, q, e) = cc
 lam_of_fun (pair_at at t u) s a b c m (x, y, r, q, e) = cc
 lam_of_fun (ifz_at at t u v) s a b c m (x, y, z, r, q, k, e) = cc
@@ -118,8 +117,7 @@ taken_clean (number_at at n) s m e h = λ f w. w
 taken_clean (name_at at x) s m r h = λ f w. w
 taken_clean (word_at at the_succ a) s m (b, r, e) h = taken_clean a s b r (subst HasTranslation e h)
 taken_clean (word_at at the_pred a) s m (b, r, e) h = taken_clean a s b r (subst HasTranslation e h)
-taken_clean (word_at at the_fst a) s m (b, r, e) h = absurd (subst HasTranslation e h)
-taken_clean (word_at at the_snd a) s m (b, r, e) h = absurd (subst HasTranslation e h)
+taken_clean (word_at at (the_part i) a) s m (b, r, e) h = absurd (subst HasTranslation e h)
 taken_clean (binary_at at o a b) s m (c, d, r, q, e) h = let g = subst HasTranslation e h in
     λ f. either (taken_clean a s c r g.0 f) (taken_clean b s d q g.1 f)
 taken_clean (pair_at at a b) s m (c, d, r, q, e) h = absurd (subst HasTranslation e h)
@@ -148,8 +146,7 @@ placed (number_at at n) f w = absurd w
 placed (name_at at x) f w = absurd w
 placed (word_at at the_succ a) f w = placed a f w
 placed (word_at at the_pred a) f w = placed a f w
-placed (word_at at the_fst a) f w = either (placed_pair at f) (placed a f) w
-placed (word_at at the_snd a) f w = either (placed_pair at f) (placed a f) w
+placed (word_at at (the_part s) a) f w = either (placed_pair at f) (placed a f) w
 placed (binary_at at o a b) f w = either (placed a f) (placed b f) w
 placed (pair_at at a b) f w = either (placed_pair at f) (either (placed a f) (placed b f)) w
 placed (ifz_at at c p q) f w = either (placed c f) (either (placed p f) (placed q f)) w

@@ -15,7 +15,8 @@ use Rattle.cbn_meaning.proofs.Derived.{ev_eval, eval_ev}
 use Rattle.cbn_meaning.proofs.Head.{unfold_fix, app_steps, one_value}
 use Rattle.cbn_meaning.proofs.Close.{close_subst, close_closed, close_var_zero, cons_closed, close_same}
 use Rattle.cbv_terms.specs.ByValue.{quote, MeansByValue}
-use Rattle.cbv_terms.specs.Translation.{HasTranslation, type_at, argument_type, result_type, type_in, value_type, continuation_type, beside}
+use Rattle.cbv_terms.specs.Translation.{type_at, argument_type, result_type, type_in, value_type, continuation_type, beside}
+use Rattle.cbv_terms.specs.Accepted.{HasTranslation}
 use Rattle.cbv_terms.specs.Translation.{under, cps, translated}
 use Rattle.cbv_terms.proofs.Derived.{EvByValue, by_num, by_lam, by_fix, HasEvByValue, derived_evaluates, evaluates_derived}
 use Rattle.cbv_terms.proofs.Typed.{cps_typed}

@@ -4,7 +4,7 @@ use Rattle.std.proofs.Common.{inl, inr, arith}
 use Rattle.std.specs.Prelude.{nat_le, not, cond, MatchOption}
 use Rattle.std.proofs.lemmas.Bool.{cases_lt, le-leb, lt-leb}
 use Rattle.pcf_values.specs.Terms.{TyTree}
-use Rattle.pcf_values.specs.Named.{the_succ, the_pred, the_fst, the_snd, the_fun, the_fix, NamedTree, number_at, name_at, word_at}
+use Rattle.pcf_values.specs.Named.{the_succ, the_pred, the_part, the_fun, the_fix, NamedTree, number_at, name_at, word_at}
 use Rattle.pcf_values.specs.Named.{binary_at, pair_at, ifz_at, bind_at, apply_at, named_height}
 use Rattle.cbv_terms.specs.declared.fault.ByValueFault.{ByValueFault}
 use Rattle.cbv_terms.specs.declared.fault.ByValueFault.TheVariants.{NoMemory, ByValueFix, ByValuePair, ByValueDeep}
@@ -201,8 +201,7 @@ found (number_at at n) = found_none
 found (name_at at x) = found_none
 found (word_at at the_succ a) = found a
 found (word_at at the_pred a) = found a
-found (word_at at the_fst a) = found_both (λ f. f ≡ ByValuePair at) (HasFault a) (found_pair at) (found a)
-found (word_at at the_snd a) = found_both (λ f. f ≡ ByValuePair at) (HasFault a) (found_pair at) (found a)
+found (word_at at (the_part s) a) = found_both (λ f. f ≡ ByValuePair at) (HasFault a) (found_pair at) (found a)
 found (binary_at at o a b) = found_both (HasFault a) (HasFault b) (found a) (found b)
 found (pair_at at a b) = found_both (λ f. f ≡ ByValuePair at) (λ f. HasFault a f ⊎
     HasFault b f) (found_pair at) (found_both (HasFault a) (HasFault b) (found a) (found b))

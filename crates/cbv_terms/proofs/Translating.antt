@@ -12,7 +12,8 @@ use Rattle.cbv_terms.specs.declared.binder.Binder.{Binder}
 use Rattle.cbv_terms.specs.declared.forms.Unary.{Unary}
 use Rattle.cbv_terms.specs.declared.forms.Unary.TheVariants.{Succ, Pred}
 use Rattle.cbv_terms.specs.declared.made.Made.{Made}
-use Rattle.cbv_terms.specs.Translation.{HasTranslation, argument_type, result_type, type_in, value_type, continuation_type, beside, under}
+use Rattle.cbv_terms.specs.Translation.{argument_type, result_type, type_in, value_type, continuation_type, beside, under}
+use Rattle.cbv_terms.specs.Accepted.{HasTranslation}
 use Rattle.cbv_terms.specs.Translation.{cps, translated}
 use Rattle.cbv_terms.specs.Views.{known_of, unary_of, context_of, map_of, AreAround, IsTyped, IsReady, Makes, MakesFunction}
 use Rattle.cbv_terms.proofs.Typed.{typed_in}
@@ -188,14 +189,14 @@ unary_makes Pred old new d a part made r h e q =
           h.binders;
     }
 
-pub double_makes : (o : Operator) (old s new : List Binder) (d : ℕ) (a b : TermTree) (left right made : Made) → AreAround d (reverse old)
+pub binary_makes : (o : Operator) (old s new : List Binder) (d : ℕ) (a b : TermTree) (left right made : Made) → AreAround d (reverse old)
     → Makes old s (context_of old) (map_of (d + 1) old) a left
     → Makes s new (context_of s) (map_of (d + 2) s) b right
     → term_of made.term.value ≡ lam (continuation_type nat)
     (app (term_of left.term.value) (lam nat (app (term_of right.term.value) (lam nat (app (var 2) (binary o (var 1) (var 0)))))))
     → known_of made.ty ≡ nat
     → Makes old new (context_of old) (map_of d old) (binary o a b) made
-double_makes o old s new d a b left right made r h k e q =
+binary_makes o old s new d a b left right made r h k e q =
     let k' = moved s old new (d + 2) b right h.binders k in
     let x = once d old s a left r h in
     let y = twice d old new b right r k' in

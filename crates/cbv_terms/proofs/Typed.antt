@@ -5,7 +5,8 @@ use Rattle.std.specs.Prelude.{slice_get}
 use Rattle.pcf_values.specs.Terms.{TyTree, nat, arrow, TermTree, num, var, succ_of, pred_of, binary, ifz, lam, fix, app, pair, proj, size}
 use Rattle.pcf_values.specs.Terms.{height}
 use Rattle.pcf_values.specs.Typing.{HasType}
-use Rattle.cbv_terms.specs.Translation.{HasTranslation, Accepted, type_at, argument_type, result_type, type_in, value_type}
+use Rattle.cbv_terms.specs.Translation.{type_at, argument_type, result_type, type_in, value_type}
+use Rattle.cbv_terms.specs.Accepted.{HasTranslation, Accepted}
 use Rattle.cbv_terms.specs.Translation.{continuation_type, beside, under, cps, translated}
 
 pub size_cps : (m : TermTree) (g : List TyTree) (e : ℕ → ℕ) → size (cps g e m) ≤ 10 * size m

@@ -4,8 +4,9 @@ use Rattle.std.specs.Prelude.{◌≡◌, [], ◌∷◌}
 use Rattle.pcf_values.specs.declared.val.Val.{Val}
 use Rattle.pcf_values.specs.declared.val.Val.TheVariants.{Number, Overflow}
 use Rattle.pcf_values.specs.declared.operator.Operator.TheVariants.{Plus, Minus}
+use Rattle.pcf_values.specs.declared.side.Side.TheVariants.{Left}
 use Rattle.pcf_values.specs.Terms.{nat, arrow, product, TermTree, num, var, succ_of, pred_of, binary, ifz, lam, fix, app}
-use Rattle.pcf_values.specs.Named.{the_fst, the_fix, NamedTree, number_at, name_at, word_at, binary_at, pair_at, bind_at}
+use Rattle.pcf_values.specs.Named.{the_part, the_fix, NamedTree, number_at, name_at, word_at, binary_at, pair_at, bind_at}
 use Rattle.cbn_meaning.specs.Meaning.{Means}
 use Rattle.cbv_terms.specs.declared.fault.ByValueFault.TheVariants.{ByValueFix, ByValuePair}
 use Rattle.cbv_terms.specs.ByValue.{MeansByValue}
@@ -52,7 +53,7 @@ fix_of_number = bind_at 0 the_fix (121 ∷ []) nat (name_at 11 (121 ∷ []))
 
 -- `fst (1, 2)`
 abbrev pub part_of_pair : NamedTree
-part_of_pair = word_at 0 the_fst (pair_at 4 (number_at 5 1) (number_at 8 2))
+part_of_pair = word_at 0 (the_part Left) (pair_at 4 (number_at 5 1) (number_at 8 2))
 
 -- `(fix y:nat*nat. y)`, at whose `fix` stand both faults
 abbrev pub fix_of_pair : NamedTree

@@ -3,7 +3,7 @@
 -- pair. Places are those of the program's text.
 use Rattle.std.specs.Prelude.{◌≡◌, ◌⊎◌, ◌<◌, ◌≤◌, ℕ, Bool, true, false}
 use Rattle.pcf_values.specs.Terms.{TyTree, arrow}
-use Rattle.pcf_values.specs.Named.{the_succ, the_pred, the_fst, the_snd, the_fun, the_fix, NamedTree, number_at, name_at, word_at}
+use Rattle.pcf_values.specs.Named.{the_succ, the_pred, the_part, the_fun, the_fix, NamedTree, number_at, name_at, word_at}
 use Rattle.pcf_values.specs.Named.{binary_at, pair_at, ifz_at, bind_at, apply_at, named_height}
 use Rattle.cbv_terms.specs.declared.fault.ByValueFault.{ByValueFault}
 use Rattle.cbv_terms.specs.declared.fault.ByValueFault.TheVariants.{NoMemory, ByValueFix, ByValuePair, ByValueDeep}
@@ -29,8 +29,7 @@ HasFault (number_at at n) f = ⊥
 HasFault (name_at at x) f = ⊥
 HasFault (word_at at the_succ a) f = HasFault a f
 HasFault (word_at at the_pred a) f = HasFault a f
-HasFault (word_at at the_fst a) f = (f ≡ ByValuePair at) ⊎ HasFault a f
-HasFault (word_at at the_snd a) f = (f ≡ ByValuePair at) ⊎ HasFault a f
+HasFault (word_at at (the_part s) a) f = (f ≡ ByValuePair at) ⊎ HasFault a f
 HasFault (binary_at at o a b) f = HasFault a f ⊎ HasFault b f
 HasFault (pair_at at a b) f = (f ≡ ByValuePair at) ⊎ (HasFault a f ⊎ HasFault b f)
 HasFault (ifz_at at c p q) f = HasFault c f ⊎ (HasFault p f ⊎ HasFault q f)

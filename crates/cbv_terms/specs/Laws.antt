@@ -8,7 +8,8 @@ use Rattle.pcf_types.specs.Checking.{type_of}
 use Rattle.cbn_meaning.specs.Meaning.{Res, Means}
 use Rattle.cbv_terms.specs.declared.fault.ByValueFault.{ByValueFault}
 use Rattle.cbv_terms.specs.ByValue.{eval_by_value, MeansByValue}
-use Rattle.cbv_terms.specs.Translation.{HasTranslation, Accepted, translated}
+use Rattle.cbv_terms.specs.Translation.{translated}
+use Rattle.cbv_terms.specs.Accepted.{HasTranslation, Accepted}
 use Rattle.cbv_terms.specs.Faults.{IsFirstFault, IsFaultless}
 
 -- a closed term of type nat means a value by value exactly where its translation means it by name

@@ -5,35 +5,15 @@
 -- Terms have indexes in place of names. A map says at which index each variable of the term stands in the translated one: a new binder
 -- only makes the map's numbers larger, nothing that is translated has to be moved, and no name can be captured.
 -- Forms that have no translation have the number 0 in its place, which is never looked at.
-use Rattle.std.specs.Prelude.{◌≡◌, ◌≤◌, ℕ, zero, suc, Bool, true, false, ◌||◌, List, [], ◌∷◌}
+use Rattle.std.specs.Prelude.{ℕ, zero, suc, Bool, true, false, ◌||◌, List, [], ◌∷◌}
 use Rattle.pcf_values.specs.Terms.{TyTree, nat, arrow, product, TermTree, num, var, succ_of, pred_of, binary, ifz, lam, fix, app, pair}
-use Rattle.pcf_values.specs.Terms.{proj, height}
-use Rattle.cbv_terms.specs.declared.limit.TheConstants.{BY_VALUE_HEIGHT}
+use Rattle.pcf_values.specs.Terms.{proj}
 
 -- whether a part of the type is a product
 abbrev pub has_product : TyTree → Bool
 has_product nat = false
 has_product (arrow a b) = has_product a || has_product b
 has_product (product a b) = true
-
--- the term has a translation: it has no pairs, nor a binder of a product's type, and each `fix` is of a function's type and of a `fun`
-abbrev pub HasTranslation : TermTree → Type 0
-HasTranslation (num n) = Unit {0}
-HasTranslation (var i) = Unit {0}
-HasTranslation (succ_of a) = HasTranslation a
-HasTranslation (pred_of a) = HasTranslation a
-HasTranslation (binary o a b) = HasTranslation a × HasTranslation b
-HasTranslation (ifz c p q) = HasTranslation c × HasTranslation p × HasTranslation q
-HasTranslation (lam a m) = (has_product a ≡ false) × HasTranslation m
-HasTranslation (fix (arrow a b) (lam c m)) = (has_product (arrow a b) ≡ false) × (has_product c ≡ false) × HasTranslation m
-HasTranslation (fix _ _) = ⊥
-HasTranslation (app f x) = HasTranslation f × HasTranslation x
-HasTranslation (pair m n) = ⊥
-HasTranslation (proj s a) = ⊥
-
--- the term is accepted by value: it has a translation, and it is no higher than the limit
-abbrev pub Accepted : TermTree → Type 0
-Accepted m = (height m ≤ BY_VALUE_HEIGHT) × HasTranslation m
 
 -- the type of variable i, where the context lists the types of the variables; there is none past the context, and nat stands there
 abbrev pub type_at : List TyTree → ℕ → TyTree

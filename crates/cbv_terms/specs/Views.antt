@@ -2,20 +2,17 @@
 -- is known of one.
 use Rattle.std.specs.Prelude.{◌≡◌, ◌+◌, ◌-◌, ◌<◌, ℕ, zero, suc, List, [], ◌∷◌, map, reverse}
 use Rattle.pcf_values.specs.declared.term.Term.{Term}
-use Rattle.pcf_values.specs.declared.operator.Operator.{Operator}
-use Rattle.pcf_values.specs.declared.operator.Operator.TheVariants.{Plus as plus_op, Minus as minus_op, Times as times_op}
 use Rattle.pcf_values.specs.Terms.{TyTree, nat, arrow, TermTree, succ_of, pred_of, lam}
 use Rattle.pcf_values.specs.Typing.{HasType}
 use Rattle.pcf_values.specs.Views.{ty_of, term_of}
 use Rattle.cbv_terms.specs.declared.binder.Binder.{Binder}
 use Rattle.cbv_terms.specs.declared.forms.Unary.{Unary}
 use Rattle.cbv_terms.specs.declared.forms.Unary.TheVariants.{Succ, Pred}
-use Rattle.cbv_terms.specs.declared.forms.Double.{Double}
-use Rattle.cbv_terms.specs.declared.forms.Double.TheVariants.{Plus, Minus, Times}
 use Rattle.cbv_terms.specs.declared.known.Known.{Known}
 use Rattle.cbv_terms.specs.declared.known.Known.TheVariants.{Nat, Written, Function'}
 use Rattle.cbv_terms.specs.declared.made.Made.{Made}
-use Rattle.cbv_terms.specs.Translation.{HasTranslation, type_in, value_type, under, cps}
+use Rattle.cbv_terms.specs.Translation.{type_in, value_type, under, cps}
+use Rattle.cbv_terms.specs.Accepted.{HasTranslation}
 
 abbrev pub known_of : Known → TyTree
 known_of Nat = nat
@@ -25,11 +22,6 @@ known_of (Function' t p b) = arrow (ty_of t.now) (known_of b)
 abbrev pub unary_of : Unary → TermTree → TermTree
 unary_of Succ = succ_of
 unary_of Pred = pred_of
-
-abbrev pub op_of : Double → Operator
-op_of Plus = plus_op
-op_of Minus = minus_op
-op_of Times = times_op
 
 -- the binders' types, the nearest first
 abbrev pub context_of : List Binder → List TyTree

@@ -1,9 +1,8 @@
 //! The forms of terms that are translated alike.
 
 ghost use Rattle.std.specs.Prelude.{◌≡◌};
-ghost use Rattle.pcf_values.specs.Terms.{binary};
 ghost use Rattle.pcf_values.specs.Views.{term_of};
-ghost use Rattle.cbv_terms.specs.Views.{unary_of, op_of};
+ghost use Rattle.cbv_terms.specs.Views.{unary_of};
 
 use pcf_values::Term;
 
@@ -14,14 +13,6 @@ pub(crate) enum Unary {
     Pred,
 }
 
-/// The strict operators.
-#[derive(Clone, Copy)]
-pub(crate) enum Double {
-    Plus,
-    Minus,
-    Times,
-}
-
 impl Unary {
     /// The form with this operand.
     pub(crate) fn of(self, a: Box<Term>) -> Term
@@ -30,19 +21,6 @@ impl Unary {
         match self {
             Unary::Succ => Term::Succ(a),
             Unary::Pred => Term::Pred(a),
-        }
-    }
-}
-
-impl Double {
-    /// The form with these operands.
-    pub(crate) fn of(self, a: Box<Term>, b: Box<Term>) -> Term
-        ensures { term_of result ≡ binary (op_of self) (term_of a.value) (term_of b.value) }
-    {
-        match self {
-            Double::Plus => Term::Plus(a, b),
-            Double::Minus => Term::Minus(a, b),
-            Double::Times => Term::Times(a, b),
         }
     }
 }

@@ -4,11 +4,11 @@ ghost use Rattle.std.specs.Prelude.{◌≡◌, IfOk};
 ghost use Rattle.pcf_values.specs.Terms.{nat, arrow, TyTree, var, binary, ifz, lam, fix, app};
 ghost use Rattle.pcf_values.specs.Views.{ty_of, term_of};
 ghost use Rattle.cbv_terms.specs.Translation.{value_type, continuation_type, argument_type, result_type};
-ghost use Rattle.cbv_terms.specs.Views.{known_of, unary_of, op_of};
+ghost use Rattle.cbv_terms.specs.Views.{known_of, unary_of};
 
-use crate::forms::{Double, Unary};
+use crate::forms::Unary;
 use crate::known::{Known, value_type};
-use pcf_values::{Term, Ty};
+use pcf_values::{Operator, Term, Ty};
 use std::alloc::{AllocError, Global};
 
 /// The translation of a term, and the term's type.
@@ -114,26 +114,26 @@ pub(crate) fn close_unary<'p>(
 }
 
 /// `k (m + n)`, where n, m and k are the variables of indexes 0 to 2; and with `-` and `*`.
-fn operate(alloc: Global, form: Double) -> Result<Box<Term>, AllocError>
-    ensures { IfOk result (λ t. term_of t.value ≡ app (var 2) (binary (op_of form) (var 1) (var 0))) }
+fn operate(alloc: Global, operator: Operator) -> Result<Box<Term>, AllocError>
+    ensures { IfOk result (λ t. term_of t.value ≡ app (var 2) (binary operator (var 1) (var 0))) }
 {
     let m = Box::new(alloc, Term::Var(1))?;
     let n = Box::new(alloc, Term::Var(0))?;
-    hand(alloc, 2, form.of(m, n))
+    hand(alloc, 2, Term::Binary(operator, m, n))
 }
 
 /// `fun k. a (fun m:nat. b (fun n:nat. k (m + n)))`, and with `-` and `*`.
-pub(crate) fn close_double<'p>(
+pub(crate) fn close_binary<'p>(
     alloc: Global,
-    form: Double,
+    operator: Operator,
     a: Box<Term>,
     b: Box<Term>,
 ) -> Result<Made<'p>, AllocError>
     ensures term { IfOk result (λ made. term_of made.term.value ≡ lam (continuation_type nat)
-        (app (term_of a.value) (lam nat (app (term_of b.value) (lam nat (app (var 2) (binary (op_of form) (var 1) (var 0)))))))) }
+        (app (term_of a.value) (lam nat (app (term_of b.value) (lam nat (app (var 2) (binary operator (var 1) (var 0)))))))) }
     ensures typed { IfOk result (λ made. known_of made.ty ≡ nat) }
 {
-    let done = operate(alloc, form)?;
+    let done = operate(alloc, operator)?;
     let second = pass(alloc, b, Ty::Nat, done)?;
     let first = pass(alloc, a, Ty::Nat, second)?;
     close(alloc, Known::Nat, first)

@@ -4,7 +4,8 @@ ghost use Rattle.std.specs.Prelude.{◌≡◌, ◌≢◌, ◌+◌, ◌*◌, ◌<
 ghost use Rattle.pcf_values.specs.Terms.{nat, size, height};
 ghost use Rattle.pcf_values.specs.Views.{named_of};
 ghost use Rattle.pcf_types.specs.Checking.{type_of};
-ghost use Rattle.cbv_terms.specs.Translation.{Accepted, translated};
+ghost use Rattle.cbv_terms.specs.Translation.{translated};
+ghost use Rattle.cbv_terms.specs.Accepted.{Accepted};
 ghost use Rattle.cbv_terms.specs.Faults.{IsFaultless, IsFirstFault};
 ghost use Rattle.cbv_terms.specs.declared.fault.ByValueFault.TheVariants.{NoMemory};
 

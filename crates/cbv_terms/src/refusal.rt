@@ -56,11 +56,9 @@ fn is_within(tree: &Named, most: u32) -> bool
     let left = most - 1;
     match &tree.raw {
         Raw::Number(_) | Raw::Name(_) => true,
-        Raw::Succ(a) | Raw::Pred(a) | Raw::Fst(a) | Raw::Snd(a) => is_within(a, left),
+        Raw::Succ(a) | Raw::Pred(a) | Raw::Proj(_, a) => is_within(a, left),
         Raw::Fun(_, _, a) | Raw::Fix(_, _, a) => is_within(a, left),
-        Raw::Plus(a, b) | Raw::Minus(a, b) | Raw::Times(a, b) => {
-            is_within(a, left) && is_within(b, left)
-        }
+        Raw::Binary(_, a, b) => is_within(a, left) && is_within(b, left),
         Raw::App(a, b) | Raw::Pair(a, b) => is_within(a, left) && is_within(b, left),
         Raw::Ifz(c, p, q) => is_within(c, left) && is_within(p, left) && is_within(q, left),
     }
@@ -73,9 +71,7 @@ fn scan(tree: &Named) -> Least
     match &tree.raw {
         Raw::Number(_) | Raw::Name(_) => found(None, None),
         Raw::Succ(a) | Raw::Pred(a) => scan(a),
-        Raw::Plus(a, b) | Raw::Minus(a, b) | Raw::Times(a, b) | Raw::App(a, b) => {
-            both(scan(a), scan(b))
-        }
+        Raw::Binary(_, a, b) | Raw::App(a, b) => both(scan(a), scan(b)),
         Raw::Ifz(c, p, q) => both(scan(c), both(scan(p), scan(q))),
         Raw::Fun(_, ty, body) => both(typed_at(tree.at, ty), scan(body)),
         Raw::Fix(_, ty, body) => both(
@@ -83,7 +79,7 @@ fn scan(tree: &Named) -> Least
             both(typed_at(tree.at, ty), scan(body)),
         ),
         Raw::Pair(a, b) => both(found(None, Some(tree.at)), both(scan(a), scan(b))),
-        Raw::Fst(a) | Raw::Snd(a) => both(found(None, Some(tree.at)), scan(a)),
+        Raw::Proj(_, a) => both(found(None, Some(tree.at)), scan(a)),
     }
 }
 

@@ -9,17 +9,18 @@ ghost use Rattle.std.specs.Prelude.{IfOk};
 ghost use Rattle.pcf_values.specs.Terms.{nat, var, binary, ifz, lam, fix, app, height};
 ghost use Rattle.pcf_values.specs.Typing.{HasType};
 ghost use Rattle.pcf_values.specs.Views.{term_of, ty_of};
-ghost use Rattle.cbv_terms.specs.Translation.{HasTranslation, translated, under};
-ghost use Rattle.cbv_terms.specs.Views.{IsReady, Makes, MakesFunction, context_of, map_of, unary_of, op_of};
+ghost use Rattle.cbv_terms.specs.Translation.{translated, under};
+ghost use Rattle.cbv_terms.specs.Accepted.{HasTranslation};
+ghost use Rattle.cbv_terms.specs.Views.{IsReady, Makes, MakesFunction, context_of, map_of, unary_of};
 
 use crate::binder::Binder;
-use crate::forms::{Double, Unary};
+use crate::forms::Unary;
 use crate::known::{Known, value_type};
 use crate::made::{
-    Made, close_app, close_double, close_fix, close_fun, close_ifz, close_program, close_unary,
+    Made, close_app, close_binary, close_fix, close_fun, close_ifz, close_program, close_unary,
     hand_on,
 };
-use pcf_values::{Term, Ty};
+use pcf_values::{Operator, Term, Ty};
 use std::alloc::{AllocError, Global};
 
 /// The program that stands for a program of type `nat`.
@@ -52,14 +53,12 @@ fn translate<'p>(
         Term::Var(i) => translate_variable(alloc, binders, depth, *i),
         Term::Succ(a) => translate_unary(alloc, binders, depth, Unary::Succ, a),
         Term::Pred(a) => translate_unary(alloc, binders, depth, Unary::Pred, a),
-        Term::Plus(a, b) => translate_double(alloc, binders, depth, Double::Plus, a, b),
-        Term::Minus(a, b) => translate_double(alloc, binders, depth, Double::Minus, a, b),
-        Term::Times(a, b) => translate_double(alloc, binders, depth, Double::Times, a, b),
+        Term::Binary(operator, a, b) => translate_binary(alloc, binders, depth, *operator, a, b),
         Term::Ifz(c, p, q) => translate_ifz(alloc, binders, depth, c, p, q),
         Term::Fun(ty, body) => translate_fun(alloc, binders, depth, ty, body),
         Term::Fix(ty, function) => translate_fix(alloc, binders, depth, ty, function),
         Term::App(f, a) => translate_app(alloc, binders, depth, f, a),
-        Term::Pair(_, _) | Term::Fst(_) | Term::Snd(_) => unreachable!(),
+        Term::Pair(_, _) | Term::Proj(_, _) => unreachable!(),
     }
 }
 
@@ -110,22 +109,22 @@ fn translate_unary<'p>(
 
 /// An operator with its operands.
 #[cycle(translate)]
-fn translate_double<'p>(
+fn translate_binary<'p>(
     alloc: Global,
     binders: &mut Vec<Binder<'p>>,
     depth: u32,
-    form: Double,
+    operator: Operator,
     a: &'p Term,
     b: &'p Term,
 ) -> Result<Made<'p>, AllocError>
-    requires ready { IsReady binders.old.items depth (context_of binders.old.items) (binary (op_of form) (term_of a.now) (term_of b.now)) }
-    requires room { depth + 5 * height (binary (op_of form) (term_of a.now) (term_of b.now)) < 2 ^ 32 }
+    requires ready { IsReady binders.old.items depth (context_of binders.old.items) (binary operator (term_of a.now) (term_of b.now)) }
+    requires room { depth + 5 * height (binary operator (term_of a.now) (term_of b.now)) < 2 ^ 32 }
     ensures { IfOk result (Makes binders.old.items binders.new.items (context_of binders.old.items) (map_of depth binders.old.items)
-        (binary (op_of form) (term_of a.now) (term_of b.now))) }
+        (binary operator (term_of a.now) (term_of b.now))) }
 {
     let a = translate(alloc, binders, depth + 1, a)?;
     let b = translate(alloc, binders, depth + 2, b)?;
-    close_double(alloc, form, a.term, b.term)
+    close_binary(alloc, operator, a.term, b.term)
 }
 
 /// A choice between two parts.

@@ -8,7 +8,8 @@ use Rattle.pcf_values.specs.Typing.{HasType}
 use Rattle.cbn_meaning.specs.Meaning.{Means}
 use Rattle.cbv_terms.specs.ByValue.{MeansByValue}
 use Rattle.cbv_terms.specs.Laws.{SameValues}
-use Rattle.cbv_terms.specs.Translation.{HasTranslation, translated}
+use Rattle.cbv_terms.specs.Translation.{translated}
+use Rattle.cbv_terms.specs.Accepted.{HasTranslation}
 use Rattle.net_build.specs.Nets.{NetTree}
 use Rattle.net_build.specs.NetOf.{net_of}
 use Rattle.schedule_log.specs.declared.entry.Entry.{Entry}

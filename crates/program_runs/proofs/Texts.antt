@@ -13,7 +13,8 @@ use Rattle.cbv_terms.specs.declared.fault.ByValueFault.{ByValueFault}
 use Rattle.cbv_terms.specs.declared.fault.ByValueFault.TheVariants as by_value
 use Rattle.cbv_terms.specs.Faults.{IsFirstFault, IsFaultless}
 use Rattle.cbv_terms.specs.Laws.{TranslatedIsTyped}
-use Rattle.cbv_terms.specs.Translation.{Accepted, translated}
+use Rattle.cbv_terms.specs.Translation.{translated}
+use Rattle.cbv_terms.specs.Accepted.{Accepted}
 use Rattle.net_build.specs.Nets.{NetTree}
 use Rattle.net_build.specs.NetOf.{net_of}
 use Rattle.program_runs.specs.declared.fault.ProgramFault.{ProgramFault}

@@ -6,7 +6,8 @@ use Rattle.pcf_values.specs.Named.{NamedTree}
 use Rattle.pcf_reader.specs.Correct.{Text}
 use Rattle.pcf_types.specs.Checking.{type_of}
 use Rattle.cbv_terms.specs.Faults.{IsFaultless}
-use Rattle.cbv_terms.specs.Translation.{HasTranslation, translated}
+use Rattle.cbv_terms.specs.Translation.{translated}
+use Rattle.cbv_terms.specs.Accepted.{HasTranslation}
 use Rattle.net_build.specs.Nets.{NetTree}
 use Rattle.net_build.specs.NetOf.{net_of}
 use Rattle.program_runs.specs.declared.fault.ProgramFault.{ProgramFault}

@@ -3,7 +3,8 @@ use Rattle.pcf_values.specs.Terms.{nat, size, height}
 use Rattle.pcf_values.specs.Typing.{HasType}
 use Rattle.pcf_values.specs.Views.{term_of, named_of}
 use Rattle.cbv_terms.specs.declared.limit.TheConstants.{BY_VALUE_HEIGHT}
-use Rattle.cbv_terms.specs.Translation.{HasTranslation, translated}
+use Rattle.cbv_terms.specs.Translation.{translated}
+use Rattle.cbv_terms.specs.Accepted.{HasTranslation}
 use Rattle.cbv_terms.proofs.Typed.{translated_typed, translated_size, translated_height}
 use Rattle.cbv_terms.proofs.Accepting.{faultless_accepted}
 use Rattle.cbv_terms.proofs.program.by_value.Goals as goal

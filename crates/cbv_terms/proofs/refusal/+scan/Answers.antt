@@ -50,17 +50,15 @@ returns-in-Succ t c =
     in_either c.in-Succ.is (λ e. subst (λ r. Finds (HasFault (raw_of r at)) c.scan-in-Succ.result) (sym e) h)
     (λ e. subst (λ r. Finds (HasFault (raw_of r at)) c.scan-in-Succ.result) (sym e) h)
 
-pub returns-in-Plus : goal.returns-in-Plus
-returns-in-Plus t c =
+pub returns-in-Binary : goal.returns-in-Binary
+returns-in-Binary t c =
     let at = c.args.tree.now.at in
-    let h = subst (λ n. Finds (HasFault (named_of n)) c.scan-in-Plus.result) c.deref-in-Plus.ensures c.scan-in-Plus.ensures in
-    let i = subst (λ n. Finds (HasFault (named_of n)) c.scan-in-Plus-2.result) c.deref-in-Plus-2.ensures c.scan-in-Plus-2.ensures in
-    let both = finds_both (HasFault (named_of c.in-Plus.a.value)) (HasFault (named_of c.in-Plus.b.value)) c.scan-in-Plus.result
-    c.scan-in-Plus-2.result c.both-in-Plus.result h i c.both-in-Plus.ensures.fixes c.both-in-Plus.ensures.pairs in
-    in_either c.in-Plus.is (λ e. subst (λ r. Finds (HasFault (raw_of r at)) c.both-in-Plus.result) (sym e) both)
-    (λ x. in_either x (λ e. subst (λ r. Finds (HasFault (raw_of r at)) c.both-in-Plus.result) (sym e) both)
-    (λ y. in_either y (λ e. subst (λ r. Finds (HasFault (raw_of r at)) c.both-in-Plus.result) (sym e) both)
-    (λ e. subst (λ r. Finds (HasFault (raw_of r at)) c.both-in-Plus.result) (sym e) both)))
+    let h = subst (λ n. Finds (HasFault (named_of n)) c.scan-in-Binary.result) c.deref-in-Binary.ensures c.scan-in-Binary.ensures in
+    let i = subst (λ n. Finds (HasFault (named_of n)) c.scan-in-Binary-2.result) c.deref-in-Binary-2.ensures c.scan-in-Binary-2.ensures in
+    let both = finds_both (HasFault (named_of c.in-Binary.a.value)) (HasFault (named_of c.in-Binary.b.value)) c.scan-in-Binary.result
+    c.scan-in-Binary-2.result c.both-in-Binary.result h i c.both-in-Binary.ensures.fixes c.both-in-Binary.ensures.pairs in
+    in_either c.in-Binary.is (λ (x, e). subst (λ r. Finds (HasFault (raw_of r at)) c.both-in-Binary.result) (sym e) both)
+    (λ e. subst (λ r. Finds (HasFault (raw_of r at)) c.both-in-Binary.result) (sym e) both)
 
 pub returns-in-Fun : goal.returns-in-Fun
 returns-in-Fun t c =
@@ -85,12 +83,11 @@ returns-in-Pair t c =
     (finds_both (λ f. f ≡ ByValuePair at) (λ f. HasFault (named_of of.a.value) f ⊎ HasFault (named_of of.b.value) f) c.found.result
     c.both-in-Pair.result c.both-in-Pair-2.result h rest c.both-in-Pair-2.ensures.fixes c.both-in-Pair-2.ensures.pairs)
 
-pub returns-in-Fst : goal.returns-in-Fst
-returns-in-Fst t c =
+pub returns-in-Proj : goal.returns-in-Proj
+returns-in-Proj t c =
     let at = c.args.tree.now.at in
-    let h = finds_pair at c.found-in-Fst.result c.found-in-Fst.ensures.fixes c.found-in-Fst.ensures.pairs in
-    let i = subst (λ n. Finds (HasFault (named_of n)) c.scan-in-Fst.result) c.deref-in-Fst.ensures c.scan-in-Fst.ensures in
-    let both = finds_both (λ f. f ≡ ByValuePair at) (HasFault (named_of c.in-Fst.a.value)) c.found-in-Fst.result c.scan-in-Fst.result
-    c.both-in-Fst.result h i c.both-in-Fst.ensures.fixes c.both-in-Fst.ensures.pairs in
-    in_either c.in-Fst.is (λ e. subst (λ r. Finds (HasFault (raw_of r at)) c.both-in-Fst.result) (sym e) both)
-    (λ e. subst (λ r. Finds (HasFault (raw_of r at)) c.both-in-Fst.result) (sym e) both)
+    let h = finds_pair at c.found-in-Proj.result c.found-in-Proj.ensures.fixes c.found-in-Proj.ensures.pairs in
+    let i = subst (λ n. Finds (HasFault (named_of n)) c.scan-in-Proj.result) c.deref-in-Proj.ensures c.scan-in-Proj.ensures in
+    let both = finds_both (λ f. f ≡ ByValuePair at) (HasFault (named_of c.in-Proj.a.value)) c.found-in-Proj.result c.scan-in-Proj.result
+    c.both-in-Proj.result h i c.both-in-Proj.ensures.fixes c.both-in-Proj.ensures.pairs in
+    subst (λ r. Finds (HasFault (raw_of r at)) c.both-in-Proj.result) (sym c.in-Proj.is) both

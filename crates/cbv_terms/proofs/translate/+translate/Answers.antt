@@ -1,13 +1,12 @@
 use Rattle.std.proofs.Common.{rules, ◌≡◌, ◌+◌, ◌*◌, ◌^◌, ◌<◌, refl, sym, ap, ◌∙◌, subst, arith}
 use Rattle.std.specs.Prelude.{vec_len}
-use Rattle.pcf_values.specs.declared.operator.Operator.TheVariants.{Plus as plus_op, Minus as minus_op, Times as times_op}
 use Rattle.pcf_values.specs.Terms.{var, succ_of, pred_of, binary, ifz, lam, fix, app, height}
 use Rattle.pcf_values.specs.Views.{ty_of, term_of}
-use Rattle.cbv_terms.specs.Views.{op_of, context_of, IsReady}
+use Rattle.cbv_terms.specs.Views.{context_of, IsReady}
 use Rattle.cbv_terms.proofs.Placing.{taken_off}
 use Rattle.cbv_terms.proofs.Translating.{ready_at, unary_ready, unary_height, left_ready, right_ready, test_ready, then_ready, else_ready}
 use Rattle.cbv_terms.proofs.Translating.{function_ready, argument_ready, fun_ready, fix_ready, body_ready, inner_ready, unary_makes}
-use Rattle.cbv_terms.proofs.Translating.{double_makes, ifz_makes, function_arrow, app_makes, body_makes, function_makes, fun_makes}
+use Rattle.cbv_terms.proofs.Translating.{binary_makes, ifz_makes, function_arrow, app_makes, body_makes, function_makes, fun_makes}
 use Rattle.cbv_terms.proofs.Translating.{fix_makes, both_ok, one_part, two_parts, three_parts, part_falls, asked_of, made_of, number_makes}
 use Rattle.cbv_terms.proofs.translate.+translate.Goals as goal
 
@@ -31,26 +30,10 @@ translate-translate_unary-requires-in-Pred t c =
       asked_of c.args.binders.now.items c.args.depth _ _ e c.requires.ready c.requires.room,
     )
 
-pub translate-translate_double-requires : goal.translate-translate_double-requires
-translate-translate_double-requires t c =
-    let e = two_parts (binary plus_op) c.args.term.now _ _ _ _ (ap term_of c.in-Plus.is)
-    c.deref-in-Plus.ensures c.deref-in-Plus-2.ensures in (
-      part_falls t _ _ _ e c.decreases refl,
-      asked_of c.args.binders.now.items c.args.depth _ _ e c.requires.ready c.requires.room,
-    )
-
-pub translate-translate_double-requires-in-Minus : goal.translate-translate_double-requires-in-Minus
-translate-translate_double-requires-in-Minus t c =
-    let e = two_parts (binary minus_op) c.args.term.now _ _ _ _ (ap term_of c.in-Minus.is)
-    c.deref-in-Minus.ensures c.deref-in-Minus-2.ensures in (
-      part_falls t _ _ _ e c.decreases refl,
-      asked_of c.args.binders.now.items c.args.depth _ _ e c.requires.ready c.requires.room,
-    )
-
-pub translate-translate_double-requires-in-Times : goal.translate-translate_double-requires-in-Times
-translate-translate_double-requires-in-Times t c =
-    let e = two_parts (binary times_op) c.args.term.now _ _ _ _ (ap term_of c.in-Times.is)
-    c.deref-in-Times.ensures c.deref-in-Times-2.ensures in (
+pub translate-translate_binary-requires : goal.translate-translate_binary-requires
+translate-translate_binary-requires t c =
+    let e = two_parts (binary c.in-Binary.operator) c.args.term.now _ _ _ _ (ap term_of c.in-Binary.is)
+    c.deref-in-Binary.ensures c.deref-in-Binary-2.ensures in (
       part_falls t _ _ _ e c.decreases refl,
       asked_of c.args.binders.now.items c.args.depth _ _ e c.requires.ready c.requires.room,
     )
@@ -108,26 +91,12 @@ translate-returns-in-Pred t c =
     made_of c.translate_unary-in-Pred.result c.args.binders.now.items c.translate_unary-in-Pred.new.binders.items c.args.depth _ _ e
     c.translate_unary-in-Pred.ensures
 
-pub translate-returns-in-Plus : goal.translate-returns-in-Plus
-translate-returns-in-Plus t c =
-    let e = two_parts (binary plus_op) c.args.term.now _ _ _ _ (ap term_of c.in-Plus.is)
-    c.deref-in-Plus.ensures c.deref-in-Plus-2.ensures in
-    made_of c.translate_double.result c.args.binders.now.items c.translate_double.new.binders.items c.args.depth _ _ e
-    c.translate_double.ensures
-
-pub translate-returns-in-Minus : goal.translate-returns-in-Minus
-translate-returns-in-Minus t c =
-    let e = two_parts (binary minus_op) c.args.term.now _ _ _ _ (ap term_of c.in-Minus.is)
-    c.deref-in-Minus.ensures c.deref-in-Minus-2.ensures in
-    made_of c.translate_double-in-Minus.result c.args.binders.now.items c.translate_double-in-Minus.new.binders.items c.args.depth _ _ e
-    c.translate_double-in-Minus.ensures
-
-pub translate-returns-in-Times : goal.translate-returns-in-Times
-translate-returns-in-Times t c =
-    let e = two_parts (binary times_op) c.args.term.now _ _ _ _ (ap term_of c.in-Times.is)
-    c.deref-in-Times.ensures c.deref-in-Times-2.ensures in
-    made_of c.translate_double-in-Times.result c.args.binders.now.items c.translate_double-in-Times.new.binders.items c.args.depth _ _ e
-    c.translate_double-in-Times.ensures
+pub translate-returns-in-Binary : goal.translate-returns-in-Binary
+translate-returns-in-Binary t c =
+    let e = two_parts (binary c.in-Binary.operator) c.args.term.now _ _ _ _ (ap term_of c.in-Binary.is)
+    c.deref-in-Binary.ensures c.deref-in-Binary-2.ensures in
+    made_of c.translate_binary.result c.args.binders.now.items c.translate_binary.new.binders.items c.args.depth _ _ e
+    c.translate_binary.ensures
 
 pub translate-returns-in-Ifz : goal.translate-returns-in-Ifz
 translate-returns-in-Ifz t c =
@@ -204,33 +173,33 @@ translate_body-returns t c =
     (taken_off c.args.binders.now.items c.translate.new.binders.items c.pop.new.self.items _ (vec_len c.translate.new.binders)
     (c.in_ok-made.ensures.binders ∙ c.in_ok-push.ensures.items) (omega (arith, c.translate.new.binders.ok.0)) c.pop.ensures.rest)
 
-pub translate_double-translate-requires : goal.translate_double-translate-requires
-translate_double-translate-requires t c = (
+pub translate_binary-translate-requires : goal.translate_binary-translate-requires
+translate_binary-translate-requires t c = (
   search rules,
   (
-    left_ready (op_of c.args.form) c.args.binders.now.items c.args.depth (term_of c.args.a.now) (term_of c.args.b.now) c.requires.ready,
+    left_ready c.args.operator c.args.binders.now.items c.args.depth (term_of c.args.a.now) (term_of c.args.b.now) c.requires.ready,
     omega (arith, c.requires.room),
   ),
 )
 
-pub translate_double-translate-requires-2 : goal.translate_double-translate-requires-2
-translate_double-translate-requires-2 t c = (
+pub translate_binary-translate-requires-2 : goal.translate_binary-translate-requires-2
+translate_binary-translate-requires-2 t c = (
   search rules,
   (
     ready_at c.translate.new.binders.items c.args.binders.now.items (c.args.depth + 2) (term_of c.args.b.now) c.in_ok-a.ensures.binders
-        (right_ready (op_of c.args.form) c.args.binders.now.items c.args.depth (term_of c.args.a.now) (term_of c.args.b.now)
+        (right_ready c.args.operator c.args.binders.now.items c.args.depth (term_of c.args.a.now) (term_of c.args.b.now)
         c.requires.ready),
     omega (arith, c.requires.room),
   ),
 )
 
-pub translate_double-returns : goal.translate_double-returns
-translate_double-returns t c =
-    both_ok c.close_double.result _ _ _
-    (λ made e q. double_makes (op_of c.args.form) c.args.binders.now.items c.translate.new.binders.items c.translate-2.new.binders.items
+pub translate_binary-returns : goal.translate_binary-returns
+translate_binary-returns t c =
+    both_ok c.close_binary.result _ _ _
+    (λ made e q. binary_makes c.args.operator c.args.binders.now.items c.translate.new.binders.items c.translate-2.new.binders.items
     c.args.depth (term_of c.args.a.now) (term_of c.args.b.now) c.in_ok-a.a c.in_ok-b.b made
     c.requires.ready.around c.in_ok-a.ensures c.in_ok-b.ensures e q)
-    c.close_double.ensures.term c.close_double.ensures.typed
+    c.close_binary.ensures.term c.close_binary.ensures.typed
 
 pub translate_fix-translate_function-requires : goal.translate_fix-translate_function-requires
 translate_fix-translate_function-requires t c =

@@ -9,8 +9,8 @@ decreases-translate l = 3 * size (term_of l.term.now)
 abbrev pub decreases-translate_unary : goal.decreases-translate_unary
 decreases-translate_unary l = 3 * size (term_of l.a.now) + 2
 
-abbrev pub decreases-translate_double : goal.decreases-translate_double
-decreases-translate_double l = 3 * (size (term_of l.a.now) + size (term_of l.b.now)) + 2
+abbrev pub decreases-translate_binary : goal.decreases-translate_binary
+decreases-translate_binary l = 3 * (size (term_of l.a.now) + size (term_of l.b.now)) + 2
 
 abbrev pub decreases-translate_ifz : goal.decreases-translate_ifz
 decreases-translate_ifz l = 3 * (size (term_of l.c.now) + size (term_of l.p.now) + size (term_of l.q.now)) + 2
