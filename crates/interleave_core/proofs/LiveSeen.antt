@@ -5,7 +5,7 @@ use Rattle.std.proofs.lemmas.Bool.{eq-eqb, eqb-true}
 use Rattle.std.specs.Prelude.{nat_eq}
 use Rattle.std.specs.Ordering.{nat_cmp, eq_by_cmp, is_eq}
 use Rattle.std.specs.Option.{option_map, IsSome, MatchOption}
-use Rattle.std.specs.Result.{OnOk, OnErr, IfOk}
+use Rattle.std.specs.Result.{IfOk}
 use Rattle.std.specs.FinMap as finite
 use Rattle.std.specs.FinMap.{FinMap, find, get-insert, get-remove, get-from_entries, same_map, nat_cmp-IsAntisymmetric}
 use Rattle.std.specs.Map.{lookup}
@@ -98,20 +98,10 @@ live_gone m n i h = same_map nat_cmp_total nat_cmp-IsAntisymmetric _ _ (λ q.
     ∙ ap (λ b. cond b None (option_map token_of (tree.get nat_cmp m q))) (either_way i q)
     ∙ ap (cond (eq_by_cmp nat_cmp q i) None) (sym (live_get m q)) ∙ sym (get-remove nat_cmp_total (live_of m) i q))
 
--- from one promise of a result to another
-pub on_ok : {T E P Q : Type 0} (r : Result T E) → OnOk r P → (P → Q) → OnOk r Q
-on_ok (Ok x) p f = f p
-on_ok (Err x) p f = tt
-
--- and of what it holds
+-- a clause on what an Ok holds, by what it says
 pub if_ok : {T E : Type 0} {P Q : T → Type 0} (r : Result T E) → IfOk r P → ((x : T) → P x → Q x) → IfOk r Q
 if_ok (Ok x) p f = f x p
 if_ok (Err x) p f = tt
-
--- and of an error
-pub on_err : {T E P Q : Type 0} (r : Result T E) → OnErr r P → (P → Q) → OnErr r Q
-on_err (Ok x) p f = tt
-on_err (Err x) p f = f p
 
 module _ (m : BTreeMap ℕ Token) (f : FinMap nat_cmp TokenTree) (view : live_of m ≡ f) where
   -- what the finite map answers is what the code's map has

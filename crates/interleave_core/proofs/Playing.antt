@@ -2,7 +2,6 @@
 use Rattle.std.proofs.Common.{◌≡◌, ℕ, Bool, true, false, cond, [], ◌∷◌, Option, Some, None, refl, ◌∙◌}
 use Rattle.std.specs.Prelude.{nat_eq}
 use Rattle.pcf_values.specs.declared.val.Val.{Val}
-use Rattle.pcf_values.specs.declared.side.Side.TheVariants.{Left as left_side, Right as right_side}
 use Rattle.token_stacks.specs.Signatures.{Work, Boxes, load}
 use Rattle.net_build.specs.declared.node.Node.{Node}
 use Rattle.net_build.specs.declared.node.Node.TheVariants.{Const, Succ, Pred, Ifz, Root, Binary}
@@ -14,11 +13,10 @@ use Rattle.move_rules.specs.Table.{plain_up, plain_down}
 use Rattle.move_rules.specs.Moves.{solo, join, stay, pass_at, ask_move, solo_at, or_stay, if_wire, look_up, ans_down, operand_down, move_at}
 use Rattle.move_rules.specs.Moves.{NotSolo}
 use Rattle.move_rules.specs.Views.{place_at, of_kind, token_of}
-use Rattle.fork_join.specs.declared.side.Side.TheVariants.{Left, Right}
-use Rattle.interleave_core.specs.declared.roles.Operator.{Operator}
-use Rattle.interleave_core.specs.declared.roles.Operator.TheVariants.{Plus as ThePlus, Minus as TheMinus, Times as TheTimes}
+use Rattle.pcf_values.specs.declared.side.Side.TheVariants.{Left, Right}
+use Rattle.pcf_values.specs.declared.operator.Operator.{Operator}
 use Rattle.interleave_core.specs.declared.roles.Role.TheVariants.{Join, Still}
-use Rattle.interleave_core.specs.Roles.{op_of, operand_role, role_of, role_move}
+use Rattle.interleave_core.specs.Roles.{operand_role, role_of, role_move}
 
 -- a question that no plain rule takes on stays
 pass_stays : (i : ℕ) (o : Option Place) (p : Place) → NotSolo (ask_move (pass_at i o) p) → ask_move (pass_at i o) p ≡ stay
@@ -60,10 +58,10 @@ no_ans_up i n v w (x ∷ m) t = refl
 
 -- an operand's answer
 joins_at : (i : ℕ) (o : Operator) (a b c : ℕ) (v : Val) (w : ℕ) (t : Boxes) →
-    operand_down i (op_of o) a b c v w t ≡ role_move (operand_role o a b c (Ans v) false w) i t
+    operand_down i o a b c v w t ≡ role_move (operand_role o a b c (Ans v) false w) i t
 joins_at i o a b c v w t = go (nat_eq a w) (nat_eq b w)
   where
-    go : (x y : Bool) → or_stay (cond x (join i (op_of o) left_side v c t) stay) (cond y (join i (op_of o) right_side v c t) stay) ≡
+    go : (x y : Bool) → or_stay (cond x (join i o Left v c t) stay) (cond y (join i o Right v c t) stay) ≡
         role_move (cond x (Join o Left v c) (cond y (Join o Right v c) Still)) i t
     go true y = refl
     go false true = refl
@@ -88,9 +86,7 @@ answers_down : (i : ℕ) (n : Node) (v : Val) (w : ℕ) (m : Work) (t : Boxes) �
 answers_down i (Succ a c) v w [] t h = elim h [ ]
 answers_down i (Pred a c) v w [] t h = elim h [ ]
 answers_down i (Ifz b x y c) v w [] t h = test_stays i b x y _ _ _ w h
-answers_down i (Plus a b c) v w [] t h = joins_at i ThePlus a b c v w t
-answers_down i (Minus a b c) v w [] t h = joins_at i TheMinus a b c v w t
-answers_down i (Times a b c) v w [] t h = joins_at i TheTimes a b c v w t
+answers_down i (Binary o a b c) v w [] t h = joins_at i o a b c v w t
 answers_down i (Root c) v w [] t h = refl
 answers_down i n v w [] t h = solo_stays i (plain_down n w [] t) v h
 answers_down i (Succ a c) v w (x ∷ m) t h = refl

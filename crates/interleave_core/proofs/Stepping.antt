@@ -6,20 +6,20 @@ use Rattle.std.specs.FinMap.{FinMap, get, remove}
 use Rattle.pcf_values.specs.declared.val.Val.{Val}
 use Rattle.token_stacks.specs.Signatures.{Boxes}
 use Rattle.fork_join.specs.Entries.{Entry, pending, has_left, has_right, key_cmp}
-use Rattle.fork_join.specs.Arrivals.{IsOpenFor, arrival, with_arrival, side_of}
-use Rattle.fork_join.specs.declared.side.Side.{Side}
-use Rattle.fork_join.specs.declared.side.Side.TheVariants.{Left, Right}
+use Rattle.fork_join.specs.Arrivals.{IsOpenFor, arrival, with_arrival}
+use Rattle.pcf_values.specs.declared.side.Side.{Side}
+use Rattle.pcf_values.specs.declared.side.Side.TheVariants.{Left, Right}
 use Rattle.net_build.specs.Nets.{NetTree}
 use Rattle.move_rules.specs.Places.{Place, TokenTree, up, place_of, boxes_at}
 use Rattle.move_rules.specs.Moves.{Move, solo, fork, join, answer, stay, move, Unaided}
-use Rattle.interleave_core.specs.declared.roles.Operator.{Operator}
+use Rattle.pcf_values.specs.declared.operator.Operator.{Operator}
 use Rattle.interleave_core.specs.declared.roles.Role.TheVariants.{Fork, Join, Last, Still}
 use Rattle.interleave_core.specs.declared.stepped.Stepped.TheVariants.{Went, Forked, Answered}
 use Rattle.interleave_laws.specs.Maps.{MapState, step_map, step_map_on, act_map, fork_map, join_map}
 use Rattle.interleave_core.specs.Names.{step_name, name_on, name_of, name_at, MayTake}
 use Rattle.interleave_core.specs.Forking.{HasBoxes, ForksTo}
 use Rattle.interleave_core.specs.Joining.{JoinsAt, joined_tokens, joined_name}
-use Rattle.interleave_core.specs.Roles.{op_of, role_move, MetAt, StandsStill}
+use Rattle.interleave_core.specs.Roles.{role_move, MetAt, StandsStill}
 use Rattle.interleave_core.specs.Moving.{SoloAt, UnaidedAt}
 use Rattle.interleave_core.specs.Parts.{state}
 
@@ -109,7 +109,7 @@ module _ (net : NetTree) (f : FinMap nat_cmp TokenTree) (g : FinMap key_cmp Entr
 
     -- a join that is made found an entry that waits
     join_able : (t : Boxes) (o : Option Entry) (p : Side) (op : Operator) (u : Val) (c : ℕ) →
-        IsSome (join_map o (state f g n v) i k (op_of op) (side_of p) u c t) → IsOpenFor o (side_of p)
+        IsSome (join_map o (state f g n v) i k op p u c t) → IsOpenFor o p
     join_able t None p op u c h = cc
     join_able t (Some pending) Left op u c h = tt
     join_able t (Some pending) Right op u c h = tt
@@ -120,15 +120,15 @@ module _ (net : NetTree) (f : FinMap nat_cmp TokenTree) (g : FinMap key_cmp Entr
 
     -- a token that joins finds an entry that waits for its side
     pub join_stands : (op : Operator) (p : Side) (u : Val) (c : ℕ) → MetAt net f i k (Join op p u c) → (t : Boxes) ×
-        HasBoxes f i t × IsOpenFor (get g (k, t)) (side_of p)
+        HasBoxes f i t × IsOpenFor (get g (k, t)) p
     join_stands op p u c (x, e, h, w) =
         let t = boxes_at (place_of x) in
         (t, (x, e, w, refl), join_able t (get g (k, t)) p op u c (subst IsSome (acts x _ e h) able))
 
     -- the join, by its entry
-    join_is : (t : Boxes) (o : Option Entry) (p : Side) (op : Operator) (u : Val) (c : ℕ) → IsOpenFor o (side_of p)
-        → join_map o (state f g n v) i k (op_of op) (side_of p) u c t ≡ Some
-        (state (joined_tokens (arrival o) f i op p u c t) (with_arrival o g (k, t) (side_of p) u) n v)
+    join_is : (t : Boxes) (o : Option Entry) (p : Side) (op : Operator) (u : Val) (c : ℕ) → IsOpenFor o p
+        → join_map o (state f g n v) i k op p u c t ≡ Some
+        (state (joined_tokens (arrival o) f i op p u c t) (with_arrival o g (k, t) p u) n v)
     join_is t None p op u c h = elim h [ ]
     join_is t (Some pending) p op u c h = refl
     join_is t (Some (has_left w)) Left op u c h = elim h [ ]
@@ -137,7 +137,7 @@ module _ (net : NetTree) (f : FinMap nat_cmp TokenTree) (g : FinMap key_cmp Entr
     join_is t (Some (has_right w)) Right op u c h = elim h [ ]
 
     -- and its name
-    join_name_is : (o : Option Entry) (p : Side) (u : Val) → IsOpenFor o (side_of p) →
+    join_name_is : (o : Option Entry) (p : Side) (u : Val) → IsOpenFor o p →
         name_at o u ≡ Some (joined_name (arrival o) p u)
     join_name_is None p u h = elim h [ ]
     join_name_is (Some pending) p u h = refl
@@ -148,7 +148,7 @@ module _ (net : NetTree) (f : FinMap nat_cmp TokenTree) (g : FinMap key_cmp Entr
 
     module _ (op : Operator) (p : Side) (u : Val) (c : ℕ) (met : MetAt net f i k (Join op p u c)) (t : Boxes) (has : HasBoxes f i t) where
       join_move : (x : TokenTree) → get f i ≡ Some x → move net x ≡ role_move (Join op p u c) k (boxes_at (place_of x)) →
-          move net x ≡ join k (op_of op) (side_of p) u c t
+          move net x ≡ join k op p u c t
       join_move x e h = h ∙ ap (role_move (Join op p u c) k) (its_boxes x t e has)
 
       pub join_steps : (f' : FinMap nat_cmp TokenTree) (g' : FinMap key_cmp Entry) → JoinsAt f f' g g' i k op p u c t →

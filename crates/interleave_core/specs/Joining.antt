@@ -6,16 +6,15 @@ use Rattle.pcf_values.specs.declared.val.Val.{Val}
 use Rattle.pcf_values.specs.Values.{val_op}
 use Rattle.token_stacks.specs.Signatures.{Boxes}
 use Rattle.fork_join.specs.Entries.{Entry, key_cmp}
-use Rattle.fork_join.specs.Arrivals.{side_of, arrival, after_arrival}
-use Rattle.fork_join.specs.declared.side.Side.{Side}
-use Rattle.fork_join.specs.declared.side.Side.TheVariants.{Left, Right}
-use Rattle.fork_join.specs.declared.side.Arrived.{Arrived}
-use Rattle.fork_join.specs.declared.side.Arrived.TheVariants.{First, Both}
+use Rattle.fork_join.specs.Arrivals.{arrival, after_arrival}
+use Rattle.pcf_values.specs.declared.side.Side.{Side}
+use Rattle.pcf_values.specs.declared.side.Side.TheVariants.{Left, Right}
+use Rattle.fork_join.specs.declared.outcome.Arrived.{Arrived}
+use Rattle.fork_join.specs.declared.outcome.Arrived.TheVariants.{First, Both}
 use Rattle.move_rules.specs.Places.{down, TokenTree, ans}
-use Rattle.interleave_core.specs.declared.roles.Operator.{Operator}
+use Rattle.pcf_values.specs.declared.operator.Operator.{Operator}
 use Rattle.interleave_core.specs.declared.stepped.Stepped.{Stepped}
 use Rattle.interleave_core.specs.declared.stepped.Stepped.TheVariants.{Kept, Joined}
-use Rattle.interleave_core.specs.Roles.{op_of}
 
 -- the left and the right value, where this side has v and the other side has w
 abbrev pub both_of : Side → Val → Val → Val × Val
@@ -24,7 +23,7 @@ both_of Right v w = (w, v)
 
 -- what the operator comes to
 abbrev pub op_value : Operator → Side → Val → Val → Val
-op_value o p v w = val_op (op_of o) (both_of p v w).0 (both_of p v w).1
+op_value o p v w = val_op o (both_of p v w).0 (both_of p v w).1
 
 -- the tokens after an answer arrived
 abbrev pub joined_tokens : Arrived → FinMap nat_cmp TokenTree → ℕ → Operator → Side → Val → ℕ → Boxes →
@@ -41,4 +40,4 @@ joined_name (Both w) p v = Joined (both_of p v w).0 (both_of p v w).1
 abbrev pub JoinsAt : (f f' : FinMap nat_cmp TokenTree) (g g' : FinMap key_cmp Entry) (i k : ℕ) → Operator → Side → Val → ℕ →
     Boxes → Type 0
 JoinsAt f f' g g' i k o p v c t = (f' ≡ joined_tokens (arrival (get g (k, t))) f i o p v c t) ×
-    (g' ≡ after_arrival g (k, t) (side_of p) v)
+    (g' ≡ after_arrival g (k, t) p v)

@@ -3,27 +3,17 @@ use Rattle.std.specs.Prelude.{◌≡◌, ℕ, Bool, true, false, [], ◌∷◌, 
 use Rattle.std.specs.Ordering.{nat_cmp}
 use Rattle.std.specs.FinMap.{FinMap, get}
 use Rattle.pcf_values.specs.declared.operator.Operator.{Operator}
-use Rattle.pcf_values.specs.declared.operator.Operator.TheVariants.{Plus, Minus, Times}
 use Rattle.token_stacks.specs.Signatures.{Work, Boxes}
-use Rattle.fork_join.specs.declared.side.Side.TheVariants.{Left, Right}
-use Rattle.fork_join.specs.Arrivals.{side_of}
+use Rattle.pcf_values.specs.declared.side.Side.TheVariants.{Left, Right}
 use Rattle.net_build.specs.Nets.{NetTree}
 use Rattle.net_build.specs.declared.node.Node.{Node}
-use Rattle.net_build.specs.declared.node.Node.TheVariants.{Root}
+use Rattle.net_build.specs.declared.node.Node.TheVariants.{Root, Binary}
 use Rattle.move_rules.specs.declared.token.Kind.{Kind}
 use Rattle.move_rules.specs.declared.token.Kind.TheVariants.{Ask, Ans}
 use Rattle.move_rules.specs.Places.{up, TokenTree, place_of, work_at, boxes_at}
 use Rattle.move_rules.specs.Moves.{Move, fork, join, answer, stay, move, NotSolo}
-use Rattle.interleave_core.specs.declared.roles.Operator.{Operator}
-use Rattle.interleave_core.specs.declared.roles.Operator.TheVariants.{Plus as ThePlus, Minus as TheMinus, Times as TheTimes}
 use Rattle.interleave_core.specs.declared.roles.Role.{Role}
 use Rattle.interleave_core.specs.declared.roles.Role.TheVariants.{Fork, Join, Last, Still}
-
--- the operator that the code names
-abbrev pub op_of : Operator → Operator
-op_of ThePlus = Plus
-op_of TheMinus = Minus
-op_of TheTimes = Times
 
 -- at the node of an operator, with its operands and its conclusion: a question from below forks, and an operand's answer joins
 abbrev pub operand_role : Operator → (a b c : ℕ) → Kind → Bool → ℕ → Role
@@ -34,9 +24,7 @@ operand_role o a b c (Ans v) false w = if nat_eq a w then Join o Left v c else (
 
 -- at a node, with an empty work stack
 abbrev pub role_at : Node → Kind → Bool → ℕ → Role
-role_at (Plus a b c) k u w = operand_role ThePlus a b c k u w
-role_at (Minus a b c) k u w = operand_role TheMinus a b c k u w
-role_at (Times a b c) k u w = operand_role TheTimes a b c k u w
+role_at (Binary o a b c) k u w = operand_role o a b c k u w
 role_at (Root c) (Ans v) false w = Last v
 role_at _ k u w = Still
 
@@ -48,7 +36,7 @@ role_of n k u w (x ∷ m) = Still
 -- the move of a role at a node's number, with the token's box stack
 abbrev pub role_move : Role → ℕ → Boxes → Move
 role_move (Fork a b) i t = fork i (up a [] t) (up b [] t) t
-role_move (Join o p v c) i t = join i (op_of o) (side_of p) v c t
+role_move (Join o p v c) i t = join i o p v c t
 role_move (Last v) i t = answer v
 role_move Still i t = stay
 

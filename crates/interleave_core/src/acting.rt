@@ -11,10 +11,9 @@ use crate::Stepped;
 use crate::forking::fork;
 use crate::joining::join;
 use crate::parts::Parts;
-use crate::roles::{Operator, Role, met_at};
-use fork_join::Side;
+use crate::roles::{Role, met_at};
 use net_build::Net;
-use pcf_values::Val;
+use pcf_values::{Operator, Side, Val};
 use std::alloc::AllocError;
 
 // The fork of a ticket at a node to two operands.

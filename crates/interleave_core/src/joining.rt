@@ -1,19 +1,16 @@
 // Joins.
 ghost use Rattle.std.specs.Prelude.{◌≡◌};
 ghost use Rattle.std.specs.FinMap.{get};
-ghost use Rattle.pcf_values.specs.Values.{val_op};
 ghost use Rattle.token_stacks.specs.Signatures.{Boxes};
-ghost use Rattle.fork_join.specs.Arrivals.{side_of, IsOpenFor, arrival, after_arrival};
+ghost use Rattle.fork_join.specs.Arrivals.{IsOpenFor, arrival, after_arrival};
 ghost use Rattle.interleave_core.specs.Forking.{HasBoxes};
 ghost use Rattle.interleave_core.specs.Joining.{both_of, joined_name, JoinsAt};
-ghost use Rattle.interleave_core.specs.Roles.{op_of};
 
 use crate::Stepped;
 use crate::live::LiveTokens;
-use crate::roles::Operator;
-use fork_join::{Arrived, JoinTable, Side};
+use fork_join::{Arrived, JoinTable};
 use move_rules::Kind;
-use pcf_values::Val;
+use pcf_values::{Operator, Side, Val};
 
 // The left and the right value, where this side has v and the other side has w.
 fn both(side: Side, v: Val, w: Val) -> (Val, Val)
@@ -22,17 +19,6 @@ fn both(side: Side, v: Val, w: Val) -> (Val, Val)
     match side {
         Side::Left => (v, w),
         Side::Right => (w, v),
-    }
-}
-
-// The operator's value.
-fn value(operator: Operator, left: Val, right: Val) -> Val
-    ensures { result ≡ val_op (op_of operator) left right }
-{
-    match operator {
-        Operator::Plus => left.plus(right),
-        Operator::Minus => left.minus(right),
-        Operator::Times => left.times(right),
     }
 }
 
@@ -45,9 +31,9 @@ fn arrive(
     side: Side,
     v: Val,
 ) -> Arrived
-    requires stands { (t : Boxes) × HasBoxes live.now ticket t × IsOpenFor (get joins.old (at, t)) (side_of side) }
+    requires stands { (t : Boxes) × HasBoxes live.now ticket t × IsOpenFor (get joins.old (at, t)) side }
     ensures { (t : Boxes) × HasBoxes live.now ticket t × (result ≡ arrival (get joins.old (at, t))) ×
-        (joins.new ≡ after_arrival joins.old (at, t) (side_of side) v) }
+        (joins.new ≡ after_arrival joins.old (at, t) side v) }
 {
     match live.get(ticket) {
         Some(token) => joins.arrive(at, token.stacks.boxes(), side, v),
@@ -67,7 +53,7 @@ pub(crate) fn join(
     v: Val,
     c: u32,
 ) -> Stepped
-    requires stands { (t : Boxes) × HasBoxes live.old ticket t × IsOpenFor (get joins.old (at, t)) (side_of side) }
+    requires stands { (t : Boxes) × HasBoxes live.old ticket t × IsOpenFor (get joins.old (at, t)) side }
     ensures { (t : Boxes) × HasBoxes live.old ticket t × JoinsAt live.old live.new joins.old joins.new ticket at operator side v c t ×
         (result ≡ joined_name (arrival (get joins.old (at, t))) side v) }
 {
@@ -78,7 +64,7 @@ pub(crate) fn join(
         }
         Arrived::Both(w) => {
             let (left, right) = both(side, v, w);
-            live.send(ticket, c, false, Kind::Ans(value(operator, left, right)));
+            live.send(ticket, c, false, Kind::Ans(left.by(operator, right)));
             Stepped::Joined(left, right)
         }
     }

@@ -5,18 +5,9 @@ ghost use Rattle.move_rules.specs.Views.{token_of};
 ghost use Rattle.interleave_core.specs.Roles.{operand_role, role_at, role_of, role_move, IsIdle, MetAt, StandsStill};
 
 use crate::live::LiveTokens;
-use fork_join::Side;
 use move_rules::{Kind, Token, faced};
 use net_build::{Net, Node};
-use pcf_values::Val;
-
-// A strict operator.
-#[derive(Clone, Copy)]
-pub(crate) enum Operator {
-    Plus,
-    Minus,
-    Times,
-}
+use pcf_values::{Operator, Side, Val};
 
 // What comes of a token: it forks to two operands, it joins at an operator with its value, whose conclusion is that wire, it is the
 // answer, or it has no move.
@@ -68,21 +59,12 @@ fn at_node(node: Node, kind: Kind, up: bool, wire: u32) -> Role
     ensures { result ≡ role_at node kind up wire }
 {
     match node {
-        Node::Plus {
+        Node::Binary {
+            operator,
             left: a,
             right: b,
             wire: w,
-        } => operand(Operator::Plus, a, b, w, kind, up, wire),
-        Node::Minus {
-            left: a,
-            right: b,
-            wire: w,
-        } => operand(Operator::Minus, a, b, w, kind, up, wire),
-        Node::Times {
-            left: a,
-            right: b,
-            wire: w,
-        } => operand(Operator::Times, a, b, w, kind, up, wire),
+        } => operand(operator, a, b, w, kind, up, wire),
         Node::Root { .. } => last(kind, up),
         _ => Role::Still,
     }

@@ -1,4 +1,5 @@
-use Rattle.interleave_core.proofs.LiveSeen.{has_live, changes, if_ok, on_err}
+use Rattle.fork_join.proofs.Nesting.{on_err}
+use Rattle.interleave_core.proofs.LiveSeen.{has_live, changes, if_ok}
 use Rattle.interleave_core.proofs.live.LiveTokens.go.Goals as goal
 
 pub go_in-requires : goal.go_in-requires

@@ -1,7 +1,8 @@
 use Rattle.std.proofs.Common.{ap, ◌∙◌}
 use Rattle.std.specs.FinMap.{insert}
 use Rattle.move_rules.specs.Views.{token_of}
-use Rattle.interleave_core.proofs.LiveSeen.{live_put, on_ok}
+use Rattle.fork_join.proofs.Nesting.{on_ok}
+use Rattle.interleave_core.proofs.LiveSeen.{live_put}
 use Rattle.interleave_core.proofs.live.LiveTokens.put.Goals as goal
 
 pub returns-clause-ok : goal.returns-clause-ok

@@ -1,4 +1,5 @@
-use Rattle.interleave_core.proofs.LiveSeen.{has_live, all_stay, solo_ok, unaided_live, on_err}
+use Rattle.fork_join.proofs.Nesting.{on_err}
+use Rattle.interleave_core.proofs.LiveSeen.{has_live, all_stay, solo_ok, unaided_live}
 use Rattle.interleave_core.proofs.live.LiveTokens.solo.Goals as goal
 
 pub solo_in-requires : goal.solo_in-requires

@@ -1,4 +1,5 @@
-use Rattle.interleave_core.proofs.LiveSeen.{has_live, changes, on_ok}
+use Rattle.fork_join.proofs.Nesting.{on_ok}
+use Rattle.interleave_core.proofs.LiveSeen.{has_live, changes}
 use Rattle.interleave_core.proofs.live.LiveTokens.walk.Goals as goal
 
 pub walk_in-requires-clause-there : goal.walk_in-requires-clause-there
