@@ -11,18 +11,18 @@ use Rattle.pcf_values.specs.declared.val.Val.{Val}
 use Rattle.pcf_values.specs.declared.operator.Operator.{Operator}
 use Rattle.pcf_values.specs.declared.side.Side.{Side}
 use Rattle.token_stacks.specs.Signatures.{Boxes}
-use Rattle.fork_join.specs.Entries.{Entry, pending, has_left, has_right, key_cmp}
+use Rattle.fork_join.specs.Entries.{Entry, key_cmp}
 use Rattle.net_build.specs.Nets.{NetTree}
 use Rattle.net_build.specs.Sound.{Sound}
 use Rattle.move_rules.specs.Walks.{Walks}
-use Rattle.move_rules.specs.Places.{Place, TokenTree}
-use Rattle.move_rules.specs.Moves.{Move, solo, fork, join, answer, stay, move}
-use Rattle.interleave_laws.specs.States.{other, set_token, State, step, step_on, act, fork_on, last_on, join_on, then_run, run}
+use Rattle.move_rules.specs.Places.{TokenTree}
+use Rattle.move_rules.specs.Moves.{join, move}
+use Rattle.interleave_laws.specs.States.{set_token, State, run}
 use Rattle.interleave_laws.specs.Start.{start_of}
 use Rattle.interleave_laws.specs.Runs.{Runs}
 use Rattle.interleave_laws.specs.Maps.{MapState, start_map, step_map, run_map, LeadsToMap, IsReachedWithin, then_run_map, seen, option_seen}
 use Rattle.interleave_laws.proofs.Seen.{tokens_put, step_seen, run_seen, seen_same}
-use Rattle.interleave_laws.proofs.MapLaws.{from_seen, seen_leads, run_both}
+use Rattle.interleave_laws.proofs.MapLaws.{run_next, from_seen, seen_leads, run_both}
 use Rattle.interleave_laws.proofs.TrailSteps.{walk_map}
 use Rattle.interleave_laws.proofs.Few.{Few, step_few}
 use Rattle.std.proofs.lemmas.List.{length-append, length-map}
@@ -160,47 +160,7 @@ run_few net (i ∷ log) S T f h = go (step_map net S i) refl (λ U. run_few net 
     go None e ih h = cc
     go (Some U) e ih h = ih U (step_few net S U i f e) h
 
--- a step makes one ticket at most
-grown : (S U T : State) → U.next ≤ suc S.next → Some U ≡ Some T → T.next ≤ suc S.next
-grown S U T l h = let q : U ≡ T = cc in subst (λ (T : State). T.next ≤ suc S.next) q l
-
-last_next : (o : Option Val) (S T : State) (i n w : ℕ) (t : Boxes) → last_on o S i n w t ≡ Some T → T.next ≤ suc S.next
-last_next None S T i n w t h = cc
-last_next (Some u) S T i n w t h = grown S _ T (omega arith) h
-
-join_next : (e : Option Entry) (S T : State) (i n : ℕ) (op : Operator) (d : Side) (v : Val) (w : ℕ) (t : Boxes) →
-    join_on e S i n op d v w t ≡ Some T → T.next ≤ suc S.next
-join_next None S T i n op d v w t h = cc
-join_next (Some pending) S T i n op d v w t h = grown S _ T (omega arith) h
-join_next (Some (has_left u)) S T i n op d v w t h = last_next (other op (has_left u) d v) S T i n w t h
-join_next (Some (has_right u)) S T i n op d v w t h = last_next (other op (has_right u) d v) S T i n w t h
-
-fork_next : (e : Option Entry) (S T : State) (i n : ℕ) (l r : Place) (t : Boxes) → fork_on e S i n l r t ≡ Some T →
-    T.next ≤ suc S.next
-fork_next None S T i n l r t h = grown S _ T (omega arith) h
-fork_next (Some e) S T i n l r t h = cc
-
-act_next : (m : Move) (S T : State) (i : ℕ) → act m S i ≡ Some T → T.next ≤ suc S.next
-act_next (solo n x) S T i h = grown S _ T (omega arith) h
-act_next (fork n l r t) S T i h = fork_next (S.entries n t) S T i n l r t h
-act_next (join n op d v w t) S T i h = join_next (S.entries n t) S T i n op d v w t h
-act_next (answer v) S T i h = grown S _ T (omega arith) h
-act_next stay S T i h = cc
-
-step_next : (net : NetTree) (o : Option TokenTree) (S T : State) (i : ℕ) → step_on net o S i ≡ Some T → T.next ≤ suc S.next
-step_next net None S T i h = cc
-step_next net (Some x) S T i h = act_next (move net x) S T i h
-
--- a run makes as many tickets as it has moves at most
-pub run_next : (net : NetTree) (log : List ℕ) (S T : State) → run net S log ≡ Some T → T.next ≤ S.next + length log
-run_next net [] S T h = let q : S ≡ T = cc in subst (λ (T : State). T.next ≤ S.next + 0) q (omega arith)
-run_next net (i ∷ log) S T h = go (λ U. run_next net log U T) (step net S i) refl h
-  where
-    go : ((U : State) → run net U log ≡ Some T → T.next ≤ U.next + length log) → (o : Option State) → step net S i ≡ o →
-        then_run o (λ U. run net U log) ≡ Some T → T.next ≤ S.next + suc (length log)
-    go ih None e h = cc
-    go ih (Some U) e h = let a = ih U h in let b = step_next net (S.tokens i) S U i e in omega arith
-
+-- a branch makes as many tickets as it has moves at most
 pub map_tickets : (net : NetTree) (x : TokenTree) (l : List ℕ) (B : MapState) → run_map net (start_map_at x) l ≡ Some B →
     B.next ≤ suc (length l)
 map_tickets net x l B h = let a = run_next net l (start_at x) (seen B) (run_at_seen net x l B h) in omega arith
