@@ -1,5 +1,5 @@
 -- The type that is found is the term's, and the term's type is found.
-use Rattle.std.proofs.Common.{◌≡◌, ◌^◌, Bool, true, false, ◌&&◌, List, [], ◌∷◌, Option, Some, None, refl, sym, ap, ◌∙◌, subst, inl, inr}
+use Rattle.std.proofs.Common.{◌≡◌, ◌^◌, Bool, true, false, List, [], ◌∷◌, Option, Some, None, refl, sym, ap, ◌∙◌, subst, inl, inr}
 use Rattle.std.specs.Prelude.{nat_lt, if◌then◌else◌}
 use Rattle.std.specs.Prelude.{◌↔◌}
 use Rattle.std.proofs.lemmas.Bool.{lt-ltb, ltb-true, cases_Bool, cases_from_iff, iff_false, MatchBool-at_true}
@@ -9,21 +9,6 @@ use Rattle.pcf_values.specs.Terms.{app, pair, proj, same_type}
 use Rattle.pcf_values.specs.Typing.{HasType}
 use Rattle.net_terms.specs.Typable.{if_number, function_to, if_same, fixed, applied, paired, part_type, type_of}
 use Rattle.pcf_values.proofs.Types.{same_refl, same_is}
-
--- two tests that pass
-pub both_true : (a b : Bool) → a ≡ true → b ≡ true → (a && b) ≡ true
-both_true true b h k = k
-both_true false b h k = h
-
--- the first of them passes
-first_true : (a b : Bool) → (a && b) ≡ true → a ≡ true
-first_true true b h = refl
-first_true false b h = h
-
--- so does the second
-second_true : (a b : Bool) → (a && b) ≡ true → b ≡ true
-second_true true b h = h
-second_true false b h = cc
 
 -- the definitions' steps, taken apart
 number_parts : (o r : Option TyTree) (t : TyTree) → if_number o r ≡ Some t → (o ≡ Some nat) × (r ≡ Some t)

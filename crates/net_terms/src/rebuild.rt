@@ -309,17 +309,8 @@ fn read_fun(
         (reading net.now.wires scope.height (suc scope.binders) scope.place scope.place body (left net.now walk.old)
         (set_marked walk.old.marks.items variable scope.binders scope.place))) (left net.now walk.new) walk.new.marks.items) }
 {
-    let mark = Mark {
-        level: scope.binders,
-        place: scope.place,
-    };
-    walk.set(variable, mark);
     let ty = from_of(alloc, net, wire)?;
-    let under = Scope {
-        binders: scope.binders + 1,
-        ..scope
-    };
-    match read_operand(alloc, net, walk, under, scope.place, body)? {
+    match read_body(alloc, net, walk, scope, scope.place, body, variable)? {
         Some(inside) => Ok(Some(Term::Fun(ty, inside))),
         None => Ok(None),
     }
@@ -344,21 +335,42 @@ fn read_fix(
         (reading net.now.wires scope.height (suc scope.binders) scope.place (suc wire) body (left net.now walk.old)
         (set_marked walk.old.marks.items variable scope.binders (suc wire)))) (left net.now walk.new) walk.new.marks.items) }
 {
-    let inner = wire as u64 + 1;
+    let ty = type_of_wire(alloc, net, wire)?;
+    match read_body(alloc, net, walk, scope, wire as u64 + 1, body, variable)? {
+        Some(inside) => Ok(Some(Term::Fix(ty, inside))),
+        None => Ok(None),
+    }
+}
+
+/// The body of a binder, which is read in the net's box `inner` with the binder's wire marked.
+#[cycle(read)]
+fn read_body(
+    alloc: Global,
+    net: &Net,
+    walk: &mut Walk,
+    scope: Scope,
+    inner: u64,
+    body: u32,
+    variable: u32,
+) -> Result<Option<Box<Term>>, AllocError>
+    requires nodes { walk.old.left ≤ length net.now.nodes }
+    requires levels { scope.binders + suc scope.height < 2 ^ 32 }
+    ensures nodes { walk.new.left ≤ length net.now.nodes }
+    ensures term { IfOk result
+        (λ o. Gives (λ t. term_of t.value) o
+        (reading net.now.wires scope.height (suc scope.binders) scope.place inner body (left net.now walk.old)
+        (set_marked walk.old.marks.items variable scope.binders inner)) (left net.now walk.new) walk.new.marks.items) }
+{
     let mark = Mark {
         level: scope.binders,
         place: inner,
     };
     walk.set(variable, mark);
-    let ty = type_of_wire(alloc, net, wire)?;
     let under = Scope {
         binders: scope.binders + 1,
         ..scope
     };
-    match read_operand(alloc, net, walk, under, inner, body)? {
-        Some(inside) => Ok(Some(Term::Fix(ty, inside))),
-        None => Ok(None),
-    }
+    Ok(read_operand(alloc, net, walk, under, inner, body)?)
 }
 
 /// The type of a wire; a number past the list counts as `nat`.
