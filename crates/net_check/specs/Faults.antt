@@ -3,7 +3,7 @@
 use Rattle.std.specs.Prelude.{◌≡◌, ◌≢◌, ◌<◌, ◌≤◌, ℕ, length, Some, slice_get}
 use Rattle.net_build.specs.declared.node.Node.{Node}
 use Rattle.net_build.specs.Nets.{NetTree, premises, conclusions}
-use Rattle.net_build.specs.Sound.{named, roots, Sound}
+use Rattle.net_build.specs.Sound.{named, roots}
 use Rattle.net_check.specs.declared.fault.NetFault.{NetFault}
 use Rattle.net_check.specs.declared.fault.NetFault.TheVariants.{LooseWire, TypeClash, DepthClash, RootCount}
 use Rattle.net_check.specs.Rows.{TypesMeet, DepthsMeet}
@@ -29,10 +29,3 @@ pub data FirstFault (net : NetTree) : NetFault → Type 0 where
   -- the same, in depths alone
   depth_clash : (n : ℕ) (node : Node) → roots net.nodes ≡ 1 → ((m : ℕ) → Held net m) → MeetBelow net n → slice_get net.nodes n ≡ Some node
       → TypesMeet net node → ¬ DepthsMeet net node → FirstFault net (DepthClash n)
-
--- a net has one first fault at most, and a sound net has none
-abbrev pub OneFault : Type 0
-OneFault = (net : NetTree) (e f : NetFault) → FirstFault net e → FirstFault net f → e ≡ f
-
-abbrev pub NoFault : Type 0
-NoFault = (net : NetTree) (e : NetFault) → FirstFault net e → Sound net → ⊥

@@ -2,7 +2,8 @@
 
 ghost use Rattle.std.specs.Prelude.{◌≡◌, ◌≢◌, ◌<◌, ◌≤◌, ◌^◌, ◌∷◌, [], length, IfOk, IfErr};
 ghost use Rattle.net_build.specs.Sound.{Sound, roots};
-ghost use Rattle.net_check.specs.Faults.{FirstFault, MeetBelow, NoFault, OneFault};
+ghost use Rattle.net_check.specs.Faults.{FirstFault, MeetBelow};
+ghost use Rattle.net_check.specs.Laws.{NoFault, OneFault};
 ghost use Rattle.net_check.specs.Steps.{IsFirstLoose, IsNodeFault, RowFault};
 
 use crate::NetFault;

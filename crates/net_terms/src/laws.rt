@@ -1,6 +1,6 @@
 //! What holds of the term that is read from a net.
 
-ghost use Rattle.net_terms.specs.Limits.{LimitIs};
+ghost use Rattle.net_terms.specs.Constants.{LimitIs};
 ghost use Rattle.net_terms.specs.Laws.{ExampleTerm, OneTerm, ReadBack};
 
 /// From the net of a closed term of type `nat` the walk reads that term.

@@ -8,7 +8,8 @@ ghost use Rattle.pcf_values.specs.Views.{term_of};
 ghost use Rattle.net_build.specs.NetOf.{net_of};
 ghost use Rattle.net_terms.specs.Limits.{most_term_height};
 ghost use Rattle.net_terms.specs.TermOf.{candidate, mark};
-ghost use Rattle.net_terms.specs.OfTerm.{IsNetOf, OfNone, TermOrNone};
+ghost use Rattle.net_terms.specs.OfTerm.{IsNetOf, OfNone};
+ghost use Rattle.net_terms.specs.Answered.{TermOrNone};
 
 use crate::height::height_of;
 use crate::infer::is_program;

@@ -2,7 +2,7 @@ use Rattle.std.proofs.Common.{◌≡◌, [], subst, sym}
 use Rattle.std.proofs.lemmas.Bool.{MatchBool-at_true, cases_from_iff, iff_false}
 use Rattle.pcf_values.specs.Typing.{HasType}
 use Rattle.net_build.specs.NetOf.{net_of}
-use Rattle.net_terms.specs.OfTerm.{TermOrNone}
+use Rattle.net_terms.specs.Answered.{TermOrNone}
 use Rattle.net_terms.proofs.ReadingBack.{is_net, kept_is, not_same}
 use Rattle.net_terms.proofs.readback.checked.Goals as goal
 
