@@ -1,13 +1,13 @@
 -- What is printed of tickets is a schedule text of them, and how long it is.
-use Rattle.std.proofs.Common.{◌≡◌, ℕ, zero, suc, ◌+◌, ◌*◌, ◌%◌, ◌^◌, ◌<◌, ◌≤◌, Bool, true, false, not}
-use Rattle.std.proofs.Common.{◌&&◌, List, [], ◌∷◌, ◌++◌, length}
+use Rattle.std.proofs.Common.{◌≡◌, ℕ, zero, suc, ◌+◌, ◌*◌, ◌%◌, ◌^◌, ◌<◌, ◌≤◌, Bool, true, false}
+use Rattle.std.proofs.Common.{List, [], ◌∷◌, ◌++◌, length}
 use Rattle.std.proofs.Common.{get_or, Option, Some, None, Ok, Err, refl, sym, ap, ◌∙◌, arith}
 use Rattle.schedule_log.specs.declared.fault.ScheduleFault.{ScheduleFault}
 use Rattle.schedule_log.specs.declared.fault.ScheduleFault.TheVariants.{NoMemory}
 use Rattle.std.specs.Prelude.{Result, codes, decimal, nat_eq, if◌then◌else◌}
 use Rattle.std.specs.Str.{all_ascii_digits}
 use Rattle.std.specs.Str.Parse.{digits_value}
-use Rattle.std.proofs.lemmas.Bool.{eqb-true, eqb-false, ne_eqb}
+use Rattle.std.proofs.lemmas.Bool.{eqb-true, eqb-false}
 use Rattle.std.proofs.lemmas.List.{length-append}
 use Rattle.std.proofs.lemmas.Fmt.{decimal_by_steps, decimal_digit, decimal_nonempty, first_decimal, digits_decimal, digits_value-decimal}
 use Rattle.std.proofs.lemmas.Fmt.{length-decimal-le}
@@ -22,7 +22,7 @@ use Rattle.schedule_log.specs.Runs.{with_ticket, runs_of, run_line, run_lines, s
 use Rattle.schedule_log.specs.Laws.{IsReadBack}
 use Rattle.schedule_log.specs.Logs.{Small}
 use Rattle.schedule_log.proofs.OneWay.{one_answer}
-use Rattle.text_lines.proofs.Lines.{AreLines, IsLine, joined_lines, line_front, no_feed, no_feed_append}
+use Rattle.text_lines.proofs.Lines.{AreLines, IsLine, feed_line, joined_lines, line_front, no_feed_decimal}
 use Rattle.schedule_log.proofs.Found.{header_is_line}
 
 own : IsNumeralModel (λ ds. all_ascii_digits ds ≡ true) (digits_value 10)
@@ -43,20 +43,6 @@ decimal_spells n u = record {
   plain = decimal_plain n u;
   value = digits_value-decimal own n u;
 }
-
-no_feed_digit : (n : ℕ) → no_feed ((48 + n) ∷ []) ≡ true
-no_feed_digit n = ap (λ b. not b && true) (ne_eqb (48 + n) 10 (λ e. omega (arith, e)))
-
--- these digits have no line feed
-abbrev Fine : ℕ → List ℕ → Type 0
-Fine n ds = no_feed ds ≡ true
-
-no_feed_decimal : (n : ℕ) → n < 2 ^ 64 → no_feed (decimal n) ≡ true
-no_feed_decimal n h = decimal_by_steps Fine (λ n u. no_feed_digit n)
-    (λ n ds u p. no_feed_append ds ((48 + n % 10) ∷ []) p (no_feed_digit (n % 10))) n h
-
-feed_line : IsLine (codes "\n")
-feed_line = record { bytes = []; fine = refl; is = refl }
 
 run_is_line : (r : Run) → r.ticket < 2 ^ 64 → r.count < 2 ^ 64 → IsLine (run_line r)
 run_is_line r u w =

@@ -1,8 +1,9 @@
 -- The lines of a text joined are the text, and lines joined are split again.
-use Rattle.std.proofs.Common.{◌≡◌, ℕ, Bool, true, false, not, ◌&&◌, List, [], ◌∷◌, ◌++◌, append_assoc, refl, sym, ap}
-use Rattle.std.proofs.Common.{◌∙◌}
-use Rattle.std.specs.Prelude.{nat_eq, if◌then◌else◌}
-use Rattle.std.proofs.lemmas.Bool.{and_parts, and_from, not-true}
+use Rattle.std.proofs.Common.{◌≡◌, ℕ, ◌+◌, ◌%◌, ◌^◌, ◌<◌, Bool, true, false, not, ◌&&◌, List, [], ◌∷◌, ◌++◌, append_assoc, refl, sym, ap}
+use Rattle.std.proofs.Common.{◌∙◌, arith}
+use Rattle.std.specs.Prelude.{codes, decimal, nat_eq, if◌then◌else◌}
+use Rattle.std.proofs.lemmas.Bool.{and_parts, and_from, ne_eqb, not-true}
+use Rattle.std.proofs.lemmas.Fmt.{decimal_by_steps}
 use Rattle.text_lines.specs.Lines.{in_front, lines}
 use Rattle.text_lines.specs.Lines.{joined}
 
@@ -33,11 +34,28 @@ no_feed_append [] b h k = k
 no_feed_append (c ∷ a) b h k = let (p, q) = and_parts (not (nat_eq c 10)) (no_feed a) h in
     and_from (not (nat_eq c 10)) (no_feed (a ++ b)) p (no_feed_append a b q k)
 
+-- a digit is none
+no_feed_digit : (n : ℕ) → no_feed ((48 + n) ∷ []) ≡ true
+no_feed_digit n = ap (λ b. not b && true) (ne_eqb (48 + n) 10 (λ e. omega (arith, e)))
+
+-- these digits have no line feed
+abbrev Fine : ℕ → List ℕ → Type 0
+Fine n ds = no_feed ds ≡ true
+
+-- A number is spelled without one.
+pub no_feed_decimal : (n : ℕ) → n < 2 ^ 64 → no_feed (decimal n) ≡ true
+no_feed_decimal n h =
+    decimal_by_steps Fine (λ n u. no_feed_digit n) (λ n ds u p. no_feed_append ds ((48 + n % 10) ∷ []) p (no_feed_digit (n % 10))) n h
+
 -- a line: bytes without a line feed, and a line feed
 pub record IsLine (l : List ℕ) : Type 0 where
   pub bytes : List ℕ
   pub fine : no_feed bytes ≡ true
   pub is : l ≡ bytes ++ 10 ∷ []
+
+-- A line feed alone is a line.
+pub feed_line : IsLine (codes "\n")
+feed_line = record { bytes = []; fine = refl; is = refl }
 
 -- Bytes without a line feed before a line are a line with it.
 pub line_front : (x l : List ℕ) → no_feed x ≡ true → IsLine l → IsLine (x ++ l)
