@@ -3,7 +3,7 @@
 -- ticket and a new one. That the other tokens stay alike needs that the moving one stands nowhere else, which no two tokens at one place
 -- give.
 use Rattle.std.proofs.Common.{◌≡◌, ◌≢◌, ℕ, suc, ◌<◌, List, [], ◌∷◌, ◌++◌, length, Option, Some, None, refl, sym}
-use Rattle.std.proofs.Common.{ap, ◌∙◌, subst}
+use Rattle.std.proofs.Common.{ap, ◌∙◌, subst, drop}
 use Rattle.std.proofs.Common.{⊎_elim, cond, arith}
 use Rattle.pcf_values.specs.declared.val.Val.{Val}
 use Rattle.token_stacks.specs.Signatures.{Boxes}
@@ -15,6 +15,7 @@ use Rattle.move_rules.specs.Moves.{Move, solo, fork, join, answer, stay, move}
 use Rattle.interleave_laws.specs.States.{State, set_token, other, fork_on, last_on, join_on, act, step, step_on, then_run, run}
 use Rattle.interleave_laws.specs.Runs.{Runs, LeadsTo}
 use Rattle.interleave_laws.specs.Bare.{StandsIn, SameBare}
+use Rattle.interleave_laws.specs.AnyOrder.{and_then, movers}
 use Rattle.interleave_laws.proofs.Tree.{Effect, turn, opens, keeps, closes, at_key, new_entry}
 use Rattle.interleave_laws.proofs.Reached.{made_of}
 use Rattle.interleave_laws.proofs.Running.{one_place, low, run_append}
@@ -146,20 +147,31 @@ module _ (net : NetTree) (sound : Sound net) where
       (T', ap (λ o. step_on net o T j) at_j ∙ acts, alike')
 
   -- what a run of one state has in the other
-  abbrev Follows : State → List ℕ → State → Type 0
-  Follows T log S' = (log' : List ℕ) × (T' : State) × (length log' ≡ length log) × (run net T log' ≡ Some T') × SameBare S' T'
+  abbrev Follows : State → State → List ℕ → State → Type 0
+  Follows S T log S' = (log' : List ℕ) × (T' : State) × (length log' ≡ length log) × (movers net T log' ≡ movers net S log) ×
+      (run net T log' ≡ Some T') × SameBare S' T'
+
+  -- a token moves in both, and the same ones after it
+  one_mover : (S T S1 T1 : State) (i j : ℕ) (x : TokenTree) (log rest : List ℕ) → S.tokens i ≡ Some x → T.tokens j ≡ Some x →
+      step net S i ≡ Some S1 → step net T j ≡ Some T1 → movers net T1 log ≡ movers net S1 rest →
+      movers net T (j ∷ log) ≡ movers net S (i ∷ rest)
+  one_mover S T S1 T1 i j x log rest at_i at_j steps steps' same =
+      let first = at_j ∙ sym at_i in
+      let others = ap (λ o. and_then o (λ T. movers net T log)) steps' ∙ same ∙
+      sym (ap (λ o. and_then o (λ S. movers net S rest)) steps) in
+      λ k. first k ∷ others k
 
   -- what the rest of a run has, once its first step was made in both
   abbrev Shorter : State → ℕ → State → List ℕ → State → Type 0
   Shorter S i T rest S' = (j : ℕ) (S1 T1 : State) → step net S i ≡ Some S1 → step net T j ≡ Some T1 → SameBare S1 T1
-      → run net S1 rest ≡ Some S' → Follows T1 rest S'
+      → run net S1 rest ≡ Some S' → Follows S1 T1 rest S'
 
   -- a run of the one state has a run of the other that leads to a state alike
   pub alike_runs : (rest log log' : List ℕ) (S T : State) → LeadsTo net log S → LeadsTo net log' T → SameBare S T
-      → (S' : State) → run net S rest ≡ Some S' → Follows T rest S'
+      → (S' : State) → run net S rest ≡ Some S' → Follows S T rest S'
   alike_runs [] log log' S T leads leads' alike S' runs =
       let same : S ≡ S' = cc in
-      ([], T, refl, refl, subst (λ S. SameBare S T) same alike)
+      ([], T, refl, refl, refl, subst (λ S. SameBare S T) same alike)
   alike_runs (i ∷ rest) log log' S T leads leads' alike S' runs =
       by_token (S.tokens i) refl
       (λ j S1 T1 steps steps' alike1 runs1.
@@ -168,15 +180,21 @@ module _ (net : NetTree) (sound : Sound net) where
     where
       by_step : (x : TokenTree) → S.tokens i ≡ Some x → (o : Option State) → step net S i ≡ o →
           then_run o (λ S. run net S rest) ≡ Some S'
-          → Shorter S i T rest S' → Follows T (i ∷ rest) S'
+          → Shorter S i T rest S' → Follows S T (i ∷ rest) S'
       by_step x at_i None steps h shorter = cc
       by_step x at_i (Some S1) steps h shorter =
           let (j, at_j) = alike.stays x (i, at_i) in
           let (T1, steps', alike1) = alike_steps log log' S T leads leads' alike i j x at_i at_j S1 steps in
-          let (log'', T', long, runs', alike') = shorter j S1 T1 steps steps' alike1 h in
-          (j ∷ log'', T', ap suc long, ap (λ o. then_run o (λ T. run net T log'')) steps' ∙ runs', alike')
+          let (log'', T', long, same, runs', alike') = shorter j S1 T1 steps steps' alike1 h in (
+            j ∷ log'',
+            T',
+            ap suc long,
+            one_mover S T S1 T1 i j x log'' rest at_i at_j steps steps' same,
+            ap (λ o. then_run o (λ T. run net T log'')) steps' ∙ runs',
+            alike',
+          )
 
-      by_token : (o : Option TokenTree) → S.tokens i ≡ o → Shorter S i T rest S' → Follows T (i ∷ rest) S'
+      by_token : (o : Option TokenTree) → S.tokens i ≡ o → Shorter S i T rest S' → Follows S T (i ∷ rest) S'
       by_token None at_i shorter =
           let none : step net S i ≡ None = ap (λ o. step_on net o S i) at_i in
           let bad : None ≡ Some S' = sym (ap (λ o. then_run o (λ S. run net S rest)) none) ∙ runs in cc
@@ -188,17 +206,25 @@ two_steps : (net : NetTree) (S S1 S2 : State) (i j : ℕ) (rest : List ℕ) → 
 two_steps net S S1 S2 i j rest first second =
     ap (λ o. then_run o (λ S. run net S (j ∷ rest))) first ∙ ap (λ o. then_run o (λ S. run net S rest)) second
 
+-- and the tokens that move behind them
+two_movers : (net : NetTree) (S S1 S2 : State) (i j : ℕ) (rest : List ℕ) → step net S i ≡ Some S1 → step net S1 j ≡ Some S2
+    → drop 2 (movers net S (i ∷ j ∷ rest)) ≡ movers net S2 rest
+two_movers net S S1 S2 i j rest first second =
+    ap (λ o. drop 1 (and_then o (λ S. movers net S (j ∷ rest)))) first ∙ ap (λ o. and_then o (λ S. movers net S rest)) second
+
 -- two moves can be exchanged at any place in a run
 pub any_order : (net : NetTree) → Runs net → (log : List ℕ) (S : State) → LeadsTo net log S
     → (i j : ℕ) (x y : TokenTree) → S.tokens i ≡ Some x → S.tokens j ≡ Some y → i ≢ j
     → (rest : List ℕ) (S' : State) → run net S (i ∷ j ∷ rest) ≡ Some S'
-    → (rest' : List ℕ) × (T' : State) × (length rest' ≡ length rest) × (run net S (j ∷ i ∷ rest') ≡ Some T') ×
+    → (rest' : List ℕ) × (T' : State) × (length rest' ≡ length rest) ×
+    (drop 2 (movers net S (j ∷ i ∷ rest')) ≡ drop 2 (movers net S (i ∷ j ∷ rest))) × (run net S (j ∷ i ∷ rest') ≡ Some T') ×
     SameBare S' T'
 any_order net runs log S leads i j x y at_i at_j differ rest S' goes_on =
     let (S1, S12, S2, S21, first, then_j, second, then_i, alike) = diamond net runs log S leads i j x y at_i at_j differ in
     let one = run_append net (log ++ i ∷ []) _ S1 S12 j (run_append net log _ S S1 i leads first) then_j in
     let two = run_append net (log ++ j ∷ []) _ S2 S21 i (run_append net log _ S S2 j leads second) then_i in
     let from_here : run net S12 rest ≡ Some S' = sym (two_steps net S S1 S12 i j rest first then_j) ∙ goes_on in
-    let (rest', T', long, runs', alike') = alike_runs net runs.sound rest ((log ++ i ∷ []) ++ j ∷ []) ((log ++ j ∷ []) ++ i ∷
+    let (rest', T', long, same, runs', alike') = alike_runs net runs.sound rest ((log ++ i ∷ []) ++ j ∷ []) ((log ++ j ∷ []) ++ i ∷
     []) S12 S21 one two alike S' from_here in
-    (rest', T', long, two_steps net S S2 S21 j i rest' second then_i ∙ runs', alike')
+    let moved = two_movers net S S2 S21 j i rest' second then_i ∙ same ∙ sym (two_movers net S S1 S12 i j rest first then_j) in
+    (rest', T', long, moved, two_steps net S S2 S21 j i rest' second then_i ∙ runs', alike')

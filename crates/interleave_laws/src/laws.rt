@@ -28,8 +28,8 @@ pub fn law_diamond()
     ensures { Diamond }
 {}
 
-/// States that are alike but for their tickets go on alike, by a step and by a whole run. So two moves of different tickets can be
-/// exchanged at any place in a run, and the rest of the run is there again, under other tickets.
+/// States that are alike but for their tickets go on alike, by a step and by a whole run, in which the same tokens move. So two moves of
+/// different tickets can be exchanged at any place in a run, and the rest of the run is there again, move by move, under other tickets.
 pub fn law_any_order()
     ensures steps { AlikeSteps }
     ensures runs { AlikeRuns }
