@@ -7,7 +7,7 @@ ghost use Rattle.pcf_values.specs.Views.{term_of};
 
 use net_build::{Net, Node, Wire, WireKind, build, law_net_size};
 use net_text::{NetTextFault, term_of};
-use pcf_values::{Term, Ty, Typed};
+use pcf_values::{Operator, Term, Ty, Typed};
 use std::alloc::{AllocError, Global};
 use std::test::Fail;
 
@@ -104,7 +104,8 @@ fn nodes_may_name_wires_that_lack(rt: HostRuntime) -> Result<(), Fail> {
     let nodes = [
         Node::Root { wire: 9 },
         Node::Const { value: 5, wire: 0 },
-        Node::Plus {
+        Node::Binary {
+            operator: Operator::Plus,
             left: 0,
             right: 0,
             wire: 9,

@@ -7,7 +7,7 @@ ghost use Rattle.pcf_values.specs.Views.{term_of};
 
 use net_build::{Net, build, law_net_size};
 use net_text::term_of;
-use pcf_values::{Term, Ty, Typed};
+use pcf_values::{Operator, Term, Ty, Typed};
 use std::alloc::{AllocError, Global};
 use std::test::Fail;
 
@@ -19,7 +19,7 @@ fn doubled(alloc: Global, term: Term) -> Result<Term, AllocError>
     ensures low { IfOk result (λ t. height (term_of t) ≤ height (term_of term) + 1) }
 {
     let right = Box::new(alloc, term.copy(alloc)?)?;
-    Ok(Term::Plus(Box::new(alloc, term)?, right))
+    Ok(Term::Binary(Operator::Plus, Box::new(alloc, term)?, right))
 }
 
 /// The same four times.

@@ -4,12 +4,11 @@ use Rattle.std.proofs.Common.{Option, Some, None, Ok, Err, refl, sym, ap, ◌∙
 use Rattle.std.specs.Prelude.{Result, nat_lt, nat_le, if◌then◌else◌}
 use Rattle.std.specs.Str.{bytes_eq}
 use Rattle.std.proofs.lemmas.Bool.{lt-ltb, ltb-true, le-leb, leb-true, and_parts, and_from}
-use Rattle.std.proofs.lemmas.Slice.Eq.{bytes_eq-Decides}
 use Rattle.net_build.specs.declared.node.Node.{Node}
-use Rattle.net_build.specs.declared.node.Node.TheVariants.{Const, Succ, Pred, Ifz, Der, Con, Weak, Lam, App, BoxNode, Binary, Proj}
-use Rattle.net_build.specs.declared.node.Node.TheVariants.{Door, FixBox, Root, Pair}
+use Rattle.net_build.specs.declared.node.Node.TheVariants.{Const}
 use Rattle.net_build.specs.Nets.{WireTree, NetTree}
 use Rattle.text_lines.specs.Lines.{end_line}
+use Rattle.text_lines.proofs.Numbers.{is_same, same_is}
 use Rattle.net_text.specs.Listing.{wire_line, node_line, numbers_of}
 use Rattle.net_text.specs.NetText.{numbered, NodeFits, NodesFit, WiresFit, Small, ty_height}
 use Rattle.net_text.specs.Standing.{NodesStand, WiresStand}
@@ -33,48 +32,12 @@ is_small (n ∷ ns) h = and_from (nat_lt n (2 ^ 32)) (all_small ns) (lt-ltb n (2
 -- so does the test of a node's numbers
 fits_is : (x : Node) → node_fits x ≡ true → NodeFits x
 fits_is (Const v w) h = let (p, q) = and_parts (nat_lt v (2 ^ 64)) (nat_lt w (2 ^ 32)) h in (ltb-true v (2 ^ 64) p, ltb-true w (2 ^ 32) q)
-fits_is (Succ a w) h = small_is (numbers_of (Succ a w)) h
-fits_is (Pred a w) h = small_is (numbers_of (Pred a w)) h
-fits_is (Binary o a b w) h = small_is (numbers_of (Binary o a b w)) h
-fits_is (Ifz c p q w) h = small_is (numbers_of (Ifz c p q w)) h
-fits_is (Der w x) h = small_is (numbers_of (Der w x)) h
-fits_is (Con l r w) h = small_is (numbers_of (Con l r w)) h
-fits_is (Weak x) h = small_is (numbers_of (Weak x)) h
-fits_is (Lam b x w) h = small_is (numbers_of (Lam b x w)) h
-fits_is (App f a w) h = small_is (numbers_of (App f a w)) h
-fits_is (BoxNode i o) h = small_is (numbers_of (BoxNode i o)) h
-fits_is (Door i o) h = small_is (numbers_of (Door i o)) h
-fits_is (FixBox b x w) h = small_is (numbers_of (FixBox b x w)) h
-fits_is (Root w) h = small_is (numbers_of (Root w)) h
-fits_is (Pair a b w) h = small_is (numbers_of (Pair a b w)) h
-fits_is (Proj d a w) h = small_is (numbers_of (Proj d a w)) h
+fits_is x h = small_is (numbers_of x) h
 
 -- in both directions
 is_fits : (x : Node) → NodeFits x → node_fits x ≡ true
 is_fits (Const v w) h = and_from (nat_lt v (2 ^ 64)) (nat_lt w (2 ^ 32)) (lt-ltb v (2 ^ 64) h.0) (lt-ltb w (2 ^ 32) h.1)
-is_fits (Succ a w) h = is_small (numbers_of (Succ a w)) h
-is_fits (Pred a w) h = is_small (numbers_of (Pred a w)) h
-is_fits (Binary o a b w) h = is_small (numbers_of (Binary o a b w)) h
-is_fits (Ifz c p q w) h = is_small (numbers_of (Ifz c p q w)) h
-is_fits (Der w x) h = is_small (numbers_of (Der w x)) h
-is_fits (Con l r w) h = is_small (numbers_of (Con l r w)) h
-is_fits (Weak x) h = is_small (numbers_of (Weak x)) h
-is_fits (Lam b x w) h = is_small (numbers_of (Lam b x w)) h
-is_fits (App f a w) h = is_small (numbers_of (App f a w)) h
-is_fits (BoxNode i o) h = is_small (numbers_of (BoxNode i o)) h
-is_fits (Door i o) h = is_small (numbers_of (Door i o)) h
-is_fits (FixBox b x w) h = is_small (numbers_of (FixBox b x w)) h
-is_fits (Root w) h = is_small (numbers_of (Root w)) h
-is_fits (Pair a b w) h = is_small (numbers_of (Pair a b w)) h
-is_fits (Proj d a w) h = is_small (numbers_of (Proj d a w)) h
-
--- texts that are found equal are equal
-pub same_is : (a b : List ℕ) → bytes_eq a b ≡ true → a ≡ b
-same_is a b h = (bytes_eq-Decides a b).0 h
-
--- and the other way
-pub is_same : (a b : List ℕ) → a ≡ b → bytes_eq a b ≡ true
-is_same a b h = (bytes_eq-Decides a b).1 h
+is_fits x h = is_small (numbers_of x) h
 
 -- what is right passed its test
 right_parts : {A : Type 0} → (b : Bool) (x y : A) → if_right b x ≡ Some y → (b ≡ true) × (x ≡ y)

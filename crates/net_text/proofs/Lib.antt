@@ -2,9 +2,10 @@
 pub mod Splitting
 -- Lines stand one behind the other exactly when a listing begins with them.
 pub mod Standings
--- One line: a printed type, a wire and a node are read from it.
+-- One line: a printed type, a wire and a node are read from it, the node by its name.
 pub mod TypesRead
 pub mod WiresRead
+pub mod Names
 pub mod NodesRead
 -- A line is read as the definition reads it, where what was read fits and has that very line.
 pub mod LinesFit

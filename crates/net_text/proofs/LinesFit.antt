@@ -202,20 +202,7 @@ if_none false = refl
 pub one_fits : (f : Form) (a : ℕ) → fitting_node (one_node f a) ≡ (if all_small (a ∷ []) then one_node f a else None)
 one_fits form.Weak a = refl
 one_fits form.Root a = refl
-one_fits form.Const a = sym (if_none (all_small (a ∷ [])))
-one_fits form.Succ a = sym (if_none (all_small (a ∷ [])))
-one_fits form.Pred a = sym (if_none (all_small (a ∷ [])))
-one_fits (form.Binary o) a = sym (if_none (all_small (a ∷ [])))
-one_fits form.Ifz a = sym (if_none (all_small (a ∷ [])))
-one_fits form.Der a = sym (if_none (all_small (a ∷ [])))
-one_fits form.Con a = sym (if_none (all_small (a ∷ [])))
-one_fits form.Lam a = sym (if_none (all_small (a ∷ [])))
-one_fits form.App a = sym (if_none (all_small (a ∷ [])))
-one_fits form.BoxNode a = sym (if_none (all_small (a ∷ [])))
-one_fits form.Door a = sym (if_none (all_small (a ∷ [])))
-one_fits form.FixBox a = sym (if_none (all_small (a ∷ [])))
-one_fits form.Pair a = sym (if_none (all_small (a ∷ [])))
-one_fits (form.Proj d) a = sym (if_none (all_small (a ∷ [])))
+one_fits f a = sym (if_none (all_small (a ∷ [])))
 
 -- a node of two numbers
 pub two_fits : (f : Form) (a b : ℕ) → fitting_node (two_node f a b) ≡ (if all_small (a ∷ b ∷ []) then two_node f a b else None)
@@ -225,16 +212,7 @@ two_fits form.Der a b = refl
 two_fits form.BoxNode a b = refl
 two_fits form.Door a b = refl
 two_fits (form.Proj d) a b = refl
-two_fits form.Const a b = sym (if_none (all_small (a ∷ b ∷ [])))
-two_fits (form.Binary o) a b = sym (if_none (all_small (a ∷ b ∷ [])))
-two_fits form.Ifz a b = sym (if_none (all_small (a ∷ b ∷ [])))
-two_fits form.Con a b = sym (if_none (all_small (a ∷ b ∷ [])))
-two_fits form.Weak a b = sym (if_none (all_small (a ∷ b ∷ [])))
-two_fits form.Lam a b = sym (if_none (all_small (a ∷ b ∷ [])))
-two_fits form.App a b = sym (if_none (all_small (a ∷ b ∷ [])))
-two_fits form.FixBox a b = sym (if_none (all_small (a ∷ b ∷ [])))
-two_fits form.Root a b = sym (if_none (all_small (a ∷ b ∷ [])))
-two_fits form.Pair a b = sym (if_none (all_small (a ∷ b ∷ [])))
+two_fits f a b = sym (if_none (all_small (a ∷ b ∷ [])))
 
 -- a node of three numbers
 pub three_fits : (f : Form) (a b c : ℕ)
@@ -245,36 +223,13 @@ three_fits form.Lam a b c = refl
 three_fits form.App a b c = refl
 three_fits form.FixBox a b c = refl
 three_fits form.Pair a b c = refl
-three_fits form.Const a b c = sym (if_none (all_small (a ∷ b ∷ c ∷ [])))
-three_fits form.Succ a b c = sym (if_none (all_small (a ∷ b ∷ c ∷ [])))
-three_fits form.Pred a b c = sym (if_none (all_small (a ∷ b ∷ c ∷ [])))
-three_fits form.Ifz a b c = sym (if_none (all_small (a ∷ b ∷ c ∷ [])))
-three_fits form.Der a b c = sym (if_none (all_small (a ∷ b ∷ c ∷ [])))
-three_fits form.Weak a b c = sym (if_none (all_small (a ∷ b ∷ c ∷ [])))
-three_fits form.BoxNode a b c = sym (if_none (all_small (a ∷ b ∷ c ∷ [])))
-three_fits form.Door a b c = sym (if_none (all_small (a ∷ b ∷ c ∷ [])))
-three_fits form.Root a b c = sym (if_none (all_small (a ∷ b ∷ c ∷ [])))
-three_fits (form.Proj d) a b c = sym (if_none (all_small (a ∷ b ∷ c ∷ [])))
+three_fits f a b c = sym (if_none (all_small (a ∷ b ∷ c ∷ [])))
 
 -- a node of four numbers
 pub four_fits : (f : Form) (a b c d : ℕ)
     → fitting_node (four_node f a b c d) ≡ (if all_small (a ∷ b ∷ c ∷ d ∷ []) then four_node f a b c d else None)
 four_fits form.Ifz a b c d = refl
-four_fits form.Const a b c d = sym (if_none (all_small (a ∷ b ∷ c ∷ d ∷ [])))
-four_fits form.Succ a b c d = sym (if_none (all_small (a ∷ b ∷ c ∷ d ∷ [])))
-four_fits form.Pred a b c d = sym (if_none (all_small (a ∷ b ∷ c ∷ d ∷ [])))
-four_fits (form.Binary o) a b c d = sym (if_none (all_small (a ∷ b ∷ c ∷ d ∷ [])))
-four_fits form.Der a b c d = sym (if_none (all_small (a ∷ b ∷ c ∷ d ∷ [])))
-four_fits form.Con a b c d = sym (if_none (all_small (a ∷ b ∷ c ∷ d ∷ [])))
-four_fits form.Weak a b c d = sym (if_none (all_small (a ∷ b ∷ c ∷ d ∷ [])))
-four_fits form.Lam a b c d = sym (if_none (all_small (a ∷ b ∷ c ∷ d ∷ [])))
-four_fits form.App a b c d = sym (if_none (all_small (a ∷ b ∷ c ∷ d ∷ [])))
-four_fits form.BoxNode a b c d = sym (if_none (all_small (a ∷ b ∷ c ∷ d ∷ [])))
-four_fits form.Door a b c d = sym (if_none (all_small (a ∷ b ∷ c ∷ d ∷ [])))
-four_fits form.FixBox a b c d = sym (if_none (all_small (a ∷ b ∷ c ∷ d ∷ [])))
-four_fits form.Root a b c d = sym (if_none (all_small (a ∷ b ∷ c ∷ d ∷ [])))
-four_fits form.Pair a b c d = sym (if_none (all_small (a ∷ b ∷ c ∷ d ∷ [])))
-four_fits (form.Proj s) a b c d = sym (if_none (all_small (a ∷ b ∷ c ∷ d ∷ [])))
+four_fits f a b c d = sym (if_none (all_small (a ∷ b ∷ c ∷ d ∷ [])))
 
 -- the numbers that were read are the line's
 word_is : (b : Bool) (n v : ℕ) → Some v ≡ (if b then Some n else None) → n ≡ v

@@ -8,7 +8,8 @@ use Rattle.net_text.specs.Listing.{node_line, numbers_of, numbers_text, name_tex
 use Rattle.net_text.specs.NetText.{NodeFits, Small}
 use Rattle.net_text.specs.WireText.{after, number_from}
 use Rattle.net_text.specs.declared.form.Form.TheVariants as form
-use Rattle.net_text.specs.NodeText.{with_first, node_with, numbers_in, from_name, node_in}
+use Rattle.net_text.specs.NodeText.{with_first, node_with, numbers_in, from_form, from_name, node_in}
+use Rattle.net_text.proofs.Names.{operator_found, part_found}
 use Rattle.net_text.proofs.WiresRead.{behind_itself, number_counts}
 
 -- each of them is a number of the code's
@@ -36,28 +37,16 @@ numbers_read (n ∷ ns) h =
 -- so are those of a node
 pub fits_wide : (x : Node) → NodeFits x → Wide (numbers_of x)
 fits_wide (Const v w) h = (h.0, (omega (arith, h.1), tt))
-fits_wide (Succ a w) h = small_wide (numbers_of (Succ a w)) h
-fits_wide (Pred a w) h = small_wide (numbers_of (Pred a w)) h
-fits_wide (Binary o a b w) h = small_wide (numbers_of (Binary o a b w)) h
-fits_wide (Ifz c p q w) h = small_wide (numbers_of (Ifz c p q w)) h
-fits_wide (Der w x) h = small_wide (numbers_of (Der w x)) h
-fits_wide (Con l r w) h = small_wide (numbers_of (Con l r w)) h
-fits_wide (Weak x) h = small_wide (numbers_of (Weak x)) h
-fits_wide (Lam b x w) h = small_wide (numbers_of (Lam b x w)) h
-fits_wide (App f a w) h = small_wide (numbers_of (App f a w)) h
-fits_wide (BoxNode i o) h = small_wide (numbers_of (BoxNode i o)) h
-fits_wide (Door i o) h = small_wide (numbers_of (Door i o)) h
-fits_wide (FixBox b x w) h = small_wide (numbers_of (FixBox b x w)) h
-fits_wide (Root w) h = small_wide (numbers_of (Root w)) h
-fits_wide (Pair a b w) h = small_wide (numbers_of (Pair a b w)) h
-fits_wide (Proj d a w) h = small_wide (numbers_of (Proj d a w)) h
+fits_wide x h = small_wide (numbers_of x) h
 
 -- a node is read from its name on
 name_read : (x : Node) → Wide (numbers_of x) → from_name (name_text x ++ numbers_text (numbers_of x)) ≡ Some x
 name_read (Const v w) h = ap (λ o. after o (node_with form.Const)) (numbers_read (v ∷ w ∷ []) h)
 name_read (Succ a w) h = ap (λ o. after o (node_with form.Succ)) (numbers_read (a ∷ w ∷ []) h)
 name_read (Pred a w) h = ap (λ o. after o (node_with form.Pred)) (numbers_read (a ∷ w ∷ []) h)
-name_read (Binary op a b w) h = ap (λ o. after o (node_with (form.Binary op))) (numbers_read (a ∷ b ∷ w ∷ []) h)
+name_read (Binary operator a b w) h =
+    ap (λ o. after o from_form) (operator_found operator (numbers_text (a ∷ b ∷ w ∷ [])))
+    ∙ ap (λ o. after o (node_with (form.Binary operator))) (numbers_read (a ∷ b ∷ w ∷ []) h)
 name_read (Ifz c p q w) h = ap (λ o. after o (node_with form.Ifz)) (numbers_read (c ∷ p ∷ q ∷ w ∷ []) h)
 name_read (Der w x) h = ap (λ o. after o (node_with form.Der)) (numbers_read (w ∷ x ∷ []) h)
 name_read (Con l r w) h = ap (λ o. after o (node_with form.Con)) (numbers_read (l ∷ r ∷ w ∷ []) h)
@@ -69,7 +58,9 @@ name_read (Door i o) h = ap (λ o. after o (node_with form.Door)) (numbers_read 
 name_read (FixBox b x w) h = ap (λ o. after o (node_with form.FixBox)) (numbers_read (b ∷ x ∷ w ∷ []) h)
 name_read (Root w) h = ap (λ o. after o (node_with form.Root)) (numbers_read (w ∷ []) h)
 name_read (Pair a b w) h = ap (λ o. after o (node_with form.Pair)) (numbers_read (a ∷ b ∷ w ∷ []) h)
-name_read (Proj d a w) h = ap (λ o. after o (node_with (form.Proj d))) (numbers_read (a ∷ w ∷ []) h)
+name_read (Proj side a w) h =
+    ap (λ o. after o from_form) (part_found side (numbers_text (a ∷ w ∷ [])))
+    ∙ ap (λ o. after o (node_with (form.Proj side))) (numbers_read (a ∷ w ∷ []) h)
 
 -- A node is read from its line.
 pub node_read : (k : ℕ) (x : Node) → NodeFits x → node_in k (node_line k x) ≡ Some x

@@ -9,7 +9,8 @@ use Rattle.net_build.specs.NetOf.{net_of}
 use Rattle.net_build.specs.Sound.{Sound}
 use Rattle.net_build.proofs.Built.{built_sound}
 use Rattle.net_check.specs.declared.fault.NetFault.{NetFault}
-use Rattle.net_check.specs.Faults.{FirstFault, NoFault, OneFault}
+use Rattle.net_check.specs.Faults.{FirstFault}
+use Rattle.net_check.specs.Laws.{NoFault, OneFault}
 use Rattle.net_terms.specs.Limits.{most_term_height}
 use Rattle.net_terms.specs.OfTerm.{IsNetOf}
 use Rattle.net_terms.proofs.Complete.{one_term}

@@ -4,16 +4,12 @@ use Rattle.std.proofs.Common.{refl, sym, ap, ◌∙◌, inl, inr, arith}
 use Rattle.std.proofs.Math.Nat.{le-max_left, le-max_right}
 use Rattle.std.proofs.lemmas.Bool.{cases_lt, eq-eqb}
 use Rattle.std.specs.Prelude.{codes, if◌then◌else◌}
-use Rattle.pcf_values.specs.declared.operator.Operator.{Operator}
-use Rattle.pcf_values.specs.declared.operator.Operator.TheVariants.{Plus, Minus, Times}
 use Rattle.pcf_values.specs.Terms.{TyTree, nat, arrow, product, TermTree, num, var, succ_of, pred_of, binary}
-use Rattle.pcf_values.specs.declared.side.Side.{Side}
-use Rattle.pcf_values.specs.declared.side.Side.TheVariants.{Left, Right}
 use Rattle.pcf_values.specs.Terms.{ifz, lam, fix, app, pair, proj, height}
 use Rattle.pcf_values.specs.Typing.{HasType}
 use Rattle.net_build.specs.declared.node.Node.{Node}
-use Rattle.net_build.specs.declared.node.Node.TheVariants.{Const, Succ, Pred, Ifz, Der, Con, Weak, Lam, App, BoxNode, Binary, Proj}
-use Rattle.net_build.specs.declared.node.Node.TheVariants.{Door, FixBox, Root, Pair}
+use Rattle.net_build.specs.declared.node.Node.TheVariants.{Const, Succ, Pred, Ifz, Lam, App, BoxNode, Binary, Proj}
+use Rattle.net_build.specs.declared.node.Node.TheVariants.{FixBox, Root, Pair}
 use Rattle.net_build.specs.Nets.{WireTree, NetTree, premises, conclusions, value_wire, bang_wire}
 use Rattle.net_build.specs.NetOf.{Part, contract, doors, bound, bound_wire, part, net_of, domain, codomain, side_type, double_part}
 use Rattle.net_build.specs.NetOf.{ifz_part, lam_part, fix_part, app_part}
@@ -89,15 +85,6 @@ double_low b node t n d g p q e h i k =
     let w = o + length c.wires in
     let last : Low b (value_wire d t ∷ []) (node p.out q.out w ∷ []) = record { wires = (h, tt); nodes = e p.out q.out w } in
     join b p.wires _ p.nodes _ i (join b q.wires _ q.nodes _ k (join b c.wires _ c.nodes _ (contract_low b o d g p.free q.free h) last))
-
--- an operator is no constant
-binary_fits : (o : Operator) (a b w : ℕ) → ConstsFit (Binary o a b w ∷ [])
-binary_fits o a b w = tt
-
--- nor is what takes a part of a pair
-proj_fits : (s : Side) (a w : ℕ) → ConstsFit (Proj s a w ∷ [])
-proj_fits Left a w = tt
-proj_fits Right a w = tt
 
 -- a condition with its branches
 ifz_low : (b n d : ℕ) (g : List TyTree) (x y z : Part) → d ≤ b → Low b x.wires x.nodes → Low b y.wires y.nodes → Low b z.wires z.nodes
@@ -180,12 +167,12 @@ part_low (succ_of m) b n d g a t h =
 part_low (pred_of m) b n d g a t h =
     unary_low b d _ Pred nat (part n d g m) (λ x w. tt) (omega (arith, h)) (part_low m b n d g nat t.0 (omega (arith, h)))
 part_low (proj s m) b n d g a t h =
-    unary_low b d _ (Proj s) (side_type s (part n d g m).type) (part n d g m) (proj_fits s) (omega (arith, h))
+    unary_low b d _ (Proj s) (side_type s (part n d g m).type) (part n d g m) (λ x w. tt) (omega (arith, h))
     (part_low m b n d g (product t.0 t.1) t.2 (omega (arith, h)))
 part_low (binary o m l) b n d g a t h =
     let p = part n d g m in
     let k = n + length p.wires in
-    double_low b (Binary o) nat n d g p (part k d g l) (binary_fits o) (omega (arith, h))
+    double_low b (Binary o) nat n d g p (part k d g l) (λ x y w. tt) (omega (arith, h))
     (part_low m b n d g nat t.0 (omega (arith, h, le-max_left (height m) (height l))))
     (part_low l b k d g nat t.1 (omega (arith, h, le-max_right (height m) (height l))))
 part_low (pair m l) b n d g a t h =
@@ -234,40 +221,12 @@ small_join (n ∷ a) b p q = (p.0, small_join a b p.1 q)
 -- a node with such premises and conclusions
 node_fits : (x : Node) → ConstsFit (x ∷ []) → Small (premises x) → Small (conclusions x) → NodeFits x
 node_fits (Const v w) c p q = (c.0, q.0)
-node_fits (Succ a w) c p q = small_join (a ∷ []) (w ∷ []) p q
-node_fits (Pred a w) c p q = small_join (a ∷ []) (w ∷ []) p q
-node_fits (Binary o a b w) c p q = small_join (a ∷ b ∷ []) (w ∷ []) p q
-node_fits (Ifz i m l w) c p q = small_join (i ∷ m ∷ l ∷ []) (w ∷ []) p q
-node_fits (Der w x) c p q = small_join [] (w ∷ x ∷ []) p q
-node_fits (Con l r w) c p q = small_join (l ∷ r ∷ []) (w ∷ []) p q
-node_fits (Weak x) c p q = small_join [] (x ∷ []) p q
-node_fits (Lam b x w) c p q = small_join (b ∷ x ∷ []) (w ∷ []) p q
-node_fits (App f a w) c p q = small_join (f ∷ a ∷ []) (w ∷ []) p q
-node_fits (BoxNode i o) c p q = small_join (i ∷ []) (o ∷ []) p q
-node_fits (Door i o) c p q = small_join (i ∷ []) (o ∷ []) p q
-node_fits (FixBox b x w) c p q = small_join (b ∷ x ∷ []) (w ∷ []) p q
-node_fits (Root w) c p q = small_join (w ∷ []) [] p q
-node_fits (Pair a b w) c p q = small_join (a ∷ b ∷ []) (w ∷ []) p q
-node_fits (Proj d a w) c p q = small_join (a ∷ []) (w ∷ []) p q
+node_fits x c p q = small_join (premises x) (conclusions x) p q
 
 -- the first node and the others
 first_consts : (x : Node) (ns : List Node) → ConstsFit (x ∷ ns) → ConstsFit (x ∷ []) × ConstsFit ns
 first_consts (Const v w) ns h = ((h.0, tt), h.1)
-first_consts (Succ a w) ns h = (tt, h)
-first_consts (Pred a w) ns h = (tt, h)
-first_consts (Binary o a b w) ns h = (tt, h)
-first_consts (Ifz i m l w) ns h = (tt, h)
-first_consts (Der w x) ns h = (tt, h)
-first_consts (Con l r w) ns h = (tt, h)
-first_consts (Weak x) ns h = (tt, h)
-first_consts (Lam b x w) ns h = (tt, h)
-first_consts (App f a w) ns h = (tt, h)
-first_consts (BoxNode i o) ns h = (tt, h)
-first_consts (Door i o) ns h = (tt, h)
-first_consts (FixBox b x w) ns h = (tt, h)
-first_consts (Root w) ns h = (tt, h)
-first_consts (Pair a b w) ns h = (tt, h)
-first_consts (Proj d a w) ns h = (tt, h)
+first_consts x ns h = (tt, h)
 
 -- nodes whose wires are all below a bound
 nodes_fit : (c : ℕ) (ns : List Node) → c ≤ 2 ^ 32 → ConstsFit ns → ((w : ℕ) → c ≤ w → named premises ns w ≡ 0)

@@ -14,7 +14,7 @@ use Rattle.net_text.specs.Limits.{most_text_bytes, most_type_height}
 use Rattle.text_lines.specs.Lines.{end_line, in_front, lines}
 use Rattle.net_text.specs.NetText.{NetOfText}
 use Rattle.net_text.specs.Scanning.{Blames, with_nodes, with_wires}
-use Rattle.net_text.proofs.FirstFaults.{is_same, same_is}
+use Rattle.text_lines.proofs.Numbers.{is_same, same_is}
 use Rattle.net_text.proofs.Listed.{first_fault, net_listed}
 use Rattle.net_text.proofs.Splitting.{text_is}
 

@@ -1,11 +1,13 @@
 -- A node's line, read from its beginning to its end, as a wire's line is: its form by its name, and then its numbers.
 use Rattle.std.specs.Prelude.{◌^◌, ℕ, zero, suc, Bool, true, ◌&&◌, List, [], ◌∷◌, Option, Some, None, codes, decimal, nat_lt}
+use Rattle.pcf_values.specs.declared.operator.Operator.TheVariants.{Plus, Minus, Times}
+use Rattle.pcf_values.specs.declared.side.Side.TheVariants.{Left, Right}
 use Rattle.net_build.specs.declared.node.Node.{Node}
-use Rattle.net_build.specs.declared.node.Node.TheVariants.{Const, Succ, Pred, Ifz, Der, Con, Weak, Lam, App, BoxNode, Binary, Proj}
-use Rattle.net_build.specs.declared.node.Node.TheVariants.{Door, FixBox, Root, Pair}
+use Rattle.net_build.specs.declared.node.Node.TheVariants.{Const, Succ, Pred, Binary, Ifz, Der, Con, Weak, Lam, App, BoxNode, Door, FixBox}
+use Rattle.net_build.specs.declared.node.Node.TheVariants.{Root, Pair, Proj}
 use Rattle.net_text.specs.declared.form.Form.{Form}
 use Rattle.net_text.specs.declared.form.Form.TheVariants as form
-use Rattle.net_text.specs.Listing.{numbers_of}
+use Rattle.net_text.specs.Listing.{numbers_of, operator_name, part_name}
 use Rattle.net_text.specs.TypeText.{behind}
 use Rattle.net_text.specs.WireText.{after, number_from}
 
@@ -14,7 +16,7 @@ abbrev pub name_of : Form → List ℕ
 name_of form.Const = codes " Const"
 name_of form.Succ = codes " Succ"
 name_of form.Pred = codes " Pred"
-name_of (form.Binary o) = codes " Binary o"
+name_of (form.Binary operator) = operator_name operator
 name_of form.Ifz = codes " Ifz"
 name_of form.Der = codes " Der"
 name_of form.Con = codes " Con"
@@ -26,14 +28,14 @@ name_of form.Door = codes " Door"
 name_of form.FixBox = codes " FixBox"
 name_of form.Root = codes " Root"
 name_of form.Pair = codes " Pair"
-name_of (form.Proj d) = codes " Proj d"
+name_of (form.Proj side) = part_name side
 
 -- how many numbers its line has
 abbrev pub count_of : Form → ℕ
 count_of form.Const = 2
 count_of form.Succ = 2
 count_of form.Pred = 2
-count_of (form.Binary o) = 3
+count_of (form.Binary operator) = 3
 count_of form.Ifz = 4
 count_of form.Der = 2
 count_of form.Con = 3
@@ -45,14 +47,14 @@ count_of form.Door = 2
 count_of form.FixBox = 3
 count_of form.Root = 1
 count_of form.Pair = 3
-count_of (form.Proj d) = 2
+count_of (form.Proj side) = 2
 
 -- the forms, in the order in which their names are tried: `Const` before `Con`, with which it begins
 abbrev pub all_forms : List Form
 all_forms =
-    form.Const ∷ form.Succ ∷ form.Pred ∷ form.Plus ∷ form.Minus ∷ form.Times ∷ form.Ifz ∷ form.Der ∷ form.Con ∷ form.Weak ∷ form.Lam ∷
-    form.App
-    ∷ form.BoxNode ∷ form.Door ∷ form.FixBox ∷ form.Root ∷ form.Pair ∷ form.Fst ∷ form.Snd ∷ []
+    form.Const ∷ form.Succ ∷ form.Pred ∷ form.Binary Plus ∷ form.Binary Minus ∷ form.Binary Times ∷ form.Ifz ∷ form.Der ∷ form.Con
+    ∷ form.Weak ∷ form.Lam ∷ form.App ∷ form.BoxNode ∷ form.Door ∷ form.FixBox ∷ form.Root ∷ form.Pair ∷ form.Proj Left
+    ∷ form.Proj Right ∷ []
 
 -- the form whose name the text begins with, and what stands behind it; or else another form
 abbrev pub this_form : Form → Option (List ℕ) → Option (Form × List ℕ) → Option (Form × List ℕ)
@@ -92,12 +94,12 @@ two_node form.Pred a b = Some (Pred a b)
 two_node form.Der a b = Some (Der a b)
 two_node form.BoxNode a b = Some (BoxNode a b)
 two_node form.Door a b = Some (Door a b)
-two_node (form.Proj d) a b = Some (Proj d a b)
+two_node (form.Proj side) a b = Some (Proj side a b)
 two_node f a b = None
 
 -- with three
 abbrev pub three_node : Form → ℕ → ℕ → ℕ → Option Node
-three_node (form.Binary o) a b w = Some (Binary o a b w)
+three_node (form.Binary operator) a b w = Some (Binary operator a b w)
 three_node form.Con a b w = Some (Con a b w)
 three_node form.Lam a b w = Some (Lam a b w)
 three_node form.App a b w = Some (App a b w)

@@ -1,9 +1,34 @@
-//! The forms of nodes, by the names that a listing gives them.
+//! The forms of nodes, by the names that a listing gives them: the one table of the operators' names, and of the parts'.
 
 ghost use Rattle.std.specs.Prelude.{◌≡◌};
-ghost use Rattle.net_text.specs.NodeText.{count_of, name_of, one_node, two_node, three_node, four_node};
+ghost use Rattle.std.specs.Option.{option_map};
+ghost use Rattle.net_text.specs.Listing.{operator_name, part_name};
+ghost use Rattle.net_text.specs.NodeText.{all_forms, count_of, form_among, name_of, one_node, two_node, three_node, four_node};
 
+use crate::scan::behind;
 use net_build::Node;
+use pcf_values::{Operator, Side};
+
+/// The name of an operator, behind a space.
+pub(crate) fn operator_name(operator: Operator) -> &'static [u8]
+    ensures { result.now ≡ operator_name operator }
+{
+    match operator {
+        Operator::Plus => b" Plus",
+        Operator::Minus => b" Minus",
+        Operator::Times => b" Times",
+    }
+}
+
+/// The name of what takes the part of a pair on this side, behind a space.
+pub(crate) fn part_name(side: Side) -> &'static [u8]
+    ensures { result.now ≡ part_name side }
+{
+    match side {
+        Side::Left => b" Fst",
+        Side::Right => b" Snd",
+    }
+}
 
 /// The form of a node.
 #[derive(Clone, Copy)]
@@ -11,9 +36,7 @@ pub(crate) enum Form {
     Const,
     Succ,
     Pred,
-    Plus,
-    Minus,
-    Times,
+    Binary(Operator),
     Ifz,
     Der,
     Con,
@@ -25,8 +48,7 @@ pub(crate) enum Form {
     FixBox,
     Root,
     Pair,
-    Fst,
-    Snd,
+    Proj(Side),
 }
 
 impl Form {
@@ -38,9 +60,7 @@ impl Form {
             Form::Const => b" Const",
             Form::Succ => b" Succ",
             Form::Pred => b" Pred",
-            Form::Plus => b" Plus",
-            Form::Minus => b" Minus",
-            Form::Times => b" Times",
+            Form::Binary(operator) => operator_name(operator),
             Form::Ifz => b" Ifz",
             Form::Der => b" Der",
             Form::Con => b" Con",
@@ -52,8 +72,7 @@ impl Form {
             Form::FixBox => b" FixBox",
             Form::Root => b" Root",
             Form::Pair => b" Pair",
-            Form::Fst => b" Fst",
-            Form::Snd => b" Snd",
+            Form::Proj(side) => part_name(side),
         }
     }
 
@@ -69,16 +88,8 @@ impl Form {
             | Form::Der
             | Form::BoxNode
             | Form::Door
-            | Form::Fst
-            | Form::Snd => 2,
-            Form::Plus
-            | Form::Minus
-            | Form::Times
-            | Form::Con
-            | Form::Lam
-            | Form::App
-            | Form::FixBox
-            | Form::Pair => 3,
+            | Form::Proj(_) => 2,
+            Form::Binary(_) | Form::Con | Form::Lam | Form::App | Form::FixBox | Form::Pair => 3,
             Form::Ifz => 4,
         }
     }
@@ -119,11 +130,8 @@ impl Form {
                 inside: a,
                 outside: b,
             }),
-            Form::Fst => Some(Node::Fst {
-                operand: a,
-                wire: b,
-            }),
-            Form::Snd => Some(Node::Snd {
+            Form::Proj(side) => Some(Node::Proj {
+                side,
                 operand: a,
                 wire: b,
             }),
@@ -136,17 +144,8 @@ impl Form {
         ensures { result ≡ three_node self a b w }
     {
         match self {
-            Form::Plus => Some(Node::Plus {
-                left: a,
-                right: b,
-                wire: w,
-            }),
-            Form::Minus => Some(Node::Minus {
-                left: a,
-                right: b,
-                wire: w,
-            }),
-            Form::Times => Some(Node::Times {
+            Form::Binary(operator) => Some(Node::Binary {
+                operator,
                 left: a,
                 right: b,
                 wire: w,
@@ -194,4 +193,46 @@ impl Form {
             _ => None,
         }
     }
+}
+
+/// The form whose name the text begins with, and what stands behind it.
+pub(crate) fn form_in(text: &[u8]) -> Option<(Form, &[u8])>
+    ensures { option_map (λ r. (r.0, r.1.now)) result ≡ form_among all_forms text.now }
+{
+    let forms = [
+        Form::Const,
+        Form::Succ,
+        Form::Pred,
+        Form::Binary(Operator::Plus),
+        Form::Binary(Operator::Minus),
+        Form::Binary(Operator::Times),
+        Form::Ifz,
+        Form::Der,
+        Form::Con,
+        Form::Weak,
+        Form::Lam,
+        Form::App,
+        Form::BoxNode,
+        Form::Door,
+        Form::FixBox,
+        Form::Root,
+        Form::Pair,
+        Form::Proj(Side::Left),
+        Form::Proj(Side::Right),
+    ];
+    first_form(&forms, text)
+}
+
+/// The first of these forms whose name the text begins with, and what stands behind it.
+fn first_form<'a>(forms: &[Form], text: &'a [u8]) -> Option<(Form, &'a [u8])>
+    ensures { option_map (λ r. (r.0, r.1.now)) result ≡ form_among forms.now text.now }
+{
+    let mut left = forms;
+    while let [form, others @ ..] = left {
+        if let Some(rest) = behind(form.name(), text) {
+            return Some((*form, rest));
+        }
+        left = others;
+    }
+    None
 }

@@ -6,11 +6,11 @@ ghost use Rattle.std.specs.Str.{bytes_eq};
 ghost use Rattle.net_build.specs.declared.node.Node.TheVariants.{Const};
 ghost use Rattle.net_text.specs.FirstFault.{node_at};
 ghost use Rattle.net_text.specs.Listing.{node_line};
-ghost use Rattle.net_text.specs.NodeText.{all_forms, constant, form_among, four_node, from_form, from_name, node_in, node_with, numbers_in};
-ghost use Rattle.net_text.specs.NodeText.{one_node, small_node, three_node, two_node};
+ghost use Rattle.net_text.specs.NodeText.{constant, four_node, from_form, from_name, node_in, node_with, numbers_in, one_node, small_node};
+ghost use Rattle.net_text.specs.NodeText.{three_node, two_node};
 ghost use Rattle.net_text.specs.Scanning.{fitting_node, in_half, words_among};
 
-use crate::form::Form;
+use crate::form::{Form, form_in};
 use crate::print::push_node;
 use crate::scan::{behind, number};
 use itoa::Buffer;
@@ -64,48 +64,6 @@ fn from_name(alloc: Global, text: &[u8]) -> Result<Option<Node>, AllocError>
         Some((form, rest)) => from_form(alloc, form, rest),
         None => Ok(None),
     }
-}
-
-/// The form whose name the text begins with, and what stands behind it.
-fn form_in(text: &[u8]) -> Option<(Form, &[u8])>
-    ensures { option_map (λ r. (r.0, r.1.now)) result ≡ form_among all_forms text.now }
-{
-    let forms = [
-        Form::Const,
-        Form::Succ,
-        Form::Pred,
-        Form::Plus,
-        Form::Minus,
-        Form::Times,
-        Form::Ifz,
-        Form::Der,
-        Form::Con,
-        Form::Weak,
-        Form::Lam,
-        Form::App,
-        Form::BoxNode,
-        Form::Door,
-        Form::FixBox,
-        Form::Root,
-        Form::Pair,
-        Form::Fst,
-        Form::Snd,
-    ];
-    first_form(&forms, text)
-}
-
-/// The first of these forms whose name the text begins with, and what stands behind it.
-fn first_form<'a>(forms: &[Form], text: &'a [u8]) -> Option<(Form, &'a [u8])>
-    ensures { option_map (λ r. (r.0, r.1.now)) result ≡ form_among forms.now text.now }
-{
-    let mut left = forms;
-    while let [form, others @ ..] = left {
-        if let Some(rest) = behind(form.name(), text) {
-            return Some((*form, rest));
-        }
-        left = others;
-    }
-    None
 }
 
 /// The node of this form whose numbers stand here.

@@ -7,6 +7,7 @@ ghost use Rattle.net_build.specs.Views.{wire_of};
 ghost use Rattle.pcf_reader.specs.Printed.{ty_text};
 ghost use Rattle.net_text.specs.Listing.{kind_text, wire_line, numbers_text, name_text, numbers_of, node_line, lines_of, listing};
 
+use crate::form::{operator_name, part_name};
 use itoa::Buffer;
 use net_build::{Net, Node, Wire, WireKind};
 use pcf_reader::print_ty;
@@ -96,9 +97,7 @@ pub fn name_text(node: Node) -> &'static [u8]
         Node::Const { .. } => b" Const",
         Node::Succ { .. } => b" Succ",
         Node::Pred { .. } => b" Pred",
-        Node::Plus { .. } => b" Plus",
-        Node::Minus { .. } => b" Minus",
-        Node::Times { .. } => b" Times",
+        Node::Binary { operator, .. } => operator_name(operator),
         Node::Ifz { .. } => b" Ifz",
         Node::Der { .. } => b" Der",
         Node::Con { .. } => b" Con",
@@ -110,8 +109,7 @@ pub fn name_text(node: Node) -> &'static [u8]
         Node::FixBox { .. } => b" FixBox",
         Node::Root { .. } => b" Root",
         Node::Pair { .. } => b" Pair",
-        Node::Fst { .. } => b" Fst",
-        Node::Snd { .. } => b" Snd",
+        Node::Proj { side, .. } => part_name(side),
     }
 }
 
