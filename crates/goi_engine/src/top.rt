@@ -2,7 +2,7 @@
 
 ghost use Rattle.std.specs.Prelude.{map, string_bytes};
 ghost use Rattle.goi_engine.specs.Writes.{ByWrites};
-ghost use Rattle.net_text.specs.Accepted.{OneAnswer};
+ghost use Rattle.net_text.specs.Laws.{OneAnswer};
 ghost use Rattle.goi_words.specs.Asked.{job};
 ghost use Rattle.goi_engine.specs.Deeds.{deed};
 ghost use Rattle.goi_engine.specs.Promise.{call, Promise};

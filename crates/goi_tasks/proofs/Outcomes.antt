@@ -7,7 +7,8 @@ use Rattle.pcf_values.specs.Terms.{TyTree, TermTree, nat}
 use Rattle.pcf_values.specs.Named.{NamedTree}
 use Rattle.cbn_meaning.specs.Meaning.{Means}
 use Rattle.net_text.specs.declared.fault.NetTextFault.{NetTextFault}
-use Rattle.net_text.specs.Accepted.{ListsProgram, OneAnswer as OneListing}
+use Rattle.net_text.specs.Accepted.{ListsProgram}
+use Rattle.net_text.specs.Laws.{OneAnswer as OneListing}
 use Rattle.batch_lists.specs.Laws.{OneList}
 use Rattle.net_build.specs.Nets.{NetTree}
 use Rattle.net_build.specs.NetOf.{net_of}

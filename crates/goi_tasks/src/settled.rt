@@ -1,6 +1,6 @@
 //! The law that what comes of a text is settled by its bytes.
 
-ghost use Rattle.net_text.specs.Accepted.{OneAnswer};
+ghost use Rattle.net_text.specs.Laws.{OneAnswer};
 ghost use Rattle.goi_tasks.specs.Settles.{TextsSettle};
 
 use batch_lists::law_one_list;

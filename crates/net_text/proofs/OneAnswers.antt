@@ -16,12 +16,14 @@ use Rattle.net_terms.specs.OfTerm.{IsNetOf}
 use Rattle.net_terms.proofs.Complete.{one_term}
 use Rattle.net_text.specs.declared.fault.NetTextFault.{NetTextFault}
 use Rattle.net_text.specs.declared.fault.NetTextFault.TheVariants.{NoMemory, BadLine, NotSound, NotOfTerm, TooLong}
-use Rattle.net_text.specs.Accepted.{Accepts, ListsProgram, OneAnswer, Sorted}
+use Rattle.net_text.specs.Accepted.{Accepts, ListsProgram}
+use Rattle.net_text.specs.Laws.{OneAnswer}
 use Rattle.net_text.specs.FirstFault.{net_of_lines}
 use Rattle.net_text.specs.Limits.{most_text_bytes, most_type_height}
 use Rattle.net_text.specs.Listing.{listing}
 use Rattle.text_lines.specs.Lines.{lines}
-use Rattle.net_text.specs.NetText.{Begins, FirstBad, NetFits, NetOfText, TextOf, listing_lines}
+use Rattle.net_text.specs.NetText.{Begins, FirstBad, NetFits, TextOf, listing_lines}
+use Rattle.net_text.specs.Steps.{AcceptsNet, NetOfText, Sorted}
 use Rattle.net_text.proofs.Listed.{listing_read}
 use Rattle.net_text.proofs.SmallNets.{fit_types, listing_long, term_net_fits}
 use Rattle.net_text.proofs.Splitting.{listing_split}
@@ -158,6 +160,11 @@ sorted_accepts bytes net (Err (NotSound f)) t s = (net, t, s)
 sorted_accepts bytes net (Err NotOfTerm) t s = (net, t, s.0, s.1)
 sorted_accepts bytes net (Err (BadLine n)) t s = absurd s
 sorted_accepts bytes net (Err TooLong) t s = absurd s
+
+-- The same of a program with the net.
+pub sorted_with_net : (bytes : List ℕ) (net : NetTree) (p : TermTree × TyTree) → TextOf bytes net → Sorted net (Ok p)
+    → AcceptsNet bytes (Ok (p, net))
+sorted_with_net bytes net p t s = (sorted_accepts bytes net (Ok p) t s, sym s.0.net_is)
 
 -- the net that is read is the program's
 is_net_of : (bytes : List ℕ) (net : NetTree) (m : TermTree) → TextOf bytes net → ListsProgram bytes m → IsNetOf most_term_height net m

@@ -12,7 +12,7 @@ use Rattle.net_text.specs.FirstFault.{and_nodes, and_wires, ended, net_of_lines,
 use Rattle.net_text.specs.FirstFault.{with_node, with_wire}
 use Rattle.net_text.specs.Limits.{most_text_bytes, most_type_height}
 use Rattle.text_lines.specs.Lines.{end_line, in_front, lines}
-use Rattle.net_text.specs.NetText.{NetOfText}
+use Rattle.net_text.specs.Steps.{NetOfText}
 use Rattle.net_text.specs.Scanning.{Blames, with_nodes, with_wires}
 use Rattle.text_lines.proofs.Numbers.{is_same, same_is}
 use Rattle.net_text.proofs.Listed.{first_fault, net_listed}

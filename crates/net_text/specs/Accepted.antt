@@ -1,7 +1,7 @@
--- What a net and a net file are accepted as, and which fault of a file is the first.
+-- What a net file is accepted as, and which fault of a file is the first.
 -- The bytes are looked at first, then whether their net is sound, and then whether it is a term's. A program is listed where its own net
 -- is: nothing is asked of depths and numbers, since those of a program's net are small by themselves.
-use Rattle.std.specs.Prelude.{◌≡◌, ◌≢◌, ◌<◌, ◌≤◌, ℕ, List, [], ◌∷◌, length, Result, Ok, Err}
+use Rattle.std.specs.Prelude.{◌≡◌, ◌<◌, ◌≤◌, ℕ, List, [], ◌∷◌, length, Result, Ok, Err}
 use Rattle.pcf_values.specs.Terms.{TyTree, nat, TermTree, height}
 use Rattle.pcf_values.specs.Typing.{HasType}
 use Rattle.net_build.specs.Nets.{WireTree, NetTree}
@@ -9,7 +9,7 @@ use Rattle.net_build.specs.NetOf.{net_of}
 use Rattle.net_build.specs.Sound.{Sound}
 use Rattle.net_check.specs.Faults.{FirstFault}
 use Rattle.net_terms.specs.Limits.{most_term_height}
-use Rattle.net_terms.specs.OfTerm.{IsNetOf, OfNone}
+use Rattle.net_terms.specs.OfTerm.{OfNone}
 use Rattle.net_text.specs.declared.fault.NetTextFault.{NetTextFault}
 use Rattle.net_text.specs.declared.fault.NetTextFault.TheVariants.{NoMemory, BadLine, NotSound, NotOfTerm, TooLong}
 use Rattle.net_text.specs.Limits.{most_text_bytes, most_type_height}
@@ -38,26 +38,3 @@ Accepts bytes (Err TooLong) = most_text_bytes < length bytes
 Accepts bytes (Err (BadLine n)) = (length bytes ≤ most_text_bytes) × FirstBad most_type_height n (lines bytes)
 Accepts bytes (Err (NotSound f)) = (net : NetTree) × TextOf bytes net × FirstFault net f
 Accepts bytes (Err NotOfTerm) = (net : NetTree) × TextOf bytes net × Sound net × OfNone most_term_height net
-
--- Bytes have one answer, want of memory aside.
-abbrev pub OneAnswer : Type 0
-OneAnswer = (bytes : List ℕ) (r s : Result (TermTree × TyTree) NetTextFault) → Accepts bytes r → Accepts bytes s → r ≢ Err NoMemory
-    → s ≢ Err NoMemory → r ≡ s
-
--- The term whose net it is, or the fault that it is that of none. Want of memory says nothing, and there is no other fault.
-abbrev pub Answers : ℕ → NetTree → Result (TermTree × TyTree) NetTextFault → Type 0
-Answers h net (Ok t) = IsNetOf h net t.0 × (t.1 ≡ nat)
-Answers h net (Err NoMemory) = Unit {0}
-Answers h net (Err NotOfTerm) = OfNone h net
-Answers h net (Err (BadLine n)) = ⊥
-Answers h net (Err (NotSound f)) = ⊥
-Answers h net (Err TooLong) = ⊥
-
--- The program whose net it is, or the net's first fault.
-abbrev pub Sorted : NetTree → Result (TermTree × TyTree) NetTextFault → Type 0
-Sorted net (Ok t) = IsNetOf most_term_height net t.0 × (t.1 ≡ nat)
-Sorted net (Err NoMemory) = Unit {0}
-Sorted net (Err (NotSound f)) = FirstFault net f
-Sorted net (Err NotOfTerm) = Sound net × OfNone most_term_height net
-Sorted net (Err (BadLine n)) = ⊥
-Sorted net (Err TooLong) = ⊥

@@ -1,15 +1,11 @@
 -- Which bytes are the listing of a net, and which line is the first that can't stand where it stands.
 -- A line can stand where the lines up to it are the first ones of some listing. So nothing is said here of the form of a line, beyond
 -- what the listing itself says: the least line that can't stand is the one at which no listing begins any more.
-use Rattle.std.specs.Prelude.{◌≡◌, ℕ, suc, ◌-◌, ◌^◌, ◌<◌, ◌≤◌, max, List, [], ◌∷◌, ◌++◌, length, take, codes, nat_eq, if◌then◌else◌, Result}
-use Rattle.std.specs.Prelude.{Ok, Err}
+use Rattle.std.specs.Prelude.{◌≡◌, ℕ, suc, ◌-◌, ◌^◌, ◌<◌, ◌≤◌, max, List, [], ◌∷◌, ◌++◌, length, take, codes}
 use Rattle.pcf_values.specs.Terms.{TyTree, nat, arrow, product}
-use Rattle.text_lines.specs.Lines.{lines}
 use Rattle.net_build.specs.declared.node.Node.{Node}
 use Rattle.net_build.specs.declared.node.Node.TheVariants.{Const}
 use Rattle.net_build.specs.Nets.{WireTree, NetTree}
-use Rattle.net_text.specs.declared.fault.NetTextFault.{NetTextFault}
-use Rattle.net_text.specs.declared.fault.NetTextFault.TheVariants.{NoMemory, BadLine, NotSound, NotOfTerm, TooLong}
 use Rattle.net_text.specs.Limits.{most_text_bytes, most_type_height}
 use Rattle.net_text.specs.Listing.{wire_line, node_line, numbers_of, listing}
 
@@ -72,12 +68,3 @@ pub record TextOf (bytes : List ℕ) (net : NetTree) : Type 0 where
   pub short : length bytes ≤ most_text_bytes
   pub fits : NetFits most_type_height net
   pub is : bytes ≡ listing net
-
--- The net whose listing the bytes are, or the first fault. Want of memory says nothing.
-abbrev pub NetOfText : List ℕ → Result NetTree NetTextFault → Type 0
-NetOfText bytes (Ok net) = TextOf bytes net
-NetOfText bytes (Err NoMemory) = Unit {0}
-NetOfText bytes (Err TooLong) = most_text_bytes < length bytes
-NetOfText bytes (Err (BadLine n)) = (length bytes ≤ most_text_bytes) × FirstBad most_type_height n (lines bytes)
-NetOfText bytes (Err (NotSound f)) = ⊥
-NetOfText bytes (Err NotOfTerm) = ⊥

@@ -1,9 +1,10 @@
-//! The program that a net file lists, or the file's first fault.
+//! The program that a net file lists, with its net, or the file's first fault.
 
 ghost use Rattle.std.specs.Prelude.{◌≡◌, MatchResult};
 ghost use Rattle.pcf_values.specs.Terms.{TermTree};
 ghost use Rattle.net_text.specs.declared.fault.NetTextFault.TheVariants.{NoMemory};
-ghost use Rattle.net_text.specs.Accepted.{Accepts, ListsProgram, Sorted};
+ghost use Rattle.net_text.specs.Accepted.{Accepts, ListsProgram};
+ghost use Rattle.net_text.specs.Steps.{AcceptsNet, Sorted};
 
 use crate::NetTextFault;
 use crate::read::read_net;
@@ -24,13 +25,34 @@ pub fn accept(alloc: Global, bytes: &[u8]) -> Result<Typed, NetTextFault>
     // A program that the bytes list is accepted, unless memory runs out.
     ensures accepted { (m : TermTree) → ListsProgram bytes.now m → MatchResult result (λ t. t.0 ≡ m) (λ e. e ≡ NoMemory) }
 {
+    match accept_net(alloc, bytes) {
+        Ok((program, net)) => {
+            drop(net);
+            Ok(program)
+        }
+        Err(fault) => Err(fault),
+    }
+}
+
+/// The same with the program's net, as it was read from the bytes, so that nobody has to build it again.
+///
+/// # Errors
+///
+/// As for `accept`.
+pub fn accept_net(alloc: Global, bytes: &[u8]) -> Result<(Typed, Net), NetTextFault>
+    ensures answer { AcceptsNet bytes.now result }
+    // A program that the bytes list is accepted, unless memory runs out.
+    ensures accepted { (m : TermTree) → ListsProgram bytes.now m → MatchResult result (λ p. p.0.0 ≡ m) (λ e. e ≡ NoMemory) }
+{
     law_one_fault();
     match read_net(alloc, bytes) {
-        Ok(net) => {
-            let program = program_of(alloc, &net);
-            drop(net);
-            program
-        }
+        Ok(net) => match program_of(alloc, &net) {
+            Ok(program) => Ok((program, net)),
+            Err(fault) => {
+                drop(net);
+                Err(fault)
+            }
+        },
         Err(fault) => Err(fault),
     }
 }

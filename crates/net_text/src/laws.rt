@@ -1,7 +1,7 @@
 //! What holds of the texts of nets.
 
-ghost use Rattle.net_text.specs.Accepted.{OneAnswer};
-ghost use Rattle.net_text.specs.Limits.{LimitsAre};
+ghost use Rattle.net_text.specs.Laws.{OneAnswer};
+ghost use Rattle.net_text.specs.Constants.{LimitsAre};
 ghost use Rattle.net_text.specs.Laws.{TextsAreRead, TypesAreRead};
 ghost use Rattle.net_text.specs.Standing.{StandingIsBeginning};
 

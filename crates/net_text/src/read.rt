@@ -9,7 +9,8 @@ ghost use Rattle.net_text.specs.declared.fault.NetTextFault.TheVariants.{NoMemor
 ghost use Rattle.net_text.specs.FirstFault.{net_of_lines, no_wires, nodes_from, wires_from};
 ghost use Rattle.net_text.specs.Limits.{most_text_bytes};
 ghost use Rattle.text_lines.specs.Lines.{end_line, lines};
-ghost use Rattle.net_text.specs.NetText.{NetOfText, TextOf};
+ghost use Rattle.net_text.specs.NetText.{TextOf};
+ghost use Rattle.net_text.specs.Steps.{NetOfText};
 ghost use Rattle.net_text.specs.Scanning.{Blames, with_wires};
 
 use crate::NetTextFault;

@@ -2,7 +2,7 @@
 
 ghost use Rattle.net_terms.specs.Limits.{most_term_height};
 ghost use Rattle.net_terms.specs.OfTerm.{OfNone};
-ghost use Rattle.net_text.specs.Accepted.{Answers};
+ghost use Rattle.net_text.specs.Steps.{Answers};
 
 use crate::NetTextFault;
 use net_build::{Net, law_built_sound};
