@@ -4,9 +4,9 @@ use Rattle.pcf_values.specs.Most.{most_nodes, most_open}
 use Rattle.pcf_values.specs.Named.{NamedTree, number_at, name_at, word_at, binary_at, pair_at, ifz_at, bind_at, apply_at}
 use Rattle.pcf_values.specs.NamedSize.{named_size}
 use Rattle.pcf_values.specs.Named.{named_height}
-use Rattle.pcf_reader.specs.Tokens.{Close, Dot, Comma, Plus, Minus, Times, Arrow, Then, Else, End}
+use Rattle.pcf_reader.specs.Tokens.{Close, Dot, Comma, Sign, Arrow, Then, Else, End, star}
 use Rattle.pcf_reader.specs.Grammar.{Type_, only_ptype, arrow_type, PType, only_tatom, times_type, TAtom, nat_type, paren_type, Expr}
-use Rattle.pcf_reader.specs.Grammar.{binding, choice, only_sum, Sum, only_product, plus, minus, Product, only_app, times, App, only_atom}
+use Rattle.pcf_reader.specs.Grammar.{binding, choice, only_sum, Sum, only_product, summed, Product, only_app, multiplied, App, only_atom}
 use Rattle.pcf_reader.specs.Grammar.{applied, Atom, numeral, variable, parens, pairing, prefixed, type_ty, ptype_ty, tatom_ty, expr_part}
 use Rattle.pcf_reader.specs.Grammar.{sum_part, product_part, app_part_of, atom_part, Written, plain, marked, type_text, ptype_text}
 use Rattle.pcf_reader.specs.Grammar.{tatom_text, expr_text, sum_text, product_text, app_text, atom_text, Program, program_text}
@@ -30,7 +30,7 @@ mutual
   count_ptype o (only_tatom a) = count_tatom o a
   count_ptype o (times_type a at p) = omega (
     arith,
-    count-append (tatom_text o a) (marked at Times o 0 ∷ ptype_text (suc o) p),
+    count-append (tatom_text o a) (marked at star o 0 ∷ ptype_text (suc o) p),
     count_tatom o a,
     count_ptype (suc o) p,
   )
@@ -57,25 +57,19 @@ mutual
 
   pub count_sum : (o : ℕ) (s : Sum) → count_of (sum_text o s) ≡ node_count (sum_part s).tree
   count_sum o (only_product p) = count_product o p
-  count_sum o (plus s at p) = omega (
+  count_sum o (summed s at op _ p) = omega (
     arith,
-    count-append (sum_text o s) (marked at Plus (sum_part s).height 1 ∷ product_text o p),
-    count_sum o s,
-    count_product o p,
-  )
-  count_sum o (minus s at p) = omega (
-    arith,
-    count-append (sum_text o s) (marked at Minus (sum_part s).height 1 ∷ product_text o p),
+    count-append (sum_text o s) (marked at (Sign op) (sum_part s).height 1 ∷ product_text o p),
     count_sum o s,
     count_product o p,
   )
 
   pub count_product : (o : ℕ) (p : Product) → count_of (product_text o p) ≡ node_count (product_part p).tree
   count_product o (only_app f) = count_app o f
-  count_product o (times m at f) =
+  count_product o (multiplied m at op _ f) =
       omega (
         arith,
-        count-append (product_text o m) (marked at Times (product_part m).height 1 ∷ app_text o f),
+        count-append (product_text o m) (marked at (Sign op) (product_part m).height 1 ∷ app_text o f),
         count_product o m,
         count_app o f,
       )
@@ -133,21 +127,17 @@ mutual
   pub low_sum : (o : ℕ) (s : Sum) → o ≤ most_open → Each IsShallow (sum_text o s) →
       (sum_part s).height + 4 * o ≤ most_read_height
   low_sum o (only_product p) le h = omega (arith, low_product o p le h)
-  low_sum o (plus s at p) le h =
-      let more : Each IsShallow (marked at Plus (sum_part s).height 1 ∷ product_text o p) =
-      each_right IsShallow (sum_text o s) (marked at Plus (sum_part s).height 1 ∷ product_text o p) h in
-      omega (arith, le, more.0, low_product o p le more.1)
-  low_sum o (minus s at p) le h =
-      let more : Each IsShallow (marked at Minus (sum_part s).height 1 ∷ product_text o p) =
-      each_right IsShallow (sum_text o s) (marked at Minus (sum_part s).height 1 ∷ product_text o p) h in
+  low_sum o (summed s at op _ p) le h =
+      let more : Each IsShallow (marked at (Sign op) (sum_part s).height 1 ∷ product_text o p) =
+      each_right IsShallow (sum_text o s) (marked at (Sign op) (sum_part s).height 1 ∷ product_text o p) h in
       omega (arith, le, more.0, low_product o p le more.1)
 
   pub low_product : (o : ℕ) (p : Product) → o ≤ most_open → Each IsShallow (product_text o p) →
       (product_part p).height + 4 * o + 1 ≤ most_read_height
   low_product o (only_app f) le h = omega (arith, low_app o f le h)
-  low_product o (times m at f) le h =
-      let more : Each IsShallow (marked at Times (product_part m).height 1 ∷ app_text o f) =
-      each_right IsShallow (product_text o m) (marked at Times (product_part m).height 1 ∷ app_text o f) h in
+  low_product o (multiplied m at op _ f) le h =
+      let more : Each IsShallow (marked at (Sign op) (product_part m).height 1 ∷ app_text o f) =
+      each_right IsShallow (product_text o m) (marked at (Sign op) (product_part m).height 1 ∷ app_text o f) h in
       omega (arith, le, more.0, low_app o f le more.1)
 
   pub low_app : (o : ℕ) (f : App) → o ≤ most_open → Each IsShallow (app_text o f) →
@@ -193,12 +183,11 @@ mutual
 
   pub tree_sum : (s : Sum) → named_height (sum_part s).tree ≤ (sum_part s).height
   tree_sum (only_product p) = tree_product p
-  tree_sum (plus s at p) = omega (arith, tree_sum s, tree_product p)
-  tree_sum (minus s at p) = omega (arith, tree_sum s, tree_product p)
+  tree_sum (summed s at op _ p) = omega (arith, tree_sum s, tree_product p)
 
   pub tree_product : (p : Product) → named_height (product_part p).tree ≤ (product_part p).height
   tree_product (only_app f) = tree_app f
-  tree_product (times m at f) = omega (arith, tree_product m, tree_app f)
+  tree_product (multiplied m at op _ f) = omega (arith, tree_product m, tree_app f)
 
   pub tree_app : (f : App) → named_height (app_part_of f).tree ≤ (app_part_of f).height
   tree_app (only_atom a) = tree_atom a

@@ -1,20 +1,24 @@
 -- Each tree has a phrase for what is printed of it, on each level of the grammar.
-use Rattle.std.proofs.Common.{◌≡◌, ℕ, suc, ◌+◌, ◌<◌, List, [], ◌∷◌, ◌++◌, map, length, refl, sym, ap, ◌∙◌}
+use Rattle.std.proofs.Common.{◌≡◌, ℕ, suc, ◌+◌, ◌<◌, List, [], ◌∷◌, ◌++◌, map, length, Some, refl, sym, ap, ◌∙◌}
 use Rattle.std.proofs.Common.{subst, arith, append_assoc, length-append}
 use Rattle.std.specs.Prelude.{codes}
+use Rattle.std.specs.Char.{len_utf8}
 use Rattle.pcf_values.specs.Most.{most_open}
 use Rattle.pcf_values.specs.Terms.{TyTree, nat, arrow, product}
-use Rattle.pcf_values.specs.Named.{Word, the_succ, the_pred, the_fst, the_snd, Binder, the_fun, the_fix}
-use Rattle.pcf_reader.specs.Tokens.{Open, Close, Colon, Dot, Comma, Plus, Minus, Times, Arrow, Ifz, Then, Else, Nat, Bind, Before, Placed}
+use Rattle.pcf_values.specs.declared.operator.Operator.{Operator}
+use Rattle.pcf_values.specs.declared.side.Side.TheVariants.{Left, Right}
+use Rattle.pcf_values.specs.Named.{Word, the_succ, the_pred, the_part, Binder, the_fun, the_fix}
+use Rattle.pcf_reader.specs.Tokens.{Token, Open, Close, Colon, Dot, Comma, Sign, Arrow, Ifz, Then, Else, Nat, Bind, Before, star, Placed}
 use Rattle.pcf_reader.specs.Grammar.{Type_, only_ptype, arrow_type, PType, only_tatom, times_type, TAtom, nat_type, paren_type, type_ty}
 use Rattle.pcf_reader.specs.Grammar.{ptype_ty, tatom_ty, Written, placed, plain, marked, type_text, ptype_text, tatom_text}
-use Rattle.pcf_reader.specs.Spelling.{word_of, Splits, token, arrow as arrow_spelled}
-use Rattle.pcf_reader.specs.Printed.{fitted, ty_level, ty_text, word_text, binder_text}
+use Rattle.pcf_reader.specs.Spelling.{sign_of, word_of, Splits, token, arrow as arrow_spelled}
+use Rattle.pcf_reader.specs.Printed.{fitted, ty_level, ty_text, word_text, binder_text, op_text}
 use Rattle.pcf_reader.specs.Text.{IsShallow, Each}
 use Rattle.pcf_reader.proofs.Lists.{each_append, map-append}
 use Rattle.pcf_reader.proofs.Shown.{fit_onto, fit_shallow, ty_onto, ty_shallow}
 use Rattle.pcf_reader.proofs.Pieces.{Clear, clear_by, place_at, blank_piece, sign_piece, keyword_piece}
 use Rattle.pcf_reader.proofs.Lexed.{at_place, arrow_longest}
+use Rattle.pcf_reader.proofs.Levels.{each_op}
 
 -- the tokens of two parts, one behind the other
 pub both_parts : (at : ℕ) (cs : List ℕ) (u v : List Written) (items : List Placed) →
@@ -64,26 +68,24 @@ pub dot_piece : (at : ℕ) (rest : List ℕ) (items : List Placed) → Splits (a
 dot_piece at rest items h = sign_piece 46 Dot at rest items refl refl (λ e. let z : ⊥ = omega (arith, e) in absurd z) h
 
 -- a sign between blanks
-pub plus_piece : (at : ℕ) (rest : List ℕ) (items : List Placed) → Splits (at + 3) rest items →
-    Splits at (32 ∷ 43 ∷ 32 ∷ rest) (at_place (at + 1) Plus ∷ items)
-plus_piece at rest items h =
-    blank_piece at (43 ∷ 32 ∷ rest) (at_place (at + 1) Plus ∷ items)
-    (sign_piece 43 Plus (at + 1) (32 ∷ rest) items refl refl (λ e. let z : ⊥ = omega (arith, e) in absurd z)
+pub spaced_piece : (c : ℕ) (x : Token) (at : ℕ) (rest : List ℕ) (items : List Placed) → sign_of c ≡ Some x → len_utf8 c ≡ 1 →
+    Splits (at + 3) rest items → Splits at (32 ∷ c ∷ 32 ∷ rest) (at_place (at + 1) x ∷ items)
+spaced_piece c x at rest items is one h =
+    blank_piece at (c ∷ 32 ∷ rest) (at_place (at + 1) x ∷ items)
+    (sign_piece c x (at + 1) (32 ∷ rest) items is one (λ e. refl)
     (blank_piece ((at + 1) + 1) rest items (place_at (at + 3) (((at + 1) + 1) + 1) rest items (omega arith) h)))
 
-pub minus_piece : (at : ℕ) (rest : List ℕ) (items : List Placed) → Splits (at + 3) rest items →
-    Splits at (32 ∷ 45 ∷ 32 ∷ rest) (at_place (at + 1) Minus ∷ items)
-minus_piece at rest items h =
-    blank_piece at (45 ∷ 32 ∷ rest) (at_place (at + 1) Minus ∷ items)
-    (sign_piece 45 Minus (at + 1) (32 ∷ rest) items refl refl (λ e. refl)
-    (blank_piece ((at + 1) + 1) rest items (place_at (at + 3) (((at + 1) + 1) + 1) rest items (omega arith) h)))
+pub op_piece : (op : Operator) (at : ℕ) (rest : List ℕ) (items : List Placed) → Splits (at + length (op_text op)) rest items →
+    Splits at (op_text op ++ rest) (at_place (at + 1) (Sign op) ∷ items)
+op_piece =
+    each_op (λ op. (at : ℕ) (rest : List ℕ) (items : List Placed) → Splits (at + length (op_text op)) rest items →
+    Splits at (op_text op ++ rest) (at_place (at + 1) (Sign op) ∷ items))
+    (λ at rest items h. spaced_piece 43 _ at rest items refl refl h)
+    (λ at rest items h. spaced_piece 45 _ at rest items refl refl h) (λ at rest items h. spaced_piece 42 _ at rest items refl refl h)
 
-pub times_piece : (at : ℕ) (rest : List ℕ) (items : List Placed) → Splits (at + 3) rest items →
-    Splits at (32 ∷ 42 ∷ 32 ∷ rest) (at_place (at + 1) Times ∷ items)
-times_piece at rest items h =
-    blank_piece at (42 ∷ 32 ∷ rest) (at_place (at + 1) Times ∷ items)
-    (sign_piece 42 Times (at + 1) (32 ∷ rest) items refl refl (λ e. let z : ⊥ = omega (arith, e) in absurd z)
-    (blank_piece ((at + 1) + 1) rest items (place_at (at + 3) (((at + 1) + 1) + 1) rest items (omega arith) h)))
+pub op_clear : (op : Operator) (rest : List ℕ) → Clear (op_text op ++ rest)
+op_clear = each_op (λ op. (rest : List ℕ) → Clear (op_text op ++ rest)) (λ rest. space (43 ∷ 32 ∷ rest))
+    (λ rest. space (45 ∷ 32 ∷ rest)) (λ rest. space (42 ∷ 32 ∷ rest))
 
 -- the arrow between blanks, which is one sign of two characters
 pub arrow_piece : (at : ℕ) (rest : List ℕ) (items : List Placed) → Splits (at + 4) rest items →
@@ -106,11 +108,11 @@ word_splits the_pred at rest items h =
     keyword_piece 112 (114 ∷ 101 ∷ 100 ∷ []) (Before the_pred) 4 at (32 ∷
     rest) items refl refl refl (space rest) (blank_piece (at + 4) rest items
     (place_at (at + 5) ((at + 4) + 1) rest items (omega arith) h))
-word_splits the_fst at rest items h =
-    keyword_piece 102 (115 ∷ 116 ∷ []) (Before the_fst) 3 at (32 ∷ rest) items refl refl refl (space rest)
+word_splits (the_part Left) at rest items h =
+    keyword_piece 102 (115 ∷ 116 ∷ []) (Before (the_part Left)) 3 at (32 ∷ rest) items refl refl refl (space rest)
     (blank_piece (at + 3) rest items (place_at (at + 4) ((at + 3) + 1) rest items (omega arith) h))
-word_splits the_snd at rest items h =
-    keyword_piece 115 (110 ∷ 100 ∷ []) (Before the_snd) 3 at (32 ∷ rest) items refl refl refl (space rest)
+word_splits (the_part Right) at rest items h =
+    keyword_piece 115 (110 ∷ 100 ∷ []) (Before (the_part Right)) 3 at (32 ∷ rest) items refl refl refl (space rest)
     (blank_piece (at + 3) rest items (place_at (at + 4) ((at + 3) + 1) rest items (omega arith) h))
 
 -- the word of a binder and the blank behind it
@@ -149,7 +151,7 @@ else_piece at rest items h =
     (blank_piece ((at + 1) + 4) rest items (place_at (at + 6) (((at + 1) + 4) + 1) rest items (omega arith) h)))
 
 -- `nat`, which no blank follows
-nat_piece : (at : ℕ) (rest : List ℕ) (items : List Placed) → Clear rest → Splits (at + 3) rest items →
+pub nat_piece : (at : ℕ) (rest : List ℕ) (items : List Placed) → Clear rest → Splits (at + 3) rest items →
     Splits at (110 ∷ 97 ∷ 116 ∷ rest) (at_place at Nat ∷ items)
 unfolding word_of
 nat_piece at rest items clear h = keyword_piece 110 (97 ∷ 116 ∷ []) Nat 3 at rest items refl refl refl clear h
@@ -282,14 +284,14 @@ ty_forms (product a b) =
     record {
       phrase = times_type p.phrase (mid + 1) q.phrase;
       same = λ k. product (p.same k) (q.same k);
-      shallow = λ o s. each_append IsShallow (tatom_text o p.phrase) (marked (mid + 1) Times o 0 ∷
+      shallow = λ o s. each_append IsShallow (tatom_text o p.phrase) (marked (mid + 1) star o 0 ∷
           ptype_text (suc o) q.phrase) (p.shallow o s.0) (s.1, q.shallow (suc o) s.2);
       splits = λ o rest items c h.
-          both_parts at (ty_onto (product a b) rest) (tatom_text o p.phrase) (marked (mid + 1) Times o 0 ∷
+          both_parts at (ty_onto (product a b) rest) (tatom_text o p.phrase) (marked (mid + 1) star o 0 ∷
           ptype_text (suc o) q.phrase) items
-          (p.splits o (32 ∷ 42 ∷ 32 ∷ right_onto rest) (at_place (mid + 1) Times ∷
+          (p.splits o (32 ∷ 42 ∷ 32 ∷ right_onto rest) (at_place (mid + 1) star ∷
           (map placed (ptype_text (suc o) q.phrase) ++ items)) (space (42 ∷ 32 ∷ right_onto rest))
-          (times_piece mid (right_onto rest) (map placed (ptype_text (suc o) q.phrase) ++ items)
+          (spaced_piece 42 star mid (right_onto rest) (map placed (ptype_text (suc o) q.phrase) ++ items) refl refl
           (q.splits (suc o) rest items c
           (place_at (at + length (left ++ codes " * " ++ right)) ((mid + 3) + length right) rest items
           (omega (arith, length-append (left ++ codes " * ") right, length-append left (codes " * "))) h))));

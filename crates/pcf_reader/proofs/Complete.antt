@@ -1,12 +1,12 @@
 -- What has been read can be completed to a program.
 use Rattle.std.proofs.Common.{◌≡◌, suc, ◌+◌, max, [], ◌∷◌, ◌++◌, sym, ap, ◌∙◌, subst, append_assoc}
-use Rattle.pcf_reader.specs.Tokens.{Open, Close, Colon, Dot, Comma, Plus, Minus, Times, Arrow, Ifz, Then, Else, Bind, Before, Name, End}
+use Rattle.pcf_reader.specs.Tokens.{Open, Close, Colon, Dot, Comma, Sign, Arrow, Ifz, Then, Else, Bind, Before, Name, End, star}
 use Rattle.pcf_reader.specs.Grammar.{Type_, only_ptype, arrow_type, PType, only_tatom, times_type, nat_type, paren_type, Expr, binding}
-use Rattle.pcf_reader.specs.Grammar.{choice, only_sum, only_product, plus, minus, Product, only_app, times, App, only_atom, applied, Atom}
+use Rattle.pcf_reader.specs.Grammar.{choice, only_sum, only_product, summed, Product, only_app, multiplied, App, only_atom, applied, Atom}
 use Rattle.pcf_reader.specs.Grammar.{numeral, parens, pairing, prefixed, Part, sum_part, product_part, Written, plain, marked, type_text}
 use Rattle.pcf_reader.specs.Grammar.{ptype_text, tatom_text, expr_text, sum_text, product_text, app_text, atom_text, Program, program_text}
 use Rattle.pcf_reader.specs.Machine.{ExprK, whole, in_parens, in_second, in_body, in_test, in_then, in_else, ProductK, first_product}
-use Rattle.pcf_reader.specs.Machine.{right_of_plus, right_of_minus, AppK, first_app, right_of_times, AtomK, first_atom, argument, under}
+use Rattle.pcf_reader.specs.Machine.{right_of_sum, AppK, first_app, right_of_product, AtomK, first_atom, argument, under}
 use Rattle.pcf_reader.specs.Machine.{TypeK, of_binder, right_of_arrow, in_type_parens, PTypeK, first_ptype, right_of_cross, expr_open}
 use Rattle.pcf_reader.specs.Machine.{product_open, app_open, atom_open, type_open, ptype_open, left_of, extra_of, State, want_expr}
 use Rattle.pcf_reader.specs.Machine.{want_atom, after_atom, want_name, want_colon, want_tatom, after_tatom}
@@ -98,21 +98,17 @@ mutual
   pub complete_product : (k : ProductK) (ws : Texts) → AroundProduct k ws → (m : Product) →
       Completes (ws ++ product_text (product_open k) m)
   complete_product (first_product k) ws h m = complete_expr k ws h (only_sum (only_product m))
-  complete_product (right_of_plus s k) ws h m =
-      let (vs, q, o, around, is, text) = h in
-      completes_over _ _ (grouped ws vs (sum_text (expr_open k) q) (marked o Plus (sum_part q).height 1) (product_text (expr_open k) m)
-      text) (complete_expr k vs around (only_sum (plus q o m)))
-  complete_product (right_of_minus s k) ws h m =
-      let (vs, q, o, around, is, text) = h in
-      completes_over _ _ (grouped ws vs (sum_text (expr_open k) q) (marked o Minus (sum_part q).height 1) (product_text (expr_open k) m)
-      text) (complete_expr k vs around (only_sum (minus q o m)))
+  complete_product (right_of_sum s op k) ws h m =
+      let (vs, q, o, is_op, around, is, text) = h in
+      completes_over _ _ (grouped ws vs (sum_text (expr_open k) q) (marked o (Sign op) (sum_part q).height 1)
+      (product_text (expr_open k) m) text) (complete_expr k vs around (only_sum (summed q o op is_op m)))
 
   pub complete_app : (k : AppK) (ws : Texts) → AroundApp k ws → (f : App) → Completes (ws ++ app_text (app_open k) f)
   complete_app (first_app k) ws h f = complete_product k ws h (only_app f)
-  complete_app (right_of_times m k) ws h f =
-      let (vs, q, o, around, is, text) = h in
-      completes_over _ _ (grouped ws vs (product_text (product_open k) q) (marked o Times (product_part q).height 1)
-      (app_text (product_open k) f) text) (complete_product k vs around (times q o f))
+  complete_app (right_of_product m op k) ws h f =
+      let (vs, q, o, is_op, around, is, text) = h in
+      completes_over _ _ (grouped ws vs (product_text (product_open k) q) (marked o (Sign op) (product_part q).height 1)
+      (app_text (product_open k) f) text) (complete_product k vs around (multiplied q o op is_op f))
 
   pub complete_atom : (k : AtomK) (ws : Texts) → AroundAtom k ws → (a : Atom) →
       Completes (ws ++ atom_text (atom_open k) (left_of k) (extra_of k) a)
@@ -153,7 +149,7 @@ mutual
   complete_ptype (first_ptype k) ws h p = complete_type k ws h (only_ptype p)
   complete_ptype (right_of_cross a k) ws h p =
       let (vs, q, o, around, is, text) = h in
-      completes_over _ _ (grouped ws vs (tatom_text (ptype_open k) q) (marked o Times (ptype_open k) 0) (ptype_text (suc (ptype_open k)) p)
+      completes_over _ _ (grouped ws vs (tatom_text (ptype_open k) q) (marked o star (ptype_open k) 0) (ptype_text (suc (ptype_open k)) p)
       text) (complete_ptype k vs around (times_type q o p))
 
 zero_type : Type_

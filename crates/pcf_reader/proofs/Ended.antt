@@ -1,13 +1,12 @@
 -- The end of a text, or what is no token, stands last and alone.
 use Rattle.std.proofs.Common.{◌≡◌, ◌⊎◌, ℕ, ◌+◌, List, [], ◌∷◌, ◌++◌, map, Some, Ok, Err, refl, sym, ap}
 use Rattle.std.proofs.Common.{◌∙◌, subst, inl, inr}
-use Rattle.pcf_values.specs.declared.operator.Operator.TheVariants.{Plus, Minus, Times}
 use Rattle.pcf_values.specs.Terms.{TyTree, arrow as arrow_ty, product}
 use Rattle.pcf_values.specs.Named.{NamedTree, bind_at}
 use Rattle.pcf_reader.specs.Tokens.{Token, End, Junk, Placed}
 use Rattle.pcf_reader.specs.Grammar.{Part, higher, binary, choice_part, placed, expr_text, plain}
 use Rattle.pcf_reader.specs.Machine.{ExprK, whole, in_parens, in_second, in_body, in_test, in_then, in_else, ProductK, first_product}
-use Rattle.pcf_reader.specs.Machine.{right_of_plus, right_of_minus, AppK, first_app, right_of_times, PTypeK, first_ptype, right_of_cross}
+use Rattle.pcf_reader.specs.Machine.{right_of_sum, AppK, first_app, right_of_product, PTypeK, first_ptype, right_of_cross}
 use Rattle.pcf_reader.specs.Machine.{TypeK, of_binder, right_of_arrow, in_type_parens, State, want_expr, want_atom, after_atom, want_name}
 use Rattle.pcf_reader.specs.Machine.{want_colon, want_tatom, after_tatom, Step, refuse, go, finish, step, after_expr, end_product, end_app}
 use Rattle.pcf_reader.specs.Machine.{end_type, end_ptype}
@@ -33,11 +32,11 @@ cons_ended x (y ∷ ys) n h = (n, h)
 -- no word is the end, and no sign
 pub word_not_end : (cs : List ℕ) → word_of cs ≡ End → ⊥
 word_not_end cs = word_token (λ x. x ≡ End → ⊥) cs (λ e. cc) (λ e. cc) (λ e. cc) (λ e. cc) (λ e. cc) (λ e. cc) (λ e. cc)
-    (λ e. cc) (λ e. cc) (λ e. cc) (λ e. cc)
+    (λ s e. cc) (λ e. cc) (λ e. cc)
 
 pub sign_not_end : (c : ℕ) (x : Token) → sign_of c ≡ Some x → x ≡ End → ⊥
 sign_not_end c x h =
-    sign_token (λ x. x ≡ End → ⊥) c x (λ e. cc) (λ e. cc) (λ e. cc) (λ e. cc) (λ e. cc) (λ e. cc) (λ e. cc) (λ e. cc) h
+    sign_token (λ x. x ≡ End → ⊥) c x (λ e. cc) (λ e. cc) (λ e. cc) (λ e. cc) (λ e. cc) (λ o e. cc) h
 
 -- what characters spell is not the end
 spells_not_end : (cs : List ℕ) (x : Token) → Spells cs x → x ≡ End → ⊥
@@ -92,12 +91,11 @@ end_expr (in_else o c p k) e at = end_expr k (choice_part o c p e) at
 
 ends_product : (k : ProductK) (m : Part) (at : ℕ) → IsLast (end_product k m at End)
 ends_product (first_product k) m at = end_expr k m at
-ends_product (right_of_plus s k) m at = end_expr k (binary Plus s m) at
-ends_product (right_of_minus s k) m at = end_expr k (binary Minus s m) at
+ends_product (right_of_sum s op k) m at = end_expr k (binary op s m) at
 
 ends_app : (k : AppK) (f : Part) (at : ℕ) → IsLast (end_app k f at End)
 ends_app (first_app k) f at = ends_product k f at
-ends_app (right_of_times m k) f at = ends_product k (binary Times m f) at
+ends_app (right_of_product m op k) f at = ends_product k (binary op m f) at
 
 -- and around a type
 ends_type : (k : TypeK) (t : TyTree) (at : ℕ) → IsLast (end_type k t at End)

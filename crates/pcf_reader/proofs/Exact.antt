@@ -1,17 +1,18 @@
 -- What a phrase writes leads from where it is wanted to where it is got.
-use Rattle.std.proofs.Common.{◌≡◌, ℕ, suc, IsTrue, [], ◌∷◌, ◌++◌, refl, ap, ◌∙◌, if◌then◌else◌}
+use Rattle.std.proofs.Common.{◌≡◌, ℕ, suc, Bool, true, false, IsTrue, [], ◌∷◌, ◌++◌, refl, ap, ◌∙◌, if◌then◌else◌}
+use Rattle.std.specs.Prelude.{not}
 use Rattle.pcf_values.specs.Terms.{TyTree, nat}
-use Rattle.pcf_reader.specs.Tokens.{Token, Open, Close, Dot, Comma, Plus, Minus, Times, Arrow, Then, Else, Before, Number, Name, End}
+use Rattle.pcf_reader.specs.Tokens.{Token, Open, Close, Dot, Comma, Sign, Arrow, Then, Else, Before, Number, Name, End, star, is_star}
 use Rattle.pcf_reader.specs.Grammar.{Type_, only_ptype, arrow_type, PType, only_tatom, times_type, TAtom, nat_type, paren_type, Expr}
-use Rattle.pcf_reader.specs.Grammar.{binding, choice, only_sum, Sum, only_product, plus, minus, Product, only_app, times, App, only_atom}
+use Rattle.pcf_reader.specs.Grammar.{binding, choice, only_sum, Sum, only_product, summed, Product, only_app, multiplied, App, only_atom}
 use Rattle.pcf_reader.specs.Grammar.{applied, Atom, numeral, variable, parens, pairing, prefixed, type_ty, ptype_ty, tatom_ty, Part}
 use Rattle.pcf_reader.specs.Grammar.{app_part, expr_part, sum_part, product_part, app_part_of, atom_part, plain, marked, type_text}
 use Rattle.pcf_reader.specs.Grammar.{ptype_text, tatom_text, expr_text, sum_text, product_text, app_text, atom_text, Program}
 use Rattle.pcf_reader.specs.Machine.{ExprK, whole, in_parens, in_second, in_body, in_test, in_then, in_else, ProductK, first_product}
-use Rattle.pcf_reader.specs.Machine.{right_of_plus, right_of_minus, AppK, first_app, right_of_times, AtomK, first_atom, argument, under}
+use Rattle.pcf_reader.specs.Machine.{right_of_sum, AppK, first_app, right_of_product, AtomK, first_atom, argument, under}
 use Rattle.pcf_reader.specs.Machine.{TypeK, of_binder, right_of_arrow, in_type_parens, PTypeK, first_ptype, right_of_cross, expr_open}
 use Rattle.pcf_reader.specs.Machine.{product_open, app_open, atom_open, type_open, ptype_open, left_of, extra_of, State, want_expr}
-use Rattle.pcf_reader.specs.Machine.{want_atom, after_atom, want_name, want_colon, want_tatom, after_tatom, finish, starts_atom, got_atom}
+use Rattle.pcf_reader.specs.Machine.{want_atom, after_atom, want_name, want_colon, want_tatom, after_tatom, go, finish, starts_atom, got_atom}
 use Rattle.pcf_reader.specs.Machine.{begin_atom, after_expr, after_sum, end_product, after_product, end_app, end_type, after_ptype}
 use Rattle.pcf_reader.specs.Machine.{end_ptype, after_type_atom, step}
 use Rattle.pcf_reader.proofs.Ends.{ends_app, ends_product, ends_sum, ends_tatom, ends_ptype}
@@ -40,36 +41,39 @@ app_ends k f at _ h = refl
 
 -- what ends a longer phrase ends a shorter one
 pub product_app : (x : Token) → IsTrue (ends_product x) → IsTrue (ends_app x)
-product_app Times h = refl
+product_app (Sign op) h = refl
 product_app _ h = h
 
 pub sum_product : (x : Token) → IsTrue (ends_sum x) → IsTrue (ends_product x)
-sum_product Plus h = refl
-sum_product Minus h = refl
+sum_product (Sign op) h = cc
 sum_product _ h = h
 
 pub product_ends : (k : ProductK) (m : Part) (at : ℕ) (x : Token) → IsTrue (ends_product x) →
     after_product k m at x ≡ end_product k m at x
-product_ends k m at Times h = cc
+product_ends k m at (Sign op) h =
+    ap (λ b. if b then end_product k m at (Sign op) else go m.height 1 (want_atom (first_atom (right_of_product m op k)))) h
 product_ends k m at _ h = refl
 
 pub sum_ends : (k : ExprK) (s : Part) (at : ℕ) (x : Token) → IsTrue (ends_sum x) → after_sum k s at x ≡ after_expr k s at x
-sum_ends k s at Plus h = cc
-sum_ends k s at Minus h = cc
+sum_ends k s at (Sign op) h = cc
 sum_ends k s at _ h = refl
+
+not_true : (b : Bool) → IsTrue (not b) → b ≡ false
+not_true true h = cc
+not_true false h = refl
 
 pub tatom_ends : (k : PTypeK) (t : TyTree) (at : ℕ) (x : Token) → IsTrue (ends_tatom x) →
     after_type_atom k t at x ≡ end_ptype k t at x
-tatom_ends k t at Times h = cc
-tatom_ends k t at _ h = refl
+tatom_ends k t at x h =
+    ap (λ b. if b then go (ptype_open k) 0 (want_tatom (right_of_cross t k)) else end_ptype k t at x) (not_true (is_star x) h)
 
 pub ptype_ends : (k : TypeK) (t : TyTree) (at : ℕ) (x : Token) → IsTrue (ends_ptype x) → after_ptype k t at x ≡ end_type k t at x
 ptype_ends k t at Arrow h = cc
 ptype_ends k t at _ h = refl
 
 pub ptype_tatom : (x : Token) → IsTrue (ends_ptype x) → IsTrue (ends_tatom x)
-ptype_tatom Times h = h
-ptype_tatom _ h = refl
+ptype_tatom Arrow h = refl
+ptype_tatom _ h = h
 
 mutual
   pub type_exact : (t : Type_) (k : TypeK) → Ready (want_tatom (first_ptype k)) (type_text (type_open k) t) (end_type k (type_ty t))
@@ -95,7 +99,7 @@ mutual
       let n : PTypeK = right_of_cross (tatom_ty a) k in
       let (y, after, ends) = ptype_exact p n in (
         y,
-        chain (tatom_text (ptype_open k) a) (marked at Times (ptype_open k) 0 ∷
+        chain (tatom_text (ptype_open k) a) (marked at star (ptype_open k) 0 ∷
             ptype_text (suc (ptype_open k)) p) (want_tatom k) (after_tatom k (tatom_ty a)) y (tatom_exact a k)
             (want_tatom n, refl, after),
         ends,
@@ -168,24 +172,18 @@ mutual
   sum_exact (only_product p) z k h =
       let (t, follows, goes) = product_exact p z (first_product k) h in
       (t, follows, λ at x h. goes at x (product_app x h) ∙ product_ends (first_product k) (product_part p) at x h)
-  sum_exact (plus s at p) z k h =
+  sum_exact (summed s at op is p) z k h =
       let (t, follows, goes) = sum_exact s z k h in
-      let n : ProductK = right_of_plus (sum_part s) k in
+      let n : ProductK = right_of_sum (sum_part s) op k in
       let w : State = want_atom (first_atom (first_app n)) in
       let (u, after, ends) = product_exact p w n (λ at x h. refl) in (
         u,
-        chain (sum_text (expr_open k) s) (marked at Plus (sum_part s).height 1 ∷ product_text (expr_open k) p) z t u follows
-            (w, goes at Plus refl, after),
-        λ at x h. ends at x (product_app x h) ∙ product_ends n (product_part p) at x h,
-      )
-  sum_exact (minus s at p) z k h =
-      let (t, follows, goes) = sum_exact s z k h in
-      let n : ProductK = right_of_minus (sum_part s) k in
-      let w : State = want_atom (first_atom (first_app n)) in
-      let (u, after, ends) = product_exact p w n (λ at x h. refl) in (
-        u,
-        chain (sum_text (expr_open k) s) (marked at Minus (sum_part s).height 1 ∷ product_text (expr_open k) p) z t u follows
-            (w, goes at Minus refl, after),
+        chain (sum_text (expr_open k) s) (marked at (Sign op) (sum_part s).height 1 ∷ product_text (expr_open k) p) z t u follows (
+          w,
+          goes at (Sign op) is ∙
+              ap (λ b. if b then go (sum_part s).height 1 w else after_expr k (sum_part s) at (Sign op)) is,
+          after,
+        ),
         λ at x h. ends at x (product_app x h) ∙ product_ends n (product_part p) at x h,
       )
 
@@ -196,14 +194,18 @@ mutual
     app_exact f z (first_app k) h,
     app_ends (first_app k) (app_part_of f),
   )
-  product_exact (times m at f) z k h =
+  product_exact (multiplied m at op is f) z k h =
       let (t, follows, goes) = product_exact m z k h in
-      let n : AppK = right_of_times (product_part m) k in
+      let n : AppK = right_of_product (product_part m) op k in
       let w : State = want_atom (first_atom n) in (
         after_atom n (app_part_of f),
-        chain (product_text (product_open k) m) (marked at Times (product_part m).height 1 ∷
-            app_text (product_open k) f) z t (after_atom n (app_part_of f)) follows
-            (w, goes at Times refl, app_exact f w n (λ at x h. refl)),
+        chain (product_text (product_open k) m) (marked at (Sign op) (product_part m).height 1 ∷
+            app_text (product_open k) f) z t (after_atom n (app_part_of f)) follows (
+              w,
+              goes at (Sign op) refl ∙
+                  ap (λ b. if b then end_product k (product_part m) at (Sign op) else go (product_part m).height 1 w) is,
+              app_exact f w n (λ at x h. refl),
+            ),
         app_ends n (app_part_of f),
       )
 

@@ -4,8 +4,8 @@ use Rattle.std.specs.Prelude.{encode_utf8_all}
 use Rattle.std.specs.Str.{all_scalars}
 use Rattle.std.proofs.lemmas.Bool.{and_parts, and_from}
 use Rattle.pcf_reader.proofs.Lists.{WritesNarrow, each_left, each_right}
-use Rattle.pcf_reader.specs.Tokens.{Token, Close, Colon, Dot, Comma, Plus, Minus, Times, Then, Else, Name, Placed}
-use Rattle.pcf_reader.specs.Grammar.{Expr, binding, choice, only_sum, Sum, only_product, plus, minus, Product, only_app, times, App}
+use Rattle.pcf_reader.specs.Tokens.{Token, Close, Colon, Dot, Comma, Sign, Then, Else, Name, Placed}
+use Rattle.pcf_reader.specs.Grammar.{Expr, binding, choice, only_sum, Sum, only_product, summed, Product, only_app, multiplied, App}
 use Rattle.pcf_reader.specs.Grammar.{only_atom, applied, Atom, numeral, variable, parens, pairing, prefixed, expr_part, sum_part}
 use Rattle.pcf_reader.specs.Grammar.{product_part, app_part_of, atom_part, Written, placed, plain, marked, type_text, expr_text, sum_text}
 use Rattle.pcf_reader.specs.Grammar.{product_text, app_text, atom_text}
@@ -38,11 +38,11 @@ scalars_right (c ∷ u) v h = scalars_right u v (and_parts _ (all_scalars (u ++ 
 word_fine : (w : List ℕ) → (word_of w ≡ Name w → IsName w) → IsFineToken (word_of w)
 word_fine w h =
     word_token (λ r. word_of w ≡ r → IsFineToken r) w (λ _. tt) (λ _. tt) (λ _. tt) (λ _. tt) (λ _. tt) (λ _. tt) (λ _. tt)
-    (λ _. tt) (λ _. tt) (λ _. tt) (λ e. h e) refl
+    (λ _ _. tt) (λ _. tt) (λ e. h e) refl
 
 -- a sign is no name
 sign_fine : (c : ℕ) (x : Token) → sign_of c ≡ Some x → IsFineToken x
-sign_fine c x h = sign_token IsFineToken c x tt tt tt tt tt tt tt tt h
+sign_fine c x h = sign_token IsFineToken c x tt tt tt tt tt (λ _. tt) h
 
 -- what characters spell
 spells_fine : (cs : List ℕ) (x : Token) → all_scalars cs ≡ true → Spells cs x → IsFineToken x
@@ -101,19 +101,15 @@ mutual
 
   pub fine_sum : (o : ℕ) (s : Sum) → Good (sum_text o s) → Fine (sum_part s).tree
   fine_sum o (only_product p) h = fine_product o p h
-  fine_sum o (plus s at p) h =
-      let more : List Written = marked at Plus (sum_part s).height 1 ∷ product_text o p in
-      let behind : Good more = each_right IsGood (sum_text o s) more h in
-      (fine_sum o s (each_left IsGood (sum_text o s) more h), fine_product o p behind.1)
-  fine_sum o (minus s at p) h =
-      let more : List Written = marked at Minus (sum_part s).height 1 ∷ product_text o p in
+  fine_sum o (summed s at op _ p) h =
+      let more : List Written = marked at (Sign op) (sum_part s).height 1 ∷ product_text o p in
       let behind : Good more = each_right IsGood (sum_text o s) more h in
       (fine_sum o s (each_left IsGood (sum_text o s) more h), fine_product o p behind.1)
 
   pub fine_product : (o : ℕ) (p : Product) → Good (product_text o p) → Fine (product_part p).tree
   fine_product o (only_app f) h = fine_app o f h
-  fine_product o (times m at f) h =
-      let more : List Written = marked at Times (product_part m).height 1 ∷ app_text o f in
+  fine_product o (multiplied m at op _ f) h =
+      let more : List Written = marked at (Sign op) (product_part m).height 1 ∷ app_text o f in
       let behind : Good more = each_right IsGood (product_text o m) more h in
       (fine_product o m (each_left IsGood (product_text o m) more h), fine_app o f behind.1)
 

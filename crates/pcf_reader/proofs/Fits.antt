@@ -1,14 +1,15 @@
 -- What is printed is no deeper and no higher than what was read.
 use Rattle.std.proofs.Common.{◌≡◌, ℕ, suc, ◌<◌, ◌≤◌, Bool, true, false, List, [], ◌∷◌, ◌++◌, nat_le}
-use Rattle.std.proofs.Common.{if◌then◌else◌, refl, arith}
+use Rattle.std.proofs.Common.{if◌then◌else◌, refl, sym, subst, arith}
 use Rattle.std.proofs.lemmas.Bool.{leb-true, le-leb}
 use Rattle.pcf_values.specs.Most.{most_open}
+use Rattle.pcf_values.specs.declared.operator.Operator.{Operator}
 use Rattle.pcf_values.specs.Terms.{TyTree, nat, arrow, product}
 use Rattle.pcf_values.specs.Named.{NamedTree, number_at, name_at, word_at, binary_at, pair_at, ifz_at, bind_at, apply_at}
-use Rattle.pcf_reader.specs.Tokens.{Close, Dot, Comma, Plus, Minus, Times, Arrow, Then, Else}
+use Rattle.pcf_reader.specs.Tokens.{Close, Dot, Comma, Sign, Arrow, Then, Else, star}
 use Rattle.pcf_reader.specs.Grammar.{Type_, only_ptype, arrow_type, PType, only_tatom, times_type, TAtom, nat_type, paren_type, Expr}
-use Rattle.pcf_reader.specs.Grammar.{binding, choice, only_sum, Sum, only_product, plus, minus, Product, only_app, times, App, only_atom}
-use Rattle.pcf_reader.specs.Grammar.{applied, Atom, numeral, variable, parens, pairing, prefixed, type_ty, ptype_ty, tatom_ty, expr_part}
+use Rattle.pcf_reader.specs.Grammar.{binding, choice, only_sum, Sum, only_product, summed, Product, only_app, multiplied, App, only_atom}
+use Rattle.pcf_reader.specs.Grammar.{applied, Atom, numeral, variable, parens, pairing, prefixed, type_ty, ptype_ty, tatom_ty, Part, binary, expr_part}
 use Rattle.pcf_reader.specs.Grammar.{sum_part, product_part, app_part_of, atom_part, Written, plain, marked, type_text, ptype_text}
 use Rattle.pcf_reader.specs.Grammar.{tatom_text, expr_text, sum_text, product_text, app_text, atom_text}
 use Rattle.pcf_reader.specs.Printed.{ty_level, op_level, right_level, level}
@@ -16,6 +17,7 @@ use Rattle.pcf_reader.specs.Text.{IsShallow, Each}
 use Rattle.pcf_reader.proofs.Lists.{each_left, each_right}
 use Rattle.pcf_reader.proofs.Shown.{pick, fit_height, fit_shallow, ty_shallow, own_height, own_shallow}
 use Rattle.pcf_reader.proofs.Bounds.{first_left}
+use Rattle.pcf_reader.proofs.Levels.{sum_level, sum_right, product_level, product_right}
 
 -- what is shallow below more open phrases is shallow below fewer
 fewer_by : (b : Bool) (S : ℕ → Type 0) (o : ℕ) → ((p : ℕ) → S (suc p) → S p) →
@@ -102,6 +104,23 @@ from_own : (b : Bool) (t : NamedTree) (o high : ℕ) → o < most_open → Owns 
 from_own true t o high lt h = (own_fewer t o h.0, omega (arith, h.1))
 from_own false t o high lt h = ((lt, h.0), omega (arith, h.1))
 
+-- what fits by itself fits a level that is no lower than its own
+owned : (m : ℕ) (t : NamedTree) (o high : ℕ) → level t ≤ m → Owns t o high → Fits m t o high
+owned m t o high le h =
+    let e : nat_le (level t) m ≡ true = le-leb (level t) m le in (
+      subst (λ b. pick b (own_shallow t o) ((o < most_open) × own_shallow t (suc o))) (sym e) h.0,
+      subst (λ b. (if b then own_height t else suc (own_height t)) ≤ high) (sym e) h.1,
+    )
+
+-- an operator between operands that fit its levels, the left one within the limit, fits its own level
+operated_fits : (m l : ℕ) (op : Operator) (a b : Part) (o : ℕ) → op_level op ≡ m → right_level op ≡ l → Fits m a.tree o a.height →
+    a.height < most_open → Fits l b.tree o b.height → Fits m (binary op a b).tree o (binary op a b).height
+operated_fits m l op a b o at_m at_l first low second =
+    let left : Fits (op_level op) a.tree o a.height = subst (λ n. Fits n a.tree o a.height) (sym at_m) first in
+    let right : Fits (right_level op) b.tree o b.height = subst (λ n. Fits n b.tree o b.height) (sym at_l) second in
+    owned m (binary op a b).tree o (binary op a b).height (omega (arith, at_m))
+    ((left.0, omega (arith, left.1, low), right.0), omega (arith, left.1, right.1))
+
 -- the same of types
 ty_loosened : (m n : ℕ) (t : TyTree) (o : ℕ) → m ≤ n → fit_shallow m (ty_level t) (λ p. ty_shallow t p) o →
     fit_shallow n (ty_level t) (λ p. ty_shallow t p) o
@@ -133,9 +152,9 @@ mutual
       fit_shallow 1 (ty_level (ptype_ty p)) (λ i. ty_shallow (ptype_ty p) i) o
   ptype_fits o (only_tatom a) h = ty_loosened 0 1 (tatom_ty a) o (omega arith) (tatom_fits o a h)
   ptype_fits o (times_type a at p) h =
-      let more : Each IsShallow (marked at Times o 0 ∷ ptype_text (suc o) p) =
-      each_right IsShallow (tatom_text o a) (marked at Times o 0 ∷ ptype_text (suc o) p) h in (
-        tatom_fits o a (each_left IsShallow (tatom_text o a) (marked at Times o 0 ∷ ptype_text (suc o) p) h),
+      let more : Each IsShallow (marked at star o 0 ∷ ptype_text (suc o) p) =
+      each_right IsShallow (tatom_text o a) (marked at star o 0 ∷ ptype_text (suc o) p) h in (
+        tatom_fits o a (each_left IsShallow (tatom_text o a) (marked at star o 0 ∷ ptype_text (suc o) p) h),
         more.0,
         ptype_fits (suc o) p more.1,
       )
@@ -173,31 +192,22 @@ mutual
 
   pub sum_fits : (o : ℕ) (s : Sum) → Each IsShallow (sum_text o s) → Fits 3 (sum_part s).tree o (sum_part s).height
   sum_fits o (only_product p) h = loosened 2 3 (product_part p).tree o (product_part p).height (omega arith) (product_fits o p h)
-  sum_fits o (plus s at p) h =
-      let more : Each IsShallow (marked at Plus (sum_part s).height 1 ∷ product_text o p) =
-      each_right IsShallow (sum_text o s) (marked at Plus (sum_part s).height 1 ∷ product_text o p) h in
+  sum_fits o (summed s at op is p) h =
+      let more : Each IsShallow (marked at (Sign op) (sum_part s).height 1 ∷ product_text o p) =
+      each_right IsShallow (sum_text o s) (marked at (Sign op) (sum_part s).height 1 ∷ product_text o p) h in
       let a : Fits 3 (sum_part s).tree o (sum_part s).height =
-      sum_fits o s (each_left IsShallow (sum_text o s) (marked at Plus (sum_part s).height 1 ∷ product_text o p) h) in
-      let b : Fits 2 (product_part p).tree o (product_part p).height = product_fits o p more.1 in
-      ((a.0, omega (arith, a.1, more.0), b.0), omega (arith, a.1, b.1))
-  sum_fits o (minus s at p) h =
-      let more : Each IsShallow (marked at Minus (sum_part s).height 1 ∷ product_text o p) =
-      each_right IsShallow (sum_text o s) (marked at Minus (sum_part s).height 1 ∷ product_text o p) h in
-      let a : Fits 3 (sum_part s).tree o (sum_part s).height =
-      sum_fits o s (each_left IsShallow (sum_text o s) (marked at Minus (sum_part s).height 1 ∷ product_text o p) h) in
-      let b : Fits 2 (product_part p).tree o (product_part p).height = product_fits o p more.1 in
-      ((a.0, omega (arith, a.1, more.0), b.0), omega (arith, a.1, b.1))
+      sum_fits o s (each_left IsShallow (sum_text o s) (marked at (Sign op) (sum_part s).height 1 ∷ product_text o p) h) in
+      operated_fits 3 2 op (sum_part s) (product_part p) o (sum_level op is) (sum_right op is) a more.0 (product_fits o p more.1)
 
   pub product_fits : (o : ℕ) (p : Product) → Each IsShallow (product_text o p) →
       Fits 2 (product_part p).tree o (product_part p).height
   product_fits o (only_app f) h = loosened 1 2 (app_part_of f).tree o (app_part_of f).height (omega arith) (app_fits o f h)
-  product_fits o (times m at f) h =
-      let more : Each IsShallow (marked at Times (product_part m).height 1 ∷ app_text o f) =
-      each_right IsShallow (product_text o m) (marked at Times (product_part m).height 1 ∷ app_text o f) h in
+  product_fits o (multiplied m at op is f) h =
+      let more : Each IsShallow (marked at (Sign op) (product_part m).height 1 ∷ app_text o f) =
+      each_right IsShallow (product_text o m) (marked at (Sign op) (product_part m).height 1 ∷ app_text o f) h in
       let a : Fits 2 (product_part m).tree o (product_part m).height =
-      product_fits o m (each_left IsShallow (product_text o m) (marked at Times (product_part m).height 1 ∷ app_text o f) h) in
-      let b : Fits 1 (app_part_of f).tree o (app_part_of f).height = app_fits o f more.1 in
-      ((a.0, omega (arith, a.1, more.0), b.0), omega (arith, a.1, b.1))
+      product_fits o m (each_left IsShallow (product_text o m) (marked at (Sign op) (product_part m).height 1 ∷ app_text o f) h) in
+      operated_fits 2 1 op (product_part m) (app_part_of f) o (product_level op is) (product_right op is) a more.0 (app_fits o f more.1)
 
   pub app_fits : (o : ℕ) (f : App) → Each IsShallow (app_text o f) → Fits 1 (app_part_of f).tree o (app_part_of f).height
   app_fits o (only_atom a) h = loosened 0 1 (atom_part a).tree o (atom_part a).height (omega arith) (atom_fits o 0 0 a h)

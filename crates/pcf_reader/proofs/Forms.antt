@@ -1,28 +1,28 @@
 -- Each term has a phrase for what is printed of it, on each level of the grammar.
-use Rattle.std.proofs.Common.{◌≡◌, ℕ, suc, ◌+◌, ◌<◌, ◌^◌, max, List, [], ◌∷◌, ◌++◌, map, length, refl, sym}
-use Rattle.std.proofs.Common.{ap, ◌∙◌, subst, arith, length-append}
+use Rattle.std.proofs.Common.{◌≡◌, ℕ, suc, ◌+◌, ◌<◌, ◌^◌, max, Bool, true, false, IsTrue, IsFalse, List, [], ◌∷◌, ◌++◌, map, length, refl}
+use Rattle.std.proofs.Common.{sym, ap, ◌∙◌, subst, arith, length-append}
 use Rattle.std.specs.Prelude.{codes, decimal}
 use Rattle.std.specs.Str.{chars}
 use Rattle.pcf_values.specs.Most.{most_open}
 use Rattle.pcf_values.specs.declared.operator.Operator.{Operator}
-use Rattle.pcf_values.specs.declared.operator.Operator.TheVariants.{Plus as plus_op, Minus as minus_op, Times as times_op}
 use Rattle.pcf_values.specs.Named.{NamedTree, number_at, name_at, word_at, binary_at, pair_at, ifz_at, bind_at, apply_at, Word, Binder}
 use Rattle.pcf_values.specs.Named.{the_fun, the_fix}
-use Rattle.pcf_reader.specs.Tokens.{Token, Close, Colon, Dot, Comma, Plus, Minus, Times, Then, Else, Name, Placed}
+use Rattle.pcf_reader.specs.Tokens.{Token, Close, Colon, Dot, Comma, Sign, Then, Else, Name, is_sum, Placed}
 use Rattle.pcf_reader.specs.Grammar.{Type_, only_ptype, arrow_type, PType, only_tatom, times_type, TAtom, nat_type, paren_type, Expr}
-use Rattle.pcf_reader.specs.Grammar.{binding, choice, only_sum, Sum, only_product, plus, minus, Product, only_app, times, App, only_atom}
+use Rattle.pcf_reader.specs.Grammar.{binding, choice, only_sum, Sum, only_product, summed, Product, only_app, multiplied, App, only_atom}
 use Rattle.pcf_reader.specs.Grammar.{applied, Atom, numeral, variable, parens, pairing, prefixed, Part, binary, expr_part, sum_part}
 use Rattle.pcf_reader.specs.Grammar.{product_part, app_part_of, atom_part, Written, placed, plain, marked, type_text, ptype_text}
 use Rattle.pcf_reader.specs.Grammar.{tatom_text, expr_text, sum_text, product_text, app_text, atom_text}
 use Rattle.pcf_reader.specs.Spelling.{Splits}
 use Rattle.pcf_reader.specs.Text.{IsNarrow, IsShallow, Each}
-use Rattle.pcf_reader.specs.Printed.{fitted, ty_text, word_text, binder_text, op_text, level, term_text, placeless}
+use Rattle.pcf_reader.specs.Printed.{fitted, ty_text, word_text, binder_text, op_text, op_level, right_level, level, term_text, placeless}
 use Rattle.pcf_reader.proofs.Lists.{WritesNarrow, each_append}
 use Rattle.pcf_reader.proofs.Shown.{fit_onto, fit_height, fit_shallow, ty_onto, own_onto, own_height, own_shallow, Fine}
 use Rattle.pcf_reader.proofs.Pieces.{Clear, place_at, blank_piece, number_piece, name_piece}
 use Rattle.pcf_reader.proofs.Lexed.{at_place}
+use Rattle.pcf_reader.proofs.Levels.{sum_level, sum_right, product_level, product_right}
 use Rattle.pcf_reader.proofs.Canon.{both_parts, space, closes, comma_clear, colon_clear, dot_clear, some_left, open_piece, close_piece}
-use Rattle.pcf_reader.proofs.Canon.{comma_piece, colon_piece, dot_piece, plus_piece, minus_piece, times_piece, word_splits, binder_splits}
+use Rattle.pcf_reader.proofs.Canon.{comma_piece, colon_piece, dot_piece, op_piece, op_clear, word_splits, binder_splits}
 use Rattle.pcf_reader.proofs.Canon.{ifz_piece, then_piece, else_piece, ty_forms}
 
 -- types have no numbers
@@ -296,59 +296,34 @@ apply_form i f a u v =
           (omega (arith, length-append (left_bytes ++ codes " ") right_bytes, length-append left_bytes (codes " "))) k))));
     })
 
--- An operator between phrases of two kinds: its token, and the form that makes of both operands a phrase of the left one's kind. What
--- such a phrase stands for and is written with is told once for all operators.
-record Operator (op : Operator) (X Y : Type 0) (part : X → Part) (text : ℕ → ℕ → ℕ → X → List Written) (right_part : Y →
+-- An operator between phrases of two kinds: the form that makes of both operands a phrase of the left one's kind. What such a phrase
+-- stands for and is written with is told once for sums and products.
+record Between (op : Operator) (X Y : Type 0) (part : X → Part) (text : ℕ → ℕ → ℕ → X → List Written) (right_part : Y →
     Part) (right_text : ℕ → ℕ → ℕ → Y → List Written) : Type 0 where
-  token : Token
   form : X → ℕ → Y → X
   parted : (l : X) (at : ℕ) (r : Y) → part (form l at r) ≡ binary op (part l) (right_part r)
   written : (o left extra : ℕ) (l : X) (at : ℕ) (r : Y) → text o left extra (form l at r) ≡ text o 0 0 l ++
-      marked at token (part l).height 1 ∷ right_text o 0 0 r
-  narrow : IsNarrow token
-  clear : (rest : List ℕ) → Clear (op_text op ++ rest)
-  splits : (at : ℕ) (rest : List ℕ) (items : List Placed) → Splits (at + length (op_text op)) rest items →
-      Splits at (op_text op ++ rest) (at_place (at + 1) token ∷ items)
+      marked at (Sign op) (part l).height 1 ∷ right_text o 0 0 r
 
--- the three operators
-the_plus : Operator plus_op Sum Product sum_part as_sum product_part as_product
-the_plus = record {
-  token = Plus;
-  form = plus;
+in_sums : (op : Operator) → IsTrue (is_sum op) → Between op Sum Product sum_part as_sum product_part as_product
+in_sums op is = record {
+  form = λ s at p. summed s at op is p;
   parted = λ l at r. refl;
   written = λ o left extra l at r. refl;
-  narrow = tt;
-  clear = λ rest. space (43 ∷ 32 ∷ rest);
-  splits = plus_piece;
 }
 
-the_minus : Operator minus_op Sum Product sum_part as_sum product_part as_product
-the_minus = record {
-  token = Minus;
-  form = minus;
+in_products : (op : Operator) → IsFalse (is_sum op) → Between op Product App product_part as_product app_part_of as_app
+in_products op is = record {
+  form = λ m at f. multiplied m at op is f;
   parted = λ l at r. refl;
   written = λ o left extra l at r. refl;
-  narrow = tt;
-  clear = λ rest. space (45 ∷ 32 ∷ rest);
-  splits = minus_piece;
-}
-
-the_times : Operator times_op Product App product_part as_product app_part_of as_app
-the_times = record {
-  token = Times;
-  form = times;
-  parted = λ l at r. refl;
-  written = λ o left extra l at r. refl;
-  narrow = tt;
-  clear = λ rest. space (42 ∷ 32 ∷ rest);
-  splits = times_piece;
 }
 
 -- two operands and the operator between them
 module _
     (op : Operator) (X Y : Type 0) (part : X → Part) (text : ℕ → ℕ → ℕ → X → List Written) (right_part : Y →
     Part) (right_text : ℕ → ℕ → ℕ → Y → List Written)
-    (f : Operator op X Y part text right_part right_text)
+    (f : Between op X Y part text right_part right_text)
     (a b : NamedTree) (a_bytes b_bytes : List ℕ) (a_onto b_onto : List ℕ → List ℕ) (a_height b_height : ℕ) (A B : ℕ →
     Type 0) where
   operated : (i at : ℕ) → Writes X part text a_bytes a_onto a a_height A at
@@ -359,7 +334,7 @@ module _
       let mid : ℕ = at + length a_bytes in
       let whole : X = f.form p.phrase (mid + 1) q.phrase in
       let front : ℕ → List Written = λ o. text o 0 0 p.phrase in
-      let behind : ℕ → List Written = λ o. marked (mid + 1) f.token (part p.phrase).height 1 ∷ right_text o 0 0 q.phrase in
+      let behind : ℕ → List Written = λ o. marked (mid + 1) (Sign op) (part p.phrase).height 1 ∷ right_text o 0 0 q.phrase in
       let is : part whole ≡ binary op (part p.phrase) (right_part q.phrase) = f.parted p.phrase (mid + 1) q.phrase in
       let writes : (o left extra : ℕ) → text o left extra whole ≡ front o ++ behind o =
       λ o left extra. f.written o left extra p.phrase (mid + 1) q.phrase in
@@ -372,30 +347,43 @@ module _
             subst (λ z. Each IsShallow z) (sym (writes o left extra))
             (each_append IsShallow (front o) (behind o) (p.shallow o 0 0 some_left s.0) (low, q.shallow o 0 0 some_left s.2));
         narrow = λ o left extra. subst (λ z. Each WritesNarrow z) (sym (writes o left extra))
-            (each_append WritesNarrow (front o) (behind o) (p.narrow o 0 0) (f.narrow, q.narrow o 0 0));
+            (each_append WritesNarrow (front o) (behind o) (p.narrow o 0 0) (tt, q.narrow o 0 0));
         splits = λ o left extra rest items c k.
             subst (λ z. Splits at (a_onto (op_text op ++ b_onto rest)) (map placed z ++ items)) (sym (writes o left extra))
             (both_parts at (a_onto (op_text op ++ b_onto rest)) (front o) (behind o) items
-            (p.splits o 0 0 (op_text op ++ b_onto rest) (map placed (behind o) ++ items) (f.clear (b_onto rest))
-            (f.splits mid (b_onto rest) (map placed (right_text o 0 0 q.phrase) ++ items)
+            (p.splits o 0 0 (op_text op ++ b_onto rest) (map placed (behind o) ++ items) (op_clear op (b_onto rest))
+            (op_piece op mid (b_onto rest) (map placed (right_text o 0 0 q.phrase) ++ items)
             (q.splits o 0 0 rest items c
             (place_at (at + length (a_bytes ++ op_text op ++ b_bytes)) ((mid + length (op_text op)) + length b_bytes) rest items
             (omega (arith, length-append (a_bytes ++ op_text op) b_bytes, length-append a_bytes (op_text op))) k)))));
       }
 
+-- a phrase for an operator between its operands, where its form and its right operand have these levels
+abbrev BinaryForms : ℕ → Operator → NamedTree → NamedTree → ℕ → ℕ → Type 0
+BinaryForms i op a b m l =
+    Forms m (fitted m (level a) (term_text a) ++ op_text op ++ fitted l (level b) (term_text b))
+    (λ r. fit_onto m (level a) (λ r. own_onto a r) (op_text op ++ fit_onto l (level b) (λ r. own_onto b r) r)) (binary_at i op a b)
+    (suc (max (fit_height m (level a) (own_height a)) (fit_height l (level b) (own_height b))))
+    (λ o. fit_shallow m (level a) (λ p. own_shallow a p) o × (fit_height m (level a) (own_height a) < most_open) ×
+    fit_shallow l (level b) (λ p. own_shallow b p) o)
+
 -- each operator between its operands
 binary_form : (i : ℕ) (op : Operator) (a b : NamedTree) → FormsOf a → FormsOf b → FormsOf (binary_at i op a b)
-binary_form i plus_op a b u v =
-    from_sum _ _ (binary_at i plus_op a b) _ _ (λ at. operated plus_op Sum Product sum_part as_sum product_part as_product the_plus a b _ _
-    _ _ _ _ _ _ i at (u.sum at) (v.product _))
-binary_form i minus_op a b u v =
-    from_sum _ _ (binary_at i minus_op a b) _ _
-    (λ at. operated minus_op Sum Product sum_part as_sum product_part as_product the_minus a b _ _ _ _ _ _ _ _ i at (u.sum at)
-    (v.product _))
-binary_form i times_op a b u v =
-    from_product _ _ (binary_at i times_op a b) _ _
-    (λ at. operated times_op Product App product_part as_product app_part_of as_app the_times a b _ _ _ _ _ _ _ _ i at (u.product at)
-    (v.app _))
+binary_form i op a b u v = go (is_sum op) refl
+  where
+    go : (s : Bool) → is_sum op ≡ s → BinaryForms i op a b (op_level op) (right_level op)
+    go true is =
+        subst (λ m. BinaryForms i op a b m (right_level op)) (sym (sum_level op is))
+        (subst (λ l. BinaryForms i op a b 3 l) (sym (sum_right op is))
+        (from_sum _ _ (binary_at i op a b) _ _
+        (λ at. operated op Sum Product sum_part as_sum product_part as_product (in_sums op is) a b _ _ _ _ _ _ _ _ i at (u.sum at)
+        (v.product _))))
+    go false is =
+        subst (λ m. BinaryForms i op a b m (right_level op)) (sym (product_level op is))
+        (subst (λ l. BinaryForms i op a b 2 l) (sym (product_right op is))
+        (from_product _ _ (binary_at i op a b) _ _
+        (λ at. operated op Product App product_part as_product app_part_of as_app (in_products op is) a b _ _ _ _ _ _ _ _ i at
+        (u.product at) (v.app _))))
 
 -- a pair
 pair_form : (i : ℕ) (a b : NamedTree) → FormsOf a → FormsOf b → FormsOf (pair_at i a b)

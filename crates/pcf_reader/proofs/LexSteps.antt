@@ -4,12 +4,13 @@ use Rattle.std.proofs.Common.{if◌then◌else◌, ne_eqb}
 use Rattle.std.specs.Prelude.{encode_utf8}
 use Rattle.std.specs.Char.{len_utf8}
 use Rattle.unicode_ident.specs.Ident.{is_xid_continue}
+use Rattle.pcf_values.specs.declared.operator.Operator.TheVariants.{Minus}
 use Rattle.pcf_reader.specs.Tokens.{Placed}
 use Rattle.pcf_reader.specs.Spelling.{is_blank, is_digit, starts_name, sign_of}
 use Rattle.std.specs.Prelude.{◌==◌, ◌-◌, ◌*◌, ◌^◌, ◌<◌, ◌≤◌}
 use Rattle.std.proofs.Common.{arith, inl, inr}
 use Rattle.std.proofs.lemmas.Bool.{cases_lt, lt-ltb, le-ltb}
-use Rattle.pcf_reader.specs.Tokens.{Arrow, Minus, End}
+use Rattle.pcf_reader.specs.Tokens.{Arrow, Sign, End}
 use Rattle.pcf_reader.specs.Lexing.{Mode, idle, in_comment, in_word, lex, turned, closed, opened, on_sign, after_dash, in_number, capped}
 
 -- what is left of the choices at a first character that is no blank
@@ -96,19 +97,19 @@ dash_arrow t r at start e = ap (λ z. lex z (at + 1) (after_dash start)) e ∙
     ap (λ i. record { at = start; token = Arrow } ∷ lex r i idle) (omega arith)
 
 pub dash_stop : (t r : List ℕ) (at c start : ℕ) → t ≡ c ∷ r → (c == 62) ≡ false →
-    lex t at (after_dash start) ≡ record { at = start; token = Minus } ∷ lex t at idle
+    lex t at (after_dash start) ≡ record { at = start; token = Sign Minus } ∷ lex t at idle
 unfolding lex
 dash_stop t r at c start e h =
     ap (λ z. lex z at (after_dash start)) e
     ∙ ap (λ b. if b then record { at = start; token = Arrow } ∷
     lex r (at + len_utf8 c) idle else closed (after_dash start) (opened at c (λ m. lex r (at + len_utf8 c) m))) h
-    ∙ sym (ap (λ z. record { at = start; token = Minus } ∷ lex z at idle) e)
+    ∙ sym (ap (λ z. record { at = start; token = Sign Minus } ∷ lex z at idle) e)
 
-pub dash_end : (t : List ℕ) (at start : ℕ) → t ≡ [] → lex t at (after_dash start) ≡ record { at = start; token = Minus } ∷
+pub dash_end : (t : List ℕ) (at start : ℕ) → t ≡ [] → lex t at (after_dash start) ≡ record { at = start; token = Sign Minus } ∷
     lex t at idle
 unfolding lex
 dash_end t at start e = ap (λ z. lex z at (after_dash start)) e ∙
-    sym (ap (λ z. record { at = start; token = Minus } ∷ lex z at idle) e)
+    sym (ap (λ z. record { at = start; token = Sign Minus } ∷ lex z at idle) e)
 
 -- at the first character of a token
 pub token_first : (t r : List ℕ) (at c : ℕ) → t ≡ c ∷ r → is_blank c ≡ false → (c == 35) ≡ false

@@ -6,7 +6,8 @@ use Rattle.std.specs.Prelude.{◌==◌, encode_utf8, encode_utf8_all}
 use Rattle.std.specs.Char.{len_utf8}
 use Rattle.std.proofs.lemmas.Bool.{cond_both, eqb-true}
 use Rattle.unicode_ident.specs.Ident.{is_xid_continue}
-use Rattle.pcf_reader.specs.Tokens.{Token, Minus, Arrow, Number, End, Placed}
+use Rattle.pcf_values.specs.declared.operator.Operator.TheVariants.{Minus}
+use Rattle.pcf_reader.specs.Tokens.{Token, Sign, Arrow, Number, End, Placed}
 use Rattle.pcf_reader.specs.Spelling.{is_blank, is_digit, starts_name, sign_of, word_of, value_from, AllPass, sign, arrow, digits, word}
 use Rattle.pcf_reader.specs.Spelling.{width, IsLongest, EndsLine, Splits, ends, blank, comment, token, junk}
 use Rattle.pcf_reader.specs.Lexing.{Mode, idle, in_comment, after_dash, in_number, in_word, closed, on_sign, opened, turned, lex}
@@ -40,7 +41,7 @@ abbrev pub Dashed : List ℕ → Type 0
 Dashed cs = (at start : ℕ) →
     ((rest : List ℕ) × (items : List Placed) × (cs ≡ 62 ∷ rest) ×
     (lex cs at (after_dash start) ≡ at_place start Arrow ∷ items) × Splits (at + 1) rest items)
-    ⊎ (Stops (λ c. c == 62) cs × (lex cs at (after_dash start) ≡ at_place start Minus ∷ lex cs at idle))
+    ⊎ (Stops (λ c. c == 62) cs × (lex cs at (after_dash start) ≡ at_place start (Sign Minus) ∷ lex cs at idle))
 
 pub record Lexed (cs : List ℕ) : Type 0 where
   pub idles : Idle cs
@@ -127,8 +128,8 @@ dash_splits c cs at h e =
           ap (λ z. 45 ∷ z) split) arrow (arrow_longest rest)
           (subst (λ i. Splits i rest items) (one_byte c 45 at 1 e refl) more))
       | inr (stops, is) ↦
-          to at (c ∷ cs) (lex cs (at + len_utf8 c) (after_dash at)) (at_place at Minus ∷ lex cs (at + len_utf8 c) idle) is
-          (sign_splits c cs at Minus (ap sign_of e) (λ _. stops) (h.idles (at + len_utf8 c)))
+          to at (c ∷ cs) (lex cs (at + len_utf8 c) (after_dash at)) (at_place at (Sign Minus) ∷ lex cs (at + len_utf8 c) idle) is
+          (sign_splits c cs at (Sign Minus) (ap sign_of e) (λ _. stops) (h.idles (at + len_utf8 c)))
     ]
 
 sign_or_junk : (c : ℕ) (cs : List ℕ) (at : ℕ) → Lexed cs → is_blank c ≡ false → (c == 35) ≡ false →
@@ -222,7 +223,7 @@ module _ (c : ℕ) (cs : List ℕ) (h : Lexed cs) where
       ⊎ (((c == 62) ≡ false) ×
       ((if b then at_place start Arrow ∷ lex cs (at + len_utf8 c) idle else closed (after_dash start)
       (opened at c (λ m. lex cs (at + len_utf8 c) m)))
-      ≡ at_place start Minus ∷ opened at c (λ m. lex cs (at + len_utf8 c) m)))
+      ≡ at_place start (Sign Minus) ∷ opened at c (λ m. lex cs (at + len_utf8 c) m)))
   dash_on at start true e =
       let is : c ≡ 62 = eqb-true c 62 e in
       inl (

@@ -1,3 +1,4 @@
+mod Levels
 pub mod Ends
 pub mod Lists
 pub mod Spelled

@@ -6,10 +6,11 @@ use Rattle.std.specs.Char.{is_ascii_alphabetic}
 use Rattle.std.proofs.lemmas.Bool.{ne_eqb, leb-true, lt-leb, and_parts}
 use Rattle.unicode_ident.specs.Ident.{is_xid_continue}
 use Rattle.unicode_ident.proofs.IdentLemmas.{is_xid_start-ascii}
-use Rattle.pcf_reader.specs.Tokens.{Token, Minus}
+use Rattle.pcf_values.specs.declared.operator.Operator.TheVariants.{Minus}
+use Rattle.pcf_reader.specs.Tokens.{Token, Sign}
 use Rattle.pcf_reader.specs.Spelling.{is_digit, starts_name, sign_of, AllPass, Spells, sign, arrow, digits, word}
 use Rattle.pcf_reader.proofs.Lists.{head_is, tail_is}
-use Rattle.pcf_reader.proofs.Spelled.{sign_in}
+use Rattle.pcf_reader.proofs.Spelled.{sign_char}
 
 -- an ASCII character that is no letter and no `_` begins no name
 pub not_start : (n : ℕ) → n < 128 → (is_ascii_alphabetic n || (n == 95)) ≡ false → starts_name n ≡ false
@@ -22,14 +23,14 @@ both b h k = let e : false ≡ true = sym h ∙ k in cc
 -- a sign begins no name
 pub sign_starts : (c : ℕ) (x : Token) → sign_of c ≡ Some x → starts_name c ≡ false
 sign_starts c x h =
-    sign_in (λ n. starts_name n ≡ false) c x (not_start 40 (omega arith) refl) (not_start 41 (omega arith) refl)
+    sign_char (λ n. starts_name n ≡ false) c x (not_start 40 (omega arith) refl) (not_start 41 (omega arith) refl)
     (not_start 58 (omega arith) refl) (not_start 46 (omega arith) refl)
     (not_start 44 (omega arith) refl) (not_start 43 (omega arith) refl) (not_start 45 (omega arith) refl) (not_start 42 (omega arith) refl)
     h
 
 -- and is no digit
 pub sign_digit : (c : ℕ) (x : Token) → sign_of c ≡ Some x → is_digit c ≡ false
-sign_digit c x h = sign_in (λ n. is_digit n ≡ false) c x refl refl refl refl refl refl refl refl h
+sign_digit c x h = sign_char (λ n. is_digit n ≡ false) c x refl refl refl refl refl refl refl refl h
 
 -- a digit is below `:`
 pub digit_low : (c : ℕ) → is_digit c ≡ true → c ≤ 57
@@ -71,7 +72,7 @@ pub no_longer_word : (c : ℕ) (ds : List ℕ) (d : ℕ) (us l : List ℕ) (x : 
     is_xid_continue d ≡ false → Spells l x → l ≡ c ∷ (ds ++ d ∷ us) → ⊥
 no_longer_word c ds d us l x first more (sign e y h) q = nil_no ds d us (tail_is e c [] (ds ++ d ∷ us) q)
 no_longer_word c ds d us l x first more arrow q =
-    both (starts_name c) (ap starts_name (sym (head_is 45 c (62 ∷ []) (ds ++ d ∷ us) q)) ∙ sign_starts 45 Minus refl) first
+    both (starts_name c) (ap starts_name (sym (head_is 45 c (62 ∷ []) (ds ++ d ∷ us) q)) ∙ sign_starts 45 (Sign Minus) refl) first
 no_longer_word c ds d us l x first more (digits e es all) q =
     both (starts_name c) (digit_starts c (ap is_digit (sym (head_is e c es (ds ++ d ∷ us) q)) ∙ all.0)) first
 no_longer_word c ds d us l x first more (word e es start rest) q =
@@ -93,7 +94,7 @@ no_longer_sign c y d us l x first more (word e es start rest) q =
 pub none_begins : (c : ℕ) (cs us vs : List ℕ) (x : Token) → sign_of c ≡ None → is_digit c ≡ false →
     starts_name c ≡ false → Spells us x → c ∷ cs ≡ us ++ vs → ⊥
 none_begins c cs us vs x n1 n2 n3 (sign e y h) q = let z : None ≡ Some y = sym n1 ∙ ap sign_of (head_is c e cs vs q) ∙ h in cc
-none_begins c cs us vs x n1 n2 n3 arrow q = let z : None ≡ Some Minus = sym n1 ∙ ap sign_of (head_is c 45 cs (62 ∷ vs) q) in cc
+none_begins c cs us vs x n1 n2 n3 arrow q = let z : None ≡ Some (Sign Minus) = sym n1 ∙ ap sign_of (head_is c 45 cs (62 ∷ vs) q) in cc
 none_begins c cs us vs x n1 n2 n3 (digits e es all) q = both (is_digit c) n2 (ap is_digit (head_is c e cs (es ++ vs) q) ∙ all.0)
 none_begins c cs us vs x n1 n2 n3 (word e es start rest) q =
     both (starts_name c) n3 (ap starts_name (head_is c e cs (es ++ vs) q) ∙ start)
@@ -103,5 +104,5 @@ pub two_signs : (l : List ℕ) (x : Token) (d : ℕ) (us : List ℕ) → Spells 
 two_signs l x d us (sign e z h) q = nil_no [] 62 (d ∷ us) (tail_is e 45 [] (62 ∷ d ∷ us) q)
 two_signs l x d us arrow q = nil_no [] d us (tail_is 62 62 [] (d ∷ us) (tail_is 45 45 (62 ∷ []) (62 ∷ d ∷ us) q))
 two_signs l x d us (digits e es all) q = both (is_digit 45) refl (ap is_digit (sym (head_is e 45 es (62 ∷ d ∷ us) q)) ∙ all.0)
-two_signs l x d us (word e es start rest) q = both (starts_name 45) (sign_starts 45 Minus refl)
+two_signs l x d us (word e es start rest) q = both (starts_name 45) (sign_starts 45 (Sign Minus) refl)
     (ap starts_name (sym (head_is e 45 es (62 ∷ d ∷ us) q)) ∙ start)

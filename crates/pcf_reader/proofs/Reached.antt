@@ -1,19 +1,21 @@
 -- What has been read can be completed: each state is reached over the text of phrases, and some phrase closes it.
-use Rattle.std.proofs.Common.{◌≡◌, ℕ, suc, ◌+◌, max, true, false, List, [], ◌∷◌, ◌++◌, refl, sym, ap, ◌∙◌}
+use Rattle.std.proofs.Common.{◌≡◌, ℕ, suc, ◌+◌, max, Bool, true, false, IsTrue, IsFalse, List, [], ◌∷◌, ◌++◌, refl, sym, ap, ◌∙◌}
 use Rattle.std.proofs.Common.{subst, if◌then◌else◌, append_assoc}
-use Rattle.pcf_values.specs.declared.operator.Operator.TheVariants.{Plus as plus_op, Minus as minus_op, Times as times_op}
+use Rattle.pcf_values.specs.declared.operator.Operator.{Operator}
 use Rattle.pcf_values.specs.Terms.{arrow, product}
 use Rattle.pcf_values.specs.Named.{Binder, word_at, pair_at, bind_at}
-use Rattle.pcf_reader.specs.Tokens.{Token, Open, Close, Colon, Dot, Comma, Plus, Minus, Times, Arrow, Ifz, Then, Else, Nat, Bind, Before}
-use Rattle.pcf_reader.specs.Tokens.{Number, Name, End}
+use Rattle.pcf_reader.specs.Tokens.{Token, Open, Close, Colon, Dot, Comma, Sign, Arrow, Ifz, Then, Else, Nat, Bind, Before}
+use Rattle.pcf_reader.specs.Tokens.{Number, Name, End, is_sum, star, is_star}
+use Rattle.pcf_reader.specs.Machine as machine
+use Rattle.pcf_reader.proofs.Levels.{star_is}
 use Rattle.pcf_reader.specs.Grammar.{Type_, only_ptype, arrow_type, PType, only_tatom, times_type, TAtom, nat_type, paren_type, Expr}
-use Rattle.pcf_reader.specs.Grammar.{binding, choice, only_sum, Sum, only_product, plus, minus, Product, only_app, times, App, only_atom}
+use Rattle.pcf_reader.specs.Grammar.{binding, choice, only_sum, Sum, only_product, summed, Product, only_app, multiplied, App, only_atom}
 use Rattle.pcf_reader.specs.Grammar.{applied, Atom, numeral, variable, parens, pairing, prefixed, type_ty, ptype_ty, tatom_ty, Part, join}
 use Rattle.pcf_reader.specs.Grammar.{binary, app_part, higher, choice_part, expr_part, sum_part, product_part, app_part_of, atom_part}
 use Rattle.pcf_reader.specs.Grammar.{Written, plain, marked, type_text, ptype_text, tatom_text, expr_text, sum_text, product_text, app_text}
 use Rattle.pcf_reader.specs.Grammar.{atom_text}
 use Rattle.pcf_reader.specs.Machine.{ExprK, whole, in_parens, in_second, in_body, in_test, in_then, in_else, ProductK, first_product}
-use Rattle.pcf_reader.specs.Machine.{right_of_plus, right_of_minus, AppK, first_app, right_of_times, AtomK, first_atom, argument, under}
+use Rattle.pcf_reader.specs.Machine.{right_of_sum, AppK, first_app, right_of_product, AtomK, first_atom, argument, under}
 use Rattle.pcf_reader.specs.Machine.{TypeK, of_binder, right_of_arrow, in_type_parens, PTypeK, first_ptype, right_of_cross, expr_open}
 use Rattle.pcf_reader.specs.Machine.{product_open, app_open, atom_open, type_open, ptype_open, left_of, extra_of, State, want_expr}
 use Rattle.pcf_reader.specs.Machine.{want_atom, after_atom, want_name, want_colon, want_tatom, after_tatom, Step, refuse, go, finish}
@@ -46,18 +48,15 @@ abbrev mutual
 
   pub AroundProduct : ProductK → List Written → Type 0
   AroundProduct (first_product k) ws = AroundExpr k ws
-  AroundProduct (right_of_plus s k) ws =
-      (us : List Written) × (q : Sum) × (at : ℕ) × AroundExpr k us × (sum_part q ≡ s) ×
-      (ws ≡ us ++ (sum_text (expr_open k) q ++ marked at Plus (sum_part q).height 1 ∷ []))
-  AroundProduct (right_of_minus s k) ws =
-      (us : List Written) × (q : Sum) × (at : ℕ) × AroundExpr k us × (sum_part q ≡ s) ×
-      (ws ≡ us ++ (sum_text (expr_open k) q ++ marked at Minus (sum_part q).height 1 ∷ []))
+  AroundProduct (right_of_sum s op k) ws =
+      (us : List Written) × (q : Sum) × (at : ℕ) × IsTrue (is_sum op) × AroundExpr k us × (sum_part q ≡ s) ×
+      (ws ≡ us ++ (sum_text (expr_open k) q ++ marked at (Sign op) (sum_part q).height 1 ∷ []))
 
   pub AroundApp : AppK → List Written → Type 0
   AroundApp (first_app k) ws = AroundProduct k ws
-  AroundApp (right_of_times m k) ws =
-      (us : List Written) × (q : Product) × (at : ℕ) × AroundProduct k us × (product_part q ≡ m) ×
-      (ws ≡ us ++ (product_text (product_open k) q ++ marked at Times (product_part q).height 1 ∷ []))
+  AroundApp (right_of_product m op k) ws =
+      (us : List Written) × (q : Product) × (at : ℕ) × IsFalse (is_sum op) × AroundProduct k us × (product_part q ≡ m) ×
+      (ws ≡ us ++ (product_text (product_open k) q ++ marked at (Sign op) (product_part q).height 1 ∷ []))
 
   pub AroundAtom : AtomK → List Written → Type 0
   AroundAtom (first_atom k) ws = AroundApp k ws
@@ -81,7 +80,7 @@ abbrev mutual
   AroundPType (first_ptype k) ws = AroundType k ws
   AroundPType (right_of_cross a k) ws =
       (us : List Written) × (q : TAtom) × (at : ℕ) × AroundPType k us × (tatom_ty q ≡ a) ×
-      (ws ≡ us ++ (tatom_text (ptype_open k) q ++ marked at Times (ptype_open k) 0 ∷ []))
+      (ws ≡ us ++ (tatom_text (ptype_open k) q ++ marked at star (ptype_open k) 0 ∷ []))
 
 -- ws leads to the state
 abbrev pub Reached : State → List Written → Type 0
@@ -242,10 +241,13 @@ after_expr_goes (in_else o c p k) us e h at x =
 
 pub after_sum_goes : (k : ExprK) (us : Texts) (s : Sum) → AroundExpr k us → (at : ℕ) (x : Token) →
     Goes (us ++ sum_text (expr_open k) s) (after_sum k (sum_part s) at x) at x
-after_sum_goes k us s h at Plus =
-    (us, s, at, h, refl, append_assoc us (sum_text (expr_open k) s) (marked at Plus (sum_part s).height 1 ∷ []))
-after_sum_goes k us s h at Minus =
-    (us, s, at, h, refl, append_assoc us (sum_text (expr_open k) s) (marked at Minus (sum_part s).height 1 ∷ []))
+after_sum_goes k us s h at (Sign op) = go (is_sum op) refl
+  where
+    go : (b : Bool) → is_sum op ≡ b → Goes (us ++ sum_text (expr_open k) s)
+        (if b then machine.go (sum_part s).height 1 (want_atom (first_atom (first_app (right_of_sum (sum_part s) op k))))
+        else after_expr k (sum_part s) at (Sign op)) at (Sign op)
+    go true is = (us, s, at, is, h, refl, append_assoc us (sum_text (expr_open k) s) (marked at (Sign op) (sum_part s).height 1 ∷ []))
+    go false is = after_expr_goes k us (only_sum s) h at (Sign op)
 after_sum_goes k us s h at x = after_expr_goes k us (only_sum s) h at x
 
 -- the left part of a left-grouped phrase, with its operator, and the rest
@@ -255,40 +257,38 @@ grouped us vs a m z text = sym (moved us vs (a ++ m ∷ []) z text ∙ ap (λ v.
 pub end_product_goes : (k : ProductK) (us : Texts) (m : Product) → AroundProduct k us → (at : ℕ) (x : Token) →
     Goes (us ++ product_text (product_open k) m) (end_product k (product_part m) at x) at x
 end_product_goes (first_product k) us m h at x = after_sum_goes k us (only_product m) h at x
-end_product_goes (right_of_plus s k) us m h at x =
-    let (vs, q, o, around, is, text) = h in
+end_product_goes (right_of_sum s op k) us m h at x =
+    let (vs, q, o, is_op, around, is, text) = h in
     let z : Texts = product_text (expr_open k) m in
-    let w : Written = marked o Plus (sum_part q).height 1 in
+    let w : Written = marked o (Sign op) (sum_part q).height 1 in
     let a : Texts = sum_text (expr_open k) q in
-    goes_over (after_sum k (binary plus_op s (product_part m)) at x) at x (vs ++ (a ++ w ∷ z)) (us ++ z) (grouped us vs a w z text)
-    (subst (λ (s : Part). Goes (vs ++ (a ++ w ∷ z)) (after_sum k (binary plus_op s (product_part m)) at x) at x) is
-    (after_sum_goes k vs (plus q o m) around at x))
-end_product_goes (right_of_minus s k) us m h at x =
-    let (vs, q, o, around, is, text) = h in
-    let z : Texts = product_text (expr_open k) m in
-    let w : Written = marked o Minus (sum_part q).height 1 in
-    let a : Texts = sum_text (expr_open k) q in
-    goes_over (after_sum k (binary minus_op s (product_part m)) at x) at x (vs ++ (a ++ w ∷ z)) (us ++ z) (grouped us vs a w z text)
-    (subst (λ (s : Part). Goes (vs ++ (a ++ w ∷ z)) (after_sum k (binary minus_op s (product_part m)) at x) at x) is
-    (after_sum_goes k vs (minus q o m) around at x))
+    goes_over (after_sum k (binary op s (product_part m)) at x) at x (vs ++ (a ++ w ∷ z)) (us ++ z) (grouped us vs a w z text)
+    (subst (λ (s : Part). Goes (vs ++ (a ++ w ∷ z)) (after_sum k (binary op s (product_part m)) at x) at x) is
+    (after_sum_goes k vs (summed q o op is_op m) around at x))
 
 pub after_product_goes : (k : ProductK) (us : Texts) (m : Product) → AroundProduct k us → (at : ℕ) (x : Token) →
     Goes (us ++ product_text (product_open k) m) (after_product k (product_part m) at x) at x
-after_product_goes k us m h at Times =
-    (us, m, at, h, refl, append_assoc us (product_text (product_open k) m) (marked at Times (product_part m).height 1 ∷ []))
+after_product_goes k us m h at (Sign op) = go (is_sum op) refl
+  where
+    go : (b : Bool) → is_sum op ≡ b → Goes (us ++ product_text (product_open k) m)
+        (if b then end_product k (product_part m) at (Sign op)
+        else machine.go (product_part m).height 1 (want_atom (first_atom (right_of_product (product_part m) op k)))) at (Sign op)
+    go true is = end_product_goes k us m h at (Sign op)
+    go false is =
+        (us, m, at, is, h, refl, append_assoc us (product_text (product_open k) m) (marked at (Sign op) (product_part m).height 1 ∷ []))
 after_product_goes k us m h at x = end_product_goes k us m h at x
 
 pub end_app_goes : (k : AppK) (us : Texts) (f : App) → AroundApp k us → (at : ℕ) (x : Token) →
     Goes (us ++ app_text (app_open k) f) (end_app k (app_part_of f) at x) at x
 end_app_goes (first_app k) us f h at x = after_product_goes k us (only_app f) h at x
-end_app_goes (right_of_times m k) us f h at x =
-    let (vs, q, o, around, is, text) = h in
+end_app_goes (right_of_product m op k) us f h at x =
+    let (vs, q, o, is_op, around, is, text) = h in
     let z : Texts = app_text (product_open k) f in
-    let w : Written = marked o Times (product_part q).height 1 in
+    let w : Written = marked o (Sign op) (product_part q).height 1 in
     let a : Texts = product_text (product_open k) q in
-    goes_over (after_product k (binary times_op m (app_part_of f)) at x) at x (vs ++ (a ++ w ∷ z)) (us ++ z) (grouped us vs a w z text)
-    (subst (λ (s : Part). Goes (vs ++ (a ++ w ∷ z)) (after_product k (binary times_op s (app_part_of f)) at x) at x) is
-    (after_product_goes k vs (times q o f) around at x))
+    goes_over (after_product k (binary op m (app_part_of f)) at x) at x (vs ++ (a ++ w ∷ z)) (us ++ z) (grouped us vs a w z text)
+    (subst (λ (s : Part). Goes (vs ++ (a ++ w ∷ z)) (after_product k (binary op s (app_part_of f)) at x) at x) is
+    (after_product_goes k vs (multiplied q o op is_op f) around at x))
 
 end_app_over : (k : AppK) (f : Part) (ws : Texts) → AroundAtom (argument f k) ws → (at : ℕ) (x : Token) →
     Goes ws (end_app k f at x) at x
@@ -355,7 +355,7 @@ end_ptype_goes (first_ptype k) us p h at x = after_ptype_goes k us p h at x
 end_ptype_goes (right_of_cross a k) us p h at x =
     let (vs, q, o, around, is, text) = h in
     let z : Texts = ptype_text (suc (ptype_open k)) p in
-    let w : Written = marked o Times (ptype_open k) 0 in
+    let w : Written = marked o star (ptype_open k) 0 in
     let y : Texts = tatom_text (ptype_open k) q in
     goes_over (end_ptype k (product a (ptype_ty p)) at x) at x (vs ++ (y ++ w ∷ z)) (us ++ z) (grouped us vs y w z text)
     (subst (λ a. Goes (vs ++ (y ++ w ∷ z)) (end_ptype k (product a (ptype_ty p)) at x) at x) is
@@ -363,9 +363,20 @@ end_ptype_goes (right_of_cross a k) us p h at x =
 
 pub after_tatom_goes : (k : PTypeK) (us : Texts) (a : TAtom) → AroundPType k us → (at : ℕ) (x : Token) →
     Goes (us ++ tatom_text (ptype_open k) a) (after_type_atom k (tatom_ty a) at x) at x
-after_tatom_goes k us a h at Times =
-    (us, a, at, h, refl, append_assoc us (tatom_text (ptype_open k) a) (marked at Times (ptype_open k) 0 ∷ []))
-after_tatom_goes k us a h at x = end_ptype_goes k us (only_tatom a) h at x
+after_tatom_goes k us a h at x = go (is_star x) refl
+  where
+    go : (b : Bool) → is_star x ≡ b → Goes (us ++ tatom_text (ptype_open k) a)
+        (if b then machine.go (ptype_open k) 0 (want_tatom (right_of_cross (tatom_ty a) k)) else end_ptype k (tatom_ty a) at x) at x
+    go true is = (
+      us,
+      a,
+      at,
+      h,
+      refl,
+      append_assoc us (tatom_text (ptype_open k) a) (marked at x (ptype_open k) 0 ∷ []) ∙
+          ap (λ y. us ++ (tatom_text (ptype_open k) a ++ marked at y (ptype_open k) 0 ∷ [])) (star_is x is),
+    )
+    go false is = end_ptype_goes k us (only_tatom a) h at x
 
 name_goes : (o : ℕ) (b : Binder) (k : ExprK) (ws : Texts) → Reached (want_name o b k) ws → (at : ℕ) (x : Token) →
     Goes ws (step (want_name o b k) at x) at x

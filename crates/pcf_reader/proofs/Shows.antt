@@ -7,12 +7,13 @@ use Rattle.std.proofs.lemmas.Bool.{ltb-true, and_parts, and_from}
 use Rattle.std.proofs.lemmas.Str.{encodes-append, encode_ascii}
 use lib.Utf8.{low_scalar}
 use Rattle.pcf_values.specs.declared.operator.Operator.{Operator}
-use Rattle.pcf_values.specs.declared.operator.Operator.TheVariants.{Plus, Minus, Times}
+use Rattle.pcf_values.specs.declared.side.Side.TheVariants.{Left, Right}
 use Rattle.pcf_values.specs.Terms.{TyTree, nat, arrow, product}
 use Rattle.pcf_values.specs.Named.{NamedTree, number_at, name_at, word_at, binary_at, pair_at, ifz_at, bind_at, apply_at, Word, the_succ}
-use Rattle.pcf_values.specs.Named.{the_pred, the_fst, the_snd, Binder, the_fun, the_fix}
+use Rattle.pcf_values.specs.Named.{the_pred, the_part, Binder, the_fun, the_fix}
 use Rattle.pcf_reader.specs.Spelling.{is_digit, AllPass}
 use Rattle.pcf_reader.specs.Printed.{fitted, ty_level, ty_text, word_text, binder_text, op_text, op_level, right_level, level, term_text}
+use Rattle.pcf_reader.proofs.Levels.{each_op}
 use Rattle.pcf_reader.proofs.Longest.{digit_low}
 use Rattle.pcf_reader.proofs.Shown.{fit_onto, ty_onto, own_onto, IsName, Fine}
 use Rattle.pcf_reader.proofs.Pieces.{digits_bytes, decimal_digits, name_chars}
@@ -38,19 +39,19 @@ list_shows : (cs bytes : List ℕ) → encode_utf8_all cs ≡ bytes → all_scal
 list_shows cs bytes e s rest = (encodes-append cs rest ∙ ap (λ z. z ++ encode_utf8_all rest) e, λ k. scalars_join cs rest s k)
 
 -- all below 128
-abbrev all_low : List ℕ → Bool
+abbrev pub all_low : List ℕ → Bool
 all_low [] = true
 all_low (c ∷ cs) = nat_lt c 128 && all_low cs
 
 -- such characters are their own bytes
-low_bytes : (cs : List ℕ) → all_low cs ≡ true → encode_utf8_all cs ≡ cs
+pub low_bytes : (cs : List ℕ) → all_low cs ≡ true → encode_utf8_all cs ≡ cs
 low_bytes [] h = refl
 low_bytes (c ∷ cs) h =
     ap (λ z. z ++ encode_utf8_all cs) (encode_ascii c (ltb-true c 128 (and_parts (nat_lt c 128) (all_low cs) h).0)) ∙
     ap (λ z. c ∷ z) (low_bytes cs (and_parts (nat_lt c 128) (all_low cs) h).1)
 
 -- and scalar values
-low_scalars : (cs : List ℕ) → all_low cs ≡ true → all_scalars cs ≡ true
+pub low_scalars : (cs : List ℕ) → all_low cs ≡ true → all_scalars cs ≡ true
 low_scalars [] h = refl
 low_scalars (c ∷ cs) h =
     let low : c < 128 = ltb-true c 128 (and_parts (nat_lt c 128) (all_low cs) h).0 in
@@ -103,17 +104,15 @@ ty_shows (product a b) =
 word_low : (w : Word) → all_low (word_text w) ≡ true
 word_low the_succ = refl
 word_low the_pred = refl
-word_low the_fst = refl
-word_low the_snd = refl
+word_low (the_part Left) = refl
+word_low (the_part Right) = refl
 
 binder_low : (b : Binder) → all_low (binder_text b) ≡ true
 binder_low the_fun = refl
 binder_low the_fix = refl
 
 op_low : (op : Operator) → all_low (op_text op) ≡ true
-op_low Plus = refl
-op_low Minus = refl
-op_low Times = refl
+op_low = each_op (λ op. all_low (op_text op) ≡ true) refl refl refl
 
 -- a term
 pub own_shows : (t : NamedTree) → Fine t → Shows (λ r. own_onto t r) (term_text t)

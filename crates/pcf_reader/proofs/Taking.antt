@@ -5,7 +5,7 @@ use Rattle.std.specs.Str.{IsUtf8, IsCharBoundary}
 use Rattle.std.proofs.Common.{◌++◌, ◌-◌, length-append, take, drop}
 use Rattle.std.proofs.Math.Seq.{take-append_seam, drop-append_seam}
 use Rattle.std.proofs.lemmas.Str.{IsCharBoundary-at_seam}
-use Rattle.pcf_reader.specs.Tokens.{Token, Open, Close, Colon, Dot, Comma, Plus, Minus, Times, Arrow, Ifz, Then, Else, Nat, Bind, Before}
+use Rattle.pcf_reader.specs.Tokens.{Token, Open, Close, Colon, Dot, Comma, Sign, Arrow, Ifz, Then, Else, Nat, Bind, Before}
 use Rattle.pcf_reader.specs.Tokens.{Number, Name, End, Junk, Placed}
 use Rattle.pcf_reader.specs.Machine.{State, step}
 use Rattle.pcf_reader.specs.Scan.{Answer, proper, checked, scan}
@@ -41,9 +41,7 @@ behind_more Close xs h = refl
 behind_more Colon xs h = refl
 behind_more Dot xs h = refl
 behind_more Comma xs h = refl
-behind_more Plus xs h = refl
-behind_more Minus xs h = refl
-behind_more Times xs h = refl
+behind_more (Sign o) xs h = refl
 behind_more Arrow xs h = refl
 behind_more Ifz xs h = refl
 behind_more Then xs h = refl
@@ -62,12 +60,11 @@ number_proper n h at a = number_is at n a h
 pub word_proper : (cs : List ℕ) → IsProper (word_of cs)
 word_proper cs =
     word_token IsProper cs (λ _ _. refl) (λ _ _. refl) (λ _ _. refl) (λ _ _. refl) (λ _ _. refl) (λ _ _. refl) (λ _ _. refl)
-    (λ _ _. refl) (λ _ _. refl) (λ _ _. refl) (λ _ _. refl)
+    (λ _ _ _. refl) (λ _ _. refl) (λ _ _. refl)
 
 pub sign_proper : (c : ℕ) (x : Token) → sign_of c ≡ Some x → IsProper x
 sign_proper c x h =
-    sign_token IsProper c x (λ _ _. refl) (λ _ _. refl) (λ _ _. refl) (λ _ _. refl) (λ _ _. refl) (λ _ _. refl) (λ _ _. refl)
-    (λ _ _. refl) h
+    sign_token IsProper c x (λ _ _. refl) (λ _ _. refl) (λ _ _. refl) (λ _ _. refl) (λ _ _. refl) (λ _ _ _. refl) h
 
 -- a word's token as a reader at it sees it
 pub word_list : (ts xs ys : List Placed) (at : ℕ) (cs : List ℕ) (x : Token) → ts ≡ record { at = at; token = word_of cs } ∷ xs →

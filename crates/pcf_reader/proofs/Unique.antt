@@ -6,12 +6,13 @@ use Rattle.std.specs.Prelude.{◌==◌, nat_le, encode_utf8, encode_utf8_all}
 use Rattle.std.specs.Char.{len_utf8}
 use Rattle.std.proofs.lemmas.Bool.{ne_eqb, leb-true, eqb-true, and_parts}
 use Rattle.unicode_ident.specs.Ident.{is_xid_continue}
-use Rattle.pcf_reader.specs.Tokens.{Token, Minus, Arrow, Number, End, Junk, Placed}
+use Rattle.pcf_values.specs.declared.operator.Operator.TheVariants.{Minus}
+use Rattle.pcf_reader.specs.Tokens.{Token, Sign, Arrow, Number, End, Junk, Placed}
 use Rattle.pcf_reader.specs.Spelling.{is_blank, is_digit, starts_name, sign_of, word_of, value_from, AllPass, Spells, sign, arrow, digits}
 use Rattle.pcf_reader.specs.Spelling.{word, width, IsLongest, EndsLine, Splits, ends, blank, comment, token, junk}
 use Rattle.pcf_reader.specs.Lexing.{Mode, idle, in_comment, after_dash, in_number, in_word, closed, on_sign, opened, lex}
 use Rattle.pcf_reader.proofs.LexSteps.{comment_more, comment_line, number_more, number_stop, number_end, word_more, word_stop, word_end}
-use Rattle.pcf_reader.proofs.Spelled.{sign_in}
+use Rattle.pcf_reader.proofs.Spelled.{sign_char}
 use Rattle.pcf_reader.proofs.Longest.{both, not_start, sign_starts, sign_digit, digit_starts}
 use Rattle.pcf_reader.proofs.Lexed.{Stops, at_place}
 
@@ -70,8 +71,8 @@ opened_word at c go h =
 opened_sign : (at c : ℕ) (x : Token) (go : Mode → List Placed) → sign_of c ≡ Some x → (c == 45) ≡ false →
     opened at c go ≡ at_place at x ∷ go idle
 opened_sign at c x go h d =
-    to_digit at c go (sign_in (λ n. is_blank n ≡ false) c x refl refl refl refl refl refl refl refl h)
-    (sign_in (λ n. (n == 35) ≡ false) c x refl refl refl refl refl refl refl refl h) d
+    to_digit at c go (sign_char (λ n. is_blank n ≡ false) c x refl refl refl refl refl refl refl refl h)
+    (sign_char (λ n. (n == 35) ≡ false) c x refl refl refl refl refl refl refl refl h) d
     ∙ ap (λ v. if v then go (in_number at (c - 48)) else rest_5 at c go) (sign_digit c x h)
     ∙ ap (λ v. if v then go (in_word at (encode_utf8 c)) else on_sign (sign_of c) at go) (sign_starts c x h)
     ∙ ap (λ o. on_sign o at go) h
@@ -160,7 +161,7 @@ stops_word c ds (r ∷ rest) first all long = not_true (is_xid_continue r)
 
 -- and behind a dash that is the longest sign no `>`
 dash_stops : (rest : List ℕ) (at start : ℕ) → IsLongest (45 ∷ []) rest →
-    lex rest at (after_dash start) ≡ at_place start Minus ∷ lex rest at idle
+    lex rest at (after_dash start) ≡ at_place start (Sign Minus) ∷ lex rest at idle
 unfolding lex
 dash_stops [] at start long = refl
 dash_stops (r ∷ rest) at start long =
@@ -186,7 +187,7 @@ unfolding lex
 comment_first t at = refl
 
 -- a dash
-dash_token : (rest : List ℕ) (at : ℕ) → IsLongest (45 ∷ []) rest → lex (45 ∷ rest) at idle ≡ at_place at Minus ∷
+dash_token : (rest : List ℕ) (at : ℕ) → IsLongest (45 ∷ []) rest → lex (45 ∷ rest) at idle ≡ at_place at (Sign Minus) ∷
     lex rest (at + width (45 ∷ [])) idle
 dash_token rest at long = dash_first rest at ∙ dash_stops rest (at + 1) at long
 
@@ -195,8 +196,8 @@ sign_token : (c : ℕ) (x : Token) (rest : List ℕ) (at : ℕ) (b : Bool) → (
     IsLongest (c ∷ []) rest → lex (c ∷ rest) at idle ≡ at_place at x ∷ lex rest (at + width (c ∷ [])) idle
 sign_token c x rest at true e h long =
     let is : c ≡ 45 = eqb-true c 45 e in
-    let y : Some Minus ≡ Some x = sym (ap sign_of is) ∙ h in
-    let z : Minus ≡ x = cc in
+    let y : Some (Sign Minus) ≡ Some x = sym (ap sign_of is) ∙ h in
+    let z : (Sign Minus) ≡ x = cc in
     ap (λ c. lex (c ∷ rest) at idle) is ∙ dash_token rest at (subst (λ c. IsLongest (c ∷ []) rest) is long)
     ∙ ap (λ t. at_place at t ∷ lex rest (at + width (45 ∷ [])) idle) z ∙
     ap (λ c. at_place at x ∷ lex rest (at + width (c ∷ [])) idle) (sym is)
@@ -235,6 +236,6 @@ splits_lex at cs items (junk i c ds nb nc none) =
     let go : Mode → List Placed = λ m. lex ds (i + len_utf8 c) m in
     let no_sign : sign_of c ≡ None = not_some (sign_of c) (λ x e. none (c ∷ []) ds x refl (sign c x e)) in
     let no_dash : (c == 45) ≡ false = not_true (c == 45)
-    (λ e. let z : None ≡ Some Minus = sym no_sign ∙ ap sign_of (eqb-true c 45 e) in let k : ⊥ = cc in k) in
+    (λ e. let z : None ≡ Some (Sign Minus) = sym no_sign ∙ ap sign_of (eqb-true c 45 e) in let k : ⊥ = cc in k) in
     first_is c ds i ∙ opened_junk i c go nb nc no_dash (not_true (is_digit c) (λ e. none (c ∷ []) ds _ refl (digits c [] (e, tt))))
     (not_true (starts_name c) (λ e. none (c ∷ []) ds _ refl (word c [] e tt))) no_sign

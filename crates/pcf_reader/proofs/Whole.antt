@@ -3,13 +3,12 @@ use Rattle.std.proofs.Common.{◌≡◌, ℕ, ◌+◌, ◌^◌, ◌<◌, ◌≤�
 use Rattle.std.proofs.Common.{if◌then◌else◌, refl, sym, ap, ◌∙◌, arith, add-zero, add_assoc}
 use Rattle.std.proofs.lemmas.Bool.{lt-ltb, lt-leb, le-ltb}
 use Rattle.pcf_values.specs.Most.{most_nodes, most_open}
-use Rattle.pcf_values.specs.declared.operator.Operator.TheVariants.{Plus, Minus, Times}
 use Rattle.pcf_values.specs.Terms.{TyTree, arrow, product}
 use Rattle.pcf_values.specs.Named.{NamedTree, bind_at}
 use Rattle.pcf_reader.specs.Tokens.{Token, Number, End, Junk, Placed}
 use Rattle.pcf_reader.specs.Grammar.{Part, Expr, expr_part, expr_text, placed, plain, higher, binary, choice_part}
 use Rattle.pcf_reader.specs.Machine.{ExprK, whole, in_parens, in_second, in_body, in_test, in_then, in_else, ProductK, first_product}
-use Rattle.pcf_reader.specs.Machine.{right_of_plus, right_of_minus, AppK, first_app, right_of_times, PTypeK, first_ptype, right_of_cross}
+use Rattle.pcf_reader.specs.Machine.{right_of_sum, AppK, first_app, right_of_product, PTypeK, first_ptype, right_of_cross}
 use Rattle.pcf_reader.specs.Machine.{TypeK, of_binder, right_of_arrow, in_type_parens, State, want_expr, want_atom, after_atom, want_name}
 use Rattle.pcf_reader.specs.Machine.{want_colon, want_tatom, after_tatom, refuse, go, finish, step, after_expr, end_product, end_app}
 use Rattle.pcf_reader.specs.Machine.{end_type, end_ptype}
@@ -33,12 +32,11 @@ junk_expr (in_else o c p k) e at = junk_expr k (choice_part o c p e) at
 
 junk_product : (k : ProductK) (m : Part) (at : ℕ) → end_product k m at Junk ≡ refuse
 junk_product (first_product k) m at = junk_expr k m at
-junk_product (right_of_plus s k) m at = junk_expr k (binary Plus s m) at
-junk_product (right_of_minus s k) m at = junk_expr k (binary Minus s m) at
+junk_product (right_of_sum s op k) m at = junk_expr k (binary op s m) at
 
 junk_app : (k : AppK) (f : Part) (at : ℕ) → end_app k f at Junk ≡ refuse
 junk_app (first_app k) f at = junk_product k f at
-junk_app (right_of_times m k) f at = junk_product k (binary Times m f) at
+junk_app (right_of_product m op k) f at = junk_product k (binary op m f) at
 
 junk_type : (k : TypeK) (t : TyTree) (at : ℕ) → end_type k t at Junk ≡ refuse
 junk_type (of_binder o b x k) t at = refl

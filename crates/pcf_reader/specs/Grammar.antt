@@ -5,14 +5,13 @@
 -- the left, and the types of functions and pairs to the right. Heights count parentheses, which trees do not keep.
 -- What the limits speak of is kept with each written token: how deep it stands and how many nodes it counts. Thus the limits are
 -- facts about a list of tokens, and no rule of the grammar speaks of them.
-use Rattle.std.specs.Prelude.{ℕ, suc, ◌+◌, max, List, [], ◌∷◌, ◌++◌}
+use Rattle.std.specs.Prelude.{ℕ, suc, ◌+◌, max, IsTrue, IsFalse, List, [], ◌∷◌, ◌++◌}
 use Rattle.pcf_values.specs.declared.operator.Operator.{Operator}
-use Rattle.pcf_values.specs.declared.operator.Operator.TheVariants.{Plus as plus_op, Minus as minus_op, Times as times_op}
 use Rattle.pcf_values.specs.Terms.{TyTree, nat, arrow, product}
 use Rattle.pcf_values.specs.Named.{Word, Binder, NamedTree, number_at, name_at, word_at, binary_at, pair_at, ifz_at, bind_at, apply_at}
 use Rattle.pcf_values.specs.Named.{place_of}
-use Rattle.pcf_reader.specs.Tokens.{Token, Open, Close, Colon, Dot, Comma, Plus, Minus, Times, Arrow, Ifz, Then, Else, Nat, Bind, Before}
-use Rattle.pcf_reader.specs.Tokens.{Number, Name, End, Placed}
+use Rattle.pcf_reader.specs.Tokens.{Token, Open, Close, Colon, Dot, Comma, Sign, Arrow, Ifz, Then, Else, Nat, Bind, Before}
+use Rattle.pcf_reader.specs.Tokens.{Number, Name, End, is_sum, star, Placed}
 
 -- type: ptype, or ptype -> type; ptype: tatom, or tatom * ptype; tatom: nat, or ( type )
 mutual
@@ -39,12 +38,11 @@ mutual
   -- sums are grouped to the left
   pub data Sum : Type 0 where
     only_product : Product → Sum
-    plus : Sum → ℕ → Product → Sum
-    minus : Sum → ℕ → Product → Sum
+    summed : Sum → ℕ → (op : Operator) → IsTrue (is_sum op) → Product → Sum
 
   pub data Product : Type 0 where
     only_app : App → Product
-    times : Product → ℕ → App → Product
+    multiplied : Product → ℕ → (op : Operator) → IsFalse (is_sum op) → App → Product
 
   pub data App : Type 0 where
     only_atom : Atom → App
@@ -99,12 +97,11 @@ abbrev mutual
 
   pub sum_part : Sum → Part
   sum_part (only_product p) = product_part p
-  sum_part (plus s _ p) = binary plus_op (sum_part s) (product_part p)
-  sum_part (minus s _ p) = binary minus_op (sum_part s) (product_part p)
+  sum_part (summed s _ op _ p) = binary op (sum_part s) (product_part p)
 
   pub product_part : Product → Part
   product_part (only_app f) = app_part_of f
-  product_part (times m _ f) = binary times_op (product_part m) (app_part_of f)
+  product_part (multiplied m _ op _ f) = binary op (product_part m) (app_part_of f)
 
   pub app_part_of : App → Part
   app_part_of (only_atom a) = atom_part a
@@ -142,7 +139,7 @@ abbrev mutual
 
   pub ptype_text : ℕ → PType → List Written
   ptype_text o (only_tatom a) = tatom_text o a
-  ptype_text o (times_type a at p) = tatom_text o a ++ marked at Times o 0 ∷ ptype_text (suc o) p
+  ptype_text o (times_type a at p) = tatom_text o a ++ marked at star o 0 ∷ ptype_text (suc o) p
 
   pub tatom_text : ℕ → TAtom → List Written
   tatom_text o (nat_type at) = marked at Nat 0 1 ∷ []
@@ -160,12 +157,11 @@ abbrev mutual
 
   pub sum_text : ℕ → Sum → List Written
   sum_text o (only_product p) = product_text o p
-  sum_text o (plus s at p) = sum_text o s ++ marked at Plus (sum_part s).height 1 ∷ product_text o p
-  sum_text o (minus s at p) = sum_text o s ++ marked at Minus (sum_part s).height 1 ∷ product_text o p
+  sum_text o (summed s at op _ p) = sum_text o s ++ marked at (Sign op) (sum_part s).height 1 ∷ product_text o p
 
   pub product_text : ℕ → Product → List Written
   product_text o (only_app f) = app_text o f
-  product_text o (times m at f) = product_text o m ++ marked at Times (product_part m).height 1 ∷ app_text o f
+  product_text o (multiplied m at op _ f) = product_text o m ++ marked at (Sign op) (product_part m).height 1 ∷ app_text o f
 
   pub app_text : ℕ → App → List Written
   app_text o (only_atom a) = atom_text o 0 0 a

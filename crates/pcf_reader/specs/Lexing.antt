@@ -4,7 +4,8 @@ use Rattle.std.specs.Prelude.{ℕ, ◌+◌, ◌-◌, ◌*◌, ◌^◌, nat_lt, �
 use Rattle.std.specs.Prelude.{if◌then◌else◌}
 use Rattle.std.specs.Char.{len_utf8, encode_utf8}
 use Rattle.unicode_ident.specs.Ident.{is_xid_continue}
-use Rattle.pcf_reader.specs.Tokens.{Token, Minus, Arrow, Number, End, Junk, Placed}
+use Rattle.pcf_values.specs.declared.operator.Operator.TheVariants.{Minus}
+use Rattle.pcf_reader.specs.Tokens.{Token, Sign, Arrow, Number, End, Junk, Placed}
 use Rattle.pcf_reader.specs.Spelling.{is_blank, is_digit, starts_name, sign_of, word_of}
 
 -- what the characters before the next one are a prefix of
@@ -27,7 +28,7 @@ longer (in_word at cs) c = if is_xid_continue c then Some (in_word at (cs ++ enc
 abbrev pub closed : Mode → List Placed → List Placed
 closed idle xs = xs
 closed in_comment xs = xs
-closed (after_dash at) xs = record { at = at; token = Minus } ∷ xs
+closed (after_dash at) xs = record { at = at; token = Sign Minus } ∷ xs
 closed (in_number at n) xs = record { at = at; token = Number n } ∷ xs
 closed (in_word at cs) xs = record { at = at; token = word_of cs } ∷ xs
 

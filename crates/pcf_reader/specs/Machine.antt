@@ -3,11 +3,11 @@
 -- the next token, inside out: what has been read of each open phrase, and what it waits for. Each step says how deep its token stands
 -- and how many nodes it counts, as the grammar does.
 use Rattle.std.specs.Prelude.{ℕ, suc, ◌+◌, max, Bool, true, false, List, if◌then◌else◌}
-use Rattle.pcf_values.specs.declared.operator.Operator.TheVariants.{Plus as plus_op, Minus as minus_op, Times as times_op}
+use Rattle.pcf_values.specs.declared.operator.Operator.{Operator}
 use Rattle.pcf_values.specs.Terms.{TyTree, nat, arrow, product}
 use Rattle.pcf_values.specs.Named.{Word, Binder, number_at, name_at, word_at, pair_at, bind_at}
-use Rattle.pcf_reader.specs.Tokens.{Token, Open, Close, Colon, Dot, Comma, Plus, Minus, Times, Arrow, Ifz, Then, Else, Nat, Bind, Before}
-use Rattle.pcf_reader.specs.Tokens.{Number, Name, End}
+use Rattle.pcf_reader.specs.Tokens.{Token, Open, Close, Colon, Dot, Comma, Sign, Arrow, Ifz, Then, Else, Nat, Bind, Before}
+use Rattle.pcf_reader.specs.Tokens.{Number, Name, End, is_sum, is_star}
 use Rattle.pcf_reader.specs.Grammar.{Part, join, binary, app_part, higher, choice_part}
 
 -- what is open around a term: around an expr, a product, an app and an atom
@@ -23,12 +23,11 @@ mutual
 
   pub data ProductK : Type 0 where
     first_product : ExprK → ProductK
-    right_of_plus : Part → ExprK → ProductK
-    right_of_minus : Part → ExprK → ProductK
+    right_of_sum : Part → Operator → ExprK → ProductK
 
   pub data AppK : Type 0 where
     first_app : ProductK → AppK
-    right_of_times : Part → ProductK → AppK
+    right_of_product : Part → Operator → ProductK → AppK
 
   pub data AtomK : Type 0 where
     first_atom : AppK → AtomK
@@ -59,12 +58,11 @@ abbrev mutual
 
   pub product_open : ProductK → ℕ
   product_open (first_product k) = expr_open k
-  product_open (right_of_plus _ k) = expr_open k
-  product_open (right_of_minus _ k) = expr_open k
+  product_open (right_of_sum _ _ k) = expr_open k
 
   pub app_open : AppK → ℕ
   app_open (first_app k) = product_open k
-  app_open (right_of_times _ k) = product_open k
+  app_open (right_of_product _ _ k) = product_open k
 
   pub atom_open : AtomK → ℕ
   atom_open (first_atom k) = app_open k
@@ -153,22 +151,22 @@ after_expr (in_then o c k) e at _ = refuse
 after_expr (in_else o c p k) e at y = after_expr k (choice_part o c p e) at y
 
 abbrev pub after_sum : ExprK → Part → ℕ → Token → Step
-after_sum k s at Plus = go s.height 1 (want_atom (first_atom (first_app (right_of_plus s k))))
-after_sum k s at Minus = go s.height 1 (want_atom (first_atom (first_app (right_of_minus s k))))
+after_sum k s at (Sign op) =
+    if is_sum op then go s.height 1 (want_atom (first_atom (first_app (right_of_sum s op k)))) else after_expr k s at (Sign op)
 after_sum k s at x = after_expr k s at x
 
 abbrev pub end_product : ProductK → Part → ℕ → Token → Step
 end_product (first_product k) m at x = after_sum k m at x
-end_product (right_of_plus s k) m at x = after_sum k (binary plus_op s m) at x
-end_product (right_of_minus s k) m at x = after_sum k (binary minus_op s m) at x
+end_product (right_of_sum s op k) m at x = after_sum k (binary op s m) at x
 
 abbrev pub after_product : ProductK → Part → ℕ → Token → Step
-after_product k m at Times = go m.height 1 (want_atom (first_atom (right_of_times m k)))
+after_product k m at (Sign op) =
+    if is_sum op then end_product k m at (Sign op) else go m.height 1 (want_atom (first_atom (right_of_product m op k)))
 after_product k m at x = end_product k m at x
 
 abbrev pub end_app : AppK → Part → ℕ → Token → Step
 end_app (first_app k) f at x = after_product k f at x
-end_app (right_of_times m k) f at x = after_product k (binary times_op m f) at x
+end_app (right_of_product m op k) f at x = after_product k (binary op m f) at x
 
 abbrev pub after_app : AppK → Part → ℕ → Token → Step
 after_app k f at x = if starts_atom x then begin_atom (argument f k) at x else end_app k f at x
@@ -194,8 +192,7 @@ end_ptype (first_ptype k) t at x = after_ptype k t at x
 end_ptype (right_of_cross a k) t at x = end_ptype k (product a t) at x
 
 abbrev pub after_type_atom : PTypeK → TyTree → ℕ → Token → Step
-after_type_atom k t at Times = go (ptype_open k) 0 (want_tatom (right_of_cross t k))
-after_type_atom k t at x = end_ptype k t at x
+after_type_atom k t at x = if is_star x then go (ptype_open k) 0 (want_tatom (right_of_cross t k)) else end_ptype k t at x
 
 abbrev pub step : State → ℕ → Token → Step
 step (want_expr k) at x = begin_expr k at x

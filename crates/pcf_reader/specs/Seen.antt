@@ -7,31 +7,21 @@ use Rattle.pcf_reader.specs.Grammar.{Part as SpecPart}
 use Rattle.pcf_values.specs.Views.{named_of}
 use Rattle.pcf_reader.specs.declared.terms.Part.{Part}
 use Rattle.pcf_reader.specs.declared.token.Word.{Word}
-use Rattle.pcf_reader.specs.declared.token.Word.TheVariants.{Succ, Pred, Fst, Snd}
+use Rattle.pcf_reader.specs.declared.token.Word.TheVariants as word
 use Rattle.pcf_reader.specs.declared.token.Binder.{Binder}
 use Rattle.pcf_reader.specs.declared.token.Binder.TheVariants.{Fun, Fix}
-use Rattle.pcf_reader.specs.declared.token.Operator.{Operator}
-use Rattle.pcf_reader.specs.declared.token.Operator.TheVariants as operator
-use Rattle.pcf_values.specs.declared.operator.Operator.{Operator}
-use Rattle.pcf_values.specs.declared.operator.Operator.TheVariants.{Plus as plus_op, Minus as minus_op, Times as times_op}
 use Rattle.pcf_reader.specs.declared.token.Token.{Token}
-use Rattle.pcf_reader.specs.declared.token.Token.TheVariants.{Open, Close, Colon, Dot, Comma, Plus, Minus, Times, Arrow, Ifz, Then, Else}
+use Rattle.pcf_reader.specs.declared.token.Token.TheVariants.{Open, Close, Colon, Dot, Comma, Sign, Arrow, Ifz, Then, Else}
 use Rattle.pcf_reader.specs.declared.token.Token.TheVariants.{Nat, Bind, Before, Number, Name, End}
 
 abbrev pub word_of : Word → syntax.Word
-word_of Succ = syntax.the_succ
-word_of Pred = syntax.the_pred
-word_of Fst = syntax.the_fst
-word_of Snd = syntax.the_snd
+word_of word.Succ = syntax.the_succ
+word_of word.Pred = syntax.the_pred
+word_of (word.Part s) = syntax.the_part s
 
 abbrev pub binder_of : Binder → syntax.Binder
 binder_of Fun = syntax.the_fun
 binder_of Fix = syntax.the_fix
-
-abbrev pub op_of : Operator → Operator
-op_of operator.Plus = plus_op
-op_of operator.Minus = minus_op
-op_of operator.Times = times_op
 
 -- the token, where a name has these bytes
 abbrev pub token_of : Token → List ℕ → SpecToken
@@ -40,9 +30,7 @@ token_of Close x = tokens.Close
 token_of Colon x = tokens.Colon
 token_of Dot x = tokens.Dot
 token_of Comma x = tokens.Comma
-token_of Plus x = tokens.Plus
-token_of Minus x = tokens.Minus
-token_of Times x = tokens.Times
+token_of (Sign o) x = tokens.Sign o
 token_of Arrow x = tokens.Arrow
 token_of Ifz x = tokens.Ifz
 token_of Then x = tokens.Then

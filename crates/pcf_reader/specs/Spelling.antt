@@ -6,8 +6,10 @@ use Rattle.std.specs.Prelude.{List, [], ◌∷◌, ◌++◌, Option, Some, None,
 use Rattle.std.specs.Str.{bytes_eq}
 use Rattle.std.specs.Char.{len_utf8}
 use Rattle.unicode_ident.specs.Ident.{is_xid_start, is_xid_continue}
-use Rattle.pcf_values.specs.Named.{the_succ, the_pred, the_fst, the_snd, the_fun, the_fix}
-use Rattle.pcf_reader.specs.Tokens.{Token, Open, Close, Colon, Dot, Comma, Plus, Minus, Times, Arrow, Ifz, Then, Else, Nat, Bind, Before}
+use Rattle.pcf_values.specs.declared.operator.Operator.TheVariants.{Plus, Minus, Times}
+use Rattle.pcf_values.specs.declared.side.Side.TheVariants.{Left, Right}
+use Rattle.pcf_values.specs.Named.{the_succ, the_pred, the_part, the_fun, the_fix}
+use Rattle.pcf_reader.specs.Tokens.{Token, Open, Close, Colon, Dot, Comma, Sign, Arrow, Ifz, Then, Else, Nat, Bind, Before}
 use Rattle.pcf_reader.specs.Tokens.{Number, Name, End, Junk, Placed}
 
 abbrev pub is_blank : ℕ → Bool
@@ -19,22 +21,34 @@ is_digit c = nat_le 48 c && nat_le c 57
 abbrev pub starts_name : ℕ → Bool
 starts_name c = is_xid_start c || c == 95
 
--- the sign of one character
+-- the signs of one character
+abbrev pub signs : List (ℕ × Token)
+signs =
+    (40, Open) ∷ (41, Close) ∷ (58, Colon) ∷ (46, Dot) ∷ (44, Comma) ∷ (43, Sign Plus) ∷ (45, Sign Minus) ∷ (42, Sign Times) ∷ []
+
+-- the token of a character in a table, or none
+abbrev pub sign_in : List (ℕ × Token) → ℕ → Option Token
+sign_in [] c = None
+sign_in (s ∷ ss) c = if c == s.0 then Some s.1 else sign_in ss c
+
 abbrev pub sign_of : ℕ → Option Token
-sign_of c =
-    if c == 40 then Some Open else if c == 41 then Some Close else if c == 58 then Some Colon else if c == 46 then Some Dot
-    else if c == 44 then Some Comma else if c == 43 then Some Plus else if c == 45 then Some Minus else if c == 42 then Some Times else None
+sign_of c = sign_in signs c
+
+-- the keywords
+abbrev pub keywords : List (List ℕ × Token)
+keywords =
+    (codes "fun", Bind the_fun) ∷ (codes "fix", Bind the_fix) ∷ (codes "ifz", Ifz) ∷ (codes "then", Then) ∷ (codes "else", Else) ∷
+    (codes "succ", Before the_succ) ∷ (codes "pred", Before the_pred) ∷ (codes "fst", Before (the_part Left)) ∷
+    (codes "snd", Before (the_part Right)) ∷ (codes "nat", Nat) ∷ []
+
+-- the token of a word in a table, and else the name
+abbrev pub word_in : List (List ℕ × Token) → List ℕ → Token
+word_in [] cs = Name cs
+word_in (k ∷ ks) cs = if bytes_eq cs k.0 then k.1 else word_in ks cs
 
 -- the bytes of a word are a keyword or a name
 unfoldable pub word_of : List ℕ → Token
-word_of cs =
-    if bytes_eq cs (codes "fun") then Bind the_fun else if bytes_eq cs (codes "fix") then Bind the_fix else if bytes_eq cs (codes "ifz")
-    then Ifz
-    else if bytes_eq cs (codes "then") then Then else if bytes_eq cs (codes "else") then Else else if bytes_eq cs (codes "succ") then Before
-    the_succ
-    else if bytes_eq cs (codes "pred") then Before the_pred else if bytes_eq cs (codes "fst") then Before the_fst else if bytes_eq cs
-    (codes "snd") then Before the_snd
-    else if bytes_eq cs (codes "nat") then Nat else Name cs
+word_of cs = word_in keywords cs
 
 abbrev pub value_from : ℕ → List ℕ → ℕ
 value_from n [] = n

@@ -1,7 +1,9 @@
 -- The tokens of a text, each with its place.
 -- The words before an atom are one form, and so are the binders, as in the trees. The end of the text is a token, so that it can be
 -- expected and unexpected like any other; so is a place where no token begins, which no phrase has.
-use Rattle.std.specs.Prelude.{ℕ, List}
+use Rattle.std.specs.Prelude.{ℕ, Bool, true, false, List}
+use Rattle.pcf_values.specs.declared.operator.Operator.{Operator}
+use Rattle.pcf_values.specs.declared.operator.Operator.TheVariants.{Plus, Minus, Times}
 use Rattle.pcf_values.specs.Named.{Word, Binder}
 
 pub data Token : Type 0 where
@@ -10,9 +12,8 @@ pub data Token : Type 0 where
   Colon : Token
   Dot : Token
   Comma : Token
-  Plus : Token
-  Minus : Token
-  Times : Token
+  -- the sign of an operator; that of the product stands between types, too
+  Sign : Operator → Token
   Arrow : Token
   Ifz : Token
   Then : Token
@@ -26,6 +27,20 @@ pub data Token : Type 0 where
   End : Token
   -- no token begins here
   Junk : Token
+
+-- an operator whose sign stands in sums; the others stand in products
+abbrev pub is_sum : Operator → Bool
+is_sum Plus = true
+is_sum Minus = true
+is_sum Times = false
+
+-- the sign between the types of a pair's parts
+abbrev pub star : Token
+star = Sign Times
+
+abbrev pub is_star : Token → Bool
+is_star (Sign Times) = true
+is_star _ = false
 
 pub record Placed : Type 0 where
   pub at : ℕ

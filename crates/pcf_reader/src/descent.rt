@@ -18,9 +18,10 @@ ghost use Rattle.pcf_values.specs.Most.{most_open};
 ghost use Rattle.pcf_reader.specs.Sizes.{most_read_height};
 
 use crate::fault::ReadFault;
+use crate::lexer::is_sum;
 use crate::reader::{Reader, may_open};
 use crate::terms::{Part, applied, bound, chosen, operated, over, paired, prefixed, wrapped};
-use crate::token::{Binder, Operator, Token};
+use crate::token::{Binder, Token};
 use crate::types::type_of;
 use pcf_values::{Ident, Raw, Ty};
 use std::alloc::Global;
@@ -180,15 +181,10 @@ fn sum(reader: &mut Reader, alloc: Global, depth: u32) -> Result<Part, ReadFault
     let mut sum = product(reader, alloc, depth)?;
     loop {
         match reader.token() {
-            Token::Plus => {
+            Token::Sign(operator) if is_sum(operator) => {
                 reader.take_at(sum.height, 1)?;
                 let right = product(reader, alloc, depth)?;
-                sum = operated(alloc, Operator::Plus, sum, right)?;
-            }
-            Token::Minus => {
-                reader.take_at(sum.height, 1)?;
-                let right = product(reader, alloc, depth)?;
-                sum = operated(alloc, Operator::Minus, sum, right)?;
+                sum = operated(alloc, operator, sum, right)?;
             }
             _ => return Ok(sum),
         }
@@ -207,10 +203,10 @@ fn product(reader: &mut Reader, alloc: Global, depth: u32) -> Result<Part, ReadF
     let mut product = application(reader, alloc, depth)?;
     loop {
         match reader.token() {
-            Token::Times => {
+            Token::Sign(operator) if !is_sum(operator) => {
                 reader.take_at(product.height, 1)?;
                 let right = application(reader, alloc, depth)?;
-                product = operated(alloc, Operator::Times, product, right)?;
+                product = operated(alloc, operator, product, right)?;
             }
             _ => return Ok(product),
         }

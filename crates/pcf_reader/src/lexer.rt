@@ -5,11 +5,13 @@ ghost use Rattle.std.specs.Prelude.{length, ◌==◌, List, MatchOption, Some, N
 ghost use Rattle.std.specs.Str.{chars, IsUtf8};
 ghost use Rattle.std.specs.Char.{len_utf8};
 ghost use Rattle.pcf_reader.specs.Seen.{token_of};
+ghost use Rattle.pcf_reader.specs.Tokens.{is_sum};
 ghost use Rattle.pcf_reader.specs.Spelling.{word_of, sign_of, is_blank, is_digit, starts_name};
 ghost use Rattle.pcf_reader.specs.Lexing.{lex, idle, in_comment, in_word, in_number, closed, capped};
 ghost use Rattle.unicode_ident.specs.Ident.{is_xid_continue};
 
 use crate::token::{Binder, Token, Word};
+use pcf_values::{Operator, Side};
 
 /// The first character of a text, and the rest.
 pub fn split_char(text: &str) -> Option<(char, &str)>
@@ -102,8 +104,8 @@ pub fn keyword(word: &str) -> Token
         "else" => Token::Else,
         "succ" => Token::Before(Word::Succ),
         "pred" => Token::Before(Word::Pred),
-        "fst" => Token::Before(Word::Fst),
-        "snd" => Token::Before(Word::Snd),
+        "fst" => Token::Before(Word::Part(Side::Left)),
+        "snd" => Token::Before(Word::Part(Side::Right)),
         "nat" => Token::Nat,
         _ => Token::Name,
     }
@@ -142,8 +144,18 @@ pub fn sign(c: char) -> Option<Token>
         ':' => Some(Token::Colon),
         '.' => Some(Token::Dot),
         ',' => Some(Token::Comma),
-        '+' => Some(Token::Plus),
-        '*' => Some(Token::Times),
+        '+' => Some(Token::Sign(Operator::Plus)),
+        '*' => Some(Token::Sign(Operator::Times)),
         _ => None,
+    }
+}
+
+/// Whether an operator's sign stands in sums. The others stand in products.
+pub fn is_sum(operator: Operator) -> bool
+    ensures { result ≡ is_sum operator }
+{
+    match operator {
+        Operator::Plus | Operator::Minus => true,
+        Operator::Times => false,
     }
 }

@@ -1,11 +1,12 @@
 //! How types and terms are printed.
 
 ghost use Rattle.std.specs.Prelude.{◌≡◌, ◌++◌, codes, OnOk, IfOk, decimal};
-ghost use Rattle.pcf_reader.specs.Printed.{fitted, ty_level, ty_text, level, term_text};
+ghost use Rattle.pcf_reader.specs.Printed.{fitted, ty_level, ty_text, op_text, op_level, right_level, level, term_text};
 ghost use Rattle.pcf_values.specs.Views.{ty_of, named_of};
 
+use crate::lexer::is_sum;
 use itoa::Buffer;
-use pcf_values::{Ident, Named, Raw, Ty};
+use pcf_values::{Ident, Named, Operator, Raw, Side, Ty};
 use std::alloc::{AllocError, Global};
 
 /// The spelling of a type: `nat`, `A -> B` or `A * B`, with parentheses exactly where the grammar needs them.
@@ -78,6 +79,31 @@ fn push_fitted_ty(out: &mut Vec<u8>, most: u8, ty: &Ty) -> Result<(), AllocError
     }
 }
 
+/// An operator between two blanks.
+fn op_text(operator: Operator) -> &'static [u8]
+    ensures { result.now ≡ op_text operator }
+{
+    match operator {
+        Operator::Plus => b" + ",
+        Operator::Minus => b" - ",
+        Operator::Times => b" * ",
+    }
+}
+
+/// The level of an operator's form, which is also the highest level of its left operand.
+fn op_level(operator: Operator) -> u8
+    ensures { result ≡ op_level operator }
+{
+    if is_sum(operator) { 3 } else { 2 }
+}
+
+/// The highest level of an operator's right operand.
+fn right_level(operator: Operator) -> u8
+    ensures { result ≡ right_level operator }
+{
+    if is_sum(operator) { 2 } else { 1 }
+}
+
 fn level_of(term: &Named) -> u8
     ensures { result ≡ level (named_of term.now) }
 {
@@ -86,12 +112,10 @@ fn level_of(term: &Named) -> u8
         | Raw::Name(_)
         | Raw::Succ(_)
         | Raw::Pred(_)
-        | Raw::Fst(_)
-        | Raw::Snd(_)
+        | Raw::Proj(_, _)
         | Raw::Pair(_, _) => 0,
         Raw::App(_, _) => 1,
-        Raw::Times(_, _) => 2,
-        Raw::Plus(_, _) | Raw::Minus(_, _) => 3,
+        Raw::Binary(operator, _, _) => op_level(*operator),
         Raw::Ifz(_, _, _) | Raw::Fun(_, _, _) | Raw::Fix(_, _, _) => 4,
     }
 }
@@ -123,12 +147,10 @@ fn push_term(out: &mut Vec<u8>, term: &Named) -> Result<(), AllocError>
         Raw::Name(x) => out.extend_from_slice(x.as_str().as_bytes()),
         Raw::Succ(a) => push_fitted(out, b"succ ", 0, a),
         Raw::Pred(a) => push_fitted(out, b"pred ", 0, a),
-        Raw::Fst(a) => push_fitted(out, b"fst ", 0, a),
-        Raw::Snd(a) => push_fitted(out, b"snd ", 0, a),
-        Raw::Plus(a, b) => push_binary(out, 3, a, b" + ", 2, b),
-        Raw::Minus(a, b) => push_binary(out, 3, a, b" - ", 2, b),
-        Raw::Times(a, b) => push_binary(out, 2, a, b" * ", 1, b),
-        Raw::App(f, a) => push_binary(out, 1, f, b" ", 0, a),
+        Raw::Proj(Side::Left, a) => push_fitted(out, b"fst ", 0, a),
+        Raw::Proj(Side::Right, a) => push_fitted(out, b"snd ", 0, a),
+        Raw::Binary(operator, a, b) => push_operated(out, *operator, a, b),
+        Raw::App(f, a) => push_applied(out, f, a),
         Raw::Ifz(c, p, q) => push_choice(out, c, p, q),
         Raw::Fun(x, ty, body) => push_binding(out, b"fun ", x, ty, body),
         Raw::Fix(x, ty, body) => push_binding(out, b"fix ", x, ty, body),
@@ -136,21 +158,31 @@ fn push_term(out: &mut Vec<u8>, term: &Named) -> Result<(), AllocError>
     }
 }
 
-/// Two parts of a term with what stands between them, each in parentheses unless its level is at most the one beside it.
+/// A function and its argument.
 #[cycle(print_terms)]
-fn push_binary(
+fn push_applied(out: &mut Vec<u8>, function: &Named, argument: &Named) -> Result<(), AllocError>
+    ensures { OnOk result (out.new.items ≡ out.old.items ++
+        fitted 1 (level (named_of function.now)) (term_text (named_of function.now)) ++ codes " " ++
+        fitted 0 (level (named_of argument.now)) (term_text (named_of argument.now))) }
+{
+    push_fitted(out, b"", 1, function)?;
+    push_fitted(out, b" ", 0, argument)
+}
+
+/// Two operands with their operator between them.
+#[cycle(print_terms)]
+fn push_operated(
     out: &mut Vec<u8>,
-    left_most: u8,
+    operator: Operator,
     left: &Named,
-    between: &[u8],
-    right_most: u8,
     right: &Named,
 ) -> Result<(), AllocError>
-    ensures { OnOk result (out.new.items ≡ out.old.items ++ fitted left_most (level (named_of left.now)) (term_text (named_of left.now))
-        ++ between.now ++ fitted right_most (level (named_of right.now)) (term_text (named_of right.now))) }
+    ensures { OnOk result (out.new.items ≡ out.old.items ++
+        fitted (op_level operator) (level (named_of left.now)) (term_text (named_of left.now)) ++ op_text operator ++
+        fitted (right_level operator) (level (named_of right.now)) (term_text (named_of right.now))) }
 {
-    push_fitted(out, b"", left_most, left)?;
-    push_fitted(out, between, right_most, right)
+    push_fitted(out, b"", op_level(operator), left)?;
+    push_fitted(out, op_text(operator), right_level(operator), right)
 }
 
 #[cycle(print_terms)]

@@ -19,8 +19,8 @@ use crate::lexer::{
     starts_name,
 };
 use crate::token::Token;
-use pcf_values::Ident;
 use pcf_values::limits::{OPEN_PHRASES, PROGRAM_NODES};
+use pcf_values::{Ident, Operator};
 use std::alloc::Global;
 use std::marker::Model;
 
@@ -237,10 +237,10 @@ fn at_dash(text: &str, at: u32, nodes: u32) -> Reader<'_>
             if first == '>' {
                 reader_of(Token::Arrow, at, text, more, at + 2, nodes)
             } else {
-                reader_of(Token::Minus, at, text, text, at + 1, nodes)
+                reader_of(Token::Sign(Operator::Minus), at, text, text, at + 1, nodes)
             }
         }
-        None => reader_of(Token::Minus, at, text, text, at + 1, nodes),
+        None => reader_of(Token::Sign(Operator::Minus), at, text, text, at + 1, nodes),
     }
 }
 

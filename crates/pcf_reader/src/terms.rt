@@ -1,15 +1,15 @@
 //! The parts of a term while it is read: each is a tree and its height as written, which counts parentheses.
 
 ghost use Rattle.std.specs.Prelude.{◌≡◌, ◌+◌, ◌≤◌, IfOk, IfErr};
-ghost use Rattle.pcf_reader.specs.Seen.{binder_of, op_of, part_of, word_of};
+ghost use Rattle.pcf_reader.specs.Seen.{binder_of, part_of, word_of};
 ghost use Rattle.pcf_values.specs.Views.{named_of, raw_of, ty_of};
 ghost use Rattle.pcf_reader.specs.Grammar.{higher, join, binary, app_part, choice_part};
 ghost use Rattle.pcf_values.specs.Named.{place_of, word_at as word_tree, pair_at as pair_tree, bind_at as bind_tree};
 ghost use Rattle.pcf_reader.specs.Sizes.{most_read_height};
 
 use crate::fault::ReadFault;
-use crate::token::{Binder, Operator, Word};
-use pcf_values::{Ident, Named, Raw, Ty};
+use crate::token::{Binder, Word};
+use pcf_values::{Ident, Named, Operator, Raw, Ty};
 use std::alloc::Global;
 
 /// A term that has been read, and its height as written.
@@ -67,8 +67,7 @@ pub fn prefixed(alloc: Global, at: u32, word: Word, inner: Part) -> Result<Part,
     let raw = match word {
         Word::Succ => Raw::Succ(inner.tree),
         Word::Pred => Raw::Pred(inner.tree),
-        Word::Fst => Raw::Fst(inner.tree),
-        Word::Snd => Raw::Snd(inner.tree),
+        Word::Part(side) => Raw::Proj(side, inner.tree),
     };
     over(alloc, at, raw, inner.height)
 }
@@ -85,17 +84,17 @@ pub fn operated(
     right: Part,
 ) -> Result<Part, ReadFault>
     requires { (left.height ≤ most_read_height) × (right.height ≤ most_read_height) }
-    ensures ok { IfOk result (λ p. part_of p ≡ binary (op_of operator) (part_of left) (part_of right)) }
+    ensures ok { IfOk result (λ p. part_of p ≡ binary operator (part_of left) (part_of right)) }
     ensures err { IfErr result (λ f. f ≡ ReadFault.NoMemory) }
 {
     let at = place_of(&left.tree);
     let height = left.height.max(right.height);
-    let raw = match operator {
-        Operator::Plus => Raw::Plus(left.tree, right.tree),
-        Operator::Minus => Raw::Minus(left.tree, right.tree),
-        Operator::Times => Raw::Times(left.tree, right.tree),
-    };
-    over(alloc, at, raw, height)
+    over(
+        alloc,
+        at,
+        Raw::Binary(operator, left.tree, right.tree),
+        height,
+    )
 }
 
 /// An application.

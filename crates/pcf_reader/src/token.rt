@@ -1,5 +1,7 @@
 //! The tokens of a text.
 
+use pcf_values::{Operator, Side};
+
 /// A word before an atom.
 #[derive(Clone, Copy)]
 pub enum Word {
@@ -7,10 +9,8 @@ pub enum Word {
     Succ,
     /// `pred`
     Pred,
-    /// `fst`
-    Fst,
-    /// `snd`
-    Snd,
+    /// `fst` or `snd`, the part of a pair on a side.
+    Part(Side),
 }
 
 /// A word that binds a name.
@@ -20,17 +20,6 @@ pub enum Binder {
     Fun,
     /// `fix`
     Fix,
-}
-
-/// An operator between two terms.
-#[derive(Clone, Copy)]
-pub enum Operator {
-    /// `+`
-    Plus,
-    /// `-`
-    Minus,
-    /// `*`
-    Times,
 }
 
 /// A token. A name's text stands beside it in the reader.
@@ -46,12 +35,8 @@ pub enum Token {
     Dot,
     /// `,`
     Comma,
-    /// `+`
-    Plus,
-    /// `-`
-    Minus,
-    /// `*`, between terms or types
-    Times,
+    /// The sign of an operator. That of the product stands between types, too.
+    Sign(Operator),
     /// `->`
     Arrow,
     /// `ifz`

@@ -10,7 +10,7 @@ ghost use Rattle.pcf_values.specs.Most.{most_open};
 use crate::fault::ReadFault;
 use crate::reader::Reader;
 use crate::token::Token;
-use pcf_values::Ty;
+use pcf_values::{Operator, Ty};
 use std::alloc::Global;
 
 /// A type.
@@ -46,7 +46,7 @@ fn product_of(reader: &mut Reader, alloc: Global, depth: u32) -> Result<Box<Ty>,
 {
     let left = atom_of(reader, alloc, depth)?;
     match reader.token() {
-        Token::Times => {
+        Token::Sign(Operator::Times) => {
             reader.take_at(depth, 0)?;
             let right = product_of(reader, alloc, depth + 1)?;
             Ok(Box::new(alloc, Ty::Product(left, right))?)

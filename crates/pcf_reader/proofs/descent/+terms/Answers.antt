@@ -18,6 +18,3 @@ application-returns-in_err-argument-clause-goes t c = search rules
 
 pub application-loop-alloc-preserved : goal.application-loop-alloc-preserved
 application-loop-alloc-preserved t c = search rules
-
-pub sum-loop-reader-preserved-in-Plus : goal.sum-loop-reader-preserved-in-Plus
-sum-loop-reader-preserved-in-Plus t c = search rules

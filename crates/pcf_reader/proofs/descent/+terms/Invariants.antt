@@ -48,24 +48,24 @@ invariant-application-loop-alloc l = record {
 abbrev pub decreases-application-loop-alloc : goal.decreases-application-loop-alloc
 decreases-application-loop-alloc l = length l.reader.after
 
-abbrev pub invariant-product-loop-reader : goal.invariant-product-loop-reader
-invariant-product-loop-reader l = record {
+abbrev pub invariant-product-loop-operator : goal.invariant-product-loop-operator
+invariant-product-loop-operator l = record {
   goes : (k : ProductK) → product_open k ≡ l.depth →
       resume (begin_atom (first_atom (first_app k))) l.fn.reader ≡ resume (after_product k (part_of l.product)) l.reader;
   shorter : length l.reader.after < length l.fn.reader.after;
   low : l.product.height + 4 * l.depth + 1 ≤ most_read_height;
 }
 
-abbrev pub decreases-product-loop-reader : goal.decreases-product-loop-reader
-decreases-product-loop-reader l = length l.reader.after
+abbrev pub decreases-product-loop-operator : goal.decreases-product-loop-operator
+decreases-product-loop-operator l = length l.reader.after
 
-abbrev pub invariant-sum-loop-reader : goal.invariant-sum-loop-reader
-invariant-sum-loop-reader l = record {
+abbrev pub invariant-sum-loop-operator : goal.invariant-sum-loop-operator
+invariant-sum-loop-operator l = record {
   goes : (k : ExprK) → expr_open k ≡ l.depth → resume (begin_atom (first_atom (first_app (first_product k)))) l.fn.reader ≡ resume
       (after_sum k (part_of l.sum)) l.reader;
   shorter : length l.reader.after < length l.fn.reader.after;
   low : l.sum.height + 4 * l.depth ≤ most_read_height;
 }
 
-abbrev pub decreases-sum-loop-reader : goal.decreases-sum-loop-reader
-decreases-sum-loop-reader l = length l.reader.after
+abbrev pub decreases-sum-loop-operator : goal.decreases-sum-loop-operator
+decreases-sum-loop-operator l = length l.reader.after

@@ -12,8 +12,11 @@ decreases-push_fitted l = 3 * named_size (named_of l.term.now) + 1
 abbrev pub decreases-push_after : goal.decreases-push_after
 decreases-push_after l = 3 * named_size (named_of l.term.now) + 1
 
-abbrev pub decreases-push_binary : goal.decreases-push_binary
-decreases-push_binary l = 3 * (named_size (named_of l.left.now) + named_size (named_of l.right.now)) + 2
+abbrev pub decreases-push_operated : goal.decreases-push_operated
+decreases-push_operated l = 3 * (named_size (named_of l.left.now) + named_size (named_of l.right.now)) + 2
+
+abbrev pub decreases-push_applied : goal.decreases-push_applied
+decreases-push_applied l = 3 * (named_size (named_of l.function.now) + named_size (named_of l.argument.now)) + 2
 
 abbrev pub decreases-push_choice : goal.decreases-push_choice
 decreases-push_choice l = 3 * (named_size (named_of l.test.now) + named_size (named_of l.yes.now) + named_size (named_of l.no.now)) + 2
