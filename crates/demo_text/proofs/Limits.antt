@@ -1,21 +1,21 @@
 -- The generated program is within the limits: how long its text is, how deep its tokens stand, and how many nodes they count.
-use Rattle.std.proofs.Common.{◌≡◌, ℕ, zero, suc, ◌+◌, ◌*◌, ◌^◌, ◌<◌, ◌≤◌, Bool, true, ◌&&◌, nat_lt, max}
+use Rattle.std.proofs.Common.{◌≡◌, ℕ, zero, suc, ◌+◌, ◌*◌, ◌^◌, ◌<◌, ◌≤◌, true, nat_lt, max}
 use Rattle.std.proofs.Common.{List, [], ◌∷◌, ◌++◌, length, refl}
 use Rattle.std.proofs.Common.{ap, ◌∙◌, arith, length-append}
 use Rattle.std.specs.Prelude.{codes, encode_utf8_all}
 use Rattle.std.specs.Str.{all_scalars}
 use Rattle.std.proofs.Math.Nat.{pow-le-pow_right}
-use Rattle.std.proofs.lemmas.Bool.{and_from, and_parts, ltb-true}
-use Rattle.std.proofs.lemmas.Str.{encode_ascii}
+use Rattle.std.proofs.lemmas.Bool.{and_from, and_parts}
 use Rattle.std.proofs.lemmas.Grind.{pow_more}
-use lib.Utf8.{low_scalar}
 use Rattle.pcf_values.specs.Most.{most_demo}
+use Rattle.pcf_values.specs.declared.operator.Operator.TheVariants.{Plus}
 use Rattle.pcf_reader.specs.Grammar.{Written, plain, marked, expr_part, expr_text, program_text}
-use Rattle.pcf_reader.specs.Tokens.{Close, End, Open, Plus}
+use Rattle.pcf_reader.specs.Tokens.{Close, End, Open, Sign}
 use Rattle.pcf_reader.specs.Sizes.{node_count}
 use Rattle.pcf_reader.specs.Text.{Each, IsShallow, count_of}
 use Rattle.pcf_reader.proofs.Bounds.{program_count}
 use Rattle.pcf_reader.proofs.Lists.{WritesNarrow, each_append}
+use Rattle.pcf_reader.proofs.Shows.{all_low, low_bytes, low_scalars}
 use Rattle.demo_text.specs.Demo.{demo_text, sum_text}
 use Rattle.demo_text.proofs.Phrases.{demo_end, demo_program, right_of, sum_end, sum_phrase, sum_tokens, sum_width, tail_tokens}
 
@@ -53,35 +53,12 @@ pub demo_short : (n : ℕ) → n ≤ most_demo → length (demo_text n) ≤ 1048
 demo_short n h =
     omega (arith, length-append (sum_text n) (codes ") (fun x:nat. x + x)\n"), sum_length n, width_leaves n, most_leaves n h)
 
--- it is ASCII, so that its characters are its bytes
-abbrev all_low : List ℕ → Bool
-all_low [] = true
-all_low (c ∷ cs) = nat_lt c 128 && all_low cs
-
--- two ASCII texts, one behind the other
+-- it is ASCII, so that its characters are its bytes: two ASCII texts, one behind the other
 low_join : (u v : List ℕ) → all_low u ≡ true → all_low v ≡ true → all_low (u ++ v) ≡ true
 low_join [] v h k = k
 low_join (c ∷ u) v h k =
     and_from (nat_lt c 128) (all_low (u ++ v)) (and_parts (nat_lt c 128) (all_low u) h).0
     (low_join u v (and_parts (nat_lt c 128) (all_low u) h).1 k)
-
--- the first character of an ASCII text
-low_first : (c : ℕ) (cs : List ℕ) → all_low (c ∷ cs) ≡ true → c < 128
-low_first c cs h = ltb-true c 128 (and_parts (nat_lt c 128) (all_low cs) h).0
-
--- an ASCII text is its own bytes
-low_bytes : (cs : List ℕ) → all_low cs ≡ true → encode_utf8_all cs ≡ cs
-low_bytes [] h = refl
-low_bytes (c ∷ cs) h =
-    ap (λ z. z ++ encode_utf8_all cs) (encode_ascii c (low_first c cs h))
-    ∙ ap (λ z. c ∷ z) (low_bytes cs (and_parts (nat_lt c 128) (all_low cs) h).1)
-
--- and its characters are ones
-low_scalars : (cs : List ℕ) → all_low cs ≡ true → all_scalars cs ≡ true
-low_scalars [] h = refl
-low_scalars (c ∷ cs) h =
-    let low : c < 128 = low_first c cs h in
-    and_from _ (all_scalars cs) (low_scalar c (omega (arith, low))) (low_scalars cs (and_parts (nat_lt c 128) (all_low cs) h).1)
 
 -- a sum is ASCII
 sum_low : (k : ℕ) → all_low (sum_text k) ≡ true
@@ -118,7 +95,7 @@ sum_shallow (suc k) o at small =
     let close_2 : Written = plain (right_of k at + sum_width k) Close in
     let here : max 0 o < 500 = omega (arith, small) in
     let more : List Written =
-    marked ((close.at + 1) + 1) Plus (suc (expr_part (sum_phrase k (at + 1))).height) 1 ∷ marked ((close.at + 1) + 3) Open (max 0 o) 0
+    marked ((close.at + 1) + 1) (Sign Plus) (suc (expr_part (sum_phrase k (at + 1))).height) 1 ∷ marked ((close.at + 1) + 3) Open (max 0 o) 0
     ∷ (second ++ close_2 ∷ []) in
     let plus : suc (expr_part (sum_phrase k (at + 1))).height < 500 = omega (arith, small, sum_height k (at + 1)) in (
       here,
@@ -164,7 +141,7 @@ sum_narrow (suc k) o at =
     let close : Written = plain ((at + 1) + sum_width k) Close in
     let close_2 : Written = plain (right_of k at + sum_width k) Close in
     let more : List Written =
-    marked ((close.at + 1) + 1) Plus (suc (expr_part (sum_phrase k (at + 1))).height) 1 ∷ marked ((close.at + 1) + 3) Open (max 0 o) 0
+    marked ((close.at + 1) + 1) (Sign Plus) (suc (expr_part (sum_phrase k (at + 1))).height) 1 ∷ marked ((close.at + 1) + 3) Open (max 0 o) 0
     ∷ (second ++ close_2 ∷ []) in (
       tt,
       each_append WritesNarrow (first ++ close ∷ []) more
