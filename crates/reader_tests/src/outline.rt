@@ -2,7 +2,7 @@
 
 use crate::rows::{Asked, first_wrong};
 use pcf_reader::{print_ty, read_program};
-use pcf_values::{Ident, Named, Raw, Ty};
+use pcf_values::{Ident, Named, Operator, Raw, Side, Ty};
 use std::alloc::{AllocError, Global};
 use std::test::Fail;
 
@@ -25,11 +25,9 @@ fn push(alloc: Global, out: &mut Vec<u8>, tree: &Named, placed: bool) -> Result<
         Raw::Name(x) => out.extend_from_slice(x.as_str().as_bytes()),
         Raw::Succ(a) => push_part(alloc, out, b"succ", a, placed),
         Raw::Pred(a) => push_part(alloc, out, b"pred", a, placed),
-        Raw::Fst(a) => push_part(alloc, out, b"fst", a, placed),
-        Raw::Snd(a) => push_part(alloc, out, b"snd", a, placed),
-        Raw::Plus(a, b) => push_parts(alloc, out, b"plus", a, b, placed),
-        Raw::Minus(a, b) => push_parts(alloc, out, b"minus", a, b, placed),
-        Raw::Times(a, b) => push_parts(alloc, out, b"times", a, b, placed),
+        Raw::Proj(Side::Left, a) => push_part(alloc, out, b"fst", a, placed),
+        Raw::Proj(Side::Right, a) => push_part(alloc, out, b"snd", a, placed),
+        Raw::Binary(operator, a, b) => push_parts(alloc, out, word_of(*operator), a, b, placed),
         Raw::App(a, b) => push_parts(alloc, out, b"app", a, b, placed),
         Raw::Pair(a, b) => push_parts(alloc, out, b"pair", a, b, placed),
         Raw::Ifz(c, p, q) => {
@@ -44,6 +42,14 @@ fn push(alloc: Global, out: &mut Vec<u8>, tree: &Named, placed: bool) -> Result<
             push_binder(alloc, out, b"fix ", x, ty)?;
             push_part(alloc, out, b"", a, placed)
         }
+    }
+}
+
+fn word_of(operator: Operator) -> &'static [u8] {
+    match operator {
+        Operator::Plus => b"plus",
+        Operator::Minus => b"minus",
+        Operator::Times => b"times",
     }
 }
 
