@@ -5,7 +5,7 @@ ghost use Rattle.pcf_values.specs.Named.{named_height};
 ghost use Rattle.pcf_values.specs.Views.{named_of};
 
 use pcf_types::{NotGround, TypeFault, ground, resolve_and_type};
-use pcf_values::{Ident, Named, Raw, Term, Ty, Typed};
+use pcf_values::{Ident, Named, Operator, Raw, Term, Ty, Typed};
 use std::alloc::{AllocError, Global};
 use std::test::Fail;
 
@@ -20,7 +20,7 @@ fn fits(tree: &Named, room: u32) -> bool
     match &tree.raw {
         Raw::Number(_) | Raw::Name(_) => true,
         Raw::Succ(a) | Raw::Fun(_, _, a) => fits(a, room),
-        Raw::Plus(a, b) => fits(a, room) && fits(b, room),
+        Raw::Binary(_, a, b) => fits(a, room) && fits(b, room),
         _ => false,
     }
 }
@@ -130,7 +130,7 @@ fn towers(alloc: Global, count: u32, height: u32) -> Result<Box<Named>, AllocErr
     let mut sum = over(alloc, Raw::Succ(tower(alloc, height)?))?;
     for _ in 0..count {
         let part = tower(alloc, height)?;
-        sum = over(alloc, Raw::Plus(sum, part))?;
+        sum = over(alloc, Raw::Binary(Operator::Plus, sum, part))?;
     }
     Ok(sum)
 }

@@ -1,6 +1,6 @@
 //! Heights that a program can have, and each call that takes memory.
 
-use pcf_values::{Ident, Named, Raw, Term, Ty, Val};
+use pcf_values::{Ident, Named, Raw, Side, Term, Ty, Val};
 use std::alloc::{AllocError, Global};
 use std::test::Fail;
 
@@ -18,7 +18,7 @@ fn named_tower(alloc: Global, height: u32) -> Result<Box<Named>, AllocError> {
     let raw = Raw::Name(Ident::from_text(alloc, "x")?);
     let mut tree = Box::new(alloc, Named { at: 9, raw })?;
     for at in 1..height {
-        let raw = Raw::Fst(tree);
+        let raw = Raw::Proj(Side::Left, tree);
         tree = Box::new(alloc, Named { at, raw })?;
     }
     Ok(tree)
