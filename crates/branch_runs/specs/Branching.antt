@@ -7,7 +7,8 @@ use Rattle.std.specs.Prelude.{replicate, Some}
 use Rattle.std.specs.FinMap.{get, insert}
 use Rattle.net_build.specs.Nets.{NetTree}
 use Rattle.move_rules.specs.Places.{TokenTree}
-use Rattle.move_rules.specs.Moves.{move, NotSolo}
+use Rattle.move_rules.specs.Moves.{move}
+use Rattle.move_rules.specs.AtNode.{NotSolo}
 use Rattle.interleave_laws.specs.Maps.{MapState, step_map, run_map}
 use Rattle.interleave_laws.specs.Tickets.{NoneLive, IsLeastLive}
 use Rattle.interleave_core.specs.Owning.{StandsForeign}

@@ -2,7 +2,8 @@
 use Rattle.std.specs.Prelude.{◌≡◌, ◌≤◌, ◌<◌, ◌⊎◌, ℕ, Bool, List, All, length, replicate}
 use Rattle.net_build.specs.Nets.{NetTree}
 use Rattle.move_rules.specs.Places.{TokenTree}
-use Rattle.move_rules.specs.Moves.{move, NotSolo}
+use Rattle.move_rules.specs.Moves.{move}
+use Rattle.move_rules.specs.AtNode.{NotSolo}
 use Rattle.move_rules.specs.Walks.{Walks}
 use Rattle.interleave_laws.specs.Maps.{MapState}
 use Rattle.interleave_laws.specs.Tickets.{IsLeastLive}

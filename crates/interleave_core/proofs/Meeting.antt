@@ -9,7 +9,8 @@ use Rattle.move_rules.specs.declared.token.Token.{Token}
 use Rattle.move_rules.specs.declared.token.Seen.{Seen}
 use Rattle.move_rules.specs.Places.{TokenTree}
 use Rattle.move_rules.specs.Table.{on_found, facing}
-use Rattle.move_rules.specs.Moves.{move, move_at, stay, NotSolo}
+use Rattle.move_rules.specs.Moves.{move, stay}
+use Rattle.move_rules.specs.AtNode.{move_at, NotSolo}
 use Rattle.move_rules.specs.Views.{place_at, token_of, numbered}
 use Rattle.move_rules.proofs.Facing.{move_faced}
 use Rattle.move_rules.proofs.Single.{placed, at_met}

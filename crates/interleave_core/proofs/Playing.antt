@@ -10,8 +10,8 @@ use Rattle.move_rules.specs.declared.token.Kind.{Kind}
 use Rattle.move_rules.specs.declared.token.Kind.TheVariants.{Ask, Ans}
 use Rattle.move_rules.specs.Places.{Place, TokenTree, up, down, ans}
 use Rattle.move_rules.specs.Table.{plain_up, plain_down}
-use Rattle.move_rules.specs.Moves.{solo, join, stay, pass_at, ask_move, solo_at, or_stay, if_wire, look_up, ans_down, operand_down, move_at}
-use Rattle.move_rules.specs.Moves.{NotSolo}
+use Rattle.move_rules.specs.Moves.{solo, join, stay, pass_at, ask_move, solo_at, or_stay, if_wire, look_up, ans_down, operand_down}
+use Rattle.move_rules.specs.AtNode.{move_at, NotSolo}
 use Rattle.move_rules.specs.Views.{place_at, of_kind, token_of}
 use Rattle.pcf_values.specs.declared.side.Side.TheVariants.{Left, Right}
 use Rattle.pcf_values.specs.declared.operator.Operator.{Operator}

@@ -9,7 +9,8 @@ use Rattle.net_build.specs.Nets.{NetTree}
 use Rattle.move_rules.specs.declared.token.Kind.{Kind}
 use Rattle.move_rules.specs.declared.token.Token.{Token}
 use Rattle.move_rules.specs.Places.{TokenTree}
-use Rattle.move_rules.specs.Moves.{solo, move, NotSolo, Unaided}
+use Rattle.move_rules.specs.Moves.{solo, move}
+use Rattle.move_rules.specs.AtNode.{NotSolo, Unaided}
 use Rattle.move_rules.specs.Views.{token_of}
 use Rattle.move_rules.specs.Walks.{Walks}
 

@@ -9,7 +9,8 @@ use Rattle.pcf_values.specs.declared.side.Side.{Side}
 use Rattle.token_stacks.specs.Signatures.{Boxes}
 use Rattle.net_build.specs.Nets.{NetTree}
 use Rattle.move_rules.specs.Places.{TokenTree}
-use Rattle.move_rules.specs.Moves.{Move, solo, fork, join, answer, stay, move, NotSolo}
+use Rattle.move_rules.specs.Moves.{Move, solo, fork, join, answer, stay, move}
+use Rattle.move_rules.specs.AtNode.{NotSolo}
 use Rattle.move_rules.specs.Walks.{Walks}
 use Rattle.interleave_laws.specs.Maps.{MapState, step_map}
 
@@ -27,7 +28,8 @@ pub record GoesAlone (net : NetTree) (S : MapState) (i most n : ℕ) (T : MapSta
 
 -- the entry of each join of this token is there
 abbrev pub JoinsOwn : NetTree → MapState → TokenTree → Type 0
-JoinsOwn net S x = (n : ℕ) (o : Operator) (s : Side) (v : Val) (w : ℕ) (t : Boxes) → move net x ≡ join n o s v w t → IsSome (get S.entries (n, t))
+JoinsOwn net S x = (n : ℕ) (o : Operator) (s : Side) (v : Val) (w : ℕ) (t : Boxes) → move net x ≡ join n o s v w t →
+    IsSome (get S.entries (n, t))
 
 -- the ticket has its step where its token doesn't join, and where its entry is there
 abbrev pub OwnAble : NetTree → MapState → ℕ → Type 0

@@ -1,6 +1,7 @@
 // What a token that makes no solo move does at the node that it faces.
 ghost use Rattle.std.specs.Prelude.{◌≡◌, ℕ, false};
-ghost use Rattle.move_rules.specs.Moves.{move, NotSolo};
+ghost use Rattle.move_rules.specs.Moves.{move};
+ghost use Rattle.move_rules.specs.AtNode.{NotSolo};
 ghost use Rattle.move_rules.specs.Views.{token_of};
 ghost use Rattle.interleave_core.specs.Roles.{operand_role, role_at, role_of, role_move, IsIdle, MetAt, StandsStill};
 

@@ -6,7 +6,8 @@ use Rattle.net_build.specs.Nets.{NetTree, premises, conclusions}
 use Rattle.net_build.specs.Sides.{least, node_above, node_below, number_of}
 use Rattle.move_rules.specs.Places.{Place, up, down, TokenTree, ask, ans, place_of}
 use Rattle.move_rules.specs.Table.{on_found, facing}
-use Rattle.move_rules.specs.Moves.{Look, dead, ask_move, stay, move, move_at}
+use Rattle.move_rules.specs.Moves.{Look, dead, ask_move, stay, move}
+use Rattle.move_rules.specs.AtNode.{move_at}
 use Rattle.move_rules.specs.Walks.{faces}
 use Rattle.move_rules.specs.Steps.{node_of}
 use Rattle.net_build.specs.Sound.{Sound}

@@ -8,8 +8,9 @@ use Rattle.net_build.specs.declared.node.Node.{Node}
 use Rattle.net_build.specs.declared.node.Node.TheVariants.{Const, Succ, Pred, Ifz, Root, Binary}
 use Rattle.move_rules.specs.Places.{Place, up, down, TokenTree, ask, ans}
 use Rattle.move_rules.specs.Table.{plain_up, plain_down}
-use Rattle.move_rules.specs.Moves.{Look, dead, constant, pass, one, test, two, pass_at, look_up, look_at, Move, solo, fork, join, answer}
-use Rattle.move_rules.specs.Moves.{stay, ask_move, solo_at, or_stay, if_wire, operand_down, ans_down, move_at}
+use Rattle.move_rules.specs.Moves.{Look, dead, constant, pass, one, test, two, pass_at, look_up, Move, solo, fork, join, answer}
+use Rattle.move_rules.specs.AtNode.{look_at, move_at}
+use Rattle.move_rules.specs.Moves.{stay, ask_move, solo_at, or_stay, if_wire, operand_down, ans_down}
 
 -- what is met has this number
 abbrev LookAt : ℕ → Look → Type 0

@@ -11,7 +11,8 @@ use Rattle.net_build.specs.Nets.{NetTree, premises, conclusions}
 use Rattle.net_build.specs.Sides.{node_above, node_below}
 use Rattle.net_build.specs.Sound.{Sound}
 use Rattle.move_rules.specs.Places.{Place, up, down, turned}
-use Rattle.move_rules.specs.Table.{at_wire, or_else, on_found, plain_up, plain_down, plain, lam_up, lam_var, app_fun, app_arg, box_up}
+use Rattle.move_rules.specs.Table.{at_wire, or_else, on_found, plain_up, plain_down, lam_up, lam_var, app_fun, app_arg, box_up}
+use Rattle.move_rules.specs.AtNode.{plain}
 use Rattle.move_rules.specs.Table.{box_down, door_up, door_down, der_back, con_up, con_down, fix_var, fix_out, fix_back, pair_up, fst_down}
 use Rattle.move_rules.specs.Table.{snd_down}
 use Rattle.move_rules.proofs.Faces.{Among, Faced, above_faced, below_faced}

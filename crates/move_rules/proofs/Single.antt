@@ -12,7 +12,8 @@ use Rattle.move_rules.specs.declared.token.Token.{Token}
 use Rattle.move_rules.specs.declared.token.Seen.{Seen}
 use Rattle.move_rules.specs.Places.{Place, up, down, TokenTree, ask, ans, place_of}
 use Rattle.move_rules.specs.Table.{plain_up, plain_down, on_found, facing}
-use Rattle.move_rules.specs.Moves.{pass_at, look_up, ask_move, solo_at, ans_down, solo, stay, move, move_at, NotSolo, Unaided}
+use Rattle.move_rules.specs.Moves.{pass_at, look_up, ask_move, solo_at, ans_down, solo, stay, move}
+use Rattle.move_rules.specs.AtNode.{move_at, NotSolo, Unaided}
 use Rattle.move_rules.specs.Views.{place_at, of_kind, token_of, numbered}
 use Rattle.move_rules.specs.Walks.{faces, on_solo, through, SoloMove, SoloStep}
 use Rattle.move_rules.specs.Steps.{Passes, IsPlain, node_of}

@@ -11,7 +11,8 @@ use Rattle.net_build.specs.Sound.{Sound}
 use Rattle.move_rules.specs.declared.token.Seen.{Seen}
 use Rattle.move_rules.specs.Places.{TokenTree, place_of}
 use Rattle.move_rules.specs.Table.{on_found}
-use Rattle.move_rules.specs.Moves.{Move, solo, fork, join, answer, stay, move, move_at, NotSolo}
+use Rattle.move_rules.specs.Moves.{Move, solo, fork, join, answer, stay, move}
+use Rattle.move_rules.specs.AtNode.{move_at, NotSolo}
 use Rattle.move_rules.specs.Views.{token_of}
 use Rattle.move_rules.specs.Walks.{Walks, numbers, Stands, faces, on_solo, through, Passage, Walked}
 use Rattle.move_rules.proofs.Facing.{faced_there, move_faced}

@@ -13,7 +13,8 @@ use Rattle.move_rules.specs.declared.token.Kind.TheVariants.{Ask, Ans}
 use Rattle.move_rules.specs.declared.token.Token.{Token}
 use Rattle.move_rules.specs.declared.token.Seen.{Seen}
 use Rattle.move_rules.specs.Places.{TokenTree, place_of}
-use Rattle.move_rules.specs.Moves.{Move, solo, fork, join, answer, stay, move, move_at, NotSolo}
+use Rattle.move_rules.specs.Moves.{Move, solo, fork, join, answer, stay, move}
+use Rattle.move_rules.specs.AtNode.{move_at, NotSolo}
 use Rattle.move_rules.specs.Views.{place_at, of_kind, token_of}
 use Rattle.move_rules.specs.Walks.{Walks, numbers, Stands, faces, on_solo, through, SoloMove, Passage, Reached, Walked, MadeIfSolo}
 

@@ -5,8 +5,9 @@ use Rattle.net_build.specs.Nets.{NetTree}
 use Rattle.net_build.specs.Sound.{Sound}
 use Rattle.move_rules.specs.declared.token.Seen.{Seen}
 use Rattle.move_rules.specs.Places.{Place, turned, TokenTree, place_of}
-use Rattle.move_rules.specs.Table.{plain, on_found, facing}
-use Rattle.move_rules.specs.Moves.{stay, move, move_at}
+use Rattle.move_rules.specs.Table.{on_found, facing}
+use Rattle.move_rules.specs.AtNode.{plain, move_at}
+use Rattle.move_rules.specs.Moves.{stay, move}
 use Rattle.move_rules.specs.Walks.{Walks, numbers, Stands, through, Passage, Walked}
 
 -- on a sound net, where a plain rule leads from p to q, the same rules lead from q turned round to p turned round

@@ -6,6 +6,8 @@ pub mod Moves
 pub mod Walks
 pub mod Laws
 pub mod Views
+-- The rules and moves at a node that is faced, of which the laws and single steps speak.
+pub mod AtNode
 -- How the logic stores places, tokens and walks, so that models can have them. It says nothing of them.
 pub mod Codes
 -- What private contracts and proofs use alone: one step in place.

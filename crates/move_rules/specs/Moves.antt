@@ -42,11 +42,6 @@ look_up i (Ifz b p q c) w [] t = test i (up b [] t) (up p [] t) (up q [] t)
 look_up i (Binary o a b c) w [] t = two i o t (up a [] t) (up b [] t)
 look_up i n w m t = pass_at i (plain_up n w m t)
 
--- what a question meets at node n, whose number is i, if it faces that node
-abbrev pub look_at : ℕ → Node → Place → Look
-look_at i n (up w m t) = look_up i n w m t
-look_at i n (down w m t) = pass_at i (plain_down n w m t)
-
 -- what a question meets
 abbrev pub look : NetTree → Place → Look
 look net (up w m t) = on_found (node_above net w) dead (λ i n. look_up i n w m t)
@@ -99,28 +94,6 @@ ans_down i (Ifz b p q c) v w [] t =
 ans_down i (Binary o a b c) v w [] t = operand_down i o a b c v w t
 ans_down i (Root c) v w [] t = answer v
 ans_down i n v w m t = solo_at i (plain_down n w m t) (ans v)
-
--- the move of a token at node n, whose number is i, if it faces that node
-abbrev pub move_at : ℕ → Node → TokenTree → Move
-move_at i n (ask p) = ask_move (look_at i n p) p
-move_at i n (ans v (up w m t)) = solo_at i (plain_up n w m t) (ans v)
-move_at i n (ans v (down w m t)) = ans_down i n v w m t
-
--- the move isn't a solo move
-abbrev pub NotSolo : Move → Type 0
-NotSolo (solo i x) = ⊥
-NotSolo (fork i l r t) = Unit {0}
-NotSolo (join i o s v w t) = Unit {0}
-NotSolo (answer v) = Unit {0}
-NotSolo stay = Unit {0}
-
--- a move that needs nothing but its token: a solo move, or none
-abbrev pub Unaided : Move → Type 0
-Unaided (solo i x) = Unit {0}
-Unaided (fork i l r t) = ⊥
-Unaided (join i o s v w t) = ⊥
-Unaided (answer v) = ⊥
-Unaided stay = Unit {0}
 
 -- the one move of a token
 abbrev pub move : NetTree → TokenTree → Move

@@ -5,7 +5,8 @@ use Rattle.net_build.specs.declared.node.Node.{Node}
 use Rattle.net_build.specs.declared.node.Node.TheVariants.{Der, Con, Lam, App, BoxNode, Door, FixBox, Pair, Proj}
 use Rattle.move_rules.specs.declared.token.Token.{Token}
 use Rattle.move_rules.specs.Places.{Place}
-use Rattle.move_rules.specs.Moves.{solo, move_at, NotSolo}
+use Rattle.move_rules.specs.Moves.{solo}
+use Rattle.move_rules.specs.AtNode.{move_at, NotSolo}
 use Rattle.move_rules.specs.Views.{place_at, token_of}
 
 -- the token follows the rule and keeps its kind, or no rule fits and all stays

@@ -153,11 +153,6 @@ plain_down (Proj Left a c) w m t = fst_down c m t
 plain_down (Proj Right a c) w m t = snd_down c m t
 plain_down _ w m t = None
 
--- the rules at a node, for a token that faces it
-abbrev pub plain_at : Node → Place → Option Place
-plain_at n (up w m t) = plain_up n w m t
-plain_at n (down w m t) = plain_down n w m t
-
 -- what the node that was found, with its number, makes of it
 abbrev pub on_found : {A : Type 0} → Option (ℕ × Node) → A → (ℕ → Node → A) → A
 on_found None a f = a
@@ -167,8 +162,3 @@ on_found (Some p) a f = f p.0 p.1
 abbrev pub facing : NetTree → Place → Option (ℕ × Node)
 facing net (up w m t) = node_above net w
 facing net (down w m t) = node_below net w
-
--- where a plain rule leads from a place
-abbrev pub plain : NetTree → Place → Option Place
-plain net (up w m t) = on_found (node_above net w) None (λ i n. plain_up n w m t)
-plain net (down w m t) = on_found (node_below net w) None (λ i n. plain_down n w m t)

@@ -13,7 +13,8 @@ use Rattle.net_build.specs.Sides.{has}
 use Rattle.move_rules.specs.declared.token.Token.{Token}
 use Rattle.move_rules.specs.declared.token.Seen.{Seen}
 use Rattle.move_rules.specs.Places.{Place, up, down, TokenTree, place_of}
-use Rattle.move_rules.specs.Moves.{Move, solo, fork, join, answer, stay, move, move_at, NotSolo}
+use Rattle.move_rules.specs.Moves.{Move, solo, fork, join, answer, stay, move}
+use Rattle.move_rules.specs.AtNode.{move_at, NotSolo}
 use Rattle.move_rules.specs.Views.{token_of}
 
 -- x goes to y by one solo move through each node of the trail, in turn

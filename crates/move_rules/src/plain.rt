@@ -3,7 +3,7 @@
 ghost use Rattle.std.specs.Prelude.{◌≡◌, IfOk, OnErr};
 ghost use Rattle.net_build.specs.declared.node.Node.TheVariants.{Der, Con, Lam, App, BoxNode, Door, FixBox, Pair, Proj};
 ghost use Rattle.pcf_values.specs.declared.side.Side.TheVariants.{Left, Right};
-ghost use Rattle.move_rules.specs.Table.{plain_at};
+ghost use Rattle.move_rules.specs.AtNode.{plain_at};
 ghost use Rattle.move_rules.specs.Steps.{Goes};
 
 use crate::Token;
