@@ -17,7 +17,8 @@ use Rattle.interleave_laws.proofs.OneWorker.{one_finished}
 use Rattle.interleave_laws.proofs.MapLaws.{seen_leads}
 use Rattle.adequacy_laws.specs.Questions.{Length}
 use Rattle.adequacy_laws.specs.Lengths.{AgreesWithLength}
-use Rattle.adequacy_laws.specs.Finished.{Within, Beyond, TellsLength, TellsMeaning}
+use Rattle.adequacy_laws.specs.Finished.{Within, Beyond}
+use Rattle.adequacy_laws.specs.FinishedLaws.{TellsLength, TellsMeaning}
 use Rattle.adequacy_laws.proofs.Adequacy.{asks_means, means_asks}
 use Rattle.adequacy_laws.proofs.Lengths.{one_length}
 use Rattle.adequacy_laws.proofs.Agreeing.{agrees, map_agrees, built_runs}

@@ -7,7 +7,7 @@ use Rattle.net_build.specs.Sound.{Sound}
 use Rattle.interleave_laws.specs.OneWorker.{one}
 use Rattle.interleave_laws.proofs.OneWorker.{one_leads, one_finished}
 use Rattle.adequacy_laws.specs.Questions.{Length}
-use Rattle.adequacy_laws.specs.Finished.{TellsMeaning}
+use Rattle.adequacy_laws.specs.FinishedLaws.{TellsMeaning}
 use Rattle.adequacy_laws.proofs.Finishing.{finished_means}
 use Rattle.adequacy_laws.proofs.Agreeing.{built_runs}
 use Rattle.circuit_core.specs.Circuit.{Circuit, circuit}

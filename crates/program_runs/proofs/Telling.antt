@@ -11,7 +11,7 @@ use Rattle.net_build.specs.Nets.{NetTree}
 use Rattle.net_build.specs.NetOf.{net_of}
 use Rattle.interleave_laws.specs.Runs.{Runs, Finished}
 use Rattle.adequacy_laws.specs.Questions.{Length}
-use Rattle.adequacy_laws.specs.Finished.{TellsMeaning, MapFinishedMeans}
+use Rattle.adequacy_laws.specs.FinishedLaws.{TellsMeaning, MapFinishedMeans}
 use Rattle.schedule_log.specs.declared.entry.Entry.{Entry}
 use Rattle.schedule_log.specs.Logs.{tickets_in_log}
 use Rattle.net_runs.specs.Running.{IsRun, IsFirstWorkers}
