@@ -4,11 +4,11 @@ ghost use Rattle.std.specs.FinMap.{empty, get};
 ghost use Rattle.token_stacks.specs.Signatures.{star};
 ghost use Rattle.pcf_values.specs.declared.val.Val.TheVariants.{Number};
 ghost use Rattle.fork_join.specs.Entries.{pending};
-ghost use Rattle.fork_join.specs.Arrivals.{side_of, IsOpenFor, arrival};
+ghost use Rattle.fork_join.specs.Arrivals.{IsOpenFor, arrival};
 ghost use Rattle.join_tests.specs.Steps.{Stays, AreApart, kept_then};
 
-use fork_join::{Arrived, JoinTable, Kept, Side};
-use pcf_values::Val;
+use fork_join::{Arrived, JoinTable, Kept};
+use pcf_values::{Side, Val};
 use std::alloc::{AllocError, Global};
 use std::test::Fail;
 use token_stacks::{BoxStack, Stacks};
@@ -35,9 +35,9 @@ fn begin(table: &mut JoinTable, node: u32, boxes: &BoxStack) -> Result<(), Alloc
 
 /// Brings an answer to an entry, and leaves all others.
 fn arrive(table: &mut JoinTable, node: u32, boxes: &BoxStack, side: Side, v: u64) -> Arrived
-    requires { IsOpenFor (get table.old (node, boxes.now)) (side_of side) }
+    requires { IsOpenFor (get table.old (node, boxes.now)) side }
     ensures arrived { result ≡ arrival (get table.old (node, boxes.now)) }
-    ensures here { get table.new (node, boxes.now) ≡ kept_then (get table.old (node, boxes.now)) (side_of side) (Number v) }
+    ensures here { get table.new (node, boxes.now) ≡ kept_then (get table.old (node, boxes.now)) side (Number v) }
     ensures others { Stays table.old table.new (node, boxes.now) }
 {
     table.arrive(node, boxes, side, Val::Number(v))
