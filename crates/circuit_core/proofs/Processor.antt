@@ -18,7 +18,7 @@ use Rattle.interleave_laws.specs.Runs.{Runs, LeadsTo}
 use Rattle.interleave_laws.specs.OneWorker.{least_live, on_step, on_least, one_from, one, Least}
 use Rattle.interleave_laws.proofs.Running.{run_append, has_step, answered_idle}
 use Rattle.interleave_laws.proofs.OneWorker.{least_is, least_search}
-use Rattle.circuit_core.specs.Rows.{by_rows}
+use Rattle.circuit_core.specs.RowMoves.{by_rows}
 use Rattle.circuit_core.specs.Processor.{Waiting, Registers, fork_at, kept, closed, taken, rest, last_of, meets, opens, does, tick_on, tick}
 use Rattle.circuit_core.specs.Processor.{ticks, reset, on_live, fired, ring_at, token_at}
 use Rattle.circuit_core.specs.ProcessorLaws.{Shows, Follows}

@@ -28,8 +28,8 @@ use Rattle.move_rules.specs.Moves.{dead, solo, join, stay, pass_at, ask_move, so
 use Rattle.move_rules.proofs.Faces.{Among, Apart, above_faced, below_faced}
 use Rattle.circuit_core.specs.Rows.{Row, GO, CONST, SUCC, PRED, TEST, FORK, JOIN, ANSWER, STAR, UNSTAR, LEFT, RIGHT, CON, PUSHR, PUSHL}
 use Rattle.circuit_core.specs.Rows.{SELECT, POP, BOXIN, BOXOUT, DOOROUT, DOORIN, FIXOUT, FIXVAR}
-use Rattle.circuit_core.specs.Rows.{rises, falls, at, if_at, row_up, row_down, found_row, stack_row, answer_row, question_row, by_found}
-use Rattle.circuit_core.specs.Rows.{by_rows}
+use Rattle.circuit_core.specs.Rows.{rises, falls, at, if_at, row_up, row_down, found_row}
+use Rattle.circuit_core.specs.RowMoves.{stack_row, answer_row, question_row, by_found, by_rows}
 
 -- where the rule leads, the row leads
 abbrev Leads : Row → Work → Boxes → Option Place → Type 0
@@ -149,7 +149,8 @@ up_leads (BoxNode i o) w m t a = box_up_leads i m t
 up_leads (Door i o) w m t a = door_up_leads i m t
 up_leads (FixBox b x c) w m t a = λ q h. h
 up_leads (Pair x b c) w m t a = pair_leads x b m t
-up_leads (Proj d x c) w m t a = λ q h. h
+up_leads (Proj Left x c) w m t a = λ q h. h
+up_leads (Proj Right x c) w m t a = λ q h. h
 up_leads n w m t a = λ q h. cc
 
 -- down a premise

@@ -5,7 +5,7 @@ use Rattle.pcf_values.specs.declared.val.Val.TheVariants.{Number}
 use Rattle.pcf_values.specs.declared.operator.Operator.TheVariants.{Plus}
 use Rattle.pcf_values.specs.Terms.{nat, num, succ_of, binary, ifz}
 use Rattle.pcf_values.specs.declared.side.Side.TheVariants.{Left, Right}
-use Rattle.net_build.specs.declared.node.Node.TheVariants.{Const, Succ, Root}
+use Rattle.net_build.specs.declared.node.Node.TheVariants.{Const, Succ, Root, Binary}
 use Rattle.net_build.specs.Nets.{NetTree, value_wire}
 use Rattle.net_build.specs.NetOf.{net_of}
 use Rattle.net_build.specs.Example.{doubled_net}
@@ -29,8 +29,7 @@ succ_net = record { wires = value_wire 0 nat ∷ value_wire 0 nat ∷ []; nodes 
 abbrev pub sum_net : NetTree
 sum_net = record {
   wires = value_wire 0 nat ∷ value_wire 0 nat ∷ value_wire 0 nat ∷ [];
-  nodes = Const 1 0 ∷ Const 2 1 ∷
-      Plus 0 1 2 ∷ Root 2 ∷ [];
+  nodes = Const 1 0 ∷ Const 2 1 ∷ Binary Plus 0 1 2 ∷ Root 2 ∷ [];
 }
 
 abbrev pub ExampleNets : Type 0

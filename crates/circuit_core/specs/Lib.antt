@@ -3,6 +3,8 @@ pub mod Rows
 pub mod Processor
 pub mod Bits
 pub mod Circuit
+-- what a row makes of a token, of which the laws speak
+pub mod RowMoves
 -- the laws, each file with its statements
 pub mod RowLaws
 pub mod ProcessorLaws

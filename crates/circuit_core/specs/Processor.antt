@@ -16,7 +16,7 @@ use Rattle.move_rules.specs.Places.{Place, down, TokenTree, ask, ans}
 use Rattle.move_rules.specs.Moves.{Move, solo, fork, join, answer, stay}
 use Rattle.interleave_laws.specs.Start.{start_of}
 use Rattle.interleave_laws.specs.States.{other}
-use Rattle.circuit_core.specs.Rows.{by_rows}
+use Rattle.circuit_core.specs.RowMoves.{by_rows}
 
 -- a right question that waits, with its ticket
 pub record Waiting : Type 0 where
