@@ -1,5 +1,5 @@
 use Rattle.std.proofs.Common.{sym, subst}
-use Rattle.interleave_core.proofs.LiveSeen.{on_ok}
+use Rattle.fork_join.proofs.Nesting.{on_ok}
 use Rattle.branch_runs.specs.Growing.{Grows, PlayedSo}
 use Rattle.branch_runs.proofs.Grown.{grows_begins, walk_played}
 use Rattle.branch_runs.proofs.growing.play.Goals as goal

@@ -1,4 +1,4 @@
-use Rattle.interleave_core.proofs.LiveSeen.{on_ok}
+use Rattle.fork_join.proofs.Nesting.{on_ok}
 use Rattle.branch_runs.proofs.Grown.{first_live, walks_alone}
 use Rattle.branch_runs.proofs.growing.walk.Goals as goal
 
