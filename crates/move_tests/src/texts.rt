@@ -4,13 +4,30 @@
 use crate::rows::cut;
 use move_rules::{Kind, Token};
 use net_build::{Net, Node, Wire, WireKind};
-use pcf_values::{Ty, Val};
+use pcf_values::{Operator, Side, Ty, Val};
 use std::alloc::{AllocError, Global};
 use token_stacks::Stacks;
 
 /// A number in figures. Where there is none, it is a wire that no net has.
 pub(crate) fn number(word: &str) -> u32 {
     word.parse().unwrap_or(u32::MAX)
+}
+
+fn binary(operator: Operator, left: u32, right: u32, wire: u32) -> Node {
+    Node::Binary {
+        operator,
+        left,
+        right,
+        wire,
+    }
+}
+
+fn proj(side: Side, operand: u32, wire: u32) -> Node {
+    Node::Proj {
+        side,
+        operand,
+        wire,
+    }
 }
 
 /// A node as the listing has it: its name, and its wires in their order.
@@ -33,21 +50,9 @@ fn node(text: &str) -> Result<Node, AllocError> {
             operand: a,
             wire: b,
         }),
-        "Plus" => Ok(Node::Plus {
-            left: a,
-            right: b,
-            wire: c,
-        }),
-        "Minus" => Ok(Node::Minus {
-            left: a,
-            right: b,
-            wire: c,
-        }),
-        "Times" => Ok(Node::Times {
-            left: a,
-            right: b,
-            wire: c,
-        }),
+        "Plus" => Ok(binary(Operator::Plus, a, b, c)),
+        "Minus" => Ok(binary(Operator::Minus, a, b, c)),
+        "Times" => Ok(binary(Operator::Times, a, b, c)),
         "Ifz" => Ok(Node::Ifz {
             condition: a,
             then: b,
@@ -93,14 +98,8 @@ fn node(text: &str) -> Result<Node, AllocError> {
             right: b,
             wire: c,
         }),
-        "Fst" => Ok(Node::Fst {
-            operand: a,
-            wire: b,
-        }),
-        "Snd" => Ok(Node::Snd {
-            operand: a,
-            wire: b,
-        }),
+        "Fst" => Ok(proj(Side::Left, a, b)),
+        "Snd" => Ok(proj(Side::Right, a, b)),
         _ => Err(AllocError),
     }
 }
