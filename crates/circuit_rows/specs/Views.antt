@@ -1,13 +1,8 @@
 -- The views of this crate's types: the code's channels and rows as those of `circuit_core`.
 use Rattle.std.specs.Prelude.{ℕ, if◌then◌else◌}
-use Rattle.pcf_values.specs.declared.operator.Operator.{Operator}
-use Rattle.pcf_values.specs.declared.operator.Operator.TheVariants.{Plus as plus_op, Minus as minus_op, Times as times_op}
-use Rattle.fork_join.specs.Arrivals.{side_of}
 use Rattle.net_build.specs.declared.node.Node.{Node}
 use Rattle.circuit_core.specs.Rows as rows
 use Rattle.circuit_rows.specs.declared.row.Channel.{Channel}
-use Rattle.circuit_rows.specs.declared.row.Operator.{Operator}
-use Rattle.circuit_rows.specs.declared.row.Operator.TheVariants.{Plus, Minus, Times}
 use Rattle.circuit_rows.specs.declared.row.Row.{Row}
 use Rattle.circuit_rows.specs.declared.row.Row.TheVariants as row
 use Rattle.circuit_rows.specs.declared.row.Found.{Found}
@@ -15,11 +10,6 @@ use Rattle.circuit_rows.specs.declared.row.Found.{Found}
 -- a channel of the code
 abbrev pub channel_of : Channel → rows.Channel
 channel_of c = if c.up then rows.rises c.wire else rows.falls c.wire
-
-abbrev pub op_of : Operator → Operator
-op_of Plus = plus_op
-op_of Minus = minus_op
-op_of Times = times_op
 
 -- a row of the code
 abbrev pub row_view : Row → rows.Row
@@ -29,7 +19,7 @@ row_view (row.Succ c) = rows.SUCC (channel_of c)
 row_view (row.Pred c) = rows.PRED (channel_of c)
 row_view (row.Test z o) = rows.TEST (channel_of z) (channel_of o)
 row_view (row.Fork l r) = rows.FORK (channel_of l) (channel_of r)
-row_view (row.Join o s w) = rows.JOIN (op_of o) (side_of s) w
+row_view (row.Join o s w) = rows.JOIN o s w
 row_view row.Answer = rows.ANSWER
 row_view (row.Star c) = rows.STAR (channel_of c)
 row_view (row.Unstar c) = rows.UNSTAR (channel_of c)

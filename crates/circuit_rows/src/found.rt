@@ -5,14 +5,14 @@ ghost use Rattle.std.specs.Option.{option_map};
 ghost use Rattle.net_build.specs.Sides.{number_of};
 ghost use Rattle.move_rules.specs.Table.{facing};
 ghost use Rattle.move_rules.specs.Views.{numbered};
-ghost use Rattle.pcf_values.specs.declared.side.Side.TheVariants.{Left as left_side, Right as right_side};
+ghost use Rattle.pcf_values.specs.declared.side.Side.TheVariants.{Left, Right};
 ghost use Rattle.circuit_core.specs.Rows.{at, rises, falls, if_at, row_up, row_down, row_of, JOIN};
-ghost use Rattle.circuit_rows.specs.Views.{channel_of, op_of, row_view, found_of, row_at};
+ghost use Rattle.circuit_rows.specs.Views.{channel_of, row_view, found_of, row_at};
 
-use crate::row::{Channel, Found, Operator, Row};
-use fork_join::Side;
+use crate::row::{Channel, Found, Row};
 use move_rules::Seen;
 use net_build::{Net, Node};
+use pcf_values::{Operator, Side};
 
 // Up a wire.
 fn rises(wire: u32) -> Channel
@@ -37,7 +37,7 @@ fn if_at(first: u32, wire: u32, row: Row, other: Row) -> Row
 
 // The row of a token that comes down an operand of an operator.
 fn join(operator: Operator, left: u32, down: u32, wire: u32) -> Row
-    ensures { row_view result ≡ if_at left down (JOIN (op_of operator) left_side wire) (JOIN (op_of operator) right_side wire) }
+    ensures { row_view result ≡ if_at left down (JOIN operator Left wire) (JOIN operator Right wire) }
 {
     let side = if left == down {
         Side::Left
@@ -61,9 +61,7 @@ fn row_up(node: Node, wire: u32) -> Row
             to: falls(own),
         },
         Node::Succ { operand, .. } | Node::Pred { operand, .. } => Row::Go { to: rises(operand) },
-        Node::Plus { left, right, .. }
-        | Node::Minus { left, right, .. }
-        | Node::Times { left, right, .. } => Row::Fork {
+        Node::Binary { left, right, .. } => Row::Fork {
             left: rises(left),
             right: rises(right),
         },
@@ -100,8 +98,16 @@ fn row_up(node: Node, wire: u32) -> Row
             at_r: rises(right),
             at_l: rises(left),
         },
-        Node::Fst { operand, .. } => Row::PushL { to: rises(operand) },
-        Node::Snd { operand, .. } => Row::PushR { to: rises(operand) },
+        Node::Proj {
+            side: Side::Left,
+            operand,
+            ..
+        } => Row::PushL { to: rises(operand) },
+        Node::Proj {
+            side: Side::Right,
+            operand,
+            ..
+        } => Row::PushR { to: rises(operand) },
     }
 }
 
@@ -113,21 +119,12 @@ fn row_down(node: Node, wire: u32) -> Row
         Node::Const { .. } | Node::Der { .. } | Node::Weak { .. } => Row::Dead,
         Node::Succ { wire: own, .. } => Row::Succ { to: falls(own) },
         Node::Pred { wire: own, .. } => Row::Pred { to: falls(own) },
-        Node::Plus {
+        Node::Binary {
+            operator,
             left,
             wire: own,
             ..
-        } => join(Operator::Plus, left, wire, own),
-        Node::Minus {
-            left,
-            wire: own,
-            ..
-        } => join(Operator::Minus, left, wire, own),
-        Node::Times {
-            left,
-            wire: own,
-            ..
-        } => join(Operator::Times, left, wire, own),
+        } => join(operator, left, wire, own),
         Node::Ifz {
             condition,
             then,
@@ -203,7 +200,7 @@ fn row_down(node: Node, wire: u32) -> Row
             Row::PushL { to: falls(own) },
             Row::PushR { to: falls(own) },
         ),
-        Node::Fst { wire: own, .. } | Node::Snd { wire: own, .. } => Row::Pop { to: falls(own) },
+        Node::Proj { wire: own, .. } => Row::Pop { to: falls(own) },
     }
 }
 

@@ -12,5 +12,5 @@ mod table;
 
 pub use begin::start;
 pub use found::row_of;
-pub use row::{Channel, Found, Operator, Row};
+pub use row::{Channel, Found, Row};
 pub use table::rows;

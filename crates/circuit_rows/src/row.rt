@@ -1,6 +1,6 @@
 //! Channels and rows.
 
-use fork_join::Side;
+use pcf_values::{Operator, Side};
 
 /// A wire with a direction.
 #[derive(Clone, Copy, PartialEq, Eq)]
@@ -9,17 +9,6 @@ pub struct Channel {
     pub wire: u32,
     /// Whether it goes up that wire; else it goes down.
     pub up: bool,
-}
-
-/// A strict operator.
-#[derive(Clone, Copy)]
-pub enum Operator {
-    /// The sum.
-    Plus,
-    /// The difference, 0 where the right operand is larger.
-    Minus,
-    /// The product.
-    Times,
 }
 
 /// What a circuit does with a token that comes by a channel, with the channels that it sends to.
