@@ -1,12 +1,13 @@
 -- The text of a net's circuit, with stacks of so many bits and so many forks: sizes, a line for each row, and the fixed parts. Its parts
 -- are sealed as the fixed ones are.
-use Rattle.std.specs.Prelude.{ℕ, Bool, true, false, List, [], ◌∷◌, ◌++◌, length, codes, decimal, if◌then◌else◌}
+use Rattle.std.specs.Prelude.{ℕ, Bool, false, List, [], ◌∷◌, ◌++◌, ◌||◌, length, codes, decimal, if◌then◌else◌}
 use Rattle.net_build.specs.declared.node.Node.{Node}
+use Rattle.net_build.specs.declared.node.Node.TheVariants.{Binary}
 use Rattle.net_build.specs.Nets.{NetTree}
 use Rattle.net_text.specs.Listing.{lines_of}
 use Rattle.interleave_laws.specs.Start.{start_of}
-use Rattle.circuit_core.specs.Rows.{Channel, number, channel_of}
-use Rattle.circuit_text.specs.RowText.{wire_lines}
+use Rattle.circuit_core.specs.Rows.{number, channel_of}
+use Rattle.circuit_text.specs.RowText.{is_product, wire_lines}
 use Rattle.circuit_text.specs.Fixed.{ports_text, top_text, middle_text, multiplier_text, no_multiplier_text, tail_text}
 
 -- the first line
@@ -32,10 +33,14 @@ abbrev pub rows_text : NetTree → List ℕ
 rows_text net = lines_of (λ w k. wire_lines net w) 0 net.wires
 
 -- a node multiplies
+abbrev pub is_times : Node → Bool
+is_times (Binary o a b w) = is_product o
+is_times n = false
+
+-- one of the nodes does
 abbrev pub multiplies : List Node → Bool
 multiplies [] = false
-multiplies (Times a b w ∷ ns) = true
-multiplies (n ∷ ns) = multiplies ns
+multiplies (n ∷ ns) = is_times n || multiplies ns
 
 -- the product: a multiplier where one is needed
 abbrev pub product_text : Bool → List ℕ

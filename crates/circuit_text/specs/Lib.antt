@@ -2,5 +2,3 @@
 pub mod RowText
 pub mod Fixed
 pub mod CircuitText
--- what private contracts cite
-pub mod Pieces

@@ -7,12 +7,12 @@ ghost use Rattle.interleave_laws.specs.Start.{start_of};
 ghost use Rattle.circuit_core.specs.Rows.{number, channel_of};
 ghost use Rattle.circuit_text.specs.RowText.{wire_lines};
 ghost use Rattle.circuit_text.specs.Fixed.{ports_text, top_text, middle_text, tail_text};
-ghost use Rattle.circuit_text.specs.CircuitText.{head_text, size_text, sizes_text, rows_text, multiplies, product_text, circuit_text};
-ghost use Rattle.circuit_text.specs.Pieces.{is_times};
+ghost use Rattle.circuit_text.specs.CircuitText.{head_text, size_text, sizes_text, rows_text, is_times, multiplies};
+ghost use Rattle.circuit_text.specs.CircuitText.{product_text, circuit_text};
 
 use crate::fixed;
 use crate::number::{number_of, push_number};
-use crate::row_line::push_wire;
+use crate::row_line::{is_product, push_wire};
 use circuit_rows::start;
 use net_build::{Net, Node, Wire};
 use std::alloc::{AllocError, Global};
@@ -126,7 +126,7 @@ fn is_times(node: Node) -> bool
     ensures { result ≡ is_times node }
 {
     match node {
-        Node::Times { .. } => true,
+        Node::Binary { operator, .. } => is_product(operator),
         _ => false,
     }
 }

@@ -2,21 +2,20 @@
 
 ghost use Rattle.std.specs.Prelude.{◌≡◌, ◌++◌, [], OnOk, Some, codes, decimal, if◌then◌else◌};
 ghost use Rattle.std.specs.Option.{option_map};
-ghost use Rattle.fork_join.specs.Arrivals.{side_of};
 ghost use Rattle.circuit_core.specs.Rows.{rises, falls, row_of};
-ghost use Rattle.circuit_rows.specs.Views.{channel_of, op_of, row_view, found_of};
-ghost use Rattle.circuit_text.specs.RowText.{join_text, op_text, one_text, two_text, fields_text};
+ghost use Rattle.circuit_rows.specs.Views.{channel_of, row_view, found_of};
+ghost use Rattle.circuit_text.specs.RowText.{join_text, is_product, op_text, one_text, two_text, fields_text};
 ghost use Rattle.circuit_text.specs.RowText.{row_text, comment_text, row_line, wire_lines};
 
 use crate::number::{number_of, push_number};
-use circuit_rows::{Channel, Found, Operator, Row, row_of};
-use fork_join::Side;
+use circuit_rows::{Channel, Found, Row, row_of};
 use net_build::Net;
+use pcf_values::{Operator, Side};
 use std::alloc::AllocError;
 
 // The operation at an operator.
 fn join_name(operator: Operator, side: Side) -> &'static [u8]
-    ensures { result.now ≡ join_text (op_of operator) (side_of side) }
+    ensures { result.now ≡ join_text operator side }
 {
     match (operator, side) {
         (Operator::Plus, Side::Left) => b"PLUSL",
@@ -25,6 +24,16 @@ fn join_name(operator: Operator, side: Side) -> &'static [u8]
         (Operator::Minus, Side::Right) => b"MINUSR",
         (Operator::Times, Side::Left) => b"TIMESL",
         (Operator::Times, Side::Right) => b"TIMESR",
+    }
+}
+
+/// Whether the operator multiplies.
+pub(crate) fn is_product(operator: Operator) -> bool
+    ensures { result ≡ is_product operator }
+{
+    match operator {
+        Operator::Times => true,
+        _ => false,
     }
 }
 
