@@ -2,16 +2,14 @@
 
 ghost use Rattle.std.specs.Prelude.{◌≡◌, ◌<◌, ◌^◌, OnOk, IfSome, IsSome, None, Some, true, length, map};
 ghost use Rattle.std.specs.Option.{option_map};
-ghost use Rattle.fork_join.specs.Arrivals.{side_of};
 ghost use Rattle.circuit_core.specs.Circuit.{set_slot, free_from, next_token, later, split, both, arrive};
 ghost use Rattle.circuit_core.specs.Bare.{arrive_at};
-ghost use Rattle.circuit_rows.specs.Views.{channel_of, op_of};
+ghost use Rattle.circuit_rows.specs.Views.{channel_of};
 ghost use Rattle.circuit_clock.specs.Views.{circuit_of, holding, question_of, slot_at, slot_of, token_of};
 
 use crate::registers::{Circuit, Question, Slot, Token};
-use circuit_rows::{Channel, Operator};
-use fork_join::Side;
-use pcf_values::Val;
+use circuit_rows::Channel;
+use pcf_values::{Operator, Side, Val};
 use std::alloc::{AllocError, Global};
 
 // The first fork that isn't open.
@@ -53,17 +51,13 @@ fn take(slots: &mut Vec<Option<Slot>>, at: u32) -> Option<Slot>
 
 // What the operator comes to, where this side has one value and the other side the other.
 fn both(operator: Operator, side: Side, own: Val, other: Val) -> Val
-    ensures { result ≡ both (op_of operator) (side_of side) own other }
+    ensures { result ≡ both operator side own other }
 {
     let (left, right) = match side {
         Side::Left => (own, other),
         Side::Right => (other, own),
     };
-    match operator {
-        Operator::Plus => left.plus(right),
-        Operator::Minus => left.minus(right),
-        Operator::Times => left.times(right),
-    }
+    left.by(operator, right)
 }
 
 /// A fork of a node: the left question goes on, and the right one waits.
@@ -137,7 +131,7 @@ pub(crate) fn arrive(
     wire: u32,
 )
     ensures made { circuit_of circuit.new ≡
-        arrive_at (slot_at circuit.old.slots.items token.mine) (op_of operator) (side_of side) wire (token_of token)
+        arrive_at (slot_at circuit.old.slots.items token.mine) operator side wire (token_of token)
         (holding circuit.old token) }
     ensures length { length circuit.new.slots.items ≡ length circuit.old.slots.items }
 {
@@ -163,7 +157,7 @@ fn meet(
     requires within { token.mine < length circuit.old.slots.items }
     requires closed { slot_at circuit.old.slots.items token.mine ≡ None }
     ensures made { circuit_of circuit.new ≡
-        arrive slot.answered (slot_of slot) (op_of operator) (side_of side) wire (token_of token) (holding circuit.old token) }
+        arrive slot.answered (slot_of slot) operator side wire (token_of token) (holding circuit.old token) }
     ensures length { length circuit.new.slots.items ≡ length circuit.old.slots.items }
 {
     match slot.answered {

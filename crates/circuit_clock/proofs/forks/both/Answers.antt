@@ -1,5 +1,5 @@
 use Rattle.std.proofs.Common.{rules}
 use Rattle.circuit_clock.proofs.forks.both.Goals as goal
 
-pub returns-in-Minus : goal.returns-in-Minus
-returns-in-Minus c = search rules
+pub returns : goal.returns
+returns c = search rules
