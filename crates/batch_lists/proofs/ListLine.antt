@@ -3,8 +3,7 @@ use Rattle.std.proofs.Common.{◌≡◌, ℕ, ◌<◌, ◌≤◌, true, List, �
 use Rattle.std.specs.Prelude.{codes}
 use Rattle.std.specs.Str.Parse.{digits_value}
 use Rattle.text_lines.specs.Numbers.{Spells}
-use Rattle.text_lines.specs.Numbers.{digits_in, behind, is_number}
-use Rattle.text_lines.specs.Numbers.{capped}
+use Rattle.text_lines.specs.Digits.{behind, capped, digits_in, is_number}
 use Rattle.text_lines.proofs.Numbers.{number_is, is_number_is, digits_first, behind_first, digits_behind}
 use Rattle.batch_lists.specs.declared.line.BatchLine.{BatchLine}
 use Rattle.batch_lists.specs.Limits.{most_job_budget}

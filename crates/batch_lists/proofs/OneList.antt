@@ -4,7 +4,7 @@ use Rattle.std.proofs.Common.{inr, arith}
 use Rattle.std.specs.Prelude.{codes}
 use Rattle.std.specs.Str.Parse.{digits_value}
 use Rattle.text_lines.specs.Lines.{lines, end_line}
-use Rattle.text_lines.specs.Numbers.{digits_in}
+use Rattle.text_lines.specs.Digits.{digits_in}
 use Rattle.text_lines.specs.Lines.{joined}
 use Rattle.text_lines.proofs.Lines.{lines_joined}
 use Rattle.text_lines.proofs.Numbers.{digits_first}

@@ -6,12 +6,11 @@ use Rattle.std.specs.Str.{bytes_eq}
 use Rattle.std.specs.Str.Parse.{digits_value}
 use Rattle.std.proofs.lemmas.Bool.{le-leb, leb-true, and_parts, and_from, eqb-true, eq-eqb, ne_eqb, not-true}
 use Rattle.std.proofs.lemmas.Bool.{both_ways}
-use Rattle.text_lines.specs.Numbers.{behind, digits_in, is_number}
+use Rattle.text_lines.specs.Digits.{behind, digits_in, is_number}
 use Rattle.text_lines.proofs.Numbers.{behind_first, digits_behind, digits_first, is_number_is, is_same, number_is, same_is}
 use Rattle.schedule_log.specs.declared.version.Version.{Version}
 use Rattle.schedule_log.specs.declared.version.Version.TheVariants.{One, Two}
 use Rattle.schedule_log.specs.Schedules.{Run, IsRunLine, IsMoveLine, MayFollow}
-use Rattle.text_lines.specs.Numbers.{behind, digits_in, is_number}
 use Rattle.schedule_log.specs.Reading.{count_in, is_count, run_in, is_move_line, may_follow}
 
 -- what stands behind a ticket in version 2, when it is told to be a count

@@ -5,7 +5,7 @@ use Rattle.std.specs.Prelude.{None, Result, Ok, Err, codes, nat_eq, nat_lt, nat_
 use Rattle.std.specs.Str.{bytes_eq}
 use Rattle.std.specs.Str.Parse.{digits_value}
 use Rattle.pcf_values.specs.Most.{most_moves, most_schedule_bytes}
-use Rattle.text_lines.specs.Numbers.{behind, digits_in, is_number}
+use Rattle.text_lines.specs.Digits.{behind, digits_in, is_number}
 use Rattle.schedule_log.specs.declared.fault.ScheduleFault.{ScheduleFault}
 use Rattle.schedule_log.specs.declared.fault.ScheduleFault.TheVariants.{NoMemory, BadHeader, BadLine, TicketTooWide, NoEnd, TooLong}
 use Rattle.schedule_log.specs.declared.version.Version.{Version}

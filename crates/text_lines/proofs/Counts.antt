@@ -7,7 +7,7 @@ use Rattle.std.specs.Char.{is_ascii_digit}
 use Rattle.std.specs.Str.{all_ascii_digits}
 use Rattle.std.specs.Str.Parse.{digits_value}
 use Rattle.std.proofs.lemmas.Str.Parse.{IsNumeralModel, numerals_by_fold, tells_all_ascii_digits}
-use Rattle.text_lines.specs.Numbers.{behind, capped, digits_in}
+use Rattle.text_lines.specs.Digits.{behind, capped, digits_in}
 use Rattle.text_lines.specs.Scanning.{capped_after}
 use Rattle.text_lines.proofs.Numbers.{digits_in_are}
 

@@ -6,7 +6,8 @@ use Rattle.std.specs.Char.{is_ascii_digit}
 use Rattle.std.specs.Str.Parse.{digits_value}
 use Rattle.std.proofs.lemmas.Bool.{lt-ltb, ltb-true, and_parts, and_from, eqb-true, eq-eqb, eqb-false}
 use Rattle.std.proofs.lemmas.Slice.Eq.{bytes_eq-Decides}
-use Rattle.text_lines.specs.Numbers.{Spells, behind, digits_in, is_number, is_plain}
+use Rattle.text_lines.specs.Numbers.{Spells}
+use Rattle.text_lines.specs.Digits.{behind, digits_in, is_number, is_plain}
 
 -- Bytes that are told to be the same are.
 pub same_is : (a b : List ℕ) → bytes_eq a b ≡ true → a ≡ b

@@ -1,6 +1,6 @@
 -- How far the first line reaches, and numbers that are counted up to a bound.
 use Rattle.std.specs.Prelude.{ℕ, suc, ◌+◌, ◌-◌, ◌*◌, List, [], ◌∷◌, nat_eq, if◌then◌else◌}
-use Rattle.text_lines.specs.Numbers.{capped}
+use Rattle.text_lines.specs.Digits.{capped}
 
 -- how many bytes the first line has
 abbrev pub first_length : List ℕ → ℕ

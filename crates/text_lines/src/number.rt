@@ -2,7 +2,7 @@
 ghost use Rattle.std.specs.Prelude.{◌≡◌, ◌≤◌, length, IfSome};
 ghost use Rattle.std.specs.Option.{is_some};
 ghost use Rattle.std.specs.Str.Parse.{digits_value};
-ghost use Rattle.text_lines.specs.Numbers.{behind, capped, digits_in, is_number};
+ghost use Rattle.text_lines.specs.Digits.{behind, capped, digits_in, is_number};
 ghost use Rattle.text_lines.specs.Scanning.{capped_after};
 
 // No number above this, which is 2 ^ 40, is told from it.

@@ -1,8 +1,7 @@
 use Rattle.std.proofs.Common.{◌≡◌, ◌≤◌, true, ◌++◌, ◌∙◌, arith}
 use Rattle.std.specs.Prelude.{codes}
 use Rattle.std.specs.Str.Parse.{digits_value}
-use Rattle.text_lines.specs.Numbers.{digits_in, behind, is_number}
-use Rattle.text_lines.specs.Numbers.{capped}
+use Rattle.text_lines.specs.Digits.{behind, capped, digits_in, is_number}
 use Rattle.batch_lists.specs.Limits.{most_job_budget}
 use Rattle.batch_lists.proofs.ListLine.{no_budget_low, no_budget_high, budget_is, space_behind}
 use Rattle.batch_lists.proofs.line.budget_in.Goals as goal

@@ -1,5 +1,5 @@
 use Rattle.std.proofs.Common.{◌≡◌, ◌+◌, length, drop}
-use Rattle.text_lines.specs.Numbers.{digits_in}
+use Rattle.text_lines.specs.Digits.{digits_in}
 use Rattle.text_lines.proofs.number.digit_count.Given as goal
 
 abbrev pub invariant-loop-i : goal.invariant-loop-i
