@@ -8,7 +8,8 @@ use Rattle.pcf_reader.specs.Grammar.{Expr, expr_part, expr_text, Written, placed
 use Rattle.pcf_reader.specs.Spelling.{Splits, ends}
 use Rattle.pcf_reader.specs.Text.{Derives, IsShallow}
 use Rattle.pcf_reader.specs.Correct.{HasTokens, Text}
-use Rattle.pcf_reader.specs.Printed.{term_text, placeless}
+use Rattle.pcf_reader.specs.Printed.{term_text}
+use Rattle.pcf_reader.specs.Placeless.{placeless}
 use Rattle.pcf_reader.specs.Sizes.{node_count}
 use Rattle.pcf_reader.specs.Laws.{ReadBack}
 use Rattle.pcf_reader.proofs.Lists.{WritesNarrow, each_append, each_left, map-append}

@@ -7,15 +7,16 @@ use Rattle.pcf_values.specs.Most.{most_open}
 use Rattle.pcf_values.specs.declared.operator.Operator.{Operator}
 use Rattle.pcf_values.specs.Named.{NamedTree, number_at, name_at, word_at, binary_at, pair_at, ifz_at, bind_at, apply_at, Word, Binder}
 use Rattle.pcf_values.specs.Named.{the_fun, the_fix}
-use Rattle.pcf_reader.specs.Tokens.{Token, Close, Colon, Dot, Comma, Sign, Then, Else, Name, is_sum, Placed}
+use Rattle.pcf_reader.specs.Tokens.{Close, Colon, Dot, Comma, Sign, Then, Else, Name, is_sum, Placed}
 use Rattle.pcf_reader.specs.Grammar.{Type_, only_ptype, arrow_type, PType, only_tatom, times_type, TAtom, nat_type, paren_type, Expr}
 use Rattle.pcf_reader.specs.Grammar.{binding, choice, only_sum, Sum, only_product, summed, Product, only_app, multiplied, App, only_atom}
 use Rattle.pcf_reader.specs.Grammar.{applied, Atom, numeral, variable, parens, pairing, prefixed, Part, binary, expr_part, sum_part}
 use Rattle.pcf_reader.specs.Grammar.{product_part, app_part_of, atom_part, Written, placed, plain, marked, type_text, ptype_text}
 use Rattle.pcf_reader.specs.Grammar.{tatom_text, expr_text, sum_text, product_text, app_text, atom_text}
 use Rattle.pcf_reader.specs.Spelling.{Splits}
-use Rattle.pcf_reader.specs.Text.{IsNarrow, IsShallow, Each}
-use Rattle.pcf_reader.specs.Printed.{fitted, ty_text, word_text, binder_text, op_text, op_level, right_level, level, term_text, placeless}
+use Rattle.pcf_reader.specs.Text.{IsShallow, Each}
+use Rattle.pcf_reader.specs.Printed.{fitted, ty_text, word_text, binder_text, op_text, op_level, right_level, level, term_text}
+use Rattle.pcf_reader.specs.Placeless.{placeless}
 use Rattle.pcf_reader.proofs.Lists.{WritesNarrow, each_append}
 use Rattle.pcf_reader.proofs.Shown.{fit_onto, fit_height, fit_shallow, ty_onto, own_onto, own_height, own_shallow, Fine}
 use Rattle.pcf_reader.proofs.Pieces.{Clear, place_at, blank_piece, number_piece, name_piece}

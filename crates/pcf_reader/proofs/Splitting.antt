@@ -12,7 +12,8 @@ use Rattle.pcf_reader.specs.Spelling.{Splits}
 use Rattle.pcf_reader.specs.Lexing.{lex, idle}
 use Rattle.pcf_reader.specs.Text.{Derives, IsFirstFault}
 use Rattle.pcf_reader.specs.Scan.{scan}
-use Rattle.pcf_reader.specs.Correct.{FirstFault, HasTokens, Text, TokenFault, Faults, IsOnlyFault}
+use Rattle.pcf_reader.specs.Correct.{FirstFault, HasTokens, Text, TokenFault}
+use Rattle.pcf_reader.specs.Answered.{Faults, IsOnlyFault}
 use Rattle.pcf_reader.specs.declared.fault.ReadFault.{ReadFault}
 use Rattle.pcf_reader.specs.declared.fault.ReadFault.TheVariants.{NoMemory, NotText, BadToken, NumberTooWide, Unexpected, TooDeep, TooLarge}
 use Rattle.pcf_reader.specs.declared.fault.ReadFault.TheVariants.{TooLong}

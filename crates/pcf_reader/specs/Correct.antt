@@ -33,13 +33,3 @@ FirstFault bytes TooLong = most_program_bytes < length bytes
 FirstFault bytes (NotText at) = (length bytes ≤ most_program_bytes) × (IsUtf8 bytes → ⊥) × IsValidUpTo bytes at
 FirstFault bytes NoMemory = ⊥
 FirstFault bytes f = TokenFault bytes f
-
--- a fault that may be answered: the first one, or that memory ran out
-abbrev pub Faults : List ℕ → ReadFault → Type 0
-Faults bytes NoMemory = Unit {0}
-Faults bytes f = FirstFault bytes f
-
--- the answer where f is the first fault: f, unless memory ran out
-abbrev pub IsOnlyFault : ReadFault → ReadFault → Type 0
-IsOnlyFault f NoMemory = Unit {0}
-IsOnlyFault f g = g ≡ f

@@ -3,7 +3,8 @@ use Rattle.std.specs.Prelude.{◌≡◌, ◌⊎◌, ℕ, ◌≤◌, List, length
 use Rattle.pcf_values.specs.Named.{NamedTree, named_height}
 use Rattle.pcf_values.specs.NamedSize.{named_size}
 use Rattle.pcf_reader.specs.Correct.{Text, FirstFault}
-use Rattle.pcf_reader.specs.Printed.{term_text, placeless}
+use Rattle.pcf_reader.specs.Printed.{term_text}
+use Rattle.pcf_reader.specs.Placeless.{placeless}
 use Rattle.pcf_values.specs.Most.{most_nodes, most_program_bytes}
 use Rattle.pcf_reader.specs.Sizes.{node_count, most_read_height}
 use Rattle.pcf_reader.specs.declared.fault.ReadFault.{ReadFault}

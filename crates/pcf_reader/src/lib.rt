@@ -15,7 +15,8 @@ ghost use Rattle.pcf_reader.specs.Scan.{scan};
 ghost use Rattle.pcf_reader.specs.Lexing.{lex, idle};
 ghost use Rattle.pcf_reader.specs.Rest.{Gives};
 ghost use Rattle.pcf_values.specs.Views.{named_of};
-ghost use Rattle.pcf_reader.specs.Correct.{Text, FirstFault, Faults, IsOnlyFault};
+ghost use Rattle.pcf_reader.specs.Correct.{Text, FirstFault};
+ghost use Rattle.pcf_reader.specs.Answered.{Faults, IsOnlyFault};
 ghost use Rattle.pcf_reader.specs.declared.fault.ReadFault.{ReadFault as FaultType};
 ghost use Rattle.pcf_values.specs.Most.{most_program_bytes};
 

@@ -5,7 +5,8 @@ use Rattle.pcf_values.specs.Typing.{HasType}
 use Rattle.pcf_values.specs.Named.{NamedTree}
 use Rattle.pcf_reader.specs.declared.fault.ReadFault.{ReadFault}
 use Rattle.pcf_reader.specs.declared.fault.ReadFault.TheVariants as read
-use Rattle.pcf_reader.specs.Correct.{Text, Faults}
+use Rattle.pcf_reader.specs.Correct.{Text}
+use Rattle.pcf_reader.specs.Answered.{Faults}
 use Rattle.pcf_types.specs.Checking.{type_of}
 use Rattle.pcf_types.specs.declared.fault.TypeFault.{TypeFault}
 use Rattle.pcf_types.specs.declared.fault.TypeFault.TheVariants as typing
