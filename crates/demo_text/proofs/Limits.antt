@@ -95,7 +95,8 @@ sum_shallow (suc k) o at small =
     let close_2 : Written = plain (right_of k at + sum_width k) Close in
     let here : max 0 o < 500 = omega (arith, small) in
     let more : List Written =
-    marked ((close.at + 1) + 1) (Sign Plus) (suc (expr_part (sum_phrase k (at + 1))).height) 1 ∷ marked ((close.at + 1) + 3) Open (max 0 o) 0
+    marked ((close.at + 1) + 1) (Sign Plus) (suc (expr_part (sum_phrase k (at + 1))).height) 1 ∷
+    marked ((close.at + 1) + 3) Open (max 0 o) 0
     ∷ (second ++ close_2 ∷ []) in
     let plus : suc (expr_part (sum_phrase k (at + 1))).height < 500 = omega (arith, small, sum_height k (at + 1)) in (
       here,
@@ -141,7 +142,8 @@ sum_narrow (suc k) o at =
     let close : Written = plain ((at + 1) + sum_width k) Close in
     let close_2 : Written = plain (right_of k at + sum_width k) Close in
     let more : List Written =
-    marked ((close.at + 1) + 1) (Sign Plus) (suc (expr_part (sum_phrase k (at + 1))).height) 1 ∷ marked ((close.at + 1) + 3) Open (max 0 o) 0
+    marked ((close.at + 1) + 1) (Sign Plus) (suc (expr_part (sum_phrase k (at + 1))).height) 1 ∷
+    marked ((close.at + 1) + 3) Open (max 0 o) 0
     ∷ (second ++ close_2 ∷ []) in (
       tt,
       each_append WritesNarrow (first ++ close ∷ []) more

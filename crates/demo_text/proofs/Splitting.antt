@@ -81,7 +81,8 @@ sum_splits (suc depth) o at rest items h =
     let first : List Written = expr_text (suc o) (sum_phrase depth (at + 1)) in
     let second : List Written = expr_text (suc o) (sum_phrase depth right) in
     let more : List Written =
-    marked ((close + 1) + 1) (Sign Plus) (suc (expr_part (sum_phrase depth (at + 1))).height) 1 ∷ marked ((close + 1) + 3) Open (max 0 o) 0 ∷
+    marked ((close + 1) + 1) (Sign Plus) (suc (expr_part (sum_phrase depth (at + 1))).height) 1 ∷
+    marked ((close + 1) + 3) Open (max 0 o) 0 ∷
     (second ++ plain (right + w) Close ∷ []) in
     let tokens : map placed ((first ++ plain close Close ∷ []) ++ more) ++ items
     ≡ map placed first ++ (at_place close Close ∷ at_place ((close + 1) + 1) (Sign Plus) ∷ at_place ((close + 1) + 3) Open

@@ -8,9 +8,10 @@ ghost use Rattle.pcf_values.specs.Views.{ty_of};
 ghost use Rattle.pcf_values.specs.Most.{most_open};
 
 use crate::fault::ReadFault;
+use crate::lexer::is_star;
 use crate::reader::Reader;
 use crate::token::Token;
-use pcf_values::{Operator, Ty};
+use pcf_values::Ty;
 use std::alloc::Global;
 
 /// A type.
@@ -45,13 +46,12 @@ fn product_of(reader: &mut Reader, alloc: Global, depth: u32) -> Result<Box<Ty>,
     ensures shorter { OnOk result (length reader.new.after < length reader.old.after) }
 {
     let left = atom_of(reader, alloc, depth)?;
-    match reader.token() {
-        Token::Sign(Operator::Times) => {
-            reader.take_at(depth, 0)?;
-            let right = product_of(reader, alloc, depth + 1)?;
-            Ok(Box::new(alloc, Ty::Product(left, right))?)
-        }
-        _ => Ok(left),
+    if is_star(reader.token()) {
+        reader.take_at(depth, 0)?;
+        let right = product_of(reader, alloc, depth + 1)?;
+        Ok(Box::new(alloc, Ty::Product(left, right))?)
+    } else {
+        Ok(left)
     }
 }
 

@@ -68,8 +68,8 @@ never_memory g (number_at at n) = clean_ok _
 never_memory g (name_at at x) = clean_variable at (nearest x g)
 never_memory g (word_at at the_succ a) = clean_on _ _ (number_clean (place_of a) (type_of g a) (never_memory g a)) (λ m. clean_ok _)
 never_memory g (word_at at the_pred a) = clean_on _ _ (number_clean (place_of a) (type_of g a) (never_memory g a)) (λ m. clean_ok _)
-never_memory g (word_at at (the_part s) a) = clean_on _ _ (clean_on (type_of g a) _ (never_memory g a) (λ j. clean_pair (place_of a) j.0 j.1))
-    (λ p. clean_ok _)
+never_memory g (word_at at (the_part s) a) =
+    clean_on _ _ (clean_on (type_of g a) _ (never_memory g a) (λ j. clean_pair (place_of a) j.0 j.1)) (λ p. clean_ok _)
 never_memory g (binary_at at o a b) =
     clean_on _ _ (numbers_clean _ _ (number_clean (place_of a) (type_of g a) (never_memory g a))
     (number_clean (place_of b) (type_of g b) (never_memory g b))) (λ p. clean_ok _)
