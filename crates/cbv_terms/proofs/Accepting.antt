@@ -15,6 +15,7 @@ use Rattle.cbv_terms.specs.declared.limit.TheConstants.{BY_VALUE_HEIGHT}
 use Rattle.cbv_terms.specs.Translation.{has_product}
 use Rattle.cbv_terms.specs.Accepted.{HasTranslation, Accepted}
 use Rattle.cbv_terms.specs.Faults.{is_of_fun, BinderFault, FixFault, HasFault, IsFaultless}
+use Rattle.cbv_terms.proofs.Scanning.{either}
 
 abbrev Clean : NamedTree → Type 0
 Clean tree = (f : ByValueFault) → HasFault tree f → ⊥
@@ -104,10 +105,6 @@ fix_is_of_fun : (t : TyTree) (tree : NamedTree) (s : List (List ℕ)) (m : TermT
 fix_is_of_fun t tree s m r h =
     let (a, b, c, n, e, q) = fix_of_fun t m h in
     subst (λ t. is_of_fun t tree ≡ true) (sym e) (lam_of_fun tree s a b c n (subst (Resolves s tree) q r))
-
-either : {A B C : Type 0} → (A → C) → (B → C) → A ⊎ B → C
-either f g (inl a) = f a
-either f g (inr b) = g b
 
 differ : (b : Bool) → b ≡ true → b ≡ false → ⊥
 differ b h k = cc

@@ -19,7 +19,7 @@ pub in_either : {A B C : Type 0} → A ⊎ B → (A → C) → (B → C) → C
 in_either (inl a) f g = f a
 in_either (inr b) f g = g b
 
-either : {A B C : Type 0} → (A → C) → (B → C) → A ⊎ B → C
+pub either : {A B C : Type 0} → (A → C) → (B → C) → A ⊎ B → C
 either f g (inl a) = f a
 either f g (inr b) = g b
 
