@@ -15,7 +15,7 @@ use Rattle.move_rules.specs.Table.{on_found, facing, plain_up, plain_down}
 use Rattle.move_rules.specs.Moves.{Look, dead, constant, pass, one, test, two, look, Move, solo, fork, join, answer, stay, solo_at}
 use Rattle.move_rules.specs.Moves.{or_stay, if_wire, ans_down}
 use Rattle.move_rules.specs.Moves.{ask_move, move}
-use Rattle.move_rules.proofs.Facing.{met}
+use Rattle.move_rules.proofs.Facing.{one_some, met}
 use Rattle.interleave_laws.specs.Start.{start_of}
 use Rattle.interleave_laws.specs.States.{State, start, act, fork_on, last_on, join_on, other, step_on, step, run, then_run}
 use Rattle.interleave_laws.specs.Runs.{LeadsTo}
@@ -26,6 +26,7 @@ use Rattle.walk_text.specs.Ports.{port, comes_by}
 use Rattle.walk_text.specs.Lines.{outcome_text, line_text, line_at, line_of, move_line}
 use Rattle.walk_text.specs.Traces.{on_state, lines_from}
 use Rattle.walk_text.specs.Laws.{answer_line, AnswerEnds}
+use Rattle.walk_text.proofs.Playing.{none_some}
 
 -- ---- the move that is an answer
 
@@ -138,12 +139,6 @@ pub record BringsIt (net : NetTree) (S : State) (t : ℕ) (u : Val) : Type 0 whe
   pub token : TokenTree
   pub live : S.tokens t ≡ Some token
   pub is : move net token ≡ answer u
-
-one_some : {A : Type 0} (x y : A) → Some x ≡ Some y → x ≡ y
-one_some x y e = cc
-
-none_some : {A : Type 0} (x : A) → None ≡ Some x → ⊥
-none_some x e = cc
 
 -- what a step without an answer answers
 unanswered : (S U : State) (u : Val) → S.answered ≡ None → S.answered ≡ U.answered → U.answered ≡ Some u → ⊥

@@ -1,7 +1,6 @@
 -- The moves of a log's entries, one after the other: each has its step, and its line stands behind those before it.
-use Rattle.std.proofs.Common.{◌≡◌, ℕ, zero, suc, ◌+◌, ◌-◌, ◌<◌, ◌≤◌, List, [], ◌∷◌, ◌++◌, append_assoc, length, take, drop, get_or}
+use Rattle.std.proofs.Common.{◌≡◌, ℕ, suc, ◌+◌, ◌-◌, ◌<◌, ◌≤◌, List, [], ◌∷◌, ◌++◌, append_assoc, length, take, drop, get_or}
 use Rattle.std.proofs.Common.{Option, Some, None, refl, sym, ap, ◌∙◌, subst, arith, drop-cons}
-use Rattle.std.proofs.Common.{Result, Ok, Err, OnOk, is_ok, if◌then◌else◌}
 use Rattle.std.specs.Option.{IsSome}
 use Rattle.std.specs.List.{concat}
 use Rattle.std.specs.FinMap.{get}
@@ -9,6 +8,7 @@ use Rattle.std.proofs.lemmas.List.{append-nil}
 use Rattle.pcf_values.specs.Most.{most_moves, most_budget}
 use Rattle.net_build.specs.Nets.{NetTree}
 use Rattle.move_rules.specs.Places.{TokenTree}
+use Rattle.move_rules.proofs.Facing.{one_some}
 use Rattle.interleave_laws.specs.Start.{start_of}
 use Rattle.interleave_laws.specs.Runs.{Runs}
 use Rattle.interleave_laws.proofs.MapLaws.{map_low}
@@ -18,35 +18,14 @@ use Rattle.interleave_laws.specs.Maps.{seen, option_seen}
 use Rattle.interleave_laws.proofs.Seen.{step_seen}
 use Rattle.schedule_log.specs.declared.entry.Entry.{Entry}
 use Rattle.schedule_log.specs.Logs.{tickets_in_log}
+use Rattle.schedule_log.proofs.Taken.{tickets_split, tickets_more, tickets_taken}
 use Rattle.walk_text.specs.Lines.{move_line}
 use Rattle.walk_text.specs.Traces.{LeadsSomewhere, on_state, lines_from}
 
--- ---- the tickets of a log up to a place
-
-tickets_split : (es : List Entry) (i : ℕ) (d : Entry) → i < length es →
-    tickets_in_log es ≡ tickets_in_log (take i es) ++ (get_or es i d).ticket ∷ tickets_in_log (drop (suc i) es)
-tickets_split [] i d u = absurd (omega (arith, u))
-tickets_split (e ∷ es) zero d u = refl
-tickets_split (e ∷ es) (suc i) d u = ap (λ ts. e.ticket ∷ ts) (tickets_split es i d (omega (arith, u)))
-
-tickets_more : (es : List Entry) (i : ℕ) (d : Entry) → i < length es →
-    tickets_in_log (take (suc i) es) ≡ tickets_in_log (take i es) ++ (get_or es i d).ticket ∷ []
-tickets_more [] i d u = absurd (omega (arith, u))
-tickets_more (e ∷ es) zero d u = refl
-tickets_more (e ∷ es) (suc i) d u = ap (λ ts. e.ticket ∷ ts) (tickets_more es i d (omega (arith, u)))
-
-tickets_taken : (es : List Entry) (i : ℕ) → i ≤ length es → length (tickets_in_log (take i es)) ≡ i
-tickets_taken es zero u = refl
-tickets_taken [] (suc i) u = absurd (omega (arith, u))
-tickets_taken (e ∷ es) (suc i) u = ap suc (tickets_taken es i (omega (arith, u)))
-
 -- ---- steps
 
-none_some : {A : Type 0} (x : A) → None ≡ Some x → ⊥
+pub none_some : {A : Type 0} (x : A) → None ≡ Some x → ⊥
 none_some x e = cc
-
-one_some : {A : Type 0} (x y : A) → Some x ≡ Some y → x ≡ y
-one_some x y e = cc
 
 some_is : {A : Type 0} (o : Option A) (x : A) → o ≡ Some x → IsSome o
 some_is o x e = subst IsSome (sym e) refl
@@ -166,13 +145,3 @@ low_here net log S runs led i live = go (get S.tokens i) refl live
 pub low_reached : (net : NetTree) (n : ℕ) (S : MapState) (t : ℕ) → Runs net → IsReachedWithin net n S →
     IsSome (step_map net S t) → t < S.next
 low_reached net n S t runs reached able = low_here net reached.0 S runs reached.1 t (able_live net S t able)
-
--- ---- results
-
-pub ok_map : {A E P Q : Type 0} (r : Result A E) → (P → Q) → OnOk r P → OnOk r Q
-ok_map (Ok a) f p = f p
-ok_map (Err e) f p = p
-
-pub from_if : {A E : Type 0} (r : Result A E) (x a b : List ℕ) → x ≡ (if is_ok r then a else b) → OnOk r (x ≡ a)
-from_if (Ok v) x a b e = e
-from_if (Err z) x a b e = tt

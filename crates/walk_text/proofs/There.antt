@@ -4,7 +4,8 @@ use Rattle.net_build.specs.declared.node.Node.{Node}
 use Rattle.net_build.specs.Nets.{NetTree}
 use Rattle.move_rules.specs.Places.{TokenTree, place_of}
 use Rattle.move_rules.specs.Table.{facing, on_found}
-use Rattle.move_rules.specs.Moves.{stay, move, move_at}
+use Rattle.move_rules.specs.Moves.{stay, move}
+use Rattle.move_rules.specs.AtNode.{move_at}
 use Rattle.move_rules.proofs.Facing.{move_faced}
 use Rattle.interleave_laws.specs.States.{State, act, step_on}
 use Rattle.walk_text.specs.Lines.{line_at, line_of}

@@ -19,16 +19,18 @@ use Rattle.net_build.specs.Nets.{NetTree}
 use Rattle.move_rules.specs.declared.token.Seen.{Seen}
 use Rattle.move_rules.specs.Places.{Place, up, down, TokenTree, ask, ans, place_of}
 use Rattle.move_rules.specs.Table.{on_found, facing, plain_up, plain_down}
-use Rattle.move_rules.specs.Moves.{Look, dead, constant, pass, one, test, two, pass_at, look_up, look_at, Move, solo, fork, join}
+use Rattle.move_rules.specs.Moves.{Look, dead, constant, pass, one, test, two, pass_at, look_up, Move, solo, fork, join}
+use Rattle.move_rules.specs.AtNode.{look_at, move_at}
 use Rattle.move_rules.specs.Moves.{answer, stay}
-use Rattle.move_rules.specs.Moves.{ask_move, solo_at, or_stay, if_wire, ans_down, move_at, move}
-use Rattle.move_rules.proofs.Facing.{move_faced}
+use Rattle.move_rules.specs.Moves.{ask_move, solo_at, or_stay, if_wire, ans_down, move}
+use Rattle.move_rules.proofs.Facing.{one_some, move_faced}
 use Rattle.interleave_core.specs.declared.stepped.Stepped.{Stepped}
 use Rattle.interleave_core.specs.declared.stepped.Stepped.TheVariants.{Went, Forked, Joined, Answered}
 use Rattle.interleave_core.specs.Names.{name_at, name_of, name_on, step_name}
 use Rattle.interleave_laws.specs.Maps.{MapState, fork_map, last_map, join_map, act_map, step_map_on, step_map, seen}
 use Rattle.walk_text.specs.Lines.{val_text, token_text, came, join_text, fork_text, outcome_text, line_text, line_at, line_of}
 use Rattle.walk_text.specs.Lines.{move_line, mover_text}
+use Rattle.walk_text.proofs.Playing.{none_some}
 use Rattle.walk_text.specs.Ports.{comes_by, leaves_by}
 use Rattle.walk_text.specs.Telling.{boxes_by, is_operator, onward_text, forked_text, values_text, told_text, Begins, line_begin}
 
@@ -133,12 +135,6 @@ move_fits net x i n e =
     subst (Fits (is_operator n)) (sym (move_faced net x ∙ ap (λ f. on_found f stay (λ i n. move_at i n x)) e)) (move_at_fits i n x)
 
 -- ---- what is told
-
-one_some : {A : Type 0} (x y : A) → Some x ≡ Some y → x ≡ y
-one_some x y e = cc
-
-none_some : {A : Type 0} (x : A) → None ≡ Some x → ⊥
-none_some x e = cc
 
 -- the token that was put at a ticket, and one that was put there before another
 put_here : (S : MapState) (t : ℕ) (y : TokenTree) → get (insert S.tokens t y) t ≡ Some y

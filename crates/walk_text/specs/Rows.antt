@@ -1,7 +1,8 @@
 -- Whole traces with their texts. The prover computes them.
 use Rattle.std.specs.Prelude.{◌≡◌, ℕ, zero, suc, List, [], ◌∷◌, ◌++◌, codes}
+use Rattle.pcf_values.specs.declared.operator.Operator.TheVariants.{Plus}
 use Rattle.pcf_values.specs.Terms.{nat}
-use Rattle.net_build.specs.declared.node.Node.TheVariants.{Const, Succ, Root}
+use Rattle.net_build.specs.declared.node.Node.TheVariants.{Const, Succ, Root, Binary}
 use Rattle.net_build.specs.Nets.{NetTree, value_wire}
 use Rattle.net_build.specs.Example.{doubled_net}
 use Rattle.schedule_log.specs.declared.entry.Entry.{Entry}
@@ -20,7 +21,7 @@ succ_net = record { wires = value_wire 0 nat ∷ value_wire 0 nat ∷ []; nodes 
 abbrev pub sum_net : NetTree
 sum_net = record {
   wires = value_wire 0 nat ∷ value_wire 0 nat ∷ value_wire 0 nat ∷ [];
-  nodes = Const 1 0 ∷ Const 2 1 ∷ Plus 0 1 2 ∷ Root 2 ∷ [];
+  nodes = Const 1 0 ∷ Const 2 1 ∷ Binary Plus 0 1 2 ∷ Root 2 ∷ [];
 }
 
 -- the trace of `succ 4`

@@ -10,7 +10,7 @@ pub(crate) fn at_operator(node: Node) -> bool
     ensures { result ≡ is_operator node }
 {
     match node {
-        Node::Plus { .. } | Node::Minus { .. } | Node::Times { .. } => true,
+        Node::Binary { .. } => true,
         _ => false,
     }
 }
@@ -43,14 +43,12 @@ fn above(node: Node, wire: u32) -> &'static [u8]
 {
     match node {
         Node::Const { .. } | Node::Der { .. } | Node::Weak { .. } => b"-",
-        Node::Succ { operand, .. }
-        | Node::Pred { operand, .. }
-        | Node::Fst { operand, .. }
-        | Node::Snd { operand, .. } => one(operand, b"operand", wire),
-        Node::Plus { left, right, .. }
-        | Node::Minus { left, right, .. }
-        | Node::Times { left, right, .. }
-        | Node::Con { left, right, .. } => two(left, b"left", right, b"right", wire),
+        Node::Succ { operand, .. } | Node::Pred { operand, .. } | Node::Proj { operand, .. } => one(
+            operand, b"operand", wire,
+        ),
+        Node::Binary { left, right, .. } | Node::Con { left, right, .. } => two(
+            left, b"left", right, b"right", wire,
+        ),
         Node::Pair { left, right, .. } => two(left, b"first", right, b"second", wire),
         Node::Ifz {
             condition,
@@ -88,17 +86,14 @@ fn below(node: Node, wire: u32) -> &'static [u8]
         Node::Const { wire: own, .. }
         | Node::Succ { wire: own, .. }
         | Node::Pred { wire: own, .. }
-        | Node::Plus { wire: own, .. }
-        | Node::Minus { wire: own, .. }
-        | Node::Times { wire: own, .. }
+        | Node::Binary { wire: own, .. }
         | Node::Ifz { wire: own, .. }
         | Node::Con { wire: own, .. }
         | Node::Lam { wire: own, .. }
         | Node::App { wire: own, .. }
         | Node::FixBox { wire: own, .. }
         | Node::Pair { wire: own, .. }
-        | Node::Fst { wire: own, .. }
-        | Node::Snd { wire: own, .. } => one(own, b"conclusion", wire),
+        | Node::Proj { wire: own, .. } => one(own, b"conclusion", wire),
     }
 }
 

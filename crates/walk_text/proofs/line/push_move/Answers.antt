@@ -1,4 +1,5 @@
-use Rattle.walk_text.proofs.Playing.{ok_map, from_if, low_reached}
+use Rattle.token_stacks.proofs.Said.{ok_map, from_if}
+use Rattle.walk_text.proofs.Playing.{low_reached}
 use Rattle.walk_text.proofs.Told.{line_told}
 use Rattle.walk_text.proofs.line.push_move.Goals as goal
 

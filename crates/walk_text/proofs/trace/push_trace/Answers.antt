@@ -1,6 +1,6 @@
 use Rattle.std.proofs.Common.{sym, subst}
 use Rattle.walk_text.specs.Traces.{LeadsSomewhere}
-use Rattle.walk_text.proofs.Playing.{ok_map, from_if}
+use Rattle.token_stacks.proofs.Said.{ok_map, from_if}
 use Rattle.walk_text.proofs.Windowing.{traced}
 use Rattle.walk_text.proofs.trace.push_trace.Goals as goal
 
