@@ -172,8 +172,8 @@ fn branches(
 fn sum(reader: &mut Reader, alloc: Global, depth: u32) -> Result<Part, ReadFault>
     requires { depth ≤ most_open }
     ensures goes { (k : ExprK) → expr_open k ≡ depth →
-        Gives (λ p. resume (after_expr k (part_of p)) reader.new) (resume (begin_atom (first_atom (first_app (first_product k)))) reader.old)
-        result }
+        Gives (λ p. resume (after_expr k (part_of p)) reader.new)
+        (resume (begin_atom (first_atom (first_app (first_product k)))) reader.old) result }
     ensures shorter { OnOk result (length reader.new.after < length reader.old.after) }
     ensures low { IfOk result (λ p. p.height + 4 * depth ≤ most_read_height) }
 {

@@ -3,8 +3,8 @@
 //! `read_program` takes the bytes of a program's text and answers the one tree that they stand for by the grammar, with the place of
 //! each node, or else their very first fault (`ReadFault`). `print_term` and `print_ty` spell trees on one line, with parentheses
 //! exactly where the grammar needs them. The laws say that bytes are the text of one tree or have one first fault, and never both, that
-//! each tree that was read is within the limits, and that what is printed of it is read back. The grammar stands in `specs/Grammar.antt`, the tokens in `specs/Spelling.antt`, faults in
-//! `specs/Text.antt`. Scope and types are left to the crate above.
+//! each tree that was read is within the limits, and that what is printed of it is read back. The grammar stands in `specs/Grammar.antt`,
+//! the tokens in `specs/Spelling.antt`, faults in `specs/Text.antt`. Scope and types are left to the crate above.
 #![tactic(auto)]
 
 ghost use Rattle.std.specs.Prelude.{◌≡◌, ℕ, ◌≤◌, length, IfOk, IfErr, MatchResult, Ok, Err};
@@ -57,7 +57,7 @@ fn read_text(alloc: Global, text: &str) -> Result<Named, ReadFault>
 ///
 /// # Errors
 ///
-/// The very first fault of the bytes, with its place: an offset in bytes from 0. Or want of memory.
+/// The very first fault of the bytes, with its place: an offset in bytes from 0. Or it runs out of memory.
 pub fn read_program(alloc: Global, bytes: &[u8]) -> Result<Named, ReadFault>
     // What is read is a program's text.
     ensures found { IfOk result (λ t. Text bytes.now (named_of t)) }

@@ -12,7 +12,7 @@ use std::alloc::{AllocError, Global};
 ///
 /// # Errors
 ///
-/// Want of memory.
+/// It runs out of memory.
 pub fn print_ty(alloc: Global, ty: &Ty) -> Result<Vec<u8>, AllocError>
     ensures { IfOk result (λ v. v.items ≡ ty_text (ty_of ty.now)) }
 {
@@ -25,7 +25,7 @@ pub fn print_ty(alloc: Global, ty: &Ty) -> Result<Vec<u8>, AllocError>
 ///
 /// # Errors
 ///
-/// Want of memory.
+/// It runs out of memory.
 pub fn print_term(alloc: Global, term: &Named) -> Result<Vec<u8>, AllocError>
     ensures { IfOk result (λ v. v.items ≡ term_text (named_of term.now)) }
 {
@@ -34,6 +34,7 @@ pub fn print_term(alloc: Global, term: &Named) -> Result<Vec<u8>, AllocError>
     Ok(out)
 }
 
+/// The level of a type: 0 for `nat`, 1 for a product and 2 for an arrow.
 fn ty_level(ty: &Ty) -> u8
     ensures { result ≡ ty_level (ty_of ty.now) }
 {
@@ -44,6 +45,7 @@ fn ty_level(ty: &Ty) -> u8
     }
 }
 
+/// Puts the text of a type behind what is there.
 #[cycle(print_types)]
 fn push_ty(out: &mut Vec<u8>, ty: &Ty) -> Result<(), AllocError>
     ensures { OnOk result (out.new.items ≡ out.old.items ++ ty_text (ty_of ty.now)) }
@@ -78,6 +80,7 @@ fn push_fitted_ty(out: &mut Vec<u8>, most: u8, ty: &Ty) -> Result<(), AllocError
     }
 }
 
+/// The level of the grammar at which a term stands without parentheses.
 fn level_of(term: &Named) -> u8
     ensures { result ≡ level (named_of term.now) }
 {
@@ -96,6 +99,7 @@ fn level_of(term: &Named) -> u8
     }
 }
 
+/// Puts a number behind what is there, in decimal digits.
 fn push_number(out: &mut Vec<u8>, number: u64) -> Result<(), AllocError>
     ensures { OnOk result (out.new.items ≡ out.old.items ++ decimal number) }
 {
@@ -114,6 +118,7 @@ fn push_head(out: &mut Vec<u8>, word: &[u8], name: &Ident, ty: &Ty) -> Result<()
     out.extend_from_slice(b". ")
 }
 
+/// Puts the text of a term behind what is there.
 #[cycle(print_terms)]
 fn push_term(out: &mut Vec<u8>, term: &Named) -> Result<(), AllocError>
     ensures { OnOk result (out.new.items ≡ out.old.items ++ term_text (named_of term.now)) }
@@ -153,6 +158,7 @@ fn push_binary(
     push_fitted(out, between, right_most, right)
 }
 
+/// Puts the text of an `ifz` behind what is there.
 #[cycle(print_terms)]
 fn push_choice(out: &mut Vec<u8>, test: &Named, yes: &Named, no: &Named) -> Result<(), AllocError>
     ensures { OnOk result (out.new.items ≡ out.old.items ++ codes "ifz " ++ term_text (named_of test.now) ++ codes " then " ++
@@ -163,6 +169,7 @@ fn push_choice(out: &mut Vec<u8>, test: &Named, yes: &Named, no: &Named) -> Resu
     push_after(out, b" else ", no)
 }
 
+/// Puts the text of a pair behind what is there, in parentheses.
 #[cycle(print_terms)]
 fn push_pair(out: &mut Vec<u8>, left: &Named, right: &Named) -> Result<(), AllocError>
     ensures { OnOk result (out.new.items ≡ out.old.items ++ codes "(" ++ term_text (named_of left.now) ++ codes ", " ++
