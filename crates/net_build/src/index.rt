@@ -34,12 +34,14 @@ pub(crate) fn index(
     Ok(least)
 }
 
+/// A list of so many entries, none of which has a node yet.
 fn none_of(alloc: Global, count: usize) -> Result<Vec<Option<u32>>, AllocError>
     ensures { IfOk result (λ v. v.items ≡ replicate count None) }
 {
     vec![in alloc; None; count]
 }
 
+/// Writes the node at each wire that it has on this side.
 fn mark_each(least: &mut Vec<Option<u32>>, side: Side, node: Node, n: u32)
     ensures { least.new.items ≡ marked n (wires_with side node) least.old.items }
 {
@@ -49,6 +51,7 @@ fn mark_each(least: &mut Vec<Option<u32>>, side: Side, node: Node, n: u32)
     mark(least, third, n);
 }
 
+/// The wires of a node of which it stands on this side, three at most.
 fn on_side(side: Side, node: Node) -> (Option<u32>, Option<u32>, Option<u32>)
     ensures { present (result.0 ∷ result.1 ∷ result.2 ∷ []) ≡ wires_with side node }
 {
@@ -61,6 +64,7 @@ fn on_side(side: Side, node: Node) -> (Option<u32>, Option<u32>, Option<u32>)
     }
 }
 
+/// Writes the node at the wire, if there is one and the list has it.
 fn mark(least: &mut Vec<Option<u32>>, wire: Option<u32>, n: u32)
     ensures { least.new.items ≡ marked n (present (wire ∷ [])) least.old.items }
 {
