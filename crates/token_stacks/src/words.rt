@@ -1,10 +1,11 @@
-// The words of the encoding, and two steps on vectors of words that no clause on stacks speaks of.
+//! The words of the encoding, and two steps on vectors of words that no clause on stacks speaks of.
+
 ghost use Rattle.std.specs.Prelude.{◌≡◌, ◌++◌, ◌+◌, ◌≤◌, OnOk, OnErr, length, take, drop, vec_len};
 ghost use Rattle.token_stacks.specs.Parts.{Swaps, put_at};
 
 use std::alloc::AllocError;
 
-// The last word of the body of each form of signature.
+/// The last word of the body of each form of signature.
 pub(crate) const STAR: u64 = 0;
 
 pub(crate) const LEFT: u64 = 1;
@@ -15,14 +16,14 @@ pub(crate) const PAIR: u64 = 3;
 
 pub(crate) const AGAIN: u64 = 4;
 
-// The last word of each form of symbol.
+/// The last word of each form of symbol.
 pub(crate) const SYMBOL_R: u64 = 5;
 
 pub(crate) const SYMBOL_L: u64 = 6;
 
 pub(crate) const SIGNATURE: u64 = 7;
 
-// Adds both pieces at the end, or neither.
+/// Adds both pieces at the end, or neither.
 pub(crate) fn append(words: &mut Vec<u64>, piece: &[u64], tail: &[u64]) -> Result<(), AllocError>
     ensures ok { OnOk result (words.new.items ≡ words.old.items ++ (piece.now ++ tail.now)) }
     ensures err { OnErr result (words.new.items ≡ words.old.items) }
@@ -38,10 +39,10 @@ pub(crate) fn append(words: &mut Vec<u64>, piece: &[u64], tail: &[u64]) -> Resul
     }
 }
 
-// From so many words on a piece is put below others without a place that is made for it first.
+/// From so many words on a piece is put below others without a place that is made for it first.
 const LONG: usize = 64;
 
-// Puts a piece at `from`, behind it what stood there, and then `tail`; or leaves all as it was.
+/// Puts a piece at `from`, behind it what stood there, and then `tail`; or leaves all as it was.
 pub(crate) fn put_below(
     words: &mut Vec<u64>,
     from: usize,
@@ -62,7 +63,7 @@ pub(crate) fn put_below(
     Ok(())
 }
 
-// A copy of the piece at the end makes place for it.
+/// A copy of the piece at the end makes place for it.
 fn put_short(
     words: &mut Vec<u64>,
     from: usize,
@@ -79,7 +80,7 @@ fn put_short(
     Ok(())
 }
 
-// The piece in two parts: `head` has as many words as stand from `from` on, and takes their place, so that each word is copied once.
+/// The piece in two parts: `head` has as many words as stand from `from` on, and takes their place, so that each word is copied once.
 fn put_long(
     words: &mut Vec<u64>,
     from: usize,
@@ -105,7 +106,7 @@ fn put_long(
     }
 }
 
-// Adds `rest`, the words from `from` on once more, and `tail`; or some of that, and an error.
+/// Adds `rest`, the words from `from` on once more, and `tail`; or some of that, and an error.
 fn add_behind(
     words: &mut Vec<u64>,
     from: usize,
@@ -123,7 +124,7 @@ fn add_behind(
     Ok(())
 }
 
-// Moves a piece that stands from `middle` on down to `from`, and the words between up behind it.
+/// Moves a piece that stands from `middle` on down to `from`, and the words between up behind it.
 fn bring_down(words: &mut Vec<u64>, piece: &[u64], from: usize, middle: usize)
     requires first { from ≤ middle }
     requires whole { middle + length piece.now ≤ length words.old.items }
