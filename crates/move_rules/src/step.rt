@@ -1,4 +1,5 @@
 //! One solo move, in place.
+
 ghost use Rattle.std.specs.Prelude.{◌≡◌, IfOk, OnErr, slice_get};
 ghost use Rattle.std.specs.Option.{option_map};
 ghost use Rattle.net_build.specs.Sides.{number_of};
@@ -17,7 +18,7 @@ use crate::{Seen, Token};
 use net_build::{Net, Node};
 use std::alloc::AllocError;
 
-// The move through a node that the token faces.
+/// The move through a node that the token faces.
 fn pass(token: &mut Token, node: &Node) -> Result<bool, AllocError>
     ensures ok { IfOk result (λ made. Passes node.now token.old made token.new) }
     ensures err { OnErr result (token.new ≡ token.old) }
@@ -63,7 +64,7 @@ fn pass(token: &mut Token, node: &Node) -> Result<bool, AllocError>
     }
 }
 
-// The number of the node that the token faces.
+/// The number of the node that the token faces.
 fn number(net: &Net, token: &Token) -> Option<u32>
     ensures { result ≡ number_of (facing net.now (place_at token.now.wire token.now.up token.now.stacks)) }
 {
@@ -88,14 +89,14 @@ pub fn faced(net: &Net, token: &Token) -> Option<Seen>
     }
 }
 
-// The node of this number, where it lies in the net.
+/// The node of this number, where it lies in the net.
 fn node_at(net: &Net, n: u32) -> Option<&Node>
     ensures { option_map (λ n. n.now) result ≡ slice_get net.now.nodes n }
 {
     net.nodes().get(n as usize)
 }
 
-// The node that the token faces, where it lies in the net.
+/// The node that the token faces, where it lies in the net.
 fn faced_node<'n>(net: &'n Net, token: &Token) -> Option<&'n Node>
     ensures { option_map (λ n. n.now) result ≡ node_of (facing net.now (place_at token.now.wire token.now.up token.now.stacks)) }
 {
