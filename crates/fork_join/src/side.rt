@@ -1,4 +1,5 @@
-// What is brought to an entry, and what comes of it.
+//! What is brought to an entry, and what comes of it.
+
 use pcf_values::Val;
 
 /// An operand of an operator. Contracts see it as the definitions' own side.
