@@ -1,4 +1,5 @@
-// Joins.
+//! Joins.
+
 ghost use Rattle.std.specs.Prelude.{◌≡◌};
 ghost use Rattle.std.specs.FinMap.{get};
 ghost use Rattle.pcf_values.specs.Values.{val_op};
@@ -15,7 +16,7 @@ use fork_join::{Arrived, JoinTable, Side};
 use move_rules::Kind;
 use pcf_values::Val;
 
-// The left and the right value, where this side has v and the other side has w.
+/// The left and the right value, where this side has v and the other side has w.
 fn both(side: Side, v: Val, w: Val) -> (Val, Val)
     ensures { result ≡ both_of side v w }
 {
@@ -25,7 +26,7 @@ fn both(side: Side, v: Val, w: Val) -> (Val, Val)
     }
 }
 
-// The operator's value.
+/// The operator's value.
 fn value(operator: Operator, left: Val, right: Val) -> Val
     ensures { result ≡ val_op (op_of operator) left right }
 {
@@ -36,7 +37,7 @@ fn value(operator: Operator, left: Val, right: Val) -> Val
     }
 }
 
-// What the entry makes of the ticket's answer.
+/// What the entry makes of the ticket's answer.
 fn arrive(
     live: &LiveTokens,
     joins: &mut JoinTable,
@@ -55,8 +56,8 @@ fn arrive(
     }
 }
 
-// Brings the answer of a ticket to its entry: the first is kept, and its ticket ends; the second goes on down the wire c with what both
-// come to. Takes no memory.
+/// Brings the answer of a ticket to its entry: the first is kept, and its ticket ends; the second goes on down the wire c with what both
+/// come to. Takes no memory.
 pub(crate) fn join(
     live: &mut LiveTokens,
     joins: &mut JoinTable,
