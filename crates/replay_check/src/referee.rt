@@ -1,4 +1,5 @@
 //! The replay of a log.
+
 ghost use Rattle.std.specs.Prelude.{◌≡◌, ◌≤◌, length, None, Err, OnOk, IfErr};
 ghost use Rattle.std.specs.FinMap.{get};
 ghost use Rattle.pcf_values.specs.Most.{most_moves};
