@@ -1,4 +1,5 @@
 //! The pool as a bench.
+
 ghost use Rattle.std.specs.Prelude.{◌≡◌, ◌<◌, ◌≤◌, IfOk, OnErr};
 ghost use Rattle.interleave_laws.specs.Maps.{MapState};
 ghost use Rattle.token_pool.specs.declared.entries.Told.{Told};
@@ -64,7 +65,7 @@ impl<N: OnNet> BranchPool<N> {
     }
 }
 
-// The turn for what a worker was handed.
+/// The turn for what a worker was handed.
 fn turn_of<N: OnNet>(taken: Taken, plain: bool) -> Turn<BranchPiece<N>>
     requires { HandsSeed N.net taken }
     ensures { (S : MapState) (told : Told) → Hands S told taken → TurnFor S plain told result }
