@@ -1,4 +1,5 @@
 //! A pool whose bookings are published.
+
 ghost use Rattle.std.specs.Prelude.{◌≡◌, ◌≤◌, length};
 ghost use Rattle.progress_meter.specs.Meters.{last_of, with_number};
 ghost use Rattle.token_pool.specs.Ending.{Suits};
@@ -80,7 +81,7 @@ impl<'a, M: Watched, R: Wait + Sync> MeteredPool<'a, M, R> {
     }
 }
 
-// Publishes how many moves the pool has booked.
+/// Publishes how many moves the pool has booked.
 fn tell<R: Wait>(rt: &R, pool: &PoolState, writer: &mut Writer)
     requires { last_of writer.old.published ≤ length pool.now.log }
     ensures published { writer.new ≡ with_number writer.old (length pool.now.log) }

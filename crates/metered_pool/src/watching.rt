@@ -1,4 +1,5 @@
 //! The run of a net, read beside its workers.
+
 ghost use Rattle.std.specs.Prelude.{◌≡◌, ◌≤◌, [], ◌∷◌, length, All, IfOk, OnOk};
 ghost use Rattle.std.specs.List.Sorted.{IsNonDecreasing};
 ghost use Rattle.pcf_values.specs.Most.{most_budget, most_workers};
@@ -31,7 +32,7 @@ use token_pool::{Ended, PoolState};
 ///
 /// # Errors
 ///
-/// Want of memory.
+/// It runs out of memory.
 pub fn watch_net<R: Threads + Wait + Sync, G: Gate>(
     rt: &R,
     alloc: Global,
@@ -54,7 +55,7 @@ pub fn watch_net<R: Threads + Wait + Sync, G: Gate>(
     Ok((ended, numbers))
 }
 
-// Drives a new pool, and reads on a new meter.
+/// Drives a new pool, and reads on a new meter.
 fn drive_new<R: Threads + Wait + Sync, G: Gate>(
     rt: &R,
     alloc: Global,
@@ -78,8 +79,8 @@ fn drive_new<R: Threads + Wait + Sync, G: Gate>(
     )
 }
 
-// Drives the pool, and reads on the meter beside. The readings never go down, and none is above the number of moves of the pool that came
-// back, which is one of the same run.
+/// Drives the pool, and reads on the meter beside. The readings never go down, and none is above the number of moves of the pool that came
+/// back, which is one of the same run.
 fn drive_watched<M: Watched + Send + Sync, R: Threads + Wait + Sync, G: Gate>(
     rt: &R,
     alloc: Global,
@@ -127,7 +128,7 @@ fn drive_watched<M: Watched + Send + Sync, R: Threads + Wait + Sync, G: Gate>(
     }
 }
 
-// The readings of a reader that the writer has settled: they never went down, and none is above the number that was published last.
+/// The readings of a reader that the writer has settled: they never went down, and none is above the number that was published last.
 fn settled<R: Wait>(rt: &R, mut writer: Writer, reader: Reader, readings: Vec<u64>) -> Vec<u64>
     requires reader { (reader.meter ≡ writer.meter) × (reader.readings ≡ 0 ∷ readings.items) }
     ensures same { result ≡ readings }
@@ -138,7 +139,7 @@ fn settled<R: Wait>(rt: &R, mut writer: Writer, reader: Reader, readings: Vec<u6
     readings
 }
 
-// The reader after sixteen readings, and these.
+/// The reader after sixteen readings, and these.
 fn read_all<R: Wait>(
     rt: &R,
     mut reader: Reader,
@@ -154,7 +155,7 @@ fn read_all<R: Wait>(
     }
 }
 
-// Adds sixteen readings, each after twice the pause of the one before.
+/// Adds sixteen readings, each after twice the pause of the one before.
 fn push_all<R: Wait>(
     rt: &R,
     reader: &mut Reader,
@@ -171,7 +172,7 @@ fn push_all<R: Wait>(
     Ok(())
 }
 
-// Finishes the run that this pool is of. The moves go on behind those that were booked, and where there is one worker all are its own.
+/// Finishes the run that this pool is of. The moves go on behind those that were booked, and where there is one worker all are its own.
 fn finish(
     alloc: Global,
     pool: PoolState,
