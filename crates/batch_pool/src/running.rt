@@ -1,4 +1,5 @@
 //! The runs of all jobs of a batch.
+
 ghost use Rattle.std.specs.Prelude.{◌≡◌, ◌≤◌, ◌++◌, List, IfOk, OnOk};
 ghost use Rattle.std.specs.List.{All};
 ghost use Rattle.token_pool.specs.declared.ending.Ended.{Ended};
@@ -29,7 +30,7 @@ use token_pool::Ended;
 ///
 /// # Errors
 ///
-/// Want of memory.
+/// It runs out of memory.
 pub fn run_batch<R: Threads + Wait + Sync, G: Gate>(
     rt: &R,
     alloc: Global,
@@ -49,7 +50,7 @@ pub fn run_batch<R: Threads + Wait + Sync, G: Gate>(
     }
 }
 
-// The run of one job by one worker.
+/// The run of one job by one worker.
 fn run_job<R: Threads + Wait + Sync, G: Gate>(
     rt: &R,
     alloc: Global,
@@ -62,7 +63,7 @@ fn run_job<R: Threads + Wait + Sync, G: Gate>(
     run_net(rt, alloc, &job.net, job.budget, 1, gate)
 }
 
-// Adds the runs of the jobs that are left, by one worker.
+/// Adds the runs of the jobs that are left, by one worker.
 fn run_rest<R: Threads + Wait + Sync, G: Gate>(
     rt: &R,
     alloc: Global,
@@ -83,7 +84,7 @@ fn run_rest<R: Threads + Wait + Sync, G: Gate>(
     }
 }
 
-// The runs of the jobs one after another, by one worker.
+/// The runs of the jobs one after another, by one worker.
 fn run_each<R: Threads + Wait + Sync, G: Gate>(
     rt: &R,
     alloc: Global,
@@ -98,7 +99,7 @@ fn run_each<R: Threads + Wait + Sync, G: Gate>(
     Ok(ends)
 }
 
-// The runs of several workers, who share the jobs until each is over.
+/// The runs of several workers, who share the jobs until each is over.
 fn run_together<R: Threads + Wait + Sync, G: Gate>(
     rt: &R,
     alloc: Global,
