@@ -17,6 +17,7 @@ pub(crate) fn outline(alloc: Global, text: &[u8], placed: bool) -> Result<Vec<u8
     Ok(out)
 }
 
+/// Puts the outline of a tree behind what is there.
 #[cycle(outline)]
 fn push(alloc: Global, out: &mut Vec<u8>, tree: &Named, placed: bool) -> Result<(), AllocError> {
     push_place(alloc, out, tree.at, placed)?;
@@ -47,6 +48,7 @@ fn push(alloc: Global, out: &mut Vec<u8>, tree: &Named, placed: bool) -> Result<
     }
 }
 
+/// Puts a place and a colon behind what is there, if places are asked for.
 fn push_place(alloc: Global, out: &mut Vec<u8>, at: u32, placed: bool) -> Result<(), AllocError> {
     if placed {
         push_number(alloc, out, at as u64)?;
@@ -55,11 +57,13 @@ fn push_place(alloc: Global, out: &mut Vec<u8>, at: u32, placed: bool) -> Result
     Ok(())
 }
 
+/// Puts a number behind what is there, in decimal digits.
 fn push_number(alloc: Global, out: &mut Vec<u8>, number: u64) -> Result<(), AllocError> {
     let digits = format!(in alloc; "{number}")?;
     out.extend_from_slice(digits.as_bytes())
 }
 
+/// Puts the word of a binder, its name, a colon and its type behind what is there.
 fn push_binder(
     alloc: Global,
     out: &mut Vec<u8>,
@@ -73,6 +77,7 @@ fn push_binder(
     out.extend_from_slice(&print_ty(alloc, ty)?)
 }
 
+/// Puts a form and its one part in parentheses behind what is there.
 #[cycle(outline)]
 fn push_part(
     alloc: Global,
@@ -87,6 +92,7 @@ fn push_part(
     out.extend_from_slice(b")")
 }
 
+/// Puts a form and its two parts behind what is there, each in parentheses.
 #[cycle(outline)]
 fn push_parts(
     alloc: Global,
