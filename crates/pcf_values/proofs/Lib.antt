@@ -1,1 +1,2 @@
+-- The height of a term as it is read, whatever its place.
 pub mod Heights
