@@ -6,6 +6,7 @@ use Rattle.pcf_values.specs.declared.named.Raw.TheVariants as raw
 use Rattle.pcf_values.specs.Named.{place_of}
 use Rattle.pcf_values.specs.Views.{raw_of, named_of}
 
+-- the place of a node's tree is the one that it was given
 pub raw_place : (r : Raw) (at : ℕ) → place_of (raw_of r at) ≡ at
 raw_place (raw.Number n) at = refl
 raw_place (raw.Name x) at = refl

@@ -17,6 +17,7 @@ same_refl nat = refl
 same_refl (arrow a b) = and_from (same_type a a) (same_type b b) (same_refl a) (same_refl b)
 same_refl (product a b) = and_from (same_type a a) (same_type b b) (same_refl a) (same_refl b)
 
+-- types that the test finds the same are equal
 pub same_is : (a b : TyTree) → same_type a b ≡ true → a ≡ b
 same_is nat nat h = refl
 same_is nat (arrow c d) h = cc
