@@ -4,12 +4,15 @@ pub mod Splitting
 pub mod Standings
 -- One line: a printed type, a wire and a node are read from it.
 pub mod TypesRead
+-- A wire is read from its line.
 pub mod WiresRead
+-- A node is read from its line.
 pub mod NodesRead
 -- A line is read as the definition reads it, where what was read fits and has that very line.
 pub mod LinesFit
 -- What the reading of the lines answers: the net whose listing they are, or the first line that can't stand there.
 pub mod Listed
+-- The reading of the lines answers the first one that can't stand.
 pub mod FirstFaults
 -- The code's loops over lines give what the definition reads from them.
 pub mod TextsRead
