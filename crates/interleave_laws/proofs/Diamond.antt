@@ -259,6 +259,7 @@ ifz_no_join false true c x y z k p q r ex ey ez n op d v w s h =
 ifz_no_join false false true x y z k p q r ex ey ez n op d v w s h = let g : solo k r ≡ join n op d v w s = sym ez ∙ h in cc
 ifz_no_join false false false x y z k p q r ex ey ez n op d v w s h = cc
 
+-- an operand that joins does so at its own node, and the join has that node's operator and conclusion
 operand_node : (i : ℕ) (op' : Op) (x y c : ℕ) (u : Val) (a : ℕ) (t : Boxes) (n : ℕ) (op : Op) (d : Side) (v : Val) (w : ℕ)
     (s : Boxes) → operand_down i op' x y c u a t ≡ join n op d v w s →
     (x' : ℕ) × (y' : ℕ) × (binary_node op' x y c ≡ binary_node op x' y' w) × (i ≡ n)
