@@ -93,6 +93,7 @@ module _ (jobs : List BatchJob) (job : BatchJob) (some : 1 ≤ length jobs) (is 
   )
   runs_more (Err x) h = tt
 
+-- what a pool of several workers made of a job is a run of the job by so many workers
 is_run : (job : BatchJob) (w : ℕ) (e : Ended) → 2 ≤ w → Replays job.net job.budget w e → IsRunOf job w e
 is_run job w e l h = record {
   run = record {
