@@ -246,7 +246,7 @@ lexed_more c cs h = record {
   dashes = λ at start. dash_on c cs h at start (c == 62) refl;
 }
 
--- no text at all splits, in every mode
+-- the empty text splits, in every mode
 lexed_none : Lexed []
 unfolding lex
 lexed_none = record {
