@@ -14,6 +14,7 @@ ghost use Rattle.metered_pool.specs.Progress.{HasRead, IsProgress};
 use crate::naming::named_first;
 use crate::pace::Pace;
 use crate::{MeteredPool, Watched};
+use branch_runs::{NamedNet, OnNet};
 use gate_workers::{Gate, drive};
 use net_build::Net;
 use progress_meter::{Reader, Writer, meter};
@@ -74,17 +75,17 @@ fn drive_new<R: Threads + Wait + Sync, G: Gate>(
     let readings = Vec::with_capacity(alloc, 17)?;
     let (writer, reader) = meter(alloc)?;
     let pool = PoolState::start(alloc, net, budget, workers)?;
-    drive_watched::<Brand, R, G>(
-        rt, alloc, net, workers, gate, pool, writer, reader, readings,
+    let tool = net.copy(alloc)?;
+    drive_named::<Brand, Brand, R, G>(
+        rt, alloc, tool, workers, gate, pool, writer, reader, readings,
     )
 }
 
-/// Drives the pool, and reads on the meter beside. The readings never go down, and none is above the number of moves of the pool that came
-/// back, which is one of the same run.
-fn drive_watched<M: Watched + Send + Sync, R: Threads + Wait + Sync, G: Gate>(
+/// Drives the pool on the net that `N` names, and reads on the meter beside.
+fn drive_named<M: Watched + Send + Sync, N: OnNet + Send + Sync, R: Threads + Wait + Sync, G: Gate>(
     rt: &R,
     alloc: Global,
-    net: &Net,
+    net: Net,
     workers: u32,
     gate: &G,
     pool: PoolState,
@@ -92,9 +93,12 @@ fn drive_watched<M: Watched + Send + Sync, R: Threads + Wait + Sync, G: Gate>(
     reader: Reader,
     readings: Vec<u64>,
 ) -> Result<(PoolState, Vec<u64>), AllocError>
+    requires runs { Runs N.net }
+    requires named { net ≡ N.net }
+    requires of_net { pool.net ≡ N.net }
     requires some { 1 ≤ workers }
-    requires level { IsLevel (record { pool = pool; writer = writer }) }
-    requires run { IsOf M.run (record { pool = pool; writer = writer }) }
+    requires level { last_of writer.published ≡ length pool.log }
+    requires run { (writer.meter ≡ M.run.meter) × Suits pool M.run.net M.run.budget M.run.workers }
     requires reader { (reader.meter ≡ M.run.meter) × (reader.readings ≡ 0 ∷ []) }
     requires empty { readings.items ≡ [] }
     ensures suits { IfOk result (λ r. Suits r.0 M.run.net M.run.budget M.run.workers) }
@@ -102,7 +106,38 @@ fn drive_watched<M: Watched + Send + Sync, R: Threads + Wait + Sync, G: Gate>(
     ensures never_down { IfOk result (λ r. IsNonDecreasing r.1.items) }
     ensures booked { IfOk result (λ r. All (λ n. n ≤ length r.0.log) r.1.items) }
 {
-    let bench: MeteredPool<'_, M, R> = MeteredPool::new(rt, pool, writer);
+    let tool: NamedNet<N> = NamedNet::new(net);
+    let bench: MeteredPool<'_, M, N, R> = MeteredPool::new(rt, pool, writer);
+    let driven = drive_watched(rt, alloc, &tool, workers, gate, bench, reader, readings);
+    drop(tool);
+    driven
+}
+
+/// Drives the bench, and reads on its meter beside. The readings never go down, and none is above the number of moves of the pool that
+/// came back, which is one of the same run.
+fn drive_watched<
+    M: Watched + Send + Sync,
+    N: OnNet + Send + Sync,
+    R: Threads + Wait + Sync,
+    G: Gate,
+>(
+    rt: &R,
+    alloc: Global,
+    tool: &NamedNet<N>,
+    workers: u32,
+    gate: &G,
+    bench: MeteredPool<'_, M, N, R>,
+    reader: Reader,
+    readings: Vec<u64>,
+) -> Result<(PoolState, Vec<u64>), AllocError>
+    requires some { 1 ≤ workers }
+    requires reader { (reader.meter ≡ M.run.meter) × (reader.readings ≡ 0 ∷ []) }
+    requires empty { readings.items ≡ [] }
+    ensures suits { IfOk result (λ r. Suits r.0 M.run.net M.run.budget M.run.workers) }
+    ensures many { IfOk result (λ r. length r.1.items ≡ 16) }
+    ensures never_down { IfOk result (λ r. IsNonDecreasing r.1.items) }
+    ensures booked { IfOk result (λ r. All (λ n. n ≤ length r.0.log) r.1.items) }
+{
     let pace = Pace::new();
     let (answer, bench) = join(
         rt,
@@ -112,11 +147,7 @@ fn drive_watched<M: Watched + Send + Sync, R: Threads + Wait + Sync, G: Gate>(
         { read_all(rt, reader, readings, &pace) },
         ||
             requires { 1 ≤ workers }
-        {
-            let bench = drive(rt, alloc, bench, net, workers, gate);
-            pace.end();
-            bench
-        },
+        { drive_to_end(rt, alloc, bench, tool, workers, gate, &pace) },
     );
     let (pool, writer) = bench.into_parts();
     match answer {
@@ -126,6 +157,29 @@ fn drive_watched<M: Watched + Send + Sync, R: Threads + Wait + Sync, G: Gate>(
             Err(error)
         }
     }
+}
+
+/// Drives the bench until there is nothing to do for any worker, and ends the pace then.
+fn drive_to_end<
+    'a,
+    M: Watched + Send + Sync,
+    N: OnNet + Send + Sync,
+    R: Threads + Wait + Sync,
+    G: Gate,
+>(
+    rt: &R,
+    alloc: Global,
+    bench: MeteredPool<'a, M, N, R>,
+    tool: &NamedNet<N>,
+    workers: u32,
+    gate: &G,
+    pace: &Pace,
+) -> MeteredPool<'a, M, N, R>
+    requires { 1 ≤ workers }
+{
+    let bench = drive(rt, alloc, bench, tool, workers, gate);
+    pace.end();
+    bench
 }
 
 /// The readings of a reader that the writer has settled: they never went down, and none is above the number that was published last.
