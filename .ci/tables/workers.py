@@ -4,7 +4,7 @@ from tables.cases import DOUBLE, SUM, TWICE, call, case, replayed, row_of
 
 # 32 calls of a sum to 20: its tokens are many, and each walks for long without meeting another. So often is it run.
 WIDE = b"(fun f:nat->nat. " + b" + ".join([b"f 20"] * 32) + b") (fix f:nat->nat. fun n:nat. ifz n then 0 else n + f (pred n))"
-BUDGET, ROUNDS = ["--budget", "1000000"], 40
+BUDGET, ROUNDS, MOST = ["--budget", "1000000"], 12, 100_000
 
 
 def tallied_wide(workers):
@@ -28,10 +28,10 @@ def traced_wide(workers):
     whether that came."""
     told = set()
     for _ in range(ROUNDS):
-        status, out, _ = call(["goi", "trace", "p", *BUDGET, "--workers", str(workers), "--most", "1000000"], {"p": WIDE})
+        status, out, _ = call(["goi", "trace", "p", *BUDGET, "--workers", str(workers), "--most", str(MOST)], {"p": WIDE})
         moves = [it.split(b" ", 4) for it in out.splitlines() if it.startswith(b"move ")]
         names = {it[3] for it in moves}
-        told.add((status, b"moves %d" % len(moves) in out, all(it[2] == b"worker" for it in moves), max(int(it) for it in names) < workers))
+        told.add((status, len(moves) == MOST, all(it[2] == b"worker" for it in moves), max(int(it) for it in names) < workers))
         if len(names) > 1:
             return told, True
     return told, False
