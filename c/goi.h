@@ -50,9 +50,10 @@
 extern "C" {
 #endif
 
-/* The version of this header. The library's own is told by goi_version(). The first number changes where a call changes. */
+/* The version of this header. The library's own is told by goi_version(). The first number goes up where a call changes or goes, and the
+ * second where one is added. */
 #define GOI_VERSION_MAJOR 1
-#define GOI_VERSION_MINOR 0
+#define GOI_VERSION_MINOR 1
 #define GOI_VERSION_PATCH 0
 #define GOI_VERSION_NUMBER (GOI_VERSION_MAJOR * 10000 + GOI_VERSION_MINOR * 100 + GOI_VERSION_PATCH)
 

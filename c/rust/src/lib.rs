@@ -51,6 +51,10 @@ pub const BUDGET_MAX: u32 = 10_000_000;
 pub const LINE_SIZE: usize = 64;
 /// How much of the stack a call may take.
 pub const STACK_SIZE: usize = 4 << 20;
+/// The last move with which a part of a trace may begin.
+pub const FROM_MAX: u32 = 10_000_000;
+/// The most moves that a part of a trace may have.
+pub const TRACED_MAX: u32 = 1_000_000;
 
 /// A value.
 #[derive(Clone, Copy, Debug, PartialEq, Eq)]
@@ -201,29 +205,82 @@ mod tests {
     use super::*;
 
     const DOUBLE: &str = "(fun x:nat. x + x) 3";
+    const ONE_NET: &str = "net 1\nwire 0 value 0 nat\nnode 0 Const 1 0\nnode 1 Root 0\nend\n";
+    const MOVE_0: &str = "move 0 worker 0 ticket 0 node 0 Const conclusion conclusion ? up 0 - - => 1 down 0 - -\n";
+    const MOVE_1: &str = "move 1 worker 0 ticket 0 node 1 Root value - 1 down 0 - - => answer 1\n";
+
+    fn refused<T>(fault: &str) -> Result<T, Error> {
+        Err(Error::Refused(fault.into()))
+    }
 
     #[test]
     fn answers() {
-        assert_eq!(tell(DOUBLE, BUDGET, false), Ok(Answer { value: Some(Val::Number(6)), moves: 30 }));
-        assert_eq!(tell("succ 18446744073709551615", BUDGET, false).unwrap().value, Some(Val::Overflow));
-        assert_eq!(tell("fix y:nat. y", 77, false), Ok(Answer { value: None, moves: 77 }));
-        assert_eq!(tell("", BUDGET, false), Err(Error::Refused("Unexpected(0)".into())));
-        assert_eq!(tell("1", 0, false), Err(Error::BadCall));
-        assert_eq!(tell("1", BUDGET_MAX + 1, false), Err(Error::BadCall));
-        assert_eq!(version() / 10_000, 1);
+        let answer = |value, moves| Ok(Answer { value, moves });
+        assert_eq!(tell(DOUBLE, BUDGET, false), answer(Some(Val::Number(6)), 30));
+        assert_eq!(tell("4", BUDGET, false), answer(Some(Val::Number(4)), 2));
+        assert_eq!(tell("4", BUDGET, true), answer(Some(Val::Number(4)), 34));
+        assert_eq!(tell("18446744073709551615", BUDGET, false), answer(Some(Val::Number(u64::MAX)), 2));
+        assert_eq!(tell("succ 18446744073709551615", BUDGET, false), answer(Some(Val::Overflow), 4));
+        assert_eq!(tell("fix y:nat. y", 77, false), answer(None, 77));
+        assert_eq!(tell("fix y:nat. y", BUDGET, false), answer(None, 10_000));
+        assert_eq!(tell("", BUDGET, false), refused("Unexpected(0)"));
+        assert_eq!(tell("fst (1, 2)", BUDGET, false), answer(Some(Val::Number(1)), 6));
+        assert_eq!(tell("fst (1, 2)", BUDGET, true), refused("ByValuePair(0)"));
+        assert_eq!(version(), 10_100);
+    }
+
+    #[test]
+    fn numbers() {
+        let one = |moves| Ok(Answer { value: Some(Val::Number(1)), moves });
+        assert_eq!(tell("1", BUDGET_MAX, false), one(2));
+        for budget in [0, BUDGET_MAX + 1, u32::MAX] {
+            assert_eq!(tell("1", budget, false), Err(Error::BadCall));
+            assert_eq!(run("1", budget, false, false), Err(Error::BadCall));
+            assert_eq!(trace("1", budget, false, 0, 1), Err(Error::BadCall));
+            assert_eq!(run_net(ONE_NET, budget, false), Err(Error::BadCall));
+        }
+        assert_eq!(trace("1", BUDGET_MAX, false, FROM_MAX, TRACED_MAX).unwrap(), "value 1\nmoves 2\ntrace 1\nend\n");
+        for (from, most) in [(FROM_MAX + 1, 1), (0, 0), (0, TRACED_MAX + 1)] {
+            assert_eq!(trace("1", BUDGET, false, from, most), Err(Error::BadCall));
+        }
+    }
+
+    #[test]
+    fn runs() {
+        assert_eq!(run("4", BUDGET, false, false).unwrap(), "value 4\nmoves 2\n");
+        assert_eq!(run("4", BUDGET, false, true).unwrap(), "value 4\nmoves 2\nschedule 2\n0 2\nend\n");
+        assert_eq!(run("4", BUDGET, true, false).unwrap(), "value 4\nmoves 34\n");
+        assert!(run("4", BUDGET, true, true).unwrap().starts_with("value 4\nmoves 34\nschedule 2\n"));
+        assert_eq!(run("fix y:nat. y", 5, false, false).unwrap(), "no value\nmoves 5\n");
+        assert_eq!(run("x", BUDGET, false, false), refused("Unbound(0)"));
+        assert_eq!(run_net(ONE_NET, BUDGET, false).unwrap(), "value 1\nmoves 2\n");
+        assert_eq!(run_net(ONE_NET, BUDGET, true).unwrap(), "value 1\nmoves 2\nschedule 2\n0 2\nend\n");
+        assert_eq!(run_net("net 2\n", BUDGET, false), refused("BadLine(1)"));
+    }
+
+    #[test]
+    fn walks() {
+        const HEAD: &str = "value 1\nmoves 2\ntrace 1\n";
+        let (first, second) = ("live 0 ? up 0 - -\n", "live 0 1 down 0 - -\n");
+        assert_eq!(trace("1", BUDGET, false, 0, 9).unwrap(), format!("{HEAD}{first}{MOVE_0}{MOVE_1}end\n"));
+        assert_eq!(trace("1", BUDGET, false, 0, 1).unwrap(), format!("{HEAD}{first}{MOVE_0}end\n"));
+        assert_eq!(trace("1", BUDGET, false, 1, 2).unwrap(), format!("{HEAD}{second}{MOVE_1}end\n"));
+        assert!(trace("1", BUDGET, true, 0, 9).unwrap().starts_with("value 1\nmoves 34\ntrace 1\n"));
+        assert_eq!(trace("fun x:nat. x", BUDGET, false, 0, 9), refused("NotGround"));
     }
 
     #[test]
     fn texts() {
         assert_eq!(check("fun x:nat. x", false).unwrap(), "type nat -> nat\n");
-        let told = run(DOUBLE, BUDGET, false, true).unwrap();
-        let schedule = &told[told.find("schedule ").unwrap()..];
-        assert_eq!(replay(DOUBLE, schedule).unwrap(), "value 6\nmoves 30\n");
-        assert!(trace(DOUBLE, BUDGET, false, 0, 1000).unwrap().starts_with("value 6\nmoves 30\ntrace "));
-        assert_eq!(trace(DOUBLE, BUDGET, false, 0, 0), Err(Error::BadCall));
-        let listing = net(DOUBLE).unwrap();
-        assert_eq!(run_net(&listing, BUDGET, false).unwrap(), "value 6\nmoves 30\n");
-        assert_eq!(run_net("net 2\n", BUDGET, false), Err(Error::Refused("BadLine(1)".into())));
+        assert_eq!(check("fun x:nat. x", true).unwrap(), "type nat -> nat\nterm fun x:nat. x\n");
+        assert_eq!(check("1 2", true), refused("FunctionWanted(0)"));
+        assert_eq!(net("1").unwrap(), ONE_NET);
+        assert_eq!(net("("), refused("Unexpected(1)"));
+        assert_eq!(replay("1", "schedule 1\n0\n0\nend\n").unwrap(), "value 1\nmoves 2\n");
+        assert_eq!(replay("1", "schedule 1\n0\nend\n").unwrap(), "no value\nmoves 1\n");
+        assert_eq!(replay("1", "schedule 1\n7\nend\n"), refused("NotLive(0,7)"));
+        assert_eq!(replay(")", "schedule\n"), refused("Unexpected(0)"));
+        assert_eq!(check(b"\xff", false), refused("NotText(0)"));
     }
 
     #[test]

@@ -1,4 +1,5 @@
 //! Faults of a list of jobs.
+
 ghost use Rattle.std.specs.Prelude.{◌≡◌};
 ghost use Rattle.batch_lists.specs.declared.fault.BatchFault.TheVariants.{NoMemory};
 

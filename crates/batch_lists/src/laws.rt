@@ -1,4 +1,5 @@
 //! What holds of lists of jobs and of the limits.
+
 ghost use Rattle.batch_lists.specs.Laws.{OneList};
 ghost use Rattle.batch_lists.specs.Limits.{BatchLimitsAre};
 

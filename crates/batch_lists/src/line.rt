@@ -1,4 +1,5 @@
 //! One line of a list of jobs.
+
 ghost use Rattle.std.specs.Prelude.{◌≡◌, ◌↔◌, ◌<◌, ◌≤◌, ◌++◌, ℕ, List, length, codes, IsTrue, MatchOption};
 ghost use Rattle.std.specs.Str.{IsUtf8};
 ghost use Rattle.batch_lists.specs.declared.line.BatchLine.{BatchLine};
@@ -25,7 +26,7 @@ pub(crate) fn is_header(line: &[u8]) -> bool
     line == b"batch 1\n".as_slice()
 }
 
-// What stands behind `job` and a space.
+/// What stands behind `job` and a space.
 fn behind_job(line: &[u8]) -> Option<&[u8]>
     ensures { MatchOption result ((rest : List ℕ) → line.now ≡ codes "job " ++ rest → ⊥) (λ rest. line.now ≡ codes "job " ++ rest.now) }
 {
@@ -35,7 +36,7 @@ fn behind_job(line: &[u8]) -> Option<&[u8]>
     }
 }
 
-// What stands behind a space.
+/// What stands behind a space.
 fn behind_space(bytes: &[u8]) -> Option<&[u8]>
     ensures { MatchOption result ((rest : List ℕ) → bytes.now ≡ codes " " ++ rest → ⊥) (λ rest. bytes.now ≡ codes " " ++ rest.now) }
 {
@@ -45,7 +46,7 @@ fn behind_space(bytes: &[u8]) -> Option<&[u8]>
     }
 }
 
-// A budget with the space behind it, and what stands behind that.
+/// A budget with the space behind it, and what stands behind that.
 fn budget_in(bytes: &[u8]) -> Option<(u32, &[u8])>
     ensures { MatchOption result ((n : ℕ) (rest : List ℕ) → IsBudgetIn bytes.now n rest → ⊥) (λ p. IsBudgetIn bytes.now p.0 p.1.now) }
 {
@@ -61,7 +62,7 @@ fn budget_in(bytes: &[u8]) -> Option<(u32, &[u8])>
     }
 }
 
-// A name with the line feed behind it.
+/// A name with the line feed behind it.
 fn name_in(bytes: &[u8]) -> Option<&str>
     ensures { MatchOption result ((name : List ℕ) → IsNameIn bytes.now name → ⊥) (λ name. IsNameIn bytes.now name.now) }
 {
@@ -71,7 +72,7 @@ fn name_in(bytes: &[u8]) -> Option<&str>
     }
 }
 
-// The text that bytes are, if they are one and there are any.
+/// The text that bytes are, if they are one and there are any.
 fn text_of(bytes: &[u8]) -> Option<&str>
     ensures { MatchOption result ((0 < length bytes.now) × IsUtf8 bytes.now → ⊥)
         (λ text. (text.now ≡ bytes.now) × (0 < length bytes.now) × IsUtf8 bytes.now) }

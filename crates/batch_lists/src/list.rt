@@ -1,4 +1,5 @@
 //! The reading of a list of jobs.
+
 ghost use Rattle.std.specs.Prelude.{◌≡◌, ◌⊎◌, ◌<◌, ◌≤◌, ◌+◌, ◌++◌, ◌∷◌, [], List, Err, length, MatchResult};
 ghost use Rattle.text_lines.specs.Lines.{lines, end_line};
 ghost use Rattle.batch_lists.specs.declared.fault.BatchFault.TheVariants.{NoMemory};
@@ -21,7 +22,7 @@ use text_lines::{cut_line, is_end};
 ///
 /// # Errors
 ///
-/// Want of memory, and otherwise exactly the first fault of bytes that are no list.
+/// It runs out of memory, and otherwise exactly the first fault of bytes that are no list.
 pub fn read_batch(alloc: Global, bytes: &[u8]) -> Result<Vec<BatchLine>, BatchFault>
     ensures { MatchResult result (λ jobs. IsList bytes.now jobs.items) (λ fault. ReadAsList bytes.now (Err fault)) }
 {
@@ -38,7 +39,7 @@ pub fn read_batch(alloc: Global, bytes: &[u8]) -> Result<Vec<BatchLine>, BatchFa
     read_jobs(alloc, rest)
 }
 
-// The jobs of the lines behind the header, or their first fault.
+/// The jobs of the lines behind the header, or their first fault.
 fn read_jobs(alloc: Global, bytes: &[u8]) -> Result<Vec<BatchLine>, BatchFault>
     requires { length bytes.now ≤ most_list_bytes }
     ensures { MatchResult result (λ jobs. WholeList 0 (lines bytes.now) jobs.items)
@@ -51,7 +52,7 @@ fn read_jobs(alloc: Global, bytes: &[u8]) -> Result<Vec<BatchLine>, BatchFault>
     }
 }
 
-// Adds the jobs of these lines, of which the first has this number, or answers their first fault.
+/// Adds the jobs of these lines, of which the first has this number, or answers their first fault.
 fn read_rest(
     alloc: Global,
     bytes: &[u8],
@@ -82,7 +83,7 @@ fn read_rest(
     }
 }
 
-// Adds the job of line n, or answers the line's fault, where it isn't the last.
+/// Adds the job of line n, or answers the line's fault, where it isn't the last.
 fn read_job(alloc: Global, line: &[u8], n: u32, jobs: &mut Vec<BatchLine>) -> Result<(), BatchFault>
     requires few { length jobs.old.items ≤ most_jobs }
     ensures { MatchResult result

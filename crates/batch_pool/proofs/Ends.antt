@@ -81,42 +81,14 @@ module _ (pools rest : List Pool) (o : Option Pool) (pops : Pops pools o rest) (
   )
   ends_more (Err x) h = tt
 
-module _ (jobs : List BatchJob) (job : BatchJob) (some : 1 ≤ length jobs) (is : job ≡ get_or jobs 0 job) (e : Ended) (run : IsRunOf job 1 e)
-    (old mid new : List Ended) (pushed : mid ≡ old ++ e ∷ []) where
+module _ (jobs : List BatchJob) (job : BatchJob) (some : 1 ≤ length jobs) (is : job ≡ get_or jobs 0 job) (w : ℕ) (e : Ended)
+    (run : IsRunOf job w e) (old mid new : List Ended) (pushed : mid ≡ old ++ e ∷ []) where
   -- one run more
-  pub runs_more : {A E : Type 0} (r : Result A E) → OnOk r ((more : List Ended) × (new ≡ mid ++ more) × AreRuns (others jobs) 1 more) →
-      OnOk r ((more : List Ended) × (new ≡ old ++ more) × AreRuns jobs 1 more)
+  pub runs_more : {A E : Type 0} (r : Result A E) → OnOk r ((more : List Ended) × (new ≡ mid ++ more) × AreRuns (others jobs) w more) →
+      OnOk r ((more : List Ended) × (new ≡ old ++ more) × AreRuns jobs w more)
   runs_more (Ok a) (more, is_new, h) = (
     e ∷ more,
     is_new ∙ ap (λ es. es ++ more) pushed ∙ append_assoc old (e ∷ []) more,
-    subst (λ js. AreRuns js 1 (e ∷ more)) (sym (first_and_rest jobs job some is)) (run, h),
+    subst (λ js. AreRuns js w (e ∷ more)) (sym (first_and_rest jobs job some is)) (run, h),
   )
   runs_more (Err x) h = tt
-
-is_run : (job : BatchJob) (w : ℕ) (e : Ended) → 2 ≤ w → Replays job.net job.budget w e → IsRunOf job w e
-is_run job w e l h = record {
-  run = record {
-    state = h.answers.0;
-    led = h.answers.1;
-    answers = h.answers.2;
-    finished = h.ends;
-    booked = h.makers;
-    alone = h.alone;
-  };
-  alone = λ one. absurd (omega (arith, one, l));
-}
-
--- ends that replay are runs
-pub ends_are_runs : (pools : List Pool) (jobs : List BatchJob) (w : ℕ) (ends : List Ended) → 2 ≤ w → EndsEach pools jobs w ends →
-    AreRuns jobs w ends
-ends_are_runs pools [] w [] l h = tt
-ends_are_runs pools [] w (e ∷ ends) l h = absurd h
-ends_are_runs pools (job ∷ jobs) w [] l h = absurd h
-ends_are_runs pools (job ∷ jobs) w (e ∷ ends) l h = (is_run job w e l h.1, ends_are_runs (behind_first pools) jobs w ends l h.2)
-
-pub runs_of_ends : {V E : Type 0} (items : V → List Ended) (r : Result V E) (pools : List Pool) (jobs all : List BatchJob) (w : ℕ) →
-    jobs ≡ all → 2 ≤ w →
-    IfOk r (λ v. EndsEach pools jobs w (items v)) → IfOk r (λ v. AreRuns all w (items v))
-runs_of_ends items r pools jobs all w e l h =
-    if_ok_so r (λ v. EndsEach pools jobs w (items v)) (λ v. AreRuns all w (items v)) h
-    (λ v x. subst (λ js. AreRuns js w (items v)) e (ends_are_runs pools jobs w (items v) l x))

@@ -1,4 +1,5 @@
 //! Whole jobs, each by one worker alone.
+
 ghost use Rattle.std.specs.Prelude.{◌≡◌, ◌≤◌, ◌<◌, ◌++◌, List, Some, None, length, replicate, set, IfOk, IfSome, OnOk};
 ghost use Rattle.std.specs.List.{All};
 ghost use Rattle.std.specs.Vec.Iter.{into_iter_items};
@@ -26,7 +27,7 @@ pub(crate) struct Ran {
     pub(crate) end: Ended,
 }
 
-// Passes the gate, and runs the job of this number, if there is one.
+/// Passes the gate, and runs the job of this number, if there is one.
 fn run_next<G: Gate>(
     alloc: Global,
     jobs: &[BatchJob],
@@ -49,7 +50,8 @@ fn run_next<G: Gate>(
     }
 }
 
-// The runs that one worker makes, each of the job that comes next, until there is none. It takes as many numbers as there are jobs at most.
+/// The runs that one worker makes, each of the job that comes next, until there is none. It takes as many numbers as there are jobs at
+/// most.
 fn run_some<G: Gate>(
     alloc: Global,
     jobs: &[BatchJob],
@@ -71,7 +73,7 @@ fn run_some<G: Gate>(
     Ok(rans)
 }
 
-// The runs that one worker makes. Where it meets want of memory, no job is left for the others, who end with the one in hand.
+/// The runs that one worker makes. Where it meets want of memory, no job is left for the others, who end with the one in hand.
 fn work_as<G: Gate>(
     alloc: Global,
     jobs: &[BatchJob],
@@ -89,7 +91,7 @@ fn work_as<G: Gate>(
     rans
 }
 
-// Two lists in one.
+/// Two lists in one.
 fn both(mut first: Vec<Ran>, mut second: Vec<Ran>) -> Result<Vec<Ran>, AllocError>
     ensures { IfOk result (λ rans. rans.items ≡ first.items ++ second.items) }
 {
@@ -97,7 +99,7 @@ fn both(mut first: Vec<Ran>, mut second: Vec<Ran>) -> Result<Vec<Ran>, AllocErro
     Ok(first)
 }
 
-// The runs that the workers make from the one number to below the other, the halves of them side by side.
+/// The runs that the workers make from the one number to below the other, the halves of them side by side.
 fn work_from<R: Threads + Sync, G: Gate>(
     rt: &R,
     alloc: Global,
@@ -129,7 +131,7 @@ fn work_from<R: Threads + Sync, G: Gate>(
     both(first?, second?)
 }
 
-// A place for the end of each job, all of them empty.
+/// A place for the end of each job, all of them empty.
 fn no_ends(alloc: Global, jobs: &[BatchJob]) -> Result<Vec<Option<Ended>>, AllocError>
     ensures { IfOk result (λ places. places.items ≡ replicate (length jobs.now) None) }
 {
@@ -140,7 +142,7 @@ fn no_ends(alloc: Global, jobs: &[BatchJob]) -> Result<Vec<Option<Ended>>, Alloc
     Ok(places)
 }
 
-// Puts an end into the place of its job.
+/// Puts an end into the place of its job.
 fn put(places: &mut Vec<Option<Ended>>, ran: Ran)
     ensures { places.new.items ≡ set places.old.items ran.job (Some ran.end) }
 {
@@ -149,7 +151,7 @@ fn put(places: &mut Vec<Option<Ended>>, ran: Ran)
     }
 }
 
-// Puts all these ends into the places of their jobs.
+/// Puts all these ends into the places of their jobs.
 fn put_all(places: &mut Vec<Option<Ended>>, mut rans: Vec<Ran>)
     ensures { places.new.items ≡ with_ends rans.items places.old.items }
 {
@@ -158,7 +160,7 @@ fn put_all(places: &mut Vec<Option<Ended>>, mut rans: Vec<Ran>)
     }
 }
 
-// The end of a job that was brought, or of its run there and then by worker 0.
+/// The end of a job that was brought, or of its run there and then by worker 0.
 fn end_of(alloc: Global, place: Option<Option<Ended>>, job: &BatchJob) -> Result<Ended, AllocError>
     requires { JobFits job.now }
     ensures { IfOk result (EndsBy place job.now) }
@@ -169,14 +171,14 @@ fn end_of(alloc: Global, place: Option<Option<Ended>>, job: &BatchJob) -> Result
     }
 }
 
-// The first place that is left.
+/// The first place that is left.
 fn next_place(places: &mut IntoIter<Option<Ended>>) -> Option<Option<Ended>>
     ensures { Pops (into_iter_items places.old) result (into_iter_items places.new) }
 {
     places.next()
 }
 
-// Adds the ends of the jobs that are left, from the places that are left.
+/// Adds the ends of the jobs that are left, from the places that are left.
 fn gather_rest(
     alloc: Global,
     mut places: IntoIter<Option<Ended>>,
@@ -197,7 +199,7 @@ fn gather_rest(
     }
 }
 
-// The ends of the jobs in turn, from their places.
+/// The ends of the jobs in turn, from their places.
 fn gather(
     alloc: Global,
     jobs: &[BatchJob],
@@ -211,7 +213,7 @@ fn gather(
     Ok(ends)
 }
 
-// The ends of the jobs in turn, where these were run.
+/// The ends of the jobs in turn, where these were run.
 fn in_turn(alloc: Global, jobs: &[BatchJob], rans: Vec<Ran>) -> Result<Vec<Ended>, AllocError>
     requires { All JobFits jobs.now }
     ensures { IfOk result (λ ends. EndsEachBy (with_ends rans.items (replicate (length jobs.now) None)) jobs.now ends.items) }

@@ -1,4 +1,5 @@
 //! How the jobs are asked for a ticket, the least one first.
+
 ghost use Rattle.std.specs.Prelude.{◌≡◌, ◌<◌, ◌≤◌, ◌+◌, ℕ, false, length, IfOk, OnErr, if◌then◌else◌};
 ghost use Rattle.token_pool.specs.declared.entries.Held.{Held};
 ghost use Rattle.token_pool.specs.Pools.{Pool};
@@ -24,7 +25,7 @@ pub(crate) enum Offer {
     Over,
 }
 
-// What a pool has for a worker.
+/// What a pool has for a worker.
 fn ask(pool: &mut PoolState, worker: u32) -> Result<Offer, AllocError>
     requires place { worker < pool.old.workers }
     requires running { pool.old.stopped ≡ false }
@@ -39,7 +40,7 @@ fn ask(pool: &mut PoolState, worker: u32) -> Result<Offer, AllocError>
     }
 }
 
-// What a job has for a worker.
+/// What a job has for a worker.
 fn ask_job(pools: &mut Vec<PoolState>, job: usize, worker: u32) -> Result<Offer, AllocError>
     requires serving { IsServing pools.old.items worker }
     requires within { job < length pools.old.items }
@@ -69,7 +70,7 @@ pub(crate) fn take_again(
     }
 }
 
-// What a job has for a worker, with what is spare in all jobs counted anew.
+/// What a job has for a worker, with what is spare in all jobs counted anew.
 fn ask_next(
     pools: &mut Vec<PoolState>,
     spare: &mut u64,
@@ -91,7 +92,7 @@ fn ask_next(
     Ok(offer)
 }
 
-// One job more is passed where all jobs before it and itself are over.
+/// One job more is passed where all jobs before it and itself are over.
 fn pass(passed: &mut usize, over: bool, job: usize)
     requires within { job < most_jobs }
     ensures { passed.new ≡ (if over then job + 1 else passed.old) }

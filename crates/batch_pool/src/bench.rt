@@ -1,4 +1,5 @@
 //! The batch as the bench of several workers.
+
 ghost use Rattle.std.specs.Prelude.{◌≡◌, IfOk, slice_get};
 ghost use Rattle.batch_pool.specs.Batches.{batch_halted};
 ghost use Rattle.batch_pool.specs.Benches.{MakesOn, MakesIn, turn_for, BatchGives, BatchTakesIn};
@@ -9,7 +10,7 @@ use move_rules::{Moved, walk};
 use std::alloc::{AllocError, Global};
 use token_pool::Piece;
 
-// The turn for what a worker took.
+/// The turn for what a worker took.
 fn turn_of(taken: BatchTaken) -> Turn<BatchPiece>
     ensures { result ≡ turn_for taken }
 {
@@ -20,7 +21,7 @@ fn turn_of(taken: BatchTaken) -> Turn<BatchPiece>
     }
 }
 
-// The walk of a piece's token on the net of its job; without such a job it stays.
+/// The walk of a piece's token on the net of its job; without such a job it stays.
 fn work_on(alloc: Global, jobs: &[BatchJob], job: u32, piece: Piece) -> Result<Moved, AllocError>
     ensures { IfOk result (MakesOn (slice_get jobs.now job) piece) }
 {

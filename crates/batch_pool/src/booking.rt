@@ -1,4 +1,5 @@
 //! Moves that are booked in the job of their ticket.
+
 ghost use Rattle.std.specs.Prelude.{◌≡◌, ◌<◌, IfOk, OnErr};
 ghost use Rattle.token_pool.specs.declared.entries.Held.{Held};
 ghost use Rattle.token_pool.specs.Pools.{Pool};

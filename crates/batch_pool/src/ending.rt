@@ -1,4 +1,5 @@
 //! The ends of the jobs.
+
 ghost use Rattle.std.specs.Prelude.{◌≡◌, ◌≤◌, ◌++◌, List, None, IfOk, OnOk};
 ghost use Rattle.std.specs.List.{All};
 ghost use Rattle.std.specs.Vec.Iter.{into_iter_items};
@@ -14,7 +15,7 @@ use std::alloc::{AllocError, Global};
 use std::vec::IntoIter;
 use token_pool::{Ended, PoolState};
 
-// A job's end from its start.
+/// A job's end from its start.
 fn run_from_start(alloc: Global, job: &BatchJob, workers: u32) -> Result<Ended, AllocError>
     requires fits { JobFits job.now }
     requires some { 1 ≤ workers }
@@ -26,7 +27,7 @@ fn run_from_start(alloc: Global, job: &BatchJob, workers: u32) -> Result<Ended, 
     pool.finish(alloc, &job.net, job.budget, workers)
 }
 
-// A job's end, from its pool if it has one.
+/// A job's end, from its pool if it has one.
 fn finish_job(
     alloc: Global,
     pool: Option<PoolState>,
@@ -45,14 +46,14 @@ fn finish_job(
     }
 }
 
-// The first pool that is left.
+/// The first pool that is left.
 fn next_pool(pools: &mut IntoIter<PoolState>) -> Option<PoolState>
     ensures { Pops (into_iter_items pools.old) result (into_iter_items pools.new) }
 {
     pools.next()
 }
 
-// Adds the ends of the jobs that are left, from the pools that are left.
+/// Adds the ends of the jobs that are left, from the pools that are left.
 fn finish_rest(
     alloc: Global,
     mut pools: IntoIter<PoolState>,

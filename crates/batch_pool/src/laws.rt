@@ -1,4 +1,5 @@
 //! What holds of batches.
+
 ghost use Rattle.batch_pool.specs.Laws.{PauseHolds};
 
 use token_pool::law_take_keeps;

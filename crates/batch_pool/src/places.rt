@@ -1,4 +1,5 @@
 //! In which job each worker holds a ticket.
+
 ghost use Rattle.std.specs.Prelude.{◌≡◌, ◌<◌, Some, None, length, set, slice_get};
 ghost use Rattle.batch_pool.specs.Keeping.{places_after};
 

@@ -1,13 +1,15 @@
 //! The runs of all jobs of a batch.
+
 ghost use Rattle.std.specs.Prelude.{◌≡◌, ◌≤◌, ◌++◌, List, IfOk, OnOk};
 ghost use Rattle.std.specs.List.{All};
+ghost use Rattle.pcf_values.specs.Most.{most_workers};
 ghost use Rattle.token_pool.specs.declared.ending.Ended.{Ended};
 ghost use Rattle.batch_pool.specs.Batches.{JobFits, BatchFits};
 ghost use Rattle.batch_pool.specs.Running.{IsRunOf, AreRuns};
 
+use crate::BatchJob;
 use crate::apart::run_apart;
-use crate::{BatchJob, BatchState};
-use gate_workers::{Gate, drive};
+use gate_workers::Gate;
 use net_runs::run_net;
 use std::alloc::{AllocError, Global};
 use std::sync::Wait;
@@ -23,13 +25,11 @@ use token_pool::Ended;
 /// a worker takes it, passes the gate and runs that job alone, with no lock, and then takes the next, until there is none. Its moves are
 /// booked under its own number. Memory for a job's log is taken when its run is over.
 ///
-/// Where there are fewer jobs than workers, the workers share the jobs' tokens behind one lock, and each passes the gate before each of
-/// its pieces. What they leave of a job is finished behind them, under the number of workers. Memory for the logs of all jobs is taken at
-/// once then.
+/// Where there are fewer jobs than workers, all workers run each job in turn, as `run_net` has it: a job is over before the next begins.
 ///
 /// # Errors
 ///
-/// Want of memory.
+/// It runs out of memory.
 pub fn run_batch<R: Threads + Wait + Sync, G: Gate>(
     rt: &R,
     alloc: Global,
@@ -40,77 +40,64 @@ pub fn run_batch<R: Threads + Wait + Sync, G: Gate>(
     requires { BatchFits jobs.now.items workers }
     ensures { IfOk result (λ ends. AreRuns jobs.now.items workers ends.items) }
 {
-    if workers == 1 {
-        run_each(rt, alloc, jobs, gate)
-    } else if workers as usize <= jobs.len() {
+    if 2 <= workers && workers as usize <= jobs.len() {
         run_apart(rt, alloc, jobs, workers, gate)
     } else {
-        run_together(rt, alloc, jobs, workers, gate)
+        run_each(rt, alloc, jobs, workers, gate)
     }
 }
 
-// The run of one job by one worker.
+/// The run of one job by so many workers.
 fn run_job<R: Threads + Wait + Sync, G: Gate>(
     rt: &R,
     alloc: Global,
     job: &BatchJob,
+    workers: u32,
     gate: &G,
 ) -> Result<Ended, AllocError>
-    requires { JobFits job.now }
-    ensures { IfOk result (IsRunOf job.now 1) }
+    requires fits { JobFits job.now }
+    requires workers { (1 ≤ workers) × (workers ≤ most_workers) }
+    ensures { IfOk result (IsRunOf job.now workers) }
 {
-    run_net(rt, alloc, &job.net, job.budget, 1, gate)
+    run_net(rt, alloc, &job.net, job.budget, workers, gate)
 }
 
-// Adds the runs of the jobs that are left, by one worker.
+/// Adds the runs of the jobs that are left, by so many workers.
 fn run_rest<R: Threads + Wait + Sync, G: Gate>(
     rt: &R,
     alloc: Global,
     jobs: &[BatchJob],
+    workers: u32,
     gate: &G,
     ends: &mut Vec<Ended>,
 ) -> Result<(), AllocError>
-    requires { All JobFits jobs.now }
-    ensures { OnOk result ((more : List Ended) × (ends.new.items ≡ ends.old.items ++ more) × AreRuns jobs.now 1 more) }
+    requires fit { All JobFits jobs.now }
+    requires workers { (1 ≤ workers) × (workers ≤ most_workers) }
+    ensures { OnOk result ((more : List Ended) × (ends.new.items ≡ ends.old.items ++ more) × AreRuns jobs.now workers more) }
 {
     match jobs {
         [] => Ok(()),
         [job, rest @ ..] => {
-            let end = run_job(rt, alloc, job, gate)?;
+            let end = run_job(rt, alloc, job, workers, gate)?;
             ends.push(end)?;
-            run_rest(rt, alloc, rest, gate, ends)
+            run_rest(rt, alloc, rest, workers, gate, ends)
         }
     }
 }
 
-// The runs of the jobs one after another, by one worker.
+/// The runs of the jobs one after another, each by so many workers.
 fn run_each<R: Threads + Wait + Sync, G: Gate>(
     rt: &R,
     alloc: Global,
     jobs: &[BatchJob],
-    gate: &G,
-) -> Result<Vec<Ended>, AllocError>
-    requires { All JobFits jobs.now }
-    ensures { IfOk result (λ ends. AreRuns jobs.now 1 ends.items) }
-{
-    let mut ends = Vec::with_capacity(alloc, jobs.len())?;
-    run_rest(rt, alloc, jobs, gate, &mut ends)?;
-    Ok(ends)
-}
-
-// The runs of several workers, who share the jobs until each is over.
-fn run_together<R: Threads + Wait + Sync, G: Gate>(
-    rt: &R,
-    alloc: Global,
-    jobs: &Vec<BatchJob>,
     workers: u32,
     gate: &G,
 ) -> Result<Vec<Ended>, AllocError>
-    requires fits { BatchFits jobs.now.items workers }
-    requires several { 2 ≤ workers }
-    ensures { IfOk result (λ ends. AreRuns jobs.now.items workers ends.items) }
+    requires fit { All JobFits jobs.now }
+    requires workers { (1 ≤ workers) × (workers ≤ most_workers) }
+    ensures { IfOk result (λ ends. AreRuns jobs.now workers ends.items) }
 {
-    let batch = BatchState::start(alloc, jobs, workers)?;
-    let batch = drive(rt, alloc, batch, jobs, workers, gate);
-    batch.finish(alloc, jobs, workers)
+    let mut ends = Vec::with_capacity(alloc, jobs.len())?;
+    run_rest(rt, alloc, jobs, workers, gate, &mut ends)?;
+    Ok(ends)
 }

@@ -1,4 +1,5 @@
 //! For how many pieces it is worth to wake a worker.
+
 ghost use Rattle.std.specs.Prelude.{◌≡◌, ◌<◌, ◌≤◌, ◌+◌, ◌-◌, ◌^◌, length};
 ghost use Rattle.batch_lists.specs.Limits.{most_jobs};
 ghost use Rattle.batch_pool.specs.Keeping.{Spared, SpareAt};

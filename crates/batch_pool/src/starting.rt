@@ -1,4 +1,5 @@
 //! The pools in which the runs of the jobs begin.
+
 ghost use Rattle.std.specs.Prelude.{◌≡◌, ◌≤◌, map, replicate, None, IfOk};
 ghost use Rattle.pcf_values.specs.Most.{most_workers};
 ghost use Rattle.batch_pool.specs.Batches.{JobFits, BatchFits, job_started};
@@ -7,7 +8,7 @@ use crate::BatchJob;
 use std::alloc::{AllocError, Global};
 use token_pool::PoolState;
 
-// The pool in which a job's run begins.
+/// The pool in which a job's run begins.
 fn start_job(alloc: Global, job: &BatchJob, workers: u32) -> Result<PoolState, AllocError>
     requires fits { JobFits job.now }
     requires some { 1 ≤ workers }

@@ -1,4 +1,5 @@
 //! The state that the workers of a batch share.
+
 ghost use Rattle.std.specs.Prelude.{◌≡◌, ◌<◌, ◌↔◌, ◌^◌, ◌-◌, min, IfOk, OnErr, IsErr, IsTrue};
 ghost use Rattle.batch_pool.specs.Batches.{BatchFits, BatchGood, batch_started, batch_halted};
 ghost use Rattle.batch_pool.specs.Asking.{Takes, HasTicket};
@@ -49,7 +50,7 @@ impl BatchState {
     ///
     /// # Errors
     ///
-    /// Want of memory.
+    /// It runs out of memory.
     pub fn start(alloc: Global, jobs: &[BatchJob], workers: u32) -> Result<BatchState, AllocError>
         requires { BatchFits jobs.now workers }
         ensures { IfOk result (λ b. b ≡ batch_started jobs.now workers) }
@@ -68,7 +69,7 @@ impl BatchState {
         })
     }
 
-    // Whether there is a place for a worker of this number.
+    /// Whether there is a place for a worker of this number.
     pub(crate) fn has_place(&self, worker: u32) -> bool
         ensures { IsTrue result ↔ (worker < self.now.workers) }
     {
@@ -90,7 +91,7 @@ impl BatchState {
     ///
     /// # Errors
     ///
-    /// Want of memory, and only where there is a ticket to hand out.
+    /// It runs out of memory, and only where there is a ticket to hand out.
     pub fn take(&mut self, worker: u32) -> Result<BatchTaken, AllocError>
         requires { worker < self.old.workers }
         ensures ok { IfOk result (λ taken. Takes self.old worker taken self.new) }
@@ -120,7 +121,7 @@ impl BatchState {
     ///
     /// # Errors
     ///
-    /// Want of memory, and only where the walk isn't taken over.
+    /// It runs out of memory, and only where the walk isn't taken over.
     pub fn book(&mut self, worker: u32, moved: Moved) -> Result<Booked, AllocError>
         requires { worker < self.old.workers }
         ensures ok { IfOk result (BatchBooks self.old self.new worker moved) }
@@ -150,7 +151,7 @@ impl BatchState {
         self.stopped = true;
     }
 
-    // For how many pieces it is worth to wake a worker.
+    /// For how many pieces it is worth to wake a worker.
     pub(crate) fn spare_pieces(&self) -> u32
         ensures { result ≡ min (spare_in self.now.pools) (2 ^ 32 - 1) }
     {
@@ -163,7 +164,7 @@ impl BatchState {
     ///
     /// # Errors
     ///
-    /// Want of memory, and always so where the batch was stopped.
+    /// It runs out of memory, and always so where the batch was stopped.
     pub fn finish(
         self,
         alloc: Global,

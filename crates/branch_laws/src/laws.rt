@@ -1,4 +1,5 @@
 //! What holds of branches.
+
 ghost use Rattle.branch_laws.specs.Laws.{StartIsBranch, BranchIsRun, BranchLeads, BranchApart, BranchLow, BranchStops, GraftLeaves};
 ghost use Rattle.branch_laws.specs.Laws.{GraftGives};
 ghost use Rattle.branch_laws.specs.Laws.{MapBranchIsRun, MapBranchGrafts, MapBranchLeads, MapBranchApart, MapBranchLow, MapBranchStops};

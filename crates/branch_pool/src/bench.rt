@@ -1,4 +1,5 @@
 //! The pool as a bench.
+
 ghost use Rattle.std.specs.Prelude.{◌≡◌, ◌<◌, ◌≤◌, IfOk, OnErr};
 ghost use Rattle.interleave_laws.specs.Maps.{MapState};
 ghost use Rattle.token_pool.specs.declared.entries.Told.{Told};
@@ -64,7 +65,7 @@ impl<N: OnNet> BranchPool<N> {
     }
 }
 
-// The turn for what a worker was handed.
+/// The turn for what a worker was handed.
 fn turn_of<N: OnNet>(taken: Taken, plain: bool) -> Turn<BranchPiece<N>>
     requires { HandsSeed N.net taken }
     ensures { (S : MapState) (told : Told) → Hands S told taken → TurnFor S plain told result }
@@ -77,6 +78,64 @@ fn turn_of<N: OnNet>(taken: Taken, plain: bool) -> Turn<BranchPiece<N>>
         Taken::Idle | Taken::Reserved => Turn::Pause,
         Taken::Ended | Taken::Stopped => Turn::Over,
     }
+}
+
+/// What a worker of a pool of the net that `N` names is to do.
+///
+/// # Errors
+///
+/// It runs out of memory, and the pool is as it was.
+pub fn turn_in<N: OnNet>(
+    pool: &mut PoolState,
+    worker: u32,
+) -> Result<Turn<BranchPiece<N>>, AllocError>
+    requires { pool.old.net ≡ N.net }
+    ensures ok { IfOk result (λ turn. GivesBranch pool.old worker turn pool.new) }
+    ensures err { OnErr result (pool.new ≡ pool.old) }
+{
+    if !pool.has_place(worker) {
+        return Ok(Turn::Over);
+    }
+    let plain = pool.plays_plain();
+    Ok(turn_of::<N>(pool.take_branch(worker)?, plain))
+}
+
+/// The branch of a piece, on the net that `N` names.
+///
+/// # Errors
+///
+/// It runs out of memory.
+pub fn play_piece<N: OnNet>(
+    alloc: Global,
+    tool: &NamedNet<N>,
+    piece: BranchPiece<N>,
+) -> Result<Branch<N>, AllocError>
+    ensures { IfOk result (MakesBranch N.net piece) }
+{
+    let most = piece.allowance();
+    let plain = piece.is_plain();
+    let branch = branch_of(alloc, tool, piece.into_seed(), most, plain)?;
+    Ok(branch)
+}
+
+/// Books the branch that a worker made, in a pool of the net that `N` names. A worker that has no place changes nothing.
+///
+/// # Errors
+///
+/// It runs out of memory, and the pool is as it was.
+pub fn take_in<N: OnNet>(
+    pool: &mut PoolState,
+    worker: u32,
+    made: Branch<N>,
+) -> Result<(), AllocError>
+    requires { pool.old.net ≡ N.net }
+    ensures ok { IfOk result (λ _. TakesBranch pool.old worker made pool.new) }
+    ensures err { OnErr result (pool.new ≡ pool.old) }
+{
+    if pool.has_place(worker) {
+        pool.book_branch(worker, made)?;
+    }
+    Ok(())
 }
 
 impl<N: OnNet + Send + Sync> Bench for BranchPool<N> {
@@ -96,11 +155,7 @@ impl<N: OnNet + Send + Sync> Bench for BranchPool<N> {
     ghost halts = { λ old new. new ≡ halted old };
 
     fn turn(&mut self, worker: u32) -> Result<Turn<BranchPiece<N>>, AllocError> {
-        if !self.pool.has_place(worker) {
-            return Ok(Turn::Over);
-        }
-        let plain = self.pool.plays_plain();
-        Ok(turn_of::<N>(self.pool.take_branch(worker)?, plain))
+        turn_in(&mut self.pool, worker)
     }
 
     fn work(
@@ -108,17 +163,11 @@ impl<N: OnNet + Send + Sync> Bench for BranchPool<N> {
         tool: &NamedNet<N>,
         piece: BranchPiece<N>,
     ) -> Result<Branch<N>, AllocError> {
-        let most = piece.allowance();
-        let plain = piece.is_plain();
-        let branch = branch_of(alloc, tool, piece.into_seed(), most, plain)?;
-        Ok(branch)
+        play_piece(alloc, tool, piece)
     }
 
     fn hand_in(&mut self, worker: u32, made: Branch<N>) -> Result<(), AllocError> {
-        if self.pool.has_place(worker) {
-            self.pool.book_branch(worker, made)?;
-        }
-        Ok(())
+        take_in(&mut self.pool, worker, made)
     }
 
     fn stop(&mut self) {

@@ -9,5 +9,5 @@
 mod bench;
 mod pieces;
 
-pub use bench::BranchPool;
+pub use bench::{BranchPool, play_piece, take_in, turn_in};
 pub use pieces::BranchPiece;

@@ -1,4 +1,5 @@
 //! What a worker is handed that plays branches.
+
 ghost use Rattle.std.specs.Prelude.{◌≡◌, ◌≤◌};
 ghost use Rattle.pcf_values.specs.Most.{most_budget};
 ghost use Rattle.branch_pool.specs.Benches.{portion};

@@ -3,5 +3,8 @@ pub mod Branching
 -- a list of tickets as runs
 pub mod Tickets
 -- what serves the code's types and private contracts only
+--
+-- How the logic stores a branch, so that a struct's `impl Model` can have one as its value.
 pub mod Codes
+-- A branch while it is played.
 pub mod Growing

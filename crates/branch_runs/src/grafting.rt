@@ -1,4 +1,5 @@
 //! A branch that is put into the machine that its token is live in.
+
 ghost use Rattle.std.specs.Prelude.{◌≡◌, ◌≤◌, ◌↔◌, Some, IfOk, OnErr, IsTrue, length};
 ghost use Rattle.std.specs.FinMap.{get};
 ghost use Rattle.std.specs.Option.{MatchOption};
@@ -15,7 +16,7 @@ use interleave_laws::law_maps;
 use move_rules::Token;
 use std::alloc::AllocError;
 
-// Whether the ticket's token is this one. Takes no memory.
+/// Whether the ticket's token is this one. Takes no memory.
 fn has(core: &Core, ticket: u32, token: &Token) -> bool
     ensures { IsTrue result ↔ (get core.now.tokens ticket ≡ Some (token_of token.now)) }
 {
@@ -33,7 +34,7 @@ fn has(core: &Core, ticket: u32, token: &Token) -> bool
 ///
 /// # Errors
 ///
-/// Out of memory; the machine is as it was, and the branch is dropped.
+/// It runs out of memory; the machine is as it was, and the branch is dropped.
 pub fn graft<N: OnNet>(
     core: &mut Core,
     ticket: u32,

@@ -1,4 +1,5 @@
 //! One token's run by itself, turn by turn.
+
 ghost use Rattle.std.specs.Prelude.{◌≡◌, ◌<◌, ◌≤◌, ◌+◌, ◌⊎◌, [], false, IfOk, OnOk, length};
 ghost use Rattle.std.specs.Bool.{MatchBool};
 ghost use Rattle.pcf_values.specs.Most.{most_budget};
@@ -16,7 +17,7 @@ use interleave_core::Core;
 use net_build::Net;
 use std::alloc::AllocError;
 
-// The least live ticket makes its solo moves, at most as many as are left of `most`; they are written down.
+/// The least live ticket makes its solo moves, at most as many as are left of `most`; they are written down.
 fn walk_on(
     core: &mut Core,
     log: &mut Tickets,
@@ -38,7 +39,7 @@ fn walk_on(
     log.add(ticket, made)
 }
 
-// The least live ticket moves once, but by no answer and by no join whose entry isn't the branch's; then it answers `false`.
+/// The least live ticket moves once, but by no answer and by no join whose entry isn't the branch's; then it answers `false`.
 fn act_on(core: &mut Core, log: &mut Tickets, net: &Net, ticket: u32) -> Result<bool, AllocError>
     requires runs { Runs net.now }
     requires room { length log.old < most_budget }
@@ -55,7 +56,7 @@ fn act_on(core: &mut Core, log: &mut Tickets, net: &Net, ticket: u32) -> Result<
     Ok(moved)
 }
 
-// The least live ticket makes its solo moves and then the move that isn't, as far as `most` goes. It answers whether the branch goes on.
+/// The least live ticket makes its solo moves and then the move that isn't, as far as `most` goes. It answers whether the branch goes on.
 fn go_on(
     core: &mut Core,
     log: &mut Tickets,
@@ -79,7 +80,7 @@ fn go_on(
     act_on(core, log, net, ticket)
 }
 
-// The turns of a branch, until so many moves are made or it goes no further.
+/// The turns of a branch, until so many moves are made or it goes no further.
 fn grow(core: &mut Core, log: &mut Tickets, net: &Net, most: u32) -> Result<(), AllocError>
     requires runs { Runs net.now }
     requires few { most ≤ most_budget }
@@ -102,7 +103,7 @@ fn grow(core: &mut Core, log: &mut Tickets, net: &Net, most: u32) -> Result<(), 
     Ok(())
 }
 
-// The solo moves of the token alone, at most so many.
+/// The solo moves of the token alone, at most so many.
 fn walk(core: &mut Core, log: &mut Tickets, net: &Net, most: u32) -> Result<(), AllocError>
     requires few { most ≤ most_budget }
     requires begins { (x : TokenTree) × (core.old ≡ start_map_at x) }

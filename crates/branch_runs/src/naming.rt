@@ -1,4 +1,5 @@
 //! A net that types name.
+
 ghost use Rattle.std.specs.Prelude.{◌≡◌};
 ghost use Rattle.interleave_laws.specs.Runs.{Runs};
 

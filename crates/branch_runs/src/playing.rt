@@ -1,4 +1,5 @@
 //! A branch of a run.
+
 ghost use Rattle.std.specs.Prelude.{◌≡◌, ◌≤◌, IfOk, length};
 ghost use Rattle.pcf_values.specs.Most.{most_budget};
 ghost use Rattle.move_rules.specs.Views.{token_of};
@@ -83,7 +84,7 @@ impl<N: OnNet> Branch<N> {
 ///
 /// # Errors
 ///
-/// Out of memory; nothing is kept then.
+/// It runs out of memory; nothing is kept then.
 pub fn branch_of<N: OnNet>(
     alloc: Global,
     net: &NamedNet<N>,

@@ -1,4 +1,5 @@
 //! Tokens that branches grow from.
+
 ghost use Rattle.std.specs.Prelude.{◌≡◌};
 ghost use Rattle.move_rules.specs.Views.{token_of};
 ghost use Rattle.branch_laws.specs.Laws.{Occurs};

@@ -1,4 +1,5 @@
 //! A list of tickets, kept as runs of one ticket.
+
 ghost use Rattle.std.specs.Prelude.{◌≡◌, ◌+◌, ◌-◌, ◌<◌, ◌^◌, ◌++◌, [], OnOk, OnErr, length, replicate};
 ghost use Rattle.branch_laws.specs.Branches.{name};
 ghost use Rattle.branch_runs.specs.Tickets.{spelled};
@@ -34,7 +35,7 @@ impl Model for Tickets {
     ghost invariant = { λ t. t.count ≡ length (spelled t.runs.items) };
 }
 
-// Puts a run behind others. After out of memory all is as it was.
+/// Puts a run behind others. After out of memory all is as it was.
 fn push(runs: &mut Vec<Run>, ticket: u32, count: u32) -> Result<(), AllocError>
     ensures ok { OnOk result (spelled runs.new.items ≡ spelled runs.old.items ++ replicate count ticket) }
     ensures err { OnErr result (runs.new.items ≡ runs.old.items) }
@@ -81,7 +82,7 @@ impl Tickets {
     ///
     /// # Errors
     ///
-    /// Out of memory; the list is as it was.
+    /// It runs out of memory; the list is as it was.
     pub fn add(&mut self, ticket: u32, count: u32) -> Result<(), AllocError>
         requires { length self.old + count < 2 ^ 32 }
         ensures ok { OnOk result (self.new ≡ self.old ++ replicate count ticket) }

@@ -32,6 +32,7 @@ replaced_above i k n h = let z : suc i - 1 ≡ i = omega arith in
     ap (λ b. cond b (var (suc i)) (if nat_eq (suc i) k then n else var (suc i - 1))) (le-ltb (suc i) k (omega arith)) ∙
     ap (λ b. cond b n (var (suc i - 1))) (ne_eqb (suc i) k (λ e. omega arith)) ∙ ap var z
 
+-- at a variable: what closes all but the first of the open ones, and then a term for that one, is what closes all of them
 subst_var : (k : ℕ) (e : Env) (n : TermTree) (i : ℕ) → AllClosed e →
     subst_at (close_var (suc k) e i) k n ≡ close_var k (cons n e) i
 subst_var k e n i h = go (cases_order i k)
@@ -71,6 +72,7 @@ still_var k j e n i l h = go (cases_lt i k)
     go (inl a) = ap (λ m. subst_at m j n) (var_below k e i a) ∙ replaced_below i j n (omega arith) ∙ sym (var_below k e i a)
     go (inr a) = ap (λ m. subst_at m j n) (var_above k e i a) ∙ h (i - k) j n ∙ sym (var_above k e i a)
 
+-- in a term that is closed from k on, nothing is substituted at k or at a later index
 still : (m : TermTree) (k j : ℕ) (e : Env) (n : TermTree) → k ≤ j → AllClosed e → subst_at (close k e m) j n ≡ close k e m
 still (num v) k j e n l h = refl
 still (var i) k j e n l h = still_var k j e n i l h

@@ -30,6 +30,7 @@ from_pair (Some (value v)) f r h = cc
 from_pair (Some (closure a m)) f r h = cc
 from_pair (Some (paired m n)) f r h = (m, n, refl, h)
 
+-- what a term comes to within a depth, it comes to within one more
 pub eval_more : (d : ℕ) (m : TermTree) (r : Res) → eval d m ≡ Some r → eval (suc d) m ≡ Some r
 eval_more zero m r h = cc
 eval_more (suc d) (num n) r h = h

@@ -11,6 +11,7 @@ use Rattle.cbn_meaning.specs.Meaning.{Res, value, closure, paired, eval, on_valu
 use Rattle.cbn_meaning.specs.Derivations.{Ev, ev_num, ev_lam, ev_succ, ev_pred, ev_binary, ev_ifz, ev_fix, ev_app, ev_pair, ev_proj, HasEv}
 use Rattle.cbn_meaning.proofs.Depth.{from_value, from_closure, from_pair, eval_le}
 
+-- a derivation has at least one rule
 pub ev_pos : {s : ℕ} {m : TermTree} {x : Res} → Ev s m x → 0 < s
 ev_pos ev_num = omega arith
 ev_pos ev_lam = omega arith

@@ -83,6 +83,7 @@ ifz_steps m m' p q h = record {
   back = λ s r e. let (i, k, v, f, g, x) = ifz_inv e in let (z, l, f') = h.back i (value v) f in (suc (z + k), omega arith, ev_ifz f' g);
 }
 
+-- a term comes to what its step at the head comes to, and by a larger derivation
 pub head_steps : (m n : TermTree) → Head m n → Steps m n
 head_steps (fix a m) n e = subst (Steps (fix a m)) (sym e) (unfold_fix a m)
 head_steps (app (lam a m) x) n e = subst (Steps (app (lam a m) x)) (sym e) (beta a m x)

@@ -57,6 +57,7 @@ get_after [] g a i t l e = e
 get_after (b ∷ f) g a zero t l e = absurd (omega arith)
 get_after (b ∷ f) g a (suc i) t l e = get_after f g a i t (omega arith) e
 
+-- a variable has the type that it had after a term of the right type was put for one of the context's
 subst_var_typed : (i : ℕ) (f g : List TyTree) (n : TermTree) (a t : TyTree) → slice_get (f ++ a ∷ g) i ≡ Some t →
     HasType (f ++ g) n a → HasType (f ++ g) (replaced i (length f) n) t
 subst_var_typed i f g n a t e h = go i e (cases_order i (length f))

@@ -33,6 +33,7 @@ pair_same ev_pair = (refl, refl)
 both_sizes : {s r i k z : ℕ} → s ≡ i → r ≡ k → z ≡ suc (i + k) → suc (s + r) ≡ z
 both_sizes a b c = omega arith
 
+-- two derivations for one term have the same size and the same result
 pub ev_same : (s z : ℕ) (m : TermTree) (r q : Res) → Ev s m r → Ev z m q → (s ≡ z) × (r ≡ q)
 ev_same _ z _ _ q ev_num h = num_same h
 ev_same _ z _ _ q ev_lam h = lam_same h

@@ -45,6 +45,7 @@ fix_taken (arrow a b) (bind_at at the_fun x c d) s m (n, r, q) h e p =
     let g : HasTranslation (lam c n) = subst HasTranslation q h in
     subst (λ m. HasTranslation (fix (arrow a b) m)) (sym q) (p, g.0, g.1)
 
+-- the term of a tree without faults has a translation
 clean_taken : (tree : NamedTree) (s : List (List ℕ)) (m : TermTree) → Resolves s tree m → Clean tree → HasTranslation m
 clean_taken (number_at at n) s m e h = subst HasTranslation (sym e) tt
 clean_taken (name_at at x) s m (i, d, e) h = subst HasTranslation (sym e) tt
@@ -86,6 +87,7 @@ fix_of_fun : (t : TyTree) (m : TermTree) → HasTranslation (fix t m) → (a b c
 fix_of_fun (arrow a b) (lam c m) h = (a, b, c, m, refl, refl)
 fix_of_fun t m h = elim h [ ]
 
+-- a tree that stands for a function's term is a `fun`
 lam_of_fun : (tree : NamedTree) (s : List (List ℕ)) (a b c : TyTree) (m : TermTree) → Resolves s tree (lam c m) →
     is_of_fun (arrow a b) tree ≡ true
 lam_of_fun (number_at at n) s a b c m e = cc
@@ -109,6 +111,7 @@ fix_is_of_fun t tree s m r h =
 differ : (b : Bool) → b ≡ true → b ≡ false → ⊥
 differ b h k = cc
 
+-- a tree whose term has a translation has no fault
 taken_clean : (tree : NamedTree) (s : List (List ℕ)) (m : TermTree) → Resolves s tree m → HasTranslation m → Clean tree
 taken_clean (number_at at n) s m e h = λ f w. w
 taken_clean (name_at at x) s m r h = λ f w. w
@@ -138,6 +141,7 @@ HasPlace f = (at : ℕ) × ((f ≡ ByValueFix at) ⊎ (f ≡ ByValuePair at))
 placed_pair : (at : ℕ) (f : ByValueFault) → f ≡ ByValuePair at → HasPlace f
 placed_pair at f e = (at, inr e)
 
+-- each fault of a tree has a place, since only the whole program can be too deep
 placed : (tree : NamedTree) (f : ByValueFault) → HasFault tree f → HasPlace f
 placed (number_at at n) f w = absurd w
 placed (name_at at x) f w = absurd w

@@ -19,6 +19,7 @@ unused v (zero, h) = cc
 unused v (suc zero, h) = cc
 unused v (suc (suc d), h) = let e = never (suc d) in let z = rw e at h in cc
 
+-- what each example comes to by name and by value, computed at a depth that is enough
 pub example_values : ExampleValues
 example_values = record {
   number_translated = refl;

@@ -49,6 +49,7 @@ var_hands a n m s t j cs (w, h, g) =
     hands_value (λ k u o. Stands a k u o) n m s t (var (suc j)) w cs h
     (λ x cx k l. subst (Stands a k w) (sym (close_var_zero (cons x s) (suc j))) (stands_less a n k w (s j) l g))
 
+-- a `fun` hands on its closure, if its body hands on what it comes to for each argument that is a result
 lam_hands : (a b : TyTree) (n : ℕ) (m : TermTree) (r s : Env) (t t' : TyTree) (c : TermTree) → AllClosed r → AllClosed s
     → ((j : ℕ) → j < n → (x : TermTree) → Closed x → (u : Res) (z : TermTree) → Stands a j u z →
     Good b j (close zero (cons (quote u) r) m) (close zero (cons z (cons x s)) c))
@@ -149,6 +150,7 @@ entries_under : (n : ℕ) (a : TyTree) (g : List TyTree) (m : TermTree) (r : Env
 entries_under n a g m r e s y h k zero b q = let p : a ≡ b = cc in subst (λ b. Entry n b m y) p h
 entries_under n a g m r e s y h k (suc i) b q = k i b q
 
+-- the translation of a typed term hands on what the term comes to, by induction on the term
 pub term_hands : (m : TermTree) (g : List TyTree) (t : TyTree) (e : ℕ → ℕ) (r s : Env) (n : ℕ) → HasTranslation m →
     HasType g m t → AllClosed r → AllClosed s → Entries n g r e s → Good t n (close zero r m) (close zero s (cps g e m))
 term_hands (num v) g t e r s n k h cr cs en = subst (λ t. Good t n (num v) (close zero s (cps g e (num v)))) (sym h.1)

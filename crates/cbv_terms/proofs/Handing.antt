@@ -152,6 +152,7 @@ falls_twice a b c q p = omega arith
 falls_once_more : (a b c d : ℕ) → d < c → c < b → b < a → d < a
 falls_once_more a b c d r q p = falls_twice a b d (falls_twice b c d r q) p
 
+-- the translation of a successor hands on what it comes to, if that of its operand does
 pub succ_hands : (t : TyTree) (n : ℕ) (m : TermTree) (s : Env) (c : TermTree) → AllClosed s →
     ((x : TermTree) → Closed x → Good nat n m (close zero (cons x s) c)) →
     Good nat n (succ_of m) (close zero s (lam t (app c (lam nat succ_k))))
@@ -174,6 +175,7 @@ succ_hands t n m s c cs h = record {
       (u, succ_of y, z2, hu, gu, falls_twice i j z2 q2 (falls_twice i z j q1 q), d3);
 }
 
+-- the translation of a predecessor hands on what it comes to, if that of its operand does
 pub pred_hands : (t : TyTree) (n : ℕ) (m : TermTree) (s : Env) (c : TermTree) → AllClosed s →
     ((x : TermTree) → Closed x → Good nat n m (close zero (cons x s) c)) →
     Good nat n (pred_of m) (close zero s (lam t (app c (lam nat pred_k))))
@@ -247,6 +249,7 @@ at_good (Number zero) n m m' c c' h g = h
 at_good (Number (suc k)) n m m' c c' h g = g
 at_good Overflow n m m' c c' h g = g
 
+-- the translation of an `ifz` hands on what it comes to, if those of its test and of both branches do
 pub ifz_hands : (t : TyTree) (n : ℕ) (m p q : TermTree) (s : Env) (c cp cq : TermTree) → AllClosed s
     → ((x : TermTree) → Closed x → Good nat n m (close zero (cons x s) c))
     → ((x y : TermTree) → Closed x → Closed y → Good nat n p (close zero (cons y (cons x s)) cp))
@@ -333,6 +336,7 @@ app_argument a b t1 t2 n s m m' c' j w x y v c1 cx h' l hm g d =
     let (w1, y1, j1, hm1, g1, l4, d4) = (h' x y cx g.0).back z2 q (close zero s2 k2) (close_closed k2 s2 c2) v d3 in
     app_rest a b t2 s j z2 j1 m m' w w1 x y y1 v c2 cx hm g hm1 g1 l3 l4 d4
 
+-- the translation of an application hands on what it comes to, if those of the function and of the argument do
 pub app_hands : (a b : TyTree) (t t1 t2 : TyTree) (n : ℕ) (m m' : TermTree) (s : Env) (c c' : TermTree) → AllClosed s
     → ((x : TermTree) → Closed x → Good (arrow a b) n m (close zero (cons x s) c))
     → ((x y : TermTree) → Closed x → Closed y → Good a n m' (close zero (cons y (cons x s)) c'))

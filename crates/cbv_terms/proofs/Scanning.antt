@@ -232,6 +232,7 @@ some_first_fault tree = go (cases_lt BY_VALUE_HEIGHT (named_height tree))
     go (inl l) = inr (ByValueDeep, deep_first tree l)
     go (inr l) = told_either tree (first_of (found tree).fix (found tree).pair) (told_found tree l)
 
+-- of two faults of which neither is later than the other, both are one
 same_fault : (f g : ByValueFault) → NoLater f g → NoLater g f → f ≡ g
 same_fault ByValueDeep ByValueDeep h k = refl
 same_fault ByValueDeep (ByValueFix b) h k = elim k [ ]

@@ -166,6 +166,7 @@ variable_makes bs d i b made r h e q =
     let p = variable_place d bs i b r h in
     record { term = e ∙ (λ k. lam (continuation_type (sym t k)) (app (var 0) (var (p k)))); typed = q ∙ sym t; binders = refl }
 
+-- a successor or a predecessor that is built around its operand's translation is the definition's
 pub unary_makes : (form : Unary) (old new : List Binder) (d : ℕ) (a : TermTree) (part made : Made) → AreAround d (reverse old)
     → Makes old new (context_of old) (map_of (d + 1) old) a part
     → term_of made.term.value ≡ lam (continuation_type nat)
@@ -207,6 +208,7 @@ binary_makes o old s new d a b left right made r h k e q =
       binders = k'.binders;
     }
 
+-- an `ifz` that is built around the translations of its three parts is the definition's
 pub ifz_makes : (old s1 s2 new : List Binder) (d : ℕ) (c p q : TermTree) (test then else made : Made) → AreAround d (reverse old)
     → Makes old s1 (context_of old) (map_of (d + 1) old) c test
     → Makes s1 s2 (context_of s1) (map_of (d + 2) s1) p then
@@ -234,6 +236,7 @@ function_arrow bs new d f a made r h =
     let (t, (b, hf, ha)) = r.typed in
     (b, t, h.typed ∙ sym (typed_in f (context_of bs) (arrow b t) r.taken.0 hf))
 
+-- an application that is built around the translations of the function and of the argument is the definition's
 pub app_makes : (old s new : List Binder) (d : ℕ) (f a : TermTree) (function argument made : Made) → AreAround d (reverse old)
     → Makes old s (context_of old) (map_of (d + 1) old) f function
     → Makes s new (context_of s) (map_of (d + 2) s) a argument
@@ -264,6 +267,7 @@ body_makes bs s mid new b d m made e l r h n =
     let f = ap (map_of (d + 1)) e ∙ map_pushed d bs b l r in
     record { term = h.term ∙ (λ k. cps (g k) (f k) m); typed = h.typed ∙ ap (λ g. type_in g m) g; binders = n }
 
+-- the `fun` inside a `fix` that is built around its body's translation is the definition's
 pub function_makes : (bs s mid new : List Binder) (b : Binder) (d : ℕ) (a : TyTree) (m : TermTree) (body : Made) (made : Term) →
     s ≡ bs ++ b ∷ [] → b.level ≡ d → AreAround d (reverse bs)
     → Makes s mid (a ∷ context_of s) (under (map_of (d + 1) s)) m body → new ≡ bs
@@ -276,6 +280,7 @@ function_makes bs s mid new b d a m body made e l r h n t =
     (λ k. cps (a ∷ g k) (under (f k)) m) in
     record { term = t ∙ ap (lam (value_type a)) x; binders = n }
 
+-- a `fun` that is built around its body's translation is the definition's
 pub fun_makes : (old new : List Binder) (d : ℕ) (a : TyTree) (m : TermTree) (body made : Made) → AreAround d (reverse old)
     → Makes old new (a ∷ context_of old) (under (map_of (d + 1) old)) m body
     → term_of made.term.value ≡ lam (continuation_type (arrow a (known_of body.ty)))

@@ -9,6 +9,7 @@ use Rattle.cbv_terms.specs.Translation.{type_at, argument_type, result_type, typ
 use Rattle.cbv_terms.specs.Accepted.{HasTranslation, Accepted}
 use Rattle.cbv_terms.specs.Translation.{continuation_type, beside, under, cps, translated}
 
+-- a translation has at most ten times as many nodes as its term
 pub size_cps : (m : TermTree) (g : List TyTree) (e : ℕ → ℕ) → size (cps g e m) ≤ 10 * size m
 size_cps (num n) g e = omega arith
 size_cps (var i) g e = omega arith
@@ -27,6 +28,7 @@ size_cps (app f x) g e = let p = size_cps f g (beside e) in let q = size_cps x g
 size_cps (pair a b) g e = omega arith
 size_cps (proj s a) g e = omega arith
 
+-- the height of a term is at least 1
 height_positive : (m : TermTree) → 1 ≤ height m
 height_positive (num n) = omega arith
 height_positive (var i) = omega arith
@@ -40,6 +42,7 @@ height_positive (app f x) = omega arith
 height_positive (pair a b) = omega arith
 height_positive (proj s a) = omega arith
 
+-- a translation is at most five times as high as its term
 pub height_cps : (m : TermTree) (g : List TyTree) (e : ℕ → ℕ) → height (cps g e m) ≤ 5 * height m
 height_cps (num n) g e = omega arith
 height_cps (var i) g e = omega arith
@@ -92,6 +95,7 @@ placed_under : (g d : List TyTree) (e : ℕ → ℕ) (a : TyTree) → Placed g e
 placed_under g d e a h zero b q = let p : a ≡ b = cc in ap (λ c. Some (value_type c)) p
 placed_under g d e a h (suc i) b q = h i b q
 
+-- the translation of a typed term takes a continuation for that type, in each context that has the variables where the map says
 pub cps_typed : (m : TermTree) (g d : List TyTree) (t : TyTree) (e : ℕ → ℕ) → HasTranslation m → HasType g m t →
     Placed g e d → Takes d (cps g e m) t
 cps_typed (num n) g d t e a h p = subst (Takes d (cps g e (num n))) (sym h.1) (nat, (nat, refl, (h.0, refl)), refl)

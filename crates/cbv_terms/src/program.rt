@@ -22,7 +22,7 @@ use std::alloc::Global;
 ///
 /// # Errors
 ///
-/// The first fault of a program that has no translation: its height before the others, then the least place. Or want of memory.
+/// The first fault of a program that has no translation: its height before the others, then the least place. Or it runs out of memory.
 pub fn by_value(alloc: Global, program: &Named, typed: &Typed) -> Result<Typed, ByValueFault>
     requires typed { type_of [] (named_of program.now) ≡ Ok typed.now }
     requires ground { typed.now.1 ≡ nat }

@@ -83,6 +83,7 @@ fn scan(tree: &Named) -> Least
     }
 }
 
+/// The least places where one node alone was looked at.
 fn found(fixes: Option<u32>, pairs: Option<u32>) -> Least
     ensures fixes { result.fixes ≡ fixes }
     ensures pairs { result.pairs ≡ pairs }

@@ -1,1 +1,2 @@
+-- The lengths, each by a depth that is enough for its question, and by computing it.
 pub mod Lengths

@@ -5,7 +5,7 @@ ghost use Rattle.circuit_core.specs.Bits.{span, top, below, bit};
 
 use std::alloc::{AllocError, Global};
 
-// What a signature goes on with: how many of its bits were looked at, how many signatures are due behind them, and what comes then.
+/// What a signature goes on with: how many of its bits were looked at, how many signatures are due behind them, and what comes then.
 #[derive(Clone, Copy)]
 struct Group<'a> {
     bits: usize,
@@ -13,7 +13,7 @@ struct Group<'a> {
     after: &'a [bool],
 }
 
-// The group that begins with two bits.
+/// The group that begins with two bits.
 #[tactic(auto, using(crate::proofs::Spans::two_bits))]
 fn third(due: usize, first: bool, second: bool, after: &[bool]) -> Group
     requires some { 0 < due }
@@ -49,7 +49,7 @@ fn third(due: usize, first: bool, second: bool, after: &[bool]) -> Group
     }
 }
 
-// The group that begins with this bit.
+/// The group that begins with this bit.
 #[tactic(auto, using(crate::proofs::Spans::span_one))]
 fn second(due: usize, first: bool, rest: &[bool]) -> Group
     requires some { 0 < due }
@@ -69,7 +69,7 @@ fn second(due: usize, first: bool, rest: &[bool]) -> Group
     }
 }
 
-// The group that begins here; where nothing does, nothing is due.
+/// The group that begins here; where nothing does, nothing is due.
 #[tactic(auto, using(crate::proofs::Spans::span_none))]
 fn first(due: usize, bits: &[bool]) -> Group
     requires some { 0 < due }

@@ -17,7 +17,7 @@ use net_build::Net;
 use pcf_values::Val;
 use std::alloc::{AllocError, Global};
 
-// So many forks that aren't open.
+/// So many forks that aren't open.
 #[tactic(auto, using(crate::proofs::Numbered::more_closed))]
 fn closed(alloc: Global, forks: u32) -> Result<Vec<Option<Slot>>, AllocError>
     ensures { IfOk result (λ v. v.items ≡ replicate forks None) }
@@ -55,7 +55,7 @@ pub fn powered(alloc: Global, net: &Net, forks: u32) -> Result<Circuit, AllocErr
     })
 }
 
-// The token with this value, at another channel.
+/// The token with this value, at another channel.
 fn sent(token: Token, value: Val, channel: Channel) -> Token
     ensures { token_of result ≡ record (token_of token) { value = value; channel = channel_of channel } }
 {
@@ -68,7 +68,7 @@ fn sent(token: Token, value: Val, channel: Channel) -> Token
     }
 }
 
-// Where a test sends an answer.
+/// Where a test sends an answer.
 fn tested(value: Val, zero: Channel, other: Channel) -> Channel
     ensures { channel_of result ≡ at_zero value (channel_of zero) (channel_of other) }
 {
@@ -78,7 +78,7 @@ fn tested(value: Val, zero: Channel, other: Channel) -> Channel
     }
 }
 
-// The token goes on.
+/// The token goes on.
 fn send(circuit: &mut Circuit, token: Token)
     ensures made { circuit_of circuit.new ≡ holding circuit.old token }
     ensures length { length circuit.new.slots.items ≡ length circuit.old.slots.items }
@@ -86,7 +86,7 @@ fn send(circuit: &mut Circuit, token: Token)
     circuit.live = Some(token);
 }
 
-// The token stays, and something is full.
+/// The token stays, and something is full.
 fn stop(circuit: &mut Circuit, token: Token)
     ensures made { circuit_of circuit.new ≡ stuck (holding circuit.old token) }
     ensures length { length circuit.new.slots.items ≡ length circuit.old.slots.items }
@@ -95,7 +95,7 @@ fn stop(circuit: &mut Circuit, token: Token)
     circuit.full = true;
 }
 
-// The answer is there, and no token any more.
+/// The answer is there, and no token any more.
 fn finish(circuit: &mut Circuit, value: Val)
     requires taken { circuit.old.live ≡ None }
     ensures made { circuit_of circuit.new ≡ record (circuit_of circuit.old) { live = None; result = Some value } }
@@ -104,7 +104,7 @@ fn finish(circuit: &mut Circuit, value: Val)
     circuit.result = Some(value);
 }
 
-// The token with other stacks, elsewhere.
+/// The token with other stacks, elsewhere.
 fn loaded(token: Token, load: Load) -> Token
     ensures { token_of result ≡ record (token_of token) {
       channel = (load_of load).channel;
@@ -121,7 +121,7 @@ fn loaded(token: Token, load: Load) -> Token
     }
 }
 
-// The token goes on with these stacks, if none has more than so many bits.
+/// The token goes on with these stacks, if none has more than so many bits.
 fn shift(circuit: &mut Circuit, token: Token, load: Load, stack: u32)
     ensures made { circuit_of circuit.new ≡ shifted stack (load_of load) (token_of token) (holding circuit.old token) }
     ensures length { length circuit.new.slots.items ≡ length circuit.old.slots.items }
@@ -133,7 +133,7 @@ fn shift(circuit: &mut Circuit, token: Token, load: Load, stack: u32)
     }
 }
 
-// A row of stacks: what it makes of their bits is the token's.
+/// A row of stacks: what it makes of their bits is the token's.
 fn shift_by(
     alloc: Global,
     circuit: &mut Circuit,
@@ -150,7 +150,7 @@ fn shift_by(
     Ok(())
 }
 
-// What a row that was found makes of the token.
+/// What a row that was found makes of the token.
 fn operate(
     alloc: Global,
     circuit: &mut Circuit,
@@ -186,7 +186,7 @@ fn operate(
     Ok(())
 }
 
-// What the token's row makes of it, with the move counted.
+/// What the token's row makes of it, with the move counted.
 fn act(
     alloc: Global,
     net: &Net,

@@ -12,7 +12,7 @@ use circuit_rows::Channel;
 use pcf_values::{Operator, Side, Val};
 use std::alloc::{AllocError, Global};
 
-// The first fork that isn't open.
+/// The first fork that isn't open.
 fn free(slots: &[Option<Slot>]) -> Option<u32>
     requires few { length slots.now < 2 ^ 32 }
     ensures first { result ≡ free_from (slot_at slots.now) 0 (length slots.now) }
@@ -27,7 +27,7 @@ fn free(slots: &[Option<Slot>]) -> Option<u32>
     None
 }
 
-// Puts a fork at a number.
+/// Puts a fork at a number.
 fn put(slots: &mut Vec<Option<Slot>>, at: u32, slot: Slot)
     requires within { at < length slots.old.items }
     ensures slots { slot_at slots.new.items ≡ set_slot (slot_at slots.old.items) at (Some (slot_of slot)) }
@@ -36,7 +36,7 @@ fn put(slots: &mut Vec<Option<Slot>>, at: u32, slot: Slot)
     slots[at as usize] = Some(slot);
 }
 
-// Takes the fork of a number, where it is open.
+/// Takes the fork of a number, where it is open.
 fn take(slots: &mut Vec<Option<Slot>>, at: u32) -> Option<Slot>
     ensures there { option_map slot_of result ≡ slot_at slots.old.items at }
     ensures slots { slot_at slots.new.items ≡ set_slot (slot_at slots.old.items) at None }
@@ -49,7 +49,7 @@ fn take(slots: &mut Vec<Option<Slot>>, at: u32) -> Option<Slot>
     slots[at as usize].take()
 }
 
-// What the operator comes to, where this side has one value and the other side the other.
+/// What the operator comes to, where this side has one value and the other side the other.
 fn both(operator: Operator, side: Side, own: Val, other: Val) -> Val
     ensures { result ≡ both operator side own other }
 {
@@ -103,7 +103,7 @@ pub(crate) fn fork(
     Ok(())
 }
 
-// The first question of a queue as the token, and the queue without it.
+/// The first question of a queue as the token, and the queue without it.
 fn next(alloc: Global, queue: &mut Vec<Question>, value: Val) -> Option<Token>
     ensures token { option_map token_of result ≡ next_token value (map question_of queue.old.items) }
     ensures later { map question_of queue.new.items ≡ later (map question_of queue.old.items) }
@@ -144,7 +144,7 @@ pub(crate) fn arrive(
     }
 }
 
-// An answer at a fork that was taken out.
+/// An answer at a fork that was taken out.
 fn meet(
     alloc: Global,
     circuit: &mut Circuit,

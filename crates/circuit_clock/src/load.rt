@@ -18,14 +18,14 @@ pub(crate) struct Load {
     pub(crate) boxes: Vec<bool>,
 }
 
-// The first of two channels at 0, and the second at 1.
+/// The first of two channels at 0, and the second at 1.
 fn chosen(bit: bool, first: Channel, second: Channel) -> Channel
     ensures { channel_of result ≡ if bit then channel_of second else channel_of first }
 {
     if bit { second } else { first }
 }
 
-// To a channel with these bits in front of the work stack's.
+/// To a channel with these bits in front of the work stack's.
 fn with_front(
     alloc: Global,
     channel: Channel,
@@ -42,7 +42,7 @@ fn with_front(
     })
 }
 
-// Into a box: the signature that begins here goes to the box stack.
+/// Into a box: the signature that begins here goes to the box stack.
 fn into_box(
     alloc: Global,
     channel: Channel,
@@ -60,7 +60,7 @@ fn into_box(
     })
 }
 
-// Out of a box: the first signature of the box stack goes behind these bits in front of the work stack's.
+/// Out of a box: the first signature of the box stack goes behind these bits in front of the work stack's.
 fn out_of_box(
     alloc: Global,
     channel: Channel,
@@ -75,7 +75,7 @@ fn out_of_box(
     with_front(alloc, channel, front, behind.as_slice(), rest)
 }
 
-// Out of the body of a `fix` to a call from inside: these are the bits of the box stack behind 111.
+/// Out of the body of a `fix` to a call from inside: these are the bits of the box stack behind 111.
 fn back(alloc: Global, channel: Channel, work: &[bool], bits: &[bool]) -> Result<Load, AllocError>
     ensures { IfOk result (λ l. load_of l ≡ back (channel_of channel) work.now bits.now (below bits.now)) }
 {
@@ -89,7 +89,7 @@ fn back(alloc: Global, channel: Channel, work: &[bool], bits: &[bool]) -> Result
     })
 }
 
-// Out of the body of a `fix`.
+/// Out of the body of a `fix`.
 fn fix_out(
     alloc: Global,
     outside: Channel,
@@ -106,7 +106,7 @@ fn fix_out(
     }
 }
 
-// Into the body of a `fix` by its variable.
+/// Into the body of a `fix` by its variable.
 fn fix_var(
     alloc: Global,
     channel: Channel,

@@ -90,6 +90,7 @@ box_bits_tell (s ∷ t) [] h = absurd (some_code s (box_bits t) (sym h))
 box_bits_tell (s ∷ t) (s' ∷ u) h = let (e, g) = none_begins s s' (box_bits t) (box_bits u) h in ap (λ s. s ∷ t) e ∙
     ap (λ t. s' ∷ t) (box_bits_tell t u g)
 
+-- work stacks of the same bits are the same
 pub work_bits_tell : (m k : Work) → work_bits m ≡ work_bits k → m ≡ k
 work_bits_tell [] [] h = refl
 work_bits_tell [] (R ∷ k) h = absurd cc

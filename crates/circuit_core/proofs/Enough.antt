@@ -68,6 +68,7 @@ count_above f s x (suc n) l =
     let g = ap one_of (set_other f s x n (λ e. omega arith)) in
     omega arith
 
+-- how many slots are taken after one of them was set: one less if it was taken, and one more if it is now
 count_set : (f : ℕ → Option Slot) (s : ℕ) (x : Option Slot) (n : ℕ) → s < n →
     count (set_slot f s x) n + one_of (f s) ≡ count f n + one_of x
 count_set f s x zero l = absurd (omega arith)

@@ -20,6 +20,7 @@ none_twice : (b : Bool) → ◌≡◌ {A = Option Entry} None (cond b None None)
 none_twice true = refl
 none_twice false = refl
 
+-- where a fork is closed nothing is kept at its key, and at every other key what was kept
 pub closed_at : (n : ℕ) (t : Boxes) (fs : List OpenFork) (m : ℕ) (u : Boxes) →
     fork_at (closed n t fs) m u ≡ cond (same_key m u n t) None (fork_at fs m u)
 closed_at n t [] m u = none_twice (same_key m u n t)

@@ -4,6 +4,7 @@ use Rattle.std.proofs.lemmas.List.{append_assoc, length-append}
 use Rattle.token_stacks.specs.Signatures.{Sig, star, left_of, right_of, pair_of, again, R, L, S, Work, Boxes}
 use Rattle.circuit_core.specs.Bits.{Bits, code, work_bits, box_bits, then_read, read, read_boxes, read_work}
 
+-- a signature is read back from its bits, whatever bits follow
 pub reads : (n : ℕ) (s : Sig) (bs : Bits) → length (code s) ≤ n → read n (code s ++ bs) ≡ Some (s, bs)
 reads zero star bs l = absurd (omega arith)
 reads zero (left_of s) bs l = absurd (omega arith)
@@ -45,6 +46,7 @@ reads_boxes (suc n) (s ∷ t) l =
     ap (λ o. then_read o [] (λ s r. s ∷ read_boxes n r)) (reads (suc n) s (box_bits t) (omega arith)) ∙
     ap (λ t. s ∷ t) (reads_boxes n t (omega arith))
 
+-- a work stack is read back from its bits
 pub reads_work : (n : ℕ) (m : Work) → length (work_bits m) ≤ n → read_work n (work_bits m) ≡ m
 reads_work zero [] l = refl
 reads_work (suc n) [] l = refl

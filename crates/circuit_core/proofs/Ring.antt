@@ -34,6 +34,7 @@ pub chain_more : (i : ℕ) (ring : List Waiting) (nx : ℕ) (r : Place) → Chai
 chain_more i [] nx r h = (h, omega arith)
 chain_more i (w ∷ ws) nx r h = (h.0, chain_more w.ticket ws nx r h.1)
 
+-- a question put behind the ring is found under its ticket, and every other ticket as before
 pub ring_more : (i : ℕ) (ring : List Waiting) (nx : ℕ) (r : Place) (j : ℕ) → Chain i ring nx →
     ring_at (ring ++ record { ticket = nx; place = r } ∷ []) j ≡ cond (nat_eq j nx) (Some (ask r)) (ring_at ring j)
 ring_more i [] nx r j h = refl

@@ -1,4 +1,5 @@
 //! What holds of rows, of the processor and of stacks as bits.
+
 ghost use Rattle.circuit_core.specs.RowLaws.{RowsMove};
 ghost use Rattle.circuit_core.specs.ProcessorLaws.{ProcessorFollows, ProcessorFires};
 ghost use Rattle.circuit_core.specs.BitLaws.{SpanFinds, NoneBegins, WorkBitsTell, BoxBitsTell, BitRows, LenFinds, RegisterTells};

@@ -8,7 +8,7 @@ ghost use Rattle.circuit_rows.specs.Views.{channel_of};
 use crate::row::Channel;
 use net_build::{Net, Node};
 
-// The wire of the first root, or 0.
+/// The wire of the first root, or 0.
 fn root_wire(nodes: &[Node]) -> u32
     ensures { result ≡ root_wire nodes.now }
 {

@@ -14,28 +14,28 @@ use move_rules::Seen;
 use net_build::{Net, Node};
 use pcf_values::{Operator, Side};
 
-// Up a wire.
+/// Up a wire.
 fn rises(wire: u32) -> Channel
     ensures { channel_of result ≡ rises wire }
 {
     Channel { wire, up: true }
 }
 
-// Down a wire.
+/// Down a wire.
 fn falls(wire: u32) -> Channel
     ensures { channel_of result ≡ falls wire }
 {
     Channel { wire, up: false }
 }
 
-// The first row at this wire, and else the second.
+/// The first row at this wire, and else the second.
 fn if_at(first: u32, wire: u32, row: Row, other: Row) -> Row
     ensures { row_view result ≡ if_at first wire (row_view row) (row_view other) }
 {
     if first == wire { row } else { other }
 }
 
-// The row of a token that comes down an operand of an operator.
+/// The row of a token that comes down an operand of an operator.
 fn join(operator: Operator, left: u32, down: u32, wire: u32) -> Row
     ensures { row_view result ≡ if_at left down (JOIN operator Left wire) (JOIN operator Right wire) }
 {
@@ -51,7 +51,7 @@ fn join(operator: Operator, left: u32, down: u32, wire: u32) -> Row
     }
 }
 
-// The row of a token that comes up a conclusion of a node.
+/// The row of a token that comes up a conclusion of a node.
 fn row_up(node: Node, wire: u32) -> Row
     ensures { row_view result ≡ row_up node wire }
 {
@@ -111,7 +111,7 @@ fn row_up(node: Node, wire: u32) -> Row
     }
 }
 
-// The row of a token that comes down a premise of a node.
+/// The row of a token that comes down a premise of a node.
 fn row_down(node: Node, wire: u32) -> Row
     ensures { row_view result ≡ row_down node wire }
 {
@@ -204,7 +204,7 @@ fn row_down(node: Node, wire: u32) -> Row
     }
 }
 
-// The row of a token that comes to a node by a channel.
+/// The row of a token that comes to a node by a channel.
 fn row_at(node: Node, channel: Channel) -> Row
     ensures { row_view result ≡ row_at node (channel_of channel) }
 {
@@ -215,7 +215,7 @@ fn row_at(node: Node, channel: Channel) -> Row
     }
 }
 
-// The number of the node to which a channel leads.
+/// The number of the node to which a channel leads.
 fn number(net: &Net, channel: Channel) -> Option<u32>
     ensures { result ≡ number_of (facing net.now (at (channel_of channel) [] [])) }
 {
@@ -226,7 +226,7 @@ fn number(net: &Net, channel: Channel) -> Option<u32>
     }
 }
 
-// The node to which a channel leads, with its number.
+/// The node to which a channel leads, with its number.
 fn seen(net: &Net, channel: Channel) -> Option<Seen>
     ensures { option_map numbered result ≡ facing net.now (at (channel_of channel) [] []) }
 {

@@ -26,7 +26,7 @@ pub fn rows(alloc: Global, net: &Net) -> Result<Vec<Option<Found>>, AllocError>
     Ok(rows)
 }
 
-// Appends both rows of a wire.
+/// Appends both rows of a wire.
 fn push_rows(rows: &mut Vec<Option<Found>>, net: &Net, wire: u32) -> Result<(), AllocError>
     ensures { OnOk result (map (λ r. option_map found_of r) rows.new.items ≡ map (λ r. option_map found_of r) rows.old.items
         ++ row_of net.now (rises wire) ∷ row_of net.now (falls wire) ∷ []) }

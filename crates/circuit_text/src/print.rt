@@ -58,7 +58,7 @@ pub fn push_circuit(text: &mut Vec<u8>, net: &Net, stack: u32, forks: u32) -> Re
     push_end(text, net)
 }
 
-// Appends the first line.
+/// Appends the first line.
 #[tactic(auto, unfolding(crate::specs::CircuitText::head_text))]
 fn push_head(text: &mut Vec<u8>, nodes: u64, wires: u64) -> Result<(), AllocError>
     ensures { OnOk result (text.new.items ≡ text.old.items ++ head_text nodes wires) }
@@ -68,7 +68,7 @@ fn push_head(text: &mut Vec<u8>, nodes: u64, wires: u64) -> Result<(), AllocErro
     text.extend_from_slice(b" wires, with a processor of one token.\n")
 }
 
-// Appends a size, behind its name.
+/// Appends a size, behind its name.
 #[tactic(auto, unfolding(crate::specs::CircuitText::size_text))]
 fn push_size(text: &mut Vec<u8>, name: &[u8], n: u64, comment: &[u8]) -> Result<(), AllocError>
     ensures { OnOk result (text.new.items ≡ text.old.items ++ size_text name.now n comment.now) }
@@ -81,7 +81,7 @@ fn push_size(text: &mut Vec<u8>, name: &[u8], n: u64, comment: &[u8]) -> Result<
     text.extend_from_slice(b"\n")
 }
 
-// Appends the sizes.
+/// Appends the sizes.
 fn push_sizes(
     text: &mut Vec<u8>,
     wires: u64,
@@ -103,7 +103,7 @@ fn push_sizes(
     Ok(())
 }
 
-// Appends both lines of each wire.
+/// Appends both lines of each wire.
 fn push_wires(text: &mut Vec<u8>, net: &Net, wires: &[Wire]) -> Result<(), AllocError>
     requires few { length wires.now < 2 ^ 32 }
     ensures { OnOk result (text.new.items ≡ text.old.items ++ lines_of (λ w k. wire_lines net.now w) 0 (map wire_of wires.now)) }
@@ -114,14 +114,14 @@ fn push_wires(text: &mut Vec<u8>, net: &Net, wires: &[Wire]) -> Result<(), Alloc
     Ok(())
 }
 
-// Appends the line of each row.
+/// Appends the line of each row.
 fn push_rows(text: &mut Vec<u8>, net: &Net) -> Result<(), AllocError>
     ensures { OnOk result (text.new.items ≡ text.old.items ++ rows_text net.now) }
 {
     push_wires(text, net, net.wires())
 }
 
-// Whether a node multiplies.
+/// Whether a node multiplies.
 fn is_times(node: Node) -> bool
     ensures { result ≡ is_times node }
 {
@@ -131,7 +131,7 @@ fn is_times(node: Node) -> bool
     }
 }
 
-// Whether one of the nodes multiplies.
+/// Whether one of the nodes multiplies.
 fn multiplies(nodes: &[Node]) -> bool
     ensures { result ≡ multiplies nodes.now }
 {
@@ -143,7 +143,7 @@ fn multiplies(nodes: &[Node]) -> bool
     false
 }
 
-// The product.
+/// The product.
 fn product(multiplies: bool) -> &'static [u8]
     ensures { result.now ≡ product_text multiplies }
 {
@@ -154,7 +154,7 @@ fn product(multiplies: bool) -> &'static [u8]
     }
 }
 
-// Appends what stands behind the rows.
+/// Appends what stands behind the rows.
 fn push_end(text: &mut Vec<u8>, net: &Net) -> Result<(), AllocError>
     ensures { OnOk result (text.new.items ≡ text.old.items
         ++ (middle_text ++ (product_text (multiplies net.now.nodes) ++ tail_text))) }

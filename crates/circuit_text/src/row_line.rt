@@ -13,7 +13,7 @@ use net_build::Net;
 use pcf_values::{Operator, Side};
 use std::alloc::AllocError;
 
-// The operation at an operator.
+/// The operation at an operator.
 fn join_name(operator: Operator, side: Side) -> &'static [u8]
     ensures { result.now ≡ join_text operator side }
 {
@@ -70,7 +70,7 @@ fn op_name(row: Row) -> &'static [u8]
     }
 }
 
-// Appends a word, a number and a semicolon.
+/// Appends a word, a number and a semicolon.
 fn push_field(text: &mut Vec<u8>, word: &[u8], n: u64) -> Result<(), AllocError>
     ensures { OnOk result (text.new.items ≡ text.old.items ++ (word.now ++ (decimal n ++ codes ";"))) }
 {
@@ -78,14 +78,14 @@ fn push_field(text: &mut Vec<u8>, word: &[u8], n: u64) -> Result<(), AllocError>
     text.extend_from_slice(b";")
 }
 
-// Appends a channel that a row sends to.
+/// Appends a channel that a row sends to.
 fn push_one(text: &mut Vec<u8>, channel: Channel) -> Result<(), AllocError>
     ensures { OnOk result (text.new.items ≡ text.old.items ++ one_text (channel_of channel)) }
 {
     push_field(text, b" to = ", number_of(channel))
 }
 
-// Appends both channels that a row sends to.
+/// Appends both channels that a row sends to.
 fn push_two(text: &mut Vec<u8>, channel: Channel, other: Channel) -> Result<(), AllocError>
     ensures { OnOk result (text.new.items ≡ text.old.items ++ two_text (channel_of channel) (channel_of other)) }
 {
@@ -93,7 +93,7 @@ fn push_two(text: &mut Vec<u8>, channel: Channel, other: Channel) -> Result<(), 
     push_field(text, b" other = ", number_of(other))
 }
 
-// Appends the channel and the number of a constant.
+/// Appends the channel and the number of a constant.
 fn push_constant(text: &mut Vec<u8>, value: u64, channel: Channel) -> Result<(), AllocError>
     ensures { OnOk result (text.new.items ≡ text.old.items
         ++ (one_text (channel_of channel) ++ (codes " number = 64'd" ++ (decimal value ++ codes ";")))) }
@@ -102,7 +102,7 @@ fn push_constant(text: &mut Vec<u8>, value: u64, channel: Channel) -> Result<(),
     push_field(text, b" number = 64'd", value)
 }
 
-// Appends what a row has behind its operation.
+/// Appends what a row has behind its operation.
 fn push_fields(text: &mut Vec<u8>, row: Row) -> Result<(), AllocError>
     ensures { OnOk result (text.new.items ≡ text.old.items ++ fields_text (row_view row)) }
 {
@@ -133,7 +133,7 @@ fn push_fields(text: &mut Vec<u8>, row: Row) -> Result<(), AllocError>
     }
 }
 
-// The word for a direction.
+/// The word for a direction.
 fn way(up: bool) -> &'static [u8]
     ensures { result.now ≡ if up then codes " end  // up " else codes " end  // down " }
 {
@@ -144,7 +144,7 @@ fn way(up: bool) -> &'static [u8]
     }
 }
 
-// Appends a row from its operation on, to the end of its part of the case.
+/// Appends a row from its operation on, to the end of its part of the case.
 #[tactic(auto, unfolding(crate::specs::RowText::row_text))]
 fn push_row(text: &mut Vec<u8>, row: Row) -> Result<(), AllocError>
     ensures { OnOk result (text.new.items ≡ text.old.items ++ row_text (row_view row)) }
@@ -154,7 +154,7 @@ fn push_row(text: &mut Vec<u8>, row: Row) -> Result<(), AllocError>
     push_fields(text, row)
 }
 
-// Appends the end of a line: its channel by name, and its node.
+/// Appends the end of a line: its channel by name, and its node.
 #[tactic(auto, unfolding(crate::specs::RowText::comment_text))]
 fn push_comment(text: &mut Vec<u8>, channel: Channel, node: u32) -> Result<(), AllocError>
     ensures { OnOk result (text.new.items ≡ text.old.items ++ comment_text (channel_of channel) node) }
@@ -164,7 +164,7 @@ fn push_comment(text: &mut Vec<u8>, channel: Channel, node: u32) -> Result<(), A
     text.extend_from_slice(b"\n")
 }
 
-// Appends the line of a row that was found.
+/// Appends the line of a row that was found.
 fn push_found(text: &mut Vec<u8>, channel: Channel, found: Found) -> Result<(), AllocError>
     ensures { OnOk result (text.new.items ≡ text.old.items ++ row_line (channel_of channel) (Some (found_of found))) }
 {
@@ -174,7 +174,7 @@ fn push_found(text: &mut Vec<u8>, channel: Channel, found: Found) -> Result<(), 
     push_comment(text, channel, found.node)
 }
 
-// Appends the line of a channel's row, where it has one.
+/// Appends the line of a channel's row, where it has one.
 fn push_channel(text: &mut Vec<u8>, net: &Net, channel: Channel) -> Result<(), AllocError>
     ensures { OnOk result (text.new.items ≡ text.old.items ++ row_line (channel_of channel) (row_of net.now (channel_of channel))) }
 {

@@ -21,7 +21,7 @@ pub(crate) struct Sizes {
     pub(crate) forks: u32,
 }
 
-// One cycle. Registers that no test has are answered with want of memory, which fails the test.
+/// One cycle. Registers that no test has are answered with want of memory, which fails the test.
 fn cycle(alloc: Global, net: &Net, stack: u32, circuit: &mut Circuit) -> Result<(), AllocError> {
     if circuit.moves > 10_000 || circuit.slots.len() > 1024 {
         return Err(AllocError);
@@ -29,7 +29,7 @@ fn cycle(alloc: Global, net: &Net, stack: u32, circuit: &mut Circuit) -> Result<
     tick(alloc, net, stack, circuit)
 }
 
-// So many cycles.
+/// So many cycles.
 fn ticked(alloc: Global, net: &Net, sizes: Sizes, cycles: usize) -> Result<Circuit, AllocError> {
     let mut circuit = powered(alloc, net, sizes.forks)?;
     for _ in 0..cycles {
@@ -38,7 +38,7 @@ fn ticked(alloc: Global, net: &Net, sizes: Sizes, cycles: usize) -> Result<Circu
     Ok(circuit)
 }
 
-// Where the one worker's next move is made.
+/// Where the one worker's next move is made.
 fn place(core: &Core) -> Option<Channel> {
     let ticket = core.least_live()?;
     let token = core.token(ticket)?;
@@ -48,7 +48,7 @@ fn place(core: &Core) -> Option<Channel> {
     })
 }
 
-// Where the circuit's next move is made.
+/// Where the circuit's next move is made.
 fn stands(circuit: &Circuit) -> Option<Channel> {
     match &circuit.live {
         Some(token) => Some(token.channel),
@@ -56,7 +56,7 @@ fn stands(circuit: &Circuit) -> Option<Channel> {
     }
 }
 
-// The one worker's next move, of a run of so many moves.
+/// The one worker's next move, of a run of so many moves.
 fn go(net: &Net, core: &mut Core, moves: u32, ticket: u32) -> Result<Stepped, AllocError>
     requires runs { Runs net.now }
     requires short { moves < 10000 }
@@ -70,7 +70,7 @@ fn go(net: &Net, core: &mut Core, moves: u32, ticket: u32) -> Result<Stepped, Al
     }
 }
 
-// Whether the circuit moves where the one worker does, cycle by cycle, has its answer, and isn't full.
+/// Whether the circuit moves where the one worker does, cycle by cycle, has its answer, and isn't full.
 fn along(alloc: Global, net: &Net, sizes: Sizes) -> Result<bool, AllocError>
     requires { Runs net.now }
 {
@@ -97,7 +97,7 @@ pub(crate) fn goes_along(alloc: Global, program: &str, sizes: Sizes) -> Result<b
     along(alloc, &net, sizes)
 }
 
-// Whether a circuit has the run's answer after as many cycles as there are moves, and not before.
+/// Whether a circuit has the run's answer after as many cycles as there are moves, and not before.
 fn agreed(alloc: Global, net: &Net, sizes: Sizes) -> Result<bool, AllocError>
     requires { Runs net.now }
 {

@@ -41,7 +41,7 @@ pub(crate) fn hand_line(alloc: Global, bytes: &[u8]) -> Result<String, AllocErro
 ///
 /// # Errors
 ///
-/// The first fault of the text, exactly when it has one. Or memory ran out.
+/// The first fault of the text, exactly when it has one. Or it runs out of memory.
 fn run_by_hand(alloc: Global, bytes: &[u8]) -> Result<Walked, NoRun>
     ensures walked { IfOk result (λ r. WalksText bytes.now r.answer r.moves) }
     ensures fault { IfErr result (λ e. NoRunFor (FaultyProgram number bytes.now) e) }

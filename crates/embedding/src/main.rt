@@ -22,6 +22,7 @@ use std::io::Read;
 use std::sync::Wait;
 use std::thread::Threads;
 
+/// Reads the whole standard input, and prints what is told of it.
 fn main(rt: HostRuntime) -> io::Result<()> {
     let alloc = rt.alloc();
     let mut bytes = Vec::new(alloc);

@@ -20,6 +20,7 @@ pub(crate) fn place_of(fault: ProgramFault) -> Option<u32>
     }
 }
 
+/// The place of a fault of reading, if it has one.
 fn read_place(fault: ReadFault) -> Option<u32>
     ensures { result ≡ read_place fault }
 {
@@ -34,6 +35,7 @@ fn read_place(fault: ReadFault) -> Option<u32>
     }
 }
 
+/// The place of a fault of scope or type, if it has one.
 fn type_place(fault: TypeFault) -> Option<u32>
     ensures { result ≡ type_place fault }
 {
@@ -48,6 +50,7 @@ fn type_place(fault: TypeFault) -> Option<u32>
     }
 }
 
+/// The place of a part that can't be called by value, if the fault has one.
 fn by_value_place(fault: ByValueFault) -> Option<u32>
     ensures { result ≡ by_value_place fault }
 {

@@ -1,4 +1,5 @@
-// Maps of maps, and the one entry of them that a call changes.
+//! Maps of maps, and the one entry of them that a call changes.
+
 ghost use Rattle.std.specs.Prelude.{◌≡◌, ◌↔◌, Some, None, IsSome, IsTrue, OnOk, OnErr};
 ghost use Rattle.std.specs.BTreeMap as tree;
 ghost use Rattle.std.specs.BTreeMap.{IsUnchanged, IsOrdered};
@@ -23,12 +24,13 @@ pub enum Kept {
     Right(Val),
 }
 
-// The open forks of one node.
+/// The open forks of one node.
 pub(crate) type Forks = BTreeMap<BoxStack, Kept>;
 
-// The open forks of all nodes.
+/// The open forks of all nodes.
 pub(crate) type Nodes = BTreeMap<u32, Forks>;
 
+/// Opens an entry, in which this is kept from the beginning.
 fn open(forks: &mut Forks, boxes: BoxStack, kept: Kept) -> Result<(), AllocError>
     ensures ok { OnOk result (PutsIn forks.old forks.new boxes (Some kept)) }
     ensures err { OnErr result (IsUnchanged forks.old forks.new) }
@@ -37,6 +39,7 @@ fn open(forks: &mut Forks, boxes: BoxStack, kept: Kept) -> Result<(), AllocError
     Ok(())
 }
 
+/// A value as it is kept for a side.
 fn kept_value(side: Side, v: Val) -> Kept
     ensures { result ≡ kept_at side v }
 {
@@ -46,7 +49,7 @@ fn kept_value(side: Side, v: Val) -> Kept
     }
 }
 
-// Keeps the value in the entry that is there, where nothing is kept yet, and else answers what is kept.
+/// Keeps the value in the entry that is there, where nothing is kept yet, and else answers what is kept.
 fn keep_first(forks: &mut Forks, boxes: &BoxStack, side: Side, v: Val) -> Arrived
     requires { IsSome (tree.get box_cmp forks.old boxes.now) }
     ensures arrived { result ≡ arrival_at (tree.get box_cmp forks.old boxes.now) }
@@ -58,7 +61,7 @@ fn keep_first(forks: &mut Forks, boxes: &BoxStack, side: Side, v: Val) -> Arrive
     }
 }
 
-// The same at the place of the entry.
+/// The same at the place of the entry.
 fn keep(place: &mut Kept, side: Side, v: Val) -> Arrived
     ensures arrived { result ≡ arrival_at (Some place.old) }
     ensures rest { Some place.new ≡ kept_first (Some place.old) side v }
@@ -72,14 +75,14 @@ fn keep(place: &mut Kept, side: Side, v: Val) -> Arrived
     }
 }
 
-// Takes an entry out.
+/// Takes an entry out.
 fn close(forks: &mut Forks, boxes: &BoxStack)
     ensures { PutsIn forks.old forks.new boxes.now None }
 {
     forks.remove(boxes);
 }
 
-// Brings an answer to the fork of one node.
+/// Brings an answer to the fork of one node.
 fn land(forks: &mut Forks, boxes: &BoxStack, side: Side, v: Val) -> Arrived
     requires { IsSome (tree.get box_cmp forks.old boxes.now) }
     ensures arrived { result ≡ arrival_at (tree.get box_cmp forks.old boxes.now) }
@@ -92,7 +95,7 @@ fn land(forks: &mut Forks, boxes: &BoxStack, side: Side, v: Val) -> Arrived
     arrived
 }
 
-// Puts an entry with what it keeps into the map of its node. Where memory runs out no entry is another one.
+/// Puts an entry with what it keeps into the map of its node. Where memory runs out no entry is another one.
 pub(crate) fn put_in(
     nodes: &mut Nodes,
     alloc: Global,
@@ -116,7 +119,7 @@ pub(crate) fn put_in(
     Ok(())
 }
 
-// Brings an answer to its entry.
+/// Brings an answer to its entry.
 pub(crate) fn arrive_in(
     nodes: &mut Nodes,
     node: u32,
@@ -136,7 +139,7 @@ pub(crate) fn arrive_in(
     }
 }
 
-// Takes an entry out, if it is there.
+/// Takes an entry out, if it is there.
 pub(crate) fn remove_in(nodes: &mut Nodes, node: u32, boxes: &BoxStack)
     requires { IsOrdered nat_cmp nodes.old }
     ensures rest { Puts nodes.old nodes.new node boxes.now None }
@@ -148,7 +151,7 @@ pub(crate) fn remove_in(nodes: &mut Nodes, node: u32, boxes: &BoxStack)
     }
 }
 
-// Whether there is an entry.
+/// Whether there is an entry.
 pub(crate) fn has_in(nodes: &Nodes, node: u32, boxes: &BoxStack) -> bool
     ensures { IsTrue result ↔ IsSome (entry_at nodes.now node boxes.now) }
 {

@@ -1,4 +1,5 @@
-// The open entries, one after the other.
+//! The open entries, one after the other.
+
 ghost use Rattle.std.specs.Prelude.{◌≡◌, ◌++◌, OnOk, IfOk, map};
 ghost use Rattle.std.specs.BTreeMap.{IsOrdered};
 ghost use Rattle.token_stacks.specs.Order.{box_cmp};
@@ -21,7 +22,7 @@ pub struct Open<'a> {
     pub kept: Kept,
 }
 
-// Lists the entries of one node behind those of the nodes before it.
+/// Lists the entries of one node behind those of the nodes before it.
 fn list_forks<'a>(list: &mut Vec<Open<'a>>, node: u32, forks: &'a Forks) -> Result<(), AllocError>
     ensures listed { OnOk result (map open_of list.new.items ≡ map open_of list.old.items ++ tagged node forks.now.entries) }
     ensures ordered { IsOrdered box_cmp forks.now }
@@ -36,7 +37,7 @@ fn list_forks<'a>(list: &mut Vec<Open<'a>>, node: u32, forks: &'a Forks) -> Resu
     Ok(())
 }
 
-// Lists the entries of all nodes, by node and then by box stack.
+/// Lists the entries of all nodes, by node and then by box stack.
 pub(crate) fn list_nodes<'a>(alloc: Global, nodes: &'a Nodes) -> Result<Vec<Open<'a>>, AllocError>
     ensures { IfOk result (λ list. map open_of list.items ≡ entries (table_of nodes.now)) }
 {

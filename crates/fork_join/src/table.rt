@@ -1,4 +1,5 @@
-// The table of open forks.
+//! The table of open forks.
+
 ghost use Rattle.std.specs.Prelude.{◌≡◌, ◌↔◌, ℕ, None, IsSome, IsTrue, OnOk, OnErr, IfOk, map};
 ghost use Rattle.std.specs.Option.{option_or};
 ghost use Rattle.std.specs.FinMap.{empty, entries, get, insert, remove};
@@ -72,7 +73,7 @@ impl JoinTable {
     ///
     /// # Errors
     ///
-    /// Want of memory; the table is as it was, and the box stack is dropped.
+    /// It runs out of memory; the table is as it was, and the box stack is dropped.
     pub fn begin(&mut self, node: u32, boxes: BoxStack) -> Result<(), AllocError>
         requires { get self.old (node, boxes) ≡ None }
         ensures ok { OnOk result (self.new ≡ insert self.old (node, boxes) pending) }
@@ -81,8 +82,8 @@ impl JoinTable {
         self.put(node, boxes, Kept::Nothing)
     }
 
-    // Puts an entry under a node and a box stack, in the place of what is there. All other entries stay. Where memory runs out the table is
-    // as it was, and the box stack is dropped.
+    /// Puts an entry under a node and a box stack, in the place of what is there. All other entries stay. Where memory runs out the table
+    /// is as it was, and the box stack is dropped.
     pub(crate) fn put(&mut self, node: u32, boxes: BoxStack, kept: Kept) -> Result<(), AllocError>
         ensures ok { OnOk result (self.new ≡ insert self.old (node, boxes) (entry_of kept)) }
         ensures err { OnErr result (self.new ≡ self.old) }
@@ -90,7 +91,7 @@ impl JoinTable {
         put_in(&mut self.nodes, self.alloc, node, boxes, kept)
     }
 
-    // Takes the entry of a node and a box stack out, if it is there. All other entries stay. Takes no memory.
+    /// Takes the entry of a node and a box stack out, if it is there. All other entries stay. Takes no memory.
     pub(crate) fn remove(&mut self, node: u32, boxes: &BoxStack)
         ensures { self.new ≡ remove self.old (node, boxes.now) }
     {
@@ -109,7 +110,7 @@ impl JoinTable {
     ///
     /// # Errors
     ///
-    /// Out of memory; the table is as it was.
+    /// It runs out of memory; the table is as it was.
     pub fn add_all(&mut self, other: &JoinTable) -> Result<(), AllocError>
         requires { (n : ℕ) (t : Boxes) → IsSome (get other.now (n, t)) → get self.old (n, t) ≡ None }
         ensures ok { OnOk result ((n : ℕ) (t : Boxes) → get self.new (n, t) ≡ option_or (get other.now (n, t)) (get self.old (n, t))) }

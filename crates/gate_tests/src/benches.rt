@@ -1,4 +1,5 @@
 //! A bench of numbers.
+
 ghost use Rattle.std.specs.Prelude.{◌≡◌};
 
 use gate_workers::{Bench, Turn};

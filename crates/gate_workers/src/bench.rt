@@ -1,4 +1,5 @@
-// What workers share.
+//! What workers share.
+
 ghost use Rattle.std.specs.Prelude.{◌≡◌, ℕ, IfOk, OnErr};
 ghost use Rattle.gate_workers.specs.declared.turn.Turn.{Turn};
 

@@ -1,14 +1,15 @@
-// What stands behind the lock: the bench, and who sleeps beside it.
+//! What stands behind the lock: the bench, and who sleeps beside it.
+
 ghost use Rattle.std.specs.Prelude.{◌≡◌, ◌+◌, ◌-◌, ◌≤◌, IfSome, IfNone, IfOk, OnErr};
 ghost use Rattle.gate_workers.specs.Served.{HandedIn, Asked, Reached, Halted};
 
 use crate::{Bench, Turn};
 use std::alloc::AllocError;
 
-// What a worker brings: nothing, what it made of its piece, or want of memory.
+/// What a worker brings: nothing, what it made of its piece, or want of memory.
 pub(crate) type Brought<M> = Option<Result<M, AllocError>>;
 
-// Hands in what the worker made, if it made something.
+/// Hands in what the worker made, if it made something.
 fn hand_in<B: Bench>(
     bench: &mut B,
     worker: u32,
@@ -24,7 +25,7 @@ fn hand_in<B: Bench>(
     }
 }
 
-// Hands in, and asks what to do next.
+/// Hands in, and asks what to do next.
 fn ask<B: Bench>(
     bench: &mut B,
     worker: u32,
@@ -37,7 +38,7 @@ fn ask<B: Bench>(
     bench.turn(worker)
 }
 
-// Hands in, and asks what to do next; or stops the bench for want of memory, and has no answer.
+/// Hands in, and asks what to do next; or stops the bench for want of memory, and has no answer.
 fn serve<B: Bench>(bench: &mut B, worker: u32, brought: Brought<B::Made>) -> Option<Turn<B::Piece>>
     ensures asked { IfSome result (λ turn. Asked B.takes_in B.gives bench.old worker brought turn bench.new) }
     ensures stopped { IfNone result (Halted B.takes_in B.halts bench.old worker brought bench.new) }
@@ -51,8 +52,8 @@ fn serve<B: Bench>(bench: &mut B, worker: u32, brought: Brought<B::Made>) -> Opt
     }
 }
 
-// The bench, and how many workers sleep until there is something to do for them. A sleeper that was called and hasn't come yet counts
-// as called; all others count as asleep.
+/// The bench, and how many workers sleep until there is something to do for them. A sleeper that was called and hasn't come yet counts
+/// as called; all others count as asleep.
 #[derive(Drop)]
 pub(crate) struct Desk<B: Bench> {
     pub(crate) bench: B,
@@ -61,7 +62,7 @@ pub(crate) struct Desk<B: Bench> {
 }
 
 impl<B: Bench> Desk<B> {
-    // A bench beside which nobody sleeps.
+    /// A bench beside which nobody sleeps.
     pub(crate) fn over(bench: B) -> Desk<B>
         ensures { result.bench ≡ bench }
     {
@@ -72,7 +73,7 @@ impl<B: Bench> Desk<B> {
         }
     }
 
-    // How many sleepers to call after a booking: one for each piece for which none was called yet, as far as there are sleepers.
+    /// How many sleepers to call after a booking: one for each piece for which none was called yet, as far as there are sleepers.
     fn call(&mut self) -> u32
         ensures bench { self.new.bench ≡ self.old.bench }
         ensures asleep { self.new.asleep + result ≡ self.old.asleep }
@@ -84,7 +85,7 @@ impl<B: Bench> Desk<B> {
         calls
     }
 
-    // Serves a worker, and says how many sleepers to call: none where nothing was handed in.
+    /// Serves a worker, and says how many sleepers to call: none where nothing was handed in.
     pub(crate) fn attend(
         &mut self,
         worker: u32,
@@ -99,14 +100,14 @@ impl<B: Bench> Desk<B> {
         (turn, calls)
     }
 
-    // One worker more sleeps.
+    /// One worker more sleeps.
     pub(crate) fn lie_down(&mut self)
         ensures { self.new.bench ≡ self.old.bench }
     {
         self.asleep = self.asleep.saturating_add(1);
     }
 
-    // A sleeper came back.
+    /// A sleeper came back.
     pub(crate) fn get_up(&mut self)
         ensures { self.new.bench ≡ self.old.bench }
     {

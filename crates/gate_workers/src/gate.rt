@@ -1,4 +1,5 @@
-// What stands between a worker and its piece.
+//! What stands between a worker and its piece.
+
 ghost use Rattle.std.specs.Prelude.{ℕ};
 
 /// What a worker passes while it has a piece and not the lock. It sees neither the bench nor the piece.

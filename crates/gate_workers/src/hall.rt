@@ -1,4 +1,5 @@
-// Where workers meet: the lock, and the call that wakes those who sleep beside it.
+//! Where workers meet: the lock, and the call that wakes those who sleep beside it.
+
 ghost use Rattle.std.specs.Prelude.{◌≡◌, IfSome, IfNone};
 ghost use Rattle.gate_workers.specs.Working.{Given, TakenIn, Stopped};
 
@@ -7,8 +8,8 @@ use crate::{Bench, Turn};
 use std::hint::spin_loop;
 use std::sync::{Condvar, Mutex, MutexGuard, Wait};
 
-// How often a worker looks whether the lock is free before it sleeps beside it. A turn holds the lock for a microsecond or two, and to be
-// woken takes a sleeper many times as long.
+/// How often a worker looks whether the lock is free before it sleeps beside it. A turn holds the lock for a microsecond or two, and to be
+/// woken takes a sleeper many times as long.
 const LOOKS: u32 = 1000;
 
 pub(crate) struct Hall<B: Bench> {
@@ -17,7 +18,7 @@ pub(crate) struct Hall<B: Bench> {
 }
 
 impl<B: Bench> Hall<B> {
-    // A hall with this bench, in which nobody sleeps.
+    /// A hall with this bench, in which nobody sleeps.
     pub(crate) fn over(bench: B) -> Hall<B> {
         Hall {
             desk: Mutex::new(Desk::over(bench)),
@@ -25,14 +26,14 @@ impl<B: Bench> Hall<B> {
         }
     }
 
-    // The bench, when all have left.
+    /// The bench, when all have left.
     pub(crate) fn into_bench(self) -> B {
         let Hall { desk, booked: _ } = self;
         desk.into_inner().bench
     }
 }
 
-// Takes the lock: it looks for a while whether it is free, and sleeps until it is.
+/// Takes the lock: it looks for a while whether it is free, and sleeps until it is.
 fn enter<'h, R: Wait, B: Bench>(rt: &R, hall: &'h Hall<B>) -> MutexGuard<'h, Desk<B>> {
     for _ in 0..LOOKS {
         if let Some(desk) = hall.desk.try_lock() {
@@ -43,21 +44,21 @@ fn enter<'h, R: Wait, B: Bench>(rt: &R, hall: &'h Hall<B>) -> MutexGuard<'h, Des
     hall.desk.lock(rt)
 }
 
-// Wakes so many sleepers.
+/// Wakes so many sleepers.
 fn wake<B: Bench>(hall: &Hall<B>, calls: u32) {
     for _ in 0..calls {
         hall.booked.notify_one();
     }
 }
 
-// Lets the lock go and sleeps until it is called.
+/// Lets the lock go and sleeps until it is called.
 fn sleep<R: Wait, B: Bench>(rt: &R, hall: &Hall<B>, mut desk: MutexGuard<'_, Desk<B>>) {
     desk.lie_down();
     let mut desk = hall.booked.wait(rt, desk);
     desk.get_up();
 }
 
-// Wakes whom there is something for, and lets the lock go; in a pause it sleeps, and the last to be served wakes all.
+/// Wakes whom there is something for, and lets the lock go; in a pause it sleeps, and the last to be served wakes all.
 fn leave<R: Wait, B: Bench>(
     rt: &R,
     hall: &Hall<B>,
@@ -81,8 +82,8 @@ fn leave<R: Wait, B: Bench>(
     }
 }
 
-// One turn of a worker at the desk: what is brought is handed in, and the turn asked for; and after a pause the worker has slept. No
-// answer says that the bench was stopped for want of memory.
+/// One turn of a worker at the desk: what is brought is handed in, and the turn asked for; and after a pause the worker has slept. No
+/// answer says that the bench was stopped for want of memory.
 pub(crate) fn attend<R: Wait, B: Bench>(
     rt: &R,
     hall: &Hall<B>,

@@ -1,4 +1,4 @@
-// What a bench answers a worker.
+//! What a bench answers a worker.
 
 /// What a worker is told to do.
 #[derive(Drop)]

@@ -1,7 +1,8 @@
-// A worker, and what it may do: ask while it has no piece, and make something of the piece that it has.
-//
-// Neither type may be let go. So what a worker brings is handed in before anything else, each piece that it is given is worked, and a
-// worker that was given none can't ask again.
+//! A worker, and what it may do: ask while it has no piece, and make something of the piece that it has.
+//!
+//! Neither type may be let go. So what a worker brings is handed in before anything else, each piece that it is given is worked, and a
+//! worker that was given none can't ask again.
+
 ghost use Rattle.std.specs.Prelude.{◌≡◌, ◌+◌, ◌-◌, ◌^◌, min, None, IfSome, IfNone, IfOk, IfErr};
 ghost use Rattle.gate_workers.specs.declared.turn.Turn.TheVariants.{Piece};
 ghost use Rattle.gate_workers.specs.Working.{Given, TakenIn, GoesHome, Leaves, Brings};
@@ -12,14 +13,14 @@ use crate::{Bench, Gate, Turn};
 use std::alloc::Global;
 use std::sync::Wait;
 
-// A worker with no piece: its number, how often it has passed the gate, and what it brings.
+/// A worker with no piece: its number, how often it has passed the gate, and what it brings.
 pub(crate) struct Idle<B: Bench> {
     number: u32,
     turns: u64,
     brought: Brought<B::Made>,
 }
 
-// A worker with a piece.
+/// A worker with a piece.
 pub(crate) struct Busy<B: Bench> {
     number: u32,
     turns: u64,
@@ -27,7 +28,7 @@ pub(crate) struct Busy<B: Bench> {
 }
 
 impl<B: Bench> Idle<B> {
-    // The worker of this number, before its first turn.
+    /// The worker of this number, before its first turn.
     pub(crate) fn new(number: u32) -> Idle<B>
         ensures number { result.number ≡ number }
         ensures turns { result.turns ≡ 0 }
@@ -40,7 +41,7 @@ impl<B: Bench> Idle<B> {
         }
     }
 
-    // One turn at the desk: a piece, or a pause after which it may ask again, or nothing any more.
+    /// One turn at the desk: a piece, or a pause after which it may ask again, or nothing any more.
     fn visit<R: Wait>(self, rt: &R, hall: &Hall<B>) -> Option<Result<Busy<B>, Idle<B>>>
         ensures same { IfSome result (λ r. IfOk r (λ b. (b.number ≡ self.number) × (b.turns ≡ self.turns))) }
         ensures given { IfSome result (λ r. IfOk r (λ b. Given B.gives b.number (Piece b.piece))) }
@@ -69,7 +70,7 @@ impl<B: Bench> Idle<B> {
         }
     }
 
-    // Asks again after each pause, until there is a piece; or there will be none any more.
+    /// Asks again after each pause, until there is a piece; or there will be none any more.
     fn wait<R: Wait>(self, rt: &R, hall: &Hall<B>) -> Option<Busy<B>>
         ensures same { IfSome result (λ b. (b.number ≡ self.number) × (b.turns ≡ self.turns)) }
         ensures given { IfSome result (λ b. Given B.gives b.number (Piece b.piece)) }
@@ -85,7 +86,7 @@ impl<B: Bench> Idle<B> {
         unreachable!()
     }
 
-    // Hands in what is brought, and waits for a piece; or there will be none any more.
+    /// Hands in what is brought, and waits for a piece; or there will be none any more.
     pub(crate) fn ask<R: Wait>(self, rt: &R, hall: &Hall<B>) -> Option<Busy<B>>
         ensures same { IfSome result (λ b. (b.number ≡ self.number) × (b.turns ≡ self.turns)) }
         ensures given { IfSome result (λ b. Given B.gives b.number (Piece b.piece)) }
@@ -100,7 +101,7 @@ impl<B: Bench> Idle<B> {
 }
 
 impl<B: Bench> Busy<B> {
-    // Passes the gate, and works the piece.
+    /// Passes the gate, and works the piece.
     pub(crate) fn make<G: Gate>(self, alloc: Global, tool: &B::Tool, gate: &G) -> Idle<B>
         ensures number { result.number ≡ self.number }
         ensures turns { result.turns ≡ min (self.turns + 1) (2 ^ 64 - 1) }
@@ -121,7 +122,7 @@ impl<B: Bench> Busy<B> {
     }
 }
 
-// The number of the turn after this one.
+/// The number of the turn after this one.
 fn next_turn(turn: u64) -> u64
     ensures { result ≡ min (turn + 1) (2 ^ 64 - 1) }
 {

@@ -1,4 +1,5 @@
-// The workers, each in its loop.
+//! The workers, each in its loop.
+
 ghost use Rattle.std.specs.Prelude.{◌≡◌, ◌<◌, ◌≤◌, ◌+◌, ◌-◌};
 ghost use Rattle.gate_workers.specs.Working.{GoesHome, AllGoHome};
 
@@ -32,7 +33,7 @@ pub fn drive<R: Threads + Wait + Sync, B: Bench, G: Gate>(
     hall.into_bench()
 }
 
-// Runs the workers from the one number to below the other, the halves of them side by side.
+/// Runs the workers from the one number to below the other, the halves of them side by side.
 fn work_from<R: Threads + Wait + Sync, B: Bench, G: Gate>(
     rt: &R,
     alloc: Global,
@@ -63,7 +64,7 @@ fn work_from<R: Threads + Wait + Sync, B: Bench, G: Gate>(
     );
 }
 
-// Lets one worker ask, pass the gate and work, until there is no piece for it any more.
+/// Lets one worker ask, pass the gate and work, until there is no piece for it any more.
 fn work_as<R: Wait, B: Bench, G: Gate>(
     rt: &R,
     alloc: Global,

@@ -24,7 +24,7 @@ pub enum Judged {
 ///
 /// # Errors
 ///
-/// Want of memory.
+/// It runs out of memory.
 pub fn judge_program(alloc: Global, bytes: &[u8], budget: u32) -> Result<Judged, AllocError>
     requires some { 1 ≤ budget }
     requires few { budget ≤ most_job_budget }

@@ -26,7 +26,7 @@ use token_pool::Ended;
 ///
 /// # Errors
 ///
-/// Want of memory.
+/// It runs out of memory.
 pub fn report_batch<R: Threads + Wait + Sync, G: Gate>(
     rt: &R,
     alloc: Global,

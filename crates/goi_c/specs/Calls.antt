@@ -127,6 +127,6 @@ pub record CallsTell (bytes : List ℕ) (budget flags : ℕ) (a : Answer) (b : B
 
 -- ---- the version
 
--- 1.0.0
+-- 1.1.0, as the file VERSION at the top has it
 abbrev pub version : ℕ
-version = 10000
+version = 10100

@@ -9,6 +9,7 @@ use std::process::ExitCode;
 use std::rt::Env;
 use std::{env, io};
 
+/// Calls `goi` on what the process was given, and ends with its status.
 fn main(rt: HostRuntime) -> ExitCode {
     let alloc = rt.alloc();
     let mut files = DiskFiles::new(&rt);

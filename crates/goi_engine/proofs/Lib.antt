@@ -12,3 +12,5 @@ pub mod Settled
 pub mod Writing
 -- a right answer that is delivered keeps the promise
 pub mod Kept
+-- the headline follows from the promise
+pub mod Headlines

@@ -254,6 +254,7 @@ told_cons : (files : FilesState) (workers : ℕ) (line : BatchLine) (lines : Lis
 told_cons files workers line lines p ps one more [] h = h
 told_cons files workers line lines p ps one more (s ∷ ss) (h, hs) = (one s h, more ss hs)
 
+-- for programs that were judged by what the files may have, there are texts by which they were
 pub choose : (files : FilesState) (workers : ℕ) (lines : List BatchLine) (js : List Judged) → AreJudgedIn files lines js →
     Chosen files workers lines js
 choose files workers [] [] h = record { texts = []; judged = tt; told = told_none files workers; count = refl }

@@ -181,6 +181,7 @@ schedule_goes : (r : Result (List ℕ) ScheduleFault) (v text : List ℕ) → Sa
 schedule_goes r v text (inl e) h = subst (λ (b : List ℕ). ReadAs b r) e h
 schedule_goes r v text (inr n) h = much_too_long v text r n.0 n.1 h
 
+-- a report on a schedule's text is one on every text that is the same up to the limit
 pub replay_goes : (t : TermTree) (window : Option Window) (o : Output) (v text : List ℕ) → Same most_schedule_bytes v text →
     ReportsReplay t window v o →
     ReportsReplay t window text o

@@ -1,3 +1,5 @@
+-- the headline, for whoever reads nothing else
+pub mod Headline
 -- what a reader has to believe: the promise, what comes of a job, what may be said of files, and how texts are written
 pub mod Promise
 pub mod Deeds

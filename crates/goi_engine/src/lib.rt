@@ -8,7 +8,9 @@
 mod answer;
 mod batching;
 mod deliver;
+mod headline;
 mod load;
 mod top;
 
+pub use headline::law_headline;
 pub use top::goi;

@@ -26,6 +26,7 @@ moves_short moves few =
     let d : length x ≤ 10 = length-decimal-le 10 moves (omega arith) (omega arith) (omega arith) in
     omega (arith, d, length-append (codes "moves ") (x ++ codes "\n"), length-append x (codes "\n"))
 
+-- the report with neither schedule nor tally is short
 plain_brief : (answer : Option Val) (log : List Entry) (workers : ℕ) → AnswerFits answer → length log < 2 ^ 32 →
     length (run_report answer log workers false false) ≤ most_line
 plain_brief answer log workers fits few =

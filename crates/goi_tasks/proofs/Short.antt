@@ -7,6 +7,7 @@ use Rattle.goi_tasks.specs.Refusals.{most_line, plain_line, placed_line, inner_l
 pub plain_short : (name : List ℕ) → length name ≤ 20 → length (plain_line name) ≤ most_line
 plain_short name h = omega (arith, h, length-append (codes "refused: ") (name ++ codes "\n"), length-append name (codes "\n"))
 
+-- a short name and a place make a short line
 pub placed_short : (name : List ℕ) (at : ℕ) → length name ≤ 20 → at < 2 ^ 32 → length (placed_line name at) ≤ most_line
 placed_short name at h fits =
     let place = decimal at in
@@ -21,6 +22,7 @@ placed_short name at h fits =
       length-append place (codes ")\n"),
     )
 
+-- and so do they within `NotSound`
 pub inner_short : (name : List ℕ) (at : ℕ) → length name ≤ 20 → at < 2 ^ 32 → length (inner_line name at) ≤ most_line
 inner_short name at h fits =
     let place = decimal at in
@@ -35,6 +37,7 @@ inner_short name at h fits =
       length-append place (codes "))\n"),
     )
 
+-- a short name, a place and a ticket make a short line
 pub ticket_short : (name : List ℕ) (at ticket : ℕ) → length name ≤ 20 → at < 2 ^ 32 → ticket < 2 ^ 32 →
     length (ticket_line name at ticket) ≤ most_line
 ticket_short name at ticket h fits few =

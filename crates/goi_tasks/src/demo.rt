@@ -28,7 +28,7 @@ const BUDGET: u32 = 1_000_000;
 ///
 /// # Errors
 ///
-/// Want of memory.
+/// It runs out of memory.
 pub fn report_demo<R: Threads + Wait + Sync, G: Gate>(
     rt: &R,
     alloc: Global,

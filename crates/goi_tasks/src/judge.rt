@@ -30,7 +30,7 @@ use std::thread::Threads;
 ///
 /// # Errors
 ///
-/// The first fault of the text as one for this task. Or want of memory.
+/// The first fault of the text as one for this task. Or it runs out of memory.
 pub fn report_text<R: Threads + Wait + Sync, G: Gate>(
     rt: &R,
     alloc: Global,

@@ -56,7 +56,7 @@ fn check_tree(alloc: Global, tree: &Named, term: bool) -> Result<Vec<u8>, Stop>
 ///
 /// # Errors
 ///
-/// The first fault of the text, exactly when it has one: it isn't read, it isn't typed, or its type isn't `nat`. Or want of memory.
+/// The first fault of the text, exactly when it has one: it isn't read, it isn't typed, or its type isn't `nat`. Or it runs out of memory.
 pub fn net_of_text(alloc: Global, bytes: &[u8]) -> Result<Net, Stop>
     ensures net { IfOk result (λ net. IsNet bytes.now net) }
     ensures fault { IfErr result (λ e. StopsFor (FaultyText number bytes.now) e) }

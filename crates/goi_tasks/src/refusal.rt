@@ -30,7 +30,7 @@ pub struct Refusal {
 ///
 /// # Errors
 ///
-/// Want of memory.
+/// It runs out of memory.
 pub fn refuse(alloc: Global, fault: Fault) -> Result<Refusal, AllocError>
     ensures { IfOk result (λ r. TellsFault fault r) }
 {
@@ -64,6 +64,7 @@ fn fault_line(alloc: Global, fault: Fault) -> Result<Vec<u8>, AllocError>
     Ok(text?.into_bytes())
 }
 
+/// The line of a program's fault.
 fn program_line(alloc: Global, fault: ProgramFault) -> Result<String, AllocError>
     ensures line { IfOk result (λ text. string_bytes text ≡ program_fault_line fault) }
     ensures short { IfOk result (λ text. length (string_bytes text) ≤ most_line) }
@@ -76,6 +77,7 @@ fn program_line(alloc: Global, fault: ProgramFault) -> Result<String, AllocError
     }
 }
 
+/// The line of a fault of reading.
 fn read_line(alloc: Global, fault: ReadFault) -> Result<String, AllocError>
     ensures line { IfOk result (λ text. string_bytes text ≡ read_fault_line fault) }
     ensures short { IfOk result (λ text. length (string_bytes text) ≤ most_line) }
@@ -92,6 +94,7 @@ fn read_line(alloc: Global, fault: ReadFault) -> Result<String, AllocError>
     }
 }
 
+/// The line of a fault of scope or type.
 fn type_line(alloc: Global, fault: TypeFault) -> Result<String, AllocError>
     ensures line { IfOk result (λ text. string_bytes text ≡ type_fault_line fault) }
     ensures short { IfOk result (λ text. length (string_bytes text) ≤ most_line) }
@@ -107,6 +110,7 @@ fn type_line(alloc: Global, fault: TypeFault) -> Result<String, AllocError>
     }
 }
 
+/// The line of a fault of a program that is called by value.
 fn by_value_line(alloc: Global, fault: ByValueFault) -> Result<String, AllocError>
     ensures line { IfOk result (λ text. string_bytes text ≡ by_value_fault_line fault) }
     ensures short { IfOk result (λ text. length (string_bytes text) ≤ most_line) }
@@ -119,6 +123,7 @@ fn by_value_line(alloc: Global, fault: ByValueFault) -> Result<String, AllocErro
     }
 }
 
+/// The line of a listing's fault.
 fn net_text_line(alloc: Global, fault: NetTextFault) -> Result<String, AllocError>
     ensures line { IfOk result (λ text. string_bytes text ≡ net_text_fault_line fault) }
     ensures short { IfOk result (λ text. length (string_bytes text) ≤ most_line) }
@@ -132,6 +137,7 @@ fn net_text_line(alloc: Global, fault: NetTextFault) -> Result<String, AllocErro
     }
 }
 
+/// The line of a listed net that isn't sound.
 fn unsound_line(alloc: Global, fault: NetFault) -> Result<String, AllocError>
     ensures line { IfOk result (λ text. string_bytes text ≡ unsound_line fault) }
     ensures short { IfOk result (λ text. length (string_bytes text) ≤ most_line) }
@@ -145,6 +151,7 @@ fn unsound_line(alloc: Global, fault: NetFault) -> Result<String, AllocError>
     }
 }
 
+/// The line of a schedule's fault.
 fn schedule_line(alloc: Global, fault: ScheduleFault) -> Result<String, AllocError>
     ensures line { IfOk result (λ text. string_bytes text ≡ schedule_fault_line fault) }
     ensures short { IfOk result (λ text. length (string_bytes text) ≤ most_line) }
@@ -159,6 +166,7 @@ fn schedule_line(alloc: Global, fault: ScheduleFault) -> Result<String, AllocErr
     }
 }
 
+/// The line of a schedule whose moves aren't a run of the program.
 fn replay_line(alloc: Global, fault: ReplayFault) -> Result<String, AllocError>
     ensures line { IfOk result (λ text. string_bytes text ≡ replay_fault_line fault) }
     ensures short { IfOk result (λ text. length (string_bytes text) ≤ most_line) }
@@ -170,6 +178,7 @@ fn replay_line(alloc: Global, fault: ReplayFault) -> Result<String, AllocError>
     }
 }
 
+/// The line of a list's fault.
 fn batch_line(alloc: Global, fault: BatchFault) -> Result<String, AllocError>
     ensures line { IfOk result (λ text. string_bytes text ≡ batch_fault_line fault) }
     ensures short { IfOk result (λ text. length (string_bytes text) ≤ most_line) }

@@ -28,7 +28,7 @@ use walk_text::push_trace;
 ///
 /// # Errors
 ///
-/// The first fault of the schedule's text, or the first of its moves that isn't legal. Or want of memory.
+/// The first fault of the schedule's text, or the first of its moves that isn't legal. Or it runs out of memory.
 pub fn report_replay(
     alloc: Global,
     net: &Net,

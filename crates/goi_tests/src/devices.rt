@@ -51,10 +51,12 @@ fn files(alloc: Global, text: &[u8], devices: Devices<'_>) -> Result<MemoryFiles
     Ok(MemoryFiles::new(held, devices.most.max(1), devices.reads.to_vec(alloc)?))
 }
 
+/// A sink of so much room that takes at most so many bytes a call, and at least one; these calls of it fail.
 fn sink(alloc: Global, room: u64, most: u64, fails: &[u64]) -> Result<MemorySink, AllocError> {
     MemorySink::new(alloc, room, most.max(1), fails.to_vec(alloc)?)
 }
 
+/// The words of a text, parted by blanks.
 pub(crate) fn texts(alloc: Global, words: &str) -> Result<Vec<String>, AllocError> {
     let mut given = Vec::new(alloc);
     for word in words.split(' ') {
@@ -99,6 +101,7 @@ pub(crate) fn answered_at<R: Threads + Wait + Sync, G: Gate>(
     seen(alloc, status, &out, &err)
 }
 
+/// What a call with these words leaves, at an open gate.
 pub(crate) fn answered<R: Threads + Wait + Sync>(
     rt: &R,
     alloc: Global,

@@ -19,6 +19,7 @@ fn two_moves(alloc: Global) -> Result<Log, AllocError>
     Ok(log)
 }
 
+/// The report of two moves that end with 3, with a schedule and a tally.
 fn run_text(alloc: Global) -> Result<Vec<u8>, AllocError> {
     let log = two_moves(alloc)?;
     run_report(alloc, Some(Val::Number(3)), &log, 1, true, true)

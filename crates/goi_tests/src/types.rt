@@ -33,6 +33,7 @@ fn typed(alloc: Global, tree: &Named) -> Result<Box<Typed>, TypeFault> {
     Ok(Box::new(alloc, resolve_and_type(alloc, tree)?)?)
 }
 
+/// A tree of this form, at the place 0.
 fn over(alloc: Global, raw: Raw) -> Result<Box<Named>, AllocError> {
     Ok(Box::new(alloc, Named { at: 0, raw })?)
 }
@@ -96,6 +97,7 @@ fn identity(alloc: Global, count: u32) -> Result<Box<Named>, AllocError> {
     under(alloc, "v", wide(alloc, count)?, body)
 }
 
+/// Whether the tree has this type.
 fn has_type(alloc: Global, tree: &Named, ty: &Ty) -> bool {
     match typed(alloc, tree) {
         Ok(program) => program.ty().same(ty),
@@ -103,6 +105,7 @@ fn has_type(alloc: Global, tree: &Named, ty: &Ty) -> bool {
     }
 }
 
+/// Whether the identity on a type of 500 parts has the type that it should have.
 fn takes_a_high_type(alloc: Global) -> Result<bool, AllocError> {
     let tree = identity(alloc, 500)?;
     let from = Box::new(alloc, wide(alloc, 500)?)?;
@@ -135,6 +138,7 @@ fn towers(alloc: Global, count: u32, height: u32) -> Result<Box<Named>, AllocErr
     Ok(sum)
 }
 
+/// Whether the tree has the type `nat`.
 fn is_number(alloc: Global, tree: &Named) -> bool {
     match typed(alloc, tree) {
         Ok(program) => ground(&program).is_ok(),

@@ -6,6 +6,7 @@ use std::test::Fail;
 
 const GREATEST_HEIGHT: u32 = 2600;
 
+/// A term of this height: `succ` over and over, and 0.
 fn tower(alloc: Global, height: u32) -> Result<Box<Term>, AllocError> {
     let mut term = Box::new(alloc, Term::Number(0))?;
     for _ in 1..height {
@@ -14,6 +15,7 @@ fn tower(alloc: Global, height: u32) -> Result<Box<Term>, AllocError> {
     Ok(term)
 }
 
+/// A named tree of this height: `fst` over and over, and a name.
 fn named_tower(alloc: Global, height: u32) -> Result<Box<Named>, AllocError> {
     let raw = Raw::Name(Ident::from_text(alloc, "x")?);
     let mut tree = Box::new(alloc, Named { at: 9, raw })?;
@@ -24,6 +26,7 @@ fn named_tower(alloc: Global, height: u32) -> Result<Box<Named>, AllocError> {
     Ok(tree)
 }
 
+/// A type of this height: products that go on at the right.
 fn wide_type(alloc: Global, height: u32) -> Result<Box<Ty>, AllocError> {
     let mut ty = Box::new(alloc, Ty::Nat)?;
     for _ in 1..height {
@@ -32,16 +35,19 @@ fn wide_type(alloc: Global, height: u32) -> Result<Box<Ty>, AllocError> {
     Ok(ty)
 }
 
+/// Whether the copy of the term is a successor.
 fn is_copied_as_succ(alloc: Global, term: &Term) -> Result<bool, AllocError> {
     let copy = Box::new(alloc, term.copy(alloc)?)?;
     Ok(matches!(&*copy, Term::Succ(_)))
 }
 
+/// Whether the copy of the tree has its place.
 fn is_copied_at_its_place(alloc: Global, tree: &Named) -> Result<bool, AllocError> {
     let copy = Box::new(alloc, tree.copy(alloc)?)?;
     Ok(copy.at == tree.at)
 }
 
+/// Whether a term and a named tree of this height are copied.
 fn high_ones_are_copied(alloc: Global, height: u32) -> Result<bool, AllocError> {
     let term = tower(alloc, height)?;
     let tree = named_tower(alloc, height)?;
@@ -58,10 +64,12 @@ fn the_highest_term_is_copied(rt: HostRuntime) -> Result<(), Fail> {
     Ok(())
 }
 
+/// Whether the copy of the type is the same type.
 fn is_copied(alloc: Global, ty: &Ty) -> Result<bool, AllocError> {
     Ok(ty.copy(alloc)?.same(ty))
 }
 
+/// Whether a high type is copied, and differs from one that is less high by one.
 fn types_differ(alloc: Global) -> Result<bool, AllocError> {
     let ty = wide_type(alloc, 1000)?;
     Ok(is_copied(alloc, &ty)? && !ty.same(&*wide_type(alloc, 999)?))
@@ -73,6 +81,7 @@ fn types_are_copied_and_compared(rt: HostRuntime) -> Result<(), Fail> {
     Ok(())
 }
 
+/// Whether the copy of a name has the name's text.
 fn keeps_its_text(alloc: Global, text: &str) -> Result<bool, AllocError> {
     let name = Ident::from_text(alloc, text)?;
     Ok(name.copy(alloc)?.as_str() == text)

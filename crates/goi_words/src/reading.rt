@@ -64,6 +64,7 @@ fn job_on(alloc: Global, name: &str, found: &ArgMatches<'_>) -> Result<Job, Word
     }
 }
 
+/// The job of the words behind `run`.
 fn run_job(alloc: Global, found: &ArgMatches<'_>) -> Result<Job, WordFault>
     ensures ok { IfOk result (λ done. run_job (rows_of (found_of found.now)) ≡ Some (job_of done)) }
     ensures refused { IsErrOf result Refused → run_job (rows_of (found_of found.now)) ≡ None }
@@ -82,6 +83,7 @@ fn run_job(alloc: Global, found: &ArgMatches<'_>) -> Result<Job, WordFault>
     })
 }
 
+/// The job of the words behind `check`.
 fn check_job(alloc: Global, found: &ArgMatches<'_>) -> Result<Job, WordFault>
     ensures ok { IfOk result (λ done. check_job (rows_of (found_of found.now)) ≡ Some (job_of done)) }
     ensures refused { IsErrOf result Refused → check_job (rows_of (found_of found.now)) ≡ None }
@@ -93,6 +95,7 @@ fn check_job(alloc: Global, found: &ArgMatches<'_>) -> Result<Job, WordFault>
     })
 }
 
+/// The job of the words behind `net`.
 fn net_job(alloc: Global, found: &ArgMatches<'_>) -> Result<Job, WordFault>
     ensures ok { IfOk result (λ done. net_job (rows_of (found_of found.now)) ≡ Some (job_of done)) }
     ensures refused { IsErrOf result Refused → net_job (rows_of (found_of found.now)) ≡ None }
@@ -103,6 +106,7 @@ fn net_job(alloc: Global, found: &ArgMatches<'_>) -> Result<Job, WordFault>
     })
 }
 
+/// The job of the words behind `replay`; a part of the trace that can't be is refused.
 fn replay_job(alloc: Global, found: &ArgMatches<'_>) -> Result<Job, WordFault>
     ensures ok { IfOk result (λ done. replay_job (rows_of (found_of found.now)) ≡ Some (job_of done)) }
     ensures refused { IsErrOf result Refused → replay_job (rows_of (found_of found.now)) ≡ None }
@@ -117,6 +121,7 @@ fn replay_job(alloc: Global, found: &ArgMatches<'_>) -> Result<Job, WordFault>
     })
 }
 
+/// The job of the words behind `demo`.
 fn demo_job(_alloc: Global, found: &ArgMatches<'_>) -> Result<Job, WordFault>
     ensures ok { IfOk result (λ done. demo_job (rows_of (found_of found.now)) ≡ Some (job_of done)) }
     ensures refused { IsErrOf result Refused → demo_job (rows_of (found_of found.now)) ≡ None }
@@ -126,6 +131,7 @@ fn demo_job(_alloc: Global, found: &ArgMatches<'_>) -> Result<Job, WordFault>
     Ok(Job::Demo { n, workers })
 }
 
+/// The job of the words behind `run-net`.
 fn run_net_job(alloc: Global, found: &ArgMatches<'_>) -> Result<Job, WordFault>
     ensures ok { IfOk result (λ done. run_net_job (rows_of (found_of found.now)) ≡ Some (job_of done)) }
     ensures refused { IsErrOf result Refused → run_net_job (rows_of (found_of found.now)) ≡ None }
@@ -142,6 +148,7 @@ fn run_net_job(alloc: Global, found: &ArgMatches<'_>) -> Result<Job, WordFault>
     })
 }
 
+/// The job of the words behind `batch`.
 fn batch_job(alloc: Global, found: &ArgMatches<'_>) -> Result<Job, WordFault>
     ensures ok { IfOk result (λ done. batch_job (rows_of (found_of found.now)) ≡ Some (job_of done)) }
     ensures refused { IsErrOf result Refused → batch_job (rows_of (found_of found.now)) ≡ None }
@@ -154,6 +161,7 @@ fn batch_job(alloc: Global, found: &ArgMatches<'_>) -> Result<Job, WordFault>
     })
 }
 
+/// The job of the words behind `trace`; a part of the trace that can't be is refused.
 fn trace_job(alloc: Global, found: &ArgMatches<'_>) -> Result<Job, WordFault>
     ensures ok { IfOk result (λ done. trace_job (rows_of (found_of found.now)) ≡ Some (job_of done)) }
     ensures refused { IsErrOf result Refused → trace_job (rows_of (found_of found.now)) ≡ None }
@@ -171,6 +179,7 @@ fn trace_job(alloc: Global, found: &ArgMatches<'_>) -> Result<Job, WordFault>
     })
 }
 
+/// The job of the words behind `circuit`.
 fn circuit_job(alloc: Global, found: &ArgMatches<'_>) -> Result<Job, WordFault>
     ensures ok { IfOk result (λ done. circuit_job (rows_of (found_of found.now)) ≡ Some (job_of done)) }
     ensures refused { IsErrOf result Refused → circuit_job (rows_of (found_of found.now)) ≡ None }

@@ -1,4 +1,5 @@
-// Files of the system.
+//! Files of the system.
+
 ghost use Rattle.std.specs.Prelude.{◌≡◌, ◌≤◌, OnOk, OnErr, IfOk, length};
 ghost use Rattle.std.proofs.Common.{rules};
 ghost use Rattle.goi_world.specs.FilesOnDisk.{unread_files, one_read, one_failed};
@@ -79,7 +80,7 @@ impl<'a, R: rt::Files + AllocGlobal> Files for DiskFiles<'a, R> {
     }
 }
 
-// Reads a file at a place, by the opened one where it is that file; after a fault none is kept open.
+/// Reads a file at a place, by the opened one where it is that file; after a fault none is kept open.
 fn read_on<R: rt::Files + AllocGlobal>(
     rt: &R,
     opened: &mut Option<Opened<R::File>>,
@@ -99,7 +100,7 @@ fn read_on<R: rt::Files + AllocGlobal>(
     }
 }
 
-// Opens a file and reads it at a place. It stays open where there is memory to keep its name.
+/// Opens a file and reads it at a place. It stays open where there is memory to keep its name.
 fn read_first<R: rt::Files + AllocGlobal>(
     rt: &R,
     opened: &mut Option<Opened<R::File>>,
@@ -125,8 +126,8 @@ fn read_first<R: rt::Files + AllocGlobal>(
     }
 }
 
-// Reads a file that will be opened again. A place has to be sought in it even at its beginning, so a pipe, which would wait for another
-// writer then, fails here.
+/// Reads a file that will be opened again. A place has to be sought in it even at its beginning, so a pipe, which would wait for another
+/// writer then, fails here.
 fn read_once<R: rt::Files + AllocGlobal>(
     rt: &R,
     name: &str,
@@ -140,7 +141,7 @@ fn read_once<R: rt::Files + AllocGlobal>(
     file.read(buf)
 }
 
-// Seeks only where the place isn't the one that was come to.
+/// Seeks only where the place isn't the one that was come to.
 fn read_at<F: Read + Seek + Drop>(
     file: &mut Opened<F>,
     at: u64,

@@ -1,4 +1,5 @@
-// Laws on the definitions by which files in memory are looked up.
+//! Laws on the definitions by which files in memory are looked up.
+
 ghost use Rattle.goi_world.specs.NamedFiles.{FirstCounts, LacksExactly};
 
 /// Of two files in memory with one name the first counts.

@@ -1,4 +1,5 @@
-// Files in memory, which fail where they are told to.
+//! Files in memory, which fail where they are told to.
+
 ghost use Rattle.std.specs.Prelude.{◌≡◌, ◌↔◌, ◌-◌, ◌++◌, ◌≤◌, IsTrue, length, min, take, drop, IsErr, OnErr, IfOk, IfSome};
 ghost use Rattle.std.specs.Prelude.{MatchOption, None, Some};
 ghost use Rattle.goi_world.specs.Outside.{bytes_of, IsPiece};
@@ -88,6 +89,7 @@ impl Files for MemoryFiles {
     }
 }
 
+/// The bytes of the first file of that name, or none.
 fn find_file<'a>(files: &'a [(Ident, Vec<u8>)], name: &str) -> Option<&'a [u8]>
     ensures { MatchOption result
         (bytes_of (files_of files.now) name.now ≡ None)
@@ -103,6 +105,7 @@ fn find_file<'a>(files: &'a [(Ident, Vec<u8>)], name: &str) -> Option<&'a [u8]>
     None
 }
 
+/// Copies what stands at that place into the buffer, at most so many bytes, and says how many they are.
 fn read_piece(bytes: &[u8], at: u64, most: u64, buf: &mut [u8]) -> usize
     requires { 1 ≤ most }
     ensures bound { result ≤ length buf.new }

@@ -1,4 +1,5 @@
-// A sink in memory, which fails where it is told to.
+//! A sink in memory, which fails where it is told to.
+
 ghost use Rattle.std.specs.Prelude.{◌≡◌, ◌<◌, ◌≤◌, ◌↔◌, IsTrue, length, IsErr, IfOk};
 ghost use Rattle.goi_world.specs.SinkInMemory.{new_sink, write_fails, write_length, after_write};
 

@@ -1,4 +1,5 @@
-// Writers of std.
+//! Writers of std.
+
 ghost use Rattle.std.specs.Prelude.{◌≡◌, ◌<◌, ◌≤◌, IfOk, length};
 ghost use Rattle.goi_world.specs.Outside.{taken_by};
 ghost use Rattle.goi_world.specs.SinkOfWriter.{unwritten, one_write};

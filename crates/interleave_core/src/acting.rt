@@ -1,4 +1,5 @@
-// One step of a ticket.
+//! One step of a ticket.
+
 ghost use Rattle.std.specs.Prelude.{◌≡◌, ◌+◌, ◌<◌, ◌^◌, ℕ, Some, None, OnOk, OnErr, IfOk, IsSome, true};
 ghost use Rattle.std.specs.FinMap.{get};
 ghost use Rattle.interleave_laws.specs.Maps.{step_map};
@@ -16,7 +17,7 @@ use net_build::Net;
 use pcf_values::{Operator, Side, Val};
 use std::alloc::AllocError;
 
-// The fork of a ticket at a node to two operands.
+/// The fork of a ticket at a node to two operands.
 pub(crate) fn split(
     parts: &mut Parts,
     net: &Net,
@@ -40,7 +41,7 @@ pub(crate) fn split(
     Ok(Stepped::Forked(next))
 }
 
-// The join of a ticket's answer at an operator, whose conclusion is c. Takes no memory.
+/// The join of a ticket's answer at an operator, whose conclusion is c. Takes no memory.
 pub(crate) fn meet(
     parts: &mut Parts,
     net: &Net,
@@ -68,7 +69,7 @@ pub(crate) fn meet(
     )
 }
 
-// The answer that a ticket brings. Takes no memory.
+/// The answer that a ticket brings. Takes no memory.
 fn end(parts: &mut Parts, net: &Net, ticket: u32, at: u32, v: Val) -> Stepped
     requires met { MetAt net.now parts.old.live ticket at (Last v) }
     ensures name { step_name net.now (state_of parts.old) ticket ≡ Some result }
@@ -79,7 +80,7 @@ fn end(parts: &mut Parts, net: &Net, ticket: u32, at: u32, v: Val) -> Stepped
     Stepped::Answered(v)
 }
 
-// Makes the one move of a ticket whose token makes no solo move. After want of memory all is as before, and the move was a fork.
+/// Makes the one move of a ticket whose token makes no solo move. After want of memory all is as before, and the move was a fork.
 pub(crate) fn act(parts: &mut Parts, net: &Net, ticket: u32) -> Result<Stepped, AllocError>
     requires stands { StandsStill net.now parts.old.live ticket }
     requires able { IsSome (step_map net.now (state_of parts.old) ticket) }
@@ -101,7 +102,7 @@ pub(crate) fn act(parts: &mut Parts, net: &Net, ticket: u32) -> Result<Stepped, 
     }
 }
 
-// Makes the one move of a ticket. After want of memory all is as before, and the move was a solo move or a fork.
+/// Makes the one move of a ticket. After want of memory all is as before, and the move was a solo move or a fork.
 pub(crate) fn step_in(parts: &mut Parts, net: &Net, ticket: u32) -> Result<Stepped, AllocError>
     requires live { IsSome (get parts.old.live ticket) }
     requires able { IsSome (step_map net.now (state_of parts.old) ticket) }

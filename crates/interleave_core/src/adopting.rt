@@ -1,4 +1,5 @@
-// Walks that were made elsewhere.
+//! Walks that were made elsewhere.
+
 ghost use Rattle.std.specs.Prelude.{◌≡◌, ◌↔◌, Some, IsSome, IfSome, IfNone, IsTrue, length};
 ghost use Rattle.std.specs.List.{All};
 ghost use Rattle.std.specs.FinMap.{get, insert};
@@ -10,7 +11,7 @@ use crate::live::LiveTokens;
 use move_rules::{Moved, Seen, Token};
 use net_build::Net;
 
-// Whether the node is the net's node of its number.
+/// Whether the node is the net's node of its number.
 fn is_node(net: &Net, seen: Seen) -> bool
     ensures { IsTrue result ↔ Stands net.now seen }
 {
@@ -20,7 +21,7 @@ fn is_node(net: &Net, seen: Seen) -> bool
     }
 }
 
-// Whether each node of the trail is the net's node of its number.
+/// Whether each node of the trail is the net's node of its number.
 fn stands(net: &Net, trail: &[Seen]) -> bool
     ensures { IsTrue result ↔ All (Stands net.now) trail.now }
 {
@@ -32,7 +33,7 @@ fn stands(net: &Net, trail: &[Seen]) -> bool
     true
 }
 
-// Whether the ticket's token is this one.
+/// Whether the ticket's token is this one.
 fn has(live: &LiveTokens, ticket: u32, token: &Token) -> bool
     ensures { IsTrue result ↔ (get live.now ticket ≡ Some (token_of token.now)) }
 {
@@ -42,7 +43,7 @@ fn has(live: &LiveTokens, ticket: u32, token: &Token) -> bool
     }
 }
 
-// Whether a walk is one of the ticket's token on this net, with at least one move and at most so many.
+/// Whether a walk is one of the ticket's token on this net, with at least one move and at most so many.
 fn accepts(net: &Net, live: &LiveTokens, ticket: u32, moved: &Moved, most: u32) -> bool
     ensures { IsTrue result ↔ AcceptsIn net.now live.now ticket moved.now most }
 {
@@ -53,7 +54,7 @@ fn accepts(net: &Net, live: &LiveTokens, ticket: u32, moved: &Moved, most: u32) 
         && stands(net, trail)
 }
 
-// Takes over a walk, where it may, and answers how many moves it has; otherwise all stays. Takes no memory.
+/// Takes over a walk, where it may, and answers how many moves it has; otherwise all stays. Takes no memory.
 pub(crate) fn adopt_in(
     live: &mut LiveTokens,
     net: &Net,

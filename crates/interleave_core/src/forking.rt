@@ -1,4 +1,5 @@
-// Forks.
+//! Forks.
+
 ghost use Rattle.std.specs.Prelude.{[], ◌≡◌, None, OnOk, OnErr, IfOk};
 ghost use Rattle.std.specs.FinMap.{get, insert};
 ghost use Rattle.token_stacks.specs.Signatures.{Boxes};
@@ -13,7 +14,7 @@ use move_rules::{Kind, Token};
 use std::alloc::AllocError;
 use token_stacks::BoxStack;
 
-// The question at an operand's wire, of a token with an empty work stack, and its box stack.
+/// The question at an operand's wire, of a token with an empty work stack, and its box stack.
 fn question(token: &Token, wire: u32) -> Result<(Token, BoxStack), AllocError>
     requires { token.now.stacks.work ≡ [] }
     ensures asks { IfOk result (λ r. token_of r.0 ≡ ask (up wire [] token.now.stacks.boxes)) }
@@ -32,7 +33,7 @@ fn question(token: &Token, wire: u32) -> Result<(Token, BoxStack), AllocError>
     ))
 }
 
-// The same of the token of a ticket.
+/// The same of the token of a ticket.
 fn right_question(live: &LiveTokens, ticket: u32, b: u32) -> Result<(Token, BoxStack), AllocError>
     requires { (t : Boxes) × HasBoxes live.now ticket t }
     ensures { IfOk result (λ r. Copies live.now ticket b (token_of r.0) r.1) }
@@ -43,7 +44,7 @@ fn right_question(live: &LiveTokens, ticket: u32, b: u32) -> Result<(Token, BoxS
     }
 }
 
-// Gives a new ticket its token, and opens an entry. After want of memory all is as before.
+/// Gives a new ticket its token, and opens an entry. After want of memory all is as before.
 #[tactic(auto, using(crate::proofs::Forked::taken_back))]
 fn open(
     live: &mut LiveTokens,
@@ -70,8 +71,8 @@ fn open(
     }
 }
 
-// Forks the token of a ticket at a node to two operands: the left question keeps the ticket, the right one gets the next, and the
-// entry is opened. Only the right question and the entry take a copy of the box stack. After want of memory all is as before.
+/// Forks the token of a ticket at a node to two operands: the left question keeps the ticket, the right one gets the next, and the
+/// entry is opened. Only the right question and the entry take a copy of the box stack. After want of memory all is as before.
 pub(crate) fn fork(
     live: &mut LiveTokens,
     joins: &mut JoinTable,

@@ -1,4 +1,5 @@
-// A state that is put into another one, in a ticket's place.
+//! A state that is put into another one, in a ticket's place.
+
 ghost use Rattle.std.specs.Prelude.{◌≡◌, ◌+◌, ◌<◌, ◌≤◌, ◌^◌, ℕ, None, OnOk, OnErr, IsSome};
 ghost use Rattle.std.specs.Option.{option_map, option_or};
 ghost use Rattle.std.specs.FinMap.{get, len};
@@ -14,7 +15,7 @@ use fork_join::JoinTable;
 use move_rules::Token;
 use std::alloc::AllocError;
 
-// Takes out what stands at the tickets from `next` on. Takes no memory.
+/// Takes out what stands at the tickets from `next` on. Takes no memory.
 fn drop_from(live: &mut LiveTokens, next: u32)
     requires { 1 ≤ next }
     ensures below { (q : ℕ) → q < next → get live.new q ≡ get live.old q }
@@ -25,7 +26,7 @@ fn drop_from(live: &mut LiveTokens, next: u32)
     }
 }
 
-// Gives the tokens of tickets from 1 on the tickets from `next` on. Where memory runs out all is as before.
+/// Gives the tokens of tickets from 1 on the tickets from `next` on. Where memory runs out all is as before.
 fn put_new(live: &mut LiveTokens, theirs: LiveTokens, next: u32) -> Result<(), AllocError>
     requires some { 1 ≤ next }
     requires low { IsLow live.old next }
@@ -51,7 +52,7 @@ fn put_new(live: &mut LiveTokens, theirs: LiveTokens, next: u32) -> Result<(), A
     Ok(())
 }
 
-// Puts tokens and entries in. Where memory runs out all is as before.
+/// Puts tokens and entries in. Where memory runs out all is as before.
 fn put_parts(
     live: &mut LiveTokens,
     joins: &mut JoinTable,
@@ -80,7 +81,7 @@ fn put_parts(
     }
 }
 
-// Puts a token in the place of the one that a ticket has, or ends the ticket. Takes no memory.
+/// Puts a token in the place of the one that a ticket has, or ends the ticket. Takes no memory.
 fn put_first(live: &mut LiveTokens, ticket: u32, first: Option<Token>)
     requires { IsSome (get live.old ticket) }
     ensures { live.new ≡ given live.old ticket (option_map token_of first) }
@@ -93,7 +94,7 @@ fn put_first(live: &mut LiveTokens, ticket: u32, first: Option<Token>)
     }
 }
 
-// Grafts a state into another one in a ticket's place. Where memory runs out all is as before.
+/// Grafts a state into another one in a ticket's place. Where memory runs out all is as before.
 pub(crate) fn graft_in(parts: &mut Parts, ticket: u32, branch: Parts) -> Result<(), AllocError>
     requires live { IsSome (get parts.old.live ticket) }
     requires low { IsLow parts.old.live parts.old.next }

@@ -1,4 +1,5 @@
-// Joins.
+//! Joins.
+
 ghost use Rattle.std.specs.Prelude.{◌≡◌};
 ghost use Rattle.std.specs.FinMap.{get};
 ghost use Rattle.token_stacks.specs.Signatures.{Boxes};
@@ -12,7 +13,7 @@ use fork_join::{Arrived, JoinTable};
 use move_rules::Kind;
 use pcf_values::{Operator, Side, Val};
 
-// The left and the right value, where this side has v and the other side has w.
+/// The left and the right value, where this side has v and the other side has w.
 fn both(side: Side, v: Val, w: Val) -> (Val, Val)
     ensures { result ≡ both_of side v w }
 {
@@ -41,8 +42,8 @@ fn arrive(
     }
 }
 
-// Brings the answer of a ticket to its entry: the first is kept, and its ticket ends; the second goes on down the wire c with what both
-// come to. Takes no memory.
+/// Brings the answer of a ticket to its entry: the first is kept, and its ticket ends; the second goes on down the wire c with what both
+/// come to. Takes no memory.
 pub(crate) fn join(
     live: &mut LiveTokens,
     joins: &mut JoinTable,

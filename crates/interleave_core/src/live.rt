@@ -1,4 +1,5 @@
-// Live tokens.
+//! Live tokens.
+
 ghost use Rattle.std.specs.Prelude.{[], ◌≡◌, ◌<◌, ◌≤◌, ℕ, false, Some, None, OnOk, OnErr, IfOk, IsSome, length};
 ghost use Rattle.std.specs.Option.{option_map, option_copied, MatchOption};
 ghost use Rattle.std.specs.Ordering.{nat_cmp};
@@ -19,10 +20,10 @@ use std::collections::BTreeMap;
 use std::marker::Model;
 use std::ops::Bound;
 
-// The code's map of live tokens.
+/// The code's map of live tokens.
 type Tokens = BTreeMap<u32, Token>;
 
-// The live tokens of a state, seen as a finite map from tickets to tokens.
+/// The live tokens of a state, seen as a finite map from tickets to tokens.
 #[derive(Drop)]
 pub(crate) struct LiveTokens {
     tokens: Tokens,
@@ -43,6 +44,7 @@ impl Model for LiveTokens {
     ghost view = { λ a. live_of a.tokens };
 }
 
+/// Gives the ticket this token.
 fn put_in(tokens: &mut Tokens, ticket: u32, token: Token) -> Result<(), AllocError>
     ensures ok { OnOk result (tree.Updates nat_cmp tokens.old tokens.new ticket (Some token)) }
     ensures err { OnErr result (tree.IsUnchanged tokens.old tokens.new) }
@@ -51,6 +53,7 @@ fn put_in(tokens: &mut Tokens, ticket: u32, token: Token) -> Result<(), AllocErr
     Ok(())
 }
 
+/// Takes the ticket's token out, if it has one.
 fn take_from(tokens: &mut Tokens, ticket: u32) -> Option<Token>
     ensures took { result ≡ tree.get nat_cmp tokens.old ticket }
     ensures rest { tree.Updates nat_cmp tokens.old tokens.new ticket None }
@@ -58,13 +61,14 @@ fn take_from(tokens: &mut Tokens, ticket: u32) -> Option<Token>
     tokens.remove(&ticket)
 }
 
+/// The ticket's token, if it has one.
 fn look_in(tokens: &Tokens, ticket: u32) -> Option<&Token>
     ensures { option_copied result ≡ tree.get nat_cmp tokens.now ticket }
 {
     tokens.get(&ticket)
 }
 
-// Puts a token in the place of the one that is there.
+/// Puts a token in the place of the one that is there.
 fn replace_in(tokens: &mut Tokens, ticket: u32, token: Token)
     requires { IsSome (tree.get nat_cmp tokens.old ticket) }
     ensures { tree.Updates nat_cmp tokens.old tokens.new ticket (Some token) }
@@ -75,7 +79,7 @@ fn replace_in(tokens: &mut Tokens, ticket: u32, token: Token)
     }
 }
 
-// The least ticket that has a token.
+/// The least ticket that has a token.
 fn least_in(tokens: &Tokens) -> Option<u32>
     ensures { MatchOption result ((q : ℕ) → tree.get nat_cmp tokens.now q ≡ None) (λ i. IsSome (tree.get nat_cmp tokens.now i) ×
         ((q : ℕ) → q < i → tree.get nat_cmp tokens.now q ≡ None)) }
@@ -86,7 +90,7 @@ fn least_in(tokens: &Tokens) -> Option<u32>
     }
 }
 
-// The least ticket above this one that has a token.
+/// The least ticket above this one that has a token.
 fn next_in(tokens: &Tokens, after: u32) -> Option<u32>
     ensures { MatchOption result ((q : ℕ) → after < q → tree.get nat_cmp tokens.now q ≡ None) (λ i. (after < i) ×
         IsSome (tree.get nat_cmp tokens.now i) × ((q : ℕ) → after < q → q < i → tree.get nat_cmp tokens.now q ≡ None)) }
@@ -100,7 +104,7 @@ fn next_in(tokens: &Tokens, after: u32) -> Option<u32>
     }
 }
 
-// The next move of a ticket's token in its place, if it is a solo move.
+/// The next move of a ticket's token in its place, if it is a solo move.
 fn solo_in(net: &Net, tokens: &mut Tokens, ticket: u32) -> Result<bool, AllocError>
     requires { IsSome (tree.get nat_cmp tokens.old ticket) }
     ensures ok { IfOk result (λ made. ChangesIn (SoloStep net.now made) tokens.old ticket tokens.new) }
@@ -113,8 +117,8 @@ fn solo_in(net: &Net, tokens: &mut Tokens, ticket: u32) -> Result<bool, AllocErr
     }
 }
 
-// A token's solo moves in its place, at most so many, until the next move is no solo move; how many they are. After want of memory some of
-// them are made.
+/// A token's solo moves in its place, at most so many, until the next move is no solo move; how many they are. After want of memory some of
+/// them are made.
 fn moves_of(net: &Net, token: &mut Token, most: u32) -> Result<u32, AllocError>
     ensures ok { IfOk result (λ n. GoesOn net.now most n token.old token.new) }
     ensures err { OnErr result (MakesSome net.now token.old token.new) }
@@ -129,8 +133,8 @@ fn moves_of(net: &Net, token: &mut Token, most: u32) -> Result<u32, AllocError>
     Ok(made)
 }
 
-// The same, each move written down by the token's ticket, until the list has so many entries. After want of memory some of them are made,
-// and none is written down.
+/// The same, each move written down by the token's ticket, until the list has so many entries. After want of memory some of them are made,
+/// and none is written down.
 fn walk_of(
     net: &Net,
     token: &mut Token,
@@ -146,7 +150,7 @@ fn walk_of(
     Ok(())
 }
 
-// The same of the token of a ticket.
+/// The same of the token of a ticket.
 fn walk_in(
     net: &Net,
     tokens: &mut Tokens,
@@ -164,7 +168,7 @@ fn walk_in(
     }
 }
 
-// The solo moves of a ticket's token in its place, as many as `moves_of` makes.
+/// The solo moves of a ticket's token in its place, as many as `moves_of` makes.
 fn go_in(net: &Net, tokens: &mut Tokens, ticket: u32, most: u32) -> Result<u32, AllocError>
     requires { IsSome (tree.get nat_cmp tokens.old ticket) }
     ensures ok { IfOk result (λ n. ChangesIn (GoesOn net.now most n) tokens.old ticket tokens.new) }
@@ -176,7 +180,7 @@ fn go_in(net: &Net, tokens: &mut Tokens, ticket: u32, most: u32) -> Result<u32, 
     }
 }
 
-// The token of a ticket goes to a wire, up or down, as a question or an answer.
+/// The token of a ticket goes to a wire, up or down, as a question or an answer.
 fn send_in(tokens: &mut Tokens, ticket: u32, wire: u32, up: bool, kind: Kind)
     requires { IsSome (tree.get nat_cmp tokens.old ticket) }
     ensures { ChangesIn (Sent wire up kind) tokens.old ticket tokens.new }
@@ -192,7 +196,7 @@ fn send_in(tokens: &mut Tokens, ticket: u32, wire: u32, up: bool, kind: Kind)
 }
 
 impl LiveTokens {
-    // No tokens. Takes no memory.
+    /// No tokens. Takes no memory.
     pub(crate) fn new(alloc: Global) -> LiveTokens
         ensures { result ≡ empty }
     {
@@ -201,21 +205,21 @@ impl LiveTokens {
         }
     }
 
-    // The token of a ticket. Takes no memory.
+    /// The token of a ticket. Takes no memory.
     pub(crate) fn get(&self, ticket: u32) -> Option<&Token>
         ensures { option_map token_of (option_copied result) ≡ get self.now ticket }
     {
         look_in(&self.tokens, ticket)
     }
 
-    // How many tickets have a token. Takes no memory.
+    /// How many tickets have a token. Takes no memory.
     pub(crate) fn count(&self) -> usize
         ensures { result ≡ len self.now }
     {
         self.tokens.len()
     }
 
-    // Gives a ticket its token. After want of memory all is as before.
+    /// Gives a ticket its token. After want of memory all is as before.
     pub(crate) fn put(&mut self, ticket: u32, token: Token) -> Result<(), AllocError>
         ensures ok { OnOk result (self.new ≡ insert self.old ticket (token_of token)) }
         ensures err { OnErr result (self.new ≡ self.old) }
@@ -223,7 +227,7 @@ impl LiveTokens {
         put_in(&mut self.tokens, ticket, token)
     }
 
-    // Ends a ticket, and hands its token out. Takes no memory.
+    /// Ends a ticket, and hands its token out. Takes no memory.
     pub(crate) fn take(&mut self, ticket: u32) -> Option<Token>
         ensures took { option_map token_of result ≡ get self.old ticket }
         ensures rest { self.new ≡ remove self.old ticket }
@@ -231,7 +235,7 @@ impl LiveTokens {
         take_from(&mut self.tokens, ticket)
     }
 
-    // Puts a token in the place of the one that the ticket has. Takes no memory.
+    /// Puts a token in the place of the one that the ticket has. Takes no memory.
     pub(crate) fn replace(&mut self, ticket: u32, token: Token)
         requires { IsSome (get self.old ticket) }
         ensures { self.new ≡ insert self.old ticket (token_of token) }
@@ -239,7 +243,7 @@ impl LiveTokens {
         replace_in(&mut self.tokens, ticket, token)
     }
 
-    // The least ticket that has a token, and `None` exactly where there is none. Takes no memory.
+    /// The least ticket that has a token, and `None` exactly where there is none. Takes no memory.
     pub(crate) fn least(&self) -> Option<u32>
         ensures { MatchOption result ((q : ℕ) → get self.now q ≡ None) (λ i. IsSome (get self.now i) ×
             ((q : ℕ) → q < i → get self.now q ≡ None)) }
@@ -247,7 +251,7 @@ impl LiveTokens {
         least_in(&self.tokens)
     }
 
-    // The least ticket above this one that has a token, and `None` exactly where there is none. Takes no memory.
+    /// The least ticket above this one that has a token, and `None` exactly where there is none. Takes no memory.
     pub(crate) fn next(&self, after: u32) -> Option<u32>
         ensures { MatchOption result ((q : ℕ) → after < q → get self.now q ≡ None) (λ i. (after < i) × IsSome (get self.now i) ×
             ((q : ℕ) → after < q → q < i → get self.now q ≡ None)) }
@@ -255,8 +259,8 @@ impl LiveTokens {
         next_in(&self.tokens, after)
     }
 
-    // Makes the ticket's next move on this net in place, if it is a solo move. After want of memory all is as before; a fork, a join and
-    // the answer take none.
+    /// Makes the ticket's next move on this net in place, if it is a solo move. After want of memory all is as before; a fork, a join and
+    /// the answer take none.
     pub(crate) fn solo(&mut self, net: &Net, ticket: u32) -> Result<bool, AllocError>
         requires { IsSome (get self.old ticket) }
         ensures ok { IfOk result (λ made. SoloAt net.now self.old ticket made self.new) }
@@ -266,8 +270,8 @@ impl LiveTokens {
         solo_in(net, &mut self.tokens, ticket)
     }
 
-    // Makes the ticket's solo moves on this net in place, each written down by its ticket, until the list has so many entries or the
-    // next move is no solo move. After want of memory some of them are made, and none is written down.
+    /// Makes the ticket's solo moves on this net in place, each written down by its ticket, until the list has so many entries or the
+    /// next move is no solo move. After want of memory some of them are made, and none is written down.
     pub(crate) fn walk(
         &mut self,
         net: &Net,
@@ -282,8 +286,8 @@ impl LiveTokens {
         walk_in(net, &mut self.tokens, ticket, tickets, most)
     }
 
-    // Makes the ticket's solo moves on this net in place, at most so many, until the next is no solo move; how many they are. Where
-    // memory runs out some of them are made.
+    /// Makes the ticket's solo moves on this net in place, at most so many, until the next is no solo move; how many they are. Where
+    /// memory runs out some of them are made.
     pub(crate) fn go(&mut self, net: &Net, ticket: u32, most: u32) -> Result<u32, AllocError>
         requires { IsSome (get self.old ticket) }
         ensures ok { IfOk result (λ n. Changes (GoesOn net.now most n) self.old ticket self.new) }
@@ -292,8 +296,8 @@ impl LiveTokens {
         go_in(net, &mut self.tokens, ticket, most)
     }
 
-    // The token of a ticket, whose work stack is empty, goes to a wire, up or down, as a question or an answer; its box stack stays.
-    // Takes no memory.
+    /// The token of a ticket, whose work stack is empty, goes to a wire, up or down, as a question or an answer; its box stack stays.
+    /// Takes no memory.
     pub(crate) fn send(&mut self, ticket: u32, wire: u32, up: bool, kind: Kind)
         requires { IsSome (get self.old ticket) }
         ensures { (t : Boxes) → HasBoxes self.old ticket t →

@@ -1,4 +1,5 @@
-// The machine's state, and its steps.
+//! The machine's state, and its steps.
+
 ghost use Rattle.std.specs.Prelude.{◌≡◌, ◌↔◌, ◌+◌, ◌<◌, ◌≤◌, ◌^◌, ℕ, map, replicate, Some, None, OnOk, OnErr, IfOk, IsSome, IfSome};
 ghost use Rattle.std.specs.Prelude.{IfNone, IsTrue, length};
 ghost use Rattle.std.specs.Bool.{MatchBool};
@@ -62,7 +63,7 @@ impl Core {
     ///
     /// # Errors
     ///
-    /// Want of memory.
+    /// It runs out of memory.
     pub fn start(alloc: Global, net: &Net) -> Result<Core, AllocError>
         ensures { IfOk result (λ c. c ≡ start_map (start_of net.now)) }
     {
@@ -131,7 +132,8 @@ impl Core {
     ///
     /// # Errors
     ///
-    /// Want of memory; the state is as it was. Only a solo move and a fork take memory: a step that joins or brings the answer never fails.
+    /// It runs out of memory; the state is as it was. Only a solo move and a fork take memory: a step that joins or brings the answer never
+    /// fails.
     pub fn step(&mut self, net: &Net, ticket: u32) -> Result<Stepped, AllocError>
         requires runs { Runs net.now }
         requires live { IsLive self.old ticket }
@@ -162,7 +164,7 @@ impl Core {
     ///
     /// # Errors
     ///
-    /// Out of memory; the token is dropped.
+    /// It runs out of memory; the token is dropped.
     pub fn alone(alloc: Global, token: Token) -> Result<Core, AllocError>
         ensures { IfOk result (λ c. c ≡ state (insert empty 0 (token_of token)) empty 1 None) }
     {
@@ -182,7 +184,7 @@ impl Core {
     ///
     /// # Errors
     ///
-    /// Out of memory; some of the moves may be made then.
+    /// It runs out of memory; some of the moves may be made then.
     pub fn walk(&mut self, net: &Net, ticket: u32, most: u32) -> Result<u32, AllocError>
         requires live { IsLive self.old ticket }
         ensures { IfOk result (λ n. GoesAlone net.now self.old ticket most n self.new) }
@@ -196,7 +198,7 @@ impl Core {
     ///
     /// # Errors
     ///
-    /// Out of memory; the state is as it was.
+    /// It runs out of memory; the state is as it was.
     pub fn step_own(&mut self, net: &Net, ticket: u32) -> Result<bool, AllocError>
         requires live { IsLive self.old ticket }
         requires able { OwnAble net.now self.old ticket }
@@ -216,7 +218,7 @@ impl Core {
     ///
     /// # Errors
     ///
-    /// Out of memory; the state is as it was.
+    /// It runs out of memory; the state is as it was.
     pub fn graft(&mut self, ticket: u32, branch: Core) -> Result<(), AllocError>
         requires live { IsLive self.old ticket }
         requires low { (q : ℕ) → self.old.next ≤ q → get self.old.tokens q ≡ None }

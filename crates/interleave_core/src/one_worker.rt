@@ -1,4 +1,5 @@
-// The run of one worker.
+//! The run of one worker.
+
 ghost use Rattle.std.specs.Prelude.{◌≡◌, ◌≤◌, ◌<◌, OnOk, IfOk, length};
 ghost use Rattle.pcf_values.specs.Most.{most_budget};
 ghost use Rattle.interleave_laws.specs.Runs.{Runs};
@@ -23,8 +24,8 @@ pub struct Ran {
     pub answer: Option<Val>,
 }
 
-// The least live ticket moves as long as its moves are solo moves, in place, and then makes the move that isn't, as far as the budget
-// goes. Each move is written down.
+/// The least live ticket moves as long as its moves are solo moves, in place, and then makes the move that isn't, as far as the budget
+/// goes. Each move is written down.
 fn go_on(
     parts: &mut Parts,
     net: &Net,
@@ -58,7 +59,7 @@ fn go_on(
 ///
 /// # Errors
 ///
-/// Want of memory.
+/// It runs out of memory.
 pub fn run_one(alloc: Global, net: &Net, budget: u32) -> Result<Ran, AllocError>
     requires runs { Runs net.now }
     requires budget { (1 ≤ budget) × (budget ≤ most_budget) }

@@ -1,4 +1,5 @@
-// One step of a ticket of a token that runs by itself, where no more is known of a join than what was forked here.
+//! One step of a ticket of a token that runs by itself, where no more is known of a join than what was forked here.
+
 ghost use Rattle.std.specs.Prelude.{◌≡◌, ◌+◌, ◌<◌, ◌^◌, ◌↔◌, None, OnErr, IfOk, IsSome, IsTrue};
 ghost use Rattle.std.specs.Bool.{MatchBool};
 ghost use Rattle.std.specs.FinMap.{get};
@@ -16,7 +17,7 @@ use fork_join::JoinTable;
 use net_build::Net;
 use std::alloc::AllocError;
 
-// Whether the table has an entry for a node and the ticket's box stack.
+/// Whether the table has an entry for a node and the ticket's box stack.
 fn has_entry(live: &LiveTokens, joins: &JoinTable, ticket: u32, at: u32) -> bool
     requires { (t : Boxes) × HasBoxes live.now ticket t }
     ensures { (t : Boxes) × HasBoxes live.now ticket t × (IsTrue result ↔ IsSome (get joins.now (at, t))) }
@@ -27,8 +28,8 @@ fn has_entry(live: &LiveTokens, joins: &JoinTable, ticket: u32, at: u32) -> bool
     }
 }
 
-// Makes the move of a ticket whose token makes no solo move, but no answer and no join whose entry isn't there; then it answers `false`,
-// and all stays.
+/// Makes the move of a ticket whose token makes no solo move, but no answer and no join whose entry isn't there; then it answers `false`,
+/// and all stays.
 pub(crate) fn act_own(parts: &mut Parts, net: &Net, ticket: u32) -> Result<bool, AllocError>
     requires stands { StandsStill net.now parts.old.live ticket }
     requires able { OwnAble net.now (state_of parts.old) ticket }
@@ -56,7 +57,7 @@ pub(crate) fn act_own(parts: &mut Parts, net: &Net, ticket: u32) -> Result<bool,
     }
 }
 
-// Makes the move of a ticket, but no answer and no join whose entry isn't there; then it answers `false`, and all stays.
+/// Makes the move of a ticket, but no answer and no join whose entry isn't there; then it answers `false`, and all stays.
 pub(crate) fn step_own(parts: &mut Parts, net: &Net, ticket: u32) -> Result<bool, AllocError>
     requires live { IsSome (get parts.old.live ticket) }
     requires able { OwnAble net.now (state_of parts.old) ticket }

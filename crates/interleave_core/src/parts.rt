@@ -1,4 +1,5 @@
-// The parts of a state, side by side.
+//! The parts of a state, side by side.
+
 ghost use Rattle.std.specs.Prelude.{◌≡◌, None, IfOk};
 ghost use Rattle.std.specs.FinMap.{insert, empty};
 ghost use Rattle.interleave_laws.specs.Start.{start_of};
@@ -15,7 +16,7 @@ use pcf_values::Val;
 use std::alloc::{AllocError, Global};
 use token_stacks::Stacks;
 
-// The live tokens, the open entries, the next ticket, and the answer.
+/// The live tokens, the open entries, the next ticket, and the answer.
 #[derive(Drop)]
 pub(crate) struct Parts {
     pub(crate) live: LiveTokens,
@@ -24,7 +25,7 @@ pub(crate) struct Parts {
     pub(crate) answer: Option<Val>,
 }
 
-// The parts with which a run begins: ticket 0 asks for the program's value.
+/// The parts with which a run begins: ticket 0 asks for the program's value.
 pub(crate) fn begin(alloc: Global, net: &Net) -> Result<Parts, AllocError>
     ensures { IfOk result (λ p. state_of p ≡ start_map (start_of net.now)) }
 {
@@ -40,7 +41,7 @@ pub(crate) fn begin(alloc: Global, net: &Net) -> Result<Parts, AllocError>
     )?)
 }
 
-// The parts with which a token's run by itself begins: it is ticket 0.
+/// The parts with which a token's run by itself begins: it is ticket 0.
 pub(crate) fn begin_at(alloc: Global, token: Token) -> Result<Parts, AllocError>
     ensures { IfOk result (λ p. state_of p ≡ state (insert empty 0 (token_of token)) empty 1 None) }
 {

@@ -1,4 +1,5 @@
-// What a token that makes no solo move does at the node that it faces.
+//! What a token that makes no solo move does at the node that it faces.
+
 ghost use Rattle.std.specs.Prelude.{◌≡◌, ℕ, false};
 ghost use Rattle.move_rules.specs.Moves.{move};
 ghost use Rattle.move_rules.specs.AtNode.{NotSolo};
@@ -10,8 +11,8 @@ use move_rules::{Kind, Token, faced};
 use net_build::{Net, Node};
 use pcf_values::{Operator, Side, Val};
 
-// What comes of a token: it forks to two operands, it joins at an operator with its value, whose conclusion is that wire, it is the
-// answer, or it has no move.
+/// What comes of a token: it forks to two operands, it joins at an operator with its value, whose conclusion is that wire, it is the
+/// answer, or it has no move.
 #[derive(Clone, Copy)]
 pub(crate) enum Role {
     Fork(u32, u32),
@@ -20,6 +21,7 @@ pub(crate) enum Role {
     Still,
 }
 
+/// What comes of a value on this wire at an operator: a join, if the wire is one of its operands.
 fn joins(operator: Operator, a: u32, b: u32, c: u32, v: Val, wire: u32) -> Role
     ensures { result ≡ operand_role operator a b c (Kind.Ans v) false wire }
 {
@@ -32,6 +34,7 @@ fn joins(operator: Operator, a: u32, b: u32, c: u32, v: Val, wire: u32) -> Role
     }
 }
 
+/// What comes of a token at an operator: a question that goes up forks, and a value that comes down joins.
 fn operand(operator: Operator, a: u32, b: u32, c: u32, kind: Kind, up: bool, wire: u32) -> Role
     ensures { result ≡ operand_role operator a b c kind up wire }
 {
@@ -47,6 +50,7 @@ fn operand(operator: Operator, a: u32, b: u32, c: u32, kind: Kind, up: bool, wir
     }
 }
 
+/// What comes of a token at the root: a value that comes down is the answer.
 fn last(kind: Kind, up: bool) -> Role
     ensures { (c w : ℕ) → result ≡ role_at (Node.Root c) kind up w }
 {
@@ -56,6 +60,7 @@ fn last(kind: Kind, up: bool) -> Role
     }
 }
 
+/// What comes of a token at this node.
 fn at_node(node: Node, kind: Kind, up: bool, wire: u32) -> Role
     ensures { result ≡ role_at node kind up wire }
 {
@@ -71,7 +76,7 @@ fn at_node(node: Node, kind: Kind, up: bool, wire: u32) -> Role
     }
 }
 
-// What the token does at this node, where it makes no solo move there.
+/// What the token does at this node, where it makes no solo move there.
 fn role_played(node: Node, token: &Token) -> Role
     ensures { result ≡ role_of node token.now.kind token.now.up token.now.wire token.now.stacks.work }
 {
@@ -82,7 +87,7 @@ fn role_played(node: Node, token: &Token) -> Role
     }
 }
 
-// The node's number and the role of a token that makes no solo move.
+/// The node's number and the role of a token that makes no solo move.
 fn met(net: &Net, token: &Token) -> (u32, Role)
     requires { NotSolo (move net.now (token_of token.now)) }
     ensures plays { move net.now (token_of token.now) ≡ role_move result.1 result.0 token.now.stacks.boxes }
@@ -94,7 +99,7 @@ fn met(net: &Net, token: &Token) -> (u32, Role)
     }
 }
 
-// The node's number and the role of the ticket's token, which makes no solo move.
+/// The node's number and the role of the ticket's token, which makes no solo move.
 pub(crate) fn met_at(net: &Net, live: &LiveTokens, ticket: u32) -> (u32, Role)
     requires { StandsStill net.now live.now ticket }
     ensures { MetAt net.now live.now ticket result.0 result.1 }

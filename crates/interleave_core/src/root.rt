@@ -1,11 +1,12 @@
-// Where a run begins.
+//! Where a run begins.
+
 ghost use Rattle.std.specs.Prelude.{◌≡◌};
 ghost use Rattle.interleave_laws.specs.Start.{root_wire};
 ghost use Rattle.interleave_core.specs.Roots.{root_at};
 
 use net_build::{Net, Node};
 
-// The wire of a root, if the node is one.
+/// The wire of a root, if the node is one.
 fn at(node: Node) -> Option<u32>
     ensures { result ≡ root_at node }
 {
@@ -15,7 +16,7 @@ fn at(node: Node) -> Option<u32>
     }
 }
 
-// The wire of the net's first root, which is that of the program's value; 0 where there is no root.
+/// The wire of the net's first root, which is that of the program's value; 0 where there is no root.
 pub(crate) fn root(net: &Net) -> u32
     ensures { result ≡ root_wire net.now.nodes }
 {

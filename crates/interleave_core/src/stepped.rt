@@ -1,4 +1,5 @@
-// What one step was.
+//! What one step was.
+
 use pcf_values::Val;
 
 /// What became of the ticket that moved.

@@ -153,6 +153,7 @@ turn_down i n m t w r h = go n (plain_down n w m t) refl h
     go (Binary o a b c) (Some s) e h = cc
     go n (Some s) e h = inr (back s h)
 
+-- where a plain rule leads from a conclusion, a question there is passed on to where it leads
 turn_up : (i : ℕ) (n : Node) (w : ℕ) (m : Work) (t : Boxes) (r : Place) → turned_option (plain_up n w m t) ≡ Some r →
     look_up i n w m t ≡ pass i (turned r)
 turn_up i (Const v c) w m t r h = cc

@@ -28,6 +28,7 @@ open_or_kept (tested k c a b t) = inl tt
 open_or_kept (chosen k c a b v n t) = inl tt
 open_or_kept (forked k op s a b l r) = inl tt
 
+-- where neither side's question is kept at the join, its entry is pending
 pub right_pending : (l r : Tree) → Open l → Open r → status l r ≡ pending
 right_pending (kept v n) r h g = elim h [ ]
 right_pending (asking i) r h g = go r g
@@ -124,6 +125,7 @@ tokens_left (keeps n s e) i nx f f' g h z j = ap (λ o. or_else o (g j)) (h j) �
     push_none (nat_eq j i) (f j) (g j) (λ q. ap g (eqb-true j i q) ∙ z)
 tokens_left (closes n s x) i nx f f' g h z j = ap (λ o. or_else o (g j)) (h j) ∙ push_some (nat_eq j i) x (f j) (g j)
 
+-- and a change of the other side's tokens is one of both
 pub tokens_right : (e : Effect) (i nx : ℕ) (f g g' : Tokens) → ((j : ℕ) → g' j ≡ on_tokens e i nx g j) → f i ≡ None →
     f nx ≡ None → (j : ℕ) → or_else (f j) (g' j) ≡ on_tokens e i nx (λ j. or_else (f j) (g j)) j
 tokens_right (turn x) i nx f g g' h z y j = ap (or_else (f j)) (h j) ∙

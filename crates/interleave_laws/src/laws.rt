@@ -1,4 +1,5 @@
 //! What holds of states and of every interleaving.
+
 ghost use Rattle.interleave_laws.specs.Example.{ExampleOne, ExampleAnswer, ExampleOther};
 ghost use Rattle.interleave_laws.specs.Progress.{OnePlace, AskedOnce, OpenedOnce, HasStep, AnsweredEnds, IdleAnswered, OthersStay};
 ghost use Rattle.interleave_laws.specs.Diamond.{Diamond};

@@ -1,4 +1,5 @@
 //! Two open forks at once, whose keys differ in one part.
+
 ghost use Rattle.std.specs.Prelude.{◌≡◌, [], ◌∷◌, None, Some, IfOk, OnOk, if◌then◌else◌};
 ghost use Rattle.std.specs.FinMap.{empty, get};
 ghost use Rattle.token_stacks.specs.Signatures.{star};

@@ -9,7 +9,7 @@ use std::thread::join;
 
 const MOST: u64 = 20_000;
 
-// Publishes each number up to the most.
+/// Publishes each number up to the most.
 fn publish_all<R: Wait>(rt: &R, mut writer: Writer) -> Writer
     requires { writer.published ≡ 0 ∷ [] }
 {
@@ -20,7 +20,7 @@ fn publish_all<R: Wait>(rt: &R, mut writer: Writer) -> Writer
     writer
 }
 
-// Reads until the most is met, and answers how often something else was.
+/// Reads until the most is met, and answers how often something else was.
 fn read_to_the_most<R: Wait>(rt: &R, mut reader: Reader) -> u64 {
     for times in 0..u64::MAX {
         if reader.read(rt) == MOST {

@@ -1,4 +1,5 @@
 //! A meter in one thread, call by call.
+
 use progress_meter::meter;
 use std::test::Fail;
 

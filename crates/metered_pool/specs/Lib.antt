@@ -1,3 +1,6 @@
 -- what a reader has to believe: what a metered pool is and does, and what is read on the meter of a run
+--
+-- A pool with the writer of a meter, and which run it is of.
 pub mod Metered
+-- What is read on the meter of a run, and what of it is told.
 pub mod Progress

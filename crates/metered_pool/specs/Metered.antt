@@ -9,12 +9,11 @@ use Rattle.net_build.specs.Nets.{NetTree}
 use Rattle.progress_meter.specs.Meters.{Publisher, last_of, with_number}
 use Rattle.progress_meter.specs.Codes.{publisher_code}
 use Rattle.gate_workers.specs.declared.turn.Turn.{Turn}
-use Rattle.move_rules.specs.Walks.{Passage}
-use Rattle.token_pool.specs.declared.pieces.Piece.{Piece}
+use Rattle.branch_runs.specs.Branching.{Grown}
+use Rattle.branch_pool.specs.Benches.{Portion, GivesBranch, TakesBranch}
 use Rattle.token_pool.specs.Pools.{Pool}
 use Rattle.token_pool.specs.Booking.{halted}
 use Rattle.token_pool.specs.Ending.{Suits}
-use Rattle.token_pool.specs.Benches.{GivesTurn, TakesIn}
 use Rattle.token_pool.specs.Codes.{pool_code}
 
 -- a pool, and the writer on whose meter its moves are counted
@@ -42,12 +41,12 @@ abbrev pub Keeps : WatchedRun → Metered → Type 0
 Keeps r m = IsLevel m × IsOf r m
 
 -- a turn is what the pool gives, and nothing is published
-abbrev pub Gives : Metered → ℕ → Turn Piece → Metered → Type 0
-Gives m w t n = GivesTurn m.pool w t n.pool × (n.writer ≡ m.writer)
+abbrev pub Gives : Metered → ℕ → Turn Portion → Metered → Type 0
+Gives m w t n = GivesBranch m.pool w t n.pool × (n.writer ≡ m.writer)
 
 -- what is handed in is what the pool takes in, and then the number of moves made is published
-abbrev pub Books : Metered → ℕ → Passage → Metered → Type 0
-Books m w made n = TakesIn m.pool w made n.pool × (n.writer ≡ with_number m.writer (length n.pool.log))
+abbrev pub Books : Metered → ℕ → Grown → Metered → Type 0
+Books m w made n = TakesBranch m.pool w made n.pool × (n.writer ≡ with_number m.writer (length n.pool.log))
 
 -- the pool is stopped, and nothing is published
 abbrev pub Halts : Metered → Metered → Type 0

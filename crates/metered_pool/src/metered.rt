@@ -1,17 +1,19 @@
 //! A pool whose bookings are published.
-ghost use Rattle.std.specs.Prelude.{◌≡◌, ◌≤◌, length};
+
+ghost use Rattle.std.specs.Prelude.{◌≡◌, ◌≤◌, length, IfOk, OnErr};
 ghost use Rattle.progress_meter.specs.Meters.{last_of, with_number};
 ghost use Rattle.token_pool.specs.Ending.{Suits};
+ghost use Rattle.branch_pool.specs.Benches.{TakesBranch};
 ghost use Rattle.metered_pool.specs.Metered.{IsLevel, IsOf};
 
+use branch_pool::{BranchPiece, play_piece, take_in, turn_in};
+use branch_runs::{Branch, NamedNet, OnNet};
 use gate_workers::{Bench, Turn};
-use move_rules::Moved;
-use net_build::Net;
 use progress_meter::Writer;
 use std::alloc::{AllocError, Global};
 use std::marker::{Brand, Model, PhantomData};
 use std::sync::Wait;
-use token_pool::{Piece, PoolState};
+use token_pool::PoolState;
 
 /// Names one watched run: its meter, net, budget and number of workers. A call that passes `Brand` picks it.
 pub trait Watched {
@@ -26,17 +28,19 @@ impl Watched for Brand {
     ghost run = { no_run };
 }
 
-/// A pool of the run that `M` names, and the writer of its meter. Contracts see both; the number published last is the number of moves
-/// made. A call of this crate's users that makes one passes `Brand` for `M`, and picks the run that it has.
+/// A pool of the run that `M` names, on the net that `N` names, and the writer of its meter. Contracts see both; the number published last
+/// is the number of moves made. A call of this crate's users that makes one passes `Brand` for both names, and picks the run that it has.
 #[derive(Drop)]
-pub struct MeteredPool<'a, M: Watched, R: Wait + Sync> {
+pub struct MeteredPool<'a, M: Watched, N: OnNet, R: Wait + Sync> {
     rt: &'a R,
     pool: PoolState,
     writer: Writer,
     run: PhantomData<M>,
+    net: PhantomData<N>,
 }
 
-impl<'a, M: Watched, R: Wait + Sync> Model for MeteredPool<'a, M, R> {
+impl<'a, M: Watched, N: OnNet, R: Wait + Sync> Model for MeteredPool<'a, M, N, R> {
+    ghost use Rattle.std.specs.Prelude.{◌≡◌};
     ghost use Rattle.metered_pool.specs.Metered.{Metered, Keeps, metered_code};
 
     ghost Value = { Metered };
@@ -45,12 +49,13 @@ impl<'a, M: Watched, R: Wait + Sync> Model for MeteredPool<'a, M, R> {
 
     ghost view = { λ m. record { pool = m.pool; writer = m.writer } };
 
-    ghost invariant = { λ m. Keeps M.run (record { pool = m.pool; writer = m.writer }) };
+    ghost invariant = { λ m. Keeps M.run (record { pool = m.pool; writer = m.writer }) × (m.pool.net ≡ N.net) };
 }
 
-impl<'a, M: Watched, R: Wait + Sync> MeteredPool<'a, M, R> {
+impl<'a, M: Watched, N: OnNet, R: Wait + Sync> MeteredPool<'a, M, N, R> {
     /// A bench that holds these three. Takes no memory.
-    pub fn new(rt: &'a R, pool: PoolState, writer: Writer) -> MeteredPool<'a, M, R>
+    pub fn new(rt: &'a R, pool: PoolState, writer: Writer) -> MeteredPool<'a, M, N, R>
+        requires named { pool.net ≡ N.net }
         requires level { IsLevel (record { pool = pool; writer = writer }) }
         requires run { IsOf M.run (record { pool = pool; writer = writer }) }
         ensures { result ≡ record { pool = pool; writer = writer } }
@@ -60,6 +65,7 @@ impl<'a, M: Watched, R: Wait + Sync> MeteredPool<'a, M, R> {
             pool,
             writer,
             run: PhantomData,
+            net: PhantomData,
         }
     }
 
@@ -75,12 +81,13 @@ impl<'a, M: Watched, R: Wait + Sync> MeteredPool<'a, M, R> {
             pool,
             writer,
             run: _,
+            net: _,
         } = self;
         (pool, writer)
     }
 }
 
-// Publishes how many moves the pool has booked.
+/// Publishes how many moves the pool has booked.
 fn tell<R: Wait>(rt: &R, pool: &PoolState, writer: &mut Writer)
     requires { last_of writer.old.published ≤ length pool.now.log }
     ensures published { writer.new ≡ with_number writer.old (length pool.now.log) }
@@ -89,17 +96,40 @@ fn tell<R: Wait>(rt: &R, pool: &PoolState, writer: &mut Writer)
     writer.publish(rt, u64::from(pool.booked()));
 }
 
-impl<'a, M: Watched + Send, R: Wait + Sync> Bench for MeteredPool<'a, M, R> {
-    type Piece = Piece;
+/// Has the pool take in what a worker made, and publishes how many moves it has booked then.
+fn book<N: OnNet, R: Wait>(
+    rt: &R,
+    pool: &mut PoolState,
+    writer: &mut Writer,
+    worker: u32,
+    made: Branch<N>,
+) -> Result<(), AllocError>
+    requires level { last_of writer.old.published ≡ length pool.old.log }
+    requires named { pool.old.net ≡ N.net }
+    ensures taken { IfOk result (λ _. TakesBranch pool.old worker made pool.new) }
+    ensures published { IfOk result (λ _. writer.new ≡ with_number writer.old (length pool.new.log)) }
+    ensures level { last_of writer.new.published ≡ length pool.new.log }
+    ensures suits { Suits pool.new pool.old.net pool.old.budget pool.old.workers }
+    ensures err { OnErr result ((pool.new ≡ pool.old) × (writer.new ≡ writer.old)) }
+{
+    take_in(pool, worker, made)?;
+    tell(rt, pool, writer);
+    Ok(())
+}
 
-    type Made = Moved;
+impl<'a, M: Watched + Send, N: OnNet + Send + Sync, R: Wait + Sync> Bench
+    for MeteredPool<'a, M, N, R> {
+    type Piece = BranchPiece<N>;
 
-    type Tool = Net;
+    type Made = Branch<N>;
 
-    ghost use Rattle.token_pool.specs.Benches.{MakesWalk};
+    type Tool = NamedNet<N>;
+
+    ghost use Rattle.branch_pool.specs.Benches.{MakesBranch};
     ghost use Rattle.metered_pool.specs.Metered.{Gives, Books, Halts};
 
-    ghost makes = { MakesWalk };
+    // The tool is the net that the type names.
+    ghost makes = { λ tool. MakesBranch N.net };
 
     ghost gives = { Gives };
 
@@ -107,24 +137,27 @@ impl<'a, M: Watched + Send, R: Wait + Sync> Bench for MeteredPool<'a, M, R> {
 
     ghost halts = { Halts };
 
-    fn turn(&mut self, worker: u32) -> Result<Turn<Piece>, AllocError> {
-        self.pool.turn(worker)
+    fn turn(&mut self, worker: u32) -> Result<Turn<BranchPiece<N>>, AllocError> {
+        turn_in(&mut self.pool, worker)
     }
 
-    fn work(alloc: Global, tool: &Net, piece: Piece) -> Result<Moved, AllocError> {
-        PoolState::work(alloc, tool, piece)
+    fn work(
+        alloc: Global,
+        tool: &NamedNet<N>,
+        piece: BranchPiece<N>,
+    ) -> Result<Branch<N>, AllocError> {
+        play_piece(alloc, tool, piece)
     }
 
-    fn hand_in(&mut self, worker: u32, made: Moved) -> Result<(), AllocError> {
+    fn hand_in(&mut self, worker: u32, made: Branch<N>) -> Result<(), AllocError> {
         let MeteredPool {
             rt,
             pool,
             writer,
             run: _,
+            net: _,
         } = self;
-        pool.hand_in(worker, made)?;
-        tell(*rt, pool, writer);
-        Ok(())
+        book(*rt, pool, writer, worker, made)
     }
 
     fn stop(&mut self) {
@@ -132,6 +165,6 @@ impl<'a, M: Watched + Send, R: Wait + Sync> Bench for MeteredPool<'a, M, R> {
     }
 
     fn spare(&self) -> u32 {
-        self.pool.spare()
+        self.pool.spare_pieces()
     }
 }

@@ -1,4 +1,5 @@
 //! The log of one worker.
+
 ghost use Rattle.std.specs.Prelude.{◌≡◌, ◌<◌, ◌^◌, length, IfOk};
 ghost use Rattle.schedule_log.specs.Logs.{IsMadeBy, by, tickets_in_log};
 
@@ -23,7 +24,7 @@ pub(crate) fn named_first(alloc: Global, ended: Ended) -> Result<Ended, AllocErr
     })
 }
 
-// The log of the same moves, all under the first worker's number.
+/// The log of the same moves, all under the first worker's number.
 fn by_first(alloc: Global, moves: &[Entry]) -> Result<Log, AllocError>
     requires { length moves.now < 2 ^ 32 }
     ensures { IfOk result (λ log. log.entries ≡ by 0 (tickets_in_log moves.now)) }

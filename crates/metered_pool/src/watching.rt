@@ -1,4 +1,5 @@
 //! The run of a net, read beside its workers.
+
 ghost use Rattle.std.specs.Prelude.{◌≡◌, ◌≤◌, [], ◌∷◌, length, All, IfOk, OnOk};
 ghost use Rattle.std.specs.List.Sorted.{IsNonDecreasing};
 ghost use Rattle.pcf_values.specs.Most.{most_budget, most_workers};
@@ -13,6 +14,7 @@ ghost use Rattle.metered_pool.specs.Progress.{HasRead, IsProgress};
 use crate::naming::named_first;
 use crate::pace::Pace;
 use crate::{MeteredPool, Watched};
+use branch_runs::{NamedNet, OnNet};
 use gate_workers::{Gate, drive};
 use net_build::Net;
 use progress_meter::{Reader, Writer, meter};
@@ -31,7 +33,7 @@ use token_pool::{Ended, PoolState};
 ///
 /// # Errors
 ///
-/// Want of memory.
+/// It runs out of memory.
 pub fn watch_net<R: Threads + Wait + Sync, G: Gate>(
     rt: &R,
     alloc: Global,
@@ -54,7 +56,7 @@ pub fn watch_net<R: Threads + Wait + Sync, G: Gate>(
     Ok((ended, numbers))
 }
 
-// Drives a new pool, and reads on a new meter.
+/// Drives a new pool, and reads on a new meter.
 fn drive_new<R: Threads + Wait + Sync, G: Gate>(
     rt: &R,
     alloc: Global,
@@ -73,17 +75,17 @@ fn drive_new<R: Threads + Wait + Sync, G: Gate>(
     let readings = Vec::with_capacity(alloc, 17)?;
     let (writer, reader) = meter(alloc)?;
     let pool = PoolState::start(alloc, net, budget, workers)?;
-    drive_watched::<Brand, R, G>(
-        rt, alloc, net, workers, gate, pool, writer, reader, readings,
+    let tool = net.copy(alloc)?;
+    drive_named::<Brand, Brand, R, G>(
+        rt, alloc, tool, workers, gate, pool, writer, reader, readings,
     )
 }
 
-// Drives the pool, and reads on the meter beside. The readings never go down, and none is above the number of moves of the pool that came
-// back, which is one of the same run.
-fn drive_watched<M: Watched + Send + Sync, R: Threads + Wait + Sync, G: Gate>(
+/// Drives the pool on the net that `N` names, and reads on the meter beside.
+fn drive_named<M: Watched + Send + Sync, N: OnNet + Send + Sync, R: Threads + Wait + Sync, G: Gate>(
     rt: &R,
     alloc: Global,
-    net: &Net,
+    net: Net,
     workers: u32,
     gate: &G,
     pool: PoolState,
@@ -91,9 +93,12 @@ fn drive_watched<M: Watched + Send + Sync, R: Threads + Wait + Sync, G: Gate>(
     reader: Reader,
     readings: Vec<u64>,
 ) -> Result<(PoolState, Vec<u64>), AllocError>
+    requires runs { Runs N.net }
+    requires named { net ≡ N.net }
+    requires of_net { pool.net ≡ N.net }
     requires some { 1 ≤ workers }
-    requires level { IsLevel (record { pool = pool; writer = writer }) }
-    requires run { IsOf M.run (record { pool = pool; writer = writer }) }
+    requires level { last_of writer.published ≡ length pool.log }
+    requires run { (writer.meter ≡ M.run.meter) × Suits pool M.run.net M.run.budget M.run.workers }
     requires reader { (reader.meter ≡ M.run.meter) × (reader.readings ≡ 0 ∷ []) }
     requires empty { readings.items ≡ [] }
     ensures suits { IfOk result (λ r. Suits r.0 M.run.net M.run.budget M.run.workers) }
@@ -101,7 +106,38 @@ fn drive_watched<M: Watched + Send + Sync, R: Threads + Wait + Sync, G: Gate>(
     ensures never_down { IfOk result (λ r. IsNonDecreasing r.1.items) }
     ensures booked { IfOk result (λ r. All (λ n. n ≤ length r.0.log) r.1.items) }
 {
-    let bench: MeteredPool<'_, M, R> = MeteredPool::new(rt, pool, writer);
+    let tool: NamedNet<N> = NamedNet::new(net);
+    let bench: MeteredPool<'_, M, N, R> = MeteredPool::new(rt, pool, writer);
+    let driven = drive_watched(rt, alloc, &tool, workers, gate, bench, reader, readings);
+    drop(tool);
+    driven
+}
+
+/// Drives the bench, and reads on its meter beside. The readings never go down, and none is above the number of moves of the pool that
+/// came back, which is one of the same run.
+fn drive_watched<
+    M: Watched + Send + Sync,
+    N: OnNet + Send + Sync,
+    R: Threads + Wait + Sync,
+    G: Gate,
+>(
+    rt: &R,
+    alloc: Global,
+    tool: &NamedNet<N>,
+    workers: u32,
+    gate: &G,
+    bench: MeteredPool<'_, M, N, R>,
+    reader: Reader,
+    readings: Vec<u64>,
+) -> Result<(PoolState, Vec<u64>), AllocError>
+    requires some { 1 ≤ workers }
+    requires reader { (reader.meter ≡ M.run.meter) × (reader.readings ≡ 0 ∷ []) }
+    requires empty { readings.items ≡ [] }
+    ensures suits { IfOk result (λ r. Suits r.0 M.run.net M.run.budget M.run.workers) }
+    ensures many { IfOk result (λ r. length r.1.items ≡ 16) }
+    ensures never_down { IfOk result (λ r. IsNonDecreasing r.1.items) }
+    ensures booked { IfOk result (λ r. All (λ n. n ≤ length r.0.log) r.1.items) }
+{
     let pace = Pace::new();
     let (answer, bench) = join(
         rt,
@@ -111,11 +147,7 @@ fn drive_watched<M: Watched + Send + Sync, R: Threads + Wait + Sync, G: Gate>(
         { read_all(rt, reader, readings, &pace) },
         ||
             requires { 1 ≤ workers }
-        {
-            let bench = drive(rt, alloc, bench, net, workers, gate);
-            pace.end();
-            bench
-        },
+        { drive_to_end(rt, alloc, bench, tool, workers, gate, &pace) },
     );
     let (pool, writer) = bench.into_parts();
     match answer {
@@ -127,7 +159,30 @@ fn drive_watched<M: Watched + Send + Sync, R: Threads + Wait + Sync, G: Gate>(
     }
 }
 
-// The readings of a reader that the writer has settled: they never went down, and none is above the number that was published last.
+/// Drives the bench until there is nothing to do for any worker, and ends the pace then.
+fn drive_to_end<
+    'a,
+    M: Watched + Send + Sync,
+    N: OnNet + Send + Sync,
+    R: Threads + Wait + Sync,
+    G: Gate,
+>(
+    rt: &R,
+    alloc: Global,
+    bench: MeteredPool<'a, M, N, R>,
+    tool: &NamedNet<N>,
+    workers: u32,
+    gate: &G,
+    pace: &Pace,
+) -> MeteredPool<'a, M, N, R>
+    requires { 1 ≤ workers }
+{
+    let bench = drive(rt, alloc, bench, tool, workers, gate);
+    pace.end();
+    bench
+}
+
+/// The readings of a reader that the writer has settled: they never went down, and none is above the number that was published last.
 fn settled<R: Wait>(rt: &R, mut writer: Writer, reader: Reader, readings: Vec<u64>) -> Vec<u64>
     requires reader { (reader.meter ≡ writer.meter) × (reader.readings ≡ 0 ∷ readings.items) }
     ensures same { result ≡ readings }
@@ -138,7 +193,7 @@ fn settled<R: Wait>(rt: &R, mut writer: Writer, reader: Reader, readings: Vec<u6
     readings
 }
 
-// The reader after sixteen readings, and these.
+/// The reader after sixteen readings, and these.
 fn read_all<R: Wait>(
     rt: &R,
     mut reader: Reader,
@@ -154,7 +209,7 @@ fn read_all<R: Wait>(
     }
 }
 
-// Adds sixteen readings, each after twice the pause of the one before.
+/// Adds sixteen readings, each after twice the pause of the one before.
 fn push_all<R: Wait>(
     rt: &R,
     reader: &mut Reader,
@@ -171,7 +226,7 @@ fn push_all<R: Wait>(
     Ok(())
 }
 
-// Finishes the run that this pool is of. The moves go on behind those that were booked, and where there is one worker all are its own.
+/// Finishes the run that this pool is of. The moves go on behind those that were booked, and where there is one worker all are its own.
 fn finish(
     alloc: Global,
     pool: PoolState,

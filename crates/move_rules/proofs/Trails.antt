@@ -29,6 +29,7 @@ first_step true (answer v) f y h = cc
 first_step true stay f y h = cc
 first_step false m f y h = cc
 
+-- nodes of a sound net through which one plain move after another leads are a walk from the first place to the last
 pub trail_walks : (net : NetTree) → Sound net → (trail : List Seen) → All (Stands net) trail → (x y : TokenTree) →
     through trail x ≡ Some y
     → Walks net x (numbers trail) y

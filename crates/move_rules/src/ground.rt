@@ -1,5 +1,6 @@
 //! The solo rules of numbers and tests, in place. None takes memory. Each function takes a token that faces its node; where no rule
 //! fits, the token stays as it was.
+
 ghost use Rattle.std.specs.Prelude.{◌≡◌, ℕ};
 ghost use Rattle.pcf_values.specs.Values.{at_zero};
 ghost use Rattle.net_build.specs.declared.node.Node.TheVariants.{Const, Succ, Pred, Ifz};
@@ -8,6 +9,7 @@ ghost use Rattle.move_rules.specs.Steps.{Passes};
 use crate::{Kind, Token};
 use pcf_values::Val;
 
+/// A constant: a question is answered with its number.
 pub(crate) fn const_moves(token: &mut Token, v: u64) -> bool
     ensures { (w : ℕ) → Passes (Const v w) token.old result token.new }
 {
@@ -21,6 +23,7 @@ pub(crate) fn const_moves(token: &mut Token, v: u64) -> bool
     }
 }
 
+/// A successor: a question goes on to the operand, and its answer comes back larger by one.
 pub(crate) fn succ_moves(token: &mut Token, a: u32, w: u32) -> bool
     ensures { Passes (Succ a w) token.old result token.new }
 {
@@ -41,6 +44,7 @@ pub(crate) fn succ_moves(token: &mut Token, a: u32, w: u32) -> bool
     }
 }
 
+/// A predecessor: a question goes on to the operand, and its answer comes back less by one, or as 0.
 pub(crate) fn pred_moves(token: &mut Token, a: u32, w: u32) -> bool
     ensures { Passes (Pred a w) token.old result token.new }
 {
@@ -61,7 +65,7 @@ pub(crate) fn pred_moves(token: &mut Token, a: u32, w: u32) -> bool
     }
 }
 
-// The branch that a test takes.
+/// The branch that a test takes.
 fn branch(v: Val, p: u32, q: u32) -> u32
     ensures { result ≡ at_zero v p q }
 {
@@ -71,6 +75,7 @@ fn branch(v: Val, p: u32, q: u32) -> u32
     }
 }
 
+/// A test: a question goes to what is tested, that answer to a branch, and the branch's answer out.
 pub(crate) fn test_moves(token: &mut Token, c: u32, p: u32, q: u32, w: u32) -> bool
     ensures { Passes (Ifz c p q w) token.old result token.new }
 {

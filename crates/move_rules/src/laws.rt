@@ -1,4 +1,5 @@
 //! What holds of the table of moves and of walks.
+
 ghost use Rattle.move_rules.specs.Laws.{Retrace, FacedMove, OneWalk, TrailWalks};
 
 /// What a plain rule does can be retraced: on a sound net, where a plain rule leads from one place to another, the same rules lead from

@@ -1,4 +1,5 @@
 //! Walks of one token.
+
 ghost use Rattle.std.specs.Prelude.{◌≡◌, [], IfOk};
 ghost use Rattle.move_rules.specs.Moves.{move};
 ghost use Rattle.move_rules.specs.Views.{token_of};
@@ -81,7 +82,7 @@ impl Moved {
     }
 }
 
-// For so many nodes of a trail there is room at once.
+/// For so many nodes of a trail there is room at once.
 const FIRST_ROOM: u32 = 1_024;
 
 /// Walks the token on this net by the table of moves, until `most` moves are made or the next is no solo move: a fork, a join, the

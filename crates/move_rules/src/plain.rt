@@ -1,5 +1,6 @@
 //! The plain rules, node by node, in place. Each function takes a token that faces its node; where no rule fits, or memory
 //! runs out, the token stays as it was.
+
 ghost use Rattle.std.specs.Prelude.{◌≡◌, IfOk, OnErr};
 ghost use Rattle.net_build.specs.declared.node.Node.TheVariants.{Der, Con, Lam, App, BoxNode, Door, FixBox, Pair, Proj};
 ghost use Rattle.pcf_values.specs.declared.side.Side.TheVariants.{Left, Right};
@@ -10,6 +11,7 @@ use crate::Token;
 use pcf_values::Side;
 use std::alloc::AllocError;
 
+/// A function: `R` leads up to the body, and `L` with a signature to the variable; both lead back.
 pub(crate) fn lam_moves(token: &mut Token, b: u32, x: u32, w: u32) -> Result<bool, AllocError>
     ensures ok { IfOk result (λ made. Goes (plain_at (Lam b x w)) token.old made token.new) }
     ensures err { OnErr result (token.new ≡ token.old) }
@@ -37,6 +39,7 @@ pub(crate) fn lam_moves(token: &mut Token, b: u32, x: u32, w: u32) -> Result<boo
     Ok(false)
 }
 
+/// An application: up to the function with `R`; from the function out, or to the argument; from the argument back to the function.
 pub(crate) fn app_moves(token: &mut Token, f: u32, a: u32, w: u32) -> Result<bool, AllocError>
     ensures ok { IfOk result (λ made. Goes (plain_at (App f a w)) token.old made token.new) }
     ensures err { OnErr result (token.new ≡ token.old) }
@@ -65,6 +68,7 @@ pub(crate) fn app_moves(token: &mut Token, f: u32, a: u32, w: u32) -> Result<boo
     Ok(false)
 }
 
+/// A box: into it with the signature on the top of the work stack, and out with the one on the top of the box stack.
 pub(crate) fn box_moves(token: &mut Token, i: u32, o: u32) -> Result<bool, AllocError>
     ensures ok { IfOk result (λ made. Goes (plain_at (BoxNode i o)) token.old made token.new) }
     ensures err { OnErr result (token.new ≡ token.old) }
@@ -81,6 +85,7 @@ pub(crate) fn box_moves(token: &mut Token, i: u32, o: u32) -> Result<bool, Alloc
     Ok(false)
 }
 
+/// A door: out of a box by a free variable, with both signatures paired, and in again.
 pub(crate) fn door_moves(token: &mut Token, i: u32, o: u32) -> Result<bool, AllocError>
     ensures ok { IfOk result (λ made. Goes (plain_at (Door i o)) token.old made token.new) }
     ensures err { OnErr result (token.new ≡ token.old) }
@@ -97,6 +102,7 @@ pub(crate) fn door_moves(token: &mut Token, i: u32, o: u32) -> Result<bool, Allo
     Ok(false)
 }
 
+/// A dereliction: down to the variable with a star, and back without it.
 pub(crate) fn der_moves(token: &mut Token, w: u32, x: u32) -> Result<bool, AllocError>
     ensures ok { IfOk result (λ made. Goes (plain_at (Der w x)) token.old made token.new) }
     ensures err { OnErr result (token.new ≡ token.old) }
@@ -118,6 +124,7 @@ pub(crate) fn der_moves(token: &mut Token, w: u32, x: u32) -> Result<bool, Alloc
     Ok(false)
 }
 
+/// A contraction: down with the mark of a side, and up to the side of the mark.
 pub(crate) fn con_moves(token: &mut Token, l: u32, r: u32, w: u32) -> Result<bool, AllocError>
     ensures ok { IfOk result (λ made. Goes (plain_at (Con l r w)) token.old made token.new) }
     ensures err { OnErr result (token.new ≡ token.old) }
@@ -144,6 +151,7 @@ pub(crate) fn con_moves(token: &mut Token, l: u32, r: u32, w: u32) -> Result<boo
     Ok(false)
 }
 
+/// A fixed point: into the body from outside or by a call from inside, and back to where the call came from.
 pub(crate) fn fix_moves(token: &mut Token, b: u32, x: u32, w: u32) -> Result<bool, AllocError>
     ensures ok { IfOk result (λ made. Goes (plain_at (FixBox b x w)) token.old made token.new) }
     ensures err { OnErr result (token.new ≡ token.old) }
@@ -170,6 +178,7 @@ pub(crate) fn fix_moves(token: &mut Token, b: u32, x: u32, w: u32) -> Result<boo
     Ok(false)
 }
 
+/// A pair: up to the part that the top selects, and down with the mark of the part.
 pub(crate) fn pair_moves(token: &mut Token, a: u32, b: u32, w: u32) -> Result<bool, AllocError>
     ensures ok { IfOk result (λ made. Goes (plain_at (Pair a b w)) token.old made token.new) }
     ensures err { OnErr result (token.new ≡ token.old) }

@@ -1,4 +1,5 @@
 //! One solo move, in place.
+
 ghost use Rattle.std.specs.Prelude.{◌≡◌, IfOk, OnErr, slice_get};
 ghost use Rattle.std.specs.Option.{option_map};
 ghost use Rattle.net_build.specs.Sides.{number_of};
@@ -64,7 +65,7 @@ fn pass(token: &mut Token, node: &Node) -> Result<bool, AllocError>
     }
 }
 
-// The number of the node that the token faces.
+/// The number of the node that the token faces.
 fn number(net: &Net, token: &Token) -> Option<u32>
     ensures { result ≡ number_of (facing net.now (place_at token.now.wire token.now.up token.now.stacks)) }
 {
@@ -89,14 +90,14 @@ pub fn faced(net: &Net, token: &Token) -> Option<Seen>
     }
 }
 
-// The node of this number, where it lies in the net.
+/// The node of this number, where it lies in the net.
 fn node_at(net: &Net, n: u32) -> Option<&Node>
     ensures { option_map (λ n. n.now) result ≡ slice_get net.now.nodes n }
 {
     net.nodes().get(n as usize)
 }
 
-// The node that the token faces, where it lies in the net.
+/// The node that the token faces, where it lies in the net.
 fn faced_node<'n>(net: &'n Net, token: &Token) -> Option<&'n Node>
     ensures { option_map (λ n. n.now) result ≡ node_of (facing net.now (place_at token.now.wire token.now.up token.now.stacks)) }
 {

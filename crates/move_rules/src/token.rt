@@ -1,4 +1,5 @@
 //! Tokens.
+
 ghost use Rattle.std.specs.Prelude.{◌≡◌, ◌↔◌, IfOk, IsTrue};
 
 use net_build::Node;

@@ -154,6 +154,7 @@ fn makes_step(net: &Net, token: &mut Token, numbers: &str) -> Result<bool, Alloc
     }
 }
 
+/// Whether the move in place leads from the one token to the other, through these nodes.
 fn leads_in_place(
     alloc: Global,
     net: &Net,

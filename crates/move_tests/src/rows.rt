@@ -30,6 +30,7 @@ pub(crate) fn cut(text: &str, at: char) -> (&str, &str) {
     text.split_once(at).unwrap_or((text, ""))
 }
 
+/// Whether what a row says of this net is so.
 fn holds_on(alloc: Global, net: &Net, says: Says, row: &str) -> Result<bool, AllocError> {
     let (first, rest) = cut(row, '|');
     match says {
@@ -48,6 +49,7 @@ fn cut_nodes(says: Says, row: &str) -> (&str, &str) {
     }
 }
 
+/// Whether what a row says is so.
 fn holds(alloc: Global, says: Says, row: &str) -> Result<bool, AllocError> {
     if let Says::Change = says {
         return is_change(alloc, row);

@@ -18,6 +18,7 @@ fn are(found: &[u64], listed: &str) -> bool {
     left.is_empty()
 }
 
+/// Whether the words of both stacks are those that are listed, with `|` between the two lists.
 fn has_words(stacks: &Stacks, lists: &str) -> bool {
     let (work, boxes) = cut(lists, '|');
     are(stacks.work_words(), work) && are(stacks.box_words(), boxes)
@@ -78,6 +79,7 @@ fix|-again|no||0 1
     Ok(())
 }
 
+/// Takes only what threads may hand over and share.
 fn crosses<T: Send + Sync>(_value: &T) {}
 
 /// Whether a copy is the same, and the copy of the box stack is less than it with a signature more.
@@ -90,10 +92,12 @@ fn copy_is_the_same(stacks: &Stacks) -> Result<bool, AllocError> {
     Ok(!other.same(stacks) && stacks.boxes() < other.boxes())
 }
 
+/// Whether a copy of the box stack is equal to it.
 fn box_copy_is_equal(stacks: &Stacks) -> Result<bool, AllocError> {
     Ok(stacks.boxes().copy()? == *stacks.boxes())
 }
 
+/// Whether the stacks may cross threads, and their copies are equal and ordered as they should be.
 fn copies_are_ordered(alloc: Global) -> Result<bool, AllocError> {
     let stacks = stacks(alloc, "L")?;
     crosses(&stacks);

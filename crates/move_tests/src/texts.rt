@@ -117,6 +117,7 @@ fn some_wires(alloc: Global, count: u32) -> Result<Vec<Wire>, AllocError> {
     Ok(wires)
 }
 
+/// The nodes of texts that are parted by `;`.
 fn nodes(alloc: Global, texts: &str) -> Result<Vec<Node>, AllocError> {
     let mut list = Vec::new(alloc);
     for text in texts.split(';') {
@@ -154,6 +155,7 @@ pub(crate) fn call(stacks: &mut Stacks, name: &str) -> Result<bool, AllocError> 
     Ok(true)
 }
 
+/// A call that goes back, by its name with `-` in front.
 fn call_back(stacks: &mut Stacks, name: &str) -> Result<bool, AllocError> {
     match name {
         "-R" => Ok(stacks.pop_r()),

@@ -7,6 +7,7 @@ pub mod Count
 pub mod Built
 -- The index of the least node above or below each wire: a list's entries after a write, and one more node in front of an indexed list.
 pub mod Entries
+-- One node more in front of an indexed list.
 mod Indexing
 -- Lists of wires that differ at one place are not one list: for the test of two nets.
 mod Comparing

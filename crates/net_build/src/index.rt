@@ -34,6 +34,7 @@ pub(crate) fn index(
     Ok(least)
 }
 
+/// A list of so many entries, none of which has a node yet.
 fn none_of(alloc: Global, count: usize) -> Result<Vec<Option<u32>>, AllocError>
     ensures { IfOk result (λ v. v.items ≡ replicate count None) }
 {
@@ -61,6 +62,7 @@ fn on_face(face: Face, node: Node) -> (Option<u32>, Option<u32>, Option<u32>)
     }
 }
 
+/// Writes the node at the wire, if there is one and the list has it.
 fn mark(least: &mut Vec<Option<u32>>, wire: Option<u32>, n: u32)
     ensures { least.new.items ≡ marked n (present (wire ∷ [])) least.old.items }
 {

@@ -147,6 +147,7 @@ impl Net {
     }
 }
 
+/// The node of a wire in an index; none for a wire past its end.
 fn entry(index: &[Option<u32>], wire: u32) -> Option<u32>
     ensures { result ≡ entry_at index.now wire }
 {

@@ -66,6 +66,7 @@ past_list (x ∷ ws) f count o h =
     past_same (λ w. f w + one x w + how_often w ws) (λ w. f w + how_often w (x ∷ ws)) count (lesser_of count (x ∷ ws) o) (λ w. omega arith)
     p
 
+-- over all nodes, of each its conclusions first and then its premises
 past_nodes : (ns : List Node) (f : ℕ → ℕ) (count : ℕ) (o : Option ℕ) → PastOk f count o
     → PastOk (λ w. f w + (named conclusions ns w + named premises ns w)) count (past_from count ns o)
 past_nodes [] f count o h = past_same f (λ w. f w + (0 + 0)) count o (λ w. omega arith) h

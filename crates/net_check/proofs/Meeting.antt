@@ -34,6 +34,7 @@ same_kind_self Variable = refl
 some_is : {A : Type 0} (a b : A) → Some a ≡ Some b → a ≡ b
 some_is a b e = ap (λ o. unwrap_or o a) e
 
+-- a wire whose type is found under its kind, and whose depth is known, is that wire
 wire_is : (o : Option WireTree) (k : WireKind) (t : TyTree) (d : ℕ) → type_if k o ≡ Some t → depth_in o ≡ Some d
     → o ≡ Some (record { kind = k; depth = d; type = t })
 wire_is None k t d h i = cc

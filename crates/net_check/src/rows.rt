@@ -101,6 +101,7 @@ fn variable(net: &Net, n: u32) -> Option<&Ty>
     of_kind(net.wire(n), WireKind::Variable)
 }
 
+/// The type of the wire, if there is one and it is of this kind.
 fn of_kind(wire: Option<&Wire>, kind: WireKind) -> Option<&Ty>
     ensures { option_map (λ t. ty_of t.now) result ≡ type_if kind (option_map (λ w. wire_of w.now) wire.entry) }
 {
@@ -232,6 +233,7 @@ pub(crate) fn depths_meet(net: &Net, node: Node) -> bool
     }
 }
 
+/// The depth of a wire, or none for a wire past the list.
 fn depth(net: &Net, n: u32) -> Option<u32>
     ensures { result ≡ depth_in (slice_get net.now.wires n) }
 {

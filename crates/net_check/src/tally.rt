@@ -32,12 +32,14 @@ pub(crate) fn count_all(alloc: Global, net: &Net) -> Result<Tally, AllocError>
     })
 }
 
+/// A list of so many zeros.
 fn zeros(alloc: Global, count: usize) -> Result<Vec<u8>, AllocError>
     ensures { IfOk result (λ v. v.items ≡ replicate count 0) }
 {
     vec![in alloc; 0; count]
 }
 
+/// Counts one more for each conclusion of the node.
 fn count_conclusions(counts: &mut Vec<u8>, node: Node)
     ensures { counts.new.items ≡ bumped (conclusions node) counts.old.items }
 {
@@ -46,6 +48,7 @@ fn count_conclusions(counts: &mut Vec<u8>, node: Node)
     count(counts, second);
 }
 
+/// Counts one more for each premise of the node.
 fn count_premises(counts: &mut Vec<u8>, node: Node)
     ensures { counts.new.items ≡ bumped (premises node) counts.old.items }
 {
@@ -55,6 +58,7 @@ fn count_premises(counts: &mut Vec<u8>, node: Node)
     count(counts, third);
 }
 
+/// Counts one more for the wire, if there is one.
 fn count(counts: &mut Vec<u8>, wire: Option<u32>)
     ensures { counts.new.items ≡ bumped (present (wire ∷ [])) counts.old.items }
 {

@@ -1,4 +1,5 @@
 //! The run of one worker.
+
 ghost use Rattle.schedule_log.specs.Logs.{by};
 ghost use Rattle.std.specs.Prelude.{◌≡◌, ◌≤◌, ◌<◌, ◌^◌, ℕ, IfOk, length};
 ghost use Rattle.pcf_values.specs.Most.{most_budget};
@@ -19,7 +20,7 @@ use token_pool::Ended;
 ///
 /// # Errors
 ///
-/// Out of memory; nothing is kept then.
+/// It runs out of memory; nothing is kept then.
 pub fn run_by(alloc: Global, net: &Net, budget: u32, worker: u32) -> Result<Ended, AllocError>
     requires runs { Runs net.now }
     requires budget { (1 ≤ budget) × (budget ≤ most_budget) }
@@ -40,7 +41,7 @@ pub fn run_by(alloc: Global, net: &Net, budget: u32, worker: u32) -> Result<Ende
 ///
 /// # Errors
 ///
-/// Out of memory; nothing is kept then.
+/// It runs out of memory; nothing is kept then.
 pub fn run_alone(alloc: Global, net: &Net, budget: u32) -> Result<Ended, AllocError>
     requires runs { Runs net.now }
     requires budget { (1 ≤ budget) × (budget ≤ most_budget) }
@@ -50,7 +51,7 @@ pub fn run_alone(alloc: Global, net: &Net, budget: u32) -> Result<Ended, AllocEr
     run_by(alloc, net, budget, 0)
 }
 
-// The log of these tickets, all moved by this worker.
+/// The log of these tickets, all moved by this worker.
 fn log_of(alloc: Global, tickets: &[u32], worker: u32) -> Result<Log, AllocError>
     requires { length tickets.now < 2 ^ 32 }
     ensures { IfOk result (λ log. log.entries ≡ by worker tickets.now) }

@@ -1,4 +1,5 @@
 //! The run of a net by so many workers.
+
 ghost use Rattle.std.specs.Prelude.{◌≡◌, ◌≤◌, IfOk};
 ghost use Rattle.pcf_values.specs.Most.{most_budget, most_workers};
 ghost use Rattle.interleave_laws.specs.Runs.{Runs};
@@ -24,7 +25,7 @@ use token_pool::{Ended, PoolState};
 ///
 /// # Errors
 ///
-/// Out of memory; the pool, its log and all threads are gone then.
+/// It runs out of memory; the pool, its log and all threads are gone then.
 pub fn run_net<R: Threads + Wait + Sync, G: Gate>(
     rt: &R,
     alloc: Global,
@@ -46,7 +47,7 @@ pub fn run_net<R: Threads + Wait + Sync, G: Gate>(
     }
 }
 
-// The run of several workers, who share a pool until it ends for each of them.
+/// The run of several workers, who share a pool until it ends for each of them.
 fn run_together<R: Threads + Wait + Sync, G: Gate>(
     rt: &R,
     alloc: Global,
@@ -65,7 +66,7 @@ fn run_together<R: Threads + Wait + Sync, G: Gate>(
     Ok(pool.finish(alloc, net, budget, workers)?)
 }
 
-// Workers play branches of the pool's run, on the net that `N` names, until there is nothing to play for any of them.
+/// Workers play branches of the pool's run, on the net that `N` names, until there is nothing to play for any of them.
 fn play_together<N: OnNet + Send + Sync, R: Threads + Wait + Sync, G: Gate>(
     rt: &R,
     alloc: Global,

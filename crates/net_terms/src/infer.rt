@@ -72,6 +72,7 @@ fn number_type(n: u64) -> Option<Ty>
     Some(Ty::Nat)
 }
 
+/// `nat` if the operands are numbers, and else no type.
 fn nat_if(numbers: bool) -> Option<Ty>
     ensures { option_map ty_of result ≡ (if numbers then Some nat else None) }
 {
@@ -91,6 +92,7 @@ fn is_number(alloc: Global, context: &mut Vec<Ty>, term: &Term) -> Result<bool, 
     }
 }
 
+/// The type of a function: from its binder's type to the type of its body. The context is as before.
 #[cycle(infer)]
 fn infer_fun(
     alloc: Global,
@@ -111,6 +113,7 @@ fn infer_fun(
     }
 }
 
+/// The type of a fixed point, if its body has its binder's type. The context is as before.
 #[cycle(infer)]
 fn infer_fix(
     alloc: Global,
@@ -134,6 +137,7 @@ fn infer_fix(
     }
 }
 
+/// The type of an application, if the argument has the type that the function takes. The context is as before.
 #[cycle(infer)]
 fn infer_app(
     alloc: Global,
@@ -161,6 +165,7 @@ fn infer_app(
     }
 }
 
+/// The type of a pair, if both sides have one. The context is as before.
 #[cycle(infer)]
 fn infer_pair(
     alloc: Global,
@@ -215,6 +220,7 @@ fn variable_type(alloc: Global, context: &[Ty], i: u32) -> Result<Option<Ty>, Al
     }
 }
 
+/// Whether both types are the same.
 fn are_same(a: &Ty, b: &Ty) -> bool
     ensures { result ≡ same_type (ty_of a.now) (ty_of b.now) }
 {

@@ -117,6 +117,7 @@ fn read_root(alloc: Global, net: &Net, height: u32) -> Result<Option<Term>, Allo
     }
 }
 
+/// Marks for so many wires, none of which was bound yet.
 fn unmarked(alloc: Global, count: usize) -> Result<Vec<Mark>, AllocError>
     ensures { IfOk result (λ v. v.items ≡ replicate count (mark 0 0)) }
 {

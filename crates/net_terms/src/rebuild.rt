@@ -204,6 +204,7 @@ fn variable_of(mark: Mark, binders: u32, place: u64) -> Option<Term>
     }
 }
 
+/// Reads the operand of a form of one operand, and puts it under the form.
 #[cycle(read)]
 fn read_one(
     alloc: Global,
@@ -228,6 +229,7 @@ fn read_one(
     }
 }
 
+/// Reads both operands of a form of two, the second one first, since the last node comes first.
 #[cycle(read)]
 fn read_two(
     alloc: Global,
@@ -257,6 +259,7 @@ fn read_two(
     }
 }
 
+/// Reads the three operands of an `ifz`, the last one first.
 #[cycle(read)]
 fn read_ifz(
     alloc: Global,
@@ -290,6 +293,7 @@ fn read_ifz(
     }
 }
 
+/// Reads the body of a function, under a binder more and with its variable's wire marked.
 #[cycle(read)]
 fn read_fun(
     alloc: Global,
@@ -316,6 +320,7 @@ fn read_fun(
     }
 }
 
+/// Reads the body of a fixed point, under a binder more, in the box of its own and with its variable's wire marked.
 #[cycle(read)]
 fn read_fix(
     alloc: Global,
@@ -393,6 +398,7 @@ fn from_of(alloc: Global, net: &Net, wire: u32) -> Result<Ty, AllocError>
     }
 }
 
+/// What a function of this type takes; a type that is no function's counts as one from `nat`.
 fn from_of_type(alloc: Global, ty: &Ty) -> Result<Ty, AllocError>
     ensures { IfOk result (λ t. ty_of t ≡ domain (ty_of ty.now)) }
 {

@@ -50,6 +50,7 @@ fn take(
     }
 }
 
+/// Whether the uses that come next are those of the first term and then those of the second; goes on behind them.
 #[cycle(take)]
 #[tactic(auto, using(crate::proofs::Taking::first_then))]
 fn take_two(
@@ -73,6 +74,7 @@ fn take_two(
     }
 }
 
+/// The same of three terms, one after the other.
 #[cycle(take)]
 #[tactic(auto, using(crate::proofs::Taking::first_then))]
 fn take_three(

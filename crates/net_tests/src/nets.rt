@@ -73,6 +73,7 @@ fn a_higher_term_is_not(rt: HostRuntime) -> Result<(), Fail> {
     Ok(())
 }
 
+/// One value wire of type `nat`, outside all boxes.
 fn nat_wire(alloc: Global) -> Result<Vec<Wire>, AllocError>
     ensures { IfOk result (λ v. length v.items ≡ 1) }
 {

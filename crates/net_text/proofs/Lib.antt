@@ -4,6 +4,7 @@ pub mod Splitting
 pub mod Standings
 -- One line: a printed type, a wire and a node are read from it, the node by its name.
 pub mod TypesRead
+-- A wire is read from its line.
 pub mod WiresRead
 pub mod Names
 pub mod NodesRead
@@ -11,6 +12,7 @@ pub mod NodesRead
 pub mod LinesFit
 -- What the reading of the lines answers: the net whose listing they are, or the first line that can't stand there.
 pub mod Listed
+-- The reading of the lines answers the first one that can't stand.
 pub mod FirstFaults
 -- The code's loops over lines give what the definition reads from them.
 pub mod TextsRead

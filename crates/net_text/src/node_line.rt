@@ -119,6 +119,7 @@ fn constant(numbers: &[u64]) -> Option<Node>
     }
 }
 
+/// A constant of this number, if its wire fits into 32 bits.
 fn constant_on(v: u64, w: u64) -> Option<Node>
     ensures { result ≡ fitting_node (Some (Const v w)) }
 {
@@ -141,6 +142,7 @@ fn small_node(form: Form, numbers: &[u64]) -> Option<Node>
     }
 }
 
+/// A node of one number, if the number fits and the form takes one.
 fn with_one(form: Form, a: u64) -> Option<Node>
     ensures { result ≡ fitting_node (one_node form a) }
 {
@@ -150,6 +152,7 @@ fn with_one(form: Form, a: u64) -> Option<Node>
     }
 }
 
+/// A node of two numbers, if both fit and the form takes two.
 fn with_two(form: Form, a: u64, b: u64) -> Option<Node>
     ensures { result ≡ fitting_node (two_node form a b) }
 {
@@ -159,6 +162,7 @@ fn with_two(form: Form, a: u64, b: u64) -> Option<Node>
     }
 }
 
+/// A node of three numbers, if they fit and the form takes three.
 fn with_three(form: Form, a: u64, b: u64, c: u64) -> Option<Node>
     ensures { result ≡ fitting_node (three_node form a b c) }
 {
@@ -168,6 +172,7 @@ fn with_three(form: Form, a: u64, b: u64, c: u64) -> Option<Node>
     }
 }
 
+/// A node of four numbers, if they fit and the form takes four.
 fn with_four(form: Form, a: u64, b: u64, c: u64, d: u64) -> Option<Node>
     ensures { result ≡ fitting_node (four_node form a b c d) }
 {

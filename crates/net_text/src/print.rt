@@ -48,6 +48,7 @@ fn push_nodes(text: &mut Vec<u8>, nodes: &[Node]) -> Result<(), AllocError>
     Ok(())
 }
 
+/// Puts the line of a wire, with its number, behind what is there.
 pub(crate) fn push_wire(
     alloc: Global,
     text: &mut Vec<u8>,
@@ -70,6 +71,7 @@ fn push_type(alloc: Global, text: &mut Vec<u8>, wire: &Wire) -> Result<(), Alloc
     push_line(text, b" ", &ty)
 }
 
+/// The word of a kind of wires.
 fn kind_text(kind: WireKind) -> &'static [u8]
     ensures { result.now ≡ kind_text kind }
 {
@@ -80,6 +82,7 @@ fn kind_text(kind: WireKind) -> &'static [u8]
     }
 }
 
+/// Puts the line of a node, with its number, behind what is there.
 pub(crate) fn push_node(text: &mut Vec<u8>, n: u64, node: Node) -> Result<(), AllocError>
     ensures { OnOk result (text.new.items ≡ text.old.items ++ node_line n node) }
 {

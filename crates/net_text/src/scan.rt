@@ -60,6 +60,7 @@ fn with_digit(value: Option<u64>, c: u8) -> Option<u64>
     }
 }
 
+/// The number as one of 64 bits, or none where it is larger.
 fn narrow(n: u128) -> Option<u64>
     ensures { result ≡ in_word n }
 {

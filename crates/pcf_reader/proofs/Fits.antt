@@ -39,6 +39,7 @@ ty_fewer (product a b) o h = (
   fewer_by (nat_le (ty_level b) 1) (λ p. ty_shallow b p) (suc o) (λ p. ty_fewer b p) h.2,
 )
 
+-- a term that fits with one phrase more open fits
 own_fewer : (t : NamedTree) (o : ℕ) → own_shallow t (suc o) → own_shallow t o
 own_fewer (number_at i n) o h = tt
 own_fewer (name_at i x) o h = tt

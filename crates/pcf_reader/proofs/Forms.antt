@@ -232,6 +232,7 @@ number_form i n small =
       splits = λ o left extra rest items c k. number_piece n at rest items small c k;
     })
 
+-- a name that can be read has its phrases
 name_form : (i : ℕ) (x : List ℕ) → Fine (name_at i x) → FormsOf (name_at i x)
 name_form i x fine =
     from_atom x (λ r. chars x ++ r) (name_at i x) 1 (λ o. Unit {0})

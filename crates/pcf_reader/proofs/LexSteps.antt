@@ -128,6 +128,7 @@ pub dash_first : (t r : List ℕ) (at c : ℕ) → t ≡ c ∷ r → c ≡ 45 �
 unfolding lex
 dash_first t r at c e h = ap (λ z. lex z at idle) (e ∙ ap (λ d. d ∷ r) h)
 
+-- between tokens, a digit begins a number
 pub number_first : (t r : List ℕ) (at c : ℕ) → t ≡ c ∷ r → is_blank c ≡ false → (c == 35) ≡ false →
     (c == 45) ≡ false → is_digit c ≡ true → lex t at idle ≡ lex t at (in_number at 0)
 number_first t r at c e nb nc nd h =
@@ -140,6 +141,7 @@ number_first t r at c e nb nc nd h =
     ∙ ap (λ n. lex r (at + len_utf8 c) (in_number at n)) (omega arith)
     ∙ sym (number_more t r at c at 0 e h)
 
+-- between tokens, a character that starts a name begins a word
 pub word_first : (t r : List ℕ) (at c : ℕ) → t ≡ c ∷ r → is_blank c ≡ false → (c == 35) ≡ false →
     (c == 45) ≡ false → is_digit c ≡ false → starts_name c ≡ true → is_xid_continue c ≡ true
     → lex t at idle ≡ lex t at (in_word at [])
@@ -154,6 +156,7 @@ word_first t r at c e nb nc nd ng h k =
     (λ m. lex r (at + len_utf8 c) m)) h
     ∙ sym (word_more t r at c at [] e k)
 
+-- between tokens, every other character is a sign or no token
 pub sign_first : (t r : List ℕ) (at c : ℕ) → t ≡ c ∷ r → is_blank c ≡ false → (c == 35) ≡ false →
     (c == 45) ≡ false → is_digit c ≡ false → starts_name c ≡ false
     → lex t at idle ≡ on_sign (sign_of c) at (λ m. lex r (at + len_utf8 c) m)

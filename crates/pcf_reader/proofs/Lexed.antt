@@ -118,6 +118,7 @@ comment_splits c cs at h e =
     comment at (c ∷ cs) ds rest (lex cs (at + len_utf8 c) in_comment) (ap (λ z. z ∷ cs) e ∙ ap (λ z. 35 ∷ z) split) all line
     (subst (λ i. Splits i rest (lex cs (at + len_utf8 c) in_comment)) (one_byte c 35 at (width ds) e refl) more)
 
+-- a text that begins with a dash splits into an arrow or a minus, by the character behind it
 dash_splits : (c : ℕ) (cs : List ℕ) (at : ℕ) → Lexed cs → c ≡ 45 →
     Splits at (c ∷ cs) (lex cs (at + len_utf8 c) (after_dash at))
 dash_splits c cs at h e =
@@ -140,6 +141,7 @@ sign_or_junk c cs at h nb nc nd ng nw (Some y) e =
     sign_splits c cs at y e (λ dash. let z : false ≡ true = sym nd ∙ ap (λ v. v == 45) dash in let k : ⊥ = cc in
     absurd k) (h.idles (at + len_utf8 c))
 
+-- a text splits as the machine says that goes on from its first character, whatever that is
 pub begins : (c : ℕ) (cs : List ℕ) (at : ℕ) → Lexed cs → Splits at (c ∷ cs) (opened at c (λ m. lex cs (at + len_utf8 c) m))
 begins c cs at h =
     let go : Mode → List Placed = λ m. lex cs (at + len_utf8 c) m in
@@ -245,6 +247,7 @@ lexed_more c cs h = record {
   dashes = λ at start. dash_on c cs h at start (c == 62) refl;
 }
 
+-- the empty text splits, in every mode
 lexed_none : Lexed []
 unfolding lex
 lexed_none = record {

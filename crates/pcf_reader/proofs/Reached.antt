@@ -110,6 +110,7 @@ Goes ws (finish p) at x = (e : Expr) × (expr_part e ≡ p) × (x ≡ End) × (w
 over : (t : State) (u v : Texts) → u ≡ v → Reached t u → Reached t v
 over t u v e r = subst (λ w. Reached t w) e r
 
+-- where an atom is wanted, the state behind it is reached over its text
 pub got_atom_reached : (k : AtomK) (us : Texts) (a : Atom) → AroundAtom k us →
     Reached (got_atom k (atom_part a)) (us ++ atom_text (atom_open k) (left_of k) (extra_of k) a)
 got_atom_reached (first_atom k) us a h = (us, only_atom a, h, refl, refl)
@@ -148,6 +149,7 @@ begin_expr_goes k ws h at (Bind b) = (ws, h, refl)
 begin_expr_goes k ws h at Ifz = (ws, h, refl)
 begin_expr_goes k ws h at x = begin_atom_goes (first_atom (first_app (first_product k))) ws h at x
 
+-- behind an expression each step leads to a state that is reached, and a program that ends there is whole
 pub after_expr_goes : (k : ExprK) (us : Texts) (e : Expr) → AroundExpr k us → (at : ℕ) (x : Token) →
     Goes (us ++ expr_text (expr_open k) e) (after_expr k (expr_part e) at x) at x
 after_expr_goes whole us e h at End = (e, refl, refl, ap (λ v. v ++ expr_text 0 e) h)
@@ -253,6 +255,7 @@ after_sum_goes k us s h at x = after_expr_goes k us (only_sum s) h at x
 pub grouped : (us vs a : Texts) (m : Written) (z : Texts) → us ≡ vs ++ (a ++ m ∷ []) → vs ++ (a ++ m ∷ z) ≡ us ++ z
 grouped us vs a m z text = sym (moved us vs (a ++ m ∷ []) z text ∙ ap (λ v. vs ++ v) (append_assoc a (m ∷ []) z))
 
+-- the same behind the last product of a sum so far
 pub end_product_goes : (k : ProductK) (us : Texts) (m : Product) → AroundProduct k us → (at : ℕ) (x : Token) →
     Goes (us ++ product_text (product_open k) m) (end_product k (product_part m) at x) at x
 end_product_goes (first_product k) us m h at x = after_sum_goes k us (only_product m) h at x
@@ -277,6 +280,7 @@ after_product_goes k us m h at (Sign op) = go (is_sum op) refl
         (us, m, at, is, h, refl, append_assoc us (product_text (product_open k) m) (marked at (Sign op) (product_part m).height 1 ∷ []))
 after_product_goes k us m h at x = end_product_goes k us m h at x
 
+-- the same behind the last application of a product so far
 pub end_app_goes : (k : AppK) (us : Texts) (f : App) → AroundApp k us → (at : ℕ) (x : Token) →
     Goes (us ++ app_text (app_open k) f) (end_app k (app_part_of f) at x) at x
 end_app_goes (first_app k) us f h at x = after_product_goes k us (only_app f) h at x
@@ -308,6 +312,7 @@ begin_tatom_goes k ws h at Nat = (ws, nat_type at, h, refl, refl)
 begin_tatom_goes k ws h at Open = (ws, at, h, refl)
 begin_tatom_goes k ws h at _ = tt
 
+-- the same behind a type
 pub end_type_goes : (k : TypeK) (us : Texts) (t : Type_) → AroundType k us → (at : ℕ) (x : Token) →
     Goes (us ++ type_text (type_open k) t) (end_type k (type_ty t) at x) at x
 end_type_goes (of_binder o b y k) us t h at Dot =
@@ -348,6 +353,7 @@ after_ptype_goes k us p h at Arrow =
     (us, p, at, h, refl, append_assoc us (ptype_text (type_open k) p) (marked at Arrow (type_open k) 0 ∷ []))
 after_ptype_goes k us p h at x = end_type_goes k us (only_ptype p) h at x
 
+-- the same behind the last part of a product of types so far
 pub end_ptype_goes : (k : PTypeK) (us : Texts) (p : PType) → AroundPType k us → (at : ℕ) (x : Token) →
     Goes (us ++ ptype_text (ptype_open k) p) (end_ptype k (ptype_ty p) at x) at x
 end_ptype_goes (first_ptype k) us p h at x = after_ptype_goes k us p h at x

@@ -58,7 +58,7 @@ fn read_text(alloc: Global, text: &str) -> Result<Named, ReadFault>
 ///
 /// # Errors
 ///
-/// The very first fault of the bytes, with its place: an offset in bytes from 0. Or want of memory.
+/// The very first fault of the bytes, with its place: an offset in bytes from 0. Or it runs out of memory.
 pub fn read_program(alloc: Global, bytes: &[u8]) -> Result<Named, ReadFault>
     // What is read is a program's text.
     ensures found { IfOk result (λ t. Text bytes.now (named_of t)) }

@@ -13,7 +13,7 @@ use std::alloc::{AllocError, Global};
 ///
 /// # Errors
 ///
-/// Want of memory.
+/// It runs out of memory.
 pub fn print_ty(alloc: Global, ty: &Ty) -> Result<Vec<u8>, AllocError>
     ensures { IfOk result (λ v. v.items ≡ ty_text (ty_of ty.now)) }
 {
@@ -26,7 +26,7 @@ pub fn print_ty(alloc: Global, ty: &Ty) -> Result<Vec<u8>, AllocError>
 ///
 /// # Errors
 ///
-/// Want of memory.
+/// It runs out of memory.
 pub fn print_term(alloc: Global, term: &Named) -> Result<Vec<u8>, AllocError>
     ensures { IfOk result (λ v. v.items ≡ term_text (named_of term.now)) }
 {
@@ -35,6 +35,7 @@ pub fn print_term(alloc: Global, term: &Named) -> Result<Vec<u8>, AllocError>
     Ok(out)
 }
 
+/// The level of a type: 0 for `nat`, 1 for a product and 2 for an arrow.
 fn ty_level(ty: &Ty) -> u8
     ensures { result ≡ ty_level (ty_of ty.now) }
 {
@@ -45,6 +46,7 @@ fn ty_level(ty: &Ty) -> u8
     }
 }
 
+/// Puts the text of a type behind what is there.
 #[cycle(print_types)]
 fn push_ty(out: &mut Vec<u8>, ty: &Ty) -> Result<(), AllocError>
     ensures { OnOk result (out.new.items ≡ out.old.items ++ ty_text (ty_of ty.now)) }
@@ -120,6 +122,7 @@ fn level_of(term: &Named) -> u8
     }
 }
 
+/// Puts a number behind what is there, in decimal digits.
 fn push_number(out: &mut Vec<u8>, number: u64) -> Result<(), AllocError>
     ensures { OnOk result (out.new.items ≡ out.old.items ++ decimal number) }
 {
@@ -138,6 +141,7 @@ fn push_head(out: &mut Vec<u8>, word: &[u8], name: &Ident, ty: &Ty) -> Result<()
     out.extend_from_slice(b". ")
 }
 
+/// Puts the text of a term behind what is there.
 #[cycle(print_terms)]
 fn push_term(out: &mut Vec<u8>, term: &Named) -> Result<(), AllocError>
     ensures { OnOk result (out.new.items ≡ out.old.items ++ term_text (named_of term.now)) }
@@ -185,6 +189,7 @@ fn push_operated(
     push_fitted(out, op_text(operator), right_level(operator), right)
 }
 
+/// Puts the text of an `ifz` behind what is there.
 #[cycle(print_terms)]
 fn push_choice(out: &mut Vec<u8>, test: &Named, yes: &Named, no: &Named) -> Result<(), AllocError>
     ensures { OnOk result (out.new.items ≡ out.old.items ++ codes "ifz " ++ term_text (named_of test.now) ++ codes " then " ++
@@ -195,6 +200,7 @@ fn push_choice(out: &mut Vec<u8>, test: &Named, yes: &Named, no: &Named) -> Resu
     push_after(out, b" else ", no)
 }
 
+/// Puts the text of a pair behind what is there, in parentheses.
 #[cycle(print_terms)]
 fn push_pair(out: &mut Vec<u8>, left: &Named, right: &Named) -> Result<(), AllocError>
     ensures { OnOk result (out.new.items ≡ out.old.items ++ codes "(" ++ term_text (named_of left.now) ++ codes ", " ++

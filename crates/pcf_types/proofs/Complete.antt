@@ -20,6 +20,7 @@ use Rattle.pcf_types.proofs.Nearest.{found_nearest, one_binder}
 abbrev pub Accepts : Context → NamedTree → TermTree → Type 0
 Accepts g tree m = (t : TyTree) → HasType (types_in g) m t → type_of g tree ≡ Ok (m, t)
 
+-- a tree that stands for a typed term is accepted with that term
 pub complete : (tree : NamedTree) (g : Context) (m : TermTree) → Resolves (names_in g) tree m → Accepts g tree m
 complete (number_at at n) g m e = subst (Accepts g (number_at at n)) (sym e) (λ t h. ap (λ t. Ok (num n, t)) (sym h.1))
 complete (name_at at x) g m (i, d, e) = subst (Accepts g (name_at at x)) (sym e) (λ t h. ap (variable at) (found_nearest x g i t d h))
@@ -65,6 +66,7 @@ side_same : (s : Side) (a b c d : TyTree) → product a b ≡ product c d → at
 side_same Left a b c d e = product_left e
 side_same Right a b c d e = product_right e
 
+-- a term has one type in a context
 pub one_type : (g : List TyTree) (m : TermTree) (t u : TyTree) → HasType g m t → HasType g m u → t ≡ u
 one_type g (num n) t u h k = h.1 ∙ sym k.1
 one_type g (var i) t u h k = one_get g i t u h k
@@ -81,6 +83,7 @@ one_type g (pair m n) t u (a, b, h, i, e) (c, d, k, j, q) =
     e ∙ (λ z. product (x z) (y z)) ∙ sym q
 one_type g (proj s m) t u (a, b, h, e) (c, d, k, q) = e ∙ side_same s a b c d (one_type g m (product a b) (product c d) h k) ∙ sym q
 
+-- a tree stands for one term under the same names
 pub one_term : (s : List (List ℕ)) (tree : NamedTree) (m n : TermTree) → Resolves s tree m → Resolves s tree n → m ≡ n
 one_term s (number_at at v) m n h k = h ∙ sym k
 one_term s (name_at at x) m n (i, d, e) (j, f, q) = e ∙ ap var (one_binder s x i j d f) ∙ sym q

@@ -32,6 +32,7 @@ binds_further s x y i n (e, h) = (e, go)
     go zero l k = n (sym (some_is y x k))
     go (suc j) l k = h j (omega arith) k
 
+-- what the search finds is an index that binds the name, and the type that stands there
 pub nearest_found : (x : List ℕ) (g : Context) (f : ℕ × TyTree) → nearest x g ≡ Some f → Found x g f
 nearest_found x [] f h = cc
 nearest_found x (b ∷ g) f h = go (nearest_found x g) (bytes_eq x b.0) refl h
@@ -45,6 +46,7 @@ nearest_found x (b ∷ g) f h = go (nearest_found x g) (bytes_eq x b.0) refl h
         let (d, t) = ih p e in
         subst (Found x (b ∷ g)) (some_is (suc p.0, p.1) f z) (binds_further (names_in g) x b.0 p.0 (other_name x b.0 q) d, t)
 
+-- the search finds the index that binds the name, with the type that stands there
 pub found_nearest : (x : List ℕ) (g : Context) (i : ℕ) (t : TyTree) → Binds (names_in g) x i →
     slice_get (types_in g) i ≡ Some t → nearest x g ≡ Some (i, t)
 found_nearest x [] i t d h = cc

@@ -63,6 +63,7 @@ argument_fault at h = cc
 of_type_clean : (a : TyTree) (e : TypeFault) (r : Answer) → e ≢ NoMemory → Clean r → Clean (of_type a e r)
 of_type_clean a e r n h = clean_on r _ h (λ j. clean_cond (same_type j.1 a) j.0 e n)
 
+-- no tree's fault of scope or type is want of memory
 pub never_memory : (g : Context) (tree : NamedTree) → Clean (type_of g tree)
 never_memory g (number_at at n) = clean_ok _
 never_memory g (name_at at x) = clean_variable at (nearest x g)

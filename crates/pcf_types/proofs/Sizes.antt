@@ -37,6 +37,7 @@ resolved_size (ifz_at at t a b) s m (x, c, d, u, r, f, e) = ap size e ∙
 resolved_size (bind_at at b x a t) s m (n, r, e) = ap size e ∙ binder_size b a n ∙ ap suc (resolved_size t _ n r)
 resolved_size (apply_at at f a) s m (c, d, r, q, e) = ap size e ∙ (λ k. suc (resolved_size f s c r k + resolved_size a s d q k))
 
+-- a term is as high as the tree that stands for it
 pub resolved_height : (tree : NamedTree) (s : List (List ℕ)) (m : TermTree) → Resolves s tree m → height m ≡ named_height tree
 resolved_height (number_at at n) s m e = ap height e
 resolved_height (name_at at x) s m (i, d, e) = ap height e

@@ -20,7 +20,7 @@ use std::alloc::Global;
 ///
 /// # Errors
 ///
-/// The first fault of scope or type, with the place of the part: an offset in bytes from 0. Or want of memory.
+/// The first fault of scope or type, with the place of the part: an offset in bytes from 0. Or it runs out of memory.
 pub fn resolve_and_type(alloc: Global, program: &Named) -> Result<Typed, TypeFault>
     requires { named_height (named_of program.now) < 2 ^ 32 }
     ensures typed { IfOk result (λ p. type_of [] (named_of program.now) ≡ Ok p) }

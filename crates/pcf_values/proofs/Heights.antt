@@ -5,6 +5,7 @@ use Rattle.pcf_values.specs.declared.named.Raw.TheVariants as raw
 use Rattle.pcf_values.specs.Named.{named_height}
 use Rattle.pcf_values.specs.Views.{raw_of}
 
+-- the height of a node's tree is the same at every place
 pub raw_height : (r : Raw) (at : ℕ) → named_height (raw_of r at) ≡ named_height (raw_of r 0)
 raw_height (raw.Number n) at = refl
 raw_height (raw.Name x) at = refl

@@ -22,7 +22,7 @@ impl Ident {
     ///
     /// # Errors
     ///
-    /// Want of memory.
+    /// It runs out of memory.
     pub fn from_text(alloc: Global, text: &str) -> Result<Ident, AllocError>
         ensures { IfOk result (λ a. a ≡ text.now) }
     {
@@ -42,7 +42,7 @@ impl Ident {
     ///
     /// # Errors
     ///
-    /// Want of memory.
+    /// It runs out of memory.
     pub fn copy(&self, alloc: Global) -> Result<Ident, AllocError>
         ensures { IfOk result (λ a. a ≡ self.now) }
     {

@@ -49,7 +49,7 @@ impl Named {
     ///
     /// # Errors
     ///
-    /// Want of memory.
+    /// It runs out of memory.
     #[cycle(copy)]
     #[tactic(auto, using(crate::proofs::Heights::raw_height))]
     pub fn copy(&self, alloc: Global) -> Result<Named, AllocError>
@@ -67,7 +67,7 @@ impl Raw {
     ///
     /// # Errors
     ///
-    /// Want of memory.
+    /// It runs out of memory.
     #[cycle(copy)]
     pub fn copy(&self, alloc: Global) -> Result<Raw, AllocError>
         ensures { IfOk result (λ t. raw_of t ≡ raw_of self.now) }

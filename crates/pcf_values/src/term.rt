@@ -38,7 +38,7 @@ impl Term {
     ///
     /// # Errors
     ///
-    /// Want of memory.
+    /// It runs out of memory.
     #[cycle(copy)]
     pub fn copy(&self, alloc: Global) -> Result<Term, AllocError>
         ensures { IfOk result (λ t. term_of t ≡ term_of self.now) }

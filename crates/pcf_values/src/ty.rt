@@ -21,7 +21,7 @@ impl Ty {
     ///
     /// # Errors
     ///
-    /// Want of memory.
+    /// It runs out of memory.
     #[cycle(copy)]
     pub fn copy(&self, alloc: Global) -> Result<Ty, AllocError>
         ensures { IfOk result (λ t. ty_of t ≡ ty_of self.now) }

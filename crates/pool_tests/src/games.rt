@@ -1,8 +1,8 @@
 //! Pools that are played by a table, a call a row.
 //!
-//! `W takes T A` and `W takes WHY`: worker W gets ticket T with allowance A, or is told why it gets none. `W books N` and `W books nothing`:
-//! it walks what it holds and hands it in, and N moves were booked before. `counts B H F`: so many moves are booked, tickets held, and
-//! tickets free. `stop`: the pool is stopped.
+//! `W takes T A` and `W takes WHY`: worker W gets ticket T with allowance A, or is told why it gets none. `W books N` and `W books
+//! nothing`: it walks what it holds and hands it in, and N moves were booked before. `counts B H F`: so many moves are booked, tickets
+//! held, and tickets free. `stop`: the pool is stopped.
 
 ghost use Rattle.std.specs.Prelude.{◌≡◌, ◌<◌};
 ghost use Rattle.interleave_laws.specs.Runs.{Runs};

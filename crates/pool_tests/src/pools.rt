@@ -197,11 +197,13 @@ const SHORT: Game<'static> = Game {
     makers: "0 1 0 0 0 2 2 2",
 };
 
+/// Whether both games of two workers on one sum are so.
 fn two_workers(alloc: Global) -> Result<bool, AllocError> {
     let net = net_of(alloc, "1 + 2")?;
     Ok(is_so(alloc, &net, BOTH)? && is_so(alloc, &net, RIGHT_FIRST)?)
 }
 
+/// Whether a small game and one with a finisher are so.
 fn ends(alloc: Global) -> Result<bool, AllocError> {
     let net = net_of(alloc, "1 + 2")?;
     Ok(is_so(alloc, &net, SMALL)? && is_so(alloc, &net, FINISHED)?)
@@ -218,6 +220,7 @@ fn is_branched(alloc: Global, net: &Net, game: Game<'_>) -> Result<bool, AllocEr
     Ok(is_answer(ended.answer, game.answer) && has_moves(&ended.log, game.tickets, game.makers))
 }
 
+/// Whether the three games of branches on a sum of sums are so.
 fn branches(alloc: Global) -> Result<bool, AllocError> {
     let net = net_of(alloc, "(1 + 2) + (3 + 4)")?;
     Ok(

@@ -60,6 +60,7 @@ tree_sound wanted tree t A _ d s (no_number u B n e k) =
     k (sym (one_type (type_of [] tree) t u A B d e) ∙ is_number wanted tree A n s)
 tree_sound wanted tree t A _ d s (untranslated u f w e k) = has_none wanted tree A f w s k
 
+-- a tree has one first fault for what is wanted of it
 one_tree_fault : OneFirstFault → (wanted : Wanted) (tree : NamedTree) (f g : ProgramFault) → FaultyTree wanted tree f →
     FaultyTree wanted tree g → f ≡ g
 one_tree_fault one wanted tree _ _ (untyped f h) (untyped g k) = ap Typing (ap (fault_or f) (sym h ∙ k))

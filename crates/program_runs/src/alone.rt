@@ -20,7 +20,7 @@ use token_pool::Ended;
 ///
 /// # Errors
 ///
-/// The first fault of the text, exactly when it has one: it isn't read, it isn't typed, or its type isn't `nat`. Or memory ran out.
+/// The first fault of the text, exactly when it has one: it isn't read, it isn't typed, or its type isn't `nat`. Or it runs out of memory.
 pub fn run_program(alloc: Global, bytes: &[u8], budget: u32) -> Result<Ended, NoRun>
     requires budget { (1 ≤ budget) × (budget ≤ most_budget) }
     ensures run { IfOk result (λ r. RunsText false 1 budget bytes.now r.answer r.log.entries) }
@@ -39,7 +39,7 @@ pub fn run_program(alloc: Global, bytes: &[u8], budget: u32) -> Result<Ended, No
 ///
 /// # Errors
 ///
-/// The first fault of the text, exactly when it has one: as of a run by name, or it has no translation. Or memory ran out.
+/// The first fault of the text, exactly when it has one: as of a run by name, or it has no translation. Or it runs out of memory.
 pub fn run_program_by_value(alloc: Global, bytes: &[u8], budget: u32) -> Result<Ended, NoRun>
     requires budget { (1 ≤ budget) × (budget ≤ most_budget) }
     ensures run { IfOk result (λ r. RunsText true 1 budget bytes.now r.answer r.log.entries) }

@@ -29,7 +29,7 @@ use std::alloc::{AllocError, Global};
 ///
 /// # Errors
 ///
-/// The first fault of the text, exactly when it has one: it isn't read, it isn't typed, or its type isn't `nat`. Or memory ran out.
+/// The first fault of the text, exactly when it has one: it isn't read, it isn't typed, or its type isn't `nat`. Or it runs out of memory.
 pub fn net_of_text(alloc: Global, bytes: &[u8]) -> Result<Net, NoRun>
     ensures net { IfOk result (λ net. IsNet bytes.now net) }
     ensures fault { IfErr result (λ e. NoRunFor (FaultyProgram number bytes.now) e) }
@@ -74,7 +74,7 @@ fn net_of_program(alloc: Global, program: &Typed) -> Result<Net, NoRun>
 ///
 /// # Errors
 ///
-/// The first fault of the text, exactly when it has one: as for `net_of_text`, or it has no translation. Or memory ran out.
+/// The first fault of the text, exactly when it has one: as for `net_of_text`, or it has no translation. Or it runs out of memory.
 pub fn net_by_value(alloc: Global, bytes: &[u8]) -> Result<Net, NoRun>
     ensures net { IfOk result (λ net. IsStrictNet bytes.now net) }
     ensures fault { IfErr result (λ e. NoRunFor (FaultyProgram strict_number bytes.now) e) }

@@ -23,7 +23,7 @@ use token_pool::Ended;
 ///
 /// # Errors
 ///
-/// The first fault of the text, exactly when it has one, as `run_program` answers it. Or memory ran out.
+/// The first fault of the text, exactly when it has one, as `run_program` answers it. Or it runs out of memory.
 pub fn run_program_together<R: Threads + Wait + Sync, G: Gate>(
     rt: &R,
     alloc: Global,
@@ -49,7 +49,7 @@ pub fn run_program_together<R: Threads + Wait + Sync, G: Gate>(
 ///
 /// # Errors
 ///
-/// The first fault of the text, exactly when it has one, as `run_program_by_value` answers it. Or memory ran out.
+/// The first fault of the text, exactly when it has one, as `run_program_by_value` answers it. Or it runs out of memory.
 pub fn run_program_by_value_together<R: Threads + Wait + Sync, G: Gate>(
     rt: &R,
     alloc: Global,

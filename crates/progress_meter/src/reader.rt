@@ -1,4 +1,5 @@
 //! The end that reads.
+
 ghost use Rattle.std.specs.Prelude.{◌≡◌, ◌≤◌, ◌∷◌, [], IfOk};
 ghost use Rattle.std.specs.Arc.{arc_value};
 ghost use Rattle.crossbeam_utils.specs.Seq.{cell_view};
@@ -49,7 +50,7 @@ fn load<R: Wait>(rt: &R, cell: &Cell, end: &mut End) -> u64
 }
 
 impl Reader {
-    // A reader that has read nothing but 0.
+    /// A reader that has read nothing but 0.
     pub(crate) fn new(cell: Arc<Cell, Global>, end: End) -> Reader
         requires cell { end.table_id ≡ (arc_value cell).table.shared.table_id }
         requires view { cell_view end ≡ new_reader }
@@ -83,7 +84,7 @@ impl Reader {
     ///
     /// # Errors
     ///
-    /// Want of memory.
+    /// It runs out of memory.
     pub fn another(&mut self) -> Result<Reader, AllocError>
         ensures same { self.new ≡ self.old }
         ensures second { IfOk result (λ r. r ≡ self.old) }
@@ -97,7 +98,7 @@ impl Reader {
         })
     }
 
-    // What it makes its steps with.
+    /// What it makes its steps with.
     pub(crate) fn into_end(self) -> End
         ensures meter { result.table_id ≡ self.meter }
         ensures view { cell_view result ≡ Reads self.readings }

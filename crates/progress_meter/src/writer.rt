@@ -1,4 +1,5 @@
 //! The end that publishes.
+
 ghost use Rattle.std.specs.Prelude.{◌≡◌, ◌≤◌, ◌∷◌, [], IfOk};
 ghost use Rattle.crossbeam_utils.specs.Seq.{cell_view};
 ghost use Rattle.crossbeam_utils.specs.Register.{Turns};
@@ -41,7 +42,7 @@ impl Model for Writer {
 ///
 /// # Errors
 ///
-/// Want of memory.
+/// It runs out of memory.
 pub fn meter(alloc: Global) -> Result<(Writer, Reader), AllocError>
     ensures writer { IfOk result (λ m. m.0 ≡ first_publisher m.0.meter) }
     ensures reader { IfOk result (λ m. m.1 ≡ first_listener m.0.meter) }

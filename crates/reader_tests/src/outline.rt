@@ -17,6 +17,7 @@ pub(crate) fn outline(alloc: Global, text: &[u8], placed: bool) -> Result<Vec<u8
     Ok(out)
 }
 
+/// Puts the outline of a tree behind what is there.
 #[cycle(outline)]
 fn push(alloc: Global, out: &mut Vec<u8>, tree: &Named, placed: bool) -> Result<(), AllocError> {
     push_place(alloc, out, tree.at, placed)?;
@@ -61,11 +62,13 @@ fn push_place(alloc: Global, out: &mut Vec<u8>, at: u32, placed: bool) -> Result
     Ok(())
 }
 
+/// Puts a number behind what is there, in decimal digits.
 fn push_number(alloc: Global, out: &mut Vec<u8>, number: u64) -> Result<(), AllocError> {
     let digits = format!(in alloc; "{number}")?;
     out.extend_from_slice(digits.as_bytes())
 }
 
+/// Puts the word of a binder, its name, a colon and its type behind what is there.
 fn push_binder(
     alloc: Global,
     out: &mut Vec<u8>,
@@ -79,6 +82,7 @@ fn push_binder(
     out.extend_from_slice(&print_ty(alloc, ty)?)
 }
 
+/// Puts a form and its one part in parentheses behind what is there.
 #[cycle(outline)]
 fn push_part(
     alloc: Global,
@@ -93,6 +97,7 @@ fn push_part(
     out.extend_from_slice(b")")
 }
 
+/// Puts a form and its two parts behind what is there, each in parentheses.
 #[cycle(outline)]
 fn push_parts(
     alloc: Global,

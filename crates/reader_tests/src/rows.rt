@@ -23,6 +23,7 @@ pub(crate) fn cut(text: &[u8], byte: u8) -> (&[u8], &[u8]) {
     (text, &[])
 }
 
+/// What is answered for a text: how it is spelled when it is printed again, or its tree with places.
 fn answer(alloc: Global, asked: Asked, text: &[u8]) -> Result<Vec<u8>, AllocError> {
     match asked {
         Asked::Spelling => respelled(alloc, text),

@@ -1,4 +1,5 @@
 //! The replay of a log.
+
 ghost use Rattle.std.specs.Prelude.{◌≡◌, ◌≤◌, length, None, Err, OnOk, IfErr};
 ghost use Rattle.std.specs.FinMap.{get};
 ghost use Rattle.pcf_values.specs.Most.{most_moves};
@@ -22,7 +23,7 @@ use std::alloc::Global;
 ///
 /// # Errors
 ///
-/// `NotLive` or `AfterAnswer` exactly where a ticket isn't live when its turn comes, and want of memory.
+/// `NotLive` or `AfterAnswer` exactly where a ticket isn't live when its turn comes. Or it runs out of memory.
 pub fn replay(alloc: Global, net: &Net, log: &Log) -> Result<Replayed, ReplayFault>
     requires runs { Runs net.now }
     requires few { length log.now.entries ≤ most_moves }

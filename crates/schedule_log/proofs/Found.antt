@@ -213,6 +213,7 @@ lacks bytes l ls u e a b = record {
     other One h = b h
     other Two h = a h
 
+-- bytes are read by their first line: as runs behind the header of a version, or as a text that lacks a header
 header_read : (bytes l : List ℕ) (ls : List (List ℕ)) (t o : Bool) → bytes_eq l (header Two) ≡ t →
     bytes_eq l (header One) ≡ o →
     length bytes ≤ most_schedule_bytes → lines bytes ≡ l ∷ ls →
@@ -263,6 +264,7 @@ line_tells true true false n r s h e = cc
 line_tells true false c n r s h e = cc
 line_tells false t c n r s h e = cc
 
+-- of the lines behind a header each list gives runs or a fault
 runs_tell : (v : Version) (p : Option ℕ) (m n : ℕ) (ls : List (List ℕ)) → Tells (runs_from v p m n ls)
 runs_tell v p m n [] = λ e. cc
 runs_tell v p m n (l ∷ ls) =

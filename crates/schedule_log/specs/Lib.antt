@@ -1,11 +1,19 @@
 -- what a reader has to believe: a log and its tickets, which bytes are the text of which tickets and which fault is the first, the text
 -- that is printed, the tally of a log's workers
+--
+-- What contracts see of a log: its entries and its room.
 pub mod Logs
+-- Which bytes are the text of a schedule, and which fault of other bytes is the first.
 pub mod Schedules
+-- The text of a schedule in version 2: its tickets as longest runs of one ticket, a line a run.
 pub mod Runs
+-- The tally of a log: how many of its moves each worker booked.
 pub mod Tally
 -- the laws, and the rows of texts with what they are read as
+--
+-- What holds of schedule texts and of tallies.
 pub mod Laws
+-- Texts with what they are read as.
 pub mod Rows
 -- how a text is read line by line: what laws and the code's inner calls speak of
 pub mod Reading

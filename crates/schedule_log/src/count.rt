@@ -1,4 +1,5 @@
 //! How the moves of a text are counted, and its lines judged.
+
 ghost use Rattle.std.specs.Prelude.{◌≡◌, ◌≤◌, length, None};
 ghost use Rattle.pcf_values.specs.Most.{most_schedule_bytes};
 ghost use Rattle.schedule_log.specs.Reading.{counted, runs_from};

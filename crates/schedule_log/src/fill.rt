@@ -1,4 +1,5 @@
 //! How a log is filled with the moves of a text.
+
 ghost use Rattle.std.specs.Prelude.{◌≡◌, ◌+◌, ◌≤◌, length, [], None, Ok};
 ghost use Rattle.pcf_values.specs.Most.{most_schedule_bytes};
 ghost use Rattle.schedule_log.specs.Logs.{read_entries, with_entries};

@@ -1,4 +1,5 @@
 //! One line of a schedule's text: which it is, and what it stands for.
+
 ghost use Rattle.std.specs.Prelude.{◌≡◌, ◌↔◌, ◌+◌, ◌<◌, ◌≤◌, ◌∷◌, length, IsTrue, Ok, Err, IfOk, IfErr};
 ghost use Rattle.pcf_values.specs.Most.{most_moves};
 ghost use Rattle.schedule_log.specs.Reading.{judged_line, may_follow};

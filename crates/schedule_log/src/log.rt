@@ -1,4 +1,5 @@
 //! The log of a run.
+
 ghost use Rattle.std.specs.Prelude.{◌≡◌, ◌+◌, ◌<◌, ◌≤◌, ◌^◌, length, replicate, IfOk};
 ghost use Rattle.schedule_log.specs.Logs.{Small, empty_log, ticket_at, tickets_in_log, with_entries, with_entry, worker_at};
 ghost use Rattle.schedule_log.specs.Tally.{tally_of};
@@ -31,7 +32,7 @@ impl Log {
     ///
     /// # Errors
     ///
-    /// Want of memory.
+    /// It runs out of memory.
     pub fn with_room(alloc: Global, room: u32) -> Result<Log, AllocError>
         ensures { IfOk result (λ log. log ≡ empty_log room) }
     {
@@ -112,7 +113,7 @@ impl Log {
     ///
     /// # Errors
     ///
-    /// Want of memory.
+    /// It runs out of memory.
     pub fn copy(&self, alloc: Global) -> Result<Log, AllocError>
         ensures { IfOk result (λ log. log ≡ self.now) }
     {

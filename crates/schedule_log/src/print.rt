@@ -1,4 +1,5 @@
 //! How a log is printed.
+
 ghost use Rattle.std.specs.Prelude.{◌≡◌, ◌↔◌, ◌+◌, ◌<◌, ◌^◌, [], ◌∷◌, ◌++◌, length, IsTrue, OnOk, IfOk};
 ghost use Rattle.schedule_log.specs.Logs.{tickets_in_log};
 ghost use Rattle.text_lines.specs.Lines.{joined};
@@ -13,7 +14,7 @@ use std::alloc::{AllocError, Global};
 ///
 /// # Errors
 ///
-/// Want of memory.
+/// It runs out of memory.
 pub fn print_schedule(alloc: Global, log: &Log) -> Result<Vec<u8>, AllocError>
     ensures { IfOk result (λ text. text.items ≡ schedule_text (tickets_in_log log.now.entries)) }
 {

@@ -1,4 +1,5 @@
 //! How the moves of a log are counted by their workers.
+
 ghost use Rattle.std.specs.Prelude.{◌≡◌, ◌<◌, ◌^◌, length};
 ghost use Rattle.schedule_log.specs.Tally.{tally_of};
 

@@ -1,4 +1,5 @@
 //! The reading of a schedule's text.
+
 ghost use Rattle.std.specs.Prelude.{◌≡◌, ◌⊎◌, ◌↔◌, ◌<◌, ◌≤◌, length, IsTrue, None, Err, IfOk, IfSome, IfNone};
 ghost use Rattle.pcf_values.specs.Most.{most_schedule_bytes};
 ghost use Rattle.schedule_log.specs.declared.fault.ScheduleFault.TheVariants.{NoMemory};
@@ -22,7 +23,7 @@ use text_lines::cut_line;
 ///
 /// # Errors
 ///
-/// The first fault of the text, with its line, counted from 1. Or want of memory.
+/// The first fault of the text, with its line, counted from 1. Or it runs out of memory.
 pub fn read_schedule(alloc: Global, bytes: &[u8]) -> Result<Log, ScheduleFault>
     ensures answer { ReadAs bytes.now (tickets_read result) }
     ensures log { IfOk result (λ log. log ≡ read_log (tickets_in_log log.entries)) }

@@ -1,4 +1,5 @@
 //! A gate that counts, and one at which workers meet.
+
 use gate_workers::Gate;
 use std::alloc::{AllocError, Global};
 use std::sync::atomic::{AtomicU64, Ordering};

@@ -72,7 +72,7 @@ fn built(alloc: Global, program: &Typed) -> Result<Net, AllocError>
 ///
 /// # Errors
 ///
-/// Want of memory, and with the same answer a text that is no program of type `nat`.
+/// It runs out of memory, and with the same answer a text that is no program of type `nat`.
 pub fn net_of(alloc: Global, text: &str) -> Result<Net, AllocError>
     ensures { IfOk result (λ net. Runs net) }
 {

@@ -1,4 +1,5 @@
 //! The first line of a text, and the last.
+
 ghost use Rattle.std.specs.Prelude.{◌≡◌, ◌↔◌, ◌<◌, ◌≤◌, ◌∷◌, length, IsTrue};
 ghost use Rattle.text_lines.specs.Lines.{end_line, lines};
 ghost use Rattle.text_lines.specs.Scanning.{first_length};
@@ -19,7 +20,7 @@ pub fn is_end(line: &[u8]) -> bool
     line == b"end\n".as_slice()
 }
 
-// How many bytes the first line has, with its line feed.
+/// How many bytes the first line has, with its line feed.
 fn line_length(bytes: &[u8]) -> usize
     ensures value { result ≡ first_length bytes.now }
     ensures within { result ≤ length bytes.now }

@@ -1,11 +1,12 @@
 //! The number with which bytes begin.
+
 ghost use Rattle.std.specs.Prelude.{◌≡◌, ◌≤◌, length, IfSome};
 ghost use Rattle.std.specs.Option.{is_some};
 ghost use Rattle.std.specs.Str.Parse.{digits_value};
 ghost use Rattle.text_lines.specs.Digits.{behind, capped, digits_in, is_number};
 ghost use Rattle.text_lines.specs.Scanning.{capped_after};
 
-// No number above this, which is 2 ^ 40, is told from it.
+/// No number above this, which is 2 ^ 40, is told from it.
 const CAP: u64 = 1_099_511_627_776;
 
 /// The number with which the bytes begin, or 2 ^ 40 if it is above, and what stands behind its digits.
@@ -23,7 +24,7 @@ pub fn number_in(bytes: &[u8]) -> Option<(u64, &[u8])>
     Some((capped_number(digits), more))
 }
 
-// With how many digits the bytes begin.
+/// With how many digits the bytes begin.
 fn digit_count(bytes: &[u8]) -> usize
     ensures value { result ≡ length (digits_in bytes.now) }
     ensures within { result ≤ length bytes.now }
@@ -36,7 +37,7 @@ fn digit_count(bytes: &[u8]) -> usize
     bytes.len()
 }
 
-// The number that the digits are, or `CAP` if it is above.
+/// The number that the digits are, or `CAP` if it is above.
 fn capped_number(digits: &[u8]) -> u64
     ensures { result ≡ capped_after 0 digits.now }
 {
@@ -47,7 +48,7 @@ fn capped_number(digits: &[u8]) -> u64
     n
 }
 
-// Whether digits are a number without leading zeros.
+/// Whether digits are a number without leading zeros.
 fn is_number(digits: &[u8]) -> bool
     ensures { result ≡ is_number digits.now }
 {

@@ -84,6 +84,7 @@ pub record Puts (held : List (Option Held)) (w : ℕ) (a o : Option Held) (holde
   pub aside_small : aside - allowance_of a + allowance_of o < 2 ^ 32
   pub counts : CountsOf (set held w o) (holders - holder a + holder o) (aside - allowance_of a + allowance_of o)
 
+-- after a change at worker w's place both numbers are counted anew from what was there and what is
 pub puts : (held seen : List (Option Held)) (w : ℕ) (a o : Option Held) (holders aside : ℕ) → held ≡ seen → w < length seen
     → a ≡ own held w → CountsOf held holders aside → allowances (set seen w o) < 2 ^ 32 → Puts held w a o holders aside
 puts held seen w a o holders aside e l f at small =

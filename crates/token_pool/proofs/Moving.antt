@@ -187,6 +187,7 @@ book_keeps p q w h n good at l some few b =
     subst Good (sym b.rest) (subst (λ (log : List Entry). Good (record p { state = q.state; log = p.log ++ log; held = set p.held w None }))
     (by_many n h.ticket w) good')
 
+-- a good pool that is stopped is good
 pub stop_keeps : (p : Pool) → Good p → Good (halted p)
 stop_keeps p good = record {
   runs = good.runs;

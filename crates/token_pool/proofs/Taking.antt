@@ -34,6 +34,7 @@ record Gives (o : Option (Option Held)) (f : Option ℕ) (r : Bool) (a : ℕ) (h
 same_token : (g h : Held) → Token g ≡ Token h → g ≡ h
 same_token g h e = cc
 
+-- a worker that is handed a ticket holds it already, or is given a free one
 lines : (s : Bool) (o : Option (Option Held)) (e : Bool) (f : Option ℕ) (r : Bool) (a : ℕ) (h : Held)
     → (if s then Stopped else on_own (flat o) (if e then Ended else on_free f
     (λ i. if r then Reserved else Token (record { ticket = i; allowance = a })))) ≡ Token h
@@ -81,6 +82,7 @@ idle_line false None false None r a q = (refl, refl)
 idle_line false None false (Some i) true a q = absurd cc
 idle_line false None false (Some i) false a q = absurd cc
 
+-- a worker is told that all moves are set aside only where the run isn't over and no move is left
 reserved_line : (s : Bool) (o : Option (Option Held)) (e : Bool) (f : Option ℕ) (r : Bool) (a : ℕ)
     → (if s then Stopped else on_own (flat o) (if e then Ended else on_free f
     (λ i. if r then Reserved else Token (record { ticket = i; allowance = a })))) ≡ Reserved
@@ -253,6 +255,7 @@ take_branch_gives p w h good l e = branch_held p good w h l e
 pub take_idles : (p : Pool) (w : ℕ) → Good p → turn p w ≡ Idle → (v : ℕ) × (h : Held) × Holds p.held v h
 take_idles p w good e = idle_holds p good w e
 
+-- where all moves are set aside, some worker holds a ticket
 pub take_reserves : (p : Pool) (w : ℕ) → Good p → turn p w ≡ Reserved → (v : ℕ) × (h : Held) × Holds p.held v h
 take_reserves p w good q =
     let (going, room) = reserved_line p.stopped (slice_get p.held w) (is_ended p) (least_free p) (nat_eq (spent p) p.budget)
@@ -274,6 +277,7 @@ take_reserves p w good q =
         ended false true e f g = g
         ended false false e f g = absurd cc
 
+-- a ticket that is handed out is the worker's own, or the least free one where it has none
 pub take_least : (p : Pool) (w : ℕ) (h : Held) → turn p w ≡ Token h → (own p.held w ≡ Some h) ⊎
     ((own p.held w ≡ None) × IsLeastFree p h.ticket)
 take_least p w h q = ⊎_elim (λ o. inl (ap flat o)) (λ g. inr (⊎_elim (λ e. ap flat e) (λ e. ap flat e) g.own, least g.found))

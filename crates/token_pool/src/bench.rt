@@ -1,4 +1,5 @@
 //! The pool as the bench of several workers.
+
 ghost use Rattle.std.specs.Prelude.{◌≡◌, IfOk, OnOk, OnErr};
 ghost use Rattle.token_pool.specs.Benches.{MakesWalk, TurnFor, GivesTurn, TakesIn};
 ghost use Rattle.interleave_laws.specs.Maps.{MapState};
@@ -12,7 +13,7 @@ use move_rules::{Moved, walk};
 use net_build::Net;
 use std::alloc::{AllocError, Global};
 
-// The turn for what a worker was handed.
+/// The turn for what a worker was handed.
 fn turn_of(taken: Taken) -> Turn<Piece>
     ensures { (S : MapState) (told : Told) → Hands S told taken → TurnFor S told result }
 {

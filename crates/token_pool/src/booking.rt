@@ -1,4 +1,5 @@
 //! Moves of a held ticket that are booked.
+
 ghost use Rattle.std.specs.Prelude.{◌≡◌, ◌<◌, ◌≤◌, ◌+◌, replicate, length, IfOk, OnErr, IsOk, Some};
 ghost use Rattle.pcf_values.specs.Most.{most_budget};
 ghost use Rattle.interleave_laws.specs.Runs.{Runs};

@@ -1,4 +1,5 @@
 //! Branches of a held ticket that are handed out and booked.
+
 ghost use Rattle.std.specs.Prelude.{◌≡◌, ◌<◌, ◌≤◌, ◌↔◌, ◌+◌, ◌-◌, ◌^◌, [], true, All, map, length, replicate};
 ghost use Rattle.std.specs.Prelude.{IfOk, IfSome, OnErr, IsTrue, Some};
 ghost use Rattle.std.specs.FinMap.{get};
@@ -43,7 +44,7 @@ pub(crate) fn branch_part(left: u32, workers: u32, words: usize) -> u32
     }
 }
 
-// Whether a branch of the held ticket's token would be taken over.
+/// Whether a branch of the held ticket's token would be taken over.
 fn fits<N: OnNet>(held: Held, workers: u32, branch: &Branch<N>) -> bool
     ensures fits { IsTrue result ↔ ((1 ≤ length branch.now.log) × (length branch.now.log ≤ held.allowance) ×
         (workers ≡ 1 → branch.now.plain ≡ true)) }
@@ -52,7 +53,7 @@ fn fits<N: OnNet>(held: Held, workers: u32, branch: &Branch<N>) -> bool
     count >= 1 && count <= held.allowance && (workers != 1 || branch.is_plain())
 }
 
-// Grafts a branch that is taken over, and answers its own tickets; else all stays.
+/// Grafts a branch that is taken over, and answers its own tickets; else all stays.
 fn take_over<N: OnNet>(
     core: &mut Core,
     held: Held,
@@ -102,7 +103,7 @@ pub(crate) fn play_branch<N: OnNet>(
     }
 }
 
-// Writes down so many moves of one of a branch's own tickets.
+/// Writes down so many moves of one of a branch's own tickets.
 fn write_run(log: &mut Log, ticket: u32, next: u32, worker: u32, run: Run)
     requires room { length log.old.entries + run.count ≤ log.old.room }
     requires fit { 1 ≤ run.count → next + (run.ticket - 1) < 2 ^ 32 }
@@ -113,7 +114,7 @@ fn write_run(log: &mut Log, ticket: u32, next: u32, worker: u32, run: Run)
     }
 }
 
-// Writes down the moves of a branch.
+/// Writes down the moves of a branch.
 fn write_branch(log: &mut Log, ticket: u32, next: u32, worker: u32, tickets: &Tickets)
     requires room { length log.old.entries + length tickets.now ≤ log.old.room }
     requires fit { All (λ k. next + (k - 1) < 2 ^ 32) tickets.now }

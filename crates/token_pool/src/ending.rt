@@ -1,4 +1,5 @@
 //! The end of a run, by least live ticket.
+
 ghost use Rattle.std.specs.Prelude.{◌≡◌, ◌≤◌, OnOk, length};
 ghost use Rattle.pcf_values.specs.Most.{most_budget};
 ghost use Rattle.interleave_laws.specs.Maps.{LeadsToMap};

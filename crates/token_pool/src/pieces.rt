@@ -1,4 +1,5 @@
 //! What a worker is handed.
+
 ghost use Rattle.std.specs.Prelude.{◌≡◌, IfOk, OnErr};
 ghost use Rattle.token_pool.specs.declared.entries.Held.{Held};
 ghost use Rattle.interleave_laws.specs.Tickets.{IsLive};
@@ -36,7 +37,7 @@ pub enum Taken {
     Stopped,
 }
 
-// The token of a live ticket, in memory of its own.
+/// The token of a live ticket, in memory of its own.
 fn piece_of(core: &Core, held: Held) -> Result<Piece, AllocError>
     requires { IsLive core.now held.ticket }
     ensures { IfOk result (IsPieceOf core.now held) }

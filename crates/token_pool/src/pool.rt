@@ -1,4 +1,5 @@
 //! The state that workers share.
+
 ghost use Rattle.std.specs.Prelude.{◌≡◌, ◌<◌, ◌≤◌, ◌↔◌, [], IfOk, OnErr, OnOk, IsErr, IsTrue, length};
 ghost use Rattle.interleave_laws.specs.Runs.{Runs};
 ghost use Rattle.interleave_laws.specs.Start.{start_of};
@@ -56,7 +57,7 @@ impl Model for PoolState {
     ghost invariant = { λ a. Good (pool a.net a.budget a.workers a.core a.log.entries a.held a.stopped) × (a.budget ≤ a.log.room) };
 }
 
-// The net in memory of its own, and the machine's state at its start.
+/// The net in memory of its own, and the machine's state at its start.
 fn begin(alloc: Global, net: &Net) -> Result<(Net, Core), AllocError>
     ensures net { IfOk result (λ p. p.0 ≡ net.now) }
     ensures core { IfOk result (λ p. p.1 ≡ start_map (start_of net.now)) }
@@ -66,7 +67,7 @@ fn begin(alloc: Global, net: &Net) -> Result<(Net, Core), AllocError>
     Ok((own, core))
 }
 
-// Room for the whole log, and a place for each worker.
+/// Room for the whole log, and a place for each worker.
 fn lists_of(alloc: Global, budget: u32, workers: u32) -> Result<(Log, Places), AllocError>
     ensures log { IfOk result (λ p. p.0 ≡ empty_log budget) }
     ensures held { IfOk result (λ p. p.1 ≡ none_held_by workers) }
@@ -81,7 +82,7 @@ impl PoolState {
     ///
     /// # Errors
     ///
-    /// Want of memory.
+    /// It runs out of memory.
     pub fn start(
         alloc: Global,
         net: &Net,
@@ -127,7 +128,7 @@ impl PoolState {
         self.core.live_count() - self.held_count()
     }
 
-    // How many moves are made or set aside.
+    /// How many moves are made or set aside.
     fn spent(&self) -> u32
         ensures { result ≡ spent self.now }
     {
@@ -167,7 +168,7 @@ impl PoolState {
         worker < self.workers
     }
 
-    // What a worker is told.
+    /// What a worker is told.
     fn told(&self, worker: u32) -> Told
         ensures { result ≡ turn self.now worker }
     {
@@ -191,7 +192,7 @@ impl PoolState {
     ///
     /// # Errors
     ///
-    /// Want of memory, and only where there is a token to hand out.
+    /// It runs out of memory, and only where there is a token to hand out.
     pub fn take(&mut self, worker: u32) -> Result<Taken, AllocError>
         requires { worker < self.old.workers }
         ensures handed { IfOk result (Hands self.old.state (turn self.old worker)) }
@@ -210,7 +211,7 @@ impl PoolState {
     ///
     /// # Errors
     ///
-    /// Want of memory, and only where the walk isn't taken over.
+    /// It runs out of memory, and only where the walk isn't taken over.
     pub fn book(&mut self, worker: u32, moved: Moved) -> Result<Booked, AllocError>
         requires { worker < self.old.workers }
         ensures ok { IfOk result (BookedAs self.old self.new worker moved) }
@@ -228,7 +229,7 @@ impl PoolState {
         Ok(Booked::Done(done))
     }
 
-    // A free ticket with what is set aside for a branch of it.
+    /// A free ticket with what is set aside for a branch of it.
     fn for_branch(&self, held: Held) -> Held
         ensures { result ≡ for_branch self.now held }
     {
@@ -240,7 +241,7 @@ impl PoolState {
         }
     }
 
-    // What a worker is told that holds nothing, for a branch.
+    /// What a worker is told that holds nothing, for a branch.
     fn widened(&self, told: Told) -> Told
         ensures { result ≡ widened self.now told }
     {
@@ -253,7 +254,7 @@ impl PoolState {
         }
     }
 
-    // What a worker is told that plays branches.
+    /// What a worker is told that plays branches.
     fn told_branch(&self, worker: u32) -> Told
         ensures { result ≡ branch_turn self.now worker }
     {
@@ -277,7 +278,7 @@ impl PoolState {
     ///
     /// # Errors
     ///
-    /// Want of memory, and only where there is a token to hand out.
+    /// It runs out of memory, and only where there is a token to hand out.
     pub fn take_branch(&mut self, worker: u32) -> Result<Taken, AllocError>
         requires { worker < self.old.workers }
         ensures handed { IfOk result (Hands self.old.state (branch_turn self.old worker)) }
@@ -298,7 +299,7 @@ impl PoolState {
     ///
     /// # Errors
     ///
-    /// Want of memory.
+    /// It runs out of memory.
     pub fn book_branch<N: OnNet>(
         &mut self,
         worker: u32,
@@ -327,14 +328,14 @@ impl PoolState {
         self.stopped = true;
     }
 
-    // Whether the pool is one of this net, budget and number of workers.
+    /// Whether the pool is one of this net, budget and number of workers.
     fn suits(&self, net: &Net, budget: u32, workers: u32) -> bool
         ensures { IsTrue result ↔ Suits self.now net.now budget workers }
     {
         self.net.same(net) && self.budget == budget && self.workers == workers
     }
 
-    // Puts back what is held, and lets the least live ticket move until the answer or the budget.
+    /// Puts back what is held, and lets the least live ticket move until the answer or the budget.
     fn close(self) -> Result<Ended, AllocError>
         ensures finishes { IfOk result (Finishes self) }
         ensures replays { IfOk result (Replays self.net self.budget self.workers) }
@@ -363,7 +364,7 @@ impl PoolState {
     ///
     /// # Errors
     ///
-    /// Want of memory, and always so where the pool was stopped.
+    /// It runs out of memory, and always so where the pool was stopped.
     pub fn finish(
         self,
         alloc: Global,

@@ -1,4 +1,5 @@
 //! What a worker is told that asks for work.
+
 ghost use Rattle.std.specs.Prelude.{◌≡◌, ◌<◌, ◌≤◌, ◌+◌, ℕ};
 ghost use Rattle.std.specs.FinMap.{len};
 ghost use Rattle.interleave_laws.specs.Tickets.{IsLive};
@@ -31,7 +32,7 @@ pub(crate) fn least_free(core: &Core, places: &Places) -> Option<u32>
     Some(ticket)
 }
 
-// What is set aside for a ticket that is given out.
+/// What is set aside for a ticket that is given out.
 fn part(left: u32, workers: u32) -> u32
     requires { 1 ≤ workers }
     ensures { result ≡ allowance left workers }
@@ -54,7 +55,7 @@ pub(crate) fn offer(made: u32, budget: u32, workers: u32, ticket: u32) -> Told
     })
 }
 
-// Whether there is an answer, or the whole budget is made and nothing is held.
+/// Whether there is an answer, or the whole budget is made and nothing is held.
 fn has_ended(answer: Option<Val>, made: u32, budget: u32, places: &Places) -> bool
     ensures { result ≡ ends answer made budget places.now }
 {

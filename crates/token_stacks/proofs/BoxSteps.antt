@@ -295,6 +295,7 @@ pub again_long : (t : List Sig) (ws : List ℕ) (n : ℕ) → ws ≡ box_words t
 again_long t ws n e T h =
     omega (arith, entry_length (again T.first T.second) T.rest ws (e ∙ ap box_words T.is), length_again T.first T.second)
 
+-- what is cut out of the words of a `y` on top is the body of its second signature
 pub again_body_is : (t : List Sig) (ws : List ℕ) (n j : ℕ) → (T : AgainTop t) → AgainWords T.first T.second T.rest ws n j
     → Some (take (n - 3 - (n - 3 - j)) (drop (n - 3 - j) ws)) ≡ again_body t
 again_body_is t ws n j T w =

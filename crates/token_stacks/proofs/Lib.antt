@@ -10,7 +10,9 @@ pub mod BoxSteps
 pub mod WordLaws
 -- Texts of signatures: what the last word says of how the text begins, and what is put down meanwhile.
 pub mod Said
+-- What is put down of a signature's text: pieces behind others, and the last one taken off.
 pub mod Pieces
 -- Texts of stacks: the symbol on top by the last words, and the parts one after another.
 pub mod Stacking
+-- A stack that is written part by part, and one that is written whole.
 pub mod Writing

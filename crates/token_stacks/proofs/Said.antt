@@ -37,6 +37,7 @@ pub record Parts (rest : List ℕ) (w : ℕ) (s : Sig) : Type 0 where
   pub front : rest ≡ stem s
   pub last : w ≡ tag s
 
+-- a list of words with one more behind it is a signature's body only as its stem and its tag
 pub parts : (rest : List ℕ) (w : ℕ) (s : Sig) → rest ++ w ∷ [] ≡ body s → Parts rest w s
 parts rest w s e =
     let both : rest ++ w ∷ [] ≡ stem s ++ tag s ∷ [] = e ∙ body_ends s in
@@ -147,6 +148,7 @@ left_said r s w d rest old new before after m n one deep more e said = go s (par
     go (pair_of t u) p = absurd (no_tag 1 3 (sym one ∙ p.last) (omega arith))
     go (again t u) p = absurd (no_tag 1 4 (sym one ∙ p.last) (omega arith))
 
+-- the same with the mark of the right side
 pub right_said : {E : Type 0} (r : Result (Option Piece) E) (s : Sig) (w d : ℕ) (rest old new : List ℕ)
     (before after : List Piece) (m n : ℕ) →
     w ≡ 2 → (d ≡ 0 → ⊥) → m ≤ n → rest ++ w ∷ [] ≡ body s →
@@ -202,6 +204,7 @@ pub record Halves (rest first second : List ℕ) (s u : Sig) : Type 0 where
   pub back : second ≡ body u
   pub few : 3 * length first + 3 * length second + 3 ≤ 3 * length rest + 3
 
+-- a pair's words are cut into those of its two signatures by the length that stands last
 pub halves : (rest : List ℕ) (s u : Sig) → rest ≡ body s ++ (body u ++ length (body u) ∷ []) →
     (first second : List ℕ) →
     first ≡ take (length (take (length rest - 1) rest) - get_or rest (length rest - 1) 0) (take (length rest - 1) rest) →

@@ -79,6 +79,7 @@ pub record Boxed (ws : List ℕ) (x : Sym) (m : Work) : Type 0 where
   pub top : x ≡ S sig
   pub rest : m ≡ map S boxes
 
+-- a box stack with a symbol on top is one with a signature on top
 pub boxed : (f : Form) (x : Sym) (m : Work) (ws : List ℕ) → f ≡ Signatures → IsStack f ws (x ∷ m) → Boxed ws x m
 boxed Signatures x m ws e stack = go stack.0 stack.1 stack.2
   where
@@ -99,6 +100,7 @@ boxed Symbols x m ws e stack = absurd (no_form e)
     no_form : (Symbols ≡ Signatures) → ⊥
     no_form e = cc
 
+-- the words of the rest of a box stack are fewer than those of the whole
 pub takes_signature : (f : Form) (x : Sym) (m : Work) (ws rest : List ℕ) → f ≡ Signatures → (b : Boxed ws x m) →
     rest ≡ box_words b.boxes → TakesTop f ws rest m
 takes_signature Signatures x m ws rest e b r = record {
@@ -129,6 +131,7 @@ pub record Topped (f : Form) (ws : List ℕ) (m : Work) : Type 0 where
   pub are : m ≡ top ∷ rest
   pub is : IsStack f ws (top ∷ rest)
 
+-- a stack that has words has a symbol on top
 pub topped : (f : Form) (ws : List ℕ) (m : Work) → IsStack f ws m → 0 < length ws → Topped f ws m
 topped f ws (x ∷ m) e n = record { top = x; rest = m; are = refl; is = e }
 topped Symbols ws [] e n = let long = ap length e in absurd (omega (arith, long))

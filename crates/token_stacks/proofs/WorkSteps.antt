@@ -522,6 +522,7 @@ not_paired (R ∷ m) e = refl
 not_paired (L ∷ m) e = refl
 not_paired (S s ∷ m) e = cc
 
+-- a stack whose top has another mark than a pair's has no pair on top
 pub other_mark : (m : List Sym) (ws : List ℕ) (n a : ℕ) → ws ≡ work_words m → n ≡ length ws → a ≡ get_or ws (n - 3) a →
     (a ≡ 3 → ⊥)
     → None ≡ pair_body m

@@ -1,4 +1,5 @@
-// The box stack of a token, as words, and its order.
+//! The box stack of a token, as words, and its order.
+
 ghost use Rattle.std.specs.Prelude.{◌≡◌, ◌↔◌, [], ◌∷◌, Some, None, OnOk, OnErr, IfOk, IsSome, IsTrue};
 ghost use Rattle.std.specs.Option.{option_map};
 ghost use Rattle.token_stacks.specs.Signatures.{Sig, star};
@@ -104,14 +105,14 @@ impl BoxStack {
         })
     }
 
-    // The same list of signatures.
+    /// The same list of signatures.
     pub(crate) fn same(&self, other: &BoxStack) -> bool
         ensures { IsTrue result ↔ (self.now ≡ other.now) }
     {
         self.words == other.words
     }
 
-    // No signature. Takes no memory.
+    /// No signature. Takes no memory.
     pub(crate) fn empty(alloc: Global) -> BoxStack
         ensures { result ≡ [] }
     {
@@ -120,20 +121,21 @@ impl BoxStack {
         }
     }
 
-    // The words, from the bottom.
+    /// The words, from the bottom.
     pub(crate) fn words(&self) -> &[u64]
         ensures { result.now ≡ box_words self.now }
     {
         self.words.as_slice()
     }
 
+    /// Whether there is no signature on it.
     pub(crate) fn is_empty(&self) -> bool
         ensures { IsTrue result ↔ (self.now ≡ []) }
     {
         self.words.is_empty()
     }
 
-    // The body of the signature on top.
+    /// The body of the signature on top.
     pub(crate) fn top(&self) -> Option<&[u64]>
         ensures { option_map (λ b. b.now) result ≡ box_body self.now }
     {
@@ -145,7 +147,7 @@ impl BoxStack {
         Some(&self.words[n - 1 - size..n - 1])
     }
 
-    // Puts the signature of this body on top.
+    /// Puts the signature of this body on top.
     pub(crate) fn push(&mut self, body: &[u64]) -> Result<(), AllocError>
         requires { IsBody body.now }
         ensures ok { OnOk result ((s : Sig) → body.now ≡ words_of s → self.new ≡ s ∷ self.old) }
@@ -155,7 +157,7 @@ impl BoxStack {
         Ok(())
     }
 
-    // Takes off the signature on top.
+    /// Takes off the signature on top.
     pub(crate) fn pop(&mut self)
         requires { IsSome (box_body self.old) }
         ensures { popped_box self.old ≡ Some self.new }
@@ -165,7 +167,7 @@ impl BoxStack {
         self.words.truncate(n - 1 - size);
     }
 
-    // Takes off a `*`, the one signature whose body has one word.
+    /// Takes off a `*`, the one signature whose body has one word.
     pub(crate) fn pop_star(&mut self) -> bool
         ensures { Steps popped_box_star self.old result self.new }
     {
@@ -177,7 +179,7 @@ impl BoxStack {
         true
     }
 
-    // Makes the signature on top the first part of a `y` whose second part has this body.
+    /// Makes the signature on top the first part of a `y` whose second part has this body.
     pub(crate) fn join(&mut self, body: &[u64]) -> Result<(), AllocError>
         requires first { IsSome (box_body self.old) }
         requires second { IsBody body.now }
@@ -194,7 +196,7 @@ impl BoxStack {
         Ok(())
     }
 
-    // The body of the second part of the `y` on top.
+    /// The body of the second part of the `y` on top.
     pub(crate) fn second_part(&self) -> Option<&[u64]>
         ensures { option_map (λ b. b.now) result ≡ again_body self.now }
     {
@@ -206,7 +208,7 @@ impl BoxStack {
         Some(&self.words[n - 3 - second..n - 3])
     }
 
-    // Leaves the first part of the `y` on top.
+    /// Leaves the first part of the `y` on top.
     pub(crate) fn part(&mut self)
         requires { IsSome (again_body self.old) }
         ensures { parted self.old ≡ Some self.new }

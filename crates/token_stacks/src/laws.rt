@@ -1,4 +1,5 @@
-// What holds of stacks, their words and their order, as laws.
+//! What holds of stacks, their words and their order, as laws.
+
 ghost use Rattle.token_stacks.specs.Laws.{WordsTell, BoxesInOrder};
 
 /// No two stacks have the same words.

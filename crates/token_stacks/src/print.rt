@@ -1,4 +1,5 @@
-// Stacks as text, from their words. Nothing recurses: what is still to be written of a signature stands in a list.
+//! Stacks as text, from their words. Nothing recurses: what is still to be written of a signature stands in a list.
+
 ghost use Rattle.std.specs.Prelude.{◌≡◌, ◌∷◌, [], ◌++◌, ◌≤◌, ◌+◌, ◌*◌, IfOk, OnOk, codes, decimal, length};
 ghost use Rattle.std.specs.Prelude.{map, List};
 ghost use Rattle.std.specs.Option.{MatchOption};
@@ -13,19 +14,19 @@ use crate::{BoxStack, Stacks};
 use itoa::Buffer;
 use std::alloc::{AllocError, Global};
 
-// How deep a signature is written, and how many parts of a stack.
+/// How deep a signature is written, and how many parts of a stack.
 const MOST_DEEP: usize = 12;
 
 const MOST_PARTS: usize = 8;
 
-// For so many pieces there is room at once.
+/// For so many pieces there is room at once.
 const ROOM: usize = 16;
 
 /// Appends the text of a token's work stack: its top so many parts, each signature so deep.
 ///
 /// # Errors
 ///
-/// Want of memory; what is appended by then says nothing.
+/// It runs out of memory; what is appended by then says nothing.
 pub fn push_work(alloc: Global, text: &mut Vec<u8>, stacks: &Stacks) -> Result<(), AllocError>
     ensures { OnOk result (text.new.items ≡ text.old.items ++ work_text stacks.now.work) }
 {
@@ -43,7 +44,7 @@ pub fn push_work(alloc: Global, text: &mut Vec<u8>, stacks: &Stacks) -> Result<(
 ///
 /// # Errors
 ///
-/// Want of memory; what is appended by then says nothing.
+/// It runs out of memory; what is appended by then says nothing.
 pub fn push_boxes(alloc: Global, text: &mut Vec<u8>, boxes: &BoxStack) -> Result<(), AllocError>
     ensures { OnOk result (text.new.items ≡ text.old.items ++ boxes_text boxes.now) }
 {
@@ -61,7 +62,7 @@ pub fn push_boxes(alloc: Global, text: &mut Vec<u8>, boxes: &BoxStack) -> Result
 ///
 /// # Errors
 ///
-/// Want of memory; what is appended by then says nothing.
+/// It runs out of memory; what is appended by then says nothing.
 pub fn push_key(alloc: Global, text: &mut Vec<u8>, boxes: &BoxStack) -> Result<(), AllocError>
     ensures { OnOk result (text.new.items ≡ text.old.items ++ key_text boxes.now) }
 {
@@ -70,14 +71,14 @@ pub fn push_key(alloc: Global, text: &mut Vec<u8>, boxes: &BoxStack) -> Result<(
     push_stack(alloc, text, Form::Signatures, words, size + 1, size)
 }
 
-// Whether words are those of a work stack, which has symbols, or of a box stack, which has signatures alone.
+/// Whether words are those of a work stack, which has symbols, or of a box stack, which has signatures alone.
 #[derive(Clone, Copy)]
 pub(crate) enum Form {
     Symbols,
     Signatures,
 }
 
-// What stands on top of a stack: `R`, `L`, or a signature by its words.
+/// What stands on top of a stack: `R`, `L`, or a signature by its words.
 #[derive(Clone, Copy)]
 pub(crate) enum Symbol<'a> {
     Right,
@@ -85,7 +86,7 @@ pub(crate) enum Symbol<'a> {
     Signature(&'a [u64]),
 }
 
-// Appends the text of the top so many parts of a stack, each so deep.
+/// Appends the text of the top so many parts of a stack, each so deep.
 fn push_stack(
     alloc: Global,
     text: &mut Vec<u8>,
@@ -107,7 +108,7 @@ fn push_stack(
     push_rest(text, &mut todo, form, rest, most - 1, deep)
 }
 
-// The same of what stands below the top, each part behind a `.`.
+/// The same of what stands below the top, each part behind a `.`.
 fn push_rest<'a>(
     text: &mut Vec<u8>,
     todo: &mut Vec<Piece<'a>>,
@@ -134,7 +135,7 @@ fn push_rest<'a>(
     Ok(())
 }
 
-// Appends how many parts are left out.
+/// Appends how many parts are left out.
 fn push_count(text: &mut Vec<u8>, n: u64) -> Result<(), AllocError>
     ensures { OnOk result (text.new.items ≡ text.old.items ++ (codes "+" ++ decimal n)) }
 {
@@ -143,7 +144,7 @@ fn push_count(text: &mut Vec<u8>, n: u64) -> Result<(), AllocError>
     text.extend_from_slice(buffer.format(n).as_bytes())
 }
 
-// How many parts a stack has.
+/// How many parts a stack has.
 fn count(form: Form, words: &[u64]) -> u64
     requires { (m : Work) × IsStack form words.now m }
     ensures { (m : Work) → IsStack form words.now m → result ≡ length m }
@@ -157,7 +158,7 @@ fn count(form: Form, words: &[u64]) -> u64
     n
 }
 
-// Appends the text of the top of a stack that isn't empty, and answers what stands below it.
+/// Appends the text of the top of a stack that isn't empty, and answers what stands below it.
 fn push_top<'a>(
     text: &mut Vec<u8>,
     todo: &mut Vec<Piece<'a>>,
@@ -182,7 +183,7 @@ fn push_top<'a>(
     Ok(rest)
 }
 
-// The top of a stack that isn't empty, and what stands below it.
+/// The top of a stack that isn't empty, and what stands below it.
 fn top(form: Form, words: &[u64]) -> (Symbol<'_>, &[u64])
     requires { (x : Sym) × (m : Work) × IsStack form words.now (x ∷ m) }
     ensures top { (x : Sym) (m : Work) → IsStack form words.now (x ∷ m) → IsTop result.0 x }
@@ -194,7 +195,7 @@ fn top(form: Form, words: &[u64]) -> (Symbol<'_>, &[u64])
     }
 }
 
-// The same of a work stack.
+/// The same of a work stack.
 fn top_symbol(words: &[u64]) -> (Symbol<'_>, &[u64])
     requires { (x : Sym) × (m : Work) × (words.now ≡ work_words (x ∷ m)) }
     ensures { (x : Sym) (m : Work) → words.now ≡ work_words (x ∷ m) → IsTop result.0 x × (result.1.now ≡ work_words m) }
@@ -211,7 +212,7 @@ fn top_symbol(words: &[u64]) -> (Symbol<'_>, &[u64])
     (Symbol::Signature(&words[at..n - 2]), &words[..at])
 }
 
-// The same of a box stack.
+/// The same of a box stack.
 fn top_signature(words: &[u64]) -> (Symbol<'_>, &[u64])
     requires { (s : Sig) × (t : Boxes) × (words.now ≡ box_words (s ∷ t)) }
     ensures { (s : Sig) (t : Boxes) → words.now ≡ box_words (s ∷ t) → IsTop result.0 (S s) × (result.1.now ≡ box_words t) }
@@ -221,8 +222,8 @@ fn top_signature(words: &[u64]) -> (Symbol<'_>, &[u64])
     (Symbol::Signature(&words[at..n - 1]), &words[..at])
 }
 
-// What is still to be written of a signature: one byte, a part of it by its words, so deep, or the second of two parts, so deep, with
-// the byte behind it.
+/// What is still to be written of a signature: one byte, a part of it by its words, so deep, or the second of two parts, so deep, with
+/// the byte behind it.
 #[derive(Clone, Copy)]
 pub(crate) enum Piece<'a> {
     Mark(u8),
@@ -230,7 +231,7 @@ pub(crate) enum Piece<'a> {
     Second(&'a [u64], usize, u8),
 }
 
-// Appends the text of a signature by its words, so deep. The list serves for what is put down meanwhile.
+/// Appends the text of a signature by its words, so deep. The list serves for what is put down meanwhile.
 fn push_sig<'a>(
     text: &mut Vec<u8>,
     todo: &mut Vec<Piece<'a>>,
@@ -249,7 +250,7 @@ fn push_sig<'a>(
     Ok(())
 }
 
-// The piece in hand, or else the one that was put down last. What comes next is mostly in hand, and never on the list.
+/// The piece in hand, or else the one that was put down last. What comes next is mostly in hand, and never on the list.
 fn take_next<'a>(todo: &mut Vec<Piece<'a>>, hand: Option<Piece<'a>>) -> Option<Piece<'a>>
     ensures { MatchOption result ((todo.old.items ++ held hand.entry ≡ []) × (todo.new.items ≡ []))
         (λ p. todo.old.items ++ held hand.entry ≡ todo.new.items ++ p ∷ []) }
@@ -260,7 +261,7 @@ fn take_next<'a>(todo: &mut Vec<Piece<'a>>, hand: Option<Piece<'a>>) -> Option<P
     }
 }
 
-// Writes a piece, or its begin, and hands out what comes next of it, if anything does.
+/// Writes a piece, or its begin, and hands out what comes next of it, if anything does.
 fn push_piece<'a>(
     text: &mut Vec<u8>,
     todo: &mut Vec<Piece<'a>>,
@@ -277,7 +278,7 @@ fn push_piece<'a>(
     }
 }
 
-// Writes a byte, and nothing comes behind it.
+/// Writes a byte, and nothing comes behind it.
 fn push_mark<'a>(text: &mut Vec<u8>, byte: u8) -> Result<Option<Piece<'a>>, AllocError>
     ensures { (before : List Piece) → IfOk result (λ h.
         Writes text.old.items text.new.items before (before ++ held h) (byte ∷ []) 1) }
@@ -286,7 +287,7 @@ fn push_mark<'a>(text: &mut Vec<u8>, byte: u8) -> Result<Option<Piece<'a>>, Allo
     Ok(None)
 }
 
-// Writes what stands before the second of two parts, and puts down what stands behind it.
+/// Writes what stands before the second of two parts, and puts down what stands behind it.
 fn push_second<'a>(
     text: &mut Vec<u8>,
     todo: &mut Vec<Piece<'a>>,
@@ -303,7 +304,7 @@ fn push_second<'a>(
     Ok(Some(Piece::Part(words, deep)))
 }
 
-// Writes the begin of a signature's text, hands out what comes next, and puts down what is to follow.
+/// Writes the begin of a signature's text, hands out what comes next, and puts down what is to follow.
 fn push_part<'a>(
     text: &mut Vec<u8>,
     todo: &mut Vec<Piece<'a>>,
@@ -319,7 +320,7 @@ fn push_part<'a>(
     }
 }
 
-// The same by the last of its words and those before it.
+/// The same by the last of its words and those before it.
 fn push_last<'a>(
     text: &mut Vec<u8>,
     todo: &mut Vec<Piece<'a>>,
@@ -336,7 +337,7 @@ fn push_last<'a>(
     push_form(text, todo, form, rest, deep)
 }
 
-// The same of a signature that isn't `*`.
+/// The same of a signature that isn't `*`.
 fn push_form<'a>(
     text: &mut Vec<u8>,
     todo: &mut Vec<Piece<'a>>,
@@ -363,7 +364,7 @@ fn push_form<'a>(
     push_two(text, todo, b'(', b')', rest, deep - 1)
 }
 
-// Writes a mark, and hands out the signature behind it.
+/// Writes a mark, and hands out the signature behind it.
 fn push_marked<'a>(
     text: &mut Vec<u8>,
     mark: u8,
@@ -377,8 +378,8 @@ fn push_marked<'a>(
     Ok(Some(Piece::Part(rest, deep)))
 }
 
-// Writes what opens two signatures, of which the second has its length behind it, puts the second down with what closes them, and hands
-// out the first.
+/// Writes what opens two signatures, of which the second has its length behind it, puts the second down with what closes them, and hands
+/// out the first.
 fn push_two<'a>(
     text: &mut Vec<u8>,
     todo: &mut Vec<Piece<'a>>,
@@ -401,7 +402,7 @@ fn push_two<'a>(
     push_both(text, todo, begin, close, first, second, deep)
 }
 
-// The same by the words of both.
+/// The same by the words of both.
 fn push_both<'a>(
     text: &mut Vec<u8>,
     todo: &mut Vec<Piece<'a>>,

@@ -1,4 +1,5 @@
-// Both stacks of a token, and the table of their calls.
+//! Both stacks of a token, and the table of their calls.
+
 ghost use Rattle.std.specs.Prelude.{◌≡◌, ◌↔◌, [], ◌∷◌, OnOk, OnErr, IfOk, IsTrue};
 ghost use Rattle.token_stacks.specs.Signatures.{R, L, S, star, load};
 ghost use Rattle.token_stacks.specs.Words.{work_words, box_words};

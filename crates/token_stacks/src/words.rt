@@ -4,7 +4,7 @@ ghost use Rattle.token_stacks.specs.Parts.{Swaps, put_at};
 
 use std::alloc::AllocError;
 
-// The last word of the body of each form of signature.
+/// The last word of the body of each form of signature.
 pub(crate) const STAR: u64 = 0;
 
 pub(crate) const LEFT: u64 = 1;
@@ -15,7 +15,7 @@ pub(crate) const PAIR: u64 = 3;
 
 pub(crate) const AGAIN: u64 = 4;
 
-// The last word of each form of symbol.
+/// The last word of each form of symbol.
 pub(crate) const SYMBOL_R: u64 = 5;
 
 pub(crate) const SYMBOL_L: u64 = 6;
@@ -60,10 +60,10 @@ pub(crate) fn append(words: &mut Vec<u64>, piece: &[u64], tail: &[u64]) -> Resul
     Ok(())
 }
 
-// From so many words on a piece is put below others without a place that is made for it first.
+/// From so many words on a piece is put below others without a place that is made for it first.
 const LONG: usize = 64;
 
-// Puts a piece at `from`, behind it what stood there, and then `tail`; or leaves all as it was.
+/// Puts a piece at `from`, behind it what stood there, and then `tail`; or leaves all as it was.
 pub(crate) fn put_below(
     words: &mut Vec<u64>,
     from: usize,
@@ -84,7 +84,7 @@ pub(crate) fn put_below(
     Ok(())
 }
 
-// A copy of the piece at the end makes place for it.
+/// A copy of the piece at the end makes place for it.
 fn put_short(
     words: &mut Vec<u64>,
     from: usize,
@@ -101,7 +101,7 @@ fn put_short(
     Ok(())
 }
 
-// The piece in two parts: `head` has as many words as stand from `from` on, and takes their place, so that each word is copied once.
+/// The piece in two parts: `head` has as many words as stand from `from` on, and takes their place, so that each word is copied once.
 fn put_long(
     words: &mut Vec<u64>,
     from: usize,
@@ -127,7 +127,7 @@ fn put_long(
     }
 }
 
-// Adds `rest`, the words from `from` on once more, and `tail`; or some of that, and an error.
+/// Adds `rest`, the words from `from` on once more, and `tail`; or some of that, and an error.
 fn add_behind(
     words: &mut Vec<u64>,
     from: usize,
@@ -145,7 +145,7 @@ fn add_behind(
     Ok(())
 }
 
-// Moves a piece that stands from `middle` on down to `from`, and the words between up behind it.
+/// Moves a piece that stands from `middle` on down to `from`, and the words between up behind it.
 fn bring_down(words: &mut Vec<u64>, piece: &[u64], from: usize, middle: usize)
     requires first { from ≤ middle }
     requires whole { middle + length piece.now ≤ length words.old.items }

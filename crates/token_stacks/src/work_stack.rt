@@ -1,4 +1,5 @@
-// The work stack of a token, as words.
+//! The work stack of a token, as words.
+
 ghost use Rattle.std.specs.Prelude.{◌≡◌, ◌↔◌, IsTrue, ◌⊎◌, [], ◌∷◌, Some, None, OnOk, OnErr, IfOk, IsSome};
 ghost use Rattle.std.specs.Option.{option_map};
 ghost use Rattle.token_stacks.specs.Signatures.{Sig, Sym, R, L, S, star};
@@ -10,7 +11,7 @@ use crate::words::{PAIR, SIGNATURE, STAR, SYMBOL_L, SYMBOL_R, append, put_below}
 use std::alloc::{AllocError, Global};
 use std::marker::Model;
 
-// A list of symbols, the top first.
+/// A list of symbols, the top first.
 #[derive(Drop)]
 pub(crate) struct WorkStack {
     words: Vec<u64>,
@@ -33,7 +34,7 @@ impl Model for WorkStack {
 }
 
 impl WorkStack {
-    // An equal work stack, in memory of its own.
+    /// An equal work stack, in memory of its own.
     pub(crate) fn copy(&self) -> Result<WorkStack, AllocError>
         ensures { IfOk result (λ t. t ≡ self.now) }
     {
@@ -42,14 +43,14 @@ impl WorkStack {
         })
     }
 
-    // The same list of symbols.
+    /// The same list of symbols.
     pub(crate) fn same(&self, other: &WorkStack) -> bool
         ensures { IsTrue result ↔ (self.now ≡ other.now) }
     {
         self.words == other.words
     }
 
-    // No symbol. Takes no memory.
+    /// No symbol. Takes no memory.
     pub(crate) fn empty(alloc: Global) -> WorkStack
         ensures { result ≡ [] }
     {
@@ -58,19 +59,21 @@ impl WorkStack {
         }
     }
 
-    // The words, from the bottom.
+    /// The words, from the bottom.
     pub(crate) fn words(&self) -> &[u64]
         ensures { result.now ≡ work_words self.now }
     {
         self.words.as_slice()
     }
 
+    /// Whether there is no symbol on it.
     pub(crate) fn is_empty(&self) -> bool
         ensures { IsTrue result ↔ (self.now ≡ []) }
     {
         self.words.is_empty()
     }
 
+    /// Puts an `R` on the top.
     pub(crate) fn push_r(&mut self) -> Result<(), AllocError>
         ensures ok { OnOk result (self.new ≡ R ∷ self.old) }
         ensures err { OnErr result (self.new ≡ self.old) }
@@ -79,6 +82,7 @@ impl WorkStack {
         Ok(())
     }
 
+    /// Puts an `L` on the top.
     pub(crate) fn push_l(&mut self) -> Result<(), AllocError>
         ensures ok { OnOk result (self.new ≡ L ∷ self.old) }
         ensures err { OnErr result (self.new ≡ self.old) }
@@ -87,7 +91,7 @@ impl WorkStack {
         Ok(())
     }
 
-    // Takes off the symbol of this word, `R` or `L`.
+    /// Takes off the symbol of this word, `R` or `L`.
     pub(crate) fn pop_symbol(&mut self, word: u64) -> bool
         requires { (word ≡ 5) ⊎ (word ≡ 6) }
         ensures { Steps (popped word) self.old result self.new }
@@ -100,7 +104,7 @@ impl WorkStack {
         true
     }
 
-    // Takes off an `L` that stands over a signature.
+    /// Takes off an `L` that stands over a signature.
     pub(crate) fn argument_in(&mut self) -> bool
         ensures { Steps argument_left self.old result self.new }
     {
@@ -112,7 +116,7 @@ impl WorkStack {
         true
     }
 
-    // Puts an `L` over a signature.
+    /// Puts an `L` over a signature.
     pub(crate) fn argument_out(&mut self) -> Result<bool, AllocError>
         ensures ok { IfOk result (λ made. Steps argument_made self.old made self.new) }
         ensures err { OnErr result (self.new ≡ self.old) }
@@ -125,7 +129,7 @@ impl WorkStack {
         Ok(true)
     }
 
-    // Takes off a `*`, the one signature whose body has one word.
+    /// Takes off a `*`, the one signature whose body has one word.
     pub(crate) fn pop_star(&mut self) -> bool
         ensures { Steps popped_star self.old result self.new }
     {
@@ -137,7 +141,7 @@ impl WorkStack {
         true
     }
 
-    // The body of the signature on top.
+    /// The body of the signature on top.
     pub(crate) fn top(&self) -> Option<&[u64]>
         ensures { option_map (λ b. b.now) result ≡ top_body self.now }
     {
@@ -149,7 +153,7 @@ impl WorkStack {
         Some(&self.words[n - 2 - size..n - 2])
     }
 
-    // Puts the signature of this body on top.
+    /// Puts the signature of this body on top.
     pub(crate) fn push(&mut self, body: &[u64]) -> Result<(), AllocError>
         requires { IsBody body.now }
         ensures ok { OnOk result ((s : Sig) → body.now ≡ words_of s → self.new ≡ S s ∷ self.old) }
@@ -159,7 +163,7 @@ impl WorkStack {
         Ok(())
     }
 
-    // Takes off the signature on top.
+    /// Takes off the signature on top.
     pub(crate) fn pop(&mut self)
         requires { IsSome (top_body self.old) }
         ensures { popped_signature self.old ≡ Some self.new }
@@ -169,7 +173,7 @@ impl WorkStack {
         self.words.truncate(n - 2 - size);
     }
 
-    // Puts the mark `l` or `r` before the signature on top.
+    /// Puts the mark `l` or `r` before the signature on top.
     pub(crate) fn wrap(&mut self, mark: u64) -> Result<bool, AllocError>
         requires { (mark ≡ 1) ⊎ (mark ≡ 2) }
         ensures ok { IfOk result (λ made. Steps (wrapped mark) self.old made self.new) }
@@ -186,7 +190,7 @@ impl WorkStack {
         Ok(true)
     }
 
-    // Takes that mark off the signature on top.
+    /// Takes that mark off the signature on top.
     pub(crate) fn unwrap(&mut self, mark: u64) -> bool
         requires { (mark ≡ 1) ⊎ (mark ≡ 2) }
         ensures { Steps (unwrapped mark) self.old result self.new }
@@ -202,7 +206,7 @@ impl WorkStack {
         true
     }
 
-    // Makes the signature on top the second part of a pair whose first part has this body.
+    /// Makes the signature on top the second part of a pair whose first part has this body.
     pub(crate) fn pair(&mut self, body: &[u64]) -> Result<(), AllocError>
         requires first { IsBody body.now }
         requires second { IsSome (top_body self.old) }
@@ -219,7 +223,7 @@ impl WorkStack {
         Ok(())
     }
 
-    // The body of the first part of the pair on top.
+    /// The body of the first part of the pair on top.
     pub(crate) fn pair_part(&self) -> Option<&[u64]>
         ensures { option_map (λ b. b.now) result ≡ pair_body self.now }
     {
@@ -232,7 +236,7 @@ impl WorkStack {
         Some(&self.words[n - 2 - size..n - 4 - second])
     }
 
-    // Leaves the second part of the pair on top.
+    /// Leaves the second part of the pair on top.
     pub(crate) fn unpair(&mut self)
         requires { IsSome (pair_body self.old) }
         ensures { unpaired self.old ≡ Some self.new }

@@ -83,6 +83,7 @@ pub record Brings (i : ℕ) (n : Node) (v : Val) (w : ℕ) (m : Work) (t : Boxes
 gives : (m : Move) (u : Val) → NoAnswer m → m ≡ answer u → ⊥
 gives m u h e = subst NoAnswer e h
 
+-- a token whose move is the answer stands at a root and has the answer's value
 brings : (i : ℕ) (n : Node) (v : Val) (w : ℕ) (m : Work) (t : Boxes) (u : Val) → ans_down i n v w m t ≡ answer u → Brings i n v w m t u
 brings i (Root c) v w [] t u e = record { root = is_root c; value = same v u e }
   where
@@ -144,6 +145,7 @@ pub record BringsIt (net : NetTree) (S : State) (t : ℕ) (u : Val) : Type 0 whe
 unanswered : (S U : State) (u : Val) → S.answered ≡ None → S.answered ≡ U.answered → U.answered ≡ Some u → ⊥
 unanswered S U u e f g = none_some u (sym e ∙ f ∙ g)
 
+-- the only move after which a state is answered is the one that brings the answer
 act_answers : (S U : State) (t : ℕ) (u : Val) (m : Move) → S.answered ≡ None → act m S t ≡ Some U → U.answered ≡ Some u → m ≡ answer u
 act_answers S U t u (solo i y) e made g = absurd (unanswered S U u e (ap (λ (V : State). V.answered) (one_some _ U made)) g)
 act_answers S U t u (fork i l r bx) e made g = absurd (go (S.entries i bx) made)
@@ -193,6 +195,7 @@ pub record EndsSo (k : ℕ) (lines : List (List ℕ)) (v : Val) : Type 0 where
   pub token : TokenTree
   pub are : lines ≡ before ++ answer_line (length before + k) worker ticket number (Root wire) token v ∷ []
 
+-- lines that end so behind one line more end so with it, counted from one less
 one_before : (k : ℕ) (line : List ℕ) (lines : List (List ℕ)) (v : Val) → EndsSo (suc k) lines v → EndsSo k (line ∷ lines) v
 one_before k line lines v s = record {
   before = line ∷ s.before;
@@ -256,6 +259,7 @@ ends_from net sound past S T k (d ∷ es) v led none on e =
     go None made ih h = absurd (none_some T h)
     go (Some U) made ih h = by_answer U U.answered refl made ih h
 
+-- the last line of a whole log with an answer is the move at the root
 pub answer_ends : AnswerEnds
 answer_ends net sound log S v led e =
     let s = ends_from net sound [] (start (start_of net)) S 0 log v refl refl led e in

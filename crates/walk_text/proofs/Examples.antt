@@ -63,6 +63,7 @@ sum_case =
 tens : (n : ℕ) → 0 < n → n < 2 ^ 64 → decimal n ≡ map (λ d. 48 + d) (digits_of 10 n)
 tens n = decimal-digits_of n
 
+-- and one of states with numbers of several digits
 doubled_case : from_start doubled_net (start (start_of doubled_net)) (moves 15 0 (moves 15 1 [])) 100000 ≡ doubled_text
 doubled_case =
     let zero = decimal_digit 0 (omega arith) in

@@ -75,6 +75,7 @@ after_live S low t live text new goal e g =
     ∙ ap (λ n. text ++ live_lines (seen S).tokens t n) (sym one)
     ∙ g
 
+-- behind a live ticket's line the lines go on with the next live ticket, or are all there
 pub live_on : (S : MapState) → Low S → (t : ℕ) → (text new goal : List ℕ) → LiveFrom S (Some t) text goal →
     new ≡ text ++ live_line t (get S.tokens t) → (o : Option ℕ) → MatchOption o (NoneLiveAbove S t) (IsNextLive S t) → LiveFrom S o new goal
 live_on S low t text new goal from e None m =

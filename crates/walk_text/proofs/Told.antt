@@ -114,6 +114,7 @@ either_fits b (answer v) m' f g = f
 both_fit : (c : Bool) (a b w : ℕ) (m m' : Move) → Fits c m → Fits c m' → Fits c (or_stay (if_wire a w m) (if_wire b w m'))
 both_fit c a b w m m' f g = either_fits c (if_wire a w m) (if_wire b w m') (wire_fits c a w m f) (wire_fits c b w m' g)
 
+-- an answer makes a join at operators alone, and elsewhere a solo move or the last one
 ans_fits : (i : ℕ) (n : Node) (v : Val) (w : ℕ) (m : Work) (t : Boxes) → Fits (is_operator n) (ans_down i n v w m t)
 ans_fits i (Succ a c) v w [] t = refl
 ans_fits i (Pred a c) v w [] t = refl

@@ -46,6 +46,7 @@ place_free net S (e ∷ es) (suc n) m k =
     ap (λ j. lines_from net S j (take m (drop n es))) one ∙ place_free net S es n m (suc k)
     ∙ ap (λ j. lines_from net S j (take m (drop n es))) next
 
+-- the header, the window's lines and the end are the trace of the log from that move on
 trace_is : (net : NetTree) (log : List Entry) (from most begin to : ℕ) (S : MapState) → begin ≡ min from (length log) →
     to ≡ begin + min most (length log - begin) → LeadsToMap net (tickets_in_log (take begin log)) S →
     codes "trace 1\n" ++ (window_text net S begin (take (to - begin) (drop begin log)) ++ codes "end\n") ≡ trace_text net log from most

@@ -1,4 +1,5 @@
-// Where a trace begins: the live tokens and the open entries of a state.
+//! Where a trace begins: the live tokens and the open entries of a state.
+
 ghost use Rattle.std.specs.Prelude.{◌≡◌, ◌<◌, ◌++◌, ℕ, Some, OnOk, codes, map};
 ghost use Rattle.std.specs.FinMap.{entries, get};
 ghost use Rattle.fork_join.specs.Nested.{entry_of};
@@ -18,7 +19,7 @@ use move_rules::Token;
 use std::alloc::{AllocError, Global};
 use token_stacks::push_key;
 
-// Appends the live tokens and the open entries of a state.
+/// Appends the live tokens and the open entries of a state.
 pub(crate) fn push_head(alloc: Global, text: &mut Vec<u8>, core: &Core) -> Result<(), AllocError>
     requires low { (i : ℕ) → IsLive core.now i → i < core.now.next }
     ensures { OnOk result (text.new.items ≡ text.old.items ++ head_text core.now) }
@@ -27,7 +28,7 @@ pub(crate) fn push_head(alloc: Global, text: &mut Vec<u8>, core: &Core) -> Resul
     push_open(alloc, text, core)
 }
 
-// Appends the live tokens, in the order of their tickets.
+/// Appends the live tokens, in the order of their tickets.
 fn push_live(alloc: Global, text: &mut Vec<u8>, core: &Core) -> Result<(), AllocError>
     requires low { (i : ℕ) → IsLive core.now i → i < core.now.next }
     ensures { OnOk result (text.new.items ≡ text.old.items ++ live_lines (seen core.now).tokens 0 core.now.next) }
@@ -40,7 +41,7 @@ fn push_live(alloc: Global, text: &mut Vec<u8>, core: &Core) -> Result<(), Alloc
     Ok(())
 }
 
-// Appends the line of a ticket, if it is live.
+/// Appends the line of a ticket, if it is live.
 fn push_live_of(
     alloc: Global,
     text: &mut Vec<u8>,
@@ -55,7 +56,7 @@ fn push_live_of(
     }
 }
 
-// Appends the line of a live token.
+/// Appends the line of a live token.
 fn push_live_line(
     alloc: Global,
     text: &mut Vec<u8>,
@@ -70,7 +71,7 @@ fn push_live_line(
     text.extend_from_slice(b"\n")
 }
 
-// Appends the open entries, in the order of their keys.
+/// Appends the open entries, in the order of their keys.
 fn push_open(alloc: Global, text: &mut Vec<u8>, core: &Core) -> Result<(), AllocError>
     ensures { OnOk result (text.new.items ≡ text.old.items ++ open_lines (entries core.now.entries)) }
 {
@@ -78,7 +79,7 @@ fn push_open(alloc: Global, text: &mut Vec<u8>, core: &Core) -> Result<(), Alloc
     push_entries(alloc, text, &list)
 }
 
-// Appends the lines of entries.
+/// Appends the lines of entries.
 fn push_entries(alloc: Global, text: &mut Vec<u8>, list: &[Open<'_>]) -> Result<(), AllocError>
     ensures { OnOk result (text.new.items ≡ text.old.items ++ open_lines (map open_of list.now)) }
 {
@@ -88,7 +89,7 @@ fn push_entries(alloc: Global, text: &mut Vec<u8>, list: &[Open<'_>]) -> Result<
     Ok(())
 }
 
-// Appends the line of an entry.
+/// Appends the line of an entry.
 fn push_entry(alloc: Global, text: &mut Vec<u8>, entry: &Open<'_>) -> Result<(), AllocError>
     ensures { OnOk result (text.new.items ≡ text.old.items ++ open_line (open_of entry.now).0 (open_of entry.now).1) }
 {
@@ -98,7 +99,7 @@ fn push_entry(alloc: Global, text: &mut Vec<u8>, entry: &Open<'_>) -> Result<(),
     push_sides(text, entry.kept)
 }
 
-// Appends the values that are kept in an entry, to the end of the line.
+/// Appends the values that are kept in an entry, to the end of the line.
 fn push_sides(text: &mut Vec<u8>, kept: Kept) -> Result<(), AllocError>
     ensures { OnOk result (text.new.items ≡ text.old.items ++ (codes " " ++ (sides_text (entry_of kept) ++ codes "\n"))) }
 {

@@ -1,4 +1,5 @@
-// The line of one move.
+//! The line of one move.
+
 ghost use Rattle.std.specs.Prelude.{◌≡◌, ◌++◌, [], Some, None, false, OnOk, IfOk, IsSome, IsTrue, codes, if◌then◌else◌};
 ghost use Rattle.std.specs.FinMap.{get};
 ghost use Rattle.token_stacks.specs.Texts.{boxes_text};
@@ -21,15 +22,15 @@ use pcf_values::Val;
 use schedule_log::Entry;
 use std::alloc::{AllocError, Global};
 
-// The text of a token. With a ticket it is that of the ticket's token, its box stack cut, so that the next move of the ticket finds its
-// token written.
+/// The text of a token. With a ticket it is that of the ticket's token, its box stack cut, so that the next move of the ticket finds its
+/// token written.
 #[derive(Drop)]
 pub(crate) struct Shown {
     pub(crate) text: Vec<u8>,
     pub(crate) ticket: Option<u32>,
 }
 
-// Makes the move of an entry, and appends its line. What is shown is the token behind the last move, and afterwards the one behind this.
+/// Makes the move of an entry, and appends its line. What is shown is the token behind the last move, and afterwards the one behind this.
 pub(crate) fn push_move(
     alloc: Global,
     text: &mut Vec<u8>,
@@ -53,7 +54,7 @@ pub(crate) fn push_move(
     text.extend_from_slice(b"\n")
 }
 
-// Begins the line of an entry, up to the port by which its token came, and shows the token.
+/// Begins the line of an entry, up to the port by which its token came, and shows the token.
 fn begin(
     alloc: Global,
     text: &mut Vec<u8>,
@@ -80,7 +81,7 @@ fn begin(
     }
 }
 
-// The same of a token and the node that it faces.
+/// The same of a token and the node that it faces.
 fn push_begin(
     alloc: Global,
     text: &mut Vec<u8>,
@@ -100,7 +101,7 @@ fn push_begin(
     show(alloc, shown, token, at_operator(met.node), entry.ticket)
 }
 
-// Writes a ticket's token, unless it is written already.
+/// Writes a ticket's token, unless it is written already.
 fn show(
     alloc: Global,
     shown: &mut Shown,
@@ -117,7 +118,7 @@ fn show(
     write_token(alloc, &mut shown.text, token, whole)
 }
 
-// Whether a ticket's token is written so.
+/// Whether a ticket's token is written so.
 fn is_shown(shown: &Shown, whole: bool, ticket: u32) -> bool
     ensures { IsTrue result → (shown.now.ticket ≡ Some ticket) × (whole ≡ false) }
 {
@@ -127,7 +128,7 @@ fn is_shown(shown: &Shown, whole: bool, ticket: u32) -> bool
     }
 }
 
-// Writes a token in the place of what is there.
+/// Writes a token in the place of what is there.
 fn write_token(
     alloc: Global,
     text: &mut Vec<u8>,
@@ -140,7 +141,7 @@ fn write_token(
     push_token(alloc, text, token, whole)
 }
 
-// Appends who moved, and where.
+/// Appends who moved, and where.
 fn push_mover(text: &mut Vec<u8>, k: u32, entry: Entry, met: Seen) -> Result<(), AllocError>
     ensures { OnOk result (text.new.items ≡ text.old.items ++ mover_text k entry.worker entry.ticket met.at met.node) }
 {
@@ -151,7 +152,7 @@ fn push_mover(text: &mut Vec<u8>, k: u32, entry: Entry, met: Seen) -> Result<(),
     text.extend_from_slice(name_text(met.node))
 }
 
-// Appends a port between spaces.
+/// Appends a port between spaces.
 fn push_port(text: &mut Vec<u8>, port: &[u8]) -> Result<(), AllocError>
     ensures { OnOk result (text.new.items ≡ text.old.items ++ (codes " " ++ (port.now ++ codes " "))) }
 {
@@ -160,7 +161,7 @@ fn push_port(text: &mut Vec<u8>, port: &[u8]) -> Result<(), AllocError>
     text.extend_from_slice(b" ")
 }
 
-// Appends what a step of a ticket came to, in the state behind it. What is shown is the token before, and then the one that went on.
+/// Appends what a step of a ticket came to, in the state behind it. What is shown is the token before, and then the one that went on.
 fn push_told(
     alloc: Global,
     text: &mut Vec<u8>,
@@ -181,7 +182,7 @@ fn push_told(
     }
 }
 
-// The same of a solo move, behind which the token is shown.
+/// The same of a solo move, behind which the token is shown.
 fn push_next(
     alloc: Global,
     text: &mut Vec<u8>,
@@ -201,7 +202,7 @@ fn push_next(
     }
 }
 
-// The same of a token.
+/// The same of a token.
 fn push_shown(
     alloc: Global,
     text: &mut Vec<u8>,
@@ -221,14 +222,14 @@ fn push_shown(
     text.extend_from_slice(&shown.text)
 }
 
-// The ticket, unless its token is written whole.
+/// The ticket, unless its token is written whole.
 fn unless(whole: bool, ticket: u32) -> Option<u32>
     ensures { result ≡ (if whole then None else Some ticket) }
 {
     if whole { None } else { Some(ticket) }
 }
 
-// Appends what a step of a ticket came to, with the text of the token before.
+/// Appends what a step of a ticket came to, with the text of the token before.
 fn push_turn(
     alloc: Global,
     text: &mut Vec<u8>,
@@ -251,7 +252,7 @@ fn push_turn(
     }
 }
 
-// Appends the port by which a token has left the node, the token before, and the token itself, if it is there.
+/// Appends the port by which a token has left the node, the token before, and the token itself, if it is there.
 fn push_onward(
     alloc: Global,
     text: &mut Vec<u8>,
@@ -268,7 +269,7 @@ fn push_onward(
     }
 }
 
-// The same of a token.
+/// The same of a token.
 fn push_went(
     alloc: Global,
     text: &mut Vec<u8>,
@@ -283,7 +284,7 @@ fn push_went(
     push_token(alloc, text, token, at_operator(node))
 }
 
-// Appends the port by which a token left, the token before, and what leads to that behind.
+/// Appends the port by which a token left, the token before, and what leads to that behind.
 fn push_came(text: &mut Vec<u8>, port: &[u8], before: &[u8]) -> Result<(), AllocError>
     ensures { OnOk result (text.new.items ≡ text.old.items ++ (port.now ++ (codes " " ++ (before.now ++ codes " => ")))) }
 {
@@ -293,7 +294,7 @@ fn push_came(text: &mut Vec<u8>, port: &[u8], before: &[u8]) -> Result<(), Alloc
     text.extend_from_slice(b" => ")
 }
 
-// Appends what a fork came to.
+/// Appends what a fork came to.
 fn push_fork(
     alloc: Global,
     text: &mut Vec<u8>,
@@ -310,7 +311,7 @@ fn push_fork(
     push_forked(alloc, text, core, other)
 }
 
-// Appends the new ticket of a fork with its token.
+/// Appends the new ticket of a fork with its token.
 fn push_forked(alloc: Global, text: &mut Vec<u8>, core: &Core, other: u32) -> Result<(), AllocError>
     ensures { OnOk result (text.new.items ≡ text.old.items ++ forked_text other (get core.now.tokens other)) }
 {
@@ -324,7 +325,7 @@ fn push_forked(alloc: Global, text: &mut Vec<u8>, core: &Core, other: u32) -> Re
     }
 }
 
-// Appends what the second answer at a join came to.
+/// Appends what the second answer at a join came to.
 fn push_join(
     alloc: Global,
     text: &mut Vec<u8>,
@@ -342,7 +343,7 @@ fn push_join(
     push_values(text, left, right)
 }
 
-// Appends both values at a join.
+/// Appends both values at a join.
 fn push_values(text: &mut Vec<u8>, left: Val, right: Val) -> Result<(), AllocError>
     ensures { OnOk result (text.new.items ≡ text.old.items ++ values_text left right) }
 {
@@ -352,7 +353,7 @@ fn push_values(text: &mut Vec<u8>, left: Val, right: Val) -> Result<(), AllocErr
     push_value(text, right)
 }
 
-// Appends what became of a token that ended.
+/// Appends what became of a token that ended.
 fn push_ended(text: &mut Vec<u8>, before: &[u8], what: &[u8]) -> Result<(), AllocError>
     ensures { OnOk result (text.new.items ≡ text.old.items ++ came (codes "-") before.now what.now) }
 {
@@ -360,7 +361,7 @@ fn push_ended(text: &mut Vec<u8>, before: &[u8], what: &[u8]) -> Result<(), Allo
     text.extend_from_slice(what)
 }
 
-// Appends the answer of the run.
+/// Appends the answer of the run.
 fn push_answer(text: &mut Vec<u8>, before: &[u8], value: Val) -> Result<(), AllocError>
     ensures { OnOk result (text.new.items ≡ text.old.items ++ came (codes "-") before.now (codes "answer " ++ val_text value)) }
 {

@@ -1,4 +1,5 @@
-// The moves of a log: those that are run, and those that are told.
+//! The moves of a log: those that are run, and those that are told.
+
 ghost use Rattle.std.specs.Prelude.{◌≡◌, ◌≤◌, ◌-◌, ◌++◌, OnOk, length, take, drop};
 ghost use Rattle.std.specs.List.{concat};
 ghost use Rattle.pcf_values.specs.Most.{most_moves};
@@ -14,7 +15,7 @@ use net_build::Net;
 use schedule_log::Entry;
 use std::alloc::{AllocError, Global};
 
-// Makes the first moves of a log, from the start of the run.
+/// Makes the first moves of a log, from the start of the run.
 pub(crate) fn run_to(
     core: &mut Core,
     net: &Net,
@@ -34,7 +35,7 @@ pub(crate) fn run_to(
     Ok(())
 }
 
-// Makes the moves of a log from one place to another, and appends their lines.
+/// Makes the moves of a log from one place to another, and appends their lines.
 pub(crate) fn push_moves(
     alloc: Global,
     text: &mut Vec<u8>,

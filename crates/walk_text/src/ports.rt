@@ -1,11 +1,12 @@
-// The names of a node's wires.
+//! The names of a node's wires.
+
 ghost use Rattle.std.specs.Prelude.{◌≡◌, ◌∷◌, [], codes};
 ghost use Rattle.walk_text.specs.Ports.{port, above_port, below_port};
 ghost use Rattle.walk_text.specs.Telling.{is_operator, in_port, out_port};
 
 use net_build::Node;
 
-// Whether entries are opened and closed at the node.
+/// Whether entries are opened and closed at the node.
 pub(crate) fn at_operator(node: Node) -> bool
     ensures { result ≡ is_operator node }
 {
@@ -15,7 +16,7 @@ pub(crate) fn at_operator(node: Node) -> bool
     }
 }
 
-// The name of the wire by which a token came that faces the node.
+/// The name of the wire by which a token came that faces the node.
 pub(crate) fn came_by(node: Node, up: bool, wire: u32) -> &'static [u8]
     ensures { result.now ≡ in_port node up wire }
 {
@@ -26,7 +27,7 @@ pub(crate) fn came_by(node: Node, up: bool, wire: u32) -> &'static [u8]
     }
 }
 
-// The name of the wire by which a token has left the node.
+/// The name of the wire by which a token has left the node.
 pub(crate) fn left_by(node: Node, up: bool, wire: u32) -> &'static [u8]
     ensures { result.now ≡ out_port node up wire }
 {
@@ -37,7 +38,7 @@ pub(crate) fn left_by(node: Node, up: bool, wire: u32) -> &'static [u8]
     }
 }
 
-// The name of a wire above the node.
+/// The name of a wire above the node.
 fn above(node: Node, wire: u32) -> &'static [u8]
     ensures { result.now ≡ above_port node wire }
 {
@@ -69,7 +70,7 @@ fn above(node: Node, wire: u32) -> &'static [u8]
     }
 }
 
-// The name of a wire below the node.
+/// The name of a wire below the node.
 fn below(node: Node, wire: u32) -> &'static [u8]
     ensures { result.now ≡ below_port node wire }
 {
@@ -97,14 +98,14 @@ fn below(node: Node, wire: u32) -> &'static [u8]
     }
 }
 
-// The name of the one wire, or `-`.
+/// The name of the one wire, or `-`.
 fn one(first: u32, name: &'static [u8], wire: u32) -> &'static [u8]
     ensures { result.now ≡ port (first ∷ []) (name.now ∷ []) wire }
 {
     if first == wire { name } else { b"-" }
 }
 
-// The name of the one of two wires, or `-`.
+/// The name of the one of two wires, or `-`.
 fn two(
     first: u32,
     name: &'static [u8],
@@ -121,7 +122,7 @@ fn two(
     }
 }
 
-// The name of a wire above a test.
+/// The name of a wire above a test.
 fn of_test(condition: u32, then: u32, otherwise: u32, wire: u32) -> &'static [u8]
     ensures { result.now ≡ port (condition ∷ then ∷ otherwise ∷ []) (codes "condition" ∷ codes "then" ∷ codes "else" ∷ []) wire }
 {

@@ -1,4 +1,5 @@
-// Tokens as text.
+//! Tokens as text.
+
 ghost use Rattle.std.specs.Prelude.{◌≡◌, ◌++◌, OnOk, codes, decimal};
 ghost use Rattle.move_rules.specs.Views.{token_of};
 ghost use Rattle.walk_text.specs.Lines.{token_text};
@@ -9,7 +10,7 @@ use move_rules::{Kind, Token};
 use std::alloc::{AllocError, Global};
 use token_stacks::{BoxStack, Stacks, push_boxes, push_key, push_work};
 
-// Appends a token in five words, its box stack whole or cut.
+/// Appends a token in five words, its box stack whole or cut.
 pub(crate) fn push_token(
     alloc: Global,
     text: &mut Vec<u8>,
@@ -22,7 +23,7 @@ pub(crate) fn push_token(
     push_place(alloc, text, token, whole)
 }
 
-// Appends the first word of a token.
+/// Appends the first word of a token.
 fn push_kind(text: &mut Vec<u8>, kind: Kind) -> Result<(), AllocError>
     ensures { OnOk result (text.new.items ≡ text.old.items ++ kind_text kind) }
 {
@@ -32,7 +33,7 @@ fn push_kind(text: &mut Vec<u8>, kind: Kind) -> Result<(), AllocError>
     }
 }
 
-// Appends the other four words, each behind a space.
+/// Appends the other four words, each behind a space.
 fn push_place(
     alloc: Global,
     text: &mut Vec<u8>,
@@ -46,14 +47,14 @@ fn push_place(
     push_stacks(alloc, text, &token.stacks, whole)
 }
 
-// The word for a direction.
+/// The word for a direction.
 fn way(up: bool) -> &'static [u8]
     ensures { result.now ≡ way_text up }
 {
     if up { b" up " } else { b" down " }
 }
 
-// Appends both stacks, each behind a space.
+/// Appends both stacks, each behind a space.
 fn push_stacks(
     alloc: Global,
     text: &mut Vec<u8>,
@@ -68,7 +69,7 @@ fn push_stacks(
     push_boxes_by(alloc, text, stacks.boxes(), whole)
 }
 
-// Appends a box stack.
+/// Appends a box stack.
 fn push_boxes_by(
     alloc: Global,
     text: &mut Vec<u8>,

@@ -1,4 +1,5 @@
 //! The trace of a log.
+
 ghost use Rattle.std.specs.Prelude.{◌≡◌, ◌≤◌, ◌-◌, ◌++◌, min, OnOk, length, take, drop};
 ghost use Rattle.pcf_values.specs.Most.{most_moves};
 ghost use Rattle.interleave_laws.specs.Runs.{Runs};
@@ -21,7 +22,7 @@ use std::alloc::{AllocError, Global};
 ///
 /// # Errors
 ///
-/// Want of memory; what is appended by then says nothing.
+/// It runs out of memory; what is appended by then says nothing.
 pub fn push_trace(
     alloc: Global,
     text: &mut Vec<u8>,
@@ -45,14 +46,14 @@ pub fn push_trace(
     text.extend_from_slice(b"end\n")
 }
 
-// The lesser of two numbers.
+/// The lesser of two numbers.
 fn least(a: usize, b: usize) -> usize
     ensures { result ≡ min a b }
 {
     if a < b { a } else { b }
 }
 
-// Appends what is told from one place of a log to another.
+/// Appends what is told from one place of a log to another.
 fn push_window(
     alloc: Global,
     text: &mut Vec<u8>,

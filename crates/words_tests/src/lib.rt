@@ -1,4 +1,5 @@
-//! Tests of `goi_words`: no words, and long ones. Tests of `demo_text`: its texts. What words ask for is tried from outside, by `.ci/calls`.
+//! Tests of `goi_words`: no words, and long ones. Tests of `demo_text`: its texts. What words ask for is tried from outside, by
+//! `.ci/calls`.
 //!
 //! Tests stand in a crate of their own, so that the crate they are of is not proved a second time with them.
 #![tactic(auto)]

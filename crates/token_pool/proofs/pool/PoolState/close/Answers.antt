@@ -14,4 +14,5 @@ returns-clause-replays c =
     let p = the_view c.self.inside in
     let e : Ended = record { answer = c.answer-answer.result; log = c.play_on-done.new.log } in
     replays p c.args.self c.self.view_is c.self.invariant.0 e
-    (finishes p c.args.self c.self.view_is e c.play_on-done.new.core c.in_ok-done.ensures.leads c.answer-answer.ensures c.in_ok-done.ensures.moves)
+    (finishes p c.args.self c.self.view_is e c.play_on-done.new.core c.in_ok-done.ensures.leads c.answer-answer.ensures
+    c.in_ok-done.ensures.moves)

@@ -4,8 +4,9 @@
     >>> goi.tell("(fun x:nat. x + x) 3")
     Answer(value=6, overflow=False, moves=30)
 
-A text is bytes, or a str, which is encoded as UTF-8. GOI_LIBRARY names the library where it isn't found as libgoi.so.1. Calls may be made
-from any number of threads; each runs in a thread of its own with the stack that goi.h asks for.
+A text is bytes, or a str, which is encoded as UTF-8. The library is the one that GOI_LIBRARY names, or else the one beside this file, or
+else the system's libgoi.so.1. Calls may be made from any number of threads; each runs in a thread of its own with the stack that goi.h
+asks for. In a notebook `%load_ext goi` brings cells that begin with `%%pcf`: see goi.notebook.
 """
 
 import collections
@@ -13,10 +14,13 @@ import ctypes
 import os
 import threading
 
+__version__ = "1.1.0"
 BUDGET = 10_000
 BUDGET_MAX = 10_000_000
 LINE_SIZE = 64
 STACK_SIZE = 4 << 20
+FROM_MAX = 10_000_000
+TRACED_MAX = 1_000_000
 OK, REFUSED, BAD_CALL, NO_ROOM, NO_VALUE, NO_MEMORY, BAD_FILE = 0, 1, 2, 4, 5, 6, 7
 
 Answer = collections.namedtuple("Answer", "value overflow moves")
@@ -30,7 +34,12 @@ class _Answer(ctypes.Structure):
     _fields_ = [("value", ctypes.c_uint64), ("moves", ctypes.c_uint32), ("kind", ctypes.c_uint32)]
 
 
-_library = ctypes.CDLL(os.environ.get("GOI_LIBRARY", "libgoi.so.1"))
+def _found():
+    beside = os.path.join(os.path.dirname(os.path.abspath(__file__)), "libgoi.so.1")
+    return os.environ.get("GOI_LIBRARY") or (beside if os.path.exists(beside) else "libgoi.so.1")
+
+
+_library = ctypes.CDLL(_found())
 _text = [ctypes.c_char_p, ctypes.c_size_t]
 _back = [ctypes.c_char_p, ctypes.c_size_t, ctypes.POINTER(ctypes.c_size_t)]
 for _name, _words in {
@@ -135,3 +144,10 @@ def replay(text, schedule):
 def version():
     """The library's version: ten thousand times its first number, a hundred times its second, and its third."""
     return _library.goi_version()
+
+
+def load_ipython_extension(shell):
+    """Where a notebook says `%load_ext goi`."""
+    from goi.notebook import Cells
+
+    shell.register_magics(Cells)

@@ -1,0 +1,91 @@
+"""What the benches share: the programs that they run, the built program that they run them with, and its times."""
+
+import os
+import subprocess
+import sys
+import time
+
+sys.dont_write_bytecode = True
+sys.path.insert(0, os.path.join(os.path.dirname(os.path.dirname(os.path.realpath(__file__))), "tools"))
+import program  # noqa: E402
+from program import load  # noqa: E402, F401 (a bench takes another one from here)
+
+# What is measured: the program alone, and not the script that builds it.
+GOI = os.environ.get("GOI") or program.BUILT
+
+
+def ready():
+    """Builds the program first if need be, where GOI names no other one."""
+    if "GOI" not in os.environ:
+        program.built()
+
+
+def total(n):
+    """A sum to n by recursion."""
+    return "(fix f:nat->nat. fun n:nat. ifz n then 0 else n + f (pred n)) %d" % n
+
+
+def wide(n):
+    """The generated program whose value is 2 to the power of n + 1."""
+    term = "d 1"
+    for _ in range(n):
+        term = "(%s) + (%s)" % (term, term)
+    return "(fun d:nat->nat. %s) (fun x:nat. x + x)" % term
+
+
+def calls(n, argument):
+    """A sum of n calls, a power of two, of one recursive function that doesn't fork."""
+    term = "f %d" % argument
+    while n > 1:
+        term = "(%s) + (%s)" % (term, term)
+        n //= 2
+    return "(fun f:nat->nat. %s) (fix f:nat->nat. fun n:nat. ifz n then 0 else succ (f (pred n)))" % term
+
+
+def grouped(n, name):
+    """A sum of n uses of one variable, in groups of 100."""
+    sizes = [100] * (n // 100) + [n % 100] * (n % 100 > 0)
+    return "+".join("(" + "+".join([name] * size) + ")" for size in sizes)
+
+
+# Name, text and budget of the programs that several benches run.
+PROGRAMS = (
+    ("sum", total(300), 10_000_000),
+    ("wide", wide(12), 10_000_000),
+    ("calls", calls(64, 40), 10_000_000),
+    ("loop", "fix y:nat. y", 1_000_000),
+)
+
+
+def put(folder, name, text):
+    """Writes a file, and answers its path."""
+    path = os.path.join(folder, name)
+    with open(path, "w", encoding="ascii") as file:
+        file.write(text)
+    return path
+
+
+def timed(*words):
+    """A call's time in seconds, and how it ended."""
+    begin = time.perf_counter()
+    done = subprocess.run(words, stdin=subprocess.DEVNULL, stdout=subprocess.PIPE, stderr=subprocess.PIPE, check=False)
+    return time.perf_counter() - begin, done
+
+
+def least(rounds, *words):
+    """The least time of several calls, and how the last one ended."""
+    taken = [timed(*words) for _ in range(rounds)]
+    return min(it[0] for it in taken), taken[-1][1]
+
+
+def refused(done):
+    """Ends the bench with what a call refused."""
+    sys.exit("%s: %s" % (os.path.basename(sys.argv[0]), (done.stderr or done.stdout).decode(errors="replace").strip()))
+
+
+def report(done):
+    """The first line of a run's report, and the moves."""
+    lines = done.stdout.decode().split("\n")
+    if len(lines) < 2 or not lines[1].startswith("moves "):
+        refused(done)
+    return lines[0], int(lines[1].split()[1])

@@ -1,0 +1,49 @@
+-- The headline: what `goi run FILE` comes to, for whoever reads nothing else.
+-- It follows from `Promise`, and says less: the words ask for a run by name that prints neither its schedule nor its tally nor its
+-- progress, the file is there, and its bytes are told. A program's *value* is what it means, call by name. The *length* of its net is
+-- what following questions counts on it. No worker and no machine is in the sentence, so that it is the same for any number of workers.
+use Rattle.std.specs.Prelude.{◌≡◌, ◌⊎◌, ◌≤◌, ◌<◌, ℕ, IsTrue, List, [], Some, None, false}
+use Rattle.pcf_values.specs.declared.val.Val.{Val}
+use Rattle.pcf_values.specs.Terms.{TermTree}
+use Rattle.cbn_meaning.specs.Meaning.{Means}
+use Rattle.net_build.specs.NetOf.{net_of}
+use Rattle.adequacy_laws.specs.Questions.{Length}
+use Rattle.program_runs.specs.declared.fault.ProgramFault.{ProgramFault}
+use Rattle.program_runs.specs.Programs.{number, IsGround, FaultyProgram}
+use Rattle.goi_words.specs.Asked.{job}
+use Rattle.goi_words.specs.Jobs.{run}
+use Rattle.goi_reports.specs.Lines.{result_lines}
+use Rattle.goi_tasks.specs.Refusals.{program_fault_line}
+use Rattle.goi_engine.specs.Deeds.{deed}
+use Rattle.goi_engine.specs.Writes.{Wrote}
+use Rattle.goi_engine.specs.Promise.{Call, NoneFailed, Promise}
+
+-- what the run of a text within a budget of moves comes to: its status, what is written to `out`, and what is written to `err`
+pub data Outcome (bytes : List ℕ) (budget : ℕ) : ℕ → List ℕ → List ℕ → Type 0 where
+  -- 0: the text is a program of type `nat` that has this value, and the length of its net is within the budget; both are printed
+  has_value : (t : TermTree) (v : Val) (n : ℕ) → IsGround bytes t → Means t v → Length (net_of t) v n → n ≤ budget →
+      Outcome bytes budget 0 (result_lines (Some v) n) []
+  -- 5: it is such a program, and the length of its net is absent or above the budget
+  no_value : (t : TermTree) → IsGround bytes t → ((v : Val) (n : ℕ) → Length (net_of t) v n → budget < n) →
+      Outcome bytes budget 5 (result_lines None budget) []
+  -- 1: it is none, for this fault, which is its first
+  is_faulty : (f : ProgramFault) → FaultyProgram number bytes f → Outcome bytes budget 1 [] (program_fault_line f)
+
+-- a call that ended with status 0, 5 or 1 wrote what the run comes to; and where nothing fails, one of the three comes, or 6 for memory
+pub record ComesTo (bytes : List ℕ) (budget : ℕ) (c : Call) (status : ℕ) : Type 0 where
+  pub right : (status ≡ 0) ⊎ (status ≡ 5) ⊎ (status ≡ 1) →
+      (report line : List ℕ) × Outcome bytes budget status report line × Wrote report c.out × Wrote line c.err
+  pub comes : NoneFailed c → ((status ≡ 0) ⊎ (status ≡ 5) ⊎ (status ≡ 1)) ⊎ (status ≡ 6)
+
+-- so it is with each call that keeps the promise; what is told of `Files` isn't lacked, which the trait says
+abbrev pub Headline : Type 0
+Headline =
+    (words : List (List ℕ)) (file bytes : List ℕ) (workers budget : ℕ) (c : Call) (status : ℕ) →
+    job words ≡ Some (run file workers budget false false false false) → c.old.told file ≡ Some bytes → (IsTrue (c.old.lacks file) → ⊥) →
+    Promise (deed (job words)) c status → ComesTo bytes budget c status
+
+-- and a run comes to one outcome alone
+abbrev pub OneOutcome : Type 0
+OneOutcome =
+    (bytes : List ℕ) (budget s r : ℕ) (report other line other_line : List ℕ) → Outcome bytes budget s report line →
+    Outcome bytes budget r other other_line → (s ≡ r) × (report ≡ other) × (line ≡ other_line)
