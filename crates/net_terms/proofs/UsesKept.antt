@@ -3,7 +3,7 @@ use Rattle.std.proofs.Common.{◌≡◌, ℕ, zero, suc, ◌+◌, List, [], ◌�
 use Rattle.pcf_values.specs.Terms.{TyTree, nat, product, TermTree, num, var, succ_of, pred_of, binary, ifz}
 use Rattle.pcf_values.specs.Terms.{lam, fix, app, pair, proj}
 use Rattle.net_build.specs.declared.node.Node.{Node}
-use Rattle.net_build.specs.declared.node.Node.TheVariants.{Der, Root, Pair, Binary, Proj}
+use Rattle.net_build.specs.declared.node.Node.TheVariants.{Der, Root, Pair, Binary}
 use Rattle.net_build.specs.Nets.{WireTree, NetTree}
 use Rattle.net_build.specs.NetOf.{Part, contract, doors, bound, part, net_of, double_part, ifz_part, lam_part, fix_part, app_part}
 use Rattle.net_terms.specs.TermOf.{type_at, type_in}

@@ -1,4 +1,7 @@
 //! The type of a term, where it has one.
+//!
+//! `pcf_types` types terms as they are read, with names and places, and answers their first fault. A term that is read from a net has
+//! neither, and it is only asked whether it is closed and of type `nat`.
 
 ghost use Rattle.std.specs.Prelude.{◌≡◌, ◌↔◌, ◌∷◌, [], ◌^◌, IsTrue, Option, Some, None, IfOk, OnOk, nat_lt, slice_get, if◌then◌else◌};
 ghost use Rattle.std.specs.Option.{option_map};

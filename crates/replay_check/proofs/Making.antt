@@ -1,8 +1,9 @@
 -- The moves of a log's entries, one after the other.
-use Rattle.std.proofs.Common.{◌≡◌, ℕ, zero, suc, ◌+◌, ◌<◌, ◌≤◌, List, [], ◌∷◌, ◌++◌, length, take, drop}
-use Rattle.std.proofs.Common.{get_or, Some, None, Err, refl, sym, ap, ◌∙◌, subst, arith}
+use Rattle.std.proofs.Common.{◌≡◌, ℕ, suc, ◌+◌, ◌<◌, ◌≤◌, List, length, take, drop}
+use Rattle.std.proofs.Common.{get_or, Some, None, Err, sym, ap, ◌∙◌, subst, arith}
 use Rattle.schedule_log.specs.declared.entry.Entry.{Entry}
 use Rattle.schedule_log.specs.Logs.{tickets_in_log}
+use Rattle.schedule_log.proofs.Taken.{tickets_split, tickets_more, tickets_taken, tickets_all}
 use Rattle.std.specs.FinMap.{get}
 use Rattle.pcf_values.specs.Most.{most_moves, most_budget}
 use Rattle.net_build.specs.Nets.{NetTree}
@@ -11,31 +12,6 @@ use Rattle.replay_check.specs.declared.fault.ReplayFault.{ReplayFault}
 use Rattle.replay_check.specs.declared.replayed.Replayed.{Replayed}
 use Rattle.replay_check.specs.Replays.{IsRunOf, fault_at, ReplaysAs}
 use Rattle.replay_check.proofs.Told.{stops_as, one_more}
-
--- The tickets of a log up to a place, the one at the place, and those behind it.
-pub tickets_split : (es : List Entry) (i : ℕ) (d : Entry) → i < length es →
-    tickets_in_log es ≡ tickets_in_log (take i es) ++ (get_or es i d).ticket ∷ tickets_in_log (drop (suc i) es)
-tickets_split [] i d u = absurd (omega (arith, u))
-tickets_split (e ∷ es) zero d u = refl
-tickets_split (e ∷ es) (suc i) d u = ap (λ ts. e.ticket ∷ ts) (tickets_split es i d (omega (arith, u)))
-
--- One more ticket is taken.
-pub tickets_more : (es : List Entry) (i : ℕ) (d : Entry) → i < length es →
-    tickets_in_log (take (suc i) es) ≡ tickets_in_log (take i es) ++ (get_or es i d).ticket ∷ []
-tickets_more [] i d u = absurd (omega (arith, u))
-tickets_more (e ∷ es) zero d u = refl
-tickets_more (e ∷ es) (suc i) d u = ap (λ ts. e.ticket ∷ ts) (tickets_more es i d (omega (arith, u)))
-
--- There are as many tickets as entries were taken.
-pub tickets_taken : (es : List Entry) (i : ℕ) → i ≤ length es → length (tickets_in_log (take i es)) ≡ i
-tickets_taken es zero u = refl
-tickets_taken [] (suc i) u = absurd (omega (arith, u))
-tickets_taken (e ∷ es) (suc i) u = ap suc (tickets_taken es i (omega (arith, u)))
-
--- A log has as many tickets as entries.
-pub tickets_all : (es : List Entry) → length (tickets_in_log es) ≡ length es
-tickets_all [] = refl
-tickets_all (e ∷ es) = ap suc (tickets_all es)
 
 -- A ticket that has no token at its turn is where the list stops.
 pub stops_here : (net : NetTree) (es : List Entry) (i : ℕ) (d : Entry) (S : MapState) (f : ReplayFault) → i < length es →
