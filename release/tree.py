@@ -12,7 +12,8 @@ TOP = os.path.dirname(os.path.dirname(os.path.realpath(__file__)))
 # The scripts that are commands, by their names in tools/.
 COMMANDS = ["by-value", "check-circuit", "check-workers", "draw-net", "run-many", "show-walk", "why"]
 # What of tools/ serves a checkout alone.
-LEFT_OUT = ["believed", "build-goi", "built.sh", "fail-devices", "refuse-memory", "refuse-memory.c", "release", "style", "try-hostile"]
+LEFT_OUT = ["believed", "build-goi", "built.sh", "fail-devices", "refuse-memory", "refuse-memory.c", "release", "style", "times"]
+LEFT_OUT += ["try-hostile"]
 # What the Python package has of tools/.
 PARTS = ["by-value", "draw-net", "walk.html", "why"]
 # The crates of the kit that are linked in, as `rt` lists them by `statements NAME`, and its libraries.
