@@ -1,0 +1,20 @@
+-- what a reader has to believe: rounds, units of time, and the span of a net
+-- all live tokens move at once
+pub mod Rounds
+-- any of them move, each once; and schedules, of any units and of p processors
+pub mod Units
+-- how many rounds a net's question takes, without tokens
+pub mod Spans
+-- the laws, a file for the statements of each
+-- rounds are a run, and answer as the one worker does
+pub mod RoundLaws
+-- the order within a unit
+pub mod OrderLaws
+-- rounds take the span, which the length bounds
+pub mod SpanLaws
+-- no schedule is faster, and p processors are nearly as fast
+pub mod ScheduleLaws
+-- what the rounds of a program's net come to
+pub mod Programs
+-- cases that the prover computes
+pub mod Example
