@@ -3,6 +3,7 @@
 ghost use Rattle.std.specs.Prelude.{◌≡◌, ◌+◌, ◌-◌, ◌≤◌, IfSome, IfNone, IfOk, OnErr};
 ghost use Rattle.gate_workers.specs.Served.{HandedIn, Asked, Reached, Halted};
 
+use crate::worker::Due;
 use crate::{Bench, Turn};
 use std::alloc::AllocError;
 
@@ -39,15 +40,15 @@ fn ask<B: Bench>(
 }
 
 /// Hands in, and asks what to do next; or stops the bench for want of memory, and has no answer.
-fn serve<B: Bench>(bench: &mut B, worker: u32, brought: Brought<B::Made>) -> Option<Turn<B::Piece>>
-    ensures asked { IfSome result (λ turn. Asked B.takes_in B.gives bench.old worker brought turn bench.new) }
-    ensures stopped { IfNone result (Halted B.takes_in B.halts bench.old worker brought bench.new) }
+fn serve<B: Bench>(bench: &mut B, worker: u32, brought: Brought<B::Made>) -> Due<B::Piece>
+    ensures asked { IfSome result.turn (λ turn. Asked B.takes_in B.gives bench.old worker brought turn bench.new) }
+    ensures stopped { IfNone result.turn (Halted B.takes_in B.halts bench.old worker brought bench.new) }
 {
     match ask(bench, worker, brought) {
-        Ok(turn) => Some(turn),
+        Ok(turn) => Due::of(Some(turn)),
         Err(_) => {
             bench.stop();
-            None
+            Due::of(None)
         }
     }
 }
@@ -86,18 +87,14 @@ impl<B: Bench> Desk<B> {
     }
 
     /// Serves a worker, and says how many sleepers to call: none where nothing was handed in.
-    pub(crate) fn attend(
-        &mut self,
-        worker: u32,
-        brought: Brought<B::Made>,
-    ) -> (Option<Turn<B::Piece>>, u32)
-        ensures asked { IfSome result.0 (λ turn. Asked B.takes_in B.gives self.old.bench worker brought turn self.new.bench) }
-        ensures stopped { IfNone result.0 (Halted B.takes_in B.halts self.old.bench worker brought self.new.bench) }
+    pub(crate) fn attend(&mut self, worker: u32, brought: Brought<B::Made>) -> (Due<B::Piece>, u32)
+        ensures asked { IfSome result.0.turn (λ turn. Asked B.takes_in B.gives self.old.bench worker brought turn self.new.bench) }
+        ensures stopped { IfNone result.0.turn (Halted B.takes_in B.halts self.old.bench worker brought self.new.bench) }
     {
         let booked = brought.is_some();
-        let turn = serve(&mut self.bench, worker, brought);
+        let due = serve(&mut self.bench, worker, brought);
         let calls = if booked { self.call() } else { 0 };
-        (turn, calls)
+        (due, calls)
     }
 
     /// One worker more sleeps.

@@ -4,6 +4,7 @@ ghost use Rattle.std.specs.Prelude.{◌≡◌, IfSome, IfNone};
 ghost use Rattle.gate_workers.specs.Working.{Given, TakenIn, Stopped};
 
 use crate::desk::{Brought, Desk};
+use crate::worker::Due;
 use crate::{Bench, Turn};
 use std::hint::spin_loop;
 use std::sync::{Condvar, Mutex, MutexGuard, Wait};
@@ -64,9 +65,9 @@ fn leave<R: Wait, B: Bench>(
     hall: &Hall<B>,
     desk: MutexGuard<'_, Desk<B>>,
     calls: u32,
-    turn: &Option<Turn<B::Piece>>,
+    due: &Due<B::Piece>,
 ) {
-    match turn {
+    match due.told() {
         Some(Turn::Piece(_)) => {
             drop(desk);
             wake(hall, calls);
@@ -89,13 +90,13 @@ pub(crate) fn attend<R: Wait, B: Bench>(
     hall: &Hall<B>,
     worker: u32,
     brought: Brought<B::Made>,
-) -> Option<Turn<B::Piece>>
-    ensures taken_in { IfSome result (λ _. TakenIn B.takes_in worker brought) }
-    ensures given { IfSome result (Given B.gives worker) }
-    ensures stopped { IfNone result (Stopped B.halts) }
+) -> Due<B::Piece>
+    ensures taken_in { IfSome result.turn (λ _. TakenIn B.takes_in worker brought) }
+    ensures given { IfSome result.turn (Given B.gives worker) }
+    ensures stopped { IfNone result.turn (Stopped B.halts) }
 {
     let mut desk = enter(rt, hall);
-    let (turn, calls) = desk.attend(worker, brought);
-    leave(rt, hall, desk, calls, &turn);
-    turn
+    let (due, calls) = desk.attend(worker, brought);
+    leave(rt, hall, desk, calls, &due);
+    due
 }

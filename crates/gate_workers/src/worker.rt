@@ -1,6 +1,6 @@
 //! A worker, and what it may do: ask while it has no piece, and make something of the piece that it has.
 //!
-//! Neither type may be let go. So what a worker brings is handed in before anything else, each piece that it is given is worked, and a
+//! Neither type may be let go, nor may what a worker is told. So what a worker brings is handed in before anything else, each piece that it is given is worked, and a
 //! worker that was given none can't ask again.
 
 ghost use Rattle.std.specs.Prelude.{◌≡◌, ◌+◌, ◌-◌, ◌^◌, min, None, IfSome, IfNone, IfOk, IfErr};
@@ -25,6 +25,28 @@ pub(crate) struct Busy<B: Bench> {
     number: u32,
     turns: u64,
     piece: B::Piece,
+}
+
+/// What a worker is told at the desk, or nothing where the bench was stopped. It may not be let go, and nobody but the worker takes it
+/// apart: so a piece reaches the worker that it was given to.
+pub(crate) struct Due<P> {
+    turn: Option<Turn<P>>,
+}
+
+impl<P> Due<P> {
+    /// What is told.
+    pub(crate) fn of(turn: Option<Turn<P>>) -> Due<P>
+        ensures { result.turn ≡ turn }
+    {
+        Due { turn }
+    }
+
+    /// What is told, to be looked at.
+    pub(crate) fn told(&self) -> &Option<Turn<P>>
+        ensures { result.now ≡ self.now.turn }
+    {
+        &self.turn
+    }
 }
 
 impl<B: Bench> Idle<B> {
@@ -55,7 +77,8 @@ impl<B: Bench> Idle<B> {
             turns,
             brought,
         } = self;
-        match attend(rt, hall, number, brought) {
+        let Due { turn } = attend(rt, hall, number, brought);
+        match turn {
             Some(Turn::Piece(piece)) => Some(Ok(Busy {
                 number,
                 turns,
