@@ -5,7 +5,6 @@ use Rattle.pcf_values.specs.declared.named.Raw.TheVariants as raw
 use Rattle.pcf_values.specs.Named.{place_of}
 use Rattle.pcf_values.specs.Views.{raw_of}
 
--- the place of a node's tree is the one that it was given
 pub placed : (r : Raw) (at : ℕ) → at ≡ place_of (raw_of r at)
 placed (raw.Number n) at = refl
 placed (raw.Name x) at = refl
