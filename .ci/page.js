@@ -234,3 +234,53 @@ function swapsOffered(places) {
     return walk.whyNoSwap(run) === null;
   });
 }
+
+// Moves behind which the page's own whole stacks aren't what the line says, or have a mark that another kind of node makes.
+const MAKERS = { "*": ["Der", "FixBox"], l: ["Con"], r: ["Con"], "<": ["Door"], y: ["FixBox"] };
+function wrongStacks() {
+  const { run, questions, net } = walk.view;
+  const spell = (stack, most) => walk.marksIn(stack).map(({ mark }) => walk.spelled(mark, 1, most));
+  const cut = parts => parts.length > 8 ? [...parts.slice(0, 8), "+" + (parts.length - 8)] : parts;
+  const isMade = mark => {
+    if (!MAKERS[mark.sign]) return true;
+    return mark.node >= 0 && MAKERS[mark.sign].includes(net.nodes[mark.node].name) && [mark.s, mark.u].every(it => !it || isMade(it));
+  };
+  const fits = (stack, text) => (cut(spell(stack)).join(".") || "-") === text || (spell(stack, Infinity).join(".") || "-") === text;
+  const holds = (given, token) => fits(given.work, token.work) && fits(given.boxes, token.boxes);
+  const wrong = [];
+  for (let at = 0; at < run.length; at++) {
+    const { after, after2, number } = run.move(at);
+    const given = questions.given[at];
+    if (after && !holds(given, after)) wrong.push(number);
+    if (after2 && !holds(questions.second.get(at), after2)) wrong.push(number);
+    // (A signature of a long run is looked at to no great depth.)
+    if (at < 3000 && !walk.marksIn(given.boxes).every(({ mark }) => isMade(mark))) wrong.push(number);
+  }
+  return wrong;
+}
+
+// The tree of questions behind so many moves, for each of a list: a row's depth, node and tickets; and its text.
+function shownQuestions(places) {
+  return places.map(at => {
+    walk.show(at);
+    return walk.waitingRows().map(row => [row.depth, row.frame.hole ? row.frame.node : -1, row.tickets]);
+  });
+}
+function questionTexts(at) {
+  walk.show(at);
+  return [...document.querySelectorAll("#waiting .waits")].map(it => (it.matches(".present") ? "> " : "") + it.textContent);
+}
+
+// What a press on a stack's uppermost signature tells.
+function chainTold(at, id) {
+  walk.show(at);
+  document.querySelector(`#${id} button.cell`).click();
+  return [...document.querySelectorAll("#chain .link")].map(it => it.children[1].textContent);
+}
+
+// The run in rounds: its trace, where each round begins, and what the page says of their number.
+function rounds() {
+  const { alone } = walk.view;
+  const { text, starts } = walk.inRounds(alone.run);
+  return [text, starts, [alone.questions.span.rounds, alone.questions.span.most]];
+}

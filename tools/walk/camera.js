@@ -7,7 +7,7 @@ const camera = {
   // Whether somebody has moved it: then it is left alone where the window changes its size.
   moved: false,
 };
-const SCALES = { least: 0.002, most: 4, texts: 0.42, legible: 0.56, close: 0.85, whole: 1.7 };
+const SCALES = { least: 0.002, most: 4, texts: 0.42, legible: 0.56, close: 0.85, wallLegible: 0.95, wallClose: 1.1, whole: 1.7 };
 // What the buttons above take of the picture, and what is left free at its sides and around the legend below.
 const RIMS = { above: 44, side: 24, legend: 13 };
 
@@ -46,12 +46,13 @@ function showAll() {
 // The whole net where it is legible so, and else the token at a legible size.
 function showHome() {
   showAll();
-  if (camera.scale >= SCALES.legible) return;
+  if (camera.scale >= (view.wall ? SCALES.wallLegible : SCALES.legible)) return;
   const { x, y } = focusPoint();
   const { width, height } = pictureSize();
-  camera.scale = SCALES.close;
+  camera.scale = view.wall ? SCALES.wallClose : SCALES.close;
   Object.assign(camera, withinNet(width / 2 - x * camera.scale, height / 2 - y * camera.scale));
   applyCamera();
+  uncover();
 }
 
 // The place of the camera that is nearest to x and y and shows no more than a rim of what is beside the net. The map has its own room.
@@ -93,6 +94,45 @@ function follow(point, share) {
   if (Math.abs(moveX) + Math.abs(moveY) < 0.5) return;
   camera.x += moveX * share;
   camera.y += moveY * share;
+  applyCamera();
+}
+
+// What lies over the picture: its buttons, the map, the legend, the words of a signature.
+function covers() {
+  const { left, top } = byId("picture").getBoundingClientRect();
+  return ["#net .tools", "#map", "#net .legend", "#chain"].map(it => document.querySelector(it)).filter(it => it.offsetParent).map(it => {
+    const box = it.getBoundingClientRect();
+    return { left: box.left - left, top: box.top - top, right: box.right - left, bottom: box.bottom - top };
+  });
+}
+
+// Moves the picture a little where something lies over a token, so that as many tokens as possible are seen, and above all the one that
+// is looked at.
+const UNCOVER = { steps: [0, -50, 50, -100, 100, -160, 160, -220, 220], rim: 24, most: 60 };
+function uncover() {
+  if (!view.follow || playing.motion) return;
+  const boxes = covers();
+  const { width, height } = pictureSize();
+  const focus = focusPoint();
+  const points = [...view.run.state.live.values()].slice(0, UNCOVER.most).map(restPoint);
+  const onScreen = ({ x, y }) => ({ x: x * camera.scale + camera.x, y: y * camera.scale + camera.y });
+  const places = [focus, ...points].map(onScreen);
+  const { rim } = UNCOVER;
+  const isCovered = (x, y) => boxes.some(it => x > it.left - rim && x < it.right + rim && y > it.top - rim && y < it.bottom + rim);
+  const isOut = (x, y) => x < rim || y < rim || x > width - rim || y > height - rim;
+  if (!places.some(({ x, y }) => isCovered(x, y)) && !isOut(places[0].x, places[0].y)) return;
+  let best = null;
+  for (const byX of UNCOVER.steps) for (const byY of UNCOVER.steps) {
+    let cost = (Math.abs(byX) + Math.abs(byY)) / 400;
+    places.forEach(({ x, y }, at) => {
+      const weight = at === 0 ? 100 : 1;
+      if (isCovered(x + byX, y + byY) || isOut(x + byX, y + byY)) cost += weight;
+    });
+    if (!best || cost < best.cost) best = { byX, byY, cost };
+  }
+  if (best.byX === 0 && best.byY === 0) return;
+  camera.x += best.byX;
+  camera.y += best.byY;
   applyCamera();
 }
 

@@ -1,12 +1,12 @@
 // The card beside the token that moved last, with its two stacks, where it hides the least.
 
-const CARD_HEIGHT = 36;
+const CARD_HEIGHT = 50;
 
 function drawCard() {
   const layer = drawing.layers.card;
   layer.replaceChildren();
   const shown = shownToken();
-  if (!view.card || !shown) return;
+  if (!view.card || view.wall || !shown) return;
   const { ticket, token } = shown;
   const room = Math.max(14, Math.min(30, Math.floor((pictureSize().width / camera.scale - 160) / 20)));
   const work = shortStack(token.work, room);
@@ -18,7 +18,8 @@ function drawCard() {
   layer.append(
     shape("path", { d: `M${point.x} ${point.y}L${x + width / 2} ${y + CARD_HEIGHT / 2}`, class: "tie" }),
     shape("g", { class: "card", transform: `translate(${x} ${y})` },
-      shape("rect", { width, height: CARD_HEIGHT, rx: 5 }), line("work  ", work, 15), line("boxes ", boxes, 29)));
+      shape("rect", { width, height: CARD_HEIGHT, rx: 5 }), line("wire  ", `${token.wire} ${token.direction === "up" ? "↑" : "↓"}`, 15),
+      line("work  ", work, 29), line("boxes ", boxes, 43)));
   const glyph = glyphs.get(ticket);
   if (glyph) drawing.layers.tokens.append(glyph.group);
 }

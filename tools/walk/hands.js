@@ -24,6 +24,21 @@ function setCard(on) {
   drawCard();
 }
 
+function setWall(on) {
+  view.wall = on;
+  byId("wall").setAttribute("aria-pressed", on);
+  document.body.classList.toggle("wall", on);
+  camera.moved = false;
+  if (!view.run) return;
+  showHome();
+  drawCard();
+}
+
+function setMenu(open) {
+  document.querySelector("header").classList.toggle("open", open);
+  byId("menu").setAttribute("aria-expanded", open);
+}
+
 function setColourBy(what) {
   view.colourBy = what;
   byId("colour-by").textContent = "colour by " + what;
@@ -75,11 +90,13 @@ const KEYS = {
   M: () => marked() && nextOf(view.run.ticketOf, marked().ticket, -1),
   o: goOther,
   g: () => byId("now").select(),
+  r: () => setRounds(view.rounds === null),
   f: () => setFollow(!view.follow),
   t: () => setTypes(!view.types),
   s: () => setCard(!view.card),
   c: () => setColourBy(view.colourBy === "ticket" ? "worker" : "ticket"),
   d: turnTheme,
+  w: () => setWall(!view.wall),
   p: savePicture,
   x: () => { if (!byId("swap-save").disabled) saveSwap(); },
   0: fitAll,
@@ -93,6 +110,7 @@ const KEYS = {
   ">": () => changeSpeed(1),
   "<": () => changeSpeed(-1),
   "?": () => byId("keys").showModal(),
+  Escape: () => { forgetChain(); setMenu(false); if (view.wall) setWall(false); },
 };
 
 function pressKey(event) {
@@ -119,7 +137,10 @@ const BUTTONS = {
   types: KEYS.t,
   follow: KEYS.f,
   card: KEYS.s,
+  rounds: KEYS.r,
   theme: turnTheme,
+  wall: KEYS.w,
+  menu: () => setMenu(byId("menu").getAttribute("aria-expanded") !== "true"),
   save: savePicture,
   print: () => print(),
   help: KEYS["?"],
@@ -130,17 +151,18 @@ const BUTTONS = {
   "live-all": () => listWire(null),
   "open-files": () => byId("files").click(),
   "open-first": () => byId("files").click(),
+  "first-walk": () => openWalk(JSON.parse(byId("first-data").textContent)),
   "back-to-walk": () => { byId("nothing").hidden = true; },
 };
 
 // Buttons that work where nothing is open.
-const ALWAYS = new Set(["theme", "help", "help-close", "open-files", "open-first"]);
+const ALWAYS = new Set(["menu", "theme", "help", "help-close", "open-files", "open-first", "first-walk"]);
 
 function joinHands() {
   for (const id in BUTTONS) byId(id).addEventListener("click", () => { if (view.run || ALWAYS.has(id)) BUTTONS[id](); });
   document.addEventListener("keydown", pressKey);
-  byId("slider").addEventListener("input", () => jump(Number(byId("slider").value)));
-  byId("now").addEventListener("change", () => jump(Number(byId("now").value) - view.run.first));
+  byId("slider").addEventListener("input", () => jump(wayPlace(Number(byId("slider").value))));
+  byId("now").addEventListener("change", () => jump(wayPlace(Number(byId("now").value) - wayFirst())));
   byId("speed").addEventListener("change", () => setSpeed(Number(byId("speed").value)));
   byId("strip").addEventListener("click", event => { if (view.run) jump(stripAt(event)); });
   byId("strip").addEventListener("pointermove", event => { if (view.run) tellStrip(event); });

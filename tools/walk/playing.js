@@ -20,6 +20,7 @@ function tellState(quiet) {
   const move = run.lastMove();
   markNode(move ? move.node : null);
   follow(focusPoint(), 1);
+  uncover();
   const now = performance.now();
   // While many moves pass in a second, words come now and then.
   const passing = playing.on && playing.speed > 20 && run.state.at < run.length && now - playing.told < 120;
@@ -29,14 +30,17 @@ function tellState(quiet) {
     drawCard();
     markProgram(move ? move.node : null);
     tellMove(move);
+    tellWaiting();
     tellTables();
     tellSwap();
     scrollLog();
   }
+  document.body.classList.toggle("begun", run.state.at > 0);
   drawStrip();
-  byId("slider").value = run.state.at;
-  byId("slider").setAttribute("aria-valuetext", `${movesMade()} of ${run.first + run.length} moves`);
-  if (document.activeElement !== byId("now") || !playing.on) byId("now").value = movesMade();
+  byId("slider").value = wayMade();
+  const unit = view.rounds ? "rounds" : "moves";
+  byId("slider").setAttribute("aria-valuetext", `${wayFirst() + wayMade()} of ${wayFirst() + wayLength()} ${unit}`);
+  if (document.activeElement !== byId("now") || !playing.on) byId("now").value = wayFirst() + wayMade();
   const rule = move ? ruleOf(move) : null;
   const text = move ? `Move ${move.number}, ticket ${move.ticket}. ${rule.title}. ${rule.say}` : "The run begins.";
   const count = run.state.live.size;
@@ -45,11 +49,12 @@ function tellState(quiet) {
   if (!playing.on) rememberPlace();
 }
 
-// The number of moves is in the address, so that a place can be passed on.
+// The number of moves, or of rounds, is in the address, so that a place can be passed on.
 let placeTimer = 0;
 function rememberPlace() {
   clearTimeout(placeTimer);
-  placeTimer = setTimeout(() => history.replaceState(null, "", `#${view.address}move=${movesMade()}`), 300);
+  const place = () => view.rounds ? "round=" + wayMade() : "move=" + movesMade();
+  placeTimer = setTimeout(() => history.replaceState(null, "", "#" + view.address + place()), 300);
 }
 
 function endMotion() {
@@ -60,31 +65,34 @@ function endMotion() {
   finish();
 }
 
-// Makes the next move with motion: the token runs into the node and out of it again.
+// Makes the next move, or the next round, with motion: the token runs into the node and out of it again.
 function step(then = () => {}) {
   const { run } = view;
   if (run.state.at >= run.length) { pause(); return; }
   const time = MOVE_TIME / playing.speed;
-  if (wantsStillness.matches || time < 25 || document.hidden) { show(run.state.at + 1, playing.on); then(); return; }
+  if (wantsStillness.matches || time < 25 || document.hidden) { show(wayOn(1), playing.on); then(); return; }
   endMotion();
   const at = run.state.at;
-  const move = run.move(at);
-  const glyphsMoved = startMotion(move);
+  const moves = movesAtOnce(at);
+  const move = moves[moves.length - 1];
+  drawing.layers.card.replaceChildren();
+  const moved = moves.map(it => ({ move: it, glyphsMoved: startMotion(it) }));
   tellMove(move);
   markProgram(move.node);
   markNode(move.node);
   const begin = performance.now();
   const frame = now => {
     const share = Math.min(1, (now - begin) / time);
-    drawMotion(move, glyphsMoved, share < 0.5 ? 2 * share * share : 1 - (2 - 2 * share) ** 2 / 2);
+    const eased = share < 0.5 ? 2 * share * share : 1 - (2 - 2 * share) ** 2 / 2;
+    for (const it of moved) drawMotion(it.move, it.glyphsMoved, eased, it.move === move);
     if (share < 1) { playing.motion.frame = requestAnimationFrame(frame); return; }
     endMotion();
     then();
   };
   const finish = () => {
     view.chosen = null;
-    for (const { glyph } of glyphsMoved) glyph.group.style.opacity = 1;
-    run.go(at + 1);
+    for (const { glyphsMoved } of moved) for (const { glyph } of glyphsMoved) glyph.group.style.opacity = 1;
+    run.go(at + moves.length);
     drawState();
     tellState(playing.on);
   };
@@ -93,7 +101,6 @@ function step(then = () => {}) {
 
 // The glyphs that a move moves, each with the token that it becomes; without one where the token ends.
 function startMotion(move) {
-  drawing.layers.card.replaceChildren();
   const colour = colourOf(move.ticket, move.worker);
   const glyph = glyphOf(move.ticket);
   dressGlyph(glyph, move.ticket, move.before, colour);
@@ -112,7 +119,7 @@ function startMotion(move) {
 const between = (from, to, share) => ({ x: from.x + (to.x - from.x) * share, y: from.y + (to.y - from.y) * share });
 
 // A third of the time into the node, then across it, then to where the token rests.
-function drawMotion(move, glyphsMoved, share) {
+function drawMotion(move, glyphsMoved, share, isFollowed) {
   const { before } = move;
   const rest = restDistance(before);
   const end = before.direction === "up" ? 0 : wireLength(before.wire);
@@ -133,7 +140,7 @@ function drawMotion(move, glyphsMoved, share) {
     dressGlyph(glyph, ticket, after, colour);
     const point = motionPoint(enters, after, left);
     putGlyph(glyph, point);
-    if (ticket === move.ticket) follow(point, 0.16);
+    if (isFollowed && ticket === move.ticket) follow(point, 0.16);
   }
 }
 
@@ -157,7 +164,7 @@ function playOn() {
   if (run.state.at >= run.length) { pause(); return; }
   const time = MOVE_TIME / playing.speed;
   if (time >= 25 && !wantsStillness.matches && !document.hidden) { step(playOn); return; }
-  show(run.state.at + Math.max(1, Math.round(16 / time)), true);
+  show(wayOn(Math.max(1, Math.round(16 / time))), true);
   setTimeout(playOn, wantsStillness.matches ? Math.max(time, 16) : 16);
 }
 
@@ -187,12 +194,12 @@ function jump(at) {
 
 function forth(count = 1) {
   pause();
-  if (count === 1) step(); else show(view.run.state.at + count);
+  if (count === 1) step(); else show(wayOn(count));
 }
 
 function back(count = 1) {
   pause();
-  show(view.run.state.at - count);
+  show(wayOn(-count));
 }
 
 // To the state behind the next fork, join or answer, or the last one before.

@@ -7,7 +7,7 @@ function forgetStrip() { STRIP.ground = null; }
 function stripMeasure() {
   const canvas = byId("strip");
   const lanes = view.run.workers;
-  const height = lanes === 1 ? 20 : Math.min(110, 10 + lanes * Math.max(2, Math.min(10, Math.round(100 / lanes))));
+  const height = view.rounds ? 40 : lanes === 1 ? 20 : Math.min(110, 10 + lanes * Math.max(2, Math.min(10, Math.round(100 / lanes))));
   canvas.style.height = height + "px";
   const left = STRIP.rim + (lanes > 1 ? STRIP.names : 0);
   byId("slider").style.marginLeft = left - STRIP.rim + "px";
@@ -22,7 +22,7 @@ function drawStrip() {
   const brush = sizedCanvas(byId("strip"), measure.whole, measure.height);
   brush.drawImage(STRIP.ground, 0, 0, measure.whole, measure.height);
   brush.fillStyle = styleValue("--ink");
-  const share = view.run.state.at / Math.max(1, view.run.length);
+  const share = wayMade() / Math.max(1, wayLength());
   brush.fillRect(measure.left + share * measure.width - 1, 0, 2, measure.height);
 }
 
@@ -32,6 +32,11 @@ function drawStripGround(measure) {
   const brush = sizedCanvas(canvas, measure.whole, measure.height);
   const colours = [...Array(COLOURS).keys()].map(number => styleValue("--k" + number));
   const { lanes, left, width, height, lane } = measure;
+  if (view.rounds) {
+    brush.fillStyle = styleValue("--accent");
+    drawWidths(brush, measure);
+    return canvas;
+  }
   for (let x = 0; x < width; x++) {
     const from = Math.floor(x / width * run.length);
     const to = Math.min(run.length, Math.max(from + 1, Math.floor((x + 1) / width * run.length)));
@@ -54,6 +59,19 @@ function drawStripGround(measure) {
   return canvas;
 }
 
+// How many tokens move in each round, and in a column of many rounds how many at most.
+function drawWidths(brush, { left, width, height }) {
+  const { rounds } = view;
+  const wide = rounds.slice(1).map((end, at) => end - rounds[at]);
+  const most = wide.reduce((one, two) => Math.max(one, two), 1);
+  for (let x = 0; x < width; x++) {
+    const from = Math.floor(x / width * wide.length);
+    const to = Math.max(from + 1, Math.floor((x + 1) / width * wide.length));
+    const tall = Math.max(...wide.slice(from, to)) / most * (height - 2);
+    brush.fillRect(left + x, height - tall, 1.02, tall);
+  }
+}
+
 // A fork points down from above, a join up from below.
 function drawStripMark(brush, { at, kind }, { left, width }, height) {
   const x = left + (at + 0.5) / view.run.length * width;
@@ -69,11 +87,16 @@ function drawStripMark(brush, { at, kind }, { left, width }, height) {
 function stripAt(event) {
   const measure = stripMeasure();
   const share = (event.clientX - byId("strip").getBoundingClientRect().left - measure.left) / measure.width;
-  return Math.max(0, Math.min(view.run.length, Math.round(share * view.run.length)));
+  return wayPlace(Math.max(0, Math.min(wayLength(), Math.round(share * wayLength()))));
 }
 
 function tellStrip(event) {
   const at = Math.min(stripAt(event), view.run.length - 1);
   const move = at < 0 ? null : view.run.move(at);
+  if (view.rounds) {
+    const round = roundsUpTo(at + 1);
+    byId("strip").title = `round ${round}: ${view.rounds[round] - view.rounds[round - 1]} moves`;
+    return;
+  }
   byId("strip").title = move ? `move ${move.number}: ticket ${move.ticket}, worker ${move.worker}, ${move.name} ${move.node}` : "";
 }

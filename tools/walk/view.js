@@ -8,10 +8,18 @@ const view = {
   net: null,
   layout: null,
   run: null,
+  // The questions and whole stacks along the run.
+  questions: null,
+  // The run as the trace has it and the run in rounds, each with its questions; the place of each round where the run is shown in rounds.
+  alone: null,
+  together: null,
+  rounds: null,
   // Types beside the wires, the picture following the token, the card with the stacks beside the token.
   types: false,
   follow: true,
   card: true,
+  // For a wall: large letters, and no panels.
+  wall: false,
   colourBy: "ticket",
   // The ticket whose token is looked at where it isn't the one that moved last, or null.
   chosen: null,
@@ -35,7 +43,9 @@ function shownToken() {
   const { live } = view.run.state;
   if (live.has(view.chosen)) return { ticket: view.chosen, token: live.get(view.chosen) };
   const move = view.run.lastMove();
-  if (move) return move.after ? { ticket: move.ticket, token: move.after } : null;
+  if (move && move.after) return { ticket: move.ticket, token: move.after };
+  // In rounds the last token of a round may have ended where others live on.
+  if (move && !view.rounds) return null;
   const first = live.entries().next();
   return first.done ? null : { ticket: first.value[0], token: first.value[1] };
 }
