@@ -259,11 +259,11 @@ function wrongStacks() {
   return wrong;
 }
 
-// The tree of questions behind so many moves, for each of a list: a row's depth, node and tickets; and its text.
+// The tree of questions behind so many moves, for each of a list: a row's depth, node, tickets and when it was asked; and its text.
 function shownQuestions(places) {
   return places.map(at => {
     walk.show(at);
-    return walk.waitingRows().map(row => [row.depth, row.frame.hole ? row.frame.node : -1, row.tickets]);
+    return walk.waitingRows().map(row => [row.depth, row.frame.hole ? row.frame.node : -1, row.tickets, row.frame.at + 1]);
   });
 }
 function questionTexts(at) {
@@ -276,6 +276,62 @@ function chainTold(at, id) {
   walk.show(at);
   document.querySelector(`#${id} button.cell`).click();
   return [...document.querySelectorAll("#chain .link")].map(it => it.children[1].textContent);
+}
+
+// The moves that are listed of the round behind so many moves, and what is told where the row with this place is pressed.
+function roundShown(at, place) {
+  walk.show(at);
+  const rows = [...document.querySelectorAll("#round-moves .moved")];
+  const texts = rows.map(it => it.textContent);
+  if (rows.length > 0) rows[place].click();
+  const nodes = kind => [...document.querySelectorAll(`#picture .node.${kind}`)].map(it => Number(it.dataset.node));
+  const told = byId("say").children[1].textContent;
+  return {
+    rows: texts, told: [/ticket \d+/, /node \d+$/].map(part => part.exec(told)[0]), node: nodes("at")[0], others: nodes("too"),
+    now: byId("now").value,
+  };
+}
+
+// Where the strip has marks at its upper and its lower edge, as shares of its width. (The state is the one at the start.)
+function stripInk() {
+  walk.show(0);
+  const canvas = byId("strip");
+  const { width, height } = canvas;
+  const brush = canvas.getContext("2d");
+  const ratio = width / canvas.clientWidth;
+  const [left, whole] = [8 * ratio, width - 16 * ratio];
+  const inked = y => {
+    const { data } = brush.getImageData(0, y, width, 1);
+    const places = [];
+    for (let x = Math.ceil(left) + 3; x < width; x++) if (data[4 * x + 3] > 100) places.push((x - left) / whole);
+    return places;
+  };
+  return { above: inked(1), below: inked(height - 2) };
+}
+
+// On the wall, behind so many moves: the states in which a live token isn't in the window though all of them would have room there, and how
+// many states with several tokens were looked at.
+function wallTokens(places) {
+  const wrong = [];
+  let crowds = 0;
+  const { width, height } = byId("picture").getBoundingClientRect();
+  const tools = document.querySelector("#net .tools").getBoundingClientRect();
+  for (const at of places) {
+    walk.show(at);
+    const glyphs = [...document.querySelectorAll("#picture .token")];
+    if (glyphs.length < 2) continue;
+    crowds++;
+    const spots = glyphs.map(it => it.transform.baseVal[0].matrix).map(({ e, f }) => [e, f]);
+    const wide = axis => Math.max(...spots.map(it => it[axis])) - Math.min(...spots.map(it => it[axis]));
+    if (wide(0) * 0.95 + 150 > width || wide(1) * 0.95 + 150 > height) continue;
+    const { x, y, scale } = walk.camera;
+    for (const [e, f] of spots) {
+      const [left, top] = [e * scale + x, f * scale + y];
+      const isCovered = left > tools.left && top < tools.bottom;
+      if (left < 0 || left > width || top < 0 || top > height || isCovered) wrong.push([at, Math.round(left), Math.round(top)]);
+    }
+  }
+  return [wrong, crowds];
 }
 
 // The run in rounds: its trace, where each round begins, and what the page says of their number.

@@ -1,15 +1,20 @@
 // Buttons, keys, pointer and files: what each does.
 
-function setTypes(on) {
-  view.types = on;
-  byId("types").setAttribute("aria-pressed", on);
+// Lays the net out and draws it for what is shown beside its wires and how large.
+function layOutAnew() {
   endMotion();
-  view.layout = new Layout(view.net, on);
+  view.layout = new Layout(view.net, view.types, sizesNow());
   forgetMap();
   drawNet();
   drawState();
   if (camera.moved) centre(focusPoint().x, focusPoint().y); else showHome();
   tellState(true);
+}
+
+function setTypes(on) {
+  view.types = on;
+  byId("types").setAttribute("aria-pressed", on);
+  layOutAnew();
 }
 
 function setFollow(on) {
@@ -28,10 +33,9 @@ function setWall(on) {
   view.wall = on;
   byId("wall").setAttribute("aria-pressed", on);
   document.body.classList.toggle("wall", on);
+  placeProgram();
   camera.moved = false;
-  if (!view.run) return;
-  showHome();
-  drawCard();
+  if (view.run) layOutAnew();
 }
 
 function setMenu(open) {
@@ -72,7 +76,7 @@ function fitAll() {
   drawCard();
 }
 
-const marked = () => view.run.lastMove();
+const marked = () => toldMove();
 const PAN = 60;
 
 // What each key does. The list that the page shows is in page.html.
@@ -94,7 +98,7 @@ const KEYS = {
   f: () => setFollow(!view.follow),
   t: () => setTypes(!view.types),
   s: () => setCard(!view.card),
-  c: () => setColourBy(view.colourBy === "ticket" ? "worker" : "ticket"),
+  c: () => setColourBy(COLOURED_BY[(COLOURED_BY.indexOf(view.colourBy) + 1) % COLOURED_BY.length]),
   d: turnTheme,
   w: () => setWall(!view.wall),
   p: savePicture,
@@ -140,6 +144,7 @@ const BUTTONS = {
   rounds: KEYS.r,
   theme: turnTheme,
   wall: KEYS.w,
+  "wall-off": KEYS.w,
   menu: () => setMenu(byId("menu").getAttribute("aria-expanded") !== "true"),
   save: savePicture,
   print: () => print(),
@@ -191,6 +196,9 @@ function joinHands() {
     if (!camera.moved) showHome(); else applyCamera();
     drawCard();
   }).observe(byId("net"));
+  joinRows(byId("waiting"), markWaiting);
+  joinRows(byId("round-moves"));
+  byId("waiting").addEventListener("blur", () => markSpans("meant", []));
   joinPointer();
 }
 

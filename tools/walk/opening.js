@@ -3,12 +3,12 @@
 // {name, file, program, net, trace}. Nothing that is open changes where these can't be shown.
 function openWalk({ name, file, program, net: netText, trace: traceText }) {
   const net = readNet(netText);
-  const layout = new Layout(net, view.types);
+  const layout = new Layout(net, view.types, sizesNow());
   const term = readTerm(net);
   const questions = new Questions(net, term, readTrace(traceText));
   const { run } = questions;
   if (playing.on || playing.motion) pause();
-  Object.assign(view, { name, file: file || name, program, netText, net, layout, run, questions, onlyWire: null, address: "" });
+  Object.assign(view, { name, file: file || name, program, netText, traceText, net, layout, run, questions, onlyWire: null, address: "" });
   camera.moved = false;
   forgetMap();
   forgetStrip();
@@ -17,7 +17,7 @@ function openWalk({ name, file, program, net: netText, trace: traceText }) {
   byId("nothing").hidden = true;
   document.body.classList.remove("closed");
   drawProgram(term);
-  Object.assign(view, { alone: { run, questions }, together: null, rounds: null });
+  Object.assign(view, { alone: { run, questions }, together: null, rounds: null, told: null });
   tellWay();
   byId("summary").textContent = summaryText();
   forgetChain();
@@ -25,6 +25,7 @@ function openWalk({ name, file, program, net: netText, trace: traceText }) {
   sizeLog();
   show(0, true);
   showHome();
+  view.opened();
 }
 
 function summaryText() {

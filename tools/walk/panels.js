@@ -4,9 +4,9 @@ const ROWS_SHOWN = 60;
 const CELLS_SHOWN = 6;
 
 // A ticket's number; a press goes to its next move.
-function ticketButton(ticket, worker, text) {
+function ticketButton(ticket, inColour, text) {
   const button = element("button", { class: "ticket", title: "to the next move of ticket " + ticket, "data-ticket": ticket }, text);
-  button.style.color = colourOf(ticket, worker);
+  button.style.color = inColour;
   button.setAttribute("aria-label", "ticket " + ticket + ", to its next move");
   button.addEventListener("click", () => nextOf(view.run.ticketOf, ticket, 1));
   return button;
@@ -14,6 +14,7 @@ function ticketButton(ticket, worker, text) {
 
 // The move at this place of the trace; null at the beginning.
 function tellMove(move) {
+  tellRound(move);
   tellMoveInPanel(move);
   tellMoveInLine(move);
 }
@@ -36,9 +37,8 @@ function tellMoveInPanel(move) {
   const asks = move.before.value === "?";
   const worker = view.run.workers > 1 ? ` worker ${move.worker},` : "";
   const what = asks ? " a question" : ` an answer, ${move.before.value},`;
-  const who = element("div", {}, ticketButton(move.ticket, move.worker, "ticket " + move.ticket), `${worker}${what} at node ${move.node}`);
+  const who = element("div", {}, ticketButton(move.ticket, moveColour(move), "ticket " + move.ticket), `${worker}${what} at node ${move.node}`);
   const parts = [element("div", { class: "title" }, rule.title), who, element("p", {}, rule.say)];
-  if (view.rounds) parts.unshift(element("div", { class: "round" }, roundText(move)));
   if (rule.from) {
     const arrow = element("span", { role: "img", "aria-label": "becomes" }, "→");
     parts.push(element("div", { class: "rule" }, rulePlace(rule.from, move.before), arrow, rulePlace(rule.to, move.after),
@@ -47,12 +47,6 @@ function tellMoveInPanel(move) {
   if (move.kind === "answer") parts.push(element("p", {}, element("b", {}, "value " + move.value)));
   byId("say").replaceChildren(...parts);
   tellStacks(move.before, move.after || move.before, view.questions.given[move.number - view.run.first]);
-}
-
-function roundText(move) {
-  const round = roundsUpTo(move.number + 1);
-  const count = view.rounds[round] - view.rounds[round - 1];
-  return `round ${round}: ` + (count === 1 ? "one token moved" : `${count} tokens moved at once, this one last`);
 }
 
 function tellStart() {
@@ -163,7 +157,7 @@ function stackCell(kind, title, part, at, isBoxes) {
 
 function tellTables() {
   const { state } = view.run;
-  const move = view.run.lastMove();
+  const move = toldMove();
   const mover = move ? move.ticket : -1;
   const all = [...state.live].sort((one, two) => one[0] - two[0]);
   const { onlyWire } = view;
@@ -211,14 +205,13 @@ function cutRow(count, columns) {
 }
 
 function liveRow(ticket, token, moved) {
-  const worker = view.run.lastWorkerOf(ticket);
-  const looks = [token.value, token.direction, token.wire, token.work, token.boxes, colourOf(ticket, worker), moved].join(" ");
-  return { key: String(ticket), looks, make: () => makeLiveRow(ticket, token, moved, worker) };
+  const looks = [token.value, token.direction, token.wire, token.work, token.boxes, tokenColour(ticket), moved].join(" ");
+  return { key: String(ticket), looks, make: () => makeLiveRow(ticket, token, moved) };
 }
 
-function makeLiveRow(ticket, token, moved, worker) {
+function makeLiveRow(ticket, token, moved) {
   const { work, boxes } = view.questions.of(ticket, token);
-  const button = ticketButton(ticket, worker, String(ticket));
+  const button = ticketButton(ticket, tokenColour(ticket), String(ticket));
   const does = token.value === "?" ? "asks" : "= " + token.value;
   const where = token.wire + (token.direction === "up" ? " ↑" : " ↓");
   return element("tr", moved ? { class: "now" } : {}, element("td", {}, button), element("td", {}, does), element("td", {}, where),
@@ -227,12 +220,11 @@ function makeLiveRow(ticket, token, moved, worker) {
 
 // A stack in a table; a press tells its uppermost signature in words.
 function stackText(text, stack, isBoxes) {
-  const cell = element("td", { class: "code", title: text }, brief(text));
   const top = marksIn(stack, 9).find(({ mark }) => mark.s || mark.sign === "*");
-  if (!top) return cell;
-  cell.classList.add("told");
-  cell.addEventListener("click", () => tellChain(top.mark, isBoxes ? top : null));
-  return cell;
+  if (!top) return element("td", { class: "code", title: text }, brief(text));
+  const button = element("button", { class: "told", "aria-label": brief(text) + ", in words" }, brief(text));
+  button.addEventListener("click", () => tellChain(top.mark, isBoxes ? top : null));
+  return element("td", { class: "code", title: text }, button);
 }
 
 function openRow({ node, boxes, left, right, line }) {

@@ -9,7 +9,10 @@ const wantsStillness = matchMedia("(prefers-reduced-motion: reduce)");
 function show(at, quiet = false, chosen = null) {
   endMotion();
   view.chosen = chosen;
-  view.run.go(at);
+  at = Math.max(0, Math.min(view.run.length, at));
+  const end = wholeWay(at);
+  view.told = end === at ? null : at - 1;
+  view.run.go(end);
   drawState();
   tellState(quiet);
 }
@@ -17,9 +20,10 @@ function show(at, quiet = false, chosen = null) {
 // Everything that tells the state in words, and the picture's marks.
 function tellState(quiet) {
   const { run } = view;
-  const move = run.lastMove();
-  markNode(move ? move.node : null);
+  const move = toldMove();
+  markNodes(nodesOfLast(move));
   follow(focusPoint(), 1);
+  gather();
   uncover();
   const now = performance.now();
   // While many moves pass in a second, words come now and then.
@@ -42,7 +46,8 @@ function tellState(quiet) {
   byId("slider").setAttribute("aria-valuetext", `${wayFirst() + wayMade()} of ${wayFirst() + wayLength()} ${unit}`);
   if (document.activeElement !== byId("now") || !playing.on) byId("now").value = wayFirst() + wayMade();
   const rule = move ? ruleOf(move) : null;
-  const text = move ? `Move ${move.number}, ticket ${move.ticket}. ${rule.title}. ${rule.say}` : "The run begins.";
+  const round = move && view.rounds ? byId("round-title").textContent + ". " : "";
+  const text = move ? `${round}Move ${move.number}, ticket ${move.ticket}. ${rule.title}. ${rule.say}` : "The run begins.";
   const count = run.state.live.size;
   byId("picture").setAttribute("aria-label", `A net with ${count} live ${count === 1 ? "token" : "tokens"}. ${text}`);
   if (!quiet) byId("announce").textContent = text;
@@ -79,7 +84,7 @@ function step(then = () => {}) {
   const moved = moves.map(it => ({ move: it, glyphsMoved: startMotion(it) }));
   tellMove(move);
   markProgram(move.node);
-  markNode(move.node);
+  markNodes(nodesOfLast(move));
   const begin = performance.now();
   const frame = now => {
     const share = Math.min(1, (now - begin) / time);
@@ -91,6 +96,7 @@ function step(then = () => {}) {
   };
   const finish = () => {
     view.chosen = null;
+    view.told = null;
     for (const { glyphsMoved } of moved) for (const { glyph } of glyphsMoved) glyph.group.style.opacity = 1;
     run.go(at + moves.length);
     drawState();
@@ -101,17 +107,17 @@ function step(then = () => {}) {
 
 // The glyphs that a move moves, each with the token that it becomes; without one where the token ends.
 function startMotion(move) {
-  const colour = colourOf(move.ticket, move.worker);
+  const own = moveColour(move);
   const glyph = glyphOf(move.ticket);
-  dressGlyph(glyph, move.ticket, move.before, colour);
+  dressGlyph(glyph, move.ticket, move.before, own);
   drawing.layers.tokens.append(glyph.group);
-  const moved = [{ glyph, ticket: move.ticket, after: move.after, colour }];
+  const moved = [{ glyph, ticket: move.ticket, after: move.after, colour: own }];
   if (move.kind === "fork") {
     const second = glyphOf(move.ticket2);
     second.group.style.opacity = 0;
-    const colour2 = colourOf(move.ticket2, move.worker);
-    dressGlyph(second, move.ticket2, move.after2, colour2);
-    moved.push({ glyph: second, ticket: move.ticket2, after: move.after2, colour: colour2 });
+    const other = view.colourBy === "ticket" ? colour(move.ticket2) : own;
+    dressGlyph(second, move.ticket2, move.after2, other);
+    moved.push({ glyph: second, ticket: move.ticket2, after: move.after2, colour: other });
   }
   return moved;
 }
@@ -130,14 +136,14 @@ function drawMotion(move, glyphsMoved, share, isFollowed) {
   }
   const left = (share - into) / (1 - into);
   const enters = pointOn(before.wire, end);
-  for (const { glyph, ticket, after, colour } of glyphsMoved) {
+  for (const { glyph, ticket, after, colour: own } of glyphsMoved) {
     if (!after) {
       putGlyph(glyph, between(enters, view.layout.places[move.node], left));
       glyph.group.style.opacity = 1 - left;
       continue;
     }
     glyph.group.style.opacity = 1;
-    dressGlyph(glyph, ticket, after, colour);
+    dressGlyph(glyph, ticket, after, own);
     const point = motionPoint(enters, after, left);
     putGlyph(glyph, point);
     if (isFollowed && ticket === move.ticket) follow(point, 0.16);
@@ -207,8 +213,8 @@ function nextMark(direction) {
   const { run } = view;
   pause();
   const places = run.marks.map(mark => mark.at + 1);
-  const at = run.state.at;
-  const found = direction > 0 ? places.find(place => place > at) : places.findLast(place => place < at);
+  const { at } = run.state;
+  const found = direction > 0 ? places.find(place => wholeWay(place) > at) : places.findLast(place => wholeWay(place) < at);
   show(found !== undefined ? found : direction > 0 ? run.length : 0);
 }
 
@@ -216,7 +222,7 @@ function nextMark(direction) {
 function nextOf(list, wanted, direction) {
   const { run } = view;
   pause();
-  const from = run.state.at - 1;
+  const from = view.told ?? run.state.at - 1;
   for (let count = 1; count <= run.length; count++) {
     const at = (((from + direction * count) % run.length) + run.length) % run.length;
     if (list[at] === wanted) { show(at + 1); return; }

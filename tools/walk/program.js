@@ -86,8 +86,21 @@ function markProgram(node) {
   if (programText.marked.at.length > 0) showInside(byId("program"), programText.marked.at[0]);
 }
 
-// The term as `goi check --term` prints it.
-function printedTerm() {
+// The term of a net as `goi check --term` prints it; without the program's own text its variables have names of the page's.
+function termText(net, program = "") {
+  const { root, binders } = readTerm(net);
   const flat = piece => piece.pieces.map(inner => typeof inner === "string" ? inner : flat(inner)).join("");
-  return flat(termPieces(view.net, programText.term.root, programText.names));
+  return flat(termPieces(net, root, namesOfBinders(net, program, binders)));
+}
+
+// The program's text is shown on the wall there, and else at home: in its panel, or in a box that a page has for it.
+function setProgramHome(home) {
+  view.programHome = home;
+  byId("program").tabIndex = home ? -1 : 0;
+  if (!view.wall) placeProgram();
+}
+
+function placeProgram() {
+  const place = view.wall ? byId("wall-program") : view.programHome || byId("desk-program");
+  if (!place.contains(byId("program"))) place.append(byId("program"));
 }

@@ -130,6 +130,20 @@ class Questions {
   // The hole of a frame that is answered. In a part of a run its question may have been asked before the first line.
   above(frame, move) { return frame.node === move.node && frame.hole ? frame.hole : { frame, side: "value" }; }
 
+  // The number of the call for which a question is asked: of the nearest call of a recursive term above it, or 0. (It is asked for when the
+  // whole run has been read, so that each call has its number.)
+  callOf(hole) {
+    const way = [];
+    let number = 0;
+    for (let frame = hole.frame; frame; frame = frame.hole && frame.hole.frame) {
+      if (frame.call === undefined && frame.own) frame.call = this.numbers.get(frame.own) || 0;
+      if (frame.call !== undefined) { number = frame.call; break; }
+      way.push(frame);
+    }
+    for (const frame of way) frame.call = number;
+    return number;
+  }
+
   // A variable's value is told at one of its uses.
   tell(use, boxes, value) {
     const key = this.copyOfBinder(use, boxes);

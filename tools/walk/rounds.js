@@ -29,66 +29,16 @@ class Span {
   get most() { return this.widths.reduce((one, two) => Math.max(one, two), 0); }
 }
 
-// For each move of a run its token's next one, for a fork that of its second ticket, and for a join its two moves, by place.
-function linksOf(run) {
-  const next = new Int32Array(run.length).fill(-1);
-  const second = new Map();
-  const joins = new Map();
-  const kept = new Map();
-  const last = new Map();
-  for (let at = 0; at < run.length; at++) {
-    const move = run.move(at);
-    const before = last.get(move.ticket);
-    if (before && before.second) second.set(before.at, at); else if (before) next[before.at] = at;
-    last.set(move.ticket, { at });
-    const key = move.node + " " + move.before.boxes;
-    if (move.kind === "fork") last.set(move.ticket2, { at, second: true });
-    if (move.kind === "kept") { kept.set(key, at); last.delete(move.ticket); }
-    if (move.kind === "joined") { joins.set(at, kept.get(key)); joins.set(kept.get(key), at); kept.delete(key); }
-  }
-  return { next, second, joins };
-}
-
-// {text, starts, order}: the trace in rounds, the place of the first move of each round and behind the last, and each move's own place.
+// {text, starts, order, tickets}: the trace in rounds, the place of the first move of each round and behind the last, each move's own place,
+// and its ticket.
 function inRounds(run) {
-  const { next, second, joins } = linksOf(run);
-  const lines = [];
-  const starts = [];
-  const order = [];
-  const done = new Set();
-  let live = new Map([[0, 0]]);
-  let tickets = 1;
-  while (live.size > 0) {
-    starts.push(lines.length);
-    const after = new Map(live);
-    for (const [ticket, at] of [...live].sort((one, two) => one[0] - two[0])) {
-      const other = joins.get(at);
-      const words = run.trace.lines[at].split(" ");
-      let then = next[at];
-      if (other !== undefined) {
-        // Of the two answers of a fork the one that comes first in this order is kept.
-        const joined = done.has(other);
-        const late = run.move(at).kind === "joined" ? at : other;
-        words.splice(10, Infinity, joined ? "conclusion" : "-", ...words.slice(11, 17),
-          ...(joined ? run.trace.lines[late].split(" ").slice(17) : ["kept"]));
-        then = joined ? next[late] : -1;
-        done.add(at);
-      }
-      Object.assign(words, { 1: lines.length, 3: 0, 5: ticket });
-      if (second.has(at)) {
-        words[23] = tickets;
-        after.set(tickets++, second.get(at));
-      }
-      lines.push(words.join(" "));
-      order.push(at);
-      if (then < 0) after.delete(ticket); else after.set(ticket, then);
-    }
-    live = after;
+  const made = new Reordered(run);
+  const starts = [0];
+  while (made.live.size > 0) {
+    for (const ticket of [...made.live.keys()].sort((one, two) => one - two)) made.make(ticket);
+    starts.push(made.lines.length);
   }
-  starts.push(lines.length);
-  const { value, moves } = run.trace;
-  const [{ words }] = run.trace.live;
-  return { text: [`value ${value}`, `moves ${moves}`, "trace 1", words.join(" "), ...lines, "end", ""].join("\n"), starts, order };
+  return { text: made.text(), starts, order: made.order, tickets: made.made };
 }
 
 // The run in rounds is made when it is first asked for, and is held against the net as every trace is.
@@ -104,16 +54,18 @@ function setRounds(on) {
     view.together = { run: questions.run, questions, starts, order };
   }
   const from = view.run.state.at;
+  const told = view.told ?? from - 1;
   const { order, starts } = view.together;
   Object.assign(view, { run: on ? view.together.run : alone.run, questions: on ? view.together.questions : alone.questions });
   view.rounds = on ? starts : null;
+  view.told = null;
   tellWay();
   forgetStrip();
   forgetTokens();
   drawNet();
   sizeLog();
-  if (on) show(starts[roundsUpTo(from === 0 ? 0 : order.indexOf(from - 1) + 1)]);
-  else show(from === 0 ? 0 : order[from - 1] + 1);
+  if (from === 0) show(0);
+  else show(on ? order.indexOf(from - 1) + 1 : order[told] + 1);
 }
 
 // How many rounds are begun before so many moves.
@@ -134,6 +86,9 @@ const wayMade = () => view.rounds ? roundsUpTo(view.run.state.at) : view.run.sta
 const wayFirst = () => view.rounds ? 0 : view.run.first;
 const wayPlace = number => view.rounds ? view.rounds[Math.max(0, Math.min(view.rounds.length - 1, Math.round(number)))] : number;
 const wayOn = count => wayPlace(wayMade() + count);
+
+// The state behind so many moves, or in rounds that behind the round in which the last of them is.
+const wholeWay = at => view.rounds ? view.rounds[roundsUpTo(at)] : at;
 
 // What bounds the slider and the number, and what they count.
 function tellWay() {

@@ -4,6 +4,7 @@ function goToAddress(hash = location.hash) {
   const wanted = new URLSearchParams(hash.slice(1));
   if (wanted.has("theme")) setTheme(wanted.get("theme"));
   if (wanted.has("wall")) setWall(true);
+  if (COLOURED_BY.includes(wanted.get("colour"))) setColourBy(wanted.get("colour"));
   if (wanted.has("types") && !view.types) setTypes(true);
   if (wanted.has("zoom")) zoom(Number(wanted.get("zoom")) / camera.scale);
   if (wanted.has("round") || view.rounds) setRounds(wanted.has("round"));
@@ -29,7 +30,8 @@ function start() {
 window.walk = {
   view, camera, playing, drawing, keys: KEYS, show: jump, showAll, zoom, shownRange, goOther, setSpeed, setTypes, setTheme, setColourBy,
   openFiles, openWalk, goToAddress, saveFile, readNet, readTerm, namesIn, ruleOf, pictureText, whyNoSwap, swappedSchedule,
-  spelled, marksIn, waitingRows, waitingTitle, chainOfMark, textOf, programText, printedTerm,
-  setRounds, inRounds,
+  spelled, marksIn, waitingRows, waitingTitle, chainOfMark, textOf, programText, termText,
+  setRounds, inRounds, setWall, stripMarks, Reordered, replayed, scheduleText, readTrace, traceHead, Run,
+  putRows, activeRow, activateRow, joinRows, setProgramHome, fileStem,
 };
 start();

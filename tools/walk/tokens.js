@@ -15,7 +15,7 @@ const SIDE_BY_SIDE = 3;
 function forgetTokens() {
   for (const known of [glyphs, piles, badges, wireLengths, restPoints, besideText]) known.clear();
   answerSign = null;
-  markedNode = null;
+  markedNodes = [];
 }
 
 function wireLength(wire) {
@@ -75,7 +75,7 @@ const putGlyph = (glyph, { x, y }) => glyph.group.setAttribute("transform", `tra
 
 function drawState() {
   const { state } = view.run;
-  const last = view.run.lastMove();
+  const last = toldMove();
   const bySpot = new Map();
   for (const [ticket, token] of state.live) {
     const spot = spotOf(token);

@@ -22,6 +22,9 @@ function readTrace(text) {
   throw new Error("The trace has no line `end`.");
 }
 
+// The two lines before a trace.
+const traceHead = ({ value, moves }) => `${value === null ? "no value" : "value " + value}\nmoves ${moves}\n`;
+
 // A token is five words: its value or `?`, its direction, its wire, its work stack and its box stack. One that a move brought has the
 // move's number as its line.
 function tokenOf(words, at, line) {

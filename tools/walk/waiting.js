@@ -138,12 +138,22 @@ function presentText(rows, ticket) {
   return `${rowText(row.frame)} = ${piecesText(rowPieces(row))}${note ? ` (${note})` : ""}`;
 }
 
+// The other live tokens with their rows, in one line.
+const OTHERS = 3;
+function othersText(rows, shown) {
+  if (!view.wall) return "";
+  const others = [...view.run.state.live.keys()].filter(ticket => !shown || ticket !== shown.ticket).sort((one, two) => one - two);
+  const texts = others.slice(0, OTHERS).map(ticket => `ticket ${ticket}: ${presentText(rows, ticket)}`);
+  return [...texts, ...(others.length > OTHERS ? [`and ${others.length - OTHERS} more`] : [])].join("   ");
+}
+
 function tellWaiting() {
   const rows = waitingRows();
   const shown = shownToken();
   const path = presentRows(rows, shown ? shown.ticket : -1);
   const present = path.length > 0 ? path[path.length - 1] : -1;
   byId("told-question").textContent = shown ? presentText(rows, shown.ticket) : "";
+  byId("told-others").textContent = othersText(rows, shown);
   const seen = rowsSeen(rows.length, path);
   const list = byId("waiting");
   const lines = [];
@@ -155,11 +165,9 @@ function tellWaiting() {
     lines.push(waitingLine(row, at === present, path.includes(at)));
   });
   if (left > 0) lines.push(leftOut(left));
-  list.replaceChildren(...lines);
+  putRows(list, lines, lines.find(line => line.matches(".present")) || null);
   byId("waiting-count").textContent = rows.length;
   byId("none-waiting").hidden = rows.length > 0;
-  const bold = list.querySelector(".present");
-  if (bold) showInside(list, bold);
 }
 
 const leftOut = count => element("div", { class: "empty" }, `and ${count} more`);
@@ -176,17 +184,29 @@ function rowsSeen(count, path) {
 function waitingLine(row, isPresent, isAbove) {
   const { frame } = row;
   const name = isPresent ? "present" : isAbove ? "above" : "";
-  const line = element("div", { class: "waits " + name, title: waitingTitle(row) });
+  const line = element("div", { class: "waits " + name, title: waitingTitle(row), role: "treeitem", "aria-level": row.depth + 1,
+    "aria-current": isPresent, "data-row": "" });
+  if (frame.hole) line.dataset.node = frame.node;
   line.style.paddingLeft = Math.min(row.depth, WAITING.deep) * 9 + "px";
   const pieces = rowPieces(row).map(piece => typeof piece === "string" ? piece : holeMark(piece));
   line.append(element("span", { class: "text" }, rowText(frame), " = ", ...pieces));
   const note = rowNote(frame);
-  if (note) line.append(element("span", { class: "note" }, note));
-  line.addEventListener("pointerenter", () => markSpans("meant", frame.hole ? [frame.node] : []));
+  if (note) line.append(noteMark(frame, note));
+  line.addEventListener("pointerenter", () => markWaiting(line));
   line.addEventListener("pointerleave", () => markSpans("meant", []));
   line.addEventListener("click", () => jump(frame.at + 1));
   return line;
 }
+
+// Where colours are those of calls, the row of a call has its own.
+function noteMark(frame, note) {
+  const mark = element("span", { class: "note" }, note);
+  if (view.colourBy === "call" && frame.own) mark.style.color = colour(view.questions.callOf({ frame }));
+  return mark;
+}
+
+// Underlines in the program what a row is about.
+const markWaiting = ({ dataset }) => markSpans("meant", dataset.node === undefined ? [] : [Number(dataset.node)]);
 
 const piecesText = pieces => pieces.map(piece => typeof piece === "string" ? piece : piece.token.value).join("");
 const waitingTitle = row => `${rowText(row.frame)} = ${piecesText(rowPieces(row))}`;

@@ -118,6 +118,7 @@ function tellChain(mark, boxes) {
   const nodes = chain.map(({ node }) => node).filter(node => node !== null && view.net.nodes[node].name !== "FixBox");
   markSpans("meant", nodes);
   byId("chain").scrollTop = 0;
+  byId("announce").textContent = chain.map(({ text }) => text).join("; ");
   uncover();
 }
 
