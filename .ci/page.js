@@ -309,6 +309,41 @@ function stripInk() {
   return { above: inked(1), below: inked(height - 2) };
 }
 
+// For each move the call for which it is made; and by ticket the colour of each token that is drawn behind so many moves.
+function callNumbers() {
+  const { run, questions } = walk.view;
+  return [...Array(run.length).keys()].map(at => questions.callOf(questions.given[at].hole));
+}
+function tokenColours(at) {
+  walk.show(at);
+  const glyphs = [...document.querySelectorAll("#picture .token")];
+  return Object.fromEntries(glyphs.map(it => [it.querySelector(".tag").textContent, it.querySelector("path").style.fill]));
+}
+
+// The run beside, behind so many moves of the one that is shown: its tokens, what is said, the table, and how far each strip reaches.
+function besideShown(at) {
+  walk.show(at);
+  const canvas = byId("beside-strips");
+  const brush = canvas.getContext("2d");
+  const reach = y => {
+    const { data } = brush.getImageData(0, y * canvas.height / canvas.clientHeight, canvas.width, 1);
+    let last = -1;
+    for (let x = 0; x < canvas.width; x++) if (data[4 * x + 3] > 100) last = x;
+    return (last + 1) / canvas.width;
+  };
+  return {
+    tokens: [...document.querySelectorAll("#beside-picture .token")].map(it => it.dataset.token), say: byId("beside-say").textContent,
+    table: [...document.querySelectorAll("#both tr")].map(row => [...row.children].map(it => it.textContent)),
+    strips: [reach(12), reach(42)],
+  };
+}
+
+// How large the letters of the picture, of the line below it and of the program are on the screen.
+function letterSizes() {
+  const all = [...document.querySelectorAll("#picture :is(text, tspan), #told p, #program")].filter(it => it.textContent.trim());
+  return all.map(it => parseFloat(getComputedStyle(it).fontSize) * (it.getScreenCTM ? it.getScreenCTM().d : 1));
+}
+
 // On the wall, behind so many moves: the states in which a live token isn't in the window though all of them would have room there, and how
 // many states with several tokens were looked at.
 function wallTokens(places) {

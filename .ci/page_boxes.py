@@ -290,7 +290,7 @@ def try_links(page, live, window, program, folder):
     listing = calls.printed("net", calls.file(programs.TEXTS["door.pcf"]))[1]
     page.judge("a link to a listing", live.waits(window, f"return document.getElementById('net-text').value === {listing!r}"))
     window.open("about:blank")
-    order = "0 4,1 2,0 10,1 14"
+    order = "0 4,1 2,0 11,1 13"
     text = "schedule 2\n" + order.replace(",", "\n") + "\nend\n"
     trace = calls.printed("replay", calls.file(programs.TEXTS["double.pcf"]), calls.file(text), "--trace")[1]
     page.judge("the schedule of the link", trace.split("\n")[:2], ["value 6", "moves 30"])

@@ -61,7 +61,7 @@ const GATHER = { beside: 70, above: 40, most: 60 };
 function gathered(width, height) {
   const focus = focusPoint();
   const far = ({ x, y }) => Math.hypot(x - focus.x, y - focus.y);
-  const points = [...view.run.state.live.values()].slice(0, GATHER.most).map(restPoint).sort((one, two) => far(one) - far(two));
+  const points = [...glyphs.values()].slice(0, GATHER.most).map(glyph => glyph.place).sort((one, two) => far(one) - far(two));
   const bounds = { left: focus.x, right: focus.x, top: focus.y, bottom: focus.y };
   for (const { x, y } of points) {
     const [left, right] = [Math.min(bounds.left, x), Math.max(bounds.right, x)];
@@ -152,7 +152,7 @@ function uncover() {
   const boxes = covers();
   const { width, height } = pictureSize();
   const focus = focusPoint();
-  const points = [...view.run.state.live.values()].slice(0, UNCOVER.most).map(restPoint);
+  const points = [...glyphs.values()].slice(0, UNCOVER.most).map(glyph => glyph.place);
   const move = toldMove();
   if (move) points.unshift(view.layout.places[move.node]);
   const onScreen = ({ x, y }) => ({ x: x * camera.scale + camera.x, y: y * camera.scale + camera.y });
@@ -165,7 +165,7 @@ function uncover() {
   for (const byX of UNCOVER.steps) for (const byY of UNCOVER.steps) {
     let cost = (Math.abs(byX) + Math.abs(byY)) / 400;
     places.forEach(({ x, y }, at) => {
-      const weight = at === 0 ? 100 : at === 1 ? 3 : 1;
+      const weight = at === 0 ? 100 : move && at === 1 ? 0.9 : 1;
       if (isCovered(x + byX, y + byY) || isOut(x + byX, y + byY)) cost += weight;
     });
     if (!best || cost < best.cost) best = { byX, byY, cost };

@@ -113,8 +113,8 @@ function drawFrame({ left, right, top, bottom, depth, fix }) {
   return shape("rect", { class: "frame " + kind, x: left, y: top, width: right - left, height: bottom - top, rx: 9 });
 }
 
-function drawWire(wire) {
-  return shape("path", { class: "wire " + wire.kind, d: wirePath(view.layout.points[wire.id]) },
+function drawWire(wire, layout = view.layout) {
+  return shape("path", { class: "wire " + wire.kind, d: wirePath(layout.points[wire.id]) },
     shape("title", {}, `wire ${wire.id}, ${wire.kind}, ${wire.type}`));
 }
 

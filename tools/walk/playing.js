@@ -38,6 +38,7 @@ function tellState(quiet) {
     tellTables();
     tellSwap();
     scrollLog();
+    tellBeside();
   }
   document.body.classList.toggle("begun", run.state.at > 0);
   drawStrip();

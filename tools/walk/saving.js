@@ -56,7 +56,7 @@ function wholePicture() {
   const labels = groupOf(net.wires, wire => drawLabel(wire, drawing.labelPlaces[wire.id]));
   const changing = [entries, piles, card, tokens].map(layer => layer.cloneNode(true));
   return shape("svg", { role: "img", "aria-label": byId("picture").getAttribute("aria-label") },
-    groupOf(layout.frames, drawFrame), groupOf(net.wires, drawWire), trail.cloneNode(true), labels, nodes, ...changing);
+    groupOf(layout.frames, drawFrame), groupOf(net.wires, wire => drawWire(wire)), trail.cloneNode(true), labels, nodes, ...changing);
 }
 
 // The rules of what a picture has.

@@ -32,6 +32,6 @@ window.walk = {
   openFiles, openWalk, goToAddress, saveFile, readNet, readTerm, namesIn, ruleOf, pictureText, whyNoSwap, swappedSchedule,
   spelled, marksIn, waitingRows, waitingTitle, chainOfMark, textOf, programText, termText,
   setRounds, inRounds, setWall, stripMarks, Reordered, replayed, scheduleText, readTrace, traceHead, Run,
-  putRows, activeRow, activateRow, joinRows, setProgramHome, fileStem,
+  putRows, activeRow, activateRow, joinRows, setProgramHome, fileStem, beside,
 };
 start();
