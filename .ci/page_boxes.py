@@ -67,6 +67,9 @@ def try_marks(page, live, window):
 def try_narrow(page, live, window):
     """In a narrow window the box is put away when a walk comes, and the net has the room."""
     window.resize(*NARROW)
+    # (A browser can count its own edges as part of a window.)
+    window.resize(NARROW[0], 2 * NARROW[1] - window.script("return innerHeight"))
+    page.judge("a window of this size", window.script("return [innerWidth, innerHeight]"), list(NARROW))
     live.runs(window, programs.TEXTS["sum.pcf"])
     height = window.script("return document.getElementById('net').getBoundingClientRect().height")
     page.judge("the net's height in a small window", (height >= 300, height), (True, height))
@@ -200,7 +203,7 @@ def try_schedules(page, live, window, program, folder):
     calls = programs.Calls(program, folder)
     for name in ("double.pcf", "order.pcf", "sum.pcf", "fibonacci.pcf", "pairs.pcf"):
         text = programs.TEXTS[name]
-        file = calls.file(text)
+        file = calls.file(text, "program")
         live.runs(window, text)
         opens(live, window, "schedule")
         own = calls.printed("run", file, "--schedule")[1]
@@ -208,7 +211,7 @@ def try_schedules(page, live, window, program, folder):
         for which in ("run", "rounds", "chance"):
             order = takes(live, window, which)
             said = replays(live, window, order)
-            _, trace = calls.printed("replay", file, calls.file(order), "--trace", "--most", "1000000")
+            _, trace = calls.printed("replay", file, calls.file(order, "schedule"), "--trace", "--most", "1000000")
             page.judge(f"{name}, {which}: what is said", said.split("\n")[0], ", ".join(trace.split("\n")[:2]))
             page.judge(f"{name}, {which}: the same value", trace.split("\n")[:2], own.split("\n")[:2])
             page.judge(f"{name}, {which}: its trace", window.script("return walk.view.traceText") == trace)
@@ -222,14 +225,15 @@ def try_schedules(page, live, window, program, folder):
     opens(live, window, "schedule")
     page.judge("part of a schedule", replays(live, window, "schedule 2\n0 1\nend\n").split("\n")[0], "no value, moves 1")
     page.judge("its walk", window.script("return [walk.view.run.length, document.getElementById('live-count').textContent]"), [1, "1"])
-    file = calls.file("1 + 2")
+    file = calls.file("1 + 2", "program")
     for order, row in (("schedule 2\n0 3\n1 4\nend\n", 3), ("schedule 2\n0 4\nend\n", 2), ("schedule 2\n0 1\n0 2\nend\n", 3),
                        ("schedule 1\n01\nend\n", 2), ("schedule 1\n4294967296\nend\n", 2), ("schedule 2\n0 10000000\n1 1\nend\n", 3),
                        ("schedule 3\n0 1\nend\n", 1), ("schedule 1\n0\n1\n", None)):
-        line = calls.printed("replay", file, calls.file(order))[1].strip()
+        line = calls.printed("replay", file, calls.file(order, "schedule"))[1].strip()
         said = replays(live, window, order)
         page.judge(f"{order!r}: refused", (line.startswith("refused: "), said.split("\n")[0]), (True, line))
-        page.judge(f"{order!r}: its line", (marked_line(window, "schedule"), row is None or f"line {row}: " in said), (row, True))
+        lines = re.findall(r"^line (\d+): ", said, re.M)
+        page.judge(f"{order!r}: its line", (marked_line(window, "schedule"), lines), (row, [str(row)] if row else []))
     live.quiet(page, window, "schedules")
 
 
@@ -273,7 +277,7 @@ def try_dragging(page, live, window, program, folder):
     page.judge("a row that a key moved", (rows_shown(window), window.script("return document.activeElement.id")), (rows, "schedule-rows"))
     page.judge("the text of it", window.script("return document.getElementById('schedule-text').value"), as_text(rows))
     calls = programs.Calls(program, folder)
-    status, printed = calls.printed("replay", calls.file(text), calls.file(as_text(rows)), "--trace")
+    status, printed = calls.printed("replay", calls.file(text, "program"), calls.file(as_text(rows), "schedule"), "--trace")
     window.script("document.getElementById('schedule-replay').click()")
     live.waits(window, live.IDLE)
     said = window.script(live.SAID).split("\n")[0]
@@ -292,7 +296,8 @@ def try_links(page, live, window, program, folder):
     window.open("about:blank")
     order = "0 4,1 2,0 11,1 13"
     text = "schedule 2\n" + order.replace(",", "\n") + "\nend\n"
-    trace = calls.printed("replay", calls.file(programs.TEXTS["double.pcf"]), calls.file(text), "--trace")[1]
+    file = calls.file(programs.TEXTS["double.pcf"], "program")
+    trace = calls.printed("replay", file, calls.file(text, "schedule"), "--trace")[1]
     page.judge("the schedule of the link", trace.split("\n")[:2], ["value 6", "moves 30"])
     window.open(f"{base}#example=double&schedule={order.replace(' ', '+')}&move=7")
     page.judge("a link to a replay", live.waits(window, f"return walk.view.traceText === {trace!r} && walk.view.run.state.at === 7"))
@@ -304,10 +309,49 @@ def try_links(page, live, window, program, folder):
     live.waits(window, "return walk.view.run !== null")
 
 
+def named_moments():
+    """The moments that each lesson names: the example and the number of moves, by the lesson's number."""
+    found = {}
+    for path in sorted((programs.TOP / "docs/lessons").glob("[0-9]*.md")):
+        name, own = None, []
+        # (What is between two marks of code is every other part.)
+        for code in path.read_text(encoding="utf-8").split("`")[1::2]:
+            file, _, moment = code.partition("#move=")
+            if re.fullmatch(r"\w+\.html", file):
+                name = file[:-5]
+            if moment.isdigit() and (file == "" or file.endswith(".html")) and f"{name}.pcf" in programs.TEXTS:
+                own += [[name, int(moment)]] if [name, int(moment)] not in own else []
+        found[path.name.split("-")[0]] = own
+    return {lesson: own for lesson, own in found.items() if own}
+
+
+def try_moments(page, live, window):
+    """The list of examples has the moments that the lessons name, and takes there."""
+    found = window.script("""
+      return Object.fromEntries([...document.querySelectorAll("#own-example optgroup")].map(group =>
+        [group.label.replace("lesson ", ""), [...group.children].map(it => {
+          const [, name, move] = /^(\\w+), move (\\d+)/.exec(it.textContent);
+          return [name, Number(move)];
+        })]));""")
+    wanted = named_moments()
+    page.judge("moments of the lessons", found, wanted)
+    page.judge("there are many", sum(map(len, wanted.values())) > 20)
+    for lesson, own in wanted.items():
+        name, move = own[-1]
+        window.script("""
+          const list = document.getElementById("own-example");
+          list.value = arguments[0];
+          list.dispatchEvent(new Event("change"));""", f"{name}.pcf {move}")
+        live.waits(window, live.IDLE)
+        there = window.script("return [walk.view.name, walk.view.run.state.at, document.getElementById('own-example').value]")
+        page.judge(f"a moment of lesson {lesson}", there, [f"{name}.pcf", move, f"{name}.pcf"])
+    live.quiet(page, window, "moments")
+
+
 def try_boxes(page, live, window, program, folder):
     try_marks(page, live, window)
-    if hasattr(window, "session"):
-        try_narrow(page, live, window)
+    try_moments(page, live, window)
+    try_narrow(page, live, window)
     try_nets(page, live, window, program, folder)
     try_schedules(page, live, window, program, folder)
     try_dragging(page, live, window, program, folder)

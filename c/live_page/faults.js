@@ -18,7 +18,7 @@ function sayRefusal(text, line) {
 // The line of a fault of a net or of a schedule, and the line of the text at which it is.
 function sayBadFile(box, line) {
   const [, sound, fault, numbers] = /^refused: (NotSound\()?(\w+)(?:\(([\d,]+)\))?/.exec(line);
-  const [first, second] = (numbers ?? "").split(",");
+  const [first, second] = numbers === undefined ? [] : numbers.split(",");
   const row = sound ? rowOfPart(fault, first) : rowOfFault(box, fault, first);
   const meaning = sound ? given.ofNets[fault].replace("N", first) : meaningOf(box, fault, first, second);
   say(line, (row === null ? "" : `line ${row}: `) + meaning, true);

@@ -184,6 +184,28 @@ function showExample() {
   byId("own-example").value = exampleOf(programGiven()) ?? "";
 }
 
+// Behind the examples the list has the moments of them that the lessons name.
+function addMoments() {
+  for (const lesson of new Set(given.moments.map(it => it.lesson))) {
+    const group = document.createElement("optgroup");
+    group.label = "lesson " + lesson;
+    for (const { example, move, text } of given.moments.filter(it => it.lesson === lesson)) {
+      const name = `${example.replace(/\.pcf$/, "")}, move ${move}`;
+      group.append(new Option(text ? `${name}: ${text}` : name, `${example} ${move}`));
+    }
+    byId("own-example").append(group);
+  }
+}
+
+function takeExample() {
+  const [name, move] = byId("own-example").value.split(" ");
+  if (given.examples[name] === undefined) return;
+  putProgram(given.examples[name]);
+  if (move !== undefined) byId("own-by-value").checked = false;
+  run(() => { if (move !== undefined) walk.show(Number(move)); });
+  showExample();
+}
+
 function stop() {
   if (underWay) stopAsking();
 }
@@ -193,12 +215,8 @@ function joinButtons() {
   byId("own-run").addEventListener("click", () => run());
   byId("own-check").addEventListener("click", check);
   byId("own-stop").addEventListener("click", stop);
-  byId("own-example").addEventListener("change", () => {
-    const text = given.examples[byId("own-example").value];
-    if (text === undefined) return;
-    putProgram(text);
-    run();
-  });
+  addMoments();
+  byId("own-example").addEventListener("change", takeExample);
   byId("own-text").addEventListener("input", () => {
     unmark("own");
     showExample();
