@@ -1,7 +1,8 @@
 // The tree of questions in words of the source: a row for the program, for each call and for each use of a variable that waits. What
 // happens inside a row is its text with holes: `sum 10 = 10 + ?`.
 
-const WAITING = { rows: 60, near: 24, text: 30, deep: 12 };
+// (Of more rows than `printed` a sheet has those of the present one alone.)
+const WAITING = { rows: 60, near: 24, text: 30, deep: 12, printed: 20 };
 const ROW_KINDS = new Set(["root", "earlier", "call", "use", "part"]);
 
 // The text of a part, cut, and a function without its body.
@@ -166,6 +167,7 @@ function tellWaiting() {
   });
   if (left > 0) lines.push(leftOut(left));
   putRows(list, lines, lines.find(line => line.matches(".present")) || null);
+  list.classList.toggle("many", rows.length > WAITING.printed);
   byId("waiting-count").textContent = rows.length;
   byId("none-waiting").hidden = rows.length > 0;
 }
