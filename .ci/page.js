@@ -114,7 +114,7 @@ function outside() {
   return [document.scrollingElement.scrollWidth - innerWidth, out.map(it => it.id)];
 }
 
-// Texts beside wires that meet another wire, a node or one another.
+// Texts beside wires that meet a wire, a node or one another.
 function metTexts() {
   const texts = [...document.querySelectorAll("#picture .label")].map(it => ({ text: it.textContent, box: it.getBBox() }));
   const inside = (box, x, y) => x > box.x && x < box.x + box.width && y > box.y + 1 && y < box.y + box.height - 2;
@@ -123,7 +123,7 @@ function metTexts() {
   [...document.querySelectorAll("#picture .wire")].forEach((path, wire) => {
     for (let at = 0, length = path.getTotalLength(); at < length; at += 3) {
       const { x, y } = path.getPointAtLength(at);
-      for (const { text, box } of texts) if (parseInt(text, 10) !== wire && inside(box, x, y)) met.add(`${text} and wire ${wire}`);
+      for (const { text, box } of texts) if (inside(box, x, y)) met.add(`${text} and wire ${wire}`);
     }
   });
   for (const { x, y, width } of walk.view.layout.places) {

@@ -58,7 +58,7 @@ function meaningOf(box, fault, first, second) {
     case "NotLive": return `entry ${first}: ticket ${second} is not live: it has ended, or has not begun`;
     case "AfterAnswer": return `entry ${first}: the answer has come already, and nothing moves behind it`;
     case "TicketTooWide": return "a ticket is at most 4294967295";
-    case "TooLong": if (first !== undefined) return "with this line the schedule has more than 10,000,000 moves"; // falls through
+    case "TooLong": return first === undefined ? given.ofFiles[fault] : "with this line the schedule has more than 10,000,000 moves";
     default: return given.ofFiles[fault] ?? "";
   }
 }

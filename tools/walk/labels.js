@@ -42,9 +42,9 @@ function labelChoices(net, layout, wire, types) {
 // How far a wire comes to the left, or to the right, where a text with this base line is beside it.
 function wireEdge(start, next, y, left, tall) {
   let far = null;
-  for (let share = 0; share <= 1; share += 0.04) {
+  for (let share = 0; share <= 1; share += 0.02) {
     const [x, height] = curvePoint(start, next, share);
-    if (height < y - tall || height > y + 2) continue;
+    if (height < y - tall || height > y + tall * 0.3) continue;
     if (far === null || (left ? x < far : x > far)) far = x;
   }
   return far === null ? start[0] : far;
