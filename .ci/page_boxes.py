@@ -285,6 +285,24 @@ def try_dragging(page, live, window, program, folder):
     live.quiet(page, window, "dragging")
 
 
+def try_exchanged(page, live, window, program, folder):
+    """The next two moves of the walk are exchanged, and the new order is replayed at once."""
+    calls = programs.Calls(program, folder)
+    text = programs.TEXTS["double.pcf"]
+    own = [int(line.split(" ")[5]) for line in calls.printed("trace", calls.file(text))[1].split("\n") if line.startswith("move ")]
+    live.runs(window, text)
+    window.script("walk.show(14); document.getElementById('swap').open = true; "
+                  "document.getElementById('swap-run').scrollIntoView()")
+    page.press(window, *page.ask(window, "middleOf", "#swap-run"))
+    live.waits(window, live.IDLE)
+    own[14], own[15] = own[15], own[14]
+    order = "schedule 1\n" + "".join(f"{it}\n" for it in own) + "end\n"
+    trace = calls.printed("replay", calls.file(text, "program"), calls.file(order, "schedule"), "--trace")[1]
+    page.judge("two moves exchanged: the trace", window.script("return walk.view.traceText"), trace)
+    page.judge("two moves exchanged: the schedule", expanded(window.script("return document.getElementById('schedule-text').value")), own)
+    live.quiet(page, window, "an exchange")
+
+
 def try_links(page, live, window, program, folder):
     """An address has the program, the text that is shown, and a schedule with its moment."""
     calls = programs.Calls(program, folder)
@@ -355,5 +373,6 @@ def try_boxes(page, live, window, program, folder):
     try_nets(page, live, window, program, folder)
     try_schedules(page, live, window, program, folder)
     try_dragging(page, live, window, program, folder)
+    try_exchanged(page, live, window, program, folder)
     try_links(page, live, window, program, folder)
     window.script("machine.openTab('program')")

@@ -177,6 +177,14 @@ const replay = (asWalk = () => {}) => begin(async isMine => {
   asWalk();
 });
 
+// Replays a schedule on the program of the walk that is shown.
+function replayShown(order) {
+  if (programGiven() !== walk.view.program) putProgram(walk.view.program);
+  putSchedule(order);
+  showTab("schedule");
+  replay();
+}
+
 const saveSchedule = () => walk.saveFile(walk.fileStem() + ".schedule", "text/plain", textIn("schedule"));
 
 function joinSchedules() {
@@ -195,4 +203,5 @@ function joinSchedules() {
   byId("schedule-rows").addEventListener("keydown", pressRow);
   walk.joinRows(byId("schedule-rows"));
   joinDragging();
+  walk.view.runSchedule = replayShown;
 }

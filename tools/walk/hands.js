@@ -156,6 +156,7 @@ const BUTTONS = {
   "colour-by": KEYS.c,
   other: goOther,
   "swap-save": saveSwap,
+  "swap-run": () => view.runSchedule(swappedSchedule(view.run)),
   "live-all": () => listWire(null),
   "open-files": () => byId("files").click(),
   "open-first": () => byId("files").click(),

@@ -252,7 +252,8 @@ function answerText() {
 function tellSwap() {
   const why = whyNoSwap(view.run);
   const { run } = view;
-  byId("swap-save").disabled = why !== null;
+  for (const id of ["swap-save", "swap-run"]) byId(id).disabled = why !== null;
+  byId("swap-run").hidden = view.runSchedule === null;
   byId("swap-how").hidden = why !== null;
   if (why !== null) { byId("swap-say").textContent = why; return; }
   const [one, two] = [run.move(run.state.at), run.move(run.state.at + 1)];

@@ -33,6 +33,8 @@ const view = {
   // What the address has in front of the number of moves, and what runs a program that is opened alone: for a page with the machine inside.
   address: "",
   runProgram: null,
+  // The same page's: what replays a schedule on the program that is shown.
+  runSchedule: null,
   // The same page's: the element that has the program's text where its panel hasn't, and what is done when a walk was opened.
   programHome: null,
   opened: () => {},
