@@ -31,6 +31,8 @@ def try_marks(page, live, window):
         text = programs.TEXTS[name + ".pcf"]
         live.runs(window, text)
         page.judge(f"{name}: the program is there once", program_seen(window), ["own-text"])
+        panel = window.script("return document.getElementById('program-box').getClientRects().length")
+        page.judge(f"{name}: and no panel is for it", panel, 0)
         # The same letters in the same lines: as wide, as high, of one kind.
         looks = window.script("""
           return ["own-text", "program"].map(id => {
@@ -228,7 +230,7 @@ def try_schedules(page, live, window, program, folder):
     file = calls.file("1 + 2", "program")
     for order, row in (("schedule 2\n0 3\n1 4\nend\n", 3), ("schedule 2\n0 4\nend\n", 2), ("schedule 2\n0 1\n0 2\nend\n", 3),
                        ("schedule 1\n01\nend\n", 2), ("schedule 1\n4294967296\nend\n", 2), ("schedule 2\n0 10000000\n1 1\nend\n", 3),
-                       ("schedule 3\n0 1\nend\n", 1), ("schedule 1\n0\n1\n", None)):
+                       ("schedule 2\n0 1\n1 2\n0 3\n1 1\nend\n", 5), ("schedule 3\n0 1\nend\n", 1), ("schedule 1\n0\n1\n", None)):
         line = calls.printed("replay", file, calls.file(order, "schedule"))[1].strip()
         said = replays(live, window, order)
         page.judge(f"{order!r}: refused", (line.startswith("refused: "), said.split("\n")[0]), (True, line))
@@ -271,6 +273,7 @@ def try_dragging(page, live, window, program, folder):
     half = (rows[0][1] + 1) // 2
     rows[:1] = [[rows[0][0], half], [rows[0][0], rows[0][1] - half]]
     page.judge("a row that was split", rows_shown(window), rows)
+    page.judge("the text of it, in one line", window.script("return document.getElementById('schedule-text').value"), as_text(rows))
     window.keys(DOWN)
     live.chord(window, ALT, DOWN)
     rows.insert(2, rows.pop(1))
