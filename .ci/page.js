@@ -114,7 +114,7 @@ function outside() {
   return [document.scrollingElement.scrollWidth - innerWidth, out.map(it => it.id)];
 }
 
-// Texts beside wires that meet another wire, a node or one another.
+// Texts beside wires that meet a wire, a node or one another.
 function metTexts() {
   const texts = [...document.querySelectorAll("#picture .label")].map(it => ({ text: it.textContent, box: it.getBBox() }));
   const inside = (box, x, y) => x > box.x && x < box.x + box.width && y > box.y + 1 && y < box.y + box.height - 2;
@@ -123,7 +123,7 @@ function metTexts() {
   [...document.querySelectorAll("#picture .wire")].forEach((path, wire) => {
     for (let at = 0, length = path.getTotalLength(); at < length; at += 3) {
       const { x, y } = path.getPointAtLength(at);
-      for (const { text, box } of texts) if (parseInt(text, 10) !== wire && inside(box, x, y)) met.add(`${text} and wire ${wire}`);
+      for (const { text, box } of texts) if (inside(box, x, y)) met.add(`${text} and wire ${wire}`);
     }
   });
   for (const { x, y, width } of walk.view.layout.places) {
@@ -233,4 +233,145 @@ function swapsOffered(places) {
     run.go(at);
     return walk.whyNoSwap(run) === null;
   });
+}
+
+// Moves behind which the page's own whole stacks aren't what the line says, or have a mark that another kind of node makes.
+const MAKERS = { "*": ["Der", "FixBox"], l: ["Con"], r: ["Con"], "<": ["Door"], y: ["FixBox"] };
+function wrongStacks() {
+  const { run, questions, net } = walk.view;
+  const spell = (stack, most) => walk.marksIn(stack).map(({ mark }) => walk.spelled(mark, 1, most));
+  const cut = parts => parts.length > 8 ? [...parts.slice(0, 8), "+" + (parts.length - 8)] : parts;
+  const isMade = mark => {
+    if (!MAKERS[mark.sign]) return true;
+    return mark.node >= 0 && MAKERS[mark.sign].includes(net.nodes[mark.node].name) && [mark.s, mark.u].every(it => !it || isMade(it));
+  };
+  const fits = (stack, text) => (cut(spell(stack)).join(".") || "-") === text || (spell(stack, Infinity).join(".") || "-") === text;
+  const holds = (given, token) => fits(given.work, token.work) && fits(given.boxes, token.boxes);
+  const wrong = [];
+  for (let at = 0; at < run.length; at++) {
+    const { after, after2, number } = run.move(at);
+    const given = questions.given[at];
+    if (after && !holds(given, after)) wrong.push(number);
+    if (after2 && !holds(questions.second.get(at), after2)) wrong.push(number);
+    // (A signature of a long run is looked at to no great depth.)
+    if (at < 3000 && !walk.marksIn(given.boxes).every(({ mark }) => isMade(mark))) wrong.push(number);
+  }
+  return wrong;
+}
+
+// The tree of questions behind so many moves, for each of a list: a row's depth, node, tickets and when it was asked; and its text.
+function shownQuestions(places) {
+  return places.map(at => {
+    walk.show(at);
+    return walk.waitingRows().map(row => [row.depth, row.frame.hole ? row.frame.node : -1, row.tickets, row.frame.at + 1]);
+  });
+}
+function questionTexts(at) {
+  walk.show(at);
+  return [...document.querySelectorAll("#waiting .waits")].map(it => (it.matches(".present") ? "> " : "") + it.textContent);
+}
+
+// What a press on a stack's uppermost signature tells.
+function chainTold(at, id) {
+  walk.show(at);
+  document.querySelector(`#${id} button.cell`).click();
+  return [...document.querySelectorAll("#chain .link")].map(it => it.children[1].textContent);
+}
+
+// The moves that are listed of the round behind so many moves, and what is told where the row with this place is pressed.
+function roundShown(at, place) {
+  walk.show(at);
+  const rows = [...document.querySelectorAll("#round-moves .moved")];
+  const texts = rows.map(it => it.textContent);
+  if (rows.length > 0) rows[place].click();
+  const nodes = kind => [...document.querySelectorAll(`#picture .node.${kind}`)].map(it => Number(it.dataset.node));
+  const told = byId("say").children[1].textContent;
+  return {
+    rows: texts, told: [/ticket \d+/, /node \d+$/].map(part => part.exec(told)[0]), node: nodes("at")[0], others: nodes("too"),
+    now: byId("now").value,
+  };
+}
+
+// Where the strip has marks at its upper and its lower edge, as shares of its width. (The state is the one at the start.)
+function stripInk() {
+  walk.show(0);
+  const canvas = byId("strip");
+  const { width, height } = canvas;
+  const brush = canvas.getContext("2d");
+  const ratio = width / canvas.clientWidth;
+  const [left, whole] = [8 * ratio, width - 16 * ratio];
+  const inked = y => {
+    const { data } = brush.getImageData(0, y, width, 1);
+    const places = [];
+    for (let x = Math.ceil(left) + 3; x < width; x++) if (data[4 * x + 3] > 100) places.push((x - left) / whole);
+    return places;
+  };
+  return { above: inked(1), below: inked(height - 2) };
+}
+
+// For each move the call for which it is made; and by ticket the colour of each token that is drawn behind so many moves.
+function callNumbers() {
+  const { run, questions } = walk.view;
+  return [...Array(run.length).keys()].map(at => questions.callOf(questions.given[at].hole));
+}
+function tokenColours(at) {
+  walk.show(at);
+  const glyphs = [...document.querySelectorAll("#picture .token")];
+  return Object.fromEntries(glyphs.map(it => [it.querySelector(".tag").textContent, it.querySelector("path").style.fill]));
+}
+
+// The run beside, behind so many moves of the one that is shown: its tokens, what is said, the table, and how far each strip reaches.
+function besideShown(at) {
+  walk.show(at);
+  const canvas = byId("beside-strips");
+  const brush = canvas.getContext("2d");
+  const reach = y => {
+    const { data } = brush.getImageData(0, y * canvas.height / canvas.clientHeight, canvas.width, 1);
+    let last = -1;
+    for (let x = 0; x < canvas.width; x++) if (data[4 * x + 3] > 100) last = x;
+    return (last + 1) / canvas.width;
+  };
+  return {
+    tokens: [...document.querySelectorAll("#beside-picture .token")].map(it => it.dataset.token), say: byId("beside-say").textContent,
+    table: [...document.querySelectorAll("#both tr")].map(row => [...row.children].map(it => it.textContent)),
+    strips: [reach(12), reach(42)],
+  };
+}
+
+// How large the letters of the picture, of the line below it and of the program are on the screen.
+function letterSizes() {
+  const all = [...document.querySelectorAll("#picture :is(text, tspan), #told p, #program")].filter(it => it.textContent.trim());
+  return all.map(it => parseFloat(getComputedStyle(it).fontSize) * (it.getScreenCTM ? it.getScreenCTM().d : 1));
+}
+
+// On the wall, behind so many moves: the states in which a live token isn't in the window though all of them would have room there, and how
+// many states with several tokens were looked at.
+function wallTokens(places) {
+  const wrong = [];
+  let crowds = 0;
+  const { width, height } = byId("picture").getBoundingClientRect();
+  const tools = document.querySelector("#net .tools").getBoundingClientRect();
+  for (const at of places) {
+    walk.show(at);
+    const glyphs = [...document.querySelectorAll("#picture .token")];
+    if (glyphs.length < 2) continue;
+    crowds++;
+    const spots = glyphs.map(it => it.transform.baseVal[0].matrix).map(({ e, f }) => [e, f]);
+    const wide = axis => Math.max(...spots.map(it => it[axis])) - Math.min(...spots.map(it => it[axis]));
+    if (wide(0) * 0.95 + 150 > width || wide(1) * 0.95 + 150 > height) continue;
+    const { x, y, scale } = walk.camera;
+    for (const [e, f] of spots) {
+      const [left, top] = [e * scale + x, f * scale + y];
+      const isCovered = left > tools.left && top < tools.bottom;
+      if (left < 0 || left > width || top < 0 || top > height || isCovered) wrong.push([at, Math.round(left), Math.round(top)]);
+    }
+  }
+  return [wrong, crowds];
+}
+
+// The run in rounds: its trace, where each round begins, and what the page says of their number.
+function rounds() {
+  const { alone } = walk.view;
+  const { text, starts } = walk.inRounds(alone.run);
+  return [text, starts, [alone.questions.span.rounds, alone.questions.span.most]];
 }

@@ -15,8 +15,10 @@ import pathlib
 import re
 import shutil
 import subprocess
+import sys
 import time
 
+import page_boxes as boxes
 import page_browser as browser
 import page_firefox as firefox
 import page_programs as programs
@@ -184,7 +186,7 @@ const box = document.getElementById("own-text");
 box.value = text;
 box.dispatchEvent(new Event("input"));
 const strict = document.getElementById("own-by-value");
-if ((strict.getAttribute("aria-pressed") === "true") !== byValue) strict.click();
+if (strict.checked !== byValue) strict.click();
 document.getElementById("own-budget").value = budget;
 document.getElementById("own-run").click();
 """
@@ -469,6 +471,7 @@ def try_window(page, window, program, folder):
         try_deepest(page, window, program, folder)
         try_address(page, window)
         try_opened(page, window)
+        boxes.try_boxes(page, sys.modules[__name__], window, program, folder)
         try_looks(page, window)
         quiet(page, window, "the whole")
         print(f"the page with the machine in {window.name()}: {time.time() - began:.1f} s")

@@ -1,8 +1,13 @@
-// The box for the program, and the place in it that is marked. What the machine counts in bytes is a place in the text here.
+// The boxes for texts, and the places in them that are marked. A box can't mark a part of its text: behind it lies the same text once more,
+// in letters that aren't seen, with the mark in it. The box `own` has the program, `net` a listing, `schedule` a schedule. What the machine
+// counts in bytes is a place in the text here.
 
 const byId = id => document.getElementById(id);
 
-const programGiven = () => byId("own-text").value;
+const BOXES = ["own", "net", "schedule"];
+const boxOf = name => byId(name + "-text");
+const textIn = name => boxOf(name).value;
+const programGiven = () => textIn("own");
 
 // The place of a byte of the text: {index, row, column}, in which the column counts characters, and both count from 1.
 function placeOf(text, offset) {
@@ -11,30 +16,55 @@ function placeOf(text, offset) {
   return { index: before.length, row: rows.length, column: [...rows.at(-1)].length + 1 };
 }
 
-// Marks the character at this index, or a space where a line or the text ends there. The box can't mark a part of its text: behind it lies
-// the same text once more, in letters that aren't seen, with the mark in it.
-function markCharacter(index) {
-  const text = programGiven();
-  const character = String.fromCodePoint(text.codePointAt(index) ?? 32);
-  const shown = character === "\n" ? " " : character;
+// Marks a part of a box's text, or a space where the part is empty or the end of a line.
+function markPart(name, from, to) {
+  const text = textIn(name);
+  const part = text.slice(from, to);
+  const isSeen = part !== "" && part !== "\n";
   const mark = document.createElement("mark");
-  mark.textContent = shown;
+  mark.textContent = isSeen ? part : " ";
   // A last line that is empty has no height without a space.
-  byId("own-marks").replaceChildren(text.slice(0, index), mark, text.slice(shown === character ? index + character.length : index) + " ");
-  byId("own-text").setAttribute("aria-invalid", "true");
-  scrollMarks();
+  byId(name + "-marks").replaceChildren(text.slice(0, from), mark, text.slice(isSeen ? to : from) + " ");
+  boxOf(name).setAttribute("aria-invalid", "true");
+  if (mark.offsetTop > boxOf(name).scrollTop + boxOf(name).clientHeight - 20) boxOf(name).scrollTop = mark.offsetTop - 20;
+  scrollMarks(name);
 }
 
-function unmark() {
-  byId("own-marks").replaceChildren();
-  byId("own-text").removeAttribute("aria-invalid");
+// Marks the character at this index.
+function markCharacter(index) {
+  const character = String.fromCodePoint(programGiven().codePointAt(index) ?? 32);
+  markPart("own", index, index + character.length);
 }
 
-function scrollMarks() {
-  byId("own-marks").scrollTop = byId("own-text").scrollTop;
+// Marks a line, counted from 1.
+function markLine(name, row) {
+  const rows = textIn(name).split("\n");
+  const from = rows.slice(0, row - 1).reduce((sum, it) => sum + it.length + 1, 0);
+  markPart(name, from, from + (rows[row - 1] ?? "").length);
+}
+
+function unmark(name) {
+  byId(name + "-marks").replaceChildren();
+  boxOf(name).removeAttribute("aria-invalid");
+}
+
+function scrollMarks(name) {
+  byId(name + "-marks").scrollTop = boxOf(name).scrollTop;
+}
+
+function putText(name, text) {
+  boxOf(name).value = text;
+  unmark(name);
+}
+
+// The box of the program is as high as its text, up to a quarter of the window; a hand can make it another height.
+function fitBox() {
+  const box = boxOf("own");
+  box.style.height = "auto";
+  box.style.height = Math.min(box.scrollHeight, Math.max(112, innerHeight * 0.26)) + "px";
 }
 
 function putProgram(text) {
-  byId("own-text").value = text;
-  unmark();
+  putText("own", text);
+  fitBox();
 }

@@ -4,7 +4,9 @@ const OK = 0;
 const REFUSED = 1;
 const NO_VALUE = 5;
 const NO_MEMORY = 6;
+const BAD_FILE = 7;
 const BY_VALUE = 1;
+const SCHEDULE = 2;
 const BUDGET = 10000;
 const MOST_BUDGET = 10000000;
 // A page shows so many moves of a run, as `goi trace` prints them where nothing else is asked.
@@ -19,7 +21,7 @@ let underWay = null;
 let opened = { name: "", text: null };
 
 const exampleOf = text => Object.keys(given.examples).find(name => given.examples[name] === text);
-const byValue = () => byId("own-by-value").getAttribute("aria-pressed") === "true";
+const byValue = () => byId("own-by-value").checked;
 
 function budgetGiven() {
   const budget = Math.min(Math.max(Math.trunc(Number(byId("own-budget").value)) || 1, 1), MOST_BUDGET);
@@ -46,26 +48,15 @@ const timeText = milliseconds => milliseconds < 1000 ? `${Math.round(millisecond
 // The value and the moves, with which the machine's answer begins.
 const reportOf = text => text.split("\n", 2).join(", ").replace(/, $/, "");
 
-// The line of a refusal, in the text its place, and what tools/why says of it.
-function sayRefusal(text, line) {
-  const [, name, place] = /^refused: (\w+)(?:\((\d+)\))?/.exec(line) ?? [];
-  if (place === undefined) {
-    say(line, given.ofFiles[name] ?? "", true);
-    return;
-  }
-  const { index, row, column } = placeOf(text, Number(place));
-  const ends = name === "Unexpected" && index === text.length;
-  say(line, `line ${row}, column ${column}: ${ends ? given.atEnd : given.ofPrograms[name] ?? ""}`, true);
-  markCharacter(index);
-}
-
 const CUT = "The program is nested too deeply for this browser: its stack ended before the machine did. The machine was started anew.";
 
-// What is said where a call has no answer to show. What was open before stays so, which is said as well.
-function sayNothingCame(text, found) {
+// What is said where a call has no answer to show; the box is that of the text which the call reads besides the program. What was open
+// before stays so, which is said as well.
+function sayNothingCame(text, found, box) {
   if (found.stopped) say("stopped");
   else if (found.cut) say("cut off", `${CUT} ${given.heights} (${found.cut})`, true);
   else if (found.status === REFUSED) sayRefusal(text, found.text.trim());
+  else if (found.status === BAD_FILE) sayBadFile(box, found.text.trim());
   else if (found.status === NO_MEMORY) say("no memory", `It wanted more than the ${asking.most / 2 ** 20} MiB that it may take.`, true);
   else say(`status ${found.status}`, found.text, true);
   if (walk.view.run) addAside(`The walk that is shown is still that of ${walk.view.name}.`);
@@ -78,7 +69,7 @@ async function begin(task) {
   underWay = own;
   document.body.classList.add("busy");
   byId("own-stop").disabled = false;
-  unmark();
+  BOXES.forEach(unmark);
   say("");
   try {
     await task(() => underWay === own);
@@ -92,11 +83,11 @@ async function begin(task) {
 }
 
 // Makes calls until one has no answer to show, and says so then: null. The text is the one to which a place of a fault belongs.
-async function asked(text, name, texts, numbers, isMine) {
+async function asked(text, name, texts, numbers, isMine, box = "own") {
   const found = await ask(name, texts, numbers);
   if (!isMine()) return null;
   if (found.status === OK || found.status === NO_VALUE) return found;
-  sayNothingCame(text, found);
+  sayNothingCame(text, found, box);
   return null;
 }
 
@@ -123,6 +114,7 @@ const run = (asWalk = () => {}) => begin(async isMine => {
     return;
   }
   walk.openWalk({ ...namesOf(text, strict), ...walked, trace: traced.text });
+  setFolded(true);
   byId("own-save").disabled = false;
   const moves = Number(/^moves (\d+)$/m.exec(traced.text)[1]);
   const part = moves > MOST_SHOWN ? `; the first ${MOST_SHOWN} moves are shown` : "";
@@ -153,36 +145,65 @@ function namesOf(text, strict) {
 const saveProgram = () => walk.saveFile(walk.view.file.split("/").pop(), "text/plain", walk.view.program);
 
 // The program is in the address, so that it can be passed on with its moment: by its name where it is an example, and a very long one not.
-function rememberProgram(text, strict, budget) {
+// So is a schedule that was replayed, its lines with commas between.
+function rememberProgram(text, strict, budget, order = "") {
   const address = new URLSearchParams();
   const example = exampleOf(text);
   if (example) address.set("example", example.replace(/\.pcf$/, ""));
   else if (text.length <= MOST_ADDRESS) address.set("program", text);
   if (strict) address.set("by-value", 1);
   if (budget !== BUDGET) address.set("budget", budget);
+  if (order !== "" && order.length <= MOST_ADDRESS) address.set("schedule", rowsIn(order).map(it => `${it.ticket} ${it.count}`).join());
   walk.view.address = address + "&";
 }
 
-// Runs the program that the address has; without one, what is shown at first.
+// Runs the program that the address has, or replays the schedule that is there as well; without a program, what is shown at first. The
+// address can name the text that is shown: `show=net`.
 function beginWithAddress() {
   const { hash } = location;
   const wanted = new URLSearchParams(hash.slice(1));
   const text = wanted.get("program") ?? given.examples[wanted.get("example") + ".pcf"];
-  if (walk.view.run && (text === undefined || text === programGiven())) return;
+  const order = wanted.get("schedule");
+  if (walk.view.run && (text === undefined || (text === programGiven() && order === null))) return;
   putProgram(text ?? given.examples[given.first]);
-  setByValue(wanted.get("by-value") === "1");
+  byId("own-by-value").checked = wanted.get("by-value") === "1";
   byId("own-budget").value = wanted.get("budget") ?? BUDGET;
   showExample();
-  run(() => walk.goToAddress(hash));
-}
-
-function setByValue(on) {
-  byId("own-by-value").setAttribute("aria-pressed", on);
+  const then = () => {
+    walk.goToAddress(hash);
+    if (TABS.includes(wanted.get("show"))) openTab(wanted.get("show"));
+  };
+  if (order === null) { run(then); return; }
+  putSchedule(["schedule 2", ...order.split(",").filter(it => it !== ""), "end", ""].join("\n"));
+  showTab("schedule");
+  replay(then);
 }
 
 // The list shows the example whose text is in the box.
 function showExample() {
   byId("own-example").value = exampleOf(programGiven()) ?? "";
+}
+
+// Behind the examples the list has the moments of them that the lessons name.
+function addMoments() {
+  for (const lesson of new Set(given.moments.map(it => it.lesson))) {
+    const group = document.createElement("optgroup");
+    group.label = "lesson " + lesson;
+    for (const { example, move, text } of given.moments.filter(it => it.lesson === lesson)) {
+      const name = `${example.replace(/\.pcf$/, "")}, move ${move}`;
+      group.append(new Option(text ? `${name}: ${text}` : name, `${example} ${move}`));
+    }
+    byId("own-example").append(group);
+  }
+}
+
+function takeExample() {
+  const [name, move] = byId("own-example").value.split(" ");
+  if (given.examples[name] === undefined) return;
+  putProgram(given.examples[name]);
+  if (move !== undefined) byId("own-by-value").checked = false;
+  run(() => { if (move !== undefined) walk.show(Number(move)); });
+  showExample();
 }
 
 function stop() {
@@ -194,23 +215,32 @@ function joinButtons() {
   byId("own-run").addEventListener("click", () => run());
   byId("own-check").addEventListener("click", check);
   byId("own-stop").addEventListener("click", stop);
-  byId("own-by-value").addEventListener("click", () => setByValue(!byValue()));
-  byId("own-example").addEventListener("change", () => {
-    const text = given.examples[byId("own-example").value];
-    if (text === undefined) return;
-    putProgram(text);
-    run();
-  });
+  addMoments();
+  byId("own-example").addEventListener("change", takeExample);
   byId("own-text").addEventListener("input", () => {
-    unmark();
+    unmark("own");
     showExample();
+    fitBox();
+    placeMarks();
   });
-  byId("own-text").addEventListener("scroll", scrollMarks);
+  byId("own-text").addEventListener("scroll", () => {
+    scrollMarks("own");
+    if (byId("box-program").contains(byId("program"))) byId("program").scrollTop = boxOf("own").scrollTop;
+  });
+  // (The page scrolls its own program to the part that is marked.)
+  byId("program").addEventListener("scroll", () => {
+    if (byId("box-program").contains(byId("program"))) boxOf("own").scrollTop = byId("program").scrollTop;
+  });
+  for (const name of ["net", "schedule"]) boxOf(name).addEventListener("scroll", () => scrollMarks(name));
+  byId("net-text").addEventListener("input", () => unmark("net"));
+  byId("net-run").addEventListener("click", runNet);
+  byId("net-list").addEventListener("click", listNet);
+  byId("net-save").addEventListener("click", saveNet);
   byId("own").addEventListener("keydown", event => {
     if (event.key === "Escape") stop();
     if (event.key !== "Enter" || !(event.ctrlKey || event.metaKey)) return;
     event.preventDefault();
-    run();
+    ({ net: runNet, schedule: () => replay() }[tabShown()] ?? (() => run()))();
   });
   byId("own-save").addEventListener("click", saveProgram);
   walk.view.runProgram = (text, name) => {
@@ -220,9 +250,11 @@ function joinButtons() {
     run();
   };
   addEventListener("hashchange", beginWithAddress);
+  joinTabs();
+  joinSchedules();
 }
 
 // For the tests, and for whoever looks at the page with a browser's own tools.
-window.machine = { ask, asking, stop, translationOf, placeOf };
+window.machine = { ask, asking, stop, translationOf, placeOf, putSchedule, openTab };
 joinButtons();
 beginWithAddress();

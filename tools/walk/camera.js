@@ -7,7 +7,7 @@ const camera = {
   // Whether somebody has moved it: then it is left alone where the window changes its size.
   moved: false,
 };
-const SCALES = { least: 0.002, most: 4, texts: 0.42, legible: 0.56, close: 0.85, whole: 1.7 };
+const SCALES = { least: 0.002, most: 4, texts: 0.42, legible: 0.56, close: 0.85, wallLegible: 0.95, wallClose: 1.1, whole: 1.7 };
 // What the buttons above take of the picture, and what is left free at its sides and around the legend below.
 const RIMS = { above: 44, side: 24, legend: 13 };
 
@@ -46,11 +46,50 @@ function showAll() {
 // The whole net where it is legible so, and else the token at a legible size.
 function showHome() {
   showAll();
-  if (camera.scale >= SCALES.legible) return;
+  if (camera.scale >= (view.wall ? SCALES.wallLegible : SCALES.legible)) return;
   const { x, y } = focusPoint();
   const { width, height } = pictureSize();
-  camera.scale = SCALES.close;
+  camera.scale = view.wall ? SCALES.wallClose : SCALES.close;
   Object.assign(camera, withinNet(width / 2 - x * camera.scale, height / 2 - y * camera.scale));
+  applyCamera();
+  gather();
+  uncover();
+}
+
+// The live tokens that a window of this size holds, from the one that is looked at on to those that are farther, as bounds of the net.
+const GATHER = { beside: 70, above: 40, most: 60 };
+function gathered(width, height) {
+  const focus = focusPoint();
+  const far = ({ x, y }) => Math.hypot(x - focus.x, y - focus.y);
+  const points = [...glyphs.values()].slice(0, GATHER.most).map(glyph => glyph.place).sort((one, two) => far(one) - far(two));
+  const bounds = { left: focus.x, right: focus.x, top: focus.y, bottom: focus.y };
+  for (const { x, y } of points) {
+    const [left, right] = [Math.min(bounds.left, x), Math.max(bounds.right, x)];
+    const [top, bottom] = [Math.min(bounds.top, y), Math.max(bounds.bottom, y)];
+    if (right - left > width - 2 * GATHER.beside || bottom - top > height - 2 * GATHER.above) continue;
+    Object.assign(bounds, { left, right, top, bottom });
+  }
+  return bounds;
+}
+
+// For a wall: has the live tokens in the window, as many as there is room for at a legible size.
+function gather() {
+  if (!view.wall || !view.follow) return;
+  const { width, height } = pictureSize();
+  const room = height - RIMS.above - RIMS.legend;
+  const { left, right, top, bottom } = gathered(width / SCALES.wallLegible, room / SCALES.wallLegible);
+  const fits = Math.min(width / (right - left + 2 * GATHER.beside), room / (bottom - top + 2 * GATHER.above));
+  const scale = Math.min(camera.scale, Math.max(fits, SCALES.wallLegible));
+  if (scale < camera.scale) zoomTo(scale, width / 2, height / 2);
+  // The place nearest to `at` at which the net between `from` and `to` lies between two edges of the window.
+  const nearest = (at, from, to, before, after) => {
+    const [least, most] = [before - from * scale, after - to * scale];
+    return least > most ? (least + most) / 2 : Math.min(most, Math.max(least, at));
+  };
+  const x = nearest(camera.x, left - GATHER.beside, right + GATHER.beside, 0, width);
+  const y = nearest(camera.y, top - GATHER.above, bottom + GATHER.above, RIMS.above, height - RIMS.legend);
+  if (Math.abs(x - camera.x) + Math.abs(y - camera.y) < 0.5) return;
+  Object.assign(camera, { x, y });
   applyCamera();
 }
 
@@ -71,7 +110,7 @@ function withinNet(x, y) {
 function focusPoint() {
   const shown = shownToken();
   if (shown) return restPoint(shown.token);
-  const move = view.run.lastMove();
+  const move = toldMove();
   return view.layout.places[move ? move.node : view.net.nodes.length - 1];
 }
 
@@ -96,10 +135,54 @@ function follow(point, share) {
   applyCamera();
 }
 
+// What lies over the picture: its buttons, the map, the legend, the words of a signature.
+function covers() {
+  const { left, top } = byId("picture").getBoundingClientRect();
+  return ["#net .tools", "#map", "#net .legend", "#chain"].map(it => document.querySelector(it)).filter(it => it.offsetParent).map(it => {
+    const box = it.getBoundingClientRect();
+    return { left: box.left - left, top: box.top - top, right: box.right - left, bottom: box.bottom - top };
+  });
+}
+
+// Moves the picture a little where something lies over a token, so that as many tokens as possible are seen, above all the one that is
+// looked at, and the node of the move.
+const UNCOVER = { steps: [0, -50, 50, -100, 100, -160, 160, -220, 220], rim: 24, most: 60 };
+function uncover() {
+  if (!view.follow || playing.motion) return;
+  const boxes = covers();
+  const { width, height } = pictureSize();
+  const focus = focusPoint();
+  const points = [...glyphs.values()].slice(0, UNCOVER.most).map(glyph => glyph.place);
+  const move = toldMove();
+  if (move) points.unshift(view.layout.places[move.node]);
+  const onScreen = ({ x, y }) => ({ x: x * camera.scale + camera.x, y: y * camera.scale + camera.y });
+  const places = [focus, ...points].map(onScreen);
+  const { rim } = UNCOVER;
+  const isCovered = (x, y) => boxes.some(it => x > it.left - rim && x < it.right + rim && y > it.top - rim && y < it.bottom + rim);
+  const isOut = (x, y) => x < rim || y < rim || x > width - rim || y > height - rim;
+  if (!places.some(({ x, y }) => isCovered(x, y)) && !isOut(places[0].x, places[0].y)) return;
+  let best = null;
+  for (const byX of UNCOVER.steps) for (const byY of UNCOVER.steps) {
+    let cost = (Math.abs(byX) + Math.abs(byY)) / 400;
+    places.forEach(({ x, y }, at) => {
+      const weight = at === 0 ? 100 : move && at === 1 ? 0.9 : 1;
+      if (isCovered(x + byX, y + byY) || isOut(x + byX, y + byY)) cost += weight;
+    });
+    if (!best || cost < best.cost) best = { byX, byY, cost };
+  }
+  if (best.byX === 0 && best.byY === 0) return;
+  camera.x += best.byX;
+  camera.y += best.byY;
+  applyCamera();
+}
+
 // Larger or smaller, with this point of the picture (its middle where none is given) left where it is.
 function zoom(factor, atX = pictureSize().width / 2, atY = pictureSize().height / 2) {
   camera.moved = true;
-  const scale = Math.min(SCALES.most, Math.max(SCALES.least, camera.scale * factor));
+  zoomTo(Math.min(SCALES.most, Math.max(SCALES.least, camera.scale * factor)), atX, atY);
+}
+
+function zoomTo(scale, atX, atY) {
   const ratio = scale / camera.scale;
   camera.x = atX - (atX - camera.x) * ratio;
   camera.y = atY - (atY - camera.y) * ratio;

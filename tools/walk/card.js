@@ -1,24 +1,26 @@
 // The card beside the token that moved last, with its two stacks, where it hides the least.
 
-const CARD_HEIGHT = 36;
+const CARD_HEIGHT = 50;
 
 function drawCard() {
   const layer = drawing.layers.card;
   layer.replaceChildren();
   const shown = shownToken();
-  if (!view.card || !shown) return;
+  if (!view.card || view.wall || !shown) return;
   const { ticket, token } = shown;
   const room = Math.max(14, Math.min(30, Math.floor((pictureSize().width / camera.scale - 160) / 20)));
   const work = shortStack(token.work, room);
   const boxes = shortStack(token.boxes, room);
-  const width = 52 + Math.max(work.length, boxes.length) * 6.8;
+  const wire = `${token.wire} ${token.direction === "up" ? "↑" : "↓"}`;
+  const width = 52 + Math.max(work.length, boxes.length, wire.length) * 6.8;
   const point = restPoint(token);
   const { x, y } = freeSpot(point, width);
   const line = (name, text, at) => shape("text", { x: 7, y: at }, shape("tspan", { class: "quiet" }, name), text);
   layer.append(
     shape("path", { d: `M${point.x} ${point.y}L${x + width / 2} ${y + CARD_HEIGHT / 2}`, class: "tie" }),
     shape("g", { class: "card", transform: `translate(${x} ${y})` },
-      shape("rect", { width, height: CARD_HEIGHT, rx: 5 }), line("work  ", work, 15), line("boxes ", boxes, 29)));
+      shape("rect", { width, height: CARD_HEIGHT, rx: 5 }), line("wire  ", wire, 15),
+      line("work  ", work, 29), line("boxes ", boxes, 43)));
   const glyph = glyphs.get(ticket);
   if (glyph) drawing.layers.tokens.append(glyph.group);
 }

@@ -24,6 +24,14 @@ function element(tag, attributes = {}, ...children) {
 const BRIEF = 60;
 const brief = text => text.length > BRIEF ? text.slice(0, BRIEF) + "…" : text;
 
+// Scrolls a box so that the first line of what is inside it can be seen.
+function showInside(box, inner) {
+  if (box.scrollHeight <= box.clientHeight) return;
+  const { top, bottom } = inner.getBoundingClientRect();
+  const own = box.getBoundingClientRect();
+  if (top < own.top || Math.min(bottom, top + 22) > own.bottom) box.scrollTop += top - own.top - box.clientHeight / 2;
+}
+
 // The value of one of the style sheet's variables, in the theme that is shown.
 const styleValue = name => getComputedStyle(document.documentElement).getPropertyValue(name).trim();
 

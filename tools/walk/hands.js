@@ -1,15 +1,20 @@
 // Buttons, keys, pointer and files: what each does.
 
-function setTypes(on) {
-  view.types = on;
-  byId("types").setAttribute("aria-pressed", on);
+// Lays the net out and draws it for what is shown beside its wires and how large.
+function layOutAnew() {
   endMotion();
-  view.layout = new Layout(view.net, on);
+  view.layout = new Layout(view.net, view.types, sizesNow());
   forgetMap();
   drawNet();
   drawState();
   if (camera.moved) centre(focusPoint().x, focusPoint().y); else showHome();
   tellState(true);
+}
+
+function setTypes(on) {
+  view.types = on;
+  byId("types").setAttribute("aria-pressed", on);
+  layOutAnew();
 }
 
 function setFollow(on) {
@@ -22,6 +27,20 @@ function setCard(on) {
   view.card = on;
   byId("card").setAttribute("aria-pressed", on);
   drawCard();
+}
+
+function setWall(on) {
+  view.wall = on;
+  byId("wall").setAttribute("aria-pressed", on);
+  document.body.classList.toggle("wall", on);
+  placeProgram();
+  camera.moved = false;
+  if (view.run) layOutAnew();
+}
+
+function setMenu(open) {
+  document.querySelector("header").classList.toggle("open", open);
+  byId("menu").setAttribute("aria-expanded", open);
 }
 
 function setColourBy(what) {
@@ -57,7 +76,7 @@ function fitAll() {
   drawCard();
 }
 
-const marked = () => view.run.lastMove();
+const marked = () => toldMove();
 const PAN = 60;
 
 // What each key does. The list that the page shows is in page.html.
@@ -75,11 +94,14 @@ const KEYS = {
   M: () => marked() && nextOf(view.run.ticketOf, marked().ticket, -1),
   o: goOther,
   g: () => byId("now").select(),
+  r: () => setRounds(view.rounds === null),
   f: () => setFollow(!view.follow),
   t: () => setTypes(!view.types),
   s: () => setCard(!view.card),
-  c: () => setColourBy(view.colourBy === "ticket" ? "worker" : "ticket"),
+  c: () => setColourBy(COLOURED_BY[(COLOURED_BY.indexOf(view.colourBy) + 1) % COLOURED_BY.length]),
   d: turnTheme,
+  w: () => setWall(!view.wall),
+  b: pressKeep,
   p: savePicture,
   x: () => { if (!byId("swap-save").disabled) saveSwap(); },
   0: fitAll,
@@ -93,6 +115,7 @@ const KEYS = {
   ">": () => changeSpeed(1),
   "<": () => changeSpeed(-1),
   "?": () => byId("keys").showModal(),
+  Escape: () => { forgetChain(); setMenu(false); if (view.wall) setWall(false); },
 };
 
 function pressKey(event) {
@@ -119,7 +142,13 @@ const BUTTONS = {
   types: KEYS.t,
   follow: KEYS.f,
   card: KEYS.s,
+  rounds: KEYS.r,
   theme: turnTheme,
+  wall: KEYS.w,
+  "wall-off": KEYS.w,
+  keep: KEYS.b,
+  "beside-away": putAway,
+  menu: () => setMenu(byId("menu").getAttribute("aria-expanded") !== "true"),
   save: savePicture,
   print: () => print(),
   help: KEYS["?"],
@@ -127,20 +156,22 @@ const BUTTONS = {
   "colour-by": KEYS.c,
   other: goOther,
   "swap-save": saveSwap,
+  "swap-run": () => view.runSchedule(swappedSchedule(view.run)),
   "live-all": () => listWire(null),
   "open-files": () => byId("files").click(),
   "open-first": () => byId("files").click(),
+  "first-walk": () => openWalk(JSON.parse(byId("first-data").textContent)),
   "back-to-walk": () => { byId("nothing").hidden = true; },
 };
 
 // Buttons that work where nothing is open.
-const ALWAYS = new Set(["theme", "help", "help-close", "open-files", "open-first"]);
+const ALWAYS = new Set(["menu", "theme", "help", "help-close", "open-files", "open-first", "first-walk"]);
 
 function joinHands() {
   for (const id in BUTTONS) byId(id).addEventListener("click", () => { if (view.run || ALWAYS.has(id)) BUTTONS[id](); });
   document.addEventListener("keydown", pressKey);
-  byId("slider").addEventListener("input", () => jump(Number(byId("slider").value)));
-  byId("now").addEventListener("change", () => jump(Number(byId("now").value) - view.run.first));
+  byId("slider").addEventListener("input", () => jump(wayPlace(Number(byId("slider").value))));
+  byId("now").addEventListener("change", () => jump(wayPlace(Number(byId("now").value) - wayFirst())));
   byId("speed").addEventListener("change", () => setSpeed(Number(byId("speed").value)));
   byId("strip").addEventListener("click", event => { if (view.run) jump(stripAt(event)); });
   byId("strip").addEventListener("pointermove", event => { if (view.run) tellStrip(event); });
@@ -169,6 +200,9 @@ function joinHands() {
     if (!camera.moved) showHome(); else applyCamera();
     drawCard();
   }).observe(byId("net"));
+  joinRows(byId("waiting"), markWaiting);
+  joinRows(byId("round-moves"));
+  byId("waiting").addEventListener("blur", () => markSpans("meant", []));
   joinPointer();
 }
 

@@ -1,6 +1,6 @@
 // Where the text beside each wire is put: just below the node that the wire leaves, on the side where it meets the least.
 
-const LABEL = { height: 11, gap: 6, cell: 24, search: 4000 };
+const LABEL = { cell: 24, search: 4000 };
 
 // What a point belongs to that is no wire's.
 const NODE = -1, TEXT = -2;
@@ -9,28 +9,29 @@ const NODE = -1, TEXT = -2;
 function placeLabels(net, layout, types) {
   const crowd = net.nodes.length <= LABEL.search ? new Crowd(layout) : null;
   return net.wires.map(wire => {
-    const width = wireText(wire, types).length * SIZES.letter;
+    const width = wireText(wire, types).length * layout.sizes.letter;
     const choices = labelChoices(net, layout, wire, types);
     if (!crowd) return choices[0];
     let best = null;
     for (const choice of choices) {
-      choice.cost += crowd.count(boxOf(choice, width), wire.id);
+      choice.cost += crowd.count(boxOf(choice, width, layout.sizes), wire.id);
       if (!best || choice.cost < best.cost) best = choice;
     }
-    crowd.addBox(boxOf(best, width), TEXT);
+    crowd.addBox(boxOf(best, width, layout.sizes), TEXT);
     return best;
   });
 }
 
 function labelChoices(net, layout, wire, types) {
   const [start, next] = layout.points[wire.id];
+  const { gap, label } = layout.sizes;
   const siblings = net.nodes[wire.above].down;
   const outerLeft = siblings.length > 1 ? siblings.indexOf(wire.id) === 0 : next[0] > start[0] + 30 && !types;
   const choices = [];
   for (const [late, share] of (types ? [0.12, 0.2, 0.3] : [0.2, 0.13, 0.3, 0.45]).entries()) {
     for (const left of [outerLeft, !outerLeft]) {
-      const y = curvePoint(start, next, share)[1] + 4;
-      const x = wireEdge(start, next, y, left) + (left ? -LABEL.gap : LABEL.gap);
+      const y = curvePoint(start, next, share)[1] + Math.round(label * 0.36);
+      const x = wireEdge(start, next, y, left, label) + (left ? -gap : gap);
       const side = left === outerLeft ? 0 : 4;
       choices.push({ x, y, anchor: left ? "end" : "start", cost: late * 2 + side });
     }
@@ -39,19 +40,19 @@ function labelChoices(net, layout, wire, types) {
 }
 
 // How far a wire comes to the left, or to the right, where a text with this base line is beside it.
-function wireEdge(start, next, y, left) {
+function wireEdge(start, next, y, left, tall) {
   let far = null;
-  for (let share = 0; share <= 1; share += 0.04) {
+  for (let share = 0; share <= 1; share += 0.02) {
     const [x, height] = curvePoint(start, next, share);
-    if (height < y - LABEL.height || height > y + 2) continue;
+    if (height < y - tall || height > y + tall * 0.3) continue;
     if (far === null || (left ? x < far : x > far)) far = x;
   }
   return far === null ? start[0] : far;
 }
 
-const boxOf = (choice, width) => {
+const boxOf = (choice, width, { label }) => {
   const left = choice.anchor === "end" ? choice.x - width : choice.x;
-  return { left: left - 5, right: left + width + 5, top: choice.y - LABEL.height + 1, bottom: choice.y + 3 };
+  return { left: left - 5, right: left + width + 5, top: choice.y - label + 1, bottom: choice.y + 3 };
 };
 
 // Points of everything that is drawn, by cells of a grid, so that what a box meets is found at once.
@@ -64,8 +65,9 @@ class Crowd {
         for (let step = 0; step < steps; step++) this.add(...curvePoint(points[at - 1], points[at], step / steps), wire);
       }
     });
+    const half = layout.sizes.nodeHeight / 2;
     for (const { x, y, width } of layout.places) {
-      this.addBox({ left: x - width / 2, right: x + width / 2, top: y - SIZES.nodeHeight / 2, bottom: y + SIZES.nodeHeight / 2 }, NODE);
+      this.addBox({ left: x - width / 2, right: x + width / 2, top: y - half, bottom: y + half }, NODE);
     }
   }
 

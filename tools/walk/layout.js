@@ -2,7 +2,13 @@
 // the same way. A part is a rectangle. Its value wire leaves it at the bottom on the left, and right of it leave the variables that are
 // free in it, the innermost binder's first. Each form puts its parts side by side and one row of nodes below them.
 
-const SIZES = { nodeHeight: 26, apart: 32, partsApart: 38, framePad: 22, lane: 24, least: 66, most: 104, letter: 5.9 };
+// How large things are, and how far apart; `letter` is how wide one is beside a wire, and `sign` in a node.
+const SIZES = {
+  nodeHeight: 26, apart: 32, partsApart: 38, framePad: 22, lane: 24, least: 66, most: 104, base: 52, letter: 5.9, sign: 8.2, label: 11,
+  gap: 6,
+};
+// For a wall: larger letters want more room.
+const WALL_SIZES = { ...SIZES, apart: 44, partsApart: 52, lane: 34, least: 84, most: 124, base: 68, letter: 9.6, sign: 10.8, label: 17, gap: 8 };
 
 const SIGNS = {
   Plus: "+", Minus: "−", Times: "×", Succ: "succ", Pred: "pred", Ifz: "ifz", Lam: "λ", App: "@", Fst: "fst", Snd: "snd", Pair: "( , )",
@@ -10,15 +16,15 @@ const SIGNS = {
 };
 const signOf = node => node.name === "Const" ? node.value : SIGNS[node.name] || node.name;
 
-function nodeWidth(node) {
+function nodeWidth(node, sizes) {
   const letters = signOf(node).length + String(node.id).length * 0.8 + 0.8;
-  return Math.max(node.up.length > 1 || node.down.length > 1 ? 50 : 40, Math.round(letters * 8.2 + 14));
+  return Math.max(node.up.length > 1 || node.down.length > 1 ? 50 : 40, Math.round(letters * sizes.sign + 14));
 }
 
 // How far right of its node's middle a wire leaves it.
-function portOffset(node, side, at) {
+function portOffset(node, side, at, sizes) {
   const count = node[side].length;
-  const width = nodeWidth(node);
+  const width = nodeWidth(node, sizes);
   return count === 1 ? 0 : width * (at + 0.5) / count - width / 2;
 }
 
@@ -67,9 +73,10 @@ class Part {
 }
 
 class Layout {
-  constructor(net, types = false) {
+  constructor(net, types = false, sizes = SIZES) {
     this.net = net;
     this.types = types;
+    this.sizes = sizes;
     this.binders = new Int32Array(net.wires.length).fill(-1);
     const stack = [];
     let pending = [];
@@ -96,10 +103,10 @@ class Layout {
 
   // How far a node reaches left and right of its middle, with the texts beside its lower wires where these show types.
   reachOf(node) {
-    const half = nodeWidth(node) / 2;
+    const half = nodeWidth(node, this.sizes) / 2;
     if (!this.types) return [half, half];
-    const text = at => wireText(this.net.wires[node.down[at]], true).length * SIZES.letter + 12;
-    const reach = node.down.map((_, at) => Math.abs(portOffset(node, "down", at)) + text(at));
+    const text = at => wireText(this.net.wires[node.down[at]], true).length * this.sizes.letter + 12;
+    const reach = node.down.map((_, at) => Math.abs(portOffset(node, "down", at, this.sizes)) + text(at));
     if (reach.length === 2) return [Math.max(half, reach[0]), Math.max(half, reach[1])];
     return [half, Math.max(half, reach[0] || 0)];
   }
@@ -120,11 +127,11 @@ class Layout {
 
   leaf(node) {
     const [left, right] = this.reachOf(node);
-    const part = new Part(-left, right, SIZES.nodeHeight);
-    part.nodes.push({ node, x: 0, y: SIZES.nodeHeight / 2 });
-    node.down.forEach((wire, at) => part.points.push({ wire, x: portOffset(node, "down", at), y: SIZES.nodeHeight }));
-    part.value = { wire: node.down[0], x: portOffset(node, "down", 0) };
-    if (node.name === "Der") part.variables = [{ wire: node.down[1], x: portOffset(node, "down", 1) }];
+    const part = new Part(-left, right, this.sizes.nodeHeight);
+    part.nodes.push({ node, x: 0, y: this.sizes.nodeHeight / 2 });
+    node.down.forEach((wire, at) => part.points.push({ wire, x: portOffset(node, "down", at, this.sizes), y: this.sizes.nodeHeight }));
+    part.value = { wire: node.down[0], x: portOffset(node, "down", 0, this.sizes) };
+    if (node.name === "Der") part.variables = [{ wire: node.down[1], x: portOffset(node, "down", 1, this.sizes) }];
     return part;
   }
 
@@ -194,7 +201,7 @@ class Layout {
     const height = Math.max(...parts.map(part => part.height));
     let right = null;
     for (const part of parts) {
-      part.move(right === null ? 0 : right + SIZES.partsApart - part.left, height - part.height);
+      part.move(right === null ? 0 : right + this.sizes.partsApart - part.left, height - part.height);
       right = part.right;
     }
     return new Part(parts[0].left, right, height, parts);
@@ -203,17 +210,17 @@ class Layout {
   // One row of nodes and of wires that pass by, below a part; the ends of their lower wires. An entry is {node, above}, without a node
   // for a wire that passes by; `above` are the ends of wires that come to it.
   row(part, entries) {
-    const offset = (entry, at) => entry.node ? portOffset(entry.node, "up", at) : 0;
+    const offset = (entry, at) => entry.node ? portOffset(entry.node, "up", at, this.sizes) : 0;
     const wanted = entries.map(entry => {
       if (entry.wanted !== undefined) return entry.wanted;
       return entry.above.reduce((sum, end, at) => sum + end.x - offset(entry, at), 0) / entry.above.length;
     });
-    const reach = entries.map(entry => entry.node ? this.reachOf(entry.node) : [SIZES.lane / 2, SIZES.lane / 2]);
-    const places = nearestPlaces(wanted, reach.slice(1).map(([left], at) => reach[at][1] + left + SIZES.apart));
+    const reach = entries.map(entry => entry.node ? this.reachOf(entry.node) : [this.sizes.lane / 2, this.sizes.lane / 2]);
+    const places = nearestPlaces(wanted, reach.slice(1).map(([left], at) => reach[at][1] + left + this.sizes.apart));
     // The farther a wire runs sideways, the taller is the row.
     const far = Math.max(0, ...entries.flatMap((entry, at) => entry.above.map(end => Math.abs(end.x - places[at]))));
-    const top = part.height + Math.min(SIZES.most, Math.max(SIZES.least, 52 + far * 0.17));
-    const bottom = top + SIZES.nodeHeight;
+    const top = part.height + Math.min(this.sizes.most, Math.max(this.sizes.least, this.sizes.base + far * 0.17));
+    const bottom = top + this.sizes.nodeHeight;
     const ends = [];
     entries.forEach((entry, at) => {
       entry.above.forEach((end, port) => {
@@ -221,7 +228,7 @@ class Layout {
       });
       if (entry.node) {
         part.nodes.push({ node: entry.node, x: places[at], y: (top + bottom) / 2 });
-        entry.node.down.forEach((wire, port) => ends.push({ wire, x: places[at] + portOffset(entry.node, "down", port) }));
+        entry.node.down.forEach((wire, port) => ends.push({ wire, x: places[at] + portOffset(entry.node, "down", port, this.sizes) }));
       } else ends.push({ wire: entry.above[0].wire, x: places[at] });
       part.left = Math.min(part.left, places[at] - reach[at][0]);
       part.right = Math.max(part.right, places[at] + reach[at][1]);
@@ -255,9 +262,9 @@ class Layout {
 
   // A part with a frame around it. The nodes of its last row are on the frame's edge.
   framed(inner, node) {
-    const pad = SIZES.framePad;
+    const pad = this.sizes.framePad;
     inner.frame = {
-      left: inner.left - pad, right: inner.right + pad, top: -pad, bottom: inner.height - SIZES.nodeHeight / 2,
+      left: inner.left - pad, right: inner.right + pad, top: -pad, bottom: inner.height - this.sizes.nodeHeight / 2,
       depth: this.net.wires[node.up[0]].depth, fix: node.name === "FixBox",
     };
     inner.move(0, pad);
@@ -275,7 +282,7 @@ class Layout {
       const [part, outerX, outerY] = todo.pop();
       const x = outerX + part.x;
       const y = outerY + part.y;
-      for (const own of part.nodes) this.places[own.node.id] = { x: own.x + x, y: own.y + y, width: nodeWidth(own.node) };
+      for (const own of part.nodes) this.places[own.node.id] = { x: own.x + x, y: own.y + y, width: nodeWidth(own.node, this.sizes) };
       for (const own of part.points) points[own.wire].push([own.x + x, own.y + y]);
       const frame = part.frame;
       if (frame) this.frames.push({ ...frame, left: frame.left + x, right: frame.right + x, top: frame.top + y, bottom: frame.bottom + y });

@@ -20,9 +20,10 @@ function drawLog() {
 function logLine(at) {
   const { run } = view;
   const move = run.move(at);
-  const when = at === run.state.at - 1 ? " now" : at >= run.state.at ? " later" : "";
+  const told = view.told ?? run.state.at - 1;
+  const when = at === told ? " now" : at >= run.state.at ? " later" : view.rounds && at >= wayOn(-1) ? " too" : "";
   const ticket = element("b", {}, "t" + move.ticket);
-  ticket.style.color = colourOf(move.ticket, move.worker);
+  ticket.style.color = moveColour(move);
   const line = element("div", { class: "line" + when, title: run.trace.lines[at], "data-at": at },
     element("span", { class: "count" }, String(move.number)), ticket, ` ${move.name} ${move.node}  ${brief(logEnd(move))}`);
   line.style.top = at * LOG_LINE + "px";
@@ -42,7 +43,7 @@ function logEnd(move) {
 // Has the line of the last move in sight.
 function scrollLog() {
   const box = byId("log");
-  const top = (view.run.state.at - 1) * LOG_LINE;
+  const top = (view.told ?? view.run.state.at - 1) * LOG_LINE;
   if (top < box.scrollTop + LOG_LINE || top > box.scrollTop + box.clientHeight - 2 * LOG_LINE) {
     box.scrollTop = Math.max(0, top - box.clientHeight / 2);
   }

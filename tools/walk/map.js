@@ -37,7 +37,7 @@ function drawMap() {
   for (const [ticket, token] of view.run.state.live) {
     if (++count > MAP.tokens) break;
     const { x, y } = restPoint(token);
-    brush.fillStyle = styleValue("--k" + ticket % COLOURS);
+    brush.fillStyle = styleValue("--k" + tokenNumber(ticket) % COLOURS);
     brush.fillRect(measure.x(x) - 2, measure.y(y) - 2, 4, 4);
   }
   brush.strokeStyle = styleValue("--accent");

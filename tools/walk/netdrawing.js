@@ -113,8 +113,8 @@ function drawFrame({ left, right, top, bottom, depth, fix }) {
   return shape("rect", { class: "frame " + kind, x: left, y: top, width: right - left, height: bottom - top, rx: 9 });
 }
 
-function drawWire(wire) {
-  return shape("path", { class: "wire " + wire.kind, d: wirePath(view.layout.points[wire.id]) },
+function drawWire(wire, layout = view.layout) {
+  return shape("path", { class: "wire " + wire.kind, d: wirePath(layout.points[wire.id]) },
     shape("title", {}, `wire ${wire.id}, ${wire.kind}, ${wire.type}`));
 }
 
@@ -174,33 +174,32 @@ function pathOf(wire) {
   return drawing.paths.get(wire);
 }
 
-// The node of the last move, drawn once more on top.
-let markedNode = null;
-function markNode(id) {
-  if (id === markedNode) return;
-  markedNode = id;
-  drawing.layers.mark.replaceChildren();
-  if (id === null) return;
-  const node = drawNode(view.net.nodes[id], view.layout.places[id]);
-  node.classList.add("at");
-  drawing.layers.mark.append(node);
+// The nodes at which tokens moved last, drawn once more on top; the first is that of the move that is told.
+let markedNodes = [];
+function markNodes(ids) {
+  if (ids.join() === markedNodes.join()) return;
+  markedNodes = ids;
+  drawing.layers.mark.replaceChildren(...ids.map((id, at) => {
+    const node = drawNode(view.net.nodes[id], view.layout.places[id]);
+    node.classList.add(at === 0 ? "at" : "too");
+    return node;
+  }).reverse());
 }
 
 // The wires that the ticket of the last move went before, the latest the boldest.
 const TRAIL = 10;
 function drawTrail() {
   const { run } = view;
-  const last = run.lastMove();
+  const last = toldMove();
   const trail = drawing.layers.trail;
   trail.replaceChildren();
   if (!last) return;
-  const colour = colourOf(last.ticket, last.worker);
   let length = 0;
   for (let at = run.state.at - 1; at >= Math.max(0, run.state.at - 400) && length < TRAIL; at--) {
     const move = run.move(at);
     const born = move.kind === "fork" && move.ticket2 === last.ticket;
     if (move.ticket !== last.ticket && !born) continue;
-    const style = `stroke:${colour};stroke-width:${7 - length * 0.4};opacity:${(0.34 * (1 - length / TRAIL)).toFixed(2)}`;
+    const style = `stroke:${moveColour(last)};stroke-width:${7 - length * 0.4};opacity:${(0.34 * (1 - length / TRAIL)).toFixed(2)}`;
     trail.append(shape("path", { d: wirePath(view.layout.points[move.before.wire]), style }));
     length++;
     if (born) break;

@@ -3,27 +3,29 @@
 // {name, file, program, net, trace}. Nothing that is open changes where these can't be shown.
 function openWalk({ name, file, program, net: netText, trace: traceText }) {
   const net = readNet(netText);
-  const layout = new Layout(net, view.types);
-  const run = new Run(readTrace(traceText), net);
+  const layout = new Layout(net, view.types, sizesNow());
+  const term = readTerm(net);
+  const questions = new Questions(net, term, readTrace(traceText));
+  const { run } = questions;
   if (playing.on || playing.motion) pause();
-  Object.assign(view, { name, file: file || name, program, netText, net, layout, run, onlyWire: null, address: "" });
+  Object.assign(view, { name, file: file || name, program, netText, traceText, net, layout, run, questions, onlyWire: null, address: "" });
   camera.moved = false;
   forgetMap();
   forgetStrip();
   document.title = name + " · a walk of goi";
   byId("name").textContent = name;
-  byId("summary").textContent = summaryText();
-  byId("slider").max = run.length;
-  byId("now").min = run.first;
-  byId("now").max = run.first + run.length;
-  byId("of").textContent = run.trace.moves === null ? run.first + run.length : run.trace.moves;
   byId("nothing").hidden = true;
   document.body.classList.remove("closed");
-  drawProgram();
+  drawProgram(term);
+  Object.assign(view, { alone: { run, questions }, together: null, rounds: null, told: null });
+  tellWay();
+  byId("summary").textContent = summaryText();
+  forgetChain();
   drawNet();
   sizeLog();
   show(0, true);
   showHome();
+  view.opened();
 }
 
 function summaryText() {
@@ -33,6 +35,10 @@ function summaryText() {
   const parts = [value === null ? `no value within ${moves} moves` : `value ${value}, ${many(moves, "move")}`];
   if (!run.whole && lines.length > 0) parts.push(`here moves ${run.first} to ${run.first + run.length - 1}`);
   parts.push(many(net.nodes.length, "node"), many(run.tickets(), "ticket"));
+  if (whyNoRounds(run) === null) {
+    const { rounds, most } = view.questions.span;
+    parts[0] += most > 1 ? ` in ${many(rounds, "round")} of at most ${most}` : "";
+  }
   if (run.workers > 1) parts.push(many(run.workers, "worker"));
   return parts.join(" · ");
 }

@@ -4,9 +4,9 @@ const ROWS_SHOWN = 60;
 const CELLS_SHOWN = 6;
 
 // A ticket's number; a press goes to its next move.
-function ticketButton(ticket, worker, text) {
+function ticketButton(ticket, inColour, text) {
   const button = element("button", { class: "ticket", title: "to the next move of ticket " + ticket, "data-ticket": ticket }, text);
-  button.style.color = colourOf(ticket, worker);
+  button.style.color = inColour;
   button.setAttribute("aria-label", "ticket " + ticket + ", to its next move");
   button.addEventListener("click", () => nextOf(view.run.ticketOf, ticket, 1));
   return button;
@@ -14,20 +14,39 @@ function ticketButton(ticket, worker, text) {
 
 // The move at this place of the trace; null at the beginning.
 function tellMove(move) {
+  tellRound(move);
+  tellMoveInPanel(move);
+  tellMoveInLine(move);
+}
+
+// The same in the line that is shown where the panels are below or put away.
+function tellMoveInLine(move) {
+  const rule = move ? ruleOf(move) : null;
+  const say = byId("say").querySelector("p");
+  byId("told-title").textContent = move ? `${rule.title}. ` : "";
+  byId("told-say").textContent = say ? say.textContent : "";
+  const shown = move ? move.after || move.before : (shownToken() || { token: null }).token;
+  byId("told-stacks").textContent = shown ? `work ${spacedStack(shown.work)}   boxes ${spacedStack(shown.boxes)}` : "";
+}
+
+const spacedStack = stack => stack === "-" ? "empty" : stackParts(stack).map(brief).join(" · ");
+
+function tellMoveInPanel(move) {
   if (!move) return tellStart();
   const rule = ruleOf(move);
   const asks = move.before.value === "?";
   const worker = view.run.workers > 1 ? ` worker ${move.worker},` : "";
   const what = asks ? " a question" : ` an answer, ${move.before.value},`;
-  const who = element("div", {}, ticketButton(move.ticket, move.worker, "ticket " + move.ticket), `${worker}${what} at node ${move.node}`);
+  const who = element("div", {}, ticketButton(move.ticket, moveColour(move), "ticket " + move.ticket), `${worker}${what} at node ${move.node}`);
   const parts = [element("div", { class: "title" }, rule.title), who, element("p", {}, rule.say)];
   if (rule.from) {
     const arrow = element("span", { role: "img", "aria-label": "becomes" }, "→");
-    parts.push(element("div", { class: "rule" }, rulePlace(rule.from, move.before), arrow, rulePlace(rule.to, move.after)));
+    parts.push(element("div", { class: "rule" }, rulePlace(rule.from, move.before), arrow, rulePlace(rule.to, move.after),
+      ruleInstance(rule, move)));
   }
   if (move.kind === "answer") parts.push(element("p", {}, element("b", {}, "value " + move.value)));
   byId("say").replaceChildren(...parts);
-  tellStacks(move.before, move.after || move.before);
+  tellStacks(move.before, move.after || move.before, view.questions.given[move.number - view.run.first]);
 }
 
 function tellStart() {
@@ -36,7 +55,7 @@ function tellStart() {
   const title = element("div", { class: "title" }, first === 0 ? "The run begins" : "The part from move " + first + " on");
   if (!shown) {
     byId("say").replaceChildren(title, element("p", {}, "No token is live here."));
-    tellStacks({ work: "-", boxes: "-" }, { work: "-", boxes: "-" });
+    tellStacks({ work: "-", boxes: "-" }, { work: "-", boxes: "-" }, { work: null, boxes: null });
     return;
   }
   const { ticket, token } = shown;
@@ -44,7 +63,7 @@ function tellStart() {
     ? `One token, under ticket ${ticket}, asks for the program's value. The question goes up wire ${token.wire}. Both its stacks are empty.`
     : `So many tokens are live before move ${first}: ${view.run.state.live.size}. The least ticket is ${ticket}.`;
   byId("say").replaceChildren(title, element("p", {}, text));
-  tellStacks(token, token);
+  tellStacks(token, token, view.questions.of(ticket, token));
 }
 
 // One side of a row of the table.
@@ -53,9 +72,40 @@ function rulePlace([port, direction, work, boxes], token) {
   return element("div", {}, place, element("span", { class: "code" }, work + (boxes === "t" ? "" : " at " + boxes)));
 }
 
-function tellStacks(before, after) {
-  byId("work").replaceChildren(stackCells(before.work, after.work));
-  byId("boxes").replaceChildren(stackCells(before.boxes, after.boxes));
+// What the row's letters stand for in this move.
+function ruleInstance({ from, to }, move) {
+  const letters = new Map([...lettersOf(from, move.before), ...lettersOf(to, move.after)]);
+  const texts = ["s", "u", "m", "t"].filter(letter => letters.has(letter)).map(letter => {
+    const text = letters.get(letter);
+    return element("span", { title: text }, element("i", {}, letter + " = "), text.length > 34 ? text.slice(0, 33) + "…" : text);
+  });
+  return element("div", { class: "instance" }, ...texts);
+}
+
+// The letters of a row's place with what they stand for. The rest of the box stack is left out where the row leaves it alone.
+function lettersOf([, , work, boxes], token) {
+  const found = [];
+  const match = (pattern, stack) => {
+    const parts = stackParts(stack);
+    const wanted = pattern.split(".");
+    wanted.forEach((part, at) => {
+      const own = parts[at] || "~";
+      const pair = /^(?:<(.*)>|y\((.*)\))$/.exec(own);
+      if (at === wanted.length - 1) found.push([part, parts.slice(at).join(".") || "empty"]);
+      else if (part.length === 1 && /[su]/.test(part)) found.push([part, own]);
+      else if (/^[lr] s$/.test(part)) found.push(["s", own.slice(1)]);
+      else if (pair && part.length > 1) halves(pair[1] ?? pair[2]).forEach((half, side) => found.push([part.match(/[su]/g)[side], half]));
+    });
+  };
+  match(work, token.work);
+  if (boxes !== "t") match(boxes, token.boxes);
+  return found;
+}
+
+// `whole` has the marks of both stacks.
+function tellStacks(before, after, whole) {
+  byId("work").replaceChildren(stackCells(before.work, after.work, whole.work, false));
+  byId("boxes").replaceChildren(stackCells(before.boxes, after.boxes, whole.boxes, true));
   byId("work-count").textContent = wholeStack(after.work).count;
   byId("boxes-count").textContent = wholeStack(after.boxes).count;
   tellOther();
@@ -80,23 +130,34 @@ function commonParts(old, now) {
   return same;
 }
 
-// A stack after a move: what came off, what was put on top, and the rest.
-function stackCells(before, after) {
+// A stack after a move: what came off, what was put on top, and the rest. A signature is pressed to be told in words.
+function stackCells(before, after, whole, isBoxes) {
   const [old, now] = [wholeStack(before), wholeStack(after)];
   const same = commonParts(old, now);
   const fresh = now.count - same;
   const rest = now.parts.slice(fresh, fresh + CELLS_SHOWN);
-  const cell = (kind, note) => part => element("div", { class: kind, title: note + part }, brief(part));
-  const cells = element("div", { class: "cells" }, ...old.parts.slice(0, old.count - same).map(cell("cell gone", "came off: ")),
-    ...now.parts.slice(0, fresh).map(cell("cell new", "new: ")), ...rest.map(cell("cell", "")));
+  const marks = marksIn(whole, fresh + rest.length);
+  const gone = part => element("div", { class: "cell gone", title: "came off: " + part }, brief(part));
+  const cell = (part, at) => stackCell(at < fresh ? "cell new" : "cell", (at < fresh ? "new: " : "") + part, part, marks[at], isBoxes);
+  const cells = element("div", { class: "cells" }, ...old.parts.slice(0, old.count - same).map(gone),
+    ...[...now.parts.slice(0, fresh), ...rest].map(cell));
   if (same > rest.length) cells.append(element("div", { class: "empty" }, `and ${same - rest.length} below`));
   if (now.count === 0) cells.append(element("div", { class: "empty" }, "empty"));
   return cells;
 }
 
+function stackCell(kind, title, part, at, isBoxes) {
+  const words = at ? shortWords(at.mark, isBoxes ? at : null) : "";
+  if (words === "") return element("div", { class: kind, title }, brief(part));
+  const button = element("button", { class: kind, title, "aria-label": `${brief(part)}: ${words}` }, brief(part),
+    element("span", { class: "words" }, words));
+  button.addEventListener("click", () => tellChain(at.mark, isBoxes ? at : null));
+  return button;
+}
+
 function tellTables() {
   const { state } = view.run;
-  const move = view.run.lastMove();
+  const move = toldMove();
   const mover = move ? move.ticket : -1;
   const all = [...state.live].sort((one, two) => one[0] - two[0]);
   const { onlyWire } = view;
@@ -144,26 +205,40 @@ function cutRow(count, columns) {
 }
 
 function liveRow(ticket, token, moved) {
-  const worker = view.run.lastWorkerOf(ticket);
-  const looks = [token.value, token.direction, token.wire, token.work, token.boxes, colourOf(ticket, worker), moved].join(" ");
-  return { key: String(ticket), looks, make: () => makeLiveRow(ticket, token, moved, worker) };
+  const looks = [token.value, token.direction, token.wire, token.work, token.boxes, tokenColour(ticket), moved].join(" ");
+  return { key: String(ticket), looks, make: () => makeLiveRow(ticket, token, moved) };
 }
 
-function makeLiveRow(ticket, token, moved, worker) {
-  const code = text => element("td", { class: "code", title: text }, brief(text));
-  const button = ticketButton(ticket, worker, String(ticket));
+function makeLiveRow(ticket, token, moved) {
+  const { work, boxes } = view.questions.of(ticket, token);
+  const button = ticketButton(ticket, tokenColour(ticket), String(ticket));
   const does = token.value === "?" ? "asks" : "= " + token.value;
   const where = token.wire + (token.direction === "up" ? " ↑" : " ↓");
   return element("tr", moved ? { class: "now" } : {}, element("td", {}, button), element("td", {}, does), element("td", {}, where),
-    code(token.work), code(token.boxes));
+    stackText(token.work, work, false), stackText(token.boxes, boxes, true));
 }
 
-function openRow({ node, boxes, left, right }) {
+// A stack in a table; a press tells its uppermost signature in words.
+function stackText(text, stack, isBoxes) {
+  const top = marksIn(stack, 9).find(({ mark }) => mark.s || mark.sign === "*");
+  if (!top) return element("td", { class: "code", title: text }, brief(text));
+  const button = element("button", { class: "told", "aria-label": brief(text) + ", in words" }, brief(text));
+  button.addEventListener("click", () => tellChain(top.mark, isBoxes ? top : null));
+  return element("td", { class: "code", title: text }, button);
+}
+
+function openRow({ node, boxes, left, right, line }) {
   const name = view.net.nodes[node].name + " " + node;
   const sides = [left, right].map(side => side === null ? "waits" : side);
-  const make = () => element("tr", {}, element("td", {}, name), element("td", { class: "code", title: boxes }, brief(boxes)),
+  const make = () => element("tr", {}, element("td", {}, name), stackText(boxes, wholeBoxes(line), true),
     ...sides.map(side => element("td", {}, side)));
   return { key: name + " " + boxes, looks: sides.join(" "), make };
+}
+
+// The whole box stack of a fork: that of the line that opened it, where that is here.
+function wholeBoxes(line) {
+  const given = line === undefined ? undefined : view.questions.given[line - view.run.first];
+  return given ? given.boxes : null;
 }
 
 function answerText() {
@@ -177,7 +252,8 @@ function answerText() {
 function tellSwap() {
   const why = whyNoSwap(view.run);
   const { run } = view;
-  byId("swap-save").disabled = why !== null;
+  for (const id of ["swap-save", "swap-run"]) byId(id).disabled = why !== null;
+  byId("swap-run").hidden = view.runSchedule === null;
   byId("swap-how").hidden = why !== null;
   if (why !== null) { byId("swap-say").textContent = why; return; }
   const [one, two] = [run.move(run.state.at), run.move(run.state.at + 1)];

@@ -9,7 +9,10 @@ const wantsStillness = matchMedia("(prefers-reduced-motion: reduce)");
 function show(at, quiet = false, chosen = null) {
   endMotion();
   view.chosen = chosen;
-  view.run.go(at);
+  at = Math.max(0, Math.min(view.run.length, at));
+  const end = wholeWay(at);
+  view.told = end === at ? null : at - 1;
+  view.run.go(end);
   drawState();
   tellState(quiet);
 }
@@ -17,9 +20,11 @@ function show(at, quiet = false, chosen = null) {
 // Everything that tells the state in words, and the picture's marks.
 function tellState(quiet) {
   const { run } = view;
-  const move = run.lastMove();
-  markNode(move ? move.node : null);
+  const move = toldMove();
+  markNodes(nodesOfLast(move));
   follow(focusPoint(), 1);
+  gather();
+  uncover();
   const now = performance.now();
   // While many moves pass in a second, words come now and then.
   const passing = playing.on && playing.speed > 20 && run.state.at < run.length && now - playing.told < 120;
@@ -29,27 +34,33 @@ function tellState(quiet) {
     drawCard();
     markProgram(move ? move.node : null);
     tellMove(move);
+    tellWaiting();
     tellTables();
     tellSwap();
     scrollLog();
+    tellBeside();
   }
+  document.body.classList.toggle("begun", run.state.at > 0);
   drawStrip();
-  byId("slider").value = run.state.at;
-  byId("slider").setAttribute("aria-valuetext", `${movesMade()} of ${run.first + run.length} moves`);
-  if (document.activeElement !== byId("now") || !playing.on) byId("now").value = movesMade();
+  byId("slider").value = wayMade();
+  const unit = view.rounds ? "rounds" : "moves";
+  byId("slider").setAttribute("aria-valuetext", `${wayFirst() + wayMade()} of ${wayFirst() + wayLength()} ${unit}`);
+  if (document.activeElement !== byId("now") || !playing.on) byId("now").value = wayFirst() + wayMade();
   const rule = move ? ruleOf(move) : null;
-  const text = move ? `Move ${move.number}, ticket ${move.ticket}. ${rule.title}. ${rule.say}` : "The run begins.";
+  const round = move && view.rounds ? byId("round-title").textContent + ". " : "";
+  const text = move ? `${round}Move ${move.number}, ticket ${move.ticket}. ${rule.title}. ${rule.say}` : "The run begins.";
   const count = run.state.live.size;
   byId("picture").setAttribute("aria-label", `A net with ${count} live ${count === 1 ? "token" : "tokens"}. ${text}`);
   if (!quiet) byId("announce").textContent = text;
   if (!playing.on) rememberPlace();
 }
 
-// The number of moves is in the address, so that a place can be passed on.
+// The number of moves, or of rounds, is in the address, so that a place can be passed on.
 let placeTimer = 0;
 function rememberPlace() {
   clearTimeout(placeTimer);
-  placeTimer = setTimeout(() => history.replaceState(null, "", `#${view.address}move=${movesMade()}`), 300);
+  const place = () => view.rounds ? "round=" + wayMade() : "move=" + movesMade();
+  placeTimer = setTimeout(() => history.replaceState(null, "", "#" + view.address + place()), 300);
 }
 
 function endMotion() {
@@ -60,31 +71,35 @@ function endMotion() {
   finish();
 }
 
-// Makes the next move with motion: the token runs into the node and out of it again.
+// Makes the next move, or the next round, with motion: the token runs into the node and out of it again.
 function step(then = () => {}) {
   const { run } = view;
   if (run.state.at >= run.length) { pause(); return; }
   const time = MOVE_TIME / playing.speed;
-  if (wantsStillness.matches || time < 25 || document.hidden) { show(run.state.at + 1, playing.on); then(); return; }
+  if (wantsStillness.matches || time < 25 || document.hidden) { show(wayOn(1), playing.on); then(); return; }
   endMotion();
   const at = run.state.at;
-  const move = run.move(at);
-  const glyphsMoved = startMotion(move);
+  const moves = movesAtOnce(at);
+  const move = moves[moves.length - 1];
+  drawing.layers.card.replaceChildren();
+  const moved = moves.map(it => ({ move: it, glyphsMoved: startMotion(it) }));
   tellMove(move);
   markProgram(move.node);
-  markNode(move.node);
+  markNodes(nodesOfLast(move));
   const begin = performance.now();
   const frame = now => {
     const share = Math.min(1, (now - begin) / time);
-    drawMotion(move, glyphsMoved, share < 0.5 ? 2 * share * share : 1 - (2 - 2 * share) ** 2 / 2);
+    const eased = share < 0.5 ? 2 * share * share : 1 - (2 - 2 * share) ** 2 / 2;
+    for (const it of moved) drawMotion(it.move, it.glyphsMoved, eased, it.move === move);
     if (share < 1) { playing.motion.frame = requestAnimationFrame(frame); return; }
     endMotion();
     then();
   };
   const finish = () => {
     view.chosen = null;
-    for (const { glyph } of glyphsMoved) glyph.group.style.opacity = 1;
-    run.go(at + 1);
+    view.told = null;
+    for (const { glyphsMoved } of moved) for (const { glyph } of glyphsMoved) glyph.group.style.opacity = 1;
+    run.go(at + moves.length);
     drawState();
     tellState(playing.on);
   };
@@ -93,18 +108,17 @@ function step(then = () => {}) {
 
 // The glyphs that a move moves, each with the token that it becomes; without one where the token ends.
 function startMotion(move) {
-  drawing.layers.card.replaceChildren();
-  const colour = colourOf(move.ticket, move.worker);
+  const own = moveColour(move);
   const glyph = glyphOf(move.ticket);
-  dressGlyph(glyph, move.ticket, move.before, colour);
+  dressGlyph(glyph, move.ticket, move.before, own);
   drawing.layers.tokens.append(glyph.group);
-  const moved = [{ glyph, ticket: move.ticket, after: move.after, colour }];
+  const moved = [{ glyph, ticket: move.ticket, after: move.after, colour: own }];
   if (move.kind === "fork") {
     const second = glyphOf(move.ticket2);
     second.group.style.opacity = 0;
-    const colour2 = colourOf(move.ticket2, move.worker);
-    dressGlyph(second, move.ticket2, move.after2, colour2);
-    moved.push({ glyph: second, ticket: move.ticket2, after: move.after2, colour: colour2 });
+    const other = view.colourBy === "ticket" ? colour(move.ticket2) : own;
+    dressGlyph(second, move.ticket2, move.after2, other);
+    moved.push({ glyph: second, ticket: move.ticket2, after: move.after2, colour: other });
   }
   return moved;
 }
@@ -112,7 +126,7 @@ function startMotion(move) {
 const between = (from, to, share) => ({ x: from.x + (to.x - from.x) * share, y: from.y + (to.y - from.y) * share });
 
 // A third of the time into the node, then across it, then to where the token rests.
-function drawMotion(move, glyphsMoved, share) {
+function drawMotion(move, glyphsMoved, share, isFollowed) {
   const { before } = move;
   const rest = restDistance(before);
   const end = before.direction === "up" ? 0 : wireLength(before.wire);
@@ -123,17 +137,17 @@ function drawMotion(move, glyphsMoved, share) {
   }
   const left = (share - into) / (1 - into);
   const enters = pointOn(before.wire, end);
-  for (const { glyph, ticket, after, colour } of glyphsMoved) {
+  for (const { glyph, ticket, after, colour: own } of glyphsMoved) {
     if (!after) {
       putGlyph(glyph, between(enters, view.layout.places[move.node], left));
       glyph.group.style.opacity = 1 - left;
       continue;
     }
     glyph.group.style.opacity = 1;
-    dressGlyph(glyph, ticket, after, colour);
+    dressGlyph(glyph, ticket, after, own);
     const point = motionPoint(enters, after, left);
     putGlyph(glyph, point);
-    if (ticket === move.ticket) follow(point, 0.16);
+    if (isFollowed && ticket === move.ticket) follow(point, 0.16);
   }
 }
 
@@ -157,7 +171,7 @@ function playOn() {
   if (run.state.at >= run.length) { pause(); return; }
   const time = MOVE_TIME / playing.speed;
   if (time >= 25 && !wantsStillness.matches && !document.hidden) { step(playOn); return; }
-  show(run.state.at + Math.max(1, Math.round(16 / time)), true);
+  show(wayOn(Math.max(1, Math.round(16 / time))), true);
   setTimeout(playOn, wantsStillness.matches ? Math.max(time, 16) : 16);
 }
 
@@ -187,12 +201,12 @@ function jump(at) {
 
 function forth(count = 1) {
   pause();
-  if (count === 1) step(); else show(view.run.state.at + count);
+  if (count === 1) step(); else show(wayOn(count));
 }
 
 function back(count = 1) {
   pause();
-  show(view.run.state.at - count);
+  show(wayOn(-count));
 }
 
 // To the state behind the next fork, join or answer, or the last one before.
@@ -200,8 +214,8 @@ function nextMark(direction) {
   const { run } = view;
   pause();
   const places = run.marks.map(mark => mark.at + 1);
-  const at = run.state.at;
-  const found = direction > 0 ? places.find(place => place > at) : places.findLast(place => place < at);
+  const { at } = run.state;
+  const found = direction > 0 ? places.find(place => wholeWay(place) > at) : places.findLast(place => wholeWay(place) < at);
   show(found !== undefined ? found : direction > 0 ? run.length : 0);
 }
 
@@ -209,7 +223,7 @@ function nextMark(direction) {
 function nextOf(list, wanted, direction) {
   const { run } = view;
   pause();
-  const from = run.state.at - 1;
+  const from = view.told ?? run.state.at - 1;
   for (let count = 1; count <= run.length; count++) {
     const at = (((from + direction * count) % run.length) + run.length) % run.length;
     if (list[at] === wanted) { show(at + 1); return; }

@@ -7,7 +7,8 @@ function beginSheet() {
   endMotion();
   themeBefore = document.documentElement.dataset.theme || "";
   document.documentElement.dataset.theme = "light";
-  byId("when").textContent = `after ${movesMade()} of ${view.run.trace.moves} moves`;
+  const moves = `${movesMade()} of ${view.run.trace.moves} moves`;
+  byId("when").textContent = view.rounds ? `after ${wayMade()} of ${wayLength()} rounds` : `after ${moves}`;
   const whole = drawing.range === null;
   const { left, right, top, bottom } = whole ? { ...view.layout.bounds, ...reach(20) } : shownRange();
   byId("picture").setAttribute("viewBox", [left, top - 20, right - left, bottom - top + 40].map(Math.round).join(" "));

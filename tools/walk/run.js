@@ -2,8 +2,8 @@
 // now and then, and what lies between is folded again when somebody goes there.
 
 class Run {
-  // Reads every line once and holds it against the net.
-  constructor(trace, net) {
+  // Reads every line once and holds it against the net. Whoever watches is given each move with its place.
+  constructor(trace, net, watch) {
     this.net = net;
     this.trace = trace;
     this.length = trace.lines.length;
@@ -17,7 +17,7 @@ class Run {
     this.workerOf = new Int32Array(this.length);
     this.state = this.start();
     this.kept = [{ at: 0, live: new Map(this.state.live), open: new Map(this.state.open), answer: this.state.answer }];
-    this.scan();
+    this.scan(watch);
     this.go(0);
   }
 
@@ -39,7 +39,7 @@ class Run {
     return { at: 0, live, open, answer: live.size === 0 ? this.trace.value : null };
   }
 
-  scan() {
+  scan(watch) {
     for (let at = 0; at < this.length; at++) {
       const line = this.trace.lines[at];
       const move = readMove(line);
@@ -50,6 +50,7 @@ class Run {
       this.workerOf[at] = move.worker;
       this.workers = Math.max(this.workers, move.worker + 1);
       if (move.kind !== "solo") this.marks.push({ at, kind: move.kind });
+      watch(move, at);
       this.apply(move);
       // A kept state costs what is live, so that they are the farther apart the more is live.
       const last = this.kept[this.kept.length - 1].at;
@@ -148,4 +149,4 @@ class Run {
 Run.GRAIN = 256;
 
 // An open fork, before an answer has come.
-const newEntry = ({ node, before }) => ({ node, boxes: before.boxes, left: null, right: null });
+const newEntry = ({ node, before, number }) => ({ node, boxes: before.boxes, left: null, right: null, line: number });

@@ -18,7 +18,7 @@ function pictureText() {
   copy.setAttribute("viewBox", [left, top - 30, width, height].map(Math.round).join(" "));
   copy.setAttribute("width", Math.round(width));
   copy.setAttribute("height", Math.round(height));
-  const move = run.lastMove();
+  const move = toldMove();
   const when = `${view.name}, after ${movesMade()} of ${run.trace.moves} moves`;
   const last = move ? `${ruleOf(move).title} (ticket ${move.ticket}, node ${move.node})` : "";
   const line = (y, text) => shape("text", { x: left + 10, y: bottom + y, style: "font-size:13px;fill:var(--ink)" }, text);
@@ -52,11 +52,11 @@ function wholePicture() {
     return group;
   };
   const nodes = groupOf(net.nodes, node => drawNode(node, layout.places[node.id]));
-  if (markedNode !== null) nodes.children[markedNode].classList.add("at");
+  markedNodes.forEach((id, at) => nodes.children[id].classList.add(at === 0 ? "at" : "too"));
   const labels = groupOf(net.wires, wire => drawLabel(wire, drawing.labelPlaces[wire.id]));
   const changing = [entries, piles, card, tokens].map(layer => layer.cloneNode(true));
   return shape("svg", { role: "img", "aria-label": byId("picture").getAttribute("aria-label") },
-    groupOf(layout.frames, drawFrame), groupOf(net.wires, drawWire), trail.cloneNode(true), labels, nodes, ...changing);
+    groupOf(layout.frames, drawFrame), groupOf(net.wires, wire => drawWire(wire)), trail.cloneNode(true), labels, nodes, ...changing);
 }
 
 // The rules of what a picture has.

@@ -3,8 +3,12 @@
 function goToAddress(hash = location.hash) {
   const wanted = new URLSearchParams(hash.slice(1));
   if (wanted.has("theme")) setTheme(wanted.get("theme"));
+  if (wanted.has("wall")) setWall(true);
+  if (COLOURED_BY.includes(wanted.get("colour"))) setColourBy(wanted.get("colour"));
   if (wanted.has("types") && !view.types) setTypes(true);
   if (wanted.has("zoom")) zoom(Number(wanted.get("zoom")) / camera.scale);
+  if (wanted.has("round") || view.rounds) setRounds(wanted.has("round"));
+  if (wanted.has("round") && view.rounds) jump(wayPlace(Number(wanted.get("round"))));
   const move = Number(wanted.get("move"));
   if (wanted.has("move") && move !== movesMade()) jump(move - view.run.first);
 }
@@ -26,5 +30,8 @@ function start() {
 window.walk = {
   view, camera, playing, drawing, keys: KEYS, show: jump, showAll, zoom, shownRange, goOther, setSpeed, setTypes, setTheme, setColourBy,
   openFiles, openWalk, goToAddress, saveFile, readNet, readTerm, namesIn, ruleOf, pictureText, whyNoSwap, swappedSchedule,
+  spelled, marksIn, waitingRows, waitingTitle, chainOfMark, textOf, programText, termText,
+  setRounds, inRounds, setWall, stripMarks, Reordered, replayed, scheduleText, readTrace, traceHead, Run,
+  putRows, activeRow, activateRow, joinRows, setProgramHome, fileStem, beside,
 };
 start();

@@ -1,11 +1,19 @@
 // The program's text, read off its net: the nodes of a net that `goi` builds are in the order of the program's parts. It is shown, and
 // nothing depends on it. Names are taken from the program's own text, whose binders are in the same order.
 
-// {root, binders, uses}: the tree of the program's parts, the parts that bind a variable, and for each node below a variable its uses.
+// {root, binders, uses, parts, boxOf}: the tree of the program's parts, the parts that bind a variable, for each node below a variable its
+// uses, the part of each node, and the box of each door.
 function readTerm(net) {
   const stack = [];
+  const boxOf = new Map();
+  let doors = [];
   const take = count => stack.splice(stack.length - count, count);
   for (const node of net.nodes) {
+    if (node.name === "Door") doors.push(node.id);
+    if (node.name === "Box" || node.name === "FixBox") {
+      for (const door of doors) boxOf.set(door, node.id);
+      doors = [];
+    }
     switch (node.name) {
       case "Const": case "Der":
         stack.push({ node, parts: [] });
@@ -27,14 +35,18 @@ function readTerm(net) {
   const root = stack[0];
   const uses = net.nodes.map(() => []);
   const binders = [];
+  const parts = new Map();
   const todo = [root];
   while (todo.length > 0) {
     const part = todo.pop();
+    parts.set(part.node.id, part);
+    if (part.box !== undefined) parts.set(part.box, part);
+    for (const inner of part.parts) inner.around = part;
     if (part.node.name === "Lam" || part.node.name === "FixBox") binders.push(part.node.id);
     if (part.node.name === "Der") part.binder = followVariable(net, part.node, uses);
     todo.push(...part.parts.slice().reverse());
   }
-  return { root, binders, uses };
+  return { root, binders, uses, parts, boxOf };
 }
 
 // From a use of a variable down to its binder; each node on the way notes the use.
@@ -66,11 +78,14 @@ const LEVELS = {
   Const: 9, Der: 9, Pair: 9, Succ: 8, Pred: 8, Fst: 8, Snd: 8, App: 7, Times: 5, Plus: 4, Minus: 4, Ifz: 1, Lam: 1, FixBox: 1,
 };
 
-// {tree, uses}: the text as nested pieces {node, box, pieces}, where a piece is a text or such a piece again.
-function termPieces(net, program) {
-  const { root, binders, uses } = readTerm(net);
+// The name of each binder.
+function namesOfBinders(net, program, binders) {
   const given = namesIn(program, binders.length);
-  const names = new Map(binders.map((id, at) => [id, given ? given[at] : (net.nodes[id].name === "FixBox" ? "f" : "x") + at]));
+  return new Map(binders.map((id, at) => [id, given ? given[at] : (net.nodes[id].name === "FixBox" ? "f" : "x") + at]));
+}
+
+// The term as it is printed: nested pieces {node, box, pieces}, where a piece is a text or such a piece again.
+function termPieces(net, root, names) {
   const show = (part, least) => {
     const { node, parts } = part;
     const inside = at => level => show(parts[at], level);
@@ -78,7 +93,7 @@ function termPieces(net, program) {
     if (LEVELS[node.name] < least) pieces = ["(", ...pieces, ")"];
     return { node: node.id, box: part.box, pieces };
   };
-  return { tree: show(root, 0), uses };
+  return show(root, 0);
 }
 
 function piecesOf(node, [first, second, third], used, bound, net) {

@@ -15,7 +15,7 @@ const SIDE_BY_SIDE = 3;
 function forgetTokens() {
   for (const known of [glyphs, piles, badges, wireLengths, restPoints, besideText]) known.clear();
   answerSign = null;
-  markedNode = null;
+  markedNodes = [];
 }
 
 function wireLength(wire) {
@@ -24,12 +24,15 @@ function wireLength(wire) {
 }
 const pointOn = (wire, distance) => pathOf(wire).getPointAtLength(distance);
 
-// How far along its wire a token waits: near the node that it faces.
-function restDistance({ wire, direction }) {
-  const length = wireLength(wire);
+// How far along a wire of this length a token waits: near the node that it faces.
+function restAlong(length, direction) {
   const near = Math.min(22, length * 0.42);
   return direction === "up" ? near : length - near;
 }
+const restDistance = ({ wire, direction }) => restAlong(wireLength(wire), direction);
+
+// Where a token waits on a path.
+const restOn = (path, { direction }) => path.getPointAtLength(restAlong(path.getTotalLength(), direction));
 
 const spotOf = token => token.wire * 2 + (token.direction === "up" ? 1 : 0);
 function restPoint(token) {
@@ -71,11 +74,17 @@ function ticketTag(ticket, x, y, colour) {
     shape("text", { class: "tag", y: 3.4, style: "fill:" + colour }, String(ticket)));
 }
 
-const putGlyph = (glyph, { x, y }) => glyph.group.setAttribute("transform", `translate(${x.toFixed(2)} ${y.toFixed(2)})`);
+// On the wall tokens and what is beside nodes are larger.
+const glyphScale = () => view.wall ? 1.3 : 1;
+const placed = (x, y, scale = glyphScale()) => `translate(${x.toFixed(2)} ${y.toFixed(2)})` + (scale === 1 ? "" : ` scale(${scale})`);
+function putGlyph(glyph, { x, y }) {
+  glyph.place = { x, y };
+  glyph.group.setAttribute("transform", placed(x, y));
+}
 
 function drawState() {
   const { state } = view.run;
-  const last = view.run.lastMove();
+  const last = toldMove();
   const bySpot = new Map();
   for (const [ticket, token] of state.live) {
     const spot = spotOf(token);
@@ -104,7 +113,7 @@ function moveTexts(bySpot) {
 
 function makeRoom(label, wire) {
   const count = besideText.get(wire) || 0;
-  const aside = drawing.labelPlaces[wire].anchor === "end" ? -9 : 17;
+  const aside = Math.round((drawing.labelPlaces[wire].anchor === "end" ? -9 : 17) * glyphScale());
   if (count === 1) label.setAttribute("transform", `translate(${aside} 0)`); else label.removeAttribute("transform");
   label.classList.toggle("covered", count > 1);
 }
@@ -130,7 +139,7 @@ function drawSpot(spot, tickets, mover, shown) {
     dressGlyph(glyph, ticket, view.run.state.live.get(ticket), tokenColour(ticket));
     putGlyph(glyph, { x: right, y });
     const { value } = view.run.state.live.get(ticket);
-    right += Math.max(26, 16 + value.length * 8.2, 18 + String(ticket).length * 6.3);
+    right += Math.max(26, 16 + value.length * 8.2, 18 + String(ticket).length * 6.3) * glyphScale();
   }
   const more = tickets.length - SIDE_BY_SIDE;
   if (more <= 0) return;
@@ -139,7 +148,7 @@ function drawSpot(spot, tickets, mover, shown) {
   if (pile && pile.text === text && pile.x === right) return;
   if (pile) pile.group.remove();
   const width = 14 + text.length * 7;
-  const group = shape("g", { class: "pile", transform: `translate(${right + width / 2 - 8} ${y})`, "data-wire": token.wire },
+  const group = shape("g", { class: "pile", transform: placed(right + width / 2 * glyphScale() - 8, y), "data-wire": token.wire },
     shape("title", {}, tickets.length + " tokens wait here. Press to list them."),
     shape("rect", { x: -width / 2, y: -9, width, height: 18, rx: 9 }), shape("text", { y: 4 }, text));
   drawing.layers.piles.append(group);
@@ -162,7 +171,8 @@ function drawEntries(open) {
     if (badge) badge.group.remove();
     const place = view.layout.places[node];
     const width = 14 + text.length * 6.4;
-    const group = shape("g", { class: "entry", transform: `translate(${place.x - place.width / 2 - 3 - width / 2} ${place.y})` },
+    const left = place.x - place.width / 2 - 3 - width / 2 * glyphScale();
+    const group = shape("g", { class: "entry", transform: placed(left, place.y) },
       shape("rect", { x: -width / 2, y: -8, width, height: 16, rx: 4 }), shape("text", { y: 3.8 }, text));
     drawing.layers.entries.append(group);
     badges.set(node, { text, group });
@@ -178,7 +188,7 @@ function drawAnswer(answer) {
   const { x, y, width: beside } = view.layout.places[root.id];
   const text = "value " + answer;
   const width = 20 + text.length * 7.6;
-  answerSign = shape("g", { class: "answer", transform: `translate(${x + beside / 2 + 10 + width / 2} ${y})` },
+  answerSign = shape("g", { class: "answer", transform: placed(x + beside / 2 + 10 + width / 2 * glyphScale(), y) },
     shape("rect", { x: -width / 2, y: -13, width, height: 26, rx: 5 }), shape("text", { y: 4.5 }, text));
   drawing.layers.entries.append(answerSign);
 }

@@ -22,9 +22,13 @@ function readTrace(text) {
   throw new Error("The trace has no line `end`.");
 }
 
-// A token is five words: its value or `?`, its direction, its wire, its work stack and its box stack.
-function tokenOf(words, at) {
-  return { value: words[at], direction: words[at + 1], wire: Number(words[at + 2]), work: words[at + 3], boxes: words[at + 4] };
+// The two lines before a trace.
+const traceHead = ({ value, moves }) => `${value === null ? "no value" : "value " + value}\nmoves ${moves}\n`;
+
+// A token is five words: its value or `?`, its direction, its wire, its work stack and its box stack. One that a move brought has the
+// move's number as its line.
+function tokenOf(words, at, line) {
+  return { value: words[at], direction: words[at + 1], wire: Number(words[at + 2]), work: words[at + 3], boxes: words[at + 4], line };
 }
 
 // move K worker W ticket T node N NAME IN OUT TOKEN => ..
@@ -37,8 +41,12 @@ function readMove(line) {
   if (words[17] === "kept") move.kind = "kept";
   else if (words[17] === "answer") { move.kind = "answer"; move.value = words[18]; }
   else {
-    move.after = tokenOf(words, 17);
-    if (words[22] === "fork") { move.kind = "fork"; move.ticket2 = Number(words[23]); move.after2 = tokenOf(words, 24); }
+    move.after = tokenOf(words, 17, move.number);
+    if (words[22] === "fork") {
+      move.kind = "fork";
+      move.ticket2 = Number(words[23]);
+      move.after2 = tokenOf(words, 24, move.number);
+    }
     if (words[22] === "joined") { move.kind = "joined"; move.left = words[23]; move.right = words[24]; }
   }
   return move;

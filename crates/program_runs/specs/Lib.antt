@@ -1,7 +1,14 @@
 -- what a reader has to believe: programs and their faults, what a run of a text's program is, and what is always true of both
+--
+-- Which texts are programs that can be run or looked at, and what is the first fault of one that isn't.
 pub mod Programs
+-- A run of a text's program: its answer, or none within the budget, with the log of its moves, and what they say of the program.
 pub mod Running
+-- What is always true of programs and of their runs.
 pub mod Laws
 -- why there is no run, and the nets on the way to one
+--
+-- Why a text has no run: memory ran out, which may come at any time, or the text has a fault.
 pub mod NoRuns
+-- The nets on which programs run: that of a text's term, and that of its translation by value.
 pub mod Nets

@@ -1,15 +1,27 @@
 -- What public contracts cite, and a reader has to believe, in the order to read it: signatures and stacks, the rows of the calls, stacks
 -- as words, their order, and the laws.
+--
+-- What a token carries: signatures, symbols, and its two stacks.
 pub mod Signatures
+-- The table of the calls on both stacks, a row for each call that wants a shape.
 pub mod Rows
+-- Stacks as words: the numbers that stand for a stack, one after another, from its bottom to its top.
 pub mod Words
+-- Stacks as text, top first.
 pub mod Texts
+-- Box stacks in order: as their words from the bottom, compared as texts are.
 pub mod Order
+-- What holds of stacks, their words and their order, whatever code keeps them.
 pub mod Laws
 -- How the logic stores signatures and stacks, so that models can have them. It says nothing of them.
 pub mod Codes
 -- What private contracts and proofs use alone: how words are read, the top of one stack, and parts of a list that change places.
+--
+-- The stack that words stand for.
 pub mod Reading
+-- What a step on one stack finds at its top, and what it leaves.
 pub mod Tops
+-- Parts of a list that change places, and a part that is put below others.
 pub mod Parts
+-- What the code of texts speaks of: either stack as a list of symbols, the symbol on top, and what is still to be written of a signature.
 pub mod Printing
