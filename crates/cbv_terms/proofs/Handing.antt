@@ -198,6 +198,7 @@ pred_hands t n m s c cs h = record {
       (u, pred_of y, z2, hu, gu, falls_twice i j z2 q2 (falls_twice i z j q1 q), d3);
 }
 
+-- an operator hands its value on: the translation asks both operands, the left one first, and hands on what the operator comes to
 pub binary_hands : (o : Operator) (t : TyTree) (n : ℕ) (m m' : TermTree) (s : Env) (c c' : TermTree) → AllClosed s
     → ((x : TermTree) → Closed x → Good nat n m (close zero (cons x s) c))
     → ((x y : TermTree) → Closed x → Closed y → Good nat n m' (close zero (cons y (cons x s)) c'))

@@ -190,6 +190,7 @@ unary_makes Pred old new d a part made r h e q =
           h.binders;
     }
 
+-- what the code makes of an operator, of what it made of both operands, is the translation of the whole
 pub binary_makes : (o : Operator) (old s new : List Binder) (d : ℕ) (a b : TermTree) (left right made : Made) → AreAround d (reverse old)
     → Makes old s (context_of old) (map_of (d + 1) old) a left
     → Makes s new (context_of s) (map_of (d + 2) s) b right

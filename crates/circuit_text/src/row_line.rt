@@ -37,7 +37,7 @@ pub(crate) fn is_product(operator: Operator) -> bool
     }
 }
 
-// The name of an operation.
+/// The name of an operation.
 fn op_name(row: Row) -> &'static [u8]
     ensures { result.now ≡ op_text (row_view row) }
 {

@@ -4,7 +4,8 @@ use Rattle.std.proofs.Common.{refl}
 use Rattle.pcf_values.specs.declared.operator.Operator.TheVariants.{Plus}
 use Rattle.pcf_values.specs.Named.{the_fun}
 use Rattle.pcf_reader.specs.Grammar.{only_ptype, arrow_type, PType, only_tatom, nat_type, Expr, binding, only_sum, Sum, only_product}
-use Rattle.pcf_reader.specs.Grammar.{summed, only_app, only_atom, applied, Atom, numeral, variable, parens, Program, Written, atom_part, atom_text}
+use Rattle.pcf_reader.specs.Grammar.{summed, only_app, only_atom, applied, Atom, numeral, variable, parens, Program, Written, atom_part}
+use Rattle.pcf_reader.specs.Grammar.{atom_text}
 use Rattle.pcf_reader.specs.Grammar.{expr_text}
 
 -- the length of the text of a sum

@@ -1,4 +1,5 @@
-// What comes of an answer.
+//! What comes of an answer.
+
 use pcf_values::Val;
 
 /// What comes of an answer: it is the first of its fork, or the other side had this value.

@@ -1,7 +1,7 @@
 //! A worker, and what it may do: ask while it has no piece, and make something of the piece that it has.
 //!
-//! Neither type may be let go, nor may what a worker is told. So what a worker brings is handed in before anything else, each piece that it is given is worked, and a
-//! worker that was given none can't ask again.
+//! Neither type may be let go, nor may what a worker is told. So what a worker brings is handed in before anything else, each piece that
+//! it is given is worked, and a worker that was given none can't ask again.
 
 ghost use Rattle.std.specs.Prelude.{◌≡◌, ◌+◌, ◌-◌, ◌^◌, min, None, IfSome, IfNone, IfOk, IfErr};
 ghost use Rattle.gate_workers.specs.declared.turn.Turn.TheVariants.{Piece};

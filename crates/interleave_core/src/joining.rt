@@ -23,7 +23,7 @@ fn both(side: Side, v: Val, w: Val) -> (Val, Val)
     }
 }
 
-// What the entry makes of the ticket's answer.
+/// What the entry makes of the ticket's answer.
 fn arrive(
     live: &LiveTokens,
     joins: &mut JoinTable,

@@ -261,6 +261,7 @@ ifz_no_join false true c x y z k p q r ex ey ez n op d v w s h =
 ifz_no_join false false true x y z k p q r ex ey ez n op d v w s h = let g : solo k r ≡ join n op d v w s = sym ez ∙ h in cc
 ifz_no_join false false false x y z k p q r ex ey ez n op d v w s h = cc
 
+-- an answer that joins at an operator is one of that operator's node, by its number and its operator
 operand_node : (i : ℕ) (op' : Operator) (x y c : ℕ) (u : Val) (a : ℕ) (t : Boxes) (n : ℕ) (op : Operator) (d : Side) (v : Val) (w : ℕ)
     (s : Boxes) → operand_down i op' x y c u a t ≡ join n op d v w s →
     (x' : ℕ) × (y' : ℕ) × (Binary op' x y c ≡ Binary op x' y' w) × (i ≡ n)

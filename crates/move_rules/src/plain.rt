@@ -207,6 +207,7 @@ pub(crate) fn pair_moves(token: &mut Token, a: u32, b: u32, w: u32) -> Result<bo
     Ok(false)
 }
 
+/// Moves a token at the node that takes the left part of a pair.
 fn fst_moves(token: &mut Token, a: u32, w: u32) -> Result<bool, AllocError>
     ensures ok { IfOk result (λ made. Goes (plain_at (Proj Left a w)) token.old made token.new) }
     ensures err { OnErr result (token.new ≡ token.old) }
@@ -223,6 +224,7 @@ fn fst_moves(token: &mut Token, a: u32, w: u32) -> Result<bool, AllocError>
     Ok(false)
 }
 
+/// Moves a token at the node that takes the right part of a pair.
 fn snd_moves(token: &mut Token, a: u32, w: u32) -> Result<bool, AllocError>
     ensures ok { IfOk result (λ made. Goes (plain_at (Proj Right a w)) token.old made token.new) }
     ensures err { OnErr result (token.new ≡ token.old) }
@@ -239,6 +241,7 @@ fn snd_moves(token: &mut Token, a: u32, w: u32) -> Result<bool, AllocError>
     Ok(false)
 }
 
+/// Moves a token at the node that takes the part of a pair on this side.
 pub(crate) fn proj_moves(token: &mut Token, side: Side, a: u32, w: u32) -> Result<bool, AllocError>
     ensures ok { IfOk result (λ made. Goes (plain_at (Proj side a w)) token.old made token.new) }
     ensures err { OnErr result (token.new ≡ token.old) }

@@ -19,7 +19,7 @@ use crate::{Seen, Token};
 use net_build::{Net, Node};
 use std::alloc::AllocError;
 
-// The move through a node that the token faces.
+/// The move through a node that the token faces.
 #[inline(always)]
 fn pass(token: &mut Token, node: &Node) -> Result<bool, AllocError>
     ensures ok { IfOk result (λ made. Passes node.now token.old made token.new) }

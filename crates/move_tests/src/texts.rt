@@ -13,6 +13,7 @@ pub(crate) fn number(word: &str) -> u32 {
     word.parse().unwrap_or(u32::MAX)
 }
 
+/// The node of an operator.
 fn binary(operator: Operator, left: u32, right: u32, wire: u32) -> Node {
     Node::Binary {
         operator,
@@ -22,6 +23,7 @@ fn binary(operator: Operator, left: u32, right: u32, wire: u32) -> Node {
     }
 }
 
+/// The node that takes a part of a pair.
 fn proj(side: Side, operand: u32, wire: u32) -> Node {
     Node::Proj {
         side,

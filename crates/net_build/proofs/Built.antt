@@ -10,7 +10,8 @@ use Rattle.pcf_values.specs.declared.side.Side.TheVariants.{Left, Right}
 use Rattle.pcf_values.specs.Terms.{binary, ifz, lam, fix, app, pair, proj}
 use Rattle.pcf_values.specs.Typing.{HasType}
 use Rattle.net_build.specs.declared.node.Node.{Node}
-use Rattle.net_build.specs.declared.node.Node.TheVariants.{Const, Succ, Pred, Ifz, Der, Con, Weak, Lam, App, BoxNode, Door, FixBox, Root, Binary, Proj}
+use Rattle.net_build.specs.declared.node.Node.TheVariants.{Const, Succ, Pred, Ifz, Der, Con, Weak, Lam, App, BoxNode, Door, FixBox, Root}
+use Rattle.net_build.specs.declared.node.Node.TheVariants.{Binary, Proj}
 use Rattle.net_build.specs.declared.node.Node.TheVariants.{Pair}
 use Rattle.net_build.specs.Nets.{NetTree, premises, conclusions, WireTree, value_wire, var_wire, bang_wire}
 use Rattle.net_build.specs.NetOf.{Part, contract, doors, bound, bound_wire, none_free, one_free, part, type_or_nat, net_of, domain}

@@ -17,7 +17,8 @@ use Rattle.net_build.specs.NetOf.{Part, double_end, ifz_end, lam_end, fix_end, a
 use Rattle.net_build.specs.Views.{wire_of}
 use Rattle.net_build.specs.Building.{HasRoom, context_of, spread, Grows, Spreads, Gives, Builds, BuildsBody, frees, body_frees, wire_type}
 use Rattle.net_build.specs.Building.{Falling, IsPlaced, IsBody, unary_of}
-use Rattle.net_build.specs.Building.{part_at, second_at, third_at, body_at, double_node, double_type, double_here, double_of, giving, ifz_here}
+use Rattle.net_build.specs.Building.{part_at, second_at, third_at, body_at, double_node, double_type, double_here, double_of, giving}
+use Rattle.net_build.specs.Building.{ifz_here}
 use Rattle.net_build.specs.Building.{lam_here, fix_here, app_here, one_at}
 use Rattle.net_build.proofs.Growing.{grows_then, grows_length, kept_type, new_type, new_inside}
 use Rattle.net_build.proofs.Ending.{before, after}
@@ -308,7 +309,8 @@ module _ (s0 s1 : Parts) (d : ℕ) (a b : TermTree) (r1 : Placed) (h : Builds s0
         let f = free_at s0 s1 s2 p r1 h.gives c in
         let f' = free_at s1 s2 s2 q r2 app_i.gives app_i.grows.context in
         let t : wire_type s2 r1.out ≡ p.type = kept_type s1 s2 q.wires q.nodes r1.out app_i.grows h.gives.inside ∙ h.gives.type in
-        λ k. app_end (n k) d (context_of (c k)) (giving (h.gives.out k) (t k) (f k)) (giving (app_i.gives.out k) (app_i.gives.type k) (f' k))
+        λ k. app_end (n k) d (context_of (c k)) (giving (h.gives.out k) (t k) (f k))
+        (giving (app_i.gives.out k) (app_i.gives.type k) (f' k))
 
     -- room for the whole is room for its end
     pub app_close_room : HasRoom s0 d (part_at s0 d (app a b)) → HasRoom s2 d (app_here s2 d r1 r2)

@@ -12,7 +12,8 @@ use Rattle.pcf_values.specs.Terms.{at_side, TyTree, nat, arrow, product, TermTre
 use Rattle.pcf_values.specs.declared.side.Side.{Side}
 use Rattle.pcf_values.specs.Terms.{app, pair, proj}
 use Rattle.net_build.specs.declared.node.Node.{Node}
-use Rattle.net_build.specs.declared.node.Node.TheVariants.{Const, Succ, Pred, Ifz, Der, Con, Weak, Lam, App, BoxNode, Door, FixBox, Root, Binary, Proj}
+use Rattle.net_build.specs.declared.node.Node.TheVariants.{Const, Succ, Pred, Ifz, Der, Con, Weak, Lam, App, BoxNode, Door, FixBox, Root}
+use Rattle.net_build.specs.declared.node.Node.TheVariants.{Binary, Proj}
 use Rattle.net_build.specs.declared.node.Node.TheVariants.{Pair}
 use Rattle.net_build.specs.Nets.{WireTree, NetTree, value_wire, bang_wire, var_wire}
 

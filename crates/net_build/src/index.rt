@@ -41,6 +41,7 @@ fn none_of(alloc: Global, count: usize) -> Result<Vec<Option<u32>>, AllocError>
     vec![in alloc; None; count]
 }
 
+/// Marks a node on the wires that it has on this face.
 fn mark_each(least: &mut Vec<Option<u32>>, face: Face, node: Node, n: u32)
     ensures { least.new.items ≡ marked n (wires_with face node) least.old.items }
 {
@@ -50,6 +51,7 @@ fn mark_each(least: &mut Vec<Option<u32>>, face: Face, node: Node, n: u32)
     mark(least, third, n);
 }
 
+/// The wires that a node has on this face.
 fn on_face(face: Face, node: Node) -> (Option<u32>, Option<u32>, Option<u32>)
     ensures { present (result.0 ∷ result.1 ∷ result.2 ∷ []) ≡ wires_with face node }
 {

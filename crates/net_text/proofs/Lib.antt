@@ -6,7 +6,9 @@ pub mod Standings
 pub mod TypesRead
 -- A wire is read from its line.
 pub mod WiresRead
+-- The names of operators and of parts: by each its own form is found, and none has a line feed.
 pub mod Names
+-- A node is read from its line.
 pub mod NodesRead
 -- A line is read as the definition reads it, where what was read fits and has that very line.
 pub mod LinesFit

@@ -13,7 +13,8 @@ use Rattle.pcf_reader.specs.Machine.{right_of_sum, AppK, first_app, right_of_pro
 use Rattle.pcf_reader.specs.Machine.{TypeK, of_binder, right_of_arrow, in_type_parens, PTypeK, first_ptype, right_of_cross, expr_open}
 use Rattle.pcf_reader.specs.Machine.{product_open, app_open, atom_open, type_open, ptype_open, left_of, extra_of, State, want_expr}
 use Rattle.pcf_reader.specs.Machine.{want_atom, after_atom, want_name, want_colon, want_tatom, after_tatom, go, finish, starts_atom}
-use Rattle.pcf_reader.specs.Machine.{got_atom, begin_atom, after_expr, after_sum, end_product, after_product, end_app, end_type, after_ptype}
+use Rattle.pcf_reader.specs.Machine.{got_atom, begin_atom, after_expr, after_sum, end_product, after_product, end_app, end_type}
+use Rattle.pcf_reader.specs.Machine.{after_ptype}
 use Rattle.pcf_reader.specs.Machine.{end_ptype, after_type_atom, step}
 use Rattle.pcf_reader.proofs.Ends.{ends_app, ends_product, ends_sum, ends_tatom, ends_ptype}
 use Rattle.pcf_reader.proofs.Follows.{Follows, chain, Ready}

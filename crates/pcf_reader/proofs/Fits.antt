@@ -10,7 +10,8 @@ use Rattle.pcf_reader.specs.Tokens.{Close, Dot, Comma, Sign, Arrow, Then, Else, 
 use Rattle.pcf_reader.specs.Grammar.{Type_, only_ptype, arrow_type, PType, only_tatom, times_type, TAtom, nat_type, paren_type, Expr}
 use Rattle.pcf_reader.specs.Grammar.{binding, choice, only_sum, Sum, only_product, summed, Product, only_app, multiplied, App, only_atom}
 use Rattle.pcf_reader.specs.Grammar.{applied, Atom, numeral, variable, parens, pairing, prefixed, type_ty, ptype_ty, tatom_ty, Part}
-use Rattle.pcf_reader.specs.Grammar.{binary, expr_part, sum_part, product_part, app_part_of, atom_part, Written, plain, marked, type_text, ptype_text}
+use Rattle.pcf_reader.specs.Grammar.{binary, expr_part, sum_part, product_part, app_part_of, atom_part, Written, plain, marked, type_text}
+use Rattle.pcf_reader.specs.Grammar.{ptype_text}
 use Rattle.pcf_reader.specs.Grammar.{tatom_text, expr_text, sum_text, product_text, app_text, atom_text}
 use Rattle.pcf_reader.specs.Printed.{ty_level, op_level, right_level, level}
 use Rattle.pcf_reader.specs.Text.{IsShallow, Each}

@@ -1,4 +1,6 @@
+-- The operators by their signs: what holds of each, the level of its form, and the one that stands between types.
 mod Levels
+-- Which tokens may stand behind a phrase without going on with it.
 pub mod Ends
 -- Lists and their parts, above all of written tokens: what holds of each token, and how many nodes they count.
 pub mod Lists

@@ -106,6 +106,7 @@ fn right_level(operator: Operator) -> u8
     if is_sum(operator) { 2 } else { 1 }
 }
 
+/// The level of the grammar that gives a form.
 fn level_of(term: &Named) -> u8
     ensures { result ≡ level (named_of term.now) }
 {

@@ -1,5 +1,6 @@
 -- The place and the height of a node as it is read, whatever stands in its boxes.
 pub mod Places
+-- The height of a term as it is read, whatever its place.
 pub mod Heights
 -- Equal types: their parts, and the test.
 pub mod Types

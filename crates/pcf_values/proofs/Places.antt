@@ -5,6 +5,7 @@ use Rattle.pcf_values.specs.declared.named.Raw.TheVariants as raw
 use Rattle.pcf_values.specs.Named.{place_of}
 use Rattle.pcf_values.specs.Views.{raw_of}
 
+-- a node stands at the place that it is given, whatever its form
 pub raw_place : (r : Raw) (at : ℕ) → place_of (raw_of r at) ≡ at
 raw_place (raw.Number n) at = refl
 raw_place (raw.Name x) at = refl

@@ -46,6 +46,7 @@ fn push(alloc: Global, out: &mut Vec<u8>, tree: &Named, placed: bool) -> Result<
     }
 }
 
+/// How an outline names an operator.
 fn word_of(operator: Operator) -> &'static [u8] {
     match operator {
         Operator::Plus => b"plus",
@@ -54,6 +55,7 @@ fn word_of(operator: Operator) -> &'static [u8] {
     }
 }
 
+/// Adds a place, where places are told.
 fn push_place(alloc: Global, out: &mut Vec<u8>, at: u32, placed: bool) -> Result<(), AllocError> {
     if placed {
         push_number(alloc, out, at as u64)?;

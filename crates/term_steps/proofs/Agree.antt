@@ -14,6 +14,7 @@ use Rattle.term_steps.specs.Steps.{spelled, spell, on_spelled, step}
 use Rattle.term_steps.specs.Names.{named_spelled, named_spell, named_step, Agree}
 use Rattle.term_steps.proofs.Names.{put_once}
 
+-- the next of a tree spells what the next of its term spells
 next_agrees : (at : ℕ) (t : NamedTree) (m : TermTree) → Resolves [] t m → named_spelled (word_at at the_succ t) ≡ spelled (succ_of m)
 next_agrees at (number_at i n) m e = ap (λ m. spelled (succ_of m)) (sym e)
 next_agrees at (name_at i x) m (k, d, e) = ap (λ m. spelled (succ_of m)) (sym e)
@@ -27,6 +28,7 @@ next_agrees at (bind_at i the_fun x a t) m (n, r, e) = ap (λ m. spelled (succ_o
 next_agrees at (bind_at i the_fix x a t) m (n, r, e) = ap (λ m. spelled (succ_of m)) (sym e)
 next_agrees at (apply_at i f a) m (c, d, r, q, e) = ap (λ m. spelled (succ_of m)) (sym e)
 
+-- a tree spells what its term spells
 pub spelled_agrees : (t : NamedTree) (m : TermTree) → Resolves [] t m → named_spelled t ≡ spelled m
 spelled_agrees (number_at i n) m e = ap spelled (sym e)
 spelled_agrees (name_at i x) m (k, d, e) = ap spelled (sym e)
@@ -73,6 +75,7 @@ in_app : (at : ℕ) (a : NamedTree) (b : TermTree) (o : Option NamedTree) (p : O
     Agree (option_map (λ g. apply_at at g a) o) (option_map (λ g. app g b) p)
 in_app at a b o p r h = agree_map (λ g. apply_at at g a) (λ g. app g b) o p (λ u n q. (n, b, q, r, refl)) h
 
+-- an application steps as its term does, whatever form its function has
 app_agrees : (at : ℕ) (f a : NamedTree) (g b : TermTree) → Resolves [] f g → Resolves [] a b → App at a b f g
 app_agrees at (number_at i n) a g b e k = subst (App at a b (number_at i n)) (sym e) (in_app at a b None None k)
 app_agrees at (name_at i x) a g b (j, d, e) k = subst (App at a b (name_at i x)) (sym e) (in_app at a b None None k)
@@ -102,6 +105,7 @@ in_proj : (at : ℕ) (s : Side) (o : Option NamedTree) (p : Option TermTree) →
     Agree (option_map (λ g. word_at at (the_part s) g) o) (option_map (λ g. proj s g) p)
 in_proj at s o p h = agree_map (λ g. word_at at (the_part s) g) (λ g. proj s g) o p (λ u n q. (n, q, refl)) h
 
+-- the part of a pair steps as its term does, whatever form the pair has
 proj_agrees : (at : ℕ) (s : Side) (f : NamedTree) (g : TermTree) → Resolves [] f g → Proj at s f g
 proj_agrees at Left (pair_at i c d) g (p, q, r, s, e) = subst (Proj at Left (pair_at i c d)) (sym e) (λ h. r)
 proj_agrees at Right (pair_at i c d) g (p, q, r, s, e) = subst (Proj at Right (pair_at i c d)) (sym e) (λ h. s)
@@ -143,7 +147,8 @@ step_agrees (word_at i the_pred a) m (b, r, e) = subst (Whole (word_at i the_pre
     (option_map (λ b. word_at i the_pred b) (named_step a)) (option_map pred_of (step b)) (spelled_agrees a b r)
     (λ v. spell_resolves i (val_pred v))
     (agree_map (λ b. word_at i the_pred b) pred_of (named_step a) (step b) (λ u n q. (n, q, refl)) (step_agrees a b r)))
-step_agrees (word_at i (the_part s) a) m (b, r, e) = subst (Whole (word_at i (the_part s) a)) (sym e) (proj_agrees i s a b r (step_agrees a b r))
+step_agrees (word_at i (the_part s) a) m (b, r, e) = subst (Whole (word_at i (the_part s) a)) (sym e)
+    (proj_agrees i s a b r (step_agrees a b r))
 step_agrees (binary_at i o a b) m (c, d, r, q, e) = subst (Whole (binary_at i o a b)) (sym e)
     (agree_spelled (named_spelled a) (spelled c)
     (λ v. on_spelled (named_spelled b) (λ w. Some (named_spell i (val_op o v w))) (option_map (λ c. binary_at i o a c) (named_step b)))

@@ -47,7 +47,8 @@ ev_goes _ _ _ (ev_pred {s = s} {a = a} {v = v} h) = go (ev_goes s a (value v) h)
     go : At a (value v) ⊎ Moves a → At (pred_of a) (value (val_pred v)) ⊎ Moves (pred_of a)
     go (inl e) = inr (spell (val_pred v), rw e refl)
     go (inr (n, e)) = inr (pred_of n, pred_moves a n e)
-ev_goes _ _ _ (ev_binary {s = s} {r = r} {o = o} {a = a} {b = b} {v = v} {w = w} h g) = go (ev_goes s a (value v) h) (ev_goes r b (value w) g)
+ev_goes _ _ _ (ev_binary {s = s} {r = r} {o = o} {a = a} {b = b} {v = v} {w = w} h g) =
+    go (ev_goes s a (value v) h) (ev_goes r b (value w) g)
   where
     go : At a (value v) ⊎ Moves a → At b (value w) ⊎ Moves b → At (binary o a b) (value (val_op o v w)) ⊎ Moves (binary o a b)
     go (inl e) (inl f) = inr (spell (val_op o v w), rw (e, f) refl)

@@ -70,7 +70,8 @@ before_steps : (a : TermTree) (v : Val) → spelled a ≡ Some v → Steps (pred
 before_steps a v g = value_steps (pred_of a) (spell (val_pred v)) (val_pred v) (suc (extent v)) (extent (val_pred v))
     (ev_pred (spelled_ev a v g)) (spell_ev (val_pred v)) (before_extent v)
 
-op_steps : (o : Operator) (a b : TermTree) (v w : Val) → spelled a ≡ Some v → spelled b ≡ Some w → Steps (binary o a b) (spell (val_op o v w))
+op_steps : (o : Operator) (a b : TermTree) (v w : Val) → spelled a ≡ Some v → spelled b ≡ Some w →
+    Steps (binary o a b) (spell (val_op o v w))
 op_steps o a b v w g h = value_steps (binary o a b) (spell (val_op o v w)) (val_op o v w) (suc (extent v + extent w))
     (extent (val_op o v w)) (ev_binary (spelled_ev a v g) (spelled_ev b w h)) (spell_ev (val_op o v w)) (op_extent (val_op o v w) v w)
 
@@ -159,7 +160,8 @@ step_steps (binary o a b) n h = go (from_spelled (spelled a)
         (on_spelled (spelled b) (λ w. Some (spell (val_op o v w))) (option_map (λ c. binary o a c) (step b)) ≡ Some n)) ⊎
         ((spelled a ≡ None) × (option_map (λ c. binary o c b) (step a) ≡ Some n)) →
         ((c : TermTree) → step a ≡ Some c → Steps a c) → ((c : TermTree) → step b ≡ Some c → Steps b c) → Steps (binary o a b) n
-    go (inl (v, g, x)) ih jh = to (from_spelled (spelled b) (λ w. Some (spell (val_op o v w))) (option_map (λ c. binary o a c) (step b)) n x)
+    go (inl (v, g, x)) ih jh = to (from_spelled (spelled b) (λ w. Some (spell (val_op o v w)))
+        (option_map (λ c. binary o a c) (step b)) n x)
       where
         to : ((w : Val) × (spelled b ≡ Some w) × (Some (spell (val_op o v w)) ≡ Some n)) ⊎ ((spelled b ≡ None) ×
             (option_map (λ c. binary o a c) (step b) ≡ Some n)) → Steps (binary o a b) n
@@ -168,7 +170,8 @@ step_steps (binary o a b) n h = go (from_spelled (spelled a)
             subst (Steps (binary o a b)) z (right_steps o a b c (jh c p))
     go (inr (g, x)) ih jh = let (c, y, z) = from_map (λ c. binary o c b) (step a) n x in
         subst (Steps (binary o a b)) z (left_steps o a c b (ih c y))
-step_steps (ifz c p q) n h = go (from_spelled (spelled c) (λ v. Some (at_zero v p q)) (option_map (λ b. ifz b p q) (step c)) n h) (step_steps c)
+step_steps (ifz c p q) n h = go (from_spelled (spelled c) (λ v. Some (at_zero v p q)) (option_map (λ b. ifz b p q) (step c)) n h)
+    (step_steps c)
   where
     go : ((v : Val) × (spelled c ≡ Some v) × (Some (at_zero v p q) ≡ Some n)) ⊎ ((spelled c ≡ None) ×
         (option_map (λ b. ifz b p q) (step c) ≡ Some n)) → ((b : TermTree) → step c ≡ Some b → Steps c b) → Steps (ifz c p q) n

@@ -1,5 +1,6 @@
 -- The step on terms with names is the step of the term that the tree stands for.
-use Rattle.std.proofs.Common.{◌≡◌, ◌≢◌, ◌⊎◌, ℕ, zero, suc, ◌<◌, ◌≤◌, Bool, true, false, cond, List, [], ◌∷◌, ◌++◌, length, Some, refl, sym, ap, ◌∙◌, subst, inl, inr, arith}
+use Rattle.std.proofs.Common.{◌≡◌, ◌≢◌, ◌⊎◌, ℕ, zero, suc, ◌<◌, ◌≤◌, Bool, true, false, cond, List, [], ◌∷◌, ◌++◌, length, Some, refl}
+use Rattle.std.proofs.Common.{sym, ap, ◌∙◌, subst, inl, inr, arith}
 use Rattle.std.specs.Prelude.{slice_get}
 use Rattle.std.specs.Str.{bytes_eq}
 use Rattle.std.proofs.lemmas.Bool.{cases_lt}
@@ -69,6 +70,7 @@ shadowed_name s x y i p j e d (inr l) =
     let k = slice_get_within s j x e in
     absurd (d.1 j (omega (arith, k, l)) (get_front s (x ∷ []) j k ∙ e ∙ ap Some z))
 
+-- where a nearer binder has the name already, what is put for the farther one changes nothing
 shadowed : (t : NamedTree) (s : List (List ℕ)) (x : List ℕ) (p m : TermTree) (j : ℕ) → slice_get s j ≡ Some x →
     Resolves (s ++ x ∷ []) t m → Resolves s t (subst_at m (length s) p)
 shadowed (number_at at n) s x p m j h e = ap (λ m. subst_at m (length s) p) e
@@ -120,6 +122,7 @@ different x y n = no_bool (bytes_eq x y) (λ z. n ((bytes_eq-Decides x y).0 z))
     no_bool true n = absurd (n refl)
     no_bool false n = refl
 
+-- a name with a closed tree put for the outermost binder stands for its variable with the term put there
 put_name : (at : ℕ) (y : List ℕ) (s : List (List ℕ)) (x : List ℕ) (n : NamedTree) (p : TermTree) (i : ℕ) →
     ((j : ℕ) → slice_get s j ≢ Some x) → Binds (s ++ x ∷ []) y i → Resolves [] n p → (i < length s) ⊎ (length s ≤ i) →
     Resolves s (cond (bytes_eq x y) n (name_at at y)) (replaced i (length s) p)

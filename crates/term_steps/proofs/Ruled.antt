@@ -19,6 +19,7 @@ right_moves o a b n v h e = let u = moving_unspelled b n e in rw (h, u, e) refl
 test_moves : (c p q n : TermTree) → step c ≡ Some n → step (ifz c p q) ≡ Some (ifz n p q)
 test_moves c p q n e = let u = moving_unspelled c n e in rw (u, e) refl
 
+-- what the rules of inference rewrite is what the step rewrites
 rule_step : (m n : TermTree) → Reduces m n → step m ≡ Some n
 rule_step _ _ by_fix = refl
 rule_step _ _ by_fun = refl
@@ -41,6 +42,7 @@ some_same e = cc
 abbrev Ruled : TermTree → Type 0
 Ruled a = (b : TermTree) → step a ≡ Some b → Reduces a b
 
+-- and what the step rewrites, the rules do
 step_rule : (m n : TermTree) → step m ≡ Some n → Reduces m n
 step_rule (num k) n h = cc
 step_rule (var i) n h = cc
@@ -69,7 +71,8 @@ step_rule (binary o a b) n h = go (from_spelled (spelled a)
     go : ((v : Val) × (spelled a ≡ Some v) ×
         (on_spelled (spelled b) (λ w. Some (spell (val_op o v w))) (option_map (λ c. binary o a c) (step b)) ≡ Some n)) ⊎
         ((spelled a ≡ None) × (option_map (λ c. binary o c b) (step a) ≡ Some n)) → Ruled a → Ruled b → Reduces (binary o a b) n
-    go (inl (v, g, x)) ih jh = to (from_spelled (spelled b) (λ w. Some (spell (val_op o v w))) (option_map (λ c. binary o a c) (step b)) n x)
+    go (inl (v, g, x)) ih jh = to (from_spelled (spelled b) (λ w. Some (spell (val_op o v w)))
+        (option_map (λ c. binary o a c) (step b)) n x)
       where
         to : ((w : Val) × (spelled b ≡ Some w) × (Some (spell (val_op o v w)) ≡ Some n)) ⊎ ((spelled b ≡ None) ×
             (option_map (λ c. binary o a c) (step b) ≡ Some n)) → Reduces (binary o a b) n
@@ -77,7 +80,8 @@ step_rule (binary o a b) n h = go (from_spelled (spelled a)
         to (inr (i, y)) = let (c, p, z) = from_map (λ c. binary o a c) (step b) n y in
             subst (Reduces (binary o a b)) z (in_right g (jh c p))
     go (inr (g, x)) ih jh = let (c, y, z) = from_map (λ c. binary o c b) (step a) n x in subst (Reduces (binary o a b)) z (in_left (ih c y))
-step_rule (ifz c p q) n h = go (from_spelled (spelled c) (λ v. Some (at_zero v p q)) (option_map (λ b. ifz b p q) (step c)) n h) (step_rule c)
+step_rule (ifz c p q) n h = go (from_spelled (spelled c) (λ v. Some (at_zero v p q)) (option_map (λ b. ifz b p q) (step c)) n h)
+    (step_rule c)
   where
     go : ((v : Val) × (spelled c ≡ Some v) × (Some (at_zero v p q) ≡ Some n)) ⊎ ((spelled c ≡ None) ×
         (option_map (λ b. ifz b p q) (step c) ≡ Some n)) → Ruled c → Reduces (ifz c p q) n

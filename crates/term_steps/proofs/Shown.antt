@@ -1,5 +1,6 @@
 -- The part that is rewritten next stands where it is said to stand.
-use Rattle.std.proofs.Common.{◌≡◌, ℕ, ◌+◌, Bool, true, false, cond, List, [], ◌∷◌, ◌++◌, length, Option, Some, None, refl, sym, ap, ◌∙◌, subst, arith}
+use Rattle.std.proofs.Common.{◌≡◌, ℕ, ◌+◌, Bool, true, false, cond, List, [], ◌∷◌, ◌++◌, length, Option, Some, None, refl, sym, ap, ◌∙◌}
+use Rattle.std.proofs.Common.{subst, arith}
 use Rattle.std.specs.Prelude.{nat_le, codes}
 use Rattle.pcf_values.specs.declared.val.Val.{Val}
 use Rattle.pcf_values.specs.Named.{the_succ, the_pred, the_part, the_fun, the_fix, NamedTree, number_at, name_at, word_at}
@@ -47,6 +48,7 @@ shows_spelled : (v : Option Val) (f : Val → Option (ℕ × NamedTree)) (o : Op
 shows_spelled None f o y h g = g
 shows_spelled (Some w) f o y h g = h w
 
+-- the part that is rewritten next stands in the printed term where it is said to stand
 pub redex_shows : (t : NamedTree) → Shows (redex t) (term_text t)
 redex_shows (number_at at n) = record {}
 redex_shows (name_at at x) = record {}
@@ -79,7 +81,8 @@ redex_shows (binary_at at o a b) =
     (λ w. here (term_text (binary_at at o a b)))
     (shows_further (x ++ op_text o) y (inside (right_level o) (level b) (redex b))
     (shows_inside (right_level o) (level b) (term_text b) (redex b) (redex_shows b))))
-    (shows_before y (x ++ op_text o) (inside (op_level o) (level a) (redex a)) (shows_before (op_text o) x (inside (op_level o) (level a) (redex a))
+    (shows_before y (x ++ op_text o) (inside (op_level o) (level a) (redex a))
+    (shows_before (op_text o) x (inside (op_level o) (level a) (redex a))
     (shows_inside (op_level o) (level a) (term_text a) (redex a) (redex_shows a))))
 redex_shows (pair_at at a b) = record {}
 redex_shows (ifz_at at c p q) =

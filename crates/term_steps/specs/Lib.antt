@@ -1,6 +1,10 @@
 -- In the order to read it: the step and the sequence of steps, and the laws.
 pub mod Steps
+-- The same step as rules of inference, as a book on semantics writes them: what is rewritten, and where.
 pub mod Rules
+-- The step on terms with names, as they are read and printed.
 pub mod Names
+-- The part that is rewritten next, and where it begins in the printed term: an offset in bytes.
 pub mod Redex
+-- What the steps are worth: statements over every term, each the contract of a function.
 pub mod Laws

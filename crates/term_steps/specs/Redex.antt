@@ -20,7 +20,8 @@ redex (number_at _ _) = None
 redex (name_at _ _) = None
 redex (word_at at the_succ a) = on_spelled (named_spelled (word_at at the_succ a)) (λ v. None)
     (on_spelled (named_spelled a) (λ v. Some (0, word_at at the_succ a)) (further 5 (inside 0 (level a) (redex a))))
-redex (word_at at the_pred a) = on_spelled (named_spelled a) (λ v. Some (0, word_at at the_pred a)) (further 5 (inside 0 (level a) (redex a)))
+redex (word_at at the_pred a) = on_spelled (named_spelled a) (λ v. Some (0, word_at at the_pred a))
+    (further 5 (inside 0 (level a) (redex a)))
 redex (word_at at (the_part s) (pair_at i a b)) = Some (0, word_at at (the_part s) (pair_at i a b))
 redex (word_at at (the_part s) a) = further 4 (inside 0 (level a) (redex a))
 redex (binary_at at o a b) = on_spelled (named_spelled a)

@@ -16,7 +16,8 @@ pub data Reduces : TermTree → TermTree → Type 0 where
   by_part : {s : Side} {m n : TermTree} → Reduces (proj s (pair m n)) (at_side s m n)
   by_succ : {a : TermTree} {v : Val} → spelled a ≡ Some v → spelled (succ_of a) ≡ None → Reduces (succ_of a) (spell (val_succ v))
   by_pred : {a : TermTree} {v : Val} → spelled a ≡ Some v → Reduces (pred_of a) (spell (val_pred v))
-  by_op : {o : Operator} {a b : TermTree} {v w : Val} → spelled a ≡ Some v → spelled b ≡ Some w → Reduces (binary o a b) (spell (val_op o v w))
+  by_op : {o : Operator} {a b : TermTree} {v w : Val} → spelled a ≡ Some v → spelled b ≡ Some w →
+      Reduces (binary o a b) (spell (val_op o v w))
   by_ifz : {c p q : TermTree} {v : Val} → spelled c ≡ Some v → Reduces (ifz c p q) (at_zero v p q)
   -- and where
   in_succ : {a b : TermTree} → Reduces a b → Reduces (succ_of a) (succ_of b)

@@ -5,7 +5,8 @@ ghost use Rattle.std.specs.Str.{bytes_eq};
 ghost use Rattle.std.specs.Option.{option_map};
 ghost use Rattle.pcf_values.specs.Values.{val_op};
 ghost use Rattle.pcf_values.specs.Terms.{at_side};
-ghost use Rattle.pcf_values.specs.Named.{the_succ, the_pred, the_part, the_fun, the_fix, word_at, binary_at, ifz_at, bind_at, apply_at, name_at};
+ghost use Rattle.pcf_values.specs.Named.{the_succ, the_pred, the_part, the_fun, the_fix, word_at, binary_at, ifz_at, bind_at, apply_at};
+ghost use Rattle.pcf_values.specs.Named.{name_at};
 ghost use Rattle.pcf_values.specs.Views.{named_of, ty_of};
 ghost use Rattle.term_steps.specs.Names.{named_spelled, named_spell, put, named_step};
 ghost use Rattle.term_steps.specs.Steps.{on_spelled};
@@ -133,6 +134,7 @@ fn put(alloc: Global, body: &Named, name: &Ident, closed: &Named) -> Result<Name
     }
 }
 
+/// A name with the closed term put for it, where it is the one.
 fn put_name(
     alloc: Global,
     at: u32,
@@ -152,6 +154,7 @@ fn put_name(
     }
 }
 
+/// The body with the closed term put for the name, in a box.
 #[cycle(puts)]
 fn put_box(
     alloc: Global,
@@ -164,6 +167,7 @@ fn put_box(
     Ok(Box::new(alloc, put(alloc, body, name, closed)?)?)
 }
 
+/// Both bodies with the closed term put for the name, in boxes.
 #[cycle(puts)]
 fn put_both(
     alloc: Global,
@@ -203,7 +207,7 @@ fn put_under(
 ///
 /// # Errors
 ///
-/// Want of memory.
+/// It runs out of memory.
 #[cycle(steps)]
 pub fn step(alloc: Global, term: &Named) -> Result<Option<Named>, AllocError>
     ensures { IfOk result (λ o. option_map named_of o ≡ named_step (named_of term.now)) }
@@ -238,6 +242,7 @@ fn stepped(alloc: Global, term: &Named) -> Result<Option<Box<Named>>, AllocError
     }
 }
 
+/// The step of a `succ`: of its operand, or to the next number. Past the last number there is none.
 #[cycle(steps)]
 fn step_succ(alloc: Global, at: u32, a: &Named) -> Result<Option<Named>, AllocError>
     ensures { IfOk result (λ o. option_map named_of o ≡ named_step (word_at at the_succ (named_of a.now))) }
@@ -255,6 +260,7 @@ fn step_succ(alloc: Global, at: u32, a: &Named) -> Result<Option<Named>, AllocEr
     }
 }
 
+/// The step of a `pred`: of its operand, or to the number before.
 #[cycle(steps)]
 fn step_pred(alloc: Global, at: u32, a: &Named) -> Result<Option<Named>, AllocError>
     ensures { IfOk result (λ o. option_map named_of o ≡ named_step (word_at at the_pred (named_of a.now))) }
@@ -298,6 +304,7 @@ fn copied_part(alloc: Global, side: Side, left: &Named, right: &Named) -> Result
     }
 }
 
+/// The step of an application: its argument is put as it stands, or its function moves.
 #[cycle(steps)]
 fn step_app(alloc: Global, at: u32, f: &Named, a: &Named) -> Result<Option<Named>, AllocError>
     ensures { IfOk result (λ o. option_map named_of o ≡ named_step (apply_at at (named_of f.now) (named_of a.now))) }
@@ -314,6 +321,7 @@ fn step_app(alloc: Global, at: u32, f: &Named, a: &Named) -> Result<Option<Named
     }
 }
 
+/// The step of a test: to a branch where its condition spells a value, and else of the condition.
 #[cycle(steps)]
 fn step_ifz(
     alloc: Global,
@@ -340,6 +348,7 @@ fn step_ifz(
     }
 }
 
+/// The step of an operator: of its left operand, then of its right one, then to its value.
 #[cycle(steps)]
 fn step_binary(
     alloc: Global,

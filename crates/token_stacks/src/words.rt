@@ -1,4 +1,5 @@
-// The words of the encoding, and two steps on vectors of words that no clause on stacks speaks of.
+//! The words of the encoding, and two steps on vectors of words that no clause on stacks speaks of.
+
 ghost use Rattle.std.specs.Prelude.{◌≡◌, ◌++◌, ◌+◌, ◌≤◌, OnOk, OnErr, length, take, drop, vec_len, vec_capacity};
 ghost use Rattle.token_stacks.specs.Parts.{Swaps, put_at};
 
@@ -22,7 +23,7 @@ pub(crate) const SYMBOL_L: u64 = 6;
 
 pub(crate) const SIGNATURE: u64 = 7;
 
-// Adds a piece, for which there is room.
+/// Adds a piece, for which there is room.
 fn add_piece(words: &mut Vec<u64>, piece: &[u64])
     requires { vec_len words.old + length piece.now ≤ vec_capacity words.old }
     ensures items { words.new.items ≡ words.old.items ++ piece.now }
@@ -39,7 +40,7 @@ fn add_piece(words: &mut Vec<u64>, piece: &[u64])
     }
 }
 
-// Adds few words, for which there is room, one by one.
+/// Adds few words, for which there is room, one by one.
 fn add_ends(words: &mut Vec<u64>, ends: &[u64])
     requires { vec_len words.old + length ends.now ≤ vec_capacity words.old }
     ensures { words.new.items ≡ words.old.items ++ ends.now }
@@ -49,7 +50,7 @@ fn add_ends(words: &mut Vec<u64>, ends: &[u64])
     }
 }
 
-// Adds both pieces at the end, or neither. The second is short: the ends of a signature.
+/// Adds both pieces at the end, or neither. The second is short: the ends of a signature.
 pub(crate) fn append(words: &mut Vec<u64>, piece: &[u64], tail: &[u64]) -> Result<(), AllocError>
     ensures ok { OnOk result (words.new.items ≡ words.old.items ++ (piece.now ++ tail.now)) }
     ensures err { OnErr result (words.new.items ≡ words.old.items) }

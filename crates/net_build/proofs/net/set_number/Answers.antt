@@ -11,7 +11,8 @@ returns-in-Const c =
 
 pub returns-in_default : goal.returns-in_default
 returns-in_default c =
-    sym (set_other c.args.nodes.now.items c.args.at c.args.value c.index.result.now (λ x y e. c.in_default.not-Const x y (c.index.ensures ∙ e)))
+    sym (set_other c.args.nodes.now.items c.args.at c.args.value c.index.result.now
+    (λ x y e. c.in_default.not-Const x y (c.index.ensures ∙ e)))
 
 pub returns-else-at-len : goal.returns-else-at-len
 returns-else-at-len c =
