@@ -20,20 +20,21 @@ def cases():
         with open(os.path.join(TOP, at, name), "rb") as it:
             listings[name] = it.read()
 
-    def changed(name, n, line):
+    def changed(name, old, new):
+        """A listing with another line in the place of one that it has once."""
         lines = listings[name].split(b"\n")
-        lines[n - 1] = line.encode()
-        return b"\n".join(lines)
+        assert lines.count(old.encode()) == 1, old
+        return b"\n".join(new.encode() if it == old.encode() else it for it in lines)
 
-    for name, n, line, wanted in rows("changes"):
-        runs_net(changed(name, int(n), line), wanted)
+    for name, old, new, wanted in rows("changes"):
+        runs_net(changed(name, old, new), wanted)
     double, full = listings["double.net"], listings["full.net"]
     runs_net(double, "0 value 6;moves 30;")
-    runs_net(changed("double.net", 17, "node 5 Const 4 7"), "0 value 8;moves 30;")
+    runs_net(changed("double.net", "node 5 Const 3 7", "node 5 Const 4 7"), "0 value 8;moves 30;")
     case("the full listing is that of its program", lambda: call(["goi", "net", "p"], {"p": FULL})[1], full)
     run = lambda: left(["goi", "run", "p"], {"p": FULL})
     case("the full listing runs as its program does", lambda: left(["goi", "run-net", "n"], {"n": full}) == run(), True)
-    status = lambda line: call(["goi", "run-net", "n"], {"n": changed("full.net", 52, line)})[0]
+    status = lambda line: call(["goi", "run-net", "n"], {"n": changed("full.net", "node 7 Const 2 10", line)})[0]
     case("and with another number", lambda: status("node 7 Const 3 10"), 0)
     case("and with the number and the wire exchanged", lambda: status("node 7 Const 10 2"), 7)
     for count in range(len(double)):
