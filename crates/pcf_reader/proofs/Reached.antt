@@ -268,6 +268,7 @@ end_product_goes (right_of_sum s op k) us m h at x =
     (subst (λ (s : Part). Goes (vs ++ (a ++ w ∷ z)) (after_sum k (binary op s (product_part m)) at x) at x) is
     (after_sum_goes k vs (summed q o op is_op m) around at x))
 
+-- the same behind a product: a sign of sums ends it, and another sign goes on with it
 pub after_product_goes : (k : ProductK) (us : Texts) (m : Product) → AroundProduct k us → (at : ℕ) (x : Token) →
     Goes (us ++ product_text (product_open k) m) (after_product k (product_part m) at x) at x
 after_product_goes k us m h at (Sign op) = go (is_sum op) refl
@@ -366,6 +367,7 @@ end_ptype_goes (right_of_cross a k) us p h at x =
     (subst (λ a. Goes (vs ++ (y ++ w ∷ z)) (end_ptype k (product a (ptype_ty p)) at x) at x) is
     (end_ptype_goes k vs (times_type q o p) around at x))
 
+-- the same behind an atom of a type, which a star may go on with
 pub after_tatom_goes : (k : PTypeK) (us : Texts) (a : TAtom) → AroundPType k us → (at : ℕ) (x : Token) →
     Goes (us ++ tatom_text (ptype_open k) a) (after_type_atom k (tatom_ty a) at x) at x
 after_tatom_goes k us a h at x = go (is_star x) refl
