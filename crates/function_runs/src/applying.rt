@@ -1,0 +1,71 @@
+//! A term that is applied to zeros.
+
+ghost use Rattle.std.specs.Prelude.{◌≡◌, ◌↔◌, [], IsTrue, IfOk, replicate};
+ghost use Rattle.pcf_values.specs.Typing.{HasType};
+ghost use Rattle.pcf_values.specs.Terms.{nat, num, app};
+ghost use Rattle.pcf_values.specs.Views.{term_of, ty_of};
+ghost use Rattle.open_nets.specs.Applied.{applied, numeric};
+
+use open_nets::law_applied;
+use pcf_values::{Term, Ty, Typed};
+use std::alloc::{AllocError, Global};
+
+/// Whether a type is that of a function of so many numbers.
+pub(crate) fn takes(ty: &Ty, arguments: u32) -> bool
+    ensures { IsTrue result ↔ (ty_of ty.now ≡ numeric arguments) }
+{
+    match ty {
+        Ty::Nat => arguments == 0,
+        Ty::Arrow(from, to) => arguments > 0 && is_nat(from) && takes(to, arguments - 1),
+        Ty::Product(_, _) => false,
+    }
+}
+
+/// Whether a type is `nat`.
+fn is_nat(ty: &Ty) -> bool
+    ensures { IsTrue result ↔ (ty_of ty.now ≡ nat) }
+{
+    match ty {
+        Ty::Nat => true,
+        _ => false,
+    }
+}
+
+/// A function of so many numbers, applied to zeros.
+pub(crate) fn at_zeros(alloc: Global, program: &Typed, arguments: u32) -> Result<Typed, AllocError>
+    requires { program.now.1 ≡ numeric arguments }
+    ensures { IfOk result (λ p. p ≡ (applied program.now.0 (replicate arguments 0), nat)) }
+{
+    law_applied();
+    let term = copied(alloc, program)?;
+    let applied = apply_zeros(alloc, term, arguments)?;
+    Ok(Typed::of(applied, Ty::Nat))
+}
+
+/// A program's term, anew.
+fn copied(alloc: Global, program: &Typed) -> Result<Term, AllocError>
+    ensures term { IfOk result (λ t. term_of t ≡ program.now.0) }
+    ensures typed { HasType [] program.now.0 program.now.1 }
+{
+    program.term().copy(alloc)
+}
+
+/// A term at so many zeros.
+fn apply_zeros(alloc: Global, term: Term, n: u32) -> Result<Term, AllocError>
+    ensures { IfOk result (λ t. term_of t ≡ applied (term_of term) (replicate n 0)) }
+{
+    if n == 0 {
+        return Ok(term);
+    }
+    let applied = at_zero(alloc, term)?;
+    apply_zeros(alloc, applied, n - 1)
+}
+
+/// A term at zero.
+fn at_zero(alloc: Global, term: Term) -> Result<Term, AllocError>
+    ensures { IfOk result (λ t. term_of t ≡ app (term_of term) (num 0)) }
+{
+    let function = Box::new(alloc, term)?;
+    let argument = Box::new(alloc, Term::Number(0))?;
+    Ok(Term::App(function, argument))
+}

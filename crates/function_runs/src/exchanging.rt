@@ -1,0 +1,19 @@
+//! Other numbers at the nodes of a function's arguments.
+
+ghost use Rattle.std.specs.Prelude.{◌≡◌, ◌<◌, ◌^◌, ◌+◌, ◌*◌, length};
+ghost use Rattle.open_nets.specs.Applied.{AreNumbers};
+ghost use Rattle.open_nets.specs.Numbers.{places_from, with_numbers};
+
+use net_build::Net;
+
+/// Puts these numbers into every third node from `first` on.
+pub(crate) fn exchange(net: &mut Net, first: u32, values: &[u64])
+    requires { first + 3 * length values.now < 2 ^ 32 }
+    ensures net { net.new ≡ with_numbers net.old (places_from first (length values.now)) values.now }
+    ensures numbers { AreNumbers values.now }
+{
+    if let [value, rest @ ..] = values {
+        net.set_number(first, *value);
+        exchange(net, first + 3, rest);
+    }
+}

@@ -1,0 +1,20 @@
+//! That a call is the run of a text.
+
+ghost use Rattle.function_runs.specs.Laws.{AppliedTree, AppliedText, SameAsText};
+
+use program_runs::law_one_program;
+
+/// A tree that is a function, applied to as many numbers as it takes, is a program of type `nat`: that of its term, applied to them. So a
+/// text that stands for such a tree is such a program.
+pub fn law_applied_tree()
+    ensures tree { AppliedTree }
+    ensures text { AppliedText }
+{}
+
+/// What a run of a text by name comes to, where the text stands for a term applied to numbers, is what a call of the term's function at
+/// these numbers comes to: the same value or none, and the same log.
+pub fn law_same_as_text()
+    ensures { SameAsText }
+{
+    law_one_program();
+}

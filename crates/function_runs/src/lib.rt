@@ -1,0 +1,17 @@
+//! Functions of numbers inside other programs: a text is read once, and then called with many numbers.
+//!
+//! `compile` reads the text of a closed term of type `nat -> .. -> nat`, checks its types and builds its net at zeros. A `Function` is that
+//! term for contracts, with how many numbers it takes. Its `call` runs it at numbers: they are put into their places in the net, and
+//! nothing is read, typed, built or copied again. A call answers what the term applied to those numbers means, after as many moves as
+//! the net of that application is long; `call_together` has several workers do it. How a run goes is left to `net_runs`.
+#![tactic(auto)]
+
+mod applying;
+mod compiling;
+mod exchanging;
+mod function;
+mod laws;
+
+pub use compiling::compile;
+pub use function::Function;
+pub use laws::{law_applied_tree, law_same_as_text};
