@@ -9,12 +9,11 @@ use Rattle.pcf_reader.specs.Answered.{Faults}
 use Rattle.pcf_types.specs.Checking.{type_of}
 use Rattle.pcf_types.specs.declared.fault.TypeFault.{TypeFault}
 use Rattle.pcf_types.specs.declared.fault.TypeFault.TheVariants as typing
-use Rattle.open_nets.specs.Applied.{numeric}
 use Rattle.program_runs.specs.declared.fault.ProgramFault.{ProgramFault}
 use Rattle.program_runs.specs.declared.no_run.NoRun.{NoRun}
 use Rattle.program_runs.specs.declared.no_run.NoRun.TheVariants.{Memory, Fault}
 use Rattle.program_runs.specs.NoRuns.{NoRunFor, no_run_of_read, no_run_of_type}
-use Rattle.function_runs.specs.Functions.{CompilesTree, CompilesText, IsMisfit, misfit, FaultyTree, untyped, other_type}
+use Rattle.function_runs.specs.Functions.{CompilesTree, CompilesText, IsMisfit, misfit, FaultyTree, Takes, untyped, other_type}
 use Rattle.function_runs.specs.Functions.{FaultyFunction, unread, of_tree}
 
 weaker : (P Q : ProgramFault → Type 0) (e : NoRun) → ((f : ProgramFault) → P f → Q f) → NoRunFor P e → NoRunFor Q e
@@ -59,12 +58,13 @@ stops_untyped n tree (typing.FixMismatch at) h = untyped (typing.FixMismatch at)
 stops_untyped n tree (typing.PairWanted at) h = untyped (typing.PairWanted at) (h (λ e. cc))
 
 pub functions_of_tree : {E : Type 0} (n : ℕ) (tree : NamedTree) (p : TermTree × TyTree) (r : Result (TermTree × ℕ) E) →
-    type_of [] tree ≡ Ok p → IfOk r (λ f. p.1 ≡ numeric n) → IfOk r (λ f. f ≡ (p.0, n)) → IfOk r (λ f. CompilesTree tree n f)
+    type_of [] tree ≡ Ok p → IfOk r (λ f. Takes n p.1) → IfOk r (λ f. f ≡ (p.0, n)) → IfOk r (λ f. CompilesTree tree n f)
 functions_of_tree n tree p (Ok f) d e h = record {
   typed =
-      subst (λ (A : TyTree). type_of [] tree ≡ Ok (f.0, A)) e
+      subst (λ (A : TyTree). type_of [] tree ≡ Ok (f.0, A)) e.type
       (subst (λ (t : TermTree). type_of [] tree ≡ Ok (t, p.1)) (sym (ap (λ (x : TermTree × ℕ). x.0) h)) d);
   takes = ap (λ (x : TermTree × ℕ). x.1) h;
+  few = e.few;
 }
 functions_of_tree n tree p (Err x) d e h = e
 

@@ -5,13 +5,24 @@ ghost use Rattle.pcf_values.specs.Typing.{HasType};
 ghost use Rattle.pcf_values.specs.Terms.{nat, num, app};
 ghost use Rattle.pcf_values.specs.Views.{term_of, ty_of};
 ghost use Rattle.open_nets.specs.Applied.{applied, numeric};
+ghost use Rattle.function_runs.specs.Functions.{Takes};
 
 use open_nets::law_applied;
 use pcf_values::{Term, Ty, Typed};
 use std::alloc::{AllocError, Global};
 
+/// The most numbers that a function may take.
+pub const MOST_ARGUMENTS: usize = 1000;
+
+/// Whether a type is that of a function of so many numbers, which aren't too many.
+pub(crate) fn fits(ty: &Ty, arguments: usize) -> bool
+    ensures { IsTrue result ↔ Takes arguments (ty_of ty.now) }
+{
+    arguments <= MOST_ARGUMENTS && takes(ty, arguments)
+}
+
 /// Whether a type is that of a function of so many numbers.
-pub(crate) fn takes(ty: &Ty, arguments: u32) -> bool
+fn takes(ty: &Ty, arguments: usize) -> bool
     ensures { IsTrue result ↔ (ty_of ty.now ≡ numeric arguments) }
 {
     match ty {

@@ -9,9 +9,9 @@ ghost use Rattle.pcf_values.specs.Views.{named_of};
 ghost use Rattle.net_build.specs.NetOf.{net_of};
 ghost use Rattle.open_nets.specs.Applied.{applied, numeric};
 ghost use Rattle.program_runs.specs.NoRuns.{NoRunFor};
-ghost use Rattle.function_runs.specs.Functions.{most_arguments, CompilesText, CompilesTree, FaultyFunction, FaultyTree, IsMisfit};
+ghost use Rattle.function_runs.specs.Functions.{most_arguments, CompilesText, CompilesTree, FaultyFunction, FaultyTree, IsMisfit, Takes};
 
-use crate::applying::{at_zeros, takes};
+use crate::applying::{at_zeros, fits};
 use crate::function::Function;
 use net_build::{Net, build, law_net_size};
 use open_nets::law_applied;
@@ -21,14 +21,13 @@ use pcf_values::{Named, Typed};
 use program_runs::{NoRun, ProgramFault};
 use std::alloc::{AllocError, Global};
 
-/// The function of a text: a closed term that takes so many numbers, of which there are at most 1,000.
+/// The function of a text: a closed term that takes so many numbers, of which there are at most `MOST_ARGUMENTS`.
 ///
 /// # Errors
 ///
 /// The first fault of the text, exactly when it has one: it isn't read, it isn't typed, or its type isn't `nat -> .. -> nat` of so many
-/// arguments (`NotGround`). Or it runs out of memory.
-pub fn compile(alloc: Global, bytes: &[u8], arguments: u32) -> Result<Function, NoRun>
-    requires { arguments ≤ most_arguments }
+/// arguments, or they are too many (`NotGround`). Or it runs out of memory.
+pub fn compile(alloc: Global, bytes: &[u8], arguments: usize) -> Result<Function, NoRun>
     ensures function { IfOk result (λ f. CompilesText bytes.now arguments f) }
     ensures fault { IfErr result (λ e. NoRunFor (FaultyFunction arguments bytes.now) e) }
 {
@@ -40,8 +39,7 @@ pub fn compile(alloc: Global, bytes: &[u8], arguments: u32) -> Result<Function, 
 }
 
 /// The function of a tree.
-fn compile_tree(alloc: Global, tree: &Named, arguments: u32) -> Result<Function, NoRun>
-    requires few { arguments ≤ most_arguments }
+fn compile_tree(alloc: Global, tree: &Named, arguments: usize) -> Result<Function, NoRun>
     requires size { named_size (named_of tree.now) ≤ most_nodes }
     requires height { named_height (named_of tree.now) ≤ 2600 }
     ensures function { IfOk result (λ f. CompilesTree (named_of tree.now) arguments f) }
@@ -53,19 +51,18 @@ fn compile_tree(alloc: Global, tree: &Named, arguments: u32) -> Result<Function,
 }
 
 /// The function of a program, which has to take so many numbers.
-fn compile_program(alloc: Global, program: Typed, arguments: u32) -> Result<Function, NoRun>
-    requires few { arguments ≤ most_arguments }
+fn compile_program(alloc: Global, program: Typed, arguments: usize) -> Result<Function, NoRun>
     requires size { size program.0 ≤ most_nodes }
     requires height { height program.0 ≤ 2600 }
-    ensures takes { IfOk result (λ f. program.1 ≡ numeric arguments) }
+    ensures takes { IfOk result (λ f. Takes arguments program.1) }
     ensures function { IfOk result (λ f. f ≡ (program.0, arguments)) }
     ensures misfit { IfErr result (λ e. NoRunFor (IsMisfit arguments program.1) e) }
 {
-    if !takes(program.ty(), arguments) {
+    if !fits(program.ty(), arguments) {
         drop(program);
         return Err(NoRun::Fault(ProgramFault::NotGround));
     }
-    Ok(compile_function(alloc, program, arguments)?)
+    Ok(compile_function(alloc, program, arguments as u32)?)
 }
 
 /// The function of a program that takes so many numbers.

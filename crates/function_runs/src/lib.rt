@@ -12,6 +12,7 @@ mod exchanging;
 mod function;
 mod laws;
 
+pub use applying::MOST_ARGUMENTS;
 pub use compiling::compile;
 pub use function::Function;
 pub use laws::{law_applied_tree, law_same_as_text};
