@@ -3,6 +3,8 @@
 use crate::given::marked;
 use goi_world::{Failed, Sink, StdSink};
 use std::alloc::{AllocError, Global};
+use std::io;
+use std::io::Write;
 use std::test::Fail;
 
 /// Whether a sink takes a piece, in however many writes.
@@ -52,4 +54,31 @@ fn writes_until_nothing_is_taken(rt: HostRuntime) {
         assert!(rt; taken == want);
     }
     assert!(rt; bytes.as_slice() == b"value 67".as_slice());
+}
+
+/// A writer that fails at its first write and takes all that comes later, as a pipe does that is full once.
+#[derive(Drop)]
+struct FullOnce {
+    calls: u32,
+}
+
+impl Write for FullOnce {
+    fn write(&mut self, piece: &[u8]) -> io::Result<usize> {
+        if self.calls == 0 {
+            self.calls = 1;
+            return Err(io::Error::from(io::ErrorKind::WouldBlock));
+        }
+        Ok(piece.len())
+    }
+
+    fn flush(&mut self) -> io::Result<()> {
+        Ok(())
+    }
+}
+
+#[test]
+fn a_failed_write_is_not_tried_again(rt: HostRuntime) {
+    let mut sink = StdSink::over(FullOnce { calls: 0 });
+    assert!(rt; sink.write(b"value 55".as_slice()) == Err(Failed));
+    assert!(rt; sink.write(b"value 55".as_slice()) == Ok(8));
 }
