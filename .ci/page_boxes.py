@@ -239,6 +239,20 @@ def try_schedules(page, live, window, program, folder):
     live.quiet(page, window, "schedules")
 
 
+def try_lesson(page, live, window):
+    """The schedules of the fourth lesson's table come to what it says, in the page too."""
+    lesson = next((programs.TOP / "docs/lessons").glob("4-*.md")).read_text(encoding="utf-8")
+    table = lesson.split("| on `double` | what comes | why |\n")[1].split("\n\n")[0]
+    rows = [re.findall(r"`([^`]*)`", cell) for row in table.split("\n")[1:] for cell in row.split("|")[1:3]]
+    live.runs(window, programs.TEXTS["double.pcf"])
+    opens(live, window, "schedule")
+    for lines, comes in zip(rows[::2], rows[1::2]):
+        said = replays(live, window, "\n".join(["schedule 2", *lines, "end", ""])).split("\n")[0]
+        page.judge(f"lesson 4: {', '.join(lines)}", said, ", ".join(comes))
+    page.judge("lesson 4: its schedules", len(rows) >= 8)
+    live.quiet(page, window, "the fourth lesson")
+
+
 def rows_shown(window):
     return window.script("return [...document.querySelectorAll('#schedule-rows .turn')].map(it => it.textContent.match(/\\d+/g).map(Number))")
 
@@ -375,6 +389,7 @@ def try_boxes(page, live, window, program, folder):
     try_narrow(page, live, window)
     try_nets(page, live, window, program, folder)
     try_schedules(page, live, window, program, folder)
+    try_lesson(page, live, window)
     try_dragging(page, live, window, program, folder)
     try_exchanged(page, live, window, program, folder)
     try_links(page, live, window, program, folder)

@@ -102,7 +102,13 @@ class Firefox:
                 return told["result"]
 
     def open(self, address):
+        """Opens a page, and waits until it is the one in which scripts run: that can be a while after Firefox says so."""
         self.asked("browsingContext.navigate", context=self.context, url=address, wait="complete")
+        there = "return document.readyState === 'complete' && location.href.split('#')[0] === arguments[0].split('#')[0]"
+        for _ in range(600):
+            if self.script(there, address):
+                return
+            time.sleep(0.05)
 
     def script(self, code, *given):
         """What a function with this body returns in the page."""

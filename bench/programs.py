@@ -16,7 +16,7 @@ GOI = os.environ.get("GOI") or program.BUILT
 
 def ready():
     """Builds the program first if need be, where GOI names no other one."""
-    if "GOI" not in os.environ:
+    if not os.environ.get("GOI"):
         program.built()
 
 

@@ -26,13 +26,22 @@ def call(words, limit=60, **how):
     return ran.returncode, ran.stdout, ran.stderr
 
 
-def built():
-    """The path of the program, which the script builds first if need be."""
+def is_ready(goi):
+    """Whether a program checks a file of one byte. It may take as long as it likes: the script has to build the program first, perhaps."""
     with tempfile.NamedTemporaryFile() as file:
         file.write(b"7")
         file.flush()
-        if subprocess.run([SCRIPT, "check", file.name], stdin=subprocess.DEVNULL, stdout=subprocess.DEVNULL, check=False).returncode != 0:
-            sys.exit(f"{os.path.basename(sys.argv[0])}: the program couldn't be built")
+        words = [goi, "check", file.name]
+        try:
+            return subprocess.run(words, stdin=subprocess.DEVNULL, stdout=subprocess.DEVNULL, check=False).returncode == 0
+        except OSError:
+            return False
+
+
+def built():
+    """The path of the program, which the script builds first if need be."""
+    if not is_ready(SCRIPT):
+        sys.exit(f"{os.path.basename(sys.argv[0])}: the program couldn't be built")
     return BUILT
 
 

@@ -168,7 +168,8 @@ given make(asked it) {
     for (size_t k = room - ends; k < room; k++)
         if (k >= now.needed && now.out[k] != BLANK) finding("%s: the last bytes are changed", name);
     if (now.status == GOI_REFUSED || now.status == GOI_BAD_FILE) {
-        bool is_line = now.needed >= 10 && now.needed <= GOI_LINE_SIZE && !memcmp(now.out, "refused: ", 9) && now.out[now.needed - 1] == '\n';
+        bool is_line = now.needed >= 10 && now.needed <= GOI_LINE_SIZE;
+        is_line = is_line && !memcmp(now.out, "refused: ", 9) && now.out[now.needed - 1] == '\n';
         if (!is_line) finding("%s: a line of refusal of %zu bytes", name, now.needed);
     }
     if (it.kind == TELL) look_at_answer();
@@ -223,7 +224,8 @@ void numbers(asked it) {
     memset(now.out, BLANK, 1 << 16);
     enter();
     if (taken == (now.status == GOI_BAD_CALL))
-        finding("%s with budget %u, flags %u, from %u, most %u: status %u", names[it.kind], it.budget, it.flags, it.from, it.most, now.status);
+        finding("%s with budget %u, flags %u, from %u, most %u: status %u", names[it.kind], it.budget, it.flags, it.from, it.most,
+                now.status);
     if (taken) return;
     if (now.needed || !is_blank(now.out, 1 << 16)) finding("%s with wrong numbers gives %zu bytes", names[it.kind], now.needed);
     if (it.kind == TELL && (now.answer.kind || now.answer.value)) finding("tell with wrong numbers has an answer");

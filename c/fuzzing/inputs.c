@@ -5,7 +5,7 @@
 #include <stdlib.h>
 #include <string.h>
 
-static const uint32_t budgets[16] = {1, 2, 3, 5, 8, 13, 30, 64, 100, 300, 1000, 2000, 3000, 5000, 10000, 10000};
+static const uint32_t budgets[16] = {1, 2, 3, 5, 8, 13, 30, 64, 100, 200, 300, 500, 1000, 2000, 3000, 5000};
 
 int LLVMFuzzerInitialize(int *argc, char ***argv) {
     (void)argc, (void)argv;

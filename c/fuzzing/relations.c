@@ -48,8 +48,9 @@ static void try_tell(text program, uint32_t budget, uint32_t by_value, const giv
     if (told.status == GOI_REFUSED) {
         are_same("tell and run", &told, run);
     } else {
-        if (told.answer.kind == GOI_NUMBER) snprintf(line, sizeof line, "value %lu\nmoves %u\n", (long)told.answer.value, told.answer.moves);
-        else snprintf(line, sizeof line, "%s\nmoves %u\n", told.answer.kind ? "value overflow" : "no value", told.answer.moves);
+        goi_answer a = told.answer;
+        if (a.kind == GOI_NUMBER) snprintf(line, sizeof line, "value %lu\nmoves %u\n", (unsigned long)a.value, a.moves);
+        else snprintf(line, sizeof line, "%s\nmoves %u\n", a.kind ? "value overflow" : "no value", a.moves);
         if (strcmp(line, run->text)) finding("tell has %s, and run %s", line, run->text);
     }
     free(told.text);
@@ -84,7 +85,8 @@ static void try_trace(asked it, const given *run, unsigned pick) {
         it.from = first, it.most = 1 + pick % 7;
         part = make(it);
         const char *here = move_in(&part, first), *there = move_in(&trace, first);
-        if (!here || !there || strncmp(here, there, strcspn(here + 1, "\n") + 1)) finding("the part from move %u isn't in the trace", first);
+        if (!here || !there || strncmp(here, there, strcspn(here + 1, "\n") + 1))
+            finding("the part from move %u isn't in the trace", first);
         squeeze(it, &part);
         free(part.text);
     }
@@ -200,7 +202,8 @@ static void try_names(text program, uint32_t budget, uint32_t flags, const given
     if (!n) return;
     given other = run_of((text){made_up, n}, budget, flags);
     if (run->status != GOI_REFUSED) are_same("respelled", &other, run);
-    else if (!is_fault(run, "TooLong") && (other.status != GOI_REFUSED || !same_fault(&other, run))) finding("respelled: %s, was %s", other.text, run->text);
+    else if (!is_fault(run, "TooLong") && (other.status != GOI_REFUSED || !same_fault(&other, run)))
+        finding("respelled: %s, was %s", other.text, run->text);
     free(other.text);
 }
 

@@ -1,5 +1,5 @@
-/* Ten wrong libraries, by the number WRONG, of which `c/fuzz --wrong` tries that each is found. The linker hands the calls of the harness to
- * these functions (--wrap), and what they hand on to the library. */
+/* Ten wrong libraries, by the number WRONG, of which `c/fuzz --wrong` tries that each is found. The linker hands the calls of the harness
+ * to these functions (--wrap), and what they hand on to the library. */
 #include "goi.h"
 #include <stdlib.h>
 #include <string.h>

@@ -40,7 +40,8 @@ _why = script("why")
 
 
 def place(text, refused):
-    """Of a text (a str) and its goi.Refused: line and column, counted from 0, the fault's name, and the sentence on it."""
+    """Of a program (a str) and its goi.Refused: line and column, counted from 0, the fault's name, and the sentence on it. A fault of the
+    whole text has the place 0, 0."""
     name, at = re.fullmatch(r"(\w+)(?:\((\d+)\))?", str(refused)).groups()
     whole = text.encode()
     before = whole[: int(at or 0)].decode(errors="replace")
@@ -51,11 +52,12 @@ def place(text, refused):
 
 
 def message(text, refused):
-    """The sentence on a refusal, with its line of the text and a mark. A fault of the whole text has no place."""
+    """The sentence on a program's refusal, with its line and a mark where it has a place."""
     row, column, name, says = place(text, refused)
     if "(" not in str(refused):
         return f"{says} [{name}]"
     line = (text.split("\n") + [""])[row].rstrip("\r")
+    # (what is put on a screen by itself moves nothing on it)
     shown = "".join(it if it == "\t" or it.isprintable() else "\ufffd" for it in line)
     mark = "".join("\t" if it == "\t" else " " for it in line[:column])
     return f"line {row + 1}, column {column + 1}: {says} [{name}]\n  {shown}\n  {mark}^"

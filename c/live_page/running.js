@@ -169,6 +169,7 @@ function beginWithAddress() {
   byId("own-by-value").checked = wanted.get("by-value") === "1";
   byId("own-budget").value = wanted.get("budget") ?? BUDGET;
   showExample();
+  if (wanted.has("theme")) walk.setTheme(wanted.get("theme"));
   const then = () => {
     walk.goToAddress(hash);
     if (TABS.includes(wanted.get("show"))) openTab(wanted.get("show"));

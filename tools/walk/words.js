@@ -35,12 +35,15 @@ function shortWords(mark, boxes = null) {
   return `argument ${shortText(boxes.box, 18)}` + (forUse ? `, for ${forUse}` : "");
 }
 
-// The chain of a mark: lines {code, text, node, depth}, the outermost first. A mark can stand for more uses than can be told.
+// The chain of a mark: lines {code, text, node, depth}, the outermost first. A mark can stand for more uses than can be told. One that has
+// been told with several lines is told as that one where it comes once more.
 const MOST_LINES = 100;
 let linesLeft = 0;
+const toldLines = new Map();
 const andSoOn = depth => [{ code: "", depth, node: null, text: "and so on" }];
 function chainOfMark(mark, boxes) {
   linesLeft = MOST_LINES;
+  toldLines.clear();
   return chainOfPart(mark, boxes, 0).slice(0, MOST_LINES + 20);
 }
 
@@ -87,13 +90,15 @@ function chainOfUse(mark, depth) {
       return [{ code, depth, node: mark.node, text: `${useText(mark.node)}, in ${placeOf(mark.node)}` }];
     }
     case "<": {
+      if (toldLines.has(mark)) return [{ ...toldLines.get(mark), code, depth }];
       const box = mark.node >= 0 ? view.questions.term.boxOf.get(mark.node) : null;
       if (box === null) return [{ code, depth, node: null, text: "a use inside a box:" }, ...chainOfUse(mark.u, depth + 1)];
+      const [first, ...rest] = chainOfUse(mark.u, depth);
       const isCall = net.nodes[box].name === "FixBox";
       const copy = spelled(mark.s);
       const around = isCall ? chainOfCall(mark.s, { box }, depth, copy)
         : headed({ code: copy, depth, node: box, text: `inside the argument ${shortText(box)}, for` }, chainOfUse(mark.s, depth + 1));
-      const [first, ...rest] = chainOfUse(mark.u, depth);
+      toldLines.set(mark, { ...first, text: first.text.replace(/(, as above)?$/, ", as above") });
       return [{ ...first, code }, ...rest, ...around];
     }
     case "y": return [{ code, depth, node: null, text: "a call of a recursive term" }];
