@@ -1,10 +1,11 @@
 -- Which line comes of a run, and which of a fault.
-use Rattle.std.proofs.Common.{◌≡◌, ℕ, false, List, length, Option, Result, Ok, Err, IfOk, sym, subst}
+use Rattle.std.proofs.Common.{◌≡◌, ℕ, List, length, Option, Result, Ok, Err, IfOk, sym, subst}
 use Rattle.pcf_values.specs.declared.val.Val.{Val}
 use Rattle.pcf_values.specs.Terms.{TyTree}
 use Rattle.cbn_meaning.specs.Meaning.{Means}
 use Rattle.net_build.specs.NetOf.{net_of}
 use Rattle.schedule_log.specs.declared.entry.Entry.{Entry}
+use Rattle.program_runs.specs.declared.calling.Calling.TheVariants.{ByName}
 use Rattle.program_runs.specs.declared.fault.ProgramFault.{ProgramFault}
 use Rattle.program_runs.specs.declared.no_run.NoRun.{NoRun}
 use Rattle.program_runs.specs.declared.no_run.NoRun.TheVariants.{Fault}
@@ -36,7 +37,7 @@ module _ {T E : Type 0} (way bytes : List ℕ) (spelled : T → List ℕ) (r : R
 
 -- what a run in one call says of the text
 pub of_run : (workers : ℕ) (bytes : List ℕ) (answer : Option Val) (log : List Entry) (moves : ℕ) →
-    RunsText false workers budget bytes answer log → moves ≡ length log → WalksText bytes answer moves
+    RunsText ByName workers budget bytes answer log → moves ≡ length log → WalksText bytes answer moves
 of_run workers bytes answer log moves h e = (
   h.term,
   (h.tree, subst (λ (A : TyTree). IsProgram number bytes h.tree h.term A) h.is.will_do h.is),

@@ -1,23 +1,22 @@
 -- How moves by hand add up, and what they say of the program in the end.
-use Rattle.std.proofs.Common.{◌≡◌, ℕ, suc, ◌+◌, ◌≤◌, ◌<◌, List, [], ◌∷◌, ◌++◌, length, Option, Some, None, Result, Ok, Err, OnOk, refl}
+use Rattle.std.proofs.Common.{◌≡◌, ℕ, ◌+◌, ◌≤◌, ◌<◌, List, [], ◌∷◌, ◌++◌, length, Option, Some, None, refl}
 use Rattle.std.proofs.Common.{sym, ap, ◌∙◌, subst, arith}
 use Rattle.std.proofs.lemmas.List.{length-append}
 use Rattle.pcf_values.specs.declared.val.Val.{Val}
 use Rattle.pcf_values.specs.Most.{most_budget}
-use Rattle.pcf_values.specs.Terms.{TermTree}
+use Rattle.pcf_values.specs.Terms.{TyTree}
 use Rattle.cbn_meaning.specs.Meaning.{Means}
 use Rattle.net_build.specs.Nets.{NetTree}
-use Rattle.net_build.specs.NetOf.{net_of}
 use Rattle.net_build.specs.Sound.{Sound}
-use Rattle.interleave_laws.specs.Maps.{MapState, start_map, step_map, run_map, then_run_map, LeadsToMap, IsReachedWithin, seen}
+use Rattle.interleave_laws.specs.Maps.{MapState, start_map, step_map, run_map, then_run_map, IsReachedWithin, seen}
 use Rattle.interleave_laws.specs.MapLaws.{MapLed}
 use Rattle.interleave_laws.specs.Progress.{IdleAnswered}
-use Rattle.interleave_laws.specs.Runs.{Finished}
 use Rattle.interleave_laws.specs.Start.{start_of}
 use Rattle.interleave_laws.specs.Tickets.{NoneLive}
 use Rattle.interleave_laws.proofs.MapLaws.{run_both}
-use Rattle.program_runs.specs.Laws.{MovesTell}
-use Rattle.program_runs.specs.Nets.{IsNet}
+use Rattle.program_runs.specs.declared.calling.Calling.TheVariants.{ByName}
+use Rattle.program_runs.specs.Nets.{IsNetFor}
+use Rattle.program_runs.specs.Programs.{number, IsProgram, IsGround}
 use Rattle.program_runs.specs.Running.{Tells}
 use Rattle.embedding.specs.Lines.{budget}
 use Rattle.embedding.specs.Hands.{IsAt, IsWalked, WalksText}
@@ -65,12 +64,12 @@ taken net S moves answer n e f w =
     subst (λ (a : Option Val). IsWalked net a n) (sym e) (subst (λ (m : ℕ). IsWalked net S.answered m) (sym f) w)
 
 -- what they say of the text's program
-pub walks_text : MovesTell → (bytes : List ℕ) (net : NetTree) → IsNet bytes net → (answer : Option Val) (moves : ℕ) →
-    IsWalked net answer moves →
-    WalksText bytes answer moves
-walks_text law bytes net is answer moves w =
+pub walks_text : (bytes : List ℕ) (net : NetTree) → IsNetFor ByName bytes net → (answer : Option Val) (moves : ℕ) →
+    IsWalked net answer moves → WalksText bytes answer moves
+walks_text bytes net is answer moves w =
     let t = is.term in
-    let led = subst (λ (n : NetTree). LeadsToMap n w.at.log w.state) is.net_is w.at.led in
-    let told = law t is.typed w.at.log w.state led budget w.finished in
-    let of_answer = subst (λ (a : Option Val). Tells (Means t) (net_of t) budget a (length w.at.log)) (sym w.answer_is) told in
-    (t, is.ground, subst (λ (n : ℕ). Tells (Means t) (net_of t) budget answer n) w.at.long of_answer)
+    let ground : IsGround bytes t = (is.tree, subst (λ (A : TyTree). IsProgram number bytes is.tree t A) is.is.will_do is.is) in
+    let told = is.so.tells w.at.log w.state w.at.led budget w.finished in
+    let of_answer = subst (λ (a : Option Val). Tells (Means t) net budget a (length w.at.log)) (sym w.answer_is) told in
+    let of_moves = subst (λ (n : ℕ). Tells (Means t) net budget answer n) w.at.long of_answer in
+    (t, ground, subst (λ (n : NetTree). Tells (Means t) n budget answer moves) is.so.net_is of_moves)

@@ -9,12 +9,11 @@ ghost use Rattle.embedding.specs.Hands.{IsAt, IsWalked, WalksText};
 ghost use Rattle.embedding.specs.Lines.{RunLine};
 
 use crate::lines::{BUDGET, refused_line, run_line};
-use adequacy_laws::law_never_stuck;
 use interleave_core::Core;
 use interleave_laws::{law_maps, law_progress};
 use net_build::Net;
 use pcf_values::Val;
-use program_runs::{NoRun, law_tells, net_of_text};
+use program_runs::{Calling, NoRun, net_for};
 use std::alloc::{AllocError, Global};
 
 /// What moves by hand came to.
@@ -46,9 +45,7 @@ fn run_by_hand(alloc: Global, bytes: &[u8]) -> Result<Walked, NoRun>
     ensures walked { IfOk result (λ r. WalksText bytes.now r.answer r.moves) }
     ensures fault { IfErr result (λ e. NoRunFor (FaultyProgram number bytes.now) e) }
 {
-    law_never_stuck();
-    law_tells();
-    let net = net_of_text(alloc, bytes)?;
+    let net = net_for(alloc, bytes, Calling::ByName)?;
     let walked = walk(alloc, &net);
     drop(net);
     Ok(walked?)

@@ -1,15 +1,25 @@
 //! The lines of runs in one call.
 
-ghost use Rattle.std.specs.Prelude.{◌≡◌, IfOk, codes, string_bytes};
-ghost use Rattle.embedding.specs.Lines.{RunLine, value_text, run_line, refused_line};
+ghost use Rattle.std.specs.Prelude.{◌≡◌, ◌≤◌, IfOk, IfErr, codes, string_bytes};
+ghost use Rattle.pcf_values.specs.Most.{most_budget, most_workers};
+ghost use Rattle.interleave_laws.specs.Runs.{Runs};
+ghost use Rattle.net_runs.specs.Running.{IsRun, IsFirstWorkers};
+ghost use Rattle.program_runs.specs.declared.calling.Calling.TheVariants.{ByName};
+ghost use Rattle.program_runs.specs.NoRuns.{NoRunFor};
+ghost use Rattle.program_runs.specs.Programs.{number, FaultyProgram};
+ghost use Rattle.program_runs.specs.Running.{RunsText};
+ghost use Rattle.embedding.specs.Lines.{budget, RunLine, value_text, run_line, refused_line};
 
 use crate::place::place_of;
 use gate_workers::Gate;
+use net_build::Net;
+use net_runs::run_net;
 use pcf_values::Val;
-use program_runs::{NoRun, ProgramFault, run_program, run_program_together};
+use program_runs::{Alone, Calling, NoRun, ProgramFault, Several, run_text};
 use std::alloc::{AllocError, Global};
 use std::sync::Wait;
 use std::thread::Threads;
+use token_pool::Ended;
 
 /// How many moves a run may make.
 pub(crate) const BUDGET: u32 = 10_000;
@@ -21,7 +31,7 @@ const WORKERS: u32 = 4;
 pub(crate) fn alone_line(alloc: Global, bytes: &[u8]) -> Result<String, AllocError>
     ensures { IfOk result (λ text. RunLine (codes "alone") bytes.now (string_bytes text)) }
 {
-    match run_program(alloc, bytes, BUDGET) {
+    match run_text(alloc, bytes, BUDGET, Calling::ByName, &Alone) {
         Ok(ended) => {
             let line = run_line(alloc, "alone", ended.answer, ended.log.len());
             drop(ended);
@@ -41,7 +51,7 @@ pub(crate) fn together_line<R: Threads + Wait + Sync, G: Gate>(
 ) -> Result<String, AllocError>
     ensures { IfOk result (λ text. RunLine (codes "together") bytes.now (string_bytes text)) }
 {
-    match run_program_together(rt, alloc, bytes, BUDGET, WORKERS, gate) {
+    match run_together(rt, alloc, bytes, WORKERS, gate) {
         Ok(ended) => {
             let line = run_line(alloc, "together", ended.answer, ended.log.len());
             drop(ended);
@@ -50,6 +60,38 @@ pub(crate) fn together_line<R: Threads + Wait + Sync, G: Gate>(
         Err(NoRun::Fault(fault)) => refused_line(alloc, "together", fault),
         Err(NoRun::Memory) => Err(AllocError),
     }
+}
+
+/// A text's run by so many workers.
+///
+/// # Errors
+///
+/// The first fault of the text, exactly when it has one. Or it runs out of memory.
+fn run_together<R: Threads + Wait + Sync, G: Gate>(
+    rt: &R,
+    alloc: Global,
+    bytes: &[u8],
+    workers: u32,
+    gate: &G,
+) -> Result<Ended, NoRun>
+    requires workers { (1 ≤ workers) × (workers ≤ most_workers) }
+    ensures run { IfOk result (λ r. RunsText ByName workers budget bytes.now r.answer r.log.entries) }
+    ensures fault { IfErr result (λ e. NoRunFor (FaultyProgram number bytes.now) e) }
+{
+    let run = |net: &Net, budget: u32| -> Result<Ended, AllocError>
+        requires runs { Runs net.now }
+        requires budget { (1 ≤ budget) × (budget ≤ most_budget) }
+        requires workers { (1 ≤ workers) × (workers ≤ most_workers) }
+        ensures run { IfOk result (λ e. IsRun net.now workers budget e.answer e.log.entries) }
+        ensures alone { IfOk result (λ e. workers ≡ 1 → IsFirstWorkers net.now budget e.log.entries) }
+    { run_net(rt, alloc, net, budget, workers, gate) };
+    run_text(
+        alloc,
+        bytes,
+        BUDGET,
+        Calling::ByName,
+        &Several { workers, run },
+    )
 }
 
 /// The line of an answer, or of none, after so many moves.

@@ -1,27 +1,28 @@
 -- What is told of the runs of judged programs is what is told of the programs.
-use Rattle.std.proofs.Common.{◌≡◌, ◌≤◌, ◌∙◌, ℕ, false, List, [], ◌∷◌, length, Option, Some, None, Result, Ok, Err, IfOk, OnOk, refl}
+use Rattle.std.proofs.Common.{◌≡◌, ◌≤◌, ◌∙◌, ℕ, false, List, [], ◌∷◌, length, Result, Ok, Err, IfOk, OnOk, refl}
 use Rattle.std.proofs.Common.{sym, ap, subst, arith}
 use Rattle.std.specs.List.{All}
 use Rattle.std.proofs.lemmas.List.Elements.{All-nil, All-cons}
-use Rattle.pcf_values.specs.Terms.{nat}
-use Rattle.program_runs.specs.Laws.{RunsTell}
+use Rattle.program_runs.specs.declared.calling.Calling.TheVariants.{ByName}
 use Rattle.token_pool.specs.declared.ending.Ended.{Ended}
 use Rattle.batch_pool.specs.declared.job.BatchJob.{BatchJob}
-use Rattle.batch_lists.specs.Limits.{most_jobs, most_job_budget}
+use Rattle.batch_lists.specs.Limits.{most_jobs}
 use Rattle.batch_pool.specs.Batches.{JobFits, BatchFits}
 use Rattle.batch_pool.specs.Running.{IsRunOf, AreRuns}
 use Rattle.goi_reports.specs.Forms.{AnswerFits}
 use Rattle.goi_reports.specs.Reports.{run_report}
 use Rattle.goi_words.specs.Jobs.{IsWorkers, IsBudget}
-use Rattle.goi_tasks.specs.Outputs.{Output, output, output_of}
+use Rattle.goi_tasks.specs.Outputs.{output, output_of}
 use Rattle.goi_tasks.specs.declared.report.Report.{Report}
 use Rattle.goi_tasks.specs.Replaying.{replay_status}
-use Rattle.goi_tasks.specs.Tasks.{ReportsText}
-use Rattle.goi_tasks.proofs.Ran.{reports_net, run_of}
+use Rattle.goi_tasks.specs.Running.{ReportsRun}
+use Rattle.goi_tasks.specs.Tasks.{nothing_shown, ReportsText}
+use Rattle.goi_tasks.proofs.Ran.{reports_run}
+use Rattle.goi_tasks.proofs.Texts.{of_net}
 use Rattle.goi_batches.specs.declared.judged.Judged.{Judged}
 use Rattle.goi_batches.specs.declared.judged.Judged.TheVariants.{Runs, Refused}
-use Rattle.goi_batches.specs.Judging.{IsJobOf, IsJudged, AreJudged}
-use Rattle.goi_batches.specs.Sections.{Listed, Section, section, run_alone, IsSection, runs, refused, AreSections}
+use Rattle.goi_batches.specs.Judging.{IsJobOf, AreJudged}
+use Rattle.goi_batches.specs.Sections.{Listed, section, plain_run, IsSection, runs, refused, AreSections}
 use Rattle.goi_batches.specs.Sections.{ReportsBatch, statuses_of, batch_status, batch_report}
 use Rattle.goi_batches.specs.Telling.{Mark, jobs_of, marks_of, told_by, Fit, EachFits, end_section}
 
@@ -63,21 +64,18 @@ ends_fit (Runs job ∷ js) workers (e ∷ es) (h, hs) = (h.run.booked, ends_fit 
 
 -- ---- and what is told of it is right
 
-module _ (law : RunsTell) (workers : ℕ) where
+module _ (workers : ℕ) where
   job_section : (p : Listed) (job : BatchJob) (e : Ended) → IsJobOf p job → IsRunOf job workers e → AnswerFits e.answer →
       IsSection workers p (end_section workers e)
   job_section p job e h r fits =
-      let n = h.net in
       let b = h.fits in
-      let text = run_report e.answer e.log.entries workers false false in
       let budget : IsBudget job.budget = (b.some_moves, omega (arith, b.few_moves)) in
-      let run = run_of law n.term n.typed job.net n.net_is workers job.budget e.answer e.log.entries r.run r.alone in
-      let so = reports_net _ _ workers job.budget false false false budget e.answer e.log.entries run fits [] refl (replay_status e.answer)
-      refl text refl in
-      let o = output (replay_status e.answer) text [] in
-      let one : ReportsText (run_alone workers job.budget) p.bytes o =
-      record { tree = n.ground.0; term = n.term; type = nat; is = n.ground.1; so = so } in
-      runs o (subst (λ (k : ℕ). ReportsText (run_alone workers k) p.bytes o) h.budget one)
+      let o = output (replay_status e.answer) (run_report e.answer e.log.entries workers false false) [] in
+      let one : ReportsText workers (plain_run job.budget) p.bytes o =
+      of_net ByName p.bytes job.net (λ t. ReportsRun workers job.budget ByName nothing_shown t o) h.net
+      (reports_run job.net workers job.budget budget e.answer e.log.entries r.run r.alone nothing_shown [] refl o fits refl refl refl
+      ByName) in
+      runs o (subst (λ (k : ℕ). ReportsText workers (plain_run k) p.bytes o) h.budget one)
 
   sections_told : (ps : List Listed) (js : List Judged) (es : List Ended) → AreJudged ps js → AreRuns (jobs_of js) workers es →
       EachFits (marks_of js) es → AreSections workers ps (told_by workers (marks_of js) es)

@@ -1,5 +1,5 @@
 -- What is told of a program is settled by its text and its budget, and so is how it ends.
-use Rattle.std.proofs.Common.{◌≡◌, ◌⊎◌, ◌++◌, ◌<◌, ◌≤◌, ◌∙◌, ℕ, Bool, true, false, if◌then◌else◌, List, [], ◌∷◌, length, Option, Some}
+use Rattle.std.proofs.Common.{◌≡◌, ◌⊎◌, ◌++◌, ◌≤◌, ◌∙◌, ℕ, Bool, true, false, if◌then◌else◌, List, [], length, Option, Some}
 use Rattle.std.proofs.Common.{None, refl, sym, ap, subst, inl, inr, arith}
 use Rattle.pcf_values.specs.declared.val.Val.{Val}
 use Rattle.pcf_values.specs.Terms.{TermTree}
@@ -13,16 +13,15 @@ use Rattle.goi_reports.specs.Lines.{result_lines}
 use Rattle.goi_tasks.specs.declared.fault.Fault.{Fault}
 use Rattle.goi_tasks.specs.Outputs.{Output}
 use Rattle.program_runs.specs.Programs.{number}
-use Rattle.goi_tasks.specs.Programs.{FaultyText}
 use Rattle.goi_tasks.specs.Refusals.{fault_line}
 use Rattle.program_runs.specs.Running.{Tells}
 use Rattle.goi_tasks.specs.Running.{ReportsNet}
-use Rattle.goi_tasks.specs.Tasks.{ReportsText, EndsText}
+use Rattle.goi_tasks.specs.Tasks.{nothing_shown, ReportsText}
 use Rattle.program_runs.proofs.OneProgram.{same_program}
 use Rattle.goi_tasks.specs.Replaying.{replay_status}
 use Rattle.goi_tasks.proofs.Outcomes.{Known, text_end, report_sound, end_sound, one_text_fault}
 use Rattle.goi_batches.specs.Laws.{OneSection}
-use Rattle.goi_batches.specs.Sections.{Listed, Section, section, run_alone, IsSection, runs, refused, some_is, batch_status, EndsListed}
+use Rattle.goi_batches.specs.Sections.{Listed, Section, section, plain_run, IsSection, runs, refused, some_is, batch_status, EndsListed}
 
 -- ---- the status of all is one of three
 
@@ -57,24 +56,24 @@ same_told one means net budget None None m n (beyond, spent) (far, all) = ap (λ
 
 -- the section of a run's output is what it came to
 told_of : (workers budget : ℕ) (means : Val → Type 0) (net : NetTree) (o : Output)
-    (h : ReportsNet means net workers budget false false false o) →
+    (h : ReportsNet means net workers budget nothing_shown o) →
     section o.status o.report ≡ told h.answer (length h.log) (replay_status h.answer)
 told_of workers budget means net o h = ap (λ (z : List ℕ). section o.status z) h.report_is ∙ ap (told h.answer (length h.log)) h.ends
 
 module _ (known : Known) where
   -- ---- it ends as it is told to end
 
-  pub section_end : (workers : ℕ) (p : Listed) (s : Section) (own : ℕ) → IsSection workers p s → EndsListed workers p own → s.status ≡ own
-  section_end workers p _ own (runs o h) (inl k) = text_end known (run_alone workers p.budget) p.bytes o own h k
-  section_end workers p _ own (runs o h) (inr (f, k, e)) = absurd (report_sound known (run_alone workers p.budget) p.bytes o f h k)
-  section_end workers p _ own (refused f h) (inl k) = absurd (end_sound known (run_alone workers p.budget) p.bytes own f k h)
+  pub section_end : (workers : ℕ) (p : Listed) (s : Section) (own : ℕ) → IsSection workers p s → EndsListed p own → s.status ≡ own
+  section_end workers p _ own (runs o h) (inl k) = text_end known workers (plain_run p.budget) p.bytes o own h k
+  section_end workers p _ own (runs o h) (inr (f, k, e)) = absurd (report_sound known workers (plain_run p.budget) p.bytes o f h k)
+  section_end workers p _ own (refused f h) (inl k) = absurd (end_sound known (plain_run p.budget) p.bytes own f k h)
   section_end workers p _ own (refused f h) (inr (g, k, e)) = sym e
 
   -- ---- a program's section
 
   module _ (lengths : OneLength) where
-    same_run : (p : Listed) (workers others : ℕ) (o u : Output) → ReportsText (run_alone workers p.budget) p.bytes o →
-        ReportsText (run_alone others p.budget) p.bytes u → section o.status o.report ≡ section u.status u.report
+    same_run : (p : Listed) (workers others : ℕ) (o u : Output) → ReportsText workers (plain_run p.budget) p.bytes o →
+        ReportsText others (plain_run p.budget) p.bytes u → section o.status o.report ≡ section u.status u.report
     same_run p workers others o u h k =
         let e : h.term ≡ k.term = same_program known.one_program number p.bytes _ _ h k in
         let tells = subst (λ (t : TermTree). Tells (Means t) (net_of t) p.budget h.so.answer (length h.so.log)) e h.so.run.tells in
@@ -85,7 +84,7 @@ module _ (known : Known) where
 
     pub one_section : OneSection
     one_section p workers others _ _ (runs o h) (runs u k) = same_run p workers others o u h k
-    one_section p workers others _ _ (runs o h) (refused f k) = absurd (report_sound known (run_alone workers p.budget) p.bytes o f h k)
-    one_section p workers others _ _ (refused f h) (runs o k) = absurd (report_sound known (run_alone others p.budget) p.bytes o f k h)
+    one_section p workers others _ _ (runs o h) (refused f k) = absurd (report_sound known workers (plain_run p.budget) p.bytes o f h k)
+    one_section p workers others _ _ (refused f h) (runs o k) = absurd (report_sound known others (plain_run p.budget) p.bytes o f k h)
     one_section p workers others _ _ (refused f h) (refused g k) =
         ap (λ (x : Fault). section 1 (fault_line x)) (one_text_fault known number p.bytes f g h k)

@@ -1,9 +1,10 @@
 -- What the programs of a list came to before the run: each is a job of its own net and budget, or is refused with the line of its fault.
-use Rattle.std.specs.Prelude.{◌≡◌, ℕ, List, [], ◌∷◌}
+use Rattle.std.specs.Prelude.{◌≡◌, List, [], ◌∷◌}
 use Rattle.batch_pool.specs.declared.job.BatchJob.{BatchJob}
 use Rattle.batch_pool.specs.Batches.{JobFits}
 use Rattle.goi_tasks.specs.declared.fault.Fault.{Fault}
-use Rattle.program_runs.specs.Nets.{IsNet}
+use Rattle.program_runs.specs.declared.calling.Calling.TheVariants.{ByName}
+use Rattle.program_runs.specs.Nets.{IsNetFor}
 use Rattle.program_runs.specs.Programs.{number}
 use Rattle.goi_tasks.specs.Programs.{FaultyText}
 use Rattle.goi_tasks.specs.Refusals.{fault_line}
@@ -13,7 +14,7 @@ use Rattle.goi_batches.specs.Sections.{Listed}
 
 -- the job of this program
 pub record IsJobOf (p : Listed) (job : BatchJob) : Type 0 where
-  pub net : IsNet p.bytes job.net
+  pub net : IsNetFor ByName p.bytes job.net
   pub budget : job.budget ≡ p.budget
   pub fits : JobFits job
 

@@ -7,10 +7,11 @@ use Rattle.goi_tasks.specs.declared.fault.Fault.{Fault}
 use Rattle.goi_tasks.specs.declared.task.Task.{Task}
 use Rattle.goi_tasks.specs.declared.task.Task.TheVariants.{Run}
 use Rattle.goi_tasks.specs.Outputs.{Output, output}
+use Rattle.program_runs.specs.declared.calling.Calling.TheVariants.{ByName}
 use Rattle.program_runs.specs.Programs.{number}
 use Rattle.goi_tasks.specs.Programs.{FaultyText}
 use Rattle.goi_tasks.specs.Refusals.{fault_line}
-use Rattle.goi_tasks.specs.Tasks.{ReportsText, EndsText}
+use Rattle.goi_tasks.specs.Tasks.{nothing_shown, ReportsText, EndsText}
 
 -- a program of a list: its text, and how many moves it may make
 pub record Listed : Type 0 where
@@ -29,13 +30,13 @@ abbrev pub section : ℕ → List ℕ → Section
 section status text = record { status = status; text = text }
 
 -- the run of a program alone, that tells neither its schedule nor its tally nor its progress
-abbrev pub run_alone : ℕ → ℕ → Task
-run_alone workers budget = Run workers budget false false false false
+abbrev pub plain_run : ℕ → Task
+plain_run budget = Run budget ByName nothing_shown
 
 -- what is told of this program where so many workers run it
 pub data IsSection (workers : ℕ) (p : Listed) : Section → Type 0 where
   -- the report of a run of it alone
-  runs : (o : Output) → ReportsText (run_alone workers p.budget) p.bytes o → IsSection workers p (section o.status o.report)
+  runs : (o : Output) → ReportsText workers (plain_run p.budget) p.bytes o → IsSection workers p (section o.status o.report)
   -- or the line of its first fault
   refused : (f : Fault) → FaultyText number p.bytes f → IsSection workers p (section 1 (fault_line f))
 
@@ -82,6 +83,6 @@ pub record ReportsBatch (workers : ℕ) (ps : List Listed) (o : Output) : Type 0
 -- ---- how it ends
 
 -- a run of this program alone ends with this status, or it is refused
-abbrev pub EndsListed : ℕ → Listed → ℕ → Type 0
-EndsListed workers p status =
-    EndsText (run_alone workers p.budget) p.bytes status ⊎ ((f : Fault) × FaultyText number p.bytes f × (status ≡ 1))
+abbrev pub EndsListed : Listed → ℕ → Type 0
+EndsListed p status =
+    EndsText (plain_run p.budget) p.bytes status ⊎ ((f : Fault) × FaultyText number p.bytes f × (status ≡ 1))

@@ -1,6 +1,6 @@
 -- What is kept of judged programs while their jobs run, and what is then told of each.
 -- A mark stands for each program: none where it runs, and else the line of its refusal.
-use Rattle.std.specs.Prelude.{◌≡◌, ◌≤◌, ℕ, false, List, [], ◌∷◌, Option, Some, None, Vec}
+use Rattle.std.specs.Prelude.{ℕ, false, List, [], ◌∷◌, Option, Some, None, Vec}
 use Rattle.std.specs.Global.{Global}
 use Rattle.token_pool.specs.declared.ending.Ended.{Ended}
 use Rattle.batch_pool.specs.declared.job.BatchJob.{BatchJob}

@@ -6,9 +6,9 @@ ghost use Rattle.goi_tasks.specs.Refusals.{fault_line};
 ghost use Rattle.goi_batches.specs.Judging.{IsJudged};
 ghost use Rattle.goi_batches.specs.Sections.{listed};
 
-use adequacy_laws::law_never_stuck;
 use batch_pool::BatchJob;
-use goi_tasks::{Fault, Stop, net_of_text, refuse};
+use goi_tasks::{Fault, refuse};
+use program_runs::{Calling, NoRun, net_for};
 use std::alloc::{AllocError, Global};
 
 /// What a program of a list came to before the run.
@@ -30,11 +30,10 @@ pub fn judge_program(alloc: Global, bytes: &[u8], budget: u32) -> Result<Judged,
     requires few { budget ≤ most_job_budget }
     ensures { IfOk result (IsJudged (listed budget bytes.now)) }
 {
-    law_never_stuck();
-    match net_of_text(alloc, bytes) {
+    match net_for(alloc, bytes, Calling::ByName) {
         Ok(net) => Ok(Judged::Runs(BatchJob { net, budget })),
-        Err(Stop::Fault(fault)) => Ok(Judged::Refused(line_of(alloc, fault)?)),
-        Err(Stop::Memory) => Err(AllocError),
+        Err(NoRun::Fault(fault)) => Ok(Judged::Refused(line_of(alloc, Fault::Program(fault))?)),
+        Err(NoRun::Memory) => Err(AllocError),
     }
 }
 

@@ -4,7 +4,7 @@ ghost use Rattle.goi_batches.specs.Laws.{OneSection};
 
 use adequacy_laws::law_one_length;
 use batch_lists::law_one_list;
-use net_text::law_one_answer as law_one_listing;
+use goi_tasks::law_one_listing;
 use program_runs::law_one_program;
 use replay_check::law_one_replay;
 use schedule_log::law_one_answer;

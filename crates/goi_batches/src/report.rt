@@ -14,7 +14,6 @@ use crate::sorting::sort;
 use batch_pool::run_batch;
 use gate_workers::Gate;
 use goi_tasks::Report;
-use program_runs::law_tells;
 use std::alloc::{AllocError, Global};
 use std::sync::Wait;
 use std::thread::Threads;
@@ -39,7 +38,6 @@ pub fn report_batch<R: Threads + Wait + Sync, G: Gate>(
     requires workers { IsWorkers workers }
     ensures { IfOk result (λ r. (ps : List Listed) → AreJudged ps programs.items → ReportsBatch workers ps (output_of r)) }
 {
-    law_tells();
     let (marks, jobs) = sort(alloc, programs)?;
     let ends = run_batch(rt, alloc, &jobs, workers, gate);
     drop(jobs);

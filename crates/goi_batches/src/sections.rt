@@ -4,12 +4,11 @@ ghost use Rattle.std.specs.Prelude.{◌≡◌, ◌<◌, ◌+◌, ◌^◌, ◌++�
 ghost use Rattle.goi_words.specs.Jobs.{IsWorkers};
 ghost use Rattle.goi_reports.specs.Forms.{AnswerFits};
 ghost use Rattle.goi_reports.specs.Tallies.{BookedWithin};
-ghost use Rattle.goi_tasks.specs.Replaying.{replay_status};
 ghost use Rattle.goi_batches.specs.Sections.{sections_from, statuses_of, job_line, some_is, batch_status};
 ghost use Rattle.goi_batches.specs.Telling.{end_section, first_section, rest_of, told_by, FitFirst, Fit, FirstFits, EachFits};
 
 use goi_reports::run_report;
-use pcf_values::Val;
+use goi_tasks::status_of;
 use std::alloc::{AllocError, Global};
 use token_pool::Ended;
 
@@ -118,16 +117,6 @@ fn line_of(alloc: Global, n: u32) -> Result<String, AllocError>
     ensures { IfOk result (λ text. string_bytes text ≡ job_line n) }
 {
     format!(in alloc; "job {n}\n")
-}
-
-/// 0 where there is an answer, and 5 where there is none.
-fn status_of(answer: Option<Val>) -> u8
-    ensures { result ≡ replay_status answer }
-{
-    match answer {
-        Some(_) => 0,
-        None => 5,
-    }
 }
 
 /// 1 where a program is refused, else 5 where one has no value, and else 0.

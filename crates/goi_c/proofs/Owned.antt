@@ -1,9 +1,10 @@
 -- Why a call ends with the status that is due, but for room and memory: its text has one status or one fault.
-use Rattle.std.proofs.Common.{◌≡◌, ℕ, Bool, List, ap, ◌∙◌, inl, inr}
+use Rattle.std.proofs.Common.{◌≡◌, ℕ, List, ap, ◌∙◌, inl, inr}
 use Rattle.goi_tasks.specs.declared.fault.Fault.{Fault}
-use Rattle.goi_tasks.specs.Alone.{TellsText}
 use Rattle.goi_tasks.specs.Outputs.{Output}
 use Rattle.goi_tasks.specs.Refusals.{fault_status}
+use Rattle.program_runs.specs.declared.calling.Calling.{Calling}
+use Rattle.goi_tasks.specs.Running.{TellsText}
 use Rattle.goi_tasks.specs.Settles.{Settles, status_of_output, status_of_run}
 use Rattle.goi_tasks.specs.Tasks.{FaultyFor, EndsText}
 use Rattle.goi_c.specs.declared.telling.Answer.{Answer}
@@ -31,9 +32,9 @@ module _ (right : Output → Type 0) (ends : ℕ → Type 0) (faulty : Fault →
   owned (no_memory n) = record { done = λ own e. inr (inr n.status_is); refused = λ f k. inr (inr n.status_is) }
 
 -- a run in numbers
-module _ (by_value : Bool) (budget : ℕ) (bytes : List ℕ) (s : Settles status_of_run (λ r. TellsText by_value budget bytes r.0 r.1)
-    (EndsText (tell_task by_value budget) bytes) (FaultyFor (tell_task by_value budget) bytes)) (a : Answer) (b : Back) where
-  pub told_owned : TellsRun by_value budget bytes a b → OwnsTask (tell_task by_value budget) bytes b
+module _ (calling : Calling) (budget : ℕ) (bytes : List ℕ) (s : Settles status_of_run (λ r. TellsText calling budget bytes r.0 r.1)
+    (EndsText (tell_task calling budget) bytes) (FaultyFor (tell_task calling budget) bytes)) (a : Answer) (b : Back) where
+  pub told_owned : TellsRun calling budget bytes a b → OwnsTask (tell_task calling budget) bytes b
   told_owned (ran answer moves t is n) = record {
     done = λ own e. inl (n.status_is ∙ s.one_status (answer, moves) own t e);
     refused = λ f k. absurd (s.right_or_faulty (answer, moves) f t k);

@@ -3,14 +3,15 @@ use Rattle.std.proofs.Common.{◌≡◌, ◌≢◌, ℕ, ◌≤◌, Bool, false,
 use Rattle.pcf_values.specs.declared.val.Val.{Val}
 use Rattle.goi_tasks.specs.declared.fault.Fault.{Fault}
 use Rattle.goi_tasks.specs.declared.fault.Fault.TheVariants as fault
-use Rattle.goi_tasks.specs.declared.task.Task.TheVariants.{Run, RunNet}
+use Rattle.goi_tasks.specs.declared.task.Task.TheVariants.{Run}
+use Rattle.program_runs.specs.declared.calling.Calling.{Calling}
 use Rattle.goi_tasks.specs.Outputs.{Output}
 use Rattle.goi_tasks.specs.Refusals.{most_line, fault_status}
 use Rattle.goi_tasks.specs.Replaying.{replay_status}
-use Rattle.goi_tasks.specs.Tasks.{ReportsText}
+use Rattle.goi_tasks.specs.Tasks.{shown, ReportsText}
 use Rattle.goi_c.specs.declared.telling.Answer.{Answer}
 use Rattle.goi_c.specs.Backs.{Back, Gives}
-use Rattle.goi_c.specs.Calls.{Calls, prints, refuses, no_memory, HasRoom, TellsRun, ran, refused, no_memory as told_no_memory}
+use Rattle.goi_c.specs.Calls.{Calls, prints, refuses, no_memory, HasRoom, listed_task, TellsRun, ran, refused, no_memory as told_no_memory}
 
 -- a short text with another status than that of no room finds room
 roomy : (b : Back) (status : ℕ) (text : List ℕ) → length text ≤ most_line → status ≢ 4 → Gives status text b → HasRoom b
@@ -37,20 +38,20 @@ lines_fit right faulty lines b (refuses f line h is g) room = roomy b (fault_sta
 lines_fit right faulty lines b (no_memory n) room = λ f. (let e = n.status_is in omega (arith, e, f))
 
 -- and a run without its schedule tells lines
-pub run_fits : (budget : ℕ) (schedule by_value : Bool) → schedule ≡ false → (bytes : List ℕ) (faulty : Fault → Type 0) (b : Back) →
-    Calls (ReportsText (Run 1 budget schedule false by_value false) bytes) faulty b → HasRoom b
-run_fits budget schedule by_value none bytes faulty b =
-    lines_fit (ReportsText (Run 1 budget schedule false by_value false) bytes) faulty
+pub run_fits : (budget : ℕ) (schedule : Bool) (calling : Calling) → schedule ≡ false → (bytes : List ℕ) (faulty : Fault → Type 0)
+    (b : Back) → Calls (ReportsText 1 (Run budget calling (shown schedule false false)) bytes) faulty b → HasRoom b
+run_fits budget schedule calling none bytes faulty b =
+    lines_fit (ReportsText 1 (Run budget calling (shown schedule false false)) bytes) faulty
     (λ o r. (r.so.short none refl, ended r.so.answer o.status r.so.ends)) b
 
 pub listed_fits : (budget : ℕ) (schedule : Bool) → schedule ≡ false → (bytes : List ℕ) (faulty : Fault → Type 0) (b : Back) →
-    Calls (ReportsText (RunNet 1 budget schedule false) bytes) faulty b → HasRoom b
+    Calls (ReportsText 1 (listed_task budget schedule) bytes) faulty b → HasRoom b
 listed_fits budget schedule none bytes faulty b =
-    lines_fit (ReportsText (RunNet 1 budget schedule false) bytes) faulty
+    lines_fit (ReportsText 1 (listed_task budget schedule) bytes) faulty
     (λ o r. (r.so.short none refl, ended r.so.answer o.status r.so.ends)) b
 
 -- and so does a run in numbers
-pub told_fits : (by_value : Bool) (budget : ℕ) (bytes : List ℕ) (a : Answer) (b : Back) → TellsRun by_value budget bytes a b → HasRoom b
-told_fits by_value budget bytes a b (ran answer moves t is n) room = λ f. ended answer (replay_status answer) refl (sym n.status_is ∙ f)
-told_fits by_value budget bytes a b (refused f line h is none g) room = roomy b (fault_status f) line is.short (refused_other f) g room
-told_fits by_value budget bytes a b (told_no_memory none n) room = λ f. (let e = n.status_is in omega (arith, e, f))
+pub told_fits : (calling : Calling) (budget : ℕ) (bytes : List ℕ) (a : Answer) (b : Back) → TellsRun calling budget bytes a b → HasRoom b
+told_fits calling budget bytes a b (ran answer moves t is n) room = λ f. ended answer (replay_status answer) refl (sym n.status_is ∙ f)
+told_fits calling budget bytes a b (refused f line h is none g) room = roomy b (fault_status f) line is.short (refused_other f) g room
+told_fits calling budget bytes a b (told_no_memory none n) room = λ f. (let e = n.status_is in omega (arith, e, f))

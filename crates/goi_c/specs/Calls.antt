@@ -9,13 +9,14 @@ use Rattle.goi_words.specs.Jobs.{IsBudget, IsWindow}
 use Rattle.goi_tasks.specs.declared.fault.Fault.{Fault}
 use Rattle.goi_tasks.specs.declared.task.Task.{Task}
 use Rattle.goi_tasks.specs.declared.task.Task.TheVariants.{Run, RunNet, Trace}
-use Rattle.goi_tasks.specs.Alone.{TellsText}
 use Rattle.goi_tasks.specs.Outputs.{Output}
 use Rattle.goi_tasks.specs.Refusals.{most_line, IsLine, fault_status}
-use Rattle.program_runs.specs.Programs.{OfGround}
+use Rattle.program_runs.specs.declared.calling.Calling.{Calling}
+use Rattle.program_runs.specs.Programs.{calling_of, OfGround}
 use Rattle.goi_tasks.specs.Programs.{FaultyEither}
 use Rattle.goi_tasks.specs.Replaying.{replay_status, ReportsReplay, EndsReplay, FaultySchedule}
-use Rattle.goi_tasks.specs.Tasks.{ReportsText, FaultyFor, EndsText}
+use Rattle.goi_tasks.specs.Running.{TellsText}
+use Rattle.goi_tasks.specs.Tasks.{shown, nothing_shown, ReportsText, FaultyFor, EndsText}
 use Rattle.goi_c.specs.declared.telling.Answer.{Answer}
 use Rattle.goi_c.specs.Backs.{Back, Comes, Gives, Nothing}
 
@@ -40,9 +41,9 @@ pub data Calls (reports : Output → Type 0) (faulty : Fault → Type 0) (b : Ba
   refuses : (f : Fault) (line : List ℕ) → faulty f → IsLine f line → Gives (fault_status f) line b → Calls reports faulty b
   no_memory : Nothing 6 b → Calls reports faulty b
 
--- the call of a task on a text
+-- the call of a task on a text, which one worker runs where something is run
 abbrev pub CallsTask : Task → List ℕ → Back → Type 0
-CallsTask task bytes b = Calls (ReportsText task bytes) (FaultyFor task bytes) b
+CallsTask task bytes b = Calls (ReportsText 1 task bytes) (FaultyFor task bytes) b
 
 -- the call of a schedule on the net of a text's program
 abbrev pub CallsReplay : List ℕ → List ℕ → Back → Type 0
@@ -56,14 +57,17 @@ pub record WhereAsked (asked : Type 0) (b : Back) (so : Type 0) : Type 0 where
 
 -- the task for which these numbers ask
 abbrev pub run_task : ℕ → ℕ → Task
-run_task budget flags = Run 1 budget (schedule_in flags) false (by_value_in flags) false
+run_task budget flags = Run budget (calling_of (by_value_in flags)) (shown (schedule_in flags) false false)
+
+abbrev pub listed_task : ℕ → Bool → Task
+listed_task budget schedule = RunNet budget (shown schedule false false)
 
 -- the call of a run of a text's program, and of a listed one, which has no call by value
 abbrev pub CallsRun : List ℕ → ℕ → ℕ → Back → Type 0
 CallsRun bytes budget flags b = WhereAsked (IsAsked 4 budget flags) b (CallsTask (run_task budget flags) bytes b)
 
 abbrev pub CallsListed : List ℕ → ℕ → Bool → Back → Type 0
-CallsListed bytes budget schedule b = WhereAsked (IsBudget budget) b (CallsTask (RunNet 1 budget schedule false) bytes b)
+CallsListed bytes budget schedule b = WhereAsked (IsBudget budget) b (CallsTask (listed_task budget schedule) bytes b)
 
 -- the part of a trace that these numbers name
 abbrev pub part : ℕ → ℕ → Window
@@ -74,7 +78,7 @@ abbrev pub IsAskedTrace : ℕ → ℕ → Window → Type 0
 IsAskedTrace budget flags window = IsAsked 2 budget flags × IsWindow window
 
 abbrev pub trace_task : ℕ → ℕ → Window → Task
-trace_task budget flags window = Trace 1 budget (nat_eq flags 1) window
+trace_task budget flags window = Trace budget (calling_of (nat_eq flags 1)) window
 
 abbrev pub CallsTrace : List ℕ → ℕ → ℕ → Window → Back → Type 0
 CallsTrace bytes budget flags window b =
@@ -108,20 +112,20 @@ AnswerIs (Some (Number n)) moves a = (a.kind ≡ 1) × (a.value ≡ n) × (a.mov
 AnswerIs (Some Overflow) moves a = (a.kind ≡ 2) × (a.value ≡ 0) × (a.moves ≡ moves)
 
 -- the task of a run in numbers
-abbrev pub tell_task : Bool → ℕ → Task
-tell_task by_value budget = Run 1 budget false false by_value false
+abbrev pub tell_task : Calling → ℕ → Task
+tell_task calling budget = Run budget calling nothing_shown
 
 -- what a run in numbers gives back: what it came to, with its status, or the line of a fault that is there, or there was no memory
-pub data TellsRun (by_value : Bool) (budget : ℕ) (bytes : List ℕ) (a : Answer) (b : Back) : Type 0 where
-  ran : (answer : Option Val) (moves : ℕ) → TellsText by_value budget bytes answer moves → AnswerIs answer moves a →
-      Nothing (replay_status answer) b → TellsRun by_value budget bytes a b
-  refused : (f : Fault) (line : List ℕ) → FaultyFor (tell_task by_value budget) bytes f → IsLine f line → AnswerIs None 0 a →
-      Gives (fault_status f) line b → TellsRun by_value budget bytes a b
-  no_memory : AnswerIs None 0 a → Nothing 6 b → TellsRun by_value budget bytes a b
+pub data TellsRun (calling : Calling) (budget : ℕ) (bytes : List ℕ) (a : Answer) (b : Back) : Type 0 where
+  ran : (answer : Option Val) (moves : ℕ) → TellsText calling budget bytes answer moves → AnswerIs answer moves a →
+      Nothing (replay_status answer) b → TellsRun calling budget bytes a b
+  refused : (f : Fault) (line : List ℕ) → FaultyFor (tell_task calling budget) bytes f → IsLine f line → AnswerIs None 0 a →
+      Gives (fault_status f) line b → TellsRun calling budget bytes a b
+  no_memory : AnswerIs None 0 a → Nothing 6 b → TellsRun calling budget bytes a b
 
 -- the call of a run in numbers; where its numbers ask for nothing, there is no answer
 pub record CallsTell (bytes : List ℕ) (budget flags : ℕ) (a : Answer) (b : Back) : Type 0 where
-  pub right : IsAsked 2 budget flags → TellsRun (nat_eq flags 1) budget bytes a b
+  pub right : IsAsked 2 budget flags → TellsRun (calling_of (nat_eq flags 1)) budget bytes a b
   pub wrong : (IsAsked 2 budget flags → ⊥) → Nothing 2 b
   pub no_answer : (IsAsked 2 budget flags → ⊥) → AnswerIs None 0 a
 

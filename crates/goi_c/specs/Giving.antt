@@ -1,7 +1,6 @@
 -- What is given back of a task's result, and of a run's numbers.
 use Rattle.std.specs.Prelude.{◌⊎◌, ℕ, List, None, Result, Ok, Err}
-use Rattle.goi_tasks.specs.declared.alone.Told.{Told}
-use Rattle.goi_tasks.specs.declared.fault.Fault.{Fault}
+use Rattle.goi_tasks.specs.declared.telling.Told.{Told}
 use Rattle.goi_tasks.specs.declared.report.Report.{Report}
 use Rattle.goi_tasks.specs.declared.stop.Stop.{Stop}
 use Rattle.goi_tasks.specs.declared.stop.Stop.TheVariants as stop

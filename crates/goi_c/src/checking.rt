@@ -5,7 +5,8 @@ ghost use Rattle.goi_c.specs.Backs.{back};
 ghost use Rattle.goi_c.specs.Calls.{CallsReplay, CallsTask, OwnsReplay, OwnsTask};
 
 use crate::giving::give_result;
-use goi_tasks::{check_alone, law_settled, list_alone, replay_alone};
+use goi_tasks::{Task, law_settled, replay_text, report_text};
+use program_runs::Alone;
 use std::alloc::Global;
 
 /// Tells the type of a text's program, and with `term` the program itself behind it.
@@ -21,7 +22,7 @@ pub extern "C" fn goi_check(
     ensures own { OwnsTask (Check term) text.now (back result needed.new out.old out.new) }
 {
     law_settled();
-    let checked = check_alone(alloc, text, term);
+    let checked = report_text(alloc, text, Task::Check { term }, &Alone);
     give_result(alloc, checked, out, needed)
 }
 
@@ -32,7 +33,7 @@ pub extern "C" fn goi_net(alloc: Global, text: &[u8], out: &mut [u8], needed: &m
     ensures own { OwnsTask ShowNet text.now (back result needed.new out.old out.new) }
 {
     law_settled();
-    let listed = list_alone(alloc, text);
+    let listed = report_text(alloc, text, Task::ShowNet, &Alone);
     give_result(alloc, listed, out, needed)
 }
 
@@ -49,6 +50,6 @@ pub extern "C" fn goi_replay(
     ensures own { OwnsReplay text.now schedule.now (back result needed.new out.old out.new) }
 {
     law_settled();
-    let replayed = replay_alone(alloc, text, schedule);
+    let replayed = replay_text(alloc, text, schedule);
     give_result(alloc, replayed, out, needed)
 }

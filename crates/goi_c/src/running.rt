@@ -2,15 +2,16 @@
 
 ghost use Rattle.std.specs.Prelude.{◌≡◌, ◌<◌, false};
 ghost use Rattle.goi_words.specs.Jobs.{IsBudget};
-ghost use Rattle.goi_tasks.specs.declared.task.Task.TheVariants.{RunNet};
+ghost use Rattle.goi_tasks.specs.Tasks.{shown};
 ghost use Rattle.goi_c.specs.Backs.{back};
 ghost use Rattle.goi_c.specs.Calls.{CallsListed, CallsRun, CallsTrace, HasRoom, IsAsked, IsAskedTrace, OwnsTask};
-ghost use Rattle.goi_c.specs.Calls.{part, run_task, trace_task};
+ghost use Rattle.goi_c.specs.Calls.{listed_task, part, run_task, trace_task};
 
 use crate::giving::{BAD_CALL, give_nothing, give_result};
-use goi_tasks::{law_settled, run_listing_alone, run_text_alone, trace_text_alone};
+use goi_tasks::{Shown, Task, law_settled, report_text};
 use goi_words::{TRACED_MOVES, Window};
 use pcf_values::limits::{BUDGET, SCHEDULE_MOVES};
+use program_runs::{Alone, calling_of};
 use std::alloc::Global;
 
 /// Runs the program of a text within a budget of moves: `value V` and `moves M`, or `no value` and `moves M`.
@@ -35,7 +36,12 @@ pub extern "C" fn goi_run(
     if budget < 1 || BUDGET < budget || 4 <= flags {
         return give_nothing(needed, BAD_CALL);
     }
-    let ran = run_text_alone(alloc, text, budget, flags / 2 == 1, false, flags % 2 == 1);
+    let task = Task::Run {
+        budget,
+        calling: calling_of(flags % 2 == 1),
+        shown: only_schedule(flags / 2 == 1),
+    };
+    let ran = report_text(alloc, text, task, &Alone);
     give_result(alloc, ran, out, needed)
 }
 
@@ -50,7 +56,7 @@ pub extern "C" fn goi_run_net(
     needed: &mut usize,
 ) -> u32
     ensures calls { CallsListed text.now budget schedule (back result needed.new out.old out.new) }
-    ensures own { IsBudget budget → OwnsTask (RunNet 1 budget schedule false) text.now (back result needed.new out.old out.new) }
+    ensures own { IsBudget budget → OwnsTask (listed_task budget schedule) text.now (back result needed.new out.old out.new) }
 
     // A buffer for a line has room for all but a schedule.
     ensures room { schedule ≡ false → HasRoom (back result needed.new out.old out.new) }
@@ -59,7 +65,11 @@ pub extern "C" fn goi_run_net(
     if budget < 1 || BUDGET < budget {
         return give_nothing(needed, BAD_CALL);
     }
-    let ran = run_listing_alone(alloc, text, budget, schedule, false);
+    let task = Task::RunNet {
+        budget,
+        shown: only_schedule(schedule),
+    };
+    let ran = report_text(alloc, text, task, &Alone);
     give_result(alloc, ran, out, needed)
 }
 
@@ -89,6 +99,22 @@ pub extern "C" fn goi_trace(
     if SCHEDULE_MOVES < from || most < 1 || TRACED_MOVES < most {
         return give_nothing(needed, BAD_CALL);
     }
-    let traced = trace_text_alone(alloc, text, budget, flags == 1, Window { from, most });
+    let task = Task::Trace {
+        budget,
+        calling: calling_of(flags == 1),
+        window: Window { from, most },
+    };
+    let traced = report_text(alloc, text, task, &Alone);
     give_result(alloc, traced, out, needed)
+}
+
+/// Of a run the schedule alone is shown, where it is asked for.
+fn only_schedule(schedule: bool) -> Shown
+    ensures { result ≡ shown schedule false false }
+{
+    Shown {
+        schedule,
+        tally: false,
+        progress: false,
+    }
 }

@@ -1,15 +1,16 @@
 //! Runs, as numbers.
 
 ghost use Rattle.std.specs.Prelude.{◌≡◌, nat_eq};
-ghost use Rattle.goi_tasks.specs.Replaying.{replay_status};
+ghost use Rattle.program_runs.specs.Programs.{calling_of};
 ghost use Rattle.goi_c.specs.Backs.{back};
 ghost use Rattle.goi_c.specs.Calls.{AnswerIs, CallsTell, HasRoom, IsAsked, OwnsTask, tell_task};
 ghost use Rattle.goi_c.specs.Giving.{OfTold};
 
 use crate::giving::{BAD_CALL, give_nothing, give_stop};
-use goi_tasks::{Stop, Told, law_settled, tell_text};
+use goi_tasks::{Stop, Told, law_settled, status_of, tell_text};
 use pcf_values::Val;
 use pcf_values::limits::BUDGET;
+use program_runs::{Alone, calling_of};
 use std::alloc::Global;
 
 /// What a run came to.
@@ -38,7 +39,8 @@ pub extern "C" fn goi_tell(
     needed: &mut usize,
 ) -> u32
     ensures calls { CallsTell text.now budget flags answer.new (back result needed.new out.old out.new) }
-    ensures own { IsAsked 2 budget flags → OwnsTask (tell_task (nat_eq flags 1) budget) text.now (back result needed.new out.old out.new) }
+    ensures own { IsAsked 2 budget flags →
+        OwnsTask (tell_task (calling_of (nat_eq flags 1)) budget) text.now (back result needed.new out.old out.new) }
 
     // A buffer for a line has room for the line of a fault.
     ensures room { HasRoom (back result needed.new out.old out.new) }
@@ -48,7 +50,7 @@ pub extern "C" fn goi_tell(
         *answer = no_answer();
         return give_nothing(needed, BAD_CALL);
     }
-    let told = tell_text(alloc, text, budget, flags == 1);
+    let told = tell_text(alloc, text, budget, calling_of(flags == 1), &Alone);
     give_told(alloc, told, answer, out, needed)
 }
 
@@ -65,7 +67,7 @@ fn give_told(
     match told {
         Ok(told) => {
             *answer = answer_of(told.answer, told.moves);
-            give_nothing(needed, status_of(told.answer))
+            give_nothing(needed, status_of(told.answer).into())
         }
         Err(stop) => {
             *answer = no_answer();
@@ -105,15 +107,5 @@ fn answer_of(value: Option<Val>, moves: u32) -> Answer
             moves,
             kind: 2,
         },
-    }
-}
-
-/// 0 where there is an answer, and 5 where there is none.
-fn status_of(answer: Option<Val>) -> u32
-    ensures { result ≡ replay_status answer }
-{
-    match answer {
-        Some(_) => 0,
-        None => 5,
     }
 }

@@ -3,8 +3,8 @@
 #![tactic(auto)]
 
 use gate_workers::OpenGate;
-use goi_engine::goi;
-use goi_world::{DiskFiles, Sink, StdSink};
+use goi_engine::{goi, tell_no_memory};
+use goi_world::{DiskFiles, StdSink};
 use std::process::ExitCode;
 use std::rt::Env;
 use std::{env, io};
@@ -31,19 +31,4 @@ fn main(rt: HostRuntime) -> ExitCode {
 /// The words of the process, its own name first.
 fn words_of<R: Env + AllocGlobal>(rt: &R) -> io::Result<Vec<String>> {
     Ok(env::args(rt)?.collect(rt.alloc())?)
-}
-
-/// Says that there was no memory for the words, as the top call says it, and gives the status: 6, or 4 where that can't be written.
-fn tell_no_memory<E: Sink>(err: &mut E) -> u8 {
-    let mut rest: &[u8] = b"no memory\n";
-    for _ in 0..rest.len() {
-        let Ok(count) = err.write(rest) else {
-            return 4;
-        };
-        rest = rest.split_at(count).1;
-        if rest.is_empty() {
-            break;
-        }
-    }
-    6
 }

@@ -2,10 +2,10 @@
 use Rattle.std.proofs.Common.{◌≡◌, ℕ, Bool, List, [], Option, Some, None, IsTrue, refl, ap, ◌∙◌, subst, inl, inr, ⊎_elim, arith}
 use Rattle.std.proofs.lemmas.List.Elements.{All-nil}
 use Rattle.goi_world.specs.Outside.{Reading}
-use Rattle.pcf_values.specs.Terms.{TermTree, nat}
-use Rattle.pcf_values.specs.Typing.{HasType}
+use Rattle.pcf_values.specs.Terms.{TermTree}
 use Rattle.net_build.specs.Nets.{NetTree}
-use Rattle.net_build.specs.NetOf.{net_of}
+use Rattle.program_runs.specs.declared.calling.Calling.TheVariants.{ByName}
+use Rattle.program_runs.specs.Nets.{RunsAs}
 use Rattle.goi_engine.specs.declared.answer.Answer.{Answer}
 use Rattle.goi_engine.specs.declared.answer.Answer.TheVariants.{Prints, Refused, BadWords, NotRead, NoMemory}
 use Rattle.goi_engine.specs.Answers.{AnswersSchedule, MadeNet, AnswersDeed}
@@ -71,12 +71,12 @@ module _ (file moves : List ℕ) (window : Option Window) (old new : FilesState)
     with_term NoMemory h = h
 
   pub schedule_job : (mid : FilesState) (net : NetTree) (a : Answer) → FilesKept old mid → MadeNet file old mid net →
-      ((t : TermTree) → HasType [] t nat → net ≡ net_of t → AnswersSchedule t window moves mid new a) →
+      ((t : TermTree) → RunsAs ByName t net → AnswersSchedule t window moves mid new a) →
       AnswersDeed (with_schedule file moves window) old new a
   schedule_job mid net a kept made h =
       with_term made.term made.ground a
       (subst (λ (s : FilesState). AnswersSchedule made.term window moves s new a) (same_state old mid kept made.faults)
-      (h made.term made.typed made.net_is))
+      (h made.term made.runs))
 
 -- ---- no file
 
@@ -88,7 +88,7 @@ unread one name limit old = record { log = []; came = refl; few = omega arith; e
 pub nothing_read : {S : Type 0} (one : S → Reading → S → Type 0) (told : List ℕ → Option (List ℕ)) (asked : Option Deed) (old : S) →
     ReadFor one told asked old old
 nothing_read one told None old = refl
-nothing_read one told (Some (with_text task file)) old = unread one file _ old
+nothing_read one told (Some (with_text workers task file)) old = unread one file _ old
 nothing_read one told (Some (with_schedule file moves window)) old =
     record { mid = old; program = unread one file _ old; schedule = inl refl }
 nothing_read one told (Some (with_list file workers)) old = record { mid = old; list = unread one file _ old; programs = inl refl }

@@ -13,6 +13,7 @@ use Rattle.adequacy_laws.specs.Questions.{Length}
 use Rattle.schedule_log.specs.declared.entry.Entry.{Entry}
 use Rattle.goi_world.specs.Outside.{with_more}
 use Rattle.goi_world.specs.Seen.{SinkState}
+use Rattle.program_runs.specs.declared.calling.Calling.TheVariants.{ByName}
 use Rattle.program_runs.specs.Laws.{OneProgram}
 use Rattle.program_runs.specs.Programs.{number, IsProgram, IsGround}
 use Rattle.program_runs.specs.Running.{Tells}
@@ -26,7 +27,7 @@ use Rattle.goi_tasks.specs.Outputs.{Output}
 use Rattle.goi_tasks.specs.Programs.{no_program, FaultyText}
 use Rattle.goi_tasks.specs.Refusals.{IsLine, fault_status, program_fault_line}
 use Rattle.goi_tasks.specs.Replaying.{replay_status}
-use Rattle.goi_tasks.specs.Tasks.{ReportsText}
+use Rattle.goi_tasks.specs.Tasks.{nothing_shown, ReportsText}
 use Rattle.goi_engine.specs.Deeds.{Deed, with_text, deed}
 use Rattle.goi_engine.specs.FilesSeen.{Possibly}
 use Rattle.goi_engine.specs.Headline.{Outcome, has_value, no_value, is_faulty, Headline, OneOutcome}
@@ -75,14 +76,14 @@ module _ (bytes : List ℕ) (budget : ℕ) where
 
   module _ (file : List ℕ) (workers : ℕ) (c : Call) (told : c.old.told file ≡ Some bytes) where
     abbrev Asked : Deed
-    Asked = with_text (Run workers budget false false false false) file
+    Asked = with_text workers (Run budget ByName nothing_shown) file
 
     -- what was written is an outcome of this status
     abbrev Came : ℕ → Type 0
     Came status = (report line : List ℕ) × Outcome bytes budget status report line × Wrote report c.out × Wrote line c.err
 
     -- the report of a run, without notes
-    reported : (o : Output) (status : ℕ) → ReportsText (Run workers budget false false false false) bytes o → o.status ≡ status →
+    reported : (o : Output) (status : ℕ) → ReportsText workers (Run budget ByName nothing_shown) bytes o → o.status ≡ status →
         Wrote o.report c.out → Wrote o.notes c.err → Came status
     reported o status h e out err =
         let ground = ground_of bytes h.tree h.term h.type h.is in
@@ -100,7 +101,7 @@ module _ (bytes : List ℕ) (budget : ℕ) where
         let k : d ≡ Asked = cc in
         let right = subst (λ (x : Deed). Reports x c.old h.output) k h.right in
         reported h.output status
-        (of_told (c.old.told file) bytes (λ b. ReportsText (Run workers budget false false false false) b h.output) told right.1)
+        (of_told (c.old.told file) bytes (λ b. ReportsText workers (Run budget ByName nothing_shown) b h.output) told right.1)
         h.of_status h.out h.err
 
     -- the text's first fault

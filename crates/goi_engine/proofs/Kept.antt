@@ -199,8 +199,9 @@ two_of_three status (inr e) = inr (inr e)
 
 -- an output ends with one of three statuses: one of a program or a schedule with 0 or 5, and one of a list with 1 too
 three_statuses : (d : Deed) (files : FilesState) (o : Output) → Reports d files o → OneOfThree o.status
-three_statuses (with_text task file) files o h =
-    two_of_three o.status (some_bytes (files.told file) (λ b. ReportsText task b o) (OneOfTwo o.status) (λ b x. text_status task b o x) h.1)
+three_statuses (with_text workers task file) files o h =
+    two_of_three o.status
+    (some_bytes (files.told file) (λ b. ReportsText workers task b o) (OneOfTwo o.status) (λ b x. text_status workers task b o x) h.1)
 three_statuses (with_schedule file moves window) files o h =
     let OfMoves : List ℕ → Type 0 = λ b. OfGround b (λ t. OfFile files moves (λ text. ReportsReplay t window text o)) in
     two_of_three o.status (

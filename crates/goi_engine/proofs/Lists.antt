@@ -15,7 +15,8 @@ use Rattle.goi_tasks.specs.declared.fault.Fault.TheVariants.{Batch}
 use Rattle.goi_tasks.specs.declared.stop.Stop.{Stop}
 use Rattle.goi_tasks.specs.declared.stop.Stop.TheVariants as stop
 use Rattle.goi_tasks.specs.Outputs.{Output, output_of}
-use Rattle.program_runs.specs.Programs.{number}
+use Rattle.program_runs.specs.declared.calling.Calling.TheVariants.{ByName}
+use Rattle.program_runs.specs.Programs.{number, wanted_by_run}
 use Rattle.goi_batches.specs.declared.judged.Judged.{Judged}
 use Rattle.goi_batches.specs.declared.judged.Judged.TheVariants.{Runs, Refused as Told}
 use Rattle.goi_batches.specs.Judging.{IsJudged, AreJudged}
@@ -31,7 +32,7 @@ use Rattle.goi_world.specs.Seen.{FilesState, FilesKept}
 use Rattle.goi_engine.specs.FilesSeen.{Possibly, OfFile, LoadedBy}
 use Rattle.goi_engine.specs.ListsSeen.{OfList, FaultyList, unlisted, AreSectionsIn, ReportsLines, LacksOne, LoadedEach, LoadedList}
 use Rattle.goi_engine.proofs.Answered.{same_state}
-use Rattle.goi_engine.proofs.Told.{Same, possible, ground_goes, faulty_goes}
+use Rattle.goi_engine.proofs.Told.{Same, possible, of_program_goes, faulty_goes}
 
 -- ---- what was loaded of a list's file
 
@@ -130,12 +131,7 @@ none_job bytes workers old a h = no_lines_job bytes workers old old refl a h
 judged_goes : (budget : ℕ) (j : Judged) (v bytes : List ℕ) → Same most_program_bytes v bytes → IsJudged (listed budget v) j →
     IsJudged (listed budget bytes) j
 judged_goes budget (Runs job) v bytes s h =
-    let n = h.net in
-    record {
-      net = record { term = n.term; ground = ground_goes n.term v bytes s n.ground; typed = n.typed; net_is = n.net_is };
-      budget = h.budget;
-      fits = h.fits;
-    }
+    record { net = of_program_goes (wanted_by_run ByName) _ v bytes s h.net; budget = h.budget; fits = h.fits }
 judged_goes budget (Told line) v bytes s (f, h, is) = (f, faulty_goes number f v bytes s h, is)
 
 -- what the program that was loaded of a line's file came to

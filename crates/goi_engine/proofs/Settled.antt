@@ -70,7 +70,7 @@ module _ (known : Known) where
 
   module _ (files : FilesState) (workers : ℕ) where
     -- what is told of each line ends as the line does, since a file that is told has one text
-    each_end : (ls : List BatchLine) (ss : List Section) (es : List ℕ) → AreSectionsIn files workers ls ss → EndEachIn files workers ls es →
+    each_end : (ls : List BatchLine) (ss : List Section) (es : List ℕ) → AreSectionsIn files workers ls ss → EndEachIn files ls es →
         statuses_of ss ≡ es
     each_end [] [] [] h k = refl
     each_end [] [] (e ∷ es) h k = absurd k
@@ -79,11 +79,11 @@ module _ (known : Known) where
     each_end (l ∷ ls) (s ∷ ss) [] h k = absurd k
     each_end (l ∷ ls) (s ∷ ss) (e ∷ es) (h, hs) (k, ks) =
         let (b, p, q) = meets (files.told l.file) (λ b. IsSection workers (listed l.budget b) s)
-        (λ b. EndsListed workers (listed l.budget b) e) h.1 k in
+        (λ b. EndsListed (listed l.budget b) e) h.1 k in
         ap (λ (n : ℕ). n ∷ statuses_of ss) (section_end known workers (listed l.budget b) s e p q) ∙ ap (λ (ns : List ℕ). e ∷ ns)
         (each_end ls ss es hs ks)
 
-    lines_end : (ls : List BatchLine) (o : Output) (own : ℕ) → ReportsLines files workers ls o → EndLines files workers ls own →
+    lines_end : (ls : List BatchLine) (o : Output) (own : ℕ) → ReportsLines files workers ls o → EndLines files ls own →
         o.status ≡ own
     lines_end ls o own h (ends, each, is) =
         ap (λ (x : Output). x.status) h.output_is ∙ ap batch_status (each_end ls h.sections ends h.are each) ∙ sym is
@@ -95,7 +95,7 @@ module _ (known : Known) where
     had_each (l ∷ ls) (s ∷ ss) (h, hs) (inr k) = had_each ls ss hs k
 
     tells_each : ((name : List ℕ) → IsTrue (files.lacks name) → files.told name ≡ None) → (ls : List BatchLine) (es : List ℕ) →
-        LacksOne files ls → EndEachIn files workers ls es → ⊥
+        LacksOne files ls → EndEachIn files ls es → ⊥
     tells_each untold [] es l h = l
     tells_each untold (l ∷ ls) [] k h = h
     tells_each untold (l ∷ ls) (e ∷ es) (inl k) ((b, told, x), hs) = never_lacked files.told l.file b (untold l.file k) told
@@ -125,9 +125,9 @@ module _ (known : Known) (files : FilesState) where
 
   -- the output that is right ends with the status with which the deed does
   pub one_status : (d : Deed) (o : Output) (own : ℕ) → Reports d files o → CanDo d files own → o.status ≡ own
-  one_status (with_text task file) o own h k =
-      let (b, p, q) = meets (files.told file) (λ b. ReportsText task b o) (λ b. EndsText task b own) h.1 k in
-      text_end known task b o own p q
+  one_status (with_text workers task file) o own h k =
+      let (b, p, q) = meets (files.told file) (λ b. ReportsText workers task b o) (λ b. EndsText task b own) h.1 k in
+      text_end known workers task b o own p q
   one_status (with_schedule file moves window) o own h k =
       let (b, p, q) = meets (files.told file) (λ b. OfGround b (AtMoves moves (λ t text. ReportsReplay t window text o)))
       (λ b. OfGround b (AtTold moves (λ t text. EndsReplay t text own))) h.1 k in
@@ -135,8 +135,8 @@ module _ (known : Known) (files : FilesState) where
       replay_end known t window c o own r e
   one_status (with_list file workers) o own h k =
       let (b, p, q) = meets (files.told file) (λ b. OfList b (λ ls. ReportsLines files workers ls o))
-      (λ b. OfList b (λ ls. EndLines files workers ls own)) h.1 k in
-      let (ls, r, e) = both_lines known b (λ ls. ReportsLines files workers ls o) (λ ls. EndLines files workers ls own) p q in
+      (λ b. OfList b (λ ls. EndLines files ls own)) h.1 k in
+      let (ls, r, e) = both_lines known b (λ ls. ReportsLines files workers ls o) (λ ls. EndLines files ls own) p q in
       lines_end known files workers ls o own r e
   one_status (generated n workers) o own h k =
       one_run_end demo_budget (net_of (demo_term n)) o.status own
@@ -144,9 +144,9 @@ module _ (known : Known) (files : FilesState) where
 
   -- what has a right output has no fault
   pub no_fault : (d : Deed) (o : Output) (f : Fault) → Reports d files o → Faulty d files f → ⊥
-  no_fault (with_text task file) o f h k =
-      let (b, p, q) = meets (files.told file) (λ b. ReportsText task b o) (λ b. FaultyFor task b f) h.1 k in
-      report_sound known task b o f p q
+  no_fault (with_text workers task file) o f h k =
+      let (b, p, q) = meets (files.told file) (λ b. ReportsText workers task b o) (λ b. FaultyFor task b f) h.1 k in
+      report_sound known workers task b o f p q
   no_fault (with_schedule file moves window) o f h (b, e, inl k) =
       let (b, p, q) = meets (files.told file) (λ b. OfGround b (AtMoves moves (λ t text. ReportsReplay t window text o)))
       (λ b. FaultyText number b f) h.1 (b, e, k) in
@@ -163,7 +163,7 @@ module _ (known : Known) (files : FilesState) where
 
   -- and what can be done is not refused
   pub no_refusal : (d : Deed) (f : Fault) (own : ℕ) → Refuses d files f → CanDo d files own → ⊥
-  no_refusal (with_text task file) f own h k =
+  no_refusal (with_text workers task file) f own h k =
       let (b, p, q) = meets (files.told file) (λ b. FaultyFor task b f) (λ b. EndsText task b own) h.1 k in
       end_sound known task b own f q p
   no_refusal (with_schedule file moves window) f own h k =
@@ -175,7 +175,7 @@ module _ (known : Known) (files : FilesState) where
       schedule_sound known t c f s.tickets s.state s.schedule s.led r)
       p
   no_refusal (with_list file workers) f own h k =
-      let (b, p, q) = meets (files.told file) (λ b. FaultyList b f) (λ b. OfList b (λ ls. EndLines files workers ls own)) h.1 k in
+      let (b, p, q) = meets (files.told file) (λ b. FaultyList b f) (λ b. OfList b (λ ls. EndLines files ls own)) h.1 k in
       list_sound known b q.0 f q.1 p
   no_refusal (generated n workers) f own h k = h
 
@@ -190,7 +190,7 @@ module _ (known : Known) (files : FilesState) where
 
   -- two faults of a deed are one
   pub same_fault : (d : Deed) (f g : Fault) → Refuses d files f → Faulty d files g → f ≡ g
-  same_fault (with_text task file) f g h k =
+  same_fault (with_text workers task file) f g h k =
       let (b, p, q) = meets (files.told file) (λ b. FaultyFor task b f) (λ b. FaultyFor task b g) h.1 k in
       one_fault_for known task b f g p q
   same_fault (with_schedule file moves window) f g h k =
@@ -206,7 +206,7 @@ module _ (known : Known) (files : FilesState) where
 
   -- a deed with a right output lacked none
   pub had_for_report : (d : Deed) (o : Output) → Reports d files o → SurelyLacks d files → ⊥
-  had_for_report (with_text task file) o h l = h.0 l
+  had_for_report (with_text workers task file) o h l = h.0 l
   had_for_report (with_schedule file moves window) o h (inl l) = h.0 l
   had_for_report (with_schedule file moves window) o h (inr (k, l)) =
       let (b, p, q) = meets (files.told file) (λ b. OfGround b (AtMoves moves (λ t text. ReportsReplay t window text o))) HasNumber h.1 k in
@@ -221,7 +221,7 @@ module _ (known : Known) (files : FilesState) where
 
   -- nor did one that is refused for a fault
   pub had_for_refusal : (d : Deed) (f : Fault) → Refuses d files f → SurelyLacks d files → ⊥
-  had_for_refusal (with_text task file) f h l = h.0 l
+  had_for_refusal (with_text workers task file) f h l = h.0 l
   had_for_refusal (with_schedule file moves window) f h (inl l) = h.0 l
   had_for_refusal (with_schedule file moves window) f h (inr (k, l)) =
       let (b, p, q) = meets (files.told file) (λ b. FaultyEither b (AtMoves moves (λ t text. FaultySchedule t text f)) f) HasNumber h.1 k in
@@ -237,21 +237,21 @@ module _ (known : Known) (files : FilesState) where
   module _ (untold : (name : List ℕ) → IsTrue (files.lacks name) → files.told name ≡ None) where
     -- a deed that can be done comes to no file that is lacked
     pub can_has : (d : Deed) (own : ℕ) → LacksFor d files → CanDo d files own → ⊥
-    can_has (with_text task file) own l (b, e, k) = never_lacked files.told file b (untold file l) e
+    can_has (with_text workers task file) own l (b, e, k) = never_lacked files.told file b (untold file l) e
     can_has (with_schedule file moves window) own (inl l) (b, e, k) = never_lacked files.told file b (untold file l) e
     can_has (with_schedule file moves window) own (inr (h, l)) (b, e, (t, g, (c, told, x))) =
         never_lacked files.told moves c (untold moves l) told
     can_has (with_list file workers) own (inl l) (b, e, k) = never_lacked files.told file b (untold file l) e
     can_has (with_list file workers) own (inr h) k =
-        let (b, p, q) = meets (files.told file) (λ b. OfList b (LacksOne files)) (λ b. OfList b (λ ls. EndLines files workers ls own))
+        let (b, p, q) = meets (files.told file) (λ b. OfList b (LacksOne files)) (λ b. OfList b (λ ls. EndLines files ls own))
         h.1 k in
-        let (ls, l, e) = both_lines known b (LacksOne files) (λ ls. EndLines files workers ls own) p q in
+        let (ls, l, e) = both_lines known b (LacksOne files) (λ ls. EndLines files ls own) p q in
         tells_each known files workers untold ls e.0 l e.1
     can_has (generated n workers) own l k = l
 
     -- nor does one that is refused for a fault which the files tell
     pub faulty_has : (d : Deed) (f : Fault) → LacksFor d files → Faulty d files f → ⊥
-    faulty_has (with_text task file) f l (b, e, k) = never_lacked files.told file b (untold file l) e
+    faulty_has (with_text workers task file) f l (b, e, k) = never_lacked files.told file b (untold file l) e
     faulty_has (with_schedule file moves window) f (inl l) (b, e, k) = never_lacked files.told file b (untold file l) e
     faulty_has (with_schedule file moves window) f (inr (h, l)) (b, e, inl k) =
         let (c, p, q) = meets (files.told file) HasNumber (λ b. FaultyText number b f) h.1 (b, e, k) in

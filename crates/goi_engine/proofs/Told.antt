@@ -19,23 +19,27 @@ use Rattle.schedule_log.specs.declared.fault.ScheduleFault.{ScheduleFault}
 use Rattle.schedule_log.specs.declared.fault.ScheduleFault.TheVariants as schedule
 use Rattle.schedule_log.specs.Schedules.{HasFault, ReadAs}
 use Rattle.goi_tasks.specs.declared.fault.Fault.{Fault}
+use Rattle.goi_tasks.specs.declared.stop.Stop.{Stop}
+use Rattle.goi_tasks.specs.Stops.{StopsFor}
 use Rattle.goi_tasks.specs.declared.task.Task.{Task}
 use Rattle.goi_tasks.specs.declared.task.Task.TheVariants.{Run, Check, ShowNet, RunNet, Trace, Circuit}
 use Rattle.goi_engine.specs.declared.answer.Answer.{Answer}
 use Rattle.goi_engine.specs.declared.answer.Answer.TheVariants.{Prints, Refused, BadWords, NotRead, NoMemory}
-use Rattle.goi_engine.specs.Answers.{Says, AnswersFile, AnswersNoNet, MadeNet}
+use Rattle.goi_engine.specs.Answers.{Says, IsStopped, AnswersFile, AnswersNoNet, MadeNet}
 use Rattle.goi_world.specs.Seen.{FilesState}
 use Rattle.goi_engine.specs.FilesSeen.{Possibly}
 use Rattle.goi_tasks.specs.NetFiles.{FaultyListing, unlisted}
 use Rattle.goi_tasks.specs.Outputs.{Output, output_of}
 use Rattle.program_runs.specs.declared.fault.ProgramFault.{ProgramFault}
-use Rattle.program_runs.specs.Nets.{IsNet}
+use Rattle.program_runs.specs.declared.calling.Calling.TheVariants.{ByName}
+use Rattle.program_runs.specs.Nets.{IsNetFor}
 use Rattle.program_runs.specs.Programs.{Wanted, any_type, number, wanted_by_run, IsProgram, OfProgram}
 use Rattle.program_runs.specs.Programs.{IsGround, FaultyProgram, unread, of_tree}
 use Rattle.goi_tasks.specs.Programs.{FaultyText, no_program}
 use Rattle.goi_words.specs.declared.jobs.Window.{Window}
 use Rattle.goi_tasks.specs.Replaying.{ReportsReplay, FaultySchedule, unread as no_schedule, unmoved}
 use Rattle.goi_tasks.specs.Tasks.{most_bytes, ReportsText, FaultyFor}
+use Rattle.goi_tasks.proofs.Texts.{ground_net}
 
 -- these are the same bytes, or both are more than there may be
 abbrev pub Same : ℕ → List ℕ → List ℕ → Type 0
@@ -109,7 +113,7 @@ pub faulty_goes : (wanted : Wanted) (f : Fault) (v bytes : List ℕ) → Same mo
     FaultyText wanted bytes f
 faulty_goes wanted _ v bytes s (no_program f h) = no_program f (program_fault_goes wanted f v bytes s h)
 
-of_program_goes : (wanted : Wanted) (P : NamedTree → TermTree → TyTree → Type 0) (v bytes : List ℕ) → Same most_program_bytes v bytes →
+pub of_program_goes : (wanted : Wanted) (P : NamedTree → TermTree → TyTree → Type 0) (v bytes : List ℕ) → Same most_program_bytes v bytes →
     OfProgram wanted v P → OfProgram wanted bytes P
 of_program_goes wanted P v bytes s h =
     record { tree = h.tree; term = h.term; type = h.type; is = program_goes wanted h.tree h.term h.type v bytes s h.is; so = h.so }
@@ -141,22 +145,22 @@ listing_goes _ v bytes s (unlisted f n h) = unlisted f n (accepts_goes f v bytes
 -- ---- the text of a task
 
 pub fault_goes : (task : Task) (f : Fault) (v bytes : List ℕ) → Same (most_bytes task) v bytes → FaultyFor task v f → FaultyFor task bytes f
-fault_goes (Run workers budget schedule tally by_value progress) f v bytes s h = faulty_goes (wanted_by_run by_value) f v bytes s h
+fault_goes (Run budget calling shown) f v bytes s h = faulty_goes (wanted_by_run calling) f v bytes s h
 fault_goes (Check term) f v bytes s h = faulty_goes any_type f v bytes s h
 fault_goes ShowNet f v bytes s h = faulty_goes number f v bytes s h
 fault_goes (Circuit stack forks) f v bytes s h = faulty_goes number f v bytes s h
-fault_goes (RunNet workers budget schedule tally) f v bytes s h = listing_goes f v bytes s h
-fault_goes (Trace workers budget by_value window) f v bytes s h = faulty_goes (wanted_by_run by_value) f v bytes s h
+fault_goes (RunNet budget shown) f v bytes s h = listing_goes f v bytes s h
+fault_goes (Trace budget calling window) f v bytes s h = faulty_goes (wanted_by_run calling) f v bytes s h
 
-pub report_goes : (task : Task) (o : Output) (v bytes : List ℕ) → Same (most_bytes task) v bytes → ReportsText task v o →
-    ReportsText task bytes o
-report_goes (Run workers budget schedule tally by_value progress) o v bytes s h = of_program_goes (wanted_by_run by_value) _ v bytes s h
-report_goes (Check term) o v bytes s h = of_program_goes any_type _ v bytes s h
-report_goes ShowNet o v bytes s h = of_program_goes number _ v bytes s h
-report_goes (Circuit stack forks) o v bytes s h = of_program_goes number _ v bytes s h
-report_goes (RunNet workers budget schedule tally) o v bytes s h =
+pub report_goes : (workers : ℕ) (task : Task) (o : Output) (v bytes : List ℕ) → Same (most_bytes task) v bytes →
+    ReportsText workers task v o → ReportsText workers task bytes o
+report_goes workers (Run budget calling shown) o v bytes s h = of_program_goes (wanted_by_run calling) _ v bytes s h
+report_goes workers (Check term) o v bytes s h = of_program_goes any_type _ v bytes s h
+report_goes workers ShowNet o v bytes s h = of_program_goes number _ v bytes s h
+report_goes workers (Circuit stack forks) o v bytes s h = of_program_goes number _ v bytes s h
+report_goes workers (RunNet budget shown) o v bytes s h =
     record { term = h.term; lists = lists_goes h.term v bytes s h.lists; so = h.so }
-report_goes (Trace workers budget by_value window) o v bytes s h = of_program_goes (wanted_by_run by_value) _ v bytes s h
+report_goes workers (Trace budget calling window) o v bytes s h = of_program_goes (wanted_by_run calling) _ v bytes s h
 
 pub ground_goes : (t : TermTree) (v bytes : List ℕ) → Same most_program_bytes v bytes → IsGround v t → IsGround bytes t
 ground_goes t v bytes s (tree, h) = (tree, program_goes number tree t nat v bytes s h)
@@ -217,18 +221,19 @@ answers_file limit R P goes moves file old new v NoMemory same had e h = same
 
 -- the net of what was loaded is that of the file's program
 made_net : (file : List ℕ) (old new : FilesState) (v : List ℕ) (net : NetTree) → new.faults ≡ old.faults → (IsTrue (old.lacks file) → ⊥) →
-    IfSome (old.told file) (λ bytes. v ≡ take (most_program_bytes + 1) bytes) → IsNet v net → MadeNet file old new net
-made_net file old new v net same had e h = record {
-  term = h.term;
-  ground = (had, possible most_program_bytes (λ b. IsGround b h.term) (ground_goes h.term) (old.told file) v e h.ground);
-  typed = h.typed;
-  net_is = h.net_is;
-  faults = same;
-}
+    IfSome (old.told file) (λ bytes. v ≡ take (most_program_bytes + 1) bytes) → IsNetFor ByName v net → MadeNet file old new net
+made_net file old new v net same had e h =
+    let (t, ground, runs) = ground_net v net h in
+    record {
+      term = t;
+      ground = (had, possible most_program_bytes (λ b. IsGround b t) (ground_goes t) (old.told file) v e ground);
+      runs = runs;
+      faults = same;
+    }
 
 pub nets_made : {E : Type 0} (file : List ℕ) (old new : FilesState) (v : List ℕ) (r : Result NetTree E) → new.faults ≡ old.faults →
     (IsTrue (old.lacks file) → ⊥) → IfSome (old.told file) (λ bytes. v ≡ take (most_program_bytes + 1) bytes) →
-    IfOk r (λ net. IsNet v net) → IfOk r (λ net. MadeNet file old new net)
+    IfOk r (λ net. IsNetFor ByName v net) → IfOk r (λ net. MadeNet file old new net)
 nets_made file old new v (Ok net) same had e h = made_net file old new v net same had e h
 nets_made file old new v (Err x) same had e h = h
 
@@ -238,3 +243,13 @@ pub none_made : {N : Type 0} (file : List ℕ) (old new : FilesState) (v : List 
 none_made file old new v (Ok net) same had e h = h
 none_made file old new v (Err a) same had e h =
     answers_file most_program_bytes (λ bytes o. ⊥) (FaultyText number) (λ o v b s x. x) (faulty_goes number) file old new v a same had e h
+
+-- ---- no report
+
+-- what there is no report for is said, whatever a report would be
+pub says_stopped : (R : Output → Type 0) (P : Fault → Type 0) (s : Stop) (a : Answer) → StopsFor P s → IsStopped s a → Says R P a
+says_stopped R P s (Prints r) h k = absurd k
+says_stopped R P s (Refused r) h (f, e, tells) = (f, subst (λ (x : Stop). StopsFor P x) e h, tells)
+says_stopped R P s BadWords h k = k
+says_stopped R P s NotRead h k = absurd k
+says_stopped R P s NoMemory h k = tt

@@ -1,16 +1,16 @@
 -- The answer to the words, by what is seen of the files before it and after it.
 use Rattle.std.specs.Prelude.{◌≡◌, ◌⊎◌, ◌≤◌, ℕ, List, [], ◌∷◌, length, All, IsTrue, Option, None, Some}
 use Rattle.goi_world.specs.Outside.{Reading}
-use Rattle.pcf_values.specs.Terms.{TermTree, nat}
-use Rattle.pcf_values.specs.Typing.{HasType}
+use Rattle.pcf_values.specs.Terms.{TermTree}
 use Rattle.net_build.specs.Nets.{NetTree}
-use Rattle.net_build.specs.NetOf.{net_of}
 use Rattle.goi_tasks.specs.declared.fault.Fault.{Fault}
 use Rattle.goi_tasks.specs.declared.fault.Fault.TheVariants.{Batch}
 use Rattle.goi_tasks.specs.declared.stop.Stop.{Stop}
 use Rattle.goi_tasks.specs.declared.stop.Stop.TheVariants as stop
 use Rattle.goi_tasks.specs.declared.task.Task.{Task}
 use Rattle.goi_tasks.specs.Outputs.{Output, output_of}
+use Rattle.program_runs.specs.declared.calling.Calling.TheVariants.{ByName}
+use Rattle.program_runs.specs.Nets.{RunsAs}
 use Rattle.program_runs.specs.Programs.{number, IsGround}
 use Rattle.goi_tasks.specs.Programs.{FaultyText}
 use Rattle.goi_tasks.specs.Refusals.{TellsFault}
@@ -57,8 +57,8 @@ AnswersFile reports faulty file old new a =
     old new a
 
 -- the answer to a task on the text of a file
-abbrev pub AnswersTask : Task → List ℕ → FilesState → FilesState → Answer → Type 0
-AnswersTask task file old new a = AnswersFile (ReportsText task) (FaultyFor task) file old new a
+abbrev pub AnswersTask : ℕ → Task → List ℕ → FilesState → FilesState → Answer → Type 0
+AnswersTask workers task file old new a = AnswersFile (ReportsText workers task) (FaultyFor task) file old new a
 
 -- the answer to a schedule's file on the net of a term
 abbrev pub AnswersSchedule : TermTree → Option Window → List ℕ → FilesState → FilesState → Answer → Type 0
@@ -68,8 +68,7 @@ AnswersSchedule t window file old new a = AnswersFile (ReportsReplay t window) (
 pub record MadeNet (file : List ℕ) (old new : FilesState) (net : NetTree) : Type 0 where
   pub term : TermTree
   pub ground : OfFile old file (λ bytes. IsGround bytes term)
-  pub typed : HasType [] term nat
-  pub net_is : net ≡ net_of term
+  pub runs : RunsAs ByName term net
   pub faults : new.faults ≡ old.faults
 
 -- the answer where no net was made

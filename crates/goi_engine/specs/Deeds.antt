@@ -1,14 +1,16 @@
 -- What a job does with files: a task with the text of one, a schedule on the net of a program, the programs of a list, or a run
 -- that needs no file.
-use Rattle.std.specs.Prelude.{ℕ, List, Option, None, Some}
+use Rattle.std.specs.Prelude.{ℕ, false, List, Option, None, Some}
 use Rattle.goi_words.specs.Jobs.{JobTree, run, check, show_net, replay, demo, run_net, batch, trace, circuit}
 use Rattle.goi_words.specs.declared.jobs.Window.{Window}
+use Rattle.program_runs.specs.Programs.{calling_of}
 use Rattle.goi_tasks.specs.declared.task.Task.{Task}
 use Rattle.goi_tasks.specs.declared.task.Task.TheVariants.{Run, Check, ShowNet, RunNet, Trace, Circuit}
+use Rattle.goi_tasks.specs.Tasks.{shown}
 
 pub data Deed : Type 0 where
-  -- a task with the text of this file
-  with_text : Task → List ℕ → Deed
+  -- a task with the text of this file, by so many workers where something is run
+  with_text : ℕ → Task → List ℕ → Deed
   -- the schedule of the second file, run on the net of the program of the first, with this part of its trace where it is asked for
   with_schedule : List ℕ → List ℕ → Option Window → Deed
   -- the run of the programs that this file lists, with so many workers
@@ -18,15 +20,16 @@ pub data Deed : Type 0 where
 
 -- the deed that a job asks for
 abbrev pub deed_of : JobTree → Deed
-deed_of (run file workers budget schedule tally by_value progress) = with_text (Run workers budget schedule tally by_value progress) file
-deed_of (check file term) = with_text (Check term) file
-deed_of (show_net file) = with_text ShowNet file
+deed_of (run file workers budget schedule tally by_value progress) =
+    with_text workers (Run budget (calling_of by_value) (shown schedule tally progress)) file
+deed_of (check file term) = with_text 1 (Check term) file
+deed_of (show_net file) = with_text 1 ShowNet file
 deed_of (replay file moves window) = with_schedule file moves window
 deed_of (demo n workers) = generated n workers
-deed_of (run_net file workers budget schedule tally) = with_text (RunNet workers budget schedule tally) file
+deed_of (run_net file workers budget schedule tally) = with_text workers (RunNet budget (shown schedule tally false)) file
 deed_of (batch file workers) = with_list file workers
-deed_of (trace file workers budget by_value window) = with_text (Trace workers budget by_value window) file
-deed_of (circuit file stack forks) = with_text (Circuit stack forks) file
+deed_of (trace file workers budget by_value window) = with_text workers (Trace budget (calling_of by_value) window) file
+deed_of (circuit file stack forks) = with_text 1 (Circuit stack forks) file
 
 -- the deed of the job that was asked for, if one was
 abbrev pub deed : Option JobTree → Option Deed

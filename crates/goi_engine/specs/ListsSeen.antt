@@ -38,16 +38,16 @@ pub record ReportsLines (files : FilesState) (workers : ℕ) (lines : List Batch
   pub output_is : o ≡ output (batch_status (statuses_of sections)) (batch_report sections) []
 
 -- each line's file is told, and its program ends so
-abbrev pub EndEachIn : FilesState → ℕ → List BatchLine → List ℕ → Type 0
-EndEachIn files workers [] [] = Unit {0}
-EndEachIn files workers [] (e ∷ es) = ⊥
-EndEachIn files workers (l ∷ ls) [] = ⊥
-EndEachIn files workers (l ∷ ls) (e ∷ es) =
-    OfTold files l.file (λ bytes. EndsListed workers (listed l.budget bytes) e) × EndEachIn files workers ls es
+abbrev pub EndEachIn : FilesState → List BatchLine → List ℕ → Type 0
+EndEachIn files [] [] = Unit {0}
+EndEachIn files [] (e ∷ es) = ⊥
+EndEachIn files (l ∷ ls) [] = ⊥
+EndEachIn files (l ∷ ls) (e ∷ es) =
+    OfTold files l.file (λ bytes. EndsListed (listed l.budget bytes) e) × EndEachIn files ls es
 
 -- and with which status they end together
-abbrev pub EndLines : FilesState → ℕ → List BatchLine → ℕ → Type 0
-EndLines files workers lines status = (ends : List ℕ) × EndEachIn files workers lines ends × (status ≡ batch_status ends)
+abbrev pub EndLines : FilesState → List BatchLine → ℕ → Type 0
+EndLines files lines status = (ends : List ℕ) × EndEachIn files lines ends × (status ≡ batch_status ends)
 
 -- the file of one of these lines is lacked
 abbrev pub LacksOne : FilesState → List BatchLine → Type 0

@@ -26,7 +26,7 @@ HasNumber bytes = OfGround bytes (λ t. Unit {0})
 
 -- its output, by what the files tell
 abbrev pub Reports : Deed → FilesState → Output → Type 0
-Reports (with_text task file) files o = OfFile files file (λ bytes. ReportsText task bytes o)
+Reports (with_text workers task file) files o = OfFile files file (λ bytes. ReportsText workers task bytes o)
 Reports (with_schedule file moves window) files o =
     OfFile files file (λ bytes. OfGround bytes (λ t. OfFile files moves (λ text. ReportsReplay t window text o)))
 Reports (with_list file workers) files o = OfFile files file (λ bytes. OfList bytes (λ lines. ReportsLines files workers lines o))
@@ -34,7 +34,7 @@ Reports (generated n workers) files o = ReportsDemo n workers o
 
 -- its first fault, by what the files tell
 abbrev pub Refuses : Deed → FilesState → Fault → Type 0
-Refuses (with_text task file) files f = OfFile files file (λ bytes. FaultyFor task bytes f)
+Refuses (with_text workers task file) files f = OfFile files file (λ bytes. FaultyFor task bytes f)
 Refuses (with_schedule file moves window) files f =
     OfFile files file (λ bytes. FaultyEither bytes (λ t. OfFile files moves (λ text. FaultySchedule t text f)) f)
 Refuses (with_list file workers) files f = OfFile files file (λ bytes. FaultyList bytes f)
@@ -42,7 +42,7 @@ Refuses (generated n workers) files f = ⊥
 
 -- it comes to a file that is lacked
 abbrev pub LacksFor : Deed → FilesState → Type 0
-LacksFor (with_text task file) files = IsTrue (files.lacks file)
+LacksFor (with_text workers task file) files = IsTrue (files.lacks file)
 LacksFor (with_schedule file moves window) files = IsTrue (files.lacks file) ⊎ (OfFile files file HasNumber × IsTrue (files.lacks moves))
 LacksFor (with_list file workers) files = IsTrue (files.lacks file) ⊎ OfFile files file (λ bytes. OfList bytes (LacksOne files))
 LacksFor (generated n workers) files = ⊥
@@ -51,15 +51,15 @@ LacksFor (generated n workers) files = ⊥
 
 -- the files tell enough for the deed, which can be done with them and ends with this status
 abbrev pub CanDo : Deed → FilesState → ℕ → Type 0
-CanDo (with_text task file) files status = OfTold files file (λ bytes. EndsText task bytes status)
+CanDo (with_text workers task file) files status = OfTold files file (λ bytes. EndsText task bytes status)
 CanDo (with_schedule file moves window) files status =
     OfTold files file (λ bytes. OfGround bytes (λ t. OfTold files moves (λ text. EndsReplay t text status)))
-CanDo (with_list file workers) files status = OfTold files file (λ bytes. OfList bytes (λ lines. EndLines files workers lines status))
+CanDo (with_list file workers) files status = OfTold files file (λ bytes. OfList bytes (λ lines. EndLines files lines status))
 CanDo (generated n workers) files status = EndsRun demo_budget (net_of (demo_term n)) status
 
 -- the files tell enough for the deed, and this is its first fault
 abbrev pub Faulty : Deed → FilesState → Fault → Type 0
-Faulty (with_text task file) files f = OfTold files file (λ bytes. FaultyFor task bytes f)
+Faulty (with_text workers task file) files f = OfTold files file (λ bytes. FaultyFor task bytes f)
 Faulty (with_schedule file moves window) files f =
     OfTold files file (λ bytes. FaultyEither bytes (λ t. OfTold files moves (λ text. FaultySchedule t text f)) f)
 Faulty (with_list file workers) files f = OfTold files file (λ bytes. FaultyList bytes f)
@@ -67,7 +67,7 @@ Faulty (generated n workers) files f = ⊥
 
 -- the files tell enough to know that the deed comes to a file that is lacked
 abbrev pub SurelyLacks : Deed → FilesState → Type 0
-SurelyLacks (with_text task file) files = IsTrue (files.lacks file)
+SurelyLacks (with_text workers task file) files = IsTrue (files.lacks file)
 SurelyLacks (with_schedule file moves window) files = IsTrue (files.lacks file) ⊎ (OfTold files file HasNumber × IsTrue (files.lacks moves))
 SurelyLacks (with_list file workers) files = IsTrue (files.lacks file) ⊎ OfTold files file (λ bytes. OfList bytes (LacksOne files))
 SurelyLacks (generated n workers) files = ⊥
@@ -76,7 +76,7 @@ SurelyLacks (generated n workers) files = ⊥
 
 -- the deed reads a file
 abbrev pub ReadsFiles : Deed → Type 0
-ReadsFiles (with_text task file) = Unit {0}
+ReadsFiles (with_text workers task file) = Unit {0}
 ReadsFiles (with_schedule file moves window) = Unit {0}
 ReadsFiles (with_list file workers) = Unit {0}
 ReadsFiles (generated n workers) = ⊥
@@ -100,7 +100,7 @@ pub record LoadedBoth {S : Type 0} (one : S → Reading → S → Type 0) (file 
 -- a list's programs are in is known where the list is told.
 abbrev pub ReadFor : {S : Type 0} → (S → Reading → S → Type 0) → (List ℕ → Option (List ℕ)) → Option Deed → S → S → Type 0
 ReadFor one told None old new = new ≡ old
-ReadFor one told (Some (with_text task file)) old new = LoadedBy one file (most_bytes task) old new
+ReadFor one told (Some (with_text workers task file)) old new = LoadedBy one file (most_bytes task) old new
 ReadFor one told (Some (with_schedule file moves window)) old new = LoadedBoth one file moves old new
 ReadFor one told (Some (with_list file workers)) old new = LoadedList one (told file) file old new
 ReadFor one told (Some (generated n workers)) old new = new ≡ old

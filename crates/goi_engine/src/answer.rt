@@ -1,10 +1,8 @@
 //! The answer to the words, as a value, before anything is written.
 
-ghost use Rattle.std.specs.Prelude.{◌≡◌, [], map, string_bytes, Some, IfOk, IfErr};
-ghost use Rattle.pcf_values.specs.Most.{most_program_bytes, most_schedule_bytes};
-ghost use Rattle.pcf_values.specs.Terms.{TermTree, nat};
-ghost use Rattle.pcf_values.specs.Typing.{HasType};
-ghost use Rattle.net_build.specs.NetOf.{net_of};
+ghost use Rattle.std.specs.Prelude.{◌≡◌, ◌≤◌, ℕ, true, false, List, length, map, string_bytes, Some, IfOk, IfErr};
+ghost use Rattle.pcf_values.specs.Most.{most_budget, most_workers, most_program_bytes, most_schedule_bytes};
+ghost use Rattle.pcf_values.specs.Terms.{TermTree};
 ghost use Rattle.interleave_laws.specs.Runs.{Runs};
 ghost use Rattle.goi_words.specs.Asked.{job};
 ghost use Rattle.goi_words.specs.Jobs.{IsDemo, IsWithinLimits, IsWorkers, job_of};
@@ -12,29 +10,36 @@ ghost use Rattle.goi_engine.specs.Answers.{Answers, AnswersDeed, AnswersTask, An
 ghost use Rattle.goi_engine.specs.Deeds.{deed, deed_of, with_schedule};
 ghost use Rattle.goi_engine.specs.FilesSeen.{LoadedBy};
 ghost use Rattle.goi_world.specs.Seen.{FilesKept};
-ghost use Rattle.program_runs.specs.Nets.{IsNet};
+ghost use Rattle.metered_pool.specs.Progress.{IsProgress};
+ghost use Rattle.net_runs.specs.Running.{IsRun, IsFirstWorkers};
+ghost use Rattle.program_runs.specs.declared.calling.Calling.TheVariants.{ByName};
+ghost use Rattle.program_runs.specs.Nets.{IsNetFor, RunsAs};
 ghost use Rattle.program_runs.specs.Programs.{number};
+ghost use Rattle.goi_tasks.specs.Notes.{NumbersOf};
 ghost use Rattle.goi_tasks.specs.Programs.{FaultyText};
 ghost use Rattle.goi_tasks.specs.Replaying.{ReportsReplay, FaultySchedule};
 ghost use Rattle.goi_tasks.specs.Running.{ReportsDemo};
-ghost use Rattle.goi_tasks.specs.Tasks.{IsWithin, ReportsText, FaultyFor, most_bytes};
+ghost use Rattle.goi_tasks.specs.Tasks.{IsWithin, ReportsText, FaultyFor, most_bytes, progress_of};
 ghost use Rattle.goi_engine.specs.Verdicts.{LoadedBoth, ReadFor};
 
 use crate::batching::answer_batch;
 use crate::load::{LoadError, load};
-use adequacy_laws::law_never_stuck;
 use gate_workers::Gate;
 use goi_tasks::{
-    Refusal, Report, Stop, Task, most_bytes, net_of_text, refuse, report_demo, report_replay,
-    report_text,
+    Refusal, Report, Shown, Stop, Task, Watched, most_bytes, progress_of, refuse, report_demo,
+    report_replay, report_text,
 };
 use goi_words::{Job, Window, WordFault, job_of};
 use goi_world::Files;
+use metered_pool::watch_net;
 use net_build::Net;
+use net_runs::run_net;
 use pcf_values::limits::{PROGRAM_BYTES, SCHEDULE_BYTES};
-use std::alloc::Global;
+use program_runs::{Alone, Calling, Crew, Several, calling_of, net_for};
+use std::alloc::{AllocError, Global};
 use std::sync::Wait;
 use std::thread::Threads;
+use token_pool::Ended;
 
 /// The answer to the words.
 #[derive(Drop)]
@@ -96,32 +101,32 @@ fn answer_job<R: Threads + Wait + Sync, F: Files, G: Gate>(
             tally,
             by_value,
             progress,
-        } => answer_task(
+        } => answer_run(
             rt,
             alloc,
             files,
             file.as_str(),
             Task::Run {
-                workers: *workers,
                 budget: *budget,
-                schedule: *schedule,
-                tally: *tally,
-                by_value: *by_value,
-                progress: *progress,
+                calling: calling_of(*by_value),
+                shown: Shown {
+                    schedule: *schedule,
+                    tally: *tally,
+                    progress: *progress,
+                },
             },
+            *workers,
             gate,
         ),
         Job::Check { file, term } => answer_task(
-            rt,
             alloc,
             files,
             file.as_str(),
             Task::Check { term: *term },
-            gate,
+            &Alone,
         ),
-        Job::ShowNet { file } => answer_task(rt, alloc, files, file.as_str(), Task::ShowNet, gate),
+        Job::ShowNet { file } => answer_task(alloc, files, file.as_str(), Task::ShowNet, &Alone),
         Job::Circuit { file, stack, forks } => answer_task(
-            rt,
             alloc,
             files,
             file.as_str(),
@@ -129,7 +134,7 @@ fn answer_job<R: Threads + Wait + Sync, F: Files, G: Gate>(
                 stack: *stack,
                 forks: *forks,
             },
-            gate,
+            &Alone,
         ),
         Job::Replay {
             file,
@@ -151,57 +156,140 @@ fn answer_job<R: Threads + Wait + Sync, F: Files, G: Gate>(
             budget,
             schedule,
             tally,
-        } => answer_task(
+        } => answer_run(
             rt,
             alloc,
             files,
             file.as_str(),
             Task::RunNet {
-                workers: *workers,
                 budget: *budget,
-                schedule: *schedule,
-                tally: *tally,
+                shown: Shown {
+                    schedule: *schedule,
+                    tally: *tally,
+                    progress: false,
+                },
             },
+            *workers,
             gate,
         ),
         Job::Trace {
             file,
             workers,
             budget,
-            by_value: strictly,
+            by_value,
             window,
-        } => answer_task(
+        } => answer_run(
             rt,
             alloc,
             files,
             file.as_str(),
             Task::Trace {
-                workers: *workers,
                 budget: *budget,
-                by_value: *strictly,
+                calling: calling_of(*by_value),
                 window: *window,
             },
+            *workers,
             gate,
         ),
     }
 }
 
-/// The answer to a task on the text of a file.
-fn answer_task<R: Threads + Wait + Sync, F: Files, G: Gate>(
+/// The answer to a task on the text of a file, by so many workers.
+fn answer_run<R: Threads + Wait + Sync, F: Files, G: Gate>(
     rt: &R,
     alloc: Global,
     files: &mut F,
     file: &str,
     task: Task,
+    workers: u32,
     gate: &G,
 ) -> Answer
-    requires { IsWithin task }
+    requires within { IsWithin task }
+    requires workers { IsWorkers workers }
     ensures kept { FilesKept (F.seen files.old) (F.seen files.new) }
-    ensures answers { AnswersTask task file.now (F.seen files.old) (F.seen files.new) result }
+    ensures answers { AnswersTask workers task file.now (F.seen files.old) (F.seen files.new) result }
+    ensures reads { LoadedBy F.reads file.now (most_bytes task) files.old files.new }
+{
+    if progress_of(task) {
+        answer_watched(rt, alloc, files, file, task, workers, gate)
+    } else {
+        answer_unwatched(rt, alloc, files, file, task, workers, gate)
+    }
+}
+
+/// The same where the progress of the run isn't told.
+fn answer_unwatched<R: Threads + Wait + Sync, F: Files, G: Gate>(
+    rt: &R,
+    alloc: Global,
+    files: &mut F,
+    file: &str,
+    task: Task,
+    workers: u32,
+    gate: &G,
+) -> Answer
+    requires within { IsWithin task }
+    requires workers { IsWorkers workers }
+    requires unwatched { progress_of task ≡ false }
+    ensures kept { FilesKept (F.seen files.old) (F.seen files.new) }
+    ensures answers { AnswersTask workers task file.now (F.seen files.old) (F.seen files.new) result }
+    ensures reads { LoadedBy F.reads file.now (most_bytes task) files.old files.new }
+{
+    let run = |net: &Net, budget: u32| -> Result<Ended, AllocError>
+        requires runs { Runs net.now }
+        requires budget { (1 ≤ budget) × (budget ≤ most_budget) }
+        requires workers { (1 ≤ workers) × (workers ≤ most_workers) }
+        ensures run { IfOk result (λ e. IsRun net.now workers budget e.answer e.log.entries) }
+        ensures alone { IfOk result (λ e. workers ≡ 1 → IsFirstWorkers net.now budget e.log.entries) }
+    { run_net(rt, alloc, net, budget, workers, gate) };
+    answer_task(alloc, files, file, task, &Several { workers, run })
+}
+
+/// The same where it is.
+fn answer_watched<R: Threads + Wait + Sync, F: Files, G: Gate>(
+    rt: &R,
+    alloc: Global,
+    files: &mut F,
+    file: &str,
+    task: Task,
+    workers: u32,
+    gate: &G,
+) -> Answer
+    requires within { IsWithin task }
+    requires workers { IsWorkers workers }
+    requires watched { progress_of task ≡ true }
+    ensures kept { FilesKept (F.seen files.old) (F.seen files.new) }
+    ensures answers { AnswersTask workers task file.now (F.seen files.old) (F.seen files.new) result }
+    ensures reads { LoadedBy F.reads file.now (most_bytes task) files.old files.new }
+{
+    let run = |net: &Net, budget: u32| -> Result<(Ended, Vec<u64>), AllocError>
+        requires runs { Runs net.now }
+        requires budget { (1 ≤ budget) × (budget ≤ most_budget) }
+        requires workers { (1 ≤ workers) × (workers ≤ most_workers) }
+        ensures run { IfOk result (λ x. IsRun net.now workers budget x.0.answer x.0.log.entries) }
+        ensures alone { IfOk result (λ x. workers ≡ 1 → IsFirstWorkers net.now budget x.0.log.entries) }
+        ensures progress { IfOk result (λ x. IsProgress (length x.0.log.entries) x.1.items) }
+    { watch_net(rt, alloc, net, budget, workers, gate) };
+    answer_task(alloc, files, file, task, &Watched { workers, run })
+}
+
+/// The answer to a task on the text of a file, where this crew runs what is run.
+fn answer_task<F: Files, C: Crew>(
+    alloc: Global,
+    files: &mut F,
+    file: &str,
+    task: Task,
+    crew: &C,
+) -> Answer
+    requires within { IsWithin task }
+    requires fit { C.fit crew.now }
+    requires workers { IsWorkers (C.count crew.now) }
+    requires reads { (moves : ℕ) (numbers : List ℕ) → C.reads crew.now moves numbers → NumbersOf (progress_of task) moves numbers }
+    ensures kept { FilesKept (F.seen files.old) (F.seen files.new) }
+    ensures answers { AnswersTask (C.count crew.now) task file.now (F.seen files.old) (F.seen files.new) result }
     ensures reads { LoadedBy F.reads file.now (most_bytes task) files.old files.new }
 {
     match load(alloc, files, file, most_bytes(task)) {
-        Ok(bytes) => answer_text(rt, alloc, &bytes, task, gate),
+        Ok(bytes) => answer_text(alloc, &bytes, task, crew),
         Err(error) => not_loaded(error),
     }
 }
@@ -231,17 +319,14 @@ pub(crate) fn stopped(alloc: Global, stop: Stop) -> Answer
 }
 
 /// The answer to a task on a text.
-fn answer_text<R: Threads + Wait + Sync, G: Gate>(
-    rt: &R,
-    alloc: Global,
-    bytes: &[u8],
-    task: Task,
-    gate: &G,
-) -> Answer
-    requires { IsWithin task }
-    ensures { Says (ReportsText task bytes.now) (FaultyFor task bytes.now) result }
+fn answer_text<C: Crew>(alloc: Global, bytes: &[u8], task: Task, crew: &C) -> Answer
+    requires within { IsWithin task }
+    requires fit { C.fit crew.now }
+    requires workers { IsWorkers (C.count crew.now) }
+    requires reads { (moves : ℕ) (numbers : List ℕ) → C.reads crew.now moves numbers → NumbersOf (progress_of task) moves numbers }
+    ensures { Says (ReportsText (C.count crew.now) task bytes.now) (FaultyFor task bytes.now) result }
 {
-    match report_text(rt, alloc, bytes, task, gate) {
+    match report_text(alloc, bytes, task, crew) {
         Ok(report) => Answer::Prints(report),
         Err(stop) => stopped(alloc, stop),
     }
@@ -259,7 +344,6 @@ fn answer_replay<F: Files>(
     ensures answers { AnswersDeed (with_schedule file.now schedule.now window) (F.seen files.old) (F.seen files.new) result }
     ensures reads { LoadedBoth F.reads file.now schedule.now files.old files.new }
 {
-    law_never_stuck();
     match load_net(alloc, files, file) {
         Ok(net) => {
             let answer = answer_schedule(alloc, files, schedule, &net, window);
@@ -285,12 +369,12 @@ fn load_net<F: Files>(alloc: Global, files: &mut F, file: &str) -> Result<Net, A
 
 /// The net of the program of a text, or the answer where there is none.
 fn make_net(alloc: Global, bytes: &[u8]) -> Result<Net, Answer>
-    ensures net { IfOk result (λ net. IsNet bytes.now net) }
+    ensures net { IfOk result (λ net. IsNetFor ByName bytes.now net) }
     ensures none { IfErr result (λ a. Says (λ o. ⊥) (FaultyText number bytes.now) a) }
 {
-    match net_of_text(alloc, bytes) {
+    match net_for(alloc, bytes, Calling::ByName) {
         Ok(net) => Ok(net),
-        Err(stop) => Err(stopped(alloc, stop)),
+        Err(none) => Err(stopped(alloc, Stop::from(none))),
     }
 }
 
@@ -304,7 +388,7 @@ fn answer_schedule<F: Files>(
 ) -> Answer
     requires { Runs net.now }
     ensures kept { FilesKept (F.seen files.old) (F.seen files.new) }
-    ensures answers { (t : TermTree) → HasType [] t nat → net.now ≡ net_of t →
+    ensures answers { (t : TermTree) → RunsAs ByName t net.now →
         AnswersSchedule t window file.now (F.seen files.old) (F.seen files.new) result }
     ensures reads { LoadedBy F.reads file.now most_schedule_bytes files.old files.new }
 {
@@ -317,7 +401,7 @@ fn answer_schedule<F: Files>(
 /// The answer to the text of a schedule, on the net of a program.
 fn answer_moves(alloc: Global, bytes: &[u8], net: &Net, window: Option<Window>) -> Answer
     requires { Runs net.now }
-    ensures { (t : TermTree) → HasType [] t nat → net.now ≡ net_of t →
+    ensures { (t : TermTree) → RunsAs ByName t net.now →
         Says (ReportsReplay t window bytes.now) (FaultySchedule t bytes.now) result }
 {
     match report_replay(alloc, net, bytes, window) {
@@ -338,7 +422,14 @@ fn answer_demo<R: Threads + Wait + Sync, G: Gate>(
     requires workers { IsWorkers workers }
     ensures { Says (ReportsDemo n workers) (λ f. ⊥) result }
 {
-    match report_demo(rt, alloc, n, workers, gate) {
+    let run = |net: &Net, budget: u32| -> Result<Ended, AllocError>
+        requires runs { Runs net.now }
+        requires budget { (1 ≤ budget) × (budget ≤ most_budget) }
+        requires workers { (1 ≤ workers) × (workers ≤ most_workers) }
+        ensures run { IfOk result (λ e. IsRun net.now workers budget e.answer e.log.entries) }
+        ensures alone { IfOk result (λ e. workers ≡ 1 → IsFirstWorkers net.now budget e.log.entries) }
+    { run_net(rt, alloc, net, budget, workers, gate) };
+    match report_demo(alloc, n, &Several { workers, run }) {
         Ok(report) => Answer::Prints(report),
         Err(_) => Answer::NoMemory,
     }

@@ -2,6 +2,7 @@
 
 ghost use Rattle.std.specs.Prelude.{◌≡◌, ◌⊎◌, MatchResult};
 ghost use Rattle.goi_tasks.specs.Outputs.{output_of};
+ghost use Rattle.goi_tasks.specs.Refusals.{memory_line};
 ghost use Rattle.goi_engine.specs.Writes.{ByWrites, Wrote, Broke};
 ghost use Rattle.goi_engine.specs.Delivers.{Reported, Delivered};
 
@@ -33,8 +34,16 @@ pub(crate) fn deliver<O: Sink, E: Sink>(answer: &Answer, out: &mut O, err: &mut 
         Answer::Refused(refusal) => tell(err, refusal.status, &refusal.line),
         Answer::BadWords => tell(err, 2, b"refused words\n"),
         Answer::NotRead => tell(err, 3, b"read failed\n"),
-        Answer::NoMemory => tell(err, 6, b"no memory\n"),
+        Answer::NoMemory => tell_no_memory(err),
     }
+}
+
+/// Says on `err` that there was no memory, and gives the status: 6, or 4 where that can't be written.
+pub fn tell_no_memory<E: Sink>(err: &mut E) -> u8
+    ensures { ByWrites E.seen E.writes err.old err.new (λ turn.
+        ((result ≡ 6) × Wrote memory_line turn) ⊎ ((result ≡ 4) × Broke memory_line turn)) }
+{
+    tell(err, 6, b"no memory\n")
 }
 
 /// Writes the report to `out` and its notes to `err`, and gives its status; or says on `err` that `out` failed.

@@ -2,7 +2,8 @@
 //!
 //! `goi` reads the words, loads the files that they name, makes the whole answer as a value and writes it out; its contract says, from
 //! the bytes of the files to the bytes of the answer, what each status means and why it comes. The statements stand in
-//! `specs/Promise.antt`. Which device the files and sinks are is left to the caller.
+//! `specs/Promise.antt`. Which device the files and sinks are is left to the caller, and so are the words: `tell_no_memory` says as `goi`
+//! does that there was none for them.
 #![tactic(auto)]
 
 mod answer;
@@ -12,5 +13,6 @@ mod headline;
 mod load;
 mod top;
 
+pub use deliver::tell_no_memory;
 pub use headline::law_headline;
 pub use top::goi;

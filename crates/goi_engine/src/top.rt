@@ -2,7 +2,6 @@
 
 ghost use Rattle.std.specs.Prelude.{map, string_bytes};
 ghost use Rattle.goi_engine.specs.Writes.{ByWrites};
-ghost use Rattle.net_text.specs.Laws.{OneAnswer};
 ghost use Rattle.goi_words.specs.Asked.{job};
 ghost use Rattle.goi_engine.specs.Deeds.{deed};
 ghost use Rattle.goi_engine.specs.Promise.{call, Promise};
@@ -12,6 +11,7 @@ use crate::answer::answer_to;
 use crate::deliver::deliver;
 use batch_lists::law_one_list;
 use gate_workers::Gate;
+use goi_tasks::law_one_listing;
 use goi_world::{Files, Sink};
 use program_runs::law_one_program;
 use replay_check::law_one_replay;
@@ -57,11 +57,4 @@ pub fn goi<R: Threads + Wait + Sync, F: Files, O: Sink, E: Sink, G: Gate>(
     law_one_list();
     let answer = answer_to(rt, alloc, words, files, gate);
     deliver(&answer, out, err)
-}
-
-/// A listing is that of one program, or has one first fault.
-fn law_one_listing()
-    ensures { OneAnswer }
-{
-    net_text::law_one_answer();
 }

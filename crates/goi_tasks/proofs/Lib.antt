@@ -3,14 +3,14 @@ pub mod Brief
 -- What comes of a text is settled by its bytes: it is one program or has one fault, and a task ends on it with one status; and so it is
 -- with a schedule.
 pub mod Outcomes
--- The report that is made of a program's run, by name and by value.
+-- The report that is made of a run of a program's net.
 pub mod Ran
 -- What a schedule that was run on a program's net says of the program.
 pub mod Replayed
+-- The run of the generated program of a number is that of its term, and the program has no fault.
+pub mod Generated
 -- How long the lines of refusals are, and the reports of runs that tell neither schedule nor tally.
 pub mod Short
--- The run of the generated program of a number is that of its term, and the program has no fault.
-pub mod Shown
 -- A net that is listed has fewer than 2 ^ 32 wires and nodes.
 pub mod Sized
 -- From the faults of a program's text to those of a task, and from the report on a tree's type to that on its text's.

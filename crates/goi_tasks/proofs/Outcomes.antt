@@ -1,6 +1,6 @@
 -- What comes of a text is settled by its bytes: it is one program or has one fault, and a task ends on it with one status; and so it is
 -- with a schedule.
-use Rattle.std.proofs.Common.{◌≡◌, ◌≢◌, ◌⊎◌, ℕ, Bool, false, List, [], length, Option, Some, None, Result, Ok, Err, refl, sym, ap, ◌∙◌}
+use Rattle.std.proofs.Common.{◌≡◌, ◌≢◌, ◌⊎◌, ℕ, List, length, Option, Some, None, Result, Ok, Err, refl, sym, ap, ◌∙◌}
 use Rattle.std.proofs.Common.{subst, inl, inr, arith}
 use Rattle.pcf_values.specs.declared.val.Val.{Val}
 use Rattle.pcf_values.specs.Terms.{TyTree, TermTree, nat}
@@ -30,6 +30,7 @@ use Rattle.program_runs.specs.Running.{Tells, meaning, net_run}
 use Rattle.program_runs.proofs.OneProgram.{same_program}
 use Rattle.goi_tasks.specs.declared.fault.Fault.{Fault}
 use Rattle.goi_tasks.specs.declared.fault.Fault.TheVariants.{Program, NetText, Schedule, Moves}
+use Rattle.goi_tasks.specs.declared.shown.Shown.{Shown}
 use Rattle.goi_tasks.specs.declared.task.Task.{Task}
 use Rattle.goi_tasks.specs.declared.task.Task.TheVariants.{Run, Check, ShowNet, RunNet, Trace, Circuit}
 use Rattle.goi_tasks.specs.NetFiles.{FaultyListing, unlisted}
@@ -71,22 +72,23 @@ run_status (Some v) status e = inl e
 run_status None status e = inr e
 
 -- the output of a run ends as the net's runs do, and so does that of one whose walk is told
-report_ends : (means : Val → Type 0) (net : NetTree) (workers budget : ℕ) (schedule tally progress : Bool) (o : Output) →
-    ReportsNet means net workers budget schedule tally progress o → EndsRun budget net o.status
-report_ends means net workers budget schedule tally progress o h =
+report_ends : (means : Val → Type 0) (net : NetTree) (workers budget : ℕ) (shown : Shown) (o : Output) →
+    ReportsNet means net workers budget shown o → EndsRun budget net o.status
+report_ends means net workers budget shown o h =
     run_ends means net budget h.answer (length h.log) o.status h.ends h.run.tells
 
 walk_ends : (means : Val → Type 0) (net : NetTree) (workers budget : ℕ) (window : Window) (o : Output) →
     ReportsWalk means net workers budget window o → EndsRun budget net o.status
 walk_ends means net workers budget window o h = run_ends means net budget h.answer (length h.log) o.status h.ends h.run.tells
 
-pub text_status : (task : Task) (bytes : List ℕ) (o : Output) → ReportsText task bytes o → (o.status ≡ 0) ⊎ (o.status ≡ 5)
-text_status (Run workers budget schedule tally by_value progress) bytes o h = run_status h.so.answer o.status h.so.ends
-text_status (Check term) bytes o h = inl (ap (λ (x : Output). x.status) h.so)
-text_status ShowNet bytes o h = inl (ap (λ (x : Output). x.status) h.so)
-text_status (Circuit stack forks) bytes o h = inl (ap (λ (x : Output). x.status) h.so)
-text_status (RunNet workers budget schedule tally) bytes o h = run_status h.so.answer o.status h.so.ends
-text_status (Trace workers budget by_value window) bytes o h = run_status h.so.answer o.status h.so.ends
+pub text_status : (workers : ℕ) (task : Task) (bytes : List ℕ) (o : Output) → ReportsText workers task bytes o →
+    (o.status ≡ 0) ⊎ (o.status ≡ 5)
+text_status workers (Run budget calling shown) bytes o h = run_status h.so.answer o.status h.so.ends
+text_status workers (Check term) bytes o h = inl (ap (λ (x : Output). x.status) h.so)
+text_status workers ShowNet bytes o h = inl (ap (λ (x : Output). x.status) h.so)
+text_status workers (Circuit stack forks) bytes o h = inl (ap (λ (x : Output). x.status) h.so)
+text_status workers (RunNet budget shown) bytes o h = run_status h.so.answer o.status h.so.ends
+text_status workers (Trace budget calling window) bytes o h = run_status h.so.answer o.status h.so.ends
 
 pub schedule_status : (t : TermTree) (window : Option Window) (text : List ℕ) (o : Output) → ReportsReplay t window text o →
     (o.status ≡ 0) ⊎ (o.status ≡ 5)
@@ -161,56 +163,58 @@ module _ (known : Known) where
   -- ---- a task has one status on a text or one fault
 
   -- the output for a text ends with the status with which the task does
-  pub text_end : (task : Task) (bytes : List ℕ) (o : Output) (own : ℕ) → ReportsText task bytes o → EndsText task bytes own → o.status ≡ own
-  text_end (Run workers budget schedule tally by_value progress) bytes o own h k =
-      let e : h.term ≡ k.term = same_program known.one_program (wanted_by_run by_value) bytes _ _ h k in
-      one_run_end budget (net_run by_value k.term) o.status own
-      (subst (λ (t : TermTree). EndsRun budget (net_run by_value t) o.status) e
-      (report_ends (meaning by_value h.term) (net_run by_value h.term) workers budget schedule tally progress o h.so)) k.so
-  text_end (Check term) bytes o own h k = ap (λ (x : Output). x.status) h.so ∙ sym k.so
-  text_end ShowNet bytes o own h k = ap (λ (x : Output). x.status) h.so ∙ sym k.so
-  text_end (Circuit stack forks) bytes o own h k = ap (λ (x : Output). x.status) h.so ∙ sym k.so
-  text_end (RunNet workers budget schedule tally) bytes o own h k =
+  pub text_end : (workers : ℕ) (task : Task) (bytes : List ℕ) (o : Output) (own : ℕ) → ReportsText workers task bytes o →
+      EndsText task bytes own → o.status ≡ own
+  text_end workers (Run budget calling shown) bytes o own h k =
+      let e : h.term ≡ k.term = same_program known.one_program (wanted_by_run calling) bytes _ _ h k in
+      one_run_end budget (net_run calling k.term) o.status own
+      (subst (λ (t : TermTree). EndsRun budget (net_run calling t) o.status) e
+      (report_ends (meaning calling h.term) (net_run calling h.term) workers budget shown o h.so)) k.so
+  text_end workers (Check term) bytes o own h k = ap (λ (x : Output). x.status) h.so ∙ sym k.so
+  text_end workers ShowNet bytes o own h k = ap (λ (x : Output). x.status) h.so ∙ sym k.so
+  text_end workers (Circuit stack forks) bytes o own h k = ap (λ (x : Output). x.status) h.so ∙ sym k.so
+  text_end workers (RunNet budget shown) bytes o own h k =
       let e : h.term ≡ k.term = same_listed bytes h.term k.term h.lists k.lists in
       one_run_end budget (net_of k.term) o.status own
       (subst (λ (t : TermTree). EndsRun budget (net_of t) o.status) e
-      (report_ends (Means h.term) (net_of h.term) workers budget schedule tally false o h.so)) k.so
-  text_end (Trace workers budget by_value window) bytes o own h k =
-      let e : h.term ≡ k.term = same_program known.one_program (wanted_by_run by_value) bytes _ _ h k in
-      one_run_end budget (net_run by_value k.term) o.status own
-      (subst (λ (t : TermTree). EndsRun budget (net_run by_value t) o.status) e
-      (walk_ends (meaning by_value h.term) (net_run by_value h.term) workers budget window o h.so)) k.so
+      (report_ends (Means h.term) (net_of h.term) workers budget shown o h.so)) k.so
+  text_end workers (Trace budget calling window) bytes o own h k =
+      let e : h.term ≡ k.term = same_program known.one_program (wanted_by_run calling) bytes _ _ h k in
+      one_run_end budget (net_run calling k.term) o.status own
+      (subst (λ (t : TermTree). EndsRun budget (net_run calling t) o.status) e
+      (walk_ends (meaning calling h.term) (net_run calling h.term) workers budget window o h.so)) k.so
 
   -- what has an output has no fault
-  pub report_sound : (task : Task) (bytes : List ℕ) (o : Output) (f : Fault) → ReportsText task bytes o → FaultyFor task bytes f → ⊥
-  report_sound (Run workers budget schedule tally by_value progress) bytes o f h k =
-      text_sound known.one_program (wanted_by_run by_value) bytes h.tree h.term h.type f h.is k
-  report_sound (Check term) bytes o f h k = text_sound known.one_program any_type bytes h.tree h.term h.type f h.is k
-  report_sound ShowNet bytes o f h k = text_sound known.one_program number bytes h.tree h.term h.type f h.is k
-  report_sound (Circuit stack forks) bytes o f h k = text_sound known.one_program number bytes h.tree h.term h.type f h.is k
-  report_sound (RunNet workers budget schedule tally) bytes o f h k = listing_sound bytes h.term f h.lists k
-  report_sound (Trace workers budget by_value window) bytes o f h k =
-      text_sound known.one_program (wanted_by_run by_value) bytes h.tree h.term h.type f h.is k
+  pub report_sound : (workers : ℕ) (task : Task) (bytes : List ℕ) (o : Output) (f : Fault) → ReportsText workers task bytes o →
+      FaultyFor task bytes f → ⊥
+  report_sound workers (Run budget calling shown) bytes o f h k =
+      text_sound known.one_program (wanted_by_run calling) bytes h.tree h.term h.type f h.is k
+  report_sound workers (Check term) bytes o f h k = text_sound known.one_program any_type bytes h.tree h.term h.type f h.is k
+  report_sound workers ShowNet bytes o f h k = text_sound known.one_program number bytes h.tree h.term h.type f h.is k
+  report_sound workers (Circuit stack forks) bytes o f h k = text_sound known.one_program number bytes h.tree h.term h.type f h.is k
+  report_sound workers (RunNet budget shown) bytes o f h k = listing_sound bytes h.term f h.lists k
+  report_sound workers (Trace budget calling window) bytes o f h k =
+      text_sound known.one_program (wanted_by_run calling) bytes h.tree h.term h.type f h.is k
 
   -- nor has what the task ends on
   pub end_sound : (task : Task) (bytes : List ℕ) (own : ℕ) (f : Fault) → EndsText task bytes own → FaultyFor task bytes f → ⊥
-  end_sound (Run workers budget schedule tally by_value progress) bytes own f h k =
-      text_sound known.one_program (wanted_by_run by_value) bytes h.tree h.term h.type f h.is k
+  end_sound (Run budget calling shown) bytes own f h k =
+      text_sound known.one_program (wanted_by_run calling) bytes h.tree h.term h.type f h.is k
   end_sound (Check term) bytes own f h k = text_sound known.one_program any_type bytes h.tree h.term h.type f h.is k
   end_sound ShowNet bytes own f h k = text_sound known.one_program number bytes h.tree h.term h.type f h.is k
   end_sound (Circuit stack forks) bytes own f h k = text_sound known.one_program number bytes h.tree h.term h.type f h.is k
-  end_sound (RunNet workers budget schedule tally) bytes own f h k = listing_sound bytes h.term f h.lists k
-  end_sound (Trace workers budget by_value window) bytes own f h k =
-      text_sound known.one_program (wanted_by_run by_value) bytes h.tree h.term h.type f h.is k
+  end_sound (RunNet budget shown) bytes own f h k = listing_sound bytes h.term f h.lists k
+  end_sound (Trace budget calling window) bytes own f h k =
+      text_sound known.one_program (wanted_by_run calling) bytes h.tree h.term h.type f h.is k
 
   -- two faults are one
   pub one_fault_for : (task : Task) (bytes : List ℕ) (f g : Fault) → FaultyFor task bytes f → FaultyFor task bytes g → f ≡ g
-  one_fault_for (Run workers budget schedule tally by_value progress) bytes f g h k = one_text_fault (wanted_by_run by_value) bytes f g h k
+  one_fault_for (Run budget calling shown) bytes f g h k = one_text_fault (wanted_by_run calling) bytes f g h k
   one_fault_for (Check term) bytes f g h k = one_text_fault any_type bytes f g h k
   one_fault_for ShowNet bytes f g h k = one_text_fault number bytes f g h k
   one_fault_for (Circuit stack forks) bytes f g h k = one_text_fault number bytes f g h k
-  one_fault_for (RunNet workers budget schedule tally) bytes f g h k = one_listing_fault bytes f g h k
-  one_fault_for (Trace workers budget by_value window) bytes f g h k = one_text_fault (wanted_by_run by_value) bytes f g h k
+  one_fault_for (RunNet budget shown) bytes f g h k = one_listing_fault bytes f g h k
+  one_fault_for (Trace budget calling window) bytes f g h k = one_text_fault (wanted_by_run calling) bytes f g h k
 
   -- ---- a text is one schedule, or has one fault, and so it is with its moves
 

@@ -1,18 +1,14 @@
 -- What a schedule that was run on a program's net says of the program.
 use Rattle.std.proofs.Common.{◌≡◌, ℕ, zero, suc, ◌+◌, ◌≤◌, List, [], ◌∷◌, length, Result, Ok, Err, IfOk, IfErr, IsErrAnd, Option, Some}
-use Rattle.std.proofs.Common.{None, refl, sym, ap, ◌∙◌, subst, arith}
+use Rattle.std.proofs.Common.{None, refl, sym, ap, ◌∙◌, subst, arith, inl, inr}
 use Rattle.pcf_values.specs.declared.val.Val.{Val}
 use Rattle.pcf_values.specs.Most.{most_moves}
-use Rattle.pcf_values.specs.Terms.{TermTree, nat}
-use Rattle.pcf_values.specs.Typing.{HasType}
+use Rattle.pcf_values.specs.Terms.{TermTree}
 use Rattle.net_build.specs.Nets.{NetTree}
 use Rattle.net_build.specs.NetOf.{net_of}
-use Rattle.interleave_laws.specs.Runs.{Runs}
 use Rattle.interleave_laws.specs.Maps.{LeadsToMap}
 use Rattle.cbn_meaning.specs.Meaning.{Means}
 use Rattle.adequacy_laws.specs.Questions.{Length}
-use Rattle.adequacy_laws.specs.Adequacy.{MeansLength}
-use Rattle.adequacy_laws.specs.Lengths.{MapEqualLengths}
 use Rattle.schedule_log.specs.declared.fault.ScheduleFault.{ScheduleFault}
 use Rattle.schedule_log.specs.declared.fault.ScheduleFault.TheVariants as schedule
 use Rattle.schedule_log.specs.declared.entry.Entry.{Entry}
@@ -24,6 +20,10 @@ use Rattle.replay_check.specs.declared.fault.ReplayFault.{ReplayFault}
 use Rattle.replay_check.specs.declared.fault.ReplayFault.TheVariants as replay
 use Rattle.replay_check.specs.declared.replayed.Replayed.{Replayed}
 use Rattle.replay_check.specs.Replays.{IsRunOf, ReplaysAs}
+use Rattle.program_runs.specs.declared.calling.Calling.TheVariants.{ByName}
+use Rattle.program_runs.specs.Nets.{RunsAs, IsNetFor}
+use Rattle.program_runs.specs.Programs.{number, OfGround}
+use Rattle.program_runs.specs.Running.{Tells}
 use Rattle.goi_tasks.specs.declared.fault.Fault.{Fault}
 use Rattle.goi_tasks.specs.declared.report.Report.{Report}
 use Rattle.goi_tasks.specs.declared.stop.Stop.{Stop}
@@ -31,7 +31,8 @@ use Rattle.goi_tasks.specs.Outputs.{Output, output, output_of}
 use Rattle.goi_tasks.specs.Replaying.{replay_status, replay_text, replay_output, Agrees, ReportsReplay, FaultySchedule, unread, unmoved}
 use Rattle.goi_tasks.specs.Replaying.{IsReplayed, FaultyReplay, no_moves}
 use Rattle.goi_tasks.specs.Stops.{StopsFor, stop_of_schedule, stop_of_replay}
-use Rattle.goi_tasks.proofs.Texts.{faults_weaker}
+use Rattle.goi_tasks.specs.Programs.{FaultyText, FaultyEither}
+use Rattle.goi_tasks.proofs.Texts.{faults_weaker, ground_net}
 
 again_length : (t n : ℕ) (ts : List ℕ) → length (again t n ts) ≡ n + length ts
 again_length t zero ts = omega arith
@@ -80,48 +81,65 @@ replayed net window log r own h status e text is o same = record {
 }
 
 -- an answer is what the term means, and then the list is as long as the net
-agrees : (t : TermTree) (tickets : List ℕ) (answer : Option Val) →
-    ((v : Val) → answer ≡ Some v → Means t v × Length (net_of t) v (length tickets)) → Agrees t answer (length tickets)
-agrees t tickets None h = tt
-agrees t tickets (Some v) h = h v refl
+agrees : (t : TermTree) (net : NetTree) (answer : Option Val) (moves : ℕ) → net ≡ net_of t → Tells (Means t) net moves answer moves →
+    Agrees t answer moves
+agrees t net None moves same h = tt
+agrees t net (Some v) moves same h = (h.0, subst (λ (n : NetTree). Length n v moves) same h.1)
 
-module _ (lengths : MapEqualLengths) (means : MeansLength) (t : TermTree) (typed : HasType [] t nat) (net : NetTree) (runs : Runs net)
-    (same : net ≡ net_of t) where
+module _ (t : TermTree) (net : NetTree) (is : RunsAs ByName t net) where
   right : (window : Option Window) (text tickets : List ℕ) → IsSchedule text tickets → (o : Output) → IsReplayed net window tickets o →
       ReportsReplay t window text o
   right window text tickets s o h =
-      let agree = lengths net runs.sound tickets h.state h.led in
+      let tells = is.tells tickets h.state h.led (length tickets) (omega arith, λ none. refl) in
       record {
         tickets = tickets;
         schedule = s;
         state = h.state;
-        led = subst (λ (n : NetTree). LeadsToMap n tickets h.state) same h.led;
-        agrees = agrees t tickets h.state.answered (λ v e.
-            let long : Length (net_of t) v (length tickets) =
-            subst (λ (n : NetTree). Length n v (length tickets)) same ((agree.answers v).0 e) in
-            ((means t typed v).1 (length tickets, long), long));
-        output_is = subst (λ (n : NetTree). o ≡ replay_output window n tickets h.state) same h.output_is;
+        led = subst (λ (n : NetTree). LeadsToMap n tickets h.state) is.net_is h.led;
+        agrees = agrees t net h.state.answered (length tickets) is.net_is tells;
+        output_is = subst (λ (n : NetTree). o ≡ replay_output window n tickets h.state) is.net_is h.output_is;
       }
 
 -- so the report is that of the schedule on the term's net
-pub rights : MapEqualLengths → MeansLength → (net : NetTree) → Runs net → (window : Option Window) (text tickets : List ℕ) →
-    IsSchedule text tickets → (r : Result Report Stop) → IfOk r (λ v. IsReplayed net window tickets (output_of v)) →
-    IfOk r (λ v. (t : TermTree) → HasType [] t nat → net ≡ net_of t → ReportsReplay t window text (output_of v))
-rights lengths means net runs window text tickets s (Ok v) h = λ t typed same.
-    right lengths means t typed net runs same window text tickets s (output_of v) h
-rights lengths means net runs window text tickets s (Err e) h = h
+pub rights : (net : NetTree) (window : Option Window) (text tickets : List ℕ) → IsSchedule text tickets → (r : Result Report Stop) →
+    IfOk r (λ v. IsReplayed net window tickets (output_of v)) →
+    IfOk r (λ v. (t : TermTree) → RunsAs ByName t net → ReportsReplay t window text (output_of v))
+rights net window text tickets s (Ok v) h = λ t is. right t net is window text tickets s (output_of v) h
+rights net window text tickets s (Err e) h = h
 
 -- and the fault is that of the schedule
 faulty : (net : NetTree) (text tickets : List ℕ) → IsSchedule text tickets → (f : Fault) → FaultyReplay net tickets f → (t : TermTree) →
-    net ≡ net_of t → FaultySchedule t text f
-faulty net text tickets s _ (no_moves f n h) = λ t same. unmoved f tickets n s (subst (λ (n : NetTree). ReplaysAs n tickets (Err f)) same h)
+    RunsAs ByName t net → FaultySchedule t text f
+faulty net text tickets s _ (no_moves f n h) = λ t is.
+    unmoved f tickets n s (subst (λ (n : NetTree). ReplaysAs n tickets (Err f)) is.net_is h)
 
 pub faulties : (net : NetTree) (text tickets : List ℕ) → IsSchedule text tickets → (r : Result Report Stop) →
     IfErr r (λ e. StopsFor (FaultyReplay net tickets) e) →
-    IfErr r (λ e. StopsFor (λ f. (t : TermTree) → net ≡ net_of t → FaultySchedule t text f) e)
+    IfErr r (λ e. StopsFor (λ f. (t : TermTree) → RunsAs ByName t net → FaultySchedule t text f) e)
 faulties net text tickets s r h =
-    faults_weaker (FaultyReplay net tickets) (λ f. (t : TermTree) → net ≡ net_of t → FaultySchedule t text f) r
+    faults_weaker (FaultyReplay net tickets) (λ f. (t : TermTree) → RunsAs ByName t net → FaultySchedule t text f) r
     (faulty net text tickets s) h
+
+-- ---- a schedule on the net of a text's program
+
+pub replays_text : (bytes text : List ℕ) (net : NetTree) → IsNetFor ByName bytes net → (r : Result Report Stop) →
+    IfOk r (λ v. (t : TermTree) → RunsAs ByName t net → ReportsReplay t None text (output_of v)) →
+    IfOk r (λ v. OfGround bytes (λ t. ReportsReplay t None text (output_of v)))
+replays_text bytes text net is (Ok v) h = let (t, ground, runs) = ground_net bytes net is in (t, ground, h t runs)
+replays_text bytes text net is (Err e) h = h
+
+pub faults_either : (bytes text : List ℕ) (net : NetTree) → IsNetFor ByName bytes net → (r : Result Report Stop) →
+    IfErr r (λ e. StopsFor (λ f. (t : TermTree) → RunsAs ByName t net → FaultySchedule t text f) e) →
+    IfErr r (λ e. StopsFor (λ f. FaultyEither bytes (λ t. FaultySchedule t text f) f) e)
+faults_either bytes text net is r h =
+    let (t, ground, runs) = ground_net bytes net is in
+    faults_weaker (λ f. (t : TermTree) → RunsAs ByName t net → FaultySchedule t text f)
+    (λ f. FaultyEither bytes (λ t. FaultySchedule t text f) f) r (λ f k. inr (t, ground, k t runs)) h
+
+pub faults_first : (bytes text : List ℕ) (r : Result Report Stop) → IfErr r (λ e. StopsFor (FaultyText number bytes) e) →
+    IfErr r (λ e. StopsFor (λ f. FaultyEither bytes (λ t. FaultySchedule t text f) f) e)
+faults_first bytes text r h =
+    faults_weaker (FaultyText number bytes) (λ f. FaultyEither bytes (λ t. FaultySchedule t text f) f) r (λ f k. inl k) h
 
 -- a replay that goes wrong stops for its fault
 pub stops_unmoved : (net : NetTree) (tickets : List ℕ) (f : ReplayFault) → ReplaysAs net tickets (Err f) →
@@ -132,7 +150,7 @@ stops_unmoved net tickets (replay.AfterAnswer place) h = no_moves (replay.AfterA
 
 -- a text that is no schedule
 pub not_read : (net : NetTree) (text : List ℕ) (f : ScheduleFault) → ReadAs text (Err f) →
-    StopsFor (λ g. (t : TermTree) → net ≡ net_of t → FaultySchedule t text g) (stop_of_schedule f)
+    StopsFor (λ g. (t : TermTree) → RunsAs ByName t net → FaultySchedule t text g) (stop_of_schedule f)
 not_read net text schedule.NoMemory h = tt
 not_read net text schedule.BadHeader h = λ t same. unread _ (λ e. cc) h
 not_read net text (schedule.BadLine n) h = λ t same. unread _ (λ e. cc) h

@@ -1,51 +1,51 @@
 -- Why what comes of a text is settled by its bytes, for whoever looks at it from outside.
-use Rattle.std.proofs.Common.{◌≡◌, ℕ, Bool, false, List, Option, None, refl, subst, inl, inr}
+use Rattle.std.proofs.Common.{◌≡◌, ℕ, List, Option, None, refl, subst, inl, inr}
 use Rattle.pcf_values.specs.declared.val.Val.{Val}
 use Rattle.pcf_values.specs.Terms.{TermTree}
+use Rattle.program_runs.specs.declared.calling.Calling.{Calling}
 use Rattle.program_runs.specs.Programs.{number, wanted_by_run, OfGround}
 use Rattle.program_runs.specs.Running.{net_run}
 use Rattle.program_runs.proofs.OneProgram.{same_ground, same_program}
 use Rattle.goi_tasks.specs.declared.fault.Fault.{Fault}
 use Rattle.goi_tasks.specs.declared.task.Task.{Task}
 use Rattle.goi_tasks.specs.declared.task.Task.TheVariants.{Run}
-use Rattle.goi_tasks.specs.Alone.{TellsText}
 use Rattle.goi_tasks.specs.Outputs.{Output}
 use Rattle.goi_tasks.specs.Programs.{FaultyEither}
 use Rattle.goi_tasks.specs.Replaying.{replay_status, ReportsReplay, EndsReplay, FaultySchedule}
-use Rattle.goi_tasks.specs.Running.{EndsRun}
+use Rattle.goi_tasks.specs.Running.{TellsText, EndsRun}
 use Rattle.goi_tasks.specs.Settles.{Settles, TextsSettle, status_of_output, status_of_run}
-use Rattle.goi_tasks.specs.Tasks.{ReportsText, FaultyFor, EndsText}
+use Rattle.goi_tasks.specs.Tasks.{nothing_shown, ReportsText, FaultyFor, EndsText}
 use Rattle.goi_tasks.proofs.Outcomes.{Known, ground_sound, text_sound, one_text_fault, text_end, report_sound}
 use Rattle.goi_tasks.proofs.Outcomes.{end_sound, one_fault_for, schedule_sound, one_schedule_fault, replay_end, one_run_end, run_ends}
 
 module _ (known : Known) where
-  task_settles : (task : Task) (bytes : List ℕ) →
-      Settles status_of_output (ReportsText task bytes) (EndsText task bytes) (FaultyFor task bytes)
-  task_settles task bytes = record {
-    one_status = λ o own h k. text_end known task bytes o own h k;
-    right_or_faulty = λ o f h k. report_sound known task bytes o f h k;
+  task_settles : (workers : ℕ) (task : Task) (bytes : List ℕ) →
+      Settles status_of_output (ReportsText workers task bytes) (EndsText task bytes) (FaultyFor task bytes)
+  task_settles workers task bytes = record {
+    one_status = λ o own h k. text_end known workers task bytes o own h k;
+    right_or_faulty = λ o f h k. report_sound known workers task bytes o f h k;
     ends_or_faulty = λ own f h k. end_sound known task bytes own f h k;
     one_fault = λ f g h k. one_fault_for known task bytes f g h k;
   }
 
   -- a run in numbers ends as the run does
-  numbers_end : (by_value : Bool) (budget : ℕ) (bytes : List ℕ) (answer : Option Val) (moves own : ℕ) →
-      TellsText by_value budget bytes answer moves → EndsText (Run 1 budget false false by_value false) bytes own →
+  numbers_end : (calling : Calling) (budget : ℕ) (bytes : List ℕ) (answer : Option Val) (moves own : ℕ) →
+      TellsText calling budget bytes answer moves → EndsText (Run budget calling nothing_shown) bytes own →
       replay_status answer ≡ own
-  numbers_end by_value budget bytes answer moves own h k =
-      let e : h.term ≡ k.term = same_program known.one_program (wanted_by_run by_value) bytes _ _ h k in
-      one_run_end budget (net_run by_value k.term) (replay_status answer) own
-      (subst (λ (t : TermTree). EndsRun budget (net_run by_value t) (replay_status answer)) e
-      (run_ends _ (net_run by_value h.term) budget answer moves (replay_status answer) refl h.so)) k.so
+  numbers_end calling budget bytes answer moves own h k =
+      let e : h.term ≡ k.term = same_program known.one_program (wanted_by_run calling) bytes _ _ h k in
+      one_run_end budget (net_run calling k.term) (replay_status answer) own
+      (subst (λ (t : TermTree). EndsRun budget (net_run calling t) (replay_status answer)) e
+      (run_ends _ (net_run calling h.term) budget answer moves (replay_status answer) refl h.so)) k.so
 
-  numbers_settle : (by_value : Bool) (budget : ℕ) (bytes : List ℕ) →
-      Settles status_of_run (λ r. TellsText by_value budget bytes r.0 r.1) (EndsText (Run 1 budget false false by_value false) bytes)
-      (FaultyFor (Run 1 budget false false by_value false) bytes)
-  numbers_settle by_value budget bytes = record {
-    one_status = λ r own h k. numbers_end by_value budget bytes r.0 r.1 own h k;
-    right_or_faulty = λ r f h k. text_sound known.one_program (wanted_by_run by_value) bytes h.tree h.term h.type f h.is k;
-    ends_or_faulty = λ own f h k. end_sound known (Run 1 budget false false by_value false) bytes own f h k;
-    one_fault = λ f g h k. one_fault_for known (Run 1 budget false false by_value false) bytes f g h k;
+  numbers_settle : (calling : Calling) (budget : ℕ) (bytes : List ℕ) →
+      Settles status_of_run (λ r. TellsText calling budget bytes r.0 r.1) (EndsText (Run budget calling nothing_shown) bytes)
+      (FaultyFor (Run budget calling nothing_shown) bytes)
+  numbers_settle calling budget bytes = record {
+    one_status = λ r own h k. numbers_end calling budget bytes r.0 r.1 own h k;
+    right_or_faulty = λ r f h k. text_sound known.one_program (wanted_by_run calling) bytes h.tree h.term h.type f h.is k;
+    ends_or_faulty = λ own f h k. end_sound known (Run budget calling nothing_shown) bytes own f h k;
+    one_fault = λ f g h k. one_fault_for known (Run budget calling nothing_shown) bytes f g h k;
   }
 
   -- ---- a schedule on the net of a program

@@ -7,7 +7,6 @@ pub mod Notes
 pub mod Running
 pub mod Replaying
 pub mod Refusals
-pub mod Alone
 pub mod Settles
 -- what serves proofs and private contracts
 pub mod Stops

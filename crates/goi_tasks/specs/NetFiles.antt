@@ -1,11 +1,12 @@
 -- Which bytes are the listing of a program's net, and what is the first fault of those that aren't.
-use Rattle.std.specs.Prelude.{◌≡◌, ◌≢◌, ℕ, List, Err}
+use Rattle.std.specs.Prelude.{◌≢◌, ℕ, List, Err}
 use Rattle.pcf_values.specs.Terms.{TermTree}
 use Rattle.net_build.specs.Nets.{NetTree}
-use Rattle.net_build.specs.NetOf.{net_of}
 use Rattle.net_text.specs.declared.fault.NetTextFault.{NetTextFault}
 use Rattle.net_text.specs.declared.fault.NetTextFault.TheVariants as listing
 use Rattle.net_text.specs.Accepted.{Accepts, ListsProgram}
+use Rattle.program_runs.specs.declared.calling.Calling.TheVariants.{ByName}
+use Rattle.program_runs.specs.Nets.{RunsAs}
 use Rattle.goi_tasks.specs.declared.fault.Fault.{Fault}
 use Rattle.goi_tasks.specs.declared.fault.Fault.TheVariants.{NetText}
 
@@ -13,8 +14,8 @@ use Rattle.goi_tasks.specs.declared.fault.Fault.TheVariants.{NetText}
 pub data FaultyListing (bytes : List ℕ) : Fault → Type 0 where
   unlisted : (f : NetTextFault) → f ≢ listing.NoMemory → Accepts bytes (Err f) → FaultyListing bytes (NetText f)
 
--- this is the net of the program that the bytes list
+-- this is the net of the program that the bytes list, which runs on it by name
 pub record IsListedNet (bytes : List ℕ) (net : NetTree) : Type 0 where
   pub term : TermTree
   pub lists : ListsProgram bytes term
-  pub net_is : net ≡ net_of term
+  pub runs : RunsAs ByName term net

@@ -1,6 +1,6 @@
 -- A run of a program: which report it has, and with which status it ends.
 -- What a run is and what it says of the program stands in `program_runs`.
-use Rattle.std.specs.Prelude.{◌≡◌, ◌⊎◌, ℕ, ◌≤◌, ◌++◌, Bool, false, List, [], length, Option}
+use Rattle.std.specs.Prelude.{◌≡◌, ◌⊎◌, ℕ, ◌≤◌, ◌++◌, false, List, [], length, Option}
 use Rattle.pcf_values.specs.declared.val.Val.{Val}
 use Rattle.pcf_values.specs.Terms.{TermTree, size}
 use Rattle.cbn_meaning.specs.Meaning.{Means}
@@ -9,10 +9,13 @@ use Rattle.net_build.specs.NetOf.{net_of}
 use Rattle.adequacy_laws.specs.Finished.{Within, Beyond}
 use Rattle.schedule_log.specs.declared.entry.Entry.{Entry}
 use Rattle.goi_reports.specs.Reports.{run_report, demo_report}
-use Rattle.program_runs.specs.Running.{meaning, net_run, IsProgramRun}
+use Rattle.program_runs.specs.declared.calling.Calling.{Calling}
+use Rattle.program_runs.specs.Programs.{OfProgram, wanted_by_run}
+use Rattle.program_runs.specs.Running.{meaning, net_run, Tells, IsProgramRun}
 use Rattle.walk_text.specs.Traces.{trace_text}
 use Rattle.goi_words.specs.declared.jobs.Window.{Window}
 use Rattle.demo_text.specs.Demo.{demo_term}
+use Rattle.goi_tasks.specs.declared.shown.Shown.{Shown}
 use Rattle.goi_tasks.specs.Notes.{NotesOf}
 use Rattle.goi_tasks.specs.Outputs.{Output}
 use Rattle.goi_tasks.specs.Refusals.{most_line}
@@ -23,15 +26,14 @@ abbrev pub demo_budget : ℕ
 demo_budget = 1000000
 
 -- the output of a run of the net of a program of this meaning; its report is short where neither schedule nor tally is asked for
-pub record ReportsNet (means : Val → Type 0) (net : NetTree) (workers budget : ℕ) (schedule tally progress : Bool)
-    (o : Output) : Type 0 where
+pub record ReportsNet (means : Val → Type 0) (net : NetTree) (workers budget : ℕ) (shown : Shown) (o : Output) : Type 0 where
   pub answer : Option Val
   pub log : List Entry
   pub run : IsProgramRun means net workers budget answer log
   pub ends : o.status ≡ replay_status answer
-  pub report_is : o.report ≡ run_report answer log workers schedule tally
-  pub notes : NotesOf progress (length log) o.notes
-  pub short : schedule ≡ false → tally ≡ false → length o.report ≤ most_line
+  pub report_is : o.report ≡ run_report answer log workers shown.schedule shown.tally
+  pub notes : NotesOf shown.progress (length log) o.notes
+  pub short : shown.schedule ≡ false → shown.tally ≡ false → length o.report ≤ most_line
 
 -- The output of a run of the net of a program of this meaning whose walk is told: the two lines of a run, and behind them this part of
 -- the trace of that very run's log.
@@ -43,14 +45,19 @@ pub record ReportsWalk (means : Val → Type 0) (net : NetTree) (workers budget 
   pub report_is : o.report ≡ run_report answer log workers false false ++ trace_text net log window.from window.most
   pub no_notes : o.notes ≡ []
 
--- the output of a run of a term, by value where asked
-abbrev pub ReportsRun : ℕ → ℕ → Bool → Bool → Bool → Bool → TermTree → Output → Type 0
-ReportsRun workers budget schedule tally by_value progress t o =
-    ReportsNet (meaning by_value t) (net_run by_value t) workers budget schedule tally progress o
+-- the output of a run of a term, by name or by value
+abbrev pub ReportsRun : ℕ → ℕ → Calling → Shown → TermTree → Output → Type 0
+ReportsRun workers budget calling shown t o = ReportsNet (meaning calling t) (net_run calling t) workers budget shown o
 
--- the output of a run of a term whose walk is told, by value where asked
-abbrev pub ReportsTrace : ℕ → ℕ → Bool → Window → TermTree → Output → Type 0
-ReportsTrace workers budget by_value window t o = ReportsWalk (meaning by_value t) (net_run by_value t) workers budget window o
+-- the output of a run of a term whose walk is told, by name or by value
+abbrev pub ReportsTrace : ℕ → ℕ → Calling → Window → TermTree → Output → Type 0
+ReportsTrace workers budget calling window t o = ReportsWalk (meaning calling t) (net_run calling t) workers budget window o
+
+-- The text is a program, and this is what its run comes to: its value with the length of its net, or no value, where that length is
+-- absent or above the budget.
+abbrev pub TellsText : Calling → ℕ → List ℕ → Option Val → ℕ → Type 0
+TellsText calling budget bytes answer moves =
+    OfProgram (wanted_by_run calling) bytes (λ tree t A. Tells (meaning calling t) (net_run calling t) budget answer moves)
 
 -- the output of a run of the generated program of a number
 pub record ReportsDemo (n workers : ℕ) (o : Output) : Type 0 where

@@ -1,15 +1,16 @@
 -- What comes of a text is settled by its bytes: it is right and ends with one status, or it has one fault.
-use Rattle.std.specs.Prelude.{◌≡◌, ℕ, Bool, false, List, Option, None}
+use Rattle.std.specs.Prelude.{◌≡◌, ℕ, List, Option, None}
 use Rattle.pcf_values.specs.declared.val.Val.{Val}
+use Rattle.program_runs.specs.declared.calling.Calling.{Calling}
 use Rattle.program_runs.specs.Programs.{OfGround}
 use Rattle.goi_tasks.specs.declared.fault.Fault.{Fault}
 use Rattle.goi_tasks.specs.declared.task.Task.{Task}
 use Rattle.goi_tasks.specs.declared.task.Task.TheVariants.{Run}
-use Rattle.goi_tasks.specs.Alone.{TellsText}
 use Rattle.goi_tasks.specs.Outputs.{Output}
 use Rattle.goi_tasks.specs.Programs.{FaultyEither}
 use Rattle.goi_tasks.specs.Replaying.{replay_status, ReportsReplay, EndsReplay, FaultySchedule}
-use Rattle.goi_tasks.specs.Tasks.{ReportsText, FaultyFor, EndsText}
+use Rattle.goi_tasks.specs.Running.{TellsText}
+use Rattle.goi_tasks.specs.Tasks.{nothing_shown, ReportsText, FaultyFor, EndsText}
 
 -- What is right, what ends with which status, and what has which fault: whatever is right has the status with which it ends, it has no
 -- fault, nor has what ends, and two faults are one.
@@ -28,11 +29,11 @@ status_of_run r = replay_status r.0
 
 -- so it is with each task, with a run in numbers, and with a schedule on a program's net
 pub record TextsSettle : Type 0 where
-  pub tasks : (task : Task) (bytes : List ℕ) →
-      Settles status_of_output (ReportsText task bytes) (EndsText task bytes) (FaultyFor task bytes)
-  pub numbers : (by_value : Bool) (budget : ℕ) (bytes : List ℕ) →
-      Settles status_of_run (λ r. TellsText by_value budget bytes r.0 r.1) (EndsText (Run 1 budget false false by_value false) bytes)
-      (FaultyFor (Run 1 budget false false by_value false) bytes)
+  pub tasks : (workers : ℕ) (task : Task) (bytes : List ℕ) →
+      Settles status_of_output (ReportsText workers task bytes) (EndsText task bytes) (FaultyFor task bytes)
+  pub numbers : (calling : Calling) (budget : ℕ) (bytes : List ℕ) →
+      Settles status_of_run (λ r. TellsText calling budget bytes r.0 r.1) (EndsText (Run budget calling nothing_shown) bytes)
+      (FaultyFor (Run budget calling nothing_shown) bytes)
   pub replays : (bytes schedule : List ℕ) →
       Settles status_of_output (λ o. OfGround bytes (λ t. ReportsReplay t None schedule o))
       (λ own. OfGround bytes (λ t. EndsReplay t schedule own)) (λ f. FaultyEither bytes (λ t. FaultySchedule t schedule f) f)

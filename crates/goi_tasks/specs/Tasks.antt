@@ -12,15 +12,32 @@ use Rattle.net_text.specs.Listing.{listing}
 use Rattle.circuit_text.specs.CircuitText.{circuit_text}
 use Rattle.program_runs.specs.Programs.{any_type, number, OfProgram, wanted_by_run}
 use Rattle.program_runs.specs.Running.{net_run}
-use Rattle.goi_words.specs.Jobs.{IsWorkers, IsBudget, IsWindow}
+use Rattle.program_runs.specs.declared.calling.Calling.TheVariants.{ByName}
+use Rattle.goi_words.specs.Jobs.{IsBudget, IsWindow}
 use Rattle.goi_reports.specs.Reports.{check_report}
 use Rattle.goi_tasks.specs.declared.fault.Fault.{Fault}
+use Rattle.goi_tasks.specs.declared.shown.Shown.{Shown}
 use Rattle.goi_tasks.specs.declared.task.Task.{Task}
 use Rattle.goi_tasks.specs.declared.task.Task.TheVariants.{Run, Check, ShowNet, RunNet, Trace, Circuit}
 use Rattle.goi_tasks.specs.NetFiles.{FaultyListing}
 use Rattle.goi_tasks.specs.Outputs.{Output, output}
 use Rattle.goi_tasks.specs.Programs.{FaultyText}
 use Rattle.goi_tasks.specs.Running.{ReportsRun, ReportsTrace, EndsRun}
+
+-- ---- what is told of a run
+
+-- these are shown, and nothing is
+abbrev pub shown : Bool → Bool → Bool → Shown
+shown schedule tally progress = record { schedule = schedule; tally = tally; progress = progress }
+
+abbrev pub nothing_shown : Shown
+nothing_shown = shown false false false
+
+-- a task tells the progress of its run
+abbrev pub progress_of : Task → Bool
+progress_of (Run budget calling shown) = shown.progress
+progress_of (RunNet budget shown) = shown.progress
+progress_of _ = false
 
 -- ---- listings
 
@@ -32,53 +49,54 @@ pub record OfListing (bytes : List ℕ) (P : TermTree → Type 0) : Type 0 where
 
 -- ---- tasks
 
--- the output of the task with the text
-abbrev pub ReportsText : Task → List ℕ → Output → Type 0
-ReportsText (Run workers budget schedule tally by_value progress) bytes o =
-    OfProgram (wanted_by_run by_value) bytes (λ tree t A. ReportsRun workers budget schedule tally by_value progress t o)
-ReportsText (Check term) bytes o = OfProgram any_type bytes (λ tree t A. o ≡ output 0 (check_report A term tree) [])
-ReportsText ShowNet bytes o = OfProgram number bytes (λ tree t A. o ≡ output 0 (listing (net_of t)) [])
-ReportsText (RunNet workers budget schedule tally) bytes o = OfListing bytes (λ t. ReportsRun workers budget schedule tally false false t o)
-ReportsText (Trace workers budget by_value window) bytes o =
-    OfProgram (wanted_by_run by_value) bytes (λ tree t A. ReportsTrace workers budget by_value window t o)
-ReportsText (Circuit stack forks) bytes o = OfProgram number bytes (λ tree t A. o ≡ output 0 (circuit_text (net_of t) stack forks) [])
+-- the output of the task with the text, where so many workers run what is run
+abbrev pub ReportsText : ℕ → Task → List ℕ → Output → Type 0
+ReportsText workers (Run budget calling shown) bytes o =
+    OfProgram (wanted_by_run calling) bytes (λ tree t A. ReportsRun workers budget calling shown t o)
+ReportsText workers (Check term) bytes o = OfProgram any_type bytes (λ tree t A. o ≡ output 0 (check_report A term tree) [])
+ReportsText workers ShowNet bytes o = OfProgram number bytes (λ tree t A. o ≡ output 0 (listing (net_of t)) [])
+ReportsText workers (RunNet budget shown) bytes o = OfListing bytes (λ t. ReportsRun workers budget ByName shown t o)
+ReportsText workers (Trace budget calling window) bytes o =
+    OfProgram (wanted_by_run calling) bytes (λ tree t A. ReportsTrace workers budget calling window t o)
+ReportsText workers (Circuit stack forks) bytes o =
+    OfProgram number bytes (λ tree t A. o ≡ output 0 (circuit_text (net_of t) stack forks) [])
 
 -- the first fault of a text with which it can't be done
 abbrev pub FaultyFor : Task → List ℕ → Fault → Type 0
-FaultyFor (Run workers budget schedule tally by_value progress) bytes f = FaultyText (wanted_by_run by_value) bytes f
+FaultyFor (Run budget calling shown) bytes f = FaultyText (wanted_by_run calling) bytes f
 FaultyFor (Check term) bytes f = FaultyText any_type bytes f
 FaultyFor ShowNet bytes f = FaultyText number bytes f
-FaultyFor (RunNet workers budget schedule tally) bytes f = FaultyListing bytes f
-FaultyFor (Trace workers budget by_value window) bytes f = FaultyText (wanted_by_run by_value) bytes f
+FaultyFor (RunNet budget shown) bytes f = FaultyListing bytes f
+FaultyFor (Trace budget calling window) bytes f = FaultyText (wanted_by_run calling) bytes f
 FaultyFor (Circuit stack forks) bytes f = FaultyText number bytes f
 
 -- it can be done with the text, and ends with this status
 abbrev pub EndsText : Task → List ℕ → ℕ → Type 0
-EndsText (Run workers budget schedule tally by_value progress) bytes status =
-    OfProgram (wanted_by_run by_value) bytes (λ tree t A. EndsRun budget (net_run by_value t) status)
+EndsText (Run budget calling shown) bytes status =
+    OfProgram (wanted_by_run calling) bytes (λ tree t A. EndsRun budget (net_run calling t) status)
 EndsText (Check term) bytes status = OfProgram any_type bytes (λ tree t A. status ≡ 0)
 EndsText ShowNet bytes status = OfProgram number bytes (λ tree t A. status ≡ 0)
-EndsText (RunNet workers budget schedule tally) bytes status = OfListing bytes (λ t. EndsRun budget (net_of t) status)
-EndsText (Trace workers budget by_value window) bytes status =
-    OfProgram (wanted_by_run by_value) bytes (λ tree t A. EndsRun budget (net_run by_value t) status)
+EndsText (RunNet budget shown) bytes status = OfListing bytes (λ t. EndsRun budget (net_of t) status)
+EndsText (Trace budget calling window) bytes status =
+    OfProgram (wanted_by_run calling) bytes (λ tree t A. EndsRun budget (net_run calling t) status)
 EndsText (Circuit stack forks) bytes status = OfProgram number bytes (λ tree t A. status ≡ 0)
 
 -- how many bytes its text has at the most
 abbrev pub most_bytes : Task → ℕ
-most_bytes (Run workers budget schedule tally by_value progress) = most_program_bytes
+most_bytes (Run budget calling shown) = most_program_bytes
 most_bytes (Check term) = most_program_bytes
 most_bytes ShowNet = most_program_bytes
-most_bytes (RunNet workers budget schedule tally) = most_text_bytes
-most_bytes (Trace workers budget by_value window) = most_program_bytes
+most_bytes (RunNet budget shown) = most_text_bytes
+most_bytes (Trace budget calling window) = most_program_bytes
 most_bytes (Circuit stack forks) = most_program_bytes
 
 -- the numbers of a task are in their ranges
 abbrev pub IsWithin : Task → Type 0
-IsWithin (Run workers budget schedule tally by_value progress) = IsWorkers workers × IsBudget budget
+IsWithin (Run budget calling shown) = IsBudget budget
 IsWithin (Check term) = Unit {0}
 IsWithin ShowNet = Unit {0}
-IsWithin (RunNet workers budget schedule tally) = IsWorkers workers × IsBudget budget
-IsWithin (Trace workers budget by_value window) = IsWorkers workers × IsBudget budget × IsWindow window
+IsWithin (RunNet budget shown) = IsBudget budget
+IsWithin (Trace budget calling window) = IsBudget budget × IsWindow window
 IsWithin (Circuit stack forks) = Unit {0}
 
 -- the report on the type of a tree, and with `term` on the tree

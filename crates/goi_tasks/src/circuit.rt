@@ -1,6 +1,6 @@
 //! The circuit of a program.
 
-ghost use Rattle.std.specs.Prelude.{◌≡◌, IfOk, IfErr};
+ghost use Rattle.std.specs.Prelude.{◌≡◌, ℕ, IfOk, IfErr};
 ghost use Rattle.program_runs.specs.Programs.{number};
 ghost use Rattle.goi_tasks.specs.declared.task.Task.TheVariants.{Circuit};
 ghost use Rattle.goi_tasks.specs.Outputs.{output_of};
@@ -8,22 +8,23 @@ ghost use Rattle.goi_tasks.specs.Programs.{FaultyText};
 ghost use Rattle.goi_tasks.specs.Stops.{StopsFor};
 ghost use Rattle.goi_tasks.specs.Tasks.{ReportsText};
 
-use crate::program::net_of_text;
 use crate::report::{Report, plain};
 use crate::stop::Stop;
 use circuit_text::print_circuit;
+use program_runs::{Calling, net_for};
 use std::alloc::Global;
 
 /// The circuit of the net of a text's program, whose type is `nat`, with stacks of so many bits and so many forks.
-///
-/// # Errors
-///
-/// The first fault of the text as such a program. Or it runs out of memory.
-pub fn circuit_alone(alloc: Global, bytes: &[u8], stack: u32, forks: u32) -> Result<Report, Stop>
-    ensures report { IfOk result (λ r. ReportsText (Circuit stack forks) bytes.now (output_of r)) }
+pub(crate) fn report_circuit(
+    alloc: Global,
+    bytes: &[u8],
+    stack: u32,
+    forks: u32,
+) -> Result<Report, Stop>
+    ensures report { IfOk result (λ r. (workers : ℕ) → ReportsText workers (Circuit stack forks) bytes.now (output_of r)) }
     ensures fault { IfErr result (λ e. StopsFor (FaultyText number bytes.now) e) }
 {
-    let net = net_of_text(alloc, bytes)?;
+    let net = net_for(alloc, bytes, Calling::ByName)?;
     let text = print_circuit(alloc, &net, stack, forks);
     drop(net);
     Ok(plain(alloc, text?, 0))

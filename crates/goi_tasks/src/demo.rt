@@ -5,7 +5,7 @@ ghost use Rattle.pcf_values.specs.Terms.{size};
 ghost use Rattle.cbn_meaning.specs.Meaning.{Means};
 ghost use Rattle.net_build.specs.NetOf.{net_of};
 ghost use Rattle.demo_text.specs.Demo.{demo_term};
-ghost use Rattle.goi_words.specs.Jobs.{IsDemo, IsWorkers};
+ghost use Rattle.goi_words.specs.Jobs.{IsDemo};
 ghost use Rattle.program_runs.specs.Running.{IsProgramRun};
 ghost use Rattle.goi_tasks.specs.Outputs.{output_of};
 ghost use Rattle.goi_tasks.specs.Running.{ReportsDemo, demo_budget};
@@ -13,12 +13,9 @@ ghost use Rattle.goi_tasks.specs.Running.{ReportsDemo, demo_budget};
 use crate::report::{Report, plain};
 use crate::running::status_of;
 use demo_text::{demo_text, law_demo_is_typed, law_demo_size};
-use gate_workers::Gate;
 use goi_reports::demo_report;
-use program_runs::{NoRun, law_one_program, run_program_together};
+use program_runs::{Calling, Crew, NoRun, law_one_program, run_text};
 use std::alloc::{AllocError, Global};
-use std::sync::Wait;
-use std::thread::Threads;
 use token_pool::Ended;
 
 /// How many moves the run of a generated program is allowed.
@@ -29,18 +26,12 @@ const BUDGET: u32 = 1_000_000;
 /// # Errors
 ///
 /// It runs out of memory.
-pub fn report_demo<R: Threads + Wait + Sync, G: Gate>(
-    rt: &R,
-    alloc: Global,
-    n: u32,
-    workers: u32,
-    gate: &G,
-) -> Result<Report, AllocError>
+pub fn report_demo<C: Crew>(alloc: Global, n: u32, crew: &C) -> Result<Report, AllocError>
     requires n { IsDemo n }
-    requires workers { IsWorkers workers }
-    ensures { IfOk result (λ r. ReportsDemo n workers (output_of r)) }
+    requires fit { C.fit crew.now }
+    ensures { IfOk result (λ r. ReportsDemo n (C.count crew.now) (output_of r)) }
 {
-    let ended = run_demo(rt, alloc, n, workers, gate)?;
+    let ended = demo_ended(alloc, n, crew)?;
     let answer = ended.answer;
     let text = demo_report(alloc, n, nodes_of(n), answer, ended.log.len());
     drop(ended);
@@ -48,21 +39,16 @@ pub fn report_demo<R: Threads + Wait + Sync, G: Gate>(
 }
 
 /// The run of the generated program of a number.
-fn run_demo<R: Threads + Wait + Sync, G: Gate>(
-    rt: &R,
-    alloc: Global,
-    n: u32,
-    workers: u32,
-    gate: &G,
-) -> Result<Ended, AllocError>
+fn demo_ended<C: Crew>(alloc: Global, n: u32, crew: &C) -> Result<Ended, AllocError>
     requires n { IsDemo n }
-    requires workers { IsWorkers workers }
-    ensures { IfOk result (λ r. IsProgramRun (Means (demo_term n)) (net_of (demo_term n)) workers demo_budget r.answer r.log.entries) }
+    requires fit { C.fit crew.now }
+    ensures { IfOk result (λ r.
+        IsProgramRun (Means (demo_term n)) (net_of (demo_term n)) (C.count crew.now) demo_budget r.answer r.log.entries) }
 {
     law_demo_is_typed();
     law_one_program();
     let text = demo_text(alloc, n)?;
-    match run_program_together(rt, alloc, &text, BUDGET, workers, gate) {
+    match run_text(alloc, &text, BUDGET, Calling::ByName, crew) {
         Ok(ended) => Ok(ended),
         Err(NoRun::Memory) => Err(AllocError),
         Err(NoRun::Fault(_)) => unreachable!(),

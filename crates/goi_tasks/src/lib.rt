@@ -1,11 +1,10 @@
 //! What is done with texts: from the bytes of a program, of a net's listing or of a schedule, to what is printed or to the first fault.
 //!
 //! A `Task` says what is to be done with the text of one file; `report_text` does it, `report_replay` runs a schedule, `report_demo`
-//! the generated program. Each answers the whole output as a value, or the text's first fault, which `refuse` turns into its line. Files
-//! and sinks are left to the crate above.
+//! the generated program. Whatever is run is run by a `Crew` that is handed in. Each answers the whole output as a value, or the text's
+//! first fault, which `refuse` turns into its line. Files and sinks are left to the crate above.
 #![tactic(auto)]
 
-mod alone;
 mod circuit;
 mod demo;
 mod fault;
@@ -18,21 +17,22 @@ mod replaying;
 mod report;
 mod running;
 mod settled;
+mod shown;
 mod stop;
 mod task;
+mod telling;
+mod watched;
 
-pub use alone::{
-    Told, check_alone, list_alone, replay_alone, run_listing_alone, run_text_alone, tell_text,
-    trace_text_alone,
-};
-pub use circuit::circuit_alone;
 pub use demo::report_demo;
 pub use fault::Fault;
 pub use judge::report_text;
-pub use program::net_of_text;
 pub use refusal::{Refusal, refuse};
-pub use replaying::report_replay;
+pub use replaying::{replay_text, report_replay};
 pub use report::Report;
-pub use settled::law_settled;
+pub use running::status_of;
+pub use settled::{law_one_listing, law_settled};
+pub use shown::Shown;
 pub use stop::Stop;
-pub use task::{Task, most_bytes};
+pub use task::{Task, most_bytes, progress_of};
+pub use telling::{Told, tell_text};
+pub use watched::Watched;

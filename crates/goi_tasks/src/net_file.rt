@@ -5,8 +5,10 @@ ghost use Rattle.goi_tasks.specs.NetFiles.{FaultyListing, IsListedNet};
 ghost use Rattle.goi_tasks.specs.Stops.{StopsFor};
 
 use crate::stop::Stop;
+use adequacy_laws::law_never_stuck;
 use net_build::{Net, build};
 use net_text::accept;
+use program_runs::law_tells;
 use std::alloc::Global;
 
 /// The net of the program that a text lists, built anew of the program's term; or the text's first fault.
@@ -14,6 +16,8 @@ pub(crate) fn net_of_listing(alloc: Global, bytes: &[u8]) -> Result<Net, Stop>
     ensures net { IfOk result (λ net. IsListedNet bytes.now net) }
     ensures fault { IfErr result (λ e. StopsFor (FaultyListing bytes.now) e) }
 {
+    law_never_stuck();
+    law_tells();
     let program = accept(alloc, bytes)?;
     let net = build(alloc, &program);
     drop(program);

@@ -1,24 +1,26 @@
 //! The run of a schedule on a net.
 
-ghost use Rattle.std.specs.Prelude.{◌≡◌, ◌≤◌, [], length, IfOk, IfErr};
+ghost use Rattle.std.specs.Prelude.{◌≡◌, ◌≤◌, length, None, IfOk, IfErr};
 ghost use Rattle.pcf_values.specs.Most.{most_moves};
-ghost use Rattle.pcf_values.specs.Terms.{TermTree, nat};
-ghost use Rattle.pcf_values.specs.Typing.{HasType};
-ghost use Rattle.net_build.specs.NetOf.{net_of};
+ghost use Rattle.pcf_values.specs.Terms.{TermTree};
 ghost use Rattle.interleave_laws.specs.Runs.{Runs};
 ghost use Rattle.schedule_log.specs.Logs.{read_entries, tickets_in_log};
+ghost use Rattle.program_runs.specs.declared.calling.Calling.TheVariants.{ByName};
+ghost use Rattle.program_runs.specs.Nets.{RunsAs};
+ghost use Rattle.program_runs.specs.Programs.{OfGround};
 ghost use Rattle.walk_text.specs.Traces.{LeadsSomewhere};
 ghost use Rattle.goi_tasks.specs.Outputs.{output_of};
+ghost use Rattle.goi_tasks.specs.Programs.{FaultyEither};
 ghost use Rattle.goi_tasks.specs.Replaying.{ReportsReplay, FaultySchedule, IsReplayed, FaultyReplay, replay_text};
 ghost use Rattle.goi_tasks.specs.Stops.{StopsFor};
 
 use crate::report::{Report, plain};
 use crate::running::status_of;
 use crate::stop::Stop;
-use adequacy_laws::{law_adequacy, law_lengths};
 use goi_reports::replay_report;
 use goi_words::Window;
 use net_build::Net;
+use program_runs::{Calling, net_for};
 use replay_check::{Replayed, replay};
 use schedule_log::{Log, read_schedule};
 use std::alloc::{AllocError, Global};
@@ -37,14 +39,27 @@ pub fn report_replay(
 ) -> Result<Report, Stop>
     requires runs { Runs net.now }
     ensures report { IfOk result (λ r.
-        (t : TermTree) → HasType [] t nat → net.now ≡ net_of t → ReportsReplay t window bytes.now (output_of r)) }
-    ensures fault { IfErr result (λ e. StopsFor (λ f. (t : TermTree) → net.now ≡ net_of t → FaultySchedule t bytes.now f) e) }
+        (t : TermTree) → RunsAs ByName t net.now → ReportsReplay t window bytes.now (output_of r)) }
+    ensures fault { IfErr result (λ e. StopsFor (λ f. (t : TermTree) → RunsAs ByName t net.now → FaultySchedule t bytes.now f) e) }
 {
-    law_lengths();
-    law_adequacy();
     let log = read_schedule(alloc, bytes)?;
     let report = report_log(alloc, net, &log, window);
     drop(log);
+    report
+}
+
+/// The report of the schedule that the second text is, run on the net of the first one's program.
+///
+/// # Errors
+///
+/// The first fault of the program's text, or else that of the schedule. Or it runs out of memory.
+pub fn replay_text(alloc: Global, bytes: &[u8], schedule: &[u8]) -> Result<Report, Stop>
+    ensures report { IfOk result (λ r. OfGround bytes.now (λ t. ReportsReplay t None schedule.now (output_of r))) }
+    ensures fault { IfErr result (λ e. StopsFor (λ f. FaultyEither bytes.now (λ t. FaultySchedule t schedule.now f) f) e) }
+{
+    let net = net_for(alloc, bytes, Calling::ByName)?;
+    let report = report_replay(alloc, &net, schedule, None);
+    drop(net);
     report
 }
 

@@ -21,7 +21,7 @@ pub fn law_settled()
 }
 
 /// A listing is that of one program, or has one first fault.
-fn law_one_listing()
+pub fn law_one_listing()
     ensures { OneAnswer }
 {
     net_text::law_one_answer();

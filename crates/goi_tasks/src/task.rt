@@ -1,24 +1,22 @@
 //! What is to be done with the text of a file.
 
 ghost use Rattle.std.specs.Prelude.{◌≡◌};
-ghost use Rattle.goi_tasks.specs.Tasks.{most_bytes};
+ghost use Rattle.goi_tasks.specs.Tasks.{most_bytes, progress_of};
 
+use crate::shown::Shown;
 use goi_words::Window;
 use net_text::limits::NET_TEXT_BYTES;
 use pcf_values::limits::PROGRAM_BYTES;
+use program_runs::Calling;
 
 /// What is to be done with the text of a program, or with the listing of a net.
 #[derive(Clone, Copy)]
 pub enum Task {
-    /// Run the program, by so many workers and within so many moves, by value in place of by name where asked, and tell the schedule,
-    /// the tally and the progress where they are asked for.
+    /// Run the program within so many moves, and tell what is asked for of its run.
     Run {
-        workers: u32,
         budget: u32,
-        schedule: bool,
-        tally: bool,
-        by_value: bool,
-        progress: bool,
+        calling: Calling,
+        shown: Shown,
     },
     /// Tell the program's type, and with `term` the program itself.
     Check {
@@ -28,16 +26,13 @@ pub enum Task {
     ShowNet,
     /// Run the program whose net the text lists.
     RunNet {
-        workers: u32,
         budget: u32,
-        schedule: bool,
-        tally: bool,
+        shown: Shown,
     },
     /// Run the program as `Run` does with the same numbers, and tell this part of the run's trace.
     Trace {
-        workers: u32,
         budget: u32,
-        by_value: bool,
+        calling: Calling,
         window: Window,
     },
     /// Print the circuit of the program's net, with stacks of so many bits and so many forks.
@@ -54,5 +49,15 @@ pub fn most_bytes(task: Task) -> u32
     match task {
         Task::RunNet { .. } => NET_TEXT_BYTES as u32,
         _ => PROGRAM_BYTES as u32,
+    }
+}
+
+/// Whether a task tells the progress of its run.
+pub fn progress_of(task: Task) -> bool
+    ensures { result ≡ progress_of task }
+{
+    match task {
+        Task::Run { shown, .. } | Task::RunNet { shown, .. } => shown.progress,
+        _ => false,
     }
 }

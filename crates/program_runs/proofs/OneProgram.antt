@@ -1,5 +1,5 @@
 -- A text is one program or has one first fault, and never both.
-use Rattle.std.proofs.Common.{◌≡◌, ◌≢◌, ◌⊎◌, ℕ, List, [], Result, Ok, Err, refl, sym, ap, ◌∙◌, subst, inl, inr, ⊎_elim}
+use Rattle.std.proofs.Common.{◌≡◌, ◌≢◌, ◌⊎◌, ℕ, List, [], Result, Ok, Err, refl, sym, ap, ◌∙◌, subst, inl, inr}
 use Rattle.pcf_values.specs.Terms.{TyTree, TermTree, nat, arrow, product}
 use Rattle.pcf_values.specs.Named.{NamedTree}
 use Rattle.pcf_reader.specs.declared.fault.ReadFault.{ReadFault}
@@ -12,8 +12,8 @@ use Rattle.cbv_terms.specs.Faults.{IsFirstFault, IsFaultless}
 use Rattle.cbv_terms.specs.Laws.{OneFirstFault, SomeFirstFault}
 use Rattle.program_runs.specs.declared.fault.ProgramFault.{ProgramFault}
 use Rattle.program_runs.specs.declared.fault.ProgramFault.TheVariants.{Read, Typing, NotGround, ByValue}
-use Rattle.program_runs.specs.Laws.{OneTerm, NoFault, OneProgramFault, ProgramOrFault, OneProgram}
-use Rattle.program_runs.specs.Programs.{Wanted, any_type, number, strict_number, WillDo, IsProgram, OfProgram, IsGround}
+use Rattle.program_runs.specs.Laws.{OneTerm, NoFault, OneProgramFault, OneProgram}
+use Rattle.program_runs.specs.Programs.{Wanted, any_type, number, strict_number, WillDo, OfProgram, IsGround}
 use Rattle.program_runs.specs.Programs.{FaultyTree, untyped, no_number, untranslated, FaultyProgram, unread, of_tree}
 
 -- ---- a tree has one term, one type, or one fault

@@ -1,5 +1,5 @@
 -- The net of a program within the limits, or of its translation, has fewer than 2 ^ 32 wires and nodes.
-use Rattle.std.proofs.Common.{ℕ, length, ◌+◌, ◌*◌, ◌^◌, ◌<◌, ◌≤◌, arith}
+use Rattle.std.proofs.Common.{length, ◌+◌, ◌*◌, ◌^◌, ◌<◌, ◌≤◌, arith}
 use Rattle.std.proofs.Math.Nat.{mul-le-mul_right}
 use Rattle.pcf_values.specs.Terms.{TermTree, size, height}
 use Rattle.net_build.specs.NetOf.{net_of}

@@ -1,23 +1,22 @@
 -- What a run of a program's net says of the program, by name and by value.
-use Rattle.std.proofs.Common.{◌≡◌, ℕ, ◌≤◌, true, false, List, [], ◌∷◌, length, Option, Some, None, refl, sym, ◌∙◌, subst, arith}
+use Rattle.std.proofs.Common.{◌≡◌, ℕ, List, [], ◌∷◌, length, Option, Some, None, refl, sym, ◌∙◌, subst, arith}
 use Rattle.pcf_values.specs.declared.val.Val.{Val}
 use Rattle.pcf_values.specs.Terms.{TermTree, nat}
 use Rattle.pcf_values.specs.Typing.{HasType}
 use Rattle.cbn_meaning.specs.Meaning.{Means}
-use Rattle.cbv_terms.specs.ByValue.{MeansByValue}
-use Rattle.cbv_terms.specs.Laws.{SameValues}
-use Rattle.cbv_terms.specs.Translation.{translated}
 use Rattle.net_build.specs.Nets.{NetTree}
 use Rattle.net_build.specs.NetOf.{net_of}
-use Rattle.interleave_laws.specs.Runs.{Runs, Finished}
+use Rattle.interleave_laws.specs.Runs.{Finished}
+use Rattle.adequacy_laws.specs.Adequacy.{BuiltRuns}
 use Rattle.adequacy_laws.specs.Questions.{Length}
 use Rattle.adequacy_laws.specs.FinishedLaws.{TellsMeaning, MapFinishedMeans}
 use Rattle.schedule_log.specs.declared.entry.Entry.{Entry}
 use Rattle.schedule_log.specs.Logs.{tickets_in_log}
 use Rattle.net_runs.specs.Running.{IsRun, IsFirstWorkers}
 use Rattle.program_runs.specs.Laws.{MovesTell, RunsTell}
-use Rattle.program_runs.specs.Nets.{IsNet, IsStrictNet}
-use Rattle.program_runs.specs.Running.{Tells, IsProgramRun, RunsText}
+use Rattle.program_runs.specs.declared.calling.Calling.{Calling}
+use Rattle.program_runs.specs.Nets.{RunsAs, IsNetFor}
+use Rattle.program_runs.specs.Running.{meaning, run_as, net_run, Tells, IsProgramRun, RunsText}
 
 pub tickets_length : (log : List Entry) → length (tickets_in_log log) ≡ length log
 tickets_length [] = refl
@@ -50,49 +49,45 @@ of_other : (means other : Val → Type 0) → ((v : Val) → means v → other v
 of_other means other go net budget None moves h = h
 of_other means other go net budget (Some v) moves h = (go v h.0, h.1, h.2)
 
-pub other_meaning : (means other : Val → Type 0) → ((v : Val) → means v → other v) → (net : NetTree) (workers budget : ℕ)
-    (answer : Option Val) (log : List Entry) → IsProgramRun means net workers budget answer log →
-    IsProgramRun other net workers budget answer log
-other_meaning means other go net workers budget answer log h = record {
-  is_run = h.is_run;
-  alone = h.alone;
-  tells = of_other means other go net budget answer (length log) h.tells;
-}
-
 -- ---- the net of a text runs, and what a run of it is worth
 
-pub strict_runs : ((t : TermTree) → HasType [] t nat → Runs (net_of t)) → (bytes : List ℕ) (net : NetTree) → IsStrictNet bytes net →
-    Runs net
-strict_runs law bytes net is =
-    let k = is.made in subst (λ (n : NetTree). Runs n) (sym k.net_is) (law (translated k.term) k.runs)
-
-module _ (law : RunsTell) (workers budget : ℕ) (answer : Option Val) (log : List Entry) where
-  pub of_net : (t : TermTree) → HasType [] t nat → (net : NetTree) → net ≡ net_of t → IsRun net workers budget answer log →
-      (workers ≡ 1 → IsFirstWorkers net budget log) → IsProgramRun (Means t) (net_of t) workers budget answer log
-  of_net t typed net same r alone =
-      law t typed workers budget answer log (subst (λ (n : NetTree). IsRun n workers budget answer log) same r)
-      (λ one. subst (λ (n : NetTree). IsFirstWorkers n budget log) same (alone one))
-
-  pub by_name : (bytes : List ℕ) (net : NetTree) → IsNet bytes net → IsRun net workers budget answer log →
-      (workers ≡ 1 → IsFirstWorkers net budget log) → RunsText false workers budget bytes answer log
-  by_name bytes net is r alone = record {
-    tree = is.ground.0;
-    term = is.term;
-    type = nat;
-    is = is.ground.1;
-    so = of_net is.term is.typed net is.net_is r alone;
+module _ (built : BuiltRuns) (law : MovesTell) (calling : Calling) (t : TermTree) where
+  own : HasType [] (run_as calling t) nat → ((v : Val) → Means (run_as calling t) v → meaning calling t v) →
+      RunsAs calling t (net_run calling t)
+  own typed means = record {
+    typed = typed;
+    net_is = refl;
+    runs = built (run_as calling t) typed;
+    tells = λ log S led budget finished.
+        of_other (Means (run_as calling t)) (meaning calling t) means (net_run calling t) budget S.answered (length log)
+        (law (run_as calling t) typed log S led budget finished);
   }
 
-  pub by_value : SameValues → (bytes : List ℕ) (net : NetTree) → IsStrictNet bytes net → IsRun net workers budget answer log →
-      (workers ≡ 1 → IsFirstWorkers net budget log) → RunsText true workers budget bytes answer log
-  by_value same bytes net is r alone =
-      let k = is.made in
-      record {
-        tree = is.tree;
-        term = k.term;
-        type = nat;
-        is = record { text = is.text; typed = k.accepted; will_do = (refl, k.faultless) };
-        so =
-            other_meaning (Means (translated k.term)) (MeansByValue k.term) (λ v m. (same k.term k.typed k.has v).1 m)
-            (net_of (translated k.term)) workers budget answer log (of_net (translated k.term) k.runs net k.net_is r alone);
-      }
+  -- the net of the term that runs for a term is one on which this term runs
+  pub runs_as : HasType [] (run_as calling t) nat → ((v : Val) → Means (run_as calling t) v → meaning calling t v) → (net : NetTree) →
+      net ≡ net_run calling t → RunsAs calling t net
+  runs_as typed means net same = subst (λ (n : NetTree). RunsAs calling t n) (sym same) (own typed means)
+
+-- so a run of that net by any number of workers is one of the term
+pub run_of : (calling : Calling) (t : TermTree) (net : NetTree) → RunsAs calling t net → (workers budget : ℕ) (answer : Option Val)
+    (log : List Entry) → IsRun net workers budget answer log → (workers ≡ 1 → IsFirstWorkers net budget log) →
+    IsProgramRun (meaning calling t) (net_run calling t) workers budget answer log
+run_of calling t net is workers budget answer log r alone =
+    let tickets = tickets_in_log log in
+    let finished = subst (λ (a : Option Val). Finished a tickets budget) r.answers r.finished in
+    let by_state = is.tells tickets r.state r.led budget finished in
+    let by_answer = subst (λ (a : Option Val). Tells (meaning calling t) net budget a (length tickets)) (sym r.answers) by_state in
+    let tells = subst (λ (n : ℕ). Tells (meaning calling t) net budget answer n) (tickets_length log) by_answer in
+    subst (λ (n : NetTree). IsProgramRun (meaning calling t) n workers budget answer log) is.net_is
+    (record { is_run = r; alone = alone; tells = tells })
+
+pub text_run : (calling : Calling) (bytes : List ℕ) (net : NetTree) → IsNetFor calling bytes net → (workers budget : ℕ)
+    (answer : Option Val) (log : List Entry) → IsRun net workers budget answer log → (workers ≡ 1 → IsFirstWorkers net budget log) →
+    RunsText calling workers budget bytes answer log
+text_run calling bytes net is workers budget answer log r alone = record {
+  tree = is.tree;
+  term = is.term;
+  type = is.type;
+  is = is.is;
+  so = run_of calling is.term net is.so workers budget answer log r alone;
+}

@@ -13,18 +13,24 @@ use Rattle.pcf_types.specs.declared.fault.TypeFault.TheVariants as typing
 use Rattle.cbv_terms.specs.declared.fault.ByValueFault.{ByValueFault}
 use Rattle.cbv_terms.specs.declared.fault.ByValueFault.TheVariants as by_value
 use Rattle.cbv_terms.specs.Faults.{IsFirstFault, IsFaultless}
-use Rattle.cbv_terms.specs.Laws.{TranslatedIsTyped}
+use Rattle.cbv_terms.specs.Laws.{SameValues, TranslatedIsTyped}
 use Rattle.cbv_terms.specs.Translation.{translated}
 use Rattle.cbv_terms.specs.Accepted.{Accepted}
 use Rattle.net_build.specs.Nets.{NetTree}
 use Rattle.net_build.specs.NetOf.{net_of}
+use Rattle.adequacy_laws.specs.Adequacy.{BuiltRuns}
+use Rattle.program_runs.specs.declared.calling.Calling.{Calling}
+use Rattle.program_runs.specs.declared.calling.Calling.TheVariants.{ByName, ByValue}
 use Rattle.program_runs.specs.declared.fault.ProgramFault.{ProgramFault}
+use Rattle.program_runs.specs.declared.fault.ProgramFault.TheVariants.{NotGround}
 use Rattle.program_runs.specs.declared.no_run.NoRun.{NoRun}
 use Rattle.program_runs.specs.declared.no_run.NoRun.TheVariants.{Memory, Fault}
-use Rattle.program_runs.specs.Nets.{IsUnfit, other_type, IsNetOfTree, IsNet, IsTranslated, IsStrictNetOfTree, IsStrictNet}
+use Rattle.program_runs.specs.Laws.{MovesTell}
+use Rattle.program_runs.specs.Nets.{IsNetFor, IsNetOfTree, IsRunner}
 use Rattle.program_runs.specs.NoRuns.{NoRunFor, no_run_of_read, no_run_of_type, no_run_of_by_value}
-use Rattle.program_runs.specs.Programs.{Wanted, number, strict_number, FaultyTree, untyped, no_number, untranslated, FaultyProgram}
-use Rattle.program_runs.specs.Programs.{unread, of_tree}
+use Rattle.program_runs.specs.Programs.{Wanted, any_type, strict_number, wanted_by_run, FaultyTree, untyped, no_number, untranslated}
+use Rattle.program_runs.specs.Programs.{FaultyProgram, unread, of_tree}
+use Rattle.program_runs.proofs.Telling.{runs_as}
 
 -- ---- faults
 
@@ -49,14 +55,14 @@ pub faults_of_text : {A : Type 0} (wanted : Wanted) (bytes : List ℕ) (tree : N
     IfErr r (λ e. NoRunFor (FaultyTree wanted tree) e) → IfErr r (λ e. NoRunFor (FaultyProgram wanted bytes) e)
 faults_of_text wanted bytes tree r x h = faults_weaker (FaultyTree wanted tree) (FaultyProgram wanted bytes) r (λ f. of_tree tree f x) h
 
--- the fault of a program that is no number is one of its tree
-unfit_tree : (tree : NamedTree) (t : TermTree) (A : TyTree) (f : ProgramFault) → type_of [] tree ≡ Ok (t, A) → IsUnfit A f →
-    FaultyTree number tree f
-unfit_tree tree t A _ d (other_type n) = no_number t A (λ e. cc) d n
+-- a run wants a number
+wants_number : (calling : Calling) → wanted_by_run calling ≢ any_type
+wants_number ByName e = cc
+wants_number ByValue e = cc
 
-pub faults_of_tree : {A : Type 0} (tree : NamedTree) (p : TermTree × TyTree) (r : Result A NoRun) → type_of [] tree ≡ Ok p →
-    IfErr r (λ e. NoRunFor (IsUnfit p.1) e) → IfErr r (λ e. NoRunFor (FaultyTree number tree) e)
-faults_of_tree tree p r d h = faults_weaker (IsUnfit p.1) (FaultyTree number tree) r (λ f. unfit_tree tree p.0 p.1 f d) h
+pub unfit : (calling : Calling) (tree : NamedTree) (t : TermTree) (A : TyTree) → type_of [] tree ≡ Ok (t, A) → A ≢ nat →
+    FaultyTree (wanted_by_run calling) tree NotGround
+unfit calling tree t A d n = no_number t A (wants_number calling) d n
 
 -- a text that stands for no tree stops for its first fault
 pub stops_unread : (wanted : Wanted) (bytes : List ℕ) (f : ReadFault) → Faults bytes f →
@@ -91,61 +97,48 @@ stops_untranslated tree t by_value.ByValueDeep d h = untranslated t by_value.ByV
 
 -- ---- nets
 
--- the net of a program is that of its tree
-net_tree : (tree : NamedTree) (p : TermTree × TyTree) (net : NetTree) → type_of [] tree ≡ Ok p → p.1 ≡ nat → HasType [] p.0 nat →
-    net ≡ net_of p.0 → IsNetOfTree tree net
-net_tree tree p net d e h same = record {
+-- a number runs for itself
+pub runs_itself : (tree : NamedTree) (p : TermTree × TyTree) → type_of [] tree ≡ Ok p → p.1 ≡ nat → HasType [] p.0 nat →
+    IsRunner ByName tree p
+runs_itself tree p d e typed = record {
   term = p.0;
   accepted = subst (λ (A : TyTree). type_of [] tree ≡ Ok (p.0, A)) e d;
-  typed = h;
-  net_is = same;
+  will_do = refl;
+  is = ap (λ (A : TyTree). (p.0, A)) e;
+  typed = typed;
+  means = λ v m. m;
 }
 
-pub nets_of_tree : {E : Type 0} (tree : NamedTree) (p : TermTree × TyTree) (r : Result NetTree E) → type_of [] tree ≡ Ok p →
-    IfOk r (λ net. p.1 ≡ nat) → IfOk r (λ net. HasType [] p.0 nat) → IfOk r (λ net. net ≡ net_of p.0) →
-    IfOk r (λ net. IsNetOfTree tree net)
-nets_of_tree tree p (Ok net) d e h same = net_tree tree p net d e h same
-nets_of_tree tree p (Err x) d e h same = e
-
--- and the net of a tree is that of its text
-pub nets_of_text : {E : Type 0} (bytes : List ℕ) (tree : NamedTree) (r : Result NetTree E) → Text bytes tree →
-    IfOk r (λ net. IsNetOfTree tree net) → IfOk r (λ net. IsNet bytes net)
-nets_of_text bytes tree (Ok net) x h = record {
-  term = h.term;
-  ground = (tree, record { text = x; typed = h.accepted; will_do = refl });
-  typed = h.typed;
-  net_is = h.net_is;
-}
-nets_of_text bytes tree (Err e) x h = h
-
--- the net that runs a tree by value is that which runs its text so
-pub strict_nets_of_text : {E : Type 0} (bytes : List ℕ) (tree : NamedTree) (r : Result NetTree E) → Text bytes tree →
-    IfOk r (λ net. IsStrictNetOfTree tree net) → IfOk r (λ net. IsStrictNet bytes net)
-strict_nets_of_text bytes tree (Ok net) x h = record { tree = tree; text = x; made = h }
-strict_nets_of_text bytes tree (Err e) x h = h
-
--- and so is that of a translated program
-pub strict_net_of_tree : (tree : NamedTree) (p : TermTree × TyTree) (net : NetTree) → IsTranslated tree p → net ≡ net_of p.0 →
-    IsStrictNetOfTree tree net
-strict_net_of_tree tree p net h same = record {
-  term = h.term;
-  accepted = h.accepted;
-  typed = h.typed;
-  faultless = h.faultless;
-  has = h.has;
-  runs = h.runs;
-  net_is = same ∙ ap (λ (q : TermTree × TyTree). net_of q.0) h.is;
-}
-
--- what was translated is the tree's program
-pub translated_tree : TranslatedIsTyped → (tree : NamedTree) (q p : TermTree × TyTree) → type_of [] tree ≡ Ok q → q.1 ≡ nat →
-    HasType [] q.0 nat → p ≡ (translated q.0, nat) → Accepted q.0 → IsFaultless tree → IsTranslated tree p
-translated_tree law tree q p d e typed is accepted faultless = record {
+-- and its translation by value
+pub runs_translated : SameValues → TranslatedIsTyped → (tree : NamedTree) (q p : TermTree × TyTree) → type_of [] tree ≡ Ok q → q.1 ≡ nat →
+    HasType [] q.0 nat → p ≡ (translated q.0, nat) → Accepted q.0 → IsFaultless tree → IsRunner ByValue tree p
+runs_translated same law tree q p d e typed is accepted faultless = record {
   term = q.0;
   accepted = subst (λ (A : TyTree). type_of [] tree ≡ Ok (q.0, A)) e d;
-  typed = typed;
-  faultless = faultless;
-  has = accepted.1;
-  runs = law q.0 typed accepted.1;
+  will_do = (refl, faultless);
   is = is;
+  typed = law q.0 typed accepted.1;
+  means = λ v m. (same q.0 typed accepted.1 v).1 m;
 }
+
+-- the net of the program that runs for a tree's is one on which the tree's runs
+pub net_of_runner : BuiltRuns → MovesTell → (calling : Calling) (tree : NamedTree) (p : TermTree × TyTree) (net : NetTree) →
+    IsRunner calling tree p → net ≡ net_of p.0 → IsNetOfTree calling tree net
+net_of_runner built law calling tree p net h same = record {
+  term = h.term;
+  accepted = h.accepted;
+  will_do = h.will_do;
+  runs = runs_as built law calling h.term h.typed h.means net (same ∙ ap (λ (q : TermTree × TyTree). net_of q.0) h.is);
+}
+
+-- and the net of a tree is that of its text
+pub nets_of_text : {E : Type 0} (calling : Calling) (bytes : List ℕ) (tree : NamedTree) (r : Result NetTree E) → Text bytes tree →
+    IfOk r (λ net. IsNetOfTree calling tree net) → IfOk r (λ net. IsNetFor calling bytes net)
+nets_of_text calling bytes tree (Ok net) x h = record {
+  tree = tree;
+  term = h.term;
+  type = nat;
+  is = record { text = x; typed = h.accepted; will_do = h.will_do };
+  so = h.runs;
+}
+nets_of_text calling bytes tree (Err e) x h = h

@@ -1,63 +1,43 @@
--- The nets on which programs run: that of a text's term, and that of its translation by value.
-use Rattle.std.specs.Prelude.{◌≡◌, ◌≢◌, ℕ, List, [], Ok}
+-- The nets on which programs run: that of a text's term, or that of its translation by value.
+use Rattle.std.specs.Prelude.{◌≡◌, ℕ, List, [], length, Ok}
+use Rattle.pcf_values.specs.declared.val.Val.{Val}
 use Rattle.pcf_values.specs.Terms.{TyTree, nat, TermTree}
 use Rattle.pcf_values.specs.Typing.{HasType}
 use Rattle.pcf_values.specs.Named.{NamedTree}
-use Rattle.pcf_reader.specs.Correct.{Text}
 use Rattle.pcf_types.specs.Checking.{type_of}
-use Rattle.cbv_terms.specs.Faults.{IsFaultless}
-use Rattle.cbv_terms.specs.Translation.{translated}
-use Rattle.cbv_terms.specs.Accepted.{HasTranslation}
+use Rattle.cbn_meaning.specs.Meaning.{Means}
 use Rattle.net_build.specs.Nets.{NetTree}
-use Rattle.net_build.specs.NetOf.{net_of}
-use Rattle.program_runs.specs.declared.fault.ProgramFault.{ProgramFault}
-use Rattle.program_runs.specs.declared.fault.ProgramFault.TheVariants.{NotGround}
-use Rattle.program_runs.specs.Programs.{IsGround}
+use Rattle.interleave_laws.specs.Maps.{MapState, LeadsToMap}
+use Rattle.interleave_laws.specs.Runs.{Runs, Finished}
+use Rattle.program_runs.specs.declared.calling.Calling.{Calling}
+use Rattle.program_runs.specs.Programs.{WillDo, OfProgram, wanted_by_run}
+use Rattle.program_runs.specs.Running.{meaning, run_as, net_run, Tells}
 
--- ---- by name
+-- This is the net on which the term runs, which is of type `nat`, or whose translation is. The net runs, and moves on it that are finished
+-- within a budget say what the term means, in whatever order they were made.
+pub record RunsAs (calling : Calling) (t : TermTree) (net : NetTree) : Type 0 where
+  pub typed : HasType [] (run_as calling t) nat
+  pub net_is : net ≡ net_run calling t
+  pub runs : Runs net
+  pub tells : (log : List ℕ) (S : MapState) → LeadsToMap net log S → (budget : ℕ) → Finished S.answered log budget →
+      Tells (meaning calling t) net budget S.answered (length log)
 
--- this is the net of the text's program, whose type is `nat`
-pub record IsNet (bytes : List ℕ) (net : NetTree) : Type 0 where
-  pub term : TermTree
-  pub ground : IsGround bytes term
-  pub typed : HasType [] term nat
-  pub net_is : net ≡ net_of term
+-- this is the net on which the text's program runs
+abbrev pub IsNetFor : Calling → List ℕ → NetTree → Type 0
+IsNetFor calling bytes net = OfProgram (wanted_by_run calling) bytes (λ tree t A. RunsAs calling t net)
 
--- this is the net of the tree's term, whose type is `nat`
-pub record IsNetOfTree (tree : NamedTree) (net : NetTree) : Type 0 where
-  pub term : TermTree
-  pub accepted : type_of [] tree ≡ Ok (term, nat)
-  pub typed : HasType [] term nat
-  pub net_is : net ≡ net_of term
-
--- this is the fault of a program of a type other than `nat`
-pub data IsUnfit (A : TyTree) : ProgramFault → Type 0 where
-  other_type : A ≢ nat → IsUnfit A NotGround
-
--- ---- by value
-
--- this program runs the tree's term by value, which is of type `nat` and has a translation
-pub record IsTranslated (tree : NamedTree) (p : TermTree × TyTree) : Type 0 where
+-- this is the net on which the tree's program runs
+pub record IsNetOfTree (calling : Calling) (tree : NamedTree) (net : NetTree) : Type 0 where
   pub term : TermTree
   pub accepted : type_of [] tree ≡ Ok (term, nat)
-  pub typed : HasType [] term nat
-  pub faultless : IsFaultless tree
-  pub has : HasTranslation term
-  pub runs : HasType [] (translated term) nat
-  pub is : p ≡ (translated term, nat)
+  pub will_do : WillDo (wanted_by_run calling) tree nat
+  pub runs : RunsAs calling term net
 
--- this is the net that runs the tree's term by value, which is of type `nat` and has a translation
-pub record IsStrictNetOfTree (tree : NamedTree) (net : NetTree) : Type 0 where
+-- this program runs for the tree's: it means by name what that one means
+pub record IsRunner (calling : Calling) (tree : NamedTree) (p : TermTree × TyTree) : Type 0 where
   pub term : TermTree
   pub accepted : type_of [] tree ≡ Ok (term, nat)
-  pub typed : HasType [] term nat
-  pub faultless : IsFaultless tree
-  pub has : HasTranslation term
-  pub runs : HasType [] (translated term) nat
-  pub net_is : net ≡ net_of (translated term)
-
--- and that of the text's program
-pub record IsStrictNet (bytes : List ℕ) (net : NetTree) : Type 0 where
-  pub tree : NamedTree
-  pub text : Text bytes tree
-  pub made : IsStrictNetOfTree tree net
+  pub will_do : WillDo (wanted_by_run calling) tree nat
+  pub is : p ≡ (run_as calling term, nat)
+  pub typed : HasType [] (run_as calling term) nat
+  pub means : (v : Val) → Means (run_as calling term) v → meaning calling term v

@@ -11,6 +11,8 @@ use Rattle.pcf_types.specs.declared.fault.TypeFault.{TypeFault}
 use Rattle.pcf_types.specs.Checking.{type_of}
 use Rattle.cbv_terms.specs.declared.fault.ByValueFault.{ByValueFault}
 use Rattle.cbv_terms.specs.Faults.{IsFirstFault, IsFaultless}
+use Rattle.program_runs.specs.declared.calling.Calling.{Calling}
+use Rattle.program_runs.specs.declared.calling.Calling.TheVariants.{ByName, ByValue}
 use Rattle.program_runs.specs.declared.fault.ProgramFault.{ProgramFault}
 use Rattle.program_runs.specs.declared.fault.ProgramFault.TheVariants.{Read, Typing, NotGround, ByValue}
 
@@ -20,10 +22,15 @@ pub data Wanted : Type 0 where
   number : Wanted
   strict_number : Wanted
 
+-- by value where that is asked for
+abbrev pub calling_of : Bool → Calling
+calling_of false = ByName
+calling_of true = ByValue
+
 -- what a run wants of its program, by name or by value
-abbrev pub wanted_by_run : Bool → Wanted
-wanted_by_run false = number
-wanted_by_run true = strict_number
+abbrev pub wanted_by_run : Calling → Wanted
+wanted_by_run ByName = number
+wanted_by_run ByValue = strict_number
 
 -- a program of this tree and this type will do
 abbrev pub WillDo : Wanted → NamedTree → TyTree → Type 0

@@ -1,7 +1,7 @@
 -- A run of a text's program: its answer, or none within the budget, with the log of its moves, and what they say of the program.
 -- What a run of a net is stands in `net_runs`, with the order of its moves left open where there are several workers; so what is said of
 -- the program doesn't depend on it.
-use Rattle.std.specs.Prelude.{◌≡◌, ℕ, ◌≤◌, Bool, true, false, List, length, Option, None, Some}
+use Rattle.std.specs.Prelude.{◌≡◌, ℕ, ◌≤◌, List, length, Option, None, Some}
 use Rattle.pcf_values.specs.declared.val.Val.{Val}
 use Rattle.pcf_values.specs.Terms.{TermTree}
 use Rattle.cbn_meaning.specs.Meaning.{Means}
@@ -13,17 +13,23 @@ use Rattle.adequacy_laws.specs.Questions.{Length}
 use Rattle.adequacy_laws.specs.Finished.{Beyond}
 use Rattle.schedule_log.specs.declared.entry.Entry.{Entry}
 use Rattle.net_runs.specs.Running.{IsRun, IsFirstWorkers}
+use Rattle.program_runs.specs.declared.calling.Calling.{Calling}
+use Rattle.program_runs.specs.declared.calling.Calling.TheVariants.{ByName, ByValue}
 use Rattle.program_runs.specs.Programs.{OfProgram, wanted_by_run}
 
 -- what a term means, by name or by value
-abbrev pub meaning : Bool → TermTree → Val → Type 0
-meaning false t = Means t
-meaning true t = MeansByValue t
+abbrev pub meaning : Calling → TermTree → Val → Type 0
+meaning ByName t = Means t
+meaning ByValue t = MeansByValue t
 
--- the net on which it is run: its own, or that of its translation
-abbrev pub net_run : Bool → TermTree → NetTree
-net_run false t = net_of t
-net_run true t = net_of (translated t)
+-- the term that runs for it: itself, or its translation
+abbrev pub run_as : Calling → TermTree → TermTree
+run_as ByName t = t
+run_as ByValue t = translated t
+
+-- the net on which it is run
+abbrev pub net_run : Calling → TermTree → NetTree
+net_run calling t = net_of (run_as calling t)
 
 -- What an answer, or none, and a number of moves within a budget say of a program of this meaning and its net: an answer is what the
 -- program means, and the net is as long as there were moves; no answer says that the net's length is absent or above the budget, and that
@@ -40,6 +46,6 @@ pub record IsProgramRun (means : Val → Type 0) (net : NetTree) (workers budget
   pub tells : Tells means net budget answer (length log)
 
 -- the text is a program of type `nat`, with a translation where it runs by value, and this is a run of it
-abbrev pub RunsText : Bool → ℕ → ℕ → List ℕ → Option Val → List Entry → Type 0
-RunsText by_value workers budget bytes answer log =
-    OfProgram (wanted_by_run by_value) bytes (λ tree t A. IsProgramRun (meaning by_value t) (net_run by_value t) workers budget answer log)
+abbrev pub RunsText : Calling → ℕ → ℕ → List ℕ → Option Val → List Entry → Type 0
+RunsText calling workers budget bytes answer log =
+    OfProgram (wanted_by_run calling) bytes (λ tree t A. IsProgramRun (meaning calling t) (net_run calling t) workers budget answer log)

@@ -6,8 +6,8 @@ pub returns : goal.returns
 returns c =
     let known : Known = record {
       one_program = c.law_one_program.ensures;
-      one_listing = c.law_one_answer.ensures;
-      one_answer = c.law_one_answer-2.ensures;
+      one_listing = c.law_one_listing.ensures;
+      one_answer = c.law_one_answer.ensures;
       one_replay = c.law_one_replay.ensures;
       one_list = c.law_one_list.ensures;
     } in

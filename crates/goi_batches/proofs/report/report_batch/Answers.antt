@@ -1,4 +1,4 @@
-use Rattle.std.proofs.Common.{◌≡◌, ◌∙◌, ◌≤◌, List, length, sym, ap, subst, arith}
+use Rattle.std.proofs.Common.{◌≡◌, ◌∙◌, List, length, sym, ap, subst, arith}
 use Rattle.token_pool.specs.declared.ending.Ended.{Ended}
 use Rattle.batch_pool.specs.declared.job.BatchJob.{BatchJob}
 use Rattle.batch_pool.specs.Batches.{BatchFits}
@@ -33,7 +33,7 @@ tell-requires-clause-fit g c =
 pub returns : goal.returns
 returns g c =
     let workers = c.args.workers in
-    batch_told c.law_tells.ensures.runs workers c.args.programs.items c.deref.result.now c.in_ok-marks.jobs.items c.deref-2.result.now
+    batch_told workers c.args.programs.items c.deref.result.now c.in_ok-marks.jobs.items c.deref-2.result.now
     (c.deref.ensures.value ∙ c.in_ok-marks.ensures.marks) c.in_ok-marks.ensures.jobs
     (subst (λ (ends : List Ended). AreRuns c.in_ok-marks.jobs.items workers ends) (sym c.deref-2.ensures.value) c.in_ok-ends.ensures)
     c.tell.result c.tell.ensures.report c.tell.ensures.fits

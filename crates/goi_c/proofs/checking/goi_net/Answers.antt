@@ -5,11 +5,11 @@ use Rattle.goi_c.proofs.checking.goi_net.Goals as goal
 
 pub returns-clause-calls : goal.returns-clause-calls
 returns-clause-calls c =
-    let h = c.list_alone-listed in
+    let h = c.report_text-listed in
     called _ _ h.result _ h.ensures.report h.ensures.fault c.give_result.ensures
 
 pub returns-clause-own : goal.returns-clause-own
 returns-clause-own c =
-    let h = c.list_alone-listed in
-    owned _ _ _ (c.law_settled.ensures.tasks ShowNet c.args.text.now) _
+    let h = c.report_text-listed in
+    owned _ _ _ (c.law_settled.ensures.tasks 1 ShowNet c.args.text.now) _
     (called _ _ h.result _ h.ensures.report h.ensures.fault c.give_result.ensures)

@@ -1,14 +1,20 @@
-use Rattle.std.proofs.Common.{arith}
+use Rattle.std.proofs.Common.{ap, arith}
+use Rattle.program_runs.specs.declared.calling.Calling.{Calling}
+use Rattle.goi_tasks.specs.declared.task.Task.TheVariants.{Trace}
 use Rattle.goi_c.specs.Calls.{part, trace_task}
-use Rattle.goi_c.proofs.Called.{called}
+use Rattle.goi_c.proofs.Called.{called_as}
 use Rattle.goi_c.proofs.Owned.{owned}
 use Rattle.goi_c.proofs.running.goi_trace.Goals as goal
 
 pub returns-clause-calls : goal.returns-clause-calls
 returns-clause-calls c =
-    let h = c.trace_text_alone-traced in
+    let h = c.report_text-traced in
+    let window = part c.args.from c.args.most in
+    let same = ap (λ (k : Calling). Trace c.args.budget k window) c.calling_of.ensures in
     record {
-      right = λ asked. called _ _ h.result _ h.ensures.report h.ensures.fault c.give_result.ensures;
+      right = λ asked.
+          called_as (Trace c.args.budget c.calling_of.result window) (trace_task c.args.budget c.args.flags window) same c.args.text.now
+          h.result _ h.ensures.report h.ensures.fault c.give_result.ensures;
       wrong = λ n.
           absurd (n (
             (
@@ -24,6 +30,9 @@ returns-clause-calls c =
 
 pub returns-clause-own : goal.returns-clause-own
 returns-clause-own c = λ asked.
-    let h = c.trace_text_alone-traced in
-    owned _ _ _ (c.law_settled.ensures.tasks (trace_task c.args.budget c.args.flags (part c.args.from c.args.most)) c.args.text.now) _
-    (called _ _ h.result _ h.ensures.report h.ensures.fault c.give_result.ensures)
+    let h = c.report_text-traced in
+    let window = part c.args.from c.args.most in
+    let same = ap (λ (k : Calling). Trace c.args.budget k window) c.calling_of.ensures in
+    owned _ _ _ (c.law_settled.ensures.tasks 1 (trace_task c.args.budget c.args.flags window) c.args.text.now) _
+    (called_as (Trace c.args.budget c.calling_of.result window) (trace_task c.args.budget c.args.flags window) same c.args.text.now
+    h.result _ h.ensures.report h.ensures.fault c.give_result.ensures)

@@ -6,7 +6,7 @@ use Rattle.goi_engine.proofs.Told.{answers_file, replay_goes, moves_goes}
 use Rattle.goi_engine.proofs.answer.answer_schedule.Goals as goal
 
 pub returns-in-Ok-clause-answers : goal.returns-in-Ok-clause-answers
-returns-in-Ok-clause-answers g c = λ t typed same.
+returns-in-Ok-clause-answers g c = λ t is.
     let old = g.F.Files.seen c.args.files.now in
     let new = g.F.Files.seen c.load.new.files in
     answers_file most_schedule_bytes (ReportsReplay t c.args.window) (FaultySchedule t) (replay_goes t c.args.window) (moves_goes t)
@@ -14,4 +14,4 @@ returns-in-Ok-clause-answers g c = λ t typed same.
     c.in-Ok.bytes.items c.answer_moves.result c.in-Ok.ensures.ok
     (λ h. let k = c.in-Ok.ensures.lacked h in cc) c.in-Ok.ensures.bytes
     (subst (λ (b : List ℕ). Says (ReportsReplay t c.args.window b) (FaultySchedule t b) c.answer_moves.result) c.deref.ensures.value
-    (c.answer_moves.ensures t typed same))
+    (c.answer_moves.ensures t is))

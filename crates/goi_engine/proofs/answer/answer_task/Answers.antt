@@ -7,11 +7,14 @@ use Rattle.goi_engine.proofs.answer.answer_task.Goals as goal
 pub returns-in-Ok-clause-answers : goal.returns-in-Ok-clause-answers
 returns-in-Ok-clause-answers g c =
     let task = c.args.task in
+    let workers = g.C.Crew.count c.args.crew.now in
     let old = g.F.Files.seen c.args.files.now in
     let new = g.F.Files.seen c.load.new.files in
-    answers_file (most_bytes task) (ReportsText task) (FaultyFor task) (report_goes task) (fault_goes task) c.args.file.now old new
+    answers_file (most_bytes task) (ReportsText workers task) (FaultyFor task) (report_goes workers task) (fault_goes task)
+    c.args.file.now old new
     c.in-Ok.bytes.items c.answer_text.result c.in-Ok.ensures.ok
     (λ h. let k = c.in-Ok.ensures.lacked h in cc)
     (subst (λ (limit : ℕ). IfSome (old.told c.args.file.now) (λ bytes. c.in-Ok.bytes.items ≡ take (limit + 1) bytes)) c.most_bytes.ensures
     c.in-Ok.ensures.bytes)
-    (subst (λ (b : List ℕ). Says (ReportsText task b) (FaultyFor task b) c.answer_text.result) c.deref.ensures.value c.answer_text.ensures)
+    (subst (λ (b : List ℕ). Says (ReportsText workers task b) (FaultyFor task b) c.answer_text.result) c.deref.ensures.value
+    c.answer_text.ensures)

@@ -1,6 +1,7 @@
 use Rattle.std.proofs.Common.{ℕ, List, IfOk, IfErr, subst}
 use Rattle.goi_engine.specs.Answers.{Says}
-use Rattle.program_runs.specs.Nets.{IsNet}
+use Rattle.program_runs.specs.declared.calling.Calling.TheVariants.{ByName}
+use Rattle.program_runs.specs.Nets.{IsNetFor}
 use Rattle.program_runs.specs.Programs.{number}
 use Rattle.goi_tasks.specs.Programs.{FaultyText}
 use Rattle.goi_engine.proofs.Told.{nets_made, none_made}
@@ -12,7 +13,7 @@ returns-in-Ok-clause-net g c =
     let new = g.F.Files.seen c.load.new.files in
     nets_made c.args.file.now old new c.in-Ok.bytes.items c.make_net.result c.in-Ok.ensures.ok (λ h. let k = c.in-Ok.ensures.lacked h in cc)
     c.in-Ok.ensures.bytes
-    (subst (λ (b : List ℕ). IfOk c.make_net.result (λ net. IsNet b net)) c.deref.ensures.value c.make_net.ensures.net)
+    (subst (λ (b : List ℕ). IfOk c.make_net.result (λ net. IsNetFor ByName b net)) c.deref.ensures.value c.make_net.ensures.net)
 
 pub returns-in-Ok-clause-none : goal.returns-in-Ok-clause-none
 returns-in-Ok-clause-none g c =

@@ -16,4 +16,4 @@ pub returns-in-NoMemory : goal.returns-in-NoMemory
 returns-in-NoMemory g c =
     rw c.in-NoMemory.is
     (refused_by g.O.Sink.seen g.O.Sink.writes c.args.out.now g.E.Sink.seen g.E.Sink.writes c.args.err.now _ 6 _ _
-    c.tell-in-NoMemory.ensures)
+    c.tell_no_memory.ensures)

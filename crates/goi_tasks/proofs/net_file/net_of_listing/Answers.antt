@@ -1,7 +1,7 @@
 use Rattle.goi_tasks.specs.NetFiles.{FaultyListing}
 use Rattle.goi_tasks.proofs.Replayed.{stops_by}
 use Rattle.goi_tasks.proofs.Sized.{few_listed}
-use Rattle.goi_tasks.proofs.Texts.{stops_unlisted}
+use Rattle.goi_tasks.proofs.Texts.{listed_net, stops_unlisted}
 use Rattle.goi_tasks.proofs.net_file.net_of_listing.Goals as goal
 
 pub returns-in_err-program-clause-fault : goal.returns-in_err-program-clause-fault
@@ -14,3 +14,9 @@ build-net-requires-clause-wires c = (few_listed c.args.bytes.now c.in_ok-program
 
 pub build-net-requires-clause-nodes : goal.build-net-requires-clause-nodes
 build-net-requires-clause-nodes c = (few_listed c.args.bytes.now c.in_ok-program.program.0 c.in_ok-program.ensures.answer.0).1
+
+pub returns-clause-net : goal.returns-clause-net
+returns-clause-net c =
+    let is = c.in_ok-program.ensures.answer in
+    listed_net c.law_never_stuck.ensures.runs c.law_tells.ensures.moves c.args.bytes.now c.in_ok-program.program.0 c.in_ok-net.field-0 is.0
+    c.in_ok-net.ensures

@@ -1,6 +1,6 @@
-use Rattle.std.proofs.Common.{◌≡◌}
 use Rattle.pcf_values.specs.Terms.{TermTree}
-use Rattle.net_build.specs.NetOf.{net_of}
+use Rattle.program_runs.specs.declared.calling.Calling.TheVariants.{ByName}
+use Rattle.program_runs.specs.Nets.{RunsAs}
 use Rattle.schedule_log.specs.Logs.{tickets_in_log}
 use Rattle.goi_tasks.specs.Replaying.{FaultySchedule}
 use Rattle.goi_tasks.proofs.Replayed.{few_moves, read_so, rights, faulties, not_read, stops_by}
@@ -14,7 +14,7 @@ report_log-report-requires-clause-told c = read_so c.in_ok-log.log c.in_ok-log.e
 
 pub returns-clause-report : goal.returns-clause-report
 returns-clause-report c =
-    rights c.law_lengths.ensures.maps c.law_adequacy.ensures.length c.args.net.now c.requires.runs c.args.window c.args.bytes.now
+    rights c.args.net.now c.args.window c.args.bytes.now
     (tickets_in_log c.in_ok-log.log.entries) c.in_ok-log.ensures.answer c.report_log-report.result c.report_log-report.ensures.report
 
 pub returns-clause-fault : goal.returns-clause-fault
@@ -24,6 +24,6 @@ returns-clause-fault c =
 
 pub returns-in_err-log-clause-fault : goal.returns-in_err-log-clause-fault
 returns-in_err-log-clause-fault c =
-    stops_by c.from_residual.result _ (λ f. (t : TermTree) → c.args.net.now ≡ net_of t → FaultySchedule t c.args.bytes.now f)
+    stops_by c.from_residual.result _ (λ f. (t : TermTree) → RunsAs ByName t c.args.net.now → FaultySchedule t c.args.bytes.now f)
     c.from_residual.ensures.1
     (not_read c.args.net.now c.args.bytes.now _ c.in_err-log.ensures.answer)

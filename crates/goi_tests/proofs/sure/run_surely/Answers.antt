@@ -5,7 +5,9 @@ use Rattle.goi_world.specs.Seen.{FilesState}
 use Rattle.goi_engine.specs.FilesSeen.{Possibly}
 use Rattle.goi_words.specs.Jobs.{JobTree, run}
 use Rattle.goi_tasks.specs.declared.task.Task.TheVariants.{Run}
+use Rattle.program_runs.specs.Programs.{calling_of}
 use Rattle.goi_tasks.specs.Outputs.{Output}
+use Rattle.goi_tasks.specs.Tasks.{nothing_shown}
 use Rattle.goi_tasks.specs.Refusals.{most_line}
 use Rattle.goi_engine.specs.Deeds.{Deed, with_text, deed, deed_of}
 use Rattle.goi_engine.specs.Verdicts.{Reports, LacksFor}
@@ -18,7 +20,7 @@ of_bytes (Some bytes) P Q h k = k bytes h
 
 -- the report of a run that tells neither schedule nor tally is short, and it has no notes
 abbrev plain_run : List ℕ → ℕ → ℕ → Bool → Deed
-plain_run file workers budget by_value = with_text (Run workers budget false false by_value false) file
+plain_run file workers budget by_value = with_text workers (Run budget (calling_of by_value) nothing_shown) file
 
 short_run : (files : FilesState) (file : List ℕ) (workers budget : ℕ) (by_value : Bool) (o : Output) →
     Reports (plain_run file workers budget by_value) files o → (length o.report ≤ most_line) × (length o.notes ≡ 0)

@@ -1,0 +1,18 @@
+use Rattle.goi_tasks.specs.declared.task.Task.TheVariants.{Check, ShowNet, Circuit}
+use Rattle.goi_tasks.proofs.Texts.{by_these}
+use Rattle.goi_tasks.proofs.judge.report_text.Goals as goal
+
+pub returns-in-Check-clause-report : goal.returns-in-Check-clause-report
+returns-in-Check-clause-report g c =
+    by_these c.args.task (Check _) c.in-Check.is c.args.bytes.now (g.C.Crew.count c.args.crew.now) c.report_check.result
+    c.report_check.ensures.report
+
+pub returns-in-ShowNet-clause-report : goal.returns-in-ShowNet-clause-report
+returns-in-ShowNet-clause-report g c =
+    by_these c.args.task ShowNet c.in-ShowNet.is c.args.bytes.now (g.C.Crew.count c.args.crew.now) c.report_net.result
+    c.report_net.ensures.report
+
+pub returns-in-Circuit-clause-report : goal.returns-in-Circuit-clause-report
+returns-in-Circuit-clause-report g c =
+    by_these c.args.task (Circuit _ _) c.in-Circuit.is c.args.bytes.now (g.C.Crew.count c.args.crew.now) c.report_circuit.result
+    c.report_circuit.ensures.report

@@ -1,8 +1,0 @@
-use Rattle.goi_tasks.specs.Outputs.{output_of}
-use Rattle.goi_tasks.proofs.Ran.{reports_text}
-use Rattle.goi_tasks.proofs.judge.run_text.Goals as goal
-
-pub returns-clause-report : goal.returns-clause-report
-returns-clause-report g c =
-    reports_text c.args.by_value c.args.workers c.args.budget c.args.schedule c.args.tally c.args.bytes.now c.in_ok-ended.ended.answer
-    c.in_ok-ended.ended.log.entries c.requires.budget c.in_ok-ended.ensures.run (output_of c.in_ok-report.field-0) c.in_ok-report.ensures
