@@ -2,12 +2,19 @@
 pub mod Headline
 -- what a reader has to believe: the promise, what comes of a job, what may be said of files, and how texts are written
 pub mod Promise
+-- What a job does with files: a task with the text of one, a schedule on the net of a program, the programs of a list.
 pub mod Deeds
+-- What a deed makes of files: its output, or the fault for which it refuses them, and which reads it makes.
 pub mod Verdicts
+-- What may be said of the bytes of a file by what is seen of it, and which reads load one.
 pub mod FilesSeen
+-- What the files say of the programs of a list: what is told of each, how each ends, whether one is lacked, and which reads are made.
 pub mod ListsSeen
+-- How a text is written to a sink, and by which writes.
 pub mod Writes
 -- what serves proofs and private contracts
 pub mod Answers
+-- What is written of an answer, and the status that tells it.
 pub mod Delivers
+-- What one turn of loading does to the bytes that were loaded before it.
 pub mod Loads

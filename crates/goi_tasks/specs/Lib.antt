@@ -1,12 +1,20 @@
 -- what a reader has to believe: what is printed, programs and their faults, what is done with each, and the lines of refusals
 pub mod Outputs
+-- The faults of programs' texts among all the faults that a task may meet.
 pub mod Programs
+-- Which bytes are the listing of a program's net, and what is the first fault of those that aren't.
 pub mod NetFiles
+-- What is done with the text of one file.
 pub mod Tasks
+-- What is told on the error output behind a report: nothing, or how many moves were counted while the run went on.
 pub mod Notes
+-- A run of a program: which report it has, and with which status it ends.
 pub mod Running
+-- A schedule that is run on the net of a term: what it came to, which report it has, and the first fault of one that can't be run.
 pub mod Replaying
+-- Which line stands for each refusal, and with which status it ends.
 pub mod Refusals
+-- What comes of a text is settled by its bytes: it is right and ends with one status, or it has one fault.
 pub mod Settles
 -- what serves proofs and private contracts
 pub mod Stops
