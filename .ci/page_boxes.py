@@ -320,6 +320,33 @@ def try_exchanged(page, live, window, program, folder):
     live.quiet(page, window, "an exchange")
 
 
+def try_kept(page, live, window, program, folder):
+    """The boxes have what belongs to the program that was run last, but for what a hand has changed."""
+    calls = programs.Calls(program, folder)
+    texts = "return ['net', 'schedule'].map(it => document.getElementById(it + '-text').value)"
+
+    def wanted(name):
+        file = calls.file(programs.TEXTS[name])
+        return [calls.printed("net", file)[1], calls.printed("run", file, "--schedule")[1].split("\n", 2)[2]]
+
+    window.script("document.getElementById('net-text').value = document.getElementById('schedule-text').value = ''")
+    for name in ("double.pcf", "sum.pcf", "pairs.pcf"):
+        live.runs(window, programs.TEXTS[name])
+        for tab in ("net", "schedule"):
+            if name == "double.pcf":
+                window.script("document.getElementById('net-list').click()")
+                live.waits(window, live.IDLE)
+            opens(live, window, tab)
+        if name == "double.pcf":
+            takes(live, window, "run")
+        page.judge(f"{name}: its net and its schedule", window.script(texts), wanted(name))
+    puts_schedule(window, "schedule 2\n0 1\nend\n")
+    window.script("const box = document.getElementById('net-text'); box.value = 'net 1\\n'; box.dispatchEvent(new Event('input'))")
+    live.runs(window, programs.TEXTS["double.pcf"])
+    page.judge("what a hand has written stays", window.script(texts), ["net 1\n", "schedule 2\n0 1\nend\n"])
+    live.quiet(page, window, "what boxes keep")
+
+
 def try_links(page, live, window, program, folder):
     """An address has the program, the text that is shown, and a schedule with its moment."""
     calls = programs.Calls(program, folder)
@@ -339,6 +366,10 @@ def try_links(page, live, window, program, folder):
     time.sleep(0.5)
     hash_ = window.script("return new URLSearchParams(location.hash.slice(1)).get('schedule')")
     page.judge("it stays in the address", hash_, order)
+    # The same program in the run's own order again, by the address alone.
+    window.script("location.hash = '#example=double&move=3'")
+    own = calls.printed("trace", file)[1]
+    page.judge("a link without the schedule", live.waits(window, f"return walk.view.traceText === {own!r} && walk.view.run.state.at === 3"))
     live.quiet(page, window, "links")
     window.open(base)
     live.waits(window, "return walk.view.run !== null")
@@ -392,5 +423,6 @@ def try_boxes(page, live, window, program, folder):
     try_lesson(page, live, window)
     try_dragging(page, live, window, program, folder)
     try_exchanged(page, live, window, program, folder)
+    try_kept(page, live, window, program, folder)
     try_links(page, live, window, program, folder)
     window.script("machine.openTab('program')")
