@@ -59,10 +59,12 @@ def try_marks(page, live, window):
       const box = document.getElementById("own-text");
       box.value += " ";
       box.dispatchEvent(new Event("input"));""")
-    found = window.script("return [document.querySelector('#desk-program .at').textContent, document.querySelectorAll('#box-program .at').length]")
+    found = window.script("""
+      return [document.querySelector("#desk-program .at").textContent, document.querySelectorAll("#box-program .at").length];""")
     page.judge("a text that was changed", found, ["pred n", 0])
     live.runs(window, programs.TEXTS["sum.pcf"], by_value=True)
-    page.judge("by value the translation is in the panel", window.script("return document.querySelectorAll('#desk-program #program').length"), 1)
+    found = window.script("return document.querySelectorAll('#desk-program #program').length")
+    page.judge("by value the translation is in the panel", found, 1)
     live.quiet(page, window, "marks in the box")
 
 
@@ -122,7 +124,8 @@ def try_nets(page, live, window, program, folder):
         live.waits(window, live.IDLE)
         page.judge(f"{name}: the listing", window.script("return document.getElementById('net-text').value"), listing)
         said = runs_net(live, window, listing)
-        page.judge(f"{name}: its net is run", said.split("\n")[0], ", ".join(calls.printed("run-net", calls.file(listing))[1].split("\n")[:2]))
+        report = calls.printed("run-net", calls.file(listing))[1].split("\n")
+        page.judge(f"{name}: its net is run", said.split("\n")[0], ", ".join(report[:2]))
         page.judge(f"{name}: the walk of its net", window.script("return [walk.view.program, walk.view.traceText]"),
                    [text, calls.printed("trace", calls.file(text))[1]])
     double = calls.printed("net", calls.file(programs.TEXTS["double.pcf"]))[1]
@@ -254,7 +257,8 @@ def try_lesson(page, live, window):
 
 
 def rows_shown(window):
-    return window.script("return [...document.querySelectorAll('#schedule-rows .turn')].map(it => it.textContent.match(/\\d+/g).map(Number))")
+    return window.script("""
+      return [...document.querySelectorAll("#schedule-rows .turn")].map(it => it.textContent.match(/\\d+/g).map(Number));""")
 
 
 def as_text(rows):

@@ -1,5 +1,5 @@
-// A second run beside the one that is shown, and in step with it: behind as many moves, or as many rounds. It can be another schedule of the
-// same program, or the program by value beside it by name. Its net is drawn whole, and both strips lie on one scale.
+// A second run beside the one that is shown, and in step with it: behind as many moves, or as many rounds. It can be another schedule of
+// the same program, or the program by value beside it by name. Its net is drawn whole, and both strips lie on one scale.
 
 const beside = {
   // What it was opened from; its run and its layout; the same run in rounds with where each begins, made when it is first asked for.
@@ -97,7 +97,8 @@ function tellBeside() {
 
 // A token where it waits on its wire.
 function besideToken(ticket, token) {
-  const glyph = { group: shape("g", { class: "token", "data-token": [ticket, token.value, token.direction, token.wire].join(" ") }), looks: "" };
+  const told = [ticket, token.value, token.direction, token.wire].join(" ");
+  const glyph = { group: shape("g", { class: "token", "data-token": told }), looks: "" };
   dressGlyph(glyph, ticket, token, colour(ticket));
   const { x, y } = restOn(beside.paths[token.wire], token);
   glyph.group.setAttribute("transform", placed(x, y, 1));
