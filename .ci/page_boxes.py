@@ -374,6 +374,18 @@ def try_links(page, live, window, program, folder):
     window.script("location.hash = '#example=double&move=3'")
     own = calls.printed("trace", file)[1]
     page.judge("a link without the schedule", live.waits(window, f"return walk.view.traceText === {own!r} && walk.view.run.state.at === 3"))
+    # What is shown keeps its address: behind the tour, and where two runs change places.
+    window.script("document.getElementById('begin-tour').click(); document.getElementById('tour-end').click()")
+    address = "return new URLSearchParams(location.hash.slice(1)).get('example')"
+    page.judge("the address behind the tour", live.waits(window, f"{address} === 'double'", 3))
+    window.script("document.getElementById('keep').click()")
+    live.runs(window, programs.TEXTS["sum.pcf"])
+    time.sleep(0.5)
+    page.judge("the address of the next run", window.script(address), "sum")
+    window.script("document.getElementById('keep').click()")
+    time.sleep(0.5)
+    page.judge("the address where two runs changed places", window.script(address), "double")
+    window.script("document.getElementById('beside-away').click()")
     live.quiet(page, window, "links")
     window.open(base)
     live.waits(window, "return walk.view.run !== null")

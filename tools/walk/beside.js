@@ -8,7 +8,16 @@ const beside = {
   paths: [], tokens: null,
 };
 
-const shownData = () => ({ name: view.name, file: view.file, program: view.program, net: view.netText, trace: view.traceText });
+function shownData() {
+  const { name, file, program, netText: net, traceText: trace, address } = view;
+  return { name, file, program, net, trace, address };
+}
+
+// Opens once more what was shown, with its place in the address.
+function reopen(data) {
+  openWalk(data);
+  view.address = data.address;
+}
 
 // Puts a run beside.
 function putBeside(data) {
@@ -35,7 +44,7 @@ function putAway() {
 function changePlaces() {
   const [made, inOrder, { data }] = [wayMade(), view.rounds !== null, beside];
   const own = shownData();
-  openWalk(data);
+  reopen(data);
   putBeside(own);
   if (inOrder) setRounds(true);
   jump(wayPlace(made));

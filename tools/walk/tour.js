@@ -46,6 +46,6 @@ function endTour() {
   Object.assign(tour, { at: -1, before: null });
   byId("tour").hidden = true;
   if (!before) return;
-  openWalk(before.data);
+  reopen(before.data);
   jump(before.at);
 }
