@@ -59,10 +59,12 @@ def try_marks(page, live, window):
       const box = document.getElementById("own-text");
       box.value += " ";
       box.dispatchEvent(new Event("input"));""")
-    found = window.script("return [document.querySelector('#desk-program .at').textContent, document.querySelectorAll('#box-program .at').length]")
+    found = window.script("""
+      return [document.querySelector("#desk-program .at").textContent, document.querySelectorAll("#box-program .at").length];""")
     page.judge("a text that was changed", found, ["pred n", 0])
     live.runs(window, programs.TEXTS["sum.pcf"], by_value=True)
-    page.judge("by value the translation is in the panel", window.script("return document.querySelectorAll('#desk-program #program').length"), 1)
+    found = window.script("return document.querySelectorAll('#desk-program #program').length")
+    page.judge("by value the translation is in the panel", found, 1)
     live.quiet(page, window, "marks in the box")
 
 
@@ -122,7 +124,8 @@ def try_nets(page, live, window, program, folder):
         live.waits(window, live.IDLE)
         page.judge(f"{name}: the listing", window.script("return document.getElementById('net-text').value"), listing)
         said = runs_net(live, window, listing)
-        page.judge(f"{name}: its net is run", said.split("\n")[0], ", ".join(calls.printed("run-net", calls.file(listing))[1].split("\n")[:2]))
+        report = calls.printed("run-net", calls.file(listing))[1].split("\n")
+        page.judge(f"{name}: its net is run", said.split("\n")[0], ", ".join(report[:2]))
         page.judge(f"{name}: the walk of its net", window.script("return [walk.view.program, walk.view.traceText]"),
                    [text, calls.printed("trace", calls.file(text))[1]])
     double = calls.printed("net", calls.file(programs.TEXTS["double.pcf"]))[1]
@@ -254,7 +257,8 @@ def try_lesson(page, live, window):
 
 
 def rows_shown(window):
-    return window.script("return [...document.querySelectorAll('#schedule-rows .turn')].map(it => it.textContent.match(/\\d+/g).map(Number))")
+    return window.script("""
+      return [...document.querySelectorAll("#schedule-rows .turn")].map(it => it.textContent.match(/\\d+/g).map(Number));""")
 
 
 def as_text(rows):
@@ -320,6 +324,33 @@ def try_exchanged(page, live, window, program, folder):
     live.quiet(page, window, "an exchange")
 
 
+def try_kept(page, live, window, program, folder):
+    """The boxes have what belongs to the program that was run last, but for what a hand has changed."""
+    calls = programs.Calls(program, folder)
+    texts = "return ['net', 'schedule'].map(it => document.getElementById(it + '-text').value)"
+
+    def wanted(name):
+        file = calls.file(programs.TEXTS[name])
+        return [calls.printed("net", file)[1], calls.printed("run", file, "--schedule")[1].split("\n", 2)[2]]
+
+    window.script("document.getElementById('net-text').value = document.getElementById('schedule-text').value = ''")
+    for name in ("double.pcf", "sum.pcf", "pairs.pcf"):
+        live.runs(window, programs.TEXTS[name])
+        for tab in ("net", "schedule"):
+            if name == "double.pcf":
+                window.script("document.getElementById('net-list').click()")
+                live.waits(window, live.IDLE)
+            opens(live, window, tab)
+        if name == "double.pcf":
+            takes(live, window, "run")
+        page.judge(f"{name}: its net and its schedule", window.script(texts), wanted(name))
+    puts_schedule(window, "schedule 2\n0 1\nend\n")
+    window.script("const box = document.getElementById('net-text'); box.value = 'net 1\\n'; box.dispatchEvent(new Event('input'))")
+    live.runs(window, programs.TEXTS["double.pcf"])
+    page.judge("what a hand has written stays", window.script(texts), ["net 1\n", "schedule 2\n0 1\nend\n"])
+    live.quiet(page, window, "what boxes keep")
+
+
 def try_links(page, live, window, program, folder):
     """An address has the program, the text that is shown, and a schedule with its moment."""
     calls = programs.Calls(program, folder)
@@ -339,6 +370,22 @@ def try_links(page, live, window, program, folder):
     time.sleep(0.5)
     hash_ = window.script("return new URLSearchParams(location.hash.slice(1)).get('schedule')")
     page.judge("it stays in the address", hash_, order)
+    # The same program in the run's own order again, by the address alone.
+    window.script("location.hash = '#example=double&move=3'")
+    own = calls.printed("trace", file)[1]
+    page.judge("a link without the schedule", live.waits(window, f"return walk.view.traceText === {own!r} && walk.view.run.state.at === 3"))
+    # What is shown keeps its address: behind the tour, and where two runs change places.
+    window.script("document.getElementById('begin-tour').click(); document.getElementById('tour-end').click()")
+    address = "return new URLSearchParams(location.hash.slice(1)).get('example')"
+    page.judge("the address behind the tour", live.waits(window, f"{address} === 'double'", 3))
+    window.script("document.getElementById('keep').click()")
+    live.runs(window, programs.TEXTS["sum.pcf"])
+    time.sleep(0.5)
+    page.judge("the address of the next run", window.script(address), "sum")
+    window.script("document.getElementById('keep').click()")
+    time.sleep(0.5)
+    page.judge("the address where two runs changed places", window.script(address), "double")
+    window.script("document.getElementById('beside-away').click()")
     live.quiet(page, window, "links")
     window.open(base)
     live.waits(window, "return walk.view.run !== null")
@@ -392,5 +439,6 @@ def try_boxes(page, live, window, program, folder):
     try_lesson(page, live, window)
     try_dragging(page, live, window, program, folder)
     try_exchanged(page, live, window, program, folder)
+    try_kept(page, live, window, program, folder)
     try_links(page, live, window, program, folder)
     window.script("machine.openTab('program')")

@@ -1,11 +1,19 @@
 // The box of a net: the listing of the program's, or one that a hand has changed. The machine says whether it is a program's net, and runs
 // it. A net stands for one term, so that its walk is that of the term that is read off it.
 
+// The listing that was put into the box last: a text that a hand has changed isn't put away for that of another program.
+const nets = { listed: "" };
+
+function putNet(text) {
+  nets.listed = text;
+  putText("net", text);
+}
+
 const listNet = () => begin(async isMine => {
   const text = programGiven();
   const found = await asked(text, "goi_net", [text], [], isMine);
   if (!found) return;
-  putText("net", found.text);
+  putNet(found.text);
   say(`${found.text.split("\n").length - 3} wires and nodes`, "Change a line and run the net: a broken one is refused with the line.");
 });
 

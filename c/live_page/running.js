@@ -115,6 +115,8 @@ const run = (asWalk = () => {}) => begin(async isMine => {
   }
   walk.openWalk({ ...namesOf(text, strict), ...walked, trace: traced.text });
   setFolded(true);
+  if (textIn("net") === nets.listed) putNet(listed.text);
+  if (textIn("schedule") === schedule.taken) putSchedule("");
   byId("own-save").disabled = false;
   const moves = Number(/^moves (\d+)$/m.exec(traced.text)[1]);
   const part = moves > MOST_SHOWN ? `; the first ${MOST_SHOWN} moves are shown` : "";
@@ -164,7 +166,8 @@ function beginWithAddress() {
   const wanted = new URLSearchParams(hash.slice(1));
   const text = wanted.get("program") ?? given.examples[wanted.get("example") + ".pcf"];
   const order = wanted.get("schedule");
-  if (walk.view.run && (text === undefined || (text === programGiven() && order === null))) return;
+  const shownOrder = new URLSearchParams(walk.view.address).get("schedule");
+  if (walk.view.run && (text === undefined || (text === programGiven() && order === shownOrder))) return;
   putProgram(text ?? given.examples[given.first]);
   byId("own-by-value").checked = wanted.get("by-value") === "1";
   byId("own-budget").value = wanted.get("budget") ?? BUDGET;

@@ -2,8 +2,8 @@
 // since in every order the same moves are made, and is held against what the machine said.
 
 const MOST_ROWS = 400;
-// {ticket, count}: the rows as they lie, neighbours of one ticket not yet joined.
-const schedule = { rows: [] };
+// {ticket, count}: the rows as they lie, neighbours of one ticket not yet joined; and the text that was put into the box last, by no hand.
+const schedule = { rows: [], taken: "" };
 
 // The rows of a schedule of either version, or nothing where the text isn't one.
 function rowsIn(text) {
@@ -28,6 +28,7 @@ function textOfRows(rows) {
 const ticketsOf = rows => rows.flatMap(({ ticket, count }) => Array(count).fill(ticket));
 
 function putSchedule(text) {
+  schedule.taken = text;
   putText("schedule", text);
   schedule.rows = rowsIn(text);
   drawRows();

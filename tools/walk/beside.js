@@ -1,5 +1,5 @@
-// A second run beside the one that is shown, and in step with it: behind as many moves, or as many rounds. It can be another schedule of the
-// same program, or the program by value beside it by name. Its net is drawn whole, and both strips lie on one scale.
+// A second run beside the one that is shown, and in step with it: behind as many moves, or as many rounds. It can be another schedule of
+// the same program, or the program by value beside it by name. Its net is drawn whole, and both strips lie on one scale.
 
 const beside = {
   // What it was opened from; its run and its layout; the same run in rounds with where each begins, made when it is first asked for.
@@ -8,7 +8,16 @@ const beside = {
   paths: [], tokens: null,
 };
 
-const shownData = () => ({ name: view.name, file: view.file, program: view.program, net: view.netText, trace: view.traceText });
+function shownData() {
+  const { name, file, program, netText: net, traceText: trace, address } = view;
+  return { name, file, program, net, trace, address };
+}
+
+// Opens once more what was shown, with its place in the address.
+function reopen(data) {
+  openWalk(data);
+  view.address = data.address;
+}
 
 // Puts a run beside.
 function putBeside(data) {
@@ -35,7 +44,7 @@ function putAway() {
 function changePlaces() {
   const [made, inOrder, { data }] = [wayMade(), view.rounds !== null, beside];
   const own = shownData();
-  openWalk(data);
+  reopen(data);
   putBeside(own);
   if (inOrder) setRounds(true);
   jump(wayPlace(made));
@@ -97,7 +106,8 @@ function tellBeside() {
 
 // A token where it waits on its wire.
 function besideToken(ticket, token) {
-  const glyph = { group: shape("g", { class: "token", "data-token": [ticket, token.value, token.direction, token.wire].join(" ") }), looks: "" };
+  const told = [ticket, token.value, token.direction, token.wire].join(" ");
+  const glyph = { group: shape("g", { class: "token", "data-token": told }), looks: "" };
   dressGlyph(glyph, ticket, token, colour(ticket));
   const { x, y } = restOn(beside.paths[token.wire], token);
   glyph.group.setAttribute("transform", placed(x, y, 1));

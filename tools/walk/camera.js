@@ -135,10 +135,11 @@ function follow(point, share) {
   applyCamera();
 }
 
-// What lies over the picture: its buttons, the map, the legend, the words of a signature.
+// What lies over the picture: its buttons, the map, the legend, the words of a signature, the tour.
 function covers() {
   const { left, top } = byId("picture").getBoundingClientRect();
-  return ["#net .tools", "#map", "#net .legend", "#chain"].map(it => document.querySelector(it)).filter(it => it.offsetParent).map(it => {
+  const seen = [...document.querySelectorAll("#net .tools, #map, #net .legend, #chain, #tour")].filter(it => it.offsetParent);
+  return seen.map(it => {
     const box = it.getBoundingClientRect();
     return { left: box.left - left, top: box.top - top, right: box.right - left, bottom: box.bottom - top };
   });

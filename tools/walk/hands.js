@@ -115,7 +115,7 @@ const KEYS = {
   ">": () => changeSpeed(1),
   "<": () => changeSpeed(-1),
   "?": () => byId("keys").showModal(),
-  Escape: () => { forgetChain(); setMenu(false); if (view.wall) setWall(false); },
+  Escape: () => { forgetChain(); endTour(); setMenu(false); if (view.wall) setWall(false); },
 };
 
 function pressKey(event) {
@@ -160,12 +160,18 @@ const BUTTONS = {
   "live-all": () => listWire(null),
   "open-files": () => byId("files").click(),
   "open-first": () => byId("files").click(),
+  "begin-tour": beginTour,
+  "first-tour": beginTour,
+  "tour-back": () => goOnTour(-1),
+  "tour-on": () => goOnTour(1),
+  "tour-end": endTour,
   "first-walk": () => openWalk(JSON.parse(byId("first-data").textContent)),
   "back-to-walk": () => { byId("nothing").hidden = true; },
 };
 
 // Buttons that work where nothing is open.
-const ALWAYS = new Set(["menu", "theme", "help", "help-close", "open-files", "open-first", "first-walk"]);
+const ALWAYS = new Set(["menu", "theme", "help", "help-close", "open-files", "open-first", "first-walk", "begin-tour",
+  "first-tour"]);
 
 function joinHands() {
   for (const id in BUTTONS) byId(id).addEventListener("click", () => { if (view.run || ALWAYS.has(id)) BUTTONS[id](); });

@@ -8,7 +8,9 @@ const SIZES = {
   gap: 6,
 };
 // For a wall: larger letters want more room.
-const WALL_SIZES = { ...SIZES, apart: 44, partsApart: 52, lane: 34, least: 84, most: 124, base: 68, letter: 9.6, sign: 10.8, label: 17, gap: 8 };
+const WALL_SIZES = {
+  ...SIZES, apart: 44, partsApart: 52, lane: 34, least: 84, most: 124, base: 68, letter: 9.6, sign: 10.8, label: 17, gap: 8,
+};
 
 const SIGNS = {
   Plus: "+", Minus: "−", Times: "×", Succ: "succ", Pred: "pred", Ifz: "ifz", Lam: "λ", App: "@", Fst: "fst", Snd: "snd", Pair: "( , )",

@@ -37,7 +37,8 @@ function tellMoveInPanel(move) {
   const asks = move.before.value === "?";
   const worker = view.run.workers > 1 ? ` worker ${move.worker},` : "";
   const what = asks ? " a question" : ` an answer, ${move.before.value},`;
-  const who = element("div", {}, ticketButton(move.ticket, moveColour(move), "ticket " + move.ticket), `${worker}${what} at node ${move.node}`);
+  const button = ticketButton(move.ticket, moveColour(move), "ticket " + move.ticket);
+  const who = element("div", {}, button, `${worker}${what} at node ${move.node}`);
   const parts = [element("div", { class: "title" }, rule.title), who, element("p", {}, rule.say)];
   if (rule.from) {
     const arrow = element("span", { role: "img", "aria-label": "becomes" }, "→");

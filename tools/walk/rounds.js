@@ -29,8 +29,8 @@ class Span {
   get most() { return this.widths.reduce((one, two) => Math.max(one, two), 0); }
 }
 
-// {text, starts, order, tickets}: the trace in rounds, the place of the first move of each round and behind the last, each move's own place,
-// and its ticket.
+// {text, starts, order, tickets}: the trace in rounds, the place of the first move of each round and behind the last, each move's own
+// place, and its ticket.
 function inRounds(run) {
   const made = new Reordered(run);
   const starts = [0];
