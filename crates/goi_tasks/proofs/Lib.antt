@@ -11,8 +11,6 @@ pub mod Replayed
 pub mod Generated
 -- How long the lines of refusals are, and the reports of runs that tell neither schedule nor tally.
 pub mod Short
--- A net that is listed has fewer than 2 ^ 32 wires and nodes.
-pub mod Sized
 -- From the faults of a program's text to those of a task, and from the report on a tree's type to that on its text's.
 pub mod Texts
 -- why what comes of a text is settled by its bytes, seen from outside

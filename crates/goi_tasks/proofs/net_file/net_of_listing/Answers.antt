@@ -1,6 +1,5 @@
 use Rattle.goi_tasks.specs.NetFiles.{FaultyListing}
 use Rattle.goi_tasks.proofs.Replayed.{stops_by}
-use Rattle.goi_tasks.proofs.Sized.{few_listed}
 use Rattle.goi_tasks.proofs.Texts.{listed_net, stops_unlisted}
 use Rattle.goi_tasks.proofs.net_file.net_of_listing.Goals as goal
 
@@ -9,14 +8,8 @@ returns-in_err-program-clause-fault c =
     stops_by c.from_residual.result _ (FaultyListing c.args.bytes.now) c.from_residual.ensures.1
     (stops_unlisted c.args.bytes.now _ c.in_err-program.ensures.answer)
 
-pub build-net-requires-clause-wires : goal.build-net-requires-clause-wires
-build-net-requires-clause-wires c = (few_listed c.args.bytes.now c.in_ok-program.program.0 c.in_ok-program.ensures.answer.0).0
-
-pub build-net-requires-clause-nodes : goal.build-net-requires-clause-nodes
-build-net-requires-clause-nodes c = (few_listed c.args.bytes.now c.in_ok-program.program.0 c.in_ok-program.ensures.answer.0).1
-
-pub returns-clause-net : goal.returns-clause-net
-returns-clause-net c =
+pub returns-in_ok-program-clause-net : goal.returns-in_ok-program-clause-net
+returns-in_ok-program-clause-net c =
     let is = c.in_ok-program.ensures.answer in
-    listed_net c.law_never_stuck.ensures.runs c.law_tells.ensures.moves c.args.bytes.now c.in_ok-program.program.0 c.in_ok-net.field-0 is.0
-    c.in_ok-net.ensures
+    listed_net c.law_never_stuck.ensures.runs c.law_tells.ensures.moves c.args.bytes.now c.in_ok-program.program.0 c.in_ok-program.net is.0.0
+    is.1
