@@ -1,5 +1,5 @@
 -- What the steps are worth: statements over every term, each the contract of a function.
-use Rattle.std.specs.Prelude.{◌≡◌, ◌↔◌, ◌⊎◌, ℕ, [], Some, None}
+use Rattle.std.specs.Prelude.{◌≡◌, ◌↔◌, ◌⊎◌, ℕ, [], Some, None, is_some}
 use Rattle.pcf_values.specs.declared.val.Val.{Val}
 use Rattle.pcf_values.specs.Terms.{TyTree, nat, TermTree}
 use Rattle.pcf_values.specs.Typing.{HasType}
@@ -56,6 +56,10 @@ RulesAreStep = (m n : TermTree) → Reduces m n ↔ (step m ≡ Some n)
 abbrev pub OneWay : Type 0
 OneWay = (m n p : TermTree) → Reduces m n → Reduces m p → n ≡ p
 
--- the spelling of the part that is rewritten next stands in the spelling of the whole, from the byte that is told
+-- the spelling of the part that is rewritten next stands in the spelling of the whole, behind the text that is told
 abbrev pub RedexShown : Type 0
 RedexShown = (t : NamedTree) → Shows (redex t) (term_text t)
+
+-- there is such a part exactly where there is a step
+abbrev pub RedexThere : Type 0
+RedexThere = (t : NamedTree) → is_some (redex t) ≡ is_some (named_step t)

@@ -4,7 +4,7 @@ pub mod Steps
 pub mod Rules
 -- The step on terms with names, as they are read and printed.
 pub mod Names
--- The part that is rewritten next, and where it begins in the printed term: an offset in bytes.
+-- The part that is rewritten next, and where it begins in the printed term: behind which of its bytes.
 pub mod Redex
 -- What the steps are worth: statements over every term, each the contract of a function.
 pub mod Laws
