@@ -1,8 +1,9 @@
 //! A function of numbers, compiled.
 
-ghost use Rattle.std.specs.Prelude.{◌≡◌, ◌≤◌, ◌<◌, ◌^◌, length, replicate, IfOk};
+ghost use Rattle.std.specs.Prelude.{◌≡◌, ◌≤◌, ◌<◌, ◌^◌, [], length, replicate, IfOk};
 ghost use Rattle.pcf_values.specs.Most.{most_budget, most_workers};
-ghost use Rattle.pcf_values.specs.Views.{term_of};
+ghost use Rattle.pcf_values.specs.Terms.{nat};
+ghost use Rattle.pcf_values.specs.Typing.{HasType};
 ghost use Rattle.cbn_meaning.specs.Meaning.{Means};
 ghost use Rattle.net_build.specs.NetOf.{net_of};
 ghost use Rattle.open_nets.specs.Applied.{applied, numeric};
@@ -80,6 +81,25 @@ impl Function {
         ensures { result ≡ self.now.1 }
     {
         self.arguments
+    }
+
+    /// The net of the term at these numbers, on which it runs, for whoever makes the moves himself.
+    pub fn into_net(self, values: &[u64]) -> Net
+        requires many { length values.now ≡ self.1 }
+        ensures net { result ≡ net_of (applied self.0 values.now) }
+        ensures typed { HasType [] (applied self.0 values.now) nat }
+    {
+        law_applied();
+        law_numbers();
+        let Function {
+            program,
+            mut net,
+            first,
+            ..
+        } = self;
+        drop(program);
+        exchange(&mut net, first, values);
+        net
     }
 
     /// The run of the function at these numbers by one worker within a budget of moves: its value, or none within the budget, and its log.
