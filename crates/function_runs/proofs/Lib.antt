@@ -8,5 +8,7 @@ pub mod Zeros
 pub mod Judged
 -- a tree applied to numbers, and its texts
 pub mod Trees
+-- a text is one function, or has one first fault
+pub mod OneFunction
 -- one worker has one run, and a text one term
 pub mod SameRun

@@ -1,4 +1,4 @@
--- That a call is the run of a text. Whether a text stands for a tree is the reader's business, so a law speaks of any text that does.
+-- That a text is one function, and that a call is the run of a text. Whether a text stands for a tree is the reader's business, so a law speaks of any text that does.
 use Rattle.std.specs.Prelude.{◌≡◌, ℕ, List, [], ◌∷◌, map, length, Option, Ok}
 use Rattle.pcf_values.specs.declared.val.Val.{Val}
 use Rattle.pcf_values.specs.Terms.{TermTree, nat}
@@ -9,8 +9,16 @@ use Rattle.cbn_meaning.specs.Meaning.{Means}
 use Rattle.net_build.specs.NetOf.{net_of}
 use Rattle.open_nets.specs.Applied.{applied, numeric}
 use Rattle.schedule_log.specs.declared.entry.Entry.{Entry}
+use Rattle.program_runs.specs.declared.fault.ProgramFault.{ProgramFault}
 use Rattle.program_runs.specs.Programs.{number, IsGround, OfProgram}
 use Rattle.program_runs.specs.Running.{IsProgramRun}
+use Rattle.function_runs.specs.Functions.{CompilesText, FaultyFunction}
+
+-- a text is one function of so many numbers, or has one first fault, and never both
+pub record OneFunction : Type 0 where
+  pub one_function : (n : ℕ) (bytes : List ℕ) (f g : TermTree × ℕ) → CompilesText bytes n f → CompilesText bytes n g → f ≡ g
+  pub one_fault : (n : ℕ) (bytes : List ℕ) (f g : ProgramFault) → FaultyFunction n bytes f → FaultyFunction n bytes g → f ≡ g
+  pub not_both : (n : ℕ) (bytes : List ℕ) (f : TermTree × ℕ) (g : ProgramFault) → CompilesText bytes n f → FaultyFunction n bytes g → ⊥
 
 -- a number in a text: where it is, and where the application to it
 pub record NumberAt : Type 0 where

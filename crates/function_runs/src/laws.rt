@@ -1,8 +1,18 @@
 //! That a call is the run of a text.
 
-ghost use Rattle.function_runs.specs.Laws.{AppliedTree, AppliedText, SameAsText};
+ghost use Rattle.function_runs.specs.Laws.{AppliedTree, AppliedText, OneFunction, SameAsText};
 
+use pcf_reader::{law_one_fault, law_one_tree, law_text_or_fault};
 use program_runs::law_one_program;
+
+/// A text is one function of so many numbers, or has one first fault, and never both.
+pub fn law_one_function()
+    ensures { OneFunction }
+{
+    law_one_tree();
+    law_one_fault();
+    law_text_or_fault();
+}
 
 /// A tree that is a function, applied to as many numbers as it takes, is a program of type `nat`: that of its term, applied to them. So a
 /// text that stands for such a tree is such a program.

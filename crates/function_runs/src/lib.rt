@@ -15,4 +15,4 @@ mod laws;
 pub use applying::MOST_ARGUMENTS;
 pub use compiling::compile;
 pub use function::Function;
-pub use laws::{law_applied_tree, law_same_as_text};
+pub use laws::{law_applied_tree, law_one_function, law_same_as_text};
