@@ -1,4 +1,5 @@
--- That a text is one function, and that a call is the run of a text. Whether a text stands for a tree is the reader's business, so a law speaks of any text that does.
+-- That a text is one function, and that a call is the run of a text. Whether a text stands for a tree is the reader's business, so a law
+-- speaks of any text that does.
 use Rattle.std.specs.Prelude.{◌≡◌, ℕ, List, [], ◌∷◌, map, length, Option, Ok}
 use Rattle.pcf_values.specs.declared.val.Val.{Val}
 use Rattle.pcf_values.specs.Terms.{TermTree, nat}
