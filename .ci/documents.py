@@ -1,0 +1,192 @@
+"""The part of outside.py that holds the documents against what they list: crates, documents, links, the headline and the kit."""
+
+import os
+import re
+import sys
+
+sys.dont_write_bytecode = True
+sys.path.insert(0, os.path.dirname(os.path.realpath(__file__)))
+from judging import TOP, call, judge  # noqa: E402
+
+
+
+def read(path):
+    with open(os.path.join(TOP, path), encoding="utf-8") as text:
+        return text.read()
+
+
+def documents():
+    """Every document of the repository, by its path."""
+    folders = ["", "docs", "docs/lessons", "examples", "examples/embedding", "c", "bench"]
+    folders = [it for it in folders if os.path.isdir(os.path.join(TOP, it))]
+    return [os.path.join(at, it) for at in folders for it in sorted(os.listdir(os.path.join(TOP, at))) if it.endswith(".md")]
+
+
+def bare(text):
+    """A document without its blocks of code, where a bracket is no link."""
+    return re.sub(r"^(```+)\w*\n.*?^\1$", "", text, flags=re.M | re.S)
+
+
+def anchors(text):
+    """The names by which links reach the headings of a document."""
+    return {re.sub(r"[^\w\- ]", "", it.lower()).strip().replace(" ", "-") for it in re.findall(r"^#+ (.*)$", bare(text), re.M)}
+
+
+def links(text):
+    """What the links of a text lead to, but for those out of the repository."""
+    return [it for it in re.findall(r"\]\(([^)\s]+)\)", bare(text)) if not re.match(r"\w+:", it)]
+
+
+def loose(document, text):
+    """The links of a document that lead to no file, or to no heading of one."""
+    found = []
+    for target in links(text):
+        path, _, heading = target.partition("#")
+        path = os.path.normpath(os.path.join(os.path.dirname(document), path)) if path else document
+        there = text if path == document else read(path) if path.endswith(".md") and os.path.isfile(os.path.join(TOP, path)) else ""
+        if not os.path.exists(os.path.join(TOP, path)) or (heading and path.endswith(".md") and heading not in anchors(there)):
+            found.append(target)
+    return found
+
+
+def unlisted(text):
+    """The documents that a list in docs/ lacks, and those that it has twice. Each lesson is reached from their own list."""
+    cells = re.findall(r"^\| (.*?) \|", text, re.M)
+    listed = [os.path.normpath(os.path.join("docs", it.partition("#")[0])) for cell in cells for it in links(cell)]
+    apart = {it for it in documents() if os.path.dirname(it) in ("docs/lessons", "examples/embedding")} | {"README.md", "docs/README.md"}
+    return sorted(set(documents()) - set(listed) - apart) + sorted(it for it in set(listed) if listed.count(it) > 1)
+
+
+def lines_of_crates():
+    """The lines of crates.txt: each crate, in their order, with those that it names."""
+    lines = [it.split("#")[0].partition(":") for it in read("crates.txt").splitlines()]
+    return {head.split()[0]: rest.split() for head, _, rest in lines if head.strip()}
+
+
+def source(crate):
+    """The code of a crate."""
+    at = os.path.join(TOP, "crates", crate, "src")
+    return "\n".join(read(os.path.join(folder, it)) for folder, _, names in os.walk(at) for it in names if it.endswith(".rt"))
+
+
+def odd_crates(text):
+    """What is wrong with a table of the crates. It has those of crates.txt, in their order but for the crates of one row, each on crates
+    that its line names, and with calls that its code has."""
+    crates, found, alone, together = lines_of_crates(), [], [], []
+    for head, below, calls in re.findall(r"^\| (`.*?) \|.*?\| ?(.*?) ?\|.*\| ?(.*?) ?\|$", text, re.M):
+        names = re.findall(r"`(\w+)`", head)
+        if len(names) > 1:
+            together += names
+            continue
+        crate = names[0]
+        alone.append(crate)
+        found += [f"{crate} rests on {it}" for it in re.findall(r"`(\w+)`", below) if it not in crates.get(crate, [])]
+        code = source(crate)
+        words = [it.split("::")[-1] for it in re.findall(r"`([A-Za-z_:]+)`", calls)]
+        found += [f"{crate} has {it}" for it in words if not re.search(rf"\b{it}\b", code)]
+    found += [f"the table lacks {it}" for it in crates if it not in alone + together]
+    found += [f"there is no {it}" for it in alone + together if it not in crates]
+    if not found and alone != [it for it in crates if it in alone]:
+        found.append("the order of crates.txt")
+    return found
+
+
+def odd_readme(text):
+    """What is wrong with what README quotes and counts: the statement of the headline, the lines that it rests on, and the kit."""
+    found = []
+    statement = re.sub(r"\s+", " ", read("crates/goi_engine/specs/Headline.antt"))
+    quoted = [re.sub(r"\s+", " ", it).strip() for it in re.findall(r"^```\n(.*?)^```$", text, re.M | re.S) if " → " in it]
+    if len(quoted) != 1 or quoted[0] not in statement:
+        found.append("the headline")
+    ran = call([os.path.join(TOP, "tools/believed")], cwd=TOP)[1].decode()
+    first, told = re.search(r"^\| `goi run FILE`.*\| ([\d,]+) \|$", ran, re.M), re.search(r"rests on ([\d,]+) lines", text)
+    if not first or not told or first[1] != told[1]:
+        found.append(f"it rests on {first and first[1]} lines")
+    kits = set(re.findall(r"rattle-kit-\w+", text))
+    section = re.search(r"^## The kit\n(.*?)(?=^## )", read("CONTRIBUTING.md"), re.M | re.S)
+    if len(kits) != 1 or not section or not kits <= set(re.findall(r"rattle-kit-\w+", section[1])):
+        found.append("the kit")
+    return found
+
+
+def try_listed():
+    """Each document holds, and one with a wrong line doesn't."""
+    crates, listed, readme = read("docs/ARCHITECTURE.md"), read("docs/README.md"), read("README.md")
+    judge("documents have links", sum(len(links(read(it))) for it in documents()) > 100)
+    for document in documents():
+        judge(f"links of {document} that lead nowhere", loose(document, read(document)), [])
+    judge("a link to no file", loose("docs/README.md", "[it](LACKED.md)"), ["LACKED.md"])
+    judge("a link to no heading", loose("docs/README.md", "[it](NET.md#lacked)"), ["NET.md#lacked"])
+    judge("documents that the list lacks or has twice", unlisted(listed), [])
+    judge("a list without a document", unlisted(listed.replace("(NET.md)", "(WALK.md)")), ["docs/NET.md", "docs/WALK.md"])
+    judge("the table of crates", odd_crates(crates), [])
+    row = re.search(r"^\| `net_check` .*\n", crates, re.M)[0]
+    for what, other, wanted in (
+        ("a table without a crate", "", "the table lacks net_check"),
+        ("a crate that isn't there", row + row.replace("`net_check` |", "`net_chek` |"), "there is no net_chek"),
+        ("a crate on one above it", row.replace("`net_build`", "`net_runs`"), "net_check rests on net_runs"),
+        ("a call that isn't there", row.replace("`check`", "`chek`"), "net_check has chek"),
+    ):
+        judge(what, wanted in odd_crates(crates.replace(row, other)))
+    judge("what README quotes and counts", odd_readme(readme), [])
+    judge("another headline", odd_readme(readme.replace("n ≤ budget", "budget ≤ n")), ["the headline"])
+    judge("another count", len(odd_readme(re.sub(r"rests on [\d,]+", "rests on 7", readme))), 1)
+    judge("another kit", odd_readme(readme.replace("rattle-kit-", "rattle-kit-x")), ["the kit"])
+
+
+# Words that are refused, and what tools/why says of them.
+REFUSED = (
+    ("", "there is no command"),
+    ("ran p", "`ran` is no command; `run` is one"),
+    ("--budget 5 run p", "`--budget` is no command; options come behind the command"),
+    ("run", "FILE is missing"),
+    ("replay p", "SCHEDULE is missing"),
+    ("run p q", "`q` is one word too many"),
+    ("run p --schedul", "`--schedul` is no option of `run`; `--schedule` is one"),
+    ("net p --tally", "`--tally` is no option of `net`, but of `run`, `run-net`"),
+    ("run p --tally=true", "`--tally` takes no value"),
+    ("run p --tally --tally", "`--tally` is given twice"),
+    ("run p --budget=1 --budget 2", "`--budget` is given twice"),
+    ("run p --budget", "`--budget` wants a value behind it"),
+    ("run p --budget -5", "`--budget` wants a value behind it, and `-5` is none"),
+    ("run p --workers 65", "`65` is no value of `--workers`, which takes 1 to 64"),
+    ("circuit p --stack 7", "`7` is no value of `--stack`, which takes 8 to 4096"),
+    ("trace p --from x", "`x` is no value of `--from`, which takes 0 to 10000000"),
+    ("run -p", "`-p` is no option, and none is so short; a file of that name is `./-p`"),
+    ("demo 13", "`13` is no number from 0 to 12"),
+    ("run -- p -q", "`-q` is one word too many"),
+)
+
+
+def try_help(program):
+    """What tools/why says of refused words, and where help is asked for, which runs nothing."""
+    why, given = os.path.join(TOP, "tools/why"), {**os.environ, "GOI": program}
+    rows = re.findall(r"^\| `goi ([\w-]+)([^`]*)` \|[^|]*\|(.*)\|$", read("docs/FORMATS.md"), re.M)
+    judge("the table of commands has rows", len(rows) > 8)
+    for name, shape, cell in rows:
+        status, out, err = call([why, name, "p", "--help"], env={**given, "GOI": "/lacked"})
+        told = out.decode()
+        options = {it.split()[0] for it in told.splitlines()[1:]}
+        wanted = (0, b"", True, set(re.findall(r"`(--[\w-]+)", cell)))
+        judge(f"help on {name}", (status, err, told.startswith(f"  goi {name}{shape}: "), options), wanted)
+    for words in ["--help"], ["-h"], ["help"]:
+        status, out, err = call([why, *words], env={**given, "GOI": "/lacked"})
+        named = re.findall(r"^  goi ([\w-]+)", out.decode(), re.M)
+        judge(f"why {words[0]}", (status, err, named), (0, b"", [name for name, _, _ in rows]))
+    found = call([why, "--version"], env={**given, "GOI": "/lacked"})
+    judge("why --version", found, (0, f"goi {read('VERSION').strip()}\n".encode(), b""))
+    for words, says in REFUSED:
+        status, out, err = call([why, *words.split()], env=given)
+        judge(f"why {words}", (status, out, err.decode().split("\n")[0]), (2, b"", f"goi: {says} [refused words]"))
+    found = call([why, "run", b"p\xff"], env=given)
+    judge("why of a word that isn't UTF-8", (found[0], found[2].decode().split("\n")[0]), (2, "goi: `p\\xff` is not UTF-8 [refused words]"))
+    found = call([why, "run", "--", "--help"], env=given)
+    judge("a file of the name --help", (found[0], found[1], found[2].endswith(b" [read failed]\n")), (3, b"", True))
+
+
+def try_all(program):
+    for part in try_listed, lambda: try_help(program):
+        try:
+            part()
+        except Exception as error:  # a case that can't be tried has failed
+            judge("a part that was cut short", repr(error), None)
