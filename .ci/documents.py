@@ -2,11 +2,13 @@
 
 import os
 import re
+import shutil
 import sys
+import tempfile
 
 sys.dont_write_bytecode = True
 sys.path.insert(0, os.path.dirname(os.path.realpath(__file__)))
-from judging import TOP, call, judge  # noqa: E402
+from judging import TOP, call, judge, put  # noqa: E402
 
 
 
@@ -180,6 +182,14 @@ def try_help(program):
         judge(f"why {words}", (status, out, err.decode().split("\n")[0]), (2, b"", f"goi: {says} [refused words]"))
     found = call([why, "run", b"p\xff"], env=given)
     judge("why of a word that isn't UTF-8", (found[0], found[2].decode().split("\n")[0]), (2, "goi: `p\\xff` is not UTF-8 [refused words]"))
+    with tempfile.TemporaryDirectory() as at:
+        alone = shutil.copy(why, at)
+        found = call([alone, "ran"], env=given)
+        says = b"goi: these words are no command; docs/FORMATS.md has the table of commands, and it isn't here [refused words]\n"
+        judge("why without the table", found, (2, b"", says))
+        put(at, "p", "1 +")
+        found = call([alone, "run", "--budget", "5", "p"], cwd=at, env=given)
+        judge("a refusal without the table", (found[0], found[2].split(b" ")[0]), (1, b"p:1:4:"))
     found = call([why, "run", "--", "--help"], env=given)
     judge("a file of the name --help", (found[0], found[1], found[2].endswith(b" [read failed]\n")), (3, b"", True))
 
