@@ -19,6 +19,8 @@ PARTS = ["by-value", "draw-net", "walk.html", "why"]
 # The crates of the kit that are linked in, as `rt` lists them by `statements NAME`, and its libraries.
 LINKED = "atomic_table clap core crossbeam_utils io itoa libc os std std_alloc std_collections std_heap std_io strsim".split()
 LINKED += ["ucd_derived", "ucd_table", "unicode_ident", "liblibc_c.a", "libos_c.a"]
+# The documents, as files and folders of the checkout.
+DOCUMENTS = ["docs", "README.md", "CHANGELOG.md", "CONTRIBUTING.md", "CITATION.cff", "c/README.md", "bench/RESULTS.md", "bench/NOTES.md"]
 # The pages of the lessons, with what tools/show-walk is given. By one worker a page is the same each time.
 WALKS = ["named", "double", "door", "apply", "sum", "fibonacci"]
 
@@ -109,7 +111,7 @@ def whole(given):
     for path in tracked("c/rust"):
         put("share/goi/" + path.split("/", 1)[1], read(path))
     # the documents, as they lie in the checkout, so that their links lead somewhere
-    for path in tracked("docs", "README.md", "CHANGELOG.md", "CONTRIBUTING.md", "CITATION.cff", "c/README.md"):
+    for path in tracked(*DOCUMENTS):
         put(f"share/doc/goi/{path}", read(path))
     tree["share/doc/goi/examples"] = "../../goi/examples"
     for name, text in licences(given.kit).items():
@@ -158,7 +160,7 @@ def extension(version):
 def class_bundle(given):
     """The lessons with all that their links lead to, and their pages made ready."""
     tree = {"README.txt": (0o644, read("release", "class", "README.txt").replace(b"@VERSION@", given.version.encode()))}
-    for path in tracked("docs", "examples", "README.md", "CHANGELOG.md", "CONTRIBUTING.md", "CITATION.cff", "c/README.md"):
+    for path in tracked(*DOCUMENTS, "examples"):
         tree[path] = (0o644, read(path))
     for name, text in licences(given.kit).items():
         tree[name] = (0o644, text)
