@@ -11,9 +11,6 @@ import manual
 TOP = os.path.dirname(os.path.dirname(os.path.realpath(__file__)))
 # The scripts that are commands, by their names in tools/.
 COMMANDS = ["by-value", "check-circuit", "check-workers", "draw-net", "run-many", "show-walk", "why"]
-# What of tools/ serves a checkout alone.
-LEFT_OUT = ["believed", "build-goi", "built.sh", "fail-devices", "refuse-memory", "refuse-memory.c", "release", "style", "times"]
-LEFT_OUT += ["try-hostile"]
 # What the Python package has of tools/.
 PARTS = ["by-value", "draw-net", "walk.html", "why"]
 # The crates of the kit that are linked in, as `rt` lists them by `statements NAME`, and its libraries.
@@ -99,7 +96,8 @@ def whole(given):
     tree["share/goi/goi"] = "../../bin/goi"
     for path in tracked("tools"):
         name = path.split("/", 1)[1]
-        if "/" not in name and name not in LEFT_OUT:
+        # (commands, and what they read; what else is there serves a checkout alone)
+        if name in COMMANDS or "/" not in name and name.endswith((".py", ".sh", ".html")) and name != "built.sh":
             put(f"share/goi/{path}", read(path), mode_of(path))
     for it in COMMANDS:
         tree[f"bin/goi-{it}"] = f"../share/goi/tools/{it}"
