@@ -10,6 +10,7 @@ one_more from most room b k lines t n e =
     ap (λ o. on_next o (record { steps = k; last = t; lines = lines })
     (λ n. goes_on from most room b (suc k) (lines ++ line_in from most k t) n)) e
 
+-- where a step is made and its line is written, what goes on from there is what goes on from before
 moves_on : (from most room budget k : ℕ) (lines new : List ℕ) (t n : NamedTree) (c : Course) → k < budget →
     next_term room t ≡ Some n → new ≡ lines ++ line_in from most k t → goes_on from most room (budget - k) k lines t ≡ c →
     goes_on from most room (budget - suc k) (suc k) new n ≡ c

@@ -11,5 +11,5 @@ returns-in_err-program-clause-fault c =
 pub returns-in_ok-program-clause-net : goal.returns-in_ok-program-clause-net
 returns-in_ok-program-clause-net c =
     let is = c.in_ok-program.ensures.answer in
-    listed_net c.law_never_stuck.ensures.runs c.law_tells.ensures.moves c.args.bytes.now c.in_ok-program.program.0 c.in_ok-program.net is.0.0
-    is.1
+    listed_net c.law_never_stuck.ensures.runs c.law_tells.ensures.moves c.args.bytes.now c.in_ok-program.program.0
+    c.in_ok-program.net is.0.0 is.1
