@@ -8,8 +8,8 @@ returns-in_err-program-clause-fault c =
     stops_by c.from_residual.result _ (FaultyListing c.args.bytes.now) c.from_residual.ensures.1
     (stops_unlisted c.args.bytes.now _ c.in_err-program.ensures.answer)
 
-pub returns-in_ok-program-clause-net : goal.returns-in_ok-program-clause-net
-returns-in_ok-program-clause-net c =
+pub returns-clause-net : goal.returns-clause-net
+returns-clause-net c =
     let is = c.in_ok-program.ensures.answer in
     listed_net c.law_never_stuck.ensures.runs c.law_tells.ensures.moves c.args.bytes.now c.in_ok-program.program.0
     c.in_ok-program.net is.0.0 is.1
