@@ -116,20 +116,23 @@ module _ (net : NetTree) (tickets profile : List ℕ) (w : ℕ) (S : MapState) (
       let b = made.fresh n T (omega (arith, l, d)) r in
       let bad : None ≡ Some v = sym b ∙ a in absurd cc) (cases_eq n k)
 
-  -- where the next round would pass the budget, the net's length does
+  -- where the next round has more moves than the budget has left, the log with it passes the budget
+  pub made_spent : (budget k : ℕ) → k ≡ length profile → budget < length tickets + length (live_of (seen S)) →
+      budget < length (round_log net (suc k))
+  made_spent budget k e over =
+      let (_, b) = rounds_go_on net (length profile) (seen S) made.at in
+      let long = ap (λ k. length (round_log net (suc k))) e ∙ ap length (b ∙ ap (λ l. l ++ live_of (seen S)) (sym made.log)) in
+      let both = length-append tickets (live_of (seen S)) in
+      omega (arith, over, long, both)
+
+  -- and so does the net's length
   pub made_beyond : (budget : ℕ) → budget < length tickets + length (live_of (seen S)) → Beyond net budget
   made_beyond budget over v n l =
       let (T, r, led) = rounds_lead net runs (suc (length profile)) in
-      let (_, b) = rounds_go_on net (length profile) (seen S) made.at in
       let most = (agrees net runs.sound (round_log net (suc (length profile))) T led).no_longer v n l in
-      let long = ap length (b ∙ ap (λ l. l ++ live_of (seen S)) (sym made.log)) in
-      let both = length-append tickets (live_of (seen S)) in
-      omega (arith, over, most, long, both)
+      let long = made_spent budget (length profile) refl over in
+      omega (arith, most, long)
 
 -- a round more leaves less of the budget
 pub less_left : (b old new len : ℕ) → new ≡ old + len → 1 ≤ len → len ≤ b - old → b - new < b - old
 less_left b old new len e some fits = omega (arith, e, some, fits)
-
--- the state after as many rounds is one
-pub spent : (net : NetTree) (k n : ℕ) (S T : State) → k ≡ n → rounds net n ≡ Some S → rounds net k ≡ Some T → S ≡ T
-spent net k n S T e h g = one_state S T (sym h ∙ ap (rounds net) (sym e) ∙ g)

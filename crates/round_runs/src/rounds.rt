@@ -1,11 +1,10 @@
 //! Rounds of a net, up to the answer or a budget.
 
-ghost use Rattle.std.specs.Prelude.{◌≡◌, ◌≤◌, ◌<◌, ◌+◌, [], length, Some, None, OnOk, IfOk, IsTrue, IsFalse};
+ghost use Rattle.std.specs.Prelude.{◌≡◌, ◌≤◌, ◌<◌, ◌+◌, suc, [], length, Some, None, OnOk, IfOk, IsTrue, IsFalse};
 ghost use Rattle.std.specs.FinMap.{len};
 ghost use Rattle.pcf_values.specs.declared.val.Val.{Val};
 ghost use Rattle.pcf_values.specs.Most.{most_budget};
 ghost use Rattle.interleave_laws.specs.Runs.{Runs};
-ghost use Rattle.interleave_laws.specs.States.{State};
 ghost use Rattle.interleave_laws.specs.Maps.{MapState, LeadsToMap, seen};
 ghost use Rattle.adequacy_laws.specs.Finished.{Beyond};
 ghost use Rattle.round_laws.specs.Rounds.{live_of, rounds, round_log};
@@ -106,8 +105,7 @@ pub fn run_rounds(alloc: Global, net: &Net, budget: u32) -> Result<Rounds, Alloc
         (rounds net.now r.rounds ≡ Some (seen S)) × (r.answer ≡ S.answered)) }
     ensures span { IfOk result (λ r. (v : Val) → r.answer ≡ Some v → Span net.now v r.rounds) }
     ensures beyond { IfOk result (λ r. r.answer ≡ None → Beyond net.now budget) }
-    ensures spent { IfOk result (λ r. r.answer ≡ None → (S : State) → rounds net.now r.rounds ≡ Some S →
-        budget < length r.tickets.items + length (live_of S)) }
+    ensures spent { IfOk result (λ r. r.answer ≡ None → budget < length (round_log net.now (suc r.rounds))) }
 {
     let mut made = begin(alloc, net)?;
     while goes_on(&made, budget) {

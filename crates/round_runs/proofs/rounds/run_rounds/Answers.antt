@@ -2,7 +2,7 @@ use Rattle.std.proofs.Common.{◌≡◌, length, None, sym, ap, ◌∙◌, subst
 use Rattle.interleave_laws.specs.Maps.{seen}
 use Rattle.round_laws.specs.Rounds.{live_of, rounds}
 use Rattle.round_laws.specs.Spans.{Span}
-use Rattle.round_runs.proofs.Going.{made_count, made_some, made_span, made_beyond, less_left, spent}
+use Rattle.round_runs.proofs.Going.{made_count, made_some, made_span, made_beyond, made_spent, less_left}
 use Rattle.round_runs.proofs.rounds.run_rounds.Goals as goal
 
 pub round_on-requires-clause-room : goal.round_on-requires-clause-room
@@ -59,13 +59,11 @@ returns-clause-beyond c = λ h.
     c.args.budget (omega (arith, count, over))
 
 pub returns-clause-spent : goal.returns-clause-spent
-returns-clause-spent c = λ h S r.
+returns-clause-spent c = λ h.
     let made = c.loop-made.made in
     let none : made.core.answered ≡ None = sym c.answer.ensures ∙ h in
     let count = made_count c.args.net.now made.tickets.items made.profile.items made.widest made.core c.loop-made.invariant.0
     c.requires.runs in
     let over = c.goes_on.ensures.ends c.loop-made-test.false none in
-    let same = ap (λ S. length (live_of S))
-    (spent c.args.net.now c.len.result (length made.profile.items) (seen made.core) S (c.len.ensures ∙ made.profile.ok.0)
-    c.loop-made.invariant.0.at r) in
-    omega (arith, count, over, same)
+    made_spent c.args.net.now made.tickets.items made.profile.items made.widest made.core c.loop-made.invariant.0 c.requires.runs
+    c.args.budget c.len.result (c.len.ensures ∙ made.profile.ok.0) (omega (arith, count, over))
