@@ -136,6 +136,24 @@ fn answer_job<R: Threads + Wait + Sync, F: Files, G: Gate>(
             },
             &Alone,
         ),
+        Job::Span {
+            file,
+            budget,
+            by_value,
+            profile,
+            schedule,
+        } => answer_task(
+            alloc,
+            files,
+            file.as_str(),
+            Task::Span {
+                budget: *budget,
+                calling: calling_of(*by_value),
+                profile: *profile,
+                schedule: *schedule,
+            },
+            &Alone,
+        ),
         Job::Replay {
             file,
             schedule,

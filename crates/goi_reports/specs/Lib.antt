@@ -6,6 +6,8 @@ pub mod Lines
 pub mod Reports
 -- A tally as lines: the count of each worker, from worker 0 on, and then the finisher's.
 pub mod Tallies
+-- The report of a run in rounds.
+pub mod Spans
 -- what can be said of a report where nothing is known of the bytes that it is about
 pub mod Forms
 -- the laws, and the rows that they compute

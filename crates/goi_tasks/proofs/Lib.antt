@@ -5,6 +5,8 @@ pub mod Brief
 pub mod Outcomes
 -- The report that is made of a run of a program's net.
 pub mod Ran
+-- The report that is made of a run in rounds.
+pub mod Spanned
 -- What a schedule that was run on a program's net says of the program.
 pub mod Replayed
 -- The run of the generated program of a number is that of its term, and the program has no fault.

@@ -1,7 +1,7 @@
 -- What comes of a text is settled by its bytes: it is one program or has one fault, and a task ends on it with one status; and so it is
 -- with a schedule.
 use Rattle.std.proofs.Common.{◌≡◌, ◌≢◌, ◌⊎◌, ℕ, List, length, Option, Some, None, Result, Ok, Err, refl, sym, ap, ◌∙◌}
-use Rattle.std.proofs.Common.{subst, inl, inr, arith}
+use Rattle.std.proofs.Common.{Bool, subst, inl, inr, arith}
 use Rattle.pcf_values.specs.declared.val.Val.{Val}
 use Rattle.pcf_values.specs.Terms.{TyTree, TermTree, nat}
 use Rattle.pcf_values.specs.Named.{NamedTree}
@@ -14,6 +14,7 @@ use Rattle.net_build.specs.Nets.{NetTree}
 use Rattle.net_build.specs.NetOf.{net_of}
 use Rattle.interleave_laws.specs.Maps.{MapState, LeadsToMap}
 use Rattle.adequacy_laws.specs.Finished.{Within, Beyond}
+use Rattle.round_laws.specs.Rounds.{round_log}
 use Rattle.goi_words.specs.declared.jobs.Window.{Window}
 use Rattle.schedule_log.specs.declared.fault.ScheduleFault.{ScheduleFault}
 use Rattle.schedule_log.specs.declared.fault.ScheduleFault.TheVariants as schedule
@@ -32,11 +33,12 @@ use Rattle.goi_tasks.specs.declared.fault.Fault.{Fault}
 use Rattle.goi_tasks.specs.declared.fault.Fault.TheVariants.{Program, NetText, Schedule, Moves}
 use Rattle.goi_tasks.specs.declared.shown.Shown.{Shown}
 use Rattle.goi_tasks.specs.declared.task.Task.{Task}
-use Rattle.goi_tasks.specs.declared.task.Task.TheVariants.{Run, Check, ShowNet, RunNet, Trace, Circuit}
+use Rattle.goi_tasks.specs.declared.task.Task.TheVariants.{Run, Check, ShowNet, RunNet, Trace, Circuit, Span}
 use Rattle.goi_tasks.specs.NetFiles.{FaultyListing, unlisted}
 use Rattle.goi_tasks.specs.Outputs.{Output}
 use Rattle.goi_tasks.specs.Programs.{no_program, FaultyText}
 use Rattle.goi_tasks.specs.Replaying.{replay_status, ReportsReplay, EndsReplay, FaultySchedule, unread as no_schedule, unmoved}
+use Rattle.goi_tasks.specs.Rounds.{TellsSpan, ReportsRounds}
 use Rattle.goi_tasks.specs.Running.{ReportsNet, ReportsWalk, EndsRun}
 use Rattle.goi_tasks.specs.Tasks.{ReportsText, FaultyFor, EndsText}
 
@@ -81,12 +83,22 @@ walk_ends : (means : Val → Type 0) (net : NetTree) (workers budget : ℕ) (win
     ReportsWalk means net workers budget window o → EndsRun budget net o.status
 walk_ends means net workers budget window o h = run_ends means net budget h.answer (length h.log) o.status h.ends h.run.tells
 
+-- and so does that of a run in rounds
+rounds_end : (means : Val → Type 0) (net : NetTree) (budget : ℕ) (profile schedule : Bool) (o : Output) →
+    ReportsRounds means net budget profile schedule o → EndsRun budget net o.status
+rounds_end means net budget profile schedule o h = go h.answer h.ends h.tells
+  where
+    go : (answer : Option Val) → o.status ≡ replay_status answer → TellsSpan means net budget answer h.rounds → EndsRun budget net o.status
+    go None e t = inr (e, t.0)
+    go (Some v) e t = inl (e, (v, (length (round_log net h.rounds), t.2, t.3)))
+
 pub text_status : (workers : ℕ) (task : Task) (bytes : List ℕ) (o : Output) → ReportsText workers task bytes o →
     (o.status ≡ 0) ⊎ (o.status ≡ 5)
 text_status workers (Run budget calling shown) bytes o h = run_status h.so.answer o.status h.so.ends
 text_status workers (Check term) bytes o h = inl (ap (λ (x : Output). x.status) h.so)
 text_status workers ShowNet bytes o h = inl (ap (λ (x : Output). x.status) h.so)
 text_status workers (Circuit stack forks) bytes o h = inl (ap (λ (x : Output). x.status) h.so)
+text_status workers (Span budget calling profile schedule) bytes o h = run_status h.so.answer o.status h.so.ends
 text_status workers (RunNet budget shown) bytes o h = run_status h.so.answer o.status h.so.ends
 text_status workers (Trace budget calling window) bytes o h = run_status h.so.answer o.status h.so.ends
 
@@ -173,6 +185,11 @@ module _ (known : Known) where
   text_end workers (Check term) bytes o own h k = ap (λ (x : Output). x.status) h.so ∙ sym k.so
   text_end workers ShowNet bytes o own h k = ap (λ (x : Output). x.status) h.so ∙ sym k.so
   text_end workers (Circuit stack forks) bytes o own h k = ap (λ (x : Output). x.status) h.so ∙ sym k.so
+  text_end workers (Span budget calling profile schedule) bytes o own h k =
+      let e : h.term ≡ k.term = same_program known.one_program (wanted_by_run calling) bytes _ _ h k in
+      one_run_end budget (net_run calling k.term) o.status own
+      (subst (λ (t : TermTree). EndsRun budget (net_run calling t) o.status) e
+      (rounds_end (meaning calling h.term) (net_run calling h.term) budget profile schedule o h.so)) k.so
   text_end workers (RunNet budget shown) bytes o own h k =
       let e : h.term ≡ k.term = same_listed bytes h.term k.term h.lists k.lists in
       one_run_end budget (net_of k.term) o.status own
@@ -192,6 +209,8 @@ module _ (known : Known) where
   report_sound workers (Check term) bytes o f h k = text_sound known.one_program any_type bytes h.tree h.term h.type f h.is k
   report_sound workers ShowNet bytes o f h k = text_sound known.one_program number bytes h.tree h.term h.type f h.is k
   report_sound workers (Circuit stack forks) bytes o f h k = text_sound known.one_program number bytes h.tree h.term h.type f h.is k
+  report_sound workers (Span budget calling profile schedule) bytes o f h k =
+      text_sound known.one_program (wanted_by_run calling) bytes h.tree h.term h.type f h.is k
   report_sound workers (RunNet budget shown) bytes o f h k = listing_sound bytes h.term f h.lists k
   report_sound workers (Trace budget calling window) bytes o f h k =
       text_sound known.one_program (wanted_by_run calling) bytes h.tree h.term h.type f h.is k
@@ -203,6 +222,8 @@ module _ (known : Known) where
   end_sound (Check term) bytes own f h k = text_sound known.one_program any_type bytes h.tree h.term h.type f h.is k
   end_sound ShowNet bytes own f h k = text_sound known.one_program number bytes h.tree h.term h.type f h.is k
   end_sound (Circuit stack forks) bytes own f h k = text_sound known.one_program number bytes h.tree h.term h.type f h.is k
+  end_sound (Span budget calling profile schedule) bytes own f h k =
+      text_sound known.one_program (wanted_by_run calling) bytes h.tree h.term h.type f h.is k
   end_sound (RunNet budget shown) bytes own f h k = listing_sound bytes h.term f h.lists k
   end_sound (Trace budget calling window) bytes own f h k =
       text_sound known.one_program (wanted_by_run calling) bytes h.tree h.term h.type f h.is k
@@ -213,6 +234,7 @@ module _ (known : Known) where
   one_fault_for (Check term) bytes f g h k = one_text_fault any_type bytes f g h k
   one_fault_for ShowNet bytes f g h k = one_text_fault number bytes f g h k
   one_fault_for (Circuit stack forks) bytes f g h k = one_text_fault number bytes f g h k
+  one_fault_for (Span budget calling profile schedule) bytes f g h k = one_text_fault (wanted_by_run calling) bytes f g h k
   one_fault_for (RunNet budget shown) bytes f g h k = one_listing_fault bytes f g h k
   one_fault_for (Trace budget calling window) bytes f g h k = one_text_fault (wanted_by_run calling) bytes f g h k
 

@@ -10,6 +10,8 @@ pub mod Tasks
 pub mod Notes
 -- A run of a program: which report it has, and with which status it ends.
 pub mod Running
+-- What a run in rounds says of a program, and its report.
+pub mod Rounds
 -- A schedule that is run on the net of a term: what it came to, which report it has, and the first fault of one that can't be run.
 pub mod Replaying
 -- Which line stands for each refusal, and with which status it ends.

@@ -18,10 +18,11 @@ use Rattle.goi_reports.specs.Reports.{check_report}
 use Rattle.goi_tasks.specs.declared.fault.Fault.{Fault}
 use Rattle.goi_tasks.specs.declared.shown.Shown.{Shown}
 use Rattle.goi_tasks.specs.declared.task.Task.{Task}
-use Rattle.goi_tasks.specs.declared.task.Task.TheVariants.{Run, Check, ShowNet, RunNet, Trace, Circuit}
+use Rattle.goi_tasks.specs.declared.task.Task.TheVariants.{Run, Check, ShowNet, RunNet, Trace, Circuit, Span}
 use Rattle.goi_tasks.specs.NetFiles.{FaultyListing}
 use Rattle.goi_tasks.specs.Outputs.{Output, output}
 use Rattle.goi_tasks.specs.Programs.{FaultyText}
+use Rattle.goi_tasks.specs.Rounds.{ReportsSpan}
 use Rattle.goi_tasks.specs.Running.{ReportsRun, ReportsTrace, EndsRun}
 
 -- ---- what is told of a run
@@ -60,6 +61,8 @@ ReportsText workers (Trace budget calling window) bytes o =
     OfProgram (wanted_by_run calling) bytes (λ tree t A. ReportsTrace workers budget calling window t o)
 ReportsText workers (Circuit stack forks) bytes o =
     OfProgram number bytes (λ tree t A. o ≡ output 0 (circuit_text (net_of t) stack forks) [])
+ReportsText workers (Span budget calling profile schedule) bytes o =
+    OfProgram (wanted_by_run calling) bytes (λ tree t A. ReportsSpan budget calling profile schedule t o)
 
 -- the first fault of a text with which it can't be done
 abbrev pub FaultyFor : Task → List ℕ → Fault → Type 0
@@ -69,6 +72,7 @@ FaultyFor ShowNet bytes f = FaultyText number bytes f
 FaultyFor (RunNet budget shown) bytes f = FaultyListing bytes f
 FaultyFor (Trace budget calling window) bytes f = FaultyText (wanted_by_run calling) bytes f
 FaultyFor (Circuit stack forks) bytes f = FaultyText number bytes f
+FaultyFor (Span budget calling profile schedule) bytes f = FaultyText (wanted_by_run calling) bytes f
 
 -- it can be done with the text, and ends with this status
 abbrev pub EndsText : Task → List ℕ → ℕ → Type 0
@@ -80,6 +84,8 @@ EndsText (RunNet budget shown) bytes status = OfListing bytes (λ t. EndsRun bud
 EndsText (Trace budget calling window) bytes status =
     OfProgram (wanted_by_run calling) bytes (λ tree t A. EndsRun budget (net_run calling t) status)
 EndsText (Circuit stack forks) bytes status = OfProgram number bytes (λ tree t A. status ≡ 0)
+EndsText (Span budget calling profile schedule) bytes status =
+    OfProgram (wanted_by_run calling) bytes (λ tree t A. EndsRun budget (net_run calling t) status)
 
 -- how many bytes its text has at the most
 abbrev pub most_bytes : Task → ℕ
@@ -89,6 +95,7 @@ most_bytes ShowNet = most_program_bytes
 most_bytes (RunNet budget shown) = most_text_bytes
 most_bytes (Trace budget calling window) = most_program_bytes
 most_bytes (Circuit stack forks) = most_program_bytes
+most_bytes (Span budget calling profile schedule) = most_program_bytes
 
 -- the numbers of a task are in their ranges
 abbrev pub IsWithin : Task → Type 0
@@ -98,6 +105,7 @@ IsWithin ShowNet = Unit {0}
 IsWithin (RunNet budget shown) = IsBudget budget
 IsWithin (Trace budget calling window) = IsBudget budget × IsWindow window
 IsWithin (Circuit stack forks) = Unit {0}
+IsWithin (Span budget calling profile schedule) = IsBudget budget
 
 -- the report on the type of a tree, and with `term` on the tree
 abbrev pub ChecksTree : Bool → NamedTree → List ℕ → Type 0

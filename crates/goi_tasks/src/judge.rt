@@ -17,6 +17,7 @@ use crate::program::{report_check, report_net};
 use crate::report::Report;
 use crate::running::{report_run, report_trace};
 use crate::shown::Shown;
+use crate::span::report_span;
 use crate::stop::Stop;
 use crate::task::Task;
 use goi_words::Window;
@@ -50,6 +51,12 @@ pub fn report_text<C: Crew>(
         Task::Check { term } => report_check(alloc, bytes, term),
         Task::ShowNet => report_net(alloc, bytes),
         Task::Circuit { stack, forks } => report_circuit(alloc, bytes, stack, forks),
+        Task::Span {
+            budget,
+            calling,
+            profile,
+            schedule,
+        } => report_span(alloc, bytes, budget, calling, profile, schedule),
         Task::RunNet { budget, shown } => report_listing(alloc, bytes, budget, shown, crew),
         Task::Trace {
             budget,

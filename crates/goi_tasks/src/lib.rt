@@ -18,6 +18,7 @@ mod report;
 mod running;
 mod settled;
 mod shown;
+mod span;
 mod stop;
 mod task;
 mod telling;

@@ -40,6 +40,13 @@ pub enum Task {
         stack: u32,
         forks: u32,
     },
+    /// Run the program in rounds within so many moves, and tell each round and the schedule where asked.
+    Span {
+        budget: u32,
+        calling: Calling,
+        profile: bool,
+        schedule: bool,
+    },
 }
 
 /// How many bytes the text of a task has at the most.

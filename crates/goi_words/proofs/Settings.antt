@@ -15,7 +15,7 @@ use Rattle.goi_words.specs.Commands.{budget_option, flag, forks_option, from_opt
 use Rattle.goi_words.specs.Commands.{most_option, number_option, stack_option, workers_option}
 use Rattle.goi_words.specs.Asked.{number_in, ◌>>=◌}
 use Rattle.goi_words.specs.Plain.{AreDistinct, IsInRange, Setting, budget, budget_in, is_given, is_same_option, option_name, option_value}
-use Rattle.goi_words.specs.Plain.{by_value, progress, schedule, setting_words, tally, term, traced, workers, workers_in}
+use Rattle.goi_words.specs.Plain.{by_value, profile, progress, schedule, setting_words, tally, term, traced, workers, workers_in}
 use Rattle.goi_words.specs.Plain.{forks, forks_in, from, from_in, most, most_in, stack, stack_in}
 use Rattle.goi_words.proofs.Decimals.{decimal_kept, decimal_number, decimal_passes, decimal_value}
 use Rattle.goi_words.proofs.Rows.{absent_more, given, row_at, used_first}
@@ -35,6 +35,7 @@ rule_for (from n) = filled from_option
 rule_for (most n) = filled most_option
 rule_for (stack n) = filled stack_option
 rule_for (forks n) = filled forks_option
+rule_for profile = filled (flag (codes "profile"))
 
 -- the row of an option
 abbrev pub row_for : Setting → Row
@@ -96,6 +97,7 @@ module _ (sh : Shape) (once : sh.args_override_self ≡ false) (h : Held) (rows 
       number_read (codes "stack") least_stack most_stack n (codes "128") knows range.0 range.1 (omega (arith, range.1)) absent
   one_setting (forks n) knows range absent =
       number_read (codes "forks") 1 most_forks n (codes "64") knows range.0 range.1 (omega (arith, range.1)) absent
+  one_setting profile knows range absent = switch_read (codes "profile") knows absent
 
 -- ---- any number of options, in any order
 
@@ -236,3 +238,8 @@ progress_is_flag _ same = cc
 pub traced_is_flag : IsFlag traced
 traced_is_flag traced same = refl
 traced_is_flag _ same = cc
+
+-- the seventh flag
+pub profile_is_flag : IsFlag profile
+profile_is_flag profile same = refl
+profile_is_flag _ same = cc

@@ -72,13 +72,16 @@ abbrev pub logged_command : Text → Shape
 logged_command name =
     command name (operand (codes "file") ∷ workers_option ∷ budget_option ∷ flag (codes "schedule") ∷ flag (codes "tally") ∷ [])
 
--- `replay` and `trace` without the part of the trace
+-- `replay` and `trace` without the part of the trace, and `span` without what is printed of the rounds
 abbrev pub bare_replay_command : Shape
 bare_replay_command = command (codes "replay") (operand (codes "file") ∷ operand (codes "schedule") ∷ flag (codes "trace") ∷ [])
 
 abbrev pub bare_trace_command : Shape
 bare_trace_command =
     command (codes "trace") (operand (codes "file") ∷ workers_option ∷ budget_option ∷ flag (codes "by-value") ∷ [])
+
+abbrev pub bare_span_command : Shape
+bare_span_command = command (codes "span") (operand (codes "file") ∷ budget_option ∷ flag (codes "by-value") ∷ [])
 
 -- the subcommands
 abbrev pub run_command : Shape
@@ -113,6 +116,10 @@ trace_command = command (codes "trace")
 abbrev pub circuit_command : Shape
 circuit_command = command (codes "circuit") (operand (codes "file") ∷ stack_option ∷ forks_option ∷ [])
 
+abbrev pub span_command : Shape
+span_command = command (codes "span")
+    (operand (codes "file") ∷ budget_option ∷ flag (codes "by-value") ∷ flag (codes "profile") ∷ flag (codes "schedule") ∷ [])
+
 -- the program without its subcommands
 abbrev pub bare_command : App
 bare_command = record {
@@ -128,7 +135,7 @@ bare_command = record {
 abbrev pub with_commands : List Shape → App
 with_commands commands = record { top = record bare_command.top { is_leaf = false }; subs = commands }
 
--- with its first three, and its first six
+-- with its first three, its first six, and its first nine
 abbrev pub three_commands : App
 three_commands = with_commands (run_command ∷ check_command ∷ net_command ∷ [])
 
@@ -136,11 +143,16 @@ abbrev pub six_commands : App
 six_commands = with_commands
     (run_command ∷ check_command ∷ net_command ∷ replay_command ∷ demo_command ∷ run_net_command ∷ [])
 
+abbrev pub nine_commands : App
+nine_commands = with_commands
+    (run_command ∷ check_command ∷ net_command ∷ replay_command ∷ demo_command ∷ run_net_command ∷ batch_command
+    ∷ trace_command ∷ circuit_command ∷ [])
+
 -- the whole command line
 abbrev pub goi_command : App
 goi_command = with_commands
     (run_command ∷ check_command ∷ net_command ∷ replay_command ∷ demo_command ∷ run_net_command ∷ batch_command
-    ∷ trace_command ∷ circuit_command ∷ [])
+    ∷ trace_command ∷ circuit_command ∷ span_command ∷ [])
 
 -- the command of the code is this subcommand
 abbrev pub IsCommand : Shape → Command → Type 0

@@ -4,7 +4,7 @@ use Rattle.std.specs.Prelude.{◌≤◌, ⊤, ℕ, Bool, List, Option, None, Som
 use Rattle.pcf_values.specs.Most.{most_workers, most_budget, most_demo, most_moves}
 use Rattle.goi_words.specs.Defaults.{most_traced, least_stack, most_stack, most_forks}
 use Rattle.goi_words.specs.declared.jobs.Job.{Job}
-use Rattle.goi_words.specs.declared.jobs.Job.TheVariants.{Run, Check, ShowNet, Replay, Demo, RunNet, Batch, Trace, Circuit}
+use Rattle.goi_words.specs.declared.jobs.Job.TheVariants.{Run, Check, ShowNet, Replay, Demo, RunNet, Batch, Trace, Circuit, Span}
 use Rattle.goi_words.specs.declared.jobs.Window.{Window}
 
 -- a job
@@ -29,6 +29,9 @@ pub data JobTree : Type 0 where
   trace : List ℕ → ℕ → ℕ → Bool → Window → JobTree
   -- print the circuit of the program of a file, with stacks of so many bits and so many forks
   circuit : List ℕ → ℕ → ℕ → JobTree
+  -- run the program of a file in rounds, with at most so many moves, and by value in place of by name where asked; print its profile and
+  -- its schedule where asked
+  span : List ℕ → ℕ → Bool → Bool → Bool → JobTree
 
 -- the job of the code
 abbrev pub job_of : Job → JobTree
@@ -41,6 +44,7 @@ job_of (RunNet file workers budget schedule tally) = run_net file workers budget
 job_of (Batch file workers) = batch file workers
 job_of (Trace file workers budget by_value window) = trace file workers budget by_value window
 job_of (Circuit file stack forks) = circuit file stack forks
+job_of (Span file budget by_value profile schedule) = span file budget by_value profile schedule
 
 -- a number of workers, a budget and the number of a generated program that the command line can ask for
 abbrev pub IsWorkers : ℕ → Type 0
@@ -84,4 +88,5 @@ IsWithinLimits (batch file workers) = IsWorkers workers
 IsWithinLimits (replay file schedule window) = IsWindowIfAny window
 IsWithinLimits (trace file workers budget by_value window) = IsWorkers workers × IsBudget budget × IsWindow window
 IsWithinLimits (circuit file stack forks) = IsStack stack × IsForks forks
+IsWithinLimits (span file budget by_value profile schedule) = IsBudget budget
 IsWithinLimits _ = ⊤

@@ -8,7 +8,7 @@ use Rattle.std.specs.Fmt.{decimal}
 use Rattle.std.specs.Str.{bytes_eq}
 use Rattle.clap.specs.Words.{Text}
 use Rattle.goi_words.specs.Jobs.{IsBudget, IsDemo, IsForks, IsFrom, IsMost, IsStack, IsWorkers, JobTree}
-use Rattle.goi_words.specs.Jobs.{run, check, show_net, replay, demo, run_net, batch, trace, circuit}
+use Rattle.goi_words.specs.Jobs.{run, check, show_net, replay, demo, run_net, batch, trace, circuit, span}
 use Rattle.goi_words.specs.Defaults.{default_budget, default_forks, default_from, default_most, default_stack, default_workers}
 use Rattle.goi_words.specs.Asked.{if_traced}
 use Rattle.goi_words.specs.declared.jobs.Window.{Window}
@@ -24,6 +24,7 @@ pub data Request : Type 0 where
   ask_batch : Text → Request
   ask_trace : Text → Request
   ask_circuit : Text → Request
+  ask_span : Text → Request
 
 -- an option as it is given
 pub data Setting : Type 0 where
@@ -39,6 +40,7 @@ pub data Setting : Type 0 where
   most : ℕ → Setting
   stack : ℕ → Setting
   forks : ℕ → Setting
+  profile : Setting
 
 -- ---- the words
 
@@ -53,6 +55,7 @@ request_words (ask_run_net file) = codes "run-net" ∷ file ∷ []
 request_words (ask_batch file) = codes "batch" ∷ file ∷ []
 request_words (ask_trace file) = codes "trace" ∷ file ∷ []
 request_words (ask_circuit file) = codes "circuit" ∷ file ∷ []
+request_words (ask_span file) = codes "span" ∷ file ∷ []
 
 -- the name of an option
 abbrev pub option_name : Setting → Text
@@ -68,6 +71,7 @@ option_name (from n) = codes "from"
 option_name (most n) = codes "most"
 option_name (stack n) = codes "stack"
 option_name (forks n) = codes "forks"
+option_name profile = codes "profile"
 
 -- the word behind its name, where it has a value
 abbrev pub option_value : Setting → List Text
@@ -105,6 +109,7 @@ HasPlainOperands (ask_run_net file) = IsFileName file
 HasPlainOperands (ask_batch file) = IsFileName file
 HasPlainOperands (ask_trace file) = IsFileName file
 HasPlainOperands (ask_circuit file) = IsFileName file
+HasPlainOperands (ask_span file) = IsFileName file
 
 -- the names of a command's options
 abbrev pub options_of : Request → List Text
@@ -117,6 +122,7 @@ options_of (ask_batch file) = codes "workers" ∷ []
 options_of (ask_replay file moves) = codes "trace" ∷ codes "from" ∷ codes "most" ∷ []
 options_of (ask_trace file) = codes "workers" ∷ codes "budget" ∷ codes "by-value" ∷ codes "from" ∷ codes "most" ∷ []
 options_of (ask_circuit file) = codes "stack" ∷ codes "forks" ∷ []
+options_of (ask_span file) = codes "budget" ∷ codes "by-value" ∷ codes "profile" ∷ codes "schedule" ∷ []
 options_of _ = []
 
 -- the command has the option
@@ -210,3 +216,5 @@ meant (ask_batch file) settings = batch file (workers_in settings)
 meant (ask_trace file) settings =
     trace file (workers_in settings) (budget_in settings) (is_given by_value settings) (window_in settings)
 meant (ask_circuit file) settings = circuit file (stack_in settings) (forks_in settings)
+meant (ask_span file) settings =
+    span file (budget_in settings) (is_given by_value settings) (is_given profile settings) (is_given schedule settings)

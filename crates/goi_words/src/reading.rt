@@ -5,7 +5,7 @@ ghost use Rattle.clap.specs.Words.{fault_of, found_of, rows_of, subcommand_of, s
 ghost use Rattle.goi_words.specs.Commands.{goi_command};
 ghost use Rattle.goi_words.specs.Asked.{is_set, is_taken, job, job_on, number_of, text_of};
 ghost use Rattle.goi_words.specs.Asked.{batch_job, check_job, circuit_job, demo_job, if_traced, net_job, replay_job, run_job};
-ghost use Rattle.goi_words.specs.Asked.{run_net_job, trace_job, window_of};
+ghost use Rattle.goi_words.specs.Asked.{run_net_job, span_job, trace_job, window_of};
 ghost use Rattle.goi_words.specs.Jobs.{IsWithinLimits, job_of};
 ghost use Rattle.goi_words.specs.declared.jobs.WordFault.TheVariants.{Refused};
 
@@ -60,6 +60,7 @@ fn job_on(alloc: Global, name: &str, found: &ArgMatches<'_>) -> Result<Job, Word
         "batch" => batch_job(alloc, found),
         "trace" => trace_job(alloc, found),
         "circuit" => circuit_job(alloc, found),
+        "span" => span_job(alloc, found),
         _ => Err(WordFault::Refused),
     }
 }
@@ -191,6 +192,22 @@ fn circuit_job(alloc: Global, found: &ArgMatches<'_>) -> Result<Job, WordFault>
         file: Ident::from_text(alloc, file)?,
         stack,
         forks,
+    })
+}
+
+/// The job of the words behind `span`.
+fn span_job(alloc: Global, found: &ArgMatches<'_>) -> Result<Job, WordFault>
+    ensures ok { IfOk result (λ done. span_job (rows_of (found_of found.now)) ≡ Some (job_of done)) }
+    ensures refused { IsErrOf result Refused → span_job (rows_of (found_of found.now)) ≡ None }
+{
+    let file = text_in(found, "file")?;
+    let budget = number_in(found, "budget")?;
+    Ok(Job::Span {
+        file: Ident::from_text(alloc, file)?,
+        budget,
+        by_value: is_set(found, "by-value"),
+        profile: is_set(found, "profile"),
+        schedule: is_set(found, "schedule"),
     })
 }
 

@@ -1,4 +1,4 @@
-use Rattle.goi_tasks.specs.declared.task.Task.TheVariants.{Check, ShowNet, Circuit}
+use Rattle.goi_tasks.specs.declared.task.Task.TheVariants.{Check, ShowNet, Circuit, Span}
 use Rattle.goi_tasks.proofs.Texts.{by_these}
 use Rattle.goi_tasks.proofs.judge.report_text.Goals as goal
 
@@ -16,3 +16,8 @@ pub returns-in-Circuit-clause-report : goal.returns-in-Circuit-clause-report
 returns-in-Circuit-clause-report g c =
     by_these c.args.task (Circuit _ _) c.in-Circuit.is c.args.bytes.now (g.C.Crew.count c.args.crew.now) c.report_circuit.result
     c.report_circuit.ensures.report
+
+pub returns-in-Span-clause-report : goal.returns-in-Span-clause-report
+returns-in-Span-clause-report g c =
+    by_these c.args.task (Span _ _ _ _) c.in-Span.is c.args.bytes.now (g.C.Crew.count c.args.crew.now) c.report_span.result
+    c.report_span.ensures.report

@@ -1,0 +1,12 @@
+use Rattle.std.proofs.Common.{◌≡◌, ℕ, List, IfOk, subst}
+use Rattle.goi_reports.specs.Spans.{span_report}
+use Rattle.goi_tasks.proofs.span.rounds_text.Goals as goal
+
+pub returns : goal.returns
+returns c =
+    let made = c.args.made.now in
+    subst (λ (l : List ℕ). IfOk c.span_report.result (λ v.
+    v.items ≡ span_report made.answer made.rounds l made.profile.items made.widest c.args.profile c.args.schedule)) c.deref.ensures.value
+    (subst (λ (l : List ℕ). IfOk c.span_report.result (λ v.
+    v.items ≡ span_report made.answer made.rounds c.deref.result.now l made.widest c.args.profile c.args.schedule)) c.deref-2.ensures.value
+    c.span_report.ensures)
