@@ -6,3 +6,5 @@ pub mod Telling
 pub mod Texts
 -- The net of a program within the limits, or of its translation, has fewer than 2 ^ 32 wires and nodes.
 pub mod Sized
+-- The lengths of some programs, each by a depth that is enough for its question, and by computing it.
+mod Examples

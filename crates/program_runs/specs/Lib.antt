@@ -6,6 +6,8 @@ pub mod Programs
 pub mod Running
 -- What is always true of programs and of their runs.
 pub mod Laws
+-- Values and lengths of some programs by name and by value.
+pub mod Examples
 -- why there is no run, and the nets on the way to one
 --
 -- Why a text has no run: memory ran out, which may come at any time, or the text has a fault.

@@ -1,6 +1,7 @@
 //! What is always true of programs and of their runs.
 
 ghost use Rattle.program_runs.specs.Laws.{OneProgram, MovesTell, RunsTell};
+ghost use Rattle.program_runs.specs.Examples.{ExampleCallings};
 
 use adequacy_laws::law_finished;
 use cbv_terms::law_faults;
@@ -24,3 +25,8 @@ pub fn law_tells()
 {
     law_finished();
 }
+
+/// Values and lengths of the nets of some programs and of their translations, as the prover computes them.
+pub fn law_example_callings()
+    ensures { ExampleCallings }
+{}

@@ -1,2 +1,0 @@
--- The lengths, each by a depth that is enough for its question, and by computing it.
-pub mod Lengths

@@ -1,8 +1,0 @@
-use Rattle.std.proofs.Common.{◌+◌, arith}
-use Rattle.core_tests.proofs.Reaching.{reached_ok}
-use Rattle.core_tests.proofs.games.go.Goals as goal
-
-pub returns-then-is_live : goal.returns-then-is_live
-returns-then-is_live c =
-    reached_ok c.step.result c.args.net.now (c.args.moves + 1) (c.args.moves + 2) c.args.ticket _ c.step.new.self (omega arith)
-    c.requires.reached c.step.ensures.steps

@@ -1,0 +1,2 @@
+-- One entry after a change of the table of forks.
+mod KeyByKey

@@ -1,0 +1,10 @@
+use Rattle.std.proofs.Common.{◌+◌, ◌≤◌}
+use Rattle.interleave_laws.specs.Maps.{IsReachedWithin}
+use Rattle.test_core.proofs.games.are_so.Given as goal
+
+abbrev pub invariant-loop-row : goal.invariant-loop-row
+invariant-loop-row l =
+    (goal.iterator-loop-row).can_next l.row-iterator ×
+    (goal.iterator-loop-row).is_finite l.row-iterator ×
+    (l.moves ≤ 1000) ×
+    IsReachedWithin l.net (l.moves + 1) l.core
