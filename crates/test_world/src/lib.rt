@@ -8,6 +8,8 @@ mod disk;
 #[cfg(test)]
 mod given;
 #[cfg(test)]
+mod late;
+#[cfg(test)]
 mod memory;
 #[cfg(test)]
 mod sinks;
