@@ -124,23 +124,23 @@ module _ (tree : NamedTree) (low : named_height tree ≤ BY_VALUE_HEIGHT) where
   pair_first a h k (ByValuePair at) w = k at w
   pair_first a h k ByValueDeep w = not_deep w
 
-  abbrev Told : Option ByValueFault → Type 0
-  Told r = MatchOption r (IsFaultless tree) (IsFirstFault tree)
+  abbrev IsFirstFound : Option ByValueFault → Type 0
+  IsFirstFound r = MatchOption r (IsFaultless tree) (IsFirstFault tree)
 
   first_of_two : (a b : ℕ) → HasFault tree (ByValueFix a) → ((at : ℕ) → HasFault tree (ByValueFix at) → a ≤ at) →
       HasFault tree (ByValuePair b) → ((at : ℕ) → HasFault tree (ByValuePair at) → b ≤ at)
-      → (b < a) ⊎ (a ≤ b) → Told (first_of (Some a) (Some b))
+      → (b < a) ⊎ (a ≤ b) → IsFirstFound (first_of (Some a) (Some b))
   first_of_two a b p h q k (inl l) =
       let e : nat_le a b ≡ false = lt-leb a b l in
-      subst (λ c. Told (cond c (Some (ByValueFix a)) (Some (ByValuePair b)))) (sym e)
+      subst (λ c. IsFirstFound (cond c (Some (ByValueFix a)) (Some (ByValuePair b)))) (sym e)
       (record { fault = q; first = pair_first b (λ at x. let z = h at x in omega arith) k })
   first_of_two a b p h q k (inr l) =
       let e : nat_le a b ≡ true = le-leb a b l in
-      subst (λ c. Told (cond c (Some (ByValueFix a)) (Some (ByValuePair b)))) (sym e)
+      subst (λ c. IsFirstFound (cond c (Some (ByValueFix a)) (Some (ByValuePair b)))) (sym e)
       (record { fault = p; first = fix_first a h (λ at x. let z = k at x in omega arith) })
 
   pub told_of : (a b : Option ℕ) → IsLeast (λ at. HasFault tree (ByValueFix at)) a →
-      IsLeast (λ at. HasFault tree (ByValuePair at)) b → Told (first_of a b)
+      IsLeast (λ at. HasFault tree (ByValuePair at)) b → IsFirstFound (first_of a b)
   told_of None None h k = none_found h k
   told_of (Some a) None (p, h) k = record { fault = p; first = fix_first a h (λ at x. absurd (k at x)) }
   told_of None (Some b) h (q, k) = record { fault = q; first = pair_first b (λ at x. absurd (h at x)) k }

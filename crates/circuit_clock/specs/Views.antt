@@ -4,14 +4,14 @@ use Rattle.std.specs.Option.{option_map}
 use Rattle.circuit_core.specs.Bits as bits
 use Rattle.circuit_core.specs.Circuit as circuit
 use Rattle.circuit_rows.specs.Views.{channel_of}
-use Rattle.circuit_clock.specs.declared.load.Load.{Load}
+use Rattle.circuit_clock.specs.declared.bit_place.BitPlace.{BitPlace}
 use Rattle.circuit_clock.specs.declared.registers.Token.{Token}
 use Rattle.circuit_clock.specs.declared.registers.Question.{Question}
 use Rattle.circuit_clock.specs.declared.registers.Slot.{Slot}
 use Rattle.circuit_clock.specs.declared.registers.Circuit.{Circuit}
 
-abbrev pub load_of : Load → bits.Load
-load_of l = record { channel = channel_of l.channel; work = l.work.items; boxes = l.boxes.items }
+abbrev pub bit_place_of : BitPlace → bits.BitPlace
+bit_place_of l = record { channel = channel_of l.channel; work = l.work.items; boxes = l.boxes.items }
 
 abbrev pub token_of : Token → circuit.Token
 token_of k = record { value = k.value; channel = channel_of k.channel; work = k.work.items; boxes = k.boxes.items; mine = k.mine }

@@ -7,10 +7,10 @@ ghost use Rattle.circuit_core.specs.Rows.{row_of};
 ghost use Rattle.circuit_core.specs.Bits.{bit_row};
 ghost use Rattle.circuit_core.specs.Bare.{bare_row, bare_on, bare_clock};
 ghost use Rattle.circuit_rows.specs.Views.{channel_of, row_view};
-ghost use Rattle.circuit_clock.specs.Views.{circuit_of, holding, load_of, token_of};
+ghost use Rattle.circuit_clock.specs.Views.{circuit_of, holding, bit_place_of, token_of};
 
+use crate::bit_place::{BitPlace, bit_row};
 use crate::forks::{arrive, fork};
-use crate::load::{Load, bit_row};
 use crate::registers::{Circuit, Slot, Token};
 use circuit_rows::{Channel, Found, Row, row_of, start};
 use net_build::Net;
@@ -105,11 +105,11 @@ fn finish(circuit: &mut Circuit, value: Val)
 }
 
 /// The token with other stacks, elsewhere.
-fn loaded(token: Token, load: Load) -> Token
+fn loaded(token: Token, load: BitPlace) -> Token
     ensures { token_of result ≡ record (token_of token) {
-      channel = (load_of load).channel;
-      work = (load_of load).work;
-      boxes = (load_of load).boxes;
+      channel = (bit_place_of load).channel;
+      work = (bit_place_of load).work;
+      boxes = (bit_place_of load).boxes;
     } }
 {
     Token {
@@ -122,8 +122,8 @@ fn loaded(token: Token, load: Load) -> Token
 }
 
 /// The token goes on with these stacks, if none has more than so many bits.
-fn shift(circuit: &mut Circuit, token: Token, load: Load, stack: u32)
-    ensures made { circuit_of circuit.new ≡ shifted stack (load_of load) (token_of token) (holding circuit.old token) }
+fn shift(circuit: &mut Circuit, token: Token, load: BitPlace, stack: u32)
+    ensures made { circuit_of circuit.new ≡ shifted stack (bit_place_of load) (token_of token) (holding circuit.old token) }
     ensures length { length circuit.new.slots.items ≡ length circuit.old.slots.items }
 {
     if load.work.len() > stack as usize || load.boxes.len() > stack as usize {

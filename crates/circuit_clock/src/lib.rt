@@ -5,10 +5,10 @@
 //! stacks are lists of bits, and each cycle makes them anew. Contracts see the registers by the views of `specs/Views.antt`.
 #![tactic(auto)]
 
+mod bit_place;
 mod bits;
 mod clock;
 mod forks;
-mod load;
 mod registers;
 
 pub use clock::{powered, tick};

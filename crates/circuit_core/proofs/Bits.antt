@@ -9,7 +9,7 @@ use Rattle.circuit_core.specs.Rows.{Row, GO, STAR, UNSTAR, LEFT, RIGHT, CON, PUS
 use Rattle.circuit_core.specs.Rows.{FIXIN, FIXOUT, FIXVAR}
 use Rattle.circuit_core.specs.Rows.{Channel, rises, falls, at, channel_of}
 use Rattle.circuit_core.specs.RowMoves.{stack_row}
-use Rattle.circuit_core.specs.Bits.{Bits, code, work_bits, box_bits, span, len, register, top, below, Load, to, boxed, back, bit_row}
+use Rattle.circuit_core.specs.Bits.{Bits, code, work_bits, box_bits, span, len, register, top, below, BitPlace, to, boxed, back, bit_row}
 use Rattle.circuit_core.specs.Bits.{same_bits}
 
 -- the end of a signature
@@ -123,7 +123,7 @@ bits_same (false ∷ a) (true ∷ b) h = absurd cc
 bits_same (true ∷ a) (false ∷ b) h = absurd cc
 
 -- the bits at a place
-abbrev Seen : Place → Load
+abbrev Seen : Place → BitPlace
 Seen q = to (channel_of q) (work_bits (work_at q)) (box_bits (boxes_at q))
 
 -- what stands at a channel
@@ -132,7 +132,7 @@ seen_at (rises w) m t = refl
 seen_at (falls w) m t = refl
 
 -- a place that was found
-found : (p q : Place) (l : Load) → Some p ≡ Some q → l ≡ Seen p → l ≡ Seen q
+found : (p q : Place) (l : BitPlace) → Some p ≡ Some q → l ≡ Seen p → l ≡ Seen q
 found p q l h e = e ∙ ap Seen (let z : p ≡ q = cc in z)
 
 boxed_is : (c : Channel) (w : Bits) (s : Sig) (a t : Bits) → boxed c w (code s ++ a) t ≡ to c (w ++ a) (code s ++ t)

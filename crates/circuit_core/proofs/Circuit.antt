@@ -24,7 +24,7 @@ use Rattle.circuit_core.specs.Rows.{Channel, rises, falls, at, row_of, channel_o
 use Rattle.circuit_core.specs.RowMoves.{stack_row, answer_row, question_row, by_row, by_found}
 use Rattle.circuit_core.specs.Processor.{Waiting, OpenFork, Registers, fork_at, kept, closed, taken, rest, last_of, meets, opens, does}
 use Rattle.circuit_core.specs.Processor.{tick_on, tick, ticks, reset}
-use Rattle.circuit_core.specs.Bits.{work_bits, box_bits, bit_row, Load, to, over, same_bits}
+use Rattle.circuit_core.specs.Bits.{work_bits, box_bits, bit_row, BitPlace, to, over, same_bits}
 use Rattle.circuit_core.specs.Circuit.{Token, Question, Slot, Circuit, set_slot, or_free, free_from, stuck, goes, next_token, later, both}
 use Rattle.circuit_core.specs.Circuit.{shifted, split, arrive, compare, operate, operate_on, clock_on, clock, clocks, powered, circuit}
 use Rattle.circuit_core.specs.CircuitLaws.{Bears, StandsAt, IsToken, IsLive, IsQuestion, IsQueue, IsAnswered, IsFork, Holds, CircuitShows}
@@ -130,7 +130,7 @@ key_or false n t m u h = inl refl
 
 module _ (N E : ℕ) where
   -- a row of stacks
-  shifts : (R : Registers) (C : Circuit) (j : ℕ) (x : TokenTree) (k : Token) (l : Load) → Rest R C →
+  shifts : (R : Registers) (C : Circuit) (j : ℕ) (x : TokenTree) (k : Token) (l : BitPlace) → Rest R C →
       IsToken x (record k { channel = l.channel; work = l.work; boxes = l.boxes }) →
       Along (record R { live = Some (j, x) }) (shifted N l k C)
   shifts R C j x k l r h = go (over N l.work || over N l.boxes)
@@ -159,14 +159,14 @@ module _ (N E : ℕ) where
   loads r m t q k c b h = ap (λ w. bit_row r w k.boxes) b.work ∙ ap (λ u. bit_row r (work_bits m) u) b.boxes ∙ bit_rows r m t q h
 
   -- the token that goes on by a row of stacks
-  carried : (x : TokenTree) (k : Token) (l : Load) (q : Place) →
+  carried : (x : TokenTree) (k : Token) (l : BitPlace) (q : Place) →
       l ≡ to (channel_of q) (work_bits (work_at q)) (box_bits (boxes_at q)) →
       StandsAt q (record k { channel = l.channel; work = l.work; boxes = l.boxes })
   carried x k l q e = record {
-    channel = ap (λ (l : Load). l.channel) e;
-    work = ap (λ (l : Load). l.work) e;
+    channel = ap (λ (l : BitPlace). l.channel) e;
+    work = ap (λ (l : BitPlace). l.work) e;
     boxes =
-        ap (λ (l : Load). l.boxes) e;
+        ap (λ (l : BitPlace). l.boxes) e;
   }
 
   -- a question by a row of stacks

@@ -28,7 +28,7 @@ use Rattle.fork_join.proofs.Keys.{key_true}
 use Rattle.circuit_core.specs.Rows.{Row, CONST, SUCC, PRED, TEST, FORK, JOIN, ANSWER}
 use Rattle.circuit_core.specs.Rows.{Channel, rises, falls, at, row_of, channel_of}
 use Rattle.circuit_core.specs.RowMoves.{stack_row, answer_row, question_row, by_row, by_found, by_rows}
-use Rattle.circuit_core.specs.Bits.{Bits, work_bits, box_bits, bit_row, Load, to, over, same_bits}
+use Rattle.circuit_core.specs.Bits.{Bits, work_bits, box_bits, bit_row, BitPlace, to, over, same_bits}
 use Rattle.circuit_core.specs.Processor.{Waiting, OpenFork, Registers, fork_at, kept, closed, taken, rest, last_of, meets, opens, does}
 use Rattle.circuit_core.specs.Processor.{tick_on, tick, ticks, reset, ring_at, token_at}
 use Rattle.circuit_core.specs.Circuit.{Token, Question, Slot, Circuit, set_slot, or_free, free_from, stuck, goes, next_token, later}
@@ -363,7 +363,7 @@ module _ (net : NetTree) (sound : Sound net) where
     }
 
     -- a row of stacks
-    shifts_on : (R : Registers) (C : Circuit) (j i : ℕ) (x y : TokenTree) (q : Place) (k : Token) (l : Load) → place_of y ≡ q →
+    shifts_on : (R : Registers) (C : Circuit) (j i : ℕ) (x y : TokenTree) (q : Place) (k : Token) (l : BitPlace) → place_of y ≡ q →
         Rest R C → NestRest E R C → Around C.slots k.mine (asked x) → move net x ≡ solo i y →
         l ≡ to (channel_of q) (work_bits (work_at q)) (box_bits (boxes_at q)) →
         Comes (record R { live = Some (j, y) }) (shifted N l k C)
@@ -371,9 +371,9 @@ module _ (net : NetTree) (sound : Sound net) where
       where
         small : TokenFits N (Some (j, y)) → (over N l.work || over N l.boxes) ≡ false
         small fits =
-            ap (λ b. b || over N l.boxes) (ap (λ (l : Load). over N l.work) el ∙ ap (λ q. over N (work_bits (work_at q))) (sym z) ∙
+            ap (λ b. b || over N l.boxes) (ap (λ (l : BitPlace). over N l.work) el ∙ ap (λ q. over N (work_bits (work_at q))) (sym z) ∙
             le-ltb N (length (work_bits (work_at (place_of y)))) fits.0)
-            ∙ (ap (λ (l : Load). over N l.boxes) el ∙ ap (λ q. over N (box_bits (boxes_at q))) (sym z) ∙
+            ∙ (ap (λ (l : BitPlace). over N l.boxes) el ∙ ap (λ q. over N (box_bits (boxes_at q))) (sym z) ∙
             le-ltb N (length (box_bits (boxes_at (place_of y)))) fits.1)
 
         go : (b : Bool) → (over N l.work || over N l.boxes) ≡ b →

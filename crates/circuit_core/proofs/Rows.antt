@@ -18,7 +18,7 @@ use Rattle.net_build.specs.declared.node.Node.{Node}
 use Rattle.net_build.specs.declared.node.Node.TheVariants.{Const, Succ, Pred, Ifz, Der, Con, Lam, App, BoxNode, Door, Binary, Proj}
 use Rattle.net_build.specs.declared.node.Node.TheVariants.{FixBox, Root, Pair}
 use Rattle.net_build.specs.Nets.{NetTree, premises, conclusions}
-use Rattle.net_build.specs.Sides.{node_above, node_below}
+use Rattle.net_build.specs.Faces.{node_above, node_below}
 use Rattle.net_build.specs.Sound.{Sound}
 use Rattle.move_rules.specs.Places.{Place, up, down, TokenTree, ask, ans}
 use Rattle.move_rules.specs.Table.{or_else, at_wire, on_found, lam_up, lam_var, app_fun, app_arg, box_up, box_down, door_up, door_down}

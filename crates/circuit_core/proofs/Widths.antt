@@ -10,7 +10,7 @@ use Rattle.pcf_values.specs.declared.side.Side.{Side}
 use Rattle.net_build.specs.Nets.{NetTree}
 use Rattle.circuit_core.specs.Rows.{Row, CONST, SUCC, PRED, TEST, FORK, JOIN, ANSWER, DEAD}
 use Rattle.circuit_core.specs.Rows.{Channel, row_of}
-use Rattle.circuit_core.specs.Bits.{bit_row, Load, over, same_bits}
+use Rattle.circuit_core.specs.Bits.{bit_row, BitPlace, over, same_bits}
 use Rattle.circuit_core.specs.Circuit.{Token, Question, Slot, Circuit, free_from, stuck, goes, next_token, later, shifted, split, arrive}
 use Rattle.circuit_core.specs.Circuit.{compare, operate, operate_on, clock_on, clock, clocks, powered, circuit}
 use Rattle.circuit_core.specs.Widths.{IsNumber, TokenWidth, QueueWidth, SlotWidth, Widths}
@@ -25,7 +25,7 @@ module _ (N E : ℕ) where
   stays_full : (C : Circuit) → Widths N E C → Widths N E (stuck C)
   stays_full C w = record { live = w.live; queue = w.queue; room = w.room; slots = w.slots }
 
-  shifted_width : (l : Load) (k : Token) (C : Circuit) → Widths N E C → TokenWidth N E (Some k) → Widths N E (shifted N l k C)
+  shifted_width : (l : BitPlace) (k : Token) (C : Circuit) → Widths N E C → TokenWidth N E (Some k) → Widths N E (shifted N l k C)
   shifted_width l k C w h = go (over N l.work) refl (over N l.boxes) refl
     where
       go : (a : Bool) → over N l.work ≡ a → (b : Bool) → over N l.boxes ≡ b →

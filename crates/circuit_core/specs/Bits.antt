@@ -61,24 +61,24 @@ bit zero (b ∷ bs) = b
 bit (suc n) (b ∷ bs) = bit n bs
 
 -- both stacks as bits, and the channel
-pub record Load : Type 0 where
+pub record BitPlace : Type 0 where
   pub channel : Channel
   pub work : Bits
   pub boxes : Bits
 
-abbrev pub to : Channel → Bits → Bits → Load
+abbrev pub to : Channel → Bits → Bits → BitPlace
 to c w t = record { channel = c; work = w; boxes = t }
 
 -- out of a box with the signature of the top of x before it, that is how BOXIN and DOORIN go on
-abbrev pub boxed : Channel → Bits → Bits → Bits → Load
+abbrev pub boxed : Channel → Bits → Bits → Bits → BitPlace
 boxed c w x t = to c (w ++ below x) (top x ++ t)
 
 -- out of the body of a `fix` from inside: x are the bits after 111, z those after the first signature of them
-abbrev pub back : Channel → Bits → Bits → Bits → Load
+abbrev pub back : Channel → Bits → Bits → Bits → BitPlace
 back d w x z = to d (false ∷ top z ++ w) (top x ++ below z)
 
 -- what a row of stacks makes of the bits of both
-abbrev pub bit_row : Row → Bits → Bits → Load
+abbrev pub bit_row : Row → Bits → Bits → BitPlace
 bit_row (GO c) w t = to c w t
 bit_row (STAR c) w t = to c (false ∷ false ∷ false ∷ w) t
 bit_row (UNSTAR c) w t = to c (drop 3 w) t

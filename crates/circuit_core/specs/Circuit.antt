@@ -15,7 +15,7 @@ use Rattle.net_build.specs.Nets.{NetTree}
 use Rattle.interleave_laws.specs.Start.{start_of}
 use Rattle.circuit_core.specs.Rows.{Row, CONST, SUCC, PRED, TEST, FORK, JOIN, ANSWER, DEAD}
 use Rattle.circuit_core.specs.Rows.{Channel, falls, row_of, channel_of}
-use Rattle.circuit_core.specs.Bits.{Bits, Load, bit_row, over, same_bits}
+use Rattle.circuit_core.specs.Bits.{Bits, BitPlace, bit_row, over, same_bits}
 
 -- the token: where it comes by, the value that it has if it answers, both stacks, and the fork around it
 pub record Token : Type 0 where
@@ -82,7 +82,7 @@ both o Left v u = val_op o v u
 both o Right v u = val_op o u v
 
 -- a row of stacks
-abbrev pub shifted : ℕ → Load → Token → Circuit → Circuit
+abbrev pub shifted : ℕ → BitPlace → Token → Circuit → Circuit
 shifted N l k C = if over N l.work || over N l.boxes then stuck C else goes C
     (record k { channel = l.channel; work = l.work; boxes = l.boxes })
 

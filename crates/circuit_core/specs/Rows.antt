@@ -9,7 +9,7 @@ use Rattle.net_build.specs.declared.node.Node.{Node}
 use Rattle.net_build.specs.declared.node.Node.TheVariants.{Const, Succ, Pred, Ifz, Der, Con, Weak, Lam, App, BoxNode, Binary, Proj}
 use Rattle.net_build.specs.declared.node.Node.TheVariants.{Door, FixBox, Root, Pair}
 use Rattle.net_build.specs.Nets.{NetTree}
-use Rattle.net_build.specs.Sides.{node_above, node_below}
+use Rattle.net_build.specs.Faces.{node_above, node_below}
 use Rattle.move_rules.specs.Places.{Place, up, down}
 use Rattle.move_rules.specs.Table.{on_found}
 

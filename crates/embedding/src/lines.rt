@@ -7,7 +7,7 @@ ghost use Rattle.net_runs.specs.Running.{IsRun, IsFirstWorkers};
 ghost use Rattle.program_runs.specs.declared.calling.Calling.TheVariants.{ByName};
 ghost use Rattle.program_runs.specs.NoRuns.{NoRunFor};
 ghost use Rattle.program_runs.specs.Programs.{number, FaultyProgram};
-ghost use Rattle.program_runs.specs.Running.{RunsText};
+ghost use Rattle.program_runs.specs.RunsText.{RunsText};
 ghost use Rattle.embedding.specs.Lines.{budget, RunLine, value_text, run_line, refused_line};
 
 use crate::place::place_of;

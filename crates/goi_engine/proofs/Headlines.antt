@@ -16,7 +16,7 @@ use Rattle.goi_world.specs.Seen.{SinkState}
 use Rattle.program_runs.specs.declared.calling.Calling.TheVariants.{ByName}
 use Rattle.program_runs.specs.Laws.{OneProgram}
 use Rattle.program_runs.specs.Programs.{number, IsProgram, IsGround}
-use Rattle.program_runs.specs.Running.{Tells}
+use Rattle.program_runs.specs.RunsText.{Tells}
 use Rattle.program_runs.proofs.OneProgram.{same_ground, ground_sound}
 use Rattle.goi_words.specs.Asked.{job}
 use Rattle.goi_reports.specs.Lines.{result_lines}

@@ -15,7 +15,7 @@ use Rattle.goi_words.specs.Jobs.{IsBudget}
 use Rattle.net_runs.specs.Running.{IsRun, IsFirstWorkers}
 use Rattle.program_runs.specs.declared.calling.Calling.{Calling}
 use Rattle.program_runs.specs.Nets.{RunsAs}
-use Rattle.program_runs.specs.Running.{Tells, meaning, net_run, IsProgramRun, RunsText}
+use Rattle.program_runs.specs.RunsText.{Tells, meaning, net_run, IsProgramRun, RunsText}
 use Rattle.program_runs.proofs.Telling.{tickets_length, run_of}
 use Rattle.walk_text.specs.Traces.{trace_text}
 use Rattle.goi_words.specs.declared.jobs.Window.{Window}

@@ -11,7 +11,7 @@ use Rattle.net_text.specs.Limits.{most_text_bytes}
 use Rattle.net_text.specs.Listing.{listing}
 use Rattle.circuit_text.specs.CircuitText.{circuit_text}
 use Rattle.program_runs.specs.Programs.{any_type, number, OfProgram, wanted_by_run}
-use Rattle.program_runs.specs.Running.{net_run}
+use Rattle.program_runs.specs.RunsText.{net_run}
 use Rattle.program_runs.specs.declared.calling.Calling.TheVariants.{ByName}
 use Rattle.goi_words.specs.Jobs.{IsBudget, IsWindow}
 use Rattle.goi_reports.specs.Reports.{check_report}

@@ -15,7 +15,7 @@ use Rattle.fork_join.specs.Entries.{Entry, pending, has_left, has_right, kept_as
 use Rattle.net_build.specs.Nets.{NetTree}
 use Rattle.net_build.specs.declared.node.Node.{Node}
 use Rattle.net_build.specs.declared.node.Node.TheVariants.{Succ, Pred, Ifz, Root, Binary}
-use Rattle.net_build.specs.Sides.{node_below}
+use Rattle.net_build.specs.Faces.{node_below}
 use Rattle.net_build.specs.Sound.{Sound}
 use Rattle.move_rules.specs.Places.{Place, up, down, turned, TokenTree, ask, ans}
 use Rattle.move_rules.specs.Table.{on_found, plain_up, plain_down}

@@ -10,7 +10,7 @@ use Rattle.net_build.specs.Nets.{NetTree}
 use Rattle.net_build.specs.Sound.{Sound}
 use Rattle.net_build.specs.declared.node.Node.{Node}
 use Rattle.net_build.specs.declared.node.Node.TheVariants.{Succ, Pred, Ifz, Root, Binary}
-use Rattle.net_build.specs.Sides.{node_above, node_below}
+use Rattle.net_build.specs.Faces.{node_above, node_below}
 use Rattle.move_rules.specs.Places.{Place, up, down, TokenTree, ask, ans}
 use Rattle.move_rules.specs.Table.{on_found, plain_up, plain_down}
 use Rattle.move_rules.specs.Moves.{Look, dead, constant, pass, one, test, two, look, Move, solo, fork, join, answer, stay, solo_at, or_stay}

@@ -6,7 +6,7 @@ use Rattle.std.proofs.lemmas.Bool.{eqb-true, eq-eqb, cases_lt, lt-ltb}
 use Rattle.std.specs.Prelude.{nat_eq, nat_lt, slice_get, ◌<◌}
 use Rattle.net_build.specs.declared.node.Node.{Node}
 use Rattle.net_build.specs.Nets.{NetTree, premises, conclusions}
-use Rattle.net_build.specs.Sides.{has, least, node_above, node_below}
+use Rattle.net_build.specs.Faces.{has, least, node_above, node_below}
 use Rattle.net_build.specs.Sound.{how_often, named, In, Sound}
 
 abbrev pub Among : ℕ → List ℕ → Type 0

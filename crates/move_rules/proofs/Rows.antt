@@ -8,7 +8,7 @@ use Rattle.token_stacks.specs.Signatures.{Sig, star, left_of, right_of, pair_of,
 use Rattle.net_build.specs.declared.node.Node.{Node}
 use Rattle.net_build.specs.declared.node.Node.TheVariants.{Der, Con, Lam, App, BoxNode, Door, FixBox, Pair, Proj}
 use Rattle.net_build.specs.Nets.{NetTree, premises, conclusions}
-use Rattle.net_build.specs.Sides.{node_above, node_below}
+use Rattle.net_build.specs.Faces.{node_above, node_below}
 use Rattle.net_build.specs.Sound.{Sound}
 use Rattle.move_rules.specs.Places.{Place, up, down, turned}
 use Rattle.move_rules.specs.Table.{at_wire, or_else, on_found, plain_up, plain_down, lam_up, lam_var, app_fun, app_arg, box_up}

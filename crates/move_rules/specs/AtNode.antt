@@ -3,7 +3,7 @@
 use Rattle.std.specs.Prelude.{ℕ, Option, None}
 use Rattle.net_build.specs.declared.node.Node.{Node}
 use Rattle.net_build.specs.Nets.{NetTree}
-use Rattle.net_build.specs.Sides.{node_above, node_below}
+use Rattle.net_build.specs.Faces.{node_above, node_below}
 use Rattle.move_rules.specs.Places.{Place, up, down, TokenTree, ask, ans}
 use Rattle.move_rules.specs.Table.{plain_up, plain_down, on_found}
 use Rattle.move_rules.specs.Moves.{Look, pass_at, look_up, Move, ask_move, solo_at, ans_down, solo, fork, join, answer, stay}

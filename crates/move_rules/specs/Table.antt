@@ -15,7 +15,7 @@ use Rattle.token_stacks.specs.Signatures.{Sig, star, left_of, right_of, pair_of,
 use Rattle.net_build.specs.declared.node.Node.{Node}
 use Rattle.net_build.specs.declared.node.Node.TheVariants.{Der, Con, Lam, App, BoxNode, Door, FixBox, Pair, Proj}
 use Rattle.net_build.specs.Nets.{NetTree}
-use Rattle.net_build.specs.Sides.{node_above, node_below}
+use Rattle.net_build.specs.Faces.{node_above, node_below}
 use Rattle.move_rules.specs.Places.{Place, up, down}
 use Rattle.pcf_values.specs.declared.side.Side.TheVariants.{Left, Right}
 

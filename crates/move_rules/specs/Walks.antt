@@ -9,7 +9,7 @@ use Rattle.std.specs.List.{All}
 use Rattle.std.specs.Bool.{MatchBool}
 use Rattle.net_build.specs.declared.node.Node.{Node}
 use Rattle.net_build.specs.Nets.{NetTree, premises, conclusions}
-use Rattle.net_build.specs.Sides.{has}
+use Rattle.net_build.specs.Faces.{has}
 use Rattle.move_rules.specs.declared.token.Token.{Token}
 use Rattle.move_rules.specs.declared.token.Seen.{Seen}
 use Rattle.move_rules.specs.Places.{Place, up, down, TokenTree, place_of}

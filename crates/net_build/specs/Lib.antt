@@ -2,7 +2,7 @@
 -- a term, sound nets, the laws with an example, and how the code's wires are seen.
 pub mod Nets
 -- The node on a side of a wire: the least one, by number, that names the wire there.
-pub mod Sides
+pub mod Faces
 -- The net of a term, by the order in which its parts are built.
 pub mod NetOf
 -- Sound nets: one root, each wire once on either side, and each node's wires of the kinds, types and depths of its row.

@@ -189,8 +189,8 @@ sorted_takes law bytes net (Err (BadLine n)) m t s l = absurd s
 sorted_takes law bytes net (Err TooLong) m t s l = absurd s
 
 -- what an acceptance answers
-abbrev Answer : Type 0
-Answer = Result (TermTree × TyTree) NetTextFault
+abbrev ProgramOrFault : Type 0
+ProgramOrFault = Result (TermTree × TyTree) NetTextFault
 
 -- the same of bytes that are seen as accepted in two ways
 same_program : (bytes : List ℕ) (m l : TermTree) → ListsProgram bytes m → ListsProgram bytes l → m ≡ l

@@ -12,7 +12,7 @@ use Rattle.pcf_reader.specs.Machine.{want_colon, want_tatom, after_tatom, Step, 
 use Rattle.pcf_reader.specs.Machine.{end_type, end_ptype}
 use Rattle.pcf_reader.specs.Spelling.{sign_of, word_of, Spells, sign, arrow, digits, word, Splits, ends, blank, comment, token, junk}
 use Rattle.pcf_reader.specs.Text.{Derives}
-use Rattle.pcf_reader.specs.Scan.{Answer, checked, proper, scan}
+use Rattle.pcf_reader.specs.Scan.{TreeOrFault, checked, proper, scan}
 use Rattle.pcf_reader.specs.declared.fault.ReadFault.TheVariants.{NoMemory}
 use Rattle.pcf_reader.proofs.Lists.{map-append}
 use Rattle.pcf_reader.proofs.Judge.{proper_cases, within_cases}
@@ -118,19 +118,19 @@ end_last (want_tatom k) at = tt
 end_last (after_tatom k t) at = ends_ptype k t at
 
 -- an answer that is not want of memory
-abbrev pub IsAnswer : Answer → Type 0
+abbrev pub IsAnswer : TreeOrFault → Type 0
 IsAnswer (Ok t) = Unit {0}
 IsAnswer (Err NoMemory) = ⊥
 IsAnswer (Err _) = Unit {0}
 
 -- a step that is the last answers
-last_answers : (next : State → ℕ → Answer) (n at : ℕ) (st : Step) → IsLast st → IsAnswer (checked next n at st)
+last_answers : (next : State → ℕ → TreeOrFault) (n at : ℕ) (st : Step) → IsLast st → IsAnswer (checked next n at st)
 last_answers next n at refuse h = tt
 last_answers next n at (go d c t) h = absurd h
 last_answers next n at (finish p) h = tt
 
 -- and so does a step that goes on to what answers
-checked_answers : (next : State → ℕ → Answer) (n at : ℕ) (st : Step) → ((t : State) (m : ℕ) → IsAnswer (next t m)) →
+checked_answers : (next : State → ℕ → TreeOrFault) (n at : ℕ) (st : Step) → ((t : State) (m : ℕ) → IsAnswer (next t m)) →
     IsAnswer (checked next n at st)
 checked_answers next n at refuse h = tt
 checked_answers next n at (go d c t) h = within_cases IsAnswer at d (n + c) (next t (n + c)) (λ _. tt) (λ _ _. tt) (λ _ _. h t (n + c))
@@ -143,6 +143,6 @@ ended_answers (x ∷ []) s n (inl e) = subst (λ t. IsAnswer (proper x.at t (che
     (last_answers (scan []) n x.at (step s x.at End) (end_last s x.at))
 ended_answers (x ∷ []) s n (inr e) = subst (λ t. IsAnswer (proper x.at t (checked (scan []) n x.at (step s x.at t)))) (sym e) tt
 ended_answers (x ∷ y ∷ ys) s n h =
-    let next : State → ℕ → Answer = scan (y ∷ ys) in
+    let next : State → ℕ → TreeOrFault = scan (y ∷ ys) in
     proper_cases IsAnswer x.at x.token (checked next n x.at (step s x.at x.token)) (λ _. tt) (λ _ _ _. tt)
     (λ _ _. checked_answers next n x.at (step s x.at x.token) (λ t m. ended_answers (y ∷ ys) t m h.1))

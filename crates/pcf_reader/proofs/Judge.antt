@@ -6,7 +6,7 @@ use Rattle.pcf_reader.specs.Tokens.{Token, Number, End, Junk, Placed}
 use Rattle.pcf_reader.specs.Grammar.{Program, program_text, Part, expr_part, expr_text, Written, placed, plain, marked}
 use Rattle.pcf_reader.specs.Machine.{State, want_expr, whole, Step, refuse, go, finish, step}
 use Rattle.pcf_reader.specs.Text.{count_of, IsNarrow, Derives, IsPrefix, Reads, FaultAt, rank, IsFirstFault, IsShallow, Each}
-use Rattle.pcf_reader.specs.Scan.{Answer, proper, within, checked, scan}
+use Rattle.pcf_reader.specs.Scan.{TreeOrFault, proper, within, checked, scan}
 use Rattle.pcf_reader.specs.declared.fault.ReadFault.{ReadFault}
 use Rattle.pcf_reader.specs.declared.fault.ReadFault.TheVariants.{NoMemory, NotText, BadToken, NumberTooWide, Unexpected, TooDeep, TooLarge}
 use Rattle.pcf_reader.specs.declared.fault.ReadFault.TheVariants.{TooLong}
@@ -194,12 +194,12 @@ IsFault all NoMemory = Unit {0}
 IsFault all f = IsFirstFault all f
 
 -- a tree that a prefix of the list derives, or its fault
-abbrev pub Judged : List Placed → Answer → Type 0
+abbrev pub Judged : List Placed → TreeOrFault → Type 0
 Judged all (Ok t) = (front : List Placed) × (xs : List Placed) × (all ≡ front ++ xs) × Derives front t
 Judged all (Err f) = IsFault all f
 
 -- a token is no token, or a number too wide, or proper
-pub proper_cases : (P : Answer → Type 0) (at : ℕ) (x : Token) (r : Answer)
+pub proper_cases : (P : TreeOrFault → Type 0) (at : ℕ) (x : Token) (r : TreeOrFault)
     → (x ≡ Junk → P (Err (BadToken at))) → ((n : ℕ) → x ≡ Number n → 2 ^ 64 ≤ n → P (Err (NumberTooWide at))) →
     (IsNarrow x → IsTrueToken x → P r) → P (proper at x r)
 proper_cases P at Junk r bad wide good = bad refl
@@ -209,7 +209,7 @@ proper_cases P at (Number n) r bad wide good =
 proper_cases P at x r bad wide good = good tt tt
 
 -- it stands too deep, or is one too many, or is within the limits
-pub within_cases : (P : Answer → Type 0) (at d n : ℕ) (r : Answer)
+pub within_cases : (P : TreeOrFault → Type 0) (at d n : ℕ) (r : TreeOrFault)
     → (most_open ≤ d → P (Err (TooDeep at))) → (d < most_open → most_nodes < n → P (Err (TooLarge at))) →
     (d < most_open → n ≤ most_nodes → P r) → P (within at d n r)
 within_cases P at d n r deep large good =

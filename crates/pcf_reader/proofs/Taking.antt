@@ -8,7 +8,7 @@ use Rattle.std.proofs.lemmas.Str.{IsCharBoundary-at_seam}
 use Rattle.pcf_reader.specs.Tokens.{Token, Open, Close, Colon, Dot, Comma, Sign, Arrow, Ifz, Then, Else, Nat, Bind, Before}
 use Rattle.pcf_reader.specs.Tokens.{Number, Name, End, Junk, Placed}
 use Rattle.pcf_reader.specs.Machine.{State, step}
-use Rattle.pcf_reader.specs.Scan.{Answer, proper, checked, scan}
+use Rattle.pcf_reader.specs.Scan.{TreeOrFault, proper, checked, scan}
 use Rattle.pcf_reader.specs.Rest.{Rest, resume, behind}
 use Rattle.pcf_reader.specs.Spelling.{sign_of, word_of}
 use Rattle.pcf_reader.proofs.Spelled.{sign_token, word_token}
@@ -17,7 +17,7 @@ use Rattle.pcf_reader.proofs.Ended.{word_not_end}
 
 -- a token that is no fault by itself
 abbrev pub IsProper : Token → Type 0
-IsProper x = (at : ℕ) (a : Answer) → proper at x a ≡ a
+IsProper x = (at : ℕ) (a : TreeOrFault) → proper at x a ≡ a
 
 -- a reader that stands at the first token of a list goes on as the scan does
 pub reads_on : (ts : List Placed) (r q : Rest) → r ≡ q → ts ≡ record { at = q.at; token = q.here } ∷ q.after →

@@ -10,7 +10,7 @@ use Rattle.pcf_values.specs.Most.{most_program_bytes}
 use Rattle.pcf_values.specs.Named.{NamedTree}
 use Rattle.pcf_reader.specs.Machine.{want_expr, whole}
 use Rattle.pcf_reader.specs.Lexing.{lex, idle}
-use Rattle.pcf_reader.specs.Scan.{Answer, scan}
+use Rattle.pcf_reader.specs.Scan.{TreeOrFault, scan}
 use Rattle.pcf_reader.specs.Correct.{Text, FirstFault}
 use Rattle.pcf_reader.specs.declared.fault.ReadFault.{ReadFault}
 use Rattle.pcf_reader.specs.declared.fault.ReadFault.TheVariants.{NoMemory, NotText, BadToken, NumberTooWide, Unexpected, TooDeep, TooLarge}
@@ -74,7 +74,7 @@ abbrev pub Either : List ℕ → Type 0
 Either bytes = ((t : NamedTree) × Text bytes t) ⊎ ((f : ReadFault) × FirstFault bytes f)
 
 -- what the scan of a text's tokens answers
-answered : (bytes : List ℕ) → length bytes ≤ most_program_bytes → IsUtf8 bytes → (a : Answer) →
+answered : (bytes : List ℕ) → length bytes ≤ most_program_bytes → IsUtf8 bytes → (a : TreeOrFault) →
     scan (lex (chars bytes) 0 idle) (want_expr whole) 0 ≡ a → IsAnswer a → Either bytes
 answered bytes n u (Ok t) e h = inl (t, text_read bytes n u t e)
 answered bytes n u (Err NoMemory) e h = absurd h

@@ -13,7 +13,7 @@ use Rattle.pcf_reader.specs.Machine.{TypeK, of_binder, right_of_arrow, in_type_p
 use Rattle.pcf_reader.specs.Machine.{want_colon, want_tatom, after_tatom, refuse, go, finish, step, after_expr, end_product, end_app}
 use Rattle.pcf_reader.specs.Machine.{end_type, end_ptype}
 use Rattle.pcf_reader.specs.Text.{count_of, IsNarrow, Derives, IsShallow, Each}
-use Rattle.pcf_reader.specs.Scan.{Answer, proper, within, checked, scan}
+use Rattle.pcf_reader.specs.Scan.{TreeOrFault, proper, within, checked, scan}
 use Rattle.pcf_reader.specs.declared.fault.ReadFault.TheVariants.{NumberTooWide, TooDeep, TooLarge}
 use Rattle.pcf_reader.proofs.Lists.{WritesNarrow, each_left, count-append, map-append}
 use Rattle.pcf_reader.proofs.Follows.{Follows}
@@ -66,17 +66,17 @@ no_finish : (p : Part) → refuse ≡ finish p → ⊥
 no_finish p e = cc
 
 -- a narrow number is proper
-pub number_is : (at n : ℕ) (r : Answer) → n < 2 ^ 64 → proper at (Number n) r ≡ r
+pub number_is : (at n : ℕ) (r : TreeOrFault) → n < 2 ^ 64 → proper at (Number n) r ≡ r
 number_is at n r h = ap (λ b. if b then r else Err (NumberTooWide at)) (lt-ltb n (2 ^ 64) h)
 
 -- a token that a state does not refuse, and that is no number too wide, is proper
-proper_is : (s : State) (at : ℕ) (x : Token) (r : Answer) → (step s at x ≡ refuse → ⊥) → IsNarrow x → proper at x r ≡ r
+proper_is : (s : State) (at : ℕ) (x : Token) (r : TreeOrFault) → (step s at x ≡ refuse → ⊥) → IsNarrow x → proper at x r ≡ r
 proper_is s at Junk r taken narrow = absurd (taken (junk_refused s at))
 proper_is s at (Number n) r taken narrow = number_is at n r narrow
 proper_is s at _ r taken narrow = refl
 
 -- what is within the limits goes on
-within_is : (at d n : ℕ) (r : Answer) → d < most_open → n ≤ most_nodes → within at d n r ≡ r
+within_is : (at d n : ℕ) (r : TreeOrFault) → d < most_open → n ≤ most_nodes → within at d n r ≡ r
 within_is at d n r shallow small =
     ap (λ b. if b then Err (TooDeep at) else if nat_lt most_nodes n then Err (TooLarge at) else r) (lt-leb most_open d shallow)
     ∙ ap (λ b. if b then Err (TooLarge at) else r) (le-ltb most_nodes n small)

@@ -2,7 +2,7 @@
 use Rattle.std.specs.Prelude.{◌≡◌, ℕ, List, [], Result, Ok, Err}
 use Rattle.pcf_reader.specs.Tokens.{Token, End, Placed}
 use Rattle.pcf_reader.specs.Machine.{Step}
-use Rattle.pcf_reader.specs.Scan.{Answer, checked, scan}
+use Rattle.pcf_reader.specs.Scan.{TreeOrFault, checked, scan}
 use Rattle.pcf_reader.specs.declared.fault.ReadFault.{ReadFault}
 use Rattle.pcf_reader.specs.declared.fault.ReadFault.TheVariants.{NoMemory}
 
@@ -19,17 +19,17 @@ behind End xs = []
 behind _ xs = xs
 
 -- the answer where the token here is taken by this step
-abbrev pub taken : Rest → Step → Answer
+abbrev pub taken : Rest → Step → TreeOrFault
 taken r st = checked (scan r.after) r.nodes r.at st
 
-abbrev pub resume : (ℕ → Token → Step) → Rest → Answer
+abbrev pub resume : (ℕ → Token → Step) → Rest → TreeOrFault
 resume g r = taken r (g r.at r.here)
 
 -- memory runs out at any time, and every other fault is the answer
-abbrev pub Fails : ReadFault → Answer → Type 0
+abbrev pub Fails : ReadFault → TreeOrFault → Type 0
 Fails NoMemory answer = Unit {0}
 Fails f answer = answer ≡ Err f
 
-abbrev pub Gives : {X : Type 0} → (X → Answer) → Answer → Result X ReadFault → Type 0
+abbrev pub Gives : {X : Type 0} → (X → TreeOrFault) → TreeOrFault → Result X ReadFault → Type 0
 Gives after answer (Ok x) = answer ≡ after x
 Gives after answer (Err f) = Fails f answer

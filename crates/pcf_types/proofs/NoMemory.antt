@@ -5,7 +5,7 @@ use Rattle.pcf_values.specs.Named.{the_succ, the_pred, the_part, the_fun, the_fi
 use Rattle.pcf_values.specs.Named.{binary_at, pair_at, ifz_at, bind_at, apply_at, place_of}
 use Rattle.pcf_types.specs.declared.fault.TypeFault.{TypeFault}
 use Rattle.pcf_types.specs.declared.fault.TypeFault.TheVariants.{NoMemory, FixMismatch, ArgumentMismatch}
-use Rattle.pcf_types.specs.Checking.{Context, Answer, go_on, as_nat, number, numbers, as_function, as_pair, of_type, variable}
+use Rattle.pcf_types.specs.Checking.{Context, TypedOrFault, go_on, as_nat, number, numbers, as_function, as_pair, of_type, variable}
 use Rattle.pcf_types.specs.Checking.{nearest, type_of}
 
 abbrev pub Clean : {A : Type 0} → Result A TypeFault → Type 0
@@ -48,7 +48,7 @@ clean_variable : (at : ℕ) (o : Option (ℕ × TyTree)) → Clean (variable at 
 clean_variable at None h = cc
 clean_variable at (Some f) h = cc
 
-number_clean : (at : ℕ) (r : Answer) → Clean r → Clean (number at r)
+number_clean : (at : ℕ) (r : TypedOrFault) → Clean r → Clean (number at r)
 number_clean at r h = clean_on r _ h (λ j. clean_nat at j.0 j.1)
 
 numbers_clean : (r s : Result TermTree TypeFault) → Clean r → Clean s → Clean (numbers r s)
@@ -60,7 +60,7 @@ fix_fault at h = cc
 argument_fault : (at : ℕ) → ArgumentMismatch at ≢ NoMemory
 argument_fault at h = cc
 
-of_type_clean : (a : TyTree) (e : TypeFault) (r : Answer) → e ≢ NoMemory → Clean r → Clean (of_type a e r)
+of_type_clean : (a : TyTree) (e : TypeFault) (r : TypedOrFault) → e ≢ NoMemory → Clean r → Clean (of_type a e r)
 of_type_clean a e r n h = clean_on r _ h (λ j. clean_cond (same_type j.1 a) j.0 e n)
 
 -- no tree's fault of scope or type is want of memory

@@ -7,7 +7,7 @@ use Rattle.pcf_values.specs.Named.{place_of}
 use Rattle.pcf_values.specs.Views.{named_of}
 use Rattle.pcf_types.specs.declared.fault.TypeFault.TheVariants.{NatWanted}
 use Rattle.pcf_types.specs.declared.scope.Scope.{Scope}
-use Rattle.pcf_types.specs.Checking.{Answer, as_type, of_type, as_nat, number}
+use Rattle.pcf_types.specs.Checking.{TypedOrFault, as_type, of_type, as_nat, number}
 use Rattle.pcf_types.specs.Views.{type_in, number_in, of_type_in}
 use Rattle.pcf_values.proofs.Types.{same_refl, same_is}
 use Rattle.pcf_types.proofs.Places.{place}
@@ -28,7 +28,7 @@ as_nat_same at m nat = refl
 as_nat_same at m (arrow a b) = refl
 as_nat_same at m (product a b) = refl
 
-same_number : (at : ℕ) (r : Answer) → of_type nat (NatWanted at) r ≡ number at r
+same_number : (at : ℕ) (r : TypedOrFault) → of_type nat (NatWanted at) r ≡ number at r
 same_number at (Ok j) = as_nat_same at j.0 j.1
 same_number at (Err e) = refl
 

@@ -16,8 +16,8 @@ abbrev pub Context : Type 0
 Context = List (List ℕ × TyTree)
 
 -- the term with its type, or a fault
-abbrev pub Answer : Type 0
-Answer = Result (TermTree × TyTree) TypeFault
+abbrev pub TypedOrFault : Type 0
+TypedOrFault = Result (TermTree × TyTree) TypeFault
 
 -- go on with what there is; a fault stays
 abbrev pub go_on : {A B : Type 0} → Result A TypeFault → (A → Result B TypeFault) → Result B TypeFault
@@ -35,7 +35,7 @@ nearest x [] = None
 nearest x (b ∷ g) = if bytes_eq x b.0 then Some (0, b.1) else further (nearest x g)
 
 -- the variable of the binder that was found for the name at this place
-abbrev pub variable : ℕ → Option (ℕ × TyTree) → Answer
+abbrev pub variable : ℕ → Option (ℕ × TyTree) → TypedOrFault
 variable at None = Err (Unbound at)
 variable at (Some f) = Ok (var f.0, f.1)
 
@@ -45,7 +45,7 @@ as_nat at m nat = Ok m
 as_nat at m (arrow a b) = Err (NatWanted at)
 as_nat at m (product a b) = Err (NatWanted at)
 
-abbrev pub number : ℕ → Answer → Result TermTree TypeFault
+abbrev pub number : ℕ → TypedOrFault → Result TermTree TypeFault
 number at r = go_on r (λ j. as_nat at j.0 j.1)
 
 -- the terms of two such parts, the first one's fault first
@@ -58,7 +58,7 @@ as_function at m nat = Err (FunctionWanted at)
 as_function at m (arrow a b) = Ok (m, a, b)
 as_function at m (product a b) = Err (FunctionWanted at)
 
-abbrev pub function : ℕ → Answer → Result (TermTree × TyTree × TyTree) TypeFault
+abbrev pub function : ℕ → TypedOrFault → Result (TermTree × TyTree × TyTree) TypeFault
 function at r = go_on r (λ j. as_function at j.0 j.1)
 
 -- the term of the part at this place, which has to be of a pair's type, with the types of the pair's parts
@@ -67,18 +67,18 @@ as_pair at m nat = Err (PairWanted at)
 as_pair at m (arrow a b) = Err (PairWanted at)
 as_pair at m (product a b) = Ok (m, a, b)
 
-abbrev pub both : ℕ → Answer → Result (TermTree × TyTree × TyTree) TypeFault
+abbrev pub both : ℕ → TypedOrFault → Result (TermTree × TyTree × TyTree) TypeFault
 both at r = go_on r (λ j. as_pair at j.0 j.1)
 
 -- the term, which has to be of this type, or else the fault
 abbrev pub as_type : TyTree → TypeFault → TermTree → TyTree → Result TermTree TypeFault
 as_type a e m t = if same_type t a then Ok m else Err e
 
-abbrev pub of_type : TyTree → TypeFault → Answer → Result TermTree TypeFault
+abbrev pub of_type : TyTree → TypeFault → TypedOrFault → Result TermTree TypeFault
 of_type a e r = go_on r (λ j. as_type a e j.0 j.1)
 
 -- the term of a tree and its type, or the first fault
-abbrev pub type_of : Context → NamedTree → Answer
+abbrev pub type_of : Context → NamedTree → TypedOrFault
 type_of g (number_at at n) = Ok (num n, nat)
 type_of g (name_at at x) = variable at (nearest x g)
 type_of g (word_at at the_succ a) = go_on (number (place_of a) (type_of g a)) (λ m. Ok (succ_of m, nat))

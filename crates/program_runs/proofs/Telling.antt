@@ -16,7 +16,7 @@ use Rattle.net_runs.specs.Running.{IsRun, IsFirstWorkers}
 use Rattle.program_runs.specs.Laws.{MovesTell, RunsTell}
 use Rattle.program_runs.specs.declared.calling.Calling.{Calling}
 use Rattle.program_runs.specs.Nets.{RunsAs, IsNetFor}
-use Rattle.program_runs.specs.Running.{meaning, run_as, net_run, Tells, IsProgramRun, RunsText}
+use Rattle.program_runs.specs.RunsText.{meaning, run_as, net_run, Tells, IsProgramRun, RunsText}
 
 pub tickets_length : (log : List Entry) → length (tickets_in_log log) ≡ length log
 tickets_length [] = refl

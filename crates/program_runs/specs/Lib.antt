@@ -3,7 +3,7 @@
 -- Which texts are programs that can be run or looked at, and what is the first fault of one that isn't.
 pub mod Programs
 -- A run of a text's program: its answer, or none within the budget, with the log of its moves, and what they say of the program.
-pub mod Running
+pub mod RunsText
 -- What is always true of programs and of their runs.
 pub mod Laws
 -- Values and lengths of some programs by name and by value.

@@ -4,7 +4,7 @@ ghost use Rattle.std.specs.Prelude.{◌≤◌, IfOk, IfErr};
 ghost use Rattle.pcf_values.specs.Most.{most_budget};
 ghost use Rattle.program_runs.specs.NoRuns.{NoRunFor};
 ghost use Rattle.program_runs.specs.Programs.{wanted_by_run, FaultyProgram};
-ghost use Rattle.program_runs.specs.Running.{RunsText};
+ghost use Rattle.program_runs.specs.RunsText.{RunsText};
 
 use crate::calling::Calling;
 use crate::crew::Crew;

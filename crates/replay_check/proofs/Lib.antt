@@ -1,4 +1,4 @@
 -- What a list of tickets comes to is one thing: what its tickets tell, one after the other.
-pub mod Told
+pub mod OneReplay
 -- The moves of a log's entries, one after the other.
 pub mod Making

@@ -11,7 +11,7 @@ use Rattle.interleave_laws.specs.Maps.{MapState, step_map, LeadsToMap, IsReached
 use Rattle.replay_check.specs.declared.fault.ReplayFault.{ReplayFault}
 use Rattle.replay_check.specs.declared.replayed.Replayed.{Replayed}
 use Rattle.replay_check.specs.Replays.{IsRunOf, fault_at, ReplaysAs}
-use Rattle.replay_check.proofs.Told.{stops_as, one_more}
+use Rattle.replay_check.proofs.OneReplay.{stops_as, one_more}
 
 -- A ticket that has no token at its turn is where the list stops.
 pub stops_here : (net : NetTree) (es : List Entry) (i : ℕ) (d : Entry) (S : MapState) (f : ReplayFault) → i < length es →

@@ -52,12 +52,12 @@ run_eq : (r : Run) (t n : ℕ) → t ≡ r.ticket → n ≡ r.count → (let s :
 run_eq r t n e f = λ i. record { ticket = e i; count = f i }
 
 -- the line is told to be a move line, and its run is this
-pub record Told (v : Version) (l : List ℕ) (r : Run) : Type 0 where
+pub record ReadAsMove (v : Version) (l : List ℕ) (r : Run) : Type 0 where
   pub is : is_move_line v l ≡ true
   pub run : run_in v l ≡ r
 
 -- A move line is told, and its run is read.
-pub is_line : (v : Version) (l : List ℕ) (r : Run) → IsMoveLine v l r → Told v l r
+pub is_line : (v : Version) (l : List ℕ) (r : Run) → IsMoveLine v l r → ReadAsMove v l r
 is_line One l r m =
     let d : digits_in l ≡ m.digits = ap digits_in m.line ∙ digits_first m.digits 10 [] m.ticket.digits refl in
     let e : behind l ≡ codes "\n" = ap behind m.line ∙ behind_first m.digits 10 [] m.ticket.digits refl in

@@ -8,7 +8,7 @@ use Rattle.fork_join.specs.Entries.{Entry as Kept, pending, has_left, has_right}
 use Rattle.net_build.specs.declared.node.Node.{Node}
 use Rattle.net_build.specs.declared.node.Node.TheVariants.{Succ, Pred, Ifz, Root, Binary}
 use Rattle.net_build.specs.Nets.{NetTree}
-use Rattle.net_build.specs.Sides.{has, node_above, node_below}
+use Rattle.net_build.specs.Faces.{has, node_above, node_below}
 use Rattle.net_build.specs.Sound.{Sound}
 use Rattle.move_rules.specs.Places.{Place, up, down, TokenTree, ask, ans, place_of}
 use Rattle.move_rules.specs.Table.{on_found, facing, plain_up, plain_down}

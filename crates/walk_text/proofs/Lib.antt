@@ -11,6 +11,6 @@ pub mod Playing
 -- The lines of live tokens and of open entries.
 pub mod Heading
 -- What is told of a step, by its name, is what the line says of its move.
-pub mod Told
+pub mod StepLines
 -- A window that ends with the log.
 pub mod Windowing

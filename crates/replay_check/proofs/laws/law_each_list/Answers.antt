@@ -1,4 +1,4 @@
-use Rattle.replay_check.proofs.Told.{each_list}
+use Rattle.replay_check.proofs.OneReplay.{each_list}
 use Rattle.replay_check.proofs.laws.law_each_list.Goals as goal
 
 pub returns : goal.returns

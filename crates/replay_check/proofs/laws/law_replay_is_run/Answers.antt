@@ -1,4 +1,4 @@
-use Rattle.replay_check.proofs.Told.{run_is_replayed, replay_is_run}
+use Rattle.replay_check.proofs.OneReplay.{run_is_replayed, replay_is_run}
 use Rattle.replay_check.proofs.laws.law_replay_is_run.Goals as goal
 
 pub returns-clause-run : goal.returns-clause-run

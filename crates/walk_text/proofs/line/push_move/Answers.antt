@@ -1,6 +1,6 @@
 use Rattle.token_stacks.proofs.Said.{ok_map, from_if}
 use Rattle.walk_text.proofs.Playing.{low_reached}
-use Rattle.walk_text.proofs.Told.{line_told}
+use Rattle.walk_text.proofs.StepLines.{line_told}
 use Rattle.walk_text.proofs.line.push_move.Goals as goal
 
 pub returns-clause-line : goal.returns-clause-line

@@ -1,5 +1,5 @@
 use Rattle.std.proofs.Common.{rules}
-use Rattle.circuit_clock.proofs.load.bit_row.Goals as goal
+use Rattle.circuit_clock.proofs.bit_place.bit_row.Goals as goal
 
 pub returns-in-Con : goal.returns-in-Con
 returns-in-Con c = search rules

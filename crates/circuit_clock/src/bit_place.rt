@@ -4,7 +4,7 @@ ghost use Rattle.std.specs.Prelude.{◌≡◌, ◌++◌, IfOk, if◌then◌else�
 ghost use Rattle.circuit_core.specs.Rows.{FIXOUT, FIXVAR};
 ghost use Rattle.circuit_core.specs.Bits.{bit_row, boxed, back, to, top, below};
 ghost use Rattle.circuit_rows.specs.Views.{channel_of, row_view};
-ghost use Rattle.circuit_clock.specs.Views.{load_of};
+ghost use Rattle.circuit_clock.specs.Views.{bit_place_of};
 
 use crate::bits::{after, bit, joined, split};
 use circuit_rows::{Channel, Row};
@@ -12,7 +12,7 @@ use std::alloc::{AllocError, Global};
 
 /// Where a token goes, with the bits of both stacks.
 #[derive(Drop)]
-pub(crate) struct Load {
+pub(crate) struct BitPlace {
     pub(crate) channel: Channel,
     pub(crate) work: Vec<bool>,
     pub(crate) boxes: Vec<bool>,
@@ -32,10 +32,10 @@ fn with_front(
     front: &[bool],
     work: &[bool],
     boxes: &[bool],
-) -> Result<Load, AllocError>
-    ensures { IfOk result (λ l. load_of l ≡ to (channel_of channel) (front.now ++ work.now) boxes.now) }
+) -> Result<BitPlace, AllocError>
+    ensures { IfOk result (λ l. bit_place_of l ≡ to (channel_of channel) (front.now ++ work.now) boxes.now) }
 {
-    Ok(Load {
+    Ok(BitPlace {
         channel,
         work: joined(alloc, front, work)?,
         boxes: Vec::from_slice(alloc, boxes)?,
@@ -49,11 +49,11 @@ fn into_box(
     front: &[bool],
     from: &[bool],
     boxes: &[bool],
-) -> Result<Load, AllocError>
-    ensures { IfOk result (λ l. load_of l ≡ boxed (channel_of channel) front.now from.now boxes.now) }
+) -> Result<BitPlace, AllocError>
+    ensures { IfOk result (λ l. bit_place_of l ≡ boxed (channel_of channel) front.now from.now boxes.now) }
 {
     let (signature, rest) = split(from);
-    Ok(Load {
+    Ok(BitPlace {
         channel,
         work: joined(alloc, front, rest)?,
         boxes: joined(alloc, signature, boxes)?,
@@ -67,8 +67,8 @@ fn out_of_box(
     front: &[bool],
     work: &[bool],
     boxes: &[bool],
-) -> Result<Load, AllocError>
-    ensures { IfOk result (λ l. load_of l ≡ to (channel_of channel) (front.now ++ (top boxes.now ++ work.now)) (below boxes.now)) }
+) -> Result<BitPlace, AllocError>
+    ensures { IfOk result (λ l. bit_place_of l ≡ to (channel_of channel) (front.now ++ (top boxes.now ++ work.now)) (below boxes.now)) }
 {
     let (signature, rest) = split(boxes);
     let behind = joined(alloc, signature, work)?;
@@ -76,13 +76,18 @@ fn out_of_box(
 }
 
 /// Out of the body of a `fix` to a call from inside: these are the bits of the box stack behind 111.
-fn back(alloc: Global, channel: Channel, work: &[bool], bits: &[bool]) -> Result<Load, AllocError>
-    ensures { IfOk result (λ l. load_of l ≡ back (channel_of channel) work.now bits.now (below bits.now)) }
+fn back(
+    alloc: Global,
+    channel: Channel,
+    work: &[bool],
+    bits: &[bool],
+) -> Result<BitPlace, AllocError>
+    ensures { IfOk result (λ l. bit_place_of l ≡ back (channel_of channel) work.now bits.now (below bits.now)) }
 {
     let (first, behind) = split(bits);
     let (second, rest) = split(behind);
     let signature = joined(alloc, second, work)?;
-    Ok(Load {
+    Ok(BitPlace {
         channel,
         work: joined(alloc, &[false], signature.as_slice())?,
         boxes: joined(alloc, first, rest)?,
@@ -96,8 +101,8 @@ fn fix_out(
     inside: Channel,
     work: &[bool],
     boxes: &[bool],
-) -> Result<Load, AllocError>
-    ensures { IfOk result (λ l. load_of l ≡ bit_row (FIXOUT (channel_of outside) (channel_of inside)) work.now boxes.now) }
+) -> Result<BitPlace, AllocError>
+    ensures { IfOk result (λ l. bit_place_of l ≡ bit_row (FIXOUT (channel_of outside) (channel_of inside)) work.now boxes.now) }
 {
     if bit(0, boxes) {
         back(alloc, inside, work, after(3, boxes))
@@ -112,14 +117,14 @@ fn fix_var(
     channel: Channel,
     work: &[bool],
     boxes: &[bool],
-) -> Result<Load, AllocError>
-    ensures { IfOk result (λ l. load_of l ≡ bit_row (FIXVAR (channel_of channel)) work.now boxes.now) }
+) -> Result<BitPlace, AllocError>
+    ensures { IfOk result (λ l. bit_place_of l ≡ bit_row (FIXVAR (channel_of channel)) work.now boxes.now) }
 {
     let (call, rest) = split(boxes);
     let (signature, left) = split(after(1, work));
     let behind = joined(alloc, signature, rest)?;
     let both = joined(alloc, call, behind.as_slice())?;
-    Ok(Load {
+    Ok(BitPlace {
         channel,
         work: Vec::from_slice(alloc, left)?,
         boxes: joined(alloc, &[true, true, true], both.as_slice())?,
@@ -132,8 +137,8 @@ pub(crate) fn bit_row(
     row: Row,
     work: &[bool],
     boxes: &[bool],
-) -> Result<Load, AllocError>
-    ensures { IfOk result (λ l. load_of l ≡ bit_row (row_view row) work.now boxes.now) }
+) -> Result<BitPlace, AllocError>
+    ensures { IfOk result (λ l. bit_place_of l ≡ bit_row (row_view row) work.now boxes.now) }
 {
     match row {
         Row::Star { to } => with_front(alloc, to, &[false, false, false], work, boxes),
