@@ -1,5 +1,5 @@
 use Rattle.std.proofs.Common.{◌+◌, arith}
-use Rattle.core_tests.proofs.Reaching.{reached_ok}
+use Rattle.interleave_core.proofs.Stepping.{reached_ok}
 use Rattle.core_tests.proofs.games.go.Goals as goal
 
 pub returns-then-is_live : goal.returns-then-is_live
