@@ -4,6 +4,7 @@ use Rattle.std.proofs.Common.{refl, sym, ap, ◌∙◌, subst, inl, inr, arith}
 use Rattle.std.specs.Prelude.{codes, MatchResult}
 use Rattle.text_lines.specs.Lines.{lines, end_line}
 use Rattle.text_lines.proofs.Lines.{IsLine, line_split}
+use Rattle.text_lines.proofs.Firsts.{first_is, no_first}
 use Rattle.text_lines.proofs.Scans.{first_line}
 use Rattle.batch_lists.specs.declared.fault.BatchFault.{BatchFault}
 use Rattle.batch_lists.specs.declared.fault.BatchFault.TheVariants.{NoMemory, TooLong, BadHeader, BadLine, TooMany, NoEnd}
@@ -130,12 +131,6 @@ reads_more bytes line more n old mid new (Err f) e (job, is, room, pushed) (inr 
 -- the header is a line
 header_line : IsLine list_header
 header_line = record { bytes = codes "batch 1"; fine = refl; is = refl }
-
-no_first : (l : List ℕ) (ls : List (List ℕ)) → (let none : List (List ℕ) = [] in none ≡ l ∷ ls) → ⊥
-no_first l ls h = cc
-
-first_is : (a l : List ℕ) (ks ls : List (List ℕ)) → a ∷ ks ≡ l ∷ ls → a ≡ l
-first_is a l ks ls h = cc
 
 pub lacks_any : (bytes : List ℕ) → length bytes ≤ most_list_bytes → length bytes ≡ 0 → LacksListHeader bytes
 lacks_any [] u e =

@@ -7,6 +7,7 @@ use Rattle.text_lines.specs.Lines.{lines, end_line}
 use Rattle.text_lines.specs.Digits.{digits_in}
 use Rattle.text_lines.specs.Lines.{joined}
 use Rattle.text_lines.proofs.Lines.{lines_joined}
+use Rattle.text_lines.proofs.Firsts.{first_is, others_are}
 use Rattle.text_lines.proofs.Numbers.{digits_first}
 use Rattle.batch_lists.specs.declared.fault.BatchFault.{BatchFault}
 use Rattle.batch_lists.specs.declared.fault.BatchFault.TheVariants.{NoMemory, TooLong, BadHeader, BadLine, TooMany, NoEnd}
@@ -70,29 +71,23 @@ Opened m n l ls r = ((l ≡ end_line) × (r ≡ ended_at n ls)) ⊎ ((IsNoLine l
     ⊎ ((job : BatchLine) × IsJobLine l job × (((most_jobs ≤ m) × (r ≡ Err (TooMany n)))
     ⊎ ((m < most_jobs) × (s : Result (List BatchLine) BatchFault) × RestOf (m + 1) (n + 1) ls s × (r ≡ with_job job s)))))
 
-head_is : (a b : List ℕ) (ks ls : List (List ℕ)) → a ∷ ks ≡ b ∷ ls → a ≡ b
-head_is a b ks ls h = cc
-
-tail_is : (a b : List ℕ) (ks ls : List (List ℕ)) → a ∷ ks ≡ b ∷ ls → ks ≡ ls
-tail_is a b ks ls h = cc
-
 -- The first line of a whole list is `end`, or that of its first job.
 whole_opened : (m n : ℕ) (l : List ℕ) (ls : List (List ℕ)) (jobs : List BatchLine) (before : List (List ℕ)) →
     l ∷ ls ≡ before ++ end_line ∷ [] → StandFor before jobs →
     m + length jobs ≤ most_jobs → Opened m n l ls (Ok jobs)
-whole_opened m n l ls [] [] e s u = inl (head_is l end_line ls [] e, sym (ap (ended_at n) (tail_is l end_line ls [] e)))
+whole_opened m n l ls [] [] e s u = inl (first_is l end_line ls [] e, sym (ap (ended_at n) (others_are l end_line ls [] e)))
 whole_opened m n l ls (job ∷ jobs) [] e s u = absurd s
 whole_opened m n l ls [] (k ∷ before) e s u = absurd s
 whole_opened m n l ls (job ∷ jobs) (k ∷ before) e s u =
     inr (inr (
       job,
-      subst (λ l. IsJobLine l job) (sym (head_is l k ls (before ++ end_line ∷ []) e)) s.0,
+      subst (λ l. IsJobLine l job) (sym (first_is l k ls (before ++ end_line ∷ []) e)) s.0,
       inr (
         omega (arith, u),
         Ok jobs,
         record {
           before = before;
-          are = tail_is l k ls (before ++ end_line ∷ []) e;
+          are = others_are l k ls (before ++ end_line ∷ []) e;
           stand = s.1;
           few = omega (arith, u);
         },
@@ -117,27 +112,28 @@ here_opened m n m' n' l ls NoEnd p q h = absurd h
 fault_opened : (m n : ℕ) (l : List ℕ) (ls : List (List ℕ)) (f : BatchFault) (before rest : List (List ℕ)) (jobs : List BatchLine) →
     l ∷ ls ≡ before ++ rest → StandFor before jobs →
     m + length jobs ≤ most_jobs → FaultHere (m + length jobs) (n + length before) rest f → Opened m n l ls (Err f)
-fault_opened m n l ls f [] rest [] e s u h =
-    here_opened m n (m + 0) (n + 0) l ls f (omega arith) (omega arith) (subst (λ ls. FaultHere (m + 0) (n + 0) ls f) (sym e) h)
-fault_opened m n l ls f [] rest (job ∷ jobs) e s u h = absurd s
-fault_opened m n l ls f (k ∷ before) rest [] e s u h = absurd s
-fault_opened m n l ls f (k ∷ before) rest (job ∷ jobs) e s u h =
+fault_opened m n l ls f [] rest [] are stand few fault =
+    here_opened m n (m + 0) (n + 0) l ls f (omega arith) (omega arith) (subst (λ ls. FaultHere (m + 0) (n + 0) ls f) (sym are) fault)
+fault_opened m n l ls f [] rest (job ∷ jobs) are stand few fault = absurd stand
+fault_opened m n l ls f (k ∷ before) rest [] are stand few fault = absurd stand
+fault_opened m n l ls f (k ∷ before) rest (job ∷ jobs) are stand few fault =
     let p : m + suc (length jobs) ≡ m + 1 + length jobs = omega arith in
     let q : n + suc (length before) ≡ n + 1 + length before = omega arith in
     inr (inr (
       job,
-      subst (λ l. IsJobLine l job) (sym (head_is l k ls (before ++ rest) e)) s.0,
+      subst (λ l. IsJobLine l job) (sym (first_is l k ls (before ++ rest) are)) stand.0,
       inr (
-        omega (arith, u),
+        omega (arith, few),
         Err f,
         record {
           before = before;
           rest = rest;
           jobs = jobs;
-          are = tail_is l k ls (before ++ rest) e;
-          stand = s.1;
-          few = omega (arith, u);
-          fault = subst (λ k. FaultHere k (n + 1 + length before) rest f) p (subst (λ k. FaultHere (m + suc (length jobs)) k rest f) q h);
+          are = others_are l k ls (before ++ rest) are;
+          stand = stand.1;
+          few = omega (arith, few);
+          fault = subst (λ k. FaultHere k (n + 1 + length before) rest f) p
+              (subst (λ k. FaultHere (m + suc (length jobs)) k rest f) q fault);
         },
         refl,
       ),

@@ -1,7 +1,8 @@
 -- The ends of the jobs one after another, and why they are runs.
 use Rattle.std.proofs.Common.{◌≡◌, ◌≤◌, ◌-◌, ℕ, suc, take, List, [], ◌∷◌, ◌++◌, append_assoc, length, get_or}
-use Rattle.std.proofs.Common.{drop, Option, Some, None, Result, Ok, Err, IfOk, OnOk, refl, sym, ap, ◌∙◌, subst, arith, All}
+use Rattle.std.proofs.Common.{drop, Option, Some, None, Result, Ok, Err, IfOk, OnOk, sym, ap, ◌∙◌, subst, arith, All}
 use Rattle.std.proofs.lemmas.List.Elements.{All-take, All-drop}
+use Rattle.std.proofs.lemmas.List.{take_rest}
 use Rattle.token_pool.specs.declared.ending.Ended.{Ended}
 use Rattle.token_pool.specs.Pools.{Pool}
 use Rattle.token_pool.specs.Ending.{Suits, Finishes, Replays}
@@ -28,10 +29,6 @@ module _ {E : Type 0} (job : BatchJob) (w : ℕ) (p : Pool) (r : Result Ended E)
       ((Suits p job.net job.budget w → ⊥) → IfOk r (Finishes (job_started w job))) → IfOk r (EndsAs o job w)
   ends_as o e same other = subst (λ o. IfOk r (EndsAs o job w)) (sym e) (ends_from r same other)
 
-pub all_taken : {A : Type 0} (xs : List A) → take (length xs) xs ≡ xs
-all_taken [] = refl
-all_taken (x ∷ xs) = ap (λ ys. x ∷ ys) (all_taken xs)
-
 -- the elements behind the first
 abbrev pub others : List BatchJob → List BatchJob
 others xs = take (length xs - 1) (drop 1 xs)
@@ -41,7 +38,7 @@ pub first_and_rest : (xs : List BatchJob) (x : BatchJob) → 1 ≤ length xs →
 first_and_rest [] x l e = absurd (omega (arith, l))
 first_and_rest (y ∷ ys) x l e =
     let n : length ys ≡ suc (length ys) - 1 = omega arith in
-    ap (λ z. z ∷ ys) (sym e) ∙ ap (λ zs. x ∷ zs) (sym (all_taken ys) ∙ ap (λ n. take n ys) n)
+    ap (λ z. z ∷ ys) (sym e) ∙ ap (λ zs. x ∷ zs) (sym (take_rest ys 0) ∙ ap (λ n. take n ys) n)
 
 -- what is so of each element is so of the first
 pub fits_first : (P : BatchJob → Type 0) (xs : List BatchJob) (x : BatchJob) → 1 ≤ length xs → x ≡ get_or xs 0 x → All P xs → P x

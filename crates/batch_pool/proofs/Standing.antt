@@ -12,6 +12,7 @@ use Rattle.token_pool.specs.Pools.{Pool, Holds, Good}
 use Rattle.token_pool.specs.Turns.{taken}
 use Rattle.token_pool.specs.Booking.{BookedAs}
 use Rattle.token_pool.specs.Laws.{StartGood, TakeKeeps, GivesHeld, BookKeeps}
+use Rattle.token_pool.proofs.Holding.{nobody}
 use Rattle.batch_pool.specs.declared.job.BatchJob.{BatchJob}
 use Rattle.batch_pool.specs.declared.pieces.BatchTaken.{BatchTaken}
 use Rattle.batch_pool.specs.declared.pieces.BatchTaken.TheVariants as answer
@@ -138,12 +139,6 @@ module _ (pools : List Pool) (workers : ℕ) (stopped : Bool) (places : List (Op
   -- where it holds nothing, nothing is booked
   pub books_nothing : (m : Passage) → HoldsNowhere pools w → BatchBooks B B w m NothingHeld
   books_nothing m free = (subst (λ (b : Batch). HoldsNowhere b.pools w) v free, refl)
-
--- a list in which nobody holds anything
-nobody : (n w : ℕ) (h : Held) → Holds (replicate n None) w h → ⊥
-nobody zero w h at = absurd cc
-nobody (suc n) zero h at = absurd cc
-nobody (suc n) (suc w) h at = nobody n w h at
 
 none_of : (n w : ℕ) (o : Option ℕ) → slice_get (replicate n None) w ≡ Some o → o ≡ None
 none_of zero w o h = absurd cc

@@ -125,20 +125,21 @@ live_low net sound x (l, S, i, led, here) log B b k live = go (get B.tokens k) r
 -- it goes on by a walk of its least live ticket
 pub grows_walk : (net : NetTree) → Sound net → (x : TokenTree) → Occurs net x → (log : List ℕ) (B C : MapState) (k most n : ℕ) →
     IsLeastLive B k → GoesAlone net B k most n C → Grows net x log B → Grows net x (log ++ replicate n k) C
-grows_walk net sound x occurs log B C k most n h a g =
-    let tickets : replicate n k ≡ map (λ (m : ℕ). k) a.trail = ap (λ n. replicate n k) (sym a.many) ∙ tickets_are k a.trail in
-    let after : MapState = record B { tokens = finmap.insert B.tokens k a.after } in
-    let walked = map_walks net x log B k a.trail a.before a.after g.branched a.live a.walks in
-    let low = live_low net sound x occurs log B g.branched k h.0 in
-    let grown : Grows net x (log ++ map (λ (m : ℕ). k) a.trail) after = record {
+grows_walk net sound x occurs log B C k most n least alone grows =
+    let tickets : replicate n k ≡ map (λ (m : ℕ). k) alone.trail = ap (λ n. replicate n k) (sym alone.many) ∙ tickets_are k alone.trail in
+    let after : MapState = record B { tokens = finmap.insert B.tokens k alone.after } in
+    let walked = map_walks net x log B k alone.trail alone.before alone.after grows.branched alone.live alone.walks in
+    let low = live_low net sound x occurs log B grows.branched k least.0 in
+    let grown : Grows net x (log ++ map (λ (m : ℕ). k) alone.trail) after = record {
       branched = walked;
       given = subst (λ l. All (λ j. j < B.next) (log ++ l)) tickets
-          (All-append (λ j. j < B.next) log (replicate n k) g.given (All-replicate (λ j. j < B.next) n k low));
-      begun = g.begun;
-      least = least_append net log (map (λ (m : ℕ). k) a.trail) (start_map_at x) B g.least g.branched.0
-          (walk_least net a.trail B k a.before a.after a.live a.walks h);
+          (All-append (λ j. j < B.next) log (replicate n k) grows.given (All-replicate (λ j. j < B.next) n k low));
+      begun = grows.begun;
+      least = least_append net log (map (λ (m : ℕ). k) alone.trail) (start_map_at x) B grows.least grows.branched.0
+          (walk_least net alone.trail B k alone.before alone.after alone.live alone.walks least);
     } in
-    subst (λ l. Grows net x (log ++ l) C) (sym tickets) (subst (Grows net x (log ++ map (λ (m : ℕ). k) a.trail)) (sym a.state) grown)
+    subst (λ l. Grows net x (log ++ l) C) (sym tickets) (subst (Grows net x (log ++ map (λ (m : ℕ). k) alone.trail))
+    (sym alone.state) grown)
 
 -- and the ticket is the least live one still
 pub walk_keeps_least : (net : NetTree) (B C : MapState) (k most n : ℕ) → IsLeastLive B k → GoesAlone net B k most n C → IsLeastLive C k

@@ -60,13 +60,13 @@ get_after (b ∷ f) g a (suc i) t l e = get_after f g a i t (omega arith) e
 -- a variable has the type that it had after a term of the right type was put for one of the context's
 subst_var_typed : (i : ℕ) (f g : List TyTree) (n : TermTree) (a t : TyTree) → slice_get (f ++ a ∷ g) i ≡ Some t →
     HasType (f ++ g) n a → HasType (f ++ g) (replaced i (length f) n) t
-subst_var_typed i f g n a t e h = go i e (cases_order i (length f))
+subst_var_typed i f g n a t found typed = go i found (cases_order i (length f))
   where
     go : (i : ℕ) → slice_get (f ++ a ∷ g) i ≡ Some t → (i ≡ length f) ⊎ ((i < length f) ⊎ (length f < i)) →
         HasType (f ++ g) (replaced i (length f) n) t
     go i e (inl q) =
         let at : slice_get (f ++ a ∷ g) (length f) ≡ Some t = subst (λ k. slice_get (f ++ a ∷ g) k ≡ Some t) q e in
-        subst (λ m. HasType (f ++ g) m t) (sym (replaced_here i (length f) n q)) (subst (HasType (f ++ g) n) (get_there f g a t at) h)
+        subst (λ m. HasType (f ++ g) m t) (sym (replaced_here i (length f) n q)) (subst (HasType (f ++ g) n) (get_there f g a t at) typed)
     go i e (inr (inl l)) = subst (λ m. HasType (f ++ g) m t) (sym (replaced_below i (length f) n l)) (get_before f g a i t l e)
     go zero e (inr (inr l)) = absurd (omega arith)
     go (suc i) e (inr (inr l)) = subst (λ m. HasType (f ++ g) m t) (sym (replaced_above i (length f) n (omega arith)))

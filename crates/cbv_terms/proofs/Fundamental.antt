@@ -50,25 +50,27 @@ var_hands a n m s t j cs (w, h, g) =
     (λ x cx k l. subst (Stands a k w) (sym (close_var_zero (cons x s) (suc j))) (stands_less a n k w (s j) l g))
 
 -- a `fun` hands on its closure, if its body hands on what it comes to for each argument that is a result
-lam_hands : (a b : TyTree) (n : ℕ) (m : TermTree) (r s : Env) (t t' : TyTree) (c : TermTree) → AllClosed r → AllClosed s
+lam_hands : (a b : TyTree) (n : ℕ) (m : TermTree) (r s : Env) (continuation argument : TyTree) (c : TermTree) → AllClosed r → AllClosed s
     → ((j : ℕ) → j < n → (x : TermTree) → Closed x → (u : Res) (z : TermTree) → Stands a j u z →
     Good b j (close zero (cons (quote u) r) m) (close zero (cons z (cons x s)) c))
-    → Good (arrow a b) n (lam a (close 1 r m)) (close zero s (lam t (app (var 0) (lam t' c))))
-lam_hands a b n m r s t t' c cr cs h =
-    hands_value (λ k u o. Stands (arrow a b) k u o) n (lam a (close 1 r m)) s t (lam t' c) (closure a (close 1 r m)) cs (1, by_lam)
+    → Good (arrow a b) n (lam a (close 1 r m)) (close zero s (lam continuation (app (var 0) (lam argument c))))
+lam_hands a b n m r s continuation argument c cr cs body =
+    hands_value (λ k u o. Stands (arrow a b) k u o) n (lam a (close 1 r m)) s continuation (lam argument c) (closure a (close 1 r m)) cs
+    (1, by_lam)
     (λ x cx k l.
     let s1 = cons x s in
     let c1 = cons_closed x s cx cs in (
-      close_closed (lam t' c) s1 c1,
+      close_closed (lam argument c) s1 c1,
       (
         a,
         close 1 r m,
         refl,
         close_closed (lam a m) r cr,
         (λ j i u z g.
-            hands_step (λ k u o. Stands b k u o) j (subst_at (close 1 r m) zero (quote u)) (app (close zero s1 (lam t' c)) z)
-            (close zero (cons z s1) c) (enter t' s1 c z c1)
-            (subst (λ y. Good b j y (close zero (cons z s1) c)) (sym (close_subst m zero r (quote u) cr)) (h j (omega arith) x cx u z g))),
+            hands_step (λ k u o. Stands b k u o) j (subst_at (close 1 r m) zero (quote u)) (app (close zero s1 (lam argument c)) z)
+            (close zero (cons z s1) c) (enter argument s1 c z c1)
+            (subst (λ y. Good b j y (close zero (cons z s1) c)) (sym (close_subst m zero r (quote u) cr))
+            (body j (omega arith) x cx u z g))),
       ),
     ))
 
@@ -153,49 +155,49 @@ entries_under n a g m r e s y h k (suc i) b q = k i b q
 -- the translation of a typed term hands on what the term comes to, by induction on the term
 pub term_hands : (m : TermTree) (g : List TyTree) (t : TyTree) (e : ℕ → ℕ) (r s : Env) (n : ℕ) → HasTranslation m →
     HasType g m t → AllClosed r → AllClosed s → Entries n g r e s → Good t n (close zero r m) (close zero s (cps g e m))
-term_hands (num v) g t e r s n k h cr cs en = subst (λ t. Good t n (num v) (close zero s (cps g e (num v)))) (sym h.1)
+term_hands (num v) g t e r s n accepted typed cr cs en = subst (λ t. Good t n (num v) (close zero s (cps g e (num v)))) (sym typed.1)
     (num_hands n v s (continuation_type nat) cs)
-term_hands (var i) g t e r s n k h cr cs en =
+term_hands (var i) g t e r s n accepted typed cr cs en =
     subst (λ y. Good t n y (close zero s (cps g e (var i)))) (sym (close_var_zero r i))
-    (var_hands t n (r i) s (continuation_type (type_at g i)) (e i) cs (en i t h))
-term_hands (succ_of m) g t e r s n k h cr cs en =
-    subst (λ t. Good t n (close zero r (succ_of m)) (close zero s (cps g e (succ_of m)))) (sym h.1)
+    (var_hands t n (r i) s (continuation_type (type_at g i)) (e i) cs (en i t typed))
+term_hands (succ_of m) g t e r s n accepted typed cr cs en =
+    subst (λ t. Good t n (close zero r (succ_of m)) (close zero s (cps g e (succ_of m)))) (sym typed.1)
     (succ_hands (continuation_type nat) n (close zero r m) s (cps g (beside e) m) cs
-    (λ x cx. term_hands m g nat (beside e) r (cons x s) n k h.0 cr (cons_closed x s cx cs) en))
-term_hands (pred_of m) g t e r s n k h cr cs en =
-    subst (λ t. Good t n (close zero r (pred_of m)) (close zero s (cps g e (pred_of m)))) (sym h.1)
+    (λ x cx. term_hands m g nat (beside e) r (cons x s) n accepted typed.0 cr (cons_closed x s cx cs) en))
+term_hands (pred_of m) g t e r s n accepted typed cr cs en =
+    subst (λ t. Good t n (close zero r (pred_of m)) (close zero s (cps g e (pred_of m)))) (sym typed.1)
     (pred_hands (continuation_type nat) n (close zero r m) s (cps g (beside e) m) cs
-    (λ x cx. term_hands m g nat (beside e) r (cons x s) n k h.0 cr (cons_closed x s cx cs) en))
-term_hands (binary o a b) g t e r s n k h cr cs en =
-    subst (λ t. Good t n (close zero r (binary o a b)) (close zero s (cps g e (binary o a b)))) (sym h.2)
+    (λ x cx. term_hands m g nat (beside e) r (cons x s) n accepted typed.0 cr (cons_closed x s cx cs) en))
+term_hands (binary o a b) g t e r s n accepted typed cr cs en =
+    subst (λ t. Good t n (close zero r (binary o a b)) (close zero s (cps g e (binary o a b)))) (sym typed.2)
     (binary_hands o (continuation_type nat) n (close zero r a) (close zero r b) s (cps g (beside e) a) (cps g (beside (beside e)) b) cs
-    (λ x cx. term_hands a g nat (beside e) r (cons x s) n k.0 h.0 cr (cons_closed x s cx cs) en)
-    (λ x y cx cy. term_hands b g nat (beside (beside e)) r (cons y (cons x s)) n k.1 h.1 cr
+    (λ x cx. term_hands a g nat (beside e) r (cons x s) n accepted.0 typed.0 cr (cons_closed x s cx cs) en)
+    (λ x y cx cy. term_hands b g nat (beside (beside e)) r (cons y (cons x s)) n accepted.1 typed.1 cr
     (cons_closed y (cons x s) cy (cons_closed x s cx cs)) en))
-term_hands (ifz c p q) g t e r s n k h cr cs en =
-    subst (λ t. Good t n (close zero r (ifz c p q)) (close zero s (cps g e (ifz c p q)))) (sym h.3)
+term_hands (ifz c p q) g t e r s n accepted typed cr cs en =
+    subst (λ t. Good t n (close zero r (ifz c p q)) (close zero s (cps g e (ifz c p q)))) (sym typed.3)
     (ifz_hands (continuation_type nat) n (close zero r c) (close zero r p) (close zero r q) s (cps g (beside e) c)
     (cps g (beside (beside e)) p) (cps g (beside (beside e)) q) cs
-    (λ x cx. term_hands c g nat (beside e) r (cons x s) n k.0 h.0 cr (cons_closed x s cx cs) en)
-    (λ x y cx cy. term_hands p g nat (beside (beside e)) r (cons y (cons x s)) n k.1 h.1 cr
+    (λ x cx. term_hands c g nat (beside e) r (cons x s) n accepted.0 typed.0 cr (cons_closed x s cx cs) en)
+    (λ x y cx cy. term_hands p g nat (beside (beside e)) r (cons y (cons x s)) n accepted.1 typed.1 cr
     (cons_closed y (cons x s) cy (cons_closed x s cx cs)) en)
-    (λ x y cx cy. term_hands q g nat (beside (beside e)) r (cons y (cons x s)) n k.2 h.2 cr
+    (λ x y cx cy. term_hands q g nat (beside (beside e)) r (cons y (cons x s)) n accepted.2 typed.2 cr
     (cons_closed y (cons x s) cy (cons_closed x s cx cs)) en))
-term_hands (lam a m) g t e r s n k h cr cs en =
-    subst (λ t. Good t n (close zero r (lam a m)) (close zero s (cps g e (lam a m)))) (sym h.2)
-    (lam_hands a h.0 n m r s (continuation_type (type_in g (lam a m))) (value_type a) (cps (a ∷ g) (under (beside e)) m) cr cs
+term_hands (lam a m) g t e r s n accepted typed cr cs en =
+    subst (λ t. Good t n (close zero r (lam a m)) (close zero s (cps g e (lam a m)))) (sym typed.2)
+    (lam_hands a typed.0 n m r s (continuation_type (type_in g (lam a m))) (value_type a) (cps (a ∷ g) (under (beside e)) m) cr cs
     (λ j l x cx u z w.
-    term_hands m (a ∷ g) h.0 (under (beside e)) (cons (quote u) r) (cons z (cons x s)) j k.1 h.1
+    term_hands m (a ∷ g) typed.0 (under (beside e)) (cons (quote u) r) (cons z (cons x s)) j accepted.1 typed.1
     (cons_closed (quote u) r (quote_closed a j u z w) cr) (cons_closed z (cons x s) (stands_closed a j u z w) (cons_closed x s cx cs))
     (entries_under j a g (quote u) r (beside e) (cons x s) z (
       u,
       quote_derived a j u z w,
       w,
     ) (λ i b q. entry_less n j b (r i) (s (e i)) (omega arith) (en i b q)))))
-term_hands (fix (arrow f f') (lam a m)) g t e r s n k h cr cs en =
-    let (b, hm, q) = h.0 in
+term_hands (fix (arrow f f') (lam a m)) g t e r s n accepted typed cr cs en =
+    let (b, hm, q) = typed.0 in
     subst (λ t. Good t n (close zero r (fix (arrow f f') (lam a m))) (close zero s (cps g e (fix (arrow f f') (lam a m)))))
-    (sym (h.1 ∙ q))
+    (sym (typed.1 ∙ q))
     (fix_hands (arrow f f') a b n m r s (continuation_type (arrow f f')) (value_type (arrow f f')) (value_type a)
     (cps (a ∷ arrow f f' ∷ g) (under (under (beside e))) m) cr cs
     (λ x cx j l u z w own.
@@ -209,7 +211,7 @@ term_hands (fix (arrow f f') (lam a m)) g t e r s n k h cr cs en =
     let cw : Closed whole = close_closed (fix (arrow f f') (lam a m)) r cr in
     let own' : Entry j (arrow f f') whole there = subst (λ t. Entry j t whole there) (sym q) own in
     term_hands m (a ∷ arrow f f' ∷ g) b (under (under (beside e))) (cons (quote u) (cons whole r)) (cons z (cons there (cons x s))) j
-    k.2 hm
+    accepted.2 hm
     (cons_closed (quote u) (cons whole r) (quote_closed a j u z w) (cons_closed whole r cw cr))
     (cons_closed z (cons there (cons x s)) (stands_closed a j u z w) (cons_closed there (cons x s) ct c1))
     (entries_under j a (arrow f f' ∷ g) (quote u) (cons whole r) (under (beside e)) (cons there (cons x s)) z (
@@ -219,15 +221,16 @@ term_hands (fix (arrow f f') (lam a m)) g t e r s n k h cr cs en =
     )
     (entries_under j (arrow f f') g whole r (beside e) (cons x s) there own'
     (λ i b q. entry_less n j b (r i) (s (e i)) (omega arith) (en i b q))))))
-term_hands (fix a m) g t e r s n k h cr cs en = elim k [ ]
-term_hands (app f y) g t e r s n k h cr cs en =
-    app_hands h.0 t (continuation_type (result_type (type_in g f))) (value_type (type_in g f)) (value_type (argument_type (type_in g f))) n
+term_hands (fix a m) g t e r s n accepted typed cr cs en = elim accepted [ ]
+term_hands (app f y) g t e r s n accepted typed cr cs en =
+    app_hands typed.0 t (continuation_type (result_type (type_in g f))) (value_type (type_in g f))
+    (value_type (argument_type (type_in g f))) n
     (close zero r f) (close zero r y) s (cps g (beside e) f) (cps g (beside (beside e)) y) cs
-    (λ x cx. term_hands f g (arrow h.0 t) (beside e) r (cons x s) n k.0 h.1 cr (cons_closed x s cx cs) en)
-    (λ x z cx cz. term_hands y g h.0 (beside (beside e)) r (cons z (cons x s)) n k.1 h.2 cr
+    (λ x cx. term_hands f g (arrow typed.0 t) (beside e) r (cons x s) n accepted.0 typed.1 cr (cons_closed x s cx cs) en)
+    (λ x z cx cz. term_hands y g typed.0 (beside (beside e)) r (cons z (cons x s)) n accepted.1 typed.2 cr
     (cons_closed z (cons x s) cz (cons_closed x s cx cs)) en)
-term_hands (pair a b) g t e r s n k h cr cs en = elim k [ ]
-term_hands (proj d a) g t e r s n k h cr cs en = elim k [ ]
+term_hands (pair a b) g t e r s n accepted typed cr cs en = elim accepted [ ]
+term_hands (proj d a) g t e r s n accepted typed cr cs en = elim accepted [ ]
 
 module _ (m : TermTree) (typed : HasType [] m nat) (taken : HasTranslation m) where
   abbrev Blank : Env

@@ -199,24 +199,25 @@ pred_hands t n m s c cs h = record {
 }
 
 -- an operator hands its value on: the translation asks both operands, the left one first, and hands on what the operator comes to
-pub binary_hands : (o : Operator) (t : TyTree) (n : ℕ) (m m' : TermTree) (s : Env) (c c' : TermTree) → AllClosed s
+pub binary_hands : (o : Operator) (continuation : TyTree) (n : ℕ) (m m' : TermTree) (s : Env) (c c' : TermTree) → AllClosed s
     → ((x : TermTree) → Closed x → Good nat n m (close zero (cons x s) c))
     → ((x y : TermTree) → Closed x → Closed y → Good nat n m' (close zero (cons y (cons x s)) c'))
-    → Good nat n (binary o m m') (close zero s (lam t (app c (lam nat (app c' (lam nat (op_k o)))))))
-binary_hands o t n m m' s c c' cs h h' = record {
+    → Good nat n (binary o m m') (close zero s (lam continuation (app c (lam nat (app c' (lam nat (op_k o)))))))
+binary_hands o continuation n m m' s c c' cs first second = record {
   forth = λ i k w l d x cx a f.
       let (r, b, v, u, dm, dn, q, e) = by_binary_inv d in
       let k1 = lam nat (app c' (lam nat (op_k o))) in
       let s1 = cons x s in
       let c1 = cons_closed x s cx cs in
-      fwd (app (close zero s (lam t (app c k1))) x) (app (close zero s1 c) (close zero s1 k1)) (value a) (enter t s (app c k1) x cs)
-      ((h x cx).forth r (b + k) (value v) (two_within i k n r b l q) dm (close zero s1 k1) (close_closed k1 s1 c1) a
+      fwd (app (close zero s (lam continuation (app c k1))) x) (app (close zero s1 c) (close zero s1 k1)) (value a)
+      (enter continuation s (app c k1) x cs)
+      ((first x cx).forth r (b + k) (value v) (two_within i k n r b l q) dm (close zero s1 k1) (close_closed k1 s1 c1) a
       (λ y g.
       let s2 = cons y s1 in
       let c2 = cons_closed y s1 g.0 c1 in
       let k2 = lam nat (op_k o) in
       fwd (app (close zero s1 k1) y) (app (close zero s2 c') (close zero s2 k2)) (value a) (enter nat s1 (app c' k2) y c1)
-      ((h' x y cx g.0).forth b k (value u) (rest_within i k n r b l q) dn (close zero s2 k2) (close_closed k2 s2 c2) a
+      ((second x y cx g.0).forth b k (value u) (rest_within i k n r b l q) dn (close zero s2 k2) (close_closed k2 s2 c2) a
       (λ z g'.
       fwd (app (close zero s2 k2) z) (app x (binary o y z)) (value a) (enter nat s2 (op_k o) z c2)
       (f (binary o y z) (subst (λ w. Stands nat k w (binary o y z)) (sym e)
@@ -226,14 +227,14 @@ binary_hands o t n m m' s c c' cs h h' = record {
       let k2 = lam nat (op_k o) in
       let s1 = cons x s in
       let c1 = cons_closed x s cx cs in
-      let (z, q, d1) = (enter t s (app c k1) x cs).back i (value a) d in
-      let (w, y, j, hm, g, q1, d2) = (h x cx).back z (under_within z i n q l) (close zero s1 k1) (close_closed k1 s1 c1) a d1 in
+      let (z, q, d1) = (enter continuation s (app c k1) x cs).back i (value a) d in
+      let (w, y, j, hm, g, q1, d2) = (first x cx).back z (under_within z i n q l) (close zero s1 k1) (close_closed k1 s1 c1) a d1 in
       let s2 = cons y s1 in
       let c2 = cons_closed y s1 g.0 c1 in
       let (z2, q2, d3) = (enter nat s1 (app c' k2) y c1).back j (value a) d2 in
       let f : z2 < i = falls_once_more i z j z2 q2 q1 q in
       let w2 : z2 ≤ n = under_within z2 i n f l in
-      let (w', y', j', hm', g', q3, d4) = (h' x y cx g.0).back z2 w2 (close zero s2 k2) (close_closed k2 s2 c2) a d3 in
+      let (w', y', j', hm', g', q3, d4) = (second x y cx g.0).back z2 w2 (close zero s2 k2) (close_closed k2 s2 c2) a d3 in
       let (z3, q4, d5) = (enter nat s2 (op_k o) y' c2).back j' (value a) d4 in
       let (u, hu, gu) = binary_result z3 o m m' w w' y y' hm hm' g g' in
       (u, binary o y y', z3, hu, gu, falls_once_more i z2 j' z3 q4 q3 f, d5);
@@ -256,19 +257,19 @@ pub ifz_hands : (t : TyTree) (n : ℕ) (m p q : TermTree) (s : Env) (c cp cq : T
     → ((x y : TermTree) → Closed x → Closed y → Good nat n p (close zero (cons y (cons x s)) cp))
     → ((x y : TermTree) → Closed x → Closed y → Good nat n q (close zero (cons y (cons x s)) cq))
     → Good nat n (ifz m p q) (close zero s (lam t (app c (lam nat (ifz_k cp cq)))))
-ifz_hands t n m p q s c cp cq cs h hp hq = record {
+ifz_hands t n m p q s c cp cq cs test then else = record {
   forth = λ i k w l d x cx a f.
       let (r, b, v, dm, dn, e) = by_ifz_inv d in
       let k1 = lam nat (ifz_k cp cq) in
       let s1 = cons x s in
       let c1 = cons_closed x s cx cs in
       fwd (app (close zero s (lam t (app c k1))) x) (app (close zero s1 c) (close zero s1 k1)) (value a) (enter t s (app c k1) x cs)
-      ((h x cx).forth r (b + k) (value v) (two_within i k n r b l e) dm (close zero s1 k1) (close_closed k1 s1 c1) a
+      ((test x cx).forth r (b + k) (value v) (two_within i k n r b l e) dm (close zero s1 k1) (close_closed k1 s1 c1) a
       (λ y g.
       let s2 = cons y s1 in
       let pc = close zero s2 cp in
       let qc = close zero s2 cq in
-      let left = (at_good v n p q pc qc (hp x y cx g.0) (hq x y cx g.0)).forth b k w (rest_within i k n r b l e) dn x cx a f in
+      let left = (at_good v n p q pc qc (then x y cx g.0) (else x y cx g.0)).forth b k w (rest_within i k n r b l e) dn x cx a f in
       fwd (app (close zero s1 k1) y) (ifz y (app pc x) (app qc x)) (value a) (enter nat s1 (ifz_k cp cq) y c1)
       (ifz_ev y (app pc x) (app qc x) v (value a) (stands_ev (b + k) (value v) y g)
       (subst (λ o. HasEv o (value a)) (sym (at_app v pc qc x)) left))));
@@ -277,7 +278,7 @@ ifz_hands t n m p q s c cp cq cs h hp hq = record {
       let s1 = cons x s in
       let c1 = cons_closed x s cx cs in
       let (z, l1, d1) = (enter t s (app c k1) x cs).back i (value a) d in
-      let (w, y, j, hm, g, l2, d2) = (h x cx).back z (under_within z i n l1 l) (close zero s1 k1) (close_closed k1 s1 c1) a d1 in
+      let (w, y, j, hm, g, l2, d2) = (test x cx).back z (under_within z i n l1 l) (close zero s1 k1) (close_closed k1 s1 c1) a d1 in
       let s2 = cons y s1 in
       let pc = close zero s2 cp in
       let qc = close zero s2 cq in
@@ -285,7 +286,7 @@ ifz_hands t n m p q s c cp cq cs h hp hq = record {
       let (i1, i2, v, dy, db, l4) = ifz_inv d3 in
       let db' = subst (λ o. Ev i2 o (value a)) (at_app v pc qc x) db in
       let f : i2 < i = falls_twice i z2 i2 (part_below z2 i1 i2 l4) (falls_once_more i z j z2 l3 l2 l1) in
-      let good = at_good v n p q pc qc (hp x y cx g.0) (hq x y cx g.0) in
+      let good = at_good v n p q pc qc (then x y cx g.0) (else x y cx g.0) in
       let (w', y', j', hb, g', l5, d4) = good.back i2 (under_within i2 i n f l) x cx a db' in
       (w', y', j', ifz_result j m p q w y v w' hm g (i1, dy) hb, g', falls_twice i i2 j' l5 f, d4);
 }
@@ -323,52 +324,57 @@ app_rest a b t2 s j z2 j1 m m' w w1 x y y1 v c2 cx hm g hm1 g1 l3 l4 d =
     (w2, y2, j2, app_result t' m m' mb w1 w2 (subst (HasEvByValue m) e hm) hm1 hm2, g2, falls_twice j z3 j2 l6 f, d6)
 
 -- an application whose function is at hand
-app_argument : (a b t1 t2 : TyTree) (n : ℕ) (s : Env) (m m' c' : TermTree) (j : ℕ) (w : Res) (x y : TermTree) (v : Val) →
-    AllClosed (cons x s) → Closed x → ((x y : TermTree) → Closed x → Closed y → Good a n m' (close zero (cons y (cons x s)) c'))
-    → j ≤ n → HasEvByValue m w → Stands (arrow a b) j w y
-    → Ev j (app (close zero (cons x s) (lam t1 (app c' (lam t2 app_k)))) y) (value v) → Led b j (app m m') x v
-app_argument a b t1 t2 n s m m' c' j w x y v c1 cx h' l hm g d =
-    let s1 = cons x s in
-    let s2 = cons y s1 in
-    let c2 = cons_closed y s1 g.0 c1 in
+app_argument : (a b t1 t2 : TyTree) (n : ℕ) (s : Env) (m m' code : TermTree) (j : ℕ) (function : Res) (continuation standing : TermTree)
+    (answer : Val) →
+    AllClosed (cons continuation s) → Closed continuation → ((x y : TermTree) → Closed x → Closed y →
+    Good a n m' (close zero (cons y (cons x s)) code))
+    → j ≤ n → HasEvByValue m function → Stands (arrow a b) j function standing
+    → Ev j (app (close zero (cons continuation s) (lam t1 (app code (lam t2 app_k)))) standing) (value answer) →
+    Led b j (app m m') continuation answer
+app_argument a b t1 t2 n s m m' code j function continuation standing answer c1 cx argument within evaluates stands runs =
+    let s1 = cons continuation s in
+    let s2 = cons standing s1 in
+    let c2 = cons_closed standing s1 stands.0 c1 in
     let k2 = lam t2 app_k in
-    let (z2, l3, d3) = (enter t1 s1 (app c' k2) y c1).back j (value v) d in
-    let q : z2 ≤ n = under_within z2 j n l3 l in
-    let (w1, y1, j1, hm1, g1, l4, d4) = (h' x y cx g.0).back z2 q (close zero s2 k2) (close_closed k2 s2 c2) v d3 in
-    app_rest a b t2 s j z2 j1 m m' w w1 x y y1 v c2 cx hm g hm1 g1 l3 l4 d4
+    let (z2, l3, d3) = (enter t1 s1 (app code k2) standing c1).back j (value answer) runs in
+    let q : z2 ≤ n = under_within z2 j n l3 within in
+    let (w1, y1, j1, hm1, g1, l4, d4) = (argument continuation standing cx stands.0).back z2 q (close zero s2 k2)
+    (close_closed k2 s2 c2) answer d3 in
+    app_rest a b t2 s j z2 j1 m m' function w1 continuation standing y1 answer c2 cx evaluates stands hm1 g1 l3 l4 d4
 
 -- the translation of an application hands on what it comes to, if those of the function and of the argument do
-pub app_hands : (a b : TyTree) (t t1 t2 : TyTree) (n : ℕ) (m m' : TermTree) (s : Env) (c c' : TermTree) → AllClosed s
-    → ((x : TermTree) → Closed x → Good (arrow a b) n m (close zero (cons x s) c))
-    → ((x y : TermTree) → Closed x → Closed y → Good a n m' (close zero (cons y (cons x s)) c'))
-    → Good b n (app m m') (close zero s (lam t (app c (lam t1 (app c' (lam t2 app_k))))))
-app_hands a b t t1 t2 n m m' s c c' cs h h' = record {
+pub app_hands : (a b : TyTree) (continuation t1 t2 : TyTree) (n : ℕ) (m m' : TermTree) (s : Env) (code code' : TermTree) → AllClosed s
+    → ((x : TermTree) → Closed x → Good (arrow a b) n m (close zero (cons x s) code))
+    → ((x y : TermTree) → Closed x → Closed y → Good a n m' (close zero (cons y (cons x s)) code'))
+    → Good b n (app m m') (close zero s (lam continuation (app code (lam t1 (app code' (lam t2 app_k))))))
+app_hands a b continuation t1 t2 n m m' s code code' cs function argument = record {
   forth = λ i k w l d x cx v f.
       let (i1, i2, i3, t', mb, w1, df, dx, db, e) = by_app_inv d in
-      let k1 = lam t1 (app c' (lam t2 app_k)) in
+      let k1 = lam t1 (app code' (lam t2 app_k)) in
       let s1 = cons x s in
       let c1 = cons_closed x s cx cs in
-      fwd (app (close zero s (lam t (app c k1))) x) (app (close zero s1 c) (close zero s1 k1)) (value v) (enter t s (app c k1) x cs)
-      ((h x cx).forth i1 (suc (i2 + i3 + k)) (closure t' mb) (three_within i k n i1 i2 i3 l e) df (close zero s1 k1)
+      fwd (app (close zero s (lam continuation (app code k1))) x) (app (close zero s1 code) (close zero s1 k1)) (value v)
+      (enter continuation s (app code k1) x cs)
+      ((function x cx).forth i1 (suc (i2 + i3 + k)) (closure t' mb) (three_within i k n i1 i2 i3 l e) df (close zero s1 k1)
       (close_closed k1 s1 c1) v
       (λ y g.
       let cy = g.0 in
       let s2 = cons y s1 in
       let c2 = cons_closed y s1 cy c1 in
       let k2 = lam t2 app_k in
-      fwd (app (close zero s1 k1) y) (app (close zero s2 c') (close zero s2 k2)) (value v) (enter t1 s1 (app c' k2) y c1)
-      ((h' x y cx cy).forth i2 (i3 + k) w1 (last_within i k n i1 i2 i3 l e) dx (close zero s2 k2) (close_closed k2 s2 c2) v
+      fwd (app (close zero s1 k1) y) (app (close zero s2 code') (close zero s2 k2)) (value v) (enter t1 s1 (app code' k2) y c1)
+      ((argument x y cx cy).forth i2 (i3 + k) w1 (last_within i k n i1 i2 i3 l e) dx (close zero s2 k2) (close_closed k2 s2 c2) v
       (λ z g'.
       fwd (app (close zero s2 k2) z) (app (app y z) x) (value v) (enter t2 s2 app_k z c2)
       ((stands_body a b (suc (i2 + i3 + k)) t' mb y g (i3 + k) (last_less i2 i3 k) w1 z g').forth i3 k w (itself (i3 + k)) db x cx v
       f)))));
   back = λ i l x cx v d.
-      let k1 = lam t1 (app c' (lam t2 app_k)) in
+      let k1 = lam t1 (app code' (lam t2 app_k)) in
       let s1 = cons x s in
       let c1 = cons_closed x s cx cs in
-      let (z, l1, d1) = (enter t s (app c k1) x cs).back i (value v) d in
-      let (w, y, j, hm, g, l2, d2) = (h x cx).back z (under_within z i n l1 l) (close zero s1 k1) (close_closed k1 s1 c1) v d1 in
+      let (z, l1, d1) = (enter continuation s (app code k1) x cs).back i (value v) d in
+      let (w, y, j, hm, g, l2, d2) = (function x cx).back z (under_within z i n l1 l) (close zero s1 k1) (close_closed k1 s1 c1) v d1 in
       let f : j < i = falls_twice i z j l2 l1 in
-      let (w2, y2, j2, hm2, g2, l3, d3) = app_argument a b t1 t2 n s m m' c' j w x y v c1 cx h' (under_within j i n f l) hm g d2 in
+      let (w2, y2, j2, hm2, g2, l3, d3) = app_argument a b t1 t2 n s m m' code' j w x y v c1 cx argument (under_within j i n f l) hm g d2 in
       (w2, y2, j2, hm2, g2, falls_twice i j j2 l3 f, d3);
 }

@@ -87,12 +87,12 @@ hands_step P n m c c' s h = record {
 pub hands_value : (P : ℕ → Res → TermTree → Type 0) (n : ℕ) (m : TermTree) (s : Env) (t : TyTree) (v : TermTree) (w : Res) →
     AllClosed s → HasEvByValue m w → ((x : TermTree) → Closed x → (k : ℕ) → k ≤ n → P k w (close zero (cons x s) v)) →
     Hands P n m (close zero s (lam t (app (var 0) v)))
-hands_value P n m s t v w cs (z, e) p = record {
+hands_value P n m s t v w cs (z, e) stands = record {
   forth = λ i k u l d x cx a f.
       let q : w ≡ u = one_result e d in
       fwd (app (close zero s (lam t (app (var 0) v))) x) (app x (close zero (cons x s) v)) (value a) (enter t s (app (var 0) v) x cs)
-      (f (close zero (cons x s) v) (subst (λ u. P k u (close zero (cons x s) v)) q (p x cx k (omega arith))));
+      (f (close zero (cons x s) v) (subst (λ u. P k u (close zero (cons x s) v)) q (stands x cx k (omega arith))));
   back = λ i l x cx a d.
       let (j, q, g) = (enter t s (app (var 0) v) x cs).back i (value a) d in
-      (w, close zero (cons x s) v, j, (z, e), p x cx j (omega arith), q, g);
+      (w, close zero (cons x s) v, j, (z, e), stands x cx j (omega arith), q, g);
 }

@@ -198,15 +198,15 @@ pub binary_makes : (o : Operator) (old s new : List Binder) (d : ℕ) (a b : Ter
     (app (term_of left.term.value) (lam nat (app (term_of right.term.value) (lam nat (app (var 2) (binary o (var 1) (var 0)))))))
     → known_of made.ty ≡ nat
     → Makes old new (context_of old) (map_of d old) (binary o a b) made
-binary_makes o old s new d a b left right made r h k e q =
-    let k' = moved s old new (d + 2) b right h.binders k in
-    let x = once d old s a left r h in
-    let y = twice d old new b right r k' in
+binary_makes o old s new d a b left right made around first second built typed =
+    let second' = moved s old new (d + 2) b right first.binders second in
+    let x = once d old s a left around first in
+    let y = twice d old new b right around second' in
     record {
-      term = e ∙ (λ j. lam (continuation_type nat)
+      term = built ∙ (λ j. lam (continuation_type nat)
           (app (x j) (lam nat (app (y j) (lam nat (app (var 2) (binary o (var 1) (var 0))))))));
-      typed = q;
-      binders = k'.binders;
+      typed = typed;
+      binders = second'.binders;
     }
 
 -- an `ifz` that is built around the translations of its three parts is the definition's
@@ -219,16 +219,16 @@ pub ifz_makes : (old s1 s2 new : List Binder) (d : ℕ) (c p q : TermTree) (test
     (ifz (var 0) (app (term_of then.term.value) (var 1)) (app (term_of else.term.value) (var 1)))))
     → known_of made.ty ≡ nat
     → Makes old new (context_of old) (map_of d old) (ifz c p q) made
-ifz_makes old s1 s2 new d c p q test then else made r h i j e t =
-    let i' = moved s1 old s2 (d + 2) p then h.binders i in
-    let j' = moved s2 old new (d + 2) q else i'.binders j in
-    let x = once d old s1 c test r h in
-    let y = twice d old s2 p then r i' in
-    let z = twice d old new q else r j' in
+ifz_makes old s1 s2 new d c p q test then else made around tested first second built typed =
+    let first' = moved s1 old s2 (d + 2) p then tested.binders first in
+    let second' = moved s2 old new (d + 2) q else first'.binders second in
+    let x = once d old s1 c test around tested in
+    let y = twice d old s2 p then around first' in
+    let z = twice d old new q else around second' in
     record {
-      term = e ∙ (λ k. lam (continuation_type nat) (app (x k) (lam nat (ifz (var 0) (app (y k) (var 1)) (app (z k) (var 1))))));
-      typed = t;
-      binders = j'.binders;
+      term = built ∙ (λ k. lam (continuation_type nat) (app (x k) (lam nat (ifz (var 0) (app (y k) (var 1)) (app (z k) (var 1))))));
+      typed = typed;
+      binders = second'.binders;
     }
 
 pub function_arrow : (bs new : List Binder) (d : ℕ) (f a : TermTree) (made : Made) → IsReady bs d (context_of bs) (app f a)
@@ -246,16 +246,16 @@ pub app_makes : (old s new : List Binder) (d : ℕ) (f a : TermTree) (function a
     (app (term_of argument.term.value) (lam (value_type (argument_type (known_of function.ty))) (app (app (var 1) (var 0)) (var 2))))))
     → known_of made.ty ≡ result_type (known_of function.ty)
     → Makes old new (context_of old) (map_of d old) (app f a) made
-app_makes old s new d f a function argument made r h k e q =
-    let k' = moved s old new (d + 2) a argument h.binders k in
-    let x = once d old s f function r h in
-    let y = twice d old new a argument r k' in
-    let t = h.typed in
+app_makes old s new d f a function argument made around called handed built typed =
+    let handed' = moved s old new (d + 2) a argument called.binders handed in
+    let x = once d old s f function around called in
+    let y = twice d old new a argument around handed' in
+    let t = called.typed in
     record {
-      term = e ∙ (λ j. lam (continuation_type (result_type (t j)))
+      term = built ∙ (λ j. lam (continuation_type (result_type (t j)))
           (app (x j) (lam (value_type (t j)) (app (y j) (lam (value_type (argument_type (t j))) (app (app (var 1) (var 0)) (var 2)))))));
-      typed = q ∙ ap result_type t;
-      binders = k'.binders;
+      typed = typed ∙ ap result_type t;
+      binders = handed'.binders;
     }
 
 -- the body under a binder that was pushed and taken off again
@@ -274,12 +274,12 @@ pub function_makes : (bs s mid new : List Binder) (b : Binder) (d : ℕ) (a : Ty
     → Makes s mid (a ∷ context_of s) (under (map_of (d + 1) s)) m body → new ≡ bs
     → term_of made ≡ lam (value_type a) (term_of body.term.value)
     → MakesFunction bs new d (ty_of b.ty.now) a m made
-function_makes bs s mid new b d a m body made e l r h n t =
-    let g = ap context_of e ∙ context_pushed bs b in
-    let f = ap (map_of (d + 1)) e ∙ map_pushed d bs b l r in
-    let x : term_of body.term.value ≡ cps (a ∷ ty_of b.ty.now ∷ context_of bs) (under (under (map_of d bs))) m = h.term ∙
+function_makes bs s mid new b d a m body made ends level around inner same built =
+    let g = ap context_of ends ∙ context_pushed bs b in
+    let f = ap (map_of (d + 1)) ends ∙ map_pushed d bs b level around in
+    let x : term_of body.term.value ≡ cps (a ∷ ty_of b.ty.now ∷ context_of bs) (under (under (map_of d bs))) m = inner.term ∙
     (λ k. cps (a ∷ g k) (under (f k)) m) in
-    record { term = t ∙ ap (lam (value_type a)) x; binders = n }
+    record { term = built ∙ ap (lam (value_type a)) x; binders = same }
 
 -- a `fun` that is built around its body's translation is the definition's
 pub fun_makes : (old new : List Binder) (d : ℕ) (a : TyTree) (m : TermTree) (body made : Made) → AreAround d (reverse old)

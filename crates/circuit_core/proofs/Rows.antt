@@ -247,17 +247,17 @@ branch i p q (Number (suc n)) t = refl
 branch i p q Overflow t = refl
 
 -- an answer to a test or from one of its branches
-tests : (i b p q c : ℕ) (v : Val) (w : ℕ) (t : Boxes) → ans_down i (Ifz b p q c) v w [] t ≢ stay →
-    ans_down i (Ifz b p q c) v w [] t ≡ answer_row i (if_at b w (TEST (rises p) (rises q)) (GO (falls c))) v [] t
-tests i b p q c v w t = go (nat_eq b w) (nat_eq p w) (nat_eq q w)
+tests : (i b p q c : ℕ) (v : Val) (w : ℕ) (boxes : Boxes) → ans_down i (Ifz b p q c) v w [] boxes ≢ stay →
+    ans_down i (Ifz b p q c) v w [] boxes ≡ answer_row i (if_at b w (TEST (rises p) (rises q)) (GO (falls c))) v [] boxes
+tests i b p q c v w boxes = go (nat_eq b w) (nat_eq p w) (nat_eq q w)
   where
     go : (x y z : Bool) →
-        or_stay (cond x (solo i (ask (up (at_zero v p q) [] t))) stay)
-        (or_stay (cond y (solo i (ans v (down c [] t))) stay) (cond z (solo i (ans v (down c [] t))) stay)) ≢ stay →
-        or_stay (cond x (solo i (ask (up (at_zero v p q) [] t))) stay)
-        (or_stay (cond y (solo i (ans v (down c [] t))) stay) (cond z (solo i (ans v (down c [] t))) stay))
-        ≡ answer_row i (cond x (TEST (rises p) (rises q)) (GO (falls c))) v [] t
-    go true y z h = branch i p q v t
+        or_stay (cond x (solo i (ask (up (at_zero v p q) [] boxes))) stay)
+        (or_stay (cond y (solo i (ans v (down c [] boxes))) stay) (cond z (solo i (ans v (down c [] boxes))) stay)) ≢ stay →
+        or_stay (cond x (solo i (ask (up (at_zero v p q) [] boxes))) stay)
+        (or_stay (cond y (solo i (ans v (down c [] boxes))) stay) (cond z (solo i (ans v (down c [] boxes))) stay))
+        ≡ answer_row i (cond x (TEST (rises p) (rises q)) (GO (falls c))) v [] boxes
+    go true y z h = branch i p q v boxes
     go false true z h = refl
     go false false true h = refl
     go false false false h = absurd (h refl)

@@ -21,7 +21,8 @@ use Rattle.std.specs.Option.{IsSome}
 use Rattle.std.specs.Result.{OnOk, OnErr}
 use Rattle.pcf_values.specs.declared.val.Val.{Val}
 use Rattle.token_stacks.specs.Signatures.{Boxes}
-use Rattle.token_stacks.specs.Order.{box_eq, box_cmp, box_cmp-total, box_cmp-same}
+use Rattle.token_stacks.specs.Order.{box_eq, box_cmp}
+use Rattle.token_stacks.proofs.BoxOrder.{box_cmp-total, box_cmp-same}
 use Rattle.token_stacks.proofs.WordLaws.{boxes_in_order}
 use Rattle.fork_join.specs.Entries.{Entry, same_key, kept_as, Key, key_cmp}
 use Rattle.fork_join.specs.Arrivals.{IsOpenFor, arrival, with_arrival, after_arrival}

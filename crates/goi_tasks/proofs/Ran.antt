@@ -8,6 +8,7 @@ use Rattle.cbn_meaning.specs.Meaning.{Means}
 use Rattle.net_build.specs.Nets.{NetTree}
 use Rattle.net_build.specs.NetOf.{net_of}
 use Rattle.schedule_log.specs.declared.entry.Entry.{Entry}
+use Rattle.schedule_log.proofs.Taken.{tickets_all}
 use Rattle.demo_text.specs.Demo.{demo_term}
 use Rattle.goi_reports.specs.Forms.{AnswerFits}
 use Rattle.goi_reports.specs.Reports.{run_report, demo_report}
@@ -16,7 +17,7 @@ use Rattle.net_runs.specs.Running.{IsRun, IsFirstWorkers}
 use Rattle.program_runs.specs.declared.calling.Calling.{Calling}
 use Rattle.program_runs.specs.Nets.{RunsAs}
 use Rattle.program_runs.specs.RunsText.{Tells, meaning, net_run, IsProgramRun, RunsText}
-use Rattle.program_runs.proofs.Telling.{tickets_length, run_of}
+use Rattle.program_runs.proofs.Telling.{run_of}
 use Rattle.walk_text.specs.Traces.{trace_text}
 use Rattle.goi_words.specs.declared.jobs.Window.{Window}
 use Rattle.goi_tasks.specs.declared.report.Report.{Report}
@@ -30,7 +31,7 @@ use Rattle.goi_tasks.proofs.Brief.{brief}
 -- a run has no more moves than 32 bits count
 few : (net : NetTree) (workers budget : ℕ) (answer : Option Val) (log : List Entry) → IsBudget budget →
     IsRun net workers budget answer log → length log < 2 ^ 32
-few net workers budget answer log b r = let h = tickets_length log in omega (arith, h, r.finished.0, b.1)
+few net workers budget answer log b r = let h = tickets_all log in omega (arith, h, r.finished.0, b.1)
 
 -- the notes are the lines of what was read
 notes_of : (progress : Bool) (moves : ℕ) (numbers : List ℕ) → NumbersOf progress moves numbers →
@@ -97,7 +98,7 @@ tells_text calling workers budget bytes answer log moves h e = record {
 -- a run has no more moves than a log may have
 pub run_few : (net : NetTree) (workers budget : ℕ) (answer : Option Val) (log : List Entry) → IsBudget budget →
     IsRun net workers budget answer log → length log ≤ most_moves
-run_few net workers budget answer log b r = let h = tickets_length log in omega (arith, h, r.finished.0, b.1)
+run_few net workers budget answer log b r = let h = tickets_all log in omega (arith, h, r.finished.0, b.1)
 
 -- the output of the generated program's run
 pub reports_demo : (n workers : ℕ) (answer : Option Val) (log : List Entry) →

@@ -1,5 +1,5 @@
 -- What a schedule that was run on a program's net says of the program.
-use Rattle.std.proofs.Common.{◌≡◌, ℕ, zero, suc, ◌+◌, ◌≤◌, List, [], ◌∷◌, length, Result, Ok, Err, IfOk, IfErr, IsErrAnd, Option, Some}
+use Rattle.std.proofs.Common.{◌≡◌, ℕ, ◌≤◌, List, [], ◌∷◌, length, Result, Ok, Err, IfOk, IfErr, IsErrAnd, Option, Some}
 use Rattle.std.proofs.Common.{None, refl, sym, ap, ◌∙◌, subst, arith, inl, inr}
 use Rattle.pcf_values.specs.declared.val.Val.{Val}
 use Rattle.pcf_values.specs.Most.{most_moves}
@@ -12,10 +12,12 @@ use Rattle.adequacy_laws.specs.Questions.{Length}
 use Rattle.schedule_log.specs.declared.fault.ScheduleFault.{ScheduleFault}
 use Rattle.schedule_log.specs.declared.fault.ScheduleFault.TheVariants as schedule
 use Rattle.schedule_log.specs.declared.entry.Entry.{Entry}
-use Rattle.schedule_log.specs.Logs.{LogSeen, read_entries, read_log, tickets_in_log}
+use Rattle.schedule_log.specs.Logs.{read_entries, tickets_in_log}
+use Rattle.schedule_log.specs.LogsSeen.{LogSeen, read_log}
+use Rattle.schedule_log.proofs.Texts.{tickets_length}
 use Rattle.walk_text.specs.Traces.{LeadsSomewhere}
 use Rattle.goi_words.specs.declared.jobs.Window.{Window}
-use Rattle.schedule_log.specs.Schedules.{Run, again, tickets_of, moves, IsSchedule, ReadAs}
+use Rattle.schedule_log.specs.Schedules.{IsSchedule, ReadAs}
 use Rattle.replay_check.specs.declared.fault.ReplayFault.{ReplayFault}
 use Rattle.replay_check.specs.declared.fault.ReplayFault.TheVariants as replay
 use Rattle.replay_check.specs.declared.replayed.Replayed.{Replayed}
@@ -33,14 +35,6 @@ use Rattle.goi_tasks.specs.Replaying.{IsReplayed, FaultyReplay, no_moves}
 use Rattle.goi_tasks.specs.Stops.{StopsFor, stop_of_schedule, stop_of_replay}
 use Rattle.goi_tasks.specs.Programs.{FaultyText, FaultyEither}
 use Rattle.goi_tasks.proofs.Texts.{faults_weaker, ground_net}
-
-again_length : (t n : ℕ) (ts : List ℕ) → length (again t n ts) ≡ n + length ts
-again_length t zero ts = omega arith
-again_length t (suc n) ts = let h = again_length t n ts in omega (arith, h)
-
-tickets_length : (rs : List Run) → length (tickets_of rs) ≡ moves rs
-tickets_length [] = refl
-tickets_length (r ∷ rs) = let e = again_length r.ticket r.count (tickets_of rs) in let h = tickets_length rs in omega (arith, e, h)
 
 log_length : (log : List Entry) → length (tickets_in_log log) ≡ length log
 log_length [] = refl

@@ -35,11 +35,11 @@ pub begins : (net : NetTree) (S : MapState) (log : List ℕ) → S ≡ start_map
 begins net S log h z = subst (λ l. RunsAlone net l S) (sym z) (record { leads = ap Some (sym h); ours = refl })
 
 -- what a ticket that is given a token has, and what others have
-given : (f : FinMap nat_cmp TokenTree) (i : ℕ) (y : TokenTree) → get (insert f i y) i ≡ Some y
+pub given : (f : FinMap nat_cmp TokenTree) (i : ℕ) (y : TokenTree) → get (insert f i y) i ≡ Some y
 given f i y = get-insert nat_cmp_total f i y i ∙ ap (λ b. cond b (Some y) (get f i)) (test_nat i i ∙ eq-eqb i i refl)
 
 -- and others have what they had
-not_given : (f : FinMap nat_cmp TokenTree) (i : ℕ) (y : TokenTree) (j : ℕ) → (j ≡ i → ⊥) → get (insert f i y) j ≡ get f j
+pub not_given : (f : FinMap nat_cmp TokenTree) (i : ℕ) (y : TokenTree) (j : ℕ) → (j ≡ i → ⊥) → get (insert f i y) j ≡ get f j
 not_given f i y j d = get-insert nat_cmp_total f i y j ∙ ap (λ b. cond b (Some y) (get f j)) (test_nat j i ∙ ne_eqb j i d)
 
 -- the least live ticket

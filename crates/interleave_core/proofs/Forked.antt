@@ -75,16 +75,17 @@ still_has f f1 i n b r t ((x, here, w, bs), er) fresh h = (
 )
 
 -- the whole fork
-pub forked : (f f1 f2 : FinMap nat_cmp TokenTree) (g g' : FinMap key_cmp Entry) (i n k a b : ℕ) (r : TokenTree) (t : Boxes) →
-    Copies f i b r t → get f n ≡ None
-    → f1 ≡ insert f n r → ((u : Boxes) → HasBoxes f1 i u → f2 ≡ insert f1 i (ask (up a [] u))) →
-    g' ≡ insert g (k, t) pending → ForksTo f f2 g g' i n k a b
-forked f f1 f2 g g' i n k a b r t (s, er) fresh h1 h2 hg =
+pub forked : (tokens added asked : FinMap nat_cmp TokenTree) (entries entries' : FinMap key_cmp Entry) (i n k a b : ℕ) (r : TokenTree)
+    (boxes : Boxes) →
+    Copies tokens i b r boxes → get tokens n ≡ None
+    → added ≡ insert tokens n r → ((u : Boxes) → HasBoxes added i u → asked ≡ insert added i (ask (up a [] u))) →
+    entries' ≡ insert entries (k, boxes) pending → ForksTo tokens asked entries entries' i n k a b
+forked tokens added asked entries entries' i n k a b r boxes (s, er) fresh h1 h2 hg =
     let (x, here, _, _) = s in (
-      t,
+      boxes,
       s,
-      h2 t (still_has f f1 i n b r t (s, er) fresh h1) ∙ ap (λ f. insert f i (ask (up a [] t))) h1 ∙
-          either_first f i n x here fresh (ask (up a [] t)) r ∙ (λ k. insert (insert f i (ask (up a [] t))) n (er k)),
+      h2 boxes (still_has tokens added i n b r boxes (s, er) fresh h1) ∙ ap (λ f. insert f i (ask (up a [] boxes))) h1 ∙
+          either_first tokens i n x here fresh (ask (up a [] boxes)) r ∙ (λ k. insert (insert tokens i (ask (up a [] boxes))) n (er k)),
       hg,
     )
 

@@ -209,15 +209,19 @@ graft_few f g h n m i live begun few gfew count = go (get g 0) refl
             some_cond (Some y) h = refl
 
 -- the state is grafted
-pub grafts : (f g h : Live) (e d c : FinMap key_cmp Entry) (n m i : ℕ) (v w : Option Val) → IsLow f n → IsSome (get f i) → 1 ≤ m →
-    Placed f (finite.remove g 0) n h → ((k : ℕ) (t : Boxes) → finite.get c (k, t) ≡ option_or (finite.get d (k, t)) (finite.get e (k, t))) →
-    Grafts (state f e n v) i (state g d m w) (state (given h i (get g 0)) c (n + (m - 1)) v)
-grafts f g h e d c n m i v w low live begun p joined =
-    let l = below_next f n i low live in
+pub grafts : (host graft joint : Live) (host_entries graft_entries joint_entries : FinMap key_cmp Entry) (n m i : ℕ) (v w : Option Val) →
+    IsLow host n → IsSome (get host i) → 1 ≤ m →
+    Placed host (finite.remove graft 0) n joint → ((k : ℕ) (t : Boxes) →
+    finite.get joint_entries (k, t) ≡ option_or (finite.get graft_entries (k, t)) (finite.get host_entries (k, t))) →
+    Grafts (state host host_entries n v) i (state graft graft_entries m w)
+    (state (given joint i (get graft 0)) joint_entries (n + (m - 1)) v)
+grafts host graft joint host_entries graft_entries joint_entries n m i v w low live begun placed joined =
+    let l = below_next host n i low live in
     record {
-      first = given_here h i (get g 0);
-      others = λ k. given_other h i (get g 0) (n + k) (λ z. omega (arith, l, z)) ∙ p.new k ∙ gone_other g 0 (suc k) (λ z. cc);
-      stays = λ j b d. given_other h i (get g 0) j d ∙ p.old j b;
+      first = given_here joint i (get graft 0);
+      others = λ k. given_other joint i (get graft 0) (n + k) (λ z. omega (arith, l, z)) ∙ placed.new k
+          ∙ gone_other graft 0 (suc k) (λ z. cc);
+      stays = λ j b d. given_other joint i (get graft 0) j d ∙ placed.old j b;
       entries = joined;
       next = omega (arith, begun);
       answered = refl;

@@ -68,10 +68,10 @@ joins_at i o a b c v w t = go (nat_eq a w) (nat_eq b w)
     go false false = refl
 
 -- a test's answer that makes no solo move
-test_stays : (i x y z : ℕ) (a b c : TokenTree) (w : ℕ) →
-    NotSolo (or_stay (if_wire x w (solo i a)) (or_stay (if_wire y w (solo i b)) (if_wire z w (solo i c)))) →
-    or_stay (if_wire x w (solo i a)) (or_stay (if_wire y w (solo i b)) (if_wire z w (solo i c))) ≡ stay
-test_stays i x y z a b c w h = go (nat_eq x w) (nat_eq y w) (nat_eq z w) h
+test_stays : (i x y z : ℕ) (a b c : TokenTree) (wire : ℕ) →
+    NotSolo (or_stay (if_wire x wire (solo i a)) (or_stay (if_wire y wire (solo i b)) (if_wire z wire (solo i c)))) →
+    or_stay (if_wire x wire (solo i a)) (or_stay (if_wire y wire (solo i b)) (if_wire z wire (solo i c))) ≡ stay
+test_stays i x y z a b c wire stays = go (nat_eq x wire) (nat_eq y wire) (nat_eq z wire) stays
   where
     go : (p q r : Bool) → NotSolo (or_stay (cond p (solo i a) stay) (or_stay (cond q (solo i b) stay) (cond r (solo i c) stay))) →
         or_stay (cond p (solo i a) stay) (or_stay (cond q (solo i b) stay) (cond r (solo i c) stay)) ≡ stay

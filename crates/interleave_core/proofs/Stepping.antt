@@ -1,5 +1,6 @@
 -- The step of a state and its name, by the move of the ticket's token.
-use Rattle.std.proofs.Common.{◌≡◌, ℕ, suc, true, false, [], Option, Some, None, refl, sym, ap, ◌∙◌, subst}
+use Rattle.std.proofs.Common.{◌≡◌, ℕ, suc, ◌+◌, true, false, [], Option, Some, None, Result, Ok, Err, OnOk, refl, sym, ap, ◌∙◌, subst}
+use Rattle.std.proofs.Common.{arith}
 use Rattle.std.specs.Option.{IsSome}
 use Rattle.std.specs.Ordering.{nat_cmp}
 use Rattle.std.specs.FinMap.{FinMap, get, remove}
@@ -16,7 +17,8 @@ use Rattle.move_rules.specs.AtNode.{Unaided}
 use Rattle.pcf_values.specs.declared.operator.Operator.{Operator}
 use Rattle.interleave_core.specs.declared.roles.Role.TheVariants.{Fork, Join, Last, Still}
 use Rattle.interleave_core.specs.declared.stepped.Stepped.TheVariants.{Went, Forked, Answered}
-use Rattle.interleave_laws.specs.Maps.{MapState, step_map, step_map_on, act_map, fork_map, join_map}
+use Rattle.interleave_laws.specs.Maps.{MapState, step_map, step_map_on, act_map, fork_map, join_map, IsReachedWithin}
+use Rattle.interleave_laws.proofs.MapLaws.{step_reached, more_reached}
 use Rattle.interleave_core.specs.Names.{step_name, name_on, name_of, name_at, MayTake}
 use Rattle.interleave_core.specs.Forking.{HasBoxes, ForksTo}
 use Rattle.interleave_core.specs.Joining.{JoinsAt, joined_tokens, joined_name}
@@ -175,3 +177,10 @@ module _ (net : NetTree) (f : FinMap nat_cmp TokenTree) (g : FinMap key_cmp Entr
   -- and its name
   pub last_name : (k : ℕ) (u : Val) → MetAt net f i k (Last u) → step_name net (state f g n v) i ≡ Some (Answered u)
   last_name k u (x, e, h, w) = named x (answer u) e h
+
+-- where the step was made, and not for want of memory refused, the state behind it is reached in one move more
+pub reached_ok : {A E : Type 0} (r : Result A E) (net : NetTree) (n m i : ℕ) (S T : MapState) → m ≡ n + 1 →
+    IsReachedWithin net n S →
+    OnOk r (step_map net S i ≡ Some T) → OnOk r (IsReachedWithin net m T)
+reached_ok (Ok x) net n m i S T e h s = more_reached net (suc n) m T (omega arith) (step_reached net n i S T h s)
+reached_ok (Err x) net n m i S T e h s = tt

@@ -262,21 +262,22 @@ ifz_no_join false false true x y z k p q r ex ey ez n op d v w s h = let g : sol
 ifz_no_join false false false x y z k p q r ex ey ez n op d v w s h = cc
 
 -- an answer that joins at an operator is one of that operator's node, by its number and its operator
-operand_node : (i : ℕ) (op' : Operator) (x y c : ℕ) (u : Val) (a : ℕ) (t : Boxes) (n : ℕ) (op : Operator) (d : Side) (v : Val) (w : ℕ)
-    (s : Boxes) → operand_down i op' x y c u a t ≡ join n op d v w s →
-    (x' : ℕ) × (y' : ℕ) × (Binary op' x y c ≡ Binary op x' y' w) × (i ≡ n)
-operand_node i op' x y c u a t n op d v w s h = go (nat_eq x a) (nat_eq y a) h
+operand_node : (i : ℕ) (op' : Operator) (x y c : ℕ) (value : Val) (wire : ℕ) (boxes : Boxes) (n : ℕ) (op : Operator) (side : Side)
+    (operand : Val) (out : ℕ)
+    (boxes' : Boxes) → operand_down i op' x y c value wire boxes ≡ join n op side operand out boxes' →
+    (x' : ℕ) × (y' : ℕ) × (Binary op' x y c ≡ Binary op x' y' out) × (i ≡ n)
+operand_node i op' x y c value wire boxes n op side operand out boxes' joins = go (nat_eq x wire) (nat_eq y wire) joins
   where
-    same : (e : Side) → join i op' e u c t ≡ join n op d v w s → (x' : ℕ) × (y' : ℕ) ×
-        (Binary op' x y c ≡ Binary op x' y' w) × (i ≡ n)
+    same : (e : Side) → join i op' e value c boxes ≡ join n op side operand out boxes' → (x' : ℕ) × (y' : ℕ) ×
+        (Binary op' x y c ≡ Binary op x' y' out) × (i ≡ n)
     same e h =
-        let q : c ≡ w = cc in
+        let q : c ≡ out = cc in
         let o : op' ≡ op = cc in
         let r : i ≡ n = cc in
-        (x, y, ap (Binary op' x y) q ∙ ap (λ o. Binary o x y w) o, r)
+        (x, y, ap (Binary op' x y) q ∙ ap (λ o. Binary o x y out) o, r)
 
-    go : (b e : Bool) → or_stay (cond b (join i op' Left u c t) stay) (cond e (join i op' Right u c t) stay) ≡ join n op d v w
-        s → (x' : ℕ) × (y' : ℕ) × (Binary op' x y c ≡ Binary op x' y' w) × (i ≡ n)
+    go : (b e : Bool) → or_stay (cond b (join i op' Left value c boxes) stay) (cond e (join i op' Right value c boxes) stay)
+        ≡ join n op side operand out boxes' → (x' : ℕ) × (y' : ℕ) × (Binary op' x y c ≡ Binary op x' y' out) × (i ≡ n)
     go true e h = same Left h
     go false true h = same Right h
     go false false h = cc
@@ -448,20 +449,23 @@ abbrev Verdict : Move → Move → Effect → Effect → Effect → Effect → T
 Verdict m l e f e' f' = Clear (reads m) (reads l) ⊎ ((n : ℕ) × (s : Boxes) × Meet n s e f e' f')
 
 -- two effects are of different keys, or join at one entry
-keyed : (net : NetTree) → Sound net → (x y : TokenTree) (E : Entries) (m l : Move) → move net x ≡ m → move net y ≡ l →
+keyed : (net : NetTree) → Sound net → (x y : TokenTree) (entries : Entries) (m second_move : Move) → move net x ≡ m →
+    move net y ≡ second_move →
     (e f e' f' : Effect) →
-    effect_of m E ≡ Some e → effect_of l E ≡ Some f → effect_of l (on_entries e E) ≡ Some f' →
-    effect_of m (on_entries f E) ≡ Some e' → Verdict m l e f e' f'
-keyed net sound x y E (solo k z) l p q e f e' f' a b c d = inl (λ n t h g. cc)
-keyed net sound x y E (answer v) l p q e f e' f' a b c d = cc
-keyed net sound x y E stay l p q e f e' f' a b c d = cc
-keyed net sound x y E (fork n i r s) (solo k z) p q e f e' f' a b c d = inl (λ n t h g. cc)
-keyed net sound x y E (fork n i r s) (answer v) p q e f e' f' a b c d = cc
-keyed net sound x y E (fork n i r s) stay p q e f e' f' a b c d = cc
-keyed net sound x y E (join n op g v w s) (solo k z) p q e f e' f' a b c d = inl (λ n t h g. cc)
-keyed net sound x y E (join n op g v w s) (answer u) p q e f e' f' a b c d = cc
-keyed net sound x y E (join n op g v w s) stay p q e f e' f' a b c d = cc
-keyed net sound x y E (fork n i r s) (fork m i' r' t) p q e f e' f' a b c d = go (same_key m t n s) refl (E n s) a
+    effect_of m entries ≡ Some e → effect_of second_move entries ≡ Some f → effect_of second_move (on_entries e entries) ≡ Some f' →
+    effect_of m (on_entries f entries) ≡ Some e' → Verdict m second_move e f e' f'
+keyed net sound x y entries (solo k z) second_move moves moves' e f e' f' first second second_after first_after = inl (λ n t h g. cc)
+keyed net sound x y entries (answer v) second_move moves moves' e f e' f' first second second_after first_after = cc
+keyed net sound x y entries stay second_move moves moves' e f e' f' first second second_after first_after = cc
+keyed net sound x y entries (fork n i r s) (solo k z) moves moves' e f e' f' first second second_after first_after = inl (λ n t h g. cc)
+keyed net sound x y entries (fork n i r s) (answer v) moves moves' e f e' f' first second second_after first_after = cc
+keyed net sound x y entries (fork n i r s) stay moves moves' e f e' f' first second second_after first_after = cc
+keyed net sound x y entries (join n op g v w s) (solo k z) moves moves' e f e' f' first second second_after first_after =
+    inl (λ n t h g. cc)
+keyed net sound x y entries (join n op g v w s) (answer u) moves moves' e f e' f' first second second_after first_after = cc
+keyed net sound x y entries (join n op g v w s) stay moves moves' e f e' f' first second second_after first_after = cc
+keyed net sound x y entries (fork n i r s) (fork m i' r' t) moves moves' e f e' f' first second second_after first_after =
+    go (same_key m t n s) refl (entries n s) first
   where
     go : (o : Bool) → same_key m t n s ≡ o → (z : Option Entry) → forks n s i r z ≡ Some e →
         Verdict (fork n i r s) (fork m i' r' t) e f e' f'
@@ -470,36 +474,39 @@ keyed net sound x y E (fork n i r s) (fork m i' r' t) p q e f e' f' a b c d = go
     go true o None h =
         let pe : e ≡ opens n s i r = cc in
         let at : at_key e m t ≡ true = ap (λ e. at_key e m t) pe ∙ o in
-        let now : on_entries e E m t ≡ Some pending = entries_here e E m t at ∙ ap new_entry pe in
-        let bad : None ≡ Some f' = sym (ap (forks m t i' r') now) ∙ c in cc
-keyed net sound x y E (fork n i r s) (join m op g v w t) p q e f e' f' a b c d = go (same_key m t n s) refl (E n s) refl a
+        let now : on_entries e entries m t ≡ Some pending = entries_here e entries m t at ∙ ap new_entry pe in
+        let bad : None ≡ Some f' = sym (ap (forks m t i' r') now) ∙ second_after in cc
+keyed net sound x y entries (fork n i r s) (join m op g v w t) moves moves' e f e' f' first second second_after first_after =
+    go (same_key m t n s) refl (entries n s) refl first
   where
-    go : (o : Bool) → same_key m t n s ≡ o → (z : Option Entry) → E n s ≡ z → forks n s i r z ≡ Some e →
+    go : (o : Bool) → same_key m t n s ≡ o → (z : Option Entry) → entries n s ≡ z → forks n s i r z ≡ Some e →
         Verdict (fork n i r s) (join m op g v w t) e f e' f'
     go false o z y h = inl (λ k u a b. clear_keys m t n s o k u b a)
     go true o (Some z) y h = cc
     go true o None y h =
         let (k, k') = key_true m t n s o in
-        let none : E m t ≡ None = ap (λ m. E m t) k ∙ ap (E n) k' ∙ y in
-        let bad : None ≡ Some f = sym (ap (joins m op g v w t) none) ∙ b in cc
-keyed net sound x y E (join n op g v w s) (fork m i r t) p q e f e' f' a b c d = go (same_key n s m t) refl (E m t) refl b
+        let none : entries m t ≡ None = ap (λ m. entries m t) k ∙ ap (entries n) k' ∙ y in
+        let bad : None ≡ Some f = sym (ap (joins m op g v w t) none) ∙ second in cc
+keyed net sound x y entries (join n op g v w s) (fork m i r t) moves moves' e f e' f' first second second_after first_after =
+    go (same_key n s m t) refl (entries m t) refl second
   where
-    go : (o : Bool) → same_key n s m t ≡ o → (z : Option Entry) → E m t ≡ z → forks m t i r z ≡ Some f →
+    go : (o : Bool) → same_key n s m t ≡ o → (z : Option Entry) → entries m t ≡ z → forks m t i r z ≡ Some f →
         Verdict (join n op g v w s) (fork m i r t) e f e' f'
     go false o z y h = inl (λ k u a b. clear_keys n s m t o k u a b)
     go true o (Some z) y h = cc
     go true o None y h =
         let (k, k') = key_true n s m t o in
-        let none : E n s ≡ None = ap (λ n. E n s) k ∙ ap (E m) k' ∙ y in
-        let bad : None ≡ Some e = sym (ap (joins n op g v w s) none) ∙ a in cc
-keyed net sound x y E (join n op g v w s) (join m op' g' v' w' t) p q e f e' f' a b c d = go (same_key m t n s) refl
+        let none : entries n s ≡ None = ap (λ n. entries n s) k ∙ ap (entries m) k' ∙ y in
+        let bad : None ≡ Some e = sym (ap (joins n op g v w s) none) ∙ first in cc
+keyed net sound x y entries (join n op g v w s) (join m op' g' v' w' t) moves moves' e f e' f' first second second_after first_after =
+    go (same_key m t n s) refl
   where
     go : (o : Bool) → same_key m t n s ≡ o → Verdict (join n op g v w s) (join m op' g' v' w' t) e f e' f'
     go false o = inl (λ k u a b. clear_keys m t n s o k u b a)
     go true o =
         let (k, k') = key_true m t n s o in
-        let (a1, a2, st) = join_out net sound x n op g v w s p in
-        let (b1, b2, st') = join_out net sound y m op' g' v' w' t q in
+        let (a1, a2, st) = join_out net sound x n op g v w s moves in
+        let (b1, b2, st') = join_out net sound y m op' g' v' w' t moves' in
         let same : Binary op a1 a2 w ≡ Binary op' b1 b2 w' =
         let e : Some (Binary op a1 a2 w) ≡ Some (Binary op' b1 b2 w') = sym st ∙ ap (slice_get net.nodes) (sym k) ∙
         st' in cc in
@@ -507,13 +514,14 @@ keyed net sound x y E (join n op g v w s) (join m op' g' v' w' t) p q e f e' f' 
         let there : (E : Entries) → joins m op' g' v' w' t (E m t) ≡ joins n op g' v' w s (E n s) =
         λ E. ap (λ m. joins m op' g' v' w' t (E m t)) k ∙ ap (λ t. joins n op' g' v' w' t (E n t)) k' ∙
         ap (λ w. joins n op' g' v' w s (E n s)) (sym z) ∙ ap (λ op. joins n op g' v' w s (E n s)) (sym y) in
-        let b' : joins n op g' v' w s (E n s) ≡ Some f = sym (there E) ∙ b in
-        let ke = joins_at n op g v w s (E n s) e a n s ∙ key_same n s in
-        let kf = joins_at n op g' v' w s (E n s) f b' n s ∙ key_same n s in
-        let c' : joins n op g' v' w s (new_entry e) ≡ Some f' = sym (ap (joins n op g' v' w s) (entries_here e E n s ke)) ∙
-        sym (there (on_entries e E)) ∙ c in
-        let d' : joins n op g v w s (new_entry f) ≡ Some e' = sym (ap (joins n op g v w s) (entries_here f E n s kf)) ∙ d in
-        inr (n, s, two_joins n op s w g g' v v' (E n s) e f e' f' a b' c' d')
+        let second' : joins n op g' v' w s (entries n s) ≡ Some f = sym (there entries) ∙ second in
+        let ke = joins_at n op g v w s (entries n s) e first n s ∙ key_same n s in
+        let kf = joins_at n op g' v' w s (entries n s) f second' n s ∙ key_same n s in
+        let second_after' : joins n op g' v' w s (new_entry e) ≡ Some f' = sym (ap (joins n op g' v' w s) (entries_here e entries n s ke)) ∙
+        sym (there (on_entries e entries)) ∙ second_after in
+        let first_after' : joins n op g v w s (new_entry f) ≡ Some e' =
+        sym (ap (joins n op g v w s) (entries_here f entries n s kf)) ∙ first_after in
+        inr (n, s, two_joins n op s w g g' v v' (entries n s) e f e' f' first second' second_after' first_after')
 
 module _ (net : NetTree) (runs : Runs net) where
   -- a live ticket's effect, where another is live

@@ -128,15 +128,15 @@ tokens_left (closes n s x) i nx f f' g h z j = ap (λ o. or_else o (g j)) (h j) 
 -- and a change of the other side's tokens is one of both
 pub tokens_right : (e : Effect) (i nx : ℕ) (f g g' : Tokens) → ((j : ℕ) → g' j ≡ on_tokens e i nx g j) → f i ≡ None →
     f nx ≡ None → (j : ℕ) → or_else (f j) (g' j) ≡ on_tokens e i nx (λ j. or_else (f j) (g j)) j
-tokens_right (turn x) i nx f g g' h z y j = ap (or_else (f j)) (h j) ∙
-    pull (nat_eq j i) (Some x) (f j) (g j) (λ q. ap f (eqb-true j i q) ∙ z)
-tokens_right (opens n s l r) i nx f g g' h z y j =
-    ap (or_else (f j)) (h j) ∙ pull (nat_eq j nx) (Some (ask r)) (f j) _ (λ q. ap f (eqb-true j nx q) ∙ y)
-    ∙ ap (cond (nat_eq j nx) (Some (ask r))) (pull (nat_eq j i) (Some (ask l)) (f j) (g j) (λ q. ap f (eqb-true j i q) ∙ z))
-tokens_right (keeps n s e) i nx f g g' h z y j = ap (or_else (f j)) (h j) ∙
-    pull (nat_eq j i) None (f j) (g j) (λ q. ap f (eqb-true j i q) ∙ z)
-tokens_right (closes n s x) i nx f g g' h z y j = ap (or_else (f j)) (h j) ∙
-    pull (nat_eq j i) (Some x) (f j) (g j) (λ q. ap f (eqb-true j i q) ∙ z)
+tokens_right (turn x) i nx f g g' changed none none_next j = ap (or_else (f j)) (changed j) ∙
+    pull (nat_eq j i) (Some x) (f j) (g j) (λ q. ap f (eqb-true j i q) ∙ none)
+tokens_right (opens n s l r) i nx f g g' changed none none_next j =
+    ap (or_else (f j)) (changed j) ∙ pull (nat_eq j nx) (Some (ask r)) (f j) _ (λ q. ap f (eqb-true j nx q) ∙ none_next)
+    ∙ ap (cond (nat_eq j nx) (Some (ask r))) (pull (nat_eq j i) (Some (ask l)) (f j) (g j) (λ q. ap f (eqb-true j i q) ∙ none))
+tokens_right (keeps n s e) i nx f g g' changed none none_next j = ap (or_else (f j)) (changed j) ∙
+    pull (nat_eq j i) None (f j) (g j) (λ q. ap f (eqb-true j i q) ∙ none)
+tokens_right (closes n s x) i nx f g g' changed none none_next j = ap (or_else (f j)) (changed j) ∙
+    pull (nat_eq j i) (Some x) (f j) (g j) (λ q. ap f (eqb-true j i q) ∙ none)
 
 module _ (net : NetTree) where
   pub hit_below : (p : Place) (f : Effect) (m : ℕ) (t : Boxes) → at_key f m t ≡ true → EffectBelow net p f → BelowKey net p m t

@@ -1,7 +1,6 @@
 -- No entry is opened twice: a fork asks its left operand, and an entry has one fork, so that the operand would be asked twice.
-use Rattle.std.proofs.Common.{◌≡◌, ℕ, Bool, true, false, cond, List, [], ◌∷◌, ◌++◌, Option, Some, None, refl, sym, ap}
+use Rattle.std.proofs.Common.{◌≡◌, ℕ, List, [], ◌∷◌, ◌++◌, Option, Some, None, refl, sym, ap}
 use Rattle.std.proofs.Common.{◌∙◌, subst, ⊎_elim, inl, inr}
-use Rattle.std.specs.Prelude.{nat_eq}
 use Rattle.pcf_values.specs.declared.val.Val.{Val}
 use Rattle.pcf_values.specs.declared.operator.Operator.{Operator}
 use Rattle.token_stacks.specs.Signatures.{Work, Boxes}
@@ -13,8 +12,9 @@ use Rattle.net_build.specs.declared.node.Node.TheVariants.{Succ, Pred, Ifz, Root
 use Rattle.net_build.specs.Faces.{node_above, node_below}
 use Rattle.move_rules.specs.Places.{Place, up, down, TokenTree, ask, ans}
 use Rattle.move_rules.specs.Table.{on_found, plain_up, plain_down}
-use Rattle.move_rules.specs.Moves.{Look, dead, constant, pass, one, test, two, look, Move, solo, fork, join, answer, stay, solo_at, or_stay}
+use Rattle.move_rules.specs.Moves.{Look, dead, constant, pass, one, test, two, look, Move, solo, fork, join, answer, stay, solo_at}
 use Rattle.move_rules.specs.Moves.{if_wire, ans_down, ask_move, move}
+use Rattle.move_rules.proofs.Either.{wire_so, either_so, operand_so}
 use Rattle.interleave_laws.specs.Start.{start_of}
 use Rattle.interleave_laws.specs.States.{State, start, step}
 use Rattle.interleave_laws.specs.Asked.{asked_by, asked_of, asked_on, asked_in, opened_by, opened_of, opened_on, opened_in, Member, Once}
@@ -34,31 +34,14 @@ no_solo : (i : ℕ) (o : Option Place) (v : Val) → NoFork (solo_at i o (ans v)
 no_solo i None v = tt
 no_solo i (Some p) v = tt
 
-no_wire : (x w : ℕ) (m : Move) → NoFork m → NoFork (if_wire x w m)
-no_wire x w m h = go (nat_eq x w)
-  where
-    go : (b : Bool) → NoFork (cond b m stay)
-    go true = h
-    go false = tt
-
-no_either : (m m' : Move) → NoFork m → NoFork m' → NoFork (or_stay m m')
-no_either stay m' h g = g
-no_either (solo i x) m' h g = tt
-no_either (fork i l r t) m' h g = h
-no_either (join i o s v w t) m' h g = tt
-no_either (answer v) m' h g = tt
-
-no_operand : (a b w : ℕ) (m m' : Move) → NoFork m → NoFork m' → NoFork (or_stay (if_wire a w m) (if_wire b w m'))
-no_operand a b w m m' h g = no_either (if_wire a w m) (if_wire b w m') (no_wire a w m h) (no_wire b w m' g)
-
 -- an answer makes no fork
 no_answer : (i : ℕ) (n : Node) (v : Val) (w : ℕ) (m : Work) (t : Boxes) → NoFork (ans_down i n v w m t)
 no_answer i (Succ a c) v w [] t = tt
 no_answer i (Pred a c) v w [] t = tt
 no_answer i (Ifz b p q c) v w [] t =
-    no_either (if_wire b w (solo i _)) _ (no_wire b w (solo i _) tt)
-    (no_operand p q w (solo i (ans v (down c [] t))) (solo i (ans v (down c [] t))) tt tt)
-no_answer i (Binary o a b c) v w [] t = no_operand a b w _ _ tt tt
+    either_so NoFork tt (if_wire b w (solo i _)) _ (wire_so NoFork tt b w (solo i _) tt)
+    (operand_so NoFork tt p q w (solo i (ans v (down c [] t))) (solo i (ans v (down c [] t))) tt tt)
+no_answer i (Binary o a b c) v w [] t = operand_so NoFork tt a b w _ _ tt tt
 no_answer i (Root c) v w [] t = tt
 no_answer i n v w m t = no_solo i (plain_down n w m t) v
 

@@ -2,6 +2,8 @@
 pub mod Faces
 -- The move of a token is its move at the node that it faces, on every net.
 pub mod Facing
+-- What holds of each of two moves holds of the move that is made of them.
+pub mod Either
 -- A move names the number of its node.
 pub mod Numbers
 -- The plain rules as a relation whose rows can be turned round: the law of retrace.

@@ -1,6 +1,5 @@
 -- A move names the node at which it is made.
-use Rattle.std.proofs.Common.{◌≡◌, ℕ, Bool, true, false, cond, [], Option, Some, None, refl}
-use Rattle.std.specs.Prelude.{nat_eq}
+use Rattle.std.proofs.Common.{◌≡◌, ℕ, [], Option, Some, None, refl}
 use Rattle.pcf_values.specs.declared.val.Val.{Val}
 use Rattle.pcf_values.specs.declared.operator.Operator.{Operator}
 use Rattle.token_stacks.specs.Signatures.{Work, Boxes}
@@ -10,7 +9,8 @@ use Rattle.move_rules.specs.Places.{Place, up, down, TokenTree, ask, ans}
 use Rattle.move_rules.specs.Table.{plain_up, plain_down}
 use Rattle.move_rules.specs.Moves.{Look, dead, constant, pass, one, test, two, pass_at, look_up, Move, solo, fork, join, answer}
 use Rattle.move_rules.specs.AtNode.{look_at, move_at}
-use Rattle.move_rules.specs.Moves.{stay, ask_move, solo_at, or_stay, if_wire, operand_down, ans_down}
+use Rattle.move_rules.specs.Moves.{stay, ask_move, solo_at, operand_down, ans_down}
+use Rattle.move_rules.proofs.Either.{wire_so, either_so, operand_so}
 
 -- what is met has this number
 abbrev LookAt : ℕ → Look → Type 0
@@ -57,27 +57,14 @@ solo_is : (i : ℕ) (o : Option Place) (f : Place → TokenTree) → MoveAt i (s
 solo_is i None f = tt
 solo_is i (Some q) f = refl
 
-or_is : (i : ℕ) (m m' : Move) → MoveAt i m → MoveAt i m' → MoveAt i (or_stay m m')
-or_is i (solo j x) m' h g = h
-or_is i (fork j l r t) m' h g = h
-or_is i (join j o s v w t) m' h g = h
-or_is i (answer v) m' h g = tt
-or_is i stay m' h g = g
-
-if_is : (i x w : ℕ) (m : Move) → MoveAt i m → MoveAt i (if_wire x w m)
-if_is i x w m h = go (nat_eq x w)
-  where
-    go : (b : Bool) → MoveAt i (cond b m stay)
-    go true = h
-    go false = tt
-
 operand_is : (i : ℕ) (o : Operator) (a b c : ℕ) (v : Val) (w : ℕ) (t : Boxes) → MoveAt i (operand_down i o a b c v w t)
-operand_is i o a b c v w t = or_is i _ _ (if_is i a w _ refl) (if_is i b w _ refl)
+operand_is i o a b c v w t = operand_so (MoveAt i) tt a b w _ _ refl refl
 
 ans_down_is : (i : ℕ) (n : Node) (v : Val) (w : ℕ) (m : Work) (t : Boxes) → MoveAt i (ans_down i n v w m t)
 ans_down_is i (Succ a c) v w [] t = refl
 ans_down_is i (Pred a c) v w [] t = refl
-ans_down_is i (Ifz b p q c) v w [] t = or_is i _ _ (if_is i b w _ refl) (or_is i _ _ (if_is i p w _ refl) (if_is i q w _ refl))
+ans_down_is i (Ifz b p q c) v w [] t =
+    either_so (MoveAt i) tt _ _ (wire_so (MoveAt i) tt b w _ refl) (operand_so (MoveAt i) tt p q w _ _ refl refl)
 ans_down_is i (Binary o a b c) v w [] t = operand_is i _ a b c v w t
 ans_down_is i (Root c) v w [] t = tt
 ans_down_is i n v w m t = solo_is i (plain_down n w m t) (ans v)

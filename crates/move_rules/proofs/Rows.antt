@@ -264,33 +264,33 @@ snd_down_row a c _ t q h = cc
 -- and so it is down a premise
 down_row : (n : Node) (w : ℕ) (m : Work) (t : Boxes) (q : Place) → Among w (premises n) → plain_down n w m t ≡ Some q
     → Either n (down w m t) q
-down_row (Con l r c) w m t q a h =
+down_row (Con l r c) w m t q among found =
     ⊎_elim (λ (e, g). at_down _ m t q l w e (con_left_row l r c m t q g))
     (λ (e, g). at_down _ m t q r w e (con_right_row l r c m t q g))
-    (two l r w _ _ q h)
-down_row (Lam b x c) w m t q a h =
+    (two l r w _ _ q found)
+down_row (Lam b x c) w m t q among found =
     ⊎_elim (λ (e, g). at_down _ m t q b w e (got _ _ _ _ g (inr lam_body)))
     (λ (e, g). at_down _ m t q x w e (lam_var_row b x c m t q g))
-    (two b x w _ _ q h)
-down_row (App f x c) w m t q a h =
+    (two b x w _ _ q found)
+down_row (App f x c) w m t q among found =
     ⊎_elim (λ (e, g). at_down _ m t q f w e (app_fun_row f x c m t q g)) (λ (e, g). at_down _ m t q x w e (app_arg_row f x c m t q g))
-    (two f x w _ _ q h)
-down_row (FixBox b x c) w m t q a h =
+    (two f x w _ _ q found)
+down_row (FixBox b x c) w m t q among found =
     ⊎_elim (λ (e, g). at_down _ m t q b w e (fix_out_row b x c m t q g))
     (λ r. ⊎_elim (λ (e, g). at_down _ m t q x w e (fix_var_row b x c m t q g))
     (λ (e, g). at_down _ m t q b w e (fix_back_row b x c m t q g)) (two x b w _ _ q r))
-    (at_first b w _ _ q h)
-down_row (Pair a b c) w m t q z h =
+    (at_first b w _ _ q found)
+down_row (Pair a b c) w m t q among found =
     ⊎_elim (λ (e, g). at_down _ m t q a w e (got _ _ _ _ g (inr pair_left)))
-    (λ (e, g). at_down _ m t q b w e (got _ _ _ _ g (inr pair_right))) (two a b w _ _ q h)
-down_row (Proj Left a c) w m t q (inl e) h = at_down _ m t q a w e (fst_down_row a c m t q h)
-down_row (Proj Right a c) w m t q (inl e) h = at_down _ m t q a w e (snd_down_row a c m t q h)
-down_row (Proj d a c) w m t q (inr e) h = elim e [ ]
-down_row (BoxNode i o) w m t q (inl e) h = at_down _ m t q i w e (box_down_row i o m t q h)
-down_row (Door i o) w m t q (inl e) h = at_down _ m t q i w e (door_down_row i o m t q h)
-down_row (BoxNode i o) w m t q (inr e) h = elim e [ ]
-down_row (Door i o) w m t q (inr e) h = elim e [ ]
-down_row n w m t q a h = cc
+    (λ (e, g). at_down _ m t q b w e (got _ _ _ _ g (inr pair_right))) (two a b w _ _ q found)
+down_row (Proj Left a c) w m t q (inl e) found = at_down _ m t q a w e (fst_down_row a c m t q found)
+down_row (Proj Right a c) w m t q (inl e) found = at_down _ m t q a w e (snd_down_row a c m t q found)
+down_row (Proj d a c) w m t q (inr e) found = elim e [ ]
+down_row (BoxNode i o) w m t q (inl e) found = at_down _ m t q i w e (box_down_row i o m t q found)
+down_row (Door i o) w m t q (inl e) found = at_down _ m t q i w e (door_down_row i o m t q found)
+down_row (BoxNode i o) w m t q (inr e) found = elim e [ ]
+down_row (Door i o) w m t q (inr e) found = elim e [ ]
+down_row n w m t q among found = cc
 
 pub from_found : {A : Type 0} (o : Option (ℕ × Node)) (f : ℕ → Node → Option A) (r : A) → on_found o None f ≡ Some r
     → (i : ℕ) × (n : Node) × (o ≡ Some (i, n)) × (f i n ≡ Some r)

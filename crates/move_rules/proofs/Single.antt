@@ -46,10 +46,10 @@ not_faced net k o h e =
 pub made : (net : NetTree) (k k' : Token) (o : Option Seen) (s : Seen) (b : Bool)
     → option_map numbered o ≡ facing net (place_at k.wire k.up k.stacks) → o ≡ Some s
     → Passes s.node k b k' → b ≡ true → SoloMove net k s k'
-made net k k' o s b h e p t =
-    let f : facing net (place_at k.wire k.up k.stacks) ≡ Some (s.at, s.node) = sym h ∙ ap (option_map numbered) e in
+made net k k' o s b faced found passing passed =
+    let f : facing net (place_at k.wire k.up k.stacks) ≡ Some (s.at, s.node) = sym faced ∙ ap (option_map numbered) found in
     let m : Met net (place_at k.wire k.up k.stacks) s.at s.node = met net _ s.at s.node f in
-    let q : move_at s.at s.node (token_of k) ≡ solo s.at (token_of k') = subst (λ b. Passes s.node k b k') t p s.at in
+    let q : move_at s.at s.node (token_of k) ≡ solo s.at (token_of k') = subst (λ b. Passes s.node k b k') passed passing s.at in
     record {
       stands = m.stands;
       moves = at_met net k s.at s.node f ∙ q;

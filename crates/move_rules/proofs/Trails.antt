@@ -69,20 +69,22 @@ one_walk_from : (net : NetTree) (most : ℕ) (t t' : List Seen) (x y y' : TokenT
     → (at_most : length t ≤ most) → (at_most' : length t' ≤ most)
     → (ends : (length t ≡ most) ⊎ NotSolo (move net y)) → (ends' : (length t' ≡ most) ⊎ NotSolo (move net y'))
     → (t ≡ t') × (y ≡ y')
-one_walk_from net most [] [] x y y' w w' a a' l l' e e' = (refl, sym w ∙ w')
-one_walk_from net most [] (s ∷ t') x y y' w w' a a' l l' (inl e) e' = absurd (omega arith)
-one_walk_from net most [] (s ∷ t') x y y' w (z, m, w') a a' l l' (inr e) e' = elim (subst NotSolo (ap (move net) (sym w) ∙ m) e) [ ]
-one_walk_from net most (s ∷ t) [] x y y' w w' a a' l l' e (inl e') = absurd (omega arith)
-one_walk_from net most (s ∷ t) [] x y y' (z, m, w) w' a a' l l' e (inr e') = elim (subst NotSolo (ap (move net) (sym w') ∙ m) e') [ ]
-one_walk_from net zero (s ∷ t) (s' ∷ t') x y y' w w' a a' l l' e e' = absurd (omega arith)
-one_walk_from net (suc most) (s ∷ t) (s' ∷ t') x y y' (z, m, w) (z', m', w') a a' l l' e e' =
+one_walk_from net most [] [] x y y' walks walks' nodes nodes' at_most at_most' ends ends' = (refl, sym walks ∙ walks')
+one_walk_from net most [] (s ∷ t') x y y' walks walks' nodes nodes' at_most at_most' (inl e) ends' = absurd (omega arith)
+one_walk_from net most [] (s ∷ t') x y y' walks (z, m, w') nodes nodes' at_most at_most' (inr e) ends' =
+    elim (subst NotSolo (ap (move net) (sym walks) ∙ m) e) [ ]
+one_walk_from net most (s ∷ t) [] x y y' walks walks' nodes nodes' at_most at_most' ends (inl e') = absurd (omega arith)
+one_walk_from net most (s ∷ t) [] x y y' (z, m, w) walks' nodes nodes' at_most at_most' ends (inr e') =
+    elim (subst NotSolo (ap (move net) (sym walks') ∙ m) e') [ ]
+one_walk_from net zero (s ∷ t) (s' ∷ t') x y y' walks walks' nodes nodes' at_most at_most' ends ends' = absurd (omega arith)
+one_walk_from net (suc most) (s ∷ t) (s' ∷ t') x y y' (z, m, w) (z', m', w') nodes nodes' at_most at_most' ends ends' =
     let (i, q) = same_solo s.at s'.at z z' (sym m ∙ m') in
     let n : s.node ≡ s'.node =
-    same_node s.node s'.node (sym (All-head (Stands net) s t a) ∙ ap (slice_get net.nodes) i ∙ All-head (Stands net) s' t' a') in
+    same_node s.node s'.node (sym (All-head (Stands net) s t nodes) ∙ ap (slice_get net.nodes) i ∙ All-head (Stands net) s' t' nodes') in
     let (r, k) =
-    one_walk_from net most t t' z y y' w (subst (λ u. Walks net u (numbers t') y') (sym q) w') (All-tail (Stands net) s t a)
-    (All-tail (Stands net) s' t' a')
-    (omega arith) (omega arith) (end_of net (length t) most y e) (end_of net (length t') most y' e') in
+    one_walk_from net most t t' z y y' w (subst (λ u. Walks net u (numbers t') y') (sym q) w') (All-tail (Stands net) s t nodes)
+    (All-tail (Stands net) s' t' nodes')
+    (omega arith) (omega arith) (end_of net (length t) most y ends) (end_of net (length t') most y' ends') in
     (same_cons s s' t t' (seen_is s s' i n) r, k)
 
 pub one_walk : (net : NetTree) (most : ℕ) (m m' : Passage) → m.before ≡ m'.before → Walked net most m → Walked net most m' →

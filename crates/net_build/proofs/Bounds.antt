@@ -116,42 +116,44 @@ unary_fits node t n d p s h f =
     }
 
 -- two operands: their bounds add up, with a contraction for each variable of both at most, and one wire
-double_fits : (node : ℕ → ℕ → ℕ → Node) (t : TyTree) (n d : ℕ) (g : List TyTree) (p q : Part) (s r h k : ℕ) → Fits s h p → Fits r k q
-    → Fits (suc (s + r)) (suc (max h k)) (double_part node t n d g p q)
-double_fits node t n d g p q s r h k f f' =
+double_fits : (node : ℕ → ℕ → ℕ → Node) (t : TyTree) (n d : ℕ) (g : List TyTree) (p q : Part) (many many' high high' : ℕ) →
+    Fits many high p → Fits many' high' q
+    → Fits (suc (many + many')) (suc (max high high')) (double_part node t n d g p q)
+double_fits node t n d g p q many many' high high' first second =
     let m = n + length p.wires + length q.wires in
     let c = contract m d g p.free q.free in
     let w = m + length c.wires in
     let (u, e) = contract_used m d g p.free q.free in
-    let a = above_two s r h k in
+    let a = above_two many many' high high' in
     record {
       wires = omega (
         arith,
-        f.wires,
-        f'.wires,
-        f.free,
-        f'.free,
+        first.wires,
+        second.wires,
+        first.free,
+        second.free,
         length-append p.wires (q.wires ++ (c.wires ++ value_wire d t ∷ [])),
         length-append q.wires (c.wires ++ value_wire d t ∷ []),
         length-append c.wires (value_wire d t ∷ []),
       );
       nodes = omega (
         arith,
-        f.nodes,
-        f'.nodes,
-        f.free,
-        f'.free,
+        first.nodes,
+        second.nodes,
+        first.free,
+        second.free,
         length-append p.nodes (q.nodes ++ (c.nodes ++ node p.out q.out w ∷ [])),
         length-append q.nodes (c.nodes ++ node p.out q.out w ∷ []),
         length-append c.nodes (node p.out q.out w ∷ []),
       );
-      free = omega (arith, f.free, f'.free);
+      free = omega (arith, first.free, second.free);
     }
 
 -- three operands: two contractions for each variable at most, and one wire
-ifz_fits : (n d : ℕ) (g : List TyTree) (x y z : Part) (s r q h k l : ℕ) → Fits s h x → Fits r k y → Fits q l z
-    → Fits (suc (s + r + q)) (suc (max h (max k l))) (ifz_part n d g x y z)
-ifz_fits n d g x y z s r q h k l f f' f'' =
+ifz_fits : (n d : ℕ) (g : List TyTree) (x y z : Part) (many many' many'' high high' high'' : ℕ) → Fits many high x → Fits many' high' y →
+    Fits many'' high'' z
+    → Fits (suc (many + many' + many'')) (suc (max high (max high' high''))) (ifz_part n d g x y z)
+ifz_fits n d g x y z many many' many'' high high' high'' first second third =
     let m = n + length x.wires + length y.wires + length z.wires in
     let i = contract m d g y.free z.free in
     let j = contract (m + length i.wires) d g x.free i.free in
@@ -160,16 +162,16 @@ ifz_fits n d g x y z s r q h k l f f' f'' =
     let node = Ifz x.out y.out z.out w ∷ [] in
     let (u, e) = contract_used m d g y.free z.free in
     let (u', e') = contract_used (m + length i.wires) d g x.free i.free in
-    let a = above_three s r q h k l in
+    let a = above_three many many' many'' high high' high'' in
     record {
       wires = omega (
         arith,
-        f.wires,
-        f'.wires,
-        f''.wires,
-        f.free,
-        f'.free,
-        f''.free,
+        first.wires,
+        second.wires,
+        third.wires,
+        first.free,
+        second.free,
+        third.free,
         length-append x.wires (y.wires ++ (z.wires ++ (i.wires ++ (j.wires ++ last)))),
         length-append y.wires (z.wires ++ (i.wires ++ (j.wires ++ last))),
         length-append z.wires (i.wires ++ (j.wires ++ last)),
@@ -178,19 +180,19 @@ ifz_fits n d g x y z s r q h k l f f' f'' =
       );
       nodes = omega (
         arith,
-        f.nodes,
-        f'.nodes,
-        f''.nodes,
-        f.free,
-        f'.free,
-        f''.free,
+        first.nodes,
+        second.nodes,
+        third.nodes,
+        first.free,
+        second.free,
+        third.free,
         length-append x.nodes (y.nodes ++ (z.nodes ++ (i.nodes ++ (j.nodes ++ node)))),
         length-append y.nodes (z.nodes ++ (i.nodes ++ (j.nodes ++ node))),
         length-append z.nodes (i.nodes ++ (j.nodes ++ node)),
         length-append i.nodes (j.nodes ++ node),
         length-append j.nodes node,
       );
-      free = omega (arith, f.free, f'.free, f''.free);
+      free = omega (arith, first.free, second.free, third.free);
     }
 
 -- a function: at most a wire of its binder, and one
@@ -210,8 +212,9 @@ lam_fits n d b p s h f =
     }
 
 -- a fixed point: at most a wire of its binder, a door for each other variable, and one
-fix_fits : (n d : ℕ) (g : List TyTree) (b : TyTree) (p : Part) (s h : ℕ) → Fits s h p → Fits (suc s) (suc h) (fix_part n d g b p)
-fix_fits n d g b p s h f =
+fix_fits : (n d : ℕ) (g : List TyTree) (b : TyTree) (p : Part) (many high : ℕ) → Fits many high p →
+    Fits (suc many) (suc high) (fix_part n d g b p)
+fix_fits n d g b p many high body =
     let m = n + length p.wires in
     let r = bound m (suc d) b p.free in
     let x = doors (m + length r.wires) d g r.free in
@@ -220,31 +223,31 @@ fix_fits n d g b p s h f =
     let node = FixBox p.out (bound_wire m p.free) w ∷ [] in
     let (u, v, e) = bound_used m (suc d) b p.free in
     let (u', v', e') = doors_used (m + length r.wires) d g r.free in
-    let a = above_one s h in
+    let a = above_one many high in
     record {
       wires = omega (
         arith,
-        f.wires,
-        f.free,
+        body.wires,
+        body.free,
         length-append p.wires (r.wires ++ (x.wires ++ last)),
         length-append r.wires (x.wires ++ last),
         length-append x.wires last,
       );
       nodes = omega (
         arith,
-        f.nodes,
-        f.free,
+        body.nodes,
+        body.free,
         length-append p.nodes (r.nodes ++ (x.nodes ++ node)),
         length-append r.nodes (x.nodes ++ node),
         length-append x.nodes node,
       );
-      free = omega (arith, f.free);
+      free = omega (arith, body.free);
     }
 
 -- an application: a door and a contraction for each variable at most, the box and one wire
-app_fits : (n d : ℕ) (g : List TyTree) (p q : Part) (s r h k : ℕ) → Fits s h p → Fits r k q
-    → Fits (suc (s + r)) (suc (max h k)) (app_part n d g p q)
-app_fits n d g p q s r h k f f' =
+app_fits : (n d : ℕ) (g : List TyTree) (p q : Part) (many many' high high' : ℕ) → Fits many high p → Fits many' high' q
+    → Fits (suc (many + many')) (suc (max high high')) (app_part n d g p q)
+app_fits n d g p q many many' high high' function argument =
     let m = n + length p.wires + length q.wires in
     let x = doors m d g q.free in
     let i = m + length x.wires in
@@ -256,14 +259,14 @@ app_fits n d g p q s r h k f f' =
     let box = BoxNode q.out i in
     let (u, v, e) = doors_used m d g q.free in
     let (u', e') = contract_used (suc i) d g p.free x.free in
-    let a = above_two s r h k in
+    let a = above_two many many' high high' in
     record {
       wires = omega (
         arith,
-        f.wires,
-        f'.wires,
-        f.free,
-        f'.free,
+        function.wires,
+        argument.wires,
+        function.free,
+        argument.free,
         length-append p.wires (q.wires ++ (x.wires ++ (bang ∷ (c.wires ++ last)))),
         length-append q.wires (x.wires ++ (bang ∷ (c.wires ++ last))),
         length-append x.wires (bang ∷ (c.wires ++ last)),
@@ -271,16 +274,16 @@ app_fits n d g p q s r h k f f' =
       );
       nodes = omega (
         arith,
-        f.nodes,
-        f'.nodes,
-        f.free,
-        f'.free,
+        function.nodes,
+        argument.nodes,
+        function.free,
+        argument.free,
         length-append p.nodes (q.nodes ++ (x.nodes ++ (box ∷ (c.nodes ++ node)))),
         length-append q.nodes (x.nodes ++ (box ∷ (c.nodes ++ node))),
         length-append x.nodes (box ∷ (c.nodes ++ node)),
         length-append c.nodes node,
       );
-      free = omega (arith, f.free, f'.free);
+      free = omega (arith, function.free, argument.free);
     }
 
 -- every part is within the bounds of its term's size and height: an induction on the term

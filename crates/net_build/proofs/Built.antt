@@ -390,13 +390,13 @@ double_roots node t n d g p q e h i =
 -- three parts without a root make one without a root
 ifz_roots : (n d : ℕ) (g : List TyTree) (x y z : Part) → roots x.nodes ≡ 0 → roots y.nodes ≡ 0 → roots z.nodes ≡ 0
     → roots (ifz_part n d g x y z).nodes ≡ 0
-ifz_roots n d g x y z h i k =
+ifz_roots n d g x y z first second third =
     let o = n + length x.wires + length y.wires + length z.wires in
     let b = contract o d g y.free z.free in
     let b' = contract (o + length b.wires) d g x.free b.free in
-    both_none x.nodes _ h
-    (both_none y.nodes _ i
-    (both_none z.nodes _ k
+    both_none x.nodes _ first
+    (both_none y.nodes _ second
+    (both_none z.nodes _ third
     (both_none b.nodes _ (contract_roots o d g y.free z.free)
     (both_none b'.nodes _ (contract_roots (o + length b.wires) d g x.free b.free) refl))))
 

@@ -192,15 +192,15 @@ double_counted : (node : ℕ → ℕ → ℕ → Node) (t : TyTree) (n d : ℕ) 
     → ((a b w : ℕ) → (conclusions (node a b w) ≡ w ∷ []) × (premises (node a b w) ≡ a ∷ b ∷ [])) →
     Aligned g p.free → Aligned g q.free → PartCounted n p → PartCounted (n + length p.wires) q → PartCounted n
     (double_part node t n d g p q)
-double_counted node t n d g p q e a b h k =
+double_counted node t n d g p q ends in_context in_context' first second =
     let m = n + length p.wires + length q.wires in
     let c = contract m d g p.free q.free in
     let w = m + length c.wires in
-    let (o, i) = e p.out q.out w in
+    let (o, i) = ends p.out q.out w in
     settle n _ _ _ _ _ _
-    (join n p.wires _ p.nodes _ _ _ _ _ h
-    (join (n + length p.wires) q.wires _ q.nodes _ _ _ _ _ k
-    (join m c.wires _ c.nodes _ _ _ _ _ (contract_counted m d g p.free q.free a b)
+    (join n p.wires _ p.nodes _ _ _ _ _ first
+    (join (n + length p.wires) q.wires _ q.nodes _ _ _ _ _ second
+    (join m c.wires _ c.nodes _ _ _ _ _ (contract_counted m d g p.free q.free in_context in_context')
     (one_node w (value_wire d t) (node p.out q.out w) (p.out ∷ q.out ∷ []) o i))))
     (λ w. omega arith)
 

@@ -44,18 +44,19 @@ after s0 s1 s2 ws ns p r g b =
 pub ending : (s0 s1 s2 : Parts) (b : Bundle) (us : List Loose) (d : ℕ) (t t' : TyTree) (n n' : Node) (r : Placed) → Bundles s0 s1 b us
     → Finishes s1 s2 d t n us r → t ≡ t' → n ≡ n' →
     Builds s0 s2 (end_at (length s0.wires.items) b d t' n') r
-ending s0 s1 s2 b us d t t' n n' r g f et en =
+ending s0 s1 s2 b us d t t' n n' r bundles finishes same_type same_node =
     let h : Grows s1 s2 (value_wire d t' ∷ []) (n' ∷ []) =
-    subst (λ t. Grows s1 s2 (value_wire d t ∷ []) (n' ∷ [])) et (subst (λ n. Grows s1 s2 (value_wire d t ∷ []) (n ∷ [])) en f.grows) in
+    subst (λ t. Grows s1 s2 (value_wire d t ∷ []) (n' ∷ [])) same_type
+    (subst (λ n. Grows s1 s2 (value_wire d t ∷ []) (n ∷ [])) same_node finishes.grows) in
     record {
-      grows = grows_then s0 s1 s2 b.wires (value_wire d t' ∷ []) b.nodes (n' ∷ []) g.grows h;
+      grows = grows_then s0 s1 s2 b.wires (value_wire d t' ∷ []) b.nodes (n' ∷ []) bundles.grows h;
       gives = record {
-        out = f.out ∙ grows_length s0 s1 b.wires b.nodes g.grows;
-        inside = new_inside s1 s2 (value_wire d t') [] (n' ∷ []) r.out h f.out;
+        out = finishes.out ∙ grows_length s0 s1 b.wires b.nodes bundles.grows;
+        inside = new_inside s1 s2 (value_wire d t') [] (n' ∷ []) r.out h finishes.out;
         type =
-            new_type s1 s2 (value_wire d t') [] (n' ∷ []) r.out h f.out;
+            new_type s1 s2 (value_wire d t') [] (n' ∷ []) r.out h finishes.out;
         free =
-            subst (λ l. Spreads (length s0.context.items) b.free l) (sym f.free) g.free;
+            subst (λ l. Spreads (length s0.context.items) b.free l) (sym finishes.free) bundles.free;
       };
     }
 
@@ -109,17 +110,17 @@ double_ending s0 s1 s2 form d r r' us t n x g et en f =
 pub ifz_ending : (s0 s1 s2 s3 : Parts) (d : ℕ) (r r' r'' : Placed) (us vs : List Loose) (n : Node) (x : Placed)
     → Bundles s0 s1 (contract_at s0 d r'.free.items r''.free.items) us → Bundles s1 s2 (contract_at s1 d r.free.items us) vs →
     n ≡ Ifz r.out r'.out r''.out (length s2.wires.items) → Finishes s2 s3 d nat n vs x → Builds s0 s3 (ifz_here s0 d r r' r'') x
-ifz_ending s0 s1 s2 s3 d r r' r'' us vs n x g h en f =
+ifz_ending s0 s1 s2 s3 d r r' r'' us vs n x branches whole en finishes =
     let i = contract_at s0 d r'.free.items r''.free.items in
     let m = length s0.wires.items + length i.wires in
     let j = contract m d (context_of s0.context.items) (frees s0 r) i.free in
-    let e : contract_at s1 d r.free.items us ≡ j = next_contract s0 s1 i us r.free.items d g in
-    let h' : Bundles s1 s2 j vs = subst (λ b. Bundles s1 s2 b vs) e h in
-    let q : length s1.wires.items ≡ m = bundle_wires s0 s1 i us g in
-    let p : length s2.wires.items ≡ m + length j.wires = bundle_wires s1 s2 j vs h' ∙ ap (λ m. m + length j.wires) q in
-    let b = ending s1 s2 s3 j vs d nat nat n (Ifz r.out r'.out r''.out (m + length j.wires)) x h' f refl
+    let e : contract_at s1 d r.free.items us ≡ j = next_contract s0 s1 i us r.free.items d branches in
+    let whole' : Bundles s1 s2 j vs = subst (λ b. Bundles s1 s2 b vs) e whole in
+    let q : length s1.wires.items ≡ m = bundle_wires s0 s1 i us branches in
+    let p : length s2.wires.items ≡ m + length j.wires = bundle_wires s1 s2 j vs whole' ∙ ap (λ m. m + length j.wires) q in
+    let b = ending s1 s2 s3 j vs d nat nat n (Ifz r.out r'.out r''.out (m + length j.wires)) x whole' finishes refl
     (en ∙ ap (λ w. Ifz r.out r'.out r''.out w) p) in
-    after s0 s1 s3 i.wires i.nodes (end_at m j d nat (Ifz r.out r'.out r''.out (m + length j.wires))) x g.grows
+    after s0 s1 s3 i.wires i.nodes (end_at m j d nat (Ifz r.out r'.out r''.out (m + length j.wires))) x branches.grows
     (subst (λ m'. Builds s1 s3 (end_at m' j d nat (Ifz r.out r'.out r''.out (m + length j.wires))) x) q b)
 
 -- the binder's wire, as a bundle
@@ -143,43 +144,43 @@ lam_ending s0 s1 s2 d a t r us y n x g et en f =
 pub fix_ending : (s0 s1 s2 s3 : Parts) (d : ℕ) (a t : TyTree) (r : Placed) (us vs : List Loose) (y : ℕ) (n : Node) (x : Placed)
     → Binds s0 s1 (suc d) a r.free.items us y → Bundles s1 s2 (doors_at s1 d us) vs → t ≡ a →
     n ≡ FixBox r.out y (length s2.wires.items) → Finishes s2 s3 d t n vs x → Builds s0 s3 (fix_here s0 d a r) x
-fix_ending s0 s1 s2 s3 d a t r us vs y n x g h et en f =
+fix_ending s0 s1 s2 s3 d a t r us vs y n x binds enters et en finishes =
     let b = bound (length s0.wires.items) (suc d) a (body_frees s0 r) in
-    let g' = binds_bundle s0 s1 (suc d) a r.free.items us y g in
+    let binds' = binds_bundle s0 s1 (suc d) a r.free.items us y binds in
     let m = length s0.wires.items + length b.wires in
     let e = doors m d (context_of s0.context.items) b.free in
-    let h' : Bundles s1 s2 e vs = subst (λ b. Bundles s1 s2 b vs) (next_doors s0 s1 b us d g') h in
-    let q : length s1.wires.items ≡ m = bundle_wires s0 s1 b us g' in
-    let p : length s2.wires.items ≡ m + length e.wires = bundle_wires s1 s2 e vs h' ∙ ap (λ m. m + length e.wires) q in
+    let enters' : Bundles s1 s2 e vs = subst (λ b. Bundles s1 s2 b vs) (next_doors s0 s1 b us d binds') enters in
+    let q : length s1.wires.items ≡ m = bundle_wires s0 s1 b us binds' in
+    let p : length s2.wires.items ≡ m + length e.wires = bundle_wires s1 s2 e vs enters' ∙ ap (λ m. m + length e.wires) q in
     let node = FixBox r.out (bound_wire (length s0.wires.items) (body_frees s0 r)) (m + length e.wires) in
-    let en' : n ≡ node = en ∙ (λ k. FixBox r.out (g.wire k) (p k)) in
-    let z = ending s1 s2 s3 e vs d t a n node x h' f et en' in
-    after s0 s1 s3 b.wires b.nodes (end_at m e d a node) x g.grows (subst (λ m'. Builds s1 s3 (end_at m' e d a node) x) q z)
+    let en' : n ≡ node = en ∙ (λ k. FixBox r.out (binds.wire k) (p k)) in
+    let z = ending s1 s2 s3 e vs d t a n node x enters' finishes et en' in
+    after s0 s1 s3 b.wires b.nodes (end_at m e d a node) x binds.grows (subst (λ m'. Builds s1 s3 (end_at m' e d a node) x) q z)
 
 -- the end of an application: the box with its doors, then the contractions
-pub app_ending : (s0 s1 s2 s3 : Parts) (d : ℕ) (a t : TyTree) (r r' : Placed) (us vs : List Loose) (o : ℕ) (n : Node) (x : Placed)
+pub app_ending : (s0 s1 s2 s3 : Parts) (d : ℕ) (a t : TyTree) (r r' : Placed) (us vs : List Loose) (box : ℕ) (n : Node) (x : Placed)
     → a ≡ domain (wire_type s0 r.out) → t ≡ codomain (wire_type s0 r.out) →
-    Bundles s0 s1 (box_here s0 d a r') us → o ≡ box_wire s0 d r' → Bundles s1 s2 (contract_at s1 d r.free.items us) vs → n ≡ App r.out o
+    Bundles s0 s1 (box_here s0 d a r') us → box ≡ box_wire s0 d r' → Bundles s1 s2 (contract_at s1 d r.free.items us) vs → n ≡ App r.out box
     (length s2.wires.items) → Finishes s2 s3 d t n vs x →
     Builds s0 s3 (app_here s0 d r r') x
-app_ending s0 s1 s2 s3 d a t r r' us vs o n x ea et g eo h en f =
+app_ending s0 s1 s2 s3 d a t r r' us vs box n x ea et boxed eo shares en finishes =
     let e = doors_at s0 d r'.free.items in
     let ty = wire_type s0 r.out in
     let k = box_here s0 d (domain ty) r' in
     let b = length s0.wires.items + length e.wires in
-    let g' : Bundles s0 s1 k us = subst (λ a. Bundles s0 s1 (box_here s0 d a r') us) ea g in
+    let boxed' : Bundles s0 s1 k us = subst (λ a. Bundles s0 s1 (box_here s0 d a r') us) ea boxed in
     let m : length s0.wires.items + length k.wires ≡ suc b = omega (arith, length-append e.wires (bang_wire d (domain ty) ∷ [])) in
     let c = contract (suc b) d (context_of s0.context.items) (frees s0 r) e.free in
     let e' : contract_at s1 d r.free.items us ≡ c =
-    next_contract s0 s1 k us r.free.items d g' ∙ ap (λ m. contract m d (context_of s0.context.items) (frees s0 r) e.free) m in
-    let h' : Bundles s1 s2 c vs = subst (λ b. Bundles s1 s2 b vs) e' h in
-    let q : length s1.wires.items ≡ suc b = bundle_wires s0 s1 k us g' ∙ m in
-    let p : length s2.wires.items ≡ suc b + length c.wires = bundle_wires s1 s2 c vs h' ∙ ap (λ m. m + length c.wires) q in
+    next_contract s0 s1 k us r.free.items d boxed' ∙ ap (λ m. contract m d (context_of s0.context.items) (frees s0 r) e.free) m in
+    let shares' : Bundles s1 s2 c vs = subst (λ b. Bundles s1 s2 b vs) e' shares in
+    let q : length s1.wires.items ≡ suc b = bundle_wires s0 s1 k us boxed' ∙ m in
+    let p : length s2.wires.items ≡ suc b + length c.wires = bundle_wires s1 s2 c vs shares' ∙ ap (λ m. m + length c.wires) q in
     let node = App r.out b (suc b + length c.wires) in
     let en' : n ≡ node = en ∙ (λ k. App r.out (eo k) (p k)) in
-    let z = ending s1 s2 s3 c vs d t (codomain ty) n node x h' f et en' in
+    let z = ending s1 s2 s3 c vs d t (codomain ty) n node x shares' finishes et en' in
     let z' : Builds s1 s3 (end_at (suc b) c d (codomain ty) node) x = subst (λ m'. Builds s1 s3 (end_at m' c d (codomain ty) node) x) q z in
-    let y = after s0 s1 s3 k.wires k.nodes (end_at (suc b) c d (codomain ty) node) x g'.grows z' in
+    let y = after s0 s1 s3 k.wires k.nodes (end_at (suc b) c d (codomain ty) node) x boxed'.grows z' in
     let aw = append_assoc e.wires (bang_wire d (domain ty) ∷ []) (c.wires ++ value_wire d (codomain ty) ∷ []) in
     let an = append_assoc e.nodes (BoxNode r'.out b ∷ []) (c.nodes ++ node ∷ []) in
     record {

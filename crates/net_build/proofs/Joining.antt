@@ -184,17 +184,17 @@ step_second start now d us vs us' vs' joined u v fuel ws ns l g =
 steps : (start now new : Parts) (d : ℕ) (us vs us' vs' us'' vs'' joined : List Loose) (w : Loose) (fuel : ℕ) (ws : List WireTree)
     (ns : List Node) → Takes now new d us' vs' us'' vs'' w →
     Merging start now d us vs us' vs' joined fuel ws ns → IsMerging start new d us vs us'' vs'' (joined ++ w ∷ [])
-steps start now new d us vs _ _ _ _ joined _ zero ws ns (both u v w us'' vs'' e h) g = absurd (omega (arith, g.enough))
-steps start now new d us vs _ _ _ _ joined _ zero ws ns (first u v us'' vs'' l e) g = absurd (omega (arith, g.enough))
-steps start now new d us vs _ _ _ _ joined _ zero ws ns (second u v us'' vs'' l e) g = absurd (omega (arith, g.enough))
-steps start now new d us vs _ _ _ _ joined _ (suc fuel) ws ns (both u v w us' vs' e h) g =
-    step_both start now new d us vs us' vs' joined u v w fuel ws ns e h g
-steps start now new d us vs _ _ _ _ joined _ (suc fuel) ws ns (first u v us' vs' l e) g =
+steps start now new d us vs _ _ _ _ joined _ zero ws ns (both u v w us'' vs'' e h) merging = absurd (omega (arith, merging.enough))
+steps start now new d us vs _ _ _ _ joined _ zero ws ns (first u v us'' vs'' l e) merging = absurd (omega (arith, merging.enough))
+steps start now new d us vs _ _ _ _ joined _ zero ws ns (second u v us'' vs'' l e) merging = absurd (omega (arith, merging.enough))
+steps start now new d us vs _ _ _ _ joined _ (suc fuel) ws ns (both u v w us' vs' e h) merging =
+    step_both start now new d us vs us' vs' joined u v w fuel ws ns e h merging
+steps start now new d us vs _ _ _ _ joined _ (suc fuel) ws ns (first u v us' vs' l e) merging =
     subst (λ s. IsMerging start s d us vs us' (v ∷ vs') (joined ++ u ∷ [])) (sym e)
-    (step_first start now d us vs us' vs' joined u v fuel ws ns l g)
-steps start now new d us vs _ _ _ _ joined _ (suc fuel) ws ns (second u v us' vs' l e) g =
+    (step_first start now d us vs us' vs' joined u v fuel ws ns l merging)
+steps start now new d us vs _ _ _ _ joined _ (suc fuel) ws ns (second u v us' vs' l e) merging =
     subst (λ s. IsMerging start s d us vs (u ∷ us') vs' (joined ++ v ∷ [])) (sym e)
-    (step_second start now d us vs us' vs' joined u v fuel ws ns l g)
+    (step_second start now d us vs us' vs' joined u v fuel ws ns l merging)
 
 pub merging_steps : (start now new : Parts) (d : ℕ) (us vs us' vs' us'' vs'' joined : List Loose) (w : Loose)
     → Takes now new d us' vs' us'' vs'' w → IsMerging start now d us vs us' vs' joined →

@@ -139,11 +139,12 @@ put_right f d c n k v (u ∷ us) vs e h l =
 -- are left (f bounds them)
 pub merge_contract : (k f d : ℕ) (c : List TyTree) (n : ℕ) (us vs : List Loose) → length us + length vs ≤ f → Falling k us → Falling k vs →
     Same k (contract n d (levels k c) (spread k us) (spread k vs)) (merge f d c n us vs)
-merge_contract zero f d c n (u ∷ us) vs l h i = absurd (omega (arith, h.0))
-merge_contract zero f d c n [] (v ∷ vs) l h i = absurd (omega (arith, i.0))
-merge_contract zero f d c n [] [] l h i =
+merge_contract zero f d c n (u ∷ us) vs enough falling falling' = absurd (omega (arith, falling.0))
+merge_contract zero f d c n [] (v ∷ vs) enough falling falling' = absurd (omega (arith, falling'.0))
+merge_contract zero f d c n [] [] enough falling falling' =
     rw (none_merge f d c n [] (omega arith)) (record { wires = refl; nodes = refl; free = refl; falling = tt })
-merge_contract (suc k) f d c n us vs l h i = go f (merge_contract k) us vs l (top_of k us h) (top_of k vs i)
+merge_contract (suc k) f d c n us vs enough falling falling' =
+    go f (merge_contract k) us vs enough (top_of k us falling) (top_of k vs falling')
   where
     go : (f : ℕ) →
         ((f d : ℕ) (c : List TyTree) (n : ℕ) (us vs : List Loose) → length us + length vs ≤ f → Falling k us → Falling k vs → Same k

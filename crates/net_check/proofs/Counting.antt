@@ -97,10 +97,10 @@ pub past_step : (count k i j : ℕ) (xs nodes : List Node) (d : Node) (least new
     least ≡ past_from k (take i nodes) None → new ≡ lesser_of count (premises (get_or xs i d))
     (lesser_of count (conclusions (get_or xs i d)) least) →
     new ≡ past_from k (take j nodes) None
-past_step count k i j xs nodes d least new e l ej ec h q =
+past_step count k i j xs nodes d least new same inside next counts before after =
     let n = get_or xs i d in
     let more : past_from k (take j xs) None ≡ lesser_of k (premises n) (lesser_of k (conclusions n) (past_from k (take i xs) None)) =
-    rw (ej, take-suc xs i d l) (past_snoc k (take i xs) n None) in
-    q ∙ (λ t. lesser_of (ec t) (premises n) (lesser_of (ec t) (conclusions n) (h t)))
+    rw (next, take-suc xs i d inside) (past_snoc k (take i xs) n None) in
+    after ∙ (λ t. lesser_of (counts t) (premises n) (lesser_of (counts t) (conclusions n) (before t)))
     ∙ sym (subst (λ ns. past_from k (take j ns) None ≡ lesser_of k (premises n)
-    (lesser_of k (conclusions n) (past_from k (take i ns) None))) e more)
+    (lesser_of k (conclusions n) (past_from k (take i ns) None))) same more)

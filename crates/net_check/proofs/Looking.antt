@@ -144,12 +144,12 @@ stands_at xs nodes i d e l = subst (λ ns. slice_get ns i ≡ Some (get_or xs i 
 -- one row more is met
 pub meet_more : (net : NetTree) (i j : ℕ) (n : Node) → MeetBelow net i → slice_get net.nodes i ≡ Some n → TypesMeet net n → DepthsMeet net n
     → j ≡ suc i → MeetBelow net j
-meet_more net i j n h e t d ej m node l em = go (cases_lt m i)
+meet_more net i j n below found types depths next m node less at = go (cases_lt m i)
   where
     go : (m < i) ⊎ (i ≤ m) → TypesMeet net node × DepthsMeet net node
-    go (inl k) = h m node k em
+    go (inl k) = below m node k at
     go (inr k) =
-        let q : m ≡ i = omega (arith, l, ej, k) in
-        let p : Some n ≡ Some node = sym e ∙ ap (slice_get net.nodes) (sym q) ∙ em in
+        let q : m ≡ i = omega (arith, less, next, k) in
+        let p : Some n ≡ Some node = sym found ∙ ap (slice_get net.nodes) (sym q) ∙ at in
         let r : n ≡ node = ap (λ o. unwrap_or o n) p in
-        (subst (TypesMeet net) r t, subst (DepthsMeet net) r d)
+        (subst (TypesMeet net) r types, subst (DepthsMeet net) r depths)

@@ -1,7 +1,7 @@
 -- A node meets its row where it meets both halves of it, and only there.
 use Rattle.std.proofs.Common.{◌≡◌, ℕ, suc, Option, Some, None, Bool, true, false, refl, sym, ap, ◌∙◌}
 use Rattle.std.specs.Prelude.{slice_get, if◌then◌else◌}
-use Rattle.std.specs.Option.{unwrap_or}
+use Rattle.std.proofs.lemmas.Option.{same_Some}
 use Rattle.pcf_values.specs.Terms.{TyTree, nat, arrow, product, at_side}
 use Rattle.net_build.specs.declared.wire.WireKind.{WireKind}
 use Rattle.net_build.specs.declared.wire.WireKind.TheVariants.{Value, Bang, Variable}
@@ -31,9 +31,6 @@ same_kind_self Value = refl
 same_kind_self Bang = refl
 same_kind_self Variable = refl
 
-some_is : {A : Type 0} (a b : A) → Some a ≡ Some b → a ≡ b
-some_is a b e = ap (λ o. unwrap_or o a) e
-
 -- a wire whose type is found under its kind, and whose depth is known, is that wire
 wire_is : (o : Option WireTree) (k : WireKind) (t : TyTree) (d : ℕ) → type_if k o ≡ Some t → depth_in o ≡ Some d
     → o ≡ Some (record { kind = k; depth = d; type = t })
@@ -45,8 +42,8 @@ wire_is (Some w) k t d h i = go (same_kind w.kind k) refl h
     go false e h = cc
     go true e h =
         let ek = same_kind_is w.kind k e in
-        let et = some_is w.type t h in
-        let ed = some_is w.depth d i in
+        let et = same_Some w.type t h in
+        let ed = same_Some w.depth d i in
         λ j. Some (record { kind = ek j; depth = ed j; type = et j })
 
 type_from : (o : Option WireTree) (k : WireKind) (t : TyTree) (d : ℕ) → o ≡ Some (record { kind = k; depth = d; type = t })
@@ -128,7 +125,7 @@ module _ (net : NetTree) where
   meets_both (Con l r w) h i =
       let (t, e, f) = one_has (variable_type net l) (variable_type net r) h.0 in
       let (u, g, k) = one_has (variable_type net l) (variable_type net w) h.1 in
-      let q : u ≡ t = some_is u t (sym g ∙ e) in
+      let q : u ≡ t = same_Some u t (sym g ∙ e) in
       (i.0, t, x l t i.0 e i.1, x r t i.0 f i.2, x w t i.0 (k ∙ ap Some q) i.3)
   meets_both (Weak y) h i = let (t, e) = there_has (variable_type net y) h in (i.0, t, x y t i.0 e i.1)
   meets_both (Lam c y w) h i = let (s, t, e, f, g) =
@@ -144,7 +141,7 @@ module _ (net : NetTree) where
   meets_both (FixBox c y w) h i =
       let (t, e, f) = one_has (value_type net c) (variable_type net y) h.0 in
       let (u, g, k) = one_has (value_type net c) (value_type net w) h.1 in
-      let q : u ≡ t = some_is u t (sym g ∙ e) in
+      let q : u ≡ t = same_Some u t (sym g ∙ e) in
       (i.0, t, v c t (suc i.0) e i.1, x y t (suc i.0) f i.2, v w t i.0 (k ∙ ap Some q) i.3)
   meets_both (Root w) h i = v w nat 0 h i
   meets_both (Pair a c w) h i = let (s, t, e, f, g) =

@@ -75,20 +75,26 @@ doors_loose n d (t ∷ g) (Some x ∷ f) =
 -- contracted lists, the second behind the first
 pub contract_loose : (n d a b : ℕ) (g : List TyTree) (f f' : List (Option ℕ)) → Aligned g f → Aligned g f' → Loose a b f → Loose b n f'
     → a ≤ b → b ≤ n → Loose a (n + length (contract n d g f f').wires) (contract n d g f f').free
-contract_loose n d a b g f f' h h' l l' u v =
-    let c = contract_counted n d g f f' h h' in
+contract_loose n d a b g f f' aligned aligned' first second low high =
+    let c = contract_counted n d g f f' aligned aligned' in
     let ws = (contract n d g f f').wires in
     record {
       once = λ y. elim (cases_lt y n) [
         | inl k ↦ elim (cases_lt y b) [
-          | inl j ↦ omega (arith, c.downs y, made_low n ws y k, l.once y, l'.low y j)
+          | inl j ↦ omega (arith, c.downs y, made_low n ws y k, first.once y, second.low y j)
           | inr j ↦ omega
-              (arith, c.downs y, made_low n ws y k, l'.once y, l.high y j)
+              (arith, c.downs y, made_low n ws y k, second.once y, first.high y j)
         ]
-        | inr k ↦ omega (arith, c.downs y, made_once n ws y, l.high y (omega (arith, v, k)), l'.high y k)
+        | inr k ↦ omega (arith, c.downs y, made_once n ws y, first.high y (omega (arith, high, k)), second.high y k)
       ];
-      low = λ y k. omega (arith, c.downs y, made_low n ws y (omega (arith, k, u, v)), l.low y k, l'.low y (omega (arith, k, u)));
-      high = λ y k. omega (arith, c.downs y, made_high n ws y k, l.high y (omega (arith, k, v)), l'.high y (omega (arith, k)));
+      low = λ y k. omega (
+        arith,
+        c.downs y,
+        made_low n ws y (omega (arith, k, low, high)),
+        first.low y k,
+        second.low y (omega (arith, k, low)),
+      );
+      high = λ y k. omega (arith, c.downs y, made_high n ws y k, first.high y (omega (arith, k, high)), second.high y (omega (arith, k)));
     }
 
 -- both lists together

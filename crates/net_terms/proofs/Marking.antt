@@ -72,29 +72,30 @@ pub inside : (x b k : ℕ) → (b ≤ x → k ≡ 0) → 0 < k → x < b
 inside x b k h p = elim (cases_lt x b) [ inl l ↦ l | inr l ↦ absurd (omega (arith, h l, p)) ]
 
 -- a contraction, for one variable
-shares_one : (around e n l r : ℕ) (nodes ns : List Node) (ms : List Mark) (t : TyTree) (g : List TyTree) (f f' : List (Option ℕ))
-    → (i : Shares around e nodes (Con l r n ∷ ns) ms g f f') → mark_at i.marks n ≡ mark (length g) e →
+shares_one : (around e n l r : ℕ) (nodes ns : List Node) (ms : List Mark) (t : TyTree) (context : List TyTree) (f f' : List (Option ℕ))
+    → (shared : Shares around e nodes (Con l r n ∷ ns) ms context f f') → mark_at shared.marks n ≡ mark (length context) e →
     ((y : ℕ) → (hit l y + ends f y) + (hit r y + ends f' y) ≤ 1) → l < length ms → r < length ms →
-    Shares around e (Con l r n ∷ nodes) ns ms (t ∷ g) (Some l ∷ f) (Some r ∷ f')
-shares_one around e n l r nodes ns ms t g f f' i at_n once inside_l inside_r =
-    let m = mark_at i.marks n in
-    let first = slice_set i.marks l m in
+    Shares around e (Con l r n ∷ nodes) ns ms (t ∷ context) (Some l ∷ f) (Some r ∷ f')
+shares_one around e n l r nodes ns ms t context f f' shared at_n once inside_l inside_r =
+    let m = mark_at shared.marks n in
+    let first = slice_set shared.marks l m in
     let last = slice_set first r m in
-    let stays : (y : ℕ) → hit l y + hit r y ≡ 0 → mark_at last y ≡ mark_at i.marks y =
-    λ y z. set_elsewhere first r y m (omega (arith, z)) ∙ set_elsewhere i.marks l y m (omega (arith, z)) in
+    let stays : (y : ℕ) → hit l y + hit r y ≡ 0 → mark_at last y ≡ mark_at shared.marks y =
+    λ y z. set_elsewhere first r y m (omega (arith, z)) ∙ set_elsewhere shared.marks l y m (omega (arith, z)) in
     record {
       marks = last;
-      passes = i.passes;
+      passes = shared.passes;
       left = (
-        set_elsewhere first r l m (omega (arith, once l, hit_same l)) ∙ set_here i.marks l m (omega (arith, inside_l, i.count)) ∙ at_n,
-        marked_kept e g f i.marks last (λ y p. stays y (omega (arith, p, once y))) i.left,
+        set_elsewhere first r l m (omega (arith, once l, hit_same l)) ∙ set_here shared.marks l m (omega (arith, inside_l, shared.count))
+            ∙ at_n,
+        marked_kept e context f shared.marks last (λ y p. stays y (omega (arith, p, once y))) shared.left,
       );
       right = (
-        set_here first r m (omega (arith, inside_r, i.count, length-set i.marks l m)) ∙ at_n,
-        marked_kept e g f' i.marks last (λ y p. stays y (omega (arith, p, once y))) i.right,
+        set_here first r m (omega (arith, inside_r, shared.count, length-set shared.marks l m)) ∙ at_n,
+        marked_kept e context f' shared.marks last (λ y p. stays y (omega (arith, p, once y))) shared.right,
       );
-      kept = λ y z. stays y (omega (arith, z)) ∙ i.kept y (omega (arith, z));
-      count = length-set first r m ∙ length-set i.marks l m ∙ i.count;
+      kept = λ y z. stays y (omega (arith, z)) ∙ shared.kept y (omega (arith, z));
+      count = length-set first r m ∙ length-set shared.marks l m ∙ shared.count;
     }
 
 -- contractions hand on marks to both sides

@@ -212,108 +212,121 @@ binder_kept : (f : List (Option ℕ)) (ms new : List Mark) (v : ℕ) (m : Mark) 
 binder_kept f ms new v m apart u j = apart v (none_there (hit v v) (ends f v) (hit_same v) u) ∙ set_here ms v m j
 
 -- two operands are read one after the other, behind what they share
-double_read : (ws : List WireTree) (h k around e w o o' : ℕ) (f : TermTree → TermTree → TermTree) (x : Node) (a b : TermTree)
-    (p q c more : List Node) (ms shared new last : List Mark) →
-    (step : (ns : List Node) (ms : List Mark) → reading ws (suc h) k around e w (x ∷ ns) ms ≡ two f (reading ws h k e e o)
-    (reading ws h k e e o' ns ms)) →
-    (passes : pass e e o' (back c (back q (back p more))) ms ≡ pass e e o' (back q (back p more)) shared) →
-    (second : reading ws h k e e o' (back q (back p more)) shared ≡ Some (read b (back p more) new)) →
-    (first : reading ws h k e e o (back p more) new ≡ Some (read a more last)) →
-    reading ws (suc h) k around e w (back (p ++ (q ++ (c ++ x ∷ []))) more) ms ≡ Some (read (f a b) more last)
-double_read ws h k around e w o o' f x a b p q c more ms shared new last step passes second first =
-    let ns = back q (back p more) in
-    ap (λ ns. reading ws (suc h) k around e w ns ms) (back_four p q c x more) ∙ step (back c ns) ms
-    ∙ ap (two f (reading ws h k e e o)) (reading_pass ws h k e e o' e e o' (back c ns) ns ms shared passes ∙ second)
-    ∙ ap (one (λ a. f a b)) first
+double_read : (ws : List WireTree) (h k around e wire out out' : ℕ) (form : TermTree → TermTree → TermTree) (node : Node) (a b : TermTree)
+    (nodes nodes' contractions more : List Node) (ms shared new last : List Mark) →
+    (step : (ns : List Node) (ms : List Mark) → reading ws (suc h) k around e wire (node ∷ ns) ms ≡ two form (reading ws h k e e out)
+    (reading ws h k e e out' ns ms)) →
+    (passes : pass e e out' (back contractions (back nodes' (back nodes more))) ms ≡ pass e e out' (back nodes' (back nodes more)) shared) →
+    (second : reading ws h k e e out' (back nodes' (back nodes more)) shared ≡ Some (read b (back nodes more) new)) →
+    (first : reading ws h k e e out (back nodes more) new ≡ Some (read a more last)) →
+    reading ws (suc h) k around e wire (back (nodes ++ (nodes' ++ (contractions ++ node ∷ []))) more) ms ≡ Some (read (form a b) more last)
+double_read ws h k around e wire out out' form node a b nodes nodes' contractions more ms shared new last step passes second first =
+    let ns = back nodes' (back nodes more) in
+    ap (λ ns. reading ws (suc h) k around e wire ns ms) (back_four nodes nodes' contractions node more) ∙ step (back contractions ns) ms
+    ∙ ap (two form (reading ws h k e e out)) (reading_pass ws h k e e out' e e out' (back contractions ns) ns ms shared passes ∙ second)
+    ∙ ap (one (λ a. form a b)) first
 
 -- so are three, of which two share first
-ifz_read : (ws : List WireTree) (h k around e w o o' o'' : ℕ) (a b b' : TermTree) (c p q i j more : List Node)
+ifz_read : (ws : List WireTree) (h k around e w out out' out'' : ℕ) (a b b' : TermTree)
+    (cs ps qs near far more : List Node)
     (ms shared shared' new new' last : List Mark) →
-    (passes : pass e e o'' (back j (back i (back q (back p (back c more))))) ms
-    ≡ pass e e o'' (back i (back q (back p (back c more)))) shared) →
-    (passes' : pass e e o'' (back i (back q (back p (back c more)))) shared ≡ pass e e o'' (back q (back p (back c more))) shared') →
-    (third : reading ws h k e e o'' (back q (back p (back c more))) shared' ≡ Some (read b' (back p (back c more)) new)) →
-    (second : reading ws h k e e o' (back p (back c more)) new ≡ Some (read b (back c more) new')) →
-    (first : reading ws h k e e o (back c more) new' ≡ Some (read a more last)) →
-    reading ws (suc h) k around e w (back (c ++ (p ++ (q ++ (i ++ (j ++ Ifz o o' o'' w ∷ []))))) more) ms
+    (passes : pass e e out'' (back far (back near (back qs (back ps (back cs more))))) ms
+    ≡ pass e e out'' (back near (back qs (back ps (back cs more)))) shared) →
+    (passes' : pass e e out'' (back near (back qs (back ps (back cs more)))) shared
+    ≡ pass e e out'' (back qs (back ps (back cs more))) shared') →
+    (third : reading ws h k e e out'' (back qs (back ps (back cs more))) shared'
+    ≡ Some (read b' (back ps (back cs more)) new)) →
+    (second : reading ws h k e e out' (back ps (back cs more)) new ≡ Some (read b (back cs more) new')) →
+    (first : reading ws h k e e out (back cs more) new' ≡ Some (read a more last)) →
+    reading ws (suc h) k around e w (back (cs ++ (ps ++ (qs ++ (near ++ (far ++ Ifz out out' out'' w ∷ []))))) more) ms
     ≡ Some (read (ifz a b b') more last)
-ifz_read ws h k around e w o o' o'' a b b' c p q i j more ms shared shared' new new' last passes passes' third second first =
-    let ns = back q (back p (back c more)) in
-    ap (λ ns. reading ws (suc h) k around e w ns ms) (back_six c p q i j (Ifz o o' o'' w) more)
-    ∙ same_met w (three ifz (reading ws h k e e o) (reading ws h k e e o') (reading ws h k e e o'' (back j (back i ns)) ms))
-    ∙ ap (three ifz (reading ws h k e e o) (reading ws h k e e o'))
-    (reading_pass ws h k e e o'' e e o'' (back j (back i ns)) ns ms shared' (passes ∙ passes') ∙ third)
-    ∙ ap (two (λ c p. ifz c p b') (reading ws h k e e o)) second ∙ ap (one (λ c. ifz c b b')) first
+ifz_read ws h k around e w out out' out'' a b b' cs ps qs near far more ms shared shared' new new' last passes passes' third second first =
+    let ns = back qs (back ps (back cs more)) in
+    ap (λ ns. reading ws (suc h) k around e w ns ms) (back_six cs ps qs near far (Ifz out out' out'' w) more)
+    ∙ same_met w (three ifz (reading ws h k e e out) (reading ws h k e e out')
+    (reading ws h k e e out'' (back far (back near ns)) ms))
+    ∙ ap (three ifz (reading ws h k e e out) (reading ws h k e e out'))
+    (reading_pass ws h k e e out'' e e out'' (back far (back near ns)) ns ms shared' (passes ∙ passes') ∙ third)
+    ∙ ap (two (λ c p. ifz c p b') (reading ws h k e e out)) second ∙ ap (one (λ c. ifz c b b')) first
 
 -- a body is read under a binder
-lam_read : (ws : List WireTree) (h k around e w o v : ℕ) (a : TyTree) (m : TermTree) (p b more : List Node) (ms last : List Mark) →
-    (shown : domain (type_at ws w) ≡ a) →
-    (weak : pass e e o (back b (back p more)) (slice_set ms v (mark k e)) ≡ pass e e o (back p more) (slice_set ms v (mark k e))) →
-    (body : reading ws h (suc k) e e o (back p more) (slice_set ms v (mark k e)) ≡ Some (read m more last)) →
-    reading ws (suc h) k around e w (back (p ++ (b ++ Lam o v w ∷ [])) more) ms ≡ Some (read (lam a m) more last)
-lam_read ws h k around e w o v a m p b more ms last shown weak body =
-    let ns = back p more in
-    let ms' = slice_set ms v (mark k e) in
-    ap (λ ns. reading ws (suc h) k around e w ns ms) (back_three p b (Lam o v w) more)
-    ∙ same_met w (one (lam (domain (type_at ws w))) (reading ws h (suc k) e e o (back b ns) ms'))
-    ∙ ap (λ t. one (lam t) (reading ws h (suc k) e e o (back b ns) ms')) shown
-    ∙ ap (one (lam a)) (reading_pass ws h (suc k) e e o e e o (back b ns) ns ms' ms' weak ∙ body)
+lam_read : (ws : List WireTree) (h k around e wire out binder : ℕ) (a : TyTree) (m : TermTree) (nodes weakening more : List Node)
+    (ms last : List Mark) →
+    (shown : domain (type_at ws wire) ≡ a) →
+    (weak : pass e e out (back weakening (back nodes more)) (slice_set ms binder (mark k e))
+    ≡ pass e e out (back nodes more) (slice_set ms binder (mark k e))) →
+    (body : reading ws h (suc k) e e out (back nodes more) (slice_set ms binder (mark k e)) ≡ Some (read m more last)) →
+    reading ws (suc h) k around e wire (back (nodes ++ (weakening ++ Lam out binder wire ∷ [])) more) ms ≡ Some (read (lam a m) more last)
+lam_read ws h k around e wire out binder a m nodes weakening more ms last shown weak body =
+    let ns = back nodes more in
+    let ms' = slice_set ms binder (mark k e) in
+    ap (λ ns. reading ws (suc h) k around e wire ns ms) (back_three nodes weakening (Lam out binder wire) more)
+    ∙ same_met wire (one (lam (domain (type_at ws wire))) (reading ws h (suc k) e e out (back weakening ns) ms'))
+    ∙ ap (λ t. one (lam t) (reading ws h (suc k) e e out (back weakening ns) ms')) shown
+    ∙ ap (one (lam a)) (reading_pass ws h (suc k) e e out e e out (back weakening ns) ns ms' ms' weak ∙ body)
 
 -- and behind the doors of a box
-fix_read : (ws : List WireTree) (h k around e w o v : ℕ) (a : TyTree) (m : TermTree) (p b i more : List Node)
-    (ms entered last : List Mark) → (shown : type_at ws w ≡ a) →
-    (passes : pass e (suc w) o (back i (back b (back p more))) (slice_set ms v (mark k (suc w)))
-    ≡ pass e (suc w) o (back b (back p more)) entered) →
-    (weak : pass e (suc w) o (back b (back p more)) entered ≡ pass e (suc w) o (back p more) entered) →
-    (body : reading ws h (suc k) e (suc w) o (back p more) entered ≡ Some (read m more last)) →
-    reading ws (suc h) k around e w (back (p ++ (b ++ (i ++ FixBox o v w ∷ []))) more) ms ≡ Some (read (fix a m) more last)
-fix_read ws h k around e w o v a m p b i more ms entered last shown passes weak body =
-    let ns = back p more in
-    let ms' = slice_set ms v (mark k (suc w)) in
-    let held = back i (back b ns) in
-    ap (λ ns. reading ws (suc h) k around e w ns ms) (back_four p b i (FixBox o v w) more)
-    ∙ same_met w (one (fix (type_at ws w)) (reading ws h (suc k) e (suc w) o held ms'))
-    ∙ ap (λ t. one (fix t) (reading ws h (suc k) e (suc w) o held ms')) shown
-    ∙ ap (one (fix a)) (reading_pass ws h (suc k) e (suc w) o e (suc w) o held ns ms' entered (passes ∙ weak) ∙ body)
+fix_read : (ws : List WireTree) (h k around e wire out binder : ℕ) (a : TyTree) (m : TermTree) (nodes weakening door_nodes more : List Node)
+    (ms entered last : List Mark) → (shown : type_at ws wire ≡ a) →
+    (passes : pass e (suc wire) out (back door_nodes (back weakening (back nodes more))) (slice_set ms binder (mark k (suc wire)))
+    ≡ pass e (suc wire) out (back weakening (back nodes more)) entered) →
+    (weak : pass e (suc wire) out (back weakening (back nodes more)) entered ≡ pass e (suc wire) out (back nodes more) entered) →
+    (body : reading ws h (suc k) e (suc wire) out (back nodes more) entered ≡ Some (read m more last)) →
+    reading ws (suc h) k around e wire (back (nodes ++ (weakening ++ (door_nodes ++ FixBox out binder wire ∷ []))) more) ms
+    ≡ Some (read (fix a m) more last)
+fix_read ws h k around e wire out binder a m nodes weakening door_nodes more ms entered last shown passes weak body =
+    let ns = back nodes more in
+    let ms' = slice_set ms binder (mark k (suc wire)) in
+    let held = back door_nodes (back weakening ns) in
+    ap (λ ns. reading ws (suc h) k around e wire ns ms) (back_four nodes weakening door_nodes (FixBox out binder wire) more)
+    ∙ same_met wire (one (fix (type_at ws wire)) (reading ws h (suc k) e (suc wire) out held ms'))
+    ∙ ap (λ t. one (fix t) (reading ws h (suc k) e (suc wire) out held ms')) shown
+    ∙ ap (one (fix a)) (reading_pass ws h (suc k) e (suc wire) out e (suc wire) out held ns ms' entered (passes ∙ weak) ∙ body)
 
 -- an argument is read in its box, and then the function
-app_read : (ws : List WireTree) (h k around e w o o' z : ℕ) (a b : TermTree) (p q i c more : List Node)
+app_read : (ws : List WireTree) (h k around e w out out' boxed : ℕ) (a b : TermTree)
+    (ps qs door_nodes contractions more : List Node)
     (ms shared entered new last : List Mark) →
-    (passes : pass e e z (back c (BoxNode o' z ∷ back i (back q (back p more)))) ms
-    ≡ pass e e z (BoxNode o' z ∷ back i (back q (back p more))) shared) →
-    (enter : pass e (suc z) o' (back i (back q (back p more))) shared ≡ pass e (suc z) o' (back q (back p more)) entered) →
-    (second : reading ws h k e (suc z) o' (back q (back p more)) entered ≡ Some (read b (back p more) new)) →
-    (first : reading ws h k e e o (back p more) new ≡ Some (read a more last)) →
-    reading ws (suc h) k around e w (back (p ++ (q ++ (i ++ (BoxNode o' z ∷ (c ++ App o z w ∷ []))))) more) ms
+    (passes : pass e e boxed (back contractions (BoxNode out' boxed ∷ back door_nodes (back qs (back ps more)))) ms
+    ≡ pass e e boxed (BoxNode out' boxed ∷ back door_nodes (back qs (back ps more))) shared) →
+    (enter : pass e (suc boxed) out' (back door_nodes (back qs (back ps more))) shared
+    ≡ pass e (suc boxed) out' (back qs (back ps more)) entered) →
+    (second : reading ws h k e (suc boxed) out' (back qs (back ps more)) entered ≡ Some (read b (back ps more) new)) →
+    (first : reading ws h k e e out (back ps more) new ≡ Some (read a more last)) →
+    reading ws (suc h) k around e w (back (ps ++ (qs ++ (door_nodes ++ (BoxNode out' boxed ∷
+    (contractions ++ App out boxed w ∷ []))))) more) ms
     ≡ Some (read (app a b) more last)
-app_read ws h k around e w o o' z a b p q i c more ms shared entered new last passes enter second first =
-    let ns = back q (back p more) in
-    let y = BoxNode o' z in
-    let ns' = back c (y ∷ back i ns) in
-    let box : pass e e z (y ∷ back i ns) shared ≡ pass e (suc z) o' (back i ns) shared =
-    ap (λ b. if b then pass e (suc z) o' (back i ns) shared else rest e z (y ∷ back i ns) shared) (eq-eqb z z refl) in
-    ap (λ ns. reading ws (suc h) k around e w ns ms) (back_boxed p q i c y (App o z w) more)
-    ∙ same_met w (two app (reading ws h k e e o) (reading ws h k e e z ns' ms))
-    ∙ ap (two app (reading ws h k e e o)) (reading_pass ws h k e e z e (suc z) o' ns' ns ms entered (passes ∙ box ∙ enter) ∙ second)
+app_read ws h k around e w out out' boxed a b ps qs door_nodes contractions more ms shared entered new last passes enter second first =
+    let ns = back qs (back ps more) in
+    let y = BoxNode out' boxed in
+    let ns' = back contractions (y ∷ back door_nodes ns) in
+    let box : pass e e boxed (y ∷ back door_nodes ns) shared ≡ pass e (suc boxed) out' (back door_nodes ns) shared =
+    ap (λ b. if b then pass e (suc boxed) out' (back door_nodes ns) shared else rest e boxed (y ∷ back door_nodes ns) shared)
+    (eq-eqb boxed boxed refl) in
+    ap (λ ns. reading ws (suc h) k around e w ns ms) (back_boxed ps qs door_nodes contractions y (App out boxed w) more)
+    ∙ same_met w (two app (reading ws h k e e out) (reading ws h k e e boxed ns' ms))
+    ∙ ap (two app (reading ws h k e e out)) (reading_pass ws h k e e boxed e (suc boxed) out' ns' ns ms entered (passes ∙ box ∙ enter)
+    ∙ second)
     ∙ ap (one (λ a. app a b)) first
 
 -- one operand
-pub unary_reads : (ws : List WireTree) (f : TermTree → TermTree) (node : ℕ → ℕ → Node) (t : TyTree) (h n d : ℕ) (g : List TyTree)
-    (m : TermTree) (p : Part) →
-    ((a w k around e : ℕ) (ns : List Node) (ms : List Mark) → reading ws (suc h) k around e w (node a w ∷ ns) ms ≡ one f
+pub unary_reads : (ws : List WireTree) (form : TermTree → TermTree) (node : ℕ → ℕ → Node) (t : TyTree) (h n d : ℕ) (g : List TyTree)
+    (m : TermTree) (part : Part) →
+    ((a w k around e : ℕ) (ns : List Node) (ms : List Mark) → reading ws (suc h) k around e w (node a w ∷ ns) ms ≡ one form
     (reading ws h k e e a ns ms)) →
-    Readable ws h g m n p → Readable ws (suc h) g (f m) n (unary_part node t n d p)
-unary_reads ws f node t h n d g m p step ip around e more ms mk room =
-    let w = n + length p.wires in
-    let x = node p.out w in
+    Readable ws h g m n part → Readable ws (suc h) g (form m) n (unary_part node t n d part)
+unary_reads ws form node t h n d g m part step ip around e more ms mk room =
+    let w = n + length part.wires in
+    let x = node part.out w in
     let k = length g in
-    let size = size_two p.wires (value_wire d t) in
-    let fit = within (length (unary_part node t n d p).wires) n (length p.wires) 1 0 0 0 (length ms) size room in
+    let size = size_two part.wires (value_wire d t) in
+    let fit = within (length (unary_part node t n d part).wires) n (length part.wires) 1 0 0 0 (length ms) size room in
     let r = ip e e more ms mk fit.first in
     record {
       marks = r.marks;
-      is = ap (λ ns. reading ws (suc h) k around e w ns ms) (back_two p.nodes x more) ∙ step p.out w k around e (back p.nodes more) ms
-          ∙ ap (one f) r.is;
+      is = ap (λ ns. reading ws (suc h) k around e w ns ms) (back_two part.nodes x more)
+          ∙ step part.out w k around e (back part.nodes more) ms
+          ∙ ap (one form) r.is;
       kept = r.kept;
       count = r.count;
     }
@@ -325,195 +338,206 @@ behind n b e g f ms new l kept h =
     marked_kept e g f ms new (λ y u. kept y (elim (cases_lt y b) [ inl j ↦ j | inr j ↦ absurd (omega (arith, l.high y j, u)) ])) h
 
 -- two operands at one depth
-pub double_reads : (ws : List WireTree) (f : TermTree → TermTree → TermTree) (node : ℕ → ℕ → ℕ → Node) (t : TyTree) (h n d : ℕ)
-    (g : List TyTree) (a b : TermTree) (p q : Part) →
-    ((x y w k around e : ℕ) (ns : List Node) (ms : List Mark) → reading ws (suc h) k around e w (node x y w ∷ ns) ms ≡ two f
+pub double_reads : (ws : List WireTree) (form : TermTree → TermTree → TermTree) (node : ℕ → ℕ → ℕ → Node) (ty : TyTree) (h n d : ℕ)
+    (g : List TyTree) (a b : TermTree) (part part' : Part) →
+    ((x y w k around e : ℕ) (ns : List Node) (ms : List Mark) → reading ws (suc h) k around e w (node x y w ∷ ns) ms ≡ two form
     (reading ws h k e e x) (reading ws h k e e y ns ms)) →
-    Loose n (n + length p.wires) p.free → Loose (n + length p.wires) (n + length p.wires + length q.wires) q.free →
-    Readable ws h g a n p → Readable ws h g b (n + length p.wires) q → Readable ws (suc h) g (f a b) n (double_part node t n d g p q)
-double_reads ws f node t h n d g a b p q step lp lq ip iq around e more ms mk room =
+    Loose n (n + length part.wires) part.free → Loose (n + length part.wires) (n + length part.wires + length part'.wires) part'.free →
+    Readable ws h g a n part → Readable ws h g b (n + length part.wires) part' →
+    Readable ws (suc h) g (form a b) n (double_part node ty n d g part part')
+double_reads ws form node ty h n d g a b part part' step lp lq ip iq around e more ms mk room =
     let k = length g in
-    let n' = n + length p.wires in
-    let m = n' + length q.wires in
-    let c = contract m d g p.free q.free in
+    let n' = n + length part.wires in
+    let m = n' + length part'.wires in
+    let c = contract m d g part.free part'.free in
     let w = m + length c.wires in
-    let size = size_four p.wires q.wires c.wires (value_wire d t) in
-    let l = length (double_part node t n d g p q).wires in
-    let fit = within l n (length p.wires) (length q.wires) (length c.wires) 1 0 (length ms) size room in
-    let s = shares m d e e g p.free q.free (back q.nodes (back p.nodes more)) ms mk (both_once n n' m p.free q.free lp lq)
-    (both_high n n' m m p.free q.free lp lq (up n' (length q.wires)) (level m))
-    (both_high n n' m (length ms) p.free q.free lp lq fit.first fit.second) in
-    let rq = iq e e (back p.nodes more) s.marks s.right (as_long m (length ms) (length s.marks) s.count fit.second) in
+    let size = size_four part.wires part'.wires c.wires (value_wire d ty) in
+    let l = length (double_part node ty n d g part part').wires in
+    let fit = within l n (length part.wires) (length part'.wires) (length c.wires) 1 0 (length ms) size room in
+    let s = shares m d e e g part.free part'.free (back part'.nodes (back part.nodes more)) ms mk
+    (both_once n n' m part.free part'.free lp lq)
+    (both_high n n' m m part.free part'.free lp lq (up n' (length part'.wires)) (level m))
+    (both_high n n' m (length ms) part.free part'.free lp lq fit.first fit.second) in
+    let rq = iq e e (back part.nodes more) s.marks s.right (as_long m (length ms) (length s.marks) s.count fit.second) in
     let count = same_count ms s.marks rq.marks rq.count s.count in
-    let rp = ip e e more rq.marks (behind n n' e g p.free s.marks rq.marks lp rq.kept s.left)
+    let rp = ip e e more rq.marks (behind n n' e g part.free s.marks rq.marks lp rq.kept s.left)
     (as_long n' (length ms) (length rq.marks) count fit.first) in
     record {
       marks = rp.marks;
-      is = double_read ws h k around e w p.out q.out f (node p.out q.out w) a b p.nodes q.nodes c.nodes more ms s.marks rq.marks rp.marks
-          (step p.out q.out w k around e) (s.passes q.out) rq.is rp.is;
-      kept = kept_past n (length p.wires) m p.free q.free ms s.marks rq.marks rp.marks lp lq s.kept rq.kept rp.kept;
+      is = double_read ws h k around e w part.out part'.out form
+          (node part.out part'.out w) a b part.nodes part'.nodes c.nodes more ms s.marks rq.marks rp.marks
+          (step part.out part'.out w k around e) (s.passes part'.out) rq.is rp.is;
+      kept = kept_past n (length part.wires) m part.free part'.free ms s.marks rq.marks rp.marks lp lq s.kept rq.kept rp.kept;
       count = same_count ms rq.marks rp.marks rp.count count;
     }
 
 -- condition, then and else
-pub ifz_reads : (ws : List WireTree) (h n d : ℕ) (g : List TyTree) (a b b' : TermTree) (c p q : Part) →
-    Aligned g c.free → Aligned g p.free → Aligned g q.free →
-    Loose n (n + length c.wires) c.free → Loose (n + length c.wires) (n + length c.wires + length p.wires) p.free →
-    Loose (n + length c.wires + length p.wires) (n + length c.wires + length p.wires + length q.wires) q.free →
-    Readable ws h g a n c → Readable ws h g b (n + length c.wires) p → Readable ws h g b' (n + length c.wires + length p.wires) q →
-    Readable ws (suc h) g (ifz a b b') n (ifz_part n d g c p q)
-ifz_reads ws h n d g a b b' c p q ac ap' aq lc lp lq ic ip iq around e more ms mk room =
-    let k = length g in
-    let n' = n + length c.wires in
-    let n'' = n' + length p.wires in
-    let m = n'' + length q.wires in
-    let i = contract m d g p.free q.free in
+pub ifz_reads : (ws : List WireTree) (h n d : ℕ) (context : List TyTree) (a b b' : TermTree) (part part' part'' : Part) →
+    Aligned context part.free → Aligned context part'.free → Aligned context part''.free →
+    Loose n (n + length part.wires) part.free → Loose (n + length part.wires) (n + length part.wires + length part'.wires) part'.free →
+    Loose (n + length part.wires + length part'.wires) (n + length part.wires + length part'.wires + length part''.wires) part''.free →
+    Readable ws h context a n part → Readable ws h context b (n + length part.wires) part' →
+    Readable ws h context b' (n + length part.wires + length part'.wires) part'' →
+    Readable ws (suc h) context (ifz a b b') n (ifz_part n d context part part' part'')
+ifz_reads ws h n d context a b b' part part' part'' ac ap' aq lc lp lq ic ip iq around e more ms mk room =
+    let k = length context in
+    let n' = n + length part.wires in
+    let n'' = n' + length part'.wires in
+    let m = n'' + length part''.wires in
+    let i = contract m d context part'.free part''.free in
     let m' = m + length i.wires in
-    let j = contract m' d g c.free i.free in
+    let j = contract m' d context part.free i.free in
     let w = m' + length j.wires in
-    let size = size_six c.wires p.wires q.wires i.wires j.wires (value_wire d nat) in
-    let long = length (ifz_part n d g c p q).wires in
+    let size = size_six part.wires part'.wires part''.wires i.wires j.wires (value_wire d nat) in
+    let long = length (ifz_part n d context part part' part'').wires in
     let r = length j.wires + 1 in
-    let fit = within long n (length c.wires) (length p.wires) (length q.wires) (length i.wires) r (length ms) size room in
-    let after_p = past n' m m' (up_two n' (length p.wires) (length q.wires)) (up m (length i.wires)) in
-    let l = contract_loose m d n' n'' g p.free q.free ap' aq lp lq (up n' (length p.wires)) (up n'' (length q.wires)) in
-    let ns = back c.nodes more in
-    let ns' = back q.nodes (back p.nodes ns) in
-    let s = shares m' d e e g c.free i.free (back i.nodes ns') ms mk (both_once n n' m' c.free i.free lc l)
-    (both_high n n' m' m' c.free i.free lc l after_p (level m'))
-    (both_high n n' m' (length ms) c.free i.free lc l fit.first fit.fourth) in
-    let s' = shares m d e e g p.free q.free ns' s.marks s.right (both_once n' n'' m p.free q.free lp lq)
-    (both_high n' n'' m m p.free q.free lp lq (up n'' (length q.wires)) (level m))
-    (both_high n' n'' m (length s.marks) p.free q.free lp lq (as_long n'' (length ms) (length s.marks) s.count fit.second)
+    let fit = within long n (length part.wires) (length part'.wires) (length part''.wires) (length i.wires) r (length ms) size room in
+    let after_p = past n' m m' (up_two n' (length part'.wires) (length part''.wires)) (up m (length i.wires)) in
+    let l = contract_loose m d n' n'' context part'.free part''.free ap' aq lp lq (up n' (length part'.wires))
+    (up n'' (length part''.wires)) in
+    let ns = back part.nodes more in
+    let ns' = back part''.nodes (back part'.nodes ns) in
+    let s = shares m' d e e context part.free i.free (back i.nodes ns') ms mk (both_once n n' m' part.free i.free lc l)
+    (both_high n n' m' m' part.free i.free lc l after_p (level m'))
+    (both_high n n' m' (length ms) part.free i.free lc l fit.first fit.fourth) in
+    let s' = shares m d e e context part'.free part''.free ns' s.marks s.right (both_once n' n'' m part'.free part''.free lp lq)
+    (both_high n' n'' m m part'.free part''.free lp lq (up n'' (length part''.wires)) (level m))
+    (both_high n' n'' m (length s.marks) part'.free part''.free lp lq (as_long n'' (length ms) (length s.marks) s.count fit.second)
     (as_long m (length ms) (length s.marks) s.count fit.third)) in
     let count' = same_count ms s.marks s'.marks s'.count s.count in
-    let rq = iq e e (back p.nodes ns) s'.marks s'.right (as_long m (length ms) (length s'.marks) count' fit.third) in
+    let rq = iq e e (back part'.nodes ns) s'.marks s'.right (as_long m (length ms) (length s'.marks) count' fit.third) in
     let count_q = same_count ms s'.marks rq.marks rq.count count' in
-    let rp = ip e e ns rq.marks (behind n' n'' e g p.free s'.marks rq.marks lp rq.kept s'.left)
+    let rp = ip e e ns rq.marks (behind n' n'' e context part'.free s'.marks rq.marks lp rq.kept s'.left)
     (as_long n'' (length ms) (length rq.marks) count_q fit.second) in
     let count_p = same_count ms rq.marks rp.marks rp.count count_q in
-    let kept = kept_past n' (length p.wires) m p.free q.free s.marks s'.marks rq.marks rp.marks lp lq s'.kept rq.kept rp.kept in
-    let rc = ic e e more rp.marks (behind n n' e g c.free s.marks rp.marks lc kept s.left)
+    let kept = kept_past n' (length part'.wires) m part'.free part''.free s.marks s'.marks rq.marks rp.marks lp lq
+    s'.kept rq.kept rp.kept in
+    let rc = ic e e more rp.marks (behind n n' e context part.free s.marks rp.marks lc kept s.left)
     (as_long n' (length ms) (length rp.marks) count_p fit.first) in
     record {
       marks = rc.marks;
-      is = ifz_read ws h k around e w c.out p.out q.out a b b' c.nodes p.nodes q.nodes i.nodes j.nodes more
-          ms s.marks s'.marks rq.marks rp.marks rc.marks (s.passes q.out) (s'.passes q.out) rq.is rp.is rc.is;
-      kept = kept_past n (length c.wires) m' c.free i.free ms s.marks rp.marks rc.marks lc l s.kept kept rc.kept;
+      is = ifz_read ws h k around e w part.out part'.out part''.out a b b' part.nodes part'.nodes part''.nodes i.nodes j.nodes more
+          ms s.marks s'.marks rq.marks rp.marks rc.marks (s.passes part''.out) (s'.passes part''.out) rq.is rp.is rc.is;
+      kept = kept_past n (length part.wires) m' part.free i.free ms s.marks rp.marks rc.marks lc l s.kept kept rc.kept;
       count = same_count ms rp.marks rc.marks rc.count count_p;
     }
 
 -- a body under a binder
-pub lam_reads : (ws : List WireTree) (h n d : ℕ) (a : TyTree) (g : List TyTree) (m : TermTree) (p : Part) →
-    Loose n (n + length p.wires) p.free → Held ws n (lam_part n d a p).wires →
-    Readable ws h (a ∷ g) m n p → Readable ws (suc h) g (lam a m) n (lam_part n d a p)
-lam_reads ws h n d a g m p l held ip around e more ms mk room =
+pub lam_reads : (ws : List WireTree) (h n d : ℕ) (a : TyTree) (g : List TyTree) (m : TermTree) (part : Part) →
+    Loose n (n + length part.wires) part.free → Held ws n (lam_part n d a part).wires →
+    Readable ws h (a ∷ g) m n part → Readable ws (suc h) g (lam a m) n (lam_part n d a part)
+lam_reads ws h n d a g m part loose held ip around e more ms mk room =
     let k = length g in
-    let o = n + length p.wires in
-    let b = bound o d a p.free in
+    let o = n + length part.wires in
+    let b = bound o d a part.free in
     let w = o + length b.wires in
-    let v = bound_wire o p.free in
-    let size = size_three p.wires b.wires (value_wire d (arrow a p.type)) in
-    let fit = within (length (lam_part n d a p).wires) n (length p.wires) (length b.wires) 1 0 0 (length ms) size room in
-    let ns = back p.nodes more in
+    let v = bound_wire o part.free in
+    let size = size_three part.wires b.wires (value_wire d (arrow a part.type)) in
+    let fit = within (length (lam_part n d a part).wires) n (length part.wires) (length b.wires) 1 0 0 (length ms) size room in
+    let ns = back part.nodes more in
     let ms' = slice_set ms v (mark k e) in
-    let held' = held_right ws o b.wires (value_wire d (arrow a p.type) ∷ [])
-    (held_right ws n p.wires (b.wires ++ value_wire d (arrow a p.type) ∷ []) held) in
+    let held' = held_right ws o b.wires (value_wire d (arrow a part.type) ∷ [])
+    (held_right ws n part.wires (b.wires ++ value_wire d (arrow a part.type) ∷ []) held) in
     let ty : domain (type_at ws w) ≡ a = ap (λ o. domain (type_in o)) held'.0 in
     let u = marked_kept e g b.free ms ms'
-    (λ y u. set_elsewhere ms v y (mark k e) (none_here (hit v y) (ends b.free y) u (bound_once n o d a p.free l y))) mk in
+    (λ y u. set_elsewhere ms v y (mark k e) (none_here (hit v y) (ends b.free y) u (bound_once n o d a part.free loose y))) mk in
     let c = length-set ms v (mark k e) in
-    let inside_v = under v (o + length b.wires) (length ms) (bound_inside n o d a p.free l) fit.second in
-    let r = ip e e more ms' (body_marked o d e a g p.free ms' u (set_here ms v (mark k e) inside_v))
+    let inside_v = under v (o + length b.wires) (length ms) (bound_inside n o d a part.free loose) fit.second in
+    let r = ip e e more ms' (body_marked o d e a g part.free ms' u (set_here ms v (mark k e) inside_v))
     (as_long o (length ms) (length ms') c fit.first) in
     record {
       marks = r.marks;
-      is = lam_read ws h k around e w p.out v a m p.nodes b.nodes more ms r.marks ty (weak_passes o d e e p.out a p.free ns ms') r.is;
-      kept = kept_bound n (length p.wires) p.free ms r.marks (mark k e) l r.kept;
+      is = lam_read ws h k around e w part.out v a m part.nodes b.nodes more ms r.marks ty
+          (weak_passes o d e e part.out a part.free ns ms') r.is;
+      kept = kept_bound n (length part.wires) part.free ms r.marks (mark k e) loose r.kept;
       count = same_count ms ms' r.marks r.count c;
     }
 
 -- a body in a box of its own
-pub fix_reads : (ws : List WireTree) (h n d : ℕ) (g : List TyTree) (a : TyTree) (m : TermTree) (p : Part) →
-    Loose n (n + length p.wires) p.free → Held ws n (fix_part n d g a p).wires →
-    Readable ws h (a ∷ g) m n p → Readable ws (suc h) g (fix a m) n (fix_part n d g a p)
-fix_reads ws h n d g a m p l held ip around e more ms mk room =
+pub fix_reads : (ws : List WireTree) (h n d : ℕ) (g : List TyTree) (a : TyTree) (m : TermTree) (part : Part) →
+    Loose n (n + length part.wires) part.free → Held ws n (fix_part n d g a part).wires →
+    Readable ws h (a ∷ g) m n part → Readable ws (suc h) g (fix a m) n (fix_part n d g a part)
+fix_reads ws h n d g a m part loose held ip around e more ms mk room =
     let k = length g in
-    let o = n + length p.wires in
-    let b = bound o (suc d) a p.free in
+    let o = n + length part.wires in
+    let b = bound o (suc d) a part.free in
     let o' = o + length b.wires in
     let i = doors o' d g b.free in
     let w = o' + length i.wires in
-    let v = bound_wire o p.free in
-    let size = size_four p.wires b.wires i.wires (value_wire d a) in
-    let long = length (fix_part n d g a p).wires in
-    let fit = within long n (length p.wires) (length b.wires) (length i.wires) 1 0 (length ms) size room in
-    let ns = back p.nodes more in
+    let v = bound_wire o part.free in
+    let size = size_four part.wires b.wires i.wires (value_wire d a) in
+    let long = length (fix_part n d g a part).wires in
+    let fit = within long n (length part.wires) (length b.wires) (length i.wires) 1 0 (length ms) size room in
+    let ns = back part.nodes more in
     let e' = suc w in
     let at = mark k e' in
     let ms' = slice_set ms v at in
     let held' = held_right ws o' i.wires (value_wire d a ∷ [])
-    (held_right ws o b.wires (i.wires ++ value_wire d a ∷ []) (held_right ws n p.wires (b.wires ++ (i.wires ++ value_wire d a ∷ [])) held))
+    (held_right ws o b.wires (i.wires ++ value_wire d a ∷ [])
+    (held_right ws n part.wires (b.wires ++ (i.wires ++ value_wire d a ∷ [])) held))
     in
     let ty : type_at ws w ≡ a = ap type_in held'.0 in
     let c = length-set ms v at in
-    let inside_v = bound_inside n o (suc d) a p.free l in
-    let lb = bound_loose n o (suc d) a p.free l in
+    let inside_v = bound_inside n o (suc d) a part.free loose in
+    let lb = bound_loose n o (suc d) a part.free loose in
     let li = doors_loose o' d g b.free in
     let u = marked_kept e g i.free ms ms'
     (λ y u. set_elsewhere ms v y at (not_among o' (o' + length i.wires) v i.free li inside_v y u)) mk in
     let t = enters o' d e e' g b.free (back b.nodes ns) ms' u lb.once (λ y j. lb.high y (past o o' y (up o (length b.wires)) j))
     (λ y j. lb.high y (past o (length ms') y (as_long o (length ms) (length ms') c fit.first) j)) in
     let fits = under v o' (length ms) inside_v fit.second in
-    let at_v = binder_kept b.free ms t.marks v at t.kept (bound_once n o (suc d) a p.free l v) fits in
+    let at_v = binder_kept b.free ms t.marks v at t.kept (bound_once n o (suc d) a part.free loose v) fits in
     let count = same_count ms ms' t.marks t.count c in
-    let r = ip e e' more t.marks (body_marked o (suc d) e' a g p.free t.marks t.within at_v)
+    let r = ip e e' more t.marks (body_marked o (suc d) e' a g part.free t.marks t.within at_v)
     (as_long o (length ms) (length t.marks) count fit.first) in
     record {
       marks = r.marks;
-      is = fix_read ws h k around e w p.out v a m p.nodes b.nodes i.nodes more ms t.marks r.marks ty (t.passes p.out)
-          (weak_passes o (suc d) e e' p.out a p.free ns t.marks) r.is;
-      kept = kept_bound n (length p.wires) p.free ms r.marks at l (kept_entered n o b.free ms' t.marks r.marks lb t.kept r.kept);
+      is = fix_read ws h k around e w part.out v a m part.nodes b.nodes i.nodes more ms t.marks r.marks ty (t.passes part.out)
+          (weak_passes o (suc d) e e' part.out a part.free ns t.marks) r.is;
+      kept = kept_bound n (length part.wires) part.free ms r.marks at loose (kept_entered n o b.free ms' t.marks r.marks lb t.kept r.kept);
       count = same_count ms t.marks r.marks r.count count;
     }
 
 -- a function, and its argument in a box
-pub app_reads : (ws : List WireTree) (h n d : ℕ) (g : List TyTree) (a b : TermTree) (p q : Part) →
-    Loose n (n + length p.wires) p.free → Loose (n + length p.wires) (n + length p.wires + length q.wires) q.free →
-    Readable ws h g a n p → Readable ws h g b (n + length p.wires) q → Readable ws (suc h) g (app a b) n (app_part n d g p q)
-app_reads ws h n d g a b p q lp lq ip iq around e more ms mk room =
+pub app_reads : (ws : List WireTree) (h n d : ℕ) (g : List TyTree) (a b : TermTree) (part part' : Part) →
+    Loose n (n + length part.wires) part.free → Loose (n + length part.wires) (n + length part.wires + length part'.wires) part'.free →
+    Readable ws h g a n part → Readable ws h g b (n + length part.wires) part' →
+    Readable ws (suc h) g (app a b) n (app_part n d g part part')
+app_reads ws h n d g a b part part' lp lq ip iq around e more ms mk room =
     let k = length g in
-    let n' = n + length p.wires in
-    let m = n' + length q.wires in
-    let i = doors m d g q.free in
+    let n' = n + length part.wires in
+    let m = n' + length part'.wires in
+    let i = doors m d g part'.free in
     let o = m + length i.wires in
-    let c = contract (suc o) d g p.free i.free in
+    let c = contract (suc o) d g part.free i.free in
     let w = suc o + length c.wires in
-    let y = BoxNode q.out o in
+    let y = BoxNode part'.out o in
     let e' = suc o in
-    let bang = bang_wire d (domain p.type) in
-    let last = value_wire d (codomain p.type) in
-    let size = size_boxed p.wires q.wires i.wires c.wires bang last in
-    let long = length (app_part n d g p q).wires in
-    let fit = within long n (length p.wires) (length q.wires) (length i.wires) 1 (length c.wires + 1) (length ms) size room in
-    let li = doors_loose m d g q.free in
-    let li' : Loose n' o i.free = record { once = li.once; low = λ y u. li.low y (before y n' (length q.wires) u); high = li.high } in
-    let ns = back p.nodes more in
-    let ns' = back q.nodes ns in
-    let s = shares (suc o) d e e g p.free i.free (y ∷ back i.nodes ns') ms mk (both_once n n' o p.free i.free lp li')
-    (both_high n n' o (suc o) p.free i.free lp li' (past n' o (suc o) (up_two n' (length q.wires) (length i.wires)) (next o)) (next o))
-    (both_high n n' o (length ms) p.free i.free lp li' fit.first fit.third) in
+    let bang = bang_wire d (domain part.type) in
+    let last = value_wire d (codomain part.type) in
+    let size = size_boxed part.wires part'.wires i.wires c.wires bang last in
+    let long = length (app_part n d g part part').wires in
+    let fit = within long n (length part.wires) (length part'.wires) (length i.wires) 1 (length c.wires + 1) (length ms) size room in
+    let li = doors_loose m d g part'.free in
+    let li' : Loose n' o i.free = record { once = li.once; low = λ y u. li.low y (before y n' (length part'.wires) u); high = li.high } in
+    let ns = back part.nodes more in
+    let ns' = back part'.nodes ns in
+    let s = shares (suc o) d e e g part.free i.free (y ∷ back i.nodes ns') ms mk (both_once n n' o part.free i.free lp li')
+    (both_high n n' o (suc o) part.free i.free lp li' (past n' o (suc o) (up_two n' (length part'.wires) (length i.wires)) (next o))
+    (next o))
+    (both_high n n' o (length ms) part.free i.free lp li' fit.first fit.third) in
     let room_s = as_long m (length ms) (length s.marks) s.count fit.second in
-    let t = enters m d e e' g q.free ns' s.marks s.right lq.once lq.high (λ y j. lq.high y (past m (length s.marks) y room_s j)) in
+    let t = enters m d e e' g part'.free ns' s.marks s.right lq.once lq.high (λ y j. lq.high y (past m (length s.marks) y room_s j)) in
     let rq = iq e e' ns t.marks t.within (as_long m (length s.marks) (length t.marks) t.count room_s) in
     let count = same_count ms t.marks rq.marks rq.count (same_count ms s.marks t.marks t.count s.count) in
-    let kept = kept_entered n' m q.free s.marks t.marks rq.marks lq t.kept rq.kept in
-    let rp = ip e e more rq.marks (behind n n' e g p.free s.marks rq.marks lp kept s.left)
+    let kept = kept_entered n' m part'.free s.marks t.marks rq.marks lq t.kept rq.kept in
+    let rp = ip e e more rq.marks (behind n n' e g part.free s.marks rq.marks lp kept s.left)
     (as_long n' (length ms) (length rq.marks) count fit.first) in
     record {
       marks = rp.marks;
-      is = app_read ws h k around e w p.out q.out o a b p.nodes q.nodes i.nodes c.nodes more ms s.marks t.marks rq.marks rp.marks
-          (s.passes o) (t.passes q.out) rq.is rp.is;
-      kept = kept_past n (length p.wires) o p.free i.free ms s.marks rq.marks rp.marks lp li' s.kept kept rp.kept;
+      is = app_read ws h k around e w part.out part'.out o a b part.nodes part'.nodes i.nodes c.nodes more ms s.marks t.marks
+          rq.marks rp.marks
+          (s.passes o) (t.passes part'.out) rq.is rp.is;
+      kept = kept_past n (length part.wires) o part.free i.free ms s.marks rq.marks rp.marks lp li' s.kept kept rp.kept;
       count = same_count ms rq.marks rp.marks rp.count count;
     }

@@ -198,14 +198,14 @@ ended_bad k n m l (l' ∷ ls) f h = behind_bad k n m l l' ls (nodes_err (suc n) 
 node_bad : (k n m : ℕ) (l : List ℕ) (ls : List (List ℕ)) (o : Option Node) (r : Result (List Node) ℕ) → node_at k l ≡ o
     → (l ≡ end_line → ⊥) → (r ≡ Err m → Bad (NodesStand (suc k)) (NodesWhole (suc k)) (suc n) m ls) → and_nodes n o r ≡ Err m
     → Bad (NodesStand k) (NodesWhole k) n m (l ∷ ls)
-node_bad k n m l ls None r e q b h =
-    line_bad k n m l ls (nodes_err n m (and_nodes n None r) refl h) (λ x f g. no_node x (sym e ∙ is_node k l x g f)) q
+node_bad k n m l ls None r found not_end later fault =
+    line_bad k n m l ls (nodes_err n m (and_nodes n None r) refl fault) (λ x f g. no_node x (sym found ∙ is_node k l x g f)) not_end
   where
     no_node : (x : Node) → None ≡ Some x → ⊥
     no_node x h = cc
-node_bad k n m l ls (Some x) r e q b h =
-    let (p, f) = node_is k l (node_in k l) x e in
-    later_bad k n m l ls x f p q (b (with_node_err x m r h))
+node_bad k n m l ls (Some x) r found not_end later fault =
+    let (p, f) = node_is k l (node_in k l) x found in
+    later_bad k n m l ls x f p not_end (later (with_node_err x m r fault))
 
 -- which way a test went
 pub chosen_nodes : (b : Bool) (r s t : Result (List Node) ℕ) → (if b then r else s) ≡ t → ((b ≡ true) × (r ≡ t)) ⊎ ((b ≡ false) × (s ≡ t))
@@ -292,33 +292,33 @@ no_wire_bad h k n m l ls q b = record {
 rest_wires : (h k : ℕ) (l : List ℕ) (ls : List (List ℕ)) (w : WireTree) → l ≡ wire_line k w → (ws : List WireTree) (ns : List Node)
     → WiresFit h ws → NodesFit ns → numbered wire_line k ws ++ (numbered node_line 0 ns ++ end_line ∷ []) ≡ l ∷ ls →
     WiresWhole h (suc k) ls
-rest_wires h k l ls w e [] [] f g i = absurd (wire_not_last k w l e (first_is end_line l [] ls i))
-rest_wires h k l ls w e [] (x ∷ ns) f g i =
-    absurd (wire_not_node k 0 w x l e (first_is (node_line 0 x) l (numbered node_line 1 ns ++ end_line ∷ []) ls i))
-rest_wires h k l ls w e (v ∷ ws) ns f g i =
+rest_wires h k l ls w is [] [] wires_fit nodes_fit are = absurd (wire_not_last k w l is (first_is end_line l [] ls are))
+rest_wires h k l ls w is [] (x ∷ ns) wires_fit nodes_fit are =
+    absurd (wire_not_node k 0 w x l is (first_is (node_line 0 x) l (numbered node_line 1 ns ++ end_line ∷ []) ls are))
+rest_wires h k l ls w is (v ∷ ws) ns wires_fit nodes_fit are =
     record {
       wires = ws;
       nodes = ns;
-      wires_fit = f.2;
-      nodes_fit = g;
-      are = others_are (wire_line k v) l (numbered wire_line (suc k) ws ++ (numbered node_line 0 ns ++ end_line ∷ [])) ls i;
+      wires_fit = wires_fit.2;
+      nodes_fit = nodes_fit;
+      are = others_are (wire_line k v) l (numbered wire_line (suc k) ws ++ (numbered node_line 0 ns ++ end_line ∷ [])) ls are;
     }
 
 -- the first bad line stands behind a wire's
 wire_bad : (h k n m : ℕ) (l : List ℕ) (ls : List (List ℕ)) (w : WireTree) → l ≡ wire_line k w → w.depth < 2 ^ 32 → ty_height w.type ≤ h
     → Bad (WiresStand h (suc k)) (WiresWhole h (suc k)) (suc n) m ls →
     Bad (WiresStand h k) (WiresWhole h k) n m (l ∷ ls)
-wire_bad h k n m l ls w e d t b = record {
-  good = suc b.good;
-  at = omega (arith, b.at);
-  few = omega (arith, b.few);
-  before = inl (w, d, t, e, b.before);
+wire_bad h k n m l ls w is deep high bad = record {
+  good = suc bad.good;
+  at = omega (arith, bad.at);
+  few = omega (arith, bad.few);
+  before = inl (w, deep, high, is, bad.before);
   there = λ u s. elim s [
-    | inl s ↦ b.there (omega (arith, u)) s.4
+    | inl s ↦ bad.there (omega (arith, u)) s.4
     | inr s ↦ elim
-        s [ inl s ↦ wire_not_node k 0 w s.0 l e s.2 | inr s ↦ wire_not_last k w l e s.0 ]
+        s [ inl s ↦ wire_not_node k 0 w s.0 l is s.2 | inr s ↦ wire_not_last k w l is s.0 ]
   ];
-  behind = λ u v. b.behind (omega (arith, u)) (rest_wires h k l ls w e v.wires v.nodes v.wires_fit v.nodes_fit v.are);
+  behind = λ u v. bad.behind (omega (arith, u)) (rest_wires h k l ls w is v.wires v.nodes v.wires_fit v.nodes_fit v.are);
 }
 
 -- what a line was found to be
@@ -327,13 +327,13 @@ found_bad : (h k n m : ℕ) (l : List ℕ) (ls : List (List ℕ)) (o : Option Wi
     (r ≡ Err m → Bad (WiresStand h (suc k)) (WiresWhole h (suc k)) (suc n) m ls) →
     (s ≡ Err m → Bad (NodesStand 0) (NodesWhole 0) n m (l ∷ ls)) → and_wires o r s ≡ Err m → Bad (WiresStand h k) (WiresWhole h k) n m
     (l ∷ ls)
-found_bad h k n m l ls None r s e b c i =
-    no_wire_bad h k n m l ls (λ w d t f. no_wire w (sym e ∙ is_wire h k l w f d t)) (c (no_wires_err m s i))
+found_bad h k n m l ls None r s found later as_nodes fault =
+    no_wire_bad h k n m l ls (λ w d t f. no_wire w (sym found ∙ is_wire h k l w f d t)) (as_nodes (no_wires_err m s fault))
   where
     no_wire : (w : WireTree) → None ≡ Some w → ⊥
     no_wire w h = cc
-found_bad h k n m l ls (Some w) r s e b c i = let (p, d, t) =
-    wire_is h k l (wire_in h k l) w e in wire_bad h k n m l ls w p d t (b (with_wire_err w m r i))
+found_bad h k n m l ls (Some w) r s found later as_nodes fault = let (p, d, t) =
+    wire_is h k l (wire_in h k l) w found in wire_bad h k n m l ls w p d t (later (with_wire_err w m r fault))
 
 -- The answer is the first bad line, of lines that stand behind the first k wires.
 pub wires_bad : (h k n m : ℕ) (ls : List (List ℕ)) → wires_from h k n ls ≡ Err m → Bad (WiresStand h k) (WiresWhole h k) n m ls

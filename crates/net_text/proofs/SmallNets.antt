@@ -89,15 +89,15 @@ double_low b node t n d g p q e h i k =
 -- a condition with its branches
 ifz_low : (b n d : ℕ) (g : List TyTree) (x y z : Part) → d ≤ b → Low b x.wires x.nodes → Low b y.wires y.nodes → Low b z.wires z.nodes
     → Low b (ifz_part n d g x y z).wires (ifz_part n d g x y z).nodes
-ifz_low b n d g x y z h i j k =
+ifz_low b n d g x y z deep first second third =
     let o = n + length x.wires + length y.wires + length z.wires in
     let c = contract o d g y.free z.free in
     let e = contract (o + length c.wires) d g x.free c.free in
     let w = o + length c.wires + length e.wires in
-    let last : Low b (value_wire d nat ∷ []) (Ifz x.out y.out z.out w ∷ []) = record { wires = (h, tt); nodes = tt } in
-    join b x.wires _ x.nodes _ i (join b y.wires _ y.nodes _ j (join b z.wires _ z.nodes _ k
-    (join b c.wires _ c.nodes _ (contract_low b o d g y.free z.free h)
-    (join b e.wires _ e.nodes _ (contract_low b (o + length c.wires) d g x.free c.free h) last))))
+    let last : Low b (value_wire d nat ∷ []) (Ifz x.out y.out z.out w ∷ []) = record { wires = (deep, tt); nodes = tt } in
+    join b x.wires _ x.nodes _ first (join b y.wires _ y.nodes _ second (join b z.wires _ z.nodes _ third
+    (join b c.wires _ c.nodes _ (contract_low b o d g y.free z.free deep)
+    (join b e.wires _ e.nodes _ (contract_low b (o + length c.wires) d g x.free c.free deep) last))))
 
 -- a function
 lam_low : (b n d : ℕ) (a : TyTree) (p : Part) → d ≤ b → Low b p.wires p.nodes → Low b (lam_part n d a p).wires (lam_part n d a p).nodes
@@ -111,31 +111,31 @@ lam_low b n d a p h i =
 -- a recursive value
 fix_low : (b n d : ℕ) (g : List TyTree) (a : TyTree) (p : Part) → suc d ≤ b → Low b p.wires p.nodes
     → Low b (fix_part n d g a p).wires (fix_part n d g a p).nodes
-fix_low b n d g a p h i =
+fix_low b n d g a p deep body =
     let o = n + length p.wires in
     let c = bound o (suc d) a p.free in
     let e = doors (o + length c.wires) d g c.free in
-    let l : d ≤ b = omega (arith, h) in
+    let l : d ≤ b = omega (arith, deep) in
     let last : Low b (value_wire d a ∷ []) (FixBox p.out (bound_wire o p.free) (o + length c.wires + length e.wires) ∷ []) =
     record { wires = (l, tt); nodes = tt } in
-    join b p.wires _ p.nodes _ i
-    (join b c.wires _ c.nodes _ (bound_low b o (suc d) a p.free h)
+    join b p.wires _ p.nodes _ body
+    (join b c.wires _ c.nodes _ (bound_low b o (suc d) a p.free deep)
     (join b e.wires _ e.nodes _ (doors_low b (o + length c.wires) d g c.free l) last))
 
 -- an application
 app_low : (b n d : ℕ) (g : List TyTree) (p q : Part) → d ≤ b → Low b p.wires p.nodes → Low b q.wires q.nodes
     → Low b (app_part n d g p q).wires (app_part n d g p q).nodes
-app_low b n d g p q h i k =
+app_low b n d g p q deep first second =
     let o = n + length p.wires + length q.wires in
     let e = doors o d g q.free in
     let x = o + length e.wires in
     let c = contract (suc x) d g p.free e.free in
     let w = suc x + length c.wires in
-    let last : Low b (value_wire d (codomain p.type) ∷ []) (App p.out x w ∷ []) = record { wires = (h, tt); nodes = tt } in
-    let box : Low b (bang_wire d (domain p.type) ∷ []) (BoxNode q.out x ∷ []) = record { wires = (h, tt); nodes = tt } in
-    join b p.wires _ p.nodes _ i (join b q.wires _ q.nodes _ k (join b e.wires _ e.nodes _ (doors_low b o d g q.free h)
+    let last : Low b (value_wire d (codomain p.type) ∷ []) (App p.out x w ∷ []) = record { wires = (deep, tt); nodes = tt } in
+    let box : Low b (bang_wire d (domain p.type) ∷ []) (BoxNode q.out x ∷ []) = record { wires = (deep, tt); nodes = tt } in
+    join b p.wires _ p.nodes _ first (join b q.wires _ q.nodes _ second (join b e.wires _ e.nodes _ (doors_low b o d g q.free deep)
     (join b (bang_wire d (domain p.type) ∷ []) _ (BoxNode q.out x ∷ []) _ box
-    (join b c.wires _ c.nodes _ (contract_low b (suc x) d g p.free e.free h) last))))
+    (join b c.wires _ c.nodes _ (contract_low b (suc x) d g p.free e.free deep) last))))
 
 -- one operand and a node
 unary_low : (b d w : ℕ) (node : ℕ → ℕ → Node) (t : TyTree) (p : Part) → ((x w : ℕ) → ConstsFit (node x w ∷ [])) → d ≤ b

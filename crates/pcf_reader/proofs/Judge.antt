@@ -93,16 +93,17 @@ passes_on (w ∷ u) (x ∷ v) s t y h k e =
 pub agrees : (front : Texts) (x : Written) (v ws : Texts) (s t : State) (a : List Placed)
     → Passes (front ++ x ∷ v) s → Follows s ws t → map placed ws ≡ map placed front ++ placed x ∷ a → (r : Texts) ×
     (ws ≡ front ++ x ∷ r)
-agrees [] x v [] s t a k h e = absurd (none_left (placed x) a e)
-agrees [] x v (w ∷ ws) s t a k h e =
-    let (is, pass) = same_step s h.0 w x (λ t. Passes v t) (v ≡ []) h.1 k (sym (head_is (placed w) (placed x) (map placed ws) a e)) in
+agrees [] x v [] s t a passes follows same = absurd (none_left (placed x) a same)
+agrees [] x v (w ∷ ws) s t a passes follows same =
+    let (is, pass) = same_step s follows.0 w x (λ t. Passes v t) (v ≡ []) follows.1 passes
+    (sym (head_is (placed w) (placed x) (map placed ws) a same)) in
     (ws, ap (λ z. z ∷ ws) (sym is))
-agrees (y ∷ front) x v [] s t a k h e = absurd (none_left (placed y) (map placed front ++ placed x ∷ a) e)
-agrees (y ∷ front) x v (w ∷ ws) s t a k h e =
-    let (is, pass) = same_step s h.0 w y (λ t. Passes (front ++ x ∷ v) t) (front ++ x ∷
-    v ≡ []) h.1 k (sym (head_is (placed w) (placed y) (map placed ws) (map placed front ++ placed x ∷ a) e)) in
-    let (r, more) = agrees front x v ws h.0 t a pass h.2
-    (tail_is (placed w) (placed y) (map placed ws) (map placed front ++ placed x ∷ a) e) in
+agrees (y ∷ front) x v [] s t a passes follows same = absurd (none_left (placed y) (map placed front ++ placed x ∷ a) same)
+agrees (y ∷ front) x v (w ∷ ws) s t a passes follows same =
+    let (is, pass) = same_step s follows.0 w y (λ t. Passes (front ++ x ∷ v) t) (front ++ x ∷
+    v ≡ []) follows.1 passes (sym (head_is (placed w) (placed y) (map placed ws) (map placed front ++ placed x ∷ a) same)) in
+    let (r, more) = agrees front x v ws follows.0 t a pass follows.2
+    (tail_is (placed w) (placed y) (map placed ws) (map placed front ++ placed x ∷ a) same) in
     (r, ap (λ z. z ∷ ws) (sym is) ∙ ap (λ z. y ∷ z) more)
 
 -- the tokens of the list that stand at a place

@@ -1,5 +1,5 @@
 -- What a run of a program's net says of the program, by name and by value.
-use Rattle.std.proofs.Common.{◌≡◌, ℕ, List, [], ◌∷◌, length, Option, Some, None, refl, sym, ◌∙◌, subst, arith}
+use Rattle.std.proofs.Common.{◌≡◌, ℕ, List, [], length, Option, Some, None, refl, sym, ◌∙◌, subst, arith}
 use Rattle.pcf_values.specs.declared.val.Val.{Val}
 use Rattle.pcf_values.specs.Terms.{TermTree, nat}
 use Rattle.pcf_values.specs.Typing.{HasType}
@@ -12,15 +12,12 @@ use Rattle.adequacy_laws.specs.Questions.{Length}
 use Rattle.adequacy_laws.specs.FinishedLaws.{TellsMeaning, MapFinishedMeans}
 use Rattle.schedule_log.specs.declared.entry.Entry.{Entry}
 use Rattle.schedule_log.specs.Logs.{tickets_in_log}
+use Rattle.schedule_log.proofs.Taken.{tickets_all}
 use Rattle.net_runs.specs.Running.{IsRun, IsFirstWorkers}
 use Rattle.program_runs.specs.Laws.{MovesTell, RunsTell}
 use Rattle.program_runs.specs.declared.calling.Calling.{Calling}
 use Rattle.program_runs.specs.Nets.{RunsAs, IsNetFor}
 use Rattle.program_runs.specs.RunsText.{meaning, run_as, net_run, Tells, IsProgramRun, RunsText}
-
-pub tickets_length : (log : List Entry) → length (tickets_in_log log) ≡ length log
-tickets_length [] = refl
-tickets_length (e ∷ es) = let h = tickets_length es in omega (arith, h)
 
 -- what a finished run tells of the term
 told : (t : TermTree) (budget : ℕ) (tickets : List ℕ) (answer : Option Val) (moves : ℕ) → length tickets ≡ moves →
@@ -41,7 +38,7 @@ runs_tell law t typed workers budget answer log r alone =
     let finished = subst (λ (a : Option Val). Finished a tickets budget) r.answers r.finished in
     let means = subst (λ (a : Option Val). TellsMeaning t tickets a budget) (sym r.answers)
     (law t typed tickets r.state r.led budget finished) in
-    record { is_run = r; alone = alone; tells = told t budget tickets answer (length log) (tickets_length log) means }
+    record { is_run = r; alone = alone; tells = told t budget tickets answer (length log) (tickets_all log) means }
 
 -- what a run says of one meaning, it says of another that is had wherever the first is
 of_other : (means other : Val → Type 0) → ((v : Val) → means v → other v) → (net : NetTree) (budget : ℕ) (answer : Option Val) (moves : ℕ) →
@@ -77,7 +74,7 @@ run_of calling t net is workers budget answer log r alone =
     let finished = subst (λ (a : Option Val). Finished a tickets budget) r.answers r.finished in
     let by_state = is.tells tickets r.state r.led budget finished in
     let by_answer = subst (λ (a : Option Val). Tells (meaning calling t) net budget a (length tickets)) (sym r.answers) by_state in
-    let tells = subst (λ (n : ℕ). Tells (meaning calling t) net budget answer n) (tickets_length log) by_answer in
+    let tells = subst (λ (n : ℕ). Tells (meaning calling t) net budget answer n) (tickets_all log) by_answer in
     subst (λ (n : NetTree). IsProgramRun (meaning calling t) n workers budget answer log) is.net_is
     (record { is_run = r; alone = alone; tells = tells })
 

@@ -1,13 +1,12 @@
 -- The moves of a log's entries, one after the other.
-use Rattle.std.proofs.Common.{◌≡◌, ℕ, suc, ◌+◌, ◌<◌, ◌≤◌, List, length, take, drop}
+use Rattle.std.proofs.Common.{◌≡◌, ℕ, suc, ◌+◌, ◌<◌, List, length, take, drop}
 use Rattle.std.proofs.Common.{get_or, Some, None, Err, sym, ap, ◌∙◌, subst, arith}
 use Rattle.schedule_log.specs.declared.entry.Entry.{Entry}
 use Rattle.schedule_log.specs.Logs.{tickets_in_log}
 use Rattle.schedule_log.proofs.Taken.{tickets_split, tickets_more, tickets_taken, tickets_all}
 use Rattle.std.specs.FinMap.{get}
-use Rattle.pcf_values.specs.Most.{most_moves, most_budget}
 use Rattle.net_build.specs.Nets.{NetTree}
-use Rattle.interleave_laws.specs.Maps.{MapState, step_map, LeadsToMap, IsReachedWithin}
+use Rattle.interleave_laws.specs.Maps.{MapState, step_map, LeadsToMap}
 use Rattle.replay_check.specs.declared.fault.ReplayFault.{ReplayFault}
 use Rattle.replay_check.specs.declared.replayed.Replayed.{Replayed}
 use Rattle.replay_check.specs.Replays.{IsRunOf, fault_at, ReplaysAs}
@@ -18,23 +17,18 @@ pub stops_here : (net : NetTree) (es : List Entry) (i : ℕ) (d : Entry) (S : Ma
     LeadsToMap net (tickets_in_log (take i es)) S → get S.tokens (get_or es i d).ticket ≡ None →
     f ≡ fault_at S.answered i (get_or es i d).ticket →
     ReplaysAs net (tickets_in_log es) (Err f)
-stops_here net es i d S f u h e g =
+stops_here net es i d S f inside led dead faulty =
     let t = (get_or es i d).ticket in
     stops_as net (tickets_in_log es) f (record {
       before = tickets_in_log (take i es);
       ticket = t;
       rest = tickets_in_log (drop (suc i) es);
-      are = tickets_split es i d u;
+      are = tickets_split es i d inside;
       state = S;
-      led = h;
-      dead = e;
-      fault = g ∙ ap (λ n. fault_at S.answered n t) (sym (tickets_taken es i (omega (arith, u))));
+      led = led;
+      dead = dead;
+      fault = faulty ∙ ap (λ n. fault_at S.answered n t) (sym (tickets_taken es i (omega (arith, inside))));
     })
-
--- The state at a place is reached by fewer moves than a log may have.
-pub reached_here : (net : NetTree) (es : List Entry) (i : ℕ) (S : MapState) → i < length es → length es ≤ most_moves →
-    LeadsToMap net (tickets_in_log (take i es)) S → IsReachedWithin net most_budget S
-reached_here net es i S u w h = let e = tickets_taken es i (omega (arith, u)) in (tickets_in_log (take i es), h, omega (arith, e, u, w))
 
 -- The ticket at a place has moved.
 pub moved_on : (net : NetTree) (es : List Entry) (i : ℕ) (d : Entry) (S T : MapState) → i < length es →

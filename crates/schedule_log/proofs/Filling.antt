@@ -7,7 +7,8 @@ use Rattle.std.proofs.lemmas.List.{length-append}
 use Rattle.schedule_log.specs.declared.entry.Entry.{Entry}
 use Rattle.schedule_log.specs.declared.fault.ScheduleFault.{ScheduleFault}
 use Rattle.schedule_log.specs.declared.version.Version.{Version}
-use Rattle.schedule_log.specs.Logs.{LogSeen, with_entries, read_entries}
+use Rattle.schedule_log.specs.Logs.{read_entries}
+use Rattle.schedule_log.specs.LogsSeen.{LogSeen, with_entries}
 use Rattle.text_lines.specs.Lines.{end_line, lines}
 use Rattle.schedule_log.specs.Schedules.{Run, again, moves, tickets_of}
 use Rattle.schedule_log.specs.Reading.{with_run, ended, runs_from, judged_line, counted, runs_or_none}
@@ -41,7 +42,7 @@ pub record Fills (l : LogSeen) (m : ℕ) (s : Result (List Run) ScheduleFault) (
   pub length_is : length l.entries ≡ m
   pub entries : l.entries ++ read_entries (tickets_of (runs_or_none s)) ≡ target
 
-ok_eq : (a b : ℕ) → (let r : Result ℕ ScheduleFault = Ok a in r ≡ Ok b) → a ≡ b
+pub ok_eq : (a b : ℕ) → (let r : Result ℕ ScheduleFault = Ok a in r ≡ Ok b) → a ≡ b
 ok_eq a b h = cc
 
 run_room : (m room : ℕ) (r : Run) (s : Result (List Run) ScheduleFault) → counted m (with_run r s) ≡ Ok room → m + r.count ≤ room

@@ -16,6 +16,7 @@ use Rattle.schedule_log.specs.Schedules.{HasFault, ReadAs}
 use Rattle.schedule_log.specs.Reading.{run_in, is_move_line, may_follow, ended, with_run, judged, runs_from, only_tickets, behind_header}
 use Rattle.schedule_log.specs.Reading.{tickets_in}
 use Rattle.text_lines.proofs.Lines.{IsLine, line_split}
+use Rattle.text_lines.proofs.Firsts.{first_is, no_first}
 use Rattle.text_lines.proofs.Numbers.{is_same, same_is}
 use Rattle.schedule_log.proofs.Numbers.{line_is, is_line, follows_is, is_follows}
 
@@ -49,16 +50,16 @@ later : (v : Version) (p : Option ℕ) (m n : ℕ) (l : List ℕ) (ls : List (Li
     IsMoveLine v l r →
     MayFollow v p r.ticket → r.ticket < 2 ^ 32 → FirstFault v (Some r.ticket) (m + r.count) (suc n) ls f →
     FirstFault v p m n (l ∷ ls) f
-later v p m n l ls r f a b c x = record {
-  before = l ∷ x.before;
-  rest = x.rest;
-  runs = r ∷ x.runs;
-  are = λ i. l ∷ x.are i;
-  stand = (a, b, x.stand);
-  tickets = (c, x.tickets);
-  few = omega (arith, x.few);
-  fault = moved v (last_ticket (Some r.ticket) x.runs) (m + r.count + moves x.runs) (m + (r.count + moves x.runs))
-      (suc n + length x.before) (n + suc (length x.before)) x.rest f (omega arith) (omega arith) x.fault;
+later v p m n l ls r f line follows fits found = record {
+  before = l ∷ found.before;
+  rest = found.rest;
+  runs = r ∷ found.runs;
+  are = λ i. l ∷ found.are i;
+  stand = (line, follows, found.stand);
+  tickets = (fits, found.tickets);
+  few = omega (arith, found.few);
+  fault = moved v (last_ticket (Some r.ticket) found.runs) (m + r.count + moves found.runs) (m + (r.count + moves found.runs))
+      (suc n + length found.before) (n + suc (length found.before)) found.rest f (omega arith) (omega arith) found.fault;
 }
 
 later_whole : (v : Version) (p : Option ℕ) (m : ℕ) (l : List ℕ) (ls : List (List ℕ)) (r : Run) (rs : List Run) →
@@ -86,21 +87,25 @@ fits_read : (v : Version) (p : Option ℕ) (m n : ℕ) (l : List ℕ) (ls : List
     IsMoveLine v l r → MayFollow v p r.ticket → m ≤ most_moves →
     (m + r.count ≤ most_moves → RunsRead v (Some r.ticket) (m + r.count) (suc n) ls s) →
     RunsRead v p m n (l ∷ ls) (if t then (if c then with_run r s else Err (TooLong n)) else Err (TicketTooWide n))
-fits_read v p m n l ls r s true true e g a b u x = with_read v p m n l ls r s a b (ltb-true r.ticket (2 ^ 32) e)
-    (x (leb-true (m + r.count) most_moves g))
-fits_read v p m n l ls r s true false e g a b u x =
-    here v p m n (l ∷ ls) (TooLong n) u (
+fits_read v p m n l ls r s true true narrow few line follows within rest =
+    with_read v p m n l ls r s line follows (ltb-true r.ticket (2 ^ 32) narrow)
+    (rest (leb-true (m + r.count) most_moves few))
+fits_read v p m n l ls r s true false narrow few line follows within rest =
+    here v p m n (l ∷ ls) (TooLong n) within (
       refl,
       record {
         run = r;
-        is = a;
-        follows = b;
-        fits = ltb-true r.ticket (2 ^ 32) e;
-        much = leb-false (m + r.count) most_moves g;
+        is = line;
+        follows = follows;
+        fits = ltb-true r.ticket (2 ^ 32) narrow;
+        much = leb-false (m + r.count) most_moves few;
       },
     )
-fits_read v p m n l ls r s false c e g a b u x =
-    here v p m n (l ∷ ls) (TicketTooWide n) u (refl, record { run = r; is = a; follows = b; wide = ltb-false r.ticket (2 ^ 32) e })
+fits_read v p m n l ls r s false c narrow few line follows within rest =
+    here v p m n (l ∷ ls) (TicketTooWide n) within (
+      refl,
+      record { run = r; is = line; follows = follows; wide = ltb-false r.ticket (2 ^ 32) narrow },
+    )
 
 -- a line that is told to be no move line, or not to follow
 pub no_line : (v : Version) (p : Option ℕ) (l : List ℕ) → (is_move_line v l && may_follow v p (run_in v l).ticket) ≡ false →
@@ -192,12 +197,6 @@ body_read bytes v more (Ok rs) u e x = record {
   tickets_are = refl;
 }
 body_read bytes v more (Err f) u e x = fault_read bytes f (record { version = v; more = more; short = u; lines_are = e; first = x })
-
-first_is : (a l : List ℕ) (ks ls : List (List ℕ)) → a ∷ ks ≡ l ∷ ls → a ≡ l
-first_is a l ks ls h = cc
-
-no_first : (l : List ℕ) (ls : List (List ℕ)) → (let none : List (List ℕ) = [] in none ≡ l ∷ ls) → ⊥
-no_first l ls h = cc
 
 -- A text whose first line is no header begins with none.
 lacks : (bytes l : List ℕ) (ls : List (List ℕ)) → length bytes ≤ most_schedule_bytes → lines bytes ≡ l ∷ ls →

@@ -1,7 +1,7 @@
 -- The entry at a place is that of the list.
 use Rattle.std.proofs.Common.{◌≡◌, ℕ, zero, suc, ◌<◌, ◌≤◌, List, [], ◌∷◌, length, get_or, Some, None, refl, arith}
 use Rattle.schedule_log.specs.declared.entry.Entry.{Entry}
-use Rattle.schedule_log.specs.Logs.{ticket_at, worker_at}
+use Rattle.schedule_log.specs.LogsSeen.{ticket_at, worker_at}
 
 -- The ticket at a place is that of its entry.
 pub ticket_there : (es : List Entry) (i : ℕ) (d : Entry) → i < length es → ticket_at es i ≡ Some (get_or es i d).ticket

@@ -20,7 +20,7 @@ use Rattle.schedule_log.specs.Schedules.{Run, again, moves, tickets_of, header, 
 use Rattle.text_lines.specs.Lines.{joined}
 use Rattle.schedule_log.specs.Runs.{with_ticket, runs_of, run_line, run_lines, schedule_text}
 use Rattle.schedule_log.specs.Laws.{IsReadBack}
-use Rattle.schedule_log.specs.Logs.{Small}
+use Rattle.schedule_log.specs.LogsSeen.{Small}
 use Rattle.schedule_log.proofs.OneWay.{one_answer}
 use Rattle.text_lines.proofs.Lines.{AreLines, IsLine, feed_line, joined_lines, line_front, no_feed_decimal}
 use Rattle.schedule_log.proofs.Found.{header_is_line}

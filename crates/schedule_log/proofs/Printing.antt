@@ -78,17 +78,18 @@ goes_on x y t u n m i rest d k h e f g =
     ∙ g
 
 -- It is of another ticket, and the line of the run is written.
-pub ends_run : (x z y : List ℕ) (t u n m i : ℕ) (rest : List Entry) (d : Entry) → i < length rest →
+pub ends_run : (before after y : List ℕ) (t u n m i : ℕ) (rest : List Entry) (d : Entry) → i < length rest →
     ((get_or rest i d).ticket ≡ t → ⊥) →
-    1 ≤ n → z ≡ x ++ run_line (record { ticket = t; count = n }) → u ≡ (get_or rest i d).ticket → m ≡ 1 →
-    x ++ unwritten t n (drop i rest) ≡ y → z ++ unwritten u m (drop (i + 1) rest) ≡ y
-ends_run x z y t u n m i rest d k h s w e f g =
+    1 ≤ n → after ≡ before ++ run_line (record { ticket = t; count = n }) → u ≡ (get_or rest i d).ticket → m ≡ 1 →
+    before ++ unwritten t n (drop i rest) ≡ y → after ++ unwritten u m (drop (i + 1) rest) ≡ y
+ends_run before after y t u n m i rest d inside other some line taken single whole =
     let i' : i + 1 ≡ suc i = omega arith in
     let l = run_line (run t n) in
-    (λ j. w j ++ unwritten (e j) (f j) (drop (i' j) rest))
-    ∙ append_assoc x l (unwritten (get_or rest i d).ticket 1 (drop (suc i) rest))
-    ∙ ap (λ s. x ++ s) (sym (ap (unwritten t n) (drop-cons rest i d k) ∙ other_ticket t n (get_or rest i d) (drop (suc i) rest) s h))
-    ∙ g
+    (λ j. line j ++ unwritten (taken j) (single j) (drop (i' j) rest))
+    ∙ append_assoc before l (unwritten (get_or rest i d).ticket 1 (drop (suc i) rest))
+    ∙ ap (λ s. before ++ s) (sym (ap (unwritten t n) (drop-cons rest i d inside)
+    ∙ other_ticket t n (get_or rest i d) (drop (suc i) rest) some other))
+    ∙ whole
 
 -- All moves are met: what is written at last.
 pub all_written : (x z y : List ℕ) (t n i : ℕ) (rest : List Entry) → length rest ≤ i → 1 ≤ n →

@@ -1,5 +1,6 @@
 -- The tickets of a log up to a place, and how many they are.
 use Rattle.std.proofs.Common.{◌≡◌, ℕ, zero, suc, ◌<◌, ◌≤◌, List, [], ◌∷◌, ◌++◌, length, take, drop, get_or, refl, ap, arith}
+use Rattle.pcf_values.specs.Most.{most_moves, most_budget}
 use Rattle.schedule_log.specs.declared.entry.Entry.{Entry}
 use Rattle.schedule_log.specs.Logs.{tickets_in_log}
 
@@ -22,6 +23,10 @@ pub tickets_taken : (es : List Entry) (i : ℕ) → i ≤ length es → length (
 tickets_taken es zero u = refl
 tickets_taken [] (suc i) u = absurd (omega (arith, u))
 tickets_taken (e ∷ es) (suc i) u = ap suc (tickets_taken es i (omega (arith, u)))
+
+-- The tickets up to a place of a log that isn't too long are fewer than the moves of any budget that is.
+pub taken_few : (es : List Entry) (i : ℕ) → i < length es → length es ≤ most_moves → length (tickets_in_log (take i es)) < most_budget
+taken_few es i inside few = let e = tickets_taken es i (omega (arith, inside)) in omega (arith, e, inside, few)
 
 -- A log has as many tickets as entries.
 pub tickets_all : (es : List Entry) → length (tickets_in_log es) ≡ length es

@@ -10,9 +10,11 @@ use Rattle.schedule_log.specs.declared.fault.ScheduleFault.TheVariants.{NoMemory
 use Rattle.schedule_log.specs.declared.version.Version.{Version}
 use Rattle.text_lines.specs.Lines.{lines}
 use Rattle.schedule_log.specs.Schedules.{Run, again, moves, tickets_of, header, ReadAs}
-use Rattle.schedule_log.specs.Logs.{LogSeen, empty_log, read_entries, read_log, tickets_in_log}
+use Rattle.schedule_log.specs.Logs.{read_entries, tickets_in_log}
+use Rattle.schedule_log.specs.LogsSeen.{LogSeen, empty_log, read_log}
 use Rattle.schedule_log.specs.Reading.{counted, only_tickets, runs_from, runs_or_none, behind_header, tickets_in}
 use Rattle.schedule_log.proofs.Found.{first_fault_found}
+use Rattle.schedule_log.proofs.Filling.{ok_eq}
 use Rattle.schedule_log.proofs.OneWay.{header_told, short_told}
 
 -- The tickets of entries that were read are the tickets.
@@ -33,9 +35,6 @@ tickets_length (r ∷ rs) = let e = again_length r.ticket r.count (tickets_of rs
 pub record Filled (s : Result (List Run) ScheduleFault) (l : LogSeen) : Type 0 where
   pub answer : only_tickets s ≡ Ok (tickets_in_log l.entries)
   pub log : l ≡ read_log (tickets_in_log l.entries)
-
-ok_eq : (a b : ℕ) → (let r : Result ℕ ScheduleFault = Ok a in r ≡ Ok b) → a ≡ b
-ok_eq a b h = cc
 
 own_filled : (rs : List Run) (room : ℕ) → 0 + moves rs ≡ room →
     Filled (Ok rs) (record { entries = read_entries (tickets_of rs); room = room })

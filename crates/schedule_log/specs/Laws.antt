@@ -5,7 +5,7 @@ use Rattle.schedule_log.specs.declared.fault.ScheduleFault.{ScheduleFault}
 use Rattle.schedule_log.specs.declared.fault.ScheduleFault.TheVariants.{NoMemory}
 use Rattle.schedule_log.specs.Schedules.{ReadAs}
 use Rattle.schedule_log.specs.Reading.{tickets_in}
-use Rattle.schedule_log.specs.Logs.{Small}
+use Rattle.schedule_log.specs.LogsSeen.{Small}
 use Rattle.schedule_log.specs.Runs.{schedule_text}
 use Rattle.schedule_log.specs.declared.entry.Entry.{Entry}
 use Rattle.schedule_log.specs.Tally.{tally, WorkersUpTo}

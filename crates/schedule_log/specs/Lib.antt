@@ -1,7 +1,7 @@
 -- what a reader has to believe: a log and its tickets, which bytes are the text of which tickets and which fault is the first, the text
 -- that is printed, the tally of a log's workers
 --
--- What contracts see of a log: its entries and its room.
+-- The entries of a log: their tickets, and by whom the moves were made.
 pub mod Logs
 -- Which bytes are the text of a schedule, and which fault of other bytes is the first.
 pub mod Schedules
@@ -17,3 +17,5 @@ pub mod Laws
 pub mod Rows
 -- how a text is read line by line: what laws and the code's inner calls speak of
 pub mod Reading
+-- What contracts see of a log: its entries and its room, and what the calls on a log make of these.
+pub mod LogsSeen

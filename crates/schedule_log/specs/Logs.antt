@@ -1,23 +1,11 @@
--- What contracts see of a log: its entries and its room.
-use Rattle.std.specs.Prelude.{ℕ, zero, suc, ◌<◌, ◌≤◌, ◌^◌, List, [], ◌∷◌, ◌++◌, All, length, map, Option, Some}
-use Rattle.std.specs.Prelude.{None, Result, Ok, Err}
+-- The entries of a log: their tickets, and by whom the moves were made.
+use Rattle.std.specs.Prelude.{ℕ, ◌≤◌, List, [], ◌∷◌, All, map}
 use Rattle.schedule_log.specs.declared.entry.Entry.{Entry}
-use Rattle.schedule_log.specs.declared.fault.ScheduleFault.{ScheduleFault}
-
--- the entries in order, and for how many there is room
-pub record LogSeen : Type 0 where
-  pub entries : List Entry
-  pub room : ℕ
 
 -- the tickets of entries
 abbrev pub tickets_in_log : List Entry → List ℕ
 tickets_in_log [] = []
 tickets_in_log (e ∷ es) = e.ticket ∷ tickets_in_log es
-
--- each ticket is below 2 ^ 32, as those of every log are
-abbrev pub Small : List ℕ → Type 0
-Small [] = Unit {0}
-Small (t ∷ ts) = (t < 2 ^ 32) × Small ts
 
 -- moves of these tickets, all by one worker
 abbrev pub by : ℕ → List ℕ → List Entry
@@ -27,39 +15,6 @@ by w tickets = map (λ t. record { ticket = t; worker = w }) tickets
 abbrev pub IsMadeBy : ℕ → List Entry → Type 0
 IsMadeBy workers log = All (λ e. e.worker ≤ workers) log
 
--- the ticket of the entry at a place, if it isn't past the end
-abbrev pub ticket_at : List Entry → ℕ → Option ℕ
-ticket_at [] n = None
-ticket_at (e ∷ es) zero = Some e.ticket
-ticket_at (e ∷ es) (suc n) = ticket_at es n
-
--- the worker of the entry at a place, if it isn't past the end
-abbrev pub worker_at : List Entry → ℕ → Option ℕ
-worker_at [] n = None
-worker_at (e ∷ es) zero = Some e.worker
-worker_at (e ∷ es) (suc n) = worker_at es n
-
--- the log without entries
-abbrev pub empty_log : ℕ → LogSeen
-empty_log room = record { entries = []; room = room }
-
--- the log with one more entry
-abbrev pub with_entry : LogSeen → Entry → LogSeen
-with_entry l e = record { entries = l.entries ++ e ∷ []; room = l.room }
-
--- the log with more entries
-abbrev pub with_entries : LogSeen → List Entry → LogSeen
-with_entries l es = record { entries = l.entries ++ es; room = l.room }
-
 -- the entries of tickets that are read: no worker is told, so each has worker 0
 abbrev pub read_entries : List ℕ → List Entry
 read_entries ts = by 0 ts
-
--- the log of tickets that are read, with room for them exactly
-abbrev pub read_log : List ℕ → LogSeen
-read_log ts = record { entries = read_entries ts; room = length ts }
-
--- the tickets of a log that was read, or the fault
-abbrev pub tickets_read : Result LogSeen ScheduleFault → Result (List ℕ) ScheduleFault
-tickets_read (Ok l) = Ok (tickets_in_log l.entries)
-tickets_read (Err f) = Err f

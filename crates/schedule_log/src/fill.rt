@@ -2,7 +2,8 @@
 
 ghost use Rattle.std.specs.Prelude.{◌≡◌, ◌+◌, ◌≤◌, length, [], None, Ok};
 ghost use Rattle.pcf_values.specs.Most.{most_schedule_bytes};
-ghost use Rattle.schedule_log.specs.Logs.{read_entries, with_entries};
+ghost use Rattle.schedule_log.specs.Logs.{read_entries};
+ghost use Rattle.schedule_log.specs.LogsSeen.{with_entries};
 ghost use Rattle.schedule_log.specs.Reading.{counted, runs_from, runs_or_none};
 ghost use Rattle.text_lines.specs.Lines.{lines};
 ghost use Rattle.schedule_log.specs.Schedules.{again, tickets_of};

@@ -1,7 +1,8 @@
 //! The log of a run.
 
 ghost use Rattle.std.specs.Prelude.{◌≡◌, ◌+◌, ◌<◌, ◌≤◌, ◌^◌, length, replicate, IfOk};
-ghost use Rattle.schedule_log.specs.Logs.{Small, empty_log, ticket_at, tickets_in_log, with_entries, with_entry, worker_at};
+ghost use Rattle.schedule_log.specs.Logs.{tickets_in_log};
+ghost use Rattle.schedule_log.specs.LogsSeen.{Small, empty_log, ticket_at, with_entries, with_entry, worker_at};
 ghost use Rattle.schedule_log.specs.Tally.{tally_of};
 
 use crate::entry::Entry;
@@ -17,7 +18,8 @@ pub struct Log {
 
 impl Model for Log {
     ghost use Rattle.std.specs.Prelude.{◌<◌, ◌^◌, vec_capacity};
-    ghost use Rattle.schedule_log.specs.Logs.{LogSeen, Small, tickets_in_log};
+    ghost use Rattle.schedule_log.specs.Logs.{tickets_in_log};
+    ghost use Rattle.schedule_log.specs.LogsSeen.{LogSeen, Small};
 
     ghost Value = { LogSeen };
 

@@ -3,7 +3,8 @@
 ghost use Rattle.std.specs.Prelude.{◌≡◌, ◌⊎◌, ◌↔◌, ◌<◌, ◌≤◌, length, IsTrue, None, Err, IfOk, IfSome, IfNone};
 ghost use Rattle.pcf_values.specs.Most.{most_schedule_bytes};
 ghost use Rattle.schedule_log.specs.declared.fault.ScheduleFault.TheVariants.{NoMemory};
-ghost use Rattle.schedule_log.specs.Logs.{read_log, tickets_in_log, tickets_read};
+ghost use Rattle.schedule_log.specs.Logs.{tickets_in_log};
+ghost use Rattle.schedule_log.specs.LogsSeen.{read_log, tickets_read};
 ghost use Rattle.schedule_log.specs.Reading.{MaybeRead, only_tickets, runs_from};
 ghost use Rattle.text_lines.specs.Lines.{lines};
 ghost use Rattle.schedule_log.specs.Schedules.{ReadAs, header};

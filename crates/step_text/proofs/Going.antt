@@ -14,14 +14,14 @@ one_more from most room b k lines t n e =
 moves_on : (from most room budget k : ℕ) (lines new : List ℕ) (t n : NamedTree) (c : Course) → k < budget →
     next_term room t ≡ Some n → new ≡ lines ++ line_in from most k t → goes_on from most room (budget - k) k lines t ≡ c →
     goes_on from most room (budget - suc k) (suc k) new n ≡ c
-moves_on from most room budget k lines new t n c l e f h =
-    ap (λ z. goes_on from most room (budget - suc k) (suc k) z n) f
-    ∙ sym (one_more from most room (budget - suc k) k lines t n e)
+moves_on from most room budget k lines new t n c below stepped printed ends =
+    ap (λ z. goes_on from most room (budget - suc k) (suc k) z n) printed
+    ∙ sym (one_more from most room (budget - suc k) k lines t n stepped)
     ∙ ap (λ b. goes_on from most room b k lines t) left
-    ∙ h
+    ∙ ends
   where
     left : suc (budget - suc k) ≡ budget - k
-    left = omega (arith, l)
+    left = omega (arith, below)
 
 next_place : (k : ℕ) → suc k ≡ k + 1
 next_place k = omega arith

@@ -9,9 +9,9 @@ use Rattle.pcf_values.specs.Terms.{TermTree, num, var, succ_of, pred_of, binary,
 use Rattle.cbn_meaning.specs.Meaning.{value, Means}
 use Rattle.cbn_meaning.specs.HeadSteps.{Head}
 use Rattle.cbn_meaning.specs.Derivations.{Ev, ev_num, ev_succ, ev_pred, ev_binary, ev_ifz, HasEv, Steps}
-use Rattle.cbn_meaning.proofs.Derived.{succ_inv, pred_inv, binary_inv, ifz_inv, ev_eval, eval_ev}
+use Rattle.cbn_meaning.proofs.Derived.{binary_inv, ifz_inv, ev_eval, eval_ev}
 use Rattle.cbn_meaning.proofs.Same.{ev_same}
-use Rattle.cbn_meaning.proofs.Head.{beta, unfold_fix, take_part, app_steps, proj_steps}
+use Rattle.cbn_meaning.proofs.Head.{beta, unfold_fix, take_part, succ_steps, pred_steps, app_steps, proj_steps}
 use Rattle.term_steps.specs.Steps.{spelled, spell, on_spelled, step}
 use Rattle.term_steps.proofs.Options.{from_map, from_spelled, spelled_number, spelled_overflow, next_number, succ_moves, pred_moves}
 use Rattle.term_steps.proofs.Options.{app_moves, proj_moves, moving_unspelled}
@@ -88,22 +88,6 @@ branch_steps c p q v g = record {
 }
 
 -- the steps of a part
-succ_steps : (m m' : TermTree) → Steps m m' → Steps (succ_of m) (succ_of m')
-succ_steps m m' h = record {
-  forth = λ s r e. let (i, v, f, _, x) = succ_inv e in let (z, f') = h.forth i (value v) f in
-      subst (HasEv (succ_of m)) (sym x) (suc z, ev_succ f');
-  back = λ s r e. let (i, v, f, q, x) = succ_inv e in let (z, l, f') = h.back i (value v) f in
-      (suc z, omega arith, subst (Ev (suc z) (succ_of m')) (sym x) (ev_succ f'));
-}
-
-pred_steps : (m m' : TermTree) → Steps m m' → Steps (pred_of m) (pred_of m')
-pred_steps m m' h = record {
-  forth = λ s r e. let (i, v, f, _, x) = pred_inv e in let (z, f') = h.forth i (value v) f in
-      subst (HasEv (pred_of m)) (sym x) (suc z, ev_pred f');
-  back = λ s r e. let (i, v, f, q, x) = pred_inv e in let (z, l, f') = h.back i (value v) f in
-      (suc z, omega arith, subst (Ev (suc z) (pred_of m')) (sym x) (ev_pred f'));
-}
-
 left_steps : (o : Operator) (m m' n : TermTree) → Steps m m' → Steps (binary o m n) (binary o m' n)
 left_steps o m m' n h = record {
   forth = λ s r e. let (i, k, v, w, f, g, _, x) = binary_inv e in let (z, f') = h.forth i (value v) f in
@@ -126,7 +110,7 @@ test_steps m m' p q h = record {
   back = λ s r e. let (i, k, v, f, g, x) = ifz_inv e in let (z, l, f') = h.back i (value v) f in (suc (z + k), omega arith, ev_ifz f' g);
 }
 
-some_same : {m n : TermTree} → Some m ≡ Some n → m ≡ n
+pub some_same : {m n : TermTree} → Some m ≡ Some n → m ≡ n
 some_same e = cc
 
 -- each step keeps all results, by a smaller derivation

@@ -126,15 +126,15 @@ different x y n = no_bool (bytes_eq x y) (λ z. n ((bytes_eq-Decides x y).0 z))
 put_name : (at : ℕ) (y : List ℕ) (s : List (List ℕ)) (x : List ℕ) (n : NamedTree) (p : TermTree) (i : ℕ) →
     ((j : ℕ) → slice_get s j ≢ Some x) → Binds (s ++ x ∷ []) y i → Resolves [] n p → (i < length s) ⊎ (length s ≤ i) →
     Resolves s (cond (bytes_eq x y) n (name_at at y)) (replaced i (length s) p)
-put_name at y s x n p i f d r (inl l) =
-    let b = binds_narrower s (x ∷ []) y i l d in
-    let z : bytes_eq x y ≡ false = different x y (λ q. f i (b.0 ∙ ap Some (sym q))) in
+put_name at y s x n p i absent binds resolves (inl l) =
+    let b = binds_narrower s (x ∷ []) y i l binds in
+    let z : bytes_eq x y ≡ false = different x y (λ q. absent i (b.0 ∙ ap Some (sym q))) in
     subst (λ z. Resolves s (cond z n (name_at at y)) (replaced i (length s) p)) (sym z) (i, b, replaced_below i (length s) p l)
-put_name at y s x n p i f d r (inr l) =
-    let (q, e) = get_last s x y i l d.0 in
+put_name at y s x n p i absent binds resolves (inr l) =
+    let (q, e) = get_last s x y i l binds.0 in
     let z : bytes_eq x y ≡ true = (bytes_eq-Decides x y).1 e in
     subst (λ z. Resolves s (cond z n (name_at at y)) (replaced i (length s) p)) (sym z)
-    (subst (Resolves s n) (sym (replaced_here i (length s) p q)) (wider n [] s p r))
+    (subst (Resolves s n) (sym (replaced_here i (length s) p q)) (wider n [] s p resolves))
 
 fresh : (s : List (List ℕ)) (x y : List ℕ) → x ≢ y → ((j : ℕ) → slice_get s j ≢ Some x) → (j : ℕ) → slice_get (y ∷ s) j ≢ Some x
 fresh s x y n f zero e = n (cc)
@@ -143,36 +143,36 @@ fresh s x y n f (suc j) e = f j e
 -- what is put for the outermost binder's name
 pub put_resolves : (t : NamedTree) (s : List (List ℕ)) (x : List ℕ) (n : NamedTree) (p m : TermTree) →
     ((j : ℕ) → slice_get s j ≢ Some x) → Resolves (s ++ x ∷ []) t m → Resolves [] n p → Resolves s (put x n t) (subst_at m (length s) p)
-put_resolves (number_at at k) s x n p m f e r = ap (λ m. subst_at m (length s) p) e
-put_resolves (name_at at y) s x n p m f (i, d, e) r =
+put_resolves (number_at at k) s x n p m absent is resolves = ap (λ m. subst_at m (length s) p) is
+put_resolves (name_at at y) s x n p m absent (i, d, e) resolves =
     subst (λ m. Resolves s (cond (bytes_eq x y) n (name_at at y)) (subst_at m (length s) p)) (sym e)
-    (put_name at y s x n p i f d r (cases_lt i (length s)))
-put_resolves (word_at at w a) s x n p m f (b, q, e) r =
-    (subst_at b (length s) p, put_resolves a s x n p b f q r, ap (λ m. subst_at m (length s) p) e ∙ subst_word w b (length s) p)
-put_resolves (binary_at at o a b) s x n p m f (c, d, q, u, e) r = (
+    (put_name at y s x n p i absent d resolves (cases_lt i (length s)))
+put_resolves (word_at at w a) s x n p m absent (b, q, e) resolves =
+    (subst_at b (length s) p, put_resolves a s x n p b absent q resolves, ap (λ m. subst_at m (length s) p) e ∙ subst_word w b (length s) p)
+put_resolves (binary_at at o a b) s x n p m absent (c, d, q, u, e) resolves = (
   subst_at c (length s) p,
   subst_at d (length s) p,
-  put_resolves a s x n p c f q r,
-  put_resolves b s x n p d f u r,
+  put_resolves a s x n p c absent q resolves,
+  put_resolves b s x n p d absent u resolves,
   ap (λ m. subst_at m (length s) p) e,
 )
-put_resolves (pair_at at a b) s x n p m f (c, d, q, u, e) r = (
+put_resolves (pair_at at a b) s x n p m absent (c, d, q, u, e) resolves = (
   subst_at c (length s) p,
   subst_at d (length s) p,
-  put_resolves a s x n p c f q r,
-  put_resolves b s x n p d f u r,
+  put_resolves a s x n p c absent q resolves,
+  put_resolves b s x n p d absent u resolves,
   ap (λ m. subst_at m (length s) p) e,
 )
-put_resolves (ifz_at at c a b) s x n p m f (d, g, k, q, u, v, e) r = (
+put_resolves (ifz_at at c a b) s x n p m absent (d, g, k, q, u, v, e) resolves = (
   subst_at d (length s) p,
   subst_at g (length s) p,
   subst_at k (length s) p,
-  put_resolves c s x n p d f q r,
-  put_resolves a s x n p g f u r,
-  put_resolves b s x n p k f v r,
+  put_resolves c s x n p d absent q resolves,
+  put_resolves a s x n p g absent u resolves,
+  put_resolves b s x n p k absent v resolves,
   ap (λ m. subst_at m (length s) p) e,
 )
-put_resolves (bind_at at b y a t) s x n p m f (c, q, e) r = go (bytes_eq x y) refl (put_resolves t (y ∷ s) x n p c)
+put_resolves (bind_at at b y a t) s x n p m absent (c, q, e) resolves = go (bytes_eq x y) refl (put_resolves t (y ∷ s) x n p c)
   where
     go : (z : Bool) → bytes_eq x y ≡ z → (((j : ℕ) → slice_get (y ∷ s) j ≢ Some x) → Resolves ((y ∷ s) ++ x ∷ []) t c → Resolves [] n p →
         Resolves (y ∷ s) (put x n t) (subst_at c (length (y ∷ s)) p)) →
@@ -186,14 +186,14 @@ put_resolves (bind_at at b y a t) s x n p m f (c, q, e) r = go (bytes_eq x y) re
     go false z ih = (
       subst_at c (suc (length s)) p,
       subst (λ z. Resolves (y ∷ s) (cond z t (put x n t)) (subst_at c (suc (length s)) p)) (sym z)
-          (ih (fresh s x y (λ e. let k : true ≡ false = sym ((bytes_eq-Decides x y).1 e) ∙ z in cc) f) q r),
+          (ih (fresh s x y (λ e. let k : true ≡ false = sym ((bytes_eq-Decides x y).1 e) ∙ z in cc) absent) q resolves),
       ap (λ m. subst_at m (length s) p) e ∙ subst_binder b a c (length s) p,
     )
-put_resolves (apply_at at g a) s x n p m f (c, d, q, u, e) r = (
+put_resolves (apply_at at g a) s x n p m absent (c, d, q, u, e) resolves = (
   subst_at c (length s) p,
   subst_at d (length s) p,
-  put_resolves g s x n p c f q r,
-  put_resolves a s x n p d f u r,
+  put_resolves g s x n p c absent q resolves,
+  put_resolves a s x n p d absent u resolves,
   ap (λ m. subst_at m (length s) p) e,
 )
 

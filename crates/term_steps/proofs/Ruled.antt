@@ -8,6 +8,7 @@ use Rattle.pcf_values.specs.Terms.{TermTree, num, var, succ_of, pred_of, binary,
 use Rattle.term_steps.specs.Steps.{spelled, spell, on_spelled, step}
 use Rattle.term_steps.specs.Rules.{Reduces, by_fix, by_fun, by_part, by_succ, by_pred, by_op, by_ifz, in_succ, in_pred, in_left, in_right}
 use Rattle.term_steps.specs.Rules.{in_test, in_app, in_proj}
+use Rattle.term_steps.proofs.Keeps.{some_same}
 use Rattle.term_steps.proofs.Options.{from_map, from_spelled, succ_moves, pred_moves, app_moves, proj_moves, moving_unspelled}
 
 left_moves : (o : Operator) (a b n : TermTree) → step a ≡ Some n → step (binary o a b) ≡ Some (binary o n b)
@@ -35,9 +36,6 @@ rule_step _ _ (in_right {o = o} {a = a} {b = b} {c = c} {v = v} e h) = right_mov
 rule_step _ _ (in_test {c = c} {d = d} {p = p} {q = q} h) = test_moves c p q d (rule_step c d h)
 rule_step _ _ (in_app {f = f} {g = g} {x = x} h) = app_moves f x g (rule_step f g h)
 rule_step _ _ (in_proj {s = s} {a = a} {b = b} h) = proj_moves s a b (rule_step a b h)
-
-some_same : {m n : TermTree} → Some m ≡ Some n → m ≡ n
-some_same e = cc
 
 abbrev Ruled : TermTree → Type 0
 Ruled a = (b : TermTree) → step a ≡ Some b → Reduces a b

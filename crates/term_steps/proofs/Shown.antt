@@ -1,5 +1,6 @@
 -- The part that is rewritten next stands where it is said to stand.
-use Rattle.std.proofs.Common.{◌≡◌, ℕ, Bool, true, false, cond, List, [], ◌∷◌, ◌++◌, Option, Some, None, refl, sym, ap, ◌∙◌}
+use Rattle.std.proofs.Common.{ℕ, Bool, true, false, cond, List, [], ◌++◌, Option, Some, None, sym, ap, ◌∙◌}
+use Rattle.std.proofs.lemmas.List.{append_assoc, append-nil}
 use Rattle.std.specs.Prelude.{nat_le, codes}
 use Rattle.pcf_values.specs.declared.val.Val.{Val}
 use Rattle.pcf_values.specs.Named.{the_succ, the_pred, the_part, the_fun, the_fix, NamedTree, number_at, name_at, word_at}
@@ -10,25 +11,17 @@ use Rattle.term_steps.specs.Names.{named_spelled}
 use Rattle.term_steps.specs.Redex.{behind, inside, redex, StandsBehind, Shows}
 use Rattle.pcf_values.specs.declared.side.Side.TheVariants.{Left, Right}
 
-assoc : {A : Type 0} (x y z : List A) → (x ++ y) ++ z ≡ x ++ (y ++ z)
-assoc [] y z = refl
-assoc (a ∷ x) y z = ap (λ l. a ∷ l) (assoc x y z)
-
-nil : {A : Type 0} (x : List A) → x ++ [] ≡ x
-nil [] = refl
-nil (a ∷ x) = ap (λ l. a ∷ l) (nil x)
-
 here : (x : List ℕ) → StandsBehind [] x x
-here x = ([], sym (nil x))
+here x = ([], sym (append-nil x))
 
 shows_behind : (z y : List ℕ) (o : Option (List ℕ × NamedTree)) → Shows o y → Shows (behind z o) (z ++ y)
 shows_behind z y None h = h
-shows_behind z y (Some r) (a, e) = (a, ap (λ y. z ++ y) e ∙ sym (assoc z r.0 (term_text r.1 ++ a)))
+shows_behind z y (Some r) (a, e) = (a, ap (λ y. z ++ y) e ∙ sym (append_assoc z r.0 (term_text r.1 ++ a)))
 
 shows_before : (z y : List ℕ) (o : Option (List ℕ × NamedTree)) → Shows o y → Shows o (y ++ z)
 shows_before z y None h = h
 shows_before z y (Some r) (a, e) =
-    (a ++ z, ap (λ y. y ++ z) e ∙ assoc r.0 (term_text r.1 ++ a) z ∙ ap (λ y. r.0 ++ y) (assoc (term_text r.1) a z))
+    (a ++ z, ap (λ y. y ++ z) e ∙ append_assoc r.0 (term_text r.1 ++ a) z ∙ ap (λ y. r.0 ++ y) (append_assoc (term_text r.1) a z))
 
 shows_inside : (most lev : ℕ) (y : List ℕ) (o : Option (List ℕ × NamedTree)) → Shows o y → Shows (inside most lev o) (fitted most lev y)
 shows_inside most lev y o h = go (nat_le lev most)

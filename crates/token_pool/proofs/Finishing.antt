@@ -16,10 +16,11 @@ use Rattle.interleave_laws.proofs.OneWorker.{least_found, least_search, one_fini
 use Rattle.interleave_core.proofs.AloneRuns.{least_seen}
 use Rattle.schedule_log.specs.declared.entry.Entry.{Entry}
 use Rattle.schedule_log.specs.Logs.{IsMadeBy, by, tickets_in_log}
+use Rattle.schedule_log.proofs.Taken.{tickets_all}
 use Rattle.token_pool.specs.declared.ending.Ended.{Ended}
 use Rattle.token_pool.specs.Pools.{Pool, Good}
 use Rattle.token_pool.specs.Ending.{remaining, finished, Finishes, Suits, Replays}
-use Rattle.token_pool.proofs.Moving.{tickets_both, tickets_length, tickets_by, made_by}
+use Rattle.token_pool.proofs.Moving.{tickets_both, tickets_by, made_by}
 
 -- where a finisher stands
 pub record Plays (net : NetTree) (S0 : MapState) (budget w : ℕ) (log0 log : List Entry) (S : MapState) : Type 0 where
@@ -31,7 +32,7 @@ module _ (net : NetTree) (runs : Runs net) (S0 : MapState) (budget w : ℕ) (log
     (at : Plays net S0 budget w log0 log S) where
   -- where a move is left, the state may still step
   pub may_step : budget ≤ most_budget → length log < budget → IsReachedWithin net most_budget S
-  may_step small l = let k = tickets_length log in (tickets_in_log log, at.leads, omega (arith, k, l, small))
+  may_step small l = let k = tickets_all log in (tickets_in_log log, at.leads, omega (arith, k, l, small))
 
   pub plays_on : (i : ℕ) (T : MapState) (log' : List Entry) → IsLeastLive S i → step_map net S i ≡ Some T →
       length log < budget → log' ≡ log ++ record { ticket = i; worker = w } ∷ [] → Plays net S0 budget w log0 log' T
@@ -88,7 +89,7 @@ finishes_replays p e good f =
     let answer : e.answer ≡ T.answered = a ∙ ap (λ (U : State). U.answered) (some_state (seen S) T same) in
     let n = length-append (tickets_in_log p.log) more in
     let m = ap length all in
-    let k = tickets_length p.log in
+    let k = tickets_all p.log in
     let i = good.within in
     let few = ends.0 in
     record {

@@ -4,27 +4,19 @@ use Rattle.std.proofs.Common.{◌∷◌, Option, Some, None, refl, sym, ap, ◌�
 use Rattle.std.specs.Prelude.{is_some}
 use Rattle.std.specs.Option.{IsSome}
 use Rattle.std.specs.Ordering.{nat_cmp}
-use Rattle.std.specs.FinMap.{FinMap, get, insert, get-insert, get-empty, empty_of_len, len, len-insert, get-retain_keys}
+use Rattle.std.specs.FinMap.{FinMap, get, insert, get-empty, empty_of_len, len, len-insert, get-retain_keys}
 use Rattle.std.specs.FinMap.{nat_cmp-IsAntisymmetric}
 use Rattle.std.proofs.lemmas.Bool.{cases_lt, cases_eq, ne_eqb, eq-eqb}
 use Rattle.std.proofs.lemmas.Cmp.{nat_cmp_total}
 use Rattle.move_rules.specs.Places.{TokenTree}
 use Rattle.interleave_laws.specs.OneWorker.{least_from}
 use Rattle.interleave_laws.proofs.OneWorker.{least_found, least_none}
-use Rattle.interleave_laws.proofs.Tickets.{test_nat}
 use Rattle.interleave_laws.proofs.Seen.{same_tokens}
+use Rattle.interleave_core.proofs.AloneRuns.{given, not_given}
 use Rattle.token_pool.specs.declared.entries.Held.{Held}
 use Rattle.token_pool.specs.Pools.{Holds, count_held}
 use Rattle.token_pool.specs.Turns.{is_held, free_in}
 use Rattle.token_pool.proofs.Holding.{some_holder}
-
--- what a ticket that is given a token has
-given : (f : FinMap nat_cmp TokenTree) (i : ℕ) (y : TokenTree) → get (insert f i y) i ≡ Some y
-given f i y = get-insert nat_cmp_total f i y i ∙ ap (λ b. cond b (Some y) (get f i)) (test_nat i i ∙ eq-eqb i i refl)
-
--- and what others have
-not_given : (f : FinMap nat_cmp TokenTree) (i : ℕ) (y : TokenTree) (j : ℕ) → (j ≡ i → ⊥) → get (insert f i y) j ≡ get f j
-not_given f i y j d = get-insert nat_cmp_total f i y j ∙ ap (λ b. cond b (Some y) (get f j)) (test_nat j i ∙ ne_eqb j i d)
 
 -- the search has come to this ticket
 pub record Reaches (tokens : FinMap nat_cmp TokenTree) (held : List (Option Held)) (i : ℕ) : Type 0 where

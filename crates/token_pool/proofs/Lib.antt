@@ -1,7 +1,7 @@
 -- the numbers that are kept beside the list of what workers hold
 mod Counting
 -- the list of what workers hold, changed at one place
-mod Holding
+pub mod Holding
 -- a pool starts good
 mod Starting
 -- what a worker's turn leaves

@@ -22,6 +22,7 @@ use Rattle.interleave_laws.proofs.Stays.{least_stays}
 use Rattle.interleave_core.proofs.AloneRuns.{least_seen}
 use Rattle.schedule_log.specs.declared.entry.Entry.{Entry}
 use Rattle.schedule_log.specs.Logs.{IsMadeBy, by, tickets_in_log}
+use Rattle.schedule_log.proofs.Taken.{tickets_all}
 use Rattle.token_pool.specs.declared.entries.Held.{Held}
 use Rattle.token_pool.specs.Pools.{Pool, Holds, Good}
 use Rattle.token_pool.specs.Booking.{moves_of, Books, halted}
@@ -90,11 +91,6 @@ pub tickets_both : (log more : List Entry) → tickets_in_log (log ++ more) ≡ 
 tickets_both [] more = refl
 tickets_both (e ∷ log) more = ap (λ l. e.ticket ∷ l) (tickets_both log more)
 
--- as many tickets as moves
-pub tickets_length : (log : List Entry) → length (tickets_in_log log) ≡ length log
-tickets_length [] = refl
-tickets_length (e ∷ log) = ap suc (tickets_length log)
-
 -- the tickets of moves that are made by one worker
 pub tickets_by : (w : ℕ) (log : List ℕ) → tickets_in_log (by w log) ≡ log
 tickets_by w [] = refl
@@ -149,7 +145,7 @@ module _ (p : Pool) (good : Good p) (w : ℕ) (h : Held) (at : Holds p.held w h)
       within =
           let s = sum_after_set p.held w (Some h) None at in
           let m = length-append p.log (by w tickets) in
-          let k = tickets_length (by w tickets) in
+          let k = tickets_all (by w tickets) in
           let n = ap length (tickets_by w tickets) in
           let i = good.within in
           let few = made.few in

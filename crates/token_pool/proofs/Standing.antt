@@ -13,6 +13,7 @@ use Rattle.interleave_laws.proofs.MapLaws.{map_low}
 use Rattle.interleave_laws.proofs.Going.{the_some}
 use Rattle.schedule_log.specs.declared.entry.Entry.{Entry}
 use Rattle.schedule_log.specs.Logs.{tickets_in_log}
+use Rattle.schedule_log.proofs.Taken.{tickets_all}
 use Rattle.token_pool.specs.declared.entries.Held.{Held}
 use Rattle.token_pool.specs.declared.entries.Told.{Told}
 use Rattle.token_pool.specs.declared.entries.Told.TheVariants.{Stopped, Token, Ended, Idle, Reserved}
@@ -27,7 +28,7 @@ use Rattle.token_pool.specs.Branches.{HandsSeed, branch_turn, branch_taken}
 use Rattle.token_pool.specs.declared.entries.Booked.TheVariants.{Done}
 use Rattle.token_pool.specs.Booking.{moves_of, Moves, Books, BookedAs}
 use Rattle.token_pool.proofs.Holding.{in_sum, sum_after_set}
-use Rattle.token_pool.proofs.Moving.{book_keeps, tickets_length}
+use Rattle.token_pool.proofs.Moving.{book_keeps}
 use Rattle.token_pool.proofs.Free.{counted}
 use Rattle.token_pool.proofs.Starting.{start_good}
 use Rattle.token_pool.proofs.Taking.{take_keeps, take_gives, take_branch_keeps, take_branch_gives}
@@ -38,7 +39,7 @@ module _ (p : Pool) (good : Good p) where
 
   -- where a move is left, the state may still step
   pub reached : length p.log < p.budget → IsReachedWithin p.net most_budget p.state
-  reached l = let k = tickets_length p.log in let b = good.limits.few_moves in (tickets_in_log p.log, good.leads, omega (arith, k, l, b))
+  reached l = let k = tickets_all p.log in let b = good.limits.few_moves in (tickets_in_log p.log, good.leads, omega (arith, k, l, b))
 
   -- each live token is free or held
   pub all_counted : len p.state.tokens ≡ count_free p + count_held p.held

@@ -6,7 +6,8 @@ use Rattle.std.proofs.lemmas.List.{length-replicate}
 use Rattle.std.proofs.Math.Seq.{take-length}
 use Rattle.std.proofs.lemmas.List.Elements.{All-head, All-tail}
 use Rattle.schedule_log.specs.declared.entry.Entry.{Entry}
-use Rattle.schedule_log.specs.Logs.{LogSeen, by, with_entries}
+use Rattle.schedule_log.specs.Logs.{by}
+use Rattle.schedule_log.specs.LogsSeen.{LogSeen, with_entries}
 use Rattle.branch_laws.specs.Branches.{name}
 use Rattle.branch_runs.specs.declared.tickets.Run.{Run}
 use Rattle.branch_runs.specs.Tickets.{spelled}

@@ -6,7 +6,7 @@ ghost use Rattle.interleave_laws.specs.Runs.{Runs};
 ghost use Rattle.interleave_laws.specs.Tickets.{IsLive};
 ghost use Rattle.interleave_laws.specs.Maps.{run_map, IsReachedWithin};
 ghost use Rattle.interleave_core.specs.Adopting.{Accepts};
-ghost use Rattle.schedule_log.specs.Logs.{with_entries};
+ghost use Rattle.schedule_log.specs.LogsSeen.{with_entries};
 ghost use Rattle.token_pool.specs.Booking.{Moves, moves_of};
 
 use crate::Held;

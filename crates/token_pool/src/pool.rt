@@ -4,7 +4,7 @@ ghost use Rattle.std.specs.Prelude.{◌≡◌, ◌<◌, ◌≤◌, ◌↔◌, []
 ghost use Rattle.interleave_laws.specs.Runs.{Runs};
 ghost use Rattle.interleave_laws.specs.Start.{start_of};
 ghost use Rattle.interleave_laws.specs.Maps.{start_map};
-ghost use Rattle.schedule_log.specs.Logs.{empty_log};
+ghost use Rattle.schedule_log.specs.LogsSeen.{empty_log};
 ghost use Rattle.token_pool.specs.declared.entries.Held.{Held};
 ghost use Rattle.token_pool.specs.declared.entries.Told.TheVariants.{Token};
 ghost use Rattle.token_pool.specs.Pieces.{Hands};

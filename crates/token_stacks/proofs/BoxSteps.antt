@@ -129,14 +129,14 @@ pops_box t ws vs n k e T h q v =
 pub pops_box_star : (t : List Sig) (ws vs : List ℕ) (n k : ℕ) → (held : ws ≡ box_words t) → (T : BoxTop t) →
     (long : n ≡ length ws)
     → (sized : k ≡ get_or ws (n - 1) k) → (one : k ≡ 1) → (cut : vs ≡ take (n - 2) ws) → BoxTurns (popped_box_star t) vs
-pops_box_star t ws vs n k e T h q u v =
-    let e' : ws ≡ box_words (T.sig ∷ T.rest) = e ∙ ap box_words T.is in
-    let size : k ≡ length (body T.sig) = size_b T.sig T.rest ws n k e' h q in
-    let starred : T.sig ≡ star = star_short T.sig (sym size ∙ u) in
+pops_box_star t ws vs n k held T long sized one cut =
+    let held' : ws ≡ box_words (T.sig ∷ T.rest) = held ∙ ap box_words T.is in
+    let size : k ≡ length (body T.sig) = size_b T.sig T.rest ws n k held' long sized in
+    let starred : T.sig ≡ star = star_short T.sig (sym size ∙ one) in
     record {
       left = T.rest;
       is = ap popped_box_star (T.is ∙ ap (λ (z : Sig). z ∷ T.rest) starred);
-      words = v ∙ take_after (box_words T.rest) (entry T.sig) ws (n - 2) e' (omega (arith, entry_length T.sig T.rest ws e'));
+      words = cut ∙ take_after (box_words T.rest) (entry T.sig) ws (n - 2) held' (omega (arith, entry_length T.sig T.rest ws held'));
     }
 
 entry_made : (r : List Sig) (s : Sig) (b : List ℕ) (j : ℕ) → body s ≡ b → j ≡ length b → (box_words r ++ b) ++ j ∷
@@ -312,15 +312,15 @@ again_body_is t ws n j T w =
 pub parts : (t : List Sig) (ws vs : List ℕ) (n k j : ℕ) → (held : ws ≡ box_words t) → (T : AgainTop t)
     → (lie : AgainWords T.first T.second T.rest ws n j) → (long : n ≡ length ws) → (sized : k ≡ get_or ws (n - 1) k)
     → (cut : vs ≡ take (n - 3 - j + 1) (set ws (n - 3 - j) (k - 2 - j))) → BoxTurns (parted t) vs
-parts t ws vs n k j e T w h q v =
+parts t ws vs n k j held T lie long sized cut =
     let u : Sig = T.first in
     let s : Sig = T.second in
     let r : List Sig = T.rest in
-    let e' : ws ≡ box_words (again u s ∷ r) = e ∙ ap box_words T.is in
-    let size : k ≡ length (body (again u s)) = size_b (again u s) r ws n k e' h q in
+    let held' : ws ≡ box_words (again u s ∷ r) = held ∙ ap box_words T.is in
+    let size : k ≡ length (body (again u s)) = size_b (again u s) r ws n k held' long sized in
     let lp : length (body (again u s)) ≡ length (body u) + length (body s) + 2 = length_again u s in
-    let two : j ≡ length (body s) = w.second in
-    let all : n ≡ length (box_words r) + length (body u) + length (body s) + 3 = w.whole in
+    let two : j ≡ length (body s) = lie.second in
+    let all : n ≡ length (box_words r) + length (body u) + length (body s) + 3 = lie.whole in
     let A : List ℕ = box_words r ++ body u in
     let lA : length A ≡ length (box_words r) + length (body u) = length-append (box_words r) (body u) in
     let at : ℕ = n - 3 - j in
@@ -328,13 +328,13 @@ parts t ws vs n k j e T w h q v =
     let b : Starts (body s) = body_starts s in
     let g : List ℕ = b.others ++ length (body s) ∷ 4 ∷ length (body (again u s)) ∷ [] in
     let ws' : ws ≡ A ++ b.first ∷ g =
-    w.words ∙ ap (λ (z : List ℕ). A ++ (z ++ length (body s) ∷ 4 ∷ length (body (again u s)) ∷ [])) b.is in
+    lie.words ∙ ap (λ (z : List ℕ). A ++ (z ++ length (body s) ∷ 4 ∷ length (body (again u s)) ∷ [])) b.is in
     let one : set ws at y ≡ (A ++ y ∷ []) ++ g = set_after A b.first g ws at y ws' (omega arith) ∙ one_on A y g in
     record {
       left = u ∷ r;
       is = ap parted T.is;
       words =
-          v ∙ take_after (A ++ y ∷ []) g (set ws at y) (at + 1) one (omega (arith, length_on A y))
+          cut ∙ take_after (A ++ y ∷ []) g (set ws at y) (at + 1) one (omega (arith, length_on A y))
           ∙ entry_made r u (body u) y refl (omega arith);
     }
 

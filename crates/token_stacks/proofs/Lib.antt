@@ -6,6 +6,8 @@ pub mod Parts
 pub mod WorkSteps
 -- The same of the box stack.
 pub mod BoxSteps
+-- The order of box stacks is total, and tells them apart as trees.
+pub mod BoxOrder
 -- Words tell stacks apart, and so does their order: what the two laws cite.
 pub mod WordLaws
 -- Texts of signatures: what the last word says of how the text begins, and what is put down meanwhile.

@@ -95,17 +95,17 @@ both_text a b close d s u e f = λ i. part_text s a d e i ++ second_text u b d c
 pub two_said : (old new : List ℕ) (begin : ℕ) (before after : List Piece) (a b : Bor (List ℕ)) (close d : ℕ) (s u : Sig) →
     a.now ≡ body s → b.now ≡ body u → new ≡ old ++ begin ∷ [] → after ≡ before ++ Second b d close ∷ [] →
     Writes old new before (after ++ Part a d ∷ []) (two (begin ∷ []) (close ∷ []) d s u) (3 * length a.now + 3 * length b.now + 3)
-two_said old new begin before after a b close d s u e f n p =
+two_said old new begin before after a b close d s u first second begun put =
     let are : after ++ Part a d ∷ [] ≡ before ++ both a b close d =
-    ap (λ q. q ++ Part a d ∷ []) p ∙ append_assoc before (Second b d close ∷ []) (Part a d ∷ []) in
+    ap (λ q. q ++ Part a d ∷ []) put ∙ append_assoc before (Second b d close ∷ []) (Part a d ∷ []) in
     let x : List ℕ = sig_text d s ++ (codes "," ++ (sig_text d u ++ close ∷ [])) in
     record {
-      text = (λ i. n i ++ pieces_text (are i))
+      text = (λ i. begun i ++ pieces_text (are i))
           ∙ ap (λ z. (old ++ begin ∷ []) ++ z)
-          (pieces_text_append before (both a b close d) ∙ ap (λ z. z ++ pieces_text before) (both_text a b close d s u e f))
+          (pieces_text_append before (both a b close d) ∙ ap (λ z. z ++ pieces_text before) (both_text a b close d s u first second))
           ∙ append_assoc old (begin ∷ []) (x ++ pieces_text before);
       parts = λ q. subst AreParts (sym are)
-          (parts_append before (both a b close d) q (record { sig = u; is = f }, (record { sig = s; is = e }, tt)));
+          (parts_append before (both a b close d) q (record { sig = u; is = second }, (record { sig = s; is = first }, tt)));
       less = let k = ap pieces_work are ∙ pieces_work_append before (both a b close d) in omega (arith, k);
     }
 

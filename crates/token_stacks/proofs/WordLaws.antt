@@ -8,7 +8,8 @@ use Rattle.std.proofs.lemmas.Cmp.{tied_itself}
 use Rattle.token_stacks.specs.Signatures.{Boxes}
 use Rattle.token_stacks.specs.Words.{box_words}
 use Rattle.token_stacks.specs.Reading.{work_of, boxes_of, work_of-words, boxes_of-words}
-use Rattle.token_stacks.specs.Order.{box_eq, box_cmp, box_cmp-total, box_cmp-same}
+use Rattle.token_stacks.specs.Order.{box_eq, box_cmp}
+use Rattle.token_stacks.proofs.BoxOrder.{box_cmp-total, box_cmp-same}
 use Rattle.token_stacks.specs.Laws.{WordsTell, BoxesInOrder}
 
 pub words_tell : WordsTell

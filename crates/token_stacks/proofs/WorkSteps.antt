@@ -112,60 +112,60 @@ pub pops_symbol : (w : ℕ) (m : List Sym) (ws vs : List ℕ) (n a : ℕ) → (h
     → (long : n ≡ length ws) → (enough : 0 < n) → (read : a ≡ get_or ws (n - 1) a) → (found : a ≡ w) →
     (cut : vs ≡ take (n - 1) ws)
     → Turns (popped w m) vs
-pops_symbol w [] ws vs n a e c h p r t v = absurd (let q : length ws ≡ 0 = ap length e in omega arith)
-pops_symbol w (R ∷ m) ws vs n a e c h p r t v =
-    let w5 : 5 ≡ w = sym (last_r m ws n a e h r) ∙ t in
+pops_symbol w [] ws vs n a held marks long enough read found cut = absurd (let q : length ws ≡ 0 = ap length held in omega arith)
+pops_symbol w (R ∷ m) ws vs n a held marks long enough read found cut =
+    let w5 : 5 ≡ w = sym (last_r m ws n a held long read) ∙ found in
     let P : ℕ → Type 0 = λ x. Turns (popped x (R ∷ m)) vs in
     subst P w5 (record {
       left = m;
       is = refl;
-      words = v
-          ∙ take_after (work_words m) (5 ∷ []) ws (n - 1) e (omega (arith, length_both (work_words m) (5 ∷ []) ws e));
+      words = cut
+          ∙ take_after (work_words m) (5 ∷ []) ws (n - 1) held (omega (arith, length_both (work_words m) (5 ∷ []) ws held));
     })
-pops_symbol w (L ∷ m) ws vs n a e c h p r t v =
-    let w6 : 6 ≡ w = sym (last_l m ws n a e h r) ∙ t in
+pops_symbol w (L ∷ m) ws vs n a held marks long enough read found cut =
+    let w6 : 6 ≡ w = sym (last_l m ws n a held long read) ∙ found in
     let P : ℕ → Type 0 = λ x. Turns (popped x (L ∷ m)) vs in
     subst P w6 (record {
       left = m;
       is = refl;
-      words = v
-          ∙ take_after (work_words m) (6 ∷ []) ws (n - 1) e (omega (arith, length_both (work_words m) (6 ∷ []) ws e));
+      words = cut
+          ∙ take_after (work_words m) (6 ∷ []) ws (n - 1) held (omega (arith, length_both (work_words m) (6 ∷ []) ws held));
     })
-pops_symbol w (S s ∷ m) ws vs n a e c h p r t v =
-    absurd (let q : a ≡ 7 = last_s s m ws n a e h r in elim c [ inl x ↦ omega arith | inr x ↦ omega arith ])
+pops_symbol w (S s ∷ m) ws vs n a held marks long enough read found cut =
+    absurd (let q : a ≡ 7 = last_s s m ws n a held long read in elim marks [ inl x ↦ omega arith | inr x ↦ omega arith ])
 
 -- a signature whose body has one word is a `*`, and what is left lies before its three words
 pub pops_star : (m : List Sym) (ws vs : List ℕ) (n a k : ℕ) → (held : ws ≡ work_words m) → (long : n ≡ length ws) →
     (enough : 0 < n)
     → (read : a ≡ get_or ws (n - 1) a) → (found : a ≡ 7) → (sized : k ≡ get_or ws (n - 2) k) → (one : k ≡ 1)
     → (cut : vs ≡ take (n - 3) ws) → Turns (popped_star m) vs
-pops_star m ws vs n a k e h p r t q u v =
-    let T = sig_top m ws n a e h p r t in
-    let e' : ws ≡ work_words (S T.sig ∷ T.rest) = e ∙ ap work_words T.is in
-    let size : k ≡ length (body T.sig) = size_s T.sig T.rest ws n k e' h q in
-    let starred : T.sig ≡ star = star_short T.sig (sym size ∙ u) in
+pops_star m ws vs n a k held long enough read found sized one cut =
+    let T = sig_top m ws n a held long enough read found in
+    let held' : ws ≡ work_words (S T.sig ∷ T.rest) = held ∙ ap work_words T.is in
+    let size : k ≡ length (body T.sig) = size_s T.sig T.rest ws n k held' long sized in
+    let starred : T.sig ≡ star = star_short T.sig (sym size ∙ one) in
     let m_is : m ≡ S star ∷ T.rest = T.is ∙ ap (λ (z : Sig). S z ∷ T.rest) starred in
     record {
       left = T.rest;
       is = ap popped_star m_is;
       words =
-          v ∙ take_after (work_words T.rest) (body T.sig ++ length (body T.sig) ∷ 7 ∷ []) ws (n - 3) e'
-          (omega (arith, sig_length T.sig T.rest ws e'));
+          cut ∙ take_after (work_words T.rest) (body T.sig ++ length (body T.sig) ∷ 7 ∷ []) ws (n - 3) held'
+          (omega (arith, sig_length T.sig T.rest ws held'));
     }
 
 -- what is left lies before the words of the signature, its size and its mark
 pub pops_signature : (m : List Sym) (ws vs : List ℕ) (n k : ℕ) → (held : ws ≡ work_words m) → (T : SigTop m) →
     (long : n ≡ length ws)
     → (sized : k ≡ get_or ws (n - 2) k) → (cut : vs ≡ take (n - 2 - k) ws) → Turns (popped_signature m) vs
-pops_signature m ws vs n k e T h q v =
-    let e' : ws ≡ work_words (S T.sig ∷ T.rest) = e ∙ ap work_words T.is in
-    let size : k ≡ length (body T.sig) = size_s T.sig T.rest ws n k e' h q in
+pops_signature m ws vs n k held T long sized cut =
+    let held' : ws ≡ work_words (S T.sig ∷ T.rest) = held ∙ ap work_words T.is in
+    let size : k ≡ length (body T.sig) = size_s T.sig T.rest ws n k held' long sized in
     record {
       left = T.rest;
       is = ap popped_signature T.is;
       words =
-          v ∙ take_after (work_words T.rest) (body T.sig ++ length (body T.sig) ∷ 7 ∷ []) ws (n - 2 - k) e'
-          (omega (arith, sig_length T.sig T.rest ws e'));
+          cut ∙ take_after (work_words T.rest) (body T.sig ++ length (body T.sig) ∷ 7 ∷ []) ws (n - 2 - k) held'
+          (omega (arith, sig_length T.sig T.rest ws held'));
     }
 
 -- the size of the signature on top leaves room for it
@@ -222,40 +222,40 @@ pub wraps : (w : ℕ) (m : List Sym) (ws us vs : List ℕ) (n k : ℕ) → (held
     (marks : (w ≡ 1) ⊎ (w ≡ 2))
     → (T : SigTop m) → (long : n ≡ length ws) → (sized : k ≡ get_or ws (n - 2) k) → (added : us ≡ ws ++ 7 ∷ [])
     → (written : vs ≡ set (set us (n - 2) w) (n - 1) (k + 1)) → Turns (wrapped w m) vs
-wraps w m ws us vs n k e c T h q u v =
+wraps w m ws us vs n k held marks T long sized added written =
     let s : Sig = T.sig in
     let r : List Sym = T.rest in
     let F : List ℕ = work_words r ++ body s in
-    let e' : ws ≡ work_words (S s ∷ r) = e ∙ ap work_words T.is in
-    let size : k ≡ length (body s) = size_s s r ws n k e' h q in
+    let held' : ws ≡ work_words (S s ∷ r) = held ∙ ap work_words T.is in
+    let size : k ≡ length (body s) = size_s s r ws n k held' long sized in
     let le : length F ≡ length (work_words r) + length (body s) = length-append (work_words r) (body s) in
-    let len : n ≡ length F + 2 = omega (arith, sig_length s r ws e') in
-    let u' : us ≡ F ++ length (body s) ∷ 7 ∷ 7 ∷ [] =
-    u ∙ ap (λ (z : List ℕ). z ++ 7 ∷ []) (sig_words s r ws e') ∙ append_assoc F (length (body s) ∷ 7 ∷ []) (7 ∷ []) in
+    let len : n ≡ length F + 2 = omega (arith, sig_length s r ws held') in
+    let added' : us ≡ F ++ length (body s) ∷ 7 ∷ 7 ∷ [] =
+    added ∙ ap (λ (z : List ℕ). z ++ 7 ∷ []) (sig_words s r ws held') ∙ append_assoc F (length (body s) ∷ 7 ∷ []) (7 ∷ []) in
     let one : set us (n - 2) w ≡ (F ++ w ∷ []) ++ 7 ∷ 7 ∷ [] =
-    set_after F (length (body s)) (7 ∷ 7 ∷ []) us (n - 2) w u' (omega arith) ∙ one_on F w (7 ∷ 7 ∷ []) in
+    set_after F (length (body s)) (7 ∷ 7 ∷ []) us (n - 2) w added' (omega arith) ∙ one_on F w (7 ∷ 7 ∷ []) in
     let two : set (set us (n - 2) w) (n - 1) (k + 1) ≡ (F ++ w ∷ []) ++ (k + 1) ∷ 7 ∷ [] =
     set_after (F ++ w ∷ []) 7 (7 ∷ []) (set us (n - 2) w) (n - 1) (k + 1) one (omega (arith, length_on F w)) in
     record {
       left = S (marked w s) ∷ r;
       is = ap (wrapped w) T.is;
       words =
-          v ∙ two ∙ ap (λ (z : List ℕ). z ++ (k + 1) ∷ 7 ∷ []) (append_assoc (work_words r) (body s) (w ∷ []))
-          ∙ sig_made r (marked w s) (body s ++ w ∷ []) (k + 1) (marked_body w c s) (omega (arith, length_on (body s) w));
+          written ∙ two ∙ ap (λ (z : List ℕ). z ++ (k + 1) ∷ 7 ∷ []) (append_assoc (work_words r) (body s) (w ∷ []))
+          ∙ sig_made r (marked w s) (body s ++ w ∷ []) (k + 1) (marked_body w marks s) (omega (arith, length_on (body s) w));
     }
 
 -- one word fewer at the end
 lowers : (g : List ℕ) (x k j : ℕ) (ws vs : List ℕ) (n : ℕ) → ws ≡ g ++ x ∷ k ∷ 7 ∷ [] → n ≡ length ws
     → vs ≡ take (n - 1) (set (set ws (n - 3) j) (n - 2) 7)
     → vs ≡ g ++ j ∷ 7 ∷ []
-lowers g x k j ws vs n e h v =
-    let len : n ≡ length g + 3 = h ∙ length_both g (x ∷ k ∷ 7 ∷ []) ws e in
+lowers g x k j ws vs n are long cut =
+    let len : n ≡ length g + 3 = long ∙ length_both g (x ∷ k ∷ 7 ∷ []) ws are in
     let one : set ws (n - 3) j ≡ (g ++ j ∷ []) ++ k ∷ 7 ∷ [] =
-    set_after g x (k ∷ 7 ∷ []) ws (n - 3) j e (omega arith) ∙ one_on g j (k ∷ 7 ∷ []) in
+    set_after g x (k ∷ 7 ∷ []) ws (n - 3) j are (omega arith) ∙ one_on g j (k ∷ 7 ∷ []) in
     let two : set (set ws (n - 3) j) (n - 2) 7 ≡ ((g ++ j ∷ []) ++ 7 ∷ []) ++ 7 ∷ [] =
     set_after (g ++ j ∷ []) k (7 ∷ []) (set ws (n - 3) j) (n - 2) 7 one (omega (arith, length_on g j)) ∙
     one_on (g ++ j ∷ []) 7 (7 ∷ []) in
-    v ∙ take_after ((g ++ j ∷ []) ++ 7 ∷ []) (7 ∷ []) (set (set ws (n - 3) j) (n - 2) 7) (n - 1) two
+    cut ∙ take_after ((g ++ j ∷ []) ++ 7 ∷ []) (7 ∷ []) (set (set ws (n - 3) j) (n - 2) 7) (n - 1) two
     (omega (arith, length_on g j, length_on (g ++ j ∷ []) 7))
     ∙ sym (one_on g j (7 ∷ []))
 
@@ -264,34 +264,34 @@ unwraps_at : (w : ℕ) (s : Sig) (r : List Sym) (ws vs : List ℕ) (n k a : ℕ)
     → (marks : (w ≡ 1) ⊎ (w ≡ 2)) → (long : n ≡ length ws) → (sized : k ≡ get_or ws (n - 2) k) →
     (read : a ≡ get_or ws (n - 3) a)
     → (found : a ≡ w) → (cut : vs ≡ take (n - 1) (set (set ws (n - 3) (k - 1)) (n - 2) 7)) → Turns (unwrapped w (S s ∷ r)) vs
-unwraps_at w star r ws vs n k a e c h q t u v =
-    absurd (let z : a ≡ 0 = tag_s star r ws n a e h t in elim c [ inl x ↦ omega arith | inr x ↦ omega arith ])
-unwraps_at w (left_of s) r ws vs n k a e c h q t u v =
-    let w1 : 1 ≡ w = sym (tag_s (left_of s) r ws n a e h t) ∙ u in
-    let size : k ≡ length (body s ++ 1 ∷ []) = size_s (left_of s) r ws n k e h q in
+unwraps_at w star r ws vs n k a held marks long sized read found cut =
+    absurd (let z : a ≡ 0 = tag_s star r ws n a held long read in elim marks [ inl x ↦ omega arith | inr x ↦ omega arith ])
+unwraps_at w (left_of s) r ws vs n k a held marks long sized read found cut =
+    let w1 : 1 ≡ w = sym (tag_s (left_of s) r ws n a held long read) ∙ found in
+    let size : k ≡ length (body s ++ 1 ∷ []) = size_s (left_of s) r ws n k held long sized in
     let P : ℕ → Type 0 = λ x. Turns (unwrapped x (S (left_of s) ∷ r)) vs in
     subst P w1 (record {
       left = S s ∷ r;
       is = refl;
       words =
-          lowers (work_words r ++ body s) 1 (length (body s ++ 1 ∷ [])) (k - 1) ws vs n (tag_words (left_of s) r ws e) h v
+          lowers (work_words r ++ body s) 1 (length (body s ++ 1 ∷ [])) (k - 1) ws vs n (tag_words (left_of s) r ws held) long cut
           ∙ sig_made r s (body s) (k - 1) refl (omega (arith, length_on (body s) 1));
     })
-unwraps_at w (right_of s) r ws vs n k a e c h q t u v =
-    let w2 : 2 ≡ w = sym (tag_s (right_of s) r ws n a e h t) ∙ u in
-    let size : k ≡ length (body s ++ 2 ∷ []) = size_s (right_of s) r ws n k e h q in
+unwraps_at w (right_of s) r ws vs n k a held marks long sized read found cut =
+    let w2 : 2 ≡ w = sym (tag_s (right_of s) r ws n a held long read) ∙ found in
+    let size : k ≡ length (body s ++ 2 ∷ []) = size_s (right_of s) r ws n k held long sized in
     let P : ℕ → Type 0 = λ x. Turns (unwrapped x (S (right_of s) ∷ r)) vs in
     subst P w2 (record {
       left = S s ∷ r;
       is = refl;
       words =
-          lowers (work_words r ++ body s) 2 (length (body s ++ 2 ∷ [])) (k - 1) ws vs n (tag_words (right_of s) r ws e) h v
+          lowers (work_words r ++ body s) 2 (length (body s ++ 2 ∷ [])) (k - 1) ws vs n (tag_words (right_of s) r ws held) long cut
           ∙ sig_made r s (body s) (k - 1) refl (omega (arith, length_on (body s) 2));
     })
-unwraps_at w (pair_of s s') r ws vs n k a e c h q t u v =
-    absurd (let z : a ≡ 3 = tag_s (pair_of s s') r ws n a e h t in elim c [ inl x ↦ omega arith | inr x ↦ omega arith ])
-unwraps_at w (again s s') r ws vs n k a e c h q t u v =
-    absurd (let z : a ≡ 4 = tag_s (again s s') r ws n a e h t in elim c [ inl x ↦ omega arith | inr x ↦ omega arith ])
+unwraps_at w (pair_of s s') r ws vs n k a held marks long sized read found cut =
+    absurd (let z : a ≡ 3 = tag_s (pair_of s s') r ws n a held long read in elim marks [ inl x ↦ omega arith | inr x ↦ omega arith ])
+unwraps_at w (again s s') r ws vs n k a held marks long sized read found cut =
+    absurd (let z : a ≡ 4 = tag_s (again s s') r ws n a held long read in elim marks [ inl x ↦ omega arith | inr x ↦ omega arith ])
 
 pub unwraps : (w : ℕ) (m : List Sym) (ws vs : List ℕ) (n k a : ℕ) → (held : ws ≡ work_words m) →
     (marks : (w ≡ 1) ⊎ (w ≡ 2))
@@ -305,18 +305,18 @@ unwraps w m ws vs n k a e c T h q t u v =
 -- without the mark there is nothing to unwrap
 pub no_mark : (w : ℕ) (m : List Sym) (ws : List ℕ) (n a : ℕ) → (held : ws ≡ work_words m) → (long : n ≡ length ws)
     → (read : a ≡ get_or ws (n - 3) a) → (other : (a ≡ w → ⊥)) → (marks : (w ≡ 1) ⊎ (w ≡ 2)) → unwrapped w m ≡ None
-no_mark w [] ws n a e h t p c = refl
-no_mark w (R ∷ m) ws n a e h t p c = refl
-no_mark w (L ∷ m) ws n a e h t p c = refl
-no_mark w (S star ∷ m) ws n a e h t p c = refl
-no_mark w (S (left_of s) ∷ m) ws n a e h t p c =
+no_mark w [] ws n a held long read other marks = refl
+no_mark w (R ∷ m) ws n a held long read other marks = refl
+no_mark w (L ∷ m) ws n a held long read other marks = refl
+no_mark w (S star ∷ m) ws n a held long read other marks = refl
+no_mark w (S (left_of s) ∷ m) ws n a held long read other marks =
     let P : ℕ → Type 0 = λ x. unwrapped x (S (left_of s) ∷ m) ≡ None in
-    elim c [ inl x ↦ absurd (p (tag_s (left_of s) m ws n a e h t ∙ sym x)) | inr x ↦ subst P (sym x) refl ]
-no_mark w (S (right_of s) ∷ m) ws n a e h t p c =
+    elim marks [ inl x ↦ absurd (other (tag_s (left_of s) m ws n a held long read ∙ sym x)) | inr x ↦ subst P (sym x) refl ]
+no_mark w (S (right_of s) ∷ m) ws n a held long read other marks =
     let P : ℕ → Type 0 = λ x. unwrapped x (S (right_of s) ∷ m) ≡ None in
-    elim c [ inl x ↦ subst P (sym x) refl | inr x ↦ absurd (p (tag_s (right_of s) m ws n a e h t ∙ sym x)) ]
-no_mark w (S (pair_of s u) ∷ m) ws n a e h t p c = refl
-no_mark w (S (again s u) ∷ m) ws n a e h t p c = refl
+    elim marks [ inl x ↦ subst P (sym x) refl | inr x ↦ absurd (other (tag_s (right_of s) m ws n a held long read ∙ sym x)) ]
+no_mark w (S (pair_of s u) ∷ m) ws n a held long read other marks = refl
+no_mark w (S (again s u) ∷ m) ws n a held long read other marks = refl
 
 -- a pair is put together: the first part comes from another stack, and is put below the second
 pub pairs : (s : Sig) (b : List ℕ) (m : List Sym) (ws xs vs : List ℕ) (n k l : ℕ) → (of_s : b ≡ body s) →
@@ -324,19 +324,19 @@ pub pairs : (s : Sig) (b : List ℕ) (m : List Sym) (ws xs vs : List ℕ) (n k l
     → (T : SigTop m) → (long : n ≡ length ws) → (sized : k ≡ get_or ws (n - 2) k)
     → (below : xs ≡ take (n - 2 - k) ws ++ (b ++ (drop (n - 2 - k) ws ++ 0 ∷ 7 ∷ []))) → (longer : l ≡ length xs)
     → (written : vs ≡ set (set xs (l - 2 - 1) 3) (l - 2) (l - 2 - (n - 2 - k))) → Turns (paired s m) vs
-pairs s b m ws xs vs n k l f e T h q p lh v =
+pairs s b m ws xs vs n k l of_s held T long sized below longer written =
     let t : Sig = T.sig in
     let r : List Sym = T.rest in
     let M : List ℕ = work_words r in
-    let e' : ws ≡ M ++ (body t ++ length (body t) ∷ 7 ∷ []) = e ∙ ap work_words T.is in
-    let size : k ≡ length (body t) = size_s t r ws n k e' h q in
-    let lw : length ws ≡ length M + length (body t) + 2 = sig_length t r ws e' in
+    let held' : ws ≡ M ++ (body t ++ length (body t) ∷ 7 ∷ []) = held ∙ ap work_words T.is in
+    let size : k ≡ length (body t) = size_s t r ws n k held' long sized in
+    let lw : length ws ≡ length M + length (body t) + 2 = sig_length t r ws held' in
     let U : List ℕ = body t ++ length (body t) ∷ 7 ∷ [] in
     let lU : length U ≡ length (body t) + 2 = length-append (body t) (length (body t) ∷ 7 ∷ []) in
-    let front : take (n - 2 - k) ws ≡ M = take_after M U ws (n - 2 - k) e' (omega arith) in
-    let rest : drop (n - 2 - k) ws ≡ U = drop_after M U ws (n - 2 - k) e' (omega arith) in
+    let front : take (n - 2 - k) ws ≡ M = take_after M U ws (n - 2 - k) held' (omega arith) in
+    let rest : drop (n - 2 - k) ws ≡ U = drop_after M U ws (n - 2 - k) held' (omega arith) in
     let swapped : xs ≡ M ++ (b ++ (U ++ 0 ∷ 7 ∷ [])) =
-    p ∙ ap (λ (z : List ℕ). z ++ (b ++ (drop (n - 2 - k) ws ++ 0 ∷ 7 ∷ []))) front
+    below ∙ ap (λ (z : List ℕ). z ++ (b ++ (drop (n - 2 - k) ws ++ 0 ∷ 7 ∷ []))) front
     ∙ ap (λ (z : List ℕ). M ++ (b ++ (z ++ 0 ∷ 7 ∷ []))) rest in
     let ll : l ≡ length M + length (body t) + 2 + length b + 2 =
     omega (
@@ -370,8 +370,8 @@ pairs s b m ws xs vs n k l f e T h q p lh v =
       left = S (pair_of s t) ∷ r;
       is = ap (paired s) T.is;
       words =
-          v ∙ two ∙ ap (λ (z : List ℕ). z ++ j ∷ 7 ∷ []) made
-          ∙ sig_made r (pair_of s t) B j (ap (λ (z : List ℕ). z ++ (body t ++ length (body t) ∷ 3 ∷ [])) (sym f)) (omega arith);
+          written ∙ two ∙ ap (λ (z : List ℕ). z ++ j ∷ 7 ∷ []) made
+          ∙ sig_made r (pair_of s t) B j (ap (λ (z : List ℕ). z ++ (body t ++ length (body t) ∷ 3 ∷ [])) (sym of_s)) (omega arith);
     }
 
 -- a pair on top
@@ -419,15 +419,15 @@ pub record PairWords (s u : Sig) (r : List Sym) (ws : List ℕ) (n k j : ℕ) : 
 pub pair_words : (m : List Sym) (ws : List ℕ) (n k j : ℕ) → (held : ws ≡ work_words m) → (T : PairTop m) →
     (long : n ≡ length ws)
     → (sized : k ≡ get_or ws (n - 2) k) → (sized_second : j ≡ get_or ws (n - 4) j) → PairWords T.first T.second T.rest ws n k j
-pair_words m ws n k j e T h q p =
+pair_words m ws n k j held T long sized sized_second =
     let s : Sig = T.first in
     let u : Sig = T.second in
     let r : List Sym = T.rest in
-    let e' : ws ≡ work_words (S (pair_of s u) ∷ r) = e ∙ ap work_words T.is in
-    let size : k ≡ length (body (pair_of s u)) = size_s (pair_of s u) r ws n k e' h q in
-    let le : length ws ≡ length (work_words r) + length (body (pair_of s u)) + 2 = sig_length (pair_of s u) r ws e' in
+    let held' : ws ≡ work_words (S (pair_of s u) ∷ r) = held ∙ ap work_words T.is in
+    let size : k ≡ length (body (pair_of s u)) = size_s (pair_of s u) r ws n k held' long sized in
+    let le : length ws ≡ length (work_words r) + length (body (pair_of s u)) + 2 = sig_length (pair_of s u) r ws held' in
     let open_is : ws ≡ work_words r ++ (body s ++ (body u ++ length (body u) ∷ 3 ∷ k ∷ 7 ∷ [])) =
-    e' ∙ ap (λ (z : List ℕ). work_words r ++ z)
+    held' ∙ ap (λ (z : List ℕ). work_words r ++ z)
     (append_assoc (body s) (body u ++ length (body u) ∷ 3 ∷ []) (length (body (pair_of s u)) ∷ 7 ∷ [])
     ∙ ap (λ (z : List ℕ). body s ++ z) (append_assoc (body u) (length (body u) ∷ 3 ∷ [])
     (length (body (pair_of s u)) ∷ 7 ∷ [])))
@@ -442,7 +442,7 @@ pair_words m ws n k j e T h q p =
     record {
       words = open_is;
       size = omega arith;
-      second = word_at F (length (body u)) (3 ∷ k ∷ 7 ∷ []) ws (n - 4) j F_is (omega arith) p;
+      second = word_at F (length (body u)) (3 ∷ k ∷ 7 ∷ []) ws (n - 4) j F_is (omega arith) sized_second;
       whole = omega arith;
     }
 
@@ -469,14 +469,14 @@ pub unpairs : (m : List Sym) (ws us xs vs : List ℕ) (n k j : ℕ) → (T : Pai
     → (copied : xs ≡ (take (n - 2 - k) us ++ take (n - 2 - (n - 4 - j)) (drop (n - 4 - j) us))
     ++ drop (n - 2 - k + (n - 2 - (n - 4 - j))) us)
     → (cut : vs ≡ take (n - k + j) xs) → Turns (unpaired m) vs
-unpairs m ws us xs vs n k j T w y z v =
+unpairs m ws us xs vs n k j T lie written copied cut =
     let s : Sig = T.first in
     let u : Sig = T.second in
     let r : List Sym = T.rest in
     let M : List ℕ = work_words r in
-    let one : k ≡ length (body s) + length (body u) + 2 = w.size in
-    let two : j ≡ length (body u) = w.second in
-    let all : n ≡ length M + length (body s) + length (body u) + 4 = w.whole in
+    let one : k ≡ length (body s) + length (body u) + 2 = lie.size in
+    let two : j ≡ length (body u) = lie.second in
+    let all : n ≡ length M + length (body s) + length (body u) + 4 = lie.whole in
     let F : List ℕ = (M ++ (body s ++ body u)) ++ length (body u) ∷ [] in
     let lF : length F ≡ length M + length (body s) + length (body u) + 1 =
     omega (
@@ -491,7 +491,7 @@ unpairs m ws us xs vs n k j T w y z v =
     let V : List ℕ = body u ++ length (body u) ∷ 7 ∷ [] in
     let lV : length V ≡ length (body u) + 2 = length-append (body u) (length (body u) ∷ 7 ∷ []) in
     let us' : us ≡ M ++ (body s ++ (V ++ k ∷ 7 ∷ [])) =
-    y ∙ set_after F 3 (k ∷ 7 ∷ []) ws (n - 3) 7 (w.words ∙ F_is (3 ∷ k ∷ 7 ∷ [])) (omega arith) ∙
+    written ∙ set_after F 3 (k ∷ 7 ∷ []) ws (n - 3) 7 (lie.words ∙ F_is (3 ∷ k ∷ 7 ∷ [])) (omega arith) ∙
     sym (F_is (7 ∷ k ∷ 7 ∷ []))
     ∙ ap (λ (z : List ℕ). M ++ (body s ++ z)) (sym (append_assoc (body u) (length (body u) ∷ 7 ∷ []) (k ∷ 7 ∷ []))) in
     let front : take (n - 2 - k) us ≡ M = take_after M (body s ++ (V ++ k ∷ 7 ∷ [])) us (n - 2 - k) us' (omega arith) in
@@ -500,13 +500,13 @@ unpairs m ws us xs vs n k j T w y z v =
     sym (append_assoc M (body s) (V ++ k ∷ 7 ∷ [])))
     (omega (arith, length-append M (body s))) (omega arith) in
     let D : List ℕ = drop (n - 2 - k + (n - 2 - (n - 4 - j))) us in
-    let copied : xs ≡ (M ++ V) ++ D =
-    z ∙ ap (λ (a : List ℕ). (a ++ take (n - 2 - (n - 4 - j)) (drop (n - 4 - j) us)) ++ D) front
+    let lowered : xs ≡ (M ++ V) ++ D =
+    copied ∙ ap (λ (a : List ℕ). (a ++ take (n - 2 - (n - 4 - j)) (drop (n - 4 - j) us)) ++ D) front
     ∙ ap (λ (a : List ℕ). (M ++ a) ++ D) moved in
     record {
       left = S u ∷ r;
       is = ap unpaired T.is;
-      words = v ∙ take_after (M ++ V) D xs (n - k + j) copied (omega (arith, length-append M V));
+      words = cut ∙ take_after (M ++ V) D xs (n - k + j) lowered (omega (arith, length-append M V));
     }
 
 -- without a signature on top there is nothing to wrap and no pair
@@ -576,24 +576,28 @@ pub pops_argument : (m : List Sym) (ws vs : List ℕ) (n a b : ℕ) → (held : 
     (enough : 2 ≤ n)
     → (read : a ≡ get_or ws (n - 1) a) → (found : a ≡ 6) → (under : b ≡ get_or ws (n - 2) b) → (found_under : b ≡ 7)
     → (cut : vs ≡ take (n - 1) ws) → Turns (argument_left m) vs
-pops_argument [] ws vs n a b e h p r t q u v = absurd (let q : length ws ≡ 0 = ap length e in omega arith)
-pops_argument (R ∷ m) ws vs n a b e h p r t q u v = absurd (let z : a ≡ 5 = last_r m ws n a e h r in omega arith)
-pops_argument (S s ∷ m) ws vs n a b e h p r t q u v = absurd (let z : a ≡ 7 = last_s s m ws n a e h r in omega arith)
-pops_argument (L ∷ []) ws vs n a b e h p r t q u v = absurd (let q : length ws ≡ 1 = ap length e in omega arith)
-pops_argument (L ∷ R ∷ m) ws vs n a b e h p r t q u v =
-    absurd (let z : b ≡ 5 = word_at (work_words m) 5 (6 ∷ []) ws (n - 2) b (e ∙ append_assoc (work_words m) (5 ∷ []) (6 ∷ []))
-    (omega (arith, length_both (work_words m) (5 ∷ 6 ∷ []) ws (e ∙ append_assoc (work_words m) (5 ∷ []) (6 ∷ [])))) q in
+pops_argument [] ws vs n a b held long enough read found under found_under cut =
+    absurd (let q : length ws ≡ 0 = ap length held in omega arith)
+pops_argument (R ∷ m) ws vs n a b held long enough read found under found_under cut =
+    absurd (let z : a ≡ 5 = last_r m ws n a held long read in omega arith)
+pops_argument (S s ∷ m) ws vs n a b held long enough read found under found_under cut =
+    absurd (let z : a ≡ 7 = last_s s m ws n a held long read in omega arith)
+pops_argument (L ∷ []) ws vs n a b held long enough read found under found_under cut =
+    absurd (let q : length ws ≡ 1 = ap length held in omega arith)
+pops_argument (L ∷ R ∷ m) ws vs n a b held long enough read found under found_under cut =
+    absurd (let z : b ≡ 5 = word_at (work_words m) 5 (6 ∷ []) ws (n - 2) b (held ∙ append_assoc (work_words m) (5 ∷ []) (6 ∷ []))
+    (omega (arith, length_both (work_words m) (5 ∷ 6 ∷ []) ws (held ∙ append_assoc (work_words m) (5 ∷ []) (6 ∷ [])))) under in
     omega arith)
-pops_argument (L ∷ L ∷ m) ws vs n a b e h p r t q u v =
-    absurd (let z : b ≡ 6 = word_at (work_words m) 6 (6 ∷ []) ws (n - 2) b (e ∙ append_assoc (work_words m) (6 ∷ []) (6 ∷ []))
-    (omega (arith, length_both (work_words m) (6 ∷ 6 ∷ []) ws (e ∙ append_assoc (work_words m) (6 ∷ []) (6 ∷ [])))) q in
+pops_argument (L ∷ L ∷ m) ws vs n a b held long enough read found under found_under cut =
+    absurd (let z : b ≡ 6 = word_at (work_words m) 6 (6 ∷ []) ws (n - 2) b (held ∙ append_assoc (work_words m) (6 ∷ []) (6 ∷ []))
+    (omega (arith, length_both (work_words m) (6 ∷ 6 ∷ []) ws (held ∙ append_assoc (work_words m) (6 ∷ []) (6 ∷ [])))) under in
     omega arith)
-pops_argument (L ∷ S s ∷ m) ws vs n a b e h p r t q u v =
+pops_argument (L ∷ S s ∷ m) ws vs n a b held long enough read found under found_under cut =
     record {
       left = S s ∷ m;
       is = refl;
-      words = v ∙ take_after (work_words (S s ∷ m)) (6 ∷ []) ws (n - 1) e
-          (omega (arith, length_both (work_words (S s ∷ m)) (6 ∷ []) ws e));
+      words = cut ∙ take_after (work_words (S s ∷ m)) (6 ∷ []) ws (n - 1) held
+          (omega (arith, length_both (work_words (S s ∷ m)) (6 ∷ []) ws held));
     }
 
 -- the word of a symbol under an `L`

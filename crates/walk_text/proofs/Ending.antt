@@ -13,9 +13,10 @@ use Rattle.net_build.specs.Sound.{Sound}
 use Rattle.move_rules.specs.Places.{Place, up, down, TokenTree, ask, ans, place_of}
 use Rattle.move_rules.specs.Table.{on_found, facing, plain_up, plain_down}
 use Rattle.move_rules.specs.Moves.{Look, dead, constant, pass, one, test, two, look, Move, solo, fork, join, answer, stay, solo_at}
-use Rattle.move_rules.specs.Moves.{or_stay, if_wire, ans_down}
+use Rattle.move_rules.specs.Moves.{if_wire, ans_down}
 use Rattle.move_rules.specs.Moves.{ask_move, move}
 use Rattle.move_rules.proofs.Facing.{one_some, met}
+use Rattle.move_rules.proofs.Either.{wire_so, either_so, operand_so}
 use Rattle.interleave_laws.specs.Start.{start_of}
 use Rattle.interleave_laws.specs.States.{State, start, act, fork_on, last_on, join_on, other, step_on, step, run, then_run}
 use Rattle.interleave_laws.specs.Runs.{LeadsTo}
@@ -50,23 +51,6 @@ no_solo : (i : ℕ) (o : Option Place) (v : Val) → NoAnswer (solo_at i o (ans 
 no_solo i None v = tt
 no_solo i (Some p) v = tt
 
-no_wire : (x w : ℕ) (m : Move) → NoAnswer m → NoAnswer (if_wire x w m)
-no_wire x w m h = go (nat_eq x w)
-  where
-    go : (b : Bool) → NoAnswer (cond b m stay)
-    go true = h
-    go false = tt
-
-no_either : (m m' : Move) → NoAnswer m → NoAnswer m' → NoAnswer (or_stay m m')
-no_either stay m' h g = g
-no_either (solo i x) m' h g = tt
-no_either (fork i l r t) m' h g = tt
-no_either (join i o s v w t) m' h g = tt
-no_either (answer v) m' h g = h
-
-no_operand : (a b w : ℕ) (m m' : Move) → NoAnswer m → NoAnswer m' → NoAnswer (or_stay (if_wire a w m) (if_wire b w m'))
-no_operand a b w m m' h g = no_either (if_wire a w m) (if_wire b w m') (no_wire a w m h) (no_wire b w m' g)
-
 no_found : (o : Option (ℕ × Node)) (v : Val) (f : ℕ → Node → Option Place) → NoAnswer (on_found o stay (λ i n. solo_at i (f i n) (ans v)))
 no_found None v f = tt
 no_found (Some p) v f = no_solo p.0 (f p.0 p.1) v
@@ -92,9 +76,9 @@ brings i (Root c) v w [] t u e = record { root = is_root c; value = same v u e }
 brings i (Succ a c) v w [] t u e = absurd (gives _ u tt e)
 brings i (Pred a c) v w [] t u e = absurd (gives _ u tt e)
 brings i (Ifz b p q c) v w [] t u e = absurd (gives _ u
-    (no_either (if_wire b w (solo i _)) _ (no_wire b w (solo i _) tt)
-    (no_operand p q w (solo i (ans v (down c [] t))) (solo i (ans v (down c [] t))) tt tt)) e)
-brings i (Binary o a b c) v w [] t u e = absurd (gives _ u (no_operand a b w _ _ tt tt) e)
+    (either_so NoAnswer tt (if_wire b w (solo i _)) _ (wire_so NoAnswer tt b w (solo i _) tt)
+    (operand_so NoAnswer tt p q w (solo i (ans v (down c [] t))) (solo i (ans v (down c [] t))) tt tt)) e)
+brings i (Binary o a b c) v w [] t u e = absurd (gives _ u (operand_so NoAnswer tt a b w _ _ tt tt) e)
 brings i n v w m t u e = absurd (gives _ u (no_solo i (plain_down n w m t) v) e)
 
 -- ---- the step that brings the answer

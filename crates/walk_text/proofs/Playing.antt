@@ -5,7 +5,6 @@ use Rattle.std.specs.Option.{IsSome}
 use Rattle.std.specs.List.{concat}
 use Rattle.std.specs.FinMap.{get}
 use Rattle.std.proofs.lemmas.List.{append-nil}
-use Rattle.pcf_values.specs.Most.{most_moves, most_budget}
 use Rattle.net_build.specs.Nets.{NetTree}
 use Rattle.move_rules.specs.Places.{TokenTree}
 use Rattle.move_rules.proofs.Facing.{one_some}
@@ -18,7 +17,7 @@ use Rattle.interleave_laws.specs.Maps.{seen, option_seen}
 use Rattle.interleave_laws.proofs.Seen.{step_seen}
 use Rattle.schedule_log.specs.declared.entry.Entry.{Entry}
 use Rattle.schedule_log.specs.Logs.{tickets_in_log}
-use Rattle.schedule_log.proofs.Taken.{tickets_split, tickets_more, tickets_taken}
+use Rattle.schedule_log.proofs.Taken.{tickets_split, tickets_more}
 use Rattle.walk_text.specs.Lines.{move_line}
 use Rattle.walk_text.specs.Traces.{LeadsSomewhere, on_state, lines_from}
 
@@ -26,9 +25,6 @@ use Rattle.walk_text.specs.Traces.{LeadsSomewhere, on_state, lines_from}
 
 pub none_some : {A : Type 0} (x : A) → None ≡ Some x → ⊥
 none_some x e = cc
-
-some_is : {A : Type 0} (o : Option A) (x : A) → o ≡ Some x → IsSome o
-some_is o x e = subst IsSome (sym e) refl
 
 -- a run with one more step
 run_more : (net : NetTree) (log : List ℕ) (S T U : MapState) (t : ℕ) → run_map net S log ≡ Some T → step_map net T t ≡ Some U →
@@ -78,11 +74,6 @@ able_here net es i d S whole u led =
     (get_or es i d).ticket
     (subst (λ ts. run_map net (start_map (start_of net)) ts ≡ Some whole.0) (tickets_split es i d u) whole.1) led
 
--- The state there is reached by fewer moves than a log may have.
-pub reached_here : (net : NetTree) (es : List Entry) (i : ℕ) (S : MapState) → i < length es → length es ≤ most_moves →
-    LeadsToMap net (tickets_in_log (take i es)) S → IsReachedWithin net most_budget S
-reached_here net es i S u w led = let e = tickets_taken es i (omega (arith, u)) in (tickets_in_log (take i es), led, omega (arith, e, u, w))
-
 -- The entry's step leads one place on.
 pub led_on : (net : NetTree) (es : List Entry) (i : ℕ) (d : Entry) (S T : MapState) → i < length es →
     LeadsToMap net (tickets_in_log (take i es)) S → step_map net S (get_or es i d).ticket ≡ Some T →
@@ -116,16 +107,16 @@ pub line_on : (net : NetTree) (es : List Entry) (i to : ℕ) (d : Entry) (S T : 
     new ≡ text ++ move_line net (seen S) i (get_or es i d).worker (get_or es i d).ticket →
     text ++ concat (lines_from net (seen S) i (take (to - i) (drop i es))) ≡ goal →
     new ++ concat (lines_from net (seen T) (i + 1) (take (to - (i + 1)) (drop (i + 1) es))) ≡ goal
-line_on net es i to d S T text new goal u w made e g =
+line_on net es i to d S T text new goal inside within made written whole =
     let entry : Entry = get_or es i d in
     let line : List ℕ = move_line net (seen S) i entry.worker entry.ticket in
     let more : List Entry = take (to - (i + 1)) (drop (i + 1) es) in
     let next : i + 1 ≡ suc i = omega arith in
-    (λ j. e j ++ concat (lines_from net (seen T) (next j) more))
+    (λ j. written j ++ concat (lines_from net (seen T) (next j) more))
     ∙ append_assoc text line (concat (lines_from net (seen T) (suc i) more))
     ∙ ap (λ z. text ++ concat z)
-    (sym (ap (lines_from net (seen S) i) (window_starts es i to d u w) ∙ next_lines net S T i entry more made))
-    ∙ g
+    (sym (ap (lines_from net (seen S) i) (window_starts es i to d inside within) ∙ next_lines net S T i entry more made))
+    ∙ whole
 
 -- All lines stand in it.
 pub lines_done : (net : NetTree) (es : List Entry) (i to : ℕ) (S : MapState) (text goal : List ℕ) → to ≤ i →

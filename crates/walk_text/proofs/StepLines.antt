@@ -2,7 +2,7 @@
 use Rattle.std.proofs.Common.{◌≡◌, ℕ, ◌<◌, Bool, true, false, cond, List, [], ◌++◌, append_assoc, Option, Some, None, refl, sym, ap}
 use Rattle.std.proofs.Common.{◌∙◌, subst, arith}
 use Rattle.std.proofs.lemmas.Bool.{eq-eqb, ne_eqb}
-use Rattle.std.specs.Prelude.{codes, nat_eq}
+use Rattle.std.specs.Prelude.{codes}
 use Rattle.std.specs.FinMap.{get, insert, get-insert}
 use Rattle.std.proofs.lemmas.Cmp.{nat_cmp_total}
 use Rattle.interleave_laws.proofs.Tickets.{test_nat}
@@ -22,8 +22,9 @@ use Rattle.move_rules.specs.Table.{on_found, facing, plain_up, plain_down}
 use Rattle.move_rules.specs.Moves.{Look, dead, constant, pass, one, test, two, pass_at, look_up, Move, solo, fork, join}
 use Rattle.move_rules.specs.AtNode.{look_at, move_at}
 use Rattle.move_rules.specs.Moves.{answer, stay}
-use Rattle.move_rules.specs.Moves.{ask_move, solo_at, or_stay, if_wire, ans_down, move}
+use Rattle.move_rules.specs.Moves.{ask_move, solo_at, if_wire, ans_down, move}
 use Rattle.move_rules.proofs.Facing.{one_some, move_faced}
+use Rattle.move_rules.proofs.Either.{wire_so, either_so, operand_so}
 use Rattle.interleave_core.specs.declared.stepped.Stepped.{Stepped}
 use Rattle.interleave_core.specs.declared.stepped.Stepped.TheVariants.{Went, Forked, Joined, Answered}
 use Rattle.interleave_core.specs.Names.{name_at, name_of, name_on, step_name}
@@ -97,31 +98,14 @@ ask_fits b (one i g q) p f = f
 ask_fits b (test i c q r) p f = f
 ask_fits b (two i o t q r) p f = f
 
-wire_fits : (b : Bool) (x w : ℕ) (m : Move) → Fits b m → Fits b (if_wire x w m)
-wire_fits b x w m f = go (nat_eq x w)
-  where
-    go : (c : Bool) → Fits b (cond c m stay)
-    go true = f
-    go false = tt
-
-either_fits : (b : Bool) (m m' : Move) → Fits b m → Fits b m' → Fits b (or_stay m m')
-either_fits b stay m' f g = g
-either_fits b (solo i x) m' f g = f
-either_fits b (fork i l r t) m' f g = f
-either_fits b (join i o s v w t) m' f g = f
-either_fits b (answer v) m' f g = f
-
-both_fit : (c : Bool) (a b w : ℕ) (m m' : Move) → Fits c m → Fits c m' → Fits c (or_stay (if_wire a w m) (if_wire b w m'))
-both_fit c a b w m m' f g = either_fits c (if_wire a w m) (if_wire b w m') (wire_fits c a w m f) (wire_fits c b w m' g)
-
 -- an answer makes a join at operators alone, and elsewhere a solo move or the last one
 ans_fits : (i : ℕ) (n : Node) (v : Val) (w : ℕ) (m : Work) (t : Boxes) → Fits (is_operator n) (ans_down i n v w m t)
 ans_fits i (Succ a c) v w [] t = refl
 ans_fits i (Pred a c) v w [] t = refl
 ans_fits i (Ifz b p q c) v w [] t =
-    either_fits false (if_wire b w (solo i _)) _ (wire_fits false b w (solo i _) refl)
-    (both_fit false p q w (solo i (ans v (down c [] t))) (solo i (ans v (down c [] t))) refl refl)
-ans_fits i (Binary o a b c) v w [] t = both_fit true a b w _ _ refl refl
+    either_so (Fits false) tt (if_wire b w (solo i _)) _ (wire_so (Fits false) tt b w (solo i _) refl)
+    (operand_so (Fits false) tt p q w (solo i (ans v (down c [] t))) (solo i (ans v (down c [] t))) refl refl)
+ans_fits i (Binary o a b c) v w [] t = operand_so (Fits true) tt a b w _ _ refl refl
 ans_fits i (Root c) v w [] t = refl
 ans_fits i n v w m t = solo_fits (is_operator n) i (plain_down n w m t) (ans v) (plain_down_fits n w m t)
 

@@ -1,6 +1,7 @@
 use Rattle.std.proofs.Common.{◌≤◌, ap, ◌∙◌, length}
 use Rattle.std.proofs.lemmas.List.{take_all}
-use Rattle.schedule_log.specs.Logs.{LogSeen, by, tickets_in_log}
+use Rattle.schedule_log.specs.Logs.{by, tickets_in_log}
+use Rattle.schedule_log.specs.LogsSeen.{LogSeen}
 use Rattle.goi_reports.proofs.Rounding.{tickets_kept}
 use Rattle.goi_reports.proofs.span.log_of.Goals as goal
 

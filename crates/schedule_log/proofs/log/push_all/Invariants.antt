@@ -1,5 +1,5 @@
 use Rattle.std.proofs.Common.{◌≡◌, take}
-use Rattle.schedule_log.specs.Logs.{with_entries}
+use Rattle.schedule_log.specs.LogsSeen.{with_entries}
 use Rattle.schedule_log.proofs.log.push_all.Given as goal
 
 abbrev pub invariant-loop-entry : goal.invariant-loop-entry

@@ -1,4 +1,4 @@
-use Rattle.schedule_log.specs.Logs.{tickets_read}
+use Rattle.schedule_log.specs.LogsSeen.{tickets_read}
 use Rattle.schedule_log.proofs.Texts.{body_answered, not_long}
 use Rattle.schedule_log.proofs.text.read_schedule.Goals as goal
 

@@ -1,5 +1,5 @@
 use Rattle.std.proofs.Common.{◌+◌, arith}
-use Rattle.testing_nets.proofs.Reaching.{reached_ok}
+use Rattle.interleave_core.proofs.Stepping.{reached_ok}
 use Rattle.testing_nets.proofs.moves.go.Goals as goal
 
 pub returns-then-is_live : goal.returns-then-is_live

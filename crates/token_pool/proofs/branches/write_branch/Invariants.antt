@@ -1,5 +1,6 @@
 use Rattle.std.specs.Prelude.{map, length}
-use Rattle.schedule_log.specs.Logs.{by, with_entries}
+use Rattle.schedule_log.specs.Logs.{by}
+use Rattle.schedule_log.specs.LogsSeen.{with_entries}
 use Rattle.branch_laws.specs.Branches.{name}
 use Rattle.token_pool.proofs.Writing.{Writes}
 use Rattle.token_pool.proofs.branches.write_branch.Given as goal

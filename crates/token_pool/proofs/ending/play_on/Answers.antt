@@ -1,5 +1,5 @@
 use Rattle.std.proofs.Common.{ap, arith}
-use Rattle.schedule_log.specs.Logs.{LogSeen}
+use Rattle.schedule_log.specs.LogsSeen.{LogSeen}
 use Rattle.token_pool.proofs.Finishing.{may_step, plays_on}
 use Rattle.token_pool.proofs.ending.play_on.Goals as goal
 

@@ -1,11 +1,15 @@
-use Rattle.std.proofs.Common.{arith}
-use Rattle.walk_text.proofs.Playing.{able_here, reached_here, led_on, line_on}
+use Rattle.std.proofs.Common.{take, arith}
+use Rattle.schedule_log.specs.Logs.{tickets_in_log}
+use Rattle.schedule_log.proofs.Taken.{taken_few}
+use Rattle.walk_text.proofs.Playing.{able_here, led_on, line_on}
 use Rattle.walk_text.proofs.moves.push_moves.Goals as goal
 
 pub push_move-requires-clause-reached : goal.push_move-requires-clause-reached
-push_move-requires-clause-reached c =
-    reached_here c.args.net.now c.args.entries.now c.loop-i.i c.loop-i.core (omega (arith, c.loop-i-test.true, c.requires.within))
-    c.requires.few c.loop-i.invariant.led
+push_move-requires-clause-reached c = (
+  tickets_in_log (take c.loop-i.i c.args.entries.now),
+  c.loop-i.invariant.led,
+  taken_few c.args.entries.now c.loop-i.i (omega (arith, c.loop-i-test.true, c.requires.within)) c.requires.few,
+)
 
 pub push_move-requires-clause-able : goal.push_move-requires-clause-able
 push_move-requires-clause-able c =

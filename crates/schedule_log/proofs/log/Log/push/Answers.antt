@@ -1,5 +1,6 @@
 use Rattle.std.proofs.Common.{sym, subst, arith}
-use Rattle.schedule_log.specs.Logs.{Small, tickets_in_log}
+use Rattle.schedule_log.specs.Logs.{tickets_in_log}
+use Rattle.schedule_log.specs.LogsSeen.{Small}
 use Rattle.schedule_log.proofs.Smalls.{small_with}
 use Rattle.schedule_log.proofs.log.Log.push.Goals as goal
 

@@ -1,5 +1,5 @@
 use Rattle.std.proofs.Common.{◌≡◌, replicate}
-use Rattle.schedule_log.specs.Logs.{with_entries}
+use Rattle.schedule_log.specs.LogsSeen.{with_entries}
 use Rattle.schedule_log.proofs.log.Log.push_many.Given as goal
 
 abbrev pub invariant-loop-i : goal.invariant-loop-i

@@ -1,5 +1,5 @@
 use Rattle.std.proofs.Common.{sym, ap, arith}
-use Rattle.schedule_log.specs.Logs.{LogSeen}
+use Rattle.schedule_log.specs.LogsSeen.{LogSeen}
 use Rattle.token_pool.specs.contracts.pool.PoolState.{the_view}
 use Rattle.token_pool.proofs.Standing.{still_reached, fits, let_go_small, still_good, booked_as}
 use Rattle.token_pool.proofs.pool.PoolState.book.Goals as goal

@@ -1,5 +1,6 @@
 use Rattle.std.proofs.Common.{◌≤◌, ◌++◌, length, sym, ap, ◌∙◌, subst, arith}
-use Rattle.schedule_log.specs.Logs.{LogSeen, by}
+use Rattle.schedule_log.specs.Logs.{by}
+use Rattle.schedule_log.specs.LogsSeen.{LogSeen}
 use Rattle.token_pool.specs.contracts.pool.PoolState.{the_view}
 use Rattle.token_pool.specs.Branches.{made_tickets}
 use Rattle.token_pool.proofs.Standing.{still_reached, fits, holds, few_aside, let_go_small}

@@ -1,5 +1,5 @@
 use Rattle.std.proofs.Common.{ap, arith}
-use Rattle.schedule_log.specs.Logs.{LogSeen}
+use Rattle.schedule_log.specs.LogsSeen.{LogSeen}
 use Rattle.token_pool.proofs.Standing.{start_ready}
 use Rattle.token_pool.proofs.pool.PoolState.start.Goals as goal
 
