@@ -2,7 +2,7 @@
 use Rattle.std.proofs.Common.{◌≡◌, ◌≤◌, ◌-◌, ℕ, suc, take, List, [], ◌∷◌, ◌++◌, append_assoc, length, get_or}
 use Rattle.std.proofs.Common.{drop, Option, Some, None, Result, Ok, Err, IfOk, OnOk, sym, ap, ◌∙◌, subst, arith, All}
 use Rattle.std.proofs.lemmas.List.Elements.{All-take, All-drop}
-use Rattle.std.proofs.lemmas.List.{take_rest}
+use Rattle.std.proofs.Math.Seq.{take-length}
 use Rattle.token_pool.specs.declared.ending.Ended.{Ended}
 use Rattle.token_pool.specs.Pools.{Pool}
 use Rattle.token_pool.specs.Ending.{Suits, Finishes, Replays}
@@ -38,7 +38,7 @@ pub first_and_rest : (xs : List BatchJob) (x : BatchJob) → 1 ≤ length xs →
 first_and_rest [] x l e = absurd (omega (arith, l))
 first_and_rest (y ∷ ys) x l e =
     let n : length ys ≡ suc (length ys) - 1 = omega arith in
-    ap (λ z. z ∷ ys) (sym e) ∙ ap (λ zs. x ∷ zs) (sym (take_rest ys 0) ∙ ap (λ n. take n ys) n)
+    ap (λ z. z ∷ ys) (sym e) ∙ ap (λ zs. x ∷ zs) (sym (take-length ys) ∙ ap (λ n. take n ys) n)
 
 -- what is so of each element is so of the first
 pub fits_first : (P : BatchJob → Type 0) (xs : List BatchJob) (x : BatchJob) → 1 ≤ length xs → x ≡ get_or xs 0 x → All P xs → P x

@@ -3,7 +3,7 @@ use Rattle.std.proofs.Common.{◌≡◌, ℕ, suc, ◌+◌, ◌-◌, ◌<◌, �
 use Rattle.std.proofs.Common.{Option, Some, None, IfSome, Result, Ok, Err, IfOk, IfErr, OnOk, refl, sym, IsTrue, inl, inr, ap, ◌∙◌, subst}
 use Rattle.std.proofs.Common.{⊎_elim, arith, All}
 use Rattle.std.proofs.lemmas.List.Elements.{All-nil, All-cons}
-use Rattle.std.proofs.lemmas.List.{take_rest}
+use Rattle.std.proofs.Math.Seq.{take-length}
 use Rattle.goi_world.specs.Outside.{Reading}
 use Rattle.pcf_values.specs.Most.{most_program_bytes}
 use Rattle.batch_lists.specs.declared.fault.BatchFault.{BatchFault}
@@ -156,7 +156,7 @@ first_and_rest : (xs : List BatchLine) (x : BatchLine) → 1 ≤ length xs → x
 first_and_rest [] x l e = absurd (omega (arith, l))
 first_and_rest (y ∷ ys) x l e =
     let n : length ys ≡ suc (length ys) - 1 = omega arith in
-    ap (λ z. z ∷ ys) (sym e) ∙ ap (λ zs. x ∷ zs) (sym (take_rest ys 0) ∙ ap (λ n. take n ys) n)
+    ap (λ z. z ∷ ys) (sym e) ∙ ap (λ zs. x ∷ zs) (sym (take-length ys) ∙ ap (λ n. take n ys) n)
 
 -- Below, the first of some lines was come to.
 module _ (lines : List BatchLine) (line : BatchLine) (some : 1 ≤ length lines) (is : line ≡ get_or lines 0 line) where
