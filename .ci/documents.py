@@ -223,7 +223,7 @@ def try_help(program):
 
 
 def try_page_links(program):
-    """What the documents' links into the page that runs programs open: it is run as the page does it, and has as many moves as they name."""
+    """What the documents' links into the page that runs programs open: it is run as the page does it, and has the move that they name."""
     judge("documents link to the page that runs programs", len(page_links()) > 10)
     for heading, document in page_links().items():
         wanted = dict(urllib.parse.parse_qsl(heading))

@@ -19,7 +19,7 @@ LINKED += ["ucd_derived", "ucd_table", "unicode_ident", "liblibc_c.a", "libos_c.
 # The documents, as files and folders of the checkout.
 DOCUMENTS = ["docs", "README.md", "CHANGELOG.md", "CONTRIBUTING.md", "CITATION.cff", "c/README.md", "bench/RESULTS.md", "bench/NOTES.md"]
 # The pages of the lessons, with what tools/show-walk is given. By one worker a page is the same each time.
-WALKS = {name: [] for name in ("named", "double", "door", "apply", "sum", "fibonacci")}
+WALKS = {name: [] for name in ("named", "double", "door", "apply", "sum", "unfolded", "fibonacci")}
 WALKS["tree"] = "--budget 10000000 --from 1000000 --most 30000".split()
 # The page to which the lessons link, as they name it.
 LIVE = b"](../../out/goi.html"
