@@ -137,6 +137,11 @@ def odd_readme(text):
     return found
 
 
+def quoted(document):
+    """What a document quotes of definitions: its blocks of code with an arrow of theirs."""
+    return [it for it in re.findall(r"^```\n(.*?)^```$", read(document), re.M | re.S) if "→" in it or "↔" in it]
+
+
 def try_listed():
     """Each document holds, and one with a wrong line doesn't."""
     crates, listed, readme = read("docs/ARCHITECTURE.md"), read("docs/README.md"), read("README.md")
@@ -158,6 +163,9 @@ def try_listed():
         ("a call that isn't there", row.replace("`check`", "`chek`"), "net_check has chek"),
     ):
         judge(what, wanted in odd_crates(crates.replace(row, other)))
+    lesson, plain = quoted("docs/lessons/6-meaning-and-adequacy.md"), lambda it: re.sub(r"\s+", " ", it).strip()
+    judge("the sixth lesson quotes a statement", len(lesson), 1)
+    judge("as it is", plain(lesson[0]) in plain(read("crates/adequacy_laws/specs/Adequacy.antt")))
     judge("what README quotes and counts", odd_readme(readme), [])
     judge("another headline", odd_readme(readme.replace("n ≤ budget", "budget ≤ n")), ["the headline"])
     judge("another count", len(odd_readme(re.sub(r"rests on [\d,]+", "rests on 7", readme))), 1)
