@@ -5,11 +5,16 @@ import re
 import shutil
 import sys
 import tempfile
+import urllib.parse
 
 sys.dont_write_bytecode = True
 sys.path.insert(0, os.path.dirname(os.path.realpath(__file__)))
 from judging import TOP, call, judge, put  # noqa: E402
 
+# The page that runs programs. It is made, and so it needn't be there; what an address of it can have.
+LIVE = "out/goi.html"
+IN_ADDRESS = {"example", "program", "schedule", "by-value", "budget", "move", "round", "show", "types", "theme", "wall", "colour"}
+SHOWN = {"net", "schedule", "trace"}
 
 
 def read(path):
@@ -45,9 +50,30 @@ def loose(document, text):
     for target in links(text):
         path, _, heading = target.partition("#")
         path = os.path.normpath(os.path.join(os.path.dirname(document), path)) if path else document
+        if path == LIVE:
+            found += [target] * (not fits_page(heading))
+            continue
         there = text if path == document else read(path) if path.endswith(".md") and os.path.isfile(os.path.join(TOP, path)) else ""
         if not os.path.exists(os.path.join(TOP, path)) or (heading and path.endswith(".md") and heading not in anchors(there)):
             found.append(target)
+    return found
+
+
+def fits_page(heading):
+    """Whether an address of the page that runs programs has an example or a program, and nothing that the page doesn't know."""
+    wanted = dict(urllib.parse.parse_qsl(heading))
+    example = wanted.get("example")
+    there = "program" in wanted if example is None else os.path.isfile(os.path.join(TOP, "examples", f"{example}.pcf"))
+    return there and set(wanted) <= IN_ADDRESS and wanted.get("show", "net") in SHOWN
+
+
+def page_links():
+    """The addresses of that page to which documents link, each with the first document that has it."""
+    found = {}
+    for document in documents():
+        for path, _, heading in (it.partition("#") for it in links(read(document))):
+            if os.path.normpath(os.path.join(os.path.dirname(document), path)) == LIVE:
+                found.setdefault(heading, document)
     return found
 
 
@@ -111,6 +137,11 @@ def odd_readme(text):
     return found
 
 
+def quoted(document):
+    """What a document quotes of definitions: its blocks of code with an arrow of theirs."""
+    return [it for it in re.findall(r"^```\n(.*?)^```$", read(document), re.M | re.S) if "→" in it or "↔" in it]
+
+
 def try_listed():
     """Each document holds, and one with a wrong line doesn't."""
     crates, listed, readme = read("docs/ARCHITECTURE.md"), read("docs/README.md"), read("README.md")
@@ -118,6 +149,8 @@ def try_listed():
     for document in documents():
         judge(f"links of {document} that lead nowhere", loose(document, read(document)), [])
     judge("a link to no file", loose("docs/README.md", "[it](LACKED.md)"), ["LACKED.md"])
+    judge("a link to no example", loose("docs/README.md", "[it](../out/goi.html#example=lacked)"), ["../out/goi.html#example=lacked"])
+    judge("a link with an odd word", len(loose("docs/README.md", "[it](../out/goi.html#example=sum&mov=3)")), 1)
     judge("a link to no heading", loose("docs/README.md", "[it](NET.md#lacked)"), ["NET.md#lacked"])
     judge("documents that the list lacks or has twice", unlisted(listed), [])
     judge("a list without a document", unlisted(listed.replace("(NET.md)", "(WALK.md)")), ["docs/NET.md", "docs/WALK.md"])
@@ -130,6 +163,9 @@ def try_listed():
         ("a call that isn't there", row.replace("`check`", "`chek`"), "net_check has chek"),
     ):
         judge(what, wanted in odd_crates(crates.replace(row, other)))
+    lesson, plain = quoted("docs/lessons/6-meaning-and-adequacy.md"), lambda it: re.sub(r"\s+", " ", it).strip()
+    judge("the sixth lesson quotes a statement", len(lesson), 1)
+    judge("as it is", plain(lesson[0]) in plain(read("crates/adequacy_laws/specs/Adequacy.antt")))
     judge("what README quotes and counts", odd_readme(readme), [])
     judge("another headline", odd_readme(readme.replace("n ≤ budget", "budget ≤ n")), ["the headline"])
     judge("another count", len(odd_readme(re.sub(r"rests on [\d,]+", "rests on 7", readme))), 1)
@@ -194,8 +230,24 @@ def try_help(program):
     judge("a file of the name --help", (found[0], found[1], found[2].endswith(b" [read failed]\n")), (3, b"", True))
 
 
+def try_page_links(program):
+    """What the documents' links into the page that runs programs open: it is run as the page does it, and has the move that they name."""
+    judge("documents link to the page that runs programs", len(page_links()) > 10)
+    for heading, document in page_links().items():
+        wanted = dict(urllib.parse.parse_qsl(heading))
+        with tempfile.TemporaryDirectory() as at:
+            file = put(at, "p", read(f"examples/{wanted['example']}.pcf") if "example" in wanted else wanted["program"])
+            words = ["run", file, "--budget", wanted.get("budget", "10000"), *["--by-value"] * (wanted.get("by-value") == "1")]
+            if "schedule" in wanted:
+                words = ["replay", file, put(at, "s", "\n".join(["schedule 2", *wanted["schedule"].split(","), "end", ""]))]
+            status, out, _ = call([program, *words])
+            moves = re.search(rb"^moves (\d+)$", out, re.M)
+            there = status in (0, 5) and int(wanted.get("move", 0)) <= int(moves[1])
+            judge(f"{document}: {heading}", there)
+
+
 def try_all(program):
-    for part in try_listed, lambda: try_help(program):
+    for part in try_listed, lambda: try_help(program), lambda: try_page_links(program):
         try:
             part()
         except Exception as error:  # a case that can't be tried has failed

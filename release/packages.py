@@ -123,7 +123,7 @@ DESCRIPTION = """ goi reads a program of PCF, checks its types, translates it in
  prints the program's call-by-name value, whatever the number of workers.
  .
  The package has the program, the library for C, C++, Rust and Python with its
- header, pages that show a walk, four lessons, and colours for editors.
+ header, pages that show a walk, seven lessons, and colours for editors.
 """
 SUGGESTED = "graphviz, iverilog, parallel, python3-ipykernel, python3-pygments, rsync"
 COMPILE = '#!/bin/sh\nset -e\nif [ "$1" = configure ] && command -v py3compile >/dev/null; then py3compile -p goi; fi\n'

@@ -19,7 +19,10 @@ LINKED += ["ucd_derived", "ucd_table", "unicode_ident", "liblibc_c.a", "libos_c.
 # The documents, as files and folders of the checkout.
 DOCUMENTS = ["docs", "README.md", "CHANGELOG.md", "CONTRIBUTING.md", "CITATION.cff", "c/README.md", "bench/RESULTS.md", "bench/NOTES.md"]
 # The pages of the lessons, with what tools/show-walk is given. By one worker a page is the same each time.
-WALKS = ["named", "double", "door", "apply", "sum", "fibonacci"]
+WALKS = {name: [] for name in ("named", "double", "door", "apply", "sum", "unfolded", "fibonacci")}
+WALKS["tree"] = "--budget 10000000 --from 1000000 --most 30000".split()
+# The page to which the lessons link, as they name it.
+LIVE = b"](../../out/goi.html"
 
 WRAPPER = b"""#!/bin/sh
 # Runs goi with the caller's words; the status is the program's. tools/limit.sh says what a run may take.
@@ -110,7 +113,7 @@ def whole(given):
         put("share/goi/" + path.split("/", 1)[1], read(path))
     # the documents, as they lie in the checkout, so that their links lead somewhere
     for path in tracked(*DOCUMENTS):
-        put(f"share/doc/goi/{path}", read(path))
+        put(f"share/doc/goi/{path}", read(path).replace(LIVE, b"](../../../../goi/goi.html"))
     tree["share/doc/goi/examples"] = "../../goi/examples"
     for name, text in licences(given.kit).items():
         put(f"share/doc/goi/{name}", text)
@@ -159,13 +162,13 @@ def class_bundle(given):
     """The lessons with all that their links lead to, and their pages made ready."""
     tree = {"README.txt": (0o644, read("release", "class", "README.txt").replace(b"@VERSION@", given.version.encode()))}
     for path in tracked(*DOCUMENTS, "examples"):
-        tree[path] = (0o644, read(path))
+        tree[path] = (0o644, read(path).replace(LIVE, b"](../../goi.html"))
     for name, text in licences(given.kit).items():
         tree[name] = (0o644, text)
     tree["goi.html"] = (0o644, given.page)
     tool = os.path.join(TOP, "tools", "show-walk")
-    for name in WALKS:
-        made = subprocess.run([tool, f"examples/{name}.pcf"], cwd=TOP, env={**os.environ, "GOI": given.path}, capture_output=True)
+    for name, options in WALKS.items():
+        made = subprocess.run([tool, f"examples/{name}.pcf", *options], cwd=TOP, env={**os.environ, "GOI": given.path}, capture_output=True)
         if made.returncode:
             raise RuntimeError(f"show-walk: {made.stderr.decode()[-500:]}")
         tree[f"{name}.html"] = (0o644, made.stdout)
