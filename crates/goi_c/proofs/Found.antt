@@ -1,5 +1,5 @@
 -- Why what is told in numbers is the first fault of a text.
-use Rattle.std.proofs.Common.{◌≡◌, ℕ, ◌+◌, ◌<◌, ◌≤◌, ◌-◌, List, Result, Ok, Err, IfOk, IfErr, ap, ◌∙◌, subst, arith}
+use Rattle.std.proofs.Common.{◌≡◌, ℕ, ◌<◌, ◌≤◌, ◌-◌, List, Result, Ok, Err, IfOk, IfErr, ap, ◌∙◌, subst, arith}
 use Rattle.pcf_values.specs.Terms.{TermTree}
 use Rattle.program_runs.specs.declared.fault.ProgramFault.{ProgramFault}
 use Rattle.function_runs.specs.Functions.{CompilesText, FaultyFunction}

@@ -1,5 +1,5 @@
 -- Why what is given back of a function's rows is what the call promises.
-use Rattle.std.proofs.Common.{◌≡◌, ◌⊎◌, ◌≢◌, ℕ, ◌≤◌, Bool, true, false, List, [], ◌∷◌, length, cond, refl, ◌∙◌, subst, arith}
+use Rattle.std.proofs.Common.{◌≡◌, ◌⊎◌, ◌≢◌, ℕ, Bool, true, false, List, [], ◌∷◌, cond, refl, ◌∙◌, subst, arith}
 use Rattle.std.proofs.Common.{inl, inr}
 use Rattle.std.specs.Prelude.{nat_eq}
 use Rattle.pcf_values.specs.Terms.{TermTree}
@@ -8,7 +8,6 @@ use Rattle.function_runs.specs.Functions.{CompilesText, FaultyFunction}
 use Rattle.function_runs.specs.Laws.{OneFunction}
 use Rattle.goi_tasks.specs.declared.fault.Fault.TheVariants.{Program}
 use Rattle.goi_tasks.specs.declared.stop.Stop.TheVariants as stop
-use Rattle.goi_tasks.specs.Refusals.{most_line}
 use Rattle.goi_c.specs.declared.telling.Answer.{Answer}
 use Rattle.goi_c.specs.Backs.{Back, Gives, Nothing}
 use Rattle.goi_c.specs.Calls.{HasRoom}
