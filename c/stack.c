@@ -13,12 +13,16 @@
 static char text[(1 << 20) + 1], schedule[1 << 20], listing[1 << 24], out[1 << 24];
 static size_t size, schedule_size, listing_size;
 static int passed, failed;
-static const char *const calls[] = {"run", "run by value", "check", "net", "replay", "trace", "run-net"};
-enum { CALLS = 7 };
+static const char *const calls[] = {"run", "run by value", "check", "net", "replay", "trace", "span", "circuit", "replay with a trace",
+                                    "a function's rows", "a fault", "run-net"};
+enum { CALLS = sizeof calls / sizeof *calls };
 
 static void *work(void *at) {
     size_t needed;
     goi_status status;
+    goi_answer answers[2];
+    goi_fault fault;
+    static const uint64_t none;
     switch (*(int *)at) {
     case 0: status = goi_run(text, size, GOI_BUDGET_MAX, 0, out, sizeof out, &needed); break;
     case 1: status = goi_run(text, size, GOI_BUDGET_MAX, GOI_BY_VALUE, out, sizeof out, &needed); break;
@@ -26,6 +30,11 @@ static void *work(void *at) {
     case 3: status = goi_net(text, size, out, sizeof out, &needed); break;
     case 4: status = goi_replay(text, size, schedule, schedule_size, out, sizeof out, &needed); break;
     case 5: status = goi_trace(text, size, 1000, 0, 0, 1000, out, sizeof out, &needed); break;
+    case 6: status = goi_span(text, size, GOI_BUDGET_MAX, GOI_PROFILE, out, sizeof out, &needed); break;
+    case 7: status = goi_circuit(text, size, GOI_STACK, GOI_FORKS, out, sizeof out, &needed); break;
+    case 8: status = goi_replay_trace(text, size, schedule, schedule_size, 0, 1000, out, sizeof out, &needed); break;
+    case 9: status = goi_tell_each(text, size, 0, &none, 0, GOI_BUDGET_MAX, answers, 2, out, sizeof out, &needed); break;
+    case 10: status = goi_find_fault(text, size, GOI_AS_NUMBER, &fault); break;
     default: status = goi_run_net(listing, listing_size, GOI_BUDGET_MAX, false, out, sizeof out, &needed);
     }
     return status == GOI_OK || status == GOI_NO_VALUE ? at : 0;

@@ -42,11 +42,11 @@ _why = script("why")
 def place(text, refused):
     """Of a program (a str) and its goi.Refused: line and column, counted from 0, the fault's name, and the sentence on it. A fault of the
     whole text has the place 0, 0."""
-    name, at = re.fullmatch(r"(\w+)(?:\((\d+)\))?", str(refused)).groups()
+    name, at = refused.kind, refused.place
     whole = text.encode()
-    before = whole[: int(at or 0)].decode(errors="replace")
+    before = whole[: at or 0].decode(errors="replace")
     says = _why.OF_PROGRAMS.get(name) or _why.OF_FILES.get(name, name)
-    if name == "Unexpected" and int(at) >= len(whole):
+    if name == "Unexpected" and at >= len(whole):
         says = _why.AT_END
     return before.count("\n"), len(before) - before.rfind("\n") - 1, name, says
 
@@ -54,7 +54,7 @@ def place(text, refused):
 def message(text, refused):
     """The sentence on a program's refusal, with its line and a mark where it has a place."""
     row, column, name, says = place(text, refused)
-    if "(" not in str(refused):
+    if refused.place is None:
         return f"{says} [{name}]"
     line = (text.split("\n") + [""])[row].rstrip("\r")
     # (what is put on a screen by itself moves nothing on it)

@@ -1,14 +1,14 @@
 -- What the calls promise to a caller that isn't written in Rattle. Each is a task on the caller's bytes, and what is given back is the
 -- task's output, the line of the first fault, or nothing where there was no memory or the numbers ask for nothing.
 use Rattle.std.specs.Prelude.{◌≡◌, ◌≢◌, ◌≤◌, ◌<◌, ◌/◌, ◌%◌, ℕ, Bool, false, List, length, Option, None, Some}
-use Rattle.std.specs.Prelude.{nat_eq}
+use Rattle.std.specs.Prelude.{nat_eq, codes}
 use Rattle.pcf_values.specs.declared.val.Val.{Val}
 use Rattle.pcf_values.specs.declared.val.Val.TheVariants.{Number, Overflow}
 use Rattle.goi_words.specs.declared.jobs.Window.{Window}
-use Rattle.goi_words.specs.Jobs.{IsBudget, IsWindow}
+use Rattle.goi_words.specs.Jobs.{IsBudget, IsForks, IsStack, IsWindow}
 use Rattle.goi_tasks.specs.declared.fault.Fault.{Fault}
 use Rattle.goi_tasks.specs.declared.task.Task.{Task}
-use Rattle.goi_tasks.specs.declared.task.Task.TheVariants.{Run, RunNet, Trace}
+use Rattle.goi_tasks.specs.declared.task.Task.TheVariants.{Circuit, Run, RunNet, Span, Trace}
 use Rattle.goi_tasks.specs.Outputs.{Output}
 use Rattle.goi_tasks.specs.Refusals.{most_line, IsLine, fault_status}
 use Rattle.program_runs.specs.declared.calling.Calling.{Calling}
@@ -22,12 +22,15 @@ use Rattle.goi_c.specs.Backs.{Back, Comes, Gives, Nothing}
 
 -- ---- flags
 
--- call by value is asked for, and the schedule is
+-- call by value is asked for, and the schedule is, and a line for each round is
 abbrev pub by_value_in : ℕ → Bool
 by_value_in flags = nat_eq (flags % 2) 1
 
 abbrev pub schedule_in : ℕ → Bool
-schedule_in flags = nat_eq (flags / 2) 1
+schedule_in flags = nat_eq ((flags / 2) % 2) 1
+
+abbrev pub profile_in : ℕ → Bool
+profile_in flags = nat_eq (flags / 4) 1
 
 -- the numbers of a run ask for something: its budget is within the limits, and no other flag is set
 abbrev pub IsAsked : ℕ → ℕ → ℕ → Type 0
@@ -45,10 +48,13 @@ pub data Calls (reports : Output → Type 0) (faulty : Fault → Type 0) (b : Ba
 abbrev pub CallsTask : Task → List ℕ → Back → Type 0
 CallsTask task bytes b = Calls (ReportsText 1 task bytes) (FaultyFor task bytes) b
 
--- the call of a schedule on the net of a text's program
+-- the call of a schedule on the net of a text's program, with this part of its trace where it is asked for
+abbrev pub CallsWalk : List ℕ → List ℕ → Option Window → Back → Type 0
+CallsWalk bytes schedule window b =
+    Calls (λ o. OfGround bytes (λ t. ReportsReplay t window schedule o)) (λ f. FaultyEither bytes (λ t. FaultySchedule t schedule f) f) b
+
 abbrev pub CallsReplay : List ℕ → List ℕ → Back → Type 0
-CallsReplay bytes schedule b =
-    Calls (λ o. OfGround bytes (λ t. ReportsReplay t None schedule o)) (λ f. FaultyEither bytes (λ t. FaultySchedule t schedule f) f) b
+CallsReplay bytes schedule b = CallsWalk bytes schedule None b
 
 -- where this is asked for, this is so, and else nothing is done
 pub record WhereAsked (asked : Type 0) (b : Back) (so : Type 0) : Type 0 where
@@ -83,6 +89,24 @@ trace_task budget flags window = Trace budget (calling_of (nat_eq flags 1)) wind
 abbrev pub CallsTrace : List ℕ → ℕ → ℕ → Window → Back → Type 0
 CallsTrace bytes budget flags window b =
     WhereAsked (IsAskedTrace budget flags window) b (CallsTask (trace_task budget flags window) bytes b)
+
+-- the call of a schedule with that part of its trace
+abbrev pub CallsReplayTrace : List ℕ → List ℕ → Window → Back → Type 0
+CallsReplayTrace bytes schedule window b = WhereAsked (IsWindow window) b (CallsWalk bytes schedule (Some window) b)
+
+-- the call of a run in rounds of a text's program, by value, with its schedule and with a line for each round where the flags ask for it
+abbrev pub span_task : ℕ → ℕ → Task
+span_task budget flags = Span budget (calling_of (by_value_in flags)) (profile_in flags) (schedule_in flags)
+
+abbrev pub CallsSpan : List ℕ → ℕ → ℕ → Back → Type 0
+CallsSpan bytes budget flags b = WhereAsked (IsAsked 8 budget flags) b (CallsTask (span_task budget flags) bytes b)
+
+-- the call of the circuit of a text's program, with stacks of so many bits and so many forks
+abbrev pub IsAskedCircuit : ℕ → ℕ → Type 0
+IsAskedCircuit stack forks = IsStack stack × IsForks forks
+
+abbrev pub CallsCircuit : List ℕ → ℕ → ℕ → Back → Type 0
+CallsCircuit bytes stack forks b = WhereAsked (IsAskedCircuit stack forks) b (CallsTask (Circuit stack forks) bytes b)
 
 -- ---- which status
 
@@ -134,3 +158,7 @@ pub record CallsTell (bytes : List ℕ) (budget flags : ℕ) (a : Answer) (b : B
 -- 1.1.0, as the file VERSION at the top has it
 abbrev pub version : ℕ
 version = 10100
+
+-- and as text, with the kit by which the library was proved and built, as `rt version` tells it
+abbrev pub version_text : List ℕ
+version_text = codes "goi 1.1.0, rattle-kit-13f logic dac8208d650f15bf\n"

@@ -13,7 +13,7 @@ pub(crate) const BAD_CALL: u32 = 2;
 /// The text is longer than the buffer.
 const NO_ROOM: u32 = 4;
 /// There was no memory.
-const NO_MEMORY: u32 = 6;
+pub(crate) const NO_MEMORY: u32 = 6;
 
 /// Gives back what came of a task.
 pub(crate) fn give_result(
@@ -45,7 +45,7 @@ pub(crate) fn give_stop(alloc: Global, stop: Stop, out: &mut [u8], needed: &mut 
 }
 
 /// Gives back the line of a fault.
-fn give_fault(alloc: Global, fault: Fault, out: &mut [u8], needed: &mut usize) -> u32
+pub(crate) fn give_fault(alloc: Global, fault: Fault, out: &mut [u8], needed: &mut usize) -> u32
     ensures { OfStop (Stop.Fault fault) (back result needed.new out.old out.new) }
 {
     match refuse(alloc, fault) {
@@ -68,7 +68,7 @@ pub(crate) fn give_nothing(needed: &mut usize, status: u32) -> u32
 }
 
 /// Gives a text with its status, where it fits.
-fn give(out: &mut [u8], needed: &mut usize, text: &[u8], status: u8) -> u32
+pub(crate) fn give(out: &mut [u8], needed: &mut usize, text: &[u8], status: u8) -> u32
     ensures { Gives status text.now (back result needed.new out.old out.new) }
 {
     *needed = text.len();

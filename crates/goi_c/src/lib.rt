@@ -7,12 +7,22 @@
 #![tactic(auto)]
 
 mod checking;
+mod finding;
 mod giving;
+mod kinds;
+mod marks;
+mod rows;
 mod running;
+mod spanning;
 mod telling;
 mod version;
 
-pub use checking::{goi_check, goi_net, goi_replay};
+pub use checking::{goi_check, goi_circuit, goi_net, goi_replay, goi_replay_trace};
+pub use finding::{FaultData, goi_find_fault, goi_find_schedule_fault};
+pub use kinds::Kind;
+pub use marks::Mark;
+pub use rows::goi_tell_each;
 pub use running::{goi_run, goi_run_net, goi_trace};
+pub use spanning::goi_span;
 pub use telling::{Answer, goi_tell};
-pub use version::goi_version;
+pub use version::{goi_version, goi_version_text};

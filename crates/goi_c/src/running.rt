@@ -39,7 +39,7 @@ pub extern "C" fn goi_run(
     let task = Task::Run {
         budget,
         calling: calling_of(flags % 2 == 1),
-        shown: only_schedule(flags / 2 == 1),
+        shown: only_schedule(flags / 2 % 2 == 1),
     };
     let ran = report_text(alloc, text, task, &Alone);
     give_result(alloc, ran, out, needed)

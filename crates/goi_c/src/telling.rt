@@ -77,7 +77,7 @@ fn give_told(
 }
 
 /// No answer.
-fn no_answer() -> Answer
+pub(crate) fn no_answer() -> Answer
     ensures { AnswerIs None 0 result }
 {
     Answer {
@@ -88,7 +88,7 @@ fn no_answer() -> Answer
 }
 
 /// The answer in numbers.
-fn answer_of(value: Option<Val>, moves: u32) -> Answer
+pub(crate) fn answer_of(value: Option<Val>, moves: u32) -> Answer
     ensures { AnswerIs value moves result }
 {
     match value {

@@ -1,0 +1,23 @@
+use Rattle.std.proofs.Common.{arith}
+use Rattle.goi_tasks.specs.declared.task.Task.TheVariants.{Circuit}
+use Rattle.goi_c.proofs.Called.{called}
+use Rattle.goi_c.proofs.Owned.{owned}
+use Rattle.goi_c.proofs.checking.goi_circuit.Goals as goal
+
+pub returns-clause-calls : goal.returns-clause-calls
+returns-clause-calls c =
+    let h = c.report_text-printed in
+    record {
+      right = λ asked. called _ _ h.result _ h.ensures.report h.ensures.fault c.give_result.ensures;
+      wrong = λ n.
+          absurd (n (
+            (omega (arith, c.if-stack-lt-LEAST_STACK.false), omega (arith, c.if-stack-gt-MOST_STACK.false)),
+            (omega (arith, c.if-forks-lt1.false), omega (arith, c.if-forks-gt-MOST_FORKS.false)),
+          ));
+    }
+
+pub returns-clause-own : goal.returns-clause-own
+returns-clause-own c = λ asked.
+    let h = c.report_text-printed in
+    owned _ _ _ (c.law_settled.ensures.tasks 1 (Circuit c.args.stack c.args.forks) c.args.text.now) _
+    (called _ _ h.result _ h.ensures.report h.ensures.fault c.give_result.ensures)

@@ -1,0 +1,39 @@
+//! Runs in rounds, as texts.
+
+ghost use Rattle.goi_c.specs.Backs.{back};
+ghost use Rattle.goi_c.specs.Calls.{CallsSpan, IsAsked, OwnsTask, span_task};
+
+use crate::giving::{BAD_CALL, give_nothing, give_result};
+use goi_tasks::{Task, law_settled, report_text};
+use pcf_values::limits::BUDGET;
+use program_runs::{Alone, calling_of};
+use std::alloc::Global;
+
+/// Runs the program of a text in rounds within a budget of moves, and tells the value, the moves, the rounds and their greatest width.
+///
+/// The flags are a sum of 1 for call by value, 2 for the schedule behind the lines, and 4 for a line for each round.
+#[unsafe(no_mangle)]
+pub extern "C" fn goi_span(
+    alloc: Global,
+    text: &[u8],
+    budget: u32,
+    flags: u32,
+    out: &mut [u8],
+    needed: &mut usize,
+) -> u32
+    ensures calls { CallsSpan text.now budget flags (back result needed.new out.old out.new) }
+    ensures own { IsAsked 8 budget flags → OwnsTask (span_task budget flags) text.now (back result needed.new out.old out.new) }
+{
+    law_settled();
+    if budget < 1 || BUDGET < budget || 8 <= flags {
+        return give_nothing(needed, BAD_CALL);
+    }
+    let task = Task::Span {
+        budget,
+        calling: calling_of(flags % 2 == 1),
+        profile: flags / 4 == 1,
+        schedule: flags / 2 % 2 == 1,
+    };
+    let spanned = report_text(alloc, text, task, &Alone);
+    give_result(alloc, spanned, out, needed)
+}
