@@ -1,0 +1,78 @@
+-- The module of a net is well formed: by computation, but for its rows, which bring no names in.
+use Rattle.std.proofs.Common.{◌≡◌, ℕ, zero, suc, Bool, true, false, ◌&&◌, List, [], ◌∷◌, ◌++◌, length, Option, Some, None, refl, ap}
+use Rattle.std.proofs.lemmas.Bool.{and_from}
+use Prim.Native.String.{String}
+use Rattle.pcf_values.specs.declared.operator.Operator.TheVariants.{Plus, Minus, Times}
+use Rattle.pcf_values.specs.declared.side.Side.TheVariants.{Left, Right}
+use Rattle.net_build.specs.Nets.{NetTree}
+use Rattle.interleave_laws.specs.Start.{start_of}
+use Rattle.circuit_core.specs.Rows.{Channel, rises, falls, number, Row, GO, CONST, SUCC, PRED, TEST, FORK, JOIN, ANSWER, STAR, UNSTAR, LEFT}
+use Rattle.circuit_core.specs.Rows.{RIGHT, CON, PUSHR, PUSHL, SELECT, POP, BOXIN, BOXOUT, DOOROUT, DOORIN, FIXIN, FIXOUT, FIXVAR, DEAD}
+use Rattle.circuit_core.specs.Rows.{row_of}
+use Rattle.circuit_core.specs.Rows.{channel_of}
+use Rattle.verilog_tree.specs.Tree.{Arms}
+use Rattle.verilog_tree.specs.WellFormed.{Entry, stmt_ok, arms_ok, all_declared, WellFormed}
+use Rattle.circuit_module.specs.Fixed.{ports, constants, registers, row_registers}
+use Rattle.circuit_module.specs.Module.{row_stmt, row_arm, row_arms, sizes, multiplies, product_of, module_with, module_of}
+
+-- what is declared above the rows
+abbrev names : List Entry
+names = all_declared [] (ports ++ (sizes 0 0 0 0 ++ (constants ++ (registers ++ row_registers))))
+
+abbrev driven_there : List String
+driven_there = "op" ∷ "to" ∷ "other" ∷ "number" ∷ []
+
+-- each row's case names what is declared above it
+row_ok : (r : Row) → stmt_ok names driven_there (row_stmt r) ≡ true
+row_ok (GO c) = refl
+row_ok (CONST n c) = refl
+row_ok (SUCC c) = refl
+row_ok (PRED c) = refl
+row_ok (TEST c d) = refl
+row_ok (FORK c d) = refl
+row_ok (JOIN Plus Left w) = refl
+row_ok (JOIN Plus Right w) = refl
+row_ok (JOIN Minus Left w) = refl
+row_ok (JOIN Minus Right w) = refl
+row_ok (JOIN Times Left w) = refl
+row_ok (JOIN Times Right w) = refl
+row_ok ANSWER = refl
+row_ok (STAR c) = refl
+row_ok (UNSTAR c) = refl
+row_ok (LEFT c) = refl
+row_ok (RIGHT c) = refl
+row_ok (CON c d) = refl
+row_ok (PUSHR c) = refl
+row_ok (PUSHL c) = refl
+row_ok (SELECT c d) = refl
+row_ok (POP c) = refl
+row_ok (BOXIN c) = refl
+row_ok (BOXOUT c) = refl
+row_ok (DOOROUT c) = refl
+row_ok (DOORIN c) = refl
+row_ok (FIXIN c) = refl
+row_ok (FIXOUT c d) = refl
+row_ok (FIXVAR c) = refl
+row_ok DEAD = refl
+
+arm_ok : (c : Channel) (o : Option (ℕ × Row)) (rest : Arms) → arms_ok names driven_there rest ≡ true →
+    arms_ok names driven_there (row_arm c o rest) ≡ true
+arm_ok c None rest h = h
+arm_ok c (Some r) rest h =
+    and_from (stmt_ok names driven_there (row_stmt r.1) && true) (arms_ok names driven_there rest)
+    (and_from (stmt_ok names driven_there (row_stmt r.1)) true (row_ok r.1) refl) h
+
+rows_ok : (net : NetTree) (w n : ℕ) → arms_ok names driven_there (row_arms net w n) ≡ true
+rows_ok net w zero = refl
+rows_ok net w (suc n) =
+    arm_ok (rises w) (row_of net (rises w)) (row_arm (falls w) (row_of net (falls w)) (row_arms net (suc w) n))
+    (arm_ok (falls w) (row_of net (falls w)) (row_arms net (suc w) n) (rows_ok net (suc w) n))
+
+with_rows : (wires start N E : ℕ) (rows : Arms) (b : Bool) → arms_ok names driven_there rows ≡ true →
+    WellFormed (module_with wires start N E rows (product_of b)) ≡ true
+with_rows wires start N E rows true h = ap (λ t. t && true) h
+with_rows wires start N E rows false h = ap (λ t. t && true) h
+
+pub well_formed : (net : NetTree) (N E : ℕ) → WellFormed (module_of net N E) ≡ true
+well_formed net N E = with_rows (length net.wires) (number (channel_of (start_of net))) N E (row_arms net 0 (length net.wires))
+    (multiplies net.nodes) (rows_ok net 0 (length net.wires))

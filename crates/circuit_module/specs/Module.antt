@@ -1,0 +1,106 @@
+-- The module of a net as a tree: its sizes, a case for each row, and the fixed parts.
+use Rattle.std.specs.Prelude.{ℕ, zero, suc, Bool, true, false, List, [], ◌∷◌, ◌++◌, ◌||◌, length, Option, Some, None, if◌then◌else◌}
+use Prim.Native.String.{String}
+use Rattle.pcf_values.specs.declared.operator.Operator.{Operator}
+use Rattle.pcf_values.specs.declared.operator.Operator.TheVariants.{Plus, Minus, Times}
+use Rattle.pcf_values.specs.declared.side.Side.{Side}
+use Rattle.pcf_values.specs.declared.side.Side.TheVariants.{Left, Right}
+use Rattle.net_build.specs.declared.node.Node.{Node}
+use Rattle.net_build.specs.declared.node.Node.TheVariants.{Binary}
+use Rattle.net_build.specs.Nets.{NetTree}
+use Rattle.interleave_laws.specs.Start.{start_of}
+use Rattle.circuit_core.specs.Rows.{Channel, rises, falls, number, Row, GO, CONST, SUCC, PRED, TEST, FORK, JOIN, ANSWER, STAR, UNSTAR}
+use Rattle.circuit_core.specs.Rows.{LEFT, RIGHT, CON, PUSHR, PUSHL, SELECT, POP, BOXIN, BOXOUT, DOOROUT, DOORIN, FIXIN, FIXOUT, FIXVAR}
+use Rattle.circuit_core.specs.Rows.{DEAD, row_of, channel_of}
+use Rattle.verilog_tree.specs.Tree.{Expr, num, sized, const, Stmt, Arms, otherwise, arm, skip, Item, size, clocked, settles}
+use Rattle.circuit_module.specs.Sizes.{channel_bits, fork_bits, length_bits, long_bits}
+use Rattle.circuit_module.specs.Fixed.{set, block, ports, constants, registers, row_registers, rows_block, len_function, stack_wires}
+use Rattle.circuit_module.specs.Fixed.{stack_block, over_wires, fork_wires, multiplier, no_multiplier, clock_block}
+
+-- the operation of an operator at a side
+abbrev pub join_name : Operator → Side → String
+join_name Plus Left = "PLUSL"
+join_name Plus Right = "PLUSR"
+join_name Minus Left = "MINUSL"
+join_name Minus Right = "MINUSR"
+join_name Times Left = "TIMESL"
+join_name Times Right = "TIMESR"
+
+-- the operation, and where it sends to
+abbrev to_one : String → Channel → Stmt
+to_one x c = block (set "op" (const x) ∷ set "to" (num (number c)) ∷ [])
+
+-- the operation, and both channels
+abbrev to_two : String → Channel → Channel → Stmt
+to_two x c d = block (set "op" (const x) ∷ set "to" (num (number c)) ∷ set "other" (num (number d)) ∷ [])
+
+-- what a row sets
+abbrev pub row_stmt : Row → Stmt
+row_stmt (GO c) = to_one "GO" c
+row_stmt (CONST n c) = block (set "op" (const "CONST") ∷ set "to" (num (number c)) ∷ set "number" (sized 64 n) ∷ [])
+row_stmt (SUCC c) = to_one "SUCC" c
+row_stmt (PRED c) = to_one "PRED" c
+row_stmt (TEST c d) = to_two "TEST" c d
+row_stmt (FORK c d) = to_two "FORK" c d
+row_stmt (JOIN o s w) = to_one (join_name o s) (falls w)
+row_stmt ANSWER = set "op" (const "ANSWER")
+row_stmt (STAR c) = to_one "STAR" c
+row_stmt (UNSTAR c) = to_one "UNSTAR" c
+row_stmt (LEFT c) = to_one "LEFT" c
+row_stmt (RIGHT c) = to_one "RIGHT" c
+row_stmt (CON c d) = to_two "CON" c d
+row_stmt (PUSHR c) = to_one "PUSHR" c
+row_stmt (PUSHL c) = to_one "PUSHL" c
+row_stmt (SELECT c d) = to_two "SELECT" c d
+row_stmt (POP c) = to_one "POP" c
+row_stmt (BOXIN c) = to_one "BOXIN" c
+row_stmt (BOXOUT c) = to_one "BOXOUT" c
+row_stmt (DOOROUT c) = to_one "DOOROUT" c
+row_stmt (DOORIN c) = to_one "DOORIN" c
+row_stmt (FIXIN c) = to_one "FIXIN" c
+row_stmt (FIXOUT c d) = to_two "FIXOUT" c d
+row_stmt (FIXVAR c) = to_one "FIXVAR" c
+row_stmt DEAD = set "op" (const "DEAD")
+
+-- the case of a channel, where it has a row, in front of the others
+abbrev pub row_arm : Channel → Option (ℕ × Row) → Arms → Arms
+row_arm c None arms = arms
+row_arm c (Some r) arms = arm (num (number c) ∷ []) (row_stmt r.1) [] arms
+
+-- the cases of so many wires, from w on
+abbrev pub row_arms : NetTree → ℕ → ℕ → Arms
+row_arms net w zero = otherwise skip
+row_arms net w (suc k) =
+    row_arm (rises w) (row_of net (rises w)) (row_arm (falls w) (row_of net (falls w)) (row_arms net (suc w) k))
+
+-- a node multiplies
+abbrev pub is_times : Node → Bool
+is_times (Binary Times a b w) = true
+is_times n = false
+
+-- one of the nodes does
+abbrev pub multiplies : List Node → Bool
+multiplies [] = false
+multiplies (n ∷ ns) = is_times n || multiplies ns
+
+-- the product: a multiplier where one is needed
+abbrev pub product_of : Bool → Expr
+product_of b = if b then multiplier else no_multiplier
+
+-- the sizes: numbers, so that no function of the tool has to be believed
+abbrev pub sizes : (wires start N E : ℕ) → List Item
+sizes wires start N E =
+    size "WIRES" wires ∷ size "START" start ∷ size "N" N ∷ size "E" E ∷ size "C" (channel_bits wires) ∷ size "S" (fork_bits E) ∷
+    size "L" (length_bits N) ∷ size "M" (long_bits N) ∷ []
+
+-- the module of any rows
+abbrev pub module_with : (wires start N E : ℕ) → Arms → Expr → List Item
+module_with wires start N E rows product =
+    ports ++ (sizes wires start N E ++ (constants ++ (registers ++ (row_registers ++ (rows_block rows ∷ len_function ∷ (stack_wires ++
+    (settles stack_block ∷ (over_wires ++ (fork_wires product ++ clocked clock_block ∷ [])))))))))
+
+-- the module of a net, with stacks of N bits and E forks
+abbrev pub module_of : NetTree → (N E : ℕ) → List Item
+module_of net N E =
+    module_with (length net.wires) (number (channel_of (start_of net))) N E (row_arms net 0 (length net.wires))
+    (product_of (multiplies net.nodes))

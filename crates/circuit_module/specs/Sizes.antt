@@ -1,0 +1,27 @@
+-- The sizes of a module.
+use Rattle.std.specs.Prelude.{ℕ, zero, suc, ◌+◌, ◌*◌, ◌^◌, true, false, max, nat_le}
+
+-- the first c, of so many from c on, with n at most 2 to the power of c
+abbrev pub bits_from : ℕ → ℕ → ℕ → ℕ
+bits_from zero c n = c
+bits_from (suc k) c n = elim (nat_le n (2 ^ c)) [ true ↦ c | false ↦ bits_from k (suc c) n ]
+
+-- how many bits tell n things apart
+abbrev pub bits_for : ℕ → ℕ
+bits_for n = bits_from n 0 n
+
+-- of a channel
+abbrev pub channel_bits : ℕ → ℕ
+channel_bits wires = bits_for (2 * wires)
+
+-- of a fork's number, one at least
+abbrev pub fork_bits : ℕ → ℕ
+fork_bits E = max 1 (bits_for E)
+
+-- of a signature's length
+abbrev pub length_bits : ℕ → ℕ
+length_bits N = bits_for (N + 4)
+
+-- of a stack before it is cut
+abbrev pub long_bits : ℕ → ℕ
+long_bits N = 2 * N + 8

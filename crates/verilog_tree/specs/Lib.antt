@@ -1,0 +1,14 @@
+-- What a reader has to believe, in this order: the tree.
+pub mod Tree
+-- What it means: settling and one edge.
+pub mod Meaning
+-- Which trees are modules that a tool takes, and that mean it.
+pub mod WellFormed
+-- Its text, of which no law speaks yet but an example.
+pub mod Print
+-- Lists of bits in vectors.
+pub mod Marks
+-- The laws of trees: the statement of `law_spared`.
+pub mod Laws
+-- A module that the prover computes: the statements of `law_example_module`.
+pub mod Example

@@ -1,0 +1,18 @@
+//! What holds of every tree, and of one module.
+
+ghost use Rattle.verilog_tree.specs.Laws.{Spared};
+ghost use Rattle.verilog_tree.specs.Example.{ExampleCounts, ExampleWidths, ExampleIsModule, ExampleRefused, ExampleText};
+
+/// What a statement doesn't assign to holds what it held.
+pub fn law_spared()
+    ensures { Spared }
+{}
+
+/// A module that counts, edge by edge; that it is a module and others aren't; and the text of a block.
+pub fn law_example_module()
+    ensures counts { ExampleCounts }
+    ensures widths { ExampleWidths }
+    ensures is_module { ExampleIsModule }
+    ensures refused { ExampleRefused }
+    ensures text { ExampleText }
+{}
