@@ -661,6 +661,7 @@ mod tests {
         assert_eq!(function.call(&[1, 2]), Err(Error::BadCall));
         assert_eq!(function.call(&[]), Err(Error::BadCall));
         assert_eq!(function.each([[1, 2]]).next(), Some(Err(Error::BadCall)));
+        assert_eq!(function.each([vec![1, 2], vec![]]).next(), Some(Err(Error::BadCall)));
         let few = Function { budget: 29, ..function };
         assert_eq!(few.call(&[3]), Ok(Answer { value: None, moves: 29 }));
         assert_eq!(tell_each("7", 0, &[], 2, BUDGET), Ok(vec![number(7, 2); 2]));
