@@ -145,7 +145,7 @@ REFUSED = (
     ("replay p", "SCHEDULE is missing"),
     ("run p q", "`q` is one word too many"),
     ("run p --schedul", "`--schedul` is no option of `run`; `--schedule` is one"),
-    ("net p --tally", "`--tally` is no option of `net`, but of `run`, `run-net`"),
+    ("net p --tally", "`--tally` is no option of `net`, but of `run`, `run-net`, `call`"),
     ("run p --tally=true", "`--tally` takes no value"),
     ("run p --tally --tally", "`--tally` is given twice"),
     ("run p --budget=1 --budget 2", "`--budget` is given twice"),
@@ -157,6 +157,9 @@ REFUSED = (
     ("run -p", "`-p` is no option, and none is so short; a file of that name is `./-p`"),
     ("demo 13", "`13` is no number from 0 to 12"),
     ("run -- p -q", "`-q` is one word too many"),
+    ("call", "FILE is missing"),
+    ("call p 1 x", "`x` is no number from 0 to 18446744073709551615"),
+    ("call p 1 --budget 5 2", "these words are not taken together"),
 )
 
 

@@ -8,7 +8,7 @@ from tables.cases import DOUBLE, SUM, call, case, left, plain, row_of, rows
 WORDS_FILES = {
     "p": DOUBLE, "y": b"fix y:nat. y", "f": b"4", "s": b"succ 4", "q": b"schedule 2\n0 15\n1 15\nend\n", "r": b"schedule 2\n0 4\nend\n",
     "n": b"net 1\nwire 0 value 0 nat\nwire 1 value 0 nat\nnode 0 Const 4 0\nnode 1 Succ 0 1\nnode 2 Root 1\nend\n",
-    "l": b"batch 1\njob 4 s\nend\n",
+    "l": b"batch 1\njob 4 s\nend\n", "o": b"fun x:nat. fun y:nat. x - y",
     "run": b"21", "help": b"22", "trace": b"23", "-p": b"24", "-q": b"schedule 2\n0 2\nend\n", "--tally": b"25", "a b": b"26", "-": b"27",
     "\u03bb.pcf": b"fun x:nat. 28",
 }

@@ -29,6 +29,9 @@ use Rattle.goi_engine.specs.Answers.{Says, IsStopped, AnswersFile, AnswersNoNet,
 use Rattle.goi_world.specs.Seen.{FilesState}
 use Rattle.goi_engine.specs.FilesSeen.{Possibly}
 use Rattle.goi_tasks.specs.NetFiles.{FaultyListing, unlisted}
+use Rattle.goi_tasks.specs.declared.shown.Shown.{Shown}
+use Rattle.function_runs.specs.Functions.{CompilesText, FaultyFunction, unread as no_function_read, of_tree as of_function_tree}
+use Rattle.goi_tasks.specs.Calls.{ReportsCall, FaultyCall}
 use Rattle.goi_tasks.specs.Outputs.{Output, output_of}
 use Rattle.program_runs.specs.declared.fault.ProgramFault.{ProgramFault}
 use Rattle.program_runs.specs.declared.calling.Calling.TheVariants.{ByName}
@@ -117,6 +120,25 @@ pub of_program_goes : (wanted : Wanted) (P : NamedTree → TermTree → TyTree �
     OfProgram wanted v P → OfProgram wanted bytes P
 of_program_goes wanted P v bytes s h =
     record { tree = h.tree; term = h.term; type = h.type; is = program_goes wanted h.tree h.term h.type v bytes s h.is; so = h.so }
+
+-- ---- the text of a function
+
+function_fault_goes : (n : ℕ) (f : ProgramFault) (v bytes : List ℕ) → Same most_program_bytes v bytes → FaultyFunction n v f →
+    FaultyFunction n bytes f
+function_fault_goes n _ v bytes s (no_function_read f h) = no_function_read f (first_goes v bytes f s h)
+function_fault_goes n f v bytes s (of_function_tree tree _ x h) = of_function_tree tree f (text_goes v bytes tree s x) h
+
+-- a fault of what was loaded is one of every text that is the same up to the limit
+pub call_fault_goes : (numbers : List ℕ) (f : Fault) (v bytes : List ℕ) → Same most_program_bytes v bytes → FaultyCall numbers v f →
+    FaultyCall numbers bytes f
+call_fault_goes numbers _ v bytes s (no_program f h) = no_program f (function_fault_goes (length numbers) f v bytes s h)
+
+-- and so is a report
+pub call_goes : (workers budget : ℕ) (shown : Shown) (numbers : List ℕ) (o : Output) (v bytes : List ℕ) →
+    Same most_program_bytes v bytes → ReportsCall workers budget shown numbers v o → ReportsCall workers budget shown numbers bytes o
+call_goes workers budget shown numbers o v bytes s h =
+    let (tree, x, is) = h.is in
+    record { term = h.term; is = (tree, text_goes v bytes tree s x, is); so = h.so }
 
 -- ---- the listing of a net
 

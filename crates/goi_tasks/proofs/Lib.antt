@@ -15,5 +15,7 @@ pub mod Generated
 pub mod Short
 -- From the faults of a program's text to those of a task, and from the report on a tree's type to that on its text's.
 pub mod Texts
+-- A call of a function has one status on a text or one fault.
+pub mod Functions
 -- why what comes of a text is settled by its bytes, seen from outside
 mod Settling

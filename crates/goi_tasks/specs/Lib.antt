@@ -6,6 +6,8 @@ pub mod Programs
 pub mod NetFiles
 -- What is done with the text of one file.
 pub mod Tasks
+-- A call of a text's function at numbers.
+pub mod Calls
 -- What is told on the error output behind a report: nothing, or how many moves were counted while the run went on.
 pub mod Notes
 -- A run of a program: which report it has, and with which status it ends.

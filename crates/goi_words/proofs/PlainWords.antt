@@ -1,8 +1,10 @@
 -- Plain words are taken, and mean what the table says.
 use Rattle.goi_words.specs.Laws.{PlainWordsAreTaken}
 use Rattle.goi_words.specs.Plain.{ask_batch, ask_check, ask_circuit, ask_demo, ask_net, ask_replay, ask_run, ask_run_net, ask_span}
+use Rattle.goi_words.specs.Plain.{ask_call}
 use Rattle.goi_words.specs.Plain.{ask_trace}
 use Rattle.goi_words.proofs.BatchWords.{batch_words}
+use Rattle.goi_words.proofs.CallWords.{call_words}
 use Rattle.goi_words.proofs.CheckWords.{check_words}
 use Rattle.goi_words.proofs.CircuitWords.{circuit_words}
 use Rattle.goi_words.proofs.DemoWords.{demo_words}
@@ -25,3 +27,4 @@ plain_words_are_taken program (ask_batch file) = batch_words program file
 plain_words_are_taken program (ask_trace file) = trace_words program file
 plain_words_are_taken program (ask_circuit file) = circuit_words program file
 plain_words_are_taken program (ask_span file) = span_words program file
+plain_words_are_taken program (ask_call file numbers) = call_words program file numbers

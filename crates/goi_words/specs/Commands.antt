@@ -4,6 +4,7 @@
 -- are unknown words and are refused as such. What is added later stands at the end of its list.
 use Rattle.std.specs.Prelude.{◌≡◌, ℕ, true, false, pos, List, [], ◌∷◌, Some, codes}
 use Rattle.clap.specs.Words.{App, Rule, Shape, Text, app_of, new_rule}
+use Rattle.clap.specs.Lexer.{usize_max}
 use Rattle.clap.specs.Simple.{new_shape}
 use Rattle.pcf_values.specs.Most.{most_workers, most_budget, most_demo, most_moves}
 use Rattle.goi_words.specs.Defaults.{most_traced, least_stack, most_stack, most_forks}
@@ -19,6 +20,14 @@ operand name = record (new_rule name) { action = Some Set; required = true }
 -- an operand that is a number in a range
 abbrev pub number_operand : Rule
 number_operand = record (operand (codes "n")) { parser = Some (parser.Signed (pos 0) (pos most_demo)) }
+
+-- an operand of any number of numbers of 64 bits, and of none where it isn't given
+abbrev pub numbers_operand : Rule
+numbers_operand = record (new_rule (codes "n")) {
+  action = Some Set;
+  range = Some (record { start_inclusive = 1; end_inclusive = usize_max });
+  parser = Some (parser.Unsigned 0 18446744073709551615);
+}
 
 -- an option `--name N`, with a number in a range, and what it is where it isn't given
 abbrev pub number_option : Text → ℕ → ℕ → Text → Rule
@@ -119,6 +128,13 @@ circuit_command = command (codes "circuit") (operand (codes "file") ∷ stack_op
 abbrev pub span_command : Shape
 span_command = command (codes "span")
     (operand (codes "file") ∷ budget_option ∷ flag (codes "by-value") ∷ flag (codes "profile") ∷ flag (codes "schedule") ∷ [])
+abbrev pub call_command : Shape
+call_command = command (codes "call")
+    (operand (codes "file") ∷ numbers_operand ∷ workers_option ∷ budget_option ∷ flag (codes "schedule") ∷ flag (codes "tally") ∷ [])
+
+-- `call` without what is printed of its log
+abbrev pub bare_call_command : Shape
+bare_call_command = command (codes "call") (operand (codes "file") ∷ numbers_operand ∷ workers_option ∷ budget_option ∷ [])
 
 -- the program without its subcommands
 abbrev pub bare_command : App
@@ -152,7 +168,7 @@ nine_commands = with_commands
 abbrev pub goi_command : App
 goi_command = with_commands
     (run_command ∷ check_command ∷ net_command ∷ replay_command ∷ demo_command ∷ run_net_command ∷ batch_command
-    ∷ trace_command ∷ circuit_command ∷ span_command ∷ [])
+    ∷ trace_command ∷ circuit_command ∷ span_command ∷ call_command ∷ [])
 
 -- the command of the code is this subcommand
 abbrev pub IsCommand : Shape → Command → Type 0

@@ -4,7 +4,7 @@ use Rattle.std.specs.Prelude.{◌≤◌, ⊤, ℕ, Bool, List, Option, None, Som
 use Rattle.pcf_values.specs.Most.{most_workers, most_budget, most_demo, most_moves}
 use Rattle.goi_words.specs.Defaults.{most_traced, least_stack, most_stack, most_forks}
 use Rattle.goi_words.specs.declared.jobs.Job.{Job}
-use Rattle.goi_words.specs.declared.jobs.Job.TheVariants.{Run, Check, ShowNet, Replay, Demo, RunNet, Batch, Trace, Circuit, Span}
+use Rattle.goi_words.specs.declared.jobs.Job.TheVariants.{Run, Check, ShowNet, Replay, Demo, RunNet, Batch, Trace, Circuit, Span, Call}
 use Rattle.goi_words.specs.declared.jobs.Window.{Window}
 
 -- a job
@@ -32,6 +32,9 @@ pub data JobTree : Type 0 where
   -- run the program of a file in rounds, with at most so many moves, and by value in place of by name where asked; print its profile and
   -- its schedule where asked
   span : List ℕ → ℕ → Bool → Bool → Bool → JobTree
+  -- run the term of the program of a file, applied to these numbers, with so many workers and at most so many moves; print its schedule
+  -- and its tally where asked
+  call : List ℕ → List ℕ → ℕ → ℕ → Bool → Bool → JobTree
 
 -- the job of the code
 abbrev pub job_of : Job → JobTree
@@ -45,6 +48,7 @@ job_of (Batch file workers) = batch file workers
 job_of (Trace file workers budget by_value window) = trace file workers budget by_value window
 job_of (Circuit file stack forks) = circuit file stack forks
 job_of (Span file budget by_value profile schedule) = span file budget by_value profile schedule
+job_of (Call file numbers workers budget schedule tally) = call file numbers.items workers budget schedule tally
 
 -- a number of workers, a budget and the number of a generated program that the command line can ask for
 abbrev pub IsWorkers : ℕ → Type 0
@@ -89,4 +93,5 @@ IsWithinLimits (replay file schedule window) = IsWindowIfAny window
 IsWithinLimits (trace file workers budget by_value window) = IsWorkers workers × IsBudget budget × IsWindow window
 IsWithinLimits (circuit file stack forks) = IsStack stack × IsForks forks
 IsWithinLimits (span file budget by_value profile schedule) = IsBudget budget
+IsWithinLimits (call file numbers workers budget schedule tally) = IsWorkers workers × IsBudget budget
 IsWithinLimits _ = ⊤

@@ -2,13 +2,14 @@
 -- Plain words are the program's name, the command, its operands in order, and then options in any order, each at most once, with
 -- its value as the next word. Numbers are decimal digits without leading zeros and in range; names of files are neither empty nor
 -- begin with `-`. `clap` takes other words too; what they mean is its own to say, and isn't told here.
-use Rattle.std.specs.Prelude.{◌≡◌, ◌==◌, ⊤, ℕ, Bool, true, false, List, [], ◌∷◌, ◌++◌, codes}
+use Rattle.std.specs.Prelude.{◌≡◌, ◌==◌, ◌<◌, ◌≤◌, ◌^◌, ⊤, ℕ, Bool, true, false, List, [], ◌∷◌, ◌++◌, codes, length, map}
 use Rattle.std.specs.List.{AllByRecursion, flat_map, list_any}
 use Rattle.std.specs.Fmt.{decimal}
 use Rattle.std.specs.Str.{bytes_eq}
+use Rattle.clap.specs.Lexer.{usize_max}
 use Rattle.clap.specs.Words.{Text}
 use Rattle.goi_words.specs.Jobs.{IsBudget, IsDemo, IsForks, IsFrom, IsMost, IsStack, IsWorkers, JobTree}
-use Rattle.goi_words.specs.Jobs.{run, check, show_net, replay, demo, run_net, batch, trace, circuit, span}
+use Rattle.goi_words.specs.Jobs.{run, check, show_net, replay, demo, run_net, batch, trace, circuit, span, call}
 use Rattle.goi_words.specs.Defaults.{default_budget, default_forks, default_from, default_most, default_stack, default_workers}
 use Rattle.goi_words.specs.Asked.{if_traced}
 use Rattle.goi_words.specs.declared.jobs.Window.{Window}
@@ -25,6 +26,7 @@ pub data Request : Type 0 where
   ask_trace : Text → Request
   ask_circuit : Text → Request
   ask_span : Text → Request
+  ask_call : Text → List ℕ → Request
 
 -- an option as it is given
 pub data Setting : Type 0 where
@@ -56,6 +58,7 @@ request_words (ask_batch file) = codes "batch" ∷ file ∷ []
 request_words (ask_trace file) = codes "trace" ∷ file ∷ []
 request_words (ask_circuit file) = codes "circuit" ∷ file ∷ []
 request_words (ask_span file) = codes "span" ∷ file ∷ []
+request_words (ask_call file numbers) = codes "call" ∷ file ∷ map decimal numbers
 
 -- the name of an option
 abbrev pub option_name : Setting → Text
@@ -98,7 +101,7 @@ abbrev pub IsFileName : Text → Type 0
 IsFileName [] = ⊥
 IsFileName (c ∷ cs) = (c == 45) ≡ false
 
--- the operands are names of files, or a number in range
+-- the operands are names of files, or numbers in range
 abbrev pub HasPlainOperands : Request → Type 0
 HasPlainOperands (ask_run file) = IsFileName file
 HasPlainOperands (ask_check file) = IsFileName file
@@ -110,6 +113,7 @@ HasPlainOperands (ask_batch file) = IsFileName file
 HasPlainOperands (ask_trace file) = IsFileName file
 HasPlainOperands (ask_circuit file) = IsFileName file
 HasPlainOperands (ask_span file) = IsFileName file
+HasPlainOperands (ask_call file numbers) = IsFileName file × AllByRecursion (λ n. n < 2 ^ 64) numbers × (length numbers ≤ usize_max)
 
 -- the names of a command's options
 abbrev pub options_of : Request → List Text
@@ -123,6 +127,7 @@ options_of (ask_replay file moves) = codes "trace" ∷ codes "from" ∷ codes "m
 options_of (ask_trace file) = codes "workers" ∷ codes "budget" ∷ codes "by-value" ∷ codes "from" ∷ codes "most" ∷ []
 options_of (ask_circuit file) = codes "stack" ∷ codes "forks" ∷ []
 options_of (ask_span file) = codes "budget" ∷ codes "by-value" ∷ codes "profile" ∷ codes "schedule" ∷ []
+options_of (ask_call file numbers) = codes "workers" ∷ codes "budget" ∷ codes "schedule" ∷ codes "tally" ∷ []
 options_of _ = []
 
 -- the command has the option
@@ -218,3 +223,5 @@ meant (ask_trace file) settings =
 meant (ask_circuit file) settings = circuit file (stack_in settings) (forks_in settings)
 meant (ask_span file) settings =
     span file (budget_in settings) (is_given by_value settings) (is_given profile settings) (is_given schedule settings)
+meant (ask_call file numbers) settings =
+    call file numbers (workers_in settings) (budget_in settings) (is_given schedule settings) (is_given tally settings)
