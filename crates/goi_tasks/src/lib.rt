@@ -19,6 +19,7 @@ mod running;
 mod settled;
 mod shown;
 mod span;
+mod steps;
 mod stop;
 mod task;
 mod telling;

@@ -9,7 +9,7 @@ use Rattle.std.specs.Str.Parse.{digits_value, without_leading_plus}
 use Rattle.clap.specs.ValueTests.{is_numeral}
 use Rattle.clap.specs.Words.{Kinds, Row, Text, fault_of, first_of, one_of, subcommand_of}
 use Rattle.goi_words.specs.Commands.{goi_command}
-use Rattle.goi_words.specs.Jobs.{JobTree, run, check, show_net, replay, demo, run_net, batch, trace, circuit, span}
+use Rattle.goi_words.specs.Jobs.{JobTree, run, check, show_net, replay, demo, run_net, batch, trace, circuit, span, steps}
 use Rattle.goi_words.specs.declared.jobs.Window.{Window}
 
 infixl 10 ◌>>=◌
@@ -113,6 +113,13 @@ span_job rows = do
   budget ← number_of (codes "budget") rows
   Some (span file budget (is_set (codes "by-value") rows) (is_set (codes "profile") rows) (is_set (codes "schedule") rows))
 
+abbrev pub steps_job : List Row → Option JobTree
+steps_job rows = do
+  file ← text_of (codes "file") rows
+  budget ← number_of (codes "budget") rows
+  window ← window_of rows
+  Some (steps file budget window)
+
 -- the job of the subcommand of this name
 abbrev pub job_on : Text → List Row → Option JobTree
 job_on name rows =
@@ -126,6 +133,7 @@ job_on name rows =
     else if bytes_eq name (codes "trace") then trace_job rows
     else if bytes_eq name (codes "circuit") then circuit_job rows
     else if bytes_eq name (codes "span") then span_job rows
+    else if bytes_eq name (codes "steps") then steps_job rows
     else None
 
 -- no kind of error is listed
