@@ -137,6 +137,20 @@ fn answer_job<R: Threads + Wait + Sync, F: Files, G: Gate>(
             },
             &Alone,
         ),
+        Job::Steps {
+            file,
+            budget,
+            window,
+        } => answer_task(
+            alloc,
+            files,
+            file.as_str(),
+            Task::Steps {
+                budget: *budget,
+                window: *window,
+            },
+            &Alone,
+        ),
         Job::Span {
             file,
             budget,

@@ -7,6 +7,8 @@ pub mod Outcomes
 pub mod Ran
 -- The report that is made of a run in rounds.
 pub mod Spanned
+-- The reduction of a tree as the output for its text, and what it is worth.
+pub mod Reduced
 -- What a schedule that was run on a program's net says of the program.
 pub mod Replayed
 -- The run of the generated program of a number is that of its term, and the program has no fault.

@@ -14,6 +14,8 @@ pub mod Notes
 pub mod Running
 -- What a run in rounds says of a program, and its report.
 pub mod Rounds
+-- The reduction of a program as an output, and what it says of the program.
+pub mod Reductions
 -- A schedule that is run on the net of a term: what it came to, which report it has, and the first fault of one that can't be run.
 pub mod Replaying
 -- Which line stands for each refusal, and with which status it ends.

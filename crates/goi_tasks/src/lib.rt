@@ -20,6 +20,7 @@ mod running;
 mod settled;
 mod shown;
 mod span;
+mod steps;
 mod stop;
 mod task;
 mod telling;

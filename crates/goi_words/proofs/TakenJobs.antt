@@ -23,6 +23,7 @@ use Rattle.goi_words.proofs.ReplayWords.{replay_taken}
 use Rattle.goi_words.proofs.RunNetWords.{run_net_taken}
 use Rattle.goi_words.proofs.RunWords.{run_taken}
 use Rattle.goi_words.proofs.SpanWords.{span_taken}
+use Rattle.goi_words.proofs.StepsWords.{steps_taken}
 use Rattle.goi_words.proofs.Taken.{HasJob, TakenHasJob}
 use Rattle.goi_words.proofs.TraceWords.{trace_taken}
 
@@ -40,7 +41,10 @@ each_has_a_job = (
     check_taken,
     (
       net_taken,
-      (replay_taken, (demo_taken, (run_net_taken, (batch_taken, (trace_taken, (circuit_taken, (span_taken, (call_taken, tt)))))))),
+      (
+        replay_taken,
+        (demo_taken, (run_net_taken, (batch_taken, (trace_taken, (circuit_taken, (span_taken, (steps_taken, (call_taken, tt)))))))),
+      ),
     ),
   ),
 )

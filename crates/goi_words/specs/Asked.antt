@@ -9,7 +9,7 @@ use Rattle.std.specs.Str.Parse.{digits_value, without_leading_plus}
 use Rattle.clap.specs.ValueTests.{is_numeral}
 use Rattle.clap.specs.Words.{Kinds, Row, Text, all_of, fault_of, first_of, one_of, subcommand_of}
 use Rattle.goi_words.specs.Commands.{goi_command}
-use Rattle.goi_words.specs.Jobs.{JobTree, run, check, show_net, replay, demo, run_net, batch, trace, circuit, span, call}
+use Rattle.goi_words.specs.Jobs.{JobTree, run, check, show_net, replay, demo, run_net, batch, trace, circuit, span, steps, call}
 use Rattle.goi_words.specs.declared.jobs.Window.{Window}
 
 infixl 10 ◌>>=◌
@@ -138,6 +138,13 @@ call_job rows = do
   numbers ← numbers_of (codes "n") rows
   Some (call file numbers workers budget (is_set (codes "schedule") rows) (is_set (codes "tally") rows))
 
+abbrev pub steps_job : List Row → Option JobTree
+steps_job rows = do
+  file ← text_of (codes "file") rows
+  budget ← number_of (codes "budget") rows
+  window ← window_of rows
+  Some (steps file budget window)
+
 -- the job of the subcommand of this name
 abbrev pub job_on : Text → List Row → Option JobTree
 job_on name rows =
@@ -151,6 +158,7 @@ job_on name rows =
     else if bytes_eq name (codes "trace") then trace_job rows
     else if bytes_eq name (codes "circuit") then circuit_job rows
     else if bytes_eq name (codes "span") then span_job rows
+    else if bytes_eq name (codes "steps") then steps_job rows
     else if bytes_eq name (codes "call") then call_job rows
     else None
 

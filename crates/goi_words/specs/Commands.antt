@@ -46,11 +46,11 @@ workers_option = number_option (codes "workers") 1 most_workers (codes "1")
 abbrev pub budget_option : Rule
 budget_option = number_option (codes "budget") 1 most_budget (codes "10000")
 
--- the entry with which a trace begins
+-- the entry with which a trace begins, and the step with which a reduction is told
 abbrev pub from_option : Rule
 from_option = number_option (codes "from") 0 most_moves (codes "0")
 
--- the most moves of a trace
+-- the most moves of a trace, and the most steps that are told
 abbrev pub most_option : Rule
 most_option = number_option (codes "most") 1 most_traced (codes "100000")
 
@@ -81,7 +81,7 @@ abbrev pub logged_command : Text → Shape
 logged_command name =
     command name (operand (codes "file") ∷ workers_option ∷ budget_option ∷ flag (codes "schedule") ∷ flag (codes "tally") ∷ [])
 
--- `replay` and `trace` without the part of the trace, and `span` without what is printed of the rounds
+-- `replay`, `trace` and `steps` without the part that is printed, and `span` without what is printed of the rounds
 abbrev pub bare_replay_command : Shape
 bare_replay_command = command (codes "replay") (operand (codes "file") ∷ operand (codes "schedule") ∷ flag (codes "trace") ∷ [])
 
@@ -91,6 +91,9 @@ bare_trace_command =
 
 abbrev pub bare_span_command : Shape
 bare_span_command = command (codes "span") (operand (codes "file") ∷ budget_option ∷ flag (codes "by-value") ∷ [])
+
+abbrev pub bare_steps_command : Shape
+bare_steps_command = command (codes "steps") (operand (codes "file") ∷ budget_option ∷ [])
 
 -- the subcommands
 abbrev pub run_command : Shape
@@ -136,6 +139,9 @@ call_command = command (codes "call")
 abbrev pub bare_call_command : Shape
 bare_call_command = command (codes "call") (operand (codes "file") ∷ numbers_operand ∷ workers_option ∷ budget_option ∷ [])
 
+abbrev pub steps_command : Shape
+steps_command = command (codes "steps") (operand (codes "file") ∷ budget_option ∷ from_option ∷ most_option ∷ [])
+
 -- the program without its subcommands
 abbrev pub bare_command : App
 bare_command = record {
@@ -168,7 +174,7 @@ nine_commands = with_commands
 abbrev pub goi_command : App
 goi_command = with_commands
     (run_command ∷ check_command ∷ net_command ∷ replay_command ∷ demo_command ∷ run_net_command ∷ batch_command
-    ∷ trace_command ∷ circuit_command ∷ span_command ∷ call_command ∷ [])
+    ∷ trace_command ∷ circuit_command ∷ span_command ∷ steps_command ∷ call_command ∷ [])
 
 -- the command of the code is this subcommand
 abbrev pub IsCommand : Shape → Command → Type 0

@@ -4,7 +4,8 @@ use Rattle.std.specs.Prelude.{◌≤◌, ⊤, ℕ, Bool, List, Option, None, Som
 use Rattle.pcf_values.specs.Most.{most_workers, most_budget, most_demo, most_moves}
 use Rattle.goi_words.specs.Defaults.{most_traced, least_stack, most_stack, most_forks}
 use Rattle.goi_words.specs.declared.jobs.Job.{Job}
-use Rattle.goi_words.specs.declared.jobs.Job.TheVariants.{Run, Check, ShowNet, Replay, Demo, RunNet, Batch, Trace, Circuit, Span, Call}
+use Rattle.goi_words.specs.declared.jobs.Job.TheVariants.{Run, Check, ShowNet, Replay, Demo, RunNet, Batch, Trace, Circuit, Span, Steps}
+use Rattle.goi_words.specs.declared.jobs.Job.TheVariants.{Call}
 use Rattle.goi_words.specs.declared.jobs.Window.{Window}
 
 -- a job
@@ -32,6 +33,8 @@ pub data JobTree : Type 0 where
   -- run the program of a file in rounds, with at most so many moves, and by value in place of by name where asked; print its profile and
   -- its schedule where asked
   span : List ℕ → ℕ → Bool → Bool → Bool → JobTree
+  -- print the reduction by name of the program of a file, of at most so many steps, with the terms of this part of them
+  steps : List ℕ → ℕ → Window → JobTree
   -- run the term of the program of a file, applied to these numbers, with so many workers and at most so many moves; print its schedule
   -- and its tally where asked
   call : List ℕ → List ℕ → ℕ → ℕ → Bool → Bool → JobTree
@@ -48,6 +51,7 @@ job_of (Batch file workers) = batch file workers
 job_of (Trace file workers budget by_value window) = trace file workers budget by_value window
 job_of (Circuit file stack forks) = circuit file stack forks
 job_of (Span file budget by_value profile schedule) = span file budget by_value profile schedule
+job_of (Steps file budget window) = steps file budget window
 job_of (Call file numbers workers budget schedule tally) = call file numbers.items workers budget schedule tally
 
 -- a number of workers, a budget and the number of a generated program that the command line can ask for
@@ -93,5 +97,6 @@ IsWithinLimits (replay file schedule window) = IsWindowIfAny window
 IsWithinLimits (trace file workers budget by_value window) = IsWorkers workers × IsBudget budget × IsWindow window
 IsWithinLimits (circuit file stack forks) = IsStack stack × IsForks forks
 IsWithinLimits (span file budget by_value profile schedule) = IsBudget budget
+IsWithinLimits (steps file budget window) = IsBudget budget × IsWindow window
 IsWithinLimits (call file numbers workers budget schedule tally) = IsWorkers workers × IsBudget budget
 IsWithinLimits _ = ⊤

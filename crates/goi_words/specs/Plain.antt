@@ -9,7 +9,7 @@ use Rattle.std.specs.Str.{bytes_eq}
 use Rattle.clap.specs.Lexer.{usize_max}
 use Rattle.clap.specs.Words.{Text}
 use Rattle.goi_words.specs.Jobs.{IsBudget, IsDemo, IsForks, IsFrom, IsMost, IsStack, IsWorkers, JobTree}
-use Rattle.goi_words.specs.Jobs.{run, check, show_net, replay, demo, run_net, batch, trace, circuit, span, call}
+use Rattle.goi_words.specs.Jobs.{run, check, show_net, replay, demo, run_net, batch, trace, circuit, span, steps, call}
 use Rattle.goi_words.specs.Defaults.{default_budget, default_forks, default_from, default_most, default_stack, default_workers}
 use Rattle.goi_words.specs.Asked.{if_traced}
 use Rattle.goi_words.specs.declared.jobs.Window.{Window}
@@ -26,6 +26,7 @@ pub data Request : Type 0 where
   ask_trace : Text → Request
   ask_circuit : Text → Request
   ask_span : Text → Request
+  ask_steps : Text → Request
   ask_call : Text → List ℕ → Request
 
 -- an option as it is given
@@ -58,6 +59,7 @@ request_words (ask_batch file) = codes "batch" ∷ file ∷ []
 request_words (ask_trace file) = codes "trace" ∷ file ∷ []
 request_words (ask_circuit file) = codes "circuit" ∷ file ∷ []
 request_words (ask_span file) = codes "span" ∷ file ∷ []
+request_words (ask_steps file) = codes "steps" ∷ file ∷ []
 request_words (ask_call file numbers) = codes "call" ∷ file ∷ map decimal numbers
 
 -- the name of an option
@@ -113,6 +115,7 @@ HasPlainOperands (ask_batch file) = IsFileName file
 HasPlainOperands (ask_trace file) = IsFileName file
 HasPlainOperands (ask_circuit file) = IsFileName file
 HasPlainOperands (ask_span file) = IsFileName file
+HasPlainOperands (ask_steps file) = IsFileName file
 HasPlainOperands (ask_call file numbers) = IsFileName file × AllByRecursion (λ n. n < 2 ^ 64) numbers × (length numbers ≤ usize_max)
 
 -- the names of a command's options
@@ -127,6 +130,7 @@ options_of (ask_replay file moves) = codes "trace" ∷ codes "from" ∷ codes "m
 options_of (ask_trace file) = codes "workers" ∷ codes "budget" ∷ codes "by-value" ∷ codes "from" ∷ codes "most" ∷ []
 options_of (ask_circuit file) = codes "stack" ∷ codes "forks" ∷ []
 options_of (ask_span file) = codes "budget" ∷ codes "by-value" ∷ codes "profile" ∷ codes "schedule" ∷ []
+options_of (ask_steps file) = codes "budget" ∷ codes "from" ∷ codes "most" ∷ []
 options_of (ask_call file numbers) = codes "workers" ∷ codes "budget" ∷ codes "schedule" ∷ codes "tally" ∷ []
 options_of _ = []
 
@@ -223,5 +227,6 @@ meant (ask_trace file) settings =
 meant (ask_circuit file) settings = circuit file (stack_in settings) (forks_in settings)
 meant (ask_span file) settings =
     span file (budget_in settings) (is_given by_value settings) (is_given profile settings) (is_given schedule settings)
+meant (ask_steps file) settings = steps file (budget_in settings) (window_in settings)
 meant (ask_call file numbers) settings =
     call file numbers (workers_in settings) (budget_in settings) (is_given schedule settings) (is_given tally settings)

@@ -5,7 +5,7 @@ ghost use Rattle.clap.specs.Words.{fault_of, found_of, rows_of, subcommand_of, s
 ghost use Rattle.goi_words.specs.Commands.{goi_command};
 ghost use Rattle.goi_words.specs.Asked.{is_set, is_taken, job, job_on, number_of, numbers_of, text_of};
 ghost use Rattle.goi_words.specs.Asked.{batch_job, check_job, circuit_job, demo_job, if_traced, net_job, replay_job, run_job};
-ghost use Rattle.goi_words.specs.Asked.{run_net_job, span_job, trace_job, window_of, call_job, wide_number_in, wide_numbers_in};
+ghost use Rattle.goi_words.specs.Asked.{run_net_job, span_job, steps_job, trace_job, window_of, call_job, wide_number_in, wide_numbers_in};
 ghost use Rattle.goi_words.specs.Jobs.{IsWithinLimits, job_of};
 ghost use Rattle.goi_words.specs.declared.jobs.WordFault.TheVariants.{Refused};
 
@@ -61,6 +61,7 @@ fn job_on(alloc: Global, name: &str, found: &ArgMatches<'_>) -> Result<Job, Word
         "trace" => trace_job(alloc, found),
         "circuit" => circuit_job(alloc, found),
         "span" => span_job(alloc, found),
+        "steps" => steps_job(alloc, found),
         "call" => call_job(alloc, found),
         _ => Err(WordFault::Refused),
     }
@@ -209,6 +210,21 @@ fn span_job(alloc: Global, found: &ArgMatches<'_>) -> Result<Job, WordFault>
         by_value: is_set(found, "by-value"),
         profile: is_set(found, "profile"),
         schedule: is_set(found, "schedule"),
+    })
+}
+
+/// The job of the words behind `steps`; a part of the steps that can't be is refused.
+fn steps_job(alloc: Global, found: &ArgMatches<'_>) -> Result<Job, WordFault>
+    ensures ok { IfOk result (λ done. steps_job (rows_of (found_of found.now)) ≡ Some (job_of done)) }
+    ensures refused { IsErrOf result Refused → steps_job (rows_of (found_of found.now)) ≡ None }
+{
+    let file = text_in(found, "file")?;
+    let budget = number_in(found, "budget")?;
+    let window = window_of(found).ok_or(WordFault::Refused)?;
+    Ok(Job::Steps {
+        file: Ident::from_text(alloc, file)?,
+        budget,
+        window,
     })
 }
 
