@@ -111,6 +111,11 @@ def odd_readme(text):
     return found
 
 
+def shows_table(text):
+    """Whether a document has the program of crates/function_table, to the byte."""
+    return "```rust\n" + read("crates/function_table/src/main.rt") + "```\n" in text
+
+
 def try_listed():
     """Each document holds, and one with a wrong line doesn't."""
     crates, listed, readme = read("docs/ARCHITECTURE.md"), read("docs/README.md"), read("README.md")
@@ -133,6 +138,9 @@ def try_listed():
     judge("what README quotes and counts", odd_readme(readme), [])
     judge("another headline", odd_readme(readme.replace("n ≤ budget", "budget ≤ n")), ["the headline"])
     judge("another count", len(odd_readme(re.sub(r"rests on [\d,]+", "rests on 7", readme))), 1)
+    library = read("docs/AS_A_LIBRARY.md")
+    judge("the small program that calls a function", shows_table(library))
+    judge("another one", not shows_table(library.replace("for n in 0..100", "for n in 0..10")))
     judge("another kit", odd_readme(readme.replace("rattle-kit-", "rattle-kit-x")), ["the kit"])
 
 

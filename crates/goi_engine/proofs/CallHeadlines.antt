@@ -82,6 +82,7 @@ module _ (bytes numbers : List ℕ) (budget : ℕ) where
     of_program : (f : Fault) → Refuses Asked c.old f → fault_status f ≡ 7 → ⊥
     of_program f h = no_other Runs NotRun budget f (its_fault f h)
 
+-- the promise of the deed that these words ask for, by its reports and its faults
 pub call_headline : CallHeadline
 call_headline words file bytes numbers workers budget c status asked told there promise =
     let d = Asked bytes numbers budget file workers c told in

@@ -61,6 +61,7 @@ module _ (bytes : List ℕ) (budget : ℕ) where
     of_program : (f : Fault) → Refuses Asked c.old f → fault_status f ≡ 7 → ⊥
     of_program f h = no_other (IsGround bytes) (FaultyProgram number bytes) budget f (its_fault f h)
 
+-- the promise of the deed that these words ask for, by its reports and its faults
 pub headline : Headline
 headline words file bytes workers budget c status asked told there promise =
     let d = Asked bytes budget file workers c told in
