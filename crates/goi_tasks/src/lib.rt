@@ -5,6 +5,7 @@
 //! first fault, which `refuse` turns into its line. Files and sinks are left to the crate above.
 #![tactic(auto)]
 
+mod agreement;
 mod circuit;
 mod demo;
 mod fault;
@@ -25,6 +26,7 @@ mod task;
 mod telling;
 mod watched;
 
+pub use agreement::law_run_and_steps;
 pub use demo::report_demo;
 pub use fault::Fault;
 pub use judge::report_text;
