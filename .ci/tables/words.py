@@ -43,6 +43,13 @@ def cases():
     # how many moves of a long run are shown where the words don't say it, and how many workers a run of a net has
     for words in ["trace", "p"], ["replay", "p", "s", "--trace"]:
         case(f"the moves that {words[0]} shows", lambda words=words: shown_moves(words), (100_000, b"move 0 ", b"move 99999 "))
+    # so it is with the steps of a reduction
+    def told_steps():
+        out = call(["goi", "steps", "p"], {"p": SUM[:-1] + b"100"})[1]
+        told = [it for it in out.split(b"\n") if it.startswith(b"step ")]
+        return len(told), *(told[at][: told[at].index(b" ", 5) + 1] for at in (0, -1)), out.split(b"\n")[:2]
+
+    case("the steps that are told", told_steps, (1000, b"step 0 ", b"step 999 ", [b"no value", b"steps 10000"]))
     for options, count in ([], 1), (["--workers", "2"], 2):
         tally = lambda options=options: call(["goi", "run-net", "n", "--tally", *options], WORDS_FILES)[1].count(b"\nworker ")
         case(f"the workers of a net {options}", tally, count)

@@ -176,6 +176,7 @@ fault_goes (Steps budget window) f v bytes s h = faulty_goes number f v bytes s 
 fault_goes (RunNet budget shown) f v bytes s h = listing_goes f v bytes s h
 fault_goes (Trace budget calling window) f v bytes s h = faulty_goes (wanted_by_run calling) f v bytes s h
 
+-- what may be said of a file's bytes goes with the report on them, for each task
 pub report_goes : (workers : ℕ) (task : Task) (o : Output) (v bytes : List ℕ) → Same (most_bytes task) v bytes →
     ReportsText workers task v o → ReportsText workers task bytes o
 report_goes workers (Run budget calling shown) o v bytes s h = of_program_goes (wanted_by_run calling) _ v bytes s h

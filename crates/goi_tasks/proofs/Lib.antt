@@ -9,6 +9,8 @@ pub mod Ran
 pub mod Spanned
 -- The reduction of a tree as the output for its text, and what it is worth.
 pub mod Reduced
+-- `run` and `steps` of one text come to one value.
+pub mod Agreeing
 -- What a schedule that was run on a program's net says of the program.
 pub mod Replayed
 -- The run of the generated program of a number is that of its term, and the program has no fault.

@@ -95,6 +95,7 @@ rounds_end means net budget profile schedule o h = go h.answer h.ends h.tells
     go None e t = inr (e, t.0)
     go (Some v) e t = inl (e, (v, (length (round_log net h.rounds), t.2, t.3)))
 
+-- each output ends with 0 or with 5
 pub text_status : (workers : ℕ) (task : Task) (bytes : List ℕ) (o : Output) → ReportsText workers task bytes o →
     (o.status ≡ 0) ⊎ (o.status ≡ 5)
 text_status workers (Run budget calling shown) bytes o h = run_status h.so.answer o.status h.so.ends

@@ -1,11 +1,13 @@
 -- The reduction of a tree as the output for its text, and what it is worth.
 use Rattle.std.proofs.Common.{◌≡◌, ◌≢◌, ℕ, List, [], Result, Ok, Err, IfOk, refl, subst}
+use Rattle.pcf_values.specs.declared.val.Val.{Val}
 use Rattle.pcf_values.specs.Terms.{TyTree, TermTree, nat}
 use Rattle.pcf_values.specs.Named.{NamedTree}
 use Rattle.pcf_reader.specs.Correct.{Text}
 use Rattle.pcf_types.specs.Checking.{type_of}
 use Rattle.pcf_types.specs.Correct.{AcceptedIsTyped}
 use Rattle.pcf_types.specs.Numbers.{NumbersFit}
+use Rattle.adequacy_laws.specs.Adequacy.{MeansLength}
 use Rattle.step_text.specs.Laws.{ToldIsMeant, NoneIsLimit}
 use Rattle.program_runs.specs.declared.calling.Calling.TheVariants.{ByName}
 use Rattle.program_runs.specs.declared.fault.ProgramFault.TheVariants.{NotGround}
@@ -34,15 +36,18 @@ reduces_text budget window bytes tree (Ok v) x (t, d, so) = λ workers. record {
 reduces_text budget window bytes tree (Err e) x h = h
 
 -- the output of a typed tree is worth what the laws of reductions say
-pub reduces : AcceptedIsTyped → ToldIsMeant → NoneIsLimit → (budget : ℕ) (window : Window) (tree : NamedTree) (t : TermTree) (A : TyTree)
-    (o : Output) → type_of [] tree ≡ Ok (t, A) → NumbersFit tree → A ≡ nat → o ≡ reduction_output budget window tree →
+pub reduces : AcceptedIsTyped → ToldIsMeant → NoneIsLimit → MeansLength →
+    (budget : ℕ) (window : Window) (tree : NamedTree) (t : TermTree) (A : TyTree) (o : Output) →
+    type_of [] tree ≡ Ok (t, A) → NumbersFit tree → A ≡ nat → o ≡ reduction_output budget window tree →
     ReducesTree budget window tree o
-reduces sound told none budget window tree t A o d fit e same =
+reduces sound told none lasts budget window tree t A o d fit e same =
     let typed : type_of [] tree ≡ Ok (t, nat) = subst (λ (A : TyTree). type_of [] tree ≡ Ok (t, A)) e d in
     let both = sound [] tree t nat typed in
+    let meant = λ (v : Val) m. told window.from window.most most_step_nodes budget tree t v both.0 m in
     (t, typed, record {
       output_is = same;
-      meant = λ v m. told window.from window.most most_step_nodes budget tree t v both.0 m;
+      meant = meant;
+      lasts = λ v m. (lasts t (both.1 fit) v).0 (meant v m);
       stopped = λ n. none window.from window.most most_step_nodes budget tree t both.0 (both.1 fit) n;
     })
 

@@ -22,5 +22,7 @@ pub mod Replaying
 pub mod Refusals
 -- What comes of a text is settled by its bytes: it is right and ends with one status, or it has one fault.
 pub mod Settles
+-- What `run` and `steps` say of one text: both tell one value.
+pub mod Agreement
 -- what serves proofs and private contracts
 pub mod Stops

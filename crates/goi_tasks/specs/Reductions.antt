@@ -6,6 +6,8 @@ use Rattle.pcf_values.specs.Named.{NamedTree}
 use Rattle.pcf_values.specs.NamedSize.{named_size}
 use Rattle.pcf_types.specs.Checking.{type_of}
 use Rattle.cbn_meaning.specs.Meaning.{Means}
+use Rattle.net_build.specs.NetOf.{net_of}
+use Rattle.adequacy_laws.specs.Questions.{Length}
 use Rattle.step_text.specs.Courses.{Course, course, course_value, course_text}
 use Rattle.goi_words.specs.declared.jobs.Window.{Window}
 use Rattle.goi_tasks.specs.Outputs.{Output, output}
@@ -25,10 +27,12 @@ reduction_output budget window tree =
     output (replay_status (course_value (reduction budget window tree))) (course_text most_step_nodes (reduction budget window tree)) []
 
 -- The output of the reduction of a program's tree, which is this term. The value that it tells is the one that the program means by
--- name; where it tells none, the budget was used, or a term was too large.
+-- name, and the one that its net has with a length, so that `run` tells it within a budget of so many moves. Where it tells none, the
+-- budget was used, or a term was too large.
 pub record ReportsSteps (budget : ℕ) (window : Window) (tree : NamedTree) (t : TermTree) (o : Output) : Type 0 where
   pub output_is : o ≡ reduction_output budget window tree
   pub meant : (v : Val) → course_value (reduction budget window tree) ≡ Some v → Means t v
+  pub lasts : (v : Val) → course_value (reduction budget window tree) ≡ Some v → (moves : ℕ) × Length (net_of t) v moves
   pub stopped : course_value (reduction budget window tree) ≡ None →
       ((reduction budget window tree).steps ≡ budget) ⊎ (most_step_nodes < named_size (reduction budget window tree).last)
 

@@ -14,7 +14,7 @@ use Rattle.step_text.specs.Courses.{course_value}
 use Rattle.program_runs.specs.Programs.{any_type, number, OfProgram, wanted_by_run}
 use Rattle.program_runs.specs.Running.{net_run}
 use Rattle.program_runs.specs.declared.calling.Calling.TheVariants.{ByName}
-use Rattle.goi_words.specs.Jobs.{IsBudget, IsWindow}
+use Rattle.goi_words.specs.Jobs.{IsBudget, IsWindow, IsPart}
 use Rattle.goi_reports.specs.Reports.{check_report}
 use Rattle.goi_tasks.specs.declared.fault.Fault.{Fault}
 use Rattle.goi_tasks.specs.declared.shown.Shown.{Shown}
@@ -114,7 +114,7 @@ IsWithin (RunNet budget shown) = IsBudget budget
 IsWithin (Trace budget calling window) = IsBudget budget × IsWindow window
 IsWithin (Circuit stack forks) = Unit {0}
 IsWithin (Span budget calling profile schedule) = IsBudget budget
-IsWithin (Steps budget window) = IsBudget budget × IsWindow window
+IsWithin (Steps budget window) = IsBudget budget × IsPart window
 
 -- the report on the type of a tree, and with `term` on the tree
 abbrev pub ChecksTree : Bool → NamedTree → List ℕ → Type 0

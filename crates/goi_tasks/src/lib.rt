@@ -5,6 +5,7 @@
 //! output as a value, or the text's first fault, which `refuse` turns into its line. Files and sinks are left to the crate above.
 #![tactic(auto)]
 
+mod agreement;
 mod calling;
 mod circuit;
 mod demo;
@@ -26,6 +27,7 @@ mod task;
 mod telling;
 mod watched;
 
+pub use agreement::law_run_and_steps;
 pub use calling::report_call;
 pub use demo::report_demo;
 pub use fault::Fault;

@@ -16,6 +16,7 @@ use crate::fault::Fault;
 use crate::report::{Report, plain};
 use crate::running::status_of;
 use crate::stop::Stop;
+use adequacy_laws::law_adequacy;
 use goi_words::Window;
 use pcf_reader::{law_bounded, read_program};
 use pcf_types::{ground, law_correct, resolve_and_type};
@@ -53,6 +54,7 @@ fn reduce_tree(alloc: Global, tree: &Named, budget: u32, window: Window) -> Resu
     law_correct();
     law_told_is_meant();
     law_none_is_limit();
+    law_adequacy();
     let program = resolve_and_type(alloc, tree)?;
     let is_number = is_number(&program);
     drop(program);

@@ -6,12 +6,12 @@ use Rattle.clap.specs.Simple.{built}
 use Rattle.clap.specs.Faults.{check_fault, defaults_fault}
 use Rattle.clap.specs.Takes.{is_given as is_row_given}
 use Rattle.pcf_values.specs.Most.{most_budget, most_moves}
-use Rattle.goi_words.specs.Defaults.{most_traced}
+use Rattle.goi_words.specs.Defaults.{default_told, most_told}
 use Rattle.goi_words.specs.Commands.{steps_command, goi_command}
 use Rattle.goi_words.specs.Asked.{steps_job, job, number_of, text_of}
 use Rattle.goi_words.specs.Jobs.{steps}
 use Rattle.goi_words.specs.Plain.{IsPlain, Setting, ask_steps, budget, budget_in, from, from_in, has_option, meant}
-use Rattle.goi_words.specs.Plain.{most, most_in, plain_words, setting_words}
+use Rattle.goi_words.specs.Plain.{most_in, plain_words, setting_words, told}
 use Rattle.goi_words.specs.declared.jobs.Window.{Window}
 use Rattle.goi_words.proofs.Entering.{below_job}
 use Rattle.goi_words.proofs.Levels.{Gives}
@@ -37,7 +37,7 @@ is_first = record { place = refl; own = refl; single = refl; once = refl; ends =
 knows : (file : Text) (s : Setting) → has_option (ask_steps file) s ≡ true → Knows (leaf steps_command) s
 knows file (budget n) has = known _ (budget n) refl refl
 knows file (from n) has = known _ (from n) refl refl
-knows file (most n) has = known _ (most n) refl refl
+knows file (told n) has = known _ (told n) refl refl
 knows file _ has = cc
 
 -- its last checks pass
@@ -71,11 +71,11 @@ steps_words program file ss plain =
     let rules = (leaf steps_command).rules in
     below_job program (codes "steps") (leaf steps_command) (file ∷ flat_map setting_words ss) (final_rows file ss) entered
     (reads file ss plain)
-    ∙ read_so (final_rows file ss) file (budget_in ss) (from_in ss) (most_in ss)
+    ∙ read_so (final_rows file ss) file (budget_in ss) (from_in ss) (most_in default_told ss)
     (text_in_the_end (codes "file") rules rows (file_row file) refl)
     (number_in_the_end (codes "budget") rules rows ∙ budget_there ss _ plain.ranges refl)
     (number_in_the_end (codes "from") rules rows ∙ from_there ss _ plain.ranges refl)
-    (number_in_the_end (codes "most") rules rows ∙ most_there ss _ plain.ranges refl)
+    (number_in_the_end (codes "most") rules rows ∙ most_there ss default_told _ plain.ranges refl)
 
 -- ---- words that are taken
 
@@ -87,7 +87,7 @@ tame = (
     option_tame _ (codes "budget") 1 most_budget (codes "10000") refl,
     (
       option_tame _ (codes "from") 0 most_moves (codes "0") refl,
-      (option_tame _ (codes "most") 1 most_traced (codes "100000") refl, tt),
+      (option_tame _ (codes "most") 1 most_told (codes "1000") refl, tt),
     ),
   ),
 )
@@ -104,6 +104,6 @@ steps_taken words clean =
     let file = operand_found (leaf steps_command) words (codes "file") found file_asked in
     let b = option_found (leaf steps_command) words (codes "budget") 1 most_budget (codes "10000") _ (omega arith) refl refl found in
     let f = option_found (leaf steps_command) words (codes "from") 0 most_moves (codes "0") _ (omega arith) refl refl found in
-    let m = option_found (leaf steps_command) words (codes "most") 1 most_traced (codes "100000") _ (omega arith) refl refl found in
+    let m = option_found (leaf steps_command) words (codes "most") 1 most_told (codes "1000") _ (omega arith) refl refl found in
     let part : Window = record { from = f.0; most = m.0 } in
     (steps file.0 b.0 part, read_so rows file.0 b.0 f.0 m.0 file.1 b.1 f.1 m.1, ((b.2, b.3), (f.3, (m.2, m.3))))

@@ -7,7 +7,7 @@ use Rattle.clap.specs.Words.{App, Rule, Shape, Text, app_of, new_rule}
 use Rattle.clap.specs.Lexer.{usize_max}
 use Rattle.clap.specs.Simple.{new_shape}
 use Rattle.pcf_values.specs.Most.{most_workers, most_budget, most_demo, most_moves}
-use Rattle.goi_words.specs.Defaults.{most_traced, least_stack, most_stack, most_forks}
+use Rattle.goi_words.specs.Defaults.{most_traced, most_told, least_stack, most_stack, most_forks}
 use Rattle.clap.specs.declared.builder.action.ArgAction.TheVariants.{Set, SetTrue}
 use Rattle.clap.specs.declared.builder.command.Command.{Command}
 use Rattle.clap.specs.declared.builder.command.Command.TheViews.{out-Command}
@@ -50,9 +50,13 @@ budget_option = number_option (codes "budget") 1 most_budget (codes "10000")
 abbrev pub from_option : Rule
 from_option = number_option (codes "from") 0 most_moves (codes "0")
 
--- the most moves of a trace, and the most steps that are told
+-- the most moves of a trace
 abbrev pub most_option : Rule
 most_option = number_option (codes "most") 1 most_traced (codes "100000")
+
+-- the most steps of a reduction that are told, under the same name
+abbrev pub told_option : Rule
+told_option = number_option (codes "most") 1 most_told (codes "1000")
 
 -- the bits of a circuit's stacks
 abbrev pub stack_option : Rule
@@ -140,7 +144,7 @@ abbrev pub bare_call_command : Shape
 bare_call_command = command (codes "call") (operand (codes "file") ∷ numbers_operand ∷ workers_option ∷ budget_option ∷ [])
 
 abbrev pub steps_command : Shape
-steps_command = command (codes "steps") (operand (codes "file") ∷ budget_option ∷ from_option ∷ most_option ∷ [])
+steps_command = command (codes "steps") (operand (codes "file") ∷ budget_option ∷ from_option ∷ told_option ∷ [])
 
 -- the program without its subcommands
 abbrev pub bare_command : App

@@ -21,6 +21,6 @@ returns-then-not-is_number-clause-fault c =
 pub returns-clause-report : goal.returns-clause-report
 returns-clause-report c =
     let p = c.in_ok-program.program in
-    reduces c.law_correct.ensures.sound c.law_told_is_meant.ensures c.law_none_is_limit.ensures c.args.budget c.args.window
-    (named_of c.args.tree.now) p.0 p.1 _ c.in_ok-program.ensures.typed c.in_ok-program.ensures.fit
+    reduces c.law_correct.ensures.sound c.law_told_is_meant.ensures c.law_none_is_limit.ensures c.law_adequacy.ensures.length c.args.budget
+    c.args.window (named_of c.args.tree.now) p.0 p.1 _ c.in_ok-program.ensures.typed c.in_ok-program.ensures.fit
     (c.is_number-is_number.ensures.0 c.if-not-is_number.false) c.in_ok-reduction_of.ensures
