@@ -51,9 +51,10 @@ def agrees(name, *asked):
 
 
 def made(dice):
-    """A function of some numbers, made by chance, and how many they are."""
-    names = [f"a{it}" for it in range(dice.randrange(1, 5))]
-    body = TERMS.term(dice, 4, [(name, "nat") for name in names])
+    """A function of some numbers, made by chance, which has the first of them in it, and how many they are."""
+    names, body = [f"a{it}" for it in range(dice.randrange(1, 5))], ""
+    while "a0" not in body:
+        body = TERMS.term(dice, 5, [(name, "nat") for name in names])
     return "".join(f"fun {name}:nat. " for name in names).encode() + body.encode(), len(names)
 
 
