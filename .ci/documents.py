@@ -142,6 +142,11 @@ def quoted(document):
     return [it for it in re.findall(r"^```\n(.*?)^```$", read(document), re.M | re.S) if "→" in it or "↔" in it]
 
 
+def shows_table(text):
+    """Whether a document has the program of crates/function_table, to the byte."""
+    return "```rust\n" + read("crates/function_table/src/main.rt") + "```\n" in text
+
+
 def try_listed():
     """Each document holds, and one with a wrong line doesn't."""
     crates, listed, readme = read("docs/ARCHITECTURE.md"), read("docs/README.md"), read("README.md")
@@ -169,6 +174,9 @@ def try_listed():
     judge("what README quotes and counts", odd_readme(readme), [])
     judge("another headline", odd_readme(readme.replace("n ≤ budget", "budget ≤ n")), ["the headline"])
     judge("another count", len(odd_readme(re.sub(r"rests on [\d,]+", "rests on 7", readme))), 1)
+    library = read("docs/AS_A_LIBRARY.md")
+    judge("the small program that calls a function", shows_table(library))
+    judge("another one", not shows_table(library.replace("for n in 0..100", "for n in 0..10")))
     judge("another kit", odd_readme(readme.replace("rattle-kit-", "rattle-kit-x")), ["the kit"])
 
 
@@ -181,7 +189,7 @@ REFUSED = (
     ("replay p", "SCHEDULE is missing"),
     ("run p q", "`q` is one word too many"),
     ("run p --schedul", "`--schedul` is no option of `run`; `--schedule` is one"),
-    ("net p --tally", "`--tally` is no option of `net`, but of `run`, `run-net`"),
+    ("net p --tally", "`--tally` is no option of `net`, but of `run`, `run-net`, `call`"),
     ("run p --tally=true", "`--tally` takes no value"),
     ("run p --tally --tally", "`--tally` is given twice"),
     ("run p --budget=1 --budget 2", "`--budget` is given twice"),
@@ -193,6 +201,9 @@ REFUSED = (
     ("run -p", "`-p` is no option, and none is so short; a file of that name is `./-p`"),
     ("demo 13", "`13` is no number from 0 to 12"),
     ("run -- p -q", "`-q` is one word too many"),
+    ("call", "FILE is missing"),
+    ("call p 1 x", "`x` is no number from 0 to 18446744073709551615"),
+    ("call p 1 --budget 5 2", "these words are not taken together"),
 )
 
 

@@ -8,7 +8,7 @@ from tables.cases import DOUBLE, SUM, call, case, left, plain, row_of, rows
 WORDS_FILES = {
     "p": DOUBLE, "y": b"fix y:nat. y", "f": b"4", "s": b"succ 4", "q": b"schedule 2\n0 15\n1 15\nend\n", "r": b"schedule 2\n0 4\nend\n",
     "n": b"net 1\nwire 0 value 0 nat\nwire 1 value 0 nat\nnode 0 Const 4 0\nnode 1 Succ 0 1\nnode 2 Root 1\nend\n",
-    "l": b"batch 1\njob 4 s\nend\n",
+    "l": b"batch 1\njob 4 s\nend\n", "o": b"fun x:nat. fun y:nat. x - y",
     "run": b"21", "help": b"22", "trace": b"23", "-p": b"24", "-q": b"schedule 2\n0 2\nend\n", "--tally": b"25", "a b": b"26", "-": b"27",
     "\u03bb.pcf": b"fun x:nat. 28",
 }
@@ -43,6 +43,13 @@ def cases():
     # how many moves of a long run are shown where the words don't say it, and how many workers a run of a net has
     for words in ["trace", "p"], ["replay", "p", "s", "--trace"]:
         case(f"the moves that {words[0]} shows", lambda words=words: shown_moves(words), (100_000, b"move 0 ", b"move 99999 "))
+    # so it is with the steps of a reduction
+    def told_steps():
+        out = call(["goi", "steps", "p"], {"p": SUM[:-1] + b"100"})[1]
+        told = [it for it in out.split(b"\n") if it.startswith(b"step ")]
+        return len(told), *(told[at][: told[at].index(b" ", 5) + 1] for at in (0, -1)), out.split(b"\n")[:2]
+
+    case("the steps that are told", told_steps, (1000, b"step 0 ", b"step 999 ", [b"no value", b"steps 10000"]))
     for options, count in ([], 1), (["--workers", "2"], 2):
         tally = lambda options=options: call(["goi", "run-net", "n", "--tally", *options], WORDS_FILES)[1].count(b"\nworker ")
         case(f"the workers of a net {options}", tally, count)

@@ -1,5 +1,6 @@
 -- The answer to a deed, from those to its files.
-use Rattle.std.proofs.Common.{◌≡◌, ℕ, Bool, List, [], Option, Some, None, IsTrue, refl, ap, ◌∙◌, subst, inl, inr, ⊎_elim, arith}
+use Rattle.std.proofs.Common.{◌≡◌, ℕ, Bool, false, List, [], Option, Some, None, IsTrue, refl, sym, ap, ◌∙◌, subst, inl, inr}
+use Rattle.std.proofs.Common.{⊎_elim, arith}
 use Rattle.std.proofs.lemmas.List.Elements.{All-nil}
 use Rattle.goi_world.specs.Outside.{Reading}
 use Rattle.pcf_values.specs.Terms.{TermTree}
@@ -8,14 +9,18 @@ use Rattle.program_runs.specs.declared.calling.Calling.TheVariants.{ByName}
 use Rattle.program_runs.specs.Nets.{RunsAs}
 use Rattle.goi_engine.specs.declared.answer.Answer.{Answer}
 use Rattle.goi_engine.specs.declared.answer.Answer.TheVariants.{Prints, Refused, BadWords, NotRead, NoMemory}
-use Rattle.goi_engine.specs.Answers.{AnswersSchedule, MadeNet, AnswersDeed}
-use Rattle.goi_engine.specs.Deeds.{Deed, with_text, with_schedule, with_list, generated}
+use Rattle.goi_engine.specs.Answers.{AnswersFile, AnswersSchedule, MadeNet, AnswersDeed}
+use Rattle.goi_engine.specs.Deeds.{Deed, with_text, with_schedule, with_list, generated, with_numbers, deed_of}
 use Rattle.goi_world.specs.Seen.{files_seen, FilesState, FilesKept}
 use Rattle.goi_engine.specs.FilesSeen.{Possibly, OfFile, ReadsWithin, LoadedBy}
+use Rattle.goi_tasks.specs.declared.shown.Shown.{Shown}
+use Rattle.goi_tasks.specs.Calls.{ReportsCall, FaultyCall}
 use Rattle.goi_tasks.specs.Outputs.{output_of}
 use Rattle.program_runs.specs.Programs.{IsGround, OfGround}
 use Rattle.goi_tasks.specs.Programs.{FaultyEither}
 use Rattle.goi_words.specs.declared.jobs.Window.{Window}
+use Rattle.goi_words.specs.Jobs.{JobTree, call}
+use Rattle.goi_tasks.specs.Tasks.{shown}
 use Rattle.goi_tasks.specs.Replaying.{ReportsReplay, FaultySchedule}
 use Rattle.goi_engine.specs.Verdicts.{HasNumber, ReadFor}
 
@@ -78,6 +83,31 @@ module _ (file moves : List ℕ) (window : Option Window) (old new : FilesState)
       (subst (λ (s : FilesState). AnswersSchedule made.term window moves s new a) (same_state old mid kept made.faults)
       (h made.term made.runs))
 
+-- ---- call
+
+-- the answer to the file of a function is that to its call
+pub call_job : (workers budget : ℕ) (told : Shown) (numbers file : List ℕ) (old new : FilesState) (a : Answer) →
+    AnswersFile (ReportsCall workers budget told numbers) (FaultyCall numbers) file old new a →
+    AnswersDeed (with_numbers workers budget told numbers file) old new a
+call_job workers budget told numbers file old new (Prints r) h = h
+call_job workers budget told numbers file old new (Refused r) h = h
+call_job workers budget told numbers file old new BadWords h = h
+call_job workers budget told numbers file old new NotRead h = (tt, h)
+call_job workers budget told numbers file old new NoMemory h = h
+
+-- and so to the job that asks for it, by what was called
+pub call_of_job : (job : JobTree) (file numbers : List ℕ) (workers budget : ℕ) (schedule tally : Bool) →
+    job ≡ call file numbers workers budget schedule tally → (named given : List ℕ) → named ≡ file → given ≡ numbers →
+    (old new : FilesState) (a : Answer) →
+    AnswersFile (ReportsCall workers budget (shown schedule tally false) given) (FaultyCall given) named old new a →
+    AnswersDeed (deed_of job) old new a
+call_of_job job file numbers workers budget schedule tally is named given n g old new a h =
+    subst (λ (j : JobTree). AnswersDeed (deed_of j) old new a) (sym is)
+    (call_job workers budget (shown schedule tally false) numbers file old new a
+    (subst (λ (xs : List ℕ). AnswersFile (ReportsCall workers budget (shown schedule tally false) xs) (FaultyCall xs) file old new a) g
+    (subst (λ (xs : List ℕ). AnswersFile (ReportsCall workers budget (shown schedule tally false) given) (FaultyCall given) xs old new a) n
+    h)))
+
 -- ---- no file
 
 -- a file of which nothing was read
@@ -93,3 +123,4 @@ nothing_read one told (Some (with_schedule file moves window)) old =
     record { mid = old; program = unread one file _ old; schedule = inl refl }
 nothing_read one told (Some (with_list file workers)) old = record { mid = old; list = unread one file _ old; programs = inl refl }
 nothing_read one told (Some (generated n workers)) old = refl
+nothing_read one told (Some (with_numbers workers budget shown numbers file)) old = unread one file _ old

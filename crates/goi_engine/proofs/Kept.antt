@@ -6,9 +6,11 @@ use Rattle.goi_engine.specs.declared.answer.Answer.{Answer}
 use Rattle.goi_engine.specs.declared.answer.Answer.TheVariants.{Prints, Refused, BadWords, NotRead, NoMemory}
 use Rattle.goi_tasks.specs.declared.fault.Fault.TheVariants.{Program, NetText, Schedule, Moves, Batch}
 use Rattle.goi_engine.specs.Answers.{AnswersDeed, Answers}
-use Rattle.goi_engine.specs.Deeds.{Deed, with_text, with_schedule, with_list, generated}
+use Rattle.goi_engine.specs.Deeds.{Deed, with_text, with_schedule, with_list, generated, with_numbers}
 use Rattle.goi_engine.specs.Writes.{Wrote}
 use Rattle.goi_engine.specs.Delivers.{Reported, RefusedAs, Delivered}
+use Rattle.function_runs.specs.Laws.{OneFunction}
+use Rattle.goi_tasks.specs.Calls.{ReportsCall}
 use Rattle.goi_tasks.specs.Outputs.{Output, output_of}
 use Rattle.goi_world.specs.Seen.{FilesKept, FilesState, SinkState}
 use Rattle.goi_engine.specs.FilesSeen.{Possibly, OfFile}
@@ -19,6 +21,7 @@ use Rattle.goi_engine.specs.Promise.{CompleteReport, CompleteFault, CompleteWord
 use Rattle.goi_tasks.specs.Refusals.{most_line, fault_line, fault_status, words_line, read_line, memory_line}
 use Rattle.goi_tasks.specs.Replaying.{ReportsReplay}
 use Rattle.goi_tasks.specs.Tasks.{ReportsText}
+use Rattle.goi_tasks.proofs.Functions.{call_status}
 use Rattle.goi_tasks.proofs.Outcomes.{Known, text_status, schedule_status, run_status}
 use Rattle.goi_batches.specs.Sections.{statuses_of}
 use Rattle.goi_batches.proofs.One.{three}
@@ -217,6 +220,10 @@ three_statuses (with_list file workers) files o h =
     let r = x.2 in
     subst OneOfThree (sym (ap (λ (y : Output). y.status) r.output_is)) (three (statuses_of r.sections))) h.1
 three_statuses (generated n workers) files o h = two_of_three o.status (run_status h.answer o.status h.ends)
+three_statuses (with_numbers workers budget shown numbers file) files o h =
+    two_of_three o.status
+    (some_bytes (files.told file) (λ b. ReportsCall workers budget shown numbers b o) (OneOfTwo o.status)
+    (λ b x. call_status workers budget shown numbers b o x) h.1)
 
 -- a fault ends with its status
 fault_outcome : (d : Deed) (c : Call) (f : Fault) → MeansFault (fault_status f) (Some d) c → SameFaults c →
@@ -279,34 +286,34 @@ abbrev pub LackedUntold : FilesState → Type 0
 LackedUntold files = (name : List ℕ) → IsTrue (files.lacks name) → files.told name ≡ None
 
 -- Below, a deed is answered, and no device failed.
-module _ (known : Known) (d : Deed) (c : Call) (untold : LackedUntold c.old) (fine : NoneFailed c) (status : ℕ) where
+module _ (known : Known) (one : OneFunction) (d : Deed) (c : Call) (untold : LackedUntold c.old) (fine : NoneFailed c) (status : ℕ) where
   -- what it can be done with comes to its report
   report_comes : (a : Answer) → AnswersDeed d c.old c.new a → Delivered a c.out c.err status → (own : ℕ) → CanDo d c.old own →
       (status ≡ own) ⊎ (status ≡ 6)
   report_comes (Prints r) h delivered own can =
-      inl (reported_well c fine (output_of r) status delivered ∙ one_status known c.old d (output_of r) own h.1 can)
-  report_comes (Refused r) (h, (f, right, tells)) delivered own can = absurd (no_refusal known c.old d f own right can)
+      inl (reported_well c fine (output_of r) status delivered ∙ one_status known one c.old d (output_of r) own h.1 can)
+  report_comes (Refused r) (h, (f, right, tells)) delivered own can = absurd (no_refusal known one c.old d f own right can)
   report_comes BadWords h delivered own can = absurd h
-  report_comes NotRead h delivered own can = absurd (⊎_elim (λ l. can_has known c.old untold d own l can) fine.files h.1.cause)
+  report_comes NotRead h delivered own can = absurd (⊎_elim (λ l. can_has known one c.old untold d own l can) fine.files h.1.cause)
   report_comes NoMemory h delivered own can = inr (no_memory_well c fine status delivered)
 
   -- what has a fault comes to the line of that fault
   refusal_comes : (a : Answer) → AnswersDeed d c.old c.new a → Delivered a c.out c.err status → (f : Fault) → Faulty d c.old f →
       ((status ≡ fault_status f) × WroteLine (fault_line f) c) ⊎ (status ≡ 6)
-  refusal_comes (Prints r) h delivered f k = absurd (no_fault known c.old d (output_of r) f h.1 k)
+  refusal_comes (Prints r) h delivered f k = absurd (no_fault known one c.old d (output_of r) f h.1 k)
   refusal_comes (Refused r) (h, (g, right, tells)) delivered f k =
-      let same : g ≡ f = same_fault known c.old d g f right k in
+      let same : g ≡ f = same_fault known one c.old d g f right k in
       let w = refused_well c fine r.status r.line.items status delivered in
       inl (w.0 ∙ tells.status ∙ ap fault_status same, subst (λ (l : List ℕ). WroteLine l c) (tells.line.same ∙ ap fault_line same) w.1)
   refusal_comes BadWords h delivered f k = absurd h
-  refusal_comes NotRead h delivered f k = absurd (⊎_elim (λ l. faulty_has known c.old untold d f l k) fine.files h.1.cause)
+  refusal_comes NotRead h delivered f k = absurd (⊎_elim (λ l. faulty_has known one c.old untold d f l k) fine.files h.1.cause)
   refusal_comes NoMemory h delivered f k = inr (no_memory_well c fine status delivered)
 
   -- a file that is lacked comes to a refusal
   lacked_comes : (a : Answer) → AnswersDeed d c.old c.new a → Delivered a c.out c.err status → SurelyLacks d c.old →
       (status ≡ 3) ⊎ (status ≡ 6)
-  lacked_comes (Prints r) h delivered l = absurd (had_for_report known c.old d (output_of r) h.1 l)
-  lacked_comes (Refused r) (h, (f, right, tells)) delivered l = absurd (had_for_refusal known c.old d f right l)
+  lacked_comes (Prints r) h delivered l = absurd (had_for_report known one c.old d (output_of r) h.1 l)
+  lacked_comes (Refused r) (h, (f, right, tells)) delivered l = absurd (had_for_refusal known one c.old d f right l)
   lacked_comes BadWords h delivered l = absurd h
   lacked_comes NotRead h delivered l = inl (refused_well c fine 3 read_line status delivered).0
   lacked_comes NoMemory h delivered l = inr (no_memory_well c fine status delivered)
@@ -322,7 +329,7 @@ words_come c NoMemory status h delivered fine = inr (no_memory_well c fine statu
 
 -- ---- the promise
 
-module _ (known : Known) (c : Call) (a : Answer) where
+module _ (known : Known) (one : OneFunction) (c : Call) (a : Answer) where
   abbrev Of : Option Deed → Type 0
   Of asked = Answers asked c.old c.new a
 
@@ -331,7 +338,7 @@ module _ (known : Known) (c : Call) (a : Answer) where
       Promise asked c status
   kept asked status files untold h delivered =
       promised asked c files status (outcome asked c a status h delivered)
-      (λ d own e can fine. report_comes known d c untold fine status a (subst Of e h) delivered own can)
-      (λ d f e faulty fine. refusal_comes known d c untold fine status a (subst Of e h) delivered f faulty)
+      (λ d own e can fine. report_comes known one d c untold fine status a (subst Of e h) delivered own can)
+      (λ d f e faulty fine. refusal_comes known one d c untold fine status a (subst Of e h) delivered f faulty)
       (λ e fine. words_come c a status (subst Of e h) delivered fine)
-      (λ d e l fine. lacked_comes known d c untold fine status a (subst Of e h) delivered l)
+      (λ d e l fine. lacked_comes known one d c untold fine status a (subst Of e h) delivered l)

@@ -12,5 +12,9 @@ pub mod Settled
 pub mod Writing
 -- a right answer that is delivered keeps the promise
 pub mod Kept
+-- what a promise says of a deed with one file, and that a run comes to one thing alone
+pub mod Coming
 -- the headline follows from the promise
 pub mod Headlines
+-- and that of a call
+pub mod CallHeadlines

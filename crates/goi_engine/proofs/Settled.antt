@@ -10,6 +10,8 @@ use Rattle.batch_lists.specs.declared.line.BatchLine.{BatchLine}
 use Rattle.batch_lists.specs.Lists.{IsList}
 use Rattle.goi_tasks.specs.declared.fault.Fault.{Fault}
 use Rattle.goi_tasks.specs.declared.fault.Fault.TheVariants.{Batch}
+use Rattle.function_runs.specs.Laws.{OneFunction}
+use Rattle.goi_tasks.specs.Calls.{ReportsCall, FaultyCall, EndsCall}
 use Rattle.goi_tasks.specs.Outputs.{Output}
 use Rattle.program_runs.specs.Programs.{number, OfGround}
 use Rattle.program_runs.proofs.OneProgram.{same_ground}
@@ -17,9 +19,10 @@ use Rattle.goi_tasks.specs.Programs.{FaultyText, FaultyEither}
 use Rattle.goi_tasks.specs.Replaying.{ReportsReplay, EndsReplay, FaultySchedule}
 use Rattle.goi_tasks.specs.Running.{demo_budget}
 use Rattle.goi_tasks.specs.Tasks.{ReportsText, FaultyFor, EndsText}
+use Rattle.goi_tasks.proofs.Functions.{call_end, call_sound, one_call_fault}
 use Rattle.goi_tasks.proofs.Outcomes.{Known, ground_sound, one_text_fault, text_end, report_sound, end_sound, one_fault_for}
 use Rattle.goi_tasks.proofs.Outcomes.{schedule_sound, one_schedule_fault, replay_end, one_run_end, run_ends}
-use Rattle.goi_engine.specs.Deeds.{Deed, with_text, with_schedule, with_list, generated}
+use Rattle.goi_engine.specs.Deeds.{Deed, with_text, with_schedule, with_list, generated, with_numbers}
 use Rattle.goi_batches.specs.Sections.{listed, Section, IsSection, statuses_of, batch_status, EndsListed}
 use Rattle.goi_batches.proofs.One.{section_end}
 use Rattle.goi_engine.specs.ListsSeen.{OfList, FaultyList, unlisted, AreSectionsIn, ReportsLines, EndEachIn, EndLines, LacksOne}
@@ -101,7 +104,7 @@ module _ (known : Known) where
     tells_each untold (l ∷ ls) (e ∷ es) (inl k) ((b, told, x), hs) = never_lacked files.told l.file b (untold l.file k) told
     tells_each untold (l ∷ ls) (e ∷ es) (inr k) (h, hs) = tells_each untold ls es k hs
 
-module _ (known : Known) (files : FilesState) where
+module _ (known : Known) (one : OneFunction) (files : FilesState) where
   -- ---- both of one program
 
   both_ground : (bytes : List ℕ) (P Q : TermTree → Type 0) → OfGround bytes P → OfGround bytes Q → (t : TermTree) × P t × Q t
@@ -141,6 +144,10 @@ module _ (known : Known) (files : FilesState) where
   one_status (generated n workers) o own h k =
       one_run_end demo_budget (net_of (demo_term n)) o.status own
       (run_ends (Means (demo_term n)) (net_of (demo_term n)) demo_budget h.answer (length h.log) o.status h.ends h.run.tells) k
+  one_status (with_numbers workers budget shown numbers file) o own h k =
+      let (b, p, q) = meets (files.told file) (λ b. ReportsCall workers budget shown numbers b o)
+      (λ b. EndsCall budget numbers b own) h.1 k in
+      call_end one numbers b workers budget shown o own p q
 
   -- what has a right output has no fault
   pub no_fault : (d : Deed) (o : Output) (f : Fault) → Reports d files o → Faulty d files f → ⊥
@@ -160,6 +167,9 @@ module _ (known : Known) (files : FilesState) where
       let (b, p, q) = meets (files.told file) (λ b. OfList b (λ ls. ReportsLines files workers ls o)) (λ b. FaultyList b f) h.1 k in
       list_sound known b p.0 f p.1 q
   no_fault (generated n workers) o f h k = k
+  no_fault (with_numbers workers budget shown numbers file) o f h k =
+      let (b, p, q) = meets (files.told file) (λ b. ReportsCall workers budget shown numbers b o) (λ b. FaultyCall numbers b f) h.1 k in
+      call_sound one numbers b _ f p q
 
   -- and what can be done is not refused
   pub no_refusal : (d : Deed) (f : Fault) (own : ℕ) → Refuses d files f → CanDo d files own → ⊥
@@ -178,6 +188,9 @@ module _ (known : Known) (files : FilesState) where
       let (b, p, q) = meets (files.told file) (λ b. FaultyList b f) (λ b. OfList b (λ ls. EndLines files ls own)) h.1 k in
       list_sound known b q.0 f q.1 p
   no_refusal (generated n workers) f own h k = h
+  no_refusal (with_numbers workers budget shown numbers file) f own h k =
+      let (b, p, q) = meets (files.told file) (λ b. FaultyCall numbers b f) (λ b. EndsCall budget numbers b own) h.1 k in
+      call_sound one numbers b _ f q p
 
   same_either : (moves b : List ℕ) (f g : Fault) → FaultyEither b (AtMoves moves (λ t text. FaultySchedule t text f)) f →
       FaultyEither b (AtTold moves (λ t text. FaultySchedule t text g)) g → f ≡ g
@@ -201,6 +214,9 @@ module _ (known : Known) (files : FilesState) where
       let (b, p, q) = meets (files.told file) (λ b. FaultyList b f) (λ b. FaultyList b g) h.1 k in
       one_list_fault known b f g p q
   same_fault (generated n workers) f g h k = absurd h
+  same_fault (with_numbers workers budget shown numbers file) f g h k =
+      let (b, p, q) = meets (files.told file) (λ b. FaultyCall numbers b f) (λ b. FaultyCall numbers b g) h.1 k in
+      one_call_fault one numbers b f g p q
 
   -- ---- a file that is lacked
 
@@ -218,6 +234,7 @@ module _ (known : Known) (files : FilesState) where
       let (ls, r, e) = both_lines known b (λ ls. ReportsLines files workers ls o) (LacksOne files) p q in
       had_each known files workers ls r.sections r.are e
   had_for_report (generated n workers) o h l = l
+  had_for_report (with_numbers workers budget shown numbers file) o h l = h.0 l
 
   -- nor did one that is refused for a fault
   pub had_for_refusal : (d : Deed) (f : Fault) → Refuses d files f → SurelyLacks d files → ⊥
@@ -232,6 +249,7 @@ module _ (known : Known) (files : FilesState) where
       let (b, p, q) = meets (files.told file) (λ b. FaultyList b f) (λ b. OfList b (LacksOne files)) h.1 k in
       list_sound known b q.0 f q.1 p
   had_for_refusal (generated n workers) f h l = l
+  had_for_refusal (with_numbers workers budget shown numbers file) f h l = h.0 l
 
   -- where what is lacked isn't told, what can be done or refused lacks nothing that it comes to
   module _ (untold : (name : List ℕ) → IsTrue (files.lacks name) → files.told name ≡ None) where
@@ -248,6 +266,7 @@ module _ (known : Known) (files : FilesState) where
         let (ls, l, e) = both_lines known b (LacksOne files) (λ ls. EndLines files ls own) p q in
         tells_each known files workers untold ls e.0 l e.1
     can_has (generated n workers) own l k = l
+    can_has (with_numbers workers budget shown numbers file) own l (b, e, k) = never_lacked files.told file b (untold file l) e
 
     -- nor does one that is refused for a fault which the files tell
     pub faulty_has : (d : Deed) (f : Fault) → LacksFor d files → Faulty d files f → ⊥
@@ -263,3 +282,4 @@ module _ (known : Known) (files : FilesState) where
         let (b, p, q) = meets (files.told file) (λ b. OfList b (LacksOne files)) (λ b. FaultyList b f) h.1 k in
         list_sound known b p.0 f p.1 q
     faulty_has (generated n workers) f l k = l
+    faulty_has (with_numbers workers budget shown numbers file) f l (b, e, k) = never_lacked files.told file b (untold file l) e

@@ -22,13 +22,16 @@ use Rattle.goi_tasks.specs.declared.fault.Fault.{Fault}
 use Rattle.goi_tasks.specs.declared.stop.Stop.{Stop}
 use Rattle.goi_tasks.specs.Stops.{StopsFor}
 use Rattle.goi_tasks.specs.declared.task.Task.{Task}
-use Rattle.goi_tasks.specs.declared.task.Task.TheVariants.{Run, Check, ShowNet, RunNet, Trace, Circuit, Span}
+use Rattle.goi_tasks.specs.declared.task.Task.TheVariants.{Run, Check, ShowNet, RunNet, Trace, Circuit, Span, Steps}
 use Rattle.goi_engine.specs.declared.answer.Answer.{Answer}
 use Rattle.goi_engine.specs.declared.answer.Answer.TheVariants.{Prints, Refused, BadWords, NotRead, NoMemory}
 use Rattle.goi_engine.specs.Answers.{Says, IsStopped, AnswersFile, AnswersNoNet, MadeNet}
 use Rattle.goi_world.specs.Seen.{FilesState}
 use Rattle.goi_engine.specs.FilesSeen.{Possibly}
 use Rattle.goi_tasks.specs.NetFiles.{FaultyListing, unlisted}
+use Rattle.goi_tasks.specs.declared.shown.Shown.{Shown}
+use Rattle.function_runs.specs.Functions.{CompilesText, FaultyFunction, unread as no_function_read, of_tree as of_function_tree}
+use Rattle.goi_tasks.specs.Calls.{ReportsCall, FaultyCall}
 use Rattle.goi_tasks.specs.Outputs.{Output, output_of}
 use Rattle.program_runs.specs.declared.fault.ProgramFault.{ProgramFault}
 use Rattle.program_runs.specs.declared.calling.Calling.TheVariants.{ByName}
@@ -118,6 +121,25 @@ pub of_program_goes : (wanted : Wanted) (P : NamedTree → TermTree → TyTree �
 of_program_goes wanted P v bytes s h =
     record { tree = h.tree; term = h.term; type = h.type; is = program_goes wanted h.tree h.term h.type v bytes s h.is; so = h.so }
 
+-- ---- the text of a function
+
+function_fault_goes : (n : ℕ) (f : ProgramFault) (v bytes : List ℕ) → Same most_program_bytes v bytes → FaultyFunction n v f →
+    FaultyFunction n bytes f
+function_fault_goes n _ v bytes s (no_function_read f h) = no_function_read f (first_goes v bytes f s h)
+function_fault_goes n f v bytes s (of_function_tree tree _ x h) = of_function_tree tree f (text_goes v bytes tree s x) h
+
+-- a fault of what was loaded is one of every text that is the same up to the limit
+pub call_fault_goes : (numbers : List ℕ) (f : Fault) (v bytes : List ℕ) → Same most_program_bytes v bytes → FaultyCall numbers v f →
+    FaultyCall numbers bytes f
+call_fault_goes numbers _ v bytes s (no_program f h) = no_program f (function_fault_goes (length numbers) f v bytes s h)
+
+-- and so is a report
+pub call_goes : (workers budget : ℕ) (shown : Shown) (numbers : List ℕ) (o : Output) (v bytes : List ℕ) →
+    Same most_program_bytes v bytes → ReportsCall workers budget shown numbers v o → ReportsCall workers budget shown numbers bytes o
+call_goes workers budget shown numbers o v bytes s h =
+    let (tree, x, is) = h.is in
+    record { term = h.term; is = (tree, text_goes v bytes tree s x, is); so = h.so }
+
 -- ---- the listing of a net
 
 lists_goes : (t : TermTree) (v bytes : List ℕ) → Same most_text_bytes v bytes → ListsProgram v t → ListsProgram bytes t
@@ -150,9 +172,11 @@ fault_goes (Check term) f v bytes s h = faulty_goes any_type f v bytes s h
 fault_goes ShowNet f v bytes s h = faulty_goes number f v bytes s h
 fault_goes (Circuit stack forks) f v bytes s h = faulty_goes number f v bytes s h
 fault_goes (Span budget calling profile schedule) f v bytes s h = faulty_goes (wanted_by_run calling) f v bytes s h
+fault_goes (Steps budget window) f v bytes s h = faulty_goes number f v bytes s h
 fault_goes (RunNet budget shown) f v bytes s h = listing_goes f v bytes s h
 fault_goes (Trace budget calling window) f v bytes s h = faulty_goes (wanted_by_run calling) f v bytes s h
 
+-- what may be said of a file's bytes goes with the report on them, for each task
 pub report_goes : (workers : ℕ) (task : Task) (o : Output) (v bytes : List ℕ) → Same (most_bytes task) v bytes →
     ReportsText workers task v o → ReportsText workers task bytes o
 report_goes workers (Run budget calling shown) o v bytes s h = of_program_goes (wanted_by_run calling) _ v bytes s h
@@ -160,6 +184,7 @@ report_goes workers (Check term) o v bytes s h = of_program_goes any_type _ v by
 report_goes workers ShowNet o v bytes s h = of_program_goes number _ v bytes s h
 report_goes workers (Circuit stack forks) o v bytes s h = of_program_goes number _ v bytes s h
 report_goes workers (Span budget calling profile schedule) o v bytes s h = of_program_goes (wanted_by_run calling) _ v bytes s h
+report_goes workers (Steps budget window) o v bytes s h = of_program_goes number _ v bytes s h
 report_goes workers (RunNet budget shown) o v bytes s h =
     record { term = h.term; lists = lists_goes h.term v bytes s h.lists; so = h.so }
 report_goes workers (Trace budget calling window) o v bytes s h = of_program_goes (wanted_by_run calling) _ v bytes s h

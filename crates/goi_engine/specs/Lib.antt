@@ -1,8 +1,10 @@
 -- the headline, for whoever reads nothing else
 pub mod Headline
+-- the same for a call of a function
+pub mod CallHeadline
 -- what a reader has to believe: the promise, what comes of a job, what may be said of files, and how texts are written
 pub mod Promise
--- What a job does with files: a task with the text of one, a schedule on the net of a program, the programs of a list.
+-- What a job does with files: a task with the text of one, a schedule on the net of a program, the programs of a list, a call.
 pub mod Deeds
 -- What a deed makes of files: its output, or the fault for which it refuses them, and which reads it makes.
 pub mod Verdicts

@@ -23,6 +23,7 @@ ghost use Rattle.goi_tasks.specs.Tasks.{IsWithin, ReportsText, FaultyFor, most_b
 ghost use Rattle.goi_engine.specs.Verdicts.{LoadedBoth, ReadFor};
 
 use crate::batching::answer_batch;
+use crate::calling::answer_call;
 use crate::load::{LoadError, load};
 use gate_workers::Gate;
 use goi_tasks::{
@@ -136,6 +137,20 @@ fn answer_job<R: Threads + Wait + Sync, F: Files, G: Gate>(
             },
             &Alone,
         ),
+        Job::Steps {
+            file,
+            budget,
+            window,
+        } => answer_task(
+            alloc,
+            files,
+            file.as_str(),
+            Task::Steps {
+                budget: *budget,
+                window: *window,
+            },
+            &Alone,
+        ),
         Job::Span {
             file,
             budget,
@@ -207,6 +222,28 @@ fn answer_job<R: Threads + Wait + Sync, F: Files, G: Gate>(
                 window: *window,
             },
             *workers,
+            gate,
+        ),
+        Job::Call {
+            file,
+            numbers,
+            workers,
+            budget,
+            schedule,
+            tally,
+        } => answer_call(
+            rt,
+            alloc,
+            files,
+            file.as_str(),
+            numbers,
+            *workers,
+            *budget,
+            Shown {
+                schedule: *schedule,
+                tally: *tally,
+                progress: false,
+            },
             gate,
         ),
     }

@@ -8,11 +8,14 @@
 
 mod answer;
 mod batching;
+mod call_headline;
+mod calling;
 mod deliver;
 mod headline;
 mod load;
 mod top;
 
+pub use call_headline::law_call_headline;
 pub use deliver::tell_no_memory;
 pub use headline::law_headline;
 pub use top::goi;

@@ -10,6 +10,7 @@ ghost use Rattle.goi_engine.specs.Verdicts.{ReadFor};
 use crate::answer::answer_to;
 use crate::deliver::deliver;
 use batch_lists::law_one_list;
+use function_runs::law_one_function;
 use gate_workers::Gate;
 use goi_tasks::law_one_listing;
 use goi_world::{Files, Sink};
@@ -55,6 +56,7 @@ pub fn goi<R: Threads + Wait + Sync, F: Files, O: Sink, E: Sink, G: Gate>(
     law_one_answer();
     law_one_replay();
     law_one_list();
+    law_one_function();
     let answer = answer_to(rt, alloc, words, files, gate);
     deliver(&answer, out, err)
 }

@@ -7,6 +7,10 @@ pub mod Outcomes
 pub mod Ran
 -- The report that is made of a run in rounds.
 pub mod Spanned
+-- The reduction of a tree as the output for its text, and what it is worth.
+pub mod Reduced
+-- `run` and `steps` of one text come to one value.
+pub mod Agreeing
 -- What a schedule that was run on a program's net says of the program.
 pub mod Replayed
 -- The run of the generated program of a number is that of its term, and the program has no fault.
@@ -15,5 +19,7 @@ pub mod Generated
 pub mod Short
 -- From the faults of a program's text to those of a task, and from the report on a tree's type to that on its text's.
 pub mod Texts
+-- A call of a function has one status on a text or one fault.
+pub mod Functions
 -- why what comes of a text is settled by its bytes, seen from outside
 mod Settling

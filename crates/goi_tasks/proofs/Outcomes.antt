@@ -25,6 +25,8 @@ use Rattle.replay_check.specs.declared.fault.ReplayFault.TheVariants as replay
 use Rattle.replay_check.specs.declared.replayed.Replayed.{Replayed}
 use Rattle.replay_check.specs.Laws.{OneReplay}
 use Rattle.replay_check.specs.Replays.{ReplaysAs}
+use Rattle.pcf_reader.proofs.Splitting.{one_text}
+use Rattle.step_text.specs.Courses.{course_value}
 use Rattle.program_runs.specs.Laws.{OneProgram}
 use Rattle.program_runs.specs.Programs.{Wanted, any_type, number, wanted_by_run, IsProgram, IsGround}
 use Rattle.program_runs.specs.RunsText.{Tells, meaning, net_run}
@@ -33,11 +35,12 @@ use Rattle.goi_tasks.specs.declared.fault.Fault.{Fault}
 use Rattle.goi_tasks.specs.declared.fault.Fault.TheVariants.{Program, NetText, Schedule, Moves}
 use Rattle.goi_tasks.specs.declared.shown.Shown.{Shown}
 use Rattle.goi_tasks.specs.declared.task.Task.{Task}
-use Rattle.goi_tasks.specs.declared.task.Task.TheVariants.{Run, Check, ShowNet, RunNet, Trace, Circuit, Span}
+use Rattle.goi_tasks.specs.declared.task.Task.TheVariants.{Run, Check, ShowNet, RunNet, Trace, Circuit, Span, Steps}
 use Rattle.goi_tasks.specs.NetFiles.{FaultyListing, unlisted}
 use Rattle.goi_tasks.specs.Outputs.{Output}
 use Rattle.goi_tasks.specs.Programs.{no_program, FaultyText}
 use Rattle.goi_tasks.specs.Replaying.{replay_status, ReportsReplay, EndsReplay, FaultySchedule, unread as no_schedule, unmoved}
+use Rattle.goi_tasks.specs.Reductions.{reduction}
 use Rattle.goi_tasks.specs.Rounds.{TellsSpan, ReportsRounds}
 use Rattle.goi_tasks.specs.Running.{ReportsNet, ReportsWalk, EndsRun}
 use Rattle.goi_tasks.specs.Tasks.{ReportsText, FaultyFor, EndsText}
@@ -92,6 +95,7 @@ rounds_end means net budget profile schedule o h = go h.answer h.ends h.tells
     go None e t = inr (e, t.0)
     go (Some v) e t = inl (e, (v, (length (round_log net h.rounds), t.2, t.3)))
 
+-- each output ends with 0 or with 5
 pub text_status : (workers : ℕ) (task : Task) (bytes : List ℕ) (o : Output) → ReportsText workers task bytes o →
     (o.status ≡ 0) ⊎ (o.status ≡ 5)
 text_status workers (Run budget calling shown) bytes o h = run_status h.so.answer o.status h.so.ends
@@ -99,6 +103,8 @@ text_status workers (Check term) bytes o h = inl (ap (λ (x : Output). x.status)
 text_status workers ShowNet bytes o h = inl (ap (λ (x : Output). x.status) h.so)
 text_status workers (Circuit stack forks) bytes o h = inl (ap (λ (x : Output). x.status) h.so)
 text_status workers (Span budget calling profile schedule) bytes o h = run_status h.so.answer o.status h.so.ends
+text_status workers (Steps budget window) bytes o h =
+    run_status (course_value (reduction budget window h.tree)) o.status (ap (λ (x : Output). x.status) h.so.output_is)
 text_status workers (RunNet budget shown) bytes o h = run_status h.so.answer o.status h.so.ends
 text_status workers (Trace budget calling window) bytes o h = run_status h.so.answer o.status h.so.ends
 
@@ -190,6 +196,10 @@ module _ (known : Known) where
       one_run_end budget (net_run calling k.term) o.status own
       (subst (λ (t : TermTree). EndsRun budget (net_run calling t) o.status) e
       (rounds_end (meaning calling h.term) (net_run calling h.term) budget profile schedule o h.so)) k.so
+  text_end workers (Steps budget window) bytes o own h k =
+      let e : h.tree ≡ k.tree = one_text bytes h.tree k.tree h.is.text k.is.text in
+      ap (λ (x : Output). x.status) h.so.output_is
+      ∙ ap (λ (tree : NamedTree). replay_status (course_value (reduction budget window tree))) e ∙ sym k.so
   text_end workers (RunNet budget shown) bytes o own h k =
       let e : h.term ≡ k.term = same_listed bytes h.term k.term h.lists k.lists in
       one_run_end budget (net_of k.term) o.status own
@@ -211,6 +221,7 @@ module _ (known : Known) where
   report_sound workers (Circuit stack forks) bytes o f h k = text_sound known.one_program number bytes h.tree h.term h.type f h.is k
   report_sound workers (Span budget calling profile schedule) bytes o f h k =
       text_sound known.one_program (wanted_by_run calling) bytes h.tree h.term h.type f h.is k
+  report_sound workers (Steps budget window) bytes o f h k = text_sound known.one_program number bytes h.tree h.term h.type f h.is k
   report_sound workers (RunNet budget shown) bytes o f h k = listing_sound bytes h.term f h.lists k
   report_sound workers (Trace budget calling window) bytes o f h k =
       text_sound known.one_program (wanted_by_run calling) bytes h.tree h.term h.type f h.is k
@@ -224,6 +235,7 @@ module _ (known : Known) where
   end_sound (Circuit stack forks) bytes own f h k = text_sound known.one_program number bytes h.tree h.term h.type f h.is k
   end_sound (Span budget calling profile schedule) bytes own f h k =
       text_sound known.one_program (wanted_by_run calling) bytes h.tree h.term h.type f h.is k
+  end_sound (Steps budget window) bytes own f h k = text_sound known.one_program number bytes h.tree h.term h.type f h.is k
   end_sound (RunNet budget shown) bytes own f h k = listing_sound bytes h.term f h.lists k
   end_sound (Trace budget calling window) bytes own f h k =
       text_sound known.one_program (wanted_by_run calling) bytes h.tree h.term h.type f h.is k
@@ -235,6 +247,7 @@ module _ (known : Known) where
   one_fault_for ShowNet bytes f g h k = one_text_fault number bytes f g h k
   one_fault_for (Circuit stack forks) bytes f g h k = one_text_fault number bytes f g h k
   one_fault_for (Span budget calling profile schedule) bytes f g h k = one_text_fault (wanted_by_run calling) bytes f g h k
+  one_fault_for (Steps budget window) bytes f g h k = one_text_fault number bytes f g h k
   one_fault_for (RunNet budget shown) bytes f g h k = one_listing_fault bytes f g h k
   one_fault_for (Trace budget calling window) bytes f g h k = one_text_fault (wanted_by_run calling) bytes f g h k
 

@@ -6,6 +6,7 @@ use Rattle.program_runs.specs.declared.calling.Calling.{Calling}
 use Rattle.program_runs.specs.Programs.{number, wanted_by_run, OfGround}
 use Rattle.program_runs.specs.RunsText.{net_run}
 use Rattle.program_runs.proofs.OneProgram.{same_ground, same_program}
+use Rattle.function_runs.specs.Laws.{OneFunction}
 use Rattle.goi_tasks.specs.declared.fault.Fault.{Fault}
 use Rattle.goi_tasks.specs.declared.task.Task.{Task}
 use Rattle.goi_tasks.specs.declared.task.Task.TheVariants.{Run}
@@ -15,6 +16,7 @@ use Rattle.goi_tasks.specs.Replaying.{replay_status, ReportsReplay, EndsReplay, 
 use Rattle.goi_tasks.specs.Running.{TellsText, EndsRun}
 use Rattle.goi_tasks.specs.Settles.{Settles, TextsSettle, status_of_output, status_of_run}
 use Rattle.goi_tasks.specs.Tasks.{nothing_shown, ReportsText, FaultyFor, EndsText}
+use Rattle.goi_tasks.proofs.Functions.{call_settles}
 use Rattle.goi_tasks.proofs.Outcomes.{Known, ground_sound, text_sound, one_text_fault, text_end, report_sound}
 use Rattle.goi_tasks.proofs.Outcomes.{end_sound, one_fault_for, schedule_sound, one_schedule_fault, replay_end, one_run_end, run_ends}
 
@@ -95,5 +97,10 @@ module _ (known : Known) where
 
   -- ---- all of them
 
-  pub texts_settle : TextsSettle
-  texts_settle = record { tasks = task_settles; numbers = numbers_settle; replays = replay_settles }
+  pub texts_settle : OneFunction → TextsSettle
+  texts_settle one = record {
+    tasks = task_settles;
+    numbers = numbers_settle;
+    replays = replay_settles;
+    calls = λ workers budget shown numbers bytes. call_settles one numbers bytes workers budget shown;
+  }

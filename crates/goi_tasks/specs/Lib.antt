@@ -6,17 +6,23 @@ pub mod Programs
 pub mod NetFiles
 -- What is done with the text of one file.
 pub mod Tasks
+-- A call of a text's function at numbers.
+pub mod Calls
 -- What is told on the error output behind a report: nothing, or how many moves were counted while the run went on.
 pub mod Notes
 -- A run of a program: which report it has, and with which status it ends.
 pub mod Running
 -- What a run in rounds says of a program, and its report.
 pub mod Rounds
+-- The reduction of a program as an output, and what it says of the program.
+pub mod Reductions
 -- A schedule that is run on the net of a term: what it came to, which report it has, and the first fault of one that can't be run.
 pub mod Replaying
 -- Which line stands for each refusal, and with which status it ends.
 pub mod Refusals
 -- What comes of a text is settled by its bytes: it is right and ends with one status, or it has one fault.
 pub mod Settles
+-- What `run` and `steps` say of one text: both tell one value.
+pub mod Agreement
 -- what serves proofs and private contracts
 pub mod Stops

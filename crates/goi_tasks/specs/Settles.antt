@@ -6,6 +6,8 @@ use Rattle.program_runs.specs.Programs.{OfGround}
 use Rattle.goi_tasks.specs.declared.fault.Fault.{Fault}
 use Rattle.goi_tasks.specs.declared.task.Task.{Task}
 use Rattle.goi_tasks.specs.declared.task.Task.TheVariants.{Run}
+use Rattle.goi_tasks.specs.declared.shown.Shown.{Shown}
+use Rattle.goi_tasks.specs.Calls.{ReportsCall, FaultyCall, EndsCall}
 use Rattle.goi_tasks.specs.Outputs.{Output}
 use Rattle.goi_tasks.specs.Programs.{FaultyEither}
 use Rattle.goi_tasks.specs.Replaying.{replay_status, ReportsReplay, EndsReplay, FaultySchedule}
@@ -27,7 +29,7 @@ status_of_output o = o.status
 abbrev pub status_of_run : Option Val × ℕ → ℕ
 status_of_run r = replay_status r.0
 
--- so it is with each task, with a run in numbers, and with a schedule on a program's net
+-- so it is with each task, with a run in numbers, with a schedule on a program's net, and with a call of a function
 pub record TextsSettle : Type 0 where
   pub tasks : (workers : ℕ) (task : Task) (bytes : List ℕ) →
       Settles status_of_output (ReportsText workers task bytes) (EndsText task bytes) (FaultyFor task bytes)
@@ -37,3 +39,5 @@ pub record TextsSettle : Type 0 where
   pub replays : (bytes schedule : List ℕ) →
       Settles status_of_output (λ o. OfGround bytes (λ t. ReportsReplay t None schedule o))
       (λ own. OfGround bytes (λ t. EndsReplay t schedule own)) (λ f. FaultyEither bytes (λ t. FaultySchedule t schedule f) f)
+  pub calls : (workers budget : ℕ) (shown : Shown) (numbers bytes : List ℕ) →
+      Settles status_of_output (ReportsCall workers budget shown numbers bytes) (EndsCall budget numbers bytes) (FaultyCall numbers bytes)

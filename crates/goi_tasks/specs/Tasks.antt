@@ -10,18 +10,21 @@ use Rattle.net_text.specs.Accepted.{ListsProgram}
 use Rattle.net_text.specs.Limits.{most_text_bytes}
 use Rattle.net_text.specs.Listing.{listing}
 use Rattle.circuit_text.specs.CircuitText.{circuit_text}
+use Rattle.step_text.specs.Courses.{course_value}
 use Rattle.program_runs.specs.Programs.{any_type, number, OfProgram, wanted_by_run}
 use Rattle.program_runs.specs.RunsText.{net_run}
 use Rattle.program_runs.specs.declared.calling.Calling.TheVariants.{ByName}
-use Rattle.goi_words.specs.Jobs.{IsBudget, IsWindow}
+use Rattle.goi_words.specs.Jobs.{IsBudget, IsWindow, IsPart}
 use Rattle.goi_reports.specs.Reports.{check_report}
 use Rattle.goi_tasks.specs.declared.fault.Fault.{Fault}
 use Rattle.goi_tasks.specs.declared.shown.Shown.{Shown}
 use Rattle.goi_tasks.specs.declared.task.Task.{Task}
-use Rattle.goi_tasks.specs.declared.task.Task.TheVariants.{Run, Check, ShowNet, RunNet, Trace, Circuit, Span}
+use Rattle.goi_tasks.specs.declared.task.Task.TheVariants.{Run, Check, ShowNet, RunNet, Trace, Circuit, Span, Steps}
 use Rattle.goi_tasks.specs.NetFiles.{FaultyListing}
 use Rattle.goi_tasks.specs.Outputs.{Output, output}
 use Rattle.goi_tasks.specs.Programs.{FaultyText}
+use Rattle.goi_tasks.specs.Reductions.{ReportsSteps, reduction}
+use Rattle.goi_tasks.specs.Replaying.{replay_status}
 use Rattle.goi_tasks.specs.Rounds.{ReportsSpan}
 use Rattle.goi_tasks.specs.Running.{ReportsRun, ReportsTrace, EndsRun}
 
@@ -63,6 +66,7 @@ ReportsText workers (Circuit stack forks) bytes o =
     OfProgram number bytes (λ tree t A. o ≡ output 0 (circuit_text (net_of t) stack forks) [])
 ReportsText workers (Span budget calling profile schedule) bytes o =
     OfProgram (wanted_by_run calling) bytes (λ tree t A. ReportsSpan budget calling profile schedule t o)
+ReportsText workers (Steps budget window) bytes o = OfProgram number bytes (λ tree t A. ReportsSteps budget window tree t o)
 
 -- the first fault of a text with which it can't be done
 abbrev pub FaultyFor : Task → List ℕ → Fault → Type 0
@@ -73,6 +77,7 @@ FaultyFor (RunNet budget shown) bytes f = FaultyListing bytes f
 FaultyFor (Trace budget calling window) bytes f = FaultyText (wanted_by_run calling) bytes f
 FaultyFor (Circuit stack forks) bytes f = FaultyText number bytes f
 FaultyFor (Span budget calling profile schedule) bytes f = FaultyText (wanted_by_run calling) bytes f
+FaultyFor (Steps budget window) bytes f = FaultyText number bytes f
 
 -- it can be done with the text, and ends with this status
 abbrev pub EndsText : Task → List ℕ → ℕ → Type 0
@@ -86,6 +91,8 @@ EndsText (Trace budget calling window) bytes status =
 EndsText (Circuit stack forks) bytes status = OfProgram number bytes (λ tree t A. status ≡ 0)
 EndsText (Span budget calling profile schedule) bytes status =
     OfProgram (wanted_by_run calling) bytes (λ tree t A. EndsRun budget (net_run calling t) status)
+EndsText (Steps budget window) bytes status =
+    OfProgram number bytes (λ tree t A. status ≡ replay_status (course_value (reduction budget window tree)))
 
 -- how many bytes its text has at the most
 abbrev pub most_bytes : Task → ℕ
@@ -96,6 +103,7 @@ most_bytes (RunNet budget shown) = most_text_bytes
 most_bytes (Trace budget calling window) = most_program_bytes
 most_bytes (Circuit stack forks) = most_program_bytes
 most_bytes (Span budget calling profile schedule) = most_program_bytes
+most_bytes (Steps budget window) = most_program_bytes
 
 -- the numbers of a task are in their ranges
 abbrev pub IsWithin : Task → Type 0
@@ -106,6 +114,7 @@ IsWithin (RunNet budget shown) = IsBudget budget
 IsWithin (Trace budget calling window) = IsBudget budget × IsWindow window
 IsWithin (Circuit stack forks) = Unit {0}
 IsWithin (Span budget calling profile schedule) = IsBudget budget
+IsWithin (Steps budget window) = IsBudget budget × IsPart window
 
 -- the report on the type of a tree, and with `term` on the tree
 abbrev pub ChecksTree : Bool → NamedTree → List ℕ → Type 0

@@ -18,6 +18,7 @@ use crate::report::Report;
 use crate::running::{report_run, report_trace};
 use crate::shown::Shown;
 use crate::span::report_span;
+use crate::steps::report_steps;
 use crate::stop::Stop;
 use crate::task::Task;
 use goi_words::Window;
@@ -57,6 +58,7 @@ pub fn report_text<C: Crew>(
             profile,
             schedule,
         } => report_span(alloc, bytes, budget, calling, profile, schedule),
+        Task::Steps { budget, window } => report_steps(alloc, bytes, budget, window),
         Task::RunNet { budget, shown } => report_listing(alloc, bytes, budget, shown, crew),
         Task::Trace {
             budget,

@@ -1,10 +1,12 @@
 //! What is done with texts: from the bytes of a program, of a net's listing or of a schedule, to what is printed or to the first fault.
 //!
-//! A `Task` says what is to be done with the text of one file; `report_text` does it, `report_replay` runs a schedule, `report_demo`
-//! the generated program. Whatever is run is run by a `Crew` that is handed in. Each answers the whole output as a value, or the text's
-//! first fault, which `refuse` turns into its line. Files and sinks are left to the crate above.
+//! A `Task` says what is to be done with the text of one file; `report_text` does it, `report_replay` runs a schedule, `report_call` a
+//! function at numbers, `report_demo` the generated program. Whatever is run is run by a `Crew` that is handed in. Each answers the whole
+//! output as a value, or the text's first fault, which `refuse` turns into its line. Files and sinks are left to the crate above.
 #![tactic(auto)]
 
+mod agreement;
+mod calling;
 mod circuit;
 mod demo;
 mod fault;
@@ -19,11 +21,14 @@ mod running;
 mod settled;
 mod shown;
 mod span;
+mod steps;
 mod stop;
 mod task;
 mod telling;
 mod watched;
 
+pub use agreement::law_run_and_steps;
+pub use calling::report_call;
 pub use demo::report_demo;
 pub use fault::Fault;
 pub use judge::report_text;

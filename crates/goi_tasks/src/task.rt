@@ -47,6 +47,11 @@ pub enum Task {
         profile: bool,
         schedule: bool,
     },
+    /// Tell the program's reduction by name, of at most so many steps, with this part of its terms.
+    Steps {
+        budget: u32,
+        window: Window,
+    },
 }
 
 /// How many bytes the text of a task has at the most.

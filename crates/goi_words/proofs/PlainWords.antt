@@ -1,8 +1,9 @@
 -- Plain words are taken, and mean what the table says.
 use Rattle.goi_words.specs.Laws.{PlainWordsAreTaken}
 use Rattle.goi_words.specs.Plain.{ask_batch, ask_check, ask_circuit, ask_demo, ask_net, ask_replay, ask_run, ask_run_net, ask_span}
-use Rattle.goi_words.specs.Plain.{ask_trace}
+use Rattle.goi_words.specs.Plain.{ask_call, ask_steps, ask_trace}
 use Rattle.goi_words.proofs.BatchWords.{batch_words}
+use Rattle.goi_words.proofs.CallWords.{call_words}
 use Rattle.goi_words.proofs.CheckWords.{check_words}
 use Rattle.goi_words.proofs.CircuitWords.{circuit_words}
 use Rattle.goi_words.proofs.DemoWords.{demo_words}
@@ -11,6 +12,7 @@ use Rattle.goi_words.proofs.ReplayWords.{replay_words}
 use Rattle.goi_words.proofs.RunNetWords.{run_net_words}
 use Rattle.goi_words.proofs.RunWords.{run_words}
 use Rattle.goi_words.proofs.SpanWords.{span_words}
+use Rattle.goi_words.proofs.StepsWords.{steps_words}
 use Rattle.goi_words.proofs.TraceWords.{trace_words}
 
 -- a command at a time
@@ -25,3 +27,5 @@ plain_words_are_taken program (ask_batch file) = batch_words program file
 plain_words_are_taken program (ask_trace file) = trace_words program file
 plain_words_are_taken program (ask_circuit file) = circuit_words program file
 plain_words_are_taken program (ask_span file) = span_words program file
+plain_words_are_taken program (ask_steps file) = steps_words program file
+plain_words_are_taken program (ask_call file numbers) = call_words program file numbers

@@ -6,7 +6,7 @@ use Rattle.clap.specs.Simple.{built}
 use Rattle.clap.specs.Faults.{check_fault, defaults_fault}
 use Rattle.clap.specs.Takes.{is_given as is_row_given}
 use Rattle.pcf_values.specs.Most.{most_moves}
-use Rattle.goi_words.specs.Defaults.{most_traced}
+use Rattle.goi_words.specs.Defaults.{default_most, most_traced}
 use Rattle.goi_words.specs.Commands.{replay_command, goi_command}
 use Rattle.goi_words.specs.Asked.{if_traced, is_set, replay_job, job, number_of, text_of}
 use Rattle.goi_words.specs.Jobs.{IsWindow, IsWindowIfAny, replay}
@@ -106,11 +106,11 @@ replay_words program file moves ss plain =
     let rules = (leaf replay_command).rules in
     below_job program (codes "replay") (leaf replay_command) (file ∷ moves ∷ flat_map setting_words ss) (final_rows file moves ss) entered
     (reads file moves ss plain)
-    ∙ read_so (final_rows file moves ss) file moves (from_in ss) (most_in ss) (is_given traced ss)
+    ∙ read_so (final_rows file moves ss) file moves (from_in ss) (most_in default_most ss) (is_given traced ss)
     (text_in_the_end (codes "file") rules rows (file_row file) refl)
     (text_in_the_end (codes "schedule") rules rows (moves_row moves) refl)
     (number_in_the_end (codes "from") rules rows ∙ from_there ss _ plain.ranges refl)
-    (number_in_the_end (codes "most") rules rows ∙ most_there ss _ plain.ranges refl)
+    (number_in_the_end (codes "most") rules rows ∙ most_there ss default_most _ plain.ranges refl)
     (set_in_the_end (codes "trace") rules rows ∙ set_there traced traced_is_flag ss _ refl)
 
 -- ---- words that are taken

@@ -9,14 +9,14 @@ use Rattle.std.specs.Str.{bytes_eq}
 use Rattle.clap.specs.Walk.{Held, Row, Rule, Text, arg_by_id, arg_by_long, has_row, row_text}
 use Rattle.clap.specs.Simple.{Shape, filled}
 use Rattle.pcf_values.specs.Most.{most_workers, most_budget, most_moves}
-use Rattle.goi_words.specs.Defaults.{most_traced, default_budget, default_forks, default_from, default_most, default_stack, default_workers}
+use Rattle.goi_words.specs.Defaults.{most_traced, most_told, default_budget, default_forks, default_from, default_stack, default_workers}
 use Rattle.goi_words.specs.Defaults.{least_stack, most_stack, most_forks}
 use Rattle.goi_words.specs.Commands.{budget_option, flag, forks_option, from_option}
-use Rattle.goi_words.specs.Commands.{most_option, number_option, stack_option, workers_option}
+use Rattle.goi_words.specs.Commands.{most_option, number_option, stack_option, told_option, workers_option}
 use Rattle.goi_words.specs.Asked.{number_in, ◌>>=◌}
 use Rattle.goi_words.specs.Plain.{AreDistinct, IsInRange, Setting, budget, budget_in, is_given, is_same_option, option_name, option_value}
 use Rattle.goi_words.specs.Plain.{by_value, profile, progress, schedule, setting_words, tally, term, traced, workers, workers_in}
-use Rattle.goi_words.specs.Plain.{forks, forks_in, from, from_in, most, most_in, stack, stack_in}
+use Rattle.goi_words.specs.Plain.{forks, forks_in, from, from_in, most, most_in, stack, stack_in, told}
 use Rattle.goi_words.proofs.Decimals.{decimal_kept, decimal_number, decimal_passes, decimal_value}
 use Rattle.goi_words.proofs.Rows.{absent_more, given, row_at, used_first}
 use Rattle.goi_words.proofs.Walks.{Holds, Names, Reads, flag_read, option_read, then}
@@ -36,6 +36,7 @@ rule_for (most n) = filled most_option
 rule_for (stack n) = filled stack_option
 rule_for (forks n) = filled forks_option
 rule_for profile = filled (flag (codes "profile"))
+rule_for (told n) = filled told_option
 
 -- the row of an option
 abbrev pub row_for : Setting → Row
@@ -98,6 +99,8 @@ module _ (sh : Shape) (once : sh.args_override_self ≡ false) (h : Held) (rows 
   one_setting (forks n) knows range absent =
       number_read (codes "forks") 1 most_forks n (codes "64") knows range.0 range.1 (omega (arith, range.1)) absent
   one_setting profile knows range absent = switch_read (codes "profile") knows absent
+  one_setting (told n) knows range absent =
+      number_read (codes "most") 1 most_told n (codes "1000") knows range.0 range.1 (omega (arith, range.1)) absent
 
 -- ---- any number of options, in any order
 
@@ -166,12 +169,13 @@ from_there [] default ranges is = is
 from_there (from n ∷ ss) default ranges is = number_there n (codes "from") 0 most_moves (codes "0") (omega (arith, ranges.0))
 from_there (s ∷ ss) default ranges is = from_there ss default ranges.1 is
 
--- the most moves of a trace that are found
-pub most_there : (ss : List Setting) (default : Option Row) → AllByRecursion IsInRange ss → number_at default ≡ Some default_most
-    → number_at (option_or (row_at (codes "most") (map row_for ss)) default) ≡ Some (most_in ss)
-most_there [] default ranges is = is
-most_there (most n ∷ ss) default ranges is = number_there n (codes "most") 1 most_traced (codes "100000") (omega (arith, ranges.0.1))
-most_there (s ∷ ss) default ranges is = most_there ss default ranges.1 is
+-- the most moves of a trace, or steps that are told, that are found
+pub most_there : (ss : List Setting) (d : ℕ) (default : Option Row) → AllByRecursion IsInRange ss → number_at default ≡ Some d
+    → number_at (option_or (row_at (codes "most") (map row_for ss)) default) ≡ Some (most_in d ss)
+most_there [] d default ranges is = is
+most_there (most n ∷ ss) d default ranges is = number_there n (codes "most") 1 most_traced (codes "100000") (omega (arith, ranges.0.1))
+most_there (told n ∷ ss) d default ranges is = number_there n (codes "most") 1 most_told (codes "1000") (omega (arith, ranges.0.1))
+most_there (s ∷ ss) d default ranges is = most_there ss d default ranges.1 is
 
 -- the bits of a circuit's stacks that are found
 pub stack_there : (ss : List Setting) (default : Option Row) → AllByRecursion IsInRange ss → number_at default ≡ Some default_stack

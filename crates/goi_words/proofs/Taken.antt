@@ -41,9 +41,17 @@ value_passed a v clean = go (value_passes a v) clean
     go true clean = refl
     go false clean = cc
 
--- so did the first of several
-first_passed : (a : Rule) (v : Text) (vs : List Text) → values_fault a (v ∷ vs) ≡ [] → value_passes a v ≡ true
-first_passed a v vs clean = value_passed a v (none_else (value_kinds a.ignore_case (parser_of_value a.parser) v) _ clean).0
+-- so did each of several
+pub all_passed : (a : Rule) (vs : List Text) → values_fault a vs ≡ [] → AllByRecursion (λ v. value_passes a v ≡ true) vs
+all_passed a [] clean = tt
+all_passed a (v ∷ vs) clean =
+    let parts = none_else (value_kinds a.ignore_case (parser_of_value a.parser) v) _ clean in
+    (value_passed a v parts.0, all_passed a vs parts.1)
+
+-- texts pass where any text does
+texts_pass : (i : ℕ) (name : Text) (vs : List Text) → AllByRecursion (λ v. value_passes (operand_at i name) v ≡ true) vs
+texts_pass i name [] = tt
+texts_pass i name (v ∷ vs) = (refl, texts_pass i name vs)
 
 -- ---- the arguments of our commands
 
@@ -53,9 +61,9 @@ operand_tame c i name own = record { own = own; replaces = λ values rows. refl;
   where
     valued : (again : Bool) (values : List Text) (rows : List Row) → use_fault again (operand_at i name) values rows ≡ []
         → (v : Text) × (vs : List Text) × (values_or_missing (operand_at i name) values ≡ v ∷ vs)
-        × (value_passes (operand_at i name) v ≡ true)
+        × AllByRecursion (λ v. value_passes (operand_at i name) v ≡ true) (v ∷ vs)
     valued again [] rows clean = cc
-    valued again (v ∷ vs) rows clean = (v, vs, refl, refl)
+    valued again (v ∷ vs) rows clean = (v, vs, refl, texts_pass i name (v ∷ vs))
 
 -- a rule that keeps the value of its one use, and has one
 abbrev IsSet : Rule → Type 0
@@ -67,14 +75,14 @@ pub set_tame : (c : List Rule) (a : Rule) → arg_by_id c a.id ≡ Some a → ((
 set_tame c a own replaces set = record { own = own; replaces = replaces; valued = valued }
   where
     valued : (again : Bool) (values : List Text) (rows : List Row) → use_fault again a values rows ≡ []
-        → (v : Text) × (vs : List Text) × (values_or_missing a values ≡ v ∷ vs) × (value_passes a v ≡ true)
+        → (v : Text) × (vs : List Text) × (values_or_missing a values ≡ v ∷ vs) × AllByRecursion (λ v. value_passes a v ≡ true) (v ∷ vs)
     valued again [] rows clean =
         let whole = sym (set again [] rows) ∙ clean in
         cc
     valued again (v ∷ vs) rows clean =
         let whole = sym (set again (v ∷ vs) rows) ∙ clean in
         let parts = none_else (range_kinds 1 1 (length (v ∷ vs))) _ whole in
-        (v, vs, refl, first_passed a v vs (none_else (repeat_fault again a.id rows) _ parts.1).1)
+        (v, vs, refl, all_passed a (v ∷ vs) (none_else (repeat_fault again a.id rows) _ parts.1).1)
 
 -- and a flag
 pub flag_tame : (c : List Rule) (name : Text) → arg_by_id c name ≡ Some (filled (flag name)) → IsTame c (filled (flag name))
@@ -82,11 +90,11 @@ flag_tame c name own = record { own = own; replaces = λ values rows. refl; valu
   where
     valued : (again : Bool) (values : List Text) (rows : List Row) → use_fault again (filled (flag name)) values rows ≡ []
         → (v : Text) × (vs : List Text) × (values_or_missing (filled (flag name)) values ≡ v ∷ vs)
-        × (value_passes (filled (flag name)) v ≡ true)
-    valued again [] rows clean = (codes "true", [], refl, refl)
+        × AllByRecursion (λ v. value_passes (filled (flag name)) v ≡ true) (v ∷ vs)
+    valued again [] rows clean = (codes "true", [], refl, (refl, tt))
     valued again (v ∷ vs) rows clean =
         let parts = none_else (range_kinds 0 0 (length (v ∷ vs))) _ clean in
-        (v, vs, refl, first_passed (filled (flag name)) v vs (none_else (repeat_fault again name rows) _ parts.1).1)
+        (v, vs, refl, all_passed (filled (flag name)) (v ∷ vs) (none_else (repeat_fault again name rows) _ parts.1).1)
 
 -- ---- one level
 
@@ -98,7 +106,7 @@ default_sound c a rows tame clean sound = go (has_row a.id rows)
     added : (values : List Text) → given_default_fault a values ≡ [] → AreSound c (default_rows a.id (reading_by a) values rows)
     added [] clean = sound
     added (v ∷ vs) clean =
-        values_sound c a DefaultValue v vs rows tame.own (first_passed a v vs (none_else (request_kinds (action_of a)) _ clean).1) sound
+        values_sound c a DefaultValue v vs rows tame.own (all_passed a (v ∷ vs) (none_else (request_kinds (action_of a)) _ clean).1) sound
 
     go : (b : Bool) → AreSound c (cond b rows (default_rows a.id (reading_by a) a.defaults rows))
     go true = sound
@@ -133,7 +141,8 @@ level_found s tame defaults words clean =
 -- ---- what is found for one argument
 
 -- the row of an id is sound, and of that id
-found_row : (c : List Rule) (id : Text) (rows : List Row) (r : Row) → AreSound c rows → row_at id rows ≡ Some r → IsSound c r × (r.id ≡ id)
+pub found_row : (c : List Rule) (id : Text) (rows : List Row) (r : Row) → AreSound c rows → row_at id rows ≡ Some r
+    → IsSound c r × (r.id ≡ id)
 found_row c id [] r sound at = cc
 found_row c id (x ∷ rows) r sound at = go (bytes_eq x.id id) refl at (found_row c id rows r sound.1)
   where
@@ -197,7 +206,7 @@ number_found c id low high a rows small is parser_is case_is sound there =
     let found = found_row c id rows there.0 sound there.1 in
     let same_rule : found.0.rule ≡ a = own found.0.rule (sym (ap (arg_by_id c) found.1) ∙ found.0.own) in
     let passed : accepts a.ignore_case (parser_of_value a.parser) found.0.first ≡ true =
-    subst (λ (x : Rule). value_passes x found.0.first ≡ true) same_rule found.0.passes in
+    subst (λ (x : Rule). value_passes x found.0.first ≡ true) same_rule found.0.passes.0 in
     let read : accepts false (parser.Signed (pos low) (pos high)) found.0.first ≡ true = rw (case_is, parser_is) at passed in
     let number = signed_number low high found.0.first small read in
     let reading : there.0.reading ≡ reading_of (parser.Signed (pos low) (pos high)) =

@@ -14,6 +14,7 @@ use Rattle.goi_words.specs.Laws.{TakenWordsHaveAJob}
 use Rattle.goi_words.proofs.Entering.{entered_job as job_by}
 use Rattle.goi_words.proofs.Found.{found_in, none_else}
 use Rattle.goi_words.proofs.BatchWords.{batch_taken}
+use Rattle.goi_words.proofs.CallWords.{call_taken}
 use Rattle.goi_words.proofs.CheckWords.{check_taken}
 use Rattle.goi_words.proofs.CircuitWords.{circuit_taken}
 use Rattle.goi_words.proofs.DemoWords.{demo_taken}
@@ -22,6 +23,7 @@ use Rattle.goi_words.proofs.ReplayWords.{replay_taken}
 use Rattle.goi_words.proofs.RunNetWords.{run_net_taken}
 use Rattle.goi_words.proofs.RunWords.{run_taken}
 use Rattle.goi_words.proofs.SpanWords.{span_taken}
+use Rattle.goi_words.proofs.StepsWords.{steps_taken}
 use Rattle.goi_words.proofs.Taken.{HasJob, TakenHasJob}
 use Rattle.goi_words.proofs.TraceWords.{trace_taken}
 
@@ -37,7 +39,13 @@ each_has_a_job = (
   run_taken,
   (
     check_taken,
-    (net_taken, (replay_taken, (demo_taken, (run_net_taken, (batch_taken, (trace_taken, (circuit_taken, (span_taken, tt)))))))),
+    (
+      net_taken,
+      (
+        replay_taken,
+        (demo_taken, (run_net_taken, (batch_taken, (trace_taken, (circuit_taken, (span_taken, (steps_taken, (call_taken, tt)))))))),
+      ),
+    ),
   ),
 )
 

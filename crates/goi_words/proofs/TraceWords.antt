@@ -6,7 +6,7 @@ use Rattle.clap.specs.Simple.{built}
 use Rattle.clap.specs.Faults.{check_fault, defaults_fault}
 use Rattle.clap.specs.Takes.{is_given as is_row_given}
 use Rattle.pcf_values.specs.Most.{most_workers, most_budget, most_moves}
-use Rattle.goi_words.specs.Defaults.{most_traced}
+use Rattle.goi_words.specs.Defaults.{default_most, most_traced}
 use Rattle.goi_words.specs.Commands.{trace_command, goi_command}
 use Rattle.goi_words.specs.Asked.{trace_job, is_set, job, number_of, text_of}
 use Rattle.goi_words.specs.Jobs.{trace}
@@ -75,13 +75,13 @@ trace_words program file ss plain =
     let rules = (leaf trace_command).rules in
     below_job program (codes "trace") (leaf trace_command) (file ∷ flat_map setting_words ss) (final_rows file ss) entered
     (reads file ss plain)
-    ∙ read_so (final_rows file ss) file (workers_in ss) (budget_in ss) (from_in ss) (most_in ss) (is_given by_value ss)
+    ∙ read_so (final_rows file ss) file (workers_in ss) (budget_in ss) (from_in ss) (most_in default_most ss) (is_given by_value ss)
     (text_in_the_end (codes "file") rules rows (file_row file) refl)
     (number_in_the_end (codes "workers") rules rows ∙ workers_there ss _ plain.ranges refl)
     (number_in_the_end (codes "budget") rules rows ∙ budget_there ss _ plain.ranges refl)
     (set_in_the_end (codes "by-value") rules rows ∙ set_there by_value by_value_is_flag ss _ refl)
     (number_in_the_end (codes "from") rules rows ∙ from_there ss _ plain.ranges refl)
-    (number_in_the_end (codes "most") rules rows ∙ most_there ss _ plain.ranges refl)
+    (number_in_the_end (codes "most") rules rows ∙ most_there ss default_most _ plain.ranges refl)
 
 -- ---- words that are taken
 

@@ -3,13 +3,13 @@
 -- which subcommand they enter and what stands there for each argument, a default where the words say nothing. The job is read off
 -- from that, so that words mean here what they mean to every other program of the same command line.
 use Rattle.std.specs.Prelude.{ℕ, Bool, true, false, ◌&&◌, ◌^◌, List, [], ◌∷◌, Option, None, Some, if◌then◌else◌, codes, nat_lt}
-use Rattle.std.specs.Option.{option_map_or}
+use Rattle.std.specs.Option.{option_map_or, unwrap_or}
 use Rattle.std.specs.Str.{bytes_eq}
 use Rattle.std.specs.Str.Parse.{digits_value, without_leading_plus}
 use Rattle.clap.specs.ValueTests.{is_numeral}
-use Rattle.clap.specs.Words.{Kinds, Row, Text, fault_of, first_of, one_of, subcommand_of}
+use Rattle.clap.specs.Words.{Kinds, Row, Text, all_of, fault_of, first_of, one_of, subcommand_of}
 use Rattle.goi_words.specs.Commands.{goi_command}
-use Rattle.goi_words.specs.Jobs.{JobTree, run, check, show_net, replay, demo, run_net, batch, trace, circuit, span}
+use Rattle.goi_words.specs.Jobs.{JobTree, run, check, show_net, replay, demo, run_net, batch, trace, circuit, span, steps, call}
 use Rattle.goi_words.specs.declared.jobs.Window.{Window}
 
 infixl 10 ◌>>=◌
@@ -23,6 +23,20 @@ number_in text =
     let digits = without_leading_plus text in
     if is_numeral digits && nat_lt (digits_value 10 digits) (2 ^ 32) then Some (digits_value 10 digits) else None
 
+-- the number that a text spells, where it is below 2 ^ 64; one plus may stand before the digits
+abbrev pub wide_number_in : Text → Option ℕ
+wide_number_in text =
+    let digits = without_leading_plus text in
+    if is_numeral digits && nat_lt (digits_value 10 digits) (2 ^ 64) then Some (digits_value 10 digits) else None
+
+-- the numbers that texts spell, where each spells one
+abbrev pub wide_numbers_in : List Text → Option (List ℕ)
+wide_numbers_in [] = Some []
+wide_numbers_in (text ∷ texts) = do
+  n ← wide_number_in text
+  ns ← wide_numbers_in texts
+  Some (n ∷ ns)
+
 -- the text that was found for an argument
 abbrev pub text_of : Text → List Row → Option Text
 text_of name rows = first_of name rows
@@ -30,6 +44,10 @@ text_of name rows = first_of name rows
 -- the number that was found for an argument
 abbrev pub number_of : Text → List Row → Option ℕ
 number_of name rows = one_of name rows >>= number_in
+
+-- the numbers that were found for an argument, and none where it isn't given
+abbrev pub numbers_of : Text → List Row → Option (List ℕ)
+numbers_of name rows = wide_numbers_in (unwrap_or (all_of name rows) [])
 
 -- a flag was found
 abbrev pub is_set : Text → List Row → Bool
@@ -112,6 +130,20 @@ span_job rows = do
   file ← text_of (codes "file") rows
   budget ← number_of (codes "budget") rows
   Some (span file budget (is_set (codes "by-value") rows) (is_set (codes "profile") rows) (is_set (codes "schedule") rows))
+abbrev pub call_job : List Row → Option JobTree
+call_job rows = do
+  file ← text_of (codes "file") rows
+  workers ← number_of (codes "workers") rows
+  budget ← number_of (codes "budget") rows
+  numbers ← numbers_of (codes "n") rows
+  Some (call file numbers workers budget (is_set (codes "schedule") rows) (is_set (codes "tally") rows))
+
+abbrev pub steps_job : List Row → Option JobTree
+steps_job rows = do
+  file ← text_of (codes "file") rows
+  budget ← number_of (codes "budget") rows
+  window ← window_of rows
+  Some (steps file budget window)
 
 -- the job of the subcommand of this name
 abbrev pub job_on : Text → List Row → Option JobTree
@@ -126,6 +158,8 @@ job_on name rows =
     else if bytes_eq name (codes "trace") then trace_job rows
     else if bytes_eq name (codes "circuit") then circuit_job rows
     else if bytes_eq name (codes "span") then span_job rows
+    else if bytes_eq name (codes "steps") then steps_job rows
+    else if bytes_eq name (codes "call") then call_job rows
     else None
 
 -- no kind of error is listed

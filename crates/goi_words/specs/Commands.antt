@@ -4,9 +4,10 @@
 -- are unknown words and are refused as such. What is added later stands at the end of its list.
 use Rattle.std.specs.Prelude.{◌≡◌, ℕ, true, false, pos, List, [], ◌∷◌, Some, codes}
 use Rattle.clap.specs.Words.{App, Rule, Shape, Text, app_of, new_rule}
+use Rattle.clap.specs.Lexer.{usize_max}
 use Rattle.clap.specs.Simple.{new_shape}
 use Rattle.pcf_values.specs.Most.{most_workers, most_budget, most_demo, most_moves}
-use Rattle.goi_words.specs.Defaults.{most_traced, least_stack, most_stack, most_forks}
+use Rattle.goi_words.specs.Defaults.{most_traced, most_told, least_stack, most_stack, most_forks}
 use Rattle.clap.specs.declared.builder.action.ArgAction.TheVariants.{Set, SetTrue}
 use Rattle.clap.specs.declared.builder.command.Command.{Command}
 use Rattle.clap.specs.declared.builder.command.Command.TheViews.{out-Command}
@@ -19,6 +20,14 @@ operand name = record (new_rule name) { action = Some Set; required = true }
 -- an operand that is a number in a range
 abbrev pub number_operand : Rule
 number_operand = record (operand (codes "n")) { parser = Some (parser.Signed (pos 0) (pos most_demo)) }
+
+-- an operand of any number of numbers of 64 bits, and of none where it isn't given
+abbrev pub numbers_operand : Rule
+numbers_operand = record (new_rule (codes "n")) {
+  action = Some Set;
+  range = Some (record { start_inclusive = 1; end_inclusive = usize_max });
+  parser = Some (parser.Unsigned 0 18446744073709551615);
+}
 
 -- an option `--name N`, with a number in a range, and what it is where it isn't given
 abbrev pub number_option : Text → ℕ → ℕ → Text → Rule
@@ -37,13 +46,17 @@ workers_option = number_option (codes "workers") 1 most_workers (codes "1")
 abbrev pub budget_option : Rule
 budget_option = number_option (codes "budget") 1 most_budget (codes "10000")
 
--- the entry with which a trace begins
+-- the entry with which a trace begins, and the step with which a reduction is told
 abbrev pub from_option : Rule
 from_option = number_option (codes "from") 0 most_moves (codes "0")
 
 -- the most moves of a trace
 abbrev pub most_option : Rule
 most_option = number_option (codes "most") 1 most_traced (codes "100000")
+
+-- the most steps of a reduction that are told, under the same name
+abbrev pub told_option : Rule
+told_option = number_option (codes "most") 1 most_told (codes "1000")
 
 -- the bits of a circuit's stacks
 abbrev pub stack_option : Rule
@@ -72,7 +85,7 @@ abbrev pub logged_command : Text → Shape
 logged_command name =
     command name (operand (codes "file") ∷ workers_option ∷ budget_option ∷ flag (codes "schedule") ∷ flag (codes "tally") ∷ [])
 
--- `replay` and `trace` without the part of the trace, and `span` without what is printed of the rounds
+-- `replay`, `trace` and `steps` without the part that is printed, and `span` without what is printed of the rounds
 abbrev pub bare_replay_command : Shape
 bare_replay_command = command (codes "replay") (operand (codes "file") ∷ operand (codes "schedule") ∷ flag (codes "trace") ∷ [])
 
@@ -82,6 +95,9 @@ bare_trace_command =
 
 abbrev pub bare_span_command : Shape
 bare_span_command = command (codes "span") (operand (codes "file") ∷ budget_option ∷ flag (codes "by-value") ∷ [])
+
+abbrev pub bare_steps_command : Shape
+bare_steps_command = command (codes "steps") (operand (codes "file") ∷ budget_option ∷ [])
 
 -- the subcommands
 abbrev pub run_command : Shape
@@ -119,6 +135,16 @@ circuit_command = command (codes "circuit") (operand (codes "file") ∷ stack_op
 abbrev pub span_command : Shape
 span_command = command (codes "span")
     (operand (codes "file") ∷ budget_option ∷ flag (codes "by-value") ∷ flag (codes "profile") ∷ flag (codes "schedule") ∷ [])
+abbrev pub call_command : Shape
+call_command = command (codes "call")
+    (operand (codes "file") ∷ numbers_operand ∷ workers_option ∷ budget_option ∷ flag (codes "schedule") ∷ flag (codes "tally") ∷ [])
+
+-- `call` without what is printed of its log
+abbrev pub bare_call_command : Shape
+bare_call_command = command (codes "call") (operand (codes "file") ∷ numbers_operand ∷ workers_option ∷ budget_option ∷ [])
+
+abbrev pub steps_command : Shape
+steps_command = command (codes "steps") (operand (codes "file") ∷ budget_option ∷ from_option ∷ told_option ∷ [])
 
 -- the program without its subcommands
 abbrev pub bare_command : App
@@ -152,7 +178,7 @@ nine_commands = with_commands
 abbrev pub goi_command : App
 goi_command = with_commands
     (run_command ∷ check_command ∷ net_command ∷ replay_command ∷ demo_command ∷ run_net_command ∷ batch_command
-    ∷ trace_command ∷ circuit_command ∷ span_command ∷ [])
+    ∷ trace_command ∷ circuit_command ∷ span_command ∷ steps_command ∷ call_command ∷ [])
 
 -- the command of the code is this subcommand
 abbrev pub IsCommand : Shape → Command → Type 0

@@ -1,5 +1,6 @@
 -- The numbers of the command line that no other crate speaks of: what an option is where the words don't give it, the most moves of a
--- trace, and the sizes of a circuit. What goes into a run, as the most workers, is limited where all crates find it.
+-- trace, the most steps of a reduction that are told, and the sizes of a circuit. What goes into a run, as the most workers, is limited
+-- where all crates find it.
 use Rattle.std.specs.Prelude.{ℕ}
 
 -- the workers of a run
@@ -21,6 +22,14 @@ default_most = 100000
 -- the most moves of a trace that can be asked for
 abbrev pub most_traced : ℕ
 most_traced = 1000000
+
+-- the most steps of a reduction that are told
+abbrev pub default_told : ℕ
+default_told = 1000
+
+-- the most of them that can be asked for
+abbrev pub most_told : ℕ
+most_told = 100000
 
 -- the bits of each stack of a circuit, and the fewest and the most that can be asked for
 abbrev pub default_stack : ℕ

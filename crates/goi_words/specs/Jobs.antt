@@ -2,9 +2,10 @@
 -- A job has the options of its command with their values, given or by default. Its files are named by the bytes of their names.
 use Rattle.std.specs.Prelude.{◌≤◌, ⊤, ℕ, Bool, List, Option, None, Some}
 use Rattle.pcf_values.specs.Most.{most_workers, most_budget, most_demo, most_moves}
-use Rattle.goi_words.specs.Defaults.{most_traced, least_stack, most_stack, most_forks}
+use Rattle.goi_words.specs.Defaults.{most_traced, most_told, least_stack, most_stack, most_forks}
 use Rattle.goi_words.specs.declared.jobs.Job.{Job}
-use Rattle.goi_words.specs.declared.jobs.Job.TheVariants.{Run, Check, ShowNet, Replay, Demo, RunNet, Batch, Trace, Circuit, Span}
+use Rattle.goi_words.specs.declared.jobs.Job.TheVariants.{Run, Check, ShowNet, Replay, Demo, RunNet, Batch, Trace, Circuit, Span, Steps}
+use Rattle.goi_words.specs.declared.jobs.Job.TheVariants.{Call}
 use Rattle.goi_words.specs.declared.jobs.Window.{Window}
 
 -- a job
@@ -32,6 +33,11 @@ pub data JobTree : Type 0 where
   -- run the program of a file in rounds, with at most so many moves, and by value in place of by name where asked; print its profile and
   -- its schedule where asked
   span : List ℕ → ℕ → Bool → Bool → Bool → JobTree
+  -- print the reduction by name of the program of a file, of at most so many steps, with the terms of this part of them
+  steps : List ℕ → ℕ → Window → JobTree
+  -- run the term of the program of a file, applied to these numbers, with so many workers and at most so many moves; print its schedule
+  -- and its tally where asked
+  call : List ℕ → List ℕ → ℕ → ℕ → Bool → Bool → JobTree
 
 -- the job of the code
 abbrev pub job_of : Job → JobTree
@@ -45,6 +51,8 @@ job_of (Batch file workers) = batch file workers
 job_of (Trace file workers budget by_value window) = trace file workers budget by_value window
 job_of (Circuit file stack forks) = circuit file stack forks
 job_of (Span file budget by_value profile schedule) = span file budget by_value profile schedule
+job_of (Steps file budget window) = steps file budget window
+job_of (Call file numbers workers budget schedule tally) = call file numbers.items workers budget schedule tally
 
 -- a number of workers, a budget and the number of a generated program that the command line can ask for
 abbrev pub IsWorkers : ℕ → Type 0
@@ -56,7 +64,7 @@ IsBudget n = (1 ≤ n) × (n ≤ most_budget)
 abbrev pub IsDemo : ℕ → Type 0
 IsDemo n = n ≤ most_demo
 
--- an entry with which a trace can begin, and a number of moves that it can have
+-- an entry with which a trace can begin, or a step with which the told part of a reduction does, and a number of moves of a trace
 abbrev pub IsFrom : ℕ → Type 0
 IsFrom n = n ≤ most_moves
 
@@ -66,6 +74,13 @@ IsMost n = (1 ≤ n) × (n ≤ most_traced)
 -- the part of a trace that the command line can ask for
 abbrev pub IsWindow : Window → Type 0
 IsWindow window = IsFrom window.from × IsMost window.most
+
+-- a number of steps that can be told, and the part of a reduction that the command line can ask for
+abbrev pub IsTold : ℕ → Type 0
+IsTold n = (1 ≤ n) × (n ≤ most_told)
+
+abbrev pub IsPart : Window → Type 0
+IsPart window = IsFrom window.from × IsTold window.most
 
 -- the part that is asked for, if one is
 abbrev pub IsWindowIfAny : Option Window → Type 0
@@ -89,4 +104,6 @@ IsWithinLimits (replay file schedule window) = IsWindowIfAny window
 IsWithinLimits (trace file workers budget by_value window) = IsWorkers workers × IsBudget budget × IsWindow window
 IsWithinLimits (circuit file stack forks) = IsStack stack × IsForks forks
 IsWithinLimits (span file budget by_value profile schedule) = IsBudget budget
+IsWithinLimits (steps file budget window) = IsBudget budget × IsPart window
+IsWithinLimits (call file numbers workers budget schedule tally) = IsWorkers workers × IsBudget budget
 IsWithinLimits _ = ⊤

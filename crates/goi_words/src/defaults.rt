@@ -1,5 +1,5 @@
 //! The numbers of the command line that no other crate speaks of: what an option is where the words don't give it, as the word that it
-//! stands for, the most moves of a trace, and the sizes of a circuit.
+//! stands for, the most moves of a trace, the most steps of a reduction that are told, and the sizes of a circuit.
 
 /// The workers of a run where the words give none.
 pub const DEFAULT_WORKERS: &str = "1";
@@ -15,6 +15,12 @@ pub const DEFAULT_MOST: &str = "100000";
 
 /// The most moves of a trace that can be asked for.
 pub const TRACED_MOVES: u32 = 1_000_000;
+
+/// The most steps of a reduction that are told where the words don't say.
+pub const DEFAULT_TOLD: &str = "1000";
+
+/// The most steps of a reduction that are told if so many are asked for.
+pub const TOLD_STEPS: u32 = 100_000;
 
 /// The bits of each stack of a circuit where the words don't say.
 pub const DEFAULT_STACK: &str = "128";

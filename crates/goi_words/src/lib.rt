@@ -13,8 +13,8 @@ mod laws;
 mod reading;
 
 pub use defaults::{
-    DEFAULT_BUDGET, DEFAULT_FORKS, DEFAULT_FROM, DEFAULT_MOST, DEFAULT_STACK, DEFAULT_WORKERS,
-    LEAST_STACK, MOST_FORKS, MOST_STACK, TRACED_MOVES,
+    DEFAULT_BUDGET, DEFAULT_FORKS, DEFAULT_FROM, DEFAULT_MOST, DEFAULT_STACK, DEFAULT_TOLD,
+    DEFAULT_WORKERS, LEAST_STACK, MOST_FORKS, MOST_STACK, TOLD_STEPS, TRACED_MOVES,
 };
 pub use jobs::{Job, Window, WordFault};
 pub use laws::{law_help, law_no_words, law_plain_words, law_taken_words};

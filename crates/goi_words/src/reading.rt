@@ -3,9 +3,9 @@
 ghost use Rattle.std.specs.Prelude.{◌≡◌, ◌≢◌, IfOk, IfErr, IsErrOf, None, Some, false, [], map, option_map, string_bytes};
 ghost use Rattle.clap.specs.Words.{fault_of, found_of, rows_of, subcommand_of, subcommand_rows_of};
 ghost use Rattle.goi_words.specs.Commands.{goi_command};
-ghost use Rattle.goi_words.specs.Asked.{is_set, is_taken, job, job_on, number_of, text_of};
+ghost use Rattle.goi_words.specs.Asked.{is_set, is_taken, job, job_on, number_of, numbers_of, text_of};
 ghost use Rattle.goi_words.specs.Asked.{batch_job, check_job, circuit_job, demo_job, if_traced, net_job, replay_job, run_job};
-ghost use Rattle.goi_words.specs.Asked.{run_net_job, span_job, trace_job, window_of};
+ghost use Rattle.goi_words.specs.Asked.{run_net_job, span_job, steps_job, trace_job, window_of, call_job, wide_number_in, wide_numbers_in};
 ghost use Rattle.goi_words.specs.Jobs.{IsWithinLimits, job_of};
 ghost use Rattle.goi_words.specs.declared.jobs.WordFault.TheVariants.{Refused};
 
@@ -61,6 +61,8 @@ fn job_on(alloc: Global, name: &str, found: &ArgMatches<'_>) -> Result<Job, Word
         "trace" => trace_job(alloc, found),
         "circuit" => circuit_job(alloc, found),
         "span" => span_job(alloc, found),
+        "steps" => steps_job(alloc, found),
+        "call" => call_job(alloc, found),
         _ => Err(WordFault::Refused),
     }
 }
@@ -211,6 +213,40 @@ fn span_job(alloc: Global, found: &ArgMatches<'_>) -> Result<Job, WordFault>
     })
 }
 
+/// The job of the words behind `steps`; a part of the steps that can't be is refused.
+fn steps_job(alloc: Global, found: &ArgMatches<'_>) -> Result<Job, WordFault>
+    ensures ok { IfOk result (λ done. steps_job (rows_of (found_of found.now)) ≡ Some (job_of done)) }
+    ensures refused { IsErrOf result Refused → steps_job (rows_of (found_of found.now)) ≡ None }
+{
+    let file = text_in(found, "file")?;
+    let budget = number_in(found, "budget")?;
+    let window = window_of(found).ok_or(WordFault::Refused)?;
+    Ok(Job::Steps {
+        file: Ident::from_text(alloc, file)?,
+        budget,
+        window,
+    })
+}
+
+/// The job of the words behind `call`.
+fn call_job(alloc: Global, found: &ArgMatches<'_>) -> Result<Job, WordFault>
+    ensures ok { IfOk result (λ done. call_job (rows_of (found_of found.now)) ≡ Some (job_of done)) }
+    ensures refused { IsErrOf result Refused → call_job (rows_of (found_of found.now)) ≡ None }
+{
+    let file = text_in(found, "file")?;
+    let workers = number_in(found, "workers")?;
+    let budget = number_in(found, "budget")?;
+    let numbers = numbers_in(alloc, found, "n")?;
+    Ok(Job::Call {
+        file: Ident::from_text(alloc, file)?,
+        numbers,
+        workers,
+        budget,
+        schedule: is_set(found, "schedule"),
+        tally: is_set(found, "tally"),
+    })
+}
+
 /// The part of a trace that was found.
 fn window_of(found: &ArgMatches<'_>) -> Option<Window>
     ensures { result ≡ window_of (rows_of (found_of found.now)) }
@@ -241,6 +277,42 @@ fn number_in(found: &ArgMatches<'_>, name: &str) -> Result<u32, WordFault>
     ensures refused { IfErr result (λ f. number_of name.now (rows_of (found_of found.now)) ≡ None) }
 {
     number_of(found, name).ok_or(WordFault::Refused)
+}
+
+/// The numbers that were found for an argument: none where it isn't given.
+fn numbers_in(alloc: Global, found: &ArgMatches<'_>, name: &str) -> Result<Vec<u64>, WordFault>
+    ensures ok { IfOk result (λ v. numbers_of name.now (rows_of (found_of found.now)) ≡ Some v.items) }
+    ensures refused { IsErrOf result Refused → numbers_of name.now (rows_of (found_of found.now)) ≡ None }
+{
+    match found.get_raw(name) {
+        Some(texts) => wide_numbers_in(alloc, texts),
+        None => Ok(Vec::new(alloc)),
+    }
+}
+
+/// The numbers that texts spell, each of which has to spell one.
+fn wide_numbers_in(alloc: Global, texts: &[&str]) -> Result<Vec<u64>, WordFault>
+    ensures ok { IfOk result (λ v. wide_numbers_in (map (λ s. s.now) texts.now) ≡ Some v.items) }
+    ensures refused { IsErrOf result Refused → wide_numbers_in (map (λ s. s.now) texts.now) ≡ None }
+{
+    let mut numbers = Vec::new(alloc);
+    for text in texts {
+        match wide_number_in(text) {
+            Some(number) => numbers.push(number)?,
+            None => return Err(WordFault::Refused),
+        }
+    }
+    Ok(numbers)
+}
+
+/// The number below 2 ^ 64 that a text spells.
+fn wide_number_in(text: &str) -> Option<u64>
+    ensures { result ≡ wide_number_in text.now }
+{
+    match text.parse::<u64>() {
+        Ok(number) => Some(number),
+        Err(_) => None,
+    }
 }
 
 /// The text that was found for an argument.

@@ -18,5 +18,6 @@ returns g c =
     let answer = c.answer_to-answer in
     let (outs, came_out, (errs, came_err, delivered)) = c.deliver.ensures in
     let untold = g.met.F.Files.lacked_untold c.args.files.now in
-    let promise = kept known _ answer.result asked c.deliver.result answer.ensures.kept untold answer.ensures.answers delivered in
+    let promise = kept known c.law_one_function.ensures _ answer.result asked c.deliver.result answer.ensures.kept untold
+    answer.ensures.answers delivered in
     record { promise = (outs, came_out, (errs, came_err, promise)); reads = answer.ensures.reads }

@@ -1,4 +1,4 @@
-use Rattle.goi_tasks.specs.declared.task.Task.TheVariants.{Check, ShowNet, Circuit, Span}
+use Rattle.goi_tasks.specs.declared.task.Task.TheVariants.{Check, ShowNet, Circuit, Span, Steps}
 use Rattle.goi_tasks.proofs.Texts.{by_these}
 use Rattle.goi_tasks.proofs.judge.report_text.Goals as goal
 
@@ -21,3 +21,8 @@ pub returns-in-Span-clause-report : goal.returns-in-Span-clause-report
 returns-in-Span-clause-report g c =
     by_these c.args.task (Span _ _ _ _) c.in-Span.is c.args.bytes.now (g.C.Crew.count c.args.crew.now) c.report_span.result
     c.report_span.ensures.report
+
+pub returns-in-Steps-clause-report : goal.returns-in-Steps-clause-report
+returns-in-Steps-clause-report g c =
+    by_these c.args.task (Steps _ _) c.in-Steps.is c.args.bytes.now (g.C.Crew.count c.args.crew.now) c.report_steps.result
+    c.report_steps.ensures.report

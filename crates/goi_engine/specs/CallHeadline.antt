@@ -1,0 +1,57 @@
+-- What `goi call FILE N ..` comes to, for whoever reads nothing else.
+-- It follows from `Promise`, as the headline does, and has the same form: the words ask for a call that prints neither its schedule nor its
+-- tally, the file is there, and its bytes are told. A text that takes as many numbers as there are is one term; what is printed is the
+-- value of that term applied to the numbers, and the length of that term's net.
+use Rattle.std.specs.Prelude.{◌≡◌, ◌⊎◌, ◌≤◌, ◌<◌, ℕ, IsTrue, List, [], Some, None, false, length}
+use Rattle.pcf_values.specs.declared.val.Val.{Val}
+use Rattle.pcf_values.specs.Terms.{TermTree}
+use Rattle.cbn_meaning.specs.Meaning.{Means}
+use Rattle.net_build.specs.NetOf.{net_of}
+use Rattle.adequacy_laws.specs.Questions.{Length}
+use Rattle.open_nets.specs.Applied.{applied}
+use Rattle.function_runs.specs.Functions.{CompilesText, FaultyFunction}
+use Rattle.program_runs.specs.declared.fault.ProgramFault.{ProgramFault}
+use Rattle.goi_words.specs.Asked.{job}
+use Rattle.goi_words.specs.Jobs.{call}
+use Rattle.goi_reports.specs.Lines.{result_lines}
+use Rattle.goi_tasks.specs.Refusals.{program_fault_line}
+use Rattle.goi_engine.specs.Deeds.{deed}
+use Rattle.goi_engine.specs.Writes.{Wrote}
+use Rattle.goi_engine.specs.Promise.{Call, NoneFailed, Promise}
+
+-- the text is this term, which takes as many numbers as these
+abbrev pub IsFunction : List ℕ → List ℕ → TermTree → Type 0
+IsFunction bytes numbers m = CompilesText bytes (length numbers) (m, length numbers)
+
+-- what the call of a text's function within a budget of moves comes to: its status, what is written to `out`, and what is written to `err`
+pub data CallOutcome (bytes numbers : List ℕ) (budget : ℕ) : ℕ → List ℕ → List ℕ → Type 0 where
+  -- 0: the application to the numbers has this value, and the length of its net is within the budget; both are printed
+  at_value : (m : TermTree) (v : Val) (n : ℕ) → IsFunction bytes numbers m → Means (applied m numbers) v →
+      Length (net_of (applied m numbers)) v n → n ≤ budget → CallOutcome bytes numbers budget 0 (result_lines (Some v) n) []
+  -- 5: the length of its net is absent or above the budget
+  at_none : (m : TermTree) → IsFunction bytes numbers m →
+      ((v : Val) (n : ℕ) → Length (net_of (applied m numbers)) v n → budget < n) →
+      CallOutcome bytes numbers budget 5 (result_lines None budget) []
+  -- 1: the text is no function of so many numbers, for this fault, which is its first
+  at_fault : (f : ProgramFault) → FaultyFunction (length numbers) bytes f →
+      CallOutcome bytes numbers budget 1 [] (program_fault_line f)
+
+-- a call that ended with status 0, 5 or 1 wrote what it comes to; and where nothing fails, one of the three comes, or 6 for memory
+pub record CallComesTo (bytes numbers : List ℕ) (budget : ℕ) (c : Call) (status : ℕ) : Type 0 where
+  pub right : (status ≡ 0) ⊎ (status ≡ 5) ⊎ (status ≡ 1) →
+      (report line : List ℕ) × CallOutcome bytes numbers budget status report line × Wrote report c.out × Wrote line c.err
+  pub comes : NoneFailed c → ((status ≡ 0) ⊎ (status ≡ 5) ⊎ (status ≡ 1)) ⊎ (status ≡ 6)
+
+-- so it is with each call that keeps the promise, whatever its number of workers
+abbrev pub CallHeadline : Type 0
+CallHeadline =
+    (words : List (List ℕ)) (file bytes numbers : List ℕ) (workers budget : ℕ) (c : Call) (status : ℕ) →
+    job words ≡ Some (call file numbers workers budget false false) → c.old.told file ≡ Some bytes → (IsTrue (c.old.lacks file) → ⊥) →
+    Promise (deed (job words)) c status → CallComesTo bytes numbers budget c status
+
+-- and a call comes to one outcome alone
+abbrev pub OneCallOutcome : Type 0
+OneCallOutcome =
+    (bytes numbers : List ℕ) (budget s r : ℕ) (report other line other_line : List ℕ) →
+    CallOutcome bytes numbers budget s report line → CallOutcome bytes numbers budget r other other_line →
+    (s ≡ r) × (report ≡ other) × (line ≡ other_line)

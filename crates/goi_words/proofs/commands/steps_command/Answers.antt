@@ -1,0 +1,10 @@
+use Rattle.std.proofs.lemmas.Result.{IfOk-weaker}
+use Rattle.goi_words.proofs.Building.{more_rules}
+use Rattle.goi_words.proofs.commands.steps_command.Goals as goal
+
+pub returns : goal.returns
+returns c =
+    let with_first = more_rules _ _ _ _ _ c.in_ok-arg.ensures c.from_option.ensures.local c.from_option.ensures.rule
+    c.in_ok-bare_steps_command.ensures in
+    IfOk-weaker c.arg-2.result _ _
+    (λ command added. more_rules _ _ _ _ _ added c.told_option.ensures.local c.told_option.ensures.rule with_first) c.arg-2.ensures
