@@ -85,6 +85,9 @@ enum {
 #define GOI_FROM_MAX 10000000u
 #define GOI_TRACED_MAX 1000000u
 
+/* The same of the steps of a reduction: the last one to begin with is GOI_FROM_MAX too. */
+#define GOI_STEPS_MAX 100000u
+
 /* The bits of a circuit's stacks and its forks, as `goi circuit` takes them: by default, the least and the most. */
 #define GOI_STACK 128u
 #define GOI_STACK_MIN 8u
@@ -114,7 +117,7 @@ enum {
 
 /* What a text is taken for, where its first fault is asked for. */
 #define GOI_AS_PROGRAM 0u           /* a program of any type, as goi_check takes it */
-#define GOI_AS_NUMBER 1u            /* one of type `nat`, as goi_run, goi_tell, goi_trace, goi_span, goi_net and goi_circuit take it */
+#define GOI_AS_NUMBER 1u            /* one of type `nat`, as goi_run, goi_tell, goi_trace, goi_span, goi_steps, goi_net and goi_circuit do */
 #define GOI_AS_BY_VALUE 2u          /* one that is run with GOI_BY_VALUE */
 #define GOI_AS_LISTING 3u           /* the listing of a program's net, as goi_run_net takes it */
 #define GOI_AS_FUNCTION(n) (4u + (n)) /* a function of n numbers, as goi_tell_each takes it */
@@ -211,6 +214,11 @@ goi_status goi_replay_trace(const void *text, size_t text_size, const void *sche
  * GOI_PROFILE a line for each round, and with GOI_SCHEDULE the schedule of the rounds. The flags are a sum of GOI_BY_VALUE and these two.
  * (CallsSpan) */
 goi_status goi_span(const void *text, size_t text_size, uint32_t budget, uint32_t flags, void *out, size_t out_size, size_t *needed);
+
+/* Rewrites the program by name, at most `budget` steps, and gives back what `goi steps` prints: the value or `no value`, the number of steps,
+ * and the terms from step `from` on, counted from 0, of at most `most` steps, each with the part that is rewritten next. (CallsSteps) */
+goi_status goi_steps(const void *text, size_t text_size, uint32_t budget, uint32_t from, uint32_t most, void *out, size_t out_size,
+                     size_t *needed);
 
 /* Gives back the circuit of the program's net, with stacks of so many bits and so many forks, as `goi circuit` prints it. (CallsCircuit) */
 goi_status goi_circuit(const void *text, size_t text_size, uint32_t stack, uint32_t forks, void *out, size_t out_size, size_t *needed);

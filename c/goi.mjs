@@ -127,6 +127,7 @@ export async function load(source = new URL("goi.wasm", import.meta.url), most =
     run: (text, { budget = BUDGET, byValue = false, schedule = false } = {}) => call("goi_run", [text], [budget, byValue + 2 * schedule]),
     span: (text, { budget = BUDGET, byValue = false, schedule = false, profile = false } = {}) =>
       call("goi_span", [text], [budget, byValue + 2 * schedule + 4 * profile]),
+    steps: (text, { budget = BUDGET, from = 0, most: lines = 1000 } = {}) => call("goi_steps", [text], [budget, from, lines]),
     trace: (text, { budget = BUDGET, byValue = false, from = 0, most: lines = 100_000 } = {}) =>
       call("goi_trace", [text], [budget, byValue, from, lines]),
     runNet: (text, { budget = BUDGET, schedule = false } = {}) => call("goi_run_net", [text], [budget, schedule]),

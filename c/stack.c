@@ -14,7 +14,7 @@ static char text[(1 << 20) + 1], schedule[1 << 20], listing[1 << 24], out[1 << 2
 static size_t size, schedule_size, listing_size;
 static int passed, failed;
 static const char *const calls[] = {"run", "run by value", "check", "net", "replay", "trace", "span", "circuit", "replay with a trace",
-                                    "a function's rows", "a fault", "run-net"};
+                                    "a function's rows", "a fault", "steps", "run-net"};
 enum { CALLS = sizeof calls / sizeof *calls };
 
 static void *work(void *at) {
@@ -35,6 +35,7 @@ static void *work(void *at) {
     case 8: status = goi_replay_trace(text, size, schedule, schedule_size, 0, 1000, out, sizeof out, &needed); break;
     case 9: status = goi_tell_each(text, size, 0, &none, 0, GOI_BUDGET_MAX, answers, 2, out, sizeof out, &needed); break;
     case 10: status = goi_find_fault(text, size, GOI_AS_NUMBER, &fault); break;
+    case 11: status = goi_steps(text, size, 100, 0, 100, out, sizeof out, &needed); break;
     default: status = goi_run_net(listing, listing_size, GOI_BUDGET_MAX, false, out, sizeof out, &needed);
     }
     return status == GOI_OK || status == GOI_NO_VALUE ? at : 0;

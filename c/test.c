@@ -65,6 +65,8 @@ static goi_status call(const row *r, goi_answer *answer, void *out, size_t size,
     if (!strcmp(r->call, "check")) return goi_check(r->text, n, r->flags != 0, out, size, needed);
     if (!strcmp(r->call, "net")) return goi_net(r->text, n, out, size, needed);
     if (!strcmp(r->call, "span")) return goi_span(r->text, n, r->budget, r->flags, out, size, needed);
+    /* (the flags are how many steps are told at most) */
+    if (!strcmp(r->call, "steps")) return goi_steps(r->text, n, r->budget, 0, r->flags, out, size, needed);
     if (!strcmp(r->call, "version_text")) return goi_version_text(out, size, needed);
     /* (the budget is the move with which the trace begins, and the flags are how many moves it has at most) */
     if (!strcmp(r->call, "replay_trace"))
@@ -148,6 +150,13 @@ static const row rows[] = {
     {"replay_trace", "1", "schedule 1\nend\n", GOI_FROM_MAX + 1, 1, GOI_BAD_CALL, ""},
     {"replay_trace", "1", "schedule 1\nend\n", 0, 0, GOI_BAD_CALL, ""},
     {"replay_trace", "1", "schedule 1\nend\n", 0, GOI_TRACED_MAX + 1, GOI_BAD_CALL, ""},
+    {"steps", "1 + 2", 0, GOI_BUDGET_MAX, GOI_STEPS_MAX, GOI_OK, "value 3\nsteps 1\nstep 0 plus 0 5 1 + 2\nend 1 3\n"},
+    {"steps", "fix x:nat. x", 0, 1, 1, GOI_NO_VALUE, "no value\nsteps 1\nstep 0 fix 0 12 fix x:nat. x\nstop 1 budget\n"},
+    {"steps", "fun x:nat. x", 0, 1, 1, GOI_REFUSED, "refused: NotGround\n"},
+    {"steps", "1", 0, 0, 1, GOI_BAD_CALL, ""},
+    {"steps", "1", 0, GOI_BUDGET_MAX + 1, 1, GOI_BAD_CALL, ""},
+    {"steps", "1", 0, 1, 0, GOI_BAD_CALL, ""},
+    {"steps", "1", 0, 1, GOI_STEPS_MAX + 1, GOI_BAD_CALL, ""},
     {"span", "1", 0, 10000, 0, GOI_OK, "value 1\nmoves 2\nrounds 2\nwidest 1\n"},
     {"span", "1", 0, 10000, GOI_SCHEDULE, GOI_OK, "value 1\nmoves 2\nrounds 2\nwidest 1\nschedule 2\n0 2\nend\n"},
     {"span", "1", 0, 10000, GOI_PROFILE, GOI_OK,

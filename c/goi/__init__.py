@@ -25,6 +25,7 @@ LINE_SIZE = 64
 STACK_SIZE = 4 << 20
 FROM_MAX = 10_000_000
 TRACED_MAX = 1_000_000
+STEPS_MAX = 100_000
 STACK, STACK_MIN, STACK_MAX = 128, 8, 4096
 FORKS, FORKS_MAX = 64, 1024
 ARGUMENTS_MAX = 1000
@@ -82,6 +83,7 @@ for _name, _words in {
     "goi_replay": [*_text, *_text, *_back],
     "goi_replay_trace": [*_text, *_text, ctypes.c_uint32, ctypes.c_uint32, *_back],
     "goi_span": [*_text, ctypes.c_uint32, ctypes.c_uint32, *_back],
+    "goi_steps": [*_text, ctypes.c_uint32, ctypes.c_uint32, ctypes.c_uint32, *_back],
     "goi_circuit": [*_text, ctypes.c_uint32, ctypes.c_uint32, *_back],
     "goi_tell_each": [*_text, ctypes.c_uint32, *_numbers, ctypes.c_uint32, ctypes.POINTER(_Answer), ctypes.c_size_t, *_back],
     "goi_find_fault": [*_text, ctypes.c_uint32, ctypes.POINTER(_Fault)],
@@ -227,6 +229,12 @@ def span(text, budget=BUDGET, by_value=False, schedule=False, profile=False):
     text = _bytes(text)
     flags = int(by_value) + 2 * int(schedule) + 4 * int(profile)
     return _judged(*call("goi_span", *text, _number(budget), flags), text, _run_as(by_value))
+
+
+def steps(text, budget=BUDGET, start=0, most=1000):
+    """What `goi steps` prints: the value, the number of steps by name, and the terms from step `start` on, of at most `most` steps."""
+    text = _bytes(text)
+    return _judged(*call("goi_steps", *text, _number(budget), _number(start), _number(most)), text, AS_NUMBER)
 
 
 def trace(text, budget=BUDGET, by_value=False, start=0, most=100_000):

@@ -64,6 +64,9 @@ pub mod sys {
         pub fn goi_span(
             text: *const u8, text_size: usize, budget: u32, flags: u32, out: *mut u8, out_size: usize, needed: *mut usize,
         ) -> u32;
+        pub fn goi_steps(
+            text: *const u8, text_size: usize, budget: u32, from: u32, most: u32, out: *mut u8, out_size: usize, needed: *mut usize,
+        ) -> u32;
         pub fn goi_circuit(
             text: *const u8, text_size: usize, stack: u32, forks: u32, out: *mut u8, out_size: usize, needed: *mut usize,
         ) -> u32;
@@ -88,6 +91,8 @@ pub const STACK_SIZE: usize = 4 << 20;
 pub const FROM_MAX: u32 = 10_000_000;
 /// The most moves that a part of a trace may have.
 pub const TRACED_MAX: u32 = 1_000_000;
+/// The most steps of a reduction that are told.
+pub const STEPS_MAX: u32 = 100_000;
 /// The bits of a circuit's stacks, by default, the least and the most.
 pub const STACK: u32 = 128;
 pub const STACK_MIN: u32 = 8;
@@ -450,6 +455,14 @@ pub fn span(text: impl AsRef<[u8]>, budget: u32, by_value: bool, schedule: bool,
     })
 }
 
+/// What `goi steps` prints: the value, the number of steps of the reduction by name, and its terms from a step on, of at most so many steps.
+pub fn steps(text: impl AsRef<[u8]>, budget: u32, from: u32, most: u32) -> Result<String, Error> {
+    let text = text.as_ref();
+    text_of(Judged::Text(text, Taken::Number), |out, needed| unsafe {
+        sys::goi_steps(text.as_ptr(), text.len(), budget, from, most, out.as_mut_ptr(), out.len(), needed)
+    })
+}
+
 /// What `goi trace` prints: the value and the moves, and the walk from a move on, of at most so many moves.
 pub fn trace(text: impl AsRef<[u8]>, budget: u32, by_value: bool, from: u32, most: u32) -> Result<String, Error> {
     let text = text.as_ref();
@@ -618,6 +631,18 @@ mod tests {
         assert!(span("4", BUDGET, true, false, false).unwrap().starts_with("value 4\nmoves 34\n"));
         assert_eq!(span("4", 0, false, false, false), Err(Error::BadCall));
         assert_eq!(span("fst (1, 2)", BUDGET, true, false, false), refused(Kind::ByValuePair, 0, "ByValuePair(0)"));
+    }
+
+    #[test]
+    fn reductions() {
+        let whole = "value 3\nsteps 1\nstep 0 plus 0 5 1 + 2\nend 1 3\n";
+        assert_eq!(steps("1 + 2", BUDGET, 0, STEPS_MAX).as_deref(), Ok(whole));
+        assert_eq!(steps("1 + 2", BUDGET, 1, 1).as_deref(), Ok("value 3\nsteps 1\nend 1 3\n"));
+        assert_eq!(steps("fix x:nat. x", 1, 0, 1).as_deref(), Ok("no value\nsteps 1\nstep 0 fix 0 12 fix x:nat. x\nstop 1 budget\n"));
+        for (budget, from, most) in [(0, 0, 1), (BUDGET_MAX + 1, 0, 1), (1, FROM_MAX + 1, 1), (1, 0, 0), (1, 0, STEPS_MAX + 1)] {
+            assert_eq!(steps("1", budget, from, most), Err(Error::BadCall));
+        }
+        assert_eq!(steps("fun x:nat. x", BUDGET, 0, 1), refused(Kind::NotGround, None, "NotGround"));
     }
 
     #[test]

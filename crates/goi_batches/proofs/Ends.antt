@@ -11,7 +11,7 @@ use Rattle.batch_pool.specs.Batches.{JobFits, BatchFits}
 use Rattle.batch_pool.specs.Running.{IsRunOf, AreRuns}
 use Rattle.goi_reports.specs.Forms.{AnswerFits}
 use Rattle.goi_reports.specs.Reports.{run_report}
-use Rattle.goi_words.specs.Jobs.{IsWorkers, IsBudget}
+use Rattle.goi_jobs.specs.Jobs.{IsWorkers, IsBudget}
 use Rattle.goi_tasks.specs.Outputs.{output, output_of}
 use Rattle.goi_tasks.specs.declared.report.Report.{Report}
 use Rattle.goi_tasks.specs.Replaying.{replay_status}

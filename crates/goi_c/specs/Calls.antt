@@ -4,11 +4,11 @@ use Rattle.std.specs.Prelude.{◌≡◌, ◌≢◌, ◌≤◌, ◌<◌, ◌/◌,
 use Rattle.std.specs.Prelude.{nat_eq, codes}
 use Rattle.pcf_values.specs.declared.val.Val.{Val}
 use Rattle.pcf_values.specs.declared.val.Val.TheVariants.{Number, Overflow}
-use Rattle.goi_words.specs.declared.jobs.Window.{Window}
-use Rattle.goi_words.specs.Jobs.{IsBudget, IsForks, IsStack, IsWindow}
+use Rattle.goi_jobs.specs.declared.jobs.Window.{Window}
+use Rattle.goi_jobs.specs.Jobs.{IsBudget, IsForks, IsPart, IsStack, IsWindow}
 use Rattle.goi_tasks.specs.declared.fault.Fault.{Fault}
 use Rattle.goi_tasks.specs.declared.task.Task.{Task}
-use Rattle.goi_tasks.specs.declared.task.Task.TheVariants.{Circuit, Run, RunNet, Span, Trace}
+use Rattle.goi_tasks.specs.declared.task.Task.TheVariants.{Circuit, Run, RunNet, Span, Steps, Trace}
 use Rattle.goi_tasks.specs.Outputs.{Output}
 use Rattle.goi_tasks.specs.Refusals.{most_line, IsLine, fault_status}
 use Rattle.program_runs.specs.declared.calling.Calling.{Calling}
@@ -100,6 +100,16 @@ span_task budget flags = Span budget (calling_of (by_value_in flags)) (profile_i
 
 abbrev pub CallsSpan : List ℕ → ℕ → ℕ → Back → Type 0
 CallsSpan bytes budget flags b = WhereAsked (IsAsked 8 budget flags) b (CallsTask (span_task budget flags) bytes b)
+
+-- the call of the reduction of a text's program, with that part of its terms
+abbrev pub IsAskedSteps : ℕ → Window → Type 0
+IsAskedSteps budget window = IsBudget budget × IsPart window
+
+abbrev pub steps_task : ℕ → Window → Task
+steps_task budget window = Steps budget window
+
+abbrev pub CallsSteps : List ℕ → ℕ → Window → Back → Type 0
+CallsSteps bytes budget window b = WhereAsked (IsAskedSteps budget window) b (CallsTask (steps_task budget window) bytes b)
 
 -- the call of the circuit of a text's program, with stacks of so many bits and so many forks
 abbrev pub IsAskedCircuit : ℕ → ℕ → Type 0

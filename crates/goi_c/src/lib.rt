@@ -14,6 +14,7 @@ mod marks;
 mod rows;
 mod running;
 mod spanning;
+mod stepping;
 mod telling;
 mod version;
 
@@ -24,5 +25,6 @@ pub use marks::Mark;
 pub use rows::goi_tell_each;
 pub use running::{goi_run, goi_run_net, goi_trace};
 pub use spanning::goi_span;
+pub use stepping::goi_steps;
 pub use telling::{Answer, goi_tell};
 pub use version::{goi_version, goi_version_text};

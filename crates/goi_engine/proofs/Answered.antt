@@ -18,8 +18,8 @@ use Rattle.goi_tasks.specs.Calls.{ReportsCall, FaultyCall}
 use Rattle.goi_tasks.specs.Outputs.{output_of}
 use Rattle.program_runs.specs.Programs.{IsGround, OfGround}
 use Rattle.goi_tasks.specs.Programs.{FaultyEither}
-use Rattle.goi_words.specs.declared.jobs.Window.{Window}
-use Rattle.goi_words.specs.Jobs.{JobTree, call}
+use Rattle.goi_jobs.specs.declared.jobs.Window.{Window}
+use Rattle.goi_jobs.specs.Jobs.{JobTree, call}
 use Rattle.goi_tasks.specs.Tasks.{shown}
 use Rattle.goi_tasks.specs.Replaying.{ReportsReplay, FaultySchedule}
 use Rattle.goi_engine.specs.Verdicts.{HasNumber, ReadFor}

@@ -39,7 +39,7 @@ use Rattle.program_runs.specs.Nets.{IsNetFor}
 use Rattle.program_runs.specs.Programs.{Wanted, any_type, number, wanted_by_run, IsProgram, OfProgram}
 use Rattle.program_runs.specs.Programs.{IsGround, FaultyProgram, unread, of_tree}
 use Rattle.goi_tasks.specs.Programs.{FaultyText, no_program}
-use Rattle.goi_words.specs.declared.jobs.Window.{Window}
+use Rattle.goi_jobs.specs.declared.jobs.Window.{Window}
 use Rattle.goi_tasks.specs.Replaying.{ReportsReplay, FaultySchedule, unread as no_schedule, unmoved}
 use Rattle.goi_tasks.specs.Tasks.{most_bytes, ReportsText, FaultyFor}
 use Rattle.goi_tasks.proofs.Texts.{ground_net}

@@ -14,7 +14,7 @@ use Rattle.program_runs.specs.Nets.{RunsAs}
 use Rattle.program_runs.specs.Programs.{number, IsGround}
 use Rattle.goi_tasks.specs.Programs.{FaultyText}
 use Rattle.goi_tasks.specs.Refusals.{TellsFault}
-use Rattle.goi_words.specs.declared.jobs.Window.{Window}
+use Rattle.goi_jobs.specs.declared.jobs.Window.{Window}
 use Rattle.goi_tasks.specs.Replaying.{ReportsReplay, FaultySchedule}
 use Rattle.goi_tasks.specs.Tasks.{ReportsText, FaultyFor}
 use Rattle.batch_lists.specs.declared.fault.BatchFault.{BatchFault}

@@ -12,7 +12,7 @@ use Rattle.open_nets.specs.Applied.{applied}
 use Rattle.function_runs.specs.Functions.{CompilesText, FaultyFunction}
 use Rattle.program_runs.specs.declared.fault.ProgramFault.{ProgramFault}
 use Rattle.goi_words.specs.Asked.{job}
-use Rattle.goi_words.specs.Jobs.{call}
+use Rattle.goi_jobs.specs.Jobs.{call}
 use Rattle.goi_reports.specs.Lines.{result_lines}
 use Rattle.goi_tasks.specs.Refusals.{program_fault_line}
 use Rattle.goi_engine.specs.Deeds.{deed}

@@ -1,8 +1,8 @@
 -- What a job does with files: a task with the text of one, a schedule on the net of a program, the programs of a list, a call of a
 -- function, or a run that needs no file.
 use Rattle.std.specs.Prelude.{ℕ, false, List, Option, None, Some}
-use Rattle.goi_words.specs.Jobs.{JobTree, run, check, show_net, replay, demo, run_net, batch, trace, circuit, span, steps, call}
-use Rattle.goi_words.specs.declared.jobs.Window.{Window}
+use Rattle.goi_jobs.specs.Jobs.{JobTree, run, check, show_net, replay, demo, run_net, batch, trace, circuit, span, steps, call}
+use Rattle.goi_jobs.specs.declared.jobs.Window.{Window}
 use Rattle.program_runs.specs.Programs.{calling_of}
 use Rattle.goi_tasks.specs.declared.shown.Shown.{Shown}
 use Rattle.goi_tasks.specs.declared.task.Task.{Task}

@@ -11,7 +11,7 @@ use Rattle.adequacy_laws.specs.Questions.{Length}
 use Rattle.program_runs.specs.declared.fault.ProgramFault.{ProgramFault}
 use Rattle.program_runs.specs.Programs.{number, IsGround, FaultyProgram}
 use Rattle.goi_words.specs.Asked.{job}
-use Rattle.goi_words.specs.Jobs.{run}
+use Rattle.goi_jobs.specs.Jobs.{run}
 use Rattle.goi_reports.specs.Lines.{result_lines}
 use Rattle.goi_tasks.specs.Refusals.{program_fault_line}
 use Rattle.goi_engine.specs.Deeds.{deed}

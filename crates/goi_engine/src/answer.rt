@@ -5,7 +5,7 @@ ghost use Rattle.pcf_values.specs.Most.{most_budget, most_workers, most_program_
 ghost use Rattle.pcf_values.specs.Terms.{TermTree};
 ghost use Rattle.interleave_laws.specs.Runs.{Runs};
 ghost use Rattle.goi_words.specs.Asked.{job};
-ghost use Rattle.goi_words.specs.Jobs.{IsDemo, IsWithinLimits, IsWorkers, job_of};
+ghost use Rattle.goi_jobs.specs.Jobs.{IsDemo, IsWithinLimits, IsWorkers, job_of};
 ghost use Rattle.goi_engine.specs.Answers.{Answers, AnswersDeed, AnswersTask, AnswersSchedule, AnswersNoNet, MadeNet, Says, IsStopped};
 ghost use Rattle.goi_engine.specs.Deeds.{deed, deed_of, with_schedule};
 ghost use Rattle.goi_engine.specs.FilesSeen.{LoadedBy};
@@ -26,11 +26,12 @@ use crate::batching::answer_batch;
 use crate::calling::answer_call;
 use crate::load::{LoadError, load};
 use gate_workers::Gate;
+use goi_jobs::{Job, Window};
 use goi_tasks::{
     Refusal, Report, Shown, Stop, Task, Watched, most_bytes, progress_of, refuse, report_demo,
     report_replay, report_text,
 };
-use goi_words::{Job, Window, WordFault, job_of};
+use goi_words::{WordFault, job_of};
 use goi_world::Files;
 use metered_pool::watch_net;
 use net_build::Net;

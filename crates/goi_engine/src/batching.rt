@@ -4,7 +4,7 @@ ghost use Rattle.std.specs.Prelude.{◌≡◌, ◌≤◌, ◌++◌, ◌∷◌, [
 ghost use Rattle.pcf_values.specs.Most.{most_program_bytes};
 ghost use Rattle.batch_lists.specs.Limits.{most_job_budget, most_jobs};
 ghost use Rattle.batch_lists.specs.Lists.{IsList};
-ghost use Rattle.goi_words.specs.Jobs.{IsWorkers};
+ghost use Rattle.goi_jobs.specs.Jobs.{IsWorkers};
 ghost use Rattle.goi_batches.specs.declared.judged.Judged.{Judged};
 ghost use Rattle.goi_batches.specs.Judging.{IsJudged, AreJudged};
 ghost use Rattle.goi_batches.specs.Sections.{Listed, listed, ReportsBatch};

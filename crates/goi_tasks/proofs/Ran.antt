@@ -12,14 +12,14 @@ use Rattle.schedule_log.proofs.Taken.{tickets_all}
 use Rattle.demo_text.specs.Demo.{demo_term}
 use Rattle.goi_reports.specs.Forms.{AnswerFits}
 use Rattle.goi_reports.specs.Reports.{run_report, demo_report}
-use Rattle.goi_words.specs.Jobs.{IsBudget}
+use Rattle.goi_jobs.specs.Jobs.{IsBudget}
 use Rattle.net_runs.specs.Running.{IsRun, IsFirstWorkers}
 use Rattle.program_runs.specs.declared.calling.Calling.{Calling}
 use Rattle.program_runs.specs.Nets.{RunsAs}
 use Rattle.program_runs.specs.RunsText.{Tells, meaning, net_run, IsProgramRun, RunsText}
 use Rattle.program_runs.proofs.Telling.{run_of}
 use Rattle.walk_text.specs.Traces.{trace_text}
-use Rattle.goi_words.specs.declared.jobs.Window.{Window}
+use Rattle.goi_jobs.specs.declared.jobs.Window.{Window}
 use Rattle.goi_tasks.specs.declared.report.Report.{Report}
 use Rattle.goi_tasks.specs.declared.shown.Shown.{Shown}
 use Rattle.goi_tasks.specs.Notes.{NumbersOf, NotesOf, progress_lines}

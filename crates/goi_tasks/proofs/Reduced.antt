@@ -13,7 +13,7 @@ use Rattle.program_runs.specs.declared.calling.Calling.TheVariants.{ByName}
 use Rattle.program_runs.specs.declared.fault.ProgramFault.TheVariants.{NotGround}
 use Rattle.program_runs.specs.Programs.{number, FaultyTree}
 use Rattle.program_runs.proofs.Texts.{unfit}
-use Rattle.goi_words.specs.declared.jobs.Window.{Window}
+use Rattle.goi_jobs.specs.declared.jobs.Window.{Window}
 use Rattle.goi_tasks.specs.declared.fault.Fault.TheVariants.{Program}
 use Rattle.goi_tasks.specs.declared.report.Report.{Report}
 use Rattle.goi_tasks.specs.declared.task.Task.TheVariants.{Steps}
@@ -42,13 +42,16 @@ pub reduces : AcceptedIsTyped → ToldIsMeant → NoneIsLimit → MeansLength �
     ReducesTree budget window tree o
 reduces sound told none lasts budget window tree t A o d fit e same =
     let typed : type_of [] tree ≡ Ok (t, nat) = subst (λ (A : TyTree). type_of [] tree ≡ Ok (t, A)) e d in
-    let both = sound [] tree t nat typed in
-    (t, typed, record {
-      output_is = same;
-      meant = λ v m. told window.from window.most most_step_nodes budget tree t v both.0 m;
-      lasts = λ v m. (lasts t (both.1 fit) v).0 (told window.from window.most most_step_nodes budget tree t v both.0 m);
-      stopped = λ n. none window.from window.most most_step_nodes budget tree t both.0 (both.1 fit) n;
-    })
+    let both = sound [] tree t nat typed in (
+      t,
+      typed,
+      record {
+        output_is = same;
+        meant = λ v m. told window.from window.most most_step_nodes budget tree t v both.0 m;
+        lasts = λ v m. (lasts t (both.1 fit) v).0 (told window.from window.most most_step_nodes budget tree t v both.0 m);
+        stopped = λ n. none window.from window.most most_step_nodes budget tree t both.0 (both.1 fit) n;
+      },
+    )
 
 -- another type is the tree's fault
 pub no_nat : (tree : NamedTree) (t : TermTree) (A : TyTree) → type_of [] tree ≡ Ok (t, A) → A ≢ nat →

@@ -13,7 +13,7 @@ use Rattle.program_runs.specs.declared.calling.Calling.{Calling}
 use Rattle.program_runs.specs.Programs.{OfProgram, wanted_by_run}
 use Rattle.program_runs.specs.RunsText.{meaning, net_run, Tells, IsProgramRun}
 use Rattle.walk_text.specs.Traces.{trace_text}
-use Rattle.goi_words.specs.declared.jobs.Window.{Window}
+use Rattle.goi_jobs.specs.declared.jobs.Window.{Window}
 use Rattle.demo_text.specs.Demo.{demo_term}
 use Rattle.goi_tasks.specs.declared.shown.Shown.{Shown}
 use Rattle.goi_tasks.specs.Notes.{NotesOf}

@@ -14,7 +14,7 @@ use Rattle.step_text.specs.Courses.{course_value}
 use Rattle.program_runs.specs.Programs.{any_type, number, OfProgram, wanted_by_run}
 use Rattle.program_runs.specs.RunsText.{net_run}
 use Rattle.program_runs.specs.declared.calling.Calling.TheVariants.{ByName}
-use Rattle.goi_words.specs.Jobs.{IsBudget, IsWindow, IsPart}
+use Rattle.goi_jobs.specs.Jobs.{IsBudget, IsWindow, IsPart}
 use Rattle.goi_reports.specs.Reports.{check_report}
 use Rattle.goi_tasks.specs.declared.fault.Fault.{Fault}
 use Rattle.goi_tasks.specs.declared.shown.Shown.{Shown}

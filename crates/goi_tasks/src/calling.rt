@@ -5,7 +5,7 @@ ghost use Rattle.function_runs.specs.Functions.{FaultyFunction};
 ghost use Rattle.program_runs.specs.declared.calling.Calling.TheVariants.{ByName};
 ghost use Rattle.program_runs.specs.Nets.{RunsAs};
 ghost use Rattle.program_runs.specs.NoRuns.{NoRunFor};
-ghost use Rattle.goi_words.specs.Jobs.{IsBudget, IsWorkers};
+ghost use Rattle.goi_jobs.specs.Jobs.{IsBudget, IsWorkers};
 ghost use Rattle.goi_tasks.specs.Calls.{OfFunction, ReportsCall, FaultyCall};
 ghost use Rattle.goi_tasks.specs.Notes.{NumbersOf};
 ghost use Rattle.goi_tasks.specs.Outputs.{output_of};

@@ -2,7 +2,7 @@
 
 ghost use Rattle.std.specs.Prelude.{◌≡◌, ℕ, List, IfOk, IfErr};
 ghost use Rattle.program_runs.specs.Programs.{wanted_by_run};
-ghost use Rattle.goi_words.specs.Jobs.{IsBudget, IsWorkers};
+ghost use Rattle.goi_jobs.specs.Jobs.{IsBudget, IsWorkers};
 ghost use Rattle.goi_tasks.specs.declared.task.Task.TheVariants.{Run, RunNet, Trace};
 ghost use Rattle.goi_tasks.specs.NetFiles.{FaultyListing};
 ghost use Rattle.goi_tasks.specs.Notes.{NumbersOf};
@@ -21,7 +21,7 @@ use crate::span::report_span;
 use crate::steps::report_steps;
 use crate::stop::Stop;
 use crate::task::Task;
-use goi_words::Window;
+use goi_jobs::Window;
 use program_runs::{Calling, Crew, net_for};
 use std::alloc::Global;
 

@@ -3,7 +3,7 @@
 ghost use Rattle.std.specs.Prelude.{◌≡◌, ◌<◌, ◌^◌, ℕ, IfOk, IfErr, length};
 ghost use Rattle.pcf_values.specs.Terms.{TermTree};
 ghost use Rattle.interleave_laws.specs.Runs.{Runs};
-ghost use Rattle.goi_words.specs.Jobs.{IsBudget};
+ghost use Rattle.goi_jobs.specs.Jobs.{IsBudget};
 ghost use Rattle.goi_reports.specs.Spans.{span_report};
 ghost use Rattle.program_runs.specs.declared.calling.Calling.{Calling};
 ghost use Rattle.program_runs.specs.Nets.{RunsAs};

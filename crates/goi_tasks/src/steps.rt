@@ -17,7 +17,7 @@ use crate::report::{Report, plain};
 use crate::running::status_of;
 use crate::stop::Stop;
 use adequacy_laws::law_adequacy;
-use goi_words::Window;
+use goi_jobs::Window;
 use pcf_reader::{law_bounded, read_program};
 use pcf_types::{ground, law_correct, resolve_and_type};
 use pcf_values::{Named, Typed};

@@ -4,7 +4,7 @@ ghost use Rattle.std.specs.Prelude.{◌≡◌};
 ghost use Rattle.goi_tasks.specs.Tasks.{most_bytes, progress_of};
 
 use crate::shown::Shown;
-use goi_words::Window;
+use goi_jobs::Window;
 use net_text::limits::NET_TEXT_BYTES;
 use pcf_values::limits::PROGRAM_BYTES;
 use program_runs::Calling;

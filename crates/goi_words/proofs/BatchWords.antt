@@ -8,7 +8,7 @@ use Rattle.clap.specs.Takes.{is_given as is_row_given}
 use Rattle.pcf_values.specs.Most.{most_workers}
 use Rattle.goi_words.specs.Commands.{batch_command, goi_command}
 use Rattle.goi_words.specs.Asked.{batch_job, job, number_of, text_of}
-use Rattle.goi_words.specs.Jobs.{batch}
+use Rattle.goi_jobs.specs.Jobs.{batch}
 use Rattle.goi_words.specs.Plain.{IsPlain, Setting, ask_batch, has_option, meant, plain_words, setting_words, workers, workers_in}
 use Rattle.goi_words.proofs.Entering.{below_job}
 use Rattle.goi_words.proofs.Levels.{Gives}

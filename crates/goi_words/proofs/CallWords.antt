@@ -16,7 +16,7 @@ use Rattle.clap.specs.Takes.{is_given as is_row_given, value_passes}
 use Rattle.pcf_values.specs.Most.{most_workers, most_budget}
 use Rattle.goi_words.specs.Commands.{call_command, goi_command, numbers_operand}
 use Rattle.goi_words.specs.Asked.{call_job, is_set, job, number_of, numbers_of, text_of, wide_numbers_in}
-use Rattle.goi_words.specs.Jobs.{call}
+use Rattle.goi_jobs.specs.Jobs.{call}
 use Rattle.goi_words.specs.Plain.{IsPlain, Setting, ask_call, budget, budget_in, has_option, is_given, meant, option_name, option_value}
 use Rattle.goi_words.specs.Plain.{plain_words, schedule, setting_words, tally, workers, workers_in}
 use Rattle.goi_words.proofs.Entering.{below_job}

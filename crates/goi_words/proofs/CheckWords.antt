@@ -7,7 +7,7 @@ use Rattle.clap.specs.Faults.{check_fault, defaults_fault}
 use Rattle.clap.specs.Takes.{is_given as is_row_given}
 use Rattle.goi_words.specs.Commands.{check_command, goi_command}
 use Rattle.goi_words.specs.Asked.{check_job, is_set, job, text_of}
-use Rattle.goi_words.specs.Jobs.{check}
+use Rattle.goi_jobs.specs.Jobs.{check}
 use Rattle.goi_words.specs.Plain.{IsPlain, Setting, ask_check, has_option, is_given, meant, plain_words, setting_words, term}
 use Rattle.goi_words.proofs.Entering.{below_job}
 use Rattle.goi_words.proofs.Levels.{Gives}

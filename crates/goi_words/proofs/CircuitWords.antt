@@ -5,10 +5,10 @@ use Rattle.clap.specs.Walk.{Row, Text, walked, with_default, rows_after}
 use Rattle.clap.specs.Simple.{built}
 use Rattle.clap.specs.Faults.{check_fault, defaults_fault}
 use Rattle.clap.specs.Takes.{is_given as is_row_given}
-use Rattle.goi_words.specs.Defaults.{least_stack, most_forks, most_stack}
+use Rattle.goi_jobs.specs.Limits.{least_stack, most_forks, most_stack}
 use Rattle.goi_words.specs.Commands.{circuit_command, goi_command}
 use Rattle.goi_words.specs.Asked.{circuit_job, job, number_of, text_of}
-use Rattle.goi_words.specs.Jobs.{circuit}
+use Rattle.goi_jobs.specs.Jobs.{circuit}
 use Rattle.goi_words.specs.Plain.{IsPlain, Setting, ask_circuit, forks, forks_in, has_option, meant}
 use Rattle.goi_words.specs.Plain.{plain_words, setting_words, stack, stack_in}
 use Rattle.goi_words.proofs.Entering.{below_job}

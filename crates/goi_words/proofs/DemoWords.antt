@@ -9,7 +9,7 @@ use Rattle.clap.specs.Takes.{is_given as is_row_given}
 use Rattle.pcf_values.specs.Most.{most_workers, most_demo}
 use Rattle.goi_words.specs.Commands.{demo_command, goi_command, number_operand}
 use Rattle.goi_words.specs.Asked.{demo_job, job, number_of}
-use Rattle.goi_words.specs.Jobs.{IsDemo, demo}
+use Rattle.goi_jobs.specs.Jobs.{IsDemo, demo}
 use Rattle.goi_words.specs.Plain.{IsPlain, Setting, ask_demo, has_option, meant, option_name, plain_words, setting_words, workers}
 use Rattle.goi_words.specs.Plain.{workers_in}
 use Rattle.goi_words.proofs.Decimals.{decimal_kept, decimal_number, decimal_passes, decimal_value}

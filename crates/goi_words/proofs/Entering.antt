@@ -5,7 +5,7 @@ use Rattle.clap.specs.Words.{App, HasKind, HasMatchesOf, is_simple, is_simple_an
 use Rattle.clap.specs.declared.error.Error.{Error}
 use Rattle.clap.specs.declared.parser.matches.ArgMatches.{ArgMatches}
 use Rattle.goi_words.specs.Faults.{fault_by}
-use Rattle.goi_words.specs.declared.jobs.WordFault.TheVariants.{NoMemory, Refused}
+use Rattle.goi_words.specs.declared.faults.WordFault.TheVariants.{NoMemory, Refused}
 use Rattle.std.proofs.Common.{◌≡◌, ◌≢◌, ◌∙◌, ap, cond, refl, sym, false, List, [], ◌∷◌, Option, Some, None, Result, Ok, Err, IsErrAnd}
 use Rattle.std.proofs.Common.{IsErrOf, option_map, is_some}
 use Rattle.std.specs.Prelude.{Box}
@@ -19,8 +19,8 @@ use Rattle.goi_words.proofs.Levels.{Gives}
 use Rattle.goi_words.proofs.Tops.{Enters, fault_below, rows_below}
 use Rattle.goi_words.specs.Commands.{goi_command}
 use Rattle.goi_words.specs.Asked.{is_faultless, job, job_on, ◌>>=◌}
-use Rattle.goi_words.specs.Jobs.{JobTree}
-use Rattle.goi_words.specs.declared.jobs.WordFault.{WordFault}
+use Rattle.goi_jobs.specs.Jobs.{JobTree}
+use Rattle.goi_words.specs.declared.faults.WordFault.{WordFault}
 
 -- where a kind of error is listed, there is no job
 refused_kinds : (k : Kinds) (o : Option JobTree) → k ≢ [] → cond (is_faultless k) o None ≡ None

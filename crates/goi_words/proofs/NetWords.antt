@@ -7,7 +7,7 @@ use Rattle.clap.specs.Faults.{check_fault, defaults_fault}
 use Rattle.clap.specs.Takes.{is_given as is_row_given}
 use Rattle.goi_words.specs.Commands.{net_command, goi_command}
 use Rattle.goi_words.specs.Asked.{net_job, job, text_of}
-use Rattle.goi_words.specs.Jobs.{show_net}
+use Rattle.goi_jobs.specs.Jobs.{show_net}
 use Rattle.goi_words.specs.Plain.{IsPlain, Setting, ask_net, has_option, meant, plain_words, setting_words}
 use Rattle.goi_words.proofs.Entering.{below_job}
 use Rattle.goi_words.proofs.Levels.{Gives}

@@ -6,13 +6,14 @@ use Rattle.clap.specs.Simple.{built}
 use Rattle.clap.specs.Faults.{check_fault, defaults_fault}
 use Rattle.clap.specs.Takes.{is_given as is_row_given}
 use Rattle.pcf_values.specs.Most.{most_moves}
-use Rattle.goi_words.specs.Defaults.{default_most, most_traced}
+use Rattle.goi_words.specs.Defaults.{default_most}
+use Rattle.goi_jobs.specs.Limits.{most_traced}
 use Rattle.goi_words.specs.Commands.{replay_command, goi_command}
 use Rattle.goi_words.specs.Asked.{if_traced, is_set, replay_job, job, number_of, text_of}
-use Rattle.goi_words.specs.Jobs.{IsWindow, IsWindowIfAny, replay}
+use Rattle.goi_jobs.specs.Jobs.{IsWindow, IsWindowIfAny, replay}
 use Rattle.goi_words.specs.Plain.{IsPlain, Setting, ask_replay, from, from_in, has_option, is_given, meant, most, most_in, option_name}
 use Rattle.goi_words.specs.Plain.{plain_words, setting_words, traced}
-use Rattle.goi_words.specs.declared.jobs.Window.{Window}
+use Rattle.goi_jobs.specs.declared.jobs.Window.{Window}
 use Rattle.goi_words.proofs.Entering.{below_job}
 use Rattle.goi_words.proofs.Levels.{Gives, level_gives}
 use Rattle.goi_words.proofs.Requests.{after_operands, file_value, given_in_the_end, leaf, number_in_the_end, operand_at, set_in_the_end}

@@ -8,7 +8,7 @@ use Rattle.clap.specs.Takes.{is_given as is_row_given}
 use Rattle.pcf_values.specs.Most.{most_workers, most_budget}
 use Rattle.goi_words.specs.Commands.{run_net_command, goi_command}
 use Rattle.goi_words.specs.Asked.{run_net_job, is_set, job, number_of, text_of}
-use Rattle.goi_words.specs.Jobs.{run_net}
+use Rattle.goi_jobs.specs.Jobs.{run_net}
 use Rattle.goi_words.specs.Plain.{IsPlain, Setting, budget, budget_in, ask_run_net, has_option, is_given, meant, plain_words, schedule}
 use Rattle.goi_words.specs.Plain.{setting_words, tally, workers, workers_in}
 use Rattle.goi_words.proofs.Entering.{below_job}

@@ -8,7 +8,7 @@ use Rattle.clap.specs.Takes.{is_given as is_row_given}
 use Rattle.pcf_values.specs.Most.{most_workers, most_budget}
 use Rattle.goi_words.specs.Commands.{run_command, goi_command}
 use Rattle.goi_words.specs.Asked.{run_job, is_set, job, number_of, text_of}
-use Rattle.goi_words.specs.Jobs.{run}
+use Rattle.goi_jobs.specs.Jobs.{run}
 use Rattle.goi_words.specs.Plain.{IsPlain, Setting, budget, budget_in, by_value, ask_run, has_option, is_given, meant, plain_words}
 use Rattle.goi_words.specs.Plain.{progress, schedule, setting_words, tally, workers, workers_in}
 use Rattle.goi_words.proofs.Entering.{below_job}

@@ -9,8 +9,9 @@ use Rattle.std.specs.Str.{bytes_eq}
 use Rattle.clap.specs.Walk.{Held, Row, Rule, Text, arg_by_id, arg_by_long, has_row, row_text}
 use Rattle.clap.specs.Simple.{Shape, filled}
 use Rattle.pcf_values.specs.Most.{most_workers, most_budget, most_moves}
-use Rattle.goi_words.specs.Defaults.{most_traced, most_told, default_budget, default_forks, default_from, default_stack, default_workers}
-use Rattle.goi_words.specs.Defaults.{least_stack, most_stack, most_forks}
+use Rattle.goi_words.specs.Defaults.{default_budget, default_forks, default_from, default_stack, default_workers}
+use Rattle.goi_jobs.specs.Limits.{most_traced, most_told}
+use Rattle.goi_jobs.specs.Limits.{least_stack, most_stack, most_forks}
 use Rattle.goi_words.specs.Commands.{budget_option, flag, forks_option, from_option}
 use Rattle.goi_words.specs.Commands.{most_option, number_option, stack_option, told_option, workers_option}
 use Rattle.goi_words.specs.Asked.{number_in, ◌>>=◌}

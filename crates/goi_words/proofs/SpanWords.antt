@@ -8,7 +8,7 @@ use Rattle.clap.specs.Takes.{is_given as is_row_given}
 use Rattle.pcf_values.specs.Most.{most_budget}
 use Rattle.goi_words.specs.Commands.{span_command, goi_command}
 use Rattle.goi_words.specs.Asked.{span_job, is_set, job, number_of, text_of}
-use Rattle.goi_words.specs.Jobs.{span}
+use Rattle.goi_jobs.specs.Jobs.{span}
 use Rattle.goi_words.specs.Plain.{IsPlain, Setting, budget, budget_in, by_value, ask_span, has_option, is_given, meant, plain_words}
 use Rattle.goi_words.specs.Plain.{profile, schedule, setting_words}
 use Rattle.goi_words.proofs.Entering.{below_job}

@@ -6,13 +6,14 @@ use Rattle.clap.specs.Simple.{built}
 use Rattle.clap.specs.Faults.{check_fault, defaults_fault}
 use Rattle.clap.specs.Takes.{is_given as is_row_given}
 use Rattle.pcf_values.specs.Most.{most_budget, most_moves}
-use Rattle.goi_words.specs.Defaults.{default_told, most_told}
+use Rattle.goi_words.specs.Defaults.{default_told}
+use Rattle.goi_jobs.specs.Limits.{most_told}
 use Rattle.goi_words.specs.Commands.{steps_command, goi_command}
 use Rattle.goi_words.specs.Asked.{steps_job, job, number_of, text_of}
-use Rattle.goi_words.specs.Jobs.{steps}
+use Rattle.goi_jobs.specs.Jobs.{steps}
 use Rattle.goi_words.specs.Plain.{IsPlain, Setting, ask_steps, budget, budget_in, from, from_in, has_option, meant}
 use Rattle.goi_words.specs.Plain.{most_in, plain_words, setting_words, told}
-use Rattle.goi_words.specs.declared.jobs.Window.{Window}
+use Rattle.goi_jobs.specs.declared.jobs.Window.{Window}
 use Rattle.goi_words.proofs.Entering.{below_job}
 use Rattle.goi_words.proofs.Levels.{Gives}
 use Rattle.goi_words.proofs.Requests.{file_apart, file_row, IsFirst, one_operand, file_value, leaf, number_in_the_end, operand_at}

@@ -25,7 +25,7 @@ use Rattle.clap.proofs.ValueTestLemmas.{accepts-Accepts}
 use Rattle.goi_words.specs.Commands.{flag, number_option}
 use Rattle.clap.specs.declared.error.kind.ErrorKind.TheVariants as kind
 use Rattle.goi_words.specs.Asked.{job_on, number_in, number_of, text_of}
-use Rattle.goi_words.specs.Jobs.{IsWithinLimits, JobTree}
+use Rattle.goi_jobs.specs.Jobs.{IsWithinLimits, JobTree}
 use Rattle.goi_words.proofs.Found.{AreSound, AreTame, IsSound, IsTame, none_else, settled_sound, values_sound, walk_sound}
 use Rattle.goi_words.proofs.Numbers.{reads_itself}
 use Rattle.goi_words.proofs.Requests.{operand_at}

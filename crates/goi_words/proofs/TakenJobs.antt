@@ -9,7 +9,7 @@ use Rattle.clap.specs.Faults.{check_fault, defaults_fault, entered_fault, fault_
 use Rattle.clap.specs.Kinds.{Kinds}
 use Rattle.goi_words.specs.Commands.{goi_command}
 use Rattle.goi_words.specs.Asked.{is_faultless, is_taken, job, job_on, ◌>>=◌}
-use Rattle.goi_words.specs.Jobs.{IsWithinLimits, JobTree}
+use Rattle.goi_jobs.specs.Jobs.{IsWithinLimits, JobTree}
 use Rattle.goi_words.specs.Laws.{TakenWordsHaveAJob}
 use Rattle.goi_words.proofs.Entering.{entered_job as job_by}
 use Rattle.goi_words.proofs.Found.{found_in, none_else}

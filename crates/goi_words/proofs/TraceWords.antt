@@ -6,13 +6,14 @@ use Rattle.clap.specs.Simple.{built}
 use Rattle.clap.specs.Faults.{check_fault, defaults_fault}
 use Rattle.clap.specs.Takes.{is_given as is_row_given}
 use Rattle.pcf_values.specs.Most.{most_workers, most_budget, most_moves}
-use Rattle.goi_words.specs.Defaults.{default_most, most_traced}
+use Rattle.goi_words.specs.Defaults.{default_most}
+use Rattle.goi_jobs.specs.Limits.{most_traced}
 use Rattle.goi_words.specs.Commands.{trace_command, goi_command}
 use Rattle.goi_words.specs.Asked.{trace_job, is_set, job, number_of, text_of}
-use Rattle.goi_words.specs.Jobs.{trace}
+use Rattle.goi_jobs.specs.Jobs.{trace}
 use Rattle.goi_words.specs.Plain.{IsPlain, Setting, ask_trace, budget, budget_in, by_value, from, from_in, has_option, is_given, meant}
 use Rattle.goi_words.specs.Plain.{most, most_in, plain_words, setting_words, workers, workers_in}
-use Rattle.goi_words.specs.declared.jobs.Window.{Window}
+use Rattle.goi_jobs.specs.declared.jobs.Window.{Window}
 use Rattle.goi_words.proofs.Entering.{below_job}
 use Rattle.goi_words.proofs.Levels.{Gives}
 use Rattle.goi_words.proofs.Requests.{file_apart, file_row, IsFirst, one_operand, file_value, leaf, number_in_the_end, operand_at}

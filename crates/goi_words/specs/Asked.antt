@@ -9,8 +9,8 @@ use Rattle.std.specs.Str.Parse.{digits_value, without_leading_plus}
 use Rattle.clap.specs.ValueTests.{is_numeral}
 use Rattle.clap.specs.Words.{Kinds, Row, Text, all_of, fault_of, first_of, one_of, subcommand_of}
 use Rattle.goi_words.specs.Commands.{goi_command}
-use Rattle.goi_words.specs.Jobs.{JobTree, run, check, show_net, replay, demo, run_net, batch, trace, circuit, span, steps, call}
-use Rattle.goi_words.specs.declared.jobs.Window.{Window}
+use Rattle.goi_jobs.specs.Jobs.{JobTree, run, check, show_net, replay, demo, run_net, batch, trace, circuit, span, steps, call}
+use Rattle.goi_jobs.specs.declared.jobs.Window.{Window}
 
 infixl 10 ◌>>=◌
 abbrev pub ◌>>=◌ : {A B : Type 0} → Option A → (A → Option B) → Option B
@@ -130,6 +130,7 @@ span_job rows = do
   file ← text_of (codes "file") rows
   budget ← number_of (codes "budget") rows
   Some (span file budget (is_set (codes "by-value") rows) (is_set (codes "profile") rows) (is_set (codes "schedule") rows))
+
 abbrev pub call_job : List Row → Option JobTree
 call_job rows = do
   file ← text_of (codes "file") rows

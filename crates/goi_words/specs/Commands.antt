@@ -7,7 +7,7 @@ use Rattle.clap.specs.Words.{App, Rule, Shape, Text, app_of, new_rule}
 use Rattle.clap.specs.Lexer.{usize_max}
 use Rattle.clap.specs.Simple.{new_shape}
 use Rattle.pcf_values.specs.Most.{most_workers, most_budget, most_demo, most_moves}
-use Rattle.goi_words.specs.Defaults.{most_traced, most_told, least_stack, most_stack, most_forks}
+use Rattle.goi_jobs.specs.Limits.{most_traced, most_told, least_stack, most_stack, most_forks}
 use Rattle.clap.specs.declared.builder.action.ArgAction.TheVariants.{Set, SetTrue}
 use Rattle.clap.specs.declared.builder.command.Command.{Command}
 use Rattle.clap.specs.declared.builder.command.Command.TheViews.{out-Command}
@@ -135,6 +135,7 @@ circuit_command = command (codes "circuit") (operand (codes "file") ∷ stack_op
 abbrev pub span_command : Shape
 span_command = command (codes "span")
     (operand (codes "file") ∷ budget_option ∷ flag (codes "by-value") ∷ flag (codes "profile") ∷ flag (codes "schedule") ∷ [])
+
 abbrev pub call_command : Shape
 call_command = command (codes "call")
     (operand (codes "file") ∷ numbers_operand ∷ workers_option ∷ budget_option ∷ flag (codes "schedule") ∷ flag (codes "tally") ∷ [])

@@ -1,6 +1,4 @@
--- The numbers of the command line that no other crate speaks of: what an option is where the words don't give it, the most moves of a
--- trace, the most steps of a reduction that are told, and the sizes of a circuit. What goes into a run, as the most workers, is limited
--- where all crates find it.
+-- What an option is where the words don't give it.
 use Rattle.std.specs.Prelude.{ℕ}
 
 -- the workers of a run
@@ -19,31 +17,14 @@ default_from = 0
 abbrev pub default_most : ℕ
 default_most = 100000
 
--- the most moves of a trace that can be asked for
-abbrev pub most_traced : ℕ
-most_traced = 1000000
-
 -- the most steps of a reduction that are told
 abbrev pub default_told : ℕ
 default_told = 1000
 
--- the most of them that can be asked for
-abbrev pub most_told : ℕ
-most_told = 100000
-
--- the bits of each stack of a circuit, and the fewest and the most that can be asked for
+-- the bits of each stack of a circuit
 abbrev pub default_stack : ℕ
 default_stack = 128
 
-abbrev pub least_stack : ℕ
-least_stack = 8
-
-abbrev pub most_stack : ℕ
-most_stack = 4096
-
--- the forks of a circuit that can be open at once, and the most that can be asked for
+-- the forks of a circuit that can be open at once
 abbrev pub default_forks : ℕ
 default_forks = 64
-
-abbrev pub most_forks : ℕ
-most_forks = 1024

@@ -2,7 +2,7 @@
 use Rattle.std.specs.Prelude.{◌≡◌, true, List, [], ◌∷◌, None, Some, codes}
 use Rattle.clap.specs.Words.{Text}
 use Rattle.goi_words.specs.Asked.{is_taken, job}
-use Rattle.goi_words.specs.Jobs.{IsWithinLimits, JobTree}
+use Rattle.goi_jobs.specs.Jobs.{IsWithinLimits, JobTree}
 use Rattle.goi_words.specs.Plain.{IsPlain, Request, Setting, meant, plain_words}
 
 -- plain words are never refused, and ask for what the table says, whatever the program's name and whatever the order of the options

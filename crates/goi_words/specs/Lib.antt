@@ -1,10 +1,7 @@
--- what a reader has to believe: the numbers, the jobs, the command line as `clap` knows it, and what words ask for at it
+-- what a reader has to believe: what an option is by default, the command line as `clap` knows it, and what words ask for at it
 --
--- The numbers of the command line that no other crate speaks of: what an option is where the words don't give it, the most moves of a
--- trace, and the sizes of a circuit.
+-- What an option is where the words don't give it.
 pub mod Defaults
--- What the words of the command line can ask for, and the ranges of its numbers.
-pub mod Jobs
 -- The command line, as the argument of `clap`'s definition.
 pub mod Commands
 -- What a list of words asks for.

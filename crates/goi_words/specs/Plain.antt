@@ -8,12 +8,12 @@ use Rattle.std.specs.Fmt.{decimal}
 use Rattle.std.specs.Str.{bytes_eq}
 use Rattle.clap.specs.Lexer.{usize_max}
 use Rattle.clap.specs.Words.{Text}
-use Rattle.goi_words.specs.Jobs.{IsBudget, IsDemo, IsForks, IsFrom, IsMost, IsStack, IsTold, IsWorkers, JobTree}
-use Rattle.goi_words.specs.Jobs.{run, check, show_net, replay, demo, run_net, batch, trace, circuit, span, steps, call}
+use Rattle.goi_jobs.specs.Jobs.{IsBudget, IsDemo, IsForks, IsFrom, IsMost, IsStack, IsTold, IsWorkers, JobTree}
+use Rattle.goi_jobs.specs.Jobs.{run, check, show_net, replay, demo, run_net, batch, trace, circuit, span, steps, call}
 use Rattle.goi_words.specs.Defaults.{default_budget, default_forks, default_from, default_most, default_stack, default_told}
 use Rattle.goi_words.specs.Defaults.{default_workers}
 use Rattle.goi_words.specs.Asked.{if_traced}
-use Rattle.goi_words.specs.declared.jobs.Window.{Window}
+use Rattle.goi_jobs.specs.declared.jobs.Window.{Window}
 
 -- a command with its operands
 pub data Request : Type 0 where

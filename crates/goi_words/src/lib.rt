@@ -3,19 +3,19 @@
 //! `job_of` reads the words with `clap` and answers the `Job` that they ask for. Which job it is, is the definition `job` of
 //! `specs/Asked.antt`: what `clap`'s own definition makes of the words at the command of `specs/Commands.antt`. Plain words mean what
 //! the table of `specs/Plain.antt` says, and nothing but `clap` refuses words (`specs/Laws.antt`). Contracts see a `Job` as the
-//! `JobTree` of `specs/Jobs.antt`. Doing the job is left to the crates above.
+//! `JobTree` of `goi_jobs`. Doing the job is left to the crates above.
 #![tactic(auto)]
 
 mod commands;
 mod defaults;
-mod jobs;
+mod faults;
 mod laws;
 mod reading;
 
 pub use defaults::{
     DEFAULT_BUDGET, DEFAULT_FORKS, DEFAULT_FROM, DEFAULT_MOST, DEFAULT_STACK, DEFAULT_TOLD,
-    DEFAULT_WORKERS, LEAST_STACK, MOST_FORKS, MOST_STACK, TOLD_STEPS, TRACED_MOVES,
+    DEFAULT_WORKERS,
 };
-pub use jobs::{Job, Window, WordFault};
+pub use faults::WordFault;
 pub use laws::{law_help, law_no_words, law_plain_words, law_taken_words};
 pub use reading::job_of;

@@ -6,8 +6,8 @@ ghost use Rattle.goi_words.specs.Commands.{goi_command};
 ghost use Rattle.goi_words.specs.Asked.{is_set, is_taken, job, job_on, number_of, numbers_of, text_of};
 ghost use Rattle.goi_words.specs.Asked.{batch_job, check_job, circuit_job, demo_job, if_traced, net_job, replay_job, run_job};
 ghost use Rattle.goi_words.specs.Asked.{run_net_job, span_job, steps_job, trace_job, window_of, call_job, wide_number_in, wide_numbers_in};
-ghost use Rattle.goi_words.specs.Jobs.{IsWithinLimits, job_of};
-ghost use Rattle.goi_words.specs.declared.jobs.WordFault.TheVariants.{Refused};
+ghost use Rattle.goi_jobs.specs.Jobs.{IsWithinLimits, job_of};
+ghost use Rattle.goi_words.specs.declared.faults.WordFault.TheVariants.{Refused};
 
 use crate::commands::goi_command;
 use crate::{Job, Window, WordFault};

@@ -5,7 +5,7 @@ ghost use Rattle.goi_world.specs.FilesInMemory.{lacked_by};
 ghost use Rattle.goi_world.specs.Outside.{none_listed};
 ghost use Rattle.goi_world.specs.SinkInMemory.{sure_room};
 ghost use Rattle.goi_words.specs.Asked.{job};
-ghost use Rattle.goi_words.specs.Jobs.{run};
+ghost use Rattle.goi_jobs.specs.Jobs.{run};
 ghost use Rattle.goi_tasks.specs.Refusals.{most_line};
 
 use gate_workers::Gate;

@@ -1,6 +1,7 @@
 //! No words at all, and words of a megabyte, which are longer than the system hands to a program.
 
-use goi_words::{Job, WordFault, job_of};
+use goi_jobs::Job;
+use goi_words::{WordFault, job_of};
 use std::alloc::{AllocError, Global};
 use std::test::Fail;
 

@@ -1,5 +1,5 @@
 use Rattle.std.proofs.Common.{ap, rules}
-use Rattle.goi_words.specs.Jobs.{job_of}
+use Rattle.goi_jobs.specs.Jobs.{job_of}
 use Rattle.goi_engine.proofs.Answered.{call_of_job}
 use Rattle.goi_engine.proofs.answer.answer_job.Goals as goal
 

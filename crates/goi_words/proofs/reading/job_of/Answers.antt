@@ -2,7 +2,7 @@ use Rattle.std.proofs.Common.{◌≡◌, ◌∙◌, ap, map, string_bytes, Some,
 use Rattle.std.proofs.lemmas.Result.{IfOk-weaker}
 use Rattle.clap.specs.Words.{found_of, rows_of}
 use Rattle.goi_words.specs.Asked.{job, job_on}
-use Rattle.goi_words.specs.Jobs.{job_of}
+use Rattle.goi_jobs.specs.Jobs.{job_of}
 use Rattle.goi_words.proofs.Entering.{entered_job, name_and_rows, no_rows, not_taken, passed_up}
 use Rattle.goi_words.proofs.TakenJobs.{refused_by_clap, within_limits}
 use Rattle.goi_words.proofs.reading.job_of.Goals as goal

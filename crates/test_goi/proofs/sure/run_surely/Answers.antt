@@ -3,7 +3,7 @@ use Rattle.std.proofs.Common.{◌≡◌, ℕ, ◌≤◌, Bool, List, length, Opt
 use Rattle.goi_world.specs.FilesInMemory.{memory_files_seen}
 use Rattle.goi_world.specs.Seen.{FilesState}
 use Rattle.goi_engine.specs.FilesSeen.{Possibly}
-use Rattle.goi_words.specs.Jobs.{JobTree, run}
+use Rattle.goi_jobs.specs.Jobs.{JobTree, run}
 use Rattle.goi_tasks.specs.declared.task.Task.TheVariants.{Run}
 use Rattle.program_runs.specs.Programs.{calling_of}
 use Rattle.goi_tasks.specs.Outputs.{Output}

@@ -2,11 +2,11 @@
 -- A job has the options of its command with their values, given or by default. Its files are named by the bytes of their names.
 use Rattle.std.specs.Prelude.{◌≤◌, ⊤, ℕ, Bool, List, Option, None, Some}
 use Rattle.pcf_values.specs.Most.{most_workers, most_budget, most_demo, most_moves}
-use Rattle.goi_words.specs.Defaults.{most_traced, most_told, least_stack, most_stack, most_forks}
-use Rattle.goi_words.specs.declared.jobs.Job.{Job}
-use Rattle.goi_words.specs.declared.jobs.Job.TheVariants.{Run, Check, ShowNet, Replay, Demo, RunNet, Batch, Trace, Circuit, Span, Steps}
-use Rattle.goi_words.specs.declared.jobs.Job.TheVariants.{Call}
-use Rattle.goi_words.specs.declared.jobs.Window.{Window}
+use Rattle.goi_jobs.specs.Limits.{most_traced, most_told, least_stack, most_stack, most_forks}
+use Rattle.goi_jobs.specs.declared.jobs.Job.{Job}
+use Rattle.goi_jobs.specs.declared.jobs.Job.TheVariants.{Run, Check, ShowNet, Replay, Demo, RunNet, Batch, Trace, Circuit, Span, Steps}
+use Rattle.goi_jobs.specs.declared.jobs.Job.TheVariants.{Call}
+use Rattle.goi_jobs.specs.declared.jobs.Window.{Window}
 
 -- a job
 pub data JobTree : Type 0 where
