@@ -1,6 +1,6 @@
 -- What a metered pool is after a booking.
 mod Booked
--- The log of one worker: where the finisher made no move, all are the first worker's, and where it made some, they are given to it.
-mod Named
--- Readings with the number of moves behind them.
+-- Readings with the number of moves behind them, which is no less than what was booked.
 mod Progressing
+-- The run of one worker, walk by walk and move by move, as it is written down for the first worker.
+mod Walking

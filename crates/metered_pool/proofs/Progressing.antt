@@ -1,10 +1,14 @@
--- Readings with the number of moves behind them.
+-- Readings with the number of moves behind them, which is no less than what was booked.
 use Rattle.std.proofs.Common.{◌≡◌, ℕ, ◌≤◌, List, [], ◌∷◌, ◌++◌, length, subst, sym, ap, ◌∙◌, length-append}
 use Rattle.std.proofs.Common.{arith}
 use Rattle.std.specs.Prelude.{All, Contains}
 use Rattle.std.specs.List.Sorted.{IsNonDecreasing}
 use Rattle.std.proofs.lemmas.List.Elements.{All-contains, All-weaker, All-tail}
 use Rattle.std.proofs.lemmas.List.Sorted.{IsNonDecreasingBy-drop}
+use Rattle.schedule_log.specs.Logs.{by}
+use Rattle.token_pool.specs.declared.ending.Ended.{Ended}
+use Rattle.token_pool.specs.Pools.{Pool}
+use Rattle.token_pool.specs.Ending.{remaining, Finishes}
 use Rattle.progress_meter.specs.Meters.{last_of, RisesFromZero, AreReadingsOf}
 use Rattle.progress_meter.proofs.Lists.{last_of-push, never_down-push, at_most_last}
 use Rattle.metered_pool.specs.Progress.{IsProgress}
@@ -42,3 +46,10 @@ progresses booked moves readings numbers many rises within more is =
       never_down = subst IsNonDecreasing (sym is) (never_down-push readings moves rises (omega (arith, below, more)));
       ends = ap last_of is ∙ last_of-push readings moves;
     }
+
+-- a finished log has the pool's moves, and others behind them
+pub longer : (p : Pool) (e : Ended) → Finishes p e → length p.log ≤ length e.log.entries
+longer p e f =
+    let more = by p.workers (remaining p.net p.state p.budget p.log) in
+    let n = ap length f.log in
+    omega (arith, n, length-append p.log more)

@@ -4,3 +4,8 @@
 pub mod Metered
 -- What is read on the meter of a run, and what of it is told.
 pub mod Progress
+--
+-- what serves private contracts only
+--
+-- Where a run of one worker stands whose moves are written down for the first worker.
+pub mod Walking

@@ -4,14 +4,15 @@ ghost use Rattle.std.specs.Prelude.{◌≡◌, ◌≤◌, [], ◌∷◌, length,
 ghost use Rattle.std.specs.List.Sorted.{IsNonDecreasing};
 ghost use Rattle.pcf_values.specs.Most.{most_budget, most_workers};
 ghost use Rattle.interleave_laws.specs.Runs.{Runs};
-ghost use Rattle.progress_meter.specs.Meters.{last_of};
+ghost use Rattle.progress_meter.specs.Meters.{last_of, first_publisher, first_listener};
 ghost use Rattle.token_pool.specs.Pools.{InLimits};
 ghost use Rattle.token_pool.specs.Ending.{Suits};
 ghost use Rattle.net_runs.specs.Running.{IsRun, IsFirstWorkers};
 ghost use Rattle.metered_pool.specs.Metered.{IsLevel, IsOf};
 ghost use Rattle.metered_pool.specs.Progress.{HasRead, IsProgress};
+ghost use Rattle.metered_pool.specs.Walking.{WalksAlone};
 
-use crate::naming::named_first;
+use crate::alone::walk_alone;
 use crate::pace::Pace;
 use crate::{MeteredPool, Watched};
 use branch_runs::{NamedNet, OnNet};
@@ -27,9 +28,10 @@ use token_pool::{Ended, PoolState};
 /// The run of a net by so many workers within a budget of moves, as `run_net` answers it, and 17 numbers: 16 readings of how many moves
 /// were booked, taken beside the workers, and the number of moves that were made in the end.
 ///
-/// One worker shares the pool with nobody, but it too is driven behind the lock and passes the gate; its log names worker 0. The readings
-/// are taken in a thread of their own, the first after 0.1 ms and each after twice the pause of the one before, and at once when the
-/// workers are over. Where no thread can be had they are taken then.
+/// One worker walks in place, with no lock and no gate, and publishes how many moves it has made after each thousand or so; its log names
+/// worker 0. Several share a pool as those of `run_net` do, and each booking is published. The readings are taken in a thread of their own,
+/// the first after 0.1 ms and each after twice the pause of the one before, and at once when the workers are over. Where no thread can be
+/// had they are taken then. Memory for the whole log is taken at once.
 ///
 /// # Errors
 ///
@@ -49,11 +51,118 @@ pub fn watch_net<R: Threads + Wait + Sync, G: Gate>(
     ensures alone { IfOk result (λ r. workers ≡ 1 → IsFirstWorkers net.now budget r.0.log.entries) }
     ensures progress { IfOk result (λ r. IsProgress (length r.0.log.entries) r.1.items) }
 {
-    let (pool, readings) = drive_new(rt, alloc, net, budget, workers, gate)?;
-    let ended = finish(alloc, pool, net, budget, workers)?;
+    let (ended, readings) = read_beside(rt, alloc, net, budget, workers, gate)?;
     let mut numbers = readings;
     numbers.push(u64::from(ended.log.len()))?;
     Ok((ended, numbers))
+}
+
+/// The run, and the 16 readings.
+fn read_beside<R: Threads + Wait + Sync, G: Gate>(
+    rt: &R,
+    alloc: Global,
+    net: &Net,
+    budget: u32,
+    workers: u32,
+    gate: &G,
+) -> Result<(Ended, Vec<u64>), AllocError>
+    requires runs { Runs net.now }
+    requires limits { InLimits budget workers }
+    ensures run { IfOk result (λ r. IsRun net.now workers budget r.0.answer r.0.log.entries) }
+    ensures alone { IfOk result (λ r. workers ≡ 1 → IsFirstWorkers net.now budget r.0.log.entries) }
+    ensures many { IfOk result (λ r. length r.1.items ≡ 16) }
+    ensures never_down { IfOk result (λ r. IsNonDecreasing r.1.items) }
+    ensures booked { IfOk result (λ r. All (λ n. n ≤ length r.0.log.entries) r.1.items) }
+{
+    if workers == 1 {
+        read_beside_one(rt, alloc, net, budget)
+    } else {
+        read_beside_several(rt, alloc, net, budget, workers, gate)
+    }
+}
+
+/// Both ends of a new meter, and an empty list with room for what is told of it.
+fn new_meter(alloc: Global) -> Result<(Writer, Reader, Vec<u64>), AllocError>
+    ensures writer { IfOk result (λ m. m.0 ≡ first_publisher m.0.meter) }
+    ensures reader { IfOk result (λ m. m.1 ≡ first_listener m.0.meter) }
+    ensures empty { IfOk result (λ m. m.2.items ≡ []) }
+{
+    let readings = Vec::with_capacity(alloc, 17)?;
+    let (writer, reader) = meter(alloc)?;
+    Ok((writer, reader, readings))
+}
+
+/// The run of one worker, and readings on a new meter beside it.
+fn read_beside_one<R: Threads + Wait + Sync>(
+    rt: &R,
+    alloc: Global,
+    net: &Net,
+    budget: u32,
+) -> Result<(Ended, Vec<u64>), AllocError>
+    requires runs { Runs net.now }
+    requires budget { (1 ≤ budget) × (budget ≤ most_budget) }
+    ensures run { IfOk result (λ r. IsRun net.now 1 budget r.0.answer r.0.log.entries) }
+    ensures first { IfOk result (λ r. IsFirstWorkers net.now budget r.0.log.entries) }
+    ensures many { IfOk result (λ r. length r.1.items ≡ 16) }
+    ensures never_down { IfOk result (λ r. IsNonDecreasing r.1.items) }
+    ensures booked { IfOk result (λ r. All (λ n. n ≤ length r.0.log.entries) r.1.items) }
+{
+    let (writer, reader, readings) = new_meter(alloc)?;
+    let pace = Pace::new();
+    let (answer, walked) = join(
+        rt,
+        || -> Result<(Reader, Vec<u64>), AllocError>
+            requires { readings.items ≡ [] }
+            ensures { IfOk result (λ r. HasRead reader r.0 r.1.items) }
+        { read_all(rt, reader, readings, &pace) },
+        || -> Result<(Ended, Writer), AllocError>
+            requires { Runs net.now × (1 ≤ budget) × (budget ≤ most_budget) × (last_of writer.published ≡ 0) }
+            ensures { IfOk result (λ r. WalksAlone net.entry.now budget writer r.0 r.1) }
+        { walk_to_end(rt, alloc, net, budget, writer, &pace) },
+    );
+    let (ended, writer) = walked?;
+    let (reader, readings) = answer?;
+    Ok((ended, settled(rt, writer, reader, readings)))
+}
+
+/// Walks until the run is over, and ends the pace then.
+fn walk_to_end<R: Wait>(
+    rt: &R,
+    alloc: Global,
+    net: &Net,
+    budget: u32,
+    writer: Writer,
+    pace: &Pace,
+) -> Result<(Ended, Writer), AllocError>
+    requires runs { Runs net.now }
+    requires budget { (1 ≤ budget) × (budget ≤ most_budget) }
+    requires level { last_of writer.published ≡ 0 }
+    ensures { IfOk result (λ r. WalksAlone net.now budget writer r.0 r.1) }
+{
+    let walked = walk_alone(rt, alloc, net, budget, writer);
+    pace.end();
+    walked
+}
+
+/// The run of several workers, and readings on a new meter beside them.
+fn read_beside_several<R: Threads + Wait + Sync, G: Gate>(
+    rt: &R,
+    alloc: Global,
+    net: &Net,
+    budget: u32,
+    workers: u32,
+    gate: &G,
+) -> Result<(Ended, Vec<u64>), AllocError>
+    requires runs { Runs net.now }
+    requires limits { InLimits budget workers }
+    ensures run { IfOk result (λ r. IsRun net.now workers budget r.0.answer r.0.log.entries) }
+    ensures many { IfOk result (λ r. length r.1.items ≡ 16) }
+    ensures never_down { IfOk result (λ r. IsNonDecreasing r.1.items) }
+    ensures booked { IfOk result (λ r. All (λ n. n ≤ length r.0.log.entries) r.1.items) }
+{
+    let (pool, readings) = drive_new(rt, alloc, net, budget, workers, gate)?;
+    let ended = finish(alloc, pool, net, budget, workers)?;
+    Ok((ended, readings))
 }
 
 /// Drives a new pool, and reads on a new meter.
@@ -72,8 +181,7 @@ fn drive_new<R: Threads + Wait + Sync, G: Gate>(
     ensures never_down { IfOk result (λ r. IsNonDecreasing r.1.items) }
     ensures booked { IfOk result (λ r. All (λ n. n ≤ length r.0.log) r.1.items) }
 {
-    let readings = Vec::with_capacity(alloc, 17)?;
-    let (writer, reader) = meter(alloc)?;
+    let (writer, reader, readings) = new_meter(alloc)?;
     let pool = PoolState::start(alloc, net, budget, workers)?;
     let tool = net.copy(alloc)?;
     drive_named::<Brand, Brand, R, G>(
@@ -226,7 +334,7 @@ fn push_all<R: Wait>(
     Ok(())
 }
 
-/// Finishes the run that this pool is of. The moves go on behind those that were booked, and where there is one worker all are its own.
+/// Finishes the run that this pool is of. The moves go on behind those that were booked.
 fn finish(
     alloc: Global,
     pool: PoolState,
@@ -238,13 +346,7 @@ fn finish(
     requires limits { InLimits budget workers }
     requires suits { Suits pool net.now budget workers }
     ensures run { IfOk result (λ e. IsRun net.now workers budget e.answer e.log.entries) }
-    ensures alone { IfOk result (λ e. workers ≡ 1 → IsFirstWorkers net.now budget e.log.entries) }
     ensures longer { IfOk result (λ e. length pool.log ≤ length e.log.entries) }
 {
-    let ended = pool.finish(alloc, net, budget, workers)?;
-    if workers == 1 {
-        Ok(named_first(alloc, ended)?)
-    } else {
-        Ok(ended)
-    }
+    Ok(pool.finish(alloc, net, budget, workers)?)
 }

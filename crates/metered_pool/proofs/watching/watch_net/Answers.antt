@@ -4,6 +4,7 @@ use Rattle.metered_pool.proofs.watching.watch_net.Goals as goal
 
 pub returns-clause-progress : goal.returns-clause-progress
 returns-clause-progress g c =
-    let driven = c.in_ok-pool in
-    progresses (length driven.pool.log) (length c.in_ok-ended.ended.log.entries) driven.readings.items c.push.new.self.items
-    driven.ensures.many driven.ensures.never_down driven.ensures.booked c.in_ok-ended.ensures.longer (search rules)
+    let read = c.in_ok-ended in
+    let moves = length read.ended.log.entries in
+    progresses moves moves read.readings.items c.push.new.self.items read.ensures.many read.ensures.never_down read.ensures.booked
+    (search rules) (search rules)
