@@ -5,8 +5,8 @@ use Rattle.std.proofs.Common.{inr, ⊎_elim, Result, Ok, Err, OnErr, arith}
 use Rattle.std.proofs.lemmas.Bool.{cases_eq}
 use Rattle.std.proofs.lemmas.Option.{slice_get_within}
 use Rattle.token_pool.specs.declared.entries.Held.{Held}
-use Rattle.token_pool.specs.declared.entries.Told.{Told}
-use Rattle.token_pool.specs.declared.entries.Told.TheVariants.{Stopped, Token, Ended, Idle, Reserved}
+use Rattle.token_pool.specs.declared.entries.Reply.{Reply}
+use Rattle.token_pool.specs.declared.entries.Reply.TheVariants.{Stopped, Token, Ended, Idle, Reserved}
 use Rattle.token_pool.specs.Pools.{Pool, Holds, allowances}
 use Rattle.token_pool.specs.declared.pieces.Piece.{Piece}
 use Rattle.token_pool.specs.Pieces.{IsPieceOf}
@@ -32,7 +32,7 @@ owns_none (Some None) d = refl
 owns_none (Some (Some h)) d = absurd (d h refl)
 
 module _ (p : Pool) (w : ℕ) (running : p.stopped ≡ false) where
-  lines : Told
+  lines : Reply
   lines = next_lines p.state (length p.log) p.held p.budget p.workers
 
   -- what a worker holds is told to it again
@@ -47,10 +47,10 @@ module _ (p : Pool) (w : ℕ) (running : p.stopped ≡ false) where
         running
         ∙ ap (λ o. on_own o (next_lines p.state (length p.log) p.held p.budget p.workers)) (owns_none (slice_get p.held w) free)
 
-    rest : Told
+    rest : Reply
     rest = on_free (least_free p) (offered (length p.log + allowances p.held) p.budget p.workers)
 
-    no_end : (b : Bool) (n left i : ℕ) → (let t : Told = if b then Reserved else Token (record { ticket = i; allowance = n }) in
+    no_end : (b : Bool) (n left i : ℕ) → (let t : Reply = if b then Reserved else Token (record { ticket = i; allowance = n }) in
         t ≡ Ended) → ⊥
     no_end true n left i e = cc
     no_end false n left i e = cc
@@ -73,7 +73,7 @@ module _ (p : Pool) (w : ℕ) (running : p.stopped ≡ false) where
     over_told e = told_next ∙
         ap (λ b. if b then Ended else on_free (least_free p) (offered (length p.log + allowances p.held) p.budget p.workers)) e
 
-    waits_so : (b : Bool) (t u : Told) → (if b then Ended else t) ≡ u → (u ≡ Idle) ⊎ (u ≡ Reserved) → b ≡ false
+    waits_so : (b : Bool) (t u : Reply) → (if b then Ended else t) ≡ u → (u ≡ Idle) ⊎ (u ≡ Reserved) → b ≡ false
     waits_so true t u e (inl h) = absurd cc
     waits_so true t u e (inr h) = absurd cc
     waits_so false t u e h = refl
@@ -83,10 +83,10 @@ module _ (p : Pool) (w : ℕ) (running : p.stopped ≡ false) where
     open_is h = waits_so (is_ended p) (on_free (least_free p) (offered (length p.log + allowances p.held) p.budget p.workers)) (turn p w)
         (sym told_next) h
 
-over_gives_none : (t : Told) (h : Held) → t ≡ Ended → t ≡ Token h → ⊥
+over_gives_none : (t : Reply) (h : Held) → t ≡ Ended → t ≡ Token h → ⊥
 over_gives_none t h e k = cc
 
-waits_gives_none : (t : Told) (h : Held) → (t ≡ Idle) ⊎ (t ≡ Reserved) → t ≡ Token h → ⊥
+waits_gives_none : (t : Reply) (h : Held) → (t ≡ Idle) ⊎ (t ≡ Reserved) → t ≡ Token h → ⊥
 waits_gives_none t h (inl e) k = cc
 waits_gives_none t h (inr e) k = cc
 
@@ -167,7 +167,7 @@ taken_again p w h at told =
     held_same : (held : List (Option Held)) (w : ℕ) (o : Option Held) → slice_get held w ≡ Some o → set held w o ≡ held
     held_same held w o h = set_same held w o h
 
-same_ticket : (g h : Held) (t : Told) → t ≡ Token g → t ≡ Token h → g ≡ h
+same_ticket : (g h : Held) (t : Reply) → t ≡ Token g → t ≡ Token h → g ≡ h
 same_ticket g h t e k = cc
 
 module _ (pools : List Pool) (w j : ℕ) (serving : IsServing pools w) (h : Held) (holds : HoldsIn pools w j h) where

@@ -9,7 +9,7 @@ use Rattle.token_pool.specs.Ending.{Suits, Finishes, Replays}
 use Rattle.batch_pool.specs.declared.job.BatchJob.{BatchJob}
 use Rattle.batch_pool.specs.Batches.{job_started}
 use Rattle.batch_pool.specs.Ending.{EndsFrom, EndsAs, EndsEach, first_of, behind_first}
-use Rattle.batch_pool.specs.Running.{IsRunOf, AreRuns}
+use Rattle.batch_pool.specs.AreRuns.{IsRunOf, AreRuns}
 use Rattle.batch_pool.specs.Steps.{Pops}
 
 -- what an Ok says of its value may be said otherwise

@@ -4,7 +4,7 @@ use Rattle.std.proofs.Common.{refl, sym, ap, ◌∙◌, subst, inl, inr, ⊎_eli
 use Rattle.std.proofs.lemmas.Bool.{cases_eq}
 use Rattle.move_rules.specs.Walks.{Passage}
 use Rattle.token_pool.specs.declared.entries.Held.{Held}
-use Rattle.token_pool.specs.declared.entries.Told.TheVariants.{Token}
+use Rattle.token_pool.specs.declared.entries.Reply.TheVariants.{Token}
 use Rattle.token_pool.specs.declared.entries.Booked.TheVariants.{Done}
 use Rattle.token_pool.specs.Pools.{Pool, Holds, Good}
 use Rattle.token_pool.specs.Turns.{turn, taken, held_after}

@@ -2,7 +2,7 @@
 use Rattle.std.proofs.Common.{◌≡◌, ◌⊎◌, ◌+◌, ◌-◌, ℕ, zero, suc, Bool, true, false, nat_eq, if◌then◌else◌, List}
 use Rattle.std.proofs.Common.{[], ◌∷◌, length, Option, Some, None, refl, sym, ap, ◌∙◌, inl, inr}
 use Rattle.token_pool.specs.declared.entries.Held.{Held}
-use Rattle.token_pool.specs.declared.entries.Told.TheVariants.{Token, Ended, Idle, Reserved}
+use Rattle.token_pool.specs.declared.entries.Reply.TheVariants.{Token, Ended, Idle, Reserved}
 use Rattle.token_pool.specs.Pools.{Pool, Holds, allowances}
 use Rattle.token_pool.specs.Turns.{turn, is_ended, on_free, offered, allowance, least_free}
 use Rattle.token_pool.specs.Laws.{IdleHolds, ReservedHolds}

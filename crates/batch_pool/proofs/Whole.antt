@@ -4,34 +4,34 @@ use Rattle.std.proofs.Common.{option_to_list, Option, Some, None, Result, Ok, Er
 use Rattle.std.specs.List.{All}
 use Rattle.std.proofs.lemmas.List.Elements.{All-append, All-head, All-push, All-tail, All-weaker}
 use Rattle.token_pool.specs.declared.ending.Ended.{Ended}
-use Rattle.batch_pool.specs.declared.apart.Ran.{Ran}
+use Rattle.batch_pool.specs.declared.apart.RanJob.{RanJob}
 use Rattle.batch_pool.specs.declared.job.BatchJob.{BatchJob}
 use Rattle.batch_pool.specs.Apart.{IsRunBy, IsRanBy, IsRanIn, Brings, with_ends, EndsBy, EndsEachBy}
 use Rattle.batch_pool.specs.Ending.{first_of, behind_first}
-use Rattle.batch_pool.specs.Running.{IsRunOf, AreRuns}
+use Rattle.batch_pool.specs.AreRuns.{IsRunOf, AreRuns}
 use Rattle.batch_pool.specs.Steps.{Pops}
 use Rattle.batch_pool.proofs.Ends.{if_ok_so, others, first_and_rest, popped_first, popped_rest}
 use Rattle.batch_pool.proofs.Pools.{got_after_set, one_there}
 
 -- one run more of a worker
-pub ran_more : (jobs : List BatchJob) (w n : ℕ) (old new : List Ran) (o : Option Ran) (r : Ran) → All (IsRanBy jobs w) old →
+pub ran_more : (jobs : List BatchJob) (w n : ℕ) (old new : List RanJob) (o : Option RanJob) (r : RanJob) → All (IsRanBy jobs w) old →
     Brings jobs w n o → o ≡ Some r → new ≡ old ++ r ∷ [] → All (IsRanBy jobs w) new
 ran_more jobs w n old new o r all brings is e =
     let brought : Brings jobs w n (Some r) = subst (Brings jobs w n) is brings in
-    subst (All {X = Ran} (IsRanBy jobs w)) (sym e) (All-push (IsRanBy jobs w) old r all brought.1)
+    subst (All {X = RanJob} (IsRanBy jobs w)) (sym e) (All-push (IsRanBy jobs w) old r all brought.1)
 
 -- what worker w ran was run by a worker of each row that has w
-in_row : (jobs : List BatchJob) (w from to : ℕ) → from ≤ w → w < to → (r : Ran) → IsRanBy jobs w r → IsRanIn jobs from to r
+in_row : (jobs : List BatchJob) (w from to : ℕ) → from ≤ w → w < to → (r : RanJob) → IsRanBy jobs w r → IsRanIn jobs from to r
 in_row jobs w from to l m r h = record { worker = w; first = l; last = m; run = h }
 
-in_wider : (jobs : List BatchJob) (from to low high : ℕ) → low ≤ from → to ≤ high → (r : Ran) → IsRanIn jobs from to r →
+in_wider : (jobs : List BatchJob) (from to low high : ℕ) → low ≤ from → to ≤ high → (r : RanJob) → IsRanIn jobs from to r →
     IsRanIn jobs low high r
 in_wider jobs from to low high l m r h =
     let a = h.first in
     let b = h.last in
     record { worker = h.worker; first = omega (arith, l, a); last = omega (arith, m, b); run = h.run }
 
-module _ {V E : Type 0} (items : V → List Ran) (jobs : List BatchJob) (from to : ℕ) (r : Result V E) where
+module _ {V E : Type 0} (items : V → List RanJob) (jobs : List BatchJob) (from to : ℕ) (r : Result V E) where
   -- a row of one worker
   pub one_ran : from < to → IfOk r (λ v. All (IsRanBy jobs from) (items v)) → IfOk r (λ v. All (IsRanIn jobs from to) (items v))
   one_ran l h =
@@ -39,7 +39,7 @@ module _ {V E : Type 0} (items : V → List Ran) (jobs : List BatchJob) (from to
       (λ v a. All-weaker (IsRanBy jobs from) (IsRanIn jobs from to) (in_row jobs from from to (omega arith) l) (items v) a)
 
   -- a row of two halves
-  pub both_ran : (middle : ℕ) → from ≤ middle → middle ≤ to → (first second : List Ran) → All (IsRanIn jobs from middle) first →
+  pub both_ran : (middle : ℕ) → from ≤ middle → middle ≤ to → (first second : List RanJob) → All (IsRanIn jobs from middle) first →
       All (IsRanIn jobs middle to) second → IfOk r (λ v. items v ≡ first ++ second) → IfOk r (λ v. All (IsRanIn jobs from to) (items v))
   both_ran middle l m first second a b h =
       let left : All (IsRanIn jobs from to) first =
@@ -47,15 +47,15 @@ module _ {V E : Type 0} (items : V → List Ran) (jobs : List BatchJob) (from to
       let right : All (IsRanIn jobs from to) second =
       All-weaker (IsRanIn jobs middle to) (IsRanIn jobs from to) (in_wider jobs middle to from to l (omega arith)) second b in
       if_ok_so r (λ v. items v ≡ first ++ second) (λ v. All (IsRanIn jobs from to) (items v)) h
-      (λ v e. subst (All {X = Ran} (IsRanIn jobs from to)) (sym e) (All-append (IsRanIn jobs from to) first second left right))
+      (λ v e. subst (All {X = RanJob} (IsRanIn jobs from to)) (sym e) (All-append (IsRanIn jobs from to) first second left right))
 
 -- the last end is put first
-put_last : (rans : List Ran) (r : Ran) (places : List (Option Ended)) →
+put_last : (rans : List RanJob) (r : RanJob) (places : List (Option Ended)) →
     with_ends (rans ++ r ∷ []) places ≡ with_ends rans (set places r.job (Some r.end))
 put_last [] r places = refl
 put_last (x ∷ rans) r places = ap (λ ps. set ps x.job (Some x.end)) (put_last rans r places)
 
-pub put_popped : (rans rest : List Ran) (o : Option Ran) (r : Ran) → rans ≡ rest ++ option_to_list o → o ≡ Some r →
+pub put_popped : (rans rest : List RanJob) (o : Option RanJob) (r : RanJob) → rans ≡ rest ++ option_to_list o → o ≡ Some r →
     (places : List (Option Ended)) → with_ends rest (set places r.job (Some r.end)) ≡ with_ends rans places
 put_popped rans rest o r popped is places =
     let e : rans ≡ rest ++ r ∷ [] = popped ∙ ap (λ o. rest ++ option_to_list o) is in
@@ -72,7 +72,7 @@ empty (suc n) zero e h = cc
 empty (suc n) (suc m) e h = empty n m e h
 
 module _ (jobs : List BatchJob) (workers : ℕ) where
-  renamed : (r : Ran) (n : ℕ) (e : Ended) → n ≡ r.job → r.end ≡ e → IsRanIn jobs 0 workers r →
+  renamed : (r : RanJob) (n : ℕ) (e : Ended) → n ≡ r.job → r.end ≡ e → IsRanIn jobs 0 workers r →
       IsRanIn jobs 0 workers (record { job = n; end = e })
   renamed r n e at is h = record {
     worker = h.worker;
@@ -85,7 +85,7 @@ module _ (jobs : List BatchJob) (workers : ℕ) where
     };
   }
 
-  all_placed : (rans : List Ran) (places : List (Option Ended)) → All (IsRanIn jobs 0 workers) rans → Placed jobs workers places →
+  all_placed : (rans : List RanJob) (places : List (Option Ended)) → All (IsRanIn jobs 0 workers) rans → Placed jobs workers places →
       Placed jobs workers (with_ends rans places)
   all_placed [] places a p n e h = p n e h
   all_placed (r ∷ rans) places a p n e h =
@@ -134,7 +134,7 @@ module _ (workers : ℕ) (several : 2 ≤ workers) where
   )
 
   -- what the workers ran, in the order of the jobs, are the runs of all jobs
-  pub runs_apart : {V E : Type 0} (items : V → List Ended) (r : Result V E) (jobs : List BatchJob) (rans : List Ran) →
+  pub runs_apart : {V E : Type 0} (items : V → List Ended) (r : Result V E) (jobs : List BatchJob) (rans : List RanJob) →
       All (IsRanIn jobs 0 workers) rans → IfOk r (λ v. EndsEachBy (with_ends rans (replicate (length jobs) None)) jobs (items v)) →
       IfOk r (λ v. AreRuns jobs workers (items v))
   runs_apart items r jobs rans all h =

@@ -4,9 +4,9 @@ use Rattle.std.specs.Prelude.{◌≡◌, ◌<◌, ◌≤◌, ℕ, List, [], ◌�
 use Rattle.interleave_laws.specs.OneWorker.{one}
 use Rattle.schedule_log.specs.Logs.{by}
 use Rattle.token_pool.specs.declared.ending.Ended.{Ended}
-use Rattle.net_runs.specs.Running.{IsRun}
+use Rattle.net_runs.specs.IsRun.{IsRun}
 use Rattle.batch_pool.specs.declared.job.BatchJob.{BatchJob}
-use Rattle.batch_pool.specs.declared.apart.Ran.{Ran}
+use Rattle.batch_pool.specs.declared.apart.RanJob.{RanJob}
 use Rattle.batch_pool.specs.Ending.{first_of, behind_first}
 
 -- worker w alone ran this job to this end, which is a run of every number of workers of whom it is one
@@ -15,25 +15,25 @@ pub record IsRunBy (w : ℕ) (job : BatchJob) (e : Ended) : Type 0 where
   pub log : e.log.entries ≡ by w (one job.net job.budget)
 
 -- worker w alone ran the job of that number
-pub record IsRanBy (jobs : List BatchJob) (w : ℕ) (r : Ran) : Type 0 where
+pub record IsRanBy (jobs : List BatchJob) (w : ℕ) (r : RanJob) : Type 0 where
   pub job : BatchJob
   pub there : slice_get jobs r.job ≡ Some job
   pub run : IsRunBy w job r.end
 
 -- and w is one of the workers from the one number to below the other
-pub record IsRanIn (jobs : List BatchJob) (from to : ℕ) (r : Ran) : Type 0 where
+pub record IsRanIn (jobs : List BatchJob) (from to : ℕ) (r : RanJob) : Type 0 where
   pub worker : ℕ
   pub first : from ≤ worker
   pub last : worker < to
   pub run : IsRanBy jobs worker r
 
 -- what worker w brings for job n: its run, or nothing where there is no such job
-abbrev pub Brings : List BatchJob → ℕ → ℕ → Option Ran → Type 0
+abbrev pub Brings : List BatchJob → ℕ → ℕ → Option RanJob → Type 0
 Brings jobs w n None = length jobs ≤ n
 Brings jobs w n (Some r) = (r.job ≡ n) × IsRanBy jobs w r
 
 -- the places with these ends in those of their jobs, the first of several ends of a job
-abbrev pub with_ends : List Ran → List (Option Ended) → List (Option Ended)
+abbrev pub with_ends : List RanJob → List (Option Ended) → List (Option Ended)
 with_ends [] places = places
 with_ends (r ∷ rans) places = set (with_ends rans places) r.job (Some r.end)
 

@@ -4,7 +4,7 @@
 -- none would, some job isn't over, and in it some other worker holds a ticket.
 use Rattle.std.specs.Prelude.{◌≡◌, ◌<◌, ◌⊎◌, ℕ, true, false, List, set}
 use Rattle.token_pool.specs.declared.entries.Held.{Held}
-use Rattle.token_pool.specs.declared.entries.Told.TheVariants.{Token as TellsToken}
+use Rattle.token_pool.specs.declared.entries.Reply.TheVariants.{Token as TellsToken}
 use Rattle.token_pool.specs.declared.pieces.Piece.{Piece}
 use Rattle.token_pool.specs.Pools.{Pool, Holds}
 use Rattle.token_pool.specs.Pieces.{IsPieceOf}

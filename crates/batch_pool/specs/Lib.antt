@@ -11,7 +11,7 @@ pub mod Ending
 -- What a batch's calls are where it is the bench of several workers: a turn is what a worker takes, and what it hands in is booked.
 pub mod Benches
 -- the run of a batch
-pub mod Running
+pub mod AreRuns
 -- the laws
 pub mod Laws
 -- what serves the code's types and inner calls only

@@ -4,7 +4,7 @@ use Rattle.move_rules.specs.Walks.{Passage}
 use Rattle.token_pool.specs.declared.entries.Held.{Held}
 use Rattle.token_pool.specs.declared.entries.Booked.{Booked}
 use Rattle.token_pool.specs.Booking.{BookedAs}
-use Rattle.token_pool.specs.declared.entries.Told.TheVariants as told
+use Rattle.token_pool.specs.declared.entries.Reply.TheVariants as told
 use Rattle.token_pool.specs.declared.pieces.Piece.{Piece}
 use Rattle.token_pool.specs.Pools.{Pool, Holds}
 use Rattle.token_pool.specs.Pieces.{IsPieceOf}

@@ -6,7 +6,7 @@ ghost use Rattle.std.specs.Vec.Iter.{into_iter_items};
 ghost use Rattle.token_pool.specs.declared.ending.Ended.{Ended};
 ghost use Rattle.batch_pool.specs.Apart.{IsRunBy, IsRanBy, IsRanIn, Brings, with_ends, EndsBy, EndsEachBy};
 ghost use Rattle.batch_pool.specs.Batches.{JobFits};
-ghost use Rattle.batch_pool.specs.Running.{AreRuns};
+ghost use Rattle.batch_pool.specs.AreRuns.{AreRuns};
 ghost use Rattle.batch_pool.specs.Steps.{Pops};
 
 use crate::BatchJob;
@@ -20,7 +20,7 @@ use token_pool::Ended;
 
 /// A job that was run.
 #[derive(Drop)]
-pub(crate) struct Ran {
+pub(crate) struct RanJob {
     /// The job's number, from 0.
     pub(crate) job: usize,
     /// What its run came to.
@@ -35,7 +35,7 @@ fn run_next<G: Gate>(
     gate: &G,
     worker: u32,
     turn: u64,
-) -> Result<Option<Ran>, AllocError>
+) -> Result<Option<RanJob>, AllocError>
     requires { All JobFits jobs.now }
     ensures passed { number < length jobs.now → G.passes gate.now worker turn }
     ensures brings { IfOk result (Brings jobs.now worker number) }
@@ -44,7 +44,7 @@ fn run_next<G: Gate>(
         Some(job) => {
             gate.between(worker, turn);
             let end = run_by(alloc, &job.net, job.budget, worker)?;
-            Ok(Some(Ran { job: number, end }))
+            Ok(Some(RanJob { job: number, end }))
         }
         None => Ok(None),
     }
@@ -58,7 +58,7 @@ fn run_some<G: Gate>(
     next: &AtomicUsize,
     gate: &G,
     worker: u32,
-) -> Result<Vec<Ran>, AllocError>
+) -> Result<Vec<RanJob>, AllocError>
     requires { All JobFits jobs.now }
     ensures { IfOk result (λ rans. All (IsRanBy jobs.now worker) rans.items) }
 {
@@ -80,7 +80,7 @@ fn work_as<G: Gate>(
     next: &AtomicUsize,
     gate: &G,
     worker: u32,
-) -> Result<Vec<Ran>, AllocError>
+) -> Result<Vec<RanJob>, AllocError>
     requires { All JobFits jobs.now }
     ensures { IfOk result (λ rans. All (IsRanBy jobs.now worker) rans.items) }
 {
@@ -92,7 +92,7 @@ fn work_as<G: Gate>(
 }
 
 /// Two lists in one.
-fn both(mut first: Vec<Ran>, mut second: Vec<Ran>) -> Result<Vec<Ran>, AllocError>
+fn both(mut first: Vec<RanJob>, mut second: Vec<RanJob>) -> Result<Vec<RanJob>, AllocError>
     ensures { IfOk result (λ rans. rans.items ≡ first.items ++ second.items) }
 {
     first.append(&mut second)?;
@@ -108,7 +108,7 @@ fn work_from<R: Threads + Sync, G: Gate>(
     gate: &G,
     from: u32,
     to: u32,
-) -> Result<Vec<Ran>, AllocError>
+) -> Result<Vec<RanJob>, AllocError>
     requires some { from < to }
     requires fits { All JobFits jobs.now }
     ensures { IfOk result (λ rans. All (IsRanIn jobs.now from to) rans.items) }
@@ -119,11 +119,11 @@ fn work_from<R: Threads + Sync, G: Gate>(
     let middle = from + (to - from) / 2;
     let (first, second) = join(
         rt,
-        || -> Result<Vec<Ran>, AllocError>
+        || -> Result<Vec<RanJob>, AllocError>
             requires { (from < middle) × All JobFits jobs.now }
             ensures { IfOk result (λ rans. All (IsRanIn jobs.entry.now from middle) rans.items) }
         { work_from(rt, alloc, jobs, next, gate, from, middle) },
-        || -> Result<Vec<Ran>, AllocError>
+        || -> Result<Vec<RanJob>, AllocError>
             requires { (middle < to) × All JobFits jobs.now }
             ensures { IfOk result (λ rans. All (IsRanIn jobs.entry.now middle to) rans.items) }
         { work_from(rt, alloc, jobs, next, gate, middle, to) },
@@ -143,7 +143,7 @@ fn no_ends(alloc: Global, jobs: &[BatchJob]) -> Result<Vec<Option<Ended>>, Alloc
 }
 
 /// Puts an end into the place of its job.
-fn put(places: &mut Vec<Option<Ended>>, ran: Ran)
+fn put(places: &mut Vec<Option<Ended>>, ran: RanJob)
     ensures { places.new.items ≡ set places.old.items ran.job (Some ran.end) }
 {
     if ran.job < places.len() {
@@ -152,7 +152,7 @@ fn put(places: &mut Vec<Option<Ended>>, ran: Ran)
 }
 
 /// Puts all these ends into the places of their jobs.
-fn put_all(places: &mut Vec<Option<Ended>>, mut rans: Vec<Ran>)
+fn put_all(places: &mut Vec<Option<Ended>>, mut rans: Vec<RanJob>)
     ensures { places.new.items ≡ with_ends rans.items places.old.items }
 {
     while let Some(ran) = rans.pop() {
@@ -214,7 +214,7 @@ fn gather(
 }
 
 /// The ends of the jobs in turn, where these were run.
-fn in_turn(alloc: Global, jobs: &[BatchJob], rans: Vec<Ran>) -> Result<Vec<Ended>, AllocError>
+fn in_turn(alloc: Global, jobs: &[BatchJob], rans: Vec<RanJob>) -> Result<Vec<Ended>, AllocError>
     requires { All JobFits jobs.now }
     ensures { IfOk result (λ ends. EndsEachBy (with_ends rans.items (replicate (length jobs.now) None)) jobs.now ends.items) }
 {

@@ -5,7 +5,7 @@ ghost use Rattle.std.specs.List.{All};
 ghost use Rattle.pcf_values.specs.Most.{most_workers};
 ghost use Rattle.token_pool.specs.declared.ending.Ended.{Ended};
 ghost use Rattle.batch_pool.specs.Batches.{JobFits, BatchFits};
-ghost use Rattle.batch_pool.specs.Running.{IsRunOf, AreRuns};
+ghost use Rattle.batch_pool.specs.AreRuns.{IsRunOf, AreRuns};
 
 use crate::BatchJob;
 use crate::apart::run_apart;

@@ -13,8 +13,8 @@ use Rattle.interleave_laws.specs.Maps.{MapState}
 use Rattle.branch_runs.specs.Branching.{Grown, Played}
 use Rattle.token_pool.specs.declared.entries.Booked.{Booked}
 use Rattle.token_pool.specs.declared.entries.Held.{Held}
-use Rattle.token_pool.specs.declared.entries.Told.{Told}
-use Rattle.token_pool.specs.declared.entries.Told.TheVariants as told
+use Rattle.token_pool.specs.declared.entries.Reply.{Reply}
+use Rattle.token_pool.specs.declared.entries.Reply.TheVariants as told
 use Rattle.token_pool.specs.Pools.{Pool}
 use Rattle.token_pool.specs.Branches.{branch_turn, branch_taken, plays_plain, BookedBranch}
 
@@ -44,7 +44,7 @@ pub record IsPortionOf (S : MapState) (plain : Bool) (h : Held) (k : Portion) : 
   pub plainly : k.plain ≡ plain
 
 -- the turn that a bench gives a worker for what it is told: a piece to play, a pause, or nothing any more
-abbrev pub TurnFor : MapState → Bool → Told → Turn Portion → Type 0
+abbrev pub TurnFor : MapState → Bool → Reply → Turn Portion → Type 0
 TurnFor S plain (told.Token h) (turn.Piece k) = IsPortionOf S plain h k
 TurnFor S plain told.Idle turn.Pause = Unit {0}
 TurnFor S plain told.Reserved turn.Pause = Unit {0}

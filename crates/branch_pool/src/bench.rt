@@ -2,7 +2,7 @@
 
 ghost use Rattle.std.specs.Prelude.{◌≡◌, ◌<◌, ◌≤◌, IfOk, OnErr};
 ghost use Rattle.interleave_laws.specs.Maps.{MapState};
-ghost use Rattle.token_pool.specs.declared.entries.Told.{Told};
+ghost use Rattle.token_pool.specs.declared.entries.Reply.{Reply};
 ghost use Rattle.token_pool.specs.Pieces.{Hands};
 ghost use Rattle.token_pool.specs.Branches.{HandsSeed};
 ghost use Rattle.token_pool.specs.Booking.{halted};
@@ -68,7 +68,7 @@ impl<N: OnNet> BranchPool<N> {
 /// The turn for what a worker was handed.
 fn turn_of<N: OnNet>(taken: Taken, plain: bool) -> Turn<BranchPiece<N>>
     requires { HandsSeed N.net taken }
-    ensures { (S : MapState) (told : Told) → Hands S told taken → TurnFor S plain told result }
+    ensures { (S : MapState) (told : Reply) → Hands S told taken → TurnFor S plain told result }
 {
     match taken {
         Taken::Token(piece) => {

@@ -3,7 +3,7 @@
 ghost use Rattle.std.specs.Prelude.{◌≡◌, ◌≤◌, IfOk, IfErr, codes, string_bytes};
 ghost use Rattle.pcf_values.specs.Most.{most_budget, most_workers};
 ghost use Rattle.interleave_laws.specs.Runs.{Runs};
-ghost use Rattle.net_runs.specs.Running.{IsRun, IsFirstWorkers};
+ghost use Rattle.net_runs.specs.IsRun.{IsRun, IsFirstWorkers};
 ghost use Rattle.program_runs.specs.declared.calling.Calling.TheVariants.{ByName};
 ghost use Rattle.program_runs.specs.NoRuns.{NoRunFor};
 ghost use Rattle.program_runs.specs.Programs.{number, FaultyProgram};

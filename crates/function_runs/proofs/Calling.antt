@@ -10,7 +10,7 @@ use Rattle.open_nets.specs.Applied.{applied, numeric, AreNumbers}
 use Rattle.open_nets.specs.Numbers.{with_numbers, places_from, places}
 use Rattle.open_nets.specs.Laws.{OtherNumbers, AppliedHas}
 use Rattle.schedule_log.specs.declared.entry.Entry.{Entry}
-use Rattle.net_runs.specs.Running.{IsRun, IsFirstWorkers}
+use Rattle.net_runs.specs.IsRun.{IsRun, IsFirstWorkers}
 use Rattle.program_runs.specs.Laws.{RunsTell}
 use Rattle.program_runs.specs.RunsText.{IsProgramRun}
 use Rattle.function_runs.specs.Ready.{IsReady}

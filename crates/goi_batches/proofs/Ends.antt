@@ -8,16 +8,16 @@ use Rattle.token_pool.specs.declared.ending.Ended.{Ended}
 use Rattle.batch_pool.specs.declared.job.BatchJob.{BatchJob}
 use Rattle.batch_lists.specs.Limits.{most_jobs}
 use Rattle.batch_pool.specs.Batches.{JobFits, BatchFits}
-use Rattle.batch_pool.specs.Running.{IsRunOf, AreRuns}
+use Rattle.batch_pool.specs.AreRuns.{IsRunOf, AreRuns}
 use Rattle.goi_reports.specs.Forms.{AnswerFits}
 use Rattle.goi_reports.specs.Reports.{run_report}
 use Rattle.goi_jobs.specs.Jobs.{IsWorkers, IsBudget}
 use Rattle.goi_tasks.specs.Outputs.{output, output_of}
 use Rattle.goi_tasks.specs.declared.report.Report.{Report}
 use Rattle.goi_tasks.specs.Replaying.{replay_status}
-use Rattle.goi_tasks.specs.Running.{ReportsRun}
+use Rattle.goi_tasks.specs.RunReports.{ReportsRun}
 use Rattle.goi_tasks.specs.Tasks.{nothing_shown, ReportsText}
-use Rattle.goi_tasks.proofs.Ran.{reports_run}
+use Rattle.goi_tasks.proofs.RunReports.{reports_run}
 use Rattle.goi_tasks.proofs.Texts.{of_net}
 use Rattle.goi_batches.specs.declared.judged.Judged.{Judged}
 use Rattle.goi_batches.specs.declared.judged.Judged.TheVariants.{Runs, Refused}

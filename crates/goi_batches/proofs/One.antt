@@ -15,7 +15,7 @@ use Rattle.goi_tasks.specs.Outputs.{Output}
 use Rattle.program_runs.specs.Programs.{number}
 use Rattle.goi_tasks.specs.Refusals.{fault_line}
 use Rattle.program_runs.specs.RunsText.{Tells}
-use Rattle.goi_tasks.specs.Running.{ReportsNet}
+use Rattle.goi_tasks.specs.RunReports.{ReportsNet}
 use Rattle.goi_tasks.specs.Tasks.{nothing_shown, ReportsText}
 use Rattle.program_runs.proofs.OneProgram.{same_program}
 use Rattle.goi_tasks.specs.Replaying.{replay_status}

@@ -1,14 +1,14 @@
 -- Why what came of a task, given back, is what the call promises.
 use Rattle.std.proofs.Common.{◌≡◌, ◌∙◌, ℕ, List, Result, Ok, Err, ap, subst, inl, inr}
 use Rattle.std.specs.Prelude.{IfOk, IfErr}
-use Rattle.goi_tasks.specs.declared.telling.Told.{Told}
+use Rattle.goi_tasks.specs.declared.telling.ValueAndMoves.{ValueAndMoves}
 use Rattle.goi_tasks.specs.declared.fault.Fault.{Fault}
 use Rattle.goi_tasks.specs.declared.report.Report.{Report}
 use Rattle.goi_tasks.specs.declared.stop.Stop.{Stop}
 use Rattle.goi_tasks.specs.declared.stop.Stop.TheVariants as stop
 use Rattle.goi_tasks.specs.Outputs.{Output, output_of}
 use Rattle.program_runs.specs.declared.calling.Calling.{Calling}
-use Rattle.goi_tasks.specs.Running.{TellsText}
+use Rattle.goi_tasks.specs.RunReports.{TellsText}
 use Rattle.goi_tasks.specs.Stops.{StopsFor}
 use Rattle.goi_tasks.specs.declared.shown.Shown.{Shown}
 use Rattle.goi_tasks.specs.declared.task.Task.{Task}
@@ -34,7 +34,8 @@ module _ (right : Output → Type 0) (faulty : Fault → Type 0) where
   called (Err s) b ok err g = stopped s b err g
 
 -- what a run came to, as numbers
-pub told : (calling : Calling) (budget : ℕ) (bytes : List ℕ) (r : Result Told Stop) (a : Answer) (b : Back) →
+pub told : (calling : Calling) (budget : ℕ) (bytes : List ℕ) (r : Result ValueAndMoves Stop) (a : Answer)
+    (b : Back) →
     IfOk r (λ t. TellsText calling budget bytes t.answer t.moves) →
     IfErr r (λ e. StopsFor (FaultyFor (tell_task calling budget) bytes) e) → OfTold r a b → TellsRun calling budget bytes a b
 told calling budget bytes (Ok t) a b ok err (answer, nothing) = ran t.answer t.moves ok answer nothing
@@ -50,7 +51,8 @@ pub called_as : (task own : Task) → task ≡ own → (bytes : List ℕ) (r : R
 called_as task own e bytes r b ok err g =
     subst (λ (t : Task). CallsTask t bytes b) e (called (ReportsText 1 task bytes) (FaultyFor task bytes) r b ok err g)
 
-pub told_as : (calling own : Calling) → calling ≡ own → (budget : ℕ) (bytes : List ℕ) (r : Result Told Stop) (a : Answer) (b : Back) →
+pub told_as : (calling own : Calling) → calling ≡ own → (budget : ℕ) (bytes : List ℕ) (r : Result ValueAndMoves Stop)
+    (a : Answer) (b : Back) →
     IfOk r (λ t. TellsText calling budget bytes t.answer t.moves) →
     IfErr r (λ e. StopsFor (FaultyFor (tell_task calling budget) bytes) e) → OfTold r a b → TellsRun own budget bytes a b
 told_as calling own e budget bytes r a b ok err g =

@@ -1,7 +1,7 @@
 -- What is given back of a task's result, of a run's numbers, and of a fault's.
 use Rattle.std.specs.Prelude.{◌≡◌, ◌⊎◌, ℕ, List, None, Result, Ok, Err}
 use Rattle.pcf_values.specs.Terms.{TermTree}
-use Rattle.goi_tasks.specs.declared.telling.Told.{Told}
+use Rattle.goi_tasks.specs.declared.telling.ValueAndMoves.{ValueAndMoves}
 use Rattle.goi_tasks.specs.declared.report.Report.{Report}
 use Rattle.goi_tasks.specs.declared.stop.Stop.{Stop}
 use Rattle.goi_tasks.specs.declared.stop.Stop.TheVariants as stop
@@ -25,7 +25,7 @@ OfResult (Ok r) b = Gives r.status r.text.items b
 OfResult (Err s) b = OfStop s b
 
 -- the numbers with the status of their answer, or why there are none
-abbrev pub OfTold : Result Told Stop → Answer → Back → Type 0
+abbrev pub OfTold : Result ValueAndMoves Stop → Answer → Back → Type 0
 OfTold (Ok t) a b = AnswerIs t.answer t.moves a × Nothing (replay_status t.answer) b
 OfTold (Err s) a b = AnswerIs None 0 a × OfStop s b
 

@@ -7,7 +7,7 @@ ghost use Rattle.goi_c.specs.Calls.{AnswerIs, CallsTell, HasRoom, IsAsked, OwnsT
 ghost use Rattle.goi_c.specs.Giving.{OfTold};
 
 use crate::giving::{BAD_CALL, give_nothing, give_stop};
-use goi_tasks::{Stop, Told, law_settled, status_of, tell_text};
+use goi_tasks::{Stop, ValueAndMoves, law_settled, status_of, tell_text};
 use pcf_values::Val;
 use pcf_values::limits::BUDGET;
 use program_runs::{Alone, calling_of};
@@ -57,7 +57,7 @@ pub extern "C" fn goi_tell(
 /// Gives back what a run came to, or the line of a fault.
 fn give_told(
     alloc: Global,
-    told: Result<Told, Stop>,
+    told: Result<ValueAndMoves, Stop>,
     answer: &mut Answer,
     out: &mut [u8],
     needed: &mut usize,

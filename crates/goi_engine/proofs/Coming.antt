@@ -22,7 +22,7 @@ use Rattle.goi_tasks.specs.Outputs.{Output}
 use Rattle.goi_tasks.specs.Programs.{no_program, IsProgramFault}
 use Rattle.goi_tasks.specs.Refusals.{IsLine, fault_status, program_fault_line}
 use Rattle.goi_tasks.specs.Replaying.{replay_status}
-use Rattle.goi_tasks.specs.Running.{ReportsRun}
+use Rattle.goi_tasks.specs.RunReports.{ReportsRun}
 use Rattle.goi_tasks.specs.Tasks.{nothing_shown}
 use Rattle.goi_engine.specs.Deeds.{Deed}
 use Rattle.goi_engine.specs.FilesSeen.{Possibly}

@@ -1,7 +1,7 @@
 -- loading: what one read adds to what was loaded, and which reads were made
 pub mod Loading
 -- what was loaded of a file says all that its bytes say, although no more than its limit and one byte is read
-pub mod Told
+pub mod LoadedFiles
 -- from the answers to a deed's files to the answer to the deed
 pub mod Answered
 -- the same for a list and the programs of its lines

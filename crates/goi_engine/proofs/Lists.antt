@@ -33,7 +33,7 @@ use Rattle.goi_world.specs.Seen.{FilesState, FilesKept}
 use Rattle.goi_engine.specs.FilesSeen.{Possibly, OfFile, LoadedBy}
 use Rattle.goi_engine.specs.ListsSeen.{OfList, FaultyList, unlisted, AreSectionsIn, ReportsLines, LacksOne, LoadedEach, LoadedList}
 use Rattle.goi_engine.proofs.Answered.{same_state}
-use Rattle.goi_engine.proofs.Told.{Same, possible, of_program_goes, faulty_goes}
+use Rattle.goi_engine.proofs.LoadedFiles.{Same, possible, of_program_goes, faulty_goes}
 
 -- ---- what was loaded of a list's file
 

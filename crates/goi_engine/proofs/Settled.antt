@@ -17,7 +17,7 @@ use Rattle.program_runs.specs.Programs.{number, OfGround}
 use Rattle.program_runs.proofs.OneProgram.{same_ground}
 use Rattle.goi_tasks.specs.Programs.{FaultyText, FaultyEither}
 use Rattle.goi_tasks.specs.Replaying.{ReportsReplay, EndsReplay, FaultySchedule}
-use Rattle.goi_tasks.specs.Running.{demo_budget}
+use Rattle.goi_tasks.specs.RunReports.{demo_budget}
 use Rattle.goi_tasks.specs.Tasks.{ReportsText, FaultyFor, EndsText}
 use Rattle.goi_tasks.proofs.Functions.{call_end, call_sound, one_call_fault}
 use Rattle.goi_tasks.proofs.Outcomes.{Known, ground_sound, one_text_fault, text_end, report_sound, end_sound, one_fault_for}

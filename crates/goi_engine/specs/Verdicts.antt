@@ -11,7 +11,7 @@ use Rattle.goi_tasks.specs.Calls.{ReportsCall, FaultyCall, EndsCall}
 use Rattle.goi_tasks.specs.Outputs.{Output}
 use Rattle.program_runs.specs.Programs.{OfGround}
 use Rattle.goi_tasks.specs.Programs.{FaultyEither}
-use Rattle.goi_tasks.specs.Running.{demo_budget, ReportsDemo, EndsRun}
+use Rattle.goi_tasks.specs.RunReports.{demo_budget, ReportsDemo, EndsRun}
 use Rattle.goi_tasks.specs.Replaying.{ReportsReplay, EndsReplay, FaultySchedule}
 use Rattle.goi_tasks.specs.Tasks.{most_bytes, ReportsText, FaultyFor, EndsText}
 use Rattle.goi_engine.specs.Deeds.{Deed, with_text, with_schedule, with_list, generated, with_numbers}

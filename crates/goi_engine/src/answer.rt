@@ -11,14 +11,14 @@ ghost use Rattle.goi_engine.specs.Deeds.{deed, deed_of, with_schedule};
 ghost use Rattle.goi_engine.specs.FilesSeen.{LoadedBy};
 ghost use Rattle.goi_world.specs.Seen.{FilesKept};
 ghost use Rattle.metered_pool.specs.Progress.{IsProgress};
-ghost use Rattle.net_runs.specs.Running.{IsRun, IsFirstWorkers};
+ghost use Rattle.net_runs.specs.IsRun.{IsRun, IsFirstWorkers};
 ghost use Rattle.program_runs.specs.declared.calling.Calling.TheVariants.{ByName};
 ghost use Rattle.program_runs.specs.Nets.{IsNetFor, RunsAs};
 ghost use Rattle.program_runs.specs.Programs.{number};
 ghost use Rattle.goi_tasks.specs.Notes.{NumbersOf};
 ghost use Rattle.goi_tasks.specs.Programs.{FaultyText};
 ghost use Rattle.goi_tasks.specs.Replaying.{ReportsReplay, FaultySchedule};
-ghost use Rattle.goi_tasks.specs.Running.{ReportsDemo};
+ghost use Rattle.goi_tasks.specs.RunReports.{ReportsDemo};
 ghost use Rattle.goi_tasks.specs.Tasks.{IsWithin, ReportsText, FaultyFor, most_bytes, progress_of};
 ghost use Rattle.goi_engine.specs.Verdicts.{LoadedBoth, ReadFor};
 

@@ -3,7 +3,7 @@
 ghost use Rattle.std.specs.Prelude.{◌≡◌, ◌≤◌, ℕ, List, false, length, IfOk};
 ghost use Rattle.pcf_values.specs.Most.{most_budget, most_workers, most_program_bytes};
 ghost use Rattle.interleave_laws.specs.Runs.{Runs};
-ghost use Rattle.net_runs.specs.Running.{IsRun, IsFirstWorkers};
+ghost use Rattle.net_runs.specs.IsRun.{IsRun, IsFirstWorkers};
 ghost use Rattle.goi_jobs.specs.Jobs.{IsBudget, IsWorkers};
 ghost use Rattle.goi_world.specs.Seen.{FilesKept};
 ghost use Rattle.goi_tasks.specs.Calls.{ReportsCall, FaultyCall};

@@ -21,7 +21,7 @@ use Rattle.goi_tasks.specs.declared.stop.Stop.{Stop}
 use Rattle.goi_tasks.specs.Calls.{OfFunction, ReportsCall, FaultyCall, EndsCall}
 use Rattle.goi_tasks.specs.Outputs.{Output}
 use Rattle.goi_tasks.specs.Programs.{no_program}
-use Rattle.goi_tasks.specs.Running.{EndsRun}
+use Rattle.goi_tasks.specs.RunReports.{EndsRun}
 use Rattle.goi_tasks.specs.Settles.{Settles, status_of_output}
 use Rattle.goi_tasks.specs.Stops.{StopsFor, stop_of_no_run}
 use Rattle.goi_tasks.proofs.Outcomes.{one_run_end, run_ends, run_status}

@@ -4,7 +4,7 @@ pub mod Brief
 -- with a schedule.
 pub mod Outcomes
 -- The report that is made of a run of a program's net.
-pub mod Ran
+pub mod RunReports
 -- The report that is made of a run in rounds.
 pub mod Spanned
 -- The reduction of a tree as the output for its text, and what it is worth.

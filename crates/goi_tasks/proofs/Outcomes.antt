@@ -42,7 +42,7 @@ use Rattle.goi_tasks.specs.Programs.{no_program, FaultyText}
 use Rattle.goi_tasks.specs.Replaying.{replay_status, ReportsReplay, EndsReplay, FaultySchedule, unread as no_schedule, unmoved}
 use Rattle.goi_tasks.specs.Reductions.{reduction}
 use Rattle.goi_tasks.specs.Rounds.{TellsSpan, ReportsRounds}
-use Rattle.goi_tasks.specs.Running.{ReportsNet, ReportsWalk, EndsRun}
+use Rattle.goi_tasks.specs.RunReports.{ReportsNet, ReportsWalk, EndsRun}
 use Rattle.goi_tasks.specs.Tasks.{ReportsText, FaultyFor, EndsText}
 
 -- ---- the laws of the crates below that settle it

@@ -10,7 +10,7 @@ use Rattle.goi_tasks.specs.declared.fault.Fault.{Fault}
 use Rattle.goi_tasks.specs.declared.shown.Shown.{Shown}
 use Rattle.goi_tasks.specs.Outputs.{Output}
 use Rattle.goi_tasks.specs.Programs.{IsProgramFault}
-use Rattle.goi_tasks.specs.Running.{ReportsRun, EndsRun}
+use Rattle.goi_tasks.specs.RunReports.{ReportsRun, EndsRun}
 
 -- the text is a function of as many numbers as these, and this is so of its term applied to them
 pub record OfFunction (numbers bytes : List ℕ) (P : TermTree → Type 0) : Type 0 where

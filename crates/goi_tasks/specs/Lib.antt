@@ -11,7 +11,7 @@ pub mod Calls
 -- What is told on the error output behind a report: nothing, or how many moves were counted while the run went on.
 pub mod Notes
 -- A run of a program: which report it has, and with which status it ends.
-pub mod Running
+pub mod RunReports
 -- What a run in rounds says of a program, and its report.
 pub mod Rounds
 -- The reduction of a program as an output, and what it says of the program.

@@ -26,7 +26,7 @@ use Rattle.goi_tasks.specs.Programs.{FaultyText}
 use Rattle.goi_tasks.specs.Reductions.{ReportsSteps, reduction}
 use Rattle.goi_tasks.specs.Replaying.{replay_status}
 use Rattle.goi_tasks.specs.Rounds.{ReportsSpan}
-use Rattle.goi_tasks.specs.Running.{ReportsRun, ReportsTrace, EndsRun}
+use Rattle.goi_tasks.specs.RunReports.{ReportsRun, ReportsTrace, EndsRun}
 
 -- ---- what is told of a run
 

@@ -8,7 +8,7 @@ ghost use Rattle.demo_text.specs.Demo.{demo_term};
 ghost use Rattle.goi_jobs.specs.Jobs.{IsDemo};
 ghost use Rattle.program_runs.specs.RunsText.{IsProgramRun};
 ghost use Rattle.goi_tasks.specs.Outputs.{output_of};
-ghost use Rattle.goi_tasks.specs.Running.{ReportsDemo, demo_budget};
+ghost use Rattle.goi_tasks.specs.RunReports.{ReportsDemo, demo_budget};
 
 use crate::report::{Report, plain};
 use crate::running::status_of;

@@ -40,5 +40,5 @@ pub use settled::{law_one_listing, law_settled};
 pub use shown::Shown;
 pub use stop::Stop;
 pub use task::{Task, most_bytes, progress_of};
-pub use telling::{Told, tell_text};
+pub use telling::{ValueAndMoves, tell_text};
 pub use watched::Watched;

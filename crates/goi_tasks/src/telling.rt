@@ -4,7 +4,7 @@ ghost use Rattle.std.specs.Prelude.{◌≡◌, IfOk, IfErr};
 ghost use Rattle.program_runs.specs.Programs.{wanted_by_run};
 ghost use Rattle.goi_jobs.specs.Jobs.{IsBudget};
 ghost use Rattle.goi_tasks.specs.Programs.{FaultyText};
-ghost use Rattle.goi_tasks.specs.Running.{TellsText};
+ghost use Rattle.goi_tasks.specs.RunReports.{TellsText};
 ghost use Rattle.goi_tasks.specs.Stops.{StopsFor};
 
 use crate::stop::Stop;
@@ -14,7 +14,7 @@ use std::alloc::Global;
 
 /// What a run came to.
 #[derive(Clone, Copy)]
-pub struct Told {
+pub struct ValueAndMoves {
     /// Its value, or none within the budget.
     pub answer: Option<Val>,
     /// How many moves it made; the whole budget where there is no value.
@@ -32,14 +32,14 @@ pub fn tell_text<C: Crew>(
     budget: u32,
     calling: Calling,
     crew: &C,
-) -> Result<Told, Stop>
+) -> Result<ValueAndMoves, Stop>
     requires fit { C.fit crew.now }
     requires budget { IsBudget budget }
     ensures told { IfOk result (λ r. TellsText calling budget bytes.now r.answer r.moves) }
     ensures fault { IfErr result (λ e. StopsFor (FaultyText (wanted_by_run calling) bytes.now) e) }
 {
     let ended = run_text(alloc, bytes, budget, calling, crew)?;
-    let told = Told {
+    let told = ValueAndMoves {
         answer: ended.answer,
         moves: ended.log.len(),
     };

@@ -4,7 +4,7 @@ ghost use Rattle.std.specs.Prelude.{◌≡◌, ◌≤◌, ℕ, List, IfOk, lengt
 ghost use Rattle.pcf_values.specs.Most.{most_budget};
 ghost use Rattle.interleave_laws.specs.Runs.{Runs};
 ghost use Rattle.metered_pool.specs.Progress.{IsProgress};
-ghost use Rattle.net_runs.specs.Running.{IsRun, IsFirstWorkers};
+ghost use Rattle.net_runs.specs.IsRun.{IsRun, IsFirstWorkers};
 
 use net_build::Net;
 use program_runs::Crew;

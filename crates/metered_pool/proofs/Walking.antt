@@ -27,8 +27,8 @@ use Rattle.interleave_core.specs.Owning.{GoesAlone}
 use Rattle.interleave_core.proofs.AloneRuns.{begins, least_seen, goes_on, full, idle}
 use Rattle.schedule_log.specs.declared.entry.Entry.{Entry}
 use Rattle.schedule_log.specs.Logs.{by}
-use Rattle.net_runs.specs.Running.{IsRun}
-use Rattle.net_runs.proofs.Ran.{alone_is_run}
+use Rattle.net_runs.specs.IsRun.{IsRun}
+use Rattle.net_runs.proofs.AloneIsRun.{alone_is_run}
 use Rattle.metered_pool.specs.Walking.{Walked}
 
 -- a move under the first worker's number

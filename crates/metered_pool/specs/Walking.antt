@@ -8,7 +8,7 @@ use Rattle.schedule_log.specs.declared.entry.Entry.{Entry}
 use Rattle.schedule_log.specs.Logs.{by}
 use Rattle.progress_meter.specs.Meters.{Publisher, last_of}
 use Rattle.token_pool.specs.declared.ending.Ended.{Ended}
-use Rattle.net_runs.specs.Running.{IsRun, IsFirstWorkers}
+use Rattle.net_runs.specs.IsRun.{IsRun, IsFirstWorkers}
 
 -- the moves are the one worker's, they lead to the state, and each is written down for worker 0
 pub record Walked (net : NetTree) (log : List Entry) (S : MapState) : Type 0 where

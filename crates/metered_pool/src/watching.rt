@@ -7,7 +7,7 @@ ghost use Rattle.interleave_laws.specs.Runs.{Runs};
 ghost use Rattle.progress_meter.specs.Meters.{last_of, first_publisher, first_listener};
 ghost use Rattle.token_pool.specs.Pools.{InLimits};
 ghost use Rattle.token_pool.specs.Ending.{Suits};
-ghost use Rattle.net_runs.specs.Running.{IsRun, IsFirstWorkers};
+ghost use Rattle.net_runs.specs.IsRun.{IsRun, IsFirstWorkers};
 ghost use Rattle.metered_pool.specs.Metered.{IsLevel, IsOf};
 ghost use Rattle.metered_pool.specs.Progress.{HasRead, IsProgress};
 ghost use Rattle.metered_pool.specs.Walking.{WalksAlone};

@@ -1,2 +1,2 @@
 -- what a reader has to believe: what a run of a net is
-pub mod Running
+pub mod IsRun

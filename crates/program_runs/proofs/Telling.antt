@@ -13,7 +13,7 @@ use Rattle.adequacy_laws.specs.FinishedLaws.{TellsMeaning, MapFinishedMeans}
 use Rattle.schedule_log.specs.declared.entry.Entry.{Entry}
 use Rattle.schedule_log.specs.Logs.{tickets_in_log}
 use Rattle.schedule_log.proofs.Taken.{tickets_all}
-use Rattle.net_runs.specs.Running.{IsRun, IsFirstWorkers}
+use Rattle.net_runs.specs.IsRun.{IsRun, IsFirstWorkers}
 use Rattle.program_runs.specs.Laws.{MovesTell, RunsTell}
 use Rattle.program_runs.specs.declared.calling.Calling.{Calling}
 use Rattle.program_runs.specs.Nets.{RunsAs, IsNetFor}

@@ -9,7 +9,7 @@ use Rattle.net_build.specs.NetOf.{net_of}
 use Rattle.interleave_laws.specs.Maps.{MapState, LeadsToMap}
 use Rattle.interleave_laws.specs.Runs.{Finished}
 use Rattle.schedule_log.specs.declared.entry.Entry.{Entry}
-use Rattle.net_runs.specs.Running.{IsRun, IsFirstWorkers}
+use Rattle.net_runs.specs.IsRun.{IsRun, IsFirstWorkers}
 use Rattle.program_runs.specs.declared.fault.ProgramFault.{ProgramFault}
 use Rattle.program_runs.specs.Programs.{Wanted, IsProgram, OfProgram, FaultyProgram}
 use Rattle.program_runs.specs.RunsText.{Tells, IsProgramRun}

@@ -12,7 +12,7 @@ use Rattle.net_build.specs.NetOf.{net_of}
 use Rattle.adequacy_laws.specs.Questions.{Length}
 use Rattle.adequacy_laws.specs.Finished.{Beyond}
 use Rattle.schedule_log.specs.declared.entry.Entry.{Entry}
-use Rattle.net_runs.specs.Running.{IsRun, IsFirstWorkers}
+use Rattle.net_runs.specs.IsRun.{IsRun, IsFirstWorkers}
 use Rattle.program_runs.specs.declared.calling.Calling.{Calling}
 use Rattle.program_runs.specs.declared.calling.Calling.TheVariants.{ByName, ByValue}
 use Rattle.program_runs.specs.Programs.{OfProgram, wanted_by_run}

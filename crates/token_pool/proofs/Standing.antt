@@ -15,8 +15,8 @@ use Rattle.schedule_log.specs.declared.entry.Entry.{Entry}
 use Rattle.schedule_log.specs.Logs.{tickets_in_log}
 use Rattle.schedule_log.proofs.Taken.{tickets_all}
 use Rattle.token_pool.specs.declared.entries.Held.{Held}
-use Rattle.token_pool.specs.declared.entries.Told.{Told}
-use Rattle.token_pool.specs.declared.entries.Told.TheVariants.{Stopped, Token, Ended, Idle, Reserved}
+use Rattle.token_pool.specs.declared.entries.Reply.{Reply}
+use Rattle.token_pool.specs.declared.entries.Reply.TheVariants.{Stopped, Token, Ended, Idle, Reserved}
 use Rattle.token_pool.specs.Pools.{Pool, InLimits, Good, Holds, allowances, count_held, none_held_by, started}
 use Rattle.token_pool.specs.Codes.{pool}
 use Rattle.token_pool.specs.Turns.{turn, held_after, flat, own, count_free}
@@ -50,10 +50,10 @@ pub within_small : (p : Pool) → Good p → allowances p.held < 2 ^ 32
 within_small p good = let i = good.within in let b = good.limits.few_moves in omega (arith, i, b)
 
 -- what a worker is told is live
-pub told_live : (p P : Pool) (w : ℕ) (t : Told) → Good p → p ≡ P → w < P.workers → t ≡ turn P w → TellsLive p.state t
+pub told_live : (p P : Pool) (w : ℕ) (t : Reply) → Good p → p ≡ P → w < P.workers → t ≡ turn P w → TellsLive p.state t
 told_live p P w t good e l h = go t (h ∙ ap (λ P. turn P w) (sym e))
   where
-    go : (t : Told) → t ≡ turn p w → TellsLive p.state t
+    go : (t : Reply) → t ≡ turn p w → TellsLive p.state t
     go Stopped h = tt
     go (Token k) h = (take_gives p w k good (subst (λ (P : Pool). w < P.workers) (sym e) l) (sym h)).1
     go Ended h = tt
@@ -61,7 +61,7 @@ told_live p P w t good e l h = go t (h ∙ ap (λ P. turn P w) (sym e))
     go Reserved h = tt
 
 -- and a pool in which the worker holds it is good
-pub told_good : (p P : Pool) (w : ℕ) (t : Told) (held : List (Option Held)) → Good p → p ≡ P → w < P.workers →
+pub told_good : (p P : Pool) (w : ℕ) (t : Reply) (held : List (Option Held)) → Good p → p ≡ P → w < P.workers →
     t ≡ turn P w → held ≡ held_after t p.held w → Good (record p { held = held })
 told_good p P w t held good e l h s =
     let k : turns.taken p w ≡ record p { held = held } =
@@ -70,17 +70,17 @@ told_good p P w t held good e l h s =
     subst Good k (take_keeps p w good (subst (λ (P : Pool). w < P.workers) (sym e) l))
 
 -- the same of a worker that plays branches
-pub branch_told_live : (p P : Pool) (w : ℕ) (t : Told) → Good p → p ≡ P → w < P.workers → t ≡ branch_turn P w → TellsLive p.state t
+pub branch_told_live : (p P : Pool) (w : ℕ) (t : Reply) → Good p → p ≡ P → w < P.workers → t ≡ branch_turn P w → TellsLive p.state t
 branch_told_live p P w t good e l h = go t (h ∙ ap (λ P. branch_turn P w) (sym e))
   where
-    go : (t : Told) → t ≡ branch_turn p w → TellsLive p.state t
+    go : (t : Reply) → t ≡ branch_turn p w → TellsLive p.state t
     go Stopped h = tt
     go (Token k) h = (take_branch_gives p w k good (subst (λ (P : Pool). w < P.workers) (sym e) l) (sym h)).1
     go Ended h = tt
     go Idle h = tt
     go Reserved h = tt
 
-pub branch_told_good : (p P : Pool) (w : ℕ) (t : Told) (held : List (Option Held)) → Good p → p ≡ P → w < P.workers →
+pub branch_told_good : (p P : Pool) (w : ℕ) (t : Reply) (held : List (Option Held)) → Good p → p ≡ P → w < P.workers →
     t ≡ branch_turn P w → held ≡ held_after t p.held w → Good (record p { held = held })
 branch_told_good p P w t held good e l h s =
     let k : branch_taken p w ≡ record p { held = held } =
@@ -89,7 +89,7 @@ branch_told_good p P w t held good e l h s =
     subst Good k (take_branch_keeps p w good (subst (λ (P : Pool). w < P.workers) (sym e) l))
 
 -- what is handed out is a seed
-pub hands_seed : (p P : Pool) (w : ℕ) (t : Told) (r : Taken) → Good p → p ≡ P → w < P.workers → t ≡ branch_turn P w →
+pub hands_seed : (p P : Pool) (w : ℕ) (t : Reply) (r : Taken) → Good p → p ≡ P → w < P.workers → t ≡ branch_turn P w →
     Hands p.state t r → HandsSeed P.net r
 hands_seed p P w t r good e l h hands = subst (λ (P : Pool). HandsSeed P.net r) e (go t r (h ∙ ap (λ P. branch_turn P w) (sym e)) hands)
   where
@@ -104,7 +104,7 @@ hands_seed p P w t r good e l h hands = subst (λ (P : Pool). HandsSeed P.net r)
         let b = good.limits.few_moves in
         omega (arith, s, i, b)
 
-    go : (t : Told) (r : Taken) → t ≡ branch_turn p w → Hands p.state t r → HandsSeed p.net r
+    go : (t : Reply) (r : Taken) → t ≡ branch_turn p w → Hands p.state t r → HandsSeed p.net r
     go (Token h) (taken.Token k) q is =
         let a = is.allowance in
         let f = few h q in ((tickets_in_log p.log, p.state, h.ticket, good.leads, is.token), omega (arith, a, f))

@@ -14,8 +14,8 @@ use Rattle.interleave_laws.proofs.MapLaws.{seen_leads, map_low}
 use Rattle.interleave_laws.proofs.OneWorker.{least_found, least_none}
 use Rattle.schedule_log.specs.Logs.{tickets_in_log}
 use Rattle.token_pool.specs.declared.entries.Held.{Held}
-use Rattle.token_pool.specs.declared.entries.Told.{Told}
-use Rattle.token_pool.specs.declared.entries.Told.TheVariants.{Stopped, Token, Ended, Idle, Reserved}
+use Rattle.token_pool.specs.declared.entries.Reply.{Reply}
+use Rattle.token_pool.specs.declared.entries.Reply.TheVariants.{Stopped, Token, Ended, Idle, Reserved}
 use Rattle.token_pool.specs.Pools.{Pool, Holds, Good}
 use Rattle.token_pool.specs.Turns.{IsLeastFree, is_held, none_held, free, least_free, spent, allowance, is_ended, flat, own, on_own}
 use Rattle.token_pool.specs.Turns.{on_free, turn, held_after, taken}
@@ -166,7 +166,7 @@ module _ (p : Pool) (good : Good p) where
   own_place w l (inl e) = e
   own_place w l (inr e) = let k = good.places in let s = slice_get-get_or p.held w None (omega (arith, k)) in absurd cc
 
-  keeps : (w : ℕ) → w < p.workers → (t : Told) → turn p w ≡ t → Good (record p { held = held_after t p.held w })
+  keeps : (w : ℕ) → w < p.workers → (t : Reply) → turn p w ≡ t → Good (record p { held = held_after t p.held w })
   keeps w l Stopped e = good
   keeps w l Ended e = good
   keeps w l Idle e = good
@@ -192,7 +192,7 @@ module _ (p : Pool) (good : Good p) where
       (at, (keeps w l (turn p w) refl).live w h at)
 
   -- a worker that plays branches is given more of what is left
-  branch_keeps : (w : ℕ) → w < p.workers → (o : Option Held) → own p.held w ≡ o → (t : Told) → turn p w ≡ t →
+  branch_keeps : (w : ℕ) → w < p.workers → (o : Option Held) → own p.held w ≡ o → (t : Reply) → turn p w ≡ t →
       Good (record p { held = held_after (if is_some o then t else widened p t) p.held w })
   branch_keeps w l (Some g) q t e = keeps w l t e
   branch_keeps w l None q Stopped e = good

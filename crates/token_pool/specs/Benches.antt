@@ -6,8 +6,8 @@ use Rattle.gate_workers.specs.declared.turn.Turn.TheVariants as turn
 use Rattle.net_build.specs.Nets.{NetTree}
 use Rattle.move_rules.specs.Walks.{Passage, Walked}
 use Rattle.token_pool.specs.declared.entries.Booked.{Booked}
-use Rattle.token_pool.specs.declared.entries.Told.{Told}
-use Rattle.token_pool.specs.declared.entries.Told.TheVariants as told
+use Rattle.token_pool.specs.declared.entries.Reply.{Reply}
+use Rattle.token_pool.specs.declared.entries.Reply.TheVariants as told
 use Rattle.token_pool.specs.declared.pieces.Piece.{Piece}
 use Rattle.token_pool.specs.Pools.{Pool}
 use Rattle.token_pool.specs.Pieces.{IsPieceOf}
@@ -20,7 +20,7 @@ abbrev pub MakesWalk : NetTree → Piece → Passage → Type 0
 MakesWalk net k m = (m.before ≡ k.token) × Walked net k.allowance m
 
 -- the turn that a bench gives a worker for what it is told: a piece to work, a pause, or nothing any more
-abbrev pub TurnFor : MapState → Told → Turn Piece → Type 0
+abbrev pub TurnFor : MapState → Reply → Turn Piece → Type 0
 TurnFor S (told.Token h) (turn.Piece k) = IsPieceOf S h k
 TurnFor S told.Idle turn.Pause = Unit {0}
 TurnFor S told.Reserved turn.Pause = Unit {0}

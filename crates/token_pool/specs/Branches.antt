@@ -18,8 +18,8 @@ use Rattle.schedule_log.specs.Logs.{by}
 use Rattle.token_pool.specs.declared.entries.Held.{Held}
 use Rattle.token_pool.specs.declared.entries.Booked.{Booked}
 use Rattle.token_pool.specs.declared.entries.Booked.TheVariants.{Done, NothingHeld}
-use Rattle.token_pool.specs.declared.entries.Told.{Told}
-use Rattle.token_pool.specs.declared.entries.Told.TheVariants as told
+use Rattle.token_pool.specs.declared.entries.Reply.{Reply}
+use Rattle.token_pool.specs.declared.entries.Reply.TheVariants as told
 use Rattle.token_pool.specs.declared.pieces.Taken.{Taken}
 use Rattle.token_pool.specs.declared.pieces.Taken.TheVariants as taken
 use Rattle.token_pool.specs.Pools.{Pool, Holds}
@@ -44,7 +44,7 @@ for_branch p h = record {
   allowance = branch_allowance (p.budget - spent p) p.workers (words_in (get p.state.tokens h.ticket));
 }
 
-abbrev pub widened : Pool → Told → Told
+abbrev pub widened : Pool → Reply → Reply
 widened p (told.Token h) = told.Token (for_branch p h)
 widened p told.Stopped = told.Stopped
 widened p told.Ended = told.Ended
@@ -52,7 +52,7 @@ widened p told.Idle = told.Idle
 widened p told.Reserved = told.Reserved
 
 -- what a worker that plays branches is told: what it holds, if it holds something, and else what any other is told, for a branch
-abbrev pub branch_turn : Pool → ℕ → Told
+abbrev pub branch_turn : Pool → ℕ → Reply
 branch_turn p w = if is_some (own p.held w) then turn p w else widened p (turn p w)
 
 -- the worker holds what it was given, and all else stays

@@ -4,7 +4,7 @@ use Rattle.net_build.specs.Nets.{NetTree}
 use Rattle.interleave_laws.specs.Runs.{Runs}
 use Rattle.interleave_laws.specs.Tickets.{IsLive}
 use Rattle.token_pool.specs.declared.entries.Held.{Held}
-use Rattle.token_pool.specs.declared.entries.Told.TheVariants.{Token, Idle, Reserved}
+use Rattle.token_pool.specs.declared.entries.Reply.TheVariants.{Token, Idle, Reserved}
 use Rattle.token_pool.specs.Pools.{Pool, Holds, InLimits, Good, started}
 use Rattle.token_pool.specs.Turns.{own, turn, taken, IsLeastFree}
 use Rattle.branch_runs.specs.Branching.{Grown, IsBranch}

@@ -12,8 +12,8 @@ use Rattle.interleave_laws.specs.OneWorker.{least_from}
 use Rattle.interleave_laws.specs.Maps.{MapState}
 use Rattle.interleave_laws.specs.Tickets.{IsLive}
 use Rattle.token_pool.specs.declared.entries.Held.{Held}
-use Rattle.token_pool.specs.declared.entries.Told.{Told}
-use Rattle.token_pool.specs.declared.entries.Told.TheVariants.{Stopped, Token, Ended, Idle, Reserved}
+use Rattle.token_pool.specs.declared.entries.Reply.{Reply}
+use Rattle.token_pool.specs.declared.entries.Reply.TheVariants.{Stopped, Token, Ended, Idle, Reserved}
 use Rattle.token_pool.specs.Pools.{Pool, allowances}
 
 -- whether a worker holds the ticket
@@ -69,7 +69,7 @@ abbrev pub allowance : ℕ → ℕ → ℕ
 allowance left workers = min 64 (max 1 (left / workers))
 
 -- a free ticket is given out, unless the whole budget is made or set aside
-abbrev pub offered : ℕ → ℕ → ℕ → ℕ → Told
+abbrev pub offered : ℕ → ℕ → ℕ → ℕ → Reply
 offered made budget workers i =
     if nat_eq made budget then Reserved else
     Token (record { ticket = i; allowance = allowance (budget - made) workers })
@@ -91,27 +91,27 @@ abbrev pub own : List (Option Held) → ℕ → Option Held
 own held w = flat (slice_get held w)
 
 -- what the worker holds, if it holds something, and else the next lines
-abbrev pub on_own : Option Held → Told → Told
+abbrev pub on_own : Option Held → Reply → Reply
 on_own None t = t
 on_own (Some h) t = Token h
 
 -- nothing to do where no token is free, and else the next lines
-abbrev pub on_free : Option ℕ → (ℕ → Told) → Told
+abbrev pub on_free : Option ℕ → (ℕ → Reply) → Reply
 on_free None f = Idle
 on_free (Some i) f = f i
 
 -- what a worker is told that holds nothing, after so many moves
-abbrev pub next_lines : MapState → ℕ → List (Option Held) → ℕ → ℕ → Told
+abbrev pub next_lines : MapState → ℕ → List (Option Held) → ℕ → ℕ → Reply
 next_lines S made held budget workers =
     if ends S.answered made budget held then Ended else
     on_free (least_free_of S held) (offered (made + allowances held) budget workers)
 
 -- what worker w is told
-abbrev pub turn : Pool → ℕ → Told
+abbrev pub turn : Pool → ℕ → Reply
 turn p w = if p.stopped then Stopped else on_own (own p.held w) (next_lines p.state (length p.log) p.held p.budget p.workers)
 
 -- the worker holds what it was given, and all else stays
-abbrev pub held_after : Told → List (Option Held) → ℕ → List (Option Held)
+abbrev pub held_after : Reply → List (Option Held) → ℕ → List (Option Held)
 held_after (Token h) held w = set held w (Some h)
 held_after Stopped held w = held
 held_after Ended held w = held

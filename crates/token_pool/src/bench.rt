@@ -3,7 +3,7 @@
 ghost use Rattle.std.specs.Prelude.{◌≡◌, IfOk, OnOk, OnErr};
 ghost use Rattle.token_pool.specs.Benches.{MakesWalk, TurnFor, GivesTurn, TakesIn};
 ghost use Rattle.interleave_laws.specs.Maps.{MapState};
-ghost use Rattle.token_pool.specs.declared.entries.Told.{Told};
+ghost use Rattle.token_pool.specs.declared.entries.Reply.{Reply};
 ghost use Rattle.token_pool.specs.Pieces.{Hands};
 ghost use Rattle.token_pool.specs.Booking.{HoldsOther, halted};
 
@@ -15,7 +15,7 @@ use std::alloc::{AllocError, Global};
 
 /// The turn for what a worker was handed.
 fn turn_of(taken: Taken) -> Turn<Piece>
-    ensures { (S : MapState) (told : Told) → Hands S told taken → TurnFor S told result }
+    ensures { (S : MapState) (told : Reply) → Hands S told taken → TurnFor S told result }
 {
     match taken {
         Taken::Token(piece) => Turn::Piece(piece),

@@ -11,7 +11,7 @@ pub struct Held {
 
 /// What a worker is told that asks for work: the ticket that it holds from now on, or why there is none.
 #[derive(Clone, Copy)]
-pub enum Told {
+pub enum Reply {
     /// The pool was stopped.
     Stopped,
     /// The worker holds this.

@@ -20,7 +20,7 @@ mod pool;
 mod turns;
 
 pub use ending::Ended;
-pub use entries::{Booked, Held, Told};
+pub use entries::{Booked, Held, Reply};
 pub use laws::{
     law_book_keeps, law_branches_keep, law_finish_replays, law_start_good, law_stop_keeps,
     law_take_keeps,

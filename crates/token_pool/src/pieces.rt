@@ -4,9 +4,9 @@ ghost use Rattle.std.specs.Prelude.{◌≡◌, IfOk, OnErr};
 ghost use Rattle.token_pool.specs.declared.entries.Held.{Held};
 ghost use Rattle.interleave_laws.specs.Tickets.{IsLive};
 ghost use Rattle.token_pool.specs.Pieces.{TellsLive, IsPieceOf, Hands};
-ghost use Rattle.token_pool.specs.declared.entries.Told.TheVariants.{Token as TellsToken};
+ghost use Rattle.token_pool.specs.declared.entries.Reply.TheVariants.{Token as TellsToken};
 
-use crate::{Held, Told};
+use crate::{Held, Reply};
 use interleave_core::Core;
 use move_rules::Token;
 use std::alloc::AllocError;
@@ -53,16 +53,16 @@ fn piece_of(core: &Core, held: Held) -> Result<Piece, AllocError>
 }
 
 /// Hands a worker what it is told.
-pub(crate) fn hand(core: &Core, told: Told) -> Result<Taken, AllocError>
+pub(crate) fn hand(core: &Core, told: Reply) -> Result<Taken, AllocError>
     requires { TellsLive core.now told }
     ensures handed { IfOk result (Hands core.now told) }
     ensures ample { OnErr result ((h : Held) × (told ≡ TellsToken h)) }
 {
     match told {
-        Told::Stopped => Ok(Taken::Stopped),
-        Told::Token(held) => Ok(Taken::Token(piece_of(core, held)?)),
-        Told::Ended => Ok(Taken::Ended),
-        Told::Idle => Ok(Taken::Idle),
-        Told::Reserved => Ok(Taken::Reserved),
+        Reply::Stopped => Ok(Taken::Stopped),
+        Reply::Token(held) => Ok(Taken::Token(piece_of(core, held)?)),
+        Reply::Ended => Ok(Taken::Ended),
+        Reply::Idle => Ok(Taken::Idle),
+        Reply::Reserved => Ok(Taken::Reserved),
     }
 }

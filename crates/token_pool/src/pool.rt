@@ -6,7 +6,7 @@ ghost use Rattle.interleave_laws.specs.Start.{start_of};
 ghost use Rattle.interleave_laws.specs.Maps.{start_map};
 ghost use Rattle.schedule_log.specs.LogsSeen.{empty_log};
 ghost use Rattle.token_pool.specs.declared.entries.Held.{Held};
-ghost use Rattle.token_pool.specs.declared.entries.Told.TheVariants.{Token};
+ghost use Rattle.token_pool.specs.declared.entries.Reply.TheVariants.{Token};
 ghost use Rattle.token_pool.specs.Pieces.{Hands};
 ghost use Rattle.token_pool.specs.Pools.{InLimits, Good, started, count_held, none_held_by};
 ghost use Rattle.token_pool.specs.Turns.{turn, taken, count_free, spent, spare_pieces};
@@ -20,7 +20,7 @@ use crate::ending::play_on;
 use crate::pieces::hand;
 use crate::places::Places;
 use crate::turns::next_line;
-use crate::{Booked, Ended, Held, Taken, Told};
+use crate::{Booked, Ended, Held, Reply, Taken};
 use branch_runs::{Branch, OnNet};
 use interleave_core::Core;
 use move_rules::Moved;
@@ -169,14 +169,14 @@ impl PoolState {
     }
 
     /// What a worker is told.
-    fn told(&self, worker: u32) -> Told
+    fn told(&self, worker: u32) -> Reply
         ensures { result ≡ turn self.now worker }
     {
         if self.stopped {
-            return Told::Stopped;
+            return Reply::Stopped;
         }
         if let Some(held) = self.held.held_by(worker) {
-            return Told::Token(held);
+            return Reply::Token(held);
         }
         next_line(
             &self.core,
@@ -242,20 +242,20 @@ impl PoolState {
     }
 
     /// What a worker is told that holds nothing, for a branch.
-    fn widened(&self, told: Told) -> Told
+    fn widened(&self, told: Reply) -> Reply
         ensures { result ≡ widened self.now told }
     {
         match told {
-            Told::Token(held) => Told::Token(self.for_branch(held)),
-            Told::Stopped => Told::Stopped,
-            Told::Ended => Told::Ended,
-            Told::Idle => Told::Idle,
-            Told::Reserved => Told::Reserved,
+            Reply::Token(held) => Reply::Token(self.for_branch(held)),
+            Reply::Stopped => Reply::Stopped,
+            Reply::Ended => Reply::Ended,
+            Reply::Idle => Reply::Idle,
+            Reply::Reserved => Reply::Reserved,
         }
     }
 
     /// What a worker is told that plays branches.
-    fn told_branch(&self, worker: u32) -> Told
+    fn told_branch(&self, worker: u32) -> Reply
         ensures { result ≡ branch_turn self.now worker }
     {
         let told = self.told(worker);

@@ -7,7 +7,7 @@ ghost use Rattle.token_pool.specs.Pools.{allowances, count_held};
 ghost use Rattle.token_pool.specs.Turns.{free_in, least_free_of, allowance, offered, ends, next_lines};
 
 use crate::places::Places;
-use crate::{Held, Told};
+use crate::{Held, Reply};
 use interleave_core::Core;
 use pcf_values::Val;
 
@@ -41,15 +41,15 @@ fn part(left: u32, workers: u32) -> u32
 }
 
 /// A free ticket, unless the whole budget is made or set aside.
-pub(crate) fn offer(made: u32, budget: u32, workers: u32, ticket: u32) -> Told
+pub(crate) fn offer(made: u32, budget: u32, workers: u32, ticket: u32) -> Reply
     requires within { made ≤ budget }
     requires some { 1 ≤ workers }
     ensures { result ≡ offered made budget workers ticket }
 {
     if made == budget {
-        return Told::Reserved;
+        return Reply::Reserved;
     }
-    Told::Token(Held {
+    Reply::Token(Held {
         ticket,
         allowance: part(budget - made, workers),
     })
@@ -63,7 +63,7 @@ fn has_ended(answer: Option<Val>, made: u32, budget: u32, places: &Places) -> bo
 }
 
 /// What a worker is told that holds nothing, where the pool isn't stopped.
-pub(crate) fn next_line(core: &Core, made: u32, places: &Places, budget: u32, workers: u32) -> Told
+pub(crate) fn next_line(core: &Core, made: u32, places: &Places, budget: u32, workers: u32) -> Reply
     requires low { (i : ℕ) → IsLive core.now i → i < core.now.next }
     requires counted { len core.now.tokens ≡ len (free_in core.now.tokens places.now) + count_held places.now }
     requires within { made + allowances places.now ≤ budget }
@@ -71,10 +71,10 @@ pub(crate) fn next_line(core: &Core, made: u32, places: &Places, budget: u32, wo
     ensures { result ≡ next_lines core.now made places.now budget workers }
 {
     if has_ended(core.answer(), made, budget, places) {
-        return Told::Ended;
+        return Reply::Ended;
     }
     match least_free(core, places) {
         Some(ticket) => offer(made + places.set_aside(), budget, workers, ticket),
-        None => Told::Idle,
+        None => Reply::Idle,
     }
 }

@@ -2,7 +2,7 @@ use Rattle.std.proofs.Common.{◌≡◌, ◌∙◌, List, length, sym, ap, subst
 use Rattle.token_pool.specs.declared.ending.Ended.{Ended}
 use Rattle.batch_pool.specs.declared.job.BatchJob.{BatchJob}
 use Rattle.batch_pool.specs.Batches.{BatchFits}
-use Rattle.batch_pool.specs.Running.{AreRuns}
+use Rattle.batch_pool.specs.AreRuns.{AreRuns}
 use Rattle.goi_batches.specs.Telling.{Mark, jobs_of, marks_of, Fit}
 use Rattle.goi_batches.proofs.Ends.{batch_fits, few_marks, ends_fit, batch_told}
 use Rattle.goi_batches.proofs.report.report_batch.Goals as goal

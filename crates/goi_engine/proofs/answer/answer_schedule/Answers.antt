@@ -2,7 +2,7 @@ use Rattle.std.proofs.Common.{ℕ, List, subst}
 use Rattle.pcf_values.specs.Most.{most_schedule_bytes}
 use Rattle.goi_engine.specs.Answers.{Says}
 use Rattle.goi_tasks.specs.Replaying.{ReportsReplay, FaultySchedule}
-use Rattle.goi_engine.proofs.Told.{answers_file, replay_goes, moves_goes}
+use Rattle.goi_engine.proofs.LoadedFiles.{answers_file, replay_goes, moves_goes}
 use Rattle.goi_engine.proofs.answer.answer_schedule.Goals as goal
 
 pub returns-in-Ok-clause-answers : goal.returns-in-Ok-clause-answers

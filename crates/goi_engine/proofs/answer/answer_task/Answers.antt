@@ -1,7 +1,7 @@
 use Rattle.std.proofs.Common.{◌≡◌, ◌+◌, ℕ, List, take, IfSome, subst}
 use Rattle.goi_engine.specs.Answers.{Says}
 use Rattle.goi_tasks.specs.Tasks.{most_bytes, ReportsText, FaultyFor}
-use Rattle.goi_engine.proofs.Told.{answers_file, report_goes, fault_goes}
+use Rattle.goi_engine.proofs.LoadedFiles.{answers_file, report_goes, fault_goes}
 use Rattle.goi_engine.proofs.answer.answer_task.Goals as goal
 
 pub returns-in-Ok-clause-answers : goal.returns-in-Ok-clause-answers

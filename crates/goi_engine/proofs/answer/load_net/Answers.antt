@@ -4,7 +4,7 @@ use Rattle.program_runs.specs.declared.calling.Calling.TheVariants.{ByName}
 use Rattle.program_runs.specs.Nets.{IsNetFor}
 use Rattle.program_runs.specs.Programs.{number}
 use Rattle.goi_tasks.specs.Programs.{FaultyText}
-use Rattle.goi_engine.proofs.Told.{nets_made, none_made}
+use Rattle.goi_engine.proofs.LoadedFiles.{nets_made, none_made}
 use Rattle.goi_engine.proofs.answer.load_net.Goals as goal
 
 pub returns-in-Ok-clause-net : goal.returns-in-Ok-clause-net

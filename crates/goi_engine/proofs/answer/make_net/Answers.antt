@@ -4,7 +4,7 @@ use Rattle.goi_tasks.specs.declared.stop.Stop.{Stop}
 use Rattle.goi_tasks.specs.Programs.{FaultyText}
 use Rattle.goi_tasks.specs.Stops.{StopsFor}
 use Rattle.goi_tasks.proofs.Texts.{stops_program}
-use Rattle.goi_engine.proofs.Told.{says_stopped}
+use Rattle.goi_engine.proofs.LoadedFiles.{says_stopped}
 use Rattle.goi_engine.proofs.answer.make_net.Goals as goal
 
 pub returns-in-Err-clause-none : goal.returns-in-Err-clause-none

@@ -2,7 +2,7 @@ use Rattle.std.proofs.Common.{List, ℕ, subst}
 use Rattle.pcf_values.specs.Most.{most_program_bytes}
 use Rattle.goi_engine.specs.Answers.{Says}
 use Rattle.goi_tasks.specs.Calls.{ReportsCall, FaultyCall}
-use Rattle.goi_engine.proofs.Told.{answers_file, call_goes, call_fault_goes}
+use Rattle.goi_engine.proofs.LoadedFiles.{answers_file, call_goes, call_fault_goes}
 use Rattle.goi_engine.proofs.calling.call_file.Goals as goal
 
 pub returns-in-Ok-clause-answers : goal.returns-in-Ok-clause-answers

@@ -2,7 +2,7 @@ use Rattle.std.proofs.Common.{◌∙◌, subst}
 use Rattle.program_runs.specs.declared.no_run.NoRun.{NoRun}
 use Rattle.program_runs.specs.NoRuns.{NoRunFor}
 use Rattle.program_runs.specs.Programs.{number, FaultyProgram}
-use Rattle.goi_tasks.specs.Running.{demo_budget}
+use Rattle.goi_tasks.specs.RunReports.{demo_budget}
 use Rattle.goi_tasks.proofs.Generated.{demo_run, demo_sound}
 use Rattle.goi_tasks.proofs.demo.demo_ended.Goals as goal
 

@@ -1,4 +1,4 @@
-use Rattle.goi_tasks.proofs.Ran.{reports_demo}
+use Rattle.goi_tasks.proofs.RunReports.{reports_demo}
 use Rattle.goi_tasks.proofs.demo.report_demo.Goals as goal
 
 pub returns : goal.returns

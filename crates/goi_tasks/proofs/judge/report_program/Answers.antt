@@ -1,5 +1,5 @@
 use Rattle.goi_tasks.specs.Outputs.{output_of}
-use Rattle.goi_tasks.specs.Running.{ReportsRun}
+use Rattle.goi_tasks.specs.RunReports.{ReportsRun}
 use Rattle.program_runs.specs.Programs.{wanted_by_run}
 use Rattle.goi_tasks.proofs.Texts.{no_net, of_net}
 use Rattle.goi_tasks.proofs.judge.report_program.Goals as goal

@@ -1,7 +1,7 @@
 use Rattle.std.proofs.Common.{◌≡◌, ℕ, List, IfOk, subst}
 use Rattle.goi_reports.specs.Reports.{run_report}
 use Rattle.goi_tasks.specs.Notes.{progress_lines}
-use Rattle.goi_tasks.proofs.Ran.{reported}
+use Rattle.goi_tasks.proofs.RunReports.{reported}
 use Rattle.goi_tasks.proofs.running.report_run.Goals as goal
 
 pub returns : goal.returns

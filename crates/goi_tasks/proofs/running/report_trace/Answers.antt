@@ -1,4 +1,4 @@
-use Rattle.goi_tasks.proofs.Ran.{reports_trace}
+use Rattle.goi_tasks.proofs.RunReports.{reports_trace}
 use Rattle.goi_tasks.proofs.running.report_trace.Goals as goal
 
 pub returns : goal.returns

@@ -1,4 +1,4 @@
-use Rattle.goi_tasks.proofs.Ran.{run_few}
+use Rattle.goi_tasks.proofs.RunReports.{run_few}
 use Rattle.goi_tasks.proofs.running.told_walk.Goals as goal
 
 pub push_trace-requires-clause-few : goal.push_trace-requires-clause-few

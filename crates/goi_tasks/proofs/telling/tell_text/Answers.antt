@@ -1,5 +1,5 @@
 use Rattle.program_runs.specs.Programs.{wanted_by_run}
-use Rattle.goi_tasks.proofs.Ran.{tells_text}
+use Rattle.goi_tasks.proofs.RunReports.{tells_text}
 use Rattle.goi_tasks.proofs.Texts.{no_net}
 use Rattle.goi_tasks.proofs.telling.tell_text.Goals as goal
 

@@ -1,5 +1,5 @@
-use Rattle.net_runs.specs.Running.{IsRun}
-use Rattle.net_runs.proofs.Ran.{one_above}
+use Rattle.net_runs.specs.IsRun.{IsRun}
+use Rattle.net_runs.proofs.AloneIsRun.{one_above}
 use Rattle.net_runs.proofs.alone.run_alone.Goals as goal
 
 pub returns-clause-run : goal.returns-clause-run

@@ -1,5 +1,5 @@
 use Rattle.std.proofs.Common.{rules}
-use Rattle.net_runs.proofs.Ran.{alone_is_run}
+use Rattle.net_runs.proofs.AloneIsRun.{alone_is_run}
 use Rattle.net_runs.proofs.alone.run_by.Goals as goal
 
 pub returns-clause-run : goal.returns-clause-run

@@ -13,7 +13,7 @@ use Rattle.demo_text.specs.Demo.{demo_term}
 use Rattle.goi_reports.specs.Forms.{AnswerFits}
 use Rattle.goi_reports.specs.Reports.{run_report, demo_report}
 use Rattle.goi_jobs.specs.Jobs.{IsBudget}
-use Rattle.net_runs.specs.Running.{IsRun, IsFirstWorkers}
+use Rattle.net_runs.specs.IsRun.{IsRun, IsFirstWorkers}
 use Rattle.program_runs.specs.declared.calling.Calling.{Calling}
 use Rattle.program_runs.specs.Nets.{RunsAs}
 use Rattle.program_runs.specs.RunsText.{Tells, meaning, net_run, IsProgramRun, RunsText}
@@ -25,7 +25,7 @@ use Rattle.goi_tasks.specs.declared.shown.Shown.{Shown}
 use Rattle.goi_tasks.specs.Notes.{NumbersOf, NotesOf, progress_lines}
 use Rattle.goi_tasks.specs.Outputs.{Output, output, output_of}
 use Rattle.goi_tasks.specs.Replaying.{replay_status}
-use Rattle.goi_tasks.specs.Running.{demo_budget, ReportsRun, ReportsTrace, ReportsDemo, TellsText}
+use Rattle.goi_tasks.specs.RunReports.{demo_budget, ReportsRun, ReportsTrace, ReportsDemo, TellsText}
 use Rattle.goi_tasks.proofs.Brief.{brief}
 
 -- a run has no more moves than 32 bits count

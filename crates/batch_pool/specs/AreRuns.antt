@@ -2,7 +2,7 @@
 -- Which other jobs there are is nowhere in what is said of a job's run.
 use Rattle.std.specs.Prelude.{◌≡◌, ℕ, List, [], ◌∷◌}
 use Rattle.token_pool.specs.declared.ending.Ended.{Ended}
-use Rattle.net_runs.specs.Running.{IsRun, IsFirstWorkers}
+use Rattle.net_runs.specs.IsRun.{IsRun, IsFirstWorkers}
 use Rattle.batch_pool.specs.declared.job.BatchJob.{BatchJob}
 
 -- what was run is this job by so many workers, and one worker alone books all moves under its own number
