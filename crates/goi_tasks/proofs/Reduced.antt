@@ -43,11 +43,10 @@ pub reduces : AcceptedIsTyped → ToldIsMeant → NoneIsLimit → MeansLength �
 reduces sound told none lasts budget window tree t A o d fit e same =
     let typed : type_of [] tree ≡ Ok (t, nat) = subst (λ (A : TyTree). type_of [] tree ≡ Ok (t, A)) e d in
     let both = sound [] tree t nat typed in
-    let meant = λ (v : Val) m. told window.from window.most most_step_nodes budget tree t v both.0 m in
     (t, typed, record {
       output_is = same;
-      meant = meant;
-      lasts = λ v m. (lasts t (both.1 fit) v).0 (meant v m);
+      meant = λ v m. told window.from window.most most_step_nodes budget tree t v both.0 m;
+      lasts = λ v m. (lasts t (both.1 fit) v).0 (told window.from window.most most_step_nodes budget tree t v both.0 m);
       stopped = λ n. none window.from window.most most_step_nodes budget tree t both.0 (both.1 fit) n;
     })
 
