@@ -24,7 +24,7 @@ use Rattle.interleave_laws.proofs.Stays.{one_walks}
 use Rattle.interleave_laws.proofs.TrailSteps.{walk_map}
 use Rattle.interleave_core.specs.Alone.{RunsAlone}
 use Rattle.interleave_core.specs.Owning.{GoesAlone}
-use Rattle.interleave_core.proofs.AloneRuns.{begins, least_seen, goes_on, full, idle}
+use Rattle.interleave_core.proofs.AloneRuns.{least_seen, goes_on, full, idle}
 use Rattle.schedule_log.specs.declared.entry.Entry.{Entry}
 use Rattle.schedule_log.specs.Logs.{by}
 use Rattle.net_runs.specs.IsRun.{IsRun}
@@ -63,10 +63,6 @@ least_with S i y (h, below) = (
   λ j l. get-insert nat_cmp_total S.tokens i y j ∙ ap (λ b. cond b (Some y) (get S.tokens j)) (test_nat j i ∙ ne_eqb j i (λ q. omega arith))
       ∙ below j l,
 )
-
--- where nothing is written down yet
-pub walk_begins : (net : NetTree) (log : List Entry) (S : MapState) → S ≡ start_map (start_of net) → log ≡ [] → Walked net log S
-walk_begins net log S s l = record { tickets = []; written = l; alone = begins net S [] s refl }
 
 module _ (net : NetTree) (log : List Entry) (S : MapState) (at : Walked net log S) where
   -- as many tickets as moves
