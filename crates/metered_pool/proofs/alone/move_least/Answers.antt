@@ -1,5 +1,5 @@
 use Rattle.std.proofs.Common.{ap, arith}
-use Rattle.schedule_log.specs.Logs.{LogSeen}
+use Rattle.schedule_log.specs.LogsSeen.{LogSeen}
 use Rattle.metered_pool.proofs.Walking.{after_walk, one_more, walk_reached}
 use Rattle.metered_pool.proofs.alone.move_least.Goals as goal
 
