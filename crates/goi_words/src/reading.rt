@@ -10,8 +10,9 @@ ghost use Rattle.goi_jobs.specs.Jobs.{IsWithinLimits, job_of};
 ghost use Rattle.goi_words.specs.declared.faults.WordFault.TheVariants.{Refused};
 
 use crate::commands::goi_command;
-use crate::{Job, Window, WordFault};
+use crate::faults::WordFault;
 use clap::ArgMatches;
+use goi_jobs::{Job, Window};
 use pcf_values::Ident;
 use std::alloc::Global;
 
