@@ -22,6 +22,8 @@ import page_boxes as boxes
 import page_browser as browser
 import page_firefox as firefox
 import page_programs as programs
+import page_steps as steps
+import page_values as values
 
 TOP = pathlib.Path(__file__).resolve().parent.parent
 PAGE = TOP / "out/goi.html"
@@ -472,6 +474,8 @@ def try_window(page, window, program, folder):
         try_address(page, window)
         try_opened(page, window)
         boxes.try_boxes(page, sys.modules[__name__], window, program, folder)
+        steps.try_steps(page, sys.modules[__name__], window, program, folder)
+        values.try_values(page, sys.modules[__name__], window, program, folder)
         try_looks(page, window)
         quiet(page, window, "the whole")
         print(f"the page with the machine in {window.name()}: {time.time() - began:.1f} s")

@@ -89,3 +89,18 @@ def report(done):
     if len(lines) < 2 or not lines[1].startswith("moves "):
         refused(done)
     return lines[0], int(lines[1].split()[1])
+
+
+def span(path, budget):
+    """The moves and the rounds of a program, as `goi span` counts them."""
+    done = subprocess.run([GOI, "span", path, "--budget", str(budget)], stdin=subprocess.DEVNULL, stdout=subprocess.PIPE, stderr=subprocess.PIPE, check=False)
+    lines = dict(line.split() for line in done.stdout.decode().splitlines() if line.count(" ") == 1)
+    if "moves" not in lines or "rounds" not in lines:
+        refused(done)
+    return int(lines["moves"]), int(lines["rounds"])
+
+
+def busy(moves, rounds, workers):
+    """How many units of a move each take workers of whom none idles while a token waits, at the most. (Graham's and Brent's bound: a unit that
+    keeps every worker at work makes so many moves, and of the others there are at most as many as rounds.)"""
+    return rounds + moves / workers

@@ -5,11 +5,12 @@ const NO_ROOM = 4;
 const NO_MEMORY = 6;
 // So much room is given for what a call puts out. Where that is too little, the call says how much it wants, and is made again.
 const ROOM = 1 << 24;
-// goi_tell also puts out a value, a number of moves and a kind.
+// goi_tell also puts out a value, a number of moves and a kind, and goi_tell_each so many of them as there are rows of arguments.
 const ANSWER_SIZE = 16;
+const NUMBER_SIZE = 8;
 
 // An instance of the module, with so much memory at the most, and the calls on it, one at a time: {status, text} comes of each, and
-// {answer} of goi_tell. A call that throws was cut off, by the browser's stack or by the module's: the instance is then half way through
+// {answer} of goi_tell and {answers} of goi_tell_each. A call that throws was cut off, by the browser's stack or by the module's: the instance is then half way through
 // it, and must not be called again. `entered` makes of a function of the module the one that is called.
 function machineOf(module, most, entered = call => call) {
   const { exports } = new WebAssembly.Instance(module);
@@ -44,19 +45,30 @@ function machineOf(module, most, entered = call => call) {
     return { value: String(view.getBigUint64(0, true)), moves: view.getUint32(8, true), kind: view.getUint32(12, true) };
   };
 
+  // What stands between the texts and the room for a text: the numbers, and of the two calls that answer in numbers where they answer.
+  const between = (name, numbers) => {
+    if (name === "goi_tell") return { words: [...numbers, take(ANSWER_SIZE)], count: 1 };
+    if (name !== "goi_tell_each") return { words: numbers, count: 0 };
+    const { each, values, budget } = numbers;
+    const count = values.length / each;
+    const [at, answers] = [take(NUMBER_SIZE * values.length), take(ANSWER_SIZE * count)];
+    if (at !== 0n) values.forEach((it, k) => numbersAt(at, NUMBER_SIZE * values.length).setBigUint64(NUMBER_SIZE * k, BigInt(it), true));
+    return { words: [each, at, BigInt(values.length), budget, answers, BigInt(count)], count, answers };
+  };
+
   const made = async (name, texts, numbers, size) => {
-    const nothing = { status: NO_MEMORY, text: "" };
     const given = handIn(texts);
     const needed = take(8);
-    const answer = name === "goi_tell" ? take(ANSWER_SIZE) : null;
+    const { words, count, answers = words.at(-1) } = between(name, numbers);
     const out = take(size);
-    if (given === null || needed === 0n || answer === 0n || out === 0n) return nothing;
-    const words = [...given, ...numbers, ...(answer === null ? [] : [answer]), out, BigInt(size), needed];
-    const status = await entered(exports[name])(...words) >>> 0;
+    if (given === null || [needed, out, ...words].includes(0n)) return { status: NO_MEMORY, text: "" };
+    const status = await entered(exports[name])(...given, ...words, out, BigInt(size), needed) >>> 0;
     const length = Number(numbersAt(needed, 8).getBigUint64(0, true));
     if (status === NO_ROOM) return { status, length };
-    const text = new TextDecoder().decode(bytesAt(out, length));
-    return answer === null ? { status, text } : { status, text, answer: answerAt(answer) };
+    const found = { status, text: new TextDecoder().decode(bytesAt(out, length)) };
+    if (name === "goi_tell") found.answer = answerAt(answers);
+    if (name === "goi_tell_each") found.answers = Array.from({ length: count }, (_, k) => answerAt(answers + BigInt(ANSWER_SIZE * k)));
+    return found;
   };
 
   return {

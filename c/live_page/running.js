@@ -244,7 +244,7 @@ function joinButtons() {
     if (event.key === "Escape") stop();
     if (event.key !== "Enter" || !(event.ctrlKey || event.metaKey)) return;
     event.preventDefault();
-    ({ net: runNet, schedule: () => replay() }[tabShown()] ?? (() => run()))();
+    ({ net: runNet, schedule: () => replay(), values: callEach, steps: () => listSteps(0) }[tabShown()] ?? (() => run()))();
   });
   byId("own-save").addEventListener("click", saveProgram);
   walk.view.runProgram = (text, name) => {
@@ -256,9 +256,11 @@ function joinButtons() {
   addEventListener("hashchange", beginWithAddress);
   joinTabs();
   joinSchedules();
+  joinSteps();
+  joinValues();
 }
 
 // For the tests, and for whoever looks at the page with a browser's own tools.
-window.machine = { ask, asking, stop, translationOf, placeOf, putSchedule, openTab };
+window.machine = { ask, asking, stop, translationOf, placeOf, putSchedule, openTab, tableOfValues, visitsOf, steps };
 joinButtons();
 beginWithAddress();

@@ -1,6 +1,6 @@
 // The texts of the box, one at a time; the box put away; and where the program is marked.
 
-const TABS = ["program", "net", "schedule", "trace"];
+const TABS = ["program", "net", "schedule", "steps", "values", "trace"];
 const narrow = matchMedia("(max-width: 1000px)");
 const TRACE_SHOWN = 2000;
 let boxWidth = 0;
@@ -22,6 +22,7 @@ function openTab(name) {
   showTab(name);
   if (name === "net" && textIn("net") === "") listNet();
   if (name === "schedule" && textIn("schedule") === "") takeSchedule("run");
+  if (name === "steps" && steps.program !== programGiven()) listSteps(0);
 }
 
 // In a narrow window the box is put away when a walk is shown, so that the net has the room.
