@@ -142,6 +142,12 @@ class Calls:
         for first, most, flags in ((0, 1000000, 0), (0, 1000, 1), (3, 5, 0), (10000000, 1, 0)):
             words = ["--from", str(first), "--most", str(most), *["--by-value"] * flags]
             self.add(name, "goi_trace", [text], [10000, flags, first, most], "trace", file, *words)
+        for budget, first, most in ((10000, 0, 1000), (100, 3, 5)):
+            words = ["--budget", str(budget), "--from", str(first), "--most", str(most)]
+            self.add(name, "goi_steps", [text], [budget, first, most], "steps", file, *words)
+        for flags in (0, 7):
+            words = [*["--by-value", "--schedule", "--profile"] * (flags // 7)]
+            self.add(name, "goi_span", [text], [10000, flags], "span", file, *words)
         for term in (0, 1):
             self.add(name, "goi_check", [text], [term], "check", file, *["--term"] * term)
         for room in rooms:
