@@ -69,9 +69,9 @@ def try_values(page, live, window, program, folder):
         page.judge(f"the words {words!r}", (says in said, window.script(ROWS)), (True, []))
     for text, words in (("fun x:nat. x", "1 2"), ("fun f:nat->nat. f 1", "3"), ("3", "3")):
         said = called(live, window, text, words)
-        page.judge(f"{words} of {text}", (said.split("\n")[0], window.script(ROWS)), ("refused: NotGround(0)", []))
+        page.judge(f"{words} of {text}", (said.split("\n")[0], window.script(ROWS)), ("refused: NotGround", []))
     said = called(live, window, "fun x:nat. x +", "3")
-    page.judge("a function with a fault", said.split("\n")[0], "refused: UnexpectedEnd(14)")
+    page.judge("a function with a fault", said.split("\n")[0], "refused: Unexpected(14)")
     # A press on a row runs that call.
     called(live, window, "fun x:nat. x * x # squared", "0..5")
     window.script("document.querySelectorAll('#values-rows button')[4].click()")
@@ -88,7 +88,7 @@ def try_picture(page, window):
       what.dispatchEvent(new Event("change"));""")
     numbers = [int(it[1]) for it in known if it[1].isdigit()]
     points = window.script("return document.querySelector('#values-picture polyline').getAttribute('points')").split(" ")
-    heights = [76 - float(it.split(",")[1]) for it in points]
+    heights = [88 - float(it.split(",")[1]) for it in points]
     page.judge("points of values", len(points), len(numbers))
     page.judge("as high as the values", [round(it, 1) for it in heights], [round(70 * it / max(numbers), 1) for it in numbers])
     page.judge("the greatest", window.script("return document.querySelector('#values-picture text').textContent"), str(max(numbers)))

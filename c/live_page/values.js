@@ -82,7 +82,7 @@ function drawValues() {
   const ofMoves = byId("values-what").value === "moves";
   const heights = answers.map(it => ofMoves ? it.moves : it.kind === 1 ? Number(it.value) : null);
   const most = Math.max(1, ...heights.filter(it => it !== null));
-  const points = heights.flatMap((it, at) => it === null ? [] : [[4 + 292 * at / Math.max(1, rows.length - 1), 76 - 70 * it / most]]);
+  const points = heights.flatMap((it, at) => it === null ? [] : [[4 + 292 * at / Math.max(1, rows.length - 1), 88 - 70 * it / most]]);
   const picture = byId("values-picture");
   picture.hidden = points.length < 2;
   picture.setAttribute("aria-label", `the ${ofMoves ? "moves" : "values"} of the calls in turn, up to ${most}`);
