@@ -6,7 +6,8 @@ use Rattle.pcf_values.specs.Typing.{HasType}
 use Rattle.cbn_meaning.specs.Meaning.{Means}
 use Rattle.net_build.specs.Nets.{NetTree}
 use Rattle.net_build.specs.NetOf.{net_of}
-use Rattle.open_nets.specs.Applied.{applied, numeric, AreNumbers}
+use Rattle.open_nets.specs.Applied.{applied, numeric}
+use Rattle.open_nets.specs.Arguments.{AreNumbers}
 use Rattle.open_nets.specs.Numbers.{with_numbers, places_from, places}
 use Rattle.open_nets.specs.Laws.{OtherNumbers, AppliedHas}
 use Rattle.schedule_log.specs.declared.entry.Entry.{Entry}
