@@ -6,7 +6,8 @@ use Rattle.pcf_values.specs.Terms.{TermTree, nat}
 use Rattle.cbn_meaning.specs.Meaning.{Means}
 use Rattle.net_build.specs.NetOf.{net_of}
 use Rattle.schedule_log.specs.declared.entry.Entry.{Entry}
-use Rattle.demo_text.specs.Demo.{demo_text, demo_term}
+use Rattle.demo_text.specs.Demo.{demo_term}
+use Rattle.demo_text.specs.Text.{demo_text}
 use Rattle.demo_text.specs.Laws.{DemoIsTyped}
 use Rattle.program_runs.specs.declared.calling.Calling.TheVariants.{ByName}
 use Rattle.program_runs.specs.declared.fault.ProgramFault.{ProgramFault}
