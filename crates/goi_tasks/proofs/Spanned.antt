@@ -4,7 +4,7 @@ use Rattle.pcf_values.specs.declared.val.Val.{Val}
 use Rattle.pcf_values.specs.Terms.{TermTree}
 use Rattle.net_build.specs.Nets.{NetTree}
 use Rattle.interleave_laws.specs.Maps.{MapState, LeadsToMap, seen}
-use Rattle.interleave_laws.specs.Runs.{Finished}
+use Rattle.interleave_laws.specs.Finished.{Finished}
 use Rattle.adequacy_laws.specs.Questions.{Length}
 use Rattle.adequacy_laws.specs.Finished.{Beyond}
 use Rattle.round_laws.specs.Rounds.{rounds, round_log}

@@ -8,7 +8,8 @@ use Rattle.pcf_types.specs.Checking.{type_of}
 use Rattle.cbn_meaning.specs.Meaning.{Means}
 use Rattle.net_build.specs.Nets.{NetTree}
 use Rattle.interleave_laws.specs.Maps.{MapState, LeadsToMap}
-use Rattle.interleave_laws.specs.Runs.{Runs, Finished}
+use Rattle.interleave_laws.specs.Runs.{Runs}
+use Rattle.interleave_laws.specs.Finished.{Finished}
 use Rattle.program_runs.specs.declared.calling.Calling.{Calling}
 use Rattle.program_runs.specs.Programs.{WillDo, OfProgram, wanted_by_run}
 use Rattle.program_runs.specs.RunsText.{meaning, run_as, net_run, Tells}

@@ -11,7 +11,8 @@ use Rattle.move_rules.specs.Places.{TokenTree}
 use Rattle.interleave_laws.specs.Start.{start_of}
 use Rattle.interleave_laws.specs.States.{State, start, then_run, run}
 use Rattle.interleave_laws.specs.Runs.{Runs}
-use Rattle.interleave_laws.specs.Maps.{MapState, start_map, run_map, seen, option_seen}
+use Rattle.interleave_laws.specs.Maps.{MapState, start_map, run_map, seen}
+use Rattle.interleave_laws.specs.MapRuns.{option_seen}
 use Rattle.interleave_laws.proofs.Seen.{start_seen, run_seen}
 use Rattle.interleave_laws.proofs.MapLaws.{run_both, seen_leads, map_low}
 use Rattle.adequacy_laws.specs.Finished.{Beyond}
