@@ -20,8 +20,8 @@ use Rattle.interleave_laws.specs.Runs.{Runs, LeadsTo}
 use Rattle.interleave_laws.specs.OneWorker.{one}
 use Rattle.interleave_laws.proofs.OneWorker.{one_leads}
 use Rattle.circuit_core.specs.Rows.{Row, CONST, SUCC, PRED, TEST, FORK, JOIN, ANSWER, DEAD}
-use Rattle.circuit_core.specs.Rows.{Channel, rises, falls, at, row_of, channel_of}
-use Rattle.circuit_core.specs.RowMoves.{stack_row, answer_row, question_row, by_row, by_found}
+use Rattle.circuit_core.specs.Rows.{Channel, rises, falls, row_of, channel_of}
+use Rattle.circuit_core.specs.RowMoves.{stack_row, answer_row, question_row, by_row, by_found, at}
 use Rattle.circuit_core.specs.Processor.{Waiting, OpenFork, Registers, fork_at, kept, closed, taken, rest, last_of, meets, opens, does}
 use Rattle.circuit_core.specs.Processor.{tick_on, tick, ticks, reset}
 use Rattle.circuit_core.specs.Bits.{work_bits, box_bits, bit_row, BitPlace, to, over, same_bits}

@@ -26,8 +26,8 @@ use Rattle.interleave_laws.proofs.Running.{one_place}
 use Rattle.interleave_laws.proofs.Apart.{asked}
 use Rattle.fork_join.proofs.Keys.{key_true}
 use Rattle.circuit_core.specs.Rows.{Row, CONST, SUCC, PRED, TEST, FORK, JOIN, ANSWER}
-use Rattle.circuit_core.specs.Rows.{Channel, rises, falls, at, row_of, channel_of}
-use Rattle.circuit_core.specs.RowMoves.{stack_row, answer_row, question_row, by_row, by_found, by_rows}
+use Rattle.circuit_core.specs.Rows.{Channel, rises, falls, row_of, channel_of}
+use Rattle.circuit_core.specs.RowMoves.{stack_row, answer_row, question_row, by_row, by_found, by_rows, at}
 use Rattle.circuit_core.specs.Bits.{Bits, work_bits, box_bits, bit_row, BitPlace, to, over, same_bits}
 use Rattle.circuit_core.specs.Processor.{Waiting, OpenFork, Registers, fork_at, kept, closed, taken, rest, last_of, meets, opens, does}
 use Rattle.circuit_core.specs.Processor.{tick_on, tick, ticks, reset, ring_at, token_at}

@@ -6,8 +6,8 @@ use Prim.Native.String.{String}
 use Rattle.token_stacks.specs.Signatures.{Sig, star, left_of, right_of, pair_of, again, R, L, S, Work, Boxes}
 use Rattle.move_rules.specs.Places.{Place, work_at, boxes_at}
 use Rattle.circuit_core.specs.Rows.{Row, GO, STAR, UNSTAR, LEFT, RIGHT, CON, PUSHR, PUSHL, SELECT, POP, BOXIN, BOXOUT, DOOROUT, DOORIN}
-use Rattle.circuit_core.specs.Rows.{FIXIN, FIXOUT, FIXVAR, Channel, rises, falls, number, at, channel_of}
-use Rattle.circuit_core.specs.RowMoves.{stack_row}
+use Rattle.circuit_core.specs.Rows.{FIXIN, FIXOUT, FIXVAR, Channel, rises, falls, number, channel_of}
+use Rattle.circuit_core.specs.RowMoves.{stack_row, at}
 use Rattle.circuit_core.specs.Bits.{Bits, code, work_bits, box_bits, to, bit_row}
 use Rattle.circuit_core.specs.Circuit.{Token, Circuit, shifted}
 use Rattle.circuit_core.proofs.Bits.{bit_rows}
