@@ -13,7 +13,8 @@ use Rattle.token_stacks.specs.Signatures.{Work, Boxes}
 use Rattle.net_build.specs.Nets.{NetTree}
 use Rattle.fork_join.specs.Entries.{Entry, pending, has_left, has_right, kept_as, same_key}
 use Rattle.fork_join.proofs.Keys.{key_true, key_same}
-use Rattle.move_rules.specs.Places.{Place, up, down, TokenTree, ask, ans, place_of, work_at, boxes_at}
+use Rattle.move_rules.specs.Places.{Place, up, down, TokenTree, ask, ans, place_of}
+use Rattle.move_rules.specs.Stacks.{work_at, boxes_at}
 use Rattle.move_rules.specs.Moves.{solo_at}
 use Rattle.interleave_laws.specs.States.{State, other}
 use Rattle.interleave_laws.specs.Runs.{Runs, LeadsTo}

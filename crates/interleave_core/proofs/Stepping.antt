@@ -11,7 +11,8 @@ use Rattle.fork_join.specs.Arrivals.{IsOpenFor, arrival, with_arrival}
 use Rattle.pcf_values.specs.declared.side.Side.{Side}
 use Rattle.pcf_values.specs.declared.side.Side.TheVariants.{Left, Right}
 use Rattle.net_build.specs.Nets.{NetTree}
-use Rattle.move_rules.specs.Places.{Place, TokenTree, up, place_of, boxes_at}
+use Rattle.move_rules.specs.Places.{Place, TokenTree, up, place_of}
+use Rattle.move_rules.specs.Stacks.{boxes_at}
 use Rattle.move_rules.specs.Moves.{Move, solo, fork, join, answer, stay, move}
 use Rattle.move_rules.specs.AtNode.{Unaided}
 use Rattle.pcf_values.specs.declared.operator.Operator.{Operator}
