@@ -2,7 +2,7 @@
 
 ghost use Rattle.std.specs.Prelude.{◌≡◌, []};
 ghost use Rattle.std.specs.Option.{option_map};
-ghost use Rattle.net_build.specs.Faces.{number_of};
+ghost use Rattle.net_build.specs.Found.{number_of};
 ghost use Rattle.move_rules.specs.Table.{facing};
 ghost use Rattle.move_rules.specs.Views.{numbered};
 ghost use Rattle.pcf_values.specs.declared.side.Side.TheVariants.{Left, Right};

@@ -8,7 +8,8 @@ use Rattle.net_build.specs.declared.node.Node.TheVariants.{Const, Succ, Pred, Bi
 use Rattle.net_build.specs.declared.node.Node.TheVariants.{Door, FixBox, Root, Pair, Proj}
 use Rattle.net_build.specs.declared.wire.Wire.{Wire}
 use Rattle.net_build.specs.Nets.{premises, conclusions}
-use Rattle.net_build.specs.Faces.{has, least, number_of}
+use Rattle.net_build.specs.Faces.{has, least}
+use Rattle.net_build.specs.Found.{number_of}
 use Rattle.net_build.specs.Index.{Indexes}
 use Rattle.net_build.specs.Kept.{Kept}
 use Rattle.net_build.specs.Numbers.{set_number, set_at}
