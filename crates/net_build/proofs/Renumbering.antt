@@ -1,8 +1,7 @@
 -- Another number at a node: the node has the same wires, and so each wire the same nodes on both sides.
-use Rattle.std.proofs.Common.{◌≡◌, ℕ, zero, suc, ◌<◌, ◌≤◌, ◌^◌, Bool, true, false, cond, List, [], ◌∷◌, length, Option, Some, None, refl}
+use Rattle.std.proofs.Common.{◌≡◌, ℕ, zero, suc, ◌<◌, ◌≤◌, ◌^◌, Bool, true, false, cond, List, [], ◌∷◌, length, Option, Some, refl}
 use Rattle.std.proofs.Common.{sym, ap}
 use Rattle.std.proofs.Common.{◌∙◌, subst, get_or, set, arith}
-use Rattle.std.specs.Prelude.{slice_get}
 use Rattle.net_build.specs.declared.node.Node.{Node}
 use Rattle.net_build.specs.declared.node.Node.TheVariants.{Const, Succ, Pred, Binary, Ifz, Der, Con, Weak, Lam, App, BoxNode}
 use Rattle.net_build.specs.declared.node.Node.TheVariants.{Door, FixBox, Root, Pair, Proj}
