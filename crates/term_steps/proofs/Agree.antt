@@ -7,7 +7,7 @@ use Rattle.pcf_values.specs.Values.{val_succ, val_pred, val_op, at_zero}
 use Rattle.pcf_values.specs.Terms.{TermTree, num, succ_of, pred_of, binary, ifz, fix, app, proj}
 use Rattle.pcf_values.specs.declared.side.Side.{Side}
 use Rattle.pcf_values.specs.declared.side.Side.TheVariants.{Left, Right}
-use Rattle.pcf_values.specs.Named.{Word, the_succ, the_pred, the_part, the_fun, the_fix, NamedTree, number_at, name_at, word_at}
+use Rattle.pcf_values.specs.Named.{the_succ, the_pred, the_part, the_fun, the_fix, NamedTree, number_at, name_at, word_at}
 use Rattle.pcf_values.specs.Named.{binary_at, pair_at, ifz_at, bind_at, apply_at}
 use Rattle.pcf_types.specs.Resolution.{Resolves}
 use Rattle.term_steps.specs.Steps.{spelled, spell, step}
