@@ -20,7 +20,8 @@ use Rattle.schedule_log.specs.declared.entry.Entry.{Entry}
 use Rattle.schedule_log.specs.Logs.{tickets_in_log}
 use Rattle.schedule_log.proofs.Taken.{tickets_split, tickets_more}
 use Rattle.walk_text.specs.Lines.{move_line}
-use Rattle.walk_text.specs.Traces.{LeadsSomewhere, on_state, lines_from}
+use Rattle.walk_text.specs.Traces.{on_state, lines_from}
+use Rattle.walk_text.specs.Whole.{LeadsSomewhere}
 
 -- ---- steps
 
