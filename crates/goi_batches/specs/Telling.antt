@@ -6,7 +6,7 @@ use Rattle.token_pool.specs.declared.ending.Ended.{Ended}
 use Rattle.batch_pool.specs.declared.job.BatchJob.{BatchJob}
 use Rattle.goi_reports.specs.Forms.{AnswerFits}
 use Rattle.goi_reports.specs.Reports.{run_report}
-use Rattle.goi_reports.specs.Tallies.{BookedWithin}
+use Rattle.goi_reports.specs.Booked.{BookedWithin}
 use Rattle.goi_tasks.specs.Replaying.{replay_status}
 use Rattle.goi_batches.specs.declared.judged.Judged.{Judged}
 use Rattle.goi_batches.specs.declared.judged.Judged.TheVariants.{Runs, Refused}

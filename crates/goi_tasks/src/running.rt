@@ -6,7 +6,7 @@ ghost use Rattle.interleave_laws.specs.Runs.{Runs};
 ghost use Rattle.goi_jobs.specs.Jobs.{IsBudget, IsWorkers};
 ghost use Rattle.goi_reports.specs.Forms.{AnswerFits};
 ghost use Rattle.goi_reports.specs.Reports.{run_report};
-ghost use Rattle.goi_reports.specs.Tallies.{BookedWithin};
+ghost use Rattle.goi_reports.specs.Booked.{BookedWithin};
 ghost use Rattle.net_runs.specs.IsRun.{IsRun};
 ghost use Rattle.program_runs.specs.declared.calling.Calling.{Calling};
 ghost use Rattle.program_runs.specs.Nets.{RunsAs};
