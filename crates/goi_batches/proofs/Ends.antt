@@ -22,9 +22,9 @@ use Rattle.goi_tasks.proofs.Texts.{of_net}
 use Rattle.goi_batches.specs.declared.judged.Judged.{Judged}
 use Rattle.goi_batches.specs.declared.judged.Judged.TheVariants.{Runs, Refused}
 use Rattle.goi_batches.specs.Judging.{IsJobOf, AreJudged}
-use Rattle.goi_batches.specs.Sections.{Listed, section, plain_run, IsSection, runs, refused, AreSections}
-use Rattle.goi_batches.specs.Sections.{ReportsBatch, statuses_of, batch_status, batch_report}
-use Rattle.goi_batches.specs.Telling.{Mark, jobs_of, marks_of, told_by, Fit, EachFits, end_section}
+use Rattle.goi_batches.specs.Sections.{Listed, section, plain_run, IsSection, runs, refused}
+use Rattle.goi_batches.specs.Sections.{statuses_of, batch_status, batch_report}
+use Rattle.goi_batches.specs.Telling.{Mark, jobs_of, marks_of, told_by, Fit, EachFits, end_section, AreSections, ReportsBatch}
 
 -- ---- the jobs can be run
 
