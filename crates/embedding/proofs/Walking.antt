@@ -18,7 +18,7 @@ use Rattle.interleave_laws.proofs.MapLaws.{run_both}
 use Rattle.program_runs.specs.declared.calling.Calling.TheVariants.{ByName}
 use Rattle.program_runs.specs.Nets.{IsNetFor}
 use Rattle.program_runs.specs.Programs.{number, IsProgram, IsGround}
-use Rattle.program_runs.specs.RunsText.{Tells}
+use Rattle.program_runs.specs.Runs.{Tells}
 use Rattle.embedding.specs.Lines.{budget}
 use Rattle.embedding.specs.Hands.{IsAt, IsWalked, WalksText}
 

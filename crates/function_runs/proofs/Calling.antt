@@ -13,7 +13,7 @@ use Rattle.open_nets.specs.Laws.{OtherNumbers, AppliedHas}
 use Rattle.schedule_log.specs.declared.entry.Entry.{Entry}
 use Rattle.net_runs.specs.IsRun.{IsRun, IsFirstWorkers}
 use Rattle.program_runs.specs.Laws.{RunsTell}
-use Rattle.program_runs.specs.RunsText.{IsProgramRun}
+use Rattle.program_runs.specs.Runs.{IsProgramRun}
 use Rattle.function_runs.specs.Ready.{IsReady}
 
 -- a function's program, by what is seen of the function

@@ -13,7 +13,8 @@ use Rattle.program_runs.specs.declared.calling.Calling.TheVariants.{ByName}
 use Rattle.program_runs.specs.declared.fault.ProgramFault.{ProgramFault}
 use Rattle.program_runs.specs.Laws.{OneProgram}
 use Rattle.program_runs.specs.Programs.{number, IsGround, FaultyProgram}
-use Rattle.program_runs.specs.RunsText.{IsProgramRun, RunsText}
+use Rattle.program_runs.specs.RunsText.{RunsText}
+use Rattle.program_runs.specs.Runs.{IsProgramRun}
 use Rattle.program_runs.proofs.OneProgram.{ground_sound}
 
 module _ (one : OneProgram) (law : DemoIsTyped) (n : ℕ) (within : n ≤ most_demo) (bytes : List ℕ) (made : bytes ≡ demo_text n) where

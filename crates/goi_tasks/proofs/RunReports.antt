@@ -16,7 +16,8 @@ use Rattle.goi_jobs.specs.Jobs.{IsBudget}
 use Rattle.net_runs.specs.IsRun.{IsRun, IsFirstWorkers}
 use Rattle.program_runs.specs.declared.calling.Calling.{Calling}
 use Rattle.program_runs.specs.Nets.{RunsAs}
-use Rattle.program_runs.specs.RunsText.{Tells, meaning, net_run, IsProgramRun, RunsText}
+use Rattle.program_runs.specs.RunsText.{RunsText}
+use Rattle.program_runs.specs.Runs.{Tells, meaning, net_run, IsProgramRun}
 use Rattle.program_runs.proofs.Telling.{run_of}
 use Rattle.walk_text.specs.Traces.{trace_text}
 use Rattle.goi_jobs.specs.declared.jobs.Window.{Window}

@@ -4,7 +4,7 @@ use Rattle.pcf_values.specs.declared.val.Val.{Val}
 use Rattle.pcf_values.specs.Terms.{TermTree}
 use Rattle.program_runs.specs.declared.calling.Calling.{Calling}
 use Rattle.program_runs.specs.Programs.{number, wanted_by_run, OfGround}
-use Rattle.program_runs.specs.RunsText.{net_run}
+use Rattle.program_runs.specs.Runs.{net_run}
 use Rattle.program_runs.proofs.OneProgram.{same_ground, same_program}
 use Rattle.function_runs.specs.Laws.{OneFunction}
 use Rattle.goi_tasks.specs.declared.fault.Fault.{Fault}

@@ -14,7 +14,7 @@ use Rattle.round_runs.specs.Profiles.{profile_of, greatest}
 use Rattle.goi_reports.specs.Spans.{span_report}
 use Rattle.program_runs.specs.declared.calling.Calling.{Calling}
 use Rattle.program_runs.specs.Nets.{RunsAs}
-use Rattle.program_runs.specs.RunsText.{Tells, meaning}
+use Rattle.program_runs.specs.Runs.{Tells, meaning}
 use Rattle.goi_tasks.specs.Outputs.{Output, output}
 use Rattle.goi_tasks.specs.Replaying.{replay_status}
 use Rattle.goi_tasks.specs.Rounds.{TellsSpan, ReportsSpan}

@@ -11,7 +11,7 @@ use Rattle.schedule_log.specs.declared.entry.Entry.{Entry}
 use Rattle.goi_reports.specs.Reports.{run_report, demo_report}
 use Rattle.program_runs.specs.declared.calling.Calling.{Calling}
 use Rattle.program_runs.specs.Programs.{OfProgram, wanted_by_run}
-use Rattle.program_runs.specs.RunsText.{meaning, net_run, Tells, IsProgramRun}
+use Rattle.program_runs.specs.Runs.{meaning, net_run, Tells, IsProgramRun}
 use Rattle.walk_text.specs.Traces.{trace_text}
 use Rattle.goi_jobs.specs.declared.jobs.Window.{Window}
 use Rattle.demo_text.specs.Demo.{demo_term}

@@ -12,7 +12,7 @@ use Rattle.net_text.specs.Listing.{listing}
 use Rattle.circuit_text.specs.CircuitText.{circuit_text}
 use Rattle.step_text.specs.Courses.{course_value}
 use Rattle.program_runs.specs.Programs.{any_type, number, OfProgram, wanted_by_run}
-use Rattle.program_runs.specs.RunsText.{net_run}
+use Rattle.program_runs.specs.Runs.{net_run}
 use Rattle.program_runs.specs.declared.calling.Calling.TheVariants.{ByName}
 use Rattle.goi_jobs.specs.Jobs.{IsBudget, IsWindow, IsPart}
 use Rattle.goi_reports.specs.Reports.{check_report}

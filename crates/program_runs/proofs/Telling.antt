@@ -17,7 +17,8 @@ use Rattle.net_runs.specs.IsRun.{IsRun, IsFirstWorkers}
 use Rattle.program_runs.specs.Laws.{MovesTell, RunsTell}
 use Rattle.program_runs.specs.declared.calling.Calling.{Calling}
 use Rattle.program_runs.specs.Nets.{RunsAs, IsNetFor}
-use Rattle.program_runs.specs.RunsText.{meaning, run_as, net_run, Tells, IsProgramRun, RunsText}
+use Rattle.program_runs.specs.RunsText.{RunsText}
+use Rattle.program_runs.specs.Runs.{meaning, run_as, net_run, Tells, IsProgramRun}
 
 -- what a finished run tells of the term
 told : (t : TermTree) (budget : ℕ) (tickets : List ℕ) (answer : Option Val) (moves : ℕ) → length tickets ≡ moves →

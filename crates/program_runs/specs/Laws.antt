@@ -12,7 +12,7 @@ use Rattle.schedule_log.specs.declared.entry.Entry.{Entry}
 use Rattle.net_runs.specs.IsRun.{IsRun, IsFirstWorkers}
 use Rattle.program_runs.specs.declared.fault.ProgramFault.{ProgramFault}
 use Rattle.program_runs.specs.Programs.{Wanted, IsProgram, OfProgram, FaultyProgram}
-use Rattle.program_runs.specs.RunsText.{Tells, IsProgramRun}
+use Rattle.program_runs.specs.Runs.{Tells, IsProgramRun}
 
 -- a text is one program, whatever is wanted of it
 abbrev pub OneTerm : Type 0
