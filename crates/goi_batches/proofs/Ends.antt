@@ -12,7 +12,8 @@ use Rattle.batch_pool.specs.AreRuns.{IsRunOf, AreRuns}
 use Rattle.goi_reports.specs.Forms.{AnswerFits}
 use Rattle.goi_reports.specs.Reports.{run_report}
 use Rattle.goi_jobs.specs.Jobs.{IsWorkers, IsBudget}
-use Rattle.goi_tasks.specs.Outputs.{output, output_of}
+use Rattle.goi_tasks.specs.Outputs.{output}
+use Rattle.goi_tasks.specs.Seen.{output_of}
 use Rattle.goi_tasks.specs.declared.report.Report.{Report}
 use Rattle.goi_tasks.specs.Replaying.{replay_status}
 use Rattle.goi_tasks.specs.RunReports.{ReportsRun}

@@ -16,7 +16,7 @@ use Rattle.goi_world.specs.Told.{files_seen}
 use Rattle.goi_engine.specs.FilesSeen.{Possibly, OfFile, ReadsWithin, LoadedBy}
 use Rattle.goi_tasks.specs.declared.shown.Shown.{Shown}
 use Rattle.goi_tasks.specs.Calls.{ReportsCall, FaultyCall}
-use Rattle.goi_tasks.specs.Outputs.{output_of}
+use Rattle.goi_tasks.specs.Seen.{output_of}
 use Rattle.program_runs.specs.Programs.{IsGround, OfGround}
 use Rattle.goi_tasks.specs.Programs.{FaultyEither}
 use Rattle.goi_jobs.specs.declared.jobs.Window.{Window}

@@ -29,9 +29,11 @@ use Rattle.program_runs.specs.Runs.{Tells}
 use Rattle.goi_tasks.specs.declared.fault.Fault.{Fault}
 use Rattle.goi_tasks.specs.declared.report.Report.{Report}
 use Rattle.goi_tasks.specs.declared.stop.Stop.{Stop}
-use Rattle.goi_tasks.specs.Outputs.{Output, output, output_of}
+use Rattle.goi_tasks.specs.Outputs.{Output, output}
+use Rattle.goi_tasks.specs.Seen.{output_of}
 use Rattle.goi_tasks.specs.Replaying.{replay_status, replay_text, replay_output, Agrees, ReportsReplay, FaultySchedule, unread, unmoved}
-use Rattle.goi_tasks.specs.Replaying.{IsReplayed, FaultyReplay, no_moves}
+use Rattle.goi_tasks.specs.Replaying.{IsReplayed}
+use Rattle.goi_tasks.specs.Parts.{FaultyReplay, no_moves}
 use Rattle.goi_tasks.specs.Stops.{StopsFor, stop_of_schedule, stop_of_replay}
 use Rattle.goi_tasks.specs.Programs.{FaultyText, FaultyEither}
 use Rattle.goi_tasks.proofs.Texts.{faults_weaker, ground_net}

@@ -23,10 +23,13 @@ use Rattle.walk_text.specs.Traces.{trace_text}
 use Rattle.goi_jobs.specs.declared.jobs.Window.{Window}
 use Rattle.goi_tasks.specs.declared.report.Report.{Report}
 use Rattle.goi_tasks.specs.declared.shown.Shown.{Shown}
-use Rattle.goi_tasks.specs.Notes.{NumbersOf, NotesOf, progress_lines}
-use Rattle.goi_tasks.specs.Outputs.{Output, output, output_of}
+use Rattle.goi_tasks.specs.Notes.{NotesOf, progress_lines}
+use Rattle.goi_tasks.specs.Parts.{NumbersOf}
+use Rattle.goi_tasks.specs.Outputs.{Output, output}
+use Rattle.goi_tasks.specs.Seen.{output_of}
 use Rattle.goi_tasks.specs.Replaying.{replay_status}
-use Rattle.goi_tasks.specs.RunReports.{demo_budget, ReportsRun, ReportsTrace, ReportsDemo, TellsText}
+use Rattle.goi_tasks.specs.RunReports.{demo_budget, ReportsRun, ReportsTrace, ReportsDemo}
+use Rattle.goi_tasks.specs.Told.{TellsText}
 use Rattle.goi_tasks.proofs.Brief.{brief}
 
 -- a run has no more moves than 32 bits count

@@ -11,8 +11,9 @@ ghost use Rattle.net_runs.specs.IsRun.{IsRun};
 ghost use Rattle.program_runs.specs.declared.calling.Calling.{Calling};
 ghost use Rattle.program_runs.specs.Nets.{RunsAs};
 ghost use Rattle.walk_text.specs.Traces.{trace_text};
-ghost use Rattle.goi_tasks.specs.Notes.{NumbersOf, progress_lines};
-ghost use Rattle.goi_tasks.specs.Outputs.{output_of};
+ghost use Rattle.goi_tasks.specs.Notes.{progress_lines};
+ghost use Rattle.goi_tasks.specs.Parts.{NumbersOf};
+ghost use Rattle.goi_tasks.specs.Seen.{output_of};
 ghost use Rattle.goi_tasks.specs.Replaying.{replay_status};
 ghost use Rattle.goi_tasks.specs.RunReports.{ReportsRun, ReportsTrace};
 
