@@ -10,7 +10,8 @@ use Rattle.net_build.specs.Nets.{NetTree}
 use Rattle.net_build.specs.NetOf.{net_of}
 use Rattle.net_build.specs.Sound.{Sound}
 use Rattle.interleave_laws.specs.States.{State}
-use Rattle.interleave_laws.specs.Runs.{LeadsTo, Finished}
+use Rattle.interleave_laws.specs.Runs.{LeadsTo}
+use Rattle.interleave_laws.specs.Finished.{Finished}
 use Rattle.interleave_laws.specs.OneWorker.{one}
 use Rattle.interleave_laws.specs.Maps.{MapState, LeadsToMap, seen}
 use Rattle.interleave_laws.proofs.OneWorker.{one_finished}

@@ -7,9 +7,11 @@ use Rattle.cbn_meaning.specs.Meaning.{Means}
 use Rattle.net_build.specs.Nets.{NetTree}
 use Rattle.net_build.specs.NetOf.{net_of}
 use Rattle.interleave_laws.specs.States.{State}
-use Rattle.interleave_laws.specs.Runs.{LeadsTo, Finished, InEveryState}
+use Rattle.interleave_laws.specs.Runs.{LeadsTo, InEveryState}
+use Rattle.interleave_laws.specs.Finished.{Finished}
 use Rattle.interleave_laws.specs.OneWorker.{one}
-use Rattle.interleave_laws.specs.Maps.{MapState, LeadsToMap, InEveryMapState}
+use Rattle.interleave_laws.specs.Maps.{MapState, LeadsToMap}
+use Rattle.interleave_laws.specs.MapRuns.{InEveryMapState}
 use Rattle.adequacy_laws.specs.Questions.{Length}
 use Rattle.adequacy_laws.specs.Adequacy.{OfEveryProgram}
 use Rattle.adequacy_laws.specs.Finished.{Within, Beyond}

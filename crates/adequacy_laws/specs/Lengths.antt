@@ -5,7 +5,7 @@ use Rattle.std.specs.Prelude.{◌≡◌, ◌≤◌, ◌↔◌, ℕ, List, length
 use Rattle.pcf_values.specs.declared.val.Val.{Val}
 use Rattle.net_build.specs.Nets.{NetTree}
 use Rattle.interleave_laws.specs.Runs.{InEveryState}
-use Rattle.interleave_laws.specs.Maps.{InEveryMapState}
+use Rattle.interleave_laws.specs.MapRuns.{InEveryMapState}
 use Rattle.adequacy_laws.specs.Questions.{Length}
 
 -- more depth changes no result, so a net has one value and one length at most

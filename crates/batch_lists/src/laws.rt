@@ -1,7 +1,6 @@
 //! What holds of lists of jobs and of the limits.
 
-ghost use Rattle.batch_lists.specs.Laws.{OneList};
-ghost use Rattle.batch_lists.specs.Limits.{BatchLimitsAre};
+ghost use Rattle.batch_lists.specs.Laws.{OneList, BatchLimitsAre};
 
 /// The constants are the numbers of the definitions.
 pub fn law_batch_limits()

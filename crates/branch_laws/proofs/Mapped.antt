@@ -20,7 +20,8 @@ use Rattle.move_rules.specs.Moves.{join, move}
 use Rattle.interleave_laws.specs.States.{set_token, State, run}
 use Rattle.interleave_laws.specs.Start.{start_of}
 use Rattle.interleave_laws.specs.Runs.{Runs}
-use Rattle.interleave_laws.specs.Maps.{MapState, start_map, step_map, run_map, LeadsToMap, IsReachedWithin, then_run_map, seen, option_seen}
+use Rattle.interleave_laws.specs.Maps.{MapState, start_map, step_map, run_map, LeadsToMap, then_run_map, seen}
+use Rattle.interleave_laws.specs.MapRuns.{IsReachedWithin, option_seen}
 use Rattle.interleave_laws.proofs.Seen.{tokens_put, step_seen, run_seen, seen_same}
 use Rattle.interleave_laws.proofs.MapLaws.{run_next, from_seen, seen_leads, run_both}
 use Rattle.interleave_laws.proofs.TrailSteps.{walk_map}

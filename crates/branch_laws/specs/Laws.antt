@@ -15,7 +15,8 @@ use Rattle.move_rules.specs.Moves.{join, move}
 use Rattle.move_rules.specs.Walks.{Walks}
 use Rattle.interleave_laws.specs.States.{State, start, step, run}
 use Rattle.interleave_laws.specs.Runs.{Runs, LeadsTo, InEveryState, InEveryRun}
-use Rattle.interleave_laws.specs.Maps.{MapState, step_map, run_map, LeadsToMap, IsReachedWithin, InEveryMapState, InEveryMapRun}
+use Rattle.interleave_laws.specs.Maps.{MapState, step_map, run_map, LeadsToMap}
+use Rattle.interleave_laws.specs.MapRuns.{IsReachedWithin, InEveryMapState, InEveryMapRun}
 use Rattle.branch_laws.specs.Branches.{start_at, name, grafted_tokens, grafted, start_map_at, GraftOf}
 
 -- the state is what a branch on the token came to, by this log of its own tickets, with no answer

@@ -6,7 +6,7 @@ ghost use Rattle.std.specs.Option.{MatchOption};
 ghost use Rattle.pcf_values.specs.Most.{most_budget};
 ghost use Rattle.move_rules.specs.Views.{token_of};
 ghost use Rattle.interleave_laws.specs.Runs.{Runs};
-ghost use Rattle.interleave_laws.specs.Maps.{IsReachedWithin};
+ghost use Rattle.interleave_laws.specs.MapRuns.{IsReachedWithin};
 ghost use Rattle.branch_runs.specs.Branching.{Taken};
 
 use crate::{Branch, OnNet, Tickets};

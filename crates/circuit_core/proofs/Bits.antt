@@ -4,11 +4,12 @@ use Rattle.std.proofs.Common.{refl, sym, ap, ◌∙◌, arith}
 use Rattle.std.proofs.lemmas.List.{append_assoc, take_at, drop_at, length-append}
 use Rattle.std.specs.Prelude.{replicate}
 use Rattle.token_stacks.specs.Signatures.{Sig, star, left_of, right_of, pair_of, again, R, L, S, Work, Boxes}
-use Rattle.move_rules.specs.Places.{Place, work_at, boxes_at}
+use Rattle.move_rules.specs.Places.{Place}
+use Rattle.move_rules.specs.Stacks.{work_at, boxes_at}
 use Rattle.circuit_core.specs.Rows.{Row, GO, STAR, UNSTAR, LEFT, RIGHT, CON, PUSHR, PUSHL, SELECT, POP, BOXIN, BOXOUT, DOOROUT, DOORIN}
 use Rattle.circuit_core.specs.Rows.{FIXIN, FIXOUT, FIXVAR}
-use Rattle.circuit_core.specs.Rows.{Channel, rises, falls, at, channel_of}
-use Rattle.circuit_core.specs.RowMoves.{stack_row}
+use Rattle.circuit_core.specs.Rows.{Channel, rises, falls, channel_of}
+use Rattle.circuit_core.specs.RowMoves.{stack_row, at}
 use Rattle.circuit_core.specs.Bits.{Bits, code, work_bits, box_bits, span, len, register, top, below, BitPlace, to, boxed, back, bit_row}
 use Rattle.circuit_core.specs.Bits.{same_bits}
 

@@ -13,15 +13,16 @@ use Rattle.token_stacks.specs.Signatures.{Work, Boxes}
 use Rattle.net_build.specs.Nets.{NetTree}
 use Rattle.fork_join.specs.Entries.{Entry, pending, has_left, has_right, kept_as, same_key}
 use Rattle.fork_join.proofs.Keys.{key_true, key_same}
-use Rattle.move_rules.specs.Places.{Place, up, down, TokenTree, ask, ans, place_of, work_at, boxes_at}
+use Rattle.move_rules.specs.Places.{Place, up, down, TokenTree, ask, ans, place_of}
+use Rattle.move_rules.specs.Stacks.{work_at, boxes_at}
 use Rattle.move_rules.specs.Moves.{solo_at}
 use Rattle.interleave_laws.specs.States.{State, other}
 use Rattle.interleave_laws.specs.Runs.{Runs, LeadsTo}
 use Rattle.interleave_laws.specs.OneWorker.{one}
 use Rattle.interleave_laws.proofs.OneWorker.{one_leads}
 use Rattle.circuit_core.specs.Rows.{Row, CONST, SUCC, PRED, TEST, FORK, JOIN, ANSWER, DEAD}
-use Rattle.circuit_core.specs.Rows.{Channel, rises, falls, at, row_of, channel_of}
-use Rattle.circuit_core.specs.RowMoves.{stack_row, answer_row, question_row, by_row, by_found}
+use Rattle.circuit_core.specs.Rows.{Channel, rises, falls, row_of, channel_of}
+use Rattle.circuit_core.specs.RowMoves.{stack_row, answer_row, question_row, by_row, by_found, at}
 use Rattle.circuit_core.specs.Processor.{Waiting, OpenFork, Registers, fork_at, kept, closed, taken, rest, last_of, meets, opens, does}
 use Rattle.circuit_core.specs.Processor.{tick_on, tick, ticks, reset}
 use Rattle.circuit_core.specs.Bits.{work_bits, box_bits, bit_row, BitPlace, to, over, same_bits}

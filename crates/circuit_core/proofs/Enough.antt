@@ -16,7 +16,8 @@ use Rattle.token_stacks.specs.Signatures.{Work, Boxes}
 use Rattle.net_build.specs.Nets.{NetTree}
 use Rattle.net_build.specs.Sound.{Sound}
 use Rattle.fork_join.specs.Entries.{Entry, Key, pending, has_left, has_right, kept_as, same_key}
-use Rattle.move_rules.specs.Places.{Place, up, down, turned, TokenTree, ask, ans, place_of, work_at, boxes_at}
+use Rattle.move_rules.specs.Places.{Place, up, down, turned, TokenTree, ask, ans, place_of}
+use Rattle.move_rules.specs.Stacks.{work_at, boxes_at}
 use Rattle.move_rules.specs.Moves.{two, look, solo, fork, join, solo_at, move}
 use Rattle.interleave_laws.specs.States.{State, other}
 use Rattle.interleave_laws.specs.Runs.{Runs, LeadsTo}
@@ -26,8 +27,8 @@ use Rattle.interleave_laws.proofs.Running.{one_place}
 use Rattle.interleave_laws.proofs.Apart.{asked}
 use Rattle.fork_join.proofs.Keys.{key_true}
 use Rattle.circuit_core.specs.Rows.{Row, CONST, SUCC, PRED, TEST, FORK, JOIN, ANSWER}
-use Rattle.circuit_core.specs.Rows.{Channel, rises, falls, at, row_of, channel_of}
-use Rattle.circuit_core.specs.RowMoves.{stack_row, answer_row, question_row, by_row, by_found, by_rows}
+use Rattle.circuit_core.specs.Rows.{Channel, rises, falls, row_of, channel_of}
+use Rattle.circuit_core.specs.RowMoves.{stack_row, answer_row, question_row, by_row, by_found, by_rows, at}
 use Rattle.circuit_core.specs.Bits.{Bits, work_bits, box_bits, bit_row, BitPlace, to, over, same_bits}
 use Rattle.circuit_core.specs.Processor.{Waiting, OpenFork, Registers, fork_at, kept, closed, taken, rest, last_of, meets, opens, does}
 use Rattle.circuit_core.specs.Processor.{tick_on, tick, ticks, reset, ring_at, token_at}

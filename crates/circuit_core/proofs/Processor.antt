@@ -15,7 +15,8 @@ use Rattle.interleave_laws.specs.Start.{start_of}
 use Rattle.interleave_laws.specs.States.{State, start, set_token, set_entry, other, fork_on, last_on, join_on, act, step_on, step, then_run}
 use Rattle.interleave_laws.specs.States.{run}
 use Rattle.interleave_laws.specs.Runs.{Runs, LeadsTo}
-use Rattle.interleave_laws.specs.OneWorker.{least_live, on_step, on_least, one_from, one, Least}
+use Rattle.interleave_laws.specs.OneWorker.{least_live, on_step, on_least, one_from, one}
+use Rattle.interleave_laws.specs.OneWorkerLaws.{Least}
 use Rattle.interleave_laws.proofs.Running.{run_append, has_step, answered_idle}
 use Rattle.interleave_laws.proofs.OneWorker.{least_is, least_search}
 use Rattle.circuit_core.specs.RowMoves.{by_rows}

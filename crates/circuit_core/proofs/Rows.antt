@@ -28,8 +28,8 @@ use Rattle.move_rules.specs.Moves.{dead, solo, join, stay, pass_at, ask_move, so
 use Rattle.move_rules.proofs.Faces.{Among, Apart, above_faced, below_faced}
 use Rattle.circuit_core.specs.Rows.{Row, GO, CONST, SUCC, PRED, TEST, FORK, JOIN, ANSWER, STAR, UNSTAR, LEFT, RIGHT, CON, PUSHR, PUSHL}
 use Rattle.circuit_core.specs.Rows.{SELECT, POP, BOXIN, BOXOUT, DOOROUT, DOORIN, FIXOUT, FIXVAR}
-use Rattle.circuit_core.specs.Rows.{rises, falls, at, if_at, row_up, row_down, found_row}
-use Rattle.circuit_core.specs.RowMoves.{stack_row, answer_row, question_row, by_found, by_rows}
+use Rattle.circuit_core.specs.Rows.{rises, falls, if_at, row_up, row_down, found_row}
+use Rattle.circuit_core.specs.RowMoves.{stack_row, answer_row, question_row, by_found, by_rows, at}
 
 -- where the rule leads, the row leads
 abbrev Leads : Row → Work → Boxes → Option Place → Type 0

@@ -3,7 +3,8 @@
 use Rattle.std.specs.Prelude.{◌≡◌, ◌≤◌, ℕ, zero, suc, false, max, length, Option, Some, None}
 use Rattle.pcf_values.specs.declared.val.Val.{Val}
 use Rattle.net_build.specs.Nets.{NetTree}
-use Rattle.move_rules.specs.Places.{TokenTree, place_of, work_at, boxes_at}
+use Rattle.move_rules.specs.Places.{TokenTree, place_of}
+use Rattle.move_rules.specs.Stacks.{work_at, boxes_at}
 use Rattle.interleave_laws.specs.Runs.{Runs}
 use Rattle.adequacy_laws.specs.Questions.{Length}
 use Rattle.circuit_core.specs.Bits.{work_bits, box_bits}

@@ -10,8 +10,14 @@ use Rattle.token_stacks.specs.Signatures.{star, left_of, right_of, pair_of, agai
 use Rattle.net_build.specs.Nets.{NetTree}
 use Rattle.move_rules.specs.Places.{Place, up, down, TokenTree, ask, ans, place_of}
 use Rattle.move_rules.specs.Moves.{Move, solo, fork, join, answer, stay, solo_at}
-use Rattle.circuit_core.specs.Rows.{Row, row_of, at, channel_of, GO, CONST, SUCC, PRED, TEST, FORK, JOIN, ANSWER, STAR, UNSTAR, LEFT, RIGHT}
+use Rattle.circuit_core.specs.Rows.{Row, row_of, channel_of, GO, CONST, SUCC, PRED, TEST, FORK, JOIN, ANSWER, STAR, UNSTAR, LEFT, RIGHT}
 use Rattle.circuit_core.specs.Rows.{CON, PUSHR, PUSHL, SELECT, POP, BOXIN, BOXOUT, DOOROUT, DOORIN, FIXIN, FIXOUT, FIXVAR}
+use Rattle.circuit_core.specs.Rows.{Channel, rises, falls}
+
+-- the place of a channel with both stacks
+abbrev pub at : Channel → Work → Boxes → Place
+at (rises w) m t = up w m t
+at (falls w) m t = down w m t
 
 -- the same kind of token at another place
 abbrev pub carry : TokenTree → Place → TokenTree

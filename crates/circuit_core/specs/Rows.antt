@@ -4,7 +4,6 @@ use Rattle.std.specs.Prelude.{ℕ, Option, Some, None, nat_eq, if◌then◌else�
 use Rattle.pcf_values.specs.declared.operator.Operator.{Operator}
 use Rattle.pcf_values.specs.declared.side.Side.{Side}
 use Rattle.pcf_values.specs.declared.side.Side.TheVariants.{Left, Right}
-use Rattle.token_stacks.specs.Signatures.{Work, Boxes}
 use Rattle.net_build.specs.declared.node.Node.{Node}
 use Rattle.net_build.specs.declared.node.Node.TheVariants.{Const, Succ, Pred, Ifz, Der, Con, Weak, Lam, App, BoxNode, Binary, Proj}
 use Rattle.net_build.specs.declared.node.Node.TheVariants.{Door, FixBox, Root, Pair}
@@ -107,11 +106,6 @@ found_row o f = on_found o None (λ i n. Some (i, f n))
 abbrev pub row_of : NetTree → Channel → Option (ℕ × Row)
 row_of net (rises w) = found_row (node_above net w) (λ n. row_up n w)
 row_of net (falls w) = found_row (node_below net w) (λ n. row_down n w)
-
--- the place of a channel with both stacks
-abbrev pub at : Channel → Work → Boxes → Place
-at (rises w) m t = up w m t
-at (falls w) m t = down w m t
 
 -- the channel by which a place is come to
 abbrev pub channel_of : Place → Channel

@@ -16,7 +16,7 @@ use Rattle.pcf_reader.specs.Text.{Each, IsShallow, count_of}
 use Rattle.pcf_reader.proofs.Bounds.{program_count}
 use Rattle.pcf_reader.proofs.Lists.{WritesNarrow, each_append}
 use Rattle.pcf_reader.proofs.Shows.{all_low, low_bytes, low_scalars}
-use Rattle.demo_text.specs.Demo.{demo_text, sum_text}
+use Rattle.demo_text.specs.Text.{demo_text, sum_text}
 use Rattle.demo_text.proofs.Phrases.{demo_end, demo_program, right_of, sum_end, sum_phrase, sum_tokens, sum_width, tail_tokens}
 
 -- ---- numbers

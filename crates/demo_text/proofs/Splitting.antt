@@ -12,7 +12,7 @@ use Rattle.pcf_reader.proofs.Pieces.{Clear, clear_by, place_at, blank_piece, key
 use Rattle.pcf_reader.proofs.Lexed.{at_place, arrow_longest, longest_number}
 use Rattle.pcf_reader.proofs.Canon.{space, closes, colon_clear, dot_clear, open_piece, close_piece, colon_piece, dot_piece, op_piece}
 use Rattle.pcf_reader.proofs.Canon.{nat_piece, binder_splits}
-use Rattle.demo_text.specs.Demo.{demo_text, sum_text}
+use Rattle.demo_text.specs.Text.{demo_text, sum_text}
 use Rattle.demo_text.proofs.Phrases.{close_at, demo_end, demo_program, doubler_phrase, left_at, open_at, right_at, right_of, sum_end}
 use Rattle.demo_text.proofs.Phrases.{sum_phrase, sum_tokens, sum_width, tail_tokens}
 

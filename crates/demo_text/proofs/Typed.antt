@@ -4,7 +4,8 @@ use Rattle.std.specs.Prelude.{codes}
 use Rattle.pcf_values.specs.Terms.{nat, arrow, size}
 use Rattle.pcf_reader.specs.Grammar.{expr_part, placed, program_text}
 use Rattle.pcf_types.specs.Checking.{Context, type_of}
-use Rattle.demo_text.specs.Demo.{demo_term, demo_text, sum_term}
+use Rattle.demo_text.specs.Demo.{demo_term, sum_term}
+use Rattle.demo_text.specs.Text.{demo_text}
 use Rattle.demo_text.specs.Laws.{DemoIsTyped, DemoSize}
 use Rattle.demo_text.proofs.Limits.{demo_bytes, demo_narrow, demo_scalars, demo_shallow, demo_short, demo_small, twice}
 use Rattle.demo_text.proofs.Phrases.{demo_phrase, demo_program, right_of, sum_phrase}

@@ -5,7 +5,8 @@ use Rattle.pcf_values.specs.Named.{NamedTree}
 use Rattle.pcf_values.specs.Terms.{nat, size}
 use Rattle.pcf_reader.specs.Correct.{Text}
 use Rattle.pcf_types.specs.Checking.{type_of}
-use Rattle.demo_text.specs.Demo.{demo_text, demo_term}
+use Rattle.demo_text.specs.Demo.{demo_term}
+use Rattle.demo_text.specs.Text.{demo_text}
 
 -- the text of each number up to the limit stands for a tree, which is typed as the program and is a number
 abbrev pub DemoIsTyped : Type 0

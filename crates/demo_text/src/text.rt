@@ -2,7 +2,7 @@
 
 ghost use Rattle.std.specs.Prelude.{◌≡◌, ◌≤◌, IfOk, string_bytes};
 ghost use Rattle.pcf_values.specs.Most.{most_demo};
-ghost use Rattle.demo_text.specs.Demo.{demo_text, doubled, program_of, sum_text};
+ghost use Rattle.demo_text.specs.Text.{demo_text, doubled, program_of, sum_text};
 
 use std::alloc::{AllocError, Global};
 

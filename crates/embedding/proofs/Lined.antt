@@ -11,7 +11,8 @@ use Rattle.program_runs.specs.declared.no_run.NoRun.{NoRun}
 use Rattle.program_runs.specs.declared.no_run.NoRun.TheVariants.{Fault}
 use Rattle.program_runs.specs.NoRuns.{NoRunFor}
 use Rattle.program_runs.specs.Programs.{number, IsProgram, FaultyProgram}
-use Rattle.program_runs.specs.RunsText.{Tells, RunsText}
+use Rattle.program_runs.specs.RunsText.{RunsText}
+use Rattle.program_runs.specs.Runs.{Tells}
 use Rattle.embedding.specs.Hands.{WalksText}
 use Rattle.embedding.specs.Lines.{budget, RunLine, ran, refused, run_line, refused_line}
 

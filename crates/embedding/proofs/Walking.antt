@@ -8,7 +8,8 @@ use Rattle.pcf_values.specs.Terms.{TyTree}
 use Rattle.cbn_meaning.specs.Meaning.{Means}
 use Rattle.net_build.specs.Nets.{NetTree}
 use Rattle.net_build.specs.Sound.{Sound}
-use Rattle.interleave_laws.specs.Maps.{MapState, start_map, step_map, run_map, then_run_map, IsReachedWithin, seen}
+use Rattle.interleave_laws.specs.Maps.{MapState, start_map, step_map, run_map, then_run_map, seen}
+use Rattle.interleave_laws.specs.MapRuns.{IsReachedWithin}
 use Rattle.interleave_laws.specs.MapLaws.{MapLed}
 use Rattle.interleave_laws.specs.Progress.{IdleAnswered}
 use Rattle.interleave_laws.specs.Start.{start_of}
@@ -17,7 +18,7 @@ use Rattle.interleave_laws.proofs.MapLaws.{run_both}
 use Rattle.program_runs.specs.declared.calling.Calling.TheVariants.{ByName}
 use Rattle.program_runs.specs.Nets.{IsNetFor}
 use Rattle.program_runs.specs.Programs.{number, IsProgram, IsGround}
-use Rattle.program_runs.specs.RunsText.{Tells}
+use Rattle.program_runs.specs.Runs.{Tells}
 use Rattle.embedding.specs.Lines.{budget}
 use Rattle.embedding.specs.Hands.{IsAt, IsWalked, WalksText}
 

@@ -5,9 +5,9 @@ use Rattle.cbn_meaning.specs.Meaning.{Means}
 use Rattle.net_build.specs.Nets.{NetTree}
 use Rattle.net_build.specs.NetOf.{net_of}
 use Rattle.interleave_laws.specs.Maps.{MapState, LeadsToMap}
-use Rattle.interleave_laws.specs.Runs.{Finished}
+use Rattle.interleave_laws.specs.Finished.{Finished}
 use Rattle.program_runs.specs.Programs.{OfGround}
-use Rattle.program_runs.specs.RunsText.{Tells}
+use Rattle.program_runs.specs.Runs.{Tells}
 use Rattle.embedding.specs.Lines.{budget}
 
 -- so many moves led from the net's start to this state

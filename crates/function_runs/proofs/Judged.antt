@@ -13,7 +13,8 @@ use Rattle.program_runs.specs.declared.fault.ProgramFault.{ProgramFault}
 use Rattle.program_runs.specs.declared.no_run.NoRun.{NoRun}
 use Rattle.program_runs.specs.declared.no_run.NoRun.TheVariants.{Memory, Fault}
 use Rattle.program_runs.specs.NoRuns.{NoRunFor, no_run_of_read, no_run_of_type}
-use Rattle.function_runs.specs.Functions.{CompilesTree, CompilesText, IsMisfit, misfit, FaultyTree, Takes, untyped, other_type}
+use Rattle.function_runs.specs.Functions.{CompilesTree, CompilesText, FaultyTree, Takes, untyped, other_type}
+use Rattle.function_runs.specs.Misfit.{IsMisfit, misfit}
 use Rattle.function_runs.specs.Functions.{FaultyFunction, unread, of_tree}
 
 weaker : (P Q : ProgramFault → Type 0) (e : NoRun) → ((f : ProgramFault) → P f → Q f) → NoRunFor P e → NoRunFor Q e

@@ -2,7 +2,6 @@
 use Rattle.std.proofs.Common.{◌≡◌, ℕ, List, [], Result, Ok, Err, refl, sym, ap, ◌∙◌, subst}
 use Rattle.pcf_values.specs.Terms.{TyTree, TermTree}
 use Rattle.pcf_values.specs.Named.{NamedTree}
-use Rattle.pcf_reader.specs.Correct.{Text}
 use Rattle.pcf_reader.specs.Laws.{OneTree, OneFault, NotBoth}
 use Rattle.pcf_types.specs.declared.fault.TypeFault.{TypeFault}
 use Rattle.pcf_types.specs.Checking.{type_of}

@@ -31,10 +31,6 @@ pub record CompilesTree (tree : NamedTree) (n : ℕ) (f : TermTree × ℕ) : Typ
 abbrev pub CompilesText : List ℕ → ℕ → TermTree × ℕ → Type 0
 CompilesText bytes n f = (tree : NamedTree) × Text bytes tree × CompilesTree tree n f
 
--- this is the fault of a program of another type
-pub data IsMisfit (n : ℕ) (A : TyTree) : ProgramFault → Type 0 where
-  misfit : (Takes n A → ⊥) → IsMisfit n A NotGround
-
 -- the tree is refused for this fault, which is its first
 pub data FaultyTree (n : ℕ) (tree : NamedTree) : ProgramFault → Type 0 where
   -- its scope or its types are at fault

@@ -12,7 +12,7 @@ use Rattle.open_nets.specs.Applied.{applied, numeric}
 use Rattle.schedule_log.specs.declared.entry.Entry.{Entry}
 use Rattle.program_runs.specs.declared.fault.ProgramFault.{ProgramFault}
 use Rattle.program_runs.specs.Programs.{number, IsGround, OfProgram}
-use Rattle.program_runs.specs.RunsText.{IsProgramRun}
+use Rattle.program_runs.specs.Runs.{IsProgramRun}
 use Rattle.function_runs.specs.Functions.{CompilesText, FaultyFunction}
 
 -- a text is one function of so many numbers, or has one first fault, and never both

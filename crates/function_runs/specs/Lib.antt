@@ -2,6 +2,8 @@
 pub mod Functions
 -- that a call is the run of a text
 pub mod Laws
+-- the fault of a program that isn't a function of so many numbers
+pub mod Misfit
 -- what a function keeps
 pub mod Ready
 -- how a function's value is coded

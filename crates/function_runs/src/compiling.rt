@@ -9,7 +9,8 @@ ghost use Rattle.pcf_values.specs.Views.{named_of};
 ghost use Rattle.net_build.specs.NetOf.{net_of};
 ghost use Rattle.open_nets.specs.Applied.{applied, numeric};
 ghost use Rattle.program_runs.specs.NoRuns.{NoRunFor};
-ghost use Rattle.function_runs.specs.Functions.{most_arguments, CompilesText, CompilesTree, FaultyFunction, FaultyTree, IsMisfit, Takes};
+ghost use Rattle.function_runs.specs.Functions.{most_arguments, CompilesText, CompilesTree, FaultyFunction, FaultyTree, Takes};
+ghost use Rattle.function_runs.specs.Misfit.{IsMisfit};
 
 use crate::applying::{at_zeros, fits};
 use crate::function::Function;

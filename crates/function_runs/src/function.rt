@@ -7,7 +7,7 @@ ghost use Rattle.pcf_values.specs.Typing.{HasType};
 ghost use Rattle.cbn_meaning.specs.Meaning.{Means};
 ghost use Rattle.net_build.specs.NetOf.{net_of};
 ghost use Rattle.open_nets.specs.Applied.{applied, numeric};
-ghost use Rattle.program_runs.specs.RunsText.{IsProgramRun};
+ghost use Rattle.program_runs.specs.Runs.{IsProgramRun};
 
 use crate::exchanging::exchange;
 use adequacy_laws::law_never_stuck;

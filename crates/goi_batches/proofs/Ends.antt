@@ -12,7 +12,8 @@ use Rattle.batch_pool.specs.AreRuns.{IsRunOf, AreRuns}
 use Rattle.goi_reports.specs.Forms.{AnswerFits}
 use Rattle.goi_reports.specs.Reports.{run_report}
 use Rattle.goi_jobs.specs.Jobs.{IsWorkers, IsBudget}
-use Rattle.goi_tasks.specs.Outputs.{output, output_of}
+use Rattle.goi_tasks.specs.Outputs.{output}
+use Rattle.goi_tasks.specs.Seen.{output_of}
 use Rattle.goi_tasks.specs.declared.report.Report.{Report}
 use Rattle.goi_tasks.specs.Replaying.{replay_status}
 use Rattle.goi_tasks.specs.RunReports.{ReportsRun}
@@ -22,9 +23,9 @@ use Rattle.goi_tasks.proofs.Texts.{of_net}
 use Rattle.goi_batches.specs.declared.judged.Judged.{Judged}
 use Rattle.goi_batches.specs.declared.judged.Judged.TheVariants.{Runs, Refused}
 use Rattle.goi_batches.specs.Judging.{IsJobOf, AreJudged}
-use Rattle.goi_batches.specs.Sections.{Listed, section, plain_run, IsSection, runs, refused, AreSections}
-use Rattle.goi_batches.specs.Sections.{ReportsBatch, statuses_of, batch_status, batch_report}
-use Rattle.goi_batches.specs.Telling.{Mark, jobs_of, marks_of, told_by, Fit, EachFits, end_section}
+use Rattle.goi_batches.specs.Sections.{Listed, section, plain_run, IsSection, runs, refused}
+use Rattle.goi_batches.specs.Sections.{statuses_of, batch_status, batch_report}
+use Rattle.goi_batches.specs.Telling.{Mark, jobs_of, marks_of, told_by, Fit, EachFits, end_section, AreSections, ReportsBatch}
 
 -- ---- the jobs can be run
 

@@ -14,7 +14,7 @@ use Rattle.goi_tasks.specs.declared.fault.Fault.{Fault}
 use Rattle.goi_tasks.specs.Outputs.{Output}
 use Rattle.program_runs.specs.Programs.{number}
 use Rattle.goi_tasks.specs.Refusals.{fault_line}
-use Rattle.program_runs.specs.RunsText.{Tells}
+use Rattle.program_runs.specs.Runs.{Tells}
 use Rattle.goi_tasks.specs.RunReports.{ReportsNet}
 use Rattle.goi_tasks.specs.Tasks.{nothing_shown, ReportsText}
 use Rattle.program_runs.proofs.OneProgram.{same_program}

@@ -6,7 +6,7 @@ use Rattle.goi_reports.specs.Lines.{numbered_line}
 use Rattle.goi_tasks.specs.declared.fault.Fault.{Fault}
 use Rattle.goi_tasks.specs.declared.task.Task.{Task}
 use Rattle.goi_tasks.specs.declared.task.Task.TheVariants.{Run}
-use Rattle.goi_tasks.specs.Outputs.{Output, output}
+use Rattle.goi_tasks.specs.Outputs.{Output}
 use Rattle.program_runs.specs.declared.calling.Calling.TheVariants.{ByName}
 use Rattle.program_runs.specs.Programs.{number}
 use Rattle.goi_tasks.specs.Programs.{FaultyText}
@@ -40,13 +40,6 @@ pub data IsSection (workers : ℕ) (p : Listed) : Section → Type 0 where
   -- or the line of its first fault
   refused : (f : Fault) → FaultyText number p.bytes f → IsSection workers p (section 1 (fault_line f))
 
--- what is told of these programs, in turn
-abbrev pub AreSections : ℕ → List Listed → List Section → Type 0
-AreSections workers [] [] = Unit {0}
-AreSections workers [] (s ∷ ss) = ⊥
-AreSections workers (p ∷ ps) [] = ⊥
-AreSections workers (p ∷ ps) (s ∷ ss) = IsSection workers p s × AreSections workers ps ss
-
 -- ---- the report
 
 -- the line of a program's number
@@ -73,12 +66,6 @@ batch_status ss = if some_is 1 ss then 1 else (if some_is 5 ss then 5 else 0)
 abbrev pub statuses_of : List Section → List ℕ
 statuses_of [] = []
 statuses_of (s ∷ ss) = s.status ∷ statuses_of ss
-
--- the output for these programs
-pub record ReportsBatch (workers : ℕ) (ps : List Listed) (o : Output) : Type 0 where
-  pub sections : List Section
-  pub are : AreSections workers ps sections
-  pub output_is : o ≡ output (batch_status (statuses_of sections)) (batch_report sections) []
 
 -- ---- how it ends
 

@@ -1,16 +1,17 @@
 -- What is kept of judged programs while their jobs run, and what is then told of each.
 -- A mark stands for each program: none where it runs, and else the line of its refusal.
-use Rattle.std.specs.Prelude.{ℕ, false, List, [], ◌∷◌, Option, Some, None, Vec}
+use Rattle.std.specs.Prelude.{ℕ, false, List, [], ◌∷◌, Option, Some, None, Vec, ◌≡◌}
 use Rattle.std.specs.Global.{Global}
 use Rattle.token_pool.specs.declared.ending.Ended.{Ended}
 use Rattle.batch_pool.specs.declared.job.BatchJob.{BatchJob}
 use Rattle.goi_reports.specs.Forms.{AnswerFits}
 use Rattle.goi_reports.specs.Reports.{run_report}
-use Rattle.goi_reports.specs.Tallies.{BookedWithin}
+use Rattle.goi_reports.specs.Booked.{BookedWithin}
 use Rattle.goi_tasks.specs.Replaying.{replay_status}
 use Rattle.goi_batches.specs.declared.judged.Judged.{Judged}
 use Rattle.goi_batches.specs.declared.judged.Judged.TheVariants.{Runs, Refused}
-use Rattle.goi_batches.specs.Sections.{Section, section}
+use Rattle.goi_batches.specs.Sections.{Section, section, Listed, IsSection, batch_report, batch_status, statuses_of}
+use Rattle.goi_tasks.specs.Outputs.{Output, output}
 
 abbrev pub Mark : Type 0
 Mark = Option (Vec ℕ Global)
@@ -68,3 +69,16 @@ FirstFits None (e ∷ es) = AnswerFits e.answer
 abbrev pub EachFits : List Mark → List Ended → Type 0
 EachFits [] es = Unit {0}
 EachFits (m ∷ ms) es = FirstFits m es × EachFits ms (rest_of m es)
+
+-- what is told of these programs, in turn
+abbrev pub AreSections : ℕ → List Listed → List Section → Type 0
+AreSections workers [] [] = Unit {0}
+AreSections workers [] (s ∷ ss) = ⊥
+AreSections workers (p ∷ ps) [] = ⊥
+AreSections workers (p ∷ ps) (s ∷ ss) = IsSection workers p s × AreSections workers ps ss
+
+-- the output for these programs
+pub record ReportsBatch (workers : ℕ) (ps : List Listed) (o : Output) : Type 0 where
+  pub sections : List Section
+  pub are : AreSections workers ps sections
+  pub output_is : o ≡ output (batch_status (statuses_of sections)) (batch_report sections) []

@@ -3,10 +3,11 @@
 ghost use Rattle.std.specs.Prelude.{◌≡◌, ◌≤◌, List, [], length, IfOk, OnOk};
 ghost use Rattle.batch_lists.specs.Limits.{most_jobs};
 ghost use Rattle.goi_jobs.specs.Jobs.{IsWorkers};
-ghost use Rattle.goi_tasks.specs.Outputs.{output, output_of};
+ghost use Rattle.goi_tasks.specs.Outputs.{output};
+ghost use Rattle.goi_tasks.specs.Seen.{output_of};
 ghost use Rattle.goi_batches.specs.Judging.{AreJudged};
-ghost use Rattle.goi_batches.specs.Sections.{Listed, ReportsBatch, statuses_of, batch_status, batch_report};
-ghost use Rattle.goi_batches.specs.Telling.{told_by, Fit, EachFits};
+ghost use Rattle.goi_batches.specs.Sections.{Listed, statuses_of, batch_status, batch_report};
+ghost use Rattle.goi_batches.specs.Telling.{told_by, Fit, EachFits, ReportsBatch};
 
 use crate::judged::Judged;
 use crate::sections::{batch_status, push_sections};

@@ -3,7 +3,7 @@
 ghost use Rattle.std.specs.Prelude.{◌≡◌, ◌<◌, ◌+◌, ◌^◌, ◌++◌, ◌∷◌, [], length, IfOk, OnOk, string_bytes};
 ghost use Rattle.goi_jobs.specs.Jobs.{IsWorkers};
 ghost use Rattle.goi_reports.specs.Forms.{AnswerFits};
-ghost use Rattle.goi_reports.specs.Tallies.{BookedWithin};
+ghost use Rattle.goi_reports.specs.Booked.{BookedWithin};
 ghost use Rattle.goi_batches.specs.Sections.{sections_from, statuses_of, job_line, some_is, batch_status};
 ghost use Rattle.goi_batches.specs.Telling.{end_section, first_section, rest_of, told_by, FitFirst, Fit, FirstFits, EachFits};
 

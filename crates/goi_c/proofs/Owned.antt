@@ -4,7 +4,7 @@ use Rattle.goi_tasks.specs.declared.fault.Fault.{Fault}
 use Rattle.goi_tasks.specs.Outputs.{Output}
 use Rattle.goi_tasks.specs.Refusals.{fault_status}
 use Rattle.program_runs.specs.declared.calling.Calling.{Calling}
-use Rattle.goi_tasks.specs.RunReports.{TellsText}
+use Rattle.goi_tasks.specs.Told.{TellsText}
 use Rattle.goi_tasks.specs.Settles.{Settles, status_of_output, status_of_run}
 use Rattle.goi_tasks.specs.Tasks.{FaultyFor, EndsText}
 use Rattle.goi_c.specs.declared.telling.Answer.{Answer}

@@ -10,7 +10,8 @@ use Rattle.goi_jobs.specs.declared.jobs.Window.{Window}
 use Rattle.goi_tasks.specs.declared.fault.Fault.{Fault}
 use Rattle.goi_tasks.specs.declared.report.Report.{Report}
 use Rattle.goi_tasks.specs.declared.stop.Stop.{Stop}
-use Rattle.goi_tasks.specs.Outputs.{Output, output_of}
+use Rattle.goi_tasks.specs.Outputs.{Output}
+use Rattle.goi_tasks.specs.Seen.{output_of}
 use Rattle.goi_tasks.specs.Replaying.{ReportsReplay, replay_output}
 use Rattle.goi_tasks.specs.Settles.{Settles, status_of_output}
 use Rattle.goi_tasks.proofs.Texts.{ground_net}

@@ -15,7 +15,7 @@ use Rattle.program_runs.specs.declared.calling.Calling.{Calling}
 use Rattle.program_runs.specs.Programs.{calling_of, OfGround}
 use Rattle.goi_tasks.specs.Programs.{FaultyEither}
 use Rattle.goi_tasks.specs.Replaying.{replay_status, ReportsReplay, EndsReplay, FaultySchedule}
-use Rattle.goi_tasks.specs.RunReports.{TellsText}
+use Rattle.goi_tasks.specs.Told.{TellsText}
 use Rattle.goi_tasks.specs.Tasks.{shown, nothing_shown, ReportsText, FaultyFor, EndsText}
 use Rattle.goi_c.specs.declared.telling.Answer.{Answer}
 use Rattle.goi_c.specs.Backs.{Back, Comes, Gives, Nothing}

@@ -7,7 +7,7 @@ use Rattle.cbn_meaning.specs.Meaning.{Means}
 use Rattle.net_build.specs.NetOf.{net_of}
 use Rattle.open_nets.specs.Applied.{applied}
 use Rattle.program_runs.specs.declared.fault.ProgramFault.{ProgramFault}
-use Rattle.program_runs.specs.RunsText.{Tells}
+use Rattle.program_runs.specs.Runs.{Tells}
 use Rattle.function_runs.specs.Functions.{CompilesText, FaultyFunction}
 use Rattle.goi_jobs.specs.Jobs.{IsBudget}
 use Rattle.goi_tasks.specs.declared.fault.Fault.TheVariants.{Program}

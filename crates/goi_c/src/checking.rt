@@ -4,7 +4,7 @@ ghost use Rattle.std.specs.Prelude.{Some, IfOk, IfErr};
 ghost use Rattle.program_runs.specs.Programs.{OfGround};
 ghost use Rattle.goi_jobs.specs.Jobs.{IsWindow};
 ghost use Rattle.goi_tasks.specs.declared.task.Task.TheVariants.{Check, Circuit, ShowNet};
-ghost use Rattle.goi_tasks.specs.Outputs.{output_of};
+ghost use Rattle.goi_tasks.specs.Seen.{output_of};
 ghost use Rattle.goi_tasks.specs.Programs.{FaultyEither};
 ghost use Rattle.goi_tasks.specs.Replaying.{FaultySchedule, ReportsReplay};
 ghost use Rattle.goi_tasks.specs.Stops.{StopsFor};

@@ -11,11 +11,12 @@ use Rattle.goi_engine.specs.declared.answer.Answer.{Answer}
 use Rattle.goi_engine.specs.declared.answer.Answer.TheVariants.{Prints, Refused, BadWords, NotRead, NoMemory}
 use Rattle.goi_engine.specs.Answers.{AnswersFile, AnswersSchedule, MadeNet, AnswersDeed}
 use Rattle.goi_engine.specs.Deeds.{Deed, with_text, with_schedule, with_list, generated, with_numbers, deed_of}
-use Rattle.goi_world.specs.Seen.{files_seen, FilesState, FilesKept}
+use Rattle.goi_world.specs.Seen.{FilesState, FilesKept}
+use Rattle.goi_world.specs.Told.{files_seen}
 use Rattle.goi_engine.specs.FilesSeen.{Possibly, OfFile, ReadsWithin, LoadedBy}
 use Rattle.goi_tasks.specs.declared.shown.Shown.{Shown}
 use Rattle.goi_tasks.specs.Calls.{ReportsCall, FaultyCall}
-use Rattle.goi_tasks.specs.Outputs.{output_of}
+use Rattle.goi_tasks.specs.Seen.{output_of}
 use Rattle.program_runs.specs.Programs.{IsGround, OfGround}
 use Rattle.goi_tasks.specs.Programs.{FaultyEither}
 use Rattle.goi_jobs.specs.declared.jobs.Window.{Window}

@@ -14,7 +14,7 @@ use Rattle.goi_world.specs.Outside.{with_more}
 use Rattle.goi_world.specs.Seen.{SinkState}
 use Rattle.program_runs.specs.declared.calling.Calling.TheVariants.{ByName}
 use Rattle.program_runs.specs.declared.fault.ProgramFault.{ProgramFault}
-use Rattle.program_runs.specs.RunsText.{Tells}
+use Rattle.program_runs.specs.Runs.{Tells}
 use Rattle.goi_reports.specs.Lines.{result_lines}
 use Rattle.goi_reports.specs.Reports.{run_report}
 use Rattle.goi_tasks.specs.declared.fault.Fault.{Fault}

@@ -11,7 +11,8 @@ use Rattle.goi_engine.specs.Writes.{Wrote}
 use Rattle.goi_engine.specs.Delivers.{Reported, RefusedAs, Delivered}
 use Rattle.function_runs.specs.Laws.{OneFunction}
 use Rattle.goi_tasks.specs.Calls.{ReportsCall}
-use Rattle.goi_tasks.specs.Outputs.{Output, output_of}
+use Rattle.goi_tasks.specs.Outputs.{Output}
+use Rattle.goi_tasks.specs.Seen.{output_of}
 use Rattle.goi_world.specs.Seen.{FilesKept, FilesState, SinkState}
 use Rattle.goi_engine.specs.FilesSeen.{Possibly, OfFile}
 use Rattle.goi_engine.specs.Promise.{Call, WroteLine, Printed, RefusedFault, RefusalLine, of_words, of_read, of_memory}

@@ -15,13 +15,15 @@ use Rattle.goi_tasks.specs.declared.fault.Fault.{Fault}
 use Rattle.goi_tasks.specs.declared.fault.Fault.TheVariants.{Batch}
 use Rattle.goi_tasks.specs.declared.stop.Stop.{Stop}
 use Rattle.goi_tasks.specs.declared.stop.Stop.TheVariants as stop
-use Rattle.goi_tasks.specs.Outputs.{Output, output_of}
+use Rattle.goi_tasks.specs.Outputs.{Output}
+use Rattle.goi_tasks.specs.Seen.{output_of}
 use Rattle.program_runs.specs.declared.calling.Calling.TheVariants.{ByName}
 use Rattle.program_runs.specs.Programs.{number, wanted_by_run}
 use Rattle.goi_batches.specs.declared.judged.Judged.{Judged}
 use Rattle.goi_batches.specs.declared.judged.Judged.TheVariants.{Runs, Refused as Told}
 use Rattle.goi_batches.specs.Judging.{IsJudged, AreJudged}
-use Rattle.goi_batches.specs.Sections.{Listed, listed, Section, IsSection, AreSections, ReportsBatch}
+use Rattle.goi_batches.specs.Sections.{Listed, listed, Section, IsSection}
+use Rattle.goi_batches.specs.Telling.{AreSections, ReportsBatch}
 use Rattle.goi_engine.specs.declared.answer.Answer.{Answer}
 use Rattle.goi_engine.specs.declared.answer.Answer.TheVariants.{Prints, Refused, BadWords, NotRead, NoMemory}
 use Rattle.goi_engine.specs.declared.load.LoadError.{LoadError}

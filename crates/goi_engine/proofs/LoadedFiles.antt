@@ -32,7 +32,8 @@ use Rattle.goi_tasks.specs.NetFiles.{FaultyListing, unlisted}
 use Rattle.goi_tasks.specs.declared.shown.Shown.{Shown}
 use Rattle.function_runs.specs.Functions.{CompilesText, FaultyFunction, unread as no_function_read, of_tree as of_function_tree}
 use Rattle.goi_tasks.specs.Calls.{ReportsCall, FaultyCall}
-use Rattle.goi_tasks.specs.Outputs.{Output, output_of}
+use Rattle.goi_tasks.specs.Outputs.{Output}
+use Rattle.goi_tasks.specs.Seen.{output_of}
 use Rattle.program_runs.specs.declared.fault.ProgramFault.{ProgramFault}
 use Rattle.program_runs.specs.declared.calling.Calling.TheVariants.{ByName}
 use Rattle.program_runs.specs.Nets.{IsNetFor}

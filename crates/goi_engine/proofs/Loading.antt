@@ -5,7 +5,8 @@ use Rattle.std.proofs.Common.{IsTrue, ◌∙◌, ◌⊎◌, inl, inr, arith, len
 use Rattle.std.proofs.Math.Seq.{take-add}
 use Rattle.std.proofs.lemmas.List.Elements.{All-cons}
 use Rattle.std.proofs.lemmas.List.{take_all, length-take-le}
-use Rattle.goi_world.specs.Outside.{Reading, reading, CameBy, IsPiece}
+use Rattle.goi_world.specs.Outside.{Reading, CameBy}
+use Rattle.goi_world.specs.Told.{reading, IsPiece}
 use Rattle.goi_world.specs.Seen.{FilesState, FilesKept}
 use Rattle.goi_engine.specs.FilesSeen.{ReadsWithin, Onwards, LoadedBy}
 use Rattle.goi_engine.specs.Loads.{Loads}

@@ -3,7 +3,8 @@ use Rattle.std.specs.Prelude.{◌≡◌, ◌⊎◌, ℕ, List}
 use Rattle.goi_engine.specs.declared.answer.Answer.{Answer}
 use Rattle.goi_engine.specs.declared.answer.Answer.TheVariants.{Prints, Refused, BadWords, NotRead, NoMemory}
 use Rattle.goi_engine.specs.Writes.{SinkTurn, Untouched, Wrote, Broke}
-use Rattle.goi_tasks.specs.Outputs.{Output, output_of}
+use Rattle.goi_tasks.specs.Outputs.{Output}
+use Rattle.goi_tasks.specs.Seen.{output_of}
 use Rattle.goi_tasks.specs.Refusals.{words_line, read_line, memory_line, write_line}
 
 -- an output was delivered: the report was written whole to `out` and its notes to `err`; or `out` failed, and then the line that says so

@@ -15,11 +15,12 @@ ghost use Rattle.net_runs.specs.IsRun.{IsRun, IsFirstWorkers};
 ghost use Rattle.program_runs.specs.declared.calling.Calling.TheVariants.{ByName};
 ghost use Rattle.program_runs.specs.Nets.{IsNetFor, RunsAs};
 ghost use Rattle.program_runs.specs.Programs.{number};
-ghost use Rattle.goi_tasks.specs.Notes.{NumbersOf};
+ghost use Rattle.goi_tasks.specs.Parts.{NumbersOf};
 ghost use Rattle.goi_tasks.specs.Programs.{FaultyText};
 ghost use Rattle.goi_tasks.specs.Replaying.{ReportsReplay, FaultySchedule};
 ghost use Rattle.goi_tasks.specs.RunReports.{ReportsDemo};
-ghost use Rattle.goi_tasks.specs.Tasks.{IsWithin, ReportsText, FaultyFor, most_bytes, progress_of};
+ghost use Rattle.goi_tasks.specs.Tasks.{ReportsText, FaultyFor, most_bytes};
+ghost use Rattle.goi_tasks.specs.Ranges.{IsWithin, progress_of};
 ghost use Rattle.goi_engine.specs.Verdicts.{LoadedBoth, ReadFor};
 
 use crate::batching::answer_batch;

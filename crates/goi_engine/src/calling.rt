@@ -7,7 +7,7 @@ ghost use Rattle.net_runs.specs.IsRun.{IsRun, IsFirstWorkers};
 ghost use Rattle.goi_jobs.specs.Jobs.{IsBudget, IsWorkers};
 ghost use Rattle.goi_world.specs.Seen.{FilesKept};
 ghost use Rattle.goi_tasks.specs.Calls.{ReportsCall, FaultyCall};
-ghost use Rattle.goi_tasks.specs.Notes.{NumbersOf};
+ghost use Rattle.goi_tasks.specs.Parts.{NumbersOf};
 ghost use Rattle.goi_engine.specs.Answers.{AnswersFile, Says};
 ghost use Rattle.goi_engine.specs.FilesSeen.{LoadedBy};
 

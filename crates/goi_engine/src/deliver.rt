@@ -1,7 +1,7 @@
 //! Writing what was answered.
 
 ghost use Rattle.std.specs.Prelude.{◌≡◌, ◌⊎◌, MatchResult};
-ghost use Rattle.goi_tasks.specs.Outputs.{output_of};
+ghost use Rattle.goi_tasks.specs.Seen.{output_of};
 ghost use Rattle.goi_tasks.specs.Refusals.{memory_line};
 ghost use Rattle.goi_engine.specs.Writes.{ByWrites, Wrote, Broke};
 ghost use Rattle.goi_engine.specs.Delivers.{Reported, Delivered};

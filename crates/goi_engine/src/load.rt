@@ -1,7 +1,8 @@
 //! Reading a file, piece by piece, up to one byte more than its limit.
 
 ghost use Rattle.std.specs.Prelude.{◌≡◌, ◌⊎◌, ◌<◌, ◌≤◌, ◌+◌, ℕ, IsTrue, length, take, IsErr, OnOk, IfOk, IfSome, IsErrOf};
-ghost use Rattle.goi_world.specs.Outside.{Rose, reading};
+ghost use Rattle.goi_world.specs.Outside.{Rose};
+ghost use Rattle.goi_world.specs.Told.{reading};
 ghost use Rattle.goi_world.specs.Seen.{FilesKept};
 ghost use Rattle.pcf_values.specs.Most.{most_schedule_bytes};
 ghost use Rattle.goi_engine.specs.FilesSeen.{LoadedBy};

@@ -8,7 +8,7 @@ use Rattle.std.proofs.lemmas.List.Folds.{sum_by-replicate}
 use Rattle.std.proofs.lemmas.List.Sums.{sum_by_more, sum_by-set, count_by-le-length}
 use Rattle.schedule_log.specs.declared.entry.Entry.{Entry}
 use Rattle.schedule_log.specs.Tally.{tally_of, tally_from, tally}
-use Rattle.goi_reports.specs.Tallies.{BookedWithin}
+use Rattle.goi_reports.specs.Booked.{BookedWithin}
 
 -- the second list has one move more, which this worker booked
 abbrev OneMore : List Entry → List Entry → ℕ → Type 0

@@ -7,7 +7,7 @@ use Rattle.pcf_values.specs.Terms.{TyTree}
 use Rattle.pcf_values.specs.Named.{NamedTree}
 use Rattle.schedule_log.specs.declared.entry.Entry.{Entry}
 use Rattle.goi_reports.specs.Reports.{run_report, replay_report, demo_report, check_report}
-use Rattle.goi_reports.specs.Tallies.{BookedWithin}
+use Rattle.goi_reports.specs.Booked.{BookedWithin}
 
 -- a number of an answer has 64 bits
 abbrev pub AnswerFits : Option Val → Type 0

@@ -5,7 +5,7 @@ use Rattle.schedule_log.specs.declared.entry.Entry.{Entry}
 use Rattle.schedule_log.specs.Tally.{tally}
 use Rattle.goi_reports.specs.Lines.{result_lines}
 use Rattle.goi_reports.specs.Reports.{run_report}
-use Rattle.goi_reports.specs.Tallies.{BookedWithin}
+use Rattle.goi_reports.specs.Booked.{BookedWithin}
 
 -- The counts of a tally add up to the number of moves, where nobody else booked one.
 abbrev pub TallyAddsUp : Type 0

@@ -8,6 +8,8 @@ pub mod Reports
 pub mod Tallies
 -- The report of a run in rounds.
 pub mod Spans
+-- which logs are those of so many workers, and the line of a count by whether it is the last one
+pub mod Booked
 -- what can be said of a report where nothing is known of the bytes that it is about
 pub mod Forms
 -- the laws, and the rows that they compute

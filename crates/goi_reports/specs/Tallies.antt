@@ -1,13 +1,9 @@
 -- A tally as lines: the count of each worker, from worker 0 on, and then the finisher's.
 -- What the counts are stands in `schedule_log`: how many of the moves each worker booked, with the finisher's count at the end.
-use Rattle.std.specs.Prelude.{ℕ, suc, ◌≤◌, Bool, true, false, List, [], ◌∷◌, ◌++◌, All, codes, decimal}
+use Rattle.std.specs.Prelude.{ℕ, suc, List, [], ◌∷◌, ◌++◌, codes, decimal}
 use Rattle.schedule_log.specs.declared.entry.Entry.{Entry}
 use Rattle.schedule_log.specs.Tally.{tally}
 use Rattle.goi_reports.specs.Lines.{numbered_line}
-
--- each move was booked by one of so many workers, or by the finisher, who books under their number
-abbrev pub BookedWithin : ℕ → List Entry → Type 0
-BookedWithin workers es = All (λ (e : Entry). e.worker ≤ workers) es
 
 -- the line of this worker's count
 abbrev pub worker_line : ℕ → ℕ → List ℕ
@@ -22,11 +18,6 @@ abbrev pub tally_lines : ℕ → List ℕ → List ℕ
 tally_lines worker [] = []
 tally_lines worker (count ∷ []) = finisher_line count
 tally_lines worker (count ∷ (next ∷ counts)) = worker_line worker count ++ tally_lines (suc worker) (next ∷ counts)
-
--- the line of a count by whether it is the last one
-abbrev pub last_or_worker_line : Bool → ℕ → ℕ → List ℕ
-last_or_worker_line true worker count = finisher_line count
-last_or_worker_line false worker count = worker_line worker count
 
 -- the tally of moves for so many workers
 abbrev pub tally_text : List Entry → ℕ → List ℕ

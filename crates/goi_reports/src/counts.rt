@@ -3,7 +3,8 @@
 ghost use Rattle.std.specs.Prelude.{◌≡◌, ◌+◌, ◌^◌, ◌<◌, ◌≤◌, ◌++◌, IfOk, OnOk, length};
 ghost use Rattle.pcf_values.specs.Most.{most_workers};
 ghost use Rattle.schedule_log.specs.Tally.{tally};
-ghost use Rattle.goi_reports.specs.Tallies.{BookedWithin, tally_lines, worker_line, last_or_worker_line};
+ghost use Rattle.goi_reports.specs.Tallies.{tally_lines, worker_line};
+ghost use Rattle.goi_reports.specs.Booked.{BookedWithin, last_or_worker_line};
 
 use crate::line::push_number_line;
 use itoa::Buffer;

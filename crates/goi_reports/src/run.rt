@@ -6,7 +6,8 @@ ghost use Rattle.schedule_log.specs.Logs.{tickets_in_log};
 ghost use Rattle.schedule_log.specs.Runs.{schedule_text};
 ghost use Rattle.goi_reports.specs.Forms.{IsRunReport};
 ghost use Rattle.goi_reports.specs.Reports.{asked_lines, run_report};
-ghost use Rattle.goi_reports.specs.Tallies.{BookedWithin, tally_text};
+ghost use Rattle.goi_reports.specs.Tallies.{tally_text};
+ghost use Rattle.goi_reports.specs.Booked.{BookedWithin};
 
 use crate::counts::{count_moves, push_tally_lines};
 use crate::line::push_result;

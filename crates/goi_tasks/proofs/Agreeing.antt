@@ -11,7 +11,7 @@ use Rattle.step_text.specs.Courses.{Course, course_value, course_text, end_text,
 use Rattle.program_runs.specs.declared.calling.Calling.TheVariants.{ByName}
 use Rattle.program_runs.specs.Laws.{OneProgram}
 use Rattle.program_runs.specs.Programs.{number}
-use Rattle.program_runs.specs.RunsText.{net_run, Tells}
+use Rattle.program_runs.specs.Runs.{net_run, Tells}
 use Rattle.goi_reports.specs.Lines.{value_line, moves_line, result_lines}
 use Rattle.goi_reports.specs.Reports.{asked_lines}
 use Rattle.goi_tasks.specs.Agreement.{TellsFirst, RunAndStepsAgree}

@@ -6,13 +6,15 @@ use Rattle.pcf_values.specs.Terms.{TermTree, nat}
 use Rattle.cbn_meaning.specs.Meaning.{Means}
 use Rattle.net_build.specs.NetOf.{net_of}
 use Rattle.schedule_log.specs.declared.entry.Entry.{Entry}
-use Rattle.demo_text.specs.Demo.{demo_text, demo_term}
+use Rattle.demo_text.specs.Demo.{demo_term}
+use Rattle.demo_text.specs.Text.{demo_text}
 use Rattle.demo_text.specs.Laws.{DemoIsTyped}
 use Rattle.program_runs.specs.declared.calling.Calling.TheVariants.{ByName}
 use Rattle.program_runs.specs.declared.fault.ProgramFault.{ProgramFault}
 use Rattle.program_runs.specs.Laws.{OneProgram}
 use Rattle.program_runs.specs.Programs.{number, IsGround, FaultyProgram}
-use Rattle.program_runs.specs.RunsText.{IsProgramRun, RunsText}
+use Rattle.program_runs.specs.RunsText.{RunsText}
+use Rattle.program_runs.specs.Runs.{IsProgramRun}
 use Rattle.program_runs.proofs.OneProgram.{ground_sound}
 
 module _ (one : OneProgram) (law : DemoIsTyped) (n : ℕ) (within : n ≤ most_demo) (bytes : List ℕ) (made : bytes ≡ demo_text n) where

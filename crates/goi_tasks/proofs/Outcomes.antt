@@ -29,7 +29,7 @@ use Rattle.pcf_reader.proofs.Splitting.{one_text}
 use Rattle.step_text.specs.Courses.{course_value}
 use Rattle.program_runs.specs.Laws.{OneProgram}
 use Rattle.program_runs.specs.Programs.{Wanted, any_type, number, wanted_by_run, IsProgram, IsGround}
-use Rattle.program_runs.specs.RunsText.{Tells, meaning, net_run}
+use Rattle.program_runs.specs.Runs.{Tells, meaning, net_run}
 use Rattle.program_runs.proofs.OneProgram.{same_program}
 use Rattle.goi_tasks.specs.declared.fault.Fault.{Fault}
 use Rattle.goi_tasks.specs.declared.fault.Fault.TheVariants.{Program, NetText, Schedule, Moves}

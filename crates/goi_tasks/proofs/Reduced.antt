@@ -1,6 +1,5 @@
 -- The reduction of a tree as the output for its text, and what it is worth.
 use Rattle.std.proofs.Common.{◌≡◌, ◌≢◌, ℕ, List, [], Result, Ok, Err, IfOk, refl, subst}
-use Rattle.pcf_values.specs.declared.val.Val.{Val}
 use Rattle.pcf_values.specs.Terms.{TyTree, TermTree, nat}
 use Rattle.pcf_values.specs.Named.{NamedTree}
 use Rattle.pcf_reader.specs.Correct.{Text}
@@ -17,9 +16,11 @@ use Rattle.goi_jobs.specs.declared.jobs.Window.{Window}
 use Rattle.goi_tasks.specs.declared.fault.Fault.TheVariants.{Program}
 use Rattle.goi_tasks.specs.declared.report.Report.{Report}
 use Rattle.goi_tasks.specs.declared.task.Task.TheVariants.{Steps}
-use Rattle.goi_tasks.specs.Outputs.{Output, output_of}
+use Rattle.goi_tasks.specs.Outputs.{Output}
+use Rattle.goi_tasks.specs.Seen.{output_of}
 use Rattle.goi_tasks.specs.Programs.{IsProgramFault, no_program}
-use Rattle.goi_tasks.specs.Reductions.{most_step_nodes, reduction_output, ReportsSteps, ReducesTree}
+use Rattle.goi_tasks.specs.Reductions.{most_step_nodes, reduction_output}
+use Rattle.goi_tasks.specs.Parts.{ReducesTree}
 use Rattle.goi_tasks.specs.Tasks.{ReportsText}
 
 -- what a tree's reduction tells is so of its text

@@ -15,7 +15,7 @@ use Rattle.schedule_log.specs.declared.entry.Entry.{Entry}
 use Rattle.schedule_log.specs.Logs.{read_entries, tickets_in_log}
 use Rattle.schedule_log.specs.LogsSeen.{LogSeen, read_log}
 use Rattle.schedule_log.proofs.Texts.{tickets_length}
-use Rattle.walk_text.specs.Traces.{LeadsSomewhere}
+use Rattle.walk_text.specs.Whole.{LeadsSomewhere}
 use Rattle.goi_jobs.specs.declared.jobs.Window.{Window}
 use Rattle.schedule_log.specs.Schedules.{IsSchedule, ReadAs}
 use Rattle.replay_check.specs.declared.fault.ReplayFault.{ReplayFault}
@@ -25,13 +25,15 @@ use Rattle.replay_check.specs.Replays.{IsRunOf, ReplaysAs}
 use Rattle.program_runs.specs.declared.calling.Calling.TheVariants.{ByName}
 use Rattle.program_runs.specs.Nets.{RunsAs, IsNetFor}
 use Rattle.program_runs.specs.Programs.{number, OfGround}
-use Rattle.program_runs.specs.RunsText.{Tells}
+use Rattle.program_runs.specs.Runs.{Tells}
 use Rattle.goi_tasks.specs.declared.fault.Fault.{Fault}
 use Rattle.goi_tasks.specs.declared.report.Report.{Report}
 use Rattle.goi_tasks.specs.declared.stop.Stop.{Stop}
-use Rattle.goi_tasks.specs.Outputs.{Output, output, output_of}
+use Rattle.goi_tasks.specs.Outputs.{Output, output}
+use Rattle.goi_tasks.specs.Seen.{output_of}
 use Rattle.goi_tasks.specs.Replaying.{replay_status, replay_text, replay_output, Agrees, ReportsReplay, FaultySchedule, unread, unmoved}
-use Rattle.goi_tasks.specs.Replaying.{IsReplayed, FaultyReplay, no_moves}
+use Rattle.goi_tasks.specs.Replaying.{IsReplayed}
+use Rattle.goi_tasks.specs.Parts.{FaultyReplay, no_moves}
 use Rattle.goi_tasks.specs.Stops.{StopsFor, stop_of_schedule, stop_of_replay}
 use Rattle.goi_tasks.specs.Programs.{FaultyText, FaultyEither}
 use Rattle.goi_tasks.proofs.Texts.{faults_weaker, ground_net}

@@ -16,16 +16,20 @@ use Rattle.goi_jobs.specs.Jobs.{IsBudget}
 use Rattle.net_runs.specs.IsRun.{IsRun, IsFirstWorkers}
 use Rattle.program_runs.specs.declared.calling.Calling.{Calling}
 use Rattle.program_runs.specs.Nets.{RunsAs}
-use Rattle.program_runs.specs.RunsText.{Tells, meaning, net_run, IsProgramRun, RunsText}
+use Rattle.program_runs.specs.RunsText.{RunsText}
+use Rattle.program_runs.specs.Runs.{Tells, meaning, net_run, IsProgramRun}
 use Rattle.program_runs.proofs.Telling.{run_of}
 use Rattle.walk_text.specs.Traces.{trace_text}
 use Rattle.goi_jobs.specs.declared.jobs.Window.{Window}
 use Rattle.goi_tasks.specs.declared.report.Report.{Report}
 use Rattle.goi_tasks.specs.declared.shown.Shown.{Shown}
-use Rattle.goi_tasks.specs.Notes.{NumbersOf, NotesOf, progress_lines}
-use Rattle.goi_tasks.specs.Outputs.{Output, output, output_of}
+use Rattle.goi_tasks.specs.Notes.{NotesOf, progress_lines}
+use Rattle.goi_tasks.specs.Parts.{NumbersOf}
+use Rattle.goi_tasks.specs.Outputs.{Output, output}
+use Rattle.goi_tasks.specs.Seen.{output_of}
 use Rattle.goi_tasks.specs.Replaying.{replay_status}
-use Rattle.goi_tasks.specs.RunReports.{demo_budget, ReportsRun, ReportsTrace, ReportsDemo, TellsText}
+use Rattle.goi_tasks.specs.RunReports.{demo_budget, ReportsRun, ReportsTrace, ReportsDemo}
+use Rattle.goi_tasks.specs.Told.{TellsText}
 use Rattle.goi_tasks.proofs.Brief.{brief}
 
 -- a run has no more moves than 32 bits count

@@ -4,7 +4,7 @@ use Rattle.pcf_values.specs.declared.val.Val.{Val}
 use Rattle.pcf_values.specs.Terms.{TermTree}
 use Rattle.program_runs.specs.declared.calling.Calling.{Calling}
 use Rattle.program_runs.specs.Programs.{number, wanted_by_run, OfGround}
-use Rattle.program_runs.specs.RunsText.{net_run}
+use Rattle.program_runs.specs.Runs.{net_run}
 use Rattle.program_runs.proofs.OneProgram.{same_ground, same_program}
 use Rattle.function_runs.specs.Laws.{OneFunction}
 use Rattle.goi_tasks.specs.declared.fault.Fault.{Fault}
@@ -13,7 +13,8 @@ use Rattle.goi_tasks.specs.declared.task.Task.TheVariants.{Run}
 use Rattle.goi_tasks.specs.Outputs.{Output}
 use Rattle.goi_tasks.specs.Programs.{FaultyEither}
 use Rattle.goi_tasks.specs.Replaying.{replay_status, ReportsReplay, EndsReplay, FaultySchedule}
-use Rattle.goi_tasks.specs.RunReports.{TellsText, EndsRun}
+use Rattle.goi_tasks.specs.RunReports.{EndsRun}
+use Rattle.goi_tasks.specs.Told.{TellsText}
 use Rattle.goi_tasks.specs.Settles.{Settles, TextsSettle, status_of_output, status_of_run}
 use Rattle.goi_tasks.specs.Tasks.{nothing_shown, ReportsText, FaultyFor, EndsText}
 use Rattle.goi_tasks.proofs.Functions.{call_settles}

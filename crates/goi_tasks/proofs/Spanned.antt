@@ -4,16 +4,17 @@ use Rattle.pcf_values.specs.declared.val.Val.{Val}
 use Rattle.pcf_values.specs.Terms.{TermTree}
 use Rattle.net_build.specs.Nets.{NetTree}
 use Rattle.interleave_laws.specs.Maps.{MapState, LeadsToMap, seen}
-use Rattle.interleave_laws.specs.Runs.{Finished}
+use Rattle.interleave_laws.specs.Finished.{Finished}
 use Rattle.adequacy_laws.specs.Questions.{Length}
 use Rattle.adequacy_laws.specs.Finished.{Beyond}
-use Rattle.round_laws.specs.Rounds.{rounds, round_log}
+use Rattle.round_laws.specs.Rounds.{round_log}
+use Rattle.round_laws.specs.AfterRounds.{rounds}
 use Rattle.round_laws.specs.Spans.{Span}
 use Rattle.round_runs.specs.Profiles.{profile_of, greatest}
 use Rattle.goi_reports.specs.Spans.{span_report}
 use Rattle.program_runs.specs.declared.calling.Calling.{Calling}
 use Rattle.program_runs.specs.Nets.{RunsAs}
-use Rattle.program_runs.specs.RunsText.{Tells, meaning}
+use Rattle.program_runs.specs.Runs.{Tells, meaning}
 use Rattle.goi_tasks.specs.Outputs.{Output, output}
 use Rattle.goi_tasks.specs.Replaying.{replay_status}
 use Rattle.goi_tasks.specs.Rounds.{TellsSpan, ReportsSpan}

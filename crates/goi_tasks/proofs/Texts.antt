@@ -25,11 +25,13 @@ use Rattle.goi_tasks.specs.declared.stop.Stop.TheVariants as stop
 use Rattle.goi_tasks.specs.declared.report.Report.{Report}
 use Rattle.goi_tasks.specs.declared.task.Task.{Task}
 use Rattle.goi_tasks.specs.declared.task.Task.TheVariants.{Check}
-use Rattle.goi_tasks.specs.NetFiles.{FaultyListing, unlisted, IsListedNet}
-use Rattle.goi_tasks.specs.Outputs.{Output, output, output_of}
+use Rattle.goi_tasks.specs.NetFiles.{FaultyListing, unlisted}
+use Rattle.goi_tasks.specs.Parts.{IsListedNet, ChecksTree}
+use Rattle.goi_tasks.specs.Outputs.{Output, output}
+use Rattle.goi_tasks.specs.Seen.{output_of}
 use Rattle.goi_tasks.specs.Programs.{IsProgramFault, no_program, FaultyText}
 use Rattle.goi_tasks.specs.Stops.{StopsFor, stop_of_no_run, stop_of_net_text}
-use Rattle.goi_tasks.specs.Tasks.{ReportsText, ChecksTree}
+use Rattle.goi_tasks.specs.Tasks.{ReportsText}
 
 -- what stops for one cause stops for a weaker one
 pub stops_weaker : (P Q : Fault → Type 0) (e : Stop) → ((f : Fault) → P f → Q f) → StopsFor P e → StopsFor Q e

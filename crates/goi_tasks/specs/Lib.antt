@@ -24,5 +24,13 @@ pub mod Refusals
 pub mod Settles
 -- What `run` and `steps` say of one text: both tell one value.
 pub mod Agreement
+-- What contracts see of the code's report.
+pub mod Seen
+-- Which tasks have their numbers in range, and which tell their progress.
+pub mod Ranges
+-- What a run of a text comes to, without its report.
+pub mod Told
 -- what serves proofs and private contracts
 pub mod Stops
+-- What the calls inside say of a part of a task.
+pub mod Parts

@@ -11,11 +11,6 @@ abbrev pub progress_lines : List ℕ → List ℕ
 progress_lines [] = []
 progress_lines (n ∷ ns) = progress_line n ++ progress_lines ns
 
--- what is read of a run of so many moves while it goes on: its progress where that is asked for, and else nothing
-abbrev pub NumbersOf : Bool → ℕ → List ℕ → Type 0
-NumbersOf false moves numbers = numbers ≡ []
-NumbersOf true moves numbers = IsProgress moves numbers
-
 -- the notes of a run of so many moves: the lines of its progress where that is asked for, and else none
 abbrev pub NotesOf : Bool → ℕ → List ℕ → Type 0
 NotesOf false moves notes = notes ≡ []

@@ -1,6 +1,5 @@
 -- What a job prints: its report for the standard output, notes for the error output behind it, and the status with which it ends.
 use Rattle.std.specs.Prelude.{ℕ, List}
-use Rattle.goi_tasks.specs.declared.report.Report.{Report}
 
 pub record Output : Type 0 where
   pub status : ℕ
@@ -9,7 +8,3 @@ pub record Output : Type 0 where
 
 abbrev pub output : ℕ → List ℕ → List ℕ → Output
 output status report notes = record { status = status; report = report; notes = notes }
-
--- the output that the code's report is
-abbrev pub output_of : Report → Output
-output_of r = output r.status r.text.items r.notes.items

@@ -1,10 +1,9 @@
 -- The reduction of a program as an output, and what it says of the program.
-use Rattle.std.specs.Prelude.{◌≡◌, ◌⊎◌, ◌<◌, ℕ, [], None, Some, Ok}
+use Rattle.std.specs.Prelude.{◌≡◌, ◌⊎◌, ◌<◌, ℕ, [], None, Some}
 use Rattle.pcf_values.specs.declared.val.Val.{Val}
-use Rattle.pcf_values.specs.Terms.{nat, TermTree}
+use Rattle.pcf_values.specs.Terms.{TermTree}
 use Rattle.pcf_values.specs.Named.{NamedTree}
 use Rattle.pcf_values.specs.NamedSize.{named_size}
-use Rattle.pcf_types.specs.Checking.{type_of}
 use Rattle.cbn_meaning.specs.Meaning.{Means}
 use Rattle.net_build.specs.NetOf.{net_of}
 use Rattle.adequacy_laws.specs.Questions.{Length}
@@ -35,7 +34,3 @@ pub record ReportsSteps (budget : ℕ) (window : Window) (tree : NamedTree) (t :
   pub lasts : (v : Val) → course_value (reduction budget window tree) ≡ Some v → (moves : ℕ) × Length (net_of t) v moves
   pub stopped : course_value (reduction budget window tree) ≡ None →
       ((reduction budget window tree).steps ≡ budget) ⊎ (most_step_nodes < named_size (reduction budget window tree).last)
-
--- the tree is a program of type `nat`, and this is the output of its reduction
-abbrev pub ReducesTree : ℕ → Window → NamedTree → Output → Type 0
-ReducesTree budget window tree o = (t : TermTree) × (type_of [] tree ≡ Ok (t, nat)) × ReportsSteps budget window tree t o

@@ -73,7 +73,3 @@ pub record IsReplayed (net : NetTree) (window : Option Window) (tickets : List �
   pub state : MapState
   pub led : LeadsToMap net tickets state
   pub output_is : o ≡ replay_output window net tickets state
-
--- the net can't run these tickets, for this fault
-pub data FaultyReplay (net : NetTree) (tickets : List ℕ) : Fault → Type 0 where
-  no_moves : (f : ReplayFault) → f ≢ replay.NoMemory → ReplaysAs net tickets (Err f) → FaultyReplay net tickets (Moves f)

@@ -11,7 +11,7 @@ use Rattle.round_laws.specs.Spans.{Span}
 use Rattle.round_runs.specs.Profiles.{profile_of, greatest}
 use Rattle.goi_reports.specs.Spans.{span_report}
 use Rattle.program_runs.specs.declared.calling.Calling.{Calling}
-use Rattle.program_runs.specs.RunsText.{meaning, net_run}
+use Rattle.program_runs.specs.Runs.{meaning, net_run}
 use Rattle.goi_tasks.specs.Outputs.{Output}
 use Rattle.goi_tasks.specs.Replaying.{replay_status}
 

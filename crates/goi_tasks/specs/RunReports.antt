@@ -10,8 +10,7 @@ use Rattle.adequacy_laws.specs.Finished.{Within, Beyond}
 use Rattle.schedule_log.specs.declared.entry.Entry.{Entry}
 use Rattle.goi_reports.specs.Reports.{run_report, demo_report}
 use Rattle.program_runs.specs.declared.calling.Calling.{Calling}
-use Rattle.program_runs.specs.Programs.{OfProgram, wanted_by_run}
-use Rattle.program_runs.specs.RunsText.{meaning, net_run, Tells, IsProgramRun}
+use Rattle.program_runs.specs.Runs.{meaning, net_run, IsProgramRun}
 use Rattle.walk_text.specs.Traces.{trace_text}
 use Rattle.goi_jobs.specs.declared.jobs.Window.{Window}
 use Rattle.demo_text.specs.Demo.{demo_term}
@@ -52,12 +51,6 @@ ReportsRun workers budget calling shown t o = ReportsNet (meaning calling t) (ne
 -- the output of a run of a term whose walk is told, by name or by value
 abbrev pub ReportsTrace : ℕ → ℕ → Calling → Window → TermTree → Output → Type 0
 ReportsTrace workers budget calling window t o = ReportsWalk (meaning calling t) (net_run calling t) workers budget window o
-
--- The text is a program, and this is what its run comes to: its value with the length of its net, or no value, where that length is
--- absent or above the budget.
-abbrev pub TellsText : Calling → ℕ → List ℕ → Option Val → ℕ → Type 0
-TellsText calling budget bytes answer moves =
-    OfProgram (wanted_by_run calling) bytes (λ tree t A. Tells (meaning calling t) (net_run calling t) budget answer moves)
 
 -- the output of a run of the generated program of a number
 pub record ReportsDemo (n workers : ℕ) (o : Output) : Type 0 where

@@ -11,7 +11,7 @@ use Rattle.goi_tasks.specs.Calls.{ReportsCall, FaultyCall, EndsCall}
 use Rattle.goi_tasks.specs.Outputs.{Output}
 use Rattle.goi_tasks.specs.Programs.{FaultyEither}
 use Rattle.goi_tasks.specs.Replaying.{replay_status, ReportsReplay, EndsReplay, FaultySchedule}
-use Rattle.goi_tasks.specs.RunReports.{TellsText}
+use Rattle.goi_tasks.specs.Told.{TellsText}
 use Rattle.goi_tasks.specs.Tasks.{nothing_shown, ReportsText, FaultyFor, EndsText}
 
 -- What is right, what ends with which status, and what has which fault: whatever is right has the status with which it ends, it has no

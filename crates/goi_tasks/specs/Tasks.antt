@@ -1,10 +1,8 @@
 -- What is done with the text of one file: the output, the first fault of a text with which it can't be done, and the status with which
 -- it ends. The text is that of a program, or the listing of a program's net.
-use Rattle.std.specs.Prelude.{◌≡◌, ℕ, Bool, false, List, [], Ok}
+use Rattle.std.specs.Prelude.{◌≡◌, ℕ, Bool, false, List, []}
 use Rattle.pcf_values.specs.Most.{most_program_bytes}
-use Rattle.pcf_values.specs.Terms.{TyTree, TermTree}
-use Rattle.pcf_values.specs.Named.{NamedTree}
-use Rattle.pcf_types.specs.Checking.{type_of}
+use Rattle.pcf_values.specs.Terms.{TermTree}
 use Rattle.net_build.specs.NetOf.{net_of}
 use Rattle.net_text.specs.Accepted.{ListsProgram}
 use Rattle.net_text.specs.Limits.{most_text_bytes}
@@ -12,9 +10,8 @@ use Rattle.net_text.specs.Listing.{listing}
 use Rattle.circuit_text.specs.CircuitText.{circuit_text}
 use Rattle.step_text.specs.Courses.{course_value}
 use Rattle.program_runs.specs.Programs.{any_type, number, OfProgram, wanted_by_run}
-use Rattle.program_runs.specs.RunsText.{net_run}
+use Rattle.program_runs.specs.Runs.{net_run}
 use Rattle.program_runs.specs.declared.calling.Calling.TheVariants.{ByName}
-use Rattle.goi_jobs.specs.Jobs.{IsBudget, IsWindow, IsPart}
 use Rattle.goi_reports.specs.Reports.{check_report}
 use Rattle.goi_tasks.specs.declared.fault.Fault.{Fault}
 use Rattle.goi_tasks.specs.declared.shown.Shown.{Shown}
@@ -36,12 +33,6 @@ shown schedule tally progress = record { schedule = schedule; tally = tally; pro
 
 abbrev pub nothing_shown : Shown
 nothing_shown = shown false false false
-
--- a task tells the progress of its run
-abbrev pub progress_of : Task → Bool
-progress_of (Run budget calling shown) = shown.progress
-progress_of (RunNet budget shown) = shown.progress
-progress_of _ = false
 
 -- ---- listings
 
@@ -104,18 +95,3 @@ most_bytes (Trace budget calling window) = most_program_bytes
 most_bytes (Circuit stack forks) = most_program_bytes
 most_bytes (Span budget calling profile schedule) = most_program_bytes
 most_bytes (Steps budget window) = most_program_bytes
-
--- the numbers of a task are in their ranges
-abbrev pub IsWithin : Task → Type 0
-IsWithin (Run budget calling shown) = IsBudget budget
-IsWithin (Check term) = Unit {0}
-IsWithin ShowNet = Unit {0}
-IsWithin (RunNet budget shown) = IsBudget budget
-IsWithin (Trace budget calling window) = IsBudget budget × IsWindow window
-IsWithin (Circuit stack forks) = Unit {0}
-IsWithin (Span budget calling profile schedule) = IsBudget budget
-IsWithin (Steps budget window) = IsBudget budget × IsPart window
-
--- the report on the type of a tree, and with `term` on the tree
-abbrev pub ChecksTree : Bool → NamedTree → List ℕ → Type 0
-ChecksTree term tree report = (t : TermTree) × (A : TyTree) × (type_of [] tree ≡ Ok (t, A)) × (report ≡ check_report A term tree)

@@ -7,8 +7,8 @@ ghost use Rattle.program_runs.specs.Nets.{RunsAs};
 ghost use Rattle.program_runs.specs.NoRuns.{NoRunFor};
 ghost use Rattle.goi_jobs.specs.Jobs.{IsBudget, IsWorkers};
 ghost use Rattle.goi_tasks.specs.Calls.{OfFunction, ReportsCall, FaultyCall};
-ghost use Rattle.goi_tasks.specs.Notes.{NumbersOf};
-ghost use Rattle.goi_tasks.specs.Outputs.{output_of};
+ghost use Rattle.goi_tasks.specs.Parts.{NumbersOf};
+ghost use Rattle.goi_tasks.specs.Seen.{output_of};
 ghost use Rattle.goi_tasks.specs.Stops.{StopsFor};
 
 use crate::report::Report;

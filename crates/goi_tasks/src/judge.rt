@@ -5,11 +5,12 @@ ghost use Rattle.program_runs.specs.Programs.{wanted_by_run};
 ghost use Rattle.goi_jobs.specs.Jobs.{IsBudget, IsWorkers};
 ghost use Rattle.goi_tasks.specs.declared.task.Task.TheVariants.{Run, RunNet, Trace};
 ghost use Rattle.goi_tasks.specs.NetFiles.{FaultyListing};
-ghost use Rattle.goi_tasks.specs.Notes.{NumbersOf};
-ghost use Rattle.goi_tasks.specs.Outputs.{output_of};
+ghost use Rattle.goi_tasks.specs.Parts.{NumbersOf};
+ghost use Rattle.goi_tasks.specs.Seen.{output_of};
 ghost use Rattle.goi_tasks.specs.Programs.{FaultyText};
 ghost use Rattle.goi_tasks.specs.Stops.{StopsFor};
-ghost use Rattle.goi_tasks.specs.Tasks.{IsWithin, ReportsText, FaultyFor, progress_of};
+ghost use Rattle.goi_tasks.specs.Tasks.{ReportsText, FaultyFor};
+ghost use Rattle.goi_tasks.specs.Ranges.{IsWithin, progress_of};
 
 use crate::circuit::report_circuit;
 use crate::net_file::net_of_listing;

@@ -1,7 +1,8 @@
 //! From the listing of a net to the net.
 
 ghost use Rattle.std.specs.Prelude.{◌≡◌, IfOk, IfErr};
-ghost use Rattle.goi_tasks.specs.NetFiles.{FaultyListing, IsListedNet};
+ghost use Rattle.goi_tasks.specs.NetFiles.{FaultyListing};
+ghost use Rattle.goi_tasks.specs.Parts.{IsListedNet};
 ghost use Rattle.goi_tasks.specs.Stops.{StopsFor};
 
 use crate::stop::Stop;

@@ -5,10 +5,12 @@ ghost use Rattle.pcf_values.specs.Named.{named_height};
 ghost use Rattle.pcf_values.specs.Views.{named_of};
 ghost use Rattle.program_runs.specs.Programs.{any_type, number, FaultyTree};
 ghost use Rattle.goi_tasks.specs.declared.task.Task.TheVariants.{Check, ShowNet};
-ghost use Rattle.goi_tasks.specs.Outputs.{output, output_of};
+ghost use Rattle.goi_tasks.specs.Outputs.{output};
+ghost use Rattle.goi_tasks.specs.Seen.{output_of};
 ghost use Rattle.goi_tasks.specs.Programs.{FaultyText, IsProgramFault};
 ghost use Rattle.goi_tasks.specs.Stops.{StopsFor};
-ghost use Rattle.goi_tasks.specs.Tasks.{ReportsText, ChecksTree};
+ghost use Rattle.goi_tasks.specs.Tasks.{ReportsText};
+ghost use Rattle.goi_tasks.specs.Parts.{ChecksTree};
 
 use crate::report::{Report, plain};
 use crate::stop::Stop;

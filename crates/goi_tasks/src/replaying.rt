@@ -8,10 +8,11 @@ ghost use Rattle.schedule_log.specs.Logs.{read_entries, tickets_in_log};
 ghost use Rattle.program_runs.specs.declared.calling.Calling.TheVariants.{ByName};
 ghost use Rattle.program_runs.specs.Nets.{RunsAs};
 ghost use Rattle.program_runs.specs.Programs.{OfGround};
-ghost use Rattle.walk_text.specs.Traces.{LeadsSomewhere};
-ghost use Rattle.goi_tasks.specs.Outputs.{output_of};
+ghost use Rattle.walk_text.specs.Whole.{LeadsSomewhere};
+ghost use Rattle.goi_tasks.specs.Seen.{output_of};
 ghost use Rattle.goi_tasks.specs.Programs.{FaultyEither};
-ghost use Rattle.goi_tasks.specs.Replaying.{ReportsReplay, FaultySchedule, IsReplayed, FaultyReplay, replay_text};
+ghost use Rattle.goi_tasks.specs.Replaying.{ReportsReplay, FaultySchedule, IsReplayed, replay_text};
+ghost use Rattle.goi_tasks.specs.Parts.{FaultyReplay};
 ghost use Rattle.goi_tasks.specs.Stops.{StopsFor};
 
 use crate::report::{Report, plain};

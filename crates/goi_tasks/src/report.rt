@@ -1,7 +1,8 @@
 //! What a job prints.
 
 ghost use Rattle.std.specs.Prelude.{◌≡◌, []};
-ghost use Rattle.goi_tasks.specs.Outputs.{output, output_of};
+ghost use Rattle.goi_tasks.specs.Outputs.{output};
+ghost use Rattle.goi_tasks.specs.Seen.{output_of};
 
 use std::alloc::Global;
 

@@ -6,13 +6,14 @@ ghost use Rattle.interleave_laws.specs.Runs.{Runs};
 ghost use Rattle.goi_jobs.specs.Jobs.{IsBudget, IsWorkers};
 ghost use Rattle.goi_reports.specs.Forms.{AnswerFits};
 ghost use Rattle.goi_reports.specs.Reports.{run_report};
-ghost use Rattle.goi_reports.specs.Tallies.{BookedWithin};
+ghost use Rattle.goi_reports.specs.Booked.{BookedWithin};
 ghost use Rattle.net_runs.specs.IsRun.{IsRun};
 ghost use Rattle.program_runs.specs.declared.calling.Calling.{Calling};
 ghost use Rattle.program_runs.specs.Nets.{RunsAs};
 ghost use Rattle.walk_text.specs.Traces.{trace_text};
-ghost use Rattle.goi_tasks.specs.Notes.{NumbersOf, progress_lines};
-ghost use Rattle.goi_tasks.specs.Outputs.{output_of};
+ghost use Rattle.goi_tasks.specs.Notes.{progress_lines};
+ghost use Rattle.goi_tasks.specs.Parts.{NumbersOf};
+ghost use Rattle.goi_tasks.specs.Seen.{output_of};
 ghost use Rattle.goi_tasks.specs.Replaying.{replay_status};
 ghost use Rattle.goi_tasks.specs.RunReports.{ReportsRun, ReportsTrace};
 

@@ -9,7 +9,7 @@ ghost use Rattle.program_runs.specs.declared.calling.Calling.{Calling};
 ghost use Rattle.program_runs.specs.Nets.{RunsAs};
 ghost use Rattle.program_runs.specs.Programs.{wanted_by_run};
 ghost use Rattle.goi_tasks.specs.declared.task.Task.TheVariants.{Span};
-ghost use Rattle.goi_tasks.specs.Outputs.{output_of};
+ghost use Rattle.goi_tasks.specs.Seen.{output_of};
 ghost use Rattle.goi_tasks.specs.Programs.{FaultyText};
 ghost use Rattle.goi_tasks.specs.Rounds.{ReportsSpan};
 ghost use Rattle.goi_tasks.specs.Stops.{StopsFor};

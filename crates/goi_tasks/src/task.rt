@@ -1,7 +1,8 @@
 //! What is to be done with the text of a file.
 
 ghost use Rattle.std.specs.Prelude.{◌≡◌};
-ghost use Rattle.goi_tasks.specs.Tasks.{most_bytes, progress_of};
+ghost use Rattle.goi_tasks.specs.Tasks.{most_bytes};
+ghost use Rattle.goi_tasks.specs.Ranges.{progress_of};
 
 use crate::shown::Shown;
 use goi_jobs::Window;

@@ -4,7 +4,7 @@ ghost use Rattle.std.specs.Prelude.{◌≡◌, IfOk, IfErr};
 ghost use Rattle.program_runs.specs.Programs.{wanted_by_run};
 ghost use Rattle.goi_jobs.specs.Jobs.{IsBudget};
 ghost use Rattle.goi_tasks.specs.Programs.{FaultyText};
-ghost use Rattle.goi_tasks.specs.RunReports.{TellsText};
+ghost use Rattle.goi_tasks.specs.Told.{TellsText};
 ghost use Rattle.goi_tasks.specs.Stops.{StopsFor};
 
 use crate::stop::Stop;

@@ -4,7 +4,7 @@ use Rattle.std.specs.Prelude.{IsTrue, is_none, if◌then◌else◌}
 use Rattle.std.specs.Str.{bytes_eq}
 use Rattle.std.proofs.lemmas.Bool.{false_from_ne_true, false≢true}
 use Rattle.std.proofs.lemmas.Slice.Eq.{bytes_eq-Decides}
-use Rattle.goi_world.specs.Outside.{bytes_of}
+use Rattle.goi_world.specs.FilesInMemory.{bytes_of}
 use Rattle.goi_world.specs.NamedFiles.{NoneNamed}
 
 -- a name is its own

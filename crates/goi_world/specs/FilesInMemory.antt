@@ -3,10 +3,13 @@
 -- They are a list of names with bytes, of which nothing ever changes, beside the numbers of the calls that fail and two
 -- counts. A call on a name that no file has fails in any case: it counts as a call, but never as a fault.
 use Rattle.std.specs.Prelude.{ℕ, ◌-◌, min, Bool, ◌&&◌, ◌||◌, List, ◌++◌, length, map, take, drop, Option, is_none, is_some, if◌then◌else◌}
-use Rattle.std.specs.Prelude.{Vec}
+use Rattle.std.specs.Prelude.{Vec, [], ◌∷◌, None, Some}
 use Rattle.std.specs.declared.alloc.Global.{Global}
-use Rattle.goi_world.specs.Outside.{bytes_of, count_after, listed, none_listed}
-use Rattle.goi_world.specs.Seen.{FilesState, files_seen}
+use Rattle.goi_world.specs.Outside.{count_after}
+use Rattle.goi_world.specs.Failing.{listed, none_listed}
+use Rattle.goi_world.specs.Seen.{FilesState}
+use Rattle.goi_world.specs.Told.{files_seen}
+use Rattle.std.specs.Str.{bytes_eq}
 
 -- the files, how many bytes a read gives at most, which calls fail, and how many calls and faults there were
 pub record FilesInMemory : Type 0 where
@@ -15,6 +18,11 @@ pub record FilesInMemory : Type 0 where
   pub fails : List ℕ
   pub calls : ℕ
   pub faults : ℕ
+
+-- the bytes of the first file with this name, in a list of names with their bytes
+abbrev pub bytes_of : List (List ℕ × List ℕ) → List ℕ → Option (List ℕ)
+bytes_of [] name = None
+bytes_of (file ∷ files) name = if bytes_eq file.0 name then Some file.1 else bytes_of files name
 
 -- names with bytes, seen without where the bytes lie in memory
 abbrev pub files_of : List (List ℕ × Vec ℕ Global) → List (List ℕ × List ℕ)

@@ -1,7 +1,8 @@
 -- What is known of the files of the system: two counts, which stand still at their last number.
 use Rattle.std.specs.Prelude.{ℕ, None, false}
 use Rattle.goi_world.specs.Outside.{count_after}
-use Rattle.goi_world.specs.Seen.{FilesState, files_seen}
+use Rattle.goi_world.specs.Seen.{FilesState}
+use Rattle.goi_world.specs.Told.{files_seen}
 
 -- how many reads there were, and how many of them failed
 pub record FilesOnDisk : Type 0 where

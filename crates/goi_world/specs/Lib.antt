@@ -4,12 +4,19 @@
 pub mod Outside
 -- What is seen of files and of a sink, whatever the device.
 pub mod Seen
+-- how contracts tell of them
+--
+-- How contracts tell of a read, of a write, and of what is seen: each as a record of its parts, and of a read what stands in the buffer
+-- then.
+pub mod Told
 -- what is known of each device
 --
 -- Files in memory, and what a read of them gives.
 pub mod FilesInMemory
 -- What is known of the files of the system: two counts, which stand still at their last number.
 pub mod FilesOnDisk
+-- Which calls of a device in memory are listed to fail, by their numbers from 1 on.
+pub mod Failing
 -- A sink in memory, and what a write to it does.
 pub mod SinkInMemory
 -- What is known of a sink over a writer of std: two counts, which stand still at their last number.

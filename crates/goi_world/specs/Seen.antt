@@ -12,9 +12,6 @@ pub record FilesState : Type 0 where
   pub faults : ℕ
   pub steady : Bool
 
-abbrev pub files_seen : (List ℕ → Option (List ℕ)) → (List ℕ → Bool) → ℕ → Bool → FilesState
-files_seen told lacks faults steady = record { told = told; lacks = lacks; faults = faults; steady = steady }
-
 -- what stays as it was, whatever is read
 pub record FilesKept (old new : FilesState) : Type 0 where
   pub told : new.told ≡ old.told
@@ -28,6 +25,3 @@ pub record SinkState : Type 0 where
   pub written : Option (List ℕ)
   pub faults : ℕ
   pub spare : ℕ
-
-abbrev pub sink_seen : Option (List ℕ) → ℕ → ℕ → SinkState
-sink_seen written faults spare = record { written = written; faults = faults; spare = spare }

@@ -3,8 +3,10 @@
 -- It holds the bytes that were written, beside its room, the numbers of the calls that fail and two counts.
 use Rattle.std.specs.Prelude.{◌≡◌, ℕ, ◌-◌, min, Bool, ◌&&◌, ◌||◌, not, List, [], ◌++◌, length, take, Option, None, Some, ◌==◌}
 use Rattle.std.specs.Prelude.{if◌then◌else◌}
-use Rattle.goi_world.specs.Outside.{count_after, listed, none_listed, Writing}
-use Rattle.goi_world.specs.Seen.{SinkState, sink_seen}
+use Rattle.goi_world.specs.Outside.{count_after, Writing}
+use Rattle.goi_world.specs.Failing.{listed, none_listed}
+use Rattle.goi_world.specs.Seen.{SinkState}
+use Rattle.goi_world.specs.Told.{sink_seen}
 
 -- the bytes so far, for how many there is room in all, how many a write takes at most, which calls fail, and how many calls
 -- and faults there were

@@ -1,7 +1,8 @@
 -- What is known of a sink over a writer of std: two counts, which stand still at their last number.
-use Rattle.std.specs.Prelude.{◌≡◌, ℕ, Option, None, Some}
-use Rattle.goi_world.specs.Outside.{count_after, Writing}
-use Rattle.goi_world.specs.Seen.{SinkState, sink_seen}
+use Rattle.std.specs.Prelude.{ℕ, Option, None, Some}
+use Rattle.goi_world.specs.Outside.{count_after}
+use Rattle.goi_world.specs.Seen.{SinkState}
+use Rattle.goi_world.specs.Told.{sink_seen}
 
 -- how many writes there were, and how many of them failed
 pub record SinkOfWriter : Type 0 where

@@ -2,8 +2,8 @@
 
 ghost use Rattle.std.specs.Prelude.{◌≡◌, ◌↔◌, ◌-◌, ◌++◌, ◌≤◌, IsTrue, length, min, take, drop, IsErr, OnErr, IfOk, IfSome};
 ghost use Rattle.std.specs.Prelude.{MatchOption, None, Some};
-ghost use Rattle.goi_world.specs.Outside.{bytes_of, IsPiece};
-ghost use Rattle.goi_world.specs.FilesInMemory.{files_of, new_files, told_by, read_fails, read_length, read_into, after_read};
+ghost use Rattle.goi_world.specs.Told.{IsPiece};
+ghost use Rattle.goi_world.specs.FilesInMemory.{files_of, new_files, told_by, read_fails, read_length, read_into, after_read, bytes_of};
 
 use crate::{Failed, Files};
 use pcf_values::Ident;
@@ -58,7 +58,7 @@ impl MemoryFiles {
 }
 
 impl Files for MemoryFiles {
-    ghost use Rattle.goi_world.specs.Outside.{untold};
+    ghost use Rattle.goi_world.specs.Told.{untold};
     ghost use Rattle.goi_world.specs.FilesInMemory.{memory_files_seen, told_by, after_read};
 
     ghost seen = { memory_files_seen };

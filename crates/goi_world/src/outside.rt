@@ -1,7 +1,8 @@
 //! What reads and writes may be relied on for, whatever the device.
 
 ghost use Rattle.std.specs.Prelude.{◌≡◌, ◌⊎◌, ◌+◌, ◌<◌, ◌≤◌, List, ℕ, IsTrue, length, take, None, IsOk, IsErr, OnOk, OnErr, IfOk, IfSome};
-ghost use Rattle.goi_world.specs.Outside.{Rose, Reading, reading, Writing, writing, IsPiece, with_more};
+ghost use Rattle.goi_world.specs.Outside.{Rose, Reading, Writing, with_more};
+ghost use Rattle.goi_world.specs.Told.{reading, writing, IsPiece};
 ghost use Rattle.goi_world.specs.Seen.{FilesState, FilesKept, SinkState};
 
 /// The one answer of a device that failed.

@@ -1,7 +1,7 @@
 //! Writers of std.
 
 ghost use Rattle.std.specs.Prelude.{◌≡◌, ◌<◌, ◌≤◌, IfOk, length};
-ghost use Rattle.goi_world.specs.Outside.{taken_by};
+ghost use Rattle.goi_world.specs.Told.{taken_by};
 ghost use Rattle.goi_world.specs.SinkOfWriter.{unwritten, one_write};
 
 use crate::{Failed, Sink};

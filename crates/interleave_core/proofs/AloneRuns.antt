@@ -14,8 +14,10 @@ use Rattle.move_rules.specs.Places.{TokenTree}
 use Rattle.move_rules.specs.Views.{token_of}
 use Rattle.interleave_laws.specs.Start.{start_of}
 use Rattle.interleave_laws.specs.Runs.{Runs}
-use Rattle.interleave_laws.specs.OneWorker.{one, Least}
-use Rattle.interleave_laws.specs.Maps.{MapState, start_map, step_map, run_map, then_run_map, IsReachedWithin, seen}
+use Rattle.interleave_laws.specs.OneWorker.{one}
+use Rattle.interleave_laws.specs.OneWorkerLaws.{Least}
+use Rattle.interleave_laws.specs.Maps.{MapState, start_map, step_map, run_map, then_run_map, seen}
+use Rattle.interleave_laws.specs.MapRuns.{IsReachedWithin}
 use Rattle.interleave_laws.specs.Tickets.{NoneLive, IsLeastLive}
 use Rattle.interleave_core.specs.Moving.{Changes, WalksOn}
 use Rattle.interleave_core.specs.Roles.{StandsStill}

@@ -8,7 +8,8 @@ use Rattle.std.proofs.lemmas.Cmp.{nat_cmp_total}
 use Rattle.std.proofs.lemmas.Bool.{eqb-true, ne_eqb}
 use Rattle.token_stacks.specs.Signatures.{Boxes}
 use Rattle.fork_join.specs.Entries.{Entry, pending, key_cmp}
-use Rattle.move_rules.specs.Places.{TokenTree, up, ask, place_of, boxes_at}
+use Rattle.move_rules.specs.Places.{TokenTree, up, ask, place_of}
+use Rattle.move_rules.specs.Stacks.{boxes_at}
 use Rattle.interleave_laws.proofs.Tickets.{test_nat}
 use Rattle.interleave_core.specs.Forking.{HasBoxes, Copies, ForksTo}
 

@@ -16,7 +16,8 @@ use Rattle.token_stacks.specs.Signatures.{Boxes, Load, load}
 use Rattle.net_build.specs.Nets.{NetTree}
 use Rattle.move_rules.specs.declared.token.Kind.{Kind}
 use Rattle.move_rules.specs.declared.token.Token.{Token}
-use Rattle.move_rules.specs.Places.{TokenTree, place_of, work_at, boxes_at}
+use Rattle.move_rules.specs.Places.{TokenTree, place_of}
+use Rattle.move_rules.specs.Stacks.{work_at, boxes_at}
 use Rattle.move_rules.specs.Views.{token_of, of_kind, place_at}
 use Rattle.move_rules.specs.Walks.{SoloStep}
 use Rattle.move_rules.proofs.Single.{placed}

@@ -11,13 +11,15 @@ use Rattle.fork_join.specs.Arrivals.{IsOpenFor, arrival, with_arrival}
 use Rattle.pcf_values.specs.declared.side.Side.{Side}
 use Rattle.pcf_values.specs.declared.side.Side.TheVariants.{Left, Right}
 use Rattle.net_build.specs.Nets.{NetTree}
-use Rattle.move_rules.specs.Places.{Place, TokenTree, up, place_of, boxes_at}
+use Rattle.move_rules.specs.Places.{Place, TokenTree, up, place_of}
+use Rattle.move_rules.specs.Stacks.{boxes_at}
 use Rattle.move_rules.specs.Moves.{Move, solo, fork, join, answer, stay, move}
 use Rattle.move_rules.specs.AtNode.{Unaided}
 use Rattle.pcf_values.specs.declared.operator.Operator.{Operator}
 use Rattle.interleave_core.specs.declared.roles.Role.TheVariants.{Fork, Join, Last, Still}
 use Rattle.interleave_core.specs.declared.stepped.Stepped.TheVariants.{Went, Forked, Answered}
-use Rattle.interleave_laws.specs.Maps.{MapState, step_map, step_map_on, act_map, fork_map, join_map, IsReachedWithin}
+use Rattle.interleave_laws.specs.Maps.{MapState, step_map, step_map_on, act_map, fork_map, join_map}
+use Rattle.interleave_laws.specs.MapRuns.{IsReachedWithin}
 use Rattle.interleave_laws.proofs.MapLaws.{step_reached, more_reached}
 use Rattle.interleave_core.specs.Names.{step_name, name_on, name_of, name_at, MayTake}
 use Rattle.interleave_core.specs.Forking.{HasBoxes, ForksTo}

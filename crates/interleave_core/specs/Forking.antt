@@ -4,7 +4,8 @@ use Rattle.std.specs.Ordering.{nat_cmp}
 use Rattle.std.specs.FinMap.{FinMap, get, insert}
 use Rattle.token_stacks.specs.Signatures.{Boxes}
 use Rattle.fork_join.specs.Entries.{Entry, pending, key_cmp}
-use Rattle.move_rules.specs.Places.{up, TokenTree, ask, place_of, work_at, boxes_at}
+use Rattle.move_rules.specs.Places.{up, TokenTree, ask, place_of}
+use Rattle.move_rules.specs.Stacks.{work_at, boxes_at}
 
 -- the ticket has a token with an empty work stack, and that box stack
 abbrev pub HasBoxes : FinMap nat_cmp TokenTree → ℕ → Boxes → Type 0

@@ -10,7 +10,8 @@ use Rattle.net_build.specs.declared.node.Node.{Node}
 use Rattle.net_build.specs.declared.node.Node.TheVariants.{Root, Binary}
 use Rattle.move_rules.specs.declared.token.Kind.{Kind}
 use Rattle.move_rules.specs.declared.token.Kind.TheVariants.{Ask, Ans}
-use Rattle.move_rules.specs.Places.{up, TokenTree, place_of, work_at, boxes_at}
+use Rattle.move_rules.specs.Places.{up, TokenTree, place_of}
+use Rattle.move_rules.specs.Stacks.{work_at, boxes_at}
 use Rattle.move_rules.specs.Moves.{Move, fork, join, answer, stay, move}
 use Rattle.move_rules.specs.AtNode.{NotSolo}
 use Rattle.interleave_core.specs.declared.roles.Role.{Role}

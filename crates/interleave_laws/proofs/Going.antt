@@ -6,7 +6,8 @@ use Rattle.pcf_values.specs.Most.{most_budget}
 use Rattle.net_build.specs.Nets.{NetTree}
 use Rattle.move_rules.specs.Places.{TokenTree}
 use Rattle.interleave_laws.specs.Runs.{Runs}
-use Rattle.interleave_laws.specs.Maps.{MapState, step_map, IsReachedWithin}
+use Rattle.interleave_laws.specs.Maps.{MapState, step_map}
+use Rattle.interleave_laws.specs.MapRuns.{IsReachedWithin}
 use Rattle.interleave_laws.proofs.MapLaws.{tickets_most, map_low, map_step}
 
 -- what is there

@@ -18,8 +18,8 @@ use Rattle.interleave_laws.specs.States.{other, State, start, step, step_on, act
 use Rattle.interleave_laws.specs.Start.{start_of}
 use Rattle.interleave_laws.specs.Runs.{Runs, LeadsTo}
 use Rattle.interleave_laws.specs.Bare.{SameBare}
-use Rattle.interleave_laws.specs.Maps.{MapState, step_map, start_map, run_map, LeadsToMap, SameBareMap, seen, option_seen, then_run_map}
-use Rattle.interleave_laws.specs.Maps.{IsReachedWithin}
+use Rattle.interleave_laws.specs.Maps.{MapState, step_map, start_map, run_map, LeadsToMap, SameBareMap, seen, then_run_map}
+use Rattle.interleave_laws.specs.MapRuns.{IsReachedWithin, option_seen}
 use Rattle.interleave_laws.proofs.Running.{low, one_place, has_step, answered_idle, idle_answered}
 use Rattle.interleave_laws.proofs.Diamond.{diamond}
 use Rattle.interleave_laws.proofs.Others.{others_live}

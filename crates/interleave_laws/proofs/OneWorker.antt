@@ -8,9 +8,10 @@ use Rattle.net_build.specs.Nets.{NetTree}
 use Rattle.move_rules.specs.Places.{TokenTree}
 use Rattle.interleave_laws.specs.States.{Tokens, State, start, step, then_run, run}
 use Rattle.interleave_laws.specs.Start.{start_of}
-use Rattle.interleave_laws.specs.Runs.{LeadsTo, Finished, Runs}
-use Rattle.interleave_laws.specs.OneWorker.{or_next, least_from, least_live, on_step, on_least, one_from, one, IsOneWorkers, Least}
-use Rattle.interleave_laws.specs.OneWorkerLaws.{FirstFrom}
+use Rattle.interleave_laws.specs.Runs.{LeadsTo, Runs}
+use Rattle.interleave_laws.specs.Finished.{Finished}
+use Rattle.interleave_laws.specs.OneWorker.{or_next, least_from, least_live, on_step, on_least, one_from, one}
+use Rattle.interleave_laws.specs.OneWorkerLaws.{FirstFrom, IsOneWorkers, Least}
 use Rattle.interleave_laws.proofs.Running.{low, run_append, has_step, answered_idle, idle_answered}
 
 -- what the search finds is live, and nothing before it is

@@ -18,7 +18,8 @@ use Rattle.move_rules.specs.Moves.{Move, solo, fork, join, answer, stay, move}
 use Rattle.interleave_laws.specs.States.{other, set_token, set_entry, State, start, then_run, run, step, step_on, act, fork_on, last_on}
 use Rattle.interleave_laws.specs.States.{join_on}
 use Rattle.interleave_laws.specs.Maps.{MapState, fork_map, last_map, join_map, act_map, step_map, step_map_on, start_map, then_run_map}
-use Rattle.interleave_laws.specs.Maps.{run_map, seen, option_seen}
+use Rattle.interleave_laws.specs.Maps.{run_map, seen}
+use Rattle.interleave_laws.specs.MapRuns.{option_seen}
 use Rattle.fork_join.proofs.Keys.{key_total, key_cmp-same, test_key}
 use Rattle.interleave_laws.proofs.Tickets.{test_nat}
 

@@ -10,7 +10,8 @@ use Rattle.move_rules.specs.Walks.{Walks}
 use Rattle.interleave_laws.specs.Start.{start_of}
 use Rattle.interleave_laws.specs.States.{State, set_token, start, step, step_on, act}
 use Rattle.interleave_laws.specs.Runs.{Runs, LeadsTo}
-use Rattle.interleave_laws.specs.OneWorker.{one, IsOneWorkers, Least}
+use Rattle.interleave_laws.specs.OneWorker.{one}
+use Rattle.interleave_laws.specs.OneWorkerLaws.{IsOneWorkers, Least}
 use Rattle.interleave_laws.proofs.Running.{low, run_append}
 use Rattle.interleave_laws.proofs.Others.{step_leaves}
 use Rattle.interleave_laws.proofs.OneWorker.{one_next}

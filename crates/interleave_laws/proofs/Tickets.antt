@@ -1,5 +1,5 @@
 -- Tickets: the test tells them apart, and so does their order in a finite map.
-use Rattle.std.proofs.Common.{◌≡◌, ℕ, true, refl, subst}
+use Rattle.std.proofs.Common.{◌≡◌, ℕ, true, subst}
 use Rattle.std.proofs.lemmas.Bool.{eq-eqb, eqb-true}
 use Rattle.std.specs.Prelude.{nat_eq}
 use Rattle.std.specs.Ordering.{nat_cmp, eq_by_cmp}

@@ -4,7 +4,9 @@
 pub mod Start
 -- States of the machine, one step of a ticket, and the run of a log.
 pub mod States
--- States that a net reaches, runs that are finished, and the nets that run: all that the laws of interleavings ask of a net.
+-- When a log is finished within a budget of moves.
+pub mod Finished
+-- States that a net reaches, and the nets that run: all that the laws of interleavings ask of a net.
 pub mod Runs
 -- States without their tickets.
 pub mod Bare
@@ -14,6 +16,8 @@ pub mod Asked
 pub mod OneWorker
 -- States over finite maps, as a running machine keeps them, and what such a state answers.
 pub mod Maps
+-- What holds in every state over finite maps that a log leads to.
+pub mod MapRuns
 -- Live tickets, as the code tells of them.
 pub mod Tickets
 -- the laws, each file with its statements

@@ -7,8 +7,8 @@ use Rattle.move_rules.specs.Places.{Place, TokenTree, place_of}
 use Rattle.interleave_laws.specs.Start.{start_of}
 use Rattle.interleave_laws.specs.States.{State, start, step, run}
 use Rattle.interleave_laws.specs.Runs.{LeadsTo}
-use Rattle.interleave_laws.specs.Maps.{MapState, start_map, step_map, run_map, LeadsToMap, IsReachedWithin, seen, option_seen, SameBareMap}
-use Rattle.interleave_laws.specs.Maps.{InEveryMapState, InEveryMapRun}
+use Rattle.interleave_laws.specs.Maps.{MapState, start_map, step_map, run_map, LeadsToMap, seen, SameBareMap}
+use Rattle.interleave_laws.specs.MapRuns.{IsReachedWithin, InEveryMapState, InEveryMapRun, option_seen}
 
 -- a state of finite maps starts as what it answers
 abbrev pub SeenStarts : Type 0

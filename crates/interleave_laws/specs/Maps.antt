@@ -1,7 +1,7 @@
 -- States over finite maps, as a running machine keeps them, and what such a state answers.
 -- Everything here is a row of `States`, with `get`, `insert` and `remove` in place of functions. `seen` reads a state of maps as a
 -- state of functions, and a law says that a step, and with it a run, goes along.
-use Rattle.std.specs.Prelude.{◌≡◌, ◌<◌, ℕ, suc, List, [], ◌∷◌, length, Option, Some, None}
+use Rattle.std.specs.Prelude.{◌≡◌, ℕ, suc, List, [], ◌∷◌, Option, Some, None}
 use Rattle.std.specs.FinMap as map
 use Rattle.std.specs.FinMap.{FinMap}
 use Rattle.std.specs.Ordering.{nat_cmp}
@@ -11,11 +11,9 @@ use Rattle.pcf_values.specs.declared.side.Side.{Side}
 use Rattle.token_stacks.specs.Signatures.{Boxes}
 use Rattle.fork_join.specs.Entries.{Entry, pending, kept_as, key_cmp}
 use Rattle.net_build.specs.Nets.{NetTree}
-use Rattle.net_build.specs.Sound.{Sound}
 use Rattle.move_rules.specs.Places.{Place, down, TokenTree, ask, ans}
 use Rattle.move_rules.specs.Moves.{Move, solo, fork, join, answer, stay, move}
 use Rattle.interleave_laws.specs.Start.{start_of}
-use Rattle.interleave_laws.specs.Runs.{Runs}
 use Rattle.interleave_laws.specs.States.{other, State}
 
 -- a state of the machine, over finite maps
@@ -82,18 +80,9 @@ run_map net S (i ∷ log) = then_run_map (step_map net S i) (λ S. run_map net S
 abbrev pub LeadsToMap : NetTree → List ℕ → MapState → Type 0
 LeadsToMap net log S = run_map net (start_map (start_of net)) log ≡ Some S
 
--- the state is the run of a log of fewer than so many moves
-abbrev pub IsReachedWithin : NetTree → ℕ → MapState → Type 0
-IsReachedWithin net n S = (log : List ℕ) × LeadsToMap net log S × (length log < n)
-
 -- what a state of maps answers at each ticket and each key
 abbrev pub seen : MapState → State
 seen S = record { tokens = λ j. map.get S.tokens j; entries = λ n t. map.get S.entries (n, t); next = S.next; answered = S.answered }
-
--- and the same of a state that may not be there
-abbrev pub option_seen : Option MapState → Option State
-option_seen None = None
-option_seen (Some S) = Some (seen S)
 
 -- the same tokens are live, whatever their tickets, and the entries and the answer are the same
 pub record SameBareMap (S T : MapState) : Type 0 where
@@ -101,11 +90,3 @@ pub record SameBareMap (S T : MapState) : Type 0 where
   pub back : (i : ℕ) (x : TokenTree) → map.get T.tokens i ≡ Some x → (j : ℕ) × (map.get S.tokens j ≡ Some x)
   pub entries : S.entries ≡ T.entries
   pub answered : S.answered ≡ T.answered
-
--- it holds in every state of maps that a log leads to, on every sound net
-abbrev pub InEveryMapState : (NetTree → List ℕ → MapState → Type 0) → Type 0
-InEveryMapState P = (net : NetTree) → Sound net → (log : List ℕ) (S : MapState) → LeadsToMap net log S → P net log S
-
--- it holds in every state of maps that a log leads to, on every net that runs
-abbrev pub InEveryMapRun : (NetTree → List ℕ → MapState → Type 0) → Type 0
-InEveryMapRun P = (net : NetTree) → Runs net → (log : List ℕ) (S : MapState) → LeadsToMap net log S → P net log S

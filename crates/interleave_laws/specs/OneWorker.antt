@@ -1,7 +1,7 @@
 -- The run of one worker: always the least live ticket, up to the answer or to a number of moves.
 -- It is a recursion on the number of moves that gives the log itself, so that a running worker's list of tickets can be compared
 -- with it entry by entry. The tickets of a state are below its next one, so the search for the least ends there.
-use Rattle.std.specs.Prelude.{◌≡◌, ℕ, zero, suc, ◌<◌, List, [], ◌∷◌, length, Option, Some, None}
+use Rattle.std.specs.Prelude.{ℕ, zero, suc, List, [], ◌∷◌, Option, Some, None}
 use Rattle.net_build.specs.Nets.{NetTree}
 use Rattle.move_rules.specs.Places.{TokenTree}
 use Rattle.interleave_laws.specs.Start.{start_of}
@@ -39,12 +39,3 @@ one_from net S (suc b) = on_least (least_live S) (λ i. on_step i (step net S i)
 -- the one worker's log from the net's start
 abbrev pub one : NetTree → ℕ → List ℕ
 one net b = one_from net (start (start_of net)) b
-
--- the log is the one worker's
-abbrev pub IsOneWorkers : NetTree → List ℕ → Type 0
-IsOneWorkers net log = one net (length log) ≡ log
-
--- a live ticket with no live one below it
-pub record Least (S : State) (i : ℕ) : Type 0 where
-  pub live : (x : TokenTree) × (S.tokens i ≡ Some x)
-  pub below : (j : ℕ) → j < i → S.tokens j ≡ None

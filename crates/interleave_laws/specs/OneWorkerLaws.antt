@@ -7,8 +7,18 @@ use Rattle.net_build.specs.Nets.{NetTree}
 use Rattle.move_rules.specs.Places.{TokenTree}
 use Rattle.move_rules.specs.Walks.{Walks}
 use Rattle.interleave_laws.specs.States.{Tokens, State, step}
-use Rattle.interleave_laws.specs.Runs.{LeadsTo, Finished, Runs, InEveryRun}
-use Rattle.interleave_laws.specs.OneWorker.{least_from, one_from, one, IsOneWorkers, Least}
+use Rattle.interleave_laws.specs.Runs.{LeadsTo, Runs, InEveryRun}
+use Rattle.interleave_laws.specs.Finished.{Finished}
+use Rattle.interleave_laws.specs.OneWorker.{least_from, one_from, one}
+
+-- the log is the one worker's
+abbrev pub IsOneWorkers : NetTree → List ℕ → Type 0
+IsOneWorkers net log = one net (length log) ≡ log
+
+-- a live ticket with no live one below it
+pub record Least (S : State) (i : ℕ) : Type 0 where
+  pub live : (x : TokenTree) × (S.tokens i ≡ Some x)
+  pub below : (j : ℕ) → j < i → S.tokens j ≡ None
 
 -- at each place of its log the one worker moves the least live ticket
 abbrev pub OneIsLeast : Type 0

@@ -1,8 +1,7 @@
--- States that a net reaches, runs that are finished, and the nets that run: all that the laws of interleavings ask of a net.
+-- States that a net reaches, and the nets that run: all that the laws of interleavings ask of a net.
 -- A net runs where it is sound and where no live token ever stands still. That such a token also has its step, a fork an entry that
 -- isn't open yet and a join one that waits for its side, is no part of this; it is a law.
-use Rattle.std.specs.Prelude.{◌≡◌, ◌≢◌, ◌≤◌, ℕ, List, length, Option, Some, None}
-use Rattle.pcf_values.specs.declared.val.Val.{Val}
+use Rattle.std.specs.Prelude.{◌≡◌, ◌≢◌, ℕ, List, Some}
 use Rattle.net_build.specs.Nets.{NetTree}
 use Rattle.net_build.specs.Sound.{Sound}
 use Rattle.move_rules.specs.Places.{TokenTree}
@@ -13,10 +12,6 @@ use Rattle.interleave_laws.specs.States.{State, start, run}
 -- the log leads from the net's start to the state
 abbrev pub LeadsTo : NetTree → List ℕ → State → Type 0
 LeadsTo net log S = run net (start (start_of net)) log ≡ Some S
-
--- a log with this answer is finished within a budget: it has at most so many moves, and as many where there is no answer
-abbrev pub Finished : Option Val → List ℕ → ℕ → Type 0
-Finished answered log budget = (length log ≤ budget) × (answered ≡ None → length log ≡ budget)
 
 pub record Runs (net : NetTree) : Type 0 where
   pub sound : Sound net

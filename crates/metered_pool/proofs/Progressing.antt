@@ -9,7 +9,8 @@ use Rattle.schedule_log.specs.Logs.{by}
 use Rattle.token_pool.specs.declared.ending.Ended.{Ended}
 use Rattle.token_pool.specs.Pools.{Pool}
 use Rattle.token_pool.specs.Ending.{remaining, Finishes}
-use Rattle.progress_meter.specs.Meters.{last_of, RisesFromZero, AreReadingsOf}
+use Rattle.progress_meter.specs.Meters.{RisesFromZero, AreReadingsOf}
+use Rattle.progress_meter.specs.Last.{last_of}
 use Rattle.progress_meter.proofs.Lists.{last_of-push, never_down-push, at_most_last}
 use Rattle.metered_pool.specs.Progress.{IsProgress}
 

@@ -15,7 +15,8 @@ use Rattle.interleave_laws.specs.Start.{start_of}
 use Rattle.interleave_laws.specs.Runs.{Runs}
 use Rattle.interleave_laws.specs.OneWorker.{one}
 use Rattle.interleave_laws.specs.OneWorkerLaws.{OneFinished}
-use Rattle.interleave_laws.specs.Maps.{MapState, start_map, step_map, run_map, IsReachedWithin, seen}
+use Rattle.interleave_laws.specs.Maps.{MapState, start_map, step_map, run_map, seen}
+use Rattle.interleave_laws.specs.MapRuns.{IsReachedWithin}
 use Rattle.interleave_laws.specs.MapLaws.{MapLed}
 use Rattle.interleave_laws.specs.Tickets.{NoneLive, IsLeastLive}
 use Rattle.interleave_laws.proofs.Tickets.{test_nat}

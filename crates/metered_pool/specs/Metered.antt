@@ -6,7 +6,8 @@ use Rattle.std.specs.Prelude.{◌≡◌, ℕ, [], length, refl}
 use Rattle.std.specs.Coded.{Coded, code_by, coded×}
 use Rattle.atomic_table.specs.Seated.{TableId}
 use Rattle.net_build.specs.Nets.{NetTree}
-use Rattle.progress_meter.specs.Meters.{Publisher, last_of, with_number}
+use Rattle.progress_meter.specs.Meters.{Publisher, with_number}
+use Rattle.progress_meter.specs.Last.{last_of}
 use Rattle.progress_meter.specs.Codes.{publisher_code}
 use Rattle.gate_workers.specs.declared.turn.Turn.{Turn}
 use Rattle.branch_runs.specs.Branching.{Grown}

@@ -5,7 +5,8 @@
 -- then isn't.
 use Rattle.std.specs.Prelude.{◌≡◌, ℕ, List, ◌++◌, length}
 use Rattle.std.specs.List.Sorted.{IsNonDecreasing}
-use Rattle.progress_meter.specs.Meters.{Listener, last_of}
+use Rattle.progress_meter.specs.Meters.{Listener}
+use Rattle.progress_meter.specs.Last.{last_of}
 
 -- the reader read sixteen times more, and these are the numbers
 abbrev pub HasRead : Listener → Listener → List ℕ → Type 0

@@ -6,7 +6,8 @@ use Rattle.interleave_laws.specs.Maps.{MapState}
 use Rattle.interleave_core.specs.Alone.{RunsAlone}
 use Rattle.schedule_log.specs.declared.entry.Entry.{Entry}
 use Rattle.schedule_log.specs.Logs.{by}
-use Rattle.progress_meter.specs.Meters.{Publisher, last_of}
+use Rattle.progress_meter.specs.Meters.{Publisher}
+use Rattle.progress_meter.specs.Last.{last_of}
 use Rattle.token_pool.specs.declared.ending.Ended.{Ended}
 use Rattle.net_runs.specs.IsRun.{IsRun, IsFirstWorkers}
 

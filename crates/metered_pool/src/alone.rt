@@ -7,7 +7,8 @@ ghost use Rattle.interleave_laws.specs.Start.{start_of};
 ghost use Rattle.interleave_laws.specs.Maps.{start_map};
 ghost use Rattle.interleave_laws.specs.Tickets.{IsLeastLive, NoneLive};
 ghost use Rattle.schedule_log.specs.LogsSeen.{empty_log};
-ghost use Rattle.progress_meter.specs.Meters.{last_of, with_number};
+ghost use Rattle.progress_meter.specs.Meters.{with_number};
+ghost use Rattle.progress_meter.specs.Last.{last_of};
 ghost use Rattle.metered_pool.specs.Walking.{Walked, WalksAlone};
 
 use interleave_core::Core;

@@ -1,7 +1,8 @@
 //! A pool whose bookings are published.
 
 ghost use Rattle.std.specs.Prelude.{◌≡◌, ◌≤◌, length, IfOk, OnErr};
-ghost use Rattle.progress_meter.specs.Meters.{last_of, with_number};
+ghost use Rattle.progress_meter.specs.Meters.{with_number};
+ghost use Rattle.progress_meter.specs.Last.{last_of};
 ghost use Rattle.token_pool.specs.Ending.{Suits};
 ghost use Rattle.branch_pool.specs.Benches.{TakesBranch};
 ghost use Rattle.metered_pool.specs.Metered.{IsLevel, IsOf};

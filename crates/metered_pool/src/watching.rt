@@ -4,7 +4,8 @@ ghost use Rattle.std.specs.Prelude.{◌≡◌, ◌≤◌, [], ◌∷◌, length,
 ghost use Rattle.std.specs.List.Sorted.{IsNonDecreasing};
 ghost use Rattle.pcf_values.specs.Most.{most_budget, most_workers};
 ghost use Rattle.interleave_laws.specs.Runs.{Runs};
-ghost use Rattle.progress_meter.specs.Meters.{last_of, first_publisher, first_listener};
+ghost use Rattle.progress_meter.specs.Meters.{first_publisher, first_listener};
+ghost use Rattle.progress_meter.specs.Last.{last_of};
 ghost use Rattle.token_pool.specs.Pools.{InLimits};
 ghost use Rattle.token_pool.specs.Ending.{Suits};
 ghost use Rattle.net_runs.specs.IsRun.{IsRun, IsFirstWorkers};

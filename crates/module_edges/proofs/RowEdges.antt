@@ -4,10 +4,11 @@ use Rattle.std.proofs.Common.{◌++◌, length, Some, refl, sym, ap, ◌∙◌, 
 use Rattle.std.proofs.lemmas.List.{length-append}
 use Prim.Native.String.{String}
 use Rattle.token_stacks.specs.Signatures.{Sig, star, left_of, right_of, pair_of, again, R, L, S, Work, Boxes}
-use Rattle.move_rules.specs.Places.{Place, work_at, boxes_at}
+use Rattle.move_rules.specs.Places.{Place}
+use Rattle.move_rules.specs.Stacks.{work_at, boxes_at}
 use Rattle.circuit_core.specs.Rows.{Row, GO, STAR, UNSTAR, LEFT, RIGHT, CON, PUSHR, PUSHL, SELECT, POP, BOXIN, BOXOUT, DOOROUT, DOORIN}
-use Rattle.circuit_core.specs.Rows.{FIXIN, FIXOUT, FIXVAR, Channel, rises, falls, number, at, channel_of}
-use Rattle.circuit_core.specs.RowMoves.{stack_row}
+use Rattle.circuit_core.specs.Rows.{FIXIN, FIXOUT, FIXVAR, Channel, rises, falls, number, channel_of}
+use Rattle.circuit_core.specs.RowMoves.{stack_row, at}
 use Rattle.circuit_core.specs.Bits.{Bits, code, work_bits, box_bits, to, bit_row}
 use Rattle.circuit_core.specs.Circuit.{Token, Circuit, shifted}
 use Rattle.circuit_core.proofs.Bits.{bit_rows}

@@ -3,7 +3,8 @@ use Rattle.std.proofs.Common.{◌≡◌, ℕ, zero, true, cond, List, length, Op
 use Rattle.std.specs.Prelude.{nat_lt, slice_get}
 use Rattle.net_build.specs.declared.node.Node.{Node}
 use Rattle.net_build.specs.Nets.{NetTree, premises, conclusions}
-use Rattle.net_build.specs.Faces.{least, node_above, node_below, number_of}
+use Rattle.net_build.specs.Faces.{least, node_above, node_below}
+use Rattle.net_build.specs.Found.{number_of}
 use Rattle.move_rules.specs.Places.{Place, up, down, TokenTree, ask, ans, place_of}
 use Rattle.move_rules.specs.Table.{on_found, facing}
 use Rattle.move_rules.specs.Moves.{Look, dead, ask_move, stay, move}

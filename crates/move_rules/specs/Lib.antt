@@ -9,6 +9,8 @@ pub mod Moves
 pub mod Walks
 -- What holds of the table of moves and of walks, as laws.
 pub mod Laws
+-- Both stacks of a place.
+pub mod Stacks
 -- The view of a token: the code's token as a question or an answer at its place, and of a node that was seen: its number and the node.
 pub mod Views
 -- The rules and moves at a node that is faced, of which the laws and single steps speak.

@@ -16,16 +16,6 @@ abbrev pub turned : Place → Place
 turned (up w m t) = down w m t
 turned (down w m t) = up w m t
 
--- the work stack of a place
-abbrev pub work_at : Place → Work
-work_at (up w m t) = m
-work_at (down w m t) = m
-
--- the box stack of a place
-abbrev pub boxes_at : Place → Boxes
-boxes_at (up w m t) = t
-boxes_at (down w m t) = t
-
 -- a question, or an answer with its value
 pub data TokenTree : Type 0 where
   ask : Place → TokenTree

@@ -2,7 +2,7 @@
 
 ghost use Rattle.std.specs.Prelude.{◌≡◌, IfOk, OnErr, slice_get};
 ghost use Rattle.std.specs.Option.{option_map};
-ghost use Rattle.net_build.specs.Faces.{number_of};
+ghost use Rattle.net_build.specs.Found.{number_of};
 ghost use Rattle.move_rules.specs.Moves.{move};
 ghost use Rattle.move_rules.specs.AtNode.{Unaided};
 ghost use Rattle.move_rules.specs.Steps.{Passes, IsPlain, node_of};

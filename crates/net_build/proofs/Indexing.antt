@@ -6,7 +6,8 @@ use Rattle.std.proofs.lemmas.List.{length-replicate, length-set}
 use Rattle.std.specs.Prelude.{slice_get, slice_set, if◌then◌else◌}
 use Rattle.std.proofs.lemmas.Bool.{cases_eq, eq-eqb, ne_eqb}
 use Rattle.net_build.specs.declared.node.Node.{Node}
-use Rattle.net_build.specs.Faces.{has, least, number_of}
+use Rattle.net_build.specs.Faces.{has, least}
+use Rattle.net_build.specs.Found.{number_of}
 use Rattle.net_build.specs.Index.{Indexes, marked}
 use Rattle.net_build.proofs.Entries.{get_set_same, get_set_other, get_replicate}
 

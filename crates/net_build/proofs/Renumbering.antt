@@ -1,14 +1,14 @@
 -- Another number at a node: the node has the same wires, and so each wire the same nodes on both sides.
-use Rattle.std.proofs.Common.{◌≡◌, ℕ, zero, suc, ◌<◌, ◌≤◌, ◌^◌, Bool, true, false, cond, List, [], ◌∷◌, length, Option, Some, None, refl}
+use Rattle.std.proofs.Common.{◌≡◌, ℕ, zero, suc, ◌<◌, ◌≤◌, ◌^◌, Bool, true, false, cond, List, [], ◌∷◌, length, Option, Some, refl}
 use Rattle.std.proofs.Common.{sym, ap}
 use Rattle.std.proofs.Common.{◌∙◌, subst, get_or, set, arith}
-use Rattle.std.specs.Prelude.{slice_get}
 use Rattle.net_build.specs.declared.node.Node.{Node}
 use Rattle.net_build.specs.declared.node.Node.TheVariants.{Const, Succ, Pred, Binary, Ifz, Der, Con, Weak, Lam, App, BoxNode}
 use Rattle.net_build.specs.declared.node.Node.TheVariants.{Door, FixBox, Root, Pair, Proj}
 use Rattle.net_build.specs.declared.wire.Wire.{Wire}
 use Rattle.net_build.specs.Nets.{premises, conclusions}
-use Rattle.net_build.specs.Faces.{has, least, number_of}
+use Rattle.net_build.specs.Faces.{has, least}
+use Rattle.net_build.specs.Found.{number_of}
 use Rattle.net_build.specs.Index.{Indexes}
 use Rattle.net_build.specs.Kept.{Kept}
 use Rattle.net_build.specs.Numbers.{set_number, set_at}

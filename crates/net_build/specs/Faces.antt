@@ -15,11 +15,6 @@ abbrev pub least : (Node → List ℕ) → ℕ → List Node → ℕ → Option 
 least side k [] w = None
 least side k (n ∷ ns) w = if has (side n) w then Some (k, n) else least side (suc k) ns w
 
--- the number of a node that was found
-abbrev pub number_of : Option (ℕ × Node) → Option ℕ
-number_of None = None
-number_of (Some f) = Some f.0
-
 -- the least node that stands above the wire
 abbrev pub node_above : NetTree → ℕ → Option (ℕ × Node)
 node_above net w = if nat_lt w (length net.wires) then least conclusions zero net.nodes w else None
@@ -27,9 +22,3 @@ node_above net w = if nat_lt w (length net.wires) then least conclusions zero ne
 -- the least node that stands below the wire
 abbrev pub node_below : NetTree → ℕ → Option (ℕ × Node)
 node_below net w = if nat_lt w (length net.wires) then least premises zero net.nodes w else None
-
--- the numbers of a list that are there
-abbrev pub present : List (Option ℕ) → List ℕ
-present [] = []
-present (None ∷ xs) = present xs
-present (Some x ∷ xs) = x ∷ present xs

@@ -4,7 +4,8 @@ use Rattle.net_build.specs.declared.node.Node.{Node}
 use Rattle.net_build.specs.declared.index.Face.{Face}
 use Rattle.net_build.specs.declared.index.Face.TheVariants.{Above, Below}
 use Rattle.net_build.specs.Nets.{premises, conclusions}
-use Rattle.net_build.specs.Faces.{least, number_of}
+use Rattle.net_build.specs.Faces.{least}
+use Rattle.net_build.specs.Found.{number_of}
 
 -- the wires that have the node on this side of them
 abbrev pub wires_with : Face → Node → List ℕ

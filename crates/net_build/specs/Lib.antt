@@ -7,6 +7,8 @@ pub mod Faces
 pub mod NetOf
 -- Sound nets: one root, each wire once on either side, and each node's wires of the kinds, types and depths of its row.
 pub mod Sound
+-- What is kept of a node that was found on a side of a wire: its number; and which numbers of a list are there.
+pub mod Found
 -- What holds of the net of every term: how large it is, and that it is sound where the term is closed and of type `nat`.
 pub mod Laws
 -- The net of `(fun x:nat. x + x) 3`, node by node.

@@ -3,10 +3,7 @@
 -- order of the listing, so that the code's own type of nodes serves as it is; a wire's type is seen as a tree.
 -- A list of lists would do for both sides of a node, but each row is written out, since the two tables are what a reader looks up.
 use Rattle.std.specs.Prelude.{ℕ, List, [], ◌∷◌}
-use Rattle.pcf_values.specs.declared.operator.Operator.{Operator}
 use Rattle.pcf_values.specs.Terms.{TyTree}
-use Rattle.pcf_values.specs.declared.side.Side.{Side}
-use Rattle.pcf_values.specs.declared.side.Side.TheVariants.{Left, Right}
 use Rattle.net_build.specs.declared.wire.WireKind.{WireKind}
 use Rattle.net_build.specs.declared.wire.WireKind.TheVariants.{Value, Bang, Variable}
 use Rattle.net_build.specs.declared.node.Node.{Node}

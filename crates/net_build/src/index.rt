@@ -2,7 +2,7 @@
 
 ghost use Rattle.std.specs.Prelude.{◌≡◌, ◌<◌, ◌^◌, ◌∷◌, [], length, replicate, IfOk};
 ghost use Rattle.net_build.specs.Index.{Indexes, marked, wires_with};
-ghost use Rattle.net_build.specs.Faces.{present};
+ghost use Rattle.net_build.specs.Found.{present};
 
 use crate::Node;
 use std::alloc::{AllocError, Global};

@@ -3,7 +3,8 @@
 ghost use Rattle.std.specs.Prelude.{◌≡◌, ◌<◌, ◌^◌, ◌↔◌, map, length, slice_get, IfOk, IsTrue};
 ghost use Rattle.std.specs.Option.{option_map};
 ghost use Rattle.net_build.specs.Views.{wire_of};
-ghost use Rattle.net_build.specs.Faces.{node_above, node_below, number_of};
+ghost use Rattle.net_build.specs.Faces.{node_above, node_below};
+ghost use Rattle.net_build.specs.Found.{number_of};
 ghost use Rattle.net_build.specs.Kept.{entry_at};
 ghost use Rattle.net_build.specs.Numbers.{set_at, with_number};
 

@@ -2,7 +2,7 @@
 
 ghost use Rattle.std.specs.Prelude.{◌≡◌, ◌↔◌, ◌∷◌, [], IsTrue};
 ghost use Rattle.net_build.specs.Nets.{premises, conclusions};
-ghost use Rattle.net_build.specs.Faces.{present};
+ghost use Rattle.net_build.specs.Found.{present};
 
 use pcf_values::{Operator, Side};
 

@@ -8,7 +8,7 @@ use Rattle.std.proofs.lemmas.Option.{get_or_from_slice_get}
 use Rattle.std.proofs.Math.Seq.{take-suc}
 use Rattle.net_build.specs.declared.node.Node.{Node}
 use Rattle.net_build.specs.Nets.{premises, conclusions}
-use Rattle.net_build.specs.Faces.{present}
+use Rattle.net_build.specs.Found.{present}
 use Rattle.net_build.specs.Sound.{how_often, named}
 use Rattle.net_build.proofs.Entries.{get_set_same, get_set_other}
 use Rattle.net_check.specs.Counts.{capped, once_more, bumped, Counted, lesser_of, past_from}

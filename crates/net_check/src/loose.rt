@@ -2,7 +2,7 @@
 
 ghost use Rattle.std.specs.Prelude.{◌≡◌, ◌<◌, ◌≤◌, ◌∷◌, [], ℕ, length};
 ghost use Rattle.net_build.specs.Nets.{premises, conclusions};
-ghost use Rattle.net_build.specs.Faces.{present};
+ghost use Rattle.net_build.specs.Found.{present};
 ghost use Rattle.net_check.specs.Counts.{IsLeastOdd, lesser_of, past_from};
 
 use net_build::{Net, Node};

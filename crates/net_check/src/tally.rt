@@ -2,7 +2,7 @@
 
 ghost use Rattle.std.specs.Prelude.{◌≡◌, ◌∷◌, ◌<◌, ◌≤◌, [], length, replicate, slice_get, IfOk};
 ghost use Rattle.net_build.specs.Nets.{premises, conclusions};
-ghost use Rattle.net_build.specs.Faces.{present};
+ghost use Rattle.net_build.specs.Found.{present};
 ghost use Rattle.net_check.specs.Counts.{Counted, bumped, once_more};
 
 use net_build::{Net, Node};

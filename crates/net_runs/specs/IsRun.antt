@@ -4,7 +4,7 @@
 use Rattle.std.specs.Prelude.{◌≡◌, ℕ, List, Option}
 use Rattle.pcf_values.specs.declared.val.Val.{Val}
 use Rattle.net_build.specs.Nets.{NetTree}
-use Rattle.interleave_laws.specs.Runs.{Finished}
+use Rattle.interleave_laws.specs.Finished.{Finished}
 use Rattle.interleave_laws.specs.OneWorker.{one}
 use Rattle.interleave_laws.specs.Maps.{MapState, LeadsToMap}
 use Rattle.schedule_log.specs.declared.entry.Entry.{Entry}

@@ -2,7 +2,7 @@
 
 ghost use Rattle.std.specs.Prelude.{◌≡◌, ◌++◌, ℕ, List, [], ◌∷◌, codes, decimal, map, IfOk, OnOk};
 ghost use Rattle.net_build.specs.Nets.{premises, conclusions};
-ghost use Rattle.net_build.specs.Faces.{present};
+ghost use Rattle.net_build.specs.Found.{present};
 ghost use Rattle.net_build.specs.Views.{wire_of};
 ghost use Rattle.pcf_reader.specs.Printed.{ty_text};
 ghost use Rattle.net_text.specs.Listing.{kind_text, wire_line, numbers_text, name_text, numbers_of, node_line, lines_of, listing};

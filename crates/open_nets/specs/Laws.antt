@@ -5,7 +5,8 @@ use Rattle.pcf_values.specs.Terms.{TermTree, nat, var, binary, lam, size, height
 use Rattle.pcf_values.specs.Typing.{HasType}
 use Rattle.net_build.specs.declared.node.Node.TheVariants.{Const, Binary, Der, Lam, App, BoxNode, Root}
 use Rattle.net_build.specs.NetOf.{net_of}
-use Rattle.open_nets.specs.Applied.{applied, numeric, AreNumbers, closed_part, with_arguments}
+use Rattle.open_nets.specs.Applied.{applied, numeric}
+use Rattle.open_nets.specs.Arguments.{AreNumbers, closed_part, with_arguments}
 use Rattle.open_nets.specs.Numbers.{with_numbers, places}
 
 -- a function of so many numbers is a number at so many numbers

@@ -5,7 +5,7 @@ use Rattle.pcf_values.specs.Terms.{TermTree}
 use Rattle.net_build.specs.declared.node.Node.{Node}
 use Rattle.net_build.specs.Nets.{NetTree}
 use Rattle.net_build.specs.Numbers.{set_number}
-use Rattle.open_nets.specs.Applied.{closed_part}
+use Rattle.open_nets.specs.Arguments.{closed_part}
 
 -- where a number is given
 abbrev pub set_given : Option ℕ → Node → Node

@@ -1,7 +1,7 @@
 -- Which tokens may stand behind a phrase without going on with it.
 use Rattle.std.specs.Prelude.{Bool, false, not}
-use Rattle.pcf_reader.specs.Tokens.{Token, Sign, Arrow, is_sum, is_star}
-use Rattle.pcf_reader.specs.Machine.{starts_atom}
+use Rattle.pcf_reader.specs.Tokens.{Token, Sign, Arrow, is_sum}
+use Rattle.pcf_reader.specs.Machine.{starts_atom, is_star}
 
 abbrev pub ends_app : Token → Bool
 ends_app x = not (starts_atom x)

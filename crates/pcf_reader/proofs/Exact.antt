@@ -2,7 +2,7 @@
 use Rattle.std.proofs.Common.{◌≡◌, ℕ, suc, Bool, true, false, IsTrue, [], ◌∷◌, ◌++◌, refl, ap, ◌∙◌, if◌then◌else◌}
 use Rattle.std.specs.Prelude.{not}
 use Rattle.pcf_values.specs.Terms.{TyTree, nat}
-use Rattle.pcf_reader.specs.Tokens.{Token, Open, Close, Dot, Comma, Sign, Arrow, Then, Else, Before, Number, Name, End, star, is_star}
+use Rattle.pcf_reader.specs.Tokens.{Token, Open, Close, Dot, Comma, Sign, Arrow, Then, Else, Before, Number, Name, End, star}
 use Rattle.pcf_reader.specs.Grammar.{Type_, only_ptype, arrow_type, PType, only_tatom, times_type, TAtom, nat_type, paren_type, Expr}
 use Rattle.pcf_reader.specs.Grammar.{binding, choice, only_sum, Sum, only_product, summed, Product, only_app, multiplied, App, only_atom}
 use Rattle.pcf_reader.specs.Grammar.{applied, Atom, numeral, variable, parens, pairing, prefixed, type_ty, ptype_ty, tatom_ty, Part}
@@ -15,7 +15,7 @@ use Rattle.pcf_reader.specs.Machine.{product_open, app_open, atom_open, type_ope
 use Rattle.pcf_reader.specs.Machine.{want_atom, after_atom, want_name, want_colon, want_tatom, after_tatom, go, finish, starts_atom}
 use Rattle.pcf_reader.specs.Machine.{got_atom, begin_atom, after_expr, after_sum, end_product, after_product, end_app, end_type}
 use Rattle.pcf_reader.specs.Machine.{after_ptype}
-use Rattle.pcf_reader.specs.Machine.{end_ptype, after_type_atom, step}
+use Rattle.pcf_reader.specs.Machine.{end_ptype, after_type_atom, step, is_star}
 use Rattle.pcf_reader.proofs.Ends.{ends_app, ends_product, ends_sum, ends_tatom, ends_ptype}
 use Rattle.pcf_reader.proofs.Follows.{Follows, chain, Ready}
 

@@ -2,7 +2,8 @@
 use Rattle.std.proofs.Common.{◌≡◌, true, IsTrue, IsFalse, refl, ap, if◌then◌else◌}
 use Rattle.pcf_values.specs.declared.operator.Operator.{Operator}
 use Rattle.pcf_values.specs.declared.operator.Operator.TheVariants.{Plus, Minus, Times}
-use Rattle.pcf_reader.specs.Tokens.{Token, Sign, is_sum, star, is_star}
+use Rattle.pcf_reader.specs.Tokens.{Token, Sign, is_sum, star}
+use Rattle.pcf_reader.specs.Machine.{is_star}
 use Rattle.pcf_reader.specs.Printed.{op_level, right_level}
 
 -- what holds of each operator holds of all

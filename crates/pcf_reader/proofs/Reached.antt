@@ -4,7 +4,7 @@ use Rattle.std.proofs.Common.{subst, if◌then◌else◌, append_assoc}
 use Rattle.pcf_values.specs.Terms.{arrow, product}
 use Rattle.pcf_values.specs.Named.{Binder, word_at, pair_at, bind_at}
 use Rattle.pcf_reader.specs.Tokens.{Token, Open, Close, Colon, Dot, Comma, Sign, Arrow, Ifz, Then, Else, Nat, Bind, Before}
-use Rattle.pcf_reader.specs.Tokens.{Number, Name, End, is_sum, star, is_star}
+use Rattle.pcf_reader.specs.Tokens.{Number, Name, End, is_sum, star}
 use Rattle.pcf_reader.specs.Machine as machine
 use Rattle.pcf_reader.proofs.Levels.{star_is}
 use Rattle.pcf_reader.specs.Grammar.{Type_, only_ptype, arrow_type, PType, only_tatom, times_type, TAtom, nat_type, paren_type, Expr}
@@ -19,7 +19,7 @@ use Rattle.pcf_reader.specs.Machine.{TypeK, of_binder, right_of_arrow, in_type_p
 use Rattle.pcf_reader.specs.Machine.{product_open, app_open, atom_open, type_open, ptype_open, left_of, extra_of, State, want_expr}
 use Rattle.pcf_reader.specs.Machine.{want_atom, after_atom, want_name, want_colon, want_tatom, after_tatom, Step, refuse, go, finish}
 use Rattle.pcf_reader.specs.Machine.{starts_atom, got_atom, begin_atom, begin_expr, after_expr, after_sum, end_product, after_product}
-use Rattle.pcf_reader.specs.Machine.{end_app, after_app, begin_tatom, end_type, after_ptype, end_ptype, after_type_atom, step}
+use Rattle.pcf_reader.specs.Machine.{end_app, after_app, begin_tatom, end_type, after_ptype, end_ptype, after_type_atom, step, is_star}
 
 -- ws is written before the phrase that is wanted in a context
 abbrev mutual

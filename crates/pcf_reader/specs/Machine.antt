@@ -7,8 +7,14 @@ use Rattle.pcf_values.specs.declared.operator.Operator.{Operator}
 use Rattle.pcf_values.specs.Terms.{TyTree, nat, arrow, product}
 use Rattle.pcf_values.specs.Named.{Word, Binder, number_at, name_at, word_at, pair_at, bind_at}
 use Rattle.pcf_reader.specs.Tokens.{Token, Open, Close, Colon, Dot, Comma, Sign, Arrow, Ifz, Then, Else, Nat, Bind, Before}
-use Rattle.pcf_reader.specs.Tokens.{Number, Name, End, is_sum, is_star}
+use Rattle.pcf_reader.specs.Tokens.{Number, Name, End, is_sum}
 use Rattle.pcf_reader.specs.Grammar.{Part, join, binary, app_part, higher, choice_part}
+use Rattle.pcf_values.specs.declared.operator.Operator.TheVariants.{Times}
+
+-- a token is the sign between the types of a pair's parts
+abbrev pub is_star : Token → Bool
+is_star (Sign Times) = true
+is_star _ = false
 
 -- what is open around a term: around an expr, a product, an app and an atom
 mutual

@@ -38,10 +38,6 @@ is_sum Times = false
 abbrev pub star : Token
 star = Sign Times
 
-abbrev pub is_star : Token → Bool
-is_star (Sign Times) = true
-is_star _ = false
-
 pub record Placed : Type 0 where
   pub at : ℕ
   pub token : Token

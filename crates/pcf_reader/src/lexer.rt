@@ -5,7 +5,8 @@ ghost use Rattle.std.specs.Prelude.{length, ◌==◌, List, MatchOption, Some, N
 ghost use Rattle.std.specs.Str.{chars, IsUtf8};
 ghost use Rattle.std.specs.Char.{len_utf8};
 ghost use Rattle.pcf_reader.specs.Seen.{token_of};
-ghost use Rattle.pcf_reader.specs.Tokens.{is_sum, is_star};
+ghost use Rattle.pcf_reader.specs.Tokens.{is_sum};
+ghost use Rattle.pcf_reader.specs.Machine.{is_star};
 ghost use Rattle.pcf_reader.specs.Spelling.{word_of, sign_of, is_blank, is_digit, starts_name};
 ghost use Rattle.pcf_reader.specs.Lexing.{lex, idle, in_comment, in_word, in_number, closed, capped};
 ghost use Rattle.unicode_ident.specs.Ident.{is_xid_continue};

@@ -6,7 +6,7 @@ use Rattle.pcf_values.specs.Typing.{HasType}
 use Rattle.cbn_meaning.specs.Meaning.{Means}
 use Rattle.net_build.specs.Nets.{NetTree}
 use Rattle.net_build.specs.NetOf.{net_of}
-use Rattle.interleave_laws.specs.Runs.{Finished}
+use Rattle.interleave_laws.specs.Finished.{Finished}
 use Rattle.adequacy_laws.specs.Adequacy.{BuiltRuns}
 use Rattle.adequacy_laws.specs.Questions.{Length}
 use Rattle.adequacy_laws.specs.FinishedLaws.{TellsMeaning, MapFinishedMeans}
@@ -17,7 +17,8 @@ use Rattle.net_runs.specs.IsRun.{IsRun, IsFirstWorkers}
 use Rattle.program_runs.specs.Laws.{MovesTell, RunsTell}
 use Rattle.program_runs.specs.declared.calling.Calling.{Calling}
 use Rattle.program_runs.specs.Nets.{RunsAs, IsNetFor}
-use Rattle.program_runs.specs.RunsText.{meaning, run_as, net_run, Tells, IsProgramRun, RunsText}
+use Rattle.program_runs.specs.RunsText.{RunsText}
+use Rattle.program_runs.specs.Runs.{meaning, run_as, net_run, Tells, IsProgramRun}
 
 -- what a finished run tells of the term
 told : (t : TermTree) (budget : ℕ) (tickets : List ℕ) (answer : Option Val) (moves : ℕ) → length tickets ≡ moves →

@@ -7,12 +7,12 @@ use Rattle.pcf_values.specs.Named.{NamedTree}
 use Rattle.cbn_meaning.specs.Meaning.{Means}
 use Rattle.net_build.specs.NetOf.{net_of}
 use Rattle.interleave_laws.specs.Maps.{MapState, LeadsToMap}
-use Rattle.interleave_laws.specs.Runs.{Finished}
+use Rattle.interleave_laws.specs.Finished.{Finished}
 use Rattle.schedule_log.specs.declared.entry.Entry.{Entry}
 use Rattle.net_runs.specs.IsRun.{IsRun, IsFirstWorkers}
 use Rattle.program_runs.specs.declared.fault.ProgramFault.{ProgramFault}
 use Rattle.program_runs.specs.Programs.{Wanted, IsProgram, OfProgram, FaultyProgram}
-use Rattle.program_runs.specs.RunsText.{Tells, IsProgramRun}
+use Rattle.program_runs.specs.Runs.{Tells, IsProgramRun}
 
 -- a text is one program, whatever is wanted of it
 abbrev pub OneTerm : Type 0

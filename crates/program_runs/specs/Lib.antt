@@ -2,6 +2,8 @@
 --
 -- Which texts are programs that can be run or looked at, and what is the first fault of one that isn't.
 pub mod Programs
+-- What a program means and what runs for it, by name or by value; what a run says of it; and what is a run of it.
+pub mod Runs
 -- A run of a text's program: its answer, or none within the budget, with the log of its moves, and what they say of the program.
 pub mod RunsText
 -- What is always true of programs and of their runs.

@@ -8,10 +8,11 @@ use Rattle.pcf_types.specs.Checking.{type_of}
 use Rattle.cbn_meaning.specs.Meaning.{Means}
 use Rattle.net_build.specs.Nets.{NetTree}
 use Rattle.interleave_laws.specs.Maps.{MapState, LeadsToMap}
-use Rattle.interleave_laws.specs.Runs.{Runs, Finished}
+use Rattle.interleave_laws.specs.Runs.{Runs}
+use Rattle.interleave_laws.specs.Finished.{Finished}
 use Rattle.program_runs.specs.declared.calling.Calling.{Calling}
 use Rattle.program_runs.specs.Programs.{WillDo, OfProgram, wanted_by_run}
-use Rattle.program_runs.specs.RunsText.{meaning, run_as, net_run, Tells}
+use Rattle.program_runs.specs.Runs.{meaning, run_as, net_run, Tells}
 
 -- This is the net on which the term runs, which is of type `nat`, or whose translation is. The net runs, and moves on it that are finished
 -- within a budget say what the term means, in whatever order they were made.

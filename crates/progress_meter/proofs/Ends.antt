@@ -4,7 +4,8 @@ use Rattle.std.specs.Prelude.{slice_index, All}
 use Rattle.std.proofs.lemmas.List.Elements.{All-contains, Contains-push}
 use Rattle.progress_meter.specs.declared.rule.View.{View}
 use Rattle.progress_meter.specs.declared.rule.View.TheVariants.{Publishes, Reads}
-use Rattle.progress_meter.specs.Meters.{last_of, RisesFromZero, AreReadingsOf}
+use Rattle.progress_meter.specs.Meters.{RisesFromZero, AreReadingsOf}
+use Rattle.progress_meter.specs.Last.{last_of}
 use Rattle.progress_meter.specs.Rule.{published_of, settled_of, readings_of, IsWriter, IsReader}
 use Rattle.progress_meter.specs.Rule.{Loaded, Stored, Compared, with_readings, Writes, Listens}
 use Rattle.progress_meter.proofs.Lists.{last_of-push, rises-push, all_more}

@@ -7,7 +7,8 @@ use Rattle.std.proofs.lemmas.List.Elements.{All-weaker, All-contains, Contains-a
 use Rattle.std.proofs.lemmas.List.Sorted.{IsNonDecreasingBy-push, IsNonDecreasingBy-short}
 use mathlib.Core.Option.{some, some-ne-none}
 use lib.ListN.{get_elem?}
-use Rattle.progress_meter.specs.Meters.{last_of, RisesFromZero, AreReadingsOf}
+use Rattle.progress_meter.specs.Meters.{RisesFromZero, AreReadingsOf}
+use Rattle.progress_meter.specs.Last.{last_of}
 
 -- the last of a list with a number behind it is that number
 pub last_of-push : (xs : List ℕ) (n : ℕ) → last_of (xs ++ n ∷ []) ≡ n

@@ -10,7 +10,8 @@ use Rattle.crossbeam_utils.specs.Register.{Turns, Forks, Merges}
 use Rattle.atomic_table.proofs.Lists.{at_set, at_snoc, at_longer, set_again, set_here, set_else}
 use Rattle.progress_meter.specs.declared.rule.View.{View}
 use Rattle.progress_meter.specs.declared.rule.View.TheVariants.{Publishes, Reads, Spent}
-use Rattle.progress_meter.specs.Meters.{last_of, RisesFromZero, AreReadingsOf}
+use Rattle.progress_meter.specs.Meters.{RisesFromZero, AreReadingsOf}
+use Rattle.progress_meter.specs.Last.{last_of}
 use Rattle.progress_meter.specs.Rule.{new_writer, new_reader, published_of, settled_of, readings_of, IsWriter, IsReader, Fits, Kept}
 use Rattle.progress_meter.specs.Rule.{Loaded, Stored, Compared, with_readings}
 use Rattle.progress_meter.specs.Steps.{StepsKeep}

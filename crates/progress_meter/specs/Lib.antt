@@ -1,4 +1,6 @@
--- what a reader has to believe: what is seen of a writer and a reader
+-- what a reader has to believe: the last number of a list
+pub mod Last
+-- what is seen of a writer and a reader
 pub mod Meters
 -- the rule of the word, and the law that each step keeps it
 --

@@ -17,12 +17,6 @@ pub record Listener : Type 0 where
   pub meter : TableId
   pub readings : List ℕ
 
--- the last of these numbers, or 0 where there is none
-abbrev pub last_of : List ℕ → ℕ
-last_of [] = 0
-last_of (x ∷ []) = x
-last_of (x ∷ y ∷ ys) = last_of (y ∷ ys)
-
 -- the numbers begin with 0 and never go down
 pub record RisesFromZero (numbers : List ℕ) : Type 0 where
   pub some_number : 0 < length numbers

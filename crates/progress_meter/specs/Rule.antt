@@ -14,7 +14,8 @@ use Rattle.std.specs.Prelude.{◌≡◌, ℕ, ◌≤◌, List, [], ◌∷◌, �
 use mathlib.Core.Option.{some}
 use lib.ListN.{get_elem?}
 use Rattle.atomic_table.specs.Seated.{TableId}
-use Rattle.progress_meter.specs.Meters.{Publisher, Listener, last_of, RisesFromZero, AreReadingsOf}
+use Rattle.progress_meter.specs.Meters.{Publisher, Listener, RisesFromZero, AreReadingsOf}
+use Rattle.progress_meter.specs.Last.{last_of}
 use Rattle.progress_meter.specs.declared.rule.View.{View}
 use Rattle.progress_meter.specs.declared.rule.View.TheVariants.{Publishes, Reads, Spent}
 

@@ -5,7 +5,7 @@ use Rattle.std.specs.Prelude.{ℕ, ◌≤◌, [], ◌∷◌}
 use Rattle.crossbeam_utils.specs.Register.{Turns, Forks, Merges}
 use Rattle.progress_meter.specs.declared.rule.View.{View}
 use Rattle.progress_meter.specs.declared.rule.View.TheVariants.{Spent}
-use Rattle.progress_meter.specs.Meters.{last_of}
+use Rattle.progress_meter.specs.Last.{last_of}
 use Rattle.progress_meter.specs.Rule.{new_writer, new_reader, published_of, IsWriter, IsReader, Kept}
 use Rattle.progress_meter.specs.Rule.{Loaded, Stored, Compared, with_readings}
 

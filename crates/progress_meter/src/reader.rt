@@ -3,7 +3,8 @@
 ghost use Rattle.std.specs.Prelude.{◌≡◌, ◌≤◌, ◌∷◌, [], IfOk};
 ghost use Rattle.std.specs.Arc.{arc_value};
 ghost use Rattle.crossbeam_utils.specs.Seq.{cell_view};
-ghost use Rattle.progress_meter.specs.Meters.{last_of, first_listener, with_reading, RisesFromZero};
+ghost use Rattle.progress_meter.specs.Meters.{first_listener, with_reading, RisesFromZero};
+ghost use Rattle.progress_meter.specs.Last.{last_of};
 ghost use Rattle.crossbeam_utils.specs.Register.{Turns};
 ghost use Rattle.progress_meter.specs.Rule.{new_reader, Kept, Loaded};
 ghost use Rattle.progress_meter.specs.declared.rule.View.TheVariants.{Reads};

@@ -4,7 +4,8 @@ ghost use Rattle.std.specs.Prelude.{◌≡◌, ◌≤◌, ◌∷◌, [], IfOk};
 ghost use Rattle.crossbeam_utils.specs.Seq.{cell_view};
 ghost use Rattle.crossbeam_utils.specs.Register.{Turns};
 ghost use Rattle.progress_meter.specs.Rule.{Compared, IsReader, IsWriter, Kept, Stored, with_readings};
-ghost use Rattle.progress_meter.specs.Meters.{first_publisher, first_listener, last_of, with_number, with_settled, AreReadingsOf, Faithful};
+ghost use Rattle.progress_meter.specs.Meters.{first_publisher, first_listener, with_number, with_settled, AreReadingsOf, Faithful};
+ghost use Rattle.progress_meter.specs.Last.{last_of};
 
 use crate::Reader;
 use crate::rule::{Cell, Compares, End, FirstReader, Settles, Stores, WholeView};

@@ -16,7 +16,8 @@ use Rattle.interleave_laws.proofs.OneWorker.{one_leads, one_finished}
 use Rattle.adequacy_laws.specs.Questions.{Length}
 use Rattle.adequacy_laws.proofs.Lengths.{gives_asks, one_length}
 use Rattle.adequacy_laws.proofs.Agreeing.{agrees}
-use Rattle.round_laws.specs.Rounds.{live_of, rounds, round_log}
+use Rattle.round_laws.specs.Rounds.{live_of, round_log}
+use Rattle.round_laws.specs.AfterRounds.{rounds}
 use Rattle.round_laws.specs.Units.{InState, AreUnits, joined, AnyUnit, NoneIdle, IsSchedule, LeavesNoneIdle}
 use Rattle.round_laws.specs.Spans.{Span}
 use Rattle.round_laws.proofs.Rounding.{one_state, live_whole, rounds_lead, rounds_led, rounds_before, some_live}

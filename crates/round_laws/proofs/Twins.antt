@@ -14,7 +14,8 @@ use Rattle.interleave_laws.specs.Bare.{SameBare}
 use Rattle.interleave_laws.proofs.Running.{one_place, run_append}
 use Rattle.interleave_laws.proofs.Others.{others_live}
 use Rattle.interleave_laws.proofs.AnyOrder.{alike_steps}
-use Rattle.round_laws.specs.Rounds.{live_of, rounds, round_log}
+use Rattle.round_laws.specs.Rounds.{live_of, round_log}
+use Rattle.round_laws.specs.AfterRounds.{rounds}
 use Rattle.round_laws.specs.Units.{IsUnit, IsWhole, AreUnits, joined, NoneIdle, LeavesNoneIdle}
 use Rattle.round_laws.proofs.Rounding.{one_state, live_whole, rounds_lead, rounds_led, rounds_go_on, run_on, run_both, from_then}
 use Rattle.round_laws.proofs.Order.{alike_self, alike_on, member_split, once_rest, split_at, round_order}

@@ -10,7 +10,8 @@ use Rattle.net_build.specs.Example.{doubled_net}
 use Rattle.interleave_laws.specs.States.{State}
 use Rattle.interleave_laws.specs.Example.{answer_of}
 use Rattle.adequacy_laws.specs.Examples.{loops, double, sum_to, at_one_and_two}
-use Rattle.round_laws.specs.Rounds.{live_of, rounds, round_log}
+use Rattle.round_laws.specs.Rounds.{live_of, round_log}
+use Rattle.round_laws.specs.AfterRounds.{rounds}
 use Rattle.round_laws.specs.Spans.{Span}
 
 -- how many tokens are live after so many rounds

@@ -5,6 +5,8 @@ pub mod Rounds
 pub mod Units
 -- how many rounds a net's question takes, without tokens
 pub mod Spans
+-- the state after so many rounds, of which the laws speak
+pub mod AfterRounds
 -- the laws, a file for the statements of each
 -- rounds are a run, and answer as the one worker does
 pub mod RoundLaws

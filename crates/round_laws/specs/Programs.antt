@@ -5,7 +5,7 @@ use Rattle.cbn_meaning.specs.Meaning.{Means}
 use Rattle.net_build.specs.NetOf.{net_of}
 use Rattle.interleave_laws.specs.States.{State}
 use Rattle.adequacy_laws.specs.Adequacy.{OfEveryProgram}
-use Rattle.round_laws.specs.Rounds.{rounds}
+use Rattle.round_laws.specs.AfterRounds.{rounds}
 use Rattle.round_laws.specs.Spans.{Span}
 
 -- a program means a value exactly when its net has that value and a span

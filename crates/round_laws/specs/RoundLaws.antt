@@ -6,7 +6,8 @@ use Rattle.interleave_laws.specs.States.{State, run}
 use Rattle.interleave_laws.specs.Runs.{Runs, LeadsTo, InEveryState}
 use Rattle.interleave_laws.specs.Asked.{Member}
 use Rattle.interleave_laws.specs.OneWorker.{one}
-use Rattle.round_laws.specs.Rounds.{live_of, round, rounds_from, rounds, log_from, round_log}
+use Rattle.round_laws.specs.Rounds.{live_of, round, log_from, round_log}
+use Rattle.round_laws.specs.AfterRounds.{rounds_from, rounds}
 use Rattle.round_laws.specs.Units.{IsUnit, IsWhole}
 
 -- each entry is below all that follow

@@ -7,7 +7,8 @@ use Rattle.net_build.specs.Nets.{NetTree}
 use Rattle.interleave_laws.specs.States.{State}
 use Rattle.interleave_laws.specs.Runs.{Runs, LeadsTo}
 use Rattle.interleave_laws.specs.Bare.{SameBare}
-use Rattle.round_laws.specs.Rounds.{live_of, round_log, round_units, rounds}
+use Rattle.round_laws.specs.Rounds.{live_of, round_log, round_units}
+use Rattle.round_laws.specs.AfterRounds.{rounds}
 use Rattle.round_laws.specs.Units.{joined, IsSchedule, IsProcessorsSchedule, LeavesNoneIdle}
 use Rattle.round_laws.specs.Spans.{Span}
 

@@ -17,7 +17,8 @@ use Rattle.move_rules.specs.Places.{Place, TokenTree}
 use Rattle.move_rules.specs.Moves.{Move, solo, fork, join, answer, stay, move}
 use Rattle.interleave_laws.specs.Start.{start_of}
 use Rattle.interleave_laws.specs.States.{other, State, step_on, act, fork_on, last_on, join_on}
-use Rattle.interleave_laws.specs.Maps.{MapState, start_map, step_map, then_run_map, run_map, LeadsToMap, IsReachedWithin, seen, option_seen}
+use Rattle.interleave_laws.specs.Maps.{MapState, start_map, step_map, then_run_map, run_map, LeadsToMap, seen}
+use Rattle.interleave_laws.specs.MapRuns.{IsReachedWithin, option_seen}
 use Rattle.interleave_laws.specs.Tickets.{IsLive, NoneLive, IsLeastLive, NoneLiveAbove, IsNextLive}
 use Rattle.interleave_laws.proofs.Going.{the_some}
 use Rattle.interleave_laws.proofs.MapLaws.{run_both}

@@ -3,7 +3,8 @@ use Rattle.std.specs.Prelude.{◌≡◌, ◌≤◌, ◌<◌, ℕ, List, length, 
 use Rattle.net_build.specs.Nets.{NetTree}
 use Rattle.interleave_laws.specs.States.{State}
 use Rattle.interleave_laws.specs.Maps.{MapState, LeadsToMap, seen}
-use Rattle.round_laws.specs.Rounds.{rounds, round_log}
+use Rattle.round_laws.specs.Rounds.{round_log}
+use Rattle.round_laws.specs.AfterRounds.{rounds}
 use Rattle.round_runs.specs.Profiles.{profile_of, greatest}
 
 -- as many rounds as the profile is long led to the state, by these tickets, and none before them had answered

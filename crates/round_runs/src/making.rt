@@ -2,7 +2,8 @@
 
 ghost use Rattle.std.specs.Prelude.{◌≡◌, ◌≤◌, ◌<◌, ◌+◌, ◌++◌, [], ◌∷◌, length, Some, OnOk, IsTrue};
 ghost use Rattle.pcf_values.specs.Most.{most_budget};
-ghost use Rattle.interleave_laws.specs.Maps.{seen, step_map, run_map, LeadsToMap, IsReachedWithin};
+ghost use Rattle.interleave_laws.specs.Maps.{seen, step_map, run_map, LeadsToMap};
+ghost use Rattle.interleave_laws.specs.MapRuns.{IsReachedWithin};
 ghost use Rattle.interleave_laws.specs.Runs.{Runs};
 ghost use Rattle.interleave_laws.specs.Tickets.{IsLive};
 ghost use Rattle.round_laws.specs.Rounds.{live_of};

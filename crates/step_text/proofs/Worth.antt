@@ -11,7 +11,8 @@ use Rattle.pcf_values.specs.Typing.{HasType}
 use Rattle.pcf_types.specs.Resolution.{Resolves}
 use Rattle.cbn_meaning.specs.Meaning.{Means}
 use Rattle.term_steps.specs.Steps.{spelled, step}
-use Rattle.term_steps.specs.Names.{named_spelled, named_step, Agree}
+use Rattle.term_steps.specs.Names.{named_spelled, named_step}
+use Rattle.term_steps.specs.Laws.{Agree}
 use Rattle.term_steps.proofs.Agree.{step_agrees, spelled_agrees}
 use Rattle.term_steps.proofs.Ending.{spelled_means}
 use Rattle.term_steps.proofs.Keeps.{step_means}

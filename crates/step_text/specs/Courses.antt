@@ -55,7 +55,3 @@ end_text room c None = codes "stop " ++ (spaced c.steps ++ (why_text room c.last
 abbrev pub course_text : (room : ℕ) → Course → List ℕ
 course_text room c = value_text (course_value c) ++ (codes "steps " ++ (decimal c.steps ++ (codes "\n" ++
     (c.lines ++ end_text room c (course_value c)))))
-
--- the text of a term's reduction
-abbrev pub steps_text : (from most room budget : ℕ) → NamedTree → List ℕ
-steps_text from most room budget t = course_text room (course from most room budget t)

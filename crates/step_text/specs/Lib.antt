@@ -2,5 +2,7 @@
 pub mod Lines
 -- How far a reduction goes within its limits, and its text.
 pub mod Courses
+-- The text of a term's reduction.
+pub mod Texts
 -- What holds of such a text: statements over every term, each the contract of a function.
 pub mod Laws

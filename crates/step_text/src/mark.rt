@@ -5,7 +5,7 @@ ghost use Rattle.std.specs.Option.{option_map};
 ghost use Rattle.pcf_values.specs.Named.{the_part, word_at, apply_at};
 ghost use Rattle.pcf_values.specs.Views.{named_of};
 ghost use Rattle.pcf_reader.specs.Printed.{fitted, op_text, op_level, right_level, level, term_text, word_text};
-ghost use Rattle.term_steps.specs.Steps.{on_spelled};
+ghost use Rattle.term_steps.specs.Spelled.{on_spelled};
 ghost use Rattle.term_steps.specs.Names.{named_spelled};
 ghost use Rattle.term_steps.specs.Redex.{behind, inside, redex};
 

@@ -3,7 +3,8 @@
 ghost use Rattle.std.specs.Prelude.{◌≡◌, ◌++◌, ℕ, List, IfOk, OnOk, codes, decimal};
 ghost use Rattle.pcf_values.specs.Views.{named_of};
 ghost use Rattle.term_steps.specs.Names.{named_spelled};
-ghost use Rattle.step_text.specs.Courses.{course, course_value, value_text, why_text, end_text, course_text, steps_text};
+ghost use Rattle.step_text.specs.Courses.{course, course_value, value_text, why_text, end_text, course_text};
+ghost use Rattle.step_text.specs.Texts.{steps_text};
 
 use crate::course::follow;
 use crate::line::{push_spaced, push_term_line};

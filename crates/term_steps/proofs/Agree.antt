@@ -7,11 +7,13 @@ use Rattle.pcf_values.specs.Values.{val_succ, val_pred, val_op, at_zero}
 use Rattle.pcf_values.specs.Terms.{TermTree, num, succ_of, pred_of, binary, ifz, fix, app, proj}
 use Rattle.pcf_values.specs.declared.side.Side.{Side}
 use Rattle.pcf_values.specs.declared.side.Side.TheVariants.{Left, Right}
-use Rattle.pcf_values.specs.Named.{Word, the_succ, the_pred, the_part, the_fun, the_fix, NamedTree, number_at, name_at, word_at}
+use Rattle.pcf_values.specs.Named.{the_succ, the_pred, the_part, the_fun, the_fix, NamedTree, number_at, name_at, word_at}
 use Rattle.pcf_values.specs.Named.{binary_at, pair_at, ifz_at, bind_at, apply_at}
 use Rattle.pcf_types.specs.Resolution.{Resolves}
-use Rattle.term_steps.specs.Steps.{spelled, spell, on_spelled, step}
-use Rattle.term_steps.specs.Names.{named_spelled, named_spell, named_step, Agree}
+use Rattle.term_steps.specs.Steps.{spelled, spell, step}
+use Rattle.term_steps.specs.Spelled.{on_spelled}
+use Rattle.term_steps.specs.Names.{named_spelled, named_spell, named_step}
+use Rattle.term_steps.specs.Laws.{Agree}
 use Rattle.term_steps.proofs.Names.{put_once}
 
 -- the next of a tree spells what the next of its term spells

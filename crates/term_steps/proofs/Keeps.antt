@@ -12,7 +12,8 @@ use Rattle.cbn_meaning.specs.Derivations.{Ev, ev_num, ev_succ, ev_pred, ev_binar
 use Rattle.cbn_meaning.proofs.Derived.{binary_inv, ifz_inv, ev_eval, eval_ev}
 use Rattle.cbn_meaning.proofs.Same.{ev_same}
 use Rattle.cbn_meaning.proofs.Head.{beta, unfold_fix, take_part, succ_steps, pred_steps, app_steps, proj_steps}
-use Rattle.term_steps.specs.Steps.{spelled, spell, on_spelled, step}
+use Rattle.term_steps.specs.Steps.{spelled, spell, step}
+use Rattle.term_steps.specs.Spelled.{on_spelled}
 use Rattle.term_steps.proofs.Options.{from_map, from_spelled, spelled_number, spelled_overflow, next_number, succ_moves, pred_moves}
 use Rattle.term_steps.proofs.Options.{app_moves, proj_moves, moving_unspelled}
 

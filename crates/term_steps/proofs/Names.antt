@@ -13,7 +13,6 @@ use Rattle.pcf_types.specs.Resolution.{Binds, word_term, binder_term, Resolves}
 use Rattle.cbn_meaning.specs.Substitution.{replaced, subst_at}
 use Rattle.cbn_meaning.proofs.Close.{replaced_below, replaced_here}
 use Rattle.term_steps.specs.Names.{put}
-use Rattle.pcf_values.specs.declared.side.Side.TheVariants.{Left, Right}
 
 -- where an index points in a list with one more at its end
 get_front : {A : Type 0} (s g : List A) (j : ℕ) → j < length s → slice_get (s ++ g) j ≡ slice_get s j

@@ -6,7 +6,8 @@ use Rattle.pcf_values.specs.declared.val.Val.TheVariants.{Number, Overflow}
 use Rattle.pcf_values.specs.Values.{val_succ}
 use Rattle.pcf_values.specs.Terms.{TermTree, num, succ_of, pred_of, lam, app, pair, proj}
 use Rattle.pcf_values.specs.declared.side.Side.{Side}
-use Rattle.term_steps.specs.Steps.{past, spelled, spell, on_spelled, step, on_term}
+use Rattle.term_steps.specs.Steps.{spelled, spell, step, on_term}
+use Rattle.term_steps.specs.Spelled.{past, on_spelled}
 
 pub from_map : {A : Type 0} (f : A → A) (o : Option A) (n : A) → option_map f o ≡ Some n → (b : A) × (o ≡ Some b) × (f b ≡ n)
 from_map f None n h = cc

@@ -5,7 +5,8 @@ use Rattle.pcf_values.specs.declared.val.Val.{Val}
 use Rattle.pcf_values.specs.Values.{val_succ, val_pred, val_op, at_zero}
 use Rattle.pcf_values.specs.declared.operator.Operator.{Operator}
 use Rattle.pcf_values.specs.Terms.{TermTree, num, var, succ_of, pred_of, binary, ifz, lam, fix, app, pair, proj}
-use Rattle.term_steps.specs.Steps.{spelled, spell, on_spelled, step}
+use Rattle.term_steps.specs.Steps.{spelled, spell, step}
+use Rattle.term_steps.specs.Spelled.{on_spelled}
 use Rattle.term_steps.specs.Rules.{Reduces, by_fix, by_fun, by_part, by_succ, by_pred, by_op, by_ifz, in_succ, in_pred, in_left, in_right}
 use Rattle.term_steps.specs.Rules.{in_test, in_app, in_proj}
 use Rattle.term_steps.proofs.Keeps.{some_same}

@@ -6,9 +6,10 @@ use Rattle.pcf_values.specs.declared.val.Val.{Val}
 use Rattle.pcf_values.specs.Named.{the_succ, the_pred, the_part, the_fun, the_fix, NamedTree, number_at, name_at, word_at}
 use Rattle.pcf_values.specs.Named.{binary_at, pair_at, ifz_at, bind_at, apply_at}
 use Rattle.pcf_reader.specs.Printed.{fitted, word_text, op_text, op_level, right_level, level, term_text}
-use Rattle.term_steps.specs.Steps.{on_spelled}
+use Rattle.term_steps.specs.Spelled.{on_spelled}
 use Rattle.term_steps.specs.Names.{named_spelled}
-use Rattle.term_steps.specs.Redex.{behind, inside, redex, StandsBehind, Shows}
+use Rattle.term_steps.specs.Redex.{behind, inside, redex}
+use Rattle.term_steps.specs.Laws.{StandsBehind, Shows}
 use Rattle.pcf_values.specs.declared.side.Side.TheVariants.{Left, Right}
 
 here : (x : List ℕ) → StandsBehind [] x x

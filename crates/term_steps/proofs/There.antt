@@ -4,11 +4,10 @@ use Rattle.std.specs.Prelude.{is_some, nat_le, codes, ◌++◌}
 use Rattle.std.specs.Option.{option_map}
 use Rattle.pcf_values.specs.declared.val.Val.{Val}
 use Rattle.pcf_values.specs.Values.{val_succ, val_pred, val_op, at_zero}
-use Rattle.pcf_values.specs.Terms.{at_side}
 use Rattle.pcf_values.specs.Named.{the_succ, the_pred, the_part, the_fun, the_fix, NamedTree, number_at, name_at, word_at}
 use Rattle.pcf_values.specs.Named.{binary_at, pair_at, ifz_at, bind_at, apply_at}
 use Rattle.pcf_reader.specs.Printed.{fitted, word_text, op_text, op_level, right_level, level, term_text}
-use Rattle.term_steps.specs.Steps.{on_spelled}
+use Rattle.term_steps.specs.Spelled.{on_spelled}
 use Rattle.term_steps.specs.Names.{named_spelled, named_spell, named_step}
 use Rattle.term_steps.specs.Redex.{behind, inside, redex}
 

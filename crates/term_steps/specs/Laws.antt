@@ -1,5 +1,5 @@
 -- What the steps are worth: statements over every term, each the contract of a function.
-use Rattle.std.specs.Prelude.{◌≡◌, ◌↔◌, ◌⊎◌, ℕ, [], Some, None, is_some}
+use Rattle.std.specs.Prelude.{◌≡◌, ◌↔◌, ◌⊎◌, ℕ, [], Some, None, is_some, Option, List, ◌++◌}
 use Rattle.pcf_values.specs.declared.val.Val.{Val}
 use Rattle.pcf_values.specs.Terms.{TyTree, nat, TermTree}
 use Rattle.pcf_values.specs.Typing.{HasType}
@@ -10,8 +10,8 @@ use Rattle.pcf_types.specs.Resolution.{Resolves}
 use Rattle.term_steps.specs.Steps.{spelled, spell, step, steps, Ends}
 use Rattle.term_steps.specs.Rules.{Reduces}
 use Rattle.pcf_reader.specs.Printed.{term_text}
-use Rattle.term_steps.specs.Redex.{redex, Shows}
-use Rattle.term_steps.specs.Names.{named_spelled, named_step, Agree}
+use Rattle.term_steps.specs.Redex.{redex}
+use Rattle.term_steps.specs.Names.{named_spelled, named_step}
 
 -- a step keeps the values that the term means
 abbrev pub StepKeepsMeaning : Type 0
@@ -43,6 +43,13 @@ pub record OverflowSpelled : Type 0 where
   pub meant : (m : TermTree) (v : Val) → spelled m ≡ Some v → Means m v
   pub stays : (m : TermTree) (v : Val) → spelled m ≡ Some v → step m ≡ None
 
+-- neither, or both and the tree stands for the term
+abbrev pub Agree : Option NamedTree → Option TermTree → Type 0
+Agree None None = Unit {0}
+Agree (Some t) (Some m) = Resolves [] t m
+Agree None (Some m) = ⊥
+Agree (Some t) None = ⊥
+
 -- The step of a closed tree stands for the step of the term that the tree stands for, and there is none where that one has none; both
 -- spell the same value.
 abbrev pub NamesAgree : Type 0
@@ -55,6 +62,15 @@ RulesAreStep = (m n : TermTree) → Reduces m n ↔ (step m ≡ Some n)
 -- a term is rewritten in one way at most
 abbrev pub OneWay : Type 0
 OneWay = (m n p : TermTree) → Reduces m n → Reduces m p → n ≡ p
+
+-- the text x stands in the text y behind the text z
+abbrev pub StandsBehind : List ℕ → List ℕ → List ℕ → Type 0
+StandsBehind z x y = (after : List ℕ) × (y ≡ z ++ (x ++ after))
+
+-- the part's own spelling stands there
+abbrev pub Shows : Option (List ℕ × NamedTree) → List ℕ → Type 0
+Shows None y = Unit {0}
+Shows (Some r) y = StandsBehind r.0 (term_text r.1) y
 
 -- the spelling of the part that is rewritten next stands in the spelling of the whole, behind the text that is told
 abbrev pub RedexShown : Type 0

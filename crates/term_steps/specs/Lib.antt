@@ -1,4 +1,8 @@
 -- In the order to read it: the step and the sequence of steps, and the laws.
+--
+-- What a step does with the values that terms spell.
+pub mod Spelled
+-- Call by name, one step after the other, and the sequence of steps.
 pub mod Steps
 -- The same step as rules of inference, as a book on semantics writes them: what is rewritten, and where.
 pub mod Rules

@@ -1,17 +1,16 @@
 -- The step on terms with names, as they are read and printed. It is the step of the term with indexes that the tree stands for
 -- (`NamesAgree` in `Laws`), and it keeps each name that was written: what is put is closed, so that no binder can catch a name of it.
 -- A node that was written keeps its place in the text, wherever it comes to stand; what is computed stands where its operation stood.
-use Rattle.std.specs.Prelude.{ℕ, ◌-◌, ◌^◌, List, [], Option, Some, None, if◌then◌else◌}
+use Rattle.std.specs.Prelude.{ℕ, ◌-◌, ◌^◌, List, Option, Some, None, if◌then◌else◌}
 use Rattle.std.specs.Option.{option_map}
 use Rattle.std.specs.Str.{bytes_eq}
 use Rattle.pcf_values.specs.declared.val.Val.{Val}
 use Rattle.pcf_values.specs.declared.val.Val.TheVariants.{Number, Overflow}
 use Rattle.pcf_values.specs.Values.{val_succ, val_pred, val_op, at_zero}
-use Rattle.pcf_values.specs.Terms.{at_side, TermTree}
+use Rattle.pcf_values.specs.Terms.{at_side}
 use Rattle.pcf_values.specs.Named.{the_succ, the_pred, the_part, the_fun, the_fix, NamedTree, number_at, name_at, word_at}
 use Rattle.pcf_values.specs.Named.{binary_at, pair_at, ifz_at, bind_at, apply_at}
-use Rattle.pcf_types.specs.Resolution.{Resolves}
-use Rattle.term_steps.specs.Steps.{past, on_spelled}
+use Rattle.term_steps.specs.Spelled.{past, on_spelled}
 
 -- the value that the tree spells
 abbrev pub named_spelled : NamedTree → Option Val
@@ -54,10 +53,3 @@ named_step (bind_at at the_fun x t m) = None
 named_step (bind_at at the_fix x t m) = Some (put x (bind_at at the_fix x t m) m)
 named_step (apply_at at (bind_at _ the_fun x t m) a) = Some (put x a m)
 named_step (apply_at at f a) = option_map (λ g. apply_at at g a) (named_step f)
-
--- neither, or both and the tree stands for the term
-abbrev pub Agree : Option NamedTree → Option TermTree → Type 0
-Agree None None = Unit {0}
-Agree (Some t) (Some m) = Resolves [] t m
-Agree None (Some m) = ⊥
-Agree (Some t) None = ⊥

@@ -1,9 +1,9 @@
 -- The part that is rewritten next, and where it begins in the printed term: behind which of its bytes.
-use Rattle.std.specs.Prelude.{◌≡◌, ℕ, nat_le, List, [], ◌++◌, codes, Option, Some, None, if◌then◌else◌}
+use Rattle.std.specs.Prelude.{ℕ, nat_le, List, [], ◌++◌, codes, Option, Some, None, if◌then◌else◌}
 use Rattle.pcf_values.specs.Named.{the_succ, the_pred, the_part, the_fun, the_fix, NamedTree, number_at, name_at, word_at}
 use Rattle.pcf_values.specs.Named.{binary_at, pair_at, ifz_at, bind_at, apply_at}
 use Rattle.pcf_reader.specs.Printed.{fitted, word_text, op_text, op_level, right_level, level, term_text}
-use Rattle.term_steps.specs.Steps.{on_spelled}
+use Rattle.term_steps.specs.Spelled.{on_spelled}
 use Rattle.term_steps.specs.Names.{named_spelled}
 
 -- with this text in front
@@ -35,12 +35,3 @@ redex (bind_at at the_fun x t m) = None
 redex (bind_at at the_fix x t m) = Some ([], bind_at at the_fix x t m)
 redex (apply_at at (bind_at i the_fun x t m) a) = Some ([], apply_at at (bind_at i the_fun x t m) a)
 redex (apply_at at f a) = inside 1 (level f) (redex f)
-
--- the text x stands in the text y behind the text z
-abbrev pub StandsBehind : List ℕ → List ℕ → List ℕ → Type 0
-StandsBehind z x y = (after : List ℕ) × (y ≡ z ++ (x ++ after))
-
--- the part's own spelling stands there
-abbrev pub Shows : Option (List ℕ × NamedTree) → List ℕ → Type 0
-Shows None y = Unit {0}
-Shows (Some r) y = StandsBehind r.0 (term_text r.1) y

@@ -9,7 +9,7 @@ ghost use Rattle.pcf_values.specs.Named.{the_succ, the_pred, the_part, the_fun, 
 ghost use Rattle.pcf_values.specs.Named.{name_at};
 ghost use Rattle.pcf_values.specs.Views.{named_of, ty_of};
 ghost use Rattle.term_steps.specs.Names.{named_spelled, named_spell, put, named_step};
-ghost use Rattle.term_steps.specs.Steps.{on_spelled};
+ghost use Rattle.term_steps.specs.Spelled.{on_spelled};
 
 use pcf_values::{Ident, Named, Operator, Raw, Side, Val};
 use std::alloc::{AllocError, Global};

@@ -8,7 +8,8 @@ use Rattle.std.proofs.lemmas.List.{length-map}
 use Rattle.net_build.specs.Nets.{NetTree}
 use Rattle.move_rules.specs.Places.{TokenTree}
 use Rattle.interleave_laws.specs.Start.{start_of}
-use Rattle.interleave_laws.specs.Maps.{MapState, start_map, step_map, IsReachedWithin}
+use Rattle.interleave_laws.specs.Maps.{MapState, start_map, step_map}
+use Rattle.interleave_laws.specs.MapRuns.{IsReachedWithin}
 use Rattle.interleave_laws.proofs.MapLaws.{step_reached, more_reached, run_both}
 use Rattle.branch_laws.specs.Branches.{name}
 use Rattle.branch_laws.specs.Laws.{Occurs}

@@ -8,7 +8,7 @@
 ghost use Rattle.std.specs.Prelude.{◌≡◌, ◌+◌, ◌<◌, ◌≤◌, ℕ, length, IfOk, OnOk};
 ghost use Rattle.std.specs.Option.{MatchOption};
 ghost use Rattle.interleave_laws.specs.Runs.{Runs};
-ghost use Rattle.interleave_laws.specs.Maps.{IsReachedWithin};
+ghost use Rattle.interleave_laws.specs.MapRuns.{IsReachedWithin};
 
 use branch_runs::{NamedNet, OnNet, Run, Seed, Tickets, branch_of, graft, name_of};
 use interleave_core::Core;

@@ -1,7 +1,7 @@
 //! The report of a run in which the finisher booked a move, which no call from outside can ask for.
 
 ghost use Rattle.std.specs.Prelude.{IfOk};
-ghost use Rattle.goi_reports.specs.Tallies.{BookedWithin};
+ghost use Rattle.goi_reports.specs.Booked.{BookedWithin};
 
 use goi_reports::run_report;
 use pcf_values::Val;

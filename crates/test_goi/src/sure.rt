@@ -2,7 +2,7 @@
 
 ghost use Rattle.std.specs.Prelude.{◌≡◌, ◌≢◌, ◌≤◌, ◌∷◌, [], ℕ, Bool, IsTrue, List, Some, false, map, string_bytes};
 ghost use Rattle.goi_world.specs.FilesInMemory.{lacked_by};
-ghost use Rattle.goi_world.specs.Outside.{none_listed};
+ghost use Rattle.goi_world.specs.Failing.{none_listed};
 ghost use Rattle.goi_world.specs.SinkInMemory.{sure_room};
 ghost use Rattle.goi_words.specs.Asked.{job};
 ghost use Rattle.goi_jobs.specs.Jobs.{run};

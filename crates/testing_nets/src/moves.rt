@@ -2,7 +2,7 @@
 
 ghost use Rattle.std.specs.Prelude.{◌+◌, ◌<◌, OnOk};
 ghost use Rattle.interleave_laws.specs.Runs.{Runs};
-ghost use Rattle.interleave_laws.specs.Maps.{IsReachedWithin};
+ghost use Rattle.interleave_laws.specs.MapRuns.{IsReachedWithin};
 
 use interleave_core::{Core, Stepped};
 use net_build::Net;

@@ -8,7 +8,8 @@ use Rattle.interleave_laws.specs.Start.{start_of}
 use Rattle.interleave_laws.specs.States.{State, step, start, run}
 use Rattle.interleave_laws.specs.Runs.{Runs}
 use Rattle.interleave_laws.specs.OneWorker.{least_live, on_step, on_least, one_from, one}
-use Rattle.interleave_laws.specs.Maps.{MapState, start_map, step_map, then_run_map, LeadsToMap, IsReachedWithin, seen, option_seen}
+use Rattle.interleave_laws.specs.Maps.{MapState, start_map, step_map, then_run_map, LeadsToMap, seen}
+use Rattle.interleave_laws.specs.MapRuns.{IsReachedWithin, option_seen}
 use Rattle.interleave_laws.specs.Tickets.{NoneLive, IsLeastLive}
 use Rattle.interleave_laws.proofs.Seen.{step_seen}
 use Rattle.interleave_laws.proofs.MapLaws.{seen_leads, run_both}

@@ -12,8 +12,10 @@ use Rattle.net_build.specs.Nets.{NetTree}
 use Rattle.move_rules.specs.Places.{TokenTree}
 use Rattle.interleave_laws.specs.Start.{start_of}
 use Rattle.interleave_laws.specs.Runs.{Runs}
-use Rattle.interleave_laws.specs.OneWorker.{one, IsOneWorkers, Least}
-use Rattle.interleave_laws.specs.Maps.{MapState, start_map, step_map, step_map_on, run_map, then_run_map, LeadsToMap, seen, option_seen}
+use Rattle.interleave_laws.specs.OneWorker.{one}
+use Rattle.interleave_laws.specs.OneWorkerLaws.{IsOneWorkers, Least}
+use Rattle.interleave_laws.specs.Maps.{MapState, start_map, step_map, step_map_on, run_map, then_run_map, LeadsToMap, seen}
+use Rattle.interleave_laws.specs.MapRuns.{option_seen}
 use Rattle.interleave_laws.specs.Tickets.{IsLive}
 use Rattle.interleave_laws.proofs.Seen.{step_seen}
 use Rattle.interleave_laws.proofs.MapLaws.{seen_leads, map_others, run_both}

@@ -8,7 +8,8 @@ use Rattle.move_rules.specs.Walks.{Passage}
 use Rattle.net_build.specs.Nets.{NetTree}
 use Rattle.interleave_laws.specs.Start.{start_of}
 use Rattle.interleave_laws.specs.Runs.{Runs}
-use Rattle.interleave_laws.specs.Maps.{MapState, start_map, run_map, IsReachedWithin}
+use Rattle.interleave_laws.specs.Maps.{MapState, start_map, run_map}
+use Rattle.interleave_laws.specs.MapRuns.{IsReachedWithin}
 use Rattle.interleave_laws.proofs.MapLaws.{map_low}
 use Rattle.interleave_laws.proofs.Going.{the_some}
 use Rattle.schedule_log.specs.declared.entry.Entry.{Entry}

@@ -8,7 +8,8 @@ use Rattle.std.specs.FinMap.{get}
 use Rattle.pcf_values.specs.Most.{most_budget}
 use Rattle.token_stacks.specs.Words.{work_words, box_words}
 use Rattle.net_build.specs.Nets.{NetTree}
-use Rattle.move_rules.specs.Places.{TokenTree, place_of, work_at, boxes_at}
+use Rattle.move_rules.specs.Places.{TokenTree, place_of}
+use Rattle.move_rules.specs.Stacks.{work_at, boxes_at}
 use Rattle.move_rules.specs.Views.{token_of}
 use Rattle.interleave_laws.specs.Maps.{MapState, run_map}
 use Rattle.branch_laws.specs.Branches.{name}

@@ -3,7 +3,7 @@
 -- moves are written down for the number of workers, which is no worker's.
 use Rattle.std.specs.Prelude.{◌≡◌, ◌-◌, ℕ, List, ◌++◌, length}
 use Rattle.net_build.specs.Nets.{NetTree}
-use Rattle.interleave_laws.specs.Runs.{Finished}
+use Rattle.interleave_laws.specs.Finished.{Finished}
 use Rattle.interleave_laws.specs.OneWorker.{one_from, one}
 use Rattle.interleave_laws.specs.Maps.{MapState, LeadsToMap, seen}
 use Rattle.schedule_log.specs.declared.entry.Entry.{Entry}

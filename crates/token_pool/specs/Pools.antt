@@ -8,7 +8,7 @@ use Rattle.pcf_values.specs.Most.{most_budget, most_workers}
 use Rattle.net_build.specs.Nets.{NetTree}
 use Rattle.interleave_laws.specs.Start.{start_of}
 use Rattle.interleave_laws.specs.Runs.{Runs}
-use Rattle.interleave_laws.specs.OneWorker.{IsOneWorkers}
+use Rattle.interleave_laws.specs.OneWorkerLaws.{IsOneWorkers}
 use Rattle.interleave_laws.specs.Maps.{MapState, start_map, LeadsToMap}
 use Rattle.interleave_laws.specs.Tickets.{IsLive, IsLeastLive}
 use Rattle.schedule_log.specs.declared.entry.Entry.{Entry}

@@ -4,7 +4,8 @@ ghost use Rattle.std.specs.Prelude.{◌≡◌, ◌<◌, ◌≤◌, ◌+◌, repl
 ghost use Rattle.pcf_values.specs.Most.{most_budget};
 ghost use Rattle.interleave_laws.specs.Runs.{Runs};
 ghost use Rattle.interleave_laws.specs.Tickets.{IsLive};
-ghost use Rattle.interleave_laws.specs.Maps.{run_map, IsReachedWithin};
+ghost use Rattle.interleave_laws.specs.Maps.{run_map};
+ghost use Rattle.interleave_laws.specs.MapRuns.{IsReachedWithin};
 ghost use Rattle.interleave_core.specs.Adopting.{Accepts};
 ghost use Rattle.schedule_log.specs.LogsSeen.{with_entries};
 ghost use Rattle.token_pool.specs.Booking.{Moves, moves_of};

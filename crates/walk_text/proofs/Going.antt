@@ -11,7 +11,8 @@ use Rattle.interleave_laws.proofs.MapLaws.{seen_leads}
 use Rattle.schedule_log.specs.declared.entry.Entry.{Entry}
 use Rattle.schedule_log.specs.Logs.{tickets_in_log}
 use Rattle.walk_text.specs.Lines.{move_line}
-use Rattle.walk_text.specs.Traces.{on_state, lines_from, move_lines, head_text, window_at}
+use Rattle.walk_text.specs.Traces.{on_state, lines_from, head_text, window_at}
+use Rattle.walk_text.specs.Whole.{move_lines}
 use Rattle.walk_text.specs.Laws.{LineIsState, LineForEach, WindowIsPart}
 
 lines_at : (net : NetTree) (S : State) (k j : ℕ) (es : List Entry) → k ≡ j → lines_from net S k es ≡ lines_from net S j es

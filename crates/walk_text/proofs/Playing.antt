@@ -12,14 +12,16 @@ use Rattle.interleave_laws.specs.Start.{start_of}
 use Rattle.interleave_laws.specs.Runs.{Runs}
 use Rattle.interleave_laws.proofs.MapLaws.{map_low}
 use Rattle.interleave_laws.specs.Tickets.{IsLive}
-use Rattle.interleave_laws.specs.Maps.{MapState, start_map, step_map, step_map_on, run_map, then_run_map, LeadsToMap, IsReachedWithin}
-use Rattle.interleave_laws.specs.Maps.{seen, option_seen}
+use Rattle.interleave_laws.specs.Maps.{MapState, start_map, step_map, step_map_on, run_map, then_run_map, LeadsToMap}
+use Rattle.interleave_laws.specs.MapRuns.{IsReachedWithin, option_seen}
+use Rattle.interleave_laws.specs.Maps.{seen}
 use Rattle.interleave_laws.proofs.Seen.{step_seen}
 use Rattle.schedule_log.specs.declared.entry.Entry.{Entry}
 use Rattle.schedule_log.specs.Logs.{tickets_in_log}
 use Rattle.schedule_log.proofs.Taken.{tickets_split, tickets_more}
 use Rattle.walk_text.specs.Lines.{move_line}
-use Rattle.walk_text.specs.Traces.{LeadsSomewhere, on_state, lines_from}
+use Rattle.walk_text.specs.Traces.{on_state, lines_from}
+use Rattle.walk_text.specs.Whole.{LeadsSomewhere}
 
 -- ---- steps
 

@@ -14,7 +14,8 @@ use Rattle.interleave_laws.specs.Maps.{MapState, LeadsToMap}
 use Rattle.schedule_log.specs.declared.entry.Entry.{Entry}
 use Rattle.schedule_log.specs.Logs.{tickets_in_log}
 use Rattle.walk_text.specs.Lines.{val_text, token_text, came, line_text, move_line}
-use Rattle.walk_text.specs.Traces.{head_text, move_lines, trace_text}
+use Rattle.walk_text.specs.Traces.{head_text, trace_text}
+use Rattle.walk_text.specs.Whole.{move_lines}
 
 -- The lines have this one behind so many others.
 pub record HasLine (lines : List (List ℕ)) (k : ℕ) (line : List ℕ) : Type 0 where

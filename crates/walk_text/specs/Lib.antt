@@ -7,6 +7,8 @@ pub mod Ports
 pub mod Lines
 -- The trace of a log on a net: the tokens that are live and the entries that are open where it begins, a line for each move, and `end`.
 pub mod Traces
+-- the lines of a whole log, of which the laws speak, and which logs lead to a state
+pub mod Whole
 -- the laws, and whole traces
 --
 -- What holds of traces.

@@ -10,8 +10,8 @@ use Rattle.token_stacks.specs.Texts.{key_text}
 use Rattle.fork_join.specs.Entries.{Entry, pending, has_left, has_right, Key}
 use Rattle.move_rules.specs.Places.{TokenTree}
 use Rattle.interleave_laws.specs.Start.{start_of}
-use Rattle.interleave_laws.specs.States.{Tokens, State, start, step}
-use Rattle.interleave_laws.specs.Maps.{MapState, start_map, run_map, LeadsToMap, seen}
+use Rattle.interleave_laws.specs.States.{Tokens, State, step}
+use Rattle.interleave_laws.specs.Maps.{MapState, start_map, run_map, seen}
 use Rattle.schedule_log.specs.declared.entry.Entry.{Entry as Moved}
 use Rattle.schedule_log.specs.Logs.{tickets_in_log}
 use Rattle.walk_text.specs.Lines.{then_word, val_text, token_text, move_line}
@@ -27,10 +27,6 @@ on_state (Some S) f = f S
 abbrev pub lines_from : NetTree → State → ℕ → List Moved → List (List ℕ)
 lines_from net S k [] = []
 lines_from net S k (e ∷ es) = move_line net S k e.worker e.ticket ∷ on_state (step net S e.ticket) (λ T. lines_from net T (suc k) es)
-
--- the lines of the moves of a log, from the net's start
-abbrev pub move_lines : NetTree → List Moved → List (List ℕ)
-move_lines net log = lines_from net (start (start_of net)) 0 log
 
 -- ---- where a trace begins
 
@@ -67,10 +63,6 @@ head_text S = live_lines (seen S).tokens 0 S.next ++ open_lines (map.entries S.e
 -- the state to which a log leads, if it leads to one
 abbrev pub state_at : NetTree → List Moved → Option MapState
 state_at net log = run_map net (start_map (start_of net)) (tickets_in_log log)
-
--- the log leads to a state
-abbrev pub LeadsSomewhere : NetTree → List Moved → Type 0
-LeadsSomewhere net log = (S : MapState) × LeadsToMap net (tickets_in_log log) S
 
 -- what is told from a state on, of these moves, of which the first is entry k
 abbrev pub window_text : NetTree → MapState → ℕ → List Moved → List ℕ

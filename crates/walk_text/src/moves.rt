@@ -7,7 +7,8 @@ ghost use Rattle.interleave_laws.specs.Runs.{Runs};
 ghost use Rattle.interleave_laws.specs.Maps.{LeadsToMap, seen, start_map};
 ghost use Rattle.interleave_laws.specs.Start.{start_of};
 ghost use Rattle.schedule_log.specs.Logs.{tickets_in_log};
-ghost use Rattle.walk_text.specs.Traces.{LeadsSomewhere, lines_from};
+ghost use Rattle.walk_text.specs.Traces.{lines_from};
+ghost use Rattle.walk_text.specs.Whole.{LeadsSomewhere};
 
 use crate::line::{Shown, push_move};
 use interleave_core::Core;

@@ -5,7 +5,8 @@ ghost use Rattle.pcf_values.specs.Most.{most_moves};
 ghost use Rattle.interleave_laws.specs.Runs.{Runs};
 ghost use Rattle.interleave_laws.specs.Maps.{LeadsToMap};
 ghost use Rattle.schedule_log.specs.Logs.{tickets_in_log};
-ghost use Rattle.walk_text.specs.Traces.{LeadsSomewhere, window_text, trace_text};
+ghost use Rattle.walk_text.specs.Traces.{window_text, trace_text};
+ghost use Rattle.walk_text.specs.Whole.{LeadsSomewhere};
 
 use crate::head::push_head;
 use crate::moves::{push_moves, run_to};

@@ -1,6 +1,6 @@
 use Rattle.std.proofs.Common.{◌∙◌, ap}
 use Rattle.std.proofs.lemmas.Result.{IfOk-weaker}
-use Rattle.demo_text.specs.Demo.{doubled}
+use Rattle.demo_text.specs.Text.{doubled}
 use Rattle.demo_text.proofs.Steps.{next_sum}
 use Rattle.demo_text.proofs.text.+sum_text.Goals as goal
 

@@ -1,5 +1,5 @@
 use Rattle.std.proofs.Common.{Bool, sym, subst}
-use Rattle.goi_tasks.specs.Notes.{NumbersOf}
+use Rattle.goi_tasks.specs.Parts.{NumbersOf}
 use Rattle.goi_c.proofs.Found.{found}
 use Rattle.goi_c.proofs.finding.find_for.Goals as goal
 

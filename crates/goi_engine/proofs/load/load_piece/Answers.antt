@@ -1,5 +1,5 @@
 use Rattle.std.proofs.Common.{◌≡◌, ℕ, length, IfSome, subst, arith}
-use Rattle.goi_world.specs.Outside.{IsPiece}
+use Rattle.goi_world.specs.Told.{IsPiece}
 use Rattle.goi_engine.proofs.Loading.{loads}
 use Rattle.goi_engine.proofs.load.load_piece.Goals as goal
 

@@ -1,6 +1,6 @@
 use Rattle.program_runs.specs.declared.calling.Calling.TheVariants.{ByName}
 use Rattle.program_runs.specs.Nets.{RunsAs}
-use Rattle.goi_tasks.specs.Outputs.{output_of}
+use Rattle.goi_tasks.specs.Seen.{output_of}
 use Rattle.goi_tasks.specs.RunReports.{ReportsRun}
 use Rattle.goi_tasks.proofs.Functions.{of_function, no_function}
 use Rattle.goi_tasks.proofs.calling.report_call.Goals as goal

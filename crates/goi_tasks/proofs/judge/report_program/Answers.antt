@@ -1,4 +1,4 @@
-use Rattle.goi_tasks.specs.Outputs.{output_of}
+use Rattle.goi_tasks.specs.Seen.{output_of}
 use Rattle.goi_tasks.specs.RunReports.{ReportsRun}
 use Rattle.program_runs.specs.Programs.{wanted_by_run}
 use Rattle.goi_tasks.proofs.Texts.{no_net, of_net}

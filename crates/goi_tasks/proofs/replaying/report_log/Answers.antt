@@ -1,5 +1,5 @@
 use Rattle.schedule_log.specs.Logs.{tickets_in_log}
-use Rattle.goi_tasks.specs.Replaying.{FaultyReplay}
+use Rattle.goi_tasks.specs.Parts.{FaultyReplay}
 use Rattle.goi_tasks.proofs.Replayed.{leads_of, replayed, stops_by, stops_unmoved}
 use Rattle.goi_tasks.proofs.replaying.report_log.Goals as goal
 

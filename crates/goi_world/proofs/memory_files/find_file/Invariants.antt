@@ -1,6 +1,5 @@
 use Rattle.std.proofs.Common.{◌≡◌, length}
-use Rattle.goi_world.specs.Outside.{bytes_of}
-use Rattle.goi_world.specs.FilesInMemory.{files_of}
+use Rattle.goi_world.specs.FilesInMemory.{files_of, bytes_of}
 use Rattle.goi_world.proofs.memory_files.find_file.Given as goal
 
 abbrev pub invariant-loop-rest : goal.invariant-loop-rest

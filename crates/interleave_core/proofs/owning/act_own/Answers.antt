@@ -1,7 +1,7 @@
 use Rattle.std.proofs.Common.{rules}
 use Rattle.std.proofs.Common.{refl, subst}
 use Rattle.move_rules.specs.Places.{place_of}
-use Rattle.move_rules.specs.Places.{boxes_at}
+use Rattle.move_rules.specs.Stacks.{boxes_at}
 use Rattle.interleave_core.specs.Roles.{MetAt}
 use Rattle.interleave_core.proofs.owning.act_own.Goals as goal
 

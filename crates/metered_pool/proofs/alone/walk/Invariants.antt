@@ -1,5 +1,5 @@
 use Rattle.std.specs.Prelude.{◌≡◌, ◌-◌, ◌≤◌, length}
-use Rattle.progress_meter.specs.Meters.{last_of}
+use Rattle.progress_meter.specs.Last.{last_of}
 use Rattle.metered_pool.specs.Walking.{Walked}
 use Rattle.metered_pool.proofs.alone.walk.Given as goal
 

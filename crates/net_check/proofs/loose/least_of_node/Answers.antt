@@ -1,5 +1,5 @@
 use Rattle.std.proofs.Common.{ap, ◌∙◌, [], ◌∷◌}
-use Rattle.net_build.specs.Faces.{present}
+use Rattle.net_build.specs.Found.{present}
 use Rattle.net_build.specs.Nets.{conclusions}
 use Rattle.net_check.specs.Counts.{lesser_of}
 use Rattle.net_check.proofs.Counting.{lesser_two, lesser_three}

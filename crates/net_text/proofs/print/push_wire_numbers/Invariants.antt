@@ -1,5 +1,5 @@
 use Rattle.std.proofs.Common.{◌≡◌, ◌++◌, length}
-use Rattle.net_build.specs.Faces.{present}
+use Rattle.net_build.specs.Found.{present}
 use Rattle.net_text.specs.Listing.{numbers_text}
 use Rattle.net_text.proofs.print.push_wire_numbers.Given as goal
 

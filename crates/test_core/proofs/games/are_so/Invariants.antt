@@ -1,5 +1,5 @@
 use Rattle.std.proofs.Common.{◌+◌, ◌≤◌}
-use Rattle.interleave_laws.specs.Maps.{IsReachedWithin}
+use Rattle.interleave_laws.specs.MapRuns.{IsReachedWithin}
 use Rattle.test_core.proofs.games.are_so.Given as goal
 
 abbrev pub invariant-loop-row : goal.invariant-loop-row

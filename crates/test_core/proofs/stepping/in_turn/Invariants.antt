@@ -1,5 +1,5 @@
 use Rattle.std.proofs.Common.{◌-◌, ◌+◌}
-use Rattle.interleave_laws.specs.Maps.{IsReachedWithin}
+use Rattle.interleave_laws.specs.MapRuns.{IsReachedWithin}
 use Rattle.test_core.proofs.stepping.in_turn.Given as goal
 
 abbrev pub invariant-loop-moves : goal.invariant-loop-moves

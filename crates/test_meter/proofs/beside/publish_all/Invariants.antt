@@ -1,5 +1,5 @@
 use Rattle.std.proofs.Common.{◌≤◌}
-use Rattle.progress_meter.specs.Meters.{last_of}
+use Rattle.progress_meter.specs.Last.{last_of}
 use Rattle.test_meter.proofs.beside.publish_all.Given as goal
 
 abbrev pub invariant-loop-n : goal.invariant-loop-n

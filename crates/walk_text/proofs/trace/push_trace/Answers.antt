@@ -1,5 +1,5 @@
 use Rattle.std.proofs.Common.{sym, subst}
-use Rattle.walk_text.specs.Traces.{LeadsSomewhere}
+use Rattle.walk_text.specs.Whole.{LeadsSomewhere}
 use Rattle.token_stacks.proofs.Said.{ok_map, from_if}
 use Rattle.walk_text.proofs.Windowing.{traced}
 use Rattle.walk_text.proofs.trace.push_trace.Goals as goal

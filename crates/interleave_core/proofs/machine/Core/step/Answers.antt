@@ -2,7 +2,8 @@ use Rattle.std.proofs.Common.{sym, subst}
 use Rattle.std.specs.Option.{IsSome}
 use Rattle.std.specs.FinMap.{get}
 use Rattle.pcf_values.specs.Most.{most_budget}
-use Rattle.interleave_laws.specs.Maps.{MapState, IsReachedWithin}
+use Rattle.interleave_laws.specs.Maps.{MapState}
+use Rattle.interleave_laws.specs.MapRuns.{IsReachedWithin}
 use Rattle.interleave_core.specs.Parts.{state_of}
 use Rattle.interleave_laws.proofs.Going.{able, fresh, room}
 use Rattle.interleave_laws.proofs.Few.{kept_few}
