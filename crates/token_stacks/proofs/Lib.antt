@@ -1,11 +1,15 @@
 -- What words end in, and what a read, a write and a cut at their end find.
 pub mod Ends
--- A piece that is copied down to an earlier place changes places with what lay between.
+-- Parts of a list that change places, and words of a list that are written.
 pub mod Parts
--- Each call on the work stack: its words afterwards are those of the row's stack, or its tests say that the row wants another shape.
+-- Both stacks in one list of words: what a model's value says of the words, and words that stand for other stacks.
+pub mod Laid
+-- What the words on top of each stack tell of it.
+pub mod Shapes
+-- Each call that changes both stacks, part by part.
+pub mod BothSteps
+-- Each call on the work stack alone: its words afterwards are those of the row's stack, or its tests say that the row wants another shape.
 pub mod WorkSteps
--- The same of the box stack.
-pub mod BoxSteps
 -- The order of box stacks is total, and tells them apart as trees.
 pub mod BoxOrder
 -- Words tell stacks apart, and so does their order: what the two laws cite.

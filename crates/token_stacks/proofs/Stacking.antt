@@ -11,6 +11,7 @@ use Rattle.token_stacks.specs.declared.print.Form.{Form}
 use Rattle.token_stacks.specs.declared.print.Form.TheVariants.{Symbols, Signatures}
 use Rattle.token_stacks.specs.Printing.{IsStack, TakesTop}
 use Rattle.token_stacks.proofs.Ends.{take_after, piece_at}
+use Rattle.token_stacks.proofs.Laid.{symbol_long}
 
 -- the last word of a list, with one more word behind it
 last_is : (f : List ℕ) (x : ℕ) (ws : List ℕ) → ws ≡ f ++ x ∷ [] → get_or ws (length ws - 1) 0 ≡ x
@@ -50,12 +51,6 @@ sig_on_top (S s) m ws e r l =
           (omega (arith, long, longer, size)) (omega (arith, long, longer, size));
       rest = take_after f (b ++ two) ws (length ws - 2 - get_or ws (length ws - 2) 0) e (omega (arith, long, longer, size));
     }
-
--- a symbol has a word
-pub symbol_long : (x : Sym) → 0 < length (symbol x)
-symbol_long R = omega arith
-symbol_long L = omega arith
-symbol_long (S s) = let l = length-append (body s) (length (body s) ∷ 7 ∷ []) in omega (arith, l)
 
 -- what is left of a work stack, and of a box stack
 pub takes_symbol : (f : Form) (x : Sym) (m : Work) (ws rest : List ℕ) → f ≡ Symbols → IsStack f ws (x ∷ m) →

@@ -1,248 +1,233 @@
--- Each step on the words of a work stack is the step on its symbols.
+-- Each call on the work stack alone: its words afterwards are those of the row's stack, or its tests say that the row wants another shape.
 use Rattle.std.proofs.Common.{◌≡◌, ℕ, ◌+◌, ◌-◌, ◌<◌, ◌≤◌, ◌⊎◌, inl, inr, List, [], ◌∷◌, ◌++◌}
-use Rattle.std.proofs.Common.{length, get_or, set, take, drop, refl, sym}
-use Rattle.std.proofs.Common.{◌∙◌, ap, subst, arith, length-append, Option, Some, None, Bool, eq-eqb}
+use Rattle.std.proofs.Common.{length, get_or, set, take, refl, sym}
+use Rattle.std.proofs.Common.{◌∙◌, ap, subst, arith, length-append, Option, None}
 use Rattle.std.proofs.lemmas.List.{append_assoc}
-use Rattle.std.specs.Option.{IsSome}
-use Rattle.std.specs.Prelude.{◌==◌, ◌↔◌, IsTrue}
-use Rattle.std.proofs.lemmas.Bool.{eqb-true}
-use Rattle.token_stacks.specs.Signatures.{Sig, star, left_of, right_of, pair_of, again, Sym, R, L, S}
-use Rattle.token_stacks.specs.Words.{body, work_words}
-use Rattle.token_stacks.specs.Reading.{work_of, work_of-words}
-use Rattle.token_stacks.specs.Tops.{top_body, pair_body, popped, argument_left, argument_made, popped_star, popped_signature, wrapped}
-use Rattle.token_stacks.specs.Tops.{unwrapped, marked, paired, unpaired}
-pub use Rattle.token_stacks.proofs.Ends.{length_both}
-use Rattle.token_stacks.proofs.Ends.{stem, tag, body_ends, body_long, star_short, length_pair, word_at, one_on, length_on, set_after}
-use Rattle.token_stacks.proofs.Ends.{take_after, drop_after, piece_at}
+use Rattle.token_stacks.specs.Signatures.{Sig, star, left_of, right_of, pair_of, again, Sym, R, L, S, Work, Boxes, Load}
+use Rattle.token_stacks.specs.Words.{body, symbol, work_words, box_words}
+use Rattle.token_stacks.specs.Reading.{load_of}
+use Rattle.token_stacks.specs.Rows.{star_popped, into_argument, out_of_argument}
+use Rattle.token_stacks.specs.Tops.{Lies, HasTop, top_sig, symbol_popped, wrapped, unwrapped, marked}
+use Rattle.token_stacks.proofs.Ends.{tag, star_short, word_at, one_on, length_on, set_after, take_after, length_both}
+use Rattle.token_stacks.proofs.Laid.{Turns, topped, popped, pushed, long_work, work_long}
+use Rattle.token_stacks.proofs.Shapes.{sym_stem, sym_tag, symbol_ends, last_word, sig_length, tag_words, tag_word, top_length}
+use Rattle.token_stacks.proofs.BothSteps.{shaped}
 
--- the words are those of this work stack
-pub work_stands : (m : List Sym) (ws : List ℕ) → ws ≡ work_words m → work_words (work_of ws) ≡ ws
-work_stands m ws e = ap (λ (z : List ℕ). work_words (work_of z)) e ∙ ap work_words (work_of-words m) ∙ sym e
+-- ---- `R` and `L`
 
-pub work_seen : (m : List Sym) (ws : List ℕ) → ws ≡ work_words m → work_of ws ≡ m
-work_seen m ws e = ap work_of e ∙ work_of-words m
+-- the last word is that of the symbol, and goes
+pub pops_symbol : (w : ℕ) (m : Work) (t : Boxes) (ws vs : List ℕ) (b n a : ℕ) → (lie : Lies ws b m t) → (marks : (w ≡ 5) ⊎ (w ≡ 6))
+    → (long : n ≡ length ws) → (some : (n ≡ b → ⊥)) → (read : a ≡ get_or ws (n - 1) a) → (found : a ≡ w) → (cut : vs ≡ take (n - 1) ws)
+    → Turns (symbol_popped w m t) vs b
+pops_symbol w [] t ws vs b n a lie marks long some read found cut =
+    absurd (some (let l = long_work [] t ws b lie in omega (arith, l, long)))
+pops_symbol w (R ∷ m) t ws vs b n a lie marks long some read found cut =
+    let l = long_work (R ∷ m) t ws b lie in
+    let y = work_long R m in
+    let w5 : 5 ≡ w = sym (last_word (box_words t ++ work_words m) R ws n a (topped R m t ws b lie) long read) ∙ found in
+    let P : ℕ → Type 0 = λ x. Turns (symbol_popped x (R ∷ m) t) vs b in
+    subst P w5 (record { work = m; boxes = t; is = refl; lies = popped R m t ws vs b (n - 1) lie (omega (arith, l, y, long)) cut })
+pops_symbol w (L ∷ m) t ws vs b n a lie marks long some read found cut =
+    let l = long_work (L ∷ m) t ws b lie in
+    let y = work_long L m in
+    let w6 : 6 ≡ w = sym (last_word (box_words t ++ work_words m) L ws n a (topped L m t ws b lie) long read) ∙ found in
+    let P : ℕ → Type 0 = λ x. Turns (symbol_popped x (L ∷ m) t) vs b in
+    subst P w6 (record { work = m; boxes = t; is = refl; lies = popped L m t ws vs b (n - 1) lie (omega (arith, l, y, long)) cut })
+pops_symbol w (S s ∷ m) t ws vs b n a lie marks long some read found cut =
+    absurd (let q = last_word (box_words t ++ work_words m) (S s) ws n a (topped (S s) m t ws b lie) long read in
+    elim marks [ inl x ↦ omega (arith, q, x, found) | inr x ↦ omega (arith, q, x, found) ])
 
-pub work_is : (m : List Sym) (ws : List ℕ) → work_of ws ≡ m → work_words (work_of ws) ≡ ws → ws ≡ work_words m
-work_is m ws v i = sym i ∙ ap work_words v
+pub no_symbol_empty : (w : ℕ) (m : Work) (t : Boxes) (ws : List ℕ) (b n : ℕ) → Lies ws b m t → n ≡ length ws → n ≡ b
+    → symbol_popped w m t ≡ None
+no_symbol_empty w [] t ws b n l h e = refl
+no_symbol_empty w (x ∷ m) t ws b n l h e =
+    absurd (let k = long_work (x ∷ m) t ws b l in let y = work_long x m in omega (arith, k, y, h, e))
 
--- a step that leaves these words
-pub record Turns (after : Option (List Sym)) (ws : List ℕ) : Type 0 where
-  pub left : List Sym
-  pub is : after ≡ Some left
-  pub words : ws ≡ work_words left
+-- another last word is no such symbol
+pub no_symbol_other : (w : ℕ) (m : Work) (t : Boxes) (ws : List ℕ) (b n a : ℕ) → (w ≡ 5) ⊎ (w ≡ 6) → Lies ws b m t → n ≡ length ws →
+    a ≡ get_or ws (n - 1) a → (a ≡ w → ⊥) → symbol_popped w m t ≡ None
+no_symbol_other w [] t ws b n a marks lie long read other = refl
+no_symbol_other w (R ∷ m) t ws b n a marks lie long read other =
+    let q = last_word (box_words t ++ work_words m) R ws n a (topped R m t ws b lie) long read in
+    let P : ℕ → Type 0 = λ x. symbol_popped x (R ∷ m) t ≡ None in
+    elim marks [ inl x ↦ absurd (other (q ∙ sym x)) | inr x ↦ subst P (sym x) refl ]
+no_symbol_other w (L ∷ m) t ws b n a marks lie long read other =
+    let q = last_word (box_words t ++ work_words m) L ws n a (topped L m t ws b lie) long read in
+    let P : ℕ → Type 0 = λ x. symbol_popped x (L ∷ m) t ≡ None in
+    elim marks [ inl x ↦ subst P (sym x) refl | inr x ↦ absurd (other (q ∙ sym x)) ]
+no_symbol_other w (S s ∷ m) t ws b n a marks lie long read other = refl
 
-pub turns_stands : {o : Option (List Sym)} {ws : List ℕ} → Turns o ws → work_words (work_of ws) ≡ ws
-turns_stands {ws = ws} t = work_stands t.left ws t.words
+-- ---- `L` over a signature
 
-pub turns_seen : {o : Option (List Sym)} {ws : List ℕ} → Turns o ws → o ≡ Some (work_of ws)
-turns_seen {ws = ws} t = t.is ∙ ap (λ (z : List Sym). Some z) (sym (work_seen t.left ws t.words))
+-- the last word but one is the last of what stands under the top
+under : (x y : Sym) (m : Work) (t : Boxes) (ws : List ℕ) (b n a : ℕ) → length (symbol x) ≡ 1 → Lies ws b (x ∷ y ∷ m) t → n ≡ length ws →
+    a ≡ get_or ws (n - 2) a → a ≡ sym_tag y
+under x y m t ws b n a one lie long read =
+    let p : List ℕ = box_words t ++ work_words m in
+    let e : ws ≡ (p ++ sym_stem y) ++ sym_tag y ∷ symbol x =
+    topped x (y ∷ m) t ws b lie
+    ∙ ap (λ (z : List ℕ). z ++ symbol x) (sym (append_assoc (box_words t) (work_words m) (symbol y))
+    ∙ ap (λ (z : List ℕ). p ++ z) (symbol_ends y) ∙ sym (append_assoc p (sym_stem y) (sym_tag y ∷ [])))
+    ∙ append_assoc (p ++ sym_stem y) (sym_tag y ∷ []) (symbol x) in
+    let k = length_both (p ++ sym_stem y) (sym_tag y ∷ symbol x) ws e in
+    word_at (p ++ sym_stem y) (sym_tag y) (symbol x) ws (n - 2) a e (omega (arith, k, long, one)) read
 
--- a signature on top
-pub record SigTop (m : List Sym) : Type 0 where
-  pub sig : Sig
-  pub rest : List Sym
-  pub is : m ≡ S sig ∷ rest
+-- the last words are that of `L` and a signature's mark, and the last goes
+pub pops_argument : (m : Work) (t : Boxes) (ws vs : List ℕ) (b n a c : ℕ) → (lie : Lies ws b m t) → (long : n ≡ length ws)
+    → (enough : 2 ≤ n - b) → (read : a ≡ get_or ws (n - 1) a) → (found : a ≡ 6) → (below : c ≡ get_or ws (n - 2) c) → (found_below : c ≡ 7)
+    → (cut : vs ≡ take (n - 1) ws) → Turns (into_argument m t) vs b
+pops_argument [] t ws vs b n a c lie long enough read found below found_below cut =
+    absurd (let l = long_work [] t ws b lie in omega (arith, l, long, enough))
+pops_argument (R ∷ m) t ws vs b n a c lie long enough read found below found_below cut =
+    absurd (let q = last_word (box_words t ++ work_words m) R ws n a (topped R m t ws b lie) long read in omega (arith, q, found))
+pops_argument (S s ∷ m) t ws vs b n a c lie long enough read found below found_below cut =
+    absurd (let q = last_word (box_words t ++ work_words m) (S s) ws n a (topped (S s) m t ws b lie) long read in omega (arith, q, found))
+pops_argument (L ∷ []) t ws vs b n a c lie long enough read found below found_below cut =
+    absurd (let l = long_work (L ∷ []) t ws b lie in omega (arith, l, long, enough))
+pops_argument (L ∷ R ∷ m) t ws vs b n a c lie long enough read found below found_below cut =
+    absurd (let q = under L R m t ws b n c refl lie long below in omega (arith, q, found_below))
+pops_argument (L ∷ L ∷ m) t ws vs b n a c lie long enough read found below found_below cut =
+    absurd (let q = under L L m t ws b n c refl lie long below in omega (arith, q, found_below))
+pops_argument (L ∷ S s ∷ m) t ws vs b n a c lie long enough read found below found_below cut =
+    let l = long_work (L ∷ S s ∷ m) t ws b lie in
+    let y = work_long L (S s ∷ m) in
+    record { work = S s ∷ m; boxes = t; is = refl; lies = popped L (S s ∷ m) t ws vs b (n - 1) lie (omega (arith, l, y, long)) cut }
 
-last_r : (m : List Sym) (ws : List ℕ) (n a : ℕ) → ws ≡ work_words (R ∷ m) → n ≡ length ws → a ≡ get_or ws (n - 1) a →
-    a ≡ 5
-last_r m ws n a e h r = word_at (work_words m) 5 [] ws (n - 1) a e (omega (arith, length_both (work_words m) (5 ∷ []) ws e)) r
+-- one word is no `L` over a signature
+pub no_argument_one : (m : Work) (t : Boxes) (ws : List ℕ) (b n : ℕ) → Lies ws b m t → n ≡ length ws → n - b < 2 → into_argument m t ≡ None
+no_argument_one [] t ws b n l h p = refl
+no_argument_one (R ∷ m) t ws b n l h p = refl
+no_argument_one (S s ∷ m) t ws b n l h p = refl
+no_argument_one (L ∷ []) t ws b n l h p = refl
+no_argument_one (L ∷ R ∷ m) t ws b n l h p = refl
+no_argument_one (L ∷ L ∷ m) t ws b n l h p = refl
+no_argument_one (L ∷ S s ∷ m) t ws b n l h p =
+    absurd (let k = long_work (L ∷ S s ∷ m) t ws b l in
+    let y = work_long (S s) m in
+    let z = length-append (work_words (S s ∷ m)) (6 ∷ []) in omega (arith, k, y, z, h, p))
 
-last_l : (m : List Sym) (ws : List ℕ) (n a : ℕ) → ws ≡ work_words (L ∷ m) → n ≡ length ws → a ≡ get_or ws (n - 1) a →
-    a ≡ 6
-last_l m ws n a e h r = word_at (work_words m) 6 [] ws (n - 1) a e (omega (arith, length_both (work_words m) (6 ∷ []) ws e)) r
+pub no_argument_top : (m : Work) (t : Boxes) (ws : List ℕ) (b n a : ℕ) → Lies ws b m t → n ≡ length ws → a ≡ get_or ws (n - 1) a →
+    (a ≡ 6 → ⊥) → into_argument m t ≡ None
+no_argument_top [] t ws b n a l h r p = refl
+no_argument_top (R ∷ m) t ws b n a l h r p = refl
+no_argument_top (S s ∷ m) t ws b n a l h r p = refl
+no_argument_top (L ∷ m) t ws b n a l h r p = absurd (p (last_word (box_words t ++ work_words m) L ws n a (topped L m t ws b l) h r))
 
--- the words below a signature's size, its size and its mark
-pub sig_words : (s : Sig) (m : List Sym) (ws : List ℕ) → ws ≡ work_words (S s ∷ m)
-    → ws ≡ (work_words m ++ body s) ++ length (body s) ∷ 7 ∷ []
-sig_words s m ws e = e ∙ sym (append_assoc (work_words m) (body s) (length (body s) ∷ 7 ∷ []))
+pub no_argument_under : (m : Work) (t : Boxes) (ws : List ℕ) (b n c : ℕ) → Lies ws b m t → n ≡ length ws → c ≡ get_or ws (n - 2) c →
+    (c ≡ 7 → ⊥) → into_argument m t ≡ None
+no_argument_under [] t ws b n c l h r p = refl
+no_argument_under (R ∷ m) t ws b n c l h r p = refl
+no_argument_under (S s ∷ m) t ws b n c l h r p = refl
+no_argument_under (L ∷ []) t ws b n c l h r p = refl
+no_argument_under (L ∷ R ∷ m) t ws b n c l h r p = refl
+no_argument_under (L ∷ L ∷ m) t ws b n c l h r p = refl
+no_argument_under (L ∷ S s ∷ m) t ws b n c l h r p = absurd (p (under L (S s) m t ws b n c refl l h r))
 
-pub sig_length : (s : Sig) (m : List Sym) (ws : List ℕ) → ws ≡ work_words (S s ∷ m)
-    → length ws ≡ length (work_words m) + length (body s) + 2
-sig_length s m ws e =
-    omega (
-      arith,
-      length_both (work_words m ++ body s) (length (body s) ∷ 7 ∷ []) ws (sig_words s m ws e),
-      length-append (work_words m) (body s),
-    )
+pub pushes_argument : (a : Load) (ws vs : List ℕ) (b k : ℕ) → (seen : load_of ws b ≡ a) → (h : HasTop ws b k) → (added : vs ≡ ws ++ 6 ∷ [])
+    → Turns (out_of_argument a.work a.boxes) vs b
+pushes_argument a ws vs b k seen h added = record {
+  work = L ∷ S h.sig ∷ h.rest;
+  boxes = h.boxes;
+  is = shaped out_of_argument a ws b (S h.sig ∷ h.rest) h.boxes seen h.lies;
+  lies = pushed L (S h.sig ∷ h.rest) h.boxes ws vs b h.lies added;
+}
 
-last_s : (s : Sig) (m : List Sym) (ws : List ℕ) (n a : ℕ) → ws ≡ work_words (S s ∷ m) → n ≡ length ws →
-    a ≡ get_or ws (n - 1) a → a ≡ 7
-last_s s m ws n a e h r =
-    word_at ((work_words m ++ body s) ++ length (body s) ∷ []) 7 [] ws (n - 1) a
-    (sig_words s m ws e ∙ one_on (work_words m ++ body s) (length (body s)) (7 ∷ []))
-    (omega (arith, sig_length s m ws e, length_on (work_words m ++ body s) (length (body s)), length-append (work_words m) (body s))) r
+pub no_out_of_argument : (m : Work) (t : Boxes) → top_sig m ≡ None → out_of_argument m t ≡ None
+no_out_of_argument [] t e = refl
+no_out_of_argument (R ∷ m) t e = refl
+no_out_of_argument (L ∷ m) t e = refl
+no_out_of_argument (S s ∷ m) t e = cc
 
-size_s : (s : Sig) (m : List Sym) (ws : List ℕ) (n k : ℕ) → ws ≡ work_words (S s ∷ m) → n ≡ length ws →
-    k ≡ get_or ws (n - 2) k
-    → k ≡ length (body s)
-size_s s m ws n k e h r =
-    word_at (work_words m ++ body s) (length (body s)) (7 ∷ []) ws (n - 2) k (sig_words s m ws e)
-    (omega (arith, sig_length s m ws e, length-append (work_words m) (body s))) r
+-- ---- a `*`
 
--- the words with the last word of the body apart
-tag_words : (s : Sig) (m : List Sym) (ws : List ℕ) → ws ≡ work_words (S s ∷ m)
-    → ws ≡ (work_words m ++ stem s) ++ tag s ∷ length (body s) ∷ 7 ∷ []
-tag_words s m ws e =
-    e ∙ ap (λ (z : List ℕ). work_words m ++ (z ++ length (body s) ∷ 7 ∷ [])) (body_ends s)
-    ∙ ap (λ (z : List ℕ). work_words m ++ z) (append_assoc (stem s) (tag s ∷ []) (length (body s) ∷ 7 ∷ []))
-    ∙ sym (append_assoc (work_words m) (stem s) (tag s ∷ length (body s) ∷ 7 ∷ []))
-
-tag_s : (s : Sig) (m : List Sym) (ws : List ℕ) (n a : ℕ) → ws ≡ work_words (S s ∷ m) → n ≡ length ws →
-    a ≡ get_or ws (n - 3) a → a ≡ tag s
-tag_s s m ws n a e h r =
-    word_at (work_words m ++ stem s) (tag s) (length (body s) ∷ 7 ∷ []) ws (n - 3) a (tag_words s m ws e)
-    (omega (arith, sig_length s m ws e, length-append (work_words m) (stem s), body_long s)) r
-
-pub sig_top : (m : List Sym) (ws : List ℕ) (n a : ℕ) → (held : ws ≡ work_words m) → (long : n ≡ length ws) → (enough : 0 < n)
-    → (read : a ≡ get_or ws (n - 1) a) → (found : a ≡ 7) → SigTop m
-sig_top [] ws n a e h p r t = absurd (let q : length ws ≡ 0 = ap length e in omega arith)
-sig_top (R ∷ m) ws n a e h p r t = absurd (let q : a ≡ 5 = last_r m ws n a e h r in omega arith)
-sig_top (L ∷ m) ws n a e h p r t = absurd (let q : a ≡ 6 = last_l m ws n a e h r in omega arith)
-sig_top (S s ∷ m) ws n a e h p r t = record { sig = s; rest = m; is = refl }
-
-pub some_top : (m : List Sym) → IsSome (top_body m) → SigTop m
-some_top (S s ∷ m) h = record { sig = s; rest = m; is = refl }
-some_top [] h = cc
-some_top (R ∷ m) h = cc
-some_top (L ∷ m) h = cc
-
--- steps: the words after a call, and what they stand for
-pub pops_symbol : (w : ℕ) (m : List Sym) (ws vs : List ℕ) (n a : ℕ) → (held : ws ≡ work_words m) →
-    (marks : (w ≡ 5) ⊎ (w ≡ 6))
-    → (long : n ≡ length ws) → (enough : 0 < n) → (read : a ≡ get_or ws (n - 1) a) → (found : a ≡ w) →
-    (cut : vs ≡ take (n - 1) ws)
-    → Turns (popped w m) vs
-pops_symbol w [] ws vs n a held marks long enough read found cut = absurd (let q : length ws ≡ 0 = ap length held in omega arith)
-pops_symbol w (R ∷ m) ws vs n a held marks long enough read found cut =
-    let w5 : 5 ≡ w = sym (last_r m ws n a held long read) ∙ found in
-    let P : ℕ → Type 0 = λ x. Turns (popped x (R ∷ m)) vs in
-    subst P w5 (record {
-      left = m;
-      is = refl;
-      words = cut
-          ∙ take_after (work_words m) (5 ∷ []) ws (n - 1) held (omega (arith, length_both (work_words m) (5 ∷ []) ws held));
-    })
-pops_symbol w (L ∷ m) ws vs n a held marks long enough read found cut =
-    let w6 : 6 ≡ w = sym (last_l m ws n a held long read) ∙ found in
-    let P : ℕ → Type 0 = λ x. Turns (popped x (L ∷ m)) vs in
-    subst P w6 (record {
-      left = m;
-      is = refl;
-      words = cut
-          ∙ take_after (work_words m) (6 ∷ []) ws (n - 1) held (omega (arith, length_both (work_words m) (6 ∷ []) ws held));
-    })
-pops_symbol w (S s ∷ m) ws vs n a held marks long enough read found cut =
-    absurd (let q : a ≡ 7 = last_s s m ws n a held long read in elim marks [ inl x ↦ omega arith | inr x ↦ omega arith ])
-
--- a signature whose body has one word is a `*`, and what is left lies before its three words
-pub pops_star : (m : List Sym) (ws vs : List ℕ) (n a k : ℕ) → (held : ws ≡ work_words m) → (long : n ≡ length ws) →
-    (enough : 0 < n)
-    → (read : a ≡ get_or ws (n - 1) a) → (found : a ≡ 7) → (sized : k ≡ get_or ws (n - 2) k) → (one : k ≡ 1)
-    → (cut : vs ≡ take (n - 3) ws) → Turns (popped_star m) vs
-pops_star m ws vs n a k held long enough read found sized one cut =
-    let T = sig_top m ws n a held long enough read found in
-    let held' : ws ≡ work_words (S T.sig ∷ T.rest) = held ∙ ap work_words T.is in
-    let size : k ≡ length (body T.sig) = size_s T.sig T.rest ws n k held' long sized in
-    let starred : T.sig ≡ star = star_short T.sig (sym size ∙ one) in
-    let m_is : m ≡ S star ∷ T.rest = T.is ∙ ap (λ (z : Sig). S z ∷ T.rest) starred in
+-- a signature whose body has one word is a `*`, and its three words go
+pub pops_star : (a : Load) (ws vs : List ℕ) (b n k : ℕ) → (seen : load_of ws b ≡ a) → (h : HasTop ws b k) → (one : k ≡ 1)
+    → (long : n ≡ length ws)
+    → (cut : vs ≡ take (n - 3) ws) → Turns (star_popped a.work a.boxes) vs b
+pops_star a ws vs b n k seen h one long cut =
+    let starred : h.sig ≡ star = star_short h.sig (sym h.sized ∙ one) in
+    let l = top_length ws b k h in
+    let y = long_work (S h.sig ∷ h.rest) h.boxes ws b h.lies in
+    let z = length-append (work_words h.rest) (symbol (S h.sig)) in
     record {
-      left = T.rest;
-      is = ap popped_star m_is;
-      words =
-          cut ∙ take_after (work_words T.rest) (body T.sig ++ length (body T.sig) ∷ 7 ∷ []) ws (n - 3) held'
-          (omega (arith, sig_length T.sig T.rest ws held'));
+      work = h.rest;
+      boxes = h.boxes;
+      is = shaped star_popped a ws b (S h.sig ∷ h.rest) h.boxes seen h.lies
+          ∙ ap (λ (x : Sig). star_popped (S x ∷ h.rest) h.boxes) starred;
+      lies = popped (S h.sig) h.rest h.boxes ws vs b (n - 3) h.lies (omega (arith, l, y, z, one, long)) cut;
     }
 
--- what is left lies before the words of the signature, its size and its mark
-pub pops_signature : (m : List Sym) (ws vs : List ℕ) (n k : ℕ) → (held : ws ≡ work_words m) → (T : SigTop m) →
-    (long : n ≡ length ws)
-    → (sized : k ≡ get_or ws (n - 2) k) → (cut : vs ≡ take (n - 2 - k) ws) → Turns (popped_signature m) vs
-pops_signature m ws vs n k held T long sized cut =
-    let held' : ws ≡ work_words (S T.sig ∷ T.rest) = held ∙ ap work_words T.is in
-    let size : k ≡ length (body T.sig) = size_s T.sig T.rest ws n k held' long sized in
-    record {
-      left = T.rest;
-      is = ap popped_signature T.is;
-      words =
-          cut ∙ take_after (work_words T.rest) (body T.sig ++ length (body T.sig) ∷ 7 ∷ []) ws (n - 2 - k) held'
-          (omega (arith, sig_length T.sig T.rest ws held'));
-    }
+pub no_star : (m : Work) (t : Boxes) → top_sig m ≡ None → star_popped m t ≡ None
+no_star [] t e = refl
+no_star (R ∷ m) t e = refl
+no_star (L ∷ m) t e = refl
+no_star (S s ∷ m) t e = cc
 
--- the size of the signature on top leaves room for it
-pub size_fits : (m : List Sym) (ws : List ℕ) (n k : ℕ) → ws ≡ work_words m → SigTop m → n ≡ length ws →
-    k ≡ get_or ws (n - 2) k
-    → (k ≤ n - 2) × (1 ≤ k) × (3 ≤ n)
-size_fits m ws n k e T h q =
-    let e' : ws ≡ work_words (S T.sig ∷ T.rest) = e ∙ ap work_words T.is in
-    let size : k ≡ length (body T.sig) = size_s T.sig T.rest ws n k e' h q in (
-      omega (arith, sig_length T.sig T.rest ws e'),
-      omega (arith, body_long T.sig),
-      omega (arith, sig_length T.sig T.rest ws e', body_long T.sig),
-    )
+pub other_star : (a : Load) (ws : List ℕ) (b k : ℕ) → (seen : load_of ws b ≡ a) → (h : HasTop ws b k) → (k ≡ 1 → ⊥) →
+    star_popped a.work a.boxes ≡ None
+other_star a ws b k seen h other = shaped star_popped a ws b (S h.sig ∷ h.rest) h.boxes seen h.lies ∙ go h.sig h.sized
+  where
+    go : (s : Sig) → k ≡ length (body s) → star_popped (S s ∷ h.rest) h.boxes ≡ None
+    go star z = absurd (other z)
+    go (left_of s) z = refl
+    go (right_of s) z = refl
+    go (pair_of s u) z = refl
+    go (again s u) z = refl
 
-pub no_top : (m : List Sym) (ws : List ℕ) (n : ℕ) → ws ≡ work_words m → n ≡ length ws → n < 3 → None ≡ top_body m
-no_top [] ws n e h p = refl
-no_top (R ∷ m) ws n e h p = refl
-no_top (L ∷ m) ws n e h p = refl
-no_top (S s ∷ m) ws n e h p = absurd (omega (arith, sig_length s m ws e, body_long s))
-
-pub other_top : (m : List Sym) (ws : List ℕ) (n a : ℕ) → ws ≡ work_words m → n ≡ length ws → a ≡ get_or ws (n - 1) a →
-    (a ≡ 7 → ⊥)
-    → None ≡ top_body m
-other_top [] ws n a e h r p = refl
-other_top (R ∷ m) ws n a e h r p = refl
-other_top (L ∷ m) ws n a e h r p = refl
-other_top (S s ∷ m) ws n a e h r p = absurd (p (last_s s m ws n a e h r))
-
-pub top_is : (m : List Sym) (ws : List ℕ) (n k : ℕ) → ws ≡ work_words m → SigTop m → n ≡ length ws →
-    k ≡ get_or ws (n - 2) k
-    → Some (take (n - 2 - (n - 2 - k)) (drop (n - 2 - k) ws)) ≡ top_body m
-top_is m ws n k e T h q =
-    let e' : ws ≡ work_words (S T.sig ∷ T.rest) = e ∙ ap work_words T.is in
-    let size : k ≡ length (body T.sig) = size_s T.sig T.rest ws n k e' h q in
-    ap (λ (z : List ℕ). Some z)
-    (piece_at (work_words T.rest) (body T.sig) (length (body T.sig) ∷ 7 ∷ []) ws (n - 2 - k) (n - 2 - (n - 2 - k)) e'
-    (omega (arith, sig_length T.sig T.rest ws e')) (omega (arith, sig_length T.sig T.rest ws e'))) ∙ ap top_body (sym T.is)
-
--- a signature that was put together on top
-sig_made : (r : List Sym) (s : Sig) (b : List ℕ) (j : ℕ) → body s ≡ b → j ≡ length b
-    → (work_words r ++ b) ++ j ∷ 7 ∷ [] ≡ work_words (S s ∷ r)
-sig_made r s b j e h =
-    ap (λ (z : ℕ). (work_words r ++ b) ++ z ∷ 7 ∷ []) h
-    ∙ ap (λ (z : List ℕ). (work_words r ++ z) ++ length z ∷ 7 ∷ []) (sym e)
-    ∙ append_assoc (work_words r) (body s) (length (body s) ∷ 7 ∷ [])
+-- ---- marks
 
 marked_body : (w : ℕ) → (w ≡ 1) ⊎ (w ≡ 2) → (s : Sig) → body (marked w s) ≡ body s ++ w ∷ []
 marked_body w c s =
     let P : ℕ → Type 0 = λ x. body (marked x s) ≡ body s ++ x ∷ [] in
     elim c [ inl e ↦ subst P (sym e) refl | inr e ↦ subst P (sym e) refl ]
 
+-- a signature that was put together on top
+sig_made : (p : List ℕ) (s : Sig) (c : List ℕ) (j : ℕ) → body s ≡ c → j ≡ length c → (p ++ c) ++ j ∷ 7 ∷ [] ≡ p ++ symbol (S s)
+sig_made p s c j e h =
+    ap (λ (z : ℕ). (p ++ c) ++ z ∷ 7 ∷ []) h
+    ∙ ap (λ (z : List ℕ). (p ++ z) ++ length z ∷ 7 ∷ []) (sym e)
+    ∙ append_assoc p (body s) (length (body s) ∷ 7 ∷ [])
+
+made_lies : (x : Sym) (m : Work) (t : Boxes) (ws vs : List ℕ) (b : ℕ) (y : Sym) → Lies ws b (y ∷ m) t →
+    vs ≡ (box_words t ++ work_words m) ++ symbol x → Lies vs b (x ∷ m) t
+made_lies x m t ws vs b y l e = record { words = e ∙ append_assoc (box_words t) (work_words m) (symbol x); ends = l.ends }
+
 -- the mark goes over the size of the signature, the size over the old end, and the end is the new word
-pub wraps : (w : ℕ) (m : List Sym) (ws us vs : List ℕ) (n k : ℕ) → (held : ws ≡ work_words m) →
-    (marks : (w ≡ 1) ⊎ (w ≡ 2))
-    → (T : SigTop m) → (long : n ≡ length ws) → (sized : k ≡ get_or ws (n - 2) k) → (added : us ≡ ws ++ 7 ∷ [])
-    → (written : vs ≡ set (set us (n - 2) w) (n - 1) (k + 1)) → Turns (wrapped w m) vs
-wraps w m ws us vs n k held marks T long sized added written =
-    let s : Sig = T.sig in
-    let r : List Sym = T.rest in
-    let F : List ℕ = work_words r ++ body s in
-    let held' : ws ≡ work_words (S s ∷ r) = held ∙ ap work_words T.is in
-    let size : k ≡ length (body s) = size_s s r ws n k held' long sized in
-    let le : length F ≡ length (work_words r) + length (body s) = length-append (work_words r) (body s) in
-    let len : n ≡ length F + 2 = omega (arith, sig_length s r ws held') in
+pub wraps : (w : ℕ) (a : Load) (ws us vs : List ℕ) (b n k : ℕ) → (seen : load_of ws b ≡ a) → (h : HasTop ws b k)
+    → (marks : (w ≡ 1) ⊎ (w ≡ 2))
+    → (long : n ≡ length ws) → (added : us ≡ ws ++ 7 ∷ []) → (written : vs ≡ set (set us (n - 2) w) (n - 1) (k + 1))
+    → Turns (wrapped w a.work a.boxes) vs b
+wraps w a ws us vs b n k seen h marks long added written =
+    let s : Sig = h.sig in
+    let p : List ℕ = box_words h.boxes ++ work_words h.rest in
+    let F : List ℕ = p ++ body s in
+    let e = topped (S s) h.rest h.boxes ws b h.lies in
+    let le : length F ≡ length p + length (body s) = length-append p (body s) in
+    let lw = sig_length s p ws e in
+    let z = h.sized in
     let added' : us ≡ F ++ length (body s) ∷ 7 ∷ 7 ∷ [] =
-    added ∙ ap (λ (z : List ℕ). z ++ 7 ∷ []) (sig_words s r ws held') ∙ append_assoc F (length (body s) ∷ 7 ∷ []) (7 ∷ []) in
+    added ∙ ap (λ (x : List ℕ). x ++ 7 ∷ []) (e ∙ sym (append_assoc p (body s) (length (body s) ∷ 7 ∷ [])))
+    ∙ append_assoc F (length (body s) ∷ 7 ∷ []) (7 ∷ []) in
     let one : set us (n - 2) w ≡ (F ++ w ∷ []) ++ 7 ∷ 7 ∷ [] =
-    set_after F (length (body s)) (7 ∷ 7 ∷ []) us (n - 2) w added' (omega arith) ∙ one_on F w (7 ∷ 7 ∷ []) in
+    set_after F (length (body s)) (7 ∷ 7 ∷ []) us (n - 2) w added' (omega (arith, le, lw, long)) ∙ one_on F w (7 ∷ 7 ∷ []) in
+    let lFw = length_on F w in
     let two : set (set us (n - 2) w) (n - 1) (k + 1) ≡ (F ++ w ∷ []) ++ (k + 1) ∷ 7 ∷ [] =
-    set_after (F ++ w ∷ []) 7 (7 ∷ []) (set us (n - 2) w) (n - 1) (k + 1) one (omega (arith, length_on F w)) in
+    set_after (F ++ w ∷ []) 7 (7 ∷ []) (set us (n - 2) w) (n - 1) (k + 1) one (omega (arith, le, lw, lFw, long)) in
+    let lb = length_on (body s) w in
     record {
-      left = S (marked w s) ∷ r;
-      is = ap (wrapped w) T.is;
-      words =
-          written ∙ two ∙ ap (λ (z : List ℕ). z ++ (k + 1) ∷ 7 ∷ []) (append_assoc (work_words r) (body s) (w ∷ []))
-          ∙ sig_made r (marked w s) (body s ++ w ∷ []) (k + 1) (marked_body w marks s) (omega (arith, length_on (body s) w));
+      work = S (marked w s) ∷ h.rest;
+      boxes = h.boxes;
+      is = shaped (wrapped w) a ws b (S s ∷ h.rest) h.boxes seen h.lies;
+      lies = made_lies (S (marked w s)) h.rest h.boxes ws vs b (S s) h.lies
+          (written ∙ two ∙ ap (λ (x : List ℕ). x ++ (k + 1) ∷ 7 ∷ []) (append_assoc p (body s) (w ∷ []))
+          ∙ sig_made p (marked w s) (body s ++ w ∷ []) (k + 1) (marked_body w marks s) (omega (arith, lb, z)));
     }
+
+pub no_wrap : (w : ℕ) (m : Work) (t : Boxes) → top_sig m ≡ None → wrapped w m t ≡ None
+no_wrap w [] t e = refl
+no_wrap w (R ∷ m) t e = refl
+no_wrap w (L ∷ m) t e = refl
+no_wrap w (S s ∷ m) t e = cc
 
 -- one word fewer at the end
 lowers : (g : List ℕ) (x k j : ℕ) (ws vs : List ℕ) (n : ℕ) → ws ≡ g ++ x ∷ k ∷ 7 ∷ [] → n ≡ length ws
@@ -260,394 +245,76 @@ lowers g x k j ws vs n are long cut =
     ∙ sym (one_on g j (7 ∷ []))
 
 -- the mark before the size is the one that was asked for, so the signature is one so marked, and its size goes over the mark
-unwraps_at : (w : ℕ) (s : Sig) (r : List Sym) (ws vs : List ℕ) (n k a : ℕ) → (held : ws ≡ work_words (S s ∷ r))
-    → (marks : (w ≡ 1) ⊎ (w ≡ 2)) → (long : n ≡ length ws) → (sized : k ≡ get_or ws (n - 2) k) →
-    (read : a ≡ get_or ws (n - 3) a)
-    → (found : a ≡ w) → (cut : vs ≡ take (n - 1) (set (set ws (n - 3) (k - 1)) (n - 2) 7)) → Turns (unwrapped w (S s ∷ r)) vs
-unwraps_at w star r ws vs n k a held marks long sized read found cut =
-    absurd (let z : a ≡ 0 = tag_s star r ws n a held long read in elim marks [ inl x ↦ omega arith | inr x ↦ omega arith ])
-unwraps_at w (left_of s) r ws vs n k a held marks long sized read found cut =
-    let w1 : 1 ≡ w = sym (tag_s (left_of s) r ws n a held long read) ∙ found in
-    let size : k ≡ length (body s ++ 1 ∷ []) = size_s (left_of s) r ws n k held long sized in
-    let P : ℕ → Type 0 = λ x. Turns (unwrapped x (S (left_of s) ∷ r)) vs in
-    subst P w1 (record {
-      left = S s ∷ r;
+unwraps_at : (w : ℕ) (s : Sig) (r : Work) (t : Boxes) (ws vs : List ℕ) (b n k a : ℕ) → (lie : Lies ws b (S s ∷ r) t)
+    → (sized : k ≡ length (body s))
+    → (marks : (w ≡ 1) ⊎ (w ≡ 2)) → (long : n ≡ length ws) → (is : tag s ≡ w)
+    → (cut : vs ≡ take (n - 1) (set (set ws (n - 3) (k - 1)) (n - 2) 7)) → Turns (unwrapped w (S s ∷ r) t) vs b
+unwraps_at w star r t ws vs b n k a lie sized marks long is cut =
+    absurd (elim marks [ inl x ↦ omega (arith, is, x) | inr x ↦ omega (arith, is, x) ])
+unwraps_at w (left_of s) r t ws vs b n k a lie sized marks long is cut =
+    let p : List ℕ = box_words t ++ work_words r in
+    let l = length_on (body s) 1 in
+    let P : ℕ → Type 0 = λ x. Turns (unwrapped x (S (left_of s) ∷ r) t) vs b in
+    subst P is (record {
+      work = S s ∷ r;
+      boxes = t;
       is = refl;
-      words =
-          lowers (work_words r ++ body s) 1 (length (body s ++ 1 ∷ [])) (k - 1) ws vs n (tag_words (left_of s) r ws held) long cut
-          ∙ sig_made r s (body s) (k - 1) refl (omega (arith, length_on (body s) 1));
+      lies = made_lies (S s) r t ws vs b (S (left_of s)) lie
+          (lowers (p ++ body s) 1 (length (body s ++ 1 ∷ [])) (k - 1) ws vs n (tag_words (left_of s) p ws (topped (S (left_of s)) r t
+          ws b lie))
+          long cut ∙ sig_made p s (body s) (k - 1) refl (omega (arith, l, sized)));
     })
-unwraps_at w (right_of s) r ws vs n k a held marks long sized read found cut =
-    let w2 : 2 ≡ w = sym (tag_s (right_of s) r ws n a held long read) ∙ found in
-    let size : k ≡ length (body s ++ 2 ∷ []) = size_s (right_of s) r ws n k held long sized in
-    let P : ℕ → Type 0 = λ x. Turns (unwrapped x (S (right_of s) ∷ r)) vs in
-    subst P w2 (record {
-      left = S s ∷ r;
+unwraps_at w (right_of s) r t ws vs b n k a lie sized marks long is cut =
+    let p : List ℕ = box_words t ++ work_words r in
+    let l = length_on (body s) 2 in
+    let P : ℕ → Type 0 = λ x. Turns (unwrapped x (S (right_of s) ∷ r) t) vs b in
+    subst P is (record {
+      work = S s ∷ r;
+      boxes = t;
       is = refl;
-      words =
-          lowers (work_words r ++ body s) 2 (length (body s ++ 2 ∷ [])) (k - 1) ws vs n (tag_words (right_of s) r ws held) long cut
-          ∙ sig_made r s (body s) (k - 1) refl (omega (arith, length_on (body s) 2));
+      lies = made_lies (S s) r t ws vs b (S (right_of s)) lie
+          (lowers (p ++ body s) 2 (length (body s ++ 2 ∷ [])) (k - 1) ws vs n (tag_words (right_of s) p ws (topped (S (right_of s)) r t
+          ws b lie))
+          long cut ∙ sig_made p s (body s) (k - 1) refl (omega (arith, l, sized)));
     })
-unwraps_at w (pair_of s s') r ws vs n k a held marks long sized read found cut =
-    absurd (let z : a ≡ 3 = tag_s (pair_of s s') r ws n a held long read in elim marks [ inl x ↦ omega arith | inr x ↦ omega arith ])
-unwraps_at w (again s s') r ws vs n k a held marks long sized read found cut =
-    absurd (let z : a ≡ 4 = tag_s (again s s') r ws n a held long read in elim marks [ inl x ↦ omega arith | inr x ↦ omega arith ])
+unwraps_at w (pair_of s u) r t ws vs b n k a lie sized marks long is cut =
+    absurd (elim marks [ inl x ↦ omega (arith, is, x) | inr x ↦ omega (arith, is, x) ])
+unwraps_at w (again s u) r t ws vs b n k a lie sized marks long is cut =
+    absurd (elim marks [ inl x ↦ omega (arith, is, x) | inr x ↦ omega (arith, is, x) ])
 
-pub unwraps : (w : ℕ) (m : List Sym) (ws vs : List ℕ) (n k a : ℕ) → (held : ws ≡ work_words m) →
-    (marks : (w ≡ 1) ⊎ (w ≡ 2))
-    → (T : SigTop m) → (long : n ≡ length ws) → (sized : k ≡ get_or ws (n - 2) k) → (read : a ≡ get_or ws (n - 3) a) →
-    (found : a ≡ w)
-    → (cut : vs ≡ take (n - 1) (set (set ws (n - 3) (k - 1)) (n - 2) 7)) → Turns (unwrapped w m) vs
-unwraps w m ws vs n k a e c T h q t u v =
-    let P : List Sym → Type 0 = λ x. Turns (unwrapped w x) vs in
-    subst P (sym T.is) (unwraps_at w T.sig T.rest ws vs n k a (e ∙ ap work_words T.is) c h q t u v)
+mark_of : (ws : List ℕ) (b n k a : ℕ) → (h : HasTop ws b k) → n ≡ length ws → a ≡ get_or ws (n - 3) a → a ≡ tag h.sig
+mark_of ws b n k a h long read =
+    tag_word h.sig (box_words h.boxes ++ work_words h.rest) ws n a (topped (S h.sig) h.rest h.boxes ws b h.lies) long read
+
+pub unwraps : (w : ℕ) (a : Load) (ws vs : List ℕ) (b n k c : ℕ) → (seen : load_of ws b ≡ a) → (h : HasTop ws b k)
+    → (marks : (w ≡ 1) ⊎ (w ≡ 2))
+    → (long : n ≡ length ws) → (read : c ≡ get_or ws (n - 3) c) → (found : c ≡ w)
+    → (cut : vs ≡ take (n - 1) (set (set ws (n - 3) (k - 1)) (n - 2) 7)) → Turns (unwrapped w a.work a.boxes) vs b
+unwraps w a ws vs b n k c seen h marks long read found cut =
+    let P : Option Load → Type 0 = λ x. Turns x vs b in
+    subst P (sym (shaped (unwrapped w) a ws b (S h.sig ∷ h.rest) h.boxes seen h.lies))
+    (unwraps_at w h.sig h.rest h.boxes ws vs b n k c h.lies h.sized marks long (sym (mark_of ws b n k c h long read) ∙ found) cut)
+
+pub no_unwrap : (w : ℕ) (m : Work) (t : Boxes) → top_sig m ≡ None → unwrapped w m t ≡ None
+no_unwrap w [] t e = refl
+no_unwrap w (R ∷ m) t e = refl
+no_unwrap w (L ∷ m) t e = refl
+no_unwrap w (S s ∷ m) t e = cc
 
 -- without the mark there is nothing to unwrap
-pub no_mark : (w : ℕ) (m : List Sym) (ws : List ℕ) (n a : ℕ) → (held : ws ≡ work_words m) → (long : n ≡ length ws)
-    → (read : a ≡ get_or ws (n - 3) a) → (other : (a ≡ w → ⊥)) → (marks : (w ≡ 1) ⊎ (w ≡ 2)) → unwrapped w m ≡ None
-no_mark w [] ws n a held long read other marks = refl
-no_mark w (R ∷ m) ws n a held long read other marks = refl
-no_mark w (L ∷ m) ws n a held long read other marks = refl
-no_mark w (S star ∷ m) ws n a held long read other marks = refl
-no_mark w (S (left_of s) ∷ m) ws n a held long read other marks =
-    let P : ℕ → Type 0 = λ x. unwrapped x (S (left_of s) ∷ m) ≡ None in
-    elim marks [ inl x ↦ absurd (other (tag_s (left_of s) m ws n a held long read ∙ sym x)) | inr x ↦ subst P (sym x) refl ]
-no_mark w (S (right_of s) ∷ m) ws n a held long read other marks =
-    let P : ℕ → Type 0 = λ x. unwrapped x (S (right_of s) ∷ m) ≡ None in
-    elim marks [ inl x ↦ subst P (sym x) refl | inr x ↦ absurd (other (tag_s (right_of s) m ws n a held long read ∙ sym x)) ]
-no_mark w (S (pair_of s u) ∷ m) ws n a held long read other marks = refl
-no_mark w (S (again s u) ∷ m) ws n a held long read other marks = refl
-
--- a pair is put together: the first part comes from another stack, and is put below the second
-pub pairs : (s : Sig) (b : List ℕ) (m : List Sym) (ws xs vs : List ℕ) (n k l : ℕ) → (of_s : b ≡ body s) →
-    (held : ws ≡ work_words m)
-    → (T : SigTop m) → (long : n ≡ length ws) → (sized : k ≡ get_or ws (n - 2) k)
-    → (below : xs ≡ take (n - 2 - k) ws ++ (b ++ (drop (n - 2 - k) ws ++ 0 ∷ 7 ∷ []))) → (longer : l ≡ length xs)
-    → (written : vs ≡ set (set xs (l - 2 - 1) 3) (l - 2) (l - 2 - (n - 2 - k))) → Turns (paired s m) vs
-pairs s b m ws xs vs n k l of_s held T long sized below longer written =
-    let t : Sig = T.sig in
-    let r : List Sym = T.rest in
-    let M : List ℕ = work_words r in
-    let held' : ws ≡ M ++ (body t ++ length (body t) ∷ 7 ∷ []) = held ∙ ap work_words T.is in
-    let size : k ≡ length (body t) = size_s t r ws n k held' long sized in
-    let lw : length ws ≡ length M + length (body t) + 2 = sig_length t r ws held' in
-    let U : List ℕ = body t ++ length (body t) ∷ 7 ∷ [] in
-    let lU : length U ≡ length (body t) + 2 = length-append (body t) (length (body t) ∷ 7 ∷ []) in
-    let front : take (n - 2 - k) ws ≡ M = take_after M U ws (n - 2 - k) held' (omega arith) in
-    let rest : drop (n - 2 - k) ws ≡ U = drop_after M U ws (n - 2 - k) held' (omega arith) in
-    let swapped : xs ≡ M ++ (b ++ (U ++ 0 ∷ 7 ∷ [])) =
-    below ∙ ap (λ (z : List ℕ). z ++ (b ++ (drop (n - 2 - k) ws ++ 0 ∷ 7 ∷ []))) front
-    ∙ ap (λ (z : List ℕ). M ++ (b ++ (z ++ 0 ∷ 7 ∷ []))) rest in
-    let ll : l ≡ length M + length (body t) + 2 + length b + 2 =
-    omega (
-      arith,
-      length_both M (b ++ (U ++ 0 ∷ 7 ∷ [])) xs swapped,
-      length-append b (U ++ 0 ∷ 7 ∷ []),
-      length-append U (0 ∷ 7 ∷ []),
-    ) in
-    let F : List ℕ = (M ++ (b ++ body t)) ++ length (body t) ∷ [] in
-    let lF : length F ≡ length M + length b + length (body t) + 1 =
-    omega (arith, length_on (M ++ (b ++ body t)) (length (body t)), length-append M (b ++ body t), length-append b (body t)) in
-    let opened : xs ≡ F ++ 7 ∷ 0 ∷ 7 ∷ [] =
-    swapped
-    ∙ ap (λ (z : List ℕ). M ++ (b ++ z)) (append_assoc (body t) (length (body t) ∷ 7 ∷ []) (0 ∷ 7 ∷ []))
-    ∙ ap (λ (z : List ℕ). M ++ z) (sym (append_assoc b (body t) (length (body t) ∷ 7 ∷ 0 ∷ 7 ∷ [])))
-    ∙ sym (append_assoc M (b ++ body t) (length (body t) ∷ 7 ∷ 0 ∷ 7 ∷ []))
-    ∙ one_on (M ++ (b ++ body t)) (length (body t)) (7 ∷ 0 ∷ 7 ∷ []) in
-    let one : set xs (l - 2 - 1) 3 ≡ (F ++ 3 ∷ []) ++ 0 ∷ 7 ∷ [] =
-    set_after F 7 (0 ∷ 7 ∷ []) xs (l - 2 - 1) 3 opened (omega arith) ∙ one_on F 3 (0 ∷ 7 ∷ []) in
-    let j : ℕ = l - 2 - (n - 2 - k) in
-    let two : set (set xs (l - 2 - 1) 3) (l - 2) j ≡ (F ++ 3 ∷ []) ++ j ∷ 7 ∷ [] =
-    set_after (F ++ 3 ∷ []) 0 (7 ∷ []) (set xs (l - 2 - 1) 3) (l - 2) j one (omega (arith, length_on F 3)) in
-    let made : F ++ 3 ∷ [] ≡ M ++ (b ++ (body t ++ length (body t) ∷ 3 ∷ [])) =
-    sym (one_on (M ++ (b ++ body t)) (length (body t)) (3 ∷ []))
-    ∙ append_assoc M (b ++ body t) (length (body t) ∷ 3 ∷ [])
-    ∙ ap (λ (z : List ℕ). M ++ z) (append_assoc b (body t) (length (body t) ∷ 3 ∷ [])) in
-    let B : List ℕ = b ++ (body t ++ length (body t) ∷ 3 ∷ []) in
-    let lB : length B ≡ length b + length (body t) + 2 =
-    omega (arith, length-append b (body t ++ length (body t) ∷ 3 ∷ []), length-append (body t) (length (body t) ∷ 3 ∷ [])) in
-    record {
-      left = S (pair_of s t) ∷ r;
-      is = ap (paired s) T.is;
-      words =
-          written ∙ two ∙ ap (λ (z : List ℕ). z ++ j ∷ 7 ∷ []) made
-          ∙ sig_made r (pair_of s t) B j (ap (λ (z : List ℕ). z ++ (body t ++ length (body t) ∷ 3 ∷ [])) (sym of_s)) (omega arith);
-    }
-
--- a pair on top
-pub record PairTop (m : List Sym) : Type 0 where
-  pub first : Sig
-  pub second : Sig
-  pub rest : List Sym
-  pub is : m ≡ S (pair_of first second) ∷ rest
-
-pair_tagged : (s : Sig) (r : List Sym) → tag s ≡ 3 → PairTop (S s ∷ r)
-pair_tagged star r h = absurd (omega arith)
-pair_tagged (left_of s) r h = absurd (omega arith)
-pair_tagged (right_of s) r h = absurd (omega arith)
-pair_tagged (pair_of s u) r h = record { first = s; second = u; rest = r; is = refl }
-pair_tagged (again s u) r h = absurd (omega arith)
-
-pub pair_top : (m : List Sym) (ws : List ℕ) (n a : ℕ) → (held : ws ≡ work_words m) → (T : SigTop m) → (long : n ≡ length ws)
-    → (read : a ≡ get_or ws (n - 3) a) → (found : a ≡ 3) → PairTop m
-pair_top m ws n a e T h t u =
-    let e' : ws ≡ work_words (S T.sig ∷ T.rest) = e ∙ ap work_words T.is in
-    let P : List Sym → Type 0 = λ x. PairTop x in
-    subst P (sym T.is) (pair_tagged T.sig T.rest (sym (tag_s T.sig T.rest ws n a e' h t) ∙ u))
-
-pub some_pair : (m : List Sym) → IsSome (pair_body m) → PairTop m
-some_pair (S (pair_of s u) ∷ m) h = record { first = s; second = u; rest = m; is = refl }
-some_pair (S star ∷ m) h = cc
-some_pair (S (left_of s) ∷ m) h = cc
-some_pair (S (right_of s) ∷ m) h = cc
-some_pair (S (again s u) ∷ m) h = cc
-some_pair [] h = cc
-some_pair (R ∷ m) h = cc
-some_pair (L ∷ m) h = cc
-
-pub pair_is_sig : (m : List Sym) → PairTop m → SigTop m
-pair_is_sig m T = record { sig = pair_of T.first T.second; rest = T.rest; is = T.is }
-
--- where the parts of a pair lie
-pub record PairWords (s u : Sig) (r : List Sym) (ws : List ℕ) (n k j : ℕ) : Type 0 where
-  pub words : ws ≡ work_words r ++ (body s ++ (body u ++ length (body u) ∷ 3 ∷ k ∷ 7 ∷ []))
-  pub size : k ≡ length (body s) + length (body u) + 2
-  pub second : j ≡ length (body u)
-  pub whole : n ≡ length (work_words r) + length (body s) + length (body u) + 4
-
--- the words of a stack with a pair on top, part by part
-pub pair_words : (m : List Sym) (ws : List ℕ) (n k j : ℕ) → (held : ws ≡ work_words m) → (T : PairTop m) →
-    (long : n ≡ length ws)
-    → (sized : k ≡ get_or ws (n - 2) k) → (sized_second : j ≡ get_or ws (n - 4) j) → PairWords T.first T.second T.rest ws n k j
-pair_words m ws n k j held T long sized sized_second =
-    let s : Sig = T.first in
-    let u : Sig = T.second in
-    let r : List Sym = T.rest in
-    let held' : ws ≡ work_words (S (pair_of s u) ∷ r) = held ∙ ap work_words T.is in
-    let size : k ≡ length (body (pair_of s u)) = size_s (pair_of s u) r ws n k held' long sized in
-    let le : length ws ≡ length (work_words r) + length (body (pair_of s u)) + 2 = sig_length (pair_of s u) r ws held' in
-    let open_is : ws ≡ work_words r ++ (body s ++ (body u ++ length (body u) ∷ 3 ∷ k ∷ 7 ∷ [])) =
-    held' ∙ ap (λ (z : List ℕ). work_words r ++ z)
-    (append_assoc (body s) (body u ++ length (body u) ∷ 3 ∷ []) (length (body (pair_of s u)) ∷ 7 ∷ [])
-    ∙ ap (λ (z : List ℕ). body s ++ z) (append_assoc (body u) (length (body u) ∷ 3 ∷ [])
-    (length (body (pair_of s u)) ∷ 7 ∷ [])))
-    ∙ ap (λ (z : ℕ). work_words r ++ (body s ++ (body u ++ length (body u) ∷ 3 ∷ z ∷ 7 ∷ []))) (sym size) in
-    let F : List ℕ = work_words r ++ (body s ++ body u) in
-    let lF : length F ≡ length (work_words r) + length (body s) + length (body u) =
-    omega (arith, length-append (work_words r) (body s ++ body u), length-append (body s) (body u)) in
-    let F_is : ws ≡ F ++ length (body u) ∷ 3 ∷ k ∷ 7 ∷ [] =
-    open_is ∙ ap (λ (z : List ℕ). work_words r ++ z) (sym (append_assoc (body s) (body u) (length (body u) ∷ 3 ∷ k ∷ 7 ∷ [])))
-    ∙ sym (append_assoc (work_words r) (body s ++ body u) (length (body u) ∷ 3 ∷ k ∷ 7 ∷ [])) in
-    let lp : length (body (pair_of s u)) ≡ length (body s) + length (body u) + 2 = length_pair s u in
-    record {
-      words = open_is;
-      size = omega arith;
-      second = word_at F (length (body u)) (3 ∷ k ∷ 7 ∷ []) ws (n - 4) j F_is (omega arith) sized_second;
-      whole = omega arith;
-    }
-
--- the body of the first part lies between what is left and the second part
-pub pair_body_is : (m : List Sym) (ws : List ℕ) (n k j : ℕ) → (T : PairTop m) → PairWords T.first T.second T.rest ws n k j
-    → Some (take (n - 4 - j - (n - 2 - k)) (drop (n - 2 - k) ws)) ≡ pair_body m
-pair_body_is m ws n k j T w =
-    let s : Sig = T.first in
-    let u : Sig = T.second in
-    let one : k ≡ length (body s) + length (body u) + 2 = w.size in
-    let two : j ≡ length (body u) = w.second in
-    let all : n ≡ length (work_words T.rest) + length (body s) + length (body u) + 4 = w.whole in
-    ap (λ (z : List ℕ). Some z)
-    (piece_at (work_words T.rest) (body s) (body u ++ length (body u) ∷ 3 ∷ k ∷ 7 ∷
-    []) ws (n - 2 - k) (n - 4 - j - (n - 2 - k)) w.words
-    (omega arith) (omega arith))
-    ∙ ap pair_body (sym T.is)
-
--- The end is written over the pair's own mark, the second part with its size and that end is copied down over the first, and what is
--- behind it goes.
-pub unpairs : (m : List Sym) (ws us xs vs : List ℕ) (n k j : ℕ) → (T : PairTop m) →
-    (lie : PairWords T.first T.second T.rest ws n k j)
-    → (written : us ≡ set ws (n - 3) 7)
-    → (copied : xs ≡ (take (n - 2 - k) us ++ take (n - 2 - (n - 4 - j)) (drop (n - 4 - j) us))
-    ++ drop (n - 2 - k + (n - 2 - (n - 4 - j))) us)
-    → (cut : vs ≡ take (n - k + j) xs) → Turns (unpaired m) vs
-unpairs m ws us xs vs n k j T lie written copied cut =
-    let s : Sig = T.first in
-    let u : Sig = T.second in
-    let r : List Sym = T.rest in
-    let M : List ℕ = work_words r in
-    let one : k ≡ length (body s) + length (body u) + 2 = lie.size in
-    let two : j ≡ length (body u) = lie.second in
-    let all : n ≡ length M + length (body s) + length (body u) + 4 = lie.whole in
-    let F : List ℕ = (M ++ (body s ++ body u)) ++ length (body u) ∷ [] in
-    let lF : length F ≡ length M + length (body s) + length (body u) + 1 =
-    omega (
-      arith,
-      length_on (M ++ (body s ++ body u)) (length (body u)),
-      length-append M (body s ++ body u),
-      length-append (body s) (body u),
-    ) in
-    let F_is : (g : List ℕ) → M ++ (body s ++ (body u ++ length (body u) ∷ g)) ≡ F ++ g =
-    λ g. ap (λ (z : List ℕ). M ++ z) (sym (append_assoc (body s) (body u) (length (body u) ∷ g)))
-    ∙ sym (append_assoc M (body s ++ body u) (length (body u) ∷ g)) ∙ one_on (M ++ (body s ++ body u)) (length (body u)) g in
-    let V : List ℕ = body u ++ length (body u) ∷ 7 ∷ [] in
-    let lV : length V ≡ length (body u) + 2 = length-append (body u) (length (body u) ∷ 7 ∷ []) in
-    let us' : us ≡ M ++ (body s ++ (V ++ k ∷ 7 ∷ [])) =
-    written ∙ set_after F 3 (k ∷ 7 ∷ []) ws (n - 3) 7 (lie.words ∙ F_is (3 ∷ k ∷ 7 ∷ [])) (omega arith) ∙
-    sym (F_is (7 ∷ k ∷ 7 ∷ []))
-    ∙ ap (λ (z : List ℕ). M ++ (body s ++ z)) (sym (append_assoc (body u) (length (body u) ∷ 7 ∷ []) (k ∷ 7 ∷ []))) in
-    let front : take (n - 2 - k) us ≡ M = take_after M (body s ++ (V ++ k ∷ 7 ∷ [])) us (n - 2 - k) us' (omega arith) in
-    let moved : take (n - 2 - (n - 4 - j)) (drop (n - 4 - j) us) ≡ V =
-    piece_at (M ++ body s) V (k ∷ 7 ∷ []) us (n - 4 - j) (n - 2 - (n - 4 - j)) (us' ∙
-    sym (append_assoc M (body s) (V ++ k ∷ 7 ∷ [])))
-    (omega (arith, length-append M (body s))) (omega arith) in
-    let D : List ℕ = drop (n - 2 - k + (n - 2 - (n - 4 - j))) us in
-    let lowered : xs ≡ (M ++ V) ++ D =
-    copied ∙ ap (λ (a : List ℕ). (a ++ take (n - 2 - (n - 4 - j)) (drop (n - 4 - j) us)) ++ D) front
-    ∙ ap (λ (a : List ℕ). (M ++ a) ++ D) moved in
-    record {
-      left = S u ∷ r;
-      is = ap unpaired T.is;
-      words = cut ∙ take_after (M ++ V) D xs (n - k + j) lowered (omega (arith, length-append M V));
-    }
-
--- without a signature on top there is nothing to wrap and no pair
-pub not_wrapped : (w : ℕ) (m : List Sym) → None ≡ top_body m → wrapped w m ≡ None
-not_wrapped w [] e = refl
-not_wrapped w (R ∷ m) e = refl
-not_wrapped w (L ∷ m) e = refl
-not_wrapped w (S s ∷ m) e = cc
-
-pub not_paired : (m : List Sym) → None ≡ top_body m → None ≡ pair_body m
-not_paired [] e = refl
-not_paired (R ∷ m) e = refl
-not_paired (L ∷ m) e = refl
-not_paired (S s ∷ m) e = cc
-
--- a stack whose top has another mark than a pair's has no pair on top
-pub other_mark : (m : List Sym) (ws : List ℕ) (n a : ℕ) → ws ≡ work_words m → n ≡ length ws → a ≡ get_or ws (n - 3) a →
-    (a ≡ 3 → ⊥)
-    → None ≡ pair_body m
-other_mark [] ws n a e h r p = refl
-other_mark (R ∷ m) ws n a e h r p = refl
-other_mark (L ∷ m) ws n a e h r p = refl
-other_mark (S star ∷ m) ws n a e h r p = refl
-other_mark (S (left_of s) ∷ m) ws n a e h r p = refl
-other_mark (S (right_of s) ∷ m) ws n a e h r p = refl
-other_mark (S (pair_of s u) ∷ m) ws n a e h r p = absurd (p (tag_s (pair_of s u) m ws n a e h r))
-other_mark (S (again s u) ∷ m) ws n a e h r p = refl
-
-pub pushes : (s : Sig) (b : List ℕ) (m : List Sym) (ws vs : List ℕ) → b ≡ body s → ws ≡ work_words m → vs ≡ ws ++
-    (b ++ length b ∷ 7 ∷ [])
-    → vs ≡ work_words (S s ∷ m)
-pushes s b m ws vs f e v =
-    v ∙ ap (λ (z : List ℕ). z ++ (b ++ length b ∷ 7 ∷ [])) e ∙
-    ap (λ (z : List ℕ). work_words m ++ (z ++ length z ∷ 7 ∷ [])) f
-
--- the places of a pair's parts, for what the code owes
-pub pair_fits : (s u : Sig) (r : List Sym) (ws : List ℕ) (n k j : ℕ) → PairWords s u r ws n k j
-    → (4 ≤ n) × (k ≤ n - 2) × (j ≤ n - 4) × (n - 2 - k ≤ n - 4 - j) × (n - 4 - j ≤ n - 2) × (n - k + j ≤ n)
-pair_fits s u r ws n k j w =
-    let one : k ≡ length (body s) + length (body u) + 2 = w.size in
-    let two : j ≡ length (body u) = w.second in
-    let all : n ≡ length (work_words r) + length (body s) + length (body u) + 4 = w.whole in
-    (omega arith, omega arith, omega arith, omega arith, omega arith, omega arith)
-
-pub pair_long : (m : List Sym) (ws : List ℕ) (n : ℕ) → ws ≡ work_words m → PairTop m → n ≡ length ws → 4 ≤ n
-pair_long m ws n e T h =
-    omega (arith, sig_length (pair_of T.first T.second) T.rest ws (e ∙ ap work_words T.is), length_pair T.first T.second)
-
--- there are no words exactly when there is no symbol
-pub work_empty_test : (m : List Sym) (ws : List ℕ) (n : ℕ) (b : Bool) → ws ≡ work_words m → n ≡ length ws → b ≡ (n == 0)
-    → IsTrue b ↔ (m ≡ [])
-work_empty_test [] ws n b e h q =
-    let z : n ≡ 0 = h ∙ ap length e in
-    (λ _. refl, λ _. q ∙ eq-eqb n 0 z)
-work_empty_test (R ∷ m) ws n b e h q =
-    let z : 0 < n = omega (arith, length_both (work_words m) (5 ∷ []) ws e) in
-    (λ y. absurd (let w : n ≡ 0 = eqb-true n 0 (sym q ∙ y) in omega arith), λ y. cc)
-work_empty_test (L ∷ m) ws n b e h q =
-    let z : 0 < n = omega (arith, length_both (work_words m) (6 ∷ []) ws e) in
-    (λ y. absurd (let w : n ≡ 0 = eqb-true n 0 (sym q ∙ y) in omega arith), λ y. cc)
-work_empty_test (S s ∷ m) ws n b e h q =
-    let z : 0 < n = omega (arith, sig_length s m ws e) in
-    (λ y. absurd (let w : n ≡ 0 = eqb-true n 0 (sym q ∙ y) in omega arith), λ y. cc)
-
--- an `L` over a signature
-pub pops_argument : (m : List Sym) (ws vs : List ℕ) (n a b : ℕ) → (held : ws ≡ work_words m) → (long : n ≡ length ws) →
-    (enough : 2 ≤ n)
-    → (read : a ≡ get_or ws (n - 1) a) → (found : a ≡ 6) → (under : b ≡ get_or ws (n - 2) b) → (found_under : b ≡ 7)
-    → (cut : vs ≡ take (n - 1) ws) → Turns (argument_left m) vs
-pops_argument [] ws vs n a b held long enough read found under found_under cut =
-    absurd (let q : length ws ≡ 0 = ap length held in omega arith)
-pops_argument (R ∷ m) ws vs n a b held long enough read found under found_under cut =
-    absurd (let z : a ≡ 5 = last_r m ws n a held long read in omega arith)
-pops_argument (S s ∷ m) ws vs n a b held long enough read found under found_under cut =
-    absurd (let z : a ≡ 7 = last_s s m ws n a held long read in omega arith)
-pops_argument (L ∷ []) ws vs n a b held long enough read found under found_under cut =
-    absurd (let q : length ws ≡ 1 = ap length held in omega arith)
-pops_argument (L ∷ R ∷ m) ws vs n a b held long enough read found under found_under cut =
-    absurd (let z : b ≡ 5 = word_at (work_words m) 5 (6 ∷ []) ws (n - 2) b (held ∙ append_assoc (work_words m) (5 ∷ []) (6 ∷ []))
-    (omega (arith, length_both (work_words m) (5 ∷ 6 ∷ []) ws (held ∙ append_assoc (work_words m) (5 ∷ []) (6 ∷ [])))) under in
-    omega arith)
-pops_argument (L ∷ L ∷ m) ws vs n a b held long enough read found under found_under cut =
-    absurd (let z : b ≡ 6 = word_at (work_words m) 6 (6 ∷ []) ws (n - 2) b (held ∙ append_assoc (work_words m) (6 ∷ []) (6 ∷ []))
-    (omega (arith, length_both (work_words m) (6 ∷ 6 ∷ []) ws (held ∙ append_assoc (work_words m) (6 ∷ []) (6 ∷ [])))) under in
-    omega arith)
-pops_argument (L ∷ S s ∷ m) ws vs n a b held long enough read found under found_under cut =
-    record {
-      left = S s ∷ m;
-      is = refl;
-      words = cut ∙ take_after (work_words (S s ∷ m)) (6 ∷ []) ws (n - 1) held
-          (omega (arith, length_both (work_words (S s ∷ m)) (6 ∷ []) ws held));
-    }
-
--- the word of a symbol under an `L`
-under_l : (s : Sig) (m : List Sym) (ws : List ℕ) (n b : ℕ) → ws ≡ work_words (L ∷ S s ∷ m) → n ≡ length ws →
-    b ≡ get_or ws (n - 2) b → b ≡ 7
-under_l s m ws n b e h q =
-    let f : List ℕ = (work_words m ++ body s) ++ length (body s) ∷ [] in
-    let lf : length f ≡ length (work_words m) + length (body s) + 1 =
-    omega (arith, length_on (work_words m ++ body s) (length (body s)), length-append (work_words m) (body s)) in
-    let open_is : ws ≡ f ++ 7 ∷ 6 ∷ [] =
-    e ∙ ap (λ (z : List ℕ). z ++ 6 ∷ []) (sig_words s m (work_words (S s ∷ m)) refl)
-    ∙ append_assoc (work_words m ++ body s) (length (body s) ∷ 7 ∷ []) (6 ∷ [])
-    ∙ one_on (work_words m ++ body s) (length (body s)) (7 ∷ 6 ∷ []) in
-    word_at f 7 (6 ∷ []) ws (n - 2) b open_is (omega (arith, length_both f (7 ∷ 6 ∷ []) ws open_is)) q
-
-pub no_argument_one : (m : List Sym) (ws : List ℕ) (n : ℕ) → ws ≡ work_words m → n ≡ length ws → n < 2 →
-    argument_left m ≡ None
-no_argument_one [] ws n e h p = refl
-no_argument_one (R ∷ m) ws n e h p = refl
-no_argument_one (S s ∷ m) ws n e h p = refl
-no_argument_one (L ∷ []) ws n e h p = refl
-no_argument_one (L ∷ R ∷ m) ws n e h p = refl
-no_argument_one (L ∷ L ∷ m) ws n e h p = refl
-no_argument_one (L ∷ S s ∷ m) ws n e h p =
-    absurd (omega (arith, length_both (work_words (S s ∷ m)) (6 ∷ []) ws e, sig_length s m (work_words (S s ∷ m)) refl))
-
-pub no_argument_top : (m : List Sym) (ws : List ℕ) (n a : ℕ) → ws ≡ work_words m → n ≡ length ws →
-    a ≡ get_or ws (n - 1) a → (a ≡ 6 → ⊥)
-    → argument_left m ≡ None
-no_argument_top [] ws n a e h r p = refl
-no_argument_top (R ∷ m) ws n a e h r p = refl
-no_argument_top (S s ∷ m) ws n a e h r p = refl
-no_argument_top (L ∷ m) ws n a e h r p = absurd (p (last_l m ws n a e h r))
-
-pub no_argument_under : (m : List Sym) (ws : List ℕ) (n b : ℕ) → ws ≡ work_words m → n ≡ length ws →
-    b ≡ get_or ws (n - 2) b → (b ≡ 7 → ⊥)
-    → argument_left m ≡ None
-no_argument_under [] ws n b e h r p = refl
-no_argument_under (R ∷ m) ws n b e h r p = refl
-no_argument_under (S s ∷ m) ws n b e h r p = refl
-no_argument_under (L ∷ []) ws n b e h r p = refl
-no_argument_under (L ∷ R ∷ m) ws n b e h r p = refl
-no_argument_under (L ∷ L ∷ m) ws n b e h r p = refl
-no_argument_under (L ∷ S s ∷ m) ws n b e h r p = absurd (p (under_l s m ws n b e h r))
-
-pub pushes_argument : (m : List Sym) (ws vs : List ℕ) → ws ≡ work_words m → SigTop m → vs ≡ ws ++ 6 ∷ [] →
-    Turns (argument_made m) vs
-pushes_argument m ws vs e T v =
-    record {
-      left = L ∷ m;
-      is = ap argument_made T.is ∙ ap (λ (z : List Sym). Some (L ∷ z)) (sym T.is);
-      words = v ∙ ap (λ (z : List ℕ). z ++ 6 ∷ []) e;
-    }
+pub other_unwrap : (w : ℕ) (a : Load) (ws : List ℕ) (b n k c : ℕ) → (seen : load_of ws b ≡ a) → (h : HasTop ws b k)
+    → (marks : (w ≡ 1) ⊎ (w ≡ 2))
+    → (long : n ≡ length ws) → (read : c ≡ get_or ws (n - 3) c) → (other : (c ≡ w → ⊥)) → unwrapped w a.work a.boxes ≡ None
+other_unwrap w a ws b n k c seen h marks long read other =
+    shaped (unwrapped w) a ws b (S h.sig ∷ h.rest) h.boxes seen h.lies ∙ go h.sig (λ e. other (mark_of ws b n k c h long read ∙ e))
+  where
+    go : (s : Sig) → (tag s ≡ w → ⊥) → unwrapped w (S s ∷ h.rest) h.boxes ≡ None
+    go star e = refl
+    go (left_of s) e =
+        let P : ℕ → Type 0 = λ x. unwrapped x (S (left_of s) ∷ h.rest) h.boxes ≡ None in
+        elim marks [ inl x ↦ absurd (e (sym x)) | inr x ↦ subst P (sym x) refl ]
+    go (right_of s) e =
+        let P : ℕ → Type 0 = λ x. unwrapped x (S (right_of s) ∷ h.rest) h.boxes ≡ None in
+        elim marks [ inl x ↦ subst P (sym x) refl | inr x ↦ absurd (e (sym x)) ]
+    go (pair_of s u) e = refl
+    go (again s u) e = refl

@@ -15,13 +15,13 @@ pub mod Order
 pub mod Laws
 -- How the logic stores signatures and stacks, so that models can have them. It says nothing of them.
 pub mod Codes
--- What private contracts and proofs use alone: how words are read, the top of one stack, and parts of a list that change places.
+-- What private contracts and proofs use alone: how words are read, both stacks in one list, and parts of a list that change places.
 --
 -- The stack that words stand for.
 pub mod Reading
--- What a step on one stack finds at its top, and what it leaves.
+-- Both stacks in one list of words, what stands on top of each, and rows for a symbol's word and a signature's mark.
 pub mod Tops
--- Parts of a list that change places, and a part that is put below others.
+-- Parts of a list that change places, and words of a list that are written.
 pub mod Parts
 -- What the code of texts speaks of: either stack as a list of symbols, the symbol on top, and what is still to be written of a signature.
 pub mod Printing

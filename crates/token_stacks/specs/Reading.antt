@@ -4,11 +4,11 @@
 -- read before the next symbol. Words that stand for no stack are read as some stack or other; the types that keep words keep
 -- beside them that the stack's own words are these. The two laws at the end of each reading say that it gives back the stack whose words
 -- are read, so that no two stacks have the same words.
-use Rattle.std.specs.Prelude.{ℕ, zero, suc, Bool, true, false, ◌≡◌, ◌==◌, List, [], ◌∷◌, ◌++◌, length, cond, reverse}
+use Rattle.std.specs.Prelude.{ℕ, zero, suc, Bool, true, false, ◌≡◌, ◌==◌, List, [], ◌∷◌, ◌++◌, length, cond, reverse, take, drop}
 use Rattle.std.specs.Prelude.{refl}
 use Rattle.std.proofs.Common.{◌∙◌, ap, sym}
 use Rattle.std.proofs.lemmas.List.{reverse-append, append_assoc, append-nil}
-use Rattle.token_stacks.specs.Signatures.{Sig, star, left_of, right_of, pair_of, again, Sym, R, L, S, Work, Boxes}
+use Rattle.token_stacks.specs.Signatures.{Sig, star, left_of, right_of, pair_of, again, Sym, R, L, S, Work, Boxes, Load, load}
 use Rattle.token_stacks.specs.Words.{body, entry, work_words, box_words}
 
 abbrev on_one : (Sig → Sig) → List Sym → List Sym
@@ -56,6 +56,10 @@ work_of ws = read false (reverse ws) false 0
 pub boxes_of : List ℕ → Boxes
 unfolding read
 boxes_of ws = signatures (read true (reverse ws) false 0)
+
+-- both stacks of words with a border: the box stack's come first
+abbrev pub load_of : List ℕ → ℕ → Load
+load_of ws border = load (work_of (drop border ws)) (boxes_of (take border ws))
 
 reverse_three : (a b : List ℕ) (x y : ℕ) (rest : List ℕ)
     → reverse (a ++ (b ++ x ∷ y ∷ [])) ++ rest ≡ y ∷ x ∷ (reverse b ++ (reverse a ++ rest))

@@ -1,93 +1,104 @@
--- What a step on one stack finds at its top, and what it leaves. None stands for a stack without the shape. Only the two stacks
--- themselves speak of these; the calls on both together have the table of rows.
-use Rattle.std.specs.Prelude.{ℕ, ◌≡◌, ◌==◌, Bool, List, [], ◌∷◌, Option, Some, None, cond}
-use Rattle.std.specs.Bool.{MatchBool}
-use Rattle.token_stacks.specs.Signatures.{Sig, star, left_of, right_of, pair_of, again, R, L, S, Work, Boxes}
-use Rattle.token_stacks.specs.Words.{body}
+-- Both stacks in one list of words, and what stands on top of each. Private contracts and proofs alone speak of these; the public
+-- calls have the table of rows.
+--
+-- The box stack's words come first, and end at a border; the work stack's words are behind it. On both stacks a signature has the
+-- same words but for a closing mark. So a signature with nothing below it on the work stack goes from one stack to the other by a move
+-- of the border.
+use Rattle.std.specs.Prelude.{ℕ, ◌≡◌, ◌==◌, ◌≤◌, List, [], ◌∷◌, ◌++◌, Option, Some, None, cond, length, take, drop}
+use Rattle.token_stacks.specs.Signatures.{Sig, left_of, right_of, pair_of, again, R, L, S, Work, Boxes, Load, load}
+use Rattle.token_stacks.specs.Words.{body, work_words, box_words}
+use Rattle.token_stacks.specs.Reading.{work_of, boxes_of}
 
 -- the words are the body of a signature
 pub record IsBody (words : List ℕ) : Type 0 where
   pub sig : Sig
   pub is : words ≡ body sig
 
--- the step was made, or the shape is missing and all stays
-abbrev pub Steps : {A : Type 0} → (A → Option A) → A → Bool → A → Type 0
-Steps f old made new = MatchBool made (f old ≡ Some new) ((f old ≡ None) × (new ≡ old))
+-- the words up to the border are those of a box stack
+pub record AreBoxes (ws : List ℕ) (border : ℕ) : Type 0 where
+  pub within : border ≤ length ws
+  pub boxes : box_words (boxes_of (take border ws)) ≡ take border ws
 
-abbrev pub top_body : Work → Option (List ℕ)
-top_body (S s ∷ m) = Some (body s)
-top_body _ = None
+-- and the words behind it are those of a work stack
+pub record IsHeld (ws : List ℕ) (border : ℕ) : Type 0 where
+  pub front : AreBoxes ws border
+  pub work : work_words (work_of (drop border ws)) ≡ drop border ws
 
-abbrev pub box_body : Boxes → Option (List ℕ)
-box_body [] = None
-box_body (s ∷ t) = Some (body s)
+-- these are the stacks of the words
+pub record Lies (ws : List ℕ) (border : ℕ) (m : Work) (t : Boxes) : Type 0 where
+  pub words : ws ≡ box_words t ++ work_words m
+  pub ends : border ≡ length (box_words t)
 
--- the first part of a pair
-abbrev pub pair_body : Work → Option (List ℕ)
-pair_body (S (pair_of s u) ∷ m) = Some (body s)
-pair_body _ = None
+-- a signature whose body has so many words is on top of the work stack
+pub record HasTop (ws : List ℕ) (border size : ℕ) : Type 0 where
+  pub sig : Sig
+  pub rest : Work
+  pub boxes : Boxes
+  pub sized : size ≡ length (body sig)
+  pub lies : Lies ws border (S sig ∷ rest) boxes
 
--- the second part of `y`
-abbrev pub again_body : Boxes → Option (List ℕ)
-again_body (again u s ∷ t) = Some (body s)
-again_body _ = None
+-- a signature whose body has so many words is on top of the box stack
+pub record HasBox (ws : List ℕ) (border size : ℕ) : Type 0 where
+  pub sig : Sig
+  pub rest : Boxes
+  pub work : Work
+  pub sized : size ≡ length (body sig)
+  pub lies : Lies ws border work (sig ∷ rest)
 
--- without the symbol of this word, `R` or `L`
-abbrev pub popped : ℕ → Work → Option (Work)
-popped n (R ∷ m) = cond (n == 5) (Some m) None
-popped n (L ∷ m) = cond (n == 6) (Some m) None
-popped n _ = None
+-- a pair whose parts' bodies have so many words is on top of the work stack
+pub record HasPair (ws : List ℕ) (border first second : ℕ) : Type 0 where
+  pub one : Sig
+  pub two : Sig
+  pub rest : Work
+  pub boxes : Boxes
+  pub first_sized : first ≡ length (body one)
+  pub second_sized : second ≡ length (body two)
+  pub lies : Lies ws border (S (pair_of one two) ∷ rest) boxes
 
-abbrev pub popped_star : Work → Option (Work)
-popped_star (S star ∷ m) = Some m
-popped_star _ = None
+-- a `y` whose parts' bodies have so many words is on top of the box stack
+pub record HasAgain (ws : List ℕ) (border first second : ℕ) : Type 0 where
+  pub one : Sig
+  pub two : Sig
+  pub rest : Boxes
+  pub work : Work
+  pub first_sized : first ≡ length (body one)
+  pub second_sized : second ≡ length (body two)
+  pub lies : Lies ws border work (again one two ∷ rest)
 
-abbrev pub popped_signature : Work → Option (Work)
-popped_signature (S s ∷ m) = Some m
-popped_signature _ = None
+-- the signature on top of a stack, if there is one
+abbrev pub top_sig : Work → Option Sig
+top_sig (S s ∷ m) = Some s
+top_sig _ = None
+
+abbrev pub box_sig : Boxes → Option Sig
+box_sig (s ∷ t) = Some s
+box_sig [] = None
+
+-- the parts of the pair on top, and of the `y`
+abbrev pub top_pair : Work → Option (Sig × Sig)
+top_pair (S (pair_of s u) ∷ m) = Some (s, u)
+top_pair _ = None
+
+abbrev pub box_again : Boxes → Option (Sig × Sig)
+box_again (again u s ∷ t) = Some (u, s)
+box_again _ = None
+
+-- the row without the symbol of this word, 5 for `R` and 6 for `L`
+abbrev pub symbol_popped : ℕ → Work → Boxes → Option Load
+symbol_popped n (R ∷ m) t = cond (n == 5) (Some (load m t)) None
+symbol_popped n (L ∷ m) t = cond (n == 6) (Some (load m t)) None
+symbol_popped n _ t = None
 
 -- the signature with this mark, 1 for `l` and 2 for `r`
 abbrev pub marked : ℕ → Sig → Sig
 marked n s = cond (n == 1) (left_of s) (right_of s)
 
-abbrev pub wrapped : ℕ → Work → Option (Work)
-wrapped n (S s ∷ m) = Some (S (marked n s) ∷ m)
-wrapped n _ = None
+-- the rows of wrapping and unwrapping, by the mark
+abbrev pub wrapped : ℕ → Work → Boxes → Option Load
+wrapped n (S s ∷ m) t = Some (load (S (marked n s) ∷ m) t)
+wrapped n _ t = None
 
-abbrev pub unwrapped : ℕ → Work → Option (Work)
-unwrapped n (S (left_of s) ∷ m) = cond (n == 1) (Some (S s ∷ m)) None
-unwrapped n (S (right_of s) ∷ m) = cond (n == 2) (Some (S s ∷ m)) None
-unwrapped n _ = None
-
-abbrev pub paired : Sig → Work → Option (Work)
-paired s (S u ∷ m) = Some (S (pair_of s u) ∷ m)
-paired s _ = None
-
-abbrev pub unpaired : Work → Option (Work)
-unpaired (S (pair_of s u) ∷ m) = Some (S u ∷ m)
-unpaired _ = None
-
-abbrev pub popped_box : Boxes → Option (Boxes)
-popped_box [] = None
-popped_box (s ∷ t) = Some t
-
-abbrev pub popped_box_star : Boxes → Option (Boxes)
-popped_box_star (star ∷ t) = Some t
-popped_box_star _ = None
-
-abbrev pub joined : Sig → Boxes → Option (Boxes)
-joined s (u ∷ t) = Some (again u s ∷ t)
-joined s [] = None
-
-abbrev pub parted : Boxes → Option (Boxes)
-parted (again u s ∷ t) = Some (u ∷ t)
-parted _ = None
-
--- without an `L` that stands over a signature
-abbrev pub argument_left : Work → Option (Work)
-argument_left (L ∷ S s ∷ m) = Some (S s ∷ m)
-argument_left _ = None
-
-abbrev pub argument_made : Work → Option (Work)
-argument_made (S s ∷ m) = Some (L ∷ S s ∷ m)
-argument_made _ = None
+abbrev pub unwrapped : ℕ → Work → Boxes → Option Load
+unwrapped n (S (left_of s) ∷ m) t = cond (n == 1) (Some (load (S s ∷ m) t)) None
+unwrapped n (S (right_of s) ∷ m) t = cond (n == 2) (Some (load (S s ∷ m) t)) None
+unwrapped n _ t = None

@@ -1,15 +1,18 @@
 //! Both stacks of a token, and the table of their calls.
 
-ghost use Rattle.std.specs.Prelude.{◌≡◌, ◌↔◌, [], ◌∷◌, OnOk, OnErr, IfOk, IsTrue};
+ghost use Rattle.std.specs.Prelude.{◌≡◌, ◌↔◌, ◌⊎◌, [], ◌∷◌, OnOk, OnErr, IfOk, IsTrue};
 ghost use Rattle.token_stacks.specs.Signatures.{R, L, S, star, load};
 ghost use Rattle.token_stacks.specs.Words.{work_words, box_words};
 ghost use Rattle.token_stacks.specs.Rows.{Follows, r_popped, l_popped, star_popped, into_argument, out_of_argument, left_wrapped};
 ghost use Rattle.token_stacks.specs.Rows.{right_wrapped, left_unwrapped, right_unwrapped, into_box, out_of_box, out_of_door, into_door};
 ghost use Rattle.token_stacks.specs.Rows.{out_of_fix, into_again, out_of_again};
+ghost use Rattle.token_stacks.specs.Tops.{symbol_popped, wrapped, unwrapped};
 
 use crate::BoxStack;
-use crate::words::{LEFT, RIGHT, STAR, SYMBOL_L, SYMBOL_R};
-use crate::work_stack::WorkStack;
+use crate::held::{Held, again_sizes, box_size, front, pair_sizes, top_size};
+use crate::words::{
+    AGAIN, LEFT, PAIR, RIGHT, SIGNATURE, STAR, SYMBOL_L, SYMBOL_R, append, turn, write_three,
+};
 use std::alloc::{AllocError, Global};
 use std::marker::Model;
 
@@ -19,19 +22,22 @@ use std::marker::Model;
 /// `false` exactly when it finds another shape; then the stacks stay as they were.
 #[derive(Drop)]
 pub struct Stacks {
-    work: WorkStack,
-    boxes: BoxStack,
+    held: Held,
 }
 
 impl Model for Stacks {
-    ghost use Rattle.token_stacks.specs.Signatures.{Load, load};
+    ghost use Rattle.token_stacks.specs.Signatures.{Load};
     ghost use Rattle.token_stacks.specs.Codes.{load_code};
+    ghost use Rattle.token_stacks.specs.Reading.{load_of};
+    ghost use Rattle.token_stacks.specs.Tops.{IsHeld};
 
     ghost Value = { Load };
 
     ghost coded = { load_code };
 
-    ghost view = { λ a. load a.work a.boxes };
+    ghost view = { λ a. load_of a.held.words.items a.held.border };
+
+    ghost invariant = { λ a. IsHeld a.held.words.items a.held.border };
 }
 
 impl Stacks {
@@ -40,8 +46,10 @@ impl Stacks {
         ensures { result ≡ load [] [] }
     {
         Stacks {
-            work: WorkStack::empty(alloc),
-            boxes: BoxStack::empty(alloc),
+            held: Held {
+                words: Vec::new(alloc),
+                border: 0,
+            },
         }
     }
 
@@ -54,8 +62,10 @@ impl Stacks {
         ensures { IfOk result (λ a. a ≡ self.now) }
     {
         Ok(Stacks {
-            work: self.work.copy()?,
-            boxes: self.boxes.copy()?,
+            held: Held {
+                words: self.held.words.clone()?,
+                border: self.held.border,
+            },
         })
     }
 
@@ -63,7 +73,7 @@ impl Stacks {
     pub fn same(&self, other: &Stacks) -> bool
         ensures { IsTrue result ↔ (self.now ≡ other.now) }
     {
-        self.work.same(&other.work) && self.boxes.same(&other.boxes)
+        self.held.border == other.held.border && self.held.words == other.held.words
     }
 
     /// The work stack as words, from its bottom: `R` is 5, `L` is 6, and a signature is its body, the length of its body, and 7. The
@@ -72,28 +82,28 @@ impl Stacks {
     pub fn work_words(&self) -> &[u64]
         ensures { result.now ≡ work_words self.now.work }
     {
-        self.work.words()
+        &self.held.words[self.held.border..]
     }
 
     /// The box stack as words, from its bottom: each signature is its body, as on the work stack, and the length of its body.
     pub fn box_words(&self) -> &[u64]
         ensures { result.now ≡ box_words self.now.boxes }
     {
-        self.boxes.words()
+        &self.held.words[..self.held.border]
     }
 
     /// The box stack alone.
     pub fn boxes(&self) -> &BoxStack
         ensures { result.now ≡ self.now.boxes }
     {
-        &self.boxes
+        front(&self.held)
     }
 
     /// Whether the work stack is empty.
     pub fn work_is_empty(&self) -> bool
         ensures { IsTrue result ↔ (self.now.work ≡ []) }
     {
-        self.work.is_empty()
+        self.held.words.len() == self.held.border
     }
 
     /// `m` becomes `R.m`.
@@ -105,7 +115,8 @@ impl Stacks {
         ensures ok { OnOk result (self.new ≡ load (R ∷ self.old.work) self.old.boxes) }
         ensures err { OnErr result (self.new ≡ self.old) }
     {
-        self.work.push_r()
+        self.held.words.push(SYMBOL_R)?;
+        Ok(())
     }
 
     /// `m` becomes `L.m`.
@@ -117,7 +128,8 @@ impl Stacks {
         ensures ok { OnOk result (self.new ≡ load (L ∷ self.old.work) self.old.boxes) }
         ensures err { OnErr result (self.new ≡ self.old) }
     {
-        self.work.push_l()
+        self.held.words.push(SYMBOL_L)?;
+        Ok(())
     }
 
     /// `m` becomes `*.m`.
@@ -129,7 +141,7 @@ impl Stacks {
         ensures ok { OnOk result (self.new ≡ load (S star ∷ self.old.work) self.old.boxes) }
         ensures err { OnErr result (self.new ≡ self.old) }
     {
-        self.work.push(&[STAR])?;
+        append(&mut self.held.words, &[STAR], &[1, SIGNATURE])?;
         Ok(())
     }
 
@@ -137,21 +149,29 @@ impl Stacks {
     pub fn pop_r(&mut self) -> bool
         ensures { Follows r_popped self.old result self.new }
     {
-        self.work.pop_symbol(SYMBOL_R)
+        self.pop_symbol(SYMBOL_R)
     }
 
     /// `L.m` becomes `m`.
     pub fn pop_l(&mut self) -> bool
         ensures { Follows l_popped self.old result self.new }
     {
-        self.work.pop_symbol(SYMBOL_L)
+        self.pop_symbol(SYMBOL_L)
     }
 
     /// `L.s.m` becomes `s.m`: from a function to its argument.
     pub fn argument_in(&mut self) -> bool
         ensures { Follows into_argument self.old result self.new }
     {
-        self.work.argument_in()
+        let n = self.held.words.len();
+        if n - self.held.border < 2
+            || self.held.words[n - 1] != SYMBOL_L
+            || self.held.words[n - 2] != SIGNATURE
+        {
+            return false;
+        }
+        self.held.words.truncate(n - 1);
+        true
     }
 
     /// `s.m` becomes `L.s.m`: from an argument to its function.
@@ -163,14 +183,26 @@ impl Stacks {
         ensures ok { IfOk result (λ made. Follows out_of_argument self.old made self.new) }
         ensures err { OnErr result (self.new ≡ self.old) }
     {
-        self.work.argument_out()
+        let Some(_) = top_size(&self.held) else {
+            return Ok(false);
+        };
+        self.held.words.push(SYMBOL_L)?;
+        Ok(true)
     }
 
     /// `*.m` becomes `m`.
     pub fn pop_star(&mut self) -> bool
         ensures { Follows star_popped self.old result self.new }
     {
-        self.work.pop_star()
+        let Some(size) = top_size(&self.held) else {
+            return false;
+        };
+        if size != 1 {
+            return false;
+        }
+        let n = self.held.words.len();
+        self.held.words.truncate(n - 3);
+        true
     }
 
     /// `s.m` becomes `l s.m`.
@@ -182,7 +214,7 @@ impl Stacks {
         ensures ok { IfOk result (λ made. Follows left_wrapped self.old made self.new) }
         ensures err { OnErr result (self.new ≡ self.old) }
     {
-        self.work.wrap(LEFT)
+        self.wrap(LEFT)
     }
 
     /// `s.m` becomes `r s.m`.
@@ -194,21 +226,21 @@ impl Stacks {
         ensures ok { IfOk result (λ made. Follows right_wrapped self.old made self.new) }
         ensures err { OnErr result (self.new ≡ self.old) }
     {
-        self.work.wrap(RIGHT)
+        self.wrap(RIGHT)
     }
 
     /// `l s.m` becomes `s.m`.
     pub fn unwrap_left(&mut self) -> bool
         ensures { Follows left_unwrapped self.old result self.new }
     {
-        self.work.unwrap(LEFT)
+        self.unwrap(LEFT)
     }
 
     /// `r s.m` becomes `s.m`.
     pub fn unwrap_right(&mut self) -> bool
         ensures { Follows right_unwrapped self.old result self.new }
     {
-        self.work.unwrap(RIGHT)
+        self.unwrap(RIGHT)
     }
 
     /// `s.m` at `t` becomes `m` at `s.t`.
@@ -220,11 +252,14 @@ impl Stacks {
         ensures ok { IfOk result (λ made. Follows into_box self.old made self.new) }
         ensures err { OnErr result (self.new ≡ self.old) }
     {
-        let Some(body) = self.work.top() else {
+        let Some(size) = top_size(&self.held) else {
             return Ok(false);
         };
-        self.boxes.push(body)?;
-        self.work.pop();
+        let n = self.held.words.len();
+        let end = n - 1;
+        self.held.words.truncate(end);
+        turn(&mut self.held.words, self.held.border, n - 2 - size, end);
+        self.held.border += size + 1;
         Ok(true)
     }
 
@@ -237,11 +272,14 @@ impl Stacks {
         ensures ok { IfOk result (λ made. Follows out_of_box self.old made self.new) }
         ensures err { OnErr result (self.new ≡ self.old) }
     {
-        let Some(body) = self.boxes.top() else {
+        let Some(size) = box_size(&self.held) else {
             return Ok(false);
         };
-        self.work.push(body)?;
-        self.boxes.pop();
+        let n = self.held.words.len();
+        let from = self.held.border - 1 - size;
+        self.held.words.push(SIGNATURE)?;
+        turn(&mut self.held.words, from, self.held.border, n);
+        self.held.border = from;
         Ok(true)
     }
 
@@ -254,14 +292,26 @@ impl Stacks {
         ensures ok { IfOk result (λ made. Follows out_of_door self.old made self.new) }
         ensures err { OnErr result (self.new ≡ self.old) }
     {
-        if self.work.top().is_none() {
-            return Ok(false);
-        }
-        let Some(body) = self.boxes.top() else {
+        let Some(second) = top_size(&self.held) else {
             return Ok(false);
         };
-        self.work.pair(body)?;
-        self.boxes.pop();
+        let Some(first) = box_size(&self.held) else {
+            return Ok(false);
+        };
+        let n = self.held.words.len();
+        let at = n - 2 - second;
+        let from = self.held.border - 1 - first;
+        self.held.words.push(SIGNATURE)?;
+        turn(&mut self.held.words, from, self.held.border, at);
+        turn(&mut self.held.words, at - 1, at, n - 2);
+        write_three(
+            &mut self.held.words,
+            n - 3,
+            second as u64,
+            PAIR,
+            (first + second + 2) as u64,
+        );
+        self.held.border = from;
         Ok(true)
     }
 
@@ -274,11 +324,23 @@ impl Stacks {
         ensures ok { IfOk result (λ made. Follows into_door self.old made self.new) }
         ensures err { OnErr result (self.new ≡ self.old) }
     {
-        let Some(body) = self.work.pair_part() else {
+        let Some((first, second)) = pair_sizes(&self.held) else {
             return Ok(false);
         };
-        self.boxes.push(body)?;
-        self.work.unpair();
+        let n = self.held.words.len();
+        let at = n - 4 - second;
+        turn(&mut self.held.words, at, n - 4, n - 3);
+        self.held.words[at] = first as u64;
+        write_three(
+            &mut self.held.words,
+            n - 3,
+            second as u64,
+            SIGNATURE,
+            SIGNATURE,
+        );
+        self.held.words.truncate(n - 1);
+        turn(&mut self.held.words, self.held.border, at - first, at + 1);
+        self.held.border += first + 1;
         Ok(true)
     }
 
@@ -291,7 +353,10 @@ impl Stacks {
         ensures ok { OnOk result (self.new ≡ load self.old.work (star ∷ self.old.boxes)) }
         ensures err { OnErr result (self.new ≡ self.old) }
     {
-        self.boxes.push(&[STAR])?;
+        let n = self.held.words.len();
+        append(&mut self.held.words, &[STAR], &[1])?;
+        turn(&mut self.held.words, self.held.border, n, n + 2);
+        self.held.border += 2;
         Ok(())
     }
 
@@ -299,7 +364,18 @@ impl Stacks {
     pub fn fix_out(&mut self) -> bool
         ensures { Follows out_of_fix self.old result self.new }
     {
-        self.boxes.pop_star()
+        let Some(size) = box_size(&self.held) else {
+            return false;
+        };
+        if size != 1 {
+            return false;
+        }
+        let n = self.held.words.len();
+        let from = self.held.border - 2;
+        turn(&mut self.held.words, from, self.held.border, n);
+        self.held.words.truncate(n - 2);
+        self.held.border = from;
+        true
     }
 
     /// `s.m` at `u.t` becomes `m` at `y(u,s).t`.
@@ -311,14 +387,24 @@ impl Stacks {
         ensures ok { IfOk result (λ made. Follows into_again self.old made self.new) }
         ensures err { OnErr result (self.new ≡ self.old) }
     {
-        if self.boxes.is_empty() {
-            return Ok(false);
-        }
-        let Some(body) = self.work.top() else {
+        let Some(second) = top_size(&self.held) else {
             return Ok(false);
         };
-        self.boxes.join(body)?;
-        self.work.pop();
+        let Some(first) = box_size(&self.held) else {
+            return Ok(false);
+        };
+        let n = self.held.words.len();
+        let from = self.held.border;
+        turn(&mut self.held.words, from, n - 2 - second, n);
+        turn(&mut self.held.words, from - 1, from, from + second);
+        write_three(
+            &mut self.held.words,
+            from - 1 + second,
+            second as u64,
+            AGAIN,
+            (first + second + 2) as u64,
+        );
+        self.held.border = from + second + 2;
         Ok(true)
     }
 
@@ -331,11 +417,65 @@ impl Stacks {
         ensures ok { IfOk result (λ made. Follows out_of_again self.old made self.new) }
         ensures err { OnErr result (self.new ≡ self.old) }
     {
-        let Some(body) = self.boxes.second_part() else {
+        let Some((first, second)) = again_sizes(&self.held) else {
             return Ok(false);
         };
-        self.work.push(body)?;
-        self.boxes.part();
+        let n = self.held.words.len();
+        let end = self.held.border;
+        let at = end - 3 - second;
+        turn(&mut self.held.words, at, end - 3, end - 2);
+        self.held.words[at] = first as u64;
+        self.held.words[end - 2] = second as u64;
+        self.held.words[end - 1] = SIGNATURE;
+        turn(&mut self.held.words, at + 1, end, n);
+        self.held.border = at + 1;
         Ok(true)
+    }
+
+    /// Takes off the symbol of this word, `R` or `L`.
+    fn pop_symbol(&mut self, word: u64) -> bool
+        requires { (word ≡ 5) ⊎ (word ≡ 6) }
+        ensures { Follows (symbol_popped word) self.old result self.new }
+    {
+        let n = self.held.words.len();
+        if n == self.held.border || self.held.words[n - 1] != word {
+            return false;
+        }
+        self.held.words.truncate(n - 1);
+        true
+    }
+
+    /// Puts the mark `l` or `r` before the signature on top.
+    fn wrap(&mut self, mark: u64) -> Result<bool, AllocError>
+        requires { (mark ≡ 1) ⊎ (mark ≡ 2) }
+        ensures ok { IfOk result (λ made. Follows (wrapped mark) self.old made self.new) }
+        ensures err { OnErr result (self.new ≡ self.old) }
+    {
+        let Some(size) = top_size(&self.held) else {
+            return Ok(false);
+        };
+        let n = self.held.words.len();
+        self.held.words.push(SIGNATURE)?;
+        self.held.words[n - 2] = mark;
+        self.held.words[n - 1] = size as u64 + 1;
+        Ok(true)
+    }
+
+    /// Takes that mark off the signature on top.
+    fn unwrap(&mut self, mark: u64) -> bool
+        requires { (mark ≡ 1) ⊎ (mark ≡ 2) }
+        ensures { Follows (unwrapped mark) self.old result self.new }
+    {
+        let Some(size) = top_size(&self.held) else {
+            return false;
+        };
+        let n = self.held.words.len();
+        if self.held.words[n - 3] != mark {
+            return false;
+        }
+        self.held.words[n - 3] = size as u64 - 1;
+        self.held.words[n - 2] = SIGNATURE;
+        self.held.words.truncate(n - 1);
+        true
     }
 }

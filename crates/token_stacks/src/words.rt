@@ -1,7 +1,7 @@
-//! The words of the encoding, and two steps on vectors of words that no clause on stacks speaks of.
+//! The words of the encoding, and three steps on vectors of words that no clause on stacks speaks of.
 
-ghost use Rattle.std.specs.Prelude.{◌≡◌, ◌++◌, ◌+◌, ◌≤◌, OnOk, OnErr, length, take, drop, vec_len, vec_capacity};
-ghost use Rattle.token_stacks.specs.Parts.{Swaps, put_at};
+ghost use Rattle.std.specs.Prelude.{◌≡◌, ◌++◌, ◌+◌, ◌≤◌, ◌<◌, OnOk, OnErr, length, vec_len, vec_capacity};
+ghost use Rattle.token_stacks.specs.Parts.{Swaps, Writes};
 
 use std::alloc::AllocError;
 
@@ -61,101 +61,28 @@ pub(crate) fn append(words: &mut Vec<u64>, piece: &[u64], tail: &[u64]) -> Resul
     Ok(())
 }
 
-/// From so many words on a piece is put below others without a place that is made for it first.
-const LONG: usize = 64;
-
-/// Puts a piece at `from`, behind it what stood there, and then `tail`; or leaves all as it was.
-pub(crate) fn put_below(
-    words: &mut Vec<u64>,
-    from: usize,
-    piece: &[u64],
-    tail: &[u64],
-) -> Result<(), AllocError>
-    requires { from ≤ length words.old.items }
-    ensures ok { OnOk result (words.new.items ≡ put_at from piece.now tail.now words.old.items) }
-    ensures err { OnErr result (words.new.items ≡ words.old.items) }
-{
-    let above = words.len() - from;
-    if piece.len() < LONG || piece.len() < above {
-        put_short(words, from, piece, tail)?;
-        return Ok(());
-    }
-    let (head, rest) = piece.split_at(above);
-    put_long(words, from, head, rest, tail)?;
-    Ok(())
-}
-
-/// A copy of the piece at the end makes place for it.
-fn put_short(
-    words: &mut Vec<u64>,
-    from: usize,
-    piece: &[u64],
-    tail: &[u64],
-) -> Result<(), AllocError>
-    requires { from ≤ length words.old.items }
-    ensures ok { OnOk result (words.new.items ≡ put_at from piece.now tail.now words.old.items) }
-    ensures err { OnErr result (words.new.items ≡ words.old.items) }
-{
-    let n = words.len();
-    append(words, piece, tail)?;
-    bring_down(words, piece, from, n);
-    Ok(())
-}
-
-/// The piece in two parts: `head` has as many words as stand from `from` on, and takes their place, so that each word is copied once.
-fn put_long(
-    words: &mut Vec<u64>,
-    from: usize,
-    head: &[u64],
-    rest: &[u64],
-    tail: &[u64],
-) -> Result<(), AllocError>
-    requires { from + length head.now ≡ length words.old.items }
-    ensures ok { OnOk result (words.new.items ≡ put_at from (head.now ++ rest.now) tail.now words.old.items) }
-    ensures err { OnErr result (words.new.items ≡ words.old.items) }
-{
-    let n = words.len();
-    match add_behind(words, from, rest, tail) {
-        Ok(()) => {
-            let place = &mut words[from..n];
-            place.copy_from_slice(head);
-            Ok(())
-        }
-        Err(error) => {
-            words.truncate(n);
-            Err(error)
-        }
-    }
-}
-
-/// Adds `rest`, the words from `from` on once more, and `tail`; or some of that, and an error.
-fn add_behind(
-    words: &mut Vec<u64>,
-    from: usize,
-    rest: &[u64],
-    tail: &[u64],
-) -> Result<(), AllocError>
-    requires { from ≤ length words.old.items }
-    ensures ok { OnOk result (words.new.items ≡ words.old.items ++ (rest.now ++ (drop from words.old.items ++ tail.now))) }
-    ensures kept { take (length words.old.items) words.new.items ≡ words.old.items }
-{
-    let n = words.len();
-    words.extend_from_slice(rest)?;
-    words.extend_from_within(from..n)?;
-    words.extend_from_slice(tail)?;
-    Ok(())
-}
-
-/// Moves a piece that stands from `middle` on down to `from`, and the words between up behind it.
-fn bring_down(words: &mut Vec<u64>, piece: &[u64], from: usize, middle: usize)
+/// The words from `from` to `middle` and those from there to `end` change places.
+pub(crate) fn turn(words: &mut Vec<u64>, from: usize, middle: usize, end: usize)
     requires first { from ≤ middle }
-    requires whole { middle + length piece.now ≤ length words.old.items }
-    requires stands { take (length piece.now) (drop middle words.old.items) ≡ piece.now }
-    ensures swapped { Swaps words.old.items words.new.items from middle (middle + length piece.now) }
-    ensures len { vec_len words.new ≡ vec_len words.old }
+    requires second { middle ≤ end }
+    requires whole { end ≤ length words.old.items }
+    ensures swapped { Swaps words.old.items words.new.items from middle end }
+    ensures len { length words.new.items ≡ length words.old.items }
 {
-    let size = piece.len();
-    words.copy_within(from..middle, from + size);
-    let place = &mut words[from..from + size];
-    place.copy_from_slice(piece);
+    if from == middle || middle == end {
+        return;
+    }
+    let part = &mut words[from..end];
+    part.rotate_left(middle - from);
+}
+
+/// Writes three words from this place on.
+pub(crate) fn write_three(words: &mut Vec<u64>, at: usize, first: u64, second: u64, third: u64)
+    requires { at + 2 < length words.old.items }
+    ensures written { Writes words.old.items words.new.items at first second third }
+    ensures len { length words.new.items ≡ length words.old.items }
+{
+    words[at] = first;
+    words[at + 1] = second;
+    words[at + 2] = third;
 }

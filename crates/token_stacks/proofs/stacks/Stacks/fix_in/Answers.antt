@@ -1,9 +1,19 @@
-use Rattle.std.proofs.Common.{List, refl, ap, ◌∷◌, ◌∙◌}
-use Rattle.token_stacks.specs.Signatures.{Sig, star, Load}
-use Rattle.token_stacks.specs.Signatures.{load}
+use Rattle.std.proofs.Common.{◌∷◌, ◌∙◌}
+use Rattle.token_stacks.specs.Signatures.{star}
+use Rattle.token_stacks.proofs.Laid.{lies, stands, reads}
+use Rattle.token_stacks.proofs.BothSteps.{fixes_in}
 use Rattle.token_stacks.proofs.stacks.Stacks.fix_in.Goals as goal
+
+pub invariant_of-self-2 : goal.invariant_of-self-2
+invariant_of-self-2 c =
+    let e = lies c.args.self.now _ _ c.self.view_is c.self.invariant in
+    let h = c.len-n.ensures ∙ c.self.inside.held.words.ok.0 in
+    stands c.args.self.now.work (star ∷ c.args.self.now.boxes) _ _
+    (fixes_in _ _ _ _ _ _ _ e h c.in_ok-append.ensures.ok c.turn.ensures.swapped)
 
 pub returns-clause-ok : goal.returns-clause-ok
 returns-clause-ok c =
-    ap (λ (z : List Sig). load c.self.inside.work z) (c.in_ok-push.ensures.ok star refl)
-    ∙ ap (λ (a : Load). load a.work (star ∷ a.boxes)) c.self.view_is
+    let e = lies c.args.self.now _ _ c.self.view_is c.self.invariant in
+    let h = c.len-n.ensures ∙ c.self.inside.held.words.ok.0 in
+    reads c.args.self.now.work (star ∷ c.args.self.now.boxes) _ _
+    (fixes_in _ _ _ _ _ _ _ e h c.in_ok-append.ensures.ok c.turn.ensures.swapped)
