@@ -6,8 +6,8 @@ ghost use Rattle.move_rules.specs.Views.{token_of};
 ghost use Rattle.branch_runs.specs.Branching.{IsBranch, Played};
 
 use crate::growing::play;
-use crate::{NamedNet, OnNet, Seed, Tickets};
-use interleave_core::Core;
+use crate::{NamedNet, OnNet, Seed};
+use interleave_core::{Core, Tickets};
 use move_rules::Token;
 use std::alloc::{AllocError, Global};
 use std::marker::{Model, PhantomData};

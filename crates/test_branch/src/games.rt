@@ -10,8 +10,8 @@ ghost use Rattle.std.specs.Option.{MatchOption};
 ghost use Rattle.interleave_laws.specs.Runs.{Runs};
 ghost use Rattle.interleave_laws.specs.Maps.{IsReachedWithin};
 
-use branch_runs::{NamedNet, OnNet, Run, Seed, Tickets, branch_of, graft, name_of};
-use interleave_core::Core;
+use branch_runs::{NamedNet, OnNet, Seed, branch_of, graft, name_of};
+use interleave_core::{Core, Run, Tickets};
 use net_build::Net;
 use pcf_values::Val;
 use std::alloc::{AllocError, Global};

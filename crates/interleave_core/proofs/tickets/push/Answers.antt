@@ -1,7 +1,7 @@
 use Rattle.std.proofs.Common.{ap, ◌∙◌}
-use Rattle.branch_runs.specs.Tickets.{spelled}
-use Rattle.branch_runs.proofs.Spelled.{spelled_more}
-use Rattle.branch_runs.proofs.tickets.push.Goals as goal
+use Rattle.interleave_core.specs.Tickets.{spelled}
+use Rattle.interleave_core.proofs.Spelled.{spelled_more}
+use Rattle.interleave_core.proofs.tickets.push.Goals as goal
 
 pub returns-clause-ok : goal.returns-clause-ok
 returns-clause-ok c =

@@ -1,6 +1,6 @@
 -- A list of tickets as runs of one ticket.
 use Rattle.std.specs.Prelude.{ℕ, List, [], ◌∷◌, ◌++◌, replicate}
-use Rattle.branch_runs.specs.declared.tickets.Run.{Run}
+use Rattle.interleave_core.specs.declared.tickets.Run.{Run}
 
 -- the tickets of runs, one for each move
 abbrev pub spelled : List Run → List ℕ

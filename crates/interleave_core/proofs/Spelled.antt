@@ -1,8 +1,8 @@
 -- Runs that are spelled, with one more behind them.
 use Rattle.std.proofs.Common.{◌≡◌, List, [], ◌∷◌, ◌++◌, sym, ap, ◌∙◌, append-nil, append_assoc}
 use Rattle.std.specs.Prelude.{replicate}
-use Rattle.branch_runs.specs.declared.tickets.Run.{Run}
-use Rattle.branch_runs.specs.Tickets.{spelled}
+use Rattle.interleave_core.specs.declared.tickets.Run.{Run}
+use Rattle.interleave_core.specs.Tickets.{spelled}
 
 pub spelled_more : (rs : List Run) (r : Run) → spelled (rs ++ r ∷ []) ≡ spelled rs ++ replicate r.count r.ticket
 spelled_more [] r = append-nil (replicate r.count r.ticket)
