@@ -40,7 +40,7 @@ impl<'n, N: OnNet> BranchPool<'n, N> {
     /// The bench of this pool. Takes no memory.
     pub fn new(pool: PoolState<'n>) -> BranchPool<'n, N>
         requires { pool.net ≡ N.net }
-        ensures { result ≡ pool }
+        ensures { result ≡ pool.entry }
     {
         BranchPool {
             pool,
@@ -57,7 +57,7 @@ impl<'n, N: OnNet> BranchPool<'n, N> {
 
     /// Hands the pool out. Takes no memory.
     pub fn into_pool(self) -> PoolState<'n>
-        ensures pool { result ≡ self }
+        ensures pool { result ≡ self.entry }
         ensures named { result.net ≡ N.net }
     {
         let BranchPool { pool, .. } = self;

@@ -62,7 +62,7 @@ impl<'a, 'n, M: Watched, N: OnNet, R: Wait + Sync> MeteredPool<'a, 'n, M, N, R> 
         requires named { pool.net ≡ N.net }
         requires level { IsLevel (record { pool = pool; writer = writer }) }
         requires run { IsOf M.run (record { pool = pool; writer = writer }) }
-        ensures { result ≡ record { pool = pool; writer = writer } }
+        ensures { result ≡ record { pool = pool.entry; writer = writer } }
     {
         MeteredPool {
             rt,

@@ -349,8 +349,8 @@ fn finish(
 ) -> Result<Ended, AllocError>
     requires limits { InLimits budget workers }
     requires suits { (pool.budget ≡ budget) × (pool.workers ≡ workers) }
-    ensures run { IfOk result (λ e. IsRun pool.net workers budget e.answer e.log.entries) }
-    ensures longer { IfOk result (λ e. length pool.log ≤ length e.log.entries) }
+    ensures run { IfOk result (λ e. IsRun pool.entry.net workers budget e.answer e.log.entries) }
+    ensures longer { IfOk result (λ e. length pool.entry.log ≤ length e.log.entries) }
 {
     Ok(pool.finish_own(alloc, budget, workers)?)
 }
