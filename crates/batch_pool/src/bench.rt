@@ -31,7 +31,7 @@ fn work_on(alloc: Global, jobs: &[BatchJob], job: u32, piece: Piece) -> Result<M
     }
 }
 
-impl Bench for BatchState {
+impl<'n> Bench for BatchState<'n> {
     type Piece = BatchPiece;
 
     type Made = Moved;

@@ -30,7 +30,7 @@ fn run_from_start(alloc: Global, job: &BatchJob, workers: u32) -> Result<Ended, 
 /// A job's end, from its pool if it has one.
 fn finish_job(
     alloc: Global,
-    pool: Option<PoolState>,
+    pool: Option<PoolState<'_>>,
     job: &BatchJob,
     workers: u32,
 ) -> Result<Ended, AllocError>
@@ -47,7 +47,7 @@ fn finish_job(
 }
 
 /// The first pool that is left.
-fn next_pool(pools: &mut IntoIter<PoolState>) -> Option<PoolState>
+fn next_pool<'n>(pools: &mut IntoIter<PoolState<'n>>) -> Option<PoolState<'n>>
     ensures { Pops (into_iter_items pools.old) result (into_iter_items pools.new) }
 {
     pools.next()
@@ -56,7 +56,7 @@ fn next_pool(pools: &mut IntoIter<PoolState>) -> Option<PoolState>
 /// Adds the ends of the jobs that are left, from the pools that are left.
 fn finish_rest(
     alloc: Global,
-    mut pools: IntoIter<PoolState>,
+    mut pools: IntoIter<PoolState<'_>>,
     jobs: &[BatchJob],
     workers: u32,
     ends: &mut Vec<Ended>,
@@ -80,7 +80,7 @@ fn finish_rest(
 /// The ends of all jobs, in turn.
 pub(crate) fn finish_jobs(
     alloc: Global,
-    pools: Vec<PoolState>,
+    pools: Vec<PoolState<'_>>,
     jobs: &[BatchJob],
     workers: u32,
 ) -> Result<Vec<Ended>, AllocError>

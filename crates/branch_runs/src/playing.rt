@@ -87,7 +87,7 @@ impl<N: OnNet> Branch<N> {
 /// It runs out of memory; nothing is kept then.
 pub fn branch_of<N: OnNet>(
     alloc: Global,
-    net: &NamedNet<N>,
+    net: &NamedNet<'_, N>,
     seed: Seed<N>,
     most: u32,
     plain: bool,

@@ -117,13 +117,13 @@ hands_seed p P w t r good e l h hands = subst (λ (P : Pool). HandsSeed P.net r)
     go Idle (taken.Token k) q is = absurd is
     go Reserved (taken.Token k) q is = absurd is
 
-pub start_ready : (net net' : NetTree) (budget workers : ℕ) (S : MapState) (log : List Entry) (held : List (Option Held)) → Runs net →
+pub start_ready : (net : NetTree) (budget workers : ℕ) (S : MapState) (log : List Entry) (held : List (Option Held)) → Runs net →
     InLimits budget workers
-    → net' ≡ net → S ≡ start_map (start_of net) → log ≡ [] → held ≡ none_held_by workers →
-    Good (pool net' budget workers S log held false)
-start_ready net net' budget workers S log held runs limits e f g h =
-    let k : pool net' budget workers S log held false ≡ started net budget workers =
-    ap (λ n. pool n budget workers S log held false) e ∙ ap (λ S. pool net budget workers S log held false) f
+    → S ≡ start_map (start_of net) → log ≡ [] → held ≡ none_held_by workers →
+    Good (pool net budget workers S log held false)
+start_ready net budget workers S log held runs limits f g h =
+    let k : pool net budget workers S log held false ≡ started net budget workers =
+    ap (λ S. pool net budget workers S log held false) f
     ∙ ap (λ l. pool net budget workers (start_map (start_of net)) l held false) g
     ∙ ap (λ h. pool net budget workers (start_map (start_of net)) [] h false) h in
     subst Good (sym k) (start_good net budget workers runs limits)
