@@ -13,14 +13,14 @@ use Rattle.schedule_log.proofs.Spread.{spread_more}
 abbrev one_of : ℕ → Entry → ℕ
 one_of w e = cond (nat_eq e.worker w) 1 0
 
-tally_yes : (n : ℕ) (e : Entry) (w : ℕ) → nat_eq e.worker w ≡ true → tally_of (replicate n e) w ≡ n
+pub tally_yes : (n : ℕ) (e : Entry) (w : ℕ) → nat_eq e.worker w ≡ true → tally_of (replicate n e) w ≡ n
 tally_yes zero e w h = refl
 tally_yes (suc n) e w h =
     let a = sum_by-cons (one_of w) e (replicate n e) in
     let b : one_of w e ≡ 1 = ap (λ (b : Bool). cond b 1 0) h in
     let c = tally_yes n e w h in omega (arith, a, b, c)
 
-tally_no : (n : ℕ) (e : Entry) (w : ℕ) → nat_eq e.worker w ≡ false → tally_of (replicate n e) w ≡ 0
+pub tally_no : (n : ℕ) (e : Entry) (w : ℕ) → nat_eq e.worker w ≡ false → tally_of (replicate n e) w ≡ 0
 tally_no zero e w h = refl
 tally_no (suc n) e w h =
     let a = sum_by-cons (one_of w) e (replicate n e) in
@@ -28,7 +28,7 @@ tally_no (suc n) e w h =
     let c = tally_no n e w h in omega (arith, a, b, c)
 
 -- one run more is counted
-next : (rs : List MovesSeen) (i : ℕ) (d : MovesSeen) (w : ℕ) → i < length rs →
+pub next : (rs : List MovesSeen) (i : ℕ) (d : MovesSeen) (w : ℕ) → i < length rs →
     tally_of (spread (take (i + 1) rs)) w ≡
     tally_of (spread (take i rs)) w + tally_of (replicate (get_or rs i d).count (move_of (get_or rs i d))) w
 next rs i d w u =

@@ -8,7 +8,7 @@ use Rattle.schedule_log.specs.LogsSeen.{ticket_at, worker_at}
 use Rattle.schedule_log.proofs.Spread.{spread_more, spread_append}
 
 -- the runs before a place, its run and those behind it
-split : (rs : List MovesSeen) (i : ℕ) (d : MovesSeen) → i < length rs → rs ≡ take i rs ++ get_or rs i d ∷ drop (suc i) rs
+pub split : (rs : List MovesSeen) (i : ℕ) (d : MovesSeen) → i < length rs → rs ≡ take i rs ++ get_or rs i d ∷ drop (suc i) rs
 split [] i d u = absurd (omega (arith, u))
 split (r ∷ rs) zero d u = refl
 split (r ∷ rs) (suc i) d u = ap (λ (l : List MovesSeen). r ∷ l) (split rs i d (omega (arith, u)))
