@@ -49,6 +49,10 @@ module _ (p : Pool) (good : Good p) where
 pub within_small : (p : Pool) → Good p → allowances p.held < 2 ^ 32
 within_small p good = let i = good.within in let b = good.limits.few_moves in omega (arith, i, b)
 
+-- a worker's number is one that a log has, and so is the finisher's
+pub number_small : (p P : Pool) → Good p → p ≡ P → (w : ℕ) → w ≤ P.workers → w < 256
+number_small p P good e w l = let b = good.limits.few_workers in let h = ap (λ (P : Pool). P.workers) e in omega (arith, b, h, l)
+
 -- what a worker is told is live
 pub told_live : (p P : Pool) (w : ℕ) (t : Reply) → Good p → p ≡ P → w < P.workers → t ≡ turn P w → TellsLive p.state t
 told_live p P w t good e l h = go t (h ∙ ap (λ P. turn P w) (sym e))

@@ -1,7 +1,7 @@
 use Rattle.std.proofs.Common.{sym, ap, arith}
 use Rattle.schedule_log.specs.LogsSeen.{LogSeen}
 use Rattle.token_pool.proofs.Seen.{seen}
-use Rattle.token_pool.proofs.Standing.{still_reached, fits, let_go_small, still_good, booked_as}
+use Rattle.token_pool.proofs.Standing.{still_reached, fits, let_go_small, number_small, still_good, booked_as}
 use Rattle.token_pool.proofs.pool.PoolState.book.Goals as goal
 
 pub play-requires-clause-reached : goal.play-requires-clause-reached
@@ -9,8 +9,13 @@ play-requires-clause-reached c =
     let owned = sym c.in-Some.ensures in
     still_reached (seen c.self.inside) c.self.invariant.0 c.args.worker c.in-Some.held owned
 
-pub write_down-requires : goal.write_down-requires
-write_down-requires c =
+pub write_down-requires-clause-worker : goal.write_down-requires-clause-worker
+write_down-requires-clause-worker c =
+    number_small (seen c.self.inside) c.args.self.now c.self.invariant.0 c.self.view_is c.args.worker
+    (let u = c.requires in omega (arith, u))
+
+pub write_down-requires-clause-room : goal.write_down-requires-clause-room
+write_down-requires-clause-room c =
     let owned = sym c.in-Some.ensures in
     let f = fits (seen c.self.inside) c.self.invariant.0 c.args.worker c.in-Some.held owned c.in_ok-count.count
     c.in_ok-count.ensures.few.1 in

@@ -3,7 +3,7 @@ use Rattle.schedule_log.specs.Logs.{by}
 use Rattle.schedule_log.specs.LogsSeen.{LogSeen}
 use Rattle.token_pool.proofs.Seen.{seen}
 use Rattle.token_pool.specs.Branches.{made_tickets}
-use Rattle.token_pool.proofs.Standing.{still_reached, fits, holds, few_aside, let_go_small}
+use Rattle.token_pool.proofs.Standing.{still_reached, fits, holds, few_aside, let_go_small, number_small}
 use Rattle.token_pool.proofs.Branching.{is_branch, branch_good, branch_booked}
 use Rattle.token_pool.proofs.pool.PoolState.book_branch.Goals as goal
 
@@ -14,6 +14,11 @@ play_branch-requires-clause-reached g c =
 pub play_branch-requires-clause-small : goal.play_branch-requires-clause-small
 play_branch-requires-clause-small g c =
     few_aside (seen c.self.inside) c.self.invariant.0 c.args.worker c.in-Some.held (sym c.in-Some.ensures)
+
+pub write_made-requires-clause-worker : goal.write_made-requires-clause-worker
+write_made-requires-clause-worker g c =
+    number_small (seen c.self.inside) c.args.self.now c.self.invariant.0 c.self.view_is c.args.worker
+    (let u = c.requires.place in omega (arith, u))
 
 pub write_made-requires-clause-room : goal.write_made-requires-clause-room
 write_made-requires-clause-room g c =
