@@ -73,6 +73,13 @@ impl<'a, 'n, M: Watched, N: OnNet, R: Wait + Sync> MeteredPool<'a, 'n, M, N, R> 
         }
     }
 
+    /// The tool for its workers: the pool's own net, under the name that the type has. Takes no memory.
+    pub fn tool(&self) -> NamedNet<'n, N>
+        ensures { result ≡ N.net }
+    {
+        NamedNet::new(self.pool.net())
+    }
+
     /// The pool and the writer. Takes no memory.
     pub fn into_parts(self) -> (PoolState<'n>, Writer)
         ensures parts { (result.0 ≡ self.entry.pool) × (result.1 ≡ self.entry.writer) }

@@ -66,10 +66,10 @@ fn drive_two<
     rt: &R,
     alloc: Global,
     bench: MeteredPool<'a, 'n, M, N, R>,
-    tool: &NamedNet<'n, N>,
     gate: &Held,
 ) -> MeteredPool<'a, 'n, M, N, R> {
-    drive(rt, alloc, bench, tool, 2, gate)
+    let tool = bench.tool();
+    drive(rt, alloc, bench, &tool, 2, gate)
 }
 
 /// What the reader met beside two workers, and what is booked and published when they are over.
@@ -81,25 +81,21 @@ fn met_beside<
 >(
     rt: &R,
     alloc: Global,
-    net: &'n Net,
     pool: PoolState<'n>,
     writer: Writer,
     reader: Reader,
 ) -> (u64, u32, u64)
-    requires runs { Runs N.net }
-    requires named { net.now ≡ N.net }
     requires of_net { pool.net ≡ N.net }
     requires level { IsLevel (record { pool = pool; writer = writer }) }
     requires run { IsOf M.run (record { pool = pool; writer = writer }) }
 {
-    let tool: NamedNet<'n, N> = NamedNet::new(net);
     let bench: MeteredPool<'_, 'n, M, N, R> = MeteredPool::new(rt, pool, writer);
     let gate = Held {
         read: AtomicBool::new(false),
     };
     let (bench, met) = join(
         rt,
-        || drive_two(rt, alloc, bench, &tool, &gate),
+        || drive_two(rt, alloc, bench, &gate),
         || meet(rt, reader, &gate),
     );
     let (pool, writer) = bench.into_parts();
@@ -114,7 +110,7 @@ fn met_by_the_double<R: Threads + Wait + Sync>(
     let net = net_of(alloc, "(fun x:nat. x + x) 3")?;
     let pool = PoolState::start(alloc, &net, 10_000, 2)?;
     let (writer, reader) = meter(alloc)?;
-    Ok(met_beside::<Brand, Brand, R>(rt, alloc, &net, pool, writer, reader))
+    Ok(met_beside::<Brand, Brand, R>(rt, alloc, pool, writer, reader))
 }
 
 #[test]
