@@ -1,13 +1,11 @@
 //! A reader beside workers who wait for it.
 
 ghost use Rattle.std.specs.Prelude.{◌≡◌};
-ghost use Rattle.interleave_laws.specs.Runs.{Runs};
 ghost use Rattle.metered_pool.specs.Metered.{IsLevel, IsOf};
 
-use branch_runs::{NamedNet, OnNet};
+use branch_runs::OnNet;
 use gate_workers::{Gate, drive};
 use metered_pool::{MeteredPool, Watched};
-use net_build::Net;
 use progress_meter::{Reader, Writer, meter};
 use std::alloc::{AllocError, Global};
 use std::marker::Brand;
