@@ -54,11 +54,7 @@ impl<'a, 'n, M: Watched, N: OnNet, R: Wait + Sync> Model for MeteredPool<'a, 'n,
 
 impl<'a, 'n, M: Watched, N: OnNet, R: Wait + Sync> MeteredPool<'a, 'n, M, N, R> {
     /// A bench that holds these three. Takes no memory.
-    pub fn new(
-        rt: &'a R,
-        pool: PoolState<'n>,
-        writer: Writer,
-    ) -> MeteredPool<'a, 'n, M, N, R>
+    pub fn new(rt: &'a R, pool: PoolState<'n>, writer: Writer) -> MeteredPool<'a, 'n, M, N, R>
         requires named { pool.net ≡ N.net }
         requires level { IsLevel (record { pool = pool; writer = writer }) }
         requires run { IsOf M.run (record { pool = pool; writer = writer }) }

@@ -75,7 +75,7 @@ fn play_together<'n, N: OnNet + Send + Sync, R: Threads + Wait + Sync, G: Gate>(
 ) -> PoolState<'n>
     requires suits { pool.net ≡ N.net }
     requires some { 1 ≤ workers }
-    ensures { result.net ≡ N.net }
+    ensures { result.net ≡ pool.entry.net }
 {
     let bench: BranchPool<'n, N> = BranchPool::new(pool);
     let tool = bench.tool();

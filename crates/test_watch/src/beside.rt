@@ -54,13 +54,7 @@ fn meet<R: Wait>(rt: &R, mut reader: Reader, gate: &Held) -> u64 {
 }
 
 /// Two workers drive the bench, and wait at the gate.
-fn drive_two<
-    'a,
-    'n,
-    M: Watched + Send + Sync,
-    N: OnNet + Send + Sync,
-    R: Threads + Wait + Sync,
->(
+fn drive_two<'a, 'n, M: Watched + Send + Sync, N: OnNet + Send + Sync, R: Threads + Wait + Sync>(
     rt: &R,
     alloc: Global,
     bench: MeteredPool<'a, 'n, M, N, R>,
@@ -71,12 +65,7 @@ fn drive_two<
 }
 
 /// What the reader met beside two workers, and what is booked and published when they are over.
-fn met_beside<
-    'n,
-    M: Watched + Send + Sync,
-    N: OnNet + Send + Sync,
-    R: Threads + Wait + Sync,
->(
+fn met_beside<'n, M: Watched + Send + Sync, N: OnNet + Send + Sync, R: Threads + Wait + Sync>(
     rt: &R,
     alloc: Global,
     pool: PoolState<'n>,

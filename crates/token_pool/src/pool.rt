@@ -358,12 +358,7 @@ impl<'n> PoolState<'n> {
     /// # Errors
     ///
     /// It runs out of memory, and always so where the pool was stopped.
-    pub fn finish_own(
-        self,
-        alloc: Global,
-        budget: u32,
-        workers: u32,
-    ) -> Result<Ended, AllocError>
+    pub fn finish_own(self, alloc: Global, budget: u32, workers: u32) -> Result<Ended, AllocError>
         requires { InLimits budget workers }
         ensures stopped { IsTrue self.entry.stopped → IsErr result }
         ensures same { (self.entry.budget ≡ budget) × (self.entry.workers ≡ workers) → IfOk result (Finishes self.entry) }

@@ -6,8 +6,8 @@ use Rattle.net_runs.proofs.running.run_together.Goals as goal
 pub returns : goal.returns
 returns g c =
     let e = c.in_ok-finish_own.field-0 in
-    let r = subst (λ net. Replays net c.args.budget c.args.workers e) {y = c.args.net.now} (c.play_together-pool.ensures ∙ ap (λ (p : Pool). p.net) c.in_ok-pool.ensures)
-    c.in_ok-finish_own.ensures.replays in
+    let same = c.play_together-pool.ensures ∙ ap (λ (p : Pool). p.net) c.in_ok-pool.ensures in
+    let r = subst (λ net. Replays net c.args.budget c.args.workers e) same c.in_ok-finish_own.ensures.replays in
     record {
       state = r.answers.0;
       led = r.answers.1;
