@@ -53,7 +53,9 @@ impl<'n> Bench for BatchState<'n> {
         Ok(turn_of(self.take(worker)?))
     }
 
-    fn work(alloc: Global, tool: &Vec<BatchJob>, piece: BatchPiece) -> Result<Moved, AllocError> {
+    fn work(alloc: Global, tool: &Vec<BatchJob>, piece: BatchPiece) -> Result<Moved, AllocError>
+        ensures { IfOk result (MakesIn tool.now.items piece) }
+    {
         work_on(alloc, tool, piece.job, piece.piece)
     }
 

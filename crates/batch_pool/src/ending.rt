@@ -37,7 +37,7 @@ fn finish_job(
     requires fits { JobFits job.now }
     requires some { 1 ≤ workers }
     requires few { workers ≤ most_workers }
-    ensures ends { IfOk result (EndsAs pool job.now workers) }
+    ensures ends { IfOk result (EndsAs pool.entry job.now workers) }
     ensures replays { IfOk result (Replays job.now.net job.now.budget workers) }
 {
     match pool {
@@ -65,7 +65,7 @@ fn finish_rest(
     requires some { 1 ≤ workers }
     requires few { workers ≤ most_workers }
     ensures { OnOk result ((more : List Ended) × (ends.new.items ≡ ends.old.items ++ more)
-        × EndsEach (into_iter_items pools) jobs.now workers more) }
+        × EndsEach (into_iter_items pools.entry) jobs.now workers more) }
 {
     match jobs {
         [] => Ok(()),
@@ -85,7 +85,7 @@ pub(crate) fn finish_jobs(
     workers: u32,
 ) -> Result<Vec<Ended>, AllocError>
     requires { BatchFits jobs.now workers }
-    ensures { IfOk result (λ ends. EndsEach pools.items jobs.now workers ends.items) }
+    ensures { IfOk result (λ ends. EndsEach pools.entry.items jobs.now workers ends.items) }
 {
     let mut ends = Vec::with_capacity(alloc, jobs.len())?;
     finish_rest(alloc, pools.into_iter(), jobs, workers, &mut ends)?;

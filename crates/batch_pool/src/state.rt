@@ -176,8 +176,8 @@ impl<'n> BatchState<'n> {
         workers: u32,
     ) -> Result<Vec<Ended>, AllocError>
         requires { BatchFits jobs.now workers }
-        ensures stopped { IsTrue self.stopped → IsErr result }
-        ensures ends { IfOk result (λ ends. EndsEach self.pools jobs.now workers ends.items) }
+        ensures stopped { IsTrue self.entry.stopped → IsErr result }
+        ensures ends { IfOk result (λ ends. EndsEach self.entry.pools jobs.now workers ends.items) }
     {
         let BatchState { pools, stopped, .. } = self;
         if stopped {

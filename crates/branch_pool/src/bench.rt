@@ -55,6 +55,13 @@ impl<'n, N: OnNet> BranchPool<'n, N> {
         &self.pool
     }
 
+    /// The tool for its workers: the pool's own net, under the name that the type has. Takes no memory.
+    pub fn tool(&self) -> NamedNet<'n, N>
+        ensures { result ≡ N.net }
+    {
+        NamedNet::new(self.pool.net())
+    }
+
     /// Hands the pool out. Takes no memory.
     pub fn into_pool(self) -> PoolState<'n>
         ensures pool { result ≡ self.entry }

@@ -54,11 +54,7 @@ impl<'a, 'n, M: Watched, N: OnNet, R: Wait + Sync> Model for MeteredPool<'a, 'n,
 
 impl<'a, 'n, M: Watched, N: OnNet, R: Wait + Sync> MeteredPool<'a, 'n, M, N, R> {
     /// A bench that holds these three. Takes no memory.
-    pub fn new(
-        rt: &'a R,
-        pool: PoolState<'n>,
-        writer: Writer,
-    ) -> MeteredPool<'a, 'n, M, N, R>
+    pub fn new(rt: &'a R, pool: PoolState<'n>, writer: Writer) -> MeteredPool<'a, 'n, M, N, R>
         requires named { pool.net ≡ N.net }
         requires level { IsLevel (record { pool = pool; writer = writer }) }
         requires run { IsOf M.run (record { pool = pool; writer = writer }) }
@@ -71,6 +67,13 @@ impl<'a, 'n, M: Watched, N: OnNet, R: Wait + Sync> MeteredPool<'a, 'n, M, N, R> 
             run: PhantomData,
             net: PhantomData,
         }
+    }
+
+    /// The tool for its workers: the pool's own net, under the name that the type has. Takes no memory.
+    pub fn tool(&self) -> NamedNet<'n, N>
+        ensures { result ≡ N.net }
+    {
+        NamedNet::new(self.pool.net())
     }
 
     /// The pool and the writer. Takes no memory.

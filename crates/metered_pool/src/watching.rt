@@ -15,7 +15,7 @@ ghost use Rattle.metered_pool.specs.Walking.{WalksAlone};
 use crate::alone::walk_alone;
 use crate::pace::Pace;
 use crate::{MeteredPool, Watched};
-use branch_runs::{NamedNet, OnNet};
+use branch_runs::OnNet;
 use gate_workers::{Gate, drive};
 use net_build::Net;
 use progress_meter::{Reader, Writer, meter};
@@ -183,9 +183,7 @@ fn drive_new<'n, R: Threads + Wait + Sync, G: Gate>(
 {
     let (writer, reader, readings) = new_meter(alloc)?;
     let pool = PoolState::start(alloc, net, budget, workers)?;
-    drive_named::<Brand, Brand, R, G>(
-        rt, alloc, net, workers, gate, pool, writer, reader, readings,
-    )
+    drive_named::<Brand, Brand, R, G>(rt, alloc, workers, gate, pool, writer, reader, readings)
 }
 
 /// Drives the pool on the net that `N` names, and reads on the meter beside.
@@ -198,7 +196,6 @@ fn drive_named<
 >(
     rt: &R,
     alloc: Global,
-    net: &'n Net,
     workers: u32,
     gate: &G,
     pool: PoolState<'n>,
@@ -206,8 +203,6 @@ fn drive_named<
     reader: Reader,
     readings: Vec<u64>,
 ) -> Result<(PoolState<'n>, Vec<u64>), AllocError>
-    requires runs { Runs N.net }
-    requires named { net.now ≡ N.net }
     requires of_net { pool.net ≡ N.net }
     requires some { 1 ≤ workers }
     requires level { last_of writer.published ≡ length pool.log }
@@ -219,9 +214,8 @@ fn drive_named<
     ensures never_down { IfOk result (λ r. IsNonDecreasing r.1.items) }
     ensures booked { IfOk result (λ r. All (λ n. n ≤ length r.0.log) r.1.items) }
 {
-    let tool: NamedNet<'n, N> = NamedNet::new(net);
     let bench: MeteredPool<'_, 'n, M, N, R> = MeteredPool::new(rt, pool, writer);
-    drive_watched(rt, alloc, &tool, workers, gate, bench, reader, readings)
+    drive_watched(rt, alloc, workers, gate, bench, reader, readings)
 }
 
 /// Drives the bench, and reads on its meter beside. The readings never go down, and none is above the number of moves of the pool that
@@ -236,7 +230,6 @@ fn drive_watched<
 >(
     rt: &R,
     alloc: Global,
-    tool: &NamedNet<'n, N>,
     workers: u32,
     gate: &G,
     bench: MeteredPool<'a, 'n, M, N, R>,
@@ -260,7 +253,7 @@ fn drive_watched<
         { read_all(rt, reader, readings, &pace) },
         ||
             requires { 1 ≤ workers }
-        { drive_to_end(rt, alloc, bench, tool, workers, gate, &pace) },
+        { drive_to_end(rt, alloc, bench, workers, gate, &pace) },
     );
     let (pool, writer) = bench.into_parts();
     match answer {
@@ -284,14 +277,14 @@ fn drive_to_end<
     rt: &R,
     alloc: Global,
     bench: MeteredPool<'a, 'n, M, N, R>,
-    tool: &NamedNet<'n, N>,
     workers: u32,
     gate: &G,
     pace: &Pace,
 ) -> MeteredPool<'a, 'n, M, N, R>
     requires { 1 ≤ workers }
 {
-    let bench = drive(rt, alloc, bench, tool, workers, gate);
+    let tool = bench.tool();
+    let bench = drive(rt, alloc, bench, &tool, workers, gate);
     pace.end();
     bench
 }

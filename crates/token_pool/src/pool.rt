@@ -94,6 +94,14 @@ impl<'n> PoolState<'n> {
         })
     }
 
+    /// The net, which runs. Takes no memory.
+    pub fn net(&self) -> &'n Net
+        ensures net { result.now ≡ self.now.net }
+        ensures runs { Runs self.now.net }
+    {
+        self.net
+    }
+
     /// How many moves were made. Takes no memory.
     pub fn booked(&self) -> u32
         ensures count { result ≡ length self.now.log }
