@@ -16,7 +16,8 @@ same_run (r ∷ rs) zero d e u = refl
 same_run (r ∷ rs) (suc j) d e u = same_run rs j d e (omega (arith, u))
 
 -- the move of a run, by its ticket and its worker
-pub entry_is : (t w : ℕ) (r : MovesSeen) → t ≡ r.ticket → w ≡ r.worker → (let e : Entry = record { ticket = t; worker = w } in e) ≡ move_of r
+pub entry_is : (t w : ℕ) (r : MovesSeen) → t ≡ r.ticket → w ≡ r.worker →
+    (let e : Entry = record { ticket = t; worker = w } in e) ≡ move_of r
 entry_is t w r a b = λ k. record { ticket = a k; worker = b k }
 
 -- where runs end, so do their moves
