@@ -36,7 +36,8 @@ fn run_next<G: Gate>(
     worker: u32,
     turn: u64,
 ) -> Result<Option<RanJob>, AllocError>
-    requires { All JobFits jobs.now }
+    requires fits { All JobFits jobs.now }
+    requires worker { worker < 256 }
     ensures passed { number < length jobs.now → G.passes gate.now worker turn }
     ensures brings { IfOk result (Brings jobs.now worker number) }
 {
@@ -59,7 +60,8 @@ fn run_some<G: Gate>(
     gate: &G,
     worker: u32,
 ) -> Result<Vec<RanJob>, AllocError>
-    requires { All JobFits jobs.now }
+    requires fits { All JobFits jobs.now }
+    requires worker { worker < 256 }
     ensures { IfOk result (λ rans. All (IsRanBy jobs.now worker) rans.items) }
 {
     let mut rans = Vec::new(alloc);
@@ -81,7 +83,8 @@ fn work_as<G: Gate>(
     gate: &G,
     worker: u32,
 ) -> Result<Vec<RanJob>, AllocError>
-    requires { All JobFits jobs.now }
+    requires fits { All JobFits jobs.now }
+    requires worker { worker < 256 }
     ensures { IfOk result (λ rans. All (IsRanBy jobs.now worker) rans.items) }
 {
     let rans = run_some(alloc, jobs, next, gate, worker);
@@ -110,6 +113,7 @@ fn work_from<R: Threads + Sync, G: Gate>(
     to: u32,
 ) -> Result<Vec<RanJob>, AllocError>
     requires some { from < to }
+    requires few { to ≤ 256 }
     requires fits { All JobFits jobs.now }
     ensures { IfOk result (λ rans. All (IsRanIn jobs.now from to) rans.items) }
 {
@@ -120,11 +124,11 @@ fn work_from<R: Threads + Sync, G: Gate>(
     let (first, second) = join(
         rt,
         || -> Result<Vec<RanJob>, AllocError>
-            requires { (from < middle) × All JobFits jobs.now }
+            requires { (from < middle) × (middle ≤ 256) × All JobFits jobs.now }
             ensures { IfOk result (λ rans. All (IsRanIn jobs.entry.now from middle) rans.items) }
         { work_from(rt, alloc, jobs, next, gate, from, middle) },
         || -> Result<Vec<RanJob>, AllocError>
-            requires { (middle < to) × All JobFits jobs.now }
+            requires { (middle < to) × (to ≤ 256) × All JobFits jobs.now }
             ensures { IfOk result (λ rans. All (IsRanIn jobs.entry.now middle to) rans.items) }
         { work_from(rt, alloc, jobs, next, gate, middle, to) },
     );
@@ -237,6 +241,7 @@ pub(crate) fn run_apart<R: Threads + Sync, G: Gate>(
 ) -> Result<Vec<Ended>, AllocError>
     requires fits { All JobFits jobs.now }
     requires several { 2 ≤ workers }
+    requires few { workers ≤ 256 }
     ensures { IfOk result (λ ends. AreRuns jobs.now workers ends.items) }
 {
     let next = AtomicUsize::new(0);

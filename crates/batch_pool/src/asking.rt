@@ -26,7 +26,7 @@ pub(crate) enum Offer {
 }
 
 /// What a pool has for a worker.
-fn ask(pool: &mut PoolState, worker: u32) -> Result<Offer, AllocError>
+fn ask(pool: &mut PoolState<'_>, worker: u32) -> Result<Offer, AllocError>
     requires place { worker < pool.old.workers }
     requires running { pool.old.stopped ≡ false }
     ensures ok { IfOk result (λ offer. Offers pool.old worker offer pool.new) }
@@ -41,7 +41,7 @@ fn ask(pool: &mut PoolState, worker: u32) -> Result<Offer, AllocError>
 }
 
 /// What a job has for a worker.
-fn ask_job(pools: &mut Vec<PoolState>, job: usize, worker: u32) -> Result<Offer, AllocError>
+fn ask_job(pools: &mut Vec<PoolState<'_>>, job: usize, worker: u32) -> Result<Offer, AllocError>
     requires serving { IsServing pools.old.items worker }
     requires within { job < length pools.old.items }
     ensures ok { IfOk result (λ offer. OffersAt pools.old.items worker job offer pools.new.items) }
@@ -54,7 +54,7 @@ fn ask_job(pools: &mut Vec<PoolState>, job: usize, worker: u32) -> Result<Offer,
 
 /// The ticket that the worker holds in this job, again.
 pub(crate) fn take_again(
-    pools: &mut Vec<PoolState>,
+    pools: &mut Vec<PoolState<'_>>,
     job: u32,
     worker: u32,
 ) -> Result<Piece, AllocError>
@@ -72,7 +72,7 @@ pub(crate) fn take_again(
 
 /// What a job has for a worker, with what is spare in all jobs counted anew.
 fn ask_next(
-    pools: &mut Vec<PoolState>,
+    pools: &mut Vec<PoolState<'_>>,
     spare: &mut u64,
     job: usize,
     worker: u32,
@@ -106,7 +106,7 @@ fn pass(passed: &mut usize, over: bool, job: usize)
 ///
 /// The call begins behind the jobs that are known to be over, and passes over those that it finds to be so behind them.
 pub(crate) fn take_first(
-    pools: &mut Vec<PoolState>,
+    pools: &mut Vec<PoolState<'_>>,
     passed: &mut usize,
     spare: &mut u64,
     worker: u32,

@@ -31,7 +31,7 @@ fn work_on(alloc: Global, jobs: &[BatchJob], job: u32, piece: Piece) -> Result<M
     }
 }
 
-impl Bench for BatchState {
+impl<'n> Bench for BatchState<'n> {
     type Piece = BatchPiece;
 
     type Made = Moved;
@@ -53,7 +53,9 @@ impl Bench for BatchState {
         Ok(turn_of(self.take(worker)?))
     }
 
-    fn work(alloc: Global, tool: &Vec<BatchJob>, piece: BatchPiece) -> Result<Moved, AllocError> {
+    fn work(alloc: Global, tool: &Vec<BatchJob>, piece: BatchPiece) -> Result<Moved, AllocError>
+        ensures { IfOk result (MakesIn tool.now.items piece) }
+    {
         work_on(alloc, tool, piece.job, piece.piece)
     }
 

@@ -15,7 +15,7 @@ use token_pool::{Booked, PoolState};
 
 /// Books what a worker walked in the job of this number, in which it holds a ticket, and counts anew what is spare in all jobs.
 pub(crate) fn book_job(
-    pools: &mut Vec<PoolState>,
+    pools: &mut Vec<PoolState<'_>>,
     spare: &mut u64,
     job: u32,
     worker: u32,

@@ -30,14 +30,14 @@ fn run_from_start(alloc: Global, job: &BatchJob, workers: u32) -> Result<Ended, 
 /// A job's end, from its pool if it has one.
 fn finish_job(
     alloc: Global,
-    pool: Option<PoolState>,
+    pool: Option<PoolState<'_>>,
     job: &BatchJob,
     workers: u32,
 ) -> Result<Ended, AllocError>
     requires fits { JobFits job.now }
     requires some { 1 ≤ workers }
     requires few { workers ≤ most_workers }
-    ensures ends { IfOk result (EndsAs pool job.now workers) }
+    ensures ends { IfOk result (EndsAs pool.entry job.now workers) }
     ensures replays { IfOk result (Replays job.now.net job.now.budget workers) }
 {
     match pool {
@@ -47,7 +47,7 @@ fn finish_job(
 }
 
 /// The first pool that is left.
-fn next_pool(pools: &mut IntoIter<PoolState>) -> Option<PoolState>
+fn next_pool<'n>(pools: &mut IntoIter<PoolState<'n>>) -> Option<PoolState<'n>>
     ensures { Pops (into_iter_items pools.old) result (into_iter_items pools.new) }
 {
     pools.next()
@@ -56,7 +56,7 @@ fn next_pool(pools: &mut IntoIter<PoolState>) -> Option<PoolState>
 /// Adds the ends of the jobs that are left, from the pools that are left.
 fn finish_rest(
     alloc: Global,
-    mut pools: IntoIter<PoolState>,
+    mut pools: IntoIter<PoolState<'_>>,
     jobs: &[BatchJob],
     workers: u32,
     ends: &mut Vec<Ended>,
@@ -65,7 +65,7 @@ fn finish_rest(
     requires some { 1 ≤ workers }
     requires few { workers ≤ most_workers }
     ensures { OnOk result ((more : List Ended) × (ends.new.items ≡ ends.old.items ++ more)
-        × EndsEach (into_iter_items pools) jobs.now workers more) }
+        × EndsEach (into_iter_items pools.entry) jobs.now workers more) }
 {
     match jobs {
         [] => Ok(()),
@@ -80,12 +80,12 @@ fn finish_rest(
 /// The ends of all jobs, in turn.
 pub(crate) fn finish_jobs(
     alloc: Global,
-    pools: Vec<PoolState>,
+    pools: Vec<PoolState<'_>>,
     jobs: &[BatchJob],
     workers: u32,
 ) -> Result<Vec<Ended>, AllocError>
     requires { BatchFits jobs.now workers }
-    ensures { IfOk result (λ ends. EndsEach pools.items jobs.now workers ends.items) }
+    ensures { IfOk result (λ ends. EndsEach pools.entry.items jobs.now workers ends.items) }
 {
     let mut ends = Vec::with_capacity(alloc, jobs.len())?;
     finish_rest(alloc, pools.into_iter(), jobs, workers, &mut ends)?;

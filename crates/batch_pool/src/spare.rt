@@ -7,7 +7,7 @@ ghost use Rattle.batch_pool.specs.Keeping.{Spared, SpareAt};
 use token_pool::PoolState;
 
 /// The spare pieces of a job.
-pub(crate) fn spare_at(pools: &[PoolState], job: usize) -> u32
+pub(crate) fn spare_at(pools: &[PoolState<'_>], job: usize) -> u32
     requires { job < length pools.now }
     ensures { SpareAt pools.now job result }
 {
@@ -24,7 +24,7 @@ pub(crate) fn spare_after(spare: u64, before: u32, now: u32) -> u64
 }
 
 /// The spare pieces of all jobs together, counted one by one.
-pub(crate) fn spare_of(pools: &[PoolState]) -> u64
+pub(crate) fn spare_of(pools: &[PoolState<'_>]) -> u64
     requires { length pools.now ≤ most_jobs }
     ensures { Spared pools.now result }
 {

@@ -9,7 +9,11 @@ use std::alloc::{AllocError, Global};
 use token_pool::PoolState;
 
 /// The pool in which a job's run begins.
-fn start_job(alloc: Global, job: &BatchJob, workers: u32) -> Result<PoolState, AllocError>
+fn start_job<'n>(
+    alloc: Global,
+    job: &'n BatchJob,
+    workers: u32,
+) -> Result<PoolState<'n>, AllocError>
     requires fits { JobFits job.now }
     requires some { 1 ≤ workers }
     requires few { workers ≤ most_workers }
@@ -19,11 +23,11 @@ fn start_job(alloc: Global, job: &BatchJob, workers: u32) -> Result<PoolState, A
 }
 
 /// The pools of all jobs, in turn.
-pub(crate) fn start_jobs(
+pub(crate) fn start_jobs<'n>(
     alloc: Global,
-    jobs: &[BatchJob],
+    jobs: &'n [BatchJob],
     workers: u32,
-) -> Result<Vec<PoolState>, AllocError>
+) -> Result<Vec<PoolState<'n>>, AllocError>
     requires { BatchFits jobs.now workers }
     ensures { IfOk result (λ pools. pools.items ≡ map (job_started workers) jobs.now) }
 {

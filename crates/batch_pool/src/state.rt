@@ -22,8 +22,8 @@ use token_pool::{Booked, Ended, PoolState, law_book_keeps, law_start_good, law_t
 /// Several jobs with a pool each, and the workers that they share. Contracts see it as a batch, and every one is good: among more, a worker
 /// holds a ticket in one job at most.
 #[derive(Drop)]
-pub struct BatchState {
-    pools: Vec<PoolState>,
+pub struct BatchState<'n> {
+    pools: Vec<PoolState<'n>>,
     workers: u32,
     stopped: bool,
     places: Vec<Option<u32>>,
@@ -31,7 +31,7 @@ pub struct BatchState {
     spare: u64,
 }
 
-impl Model for BatchState {
+impl<'n> Model for BatchState<'n> {
     ghost use Rattle.batch_pool.specs.Batches.{Batch};
     ghost use Rattle.batch_pool.specs.Codes.{batch_code, batch};
     ghost use Rattle.batch_pool.specs.Keeping.{Kept, Counted};
@@ -45,13 +45,17 @@ impl Model for BatchState {
     ghost invariant = { λ a. Kept a.pools.items a.workers a.stopped a.places.items × Counted a.pools.items a.passed a.spare };
 }
 
-impl BatchState {
+impl<'n> BatchState<'n> {
     /// The batch in which the runs of these jobs begin, each job with a pool of its own. It takes all the memory that their logs will need.
     ///
     /// # Errors
     ///
     /// It runs out of memory.
-    pub fn start(alloc: Global, jobs: &[BatchJob], workers: u32) -> Result<BatchState, AllocError>
+    pub fn start(
+        alloc: Global,
+        jobs: &'n [BatchJob],
+        workers: u32,
+    ) -> Result<BatchState<'n>, AllocError>
         requires { BatchFits jobs.now workers }
         ensures { IfOk result (λ b. b ≡ batch_started jobs.now workers) }
     {
@@ -172,8 +176,8 @@ impl BatchState {
         workers: u32,
     ) -> Result<Vec<Ended>, AllocError>
         requires { BatchFits jobs.now workers }
-        ensures stopped { IsTrue self.stopped → IsErr result }
-        ensures ends { IfOk result (λ ends. EndsEach self.pools jobs.now workers ends.items) }
+        ensures stopped { IsTrue self.entry.stopped → IsErr result }
+        ensures ends { IfOk result (λ ends. EndsEach self.entry.pools jobs.now workers ends.items) }
     {
         let BatchState { pools, stopped, .. } = self;
         if stopped {

@@ -17,12 +17,12 @@ use token_pool::{PoolState, Taken};
 
 /// A pool of a run of the net that `N` names. Contracts see the pool.
 #[derive(Drop)]
-pub struct BranchPool<N: OnNet> {
-    pool: PoolState,
+pub struct BranchPool<'n, N: OnNet> {
+    pool: PoolState<'n>,
     name: PhantomData<N>,
 }
 
-impl<N: OnNet> Model for BranchPool<N> {
+impl<'n, N: OnNet> Model for BranchPool<'n, N> {
     ghost use Rattle.std.specs.Prelude.{◌≡◌};
     ghost use Rattle.token_pool.specs.Pools.{Pool};
     ghost use Rattle.token_pool.specs.Codes.{pool_code};
@@ -36,11 +36,11 @@ impl<N: OnNet> Model for BranchPool<N> {
     ghost invariant = { λ b. b.pool.net ≡ N.net };
 }
 
-impl<N: OnNet> BranchPool<N> {
+impl<'n, N: OnNet> BranchPool<'n, N> {
     /// The bench of this pool. Takes no memory.
-    pub fn new(pool: PoolState) -> BranchPool<N>
+    pub fn new(pool: PoolState<'n>) -> BranchPool<'n, N>
         requires { pool.net ≡ N.net }
-        ensures { result ≡ pool }
+        ensures { result ≡ pool.entry }
     {
         BranchPool {
             pool,
@@ -49,15 +49,22 @@ impl<N: OnNet> BranchPool<N> {
     }
 
     /// The pool. Takes no memory.
-    pub fn pool(&self) -> &PoolState
+    pub fn pool(&self) -> &PoolState<'n>
         ensures { result.now ≡ self.now }
     {
         &self.pool
     }
 
+    /// The tool for its workers: the pool's own net, under the name that the type has. Takes no memory.
+    pub fn tool(&self) -> NamedNet<'n, N>
+        ensures { result ≡ N.net }
+    {
+        NamedNet::new(self.pool.net())
+    }
+
     /// Hands the pool out. Takes no memory.
-    pub fn into_pool(self) -> PoolState
-        ensures pool { result ≡ self }
+    pub fn into_pool(self) -> PoolState<'n>
+        ensures pool { result ≡ self.entry }
         ensures named { result.net ≡ N.net }
     {
         let BranchPool { pool, .. } = self;
@@ -86,7 +93,7 @@ fn turn_of<N: OnNet>(taken: Taken, plain: bool) -> Turn<BranchPiece<N>>
 ///
 /// It runs out of memory, and the pool is as it was.
 pub fn turn_in<N: OnNet>(
-    pool: &mut PoolState,
+    pool: &mut PoolState<'_>,
     worker: u32,
 ) -> Result<Turn<BranchPiece<N>>, AllocError>
     requires { pool.old.net ≡ N.net }
@@ -107,7 +114,7 @@ pub fn turn_in<N: OnNet>(
 /// It runs out of memory.
 pub fn play_piece<N: OnNet>(
     alloc: Global,
-    tool: &NamedNet<N>,
+    tool: &NamedNet<'_, N>,
     piece: BranchPiece<N>,
 ) -> Result<Branch<N>, AllocError>
     ensures { IfOk result (MakesBranch N.net piece) }
@@ -124,7 +131,7 @@ pub fn play_piece<N: OnNet>(
 ///
 /// It runs out of memory, and the pool is as it was.
 pub fn take_in<N: OnNet>(
-    pool: &mut PoolState,
+    pool: &mut PoolState<'_>,
     worker: u32,
     made: Branch<N>,
 ) -> Result<(), AllocError>
@@ -138,12 +145,12 @@ pub fn take_in<N: OnNet>(
     Ok(())
 }
 
-impl<N: OnNet + Send + Sync> Bench for BranchPool<N> {
+impl<'n, N: OnNet + Send + Sync> Bench for BranchPool<'n, N> {
     type Piece = BranchPiece<N>;
 
     type Made = Branch<N>;
 
-    type Tool = NamedNet<N>;
+    type Tool = NamedNet<'n, N>;
 
     // The tool is the net that the type names.
     ghost makes = { λ tool. MakesBranch N.net };
@@ -160,7 +167,7 @@ impl<N: OnNet + Send + Sync> Bench for BranchPool<N> {
 
     fn work(
         alloc: Global,
-        tool: &NamedNet<N>,
+        tool: &NamedNet<'n, N>,
         piece: BranchPiece<N>,
     ) -> Result<Branch<N>, AllocError> {
         play_piece(alloc, tool, piece)

@@ -1,7 +1,5 @@
 -- what a reader has to believe: a branch that was played, how far it is played, and what becomes of a machine that takes it
 pub mod Branching
--- a list of tickets as runs
-pub mod Tickets
 -- what serves the code's types and private contracts only
 --
 -- How the logic stores a branch, so that a struct's `impl Model` can have one as its value.

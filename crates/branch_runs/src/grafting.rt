@@ -9,9 +9,9 @@ ghost use Rattle.interleave_laws.specs.Runs.{Runs};
 ghost use Rattle.interleave_laws.specs.MapRuns.{IsReachedWithin};
 ghost use Rattle.branch_runs.specs.Branching.{Taken};
 
-use crate::{Branch, OnNet, Tickets};
+use crate::{Branch, OnNet};
 use branch_laws::law_branch_maps;
-use interleave_core::Core;
+use interleave_core::{Core, Tickets};
 use interleave_laws::law_maps;
 use move_rules::Token;
 use std::alloc::AllocError;

@@ -12,8 +12,7 @@ ghost use Rattle.branch_laws.specs.Laws.{Occurs};
 ghost use Rattle.branch_runs.specs.Branching.{Stops};
 ghost use Rattle.branch_runs.specs.Growing.{HasGrown, GrowsOn, EndsTurn, WalksAlone, PlayedSo};
 
-use crate::Tickets;
-use interleave_core::Core;
+use interleave_core::{Core, Tickets};
 use net_build::Net;
 use std::alloc::AllocError;
 

@@ -17,4 +17,4 @@ pub use grafting::graft;
 pub use naming::{NamedNet, OnNet};
 pub use playing::{Branch, branch_of};
 pub use seed::Seed;
-pub use tickets::{Run, Tickets, name_of};
+pub use tickets::name_of;

@@ -19,14 +19,14 @@ impl OnNet for Brand {
     ghost net = { no_net };
 }
 
-/// The net that `N` names, which runs: no order of moves leaves it without a move before its answer.
+/// The net that `N` names, borrowed, which runs: no order of moves leaves it without a move before its answer.
 #[derive(Drop)]
-pub struct NamedNet<N: OnNet> {
-    net: Net,
+pub struct NamedNet<'n, N: OnNet> {
+    net: &'n Net,
     name: PhantomData<N>,
 }
 
-impl<N: OnNet> Model for NamedNet<N> {
+impl<'n, N: OnNet> Model for NamedNet<'n, N> {
     ghost use Rattle.std.specs.Prelude.{◌≡◌};
     ghost use Rattle.net_build.specs.Nets.{NetTree};
     ghost use Rattle.net_build.specs.Codes.{net_code};
@@ -36,17 +36,17 @@ impl<N: OnNet> Model for NamedNet<N> {
 
     ghost coded = { net_code };
 
-    ghost view = { λ n. n.net };
+    ghost view = { λ n. n.net.now };
 
-    ghost invariant = { λ n. (n.net ≡ N.net) × Runs N.net };
+    ghost invariant = { λ n. (n.net.now ≡ N.net) × Runs N.net };
 }
 
-impl<N: OnNet> NamedNet<N> {
+impl<'n, N: OnNet> NamedNet<'n, N> {
     /// The net under the name that the type has. Takes no memory.
-    pub fn new(net: Net) -> NamedNet<N>
-        requires named { net ≡ N.net }
+    pub fn new(net: &'n Net) -> NamedNet<'n, N>
+        requires named { net.now ≡ N.net }
         requires runs { Runs N.net }
-        ensures { result ≡ net }
+        ensures { result ≡ net.now }
     {
         NamedNet {
             net,
@@ -59,6 +59,6 @@ impl<N: OnNet> NamedNet<N> {
         ensures net { result.now ≡ N.net }
         ensures runs { Runs N.net }
     {
-        &self.net
+        self.net
     }
 }

@@ -6,8 +6,8 @@ ghost use Rattle.move_rules.specs.Views.{token_of};
 ghost use Rattle.branch_runs.specs.Branching.{IsBranch, Played};
 
 use crate::growing::play;
-use crate::{NamedNet, OnNet, Seed, Tickets};
-use interleave_core::Core;
+use crate::{NamedNet, OnNet, Seed};
+use interleave_core::{Core, Tickets};
 use move_rules::Token;
 use std::alloc::{AllocError, Global};
 use std::marker::{Model, PhantomData};
@@ -87,7 +87,7 @@ impl<N: OnNet> Branch<N> {
 /// It runs out of memory; nothing is kept then.
 pub fn branch_of<N: OnNet>(
     alloc: Global,
-    net: &NamedNet<N>,
+    net: &NamedNet<'_, N>,
     seed: Seed<N>,
     most: u32,
     plain: bool,

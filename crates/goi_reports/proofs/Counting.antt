@@ -1,4 +1,4 @@
--- How a tally grows by one move, and what its counts add up to.
+-- How a tally grows by one move, or by a run, and what its counts add up to.
 use Rattle.std.proofs.Common.{◌≡◌, ℕ, zero, suc, ◌+◌, ◌<◌, ◌≤◌, List, [], ◌∷◌, length, take, get_or, refl, sym}
 use Rattle.std.proofs.Common.{ap, ◌∙◌, arith}
 use Rattle.std.specs.Prelude.{set, replicate, cond, false, nat_eq, sum}
@@ -7,47 +7,50 @@ use Rattle.std.proofs.lemmas.List.{take_all, length-take-le}
 use Rattle.std.proofs.lemmas.List.Folds.{sum_by-replicate}
 use Rattle.std.proofs.lemmas.List.Sums.{sum_by_more, sum_by-set, count_by-le-length}
 use Rattle.schedule_log.specs.declared.entry.Entry.{Entry}
+use Rattle.schedule_log.specs.KeptRuns.{Each, MovesSeen, spread}
 use Rattle.schedule_log.specs.Tally.{tally_of, tally_from, tally}
+use Rattle.schedule_log.proofs.Counted.{count_fits}
+use Rattle.schedule_log.proofs.RunByRun.{run_has, tally_run_more}
 use Rattle.goi_reports.specs.Booked.{BookedWithin}
 
--- the second list has one move more, which this worker booked
-abbrev OneMore : List Entry → List Entry → ℕ → Type 0
-OneMore es fs worker = (w : ℕ) → tally_of fs w ≡ tally_of es w + cond (nat_eq worker w) 1 0
+-- the second list has so many moves more, which this worker booked
+abbrev More : ℕ → List Entry → List Entry → ℕ → Type 0
+More c es fs worker = (w : ℕ) → tally_of fs w ≡ tally_of es w + cond (nat_eq worker w) c 0
 
-module _ (es fs : List Entry) where
+module _ (c : ℕ) (es fs : List Entry) where
   -- any other worker's count stays
-  same_count : (worker w : ℕ) → OneMore es fs worker → (worker ≡ w → ⊥) → tally_of fs w ≡ tally_of es w
+  same_count : (worker w : ℕ) → More c es fs worker → (worker ≡ w → ⊥) → tally_of fs w ≡ tally_of es w
   same_count worker w more other =
       let e : nat_eq worker w ≡ false = ne_eqb worker w other in
-      let h : tally_of fs w ≡ tally_of es w + cond (nat_eq worker w) 1 0 = more w in
-      let k : tally_of es w + cond (nat_eq worker w) 1 0 ≡ tally_of es w + 0 = ap (λ b. tally_of es w + cond b 1 0) e in
+      let h : tally_of fs w ≡ tally_of es w + cond (nat_eq worker w) c 0 = more w in
+      let k : tally_of es w + cond (nat_eq worker w) c 0 ≡ tally_of es w + 0 = ap (λ b. tally_of es w + cond b c 0) e in
       h ∙ k ∙ omega arith
 
-  -- its worker's count grows by one
-  own_count : (worker w : ℕ) → OneMore es fs worker → worker ≡ w → tally_of fs w ≡ tally_of es w + 1
-  own_count worker w more same = more w ∙ ap (λ b. tally_of es w + cond b 1 0) (eq-eqb worker w same)
+  -- its worker's count grows by them
+  own_count : (worker w : ℕ) → More c es fs worker → worker ≡ w → tally_of fs w ≡ tally_of es w + c
+  own_count worker w more same = more w ∙ ap (λ b. tally_of es w + cond b c 0) (eq-eqb worker w same)
 
   -- the counts of the workers behind it stay
-  same_behind : (worker w n : ℕ) → OneMore es fs worker → worker < w → tally_from fs w n ≡ tally_from es w n
+  same_behind : (worker w n : ℕ) → More c es fs worker → worker < w → tally_from fs w n ≡ tally_from es w n
   same_behind worker w zero more h = refl
   same_behind worker w (suc n) more h =
       let p : tally_of fs w ≡ tally_of es w = same_count worker w more (λ e. omega (arith, h, e)) in
       let q : tally_from fs (suc w) n ≡ tally_from es (suc w) n = same_behind worker (suc w) n more (omega (arith, h)) in
       λ i. p i ∷ q i
 
-  -- the count of the worker who is j behind w grows by one, and the others stay
-  one_set : (worker w j n : ℕ) → OneMore es fs worker → worker ≡ w + j → j < n →
-      tally_from fs w n ≡ set (tally_from es w n) j (tally_of es worker + 1)
+  -- the count of the worker who is j behind w grows by them, and the others stay
+  one_set : (worker w j n : ℕ) → More c es fs worker → worker ≡ w + j → j < n →
+      tally_from fs w n ≡ set (tally_from es w n) j (tally_of es worker + c)
   one_set worker w zero zero more e h = absurd (omega (arith, h))
   one_set worker w (suc j) zero more e h = absurd (omega (arith, h))
   one_set worker w zero (suc n) more e h =
       let s : worker ≡ w = e ∙ omega arith in
-      let p : tally_of fs w ≡ tally_of es worker + 1 = own_count worker w more s ∙ ap (λ v. tally_of es v + 1) (sym s) in
+      let p : tally_of fs w ≡ tally_of es worker + c = own_count worker w more s ∙ ap (λ v. tally_of es v + c) (sym s) in
       let q : tally_from fs (suc w) n ≡ tally_from es (suc w) n = same_behind worker (suc w) n more (omega (arith, s)) in
       λ i. p i ∷ q i
   one_set worker w (suc j) (suc n) more e h =
       let p : tally_of fs w ≡ tally_of es w = same_count worker w more (λ s. omega (arith, s, e)) in
-      let q : tally_from fs (suc w) n ≡ set (tally_from es (suc w) n) j (tally_of es worker + 1) =
+      let q : tally_from fs (suc w) n ≡ set (tally_from es (suc w) n) j (tally_of es worker + c) =
       one_set worker (suc w) j n more (omega (arith, e)) (omega (arith, h)) in
       λ i. p i ∷ q i
 
@@ -80,20 +83,14 @@ pub tally_none : (workers : ℕ) → tally [] workers ≡ replicate (suc workers
 tally_none workers = none_from 0 (suc workers)
 
 -- The moves up to the next one are one more, which its worker booked.
-one_more : (es : List Entry) (i : ℕ) (d : Entry) → i < length es → OneMore (take i es) (take (i + 1) es) (get_or es i d).worker
+one_more : (es : List Entry) (i : ℕ) (d : Entry) → i < length es → More 1 (take i es) (take (i + 1) es) (get_or es i d).worker
 one_more es i d h w = sum_by_more (λ (e : Entry). cond (nat_eq e.worker w) 1 0) es i d h
 
--- One more move raises its worker's count.
-pub tally_more : (es : List Entry) (workers i : ℕ) (d : Entry) → i < length es → (get_or es i d).worker ≤ workers →
-    tally (take (i + 1) es) workers
-    ≡ set (tally (take i es) workers) (get_or es i d).worker (tally_of (take i es) (get_or es i d).worker + 1)
-tally_more es workers i d h within =
-    one_set (take i es) (take (i + 1) es) (get_or es i d).worker 0 (get_or es i d).worker (suc workers) (one_more es i d h)
-    (omega arith) (omega (arith, within))
-
--- No count is greater than the number of moves.
-pub tally_of_few : (es : List Entry) (worker : ℕ) → tally_of es worker ≤ length es
-tally_of_few es worker = count_by-le-length (λ (e : Entry). nat_eq e.worker worker) es
+-- More moves of one worker raise its count.
+tally_more : (c : ℕ) (es fs : List Entry) (workers worker : ℕ) → More c es fs worker → worker ≤ workers →
+    tally fs workers ≡ set (tally es workers) worker (tally_of es worker + c)
+tally_more c es fs workers worker more within =
+    one_set c es fs worker 0 worker (suc workers) more (omega arith) (omega (arith, within))
 
 -- The counts of no moves add up to 0.
 sum_none : (workers : ℕ) → sum (tally [] workers) ≡ 0
@@ -110,7 +107,7 @@ sum_more es workers i d h within =
     let grown : sum (set before worker (tally_of (take i es) worker + 1)) + get_or before worker 0
     ≡ sum before + (tally_of (take i es) worker + 1) =
     sum_by-set (λ x. x) before worker (tally_of (take i es) worker + 1) 0 (omega (arith, long, within)) in
-    ap sum (tally_more es workers i d h within) ∙ omega (arith, grown, at)
+    ap sum (tally_more 1 (take i es) (take (i + 1) es) workers worker (one_more es i d h) within) ∙ omega (arith, grown, at)
 
 -- The counts of the first i moves add up to i.
 sum_so_far : (es : List Entry) (workers : ℕ) (d : Entry) → BookedWithin workers es → (i : ℕ) → i ≤ length es →
@@ -124,31 +121,33 @@ sum_so_far es workers d within (suc i) h =
     ∙ ap (λ s. s + 1) (sum_so_far es workers d within i (omega (arith, less)))
     ∙ sym next
 
--- What is known of the counts of the first i moves when the next move is counted.
-pub record Next (counts : List ℕ) (es : List Entry) (workers i : ℕ) (worker : ℕ) : Type 0 where
+-- What is known of the counts of the moves of the first i runs when the next run is counted.
+pub record Next (counts : List ℕ) (rs : List MovesSeen) (workers i : ℕ) (worker count : ℕ) : Type 0 where
   -- its worker has a place among the counts
   pub place : worker < length counts
-  -- there is room for one more in that count
-  pub fits : (z : ℕ) → get_or counts worker z + 1 ≤ length es
-  -- with that count raised they are the counts with that move
-  pub raised : (count : ℕ) → count ≡ get_or counts worker count → set counts worker (count + 1) ≡ tally (take (i + 1) es) workers
+  -- there is room for its moves in that count
+  pub fits : (z : ℕ) → get_or counts worker z + count ≤ length (spread rs)
+  -- with that count raised they are the counts with that run
+  pub raised : (old : ℕ) → old ≡ get_or counts worker old →
+      set counts worker (old + count) ≡ tally (spread (take (i + 1) rs)) workers
 
--- The next move of a list that so many workers booked is counted at its worker's place.
-pub next_move : (counts : List ℕ) (es : List Entry) (workers i : ℕ) (d : Entry) → i < length es → BookedWithin workers es →
-    counts ≡ tally (take i es) workers → Next counts es workers i (get_or es i d).worker
-next_move counts es workers i d less booked counted =
-    let worker = (get_or es i d).worker in
-    let before = take i es in
-    let within : worker ≤ workers = booked i d less in
-    let long : length before ≡ i = length-take-le i es (omega (arith, less)) in
+-- The moves of the next run, which one of so many workers booked, are counted at its worker's place.
+pub next_run : (counts : List ℕ) (rs : List MovesSeen) (workers i : ℕ) (d : MovesSeen) → i < length rs → Each rs →
+    BookedWithin workers (spread rs) → counts ≡ tally (spread (take i rs)) workers →
+    Next counts rs workers i (get_or rs i d).worker (get_or rs i d).count
+next_run counts rs workers i d less each booked counted =
+    let worker = (get_or rs i d).worker in
+    let count = (get_or rs i d).count in
+    let before = spread (take i rs) in
+    let within : worker ≤ workers = run_has (λ (e : Entry). e.worker ≤ workers) rs i d less each booked in
     let is : (z : ℕ) → get_or counts worker z ≡ tally_of before worker =
     λ z. ap (λ cs. get_or cs worker z) counted ∙ tally_at before workers worker z within in
     record {
       place = omega (arith, within, ap length counted, tally_length before workers);
-      fits = λ z. omega (arith, less, is z, tally_of_few before worker, long);
-      raised = λ count e. ap (λ c. set counts worker (c + 1)) (e ∙ is count)
-          ∙ ap (λ cs. set cs worker (tally_of before worker + 1)) counted
-          ∙ sym (tally_more es workers i d less within);
+      fits = λ z. let f = count_fits rs i d worker (tally_of before worker) less refl refl in omega (arith, f, is z);
+      raised = λ old e. ap (λ c. set counts worker (c + count)) (e ∙ is old)
+          ∙ ap (λ cs. set cs worker (tally_of before worker + count)) counted
+          ∙ sym (tally_more count before (spread (take (i + 1) rs)) workers worker (λ w. tally_run_more rs i d w less) within);
     }
 
 -- The counts add up to the number of moves.

@@ -2,29 +2,31 @@
 
 ghost use Rattle.std.specs.Prelude.{◌≡◌, ◌+◌, ◌^◌, ◌<◌, ◌≤◌, ◌++◌, IfOk, OnOk, length};
 ghost use Rattle.pcf_values.specs.Most.{most_workers};
+ghost use Rattle.schedule_log.specs.KeptRuns.{Each, spread};
 ghost use Rattle.schedule_log.specs.Tally.{tally};
 ghost use Rattle.goi_reports.specs.Tallies.{tally_lines, worker_line};
 ghost use Rattle.goi_reports.specs.Booked.{BookedWithin, last_or_worker_line};
 
 use crate::line::push_number_line;
 use itoa::Buffer;
-use schedule_log::Entry;
+use schedule_log::Moves;
 use std::alloc::{AllocError, Global};
 
-/// How many of the moves each worker booked, and the finisher at the end, by one walk over them.
+/// How many of the moves each worker booked, and the finisher at the end, by one walk over their runs.
 pub(crate) fn count_moves(
     alloc: Global,
-    entries: &[Entry],
+    runs: &[Moves],
     workers: u32,
 ) -> Result<Vec<u32>, AllocError>
     requires few { workers ≤ most_workers }
-    requires short { length entries.now < 2 ^ 32 }
-    requires booked { BookedWithin workers entries.now }
-    ensures counted { IfOk result (λ v. v.items ≡ tally entries.now workers) }
+    requires each { Each runs.now }
+    requires short { length (spread runs.now) < 2 ^ 32 }
+    requires booked { BookedWithin workers (spread runs.now) }
+    ensures counted { IfOk result (λ v. v.items ≡ tally (spread runs.now) workers) }
 {
     let mut counts = vec![in alloc; 0u32; workers as usize + 1]?;
-    for entry in entries {
-        counts[entry.worker as usize] += 1;
+    for run in runs {
+        counts[run.worker() as usize] += run.count();
     }
     Ok(counts)
 }

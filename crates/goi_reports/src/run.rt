@@ -83,6 +83,6 @@ fn push_tally(
     requires booked { BookedWithin workers log.now.entries }
     ensures { OnOk result (report.new.items ≡ report.old.items ++ tally_text log.now.entries workers) }
 {
-    let counts = count_moves(alloc, log.entries(), workers)?;
+    let counts = count_moves(alloc, log.runs(), workers)?;
     push_tally_lines(report, &counts)
 }

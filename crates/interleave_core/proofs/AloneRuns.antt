@@ -1,12 +1,12 @@
 -- The one worker's run, walk by walk and move by move.
-use Rattle.std.proofs.Common.{◌≡◌, ℕ, suc, ◌<◌, ◌≤◌, cond, List, [], ◌∷◌, ◌++◌, length, Some, refl, sym, ap}
-use Rattle.std.proofs.Common.{◌∙◌, subst, arith, ⊎_elim}
-use Rattle.std.specs.Prelude.{map}
+use Rattle.std.proofs.Common.{◌≡◌, ℕ, suc, ◌+◌, ◌<◌, ◌≤◌, cond, List, [], ◌∷◌, ◌++◌, length, Some, refl, sym, ap}
+use Rattle.std.proofs.Common.{◌∙◌, subst, append_assoc, arith, ⊎_elim}
+use Rattle.std.specs.Prelude.{map, replicate}
 use Rattle.std.specs.Option.{IsSome}
 use Rattle.std.specs.Ordering.{nat_cmp}
 use Rattle.std.specs.FinMap.{FinMap, get, insert, get-insert}
 use Rattle.std.proofs.lemmas.Cmp.{nat_cmp_total}
-use Rattle.std.proofs.lemmas.List.{length-append}
+use Rattle.std.proofs.lemmas.List.{length-append, length-replicate, replicate-append-replicate}
 use Rattle.std.proofs.lemmas.Bool.{eq-eqb, ne_eqb, cases_lt}
 use Rattle.pcf_values.specs.Most.{most_budget}
 use Rattle.net_build.specs.Nets.{NetTree}
@@ -19,11 +19,12 @@ use Rattle.interleave_laws.specs.OneWorkerLaws.{Least}
 use Rattle.interleave_laws.specs.Maps.{MapState, start_map, step_map, run_map, then_run_map, seen}
 use Rattle.interleave_laws.specs.MapRuns.{IsReachedWithin}
 use Rattle.interleave_laws.specs.Tickets.{NoneLive, IsLeastLive}
-use Rattle.interleave_core.specs.Moving.{Changes, WalksOn}
+use Rattle.interleave_core.specs.Moving.{Changes, GoesOn}
 use Rattle.interleave_core.specs.Roles.{StandsStill}
 use Rattle.interleave_core.specs.Alone.{RunsAlone}
 use Rattle.interleave_core.specs.Parts.{state, state_of}
 use Rattle.interleave_core.specs.declared.parts.Parts.{Parts}
+use Rattle.interleave_core.proofs.Trailing.{tickets_are}
 use Rattle.interleave_laws.proofs.Tickets.{test_nat}
 use Rattle.interleave_laws.proofs.MapLaws.{seen_leads, run_both}
 use Rattle.interleave_laws.proofs.Running.{idle_answered}
@@ -72,26 +73,38 @@ module _ (net : NetTree) (runs : Runs net) (log : List ℕ) (S : MapState) (a : 
       let (v, e) = idle_answered net runs.sound log (seen S) led none in
       sym (one_ends net runs log (seen S) led v a.ours e budget l)
 
--- what a walk of the least live ticket leaves
-pub record AfterWalk (net : NetTree) (log : List ℕ) (S : MapState) (i budget : ℕ) : Type 0 where
+-- what a walk of the least live ticket leaves, whether it made all moves that it may (`full`) or not
+pub record AfterWalk (net : NetTree) (log : List ℕ) (S : MapState) (i : ℕ) (full : Type 0) : Type 0 where
   pub alone : RunsAlone net log S
   -- it stays the least
   pub least : IsLeastLive S i
-  pub within : length log ≤ budget
-  -- and its token stands still, where the list isn't full
-  pub still : (length log ≡ budget → ⊥) → StandsStill net S.tokens i
+  -- and its token stands still, where more moves may be made
+  pub still : (full → ⊥) → StandsStill net S.tokens i
   -- so that it may act
-  pub reached : (length log ≡ budget → ⊥) → IsReachedWithin net most_budget S
+  pub reached : (full → ⊥) → IsReachedWithin net most_budget S
 
-module _ (net : NetTree) (runs : Runs net) (p : Parts) (f : FinMap nat_cmp TokenTree) (log log' : List ℕ) (i budget : ℕ)
-    (least : IsLeastLive (state_of p) i) (small : budget ≤ most_budget) (c : Changes (WalksOn net i log log' budget) p.live i f) where
+-- The least live ticket makes its solo moves: n of them, and as many as may be made (`most`) or up to a move that is no solo move.
+module _ (net : NetTree) (runs : Runs net) (p : Parts) (f : FinMap nat_cmp TokenTree) (log : List ℕ) (i n most budget : ℕ)
+    (least : IsLeastLive (state_of p) i) (small : budget ≤ most_budget) (left : length log + most ≡ budget)
+    (c : Changes (GoesOn net most n) p.live i f) where
   -- the state afterwards
   abbrev walked : MapState
   walked = state f p.joins p.next p.answer
 
-  walk_alone : RunsAlone net log (state_of p) → RunsAlone net log' walked
+  -- and the list, in which the ticket is written down as often as it moved
+  abbrev on : List ℕ
+  on = log ++ replicate n i
+
+  pub walk_few : n ≤ most
+  walk_few = let (x, y, e, (w, few, ends), h) = c in few
+
+  pub walk_long : length on ≡ length log + n
+  walk_long = length-append log (replicate n i) ∙ ap (λ k. length log + k) (length-replicate n i)
+
+  walk_alone : RunsAlone net log (state_of p) → RunsAlone net on walked
   walk_alone a =
-      let (x, y, e, ((trail, w, is, few), ends), h) = c in
+      let (x, y, e, ((trail, w, many), few, ends), h) = c in
+      let is : on ≡ log ++ map (λ n. i) trail = ap (λ l. log ++ l) (ap (λ n. replicate n i) (sym many) ∙ tickets_are i trail) in
       let run = walk_map net trail (state_of p) i (token_of x) (token_of y) e w in
       let to : run_map net (state_of p) (map (λ n. i) trail) ≡ Some walked = run ∙
       ap (λ f. Some (state f p.joins p.next p.answer)) (sym h) in
@@ -109,19 +122,20 @@ module _ (net : NetTree) (runs : Runs net) (p : Parts) (f : FinMap nat_cmp Token
         λ j l. ap (λ f. get f j) h ∙ not_given p.live i (token_of y) j (λ q. omega arith) ∙ least.1 j l,
       )
 
-  walk_still : (length log' ≡ budget → ⊥) → StandsStill net f i
+  walk_still : (n ≡ most → ⊥) → StandsStill net f i
   walk_still d =
-      let (x, y, e, (w, ends), h) = c in
+      let (x, y, e, (w, few, ends), h) = c in
       (token_of y, ap (λ f. get f i) h ∙ given p.live i (token_of y), ⊎_elim (λ q. absurd (d q)) (λ s. s) ends)
 
-  walk_within : length log' ≤ budget
-  walk_within = let (x, y, e, ((trail, w, is, few), ends), h) = c in few
-
-  pub after_walk : RunsAlone net log (state_of p) → AfterWalk net log' walked i budget
+  pub after_walk : RunsAlone net log (state_of p) → AfterWalk net on walked i (n ≡ most)
   after_walk a =
       let b = walk_alone a in
-      let w = walk_within in
-      record { alone = b; least = walk_least; within = w; still = walk_still; reached = λ d. (log', b.leads, below w d) }
+      record { alone = b; least = walk_least; still = walk_still; reached = λ d. (on, b.leads, below d) }
     where
-      below : length log' ≤ budget → (length log' ≡ budget → ⊥) → length log' < most_budget
-      below w d = ⊎_elim (λ l. omega (arith, l, small)) (λ m. absurd (d (omega (arith, m, w)))) (cases_lt (length log') budget)
+      below : (n ≡ most → ⊥) → length on < most_budget
+      below d = ⊎_elim (λ (l : n < most). omega (arith, l, small, walk_long, left))
+          (λ m. absurd (d (omega (arith, m, walk_few)))) (cases_lt n most)
+
+-- A ticket's walk and its next move are written down at once.
+pub one_behind : (log : List ℕ) (n i : ℕ) → log ++ replicate (n + 1) i ≡ (log ++ replicate n i) ++ i ∷ []
+one_behind log n i = ap (λ l. log ++ l) (sym (replicate-append-replicate n 1 i)) ∙ sym (append_assoc log (replicate n i) (i ∷ []))

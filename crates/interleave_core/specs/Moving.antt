@@ -1,5 +1,5 @@
 -- Changes of one live token in place. Only the code's own calls speak of these.
-use Rattle.std.specs.Prelude.{◌≡◌, ◌≤◌, ◌⊎◌, ℕ, Bool, List, ◌++◌, length, map, cond, Some}
+use Rattle.std.specs.Prelude.{◌≡◌, ◌≤◌, ◌⊎◌, ℕ, Bool, List, length, cond, Some}
 use Rattle.std.specs.Bool.{MatchBool}
 use Rattle.std.specs.Ordering.{nat_cmp}
 use Rattle.std.specs.FinMap.{FinMap, get, insert}
@@ -55,12 +55,3 @@ MakesSome net x y = (n : ℕ) × Makes net n x y
 -- as many as are wanted, and fewer only where its next move is no solo move
 abbrev pub GoesOn : NetTree → ℕ → ℕ → Token → Token → Type 0
 GoesOn net most n x y = Makes net n x y × (n ≤ most) × ((n ≡ most) ⊎ NotSolo (move net (token_of y)))
-
--- the token makes solo moves, each of which is written down by its ticket behind a list that has at most so many entries then
-abbrev pub Trails : NetTree → ℕ → List ℕ → List ℕ → ℕ → Token → Token → Type 0
-Trails net i before after most x y = (trail : List ℕ) × Walks net (token_of x) trail (token_of y) ×
-    (after ≡ before ++ map (λ n. i) trail) × (length after ≤ most)
-
--- until the list is full, or the next move is no solo move
-abbrev pub WalksOn : NetTree → ℕ → List ℕ → List ℕ → ℕ → Token → Token → Type 0
-WalksOn net i before after most x y = Trails net i before after most x y × ((length after ≡ most) ⊎ NotSolo (move net (token_of y)))

@@ -1,6 +1,6 @@
 //! Live tokens.
 
-ghost use Rattle.std.specs.Prelude.{[], ◌≡◌, ◌<◌, ◌≤◌, ℕ, false, Some, None, OnOk, OnErr, IfOk, IsSome, length};
+ghost use Rattle.std.specs.Prelude.{[], ◌≡◌, ◌<◌, ℕ, false, Some, None, OnOk, OnErr, IfOk, IsSome};
 ghost use Rattle.std.specs.Option.{option_map, option_copied, MatchOption};
 ghost use Rattle.std.specs.Ordering.{nat_cmp};
 ghost use Rattle.std.specs.BTreeMap as tree;
@@ -11,7 +11,7 @@ ghost use Rattle.move_rules.specs.AtNode.{NotSolo, Unaided};
 ghost use Rattle.move_rules.specs.Views.{place_at, of_kind, token_of};
 ghost use Rattle.move_rules.specs.Walks.{SoloStep};
 ghost use Rattle.interleave_core.specs.Forking.{HasBoxes};
-ghost use Rattle.interleave_core.specs.Moving.{ChangesIn, Changes, SoloAt, UnaidedIn, UnaidedAt, Sent, MakesSome, GoesOn, WalksOn};
+ghost use Rattle.interleave_core.specs.Moving.{ChangesIn, Changes, SoloAt, UnaidedIn, UnaidedAt, Sent, MakesSome, GoesOn};
 
 use move_rules::{Kind, Token, solo_step};
 use net_build::Net;
@@ -133,41 +133,6 @@ fn moves_of(net: &Net, token: &mut Token, most: u32) -> Result<u32, AllocError>
     Ok(made)
 }
 
-/// The same, each move written down by the token's ticket, until the list has so many entries. After want of memory some of them are made,
-/// and none is written down.
-fn walk_of(
-    net: &Net,
-    token: &mut Token,
-    ticket: u32,
-    tickets: &mut Vec<u32>,
-    most: u32,
-) -> Result<(), AllocError>
-    requires { length tickets.old.items ≤ most }
-    ensures { OnOk result (WalksOn net.now ticket tickets.old.items tickets.new.items most token.old token.new) }
-{
-    let made = moves_of(net, token, most - tickets.len() as u32)?;
-    tickets.resize(tickets.len() + made as usize, ticket)?;
-    Ok(())
-}
-
-/// The same of the token of a ticket.
-fn walk_in(
-    net: &Net,
-    tokens: &mut Tokens,
-    ticket: u32,
-    tickets: &mut Vec<u32>,
-    most: u32,
-) -> Result<(), AllocError>
-    requires there { IsSome (tree.get nat_cmp tokens.old ticket) }
-    requires room { length tickets.old.items ≤ most }
-    ensures { OnOk result (ChangesIn (WalksOn net.now ticket tickets.old.items tickets.new.items most) tokens.old ticket tokens.new) }
-{
-    match tokens.get_mut(&ticket) {
-        Some(token) => walk_of(net, token, ticket, tickets, most),
-        None => unreachable!(),
-    }
-}
-
 /// The solo moves of a ticket's token in its place, as many as `moves_of` makes.
 fn go_in(net: &Net, tokens: &mut Tokens, ticket: u32, most: u32) -> Result<u32, AllocError>
     requires { IsSome (tree.get nat_cmp tokens.old ticket) }
@@ -268,22 +233,6 @@ impl LiveTokens {
         ensures unaided { OnErr result (UnaidedAt net.now self.old ticket) }
     {
         solo_in(net, &mut self.tokens, ticket)
-    }
-
-    /// Makes the ticket's solo moves on this net in place, each written down by its ticket, until the list has so many entries or the
-    /// next move is no solo move. After want of memory some of them are made, and none is written down.
-    pub(crate) fn walk(
-        &mut self,
-        net: &Net,
-        ticket: u32,
-        tickets: &mut Vec<u32>,
-        most: u32,
-    ) -> Result<(), AllocError>
-        requires there { IsSome (get self.old ticket) }
-        requires room { length tickets.old.items ≤ most }
-        ensures { OnOk result (Changes (WalksOn net.now ticket tickets.old.items tickets.new.items most) self.old ticket self.new) }
-    {
-        walk_in(net, &mut self.tokens, ticket, tickets, most)
     }
 
     /// Makes the ticket's solo moves on this net in place, at most so many, until the next is no solo move; how many they are. Where

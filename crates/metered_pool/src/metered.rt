@@ -32,15 +32,15 @@ impl Watched for Brand {
 /// A pool of the run that `M` names, on the net that `N` names, and the writer of its meter. Contracts see both; the number published last
 /// is the number of moves made. A call of this crate's users that makes one passes `Brand` for both names, and picks the run that it has.
 #[derive(Drop)]
-pub struct MeteredPool<'a, M: Watched, N: OnNet, R: Wait + Sync> {
+pub struct MeteredPool<'a, 'n, M: Watched, N: OnNet, R: Wait + Sync> {
     rt: &'a R,
-    pool: PoolState,
+    pool: PoolState<'n>,
     writer: Writer,
     run: PhantomData<M>,
     net: PhantomData<N>,
 }
 
-impl<'a, M: Watched, N: OnNet, R: Wait + Sync> Model for MeteredPool<'a, M, N, R> {
+impl<'a, 'n, M: Watched, N: OnNet, R: Wait + Sync> Model for MeteredPool<'a, 'n, M, N, R> {
     ghost use Rattle.std.specs.Prelude.{◌≡◌};
     ghost use Rattle.metered_pool.specs.Metered.{Metered, Keeps, metered_code};
 
@@ -53,13 +53,13 @@ impl<'a, M: Watched, N: OnNet, R: Wait + Sync> Model for MeteredPool<'a, M, N, R
     ghost invariant = { λ m. Keeps M.run (record { pool = m.pool; writer = m.writer }) × (m.pool.net ≡ N.net) };
 }
 
-impl<'a, M: Watched, N: OnNet, R: Wait + Sync> MeteredPool<'a, M, N, R> {
+impl<'a, 'n, M: Watched, N: OnNet, R: Wait + Sync> MeteredPool<'a, 'n, M, N, R> {
     /// A bench that holds these three. Takes no memory.
-    pub fn new(rt: &'a R, pool: PoolState, writer: Writer) -> MeteredPool<'a, M, N, R>
+    pub fn new(rt: &'a R, pool: PoolState<'n>, writer: Writer) -> MeteredPool<'a, 'n, M, N, R>
         requires named { pool.net ≡ N.net }
         requires level { IsLevel (record { pool = pool; writer = writer }) }
         requires run { IsOf M.run (record { pool = pool; writer = writer }) }
-        ensures { result ≡ record { pool = pool; writer = writer } }
+        ensures { result ≡ record { pool = pool.entry; writer = writer } }
     {
         MeteredPool {
             rt,
@@ -70,8 +70,15 @@ impl<'a, M: Watched, N: OnNet, R: Wait + Sync> MeteredPool<'a, M, N, R> {
         }
     }
 
+    /// The tool for its workers: the pool's own net, under the name that the type has. Takes no memory.
+    pub fn tool(&self) -> NamedNet<'n, N>
+        ensures { result ≡ N.net }
+    {
+        NamedNet::new(self.pool.net())
+    }
+
     /// The pool and the writer. Takes no memory.
-    pub fn into_parts(self) -> (PoolState, Writer)
+    pub fn into_parts(self) -> (PoolState<'n>, Writer)
         ensures parts { (result.0 ≡ self.entry.pool) × (result.1 ≡ self.entry.writer) }
         ensures level { last_of result.1.published ≡ length result.0.log }
         ensures meter { result.1.meter ≡ M.run.meter }
@@ -89,7 +96,7 @@ impl<'a, M: Watched, N: OnNet, R: Wait + Sync> MeteredPool<'a, M, N, R> {
 }
 
 /// Publishes how many moves the pool has booked.
-fn tell<R: Wait>(rt: &R, pool: &PoolState, writer: &mut Writer)
+fn tell<R: Wait>(rt: &R, pool: &PoolState<'_>, writer: &mut Writer)
     requires { last_of writer.old.published ≤ length pool.now.log }
     ensures published { writer.new ≡ with_number writer.old (length pool.now.log) }
     ensures last { last_of writer.new.published ≡ length pool.now.log }
@@ -100,7 +107,7 @@ fn tell<R: Wait>(rt: &R, pool: &PoolState, writer: &mut Writer)
 /// Has the pool take in what a worker made, and publishes how many moves it has booked then.
 fn book<N: OnNet, R: Wait>(
     rt: &R,
-    pool: &mut PoolState,
+    pool: &mut PoolState<'_>,
     writer: &mut Writer,
     worker: u32,
     made: Branch<N>,
@@ -118,13 +125,13 @@ fn book<N: OnNet, R: Wait>(
     Ok(())
 }
 
-impl<'a, M: Watched + Send, N: OnNet + Send + Sync, R: Wait + Sync> Bench
-    for MeteredPool<'a, M, N, R> {
+impl<'a, 'n, M: Watched + Send, N: OnNet + Send + Sync, R: Wait + Sync> Bench
+    for MeteredPool<'a, 'n, M, N, R> {
     type Piece = BranchPiece<N>;
 
     type Made = Branch<N>;
 
-    type Tool = NamedNet<N>;
+    type Tool = NamedNet<'n, N>;
 
     ghost use Rattle.branch_pool.specs.Benches.{MakesBranch};
     ghost use Rattle.metered_pool.specs.Metered.{Gives, Books, Halts};
@@ -144,7 +151,7 @@ impl<'a, M: Watched + Send, N: OnNet + Send + Sync, R: Wait + Sync> Bench
 
     fn work(
         alloc: Global,
-        tool: &NamedNet<N>,
+        tool: &NamedNet<'n, N>,
         piece: BranchPiece<N>,
     ) -> Result<Branch<N>, AllocError> {
         play_piece(alloc, tool, piece)

@@ -16,7 +16,7 @@ ghost use Rattle.metered_pool.specs.Walking.{WalksAlone};
 use crate::alone::walk_alone;
 use crate::pace::Pace;
 use crate::{MeteredPool, Watched};
-use branch_runs::{NamedNet, OnNet};
+use branch_runs::OnNet;
 use gate_workers::{Gate, drive};
 use net_build::Net;
 use progress_meter::{Reader, Writer, meter};
@@ -162,19 +162,19 @@ fn read_beside_several<R: Threads + Wait + Sync, G: Gate>(
     ensures booked { IfOk result (λ r. All (λ n. n ≤ length r.0.log.entries) r.1.items) }
 {
     let (pool, readings) = drive_new(rt, alloc, net, budget, workers, gate)?;
-    let ended = finish(alloc, pool, net, budget, workers)?;
+    let ended = finish(alloc, pool, budget, workers)?;
     Ok((ended, readings))
 }
 
 /// Drives a new pool, and reads on a new meter.
-fn drive_new<R: Threads + Wait + Sync, G: Gate>(
+fn drive_new<'n, R: Threads + Wait + Sync, G: Gate>(
     rt: &R,
     alloc: Global,
-    net: &Net,
+    net: &'n Net,
     budget: u32,
     workers: u32,
     gate: &G,
-) -> Result<(PoolState, Vec<u64>), AllocError>
+) -> Result<(PoolState<'n>, Vec<u64>), AllocError>
     requires runs { Runs net.now }
     requires limits { InLimits budget workers }
     ensures suits { IfOk result (λ r. Suits r.0 net.now budget workers) }
@@ -184,26 +184,26 @@ fn drive_new<R: Threads + Wait + Sync, G: Gate>(
 {
     let (writer, reader, readings) = new_meter(alloc)?;
     let pool = PoolState::start(alloc, net, budget, workers)?;
-    let tool = net.copy(alloc)?;
-    drive_named::<Brand, Brand, R, G>(
-        rt, alloc, tool, workers, gate, pool, writer, reader, readings,
-    )
+    drive_named::<Brand, Brand, R, G>(rt, alloc, workers, gate, pool, writer, reader, readings)
 }
 
 /// Drives the pool on the net that `N` names, and reads on the meter beside.
-fn drive_named<M: Watched + Send + Sync, N: OnNet + Send + Sync, R: Threads + Wait + Sync, G: Gate>(
+fn drive_named<
+    'n,
+    M: Watched + Send + Sync,
+    N: OnNet + Send + Sync,
+    R: Threads + Wait + Sync,
+    G: Gate,
+>(
     rt: &R,
     alloc: Global,
-    net: Net,
     workers: u32,
     gate: &G,
-    pool: PoolState,
+    pool: PoolState<'n>,
     writer: Writer,
     reader: Reader,
     readings: Vec<u64>,
-) -> Result<(PoolState, Vec<u64>), AllocError>
-    requires runs { Runs N.net }
-    requires named { net ≡ N.net }
+) -> Result<(PoolState<'n>, Vec<u64>), AllocError>
     requires of_net { pool.net ≡ N.net }
     requires some { 1 ≤ workers }
     requires level { last_of writer.published ≡ length pool.log }
@@ -215,16 +215,15 @@ fn drive_named<M: Watched + Send + Sync, N: OnNet + Send + Sync, R: Threads + Wa
     ensures never_down { IfOk result (λ r. IsNonDecreasing r.1.items) }
     ensures booked { IfOk result (λ r. All (λ n. n ≤ length r.0.log) r.1.items) }
 {
-    let tool: NamedNet<N> = NamedNet::new(net);
-    let bench: MeteredPool<'_, M, N, R> = MeteredPool::new(rt, pool, writer);
-    let driven = drive_watched(rt, alloc, &tool, workers, gate, bench, reader, readings);
-    drop(tool);
-    driven
+    let bench: MeteredPool<'_, 'n, M, N, R> = MeteredPool::new(rt, pool, writer);
+    drive_watched(rt, alloc, workers, gate, bench, reader, readings)
 }
 
 /// Drives the bench, and reads on its meter beside. The readings never go down, and none is above the number of moves of the pool that
 /// came back, which is one of the same run.
 fn drive_watched<
+    'a,
+    'n,
     M: Watched + Send + Sync,
     N: OnNet + Send + Sync,
     R: Threads + Wait + Sync,
@@ -232,13 +231,12 @@ fn drive_watched<
 >(
     rt: &R,
     alloc: Global,
-    tool: &NamedNet<N>,
     workers: u32,
     gate: &G,
-    bench: MeteredPool<'_, M, N, R>,
+    bench: MeteredPool<'a, 'n, M, N, R>,
     reader: Reader,
     readings: Vec<u64>,
-) -> Result<(PoolState, Vec<u64>), AllocError>
+) -> Result<(PoolState<'n>, Vec<u64>), AllocError>
     requires some { 1 ≤ workers }
     requires reader { (reader.meter ≡ M.run.meter) × (reader.readings ≡ 0 ∷ []) }
     requires empty { readings.items ≡ [] }
@@ -256,7 +254,7 @@ fn drive_watched<
         { read_all(rt, reader, readings, &pace) },
         ||
             requires { 1 ≤ workers }
-        { drive_to_end(rt, alloc, bench, tool, workers, gate, &pace) },
+        { drive_to_end(rt, alloc, bench, workers, gate, &pace) },
     );
     let (pool, writer) = bench.into_parts();
     match answer {
@@ -271,6 +269,7 @@ fn drive_watched<
 /// Drives the bench until there is nothing to do for any worker, and ends the pace then.
 fn drive_to_end<
     'a,
+    'n,
     M: Watched + Send + Sync,
     N: OnNet + Send + Sync,
     R: Threads + Wait + Sync,
@@ -278,15 +277,15 @@ fn drive_to_end<
 >(
     rt: &R,
     alloc: Global,
-    bench: MeteredPool<'a, M, N, R>,
-    tool: &NamedNet<N>,
+    bench: MeteredPool<'a, 'n, M, N, R>,
     workers: u32,
     gate: &G,
     pace: &Pace,
-) -> MeteredPool<'a, M, N, R>
+) -> MeteredPool<'a, 'n, M, N, R>
     requires { 1 ≤ workers }
 {
-    let bench = drive(rt, alloc, bench, tool, workers, gate);
+    let tool = bench.tool();
+    let bench = drive(rt, alloc, bench, &tool, workers, gate);
     pace.end();
     bench
 }
@@ -338,16 +337,14 @@ fn push_all<R: Wait>(
 /// Finishes the run that this pool is of. The moves go on behind those that were booked.
 fn finish(
     alloc: Global,
-    pool: PoolState,
-    net: &Net,
+    pool: PoolState<'_>,
     budget: u32,
     workers: u32,
 ) -> Result<Ended, AllocError>
-    requires runs { Runs net.now }
     requires limits { InLimits budget workers }
-    requires suits { Suits pool net.now budget workers }
-    ensures run { IfOk result (λ e. IsRun net.now workers budget e.answer e.log.entries) }
-    ensures longer { IfOk result (λ e. length pool.log ≤ length e.log.entries) }
+    requires suits { (pool.budget ≡ budget) × (pool.workers ≡ workers) }
+    ensures run { IfOk result (λ e. IsRun pool.entry.net workers budget e.answer e.log.entries) }
+    ensures longer { IfOk result (λ e. length pool.entry.log ≤ length e.log.entries) }
 {
-    Ok(pool.finish(alloc, net, budget, workers)?)
+    Ok(pool.finish_own(alloc, budget, workers)?)
 }

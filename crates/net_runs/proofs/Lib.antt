@@ -1,2 +1,4 @@
 -- why the one worker's moves, each under the number of one of the workers, are a run
 pub mod AloneIsRun
+-- how the log of a list of tickets grows, one run after the other
+mod LogOf

@@ -1,13 +1,13 @@
 //! The run of one worker.
 
 ghost use Rattle.schedule_log.specs.Logs.{by};
-ghost use Rattle.std.specs.Prelude.{◌≡◌, ◌≤◌, ◌<◌, ◌^◌, ℕ, IfOk, length};
+ghost use Rattle.std.specs.Prelude.{◌≡◌, ◌≤◌, ◌<◌, ℕ, IfOk};
 ghost use Rattle.pcf_values.specs.Most.{most_budget};
 ghost use Rattle.interleave_laws.specs.OneWorker.{one};
 ghost use Rattle.interleave_laws.specs.Runs.{Runs};
 ghost use Rattle.net_runs.specs.IsRun.{IsRun, IsFirstWorkers};
 
-use interleave_core::run_one;
+use interleave_core::{Tickets, run_one};
 use interleave_laws::{law_maps, law_one_worker};
 use net_build::Net;
 use schedule_log::Log;
@@ -24,6 +24,7 @@ use token_pool::Ended;
 pub fn run_by(alloc: Global, net: &Net, budget: u32, worker: u32) -> Result<Ended, AllocError>
     requires runs { Runs net.now }
     requires budget { (1 ≤ budget) × (budget ≤ most_budget) }
+    requires worker { worker < 256 }
     ensures run { IfOk result (λ e. (workers : ℕ) → worker < workers → IsRun net.now workers budget e.answer e.log.entries) }
     ensures log { IfOk result (λ e. e.log.entries ≡ by worker (one net.now budget)) }
 {
@@ -52,13 +53,14 @@ pub fn run_alone(alloc: Global, net: &Net, budget: u32) -> Result<Ended, AllocEr
 }
 
 /// The log of these tickets, all moved by this worker.
-fn log_of(alloc: Global, tickets: &[u32], worker: u32) -> Result<Log, AllocError>
-    requires { length tickets.now < 2 ^ 32 }
+fn log_of(alloc: Global, tickets: &Tickets, worker: u32) -> Result<Log, AllocError>
+    requires { worker < 256 }
     ensures { IfOk result (λ log. log.entries ≡ by worker tickets.now) }
 {
-    let mut log = Log::with_room(alloc, tickets.len() as u32)?;
-    for ticket in tickets {
-        log.push(*ticket, worker);
+    let mut log = Log::with_room(alloc, tickets.len())?;
+    let runs = tickets.runs();
+    for run in runs {
+        log.push_many(run.ticket, worker, run.count);
     }
     Ok(log)
 }

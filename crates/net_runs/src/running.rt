@@ -8,7 +8,7 @@ ghost use Rattle.net_runs.specs.IsRun.{IsRun, IsFirstWorkers};
 
 use crate::alone::run_alone;
 use branch_pool::BranchPool;
-use branch_runs::{NamedNet, OnNet};
+use branch_runs::OnNet;
 use gate_workers::{Gate, drive};
 use net_build::Net;
 use std::alloc::{AllocError, Global};
@@ -61,28 +61,24 @@ fn run_together<R: Threads + Wait + Sync, G: Gate>(
     ensures { IfOk result (λ e. IsRun net.now workers budget e.answer e.log.entries) }
 {
     let pool = PoolState::start(alloc, net, budget, workers)?;
-    let tool = net.copy(alloc)?;
-    let pool = play_together::<Brand, R, G>(rt, alloc, pool, tool, workers, gate);
-    Ok(pool.finish(alloc, net, budget, workers)?)
+    let pool = play_together::<Brand, R, G>(rt, alloc, pool, workers, gate);
+    Ok(pool.finish_own(alloc, budget, workers)?)
 }
 
 /// Workers play branches of the pool's run, on the net that `N` names, until there is nothing to play for any of them.
-fn play_together<N: OnNet + Send + Sync, R: Threads + Wait + Sync, G: Gate>(
+fn play_together<'n, N: OnNet + Send + Sync, R: Threads + Wait + Sync, G: Gate>(
     rt: &R,
     alloc: Global,
-    pool: PoolState,
-    net: Net,
+    pool: PoolState<'n>,
     workers: u32,
     gate: &G,
-) -> PoolState
-    requires runs { Runs N.net }
-    requires named { net ≡ N.net }
+) -> PoolState<'n>
     requires suits { pool.net ≡ N.net }
     requires some { 1 ≤ workers }
-    ensures { result.net ≡ N.net }
+    ensures { result.net ≡ pool.entry.net }
 {
-    let bench: BranchPool<N> = BranchPool::new(pool);
-    let tool: NamedNet<N> = NamedNet::new(net);
+    let bench: BranchPool<'n, N> = BranchPool::new(pool);
+    let tool = bench.tool();
     let bench = drive(rt, alloc, bench, &tool, workers, gate);
     bench.into_pool()
 }

@@ -1,4 +1,4 @@
--- What holds of schedule texts and of tallies.
+-- What holds of schedule texts, of tallies, and of the runs that a log is kept as.
 use Rattle.std.specs.Prelude.{◌≡◌, ℕ, ◌+◌, ◌*◌, ◌≤◌, List, length, sum, Result, Ok, Err}
 use Rattle.pcf_values.specs.Most.{most_moves}
 use Rattle.schedule_log.specs.declared.fault.ScheduleFault.{ScheduleFault}
@@ -7,6 +7,7 @@ use Rattle.schedule_log.specs.Schedules.{ReadAs}
 use Rattle.schedule_log.specs.Reading.{tickets_in}
 use Rattle.schedule_log.specs.LogsSeen.{Small}
 use Rattle.schedule_log.specs.Runs.{schedule_text}
+use Rattle.schedule_log.specs.KeptRuns.{MovesSeen, Apart, Each, spread}
 use Rattle.schedule_log.specs.declared.entry.Entry.{Entry}
 use Rattle.schedule_log.specs.Tally.{tally, WorkersUpTo}
 
@@ -37,3 +38,8 @@ PrintedIsShort = (tickets : List ℕ) → Small tickets → length tickets ≤ m
 -- The counts of a tally add up to the number of moves, where no worker is above the finisher.
 abbrev pub TallyAddsUp : Type 0
 TallyAddsUp = (entries : List Entry) (workers : ℕ) → WorkersUpTo workers entries → sum (tally entries workers) ≡ length entries
+
+-- Lists of runs that stand for the same moves are the same list, where each run has a move, and neighbours differ or the first of them is
+-- full.
+abbrev pub OneWayToRun : Type 0
+OneWayToRun = (rs qs : List MovesSeen) → Each rs → Apart rs → Each qs → Apart qs → spread rs ≡ spread qs → rs ≡ qs

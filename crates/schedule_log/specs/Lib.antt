@@ -11,7 +11,7 @@ pub mod Runs
 pub mod Tally
 -- the laws, and the rows of texts with what they are read as
 --
--- What holds of schedule texts and of tallies.
+-- What holds of schedule texts, of tallies, and of the runs that a log is kept as.
 pub mod Laws
 -- Texts with what they are read as.
 pub mod Rows
@@ -19,3 +19,7 @@ pub mod Rows
 pub mod Reading
 -- What contracts see of a log: its entries and its room, and what the calls on a log make of these.
 pub mod LogsSeen
+-- The runs that a log is kept as.
+pub mod KeptRuns
+-- A word that has two numbers in it.
+pub mod Packed

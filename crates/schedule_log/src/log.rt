@@ -1,32 +1,41 @@
 //! The log of a run.
 
 ghost use Rattle.std.specs.Prelude.{◌≡◌, ◌+◌, ◌<◌, ◌≤◌, ◌^◌, length, replicate, IfOk};
+ghost use Rattle.schedule_log.specs.KeptRuns.{Apart, Each, spread};
 ghost use Rattle.schedule_log.specs.Logs.{tickets_in_log};
 ghost use Rattle.schedule_log.specs.LogsSeen.{Small, empty_log, ticket_at, with_entries, with_entry, worker_at};
 ghost use Rattle.schedule_log.specs.Tally.{tally_of};
 
-use crate::entry::Entry;
-use crate::tally::count_worker;
+use crate::moves::Moves;
+use crate::runs::{add, count_worker, ticket_in, worker_in};
 use std::alloc::{AllocError, Global};
 use std::marker::Model;
 
 /// The moves of a run, in order, each with its ticket and its worker, and for how many there is room.
+///
+/// Equal moves that follow one another are one run in 8 bytes, up to `MOST_COUNT` of them. Neighbouring runs differ in ticket or worker, or
+/// the first of them is full, so that there are no other runs of the same moves (`law_one_way_to_run`). Room is taken for the case that
+/// each move differs from the one before it; what isn't used of it is never written.
 #[derive(Drop)]
 pub struct Log {
-    entries: Vec<Entry>,
+    runs: Vec<Moves>,
+    count: u32,
 }
 
 impl Model for Log {
-    ghost use Rattle.std.specs.Prelude.{◌<◌, ◌^◌, vec_capacity};
-    ghost use Rattle.schedule_log.specs.Logs.{tickets_in_log};
+    ghost use Rattle.std.specs.Prelude.{◌≡◌, ◌<◌, ◌≤◌, ◌^◌, length, vec_capacity};
     ghost use Rattle.schedule_log.specs.LogsSeen.{LogSeen, Small};
+    ghost use Rattle.schedule_log.specs.KeptRuns.{spread, Apart, Each};
+    ghost use Rattle.schedule_log.specs.Logs.{tickets_in_log};
 
     ghost Value = { LogSeen };
 
     // The room is that of the block, which is taken at once and stays: what is seen of it is what was taken.
-    ghost view = { λ l. record { entries = l.entries.items; room = vec_capacity l.entries } };
+    ghost view = { λ l. record { entries = spread l.runs.items; room = vec_capacity l.runs } };
 
-    ghost invariant = { λ l. (vec_capacity l.entries < 2 ^ 32) × Small (tickets_in_log l.entries.items) };
+    ghost invariant = { λ l. (vec_capacity l.runs < 2 ^ 32) × (l.count ≡ length (spread l.runs.items)) ×
+        (length (spread l.runs.items) ≤ vec_capacity l.runs) × Each l.runs.items ×
+        Apart l.runs.items × Small (tickets_in_log (spread l.runs.items)) };
 }
 
 impl Log {
@@ -39,76 +48,70 @@ impl Log {
         ensures { IfOk result (λ log. log ≡ empty_log room) }
     {
         Ok(Log {
-            entries: Vec::with_capacity(alloc, room as usize)?,
+            runs: Vec::with_capacity(alloc, room as usize)?,
+            count: 0,
         })
-    }
-
-    /// Adds a move behind the others. It takes no memory.
-    pub fn push(&mut self, ticket: u32, worker: u32)
-        requires { length self.old.entries < self.old.room }
-        ensures { self.new ≡ with_entry self.old (record { ticket = ticket; worker = worker }) }
-    {
-        // This push promises that the block stays, which the one that may ask for memory doesn't.
-        self.entries.push_reserved(Entry { ticket, worker });
     }
 
     /// Adds so many moves of one ticket, all by one worker, behind the others. It takes no memory.
     pub fn push_many(&mut self, ticket: u32, worker: u32, count: u32)
-        requires { length self.old.entries + count ≤ self.old.room }
+        requires worker { worker < 256 }
+        requires room { length self.old.entries + count ≤ self.old.room }
         ensures { self.new ≡ with_entries self.old (replicate count (record { ticket = ticket; worker = worker })) }
     {
-        for i in 0..count {
-            self.push(ticket, worker);
+        if count > 0 {
+            add(&mut self.runs, ticket, worker, count);
+            self.count += count;
         }
+    }
+
+    /// Adds a move behind the others. It takes no memory.
+    pub fn push(&mut self, ticket: u32, worker: u32)
+        requires worker { worker < 256 }
+        requires room { length self.old.entries < self.old.room }
+        ensures { self.new ≡ with_entry self.old (record { ticket = ticket; worker = worker }) }
+    {
+        self.push_many(ticket, worker, 1);
     }
 
     /// How many moves there are.
     pub fn len(&self) -> u32
         ensures { result ≡ length self.now.entries }
     {
-        self.entries.len() as u32
+        self.count
     }
 
-    /// The moves, in order: fewer than 2 ^ 32, each of a ticket below 2 ^ 32.
-    pub fn entries(&self) -> &[Entry]
-        ensures value { result.now ≡ self.now.entries }
-        ensures few { length result.now < 2 ^ 32 }
-        ensures small { Small (tickets_in_log result.now) }
+    /// The moves as runs of equal moves, in order: each has a move, and neighbours differ in ticket or worker, or the first
+    /// of them is full.
+    pub fn runs(&self) -> &[Moves]
+        ensures value { spread result.now ≡ self.now.entries }
+        ensures few { length (spread result.now) < 2 ^ 32 }
+        ensures each { Each result.now }
+        ensures apart { Apart result.now }
+        ensures small { Small (tickets_in_log self.now.entries) }
     {
-        &self.entries
+        &self.runs
     }
 
     /// The ticket of the move at this place, from 0; there is none exactly past the end.
-    #[tactic(auto, using(crate::proofs::Places::ticket_there, crate::proofs::Places::ticket_past))]
     pub fn ticket(&self, i: u32) -> Option<u32>
         ensures { result ≡ ticket_at self.now.entries i }
     {
-        let entries = self.entries();
-        let place = i as usize;
-        if place >= entries.len() {
-            return None;
-        }
-        Some(entries[place].ticket)
+        ticket_in(self.runs(), i)
     }
 
     /// The worker of the move at this place, from 0; there is none exactly past the end.
-    #[tactic(auto, using(crate::proofs::Places::worker_there, crate::proofs::Places::worker_past))]
     pub fn worker(&self, i: u32) -> Option<u32>
         ensures { result ≡ worker_at self.now.entries i }
     {
-        let entries = self.entries();
-        let place = i as usize;
-        if place >= entries.len() {
-            return None;
-        }
-        Some(entries[place].worker)
+        worker_in(self.runs(), i)
     }
 
     /// How many moves this worker booked.
     pub fn tally_of(&self, worker: u32) -> u32
         ensures { result ≡ tally_of self.now.entries worker }
     {
-        count_worker(self.entries(), worker)
+        count_worker(self.runs(), worker)
     }
 
     /// Another log with the same moves and the same room.
@@ -119,18 +122,18 @@ impl Log {
     pub fn copy(&self, alloc: Global) -> Result<Log, AllocError>
         ensures { IfOk result (λ log. log ≡ self.now) }
     {
-        let mut log = Log::with_room(alloc, self.entries.capacity() as u32)?;
-        push_all(&mut log, self.entries());
+        let mut log = Log::with_room(alloc, self.runs.capacity() as u32)?;
+        push_all(&mut log, self.runs());
         Ok(log)
     }
 }
 
-/// Adds these moves.
-fn push_all(log: &mut Log, entries: &[Entry])
-    requires { length log.old.entries + length entries.now ≤ log.old.room }
-    ensures { log.new ≡ with_entries log.old entries.now }
+/// Adds the moves of these runs.
+fn push_all(log: &mut Log, runs: &[Moves])
+    requires { length log.old.entries + length (spread runs.now) ≤ log.old.room }
+    ensures { log.new ≡ with_entries log.old (spread runs.now) }
 {
-    for entry in entries {
-        log.push(entry.ticket, entry.worker);
+    for run in runs {
+        log.push_many(run.ticket(), run.worker(), run.count());
     }
 }

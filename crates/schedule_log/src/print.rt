@@ -1,12 +1,14 @@
 //! How a log is printed.
 
-ghost use Rattle.std.specs.Prelude.{◌≡◌, ◌↔◌, ◌+◌, ◌<◌, ◌^◌, [], ◌∷◌, ◌++◌, length, IsTrue, OnOk, IfOk};
+ghost use Rattle.std.specs.Prelude.{◌≡◌, ◌↔◌, ◌+◌, ◌<◌, ◌≤◌, ◌^◌, [], ◌∷◌, ◌++◌, length, IsTrue, OnOk, IfOk};
+ghost use Rattle.schedule_log.specs.KeptRuns.{spread, Each};
 ghost use Rattle.schedule_log.specs.Logs.{tickets_in_log};
-ghost use Rattle.text_lines.specs.Lines.{joined};
+ghost use Rattle.schedule_log.specs.Schedules.{again};
 ghost use Rattle.schedule_log.specs.Runs.{run_line, run_lines, runs_of, schedule_text};
+ghost use Rattle.text_lines.specs.Lines.{joined};
 
-use crate::entry::Entry;
 use crate::log::Log;
+use crate::moves::Moves;
 use itoa::Buffer;
 use std::alloc::{AllocError, Global};
 
@@ -19,46 +21,46 @@ pub fn print_schedule(alloc: Global, log: &Log) -> Result<Vec<u8>, AllocError>
     ensures { IfOk result (λ text. text.items ≡ schedule_text (tickets_in_log log.now.entries)) }
 {
     let mut text = Vec::from_slice(alloc, b"schedule 2\n")?;
-    push_runs(&mut text, log.entries())?;
+    push_runs(&mut text, log.runs())?;
     Ok(text)
 }
 
 /// Appends the lines of all runs, and the last line.
-fn push_runs(text: &mut Vec<u8>, entries: &[Entry]) -> Result<(), AllocError>
-    requires { length entries.now < 2 ^ 32 }
-    ensures { OnOk result (text.new.items ≡ text.old.items ++ joined (run_lines (runs_of (tickets_in_log entries.now)))) }
+fn push_runs(text: &mut Vec<u8>, runs: &[Moves]) -> Result<(), AllocError>
+    requires few { length (spread runs.now) < 2 ^ 32 }
+    requires each { Each runs.now }
+    ensures { OnOk result (text.new.items ≡ text.old.items ++ joined (run_lines (runs_of (tickets_in_log (spread runs.now))))) }
 {
-    match entries {
+    match runs {
         [] => text.extend_from_slice(b"end\n"),
-        [first, rest @ ..] => push_from(text, first.ticket, rest),
+        [first, rest @ ..] => {
+            push_from(text, first.ticket(), first.count(), rest)?;
+            Ok(())
+        }
     }
 }
 
-/// Appends the lines of all runs of a first move and those behind it, and the last line.
-fn push_from(text: &mut Vec<u8>, first: u32, rest: &[Entry]) -> Result<(), AllocError>
-    requires { length rest.now + 1 < 2 ^ 32 }
-    ensures { OnOk result (text.new.items ≡ text.old.items ++ joined (run_lines (runs_of (first ∷ tickets_in_log rest.now)))) }
+/// Appends the lines of so many moves of a first ticket and of the runs behind them, and the last line.
+fn push_from(text: &mut Vec<u8>, first: u32, times: u32, rest: &[Moves]) -> Result<(), AllocError>
+    requires some { 1 ≤ times }
+    requires few { times + length (spread rest.now) < 2 ^ 32 }
+    requires each { Each rest.now }
+    ensures { OnOk result (text.new.items ≡
+        text.old.items ++ joined (run_lines (runs_of (again first times (tickets_in_log (spread rest.now)))))) }
 {
     let mut ticket = first;
-    let mut count = 1u32;
-    for entry in rest {
-        if continues(entry, ticket) {
-            count += 1;
+    let mut count = times;
+    for run in rest {
+        if run.ticket() == ticket {
+            count += run.count();
         } else {
             push_run(text, ticket, count)?;
-            ticket = entry.ticket;
-            count = 1;
+            ticket = run.ticket();
+            count = run.count();
         }
     }
     push_last(text, ticket, count)?;
     Ok(())
-}
-
-/// Whether the move continues a run of this ticket.
-fn continues(entry: &Entry, ticket: u32) -> bool
-    ensures { IsTrue result ↔ (entry.now.ticket ≡ ticket) }
-{
-    entry.ticket == ticket
 }
 
 /// Appends the line of the last run, and the last line.

@@ -177,7 +177,11 @@ fn are_so(
 }
 
 /// Plays a batch of two workers by its table, and answers it, or none where a row isn't so.
-fn played(alloc: Global, jobs: &Vec<BatchJob>, rows: &str) -> Result<Option<BatchState>, AllocError>
+fn played<'n>(
+    alloc: Global,
+    jobs: &'n Vec<BatchJob>,
+    rows: &str,
+) -> Result<Option<BatchState<'n>>, AllocError>
     requires { BatchFits jobs.now.items 2 }
 {
     let mut batch = BatchState::start(alloc, jobs, 2)?;

@@ -10,8 +10,8 @@ ghost use Rattle.std.specs.Option.{MatchOption};
 ghost use Rattle.interleave_laws.specs.Runs.{Runs};
 ghost use Rattle.interleave_laws.specs.MapRuns.{IsReachedWithin};
 
-use branch_runs::{NamedNet, OnNet, Run, Seed, Tickets, branch_of, graft, name_of};
-use interleave_core::Core;
+use branch_runs::{NamedNet, OnNet, Seed, branch_of, graft, name_of};
+use interleave_core::{Core, Run, Tickets};
 use net_build::Net;
 use pcf_values::Val;
 use std::alloc::{AllocError, Global};
@@ -83,7 +83,7 @@ fn seed_of<N: OnNet>(core: &Core, ticket: u32) -> Result<Option<Seed<N>>, AllocE
 /// Grows the branch of a ticket's token, and puts it into the machine under a ticket: its moves, if it was taken.
 fn grafted<N: OnNet>(
     alloc: Global,
-    net: &NamedNet<N>,
+    net: &NamedNet<'_, N>,
     core: &mut Core,
     moves: u32,
     ticket: u32,
@@ -126,7 +126,7 @@ fn plays(wanted: &str, found: Option<Tickets>, ticket: u32, next: u32) -> (bool,
 /// Whether a row in which something moves is so, and how many moves were made.
 fn moves_so<N: OnNet>(
     alloc: Global,
-    net: &NamedNet<N>,
+    net: &NamedNet<'_, N>,
     core: &mut Core,
     moves: u32,
     row: &str,
@@ -158,7 +158,7 @@ fn moves_so<N: OnNet>(
 /// Whether a row is so, and how many moves it made.
 fn is_so<N: OnNet>(
     alloc: Global,
-    net: &NamedNet<N>,
+    net: &NamedNet<'_, N>,
     core: &mut Core,
     moves: u32,
     row: &str,
@@ -189,7 +189,7 @@ struct Table<'a> {
 /// Whether all rows are so, in turn.
 fn are_so<N: OnNet>(
     alloc: Global,
-    net: &NamedNet<N>,
+    net: &NamedNet<'_, N>,
     core: &mut Core,
     table: Table<'_>,
 ) -> Result<bool, AllocError>
@@ -216,8 +216,8 @@ fn plays_all<N: OnNet>(alloc: Global, net: Net, table: Table<'_>) -> Result<bool
     requires runs { Runs N.net }
 {
     let mut core = Core::start(alloc, &net)?;
-    let net: NamedNet<N> = NamedNet::new(net);
-    let so = are_so(alloc, &net, &mut core, table);
+    let named: NamedNet<'_, N> = NamedNet::new(&net);
+    let so = are_so(alloc, &named, &mut core, table);
     drop(core);
     so
 }

@@ -86,7 +86,7 @@ fn agreed(alloc: Global, net: &Net, sizes: Sizes) -> Result<bool, AllocError>
     requires { Runs net.now }
 {
     let ran = run_one(alloc, net, MOST_MOVES)?;
-    let moves = ran.tickets.len();
+    let moves = ran.tickets.len() as usize;
     let early = ticked(alloc, net, sizes, moves.saturating_sub(1))?;
     let late = ticked(alloc, net, sizes, moves)?;
     Ok(early.result.is_none() && late.result == ran.answer && late.result.is_some())

@@ -3,7 +3,7 @@
 ghost use Rattle.std.specs.Prelude.{◌≤◌};
 ghost use Rattle.interleave_laws.specs.Runs.{Runs};
 
-use interleave_core::run_one;
+use interleave_core::{Tickets, run_one};
 use net_build::Net;
 use pcf_values::Val;
 use std::alloc::{AllocError, Global};
@@ -16,7 +16,7 @@ fn comes(
     net: &Net,
     budget: u32,
     answer: Option<Val>,
-    moves: usize,
+    moves: u32,
 ) -> Result<bool, AllocError>
     requires runs { Runs net.now }
     requires some { 1 ≤ budget }
@@ -32,7 +32,7 @@ fn runs(
     text: &str,
     budget: u32,
     answer: Option<Val>,
-    moves: usize,
+    moves: u32,
 ) -> Result<bool, AllocError>
     requires some { 1 ≤ budget }
     requires within { budget ≤ 10000 }
@@ -70,12 +70,26 @@ fn budgets_that_are_too_small(rt: HostRuntime) -> Result<(), Fail> {
     Ok(())
 }
 
+/// Whether the list of tickets is three moves of ticket 0 and three of ticket 1.
+fn is_three_and_three(tickets: &Tickets) -> bool {
+    let mut zeros = 0u32;
+    let mut ones = 0u32;
+    for run in tickets.runs() {
+        match run.ticket {
+            0 if ones == 0 => zeros = zeros.saturating_add(run.count),
+            1 => ones = ones.saturating_add(run.count),
+            _ => return false,
+        }
+    }
+    zeros == 3 && ones == 3
+}
+
 /// Whether one worker moves these tickets on a sum.
 fn tickets_of_a_sum(alloc: Global) -> Result<bool, AllocError> {
     let net = net_of(alloc, "1 + 2")?;
     let ran = run_one(alloc, &net, 100);
     drop(net);
-    Ok(ran?.tickets.as_slice() == [0, 0, 0, 1, 1, 1].as_slice())
+    Ok(is_three_and_three(&ran?.tickets))
 }
 
 #[test]

@@ -32,8 +32,8 @@ fn is_turn<N: OnNet + Send + Sync>(turn: Turn<BranchPiece<N>>, text: &str) -> bo
 /// The branch that a worker plays of its piece, if it gets one.
 fn made<N: OnNet + Send + Sync>(
     alloc: Global,
-    net: &NamedNet<N>,
-    pool: &mut BranchPool<N>,
+    net: &NamedNet<'_, N>,
+    pool: &mut BranchPool<'_, N>,
     worker: u32,
 ) -> Result<Option<Branch<N>>, AllocError> {
     match pool.turn(worker)? {
@@ -45,8 +45,8 @@ fn made<N: OnNet + Send + Sync>(
 /// Whether so many moves are booked after a worker brought a worker's branch.
 fn brings<N: OnNet + Send + Sync>(
     alloc: Global,
-    net: &NamedNet<N>,
-    pool: &mut BranchPool<N>,
+    net: &NamedNet<'_, N>,
+    pool: &mut BranchPool<'_, N>,
     worker: u32,
     other: u32,
     text: &str,
@@ -61,8 +61,8 @@ fn brings<N: OnNet + Send + Sync>(
 /// Whether a row is so.
 fn is_so<N: OnNet + Send + Sync>(
     alloc: Global,
-    net: &NamedNet<N>,
-    pool: &mut BranchPool<N>,
+    net: &NamedNet<'_, N>,
+    pool: &mut BranchPool<'_, N>,
     row: &str,
 ) -> Result<bool, AllocError> {
     let (first, rest) = cut(row, ' ');
@@ -88,8 +88,8 @@ struct Table<'a> {
 /// Whether all rows are so, in turn.
 fn are_so<N: OnNet + Send + Sync>(
     alloc: Global,
-    net: &NamedNet<N>,
-    pool: &mut BranchPool<N>,
+    net: &NamedNet<'_, N>,
+    pool: &mut BranchPool<'_, N>,
     table: Table<'_>,
 ) -> Result<bool, AllocError> {
     for row in table.rows.lines() {
@@ -101,20 +101,19 @@ fn are_so<N: OnNet + Send + Sync>(
 }
 
 /// Plays a pool by its table, and answers it, or none where a row isn't so.
-fn plays_all<N: OnNet + Send + Sync>(
+fn plays_all<'n, N: OnNet + Send + Sync>(
     alloc: Global,
-    net: Net,
-    pool: PoolState,
+    net: &'n Net,
+    pool: PoolState<'n>,
     table: Table<'_>,
-) -> Result<Option<PoolState>, AllocError>
-    requires named { net ≡ N.net }
+) -> Result<Option<PoolState<'n>>, AllocError>
+    requires named { net.now ≡ N.net }
     requires suits { pool.net ≡ N.net }
     requires runs { Runs N.net }
 {
-    let net: NamedNet<N> = NamedNet::new(net);
-    let mut bench: BranchPool<N> = BranchPool::new(pool);
+    let net: NamedNet<'n, N> = NamedNet::new(net);
+    let mut bench: BranchPool<'n, N> = BranchPool::new(pool);
     let so = are_so(alloc, &net, &mut bench, table);
-    drop(net);
     let pool = bench.into_pool();
     if so == Ok(true) {
         return Ok(Some(pool));
@@ -135,8 +134,7 @@ pub(crate) fn ended(
     requires limits { InLimits budget workers }
 {
     let pool = PoolState::start(alloc, net, budget, workers)?;
-    let own = net.copy(alloc)?;
-    match plays_all::<Brand>(alloc, own, pool, Table { rows })? {
+    match plays_all::<Brand>(alloc, net, pool, Table { rows })? {
         Some(pool) => Ok(Some(pool.finish(alloc, net, budget, workers)?)),
         None => Ok(None),
     }

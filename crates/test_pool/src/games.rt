@@ -177,13 +177,13 @@ fn are_so(
 }
 
 /// Plays a pool by its table, and answers it, or none where a row isn't so.
-pub(crate) fn played(
+pub(crate) fn played<'n>(
     alloc: Global,
-    net: &Net,
+    net: &'n Net,
     budget: u32,
     workers: u32,
     rows: &str,
-) -> Result<Option<PoolState>, AllocError>
+) -> Result<Option<PoolState<'n>>, AllocError>
     requires runs { Runs net.now }
     requires limits { InLimits budget workers }
 {

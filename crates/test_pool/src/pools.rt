@@ -36,13 +36,15 @@ fn is_answer(answer: Option<Val>, text: &str) -> bool {
 fn has_moves(log: &Log, tickets: &str, makers: &str) -> bool {
     let mut ticket = tickets.split_whitespace();
     let mut maker = makers.split_whitespace();
-    for entry in log.entries() {
-        let same = match (ticket.next(), maker.next()) {
-            (Some(t), Some(m)) => entry.ticket == number(t) && entry.worker == number(m),
-            _ => false,
-        };
-        if !same {
-            return false;
+    for run in log.runs() {
+        for _move in 0..run.count() {
+            let same = match (ticket.next(), maker.next()) {
+                (Some(t), Some(m)) => run.ticket() == number(t) && run.worker() == number(m),
+                _ => false,
+            };
+            if !same {
+                return false;
+            }
         }
     }
     ticket.next().is_none() && maker.next().is_none()

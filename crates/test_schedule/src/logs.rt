@@ -1,6 +1,6 @@
 //! Logs, and what is printed of them.
 
-use schedule_log::{Log, print_schedule, read_schedule};
+use schedule_log::{Log, MOST_COUNT, print_schedule, read_schedule};
 use std::alloc::{AllocError, Global};
 use std::test::Fail;
 
@@ -24,6 +24,10 @@ fn is_four_moves(log: &Log) -> bool {
         (4, None, None),
         (4_294_967_295, None, None),
     ];
+    // Each move differs from the one before it.
+    if log.runs().len() != 4 {
+        return false;
+    }
     for (place, ticket, worker) in rows {
         if log.ticket(place) != ticket || log.worker(place) != worker {
             return false;
@@ -70,21 +74,32 @@ fn in_turn(alloc: Global, count: u32) -> Result<Log, AllocError> {
     Ok(log)
 }
 
-/// How many of the moves are not those of two tickets in turn.
+/// How many of the runs are not those of two tickets in turn, each of one move by worker 0.
 fn count_other(log: &Log) -> u32 {
     let mut other = 0u32;
-    for i in 0..log.len() {
-        if log.ticket(i) != Some(4_294_967_294 + i % 2) || log.worker(i) != Some(0) {
+    let mut ticket = 4_294_967_294u32;
+    for run in log.runs() {
+        if run.ticket() != ticket || run.worker() != 0 || run.count() != 1 {
             other = other.saturating_add(1);
         }
+        ticket = if ticket == 4_294_967_294 {
+            4_294_967_295
+        } else {
+            4_294_967_294
+        };
     }
     other
+}
+
+/// Whether these are so many moves of two tickets in turn.
+fn are_in_turn(log: &Log, count: u32) -> bool {
+    log.len() == count && log.runs().len() == count as usize && count_other(log) == 0
 }
 
 /// Whether a text is read as so many moves of two tickets in turn.
 fn is_in_turn(alloc: Global, text: &[u8], count: u32) -> bool {
     match read_schedule(alloc, text) {
-        Ok(log) => log.len() == count && count_other(&log) == 0,
+        Ok(log) => are_in_turn(&log, count),
         Err(_) => false,
     }
 }
@@ -92,9 +107,34 @@ fn is_in_turn(alloc: Global, text: &[u8], count: u32) -> bool {
 #[test]
 fn a_million_moves_in_turn(rt: HostRuntime) -> Result<(), Fail> {
     let log = in_turn(rt.alloc(), 1_000_000)?;
-    assert!(rt; log.len() == 1_000_000 && count_other(&log) == 0);
+    assert!(rt; are_in_turn(&log, 1_000_000));
     let text = print_schedule(rt.alloc(), &log)?;
     assert!(rt; text.len() == 13_000_015);
     assert!(rt; is_in_turn(rt.alloc(), &text, 1_000_000));
+    Ok(())
+}
+
+/// Moves of one ticket by two workers and of another one, with a run that is full.
+fn long_runs(alloc: Global) -> Result<Log, AllocError> {
+    let mut log = Log::with_room(alloc, 16_777_222)?;
+    log.push_many(3, 1, 16_777_214);
+    log.push(3, 1);
+    log.push_many(3, 1, 2);
+    log.push_many(3, 2, 0);
+    log.push_many(3, 2, 4);
+    log.push(0, 2);
+    Ok(log)
+}
+
+#[test]
+fn runs_that_are_full(rt: HostRuntime) -> Result<(), Fail> {
+    let log = long_runs(rt.alloc())?;
+    let rows = [(3, 1, MOST_COUNT), (3, 1, 2), (3, 2, 4), (0, 2, 1)];
+    assert!(rt; log.runs().len() == rows.len() && log.len() == 16_777_222);
+    for (run, (ticket, worker, count)) in log.runs().iter().zip(rows) {
+        assert!(rt; run.ticket() == ticket && run.worker() == worker && run.count() == count);
+    }
+    let text = print_schedule(rt.alloc(), &log)?;
+    assert!(rt; text.as_slice() == b"schedule 2\n3 16777221\n0 1\nend\n".as_slice());
     Ok(())
 }

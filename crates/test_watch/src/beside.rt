@@ -1,13 +1,11 @@
 //! A reader beside workers who wait for it.
 
 ghost use Rattle.std.specs.Prelude.{◌≡◌};
-ghost use Rattle.interleave_laws.specs.Runs.{Runs};
 ghost use Rattle.metered_pool.specs.Metered.{IsLevel, IsOf};
 
-use branch_runs::{NamedNet, OnNet};
+use branch_runs::OnNet;
 use gate_workers::{Gate, drive};
 use metered_pool::{MeteredPool, Watched};
-use net_build::Net;
 use progress_meter::{Reader, Writer, meter};
 use std::alloc::{AllocError, Global};
 use std::marker::Brand;
@@ -56,39 +54,35 @@ fn meet<R: Wait>(rt: &R, mut reader: Reader, gate: &Held) -> u64 {
 }
 
 /// Two workers drive the bench, and wait at the gate.
-fn drive_two<'a, M: Watched + Send + Sync, N: OnNet + Send + Sync, R: Threads + Wait + Sync>(
+fn drive_two<'a, 'n, M: Watched + Send + Sync, N: OnNet + Send + Sync, R: Threads + Wait + Sync>(
     rt: &R,
     alloc: Global,
-    bench: MeteredPool<'a, M, N, R>,
-    tool: &NamedNet<N>,
+    bench: MeteredPool<'a, 'n, M, N, R>,
     gate: &Held,
-) -> MeteredPool<'a, M, N, R> {
-    drive(rt, alloc, bench, tool, 2, gate)
+) -> MeteredPool<'a, 'n, M, N, R> {
+    let tool = bench.tool();
+    drive(rt, alloc, bench, &tool, 2, gate)
 }
 
 /// What the reader met beside two workers, and what is booked and published when they are over.
-fn met_beside<M: Watched + Send + Sync, N: OnNet + Send + Sync, R: Threads + Wait + Sync>(
+fn met_beside<'n, M: Watched + Send + Sync, N: OnNet + Send + Sync, R: Threads + Wait + Sync>(
     rt: &R,
     alloc: Global,
-    net: Net,
-    pool: PoolState,
+    pool: PoolState<'n>,
     writer: Writer,
     reader: Reader,
 ) -> (u64, u32, u64)
-    requires runs { Runs N.net }
-    requires named { net ≡ N.net }
     requires of_net { pool.net ≡ N.net }
     requires level { IsLevel (record { pool = pool; writer = writer }) }
     requires run { IsOf M.run (record { pool = pool; writer = writer }) }
 {
-    let tool: NamedNet<N> = NamedNet::new(net);
-    let bench: MeteredPool<'_, M, N, R> = MeteredPool::new(rt, pool, writer);
+    let bench: MeteredPool<'_, 'n, M, N, R> = MeteredPool::new(rt, pool, writer);
     let gate = Held {
         read: AtomicBool::new(false),
     };
     let (bench, met) = join(
         rt,
-        || drive_two(rt, alloc, bench, &tool, &gate),
+        || drive_two(rt, alloc, bench, &gate),
         || meet(rt, reader, &gate),
     );
     let (pool, writer) = bench.into_parts();
@@ -103,7 +97,7 @@ fn met_by_the_double<R: Threads + Wait + Sync>(
     let net = net_of(alloc, "(fun x:nat. x + x) 3")?;
     let pool = PoolState::start(alloc, &net, 10_000, 2)?;
     let (writer, reader) = meter(alloc)?;
-    Ok(met_beside::<Brand, Brand, R>(rt, alloc, net, pool, writer, reader))
+    Ok(met_beside::<Brand, Brand, R>(rt, alloc, pool, writer, reader))
 }
 
 #[test]

@@ -1,3 +1,5 @@
+-- the pool that contracts see, from the fields that the code's type keeps
+mod Seen
 -- the numbers that are kept beside the list of what workers hold
 mod Counting
 -- the list of what workers hold, changed at one place

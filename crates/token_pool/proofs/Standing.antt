@@ -50,6 +50,10 @@ module _ (p : Pool) (good : Good p) where
 pub within_small : (p : Pool) → Good p → allowances p.held < 2 ^ 32
 within_small p good = let i = good.within in let b = good.limits.few_moves in omega (arith, i, b)
 
+-- a worker's number is one that a log has, and so is the finisher's
+pub number_small : (p P : Pool) → Good p → p ≡ P → (w : ℕ) → w ≤ P.workers → w < 256
+number_small p P good e w l = let b = good.limits.few_workers in let h = ap (λ (P : Pool). P.workers) e in omega (arith, b, h, l)
+
 -- what a worker is told is live
 pub told_live : (p P : Pool) (w : ℕ) (t : Reply) → Good p → p ≡ P → w < P.workers → t ≡ turn P w → TellsLive p.state t
 told_live p P w t good e l h = go t (h ∙ ap (λ P. turn P w) (sym e))
@@ -118,13 +122,13 @@ hands_seed p P w t r good e l h hands = subst (λ (P : Pool). HandsSeed P.net r)
     go Idle (taken.Token k) q is = absurd is
     go Reserved (taken.Token k) q is = absurd is
 
-pub start_ready : (net net' : NetTree) (budget workers : ℕ) (S : MapState) (log : List Entry) (held : List (Option Held)) → Runs net →
+pub start_ready : (net : NetTree) (budget workers : ℕ) (S : MapState) (log : List Entry) (held : List (Option Held)) → Runs net →
     InLimits budget workers
-    → net' ≡ net → S ≡ start_map (start_of net) → log ≡ [] → held ≡ none_held_by workers →
-    Good (pool net' budget workers S log held false)
-start_ready net net' budget workers S log held runs limits e f g h =
-    let k : pool net' budget workers S log held false ≡ started net budget workers =
-    ap (λ n. pool n budget workers S log held false) e ∙ ap (λ S. pool net budget workers S log held false) f
+    → S ≡ start_map (start_of net) → log ≡ [] → held ≡ none_held_by workers →
+    Good (pool net budget workers S log held false)
+start_ready net budget workers S log held runs limits f g h =
+    let k : pool net budget workers S log held false ≡ started net budget workers =
+    ap (λ S. pool net budget workers S log held false) f
     ∙ ap (λ l. pool net budget workers (start_map (start_of net)) l held false) g
     ∙ ap (λ h. pool net budget workers (start_map (start_of net)) [] h false) h in
     subst Good (sym k) (start_good net budget workers runs limits)

@@ -9,8 +9,8 @@ use Rattle.schedule_log.specs.declared.entry.Entry.{Entry}
 use Rattle.schedule_log.specs.Logs.{by}
 use Rattle.schedule_log.specs.LogsSeen.{LogSeen, with_entries}
 use Rattle.branch_laws.specs.Branches.{name}
-use Rattle.branch_runs.specs.declared.tickets.Run.{Run}
-use Rattle.branch_runs.specs.Tickets.{spelled}
+use Rattle.interleave_core.specs.declared.tickets.Run.{Run}
+use Rattle.interleave_core.specs.Tickets.{spelled}
 
 -- the entries of a branch's own tickets
 abbrev pub written : ℕ → ℕ → ℕ → List ℕ → List Entry

@@ -24,7 +24,7 @@ fn turn_of(taken: Taken) -> Turn<Piece>
     }
 }
 
-impl Bench for PoolState {
+impl<'n> Bench for PoolState<'n> {
     type Piece = Piece;
 
     type Made = Moved;
@@ -46,7 +46,9 @@ impl Bench for PoolState {
         Ok(turn_of(self.take(worker)?))
     }
 
-    fn work(alloc: Global, tool: &Net, piece: Piece) -> Result<Moved, AllocError> {
+    fn work(alloc: Global, tool: &Net, piece: Piece) -> Result<Moved, AllocError>
+        ensures { IfOk result (λ made. MakesWalk tool.now piece made) }
+    {
         walk(alloc, tool, piece.token, piece.allowance)
     }
 

@@ -41,7 +41,8 @@ pub(crate) fn play(core: &mut Core, net: &Net, held: Held, moved: Moved) -> Resu
 
 /// Writes down so many moves of a ticket by a worker, where there is room. Takes no memory.
 pub(crate) fn write_down(log: &mut Log, count: u32, ticket: u32, worker: u32)
-    requires { length log.old.entries + count ≤ log.old.room }
+    requires worker { worker < 256 }
+    requires room { length log.old.entries + count ≤ log.old.room }
     ensures { log.new ≡ with_entries log.old (moves_of count ticket worker) }
 {
     log.push_many(ticket, worker, count);

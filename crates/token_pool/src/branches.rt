@@ -16,8 +16,8 @@ ghost use Rattle.branch_runs.specs.Branching.{Taken};
 ghost use Rattle.token_pool.specs.Branches.{words_in, branch_allowance, TakesOver, BranchMoves, made_tickets};
 
 use crate::Held;
-use branch_runs::{Branch, OnNet, Run, Tickets, graft, name_of};
-use interleave_core::Core;
+use branch_runs::{Branch, OnNet, graft, name_of};
+use interleave_core::{Core, Run, Tickets};
 use net_build::Net;
 use schedule_log::Log;
 use std::alloc::AllocError;
@@ -107,6 +107,7 @@ pub(crate) fn play_branch<N: OnNet>(
 
 /// Writes down so many moves of one of a branch's own tickets.
 fn write_run(log: &mut Log, ticket: u32, next: u32, worker: u32, run: Run)
+    requires worker { worker < 256 }
     requires room { length log.old.entries + run.count ≤ log.old.room }
     requires fit { 1 ≤ run.count → next + (run.ticket - 1) < 2 ^ 32 }
     ensures { log.new ≡ with_entries log.old (by worker (map (name ticket next) (replicate run.count run.ticket))) }
@@ -118,6 +119,7 @@ fn write_run(log: &mut Log, ticket: u32, next: u32, worker: u32, run: Run)
 
 /// Writes down the moves of a branch.
 fn write_branch(log: &mut Log, ticket: u32, next: u32, worker: u32, tickets: &Tickets)
+    requires worker { worker < 256 }
     requires room { length log.old.entries + length tickets.now ≤ log.old.room }
     requires fit { All (λ k. next + (k - 1) < 2 ^ 32) tickets.now }
     ensures { log.new ≡ with_entries log.old (by worker (map (name ticket next) tickets.now)) }
@@ -131,6 +133,7 @@ fn write_branch(log: &mut Log, ticket: u32, next: u32, worker: u32, tickets: &Ti
 
 /// Writes down what was made of a branch, where there is room. Takes no memory.
 pub(crate) fn write_made(log: &mut Log, ticket: u32, next: u32, worker: u32, made: Option<Tickets>)
+    requires worker { worker < 256 }
     requires room { length log.old.entries + length (made_tickets ticket next made) ≤ log.old.room }
     requires fit { IfSome made (All (λ k. next + (k - 1) < 2 ^ 32)) }
     ensures { log.new ≡ with_entries log.old (by worker (made_tickets ticket next made)) }

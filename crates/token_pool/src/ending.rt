@@ -1,6 +1,6 @@
 //! The end of a run, by least live ticket.
 
-ghost use Rattle.std.specs.Prelude.{◌≡◌, ◌≤◌, OnOk, length};
+ghost use Rattle.std.specs.Prelude.{◌<◌, ◌≡◌, ◌≤◌, OnOk, length};
 ghost use Rattle.pcf_values.specs.Most.{most_budget};
 ghost use Rattle.interleave_laws.specs.Maps.{LeadsToMap};
 ghost use Rattle.interleave_laws.specs.Runs.{Runs};
@@ -35,6 +35,7 @@ pub(crate) fn play_on(
     requires small { budget ≤ most_budget }
     requires within { length log.old.entries ≤ budget }
     requires room { budget ≤ log.old.room }
+    requires finisher { finisher < 256 }
     ensures leads { OnOk result (LeadsToMap net.now (tickets_in_log log.new.entries) core.new) }
     ensures moves { OnOk result (log.new.entries ≡ finished net.now core.old budget finisher log.old.entries) }
 {

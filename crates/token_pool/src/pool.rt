@@ -2,8 +2,6 @@
 
 ghost use Rattle.std.specs.Prelude.{◌≡◌, ◌<◌, ◌≤◌, ◌↔◌, [], IfOk, OnErr, OnOk, IsErr, IsTrue, length};
 ghost use Rattle.interleave_laws.specs.Runs.{Runs};
-ghost use Rattle.interleave_laws.specs.Start.{start_of};
-ghost use Rattle.interleave_laws.specs.Maps.{start_map};
 ghost use Rattle.schedule_log.specs.LogsSeen.{empty_log};
 ghost use Rattle.token_pool.specs.declared.entries.Held.{Held};
 ghost use Rattle.token_pool.specs.declared.entries.Reply.TheVariants.{Token};
@@ -30,11 +28,11 @@ use schedule_log::Log;
 use std::alloc::{AllocError, Global};
 use std::marker::Model;
 
-/// A net with its budget, the machine's state on it, the moves made so far, and what each worker holds. Contracts see it as a pool, and
-/// every one is good.
+/// A net with its budget, the machine's state on it, the moves made so far, and what each worker holds. The net is borrowed. Contracts see
+/// it as a pool, and every one is good.
 #[derive(Drop)]
-pub struct PoolState {
-    net: Net,
+pub struct PoolState<'n> {
+    net: &'n Net,
     budget: u32,
     workers: u32,
     core: Core,
@@ -43,7 +41,7 @@ pub struct PoolState {
     stopped: bool,
 }
 
-impl Model for PoolState {
+impl<'n> Model for PoolState<'n> {
     ghost use Rattle.std.specs.Prelude.{◌≤◌};
     ghost use Rattle.token_pool.specs.Pools.{Pool, Good};
     ghost use Rattle.token_pool.specs.Codes.{pool_code, pool};
@@ -52,19 +50,9 @@ impl Model for PoolState {
 
     ghost coded = { pool_code };
 
-    ghost view = { λ a. pool a.net a.budget a.workers a.core a.log.entries a.held a.stopped };
+    ghost view = { λ a. pool a.net.now a.budget a.workers a.core a.log.entries a.held a.stopped };
 
-    ghost invariant = { λ a. Good (pool a.net a.budget a.workers a.core a.log.entries a.held a.stopped) × (a.budget ≤ a.log.room) };
-}
-
-/// The net in memory of its own, and the machine's state at its start.
-fn begin(alloc: Global, net: &Net) -> Result<(Net, Core), AllocError>
-    ensures net { IfOk result (λ p. p.0 ≡ net.now) }
-    ensures core { IfOk result (λ p. p.1 ≡ start_map (start_of net.now)) }
-{
-    let own = net.copy(alloc)?;
-    let core = Core::start(alloc, net)?;
-    Ok((own, core))
+    ghost invariant = { λ a. Good (pool a.net.now a.budget a.workers a.core a.log.entries a.held a.stopped) × (a.budget ≤ a.log.room) };
 }
 
 /// Room for the whole log, and a place for each worker.
@@ -77,23 +65,23 @@ fn lists_of(alloc: Global, budget: u32, workers: u32) -> Result<(Log, Places), A
     Ok((log, held))
 }
 
-impl PoolState {
-    /// The pool in which a run of this net begins, with a copy of the net of its own. It takes all the memory that its log will need.
+impl<'n> PoolState<'n> {
+    /// The pool in which a run of this net begins. It takes all the memory that its log will need.
     ///
     /// # Errors
     ///
     /// It runs out of memory.
     pub fn start(
         alloc: Global,
-        net: &Net,
+        net: &'n Net,
         budget: u32,
         workers: u32,
-    ) -> Result<PoolState, AllocError>
+    ) -> Result<PoolState<'n>, AllocError>
         requires runs { Runs net.now }
         requires limits { InLimits budget workers }
         ensures { IfOk result (λ p. p ≡ started net.now budget workers) }
     {
-        let (net, core) = begin(alloc, net)?;
+        let core = Core::start(alloc, net)?;
         let (log, held) = lists_of(alloc, budget, workers)?;
         Ok(PoolState {
             net,
@@ -104,6 +92,14 @@ impl PoolState {
             held,
             stopped: false,
         })
+    }
+
+    /// The net, which runs. Takes no memory.
+    pub fn net(&self) -> &'n Net
+        ensures net { result.now ≡ self.now.net }
+        ensures runs { Runs self.now.net }
+    {
+        self.net
     }
 
     /// How many moves were made. Takes no memory.
@@ -223,7 +219,7 @@ impl PoolState {
             return Ok(Booked::NothingHeld);
         };
         let done = self.log.len();
-        let count = play(&mut self.core, &self.net, held, moved)?;
+        let count = play(&mut self.core, self.net, held, moved)?;
         write_down(&mut self.log, count, held.ticket, worker);
         self.held.let_go(worker);
         Ok(Booked::Done(done))
@@ -315,7 +311,7 @@ impl PoolState {
         };
         let done = self.log.len();
         let next = self.core.next_ticket();
-        let made = play_branch(&mut self.core, &self.net, held, self.workers, branch)?;
+        let made = play_branch(&mut self.core, self.net, held, self.workers, branch)?;
         write_made(&mut self.log, held.ticket, next, worker, made);
         self.held.let_go(worker);
         Ok(Booked::Done(done))
@@ -337,8 +333,8 @@ impl PoolState {
 
     /// Puts back what is held, and lets the least live ticket move until the answer or the budget.
     fn close(self) -> Result<Ended, AllocError>
-        ensures finishes { IfOk result (Finishes self) }
-        ensures replays { IfOk result (Replays self.net self.budget self.workers) }
+        ensures finishes { IfOk result (Finishes self.entry) }
+        ensures replays { IfOk result (Replays self.entry.net self.entry.budget self.entry.workers) }
     {
         let PoolState {
             net,
@@ -350,12 +346,37 @@ impl PoolState {
             ..
         } = self;
         drop(held);
-        let done = play_on(&mut core, &net, &mut log, budget, workers);
-        drop(net);
+        let done = play_on(&mut core, net, &mut log, budget, workers);
         let answer = core.answer();
         drop(core);
         done?;
         Ok(Ended { answer, log })
+    }
+
+    /// Finishes a run of this net as `finish` does, where the pool is known to be one of it: no nets are compared.
+    ///
+    /// # Errors
+    ///
+    /// It runs out of memory, and always so where the pool was stopped.
+    pub fn finish_own(self, alloc: Global, budget: u32, workers: u32) -> Result<Ended, AllocError>
+        requires { InLimits budget workers }
+        ensures stopped { IsTrue self.entry.stopped → IsErr result }
+        ensures same { (self.entry.budget ≡ budget) × (self.entry.workers ≡ workers) → IfOk result (Finishes self.entry) }
+        ensures other { ((self.entry.budget ≡ budget) × (self.entry.workers ≡ workers) → ⊥) →
+            IfOk result (Finishes (started self.entry.net budget workers)) }
+        ensures replays { IfOk result (Replays self.entry.net budget workers) }
+    {
+        if self.stopped {
+            drop(self);
+            return Err(AllocError);
+        }
+        if self.budget == budget && self.workers == workers {
+            return self.close();
+        }
+        let net = self.net;
+        drop(self);
+        let begun = PoolState::start(alloc, net, budget, workers)?;
+        begun.close()
     }
 
     /// Finishes a run of this net: a pool that was stopped has no memory left, and no answer; one of this net, budget and number of
@@ -374,9 +395,9 @@ impl PoolState {
     ) -> Result<Ended, AllocError>
         requires runs { Runs net.now }
         requires limits { InLimits budget workers }
-        ensures stopped { IsTrue self.stopped → IsErr result }
-        ensures same { Suits self net.now budget workers → IfOk result (Finishes self) }
-        ensures other { (Suits self net.now budget workers → ⊥) → IfOk result (Finishes (started net.now budget workers)) }
+        ensures stopped { IsTrue self.entry.stopped → IsErr result }
+        ensures same { Suits self.entry net.now budget workers → IfOk result (Finishes self.entry) }
+        ensures other { (Suits self.entry net.now budget workers → ⊥) → IfOk result (Finishes (started net.now budget workers)) }
         ensures replays { IfOk result (Replays net.now budget workers) }
     {
         if self.stopped {

@@ -12,5 +12,7 @@ pub mod Playing
 pub mod Heading
 -- What is told of a step, by its name, is what the line says of its move.
 pub mod StepLines
+-- Where the moves of a log stand in its runs.
+pub mod Places
 -- A window that ends with the log.
 pub mod Windowing

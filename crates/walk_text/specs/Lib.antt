@@ -17,3 +17,5 @@ pub mod Laws
 pub mod Rows
 -- what the code's private contracts cite
 pub mod Telling
+-- Where a move stands in the runs that a log is kept as.
+pub mod Standing

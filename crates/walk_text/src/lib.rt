@@ -10,6 +10,7 @@ mod head;
 mod laws;
 mod line;
 mod moves;
+mod place;
 mod ports;
 mod token;
 mod trace;

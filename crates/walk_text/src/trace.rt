@@ -4,15 +4,18 @@ ghost use Rattle.std.specs.Prelude.{◌≡◌, ◌≤◌, ◌-◌, ◌++◌, min
 ghost use Rattle.pcf_values.specs.Most.{most_moves};
 ghost use Rattle.interleave_laws.specs.Runs.{Runs};
 ghost use Rattle.interleave_laws.specs.Maps.{LeadsToMap};
+ghost use Rattle.schedule_log.specs.KeptRuns.{Each, spread};
 ghost use Rattle.schedule_log.specs.Logs.{tickets_in_log};
+ghost use Rattle.walk_text.specs.Standing.{StandsAt};
 ghost use Rattle.walk_text.specs.Traces.{window_text, trace_text};
 ghost use Rattle.walk_text.specs.Whole.{LeadsSomewhere};
 
 use crate::head::push_head;
 use crate::moves::{push_moves, run_to};
+use crate::place::Place;
 use interleave_core::Core;
 use net_build::Net;
-use schedule_log::{Entry, Log};
+use schedule_log::{Log, Moves};
 use std::alloc::{AllocError, Global};
 
 /// Appends the trace of a log on this net, from entry `from` on, counted from 0, of at most `most` moves: the tokens that are live and the
@@ -37,13 +40,14 @@ pub fn push_trace(
     requires few { length log.now.entries ≤ most_moves }
     ensures { OnOk result (text.new.items ≡ text.old.items ++ trace_text net.now log.now.entries from most) }
 {
-    let entries = log.entries();
-    let begin = least(from as usize, entries.len());
-    let end = begin + least(most as usize, entries.len() - begin);
+    let runs = log.runs();
+    let len = log.len() as usize;
+    let begin = least(from as usize, len);
+    let end = begin + least(most as usize, len - begin);
     let mut core = Core::start(alloc, net)?;
-    run_to(&mut core, net, entries, begin)?;
+    let at = run_to(&mut core, net, runs, begin)?;
     text.extend_from_slice(b"trace 1\n")?;
-    push_window(alloc, text, &mut core, net, entries, begin, end)?;
+    push_window(alloc, text, &mut core, net, runs, at, begin, end)?;
     text.extend_from_slice(b"end\n")
 }
 
@@ -60,19 +64,22 @@ fn push_window(
     text: &mut Vec<u8>,
     core: &mut Core,
     net: &Net,
-    entries: &[Entry],
+    runs: &[Moves],
+    at: Place,
     from: usize,
     to: usize,
 ) -> Result<(), AllocError>
     requires runs { Runs net.now }
-    requires leads { LeadsSomewhere net.now entries.now }
-    requires few { length entries.now ≤ most_moves }
+    requires each { Each runs.now }
+    requires leads { LeadsSomewhere net.now (spread runs.now) }
+    requires few { length (spread runs.now) ≤ most_moves }
     requires order { from ≤ to }
-    requires within { to ≤ length entries.now }
-    requires at { LeadsToMap net.now (tickets_in_log (take from entries.now)) core.old }
+    requires within { to ≤ length (spread runs.now) }
+    requires stands { StandsAt runs.now at.run at.begins from }
+    requires led { LeadsToMap net.now (tickets_in_log (take from (spread runs.now))) core.old }
     ensures { OnOk result (text.new.items ≡ text.old.items
-        ++ window_text net.now core.old from (take (to - from) (drop from entries.now))) }
+        ++ window_text net.now core.old from (take (to - from) (drop from (spread runs.now)))) }
 {
     push_head(alloc, text, core)?;
-    push_moves(alloc, text, core, net, entries, from, to)
+    push_moves(alloc, text, core, net, runs, at, from, to)
 }

@@ -1,4 +1,5 @@
 use Rattle.std.proofs.Common.{ap, arith, length}
+use Rattle.schedule_log.specs.KeptRuns.{spread}
 use Rattle.goi_reports.proofs.Counting.{tally_length}
 use Rattle.goi_reports.proofs.run.push_tally.Goals as goal
 
@@ -8,5 +9,5 @@ push_tally_lines-requires c = omega (
   c.requires.few,
   ap length c.deref.ensures.value,
   ap length c.in_ok-counts.ensures.counted,
-  tally_length c.entries.result.now c.args.workers,
+  tally_length (spread c.runs.result.now) c.args.workers,
 )

@@ -6,7 +6,7 @@ use Rattle.interleave_core.proofs.one_worker.run_one.Goals as goal
 
 pub returns-clause-tickets : goal.returns-clause-tickets
 returns-clause-tickets c =
-    let log = c.loop-parts.tickets.items in
+    let log = c.loop-parts.tickets in
     let S = state_of c.loop-parts.parts in
     let i = c.loop-parts.invariant in
     elim c.loop-parts-test.branch [

@@ -4,7 +4,7 @@ use Rattle.interleave_core.specs.Alone.{RunsAlone}
 use Rattle.interleave_core.proofs.one_worker.run_one.Given as goal
 
 abbrev pub invariant-loop-parts : goal.invariant-loop-parts
-invariant-loop-parts l = RunsAlone l.net l.tickets.items (state_of l.parts) × (length l.tickets.items ≤ l.budget)
+invariant-loop-parts l = RunsAlone l.net l.tickets (state_of l.parts) × (length l.tickets ≤ l.budget)
 
 abbrev pub decreases-loop-parts : goal.decreases-loop-parts
-decreases-loop-parts l = l.budget - length l.tickets.items
+decreases-loop-parts l = l.budget - length l.tickets

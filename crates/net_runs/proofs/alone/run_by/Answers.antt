@@ -9,5 +9,5 @@ returns-clause-run c =
     let ran = c.in_ok-ran.ran in
     let (S, leads, answers) = c.in_ok-ran.ensures.answer in
     λ workers below.
-    alone_is_run law led c.args.net.now c.requires.runs c.args.budget ran.tickets.items c.in_ok-ran.ensures.tickets
+    alone_is_run law led c.args.net.now c.requires.runs c.args.budget ran.tickets c.in_ok-ran.ensures.tickets
     ran.answer S leads answers c.args.worker workers below c.in_ok-log.log.entries (search rules)

@@ -11,11 +11,13 @@ returns-in-Err-clause-entries c =
     c.loop-rest.invariant.fills
 
 pub push_many-requires : goal.push_many-requires
-push_many-requires c =
-    (fills_turn c.loop-rest.log c.loop-rest.moves c.args.log.now.room _ _ _ _
-    (run_left c.args.version c.loop-rest.last c.loop-rest.moves c.loop-rest.n _ c.loop-rest.rest.now _ c.cut_line.result.1.now _
-    c.cut_line.ensures.first (not_end c.is_end.result _ c.is_end.ensures c.if-is_end.false) c.in-Ok.ensures.run refl)
-    c.loop-rest.invariant.fills).room_left
+push_many-requires c = record {
+  worker = omega arith;
+  room = (fills_turn c.loop-rest.log c.loop-rest.moves c.args.log.now.room _ _ _ _
+      (run_left c.args.version c.loop-rest.last c.loop-rest.moves c.loop-rest.n _ c.loop-rest.rest.now _ c.cut_line.result.1.now _
+      c.cut_line.ensures.first (not_end c.is_end.result _ c.is_end.ensures c.if-is_end.false) c.in-Ok.ensures.run refl)
+      c.loop-rest.invariant.fills).room_left;
+}
 
 pub loop-rest-preserved : goal.loop-rest-preserved
 loop-rest-preserved c = record {

@@ -1,31 +1,38 @@
-use Rattle.std.proofs.Common.{◌+◌, ◌++◌, ◌∙◌, arith, drop}
-use Rattle.std.proofs.lemmas.Bool.{both_ways}
-use Rattle.schedule_log.proofs.Printing.{unwritten, goes_on, ends_run, all_written}
+use Rattle.std.proofs.Common.{◌++◌, ◌+◌, ◌∙◌, ap, sym, arith, drop}
+use Rattle.schedule_log.specs.KeptRuns.{MovesSeen}
+use Rattle.schedule_log.proofs.Spread.{each_at}
+use Rattle.schedule_log.proofs.Printing.{unwritten, goes_on, ends_run, all_written, fewer}
 use Rattle.schedule_log.proofs.print.push_from.Goals as goal
-use Rattle.schedule_log.proofs.print.push_from.Goals.{then-continues, else-continues+in_ok-push_run}
+use Rattle.schedule_log.proofs.print.push_from.Goals.{then-ticket, else-ticket+in_ok-push_run}
 
-pub loop-entry-preserved : goal.loop-entry-preserved
-loop-entry-preserved c = elim c.if-continues.branch [
-  | then-continues w ↦ record {
-    some = omega (arith, w.count-is, c.loop-entry.invariant.some);
-    few = omega (arith, w.count-is, c.loop-entry.invariant.few);
-    text = (λ i. (w.text-is i).items ++ unwritten c.if-continues.ticket c.if-continues.count
-        (drop (c.loop-entry.entry-index + 1) c.args.rest.now))
-        ∙ goes_on _ _ _ _ _ _ _ _ _ c.loop-entry-test.true (c.continues.ensures.0 w.if-continues.true) w.ticket-is w.count-is
-        c.loop-entry.invariant.text;
-  }
-  | else-continues+in_ok-push_run w ↦ record {
-    some = omega (arith, w.count-is);
-    few = omega (arith, w.count-is);
-    text = (λ i. (w.text-is i).items ++ unwritten c.if-continues.ticket c.if-continues.count
-        (drop (c.loop-entry.entry-index + 1) c.args.rest.now))
-        ∙ ends_run _ _ _ _ _ _ _ _ _ _ c.loop-entry-test.true (λ e. both_ways c.continues.result w.if-continues.false
-        (c.continues.ensures.1 e)) c.loop-entry.invariant.some w.in_ok-push_run.ensures w.ticket-is w.count-is
-        c.loop-entry.invariant.text;
-  }
-]
+pub loop-run-preserved : goal.loop-run-preserved
+loop-run-preserved c =
+    let d = c.run-item.result in
+    let t = ap (λ (m : MovesSeen). m.ticket) c.run-item.is in
+    let n = ap (λ (m : MovesSeen). m.count) c.run-item.is in
+    let f = fewer c.args.rest.now c.loop-run.run-index d c.loop-run-test.true in
+    elim c.if-ticket.branch [
+      | then-ticket w ↦ record {
+        some = omega (arith, w.count-is, c.loop-run.invariant.some);
+        few = omega (arith, w.count-is, c.loop-run.invariant.few, f, n, w.count-count.ensures.value);
+        text = (λ i. (w.text-is i).items ++ unwritten (w.ticket-is i) c.if-ticket.count
+            (drop (c.loop-run.run-index + 1) c.args.rest.now))
+            ∙ goes_on _ _ c.loop-run.ticket c.loop-run.count c.if-ticket.count c.loop-run.run-index c.args.rest.now d
+            c.loop-run-test.true (sym t ∙ sym c.ticket.ensures ∙ w.if-ticket.true)
+            (omega (arith, w.count-is, n, w.count-count.ensures.value)) c.loop-run.invariant.text;
+      }
+      | else-ticket+in_ok-push_run w ↦
+          let e = (each_at c.args.rest.now c.loop-run.run-index d c.requires.each c.loop-run-test.true).0 in
+          record {
+            some = omega (arith, w.count-is, e, n, w.count-count-else-ticket.ensures.value);
+            few = omega (arith, w.count-is, c.loop-run.invariant.few, f, n, w.count-count-else-ticket.ensures.value);
+            text = (λ i. (w.text-is i).items ++ unwritten ((w.ticket-is ∙ w.ticket-ticket.ensures ∙ t) i)
+                ((w.count-is ∙ w.count-count-else-ticket.ensures.value ∙ n) i) (drop (c.loop-run.run-index + 1) c.args.rest.now))
+                ∙ ends_run _ _ _ _ _ _ _ d c.loop-run-test.true (λ g. w.if-ticket.false (c.ticket.ensures ∙ t ∙ g))
+                c.loop-run.invariant.some c.requires.each w.in_ok-push_run.ensures c.loop-run.invariant.text;
+          }
+    ]
 
 pub returns : goal.returns
-returns c = all_written c.loop-entry.text.items c.push_last.new.text.items _ c.loop-entry.ticket c.loop-entry.count
-    c.loop-entry.entry-index c.args.rest.now c.loop-entry-test.false c.loop-entry.invariant.some c.in_ok-push_last.ensures
-    c.loop-entry.invariant.text
+returns c = all_written _ _ _ _ _ c.loop-run.run-index c.args.rest.now c.loop-run-test.false c.loop-run.invariant.some
+    c.in_ok-push_last.ensures c.loop-run.invariant.text

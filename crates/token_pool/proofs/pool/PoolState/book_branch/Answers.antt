@@ -1,36 +1,41 @@
 use Rattle.std.proofs.Common.{◌≤◌, ◌++◌, length, sym, ap, ◌∙◌, subst, arith}
 use Rattle.schedule_log.specs.Logs.{by}
 use Rattle.schedule_log.specs.LogsSeen.{LogSeen}
-use Rattle.token_pool.specs.contracts.pool.PoolState.{the_view}
+use Rattle.token_pool.proofs.Seen.{seen}
 use Rattle.token_pool.specs.Branches.{made_tickets}
-use Rattle.token_pool.proofs.Standing.{still_reached, fits, holds, few_aside, let_go_small}
+use Rattle.token_pool.proofs.Standing.{still_reached, fits, holds, few_aside, let_go_small, number_small}
 use Rattle.token_pool.proofs.Branching.{is_branch, branch_good, branch_booked}
 use Rattle.token_pool.proofs.pool.PoolState.book_branch.Goals as goal
 
 pub play_branch-requires-clause-reached : goal.play_branch-requires-clause-reached
 play_branch-requires-clause-reached g c =
-    still_reached (the_view c.self.inside) c.self.invariant.0 c.args.worker c.in-Some.held (sym c.in-Some.ensures)
+    still_reached (seen c.self.inside) c.self.invariant.0 c.args.worker c.in-Some.held (sym c.in-Some.ensures)
 
 pub play_branch-requires-clause-small : goal.play_branch-requires-clause-small
 play_branch-requires-clause-small g c =
-    few_aside (the_view c.self.inside) c.self.invariant.0 c.args.worker c.in-Some.held (sym c.in-Some.ensures)
+    few_aside (seen c.self.inside) c.self.invariant.0 c.args.worker c.in-Some.held (sym c.in-Some.ensures)
+
+pub write_made-requires-clause-worker : goal.write_made-requires-clause-worker
+write_made-requires-clause-worker g c =
+    number_small (seen c.self.inside) c.args.self.now c.self.invariant.0 c.self.view_is c.args.worker
+    (let u = c.requires.place in omega (arith, u))
 
 pub write_made-requires-clause-room : goal.write_made-requires-clause-room
 write_made-requires-clause-room g c =
     let tickets = made_tickets c.in-Some.held.ticket c.next_ticket-next.result c.in_ok-made.made in
     let few = subst (λ n. length (made_tickets c.in-Some.held.ticket n c.in_ok-made.made) ≤ c.in-Some.held.allowance)
     (sym c.next_ticket-next.ensures) c.in_ok-made.ensures.few in
-    let f = fits (the_view c.self.inside) c.self.invariant.0 c.args.worker c.in-Some.held (sym c.in-Some.ensures) (length tickets) few in
+    let f = fits (seen c.self.inside) c.self.invariant.0 c.args.worker c.in-Some.held (sym c.in-Some.ensures) (length tickets) few in
     let r = c.self.invariant.1 in
     omega (arith, f, r)
 
 pub let_go-requires-clause-small : goal.let_go-requires-clause-small
 let_go-requires-clause-small g c =
-    let_go_small (the_view c.self.inside) c.self.invariant.0 c.args.worker c.in-Some.held (sym c.in-Some.ensures)
+    let_go_small (seen c.self.inside) c.self.invariant.0 c.args.worker c.in-Some.held (sym c.in-Some.ensures)
 
 pub invariant_of-self-2 : goal.invariant_of-self-2
 invariant_of-self-2 g c =
-    let p = the_view c.self.inside in
+    let p = seen c.self.inside in
     let i = c.in-Some.held.ticket in
     let made = c.in_ok-made.made in
     let room = ap (λ (l : LogSeen). l.room) c.write_made.ensures in
@@ -48,7 +53,7 @@ invariant_of-self-2 g c =
 
 pub returns-clause-ok : goal.returns-clause-ok
 returns-clause-ok g c =
-    let p = the_view c.self.inside in
+    let p = seen c.self.inside in
     let i = c.in-Some.held.ticket in
     let made = c.in_ok-made.made in
     branch_booked p c.self.invariant.0 c.args.worker c.in-Some.held

@@ -1,13 +1,13 @@
 use Rattle.std.proofs.Common.{sym, ap, ◌∙◌, arith}
 use Rattle.token_pool.specs.Pools.{count_held}
 use Rattle.token_pool.specs.Turns.{count_free}
-use Rattle.token_pool.specs.contracts.pool.PoolState.{the_view}
+use Rattle.token_pool.proofs.Seen.{seen}
 use Rattle.token_pool.proofs.Standing.{all_counted}
 use Rattle.token_pool.proofs.pool.PoolState.free_count.Goals as goal
 
 pub overflow_sub-result : goal.overflow_sub-result
 overflow_sub-result c =
-    let p = the_view c.self.inside in
+    let p = seen c.self.inside in
     let all = all_counted p c.self.invariant.0 in
     let live = c.live_count.ensures in
     let held = c.held_count.ensures ∙ ap (λ q. count_held q.held) (sym c.self.view_is) in
@@ -15,7 +15,7 @@ overflow_sub-result c =
 
 pub returns : goal.returns
 returns c =
-    let p = the_view c.self.inside in
+    let p = seen c.self.inside in
     let all = all_counted p c.self.invariant.0 in
     let live = c.live_count.ensures in
     let held = c.held_count.ensures ∙ ap (λ q. count_held q.held) (sym c.self.view_is) in

@@ -1,8 +1,0 @@
--- A list of tickets as runs of one ticket.
-use Rattle.std.specs.Prelude.{ℕ, List, [], ◌∷◌, ◌++◌, replicate}
-use Rattle.branch_runs.specs.declared.tickets.Run.{Run}
-
--- the tickets of runs, one for each move
-abbrev pub spelled : List Run → List ℕ
-spelled [] = []
-spelled (r ∷ rs) = replicate r.count r.ticket ++ spelled rs
