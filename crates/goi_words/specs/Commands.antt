@@ -2,15 +2,13 @@
 -- There is one level of subcommands. Each has its operands, which have to be there, and its options, none of which has a rule on
 -- another, so that `clap`'s definition says exactly which words are taken and what was found. Help is switched off: the words for it
 -- are unknown words and are refused as such. What is added later stands at the end of its list.
-use Rattle.std.specs.Prelude.{◌≡◌, ℕ, true, false, pos, List, [], ◌∷◌, Some, codes}
-use Rattle.clap.specs.Words.{App, Rule, Shape, Text, app_of, new_rule}
+use Rattle.std.specs.Prelude.{ℕ, true, false, pos, List, [], ◌∷◌, Some, codes}
+use Rattle.clap.specs.Words.{App, Rule, Shape, Text, new_rule}
 use Rattle.clap.specs.Lexer.{usize_max}
 use Rattle.clap.specs.Simple.{new_shape}
 use Rattle.pcf_values.specs.Most.{most_workers, most_budget, most_demo, most_moves}
 use Rattle.goi_jobs.specs.Limits.{most_traced, most_told, least_stack, most_stack, most_forks}
 use Rattle.clap.specs.declared.builder.action.ArgAction.TheVariants.{Set, SetTrue}
-use Rattle.clap.specs.declared.builder.command.Command.{Command}
-use Rattle.clap.specs.declared.builder.command.Command.TheViews.{out-Command}
 use Rattle.clap.specs.declared.builder.value_parser.ValueParser.TheVariants as parser
 
 -- an operand: any text, and it has to be there
@@ -74,31 +72,6 @@ flag name = record (new_rule name) { long = Some name; action = Some SetTrue }
 abbrev pub command : Text → List Rule → Shape
 command name rules = record (new_shape name) { rules = rules }
 
--- what several subcommands begin with: a file, the limits of a run, and what is printed of its log
-abbrev pub file_command : Text → Shape
-file_command name = command name (operand (codes "file") ∷ [])
-
-abbrev pub limited_command : Text → Shape
-limited_command name = command name (operand (codes "file") ∷ workers_option ∷ budget_option ∷ [])
-
-abbrev pub logged_command : Text → Shape
-logged_command name =
-    command name (operand (codes "file") ∷ workers_option ∷ budget_option ∷ flag (codes "schedule") ∷ flag (codes "tally") ∷ [])
-
--- `replay`, `trace` and `steps` without the part that is printed, and `span` without what is printed of the rounds
-abbrev pub bare_replay_command : Shape
-bare_replay_command = command (codes "replay") (operand (codes "file") ∷ operand (codes "schedule") ∷ flag (codes "trace") ∷ [])
-
-abbrev pub bare_trace_command : Shape
-bare_trace_command =
-    command (codes "trace") (operand (codes "file") ∷ workers_option ∷ budget_option ∷ flag (codes "by-value") ∷ [])
-
-abbrev pub bare_span_command : Shape
-bare_span_command = command (codes "span") (operand (codes "file") ∷ budget_option ∷ flag (codes "by-value") ∷ [])
-
-abbrev pub bare_steps_command : Shape
-bare_steps_command = command (codes "steps") (operand (codes "file") ∷ budget_option ∷ [])
-
 -- the subcommands
 abbrev pub run_command : Shape
 run_command = command (codes "run")
@@ -140,10 +113,6 @@ abbrev pub call_command : Shape
 call_command = command (codes "call")
     (operand (codes "file") ∷ numbers_operand ∷ workers_option ∷ budget_option ∷ flag (codes "schedule") ∷ flag (codes "tally") ∷ [])
 
--- `call` without what is printed of its log
-abbrev pub bare_call_command : Shape
-bare_call_command = command (codes "call") (operand (codes "file") ∷ numbers_operand ∷ workers_option ∷ budget_option ∷ [])
-
 abbrev pub steps_command : Shape
 steps_command = command (codes "steps") (operand (codes "file") ∷ budget_option ∷ from_option ∷ told_option ∷ [])
 
@@ -162,25 +131,8 @@ bare_command = record {
 abbrev pub with_commands : List Shape → App
 with_commands commands = record { top = record bare_command.top { is_leaf = false }; subs = commands }
 
--- with its first three, its first six, and its first nine
-abbrev pub three_commands : App
-three_commands = with_commands (run_command ∷ check_command ∷ net_command ∷ [])
-
-abbrev pub six_commands : App
-six_commands = with_commands
-    (run_command ∷ check_command ∷ net_command ∷ replay_command ∷ demo_command ∷ run_net_command ∷ [])
-
-abbrev pub nine_commands : App
-nine_commands = with_commands
-    (run_command ∷ check_command ∷ net_command ∷ replay_command ∷ demo_command ∷ run_net_command ∷ batch_command
-    ∷ trace_command ∷ circuit_command ∷ [])
-
 -- the whole command line
 abbrev pub goi_command : App
 goi_command = with_commands
     (run_command ∷ check_command ∷ net_command ∷ replay_command ∷ demo_command ∷ run_net_command ∷ batch_command
     ∷ trace_command ∷ circuit_command ∷ span_command ∷ steps_command ∷ call_command ∷ [])
-
--- the command of the code is this subcommand
-abbrev pub IsCommand : Shape → Command → Type 0
-IsCommand shape c = (app_of c ≡ record { top = shape; subs = [] }) × ((out-Command c).has_globals ≡ false)
