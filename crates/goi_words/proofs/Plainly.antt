@@ -11,7 +11,7 @@ use Rattle.goi_words.proofs.Agreeing.{all_there, absent, apart_from, each, final
 use Rattle.goi_words.proofs.Entering.{below_job}
 use Rattle.goi_words.proofs.Levels.{Gives, level_ends, level_gives}
 use Rattle.goi_words.proofs.Operands.{Reaches, operand_rows, operands_read}
-use Rattle.goi_words.proofs.Ready.{IsReady, knows, leaf}
+use Rattle.goi_words.proofs.Ready.{IsReady, cleanly, knows, leaf}
 use Rattle.goi_words.proofs.Settings.{choice_named, known_in, named, settings_read}
 use Rattle.goi_words.proofs.Taken.{taken_has_job}
 use Rattle.goi_words.proofs.Walks.{Names, then}
@@ -34,7 +34,7 @@ module _ (c : CommandRow) (ready : IsReady c) (vs : List Value) where
   reads [] plain =
       let first = operands [] plain [] in
       level_ends (leaf c) (flat_map value_words vs ++ []) first.stop (plain_rows c vs []) first.leads
-      (record { there = first.holds.there ∙ sym (append-nil (operand_rows c.operands vs)); clean = first.holds.clean }) ready.defaults
+      (record { there = first.holds.there ∙ sym (append-nil (operand_rows c.operands vs)); clean = first.holds.clean }) (cleanly c ready)
       (ready.checked (final_rows c vs []) (all_there c ready vs [] plain))
   reads (s ∷ ss) plain =
       let rest = flat_map setting_words (s ∷ ss) in
@@ -50,7 +50,7 @@ module _ (c : CommandRow) (ready : IsReady c) (vs : List Value) where
       (each (λ t o. no_row t.name (operand_rows c.operands vs) (absent c.operands vs t.name plain.operands
       (apart_from (leaf c) c.operands c.choices (knows c ready) t o)).row) (s ∷ ss) plain.options) first.holds in
       level_gives (leaf c) (flat_map value_words vs ++ rest) second.held first.place (plain_rows c vs (s ∷ ss))
-      (then (leaf c) _ _ _ _ _ _ first.leads (then (leaf c) _ _ _ _ _ _ between_them second.leads)) second.holds ready.defaults
+      (then (leaf c) _ _ _ _ _ _ first.leads (then (leaf c) _ _ _ _ _ _ between_them second.leads)) second.holds (cleanly c ready)
       (ready.checked (final_rows c vs (s ∷ ss)) (all_there c ready vs (s ∷ ss) plain))
 
 -- plain words of a command

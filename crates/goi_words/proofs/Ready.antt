@@ -3,9 +3,10 @@ use Rattle.std.proofs.Common.{map, ◌≡◌, ◌≤◌, true, false, List, [], 
 use Rattle.std.specs.Prelude.{⊤}
 use Rattle.std.specs.List.{AllByRecursion, find}
 use Rattle.std.specs.Str.{bytes_eq}
-use Rattle.clap.specs.Walk.{Row, Text}
+use Rattle.clap.specs.Walk.{Row, Rule, Text}
 use Rattle.clap.specs.Simple.{Shape, built, built_leaf, inherited, marked_built, with_leaf_noted}
-use Rattle.clap.specs.Faults.{check_fault}
+use Rattle.clap.specs.Faults.{check_fault, given_default_fault}
+use Rattle.clap.specs.Kinds.{Kinds}
 use Rattle.clap.specs.Takes.{is_given as is_row_given}
 use Rattle.goi_words.specs.Findings.{Findings}
 use Rattle.goi_words.specs.Commands.{Choice, CommandRow, Operand, a_number, a_text, goi_command, numbered, operand_name}
@@ -14,7 +15,7 @@ use Rattle.goi_words.specs.Asked.{findings, job_on}
 use Rattle.goi_jobs.specs.Jobs.{IsWithinLimits, JobTree}
 use Rattle.goi_words.proofs.Operands.{ArePlaced}
 use Rattle.goi_words.proofs.Rows.{HasCleanDefaults, default_row}
-use Rattle.goi_words.proofs.Settings.{IsKnown, all_known, facts, wanted}
+use Rattle.goi_words.proofs.Settings.{IsKnown, all_known, each_equal, facts, wanted}
 use Rattle.goi_words.proofs.Tops.{Enters}
 
 -- a command as the parse sees it
@@ -55,6 +56,14 @@ abbrev pub IsOwn : Shape → List Operand → Operand → Type 0
 IsOwn sh operands o =
     (find (λ p. bytes_eq (operand_name p) (operand_name o)) operands ≡ Some o) × (default_row (operand_name o) sh.rules ≡ None)
 
+-- the fault of an argument's default, and none
+abbrev pub default_fault : Rule → Kinds
+default_fault a = given_default_fault a a.defaults
+
+abbrev pub no_fault : Rule → Kinds
+no_fault a = []
+
+-- all of it
 pub record IsReady (c : CommandRow) : Type 0 where
   -- its name enters it, and leads to its job
   pub enters : Enters (built goi_command) c.name (leaf c)
@@ -63,7 +72,7 @@ pub record IsReady (c : CommandRow) : Type 0 where
   pub placed : ArePlaced (leaf c) 1 c.operands
   pub own : AllByRecursion (IsOwn (leaf c) c.operands) c.operands
   pub known : map (facts (leaf c) c.operands c.choices) c.choices ≡ map wanted c.choices
-  pub defaults : HasCleanDefaults (leaf c).rules
+  pub defaults : map default_fault (leaf c).rules ≡ map no_fault (leaf c).rules
   -- its last check asks for the operands that have to be there, and for nothing else
   pub checked : (rows : List Row) → AllByRecursion (IsThere rows) c.operands → check_fault (leaf c) rows false ≡ []
   pub asks : (rows : List Row) → check_fault (leaf c) rows false ≡ [] → AllByRecursion (IsThere rows) c.operands
@@ -74,3 +83,7 @@ pub record IsReady (c : CommandRow) : Type 0 where
 -- a command that is ready knows its options
 pub knows : (c : CommandRow) → IsReady c → AllByRecursion (IsKnown (leaf c) c.operands c.choices) c.choices
 knows c ready = all_known (leaf c) c.operands c.choices c.choices ready.known
+
+-- and its defaults have no fault
+pub cleanly : (c : CommandRow) → IsReady c → HasCleanDefaults (leaf c).rules
+cleanly c ready = each_equal default_fault no_fault (leaf c).rules ready.defaults

@@ -136,6 +136,11 @@ heads x y xs ys e = cc
 tails : {X : Type 0} (x y : X) (xs ys : List X) → x ∷ xs ≡ y ∷ ys → xs ≡ ys
 tails x y xs ys e = cc
 
+-- two functions that are the same along a list
+pub each_equal : {X Y : Type 0} (f g : X → Y) (xs : List X) → map f xs ≡ map g xs → AllByRecursion (λ x. f x ≡ g x) xs
+each_equal f g [] e = tt
+each_equal f g (x ∷ xs) e = (heads _ _ _ _ e, each_equal f g xs (tails _ _ _ _ e))
+
 -- all options
 pub all_known : (sh : Shape) (os : List Operand) (known cs : List Choice) → map (facts sh os known) cs ≡ map wanted cs
     → AllByRecursion (IsKnown sh os known) cs

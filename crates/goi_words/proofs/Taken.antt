@@ -30,7 +30,7 @@ use Rattle.goi_words.specs.Asked.{findings, job_on, number_in, number_of, number
 use Rattle.goi_words.proofs.Found.{AreSound, AreTame, IsSound, IsTame, none_else, settled_sound, values_sound, walk_sound}
 use Rattle.goi_words.proofs.Numbers.{reads_itself}
 use Rattle.goi_words.proofs.Operands.{ArePlaced, rule_at}
-use Rattle.goi_words.proofs.Ready.{HasJob, IsFoundAt, IsFoundFor, IsReady, IsThere, knows, leaf}
+use Rattle.goi_words.proofs.Ready.{HasJob, IsFoundAt, IsFoundFor, IsReady, IsThere, cleanly, knows, leaf}
 use Rattle.goi_words.proofs.Settings.{IsKnown}
 use Rattle.goi_words.proofs.Wide.{passed_numbers}
 use Rattle.goi_words.proofs.Rows.{HasCleanDefaults, Replaces, default_row, row_after, row_at}
@@ -341,7 +341,7 @@ taken_has_job c ready words clean =
     let sh = leaf c in
     let rows = rows_after (leaf c).rules [] words in
     let tame = all_tame (leaf c) c.operands c.choices 1 c.operands c.choices ready.placed (knows c ready) in
-    let found = level_found (leaf c) tame ready.defaults words clean in
+    let found = level_found (leaf c) tame (cleanly c ready) words clean in
     let operands = operands_found (leaf c) c.operands c.choices rows found.sound 1 c.operands ready.placed
     (ready.asks rows found.checked) in
     let choices = choices_found (leaf c) c.operands c.choices words found.sound c.choices (knows c ready) in
