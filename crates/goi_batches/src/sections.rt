@@ -7,7 +7,7 @@ ghost use Rattle.goi_reports.specs.Booked.{BookedWithin};
 ghost use Rattle.goi_batches.specs.Sections.{sections_from, statuses_of, job_line, some_is, batch_status};
 ghost use Rattle.goi_batches.specs.Telling.{end_section, first_section, rest_of, told_by, FitFirst, Fit, FirstFits, EachFits};
 
-use goi_reports::run_report;
+use goi_reports::{Parts, run_report};
 use goi_tasks::status_of;
 use std::alloc::{AllocError, Global};
 use token_pool::Ended;
@@ -85,7 +85,16 @@ fn push_end(
     ensures statuses { OnOk result (statuses.new.items ≡ statuses.old.items ++ (end_section workers end.now).status ∷ []) }
     ensures fits { OnOk result (AnswerFits end.now.answer) }
 {
-    let report = run_report(alloc, end.answer, &end.log, workers, false, false)?;
+    let report = run_report(
+        alloc,
+        end.answer,
+        &end.log,
+        workers,
+        Parts {
+            schedule: false,
+            tally: false,
+        },
+    )?;
     push_section(text, statuses, &report, status_of(end.answer))
 }
 

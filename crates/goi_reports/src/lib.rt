@@ -16,5 +16,5 @@ mod span;
 pub use brief::{demo_report, replay_report};
 pub use check::check_report;
 pub use laws::{law_plain_run, law_rows, law_tally_adds_up};
-pub use run::run_report;
+pub use run::{Parts, run_report};
 pub use span::{PROFILE_ROUNDS, span_report};

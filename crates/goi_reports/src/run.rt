@@ -15,8 +15,16 @@ use pcf_values::Val;
 use schedule_log::{Log, print_schedule};
 use std::alloc::{AllocError, Global};
 
-/// The report of a run by so many workers: its answer, if it came to one, how many moves its log has, with `schedule` the text of the
-/// log, and with `tally` how many of the moves each worker booked, and the finisher behind them.
+/// What stands in the report of a run behind its answer and its moves.
+#[derive(Clone, Copy)]
+pub struct Parts {
+    /// The schedule: the text of the run's log.
+    pub schedule: bool,
+    /// How many of the moves each worker booked, and the finisher behind them.
+    pub tally: bool,
+}
+
+/// The report of a run by so many workers: its answer, if it came to one, how many moves its log has, and these parts behind them.
 ///
 /// # Errors
 ///
@@ -26,19 +34,18 @@ pub fn run_report(
     answer: Option<Val>,
     log: &Log,
     workers: u32,
-    schedule: bool,
-    tally: bool,
+    parts: Parts,
 ) -> Result<Vec<u8>, AllocError>
     requires workers { (1 ≤ workers) × (workers ≤ most_workers) }
     requires booked { BookedWithin workers log.now.entries }
-    ensures report { IfOk result (λ v. v.items ≡ run_report answer log.now.entries workers schedule tally) }
+    ensures report { IfOk result (λ v. v.items ≡ run_report answer log.now.entries workers parts.schedule parts.tally) }
 
     // So the text has the form of such a report.
-    ensures form { IfOk result (λ v. IsRunReport answer (length log.now.entries) workers schedule tally v.items) }
+    ensures form { IfOk result (λ v. IsRunReport answer (length log.now.entries) workers parts.schedule parts.tally v.items) }
 {
     let mut report = Vec::new(alloc);
     push_result(&mut report, answer, log.len())?;
-    push_asked(alloc, &mut report, log, workers, schedule, tally)?;
+    push_asked(alloc, &mut report, log, workers, parts)?;
     Ok(report)
 }
 
@@ -48,17 +55,16 @@ fn push_asked(
     report: &mut Vec<u8>,
     log: &Log,
     workers: u32,
-    schedule: bool,
-    tally: bool,
+    parts: Parts,
 ) -> Result<(), AllocError>
     requires few { workers ≤ most_workers }
     requires booked { BookedWithin workers log.now.entries }
-    ensures { OnOk result (report.new.items ≡ report.old.items ++ asked_lines log.now.entries workers schedule tally) }
+    ensures { OnOk result (report.new.items ≡ report.old.items ++ asked_lines log.now.entries workers parts.schedule parts.tally) }
 {
-    if schedule {
+    if parts.schedule {
         push_schedule(alloc, report, log)?;
     }
-    if tally {
+    if parts.tally {
         push_tally(alloc, report, log, workers)?;
     }
     Ok(())

@@ -21,7 +21,7 @@ use crate::notes::progress_lines;
 use crate::report::{Report, plain};
 use crate::shown::Shown;
 use goi_jobs::Window;
-use goi_reports::run_report;
+use goi_reports::{Parts, run_report};
 use net_build::Net;
 use pcf_values::Val;
 use program_runs::Crew;
@@ -74,8 +74,10 @@ fn report_ended(
         ended.answer,
         &ended.log,
         workers,
-        shown.schedule,
-        shown.tally,
+        Parts {
+            schedule: shown.schedule,
+            tally: shown.tally,
+        },
     )?;
     Ok(Report {
         text,
@@ -131,7 +133,16 @@ fn told_walk(
     ensures { IfOk result (λ v. v.items ≡ run_report answer log.now.entries workers false false ++
         trace_text net.now log.now.entries window.from window.most) }
 {
-    let mut text = run_report(alloc, answer, log, workers, false, false)?;
+    let mut text = run_report(
+        alloc,
+        answer,
+        log,
+        workers,
+        Parts {
+            schedule: false,
+            tally: false,
+        },
+    )?;
     push_trace(alloc, &mut text, net, log, window.from, window.most)?;
     Ok(text)
 }

@@ -18,7 +18,8 @@ use Rattle.clap.specs.Kinds.{or_else}
 use Rattle.goi_words.proofs.Levels.{Gives}
 use Rattle.goi_words.proofs.Tops.{Enters, fault_below, rows_below}
 use Rattle.goi_words.specs.Commands.{goi_command}
-use Rattle.goi_words.specs.Asked.{is_faultless, job, job_on, ◌>>=◌}
+use Rattle.goi_words.specs.Findings.{◌>>=◌}
+use Rattle.goi_words.specs.Asked.{is_faultless, job, job_on}
 use Rattle.goi_jobs.specs.Jobs.{JobTree}
 use Rattle.goi_words.specs.declared.faults.WordFault.{WordFault}
 

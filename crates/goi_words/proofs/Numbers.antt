@@ -11,7 +11,8 @@ use Rattle.std.specs.Str.Parse.{AllDigits, IsNumeral, ParsesBool, ParsesUnsigned
 use Rattle.std.proofs.lemmas.Slice.Eq.{bytes_eq-Decides}
 use Rattle.clap.specs.Words.{ReadsOne, Text}
 use Rattle.clap.specs.ValueTests.{is_numeral}
-use Rattle.goi_words.specs.Asked.{number_in, ◌>>=◌}
+use Rattle.goi_words.specs.Findings.{◌>>=◌}
+use Rattle.goi_words.specs.Asked.{number_in}
 
 -- both sides of a conjunction
 both : (a b : Bool) → (a && b) ≡ true → (a ≡ true) × (b ≡ true)

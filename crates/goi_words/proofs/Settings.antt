@@ -1,62 +1,191 @@
 -- How options are read, in any order.
-use Rattle.std.proofs.Common.{◌≡◌, ◌∙◌, ◌∷◌, ◌++◌, ◌<◌, ◌≤◌, ◌^◌, ◌||◌, ap, refl, sym, subst, cond, map, append-nil, append_assoc, ℕ, Bool}
-use Rattle.std.proofs.Common.{true, false, List, [], Option, Some, codes, arith}
+use Rattle.std.proofs.Common.{◌≡◌, ◌∙◌, ◌∷◌, ◌++◌, ◌<◌, ◌≤◌, ◌^◌, ap, refl, sym, subst, cond, map, append-nil, append_assoc, not, ℕ, Bool}
+use Rattle.std.proofs.Common.{true, false, List, [], Option, Some, None, is_some, codes, nat_lt, arith}
 use Rattle.std.specs.Prelude.{option_and_then}
-use Rattle.std.specs.List.{AllByRecursion, flat_map}
-use Rattle.std.specs.Option.{option_map_or, option_or}
+use Rattle.std.specs.List.{AllByRecursion, find, flat_map, list_all}
+use Rattle.std.specs.Option.{option_map_or}
 use Rattle.std.specs.Fmt.{decimal}
 use Rattle.std.specs.Str.{bytes_eq}
+use Rattle.std.proofs.lemmas.Bool.{ltb-true}
+use Rattle.std.proofs.lemmas.Slice.Eq.{bytes_eq-Decides}
+use Rattle.clap.specs.Lexer.{long_of}
 use Rattle.clap.specs.Walk.{Held, Row, Rule, Text, arg_by_id, arg_by_long, has_row, row_text}
 use Rattle.clap.specs.Simple.{Shape, filled}
-use Rattle.pcf_values.specs.Most.{most_workers, most_budget, most_moves}
-use Rattle.goi_words.specs.Defaults.{default_budget, default_forks, default_from, default_stack, default_workers}
-use Rattle.goi_jobs.specs.Limits.{most_traced, most_told}
-use Rattle.goi_jobs.specs.Limits.{least_stack, most_stack, most_forks}
-use Rattle.goi_words.specs.Commands.{budget_option, flag, forks_option, from_option}
-use Rattle.goi_words.specs.Commands.{most_option, number_option, stack_option, told_option, workers_option}
-use Rattle.goi_words.specs.Asked.{number_in, ◌>>=◌}
-use Rattle.goi_words.specs.Plain.{AreDistinct, IsInRange, Setting, budget, budget_in, is_given, is_same_option, option_name, option_value}
-use Rattle.goi_words.specs.Plain.{by_value, profile, progress, schedule, setting_words, tally, term, traced, workers, workers_in}
-use Rattle.goi_words.specs.Plain.{forks, forks_in, from, from_in, most, most_in, stack, stack_in, told}
-use Rattle.goi_words.proofs.Decimals.{decimal_kept, decimal_number, decimal_passes, decimal_value}
-use Rattle.goi_words.proofs.Rows.{absent_more, given, row_at, used_first}
+use Rattle.goi_words.specs.Commands.{Choice, Operand, choice_name, choice_rule, flag, number_option, numbered, operand_name, switch}
+use Rattle.goi_words.specs.Findings.{◌>>=◌}
+use Rattle.goi_words.specs.Asked.{number_in}
+use Rattle.goi_words.specs.Plain.{AreDistinct, IsOption, Setting, Takes, option_words, setting_words}
+use Rattle.goi_words.proofs.Decimals.{decimal_passes, decimal_value}
+use Rattle.goi_words.proofs.Found.{found_in}
+use Rattle.goi_words.proofs.Rows.{absent_more, default_row, given, used_first}
 use Rattle.goi_words.proofs.Walks.{Holds, Names, Reads, flag_read, option_read, then}
 
--- the argument of an option, and what a use of it leaves
-abbrev pub rule_for : Setting → Rule
-rule_for (workers n) = filled workers_option
-rule_for (budget n) = filled budget_option
-rule_for schedule = filled (flag (codes "schedule"))
-rule_for tally = filled (flag (codes "tally"))
-rule_for term = filled (flag (codes "term"))
-rule_for by_value = filled (flag (codes "by-value"))
-rule_for progress = filled (flag (codes "progress"))
-rule_for traced = filled (flag (codes "trace"))
-rule_for (from n) = filled from_option
-rule_for (most n) = filled most_option
-rule_for (stack n) = filled stack_option
-rule_for (forks n) = filled forks_option
-rule_for profile = filled (flag (codes "profile"))
-rule_for (told n) = filled told_option
+-- ---- what a command shows of its options
 
--- the row of an option
-abbrev pub row_for : Setting → Row
-row_for s = given (rule_for s) (option_value s)
+-- the number and the flag that a row holds
+abbrev pub number_at : Option Row → Option ℕ
+number_at row = option_and_then row_text row >>= number_in
 
--- an argument is called as its option
-named_so : (s : Setting) → (rule_for s).id ≡ option_name s
-named_so (workers n) = refl
-named_so _ = refl
+abbrev pub set_at : Option Row → Bool
+set_at row = option_map_or (λ text. bytes_eq text (codes "true")) (option_and_then row_text row) false
 
--- the command has the option
-abbrev pub Knows : Shape → Setting → Type 0
-Knows sh s = Names sh (codes "--" ++ option_name s) (rule_for s)
+-- the numbers of an option have 32 bits
+abbrev pub is_small : Choice → Bool
+is_small (switch name) = true
+is_small (numbered name least most default) = nat_lt most (2 ^ 32)
 
--- a command knows an option that it finds by both names
-pub known : (sh : Shape) (s : Setting) → arg_by_long sh.rules (option_name s) ≡ Some (rule_for s)
-    → arg_by_id sh.rules (option_name s) ≡ Some (rule_for s) → Knows sh s
-known sh (workers n) rule own = record { not_dashes = refl; name = codes "workers"; long = refl; rule = rule; own = own }
-known sh s rule own = record { not_dashes = refl; name = option_name s; long = refl; rule = rule; own = own }
+-- what is found of it where it isn't given
+abbrev pub IsDefault : Choice → Option Row → Type 0
+IsDefault (switch name) row = set_at row ≡ false
+IsDefault (numbered name least most default) row = (d : Row) × (row ≡ Some d) × (number_at (Some d) ≡ number_in default)
+
+-- the command knows the option: its words, both ways to find it, what comes first under its name, and its default
+abbrev pub IsKnown : Shape → List Operand → List Choice → Choice → Type 0
+IsKnown sh operands choices ch =
+    (bytes_eq (codes "--" ++ choice_name ch) (45 ∷ 45 ∷ []) ≡ false)
+    × (long_of (codes "--" ++ choice_name ch) ≡ Some (choice_name ch, None))
+    × (arg_by_long sh.rules (choice_name ch) ≡ Some (filled (choice_rule ch)))
+    × (arg_by_id sh.rules (choice_name ch) ≡ Some (filled (choice_rule ch)))
+    × (find (λ c. bytes_eq (choice_name c) (choice_name ch)) choices ≡ Some ch)
+    × (list_all (λ o. not (bytes_eq (operand_name o) (choice_name ch))) operands ≡ true) × (is_small ch ≡ true)
+    × IsDefault ch (default_row (choice_name ch) sh.rules)
+
+-- all of this as one value, so that a command shows it of all its options by one equation
+pub record Facts : Type 0 where
+  pub dashes : Bool
+  pub long : Option (Text × Option Text)
+  pub by_long : Option Rule
+  pub by_id : Option Rule
+  pub listed : Option Choice
+  pub apart : Bool
+  pub small : Bool
+  pub has_default : Bool
+  pub number : Option ℕ
+  pub flag : Bool
+
+-- the number and the flag that an option is by default
+abbrev default_number : Choice → Option Row → Option ℕ
+default_number (switch name) row = None
+default_number (numbered name least most default) row = number_at row
+
+abbrev default_flag : Choice → Option Row → Bool
+default_flag (switch name) row = set_at row
+default_flag (numbered name least most default) row = false
+
+abbrev wanted_number : Choice → Option ℕ
+wanted_number (switch name) = None
+wanted_number (numbered name least most default) = number_in default
+
+-- what is so of an option, and what has to be
+abbrev pub facts : Shape → List Operand → List Choice → Choice → Facts
+facts sh operands choices ch = record {
+  dashes = bytes_eq (codes "--" ++ choice_name ch) (45 ∷ 45 ∷ []);
+  long = long_of (codes "--" ++ choice_name ch);
+  by_long = arg_by_long sh.rules (choice_name ch);
+  by_id = arg_by_id sh.rules (choice_name ch);
+  listed = find (λ c. bytes_eq (choice_name c) (choice_name ch)) choices;
+  apart = list_all (λ o. not (bytes_eq (operand_name o) (choice_name ch))) operands;
+  small = is_small ch;
+  has_default = is_some (default_row (choice_name ch) sh.rules);
+  number = default_number ch (default_row (choice_name ch) sh.rules);
+  flag = default_flag ch (default_row (choice_name ch) sh.rules);
+}
+
+abbrev pub wanted : Choice → Facts
+wanted ch = record {
+  dashes = false;
+  long = Some (choice_name ch, None);
+  by_long = Some (filled (choice_rule ch));
+  by_id = Some (filled (choice_rule ch));
+  listed = Some ch;
+  apart = true;
+  small = true;
+  has_default = true;
+  number = wanted_number ch;
+  flag = false;
+}
+
+-- a number that is there by default
+default_there : (o : Option Row) (default : Text) → is_some o ≡ true → number_at o ≡ number_in default
+    → (d : Row) × (o ≡ Some d) × (number_at (Some d) ≡ number_in default)
+default_there None default there is = cc
+default_there (Some d) default there is = (d, refl, is)
+
+-- one option
+known_by_facts : (sh : Shape) (os : List Operand) (cs : List Choice) (ch : Choice) → facts sh os cs ch ≡ wanted ch → IsKnown sh os cs ch
+known_by_facts sh os cs ch e = (
+  ap (λ (f : Facts). f.dashes) e,
+  ap (λ (f : Facts). f.long) e,
+  ap (λ (f : Facts). f.by_long) e,
+  ap (λ (f : Facts). f.by_id) e,
+  ap (λ (f : Facts). f.listed) e,
+  ap (λ (f : Facts). f.apart) e,
+  ap (λ (f : Facts). f.small) e,
+  go ch e,
+)
+  where
+    go : (ch : Choice) → facts sh os cs ch ≡ wanted ch → IsDefault ch (default_row (choice_name ch) sh.rules)
+    go (switch name) e = ap (λ (f : Facts). f.flag) e
+    go (numbered name least most default) e =
+        default_there (default_row name sh.rules) default (ap (λ (f : Facts). f.has_default) e) (ap (λ (f : Facts). f.number) e)
+
+-- the first of two lists that are the same, and the others
+heads : {X : Type 0} (x y : X) (xs ys : List X) → x ∷ xs ≡ y ∷ ys → x ≡ y
+heads x y xs ys e = cc
+
+tails : {X : Type 0} (x y : X) (xs ys : List X) → x ∷ xs ≡ y ∷ ys → xs ≡ ys
+tails x y xs ys e = cc
+
+-- two functions that are the same along a list
+pub each_equal : {X Y : Type 0} (f g : X → Y) (xs : List X) → map f xs ≡ map g xs → AllByRecursion (λ x. f x ≡ g x) xs
+each_equal f g [] e = tt
+each_equal f g (x ∷ xs) e = (heads _ _ _ _ e, each_equal f g xs (tails _ _ _ _ e))
+
+-- all options
+pub all_known : (sh : Shape) (os : List Operand) (known cs : List Choice) → map (facts sh os known) cs ≡ map wanted cs
+    → AllByRecursion (IsKnown sh os known) cs
+all_known sh os known [] e = tt
+all_known sh os known (ch ∷ cs) e =
+    (known_by_facts sh os known ch (heads _ _ _ _ e), all_known sh os known cs (tails _ _ _ _ e))
+
+-- the word of the option names its argument
+pub named : (sh : Shape) (os : List Operand) (cs : List Choice) (ch : Choice) → IsKnown sh os cs ch
+    → Names sh (codes "--" ++ choice_name ch) (filled (choice_rule ch))
+named sh os cs (switch name) k = record { not_dashes = k.0; name = name; long = k.1; rule = k.2; own = k.3 }
+named sh os cs (numbered name least most default) k = record { not_dashes = k.0; name = name; long = k.1; rule = k.2; own = k.3 }
+
+-- ---- the option of a setting
+
+-- what is found passes the test
+pub found_passes : {X : Type 0} (test : X → Bool) (xs : List X) (x : X) → find test xs ≡ Some x → test x ≡ true
+found_passes test [] x e = cc
+found_passes test (y ∷ ys) x e = go (test y) refl e (found_passes test ys x)
+  where
+    go : (b : Bool) → test y ≡ b → cond b (Some y) (find test ys) ≡ Some x → (find test ys ≡ Some x → test x ≡ true) → test x ≡ true
+    go true is e rest = let same : y ≡ x = cc in subst (λ z. test z ≡ true) same is
+    go false is e rest = rest e
+
+-- the option of a setting has its name
+pub choice_named : (cs : List Choice) (s : Setting) (o : IsOption cs s) → choice_name o.choice ≡ s.name
+choice_named cs s o =
+    (bytes_eq-Decides (choice_name o.choice) s.name).0 (found_passes (λ c. bytes_eq (choice_name c) s.name) cs o.choice o.listed)
+
+-- the row that an option leaves
+abbrev pub value_row : Text → Option ℕ → Row
+value_row name None = given (filled (flag name)) []
+value_row name (Some n) = given (filled (number_option name 0 0 [])) (decimal n ∷ [])
+
+abbrev pub set_row : Setting → Row
+set_row s = value_row s.name s.value
+
+-- it is called as the option
+pub row_named : (name : Text) (value : Option ℕ) → (value_row name value).id ≡ name
+row_named name None = refl
+row_named name (Some n) = refl
+
+-- the words of an option by its name
+abbrev words_of : Text → Option ℕ → List Text
+words_of name value = (codes "--" ++ name) ∷ option_words value
 
 -- ---- one option
 
@@ -79,172 +208,56 @@ module _ (sh : Shape) (once : sh.args_override_self ≡ false) (h : Held) (rows 
       subst (Reads sh h p p ((codes "--" ++ name) ∷ rest) rest) (used_first (filled (flag name)) [] rows (λ _. refl) absent)
       (flag_read sh (filled (flag name)) (codes "--" ++ name) h rows p rest holds names refl (rw (once, absent) refl))
 
-  one_setting : (s : Setting) → Knows sh s → IsInRange s → has_row (option_name s) rows ≡ false
-      → Reads sh h p p (setting_words s ++ rest) rest (rows ++ row_for s ∷ [])
-  one_setting (workers n) knows range absent =
-      number_read (codes "workers") 1 most_workers n (codes "1") knows range.0 range.1 (omega (arith, range.1)) absent
-  one_setting (budget n) knows range absent =
-      number_read (codes "budget") 1 most_budget n (codes "10000") knows range.0 range.1 (omega (arith, range.1)) absent
-  one_setting schedule knows range absent = switch_read (codes "schedule") knows absent
-  one_setting tally knows range absent = switch_read (codes "tally") knows absent
-  one_setting term knows range absent = switch_read (codes "term") knows absent
-  one_setting by_value knows range absent = switch_read (codes "by-value") knows absent
-  one_setting progress knows range absent = switch_read (codes "progress") knows absent
-  one_setting traced knows range absent = switch_read (codes "trace") knows absent
-  one_setting (from n) knows range absent =
-      number_read (codes "from") 0 most_moves n (codes "0") knows (omega arith) range (omega (arith, range)) absent
-  one_setting (most n) knows range absent =
-      number_read (codes "most") 1 most_traced n (codes "100000") knows range.0 range.1 (omega (arith, range.1)) absent
-  one_setting (stack n) knows range absent =
-      number_read (codes "stack") least_stack most_stack n (codes "128") knows range.0 range.1 (omega (arith, range.1)) absent
-  one_setting (forks n) knows range absent =
-      number_read (codes "forks") 1 most_forks n (codes "64") knows range.0 range.1 (omega (arith, range.1)) absent
-  one_setting profile knows range absent = switch_read (codes "profile") knows absent
-  one_setting (told n) knows range absent =
-      number_read (codes "most") 1 most_told n (codes "1000") knows range.0 range.1 (omega (arith, range.1)) absent
+  one_choice : (ch : Choice) (value : Option ℕ) → Names sh (codes "--" ++ choice_name ch) (filled (choice_rule ch)) → is_small ch ≡ true
+      → Takes ch value → has_row (choice_name ch) rows ≡ false
+      → Reads sh h p p (words_of (choice_name ch) value ++ rest) rest (rows ++ value_row (choice_name ch) value ∷ [])
+  one_choice (switch name) None names small fits absent = switch_read name names absent
+  one_choice (switch name) (Some n) names small fits absent = absurd fits
+  one_choice (numbered name least most default) None names small fits absent = absurd fits
+  one_choice (numbered name least most default) (Some n) names small fits absent =
+      let high = ltb-true most (2 ^ 32) small in
+      number_read name least most n default names fits.0 fits.1 (omega (arith, fits.1, high)) absent
+
+  one_setting : (os : List Operand) (cs : List Choice) (s : Setting) (o : IsOption cs s) → IsKnown sh os cs o.choice
+      → has_row s.name rows ≡ false → Reads sh h p p (setting_words s ++ rest) rest (rows ++ set_row s ∷ [])
+  one_setting os cs s o k absent =
+      let same = choice_named cs s o in
+      subst (λ name. Reads sh h p p (words_of name s.value ++ rest) rest (rows ++ value_row name s.value ∷ [])) same
+      (one_choice o.choice s.value (named sh os cs o.choice k) k.6 o.fits (ap (λ name. has_row name rows) same ∙ absent))
 
 -- ---- any number of options, in any order
 
 -- an option that isn't given yet, after one of another name
-absent_others : (s : Setting) (rows : List Row) (ss : List Setting) → AllByRecursion (λ t. is_same_option s t ≡ false) ss
-    → AllByRecursion (λ t. has_row (option_name t) rows ≡ false) ss
-    → AllByRecursion (λ t. has_row (option_name t) (rows ++ row_for s ∷ []) ≡ false) ss
+absent_others : (s : Setting) (rows : List Row) (ss : List Setting) → AllByRecursion (λ t. bytes_eq s.name t.name ≡ false) ss
+    → AllByRecursion (λ t. has_row t.name rows ≡ false) ss
+    → AllByRecursion (λ t. has_row t.name (rows ++ set_row s ∷ []) ≡ false) ss
 absent_others s rows [] differ absent = tt
 absent_others s rows (t ∷ ss) differ absent =
-    let named : bytes_eq (row_for s).id (option_name t) ≡ false = ap (λ name. bytes_eq name (option_name t)) (named_so s) ∙ differ.0 in
-    (absent_more (option_name t) rows (row_for s) absent.0 named, absent_others s rows ss differ.1 absent.1)
+    let called : bytes_eq (set_row s).id t.name ≡ false = ap (λ name. bytes_eq name t.name) (row_named s.name s.value) ∙ differ.0 in
+    (absent_more t.name rows (set_row s) absent.0 called, absent_others s rows ss differ.1 absent.1)
+
+-- a command that knows all its options knows that of a setting
+pub known_in : (sh : Shape) (os : List Operand) (cs : List Choice) → AllByRecursion (IsKnown sh os cs) cs → (s : Setting)
+    (o : IsOption cs s) → IsKnown sh os cs o.choice
+known_in sh os cs known s o = found_in (IsKnown sh os cs) (λ c. bytes_eq (choice_name c) s.name) cs o.choice known o.listed
 
 -- any number of options is read
-pub settings_read : (sh : Shape) → sh.args_override_self ≡ false → (ss : List Setting) (h : Held) (rows : List Row) (p : ℕ)
-    → AllByRecursion (Knows sh) ss → AllByRecursion IsInRange ss → AreDistinct ss
-    → AllByRecursion (λ s. has_row (option_name s) rows ≡ false) ss
-    → Holds sh h rows → Reads sh h p p (flat_map setting_words ss) [] (rows ++ map row_for ss)
-settings_read sh once [] h rows p knows ranges distinct absent holds = record {
+pub settings_read : (sh : Shape) → sh.args_override_self ≡ false → (os : List Operand) (cs : List Choice)
+    → AllByRecursion (IsKnown sh os cs) cs → (ss : List Setting) (h : Held) (rows : List Row) (p : ℕ)
+    → AllByRecursion (IsOption cs) ss → AreDistinct ss → AllByRecursion (λ s. has_row s.name rows ≡ false) ss → Holds sh h rows
+    → Reads sh h p p (flat_map setting_words ss) [] (rows ++ map set_row ss)
+settings_read sh once os cs known [] h rows p options distinct absent holds = record {
   held = h;
   leads = record { walk = refl; fault = refl };
   holds = record { there = holds.there ∙ sym (append-nil rows); clean = holds.clean };
 }
-settings_read sh once (s ∷ ss) h rows p knows ranges distinct absent holds =
-    let first = one_setting sh once h rows p (flat_map setting_words ss) holds s knows.0 ranges.0 absent.0 in
-    let second = settings_read sh once ss first.held (rows ++ row_for s ∷ []) p knows.1 ranges.1 distinct.1
+settings_read sh once os cs known (s ∷ ss) h rows p options distinct absent holds =
+    let first = one_setting sh once h rows p (flat_map setting_words ss) holds os cs s options.0 (known_in sh os cs known s options.0)
+    absent.0 in
+    let second = settings_read sh once os cs known ss first.held (rows ++ set_row s ∷ []) p options.1 distinct.1
     (absent_others s rows ss distinct.0 absent.1) first.holds in
     record {
       held = second.held;
       leads = then sh _ _ _ _ _ _ first.leads second.leads;
-      holds = record { there = second.holds.there ∙ append_assoc rows (row_for s ∷ []) (map row_for ss); clean = second.holds.clean };
+      holds = record { there = second.holds.there ∙ append_assoc rows (set_row s ∷ []) (map set_row ss); clean = second.holds.clean };
     }
-
--- ---- what is read of the options
-
--- the number and the flag that a row holds
-abbrev pub number_at : Option Row → Option ℕ
-number_at row = option_and_then row_text row >>= number_in
-
--- the flag of a row
-abbrev pub set_at : Option Row → Bool
-set_at row = option_map_or (λ text. bytes_eq text (codes "true")) (option_and_then row_text row) false
-
--- the number of an option that is given
-number_there : (n : ℕ) (name : Text) (least greatest : ℕ) (default : Text) → n < 2 ^ 32
-    → number_at (Some (given (filled (number_option name least greatest default)) (decimal n ∷ []))) ≡ Some n
-number_there n name least greatest default small = rw (decimal_kept n small, decimal_number n small) refl
-
--- the number of workers that is found
-pub workers_there : (ss : List Setting) (default : Option Row) → AllByRecursion IsInRange ss → number_at default ≡ Some default_workers
-    → number_at (option_or (row_at (codes "workers") (map row_for ss)) default) ≡ Some (workers_in ss)
-workers_there [] default ranges is = is
-workers_there (workers n ∷ ss) default ranges is = number_there n (codes "workers") 1 most_workers (codes "1") (omega (arith, ranges.0.1))
-workers_there (s ∷ ss) default ranges is = workers_there ss default ranges.1 is
-
--- the budget that is found
-pub budget_there : (ss : List Setting) (default : Option Row) → AllByRecursion IsInRange ss → number_at default ≡ Some default_budget
-    → number_at (option_or (row_at (codes "budget") (map row_for ss)) default) ≡ Some (budget_in ss)
-budget_there [] default ranges is = is
-budget_there (budget n ∷ ss) default ranges is = number_there n (codes "budget") 1 most_budget (codes "10000") (omega (arith, ranges.0.1))
-budget_there (s ∷ ss) default ranges is = budget_there ss default ranges.1 is
-
--- the first entry of a trace that is found
-pub from_there : (ss : List Setting) (default : Option Row) → AllByRecursion IsInRange ss → number_at default ≡ Some default_from
-    → number_at (option_or (row_at (codes "from") (map row_for ss)) default) ≡ Some (from_in ss)
-from_there [] default ranges is = is
-from_there (from n ∷ ss) default ranges is = number_there n (codes "from") 0 most_moves (codes "0") (omega (arith, ranges.0))
-from_there (s ∷ ss) default ranges is = from_there ss default ranges.1 is
-
--- the most moves of a trace, or steps that are told, that are found
-pub most_there : (ss : List Setting) (d : ℕ) (default : Option Row) → AllByRecursion IsInRange ss → number_at default ≡ Some d
-    → number_at (option_or (row_at (codes "most") (map row_for ss)) default) ≡ Some (most_in d ss)
-most_there [] d default ranges is = is
-most_there (most n ∷ ss) d default ranges is = number_there n (codes "most") 1 most_traced (codes "100000") (omega (arith, ranges.0.1))
-most_there (told n ∷ ss) d default ranges is = number_there n (codes "most") 1 most_told (codes "1000") (omega (arith, ranges.0.1))
-most_there (s ∷ ss) d default ranges is = most_there ss d default ranges.1 is
-
--- the bits of a circuit's stacks that are found
-pub stack_there : (ss : List Setting) (default : Option Row) → AllByRecursion IsInRange ss → number_at default ≡ Some default_stack
-    → number_at (option_or (row_at (codes "stack") (map row_for ss)) default) ≡ Some (stack_in ss)
-stack_there [] default ranges is = is
-stack_there (stack n ∷ ss) default ranges is =
-    number_there n (codes "stack") least_stack most_stack (codes "128") (omega (arith, ranges.0.0, ranges.0.1))
-stack_there (s ∷ ss) default ranges is = stack_there ss default ranges.1 is
-
--- the forks of a circuit that are found
-pub forks_there : (ss : List Setting) (default : Option Row) → AllByRecursion IsInRange ss → number_at default ≡ Some default_forks
-    → number_at (option_or (row_at (codes "forks") (map row_for ss)) default) ≡ Some (forks_in ss)
-forks_there [] default ranges is = is
-forks_there (forks n ∷ ss) default ranges is = number_there n (codes "forks") 1 most_forks (codes "64") (omega (arith, ranges.0.1))
-forks_there (s ∷ ss) default ranges is = forks_there ss default ranges.1 is
-
--- a flag: each option of its name sets it
-abbrev pub IsFlag : Setting → Type 0
-IsFlag option = (s : Setting) → is_same_option s option ≡ true → set_at (Some (row_for s)) ≡ true
-
--- whether a flag is found
-pub set_there : (option : Setting) → IsFlag option → (ss : List Setting) (default : Option Row) → set_at default ≡ false
-    → set_at (option_or (row_at (option_name option) (map row_for ss)) default) ≡ is_given option ss
-set_there option is_flag [] default is = is
-set_there option is_flag (s ∷ ss) default is =
-    ap (λ name. set_at
-    (option_or (cond (bytes_eq name (option_name option)) (Some (row_for s)) (row_at (option_name option) (map row_for ss))) default))
-    (named_so s)
-    ∙ go (is_same_option s option) refl (set_there option is_flag ss default is)
-  where
-    go : (b : Bool) → is_same_option s option ≡ b
-        → set_at (option_or (row_at (option_name option) (map row_for ss)) default) ≡ is_given option ss
-        → set_at (option_or (cond (is_same_option s option) (Some (row_for s)) (row_at (option_name option) (map row_for ss))) default)
-        ≡ (is_same_option s option || is_given option ss)
-    go true same rest = rw same (is_flag s same)
-    go false same rest = rw same rest
-
--- the flags
-pub schedule_is_flag : IsFlag schedule
-schedule_is_flag schedule same = refl
-schedule_is_flag _ same = cc
-
--- the second flag
-pub tally_is_flag : IsFlag tally
-tally_is_flag tally same = refl
-tally_is_flag _ same = cc
-
--- the third flag
-pub term_is_flag : IsFlag term
-term_is_flag term same = refl
-term_is_flag _ same = cc
-
--- the fourth flag
-pub by_value_is_flag : IsFlag by_value
-by_value_is_flag by_value same = refl
-by_value_is_flag _ same = cc
-
--- the fifth flag
-pub progress_is_flag : IsFlag progress
-progress_is_flag progress same = refl
-progress_is_flag _ same = cc
-
--- the sixth flag
-pub traced_is_flag : IsFlag traced
-traced_is_flag traced same = refl
-traced_is_flag _ same = cc
-
--- the seventh flag
-pub profile_is_flag : IsFlag profile
-profile_is_flag profile same = refl
-profile_is_flag _ same = cc

@@ -1,19 +1,20 @@
 -- Words that `clap` takes ask for a job.
 use Rattle.std.proofs.Common.{◌≡◌, ◌∙◌, ◌∷◌, ◌<◌, ◌≤◌, ◌^◌, ap, cond, length, refl, subst, sym, ℕ, Bool, true, false, List, [], Option}
-use Rattle.std.proofs.Common.{Some, None, codes, not, ◌||◌}
+use Rattle.std.proofs.Common.{Some, None, codes, not, ◌||◌, ◌++◌, ◌+◌, map, min, option_map, unwrap_or}
+use Rattle.std.proofs.lemmas.Bool.{ltb-true}
 use Rattle.std.specs.List.{AllByRecursion, fold}
 use Rattle.std.specs.Option.{option_map_or, option_or}
 use Rattle.std.specs.Prelude.{pos, slice_get}
 use Rattle.std.specs.Str.{bytes_eq}
 use Rattle.std.specs.Str.Parse.{ParsesUnsigned}
 use Rattle.std.proofs.lemmas.Slice.Eq.{bytes_eq-Decides}
-use Rattle.clap.specs.Lexer.{without_minus}
+use Rattle.clap.specs.Lexer.{usize_max, without_minus}
 use Rattle.clap.specs.Facts.{explicit_source, parser_of_value}
 use Rattle.clap.specs.Takes.{is_given as is_row_given, value_passes}
 use Rattle.clap.specs.ValueTests.{accepts}
 use Rattle.clap.specs.Walk.{Row, Rule, Text, action_of, arg_by_id, default_rows, has_row, nothing_held, reading_by, rows_after, settled}
 use Rattle.clap.specs.Walk.{values_or_missing, walk, walk_from, with_default}
-use Rattle.clap.specs.Simple.{Shape, filled}
+use Rattle.clap.specs.Simple.{Shape, filled, filled_from, with_index}
 use Rattle.clap.specs.Faults.{check_fault, defaults_fault, given_default_fault, level_fault, repeat_fault, settle_fault, use_fault}
 use Rattle.clap.specs.Faults.{values_fault, walk_fault}
 use Rattle.clap.specs.Kinds.{or_else, range_kinds, request_kinds, value_kinds}
@@ -22,13 +23,16 @@ use Rattle.clap.specs.declared.builder.value_parser.ValueParser.TheVariants as p
 use Rattle.clap.specs.declared.parser.matches.ValueSource.TheVariants.{DefaultValue}
 use Rattle.clap.proofs.CallerReads.{signed_reads}
 use Rattle.clap.proofs.ValueTestLemmas.{accepts-Accepts}
-use Rattle.goi_words.specs.Commands.{flag, number_option}
+use Rattle.goi_words.specs.Commands.{Choice, CommandRow, Operand, a_number, a_text, choice_rule, flag, number_option, numbered, operand}
+use Rattle.goi_words.specs.Commands.{operand_rule, some_numbers, switch}
 use Rattle.clap.specs.declared.error.kind.ErrorKind.TheVariants as kind
-use Rattle.goi_words.specs.Asked.{job_on, number_in, number_of, text_of}
-use Rattle.goi_jobs.specs.Jobs.{IsWithinLimits, JobTree}
+use Rattle.goi_words.specs.Asked.{findings, job_on, number_in, number_of, numbers_of, text_of, wide_numbers_in}
 use Rattle.goi_words.proofs.Found.{AreSound, AreTame, IsSound, IsTame, none_else, settled_sound, values_sound, walk_sound}
 use Rattle.goi_words.proofs.Numbers.{reads_itself}
-use Rattle.goi_words.proofs.Requests.{operand_at}
+use Rattle.goi_words.proofs.Operands.{ArePlaced, rule_at}
+use Rattle.goi_words.proofs.Ready.{HasJob, IsFoundAt, IsFoundFor, IsReady, IsThere, cleanly, knows, leaf}
+use Rattle.goi_words.proofs.Settings.{IsKnown}
+use Rattle.goi_words.proofs.Wide.{passed_numbers}
 use Rattle.goi_words.proofs.Rows.{HasCleanDefaults, Replaces, default_row, row_after, row_at}
 
 -- ---- values that passed
@@ -47,6 +51,10 @@ all_passed a [] clean = tt
 all_passed a (v ∷ vs) clean =
     let parts = none_else (value_kinds a.ignore_case (parser_of_value a.parser) v) _ clean in
     (value_passed a v parts.0, all_passed a vs parts.1)
+
+-- an operand of any text, at its place
+abbrev operand_at : ℕ → Text → Rule
+operand_at i name = with_index i (filled (operand name))
 
 -- texts pass where any text does
 texts_pass : (i : ℕ) (name : Text) (vs : List Text) → AllByRecursion (λ v. value_passes (operand_at i name) v ≡ true) vs
@@ -220,16 +228,12 @@ number_found c id low high a rows small is parser_is case_is sound there =
     own : (x : Rule) → arg_by_id c id ≡ Some x → x ≡ a
     own x e = let both : Some x ≡ Some a = sym e ∙ is in cc
 
--- ---- what the proofs of the commands cite
-
--- a job within the limits, which is what is read of these rows
-abbrev pub HasJob : Option JobTree → Type 0
-HasJob o = (done : JobTree) × (o ≡ Some done) × IsWithinLimits done
-
--- a subcommand that takes its words has a job
-abbrev pub TakenHasJob : Shape → Type 0
-TakenHasJob s =
-    (words : List Text) → level_fault s [] nothing_held words false [] ≡ [] → HasJob (job_on s.name (rows_after s.rules [] words))
+-- an option with a number keeps its value
+pub option_tame : (c : List Rule) (name : Text) (least most : ℕ) (default : Text)
+    → arg_by_id c name ≡ Some (filled (number_option name least most default))
+    → IsTame c (filled (number_option name least most default))
+option_tame c name least most default own =
+    set_tame c (filled (number_option name least most default)) own (λ values rows. refl) (λ again values rows. refl)
 
 -- the last check asks for an operand, and for nothing more
 pub asked : (g more : Bool) → cond (not g || more) (kind.MissingRequiredArgument ∷ []) [] ≡ [] → (g ≡ true) × (more ≡ false)
@@ -237,26 +241,109 @@ asked true true e = cc
 asked true false e = (refl, refl)
 asked false more e = cc
 
--- an operand of any text, which the last check asks for
-pub operand_found : (s : Shape) (words : List Text) (name : Text) → IsFound s words
-    → ((rows : List Row) → check_fault s rows false ≡ [] → is_row_given name rows ≡ true)
-    → (t : Text) × (text_of name (rows_after s.rules [] words) ≡ Some t)
-operand_found s words name found asks =
-    let rows = rows_after s.rules [] words in
-    text_found s.rules name rows found.sound (required_row name rows (asks rows found.checked))
+-- ---- operands of any number of numbers
 
--- an option with a number, which has a default
-pub option_found : (s : Shape) (words : List Text) (name : Text) (least most : ℕ) (default : Text) (d : Row) → most < 2 ^ 32
-    → arg_by_id s.rules name ≡ Some (filled (number_option name least most default)) → default_row name s.rules ≡ Some d → IsFound s words
-    → (n : ℕ) × (number_of name (rows_after s.rules [] words) ≡ Some n) × (least ≤ n) × (n ≤ most)
-option_found s words name least most default d small own is found =
-    number_found s.rules name least most (filled (number_option name least most default))
-    (rows_after s.rules [] words) small own refl refl found.sound
-    (default_after s words name d is)
+-- the numbers keep their values
+numbers_tame : (c : List Rule) (i : ℕ) (name : Text) → arg_by_id c name ≡ Some (rule_at i (some_numbers name))
+    → IsTame c (rule_at i (some_numbers name))
+numbers_tame c i name own = record { own = own; replaces = λ values rows. refl; valued = valued }
+  where
+    valued : (again : Bool) (values : List Text) (rows : List Row) → use_fault again (rule_at i (some_numbers name)) values rows ≡ []
+        → (v : Text) × (vs : List Text) × (values_or_missing (rule_at i (some_numbers name)) values ≡ v ∷ vs)
+        × AllByRecursion (λ v. value_passes (rule_at i (some_numbers name)) v ≡ true) (v ∷ vs)
+    valued again [] rows clean = cc
+    valued again (v ∷ vs) rows clean =
+        let parts = none_else (range_kinds 1 usize_max (length (v ∷ vs))) _ clean in
+        (v, vs, refl, all_passed (rule_at i (some_numbers name)) (v ∷ vs) (none_else (repeat_fault again name rows) _ parts.1).1)
 
--- an option with a number keeps its value
-pub option_tame : (c : List Rule) (name : Text) (least most : ℕ) (default : Text)
-    → arg_by_id c name ≡ Some (filled (number_option name least most default))
-    → IsTame c (filled (number_option name least most default))
-option_tame c name least most default own =
-    set_tame c (filled (number_option name least most default)) own (λ values rows. refl) (λ again values rows. refl)
+-- an id has one argument
+one_rule : (x y : Rule) → Some x ≡ Some y → x ≡ y
+one_rule x y e = cc
+
+-- all texts that are found for the numbers spell some
+numbers_found : (c : List Rule) (i : ℕ) (name : Text) (rows : List Row) → arg_by_id c name ≡ Some (rule_at i (some_numbers name))
+    → AreSound c rows → (ns : List ℕ) × (numbers_of name rows ≡ Some ns)
+numbers_found c i name rows own sound = go (row_at name rows) refl
+  where
+    go : (o : Option Row) → row_at name rows ≡ o
+        → (ns : List ℕ) × (wide_numbers_in (unwrap_or (option_map (λ r. r.values) o) []) ≡ Some ns)
+    go None is = ([], refl)
+    go (Some r) is =
+        let found = found_row c name rows r sound is in
+        let same : found.0.rule ≡ rule_at i (some_numbers name) =
+        one_rule found.0.rule (rule_at i (some_numbers name)) (sym found.0.own ∙ ap (arg_by_id c) found.1 ∙ own) in
+        let pass = subst (λ (x : Rule). AllByRecursion (λ v. value_passes x v ≡ true) (found.0.first ∷ found.0.others)) same
+        found.0.passes in
+        let numbers = passed_numbers (found.0.first ∷ found.0.others) pass in
+        (numbers.0, ap wide_numbers_in found.0.values ∙ numbers.1)
+
+-- ---- all arguments of a command
+
+module _ (sh : Shape) (os0 : List Operand) (cs0 : List Choice) where
+  -- its options keep their values
+  choices_tame : (i : ℕ) (cs : List Choice) → AllByRecursion (IsKnown sh os0 cs0) cs
+      → AllByRecursion (IsTame sh.rules) (filled_from i (map choice_rule cs))
+  choices_tame i [] known = tt
+  choices_tame i (switch name ∷ cs) known = (flag_tame sh.rules name known.0.3, choices_tame i cs known.1)
+  choices_tame i (numbered name least most default ∷ cs) known =
+      (option_tame sh.rules name least most default known.0.3, choices_tame i cs known.1)
+
+  -- and so do all its arguments
+  all_tame : (i : ℕ) (os : List Operand) (cs : List Choice) → ArePlaced sh i os → AllByRecursion (IsKnown sh os0 cs0) cs
+      → AllByRecursion (IsTame sh.rules) (filled_from i (map operand_rule os ++ map choice_rule cs))
+  all_tame i [] cs placed known = choices_tame i cs known
+  all_tame i (a_text name ∷ os) cs placed known =
+      (operand_tame sh.rules i name placed.1, all_tame (min (i + 1) usize_max) os cs placed.5 known)
+  all_tame i (a_number name least most ∷ os) cs placed known = (
+    set_tame sh.rules (rule_at i (a_number name least most)) placed.1 (λ values rows. refl) (λ again values rows. refl),
+    all_tame (min (i + 1) usize_max) os cs placed.5 known,
+  )
+  all_tame i (some_numbers name ∷ os) cs placed known =
+      (numbers_tame sh.rules i name placed.1, all_tame (min (i + 1) usize_max) os cs placed.5 known)
+
+  -- what its operands ask for is found
+  operands_found : (rows : List Row) → AreSound sh.rules rows → (i : ℕ) (os : List Operand) → ArePlaced sh i os
+      → AllByRecursion (IsThere rows) os → AllByRecursion (IsFoundAt (findings rows)) os
+  operands_found rows sound i [] placed there = tt
+  operands_found rows sound i (a_text name ∷ os) placed there = (
+    text_found sh.rules name rows sound (required_row name rows there.0),
+    operands_found rows sound (min (i + 1) usize_max) os placed.5 there.1,
+  )
+  operands_found rows sound i (a_number name least most ∷ os) placed there = (
+    number_found sh.rules name least most (rule_at i (a_number name least most)) rows (ltb-true most (2 ^ 32) placed.4) placed.1 refl refl
+        sound (required_row name rows there.0),
+    operands_found rows sound (min (i + 1) usize_max) os placed.5 there.1,
+  )
+  operands_found rows sound i (some_numbers name ∷ os) placed there = (
+    numbers_found sh.rules i name rows placed.1 sound,
+    operands_found rows sound (min (i + 1) usize_max) os placed.5 there.1,
+  )
+
+  -- and so is that of its options
+  choices_found : (words : List Text) → AreSound sh.rules (rows_after sh.rules [] words) → (cs : List Choice)
+      → AllByRecursion (IsKnown sh os0 cs0) cs → AllByRecursion (IsFoundFor (findings (rows_after sh.rules [] words))) cs
+  choices_found words sound [] known = tt
+  choices_found words sound (switch name ∷ cs) known = (tt, choices_found words sound cs known.1)
+  choices_found words sound (numbered name least most default ∷ cs) known = (
+    number_found sh.rules name least most (filled (number_option name least most default)) (rows_after sh.rules [] words)
+        (ltb-true most (2 ^ 32) known.0.6) known.0.3 refl refl sound (default_after sh words name known.0.7.0 known.0.7.1),
+    choices_found words sound cs known.1,
+  )
+
+-- a command that takes its words has a job
+abbrev pub TakenHasJob : CommandRow → Type 0
+TakenHasJob c = (words : List Text) → level_fault (leaf c) [] nothing_held words false [] ≡ []
+    → HasJob (job_on c.name (rows_after (leaf c).rules [] words))
+
+-- so has each that is ready
+pub taken_has_job : (c : CommandRow) → IsReady c → TakenHasJob c
+taken_has_job c ready words clean =
+    let sh = leaf c in
+    let rows = rows_after (leaf c).rules [] words in
+    let tame = all_tame (leaf c) c.operands c.choices 1 c.operands c.choices ready.placed (knows c ready) in
+    let found = level_found (leaf c) tame (cleanly c ready) words clean in
+    let operands = operands_found (leaf c) c.operands c.choices rows found.sound 1 c.operands ready.placed
+    (ready.asks rows found.checked) in
+    let choices = choices_found (leaf c) c.operands c.choices words found.sound c.choices (knows c ready) in
+    let has = ready.has_job (findings rows) operands choices in
+    (has.0, ready.job rows ∙ has.1, has.2)

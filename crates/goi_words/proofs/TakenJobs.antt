@@ -1,31 +1,24 @@
 -- Words that `clap` takes ask for a job, whose numbers are in range.
-use Rattle.std.proofs.Common.{◌≡◌, ◌∙◌, ◌∷◌, cond, refl, subst, sym, Bool, true, false, List, [], Option, Some, None, is_some, option_map}
+use Rattle.std.proofs.Common.{◌≡◌, ◌∙◌, ◌∷◌, cond, refl, subst, sym, Bool, true, false, List, [], Option}
+use Rattle.std.proofs.Common.{Some, None, is_some, map, option_map}
 use Rattle.std.specs.List.{AllByRecursion, find}
 use Rattle.std.specs.Option.{option_map_or}
-use Rattle.clap.specs.Walk.{Row, Text, answers_to, finished, nothing_held, settled, walk, walk_from}
+use Rattle.clap.specs.Walk.{Row, Text, answers_to, finished, nothing_held, rows_after, settled, walk, walk_from}
 use Rattle.clap.specs.Simple.{App, Shape, argument_words, built, entered, label_of, names_of, rows_at}
 use Rattle.clap.specs.Words.{subcommand_of}
 use Rattle.clap.specs.Faults.{check_fault, defaults_fault, entered_fault, fault_of, level_fault, settle_fault, walk_fault}
 use Rattle.clap.specs.Kinds.{Kinds}
-use Rattle.goi_words.specs.Commands.{goi_command}
-use Rattle.goi_words.specs.Asked.{is_faultless, is_taken, job, job_on, ◌>>=◌}
+use Rattle.goi_words.specs.Commands.{CommandRow, commands, goi_command}
+use Rattle.goi_words.specs.Findings.{◌>>=◌}
+use Rattle.goi_words.specs.Asked.{is_faultless, is_taken, job, job_on}
 use Rattle.goi_jobs.specs.Jobs.{IsWithinLimits, JobTree}
 use Rattle.goi_words.specs.Laws.{TakenWordsHaveAJob}
 use Rattle.goi_words.proofs.Entering.{entered_job as job_by}
 use Rattle.goi_words.proofs.Found.{found_in, none_else}
-use Rattle.goi_words.proofs.BatchWords.{batch_taken}
-use Rattle.goi_words.proofs.CallWords.{call_taken}
-use Rattle.goi_words.proofs.CheckWords.{check_taken}
-use Rattle.goi_words.proofs.CircuitWords.{circuit_taken}
-use Rattle.goi_words.proofs.DemoWords.{demo_taken}
-use Rattle.goi_words.proofs.NetWords.{net_taken}
-use Rattle.goi_words.proofs.ReplayWords.{replay_taken}
-use Rattle.goi_words.proofs.RunNetWords.{run_net_taken}
-use Rattle.goi_words.proofs.RunWords.{run_taken}
-use Rattle.goi_words.proofs.SpanWords.{span_taken}
-use Rattle.goi_words.proofs.StepsWords.{steps_taken}
-use Rattle.goi_words.proofs.Taken.{HasJob, TakenHasJob}
-use Rattle.goi_words.proofs.TraceWords.{trace_taken}
+use Rattle.goi_words.proofs.Agreeing.{each}
+use Rattle.goi_words.proofs.Ready.{HasJob, leaf}
+use Rattle.goi_words.proofs.Table.{all_ready}
+use Rattle.goi_words.proofs.Taken.{TakenHasJob, taken_has_job}
 
 -- ---- the first level
 
@@ -33,21 +26,17 @@ use Rattle.goi_words.proofs.TraceWords.{trace_taken}
 abbrev whole : App
 whole = built goi_command
 
+-- a subcommand that takes its words has a job
+abbrev HasJobs : Shape → Type 0
+HasJobs s = (words : List Text) → level_fault s [] nothing_held words false [] ≡ [] → HasJob (job_on s.name (rows_after s.rules [] words))
+
 -- each subcommand has a job for the words that it takes
-each_has_a_job : AllByRecursion TakenHasJob whole.subs
-each_has_a_job = (
-  run_taken,
-  (
-    check_taken,
-    (
-      net_taken,
-      (
-        replay_taken,
-        (demo_taken, (run_net_taken, (batch_taken, (trace_taken, (circuit_taken, (span_taken, (steps_taken, (call_taken, tt)))))))),
-      ),
-    ),
-  ),
-)
+each_has_a_job : AllByRecursion HasJobs whole.subs
+each_has_a_job = over commands (each taken_has_job commands all_ready)
+  where
+    over : (cs : List CommandRow) → AllByRecursion TakenHasJob cs → AllByRecursion HasJobs (map leaf cs)
+    over [] all = tt
+    over (c ∷ cs) all = (all.0, over cs all.1)
 
 -- the command asks for a subcommand
 asks_for_one : (rows : List Row) (b : Bool) → check_fault whole.top rows b ≡ [] → b ≡ true
@@ -66,7 +55,7 @@ entered_job (Some stop) clean met = go (find (λ s. answers_to stop.0 (label_of 
         → (p : Text × List Row) × (option_map (λ s. rows_at s stop.1) o ≡ Some p) × HasJob (job_on p.0 p.1)
     go None is clean met = cc
     go (Some s) is clean met =
-        (rows_at s stop.1, refl, found_in TakenHasJob (λ t. answers_to stop.0 (label_of t)) whole.subs s each_has_a_job is stop.1 clean)
+        (rows_at s stop.1, refl, found_in HasJobs (λ t. answers_to stop.0 (label_of t)) whole.subs s each_has_a_job is stop.1 clean)
 
 -- a list of kinds without one is empty
 faultless : (k : Kinds) → is_faultless k ≡ true → k ≡ []

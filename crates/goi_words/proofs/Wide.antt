@@ -1,5 +1,5 @@
 -- Numbers of 64 bits, as `clap` and the definitions read them.
-use Rattle.std.proofs.Common.{◌≡◌, ◌∙◌, ◌&&◌, ◌∷◌, ◌++◌, ◌<◌, ◌^◌, ◌≤◌, ap, refl, sym, subst, cond, map, take, get_or, length}
+use Rattle.std.proofs.Common.{◌≡◌, ◌∙◌, ◌&&◌, ◌∷◌, ◌++◌, ◌<◌, ◌^◌, ap, refl, sym, subst, cond, map, take, get_or, length}
 use Rattle.std.proofs.Common.{ℕ, Bool, true, false, List, [], Option}
 use Rattle.std.proofs.Common.{Some, None, Result, Ok, Err, nat_lt, arith}
 use Rattle.std.proofs.Common.{zero, suc, ◌+◌, unwrap_or, option_map, Bor}
@@ -13,7 +13,8 @@ use Rattle.std.specs.Str.Parse.{IsNumeral, ParsesUnsigned, digits_value, without
 use Rattle.clap.specs.ValueTests.{accepts, is_numeral}
 use Rattle.clap.specs.Walk.{Row, Text, all_of}
 use Rattle.clap.specs.declared.builder.value_parser.ValueParser.TheVariants as parser
-use Rattle.goi_words.specs.Asked.{numbers_of, wide_number_in, wide_numbers_in, ◌>>=◌}
+use Rattle.goi_words.specs.Findings.{◌>>=◌}
+use Rattle.goi_words.specs.Asked.{numbers_of, wide_number_in, wide_numbers_in}
 use Rattle.goi_words.proofs.Decimals.{unsigned}
 use Rattle.goi_words.proofs.Numbers.{is_numeral_so, numeral}
 use Rattle.goi_words.proofs.Walks.{IsValue}

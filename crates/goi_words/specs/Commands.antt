@@ -1,29 +1,67 @@
--- The command line, as the argument of `clap`'s definition.
--- There is one level of subcommands. Each has its operands, which have to be there, and its options, none of which has a rule on
--- another, so that `clap`'s definition says exactly which words are taken and what was found. Help is switched off: the words for it
--- are unknown words and are refused as such. What is added later stands at the end of its list.
-use Rattle.std.specs.Prelude.{◌≡◌, ℕ, true, false, pos, List, [], ◌∷◌, Some, codes}
-use Rattle.clap.specs.Words.{App, Rule, Shape, Text, app_of, new_rule}
+-- The table of commands, and the command line that it makes, as the argument of `clap`'s definition.
+-- A command has its name, its operands, its options, and the job that its arguments make. There is one level of subcommands, and no
+-- option has a rule on another, so that `clap`'s definition says exactly which words are taken and what was found. Help is switched
+-- off: the words for it are unknown words and are refused as such. What is added later stands at the end of its list.
+use Rattle.std.specs.Prelude.{ℕ, Bool, true, false, pos, List, [], ◌∷◌, ◌++◌, Option, None, Some, if◌then◌else◌, codes, map}
+use Rattle.clap.specs.Words.{App, Rule, Shape, Text, new_rule}
 use Rattle.clap.specs.Lexer.{usize_max}
 use Rattle.clap.specs.Simple.{new_shape}
 use Rattle.pcf_values.specs.Most.{most_workers, most_budget, most_demo, most_moves}
 use Rattle.goi_jobs.specs.Limits.{most_traced, most_told, least_stack, most_stack, most_forks}
+use Rattle.goi_jobs.specs.Jobs.{JobTree, run, check, show_net, replay, demo, run_net, batch, trace, circuit, span, steps, call}
+use Rattle.goi_jobs.specs.declared.jobs.Window.{Window}
 use Rattle.clap.specs.declared.builder.action.ArgAction.TheVariants.{Set, SetTrue}
-use Rattle.clap.specs.declared.builder.command.Command.{Command}
-use Rattle.clap.specs.declared.builder.command.Command.TheViews.{out-Command}
 use Rattle.clap.specs.declared.builder.value_parser.ValueParser.TheVariants as parser
+use Rattle.goi_words.specs.Findings.{Findings, ◌>>=◌}
+
+-- ---- what a command is
+
+-- an argument that stands at its place behind the command
+pub data Operand : Type 0 where
+  -- any text, which has to be there: its name
+  a_text : Text → Operand
+  -- a number, which has to be there: its name, the least and the most
+  a_number : Text → ℕ → ℕ → Operand
+  -- any number of numbers of 64 bits, and none where it isn't given; nothing stands behind it
+  some_numbers : Text → Operand
+
+-- an argument that is called by its name
+pub data Choice : Type 0 where
+  -- `--name`, which is given or not
+  switch : Text → Choice
+  -- `--name N`: the least and the most, and the text that stands for it where it isn't given
+  numbered : Text → ℕ → ℕ → Text → Choice
+
+-- a command: its name, its operands in their order, its options, and the job that its arguments make
+pub record CommandRow : Type 0 where
+  pub name : Text
+  pub operands : List Operand
+  pub choices : List Choice
+  pub job : Findings → Option JobTree
+
+-- the name of an argument
+abbrev pub operand_name : Operand → Text
+operand_name (a_text name) = name
+operand_name (a_number name least most) = name
+operand_name (some_numbers name) = name
+
+abbrev pub choice_name : Choice → Text
+choice_name (switch name) = name
+choice_name (numbered name least most default) = name
+
+-- ---- the same for `clap`
 
 -- an operand: any text, and it has to be there
 abbrev pub operand : Text → Rule
 operand name = record (new_rule name) { action = Some Set; required = true }
 
 -- an operand that is a number in a range
-abbrev pub number_operand : Rule
-number_operand = record (operand (codes "n")) { parser = Some (parser.Signed (pos 0) (pos most_demo)) }
+abbrev pub ranged_operand : Text → ℕ → ℕ → Rule
+ranged_operand name least most = record (operand name) { parser = Some (parser.Signed (pos least) (pos most)) }
 
 -- an operand of any number of numbers of 64 bits, and of none where it isn't given
-abbrev pub numbers_operand : Rule
-numbers_operand = record (new_rule (codes "n")) {
+abbrev pub wide_operand : Text → Rule
+wide_operand name = record (new_rule name) {
   action = Some Set;
   range = Some (record { start_inclusive = 1; end_inclusive = usize_max });
   parser = Some (parser.Unsigned 0 18446744073709551615);
@@ -38,114 +76,245 @@ number_option name least most default = record (new_rule name) {
   defaults = default ∷ [];
 }
 
--- the number of workers
-abbrev pub workers_option : Rule
-workers_option = number_option (codes "workers") 1 most_workers (codes "1")
-
--- the most moves
-abbrev pub budget_option : Rule
-budget_option = number_option (codes "budget") 1 most_budget (codes "10000")
-
--- the entry with which a trace begins, and the step with which a reduction is told
-abbrev pub from_option : Rule
-from_option = number_option (codes "from") 0 most_moves (codes "0")
-
--- the most moves of a trace
-abbrev pub most_option : Rule
-most_option = number_option (codes "most") 1 most_traced (codes "100000")
-
--- the most steps of a reduction that are told, under the same name
-abbrev pub told_option : Rule
-told_option = number_option (codes "most") 1 most_told (codes "1000")
-
--- the bits of a circuit's stacks
-abbrev pub stack_option : Rule
-stack_option = number_option (codes "stack") least_stack most_stack (codes "128")
-
--- the forks of a circuit
-abbrev pub forks_option : Rule
-forks_option = number_option (codes "forks") 1 most_forks (codes "64")
-
 -- an option `--name` that is given or not
 abbrev pub flag : Text → Rule
 flag name = record (new_rule name) { long = Some name; action = Some SetTrue }
 
--- a subcommand with its operands and its options
+-- the argument of an operand, and that of an option
+abbrev pub operand_rule : Operand → Rule
+operand_rule (a_text name) = operand name
+operand_rule (a_number name least most) = ranged_operand name least most
+operand_rule (some_numbers name) = wide_operand name
+
+abbrev pub choice_rule : Choice → Rule
+choice_rule (switch name) = flag name
+choice_rule (numbered name least most default) = number_option name least most default
+
+-- a subcommand with its arguments
 abbrev pub command : Text → List Rule → Shape
 command name rules = record (new_shape name) { rules = rules }
 
--- what several subcommands begin with: a file, the limits of a run, and what is printed of its log
-abbrev pub file_command : Text → Shape
-file_command name = command name (operand (codes "file") ∷ [])
+-- the subcommand of a command
+abbrev pub subcommand : CommandRow → Shape
+subcommand c = command c.name (map operand_rule c.operands ++ map choice_rule c.choices)
 
-abbrev pub limited_command : Text → Shape
-limited_command name = command name (operand (codes "file") ∷ workers_option ∷ budget_option ∷ [])
+-- ---- arguments of several commands
 
-abbrev pub logged_command : Text → Shape
-logged_command name =
-    command name (operand (codes "file") ∷ workers_option ∷ budget_option ∷ flag (codes "schedule") ∷ flag (codes "tally") ∷ [])
+abbrev pub file_operand : Operand
+file_operand = a_text (codes "file")
 
--- `replay`, `trace` and `steps` without the part that is printed, and `span` without what is printed of the rounds
-abbrev pub bare_replay_command : Shape
-bare_replay_command = command (codes "replay") (operand (codes "file") ∷ operand (codes "schedule") ∷ flag (codes "trace") ∷ [])
+-- the number of workers
+abbrev pub workers_choice : Choice
+workers_choice = numbered (codes "workers") 1 most_workers (codes "1")
 
-abbrev pub bare_trace_command : Shape
-bare_trace_command =
-    command (codes "trace") (operand (codes "file") ∷ workers_option ∷ budget_option ∷ flag (codes "by-value") ∷ [])
+-- the most moves
+abbrev pub budget_choice : Choice
+budget_choice = numbered (codes "budget") 1 most_budget (codes "10000")
 
-abbrev pub bare_span_command : Shape
-bare_span_command = command (codes "span") (operand (codes "file") ∷ budget_option ∷ flag (codes "by-value") ∷ [])
+-- the entry with which a trace begins, and the step with which a reduction is told
+abbrev pub from_choice : Choice
+from_choice = numbered (codes "from") 0 most_moves (codes "0")
 
-abbrev pub bare_steps_command : Shape
-bare_steps_command = command (codes "steps") (operand (codes "file") ∷ budget_option ∷ [])
+-- the most moves of a trace
+abbrev pub most_choice : Choice
+most_choice = numbered (codes "most") 1 most_traced (codes "100000")
 
--- the subcommands
-abbrev pub run_command : Shape
-run_command = command (codes "run")
-    (operand (codes "file") ∷ workers_option ∷ budget_option ∷ flag (codes "schedule") ∷ flag (codes "tally")
-    ∷ flag (codes "by-value") ∷ flag (codes "progress") ∷ [])
+-- the most steps of a reduction that are told, under the same name
+abbrev pub told_choice : Choice
+told_choice = numbered (codes "most") 1 most_told (codes "1000")
 
-abbrev pub check_command : Shape
-check_command = command (codes "check") (operand (codes "file") ∷ flag (codes "term") ∷ [])
+-- the bits of a circuit's stacks
+abbrev pub stack_choice : Choice
+stack_choice = numbered (codes "stack") least_stack most_stack (codes "128")
 
-abbrev pub net_command : Shape
-net_command = command (codes "net") (operand (codes "file") ∷ [])
+-- the forks of a circuit
+abbrev pub forks_choice : Choice
+forks_choice = numbered (codes "forks") 1 most_forks (codes "64")
 
-abbrev pub replay_command : Shape
-replay_command = command (codes "replay")
-    (operand (codes "file") ∷ operand (codes "schedule") ∷ flag (codes "trace") ∷ from_option ∷ most_option ∷ [])
+-- the flags
+abbrev pub schedule_choice : Choice
+schedule_choice = switch (codes "schedule")
 
-abbrev pub demo_command : Shape
-demo_command = command (codes "demo") (number_operand ∷ workers_option ∷ [])
+abbrev pub tally_choice : Choice
+tally_choice = switch (codes "tally")
 
-abbrev pub run_net_command : Shape
-run_net_command = command (codes "run-net")
-    (operand (codes "file") ∷ workers_option ∷ budget_option ∷ flag (codes "schedule") ∷ flag (codes "tally") ∷ [])
+abbrev pub by_value_choice : Choice
+by_value_choice = switch (codes "by-value")
 
-abbrev pub batch_command : Shape
-batch_command = command (codes "batch") (operand (codes "file") ∷ workers_option ∷ [])
+-- the part of a trace or of a reduction that was found
+abbrev pub window_of : Findings → Option Window
+window_of found = do
+  from ← found.number (codes "from")
+  most ← found.number (codes "most")
+  Some (record { from = from; most = most })
 
-abbrev pub trace_command : Shape
-trace_command = command (codes "trace")
-    (operand (codes "file") ∷ workers_option ∷ budget_option ∷ flag (codes "by-value") ∷ from_option ∷ most_option ∷ [])
+-- a part of a trace, where a trace is asked for
+abbrev pub if_traced : Bool → Window → Option Window
+if_traced is_traced window = if is_traced then Some window else None
 
-abbrev pub circuit_command : Shape
-circuit_command = command (codes "circuit") (operand (codes "file") ∷ stack_option ∷ forks_option ∷ [])
+-- ---- the jobs
+-- `replay` reads the part of a trace always, and asks for it with `--trace` alone: `clap`'s definition has no word for an option that
+-- wants another, and so doesn't refuse the part without it.
 
-abbrev pub span_command : Shape
-span_command = command (codes "span")
-    (operand (codes "file") ∷ budget_option ∷ flag (codes "by-value") ∷ flag (codes "profile") ∷ flag (codes "schedule") ∷ [])
+abbrev pub run_job : Findings → Option JobTree
+run_job found = do
+  file ← found.text (codes "file")
+  workers ← found.number (codes "workers")
+  budget ← found.number (codes "budget")
+  Some (run file workers budget (found.is_set (codes "schedule")) (found.is_set (codes "tally")) (found.is_set (codes "by-value"))
+      (found.is_set (codes "progress")))
 
-abbrev pub call_command : Shape
-call_command = command (codes "call")
-    (operand (codes "file") ∷ numbers_operand ∷ workers_option ∷ budget_option ∷ flag (codes "schedule") ∷ flag (codes "tally") ∷ [])
+abbrev pub check_job : Findings → Option JobTree
+check_job found = do
+  file ← found.text (codes "file")
+  Some (check file (found.is_set (codes "term")))
 
--- `call` without what is printed of its log
-abbrev pub bare_call_command : Shape
-bare_call_command = command (codes "call") (operand (codes "file") ∷ numbers_operand ∷ workers_option ∷ budget_option ∷ [])
+abbrev pub net_job : Findings → Option JobTree
+net_job found = do
+  file ← found.text (codes "file")
+  Some (show_net file)
 
-abbrev pub steps_command : Shape
-steps_command = command (codes "steps") (operand (codes "file") ∷ budget_option ∷ from_option ∷ told_option ∷ [])
+abbrev pub replay_job : Findings → Option JobTree
+replay_job found = do
+  file ← found.text (codes "file")
+  schedule ← found.text (codes "schedule")
+  window ← window_of found
+  Some (replay file schedule (if_traced (found.is_set (codes "trace")) window))
+
+abbrev pub demo_job : Findings → Option JobTree
+demo_job found = do
+  n ← found.number (codes "n")
+  workers ← found.number (codes "workers")
+  Some (demo n workers)
+
+abbrev pub run_net_job : Findings → Option JobTree
+run_net_job found = do
+  file ← found.text (codes "file")
+  workers ← found.number (codes "workers")
+  budget ← found.number (codes "budget")
+  Some (run_net file workers budget (found.is_set (codes "schedule")) (found.is_set (codes "tally")))
+
+abbrev pub batch_job : Findings → Option JobTree
+batch_job found = do
+  file ← found.text (codes "file")
+  workers ← found.number (codes "workers")
+  Some (batch file workers)
+
+abbrev pub trace_job : Findings → Option JobTree
+trace_job found = do
+  file ← found.text (codes "file")
+  workers ← found.number (codes "workers")
+  budget ← found.number (codes "budget")
+  window ← window_of found
+  Some (trace file workers budget (found.is_set (codes "by-value")) window)
+
+abbrev pub circuit_job : Findings → Option JobTree
+circuit_job found = do
+  file ← found.text (codes "file")
+  stack ← found.number (codes "stack")
+  forks ← found.number (codes "forks")
+  Some (circuit file stack forks)
+
+abbrev pub span_job : Findings → Option JobTree
+span_job found = do
+  file ← found.text (codes "file")
+  budget ← found.number (codes "budget")
+  Some (span file budget (found.is_set (codes "by-value")) (found.is_set (codes "profile")) (found.is_set (codes "schedule")))
+
+abbrev pub steps_job : Findings → Option JobTree
+steps_job found = do
+  file ← found.text (codes "file")
+  budget ← found.number (codes "budget")
+  window ← window_of found
+  Some (steps file budget window)
+
+abbrev pub call_job : Findings → Option JobTree
+call_job found = do
+  file ← found.text (codes "file")
+  workers ← found.number (codes "workers")
+  budget ← found.number (codes "budget")
+  numbers ← found.numbers (codes "n")
+  Some (call file numbers workers budget (found.is_set (codes "schedule")) (found.is_set (codes "tally")))
+
+-- ---- the table
+
+abbrev pub run_row : CommandRow
+run_row = record {
+  name = codes "run";
+  operands = file_operand ∷ [];
+  choices = workers_choice ∷ budget_choice ∷ schedule_choice ∷ tally_choice ∷ by_value_choice ∷ switch (codes "progress") ∷ [];
+  job = run_job;
+}
+
+abbrev pub check_row : CommandRow
+check_row = record { name = codes "check"; operands = file_operand ∷ []; choices = switch (codes "term") ∷ []; job = check_job }
+
+abbrev pub net_row : CommandRow
+net_row = record { name = codes "net"; operands = file_operand ∷ []; choices = []; job = net_job }
+
+abbrev pub replay_row : CommandRow
+replay_row = record {
+  name = codes "replay";
+  operands = file_operand ∷ a_text (codes "schedule") ∷ [];
+  choices = switch (codes "trace") ∷ from_choice ∷ most_choice ∷ [];
+  job = replay_job;
+}
+
+abbrev pub demo_row : CommandRow
+demo_row = record { name = codes "demo"; operands = a_number (codes "n") 0 most_demo ∷ []; choices = workers_choice ∷ []; job = demo_job }
+
+abbrev pub run_net_row : CommandRow
+run_net_row = record {
+  name = codes "run-net";
+  operands = file_operand ∷ [];
+  choices = workers_choice ∷ budget_choice ∷ schedule_choice ∷ tally_choice ∷ [];
+  job = run_net_job;
+}
+
+abbrev pub batch_row : CommandRow
+batch_row = record { name = codes "batch"; operands = file_operand ∷ []; choices = workers_choice ∷ []; job = batch_job }
+
+abbrev pub trace_row : CommandRow
+trace_row = record {
+  name = codes "trace";
+  operands = file_operand ∷ [];
+  choices = workers_choice ∷ budget_choice ∷ by_value_choice ∷ from_choice ∷ most_choice ∷ [];
+  job = trace_job;
+}
+
+abbrev pub circuit_row : CommandRow
+circuit_row = record { name = codes "circuit"; operands = file_operand ∷ []; choices = stack_choice ∷ forks_choice ∷ []; job = circuit_job }
+
+abbrev pub span_row : CommandRow
+span_row = record {
+  name = codes "span";
+  operands = file_operand ∷ [];
+  choices = budget_choice ∷ by_value_choice ∷ switch (codes "profile") ∷ schedule_choice ∷ [];
+  job = span_job;
+}
+
+abbrev pub steps_row : CommandRow
+steps_row = record {
+  name = codes "steps";
+  operands = file_operand ∷ [];
+  choices = budget_choice ∷ from_choice ∷ told_choice ∷ [];
+  job = steps_job;
+}
+
+abbrev pub call_row : CommandRow
+call_row = record {
+  name = codes "call";
+  operands = file_operand ∷ some_numbers (codes "n") ∷ [];
+  choices = workers_choice ∷ budget_choice ∷ schedule_choice ∷ tally_choice ∷ [];
+  job = call_job;
+}
+
+-- all of them
+abbrev pub commands : List CommandRow
+commands = run_row ∷ check_row ∷ net_row ∷ replay_row ∷ demo_row ∷ run_net_row ∷ batch_row ∷ trace_row ∷ circuit_row ∷ span_row
+    ∷ steps_row ∷ call_row ∷ []
+
+-- ---- the command line
 
 -- the program without its subcommands
 abbrev pub bare_command : App
@@ -160,27 +329,8 @@ bare_command = record {
 
 -- the program with these subcommands
 abbrev pub with_commands : List Shape → App
-with_commands commands = record { top = record bare_command.top { is_leaf = false }; subs = commands }
-
--- with its first three, its first six, and its first nine
-abbrev pub three_commands : App
-three_commands = with_commands (run_command ∷ check_command ∷ net_command ∷ [])
-
-abbrev pub six_commands : App
-six_commands = with_commands
-    (run_command ∷ check_command ∷ net_command ∷ replay_command ∷ demo_command ∷ run_net_command ∷ [])
-
-abbrev pub nine_commands : App
-nine_commands = with_commands
-    (run_command ∷ check_command ∷ net_command ∷ replay_command ∷ demo_command ∷ run_net_command ∷ batch_command
-    ∷ trace_command ∷ circuit_command ∷ [])
+with_commands shapes = record { top = record bare_command.top { is_leaf = false }; subs = shapes }
 
 -- the whole command line
 abbrev pub goi_command : App
-goi_command = with_commands
-    (run_command ∷ check_command ∷ net_command ∷ replay_command ∷ demo_command ∷ run_net_command ∷ batch_command
-    ∷ trace_command ∷ circuit_command ∷ span_command ∷ steps_command ∷ call_command ∷ [])
-
--- the command of the code is this subcommand
-abbrev pub IsCommand : Shape → Command → Type 0
-IsCommand shape c = (app_of c ≡ record { top = shape; subs = [] }) × ((out-Command c).has_globals ≡ false)
+goi_command = with_commands (map subcommand commands)

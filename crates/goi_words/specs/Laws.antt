@@ -1,14 +1,21 @@
 -- What this crate says of words beside the contract of `job_of`.
 use Rattle.std.specs.Prelude.{◌≡◌, true, List, [], ◌∷◌, None, Some, codes}
+use Rattle.std.specs.List.{AllByRecursion}
 use Rattle.clap.specs.Words.{Text}
 use Rattle.goi_words.specs.Asked.{is_taken, job}
+use Rattle.goi_words.specs.Commands.{CommandRow, commands}
 use Rattle.goi_jobs.specs.Jobs.{IsWithinLimits, JobTree}
-use Rattle.goi_words.specs.Plain.{IsPlain, Request, Setting, meant, plain_words}
+use Rattle.goi_words.specs.Plain.{IsPlain, Setting, Value, given, plain_words}
 
--- plain words are never refused, and ask for what the table says, whatever the program's name and whatever the order of the options
+-- plain words of a command are never refused, and ask for the job that the command makes of what is given, whatever the program's name
+-- and whatever the order of the options
+abbrev pub TakesPlainWords : CommandRow → Type 0
+TakesPlainWords c = (program : Text) (values : List Value) (settings : List Setting) → IsPlain c values settings
+    → (done : JobTree) × (c.job (given c values settings) ≡ Some done) × (job (plain_words program c values settings) ≡ Some done)
+
+-- and so it is with each command
 abbrev pub PlainWordsAreTaken : Type 0
-PlainWordsAreTaken = (program : Text) (request : Request) (settings : List Setting) → IsPlain request settings
-    → job (plain_words program request settings) ≡ Some (meant request settings)
+PlainWordsAreTaken = AllByRecursion TakesPlainWords commands
 
 -- words that `clap` takes ask for a job within the limits: nothing but its definition refuses words
 abbrev pub TakenWordsHaveAJob : Type 0

@@ -1,9 +1,9 @@
 //! The words of the command line.
 //!
 //! `job_of` reads the words with `clap` and answers the `Job` that they ask for. Which job it is, is the definition `job` of
-//! `specs/Asked.antt`: what `clap`'s own definition makes of the words at the command of `specs/Commands.antt`. Plain words mean what
-//! the table of `specs/Plain.antt` says, and nothing but `clap` refuses words (`specs/Laws.antt`). Contracts see a `Job` as the
-//! `JobTree` of `goi_jobs`. Doing the job is left to the crates above.
+//! `specs/Asked.antt`: what `clap`'s own definition makes of the words at the table of commands of `specs/Commands.antt`. Plain words
+//! (`specs/Plain.antt`) mean what the table says, and nothing but `clap` refuses words (`specs/Laws.antt`). Contracts see a `Job` as
+//! the `JobTree` of `goi_jobs`. Doing the job is left to the crates above.
 #![tactic(auto)]
 
 mod commands;

@@ -2,10 +2,10 @@
 
 ghost use Rattle.std.specs.Prelude.{◌≡◌, ◌≢◌, IfOk, IfErr, IsErrOf, None, Some, false, [], map, option_map, string_bytes};
 ghost use Rattle.clap.specs.Words.{fault_of, found_of, rows_of, subcommand_of, subcommand_rows_of};
-ghost use Rattle.goi_words.specs.Commands.{goi_command};
-ghost use Rattle.goi_words.specs.Asked.{is_set, is_taken, job, job_on, number_of, numbers_of, text_of};
-ghost use Rattle.goi_words.specs.Asked.{batch_job, check_job, circuit_job, demo_job, if_traced, net_job, replay_job, run_job};
-ghost use Rattle.goi_words.specs.Asked.{run_net_job, span_job, steps_job, trace_job, window_of, call_job, wide_number_in, wide_numbers_in};
+ghost use Rattle.goi_words.specs.Commands.{batch_job, call_job, check_job, circuit_job, demo_job, goi_command, if_traced, net_job};
+ghost use Rattle.goi_words.specs.Commands.{replay_job, run_job, run_net_job, span_job, steps_job, trace_job, window_of};
+ghost use Rattle.goi_words.specs.Asked.{findings, is_set, is_taken, job, job_on, number_of, numbers_of, text_of};
+ghost use Rattle.goi_words.specs.Asked.{wide_number_in, wide_numbers_in};
 ghost use Rattle.goi_jobs.specs.Jobs.{IsWithinLimits, job_of};
 ghost use Rattle.goi_words.specs.declared.faults.WordFault.TheVariants.{Refused};
 
@@ -70,8 +70,8 @@ fn job_on(alloc: Global, name: &str, found: &ArgMatches<'_>) -> Result<Job, Word
 
 /// The job of the words behind `run`.
 fn run_job(alloc: Global, found: &ArgMatches<'_>) -> Result<Job, WordFault>
-    ensures ok { IfOk result (λ done. run_job (rows_of (found_of found.now)) ≡ Some (job_of done)) }
-    ensures refused { IsErrOf result Refused → run_job (rows_of (found_of found.now)) ≡ None }
+    ensures ok { IfOk result (λ done. run_job (findings (rows_of (found_of found.now))) ≡ Some (job_of done)) }
+    ensures refused { IsErrOf result Refused → run_job (findings (rows_of (found_of found.now))) ≡ None }
 {
     let file = text_in(found, "file")?;
     let workers = number_in(found, "workers")?;
@@ -89,8 +89,8 @@ fn run_job(alloc: Global, found: &ArgMatches<'_>) -> Result<Job, WordFault>
 
 /// The job of the words behind `check`.
 fn check_job(alloc: Global, found: &ArgMatches<'_>) -> Result<Job, WordFault>
-    ensures ok { IfOk result (λ done. check_job (rows_of (found_of found.now)) ≡ Some (job_of done)) }
-    ensures refused { IsErrOf result Refused → check_job (rows_of (found_of found.now)) ≡ None }
+    ensures ok { IfOk result (λ done. check_job (findings (rows_of (found_of found.now))) ≡ Some (job_of done)) }
+    ensures refused { IsErrOf result Refused → check_job (findings (rows_of (found_of found.now))) ≡ None }
 {
     let file = text_in(found, "file")?;
     Ok(Job::Check {
@@ -101,8 +101,8 @@ fn check_job(alloc: Global, found: &ArgMatches<'_>) -> Result<Job, WordFault>
 
 /// The job of the words behind `net`.
 fn net_job(alloc: Global, found: &ArgMatches<'_>) -> Result<Job, WordFault>
-    ensures ok { IfOk result (λ done. net_job (rows_of (found_of found.now)) ≡ Some (job_of done)) }
-    ensures refused { IsErrOf result Refused → net_job (rows_of (found_of found.now)) ≡ None }
+    ensures ok { IfOk result (λ done. net_job (findings (rows_of (found_of found.now))) ≡ Some (job_of done)) }
+    ensures refused { IsErrOf result Refused → net_job (findings (rows_of (found_of found.now))) ≡ None }
 {
     let file = text_in(found, "file")?;
     Ok(Job::ShowNet {
@@ -112,8 +112,8 @@ fn net_job(alloc: Global, found: &ArgMatches<'_>) -> Result<Job, WordFault>
 
 /// The job of the words behind `replay`; a part of the trace that can't be is refused.
 fn replay_job(alloc: Global, found: &ArgMatches<'_>) -> Result<Job, WordFault>
-    ensures ok { IfOk result (λ done. replay_job (rows_of (found_of found.now)) ≡ Some (job_of done)) }
-    ensures refused { IsErrOf result Refused → replay_job (rows_of (found_of found.now)) ≡ None }
+    ensures ok { IfOk result (λ done. replay_job (findings (rows_of (found_of found.now))) ≡ Some (job_of done)) }
+    ensures refused { IsErrOf result Refused → replay_job (findings (rows_of (found_of found.now))) ≡ None }
 {
     let file = text_in(found, "file")?;
     let schedule = text_in(found, "schedule")?;
@@ -127,8 +127,8 @@ fn replay_job(alloc: Global, found: &ArgMatches<'_>) -> Result<Job, WordFault>
 
 /// The job of the words behind `demo`.
 fn demo_job(_alloc: Global, found: &ArgMatches<'_>) -> Result<Job, WordFault>
-    ensures ok { IfOk result (λ done. demo_job (rows_of (found_of found.now)) ≡ Some (job_of done)) }
-    ensures refused { IsErrOf result Refused → demo_job (rows_of (found_of found.now)) ≡ None }
+    ensures ok { IfOk result (λ done. demo_job (findings (rows_of (found_of found.now))) ≡ Some (job_of done)) }
+    ensures refused { IsErrOf result Refused → demo_job (findings (rows_of (found_of found.now))) ≡ None }
 {
     let n = number_in(found, "n")?;
     let workers = number_in(found, "workers")?;
@@ -137,8 +137,8 @@ fn demo_job(_alloc: Global, found: &ArgMatches<'_>) -> Result<Job, WordFault>
 
 /// The job of the words behind `run-net`.
 fn run_net_job(alloc: Global, found: &ArgMatches<'_>) -> Result<Job, WordFault>
-    ensures ok { IfOk result (λ done. run_net_job (rows_of (found_of found.now)) ≡ Some (job_of done)) }
-    ensures refused { IsErrOf result Refused → run_net_job (rows_of (found_of found.now)) ≡ None }
+    ensures ok { IfOk result (λ done. run_net_job (findings (rows_of (found_of found.now))) ≡ Some (job_of done)) }
+    ensures refused { IsErrOf result Refused → run_net_job (findings (rows_of (found_of found.now))) ≡ None }
 {
     let file = text_in(found, "file")?;
     let workers = number_in(found, "workers")?;
@@ -154,8 +154,8 @@ fn run_net_job(alloc: Global, found: &ArgMatches<'_>) -> Result<Job, WordFault>
 
 /// The job of the words behind `batch`.
 fn batch_job(alloc: Global, found: &ArgMatches<'_>) -> Result<Job, WordFault>
-    ensures ok { IfOk result (λ done. batch_job (rows_of (found_of found.now)) ≡ Some (job_of done)) }
-    ensures refused { IsErrOf result Refused → batch_job (rows_of (found_of found.now)) ≡ None }
+    ensures ok { IfOk result (λ done. batch_job (findings (rows_of (found_of found.now))) ≡ Some (job_of done)) }
+    ensures refused { IsErrOf result Refused → batch_job (findings (rows_of (found_of found.now))) ≡ None }
 {
     let file = text_in(found, "file")?;
     let workers = number_in(found, "workers")?;
@@ -167,8 +167,8 @@ fn batch_job(alloc: Global, found: &ArgMatches<'_>) -> Result<Job, WordFault>
 
 /// The job of the words behind `trace`; a part of the trace that can't be is refused.
 fn trace_job(alloc: Global, found: &ArgMatches<'_>) -> Result<Job, WordFault>
-    ensures ok { IfOk result (λ done. trace_job (rows_of (found_of found.now)) ≡ Some (job_of done)) }
-    ensures refused { IsErrOf result Refused → trace_job (rows_of (found_of found.now)) ≡ None }
+    ensures ok { IfOk result (λ done. trace_job (findings (rows_of (found_of found.now))) ≡ Some (job_of done)) }
+    ensures refused { IsErrOf result Refused → trace_job (findings (rows_of (found_of found.now))) ≡ None }
 {
     let file = text_in(found, "file")?;
     let workers = number_in(found, "workers")?;
@@ -185,8 +185,8 @@ fn trace_job(alloc: Global, found: &ArgMatches<'_>) -> Result<Job, WordFault>
 
 /// The job of the words behind `circuit`.
 fn circuit_job(alloc: Global, found: &ArgMatches<'_>) -> Result<Job, WordFault>
-    ensures ok { IfOk result (λ done. circuit_job (rows_of (found_of found.now)) ≡ Some (job_of done)) }
-    ensures refused { IsErrOf result Refused → circuit_job (rows_of (found_of found.now)) ≡ None }
+    ensures ok { IfOk result (λ done. circuit_job (findings (rows_of (found_of found.now))) ≡ Some (job_of done)) }
+    ensures refused { IsErrOf result Refused → circuit_job (findings (rows_of (found_of found.now))) ≡ None }
 {
     let file = text_in(found, "file")?;
     let stack = number_in(found, "stack")?;
@@ -200,8 +200,8 @@ fn circuit_job(alloc: Global, found: &ArgMatches<'_>) -> Result<Job, WordFault>
 
 /// The job of the words behind `span`.
 fn span_job(alloc: Global, found: &ArgMatches<'_>) -> Result<Job, WordFault>
-    ensures ok { IfOk result (λ done. span_job (rows_of (found_of found.now)) ≡ Some (job_of done)) }
-    ensures refused { IsErrOf result Refused → span_job (rows_of (found_of found.now)) ≡ None }
+    ensures ok { IfOk result (λ done. span_job (findings (rows_of (found_of found.now))) ≡ Some (job_of done)) }
+    ensures refused { IsErrOf result Refused → span_job (findings (rows_of (found_of found.now))) ≡ None }
 {
     let file = text_in(found, "file")?;
     let budget = number_in(found, "budget")?;
@@ -216,8 +216,8 @@ fn span_job(alloc: Global, found: &ArgMatches<'_>) -> Result<Job, WordFault>
 
 /// The job of the words behind `steps`; a part of the steps that can't be is refused.
 fn steps_job(alloc: Global, found: &ArgMatches<'_>) -> Result<Job, WordFault>
-    ensures ok { IfOk result (λ done. steps_job (rows_of (found_of found.now)) ≡ Some (job_of done)) }
-    ensures refused { IsErrOf result Refused → steps_job (rows_of (found_of found.now)) ≡ None }
+    ensures ok { IfOk result (λ done. steps_job (findings (rows_of (found_of found.now))) ≡ Some (job_of done)) }
+    ensures refused { IsErrOf result Refused → steps_job (findings (rows_of (found_of found.now))) ≡ None }
 {
     let file = text_in(found, "file")?;
     let budget = number_in(found, "budget")?;
@@ -231,8 +231,8 @@ fn steps_job(alloc: Global, found: &ArgMatches<'_>) -> Result<Job, WordFault>
 
 /// The job of the words behind `call`.
 fn call_job(alloc: Global, found: &ArgMatches<'_>) -> Result<Job, WordFault>
-    ensures ok { IfOk result (λ done. call_job (rows_of (found_of found.now)) ≡ Some (job_of done)) }
-    ensures refused { IsErrOf result Refused → call_job (rows_of (found_of found.now)) ≡ None }
+    ensures ok { IfOk result (λ done. call_job (findings (rows_of (found_of found.now))) ≡ Some (job_of done)) }
+    ensures refused { IsErrOf result Refused → call_job (findings (rows_of (found_of found.now))) ≡ None }
 {
     let file = text_in(found, "file")?;
     let workers = number_in(found, "workers")?;
@@ -250,7 +250,7 @@ fn call_job(alloc: Global, found: &ArgMatches<'_>) -> Result<Job, WordFault>
 
 /// The part of a trace that was found.
 fn window_of(found: &ArgMatches<'_>) -> Option<Window>
-    ensures { result ≡ window_of (rows_of (found_of found.now)) }
+    ensures { result ≡ window_of (findings (rows_of (found_of found.now))) }
 {
     let from = number_of(found, "from")?;
     let most = number_of(found, "most")?;

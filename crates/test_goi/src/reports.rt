@@ -3,7 +3,7 @@
 ghost use Rattle.std.specs.Prelude.{IfOk};
 ghost use Rattle.goi_reports.specs.Booked.{BookedWithin};
 
-use goi_reports::run_report;
+use goi_reports::{Parts, run_report};
 use pcf_values::Val;
 use schedule_log::Log;
 use std::alloc::{AllocError, Global};
@@ -22,7 +22,11 @@ fn two_moves(alloc: Global) -> Result<Log, AllocError>
 /// The report of two moves that end with 3, with a schedule and a tally.
 fn run_text(alloc: Global) -> Result<Vec<u8>, AllocError> {
     let log = two_moves(alloc)?;
-    run_report(alloc, Some(Val::Number(3)), &log, 1, true, true)
+    let parts = Parts {
+        schedule: true,
+        tally: true,
+    };
+    run_report(alloc, Some(Val::Number(3)), &log, 1, parts)
 }
 
 #[test]

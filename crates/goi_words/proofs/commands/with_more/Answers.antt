@@ -1,6 +1,6 @@
 use Rattle.std.proofs.Common.{IfOk, refl, subst}
 use Rattle.std.proofs.lemmas.Result.{IfOk-weaker}
-use Rattle.goi_words.specs.Commands.{IsCommand}
+use Rattle.goi_words.specs.Growing.{IsCommand}
 use Rattle.goi_words.proofs.Building.{more_subcommands}
 use Rattle.goi_words.proofs.commands.with_more.Goals as goal
 

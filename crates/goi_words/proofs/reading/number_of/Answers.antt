@@ -2,7 +2,8 @@ use Rattle.std.proofs.Common.{◌∙◌, ap}
 use Rattle.clap.specs.Words.{found_of, one_text}
 use Rattle.std.specs.Str.Parse.{ParsesUnsigned, ExplainsUnsignedError, HasUnsignedDigitsIfOk}
 use Rattle.clap.proofs.WalkLemmas.{one_text-rows}
-use Rattle.goi_words.specs.Asked.{number_in, ◌>>=◌}
+use Rattle.goi_words.specs.Findings.{◌>>=◌}
+use Rattle.goi_words.specs.Asked.{number_in}
 use Rattle.goi_words.proofs.Numbers.{number_one}
 use Rattle.goi_words.proofs.reading.number_of.Goals as goal
 

@@ -1,0 +1,349 @@
+-- Each command of the table is ready: its arguments are found where they stand, and its job is of what is found for them.
+-- A command more is one more of these; an option more is one more in `same` and, with a number, in `has_job`.
+use Rattle.std.proofs.Common.{◌≡◌, ◌∷◌, ◌||◌, not, refl, cond, Bool, true, false, [], codes}
+use Rattle.std.specs.List.{AllByRecursion}
+use Rattle.clap.specs.Walk.{walked}
+use Rattle.clap.specs.Simple.{built}
+use Rattle.clap.specs.Faults.{defaults_fault}
+use Rattle.clap.specs.Takes.{is_given as is_row_given}
+use Rattle.goi_jobs.specs.Jobs.{IsWindow, IsWindowIfAny, batch, call, check, circuit, demo, replay, run, run_net, show_net, span, steps}
+use Rattle.goi_jobs.specs.Jobs.{trace}
+use Rattle.goi_jobs.specs.declared.jobs.Window.{Window}
+use Rattle.goi_words.specs.Commands.{batch_row, call_row, check_row, circuit_row, commands, demo_row, goi_command, if_traced, net_row}
+use Rattle.goi_words.specs.Commands.{replay_row, run_net_row, run_row, span_row, steps_row, trace_row}
+use Rattle.clap.specs.declared.error.kind.ErrorKind.TheVariants as kind
+use Rattle.goi_words.proofs.Ready.{IsReady, leaf}
+use Rattle.goi_words.proofs.Taken.{asked}
+use Rattle.goi_words.proofs.Tops.{Enters}
+
+-- the last check asks for two operands
+both_asked : (g h : Bool) → cond (not g || (not h || false)) (kind.MissingRequiredArgument ∷ []) [] ≡ [] → (g ≡ true) × (h ≡ true)
+both_asked true true e = (refl, refl)
+both_asked true false e = cc
+both_asked false h e = cc
+
+-- a part in its ranges is in them where it is asked for
+asked_part : (t : Bool) (window : Window) → IsWindow window → IsWindowIfAny (if_traced t window)
+asked_part true window is = is
+asked_part false window is = tt
+
+-- `run` is entered by its name
+run_enters : Enters (built goi_command) (codes "run") (leaf run_row)
+unfolding walked defaults_fault
+run_enters = record { walk = refl; turn = refl; found = refl; defaults = refl; checked = refl }
+
+-- and is ready
+pub run_ready : IsReady run_row
+run_ready = record {
+  enters = run_enters;
+  job = λ rows. refl;
+  placed = (refl, refl, tt, tt, refl, tt);
+  own = ((refl, refl), tt);
+  known = refl;
+  defaults = refl;
+  checked = λ rows there. rw there.0 refl;
+  asks = λ rows clean. ((asked (is_row_given (codes "file") rows) false clean).0, tt);
+  same = λ f g os cs. rw (os.0, cs.0, cs.1.0, cs.1.1.0, cs.1.1.1.0, cs.1.1.1.1.0, cs.1.1.1.1.1.0) refl;
+  has_job = λ f os cs. let file = os.0 in let workers = cs.0 in let budget = cs.1.0 in (
+    run file.0 workers.0 budget.0 (f.is_set (codes "schedule")) (f.is_set (codes "tally")) (f.is_set (codes "by-value"))
+        (f.is_set (codes "progress")),
+    rw (file.1, workers.1, budget.1) refl,
+    ((workers.2, workers.3), (budget.2, budget.3)),
+  );
+}
+
+-- `check` is entered by its name
+check_enters : Enters (built goi_command) (codes "check") (leaf check_row)
+unfolding walked defaults_fault
+check_enters = record { walk = refl; turn = refl; found = refl; defaults = refl; checked = refl }
+
+-- and is ready
+pub check_ready : IsReady check_row
+check_ready = record {
+  enters = check_enters;
+  job = λ rows. refl;
+  placed = (refl, refl, tt, tt, refl, tt);
+  own = ((refl, refl), tt);
+  known = refl;
+  defaults = refl;
+  checked = λ rows there. rw there.0 refl;
+  asks = λ rows clean. ((asked (is_row_given (codes "file") rows) false clean).0, tt);
+  same = λ f g os cs. rw (os.0, cs.0) refl;
+  has_job = λ f os cs. let file = os.0 in (
+    check file.0 (f.is_set (codes "term")),
+    rw (file.1) refl,
+    tt,
+  );
+}
+
+-- `net` is entered by its name
+net_enters : Enters (built goi_command) (codes "net") (leaf net_row)
+unfolding walked defaults_fault
+net_enters = record { walk = refl; turn = refl; found = refl; defaults = refl; checked = refl }
+
+-- and is ready
+pub net_ready : IsReady net_row
+net_ready = record {
+  enters = net_enters;
+  job = λ rows. refl;
+  placed = (refl, refl, tt, tt, refl, tt);
+  own = ((refl, refl), tt);
+  known = refl;
+  defaults = refl;
+  checked = λ rows there. rw there.0 refl;
+  asks = λ rows clean. ((asked (is_row_given (codes "file") rows) false clean).0, tt);
+  same = λ f g os cs. rw (os.0) refl;
+  has_job = λ f os cs. let file = os.0 in (
+    show_net file.0,
+    rw (file.1) refl,
+    tt,
+  );
+}
+
+-- `replay` is entered by its name
+replay_enters : Enters (built goi_command) (codes "replay") (leaf replay_row)
+unfolding walked defaults_fault
+replay_enters = record { walk = refl; turn = refl; found = refl; defaults = refl; checked = refl }
+
+-- and is ready
+pub replay_ready : IsReady replay_row
+replay_ready = record {
+  enters = replay_enters;
+  job = λ rows. refl;
+  placed = (refl, refl, (refl, tt), tt, refl, (refl, refl, tt, tt, refl, tt));
+  own = ((refl, refl), ((refl, refl), tt));
+  known = refl;
+  defaults = refl;
+  checked = λ rows there. rw (there.0, there.1.0) refl;
+  asks = λ rows clean.
+      let both = both_asked (is_row_given (codes "file") rows) (is_row_given (codes "schedule") rows) clean in (both.0, (both.1, tt));
+  same = λ f g os cs. rw (os.0, os.1.0, cs.0, cs.1.0, cs.1.1.0) refl;
+  has_job = λ f os cs. let file = os.0 in let schedule = os.1.0 in let from = cs.1.0 in let most = cs.1.1.0 in (
+    replay file.0 schedule.0 (if_traced (f.is_set (codes "trace")) (record { from = from.0; most = most.0 })),
+    rw (file.1, schedule.1, from.1, most.1) refl,
+    asked_part (f.is_set (codes "trace")) (record { from = from.0; most = most.0 }) (from.3, (most.2, most.3)),
+  );
+}
+
+-- `demo` is entered by its name
+demo_enters : Enters (built goi_command) (codes "demo") (leaf demo_row)
+unfolding walked defaults_fault
+demo_enters = record { walk = refl; turn = refl; found = refl; defaults = refl; checked = refl }
+
+-- and is ready
+pub demo_ready : IsReady demo_row
+demo_ready = record {
+  enters = demo_enters;
+  job = λ rows. refl;
+  placed = (refl, refl, tt, tt, refl, tt);
+  own = ((refl, refl), tt);
+  known = refl;
+  defaults = refl;
+  checked = λ rows there. rw there.0 refl;
+  asks = λ rows clean. ((asked (is_row_given (codes "n") rows) false clean).0, tt);
+  same = λ f g os cs. rw (os.0, cs.0) refl;
+  has_job = λ f os cs. let n = os.0 in let workers = cs.0 in (
+    demo n.0 workers.0,
+    rw (n.1, workers.1) refl,
+    (n.3, (workers.2, workers.3)),
+  );
+}
+
+-- `run-net` is entered by its name
+run_net_enters : Enters (built goi_command) (codes "run-net") (leaf run_net_row)
+unfolding walked defaults_fault
+run_net_enters = record { walk = refl; turn = refl; found = refl; defaults = refl; checked = refl }
+
+-- and is ready
+pub run_net_ready : IsReady run_net_row
+run_net_ready = record {
+  enters = run_net_enters;
+  job = λ rows. refl;
+  placed = (refl, refl, tt, tt, refl, tt);
+  own = ((refl, refl), tt);
+  known = refl;
+  defaults = refl;
+  checked = λ rows there. rw there.0 refl;
+  asks = λ rows clean. ((asked (is_row_given (codes "file") rows) false clean).0, tt);
+  same = λ f g os cs. rw (os.0, cs.0, cs.1.0, cs.1.1.0, cs.1.1.1.0) refl;
+  has_job = λ f os cs. let file = os.0 in let workers = cs.0 in let budget = cs.1.0 in (
+    run_net file.0 workers.0 budget.0 (f.is_set (codes "schedule")) (f.is_set (codes "tally")),
+    rw (file.1, workers.1, budget.1) refl,
+    ((workers.2, workers.3), (budget.2, budget.3)),
+  );
+}
+
+-- `batch` is entered by its name
+batch_enters : Enters (built goi_command) (codes "batch") (leaf batch_row)
+unfolding walked defaults_fault
+batch_enters = record { walk = refl; turn = refl; found = refl; defaults = refl; checked = refl }
+
+-- and is ready
+pub batch_ready : IsReady batch_row
+batch_ready = record {
+  enters = batch_enters;
+  job = λ rows. refl;
+  placed = (refl, refl, tt, tt, refl, tt);
+  own = ((refl, refl), tt);
+  known = refl;
+  defaults = refl;
+  checked = λ rows there. rw there.0 refl;
+  asks = λ rows clean. ((asked (is_row_given (codes "file") rows) false clean).0, tt);
+  same = λ f g os cs. rw (os.0, cs.0) refl;
+  has_job = λ f os cs. let file = os.0 in let workers = cs.0 in (
+    batch file.0 workers.0,
+    rw (file.1, workers.1) refl,
+    (workers.2, workers.3),
+  );
+}
+
+-- `trace` is entered by its name
+trace_enters : Enters (built goi_command) (codes "trace") (leaf trace_row)
+unfolding walked defaults_fault
+trace_enters = record { walk = refl; turn = refl; found = refl; defaults = refl; checked = refl }
+
+-- and is ready
+pub trace_ready : IsReady trace_row
+trace_ready = record {
+  enters = trace_enters;
+  job = λ rows. refl;
+  placed = (refl, refl, tt, tt, refl, tt);
+  own = ((refl, refl), tt);
+  known = refl;
+  defaults = refl;
+  checked = λ rows there. rw there.0 refl;
+  asks = λ rows clean. ((asked (is_row_given (codes "file") rows) false clean).0, tt);
+  same = λ f g os cs. rw (os.0, cs.0, cs.1.0, cs.1.1.0, cs.1.1.1.0, cs.1.1.1.1.0) refl;
+  has_job = λ f os cs. let file = os.0 in let workers = cs.0 in let budget = cs.1.0 in let from = cs.1.1.1.0 in let most = cs.1.1.1.1.0 in (
+    trace file.0 workers.0 budget.0 (f.is_set (codes "by-value")) (record { from = from.0; most = most.0 }),
+    rw (file.1, workers.1, budget.1, from.1, most.1) refl,
+    ((workers.2, workers.3), (budget.2, budget.3), (from.3, (most.2, most.3))),
+  );
+}
+
+-- `circuit` is entered by its name
+circuit_enters : Enters (built goi_command) (codes "circuit") (leaf circuit_row)
+unfolding walked defaults_fault
+circuit_enters = record { walk = refl; turn = refl; found = refl; defaults = refl; checked = refl }
+
+-- and is ready
+pub circuit_ready : IsReady circuit_row
+circuit_ready = record {
+  enters = circuit_enters;
+  job = λ rows. refl;
+  placed = (refl, refl, tt, tt, refl, tt);
+  own = ((refl, refl), tt);
+  known = refl;
+  defaults = refl;
+  checked = λ rows there. rw there.0 refl;
+  asks = λ rows clean. ((asked (is_row_given (codes "file") rows) false clean).0, tt);
+  same = λ f g os cs. rw (os.0, cs.0, cs.1.0) refl;
+  has_job = λ f os cs. let file = os.0 in let stack = cs.0 in let forks = cs.1.0 in (
+    circuit file.0 stack.0 forks.0,
+    rw (file.1, stack.1, forks.1) refl,
+    ((stack.2, stack.3), (forks.2, forks.3)),
+  );
+}
+
+-- `span` is entered by its name
+span_enters : Enters (built goi_command) (codes "span") (leaf span_row)
+unfolding walked defaults_fault
+span_enters = record { walk = refl; turn = refl; found = refl; defaults = refl; checked = refl }
+
+-- and is ready
+pub span_ready : IsReady span_row
+span_ready = record {
+  enters = span_enters;
+  job = λ rows. refl;
+  placed = (refl, refl, tt, tt, refl, tt);
+  own = ((refl, refl), tt);
+  known = refl;
+  defaults = refl;
+  checked = λ rows there. rw there.0 refl;
+  asks = λ rows clean. ((asked (is_row_given (codes "file") rows) false clean).0, tt);
+  same = λ f g os cs. rw (os.0, cs.0, cs.1.0, cs.1.1.0, cs.1.1.1.0) refl;
+  has_job = λ f os cs. let file = os.0 in let budget = cs.0 in (
+    span file.0 budget.0 (f.is_set (codes "by-value")) (f.is_set (codes "profile")) (f.is_set (codes "schedule")),
+    rw (file.1, budget.1) refl,
+    (budget.2, budget.3),
+  );
+}
+
+-- `steps` is entered by its name
+steps_enters : Enters (built goi_command) (codes "steps") (leaf steps_row)
+unfolding walked defaults_fault
+steps_enters = record { walk = refl; turn = refl; found = refl; defaults = refl; checked = refl }
+
+-- and is ready
+pub steps_ready : IsReady steps_row
+steps_ready = record {
+  enters = steps_enters;
+  job = λ rows. refl;
+  placed = (refl, refl, tt, tt, refl, tt);
+  own = ((refl, refl), tt);
+  known = refl;
+  defaults = refl;
+  checked = λ rows there. rw there.0 refl;
+  asks = λ rows clean. ((asked (is_row_given (codes "file") rows) false clean).0, tt);
+  same = λ f g os cs. rw (os.0, cs.0, cs.1.0, cs.1.1.0) refl;
+  has_job = λ f os cs. let file = os.0 in let budget = cs.0 in let from = cs.1.0 in let most = cs.1.1.0 in (
+    steps file.0 budget.0 (record { from = from.0; most = most.0 }),
+    rw (file.1, budget.1, from.1, most.1) refl,
+    ((budget.2, budget.3), (from.3, (most.2, most.3))),
+  );
+}
+
+-- `call` is entered by its name
+call_enters : Enters (built goi_command) (codes "call") (leaf call_row)
+unfolding walked defaults_fault
+call_enters = record { walk = refl; turn = refl; found = refl; defaults = refl; checked = refl }
+
+-- and is ready
+pub call_ready : IsReady call_row
+call_ready = record {
+  enters = call_enters;
+  job = λ rows. refl;
+  placed = (refl, refl, (refl, tt), tt, refl, (refl, refl, tt, refl, refl, tt));
+  own = ((refl, refl), ((refl, refl), tt));
+  known = refl;
+  defaults = refl;
+  checked = λ rows there. rw there.0 refl;
+  asks = λ rows clean. ((asked (is_row_given (codes "file") rows) false clean).0, (tt, tt));
+  same = λ f g os cs. rw (os.0, os.1.0, cs.0, cs.1.0, cs.1.1.0, cs.1.1.1.0) refl;
+  has_job = λ f os cs. let file = os.0 in let n = os.1.0 in let workers = cs.0 in let budget = cs.1.0 in (
+    call file.0 n.0 workers.0 budget.0 (f.is_set (codes "schedule")) (f.is_set (codes "tally")),
+    rw (file.1, n.1, workers.1, budget.1) refl,
+    ((workers.2, workers.3), (budget.2, budget.3)),
+  );
+}
+
+-- all of them
+pub all_ready : AllByRecursion IsReady commands
+all_ready = (
+  run_ready,
+  (
+    check_ready,
+    (
+      net_ready,
+      (
+        replay_ready,
+        (
+          demo_ready,
+          (
+            run_net_ready,
+            (
+              batch_ready,
+              (
+                trace_ready,
+                (
+                  circuit_ready,
+                  (span_ready, (steps_ready, (call_ready, tt))),
+                ),
+              ),
+            ),
+          ),
+        ),
+      ),
+    ),
+  ),
+)
