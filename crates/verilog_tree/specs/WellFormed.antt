@@ -23,12 +23,17 @@ pub data Kind : Type 0 where
   a_size : Kind
   -- one with a width
   a_constant : Kind
+  -- a vector, with a width in its declaration
   an_input : Kind
+  a_register : Kind
+  a_wire : Kind
+  an_integer : Kind
+  -- a scalar, without one
+  a_bit_input : Kind
+  a_bit_register : Kind
+  a_bit_wire : Kind
   -- the input `clk` of one bit
   a_clock : Kind
-  a_register : Kind
-  an_integer : Kind
-  a_wire : Kind
   a_memory : Kind
   a_function : Kind
   -- a name within a function, outside of it
@@ -58,16 +63,28 @@ is_integer k = false
 -- what a block may assign to
 abbrev pub register : Kind → Bool
 register a_register = true
+register a_bit_register = true
 register an_integer = true
 register k = false
 
--- what an expression may name as a vector
+-- what bits and parts may be selected of; a scalar has none (5.2.1)
+abbrev pub selects : Kind → Bool
+selects an_input = true
+selects a_register = true
+selects a_wire = true
+selects an_integer = true
+selects k = false
+
+-- what an expression may name, a scalar or a vector
 abbrev pub vector : Kind → Bool
-vector an_input = true
-vector a_register = true
-vector an_integer = true
-vector a_wire = true
-vector k = false
+vector a_bit_input = true
+vector a_bit_register = true
+vector a_bit_wire = true
+vector k = selects k
+
+-- a register of several bits
+abbrev pub register_of_bits : Kind → Bool
+register_of_bits k = register k && selects k
 
 -- the clock, which no expression names
 abbrev pub is_clock : Kind → Bool
@@ -160,9 +177,14 @@ width_ok env (upto h) = size_ok env h
 width_ok env (wide k) = size_ok env k
 width_ok env integer = true
 
--- a number without a width can't stand in a concatenation (5.1.14)
+-- the width of an expression is told by what has a width: a number without one can't stand in a concatenation, nor give a part of it its
+-- width (5.1.14)
 abbrev pub has_width : Expr → Bool
 has_width (num n) = false
+has_width (inverse a) = has_width a
+has_width (two o a b) = has_width a && has_width b
+has_width (shift o a b) = has_width a
+has_width (pick c a b) = has_width a && has_width b
 has_width e = true
 
 -- an expression names what is declared, as what it is
@@ -171,8 +193,8 @@ expr_ok env (num n) = true
 expr_ok env (sized w n) = nat_lt 0 w
 expr_ok env (const x) = of_kind parameter env x
 expr_ok env (name x) = of_kind vector env x
-expr_ok env (bit x e) = of_kind vector env x && expr_ok env e
-expr_ok env (part x h l) = of_kind vector env x && (size_ok env h && size_ok env l)
+expr_ok env (bit x e) = of_kind selects env x && expr_ok env e
+expr_ok env (part x h l) = of_kind selects env x && (size_ok env h && size_ok env l)
 expr_ok env (word m e) = of_kind is_memory env m && expr_ok env e
 expr_ok env (ones h) = size_ok env h
 expr_ok env (cat a b) = (has_width a && has_width b) && (expr_ok env a && expr_ok env b)
@@ -268,7 +290,7 @@ abbrev mutual
 -- an assignment to one of these, as what it is
 abbrev pub target_ok : List Entry → List String → Target → Bool
 target_ok env mine (whole x) = of_kind register env x && member x mine
-target_ok env mine (bit_at x e) = of_kind register env x && (member x mine && expr_ok env e)
+target_ok env mine (bit_at x e) = of_kind register_of_bits env x && (member x mine && expr_ok env e)
 target_ok env mine (word_at m e) = of_kind is_memory env m && (member m mine && expr_ok env e)
 
 -- a statement of a block that drives `mine`
@@ -307,7 +329,13 @@ parameters (e ∷ env) = chosen (parameter e.kind) (e ∷ parameters env) (param
 -- a variable of this width
 abbrev pub kind_of : Width → Kind
 kind_of integer = an_integer
+kind_of one = a_bit_register
 kind_of w = a_register
+
+-- a wire of this width
+abbrev pub wire_kind : Width → Kind
+wire_kind one = a_bit_wire
+wire_kind w = a_wire
 
 -- the variables of a function, as its body sees them
 abbrev pub with_locals : List Local → List Entry → List Entry
@@ -331,7 +359,7 @@ local_names (local w x ∷ ls) = x ∷ local_names ls
 
 -- an input of this width
 abbrev pub input_kind : Width → String → Kind
-input_kind one x = chosen (eqt x "clk") a_clock an_input
+input_kind one x = chosen (eqt x "clk") a_clock a_bit_input
 input_kind w x = an_input
 
 -- one name more
@@ -344,10 +372,10 @@ declared env (note s) = env
 declared env (size x n) = declare a_size x env
 declared env (constant w x n) = declare a_constant x env
 declared env (input w x) = declare (input_kind w x) x env
-declared env (output w x) = declare a_register x env
+declared env (output w x) = declare (kind_of w) x env
 declared env (reg w x) = declare (kind_of w) x env
 declared env (memory w x k) = declare a_memory x env
-declared env (wire w x e) = declare a_wire x env
+declared env (wire w x e) = declare (wire_kind w) x env
 declared env (function w f v y ls s) = with_hidden ls (declare inside y (declare a_function f env))
 declared env (settles s) = env
 declared env (clocked s) = env
@@ -383,7 +411,7 @@ item_ok env ds (wire w x e) = new env x && ((plain_width w && width_ok env w) &&
 item_ok env ds (function w f v y ls s) =
     ((new env f && (plain_width w && width_ok env w)) && (new (declare a_function f env) y && (plain_width v && width_ok env v)))
     && (locals_ok (declare inside y (declare a_function f env)) ls
-    && stmt_ok (with_locals ls (declare a_wire y (declare a_register f (parameters env)))) (f ∷ local_names ls) s)
+    && stmt_ok (with_locals ls (declare (wire_kind v) y (declare (kind_of w) f (parameters env)))) (f ∷ local_names ls) s)
 item_ok env ds (settles s) = (apart (sets_first s) ds && first_reads (sets_first s) s) && stmt_ok env (sets_first s) s
 item_ok env ds (clocked s) = (of_kind is_clock env "clk" && apart (targets s) ds) && stmt_ok env (targets s) s
 

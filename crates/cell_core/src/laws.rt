@@ -1,0 +1,65 @@
+//! What holds of cells, and of a circuit with them.
+
+ghost use Rattle.cell_core.specs.CellLaws.{Kept, KeptAll, CellRows, ReadsMade};
+ghost use Rattle.cell_core.specs.CircuitLaws.{CellsFollow, CellsFollowFitting};
+ghost use Rattle.cell_core.specs.Steps.{TwinsHave, CellsStep};
+ghost use Rattle.cell_core.specs.Meaning.{CellsMean, CellsAnswer, CellsCompute};
+ghost use Rattle.cell_core.specs.Depths.{DepthsBounded, DepthsKept, RunPlaced, CellsBounded};
+ghost use Rattle.cell_core.specs.Enough.{CellsEnough};
+ghost use Rattle.cell_core.specs.Example.{ExampleCells, ExampleOneCell};
+
+/// What stands in a store, stands in the store with one more cell.
+pub fn law_kept()
+    ensures one { Kept }
+    ensures all { KeptAll }
+{}
+
+/// What a row makes of stacks, it makes of what stands for them, and it reads no cell that wasn't made.
+pub fn law_cell_rows()
+    ensures rows { CellRows }
+    ensures reads { ReadsMade }
+{}
+
+/// On a net that runs, where the run's forks fit, after k cycles the circuit with cells is full, or it shows the state to which the one
+/// worker's k moves lead.
+pub fn law_cell_circuit()
+    ensures follows { CellsFollow }
+    ensures fitting { CellsFollowFitting }
+{}
+
+/// The circuit with cells of a program, where its forks fit, is full, or it has a result exactly when the program means it and there were
+/// as many cycles as its net is long.
+pub fn law_cell_program()
+    ensures means { CellsMean }
+    ensures answers { CellsAnswer }
+    ensures computes { CellsCompute }
+{
+    net_build::law_built_sound();
+}
+
+/// Registers that stand for the stacks of a wire are as long as its type and its depth say, and each move of a sound net leads from
+/// stacks of its wire to stacks of the next one; so a circuit that shows a state of a run is within such bounds.
+pub fn law_depths()
+    ensures bounded { DepthsBounded }
+    ensures kept { DepthsKept }
+    ensures placed { RunPlaced }
+    ensures cells { CellsBounded }
+{}
+
+/// The run of one program, and that it wants two cells.
+pub fn law_example_cells()
+    ensures cells { ExampleCells }
+    ensures one_cell { ExampleOneCell }
+{}
+
+/// On a net that runs, where the lists have room for each wire's type and depth, and the run's forks fit, the circuit isn't full within as
+/// many cycles as there are cells.
+pub fn law_cell_enough()
+    ensures { CellsEnough }
+{}
+
+/// Beside the circuit with bits: registers that show a state show the next one after a cycle, or are full.
+pub fn law_cell_step()
+    ensures have { TwinsHave }
+    ensures step { CellsStep }
+{}
