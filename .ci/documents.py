@@ -142,9 +142,9 @@ def quoted(document):
     return [it for it in re.findall(r"^```\n(.*?)^```$", read(document), re.M | re.S) if "→" in it or "↔" in it]
 
 
-def shows_table(text):
-    """Whether a document has the program of crates/function_table, to the byte."""
-    return "```rust\n" + read("crates/function_table/src/main.rt") + "```\n" in text
+def shows(text, crate):
+    """Whether a document has the program of a crate, to the byte."""
+    return "```rust\n" + read(f"crates/{crate}/src/main.rt") + "```\n" in text
 
 
 def try_listed():
@@ -175,8 +175,9 @@ def try_listed():
     judge("another headline", odd_readme(readme.replace("n ≤ budget", "budget ≤ n")), ["the headline"])
     judge("another count", len(odd_readme(re.sub(r"rests on [\d,]+", "rests on 7", readme))), 1)
     library = read("docs/AS_A_LIBRARY.md")
-    judge("the small program that calls a function", shows_table(library))
-    judge("another one", not shows_table(library.replace("for n in 0..100", "for n in 0..10")))
+    for crate, old, new in (("program_value", "10_000", "1_000"), ("function_table", "for n in 0..100", "for n in 0..10")):
+        judge(f"the small program {crate}", shows(library, crate))
+        judge(f"another {crate}", not shows(library.replace(old, new), crate))
     judge("another kit", odd_readme(readme.replace("rattle-kit-", "rattle-kit-x")), ["the kit"])
 
 
