@@ -13,8 +13,10 @@ from judging import TOP, call, judge, put  # noqa: E402
 
 # The page that runs programs. It is made, and so it needn't be there; what an address of it can have.
 LIVE = "out/goi.html"
-IN_ADDRESS = {"example", "program", "schedule", "by-value", "budget", "move", "round", "show", "types", "theme", "wall", "colour"}
+IN_ADDRESS = {"example", "program", "schedule", "by-value", "budget", "move", "round", "net", "show", "types", "theme", "wall",
+              "colour"}
 SHOWN = {"net", "schedule", "trace"}
+NETS = ["examples/clash.net", "examples/double.net", "examples/unboxed.net"]
 
 
 def read(path):
@@ -256,6 +258,9 @@ def try_page_links(program):
             moves = re.search(rb"^moves (\d+)$", out, re.M)
             there = status in (0, 5) and int(wanted.get("move", 0)) <= int(moves[1])
             judge(f"{document}: {heading}", there)
+            if "net" in wanted:
+                listing = "\n".join([*wanted["net"].split(","), ""])
+                judge(f"{document}: a listing of examples/", listing in [read(it) for it in NETS])
 
 
 def try_all(program):
