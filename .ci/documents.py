@@ -13,8 +13,10 @@ from judging import TOP, call, judge, put  # noqa: E402
 
 # The page that runs programs. It is made, and so it needn't be there; what an address of it can have.
 LIVE = "out/goi.html"
-IN_ADDRESS = {"example", "program", "schedule", "by-value", "budget", "move", "round", "show", "types", "theme", "wall", "colour"}
+IN_ADDRESS = {"example", "program", "schedule", "by-value", "budget", "move", "round", "net", "show", "types", "theme", "wall",
+              "colour"}
 SHOWN = {"net", "schedule", "trace"}
+NETS = ["examples/clash.net", "examples/double.net", "examples/unboxed.net"]
 
 
 def read(path):
@@ -142,9 +144,9 @@ def quoted(document):
     return [it for it in re.findall(r"^```\n(.*?)^```$", read(document), re.M | re.S) if "→" in it or "↔" in it]
 
 
-def shows_table(text):
-    """Whether a document has the program of crates/function_table, to the byte."""
-    return "```rust\n" + read("crates/function_table/src/main.rt") + "```\n" in text
+def shows(text, crate):
+    """Whether a document has the program of a crate, to the byte."""
+    return "```rust\n" + read(f"crates/{crate}/src/main.rt") + "```\n" in text
 
 
 def try_listed():
@@ -175,8 +177,9 @@ def try_listed():
     judge("another headline", odd_readme(readme.replace("n ≤ budget", "budget ≤ n")), ["the headline"])
     judge("another count", len(odd_readme(re.sub(r"rests on [\d,]+", "rests on 7", readme))), 1)
     library = read("docs/AS_A_LIBRARY.md")
-    judge("the small program that calls a function", shows_table(library))
-    judge("another one", not shows_table(library.replace("for n in 0..100", "for n in 0..10")))
+    for crate, old, new in (("program_value", "10_000", "1_000"), ("function_table", "for n in 0..100", "for n in 0..10")):
+        judge(f"the small program {crate}", shows(library, crate))
+        judge(f"another {crate}", not shows(library.replace(old, new), crate))
     judge("another kit", odd_readme(readme.replace("rattle-kit-", "rattle-kit-x")), ["the kit"])
 
 
@@ -255,6 +258,9 @@ def try_page_links(program):
             moves = re.search(rb"^moves (\d+)$", out, re.M)
             there = status in (0, 5) and int(wanted.get("move", 0)) <= int(moves[1])
             judge(f"{document}: {heading}", there)
+            if "net" in wanted:
+                listing = "\n".join([*wanted["net"].split(","), ""])
+                judge(f"{document}: a listing of examples/", listing in [read(it) for it in NETS])
 
 
 def try_all(program):

@@ -102,6 +102,18 @@ def marked_line(window, box):
       return mark && mark.previousSibling.textContent.split("\\n").length;""", box)
 
 
+def sees_mark(live, window, scrolled):
+    """Whether the line that is marked is within the box of the net, which was scrolled so far when the net was run."""
+    window.script("""
+      document.getElementById("net-text").scrollTop = arguments[0];
+      document.getElementById("net-run").click();""", scrolled)
+    live.waits(window, live.IDLE, 100)
+    return window.script("""
+      const mark = document.querySelector("#net-marks mark").getBoundingClientRect();
+      const box = document.getElementById("net-text").getBoundingClientRect();
+      return mark.height > 0 && box.top <= mark.top && mark.bottom <= box.bottom;""")
+
+
 def runs_net(live, window, text):
     window.script("""
       const box = document.getElementById("net-text");
@@ -153,6 +165,7 @@ def try_nets(page, live, window, program, folder):
         ("another type", changed("wire 5 ", "wire 5 value 0 nat -> nat"), at("node 3 ")),
         ("a loose wire", double.replace("node 3 Plus 0 2 5", "node 3 Plus 0 0 5"), None),
     ]
+    opens(live, window, "net")
     for name, text, row in broken:
         line = calls.printed("run-net", calls.file(text))[1].strip()
         said = runs_net(live, window, text)
@@ -160,6 +173,7 @@ def try_nets(page, live, window, program, folder):
         named = re.search(r"LooseWire\((\d+)\)", line)
         row = at(f"wire {named[1]} ") if named else row
         page.judge(f"a broken net, {name}: its line", (marked_line(window, "net"), f"line {row}: " in said), (row, True))
+        page.judge(f"a broken net, {name}: its line is seen", [sees_mark(live, window, end) for end in (0, 9999)], [True, True])
     page.judge("what was open is open still", window.script("return walk.view.run.trace.value"), "8")
     live.quiet(page, window, "nets")
 
@@ -359,6 +373,22 @@ def try_links(page, live, window, program, folder):
     window.open(base + "#example=door&show=net")
     listing = calls.printed("net", calls.file(programs.TEXTS["door.pcf"]))[1]
     page.judge("a link to a listing", live.waits(window, f"return document.getElementById('net-text').value === {listing!r}"))
+    window.open("about:blank")
+    broken = (programs.TOP / "examples/unboxed.net").read_text(encoding="utf-8")
+    given = broken.strip().replace("\n", ",").replace(" ", "+").replace(">", "%3E")
+    window.open(f"{base}#example=double&net={given}")
+    page.judge("a link to a listing of its own", live.waits(window, f"return document.getElementById('net-text').value === {broken!r}"))
+    refusal = calls.printed("run-net", calls.file(broken))[1].strip()
+    live.waits(window, live.IDLE)
+    page.judge("which is run", window.script(live.SAID).split("\n")[0], refusal)
+    page.judge("with its line", marked_line(window, "net"), 21)
+    window.open("about:blank")
+    window.open(base + "#example=sum&move=786&show=trace")
+    page.judge("a link to a moment of the trace", live.waits(window, """
+      const box = document.getElementById("trace-text");
+      const row = Math.round(box.scrollTop / parseFloat(getComputedStyle(box).lineHeight));
+      return (box.value.split("\\n")[row + 4] ?? "").startsWith("move 786 ");"""))
+    page.judge("stop is beside the tabs", window.script("return document.getElementById('own-head').clientHeight < 32"))
     window.open("about:blank")
     order = "0 4,1 2,0 11,1 13"
     text = "schedule 2\n" + order.replace(",", "\n") + "\nend\n"

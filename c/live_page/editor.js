@@ -26,7 +26,9 @@ function markPart(name, from, to) {
   // A last line that is empty has no height without a space.
   byId(name + "-marks").replaceChildren(text.slice(0, from), mark, text.slice(isSeen ? to : from) + " ");
   boxOf(name).setAttribute("aria-invalid", "true");
-  if (mark.offsetTop > boxOf(name).scrollTop + boxOf(name).clientHeight - 20) boxOf(name).scrollTop = mark.offsetTop - 20;
+  const box = boxOf(name);
+  const top = mark.offsetTop - byId(name + "-marks").offsetTop;
+  if (top < box.scrollTop || top > box.scrollTop + box.clientHeight - 24) box.scrollTop = top - 24;
   scrollMarks(name);
 }
 

@@ -159,15 +159,19 @@ function rememberProgram(text, strict, budget, order = "") {
   walk.view.address = address + "&";
 }
 
+// The lines of a text that an address has with commas between.
+const linesOf = text => text.split(",").filter(it => it !== "");
+
 // Runs the program that the address has, or replays the schedule that is there as well; without a program, what is shown at first. The
-// address can name the text that is shown: `show=net`.
+// address can name the text that is shown: `show=net`. A listing in it is put into the box of the net, and run.
 function beginWithAddress() {
   const { hash } = location;
   const wanted = new URLSearchParams(hash.slice(1));
   const text = wanted.get("program") ?? given.examples[wanted.get("example") + ".pcf"];
   const order = wanted.get("schedule");
   const shownOrder = new URLSearchParams(walk.view.address).get("schedule");
-  if (walk.view.run && (text === undefined || (text === programGiven() && order === shownOrder))) return;
+  const listing = wanted.get("net");
+  if (walk.view.run && listing === null && (text === undefined || (text === programGiven() && order === shownOrder))) return;
   putProgram(text ?? given.examples[given.first]);
   byId("own-by-value").checked = wanted.get("by-value") === "1";
   byId("own-budget").value = wanted.get("budget") ?? BUDGET;
@@ -175,10 +179,16 @@ function beginWithAddress() {
   if (wanted.has("theme")) walk.setTheme(wanted.get("theme"));
   const then = () => {
     walk.goToAddress(hash);
-    if (TABS.includes(wanted.get("show"))) openTab(wanted.get("show"));
+    if (listing !== null) {
+      putText("net", [...linesOf(listing), ""].join("\n"));
+      showTab("net");
+      runNet();
+    } else if (TABS.includes(wanted.get("show"))) {
+      openTab(wanted.get("show"));
+    }
   };
   if (order === null) { run(then); return; }
-  putSchedule(["schedule 2", ...order.split(",").filter(it => it !== ""), "end", ""].join("\n"));
+  putSchedule(["schedule 2", ...linesOf(order), "end", ""].join("\n"));
   showTab("schedule");
   replay(then);
 }

@@ -13,8 +13,8 @@ function showTab(wanted) {
     byId("tab-" + name).tabIndex = name === wanted ? 0 : -1;
     byId("pane-" + name).hidden = name !== wanted;
   }
-  if (wanted === "trace") showTrace();
   setFolded(false);
+  if (wanted === "trace") showTrace();
 }
 
 // What a press on a tab has done besides: a box that is empty gets the program's own.
@@ -47,7 +47,11 @@ function showTrace() {
   byId("trace-save").disabled = traceText === null;
   if (traceText === null) return;
   const lines = traceText.split("\n");
-  byId("trace-text").value = lines.slice(0, TRACE_SHOWN).join("\n");
+  const box = byId("trace-text");
+  box.value = lines.slice(0, TRACE_SHOWN).join("\n");
+  // The move that comes next is the fifth line that is seen, as it is at the beginning.
+  const next = lines.findIndex(it => it.startsWith(`move ${walk.view.run.state.at} `));
+  box.scrollTop = (next - 4) * parseFloat(getComputedStyle(box).lineHeight);
   byId("trace-said").textContent = lines.length > TRACE_SHOWN ? `the first ${TRACE_SHOWN} of ${lines.length - 1} lines` : "";
 }
 

@@ -1,34 +1,24 @@
 //! Prints what the function on its standard input, of type `nat -> nat`, is at 0 to 99.
 #![tactic(auto)]
 
-ghost use Rattle.std.specs.Prelude.{◌≡◌};
-
-use function_runs::{Function, compile};
+use function_runs::compile;
 use pcf_values::Val;
-use std::alloc::Global;
 use std::io;
 use std::io::Read;
 
-/// Reads the whole standard input, compiles its function once, and prints the table.
+/// Reads the whole standard input, compiles its function once, and prints a line for each number: it, and what the function is at it.
 fn main(rt: HostRuntime) -> io::Result<()> {
     let mut bytes = Vec::new(rt.alloc());
     rt.stdin().read_to_end(&mut bytes)?;
-    match compile(rt.alloc(), &bytes, 1) {
-        Ok(function) => print_table(&rt, rt.alloc(), function),
-        Err(_) => print!(rt; "refused\n"),
-    }
-}
-
-/// Prints a line for each number: it, and what the function is at it.
-fn print_table(rt: &impl Print, alloc: Global, mut function: Function) -> io::Result<()>
-    requires { function.1 ≡ 1 }
-{
+    let Ok(mut function) = compile(rt.alloc(), &bytes, 1) else {
+        return print!(rt; "refused\n");
+    };
     for n in 0..100 {
-        match function.call(alloc, &[n], 10_000)?.answer {
-            Some(Val::Number(value)) => print!(rt; "{n} {value}\n")?,
-            Some(Val::Overflow) => print!(rt; "{n} overflow\n")?,
-            None => print!(rt; "{n} no value\n")?,
-        }
+        match function.call(rt.alloc(), &[n], 10_000)?.answer {
+            Some(Val::Number(value)) => print!(rt; "{n} {value}\n"),
+            Some(Val::Overflow) => print!(rt; "{n} overflow\n"),
+            None => print!(rt; "{n} no value\n"),
+        }?;
     }
     Ok(())
 }

@@ -26,7 +26,7 @@ use crate::acting::step_in;
 use crate::adopting::adopt_in;
 use crate::grafting::graft_in;
 use crate::owning::step_own;
-use crate::parts::{Parts, begin, begin_at};
+use crate::parts::{Parts, begin_any, begin_at};
 use fork_join::Open;
 use move_rules::{Moved, Token};
 use net_build::Net;
@@ -68,7 +68,7 @@ impl Core {
     pub fn start(alloc: Global, net: &Net) -> Result<Core, AllocError>
         ensures { IfOk result (λ c. c ≡ start_map (start_of net.now)) }
     {
-        let parts = begin(alloc, net)?;
+        let parts = begin_any(alloc, net)?;
         Ok(Core { parts })
     }
 

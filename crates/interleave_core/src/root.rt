@@ -1,6 +1,7 @@
 //! Where a run begins.
 
 ghost use Rattle.std.specs.Prelude.{◌≡◌};
+ghost use Rattle.net_build.specs.Sound.{roots};
 ghost use Rattle.interleave_laws.specs.Start.{root_wire};
 ghost use Rattle.interleave_core.specs.Roots.{root_at};
 
@@ -26,4 +27,17 @@ pub(crate) fn root(net: &Net) -> u32
         }
     }
     0
+}
+
+/// The wire of the root of a net that has one. In the net of a term it is the last node, so that one is looked at first.
+pub(crate) fn only_root(net: &Net) -> u32
+    requires { roots net.now.nodes ≡ 1 }
+    ensures { result ≡ root_wire net.now.nodes }
+{
+    if let Some(last) = net.nodes().last() {
+        if let Some(wire) = at(*last) {
+            return wire;
+        }
+    }
+    root(net)
 }
