@@ -1,6 +1,6 @@
 //! Logs, and what is printed of them.
 
-use schedule_log::{Log, MOST_COUNT, print_schedule, read_schedule};
+use schedule_log::{Log, print_schedule, read_schedule};
 use std::alloc::{AllocError, Global};
 use std::test::Fail;
 
@@ -111,30 +111,5 @@ fn a_million_moves_in_turn(rt: HostRuntime) -> Result<(), Fail> {
     let text = print_schedule(rt.alloc(), &log)?;
     assert!(rt; text.len() == 13_000_015);
     assert!(rt; is_in_turn(rt.alloc(), &text, 1_000_000));
-    Ok(())
-}
-
-/// Moves of one ticket by two workers and of another one, with a run that is full.
-fn long_runs(alloc: Global) -> Result<Log, AllocError> {
-    let mut log = Log::with_room(alloc, 16_777_222)?;
-    log.push_many(3, 1, 16_777_214);
-    log.push(3, 1);
-    log.push_many(3, 1, 2);
-    log.push_many(3, 2, 0);
-    log.push_many(3, 2, 4);
-    log.push(0, 2);
-    Ok(log)
-}
-
-#[test]
-fn runs_that_are_full(rt: HostRuntime) -> Result<(), Fail> {
-    let log = long_runs(rt.alloc())?;
-    let rows = [(3, 1, MOST_COUNT), (3, 1, 2), (3, 2, 4), (0, 2, 1)];
-    assert!(rt; log.runs().len() == rows.len() && log.len() == 16_777_222);
-    for (run, (ticket, worker, count)) in log.runs().iter().zip(rows) {
-        assert!(rt; run.ticket() == ticket && run.worker() == worker && run.count() == count);
-    }
-    let text = print_schedule(rt.alloc(), &log)?;
-    assert!(rt; text.as_slice() == b"schedule 2\n3 16777221\n0 1\nend\n".as_slice());
     Ok(())
 }
