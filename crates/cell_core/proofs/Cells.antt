@@ -4,10 +4,12 @@ use Rattle.std.proofs.Common.{subst, arith}
 use Rattle.std.proofs.lemmas.Bool.{eq-eqb, ne_eqb}
 use Rattle.std.specs.Prelude.{nat_eq}
 use Rattle.token_stacks.specs.Signatures.{Sig, star, left_of, right_of, pair_of, again, R, L, S, Work, Boxes}
-use Rattle.move_rules.specs.Places.{Place, work_at, boxes_at}
+use Rattle.move_rules.specs.Places.{Place}
+use Rattle.move_rules.specs.Stacks.{work_at, boxes_at}
 use Rattle.circuit_core.specs.Rows.{Row, GO, CONST, SUCC, PRED, TEST, FORK, JOIN, ANSWER, STAR, UNSTAR, LEFT, RIGHT, CON, PUSHR, PUSHL}
 use Rattle.circuit_core.specs.Rows.{SELECT, POP, BOXIN, BOXOUT, DOOROUT, DOORIN, FIXIN, FIXOUT, FIXVAR, DEAD}
-use Rattle.circuit_core.specs.Rows.{Channel, rises, falls, at, channel_of}
+use Rattle.circuit_core.specs.Rows.{Channel, rises, falls, channel_of}
+use Rattle.circuit_core.specs.RowMoves.{at}
 use Rattle.circuit_core.specs.RowMoves.{stack_row}
 use Rattle.cell_core.specs.Cells.{Pointer, Cell, Store, put, more, cell_at, Stands, AllStand, marks_of, sigs_of, Stacks, Shows, nil, point}
 use Rattle.cell_core.specs.Cells.{first_of, below, dir, dirs_below, Made, to, making, reads, new_cell, cell_row, row_on, after, needs_cell}

@@ -10,7 +10,8 @@ use Rattle.pcf_values.specs.declared.operator.Operator.{Operator}
 use Rattle.pcf_values.specs.declared.side.Side.{Side}
 use Rattle.token_stacks.specs.Signatures.{Work, Boxes}
 use Rattle.net_build.specs.Nets.{NetTree}
-use Rattle.move_rules.specs.Places.{Place, up, down, TokenTree, ask, ans, place_of, work_at, boxes_at}
+use Rattle.move_rules.specs.Places.{Place, up, down, TokenTree, ask, ans, place_of}
+use Rattle.move_rules.specs.Stacks.{work_at, boxes_at}
 use Rattle.move_rules.specs.Moves.{solo_at}
 use Rattle.interleave_laws.specs.Runs.{Runs, LeadsTo}
 use Rattle.interleave_laws.specs.States.{State}
@@ -345,10 +346,13 @@ module _ (N : ℕ) (z : Sizes) where
     channel = sym w.channel ∙ s.channel;
     stacks = shows_these V b k (channel_of p) (work_at p) (boxes_at p) w s;
   }
-  live_is V (ans v p) b k s w = (sym w.value ∙ s.0, record {
-    channel = sym w.channel ∙ s.1.channel;
-    stacks = shows_these V b k (channel_of p) (work_at p) (boxes_at p) w s.1;
-  })
+  live_is V (ans v p) b k s w = (
+    sym w.value ∙ s.0,
+    record {
+      channel = sym w.channel ∙ s.1.channel;
+      stacks = shows_these V b k (channel_of p) (work_at p) (boxes_at p) w s.1;
+    },
+  )
 
   lives : (V : Store) (c : Option (ℕ × TokenTree)) (b : Option Token) (k : Option CellToken) → shown.IsLive c b → TwinLive V b k →
       IsLive V c k
@@ -367,8 +371,7 @@ module _ (N : ℕ) (z : Sizes) where
   queues V (w ∷ ws) [] qs s h = elim s [ ]
   queues V (w ∷ ws) (p ∷ ps) [] s h = elim h [ ]
   queues V (w ∷ ws) (p ∷ ps) (q ∷ qs) s h =
-      let e : h.0.t ≡ boxes_at w.place = box_bits_tell h.0.t (boxes_at w.place) (sym h.0.boxes ∙ s.0.boxes) in
-      (
+      let e : h.0.t ≡ boxes_at w.place = box_bits_tell h.0.t (boxes_at w.place) (sym h.0.boxes ∙ s.0.boxes) in (
         record {
           channel = sym h.0.channel ∙ s.0.channel;
           work = s.0.work;

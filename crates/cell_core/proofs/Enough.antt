@@ -9,7 +9,8 @@ use Rattle.pcf_values.specs.declared.side.Side.{Side}
 use Rattle.token_stacks.specs.Signatures.{Work, Boxes}
 use Rattle.net_build.specs.Nets.{WireTree, NetTree}
 use Rattle.net_build.specs.Sound.{Is, Sound}
-use Rattle.move_rules.specs.Places.{Place, up, down, TokenTree, ask, ans, place_of, work_at, boxes_at}
+use Rattle.move_rules.specs.Places.{Place, up, down, TokenTree, ask, ans, place_of}
+use Rattle.move_rules.specs.Stacks.{work_at, boxes_at}
 use Rattle.move_rules.specs.Moves.{solo_at, move}
 use Rattle.interleave_laws.specs.States.{State}
 use Rattle.interleave_laws.specs.Runs.{Runs, LeadsTo}

@@ -12,7 +12,8 @@ use Rattle.net_build.specs.declared.node.Node.TheVariants.{Root}
 use Rattle.net_build.specs.Nets.{WireTree, value_wire, NetTree}
 use Rattle.net_build.specs.Sound.{Is, Sound}
 use Rattle.fork_join.specs.Entries.{Entry, pending, has_left, has_right, kept_as}
-use Rattle.move_rules.specs.Places.{Place, up, down, TokenTree, ask, ans, place_of, work_at, boxes_at}
+use Rattle.move_rules.specs.Places.{Place, up, down, TokenTree, ask, ans, place_of}
+use Rattle.move_rules.specs.Stacks.{work_at, boxes_at}
 use Rattle.move_rules.specs.Moves.{Move, solo, fork, join, answer, stay, move}
 use Rattle.interleave_laws.specs.Start.{start_of}
 use Rattle.interleave_laws.specs.States.{State, Tokens, start, set_token, other, fork_on, last_on, join_on, act, step_on, step, then_run}

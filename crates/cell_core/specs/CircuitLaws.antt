@@ -3,7 +3,8 @@ use Rattle.std.specs.Prelude.{◌≡◌, ◌⊎◌, ◌≤◌, ℕ, true, false,
 use Rattle.pcf_values.specs.declared.val.Val.{Val}
 use Rattle.token_stacks.specs.Signatures.{Work, Boxes}
 use Rattle.net_build.specs.Nets.{NetTree}
-use Rattle.move_rules.specs.Places.{Place, TokenTree, ask, ans, work_at, boxes_at}
+use Rattle.move_rules.specs.Places.{Place, TokenTree, ask, ans}
+use Rattle.move_rules.specs.Stacks.{work_at, boxes_at}
 use Rattle.interleave_laws.specs.States.{State}
 use Rattle.interleave_laws.specs.Runs.{LeadsTo, Runs}
 use Rattle.interleave_laws.specs.OneWorker.{one}

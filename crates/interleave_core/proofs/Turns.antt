@@ -8,7 +8,8 @@ use Rattle.std.proofs.lemmas.List.{length-append, length-replicate, replicate-ap
 use Rattle.pcf_values.specs.Most.{most_budget}
 use Rattle.net_build.specs.Nets.{NetTree}
 use Rattle.interleave_laws.specs.Start.{start_of}
-use Rattle.interleave_laws.specs.Maps.{MapState, start_map, step_map, run_map, then_run_map, LeadsToMap, IsReachedWithin}
+use Rattle.interleave_laws.specs.Maps.{MapState, start_map, step_map, run_map, then_run_map, LeadsToMap}
+use Rattle.interleave_laws.specs.MapRuns.{IsReachedWithin}
 use Rattle.interleave_laws.specs.Tickets.{IsLive}
 use Rattle.interleave_core.specs.Owning.{GoesAlone}
 use Rattle.interleave_laws.proofs.MapLaws.{run_both}
