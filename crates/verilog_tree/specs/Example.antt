@@ -77,4 +77,4 @@ ExampleRefused = all_refused wrong_modules
 -- the text of a block, where no number stands in it
 abbrev pub ExampleText : Type 0
 ExampleText = item_text (settles (branch (name "rst") (put (whole "count") (name "next")) skip))
-    ≡ codes "  always @* begin\n    if (rst) begin\n      count = next;\n    end else begin\n    end\n  end\n"
+    ≡ codes "  always @* begin\n    if (rst) begin\n      count = next;\n    end\n  end\n"

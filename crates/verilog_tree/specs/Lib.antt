@@ -6,6 +6,10 @@ pub mod Meaning
 pub mod WellFormed
 -- Its text, of which no law speaks yet but an example.
 pub mod Print
+-- The text of a list of bytes.
+pub mod Names
+-- The views: which tree each tree of the code stands for.
+pub mod Views
 -- Lists of bits in vectors.
 pub mod Marks
 -- The laws of trees: the statement of `law_spared`.

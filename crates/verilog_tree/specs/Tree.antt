@@ -82,6 +82,11 @@ pub data Target : Type 0 where
   bit_at : String → Expr → Target
   word_at : String → Expr → Target
 
+-- a part of what is said of an arm: words, or a number
+pub data Said : Type 0 where
+  word_said : String → Said
+  number_said : ℕ → Said
+
 mutual
   -- statements
   pub data Stmt : Type 0 where
@@ -103,7 +108,7 @@ mutual
     -- default: s
     otherwise : Stmt → Arms
     -- a, b: s, with what is said of it
-    arm : List Expr → Stmt → (said : List ℕ) → Arms → Arms
+    arm : List Expr → Stmt → (said : List Said) → Arms → Arms
 
 -- a declared width (4.3.1, 4.8)
 pub data Width : Type 0 where
@@ -122,8 +127,10 @@ pub data Local : Type 0 where
 
 -- what a module consists of (clause 12)
 pub data Item : Type 0 where
-  -- a line that means nothing (3.3)
+  -- a comment of one line, which means nothing (3.3)
   note : String → Item
+  -- an empty line (3.2)
+  gap : Item
   -- localparam x = n; (4.10.2)
   size : String → ℕ → Item
   -- localparam [H:0] x = n; (4.10.2)

@@ -11,9 +11,8 @@ use Prim.Native.String.{String}
 use lib.Text.{eqt}
 use Rattle.verilog_tree.specs.Tree.{Size, count, named, more, less, Expr, num, sized, const, name, bit, part, word, ones, cat, inverse, two}
 use Rattle.verilog_tree.specs.Tree.{shift, test, logic, none, any, every, pick, call, Target, whole, bit_at, word_at, Stmt, skip, put, seq}
-use Rattle.verilog_tree.specs.Tree.{branch}
-use Rattle.verilog_tree.specs.Tree.{cases, loop, Arms, otherwise, arm, Width, one, upto, wide, integer, Local, local, Item, note, size}
-use Rattle.verilog_tree.specs.Tree.{constant}
+use Rattle.verilog_tree.specs.Tree.{branch, cases, loop, Said, word_said, number_said, Arms, otherwise, arm, Width, one, upto, wide}
+use Rattle.verilog_tree.specs.Tree.{integer, Local, local, Item, note, gap, size, constant}
 use Rattle.verilog_tree.specs.Tree.{input, output, reg, memory, wire, function, settles, clocked}
 use Rattle.verilog_tree.specs.Meaning.{chosen}
 
@@ -153,6 +152,12 @@ identifier x = spelt (codes x) && not (member x keywords)
 abbrev pub one_line : List ℕ → Bool
 one_line [] = true
 one_line (c ∷ cs) = not (nat_eq c 10 || nat_eq c 13) && one_line cs
+
+-- of what is said of an arm, no line ends in the words
+abbrev pub said_ok : List Said → Bool
+said_ok [] = true
+said_ok (word_said s ∷ ps) = one_line (codes s) && said_ok ps
+said_ok (number_said n ∷ ps) = said_ok ps
 
 -- a name that is declared
 abbrev pub taken : List Entry → String → Bool
@@ -305,7 +310,7 @@ abbrev mutual
 
   pub arms_ok : List Entry → List String → Arms → Bool
   arms_ok env mine (otherwise s) = stmt_ok env mine s
-  arms_ok env mine (arm es s c arms) = (exprs_ok env es && (stmt_ok env mine s && one_line c)) && arms_ok env mine arms
+  arms_ok env mine (arm es s c arms) = (exprs_ok env es && (stmt_ok env mine s && said_ok c)) && arms_ok env mine arms
 
 -- what a block of the clock assigns to; it has no loop
 abbrev mutual
@@ -369,6 +374,7 @@ declare k x env = record { name = x; kind = k } ∷ env
 -- what is declared after an item
 abbrev pub declared : List Entry → Item → List Entry
 declared env (note s) = env
+declared env gap = env
 declared env (size x n) = declare a_size x env
 declared env (constant w x n) = declare a_constant x env
 declared env (input w x) = declare (input_kind w x) x env
@@ -401,6 +407,7 @@ number_width w = false
 -- an item, where so many names are declared and driven above it
 abbrev pub item_ok : List Entry → List String → Item → Bool
 item_ok env ds (note s) = one_line (codes s)
+item_ok env ds gap = true
 item_ok env ds (size x n) = new env x
 item_ok env ds (constant w x n) = new env x && number_width w
 item_ok env ds (input w x) = new env x && (plain_width w && width_ok env w)

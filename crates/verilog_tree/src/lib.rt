@@ -1,11 +1,23 @@
-//! A tree for the constructs of Verilog that a circuit's text uses, what it means, which trees are modules, and its text; no code.
+//! Trees for the constructs of Verilog that a circuit's text uses: what they mean, which of them are modules, and their text.
 //!
 //! The meaning is that of IEEE 1364-2005 on these constructs: widths, values, assignments that cut, blocks that settle, one edge of the
 //! clock. Each rule names its clause. A reader has to believe it, as a reader believes the definition of a net. The laws show what the
-//! definitions come to on a small module, and that a statement leaves alone what it doesn't assign to. That a tool follows the standard,
-//! and that a printed text is the text of its tree, is left to whoever prints one.
+//! definitions come to on a small module, and that a statement leaves alone what it doesn't assign to. The types are the same trees as a
+//! program holds them. The calls `push_..` append the text of such a tree, exactly as `specs/Print.antt` defines it. That a tool follows
+//! the standard is left to the tool.
 #![tactic(auto)]
 
+mod blocks;
+mod items;
 mod laws;
+mod print;
+mod tree;
 
+pub use blocks::{push_arm, push_arms, push_statement};
+pub use items::{push_item, push_items, push_ports};
 pub use laws::{law_example_module, law_spared};
+pub use print::push_expression;
+pub use tree::{
+    Cases, Comparison, Connective, Direction, Expression, Extent, Item, Margin, Operation, Place,
+    Range, Remark, Statement, Variable,
+};

@@ -1,0 +1,274 @@
+//! The text of what a module consists of.
+
+ghost use Rattle.std.specs.Prelude.{◌≡◌, ◌++◌, OnOk, codes, decimal, map, false};
+ghost use Rattle.verilog_tree.specs.Names.{text_of};
+ghost use Rattle.verilog_tree.specs.Print.{width_text, bits_text, reg_text, locals_text, item_text, items_text, expr_text};
+ghost use Rattle.verilog_tree.specs.Print.{size_text, port_text, is_port, more_ports, ports_text, stmt_text};
+ghost use Rattle.verilog_tree.specs.Views.{expr_of, size_of, stmt_of, width_of, local_of, item_of};
+
+use crate::blocks::push_statement;
+use crate::print::{push_expression, push_extent, push_name, push_number, push_wide};
+use crate::tree::{Expression, Extent, Item, Margin, Range, Statement, Variable};
+use std::alloc::AllocError;
+
+/// Appends a declared width.
+fn push_range(text: &mut Vec<u8>, range: &Range) -> Result<(), AllocError>
+    ensures { OnOk result (text.new.items ≡ text.old.items ++ width_text (width_of range.now)) }
+{
+    match range {
+        Range::One => Ok(()),
+        Range::UpTo(high) => {
+            text.extend_from_slice(b"[")?;
+            push_extent(text, high)?;
+            text.extend_from_slice(b":0] ")
+        }
+        Range::Wide(wide) => {
+            text.extend_from_slice(b"[")?;
+            push_extent(text, wide)?;
+            text.extend_from_slice(b"-1:0] ")
+        }
+        Range::Integer => Ok(()),
+    }
+}
+
+/// Appends how many bits a constant has.
+fn push_bits(text: &mut Vec<u8>, range: &Range) -> Result<(), AllocError>
+    ensures { OnOk result (text.new.items ≡ text.old.items ++ bits_text (width_of range.now)) }
+{
+    match range {
+        Range::One => text.extend_from_slice(b"1"),
+        Range::UpTo(Extent::Count(n)) => push_wide(text, u128::from(*n) + 1),
+        Range::Wide(Extent::Count(n)) => push_number(text, *n),
+        _ => text.extend_from_slice(b"32"),
+    }
+}
+
+/// Appends the declaration of a register.
+fn push_reg(text: &mut Vec<u8>, range: &Range, name: &[u8]) -> Result<(), AllocError>
+    ensures { OnOk result (text.new.items ≡ text.old.items ++ reg_text (width_of range.now) (text_of name.now)) }
+{
+    match range {
+        Range::Integer => text.extend_from_slice(b"integer ")?,
+        _ => {
+            text.extend_from_slice(b"reg ")?;
+            push_range(text, range)?;
+        }
+    }
+    push_name(text, name)?;
+    text.extend_from_slice(b";\n")
+}
+
+/// Appends the variables of a function.
+fn push_variables(text: &mut Vec<u8>, variables: &[Variable]) -> Result<(), AllocError>
+    ensures { OnOk result (text.new.items ≡ text.old.items ++ locals_text (map local_of variables.now)) }
+{
+    for variable in variables {
+        text.extend_from_slice(b"    ")?;
+        push_reg(text, &variable.range, variable.name)?;
+    }
+    Ok(())
+}
+
+/// Appends a comment.
+fn push_note(text: &mut Vec<u8>, words: &[u8]) -> Result<(), AllocError>
+    ensures { OnOk result (text.new.items ≡ text.old.items ++ (codes "  // " ++ (codes (text_of words.now) ++ codes "\n"))) }
+{
+    text.extend_from_slice(b"  // ")?;
+    push_name(text, words)?;
+    text.extend_from_slice(b"\n")
+}
+
+/// Appends a number with a name.
+fn push_size(text: &mut Vec<u8>, name: &[u8], n: u64) -> Result<(), AllocError>
+    ensures { OnOk result (text.new.items ≡ text.old.items
+        ++ (codes "  localparam " ++ (codes (text_of name.now) ++ (codes " = " ++ (decimal n ++ codes ";\n"))))) }
+{
+    text.extend_from_slice(b"  localparam ")?;
+    push_name(text, name)?;
+    text.extend_from_slice(b" = ")?;
+    push_number(text, n)?;
+    text.extend_from_slice(b";\n")
+}
+
+/// Appends a number with its width.
+fn push_bare(text: &mut Vec<u8>, range: &Range, n: u128) -> Result<(), AllocError>
+    ensures { OnOk result (text.new.items ≡ text.old.items
+        ++ (codes " = " ++ (bits_text (width_of range.now) ++ (codes "'d" ++ (decimal n ++ codes ";\n"))))) }
+{
+    text.extend_from_slice(b" = ")?;
+    push_bits(text, range)?;
+    text.extend_from_slice(b"'d")?;
+    push_wide(text, n)?;
+    text.extend_from_slice(b";\n")
+}
+
+/// Appends a word, a declared width and a name.
+fn push_declared(
+    text: &mut Vec<u8>,
+    word: &[u8],
+    range: &Range,
+    name: &[u8],
+) -> Result<(), AllocError>
+    ensures { OnOk result (text.new.items ≡ text.old.items
+        ++ (word.now ++ (width_text (width_of range.now) ++ codes (text_of name.now)))) }
+{
+    text.extend_from_slice(word)?;
+    push_range(text, range)?;
+    push_name(text, name)
+}
+
+/// Appends the end of a memory's declaration: how many words it has.
+fn push_words(text: &mut Vec<u8>, words: &Extent) -> Result<(), AllocError>
+    ensures { OnOk result (text.new.items ≡ text.old.items ++ (codes " [0:" ++ (size_text (size_of words.now) ++ codes "-1];\n"))) }
+{
+    text.extend_from_slice(b" [0:")?;
+    push_extent(text, words)?;
+    text.extend_from_slice(b"-1];\n")
+}
+
+/// Appends the end of a wire's declaration: what drives it.
+fn push_driver(text: &mut Vec<u8>, e: &Expression) -> Result<(), AllocError>
+    ensures { OnOk result (text.new.items ≡ text.old.items ++ (codes " = " ++ (expr_text false (expr_of e.now) ++ codes ";\n"))) }
+{
+    text.extend_from_slice(b" = ")?;
+    push_expression(text, false, e)?;
+    text.extend_from_slice(b";\n")
+}
+
+/// Appends the end of a function: its variables and its body.
+fn push_body(text: &mut Vec<u8>, variables: &[Variable], body: &Statement) -> Result<(), AllocError>
+    ensures { OnOk result (text.new.items ≡ text.old.items ++ (codes ");\n" ++ (locals_text (map local_of variables.now)
+        ++ (codes "    begin\n" ++ (stmt_text (codes " = ") 3 (stmt_of body.now) ++ codes "    end\n  endfunction\n"))))) }
+{
+    text.extend_from_slice(b");\n")?;
+    push_variables(text, variables)?;
+    text.extend_from_slice(b"    begin\n")?;
+    let two = Margin::Within(&Margin::Within(&Margin::Edge));
+    push_statement(text, b" = ", &Margin::Within(&two), body)?;
+    text.extend_from_slice(b"    end\n  endfunction\n")
+}
+
+/// Appends a block with its first line and this sign of assignment.
+fn push_always(
+    text: &mut Vec<u8>,
+    first: &[u8],
+    sign: &[u8],
+    body: &Statement,
+) -> Result<(), AllocError>
+    ensures { OnOk result (text.new.items ≡ text.old.items
+        ++ (first.now ++ (stmt_text sign.now 2 (stmt_of body.now) ++ codes "  end\n"))) }
+{
+    text.extend_from_slice(first)?;
+    push_statement(
+        text,
+        sign,
+        &Margin::Within(&Margin::Within(&Margin::Edge)),
+        body,
+    )?;
+    text.extend_from_slice(b"  end\n")
+}
+
+/// Appends an item of a module's body. Ports have their own list.
+///
+/// # Errors
+///
+/// It runs out of memory; what is appended by then says nothing.
+pub fn push_item(text: &mut Vec<u8>, item: &Item) -> Result<(), AllocError>
+    ensures { OnOk result (text.new.items ≡ text.old.items ++ item_text (item_of item.now)) }
+{
+    match item {
+        Item::Note(words) => push_note(text, words),
+        Item::Gap => text.extend_from_slice(b"\n"),
+        Item::Size(name, n) => push_size(text, name, *n),
+        Item::Constant(range, name, n) => {
+            push_declared(text, b"  localparam ", range, name)?;
+            push_bare(text, range, *n)
+        }
+        Item::Input(_, _) => Ok(()),
+        Item::Output(_, _) => Ok(()),
+        Item::Reg(range, name) => {
+            text.extend_from_slice(b"  ")?;
+            push_reg(text, range, name)
+        }
+        Item::Memory(range, name, words) => {
+            push_declared(text, b"  reg ", range, name)?;
+            push_words(text, words)
+        }
+        Item::Wire(range, name, e) => {
+            push_declared(text, b"  wire ", range, name)?;
+            push_driver(text, e)
+        }
+        Item::Function(range, name, input_range, input, variables, body) => {
+            push_declared(text, b"  function ", range, name)?;
+            push_declared(text, b"(input ", input_range, input)?;
+            push_body(text, variables, body)
+        }
+        Item::Settles(body) => push_always(text, b"  always @* begin\n", b" = ", body),
+        Item::Clocked(body) => push_always(text, b"  always @(posedge clk) begin\n", b" <= ", body),
+    }
+}
+
+/// Appends items of a module's body.
+///
+/// # Errors
+///
+/// It runs out of memory; what is appended by then says nothing.
+pub fn push_items(text: &mut Vec<u8>, items: &[Item]) -> Result<(), AllocError>
+    ensures { OnOk result (text.new.items ≡ text.old.items ++ items_text (map item_of items.now)) }
+{
+    for item in items {
+        push_item(text, item)?;
+    }
+    Ok(())
+}
+
+/// Appends a port.
+fn push_port(text: &mut Vec<u8>, item: &Item) -> Result<(), AllocError>
+    ensures { OnOk result (text.new.items ≡ text.old.items ++ port_text (item_of item.now)) }
+{
+    match item {
+        Item::Input(range, name) => push_declared(text, b"  input wire ", range, name),
+        Item::Output(range, name) => push_declared(text, b"  output reg ", range, name),
+        _ => Ok(()),
+    }
+}
+
+/// Whether an item is a port.
+fn is_port(item: &Item) -> bool
+    ensures { result ≡ is_port (item_of item.now) }
+{
+    match item {
+        Item::Input(_, _) | Item::Output(_, _) => true,
+        _ => false,
+    }
+}
+
+/// Appends the ports behind the first.
+fn push_more_ports(text: &mut Vec<u8>, items: &[Item]) -> Result<(), AllocError>
+    ensures { OnOk result (text.new.items ≡ text.old.items ++ more_ports (map item_of items.now)) }
+{
+    for item in items {
+        if is_port(item) {
+            text.extend_from_slice(b",\n")?;
+            push_port(text, item)?;
+        }
+    }
+    Ok(())
+}
+
+/// Appends the list of ports.
+///
+/// # Errors
+///
+/// It runs out of memory; what is appended by then says nothing.
+pub fn push_ports(text: &mut Vec<u8>, items: &[Item]) -> Result<(), AllocError>
+    ensures { OnOk result (text.new.items ≡ text.old.items ++ ports_text (map item_of items.now)) }
+{
+    match items {
+        [] => Ok(()),
+        [first, rest @ ..] => {
+            push_port(text, first)?;
+            push_more_ports(text, rest)
+        }
+    }
+}
