@@ -11,9 +11,9 @@ use Rattle.circuit_core.specs.Rows.{RIGHT, CON, PUSHR, PUSHL, SELECT, POP, BOXIN
 use Rattle.circuit_core.specs.Rows.{row_of}
 use Rattle.circuit_core.specs.Rows.{channel_of}
 use Rattle.verilog_tree.specs.Tree.{Arms}
-use Rattle.verilog_tree.specs.WellFormed.{Entry, stmt_ok, arms_ok, all_declared, WellFormed}
+use Rattle.verilog_tree.specs.WellFormed.{Entry, said_ok, stmt_ok, arms_ok, all_declared, WellFormed}
 use Rattle.circuit_module.specs.Fixed.{ports, constants, registers, row_registers}
-use Rattle.circuit_module.specs.Module.{row_stmt, row_arm, row_arms, sizes, multiplies, product_of, module_with, module_of}
+use Rattle.circuit_module.specs.Module.{row_stmt, place_said, row_arm, row_arms, sizes, multiplies, product_of, module_with, module_of}
 
 -- what is declared above the rows
 abbrev names : List Entry
@@ -55,12 +55,17 @@ row_ok (FIXOUT c d) = refl
 row_ok (FIXVAR c) = refl
 row_ok DEAD = refl
 
+-- what is said of a row is on its line
+said_ok_there : (c : Channel) (i : ℕ) → said_ok (place_said c i) ≡ true
+said_ok_there (rises w) i = refl
+said_ok_there (falls w) i = refl
+
 arm_ok : (c : Channel) (o : Option (ℕ × Row)) (rest : Arms) → arms_ok names driven_there rest ≡ true →
     arms_ok names driven_there (row_arm c o rest) ≡ true
 arm_ok c None rest h = h
 arm_ok c (Some r) rest h =
-    and_from (stmt_ok names driven_there (row_stmt r.1) && true) (arms_ok names driven_there rest)
-    (and_from (stmt_ok names driven_there (row_stmt r.1)) true (row_ok r.1) refl) h
+    and_from (stmt_ok names driven_there (row_stmt r.1) && said_ok (place_said c r.0)) (arms_ok names driven_there rest)
+    (and_from (stmt_ok names driven_there (row_stmt r.1)) (said_ok (place_said c r.0)) (row_ok r.1) (said_ok_there c r.0)) h
 
 rows_ok : (net : NetTree) (w n : ℕ) → arms_ok names driven_there (row_arms net w n) ≡ true
 rows_ok net w zero = refl

@@ -3,7 +3,7 @@ use Rattle.std.specs.Prelude.{ℕ, ◌^◌, List, [], ◌∷◌, ◌++◌}
 use Prim.Native.String.{String}
 use Rattle.verilog_tree.specs.Tree.{count, named, more, less, plus, minus, times, also, either, left, right, same, other, below}
 use Rattle.verilog_tree.specs.Tree.{both, one_of, Expr, num, sized, const, name, bit, part, word, ones, cat, inverse, two, shift, test}
-use Rattle.verilog_tree.specs.Tree.{logic}
+use Rattle.verilog_tree.specs.Tree.{logic, Said, word_said, note, gap}
 use Rattle.verilog_tree.specs.Tree.{none, any, every, pick, call, whole, bit_at, word_at, Stmt, skip, put, seq, branch, cases, loop}
 use Rattle.verilog_tree.specs.Tree.{Arms, otherwise, arm, one, upto, wide, integer, local, Item, constant, input, output, reg, memory}
 use Rattle.verilog_tree.specs.Tree.{wire, function, settles}
@@ -22,6 +22,10 @@ block (s ∷ t ∷ ss) = seq s (block (t ∷ ss))
 abbrev pub on : String → Stmt → Arms → Arms
 on x s arms = arm (const x ∷ []) s [] arms
 
+-- the same with what is said of it
+abbrev pub on_said : String → String → Stmt → Arms → Arms
+on_said x said s arms = arm (const x ∷ []) s (word_said said ∷ []) arms
+
 -- x is the operation
 abbrev pub op_is : String → Expr
 op_is x = test same (name "op") (const x)
@@ -32,6 +36,20 @@ ports =
     input one "clk" ∷ input one "rst" ∷ output one "done" ∷ output (upto (count 64)) "result" ∷ output one "full" ∷
     output (upto (count 63)) "moves" ∷ []
 
+-- what a reader of the text wants to know of the ports
+abbrev pub port_notes : List Item
+port_notes =
+    note "clk: every register changes at its rising edges. rst: high at a rising edge, where the run begins." ∷
+    note "done: the run has ended with a value. result: the value; bit 64 says overflow." ∷
+    note "full: the run has ended without one, since a stack or the forks were too small." ∷
+    note "moves: the moves of the run so far, one in each cycle." ∷ gap ∷ note "---- sizes" ∷ gap ∷
+    note "The wires of the net, the channel of the program's question, the bits of each stack, and the forks that can be open" ∷
+    note "at once." ∷ []
+
+-- and of the sizes that follow from those
+abbrev pub size_notes : List Item
+size_notes = note "The bits of a channel, of a fork's number, of a signature's length, and of a stack before it is cut." ∷ []
+
 -- an operation's number, of five bits
 abbrev pub op_code : String → ℕ → Item
 op_code x n = constant (upto (count 4)) x n
@@ -39,7 +57,8 @@ op_code x n = constant (upto (count 4)) x n
 -- a value is a number of 64 bits; bit 64 says overflow, and then the others are 0
 abbrev pub constants : List Item
 constants =
-    constant (upto (count 64)) "OVERFLOW" (2 ^ 64) ∷
+    gap ∷ note "A value is a number of 64 bits; bit 64 says overflow, and then the others are 0." ∷
+    constant (upto (count 64)) "OVERFLOW" (2 ^ 64) ∷ gap ∷ note "The operations of rows." ∷
     op_code "GO" 0 ∷ op_code "CONST" 1 ∷ op_code "SUCC" 2 ∷ op_code "PRED" 3 ∷ op_code "TEST" 4 ∷ op_code "FORK" 5 ∷
     op_code "PLUSL" 6 ∷ op_code "PLUSR" 7 ∷ op_code "MINUSL" 8 ∷ op_code "MINUSR" 9 ∷ op_code "TIMESL" 10 ∷
     op_code "TIMESR" 11 ∷ op_code "ANSWER" 12 ∷ op_code "STAR" 13 ∷ op_code "UNSTAR" 14 ∷ op_code "LEFT" 15 ∷
@@ -50,16 +69,25 @@ constants =
 -- the token, the ring of right questions that wait, and the forks
 abbrev pub registers : List Item
 registers =
+    gap ∷ note "---- registers" ∷ gap ∷
+    note "The token: whether there is one, its channel, its value if it answers, its work stack and its box stack, and its" ∷
+    note "fork, the innermost one that is open around it. A channel is a wire with a direction: 2 w is up wire w, and" ∷
+    note "2 w + 1 is down wire w. A stack has its top at bit 0, and a 1 above its last bit." ∷
     reg one "live" ∷ reg (wide (named "C")) "at" ∷ reg (upto (count 64)) "value" ∷ reg (upto (named "N")) "work" ∷
-    reg (upto (named "N")) "boxes" ∷ reg (wide (named "S")) "mine" ∷
+    reg (upto (named "N")) "boxes" ∷ reg (wide (named "S")) "mine" ∷ gap ∷
+    note "The right questions that wait, in a ring: channel, box stack and fork." ∷
     memory (wide (named "C")) "queue_at" (named "E") ∷ memory (upto (named "N")) "queue_boxes" (named "E") ∷
-    memory (wide (named "S")) "queue_mine" (named "E") ∷ reg (wide (named "S")) "first" ∷ reg (wide (named "S")) "last" ∷
+    memory (wide (named "S")) "queue_mine" (named "E") ∷ reg (wide (named "S")) "first" ∷ reg (wide (named "S")) "last" ∷ gap ∷
+    note "The forks: which are open, and of each one the fork around it, whether it has its first answer, and that answer." ∷
     reg (wide (named "E")) "open" ∷ memory (wide (named "S")) "fork_around" (named "E") ∷
     memory one "fork_answered" (named "E") ∷ memory (upto (count 64)) "fork_kept" (named "E") ∷ []
 
 -- the row of the token's channel
 abbrev pub row_registers : List Item
 row_registers =
+    gap ∷ note "---- the rows of the net" ∷ gap ∷
+    note "The row of the token's channel: an operation, the channel that it sends to, the other one if it has two, and a" ∷
+    note "number if it has one." ∷
     reg (upto (count 4)) "op" ∷ reg (wide (named "C")) "to" ∷ reg (wide (named "C")) "other" ∷ reg (upto (count 63)) "number" ∷ []
 
 -- a channel without a row
@@ -112,6 +140,13 @@ len_function =
     function (wide (named "L")) "len" (upto (named "N")) "bits"
     (local integer "i" ∷ local (wide (named "L")) "due" ∷ local (upto (count 1)) "skip" ∷ []) len_body
 
+-- what is said of it
+abbrev pub len_notes : List Item
+len_notes =
+    gap ∷ note "---- stacks" ∷ gap ∷
+    note "How many bits the signature has that begins at bit 0. At first one signature is due. The bits 00 are a whole one;" ∷
+    note "01 and 10 have one more behind them, and so one is still due; 110 and 111 have two more." ∷ []
+
 -- a mask of the first bits
 abbrev pub first_bits : String → String → Expr
 first_bits x n = two also (name x) (inverse (shift left (ones (named "N")) (name n)))
@@ -119,6 +154,8 @@ first_bits x n = two also (name x) (inverse (shift left (ones (named "N")) (name
 -- the signatures that the row reads, and how long they are
 abbrev pub stack_wires : List Item
 stack_wires =
+    gap ∷ note "The signatures that the row reads, and how long they are: one of the box stack, and one of the work stack or, at" ∷
+    note "FIXOUT, a second one of the box stack." ∷
     wire (upto (named "N")) "box_bits" (pick (op_is "FIXOUT") (shift right (name "boxes") (num 3)) (name "boxes")) ∷
     wire (wide (named "L")) "box_len" (call "len" "box_bits") ∷
     wire (upto (named "N")) "box_top" (first_bits "box_bits" "box_len") ∷
@@ -126,6 +163,7 @@ stack_wires =
     (pick (op_is "DOORIN") (shift right (name "work") (num 4)) (shift right (name "work") (num 1)))) ∷
     wire (wide (named "L")) "sig_len" (call "len" "sig_bits") ∷
     wire (upto (named "N")) "sig_top" (first_bits "sig_bits" "sig_len") ∷
+    gap ∷ note "Both stacks before the row and after it, and the channel that the token goes to." ∷
     wire (wide (named "M")) "w" (name "work") ∷ wire (wide (named "M")) "b" (name "boxes") ∷
     wire (wide (named "M")) "bt" (name "box_top") ∷ wire (wide (named "M")) "st" (name "sig_top") ∷
     reg (wide (named "M")) "next_work" ∷ reg (wide (named "M")) "next_boxes" ∷ reg (wide (named "C")) "goes" ∷ []
@@ -200,7 +238,9 @@ too_long x = any (part x (less (named "M") (count 1)) (more (named "N") (count 1
 
 -- whether one of both stacks is too long
 abbrev pub over_wires : List Item
-over_wires = wire one "over" (logic one_of (too_long "next_work") (too_long "next_boxes")) ∷ []
+over_wires =
+    note "Whether a stack has more than N bits: something other than 0 above bit N." ∷
+    wire one "over" (logic one_of (too_long "next_work") (too_long "next_boxes")) ∷ []
 
 -- the number of a place from the end
 abbrev pub from_end : Expr
@@ -229,6 +269,7 @@ low x = part x (count 63) (count 0)
 -- the token's fork, both operands, and what they may come to
 abbrev pub join_wires : Expr → List Item
 join_wires product =
+    gap ∷ note "The token's own fork, and what both operands come to. One of them is the token's value, and the other was kept." ∷
     wire (wide (named "S")) "around" (word "fork_around" (name "mine")) ∷
     wire one "answered" (word "fork_answered" (name "mine")) ∷
     wire (upto (count 64)) "kept" (word "fork_kept" (name "mine")) ∷
@@ -252,6 +293,7 @@ both_stmt =
 -- what forks and joins need
 abbrev pub fork_wires : Expr → List Item
 fork_wires product =
+    gap ∷ note "---- forks" ∷ gap ∷ note "The first fork that isn't open, where there is one." ∷
     reg (wide (named "S")) "free" ∷ reg integer "j" ∷ settles free_block ∷ (join_wires product ++ settles both_stmt ∷ [])
 
 -- the product of both numbers, of 128 bits
@@ -261,6 +303,10 @@ multiplier = two times (low "left") (low "right")
 -- where no node multiplies
 abbrev pub no_multiplier : Expr
 no_multiplier = sized 128 0
+
+-- the head of the last part
+abbrev pub clock_notes : List Item
+clock_notes = gap ∷ note "---- one move in each cycle" ∷ gap ∷ []
 
 -- one move in each cycle
 abbrev pub reset_block : Stmt
@@ -309,6 +355,11 @@ take_on =
 abbrev pub move_on : Stmt
 move_on = branch (name "over") (set "full" (num 1)) take_on
 
+-- what is said of a join
+abbrev pub join_said : List Said
+join_said =
+    word_said "the first answer is kept, and the question that waits longest goes on; the second closes its fork" ∷ []
+
 -- what the operation does with the registers
 abbrev pub clock_arms : Arms
 clock_arms =
@@ -317,8 +368,8 @@ clock_arms =
     (two plus (name "value") (num 1))) ∷ set "at" (name "to") ∷ [])) (
     on "PRED" (block (set "value" (pick (logic one_of (high "value") (test same (name "value") (num 0))) (name "value")
     (two minus (name "value") (num 1))) ∷ set "at" (name "to") ∷ [])) (
-    on "FORK" (branch (every (name "open")) (set "full" (num 1)) fork_stmt) (
-    arm (const "PLUSL" ∷ const "PLUSR" ∷ const "MINUSL" ∷ const "MINUSR" ∷ const "TIMESL" ∷ const "TIMESR" ∷ []) join_stmt [] (
+    on_said "FORK" "the left question goes on, and the right one waits" (branch (every (name "open")) (set "full" (num 1)) fork_stmt) (
+    arm (const "PLUSL" ∷ const "PLUSR" ∷ const "MINUSL" ∷ const "MINUSR" ∷ const "TIMESL" ∷ const "TIMESR" ∷ []) join_stmt join_said (
     on "ANSWER" (block (set "live" (num 0) ∷ set "done" (num 1) ∷ set "result" (name "value") ∷ [])) (
     on "DEAD" (set "full" (num 1)) (
     otherwise move_on)))))))

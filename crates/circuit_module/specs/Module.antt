@@ -12,9 +12,11 @@ use Rattle.interleave_laws.specs.Start.{start_of}
 use Rattle.circuit_core.specs.Rows.{Channel, rises, falls, number, Row, GO, CONST, SUCC, PRED, TEST, FORK, JOIN, ANSWER, STAR, UNSTAR}
 use Rattle.circuit_core.specs.Rows.{LEFT, RIGHT, CON, PUSHR, PUSHL, SELECT, POP, BOXIN, BOXOUT, DOOROUT, DOORIN, FIXIN, FIXOUT, FIXVAR}
 use Rattle.circuit_core.specs.Rows.{DEAD, row_of, channel_of}
-use Rattle.verilog_tree.specs.Tree.{Expr, num, sized, const, Stmt, Arms, otherwise, arm, skip, Item, size, clocked, settles}
+use Rattle.verilog_tree.specs.Tree.{Expr, num, sized, const, Stmt, Arms, Said, word_said, number_said, otherwise, arm, skip, Item, size}
+use Rattle.verilog_tree.specs.Tree.{clocked, settles}
 use Rattle.circuit_module.specs.Sizes.{channel_bits, fork_bits, length_bits, long_bits}
-use Rattle.circuit_module.specs.Fixed.{set, block, ports, constants, registers, row_registers, rows_block, len_function, stack_wires}
+use Rattle.circuit_module.specs.Fixed.{set, block, ports, port_notes, size_notes, constants, registers, row_registers, rows_block}
+use Rattle.circuit_module.specs.Fixed.{len_notes, len_function, stack_wires, clock_notes}
 use Rattle.circuit_module.specs.Fixed.{stack_block, over_wires, fork_wires, multiplier, no_multiplier, clock_block}
 
 -- the operation of an operator at a side
@@ -27,11 +29,11 @@ join_name Times Left = "TIMESL"
 join_name Times Right = "TIMESR"
 
 -- the operation, and where it sends to
-abbrev to_one : String → Channel → Stmt
+abbrev pub to_one : String → Channel → Stmt
 to_one x c = block (set "op" (const x) ∷ set "to" (num (number c)) ∷ [])
 
 -- the operation, and both channels
-abbrev to_two : String → Channel → Channel → Stmt
+abbrev pub to_two : String → Channel → Channel → Stmt
 to_two x c d = block (set "op" (const x) ∷ set "to" (num (number c)) ∷ set "other" (num (number d)) ∷ [])
 
 -- what a row sets
@@ -62,10 +64,15 @@ row_stmt (FIXOUT c d) = to_two "FIXOUT" c d
 row_stmt (FIXVAR c) = to_one "FIXVAR" c
 row_stmt DEAD = set "op" (const "DEAD")
 
+-- what is said of a row: its channel by name, and its node
+abbrev pub place_said : Channel → ℕ → List Said
+place_said (rises w) i = word_said "up " ∷ number_said w ∷ word_said ", node " ∷ number_said i ∷ []
+place_said (falls w) i = word_said "down " ∷ number_said w ∷ word_said ", node " ∷ number_said i ∷ []
+
 -- the case of a channel, where it has a row, in front of the others
 abbrev pub row_arm : Channel → Option (ℕ × Row) → Arms → Arms
 row_arm c None arms = arms
-row_arm c (Some r) arms = arm (num (number c) ∷ []) (row_stmt r.1) [] arms
+row_arm c (Some r) arms = arm (num (number c) ∷ []) (row_stmt r.1) (place_said c r.0) arms
 
 -- the cases of so many wires, from w on
 abbrev pub row_arms : NetTree → ℕ → ℕ → Arms
@@ -87,17 +94,24 @@ multiplies (n ∷ ns) = is_times n || multiplies ns
 abbrev pub product_of : Bool → Expr
 product_of b = if b then multiplier else no_multiplier
 
--- the sizes: numbers, so that no function of the tool has to be believed
+-- the sizes that are told
+abbrev pub given_sizes : (wires start N E : ℕ) → List Item
+given_sizes wires start N E = size "WIRES" wires ∷ size "START" start ∷ size "N" N ∷ size "E" E ∷ []
+
+-- and those that follow: numbers, so that no function of the tool has to be believed
+abbrev pub derived_sizes : (wires N E : ℕ) → List Item
+derived_sizes wires N E =
+    size "C" (channel_bits wires) ∷ size "S" (fork_bits E) ∷ size "L" (length_bits N) ∷ size "M" (long_bits N) ∷ []
+
+-- all of them
 abbrev pub sizes : (wires start N E : ℕ) → List Item
-sizes wires start N E =
-    size "WIRES" wires ∷ size "START" start ∷ size "N" N ∷ size "E" E ∷ size "C" (channel_bits wires) ∷ size "S" (fork_bits E) ∷
-    size "L" (length_bits N) ∷ size "M" (long_bits N) ∷ []
+sizes wires start N E = port_notes ++ (given_sizes wires start N E ++ (size_notes ++ derived_sizes wires N E))
 
 -- the module of any rows
 abbrev pub module_with : (wires start N E : ℕ) → Arms → Expr → List Item
 module_with wires start N E rows product =
-    ports ++ (sizes wires start N E ++ (constants ++ (registers ++ (row_registers ++ (rows_block rows ∷ len_function ∷ (stack_wires ++
-    (settles stack_block ∷ (over_wires ++ (fork_wires product ++ clocked clock_block ∷ [])))))))))
+    ports ++ (sizes wires start N E ++ (constants ++ (registers ++ (row_registers ++ (rows_block rows ∷ (len_notes ++ (len_function ∷
+    (stack_wires ++ (settles stack_block ∷ (over_wires ++ (fork_wires product ++ (clock_notes ++ clocked clock_block ∷ []))))))))))))
 
 -- the module of a net, with stacks of N bits and E forks
 abbrev pub module_of : NetTree → (N E : ℕ) → List Item
