@@ -210,7 +210,7 @@ class Definitions:
         clauses = self.clauses[name]
         wants = len(clauses[0][0])
         if len(values) < wants:
-            return ("part", name, values)
+            return ("some of", name, values)
         for shapes, body in clauses:
             names = {}
             if all(self.fits(it, values[n], names) for n, it in enumerate(shapes)):
@@ -222,7 +222,7 @@ class Definitions:
             return function
         if callable(function):
             return function(*values)
-        if function[0] == "part":
+        if function[0] == "some of":
             return self.call(function[1], *function[2], *values)
         if function[0] == "closure":
             _, names, body, around = function
@@ -240,7 +240,7 @@ class Definitions:
                 self.constants[name] = self.value(clauses[0][1], {})
             return self.constants[name]
         if clauses:
-            return ("part", name, ())
+            return ("some of", name, ())
         if name in NATIVE:
             return NATIVE[name]
         if name in self.constructors:

@@ -1,2 +1,6 @@
--- the sizes, one behind the other
-pub mod Sizes
+-- how many bits tell things apart
+pub mod Bits
+-- the line of a row is the text of its case
+pub mod Lines
+-- the parts are the text of the tree
+pub mod Whole

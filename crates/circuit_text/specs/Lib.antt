@@ -1,6 +1,6 @@
--- The text of a circuit, in the order to read it: the lines of rows, the fixed parts, and the whole.
-pub mod RowText
--- The fixed parts of the text: they are the same for all nets.
-pub mod Fixed
--- The text of a net's circuit, with stacks of so many bits and so many forks: sizes, a line for each row, and the fixed parts.
+-- The text of a net's circuit: what a reader has to believe beside the tree.
 pub mod CircuitText
+-- The parts of the text in their order, for proofs.
+pub mod Parts
+-- The line of a row, for proofs.
+pub mod RowText

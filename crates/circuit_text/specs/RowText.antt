@@ -1,6 +1,6 @@
 -- The line of a row in the `case` of a circuit's text. A channel is told by its number, and behind the row stand the wire, the direction
 -- and the node for whoever reads it.
-use Rattle.std.specs.Prelude.{ℕ, Bool, true, false, List, [], ◌++◌, Option, Some, None, codes, decimal}
+use Rattle.std.specs.Prelude.{ℕ, List, [], ◌++◌, Option, Some, None, codes, decimal}
 use Rattle.pcf_values.specs.declared.operator.Operator.{Operator}
 use Rattle.pcf_values.specs.declared.operator.Operator.TheVariants.{Plus, Minus, Times}
 use Rattle.pcf_values.specs.declared.side.Side.{Side}
@@ -23,11 +23,6 @@ join_text Minus Left = codes "MINUSL"
 join_text Minus Right = codes "MINUSR"
 join_text Times Left = codes "TIMESL"
 join_text Times Right = codes "TIMESR"
-
--- the operator multiplies
-abbrev pub is_product : Operator → Bool
-is_product Times = true
-is_product o = false
 
 -- the name of an operation
 abbrev pub op_text : Row → List ℕ

@@ -1,14 +1,16 @@
 //! The circuit of a net as a text of Verilog.
 //!
 //! `print_circuit` answers the text of a net's circuit, with stacks of so many bits and so many forks: exactly the definition
-//! `circuit_text` of `specs/CircuitText.antt`. It is three things: the sizes, a line for each row of the net, and the fixed parts, which
-//! are the same for all nets, but that a multiplier stands there only where a node multiplies. That the module behaves as the bare clock
-//! of `circuit_core` says is trusted; docs/CIRCUIT.md puts both side by side, and says how it is tried.
+//! `circuit_text` of `specs/CircuitText.antt`. That is a line of comment, and the text of the tree `module_of` of `circuit_module`.
+//! `module_means` proves what this tree does: it answers what the program means, where its sizes suffice. The fixed parts stand in the
+//! code byte for byte, and each is proved to be the text of its part of the tree; the line of a row is proved to be the text of the row's
+//! case; the sizes are printed as items. That a tool takes the text for its tree, and follows the standard, is left to the tool.
 #![tactic(auto)]
 
 mod fixed;
 mod number;
 mod print;
 mod row_line;
+mod sizes;
 
 pub use print::{print_circuit, push_circuit};

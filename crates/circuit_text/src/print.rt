@@ -3,18 +3,18 @@
 ghost use Rattle.std.specs.Prelude.{◌≡◌, ◌++◌, ◌<◌, ◌^◌, OnOk, IfOk, length, map};
 ghost use Rattle.net_build.specs.Views.{wire_of};
 ghost use Rattle.net_text.specs.Listing.{lines_of};
-ghost use Rattle.interleave_laws.specs.Start.{start_of};
-ghost use Rattle.circuit_core.specs.Rows.{number, channel_of};
 ghost use Rattle.circuit_text.specs.RowText.{wire_lines};
-ghost use Rattle.circuit_text.specs.Fixed.{ports_text, top_text, middle_text, tail_text};
-ghost use Rattle.circuit_text.specs.CircuitText.{head_text, size_text, sizes_text, rows_text, is_times, multiplies};
-ghost use Rattle.circuit_text.specs.CircuitText.{product_text, circuit_text};
+ghost use Rattle.circuit_module.specs.Module.{is_times, multiplies};
+ghost use Rattle.circuit_text.specs.CircuitText.{head_text, circuit_text};
+ghost use Rattle.circuit_text.specs.Parts.{rows_text, fork_text, sizes_text, back_text};
 
 use crate::fixed;
 use crate::number::{number_of, push_number};
-use crate::row_line::{is_product, push_wire};
+use crate::row_line::push_wire;
+use crate::sizes::{push_derived, push_given};
 use circuit_rows::start;
 use net_build::{Net, Node, Wire};
+use pcf_values::Operator;
 use std::alloc::{AllocError, Global};
 
 /// The text of a net's circuit, with stacks of so many bits and so many forks.
@@ -43,19 +43,12 @@ pub fn print_circuit(
 pub fn push_circuit(text: &mut Vec<u8>, net: &Net, stack: u32, forks: u32) -> Result<(), AllocError>
     ensures { OnOk result (text.new.items ≡ text.old.items ++ circuit_text net.now stack forks) }
 {
-    let wires = net.wire_count().into();
-    push_head(text, net.node_count().into(), wires)?;
-    text.extend_from_slice(fixed::ports())?;
-    push_sizes(
-        text,
-        wires,
-        number_of(start(net)),
-        stack.into(),
-        forks.into(),
-    )?;
-    text.extend_from_slice(fixed::top())?;
+    let wires = net.wire_count();
+    push_head(text, net.node_count().into(), wires.into())?;
+    push_sizes(text, wires, number_of(start(net)), stack, forks)?;
     push_rows(text, net)?;
-    push_end(text, net)
+    push_back(text, net)?;
+    Ok(())
 }
 
 /// Appends the first line.
@@ -68,39 +61,22 @@ fn push_head(text: &mut Vec<u8>, nodes: u64, wires: u64) -> Result<(), AllocErro
     text.extend_from_slice(b" wires, with a processor of one token.\n")
 }
 
-/// Appends a size, behind its name.
-#[tactic(auto, unfolding(crate::specs::CircuitText::size_text))]
-fn push_size(text: &mut Vec<u8>, name: &[u8], n: u64, comment: &[u8]) -> Result<(), AllocError>
-    ensures { OnOk result (text.new.items ≡ text.old.items ++ size_text name.now n comment.now) }
-{
-    text.extend_from_slice(b"  localparam ")?;
-    text.extend_from_slice(name)?;
-    push_number(text, b" = ", n)?;
-    text.extend_from_slice(b";")?;
-    text.extend_from_slice(comment)?;
-    text.extend_from_slice(b"\n")
-}
-
-/// Appends the sizes.
+/// Appends the ports and the sizes, to the begin of the rows.
+#[tactic(auto, unfolding(crate::specs::Parts::sizes_text))]
 fn push_sizes(
     text: &mut Vec<u8>,
-    wires: u64,
+    wires: u32,
     start: u64,
-    stack: u64,
-    forks: u64,
+    stack: u32,
+    forks: u32,
 ) -> Result<(), AllocError>
     ensures { OnOk result (text.new.items ≡ text.old.items ++ sizes_text wires start stack forks) }
 {
-    push_size(text, b"WIRES", wires, b"")?;
-    push_size(
-        text,
-        b"START",
-        start,
-        b"  // the channel of the program's question",
-    )?;
-    push_size(text, b"N", stack, b"  // bits of each stack")?;
-    push_size(text, b"E", forks, b"  // forks that can be open at once")?;
-    Ok(())
+    text.extend_from_slice(fixed::front())?;
+    push_given(text, wires.into(), start, stack.into(), forks.into())?;
+    text.extend_from_slice(fixed::size_note())?;
+    push_derived(text, wires, stack, forks)?;
+    text.extend_from_slice(fixed::top())
 }
 
 /// Appends both lines of each wire.
@@ -114,11 +90,13 @@ fn push_wires(text: &mut Vec<u8>, net: &Net, wires: &[Wire]) -> Result<(), Alloc
     Ok(())
 }
 
-/// Appends the line of each row.
+/// Appends the line of each row, and the one of a channel without a row.
 fn push_rows(text: &mut Vec<u8>, net: &Net) -> Result<(), AllocError>
     ensures { OnOk result (text.new.items ≡ text.old.items ++ rows_text net.now) }
 {
-    push_wires(text, net, net.wires())
+    push_wires(text, net, net.wires())?;
+    text.extend_from_slice(b"      default: begin end\n")?;
+    Ok(())
 }
 
 /// Whether a node multiplies.
@@ -126,7 +104,10 @@ fn is_times(node: Node) -> bool
     ensures { result ≡ is_times node }
 {
     match node {
-        Node::Binary { operator, .. } => is_product(operator),
+        Node::Binary {
+            operator: Operator::Times,
+            ..
+        } => true,
         _ => false,
     }
 }
@@ -143,9 +124,9 @@ fn multiplies(nodes: &[Node]) -> bool
     false
 }
 
-/// The product.
-fn product(multiplies: bool) -> &'static [u8]
-    ensures { result.now ≡ product_text multiplies }
+/// What forks and joins need.
+fn forks(multiplies: bool) -> &'static [u8]
+    ensures { result.now ≡ fork_text multiplies }
 {
     if multiplies {
         fixed::multiplier()
@@ -155,11 +136,11 @@ fn product(multiplies: bool) -> &'static [u8]
 }
 
 /// Appends what stands behind the rows.
-fn push_end(text: &mut Vec<u8>, net: &Net) -> Result<(), AllocError>
-    ensures { OnOk result (text.new.items ≡ text.old.items
-        ++ (middle_text ++ (product_text (multiplies net.now.nodes) ++ tail_text))) }
+#[tactic(auto, unfolding(crate::specs::Parts::back_text))]
+fn push_back(text: &mut Vec<u8>, net: &Net) -> Result<(), AllocError>
+    ensures { OnOk result (text.new.items ≡ text.old.items ++ back_text (multiplies net.now.nodes)) }
 {
     text.extend_from_slice(fixed::middle())?;
-    text.extend_from_slice(product(multiplies(net.nodes())))?;
-    text.extend_from_slice(fixed::tail())
+    text.extend_from_slice(forks(multiplies(net.nodes())))?;
+    text.extend_from_slice(fixed::last())
 }

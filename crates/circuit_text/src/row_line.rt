@@ -4,7 +4,7 @@ ghost use Rattle.std.specs.Prelude.{◌≡◌, ◌++◌, [], OnOk, Some, codes, 
 ghost use Rattle.std.specs.Option.{option_map};
 ghost use Rattle.circuit_core.specs.Rows.{rises, falls, row_of};
 ghost use Rattle.circuit_rows.specs.Views.{channel_of, row_view, found_of};
-ghost use Rattle.circuit_text.specs.RowText.{join_text, is_product, op_text, one_text, two_text, fields_text};
+ghost use Rattle.circuit_text.specs.RowText.{join_text, op_text, one_text, two_text, fields_text};
 ghost use Rattle.circuit_text.specs.RowText.{row_text, comment_text, row_line, wire_lines};
 
 use crate::number::{number_of, push_number};
@@ -24,16 +24,6 @@ fn join_name(operator: Operator, side: Side) -> &'static [u8]
         (Operator::Minus, Side::Right) => b"MINUSR",
         (Operator::Times, Side::Left) => b"TIMESL",
         (Operator::Times, Side::Right) => b"TIMESR",
-    }
-}
-
-/// Whether the operator multiplies.
-pub(crate) fn is_product(operator: Operator) -> bool
-    ensures { result ≡ is_product operator }
-{
-    match operator {
-        Operator::Times => true,
-        _ => false,
     }
 }
 

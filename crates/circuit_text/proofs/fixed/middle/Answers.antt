@@ -1,7 +1,9 @@
 use Rattle.std.proofs.Common.{refl}
-use Rattle.circuit_text.specs.Fixed.{middle_text}
+use Rattle.std.specs.Fmt.{digits}
+use Rattle.verilog_tree.specs.Print.{turns_text, twice, next_text}
+use Rattle.circuit_text.specs.Parts.{middle_text}
 use Rattle.circuit_text.proofs.fixed.middle.Goals as goal
 
 pub returns : goal.returns
-unfolding middle_text
+unfolding digits turns_text twice next_text middle_text
 returns c = refl

@@ -1,5 +1,5 @@
 use Rattle.std.specs.Prelude.{◌≡◌, drop}
-use Rattle.circuit_text.specs.CircuitText.{multiplies}
+use Rattle.circuit_module.specs.Module.{multiplies}
 use Rattle.circuit_text.proofs.print.multiplies.Given as goal
 
 abbrev pub invariant-loop-node : goal.invariant-loop-node

@@ -1,0 +1,8 @@
+use Rattle.std.proofs.Common.{rules}
+use Rattle.circuit_text.proofs.Whole.{whole_text}
+use Rattle.circuit_text.proofs.print.push_circuit.Goals as goal
+
+pub returns : goal.returns
+returns c =
+    whole_text c.args.net.now c.args.stack c.args.forks _ _ _ _ c.args.text.now.items _ _ _ _ (search rules) (search rules) (search rules)
+    (search rules) c.in_ok-push_head.ensures c.in_ok-push_sizes.ensures c.in_ok-push_rows.ensures c.in_ok-push_back.ensures
