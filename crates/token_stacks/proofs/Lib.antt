@@ -2,6 +2,8 @@
 pub mod Ends
 -- Parts of a list that change places, and words of a list that are written.
 pub mod Parts
+-- A few words that are held while the others move.
+pub mod Turned
 -- Both stacks in one list of words: what a model's value says of the words, and words that stand for other stacks.
 pub mod Laid
 -- What the words on top of each stack tell of it.

@@ -1,6 +1,6 @@
 //! The words of the encoding, and three steps on vectors of words that no clause on stacks speaks of.
 
-ghost use Rattle.std.specs.Prelude.{◌≡◌, ◌++◌, ◌+◌, ◌≤◌, ◌<◌, OnOk, OnErr, length, vec_len, vec_capacity};
+ghost use Rattle.std.specs.Prelude.{◌≡◌, ◌++◌, ◌+◌, ◌-◌, ◌≤◌, ◌<◌, OnOk, OnErr, length, take, drop, vec_len, vec_capacity};
 ghost use Rattle.token_stacks.specs.Parts.{Swaps, Writes};
 
 use std::alloc::AllocError;
@@ -61,7 +61,101 @@ pub(crate) fn append(words: &mut Vec<u64>, piece: &[u64], tail: &[u64]) -> Resul
     Ok(())
 }
 
+/// The first word goes behind the others.
+fn first_behind(part: &mut [u64])
+    requires { 1 ≤ length part.old }
+    ensures { part.new ≡ drop 1 part.old ++ take 1 part.old }
+{
+    let first = part[0];
+    let n = part.len();
+    if n == 2 {
+        part[0] = part[1];
+        part[1] = first;
+        return;
+    }
+    part.copy_within(1.., 0);
+    part[n - 1] = first;
+}
+
+/// The first two words go behind the others.
+fn two_behind(part: &mut [u64])
+    requires { 2 ≤ length part.old }
+    ensures { part.new ≡ drop 2 part.old ++ take 2 part.old }
+{
+    let (first, second) = (part[0], part[1]);
+    let n = part.len();
+    part.copy_within(2.., 0);
+    part[n - 2] = first;
+    part[n - 1] = second;
+}
+
+/// The first three words go behind the others.
+fn three_behind(part: &mut [u64])
+    requires { 3 ≤ length part.old }
+    ensures { part.new ≡ drop 3 part.old ++ take 3 part.old }
+{
+    let (first, second, third) = (part[0], part[1], part[2]);
+    let n = part.len();
+    part.copy_within(3.., 0);
+    part[n - 3] = first;
+    part[n - 2] = second;
+    part[n - 1] = third;
+}
+
+/// The last word goes before the others.
+fn last_before(part: &mut [u64])
+    requires { 1 ≤ length part.old }
+    ensures { part.new ≡ drop (length part.old - 1) part.old ++ take (length part.old - 1) part.old }
+{
+    let n = part.len();
+    let last = part[n - 1];
+    part.copy_within(..n - 1, 1);
+    part[0] = last;
+}
+
+/// The last two words go before the others.
+fn two_before(part: &mut [u64])
+    requires { 2 ≤ length part.old }
+    ensures { part.new ≡ drop (length part.old - 2) part.old ++ take (length part.old - 2) part.old }
+{
+    let n = part.len();
+    let (first, second) = (part[n - 2], part[n - 1]);
+    part.copy_within(..n - 2, 2);
+    part[0] = first;
+    part[1] = second;
+}
+
+/// The last three words go before the others.
+fn three_before(part: &mut [u64])
+    requires { 3 ≤ length part.old }
+    ensures { part.new ≡ drop (length part.old - 3) part.old ++ take (length part.old - 3) part.old }
+{
+    let n = part.len();
+    let (first, second, third) = (part[n - 3], part[n - 2], part[n - 1]);
+    part.copy_within(..n - 3, 3);
+    part[0] = first;
+    part[1] = second;
+    part[2] = third;
+}
+
+/// The first `count` words and the others change places. Where one of both has few words, they are held while the others move.
+fn rotate(part: &mut [u64], count: usize)
+    requires { count ≤ length part.old }
+    ensures { part.new ≡ drop count part.old ++ take count part.old }
+{
+    match (count, part.len() - count) {
+        (1, _) => first_behind(part),
+        (_, 1) => last_before(part),
+        (2, _) => two_behind(part),
+        (_, 2) => two_before(part),
+        (3, _) => three_behind(part),
+        (_, 3) => three_before(part),
+        _ => part.rotate_left(count),
+    }
+}
+
 /// The words from `from` to `middle` and those from there to `end` change places.
+#[inline(always)]
 pub(crate) fn turn(words: &mut Vec<u64>, from: usize, middle: usize, end: usize)
     requires first { from ≤ middle }
     requires second { middle ≤ end }
@@ -72,8 +166,7 @@ pub(crate) fn turn(words: &mut Vec<u64>, from: usize, middle: usize, end: usize)
     if from == middle || middle == end {
         return;
     }
-    let part = &mut words[from..end];
-    part.rotate_left(middle - from);
+    rotate(&mut words[from..end], middle - from);
 }
 
 /// Writes three words from this place on.
