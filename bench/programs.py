@@ -42,6 +42,11 @@ def calls(n, argument):
     return "(fun f:nat->nat. %s) (fix f:nat->nat. fun n:nat. ifz n then 0 else succ (f (pred n)))" % term
 
 
+def under(n):
+    """A fixpoint that asks for itself under n arguments: their n words lie on the work stack, and each pass moves them."""
+    return "(fix y:%snat. y)%s" % ("nat->" * n, " 1" * n)
+
+
 def grouped(n, name):
     """A sum of n uses of one variable, in groups of 100."""
     sizes = [100] * (n // 100) + [n % 100] * (n % 100 > 0)
