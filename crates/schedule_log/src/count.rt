@@ -10,7 +10,11 @@ use crate::line::judge;
 use crate::version::Version;
 use text_lines::{cut_line, is_end};
 
-/// How many moves the lines behind the header stand for, or their first fault.
+/// How many moves the lines behind the header stand for.
+///
+/// # Errors
+///
+/// The first line's fault as `judge` tells it, `BadLine` of the line behind one that is `end`, or `NoEnd` where no line is.
 pub fn count_moves(version: Version, bytes: &[u8]) -> Result<u32, ScheduleFault>
     requires { length bytes.now ≤ most_schedule_bytes }
     ensures { counted 0 (runs_from version None 0 2 (lines bytes.now)) ≡ result }

@@ -19,7 +19,12 @@ pub struct LineRun {
     pub count: u32,
 }
 
-/// What line `n` stands for, behind `moves` moves and a move line with the ticket `last`, or its fault.
+/// What line `n` stands for, behind `moves` moves and a move line with the ticket `last`.
+///
+/// # Errors
+///
+/// `BadLine` where it is no move line of this version or can't stand behind `last`, `TicketTooWide` where its ticket has more than 32 bits,
+/// and `TooLong` where with it there are more than `SCHEDULE_MOVES` moves; each with `n`.
 pub fn judge(
     version: Version,
     last: Option<u32>,
