@@ -1,5 +1,5 @@
 -- The table grows by both rows of a wire.
-use Rattle.std.proofs.Common.{◌≡◌, ◌∙◌, ◌++◌, ◌-◌, ◌+◌, ◌<◌, ℕ, suc, List, [], ◌∷◌, Option, refl, sym, ap, append_assoc, arith}
+use Rattle.std.proofs.Common.{◌≡◌, ◌∙◌, ◌++◌, ◌-◌, ◌+◌, ◌<◌, ℕ, suc, List, [], ◌∷◌, Option, sym, ap, append_assoc, arith}
 use Rattle.net_build.specs.Nets.{NetTree}
 use Rattle.circuit_core.specs.Rows.{rises, falls, Row, row_of}
 use Rattle.circuit_core.specs.Example.{rows_from}

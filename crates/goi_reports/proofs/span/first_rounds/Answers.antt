@@ -1,4 +1,4 @@
-use Rattle.std.proofs.Common.{◌≡◌, ◌≤◌, length, take, sym, subst, arith}
+use Rattle.std.proofs.Common.{sym, arith}
 use Rattle.goi_reports.specs.Spans.{most_rounds}
 use Rattle.goi_reports.proofs.Rounding.{first_of, all_of}
 use Rattle.goi_reports.proofs.span.first_rounds.Goals as goal

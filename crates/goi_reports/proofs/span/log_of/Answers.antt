@@ -1,4 +1,4 @@
-use Rattle.std.proofs.Common.{◌≤◌, ap, ◌∙◌, length}
+use Rattle.std.proofs.Common.{ap, ◌∙◌}
 use Rattle.std.proofs.lemmas.List.{take_all}
 use Rattle.schedule_log.specs.Logs.{by, tickets_in_log}
 use Rattle.schedule_log.specs.LogsSeen.{LogSeen}

@@ -1,5 +1,4 @@
-use Rattle.std.proofs.Common.{◌≤◌, ap, arith, length}
-use Rattle.interleave_core.specs.declared.tickets.Run.{Run}
+use Rattle.std.proofs.Common.{ap, arith, length}
 use Rattle.net_runs.proofs.LogOf.{all_added, run_added, run_room}
 use Rattle.net_runs.proofs.alone.log_of.Goals as goal
 
