@@ -1,18 +1,22 @@
 -- The block of the stacks, row by row.
 use Rattle.std.proofs.Common.{◌≡◌, ℕ, suc, ◌/◌, ◌%◌, ◌^◌, ◌<◌, ◌≤◌, max, Bool, true, false}
-use Rattle.std.proofs.Common.{◌∷◌, ◌++◌, length, sym, ap, ◌∙◌, subst, arith}
+use Rattle.std.proofs.Common.{[], ◌∷◌, ◌++◌, length, sym, ap, ◌∙◌, subst, arith}
 use Rattle.std.proofs.lemmas.List.{length-append}
 use Rattle.std.proofs.lemmas.Bool.{lt-ltb}
 use Prim.Native.String.{String}
 use Rattle.circuit_core.specs.Bits.{Bits}
-use Rattle.verilog_tree.specs.Tree.{Expr, Arms, name, num, shift, left, right}
+use Rattle.verilog_tree.specs.Tree.{Expr, Arms, Stmt, name, num, shift, left, right}
 use Rattle.verilog_tree.specs.Meaning.{Scope, Store, flag, fit, nonzero, chosen, bits, run, run_arms, widest_arm, bit_in}
 use Rattle.verilog_tree.specs.Marks.{mark}
 use Rattle.circuit_module.specs.Sizes.{channel_bits, long_bits}
-use Rattle.circuit_module.specs.Fixed.{set, stack_arms, stack_block, stack_start, to_other, back_stmt, away_stmt}
+use Rattle.circuit_module.specs.Fixed.{block, set, stack_arms, stack_block, to_other, back_stmt, away_stmt}
 use Rattle.circuit_module.proofs.Shifts.{fit_mark, zeros_two, zeros_three, puts, drops_two, drops_three, drops, drops_behind_one}
 use Rattle.circuit_module.proofs.Shifts.{turns, pushes, unmarks, boxes_out, doors_out, doors_in, backs, agains, bit_none, bit_one}
 use Rattle.circuit_module.proofs.Wires.{P as scope_with, Stacks, Top, Under}
+
+-- what the block begins with
+abbrev pub stack_start : Stmt
+stack_start = block (set "next_work" (name "w") ∷ set "next_boxes" (name "b") ∷ set "goes" (name "to") ∷ [])
 
 module _ (wires start N E : ℕ) (rows : Arms) (product : Expr) (f : String → ℕ → Store → ℕ) where
   abbrev P : Scope

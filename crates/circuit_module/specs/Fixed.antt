@@ -228,10 +228,6 @@ abbrev pub stack_block : Stmt
 stack_block =
     block (set "next_work" (name "w") ∷ set "next_boxes" (name "b") ∷ set "goes" (name "to") ∷ cases (name "op") stack_arms ∷ [])
 
--- what it begins with
-abbrev pub stack_start : Stmt
-stack_start = block (set "next_work" (name "w") ∷ set "next_boxes" (name "b") ∷ set "goes" (name "to") ∷ [])
-
 -- more than N bits: something other than 0 above bit N
 abbrev pub too_long : String → Expr
 too_long x = any (part x (less (named "M") (count 1)) (more (named "N") (count 1)))

@@ -12,7 +12,7 @@ use Rattle.circuit_core.specs.Rows.{LEFT, RIGHT, CON, PUSHR, PUSHL, SELECT, POP,
 use Rattle.circuit_core.specs.Rows.{DEAD, row_of}
 use Rattle.verilog_tree.specs.Tree.{Arms, num}
 use Rattle.verilog_tree.specs.Print.{flat_text, said_text, stmt_text, arm_text, arm_block, arms_text}
-use Rattle.verilog_tree.specs.WellFormed.{straight}
+use Rattle.verilog_tree.specs.Print.{straight}
 use Rattle.circuit_module.specs.Module.{row_stmt, place_said, row_arm, row_arms}
 use Rattle.circuit_text.specs.RowText.{row_text, comment_text, row_line, wire_lines}
 use Rattle.circuit_text.specs.Parts.{rows_text}

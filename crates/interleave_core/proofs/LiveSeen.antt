@@ -12,7 +12,8 @@ use Rattle.std.specs.Map.{lookup}
 use Rattle.std.specs.BTreeMap as tree
 use Rattle.std.specs.BTreeMap.{BTreeMap, is_at}
 use Rattle.std.proofs.lemmas.Cmp.{nat_cmp_total}
-use Rattle.token_stacks.specs.Signatures.{Boxes, Load, load}
+use Rattle.token_stacks.specs.Signatures.{Boxes}
+use Rattle.token_stacks.specs.Loads.{Load, load}
 use Rattle.net_build.specs.Nets.{NetTree}
 use Rattle.move_rules.specs.declared.token.Kind.{Kind}
 use Rattle.move_rules.specs.declared.token.Token.{Token}

@@ -2,7 +2,8 @@
 use Rattle.std.proofs.Common.{◌≡◌, ℕ, Bool, true, false, cond, [], ◌∷◌, Option, Some, None, refl, ◌∙◌}
 use Rattle.std.specs.Prelude.{nat_eq}
 use Rattle.pcf_values.specs.declared.val.Val.{Val}
-use Rattle.token_stacks.specs.Signatures.{Work, Boxes, load}
+use Rattle.token_stacks.specs.Signatures.{Work, Boxes}
+use Rattle.token_stacks.specs.Loads.{load}
 use Rattle.net_build.specs.declared.node.Node.{Node}
 use Rattle.net_build.specs.declared.node.Node.TheVariants.{Const, Succ, Pred, Ifz, Root, Binary}
 use Rattle.move_rules.specs.declared.token.Token.{Token}

@@ -9,3 +9,5 @@ pub mod Progress
 --
 -- Where a run of one worker stands whose moves are written down for the first worker.
 pub mod Walking
+-- What a reader of a meter has read.
+pub mod Readings

@@ -3,14 +3,9 @@
 -- yet begun, and then each is 0. No clause ties the sixteen numbers to a reading: a run that nobody drives, or whose length is told
 -- seventeen times, has such numbers too. That a meter can be read while workers run is shown by tests; that these readings are taken
 -- then isn't.
-use Rattle.std.specs.Prelude.{◌≡◌, ℕ, List, ◌++◌, length}
+use Rattle.std.specs.Prelude.{◌≡◌, ℕ, List, length}
 use Rattle.std.specs.List.Sorted.{IsNonDecreasing}
-use Rattle.progress_meter.specs.Meters.{Listener}
 use Rattle.progress_meter.specs.Last.{last_of}
-
--- the reader read sixteen times more, and these are the numbers
-abbrev pub HasRead : Listener → Listener → List ℕ → Type 0
-HasRead old new numbers = (new.meter ≡ old.meter) × (new.readings ≡ old.readings ++ numbers) × (length numbers ≡ 16)
 
 -- Sixteen readings and behind them the number of moves of the whole run: the numbers never go down, so that none is above that number.
 pub record IsProgress (moves : ℕ) (numbers : List ℕ) : Type 0 where

@@ -10,7 +10,8 @@ ghost use Rattle.token_pool.specs.Pools.{InLimits};
 ghost use Rattle.token_pool.specs.Ending.{Suits};
 ghost use Rattle.net_runs.specs.IsRun.{IsRun, IsFirstWorkers};
 ghost use Rattle.metered_pool.specs.Metered.{IsLevel, IsOf};
-ghost use Rattle.metered_pool.specs.Progress.{HasRead, IsProgress};
+ghost use Rattle.metered_pool.specs.Progress.{IsProgress};
+ghost use Rattle.metered_pool.specs.Readings.{HasRead};
 ghost use Rattle.metered_pool.specs.Walking.{WalksAlone};
 
 use crate::alone::walk_alone;

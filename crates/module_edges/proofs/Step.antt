@@ -31,7 +31,8 @@ use Rattle.circuit_module.specs.Fixed.{no_row, clock_block, reset_block, move_bl
 use Rattle.circuit_module.specs.Module.{row_stmt, row_arms, module_of}
 use Rattle.circuit_module.specs.Parts.{join_number}
 use Rattle.circuit_module.specs.Stands.{Stands, value_number, Small, InRing, IsSlot, after}
-use Rattle.circuit_module.specs.Fixed.{stack_start, multiplier}
+use Rattle.circuit_module.specs.Fixed.{multiplier}
+use Rattle.circuit_module.proofs.Stacks.{stack_start}
 use Rattle.circuit_module.specs.Module.{product_of, multiplies}
 use Rattle.module_edges.proofs.JoinStep.{edge_join}
 use Rattle.circuit_module.proofs.Edge.{fires, stuck_stands}

@@ -1,6 +1,6 @@
 -- The view of a token: the code's token as a question or an answer at its place, and of a node that was seen: its number and the node.
 use Rattle.std.specs.Prelude.{ℕ, Bool, if◌then◌else◌}
-use Rattle.token_stacks.specs.Signatures.{Load}
+use Rattle.token_stacks.specs.Loads.{Load}
 use Rattle.net_build.specs.declared.node.Node.{Node}
 use Rattle.move_rules.specs.declared.token.Kind.{Kind}
 use Rattle.move_rules.specs.declared.token.Kind.TheVariants.{Ask, Ans}

@@ -5,7 +5,8 @@ use Rattle.std.specs.Prelude.{Bool, true, false, cond, sum, nat_eq}
 use Rattle.std.proofs.lemmas.Bool.{eqb-true, eqb-false, ne_eqb}
 use Rattle.std.proofs.lemmas.List.Sums.{sum_by-cons}
 use Rattle.schedule_log.specs.declared.entry.Entry.{Entry}
-use Rattle.schedule_log.specs.Tally.{tally_of, tally_from, tally, WorkersUpTo}
+use Rattle.schedule_log.specs.Tally.{tally_of, tally_from, tally}
+use Rattle.schedule_log.specs.Laws.{WorkersUpTo}
 
 -- 1 where the entry is of the worker, else 0
 abbrev of_worker : Bool → ℕ

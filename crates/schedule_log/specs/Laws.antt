@@ -1,5 +1,5 @@
 -- What holds of schedule texts, of tallies, and of the runs that a log is kept as.
-use Rattle.std.specs.Prelude.{◌≡◌, ℕ, ◌+◌, ◌*◌, ◌≤◌, List, length, sum, Result, Ok, Err}
+use Rattle.std.specs.Prelude.{◌≡◌, ℕ, ◌+◌, ◌*◌, ◌≤◌, List, [], ◌∷◌, length, sum, Result, Ok, Err}
 use Rattle.pcf_values.specs.Most.{most_moves}
 use Rattle.schedule_log.specs.declared.fault.ScheduleFault.{ScheduleFault}
 use Rattle.schedule_log.specs.declared.fault.ScheduleFault.TheVariants.{NoMemory}
@@ -9,7 +9,7 @@ use Rattle.schedule_log.specs.LogsSeen.{Small}
 use Rattle.schedule_log.specs.Runs.{schedule_text}
 use Rattle.schedule_log.specs.KeptRuns.{MovesSeen, Apart, Each, spread}
 use Rattle.schedule_log.specs.declared.entry.Entry.{Entry}
-use Rattle.schedule_log.specs.Tally.{tally, WorkersUpTo}
+use Rattle.schedule_log.specs.Tally.{tally}
 
 -- Reading answers the tickets or the first fault of any bytes, and never want of memory, of which nothing is said.
 abbrev pub FirstFaultFound : Type 0
@@ -34,6 +34,11 @@ PrintedIsRead = (tickets : List ℕ) → Small tickets → length tickets ≤ mo
 abbrev pub PrintedIsShort : Type 0
 PrintedIsShort = (tickets : List ℕ) → Small tickets → length tickets ≤ most_moves →
     length (schedule_text tickets) ≤ 13 * length tickets + 15
+
+-- no entry is of a worker above this one
+abbrev pub WorkersUpTo : ℕ → List Entry → Type 0
+WorkersUpTo n [] = Unit {0}
+WorkersUpTo n (e ∷ es) = (e.worker ≤ n) × WorkersUpTo n es
 
 -- The counts of a tally add up to the number of moves, where no worker is above the finisher.
 abbrev pub TallyAddsUp : Type 0

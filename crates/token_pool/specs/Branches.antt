@@ -6,7 +6,8 @@ use Rattle.std.specs.Prelude.{◌≡◌, ◌≤◌, ◌⊎◌, ℕ, ◌+◌, ◌
 use Rattle.std.specs.Prelude.{List, [], ◌∷◌, ◌++◌, length, map, set, Option, Some, None, is_some}
 use Rattle.std.specs.FinMap.{get}
 use Rattle.pcf_values.specs.Most.{most_budget}
-use Rattle.token_stacks.specs.Words.{work_words, box_words}
+use Rattle.token_stacks.specs.Words.{box_words}
+use Rattle.token_stacks.specs.WorkWords.{work_words}
 use Rattle.net_build.specs.Nets.{NetTree}
 use Rattle.move_rules.specs.Places.{TokenTree, place_of}
 use Rattle.move_rules.specs.Stacks.{work_at, boxes_at}

@@ -6,8 +6,10 @@ use Rattle.std.proofs.Common.{◌≡◌, ℕ, ◌+◌, ◌-◌, List, [], ◌∷
 use Rattle.std.proofs.Common.{length, set, take, drop, refl, sym}
 use Rattle.std.proofs.Common.{◌∙◌, ap, arith, length-append, Option, None}
 use Rattle.std.proofs.lemmas.List.{append_assoc, append-nil}
-use Rattle.token_stacks.specs.Signatures.{Sig, star, left_of, right_of, pair_of, again, R, L, S, Work, Boxes, Load}
-use Rattle.token_stacks.specs.Words.{body, entry, work_words, box_words}
+use Rattle.token_stacks.specs.Signatures.{Sig, star, left_of, right_of, pair_of, again, R, L, S, Work, Boxes}
+use Rattle.token_stacks.specs.Loads.{Load}
+use Rattle.token_stacks.specs.Words.{body, entry, box_words}
+use Rattle.token_stacks.specs.WorkWords.{work_words}
 use Rattle.token_stacks.specs.Reading.{work_of, boxes_of, load_of}
 use Rattle.token_stacks.specs.Rows.{into_box, out_of_box, out_of_door, into_door, out_of_fix, into_again, out_of_again}
 use Rattle.token_stacks.specs.Parts.{Swaps, Writes}

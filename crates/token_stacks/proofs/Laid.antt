@@ -6,8 +6,10 @@ use Rattle.std.proofs.lemmas.List.{append_assoc, take-append-drop, length-take-l
 use Rattle.std.specs.Prelude.{◌==◌, ◌↔◌, IsTrue, nat_eq}
 use Rattle.std.specs.Cmp.Lexicographic.{pointwise, bytes_decides}
 use Rattle.std.proofs.lemmas.Bool.{eqb-true}
-use Rattle.token_stacks.specs.Signatures.{Sig, Sym, R, L, S, Work, Boxes, Load, load}
-use Rattle.token_stacks.specs.Words.{body, entry, symbol, work_words, box_words}
+use Rattle.token_stacks.specs.Signatures.{Sig, Sym, R, L, S, Work, Boxes}
+use Rattle.token_stacks.specs.Loads.{Load, load}
+use Rattle.token_stacks.specs.Words.{body, entry, box_words}
+use Rattle.token_stacks.specs.WorkWords.{symbol, work_words}
 use Rattle.token_stacks.specs.Reading.{work_of, work_of-words, boxes_of, boxes_of-words, load_of}
 use Rattle.token_stacks.specs.Tops.{IsHeld, Lies}
 use Rattle.token_stacks.proofs.Ends.{take_after, drop_after, length_both}

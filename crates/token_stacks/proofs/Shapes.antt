@@ -3,8 +3,10 @@ use Rattle.std.proofs.Common.{◌≡◌, ℕ, ◌+◌, ◌-◌, ◌<◌, ◌≤�
 use Rattle.std.proofs.Common.{length, get_or, take, drop, refl, sym}
 use Rattle.std.proofs.Common.{◌∙◌, ap, arith, length-append, None}
 use Rattle.std.proofs.lemmas.List.{append_assoc}
-use Rattle.token_stacks.specs.Signatures.{Sig, star, left_of, right_of, pair_of, again, Sym, R, L, S, Work, Boxes, Load}
-use Rattle.token_stacks.specs.Words.{body, entry, symbol, work_words, box_words}
+use Rattle.token_stacks.specs.Signatures.{Sig, star, left_of, right_of, pair_of, again, Sym, R, L, S, Work, Boxes}
+use Rattle.token_stacks.specs.Loads.{Load}
+use Rattle.token_stacks.specs.Words.{body, entry, box_words}
+use Rattle.token_stacks.specs.WorkWords.{symbol, work_words}
 use Rattle.token_stacks.specs.Reading.{work_of, boxes_of}
 use Rattle.token_stacks.specs.Tops.{Lies, HasTop, HasBox, HasPair, HasAgain, top_sig, box_sig, top_pair, box_again}
 use Rattle.token_stacks.proofs.Ends.{stem, tag, body_ends, body_long, length_pair, length_again, word_at, length_both}

@@ -6,7 +6,8 @@ use Rattle.std.specs.Bool.{◌==◌}
 use Rattle.std.proofs.lemmas.Bool.{eqb-true}
 use Rattle.std.proofs.lemmas.List.{get_or_at}
 use Rattle.token_stacks.specs.Signatures.{Sig, Sym, R, L, S, Work, Boxes}
-use Rattle.token_stacks.specs.Words.{body, symbol, entry, work_words, box_words}
+use Rattle.token_stacks.specs.Words.{body, entry, box_words}
+use Rattle.token_stacks.specs.WorkWords.{symbol, work_words}
 use Rattle.token_stacks.specs.declared.print.Form.{Form}
 use Rattle.token_stacks.specs.declared.print.Form.TheVariants.{Symbols, Signatures}
 use Rattle.token_stacks.specs.Printing.{IsStack, TakesTop}

@@ -3,8 +3,10 @@ use Rattle.std.proofs.Common.{◌≡◌, ℕ, ◌+◌, ◌-◌, ◌<◌, ◌≤�
 use Rattle.std.proofs.Common.{length, get_or, set, take, refl, sym}
 use Rattle.std.proofs.Common.{◌∙◌, ap, subst, arith, length-append, Option, None}
 use Rattle.std.proofs.lemmas.List.{append_assoc}
-use Rattle.token_stacks.specs.Signatures.{Sig, star, left_of, right_of, pair_of, again, Sym, R, L, S, Work, Boxes, Load}
-use Rattle.token_stacks.specs.Words.{body, symbol, work_words, box_words}
+use Rattle.token_stacks.specs.Signatures.{Sig, star, left_of, right_of, pair_of, again, Sym, R, L, S, Work, Boxes}
+use Rattle.token_stacks.specs.Loads.{Load}
+use Rattle.token_stacks.specs.Words.{body, box_words}
+use Rattle.token_stacks.specs.WorkWords.{symbol, work_words}
 use Rattle.token_stacks.specs.Reading.{load_of}
 use Rattle.token_stacks.specs.Rows.{star_popped, into_argument, out_of_argument}
 use Rattle.token_stacks.specs.Tops.{Lies, HasTop, top_sig, symbol_popped, wrapped, unwrapped, marked}

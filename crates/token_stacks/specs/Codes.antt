@@ -6,7 +6,8 @@ use Rattle.std.specs.Prelude.{◌≡◌, zero, suc, Option, Some, None, refl}
 use Rattle.std.proofs.Common.{sym, ap, ◌∙◌}
 use Rattle.std.specs.Coded.{Coded, code_by, coded_list, coded_option, coded×}
 use base.Stored.{Gv, gnil, gnum, gcons}
-use Rattle.token_stacks.specs.Signatures.{Sig, star, left_of, right_of, pair_of, again, Sym, R, L, S, Work, Boxes, Load, load}
+use Rattle.token_stacks.specs.Signatures.{Sig, star, left_of, right_of, pair_of, again, Sym, R, L, S, Work, Boxes}
+use Rattle.token_stacks.specs.Loads.{Load, load}
 
 -- a signature as a tree of numbers, and back
 abbrev pub sig_tree : Sig → Gv

@@ -4,7 +4,8 @@ use Rattle.std.specs.Bool.{Decides}
 use Rattle.std.specs.Cmp.{IsTotalOrder}
 use Rattle.std.specs.Ordering.{is_eq}
 use Rattle.token_stacks.specs.Signatures.{Work, Boxes}
-use Rattle.token_stacks.specs.Words.{work_words, box_words}
+use Rattle.token_stacks.specs.Words.{box_words}
+use Rattle.token_stacks.specs.WorkWords.{work_words}
 use Rattle.token_stacks.specs.Order.{box_eq, box_cmp}
 
 -- no two stacks have the same words

@@ -3,10 +3,14 @@
 --
 -- What a token carries: signatures, symbols, and its two stacks.
 pub mod Signatures
+-- Both stacks of a token in one value, as contracts see them.
+pub mod Loads
 -- The table of the calls on both stacks, a row for each call that wants a shape.
 pub mod Rows
 -- Stacks as words: the numbers that stand for a stack, one after another, from its bottom to its top.
 pub mod Words
+-- A work stack as words.
+pub mod WorkWords
 -- Stacks as text, top first.
 pub mod Texts
 -- Box stacks in order: as their words from the bottom, compared as texts are.

@@ -3,7 +3,8 @@
 use Rattle.std.specs.Prelude.{◌≡◌, ◌<◌, ℕ, ◌+◌, ◌*◌, List, [], ◌∷◌, ◌++◌, length, map, codes}
 use Rattle.std.specs.Prelude.{Option, Some, None}
 use Rattle.token_stacks.specs.Signatures.{Sig, star, Sym, R, L, S, Work, Boxes}
-use Rattle.token_stacks.specs.Words.{body, work_words, box_words}
+use Rattle.token_stacks.specs.Words.{body, box_words}
+use Rattle.token_stacks.specs.WorkWords.{work_words}
 use Rattle.token_stacks.specs.Reading.{boxes_of}
 use Rattle.token_stacks.specs.Texts.{sig_text}
 use Rattle.token_stacks.specs.Tops.{IsBody}

@@ -8,8 +8,10 @@ use Rattle.std.specs.Prelude.{ℕ, zero, suc, Bool, true, false, ◌≡◌, ◌=
 use Rattle.std.specs.Prelude.{refl}
 use Rattle.std.proofs.Common.{◌∙◌, ap, sym}
 use Rattle.std.proofs.lemmas.List.{reverse-append, append_assoc, append-nil}
-use Rattle.token_stacks.specs.Signatures.{Sig, star, left_of, right_of, pair_of, again, Sym, R, L, S, Work, Boxes, Load, load}
-use Rattle.token_stacks.specs.Words.{body, entry, work_words, box_words}
+use Rattle.token_stacks.specs.Signatures.{Sig, star, left_of, right_of, pair_of, again, Sym, R, L, S, Work, Boxes}
+use Rattle.token_stacks.specs.Loads.{Load, load}
+use Rattle.token_stacks.specs.Words.{body, entry, box_words}
+use Rattle.token_stacks.specs.WorkWords.{work_words}
 
 abbrev on_one : (Sig → Sig) → List Sym → List Sym
 on_one f (S s ∷ m) = S (f s) ∷ m

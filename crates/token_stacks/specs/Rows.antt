@@ -5,7 +5,8 @@
 -- signature on top.
 use Rattle.std.specs.Prelude.{◌≡◌, Bool, [], ◌∷◌, Option, Some, None}
 use Rattle.std.specs.Bool.{MatchBool}
-use Rattle.token_stacks.specs.Signatures.{star, left_of, right_of, pair_of, again, R, L, S, Work, Boxes, Load, load}
+use Rattle.token_stacks.specs.Signatures.{star, left_of, right_of, pair_of, again, R, L, S, Work, Boxes}
+use Rattle.token_stacks.specs.Loads.{Load, load}
 
 -- either the row was followed, or its shape is missing and all stays
 abbrev pub Follows : (Work → Boxes → Option Load) → Load → Bool → Load → Type 0

@@ -34,11 +34,3 @@ Work = List Sym
 
 abbrev pub Boxes : Type 0
 Boxes = List Sig
-
--- both stacks of a token
-pub record Load : Type 0 where
-  pub work : Work
-  pub boxes : Boxes
-
-abbrev pub load : Work → Boxes → Load
-load m t = record { work = m; boxes = t }

@@ -5,8 +5,10 @@
 -- same words but for a closing mark. So a signature with nothing below it on the work stack goes from one stack to the other by a move
 -- of the border.
 use Rattle.std.specs.Prelude.{ℕ, ◌≡◌, ◌==◌, ◌≤◌, List, [], ◌∷◌, ◌++◌, Option, Some, None, cond, length, take, drop}
-use Rattle.token_stacks.specs.Signatures.{Sig, left_of, right_of, pair_of, again, R, L, S, Work, Boxes, Load, load}
-use Rattle.token_stacks.specs.Words.{body, work_words, box_words}
+use Rattle.token_stacks.specs.Signatures.{Sig, left_of, right_of, pair_of, again, R, L, S, Work, Boxes}
+use Rattle.token_stacks.specs.Loads.{Load, load}
+use Rattle.token_stacks.specs.Words.{body, box_words}
+use Rattle.token_stacks.specs.WorkWords.{work_words}
 use Rattle.token_stacks.specs.Reading.{work_of, boxes_of}
 
 -- the words are the body of a signature

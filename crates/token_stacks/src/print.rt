@@ -4,7 +4,8 @@ ghost use Rattle.std.specs.Prelude.{◌≡◌, ◌∷◌, [], ◌++◌, ◌≤�
 ghost use Rattle.std.specs.Prelude.{map, List};
 ghost use Rattle.std.specs.Option.{MatchOption};
 ghost use Rattle.token_stacks.specs.Signatures.{Sig, Sym, S, Work, Boxes};
-ghost use Rattle.token_stacks.specs.Words.{body, work_words, box_words};
+ghost use Rattle.token_stacks.specs.Words.{body, box_words};
+ghost use Rattle.token_stacks.specs.WorkWords.{work_words};
 ghost use Rattle.token_stacks.specs.Texts.{sig_text, sym_text, dots, dotted, first_parts, work_text, boxes_text, key_text};
 ghost use Rattle.token_stacks.specs.Tops.{IsBody};
 ghost use Rattle.token_stacks.specs.Printing.{IsStack, IsTop, TakesTop, AreParts, IsPart, held, piece_text, piece_work, Writes};

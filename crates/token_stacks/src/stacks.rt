@@ -1,8 +1,10 @@
 //! Both stacks of a token, and the table of their calls.
 
 ghost use Rattle.std.specs.Prelude.{◌≡◌, ◌↔◌, ◌⊎◌, [], ◌∷◌, OnOk, OnErr, IfOk, IsTrue};
-ghost use Rattle.token_stacks.specs.Signatures.{R, L, S, star, load};
-ghost use Rattle.token_stacks.specs.Words.{work_words, box_words};
+ghost use Rattle.token_stacks.specs.Signatures.{R, L, S, star};
+ghost use Rattle.token_stacks.specs.Loads.{load};
+ghost use Rattle.token_stacks.specs.Words.{box_words};
+ghost use Rattle.token_stacks.specs.WorkWords.{work_words};
 ghost use Rattle.token_stacks.specs.Rows.{Follows, r_popped, l_popped, star_popped, into_argument, out_of_argument, left_wrapped};
 ghost use Rattle.token_stacks.specs.Rows.{right_wrapped, left_unwrapped, right_unwrapped, into_box, out_of_box, out_of_door, into_door};
 ghost use Rattle.token_stacks.specs.Rows.{out_of_fix, into_again, out_of_again};
@@ -26,7 +28,7 @@ pub struct Stacks {
 }
 
 impl Model for Stacks {
-    ghost use Rattle.token_stacks.specs.Signatures.{Load};
+    ghost use Rattle.token_stacks.specs.Loads.{Load};
     ghost use Rattle.token_stacks.specs.Codes.{load_code};
     ghost use Rattle.token_stacks.specs.Reading.{load_of};
     ghost use Rattle.token_stacks.specs.Tops.{IsHeld};

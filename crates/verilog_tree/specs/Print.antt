@@ -1,7 +1,7 @@
 -- The text of a tree, as IEEE 1364-2005 writes it (annex A). Each statement stands on a line of its own, two blanks further in for each
 -- level, but that an arm which only sets whole vectors is one line. Each operand that has operands itself stands in parentheses, so that no
 -- rule of precedence is asked for (5.1.2).
-use Rattle.std.specs.Prelude.{ℕ, zero, suc, Bool, true, false, List, [], ◌∷◌, ◌++◌, codes, decimal}
+use Rattle.std.specs.Prelude.{ℕ, zero, suc, Bool, true, false, ◌&&◌, List, [], ◌∷◌, ◌++◌, codes, decimal}
 use Prim.Native.String.{String}
 use Rattle.verilog_tree.specs.Tree.{Size, count, named, more, less, Two, plus, minus, times, also, either, Way, left, right}
 use Rattle.verilog_tree.specs.Tree.{Test, same, other, below, Logic, both, one_of, Expr, num, sized, const, name, bit, part, word, ones}
@@ -10,7 +10,13 @@ use Rattle.verilog_tree.specs.Tree.{Stmt, skip, put, seq, branch, cases, loop, S
 use Rattle.verilog_tree.specs.Tree.{one, upto, wide, integer, Local, local, Item, note, gap}
 use Rattle.verilog_tree.specs.Tree.{size, constant, input, output, reg, memory, wire}
 use Rattle.verilog_tree.specs.Tree.{function, settles, clocked}
-use Rattle.verilog_tree.specs.WellFormed.{straight}
+
+-- a statement that only sets whole vectors
+abbrev pub straight : Stmt → Bool
+straight skip = true
+straight (put (whole x) e) = true
+straight (seq s t) = straight s && straight t
+straight s = false
 
 -- what stands around operands where they are one of another's
 abbrev pub opening : Bool → List ℕ

@@ -15,6 +15,7 @@ use Rattle.verilog_tree.specs.Tree.{branch, cases, loop, Said, word_said, number
 use Rattle.verilog_tree.specs.Tree.{integer, Local, local, Item, note, gap, size, constant}
 use Rattle.verilog_tree.specs.Tree.{input, output, reg, memory, wire, function, settles, clocked}
 use Rattle.verilog_tree.specs.Meaning.{chosen}
+use Rattle.verilog_tree.specs.Print.{straight}
 
 -- what a name is declared as
 pub data Kind : Type 0 where
@@ -240,13 +241,6 @@ reads_none xs (any a) = reads_none xs a
 reads_none xs (every a) = reads_none xs a
 reads_none xs (pick c a b) = reads_none xs c && (reads_none xs a && reads_none xs b)
 reads_none xs (call f x) = not (member x xs)
-
--- a statement that only sets whole vectors
-abbrev pub straight : Stmt → Bool
-straight skip = true
-straight (put (whole x) e) = true
-straight (seq s t) = straight s && straight t
-straight s = false
 
 -- the names of both lists
 abbrev pub common : List String → List String → List String

@@ -2,7 +2,7 @@
 
 ghost use Rattle.std.specs.Prelude.{◌≡◌, ◌++◌, OnOk, codes, map, suc, false};
 ghost use Rattle.verilog_tree.specs.Names.{text_of};
-ghost use Rattle.verilog_tree.specs.WellFormed.{straight};
+ghost use Rattle.verilog_tree.specs.Print.{straight};
 ghost use Rattle.verilog_tree.specs.Print.{indent, size_text, expr_text, more_labels, labels_text};
 ghost use Rattle.verilog_tree.specs.Print.{part_text, parts_text, said_text, flat_text};
 ghost use Rattle.verilog_tree.specs.Print.{put_text, twice, turns_text, next_text, arm_block, arm_text};

@@ -2,7 +2,8 @@
 use Rattle.std.specs.Prelude.{◌≡◌, ℕ, Bool, true, false, List, [], ◌++◌, Option, Some, None, codes, if◌then◌else◌}
 use Rattle.std.specs.FinMap.{get}
 use Rattle.pcf_values.specs.declared.val.Val.{Val}
-use Rattle.token_stacks.specs.Signatures.{Boxes, Load}
+use Rattle.token_stacks.specs.Signatures.{Boxes}
+use Rattle.token_stacks.specs.Loads.{Load}
 use Rattle.token_stacks.specs.Texts.{work_text, boxes_text, key_text}
 use Rattle.net_build.specs.declared.node.Node.{Node}
 use Rattle.net_build.specs.declared.node.Node.TheVariants.{Binary}
