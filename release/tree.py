@@ -25,13 +25,14 @@ WALKS["tree"] = "--budget 10000000 --from 1000000 --most 30000".split()
 LIVE = b"](../../out/goi.html"
 
 WRAPPER = b"""#!/bin/sh
-# Runs goi with the caller's words; the status is the program's. tools/limit.sh says what a run may take.
+# Runs goi with the caller's words; the status is the program's. tools/limit.sh says what a run may take and gets.
 me=$0
 case $me in */*) ;; *) me=./$me ;; esac
 [ ! -L "$me" ] || me=$(readlink -f -- "$me")
 here=${me%/*}/..
 . "$here/share/goi/tools/limit.sh"
 limit
+widen "$@"
 exec "$here/libexec/goi/goi" "$@"
 """
 

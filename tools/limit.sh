@@ -13,3 +13,16 @@ limit() {
         [ -z "$kib" ] || ulimit -v $((kib / 4 * 3))
     fi
 }
+
+# Lets large blocks of memory come from huge pages where a word is a number of seven digits or more, which only long budgets are, so that
+# the system is asked for memory in fewer pieces. What GLIBC_TUNABLES says already stays.
+widen() {
+    [ -z "${GLIBC_TUNABLES:-}" ] || return 0
+    for word in "$@"; do
+        word=${word#--budget=}
+        case $word in
+        *[!0-9]*) ;;
+        ???????*) export GLIBC_TUNABLES=glibc.malloc.hugetlb=1 ;;
+        esac
+    done
+}
