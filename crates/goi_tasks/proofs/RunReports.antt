@@ -7,7 +7,9 @@ use Rattle.pcf_values.specs.Terms.{TermTree, size}
 use Rattle.cbn_meaning.specs.Meaning.{Means}
 use Rattle.net_build.specs.Nets.{NetTree}
 use Rattle.net_build.specs.NetOf.{net_of}
+use Rattle.interleave_laws.proofs.MapLaws.{leads_seen}
 use Rattle.schedule_log.specs.declared.entry.Entry.{Entry}
+use Rattle.schedule_log.specs.Logs.{tickets_in_log}
 use Rattle.schedule_log.proofs.Taken.{tickets_all}
 use Rattle.demo_text.specs.Demo.{demo_term}
 use Rattle.goi_reports.specs.Forms.{AnswerFits}
@@ -20,6 +22,7 @@ use Rattle.program_runs.specs.RunsText.{RunsText}
 use Rattle.program_runs.specs.Runs.{Tells, meaning, net_run, IsProgramRun}
 use Rattle.program_runs.proofs.Telling.{run_of}
 use Rattle.walk_text.specs.Traces.{trace_text}
+use Rattle.walk_text.specs.Whole.{LeadsSomewhere}
 use Rattle.goi_jobs.specs.declared.jobs.Window.{Window}
 use Rattle.goi_tasks.specs.declared.report.Report.{Report}
 use Rattle.goi_tasks.specs.declared.shown.Shown.{Shown}
@@ -103,6 +106,13 @@ tells_text calling workers budget bytes answer log moves h e = record {
 pub run_few : (net : NetTree) (workers budget : ℕ) (answer : Option Val) (log : List Entry) → IsBudget budget →
     IsRun net workers budget answer log → length log ≤ most_moves
 run_few net workers budget answer log b r = let h = tickets_all log in omega (arith, h, r.finished.0, b.1)
+
+-- a run leads somewhere, over finite maps too
+pub run_leads : (net : NetTree) (workers budget : ℕ) (answer : Option Val) (log : List Entry) → IsRun net workers budget answer log →
+    LeadsSomewhere net log
+run_leads net workers budget answer log r =
+    let (S, led, _) = leads_seen net (tickets_in_log log) r.state r.led in
+    (S, led)
 
 -- the output of the generated program's run
 pub reports_demo : (n workers : ℕ) (answer : Option Val) (log : List Entry) →

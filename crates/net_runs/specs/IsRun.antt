@@ -4,17 +4,18 @@
 use Rattle.std.specs.Prelude.{◌≡◌, ℕ, List, Option}
 use Rattle.pcf_values.specs.declared.val.Val.{Val}
 use Rattle.net_build.specs.Nets.{NetTree}
+use Rattle.interleave_laws.specs.States.{State}
+use Rattle.interleave_laws.specs.Runs.{LeadsTo}
 use Rattle.interleave_laws.specs.Finished.{Finished}
 use Rattle.interleave_laws.specs.OneWorker.{one}
-use Rattle.interleave_laws.specs.Maps.{MapState, LeadsToMap}
 use Rattle.schedule_log.specs.declared.entry.Entry.{Entry}
 use Rattle.schedule_log.specs.Logs.{IsMadeBy, by, tickets_in_log}
 
 -- The log is a run of the net by so many workers within a budget of moves, and this is its answer, or none.
 pub record IsRun (net : NetTree) (workers budget : ℕ) (answer : Option Val) (log : List Entry) : Type 0 where
   -- its moves lead from the net's start to a state with that answer
-  pub state : MapState
-  pub led : LeadsToMap net (tickets_in_log log) state
+  pub state : State
+  pub led : LeadsTo net (tickets_in_log log) state
   pub answers : answer ≡ state.answered
   -- it has at most as many moves as the budget allows, and as many where there is no answer
   pub finished : Finished answer (tickets_in_log log) budget

@@ -1,15 +1,17 @@
 -- What a run of a program's net says of the program, by name and by value.
-use Rattle.std.proofs.Common.{◌≡◌, ℕ, List, [], length, Option, Some, None, refl, sym, ◌∙◌, subst, arith}
+use Rattle.std.proofs.Common.{◌≡◌, ℕ, List, [], length, Option, Some, None, refl, sym, ap, ◌∙◌, subst, arith}
 use Rattle.pcf_values.specs.declared.val.Val.{Val}
 use Rattle.pcf_values.specs.Terms.{TermTree, nat}
 use Rattle.pcf_values.specs.Typing.{HasType}
 use Rattle.cbn_meaning.specs.Meaning.{Means}
 use Rattle.net_build.specs.Nets.{NetTree}
 use Rattle.net_build.specs.NetOf.{net_of}
+use Rattle.interleave_laws.specs.States.{State}
 use Rattle.interleave_laws.specs.Finished.{Finished}
+use Rattle.interleave_laws.proofs.MapLaws.{leads_seen}
 use Rattle.adequacy_laws.specs.Adequacy.{BuiltRuns}
 use Rattle.adequacy_laws.specs.Questions.{Length}
-use Rattle.adequacy_laws.specs.FinishedLaws.{TellsMeaning, MapFinishedMeans}
+use Rattle.adequacy_laws.specs.FinishedLaws.{TellsMeaning, FinishedMeans, MapFinishedMeans}
 use Rattle.schedule_log.specs.declared.entry.Entry.{Entry}
 use Rattle.schedule_log.specs.Logs.{tickets_in_log}
 use Rattle.schedule_log.proofs.Taken.{tickets_all}
@@ -33,7 +35,7 @@ pub moves_tell : MapFinishedMeans → MovesTell
 moves_tell law t typed log S led budget finished = told t budget log S.answered (length log) refl (law t typed log S led budget finished)
 
 -- and so does a run of any number of workers
-pub runs_tell : MapFinishedMeans → RunsTell
+pub runs_tell : FinishedMeans → RunsTell
 runs_tell law t typed workers budget answer log r alone =
     let tickets = tickets_in_log log in
     let finished = subst (λ (a : Option Val). Finished a tickets budget) r.answers r.finished in
@@ -72,9 +74,11 @@ pub run_of : (calling : Calling) (t : TermTree) (net : NetTree) → RunsAs calli
     IsProgramRun (meaning calling t) (net_run calling t) workers budget answer log
 run_of calling t net is workers budget answer log r alone =
     let tickets = tickets_in_log log in
-    let finished = subst (λ (a : Option Val). Finished a tickets budget) r.answers r.finished in
-    let by_state = is.tells tickets r.state r.led budget finished in
-    let by_answer = subst (λ (a : Option Val). Tells (meaning calling t) net budget a (length tickets)) (sym r.answers) by_state in
+    let (S, led, same) = leads_seen net tickets r.state r.led in
+    let answers : answer ≡ S.answered = r.answers ∙ sym (ap (λ (T : State). T.answered) same) in
+    let finished = subst (λ (a : Option Val). Finished a tickets budget) answers r.finished in
+    let by_state = is.tells tickets S led budget finished in
+    let by_answer = subst (λ (a : Option Val). Tells (meaning calling t) net budget a (length tickets)) (sym answers) by_state in
     let tells = subst (λ (n : ℕ). Tells (meaning calling t) net budget answer n) (tickets_all log) by_answer in
     subst (λ (n : NetTree). IsProgramRun (meaning calling t) n workers budget answer log) is.net_is
     (record { is_run = r; alone = alone; tells = tells })
