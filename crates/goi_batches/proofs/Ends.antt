@@ -11,13 +11,14 @@ use Rattle.batch_pool.specs.Batches.{JobFits, BatchFits}
 use Rattle.batch_pool.specs.AreRuns.{IsRunOf, AreRuns}
 use Rattle.goi_reports.specs.Forms.{AnswerFits}
 use Rattle.goi_reports.specs.Reports.{run_report}
-use Rattle.goi_jobs.specs.Jobs.{IsWorkers, IsBudget}
+use Rattle.goi_jobs.specs.Ranges.{IsWorkers, IsBudget}
 use Rattle.goi_tasks.specs.Outputs.{output}
 use Rattle.goi_tasks.specs.Seen.{output_of}
 use Rattle.goi_tasks.specs.declared.report.Report.{Report}
 use Rattle.goi_tasks.specs.Replaying.{replay_status}
 use Rattle.goi_tasks.specs.RunReports.{ReportsRun}
-use Rattle.goi_tasks.specs.Tasks.{nothing_shown, ReportsText}
+use Rattle.goi_jobs.specs.Tasks.{nothing_shown}
+use Rattle.goi_tasks.specs.Tasks.{ReportsText}
 use Rattle.goi_tasks.proofs.RunReports.{reports_run}
 use Rattle.goi_tasks.proofs.Texts.{of_net}
 use Rattle.goi_batches.specs.declared.judged.Judged.{Judged}

@@ -16,7 +16,8 @@ use Rattle.program_runs.specs.Programs.{number}
 use Rattle.goi_tasks.specs.Refusals.{fault_line}
 use Rattle.program_runs.specs.Runs.{Tells}
 use Rattle.goi_tasks.specs.RunReports.{ReportsNet}
-use Rattle.goi_tasks.specs.Tasks.{nothing_shown, ReportsText}
+use Rattle.goi_jobs.specs.Tasks.{nothing_shown}
+use Rattle.goi_tasks.specs.Tasks.{ReportsText}
 use Rattle.program_runs.proofs.OneProgram.{same_program}
 use Rattle.goi_tasks.specs.Replaying.{replay_status}
 use Rattle.goi_tasks.proofs.Outcomes.{Known, text_end, report_sound, end_sound, one_text_fault}

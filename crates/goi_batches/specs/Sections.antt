@@ -4,14 +4,15 @@
 use Rattle.std.specs.Prelude.{◌≡◌, ◌⊎◌, ℕ, suc, Bool, false, ◌||◌, if◌then◌else◌, nat_eq, List, [], ◌∷◌, ◌++◌, codes}
 use Rattle.goi_reports.specs.Lines.{numbered_line}
 use Rattle.goi_tasks.specs.declared.fault.Fault.{Fault}
-use Rattle.goi_tasks.specs.declared.task.Task.{Task}
-use Rattle.goi_tasks.specs.declared.task.Task.TheVariants.{Run}
+use Rattle.goi_jobs.specs.declared.task.Task.{Task}
+use Rattle.goi_jobs.specs.declared.task.Task.TheVariants.{Run}
 use Rattle.goi_tasks.specs.Outputs.{Output}
 use Rattle.program_runs.specs.declared.calling.Calling.TheVariants.{ByName}
 use Rattle.program_runs.specs.Programs.{number}
 use Rattle.goi_tasks.specs.Programs.{FaultyText}
 use Rattle.goi_tasks.specs.Refusals.{fault_line}
-use Rattle.goi_tasks.specs.Tasks.{nothing_shown, ReportsText, EndsText}
+use Rattle.goi_jobs.specs.Tasks.{nothing_shown}
+use Rattle.goi_tasks.specs.Tasks.{ReportsText, EndsText}
 
 -- a program of a list: its text, and how many moves it may make
 pub record Listed : Type 0 where

@@ -2,7 +2,7 @@
 
 ghost use Rattle.std.specs.Prelude.{◌≡◌, ◌≤◌, List, [], length, IfOk, OnOk};
 ghost use Rattle.batch_lists.specs.Limits.{most_jobs};
-ghost use Rattle.goi_jobs.specs.Jobs.{IsWorkers};
+ghost use Rattle.goi_jobs.specs.Ranges.{IsWorkers};
 ghost use Rattle.goi_tasks.specs.Outputs.{output};
 ghost use Rattle.goi_tasks.specs.Seen.{output_of};
 ghost use Rattle.goi_batches.specs.Judging.{AreJudged};

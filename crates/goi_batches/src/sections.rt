@@ -1,7 +1,7 @@
 //! What is told of each program behind the run.
 
 ghost use Rattle.std.specs.Prelude.{◌≡◌, ◌<◌, ◌+◌, ◌^◌, ◌++◌, ◌∷◌, [], length, IfOk, OnOk, string_bytes};
-ghost use Rattle.goi_jobs.specs.Jobs.{IsWorkers};
+ghost use Rattle.goi_jobs.specs.Ranges.{IsWorkers};
 ghost use Rattle.goi_reports.specs.Forms.{AnswerFits};
 ghost use Rattle.goi_reports.specs.Booked.{BookedWithin};
 ghost use Rattle.goi_batches.specs.Sections.{sections_from, statuses_of, job_line, some_is, batch_status};

@@ -8,7 +8,7 @@ use Rattle.goi_tasks.specs.declared.fault.Fault.{Fault}
 use Rattle.goi_tasks.specs.declared.report.Report.{Report}
 use Rattle.goi_tasks.specs.declared.stop.Stop.{Stop}
 use Rattle.goi_tasks.specs.declared.stop.Stop.TheVariants as stop
-use Rattle.goi_tasks.specs.declared.task.Task.{Task}
+use Rattle.goi_jobs.specs.declared.task.Task.{Task}
 use Rattle.goi_tasks.specs.Outputs.{Output}
 use Rattle.goi_tasks.specs.Seen.{output_of}
 use Rattle.goi_tasks.specs.Programs.{IsProgramFault, no_program}

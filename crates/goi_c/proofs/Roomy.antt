@@ -3,12 +3,13 @@ use Rattle.std.proofs.Common.{◌≡◌, ◌≢◌, ℕ, ◌≤◌, Bool, false,
 use Rattle.pcf_values.specs.declared.val.Val.{Val}
 use Rattle.goi_tasks.specs.declared.fault.Fault.{Fault}
 use Rattle.goi_tasks.specs.declared.fault.Fault.TheVariants as fault
-use Rattle.goi_tasks.specs.declared.task.Task.TheVariants.{Run}
+use Rattle.goi_jobs.specs.declared.task.Task.TheVariants.{Run}
 use Rattle.program_runs.specs.declared.calling.Calling.{Calling}
 use Rattle.goi_tasks.specs.Outputs.{Output}
 use Rattle.goi_tasks.specs.Refusals.{most_line, fault_status}
 use Rattle.goi_tasks.specs.Replaying.{replay_status}
-use Rattle.goi_tasks.specs.Tasks.{shown, ReportsText}
+use Rattle.goi_jobs.specs.Tasks.{shown}
+use Rattle.goi_tasks.specs.Tasks.{ReportsText}
 use Rattle.goi_c.specs.declared.telling.Answer.{Answer}
 use Rattle.goi_c.specs.Backs.{Back, Gives}
 use Rattle.goi_c.specs.Calls.{Calls, prints, refuses, no_memory, HasRoom, listed_task, TellsRun, ran, refused, no_memory as told_no_memory}

@@ -6,7 +6,7 @@ use Rattle.net_build.specs.NetOf.{net_of}
 use Rattle.program_runs.specs.declared.calling.Calling.TheVariants.{ByName}
 use Rattle.program_runs.specs.Nets.{RunsAs, IsNetFor}
 use Rattle.program_runs.specs.Programs.{OfGround}
-use Rattle.goi_jobs.specs.declared.jobs.Window.{Window}
+use Rattle.goi_jobs.specs.declared.window.Window.{Window}
 use Rattle.goi_tasks.specs.declared.fault.Fault.{Fault}
 use Rattle.goi_tasks.specs.declared.report.Report.{Report}
 use Rattle.goi_tasks.specs.declared.stop.Stop.{Stop}

@@ -4,11 +4,11 @@ use Rattle.std.specs.Prelude.{◌≡◌, ◌≢◌, ◌≤◌, ◌<◌, ◌/◌,
 use Rattle.std.specs.Prelude.{nat_eq, codes}
 use Rattle.pcf_values.specs.declared.val.Val.{Val}
 use Rattle.pcf_values.specs.declared.val.Val.TheVariants.{Number, Overflow}
-use Rattle.goi_jobs.specs.declared.jobs.Window.{Window}
-use Rattle.goi_jobs.specs.Jobs.{IsBudget, IsForks, IsPart, IsStack, IsWindow}
+use Rattle.goi_jobs.specs.declared.window.Window.{Window}
+use Rattle.goi_jobs.specs.Ranges.{IsBudget, IsForks, IsPart, IsStack, IsWindow}
 use Rattle.goi_tasks.specs.declared.fault.Fault.{Fault}
-use Rattle.goi_tasks.specs.declared.task.Task.{Task}
-use Rattle.goi_tasks.specs.declared.task.Task.TheVariants.{Circuit, Run, RunNet, Span, Steps, Trace}
+use Rattle.goi_jobs.specs.declared.task.Task.{Task}
+use Rattle.goi_jobs.specs.declared.task.Task.TheVariants.{Circuit, Run, RunNet, Span, Steps, Trace}
 use Rattle.goi_tasks.specs.Outputs.{Output}
 use Rattle.goi_tasks.specs.Refusals.{most_line, IsLine, fault_status}
 use Rattle.program_runs.specs.declared.calling.Calling.{Calling}
@@ -16,7 +16,8 @@ use Rattle.program_runs.specs.Programs.{calling_of, OfGround}
 use Rattle.goi_tasks.specs.Programs.{FaultyEither}
 use Rattle.goi_tasks.specs.Replaying.{replay_status, ReportsReplay, EndsReplay, FaultySchedule}
 use Rattle.goi_tasks.specs.Told.{TellsText}
-use Rattle.goi_tasks.specs.Tasks.{shown, nothing_shown, ReportsText, FaultyFor, EndsText}
+use Rattle.goi_jobs.specs.Tasks.{shown, nothing_shown}
+use Rattle.goi_tasks.specs.Tasks.{ReportsText, FaultyFor, EndsText}
 use Rattle.goi_c.specs.declared.telling.Answer.{Answer}
 use Rattle.goi_c.specs.Backs.{Back, Comes, Gives, Nothing}
 

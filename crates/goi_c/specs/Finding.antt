@@ -4,13 +4,13 @@ use Rattle.program_runs.specs.declared.calling.Calling.TheVariants.{ByName, ByVa
 use Rattle.program_runs.specs.Programs.{any_type, number, strict_number}
 use Rattle.function_runs.specs.Functions.{FaultyFunction}
 use Rattle.goi_tasks.specs.declared.fault.Fault.{Fault}
-use Rattle.goi_tasks.specs.declared.task.Task.{Task}
-use Rattle.goi_tasks.specs.declared.task.Task.TheVariants.{Check, Run, RunNet}
+use Rattle.goi_jobs.specs.declared.task.Task.{Task}
+use Rattle.goi_jobs.specs.declared.task.Task.TheVariants.{Check, Run, RunNet}
 use Rattle.goi_tasks.specs.NetFiles.{FaultyListing}
 use Rattle.goi_tasks.specs.Programs.{FaultyEither, FaultyText, IsProgramFault}
 use Rattle.goi_tasks.specs.Refusals.{fault_status}
 use Rattle.goi_tasks.specs.Replaying.{FaultySchedule}
-use Rattle.goi_tasks.specs.Tasks.{nothing_shown}
+use Rattle.goi_jobs.specs.Tasks.{nothing_shown}
 use Rattle.goi_c.specs.declared.finding.FaultData.{FaultData}
 use Rattle.goi_c.specs.Faults.{FaultIs, IsNoFault}
 

@@ -9,7 +9,7 @@ use Rattle.open_nets.specs.Applied.{applied}
 use Rattle.program_runs.specs.declared.fault.ProgramFault.{ProgramFault}
 use Rattle.program_runs.specs.Runs.{Tells}
 use Rattle.function_runs.specs.Functions.{CompilesText, FaultyFunction}
-use Rattle.goi_jobs.specs.Jobs.{IsBudget}
+use Rattle.goi_jobs.specs.Ranges.{IsBudget}
 use Rattle.goi_tasks.specs.declared.fault.Fault.TheVariants.{Program}
 use Rattle.goi_tasks.specs.Refusals.{IsLine}
 use Rattle.goi_c.specs.declared.telling.Answer.{Answer}

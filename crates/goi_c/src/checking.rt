@@ -2,8 +2,8 @@
 
 ghost use Rattle.std.specs.Prelude.{Some, IfOk, IfErr};
 ghost use Rattle.program_runs.specs.Programs.{OfGround};
-ghost use Rattle.goi_jobs.specs.Jobs.{IsWindow};
-ghost use Rattle.goi_tasks.specs.declared.task.Task.TheVariants.{Check, Circuit, ShowNet};
+ghost use Rattle.goi_jobs.specs.Ranges.{IsWindow};
+ghost use Rattle.goi_jobs.specs.declared.task.Task.TheVariants.{Check, Circuit, ShowNet};
 ghost use Rattle.goi_tasks.specs.Seen.{output_of};
 ghost use Rattle.goi_tasks.specs.Programs.{FaultyEither};
 ghost use Rattle.goi_tasks.specs.Replaying.{FaultySchedule, ReportsReplay};
@@ -12,8 +12,8 @@ ghost use Rattle.goi_c.specs.Backs.{back};
 ghost use Rattle.goi_c.specs.Calls.{CallsCircuit, CallsReplay, CallsReplayTrace, CallsTask, IsAskedCircuit, OwnsReplay, OwnsTask, part};
 
 use crate::giving::{BAD_CALL, give_nothing, give_result};
-use goi_jobs::{LEAST_STACK, MOST_FORKS, MOST_STACK, TRACED_MOVES, Window};
-use goi_tasks::{Report, Stop, Task, law_settled, replay_text, report_replay, report_text};
+use goi_jobs::{LEAST_STACK, MOST_FORKS, MOST_STACK, TRACED_MOVES, Task, Window};
+use goi_tasks::{Report, Stop, law_settled, replay_text, report_replay, report_text};
 use pcf_values::limits::SCHEDULE_MOVES;
 use program_runs::{Alone, Calling, net_for};
 use std::alloc::Global;

@@ -1,7 +1,7 @@
 //! Runs of one function at many rows of numbers.
 
 ghost use Rattle.std.specs.Prelude.{◌≡◌, ◌↔◌, ◌*◌, ◌<◌, length, IfOk, OnOk, IsTrue};
-ghost use Rattle.goi_jobs.specs.Jobs.{IsBudget};
+ghost use Rattle.goi_jobs.specs.Ranges.{IsBudget};
 ghost use Rattle.goi_c.specs.Backs.{back};
 ghost use Rattle.goi_c.specs.Calls.{HasRoom};
 ghost use Rattle.goi_c.specs.Giving.{IsToldBy};

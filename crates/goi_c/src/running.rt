@@ -1,15 +1,15 @@
 //! Runs, as texts.
 
 ghost use Rattle.std.specs.Prelude.{◌≡◌, ◌<◌, false};
-ghost use Rattle.goi_jobs.specs.Jobs.{IsBudget};
-ghost use Rattle.goi_tasks.specs.Tasks.{shown};
+ghost use Rattle.goi_jobs.specs.Ranges.{IsBudget};
+ghost use Rattle.goi_jobs.specs.Tasks.{shown};
 ghost use Rattle.goi_c.specs.Backs.{back};
 ghost use Rattle.goi_c.specs.Calls.{CallsListed, CallsRun, CallsTrace, HasRoom, IsAsked, IsAskedTrace, OwnsTask};
 ghost use Rattle.goi_c.specs.Calls.{listed_task, part, run_task, trace_task};
 
 use crate::giving::{BAD_CALL, give_nothing, give_result};
-use goi_jobs::{TRACED_MOVES, Window};
-use goi_tasks::{Shown, Task, law_settled, report_text};
+use goi_jobs::{Shown, TRACED_MOVES, Task, Window};
+use goi_tasks::{law_settled, report_text};
 use pcf_values::limits::{BUDGET, SCHEDULE_MOVES};
 use program_runs::{Alone, calling_of};
 use std::alloc::Global;

@@ -4,7 +4,8 @@ ghost use Rattle.goi_c.specs.Backs.{back};
 ghost use Rattle.goi_c.specs.Calls.{CallsSpan, IsAsked, OwnsTask, span_task};
 
 use crate::giving::{BAD_CALL, give_nothing, give_result};
-use goi_tasks::{Task, law_settled, report_text};
+use goi_jobs::Task;
+use goi_tasks::{law_settled, report_text};
 use pcf_values::limits::BUDGET;
 use program_runs::{Alone, calling_of};
 use std::alloc::Global;

@@ -4,8 +4,8 @@ ghost use Rattle.goi_c.specs.Backs.{back};
 ghost use Rattle.goi_c.specs.Calls.{CallsSteps, IsAskedSteps, OwnsTask, part, steps_task};
 
 use crate::giving::{BAD_CALL, give_nothing, give_result};
-use goi_jobs::{TOLD_STEPS, Window};
-use goi_tasks::{Task, law_settled, report_text};
+use goi_jobs::{TOLD_STEPS, Task, Window};
+use goi_tasks::{law_settled, report_text};
 use pcf_values::limits::{BUDGET, SCHEDULE_MOVES};
 use program_runs::Alone;
 use std::alloc::Global;

@@ -1,4 +1,4 @@
--- The answer to a deed, from those to its files.
+-- The answer to a job, from those to its files.
 use Rattle.std.proofs.Common.{◌≡◌, ℕ, Bool, false, List, [], Option, Some, None, IsTrue, refl, sym, ap, ◌∙◌, subst, inl, inr}
 use Rattle.std.proofs.Common.{⊎_elim, arith}
 use Rattle.std.proofs.lemmas.List.Elements.{All-nil}
@@ -9,19 +9,17 @@ use Rattle.program_runs.specs.declared.calling.Calling.TheVariants.{ByName}
 use Rattle.program_runs.specs.Nets.{RunsAs}
 use Rattle.goi_engine.specs.declared.answer.Answer.{Answer}
 use Rattle.goi_engine.specs.declared.answer.Answer.TheVariants.{Prints, Refused, BadWords, NotRead, NoMemory}
-use Rattle.goi_engine.specs.Answers.{AnswersFile, AnswersSchedule, MadeNet, AnswersDeed}
-use Rattle.goi_engine.specs.Deeds.{Deed, with_text, with_schedule, with_list, generated, with_numbers, deed_of}
+use Rattle.goi_engine.specs.Answers.{AnswersFile, AnswersSchedule, MadeNet, AnswersJob}
+use Rattle.goi_jobs.specs.Jobs.{JobTree, text, replay, list, demo, call}
 use Rattle.goi_world.specs.Seen.{FilesState, FilesKept}
 use Rattle.goi_world.specs.Told.{files_seen}
 use Rattle.goi_engine.specs.FilesSeen.{Possibly, OfFile, ReadsWithin, LoadedBy}
-use Rattle.goi_tasks.specs.declared.shown.Shown.{Shown}
 use Rattle.goi_tasks.specs.Calls.{ReportsCall, FaultyCall}
 use Rattle.goi_tasks.specs.Seen.{output_of}
 use Rattle.program_runs.specs.Programs.{IsGround, OfGround}
 use Rattle.goi_tasks.specs.Programs.{FaultyEither}
-use Rattle.goi_jobs.specs.declared.jobs.Window.{Window}
-use Rattle.goi_jobs.specs.Jobs.{JobTree, call}
-use Rattle.goi_tasks.specs.Tasks.{shown}
+use Rattle.goi_jobs.specs.declared.window.Window.{Window}
+use Rattle.goi_jobs.specs.Tasks.{shown}
 use Rattle.goi_tasks.specs.Replaying.{ReportsReplay, FaultySchedule}
 use Rattle.goi_engine.specs.Verdicts.{HasNumber, ReadFor}
 
@@ -45,13 +43,14 @@ module _ (file moves : List ℕ) (window : Option Window) (old new : FilesState)
     has_number = (ground.0, possibly_goes (old.told file) (λ b. IsGround b t) HasNumber (λ b g. (t, g, tt)) ground.1)
 
     -- the program's term is t, and the schedule was answered
-    with_term : (a : Answer) → AnswersSchedule t window moves old new a → AnswersDeed (with_schedule file moves window) old new a
+    with_term : (a : Answer) → AnswersSchedule t window moves old new a → AnswersJob (replay file moves window) old new a
     with_term (Prints r) (same, of) = (
       same,
       (
         ground.0,
         possibly_goes (old.told file) (λ b. IsGround b t)
-            (λ b. OfGround b (λ u. OfFile old moves (λ text. ReportsReplay u window text (output_of r)))) (λ b g. (t, g, of)) ground.1,
+            (λ b. OfGround b (λ u. OfFile old moves (λ schedule. ReportsReplay u window schedule (output_of r))))
+            (λ b g. (t, g, of)) ground.1,
       ),
     )
     with_term (Refused r) (same, (f, of, line)) = (
@@ -61,7 +60,7 @@ module _ (file moves : List ℕ) (window : Option Window) (old new : FilesState)
         (
           ground.0,
           possibly_goes (old.told file) (λ b. IsGround b t)
-              (λ b. FaultyEither b (λ u. OfFile old moves (λ text. FaultySchedule u text f)) f) (λ b g. inr (t, g, of)) ground.1,
+              (λ b. FaultyEither b (λ u. OfFile old moves (λ schedule. FaultySchedule u schedule f)) f) (λ b g. inr (t, g, of)) ground.1,
         ),
         line,
       ),
@@ -78,7 +77,7 @@ module _ (file moves : List ℕ) (window : Option Window) (old new : FilesState)
 
   pub schedule_job : (mid : FilesState) (net : NetTree) (a : Answer) → FilesKept old mid → MadeNet file old mid net →
       ((t : TermTree) → RunsAs ByName t net → AnswersSchedule t window moves mid new a) →
-      AnswersDeed (with_schedule file moves window) old new a
+      AnswersJob (replay file moves window) old new a
   schedule_job mid net a kept made h =
       with_term made.term made.ground a
       (subst (λ (s : FilesState). AnswersSchedule made.term window moves s new a) (same_state old mid kept made.faults)
@@ -87,24 +86,24 @@ module _ (file moves : List ℕ) (window : Option Window) (old new : FilesState)
 -- ---- call
 
 -- the answer to the file of a function is that to its call
-pub call_job : (workers budget : ℕ) (told : Shown) (numbers file : List ℕ) (old new : FilesState) (a : Answer) →
-    AnswersFile (ReportsCall workers budget told numbers) (FaultyCall numbers) file old new a →
-    AnswersDeed (with_numbers workers budget told numbers file) old new a
-call_job workers budget told numbers file old new (Prints r) h = h
-call_job workers budget told numbers file old new (Refused r) h = h
-call_job workers budget told numbers file old new BadWords h = h
-call_job workers budget told numbers file old new NotRead h = (tt, h)
-call_job workers budget told numbers file old new NoMemory h = h
+pub call_job : (workers budget : ℕ) (schedule tally : Bool) (numbers file : List ℕ) (old new : FilesState) (a : Answer) →
+    AnswersFile (ReportsCall workers budget (shown schedule tally false) numbers) (FaultyCall numbers) file old new a →
+    AnswersJob (call file numbers workers budget schedule tally) old new a
+call_job workers budget schedule tally numbers file old new (Prints r) h = h
+call_job workers budget schedule tally numbers file old new (Refused r) h = h
+call_job workers budget schedule tally numbers file old new BadWords h = h
+call_job workers budget schedule tally numbers file old new NotRead h = (tt, h)
+call_job workers budget schedule tally numbers file old new NoMemory h = h
 
 -- and so to the job that asks for it, by what was called
 pub call_of_job : (job : JobTree) (file numbers : List ℕ) (workers budget : ℕ) (schedule tally : Bool) →
     job ≡ call file numbers workers budget schedule tally → (named given : List ℕ) → named ≡ file → given ≡ numbers →
     (old new : FilesState) (a : Answer) →
     AnswersFile (ReportsCall workers budget (shown schedule tally false) given) (FaultyCall given) named old new a →
-    AnswersDeed (deed_of job) old new a
+    AnswersJob job old new a
 call_of_job job file numbers workers budget schedule tally is named given n g old new a h =
-    subst (λ (j : JobTree). AnswersDeed (deed_of j) old new a) (sym is)
-    (call_job workers budget (shown schedule tally false) numbers file old new a
+    subst (λ (j : JobTree). AnswersJob j old new a) (sym is)
+    (call_job workers budget schedule tally numbers file old new a
     (subst (λ (xs : List ℕ). AnswersFile (ReportsCall workers budget (shown schedule tally false) xs) (FaultyCall xs) file old new a) g
     (subst (λ (xs : List ℕ). AnswersFile (ReportsCall workers budget (shown schedule tally false) given) (FaultyCall given) xs old new a) n
     h)))
@@ -115,13 +114,13 @@ call_of_job job file numbers workers budget schedule tally is named given n g ol
 unread : {S : Type 0} (one : S → Reading → S → Type 0) (name : List ℕ) (limit : ℕ) (old : S) → LoadedBy one name limit old old
 unread one name limit old = record { log = []; came = refl; few = omega arith; each = All-nil (ReadsWithin name limit); onwards = tt }
 
--- reading nothing is within every deed's reads
-pub nothing_read : {S : Type 0} (one : S → Reading → S → Type 0) (told : List ℕ → Option (List ℕ)) (asked : Option Deed) (old : S) →
+-- reading nothing is within every job's reads
+pub nothing_read : {S : Type 0} (one : S → Reading → S → Type 0) (told : List ℕ → Option (List ℕ)) (asked : Option JobTree) (old : S) →
     ReadFor one told asked old old
 nothing_read one told None old = refl
-nothing_read one told (Some (with_text workers task file)) old = unread one file _ old
-nothing_read one told (Some (with_schedule file moves window)) old =
+nothing_read one told (Some (text file workers task)) old = unread one file _ old
+nothing_read one told (Some (replay file moves window)) old =
     record { mid = old; program = unread one file _ old; schedule = inl refl }
-nothing_read one told (Some (with_list file workers)) old = record { mid = old; list = unread one file _ old; programs = inl refl }
-nothing_read one told (Some (generated n workers)) old = refl
-nothing_read one told (Some (with_numbers workers budget shown numbers file)) old = unread one file _ old
+nothing_read one told (Some (list file workers)) old = record { mid = old; list = unread one file _ old; programs = inl refl }
+nothing_read one told (Some (demo n workers)) old = refl
+nothing_read one told (Some (call file numbers workers budget schedule tally)) old = unread one file _ old

@@ -1,5 +1,5 @@
 -- The headline of a call follows from the promise, as that of a run does.
-use Rattle.std.proofs.Common.{◌≡◌, ℕ, IsTrue, List, [], length, Some, refl, sym, ap, ◌∙◌, subst}
+use Rattle.std.proofs.Common.{◌≡◌, ℕ, IsTrue, List, [], length, Some, false, refl, sym, ap, ◌∙◌, subst}
 use Rattle.pcf_values.specs.Terms.{TermTree}
 use Rattle.cbn_meaning.specs.Meaning.{Means}
 use Rattle.net_build.specs.NetOf.{net_of}
@@ -10,13 +10,12 @@ use Rattle.function_runs.specs.Functions.{FaultyFunction}
 use Rattle.function_runs.specs.Laws.{OneFunction}
 use Rattle.program_runs.specs.declared.calling.Calling.TheVariants.{ByName}
 use Rattle.program_runs.specs.declared.fault.ProgramFault.{ProgramFault}
-use Rattle.goi_words.specs.Asked.{job}
 use Rattle.goi_tasks.specs.declared.fault.Fault.{Fault}
 use Rattle.goi_tasks.specs.Calls.{ReportsCall, FaultyCall}
 use Rattle.goi_tasks.specs.Outputs.{Output}
 use Rattle.goi_tasks.specs.Refusals.{IsLine, fault_status}
-use Rattle.goi_tasks.specs.Tasks.{nothing_shown}
-use Rattle.goi_engine.specs.Deeds.{Deed, with_numbers, deed}
+use Rattle.goi_jobs.specs.Tasks.{nothing_shown}
+use Rattle.goi_jobs.specs.Jobs.{JobTree, call}
 use Rattle.goi_engine.specs.CallHeadline.{IsFunction, CallOutcome, at_value, at_none, at_fault, CallHeadline, OneCallOutcome}
 use Rattle.goi_engine.specs.Promise.{Call, Promise}
 use Rattle.goi_engine.specs.Verdicts.{Reports, Refuses}
@@ -64,8 +63,8 @@ module _ (bytes numbers : List ℕ) (budget : ℕ) where
     sound t f h k = one.not_both (length numbers) bytes (h.term, length numbers) f h.is k
 
   module _ (file : List ℕ) (workers : ℕ) (c : Call) (told : c.old.told file ≡ Some bytes) where
-    abbrev Asked : Deed
-    Asked = with_numbers workers budget nothing_shown numbers file
+    abbrev Asked : JobTree
+    Asked = call file numbers workers budget false false
 
     of_report : (o : Output) → Reports Asked c.old o → CallOutcome bytes numbers budget o.status o.report o.notes
     of_report o h =
@@ -82,18 +81,17 @@ module _ (bytes numbers : List ℕ) (budget : ℕ) where
     of_program : (f : Fault) → Refuses Asked c.old f → fault_status f ≡ 7 → ⊥
     of_program f h = no_other Runs NotRun budget f (its_fault f h)
 
--- the promise of the deed that these words ask for, by its reports and its faults
+-- the promise of the job that these words ask for, by its reports and its faults
 pub call_headline : CallHeadline
 call_headline words file bytes numbers workers budget c status asked told there promise =
-    let d = Asked bytes numbers budget file workers c told in
-    let e : deed (job words) ≡ Some d = ap deed asked in
-    let p = subst (λ a. Promise a c status) e promise in
+    let j = Asked bytes numbers budget file workers c told in
+    let p = subst (λ a. Promise a c status) asked promise in
     let report = of_report bytes numbers budget file workers c told in
     let refusal = of_fault bytes numbers budget file workers c told in
     let program = of_program bytes numbers budget file workers c told in
     record {
-      right = right d c (CallOutcome bytes numbers budget) report refusal program there status p;
-      comes = comes d c (CallOutcome bytes numbers budget) report refusal program there status p;
+      right = right j c (CallOutcome bytes numbers budget) report refusal program there status p;
+      comes = comes j c (CallOutcome bytes numbers budget) report refusal program there status p;
     }
 
 pub one_call_outcome : OneLength → OneFunction → OneCallOutcome

@@ -1,5 +1,5 @@
--- What a promise says of a deed with one file, whose reports and faults are known: with status 0, 5 or 1 that was written which the deed
--- comes to, and where nothing fails the other statuses are excluded, since the words ask for the deed, its file is there, no device
+-- What a promise says of a job with one file, whose reports and faults are known: with status 0, 5 or 1 that was written which the job
+-- comes to, and where nothing fails the other statuses are excluded, since the words ask for the job, its file is there, no device
 -- failed, and a program's fault has status 1. And what a run of a program comes to is one thing alone.
 use Rattle.std.proofs.Common.{◌≡◌, ◌⊎◌, ◌≤◌, ◌<◌, ℕ, List, [], append-nil, length, Option, Some, None, false}
 use Rattle.std.proofs.Common.{refl, sym, ap, ◌∙◌, subst, inl, inr, ⊎_elim, arith}
@@ -23,8 +23,8 @@ use Rattle.goi_tasks.specs.Programs.{no_program, IsProgramFault}
 use Rattle.goi_tasks.specs.Refusals.{IsLine, fault_status, program_fault_line}
 use Rattle.goi_tasks.specs.Replaying.{replay_status}
 use Rattle.goi_tasks.specs.RunReports.{ReportsRun}
-use Rattle.goi_tasks.specs.Tasks.{nothing_shown}
-use Rattle.goi_engine.specs.Deeds.{Deed}
+use Rattle.goi_jobs.specs.Tasks.{nothing_shown}
+use Rattle.goi_jobs.specs.Jobs.{JobTree}
 use Rattle.goi_engine.specs.FilesSeen.{Possibly}
 use Rattle.goi_engine.specs.Promise.{Call, WroteLine, RefusedFault, MeansPrinted, MeansFault, MeansNotRead, MeansNotWritten}
 use Rattle.goi_engine.specs.Promise.{NoneFailed, Promise}
@@ -121,21 +121,21 @@ module _ (is : TermTree → Type 0) (faulty : ProgramFault → Type 0) (budget :
     one_thing _ _ _ _ _ _ (fault f h) (none u g beyond) = absurd (sound u f g h)
     one_thing _ _ _ _ _ _ (fault f h) (fault g k) = (refl, refl, ap program_fault_line (one f g h k))
 
--- ---- the promise of a deed
+-- ---- the promise of a job
 
--- what was written is what the deed comes to with this status
+-- what was written is what the job comes to with this status
 abbrev pub Came : (ℕ → List ℕ → List ℕ → Type 0) → Call → ℕ → Type 0
 Came Out c status = (report line : List ℕ) × Out status report line × Wrote report c.out × Wrote line c.err
 
--- Below, Out has the deed's reports and the lines of its faults, none of which is a fault of a file, and its file is there.
-module _ (d : Deed) (c : Call) (Out : ℕ → List ℕ → List ℕ → Type 0)
-    (of_report : (o : Output) → Reports d c.old o → Out o.status o.report o.notes)
-    (of_fault : (f : Fault) (line : List ℕ) → Refuses d c.old f → IsLine f line → Out 1 [] line)
-    (of_program : (f : Fault) → Refuses d c.old f → fault_status f ≡ 7 → ⊥) (there : LacksFor d c.old → ⊥) where
-  printed : (status : ℕ) → MeansPrinted status (Some d) c → Came Out c status
+-- Below, Out has the job's reports and the lines of its faults, none of which is a fault of a file, and its file is there.
+module _ (j : JobTree) (c : Call) (Out : ℕ → List ℕ → List ℕ → Type 0)
+    (of_report : (o : Output) → Reports j c.old o → Out o.status o.report o.notes)
+    (of_fault : (f : Fault) (line : List ℕ) → Refuses j c.old f → IsLine f line → Out 1 [] line)
+    (of_program : (f : Fault) → Refuses j c.old f → fault_status f ≡ 7 → ⊥) (there : LacksFor j c.old → ⊥) where
+  printed : (status : ℕ) → MeansPrinted status (Some j) c → Came Out c status
   printed status (asked, e, h) =
-      let k : asked ≡ d = cc in
-      let right = subst (λ (x : Deed). Reports x c.old h.output) k h.right in (
+      let k : asked ≡ j = cc in
+      let right = subst (λ (x : JobTree). Reports x c.old h.output) k h.right in (
         h.output.report,
         h.output.notes,
         subst (λ (s : ℕ). Out s h.output.report h.output.notes) h.of_status (of_report h.output right),
@@ -143,32 +143,32 @@ module _ (d : Deed) (c : Call) (Out : ℕ → List ℕ → List ℕ → Type 0)
         h.err,
       )
 
-  -- the fault is one of the deed
-  fault_of : (status : ℕ) (asked : Deed) → Some d ≡ Some asked → (h : RefusedFault status asked c) → Refuses d c.old h.fault
+  -- the fault is one of the job
+  fault_of : (status : ℕ) (asked : JobTree) → Some j ≡ Some asked → (h : RefusedFault status asked c) → Refuses j c.old h.fault
   fault_of status asked e h =
-      let k : asked ≡ d = cc in
-      subst (λ (x : Deed). Refuses x c.old h.fault) k h.right
+      let k : asked ≡ j = cc in
+      subst (λ (x : JobTree). Refuses x c.old h.fault) k h.right
 
-  refused : MeansFault 1 (Some d) c → Came Out c 1
+  refused : MeansFault 1 (Some j) c → Came Out c 1
   refused (asked, e, h) =
       ([], h.line, of_fault h.fault h.line (fault_of 1 asked e h) h.is_line, wrote_nothing c.out h.wrote.out, h.wrote.err)
 
-  not_of_file : MeansFault 7 (Some d) c → ⊥
+  not_of_file : MeansFault 7 (Some j) c → ⊥
   not_of_file (asked, e, h) = of_program h.fault (fault_of 7 asked e h) h.of_status
 
   -- what is there was read
-  was_read : NoneFailed c → MeansNotRead (Some d) c → ⊥
+  was_read : NoneFailed c → MeansNotRead (Some j) c → ⊥
   was_read fine (asked, e, h, wrote) =
-      let k : asked ≡ d = cc in
-      ⊎_elim (λ (l : LacksFor asked c.old). there (subst (λ (x : Deed). LacksFor x c.old) k l)) fine.files h.1.cause
+      let k : asked ≡ j = cc in
+      ⊎_elim (λ (l : LacksFor asked c.old). there (subst (λ (x : JobTree). LacksFor x c.old) k l)) fine.files h.1.cause
 
   -- and what was written, was written whole
-  was_written : NoneFailed c → MeansNotWritten (Some d) c → ⊥
+  was_written : NoneFailed c → MeansNotWritten (Some j) c → ⊥
   was_written fine (inl h) = fine.out h.out.rose
   was_written fine (inr (inl h)) = fine.err h.err.rose
   was_written fine (inr (inr h)) = fine.err h.err.rose
 
-  module _ (status : ℕ) (p : Promise (Some d) c status) where
+  module _ (status : ℕ) (p : Promise (Some j) c status) where
     pub right : (status ≡ 0) ⊎ (status ≡ 5) ⊎ (status ≡ 1) → Came Out c status
     right (inl e) = subst (Came Out c) (sym e) (printed 0 (p.done e))
     right (inr (inl e)) = subst (Came Out c) (sym e) (printed 5 (p.no_value e))
@@ -180,7 +180,7 @@ module _ (d : Deed) (c : Call) (Out : ℕ → List ℕ → List ℕ → Type 0)
           ((status ≡ 0) ⊎ (status ≡ 5) ⊎ (status ≡ 1)) ⊎ (status ≡ 6)
       by (inl e) = inl (inl e)
       by (inr (inl e)) = inl (inr (inr e))
-      by (inr (inr (inl e))) = let k : Some d ≡ None = (p.bad_words e).0 in absurd cc
+      by (inr (inr (inl e))) = let k : Some j ≡ None = (p.bad_words e).0 in absurd cc
       by (inr (inr (inr (inl e)))) = absurd (was_read fine (p.not_read e))
       by (inr (inr (inr (inr (inl e))))) = absurd (was_written fine (p.not_written e))
       by (inr (inr (inr (inr (inr (inl e)))))) = inl (inr (inl e))

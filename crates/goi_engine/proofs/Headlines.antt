@@ -1,7 +1,7 @@
 -- The headline follows from the promise.
 -- The told bytes are those of which the promise speaks; so what was printed is the report of a run of them, and what was refused is refused
 -- for their first fault.
-use Rattle.std.proofs.Common.{◌≡◌, ℕ, IsTrue, List, [], Some, ap, subst}
+use Rattle.std.proofs.Common.{◌≡◌, ℕ, IsTrue, List, [], Some, subst}
 use Rattle.pcf_values.specs.Terms.{TermTree, TyTree}
 use Rattle.adequacy_laws.specs.Lengths.{OneLength}
 use Rattle.program_runs.specs.declared.calling.Calling.TheVariants.{ByName}
@@ -9,14 +9,14 @@ use Rattle.program_runs.specs.declared.fault.ProgramFault.{ProgramFault}
 use Rattle.program_runs.specs.Laws.{OneProgram}
 use Rattle.program_runs.specs.Programs.{number, IsProgram, IsGround, FaultyProgram}
 use Rattle.program_runs.proofs.OneProgram.{same_ground, ground_sound}
-use Rattle.goi_words.specs.Asked.{job}
 use Rattle.goi_tasks.specs.declared.fault.Fault.{Fault}
-use Rattle.goi_tasks.specs.declared.task.Task.TheVariants.{Run}
+use Rattle.goi_jobs.specs.declared.task.Task.TheVariants.{Run}
 use Rattle.goi_tasks.specs.Outputs.{Output}
 use Rattle.goi_tasks.specs.Programs.{FaultyText}
 use Rattle.goi_tasks.specs.Refusals.{IsLine, fault_status}
-use Rattle.goi_tasks.specs.Tasks.{nothing_shown, ReportsText}
-use Rattle.goi_engine.specs.Deeds.{Deed, with_text, deed}
+use Rattle.goi_jobs.specs.Tasks.{nothing_shown}
+use Rattle.goi_tasks.specs.Tasks.{ReportsText}
+use Rattle.goi_jobs.specs.Jobs.{JobTree, text}
 use Rattle.goi_engine.specs.Headline.{Outcome, has_value, no_value, is_faulty, Headline, OneOutcome}
 use Rattle.goi_engine.specs.Promise.{Call, Promise}
 use Rattle.goi_engine.specs.Verdicts.{Reports, Refuses}
@@ -42,8 +42,8 @@ module _ (bytes : List ℕ) (budget : ℕ) where
   meant _ _ _ (is_faulty f h) = fault f h
 
   module _ (file : List ℕ) (workers : ℕ) (c : Call) (told : c.old.told file ≡ Some bytes) where
-    abbrev Asked : Deed
-    Asked = with_text workers (Run budget ByName nothing_shown) file
+    abbrev Asked : JobTree
+    Asked = text file workers (Run budget ByName nothing_shown)
 
     of_report : (o : Output) → Reports Asked c.old o → Outcome bytes budget o.status o.report o.notes
     of_report o h =
@@ -61,18 +61,17 @@ module _ (bytes : List ℕ) (budget : ℕ) where
     of_program : (f : Fault) → Refuses Asked c.old f → fault_status f ≡ 7 → ⊥
     of_program f h = no_other (IsGround bytes) (FaultyProgram number bytes) budget f (its_fault f h)
 
--- the promise of the deed that these words ask for, by its reports and its faults
+-- the promise of the job that these words ask for, by its reports and its faults
 pub headline : Headline
 headline words file bytes workers budget c status asked told there promise =
-    let d = Asked bytes budget file workers c told in
-    let e : deed (job words) ≡ Some d = ap deed asked in
-    let p = subst (λ a. Promise a c status) e promise in
+    let j = Asked bytes budget file workers c told in
+    let p = subst (λ a. Promise a c status) asked promise in
     let report = of_report bytes budget file workers c told in
     let refusal = of_fault bytes budget file workers c told in
     let program = of_program bytes budget file workers c told in
     record {
-      right = right d c (Outcome bytes budget) report refusal program there status p;
-      comes = comes d c (Outcome bytes budget) report refusal program there status p;
+      right = right j c (Outcome bytes budget) report refusal program there status p;
+      comes = comes j c (Outcome bytes budget) report refusal program there status p;
     }
 
 pub one_outcome : OneLength → OneProgram → OneOutcome

@@ -1,12 +1,13 @@
 -- The promise of the top call is kept: an answer that is right for the words and the files, and is delivered, is what it promises.
-use Rattle.std.proofs.Common.{◌≡◌, ◌≢◌, ◌⊎◌, ℕ, ◌≤◌, List, length, Option, Some, None, IsTrue, refl, sym, ap, ◌∙◌, subst, inl, inr}
-use Rattle.std.proofs.Common.{⊎_elim, arith}
+use Rattle.std.proofs.Common.{◌≡◌, ◌≢◌, ◌⊎◌, ℕ, ◌≤◌, false, List, length, Option, Some, None, IsTrue, refl, sym, ap, ◌∙◌, subst, inl}
+use Rattle.std.proofs.Common.{inr, ⊎_elim, arith}
 use Rattle.goi_tasks.specs.declared.fault.Fault.{Fault}
 use Rattle.goi_engine.specs.declared.answer.Answer.{Answer}
 use Rattle.goi_engine.specs.declared.answer.Answer.TheVariants.{Prints, Refused, BadWords, NotRead, NoMemory}
 use Rattle.goi_tasks.specs.declared.fault.Fault.TheVariants.{Program, NetText, Schedule, Moves, Batch}
-use Rattle.goi_engine.specs.Answers.{AnswersDeed, Answers}
-use Rattle.goi_engine.specs.Deeds.{Deed, with_text, with_schedule, with_list, generated, with_numbers}
+use Rattle.goi_engine.specs.Answers.{AnswersJob, Answers}
+use Rattle.goi_jobs.specs.Jobs.{JobTree, text, replay, list, demo, call}
+use Rattle.goi_jobs.specs.Tasks.{shown}
 use Rattle.goi_engine.specs.Writes.{Wrote}
 use Rattle.goi_engine.specs.Delivers.{Reported, RefusedAs, Delivered}
 use Rattle.function_runs.specs.Laws.{OneFunction}
@@ -36,7 +37,7 @@ abbrev SameFaults : Call → Type 0
 SameFaults c = c.new.faults ≡ c.old.faults
 
 -- what came, by its status
-data Outcome (asked : Option Deed) (c : Call) : ℕ → Type 0 where
+data Outcome (asked : Option JobTree) (c : Call) : ℕ → Type 0 where
   done : MeansPrinted 0 asked c → SameFaults c → Outcome asked c 0
   fault : MeansFault 1 asked c → SameFaults c → Outcome asked c 1
   some_refused : MeansPrinted 1 asked c → SameFaults c → Outcome asked c 1
@@ -48,21 +49,21 @@ data Outcome (asked : Option Deed) (c : Call) : ℕ → Type 0 where
   file_fault : MeansFault 7 asked c → SameFaults c → Outcome asked c 7
 
 -- a line that stands is short
-short_line : (asked : Option Deed) (c : Call) (line : List ℕ) → RefusalLine asked c line → length line ≤ most_line
+short_line : (asked : Option JobTree) (c : Call) (line : List ℕ) → RefusalLine asked c line → length line ≤ most_line
 short_line asked c _ (of_words e) = omega arith
-short_line asked c _ (of_read d e h) = omega arith
+short_line asked c _ (of_read j e h) = omega arith
 short_line asked c _ of_memory = omega arith
-short_line asked c _ (of_fault d f line e h is) = is.short
+short_line asked c _ (of_fault j f line e h is) = is.short
 
 -- sinks that are sure to take what may come don't fail
-never_broke : (asked : Option Deed) (c : Call) → SureRoom asked c → MeansNotWritten asked c → ⊥
-never_broke asked c room (inl o) = let fits = room.out o.d o.output o.is_asked o.right in omega (arith, o.out.short, fits)
+never_broke : (asked : Option JobTree) (c : Call) → SureRoom asked c → MeansNotWritten asked c → ⊥
+never_broke asked c room (inl o) = let fits = room.out o.j o.output o.is_asked o.right in omega (arith, o.out.short, fits)
 never_broke asked c room (inr (inl e)) = let fits = short_line asked c e.line e.stands in omega (arith, e.err.short, fits, room.err)
-never_broke asked c room (inr (inr n)) = let fits = room.notes n.d n.output n.is_asked n.right in omega (arith, n.err.short, fits)
+never_broke asked c room (inr (inr n)) = let fits = room.notes n.j n.output n.is_asked n.right in omega (arith, n.err.short, fits)
 
 -- ---- what each status means
 
-module _ (asked : Option Deed) (c : Call) where
+module _ (asked : Option JobTree) (c : Call) where
   at_0 : Outcome asked c 0 → MeansPrinted 0 asked c
   at_0 (done m f) = m
 
@@ -160,7 +161,7 @@ module _ (asked : Option Deed) (c : Call) where
 
 -- ---- what came of an answer that was delivered
 
-module _ (asked : Option Deed) (c : Call) where
+module _ (asked : Option JobTree) (c : Call) where
   abbrev Came : ℕ → Type 0
   Came status = Outcome asked c status
 
@@ -178,13 +179,13 @@ module _ (asked : Option Deed) (c : Call) where
   ended own (inr (inr e)) m f = subst Came (sym e) (no_value (subst (λ (o : ℕ). MeansPrinted o asked c) e m) f)
 
   -- an output that is delivered is that output, or a sink failed
-  reported : (d : Deed) → asked ≡ Some d → (o : Output) → Reports d c.old o → (status : ℕ) →
+  reported : (j : JobTree) → asked ≡ Some j → (o : Output) → Reports j c.old o → (status : ℕ) →
       (Wrote o.report c.out → Wrote o.notes c.err → Came o.status) → Reported o c.out c.err status → Came status
-  reported d is o right status came (inl (e, w, n)) = subst Came (sym e) (came w n)
-  reported d is o right status came (inr (inl (e, b, r))) =
-      subst Came (sym e) (not_written (inl (record { d = d; is_asked = is; output = o; right = right; out = b; err = r })))
-  reported d is o right status came (inr (inr (e, w, b))) =
-      subst Came (sym e) (not_written (inr (inr (record { d = d; is_asked = is; output = o; right = right; out = w; err = b }))))
+  reported j is o right status came (inl (e, w, n)) = subst Came (sym e) (came w n)
+  reported j is o right status came (inr (inl (e, b, r))) =
+      subst Came (sym e) (not_written (inl (record { j = j; is_asked = is; output = o; right = right; out = b; err = r })))
+  reported j is o right status came (inr (inr (e, w, b))) =
+      subst Came (sym e) (not_written (inr (inr (record { j = j; is_asked = is; output = o; right = right; out = w; err = b }))))
 
 -- what is possible of some bytes and says nothing of them is so
 some_bytes : (told : Option (List ℕ)) (P : List ℕ → Type 0) (Q : Type 0) → ((bytes : List ℕ) → P bytes → Q) → Possibly told P → Q
@@ -202,64 +203,64 @@ two_of_three status (inl e) = inl e
 two_of_three status (inr e) = inr (inr e)
 
 -- an output ends with one of three statuses: one of a program or a schedule with 0 or 5, and one of a list with 1 too
-three_statuses : (d : Deed) (files : FilesState) (o : Output) → Reports d files o → OneOfThree o.status
-three_statuses (with_text workers task file) files o h =
+three_statuses : (j : JobTree) (files : FilesState) (o : Output) → Reports j files o → OneOfThree o.status
+three_statuses (text file workers task) files o h =
     two_of_three o.status
     (some_bytes (files.told file) (λ b. ReportsText workers task b o) (OneOfTwo o.status) (λ b x. text_status workers task b o x) h.1)
-three_statuses (with_schedule file moves window) files o h =
-    let OfMoves : List ℕ → Type 0 = λ b. OfGround b (λ t. OfFile files moves (λ text. ReportsReplay t window text o)) in
+three_statuses (replay file moves window) files o h =
+    let OfMoves : List ℕ → Type 0 = λ b. OfGround b (λ t. OfFile files moves (λ schedule. ReportsReplay t window schedule o)) in
     two_of_three o.status (
     some_bytes (files.told file) OfMoves (OneOfTwo o.status)
-    (λ b x. some_bytes (files.told moves) (λ text. ReportsReplay x.0 window text o) (OneOfTwo o.status)
-    (λ text y. schedule_status x.0 window text o y)
+    (λ b x. some_bytes (files.told moves) (λ schedule. ReportsReplay x.0 window schedule o) (OneOfTwo o.status)
+    (λ schedule y. schedule_status x.0 window schedule o y)
     x.2.1)
     h.1
     )
-three_statuses (with_list file workers) files o h =
+three_statuses (list file workers) files o h =
     some_bytes (files.told file) (λ b. OfList b (λ ls. ReportsLines files workers ls o)) (OneOfThree o.status)
     (λ b x.
     let r = x.2 in
     subst OneOfThree (sym (ap (λ (y : Output). y.status) r.output_is)) (three (statuses_of r.sections))) h.1
-three_statuses (generated n workers) files o h = two_of_three o.status (run_status h.answer o.status h.ends)
-three_statuses (with_numbers workers budget shown numbers file) files o h =
+three_statuses (demo n workers) files o h = two_of_three o.status (run_status h.answer o.status h.ends)
+three_statuses (call file numbers workers budget schedule tally) files o h =
     two_of_three o.status
-    (some_bytes (files.told file) (λ b. ReportsCall workers budget shown numbers b o) (OneOfTwo o.status)
-    (λ b x. call_status workers budget shown numbers b o x) h.1)
+    (some_bytes (files.told file) (λ b. ReportsCall workers budget (shown schedule tally false) numbers b o) (OneOfTwo o.status)
+    (λ b x. call_status workers budget (shown schedule tally false) numbers b o x) h.1)
 
 -- a fault ends with its status
-fault_outcome : (d : Deed) (c : Call) (f : Fault) → MeansFault (fault_status f) (Some d) c → SameFaults c →
-    Outcome (Some d) c (fault_status f)
-fault_outcome d c (Program f) m h = fault m h
-fault_outcome d c (NetText f) m h = file_fault m h
-fault_outcome d c (Schedule f) m h = file_fault m h
-fault_outcome d c (Moves f) m h = file_fault m h
-fault_outcome d c (Batch f) m h = file_fault m h
+fault_outcome : (j : JobTree) (c : Call) (f : Fault) → MeansFault (fault_status f) (Some j) c → SameFaults c →
+    Outcome (Some j) c (fault_status f)
+fault_outcome j c (Program f) m h = fault m h
+fault_outcome j c (NetText f) m h = file_fault m h
+fault_outcome j c (Schedule f) m h = file_fault m h
+fault_outcome j c (Moves f) m h = file_fault m h
+fault_outcome j c (Batch f) m h = file_fault m h
 
--- a right answer to a deed has come to one of the outcomes, once it is delivered
-outcome_deed : (d : Deed) (c : Call) (a : Answer) (status : ℕ) → AnswersDeed d c.old c.new a → Delivered a c.out c.err status →
-    Outcome (Some d) c status
-outcome_deed d c (Prints r) status (h, right) delivered =
+-- a right answer to a job has come to one of the outcomes, once it is delivered
+outcome_job : (j : JobTree) (c : Call) (a : Answer) (status : ℕ) → AnswersJob j c.old c.new a → Delivered a c.out c.err status →
+    Outcome (Some j) c status
+outcome_job j c (Prints r) status (h, right) delivered =
     let o = output_of r in
-    reported (Some d) c d refl o right status
+    reported (Some j) c j refl o right status
     (λ w n.
-    let printed : Printed r.status d c = record { output = o; right = right; of_status = refl; out = w; err = n } in
-    ended (Some d) c r.status (three_statuses d c.old o right) (d, refl, printed) h) delivered
-outcome_deed d c (Refused r) status (h, (f, right, tells)) delivered =
+    let printed : Printed r.status j c = record { output = o; right = right; of_status = refl; out = w; err = n } in
+    ended (Some j) c r.status (three_statuses j c.old o right) (j, refl, printed) h) delivered
+outcome_job j c (Refused r) status (h, (f, right, tells)) delivered =
     let line = r.line.items in
-    refusal (Some d) c r.status line status (of_fault d f line refl right tells.line)
+    refusal (Some j) c r.status line status (of_fault j f line refl right tells.line)
     (λ w.
-    let refused : RefusedFault (fault_status f) d c =
+    let refused : RefusedFault (fault_status f) j c =
     record { fault = f; right = right; of_status = refl; line = line; is_line = tells.line; wrote = w } in
-    subst (λ (s : ℕ). Outcome (Some d) c s) (sym tells.status) (fault_outcome d c f (d, refl, refused) h)) delivered
-outcome_deed d c BadWords status h delivered = absurd h
-outcome_deed d c NotRead status h delivered =
-    refusal (Some d) c 3 read_line status (of_read d refl h) (λ w. not_read (d, refl, h, w)) delivered
-outcome_deed d c NoMemory status h delivered = refusal (Some d) c 6 memory_line status of_memory (λ w. no_memory w h) delivered
+    subst (λ (s : ℕ). Outcome (Some j) c s) (sym tells.status) (fault_outcome j c f (j, refl, refused) h)) delivered
+outcome_job j c BadWords status h delivered = absurd h
+outcome_job j c NotRead status h delivered =
+    refusal (Some j) c 3 read_line status (of_read j refl h) (λ w. not_read (j, refl, h, w)) delivered
+outcome_job j c NoMemory status h delivered = refusal (Some j) c 6 memory_line status of_memory (λ w. no_memory w h) delivered
 
 -- and so has a right answer to words
-outcome : (asked : Option Deed) (c : Call) (a : Answer) (status : ℕ) → Answers asked c.old c.new a → Delivered a c.out c.err status →
+outcome : (asked : Option JobTree) (c : Call) (a : Answer) (status : ℕ) → Answers asked c.old c.new a → Delivered a c.out c.err status →
     Outcome asked c status
-outcome (Some d) c a status h delivered = outcome_deed d c a status h delivered
+outcome (Some j) c a status h delivered = outcome_job j c a status h delivered
 outcome None c (Prints text) status h delivered = elim h [ ]
 outcome None c (Refused line) status h delivered = elim h [ ]
 outcome None c BadWords status h delivered = refusal None c 2 words_line status (of_words refl) (λ w. bad_words (refl, w) h) delivered
@@ -286,35 +287,35 @@ module _ (c : Call) (fine : NoneFailed c) where
 abbrev pub LackedUntold : FilesState → Type 0
 LackedUntold files = (name : List ℕ) → IsTrue (files.lacks name) → files.told name ≡ None
 
--- Below, a deed is answered, and no device failed.
-module _ (known : Known) (one : OneFunction) (d : Deed) (c : Call) (untold : LackedUntold c.old) (fine : NoneFailed c) (status : ℕ) where
+-- Below, a job is answered, and no device failed.
+module _ (known : Known) (one : OneFunction) (j : JobTree) (c : Call) (untold : LackedUntold c.old) (fine : NoneFailed c) (status : ℕ) where
   -- what it can be done with comes to its report
-  report_comes : (a : Answer) → AnswersDeed d c.old c.new a → Delivered a c.out c.err status → (own : ℕ) → CanDo d c.old own →
+  report_comes : (a : Answer) → AnswersJob j c.old c.new a → Delivered a c.out c.err status → (own : ℕ) → CanDo j c.old own →
       (status ≡ own) ⊎ (status ≡ 6)
   report_comes (Prints r) h delivered own can =
-      inl (reported_well c fine (output_of r) status delivered ∙ one_status known one c.old d (output_of r) own h.1 can)
-  report_comes (Refused r) (h, (f, right, tells)) delivered own can = absurd (no_refusal known one c.old d f own right can)
+      inl (reported_well c fine (output_of r) status delivered ∙ one_status known one c.old j (output_of r) own h.1 can)
+  report_comes (Refused r) (h, (f, right, tells)) delivered own can = absurd (no_refusal known one c.old j f own right can)
   report_comes BadWords h delivered own can = absurd h
-  report_comes NotRead h delivered own can = absurd (⊎_elim (λ l. can_has known one c.old untold d own l can) fine.files h.1.cause)
+  report_comes NotRead h delivered own can = absurd (⊎_elim (λ l. can_has known one c.old untold j own l can) fine.files h.1.cause)
   report_comes NoMemory h delivered own can = inr (no_memory_well c fine status delivered)
 
   -- what has a fault comes to the line of that fault
-  refusal_comes : (a : Answer) → AnswersDeed d c.old c.new a → Delivered a c.out c.err status → (f : Fault) → Faulty d c.old f →
+  refusal_comes : (a : Answer) → AnswersJob j c.old c.new a → Delivered a c.out c.err status → (f : Fault) → Faulty j c.old f →
       ((status ≡ fault_status f) × WroteLine (fault_line f) c) ⊎ (status ≡ 6)
-  refusal_comes (Prints r) h delivered f k = absurd (no_fault known one c.old d (output_of r) f h.1 k)
+  refusal_comes (Prints r) h delivered f k = absurd (no_fault known one c.old j (output_of r) f h.1 k)
   refusal_comes (Refused r) (h, (g, right, tells)) delivered f k =
-      let same : g ≡ f = same_fault known one c.old d g f right k in
+      let same : g ≡ f = same_fault known one c.old j g f right k in
       let w = refused_well c fine r.status r.line.items status delivered in
       inl (w.0 ∙ tells.status ∙ ap fault_status same, subst (λ (l : List ℕ). WroteLine l c) (tells.line.same ∙ ap fault_line same) w.1)
   refusal_comes BadWords h delivered f k = absurd h
-  refusal_comes NotRead h delivered f k = absurd (⊎_elim (λ l. faulty_has known one c.old untold d f l k) fine.files h.1.cause)
+  refusal_comes NotRead h delivered f k = absurd (⊎_elim (λ l. faulty_has known one c.old untold j f l k) fine.files h.1.cause)
   refusal_comes NoMemory h delivered f k = inr (no_memory_well c fine status delivered)
 
   -- a file that is lacked comes to a refusal
-  lacked_comes : (a : Answer) → AnswersDeed d c.old c.new a → Delivered a c.out c.err status → SurelyLacks d c.old →
+  lacked_comes : (a : Answer) → AnswersJob j c.old c.new a → Delivered a c.out c.err status → SurelyLacks j c.old →
       (status ≡ 3) ⊎ (status ≡ 6)
-  lacked_comes (Prints r) h delivered l = absurd (had_for_report known one c.old d (output_of r) h.1 l)
-  lacked_comes (Refused r) (h, (f, right, tells)) delivered l = absurd (had_for_refusal known one c.old d f right l)
+  lacked_comes (Prints r) h delivered l = absurd (had_for_report known one c.old j (output_of r) h.1 l)
+  lacked_comes (Refused r) (h, (f, right, tells)) delivered l = absurd (had_for_refusal known one c.old j f right l)
   lacked_comes BadWords h delivered l = absurd h
   lacked_comes NotRead h delivered l = inl (refused_well c fine 3 read_line status delivered).0
   lacked_comes NoMemory h delivered l = inr (no_memory_well c fine status delivered)
@@ -331,15 +332,15 @@ words_come c NoMemory status h delivered fine = inr (no_memory_well c fine statu
 -- ---- the promise
 
 module _ (known : Known) (one : OneFunction) (c : Call) (a : Answer) where
-  abbrev Of : Option Deed → Type 0
+  abbrev Of : Option JobTree → Type 0
   Of asked = Answers asked c.old c.new a
 
-  -- a right answer that is delivered keeps the promise; two deeds of the same words are one
-  pub kept : (asked : Option Deed) (status : ℕ) → FilesKept c.old c.new → LackedUntold c.old → Of asked → Delivered a c.out c.err status →
-      Promise asked c status
+  -- a right answer that is delivered keeps the promise; two jobs of the same words are one
+  pub kept : (asked : Option JobTree) (status : ℕ) → FilesKept c.old c.new → LackedUntold c.old → Of asked →
+      Delivered a c.out c.err status → Promise asked c status
   kept asked status files untold h delivered =
       promised asked c files status (outcome asked c a status h delivered)
-      (λ d own e can fine. report_comes known one d c untold fine status a (subst Of e h) delivered own can)
-      (λ d f e faulty fine. refusal_comes known one d c untold fine status a (subst Of e h) delivered f faulty)
+      (λ j own e can fine. report_comes known one j c untold fine status a (subst Of e h) delivered own can)
+      (λ j f e faulty fine. refusal_comes known one j c untold fine status a (subst Of e h) delivered f faulty)
       (λ e fine. words_come c a status (subst Of e h) delivered fine)
-      (λ d e l fine. lacked_comes known one d c untold fine status a (subst Of e h) delivered l)
+      (λ j e l fine. lacked_comes known one j c untold fine status a (subst Of e h) delivered l)

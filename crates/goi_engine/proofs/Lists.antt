@@ -7,7 +7,7 @@ use Rattle.std.proofs.Math.Seq.{take-length}
 use Rattle.goi_world.specs.Outside.{Reading}
 use Rattle.pcf_values.specs.Most.{most_program_bytes}
 use Rattle.batch_lists.specs.declared.fault.BatchFault.{BatchFault}
-use Rattle.batch_lists.specs.declared.fault.BatchFault.TheVariants as list
+use Rattle.batch_lists.specs.declared.fault.BatchFault.TheVariants as lists
 use Rattle.batch_lists.specs.declared.line.BatchLine.{BatchLine}
 use Rattle.batch_lists.specs.Limits.{most_list_bytes}
 use Rattle.batch_lists.specs.Lists.{IsList, HasListFault, ReadAsList, StandFor}
@@ -28,9 +28,9 @@ use Rattle.goi_engine.specs.declared.answer.Answer.{Answer}
 use Rattle.goi_engine.specs.declared.answer.Answer.TheVariants.{Prints, Refused, BadWords, NotRead, NoMemory}
 use Rattle.goi_engine.specs.declared.load.LoadError.{LoadError}
 use Rattle.goi_engine.specs.declared.load.LoadError.TheVariants.{Memory, Failed}
-use Rattle.goi_engine.specs.Answers.{Says, AnswersDeed, AnswersLines, AnswersList, AreJudgedIn, IsStopped, LineFits, LinesFit}
+use Rattle.goi_engine.specs.Answers.{Says, AnswersJob, AnswersLines, AnswersList, AreJudgedIn, IsStopped, LineFits, LinesFit}
 use Rattle.goi_engine.specs.Answers.{NotLoaded, LoadedLines, stop_of_list}
-use Rattle.goi_engine.specs.Deeds.{with_list}
+use Rattle.goi_jobs.specs.Jobs.{list}
 use Rattle.goi_world.specs.Seen.{FilesState, FilesKept}
 use Rattle.goi_engine.specs.FilesSeen.{Possibly, OfFile, LoadedBy}
 use Rattle.goi_engine.specs.ListsSeen.{OfList, FaultyList, unlisted, AreSectionsIn, ReportsLines, LacksOne, LoadedEach, LoadedList}
@@ -44,12 +44,12 @@ no_line_fault v f n h = omega (arith, n, h.short)
 
 list_too_long : (v bytes : List ℕ) (f : BatchFault) → most_list_bytes < length v → most_list_bytes < length bytes → ReadAsList v (Err f) →
     ReadAsList bytes (Err f)
-list_too_long v bytes list.NoMemory m n h = tt
-list_too_long v bytes list.TooLong m n h = n
-list_too_long v bytes list.BadHeader m n h = absurd (omega (arith, m, h.short))
-list_too_long v bytes (list.BadLine k) m n h = absurd (no_line_fault v (list.BadLine k) m h)
-list_too_long v bytes (list.TooMany k) m n h = absurd (no_line_fault v (list.TooMany k) m h)
-list_too_long v bytes list.NoEnd m n h = absurd (no_line_fault v list.NoEnd m h)
+list_too_long v bytes lists.NoMemory m n h = tt
+list_too_long v bytes lists.TooLong m n h = n
+list_too_long v bytes lists.BadHeader m n h = absurd (omega (arith, m, h.short))
+list_too_long v bytes (lists.BadLine k) m n h = absurd (no_line_fault v (lists.BadLine k) m h)
+list_too_long v bytes (lists.TooMany k) m n h = absurd (no_line_fault v (lists.TooMany k) m h)
+list_too_long v bytes lists.NoEnd m n h = absurd (no_line_fault v lists.NoEnd m h)
 
 read_goes : (f : BatchFault) (v bytes : List ℕ) → Same most_list_bytes v bytes → ReadAsList v (Err f) → ReadAsList bytes (Err f)
 read_goes f v bytes (inl e) h = subst (λ (b : List ℕ). ReadAsList b (Err f)) e h
@@ -71,7 +71,7 @@ module _ (file : List ℕ) (workers : ℕ) (old : FilesState) (v : List ℕ) (ha
   of_list : (P : List BatchLine → Type 0) → OfList v P → OfFile old file (λ bytes. OfList bytes P)
   of_list P h = (had, possible most_list_bytes (λ b. OfList b P) (of_list_goes P) (old.told file) v e h)
 
-  of_answer : (new : FilesState) (a : Answer) → AnswersList workers v old new a → AnswersDeed (with_list file workers) old new a
+  of_answer : (new : FilesState) (a : Answer) → AnswersList workers v old new a → AnswersJob (list file workers) old new a
   of_answer new (Prints r) (same, h) = (same, of_list (λ lines. ReportsLines old workers lines (output_of r)) h)
   of_answer new (Refused r) (same, (f, h, line)) =
       (same, (f, (had, possible most_list_bytes (λ b. FaultyList b f) (faulty_list_goes f) (old.told file) v e h), line))
@@ -85,9 +85,9 @@ module _ (file : List ℕ) (workers : ℕ) (old : FilesState) (v : List ℕ) (ha
   )
   of_answer new NoMemory h = h
 
-  -- so what is answered to it is the answer to the deed
+  -- so what is answered to it is the answer to the job
   pub list_job : (mid new : FilesState) (a : Answer) → FilesKept old mid → mid.faults ≡ old.faults → AnswersList workers v mid new a →
-      AnswersDeed (with_list file workers) old new a
+      AnswersJob (list file workers) old new a
   list_job mid new a kept same h =
       of_answer new a (subst (λ (s : FilesState). AnswersList workers v s new a) (same_state old mid kept same) h)
 
@@ -310,14 +310,14 @@ module _ (bytes : List ℕ) where
   fault_is f g e = cc
 
   list_fault : (f : BatchFault) → ReadAsList bytes (Err f) → (g : Fault) → stop_of_list f ≡ stop.Fault g → FaultyList bytes g
-  list_fault list.NoMemory h g e = let k : stop.Memory ≡ stop.Fault g = e in absurd cc
-  list_fault list.TooLong h g e = subst (FaultyList bytes) (fault_is (Batch list.TooLong) g e) (unlisted list.TooLong (λ k. cc) h)
-  list_fault list.BadHeader h g e = subst (FaultyList bytes) (fault_is (Batch list.BadHeader) g e) (unlisted list.BadHeader (λ k. cc) h)
-  list_fault (list.BadLine n) h g e =
-      subst (FaultyList bytes) (fault_is (Batch (list.BadLine n)) g e) (unlisted (list.BadLine n) (λ k. cc) h)
-  list_fault (list.TooMany n) h g e =
-      subst (FaultyList bytes) (fault_is (Batch (list.TooMany n)) g e) (unlisted (list.TooMany n) (λ k. cc) h)
-  list_fault list.NoEnd h g e = subst (FaultyList bytes) (fault_is (Batch list.NoEnd) g e) (unlisted list.NoEnd (λ k. cc) h)
+  list_fault lists.NoMemory h g e = let k : stop.Memory ≡ stop.Fault g = e in absurd cc
+  list_fault lists.TooLong h g e = subst (FaultyList bytes) (fault_is (Batch lists.TooLong) g e) (unlisted lists.TooLong (λ k. cc) h)
+  list_fault lists.BadHeader h g e = subst (FaultyList bytes) (fault_is (Batch lists.BadHeader) g e) (unlisted lists.BadHeader (λ k. cc) h)
+  list_fault (lists.BadLine n) h g e =
+      subst (FaultyList bytes) (fault_is (Batch (lists.BadLine n)) g e) (unlisted (lists.BadLine n) (λ k. cc) h)
+  list_fault (lists.TooMany n) h g e =
+      subst (FaultyList bytes) (fault_is (Batch (lists.TooMany n)) g e) (unlisted (lists.TooMany n) (λ k. cc) h)
+  list_fault lists.NoEnd h g e = subst (FaultyList bytes) (fault_is (Batch lists.NoEnd) g e) (unlisted lists.NoEnd (λ k. cc) h)
 
   -- and one that wasn't
   pub list_stopped : (f : BatchFault) (s : Stop) (a : Answer) → ReadAsList bytes (Err f) → s ≡ stop_of_list f → IsStopped s a →

@@ -21,15 +21,15 @@ use Rattle.schedule_log.specs.Schedules.{HasFault, ReadAs}
 use Rattle.goi_tasks.specs.declared.fault.Fault.{Fault}
 use Rattle.goi_tasks.specs.declared.stop.Stop.{Stop}
 use Rattle.goi_tasks.specs.Stops.{StopsFor}
-use Rattle.goi_tasks.specs.declared.task.Task.{Task}
-use Rattle.goi_tasks.specs.declared.task.Task.TheVariants.{Run, Check, ShowNet, RunNet, Trace, Circuit, Span, Steps}
+use Rattle.goi_jobs.specs.declared.task.Task.{Task}
+use Rattle.goi_jobs.specs.declared.task.Task.TheVariants.{Run, Check, ShowNet, RunNet, Trace, Circuit, Span, Steps}
 use Rattle.goi_engine.specs.declared.answer.Answer.{Answer}
 use Rattle.goi_engine.specs.declared.answer.Answer.TheVariants.{Prints, Refused, BadWords, NotRead, NoMemory}
 use Rattle.goi_engine.specs.Answers.{Says, IsStopped, AnswersFile, AnswersNoNet, MadeNet}
 use Rattle.goi_world.specs.Seen.{FilesState}
 use Rattle.goi_engine.specs.FilesSeen.{Possibly}
 use Rattle.goi_tasks.specs.NetFiles.{FaultyListing, unlisted}
-use Rattle.goi_tasks.specs.declared.shown.Shown.{Shown}
+use Rattle.goi_jobs.specs.declared.shown.Shown.{Shown}
 use Rattle.function_runs.specs.Functions.{CompilesText, FaultyFunction, unread as no_function_read, of_tree as of_function_tree}
 use Rattle.goi_tasks.specs.Calls.{ReportsCall, FaultyCall}
 use Rattle.goi_tasks.specs.Outputs.{Output}
@@ -40,7 +40,7 @@ use Rattle.program_runs.specs.Nets.{IsNetFor}
 use Rattle.program_runs.specs.Programs.{Wanted, any_type, number, wanted_by_run, IsProgram, OfProgram}
 use Rattle.program_runs.specs.Programs.{IsGround, FaultyProgram, unread, of_tree}
 use Rattle.goi_tasks.specs.Programs.{FaultyText, no_program}
-use Rattle.goi_jobs.specs.declared.jobs.Window.{Window}
+use Rattle.goi_jobs.specs.declared.window.Window.{Window}
 use Rattle.goi_tasks.specs.Replaying.{ReportsReplay, FaultySchedule, unread as no_schedule, unmoved}
 use Rattle.goi_tasks.specs.Tasks.{most_bytes, ReportsText, FaultyFor}
 use Rattle.goi_tasks.proofs.Texts.{ground_net}

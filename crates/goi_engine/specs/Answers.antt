@@ -7,7 +7,7 @@ use Rattle.goi_tasks.specs.declared.fault.Fault.{Fault}
 use Rattle.goi_tasks.specs.declared.fault.Fault.TheVariants.{Batch}
 use Rattle.goi_tasks.specs.declared.stop.Stop.{Stop}
 use Rattle.goi_tasks.specs.declared.stop.Stop.TheVariants as stop
-use Rattle.goi_tasks.specs.declared.task.Task.{Task}
+use Rattle.goi_jobs.specs.declared.task.Task.{Task}
 use Rattle.goi_tasks.specs.Outputs.{Output}
 use Rattle.goi_tasks.specs.Seen.{output_of}
 use Rattle.program_runs.specs.declared.calling.Calling.TheVariants.{ByName}
@@ -15,7 +15,7 @@ use Rattle.program_runs.specs.Nets.{RunsAs}
 use Rattle.program_runs.specs.Programs.{number, IsGround}
 use Rattle.goi_tasks.specs.Programs.{FaultyText}
 use Rattle.goi_tasks.specs.Refusals.{TellsFault}
-use Rattle.goi_jobs.specs.declared.jobs.Window.{Window}
+use Rattle.goi_jobs.specs.declared.window.Window.{Window}
 use Rattle.goi_tasks.specs.Replaying.{ReportsReplay, FaultySchedule}
 use Rattle.goi_tasks.specs.Tasks.{ReportsText, FaultyFor}
 use Rattle.batch_lists.specs.declared.fault.BatchFault.{BatchFault}
@@ -29,7 +29,7 @@ use Rattle.goi_engine.specs.declared.answer.Answer.{Answer}
 use Rattle.goi_engine.specs.declared.load.LoadError.{LoadError}
 use Rattle.goi_engine.specs.declared.load.LoadError.TheVariants.{Memory, Failed}
 use Rattle.goi_engine.specs.declared.answer.Answer.TheVariants.{Prints, Refused, BadWords, NotRead, NoMemory}
-use Rattle.goi_engine.specs.Deeds.{Deed}
+use Rattle.goi_jobs.specs.Jobs.{JobTree}
 use Rattle.goi_world.specs.Seen.{FilesState}
 use Rattle.goi_engine.specs.FilesSeen.{OfFile}
 use Rattle.goi_engine.specs.ListsSeen.{OfList, FaultyList, ReportsLines, LacksOne, LoadedEach}
@@ -126,19 +126,19 @@ abbrev pub stop_of_list : BatchFault → Stop
 stop_of_list list.NoMemory = stop.Memory
 stop_of_list f = stop.Fault (Batch f)
 
--- the answer to a deed
-abbrev pub AnswersDeed : Deed → FilesState → FilesState → Answer → Type 0
-AnswersDeed d old new (Prints report) = (new.faults ≡ old.faults) × Reports d old (output_of report)
-AnswersDeed d old new (Refused refusal) = (new.faults ≡ old.faults) × ((f : Fault) × Refuses d old f × TellsFault f refusal)
-AnswersDeed d old new BadWords = ⊥
-AnswersDeed d old new NotRead = NotReadFor d old new
-AnswersDeed d old new NoMemory = new.faults ≡ old.faults
+-- the answer to a job
+abbrev pub AnswersJob : JobTree → FilesState → FilesState → Answer → Type 0
+AnswersJob j old new (Prints report) = (new.faults ≡ old.faults) × Reports j old (output_of report)
+AnswersJob j old new (Refused refusal) = (new.faults ≡ old.faults) × ((f : Fault) × Refuses j old f × TellsFault f refusal)
+AnswersJob j old new BadWords = ⊥
+AnswersJob j old new NotRead = NotReadFor j old new
+AnswersJob j old new NoMemory = new.faults ≡ old.faults
 
--- the answer to words, by the deed that they ask for
-abbrev pub Answers : Option Deed → FilesState → FilesState → Answer → Type 0
+-- the answer to words, by the job that they ask for
+abbrev pub Answers : Option JobTree → FilesState → FilesState → Answer → Type 0
 Answers None old new (Prints report) = ⊥
 Answers None old new (Refused refusal) = ⊥
 Answers None old new BadWords = new.faults ≡ old.faults
 Answers None old new NotRead = ⊥
 Answers None old new NoMemory = new.faults ≡ old.faults
-Answers (Some d) old new a = AnswersDeed d old new a
+Answers (Some j) old new a = AnswersJob j old new a

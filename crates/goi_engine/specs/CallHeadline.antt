@@ -15,7 +15,6 @@ use Rattle.goi_words.specs.Asked.{job}
 use Rattle.goi_jobs.specs.Jobs.{call}
 use Rattle.goi_reports.specs.Lines.{result_lines}
 use Rattle.goi_tasks.specs.Refusals.{program_fault_line}
-use Rattle.goi_engine.specs.Deeds.{deed}
 use Rattle.goi_engine.specs.Writes.{Wrote}
 use Rattle.goi_engine.specs.Promise.{Call, NoneFailed, Promise}
 
@@ -47,7 +46,7 @@ abbrev pub CallHeadline : Type 0
 CallHeadline =
     (words : List (List ℕ)) (file bytes numbers : List ℕ) (workers budget : ℕ) (c : Call) (status : ℕ) →
     job words ≡ Some (call file numbers workers budget false false) → c.old.told file ≡ Some bytes → (IsTrue (c.old.lacks file) → ⊥) →
-    Promise (deed (job words)) c status → CallComesTo bytes numbers budget c status
+    Promise (job words) c status → CallComesTo bytes numbers budget c status
 
 -- and a call comes to one outcome alone
 abbrev pub OneCallOutcome : Type 0

@@ -2,7 +2,7 @@
 -- It follows from `Promise`, and says less: the words ask for a run by name that prints neither its schedule nor its tally nor its
 -- progress, the file is there, and its bytes are told. A program's *value* is what it means, call by name. The *length* of its net is
 -- what following questions counts on it. No worker and no machine is in the sentence, so that it is the same for any number of workers.
-use Rattle.std.specs.Prelude.{◌≡◌, ◌⊎◌, ◌≤◌, ◌<◌, ℕ, IsTrue, List, [], Some, None, false}
+use Rattle.std.specs.Prelude.{◌≡◌, ◌⊎◌, ◌≤◌, ◌<◌, ℕ, IsTrue, List, [], Some, None}
 use Rattle.pcf_values.specs.declared.val.Val.{Val}
 use Rattle.pcf_values.specs.Terms.{TermTree}
 use Rattle.cbn_meaning.specs.Meaning.{Means}
@@ -11,10 +11,12 @@ use Rattle.adequacy_laws.specs.Questions.{Length}
 use Rattle.program_runs.specs.declared.fault.ProgramFault.{ProgramFault}
 use Rattle.program_runs.specs.Programs.{number, IsGround, FaultyProgram}
 use Rattle.goi_words.specs.Asked.{job}
-use Rattle.goi_jobs.specs.Jobs.{run}
+use Rattle.goi_jobs.specs.Jobs.{text}
+use Rattle.goi_jobs.specs.Tasks.{nothing_shown}
+use Rattle.goi_jobs.specs.declared.task.Task.TheVariants.{Run}
+use Rattle.program_runs.specs.declared.calling.Calling.TheVariants.{ByName}
 use Rattle.goi_reports.specs.Lines.{result_lines}
 use Rattle.goi_tasks.specs.Refusals.{program_fault_line}
-use Rattle.goi_engine.specs.Deeds.{deed}
 use Rattle.goi_engine.specs.Writes.{Wrote}
 use Rattle.goi_engine.specs.Promise.{Call, NoneFailed, Promise}
 
@@ -39,8 +41,8 @@ pub record ComesTo (bytes : List ℕ) (budget : ℕ) (c : Call) (status : ℕ) :
 abbrev pub Headline : Type 0
 Headline =
     (words : List (List ℕ)) (file bytes : List ℕ) (workers budget : ℕ) (c : Call) (status : ℕ) →
-    job words ≡ Some (run file workers budget false false false false) → c.old.told file ≡ Some bytes → (IsTrue (c.old.lacks file) → ⊥) →
-    Promise (deed (job words)) c status → ComesTo bytes budget c status
+    job words ≡ Some (text file workers (Run budget ByName nothing_shown)) → c.old.told file ≡ Some bytes →
+    (IsTrue (c.old.lacks file) → ⊥) → Promise (job words) c status → ComesTo bytes budget c status
 
 -- and a run comes to one outcome alone
 abbrev pub OneOutcome : Type 0

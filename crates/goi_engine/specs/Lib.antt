@@ -4,9 +4,7 @@ pub mod Headline
 pub mod CallHeadline
 -- what a reader has to believe: the promise, what comes of a job, what may be said of files, and how texts are written
 pub mod Promise
--- What a job does with files: a task with the text of one, a schedule on the net of a program, the programs of a list, a call.
-pub mod Deeds
--- What a deed makes of files: its output, or the fault for which it refuses them, and which reads it makes.
+-- What a job makes of files: its output, or the fault for which it refuses them, and which reads it makes.
 pub mod Verdicts
 -- What may be said of the bytes of a file by what is seen of it, and which reads load one.
 pub mod FilesSeen

@@ -6,7 +6,7 @@ use Rattle.goi_world.specs.Outside.{Rose}
 use Rattle.goi_world.specs.Seen.{FilesState, FilesKept}
 use Rattle.goi_tasks.specs.declared.fault.Fault.{Fault}
 use Rattle.goi_tasks.specs.Outputs.{Output}
-use Rattle.goi_engine.specs.Deeds.{Deed}
+use Rattle.goi_jobs.specs.Jobs.{JobTree}
 use Rattle.goi_engine.specs.Writes.{SinkTurn, Untouched, Wrote, Broke}
 use Rattle.goi_tasks.specs.Refusals.{most_line, IsLine, fault_line, fault_status, words_line, read_line, memory_line, write_line}
 use Rattle.goi_engine.specs.Verdicts.{Reports, Refuses, NotReadFor, CanDo, Faulty, SurelyLacks}
@@ -26,76 +26,76 @@ pub record WroteLine (line : List ℕ) (c : Call) : Type 0 where
   pub out : Untouched c.out
   pub err : Wrote line c.err
 
--- the output of the deed, which ends with this status, was written whole: the report to `out`, and the notes behind it to `err`
-pub record Printed (status : ℕ) (d : Deed) (c : Call) : Type 0 where
+-- the output of the job, which ends with this status, was written whole: the report to `out`, and the notes behind it to `err`
+pub record Printed (status : ℕ) (j : JobTree) (c : Call) : Type 0 where
   pub output : Output
-  pub right : Reports d c.old output
+  pub right : Reports j c.old output
   pub of_status : output.status ≡ status
   pub out : Wrote output.report c.out
   pub err : Wrote output.notes c.err
 
--- the line of a fault of this status was written, which is the deed's first
-pub record RefusedFault (status : ℕ) (d : Deed) (c : Call) : Type 0 where
+-- the line of a fault of this status was written, which is the job's first
+pub record RefusedFault (status : ℕ) (j : JobTree) (c : Call) : Type 0 where
   pub fault : Fault
-  pub right : Refuses d c.old fault
+  pub right : Refuses j c.old fault
   pub of_status : fault_status fault ≡ status
   pub line : List ℕ
   pub is_line : IsLine fault line
   pub wrote : WroteLine line c
 
--- `out` failed behind a prefix of the deed's report, and no more was offered to it; then the line that says so was written to `err`, or a
+-- `out` failed behind a prefix of the job's report, and no more was offered to it; then the line that says so was written to `err`, or a
 -- prefix of it before `err` failed too
-pub record OutFailed (asked : Option Deed) (c : Call) : Type 0 where
-  pub d : Deed
-  pub is_asked : asked ≡ Some d
+pub record OutFailed (asked : Option JobTree) (c : Call) : Type 0 where
+  pub j : JobTree
+  pub is_asked : asked ≡ Some j
   pub output : Output
-  pub right : Reports d c.old output
+  pub right : Reports j c.old output
   pub out : Broke output.report c.out
   pub err : Wrote write_line c.err ⊎ Broke write_line c.err
 
--- the line of the refusal that stands: of the words, of a file that was not read, of want of memory, or of the deed's first fault
-pub data RefusalLine (asked : Option Deed) (c : Call) : List ℕ → Type 0 where
+-- the line of the refusal that stands: of the words, of a file that was not read, of want of memory, or of the job's first fault
+pub data RefusalLine (asked : Option JobTree) (c : Call) : List ℕ → Type 0 where
   of_words : asked ≡ None → RefusalLine asked c words_line
-  of_read : (d : Deed) → asked ≡ Some d → NotReadFor d c.old c.new → RefusalLine asked c read_line
+  of_read : (j : JobTree) → asked ≡ Some j → NotReadFor j c.old c.new → RefusalLine asked c read_line
   of_memory : RefusalLine asked c memory_line
-  of_fault : (d : Deed) (f : Fault) (line : List ℕ) → asked ≡ Some d → Refuses d c.old f → IsLine f line → RefusalLine asked c line
+  of_fault : (j : JobTree) (f : Fault) (line : List ℕ) → asked ≡ Some j → Refuses j c.old f → IsLine f line → RefusalLine asked c line
 
 -- `err` failed behind a prefix of that line, and nothing was written to `out`
-pub record ErrFailed (asked : Option Deed) (c : Call) : Type 0 where
+pub record ErrFailed (asked : Option JobTree) (c : Call) : Type 0 where
   pub line : List ℕ
   pub stands : RefusalLine asked c line
   pub out : Untouched c.out
   pub err : Broke line c.err
 
 -- the whole report was written, and `err` failed behind a prefix of its notes
-pub record NotesFailed (asked : Option Deed) (c : Call) : Type 0 where
-  pub d : Deed
-  pub is_asked : asked ≡ Some d
+pub record NotesFailed (asked : Option JobTree) (c : Call) : Type 0 where
+  pub j : JobTree
+  pub is_asked : asked ≡ Some j
   pub output : Output
-  pub right : Reports d c.old output
+  pub right : Reports j c.old output
   pub out : Wrote output.report c.out
   pub err : Broke output.notes c.err
 
 -- what status 0 means: all is done, and the report stands in `out`; status 5: so does the report of a run that came to no value, or of a
 -- list of which a program came to none; and status 1, where a program of a list is refused: so does the report on that list
-abbrev pub MeansPrinted : ℕ → Option Deed → Call → Type 0
-MeansPrinted status asked c = (d : Deed) × (asked ≡ Some d) × Printed status d c
+abbrev pub MeansPrinted : ℕ → Option JobTree → Call → Type 0
+MeansPrinted status asked c = (j : JobTree) × (asked ≡ Some j) × Printed status j c
 
 -- status 1: the program has a fault, and the line that tells it stands in `err`; and status 7: so it is with the schedule, the net file or
 -- the list
-abbrev pub MeansFault : ℕ → Option Deed → Call → Type 0
-MeansFault status asked c = (d : Deed) × (asked ≡ Some d) × RefusedFault status d c
+abbrev pub MeansFault : ℕ → Option JobTree → Call → Type 0
+MeansFault status asked c = (j : JobTree) × (asked ≡ Some j) × RefusedFault status j c
 
 -- status 2: the words ask for nothing
-abbrev pub MeansBadWords : Option Deed → Call → Type 0
+abbrev pub MeansBadWords : Option JobTree → Call → Type 0
 MeansBadWords asked c = (asked ≡ None) × WroteLine words_line c
 
--- status 3: a file of the deed was not read
-abbrev pub MeansNotRead : Option Deed → Call → Type 0
-MeansNotRead asked c = (d : Deed) × (asked ≡ Some d) × NotReadFor d c.old c.new × WroteLine read_line c
+-- status 3: a file of the job was not read
+abbrev pub MeansNotRead : Option JobTree → Call → Type 0
+MeansNotRead asked c = (j : JobTree) × (asked ≡ Some j) × NotReadFor j c.old c.new × WroteLine read_line c
 
 -- status 4: a write failed
-abbrev pub MeansNotWritten : Option Deed → Call → Type 0
+abbrev pub MeansNotWritten : Option JobTree → Call → Type 0
 MeansNotWritten asked c = OutFailed asked c ⊎ ErrFailed asked c ⊎ NotesFailed asked c
 
 -- status 6: there was no memory
@@ -112,32 +112,32 @@ pub record NoneFailed (c : Call) : Type 0 where
   pub out : Rose c.out.old.faults c.out.new.faults → ⊥
   pub err : Rose c.err.old.faults c.err.new.faults → ⊥
 
--- the sinks are sure to take what may come: `out` any report of the deed, and `err` any line of a refusal and the notes of any output
-pub record SureRoom (asked : Option Deed) (c : Call) : Type 0 where
-  pub out : (d : Deed) (o : Output) → asked ≡ Some d → Reports d c.old o → length o.report ≤ c.out.old.spare
+-- the sinks are sure to take what may come: `out` any report of the job, and `err` any line of a refusal and the notes of any output
+pub record SureRoom (asked : Option JobTree) (c : Call) : Type 0 where
+  pub out : (j : JobTree) (o : Output) → asked ≡ Some j → Reports j c.old o → length o.report ≤ c.out.old.spare
   pub err : most_line ≤ c.err.old.spare
-  pub notes : (d : Deed) (o : Output) → asked ≡ Some d → Reports d c.old o → length o.notes ≤ c.err.old.spare
+  pub notes : (j : JobTree) (o : Output) → asked ≡ Some j → Reports j c.old o → length o.notes ≤ c.err.old.spare
 
--- where the files tell what the deed needs: what it can be done with gives its report, with the status with which it ends on it
-abbrev pub CompleteReport : Option Deed → Call → ℕ → Type 0
-CompleteReport asked c status = (d : Deed) (own : ℕ) → asked ≡ Some d → CanDo d c.old own → NoneFailed c → (status ≡ own) ⊎ (status ≡ 6)
+-- where the files tell what the job needs: what it can be done with gives its report, with the status with which it ends on it
+abbrev pub CompleteReport : Option JobTree → Call → ℕ → Type 0
+CompleteReport asked c status = (j : JobTree) (own : ℕ) → asked ≡ Some j → CanDo j c.old own → NoneFailed c → (status ≡ own) ⊎ (status ≡ 6)
 
 -- and what has a fault gives the line of that fault, and its status
-abbrev pub CompleteFault : Option Deed → Call → ℕ → Type 0
+abbrev pub CompleteFault : Option JobTree → Call → ℕ → Type 0
 CompleteFault asked c status =
-    (d : Deed) (f : Fault) → asked ≡ Some d → Faulty d c.old f → NoneFailed c → ((status ≡ fault_status f) × WroteLine (fault_line f) c) ⊎
-    (status ≡ 6)
+    (j : JobTree) (f : Fault) → asked ≡ Some j → Faulty j c.old f → NoneFailed c →
+    ((status ≡ fault_status f) × WroteLine (fault_line f) c) ⊎ (status ≡ 6)
 
 -- words that ask for nothing are refused
-abbrev pub CompleteWords : Option Deed → Call → ℕ → Type 0
+abbrev pub CompleteWords : Option JobTree → Call → ℕ → Type 0
 CompleteWords asked c status = asked ≡ None → NoneFailed c → (status ≡ 2) ⊎ (status ≡ 6)
 
--- a file that is lacked can't be read, where it is certain that the deed comes to it
-abbrev pub CompleteLacked : Option Deed → Call → ℕ → Type 0
-CompleteLacked asked c status = (d : Deed) → asked ≡ Some d → SurelyLacks d c.old → NoneFailed c → (status ≡ 3) ⊎ (status ≡ 6)
+-- a file that is lacked can't be read, where it is certain that the job comes to it
+abbrev pub CompleteLacked : Option JobTree → Call → ℕ → Type 0
+CompleteLacked asked c status = (j : JobTree) → asked ≡ Some j → SurelyLacks j c.old → NoneFailed c → (status ≡ 3) ⊎ (status ≡ 6)
 
--- the promise of the top call, for the deed that was asked for, what is seen of the call from outside, and the status that it gave
-pub record Promise (asked : Option Deed) (c : Call) (status : ℕ) : Type 0 where
+-- the promise of the top call, for the job that was asked for, what is seen of the call from outside, and the status that it gave
+pub record Promise (asked : Option JobTree) (c : Call) (status : ℕ) : Type 0 where
   pub done : status ≡ 0 → MeansPrinted 0 asked c
   pub fault : status ≡ 1 → MeansFault 1 asked c ⊎ MeansPrinted 1 asked c
   pub bad_words : status ≡ 2 → MeansBadWords asked c

@@ -5,9 +5,10 @@ ghost use Rattle.pcf_values.specs.Most.{most_budget, most_workers, most_program_
 ghost use Rattle.pcf_values.specs.Terms.{TermTree};
 ghost use Rattle.interleave_laws.specs.Runs.{Runs};
 ghost use Rattle.goi_words.specs.Asked.{job};
-ghost use Rattle.goi_jobs.specs.Jobs.{IsDemo, IsWithinLimits, IsWorkers, job_of};
-ghost use Rattle.goi_engine.specs.Answers.{Answers, AnswersDeed, AnswersTask, AnswersSchedule, AnswersNoNet, MadeNet, Says, IsStopped};
-ghost use Rattle.goi_engine.specs.Deeds.{deed, deed_of, with_schedule};
+ghost use Rattle.goi_jobs.specs.Ranges.{IsDemo, IsWorkers};
+ghost use Rattle.goi_jobs.specs.Jobs.{IsWithinLimits, job_of};
+ghost use Rattle.goi_engine.specs.Answers.{Answers, AnswersJob, AnswersTask, AnswersSchedule, AnswersNoNet, MadeNet, Says, IsStopped};
+ghost use Rattle.goi_jobs.specs.Jobs.{replay};
 ghost use Rattle.goi_engine.specs.FilesSeen.{LoadedBy};
 ghost use Rattle.goi_world.specs.Seen.{FilesKept};
 ghost use Rattle.metered_pool.specs.Progress.{IsProgress};
@@ -20,17 +21,16 @@ ghost use Rattle.goi_tasks.specs.Programs.{FaultyText};
 ghost use Rattle.goi_tasks.specs.Replaying.{ReportsReplay, FaultySchedule};
 ghost use Rattle.goi_tasks.specs.RunReports.{ReportsDemo};
 ghost use Rattle.goi_tasks.specs.Tasks.{ReportsText, FaultyFor, most_bytes};
-ghost use Rattle.goi_tasks.specs.Ranges.{IsWithin, progress_of};
+ghost use Rattle.goi_jobs.specs.Tasks.{IsWithin, progress_of};
 ghost use Rattle.goi_engine.specs.Verdicts.{LoadedBoth, ReadFor};
 
 use crate::batching::answer_batch;
 use crate::calling::answer_call;
 use crate::load::{LoadError, load};
 use gate_workers::Gate;
-use goi_jobs::{Job, Window};
+use goi_jobs::{Job, Shown, Task, Window, progress_of};
 use goi_tasks::{
-    Refusal, Report, Shown, Stop, Task, Watched, most_bytes, progress_of, refuse, report_demo,
-    report_replay, report_text,
+    Refusal, Report, Stop, Watched, most_bytes, refuse, report_demo, report_replay, report_text,
 };
 use goi_words::{WordFault, job_of};
 use goi_world::Files;
@@ -38,7 +38,7 @@ use metered_pool::watch_net;
 use net_build::Net;
 use net_runs::run_net;
 use pcf_values::limits::{PROGRAM_BYTES, SCHEDULE_BYTES};
-use program_runs::{Alone, Calling, Crew, Several, calling_of, net_for};
+use program_runs::{Calling, Crew, Several, net_for};
 use std::alloc::{AllocError, Global};
 use std::sync::Wait;
 use std::thread::Threads;
@@ -68,8 +68,8 @@ pub(crate) fn answer_to<R: Threads + Wait + Sync, F: Files, G: Gate>(
     gate: &G,
 ) -> Answer
     ensures kept { FilesKept (F.seen files.old) (F.seen files.new) }
-    ensures answers { Answers (deed (job (map string_bytes words.now))) (F.seen files.old) (F.seen files.new) result }
-    ensures reads { ReadFor F.reads (F.seen files.old).told (deed (job (map string_bytes words.now))) files.old files.new }
+    ensures answers { Answers (job (map string_bytes words.now)) (F.seen files.old) (F.seen files.new) result }
+    ensures reads { ReadFor F.reads (F.seen files.old).told (job (map string_bytes words.now)) files.old files.new }
 {
     match job_of(alloc, words) {
         Ok(job) => {
@@ -92,91 +92,21 @@ fn answer_job<R: Threads + Wait + Sync, F: Files, G: Gate>(
 ) -> Answer
     requires { IsWithinLimits (job_of job.now) }
     ensures kept { FilesKept (F.seen files.old) (F.seen files.new) }
-    ensures answers { AnswersDeed (deed_of (job_of job.now)) (F.seen files.old) (F.seen files.new) result }
-    ensures reads { ReadFor F.reads (F.seen files.old).told (Some (deed_of (job_of job.now))) files.old files.new }
+    ensures answers { AnswersJob (job_of job.now) (F.seen files.old) (F.seen files.new) result }
+    ensures reads { ReadFor F.reads (F.seen files.old).told (Some (job_of job.now)) files.old files.new }
 {
     match job {
-        Job::Run {
+        Job::Text {
             file,
             workers,
-            budget,
-            schedule,
-            tally,
-            by_value,
-            progress,
-        } => answer_run(
-            rt,
-            alloc,
-            files,
-            file.as_str(),
-            Task::Run {
-                budget: *budget,
-                calling: calling_of(*by_value),
-                shown: Shown {
-                    schedule: *schedule,
-                    tally: *tally,
-                    progress: *progress,
-                },
-            },
-            *workers,
-            gate,
-        ),
-        Job::Check { file, term } => answer_task(
-            alloc,
-            files,
-            file.as_str(),
-            Task::Check { term: *term },
-            &Alone,
-        ),
-        Job::ShowNet { file } => answer_task(alloc, files, file.as_str(), Task::ShowNet, &Alone),
-        Job::Circuit { file, stack, forks } => answer_task(
-            alloc,
-            files,
-            file.as_str(),
-            Task::Circuit {
-                stack: *stack,
-                forks: *forks,
-            },
-            &Alone,
-        ),
-        Job::Steps {
-            file,
-            budget,
-            window,
-        } => answer_task(
-            alloc,
-            files,
-            file.as_str(),
-            Task::Steps {
-                budget: *budget,
-                window: *window,
-            },
-            &Alone,
-        ),
-        Job::Span {
-            file,
-            budget,
-            by_value,
-            profile,
-            schedule,
-        } => answer_task(
-            alloc,
-            files,
-            file.as_str(),
-            Task::Span {
-                budget: *budget,
-                calling: calling_of(*by_value),
-                profile: *profile,
-                schedule: *schedule,
-            },
-            &Alone,
-        ),
+            task,
+        } => answer_run(rt, alloc, files, file.as_str(), *task, *workers, gate),
         Job::Replay {
             file,
             schedule,
             window,
         } => answer_replay(alloc, files, file.as_str(), schedule.as_str(), *window),
-        Job::Batch { file, workers } => answer_batch(
+        Job::List { file, workers } => answer_batch(
             rt,
             alloc,
             files,
@@ -185,47 +115,6 @@ fn answer_job<R: Threads + Wait + Sync, F: Files, G: Gate>(
             gate,
         ),
         Job::Demo { n, workers } => answer_demo(rt, alloc, *n, *workers, gate),
-        Job::RunNet {
-            file,
-            workers,
-            budget,
-            schedule,
-            tally,
-        } => answer_run(
-            rt,
-            alloc,
-            files,
-            file.as_str(),
-            Task::RunNet {
-                budget: *budget,
-                shown: Shown {
-                    schedule: *schedule,
-                    tally: *tally,
-                    progress: false,
-                },
-            },
-            *workers,
-            gate,
-        ),
-        Job::Trace {
-            file,
-            workers,
-            budget,
-            by_value,
-            window,
-        } => answer_run(
-            rt,
-            alloc,
-            files,
-            file.as_str(),
-            Task::Trace {
-                budget: *budget,
-                calling: calling_of(*by_value),
-                window: *window,
-            },
-            *workers,
-            gate,
-        ),
         Job::Call {
             file,
             numbers,
@@ -398,7 +287,7 @@ fn answer_replay<F: Files>(
     window: Option<Window>,
 ) -> Answer
     ensures kept { FilesKept (F.seen files.old) (F.seen files.new) }
-    ensures answers { AnswersDeed (with_schedule file.now schedule.now window) (F.seen files.old) (F.seen files.new) result }
+    ensures answers { AnswersJob (replay file.now schedule.now window) (F.seen files.old) (F.seen files.new) result }
     ensures reads { LoadedBoth F.reads file.now schedule.now files.old files.new }
 {
     match load_net(alloc, files, file) {

@@ -4,14 +4,14 @@ ghost use Rattle.std.specs.Prelude.{◌≡◌, ◌≤◌, ◌++◌, ◌∷◌, [
 ghost use Rattle.pcf_values.specs.Most.{most_program_bytes};
 ghost use Rattle.batch_lists.specs.Limits.{most_job_budget, most_jobs};
 ghost use Rattle.batch_lists.specs.Lists.{IsList};
-ghost use Rattle.goi_jobs.specs.Jobs.{IsWorkers};
+ghost use Rattle.goi_jobs.specs.Ranges.{IsWorkers};
 ghost use Rattle.goi_batches.specs.declared.judged.Judged.{Judged};
 ghost use Rattle.goi_batches.specs.Judging.{IsJudged, AreJudged};
 ghost use Rattle.goi_batches.specs.Sections.{Listed, listed};
 ghost use Rattle.goi_batches.specs.Telling.{ReportsBatch};
-ghost use Rattle.goi_engine.specs.Answers.{AnswersDeed, AnswersLines, AnswersList, AreJudgedIn, LineFits, LinesFit, LoadedLines, NotLoaded};
+ghost use Rattle.goi_engine.specs.Answers.{AnswersJob, AnswersLines, AnswersList, AreJudgedIn, LineFits, LinesFit, LoadedLines, NotLoaded};
 ghost use Rattle.goi_engine.specs.Answers.{Says, stop_of_list};
-ghost use Rattle.goi_engine.specs.Deeds.{with_list};
+ghost use Rattle.goi_jobs.specs.Jobs.{list};
 ghost use Rattle.goi_engine.specs.FilesSeen.{LoadedBy, OfFile};
 ghost use Rattle.goi_world.specs.Seen.{FilesKept};
 ghost use Rattle.goi_engine.specs.ListsSeen.{FaultyList, LacksOne, LoadedEach, LoadedList};
@@ -39,7 +39,7 @@ pub(crate) fn answer_batch<R: Threads + Wait + Sync, F: Files, G: Gate>(
 ) -> Answer
     requires { IsWorkers workers }
     ensures kept { FilesKept (F.seen files.old) (F.seen files.new) }
-    ensures answers { AnswersDeed (with_list file.now workers) (F.seen files.old) (F.seen files.new) result }
+    ensures answers { AnswersJob (list file.now workers) (F.seen files.old) (F.seen files.new) result }
     ensures reads { LoadedList F.reads ((F.seen files.old).told file.now) file.now files.old files.new }
 {
     match load(alloc, files, file, LIST_BYTES as u32) {

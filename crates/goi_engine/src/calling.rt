@@ -4,7 +4,7 @@ ghost use Rattle.std.specs.Prelude.{◌≡◌, ◌≤◌, ℕ, List, false, leng
 ghost use Rattle.pcf_values.specs.Most.{most_budget, most_workers, most_program_bytes};
 ghost use Rattle.interleave_laws.specs.Runs.{Runs};
 ghost use Rattle.net_runs.specs.IsRun.{IsRun, IsFirstWorkers};
-ghost use Rattle.goi_jobs.specs.Jobs.{IsBudget, IsWorkers};
+ghost use Rattle.goi_jobs.specs.Ranges.{IsBudget, IsWorkers};
 ghost use Rattle.goi_world.specs.Seen.{FilesKept};
 ghost use Rattle.goi_tasks.specs.Calls.{ReportsCall, FaultyCall};
 ghost use Rattle.goi_tasks.specs.Parts.{NumbersOf};
@@ -14,7 +14,8 @@ ghost use Rattle.goi_engine.specs.FilesSeen.{LoadedBy};
 use crate::answer::{Answer, not_loaded, stopped};
 use crate::load::load;
 use gate_workers::Gate;
-use goi_tasks::{Shown, report_call};
+use goi_jobs::Shown;
+use goi_tasks::report_call;
 use goi_world::Files;
 use net_build::Net;
 use net_runs::run_net;

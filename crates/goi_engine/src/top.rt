@@ -3,7 +3,6 @@
 ghost use Rattle.std.specs.Prelude.{map, string_bytes};
 ghost use Rattle.goi_engine.specs.Writes.{ByWrites};
 ghost use Rattle.goi_words.specs.Asked.{job};
-ghost use Rattle.goi_engine.specs.Deeds.{deed};
 ghost use Rattle.goi_engine.specs.Promise.{call, Promise};
 ghost use Rattle.goi_engine.specs.Verdicts.{ReadFor};
 
@@ -46,10 +45,10 @@ pub fn goi<R: Threads + Wait + Sync, F: Files, O: Sink, E: Sink, G: Gate>(
     gate: &G,
 ) -> u8
     ensures promise { ByWrites O.seen O.writes out.old out.new (λ o. ByWrites E.seen E.writes err.old err.new (λ e.
-        Promise (deed (job (map string_bytes words.now))) (call (F.seen files.old) (F.seen files.new) o e) result)) }
+        Promise (job (map string_bytes words.now)) (call (F.seen files.old) (F.seen files.new) o e) result)) }
 
     // The files are read for the job alone, and not too often.
-    ensures reads { ReadFor F.reads (F.seen files.old).told (deed (job (map string_bytes words.now))) files.old files.new }
+    ensures reads { ReadFor F.reads (F.seen files.old).told (job (map string_bytes words.now)) files.old files.new }
 {
     law_one_program();
     law_one_listing();

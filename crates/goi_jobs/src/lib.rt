@@ -1,12 +1,20 @@
 //! Jobs: what can be asked for.
 //!
-//! A `Job` is a command with its files, options and numbers, by whatever way it was asked for: `goi_words` reads it from words, and the
-//! crates that do it know nothing of words. Contracts see it as the `JobTree` of `specs/Jobs.antt`, which also has the ranges of its
-//! numbers. `Window` is the part of a trace that is printed.
+//! A `Task` says what is done with the text of one file, with its options and numbers, and a `Job` what is asked for: a task on the text
+//! of a file, or what takes more than one text or none. Both are the same by whatever way they were asked for: `goi_words` reads a job from
+//! words, `goi_tasks` does a task, and neither knows the other. Contracts see a job as the `JobTree` of `specs/Jobs.antt`, and a task as
+//! itself; `specs/Ranges.antt` has the ranges of their numbers. `Window` is the part of a trace that is printed, and `Shown` what is told
+//! of a run.
 #![tactic(auto)]
 
 mod jobs;
 mod limits;
+mod shown;
+mod task;
+mod window;
 
-pub use jobs::{Job, Window};
+pub use jobs::Job;
 pub use limits::{LEAST_STACK, MOST_FORKS, MOST_STACK, TOLD_STEPS, TRACED_MOVES};
+pub use shown::Shown;
+pub use task::{Task, progress_of};
+pub use window::Window;

@@ -16,7 +16,7 @@ use Rattle.program_runs.specs.NoRuns.{NoRunFor}
 use Rattle.program_runs.proofs.Telling.{runs_as}
 use Rattle.goi_tasks.specs.declared.fault.Fault.{Fault}
 use Rattle.goi_tasks.specs.declared.fault.Fault.TheVariants.{Program}
-use Rattle.goi_tasks.specs.declared.shown.Shown.{Shown}
+use Rattle.goi_jobs.specs.declared.shown.Shown.{Shown}
 use Rattle.goi_tasks.specs.declared.stop.Stop.{Stop}
 use Rattle.goi_tasks.specs.Calls.{OfFunction, ReportsCall, FaultyCall, EndsCall}
 use Rattle.goi_tasks.specs.Outputs.{Output}

@@ -12,10 +12,10 @@ use Rattle.program_runs.specs.declared.calling.Calling.TheVariants.{ByName}
 use Rattle.program_runs.specs.declared.fault.ProgramFault.TheVariants.{NotGround}
 use Rattle.program_runs.specs.Programs.{number, FaultyTree}
 use Rattle.program_runs.proofs.Texts.{unfit}
-use Rattle.goi_jobs.specs.declared.jobs.Window.{Window}
+use Rattle.goi_jobs.specs.declared.window.Window.{Window}
 use Rattle.goi_tasks.specs.declared.fault.Fault.TheVariants.{Program}
 use Rattle.goi_tasks.specs.declared.report.Report.{Report}
-use Rattle.goi_tasks.specs.declared.task.Task.TheVariants.{Steps}
+use Rattle.goi_jobs.specs.declared.task.Task.TheVariants.{Steps}
 use Rattle.goi_tasks.specs.Outputs.{Output}
 use Rattle.goi_tasks.specs.Seen.{output_of}
 use Rattle.goi_tasks.specs.Programs.{IsProgramFault, no_program}

@@ -16,7 +16,7 @@ use Rattle.schedule_log.specs.Logs.{read_entries, tickets_in_log}
 use Rattle.schedule_log.specs.LogsSeen.{LogSeen, read_log}
 use Rattle.schedule_log.proofs.Texts.{tickets_length}
 use Rattle.walk_text.specs.Whole.{LeadsSomewhere}
-use Rattle.goi_jobs.specs.declared.jobs.Window.{Window}
+use Rattle.goi_jobs.specs.declared.window.Window.{Window}
 use Rattle.schedule_log.specs.Schedules.{IsSchedule, ReadAs}
 use Rattle.replay_check.specs.declared.fault.ReplayFault.{ReplayFault}
 use Rattle.replay_check.specs.declared.fault.ReplayFault.TheVariants as replay

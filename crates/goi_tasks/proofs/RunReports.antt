@@ -14,7 +14,7 @@ use Rattle.schedule_log.proofs.Taken.{tickets_all}
 use Rattle.demo_text.specs.Demo.{demo_term}
 use Rattle.goi_reports.specs.Forms.{AnswerFits}
 use Rattle.goi_reports.specs.Reports.{run_report, demo_report}
-use Rattle.goi_jobs.specs.Jobs.{IsBudget}
+use Rattle.goi_jobs.specs.Ranges.{IsBudget}
 use Rattle.net_runs.specs.IsRun.{IsRun, IsFirstWorkers}
 use Rattle.program_runs.specs.declared.calling.Calling.{Calling}
 use Rattle.program_runs.specs.Nets.{RunsAs}
@@ -23,9 +23,9 @@ use Rattle.program_runs.specs.Runs.{Tells, meaning, net_run, IsProgramRun}
 use Rattle.program_runs.proofs.Telling.{run_of}
 use Rattle.walk_text.specs.Traces.{trace_text}
 use Rattle.walk_text.specs.Whole.{LeadsSomewhere}
-use Rattle.goi_jobs.specs.declared.jobs.Window.{Window}
+use Rattle.goi_jobs.specs.declared.window.Window.{Window}
 use Rattle.goi_tasks.specs.declared.report.Report.{Report}
-use Rattle.goi_tasks.specs.declared.shown.Shown.{Shown}
+use Rattle.goi_jobs.specs.declared.shown.Shown.{Shown}
 use Rattle.goi_tasks.specs.Notes.{NotesOf, progress_lines}
 use Rattle.goi_tasks.specs.Parts.{NumbersOf}
 use Rattle.goi_tasks.specs.Outputs.{Output, output}

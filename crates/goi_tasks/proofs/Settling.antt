@@ -8,15 +8,16 @@ use Rattle.program_runs.specs.Runs.{net_run}
 use Rattle.program_runs.proofs.OneProgram.{same_ground, same_program}
 use Rattle.function_runs.specs.Laws.{OneFunction}
 use Rattle.goi_tasks.specs.declared.fault.Fault.{Fault}
-use Rattle.goi_tasks.specs.declared.task.Task.{Task}
-use Rattle.goi_tasks.specs.declared.task.Task.TheVariants.{Run}
+use Rattle.goi_jobs.specs.declared.task.Task.{Task}
+use Rattle.goi_jobs.specs.declared.task.Task.TheVariants.{Run}
 use Rattle.goi_tasks.specs.Outputs.{Output}
 use Rattle.goi_tasks.specs.Programs.{FaultyEither}
 use Rattle.goi_tasks.specs.Replaying.{replay_status, ReportsReplay, EndsReplay, FaultySchedule}
 use Rattle.goi_tasks.specs.RunReports.{EndsRun}
 use Rattle.goi_tasks.specs.Told.{TellsText}
 use Rattle.goi_tasks.specs.Settles.{Settles, TextsSettle, status_of_output, status_of_run}
-use Rattle.goi_tasks.specs.Tasks.{nothing_shown, ReportsText, FaultyFor, EndsText}
+use Rattle.goi_jobs.specs.Tasks.{nothing_shown}
+use Rattle.goi_tasks.specs.Tasks.{ReportsText, FaultyFor, EndsText}
 use Rattle.goi_tasks.proofs.Functions.{call_settles}
 use Rattle.goi_tasks.proofs.Outcomes.{Known, ground_sound, text_sound, one_text_fault, text_end, report_sound}
 use Rattle.goi_tasks.proofs.Outcomes.{end_sound, one_fault_for, schedule_sound, one_schedule_fault, replay_end, one_run_end, run_ends}

@@ -23,8 +23,8 @@ use Rattle.goi_tasks.specs.declared.fault.Fault.{Fault}
 use Rattle.goi_tasks.specs.declared.stop.Stop.{Stop}
 use Rattle.goi_tasks.specs.declared.stop.Stop.TheVariants as stop
 use Rattle.goi_tasks.specs.declared.report.Report.{Report}
-use Rattle.goi_tasks.specs.declared.task.Task.{Task}
-use Rattle.goi_tasks.specs.declared.task.Task.TheVariants.{Check}
+use Rattle.goi_jobs.specs.declared.task.Task.{Task}
+use Rattle.goi_jobs.specs.declared.task.Task.TheVariants.{Check}
 use Rattle.goi_tasks.specs.NetFiles.{FaultyListing, unlisted}
 use Rattle.goi_tasks.specs.Parts.{IsListedNet, ChecksTree}
 use Rattle.goi_tasks.specs.Outputs.{Output, output}

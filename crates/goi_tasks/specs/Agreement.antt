@@ -3,9 +3,9 @@ use Rattle.std.specs.Prelude.{◌≡◌, ◌++◌, ℕ, List, Some}
 use Rattle.pcf_values.specs.declared.val.Val.{Val}
 use Rattle.program_runs.specs.declared.calling.Calling.TheVariants.{ByName}
 use Rattle.goi_reports.specs.Lines.{value_line}
-use Rattle.goi_jobs.specs.declared.jobs.Window.{Window}
-use Rattle.goi_tasks.specs.declared.shown.Shown.{Shown}
-use Rattle.goi_tasks.specs.declared.task.Task.TheVariants.{Run, Steps}
+use Rattle.goi_jobs.specs.declared.window.Window.{Window}
+use Rattle.goi_jobs.specs.declared.shown.Shown.{Shown}
+use Rattle.goi_jobs.specs.declared.task.Task.TheVariants.{Run, Steps}
 use Rattle.goi_tasks.specs.Outputs.{Output}
 use Rattle.goi_tasks.specs.Tasks.{ReportsText}
 

@@ -7,7 +7,7 @@ use Rattle.open_nets.specs.Applied.{applied}
 use Rattle.function_runs.specs.Functions.{CompilesText, FaultyFunction}
 use Rattle.program_runs.specs.declared.calling.Calling.TheVariants.{ByName}
 use Rattle.goi_tasks.specs.declared.fault.Fault.{Fault}
-use Rattle.goi_tasks.specs.declared.shown.Shown.{Shown}
+use Rattle.goi_jobs.specs.declared.shown.Shown.{Shown}
 use Rattle.goi_tasks.specs.Outputs.{Output}
 use Rattle.goi_tasks.specs.Programs.{IsProgramFault}
 use Rattle.goi_tasks.specs.RunReports.{ReportsRun, EndsRun}

@@ -26,8 +26,6 @@ pub mod Settles
 pub mod Agreement
 -- What contracts see of the code's report.
 pub mod Seen
--- Which tasks have their numbers in range, and which tell their progress.
-pub mod Ranges
 -- What a run of a text comes to, without its report.
 pub mod Told
 -- what serves proofs and private contracts

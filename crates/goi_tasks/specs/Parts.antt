@@ -7,7 +7,7 @@ use Rattle.program_runs.specs.declared.calling.Calling.TheVariants.{ByName}
 use Rattle.program_runs.specs.Nets.{RunsAs}
 use Rattle.pcf_values.specs.Named.{NamedTree}
 use Rattle.pcf_types.specs.Checking.{type_of}
-use Rattle.goi_jobs.specs.declared.jobs.Window.{Window}
+use Rattle.goi_jobs.specs.declared.window.Window.{Window}
 use Rattle.goi_tasks.specs.Outputs.{Output}
 use Rattle.goi_tasks.specs.Reductions.{ReportsSteps}
 use Rattle.replay_check.specs.declared.fault.ReplayFault.{ReplayFault}

@@ -17,7 +17,7 @@ use Rattle.replay_check.specs.declared.fault.ReplayFault.{ReplayFault}
 use Rattle.replay_check.specs.declared.fault.ReplayFault.TheVariants as replay
 use Rattle.replay_check.specs.Replays.{ReplaysAs}
 use Rattle.walk_text.specs.Traces.{trace_text}
-use Rattle.goi_jobs.specs.declared.jobs.Window.{Window}
+use Rattle.goi_jobs.specs.declared.window.Window.{Window}
 use Rattle.goi_reports.specs.Reports.{replay_report}
 use Rattle.goi_tasks.specs.declared.fault.Fault.{Fault}
 use Rattle.goi_tasks.specs.declared.fault.Fault.TheVariants.{Schedule, Moves}

@@ -12,9 +12,9 @@ use Rattle.goi_reports.specs.Reports.{run_report, demo_report}
 use Rattle.program_runs.specs.declared.calling.Calling.{Calling}
 use Rattle.program_runs.specs.Runs.{meaning, net_run, IsProgramRun}
 use Rattle.walk_text.specs.Traces.{trace_text}
-use Rattle.goi_jobs.specs.declared.jobs.Window.{Window}
+use Rattle.goi_jobs.specs.declared.window.Window.{Window}
 use Rattle.demo_text.specs.Demo.{demo_term}
-use Rattle.goi_tasks.specs.declared.shown.Shown.{Shown}
+use Rattle.goi_jobs.specs.declared.shown.Shown.{Shown}
 use Rattle.goi_tasks.specs.Notes.{NotesOf}
 use Rattle.goi_tasks.specs.Outputs.{Output}
 use Rattle.goi_tasks.specs.Refusals.{most_line}

@@ -4,15 +4,16 @@ use Rattle.pcf_values.specs.declared.val.Val.{Val}
 use Rattle.program_runs.specs.declared.calling.Calling.{Calling}
 use Rattle.program_runs.specs.Programs.{OfGround}
 use Rattle.goi_tasks.specs.declared.fault.Fault.{Fault}
-use Rattle.goi_tasks.specs.declared.task.Task.{Task}
-use Rattle.goi_tasks.specs.declared.task.Task.TheVariants.{Run}
-use Rattle.goi_tasks.specs.declared.shown.Shown.{Shown}
+use Rattle.goi_jobs.specs.declared.task.Task.{Task}
+use Rattle.goi_jobs.specs.declared.task.Task.TheVariants.{Run}
+use Rattle.goi_jobs.specs.declared.shown.Shown.{Shown}
 use Rattle.goi_tasks.specs.Calls.{ReportsCall, FaultyCall, EndsCall}
 use Rattle.goi_tasks.specs.Outputs.{Output}
 use Rattle.goi_tasks.specs.Programs.{FaultyEither}
 use Rattle.goi_tasks.specs.Replaying.{replay_status, ReportsReplay, EndsReplay, FaultySchedule}
 use Rattle.goi_tasks.specs.Told.{TellsText}
-use Rattle.goi_tasks.specs.Tasks.{nothing_shown, ReportsText, FaultyFor, EndsText}
+use Rattle.goi_jobs.specs.Tasks.{nothing_shown}
+use Rattle.goi_tasks.specs.Tasks.{ReportsText, FaultyFor, EndsText}
 
 -- What is right, what ends with which status, and what has which fault: whatever is right has the status with which it ends, it has no
 -- fault, nor has what ends, and two faults are one.

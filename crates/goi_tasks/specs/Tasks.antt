@@ -1,6 +1,6 @@
 -- What is done with the text of one file: the output, the first fault of a text with which it can't be done, and the status with which
 -- it ends. The text is that of a program, or the listing of a program's net.
-use Rattle.std.specs.Prelude.{◌≡◌, ℕ, Bool, false, List, []}
+use Rattle.std.specs.Prelude.{◌≡◌, ℕ, List, []}
 use Rattle.pcf_values.specs.Most.{most_program_bytes}
 use Rattle.pcf_values.specs.Terms.{TermTree}
 use Rattle.net_build.specs.NetOf.{net_of}
@@ -14,9 +14,8 @@ use Rattle.program_runs.specs.Runs.{net_run}
 use Rattle.program_runs.specs.declared.calling.Calling.TheVariants.{ByName}
 use Rattle.goi_reports.specs.Reports.{check_report}
 use Rattle.goi_tasks.specs.declared.fault.Fault.{Fault}
-use Rattle.goi_tasks.specs.declared.shown.Shown.{Shown}
-use Rattle.goi_tasks.specs.declared.task.Task.{Task}
-use Rattle.goi_tasks.specs.declared.task.Task.TheVariants.{Run, Check, ShowNet, RunNet, Trace, Circuit, Span, Steps}
+use Rattle.goi_jobs.specs.declared.task.Task.{Task}
+use Rattle.goi_jobs.specs.declared.task.Task.TheVariants.{Run, Check, ShowNet, RunNet, Trace, Circuit, Span, Steps}
 use Rattle.goi_tasks.specs.NetFiles.{FaultyListing}
 use Rattle.goi_tasks.specs.Outputs.{Output, output}
 use Rattle.goi_tasks.specs.Programs.{FaultyText}
@@ -24,15 +23,6 @@ use Rattle.goi_tasks.specs.Reductions.{ReportsSteps, reduction}
 use Rattle.goi_tasks.specs.Replaying.{replay_status}
 use Rattle.goi_tasks.specs.Rounds.{ReportsSpan}
 use Rattle.goi_tasks.specs.RunReports.{ReportsRun, ReportsTrace, EndsRun}
-
--- ---- what is told of a run
-
--- these are shown, and nothing is
-abbrev pub shown : Bool → Bool → Bool → Shown
-shown schedule tally progress = record { schedule = schedule; tally = tally; progress = progress }
-
-abbrev pub nothing_shown : Shown
-nothing_shown = shown false false false
 
 -- ---- listings
 

@@ -2,7 +2,7 @@
 
 ghost use Rattle.std.specs.Prelude.{◌≡◌, ℕ, IfOk, IfErr};
 ghost use Rattle.program_runs.specs.Programs.{number};
-ghost use Rattle.goi_tasks.specs.declared.task.Task.TheVariants.{Circuit};
+ghost use Rattle.goi_jobs.specs.declared.task.Task.TheVariants.{Circuit};
 ghost use Rattle.goi_tasks.specs.Seen.{output_of};
 ghost use Rattle.goi_tasks.specs.Programs.{FaultyText};
 ghost use Rattle.goi_tasks.specs.Stops.{StopsFor};

@@ -5,7 +5,7 @@ ghost use Rattle.pcf_values.specs.Terms.{size};
 ghost use Rattle.cbn_meaning.specs.Meaning.{Means};
 ghost use Rattle.net_build.specs.NetOf.{net_of};
 ghost use Rattle.demo_text.specs.Demo.{demo_term};
-ghost use Rattle.goi_jobs.specs.Jobs.{IsDemo};
+ghost use Rattle.goi_jobs.specs.Ranges.{IsDemo};
 ghost use Rattle.program_runs.specs.Runs.{IsProgramRun};
 ghost use Rattle.goi_tasks.specs.Seen.{output_of};
 ghost use Rattle.goi_tasks.specs.RunReports.{ReportsDemo, demo_budget};

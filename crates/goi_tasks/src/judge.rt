@@ -2,27 +2,25 @@
 
 ghost use Rattle.std.specs.Prelude.{◌≡◌, ℕ, List, IfOk, IfErr};
 ghost use Rattle.program_runs.specs.Programs.{wanted_by_run};
-ghost use Rattle.goi_jobs.specs.Jobs.{IsBudget, IsWorkers};
-ghost use Rattle.goi_tasks.specs.declared.task.Task.TheVariants.{Run, RunNet, Trace};
+ghost use Rattle.goi_jobs.specs.Ranges.{IsBudget, IsWorkers};
+ghost use Rattle.goi_jobs.specs.declared.task.Task.TheVariants.{Run, RunNet, Trace};
 ghost use Rattle.goi_tasks.specs.NetFiles.{FaultyListing};
 ghost use Rattle.goi_tasks.specs.Parts.{NumbersOf};
 ghost use Rattle.goi_tasks.specs.Seen.{output_of};
 ghost use Rattle.goi_tasks.specs.Programs.{FaultyText};
 ghost use Rattle.goi_tasks.specs.Stops.{StopsFor};
 ghost use Rattle.goi_tasks.specs.Tasks.{ReportsText, FaultyFor};
-ghost use Rattle.goi_tasks.specs.Ranges.{IsWithin, progress_of};
+ghost use Rattle.goi_jobs.specs.Tasks.{IsWithin, progress_of};
 
 use crate::circuit::report_circuit;
 use crate::net_file::net_of_listing;
 use crate::program::{report_check, report_net};
 use crate::report::Report;
 use crate::running::{report_run, report_trace};
-use crate::shown::Shown;
 use crate::span::report_span;
 use crate::steps::report_steps;
 use crate::stop::Stop;
-use crate::task::Task;
-use goi_jobs::Window;
+use goi_jobs::{Shown, Task, Window};
 use program_runs::{Calling, Crew, net_for};
 use std::alloc::Global;
 

@@ -1,8 +1,9 @@
 //! What is done with texts: from the bytes of a program, of a net's listing or of a schedule, to what is printed or to the first fault.
 //!
-//! A `Task` says what is to be done with the text of one file; `report_text` does it, `report_replay` runs a schedule, `report_call` a
-//! function at numbers, `report_demo` the generated program. Whatever is run is run by a `Crew` that is handed in. Each answers the whole
-//! output as a value, or the text's first fault, which `refuse` turns into its line. Files and sinks are left to the crate above.
+//! A `Task` of `goi_jobs` says what is to be done with the text of one file; `report_text` does it, `report_replay` runs a schedule,
+//! `report_call` a function at numbers, `report_demo` the generated program. Whatever is run is run by a `Crew` that is handed in. Each
+//! answers the whole output as a value, or the text's first fault, which `refuse` turns into its line. Files and sinks are left to the
+//! crate above.
 #![tactic(auto)]
 
 mod agreement;
@@ -19,7 +20,6 @@ mod replaying;
 mod report;
 mod running;
 mod settled;
-mod shown;
 mod span;
 mod steps;
 mod stop;
@@ -37,8 +37,7 @@ pub use replaying::{replay_text, report_replay};
 pub use report::Report;
 pub use running::status_of;
 pub use settled::{law_one_listing, law_settled};
-pub use shown::Shown;
 pub use stop::Stop;
-pub use task::{Task, most_bytes, progress_of};
+pub use task::most_bytes;
 pub use telling::{ValueAndMoves, tell_text};
 pub use watched::Watched;

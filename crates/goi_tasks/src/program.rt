@@ -4,7 +4,7 @@ ghost use Rattle.std.specs.Prelude.{◌≡◌, ◌≤◌, [], ℕ, IfOk, IfErr};
 ghost use Rattle.pcf_values.specs.Named.{named_height};
 ghost use Rattle.pcf_values.specs.Views.{named_of};
 ghost use Rattle.program_runs.specs.Programs.{any_type, number, FaultyTree};
-ghost use Rattle.goi_tasks.specs.declared.task.Task.TheVariants.{Check, ShowNet};
+ghost use Rattle.goi_jobs.specs.declared.task.Task.TheVariants.{Check, ShowNet};
 ghost use Rattle.goi_tasks.specs.Outputs.{output};
 ghost use Rattle.goi_tasks.specs.Seen.{output_of};
 ghost use Rattle.goi_tasks.specs.Programs.{FaultyText, IsProgramFault};

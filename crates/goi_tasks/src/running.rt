@@ -3,7 +3,7 @@
 ghost use Rattle.std.specs.Prelude.{◌≡◌, ◌++◌, ℕ, List, false, IfOk};
 ghost use Rattle.pcf_values.specs.Terms.{TermTree};
 ghost use Rattle.interleave_laws.specs.Runs.{Runs};
-ghost use Rattle.goi_jobs.specs.Jobs.{IsBudget, IsWorkers};
+ghost use Rattle.goi_jobs.specs.Ranges.{IsBudget, IsWorkers};
 ghost use Rattle.goi_reports.specs.Forms.{AnswerFits};
 ghost use Rattle.goi_reports.specs.Reports.{run_report};
 ghost use Rattle.goi_reports.specs.Booked.{BookedWithin};
@@ -19,8 +19,7 @@ ghost use Rattle.goi_tasks.specs.RunReports.{ReportsRun, ReportsTrace};
 
 use crate::notes::progress_lines;
 use crate::report::{Report, plain};
-use crate::shown::Shown;
-use goi_jobs::Window;
+use goi_jobs::{Shown, Window};
 use goi_reports::{Parts, run_report};
 use net_build::Net;
 use pcf_values::Val;

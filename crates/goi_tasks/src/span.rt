@@ -3,12 +3,12 @@
 ghost use Rattle.std.specs.Prelude.{◌≡◌, ◌<◌, ◌^◌, ℕ, IfOk, IfErr, length};
 ghost use Rattle.pcf_values.specs.Terms.{TermTree};
 ghost use Rattle.interleave_laws.specs.Runs.{Runs};
-ghost use Rattle.goi_jobs.specs.Jobs.{IsBudget};
+ghost use Rattle.goi_jobs.specs.Ranges.{IsBudget};
 ghost use Rattle.goi_reports.specs.Spans.{span_report};
 ghost use Rattle.program_runs.specs.declared.calling.Calling.{Calling};
 ghost use Rattle.program_runs.specs.Nets.{RunsAs};
 ghost use Rattle.program_runs.specs.Programs.{wanted_by_run};
-ghost use Rattle.goi_tasks.specs.declared.task.Task.TheVariants.{Span};
+ghost use Rattle.goi_jobs.specs.declared.task.Task.TheVariants.{Span};
 ghost use Rattle.goi_tasks.specs.Seen.{output_of};
 ghost use Rattle.goi_tasks.specs.Programs.{FaultyText};
 ghost use Rattle.goi_tasks.specs.Rounds.{ReportsSpan};

@@ -5,7 +5,7 @@ ghost use Rattle.pcf_values.specs.Terms.{nat};
 ghost use Rattle.pcf_values.specs.Named.{named_height};
 ghost use Rattle.pcf_values.specs.Views.{named_of};
 ghost use Rattle.program_runs.specs.Programs.{number, FaultyTree};
-ghost use Rattle.goi_tasks.specs.declared.task.Task.TheVariants.{Steps};
+ghost use Rattle.goi_jobs.specs.declared.task.Task.TheVariants.{Steps};
 ghost use Rattle.goi_tasks.specs.Seen.{output_of};
 ghost use Rattle.goi_tasks.specs.Programs.{FaultyText, IsProgramFault};
 ghost use Rattle.goi_tasks.specs.Reductions.{most_step_nodes, reduction_output};

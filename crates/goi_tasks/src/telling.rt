@@ -2,7 +2,7 @@
 
 ghost use Rattle.std.specs.Prelude.{◌≡◌, IfOk, IfErr};
 ghost use Rattle.program_runs.specs.Programs.{wanted_by_run};
-ghost use Rattle.goi_jobs.specs.Jobs.{IsBudget};
+ghost use Rattle.goi_jobs.specs.Ranges.{IsBudget};
 ghost use Rattle.goi_tasks.specs.Programs.{FaultyText};
 ghost use Rattle.goi_tasks.specs.Told.{TellsText};
 ghost use Rattle.goi_tasks.specs.Stops.{StopsFor};

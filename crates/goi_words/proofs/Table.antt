@@ -1,16 +1,18 @@
 -- Each command of the table is ready: its arguments are found where they stand, and its job is of what is found for them.
 -- A command more is one more of these; an option more is one more in `same` and, with a number, in `has_job`.
-use Rattle.std.proofs.Common.{◌≡◌, ◌∷◌, ◌||◌, not, refl, cond, Bool, true, false, [], codes}
+use Rattle.std.proofs.Common.{◌≡◌, ◌∷◌, ◌||◌, not, refl, cond, arith, Bool, true, false, [], codes}
 use Rattle.std.specs.List.{AllByRecursion}
 use Rattle.clap.specs.Walk.{walked}
 use Rattle.clap.specs.Simple.{built}
 use Rattle.clap.specs.Faults.{defaults_fault}
 use Rattle.clap.specs.Takes.{is_given as is_row_given}
-use Rattle.goi_jobs.specs.Jobs.{IsWindow, IsWindowIfAny, batch, call, check, circuit, demo, replay, run, run_net, show_net, span, steps}
-use Rattle.goi_jobs.specs.Jobs.{trace}
-use Rattle.goi_jobs.specs.declared.jobs.Window.{Window}
-use Rattle.goi_words.specs.Commands.{batch_row, call_row, check_row, circuit_row, commands, demo_row, goi_command, if_traced, net_row}
-use Rattle.goi_words.specs.Commands.{replay_row, run_net_row, run_row, span_row, steps_row, trace_row}
+use Rattle.goi_jobs.specs.Ranges.{IsWindow, IsWindowIfAny, IsWorkers}
+use Rattle.goi_jobs.specs.Jobs.{call, demo, list, replay, text}
+use Rattle.goi_jobs.specs.Tasks.{shown}
+use Rattle.goi_jobs.specs.declared.task.Task.TheVariants.{Check, Circuit, Run, RunNet, ShowNet, Span, Steps, Trace}
+use Rattle.goi_jobs.specs.declared.window.Window.{Window}
+use Rattle.goi_words.specs.Commands.{batch_row, call_row, calling_in, check_row, circuit_row, commands, demo_row, goi_command, if_traced}
+use Rattle.goi_words.specs.Commands.{net_row, replay_row, run_net_row, run_row, span_row, steps_row, trace_row}
 use Rattle.clap.specs.declared.error.kind.ErrorKind.TheVariants as kind
 use Rattle.goi_words.proofs.Ready.{IsReady, leaf}
 use Rattle.goi_words.proofs.Taken.{asked}
@@ -26,6 +28,10 @@ both_asked false h e = cc
 asked_part : (t : Bool) (window : Window) → IsWindow window → IsWindowIfAny (if_traced t window)
 asked_part true window is = is
 asked_part false window is = tt
+
+-- where no workers are asked for there is one
+one_worker : IsWorkers 1
+one_worker = (omega arith, omega arith)
 
 -- `run` is entered by its name
 run_enters : Enters (built goi_command) (codes "run") (leaf run_row)
@@ -45,10 +51,10 @@ run_ready = record {
   asks = λ rows clean. ((asked (is_row_given (codes "file") rows) false clean).0, tt);
   same = λ f g os cs. rw (os.0, cs.0, cs.1.0, cs.1.1.0, cs.1.1.1.0, cs.1.1.1.1.0, cs.1.1.1.1.1.0) refl;
   has_job = λ f os cs. let file = os.0 in let workers = cs.0 in let budget = cs.1.0 in (
-    run file.0 workers.0 budget.0 (f.is_set (codes "schedule")) (f.is_set (codes "tally")) (f.is_set (codes "by-value"))
-        (f.is_set (codes "progress")),
+    text file.0 workers.0
+        (Run budget.0 (calling_in f) (shown (f.is_set (codes "schedule")) (f.is_set (codes "tally")) (f.is_set (codes "progress")))),
     rw (file.1, workers.1, budget.1) refl,
-    ((workers.2, workers.3), (budget.2, budget.3)),
+    ((workers.2, workers.3), (budget.2, budget.3), tt),
   );
 }
 
@@ -70,9 +76,9 @@ check_ready = record {
   asks = λ rows clean. ((asked (is_row_given (codes "file") rows) false clean).0, tt);
   same = λ f g os cs. rw (os.0, cs.0) refl;
   has_job = λ f os cs. let file = os.0 in (
-    check file.0 (f.is_set (codes "term")),
+    text file.0 1 (Check (f.is_set (codes "term"))),
     rw (file.1) refl,
-    tt,
+    (one_worker, tt, tt),
   );
 }
 
@@ -94,9 +100,9 @@ net_ready = record {
   asks = λ rows clean. ((asked (is_row_given (codes "file") rows) false clean).0, tt);
   same = λ f g os cs. rw (os.0) refl;
   has_job = λ f os cs. let file = os.0 in (
-    show_net file.0,
+    text file.0 1 ShowNet,
     rw (file.1) refl,
-    tt,
+    (one_worker, tt, tt),
   );
 }
 
@@ -167,9 +173,9 @@ run_net_ready = record {
   asks = λ rows clean. ((asked (is_row_given (codes "file") rows) false clean).0, tt);
   same = λ f g os cs. rw (os.0, cs.0, cs.1.0, cs.1.1.0, cs.1.1.1.0) refl;
   has_job = λ f os cs. let file = os.0 in let workers = cs.0 in let budget = cs.1.0 in (
-    run_net file.0 workers.0 budget.0 (f.is_set (codes "schedule")) (f.is_set (codes "tally")),
+    text file.0 workers.0 (RunNet budget.0 (shown (f.is_set (codes "schedule")) (f.is_set (codes "tally")) false)),
     rw (file.1, workers.1, budget.1) refl,
-    ((workers.2, workers.3), (budget.2, budget.3)),
+    ((workers.2, workers.3), (budget.2, budget.3), tt),
   );
 }
 
@@ -191,7 +197,7 @@ batch_ready = record {
   asks = λ rows clean. ((asked (is_row_given (codes "file") rows) false clean).0, tt);
   same = λ f g os cs. rw (os.0, cs.0) refl;
   has_job = λ f os cs. let file = os.0 in let workers = cs.0 in (
-    batch file.0 workers.0,
+    list file.0 workers.0,
     rw (file.1, workers.1) refl,
     (workers.2, workers.3),
   );
@@ -215,9 +221,9 @@ trace_ready = record {
   asks = λ rows clean. ((asked (is_row_given (codes "file") rows) false clean).0, tt);
   same = λ f g os cs. rw (os.0, cs.0, cs.1.0, cs.1.1.0, cs.1.1.1.0, cs.1.1.1.1.0) refl;
   has_job = λ f os cs. let file = os.0 in let workers = cs.0 in let budget = cs.1.0 in let from = cs.1.1.1.0 in let most = cs.1.1.1.1.0 in (
-    trace file.0 workers.0 budget.0 (f.is_set (codes "by-value")) (record { from = from.0; most = most.0 }),
+    text file.0 workers.0 (Trace budget.0 (calling_in f) (record { from = from.0; most = most.0 })),
     rw (file.1, workers.1, budget.1, from.1, most.1) refl,
-    ((workers.2, workers.3), (budget.2, budget.3), (from.3, (most.2, most.3))),
+    ((workers.2, workers.3), ((budget.2, budget.3), (from.3, (most.2, most.3))), tt),
   );
 }
 
@@ -239,9 +245,9 @@ circuit_ready = record {
   asks = λ rows clean. ((asked (is_row_given (codes "file") rows) false clean).0, tt);
   same = λ f g os cs. rw (os.0, cs.0, cs.1.0) refl;
   has_job = λ f os cs. let file = os.0 in let stack = cs.0 in let forks = cs.1.0 in (
-    circuit file.0 stack.0 forks.0,
+    text file.0 1 (Circuit stack.0 forks.0),
     rw (file.1, stack.1, forks.1) refl,
-    ((stack.2, stack.3), (forks.2, forks.3)),
+    (one_worker, tt, ((stack.2, stack.3), (forks.2, forks.3))),
   );
 }
 
@@ -263,9 +269,9 @@ span_ready = record {
   asks = λ rows clean. ((asked (is_row_given (codes "file") rows) false clean).0, tt);
   same = λ f g os cs. rw (os.0, cs.0, cs.1.0, cs.1.1.0, cs.1.1.1.0) refl;
   has_job = λ f os cs. let file = os.0 in let budget = cs.0 in (
-    span file.0 budget.0 (f.is_set (codes "by-value")) (f.is_set (codes "profile")) (f.is_set (codes "schedule")),
+    text file.0 1 (Span budget.0 (calling_in f) (f.is_set (codes "profile")) (f.is_set (codes "schedule"))),
     rw (file.1, budget.1) refl,
-    (budget.2, budget.3),
+    (one_worker, (budget.2, budget.3), tt),
   );
 }
 
@@ -287,9 +293,9 @@ steps_ready = record {
   asks = λ rows clean. ((asked (is_row_given (codes "file") rows) false clean).0, tt);
   same = λ f g os cs. rw (os.0, cs.0, cs.1.0, cs.1.1.0) refl;
   has_job = λ f os cs. let file = os.0 in let budget = cs.0 in let from = cs.1.0 in let most = cs.1.1.0 in (
-    steps file.0 budget.0 (record { from = from.0; most = most.0 }),
+    text file.0 1 (Steps budget.0 (record { from = from.0; most = most.0 })),
     rw (file.1, budget.1, from.1, most.1) refl,
-    ((budget.2, budget.3), (from.3, (most.2, most.3))),
+    (one_worker, ((budget.2, budget.3), (from.3, (most.2, most.3))), tt),
   );
 }
 

@@ -8,8 +8,12 @@ use Rattle.clap.specs.Lexer.{usize_max}
 use Rattle.clap.specs.Simple.{new_shape}
 use Rattle.pcf_values.specs.Most.{most_workers, most_budget, most_demo, most_moves}
 use Rattle.goi_jobs.specs.Limits.{most_traced, most_told, least_stack, most_stack, most_forks}
-use Rattle.goi_jobs.specs.Jobs.{JobTree, run, check, show_net, replay, demo, run_net, batch, trace, circuit, span, steps, call}
-use Rattle.goi_jobs.specs.declared.jobs.Window.{Window}
+use Rattle.goi_jobs.specs.Jobs.{JobTree, text, replay, list, demo, call}
+use Rattle.goi_jobs.specs.Tasks.{shown}
+use Rattle.goi_jobs.specs.declared.task.Task.TheVariants.{Run, Check, ShowNet, RunNet, Trace, Circuit, Span, Steps}
+use Rattle.goi_jobs.specs.declared.window.Window.{Window}
+use Rattle.program_runs.specs.Programs.{calling_of}
+use Rattle.program_runs.specs.declared.calling.Calling.{Calling}
 use Rattle.clap.specs.declared.builder.action.ArgAction.TheVariants.{Set, SetTrue}
 use Rattle.clap.specs.declared.builder.value_parser.ValueParser.TheVariants as parser
 use Rattle.goi_words.specs.Findings.{Findings, ◌>>=◌}
@@ -148,6 +152,10 @@ window_of found = do
   most ← found.number (codes "most")
   Some (record { from = from; most = most })
 
+-- by name, or by value where that was found
+abbrev pub calling_in : Findings → Calling
+calling_in found = calling_of (found.is_set (codes "by-value"))
+
 -- a part of a trace, where a trace is asked for
 abbrev pub if_traced : Bool → Window → Option Window
 if_traced is_traced window = if is_traced then Some window else None
@@ -161,18 +169,18 @@ run_job found = do
   file ← found.text (codes "file")
   workers ← found.number (codes "workers")
   budget ← found.number (codes "budget")
-  Some (run file workers budget (found.is_set (codes "schedule")) (found.is_set (codes "tally")) (found.is_set (codes "by-value"))
-      (found.is_set (codes "progress")))
+  Some (text file workers (Run budget (calling_in found)
+      (shown (found.is_set (codes "schedule")) (found.is_set (codes "tally")) (found.is_set (codes "progress")))))
 
 abbrev pub check_job : Findings → Option JobTree
 check_job found = do
   file ← found.text (codes "file")
-  Some (check file (found.is_set (codes "term")))
+  Some (text file 1 (Check (found.is_set (codes "term"))))
 
 abbrev pub net_job : Findings → Option JobTree
 net_job found = do
   file ← found.text (codes "file")
-  Some (show_net file)
+  Some (text file 1 ShowNet)
 
 abbrev pub replay_job : Findings → Option JobTree
 replay_job found = do
@@ -192,13 +200,13 @@ run_net_job found = do
   file ← found.text (codes "file")
   workers ← found.number (codes "workers")
   budget ← found.number (codes "budget")
-  Some (run_net file workers budget (found.is_set (codes "schedule")) (found.is_set (codes "tally")))
+  Some (text file workers (RunNet budget (shown (found.is_set (codes "schedule")) (found.is_set (codes "tally")) false)))
 
 abbrev pub batch_job : Findings → Option JobTree
 batch_job found = do
   file ← found.text (codes "file")
   workers ← found.number (codes "workers")
-  Some (batch file workers)
+  Some (list file workers)
 
 abbrev pub trace_job : Findings → Option JobTree
 trace_job found = do
@@ -206,27 +214,27 @@ trace_job found = do
   workers ← found.number (codes "workers")
   budget ← found.number (codes "budget")
   window ← window_of found
-  Some (trace file workers budget (found.is_set (codes "by-value")) window)
+  Some (text file workers (Trace budget (calling_in found) window))
 
 abbrev pub circuit_job : Findings → Option JobTree
 circuit_job found = do
   file ← found.text (codes "file")
   stack ← found.number (codes "stack")
   forks ← found.number (codes "forks")
-  Some (circuit file stack forks)
+  Some (text file 1 (Circuit stack forks))
 
 abbrev pub span_job : Findings → Option JobTree
 span_job found = do
   file ← found.text (codes "file")
   budget ← found.number (codes "budget")
-  Some (span file budget (found.is_set (codes "by-value")) (found.is_set (codes "profile")) (found.is_set (codes "schedule")))
+  Some (text file 1 (Span budget (calling_in found) (found.is_set (codes "profile")) (found.is_set (codes "schedule"))))
 
 abbrev pub steps_job : Findings → Option JobTree
 steps_job found = do
   file ← found.text (codes "file")
   budget ← found.number (codes "budget")
   window ← window_of found
-  Some (steps file budget window)
+  Some (text file 1 (Steps budget window))
 
 abbrev pub call_job : Findings → Option JobTree
 call_job found = do

@@ -2,8 +2,8 @@
 
 ghost use Rattle.std.specs.Prelude.{◌≡◌, ◌≢◌, IfOk, IfErr, IsErrOf, None, Some, false, [], map, option_map, string_bytes};
 ghost use Rattle.clap.specs.Words.{fault_of, found_of, rows_of, subcommand_of, subcommand_rows_of};
-ghost use Rattle.goi_words.specs.Commands.{batch_job, call_job, check_job, circuit_job, demo_job, goi_command, if_traced, net_job};
-ghost use Rattle.goi_words.specs.Commands.{replay_job, run_job, run_net_job, span_job, steps_job, trace_job, window_of};
+ghost use Rattle.goi_words.specs.Commands.{batch_job, call_job, calling_in, check_job, circuit_job, demo_job, goi_command, if_traced};
+ghost use Rattle.goi_words.specs.Commands.{net_job, replay_job, run_job, run_net_job, span_job, steps_job, trace_job, window_of};
 ghost use Rattle.goi_words.specs.Asked.{findings, is_set, is_taken, job, job_on, number_of, numbers_of, text_of};
 ghost use Rattle.goi_words.specs.Asked.{wide_number_in, wide_numbers_in};
 ghost use Rattle.goi_jobs.specs.Jobs.{IsWithinLimits, job_of};
@@ -12,8 +12,9 @@ ghost use Rattle.goi_words.specs.declared.faults.WordFault.TheVariants.{Refused}
 use crate::commands::goi_command;
 use crate::faults::WordFault;
 use clap::ArgMatches;
-use goi_jobs::{Job, Window};
+use goi_jobs::{Job, Shown, Task, Window};
 use pcf_values::Ident;
+use program_runs::{Calling, calling_of};
 use std::alloc::Global;
 
 /// The job that the words ask for. The first word is the program's own name, whatever it is; no words at all are as the name alone.
@@ -76,14 +77,18 @@ fn run_job(alloc: Global, found: &ArgMatches<'_>) -> Result<Job, WordFault>
     let file = text_in(found, "file")?;
     let workers = number_in(found, "workers")?;
     let budget = number_in(found, "budget")?;
-    Ok(Job::Run {
+    Ok(Job::Text {
         file: Ident::from_text(alloc, file)?,
         workers,
-        budget,
-        schedule: is_set(found, "schedule"),
-        tally: is_set(found, "tally"),
-        by_value: is_set(found, "by-value"),
-        progress: is_set(found, "progress"),
+        task: Task::Run {
+            budget,
+            calling: calling_in(found),
+            shown: Shown {
+                schedule: is_set(found, "schedule"),
+                tally: is_set(found, "tally"),
+                progress: is_set(found, "progress"),
+            },
+        },
     })
 }
 
@@ -93,9 +98,12 @@ fn check_job(alloc: Global, found: &ArgMatches<'_>) -> Result<Job, WordFault>
     ensures refused { IsErrOf result Refused → check_job (findings (rows_of (found_of found.now))) ≡ None }
 {
     let file = text_in(found, "file")?;
-    Ok(Job::Check {
+    Ok(Job::Text {
         file: Ident::from_text(alloc, file)?,
-        term: is_set(found, "term"),
+        workers: 1,
+        task: Task::Check {
+            term: is_set(found, "term"),
+        },
     })
 }
 
@@ -105,8 +113,10 @@ fn net_job(alloc: Global, found: &ArgMatches<'_>) -> Result<Job, WordFault>
     ensures refused { IsErrOf result Refused → net_job (findings (rows_of (found_of found.now))) ≡ None }
 {
     let file = text_in(found, "file")?;
-    Ok(Job::ShowNet {
+    Ok(Job::Text {
         file: Ident::from_text(alloc, file)?,
+        workers: 1,
+        task: Task::ShowNet,
     })
 }
 
@@ -143,12 +153,17 @@ fn run_net_job(alloc: Global, found: &ArgMatches<'_>) -> Result<Job, WordFault>
     let file = text_in(found, "file")?;
     let workers = number_in(found, "workers")?;
     let budget = number_in(found, "budget")?;
-    Ok(Job::RunNet {
+    Ok(Job::Text {
         file: Ident::from_text(alloc, file)?,
         workers,
-        budget,
-        schedule: is_set(found, "schedule"),
-        tally: is_set(found, "tally"),
+        task: Task::RunNet {
+            budget,
+            shown: Shown {
+                schedule: is_set(found, "schedule"),
+                tally: is_set(found, "tally"),
+                progress: false,
+            },
+        },
     })
 }
 
@@ -159,7 +174,7 @@ fn batch_job(alloc: Global, found: &ArgMatches<'_>) -> Result<Job, WordFault>
 {
     let file = text_in(found, "file")?;
     let workers = number_in(found, "workers")?;
-    Ok(Job::Batch {
+    Ok(Job::List {
         file: Ident::from_text(alloc, file)?,
         workers,
     })
@@ -174,12 +189,14 @@ fn trace_job(alloc: Global, found: &ArgMatches<'_>) -> Result<Job, WordFault>
     let workers = number_in(found, "workers")?;
     let budget = number_in(found, "budget")?;
     let window = window_of(found).ok_or(WordFault::Refused)?;
-    Ok(Job::Trace {
+    Ok(Job::Text {
         file: Ident::from_text(alloc, file)?,
         workers,
-        budget,
-        by_value: is_set(found, "by-value"),
-        window,
+        task: Task::Trace {
+            budget,
+            calling: calling_in(found),
+            window,
+        },
     })
 }
 
@@ -191,10 +208,10 @@ fn circuit_job(alloc: Global, found: &ArgMatches<'_>) -> Result<Job, WordFault>
     let file = text_in(found, "file")?;
     let stack = number_in(found, "stack")?;
     let forks = number_in(found, "forks")?;
-    Ok(Job::Circuit {
+    Ok(Job::Text {
         file: Ident::from_text(alloc, file)?,
-        stack,
-        forks,
+        workers: 1,
+        task: Task::Circuit { stack, forks },
     })
 }
 
@@ -205,12 +222,15 @@ fn span_job(alloc: Global, found: &ArgMatches<'_>) -> Result<Job, WordFault>
 {
     let file = text_in(found, "file")?;
     let budget = number_in(found, "budget")?;
-    Ok(Job::Span {
+    Ok(Job::Text {
         file: Ident::from_text(alloc, file)?,
-        budget,
-        by_value: is_set(found, "by-value"),
-        profile: is_set(found, "profile"),
-        schedule: is_set(found, "schedule"),
+        workers: 1,
+        task: Task::Span {
+            budget,
+            calling: calling_in(found),
+            profile: is_set(found, "profile"),
+            schedule: is_set(found, "schedule"),
+        },
     })
 }
 
@@ -222,10 +242,10 @@ fn steps_job(alloc: Global, found: &ArgMatches<'_>) -> Result<Job, WordFault>
     let file = text_in(found, "file")?;
     let budget = number_in(found, "budget")?;
     let window = window_of(found).ok_or(WordFault::Refused)?;
-    Ok(Job::Steps {
+    Ok(Job::Text {
         file: Ident::from_text(alloc, file)?,
-        budget,
-        window,
+        workers: 1,
+        task: Task::Steps { budget, window },
     })
 }
 
@@ -255,6 +275,13 @@ fn window_of(found: &ArgMatches<'_>) -> Option<Window>
     let from = number_of(found, "from")?;
     let most = number_of(found, "most")?;
     Some(Window { from, most })
+}
+
+/// By name, or by value where that was found.
+fn calling_in(found: &ArgMatches<'_>) -> Calling
+    ensures { result ≡ calling_in (findings (rows_of (found_of found.now))) }
+{
+    calling_of(is_set(found, "by-value"))
 }
 
 /// The part of a trace, where a trace is asked for.

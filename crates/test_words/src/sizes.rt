@@ -1,6 +1,6 @@
 //! No words at all, and words of a megabyte, which are longer than the system hands to a program.
 
-use goi_jobs::Job;
+use goi_jobs::{Job, Task};
 use goi_words::{WordFault, job_of};
 use std::alloc::{AllocError, Global};
 use std::test::Fail;
@@ -51,7 +51,11 @@ fn long_words(rt: HostRuntime) -> Result<(), Fail> {
 /// Whether a job is to print the net of the file of this name.
 fn shows_net(job: &Job, name: &str) -> bool {
     match job {
-        Job::ShowNet { file } => file.as_str() == name,
+        Job::Text {
+            file,
+            task: Task::ShowNet,
+            ..
+        } => file.as_str() == name,
         _ => false,
     }
 }

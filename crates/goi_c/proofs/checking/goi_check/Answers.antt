@@ -1,4 +1,4 @@
-use Rattle.goi_tasks.specs.declared.task.Task.TheVariants.{Check}
+use Rattle.goi_jobs.specs.declared.task.Task.TheVariants.{Check}
 use Rattle.goi_c.proofs.Called.{called}
 use Rattle.goi_c.proofs.Owned.{owned}
 use Rattle.goi_c.proofs.checking.goi_check.Goals as goal

@@ -1,5 +1,5 @@
 use Rattle.std.proofs.Common.{arith}
-use Rattle.goi_tasks.specs.declared.task.Task.TheVariants.{Circuit}
+use Rattle.goi_jobs.specs.declared.task.Task.TheVariants.{Circuit}
 use Rattle.goi_c.proofs.Called.{called}
 use Rattle.goi_c.proofs.Owned.{owned}
 use Rattle.goi_c.proofs.checking.goi_circuit.Goals as goal

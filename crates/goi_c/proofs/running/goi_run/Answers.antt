@@ -1,5 +1,5 @@
 use Rattle.std.proofs.Common.{◌≡◌, ℕ, zero, suc, ◌<◌, false, refl, arith}
-use Rattle.goi_tasks.specs.declared.task.Task.TheVariants.{Run}
+use Rattle.goi_jobs.specs.declared.task.Task.TheVariants.{Run}
 use Rattle.goi_c.specs.Calls.{schedule_in, run_task}
 use Rattle.goi_c.proofs.Called.{called_as, same_run}
 use Rattle.goi_c.proofs.Owned.{owned}

@@ -1,6 +1,6 @@
 use Rattle.std.proofs.Common.{ap, arith}
-use Rattle.goi_tasks.specs.declared.shown.Shown.{Shown}
-use Rattle.goi_tasks.specs.declared.task.Task.TheVariants.{RunNet}
+use Rattle.goi_jobs.specs.declared.shown.Shown.{Shown}
+use Rattle.goi_jobs.specs.declared.task.Task.TheVariants.{RunNet}
 use Rattle.goi_c.specs.Calls.{listed_task}
 use Rattle.goi_c.proofs.Called.{called_as}
 use Rattle.goi_c.proofs.Owned.{owned}

@@ -1,6 +1,6 @@
 use Rattle.std.proofs.Common.{ap, arith}
 use Rattle.program_runs.specs.declared.calling.Calling.{Calling}
-use Rattle.goi_tasks.specs.declared.task.Task.TheVariants.{Trace}
+use Rattle.goi_jobs.specs.declared.task.Task.TheVariants.{Trace}
 use Rattle.goi_c.specs.Calls.{part, trace_task}
 use Rattle.goi_c.proofs.Called.{called_as}
 use Rattle.goi_c.proofs.Owned.{owned}

@@ -2,7 +2,6 @@ use Rattle.std.proofs.Common.{map, string_bytes}
 use Rattle.goi_words.specs.Asked.{job}
 use Rattle.goi_engine.proofs.Kept.{kept}
 use Rattle.goi_tasks.proofs.Outcomes.{Known}
-use Rattle.goi_engine.specs.Deeds.{deed}
 use Rattle.goi_engine.proofs.top.goi.Goals as goal
 
 pub returns : goal.returns
@@ -14,7 +13,7 @@ returns g c =
       one_replay = c.law_one_replay.ensures;
       one_list = c.law_one_list.ensures;
     } in
-    let asked = deed (job (map string_bytes c.args.words.now)) in
+    let asked = job (map string_bytes c.args.words.now) in
     let answer = c.answer_to-answer in
     let (outs, came_out, (errs, came_err, delivered)) = c.deliver.ensures in
     let untold = g.met.F.Files.lacked_untold c.args.files.now in

@@ -1,4 +1,4 @@
-use Rattle.goi_tasks.specs.declared.task.Task.TheVariants.{Check, ShowNet, Circuit, Span, Steps}
+use Rattle.goi_jobs.specs.declared.task.Task.TheVariants.{Check, ShowNet, Circuit, Span, Steps}
 use Rattle.goi_tasks.proofs.Texts.{by_these}
 use Rattle.goi_tasks.proofs.judge.report_text.Goals as goal
 

@@ -1,5 +1,5 @@
 use Rattle.std.proofs.Common.{sym, subst}
-use Rattle.goi_tasks.specs.declared.task.Task.TheVariants.{Check}
+use Rattle.goi_jobs.specs.declared.task.Task.TheVariants.{Check}
 use Rattle.goi_tasks.specs.Outputs.{Output}
 use Rattle.goi_tasks.specs.Tasks.{ReportsText}
 use Rattle.goi_tasks.proofs.program.report_check.Goals as goal
