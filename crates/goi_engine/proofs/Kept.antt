@@ -261,7 +261,7 @@ outcome_job j c NoMemory status h delivered = refusal (Some j) c 6 memory_line s
 outcome : (asked : Option JobTree) (c : Call) (a : Answer) (status : ℕ) → Answers asked c.old c.new a → Delivered a c.out c.err status →
     Outcome asked c status
 outcome (Some j) c a status h delivered = outcome_job j c a status h delivered
-outcome None c (Prints text) status h delivered = elim h [ ]
+outcome None c (Prints r) status h delivered = elim h [ ]
 outcome None c (Refused line) status h delivered = elim h [ ]
 outcome None c BadWords status h delivered = refusal None c 2 words_line status (of_words refl) (λ w. bad_words (refl, w) h) delivered
 outcome None c NotRead status h delivered = elim h [ ]
@@ -323,7 +323,7 @@ module _ (known : Known) (one : OneFunction) (j : JobTree) (c : Call) (untold : 
 -- words that ask for nothing come to their refusal
 words_come : (c : Call) (a : Answer) (status : ℕ) → Answers None c.old c.new a → Delivered a c.out c.err status → NoneFailed c →
     (status ≡ 2) ⊎ (status ≡ 6)
-words_come c (Prints text) status h delivered fine = elim h [ ]
+words_come c (Prints r) status h delivered fine = elim h [ ]
 words_come c (Refused line) status h delivered fine = elim h [ ]
 words_come c BadWords status h delivered fine = inl (refused_well c fine 2 words_line status delivered).0
 words_come c NotRead status h delivered fine = elim h [ ]

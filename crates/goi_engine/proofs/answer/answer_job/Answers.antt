@@ -3,7 +3,7 @@ use Rattle.goi_jobs.specs.Jobs.{job_of}
 use Rattle.goi_engine.proofs.Answered.{call_of_job}
 use Rattle.goi_engine.proofs.answer.answer_job.Goals as goal
 
-pub returns-in-Text-clause-answers : goal.returns-in-Run-clause-answers
+pub returns-in-Text-clause-answers : goal.returns-in-Text-clause-answers
 returns-in-Text-clause-answers g c = search rules
 
 pub returns-in-Call-clause-answers : goal.returns-in-Call-clause-answers
