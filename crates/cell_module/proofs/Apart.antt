@@ -172,7 +172,8 @@ module _ (net : NetTree) where
       go false e h = absurd cc
 
   -- and up a value's
-  up_reads : (n : Node) (w d : ℕ) (t : TyTree) → Meets net n → has (conclusions n) w ≡ true → Is net w (value_wire d t) → Silent (row_up n w)
+  up_reads : (n : Node) (w d : ℕ) (t : TyTree) → Meets net n → has (conclusions n) w ≡ true → Is net w (value_wire d t) →
+      Silent (row_up n w)
   up_reads (Const v k) w d t m h i = refl
   up_reads (Succ a k) w d t m h i = refl
   up_reads (Pred a k) w d t m h i = refl
@@ -240,8 +241,10 @@ Asks to r = (c : Channel) → to r ≡ Some c → Rising c
 abbrev NoFork : Row → Type 0
 NoFork r = (left_to r ≡ None) × (right_to r ≡ None)
 
+-- row by row: up a wire both questions go up
 up_asks : (n : Node) (w : ℕ) → Asks left_to (row_up n w) × Asks right_to (row_up n w)
-up_asks (Binary o a b k) w = (λ c e. subst Rising (let z : rises a ≡ c = cc in z) tt, λ c e. subst Rising (let z : rises b ≡ c = cc in z) tt)
+up_asks (Binary o a b k) w =
+    (λ c e. subst Rising (let z : rises a ≡ c = cc in z) tt, λ c e. subst Rising (let z : rises b ≡ c = cc in z) tt)
 up_asks (Const v k) w = (λ c e. absurd cc, λ c e. absurd cc)
 up_asks (Succ a k) w = (λ c e. absurd cc, λ c e. absurd cc)
 up_asks (Pred a k) w = (λ c e. absurd cc, λ c e. absurd cc)
@@ -262,6 +265,7 @@ up_asks (Pair a b k) w = (λ c e. absurd cc, λ c e. absurd cc)
 up_asks (Proj Left a k) w = (λ c e. absurd cc, λ c e. absurd cc)
 up_asks (Proj Right a k) w = (λ c e. absurd cc, λ c e. absurd cc)
 
+-- row by row: down a wire none is a fork
 down_no_fork : (n : Node) (w : ℕ) → NoFork (row_down n w)
 down_no_fork (Const v k) w = (refl, refl)
 down_no_fork (Succ a k) w = (refl, refl)

@@ -27,55 +27,55 @@ abbrev driven_there : List String
 driven_there = "op" ∷ "to" ∷ "other" ∷ "number" ∷ []
 
 -- each row's case names what is declared above it
-row_ok : (r : Row) → stmt_ok names driven_there (row_stmt r) ≡ true
-row_ok (GO c) = refl
-row_ok (CONST n c) = refl
-row_ok (SUCC c) = refl
-row_ok (PRED c) = refl
-row_ok (TEST c d) = refl
-row_ok (FORK c d) = refl
-row_ok (JOIN Plus Left w) = refl
-row_ok (JOIN Plus Right w) = refl
-row_ok (JOIN Minus Left w) = refl
-row_ok (JOIN Minus Right w) = refl
-row_ok (JOIN Times Left w) = refl
-row_ok (JOIN Times Right w) = refl
-row_ok ANSWER = refl
-row_ok (STAR c) = refl
-row_ok (UNSTAR c) = refl
-row_ok (LEFT c) = refl
-row_ok (RIGHT c) = refl
-row_ok (CON c d) = refl
-row_ok (PUSHR c) = refl
-row_ok (PUSHL c) = refl
-row_ok (SELECT c d) = refl
-row_ok (POP c) = refl
-row_ok (BOXIN c) = refl
-row_ok (BOXOUT c) = refl
-row_ok (DOOROUT c) = refl
-row_ok (DOORIN c) = refl
-row_ok (FIXIN c) = refl
-row_ok (FIXOUT c d) = refl
-row_ok (FIXVAR c) = refl
-row_ok DEAD = refl
+case_ok : (r : Row) → stmt_ok names driven_there (row_stmt r) ≡ true
+case_ok (GO c) = refl
+case_ok (CONST n c) = refl
+case_ok (SUCC c) = refl
+case_ok (PRED c) = refl
+case_ok (TEST c d) = refl
+case_ok (FORK c d) = refl
+case_ok (JOIN Plus Left w) = refl
+case_ok (JOIN Plus Right w) = refl
+case_ok (JOIN Minus Left w) = refl
+case_ok (JOIN Minus Right w) = refl
+case_ok (JOIN Times Left w) = refl
+case_ok (JOIN Times Right w) = refl
+case_ok ANSWER = refl
+case_ok (STAR c) = refl
+case_ok (UNSTAR c) = refl
+case_ok (LEFT c) = refl
+case_ok (RIGHT c) = refl
+case_ok (CON c d) = refl
+case_ok (PUSHR c) = refl
+case_ok (PUSHL c) = refl
+case_ok (SELECT c d) = refl
+case_ok (POP c) = refl
+case_ok (BOXIN c) = refl
+case_ok (BOXOUT c) = refl
+case_ok (DOOROUT c) = refl
+case_ok (DOORIN c) = refl
+case_ok (FIXIN c) = refl
+case_ok (FIXOUT c d) = refl
+case_ok (FIXVAR c) = refl
+case_ok DEAD = refl
 
 -- what is said of a row is on its line
-said_ok_there : (c : Channel) (i : ℕ) → said_ok (place_said c i) ≡ true
-said_ok_there (rises w) i = refl
-said_ok_there (falls w) i = refl
+place_said_ok : (c : Channel) (i : ℕ) → said_ok (place_said c i) ≡ true
+place_said_ok (rises w) i = refl
+place_said_ok (falls w) i = refl
 
-arm_ok : (c : Channel) (o : Option (ℕ × Row)) (rest : Arms) → arms_ok names driven_there rest ≡ true →
+next_arm_ok : (c : Channel) (o : Option (ℕ × Row)) (rest : Arms) → arms_ok names driven_there rest ≡ true →
     arms_ok names driven_there (row_arm c o rest) ≡ true
-arm_ok c None rest h = h
-arm_ok c (Some r) rest h =
+next_arm_ok c None rest h = h
+next_arm_ok c (Some r) rest h =
     and_from (stmt_ok names driven_there (row_stmt r.1) && said_ok (place_said c r.0)) (arms_ok names driven_there rest)
-    (and_from (stmt_ok names driven_there (row_stmt r.1)) (said_ok (place_said c r.0)) (row_ok r.1) (said_ok_there c r.0)) h
+    (and_from (stmt_ok names driven_there (row_stmt r.1)) (said_ok (place_said c r.0)) (case_ok r.1) (place_said_ok c r.0)) h
 
-rows_ok : (net : NetTree) (w n : ℕ) → arms_ok names driven_there (row_arms net w n) ≡ true
-rows_ok net w zero = refl
-rows_ok net w (suc n) =
-    arm_ok (rises w) (row_of net (rises w)) (row_arm (falls w) (row_of net (falls w)) (row_arms net (suc w) n))
-    (arm_ok (falls w) (row_of net (falls w)) (row_arms net (suc w) n) (rows_ok net (suc w) n))
+cases_ok : (net : NetTree) (w n : ℕ) → arms_ok names driven_there (row_arms net w n) ≡ true
+cases_ok net w zero = refl
+cases_ok net w (suc n) =
+    next_arm_ok (rises w) (row_of net (rises w)) (row_arm (falls w) (row_of net (falls w)) (row_arms net (suc w) n))
+    (next_arm_ok (falls w) (row_of net (falls w)) (row_arms net (suc w) n) (cases_ok net (suc w) n))
 
 with_rows : (wires start : ℕ) (z : Sizes) (rows : Arms) (b : Bool) → arms_ok names driven_there rows ≡ true →
     WellFormed (cell_module_with wires start z rows (cell_product b)) ≡ true
@@ -84,4 +84,4 @@ with_rows wires start z rows false h = ap (λ t. t && true) h
 
 pub well_formed : (net : NetTree) (z : Sizes) → WellFormed (cell_module net z) ≡ true
 well_formed net z = with_rows (length net.wires) (number (channel_of (start_of net))) z (row_arms net 0 (length net.wires))
-    (multiplies net.nodes) (rows_ok net 0 (length net.wires))
+    (multiplies net.nodes) (cases_ok net 0 (length net.wires))

@@ -34,7 +34,8 @@ cell_product b = if b then cell_multiplier else no_cell_multiplier
 abbrev pub cell_module_with : (wires start : ℕ) → Sizes → Arms → Expr → List Item
 cell_module_with wires start z rows product =
     cell_ports ++ (cell_port_notes ++ (cell_sizes wires start z ++ (cell_constants ++ (cell_registers ++ (way_wires ++ (next_row_notes ++
-    (next_row_block rows ∷ (list_wires ++ (cell_fork_wires ++ (number_wires product ++ (cell_clock_notes ++ clocked cell_clock ∷ [])))))))))))
+    (next_row_block rows ∷ (list_wires ++ (cell_fork_wires ++ (number_wires product ++ (cell_clock_notes ++
+    clocked cell_clock ∷ [])))))))))))
 
 -- the module of a net
 abbrev pub cell_module : NetTree → Sizes → List Item
