@@ -11,26 +11,24 @@ use Rattle.circuit_core.specs.Rows.{Channel, falls, number, Row, GO, CONST, SUCC
 use Rattle.circuit_core.specs.Rows.{RIGHT, CON, PUSHR, PUSHL, SELECT, POP, BOXIN, BOXOUT, DOOROUT, DOORIN, FIXIN, FIXOUT, FIXVAR, DEAD}
 use Rattle.circuit_core.specs.Rows.{row_of, channel_of}
 use Rattle.verilog_tree.specs.Tree.{Item, name, branch, skip}
-use Rattle.verilog_tree.specs.Meaning.{Scope, Store, scope, settled, run, run_arms, fire, widest_arm, bits, own, flag, nonzero, chosen, fit, set_vec}
+use Rattle.verilog_tree.specs.Meaning.{Scope, Store, scope, settled, run, run_arms, fire, widest_arm, bits, own, flag, nonzero, chosen}
+use Rattle.verilog_tree.specs.Meaning.{fit, set_vec}
 use Rattle.verilog_tree.proofs.Numbers.{fits}
 use Rattle.verilog_tree.proofs.Frames.{settled_leaves, arms_leave}
 use Rattle.circuit_module.specs.Sizes.{channel_bits, fork_bits}
 use Rattle.circuit_module.specs.Fixed.{no_row}
 use Rattle.circuit_module.specs.Module.{row_stmt, row_arms, multiplies}
-use Rattle.circuit_module.proofs.Len.{enough_bits}
 use Rattle.circuit_module.proofs.Choice.{finds, rows_leave, wire_of}
 use Rattle.cell_core.specs.Cells.{Cell}
 use Rattle.cell_core.specs.Circuit.{Sizes, CellToken, powered}
-use Rattle.cell_module.specs.Fixed.{way_wires, list_wires, cell_fork_wires, number_wires, runs, fetch_row, cell_reset, cell_move, cell_clock}
+use Rattle.cell_module.specs.Fixed.{way_wires, list_wires, cell_fork_wires, number_wires, runs, fetch_row, cell_reset, cell_move}
+use Rattle.cell_module.specs.Fixed.{cell_clock}
 use Rattle.cell_module.specs.Module.{cell_module, cell_product}
 use Rattle.cell_module.specs.Parts.{word_of, deeds_of}
+use Rattle.module_edges.proofs.Step.{named_fits}
 use Rattle.module_edges.specs.Meets.{Named, RowFits, InRange}
 use Rattle.cell_edges.specs.Stands.{main_of, side_of, literal_of, IsRow, Going, Stands, opened}
 use Rattle.cell_edges.specs.Laws.{CellSizes, CellModuleResets}
-
--- a channel of the net's wires fits its field
-named_fits : (W : ℕ) (c : Channel) → Named W c → fit (channel_bits W) (number c) ≡ number c
-named_fits W c h = let e = enough_bits (2 * W) in fits (channel_bits W) (number c) (omega arith)
 
 no_slots : (k n : ℕ) → opened (λ j. None) k n ≡ 0
 no_slots k zero = refl
