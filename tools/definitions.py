@@ -2,7 +2,8 @@
 
 It reads the part of the logic's language that definitions of trees and of their meaning are written in, and knows nothing of types or
 proofs. So a definition can be held against another program on inputs for which nobody wrote a lemma. A value is a number, a text, a
-function of Python or of the logic, `("rec", fields)`, or a constructor's name with its arguments as a tuple.
+function of Python or of the logic, `("rec", fields)`, or a constructor's name with its arguments as a tuple. A pair is a record whose
+fields are `0` and `1`.
 """
 
 import re
@@ -115,8 +116,14 @@ class Reader:
     def atom(self):
         word = self.take()
         if word == "(":
-            made = self.expression()
+            made, fields = self.expression(), []
+            while self.next() == ",":
+                self.take()
+                fields = fields or [("0", made)]
+                fields.append((str(len(fields)), self.expression()))
             self.take(")")
+            if fields:
+                made = ("record", None, fields)
         elif word == "[":
             self.take("]")
             made = ("name", "[]")

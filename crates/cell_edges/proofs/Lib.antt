@@ -1,0 +1,2 @@
+-- the edge at reset
+mod Reset

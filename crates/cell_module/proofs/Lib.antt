@@ -1,0 +1,6 @@
+-- what a row sets, and how many words the memories have
+mod Parts
+-- what is written isn't read by the next row
+mod Apart
+-- a module that the standard takes
+mod WellFormed

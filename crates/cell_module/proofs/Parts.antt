@@ -1,0 +1,47 @@
+-- What a row's case sets, and how many words the memories have: by computation.
+use Rattle.std.proofs.Common.{refl, arith}
+use Rattle.pcf_values.specs.declared.operator.Operator.TheVariants.{Plus, Minus, Times}
+use Rattle.pcf_values.specs.declared.side.Side.TheVariants.{Left, Right}
+use Rattle.circuit_core.specs.Rows.{GO, CONST, SUCC, PRED, TEST, FORK, JOIN, ANSWER, STAR, UNSTAR, LEFT, RIGHT, CON}
+use Rattle.circuit_core.specs.Rows.{PUSHR, PUSHL, SELECT, POP, BOXIN, BOXOUT, DOOROUT, DOORIN, FIXIN, FIXOUT, FIXVAR, DEAD}
+use Rattle.verilog_tree.proofs.Numbers.{fits_twice}
+use Rattle.cell_module.specs.Parts.{RowsSetWords, RowsSetLiterals, MemoriesHavePlaces}
+
+-- row by row
+pub set_words : RowsSetWords
+set_words wires start z rows product (GO c) S = refl
+set_words wires start z rows product (CONST n c) S = refl
+set_words wires start z rows product (SUCC c) S = refl
+set_words wires start z rows product (PRED c) S = refl
+set_words wires start z rows product (TEST c d) S = refl
+set_words wires start z rows product (FORK c d) S = refl
+set_words wires start z rows product (JOIN Plus Left w) S = refl
+set_words wires start z rows product (JOIN Plus Right w) S = refl
+set_words wires start z rows product (JOIN Minus Left w) S = refl
+set_words wires start z rows product (JOIN Minus Right w) S = refl
+set_words wires start z rows product (JOIN Times Left w) S = refl
+set_words wires start z rows product (JOIN Times Right w) S = refl
+set_words wires start z rows product ANSWER S = refl
+set_words wires start z rows product (STAR c) S = refl
+set_words wires start z rows product (UNSTAR c) S = refl
+set_words wires start z rows product (LEFT c) S = refl
+set_words wires start z rows product (RIGHT c) S = refl
+set_words wires start z rows product (CON c d) S = refl
+set_words wires start z rows product (PUSHR c) S = refl
+set_words wires start z rows product (PUSHL c) S = refl
+set_words wires start z rows product (SELECT c d) S = refl
+set_words wires start z rows product (POP c) S = refl
+set_words wires start z rows product (BOXIN c) S = refl
+set_words wires start z rows product (BOXOUT c) S = refl
+set_words wires start z rows product (DOOROUT c) S = refl
+set_words wires start z rows product (DOORIN c) S = refl
+set_words wires start z rows product (FIXIN c) S = refl
+set_words wires start z rows product (FIXOUT c d) S = refl
+set_words wires start z rows product (FIXVAR c) S = refl
+set_words wires start z rows product DEAD S = refl
+
+pub set_literals : RowsSetLiterals
+set_literals wires start z rows product n c low S = fits_twice 64 64 n low (omega arith)
+
+pub have_places : MemoriesHavePlaces
+have_places wires start z rows product = (refl, refl, refl, refl, refl, refl, refl)

@@ -1,0 +1,10 @@
+-- What a reader has to believe, in this order: the parts of the module that are the same for all nets.
+pub mod Fixed
+-- The module of a net.
+pub mod Module
+-- What rows and memories come to: the statements of `law_cell_parts`.
+pub mod Parts
+-- What is written isn't read by the next row: the statements of `law_apart`.
+pub mod Apart
+-- The statement of `law_cell_well_formed`.
+pub mod Laws
