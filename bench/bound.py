@@ -19,6 +19,11 @@ def bound(words, rounds=3, counts=(2, 4)):
     return {count: count * alone / min(at_once(words, count) for _ in range(rounds)) for count in counts}
 
 
-def told(words):
+def line(found):
     """The bound as a line."""
-    return "the machine's own bound: " + ", ".join("%d copies at once do %.2f times the work of one" % it for it in bound(words).items())
+    return "the machine's own bound: " + ", ".join("%d copies at once do %.2f times the work of one" % it for it in found.items())
+
+
+def told(words):
+    """The bound of a command as a line."""
+    return line(bound(words))
