@@ -138,6 +138,16 @@ fn three_before(part: &mut [u64])
     part[2] = third;
 }
 
+/// The first `count` words and the others change places: each part is turned round, and then all of it.
+fn turn_round(part: &mut [u64], count: usize)
+    requires { count ≤ length part.old }
+    ensures { part.new ≡ drop count part.old ++ take count part.old }
+{
+    part[..count].reverse();
+    part[count..].reverse();
+    part.reverse();
+}
+
 /// The first `count` words and the others change places. Where one of both has few words, they are held while the others move.
 fn rotate(part: &mut [u64], count: usize)
     requires { count ≤ length part.old }
@@ -150,7 +160,7 @@ fn rotate(part: &mut [u64], count: usize)
         (_, 2) => two_before(part),
         (3, _) => three_behind(part),
         (_, 3) => three_before(part),
-        _ => part.rotate_left(count),
+        _ => turn_round(part, count),
     }
 }
 
