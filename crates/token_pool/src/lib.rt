@@ -4,8 +4,9 @@
 //! every pool: the machine's state is what the log leads to, held tickets are live and held once, and the log with all that is set
 //! aside stays within the budget. `take` hands a worker a ticket's token, `book` makes its moves, and `finish` leads the run to its end;
 //! the log that it hands out replays to the answer. `take_branch` and `book_branch` do the same where what a worker makes of a token is a
-//! branch of the run. As a `Bench` the first two serve workers behind a lock; `branch_pool` has the bench over the others. The laws say
-//! the same of the definitions alone. When workers come, and that they come at all, is left to others.
+//! branch of the run. The first two are the plain form of the law: as a `Bench` they serve workers behind a lock, which tests alone do.
+//! `branch_pool` has the bench over the others, by which every command goes. The laws say the same of the definitions alone. When workers
+//! come, and that they come at all, is left to others.
 #![tactic(auto)]
 
 mod bench;
