@@ -17,4 +17,4 @@ pub use brief::{demo_report, replay_report};
 pub use check::check_report;
 pub use laws::{law_plain_run, law_rows, law_tally_adds_up};
 pub use run::{Parts, run_report};
-pub use span::{PROFILE_ROUNDS, span_report};
+pub use span::{PROFILE_ROUNDS, RoundParts, span_report};

@@ -15,6 +15,15 @@ use std::alloc::{AllocError, Global};
 /// How many rounds are told at the most, each on a line.
 pub const PROFILE_ROUNDS: u32 = 100_000;
 
+/// What is told of a run in rounds besides its answer and its numbers.
+#[derive(Clone, Copy)]
+pub struct RoundParts {
+    /// Each round.
+    pub profile: bool,
+    /// The schedule.
+    pub schedule: bool,
+}
+
 /// The report of a run in rounds: its answer, if it came to one, how many moves it made in how many rounds, and the greatest of their
 /// widths. With `profile` it tells each round, up to `PROFILE_ROUNDS` of them, and with `schedule` the schedule of their tickets. A round's
 /// width is how many tokens were live before it.
@@ -29,16 +38,15 @@ pub fn span_report(
     tickets: &[u32],
     widths: &[u32],
     widest: u32,
-    profile: bool,
-    schedule: bool,
+    parts: RoundParts,
 ) -> Result<Vec<u8>, AllocError>
     requires { length tickets.now < 2 ^ 32 }
-    ensures { IfOk result (λ v. v.items ≡ span_report answer rounds tickets.now widths.now widest profile schedule) }
+    ensures { IfOk result (λ v. v.items ≡ span_report answer rounds tickets.now widths.now widest parts.profile parts.schedule) }
 {
     let mut report = Vec::new(alloc);
     push_result(&mut report, answer, tickets.len() as u32)?;
     push_rounds_lines(&mut report, rounds, widest)?;
-    push_asked(alloc, &mut report, tickets, widths, profile, schedule)?;
+    push_asked(alloc, &mut report, tickets, widths, parts)?;
     Ok(report)
 }
 
@@ -56,14 +64,13 @@ fn push_asked(
     report: &mut Vec<u8>,
     tickets: &[u32],
     widths: &[u32],
-    profile: bool,
-    schedule: bool,
+    parts: RoundParts,
 ) -> Result<(), AllocError>
     requires { length tickets.now < 2 ^ 32 }
-    ensures { OnOk result (report.new.items ≡ report.old.items ++ asked_rounds tickets.now widths.now profile schedule) }
+    ensures { OnOk result (report.new.items ≡ report.old.items ++ asked_rounds tickets.now widths.now parts.profile parts.schedule) }
 {
-    push_asked_profile(report, widths, profile)?;
-    push_asked_schedule(alloc, report, tickets, schedule)
+    push_asked_profile(report, widths, parts.profile)?;
+    push_asked_schedule(alloc, report, tickets, parts.schedule)
 }
 
 /// Appends the lines of the rounds, where they are asked for.

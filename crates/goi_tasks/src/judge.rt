@@ -21,6 +21,7 @@ use crate::span::report_span;
 use crate::steps::report_steps;
 use crate::stop::Stop;
 use goi_jobs::{Shown, Task, Window};
+use goi_reports::RoundParts;
 use program_runs::{Calling, Crew, net_for};
 use std::alloc::Global;
 
@@ -56,7 +57,13 @@ pub fn report_text<C: Crew>(
             calling,
             profile,
             schedule,
-        } => report_span(alloc, bytes, budget, calling, profile, schedule),
+        } => report_span(
+            alloc,
+            bytes,
+            budget,
+            calling,
+            RoundParts { profile, schedule },
+        ),
         Task::Steps { budget, window } => report_steps(alloc, bytes, budget, window),
         Task::RunNet { budget, shown } => report_listing(alloc, bytes, budget, shown, crew),
         Task::Trace {

@@ -18,7 +18,7 @@ ghost use Rattle.goi_tasks.specs.Tasks.{ReportsText};
 use crate::report::{Report, plain};
 use crate::running::status_of;
 use crate::stop::Stop;
-use goi_reports::span_report;
+use goi_reports::{RoundParts, span_report};
 use net_build::Net;
 use program_runs::{Calling, net_for};
 use round_runs::{Rounds, run_rounds};
@@ -30,15 +30,14 @@ pub(crate) fn report_span(
     bytes: &[u8],
     budget: u32,
     calling: Calling,
-    profile: bool,
-    schedule: bool,
+    parts: RoundParts,
 ) -> Result<Report, Stop>
     requires budget { IsBudget budget }
-    ensures report { IfOk result (λ r. (workers : ℕ) → ReportsText workers (Span budget calling profile schedule) bytes.now (output_of r)) }
+    ensures report { IfOk result (λ r. (workers : ℕ) → ReportsText workers (Span budget calling parts.profile parts.schedule) bytes.now (output_of r)) }
     ensures fault { IfErr result (λ e. StopsFor (FaultyText (wanted_by_run calling) bytes.now) e) }
 {
     let net = net_for(alloc, bytes, calling)?;
-    let report = report_rounds(alloc, &net, budget, profile, schedule);
+    let report = report_rounds(alloc, &net, budget, parts);
     drop(net);
     Ok(report?)
 }
@@ -48,31 +47,25 @@ fn report_rounds(
     alloc: Global,
     net: &Net,
     budget: u32,
-    profile: bool,
-    schedule: bool,
+    parts: RoundParts,
 ) -> Result<Report, AllocError>
     requires runs { Runs net.now }
     requires budget { IsBudget budget }
     ensures { IfOk result (λ r. (calling : Calling) (t : TermTree) → RunsAs calling t net.now →
-        ReportsSpan budget calling profile schedule t (output_of r)) }
+        ReportsSpan budget calling parts.profile parts.schedule t (output_of r)) }
 {
     let made = run_rounds(alloc, net, budget)?;
     let answer = made.answer;
-    let text = rounds_text(alloc, &made, profile, schedule);
+    let text = rounds_text(alloc, &made, parts);
     drop(made);
     Ok(plain(alloc, text?, status_of(answer)))
 }
 
 /// The lines of rounds.
-fn rounds_text(
-    alloc: Global,
-    made: &Rounds,
-    profile: bool,
-    schedule: bool,
-) -> Result<Vec<u8>, AllocError>
+fn rounds_text(alloc: Global, made: &Rounds, parts: RoundParts) -> Result<Vec<u8>, AllocError>
     requires { length made.now.tickets.items < 2 ^ 32 }
     ensures { IfOk result (λ v. v.items ≡ span_report made.now.answer made.now.rounds made.now.tickets.items made.now.profile.items
-        made.now.widest profile schedule) }
+        made.now.widest parts.profile parts.schedule) }
 {
     span_report(
         alloc,
@@ -81,7 +74,6 @@ fn rounds_text(
         &made.tickets,
         &made.profile,
         made.widest,
-        profile,
-        schedule,
+        parts,
     )
 }
