@@ -18,11 +18,8 @@ use Rattle.move_rules.specs.Table.{or_else}
 use Rattle.move_rules.specs.Moves.{Move, solo, fork, join, answer, stay}
 use Rattle.interleave_laws.specs.States.{Tokens, Entries, other, set_token, set_entry, State, act, fork_on, last_on, join_on}
 use Rattle.interleave_laws.proofs.Effects.{push_some, push_none}
+use Rattle.interleave_laws.proofs.Others.{some_state}
 use Rattle.branch_laws.specs.Branches.{name, grafted_tokens, grafted_entries, grafted}
-
--- of one option
-pub some_state : (S T : State) → Some S ≡ Some T → S ≡ T
-some_state S T h = cc
 
 module _ (f : Tokens) (i n : ℕ) (below : i < n) where
   -- what a branch has at a ticket stands under its name

@@ -22,7 +22,8 @@ use Rattle.interleave_laws.proofs.Reached.{Starts, ends, made_of, does_step, Acc
 use Rattle.interleave_laws.proofs.Running.{starts_of, low, run_append}
 use Rattle.branch_laws.specs.Branches.{start_at, name, grafted_tokens, grafted}
 use Rattle.branch_laws.specs.Laws.{Branched}
-use Rattle.branch_laws.proofs.Grafting.{some_state, graft_at, Fits, HasAct, act_grafts}
+use Rattle.interleave_laws.proofs.Others.{some_state}
+use Rattle.branch_laws.proofs.Grafting.{graft_at, Fits, HasAct, act_grafts}
 
 -- the whole run is the branch on its start's question
 pub start_branch : (p : Place) → start p ≡ start_at (ask p)

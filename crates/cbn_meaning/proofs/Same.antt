@@ -9,7 +9,7 @@ use Rattle.cbn_meaning.specs.Meaning.{Res, value, closure, paired}
 use Rattle.cbn_meaning.specs.Derivations.{Ev, ev_num, ev_lam, ev_succ, ev_pred, ev_binary, ev_ifz, ev_fix, ev_app, ev_pair, ev_proj}
 use Rattle.cbn_meaning.proofs.Derived.{succ_inv, pred_inv, binary_inv, ifz_inv, fix_inv, app_inv, proj_inv}
 
-same_value : {v w : Val} → value v ≡ value w → v ≡ w
+pub same_value : {v w : Val} → value v ≡ value w → v ≡ w
 same_value e = cc
 
 same_closure : {a b : TyTree} {m n : TermTree} → closure a m ≡ closure b n → m ≡ n

@@ -28,8 +28,8 @@ use Rattle.circuit_core.specs.CircuitLaws as shown
 use Rattle.circuit_core.specs.CircuitLaws.{Holds, IsAnswered}
 use Rattle.circuit_core.specs.Enough.{RunFits}
 use Rattle.circuit_core.proofs.Bits.{box_bits_tell, work_bits_tell}
-use Rattle.circuit_core.proofs.Circuit.{loads, channel_is, cycle, at_power, not_full, none_some}
-use Rattle.circuit_core.proofs.Processor.{shows}
+use Rattle.circuit_core.proofs.Circuit.{loads, channel_is, cycle, at_power, not_full}
+use Rattle.circuit_core.proofs.Processor.{shows, none_some}
 use Rattle.circuit_core.proofs.Enough.{enough}
 use Rattle.cell_core.specs.Cells.{Pointer, Cell, Store, AllStand, Stacks, Shows, Made, row_on, after, new_cell, more}
 use Rattle.cell_core.specs.CellLaws.{RowShows}

@@ -25,8 +25,8 @@ use Rattle.circuit_core.specs.CircuitLaws as shown
 use Rattle.circuit_core.specs.CircuitLaws.{Holds}
 use Rattle.circuit_core.specs.Enough.{RunFits}
 use Rattle.circuit_core.proofs.Rows.{law}
-use Rattle.circuit_core.proofs.Circuit.{channel_is, cycle, at_power, not_full, none_some}
-use Rattle.circuit_core.proofs.Processor.{fitting}
+use Rattle.circuit_core.proofs.Circuit.{channel_is, cycle, at_power, not_full}
+use Rattle.circuit_core.proofs.Processor.{fitting, none_some}
 use Rattle.circuit_core.proofs.Enough.{enough}
 use Rattle.cell_core.specs.Cells.{Cell, Store, Stacks, Shows, Made, row_on, after, new_cell, more}
 use Rattle.cell_core.specs.CellLaws.{RowShows}

@@ -26,13 +26,11 @@ use Rattle.cell_core.specs.Circuit.{CellToken, CellCircuit}
 use Rattle.cell_core.specs.CircuitLaws.{IsToken, IsLive, Has, CellsShow}
 use Rattle.cell_core.specs.Depths.{OfWire, Placed, MoveKeeps, Bounded}
 use Rattle.cell_core.proofs.Typed.{in_at, depths_kept}
+use Rattle.circuit_core.proofs.Processor.{none_some}
 use Rattle.cell_core.proofs.Depths.{depths_bounded}
 
 is_one : {A : Type 0} (a b : A) → Some a ≡ Some b → a ≡ b
 is_one a b h = cc
-
-none_some : {A : Type 0} (a : A) → None ≡ Some a → ⊥
-none_some a h = cc
 
 module _ (net : NetTree) where
   abbrev AllPlaced : Tokens → Type 0

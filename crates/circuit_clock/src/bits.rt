@@ -15,15 +15,15 @@ struct Group<'a> {
 
 /// The group that begins with two bits.
 #[tactic(auto, using(crate::proofs::Spans::two_bits))]
-fn third(due: usize, first: bool, second: bool, after: &[bool]) -> Group
+fn third(due: usize, two: (bool, bool), after: &[bool]) -> Group
     requires some { 0 < due }
     requires few { due < 2 ^ 64 - 1 }
-    ensures span { result.bits + span result.due result.after.now ≡ span due (first ∷ second ∷ after.now) }
+    ensures span { result.bits + span result.due result.after.now ≡ span due (two.0 ∷ two.1 ∷ after.now) }
     ensures within { result.bits + length result.after.now ≤ 2 + length after.now }
     ensures due { result.due < due + result.bits }
     ensures bits { 2 ≤ result.bits }
 {
-    match (first, second) {
+    match (two.0, two.1) {
         (false, false) => Group {
             bits: 2,
             due: due - 1,
@@ -60,7 +60,7 @@ fn second(due: usize, first: bool, rest: &[bool]) -> Group
     ensures bits { 1 ≤ result.bits }
 {
     match rest {
-        [second, after @ ..] => third(due, first, *second, after),
+        [second, after @ ..] => third(due, (first, *second), after),
         [] => Group {
             bits: 1,
             due: 0,

@@ -31,7 +31,7 @@ use Rattle.circuit_core.specs.Circuit.{shifted, split, arrive, compare, operate,
 use Rattle.circuit_core.specs.CircuitLaws.{Bears, StandsAt, IsToken, IsLive, IsQuestion, IsQueue, IsAnswered, IsFork, Holds, CircuitShows}
 use Rattle.circuit_core.proofs.Bits.{bit_rows, box_bits_tell, bits_same}
 use Rattle.circuit_core.proofs.Forks.{kept_at, closed_at}
-use Rattle.circuit_core.proofs.Processor.{shows}
+use Rattle.circuit_core.proofs.Processor.{shows, none_some}
 
 -- all but the token
 pub record Rest (R : Registers) (C : Circuit) : Type 0 where
@@ -49,9 +49,6 @@ Along R C = (C.full ≡ true) ⊎ Holds R C
 
 pub not_full : {A : Type 0} → true ≡ false → A
 not_full h = absurd cc
-
-pub none_some : {A : Type 0} (a : A) → None ≡ Some a → ⊥
-none_some a h = cc
 
 -- a token at a channel with both stacks
 stands : (k : Token) (c : Channel) (m : Work) (t : Boxes) → Bears k c m t → StandsAt (at c m t) k

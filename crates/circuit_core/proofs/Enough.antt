@@ -41,10 +41,10 @@ use Rattle.circuit_core.proofs.Rows.{law}
 use Rattle.circuit_core.proofs.Bits.{box_bits_tell}
 use Rattle.circuit_core.proofs.Ring.{Chain, Order, chain_none}
 use Rattle.circuit_core.proofs.Forks.{Once, closed_at, closed_once, closed_length, closed_gone}
-use Rattle.circuit_core.proofs.Processor.{Fits, fitting}
+use Rattle.circuit_core.proofs.Processor.{Fits, fitting, none_some}
 use Rattle.circuit_core.proofs.Nesting.{Inner, in_root, in_fork, Opened, inner_one, open_alike, solo_inner, fork_inner, join_inner}
 use Rattle.circuit_core.proofs.Nesting.{token_open, fork_open}
-use Rattle.circuit_core.proofs.Circuit.{Rest, not_full, none_some, set_cases, free_is, same_slot, shifted_there, loads, other_key}
+use Rattle.circuit_core.proofs.Circuit.{Rest, not_full, set_cases, free_is, same_slot, shifted_there, loads, other_key}
 use Rattle.circuit_core.proofs.Circuit.{channel_is, cycle, at_power}
 
 -- how many slots below n are taken

@@ -21,7 +21,8 @@ use Rattle.move_rules.specs.Moves.{Look, dead, constant, pass, one, test, two, l
 use Rattle.interleave_laws.specs.Start.{start_of}
 use Rattle.interleave_laws.specs.States.{State, Entries}
 use Rattle.interleave_laws.specs.Runs.{LeadsTo}
-use Rattle.interleave_laws.proofs.Parents.{parent, turned_twice, Child, known}
+use Rattle.move_rules.proofs.Rows.{turned_twice}
+use Rattle.interleave_laws.proofs.Parents.{parent, Child, known}
 use Rattle.interleave_laws.proofs.Tree.{Tree, asking, coming, kept, passed, applied, tested, chosen, forked, Valid, token_in, status}
 use Rattle.interleave_laws.proofs.Tree.{entry_in}
 use Rattle.interleave_laws.proofs.Reached.{Starts, top, ends, Accounted, reached}

@@ -14,7 +14,7 @@ use Rattle.adequacy_laws.specs.Questions.{Length}
 use Rattle.adequacy_laws.proofs.Agreeing.{agrees}
 use Rattle.circuit_core.specs.Processor.{Registers, tick_on, tick, ticks, reset, ring_at, token_at}
 use Rattle.circuit_core.specs.Enough.{TokenFits, Sized, RunFits, bits_of, bits_peak, forks_peak}
-use Rattle.circuit_core.proofs.Processor.{Fits, fitting, idle_ticks}
+use Rattle.circuit_core.proofs.Processor.{Fits, fitting, idle_ticks, none_some}
 
 -- so many ticks and so many more
 ticks_more : (net : NetTree) (a b c : ℕ) (R : Registers) → c ≡ a + b → ticks net c R ≡ ticks net b (ticks net a R)
@@ -37,9 +37,6 @@ forks_within net (suc k) (suc j) R l = let h = forks_within net k j (tick net R)
 token_fits : (N : ℕ) (c : Option (ℕ × TokenTree)) → bits_of c ≤ N → TokenFits N c
 token_fits N None l = tt
 token_fits N (Some c) l = (omega arith, omega arith)
-
-none_some : {A : Type 0} (a : A) → None ≡ Some a → ⊥
-none_some a h = cc
 
 -- once the length is reached, no token is left
 rests : (net : NetTree) → Runs net → (v : Val) (n : ℕ) → Length net v n →

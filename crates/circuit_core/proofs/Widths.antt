@@ -14,7 +14,8 @@ use Rattle.circuit_core.specs.Bits.{bit_row, BitPlace, over, same_bits}
 use Rattle.circuit_core.specs.Circuit.{Token, Question, Slot, Circuit, free_from, stuck, goes, next_token, later, shifted, split, arrive}
 use Rattle.circuit_core.specs.Circuit.{compare, operate, operate_on, clock_on, clock, clocks, powered, circuit}
 use Rattle.circuit_core.specs.Widths.{IsNumber, TokenWidth, QueueWidth, SlotWidth, Widths}
-use Rattle.circuit_core.proofs.Circuit.{set_cases, same_slot, none_some}
+use Rattle.circuit_core.proofs.Circuit.{set_cases, same_slot}
+use Rattle.circuit_core.proofs.Processor.{none_some}
 use Rattle.circuit_core.proofs.Enough.{free_low}
 
 module _ (N E : ℕ) where

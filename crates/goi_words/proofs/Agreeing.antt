@@ -26,6 +26,7 @@ use Rattle.goi_words.proofs.Ready.{IsOwn, IsReady, IsSameAt, IsSameFor, IsThere,
 use Rattle.goi_words.proofs.Rows.{default_row, given, row_after, row_at}
 use Rattle.goi_words.proofs.Settings.{IsKnown, choice_named, known_in, number_at, row_named, set_at, set_row}
 use Rattle.goi_words.proofs.Settings.{value_row}
+use Rattle.goi_words.proofs.Walks.{same_text}
 use Rattle.goi_words.proofs.Wide.{wide_numbers}
 
 -- a number of 32 bits that stands in the row of an argument with a range
@@ -262,10 +263,6 @@ all_found good test (y ∷ ys) x all is = go (good y) (test y) refl all is (all_
     go false b e all is rest = cc
     go true true e all is rest = let here : y ≡ x = cc in subst (λ z. good z ≡ true) here e
     go true false e all is rest = rest all is
-
--- a text is equal to itself
-same_text : (t : Text) → bytes_eq t t ≡ true
-same_text t = (bytes_eq-Decides t t).1 refl
 
 module _ (sh : Shape) (os : List Operand) (cs : List Choice) (known : AllByRecursion (IsKnown sh os cs) cs) where
   -- no option is called as an operand

@@ -27,7 +27,7 @@ use Rattle.goi_words.specs.Commands.{Choice, CommandRow, Operand, a_number, a_te
 use Rattle.goi_words.specs.Commands.{operand_rule, some_numbers, switch}
 use Rattle.clap.specs.declared.error.kind.ErrorKind.TheVariants as kind
 use Rattle.goi_words.specs.Asked.{findings, job_on, number_in, number_of, numbers_of, text_of, wide_numbers_in}
-use Rattle.goi_words.proofs.Found.{AreSound, AreTame, IsSound, IsTame, none_else, settled_sound, values_sound, walk_sound}
+use Rattle.goi_words.proofs.Found.{AreSound, AreTame, IsSound, IsTame, none_else, one_rule, settled_sound, values_sound, walk_sound}
 use Rattle.goi_words.proofs.Numbers.{reads_itself}
 use Rattle.goi_words.proofs.Operands.{ArePlaced, rule_at}
 use Rattle.goi_words.proofs.Ready.{HasJob, IsFoundAt, IsFoundFor, IsReady, IsThere, cleanly, knows, leaf}
@@ -255,10 +255,6 @@ numbers_tame c i name own = record { own = own; replaces = λ values rows. refl;
     valued again (v ∷ vs) rows clean =
         let parts = none_else (range_kinds 1 usize_max (length (v ∷ vs))) _ clean in
         (v, vs, refl, all_passed (rule_at i (some_numbers name)) (v ∷ vs) (none_else (repeat_fault again name rows) _ parts.1).1)
-
--- an id has one argument
-one_rule : (x y : Rule) → Some x ≡ Some y → x ≡ y
-one_rule x y e = cc
 
 -- all texts that are found for the numbers spell some
 numbers_found : (c : List Rule) (i : ℕ) (name : Text) (rows : List Row) → arg_by_id c name ≡ Some (rule_at i (some_numbers name))

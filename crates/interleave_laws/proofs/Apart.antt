@@ -13,7 +13,8 @@ use Rattle.net_build.specs.Sound.{Sound}
 use Rattle.move_rules.specs.Places.{Place, up, down, turned, TokenTree, ask, ans}
 use Rattle.move_rules.specs.Table.{on_found, plain_up, plain_down, or_else}
 use Rattle.move_rules.specs.Moves.{dead, pass, one, test, two, pass_at, look_up, look}
-use Rattle.interleave_laws.proofs.Parents.{turned_twice, branch_parent, parent, above_operand, turned_option, Fork, known}
+use Rattle.move_rules.proofs.Rows.{turned_twice}
+use Rattle.interleave_laws.proofs.Parents.{branch_parent, parent, above_operand, turned_option, Fork, known}
 use Rattle.interleave_laws.proofs.Tree.{Tree, asking, coming, kept, passed, applied, tested, chosen, forked, Open, Valid, token_in}
 use Rattle.interleave_laws.proofs.Tree.{ancestor}
 use Rattle.interleave_laws.proofs.Below.{ancestor_snoc, not_both, Rooted, rooted_down}

@@ -24,7 +24,7 @@ past : (f : Tokens) (i : ℕ) (x : Option TokenTree) (j : ℕ) → (j ≡ i → 
 past f i x j d = ap (λ b. cond b x (f j)) (ne_eqb j i d)
 
 -- of one option
-some_state : (S T : State) → Some S ≡ Some T → S ≡ T
+pub some_state : (S T : State) → Some S ≡ Some T → S ≡ T
 some_state S T h = cc
 
 -- a fork

@@ -20,7 +20,8 @@ use Rattle.interleave_laws.specs.States.{State, step, then_run, run}
 use Rattle.interleave_laws.specs.Runs.{Runs, LeadsTo}
 use Rattle.interleave_laws.specs.Start.{root_wire, start_of}
 use Rattle.interleave_laws.proofs.Below.{no_ticket}
-use Rattle.interleave_laws.proofs.Parents.{turned_twice, parent}
+use Rattle.move_rules.proofs.Rows.{turned_twice}
+use Rattle.interleave_laws.proofs.Parents.{parent}
 use Rattle.interleave_laws.proofs.Tree.{Tree, asking, coming, kept, passed, applied, tested, chosen, forked, Gives, by_number, by_pass}
 use Rattle.interleave_laws.proofs.Tree.{by_one, by_test, by_two, Valid, token_in, and_then, ancestor}
 use Rattle.interleave_laws.proofs.Reached.{Starts, top, Accounted, reached}

@@ -310,7 +310,8 @@ module _ (net : NetTree) (sound : Sound net) where
       let (f, _, a) = below_faced net sound w i n e in
       (n, f, down_row n w m t q a g)
 
-turned_twice : (p : Place) → turned (turned p) ≡ p
+-- turned twice is as before
+pub turned_twice : (p : Place) → turned (turned p) ≡ p
 turned_twice (up w m t) = refl
 turned_twice (down w m t) = refl
 

@@ -18,7 +18,8 @@ use Rattle.move_rules.specs.Places.{Place, up, down, turned, TokenTree, ask, ans
 use Rattle.move_rules.specs.Moves.{Look, dead, constant, pass, one, test, two, look, Move, solo, fork, join, answer, stay, ask_move, move}
 use Rattle.interleave_laws.specs.Start.{start_of}
 use Rattle.interleave_laws.specs.States.{other}
-use Rattle.interleave_laws.proofs.Parents.{turned_twice, known, key_place}
+use Rattle.move_rules.proofs.Rows.{turned_twice}
+use Rattle.interleave_laws.proofs.Parents.{known, key_place}
 use Rattle.interleave_laws.proofs.Reached.{ends}
 use Rattle.interleave_laws.proofs.Running.{starts_of}
 use Rattle.round_laws.proofs.Takes.{Takes, of_number, of_pass, of_one, of_test, of_two}

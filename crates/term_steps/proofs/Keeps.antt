@@ -10,7 +10,7 @@ use Rattle.cbn_meaning.specs.Meaning.{value, Means}
 use Rattle.cbn_meaning.specs.HeadSteps.{Head}
 use Rattle.cbn_meaning.specs.Derivations.{Ev, ev_num, ev_succ, ev_pred, ev_binary, ev_ifz, HasEv, Steps}
 use Rattle.cbn_meaning.proofs.Derived.{binary_inv, ifz_inv, ev_eval, eval_ev}
-use Rattle.cbn_meaning.proofs.Same.{ev_same}
+use Rattle.cbn_meaning.proofs.Same.{ev_same, same_value}
 use Rattle.cbn_meaning.proofs.Head.{beta, unfold_fix, take_part, succ_steps, pred_steps, app_steps, proj_steps}
 use Rattle.term_steps.specs.Steps.{spelled, spell, step}
 use Rattle.term_steps.specs.Spelled.{on_spelled}
@@ -75,9 +75,6 @@ op_steps : (o : Operator) (a b : TermTree) (v w : Val) → spelled a ≡ Some v 
     Steps (binary o a b) (spell (val_op o v w))
 op_steps o a b v w g h = value_steps (binary o a b) (spell (val_op o v w)) (val_op o v w) (suc (extent v + extent w))
     (extent (val_op o v w)) (ev_binary (spelled_ev a v g) (spelled_ev b w h)) (spell_ev (val_op o v w)) (op_extent (val_op o v w) v w)
-
-same_value : {v w : Val} → value v ≡ value w → v ≡ w
-same_value e = cc
 
 branch_steps : (c p q : TermTree) (v : Val) → spelled c ≡ Some v → Steps (ifz c p q) (at_zero v p q)
 branch_steps c p q v g = record {

@@ -89,7 +89,12 @@ fn meet_apart(
 }
 
 /// The same of two nodes, and box stacks with a box or none; whether the first key is the lower one.
-fn met(alloc: Global, a: u32, s: bool, b: u32, t: bool, lower: bool) -> Result<bool, AllocError> {
+fn met(
+    alloc: Global,
+    (a, s): (u32, bool),
+    (b, t): (u32, bool),
+    lower: bool,
+) -> Result<bool, AllocError> {
     let first = opened(alloc, s)?;
     let second = opened(alloc, t)?;
     let mut table = JoinTable::new(alloc);
@@ -109,7 +114,7 @@ fn forks_meet_by_node_and_box_stack(rt: HostRuntime) -> Result<(), Fail> {
         (3, true, 4, false, true),
     ];
     for (a, s, b, t, lower) in cases {
-        assert!(rt; met(rt.alloc(), a, s, b, t, lower)?);
+        assert!(rt; met(rt.alloc(), (a, s), (b, t), lower)?);
     }
     Ok(())
 }
