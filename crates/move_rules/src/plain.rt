@@ -12,6 +12,7 @@ use pcf_values::Side;
 use std::alloc::AllocError;
 
 /// A function: `R` leads up to the body, and `L` with a signature to the variable; both lead back.
+#[inline(always)]
 pub(crate) fn lam_moves(token: &mut Token, b: u32, x: u32, w: u32) -> Result<bool, AllocError>
     ensures ok { IfOk result (λ made. Goes (plain_at (Lam b x w)) token.old made token.new) }
     ensures err { OnErr result (token.new ≡ token.old) }
@@ -40,6 +41,7 @@ pub(crate) fn lam_moves(token: &mut Token, b: u32, x: u32, w: u32) -> Result<boo
 }
 
 /// An application: up to the function with `R`; from the function out, or to the argument; from the argument back to the function.
+#[inline(always)]
 pub(crate) fn app_moves(token: &mut Token, f: u32, a: u32, w: u32) -> Result<bool, AllocError>
     ensures ok { IfOk result (λ made. Goes (plain_at (App f a w)) token.old made token.new) }
     ensures err { OnErr result (token.new ≡ token.old) }
@@ -69,6 +71,7 @@ pub(crate) fn app_moves(token: &mut Token, f: u32, a: u32, w: u32) -> Result<boo
 }
 
 /// A box: into it with the signature on the top of the work stack, and out with the one on the top of the box stack.
+#[inline(always)]
 pub(crate) fn box_moves(token: &mut Token, i: u32, o: u32) -> Result<bool, AllocError>
     ensures ok { IfOk result (λ made. Goes (plain_at (BoxNode i o)) token.old made token.new) }
     ensures err { OnErr result (token.new ≡ token.old) }
@@ -86,6 +89,7 @@ pub(crate) fn box_moves(token: &mut Token, i: u32, o: u32) -> Result<bool, Alloc
 }
 
 /// A door: out of a box by a free variable, with both signatures paired, and in again.
+#[inline(always)]
 pub(crate) fn door_moves(token: &mut Token, i: u32, o: u32) -> Result<bool, AllocError>
     ensures ok { IfOk result (λ made. Goes (plain_at (Door i o)) token.old made token.new) }
     ensures err { OnErr result (token.new ≡ token.old) }
@@ -103,6 +107,7 @@ pub(crate) fn door_moves(token: &mut Token, i: u32, o: u32) -> Result<bool, Allo
 }
 
 /// A dereliction: down to the variable with a star, and back without it.
+#[inline(always)]
 pub(crate) fn der_moves(token: &mut Token, w: u32, x: u32) -> Result<bool, AllocError>
     ensures ok { IfOk result (λ made. Goes (plain_at (Der w x)) token.old made token.new) }
     ensures err { OnErr result (token.new ≡ token.old) }
@@ -125,6 +130,7 @@ pub(crate) fn der_moves(token: &mut Token, w: u32, x: u32) -> Result<bool, Alloc
 }
 
 /// A contraction: down with the mark of a side, and up to the side of the mark.
+#[inline(always)]
 pub(crate) fn con_moves(token: &mut Token, l: u32, r: u32, w: u32) -> Result<bool, AllocError>
     ensures ok { IfOk result (λ made. Goes (plain_at (Con l r w)) token.old made token.new) }
     ensures err { OnErr result (token.new ≡ token.old) }
@@ -152,6 +158,7 @@ pub(crate) fn con_moves(token: &mut Token, l: u32, r: u32, w: u32) -> Result<boo
 }
 
 /// A fixed point: into the body from outside or by a call from inside, and back to where the call came from.
+#[inline(always)]
 pub(crate) fn fix_moves(token: &mut Token, b: u32, x: u32, w: u32) -> Result<bool, AllocError>
     ensures ok { IfOk result (λ made. Goes (plain_at (FixBox b x w)) token.old made token.new) }
     ensures err { OnErr result (token.new ≡ token.old) }
