@@ -250,6 +250,7 @@ impl Stacks {
     /// # Errors
     ///
     /// Only where memory runs out; then the stacks stay.
+    #[inline(always)]
     pub fn box_in(&mut self) -> Result<bool, AllocError>
         ensures ok { IfOk result (λ made. Follows into_box self.old made self.new) }
         ensures err { OnErr result (self.new ≡ self.old) }
@@ -270,6 +271,7 @@ impl Stacks {
     /// # Errors
     ///
     /// Only where memory runs out; then the stacks stay.
+    #[inline(always)]
     pub fn box_out(&mut self) -> Result<bool, AllocError>
         ensures ok { IfOk result (λ made. Follows out_of_box self.old made self.new) }
         ensures err { OnErr result (self.new ≡ self.old) }
@@ -290,6 +292,7 @@ impl Stacks {
     /// # Errors
     ///
     /// Only where memory runs out; then the stacks stay.
+    #[inline(always)]
     pub fn door_out(&mut self) -> Result<bool, AllocError>
         ensures ok { IfOk result (λ made. Follows out_of_door self.old made self.new) }
         ensures err { OnErr result (self.new ≡ self.old) }
@@ -322,6 +325,7 @@ impl Stacks {
     /// # Errors
     ///
     /// Only where memory runs out; then the stacks stay.
+    #[inline(always)]
     pub fn door_in(&mut self) -> Result<bool, AllocError>
         ensures ok { IfOk result (λ made. Follows into_door self.old made self.new) }
         ensures err { OnErr result (self.new ≡ self.old) }
@@ -351,6 +355,7 @@ impl Stacks {
     /// # Errors
     ///
     /// Only where memory runs out; then the stacks stay.
+    #[inline(always)]
     pub fn fix_in(&mut self) -> Result<(), AllocError>
         ensures ok { OnOk result (self.new ≡ load self.old.work (star ∷ self.old.boxes)) }
         ensures err { OnErr result (self.new ≡ self.old) }
@@ -363,6 +368,7 @@ impl Stacks {
     }
 
     /// `m` at `*.t` becomes `m` at `t`.
+    #[inline(always)]
     pub fn fix_out(&mut self) -> bool
         ensures { Follows out_of_fix self.old result self.new }
     {
@@ -385,6 +391,7 @@ impl Stacks {
     /// # Errors
     ///
     /// Only where memory runs out; then the stacks stay.
+    #[inline(always)]
     pub fn again_in(&mut self) -> Result<bool, AllocError>
         ensures ok { IfOk result (λ made. Follows into_again self.old made self.new) }
         ensures err { OnErr result (self.new ≡ self.old) }
@@ -415,6 +422,7 @@ impl Stacks {
     /// # Errors
     ///
     /// Only where memory runs out; then the stacks stay.
+    #[inline(always)]
     pub fn again_out(&mut self) -> Result<bool, AllocError>
         ensures ok { IfOk result (λ made. Follows out_of_again self.old made self.new) }
         ensures err { OnErr result (self.new ≡ self.old) }

@@ -24,6 +24,7 @@ pub(crate) const SYMBOL_L: u64 = 6;
 pub(crate) const SIGNATURE: u64 = 7;
 
 /// Adds a piece, for which there is room.
+#[inline(always)]
 fn add_piece(words: &mut Vec<u64>, piece: &[u64])
     requires { vec_len words.old + length piece.now ≤ vec_capacity words.old }
     ensures items { words.new.items ≡ words.old.items ++ piece.now }
@@ -41,6 +42,7 @@ fn add_piece(words: &mut Vec<u64>, piece: &[u64])
 }
 
 /// Adds few words, for which there is room, one by one.
+#[inline(always)]
 fn add_ends(words: &mut Vec<u64>, ends: &[u64])
     requires { vec_len words.old + length ends.now ≤ vec_capacity words.old }
     ensures { words.new.items ≡ words.old.items ++ ends.now }
@@ -51,6 +53,7 @@ fn add_ends(words: &mut Vec<u64>, ends: &[u64])
 }
 
 /// Adds both pieces at the end, or neither. The second is short: the ends of a signature.
+#[inline(always)]
 pub(crate) fn append(words: &mut Vec<u64>, piece: &[u64], tail: &[u64]) -> Result<(), AllocError>
     ensures ok { OnOk result (words.new.items ≡ words.old.items ++ (piece.now ++ tail.now)) }
     ensures err { OnErr result (words.new.items ≡ words.old.items) }
