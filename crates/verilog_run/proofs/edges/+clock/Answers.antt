@@ -1,0 +1,11 @@
+use Rattle.verilog_tree.specs.Views.{item_of}
+use Rattle.verilog_run.specs.Held.{held}
+use Rattle.verilog_run.specs.Scopes.{scope_of}
+use Rattle.verilog_run.proofs.Stepping.{clock_more}
+use Rattle.verilog_run.proofs.edges.+clock.Goals as goal
+
+pub returns-in_ok-clock-in-len1-up : goal.returns-in_ok-clock-in-len1-up
+returns-in_ok-clock-in-len1-up t c =
+    clock_more item_of (scope_of c.args.declared.now) c.args.items.now c.first-item.result (held c.args.read.now)
+    (held c.args.store.now) _ _
+    c.in-len1-up.len_at_least c.first-item.is c.in_ok-clock_one-in-len1-up.ensures c.in_ok-clock-in-len1-up.ensures

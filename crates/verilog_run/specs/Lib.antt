@@ -1,0 +1,12 @@
+-- What the contents of a module are, as a store of the meaning.
+pub mod Held
+-- So many edges.
+pub mod Clocking
+-- What a list of cells holds.
+pub mod Entries
+-- What a part of a module sees of its declarations.
+pub mod Scopes
+-- The numbers of parameters.
+pub mod Parameters
+-- Parts of the meaning that private functions speak of.
+pub mod Parts
