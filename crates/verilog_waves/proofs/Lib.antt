@@ -1,0 +1,6 @@
+-- codes tell apart what they stand for, and values tell their numbers
+mod Apart
+-- texts that are appended one by one
+mod Appending
+-- edges of a run, and where it ends
+mod Going

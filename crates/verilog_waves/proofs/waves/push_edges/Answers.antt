@@ -1,0 +1,31 @@
+use Rattle.std.proofs.Common.{◌≡◌, ◌∙◌, ◌++◌, true, map, ap, sym, arith, add-one}
+use Rattle.verilog_tree.specs.Views.{item_of}
+use Rattle.verilog_run.specs.Held.{held}
+use Rattle.verilog_waves.specs.Course.{before}
+use Rattle.verilog_waves.specs.Dump.{edges_text}
+use Rattle.verilog_waves.specs.Views.{shown_of}
+use Rattle.verilog_waves.proofs.Going.{goes_more, state_more, text_more}
+use Rattle.verilog_waves.proofs.waves.push_edges.Goals as goal
+
+pub loop-k-preserved : goal.loop-k-preserved
+loop-k-preserved c =
+    let is = map item_of c.args.items.now in
+    let vs = map shown_of c.args.names.now in
+    let t = c.args.text.now.items in
+    let k = c.loop-k.k in
+    let on : c.in_ok-found.on ≡ true = c.if-not-on.false in (
+      state_more is k (held c.loop-k.seen) (held c.in_ok-found.found) c.loop-k.invariant.0 c.in_ok-found.ensures.state,
+      goes_more is k (held c.loop-k.seen) c.in_ok-found.on c.loop-k.invariant.0 c.in_ok-found.ensures.goes on c.loop-k.invariant.1,
+      text_more vs is k (held c.loop-k.seen) t c.loop-k.text.items c.push_step.new.text.items c.loop-k.invariant.0 c.loop-k.invariant.2
+          c.in_ok-found.ensures.text
+          ∙ ap (λ n. t ++ edges_text vs is n) (sym (add-one k)),
+    )
+
+pub returns-clause-text : goal.returns-clause-text
+returns-clause-text c =
+    let is = map item_of c.args.items.now in
+    let vs = map shown_of c.args.names.now in
+    let t = c.args.text.now.items in
+    let q : c.loop-k.k ≡ c.args.cycles = omega arith in
+    text_more vs is c.args.cycles (held c.loop-k.seen) t c.loop-k.text.items c.push_step-2.new.text.items
+    (c.loop-k.invariant.0 ∙ ap (before is) q) (c.loop-k.invariant.2 ∙ ap (λ n. t ++ edges_text vs is n) q) c.in_ok-push_step.ensures.text
