@@ -1,0 +1,2 @@
+-- parts of a module's tree
+pub mod Parts

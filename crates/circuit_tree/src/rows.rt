@@ -1,0 +1,255 @@
+//! The case of each row.
+
+ghost use Rattle.std.specs.Prelude.{◌≡◌, ◌<◌, ◌^◌, ◌-◌, [], ◌∷◌, ℕ, IfOk, length, map};
+ghost use Rattle.std.specs.Option.{option_map};
+ghost use Rattle.circuit_core.specs.Rows.{number, row_of};
+ghost use Rattle.circuit_module.specs.Fixed.{set};
+ghost use Rattle.circuit_module.specs.Module.{join_name, to_one, to_two, row_stmt, place_said, row_arm, row_arms};
+ghost use Rattle.circuit_rows.specs.Views.{channel_of, row_view, found_of};
+ghost use Rattle.verilog_tree.specs.Names.{text_of};
+ghost use Rattle.circuit_tree.specs.Parts.{operation_stmt, constant_stmt, way_text, wire_arms, no_rows};
+ghost use Rattle.verilog_tree.specs.Tree.{seq, sized, arm, num};
+ghost use Rattle.verilog_tree.specs.Views.{arms_of, expr_of, said_of, stmt_of};
+
+use bumpalo::Bump;
+use circuit_rows::{Channel, Found, Row, row_of};
+use net_build::Net;
+use pcf_values::{Operator, Side};
+use std::alloc::AllocError;
+use verilog_arena::{put_arms, put_statement};
+use verilog_tree::{Cases, Expression, Place, Remark, Statement};
+
+/// x = e
+fn put_set<'a>(
+    bump: &'a Bump,
+    name: &'a [u8],
+    e: Expression<'a>,
+) -> Result<&'a Statement<'a>, AllocError>
+    ensures { IfOk result (λ r. stmt_of r.now ≡ set (text_of name.now) (expr_of e.entry)) }
+{
+    put_statement(bump, Statement::Put(Place::Whole(name), e))
+}
+
+/// The number of a channel.
+pub(crate) fn number_of(channel: Channel) -> u64
+    ensures { result ≡ number (channel_of channel) }
+{
+    if channel.up {
+        2 * u64::from(channel.wire)
+    } else {
+        2 * u64::from(channel.wire) + 1
+    }
+}
+
+/// The operation.
+fn operation<'a>(bump: &'a Bump, op: &'a [u8]) -> Result<&'a Statement<'a>, AllocError>
+    ensures { IfOk result (λ r. stmt_of r.now ≡ operation_stmt (text_of op.now)) }
+{
+    put_set(bump, b"op", Expression::Constant(op))
+}
+
+/// Where a row sends to.
+fn sent<'a>(bump: &'a Bump, name: &'a [u8], to: Channel) -> Result<&'a Statement<'a>, AllocError>
+    ensures { IfOk result (λ r. stmt_of r.now ≡ set (text_of name.now) (num (number (channel_of to)))) }
+{
+    put_set(bump, name, Expression::Number(number_of(to)))
+}
+
+/// Both, one after the other.
+fn after<'a>(
+    bump: &'a Bump,
+    s: &'a Statement<'a>,
+    t: &'a Statement<'a>,
+) -> Result<&'a Statement<'a>, AllocError>
+    ensures { IfOk result (λ r. stmt_of r.now ≡ seq (stmt_of s.now) (stmt_of t.now)) }
+{
+    put_statement(bump, Statement::Seq(s, t))
+}
+
+/// The operation, and where it sends to.
+fn to_one<'a>(bump: &'a Bump, op: &'a [u8], to: Channel) -> Result<&'a Statement<'a>, AllocError>
+    ensures { IfOk result (λ r. stmt_of r.now ≡ to_one (text_of op.now) (channel_of to)) }
+{
+    let first = operation(bump, op)?;
+    let second = sent(bump, b"to", to)?;
+    after(bump, first, second)
+}
+
+/// The operation, and both channels.
+fn to_two<'a>(
+    bump: &'a Bump,
+    op: &'a [u8],
+    to: Channel,
+    other: Channel,
+) -> Result<&'a Statement<'a>, AllocError>
+    ensures { IfOk result (λ r. stmt_of r.now ≡ to_two (text_of op.now) (channel_of to) (channel_of other)) }
+{
+    let first = operation(bump, op)?;
+    let second = sent(bump, b"to", to)?;
+    let third = sent(bump, b"other", other)?;
+    let rest = after(bump, second, third)?;
+    after(bump, first, rest)
+}
+
+/// What the row of a constant sets.
+fn constant<'a>(bump: &'a Bump, n: u64, to: Channel) -> Result<&'a Statement<'a>, AllocError>
+    ensures { IfOk result (λ r. stmt_of r.now ≡ constant_stmt n (channel_of to)) }
+{
+    let first = operation(bump, b"CONST")?;
+    let second = sent(bump, b"to", to)?;
+    let third = put_set(bump, b"number", Expression::Sized(64, n))?;
+    let rest = after(bump, second, third)?;
+    after(bump, first, rest)
+}
+
+/// What the row of a join sets.
+fn join<'a>(
+    bump: &'a Bump,
+    operator: Operator,
+    side: Side,
+    to: Channel,
+) -> Result<&'a Statement<'a>, AllocError>
+    ensures { IfOk result (λ r. stmt_of r.now ≡ to_one (join_name operator side) (channel_of to)) }
+{
+    match (operator, side) {
+        (Operator::Plus, Side::Left) => to_one(bump, b"PLUSL", to),
+        (Operator::Plus, Side::Right) => to_one(bump, b"PLUSR", to),
+        (Operator::Minus, Side::Left) => to_one(bump, b"MINUSL", to),
+        (Operator::Minus, Side::Right) => to_one(bump, b"MINUSR", to),
+        (Operator::Times, Side::Left) => to_one(bump, b"TIMESL", to),
+        (Operator::Times, Side::Right) => to_one(bump, b"TIMESR", to),
+    }
+}
+
+/// What a row sets.
+fn row_statement<'a>(bump: &'a Bump, row: Row) -> Result<&'a Statement<'a>, AllocError>
+    ensures { IfOk result (λ r. stmt_of r.now ≡ row_stmt (row_view row)) }
+{
+    match row {
+        Row::Go { to } => to_one(bump, b"GO", to),
+        Row::Const { value, to } => constant(bump, value, to),
+        Row::Succ { to } => to_one(bump, b"SUCC", to),
+        Row::Pred { to } => to_one(bump, b"PRED", to),
+        Row::Test { zero, other } => to_two(bump, b"TEST", zero, other),
+        Row::Fork { left, right } => to_two(bump, b"FORK", left, right),
+        Row::Join {
+            operator,
+            side,
+            wire,
+        } => join(bump, operator, side, Channel { wire, up: false }),
+        Row::Answer => operation(bump, b"ANSWER"),
+        Row::Star { to } => to_one(bump, b"STAR", to),
+        Row::Unstar { to } => to_one(bump, b"UNSTAR", to),
+        Row::Left { to } => to_one(bump, b"LEFT", to),
+        Row::Right { to } => to_one(bump, b"RIGHT", to),
+        Row::Con { left, right } => to_two(bump, b"CON", left, right),
+        Row::PushR { to } => to_one(bump, b"PUSHR", to),
+        Row::PushL { to } => to_one(bump, b"PUSHL", to),
+        Row::Select { at_r, at_l } => to_two(bump, b"SELECT", at_r, at_l),
+        Row::Pop { to } => to_one(bump, b"POP", to),
+        Row::BoxIn { to } => to_one(bump, b"BOXIN", to),
+        Row::BoxOut { to } => to_one(bump, b"BOXOUT", to),
+        Row::DoorOut { to } => to_one(bump, b"DOOROUT", to),
+        Row::DoorIn { to } => to_one(bump, b"DOORIN", to),
+        Row::FixIn { to } => to_one(bump, b"FIXIN", to),
+        Row::FixOut { outside, inside } => to_two(bump, b"FIXOUT", outside, inside),
+        Row::FixVar { to } => to_one(bump, b"FIXVAR", to),
+        Row::Dead => operation(bump, b"DEAD"),
+    }
+}
+
+/// Up a wire or down.
+fn way(up: bool) -> &'static [u8]
+    ensures { text_of result.now ≡ way_text up }
+{
+    if up { b"up " } else { b"down " }
+}
+
+/// What is said of a row: its channel by name, and its node.
+fn place_said<'a>(
+    bump: &'a Bump,
+    channel: Channel,
+    node: u32,
+) -> Result<&'a [Remark<'a>], AllocError>
+    ensures { IfOk result (λ r. map said_of r.now ≡ place_said (channel_of channel) node) }
+{
+    let remarks = [
+        Remark::Word(way(channel.up)),
+        Remark::Figure(channel.wire.into()),
+        Remark::Word(b", node "),
+        Remark::Figure(node.into()),
+    ];
+    Ok(bump.try_alloc_slice_copy(&remarks)?)
+}
+
+/// The number of a channel as the one label of a case.
+fn label<'a>(bump: &'a Bump, channel: Channel) -> Result<&'a [Expression<'a>], AllocError>
+    ensures { IfOk result (λ r. map expr_of r.now ≡ num (number (channel_of channel)) ∷ []) }
+{
+    let labels = [Expression::Number(number_of(channel))];
+    Ok(bump.try_alloc_slice_copy(&labels)?)
+}
+
+/// The case of a row that was found, in front of the others.
+fn found_arm<'a>(
+    bump: &'a Bump,
+    channel: Channel,
+    found: Found,
+    rest: &'a Cases<'a>,
+) -> Result<&'a Cases<'a>, AllocError>
+    ensures { IfOk result (λ r. arms_of r.now ≡ row_arm (channel_of channel) (Some (found_of found)) (arms_of rest.now)) }
+{
+    let labels = label(bump, channel)?;
+    let statement = row_statement(bump, found.row)?;
+    let remarks = place_said(bump, channel, found.node)?;
+    put_arms(bump, Cases::Arm(labels, statement, remarks, rest))
+}
+
+/// The case of a channel, where it has a row, in front of the others.
+fn row_arm<'a>(
+    bump: &'a Bump,
+    net: &Net,
+    channel: Channel,
+    rest: &'a Cases<'a>,
+) -> Result<&'a Cases<'a>, AllocError>
+    ensures { IfOk result (λ r. arms_of r.now ≡ row_arm (channel_of channel) (row_of net.now (channel_of channel)) (arms_of rest.now)) }
+{
+    match row_of(net, channel) {
+        Some(found) => found_arm(bump, channel, found, rest),
+        None => Ok(rest),
+    }
+}
+
+/// Both cases of a wire, in front of the others.
+fn wire_arms<'a>(
+    bump: &'a Bump,
+    net: &Net,
+    wire: u32,
+    rest: &'a Cases<'a>,
+) -> Result<&'a Cases<'a>, AllocError>
+    ensures { IfOk result (λ r. arms_of r.now ≡ wire_arms net.now wire (arms_of rest.now)) }
+{
+    let falling = row_arm(bump, net, Channel { wire, up: false }, rest)?;
+    row_arm(bump, net, Channel { wire, up: true }, falling)
+}
+
+/// No case but that of all channels without a row.
+fn no_rows<'a>(bump: &'a Bump) -> Result<&'a Cases<'a>, AllocError>
+    ensures { IfOk result (λ r. arms_of r.now ≡ no_rows) }
+{
+    let nothing = put_statement(bump, Statement::Skip)?;
+    put_arms(bump, Cases::Otherwise(nothing))
+}
+
+/// The cases of all wires.
+pub(crate) fn row_arms<'a>(bump: &'a Bump, net: &Net) -> Result<&'a Cases<'a>, AllocError>
+    ensures { IfOk result (λ r. arms_of r.now ≡ row_arms net.now 0 (length net.now.wires)) }
+{
+    let mut arms = no_rows(bump)?;
+    let mut wire = net.wire_count();
+    while wire > 0 {
+        wire = wire - 1;
+        arms = wire_arms(bump, net, wire, arms)?;
+    }
+    Ok(arms)
+}
