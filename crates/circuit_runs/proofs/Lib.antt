@@ -1,0 +1,6 @@
+-- what a run of a program's module tells
+mod Telling
+-- numbers of two halves, and what registers show
+mod Showing
+-- one edge more
+mod Edges

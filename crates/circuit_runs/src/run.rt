@@ -1,0 +1,168 @@
+//! A run of a net's module.
+
+ghost use Rattle.std.specs.Prelude.{◌≡◌, ◌<◌, ◌≤◌, ◌^◌, ℕ, IfOk, OnOk, IfSome, IfNone, map, nat_eq};
+ghost use Rattle.circuit_module.specs.Module.{module_of};
+ghost use Rattle.circuit_module.specs.Stands.{Small, value_number};
+ghost use Rattle.circuit_runs.specs.Running.{after, Comes, ComesOf, Goes, IsDone, Shows, ShowsLast};
+ghost use Rattle.verilog_tree.specs.Meaning.{edge as edge_of, set_vec};
+ghost use Rattle.verilog_tree.specs.Names.{text_of};
+ghost use Rattle.verilog_tree.specs.Views.{item_of};
+ghost use Rattle.verilog_run.specs.Held.{held, nothing};
+
+use crate::numbers::{small, value_of};
+use crate::outcome::Outcome;
+use bumpalo::Bump;
+use circuit_tree::circuit_items;
+use net_build::Net;
+use pcf_values::Val;
+use std::alloc::{AllocError, Global};
+use verilog_run::{Contents, next_edge};
+use verilog_tree::Item;
+use wide_numbers::Number;
+
+/// One edge with `rst` as told.
+fn edge<'a>(
+    alloc: Global,
+    items: &'a [Item<'a>],
+    store: &mut Contents,
+    rst: u128,
+) -> Result<Contents, AllocError>
+    ensures { IfOk result (λ s. held s ≡ edge_of (map item_of items.now) (set_vec "rst" rst (held store.old))) }
+{
+    let number = Number::of(alloc, rst)?;
+    store.set_vector(alloc, b"rst", number)?;
+    next_edge(alloc, items, store)
+}
+
+/// The edge of the reset, from registers that hold 0.
+fn reset<'a>(alloc: Global, items: &'a [Item<'a>]) -> Result<Contents, AllocError>
+    ensures { IfOk result (λ s. held s ≡ edge_of (map item_of items.now) (set_vec "rst" 1 nothing)) }
+{
+    let mut store = Contents::new(alloc);
+    edge(alloc, items, &mut store, 1)
+}
+
+/// Whether a register is 0.
+fn is_down(alloc: Global, store: &Contents, name: &[u8]) -> Result<bool, AllocError>
+    ensures { IfOk result (λ b. b ≡ nat_eq ((held store.now).vec (text_of name.now)) 0) }
+{
+    let n = store.vector(alloc, name)?;
+    Ok(n.is_zero())
+}
+
+/// What `result` says.
+fn result_of(alloc: Global, store: &Contents) -> Result<Option<Val>, AllocError>
+    ensures some { IfOk result (λ o. IfSome o (λ v. (value_number v ≡ (held store.now).vec "result") × Small v)) }
+    ensures none { IfOk result (λ o. IfNone o (2 ^ 64 < (held store.now).vec "result")) }
+{
+    let n = store.vector(alloc, b"result")?;
+    value_of(alloc, &n)
+}
+
+/// What `moves` says.
+fn moves_of(alloc: Global, store: &Contents) -> Result<Option<u64>, AllocError>
+    ensures some { IfOk result (λ o. IfSome o (λ m. (m ≡ (held store.now).vec "moves") × (m < 2 ^ 64))) }
+    ensures none { IfOk result (λ o. IfNone o (2 ^ 64 ≤ (held store.now).vec "moves")) }
+{
+    let n = store.vector(alloc, b"moves")?;
+    small(alloc, &n)
+}
+
+/// What is told where `done` is up.
+fn ended(alloc: Global, store: &Contents, k: u64) -> Result<Outcome, AllocError>
+    requires { IsDone (held store.now) }
+    ensures { IfOk result (λ o. Shows (held store.now) k o) }
+{
+    match result_of(alloc, store)? {
+        Some(v) => match moves_of(alloc, store)? {
+            Some(m) => Ok(Outcome::Ended(v, m, k)),
+            None => Ok(Outcome::Odd(k)),
+        },
+        None => Ok(Outcome::Odd(k)),
+    }
+}
+
+/// What is told, where `done` or `full` is up.
+fn shown(alloc: Global, store: &Contents, k: u64) -> Result<Option<Outcome>, AllocError>
+    ensures some { IfOk result (λ o. IfSome o (λ p. Shows (held store.now) k p)) }
+    ensures none { IfOk result (λ o. IfNone o (Goes (held store.now))) }
+{
+    let not_full = is_down(alloc, store, b"full")?;
+    if !not_full {
+        return Ok(Some(Outcome::Full(k)));
+    }
+    let not_done = is_down(alloc, store, b"done")?;
+    if not_done {
+        return Ok(None);
+    }
+    let told = ended(alloc, store, k)?;
+    Ok(Some(told))
+}
+
+/// One edge with `rst` at 0.
+fn go_on<'a>(alloc: Global, items: &'a [Item<'a>], store: &mut Contents) -> Result<(), AllocError>
+    ensures { OnOk result (held store.new ≡ edge_of (map item_of items.now) (set_vec "rst" 0 (held store.old))) }
+{
+    *store = edge(alloc, items, store, 0)?;
+    Ok(())
+}
+
+/// What is told after the last edge.
+fn last(alloc: Global, store: &Contents, cycles: u64) -> Result<Outcome, AllocError>
+    ensures { IfOk result (λ o. ShowsLast (held store.now) cycles o) }
+{
+    match shown(alloc, store, cycles)? {
+        Some(told) => Ok(told),
+        None => Ok(Outcome::Waits),
+    }
+}
+
+/// The run of a module's items from the reset on.
+fn run_from<'a>(
+    alloc: Global,
+    items: &'a [Item<'a>],
+    store: &mut Contents,
+    cycles: u64,
+) -> Result<Outcome, AllocError>
+    requires { held store.old ≡ after (map item_of items.now) 0 }
+    ensures { IfOk result (λ o. ComesOf (map item_of items.now) cycles o) }
+{
+    for k in 0..cycles {
+        match shown(alloc, store, k)? {
+            Some(told) => return Ok(told),
+            None => go_on(alloc, items, store)?,
+        }
+    }
+    let told = last(alloc, store, cycles)?;
+    Ok(told)
+}
+
+/// The run of a module's items.
+fn run_items<'a>(alloc: Global, items: &'a [Item<'a>], cycles: u64) -> Result<Outcome, AllocError>
+    ensures { IfOk result (λ o. ComesOf (map item_of items.now) cycles o) }
+{
+    let mut store = reset(alloc, items)?;
+    let told = run_from(alloc, items, &mut store, cycles);
+    drop(store);
+    told
+}
+
+/// What a run of a net's circuit comes to, with stacks of so many bits and so many forks, within so many edges after its reset.
+///
+/// # Errors
+///
+/// `AllocError` where there is no memory for the module or for what it holds.
+pub fn run_circuit(
+    alloc: Global,
+    net: &Net,
+    stack: u32,
+    forks: u32,
+    cycles: u64,
+) -> Result<Outcome, AllocError>
+    ensures { IfOk result (λ o. Comes net.now stack forks cycles o) }
+{
+    let bump = Bump::new(alloc);
+    let items = circuit_items(alloc, &bump, net, stack, forks)?;
+    let told = run_items(alloc, items, cycles)?;
+    Ok(told)
+}
