@@ -1,0 +1,2 @@
+-- the states of a dump and of a run, and where both end
+mod Together
