@@ -132,7 +132,7 @@ by_box (FIXOUT c d) = true
 by_box r = false
 
 -- what was fetched for the token at its row
-pub record Fetched (S : Store) (C : CellCircuit) (k : CellToken) (r : Row) : Type 0 where
+pub record Fetched (z : Sizes) (S : Store) (C : CellCircuit) (k : CellToken) (r : Row) : Type 0 where
   pub sig : by_sig r ≡ true → (first_of k.stacks.sigs).place < C.store.top →
       (S.vec "sig_first" ≡ pointer_number (cell_at C.store (first_of k.stacks.sigs)).first) ×
       (S.vec "sig_second" ≡ pointer_number (cell_at C.store (first_of k.stacks.sigs)).second)
@@ -140,17 +140,19 @@ pub record Fetched (S : Store) (C : CellCircuit) (k : CellToken) (r : Row) : Typ
       (S.vec "box_first" ≡ pointer_number (cell_at C.store (first_of k.stacks.boxes)).first) ×
       (S.vec "box_second" ≡ pointer_number (cell_at C.store (first_of k.stacks.boxes)).second)
   pub entry : is_join r ≡ true → (f : CellSlot) → C.slots k.mine ≡ Some f → IsSlot (S.vec "fork_has") f
-  pub question : is_join r ≡ true → (f : CellSlot) → C.slots k.mine ≡ Some f → f.answered ≡ None →
-      (S.vec "asked" ≡ S.mem "queue" (S.vec "first")) × (S.vec "asked_boxes" ≡ S.mem "queue_boxes" (S.vec "first"))
+  pub question : is_join r ≡ true → (q : CellQuestion) (qs : List CellQuestion) → C.queue ≡ q ∷ qs →
+      (S.vec "asked" ≡ number q.channel * 2 ^ fork_bits z.forks + q.mine) ×
+      (S.vec "asked_boxes" ≡ pointers_number (pointer_bits z.cells) q.boxes)
 
 -- of a circuit that goes on: all that the next edges read
 pub record Going (net : NetTree) (z : Sizes) (S : Store) (C : CellCircuit) (k : CellToken) : Type 0 where
   pub token : IsAt z S k
   pub row : (p : ℕ × Row) → row_of net k.channel ≡ Some p → IsRow S p.1
-  pub fetched : (p : ℕ × Row) → row_of net k.channel ≡ Some p → Fetched S C k p.1
+  pub fetched : (p : ℕ × Row) → row_of net k.channel ≡ Some p → Fetched z S C k p.1
   pub top : S.vec "top" ≡ C.store.top
   pub few : C.store.top ≤ z.cells
   pub cells : (i : ℕ) → i < C.store.top → HasCell S.mem i (C.store.cells i)
+  pub cells_fit : (i : ℕ) → i < C.store.top → Within z.cells ((C.store.cells i).first ∷ (C.store.cells i).second ∷ [])
   pub first : S.vec "first" < z.forks
   pub queue : InRing z S.mem (S.vec "first") C.queue
   pub last : S.vec "last" ≡ after z.forks (S.vec "first") (length C.queue)

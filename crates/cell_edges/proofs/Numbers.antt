@@ -1,0 +1,195 @@
+-- What both operands come to at a second answer, and the number that is one more.
+use Rattle.std.proofs.Common.{◌≡◌, ℕ, ◌+◌, ◌-◌, ◌*◌, ◌/◌, ◌%◌, ◌^◌, ◌<◌, true, ◌||◌}
+use Rattle.std.proofs.Common.{refl, ap, ◌∙◌, arith, nat_eq, nat_lt}
+use Rattle.std.proofs.lemmas.Nat.{mul-lt}
+use Rattle.std.proofs.Math.Nat.{mul_comm}
+use Rattle.pcf_values.specs.declared.val.Val.{Val}
+use Rattle.pcf_values.specs.declared.val.Val.TheVariants.{Number, Overflow}
+use Rattle.pcf_values.specs.Values.{val_op, val_succ, within}
+use Rattle.pcf_values.specs.declared.operator.Operator.{Operator}
+use Rattle.pcf_values.specs.declared.operator.Operator.TheVariants.{Plus, Minus, Times}
+use Rattle.pcf_values.specs.declared.side.Side.{Side}
+use Rattle.pcf_values.specs.declared.side.Side.TheVariants.{Left, Right}
+use Rattle.net_build.specs.Nets.{NetTree}
+use Rattle.circuit_core.specs.Rows.{JOIN}
+use Rattle.circuit_core.specs.Circuit.{both}
+use Rattle.verilog_tree.specs.Tree.{Expr}
+use Rattle.verilog_tree.specs.Meaning.{Scope, Store, flag, fit, nonzero, chosen, set_vec, settled}
+use Rattle.verilog_tree.proofs.Numbers.{fits}
+use Rattle.verilog_tree.proofs.Frames.{settled_leaves}
+use Rattle.circuit_module.specs.Stands.{value_number, Small}
+use Rattle.circuit_module.specs.Module.{multiplies}
+use Rattle.circuit_module.proofs.Values.{high_number, low_number, value_low, succ_value}
+use Rattle.circuit_module.proofs.Boths.{plus_number, minus_number, times_number}
+use Rattle.module_edges.proofs.JoinStep.{within_small}
+use Rattle.cell_core.specs.Circuit.{Sizes}
+use Rattle.cell_module.specs.Fixed.{number_wires}
+use Rattle.cell_module.specs.Module.{cell_product}
+use Rattle.cell_module.specs.Parts.{word_of, deeds_of}
+use Rattle.cell_edges.proofs.Fetch.{P as scope_of}
+use Rattle.cell_edges.proofs.Known.{known}
+use Rattle.cell_edges.proofs.Tail.{forked, tailed, all_set, to_forks, fork_tail}
+
+-- where one of both is an overflow
+abbrev over : ℕ → ℕ → ℕ → ℕ
+over a b n = fit 65 (chosen (nonzero (flag (nonzero (a / 2 ^ 64 % 2) || nonzero (b / 2 ^ 64 % 2)))) (2 ^ 64) n)
+
+-- the lowest 64 bits, with a 0 above
+abbrev low : ℕ → ℕ
+low a = 0 + fit 64 (a / 2 ^ 0)
+
+abbrev sum_of : ℕ → ℕ → ℕ
+sum_of a b = fit 65 (fit 65 (low a + low b))
+
+abbrev difference_of : ℕ → ℕ → ℕ
+difference_of a b = fit 65 (chosen (nonzero (flag (nat_lt (fit 65 a) (fit 65 b)))) 0 (fit 65 (2 ^ 65 + fit 65 a - fit 65 b)))
+
+abbrev product_of : ℕ → ℕ → ℕ
+product_of a b = fit 128 (fit 128 (low a * low b))
+
+low_is : (a : ℕ) → a < 2 ^ 64 → low a ≡ a
+low_is a l = let h = low_number a l in omega arith
+
+over_first : (b n : ℕ) → over (2 ^ 64) b n ≡ 2 ^ 64
+over_first b n = refl
+
+over_second : (a n : ℕ) → a < 2 ^ 64 → over a (2 ^ 64) n ≡ 2 ^ 64
+over_second a n l = ap (λ k. fit 65 (chosen (nonzero (flag (nonzero k || nonzero (2 ^ 64 / 2 ^ 64 % 2)))) (2 ^ 64) n)) (high_number a l)
+
+over_none : (a b n : ℕ) → a < 2 ^ 64 → b < 2 ^ 64 → over a b n ≡ fit 65 n
+over_none a b n la lb =
+    ap (λ k. fit 65 (chosen (nonzero (flag (nonzero k || nonzero (b / 2 ^ 64 % 2)))) (2 ^ 64) n)) (high_number a la)
+    ∙ ap (λ k. fit 65 (chosen (nonzero (flag (nonzero k))) (2 ^ 64) n)) (high_number b lb)
+
+over_left : (o : Operator) (y : Val) → 2 ^ 64 ≡ value_number (val_op o Overflow y)
+over_left Plus y = refl
+over_left Minus y = refl
+over_left Times y = refl
+
+over_right : (o : Operator) (a : ℕ) → 2 ^ 64 ≡ value_number (val_op o (Number a) Overflow)
+over_right Plus a = refl
+over_right Minus a = refl
+over_right Times a = refl
+
+-- each operator, from both operands
+pub plus_is : (x y : Val) → Small x → Small y →
+    over (value_number x) (value_number y) (chosen (nonzero (sum_of (value_number x) (value_number y) / 2 ^ 64 % 2)) (2 ^ 64)
+    (sum_of (value_number x) (value_number y))) ≡ value_number (val_op Plus x y)
+plus_is Overflow y s t = over_left Plus y
+plus_is (Number a) Overflow s t = over_second a _ s ∙ over_right Plus a
+plus_is (Number a) (Number b) s t = over_none a b _ s t
+    ∙ ap (λ n. fit 65 (chosen (nonzero (fit 65 (fit 65 (n + low b)) / 2 ^ 64 % 2)) (2 ^ 64) (fit 65 (fit 65 (n + low b))))) (low_is a s)
+    ∙ ap (λ n. fit 65 (chosen (nonzero (fit 65 (fit 65 (a + n)) / 2 ^ 64 % 2)) (2 ^ 64) (fit 65 (fit 65 (a + n))))) (low_is b t)
+    ∙ plus_number a b s t
+
+-- a difference
+pub minus_is : (x y : Val) → Small x → Small y →
+    over (value_number x) (value_number y) (difference_of (value_number x) (value_number y)) ≡ value_number (val_op Minus x y)
+minus_is Overflow y s t = over_left Minus y
+minus_is (Number a) Overflow s t = over_second a _ s ∙ over_right Minus a
+minus_is (Number a) (Number b) s t = over_none a b _ s t
+    ∙ ap (λ n. fit 65 (fit 65 (chosen (nonzero (flag (nat_lt n (fit 65 b)))) 0 (fit 65 (2 ^ 65 + n - fit 65 b))))) (fits 65 a (omega arith))
+    ∙ ap (λ n. fit 65 (fit 65 (chosen (nonzero (flag (nat_lt a n))) 0 (fit 65 (2 ^ 65 + a - n))))) (fits 65 b (omega arith))
+    ∙ minus_number a b s t
+
+-- where the operands are told the other way round
+pub minus_back : (x y : Val) → Small x → Small y →
+    over (value_number y) (value_number x) (difference_of (value_number x) (value_number y)) ≡ value_number (val_op Minus x y)
+minus_back x Overflow s t = turned x s
+  where
+    turned : (x : Val) → Small x → 2 ^ 64 ≡ value_number (val_op Minus x Overflow)
+    turned Overflow s = refl
+    turned (Number a) s = refl
+minus_back Overflow (Number b) s t = over_second b _ t
+minus_back (Number a) (Number b) s t = over_none b a _ t s
+    ∙ ap (λ n. fit 65 (fit 65 (chosen (nonzero (flag (nat_lt n (fit 65 b)))) 0 (fit 65 (2 ^ 65 + n - fit 65 b))))) (fits 65 a (omega arith))
+    ∙ ap (λ n. fit 65 (fit 65 (chosen (nonzero (flag (nat_lt a n))) 0 (fit 65 (2 ^ 65 + a - n))))) (fits 65 b (omega arith))
+    ∙ minus_number a b s t
+
+-- a product has more than 64 bits, or it is the number
+pub times_is : (x y : Val) → Small x → Small y →
+    over (value_number x) (value_number y)
+    (chosen (nonzero (flag (nonzero (fit 64 (product_of (value_number x) (value_number y) / 2 ^ 64)))))
+    (2 ^ 64) (0 + fit 64 (product_of (value_number x) (value_number y) / 2 ^ 0))) ≡ value_number (val_op Times x y)
+times_is Overflow y s t = over_left Times y
+times_is (Number a) Overflow s t = over_second a _ s ∙ over_right Times a
+times_is (Number a) (Number b) s t = over_none a b _ s t
+    ∙ ap (λ n. fit 65 (chosen (nonzero (flag (nonzero (fit 64 (fit 128 (fit 128 (n * low b)) / 2 ^ 64))))) (2 ^ 64)
+    (0 + fit 64 (fit 128 (fit 128 (n * low b)) / 2 ^ 0)))) (low_is a s)
+    ∙ ap (λ n. fit 65 (chosen (nonzero (flag (nonzero (fit 64 (fit 128 (fit 128 (a * n)) / 2 ^ 64))))) (2 ^ 64)
+    (0 + fit 64 (fit 128 (fit 128 (a * n)) / 2 ^ 0)))) (low_is b t)
+    ∙ (let e : 0 + fit 64 (fit 128 (fit 128 (a * b)) / 2 ^ 0) ≡ fit 64 (fit 128 (fit 128 (a * b)) / 2 ^ 0) = omega arith in
+    ap (λ n. fit 65 (chosen (nonzero (flag (nonzero (fit 64 (fit 128 (fit 128 (a * b)) / 2 ^ 64))))) (2 ^ 64) n)) e)
+    ∙ times_number (a * b) (mul-lt a b (2 ^ 64) (2 ^ 64) s t)
+
+-- the sides of a sum and of a product may be told either way
+plus_turns : (x y : Val) → val_op Plus x y ≡ val_op Plus y x
+plus_turns Overflow Overflow = refl
+plus_turns Overflow (Number b) = refl
+plus_turns (Number a) Overflow = refl
+plus_turns (Number a) (Number b) = let e : a + b ≡ b + a = omega arith in ap within e
+
+times_turns : (x y : Val) → val_op Times x y ≡ val_op Times y x
+times_turns Overflow Overflow = refl
+times_turns Overflow (Number b) = refl
+times_turns (Number a) Overflow = refl
+times_turns (Number a) (Number b) = ap within (mul_comm a b)
+
+module _ (net : NetTree) (z : Sizes) (Q : Store) where
+  abbrev P : Scope
+  P = scope_of net z Q
+
+  -- the numbers where it is known what the row does
+  abbrev at : ℕ → Expr → Store
+  at d product = settled P (number_wires product) (set_vec "does" d (tailed net z Q))
+
+  at_is : (d : ℕ) → Q.vec "does" ≡ d → all_set net z Q ≡ at d (cell_product (multiplies net.nodes))
+  at_is d e = ap (λ (X : Store). settled P (number_wires (cell_product (multiplies net.nodes))) X)
+      (known "does" d (tailed net z Q) (settled_leaves P "does" fork_tail refl (forked net z Q) ∙ to_forks net z Q "does" refl refl ∙ e))
+
+  module _ (v : Val) (sv : Small v) (result : Q.vec "result" ≡ value_number v) where
+    result_is : (tailed net z Q).vec "result" ≡ value_number v
+    result_is = settled_leaves P "result" fork_tail refl (forked net z Q) ∙ to_forks net z Q "result" refl refl ∙ result
+
+    -- one more
+    pub succ_is : fit 65 ((all_set net z Q).vec "succ") ≡ value_number (val_succ v)
+    succ_is = ap (fit 65) (ap (λ n. fit 65 (chosen (nonzero (flag (nonzero (n / 2 ^ 64 % 2) || nonzero
+        (flag (nat_eq (fit 64 (n / 2 ^ 0)) (2 ^ 64 - 1)))))) (2 ^ 64) (fit 65 (n + 1)))) result_is ∙ succ_value v sv)
+        ∙ fits 65 (value_number (val_succ v)) (value_low (val_succ v) (succ_small v))
+      where
+        succ_small : (v : Val) → Small (val_succ v)
+        succ_small (Number n) = within_small (n + 1)
+        succ_small Overflow = tt
+
+    module _ (u : Val) (su : Small u) (kept : Q.vec "kept" ≡ value_number u) where
+      kept_is : (tailed net z Q).vec "kept" ≡ value_number u
+      kept_is = settled_leaves P "kept" fork_tail refl (forked net z Q) ∙ to_forks net z Q "kept" refl refl ∙ kept
+
+      abbrev a : ℕ
+      a = (tailed net z Q).vec "result"
+
+      abbrev b : ℕ
+      b = (tailed net z Q).vec "kept"
+
+      told : (f : ℕ → ℕ → ℕ) → f a b ≡ f (value_number v) (value_number u)
+      told f = ap (λ n. f n b) result_is ∙ ap (f (value_number v)) kept_is
+
+      pub both_is : (o : Operator) (s : Side) (w : ℕ) → Q.vec "does" ≡ word_of (deeds_of (JOIN o s w)) →
+          (o ≡ Times → multiplies net.nodes ≡ true) → (all_set net z Q).vec "both" ≡ value_number (both o s v u)
+      both_is Plus Left w e m = ap (λ (X : Store). X.vec "both") (at_is (word_of (deeds_of (JOIN Plus Left w))) e)
+          ∙ told (λ x y. over x y (chosen (nonzero (sum_of x y / 2 ^ 64 % 2)) (2 ^ 64) (sum_of x y))) ∙ plus_is v u sv su
+      both_is Plus Right w e m = ap (λ (X : Store). X.vec "both") (at_is (word_of (deeds_of (JOIN Plus Right w))) e)
+          ∙ told (λ x y. over x y (chosen (nonzero (sum_of x y / 2 ^ 64 % 2)) (2 ^ 64) (sum_of x y))) ∙ plus_is v u sv su
+          ∙ ap value_number (plus_turns v u)
+      both_is Minus Left w e m = ap (λ (X : Store). X.vec "both") (at_is (word_of (deeds_of (JOIN Minus Left w))) e)
+          ∙ told (λ x y. over x y (difference_of x y)) ∙ minus_is v u sv su
+      both_is Minus Right w e m = ap (λ (X : Store). X.vec "both") (at_is (word_of (deeds_of (JOIN Minus Right w))) e)
+          ∙ told (λ x y. over x y (difference_of y x)) ∙ minus_back u v su sv
+      both_is Times Left w e m = ap (λ (X : Store). X.vec "both") (at_is (word_of (deeds_of (JOIN Times Left w))) e
+          ∙ ap (λ c. at (word_of (deeds_of (JOIN Times Left w))) (cell_product c)) (m refl))
+          ∙ told (λ x y. over x y (chosen (nonzero (flag (nonzero (fit 64 (product_of x y / 2 ^ 64))))) (2 ^ 64)
+          (0 + fit 64 (product_of x y / 2 ^ 0)))) ∙ times_is v u sv su
+      both_is Times Right w e m = ap (λ (X : Store). X.vec "both") (at_is (word_of (deeds_of (JOIN Times Right w))) e
+          ∙ ap (λ c. at (word_of (deeds_of (JOIN Times Right w))) (cell_product c)) (m refl))
+          ∙ told (λ x y. over x y (chosen (nonzero (flag (nonzero (fit 64 (product_of x y / 2 ^ 64))))) (2 ^ 64)
+          (0 + fit 64 (product_of x y / 2 ^ 0)))) ∙ times_is v u sv su ∙ ap value_number (times_turns v u)
