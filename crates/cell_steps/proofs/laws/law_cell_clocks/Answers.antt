@@ -1,0 +1,5 @@
+use Rattle.cell_steps.proofs.Step.{many}
+use Rattle.cell_steps.proofs.laws.law_cell_clocks.Goals as goal
+
+pub returns : goal.returns
+returns c = many c.law_cell_step.ensures c.law_cell_reset.ensures
