@@ -1,0 +1,4 @@
+-- the run of a net always meets what a cycle asks
+pub mod Always
+-- what the module of a program tells
+pub mod Means

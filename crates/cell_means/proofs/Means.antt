@@ -1,0 +1,119 @@
+-- The module over cells of a program tells what it means.
+use Rattle.std.proofs.Common.{◌≡◌, ◌⊎◌, ℕ, ◌≤◌, ◌%◌, ◌^◌, true, false, [], length, Option, Some, None, is_some, refl, sym, ap, ◌∙◌, Bool}
+use Rattle.std.proofs.Common.{subst, arith, ⊎_elim, inl, inr}
+use Rattle.pcf_values.specs.declared.val.Val.{Val}
+use Rattle.pcf_values.specs.Terms.{TermTree, nat}
+use Rattle.pcf_values.specs.Typing.{HasType}
+use Rattle.net_build.specs.NetOf.{net_of}
+use Rattle.net_build.specs.Sound.{Sound}
+use Rattle.cbn_meaning.specs.Meaning.{Means}
+use Rattle.interleave_laws.specs.Runs.{Runs}
+use Rattle.interleave_laws.specs.OneWorker.{one}
+use Rattle.interleave_laws.proofs.OneWorker.{one_leads, one_finished}
+use Rattle.adequacy_laws.specs.Finished.{Within, Beyond}
+use Rattle.adequacy_laws.specs.FinishedLaws.{TellsMeaning}
+use Rattle.adequacy_laws.proofs.Finishing.{finished_means}
+use Rattle.adequacy_laws.proofs.Agreeing.{built_runs}
+use Rattle.circuit_core.specs.Enough.{RunFits}
+use Rattle.circuit_core.proofs.Circuit.{not_full}
+use Rattle.verilog_tree.specs.Meaning.{Store, flag}
+use Rattle.circuit_module.specs.Stands.{value_number}
+use Rattle.module_means.specs.Laws.{FewWires}
+use Rattle.module_means.specs.Means.{Ended, ModuleTells}
+use Rattle.module_means.proofs.Range.{in_range}
+use Rattle.module_means.proofs.Constants.{small_constants}
+use Rattle.cell_core.specs.Cells.{Cell, nil}
+use Rattle.cell_core.specs.Circuit.{Sizes, CellCircuit, circuit}
+use Rattle.cell_core.specs.Enough.{Covers}
+use Rattle.cell_core.proofs.Circuit.{follows_fitting}
+use Rattle.cell_core.proofs.Enough.{cells_enough}
+use Rattle.cell_module.specs.Apart.{QuestionsApart}
+use Rattle.cell_edges.specs.Laws.{CellSizes, cell_reset_edge}
+use Rattle.cell_edges.specs.Stands.{Stands}
+use Rattle.cell_steps.specs.Laws.{CellModuleClocks, cell_edges}
+use Rattle.cell_means.specs.Laws.{CellModuleRuns}
+use Rattle.cell_means.proofs.Always.{cycles_meet}
+
+-- on a net that runs
+pub cells_run : QuestionsApart → CellModuleClocks → CellModuleRuns
+cells_run apart clocks net runs N z sizes range fits covers mem n S =
+    clocks net z sizes runs.sound range mem n (λ j l. cycles_meet net runs N z sizes range fits covers apart mem j) S
+
+-- registers that stand for a circuit with the answer and the length of a log that tells the meaning
+told : (m : TermTree) (k : ℕ) (z : Sizes) (C : CellCircuit) (T : Store) → Stands (net_of m) z C T →
+    TellsMeaning m (one (net_of m) k) C.result k → C.moves ≡ length (one (net_of m) k) → ModuleTells m k T
+told m k z C T st t n = record { done = done C.result refl; ends = ends C.result refl; comes = comes; waits = waits C.result refl }
+  where
+    at : (r : Option Val) → C.result ≡ r → T.vec "done" ≡ flag (is_some r)
+    at r e = st.done ∙ ap (λ r. flag (is_some r)) e
+
+    moves : T.vec "moves" ≡ length (one (net_of m) k) % 2 ^ 64
+    moves = st.moves ∙ ap (λ n. n % 2 ^ 64) n
+
+    done : (r : Option Val) → C.result ≡ r → (T.vec "done" ≡ 0) ⊎ (T.vec "done" ≡ 1)
+    done None e = inl (at None e)
+    done (Some v) e = inr (at (Some v) e)
+
+    ends : (r : Option Val) → C.result ≡ r → T.vec "done" ≡ 1 → Ended m k T
+    ends None e d = let o = at None e in absurd (omega arith)
+    ends (Some v) e d =
+        let a = (t.answers v).0 e in
+        let l = t.as_long v e in
+        record {
+          value = v;
+          result = st.result v e;
+          means = a.0;
+          length = length (one (net_of m) k);
+          is_length = l.0;
+          within = l.1;
+          moves = moves;
+        }
+
+    comes : (v : Val) → Means m v → Within (net_of m) k v → (T.vec "done" ≡ 1) × (T.vec "result" ≡ value_number v)
+    comes v a w = let e = (t.answers v).1 (a, w) in (at (Some v) e, st.result v e)
+
+    waits : (r : Option Val) → C.result ≡ r → T.vec "done" ≡ 0 → Beyond (net_of m) k × (T.vec "moves" ≡ k % 2 ^ 64)
+    waits None e d = (t.unanswered.0 e, moves ∙ ap (λ n. n % 2 ^ 64) (t.spent e))
+    waits (Some v) e d = let o = at (Some v) e in absurd (omega arith)
+
+-- any memory stands for no cells
+abbrev no_cells : ℕ → Cell
+no_cells i = record { first = nil; second = nil }
+
+module _ (cells_run : CellModuleRuns) (m : TermTree) (typed : HasType [] m nat) (sound : Sound (net_of m)) (N : ℕ) (z : Sizes)
+    (sizes : CellSizes z) (few : FewWires (net_of m)) (fits : RunFits (net_of m) N z.forks) (covers : Covers z (net_of m)) (S : Store)
+    (k : ℕ) where
+  abbrev T : Store
+  T = cell_edges (net_of m) z k (cell_reset_edge (net_of m) z S)
+
+  runs : Runs (net_of m)
+  runs = built_runs m typed sound
+
+  stands : (mem : ℕ → Cell) → Stands (net_of m) z (circuit (net_of m) z mem k) T
+  stands mem = cells_run (net_of m) (built_runs m typed sound) N z sizes (in_range (net_of m) sound (small_constants m typed) few) fits
+      covers mem k S
+
+  pub cell_full : (mem : ℕ → Cell) → T.vec "full" ≡ flag (circuit (net_of m) z mem k).full
+  cell_full mem = (stands mem).full
+
+  tells : (circuit (net_of m) z no_cells k).full ≡ false → ModuleTells m k T
+  tells ready =
+      let (R, h) = one_leads (net_of m) runs k in
+      let t = finished_means m typed sound (one (net_of m) k) R h k (one_finished (net_of m) runs k R h) in
+      ⊎_elim (λ e. let x : true ≡ false = sym e ∙ ready in not_full x)
+      (λ (_, n, r). told m k z (circuit (net_of m) z no_cells k) T (stands no_cells)
+      (subst (λ a. TellsMeaning m (one (net_of m) k) a k) (sym r) t) n)
+      (follows_fitting (net_of m) runs N k z no_cells R h fits)
+
+  pub cell_module_means : (T.vec "full" ≡ 1) ⊎ ((T.vec "full" ≡ 0) × ModuleTells m k T)
+  cell_module_means = go (circuit (net_of m) z no_cells k).full refl
+    where
+      go : (b : Bool) → (circuit (net_of m) z no_cells k).full ≡ b → (T.vec "full" ≡ 1) ⊎ ((T.vec "full" ≡ 0) × ModuleTells m k T)
+      go true e = inl ((stands no_cells).full ∙ ap flag e)
+      go false e = inr ((stands no_cells).full ∙ ap flag e, tells e)
+
+  -- where there are as many cells as edges
+  pub cell_module_right : k ≤ z.cells → (T.vec "full" ≡ 0) × ModuleTells m k T
+  cell_module_right l =
+      let ready = cells_enough (net_of m) runs N k z no_cells fits covers l in
+      ((stands no_cells).full ∙ ap flag ready, tells ready)
