@@ -3,7 +3,7 @@ use Rattle.std.specs.Prelude.{⊤, Bool, false}
 use Rattle.goi_jobs.specs.Ranges.{IsBudget, IsWindow, IsPart, IsStack, IsForks}
 use Rattle.goi_jobs.specs.declared.shown.Shown.{Shown}
 use Rattle.goi_jobs.specs.declared.task.Task.{Task}
-use Rattle.goi_jobs.specs.declared.task.Task.TheVariants.{Run, Check, ShowNet, RunNet, Trace, Circuit, Span, Steps}
+use Rattle.goi_jobs.specs.declared.task.Task.TheVariants.{Run, Check, ShowNet, RunNet, Trace, Circuit, RunCircuit, Span, Steps}
 
 -- these are shown, and nothing is
 abbrev pub shown : Bool → Bool → Bool → Shown
@@ -26,6 +26,7 @@ IsWithin ShowNet = Unit {0}
 IsWithin (RunNet budget shown) = IsBudget budget
 IsWithin (Trace budget calling window) = IsBudget budget × IsWindow window
 IsWithin (Circuit stack forks) = Unit {0}
+IsWithin (RunCircuit stack forks budget waves) = IsBudget budget × IsStack stack × IsForks forks
 IsWithin (Span budget calling profile schedule) = IsBudget budget
 IsWithin (Steps budget window) = IsBudget budget × IsPart window
 

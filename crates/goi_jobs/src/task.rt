@@ -49,6 +49,17 @@ pub enum Task {
         /// How many forks can be open at once; where words ask for it, from 1 to `MOST_FORKS`.
         forks: u32,
     },
+    /// Run the module of the program's circuit, by what its Verilog means, and tell what it answers, or what it does.
+    RunCircuit {
+        /// How many bits each stack has; from `LEAST_STACK` to `MOST_STACK`.
+        stack: u32,
+        /// How many forks can be open at once; from 1 to `MOST_FORKS`.
+        forks: u32,
+        /// The most cycles; from 1 to `pcf_values::limits::BUDGET`.
+        budget: u32,
+        /// Whether what its registers hold is told, cycle by cycle, in place of its answer.
+        waves: bool,
+    },
     /// Run the program in rounds, in which all live tokens move once, and tell how many moves and rounds that takes.
     Span {
         /// The most moves; from 1 to `pcf_values::limits::BUDGET`.

@@ -1,18 +1,18 @@
 -- Each command of the table is ready: its arguments are found where they stand, and its job is of what is found for them.
 -- A command more is one more of these; an option more is one more in `same` and, with a number, in `has_job`.
-use Rattle.std.proofs.Common.{◌≡◌, ◌∷◌, ◌||◌, not, refl, cond, arith, Bool, true, false, [], codes}
+use Rattle.std.proofs.Common.{◌≡◌, ◌∷◌, ◌||◌, ℕ, not, refl, cond, arith, Bool, true, false, [], codes}
 use Rattle.std.specs.List.{AllByRecursion}
 use Rattle.clap.specs.Walk.{walked}
 use Rattle.clap.specs.Simple.{built}
 use Rattle.clap.specs.Faults.{defaults_fault}
 use Rattle.clap.specs.Takes.{is_given as is_row_given}
-use Rattle.goi_jobs.specs.Ranges.{IsWindow, IsWindowIfAny, IsWorkers}
+use Rattle.goi_jobs.specs.Ranges.{IsBudget, IsForks, IsStack, IsWindow, IsWindowIfAny, IsWorkers}
 use Rattle.goi_jobs.specs.Jobs.{call, demo, list, replay, text}
-use Rattle.goi_jobs.specs.Tasks.{shown}
-use Rattle.goi_jobs.specs.declared.task.Task.TheVariants.{Check, Circuit, Run, RunNet, ShowNet, Span, Steps, Trace}
+use Rattle.goi_jobs.specs.Tasks.{HasSizes, IsWithin, shown}
+use Rattle.goi_jobs.specs.declared.task.Task.TheVariants.{Check, Run, RunNet, ShowNet, Span, Steps, Trace}
 use Rattle.goi_jobs.specs.declared.window.Window.{Window}
-use Rattle.goi_words.specs.Commands.{batch_row, call_row, calling_in, check_row, circuit_row, commands, demo_row, goi_command, if_traced}
-use Rattle.goi_words.specs.Commands.{net_row, replay_row, run_net_row, run_row, span_row, steps_row, trace_row}
+use Rattle.goi_words.specs.Commands.{batch_row, call_row, calling_in, check_row, circuit_row, circuit_task, commands, demo_row, goi_command}
+use Rattle.goi_words.specs.Commands.{if_traced, net_row, replay_row, run_net_row, run_row, span_row, steps_row, trace_row}
 use Rattle.clap.specs.declared.error.kind.ErrorKind.TheVariants as kind
 use Rattle.goi_words.proofs.Ready.{IsReady, leaf}
 use Rattle.goi_words.proofs.Taken.{asked}
@@ -227,6 +227,12 @@ trace_ready = record {
   );
 }
 
+-- sizes in their ranges are those of a circuit and of its run
+circuit_within : (is_run waves : Bool) (stack forks budget : ℕ) → IsStack stack → IsForks forks → IsBudget budget →
+    IsWithin (circuit_task is_run stack forks budget waves) × HasSizes (circuit_task is_run stack forks budget waves)
+circuit_within true waves stack forks budget s e b = ((b, s, e), tt)
+circuit_within false waves stack forks budget s e b = (tt, (s, e))
+
 -- `circuit` is entered by its name
 circuit_enters : Enters (built goi_command) (codes "circuit") (leaf circuit_row)
 unfolding walked defaults_fault
@@ -243,12 +249,14 @@ circuit_ready = record {
   defaults = refl;
   checked = λ rows there. rw there.0 refl;
   asks = λ rows clean. ((asked (is_row_given (codes "file") rows) false clean).0, tt);
-  same = λ f g os cs. rw (os.0, cs.0, cs.1.0) refl;
-  has_job = λ f os cs. let file = os.0 in let stack = cs.0 in let forks = cs.1.0 in (
-    text file.0 1 (Circuit stack.0 forks.0),
-    rw (file.1, stack.1, forks.1) refl,
-    (one_worker, tt, ((stack.2, stack.3), (forks.2, forks.3))),
-  );
+  same = λ f g os cs. rw (os.0, cs.0, cs.1.0, cs.1.1.0, cs.1.1.1.0, cs.1.1.1.1.0) refl;
+  has_job = λ f os cs. let file = os.0 in let stack = cs.0 in let forks = cs.1.0 in let budget = cs.1.1.0 in
+      let within = circuit_within (f.is_set (codes "run")) (f.is_set (codes "vcd")) stack.0 forks.0 budget.0 (stack.2, stack.3)
+      (forks.2, forks.3) (budget.2, budget.3) in (
+        text file.0 1 (circuit_task (f.is_set (codes "run")) stack.0 forks.0 budget.0 (f.is_set (codes "vcd"))),
+        rw (file.1, stack.1, forks.1, budget.1) refl,
+        (one_worker, within.0, within.1),
+      );
 }
 
 -- `span` is entered by its name

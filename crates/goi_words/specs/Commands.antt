@@ -10,7 +10,8 @@ use Rattle.pcf_values.specs.Most.{most_workers, most_budget, most_demo, most_mov
 use Rattle.goi_jobs.specs.Limits.{most_traced, most_told, least_stack, most_stack, most_forks}
 use Rattle.goi_jobs.specs.Jobs.{JobTree, text, replay, list, demo, call}
 use Rattle.goi_jobs.specs.Tasks.{shown}
-use Rattle.goi_jobs.specs.declared.task.Task.TheVariants.{Run, Check, ShowNet, RunNet, Trace, Circuit, Span, Steps}
+use Rattle.goi_jobs.specs.declared.task.Task.{Task}
+use Rattle.goi_jobs.specs.declared.task.Task.TheVariants.{Run, Check, ShowNet, RunNet, Trace, Circuit, RunCircuit, Span, Steps}
 use Rattle.goi_jobs.specs.declared.window.Window.{Window}
 use Rattle.program_runs.specs.Programs.{calling_of}
 use Rattle.program_runs.specs.declared.calling.Calling.{Calling}
@@ -160,6 +161,10 @@ calling_in found = calling_of (found.is_set (codes "by-value"))
 abbrev pub if_traced : Bool → Window → Option Window
 if_traced is_traced window = if is_traced then Some window else None
 
+-- a circuit, or its run where that is asked for
+abbrev pub circuit_task : Bool → (stack forks budget : ℕ) → Bool → Task
+circuit_task is_run stack forks budget waves = if is_run then RunCircuit stack forks budget waves else Circuit stack forks
+
 -- ---- the jobs
 -- `replay` reads the part of a trace always, and asks for it with `--trace` alone: `clap`'s definition has no word for an option that
 -- wants another, and so doesn't refuse the part without it.
@@ -221,7 +226,8 @@ circuit_job found = do
   file ← found.text (codes "file")
   stack ← found.number (codes "stack")
   forks ← found.number (codes "forks")
-  Some (text file 1 (Circuit stack forks))
+  budget ← found.number (codes "budget")
+  Some (text file 1 (circuit_task (found.is_set (codes "run")) stack forks budget (found.is_set (codes "vcd"))))
 
 abbrev pub span_job : Findings → Option JobTree
 span_job found = do
@@ -291,7 +297,12 @@ trace_row = record {
 }
 
 abbrev pub circuit_row : CommandRow
-circuit_row = record { name = codes "circuit"; operands = file_operand ∷ []; choices = stack_choice ∷ forks_choice ∷ []; job = circuit_job }
+circuit_row = record {
+  name = codes "circuit";
+  operands = file_operand ∷ [];
+  choices = stack_choice ∷ forks_choice ∷ budget_choice ∷ switch (codes "run") ∷ switch (codes "vcd") ∷ [];
+  job = circuit_job;
+}
 
 abbrev pub span_row : CommandRow
 span_row = record {

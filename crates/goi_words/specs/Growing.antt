@@ -62,6 +62,11 @@ abbrev pub bare_trace_command : Shape
 bare_trace_command =
     command (codes "trace") (operand (codes "file") ∷ workers_option ∷ budget_option ∷ flag (codes "by-value") ∷ [])
 
+-- `circuit` without what is told of its run
+abbrev pub bare_circuit_command : Shape
+bare_circuit_command = command (codes "circuit")
+    (operand (codes "file") ∷ choice_rule stack_choice ∷ choice_rule forks_choice ∷ budget_option ∷ [])
+
 abbrev pub bare_span_command : Shape
 bare_span_command = command (codes "span") (operand (codes "file") ∷ budget_option ∷ flag (codes "by-value") ∷ [])
 

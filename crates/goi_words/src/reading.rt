@@ -1,9 +1,10 @@
 //! The job that a list of words asks for, read off from what `clap` finds in them.
 
-ghost use Rattle.std.specs.Prelude.{◌≡◌, ◌≢◌, IfOk, IfErr, IsErrOf, None, Some, false, [], map, option_map, string_bytes};
+ghost use Rattle.std.specs.Prelude.{◌≡◌, ◌≢◌, IfOk, IfErr, IsErrOf, None, Some, false, [], codes, map, option_map, string_bytes};
 ghost use Rattle.clap.specs.Words.{fault_of, found_of, rows_of, subcommand_of, subcommand_rows_of};
-ghost use Rattle.goi_words.specs.Commands.{batch_job, call_job, calling_in, check_job, circuit_job, demo_job, goi_command, if_traced};
-ghost use Rattle.goi_words.specs.Commands.{net_job, replay_job, run_job, run_net_job, span_job, steps_job, trace_job, window_of};
+ghost use Rattle.goi_words.specs.Commands.{batch_job, call_job, calling_in, check_job, circuit_job, circuit_task, demo_job};
+ghost use Rattle.goi_words.specs.Commands.{goi_command, if_traced, net_job, replay_job, run_job, run_net_job};
+ghost use Rattle.goi_words.specs.Commands.{span_job, steps_job, trace_job, window_of};
 ghost use Rattle.goi_words.specs.Asked.{findings, is_set, is_taken, job, job_on, number_of, numbers_of, text_of};
 ghost use Rattle.goi_words.specs.Asked.{wide_number_in, wide_numbers_in};
 ghost use Rattle.goi_jobs.specs.Jobs.{IsWithinLimits, job_of};
@@ -208,11 +209,29 @@ fn circuit_job(alloc: Global, found: &ArgMatches<'_>) -> Result<Job, WordFault>
     let file = text_in(found, "file")?;
     let stack = number_in(found, "stack")?;
     let forks = number_in(found, "forks")?;
+    let budget = number_in(found, "budget")?;
     Ok(Job::Text {
         file: Ident::from_text(alloc, file)?,
         workers: 1,
-        task: Task::Circuit { stack, forks },
+        task: circuit_task(found, stack, forks, budget),
     })
+}
+
+/// A circuit of these sizes, or its run of so many cycles where that was found.
+fn circuit_task(found: &ArgMatches<'_>, stack: u32, forks: u32, budget: u32) -> Task
+    ensures { result ≡ circuit_task ((findings (rows_of (found_of found.now))).is_set (codes "run")) stack forks budget
+        ((findings (rows_of (found_of found.now))).is_set (codes "vcd")) }
+{
+    if is_set(found, "run") {
+        Task::RunCircuit {
+            stack,
+            forks,
+            budget,
+            waves: is_set(found, "vcd"),
+        }
+    } else {
+        Task::Circuit { stack, forks }
+    }
 }
 
 /// The job of the words behind `span`.

@@ -4,7 +4,7 @@ use Rattle.goi_words.proofs.commands.circuit_command.Goals as goal
 
 pub returns : goal.returns
 returns c =
-    let with_first = more_rules _ _ _ _ _ c.in_ok-arg.ensures c.stack_option.ensures.local c.stack_option.ensures.rule
-    c.in_ok-file_command.ensures in
+    let with_first = more_rules _ _ _ _ _ c.in_ok-arg.ensures c.flag.ensures.local c.flag.ensures.rule
+    c.in_ok-bare_circuit_command.ensures in
     IfOk-weaker c.arg-2.result _ _
-    (λ command added. more_rules _ _ _ _ _ added c.forks_option.ensures.local c.forks_option.ensures.rule with_first) c.arg-2.ensures
+    (λ command added. more_rules _ _ _ _ _ added c.flag-2.ensures.local c.flag-2.ensures.rule with_first) c.arg-2.ensures
