@@ -22,7 +22,7 @@ use Rattle.goi_tasks.specs.declared.fault.Fault.{Fault}
 use Rattle.goi_tasks.specs.declared.stop.Stop.{Stop}
 use Rattle.goi_tasks.specs.Stops.{StopsFor}
 use Rattle.goi_jobs.specs.declared.task.Task.{Task}
-use Rattle.goi_jobs.specs.declared.task.Task.TheVariants.{Run, Check, ShowNet, RunNet, Trace, Circuit, Span, Steps}
+use Rattle.goi_jobs.specs.declared.task.Task.TheVariants.{Run, Check, ShowNet, RunNet, Trace, Circuit, RunCircuit, Span, Steps}
 use Rattle.goi_engine.specs.declared.answer.Answer.{Answer}
 use Rattle.goi_engine.specs.declared.answer.Answer.TheVariants.{Prints, Refused, BadWords, NotRead, NoMemory}
 use Rattle.goi_engine.specs.Answers.{Says, IsStopped, AnswersFile, AnswersNoNet, MadeNet}
@@ -172,6 +172,7 @@ fault_goes (Run budget calling shown) f v bytes s h = faulty_goes (wanted_by_run
 fault_goes (Check term) f v bytes s h = faulty_goes any_type f v bytes s h
 fault_goes ShowNet f v bytes s h = faulty_goes number f v bytes s h
 fault_goes (Circuit stack forks) f v bytes s h = faulty_goes number f v bytes s h
+fault_goes (RunCircuit stack forks budget waves) f v bytes s h = faulty_goes number f v bytes s h
 fault_goes (Span budget calling profile schedule) f v bytes s h = faulty_goes (wanted_by_run calling) f v bytes s h
 fault_goes (Steps budget window) f v bytes s h = faulty_goes number f v bytes s h
 fault_goes (RunNet budget shown) f v bytes s h = listing_goes f v bytes s h
@@ -184,6 +185,7 @@ report_goes workers (Run budget calling shown) o v bytes s h = of_program_goes (
 report_goes workers (Check term) o v bytes s h = of_program_goes any_type _ v bytes s h
 report_goes workers ShowNet o v bytes s h = of_program_goes number _ v bytes s h
 report_goes workers (Circuit stack forks) o v bytes s h = of_program_goes number _ v bytes s h
+report_goes workers (RunCircuit stack forks budget waves) o v bytes s h = of_program_goes number _ v bytes s h
 report_goes workers (Span budget calling profile schedule) o v bytes s h = of_program_goes (wanted_by_run calling) _ v bytes s h
 report_goes workers (Steps budget window) o v bytes s h = of_program_goes number _ v bytes s h
 report_goes workers (RunNet budget shown) o v bytes s h =

@@ -8,6 +8,8 @@ pub mod Reports
 pub mod Tallies
 -- The report of a run in rounds.
 pub mod Spans
+-- The report of a circuit's run.
+pub mod Cycles
 -- which logs are those of so many workers, and the line of a count by whether it is the last one
 pub mod Booked
 -- what can be said of a report where nothing is known of the bytes that it is about

@@ -8,6 +8,7 @@
 mod brief;
 mod check;
 mod counts;
+mod cycles;
 mod laws;
 mod line;
 mod run;
@@ -15,6 +16,7 @@ mod span;
 
 pub use brief::{demo_report, replay_report};
 pub use check::check_report;
+pub use cycles::cycles_report;
 pub use laws::{law_plain_run, law_rows, law_tally_adds_up};
 pub use run::{Parts, run_report};
 pub use span::{PROFILE_ROUNDS, RoundParts, span_report};

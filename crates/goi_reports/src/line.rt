@@ -20,7 +20,7 @@ pub(crate) fn push_result(
 }
 
 /// Appends the line of a run's answer.
-fn push_value_line(report: &mut Vec<u8>, answer: Option<Val>) -> Result<(), AllocError>
+pub(crate) fn push_value_line(report: &mut Vec<u8>, answer: Option<Val>) -> Result<(), AllocError>
     ensures { OnOk result (report.new.items ≡ report.old.items ++ value_line answer) }
 {
     match answer {

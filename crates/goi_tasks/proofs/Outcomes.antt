@@ -35,7 +35,10 @@ use Rattle.goi_tasks.specs.declared.fault.Fault.{Fault}
 use Rattle.goi_tasks.specs.declared.fault.Fault.TheVariants.{Program, NetText, Schedule, Moves}
 use Rattle.goi_jobs.specs.declared.shown.Shown.{Shown}
 use Rattle.goi_jobs.specs.declared.task.Task.{Task}
-use Rattle.goi_jobs.specs.declared.task.Task.TheVariants.{Run, Check, ShowNet, RunNet, Trace, Circuit, Span, Steps}
+use Rattle.goi_jobs.specs.declared.task.Task.TheVariants.{Run, Check, ShowNet, RunNet, Trace, Circuit, RunCircuit, Span, Steps}
+use Rattle.circuit_runs.specs.Running.{Comes}
+use Rattle.circuit_runs.specs.Laws.{CircuitTells}
+use Rattle.goi_tasks.specs.Circuits.{answer_of}
 use Rattle.goi_tasks.specs.NetFiles.{FaultyListing, unlisted}
 use Rattle.goi_tasks.specs.Outputs.{Output}
 use Rattle.goi_tasks.specs.Programs.{no_program, FaultyText}
@@ -44,6 +47,7 @@ use Rattle.goi_tasks.specs.Reductions.{reduction}
 use Rattle.goi_tasks.specs.Rounds.{TellsSpan, ReportsRounds}
 use Rattle.goi_tasks.specs.RunReports.{ReportsNet, ReportsWalk, EndsRun}
 use Rattle.goi_tasks.specs.Tasks.{ReportsText, FaultyFor, EndsText}
+use Rattle.goi_tasks.proofs.CircuitRuns.{one_circuit_end}
 
 -- ---- the laws of the crates below that settle it
 
@@ -102,6 +106,8 @@ text_status workers (Run budget calling shown) bytes o h = run_status h.so.answe
 text_status workers (Check term) bytes o h = inl (ap (λ (x : Output). x.status) h.so)
 text_status workers ShowNet bytes o h = inl (ap (λ (x : Output). x.status) h.so)
 text_status workers (Circuit stack forks) bytes o h = inl (ap (λ (x : Output). x.status) h.so)
+text_status workers (RunCircuit stack forks budget waves) bytes o h =
+    run_status (answer_of h.so.outcome) o.status h.so.ends
 text_status workers (Span budget calling profile schedule) bytes o h = run_status h.so.answer o.status h.so.ends
 text_status workers (Steps budget window) bytes o h =
     run_status (course_value (reduction budget window h.tree)) o.status (ap (λ (x : Output). x.status) h.so.output_is)
@@ -191,6 +197,13 @@ module _ (known : Known) where
   text_end workers (Check term) bytes o own h k = ap (λ (x : Output). x.status) h.so ∙ sym k.so
   text_end workers ShowNet bytes o own h k = ap (λ (x : Output). x.status) h.so ∙ sym k.so
   text_end workers (Circuit stack forks) bytes o own h k = ap (λ (x : Output). x.status) h.so ∙ sym k.so
+  text_end workers (RunCircuit stack forks budget waves) bytes o own h k =
+      let e : h.term ≡ k.term = same_program known.one_program number bytes _ _ h k in
+      h.so.ends
+      ∙ one_circuit_end k.term stack forks budget h.so.outcome k.so.outcome
+      (subst (λ (t : TermTree). Comes (net_of t) stack forks budget h.so.outcome) e h.so.comes)
+      (subst (λ (t : TermTree). CircuitTells t stack forks budget h.so.outcome) e h.so.tells) k.so.comes k.so.tells
+      ∙ sym k.so.ends
   text_end workers (Span budget calling profile schedule) bytes o own h k =
       let e : h.term ≡ k.term = same_program known.one_program (wanted_by_run calling) bytes _ _ h k in
       one_run_end budget (net_run calling k.term) o.status own
@@ -219,6 +232,8 @@ module _ (known : Known) where
   report_sound workers (Check term) bytes o f h k = text_sound known.one_program any_type bytes h.tree h.term h.type f h.is k
   report_sound workers ShowNet bytes o f h k = text_sound known.one_program number bytes h.tree h.term h.type f h.is k
   report_sound workers (Circuit stack forks) bytes o f h k = text_sound known.one_program number bytes h.tree h.term h.type f h.is k
+  report_sound workers (RunCircuit stack forks budget waves) bytes o f h k =
+      text_sound known.one_program number bytes h.tree h.term h.type f h.is k
   report_sound workers (Span budget calling profile schedule) bytes o f h k =
       text_sound known.one_program (wanted_by_run calling) bytes h.tree h.term h.type f h.is k
   report_sound workers (Steps budget window) bytes o f h k = text_sound known.one_program number bytes h.tree h.term h.type f h.is k
@@ -233,6 +248,8 @@ module _ (known : Known) where
   end_sound (Check term) bytes own f h k = text_sound known.one_program any_type bytes h.tree h.term h.type f h.is k
   end_sound ShowNet bytes own f h k = text_sound known.one_program number bytes h.tree h.term h.type f h.is k
   end_sound (Circuit stack forks) bytes own f h k = text_sound known.one_program number bytes h.tree h.term h.type f h.is k
+  end_sound (RunCircuit stack forks budget waves) bytes own f h k =
+      text_sound known.one_program number bytes h.tree h.term h.type f h.is k
   end_sound (Span budget calling profile schedule) bytes own f h k =
       text_sound known.one_program (wanted_by_run calling) bytes h.tree h.term h.type f h.is k
   end_sound (Steps budget window) bytes own f h k = text_sound known.one_program number bytes h.tree h.term h.type f h.is k
@@ -246,6 +263,7 @@ module _ (known : Known) where
   one_fault_for (Check term) bytes f g h k = one_text_fault any_type bytes f g h k
   one_fault_for ShowNet bytes f g h k = one_text_fault number bytes f g h k
   one_fault_for (Circuit stack forks) bytes f g h k = one_text_fault number bytes f g h k
+  one_fault_for (RunCircuit stack forks budget waves) bytes f g h k = one_text_fault number bytes f g h k
   one_fault_for (Span budget calling profile schedule) bytes f g h k = one_text_fault (wanted_by_run calling) bytes f g h k
   one_fault_for (Steps budget window) bytes f g h k = one_text_fault number bytes f g h k
   one_fault_for (RunNet budget shown) bytes f g h k = one_listing_fault bytes f g h k

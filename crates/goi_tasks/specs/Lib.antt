@@ -16,6 +16,8 @@ pub mod RunReports
 pub mod Rounds
 -- The reduction of a program as an output, and what it says of the program.
 pub mod Reductions
+-- A run of a program's circuit: what it says of the program, and its report.
+pub mod Circuits
 -- A schedule that is run on the net of a term: what it came to, which report it has, and the first fault of one that can't be run.
 pub mod Replaying
 -- Which line stands for each refusal, and with which status it ends.

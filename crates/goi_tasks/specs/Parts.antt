@@ -8,8 +8,13 @@ use Rattle.program_runs.specs.Nets.{RunsAs}
 use Rattle.pcf_values.specs.Named.{NamedTree}
 use Rattle.pcf_types.specs.Checking.{type_of}
 use Rattle.goi_jobs.specs.declared.window.Window.{Window}
+use Rattle.circuit_runs.specs.declared.outcome.Outcome.{Outcome}
+use Rattle.circuit_runs.specs.Running.{Comes}
+use Rattle.circuit_module.specs.Module.{module_of}
+use Rattle.goi_tasks.specs.Circuits.{IsTold, answer_of}
 use Rattle.goi_tasks.specs.Outputs.{Output}
 use Rattle.goi_tasks.specs.Reductions.{ReportsSteps}
+use Rattle.goi_tasks.specs.Replaying.{replay_status}
 use Rattle.replay_check.specs.declared.fault.ReplayFault.{ReplayFault}
 use Rattle.replay_check.specs.declared.fault.ReplayFault.TheVariants as replay
 use Rattle.replay_check.specs.Replays.{ReplaysAs}
@@ -23,6 +28,14 @@ pub record IsListedNet (bytes : List ℕ) (net : NetTree) : Type 0 where
   pub term : TermTree
   pub lists : ListsProgram bytes term
   pub runs : RunsAs ByName term net
+
+-- this is the output of the run of the net's circuit
+pub record IsCircuitRun (net : NetTree) (stack forks budget : ℕ) (waves : Bool) (o : Output) : Type 0 where
+  pub outcome : Outcome
+  pub comes : Comes net stack forks budget outcome
+  pub ends : o.status ≡ replay_status (answer_of outcome)
+  pub told : IsTold waves (module_of net stack forks) budget outcome o.report
+  pub no_notes : o.notes ≡ []
 
 -- the tree is a program of type `nat`, and this is the output of its reduction
 abbrev pub ReducesTree : ℕ → Window → NamedTree → Output → Type 0

@@ -15,7 +15,8 @@ use Rattle.program_runs.specs.declared.calling.Calling.TheVariants.{ByName}
 use Rattle.goi_reports.specs.Reports.{check_report}
 use Rattle.goi_tasks.specs.declared.fault.Fault.{Fault}
 use Rattle.goi_jobs.specs.declared.task.Task.{Task}
-use Rattle.goi_jobs.specs.declared.task.Task.TheVariants.{Run, Check, ShowNet, RunNet, Trace, Circuit, Span, Steps}
+use Rattle.goi_jobs.specs.declared.task.Task.TheVariants.{Run, Check, ShowNet, RunNet, Trace, Circuit, RunCircuit, Span, Steps}
+use Rattle.goi_tasks.specs.Circuits.{EndsCircuit, ReportsCircuit}
 use Rattle.goi_tasks.specs.NetFiles.{FaultyListing}
 use Rattle.goi_tasks.specs.Outputs.{Output, output}
 use Rattle.goi_tasks.specs.Programs.{FaultyText}
@@ -45,6 +46,8 @@ ReportsText workers (Trace budget calling window) bytes o =
     OfProgram (wanted_by_run calling) bytes (λ tree t A. ReportsTrace workers budget calling window t o)
 ReportsText workers (Circuit stack forks) bytes o =
     OfProgram number bytes (λ tree t A. o ≡ output 0 (circuit_text (net_of t) stack forks) [])
+ReportsText workers (RunCircuit stack forks budget waves) bytes o =
+    OfProgram number bytes (λ tree t A. ReportsCircuit stack forks budget waves t o)
 ReportsText workers (Span budget calling profile schedule) bytes o =
     OfProgram (wanted_by_run calling) bytes (λ tree t A. ReportsSpan budget calling profile schedule t o)
 ReportsText workers (Steps budget window) bytes o = OfProgram number bytes (λ tree t A. ReportsSteps budget window tree t o)
@@ -57,6 +60,7 @@ FaultyFor ShowNet bytes f = FaultyText number bytes f
 FaultyFor (RunNet budget shown) bytes f = FaultyListing bytes f
 FaultyFor (Trace budget calling window) bytes f = FaultyText (wanted_by_run calling) bytes f
 FaultyFor (Circuit stack forks) bytes f = FaultyText number bytes f
+FaultyFor (RunCircuit stack forks budget waves) bytes f = FaultyText number bytes f
 FaultyFor (Span budget calling profile schedule) bytes f = FaultyText (wanted_by_run calling) bytes f
 FaultyFor (Steps budget window) bytes f = FaultyText number bytes f
 
@@ -70,6 +74,8 @@ EndsText (RunNet budget shown) bytes status = OfListing bytes (λ t. EndsRun bud
 EndsText (Trace budget calling window) bytes status =
     OfProgram (wanted_by_run calling) bytes (λ tree t A. EndsRun budget (net_run calling t) status)
 EndsText (Circuit stack forks) bytes status = OfProgram number bytes (λ tree t A. status ≡ 0)
+EndsText (RunCircuit stack forks budget waves) bytes status =
+    OfProgram number bytes (λ tree t A. EndsCircuit stack forks budget t status)
 EndsText (Span budget calling profile schedule) bytes status =
     OfProgram (wanted_by_run calling) bytes (λ tree t A. EndsRun budget (net_run calling t) status)
 EndsText (Steps budget window) bytes status =
@@ -83,5 +89,6 @@ most_bytes ShowNet = most_program_bytes
 most_bytes (RunNet budget shown) = most_text_bytes
 most_bytes (Trace budget calling window) = most_program_bytes
 most_bytes (Circuit stack forks) = most_program_bytes
+most_bytes (RunCircuit stack forks budget waves) = most_program_bytes
 most_bytes (Span budget calling profile schedule) = most_program_bytes
 most_bytes (Steps budget window) = most_program_bytes

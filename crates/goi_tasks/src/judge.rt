@@ -13,6 +13,7 @@ ghost use Rattle.goi_tasks.specs.Tasks.{ReportsText, FaultyFor};
 ghost use Rattle.goi_jobs.specs.Tasks.{IsWithin, progress_of};
 
 use crate::circuit::report_circuit;
+use crate::circuit_run::{CircuitRun, report_circuit_run};
 use crate::net_file::net_of_listing;
 use crate::program::{report_check, report_net};
 use crate::report::Report;
@@ -52,6 +53,21 @@ pub fn report_text<C: Crew>(
         Task::Check { term } => report_check(alloc, bytes, term),
         Task::ShowNet => report_net(alloc, bytes),
         Task::Circuit { stack, forks } => report_circuit(alloc, bytes, stack, forks),
+        Task::RunCircuit {
+            stack,
+            forks,
+            budget,
+            waves,
+        } => report_circuit_run(
+            alloc,
+            bytes,
+            CircuitRun {
+                stack,
+                forks,
+                budget,
+                waves,
+            },
+        ),
         Task::Span {
             budget,
             calling,

@@ -9,6 +9,7 @@
 mod agreement;
 mod calling;
 mod circuit;
+mod circuit_run;
 mod demo;
 mod fault;
 mod judge;

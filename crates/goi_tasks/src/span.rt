@@ -33,7 +33,8 @@ pub(crate) fn report_span(
     parts: RoundParts,
 ) -> Result<Report, Stop>
     requires budget { IsBudget budget }
-    ensures report { IfOk result (λ r. (workers : ℕ) → ReportsText workers (Span budget calling parts.profile parts.schedule) bytes.now (output_of r)) }
+    ensures report { IfOk result (λ r. (workers : ℕ) →
+        ReportsText workers (Span budget calling parts.profile parts.schedule) bytes.now (output_of r)) }
     ensures fault { IfErr result (λ e. StopsFor (FaultyText (wanted_by_run calling) bytes.now) e) }
 {
     let net = net_for(alloc, bytes, calling)?;

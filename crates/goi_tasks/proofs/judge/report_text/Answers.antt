@@ -1,4 +1,4 @@
-use Rattle.goi_jobs.specs.declared.task.Task.TheVariants.{Check, ShowNet, Circuit, Span, Steps}
+use Rattle.goi_jobs.specs.declared.task.Task.TheVariants.{Check, ShowNet, Circuit, RunCircuit, Span, Steps}
 use Rattle.goi_tasks.proofs.Texts.{by_these}
 use Rattle.goi_tasks.proofs.judge.report_text.Goals as goal
 
@@ -26,3 +26,8 @@ pub returns-in-Steps-clause-report : goal.returns-in-Steps-clause-report
 returns-in-Steps-clause-report g c =
     by_these c.args.task (Steps _ _) c.in-Steps.is c.args.bytes.now (g.C.Crew.count c.args.crew.now) c.report_steps.result
     c.report_steps.ensures.report
+
+pub returns-in-RunCircuit-clause-report : goal.returns-in-RunCircuit-clause-report
+returns-in-RunCircuit-clause-report g c =
+    by_these c.args.task (RunCircuit _ _ _ _) c.in-RunCircuit.is c.args.bytes.now (g.C.Crew.count c.args.crew.now)
+    c.report_circuit_run.result c.report_circuit_run.ensures.report

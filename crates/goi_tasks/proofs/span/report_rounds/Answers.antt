@@ -20,4 +20,5 @@ returns c =
       beyond = is.beyond;
       spent = is.spent;
     })
-    c.args.parts.profile c.args.parts.schedule c.status_of.result c.status_of.ensures c.in_ok-text.field-0.items c.in_ok-text.ensures _ c.plain.ensures
+    c.args.parts.profile c.args.parts.schedule c.status_of.result c.status_of.ensures c.in_ok-text.field-0.items c.in_ok-text.ensures _
+    c.plain.ensures

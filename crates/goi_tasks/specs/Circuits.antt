@@ -1,0 +1,53 @@
+-- A run of a program's circuit, by what its Verilog means: what it says of the program, and what is told of it.
+-- How the module runs stands in `circuit_runs`: an edge with `rst` up over registers that hold 0, and then edges until `done` or `full`.
+use Rattle.std.specs.Prelude.{◌≡◌, ℕ, suc, Bool, true, false, List, [], Option, None, Some}
+use Rattle.pcf_values.specs.declared.val.Val.{Val}
+use Rattle.pcf_values.specs.Terms.{TermTree}
+use Rattle.net_build.specs.NetOf.{net_of}
+use Rattle.verilog_tree.specs.Tree.{Item}
+use Rattle.verilog_waves.specs.Dump.{dump}
+use Rattle.circuit_module.specs.Module.{module_of}
+use Rattle.circuit_runs.specs.declared.outcome.Outcome.{Outcome}
+use Rattle.circuit_runs.specs.declared.outcome.Outcome.TheVariants.{Ended, Full, Odd, Waits}
+use Rattle.circuit_runs.specs.Running.{Comes}
+use Rattle.circuit_runs.specs.Laws.{CircuitTells}
+use Rattle.circuit_waves.specs.Laws.{edges_of}
+use Rattle.goi_reports.specs.Cycles.{cycles_report}
+use Rattle.goi_tasks.specs.Outputs.{Output}
+use Rattle.goi_tasks.specs.Replaying.{replay_status}
+
+-- the value of a run, if it ended with one
+abbrev pub answer_of : Outcome → Option Val
+answer_of (Ended v moves k) = Some v
+answer_of (Full k) = None
+answer_of (Odd k) = None
+answer_of Waits = None
+
+-- it ended since a stack or the forks were too small
+abbrev pub is_full : Outcome → Bool
+is_full (Ended v moves k) = false
+is_full (Full k) = true
+is_full (Odd k) = false
+is_full Waits = false
+
+-- what is told of a run of a module for which so many cycles were allowed: its answer, or with `waves` what the module holds, edge by edge
+abbrev pub IsTold : Bool → List Item → ℕ → Outcome → List ℕ → Type 0
+IsTold false items most outcome text = text ≡ cycles_report (answer_of outcome) (edges_of most outcome) (is_full outcome)
+IsTold true items most outcome text = text ≡ dump "goi" items (suc (edges_of most outcome))
+
+-- The output of the run of a program's circuit, with stacks of so many bits and so many forks, within so many cycles. What comes of the
+-- module is what comes of it by the meaning of Verilog, and it tells what the program means.
+pub record ReportsCircuit (stack forks budget : ℕ) (waves : Bool) (t : TermTree) (o : Output) : Type 0 where
+  pub outcome : Outcome
+  pub comes : Comes (net_of t) stack forks budget outcome
+  pub tells : CircuitTells t stack forks budget outcome
+  pub ends : o.status ≡ replay_status (answer_of outcome)
+  pub told : IsTold waves (module_of (net_of t) stack forks) budget outcome o.report
+  pub no_notes : o.notes ≡ []
+
+-- such a run ends with this status
+pub record EndsCircuit (stack forks budget : ℕ) (t : TermTree) (status : ℕ) : Type 0 where
+  pub outcome : Outcome
+  pub comes : Comes (net_of t) stack forks budget outcome
+  pub tells : CircuitTells t stack forks budget outcome
+  pub ends : status ≡ replay_status (answer_of outcome)
