@@ -2,6 +2,8 @@
 pub mod Fixed
 -- The module of a net.
 pub mod Module
+-- The sizes of a net's circuit, and its module with these.
+pub mod Sizes
 -- What rows and memories come to: the statements of `law_cell_parts`.
 pub mod Parts
 -- What is written isn't read by the next row: the statements of `law_apart`.
