@@ -18,3 +18,5 @@ pub mod Joins
 pub mod Numbers
 -- the edge at reset
 mod Reset
+-- the sizes of a net's circuit are small enough
+mod Sizes

@@ -1,12 +1,13 @@
--- The edges of the module over cells: the statement of `law_cell_reset`.
+-- The edges of the module over cells: the statements of `law_cell_reset` and `law_sizes_fit`.
 -- Of the world it is asked that `rst` is stable around each edge, and that all has settled before it.
-use Rattle.std.specs.Prelude.{◌<◌, ℕ, ◌*◌, ◌^◌}
+use Rattle.std.specs.Prelude.{◌<◌, ◌≤◌, ℕ, ◌*◌, ◌^◌}
 use Rattle.net_build.specs.Nets.{NetTree}
 use Rattle.cell_core.specs.Cells.{Cell}
 use Rattle.cell_core.specs.Circuit.{Sizes, powered}
 use Rattle.verilog_tree.specs.Meaning.{Store, edge, set_vec}
 use Rattle.module_edges.specs.Meets.{InRange}
 use Rattle.cell_module.specs.Module.{pointer_bits, cell_module}
+use Rattle.cell_module.specs.Sizes.{sizes_of}
 use Rattle.cell_edges.specs.Stands.{Stands}
 
 -- an edge with `rst` at 1, from whatever was there
@@ -29,3 +30,7 @@ pub record CellSizes (z : Sizes) : Type 0 where
 abbrev pub CellModuleResets : Type 0
 CellModuleResets = (net : NetTree) (z : Sizes) → CellSizes z → InRange net → (mem : ℕ → Cell) (S : Store) →
     Stands net z (powered net mem) (cell_reset_edge net z S)
+
+-- the sizes of every net's circuit are such, where so many cells and forks are asked for
+abbrev pub SizesFit : Type 0
+SizesFit = (net : NetTree) (cells forks : ℕ) → cells ≤ 1048575 → 0 < forks → forks < 2 ^ 31 → CellSizes (sizes_of net cells forks)

@@ -4,3 +4,5 @@ mod Parts
 mod Apart
 -- a module that the standard takes
 mod WellFormed
+-- the lists of a net's sizes have room for each wire
+mod Sizes

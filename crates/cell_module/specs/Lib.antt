@@ -2,7 +2,7 @@
 pub mod Fixed
 -- The module of a net.
 pub mod Module
--- The sizes of a net's circuit, and its module with these.
+-- The sizes of a net's circuit, its module with these, and the statement of `law_sizes`.
 pub mod Sizes
 -- What rows and memories come to: the statements of `law_cell_parts`.
 pub mod Parts

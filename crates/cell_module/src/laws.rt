@@ -3,6 +3,7 @@
 ghost use Rattle.cell_module.specs.Laws.{CellModuleIsWellFormed};
 ghost use Rattle.cell_module.specs.Parts.{RowsSetWords, RowsSetLiterals, MemoriesHavePlaces};
 ghost use Rattle.cell_module.specs.Apart.{CellsApart, ForksApart, QuestionsApart};
+ghost use Rattle.cell_module.specs.Sizes.{SizesCover};
 
 /// The module of every net, of whatever sizes, declares each name once and above its use, and uses it as what it is; has one driver for
 /// each; and has no latch.
@@ -24,4 +25,9 @@ pub fn law_apart()
     ensures cells { CellsApart }
     ensures forks { ForksApart }
     ensures questions { QuestionsApart }
+{}
+
+/// Where no wire's type and depth ask for more than a list may have, the lists of a net's sizes have room for each wire.
+pub fn law_sizes()
+    ensures { SizesCover }
 {}
