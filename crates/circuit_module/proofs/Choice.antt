@@ -1,5 +1,5 @@
--- The case over `at` finds the row of the token's channel, and the block of the rows assigns to nothing else.
-use Rattle.std.proofs.Common.{◌≡◌, ℕ, zero, suc, ◌+◌, ◌*◌, ◌<◌, ◌≤◌, true, false, not, ◌&&◌, ◌||◌, Option, Some, None}
+-- The cases of a net's rows: that of a channel is its row's, and all assign to the row's registers alone.
+use Rattle.std.proofs.Common.{◌≡◌, ℕ, zero, suc, ◌+◌, ◌*◌, ◌%◌, ◌^◌, ◌<◌, ◌≤◌, length, Bool, true, false, not, ◌&&◌, ◌||◌, Option, Some, None}
 use Rattle.std.proofs.Common.{refl, sym, ap, ◌∙◌, subst, arith, ⊎_elim}
 use Rattle.std.proofs.lemmas.Bool.{eq-eqb, ne_eqb, cases_eq, cases_lt, or_parts}
 use Prim.Native.String.{String}
@@ -9,14 +9,42 @@ use Rattle.circuit_core.specs.Rows.{Channel, rises, falls, number, Row, GO, CONS
 use Rattle.circuit_core.specs.Rows.{RIGHT, CON, PUSHR, PUSHL, SELECT, POP, BOXIN, BOXOUT, DOOROUT, DOORIN, FIXIN, FIXOUT, FIXVAR, DEAD}
 use Rattle.circuit_core.specs.Rows.{row_of}
 use Rattle.verilog_tree.specs.Tree.{Arms}
-use Rattle.verilog_tree.specs.Meaning.{Scope, Store, chosen, run, run_arms}
+use Rattle.verilog_tree.specs.Meaning.{Scope, Store, fit, chosen, run, run_arms}
 use Rattle.verilog_tree.proofs.Frames.{leaves, leaves_arms, calm, calm_arms}
 use Rattle.circuit_module.specs.Module.{row_stmt, row_arm, row_arms}
-use Rattle.circuit_module.proofs.Edge.{row_name, two_names, three_names}
+use Rattle.circuit_module.specs.InRange.{Named}
+use Rattle.circuit_module.specs.Cases.{RowsFound, ConstantsSet}
 
+-- a channel's wire
 abbrev pub wire_of : Channel → ℕ
 wire_of (rises w) = w
 wire_of (falls w) = w
+
+-- names that the rows assign to
+abbrev pub row_name : String → Bool
+row_name x = eqt "op" x || (eqt "to" x || (eqt "other" x || eqt "number" x))
+
+-- names that aren't a row's
+two_names : (x : String) → row_name x ≡ false → (not (eqt "op" x) && not (eqt "to" x)) ≡ true
+two_names x h =
+    let (a, h') = or_parts (eqt "op" x) (eqt "to" x || (eqt "other" x || eqt "number" x)) h in
+    let (b, h'') = or_parts (eqt "to" x) (eqt "other" x || eqt "number" x) h' in
+    rw (a, b) refl
+
+three_names : (x : String) → row_name x ≡ false → (not (eqt "op" x) && (not (eqt "to" x) && not (eqt "other" x))) ≡ true
+three_names x h =
+    let (a, h') = or_parts (eqt "op" x) (eqt "to" x || (eqt "other" x || eqt "number" x)) h in
+    let (b, h'') = or_parts (eqt "to" x) (eqt "other" x || eqt "number" x) h' in
+    let (c, h''') = or_parts (eqt "other" x) (eqt "number" x) h'' in
+    rw (a, b, c) refl
+
+pub four_names : (x : String) → row_name x ≡ false →
+    (not (eqt "op" x) && (not (eqt "to" x) && (not (eqt "other" x) && not (eqt "number" x)))) ≡ true
+four_names x h =
+    let (a, h') = or_parts (eqt "op" x) (eqt "to" x || (eqt "other" x || eqt "number" x)) h in
+    let (b, h'') = or_parts (eqt "to" x) (eqt "other" x || eqt "number" x) h' in
+    let (c, d) = or_parts (eqt "other" x) (eqt "number" x) h'' in
+    rw (a, b, c, d) refl
 
 -- a name that isn't a row's isn't the operation's
 name_one : (x : String) → row_name x ≡ false → not (eqt "op" x) ≡ true
@@ -30,7 +58,7 @@ name_const x h =
     rw (a, b, d) refl
 
 -- a row assigns to the row's names alone
-pub row_leaves : (r : Row) (x : String) → row_name x ≡ false → leaves x (row_stmt r) ≡ true
+row_leaves : (r : Row) (x : String) → row_name x ≡ false → leaves x (row_stmt r) ≡ true
 row_leaves (GO c) x h = two_names x h
 row_leaves (CONST n c) x h = name_const x h
 row_leaves (SUCC c) x h = two_names x h
@@ -58,7 +86,7 @@ row_leaves (FIXVAR c) x h = two_names x h
 row_leaves DEAD x h = name_one x h
 
 -- and to no memory
-pub row_calm : (r : Row) → calm (row_stmt r) ≡ true
+row_calm : (r : Row) → calm (row_stmt r) ≡ true
 row_calm (GO c) = refl
 row_calm (CONST n c) = refl
 row_calm (SUCC c) = refl
@@ -154,20 +182,15 @@ module _ (P : Scope) (u : ℕ) (D : Store) where
             ∙ ih (⊎_elim (λ (q : x < w). absurd (omega arith)) (λ q. let z : w ≡ x → ⊥ = λ t. d (sym t) in omega arith) (cases_lt x w))
             (omega arith)
 
-    -- a channel without a row has no case
-    same_number : (c d : Channel) → number c ≡ number d → c ≡ d
-    same_number (rises a) (rises b) e = let z : a ≡ b = omega arith in ap rises z
-    same_number (rises a) (falls b) e = absurd (omega arith)
-    same_number (falls a) (rises b) e = absurd (omega arith)
-    same_number (falls a) (falls b) e = let z : a ≡ b = omega arith in ap falls z
+-- the statements of `law_rows`
+pub rows_found : RowsFound
+rows_found net P u S c r h l = finds P u S net c r h (length net.wires) 0 (omega arith) (one_of_them c l)
+  where
+    one_of_them : (c : Channel) → Named (length net.wires) c → wire_of c < 0 + length net.wires
+    one_of_them (rises w) l = omega arith
+    one_of_them (falls w) l = omega arith
 
-    no_arm : (c d : Channel) (rest : Arms) → row_of net c ≡ None → run_arms P u (number c) (row_arm d (row_of net d) rest) D
-        ≡ run_arms P u (number c) rest D
-    no_arm c d rest h = ⊎_elim (λ e. ap (λ o. run_arms P u (number c) (row_arm d o rest) D) (ap (row_of net) (sym (same_number c d e)) ∙ h))
-        (λ n. other_arm (number c) d (row_of net d) rest n) (cases_eq (number c) (number d))
-
-    pub finds_none : (c : Channel) → row_of net c ≡ None → (n w : ℕ) → run_arms P u (number c) (row_arms net w n) D ≡ D
-    finds_none c h zero w = refl
-    finds_none c h (suc n) w =
-        no_arm c (rises w) (row_arm (falls w) (row_of net (falls w)) (row_arms net (suc w) n)) h
-        ∙ no_arm c (falls w) (row_arms net (suc w) n) h ∙ finds_none c h n (suc w)
+pub constants_set : ConstantsSet
+constants_set P w n c l S =
+    let low : n % 2 ^ 64 ≡ n = omega arith in
+    ap (λ k. fit k (fit 64 n)) w ∙ ap (fit 64) low ∙ low

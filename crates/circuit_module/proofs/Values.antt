@@ -1,4 +1,4 @@
--- The arithmetic of values in 65 bits.
+-- The arithmetic of values in 65 bits, and the count of moves in 64.
 use Rattle.std.proofs.Common.{◌≡◌, ℕ, zero, suc, ◌+◌, ◌-◌, ◌/◌, ◌%◌, ◌^◌, ◌<◌, Bool, true, false, cond, ◌||◌, refl, ap}
 use Rattle.std.proofs.Common.{◌∙◌, arith, nat_eq, nat_lt}
 use Rattle.std.proofs.lemmas.Bool.{ltb-true, ltb-false, eqb-true, eqb-false, ne_eqb}
@@ -51,3 +51,7 @@ pred_value (Number (suc n)) s =
     ∙ ap (λ b. fit 65 (chosen (nonzero (flag (nonzero (flag b)))) (suc n) (fit 65 (2 ^ 65 + suc n - 1))))
     (ne_eqb (suc n) 0 (λ z. omega arith))
     ∙ omega arith
+
+-- counting modulo 2 ^ 64
+pub counts_on : (m : ℕ) → fit 64 (fit 64 (m % 2 ^ 64 + 1)) ≡ suc m % 2 ^ 64
+counts_on m = omega arith

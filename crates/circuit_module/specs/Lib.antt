@@ -1,12 +1,12 @@
--- What a reader has to believe, in this order: how many bits the registers have.
+-- What a reader has to believe, in this order: how many bits tell so many things apart.
 pub mod Sizes
--- The parts of the module that are the same for all nets.
+-- The parts of a module that are the same for all nets.
 pub mod Fixed
--- The module of a net.
+-- The case of each row of a net, and whether a node multiplies.
 pub mod Module
--- Which registers stand for a circuit.
+-- Values in registers, and the places of a ring.
 pub mod Stands
--- What declarations and rows come to: the statements of `law_parts`.
-pub mod Parts
--- The statements of `law_len` and `law_well_formed`.
-pub mod Laws
+-- A net whose rows fit: the statement of `law_in_range`.
+pub mod InRange
+-- What the cases come to: the statements of `law_rows`.
+pub mod Cases

@@ -1,5 +1,5 @@
--- The module of a net as a tree: its sizes, a case for each row, and the fixed parts.
-use Rattle.std.specs.Prelude.{ℕ, zero, suc, Bool, true, false, List, [], ◌∷◌, ◌++◌, ◌||◌, length, Option, Some, None, if◌then◌else◌}
+-- What a circuit's module takes from a net: a case for each row, and whether a node multiplies.
+use Rattle.std.specs.Prelude.{ℕ, zero, suc, Bool, true, false, List, [], ◌∷◌, ◌||◌, Option, Some, None}
 use Prim.Native.String.{String}
 use Rattle.pcf_values.specs.declared.operator.Operator.{Operator}
 use Rattle.pcf_values.specs.declared.operator.Operator.TheVariants.{Plus, Minus, Times}
@@ -8,16 +8,11 @@ use Rattle.pcf_values.specs.declared.side.Side.TheVariants.{Left, Right}
 use Rattle.net_build.specs.declared.node.Node.{Node}
 use Rattle.net_build.specs.declared.node.Node.TheVariants.{Binary}
 use Rattle.net_build.specs.Nets.{NetTree}
-use Rattle.interleave_laws.specs.Start.{start_of}
 use Rattle.circuit_core.specs.Rows.{Channel, rises, falls, number, Row, GO, CONST, SUCC, PRED, TEST, FORK, JOIN, ANSWER, STAR, UNSTAR}
 use Rattle.circuit_core.specs.Rows.{LEFT, RIGHT, CON, PUSHR, PUSHL, SELECT, POP, BOXIN, BOXOUT, DOOROUT, DOORIN, FIXIN, FIXOUT, FIXVAR}
-use Rattle.circuit_core.specs.Rows.{DEAD, row_of, channel_of}
-use Rattle.verilog_tree.specs.Tree.{Expr, num, sized, const, Stmt, Arms, Said, word_said, number_said, otherwise, arm, skip, Item, size}
-use Rattle.verilog_tree.specs.Tree.{clocked, settles}
-use Rattle.circuit_module.specs.Sizes.{channel_bits, fork_bits, length_bits, long_bits}
-use Rattle.circuit_module.specs.Fixed.{set, block, ports, port_notes, size_notes, constants, registers, row_registers, rows_block}
-use Rattle.circuit_module.specs.Fixed.{len_notes, len_function, stack_wires, clock_notes}
-use Rattle.circuit_module.specs.Fixed.{stack_block, over_wires, fork_wires, multiplier, no_multiplier, clock_block}
+use Rattle.circuit_core.specs.Rows.{DEAD, row_of}
+use Rattle.verilog_tree.specs.Tree.{num, sized, const, Stmt, Arms, Said, word_said, number_said, otherwise, arm, skip}
+use Rattle.circuit_module.specs.Fixed.{set, block}
 
 -- the operation of an operator at a side
 abbrev pub join_name : Operator → Side → String
@@ -89,32 +84,3 @@ is_times n = false
 abbrev pub multiplies : List Node → Bool
 multiplies [] = false
 multiplies (n ∷ ns) = is_times n || multiplies ns
-
--- the product: a multiplier where one is needed
-abbrev pub product_of : Bool → Expr
-product_of b = if b then multiplier else no_multiplier
-
--- the sizes that are told
-abbrev pub given_sizes : (wires start N E : ℕ) → List Item
-given_sizes wires start N E = size "WIRES" wires ∷ size "START" start ∷ size "N" N ∷ size "E" E ∷ []
-
--- and those that follow: numbers, so that no function of the tool has to be believed
-abbrev pub derived_sizes : (wires N E : ℕ) → List Item
-derived_sizes wires N E =
-    size "C" (channel_bits wires) ∷ size "S" (fork_bits E) ∷ size "L" (length_bits N) ∷ size "M" (long_bits N) ∷ []
-
--- all of them
-abbrev pub sizes : (wires start N E : ℕ) → List Item
-sizes wires start N E = port_notes ++ (given_sizes wires start N E ++ (size_notes ++ derived_sizes wires N E))
-
--- the module of any rows
-abbrev pub module_with : (wires start N E : ℕ) → Arms → Expr → List Item
-module_with wires start N E rows product =
-    ports ++ (sizes wires start N E ++ (constants ++ (registers ++ (row_registers ++ (rows_block rows ∷ (len_notes ++ (len_function ∷
-    (stack_wires ++ (settles stack_block ∷ (over_wires ++ (fork_wires product ++ (clock_notes ++ clocked clock_block ∷ []))))))))))))
-
--- the module of a net, with stacks of N bits and E forks
-abbrev pub module_of : NetTree → (N E : ℕ) → List Item
-module_of net N E =
-    module_with (length net.wires) (number (channel_of (start_of net))) N E (row_arms net 0 (length net.wires))
-    (product_of (multiplies net.nodes))

@@ -1,5 +1,5 @@
--- The sizes of a module.
-use Rattle.std.specs.Prelude.{ℕ, zero, suc, ◌+◌, ◌*◌, ◌^◌, true, false, max, nat_le}
+-- The sizes that follow from counts: numbers, so that no function of the tool has to be believed.
+use Rattle.std.specs.Prelude.{ℕ, zero, suc, ◌*◌, ◌^◌, true, false, max, nat_le}
 
 -- the first c, of so many from c on, with n at most 2 to the power of c
 abbrev pub bits_from : ℕ → ℕ → ℕ → ℕ
@@ -10,18 +10,10 @@ bits_from (suc k) c n = elim (nat_le n (2 ^ c)) [ true ↦ c | false ↦ bits_fr
 abbrev pub bits_for : ℕ → ℕ
 bits_for n = bits_from n 0 n
 
--- of a channel
+-- the bits of a channel
 abbrev pub channel_bits : ℕ → ℕ
 channel_bits wires = bits_for (2 * wires)
 
--- of a fork's number, one at least
+-- the bits of a fork's number, one at least
 abbrev pub fork_bits : ℕ → ℕ
 fork_bits E = max 1 (bits_for E)
-
--- of a signature's length
-abbrev pub length_bits : ℕ → ℕ
-length_bits N = bits_for (N + 4)
-
--- of a stack before it is cut
-abbrev pub long_bits : ℕ → ℕ
-long_bits N = 2 * N + 8

@@ -1,22 +1,15 @@
-//! What holds of the module whatever its registers hold.
+//! What holds of the rows of a net.
 
-ghost use Rattle.circuit_module.specs.Laws.{LenCounts, ModuleIsWellFormed};
-ghost use Rattle.circuit_module.specs.Parts.{RowsSetOperations, RowsSetNumbers, MemoriesHaveWords};
+ghost use Rattle.circuit_module.specs.InRange.{SoundInRange};
+ghost use Rattle.circuit_module.specs.Cases.{RowsFound, ConstantsSet};
 
-/// The module of every net, of whatever sizes, declares each name once and above its use, and uses it as what it is; has one driver for
-/// each; and has no latch.
-pub fn law_well_formed()
-    ensures { ModuleIsWellFormed }
+/// The rows of a sound net whose constants have 64 bits fit the fields of its module.
+pub fn law_in_range()
+    ensures { SoundInRange }
 {}
 
-/// The function `len` of the module finds where a signature ends, whatever its variables hold.
-pub fn law_len()
-    ensures { LenCounts }
-{}
-
-/// The case of each row sets the number of its operation, and that of a constant its number; the memories have a word for each fork.
-pub fn law_parts()
-    ensures operations { RowsSetOperations }
-    ensures numbers { RowsSetNumbers }
-    ensures words { MemoriesHaveWords }
+/// Among the cases of a net the one of a channel is its row's, and that of a constant sets it.
+pub fn law_rows()
+    ensures found { RowsFound }
+    ensures constants { ConstantsSet }
 {}

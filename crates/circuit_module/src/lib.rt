@@ -1,12 +1,11 @@
-//! The circuit of a net as a tree of Verilog, and what its wires and blocks come to; no code.
+//! What the module of a circuit takes from a net; no code.
 //!
-//! The tree is `module_of net N E`: ports, sizes, a case for each row of the net, and parts that are the same for all nets. The laws say
-//! that it is a module that a tool takes, what each row sets, and that its function `len` finds where a signature ends. Lemmas below them
-//! say, part by part, what the wires and the blocks that settle come to, and what the clock's block then writes at a row of stacks.
-//! `Stands` says which registers show a circuit. That one edge is one cycle is left to `module_edges`, and what a program's module tells to
-//! `module_means`. That the text which a program prints is this tree's text, no law says yet.
+//! A net's rows become cases over the token's channel (`row_arms`), its counts become numbers of bits (`channel_bits`, `fork_bits`), and a
+//! multiplier is there where a node multiplies. Values, a ring's places and small parts of blocks are here too, so that the module over
+//! cells of `cell_module` and what is said of it in `cell_edges` and `cell_steps` have one home for them. The laws say
+//! that among the cases that of a channel is its row's, and that a sound net's rows fit the fields of its module.
 #![tactic(auto)]
 
 mod laws;
 
-pub use laws::{law_len, law_parts, law_well_formed};
+pub use laws::{law_in_range, law_rows};

@@ -13,8 +13,7 @@ use Rattle.net_build.specs.Sound.{Sound, In, Is, Meets, roots}
 use Rattle.interleave_laws.specs.Start.{root_wire}
 use Rattle.circuit_core.specs.Rows.{Channel, rises, falls, Row, JOIN, STAR, UNSTAR, row_up, row_down, if_at, found_row, row_of}
 use Rattle.circuit_module.specs.Module.{is_times, multiplies}
-use Rattle.module_edges.specs.Meets.{Named, RowFits, InRange}
-use Rattle.module_means.specs.Laws.{SmallConstants, FewWires}
+use Rattle.circuit_module.specs.InRange.{Named, RowFits, InRange, SmallConstants, FewWires}
 
 -- a wire that is there
 is_low : (ws : List WireTree) (w : ℕ) (k : WireTree) → slice_get ws w ≡ Some k → w < length ws
