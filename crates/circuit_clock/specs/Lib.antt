@@ -1,2 +1,0 @@
--- How the code's registers are seen.
-pub mod Views

@@ -1,9 +1,0 @@
-use Rattle.std.proofs.Common.{◌-◌, ◌+◌}
-use Rattle.interleave_laws.specs.MapRuns.{IsReachedWithin}
-use Rattle.test_clock.proofs.cycles.along.Given as goal
-
-abbrev pub invariant-loop-moves : goal.invariant-loop-moves
-invariant-loop-moves l = IsReachedWithin l.net (l.moves + 1) l.core
-
-abbrev pub decreases-loop-moves : goal.decreases-loop-moves
-decreases-loop-moves l = 10000 - l.moves

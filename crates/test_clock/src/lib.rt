@@ -1,7 +1,0 @@
-//! Tests of the circuit's cycles in code, held against the machine cycle by cycle.
-#![tactic(auto)]
-
-#[cfg(test)]
-mod cycles;
-#[cfg(test)]
-mod examples;
