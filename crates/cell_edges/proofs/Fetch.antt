@@ -16,14 +16,13 @@ use Rattle.verilog_tree.proofs.Frames.{items_leave, settled_leaves, settled_calm
 use Rattle.circuit_module.specs.Sizes.{channel_bits}
 use Rattle.circuit_module.specs.Fixed.{no_row}
 use Rattle.circuit_module.specs.Module.{row_stmt, row_arms, multiplies}
-use Rattle.circuit_module.proofs.Len.{enough_bits}
-use Rattle.circuit_module.proofs.Edge.{row_name, four_names}
-use Rattle.circuit_module.proofs.Choice.{finds, rows_leave, rows_calm, wire_of}
+use Rattle.circuit_module.proofs.Sizes.{enough_bits}
+use Rattle.circuit_module.proofs.Choice.{row_name, four_names, finds, rows_leave, rows_calm, wire_of}
 use Rattle.cell_core.specs.Circuit.{Sizes}
 use Rattle.cell_module.specs.Fixed.{way_wires, list_wires, cell_fork_wires, number_wires}
 use Rattle.cell_module.specs.Module.{cell_module, cell_product}
 use Rattle.cell_module.specs.Parts.{word_of, deeds_of}
-use Rattle.module_edges.specs.Meets.{Named, RowFits, InRange}
+use Rattle.circuit_module.specs.InRange.{Named, RowFits, InRange}
 use Rattle.cell_edges.specs.Stands.{main_of, side_of, literal_of}
 
 -- a channel of the net's wires fits its field

@@ -15,9 +15,9 @@ use Rattle.verilog_tree.specs.Meaning.{Scope, Store, flag, fit, nonzero, chosen,
 use Rattle.verilog_tree.proofs.Numbers.{fits}
 use Rattle.circuit_module.specs.Sizes.{channel_bits, fork_bits}
 use Rattle.circuit_module.specs.Stands.{value_number, next_in}
-use Rattle.circuit_module.proofs.Len.{enough_bits, below_higher}
-use Rattle.module_edges.specs.Meets.{Named}
-use Rattle.module_edges.proofs.ForkEdges.{fork_fits, next_is}
+use Rattle.circuit_module.proofs.Sizes.{enough_bits, below_higher, fork_fits}
+use Rattle.circuit_module.proofs.Rings.{next_is}
+use Rattle.circuit_module.specs.InRange.{Named}
 use Rattle.cell_core.specs.Cells.{Pointer}
 use Rattle.cell_core.specs.Circuit.{Sizes, CellSlot}
 use Rattle.cell_module.specs.Fixed.{way_wires, list_wires}

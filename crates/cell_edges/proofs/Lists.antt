@@ -7,7 +7,7 @@ use Rattle.std.proofs.Math.Nat.{pow-le-pow_right}
 use Rattle.verilog_tree.specs.Meaning.{flag, fit, chosen}
 use Rattle.verilog_tree.proofs.Numbers.{fits, flag_le}
 use Rattle.circuit_module.specs.Sizes.{bits_for}
-use Rattle.circuit_module.proofs.Len.{enough_bits}
+use Rattle.circuit_module.proofs.Sizes.{enough_bits}
 use Rattle.cell_core.specs.Cells.{Pointer, first_of, below, dir, dirs_below}
 use Rattle.cell_module.specs.Module.{place_bits, pointer_bits}
 use Rattle.cell_edges.specs.Stands.{pointer_number, pointers_number, marks_number, Within}

@@ -20,8 +20,7 @@ use Rattle.verilog_tree.proofs.Frames.{settled_leaves}
 use Rattle.circuit_module.specs.Stands.{value_number, Small}
 use Rattle.circuit_module.specs.Module.{multiplies}
 use Rattle.circuit_module.proofs.Values.{high_number, low_number, value_low, succ_value}
-use Rattle.circuit_module.proofs.Boths.{plus_number, minus_number, times_number}
-use Rattle.module_edges.proofs.JoinStep.{within_small}
+use Rattle.circuit_module.proofs.Boths.{plus_number, minus_number, times_number, within_small}
 use Rattle.cell_core.specs.Circuit.{Sizes}
 use Rattle.cell_module.specs.Fixed.{number_wires}
 use Rattle.cell_module.specs.Module.{cell_product}

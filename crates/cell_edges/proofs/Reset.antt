@@ -11,7 +11,7 @@ use Rattle.circuit_module.specs.Sizes.{channel_bits, fork_bits}
 use Rattle.cell_core.specs.Cells.{Cell}
 use Rattle.cell_core.specs.Circuit.{Sizes, CellToken, powered}
 use Rattle.cell_module.specs.Fixed.{runs, fetch_row, cell_reset, cell_move, cell_clock}
-use Rattle.module_edges.specs.Meets.{InRange}
+use Rattle.circuit_module.specs.InRange.{InRange}
 use Rattle.cell_edges.specs.Stands.{IsRow, Going, Stands, opened}
 use Rattle.cell_edges.specs.Laws.{CellSizes, CellModuleResets}
 use Rattle.cell_edges.proofs.Fetch.{channel_fits, zero_fits, P as scope_of, D, R as all_of, keeps, row_wires}

@@ -22,6 +22,7 @@ one_at_least n = omega arith
 capped : (n : ℕ) → max 1 (min most_listed n) ≤ 1048577
 capped n = omega arith
 
+-- the statement of `law_sizes_fit`
 pub sizes_fit : SizesFit
 sizes_fit net cells forks l some few = record {
   forks = some;

@@ -1,16 +1,14 @@
 -- The ring of questions, and the open forks.
 use Rattle.std.proofs.Common.{◌≡◌, ℕ, zero, suc, ◌+◌, ◌-◌, ◌*◌, ◌/◌, ◌%◌, ◌^◌, ◌<◌, ◌≤◌, Bool, true, false, cond, List, [], ◌∷◌, ◌++◌}
 use Rattle.std.proofs.Common.{length, Option, Some, None, is_some, refl, sym, ap, ◌∙◌, subst, arith, nat_eq, ◌⊎◌, inl, inr, ⊎_elim}
-use Rattle.std.proofs.lemmas.Bool.{eqb-true, eqb-false}
+use Rattle.std.proofs.Common.{pow-suc}
+use Rattle.std.proofs.lemmas.Nat.{pow_pos, shr-shr, mod-pow-add}
+use Rattle.std.proofs.lemmas.Bool.{eqb-true, eqb-false, eq-eqb, ne_eqb}
 use Prim.Native.String.{String}
-use Rattle.circuit_core.specs.Circuit as bits
-use Rattle.circuit_core.specs.Circuit.{Slot}
-use Rattle.circuit_core.proofs.Enough.{free_low as bits_free_low}
 use Rattle.verilog_tree.specs.Meaning.{flag, with_bit}
+use Rattle.verilog_tree.proofs.Numbers.{flag_le}
 use Rattle.circuit_module.specs.Stands.{next_in, after}
-use Rattle.circuit_module.specs.Stands as standing
 use Rattle.circuit_module.proofs.Rings.{next_below}
-use Rattle.circuit_module.proofs.Rings as rings
 use Rattle.cell_core.specs.Circuit.{Sizes, CellQuestion, CellSlot, set_slot, or_free, free_from}
 use Rattle.cell_edges.specs.Stands.{Waits, InRing, opened}
 
@@ -63,70 +61,130 @@ ring_same z m m' (q ∷ qs) i a b h = (
   ring_same z m m' qs (next_in z.forks i) a b h.1,
 )
 
--- ---- the open forks: a slot is open where one of the circuit with bits is
+-- ---- the open forks
 
-abbrev twin : Option CellSlot → Option Slot
-twin None = None
-twin (Some g) = Some (record { around = 0; node = 0; boxes = []; answered = None })
+-- they have a bit each
+opened_low : (f : ℕ → Option CellSlot) (k n : ℕ) → opened f k n < 2 ^ n
+opened_low f k zero = omega arith
+opened_low f k (suc n) =
+    let h = opened_low f (suc k) n in let b = flag_le (is_some (f k)) in let p = pow-suc 2 n in omega arith
 
-abbrev twins : (ℕ → Option CellSlot) → ℕ → Option Slot
-twins f j = twin (f j)
+-- a bit of a number behind its first
+next_bit : (a x j : ℕ) → a ≤ 1 → (a + 2 * x) / 2 ^ suc j ≡ x / 2 ^ j
+next_bit a x j l =
+    let z : 1 + j ≡ suc j = omega arith in
+    let half : (a + 2 * x) / 2 ^ 1 ≡ x = omega arith in
+    ap (λ k. (a + 2 * x) / 2 ^ k) (sym z) ∙ sym (shr-shr (a + 2 * x) 1 j) ∙ ap (λ y. y / 2 ^ j) half
 
-twin_some : (o : Option CellSlot) → is_some o ≡ is_some (twin o)
-twin_some None = refl
-twin_some (Some g) = refl
+-- the bit of a fork says whether it is open
+bit_from : (f : ℕ → Option CellSlot) (k n j : ℕ) → j < n → opened f k n / 2 ^ j % 2 ≡ flag (is_some (f (k + j)))
+bit_from f k zero j l = absurd (omega arith)
+bit_from f k (suc n) zero l =
+    let b = flag_le (is_some (f k)) in
+    let z : k + 0 ≡ k = omega arith in
+    rw z (omega arith)
+bit_from f k (suc n) (suc j) l =
+    let z : k + suc j ≡ suc k + j = omega arith in
+    ap (λ x. x % 2) (next_bit (flag (is_some (f k))) (opened f (suc k) n) j (flag_le (is_some (f k))))
+    ∙ bit_from f (suc k) n j (omega arith) ∙ ap (λ i. flag (is_some (f i))) (sym z)
 
-opened_twin : (f : ℕ → Option CellSlot) (k n : ℕ) → opened f k n ≡ standing.opened (twins f) k n
-opened_twin f k zero = refl
-opened_twin f k (suc n) = ap (λ b. flag b + 2 * opened f (suc k) n) (twin_some (f k))
-    ∙ ap (λ x. flag (is_some (twin (f k))) + 2 * x) (opened_twin f (suc k) n)
+-- a bit that is set, at the first place and behind it
+with_first : (a x b : ℕ) → a ≤ 1 → with_bit (a + 2 * x) 0 b ≡ b + 2 * x
+with_first a x b l = omega arith
 
-free_twin : (f : ℕ → Option CellSlot) (k n : ℕ) → free_from f k n ≡ bits.free_from (twins f) k n
-free_twin f k zero = refl
-free_twin f k (suc n) = ap (or_free (f k) k) (free_twin f (suc k) n) ∙ same (f k) (bits.free_from (twins f) (suc k) n)
+-- and behind it
+with_next : (a x i b : ℕ) → a ≤ 1 → with_bit (a + 2 * x) (suc i) b ≡ a + 2 * with_bit x i b
+with_next a x i b l =
+    let p = pow-suc 2 (suc i) in
+    let q = pow-suc 2 i in
+    let d = next_bit a x (suc i) l in
+    let z : i + 1 ≡ suc i = omega arith in
+    let half : (a + 2 * x) / 2 ^ 1 ≡ x = omega arith in
+    let low : (a + 2 * x) % 2 ^ 1 ≡ a = omega arith in
+    let m : (a + 2 * x) % 2 ^ suc i ≡ (x % 2 ^ i) * 2 + a =
+    ap (λ k. (a + 2 * x) % 2 ^ k) (sym z) ∙ mod-pow-add (a + 2 * x) i 1 ∙ ap (λ y. (y % 2 ^ i) * 2 ^ 1 + (a + 2 * x) % 2 ^ 1) half
+    ∙ ap (λ y. (x % 2 ^ i) * 2 ^ 1 + y) low in
+    sums (x / 2 ^ suc i) (2 ^ suc i) (2 ^ suc (suc i)) (2 ^ i) b (x % 2 ^ i) a ((a + 2 * x) / 2 ^ suc (suc i))
+    ((a + 2 * x) % 2 ^ suc i) d p q m
   where
-    same : (o : Option CellSlot) (x : Option ℕ) → or_free o k x ≡ bits.or_free (twin o) k x
-    same None x = refl
-    same (Some g) x = refl
+    sums : (h s t r b y a u v : ℕ) → u ≡ h → t ≡ s * 2 → s ≡ r * 2 → v ≡ y * 2 + a → u * t + b * s + v ≡ a + 2 * (h * s + b * r + y)
+    sums h s t r b y a u v eu et es ev = rw (eu, et, es, ev) (omega arith)
+
+-- a change before these forks
+untouched : (f : ℕ → Option CellSlot) (s : ℕ) (x : Option CellSlot) (k n : ℕ) → s < k → opened (set_slot f s x) k n ≡ opened f k n
+untouched f s x k zero l = refl
+untouched f s x k (suc n) l =
+    let e = ne_eqb k s (λ z. omega arith) in
+    ap (λ b. flag (is_some (cond b x (f k))) + 2 * opened (set_slot f s x) (suc k) n) e
+    ∙ ap (λ y. flag (is_some (f k)) + 2 * y) (untouched f s x (suc k) n (omega arith))
+
+-- a fork that is opened or closed is a bit that is set
+set_from : (f : ℕ → Option CellSlot) (x : Option CellSlot) (k n j : ℕ) → j < n →
+    with_bit (opened f k n) j (flag (is_some x)) ≡ opened (set_slot f (k + j) x) k n
+set_from f x k zero j l = absurd (omega arith)
+set_from f x k (suc n) zero l =
+    let z : k + 0 ≡ k = omega arith in
+    with_first (flag (is_some (f k))) (opened f (suc k) n) (flag (is_some x)) (flag_le (is_some (f k)))
+    ∙ subst (λ s. flag (is_some x) + 2 * opened f (suc k) n ≡ opened (set_slot f s x) k (suc n)) (sym z)
+    (ap (λ y. flag (is_some x) + 2 * y) (sym (untouched f k x (suc k) n (omega arith)))
+    ∙ ap (λ b. flag (is_some (cond b x (f k))) + 2 * opened (set_slot f k x) (suc k) n) (sym (eq-eqb k k refl)))
+set_from f x k (suc n) (suc j) l =
+    let z : k + suc j ≡ suc k + j = omega arith in
+    with_next (flag (is_some (f k))) (opened f (suc k) n) j (flag (is_some x)) (flag_le (is_some (f k)))
+    ∙ ap (λ y. flag (is_some (f k)) + 2 * y) (set_from f x (suc k) n j (omega arith))
+    ∙ ap (λ b. flag (is_some (cond b x (f k))) + 2 * opened (set_slot f (suc k + j) x) (suc k) n)
+    (sym (ne_eqb k (suc k + j) (λ y. omega arith)))
+    ∙ ap (λ s. opened (set_slot f s x) k (suc n)) (sym z)
+
+-- all are open where none is free
+pub all_open : (f : ℕ → Option CellSlot) (k n : ℕ) → free_from f k n ≡ None → opened f k n ≡ 2 ^ n - 1
+all_open f k zero e = refl
+all_open f k (suc n) e = go (f k) e (all_open f (suc k) n)
+  where
+    go : (o : Option CellSlot) → or_free o k (free_from f (suc k) n) ≡ None →
+        (free_from f (suc k) n ≡ None → opened f (suc k) n ≡ 2 ^ n - 1) →
+        flag (is_some o) + 2 * opened f (suc k) n ≡ 2 ^ suc n - 1
+    go None e ih = absurd cc
+    go (Some g) e ih = let h = ih e in let p = pow-suc 2 n in let q = pow_pos n in omega arith
+
+-- and not all of them where one is
+pub one_free : (f : ℕ → Option CellSlot) (k n s : ℕ) → free_from f k n ≡ Some s → suc (opened f k n) < 2 ^ n
+one_free f k zero s e = absurd cc
+one_free f k (suc n) s e = go (f k) e (one_free f (suc k) n s)
+  where
+    go : (o : Option CellSlot) → or_free o k (free_from f (suc k) n) ≡ Some s →
+        (free_from f (suc k) n ≡ Some s → suc (opened f (suc k) n) < 2 ^ n) →
+        suc (flag (is_some o) + 2 * opened f (suc k) n) < 2 ^ suc n
+    go None e ih = let l = opened_low f (suc k) n in let p = pow-suc 2 n in omega arith
+    go (Some g) e ih = let h = ih e in let p = pow-suc 2 n in omega arith
+
+-- a free fork is one of them
+low_from : (f : ℕ → Option CellSlot) (k n s : ℕ) → free_from f k n ≡ Some s → s < k + n
+low_from f k zero s e = absurd cc
+low_from f k (suc n) s e = go (f k) e (low_from f (suc k) n s)
+  where
+    go : (o : Option CellSlot) → or_free o k (free_from f (suc k) n) ≡ Some s → (free_from f (suc k) n ≡ Some s → s < suc k + n) →
+        s < k + suc n
+    go None e ih = let z : k ≡ s = cc in omega arith
+    go (Some g) e ih = let h = ih e in omega arith
+
+-- ---- and counted from the first
 
 pub opened_bit : (f : ℕ → Option CellSlot) (n j : ℕ) → j < n → opened f 0 n / 2 ^ j % 2 ≡ flag (is_some (f j))
-opened_bit f n j l =
-    let z : 0 + j ≡ j = omega arith in
-    ap (λ x. x / 2 ^ j % 2) (opened_twin f 0 n) ∙ rings.opened_bit (twins f) 0 n j l ∙ ap (λ i. flag (is_some (twins f i))) z
-    ∙ ap flag (sym (twin_some (f j)))
+opened_bit f n j l = let z : 0 + j ≡ j = omega arith in bit_from f 0 n j l ∙ ap (λ i. flag (is_some (f i))) z
+
+pub opened_set : (f : ℕ → Option CellSlot) (x : Option CellSlot) (n j : ℕ) → j < n →
+    with_bit (opened f 0 n) j (flag (is_some x)) ≡ opened (set_slot f j x) 0 n
+opened_set f x n j l = let z : 0 + j ≡ j = omega arith in set_from f x 0 n j l ∙ ap (λ i. opened (set_slot f i x) 0 n) z
+
+pub free_low : (f : ℕ → Option CellSlot) (n s : ℕ) → free_from f 0 n ≡ Some s → s < n
+free_low f n s e = let l = low_from f 0 n s e in omega arith
 
 -- the same forks are open
 pub opened_same : (f g : ℕ → Option CellSlot) (k n : ℕ) → ((j : ℕ) → is_some (f j) ≡ is_some (g j)) → opened f k n ≡ opened g k n
 opened_same f g k zero h = refl
 opened_same f g k (suc n) h =
     ap (λ b. flag b + 2 * opened f (suc k) n) (h k) ∙ ap (λ x. flag (is_some (g k)) + 2 * x) (opened_same f g (suc k) n h)
-
--- a fork that is opened or closed is a bit that is set
-pub opened_set : (f : ℕ → Option CellSlot) (x : Option CellSlot) (n j : ℕ) → j < n →
-    with_bit (opened f 0 n) j (flag (is_some x)) ≡ opened (set_slot f j x) 0 n
-opened_set f x n j l =
-    let z : 0 + j ≡ j = omega arith in
-    ap (λ y. with_bit y j (flag (is_some x))) (opened_twin f 0 n) ∙ ap (λ b. with_bit (standing.opened (twins f) 0 n) j (flag b))
-    (twin_some x)
-    ∙ rings.opened_set (twins f) (twin x) 0 n j l ∙ ap (λ i. standing.opened (bits.set_slot (twins f) i (twin x)) 0 n) z
-    ∙ rings.opened_same (bits.set_slot (twins f) j (twin x)) (twins (set_slot f j x)) 0 n both ∙ sym (opened_twin (set_slot f j x) 0 n)
-  where
-    both : (i : ℕ) → is_some (bits.set_slot (twins f) j (twin x) i) ≡ is_some (twins (set_slot f j x) i)
-    both i = go (nat_eq i j)
-      where
-        go : (b : Bool) → is_some (cond b (twin x) (twin (f i))) ≡ is_some (twin (cond b x (f i)))
-        go true = refl
-        go false = refl
-
--- all are open where none is free
-pub all_open : (f : ℕ → Option CellSlot) (n : ℕ) → free_from f 0 n ≡ None → opened f 0 n ≡ 2 ^ n - 1
-all_open f n e = opened_twin f 0 n ∙ rings.all_open (twins f) 0 n (sym (free_twin f 0 n) ∙ e)
-
-pub one_free : (f : ℕ → Option CellSlot) (n s : ℕ) → free_from f 0 n ≡ Some s → suc (opened f 0 n) < 2 ^ n
-one_free f n s e = subst (λ x. suc x < 2 ^ n) (sym (opened_twin f 0 n)) (rings.one_free (twins f) 0 n s (sym (free_twin f 0 n) ∙ e))
-
-pub free_low : (f : ℕ → Option CellSlot) (n s : ℕ) → free_from f 0 n ≡ Some s → s < n
-free_low f n s e = let l = bits_free_low (twins f) 0 n s (sym (free_twin f 0 n) ∙ e) in omega arith
 
 -- a slot behind a change is the new one, or one from before
 pub slot_cases : (f : ℕ → Option CellSlot) (s : ℕ) (x : Option CellSlot) (a : ℕ) (g : CellSlot) → set_slot f s x a ≡ Some g →

@@ -13,8 +13,8 @@ use Rattle.verilog_tree.proofs.Frames.{leaves, items_leave, run_leaves, settled_
 use Rattle.circuit_module.specs.Sizes.{fork_bits}
 use Rattle.circuit_module.specs.Fixed.{set, free_step, free_block, from_end}
 use Rattle.circuit_module.specs.Module.{multiplies}
-use Rattle.circuit_module.proofs.Len.{below_higher}
-use Rattle.module_edges.proofs.ForkEdges.{or_zero, from_end_is, fork_fits}
+use Rattle.circuit_module.proofs.Sizes.{below_higher, fork_fits}
+use Rattle.circuit_module.proofs.Rings.{or_zero, from_end_is}
 use Rattle.cell_core.specs.Circuit.{Sizes, CellSlot, or_free, free_from}
 use Rattle.cell_module.specs.Fixed.{list_wires, cell_fork_wires, number_wires}
 use Rattle.cell_module.specs.Module.{cell_product}

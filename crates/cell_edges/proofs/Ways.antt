@@ -17,7 +17,7 @@ use Rattle.cell_core.specs.Circuit.{Sizes}
 use Rattle.cell_module.specs.Fixed.{way_wires}
 use Rattle.cell_module.specs.Module.{pointer_bits}
 use Rattle.cell_module.specs.Parts.{word_of, deeds_of}
-use Rattle.module_edges.specs.Meets.{Named}
+use Rattle.circuit_module.specs.InRange.{Named}
 use Rattle.cell_edges.specs.Stands.{pointers_number, marks_number, IsRow}
 use Rattle.cell_edges.proofs.Known.{known}
 use Rattle.cell_edges.proofs.Fetch.{P as scope_of, channel_fits}

@@ -5,7 +5,7 @@ use Rattle.net_build.specs.Nets.{NetTree}
 use Rattle.cell_core.specs.Cells.{Cell}
 use Rattle.cell_core.specs.Circuit.{Sizes, powered}
 use Rattle.verilog_tree.specs.Meaning.{Store, edge, set_vec}
-use Rattle.module_edges.specs.Meets.{InRange}
+use Rattle.circuit_module.specs.InRange.{InRange}
 use Rattle.cell_module.specs.Module.{pointer_bits, cell_module}
 use Rattle.cell_module.specs.Sizes.{sizes_of}
 use Rattle.cell_edges.specs.Stands.{Stands}

@@ -1,10 +1,10 @@
 -- What a row's case sets, and how many words the memories have: by computation.
-use Rattle.std.proofs.Common.{refl, arith}
+use Rattle.std.proofs.Common.{refl}
 use Rattle.pcf_values.specs.declared.operator.Operator.TheVariants.{Plus, Minus, Times}
 use Rattle.pcf_values.specs.declared.side.Side.TheVariants.{Left, Right}
 use Rattle.circuit_core.specs.Rows.{GO, CONST, SUCC, PRED, TEST, FORK, JOIN, ANSWER, STAR, UNSTAR, LEFT, RIGHT, CON}
 use Rattle.circuit_core.specs.Rows.{PUSHR, PUSHL, SELECT, POP, BOXIN, BOXOUT, DOOROUT, DOORIN, FIXIN, FIXOUT, FIXVAR, DEAD}
-use Rattle.verilog_tree.proofs.Numbers.{fits_twice}
+use Rattle.circuit_module.proofs.Choice.{constants_set}
 use Rattle.cell_module.specs.Parts.{RowsSetWords, RowsSetLiterals, MemoriesHavePlaces}
 
 -- row by row
@@ -41,7 +41,7 @@ set_words wires start z rows product (FIXVAR c) S = refl
 set_words wires start z rows product DEAD S = refl
 
 pub set_literals : RowsSetLiterals
-set_literals wires start z rows product n c low S = fits_twice 64 64 n low (omega arith)
+set_literals wires start z rows product n c low S = constants_set _ refl n c low S
 
 pub have_places : MemoriesHavePlaces
 have_places wires start z rows product = (refl, refl, refl, refl, refl, refl, refl)

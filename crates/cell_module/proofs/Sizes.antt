@@ -15,6 +15,7 @@ most_is f (v ∷ ws) (suc n) w e = let h = most_is f ws n w e in omega (arith, h
 capped : (x most limit : ℕ) → x ≤ most → x ≤ limit → x ≤ min limit most
 capped x most limit a b = omega (arith, a, b)
 
+-- the statement of `law_sizes`: wire by wire
 pub covered : SizesCover
 covered net cells forks lists n w is =
     let all = lists n w is in

@@ -9,11 +9,10 @@ use Rattle.verilog_tree.specs.Meaning.{Store, fire, fit, flag, nonzero, chosen, 
 use Rattle.verilog_tree.proofs.Numbers.{fits}
 use Rattle.circuit_module.specs.Sizes.{channel_bits, fork_bits}
 use Rattle.circuit_module.specs.Stands.{next_in, after}
+use Rattle.circuit_module.proofs.Sizes.{below_higher, fork_fits}
+use Rattle.circuit_module.proofs.Rings.{after_below, or_zero, next_is}
 use Rattle.circuit_module.proofs.Values.{value_low}
-use Rattle.circuit_module.proofs.Len.{below_higher}
-use Rattle.circuit_module.proofs.Rings.{after_below}
-use Rattle.module_edges.specs.Meets.{Named, InRange}
-use Rattle.module_edges.proofs.ForkEdges.{or_zero, fork_fits, next_is}
+use Rattle.circuit_module.specs.InRange.{Named, InRange}
 use Rattle.cell_core.specs.Circuit.{Sizes, CellToken, CellQuestion, CellSlot, CellCircuit, free_from, stuck, split, too_long}
 use Rattle.cell_module.specs.Fixed.{cell_clock}
 use Rattle.cell_module.specs.Module.{pointer_bits}
@@ -119,7 +118,7 @@ module _ (net : NetTree) (z : Sizes) (sizes : CellSizes z) (range : InRange net)
     -- none is free
     none_free : free_from C.slots 0 E ≡ None → After (stuck C')
     none_free e = subst (λ X. Stands net z (stuck C') X)
-        (sym (edge_to true (eq-eqb (opened C.slots 0 E) (2 ^ E - 1) (all_open C.slots E e))))
+        (sym (edge_to true (eq-eqb (opened C.slots 0 E) (2 ^ E - 1) (all_open C.slots 0 E e))))
         (full_stands net z sizes range C S st k live ready meets (stuck C') (ended_at net z R word true) live refl
         (no_result net z sizes range C S st k live ready meets) refl (full_fork net z R c d))
 
@@ -127,7 +126,7 @@ module _ (net : NetTree) (z : Sizes) (sizes : CellSizes z) (range : InRange net)
     one_found : (s : ℕ) → free_from C.slots 0 E ≡ Some s → After (split (Some s) c d k C')
     one_found s e = subst (λ X. Stands net z (split (Some s) c d k C') X)
         (sym (edge_to false (ne_eqb (opened C.slots 0 E) (2 ^ E - 1)
-        (λ y. let x = one_free C.slots E s e in let p = pow_pos E in omega arith))))
+        (λ y. let x = one_free C.slots 0 E s e in let p = pow_pos E in omega arith))))
         (on_stands net z sizes range C S st k live ready meets (record k { channel = c; mine = s }) (split (Some s) c d k C') G refl ready
         (no_result net z sizes range C S st k live ready meets) refl o.on o.base.moves
         (record {

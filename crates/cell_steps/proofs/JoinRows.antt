@@ -15,11 +15,11 @@ use Rattle.verilog_tree.proofs.Frames.{settled_leaves}
 use Rattle.circuit_module.specs.Sizes.{fork_bits}
 use Rattle.circuit_module.specs.Module.{multiplies}
 use Rattle.circuit_module.specs.Stands.{value_number, Small, next_in, after}
-use Rattle.circuit_module.proofs.Values.{value_low}
+use Rattle.circuit_module.proofs.Sizes.{fork_fits}
 use Rattle.circuit_module.proofs.Rings.{next_below}
-use Rattle.module_edges.specs.Meets.{Named, InRange}
-use Rattle.module_edges.proofs.ForkEdges.{fork_fits}
-use Rattle.module_edges.proofs.JoinStep.{both_small}
+use Rattle.circuit_module.proofs.Values.{value_low}
+use Rattle.circuit_module.proofs.Boths.{both_small}
+use Rattle.circuit_module.specs.InRange.{Named, InRange}
 use Rattle.cell_core.specs.Circuit.{Sizes, CellToken, CellQuestion, CellSlot, CellCircuit, set_slot, arrive, arrive_at, next_token, later}
 use Rattle.cell_core.specs.Circuit.{asked}
 use Rattle.cell_core.specs.Circuit.{too_long}

@@ -8,7 +8,7 @@ use Rattle.circuit_core.specs.Rows.{RIGHT, CON, PUSHR, PUSHL, SELECT, POP, BOXIN
 use Rattle.circuit_core.specs.Rows.{row_of}
 use Rattle.verilog_tree.specs.Meaning.{Store, fire, fit, flag, nonzero, chosen}
 use Rattle.verilog_tree.proofs.Numbers.{fits, fits_twice}
-use Rattle.module_edges.specs.Meets.{Named, InRange}
+use Rattle.circuit_module.specs.InRange.{Named, InRange}
 use Rattle.cell_core.specs.Cells.{Pointer, Stacks, Made, point, first_of, below, new_cell, more, after}
 use Rattle.cell_core.specs.Circuit.{Sizes, CellToken, CellCircuit, too_long, used_up, stuck, shifted}
 use Rattle.cell_module.specs.Fixed.{cell_clock}

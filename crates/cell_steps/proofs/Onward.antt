@@ -13,10 +13,10 @@ use Rattle.verilog_tree.proofs.Numbers.{fits}
 use Rattle.verilog_tree.proofs.Frames.{items_leave, settled_leaves}
 use Rattle.circuit_module.specs.Sizes.{channel_bits, fork_bits}
 use Rattle.circuit_module.specs.Stands.{value_number, after}
-use Rattle.circuit_module.proofs.Edge.{row_name, counts_on}
-use Rattle.circuit_module.proofs.Len.{enough_bits}
-use Rattle.module_edges.specs.Meets.{Named, InRange}
-use Rattle.module_edges.proofs.ForkEdges.{fork_fits}
+use Rattle.circuit_module.proofs.Sizes.{enough_bits, fork_fits}
+use Rattle.circuit_module.proofs.Values.{counts_on}
+use Rattle.circuit_module.proofs.Choice.{row_name}
+use Rattle.circuit_module.specs.InRange.{Named, InRange}
 use Rattle.cell_core.specs.Cells.{Pointer, Stacks, first_of, cell_at}
 use Rattle.cell_core.specs.Circuit.{Sizes, CellToken, CellQuestion, CellSlot, CellCircuit}
 use Rattle.cell_module.specs.Fixed.{way_wires, cell_clock}

@@ -12,7 +12,7 @@ use Rattle.verilog_tree.specs.Meaning.{Store, fire, fit, flag, chosen}
 use Rattle.verilog_tree.proofs.Numbers.{fits}
 use Rattle.circuit_module.specs.Stands.{value_number, Small}
 use Rattle.circuit_module.proofs.Values.{pred_value, value_low}
-use Rattle.module_edges.specs.Meets.{Named, InRange}
+use Rattle.circuit_module.specs.InRange.{Named, InRange}
 use Rattle.cell_core.specs.Cells.{Pointer, Stacks, Made, nil, first_of, below, dir, dirs_below, after, cell_at}
 use Rattle.cell_core.specs.Circuit.{Sizes, CellToken, CellCircuit, too_long, used_up, stuck, shifted, goes}
 use Rattle.cell_module.specs.Fixed.{cell_clock}

@@ -11,7 +11,7 @@ use Rattle.circuit_core.specs.Rows.{PUSHL, SELECT, POP, BOXIN, BOXOUT, DOOROUT, 
 use Rattle.verilog_tree.specs.Meaning.{Store, fire, settled, flag, set_vec}
 use Rattle.circuit_module.specs.Stands.{value_number}
 use Rattle.circuit_module.specs.Module.{multiplies}
-use Rattle.module_edges.specs.Meets.{RowFits, InRange}
+use Rattle.circuit_module.specs.InRange.{RowFits, InRange}
 use Rattle.cell_core.specs.Cells.{Cell, to, first_of, below, cell_at, reads, needs_cell, row_on}
 use Rattle.cell_core.specs.Circuit.{Sizes, CellToken, CellCircuit, too_long, stuck, shifted, operate, operate_on, clock_on, clock, clocks}
 use Rattle.cell_core.specs.Circuit.{powered}

@@ -6,7 +6,7 @@ use Rattle.net_build.specs.Sound.{Sound}
 use Rattle.cell_core.specs.Cells.{Cell}
 use Rattle.cell_core.specs.Circuit.{Sizes, CellToken, CellCircuit, clock, clocks, powered}
 use Rattle.verilog_tree.specs.Meaning.{Store, edge, set_vec}
-use Rattle.module_edges.specs.Meets.{InRange}
+use Rattle.circuit_module.specs.InRange.{InRange}
 use Rattle.cell_module.specs.Module.{cell_module}
 use Rattle.cell_edges.specs.Stands.{Stands}
 use Rattle.cell_edges.specs.Laws.{CellSizes, cell_reset_edge}

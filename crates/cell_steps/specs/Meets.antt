@@ -4,7 +4,7 @@ use Rattle.pcf_values.specs.declared.val.Val.{Val}
 use Rattle.net_build.specs.Nets.{NetTree}
 use Rattle.circuit_core.specs.Rows.{Row, FORK, JOIN, row_of}
 use Rattle.circuit_module.specs.Stands.{Small}
-use Rattle.module_edges.specs.Meets.{Named}
+use Rattle.circuit_module.specs.InRange.{Named}
 use Rattle.cell_core.specs.Cells.{reads, needs_cell, row_on}
 use Rattle.cell_core.specs.Circuit.{Sizes, CellToken, CellQuestion, CellSlot, CellCircuit, free_from, too_long}
 use Rattle.cell_module.specs.Apart.{is_join}

@@ -9,6 +9,7 @@ below_power : (n : ℕ) → n < 2 ^ n
 below_power zero = omega arith
 below_power (suc n) = let h = below_power n in let p = pow-suc 2 n in omega arith
 
+-- the power that is found is enough
 enough_from : (k c n : ℕ) → n ≤ 2 ^ (c + k) → n ≤ 2 ^ bits_from k c n
 enough_from zero c n h = let e : c + 0 ≡ c = omega arith in rw e at h
 enough_from (suc k) c n h =
@@ -23,6 +24,7 @@ enough_from (suc k) c n h =
 pub enough_bits : (n : ℕ) → n ≤ 2 ^ bits_for n
 enough_bits n = enough_from n 0 n (let z : 0 + n ≡ n = omega arith in let l = below_power n in rw z (omega arith))
 
+-- the first power that is enough is no higher than another that is
 few_from : (k c n w : ℕ) → n ≤ 2 ^ w → c ≤ w → bits_from k c n ≤ w
 few_from zero c n w h l = l
 few_from (suc k) c n w h l = go (nat_le n (2 ^ c)) refl (few_from k (suc c) n w h)
