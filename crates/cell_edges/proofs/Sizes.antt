@@ -1,10 +1,10 @@
 -- The sizes of a net's circuit are numbers without a width that Verilog takes.
 use Rattle.std.proofs.Common.{ℕ, suc, ◌*◌, ◌^◌, ◌<◌, ◌≤◌, max, min, arith}
 use Rattle.std.proofs.lemmas.Nat.{mul-le}
-use Rattle.circuit_module.specs.Sizes.{bits_for}
 use Rattle.circuit_module.proofs.Sizes.{few_bits}
-use Rattle.cell_module.specs.Module.{place_bits, pointer_bits}
-use Rattle.cell_module.specs.Sizes.{most_listed, most_of, marks_of_wires, sigs_of_wires, boxes_of_wires}
+use Rattle.cell_core.specs.Depths.{marks_in}
+use Rattle.cell_module.specs.Module.{pointer_bits}
+use Rattle.cell_module.specs.Sizes.{most_listed, most_of, sigs_of_wires, boxes_of_wires}
 use Rattle.cell_edges.specs.Laws.{SizesFit}
 
 -- a pointer has at most 21 bits
@@ -26,12 +26,12 @@ capped n = omega arith
 pub sizes_fit : SizesFit
 sizes_fit net cells forks l some few = record {
   forks = some;
-  marks = one_at_least _;
+  marks = one_at_least (most_of (λ v. marks_in v.type) net.wires);
   sigs = omega arith;
-  boxes = one_at_least _;
+  boxes = one_at_least (most_of (λ v. v.depth) net.wires);
   few_forks = few;
   few_cells = omega (arith, l);
-  few_marks = let h = capped _ in omega (arith, h);
+  few_marks = let h = capped (most_of (λ v. marks_in v.type) net.wires) in omega (arith, h);
   few_sigs = few_in (pointer_bits cells) (sigs_of_wires net.wires) (short cells l) (omega arith);
-  few_boxes = few_in (pointer_bits cells) (boxes_of_wires net.wires) (short cells l) (capped _);
+  few_boxes = few_in (pointer_bits cells) (boxes_of_wires net.wires) (short cells l) (capped (most_of (λ v. v.depth) net.wires));
 }

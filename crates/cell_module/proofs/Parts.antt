@@ -4,7 +4,9 @@ use Rattle.pcf_values.specs.declared.operator.Operator.TheVariants.{Plus, Minus,
 use Rattle.pcf_values.specs.declared.side.Side.TheVariants.{Left, Right}
 use Rattle.circuit_core.specs.Rows.{GO, CONST, SUCC, PRED, TEST, FORK, JOIN, ANSWER, STAR, UNSTAR, LEFT, RIGHT, CON}
 use Rattle.circuit_core.specs.Rows.{PUSHR, PUSHL, SELECT, POP, BOXIN, BOXOUT, DOOROUT, DOORIN, FIXIN, FIXOUT, FIXVAR, DEAD}
+use Rattle.verilog_tree.specs.Meaning.{scope}
 use Rattle.circuit_module.proofs.Choice.{constants_set}
+use Rattle.cell_module.specs.Module.{cell_module_with}
 use Rattle.cell_module.specs.Parts.{RowsSetWords, RowsSetLiterals, MemoriesHavePlaces}
 
 -- row by row
@@ -41,7 +43,7 @@ set_words wires start z rows product (FIXVAR c) S = refl
 set_words wires start z rows product DEAD S = refl
 
 pub set_literals : RowsSetLiterals
-set_literals wires start z rows product n c low S = constants_set _ refl n c low S
+set_literals wires start z rows product n c low S = constants_set (scope (cell_module_with wires start z rows product)) refl n c low S
 
 pub have_places : MemoriesHavePlaces
 have_places wires start z rows product = (refl, refl, refl, refl, refl, refl, refl)
