@@ -1,0 +1,2 @@
+-- The statement of `law_lists`.
+pub mod Laws
