@@ -1,8 +1,8 @@
 -- The circuit goes along with the processor, or is full.
-use Rattle.std.proofs.Common.{◌≡◌, ◌⊎◌, ℕ, zero, suc, Bool, true, false, cond, ◌&&◌, ◌||◌, List, [], ◌∷◌}
-use Rattle.std.proofs.Common.{◌++◌, length, Option, Some, None, refl, sym, ap, ◌∙◌, subst, ⊎_elim, inl, inr}
-use Rattle.std.proofs.lemmas.Bool.{eqb-true, eqb-false, and_parts}
-use Rattle.std.specs.Prelude.{nat_eq, nat_lt}
+use Rattle.std.proofs.Common.{◌≡◌, ◌⊎◌, ℕ, zero, suc, ◌≤◌, Bool, true, false, cond, List, [], ◌∷◌}
+use Rattle.std.proofs.Common.{◌++◌, length, Option, Some, None, refl, sym, ap, ◌∙◌, subst, ⊎_elim, inl, inr, arith}
+use Rattle.std.proofs.lemmas.Bool.{eqb-true, eqb-false}
+use Rattle.std.specs.Prelude.{nat_eq}
 use Rattle.pcf_values.specs.declared.val.Val.{Val}
 use Rattle.pcf_values.specs.declared.val.Val.TheVariants.{Number}
 use Rattle.pcf_values.specs.Values.{val_succ, val_pred, val_op, at_zero}
@@ -14,7 +14,6 @@ use Rattle.net_build.specs.Nets.{NetTree}
 use Rattle.fork_join.specs.Entries.{Entry, pending, has_left, has_right, kept_as, same_key}
 use Rattle.fork_join.proofs.Keys.{key_true, key_same}
 use Rattle.move_rules.specs.Places.{Place, up, down, TokenTree, ask, ans, place_of}
-use Rattle.move_rules.specs.Stacks.{work_at, boxes_at}
 use Rattle.move_rules.specs.Moves.{solo_at}
 use Rattle.interleave_laws.specs.States.{State, other}
 use Rattle.interleave_laws.specs.Runs.{Runs, LeadsTo}
@@ -25,11 +24,10 @@ use Rattle.circuit_core.specs.Rows.{Channel, rises, falls, row_of, channel_of}
 use Rattle.circuit_core.specs.RowMoves.{stack_row, answer_row, question_row, by_row, by_found, at}
 use Rattle.circuit_core.specs.Processor.{Waiting, OpenFork, Registers, fork_at, kept, closed, taken, rest, last_of, meets, opens, does}
 use Rattle.circuit_core.specs.Processor.{tick_on, tick, ticks, reset}
-use Rattle.circuit_core.specs.Bits.{work_bits, box_bits, bit_row, BitPlace, to, over, same_bits}
 use Rattle.circuit_core.specs.Circuit.{Token, Question, Slot, Circuit, set_slot, or_free, free_from, stuck, goes, next_token, later, both}
-use Rattle.circuit_core.specs.Circuit.{shifted, split, arrive, compare, operate, operate_on, clock_on, clock, clocks, powered, circuit}
+use Rattle.circuit_core.specs.Circuit.{placed, shifted, split, arrive, compare, operate, operate_on, clock_on, clock, clocks, powered}
+use Rattle.circuit_core.specs.Circuit.{circuit}
 use Rattle.circuit_core.specs.CircuitLaws.{Bears, StandsAt, IsToken, IsLive, IsQuestion, IsQueue, IsAnswered, IsFork, Holds, CircuitShows}
-use Rattle.circuit_core.proofs.Bits.{bit_rows, box_bits_tell, bits_same}
 use Rattle.circuit_core.proofs.Forks.{kept_at, closed_at}
 use Rattle.circuit_core.proofs.Processor.{shows, none_some}
 
@@ -55,7 +53,7 @@ stands : (k : Token) (c : Channel) (m : Work) (t : Boxes) → Bears k c m t → 
 stands k (rises w) m t h = h
 stands k (falls w) m t h = h
 
-question_at : (q : Question) (d : Channel) (t : Boxes) → q.channel ≡ d → q.boxes ≡ box_bits t → IsQuestion (at d [] t) q
+question_at : (q : Question) (d : Channel) (t : Boxes) → q.channel ≡ d → q.boxes ≡ t → IsQuestion (at d [] t) q
 question_at q (rises w) t h g = record { channel = h; work = refl; boxes = g }
 question_at q (falls w) t h g = record { channel = h; work = refl; boxes = g }
 
@@ -86,7 +84,7 @@ taken_live : (v : Val) (ws : List Waiting) (qs : List Question) → IsQueue ws q
 taken_live v [] [] h = tt
 taken_live v [] (x ∷ qs) h = elim h [ ]
 taken_live v (w ∷ ws) [] h = elim h [ ]
-taken_live v (w ∷ ws) (q ∷ qs) h = record { channel = h.0.channel; work = sym (ap work_bits h.0.work); boxes = h.0.boxes }
+taken_live v (w ∷ ws) (q ∷ qs) h = record { channel = h.0.channel; work = sym h.0.work; boxes = h.0.boxes }
 
 taken_queue : (ws : List Waiting) (qs : List Question) → IsQueue ws qs → IsQueue (rest ws) (later qs)
 taken_queue [] [] h = tt
@@ -118,84 +116,65 @@ pub same_slot : (f g : Slot) → Some f ≡ Some g → f ≡ g
 same_slot f g h = cc
 
 -- a slot of these forks is one of those, where its entry is as before
-still_fork : (fs gs : List OpenFork) (f : Slot) (h : IsFork fs f) → fork_at gs f.node h.stack ≡ fork_at fs f.node h.stack →
-    IsFork gs f
-still_fork fs gs f h e = record { stack = h.stack; boxes = h.boxes; entry = h.entry; there = e ∙ h.there; answered = h.answered }
+still_fork : (fs gs : List OpenFork) (f : Slot) → IsFork fs f → fork_at gs f.node f.boxes ≡ fork_at fs f.node f.boxes → IsFork gs f
+still_fork fs gs f h e = record { entry = h.entry; there = e ∙ h.there; answered = h.answered }
 
 key_or : (b : Bool) (n : ℕ) (t : Boxes) (m : ℕ) (u : Boxes) → same_key n t m u ≡ b → (b ≡ false) ⊎ ((n ≡ m) × (t ≡ u))
 key_or true n t m u h = inr (key_true n t m u h)
 key_or false n t m u h = inl refl
 
-module _ (N E : ℕ) where
-  -- a row of stacks
-  shifts : (R : Registers) (C : Circuit) (j : ℕ) (x : TokenTree) (k : Token) (l : BitPlace) → Rest R C →
-      IsToken x (record k { channel = l.channel; work = l.work; boxes = l.boxes }) →
-      Along (record R { live = Some (j, x) }) (shifted N l k C)
-  shifts R C j x k l r h = go (over N l.work || over N l.boxes)
-    where
-      go : (b : Bool) → Along (record R { live = Some (j, x) })
-          (cond b (stuck C) (goes C (record k { channel = l.channel; work = l.work; boxes = l.boxes })))
-      go true = inl refl
-      go false = inr (with_token R C j x _ r h)
+-- a row leads where it leads from the token's own stacks
+pub loads : (r : Row) (m : Work) (t : Boxes) (o : Option Place) (k : Token) (c : Channel) → Bears k c m t → stack_row r m t ≡ o →
+    stack_row r k.work k.boxes ≡ o
+loads r m t o k c b h = ap (λ w. stack_row r w k.boxes) b.work ∙ ap (stack_row r m) b.boxes ∙ h
 
+-- the channel of a token
+pub channel_is : (x : TokenTree) (k : Token) → IsToken x k → k.channel ≡ channel_of (place_of x)
+channel_is (ask p) k h = h.channel
+channel_is (ans v p) k h = h.1.channel
+
+module _ (E : ℕ) where
   -- a row that leads somewhere is one of stacks
-  pub shifted_there : (i : ℕ) (r : Row) (m : Work) (t : Boxes) (q : Place) (k : Token) (C : Circuit) → stack_row r m t ≡ Some q →
-      operate N E i r k C ≡ shifted N (bit_row r k.work k.boxes) k C
-  shifted_there i (CONST n c) m t q k C h = absurd (none_some q h)
-  shifted_there i (SUCC c) m t q k C h = absurd (none_some q h)
-  shifted_there i (PRED c) m t q k C h = absurd (none_some q h)
-  shifted_there i (TEST c d) m t q k C h = absurd (none_some q h)
-  shifted_there i (FORK c d) m t q k C h = absurd (none_some q h)
-  shifted_there i (JOIN o s w) m t q k C h = absurd (none_some q h)
-  shifted_there i ANSWER m t q k C h = absurd (none_some q h)
-  shifted_there i DEAD m t q k C h = absurd (none_some q h)
-  shifted_there i r m t q k C h = refl
-
-  -- the bits that it makes of the token's
-  pub loads : (r : Row) (m : Work) (t : Boxes) (q : Place) (k : Token) (c : Channel) → Bears k c m t → stack_row r m t ≡ Some q →
-      bit_row r k.work k.boxes ≡ to (channel_of q) (work_bits (work_at q)) (box_bits (boxes_at q))
-  loads r m t q k c b h = ap (λ w. bit_row r w k.boxes) b.work ∙ ap (λ u. bit_row r (work_bits m) u) b.boxes ∙ bit_rows r m t q h
-
-  -- the token that goes on by a row of stacks
-  carried : (x : TokenTree) (k : Token) (l : BitPlace) (q : Place) →
-      l ≡ to (channel_of q) (work_bits (work_at q)) (box_bits (boxes_at q)) →
-      StandsAt q (record k { channel = l.channel; work = l.work; boxes = l.boxes })
-  carried x k l q e = record {
-    channel = ap (λ (l : BitPlace). l.channel) e;
-    work = ap (λ (l : BitPlace). l.work) e;
-    boxes =
-        ap (λ (l : BitPlace). l.boxes) e;
-  }
+  pub shifted_there : (i : ℕ) (r : Row) (m : Work) (t : Boxes) (q : Place) (k : Token) (c : Channel) (C : Circuit) → Bears k c m t →
+      stack_row r m t ≡ Some q → operate E i r k C ≡ goes C (placed k q)
+  shifted_there i (CONST n d) m t q k c C b h = absurd (none_some q h)
+  shifted_there i (SUCC d) m t q k c C b h = absurd (none_some q h)
+  shifted_there i (PRED d) m t q k c C b h = absurd (none_some q h)
+  shifted_there i (TEST d e) m t q k c C b h = absurd (none_some q h)
+  shifted_there i (FORK d e) m t q k c C b h = absurd (none_some q h)
+  shifted_there i (JOIN o s w) m t q k c C b h = absurd (none_some q h)
+  shifted_there i ANSWER m t q k c C b h = absurd (none_some q h)
+  shifted_there i DEAD m t q k c C b h = absurd (none_some q h)
+  shifted_there i r m t q k c C b h = ap (λ o. shifted o k C) (loads r m t (Some q) k c b h)
 
   -- a question by a row of stacks
   ask_stacks : (R : Registers) (C : Circuit) (j i : ℕ) (r : Row) (c : Channel) (m : Work) (t : Boxes) (k : Token) → Rest R C →
       Bears k c m t →
       (o : Option Place) → stack_row r m t ≡ o → (does (solo_at i o ask) j R).full ≡ false →
-      Along (does (solo_at i o ask) j R) (operate N E i r k C)
+      Along (does (solo_at i o ask) j R) (operate E i r k C)
   ask_stacks R C j i r c m t k h b None e f = not_full f
   ask_stacks R C j i r c m t k h b (Some q) e f =
-      subst (Along (record R { live = Some (j, ask q) })) (sym (shifted_there i r m t q k C e))
-      (shifts R C j (ask q) k (bit_row r k.work k.boxes) h (carried (ask q) k (bit_row r k.work k.boxes) q (loads r m t q k c b e)))
+      subst (Along (record R { live = Some (j, ask q) })) (sym (shifted_there i r m t q k c C b e))
+      (inr (with_token R C j (ask q) (placed k q) h (record { channel = refl; work = refl; boxes = refl })))
 
   -- and an answer
   ans_stacks : (R : Registers) (C : Circuit) (j i : ℕ) (r : Row) (c : Channel) (v : Val) (m : Work) (t : Boxes) (k : Token) →
       Rest R C → Bears k c m t → k.value ≡ v →
       (o : Option Place) → stack_row r m t ≡ o → (does (solo_at i o (ans v)) j R).full ≡ false →
-      Along (does (solo_at i o (ans v)) j R) (operate N E i r k C)
+      Along (does (solo_at i o (ans v)) j R) (operate E i r k C)
   ans_stacks R C j i r c v m t k h b z None e f = not_full f
   ans_stacks R C j i r c v m t k h b z (Some q) e f =
-      subst (Along (record R { live = Some (j, ans v q) })) (sym (shifted_there i r m t q k C e))
-      (shifts R C j (ans v q) k (bit_row r k.work k.boxes) h (z, carried (ans v q) k (bit_row r k.work k.boxes) q (loads r m t q k c b e)))
+      subst (Along (record R { live = Some (j, ans v q) })) (sym (shifted_there i r m t q k c C b e))
+      (inr (with_token R C j (ans v q) (placed k q) h (z, record { channel = refl; work = refl; boxes = refl })))
 
   -- a fork
   splits : (R : Registers) (C : Circuit) (j i : ℕ) (c d e : Channel) (t : Boxes) (k : Token) → Rest R C → Bears k e [] t →
-      (o : Option Entry) → fork_at R.forks i t ≡ o → (f : Option ℕ) → free_from C.slots 0 E ≡ f → (room : Bool) →
+      (o : Option Entry) → fork_at R.forks i t ≡ o → (f : Option ℕ) → free_from C.slots 0 E ≡ f →
       (opens o R j i (at c [] t) (at d [] t) t).full ≡ false →
-      Along (opens o R j i (at c [] t) (at d [] t) t) (split f room i c d k C)
-  splits R C j i c d e t k h b (Some y) z f g room full = not_full full
-  splits R C j i c d e t k h b None z None g room full = inl refl
-  splits R C j i c d e t k h b None z (Some s) g false full = inl refl
-  splits R C j i c d e t k h b None z (Some s) g true full = inr (record {
+      Along (opens o R j i (at c [] t) (at d [] t) t) (split f i c d k C)
+  splits R C j i c d e t k h b (Some y) z f g full = not_full full
+  splits R C j i c d e t k h b None z None g full = inl refl
+  splits R C j i c d e t k h b None z (Some s) g full = inr (record {
     live = stands (record k { channel = c; mine = s }) c [] t (record { channel = refl; work = b.work; boxes = b.boxes });
     queue = queue_more R.ring C.queue _ _ h.queue (question_at (record { channel = d; boxes = k.boxes; mine = s }) d t refl b.boxes);
     slots = λ a f q. ⊎_elim (λ (_, x). made f x) (λ (_, x). old a f x) (set_cases C.slots s (Some new) a f q);
@@ -222,11 +201,8 @@ module _ (N E : ℕ) where
       made : (f : Slot) → Some new ≡ Some f → IsFork forks f
       made f x = subst (IsFork forks) (same_slot new f x)
           (record {
-            stack = t;
-            boxes = b.boxes;
             entry = pending;
-            there =
-                ap (λ b. cond b (Some pending) (fork_at R.forks i t)) (key_same i t);
+            there = ap (fork_at forks i) b.boxes ∙ ap (λ b. cond b (Some pending) (fork_at R.forks i t)) (key_same i t);
             answered = tt;
           })
 
@@ -234,29 +210,24 @@ module _ (N E : ℕ) where
       clash : (a : ℕ) (f : Slot) → C.slots a ≡ Some f → f.node ≡ i → f.boxes ≡ k.boxes → ⊥
       clash a f q n u =
           let g = h.slots a f q in
-          let same : g.stack ≡ t = box_bits_tell g.stack t (sym g.boxes ∙ u ∙ b.boxes) in
-          none_some g.entry (sym z ∙ ap (λ n. fork_at R.forks n t) (sym n) ∙ ap (fork_at R.forks f.node) (sym same) ∙ g.there)
+          none_some g.entry (sym z ∙ ap (λ n. fork_at R.forks n t) (sym n) ∙ ap (fork_at R.forks f.node) (sym (u ∙ b.boxes)) ∙ g.there)
 
       old : (a : ℕ) (f : Slot) → C.slots a ≡ Some f → IsFork forks f
       old a f q =
-          let g = h.slots a f q in
-          still_fork R.forks forks f g
-          (⊎_elim (λ e. ap (λ b. cond b (Some pending) (fork_at R.forks f.node g.stack)) e)
-          (λ (n, u). absurd (clash a f q n (g.boxes ∙ ap box_bits u ∙ sym b.boxes)))
-          (key_or (same_key f.node g.stack i t) f.node g.stack i t refl))
+          still_fork R.forks forks f (h.slots a f q)
+          (⊎_elim (λ e. ap (λ b. cond b (Some pending) (fork_at R.forks f.node f.boxes)) e)
+          (λ (n, u). absurd (clash a f q n (u ∙ sym b.boxes)))
+          (key_or (same_key f.node f.boxes i t) f.node f.boxes i t refl))
 
   -- an answer at its fork
   module _ (R : Registers) (C : Circuit) (j i : ℕ) (o : Operator) (s : Side) (v : Val) (w : ℕ) (e : Channel) (t : Boxes) (k : Token)
       (h : Rest R C) (b : Bears k e [] t) (z : k.value ≡ v) (f : Slot) (here : C.slots k.mine ≡ Some f) (node : i ≡ f.node)
       (boxes : k.boxes ≡ f.boxes) where
     -- another slot has another key
-    pub other_key : (a : ℕ) (g : Slot) → (a ≡ k.mine → ⊥) → (q : C.slots a ≡ Some g) →
-        same_key g.node (h.slots a g q).stack i t ≡ false
+    pub other_key : (a : ℕ) (g : Slot) → (a ≡ k.mine → ⊥) → C.slots a ≡ Some g → same_key g.node g.boxes i t ≡ false
     other_key a g d q =
-        let y = h.slots a g q in
-        ⊎_elim (λ e. e) (λ (n, u). absurd (d
-        (h.apart a k.mine g f q here (n ∙ node) (y.boxes ∙ ap box_bits u ∙ sym b.boxes ∙ boxes))))
-        (key_or (same_key g.node y.stack i t) g.node y.stack i t refl)
+        ⊎_elim (λ e. e) (λ (n, u). absurd (d (h.apart a k.mine g f q here (n ∙ node) (u ∙ sym b.boxes ∙ boxes))))
+        (key_or (same_key g.node g.boxes i t) g.node g.boxes i t refl)
 
     keeps : fork_at R.forks i t ≡ Some pending →
         Holds (record R { live = taken R.ring; ring = rest R.ring; forks = kept i t (kept_as s v) R.forks }) (arrive None f o s w k C)
@@ -264,8 +235,8 @@ module _ (N E : ℕ) where
       live = taken_live k.value R.ring C.queue h.queue;
       queue = taken_queue R.ring C.queue h.queue;
       slots = λ a g x. ⊎_elim (λ (_, y). subst (IsFork fs) (same_slot _ g y) mine)
-          (λ (d, y). still_fork R.forks fs g (h.slots a g y) (kept_at i t (kept_as s v) R.forks g.node (h.slots a g y).stack ∙
-          ap (λ b. cond b (Some (kept_as s v)) (fork_at R.forks g.node (h.slots a g y).stack)) (other_key a g d y)))
+          (λ (d, y). still_fork R.forks fs g (h.slots a g y) (kept_at i t (kept_as s v) R.forks g.node g.boxes ∙
+          ap (λ b. cond b (Some (kept_as s v)) (fork_at R.forks g.node g.boxes)) (other_key a g d y)))
           (set_cases C.slots k.mine (Some (record f { answered = Some k.value })) a g x);
       apart = λ a a' g g' x x' n u.
           ⊎_elim
@@ -291,11 +262,9 @@ module _ (N E : ℕ) where
 
         mine : IsFork fs (record f { answered = Some k.value })
         mine = record {
-          stack = t;
-          boxes = sym boxes ∙ b.boxes;
           entry = kept_as s v;
-          there = ap (λ n. fork_at fs n t) (sym node) ∙ kept_at i t (kept_as s v) R.forks i t ∙
-              ap (λ b. cond b (Some (kept_as s v)) (fork_at R.forks i t)) (key_same i t);
+          there = ap (λ n. fork_at fs n f.boxes) (sym node) ∙ ap (fork_at fs i) (sym boxes ∙ b.boxes) ∙
+              kept_at i t (kept_as s v) R.forks i t ∙ ap (λ b. cond b (Some (kept_as s v)) (fork_at R.forks i t)) (key_same i t);
           answered = as_kept s;
         }
 
@@ -305,8 +274,8 @@ module _ (N E : ℕ) where
       live = (r, record { channel = refl; work = b.work; boxes = b.boxes });
       queue = h.queue;
       slots = λ a g x. ⊎_elim (λ (_, y). absurd (none_some g y))
-          (λ (d, y). still_fork R.forks (closed i t R.forks) g (h.slots a g y) (closed_at i t R.forks g.node (h.slots a g y).stack ∙
-          ap (λ b. cond b None (fork_at R.forks g.node (h.slots a g y).stack)) (other_key a g d y))) (set_cases C.slots k.mine None a g x);
+          (λ (d, y). still_fork R.forks (closed i t R.forks) g (h.slots a g y) (closed_at i t R.forks g.node g.boxes ∙
+          ap (λ b. cond b None (fork_at R.forks g.node g.boxes)) (other_key a g d y))) (set_cases C.slots k.mine None a g x);
       apart = λ a a' g g' x x' n u.
           ⊎_elim (λ (_, y). absurd (none_some g y))
           (λ (d, y). ⊎_elim (λ (_, y'). absurd (none_some g' y')) (λ (d', y'). h.apart a a' g g' y y' n u)
@@ -345,33 +314,30 @@ module _ (N E : ℕ) where
       (p : Option Slot) → C.slots k.mine ≡ p → (meets (fork_at R.forks i t) R j i o s v w t).full ≡ false →
       Along (meets (fork_at R.forks i t) R j i o s v w t) (compare p i o s w k C)
   compares R C j i o s v w e t k h b z None here full = inl refl
-  compares R C j i o s v w e t k h b z (Some f) here full = go (nat_eq i f.node && same_bits k.boxes f.boxes) refl
+  compares R C j i o s v w e t k h b z (Some f) here full = go (same_key i k.boxes f.node f.boxes) refl
     where
-      go : (c : Bool) → (nat_eq i f.node && same_bits k.boxes f.boxes) ≡ c →
+      go : (c : Bool) → same_key i k.boxes f.node f.boxes ≡ c →
           Along (meets (fork_at R.forks i t) R j i o s v w t) (cond c (arrive f.answered f o s w k C) (stuck C))
       go false q = inl refl
       go true q =
-          let (n, u) = and_parts (nat_eq i f.node) (same_bits k.boxes f.boxes) q in
-          let node = eqb-true i f.node n in
-          let boxes = bits_same k.boxes f.boxes u in
+          let (node, boxes) = key_true i k.boxes f.node f.boxes q in
           let g = h.slots k.mine f here in
-          let same : g.stack ≡ t = box_bits_tell g.stack t (sym g.boxes ∙ sym boxes ∙ b.boxes) in
           let there : fork_at R.forks i t ≡ Some g.entry = ap (λ n. fork_at R.forks n t) node ∙
-          ap (fork_at R.forks f.node) (sym same) ∙ g.there in
+          ap (fork_at R.forks f.node) (sym b.boxes ∙ boxes) ∙ g.there in
           subst (λ p. Along (meets p R j i o s v w t) (arrive f.answered f o s w k C)) (sym there)
           (arrives R C j i o s v w e t k h b z f here node boxes g.entry there f.answered g.answered
           (ap (λ p. (meets p R j i o s v w t).full) (sym there) ∙ full))
 
   -- each question
   asks : (R : Registers) (C : Circuit) (j i : ℕ) (r : Row) (c : Channel) (m : Work) (t : Boxes) (k : Token) → Rest R C →
-      Bears k c m t → (does (question_row i r m t) j R).full ≡ false → Along (does (question_row i r m t) j R) (operate N E i r k C)
+      Bears k c m t → (does (question_row i r m t) j R).full ≡ false → Along (does (question_row i r m t) j R) (operate E i r k C)
   asks R C j i (CONST n d) c m t k h b full = inr
       (with_token R C j (ans (Number n) (at d m t)) (record k { value = Number n; channel = d }) h (
         refl,
         stands (record k { value = Number n; channel = d }) d m t (record { channel = refl; work = b.work; boxes = b.boxes }),
       ))
   asks R C j i (FORK d d') c [] t k h b full = splits R C j i d d' c t k h b (fork_at R.forks i t) refl (free_from C.slots 0 E) refl
-      (nat_lt (length C.queue) E) full
+      full
   asks R C j i (FORK d d') c (x ∷ m) t k h b full = not_full full
   asks R C j i r c m t k h b full = ask_stacks R C j i r c m t k h b (stack_row r m t) refl full
 
@@ -382,7 +348,7 @@ module _ (N E : ℕ) where
   -- each answer
   answers : (R : Registers) (C : Circuit) (j i : ℕ) (r : Row) (c : Channel) (v : Val) (m : Work) (t : Boxes) (k : Token) → Rest R C →
       Bears k c m t → k.value ≡ v → (does (answer_row i r v m t) j R).full ≡ false →
-      Along (does (answer_row i r v m t) j R) (operate N E i r k C)
+      Along (does (answer_row i r v m t) j R) (operate E i r k C)
   answers R C j i (SUCC d) c v m t k h b z full =
       inr (with_token R C j (ans (val_succ v) (at d m t)) (record k { value = val_succ k.value; channel = d }) h (
         ap val_succ z,
@@ -405,7 +371,7 @@ module _ (N E : ℕ) where
 
   -- each token by a row
   rows_along : (R : Registers) (C : Circuit) (j i : ℕ) (r : Row) (x : TokenTree) (k : Token) → Rest R C → IsToken x k →
-      (does (by_row i r x) j R).full ≡ false → Along (does (by_row i r x) j R) (operate N E i r k C)
+      (does (by_row i r x) j R).full ≡ false → Along (does (by_row i r x) j R) (operate E i r k C)
   rows_along R C j i r (ask (up w m t)) k h b full = asks R C j i r (rises w) m t k h b full
   rows_along R C j i r (ask (down w m t)) k h b full = asks R C j i r (falls w) m t k h b full
   rows_along R C j i r (ans v (up w m t)) k h b full = answers R C j i r (rises w) v m t k h b.1 b.0 full
@@ -413,49 +379,62 @@ module _ (N E : ℕ) where
 
   -- by the row that was found
   found_along : (R : Registers) (C : Circuit) (j : ℕ) (o : Option (ℕ × Row)) (x : TokenTree) (k : Token) → Rest R C →
-      IsToken x k → (does (by_found o x) j R).full ≡ false → Along (does (by_found o x) j R) (operate_on N E o k C)
+      IsToken x k → (does (by_found o x) j R).full ≡ false → Along (does (by_found o x) j R) (operate_on E o k C)
   found_along R C j None x k h b full = not_full full
   found_along R C j (Some r) x k h b full = rows_along R C j r.0 r.1 x k h b full
-
-  -- the channel of a token
-  pub channel_is : (x : TokenTree) (k : Token) → IsToken x k → k.channel ≡ channel_of (place_of x)
-  channel_is (ask p) k h = h.channel
-  channel_is (ans v p) k h = h.1.channel
 
   module _ (net : NetTree) where
     -- one cycle
     cycle_on : (R : Registers) (C : Circuit) → Holds R C → (c : Option (ℕ × TokenTree)) → R.live ≡ c → (d : Option Token) →
-        C.live ≡ d → IsLive c d → (tick_on net c R).full ≡ false → Along (tick_on net c R) (clock_on net N E d C)
+        C.live ≡ d → IsLive c d → (tick_on net c R).full ≡ false → Along (tick_on net c R) (clock_on net E d C)
     cycle_on R C h None e None g l full = inr h
     cycle_on R C h None e (Some k) g l full = elim l [ ]
     cycle_on R C h (Some c) e None g l full = elim l [ ]
     cycle_on R C h (Some c) e (Some k) g l full =
         let more : Rest (record R { moves = suc R.moves }) (record C { moves = suc C.moves }) =
         record { queue = h.queue; slots = h.slots; apart = h.apart; result = h.result; moves = ap suc h.moves; ready = h.ready } in
-        subst (λ n. Along (tick_on net (Some c) R) (operate_on N E (row_of net n) k (record C { moves = suc C.moves })))
+        subst (λ n. Along (tick_on net (Some c) R) (operate_on E (row_of net n) k (record C { moves = suc C.moves })))
         (sym (channel_is c.1 k l))
         (found_along (record R { moves = suc R.moves }) (record C { moves = suc C.moves }) c.0 (row_of net (channel_of (place_of c.1))) c.1
         k more l full)
 
     pub cycle : (R : Registers) (C : Circuit) → Holds R C → R.full ≡ false → (tick net R).full ≡ false →
-        Along (tick net R) (clock net N E C)
+        Along (tick net R) (clock net E C)
     cycle R C h e full =
         let t : tick net R ≡ tick_on net R.live R = ap (λ b. cond b R (tick_on net R.live R)) e in
-        let c : clock net N E C ≡ clock_on net N E C.live C = ap (λ b. cond b C (clock_on net N E C.live C)) h.ready in
-        subst (Along (tick net R)) (sym c) (subst (λ R. Along R (clock_on net N E C.live C)) (sym t)
+        let c : clock net E C ≡ clock_on net E C.live C = ap (λ b. cond b C (clock_on net E C.live C)) h.ready in
+        subst (Along (tick net R)) (sym c) (subst (λ R. Along R (clock_on net E C.live C)) (sym t)
         (cycle_on R C h R.live refl C.live refl h.live (ap (λ (R : Registers). R.full) (sym t) ∙ full)))
 
     -- once full it stays so
-    full_stays : (k : ℕ) (C : Circuit) → C.full ≡ true → (clocks net N E k C).full ≡ true
+    pub full_stays : (k : ℕ) (C : Circuit) → C.full ≡ true → (clocks net E k C).full ≡ true
     full_stays zero C e = e
-    full_stays (suc k) C e = full_stays k (clock net N E C) (ap (λ b. (cond b C (clock_on net N E C.live C)).full) e ∙ e)
+    full_stays (suc k) C e = full_stays k (clock net E C) (ap (λ b. (cond b C (clock_on net E C.live C)).full) e ∙ e)
+
+    -- what isn't full now wasn't full before
+    pub not_yet : (k : ℕ) (C : Circuit) → (clocks net E k C).full ≡ false → C.full ≡ false
+    not_yet k C h = go C.full refl
+      where
+        go : (b : Bool) → C.full ≡ b → b ≡ false
+        go false e = refl
+        go true e = let x : true ≡ false = sym (full_stays k C e) ∙ h in not_full x
+
+    pub not_before : (k j : ℕ) (C : Circuit) → j ≤ k → (clocks net E k C).full ≡ false → (clocks net E j C).full ≡ false
+    not_before k zero C l h = not_yet k C h
+    not_before zero (suc j) C l h = absurd (omega arith)
+    not_before (suc k) (suc j) C l h = not_before k j (clock net E C) (omega arith) h
+
+    -- the last of so many cycles
+    pub last_clock : (k : ℕ) (C : Circuit) → clocks net E (suc k) C ≡ clock net E (clocks net E k C)
+    last_clock zero C = refl
+    last_clock (suc k) C = last_clock k (clock net E C)
 
     -- so many cycles
     cycles : (k : ℕ) (R : Registers) (C : Circuit) → Holds R C → ((j : ℕ) → (ticks net j R).full ≡ false) →
-        Along (ticks net k R) (clocks net N E k C)
+        Along (ticks net k R) (clocks net E k C)
     cycles zero R C h ready = inr h
     cycles (suc k) R C h ready =
-        ⊎_elim (λ e. inl (full_stays k (clock net N E C) e)) (λ g. cycles k (tick net R) (clock net N E C) g (λ j. ready (suc j)))
+        ⊎_elim (λ e. inl (full_stays k (clock net E C) e)) (λ g. cycles k (tick net R) (clock net E C) g (λ j. ready (suc j)))
         (cycle R C h (ready 0) (ready 1))
 
     pub at_power : Holds (reset net) (powered net)
@@ -470,11 +449,11 @@ module _ (N E : ℕ) where
     }
 
 -- the law
-pub follows : (net : NetTree) → Runs net → (N E k : ℕ) (S : State) → LeadsTo net (one net k) S →
-    ((circuit net N E k).full ≡ true) ⊎ (CircuitShows (circuit net N E k) S × ((circuit net N E k).moves ≡ length (one net k)) ×
-    ((circuit net N E k).result ≡ S.answered))
-follows net runs N E k S h =
+pub follows : (net : NetTree) → Runs net → (E k : ℕ) (S : State) → LeadsTo net (one net k) S →
+    ((circuit net E k).full ≡ true) ⊎ (CircuitShows (circuit net E k) S × ((circuit net E k).moves ≡ length (one net k)) ×
+    ((circuit net E k).result ≡ S.answered))
+follows net runs E k S h =
     let f = shows net runs k S h in
     ⊎_elim inl (λ g. inr ((ticks net k (reset net), f.shows, g), g.moves ∙ f.moves, g.result ∙ sym f.shows.answered))
-    (cycles N E net k (reset net) (powered net) (at_power N E net) (λ j. let (T, l) = one_leads net runs j in
+    (cycles E net k (reset net) (powered net) (at_power E net) (λ j. let (T, l) = one_leads net runs j in
     (shows net runs j T l).ready))

@@ -1,12 +1,10 @@
--- A circuit that the run fits is never full.
+-- A circuit is full just where the run opens more forks than it has, and it becomes full at a fork.
 -- The number `mine` is that of the innermost fork around the token, so that the comparison at a join never fails: the fork around each
--- place
--- is told by the places that asked it, and the slots keep to that. A slot that is closed is around nothing that is left.
-use Rattle.std.proofs.Common.{◌⊎◌, ◌≡◌, ℕ, zero, suc, ◌+◌, ◌<◌, ◌≤◌, Bool, true, false, cond, ◌&&◌}
-use Rattle.std.proofs.Common.{◌||◌, List, [], ◌∷◌, ◌++◌, length, Option, Some, None, refl, sym, ap, ◌∙◌, subst}
+-- place is told by the places that asked it, and the slots keep to that. A slot that is closed is around nothing that is left.
+use Rattle.std.proofs.Common.{◌⊎◌, ◌≡◌, ℕ, zero, suc, ◌+◌, ◌<◌, ◌≤◌, Bool, true, false, cond, List, [], ◌∷◌}
+use Rattle.std.proofs.Common.{◌++◌, length, Option, Some, None, refl, sym, ap, ◌∙◌, subst}
 use Rattle.std.proofs.Common.{⊎_elim, inl, inr, arith}
-use Rattle.std.proofs.lemmas.Bool.{eq-eqb, ne_eqb, lt-ltb, le-ltb, cases_eq, and_from}
-use Rattle.std.specs.Prelude.{nat_eq, nat_lt}
+use Rattle.std.proofs.lemmas.Bool.{eq-eqb, ne_eqb, cases_eq}
 use Rattle.pcf_values.specs.declared.val.Val.{Val}
 use Rattle.pcf_values.specs.declared.val.Val.TheVariants.{Number}
 use Rattle.pcf_values.specs.Values.{val_succ, val_pred, at_zero}
@@ -17,7 +15,6 @@ use Rattle.net_build.specs.Nets.{NetTree}
 use Rattle.net_build.specs.Sound.{Sound}
 use Rattle.fork_join.specs.Entries.{Entry, Key, pending, has_left, has_right, kept_as, same_key}
 use Rattle.move_rules.specs.Places.{Place, up, down, turned, TokenTree, ask, ans, place_of}
-use Rattle.move_rules.specs.Stacks.{work_at, boxes_at}
 use Rattle.move_rules.specs.Moves.{two, look, solo, fork, join, solo_at, move}
 use Rattle.interleave_laws.specs.States.{State, other}
 use Rattle.interleave_laws.specs.Runs.{Runs, LeadsTo}
@@ -25,27 +22,24 @@ use Rattle.interleave_laws.specs.OneWorker.{one}
 use Rattle.interleave_laws.proofs.Parents.{key_place}
 use Rattle.interleave_laws.proofs.Running.{one_place}
 use Rattle.interleave_laws.proofs.Apart.{asked}
-use Rattle.fork_join.proofs.Keys.{key_true}
+use Rattle.fork_join.proofs.Keys.{key_true, key_same}
 use Rattle.circuit_core.specs.Rows.{Row, CONST, SUCC, PRED, TEST, FORK, JOIN, ANSWER}
 use Rattle.circuit_core.specs.Rows.{Channel, rises, falls, row_of, channel_of}
 use Rattle.circuit_core.specs.RowMoves.{stack_row, answer_row, question_row, by_row, by_found, by_rows, at}
-use Rattle.circuit_core.specs.Bits.{Bits, work_bits, box_bits, bit_row, BitPlace, to, over, same_bits}
 use Rattle.circuit_core.specs.Processor.{Waiting, OpenFork, Registers, fork_at, kept, closed, taken, rest, last_of, meets, opens, does}
 use Rattle.circuit_core.specs.Processor.{tick_on, tick, ticks, reset, ring_at, token_at}
 use Rattle.circuit_core.specs.Circuit.{Token, Question, Slot, Circuit, set_slot, or_free, free_from, stuck, goes, next_token, later}
-use Rattle.circuit_core.specs.Circuit.{shifted, split, arrive, compare, operate, operate_on, clock_on, clock, clocks, powered, circuit}
+use Rattle.circuit_core.specs.Circuit.{placed, split, arrive, compare, operate, operate_on, clock_on, clock, clocks, powered, circuit}
 use Rattle.circuit_core.specs.CircuitLaws.{Bears, IsToken, IsLive, IsQueue, IsAnswered, Holds}
-use Rattle.circuit_core.specs.Bare.{arrive_at, bare_row, bare_on, bare_clock_on, bare_clock, bare_clocks}
-use Rattle.circuit_core.specs.Enough.{TokenFits, Sized, RunFits}
+use Rattle.circuit_core.specs.Enough.{FitsWithin, RunFits, NoneFree}
 use Rattle.circuit_core.proofs.Rows.{law}
-use Rattle.circuit_core.proofs.Bits.{box_bits_tell}
 use Rattle.circuit_core.proofs.Ring.{Chain, Order, chain_none}
 use Rattle.circuit_core.proofs.Forks.{Once, closed_at, closed_once, closed_length, closed_gone}
-use Rattle.circuit_core.proofs.Processor.{Fits, fitting, none_some}
+use Rattle.circuit_core.proofs.Processor.{Fits, fitting, last_tick, none_some}
 use Rattle.circuit_core.proofs.Nesting.{Inner, in_root, in_fork, Opened, inner_one, open_alike, solo_inner, fork_inner, join_inner}
 use Rattle.circuit_core.proofs.Nesting.{token_open, fork_open}
-use Rattle.circuit_core.proofs.Circuit.{Rest, not_full, set_cases, free_is, same_slot, shifted_there, loads, other_key}
-use Rattle.circuit_core.proofs.Circuit.{channel_is, cycle, at_power}
+use Rattle.circuit_core.proofs.Circuit.{Rest, not_full, set_cases, free_is, same_slot, shifted_there, other_key}
+use Rattle.circuit_core.proofs.Circuit.{channel_is, cycle, not_yet, not_before, last_clock, at_power}
 
 -- how many slots below n are taken
 abbrev one_of : Option Slot → ℕ
@@ -141,19 +135,10 @@ queue_length [] (q ∷ qs) h = elim h [ ]
 queue_length (w ∷ ws) [] h = elim h [ ]
 queue_length (w ∷ ws) (q ∷ qs) h = ap suc (queue_length ws qs h.1)
 
--- bits are those of themselves
-bits_itself : (a b : Bits) → a ≡ b → same_bits a b ≡ true
-bits_itself a b e = subst (λ b. same_bits a b ≡ true) e (own a)
-  where
-    own : (a : Bits) → same_bits a a ≡ true
-    own [] = refl
-    own (false ∷ a) = own a
-    own (true ∷ a) = own a
-
 -- the slot of this number has this key
 abbrev Points : (ℕ → Option Slot) → ℕ → Option Key → Type 0
 Points f m None = Unit {0}
-Points f m (Some k) = (g : Slot) × (f m ≡ Some g) × (g.node ≡ k.0) × (g.boxes ≡ box_bits k.1)
+Points f m (Some k) = (g : Slot) × (f m ≡ Some g) × (g.node ≡ k.0) × (g.boxes ≡ k.1)
 
 module _ (net : NetTree) (sound : Sound net) where
   -- the slot of this number is the innermost fork around the place
@@ -177,11 +162,9 @@ module _ (net : NetTree) (sound : Sound net) where
   record SlotNests (f : ℕ → Option Slot) (g : Slot) : Type 0 where
     place : Place
     op : Operator
-    stack : Boxes
     left : Place
     right : Place
-    stands : look net place ≡ two g.node op stack left right
-    boxes : g.boxes ≡ box_bits stack
+    stands : look net place ≡ two g.node op g.boxes left right
     around : Around f g.around place
 
   -- a right operand of an operator
@@ -273,7 +256,7 @@ module _ (net : NetTree) (sound : Sound net) where
 
   -- one that is closed is around nothing that is left
   around_closed : (f : ℕ → Option Slot) (s : ℕ) (h : Slot) (n : ℕ) (t : Boxes) (fs : List OpenFork) (m : ℕ) (p : Place) →
-      f s ≡ Some h → h.node ≡ n → h.boxes ≡ box_bits t → fork_at fs n t ≡ None →
+      f s ≡ Some h → h.node ≡ n → h.boxes ≡ t → fork_at fs n t ≡ None →
       IsOpenAt fs p → Around f m p → Around (set_slot f s None) m p
   around_closed f s h n t fs m p e en eb gone op (None, i, q) = (None, i, tt)
   around_closed f s h n t fs m p e en eb gone (o, j, op) (Some k, i, (g, z, gn, gb)) =
@@ -285,19 +268,16 @@ module _ (net : NetTree) (sound : Sound net) where
       closed_one q (inr (d, c)) =
           let same : g ≡ h = same_slot g h (sym z ∙ ap f q ∙ e) in
           let a : k.0 ≡ n = sym gn ∙ ap (λ (g : Slot). g.node) same ∙ en in
-          let b : k.1 ≡ t = box_bits_tell k.1 t (sym gb ∙ ap (λ (g : Slot). g.boxes) same ∙ eb) in
+          let b : k.1 ≡ t = sym gb ∙ ap (λ (g : Slot). g.boxes) same ∙ eb in
           none_some d (sym gone ∙ ap (λ n. fork_at fs n t) (sym a) ∙ ap (fork_at fs k.0) (sym b) ∙ c)
 
   slot_around : (f f' : ℕ → Option Slot) (g : Slot) (h : SlotNests f g) → Around f' g.around h.place → SlotNests f' g
   slot_around f f' g h a = record {
     place = h.place;
     op = h.op;
-    stack = h.stack;
     left = h.left;
     right = h.right;
     stands = h.stands;
-    boxes =
-        h.boxes;
     around = a;
   }
 
@@ -334,24 +314,24 @@ module _ (net : NetTree) (sound : Sound net) where
   queue_rest f (w ∷ ws) [] i h = elim i [ ]
   queue_rest f (w ∷ ws) (q ∷ qs) i h = h.1
 
-  module _ (N E : ℕ) where
+  module _ (E : ℕ) where
     -- what comes next isn't full, and nests
     record Next (R : Registers) (C : Circuit) : Type 0 where
       ready : C.full ≡ false
       token : TokenNests C.slots R.live C.live
       rest : NestRest E R C
 
-    -- the sizes don't fit what comes next
-    abbrev TooSmall : Registers → Type 0
-    TooSmall R = (TokenFits N R.live → ⊥) ⊎ (E < length R.forks)
+    -- a fork's row, where no slot is free
+    abbrev Stops : Row → Circuit → Type 0
+    Stops r C = (c : Channel) × (d : Channel) × (r ≡ FORK c d) × (free_from C.slots 0 E ≡ None)
 
-    -- it is full by a size, or it isn't full and nests
-    abbrev Comes : Registers → Circuit → Type 0
-    Comes R C = ((C.full ≡ true) × TooSmall R) ⊎ Next R C
+    -- after this row it is full for want of a fork, or it isn't full and nests
+    abbrev Comes : Row → Circuit → Registers → Circuit → Type 0
+    Comes r C R D = ((D.full ≡ true) × (E < length R.forks) × Stops r C) ⊎ Next R D
 
-    -- and the bare circuit comes to the same
-    abbrev Step : Registers → Circuit → Circuit → Type 0
-    Step R C B = (B ≡ C) × Comes R C
+    -- and so after the row that was found
+    abbrev Finds : Option (ℕ × Row) → Circuit → Registers → Circuit → Type 0
+    Finds o C R D = ((D.full ≡ true) × (E < length R.forks) × ((p : ℕ × Row) × (o ≡ Some p) × Stops p.1 C)) ⊎ Next R D
 
     -- a token that goes on within its fork
     goes_on : (R : Registers) (C : Circuit) (j i : ℕ) (x y : TokenTree) (k k' : Token) → Rest R C → NestRest E R C →
@@ -364,89 +344,62 @@ module _ (net : NetTree) (sound : Sound net) where
     }
 
     -- a row of stacks
-    shifts_on : (R : Registers) (C : Circuit) (j i : ℕ) (x y : TokenTree) (q : Place) (k : Token) (l : BitPlace) → place_of y ≡ q →
-        Rest R C → NestRest E R C → Around C.slots k.mine (asked x) → move net x ≡ solo i y →
-        l ≡ to (channel_of q) (work_bits (work_at q)) (box_bits (boxes_at q)) →
-        Comes (record R { live = Some (j, y) }) (shifted N l k C)
-    shifts_on R C j i x y q k l z h n a e el = go (over N l.work || over N l.boxes) refl
-      where
-        small : TokenFits N (Some (j, y)) → (over N l.work || over N l.boxes) ≡ false
-        small fits =
-            ap (λ b. b || over N l.boxes) (ap (λ (l : BitPlace). over N l.work) el ∙ ap (λ q. over N (work_bits (work_at q))) (sym z) ∙
-            le-ltb N (length (work_bits (work_at (place_of y)))) fits.0)
-            ∙ (ap (λ (l : BitPlace). over N l.boxes) el ∙ ap (λ q. over N (box_bits (boxes_at q))) (sym z) ∙
-            le-ltb N (length (box_bits (boxes_at (place_of y)))) fits.1)
-
-        go : (b : Bool) → (over N l.work || over N l.boxes) ≡ b →
-            Comes (record R { live = Some (j, y) })
-            (cond b (stuck C) (goes C (record k { channel = l.channel; work = l.work; boxes = l.boxes })))
-        go true g = inl (refl, inl (λ fits. not_full (sym g ∙ small fits)))
-        go false g = inr (goes_on R C j i x y k (record k { channel = l.channel; work = l.work; boxes = l.boxes }) h n a e refl)
-
     ask_on : (R : Registers) (C : Circuit) (j i : ℕ) (r : Row) (c : Channel) (m : Work) (t : Boxes) (x : TokenTree) (k : Token) →
         Rest R C → NestRest E R C → Around C.slots k.mine (asked x) → Bears k c m t →
         (o : Option Place) → stack_row r m t ≡ o → move net x ≡ solo_at i o ask → (does (solo_at i o ask) j R).full ≡ false →
-        Comes (does (solo_at i o ask) j R) (operate N E i r k C)
+        Comes r C (does (solo_at i o ask) j R) (operate E i r k C)
     ask_on R C j i r c m t x k h n a b None e mv f = not_full f
     ask_on R C j i r c m t x k h n a b (Some q) e mv f =
-        subst (Comes (record R { live = Some (j, ask q) })) (sym (shifted_there N E i r m t q k C e))
-        (shifts_on R C j i x (ask q) q k (bit_row r k.work k.boxes) refl h n a mv (loads N E r m t q k c b e))
+        subst (Comes r C (record R { live = Some (j, ask q) })) (sym (shifted_there E i r m t q k c C b e))
+        (inr (goes_on R C j i x (ask q) k (placed k q) h n a mv refl))
 
     ans_on : (R : Registers) (C : Circuit) (j i : ℕ) (r : Row) (c : Channel) (v : Val) (m : Work) (t : Boxes) (x : TokenTree)
         (k : Token) → Rest R C → NestRest E R C → Around C.slots k.mine (asked x) → Bears k c m t →
         (o : Option Place) → stack_row r m t ≡ o → move net x ≡ solo_at i o (ans v) →
-        (does (solo_at i o (ans v)) j R).full ≡ false → Comes (does (solo_at i o (ans v)) j R) (operate N E i r k C)
+        (does (solo_at i o (ans v)) j R).full ≡ false → Comes r C (does (solo_at i o (ans v)) j R) (operate E i r k C)
     ans_on R C j i r c v m t x k h n a b None e mv f = not_full f
     ans_on R C j i r c v m t x k h n a b (Some q) e mv f =
-        subst (Comes (record R { live = Some (j, ans v q) })) (sym (shifted_there N E i r m t q k C e))
-        (shifts_on R C j i x (ans v q) q k (bit_row r k.work k.boxes) refl h n a mv (loads N E r m t q k c b e))
+        subst (Comes r C (record R { live = Some (j, ans v q) })) (sym (shifted_there E i r m t q k c C b e))
+        (inr (goes_on R C j i x (ans v q) k (placed k q) h n a mv refl))
 
     -- a fork
     splits_on : (R : Registers) (C : Circuit) (j i : ℕ) (c d e : Channel) (t : Boxes) (p : Place) (k : Token) → Rest R C →
-        NestRest E R C → length R.ring ≤ length R.forks → Around C.slots k.mine p → Bears k e [] t →
+        NestRest E R C → Around C.slots k.mine p → Bears k e [] t →
         move net (ask p) ≡ fork i (at c [] t) (at d [] t) t →
         (o : Option Entry) → fork_at R.forks i t ≡ o → (f : Option ℕ) → free_from C.slots 0 E ≡ f →
         (opens o R j i (at c [] t) (at d [] t) t).full ≡ false →
-        Step (opens o R j i (at c [] t) (at d [] t) t) (split f (nat_lt (length C.queue) E) i c d k C) (split f true i c d k C)
-    splits_on R C j i c d e t p k h n room_for a b mv (Some y) z f g full = not_full full
-    splits_on R C j i c d e t p k h n room_for a b mv None z None g full =
+        Comes (FORK c d) C (opens o R j i (at c [] t) (at d [] t) t) (split f i c d k C)
+    splits_on R C j i c d e t p k h n a b mv (Some y) z f g full = not_full full
+    splits_on R C j i c d e t p k h n a b mv None z None g full =
         let q = count_all C.slots E (λ j l. all_taken C.slots 0 E g j (omega arith) (omega arith)) in
         let w = n.counted in
-        (refl, inl (refl, inr (omega arith)))
-    splits_on R C j i c d e t p k h n room_for a b mv None z (Some s) g full =
-        let l = count_less C.slots s E new empty (low s refl) in
-        let w = n.counted in
-        let q = queue_length R.ring C.queue h.queue in
-        let room : nat_lt (length C.queue) E ≡ true = lt-ltb (length C.queue) E (omega arith) in
-        subst (λ b. Step (opens None R j i (at c [] t) (at d [] t) t) (split (Some s) b i c d k C) (split (Some s) true i c d k C))
-        (sym room) (
-          refl,
-          inr (record {
-            ready = h.ready;
-            token = (
-              Some (i, t),
-              in_fork p (at c [] t) (at d [] t) i stands.0 t stands.1 (inl refl),
-              (new, set_here C.slots s (Some new), refl, b.boxes),
-            );
-            rest = record {
-              queue = queue_end (set_slot C.slots s (Some new)) R.ring C.queue _ _ h.queue
-                  (queue_map C.slots (set_slot C.slots s (Some new)) R.ring C.queue more n.queue) (
-                    Some (i, t),
-                    in_fork p (at c [] t) (at d [] t) i stands.0 t stands.1 (inr refl),
-                    (new, set_here C.slots s (Some new), refl, b.boxes),
-                  );
-              slots = λ a' g' q. ⊎_elim (λ (_, y). subst (SlotNests (set_slot C.slots s (Some new))) (same_slot new g' y) mine)
-                  (λ (_, y). slot_around C.slots _ g' (n.slots a' g' y) (more g'.around (n.slots a' g' y).place (n.slots a' g' y).around))
-                  (set_cases C.slots s (Some new) a' g' q);
-              inside = λ a' g' q. ⊎_elim (λ (y, _). low a' y) (λ (_, y). n.inside a' g' y) (set_cases C.slots s (Some new) a' g' q);
-              counted = let c1 = count_set C.slots s (Some new) E (low s refl) in let c2 : one_of (C.slots s) ≡ 0 = ap one_of empty in
-                  let c3 = n.counted in omega arith;
-              once = (z, n.once);
-              rights = right_end R.ring _ n.rights
-                  (record { node = i; stack = t; place = p; op = stands.0; left = at c [] t; stands = stands.1 });
-            };
-          }),
-        )
+        inl (refl, omega arith, (c, d, refl, g))
+    splits_on R C j i c d e t p k h n a b mv None z (Some s) g full =
+        inr (record {
+          ready = h.ready;
+          token = (
+            Some (i, t),
+            in_fork p (at c [] t) (at d [] t) i stands.0 t stands.1 (inl refl),
+            (new, set_here C.slots s (Some new), refl, b.boxes),
+          );
+          rest = record {
+            queue = queue_end (set_slot C.slots s (Some new)) R.ring C.queue _ _ h.queue
+                (queue_map C.slots (set_slot C.slots s (Some new)) R.ring C.queue more n.queue) (
+                  Some (i, t),
+                  in_fork p (at c [] t) (at d [] t) i stands.0 t stands.1 (inr refl),
+                  (new, set_here C.slots s (Some new), refl, b.boxes),
+                );
+            slots = λ a' g' q. ⊎_elim (λ (_, y). subst (SlotNests (set_slot C.slots s (Some new))) (same_slot new g' y) mine)
+                (λ (_, y). slot_around C.slots _ g' (n.slots a' g' y) (more g'.around (n.slots a' g' y).place (n.slots a' g' y).around))
+                (set_cases C.slots s (Some new) a' g' q);
+            inside = λ a' g' q. ⊎_elim (λ (y, _). low a' y) (λ (_, y). n.inside a' g' y) (set_cases C.slots s (Some new) a' g' q);
+            counted = let c1 = count_set C.slots s (Some new) E (low s refl) in let c2 : one_of (C.slots s) ≡ 0 = ap one_of empty in
+                let c3 = n.counted in omega arith;
+            once = (z, n.once);
+            rights = right_end R.ring _ n.rights
+                (record { node = i; stack = t; place = p; op = stands.0; left = at c [] t; stands = stands.1 });
+          };
+        })
       where
         new : Slot
         new = record { around = k.mine; node = i; boxes = k.boxes; answered = None }
@@ -467,11 +420,9 @@ module _ (net : NetTree) (sound : Sound net) where
         mine = record {
           place = p;
           op = stands.0;
-          stack = t;
           left = at c [] t;
           right = at d [] t;
-          stands = stands.1;
-          boxes = b.boxes;
+          stands = stands.1 ∙ ap (λ u. two i stands.0 u (at c [] t) (at d [] t)) (sym b.boxes);
           around = more k.mine p a;
         }
 
@@ -483,15 +434,12 @@ module _ (net : NetTree) (sound : Sound net) where
       mine : SlotNests C.slots f
       mine = n.slots k.mine f here
 
-      mine_stack : mine.stack ≡ t
-      mine_stack = box_bits_tell mine.stack t (sym mine.boxes ∙ sym boxes ∙ b.boxes)
-
       -- its own fork's question is where the second answer goes back
       mine_place : mine.place ≡ up w [] t
       mine_place =
           key_place net sound mine.place (up w [] t) i mine.op op' t mine.left mine.right left right
-          (mine.stands ∙ ap (λ i. two i mine.op mine.stack mine.left mine.right) (sym node) ∙
-          ap (λ t. two i mine.op t mine.left mine.right) mine_stack) stands
+          (mine.stands ∙ ap (λ i. two i mine.op f.boxes mine.left mine.right) (sym node) ∙
+          ap (λ t. two i mine.op t mine.left mine.right) (sym boxes ∙ b.boxes)) stands
 
       keeps_on : Next (record R { live = taken R.ring; ring = rest R.ring; forks = kept i t (kept_as s v) R.forks })
           (arrive None f o s w k C)
@@ -528,11 +476,9 @@ module _ (net : NetTree) (sound : Sound net) where
           own = record {
             place = mine.place;
             op = mine.op;
-            stack = mine.stack;
             left = mine.left;
             right = mine.right;
             stands = mine.stands;
-            boxes = mine.boxes;
             around = more f.around mine.place mine.around;
           }
 
@@ -570,12 +516,11 @@ module _ (net : NetTree) (sound : Sound net) where
           still a g d y =
               let q = h.slots a g y in
               let m = n.slots a g y in
-              let same : m.stack ≡ q.stack = box_bits_tell m.stack q.stack (sym m.boxes ∙ q.boxes) in
-              let fork = facts.forks g.node q.stack q.entry (closed_at i t R.forks g.node q.stack ∙
-              ap (λ b. cond b None (fork_at R.forks g.node q.stack))
-              (other_key N E R C j i o s v w e t k h b z f here node boxes a g d y) ∙ q.there) in
-              let where_it_is = key_place net sound fork.place m.place g.node fork.op m.op q.stack fork.left fork.right m.left m.right
-              fork.stands (m.stands ∙ ap (λ t. two g.node m.op t m.left m.right) same) in
+              let fork = facts.forks g.node g.boxes q.entry (closed_at i t R.forks g.node g.boxes ∙
+              ap (λ b. cond b None (fork_at R.forks g.node g.boxes))
+              (other_key E R C j i o s v w e t k h b z f here node boxes a g d y) ∙ q.there) in
+              let where_it_is = key_place net sound fork.place m.place g.node fork.op m.op g.boxes fork.left fork.right m.left m.right
+              fork.stands m.stands in
               subst (IsOpenAt (closed i t R.forks)) where_it_is fork.opened
 
       arrives_on : (y' : Entry) → y ≡ y' → (u : Option Val) → IsAnswered y' u →
@@ -603,93 +548,73 @@ module _ (net : NetTree) (sound : Sound net) where
         (k : Token) → Rest R C → NestRest E R C → Around C.slots k.mine (turned q) → Bears k e [] t → k.value ≡ v →
         move net (ans v q) ≡ join i o s v w t → (meets (fork_at R.forks i t) R j i o s v w t).full ≡ false →
         Facts (meets (fork_at R.forks i t) R j i o s v w t) →
-        Step (meets (fork_at R.forks i t) R j i o s v w t) (compare (C.slots k.mine) i o s w k C) (arrive_at (C.slots k.mine) o s w k C)
+        Next (meets (fork_at R.forks i t) R j i o s v w t) (compare (C.slots k.mine) i o s w k C)
     compares_on R C j i o s v w e t q k h n (p, a, pt) b z mv full facts =
         let (is, (op', left, right, stands)) = join_inner net sound i o s v w t q p a mv in
         let (f, here, node, boxes) = subst (Points C.slots k.mine) is pt in
         let g = h.slots k.mine f here in
-        let same : g.stack ≡ t = box_bits_tell g.stack t (sym g.boxes ∙ boxes) in
         let there : fork_at R.forks i t ≡ Some g.entry = ap (λ n. fork_at R.forks n t) (sym node) ∙
-        ap (fork_at R.forks f.node) (sym same) ∙ g.there in
-        let passed : (nat_eq i f.node && same_bits k.boxes f.boxes) ≡ true =
-        and_from _ _ (eq-eqb i f.node (sym node)) (bits_itself k.boxes f.boxes (b.boxes ∙ sym boxes)) in
+        ap (fork_at R.forks f.node) (sym boxes) ∙ g.there in
+        let passed : same_key i k.boxes f.node f.boxes ≡ true =
+        ap (λ n. same_key i k.boxes n f.boxes) node ∙ ap (same_key i k.boxes i) (boxes ∙ sym b.boxes) ∙ key_same i k.boxes in
         let made : Next (meets (Some g.entry) R j i o s v w t) (arrive f.answered f o s w k C) =
         arrives_on R C j i o s v w e t k h n b z f here (sym node) (b.boxes ∙
         sym boxes) op' left right stands g.entry there g.entry refl f.answered g.answered
         (ap (λ y. (meets y R j i o s v w t).full) (sym there) ∙ full) (subst (λ y. Facts (meets y R j i o s v w t)) there facts) in
-        subst (λ c. Step (meets (fork_at R.forks i t) R j i o s v w t) (compare c i o s w k C) (arrive_at c o s w k C)) (sym here)
-        (subst (λ c. Step (meets (fork_at R.forks i t) R j i o s v w t) (cond c (arrive f.answered f o s w k C) (stuck C))
-        (arrive f.answered f o s w k C)) (sym passed)
-        (refl, inr (subst (λ y. Next (meets y R j i o s v w t) (arrive f.answered f o s w k C)) (sym there) made)))
+        subst (λ c. Next (meets (fork_at R.forks i t) R j i o s v w t) (compare c i o s w k C)) (sym here)
+        (subst (λ c. Next (meets (fork_at R.forks i t) R j i o s v w t) (cond c (arrive f.answered f o s w k C) (stuck C))) (sym passed)
+        (subst (λ y. Next (meets y R j i o s v w t) (arrive f.answered f o s w k C)) (sym there) made))
 
     -- each question
     asks_on : (R : Registers) (C : Circuit) (j i : ℕ) (r : Row) (c : Channel) (m : Work) (t : Boxes) (p : Place) (k : Token) →
-        Rest R C → NestRest E R C → length R.ring ≤ length R.forks → Around C.slots k.mine p → Bears k c m t →
-        move net (ask p) ≡ question_row i r m t →
-        (does (question_row i r m t) j R).full ≡ false →
-        Step (does (question_row i r m t) j R) (operate N E i r k C) (bare_row N E i r k C)
-    asks_on R C j i (CONST x d) c m t p k h n w a b mv full =
-        (refl, inr (goes_on R C j i (ask p) (ans (Number x) (at d m t)) k (record k { value = Number x; channel = d }) h n a mv refl))
-    asks_on R C j i (FORK d d') c [] t p k h n w a b mv full =
-        splits_on R C j i d d' c t p k h n w a b mv (fork_at R.forks i t) refl (free_from C.slots 0 E) refl full
-    asks_on R C j i (FORK d d') c (x ∷ m) t p k h n w a b mv full = not_full full
-    asks_on R C j i (JOIN o x d) c m t p k h n w a b mv full = not_full full
-    asks_on R C j i r c m t p k h n w a b mv full = (refl, ask_on R C j i r c m t (ask p) k h n a b (stack_row r m t) refl mv full)
+        Rest R C → NestRest E R C → Around C.slots k.mine p → Bears k c m t → move net (ask p) ≡ question_row i r m t →
+        (does (question_row i r m t) j R).full ≡ false → Comes r C (does (question_row i r m t) j R) (operate E i r k C)
+    asks_on R C j i (CONST x d) c m t p k h n a b mv full =
+        inr (goes_on R C j i (ask p) (ans (Number x) (at d m t)) k (record k { value = Number x; channel = d }) h n a mv refl)
+    asks_on R C j i (FORK d d') c [] t p k h n a b mv full =
+        splits_on R C j i d d' c t p k h n a b mv (fork_at R.forks i t) refl (free_from C.slots 0 E) refl full
+    asks_on R C j i (FORK d d') c (x ∷ m) t p k h n a b mv full = not_full full
+    asks_on R C j i r c m t p k h n a b mv full = ask_on R C j i r c m t (ask p) k h n a b (stack_row r m t) refl mv full
 
     -- each answer
     answers_on : (R : Registers) (C : Circuit) (j i : ℕ) (r : Row) (c : Channel) (v : Val) (m : Work) (t : Boxes) (q : Place)
         (k : Token) → Rest R C → NestRest E R C → Around C.slots k.mine (turned q) → Bears k c m t → k.value ≡ v →
         move net (ans v q) ≡ answer_row i r v m t →
         (does (answer_row i r v m t) j R).full ≡ false → Facts (does (answer_row i r v m t) j R) →
-        Step (does (answer_row i r v m t) j R) (operate N E i r k C) (bare_row N E i r k C)
-    answers_on R C j i (SUCC d) c v m t q k h n a b z mv full f = (
-      refl,
-      inr (goes_on R C j i (ans v q) (ans (val_succ v) (at d m t)) k (record k { value = val_succ k.value; channel = d }) h n a mv
-          refl),
-    )
-    answers_on R C j i (PRED d) c v m t q k h n a b z mv full f = (
-      refl,
-      inr (goes_on R C j i (ans v q) (ans (val_pred v) (at d m t)) k (record k { value = val_pred k.value; channel = d }) h n a mv
-          refl),
-    )
-    answers_on R C j i (TEST d d') c v m t q k h n a b z mv full f = (
-      refl,
-      inr (goes_on R C j i (ans v q) (ask (at (at_zero v d d') m t)) k (record k { channel = at_zero k.value d d' }) h n a mv
-          refl),
-    )
-    answers_on R C j i (JOIN o x w) c v [] t q k h n a b z mv full f = compares_on R C j i o x v w c t q k h n a b z mv full f
+        Comes r C (does (answer_row i r v m t) j R) (operate E i r k C)
+    answers_on R C j i (SUCC d) c v m t q k h n a b z mv full f =
+        inr (goes_on R C j i (ans v q) (ans (val_succ v) (at d m t)) k (record k { value = val_succ k.value; channel = d }) h n a mv refl)
+    answers_on R C j i (PRED d) c v m t q k h n a b z mv full f =
+        inr (goes_on R C j i (ans v q) (ans (val_pred v) (at d m t)) k (record k { value = val_pred k.value; channel = d }) h n a mv refl)
+    answers_on R C j i (TEST d d') c v m t q k h n a b z mv full f =
+        inr (goes_on R C j i (ans v q) (ask (at (at_zero v d d') m t)) k (record k { channel = at_zero k.value d d' }) h n a mv refl)
+    answers_on R C j i (JOIN o x w) c v [] t q k h n a b z mv full f = inr (compares_on R C j i o x v w c t q k h n a b z mv full f)
     answers_on R C j i (JOIN o x w) c v (y ∷ m) t q k h n a b z mv full f = not_full full
-    answers_on R C j i ANSWER c v m t q k h n a b z mv full f = (
-      refl,
-      inr (record {
-        ready = h.ready;
-        token = tt;
-        rest =
-            record { queue = n.queue; slots = n.slots; inside = n.inside; counted = n.counted; once = n.once; rights = n.rights };
-      }),
-    )
-    answers_on R C j i (FORK d d') c v m t q k h n a b z mv full f = not_full full
-    answers_on R C j i r c v m t q k h n a b z mv full f =
-        (refl, ans_on R C j i r c v m t (ans v q) k h n a b (stack_row r m t) refl mv full)
+    answers_on R C j i ANSWER c v m t q k h n a b z mv full f = inr (record {
+      ready = h.ready;
+      token = tt;
+      rest = record { queue = n.queue; slots = n.slots; inside = n.inside; counted = n.counted; once = n.once; rights = n.rights };
+    })
+    answers_on R C j i r c v m t q k h n a b z mv full f = ans_on R C j i r c v m t (ans v q) k h n a b (stack_row r m t) refl mv full
 
     -- each token by a row
     rows_on : (R : Registers) (C : Circuit) (j i : ℕ) (r : Row) (x : TokenTree) (k : Token) → Rest R C → NestRest E R C →
-        length R.ring ≤ length R.forks → Around C.slots k.mine (asked x) → IsToken x k → move net x ≡ by_row i r x →
+        Around C.slots k.mine (asked x) → IsToken x k → move net x ≡ by_row i r x →
         (does (by_row i r x) j R).full ≡ false → Facts (does (by_row i r x) j R) →
-        Step (does (by_row i r x) j R) (operate N E i r k C) (bare_row N E i r k C)
-    rows_on R C j i r (ask (up w m t)) k h n l a b mv full f = asks_on R C j i r (rises w) m t (up w m t) k h n l a b mv full
-    rows_on R C j i r (ask (down w m t)) k h n l a b mv full f = asks_on R C j i r (falls w) m t (down w m t) k h n l a b mv full
-    rows_on R C j i r (ans v (up w m t)) k h n l a b mv full f = answers_on R C j i r (rises w) v m t (up w m t) k h n a b.1 b.0 mv full f
-    rows_on R C j i r (ans v (down w m t)) k h n l a b mv full f =
+        Comes r C (does (by_row i r x) j R) (operate E i r k C)
+    rows_on R C j i r (ask (up w m t)) k h n a b mv full f = asks_on R C j i r (rises w) m t (up w m t) k h n a b mv full
+    rows_on R C j i r (ask (down w m t)) k h n a b mv full f = asks_on R C j i r (falls w) m t (down w m t) k h n a b mv full
+    rows_on R C j i r (ans v (up w m t)) k h n a b mv full f = answers_on R C j i r (rises w) v m t (up w m t) k h n a b.1 b.0 mv full f
+    rows_on R C j i r (ans v (down w m t)) k h n a b mv full f =
         answers_on R C j i r (falls w) v m t (down w m t) k h n a b.1 b.0 mv full f
 
     found_on : (R : Registers) (C : Circuit) (j : ℕ) (o : Option (ℕ × Row)) (x : TokenTree) (k : Token) → Rest R C →
-        NestRest E R C → length R.ring ≤ length R.forks → Around C.slots k.mine (asked x) → IsToken x k →
-        move net x ≡ by_found o x →
+        NestRest E R C → Around C.slots k.mine (asked x) → IsToken x k → move net x ≡ by_found o x →
         (does (by_found o x) j R).full ≡ false → Facts (does (by_found o x) j R) →
-        Step (does (by_found o x) j R) (operate_on N E o k C) (bare_on N E o k C)
-    found_on R C j None x k h n l a b mv full f = not_full full
-    found_on R C j (Some r) x k h n l a b mv full f = rows_on R C j r.0 r.1 x k h n l a b mv full f
+        Finds o C (does (by_found o x) j R) (operate_on E o k C)
+    found_on R C j None x k h n a b mv full f = not_full full
+    found_on R C j (Some r) x k h n a b mv full f =
+        ⊎_elim (λ (e, l, s). inl (e, l, (r, refl, s))) inr (rows_on R C j r.0 r.1 x k h n a b mv full f)
 
     -- the circuit along with the processor, nested
     record Good (R : Registers) (C : Circuit) : Type 0 where
@@ -704,10 +629,14 @@ module _ (net : NetTree) (sound : Sound net) where
       rows : (c : ℕ × TokenTree) → R.live ≡ Some c → move net c.1 ≡ by_rows net c.1
       room : RingRight R.ring → Once R.forks → length R.ring ≤ length R.forks
 
+    -- it becomes full for want of a fork, or goes on
+    abbrev Steps : Circuit → Registers → Circuit → Type 0
+    Steps C R D = ((D.full ≡ true) × (E < length R.forks) × NoneFree net E C) ⊎ Next R D
+
     next_on : (R : Registers) (C : Circuit) → Good R C → Stage R → (c : Option (ℕ × TokenTree)) → R.live ≡ c →
         (d : Option Token) → C.live ≡ d → IsLive c d → TokenNests C.slots c d → Stage (tick_on net c R) →
-        Step (tick_on net c R) (clock_on net N E d C) (bare_clock_on net N E d C)
-    next_on R C g st None e None e' l t f = (refl, inr (record { ready = g.holds.ready; token = g.token; rest = g.rest }))
+        Steps C (tick_on net c R) (clock_on net E d C)
+    next_on R C g st None e None e' l t f = inr (record { ready = g.holds.ready; token = g.token; rest = g.rest })
     next_on R C g st None e (Some k) e' l t f = elim l [ ]
     next_on R C g st (Some c) e None e' l t f = elim l [ ]
     next_on R C g st (Some c) e (Some k) e' l t f =
@@ -717,65 +646,59 @@ module _ (net : NetTree) (sound : Sound net) where
         record { queue = h.queue; slots = h.slots; apart = h.apart; result = h.result; moves = ap suc h.moves; ready = h.ready } in
         let nest : NestRest E (record R { moves = suc R.moves }) (record C { moves = suc C.moves }) =
         record { queue = n.queue; slots = n.slots; inside = n.inside; counted = n.counted; once = n.once; rights = n.rights } in
-        subst (λ n. Step (tick_on net (Some c) R) (operate_on N E (row_of net n) k (record C { moves = suc C.moves }))
-        (bare_on N E (row_of net n) k (record C { moves = suc C.moves }))) (sym (channel_is N E c.1 k l))
-        (found_on (record R { moves = suc R.moves }) (record C { moves = suc C.moves }) c.0 (row_of net (channel_of (place_of c.1))) c.1 k
-        more nest (st.room n.rights n.once) t l (st.rows c e) f.ready f.facts)
+        ⊎_elim (λ (x, m, (p, q, (a, b, z, y))). inl (
+          x,
+          m,
+          record {
+            token = k;
+            live = e';
+            node = p.0;
+            left = a;
+            right = b;
+            row = q ∙ ap (λ r. Some (p.0, r)) z;
+            taken = y;
+          },
+        )) inr
+        (subst (λ n. Finds (row_of net n) C (tick_on net (Some c) R) (operate_on E (row_of net n) k (record C { moves = suc C.moves })))
+        (sym (channel_is c.1 k l))
+        (found_on (record R { moves = suc R.moves }) (record C { moves = suc C.moves }) c.0 (row_of net (channel_of (place_of c.1))) c.1
+        k more nest t l (st.rows c e) f.ready f.facts))
 
     -- one cycle
-    steps : (R : Registers) (C : Circuit) → Good R C → Stage R → Stage (tick net R) →
-        Step (tick net R) (clock net N E C) (bare_clock net N E C)
+    steps : (R : Registers) (C : Circuit) → Good R C → Stage R → Stage (tick net R) → Steps C (tick net R) (clock net E C)
     steps R C g st st' =
         let ticked : tick net R ≡ tick_on net R.live R = ap (λ b. cond b R (tick_on net R.live R)) st.ready in
-        let clocked : clock net N E C ≡ clock_on net N E C.live C = ap (λ b. cond b C (clock_on net N E C.live C)) g.holds.ready in
-        let bared : bare_clock net N E C ≡ bare_clock_on net N E C.live C =
-        ap (λ b. cond b C (bare_clock_on net N E C.live C)) g.holds.ready in
-        let n = next_on R C g st R.live refl C.live refl g.holds.live g.token (subst Stage ticked st') in (
-          bared ∙ n.0 ∙ sym clocked,
-          subst (Comes (tick net R)) (sym clocked)
-              (subst (λ R. Comes R (clock_on net N E C.live C)) (sym ticked) n.1),
-        )
+        let clocked : clock net E C ≡ clock_on net E C.live C = ap (λ b. cond b C (clock_on net E C.live C)) g.holds.ready in
+        subst (Steps C (tick net R)) (sym clocked) (subst (λ R. Steps C R (clock_on net E C.live C)) (sym ticked)
+        (next_on R C g st R.live refl C.live refl g.holds.live g.token (subst Stage ticked st')))
 
     -- what comes next and isn't full is good
-    goes_well : (R : Registers) (C : Circuit) → Good R C → Stage R → Stage (tick net R) → Next (tick net R) (clock net N E C) →
-        Good (tick net R) (clock net N E C)
+    goes_well : (R : Registers) (C : Circuit) → Good R C → Stage R → Stage (tick net R) → Next (tick net R) (clock net E C) →
+        Good (tick net R) (clock net E C)
     goes_well R C g st st' n = record {
-      holds = ⊎_elim (λ (e : (clock net N E C).full ≡ true). not_full (sym e ∙ n.ready)) (λ h. h)
-          (cycle N E net R C g.holds st.ready st'.ready);
+      holds = ⊎_elim (λ (e : (clock net E C).full ≡ true). not_full (sym e ∙ n.ready)) (λ h. h)
+          (cycle E net R C g.holds st.ready st'.ready);
       token = n.token;
       rest = n.rest;
     }
 
-    -- sizes that fit aren't too small
-    not_small : (R : Registers) → Sized N E R → TooSmall R → ⊥
-    not_small R s (inl f) = f s.token
-    not_small R s (inr l) = let h = s.forks in absurd (omega arith)
-
+    -- where the forks are enough it isn't full
     all_well : (k : ℕ) (R : Registers) (C : Circuit) → Good R C → ((j : ℕ) → Stage (ticks net j R)) →
-        ((j : ℕ) → Sized N E (ticks net j R)) → (clocks net N E k C).full ≡ false
+        ((j : ℕ) → j ≤ k → length (ticks net j R).forks ≤ E) → (clocks net E k C).full ≡ false
     all_well zero R C g st s = g.holds.ready
     all_well (suc k) R C g st s =
-        ⊎_elim (λ (_, small). absurd (not_small (tick net R) (s 1) small))
-        (λ n. all_well k (tick net R) (clock net N E C) (goes_well R C g (st 0) (st 1) n) (λ j. st (suc j)) (λ j. s (suc j)))
-        (steps R C g (st 0) (st 1)).1
+        ⊎_elim (λ (_, small, _). let l = s 1 (omega arith) in absurd (omega arith))
+        (λ n. all_well k (tick net R) (clock net E C) (goes_well R C g (st 0) (st 1) n) (λ j. st (suc j)) (λ j l. s (suc j) (omega arith)))
+        (steps R C g (st 0) (st 1))
 
-    -- once full, nothing moves
-    full_clocks : (k : ℕ) (C : Circuit) → C.full ≡ true → clocks net N E k C ≡ C
-    full_clocks zero C e = refl
-    full_clocks (suc k) C e = ap (clocks net N E k) (ap (λ b. cond b C (clock_on net N E C.live C)) e) ∙ full_clocks k C e
-
-    full_bare : (k : ℕ) (C : Circuit) → C.full ≡ true → bare_clocks net N E k C ≡ C
-    full_bare zero C e = refl
-    full_bare (suc k) C e = ap (bare_clocks net N E k) (ap (λ b. cond b C (bare_clock_on net N E C.live C)) e) ∙ full_bare k C e
-
-    all_same : (k : ℕ) (R : Registers) (C : Circuit) → Good R C → ((j : ℕ) → Stage (ticks net j R)) →
-        bare_clocks net N E k C ≡ clocks net N E k C
-    all_same zero R C g st = refl
-    all_same (suc k) R C g st =
-        let s = steps R C g (st 0) (st 1) in
-        ap (bare_clocks net N E k) s.0
-        ∙ ⊎_elim (λ (e, _). full_bare k (clock net N E C) e ∙ sym (full_clocks k (clock net N E C) e))
-        (λ n. all_same k (tick net R) (clock net N E C) (goes_well R C g (st 0) (st 1) n) (λ j. st (suc j))) s.1
+    -- and where it isn't full it is nested
+    all_good : (k : ℕ) (R : Registers) (C : Circuit) → Good R C → ((j : ℕ) → Stage (ticks net j R)) → (clocks net E k C).full ≡ false →
+        Good (ticks net k R) (clocks net E k C)
+    all_good zero R C g st full = g
+    all_good (suc k) R C g st full =
+        ⊎_elim (λ (e, _, _). let x : true ≡ false = sym e ∙ not_yet E net k (clock net E C) full in not_full x)
+        (λ n. all_good k (tick net R) (clock net E C) (goes_well R C g (st 0) (st 1) n) (λ j. st (suc j)) full)
+        (steps R C g (st 0) (st 1))
 
     none_below : (n : ℕ) → count (λ j. None) n ≡ 0
     none_below zero = refl
@@ -783,7 +706,7 @@ module _ (net : NetTree) (sound : Sound net) where
 
     at_start : Good (reset net) (powered net)
     at_start = record {
-      holds = at_power N E net;
+      holds = at_power E net;
       token = (None, in_root refl, tt);
       rest = record {
         queue = tt;
@@ -937,8 +860,8 @@ module _ (net : NetTree) (sound : Sound net) where
               (ne_eqb j c.0 (λ z. none_some x (sym (chain_none c.0 R.ring R.next j chain (omega arith)) ∙ q))) ∙ q
 
 -- all that is known of the processor
-stage : (net : NetTree) (runs : Runs net) (N E j : ℕ) → Stage net runs.sound N E (ticks net j (reset net))
-stage net runs N E j =
+stage : (net : NetTree) (runs : Runs net) (E j : ℕ) → Stage net runs.sound E (ticks net j (reset net))
+stage net runs E j =
     let (S, h, f) = fitting net runs j in
     let facts = facts_of net runs.sound (ticks net j (reset net)) S (one net j) h f in
     record {
@@ -950,9 +873,43 @@ stage net runs N E j =
           ap (λ b. cond b (Some c.1) (ring_at (ticks net j (reset net)).ring c.0)) (eq-eqb c.0 c.0 refl)));
     }
 
--- the laws
-pub enough : (net : NetTree) → Runs net → (N E : ℕ) → RunFits net N E → (k : ℕ) → (circuit net N E k).full ≡ false
-enough net runs N E fits k = all_well net runs.sound N E k (reset net) (powered net) (at_start net runs.sound N E) (stage net runs N E) fits
+-- what is known of a circuit that isn't full
+good : (net : NetTree) (runs : Runs net) (E k : ℕ) → (circuit net E k).full ≡ false →
+    Good net runs.sound E (ticks net k (reset net)) (circuit net E k)
+good net runs E k full =
+    all_good net runs.sound E k (reset net) (powered net) (at_start net runs.sound E) (stage net runs E) full
 
-pub bare_same : (net : NetTree) → Runs net → (N E k : ℕ) → bare_clocks net N E k (powered net) ≡ circuit net N E k
-bare_same net runs N E k = all_same net runs.sound N E k (reset net) (powered net) (at_start net runs.sound N E) (stage net runs N E)
+-- where a slot is free, fewer questions wait than there are slots
+pub queue_room : (net : NetTree) → Runs net → (E k s : ℕ) → (circuit net E k).full ≡ false →
+    free_from (circuit net E k).slots 0 E ≡ Some s → length (circuit net E k).queue < E
+queue_room net runs E k s full f =
+    let g = good net runs E k full in
+    let l = free_low (circuit net E k).slots 0 E s f in
+    let new : Slot = record { around = 0; node = 0; boxes = []; answered = None } in
+    let a = count_less (circuit net E k).slots s E new (free_is (circuit net E k).slots 0 E s f) (omega arith) in
+    let b = g.rest.counted in
+    let c = (stage net runs E k).room g.rest.rights g.rest.once in
+    let d = queue_length (ticks net k (reset net)).ring (circuit net E k).queue g.holds.queue in
+    omega arith
+
+-- the laws
+pub enough_within : (net : NetTree) → Runs net → (E k : ℕ) → FitsWithin net E k → (circuit net E k).full ≡ false
+enough_within net runs E k fits = all_well net runs.sound E k (reset net) (powered net) (at_start net runs.sound E) (stage net runs E) fits
+
+pub enough : (net : NetTree) → Runs net → (E : ℕ) → RunFits net E → (k : ℕ) → (circuit net E k).full ≡ false
+enough net runs E fits k = enough_within net runs E k (λ j l. fits j)
+
+pub enough_exactly : (net : NetTree) → Runs net → (E k : ℕ) → (circuit net E k).full ≡ false → FitsWithin net E k
+enough_exactly net runs E k full j l =
+    let g = good net runs E j (not_before E net k j (powered net) l full) in
+    let a = g.rest.counted in
+    let b = count_most (circuit net E j).slots E in
+    omega arith
+
+pub full_at_fork : (net : NetTree) → Runs net → (E k : ℕ) → (circuit net E k).full ≡ false → (circuit net E (suc k)).full ≡ true →
+    NoneFree net E (circuit net E k)
+full_at_fork net runs E k ready full =
+    ⊎_elim (λ (_, _, f). f)
+    (λ n. let x : true ≡ false = sym full ∙ ap (λ (C : Circuit). C.full) (last_clock E net k (powered net)) ∙ n.ready in not_full x)
+    (steps net runs.sound E (ticks net k (reset net)) (circuit net E k) (good net runs E k ready) (stage net runs E k)
+    (subst (Stage net runs.sound E) (last_tick net k (reset net)) (stage net runs E (suc k))))

@@ -4,21 +4,15 @@ pub mod Rows
 pub mod Ring
 -- the entries of open forks, found by their keys
 pub mod Forks
--- the processor without bits follows the one worker's run, a move a tick
+-- the processor follows the one worker's run, a move a tick
 pub mod Processor
--- where a signature ends in a list of bits, and that no code begins another
-pub mod Bits
 -- the circuit holds what the processor holds, row by row
 pub mod Circuit
 -- the answer is the program's meaning, in as many cycles as its length
 pub mod Meaning
 -- the innermost fork around a place, read off the tree of questions
 pub mod Nesting
--- where each stack and the open forks fit, the circuit is never full, and needs no comparison at a join
+-- where the open forks fit, the circuit is never full, and its comparison at a join never fails
 pub mod Enough
--- no register outgrows its size
-pub mod Widths
 -- whether a program fits is a finite computation
 pub mod Peaks
--- bits are read back to the stack that was written
-pub mod Reading

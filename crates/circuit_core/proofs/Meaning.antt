@@ -24,12 +24,12 @@ told m k C t e = record {
       t.unanswered;
 }
 
-pub circuit_means : (m : TermTree) → HasType [] m nat → Sound (net_of m) → (N E k : ℕ) →
-    ((circuit (net_of m) N E k).full ≡ true) ⊎ CircuitTells m k (circuit (net_of m) N E k)
-circuit_means m typed sound N E k =
+pub circuit_means : (m : TermTree) → HasType [] m nat → Sound (net_of m) → (E k : ℕ) →
+    ((circuit (net_of m) E k).full ≡ true) ⊎ CircuitTells m k (circuit (net_of m) E k)
+circuit_means m typed sound E k =
     let runs = built_runs m typed sound in
     let (S, h) = one_leads (net_of m) runs k in
     let t = finished_means m typed sound (one (net_of m) k) S h k (one_finished (net_of m) runs k S h) in
     ⊎_elim inl
-    (λ (_, n, r). inr (told m k (circuit (net_of m) N E k) (subst (λ a. TellsMeaning m (one (net_of m) k) a k) (sym r) t) n))
-    (follows (net_of m) runs N E k S h)
+    (λ (_, n, r). inr (told m k (circuit (net_of m) E k) (subst (λ a. TellsMeaning m (one (net_of m) k) a k) (sym r) t) n))
+    (follows (net_of m) runs E k S h)

@@ -13,7 +13,7 @@ use Rattle.interleave_laws.proofs.OneWorker.{one_finished}
 use Rattle.adequacy_laws.specs.Questions.{Length}
 use Rattle.adequacy_laws.proofs.Agreeing.{agrees}
 use Rattle.circuit_core.specs.Processor.{Registers, tick_on, tick, ticks, reset, ring_at, token_at}
-use Rattle.circuit_core.specs.Enough.{TokenFits, Sized, RunFits, bits_of, bits_peak, forks_peak}
+use Rattle.circuit_core.specs.Enough.{FitsWithin, RunFits, forks_peak}
 use Rattle.circuit_core.proofs.Processor.{Fits, fitting, idle_ticks, none_some}
 
 -- so many ticks and so many more
@@ -22,21 +22,15 @@ ticks_more net zero b c R e = let z : c ≡ b = omega arith in ap (λ c. ticks n
 ticks_more net (suc a) b zero R e = absurd (omega arith)
 ticks_more net (suc a) b (suc c) R e = ticks_more net a b c (tick net R) (omega arith)
 
-bits_within : (net : NetTree) (k j : ℕ) (R : Registers) → j ≤ k → bits_of (ticks net j R).live ≤ bits_peak net k R
-bits_within net zero zero R l = omega arith
-bits_within net zero (suc j) R l = absurd (omega arith)
-bits_within net (suc k) zero R l = omega arith
-bits_within net (suc k) (suc j) R l = let h = bits_within net k j (tick net R) (omega arith) in omega arith
-
+-- the peak is above each of them
 forks_within : (net : NetTree) (k j : ℕ) (R : Registers) → j ≤ k → length (ticks net j R).forks ≤ forks_peak net k R
 forks_within net zero zero R l = omega arith
 forks_within net zero (suc j) R l = absurd (omega arith)
 forks_within net (suc k) zero R l = omega arith
 forks_within net (suc k) (suc j) R l = let h = forks_within net k j (tick net R) (omega arith) in omega arith
 
-token_fits : (N : ℕ) (c : Option (ℕ × TokenTree)) → bits_of c ≤ N → TokenFits N c
-token_fits N None l = tt
-token_fits N (Some c) l = (omega arith, omega arith)
+pub peak_fits : (net : NetTree) (E k : ℕ) → forks_peak net k (reset net) ≤ E → FitsWithin net E k
+peak_fits net E k h j l = let x = forks_within net k j (reset net) l in omega arith
 
 -- once the length is reached, no token is left
 rests : (net : NetTree) → Runs net → (v : Val) (n : ℕ) → Length net v n →
@@ -63,17 +57,15 @@ rests net runs v n h = go (fitting net runs n)
     go : ((S : State) × LeadsTo net (one net n) S × Fits R S) → tick net R ≡ R
     go (S, l, f) = ended S l f S.answered refl
 
-pub peaks_fit : (net : NetTree) → Runs net → (v : Val) (n : ℕ) → Length net v n → (N E : ℕ) →
-    bits_peak net n (reset net) ≤ N → forks_peak net n (reset net) ≤ E → RunFits net N E
-peaks_fit net runs v n h N E b f k = ⊎_elim (λ l. after (omega arith)) (λ l. before k l) (cases_lt n k)
+pub peaks_fit : (net : NetTree) → Runs net → (v : Val) (n : ℕ) → Length net v n → (E : ℕ) →
+    forks_peak net n (reset net) ≤ E → RunFits net E
+peaks_fit net runs v n h E f k = ⊎_elim (λ l. after (omega arith)) (λ l. before k l) (cases_lt n k)
   where
-    before : (j : ℕ) → j ≤ n → Sized N E (ticks net j (reset net))
-    before j l =
-        let x = bits_within net n j (reset net) l in
-        let y = forks_within net n j (reset net) l in
-        record { token = token_fits N (ticks net j (reset net)).live (omega arith); forks = omega arith }
+    before : (j : ℕ) → j ≤ n → length (ticks net j (reset net)).forks ≤ E
+    before j l = peak_fits net E n f j l
 
-    after : n ≤ k → Sized N E (ticks net k (reset net))
+    after : n ≤ k → length (ticks net k (reset net)).forks ≤ E
     after l =
         let e = ticks_more net n (k - n) k (reset net) (omega arith) in
-        subst (Sized N E) (sym (e ∙ idle_ticks net (k - n) (ticks net n (reset net)) (rests net runs v n h))) (before n (omega arith))
+        subst (λ (R : Registers). length R.forks ≤ E)
+        (sym (e ∙ idle_ticks net (k - n) (ticks net n (reset net)) (rests net runs v n h))) (before n (omega arith))

@@ -207,6 +207,11 @@ does_moves (join n o s v w t) i R = meets_moves (fork_at R.forks n t) R i n o s 
 does_moves (answer v) i R = refl
 does_moves stay i R = refl
 
+-- the last of so many ticks
+pub last_tick : (net : NetTree) (k : ℕ) (R : Registers) → ticks net (suc k) R ≡ tick net (ticks net k R)
+last_tick net zero R = refl
+last_tick net (suc k) R = last_tick net k (tick net R)
+
 -- without a current token nothing moves
 pub idle_ticks : (net : NetTree) (k : ℕ) (R : Registers) → tick net R ≡ R → ticks net k R ≡ R
 idle_ticks net zero R e = refl

@@ -1,41 +1,44 @@
--- The circuit: the registers with bits, and one cycle of its clock.
+-- The circuit: its registers, which hold whole stacks, and one cycle of its clock.
 -- The token has the number of the innermost fork around it, `mine`, and a fork that of the one around it, so that a join looks at one entry
 -- and searches nothing. A join compares that entry's node and box stack with its own, and raises `full` where they differ. `full` is raised
--- too where a stack has more than N bits, where no fork of E is free, and where E questions wait. No register says whether the token asks
--- or answers, and none holds a ticket.
-use Rattle.std.specs.Prelude.{ℕ, zero, suc, Bool, true, false, List, [], ◌∷◌, ◌++◌, length, Option, Some, None, nat_eq, nat_lt}
-use Rattle.std.specs.Prelude.{◌&&◌, ◌||◌, if◌then◌else◌}
+-- too where no fork of E is free, and where a row wants other stacks than there are. No register says whether the token asks or answers,
+-- and none holds a ticket. No hardware has this circuit: it stands between the processor and the circuit over cells, which has its forks.
+use Rattle.std.specs.Prelude.{ℕ, zero, suc, Bool, true, false, List, [], ◌∷◌, ◌++◌, Option, Some, None, nat_eq, if◌then◌else◌}
 use Rattle.pcf_values.specs.declared.val.Val.{Val}
 use Rattle.pcf_values.specs.declared.val.Val.TheVariants.{Number}
 use Rattle.pcf_values.specs.Values.{val_succ, val_pred, val_op, at_zero}
 use Rattle.pcf_values.specs.declared.operator.Operator.{Operator}
 use Rattle.pcf_values.specs.declared.side.Side.{Side}
 use Rattle.pcf_values.specs.declared.side.Side.TheVariants.{Left, Right}
+use Rattle.token_stacks.specs.Signatures.{Work, Boxes}
 use Rattle.net_build.specs.Nets.{NetTree}
+use Rattle.fork_join.specs.Entries.{same_key}
+use Rattle.move_rules.specs.Places.{Place}
+use Rattle.move_rules.specs.Stacks.{work_at, boxes_at}
 use Rattle.interleave_laws.specs.Start.{start_of}
 use Rattle.circuit_core.specs.Rows.{Row, CONST, SUCC, PRED, TEST, FORK, JOIN, ANSWER, DEAD}
 use Rattle.circuit_core.specs.Rows.{Channel, falls, row_of, channel_of}
-use Rattle.circuit_core.specs.Bits.{Bits, BitPlace, bit_row, over, same_bits}
+use Rattle.circuit_core.specs.RowMoves.{stack_row}
 
 -- the token: where it comes by, the value that it has if it answers, both stacks, and the fork around it
 pub record Token : Type 0 where
   pub value : Val
   pub channel : Channel
-  pub work : Bits
-  pub boxes : Bits
+  pub work : Work
+  pub boxes : Boxes
   pub mine : ℕ
 
 -- a right question that waits
 pub record Question : Type 0 where
   pub channel : Channel
-  pub boxes : Bits
+  pub boxes : Boxes
   pub mine : ℕ
 
 -- an open fork: the one around it, its node and box stack, and what it was answered first
 pub record Slot : Type 0 where
   pub around : ℕ
   pub node : ℕ
-  pub boxes : Bits
+  pub boxes : Boxes
   pub answered : Option Val
 
 pub record Circuit : Type 0 where
@@ -81,16 +84,19 @@ abbrev pub both : Operator → Side → Val → Val → Val
 both o Left v u = val_op o v u
 both o Right v u = val_op o u v
 
--- a row of stacks
-abbrev pub shifted : ℕ → BitPlace → Token → Circuit → Circuit
-shifted N l k C = if over N l.work || over N l.boxes then stuck C else goes C
-    (record k { channel = l.channel; work = l.work; boxes = l.boxes })
+-- the token at a place
+abbrev pub placed : Token → Place → Token
+placed k q = record k { channel = channel_of q; work = work_at q; boxes = boxes_at q }
 
--- a fork at node i, with the slot that is free and whether there is room in the queue
-abbrev pub split : Option ℕ → Bool → ℕ → Channel → Channel → Token → Circuit → Circuit
-split None room i c d k C = stuck C
-split (Some f) false i c d k C = stuck C
-split (Some f) true i c d k C = record C {
+-- a row of stacks, which may lead nowhere
+abbrev pub shifted : Option Place → Token → Circuit → Circuit
+shifted None k C = stuck C
+shifted (Some q) k C = goes C (placed k q)
+
+-- a fork at node i, with the slot that is free
+abbrev pub split : Option ℕ → ℕ → Channel → Channel → Token → Circuit → Circuit
+split None i c d k C = stuck C
+split (Some f) i c d k C = record C {
   live = Some (record k { channel = c; mine = f });
   queue = C.queue ++ record { channel = d; boxes = k.boxes; mine = f } ∷ [];
   slots = set_slot C.slots f (Some (record { around = k.mine; node = i; boxes = k.boxes; answered = None }));
@@ -111,37 +117,37 @@ arrive (Some u) f o s w k C = record C {
 -- an answer at the innermost fork, if it is the one of node i and these boxes
 abbrev pub compare : Option Slot → ℕ → Operator → Side → ℕ → Token → Circuit → Circuit
 compare None i o s w k C = stuck C
-compare (Some f) i o s w k C = if nat_eq i f.node && same_bits k.boxes f.boxes then arrive f.answered f o s w k C else stuck C
+compare (Some f) i o s w k C = if same_key i k.boxes f.node f.boxes then arrive f.answered f o s w k C else stuck C
 
 -- a row of node i
-abbrev pub operate : ℕ → ℕ → ℕ → Row → Token → Circuit → Circuit
-operate N E i (CONST n c) k C = goes C (record k { value = Number n; channel = c })
-operate N E i (SUCC c) k C = goes C (record k { value = val_succ k.value; channel = c })
-operate N E i (PRED c) k C = goes C (record k { value = val_pred k.value; channel = c })
-operate N E i (TEST c d) k C = goes C (record k { channel = at_zero k.value c d })
-operate N E i (FORK c d) k C = split (free_from C.slots 0 E) (nat_lt (length C.queue) E) i c d k C
-operate N E i (JOIN o s w) k C = compare (C.slots k.mine) i o s w k C
-operate N E i ANSWER k C = record C { live = None; result = Some k.value }
-operate N E i DEAD k C = stuck C
-operate N E i r k C = shifted N (bit_row r k.work k.boxes) k C
+abbrev pub operate : ℕ → ℕ → Row → Token → Circuit → Circuit
+operate E i (CONST n c) k C = goes C (record k { value = Number n; channel = c })
+operate E i (SUCC c) k C = goes C (record k { value = val_succ k.value; channel = c })
+operate E i (PRED c) k C = goes C (record k { value = val_pred k.value; channel = c })
+operate E i (TEST c d) k C = goes C (record k { channel = at_zero k.value c d })
+operate E i (FORK c d) k C = split (free_from C.slots 0 E) i c d k C
+operate E i (JOIN o s w) k C = compare (C.slots k.mine) i o s w k C
+operate E i ANSWER k C = record C { live = None; result = Some k.value }
+operate E i DEAD k C = stuck C
+operate E i r k C = shifted (stack_row r k.work k.boxes) k C
 
 -- the row that was found
-abbrev pub operate_on : ℕ → ℕ → Option (ℕ × Row) → Token → Circuit → Circuit
-operate_on N E None k C = stuck C
-operate_on N E (Some r) k C = operate N E r.0 r.1 k C
+abbrev pub operate_on : ℕ → Option (ℕ × Row) → Token → Circuit → Circuit
+operate_on E None k C = stuck C
+operate_on E (Some r) k C = operate E r.0 r.1 k C
 
-abbrev pub clock_on : NetTree → ℕ → ℕ → Option Token → Circuit → Circuit
-clock_on net N E None C = C
-clock_on net N E (Some k) C = operate_on N E (row_of net k.channel) k (record C { moves = suc C.moves })
+abbrev pub clock_on : NetTree → ℕ → Option Token → Circuit → Circuit
+clock_on net E None C = C
+clock_on net E (Some k) C = operate_on E (row_of net k.channel) k (record C { moves = suc C.moves })
 
--- one cycle, with stacks of N bits and E forks
-abbrev pub clock : NetTree → ℕ → ℕ → Circuit → Circuit
-clock net N E C = if C.full then C else clock_on net N E C.live C
+-- one cycle, with E forks
+abbrev pub clock : NetTree → ℕ → Circuit → Circuit
+clock net E C = if C.full then C else clock_on net E C.live C
 
 -- so many cycles
-abbrev pub clocks : NetTree → ℕ → ℕ → ℕ → Circuit → Circuit
-clocks net N E zero C = C
-clocks net N E (suc k) C = clocks net N E k (clock net N E C)
+abbrev pub clocks : NetTree → ℕ → ℕ → Circuit → Circuit
+clocks net E zero C = C
+clocks net E (suc k) C = clocks net E k (clock net E C)
 
 -- the circuit after reset
 abbrev pub powered : NetTree → Circuit
@@ -155,5 +161,5 @@ powered net = record {
 }
 
 -- the circuit k cycles after reset
-abbrev pub circuit : NetTree → ℕ → ℕ → ℕ → Circuit
-circuit net N E k = clocks net N E k (powered net)
+abbrev pub circuit : NetTree → ℕ → ℕ → Circuit
+circuit net E k = clocks net E k (powered net)

@@ -12,14 +12,13 @@ use Rattle.interleave_laws.specs.OneWorker.{one}
 use Rattle.circuit_core.specs.Rows.{Channel, channel_of}
 use Rattle.circuit_core.specs.Processor.{Waiting, OpenFork, Registers, fork_at}
 use Rattle.circuit_core.specs.ProcessorLaws.{Shows}
-use Rattle.circuit_core.specs.Bits.{work_bits, box_bits}
 use Rattle.circuit_core.specs.Circuit.{Token, Question, Slot, Circuit, circuit}
 
--- the token's registers have the channel and the bits of these stacks
+-- the token's registers have the channel and these stacks
 pub record Bears (k : Token) (c : Channel) (m : Work) (t : Boxes) : Type 0 where
   pub channel : k.channel ≡ c
-  pub work : k.work ≡ work_bits m
-  pub boxes : k.boxes ≡ box_bits t
+  pub work : k.work ≡ m
+  pub boxes : k.boxes ≡ t
 
 abbrev pub StandsAt : Place → Token → Type 0
 StandsAt p k = Bears k (channel_of p) (work_at p) (boxes_at p)
@@ -39,7 +38,7 @@ IsLive (Some c) (Some k) = IsToken c.1 k
 pub record IsQuestion (p : Place) (q : Question) : Type 0 where
   pub channel : q.channel ≡ channel_of p
   pub work : work_at p ≡ []
-  pub boxes : q.boxes ≡ box_bits (boxes_at p)
+  pub boxes : q.boxes ≡ boxes_at p
 
 abbrev pub IsQueue : List Waiting → List Question → Type 0
 IsQueue [] [] = Unit {0}
@@ -58,10 +57,8 @@ IsAnswered (has_right v) (Some u) = u ≡ v
 
 -- a slot is an open fork's
 pub record IsFork (forks : List OpenFork) (f : Slot) : Type 0 where
-  pub stack : Boxes
-  pub boxes : f.boxes ≡ box_bits stack
   pub entry : Entry
-  pub there : fork_at forks f.node stack ≡ Some entry
+  pub there : fork_at forks f.node f.boxes ≡ Some entry
   pub answered : IsAnswered entry f.answered
 
 -- the circuit has the queue, the forks, the answer and the count of the processor
@@ -76,13 +73,13 @@ pub record Holds (R : Registers) (C : Circuit) : Type 0 where
   pub moves : C.moves ≡ R.moves
   pub ready : C.full ≡ false
 
--- the circuit shows the state: between them stands a processor without bits
+-- the circuit shows the state: between them stands a processor
 abbrev pub CircuitShows : Circuit → State → Type 0
 CircuitShows C S = (R : Registers) × Shows R S × Holds R C
 
 -- on a net that runs, after k cycles the circuit is full, or it shows the state to which the one worker's k moves lead, and counts them
 abbrev pub CircuitFollows : Type 0
 CircuitFollows =
-    (net : NetTree) → Runs net → (N E k : ℕ) (S : State) → LeadsTo net (one net k) S →
-    ((circuit net N E k).full ≡ true) ⊎ (CircuitShows (circuit net N E k) S × ((circuit net N E k).moves ≡ length (one net k)) ×
-    ((circuit net N E k).result ≡ S.answered))
+    (net : NetTree) → Runs net → (E k : ℕ) (S : State) → LeadsTo net (one net k) S →
+    ((circuit net E k).full ≡ true) ⊎ (CircuitShows (circuit net E k) S × ((circuit net E k).moves ≡ length (one net k)) ×
+    ((circuit net E k).result ≡ S.answered))

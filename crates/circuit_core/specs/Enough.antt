@@ -1,50 +1,58 @@
--- A circuit that is large enough is never full: the statement of `law_enough`.
--- The sizes are told of the processor without bits, so they can be found by any run of it; no circuit takes part in them.
-use Rattle.std.specs.Prelude.{◌≡◌, ◌≤◌, ℕ, zero, suc, false, max, length, Option, Some, None}
+-- A circuit with forks enough is never full, and it becomes full nowhere but at a fork: the statements of `law_enough`.
+-- How many forks are enough is told of the processor, so it can be found by any run of it; no circuit takes part in it.
+use Rattle.std.specs.Prelude.{◌≡◌, ◌≤◌, ℕ, zero, suc, true, false, max, length, Some, None}
 use Rattle.pcf_values.specs.declared.val.Val.{Val}
 use Rattle.net_build.specs.Nets.{NetTree}
-use Rattle.move_rules.specs.Places.{TokenTree, place_of}
-use Rattle.move_rules.specs.Stacks.{work_at, boxes_at}
 use Rattle.interleave_laws.specs.Runs.{Runs}
 use Rattle.adequacy_laws.specs.Questions.{Length}
-use Rattle.circuit_core.specs.Bits.{work_bits, box_bits}
+use Rattle.circuit_core.specs.Rows.{Channel, FORK, row_of}
 use Rattle.circuit_core.specs.Processor.{Registers, tick, ticks, reset}
-use Rattle.circuit_core.specs.Circuit.{circuit}
+use Rattle.circuit_core.specs.Circuit.{Token, Circuit, free_from, circuit}
 
--- both stacks of the current token have so many bits at most
-abbrev pub TokenFits : ℕ → Option (ℕ × TokenTree) → Type 0
-TokenFits N None = Unit {0}
-TokenFits N (Some c) = (length (work_bits (work_at (place_of c.1))) ≤ N) × (length (box_bits (boxes_at (place_of c.1))) ≤ N)
+-- so many forks are open at most, up to this move; no more questions can wait than forks are open
+abbrev pub FitsWithin : NetTree → (E k : ℕ) → Type 0
+FitsWithin net E k = (j : ℕ) → j ≤ k → length (ticks net j (reset net)).forks ≤ E
 
--- and so many forks are open at most; no more questions can wait than forks are open
-pub record Sized (N E : ℕ) (R : Registers) : Type 0 where
-  pub token : TokenFits N R.live
-  pub forks : length R.forks ≤ E
+-- the one worker's run fits them at each of its moves
+abbrev pub RunFits : NetTree → (E : ℕ) → Type 0
+RunFits net E = (k : ℕ) → length (ticks net k (reset net)).forks ≤ E
 
--- the one worker's run fits these sizes at each of its moves
-abbrev pub RunFits : NetTree → (N E : ℕ) → Type 0
-RunFits net N E = (k : ℕ) → Sized N E (ticks net k (reset net))
-
--- a circuit of sizes that the run fits is never full
+-- a circuit with as many forks as the run opens is never full
 abbrev pub EnoughRoom : Type 0
-EnoughRoom = (net : NetTree) → Runs net → (N E : ℕ) → RunFits net N E → (k : ℕ) → (circuit net N E k).full ≡ false
+EnoughRoom = (net : NetTree) → Runs net → (E : ℕ) → RunFits net E → (k : ℕ) → (circuit net E k).full ≡ false
 
--- the longer of both stacks of the current token
-abbrev pub bits_of : Option (ℕ × TokenTree) → ℕ
-bits_of None = 0
-bits_of (Some c) = max (length (work_bits (work_at (place_of c.1)))) (length (box_bits (boxes_at (place_of c.1))))
+-- and one with as many as it opens in k moves isn't full after k cycles
+abbrev pub EnoughWithin : Type 0
+EnoughWithin = (net : NetTree) → Runs net → (E k : ℕ) → FitsWithin net E k → (circuit net E k).full ≡ false
 
--- the longest stack, and the most open forks, within so many ticks
-abbrev pub bits_peak : NetTree → ℕ → Registers → ℕ
-bits_peak net zero R = bits_of R.live
-bits_peak net (suc k) R = max (bits_of R.live) (bits_peak net k (tick net R))
+-- just then: where it isn't full after k cycles, no more forks were open
+abbrev pub EnoughExactly : Type 0
+EnoughExactly = (net : NetTree) → Runs net → (E k : ℕ) → (circuit net E k).full ≡ false → FitsWithin net E k
 
+-- the token is at a fork, and no slot of E is free
+pub record NoneFree (net : NetTree) (E : ℕ) (C : Circuit) : Type 0 where
+  pub token : Token
+  pub live : C.live ≡ Some token
+  pub node : ℕ
+  pub left : Channel
+  pub right : Channel
+  pub row : row_of net token.channel ≡ Some (node, FORK left right)
+  pub taken : free_from C.slots 0 E ≡ None
+
+-- so it is wherever it becomes full
+abbrev pub FullAtFork : Type 0
+FullAtFork = (net : NetTree) → Runs net → (E k : ℕ) → (circuit net E k).full ≡ false → (circuit net E (suc k)).full ≡ true →
+    NoneFree net E (circuit net E k)
+
+-- the most open forks within so many ticks
 abbrev pub forks_peak : NetTree → ℕ → Registers → ℕ
 forks_peak net zero R = length R.forks
 forks_peak net (suc k) R = max (length R.forks) (forks_peak net k (tick net R))
 
--- on a net that has a length, the run fits what it needs up to there
+-- it is what a run of so many moves wants
+abbrev pub PeakFits : Type 0
+PeakFits = (net : NetTree) (E k : ℕ) → forks_peak net k (reset net) ≤ E → FitsWithin net E k
+
+-- and on a net that has a length, the run fits what it wants up to there
 abbrev pub PeaksFit : Type 0
-PeaksFit =
-    (net : NetTree) → Runs net → (v : Val) (n : ℕ) → Length net v n → (N E : ℕ) → bits_peak net n (reset net) ≤ N →
-    forks_peak net n (reset net) ≤ E → RunFits net N E
+PeaksFit = (net : NetTree) → Runs net → (v : Val) (n : ℕ) → Length net v n → (E : ℕ) → forks_peak net n (reset net) ≤ E → RunFits net E

@@ -13,7 +13,7 @@ use Rattle.interleave_laws.specs.OneWorker.{one}
 use Rattle.circuit_core.specs.Rows.{rises, falls, number, Row, GO, CONST, SUCC, FORK, JOIN, ANSWER, STAR, UNSTAR, LEFT, RIGHT, CON, PUSHR}
 use Rattle.circuit_core.specs.Rows.{PUSHL, SELECT, BOXIN, BOXOUT, row_of}
 use Rattle.circuit_core.specs.Processor.{ticks, reset, fired}
-use Rattle.circuit_core.specs.Enough.{bits_peak, forks_peak}
+use Rattle.circuit_core.specs.Enough.{forks_peak}
 use Rattle.circuit_core.specs.Circuit.{Token, Circuit, clock, powered, circuit}
 
 -- the rows of wires from k on
@@ -78,39 +78,37 @@ abbrev pub live_number : Option Token → ℕ
 live_number None = 0
 live_number (Some k) = number k.channel
 
-abbrev pub trace : NetTree → (N E k : ℕ) → Circuit → List ℕ
-trace net N E zero C = []
-trace net N E (suc k) C = live_number C.live ∷ trace net N E k (clock net N E C)
+abbrev pub trace : NetTree → (E k : ℕ) → Circuit → List ℕ
+trace net E zero C = []
+trace net E (suc k) C = live_number C.live ∷ trace net E k (clock net E C)
 
 -- what a circuit shows at its ports: its result, whether it is full, and its moves
-abbrev pub ports : NetTree → (N E k : ℕ) → Option Val × (Bool × ℕ)
-ports net N E k = let C = circuit net N E k in (C.result, (C.full, C.moves))
+abbrev pub ports : NetTree → (E k : ℕ) → Option Val × (Bool × ℕ)
+ports net E k = let C = circuit net E k in (C.result, (C.full, C.moves))
 
--- the cycles of `1 + 2` with stacks of 8 bits and one fork, and its ports after five cycles, after six, and later
+-- the cycles of `1 + 2` with one fork, and its ports after five cycles, after six, and later
 abbrev pub ExampleSumCircuit : Type 0
 ExampleSumCircuit =
-    (trace sum_net 8 1 6 (powered sum_net) ≡ 4 ∷ 0 ∷ 1 ∷ 2 ∷ 3 ∷ 5 ∷ [])
-    × (ports sum_net 8 1 5 ≡ (None, (false, 5)))
-    × (ports sum_net 8 1 6 ≡ (Some (Number 3), (false, 6)))
-    × (ports sum_net 8 1 20 ≡ (Some (Number 3), (false, 6)))
+    (trace sum_net 1 6 (powered sum_net) ≡ 4 ∷ 0 ∷ 1 ∷ 2 ∷ 3 ∷ 5 ∷ [])
+    × (ports sum_net 1 5 ≡ (None, (false, 5)))
+    × (ports sum_net 1 6 ≡ (Some (Number 3), (false, 6)))
+    × (ports sum_net 1 20 ≡ (Some (Number 3), (false, 6)))
 
 -- without a fork it is full at once
 abbrev pub ExampleNoFork : Type 0
-ExampleNoFork = ports sum_net 8 0 20 ≡ (None, (true, 1))
+ExampleNoFork = ports sum_net 0 20 ≡ (None, (true, 1))
 
--- `double` has room in stacks of 16 bits and not in stacks of 4
+-- `double` has room with one fork too
 abbrev pub ExampleDoubleCircuit : Type 0
-ExampleDoubleCircuit = (ports doubled_net 16 2 40 ≡ (Some (Number 6), (false, 30))) × (ports doubled_net 4 2 40 ≡ (None, (true, 5)))
+ExampleDoubleCircuit = ports doubled_net 1 40 ≡ (Some (Number 6), (false, 30))
 
 -- `ifz 1 + 2 then 0 else 3 + 4` opens its second fork where its first one was
 abbrev pub twice_net : NetTree
 twice_net = net_of (ifz (binary Plus (num 1) (num 2)) (num 0) (binary Plus (num 3) (num 4)))
 
 abbrev pub ExampleOneFork : Type 0
-ExampleOneFork = ports twice_net 8 1 40 ≡ (Some (Number 7), (false, 14))
+ExampleOneFork = ports twice_net 1 40 ≡ (Some (Number 7), (false, 14))
 
--- what they need: the longest stack in bits, and the most open forks
+-- what they want: the most open forks
 abbrev pub ExamplePeaks : Type 0
-ExamplePeaks =
-    (bits_peak sum_net 6 (reset sum_net) ≡ 0) × (forks_peak sum_net 6 (reset sum_net) ≡ 1) ×
-    (bits_peak doubled_net 30 (reset doubled_net) ≡ 7) × (forks_peak doubled_net 30 (reset doubled_net) ≡ 1)
+ExamplePeaks = (forks_peak sum_net 6 (reset sum_net) ≡ 1) × (forks_peak doubled_net 30 (reset doubled_net) ≡ 1)

@@ -1,7 +1,6 @@
 -- What the circuit of a program answers is what the program means: the statement of `law_program`.
 -- The circuit takes as many cycles as the program's net is long, and that length is a number that no machine takes part in. So `result`
--- comes
--- exactly with the meaning, as soon as there were so many cycles, unless the circuit was made too small, and then it says so.
+-- comes exactly with the meaning, as soon as there were so many cycles, unless the circuit has too few forks, and then it says so.
 use Rattle.std.specs.Prelude.{◌≡◌, ◌⊎◌, ◌↔◌, ℕ, true, Some, None}
 use Rattle.pcf_values.specs.declared.val.Val.{Val}
 use Rattle.pcf_values.specs.Terms.{TermTree}
@@ -21,7 +20,7 @@ pub record CircuitTells (m : TermTree) (k : ℕ) (C : Circuit) : Type 0 where
   -- it has none exactly where that length is absent or above k
   pub waits : (C.result ≡ None) ↔ Beyond (net_of m) k
 
--- the circuit of every program, of whatever sizes, is full or tells the program's meaning
+-- the circuit of every program, of however many forks, is full or tells the program's meaning
 abbrev pub CircuitMeans : Type 0
-CircuitMeans = OfEveryProgram (λ m. (N E k : ℕ) → ((circuit (net_of m) N E k).full ≡ true) ⊎
-    CircuitTells m k (circuit (net_of m) N E k))
+CircuitMeans = OfEveryProgram (λ m. (E k : ℕ) → ((circuit (net_of m) E k).full ≡ true) ⊎
+    CircuitTells m k (circuit (net_of m) E k))

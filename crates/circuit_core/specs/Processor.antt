@@ -1,9 +1,8 @@
--- The processor without bits: the current token, a ring of right questions that wait, and the open forks.
+-- The processor: the current token, a ring of right questions that wait, and the open forks, of which it has as many as it wants.
 -- A fork goes on with its left question, and its right one waits at the end of the ring. An answer that comes first to its fork is kept
--- there,
--- and the first of the ring goes on; the second answer goes on itself. So no register holds a ticket: tickets stand here beside the tokens
--- only so that a law can compare the processor with the machine, and nothing that the processor does depends on them. `full` says that
--- something came that a net that runs never does; with bits it also says that something was too large.
+-- there, and the first of the ring goes on; the second answer goes on itself. So no register holds a ticket: tickets stand here beside the
+-- tokens only so that a law can compare the processor with the machine, and nothing that the processor does depends on them. `full` says
+-- that something came that a net that runs never does.
 use Rattle.std.specs.Prelude.{ℕ, zero, suc, Bool, true, false, List, [], ◌∷◌, ◌++◌, Option, Some, None, nat_eq}
 use Rattle.std.specs.Prelude.{if◌then◌else◌}
 use Rattle.pcf_values.specs.declared.val.Val.{Val}
