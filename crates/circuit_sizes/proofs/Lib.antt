@@ -1,0 +1,2 @@
+-- where the first power of 2 stands that is at least a number
+pub mod Powers
