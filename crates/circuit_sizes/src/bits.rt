@@ -1,6 +1,6 @@
 //! How many bits the numbers in a circuit have.
 
-ghost use Rattle.std.specs.Prelude.{◌≡◌, ◌<◌, ◌≤◌, ◌^◌};
+ghost use Rattle.std.specs.Prelude.{◌≡◌, ◌<◌, ◌≤◌, ◌*◌, ◌^◌, max};
 ghost use Rattle.circuit_module.specs.Sizes.{bits_for, channel_bits, fork_bits};
 ghost use Rattle.cell_module.specs.Module.{place_bits, pointer_bits};
 
@@ -50,4 +50,11 @@ pub fn pointer_bits(cells: u32) -> u64
     ensures few { result ≤ 63 }
 {
     place_bits(cells) + 1
+}
+
+/// How many bits a list of so many pointers has, where it has one at least.
+pub fn list_bits(cells: u32, pointers: u32) -> u64
+    ensures { result ≡ pointer_bits cells * max 1 pointers }
+{
+    pointer_bits(cells) * u64::from(pointers.max(1))
 }
