@@ -1,18 +1,17 @@
 -- What stands in a store stands in a larger one, and a row makes of pointers what it makes of stacks.
-use Rattle.std.proofs.Common.{◌≡◌, ◌<◌, ℕ, suc, Bool, true, false, cond, List, [], ◌∷◌, Option, Some, None, refl, sym, ap, ◌∙◌}
+use Rattle.std.proofs.Common.{◌≡◌, ◌<◌, ℕ, suc, Bool, true, false, cond, List, [], ◌∷◌, Some, refl, sym, ap, ◌∙◌}
 use Rattle.std.proofs.Common.{subst, arith}
 use Rattle.std.proofs.lemmas.Bool.{eq-eqb, ne_eqb}
-use Rattle.std.specs.Prelude.{nat_eq}
 use Rattle.token_stacks.specs.Signatures.{Sig, star, left_of, right_of, pair_of, again, R, L, S, Work, Boxes}
 use Rattle.move_rules.specs.Places.{Place}
 use Rattle.move_rules.specs.Stacks.{work_at, boxes_at}
-use Rattle.circuit_core.specs.Rows.{Row, GO, CONST, SUCC, PRED, TEST, FORK, JOIN, ANSWER, STAR, UNSTAR, LEFT, RIGHT, CON, PUSHR, PUSHL}
-use Rattle.circuit_core.specs.Rows.{SELECT, POP, BOXIN, BOXOUT, DOOROUT, DOORIN, FIXIN, FIXOUT, FIXVAR, DEAD}
+use Rattle.circuit_core.specs.Rows.{Row, GO, STAR, UNSTAR, LEFT, RIGHT, CON, PUSHR, PUSHL}
+use Rattle.circuit_core.specs.Rows.{SELECT, POP, BOXIN, BOXOUT, DOOROUT, DOORIN, FIXIN, FIXOUT, FIXVAR}
 use Rattle.circuit_core.specs.Rows.{Channel, rises, falls, channel_of}
 use Rattle.circuit_core.specs.RowMoves.{at}
 use Rattle.circuit_core.specs.RowMoves.{stack_row}
-use Rattle.cell_core.specs.Cells.{Pointer, Cell, Store, put, more, cell_at, Stands, AllStand, marks_of, sigs_of, Stacks, Shows, nil, point}
-use Rattle.cell_core.specs.Cells.{first_of, below, dir, dirs_below, Made, to, making, reads, new_cell, cell_row, row_on, after, needs_cell}
+use Rattle.cell_core.specs.Cells.{Pointer, Cell, Store, more, cell_at, Stands, AllStand, sigs_of, Stacks, Shows, point}
+use Rattle.cell_core.specs.Cells.{first_of, below, dir, dirs_below, Made, to, reads, new_cell, cell_row, row_on, after, needs_cell}
 use Rattle.cell_core.specs.CellLaws.{RowShows}
 
 -- a cell that was made is the same in the larger store, and the new one is at the top

@@ -1,6 +1,5 @@
 -- What fits a wire's type is bounded by it.
-use Rattle.std.proofs.Common.{◌≡◌, ◌≤◌, ℕ, suc, Bool, List, [], ◌∷◌, length, refl, sym, ap, ◌∙◌, subst, arith}
-use Rattle.std.specs.Prelude.{max}
+use Rattle.std.proofs.Common.{◌≡◌, ◌≤◌, suc, List, [], ◌∷◌, length, refl, ap, ◌∙◌, arith}
 use Rattle.pcf_values.specs.Terms.{TyTree, nat, arrow, product}
 use Rattle.token_stacks.specs.Signatures.{Sig, R, L, S, Work, Boxes}
 use Rattle.net_build.specs.declared.wire.WireKind.{WireKind}

@@ -1,6 +1,6 @@
 -- what stands goes on standing, and the rows
 pub mod Cells
--- the circuit with cells goes beside the one with bits
+-- the circuit with cells goes beside the one with whole stacks
 pub mod Circuit
 -- the answer is the meaning
 pub mod Meaning
@@ -10,5 +10,5 @@ pub mod Depths
 pub mod Typed
 -- each token of a run has the stacks of its wire
 pub mod RunDepths
--- where there is room the circuit is never full
+-- the circuit is full just where there is too little room
 pub mod Enough

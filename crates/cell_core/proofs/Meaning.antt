@@ -12,15 +12,12 @@ use Rattle.adequacy_laws.specs.Finished.{}
 use Rattle.adequacy_laws.specs.FinishedLaws.{TellsMeaning}
 use Rattle.adequacy_laws.proofs.Finishing.{finished_means, means_length}
 use Rattle.adequacy_laws.proofs.Agreeing.{built_runs}
-use Rattle.circuit_core.specs.Processor.{reset}
-use Rattle.circuit_core.specs.Enough.{RunFits, forks_peak, bits_peak}
-use Rattle.circuit_core.proofs.Peaks.{peaks_fit}
 use Rattle.cell_core.specs.Cells.{Cell}
 use Rattle.cell_core.specs.Circuit.{Sizes, CellCircuit, circuit}
 use Rattle.cell_core.specs.Meaning.{CellsTell}
-use Rattle.cell_core.specs.Enough.{Covers}
+use Rattle.cell_core.specs.Enough.{Covers, CellsFit}
 use Rattle.circuit_core.proofs.Circuit.{not_full}
-use Rattle.cell_core.proofs.Circuit.{follows_fitting}
+use Rattle.cell_core.proofs.Circuit.{follows}
 use Rattle.cell_core.proofs.Enough.{cells_enough}
 
 told : (m : TermTree) (k : ℕ) (C : CellCircuit) → TellsMeaning m (one (net_of m) k) C.result k → C.moves ≡ length (one (net_of m) k) →
@@ -31,36 +28,23 @@ told m k C t e = record {
   waits = t.unanswered;
 }
 
-pub cells_mean : (m : TermTree) → HasType [] m nat → Sound (net_of m) → (N k : ℕ) (z : Sizes) (mem : ℕ → Cell) →
-    RunFits (net_of m) N z.forks → ((circuit (net_of m) z mem k).full ≡ true) ⊎ CellsTell m k (circuit (net_of m) z mem k)
-cells_mean m typed sound N k z mem fits =
+pub cells_mean : (m : TermTree) → HasType [] m nat → Sound (net_of m) → (k : ℕ) (z : Sizes) (mem : ℕ → Cell) →
+    ((circuit (net_of m) z mem k).full ≡ true) ⊎ CellsTell m k (circuit (net_of m) z mem k)
+cells_mean m typed sound k z mem =
     let runs = built_runs m typed sound in
     let (S, h) = one_leads (net_of m) runs k in
     let t = finished_means m typed sound (one (net_of m) k) S h k (one_finished (net_of m) runs k S h) in
     ⊎_elim inl
     (λ (_, n, r). inr (told m k (circuit (net_of m) z mem k) (subst (λ a. TellsMeaning m (one (net_of m) k) a k) (sym r) t) n))
-    (follows_fitting (net_of m) runs N k z mem S h fits)
+    (follows (net_of m) runs k z mem S h)
 
 le_self : (a : ℕ) → a ≤ a
 le_self a = omega arith
 
-pub cells_answer : (m : TermTree) → HasType [] m nat → Sound (net_of m) → (v : Val) (n k : ℕ) (z : Sizes) (mem : ℕ → Cell) →
-    Length (net_of m) v n → forks_peak (net_of m) n (reset (net_of m)) ≤ z.forks →
-    ((circuit (net_of m) z mem k).full ≡ true) ⊎ CellsTell m k (circuit (net_of m) z mem k)
-cells_answer m typed sound v n k z mem h f =
-    cells_mean m typed sound (bits_peak (net_of m) n (reset (net_of m))) k z mem
-    (peaks_fit (net_of m) (built_runs m typed sound) v n h (bits_peak (net_of m) n (reset (net_of m))) z.forks
-    (le_self (bits_peak (net_of m) n (reset (net_of m)))) f)
-
--- bits are no premise here: the run fits as many as it takes
 pub cells_compute : (m : TermTree) → HasType [] m nat → Sound (net_of m) → (v : Val) (n : ℕ) (z : Sizes) (mem : ℕ → Cell) →
-    Length (net_of m) v n → forks_peak (net_of m) n (reset (net_of m)) ≤ z.forks → Covers z (net_of m) → n ≤ z.cells →
-    (circuit (net_of m) z mem n).result ≡ Some v
-cells_compute m typed sound v n z mem h f covers l =
-    let N = bits_peak (net_of m) n (reset (net_of m)) in
-    let runs = built_runs m typed sound in
-    let fits : RunFits (net_of m) N z.forks = peaks_fit (net_of m) runs v n h N z.forks (le_self N) f in
-    let ready = cells_enough (net_of m) runs N n z mem fits covers l in
+    Length (net_of m) v n → Covers z (net_of m) → CellsFit (net_of m) z n → (circuit (net_of m) z mem n).result ≡ Some v
+cells_compute m typed sound v n z mem h covers fits =
+    let ready = cells_enough (net_of m) (built_runs m typed sound) n z mem covers fits in
     ⊎_elim (λ e. let x : true ≡ false = sym e ∙ ready in not_full x)
     (λ t. (t.answers v).1 ((means_length m typed sound v).1 (n, h), (n, h, le_self n)))
-    (cells_mean m typed sound N n z mem fits)
+    (cells_mean m typed sound n z mem)

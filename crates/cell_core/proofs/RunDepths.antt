@@ -1,30 +1,28 @@
 -- Each token of a run has the stacks of its wire, and so a circuit that shows the run is bounded by types and depths.
-use Rattle.std.proofs.Common.{◌≡◌, ◌≤◌, ℕ, zero, suc, Bool, true, false, cond, List, [], ◌∷◌, length, Option, Some, None, refl, sym}
-use Rattle.std.proofs.Common.{ap, ◌∙◌, subst, arith}
+use Rattle.std.proofs.Common.{◌≡◌, ℕ, Bool, true, false, cond, List, [], ◌∷◌, Option, Some, None, refl, sym}
+use Rattle.std.proofs.Common.{ap, ◌∙◌, subst}
 use Rattle.std.proofs.lemmas.Bool.{eq-eqb}
 use Rattle.std.specs.Prelude.{nat_eq}
 use Rattle.pcf_values.specs.declared.val.Val.{Val}
 use Rattle.pcf_values.specs.declared.operator.Operator.{Operator}
 use Rattle.pcf_values.specs.Terms.{nat}
 use Rattle.pcf_values.specs.declared.side.Side.{Side}
-use Rattle.token_stacks.specs.Signatures.{Work, Boxes}
+use Rattle.token_stacks.specs.Signatures.{Boxes}
 use Rattle.net_build.specs.declared.node.Node.TheVariants.{Root}
-use Rattle.net_build.specs.Nets.{WireTree, value_wire, NetTree}
-use Rattle.net_build.specs.Sound.{Is, Sound}
-use Rattle.fork_join.specs.Entries.{Entry, pending, has_left, has_right, kept_as}
+use Rattle.net_build.specs.Nets.{value_wire, NetTree}
+use Rattle.net_build.specs.Sound.{Sound}
+use Rattle.fork_join.specs.Entries.{Entry, pending, has_left, has_right}
 use Rattle.move_rules.specs.Places.{Place, up, down, TokenTree, ask, ans, place_of}
-use Rattle.move_rules.specs.Stacks.{work_at, boxes_at}
 use Rattle.move_rules.specs.Moves.{Move, solo, fork, join, answer, stay, move}
 use Rattle.interleave_laws.specs.Start.{start_of}
 use Rattle.interleave_laws.specs.States.{State, Tokens, start, set_token, other, fork_on, last_on, join_on, act, step_on, step, then_run}
 use Rattle.interleave_laws.specs.States.{run}
 use Rattle.interleave_laws.specs.Runs.{LeadsTo}
 use Rattle.interleave_laws.proofs.Running.{starts_of}
-use Rattle.circuit_core.specs.Processor.{Registers, token_at, ring_at}
-use Rattle.circuit_core.specs.ProcessorLaws.{Shows}
+use Rattle.circuit_core.specs.Processor.{token_at, ring_at}
 use Rattle.cell_core.specs.Circuit.{CellToken, CellCircuit}
-use Rattle.cell_core.specs.CircuitLaws.{IsToken, IsLive, Has, CellsShow}
-use Rattle.cell_core.specs.Depths.{OfWire, Placed, MoveKeeps, Bounded}
+use Rattle.cell_core.specs.CircuitLaws.{IsToken, IsLive, CellsShow}
+use Rattle.cell_core.specs.Depths.{Placed, MoveKeeps, Bounded}
 use Rattle.cell_core.proofs.Typed.{in_at, depths_kept}
 use Rattle.circuit_core.proofs.Processor.{none_some}
 use Rattle.cell_core.proofs.Depths.{depths_bounded}

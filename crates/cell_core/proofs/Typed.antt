@@ -1,17 +1,17 @@
 -- Each move of a sound net leads from stacks of its wire to stacks of the wire that it leads to.
-use Rattle.std.proofs.Common.{◌≡◌, ◌⊎◌, ℕ, zero, suc, Bool, true, false, cond, List, [], ◌∷◌, length, Option, Some, None, refl, sym}
+use Rattle.std.proofs.Common.{◌≡◌, ℕ, zero, suc, Bool, true, false, cond, List, [], ◌∷◌, length, Option, Some, None, refl, sym}
 use Rattle.std.proofs.Common.{ap, ◌∙◌, subst, ⊎_elim, inl, inr, arith}
 use Rattle.std.specs.Prelude.{nat_eq, slice_get}
 use Rattle.pcf_values.specs.declared.val.Val.{Val}
 use Rattle.pcf_values.specs.declared.val.Val.TheVariants.{Number, Overflow}
 use Rattle.pcf_values.specs.Values.{at_zero}
 use Rattle.pcf_values.specs.declared.operator.Operator.{Operator}
-use Rattle.pcf_values.specs.Terms.{TyTree, nat, arrow, product}
+use Rattle.pcf_values.specs.Terms.{nat, arrow, product}
 use Rattle.pcf_values.specs.declared.side.Side.TheVariants.{Left, Right}
-use Rattle.token_stacks.specs.Signatures.{Sig, star, left_of, right_of, pair_of, again, R, L, S, Work, Boxes}
+use Rattle.token_stacks.specs.Signatures.{star, left_of, right_of, pair_of, again, R, L, S, Work, Boxes}
 use Rattle.net_build.specs.declared.node.Node.{Node}
-use Rattle.net_build.specs.declared.node.Node.TheVariants.{Const, Succ, Pred, Binary, Ifz, Der, Con, Lam, App, BoxNode, Door}
-use Rattle.net_build.specs.declared.node.Node.TheVariants.{FixBox, Root, Pair, Proj}
+use Rattle.net_build.specs.declared.node.Node.TheVariants.{Const, Succ, Pred, Binary, Ifz}
+use Rattle.net_build.specs.declared.node.Node.TheVariants.{Root}
 use Rattle.net_build.specs.Nets.{WireTree, value_wire, bang_wire, var_wire, NetTree, premises, conclusions}
 use Rattle.net_build.specs.Faces.{node_above, node_below}
 use Rattle.net_build.specs.Sound.{Is, Sound, Meets, Numbers, In}

@@ -1,7 +1,7 @@
 -- The circuit with cells: its registers, and one cycle of its clock.
--- It is the one of `circuit_core` with pointers in place of bits. A join compares nothing, since pointers of one box stack may differ, and
--- a slot keeps neither its node nor its boxes. `full` is raised where one of the three lists is longer than its registers, where the memory
--- of cells is used up, and where no fork is free.
+-- It is the one of `circuit_core` with pointers in place of stacks. A join compares nothing, since pointers of one box stack may differ,
+-- and a slot keeps neither its node nor its boxes. `full` is raised where one of the three lists is longer than its registers, where the
+-- memory of cells is used up, and where no fork is free.
 use Rattle.std.specs.Prelude.{ℕ, zero, suc, Bool, true, false, List, [], ◌∷◌, ◌++◌, length, Option, Some, None, nat_eq, nat_lt}
 use Rattle.std.specs.Prelude.{◌&&◌, ◌||◌, if◌then◌else◌}
 use Rattle.pcf_values.specs.declared.val.Val.{Val}

@@ -1,6 +1,5 @@
 -- The circuit with cells follows the machine: the statements of `law_cell_circuit`.
-use Rattle.std.specs.Prelude.{◌≡◌, ◌⊎◌, ◌≤◌, ℕ, true, false, List, [], ◌∷◌, length, Option, Some, None}
-use Rattle.pcf_values.specs.declared.val.Val.{Val}
+use Rattle.std.specs.Prelude.{◌≡◌, ◌⊎◌, ℕ, true, false, List, [], ◌∷◌, length, Option, Some, None}
 use Rattle.token_stacks.specs.Signatures.{Work, Boxes}
 use Rattle.net_build.specs.Nets.{NetTree}
 use Rattle.move_rules.specs.Places.{Place, TokenTree, ask, ans}
@@ -10,16 +9,12 @@ use Rattle.interleave_laws.specs.Runs.{LeadsTo, Runs}
 use Rattle.interleave_laws.specs.OneWorker.{one}
 use Rattle.fork_join.specs.Entries.{Entry}
 use Rattle.circuit_core.specs.Rows.{Channel, channel_of}
-use Rattle.circuit_core.specs.Processor.{Waiting, OpenFork, Registers, fork_at, tick, ticks, reset}
+use Rattle.circuit_core.specs.Processor.{Waiting, OpenFork, Registers, fork_at}
 use Rattle.circuit_core.specs.ProcessorLaws.{Shows}
-use Rattle.circuit_core.specs.Bits.{work_bits, box_bits}
-use Rattle.circuit_core.specs.Circuit.{Token, Question, Slot, Circuit, clock, circuit}
-use Rattle.circuit_core.specs.CircuitLaws.{IsAnswered, Holds}
-use Rattle.circuit_core.specs.Enough.{RunFits}
-use Rattle.cell_core.specs.Cells.{Pointer, Cell, Store, AllStand, Stacks}
+use Rattle.circuit_core.specs.CircuitLaws.{IsAnswered}
+use Rattle.cell_core.specs.Cells.{Cell, Store, AllStand}
 use Rattle.cell_core.specs.Cells.{Shows as StacksShow}
-use Rattle.cell_core.specs.Circuit.{Sizes, CellToken, CellQuestion, CellSlot, CellCircuit}
-use Rattle.cell_core.specs.Circuit as cells
+use Rattle.cell_core.specs.Circuit.{Sizes, CellToken, CellQuestion, CellSlot, CellCircuit, circuit}
 
 -- the token's registers have the channel and stand for these stacks
 pub record Bears (V : Store) (k : CellToken) (c : Channel) (m : Work) (t : Boxes) : Type 0 where
@@ -72,23 +67,13 @@ pub record Has (R : Registers) (C : CellCircuit) : Type 0 where
   pub moves : C.moves ≡ R.moves
   pub ready : C.full ≡ false
 
--- it shows the state: between them stands a processor without stacks in hardware
+-- it shows the state: between them stands a processor
 abbrev pub CellsShow : CellCircuit → State → Type 0
 CellsShow C S = (R : Registers) × Shows R S × Has R C
 
--- on a net that runs, where the circuit with bits, of as many forks and some number of bits, isn't full after k cycles, the one with cells
--- is full, or it shows the state to which the one worker's k moves lead, and counts them
+-- on a net that runs, after k cycles it is full, or it shows the state to which the one worker's k moves lead, and counts them
 abbrev pub CellsFollow : Type 0
 CellsFollow =
-    (net : NetTree) → Runs net → (N k : ℕ) (z : Sizes) (mem : ℕ → Cell) (S : State) → LeadsTo net (one net k) S →
-    (circuit net N z.forks k).full ≡ false →
-    ((cells.circuit net z mem k).full ≡ true) ⊎ (CellsShow (cells.circuit net z mem k) S ×
-    ((cells.circuit net z mem k).moves ≡ length (one net k)) × ((cells.circuit net z mem k).result ≡ S.answered))
-
--- and so wherever the run fits some number of bits
-abbrev pub CellsFollowFitting : Type 0
-CellsFollowFitting =
-    (net : NetTree) → Runs net → (N k : ℕ) (z : Sizes) (mem : ℕ → Cell) (S : State) → LeadsTo net (one net k) S →
-    RunFits net N z.forks →
-    ((cells.circuit net z mem k).full ≡ true) ⊎ (CellsShow (cells.circuit net z mem k) S ×
-    ((cells.circuit net z mem k).moves ≡ length (one net k)) × ((cells.circuit net z mem k).result ≡ S.answered))
+    (net : NetTree) → Runs net → (k : ℕ) (z : Sizes) (mem : ℕ → Cell) (S : State) → LeadsTo net (one net k) S →
+    ((circuit net z mem k).full ≡ true) ⊎ (CellsShow (circuit net z mem k) S × ((circuit net z mem k).moves ≡ length (one net k)) ×
+    ((circuit net z mem k).result ≡ S.answered))

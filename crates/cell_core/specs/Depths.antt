@@ -3,20 +3,18 @@
 -- at an argument's box and at a variable.
 use Rattle.std.specs.Prelude.{◌≡◌, ◌≤◌, ℕ, suc, List, [], ◌∷◌, length, max, Some}
 use Rattle.pcf_values.specs.Terms.{TyTree, nat, arrow, product}
-use Rattle.token_stacks.specs.Signatures.{Sig, R, L, S, Work, Boxes}
+use Rattle.token_stacks.specs.Signatures.{R, L, S, Work, Boxes}
 use Rattle.net_build.specs.declared.wire.WireKind.{WireKind}
 use Rattle.net_build.specs.declared.wire.WireKind.TheVariants.{Value, Bang, Variable}
-use Rattle.net_build.specs.declared.node.Node.{Node}
 use Rattle.net_build.specs.Nets.{WireTree, NetTree}
 use Rattle.net_build.specs.Sound.{Is, Sound}
 use Rattle.move_rules.specs.Places.{Place, up, down, TokenTree, place_of}
-use Rattle.move_rules.specs.Stacks.{work_at, boxes_at}
 use Rattle.move_rules.specs.Moves.{Move, solo, fork, join, answer, stay, move}
 use Rattle.interleave_laws.specs.States.{State}
 use Rattle.interleave_laws.specs.Runs.{LeadsTo}
 use Rattle.cell_core.specs.Circuit.{CellToken, CellCircuit}
 use Rattle.cell_core.specs.CircuitLaws.{CellsShow}
-use Rattle.cell_core.specs.Cells.{Pointer, Store, AllStand, Stacks, Shows, marks_of, sigs_of}
+use Rattle.cell_core.specs.Cells.{Store, Stacks, Shows}
 
 -- a path into a type
 abbrev pub OfType : TyTree → Work → Type 0

@@ -5,10 +5,11 @@ use Rattle.pcf_values.specs.declared.val.Val.TheVariants.{Number}
 use Rattle.net_build.specs.Nets.{NetTree}
 use Rattle.net_build.specs.Example.{doubled_net}
 use Rattle.circuit_core.specs.Rows.{number}
-use Rattle.circuit_core.specs.Circuit as bits
+use Rattle.circuit_core.specs.Circuit as whole
 use Rattle.circuit_core.specs.Example.{trace}
 use Rattle.cell_core.specs.Cells.{Cell, point}
 use Rattle.cell_core.specs.Circuit.{Sizes, CellToken, CellCircuit, clock, powered, circuit}
+use Rattle.cell_core.specs.Enough.{cells_made}
 
 -- the channel of the token, as a number; 0 where there is none
 abbrev pub live_number : Option CellToken → ℕ
@@ -36,11 +37,12 @@ small = record { marks = 1; sigs = 1; boxes = 1; cells = 2; forks = 1 }
 abbrev pub one_cell : Sizes
 one_cell = record { marks = 1; sigs = 1; boxes = 1; cells = 1; forks = 1 }
 
--- it answers 6 after 30 moves, and goes by the channels of the circuit with bits
+-- it answers 6 after 30 moves, goes by the channels of the circuit with stacks, and its run makes two cells
 abbrev pub ExampleCells : Type 0
 ExampleCells =
     (ports doubled_net small 40 ≡ (Some (Number 6), (false, (30, 2))))
-    × (cell_trace doubled_net small 30 (powered doubled_net junk) ≡ trace doubled_net 16 2 30 (bits.powered doubled_net))
+    × (cell_trace doubled_net small 30 (powered doubled_net junk) ≡ trace doubled_net 1 30 (whole.powered doubled_net))
+    × (cells_made doubled_net 30 ≡ 2)
 
 -- with one cell it is full
 abbrev pub ExampleOneCell : Type 0

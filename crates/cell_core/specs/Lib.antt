@@ -10,13 +10,13 @@ pub mod Circuit
 pub mod CellLaws
 -- The circuit with cells follows the machine.
 pub mod CircuitLaws
--- One cycle, beside the circuit with bits.
+-- One cycle, beside the circuit with whole stacks.
 pub mod Steps
 -- What the circuit answers is what the program means.
 pub mod Meaning
 -- How long the three lists become.
 pub mod Depths
--- A circuit that is large enough is never full.
+-- A circuit is full just where there is too little room.
 pub mod Enough
 -- A worked run that the prover computes.
 pub mod Example

@@ -1,5 +1,5 @@
 -- What the circuit with cells of a program answers is what the program means: the statements of `law_cell_program`.
-use Rattle.std.specs.Prelude.{◌≡◌, ◌⊎◌, ◌↔◌, ◌≤◌, ℕ, true, Some, None}
+use Rattle.std.specs.Prelude.{◌≡◌, ◌⊎◌, ◌↔◌, ℕ, true, Some, None}
 use Rattle.pcf_values.specs.declared.val.Val.{Val}
 use Rattle.pcf_values.specs.Terms.{TermTree}
 use Rattle.cbn_meaning.specs.Meaning.{Means}
@@ -7,10 +7,8 @@ use Rattle.net_build.specs.NetOf.{net_of}
 use Rattle.adequacy_laws.specs.Questions.{Length}
 use Rattle.adequacy_laws.specs.Adequacy.{OfEveryProgram}
 use Rattle.adequacy_laws.specs.Finished.{Within, Beyond}
-use Rattle.circuit_core.specs.Processor.{reset}
-use Rattle.circuit_core.specs.Enough.{RunFits, forks_peak}
 use Rattle.cell_core.specs.Cells.{Cell}
-use Rattle.cell_core.specs.Enough.{Covers}
+use Rattle.cell_core.specs.Enough.{Covers, CellsFit}
 use Rattle.cell_core.specs.Circuit.{Sizes, CellCircuit, circuit}
 
 -- what the circuit says k cycles after reset, in the words of `law_program`
@@ -19,19 +17,12 @@ pub record CellsTell (m : TermTree) (k : ℕ) (C : CellCircuit) : Type 0 where
   pub as_long : (v : Val) → C.result ≡ Some v → Length (net_of m) v C.moves
   pub waits : (C.result ≡ None) ↔ Beyond (net_of m) k
 
--- where the run's forks fit, and its stacks some number of bits
+-- the circuit of every program, of whatever sizes, is full or tells the program's meaning
 abbrev pub CellsMean : Type 0
-CellsMean = OfEveryProgram (λ m. (N k : ℕ) (z : Sizes) (mem : ℕ → Cell) → RunFits (net_of m) N z.forks →
+CellsMean = OfEveryProgram (λ m. (k : ℕ) (z : Sizes) (mem : ℕ → Cell) →
     ((circuit (net_of m) z mem k).full ≡ true) ⊎ CellsTell m k (circuit (net_of m) z mem k))
 
--- so it is of every program that has a value, where its forks fit: no number of bits is left
-abbrev pub CellsAnswer : Type 0
-CellsAnswer = OfEveryProgram (λ m. (v : Val) (n k : ℕ) (z : Sizes) (mem : ℕ → Cell) → Length (net_of m) v n →
-    forks_peak (net_of m) n (reset (net_of m)) ≤ z.forks →
-    ((circuit (net_of m) z mem k).full ≡ true) ⊎ CellsTell m k (circuit (net_of m) z mem k))
-
--- and where the lists have room for each wire too, and there are as many cells as the net is long, it answers just then
+-- and where the lists have room for each wire, and forks and cells are enough for as many moves as the net is long, it answers just then
 abbrev pub CellsCompute : Type 0
 CellsCompute = OfEveryProgram (λ m. (v : Val) (n : ℕ) (z : Sizes) (mem : ℕ → Cell) → Length (net_of m) v n →
-    forks_peak (net_of m) n (reset (net_of m)) ≤ z.forks → Covers z (net_of m) → n ≤ z.cells →
-    (circuit (net_of m) z mem n).result ≡ Some v)
+    Covers z (net_of m) → CellsFit (net_of m) z n → (circuit (net_of m) z mem n).result ≡ Some v)

@@ -1,26 +1,20 @@
--- One cycle: the circuit with cells beside the one with bits, and the statements of `law_cell_step`.
+-- One cycle: the circuit with cells beside the one with whole stacks, and the statements of `law_cell_step`.
 use Rattle.std.specs.Prelude.{◌≡◌, ◌⊎◌, ℕ, true, false, List, [], ◌∷◌, Option, Some, None}
-use Rattle.token_stacks.specs.Signatures.{Work, Boxes}
 use Rattle.net_build.specs.Nets.{NetTree}
 use Rattle.circuit_core.specs.Processor.{Registers, tick}
-use Rattle.circuit_core.specs.Bits.{work_bits, box_bits}
-use Rattle.circuit_core.specs.Circuit as bits
+use Rattle.circuit_core.specs.Circuit as whole
 use Rattle.circuit_core.specs.Circuit.{Token, Question, Slot, Circuit}
 use Rattle.circuit_core.specs.CircuitLaws.{Holds}
 use Rattle.cell_core.specs.Cells.{Store, AllStand, Shows}
 use Rattle.cell_core.specs.Circuit.{Sizes, CellToken, CellQuestion, CellSlot, CellCircuit, clock}
 use Rattle.cell_core.specs.CircuitLaws.{Has}
 
--- a token with bits and one with cells, of the same stacks
+-- a token with stacks, and one with cells that stand for them
 pub record Twin (V : Store) (b : Token) (k : CellToken) : Type 0 where
   pub value : b.value ≡ k.value
   pub channel : b.channel ≡ k.channel
   pub mine : b.mine ≡ k.mine
-  pub m : Work
-  pub t : Boxes
-  pub work : b.work ≡ work_bits m
-  pub boxes : b.boxes ≡ box_bits t
-  pub stacks : Shows V k.stacks m t
+  pub stacks : Shows V k.stacks b.work b.boxes
 
 -- both have a token, or none has
 abbrev pub TwinLive : Store → Option Token → Option CellToken → Type 0
@@ -33,9 +27,7 @@ TwinLive V (Some b) (Some k) = Twin V b k
 pub record TwinQuestion (V : Store) (p : Question) (q : CellQuestion) : Type 0 where
   pub channel : p.channel ≡ q.channel
   pub mine : p.mine ≡ q.mine
-  pub t : Boxes
-  pub boxes : p.boxes ≡ box_bits t
-  pub stand : AllStand V q.boxes t
+  pub stand : AllStand V q.boxes p.boxes
 
 -- as many questions wait in both
 abbrev pub TwinQueue : Store → List Question → List CellQuestion → Type 0
@@ -64,12 +56,12 @@ pub record Twins (B : Circuit) (C : CellCircuit) : Type 0 where
   pub live : TwinLive C.store B.live C.live
   pub rest : Rest B C
 
--- what the circuit with bits holds of a processor, its twin has
+-- what the circuit with stacks holds of a processor, its twin has
 abbrev pub TwinsHave : Type 0
 TwinsHave = (R : Registers) (B : Circuit) (C : CellCircuit) → Holds R B → Twins B C → Has R C
 
--- and after a cycle in which neither the processor nor the circuit with bits becomes full, it is full or has the next state
+-- and after a cycle in which neither the processor nor the circuit with stacks becomes full, it is full or has the next state
 abbrev pub CellsStep : Type 0
-CellsStep = (net : NetTree) (N : ℕ) (z : Sizes) (R : Registers) (B : Circuit) (C : CellCircuit) → Holds R B → Twins B C →
-    R.full ≡ false → (tick net R).full ≡ false → (bits.clock net N z.forks B).full ≡ false →
-    ((clock net z C).full ≡ true) ⊎ (Holds (tick net R) (bits.clock net N z.forks B) × Twins (bits.clock net N z.forks B) (clock net z C))
+CellsStep = (net : NetTree) (z : Sizes) (R : Registers) (B : Circuit) (C : CellCircuit) → Holds R B → Twins B C →
+    R.full ≡ false → (tick net R).full ≡ false → (whole.clock net z.forks B).full ≡ false →
+    ((clock net z C).full ≡ true) ⊎ (Holds (tick net R) (whole.clock net z.forks B) × Twins (whole.clock net z.forks B) (clock net z C))

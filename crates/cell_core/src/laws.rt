@@ -1,11 +1,11 @@
 //! What holds of cells, and of a circuit with them.
 
 ghost use Rattle.cell_core.specs.CellLaws.{Kept, KeptAll, CellRows, ReadsMade};
-ghost use Rattle.cell_core.specs.CircuitLaws.{CellsFollow, CellsFollowFitting};
+ghost use Rattle.cell_core.specs.CircuitLaws.{CellsFollow};
 ghost use Rattle.cell_core.specs.Steps.{TwinsHave, CellsStep};
-ghost use Rattle.cell_core.specs.Meaning.{CellsMean, CellsAnswer, CellsCompute};
+ghost use Rattle.cell_core.specs.Meaning.{CellsMean, CellsCompute};
 ghost use Rattle.cell_core.specs.Depths.{DepthsBounded, DepthsKept, RunPlaced, CellsBounded};
-ghost use Rattle.cell_core.specs.Enough.{CellsEnough};
+ghost use Rattle.cell_core.specs.Enough.{CellsCounted, CellsEnough, CellsExactly};
 ghost use Rattle.cell_core.specs.Example.{ExampleCells, ExampleOneCell};
 
 /// What stands in a store, stands in the store with one more cell.
@@ -20,18 +20,16 @@ pub fn law_cell_rows()
     ensures reads { ReadsMade }
 {}
 
-/// On a net that runs, where the run's forks fit, after k cycles the circuit with cells is full, or it shows the state to which the one
-/// worker's k moves lead.
+/// On a net that runs, after k cycles the circuit with cells, of whatever sizes, is full, or it shows the state to which the one worker's
+/// k moves lead.
 pub fn law_cell_circuit()
-    ensures follows { CellsFollow }
-    ensures fitting { CellsFollowFitting }
+    ensures { CellsFollow }
 {}
 
-/// The circuit with cells of a program, where its forks fit, is full, or it has a result exactly when the program means it and there were
-/// as many cycles as its net is long.
+/// The circuit with cells of a program, of whatever sizes, is full, or it has a result exactly when the program means it and there were as
+/// many cycles as its net is long; and it isn't full there where its sizes are enough for as many moves.
 pub fn law_cell_program()
     ensures means { CellsMean }
-    ensures answers { CellsAnswer }
     ensures computes { CellsCompute }
 {
     net_build::law_built_sound();
@@ -52,13 +50,16 @@ pub fn law_example_cells()
     ensures one_cell { ExampleOneCell }
 {}
 
-/// On a net that runs, where the lists have room for each wire's type and depth, and the run's forks fit, the circuit isn't full within as
-/// many cycles as there are cells.
+/// On a net that runs, a circuit that isn't full made a cell for each LEFT, RIGHT, DOOROUT and FIXVAR among the moves. It isn't full after
+/// k cycles where the lists have room for each wire's type and depth, and the forks and the cells are enough for k moves. And nowhere
+/// else: where it isn't full, they were enough, whatever room the lists have.
 pub fn law_cell_enough()
-    ensures { CellsEnough }
+    ensures counted { CellsCounted }
+    ensures enough { CellsEnough }
+    ensures exactly { CellsExactly }
 {}
 
-/// Beside the circuit with bits: registers that show a state show the next one after a cycle, or are full.
+/// Beside the circuit with whole stacks: registers that show a state show the next one after a cycle, or are full.
 pub fn law_cell_step()
     ensures have { TwinsHave }
     ensures step { CellsStep }
