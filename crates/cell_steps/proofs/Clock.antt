@@ -1,21 +1,23 @@
 -- What the clock's block makes of what has settled, by what the row does.
-use Rattle.std.proofs.Common.{◌≡◌, ℕ, ◌+◌, ◌-◌, ◌*◌, ◌/◌, ◌%◌, ◌^◌, max, Bool, true, false, [], ◌∷◌, length, refl, ap, ◌∙◌, nat_lt, nat_eq}
+use Rattle.std.proofs.Common.{◌≡◌, ℕ, ◌+◌, ◌-◌, ◌*◌, ◌/◌, ◌%◌, ◌^◌, max, Bool, true, false, List, [], ◌∷◌, ◌++◌, length, refl}
+use Rattle.std.proofs.Common.{ap, ◌∙◌, nat_lt, nat_eq}
 use Rattle.std.proofs.Common.{◌&&◌, ◌||◌}
 use Prim.Native.String.{String}
 use Rattle.net_build.specs.Nets.{NetTree}
-use Rattle.circuit_core.specs.Rows.{Channel, GO, CONST, SUCC, PRED, TEST, FORK, JOIN, ANSWER, STAR, UNSTAR, LEFT}
-use Rattle.circuit_core.specs.Rows.{RIGHT, CON, PUSHR, PUSHL, SELECT, POP, BOXIN, BOXOUT, DOOROUT, DOORIN, FIXIN, FIXOUT, FIXVAR, DEAD}
+use Rattle.circuit_core.specs.Rows.{Channel, PRED, FORK, JOIN, ANSWER}
+use Rattle.circuit_core.specs.Rows.{DEAD}
 use Rattle.pcf_values.specs.declared.operator.Operator.{Operator}
 use Rattle.pcf_values.specs.declared.operator.Operator.TheVariants.{Plus, Minus, Times}
 use Rattle.pcf_values.specs.declared.side.Side.{Side}
 use Rattle.pcf_values.specs.declared.side.Side.TheVariants.{Left, Right}
-use Rattle.verilog_tree.specs.Tree.{branch, seq, two, plus, name, num}
+use Rattle.verilog_tree.specs.Tree.{Stmt, branch, two, plus, name, num, sized, cat, word, put, word_at, bit_at}
 use Rattle.verilog_tree.specs.Meaning.{Scope, Store, fire, fit, flag, nonzero, chosen, set_vec, word_in, part_in, with_bit, holds}
 use Rattle.circuit_module.specs.Sizes.{channel_bits, fork_bits}
 use Rattle.circuit_module.specs.Fixed.{set, block}
 use Rattle.cell_core.specs.Circuit.{Sizes}
-use Rattle.cell_module.specs.Fixed.{does, fetch_row, lists_move, read_cells, make_cell, open_fork, other_fork, note_answer, value_move}
-use Rattle.cell_module.specs.Fixed.{end_move, cell_clock, no_room}
+use Rattle.cell_module.specs.Fixed.{does, fetch_row, lists_move, read_cells, make_cell, read_queue, open_fork, other_fork, note_answer}
+use Rattle.cell_module.specs.Fixed.{value_move}
+use Rattle.cell_module.specs.Fixed.{cell_clock, no_room}
 use Rattle.cell_module.specs.Module.{place_bits, pointer_bits}
 use Rattle.cell_module.specs.Parts.{word_of, deeds_of}
 use Rattle.cell_edges.proofs.Known.{known}
@@ -184,8 +186,34 @@ module _ (net : NetTree) (z : Sizes) (R : Store) where
     pub queue_boxes : G.mem "queue_boxes" ≡ R.mem "queue_boxes"
     pub forks : G.mem "forks" ≡ R.mem "forks"
 
-  pub quiet_go : (c : Channel) → Quiet (R.vec "result") (edge_at (word_of (deeds_of (GO c))) 0)
-  quiet_go c = record {
+  -- The block without its tests, for each kind of row: what is done in turn. At a row's own word the block computes to one of these.
+  -- the next row and the lists come
+  abbrev comes : List Stmt
+  comes = fetch_row ∷ lists_move ∷ []
+
+  -- the fork and the question that the next row may want
+  abbrev goes_on : List Stmt
+  goes_on = read_queue ∷ set "mine" (name "next_mine") ∷ set "first" (name "next_first") ∷ []
+
+  abbrev has_fork : Stmt
+  has_fork = set "fork_has" (word "forks" (name "next_mine"))
+
+  abbrev counted : Store → Store → Store
+  counted X S = fire P X (set "moves" (two plus (name "moves") (num 1))) S
+
+  -- a row that neither makes a cell nor opens or answers a fork, before its value is set
+  abbrev rested : Store → Store
+  rested X = fire P X (block (comes ++ (read_cells ∷ (goes_on ++ has_fork ∷ [])))) X
+
+  abbrev pub quiet_at : ℕ → Store
+  quiet_at d = counted (settled_at d 0) (rested (settled_at d 0))
+
+  abbrev pub valued_at : ℕ → ℕ → Store
+  valued_at d n = counted (settled_at d 0) (set_vec "result" n (rested (settled_at d 0)))
+
+  -- the value stays
+  pub quiet : (d : ℕ) → Quiet (R.vec "result") (quiet_at d)
+  quiet d = record {
     base = record { does = refl; main = refl; side = refl; literal = refl; marks = refl; sigs = refl; boxes = refl; moves = refl };
     on = record { done = refl; full = refl };
     cells = record {
@@ -214,428 +242,9 @@ module _ (net : NetTree) (z : Sizes) (R : Store) where
     result = refl;
   }
 
-  pub quiet_test : (c d : Channel) → Quiet (R.vec "result") (edge_at (word_of (deeds_of (TEST c d))) 0)
-  quiet_test c d = record {
-    base = record { does = refl; main = refl; side = refl; literal = refl; marks = refl; sigs = refl; boxes = refl; moves = refl };
-    on = record { done = refl; full = refl };
-    cells = record {
-      sig_first = refl;
-      sig_second = refl;
-      box_first = refl;
-      box_second = refl;
-      top = refl;
-      sig_firsts = refl;
-      sig_seconds = refl;
-      box_firsts = refl;
-      box_seconds = refl;
-    };
-    forks = record {
-      mine = refl;
-      first = refl;
-      last = refl;
-      open_forks = refl;
-      asked = refl;
-      asked_boxes = refl;
-      fork_has = refl;
-      queue = refl;
-      queue_boxes = refl;
-      forks = refl;
-    };
-    result = refl;
-  }
-
-  pub quiet_star : (c : Channel) → Quiet (R.vec "result") (edge_at (word_of (deeds_of (STAR c))) 0)
-  quiet_star c = record {
-    base = record { does = refl; main = refl; side = refl; literal = refl; marks = refl; sigs = refl; boxes = refl; moves = refl };
-    on = record { done = refl; full = refl };
-    cells = record {
-      sig_first = refl;
-      sig_second = refl;
-      box_first = refl;
-      box_second = refl;
-      top = refl;
-      sig_firsts = refl;
-      sig_seconds = refl;
-      box_firsts = refl;
-      box_seconds = refl;
-    };
-    forks = record {
-      mine = refl;
-      first = refl;
-      last = refl;
-      open_forks = refl;
-      asked = refl;
-      asked_boxes = refl;
-      fork_has = refl;
-      queue = refl;
-      queue_boxes = refl;
-      forks = refl;
-    };
-    result = refl;
-  }
-
-  pub quiet_unstar : (c : Channel) → Quiet (R.vec "result") (edge_at (word_of (deeds_of (UNSTAR c))) 0)
-  quiet_unstar c = record {
-    base = record { does = refl; main = refl; side = refl; literal = refl; marks = refl; sigs = refl; boxes = refl; moves = refl };
-    on = record { done = refl; full = refl };
-    cells = record {
-      sig_first = refl;
-      sig_second = refl;
-      box_first = refl;
-      box_second = refl;
-      top = refl;
-      sig_firsts = refl;
-      sig_seconds = refl;
-      box_firsts = refl;
-      box_seconds = refl;
-    };
-    forks = record {
-      mine = refl;
-      first = refl;
-      last = refl;
-      open_forks = refl;
-      asked = refl;
-      asked_boxes = refl;
-      fork_has = refl;
-      queue = refl;
-      queue_boxes = refl;
-      forks = refl;
-    };
-    result = refl;
-  }
-
-  pub quiet_con : (c d : Channel) → Quiet (R.vec "result") (edge_at (word_of (deeds_of (CON c d))) 0)
-  quiet_con c d = record {
-    base = record { does = refl; main = refl; side = refl; literal = refl; marks = refl; sigs = refl; boxes = refl; moves = refl };
-    on = record { done = refl; full = refl };
-    cells = record {
-      sig_first = refl;
-      sig_second = refl;
-      box_first = refl;
-      box_second = refl;
-      top = refl;
-      sig_firsts = refl;
-      sig_seconds = refl;
-      box_firsts = refl;
-      box_seconds = refl;
-    };
-    forks = record {
-      mine = refl;
-      first = refl;
-      last = refl;
-      open_forks = refl;
-      asked = refl;
-      asked_boxes = refl;
-      fork_has = refl;
-      queue = refl;
-      queue_boxes = refl;
-      forks = refl;
-    };
-    result = refl;
-  }
-
-  pub quiet_pushr : (c : Channel) → Quiet (R.vec "result") (edge_at (word_of (deeds_of (PUSHR c))) 0)
-  quiet_pushr c = record {
-    base = record { does = refl; main = refl; side = refl; literal = refl; marks = refl; sigs = refl; boxes = refl; moves = refl };
-    on = record { done = refl; full = refl };
-    cells = record {
-      sig_first = refl;
-      sig_second = refl;
-      box_first = refl;
-      box_second = refl;
-      top = refl;
-      sig_firsts = refl;
-      sig_seconds = refl;
-      box_firsts = refl;
-      box_seconds = refl;
-    };
-    forks = record {
-      mine = refl;
-      first = refl;
-      last = refl;
-      open_forks = refl;
-      asked = refl;
-      asked_boxes = refl;
-      fork_has = refl;
-      queue = refl;
-      queue_boxes = refl;
-      forks = refl;
-    };
-    result = refl;
-  }
-
-  pub quiet_pushl : (c : Channel) → Quiet (R.vec "result") (edge_at (word_of (deeds_of (PUSHL c))) 0)
-  quiet_pushl c = record {
-    base = record { does = refl; main = refl; side = refl; literal = refl; marks = refl; sigs = refl; boxes = refl; moves = refl };
-    on = record { done = refl; full = refl };
-    cells = record {
-      sig_first = refl;
-      sig_second = refl;
-      box_first = refl;
-      box_second = refl;
-      top = refl;
-      sig_firsts = refl;
-      sig_seconds = refl;
-      box_firsts = refl;
-      box_seconds = refl;
-    };
-    forks = record {
-      mine = refl;
-      first = refl;
-      last = refl;
-      open_forks = refl;
-      asked = refl;
-      asked_boxes = refl;
-      fork_has = refl;
-      queue = refl;
-      queue_boxes = refl;
-      forks = refl;
-    };
-    result = refl;
-  }
-
-  pub quiet_select : (c d : Channel) → Quiet (R.vec "result") (edge_at (word_of (deeds_of (SELECT c d))) 0)
-  quiet_select c d = record {
-    base = record { does = refl; main = refl; side = refl; literal = refl; marks = refl; sigs = refl; boxes = refl; moves = refl };
-    on = record { done = refl; full = refl };
-    cells = record {
-      sig_first = refl;
-      sig_second = refl;
-      box_first = refl;
-      box_second = refl;
-      top = refl;
-      sig_firsts = refl;
-      sig_seconds = refl;
-      box_firsts = refl;
-      box_seconds = refl;
-    };
-    forks = record {
-      mine = refl;
-      first = refl;
-      last = refl;
-      open_forks = refl;
-      asked = refl;
-      asked_boxes = refl;
-      fork_has = refl;
-      queue = refl;
-      queue_boxes = refl;
-      forks = refl;
-    };
-    result = refl;
-  }
-
-  pub quiet_pop : (c : Channel) → Quiet (R.vec "result") (edge_at (word_of (deeds_of (POP c))) 0)
-  quiet_pop c = record {
-    base = record { does = refl; main = refl; side = refl; literal = refl; marks = refl; sigs = refl; boxes = refl; moves = refl };
-    on = record { done = refl; full = refl };
-    cells = record {
-      sig_first = refl;
-      sig_second = refl;
-      box_first = refl;
-      box_second = refl;
-      top = refl;
-      sig_firsts = refl;
-      sig_seconds = refl;
-      box_firsts = refl;
-      box_seconds = refl;
-    };
-    forks = record {
-      mine = refl;
-      first = refl;
-      last = refl;
-      open_forks = refl;
-      asked = refl;
-      asked_boxes = refl;
-      fork_has = refl;
-      queue = refl;
-      queue_boxes = refl;
-      forks = refl;
-    };
-    result = refl;
-  }
-
-  pub quiet_boxin : (c : Channel) → Quiet (R.vec "result") (edge_at (word_of (deeds_of (BOXIN c))) 0)
-  quiet_boxin c = record {
-    base = record { does = refl; main = refl; side = refl; literal = refl; marks = refl; sigs = refl; boxes = refl; moves = refl };
-    on = record { done = refl; full = refl };
-    cells = record {
-      sig_first = refl;
-      sig_second = refl;
-      box_first = refl;
-      box_second = refl;
-      top = refl;
-      sig_firsts = refl;
-      sig_seconds = refl;
-      box_firsts = refl;
-      box_seconds = refl;
-    };
-    forks = record {
-      mine = refl;
-      first = refl;
-      last = refl;
-      open_forks = refl;
-      asked = refl;
-      asked_boxes = refl;
-      fork_has = refl;
-      queue = refl;
-      queue_boxes = refl;
-      forks = refl;
-    };
-    result = refl;
-  }
-
-  pub quiet_boxout : (c : Channel) → Quiet (R.vec "result") (edge_at (word_of (deeds_of (BOXOUT c))) 0)
-  quiet_boxout c = record {
-    base = record { does = refl; main = refl; side = refl; literal = refl; marks = refl; sigs = refl; boxes = refl; moves = refl };
-    on = record { done = refl; full = refl };
-    cells = record {
-      sig_first = refl;
-      sig_second = refl;
-      box_first = refl;
-      box_second = refl;
-      top = refl;
-      sig_firsts = refl;
-      sig_seconds = refl;
-      box_firsts = refl;
-      box_seconds = refl;
-    };
-    forks = record {
-      mine = refl;
-      first = refl;
-      last = refl;
-      open_forks = refl;
-      asked = refl;
-      asked_boxes = refl;
-      fork_has = refl;
-      queue = refl;
-      queue_boxes = refl;
-      forks = refl;
-    };
-    result = refl;
-  }
-
-  pub quiet_doorin : (c : Channel) → Quiet (R.vec "result") (edge_at (word_of (deeds_of (DOORIN c))) 0)
-  quiet_doorin c = record {
-    base = record { does = refl; main = refl; side = refl; literal = refl; marks = refl; sigs = refl; boxes = refl; moves = refl };
-    on = record { done = refl; full = refl };
-    cells = record {
-      sig_first = refl;
-      sig_second = refl;
-      box_first = refl;
-      box_second = refl;
-      top = refl;
-      sig_firsts = refl;
-      sig_seconds = refl;
-      box_firsts = refl;
-      box_seconds = refl;
-    };
-    forks = record {
-      mine = refl;
-      first = refl;
-      last = refl;
-      open_forks = refl;
-      asked = refl;
-      asked_boxes = refl;
-      fork_has = refl;
-      queue = refl;
-      queue_boxes = refl;
-      forks = refl;
-    };
-    result = refl;
-  }
-
-  pub quiet_fixin : (c : Channel) → Quiet (R.vec "result") (edge_at (word_of (deeds_of (FIXIN c))) 0)
-  quiet_fixin c = record {
-    base = record { does = refl; main = refl; side = refl; literal = refl; marks = refl; sigs = refl; boxes = refl; moves = refl };
-    on = record { done = refl; full = refl };
-    cells = record {
-      sig_first = refl;
-      sig_second = refl;
-      box_first = refl;
-      box_second = refl;
-      top = refl;
-      sig_firsts = refl;
-      sig_seconds = refl;
-      box_firsts = refl;
-      box_seconds = refl;
-    };
-    forks = record {
-      mine = refl;
-      first = refl;
-      last = refl;
-      open_forks = refl;
-      asked = refl;
-      asked_boxes = refl;
-      fork_has = refl;
-      queue = refl;
-      queue_boxes = refl;
-      forks = refl;
-    };
-    result = refl;
-  }
-
-  pub quiet_fixout : (c d : Channel) → Quiet (R.vec "result") (edge_at (word_of (deeds_of (FIXOUT c d))) 0)
-  quiet_fixout c d = record {
-    base = record { does = refl; main = refl; side = refl; literal = refl; marks = refl; sigs = refl; boxes = refl; moves = refl };
-    on = record { done = refl; full = refl };
-    cells = record {
-      sig_first = refl;
-      sig_second = refl;
-      box_first = refl;
-      box_second = refl;
-      top = refl;
-      sig_firsts = refl;
-      sig_seconds = refl;
-      box_firsts = refl;
-      box_seconds = refl;
-    };
-    forks = record {
-      mine = refl;
-      first = refl;
-      last = refl;
-      open_forks = refl;
-      asked = refl;
-      asked_boxes = refl;
-      fork_has = refl;
-      queue = refl;
-      queue_boxes = refl;
-      forks = refl;
-    };
-    result = refl;
-  }
-
-  pub quiet_const : (n : ℕ) (c : Channel) → Quiet (fit 65 (0 + R.vec "literal")) (edge_at (word_of (deeds_of (CONST n c))) 0)
-  quiet_const n c = record {
-    base = record { does = refl; main = refl; side = refl; literal = refl; marks = refl; sigs = refl; boxes = refl; moves = refl };
-    on = record { done = refl; full = refl };
-    cells = record {
-      sig_first = refl;
-      sig_second = refl;
-      box_first = refl;
-      box_second = refl;
-      top = refl;
-      sig_firsts = refl;
-      sig_seconds = refl;
-      box_firsts = refl;
-      box_seconds = refl;
-    };
-    forks = record {
-      mine = refl;
-      first = refl;
-      last = refl;
-      open_forks = refl;
-      asked = refl;
-      asked_boxes = refl;
-      fork_has = refl;
-      queue = refl;
-      queue_boxes = refl;
-      forks = refl;
-    };
-    result = refl;
-  }
-
-  pub quiet_succ : (c : Channel) → Quiet (fit 65 (R.vec "succ")) (edge_at (word_of (deeds_of (SUCC c))) 0)
-  quiet_succ c = record {
+  -- it is set
+  pub valued : (d n : ℕ) → Quiet n (valued_at d n)
+  valued d n = record {
     base = record { does = refl; main = refl; side = refl; literal = refl; marks = refl; sigs = refl; boxes = refl; moves = refl };
     on = record { done = refl; full = refl };
     cells = record {
@@ -665,13 +274,9 @@ module _ (net : NetTree) (z : Sizes) (R : Store) where
   }
 
   -- at PRED the value is changed where it is neither 0 nor too great
-  abbrev pub before_value : ℕ → Store
-  before_value d = fire P (settled_at d 0) (block (lists_move ∷ branch (does "MAKES") make_cell read_cells ∷
-      branch (does "FORKS") open_fork other_fork ∷ note_answer ∷ [])) (fire P (settled_at d 0) fetch_row (settled_at d 0))
-
   abbrev pub pred_at : Bool → Store
-  pred_at b = fire P (settled_at (2 ^ 21) 0) (seq end_move (set "moves" (two plus (name "moves") (num 1))))
-      (chosen b (before_value (2 ^ 21)) (set_vec "result" (fit 65 (fit 65 (2 ^ 65 + R.vec "result" - 1))) (before_value (2 ^ 21))))
+  pred_at b = counted (settled_at (2 ^ 21) 0) (chosen b (rested (settled_at (2 ^ 21) 0))
+      (set_vec "result" (fit 65 (fit 65 (2 ^ 65 + R.vec "result" - 1))) (rested (settled_at (2 ^ 21) 0))))
 
   abbrev pub stays : ℕ → Bool
   stays n = nonzero (flag (nonzero (n / 2 ^ 64 % 2) || nonzero (flag (nat_eq n 0))))
@@ -680,47 +285,27 @@ module _ (net : NetTree) (z : Sizes) (R : Store) where
   pred_is c = refl
 
   pub quiet_pred : (b : Bool) → Quiet (chosen b (R.vec "result") (fit 65 (fit 65 (2 ^ 65 + R.vec "result" - 1)))) (pred_at b)
-  quiet_pred true = record {
+  quiet_pred true = quiet (2 ^ 21)
+  quiet_pred false = valued (2 ^ 21) (fit 65 (fit 65 (2 ^ 65 + R.vec "result" - 1)))
+
+  -- a row that makes a cell: where none is left, the run is full
+  abbrev made : Store → Store
+  made X = fire P X (block (comes ++ (make_cell ∷ (goes_on ++ has_fork ∷ [])))) X
+
+  abbrev pub making_at : ℕ → Bool → Store
+  making_at d b = counted (settled_at d 0) (chosen b (set_vec "full" 1 (made (settled_at d 0))) (made (settled_at d 0)))
+
+  -- a cell is left
+  pub makes : (d : ℕ) → Makes (making_at d false)
+  makes d = record {
     base = record { does = refl; main = refl; side = refl; literal = refl; marks = refl; sigs = refl; boxes = refl; moves = refl };
     on = record { done = refl; full = refl };
     cells = record {
-      sig_first = refl;
-      sig_second = refl;
-      box_first = refl;
-      box_second = refl;
       top = refl;
-      sig_firsts = refl;
-      sig_seconds = refl;
-      box_firsts = refl;
-      box_seconds = refl;
-    };
-    forks = record {
-      mine = refl;
-      first = refl;
-      last = refl;
-      open_forks = refl;
-      asked = refl;
-      asked_boxes = refl;
-      fork_has = refl;
-      queue = refl;
-      queue_boxes = refl;
-      forks = refl;
-    };
-    result = refl;
-  }
-  quiet_pred false = record {
-    base = record { does = refl; main = refl; side = refl; literal = refl; marks = refl; sigs = refl; boxes = refl; moves = refl };
-    on = record { done = refl; full = refl };
-    cells = record {
-      sig_first = refl;
-      sig_second = refl;
-      box_first = refl;
-      box_second = refl;
-      top = refl;
-      sig_firsts = refl;
-      sig_seconds = refl;
-      box_firsts = refl;
-      box_seconds = refl;
+      sig_firsts = λ j. refl;
+      sig_seconds = λ j. refl;
+      box_firsts = λ j. refl;
+      box_seconds = λ j. refl;
     };
     forks = record {
       mine = refl;
@@ -737,7 +322,10 @@ module _ (net : NetTree) (z : Sizes) (R : Store) where
     result = refl;
   }
 
-  -- a row that makes a cell: where none is left, the run is full
+  pub full_making : (d : ℕ) → EndsFull (making_at d true)
+  full_making d = record { done = refl; full = refl; moves = refl }
+
+  -- a fork, with the tests of the block
   abbrev pub before_end : ℕ → Store
   before_end d = fire P (settled_at d 0) (block (lists_move ∷ branch (does "MAKES") make_cell read_cells ∷
       branch (does "FORKS") open_fork other_fork ∷ note_answer ∷ value_move ∷ [])) (fire P (settled_at d 0) fetch_row (settled_at d 0))
@@ -745,155 +333,6 @@ module _ (net : NetTree) (z : Sizes) (R : Store) where
   abbrev pub ended_at : ℕ → Bool → Store
   ended_at d b = set_vec "moves" (fit 64 (fit 64 (R.vec "moves" + 1))) (chosen b (set_vec "full" 1 (before_end d)) (before_end d))
 
-  pub left_is : (c : Channel) → edge_at (word_of (deeds_of (LEFT c))) 0
-      ≡ ended_at (word_of (deeds_of (LEFT c))) (holds P (settled_at (word_of (deeds_of (LEFT c))) 0) no_room)
-  left_is c = refl
-
-  pub makes_left : (c : Channel) → Makes (ended_at (word_of (deeds_of (LEFT c))) false)
-  makes_left c = record {
-    base = record { does = refl; main = refl; side = refl; literal = refl; marks = refl; sigs = refl; boxes = refl; moves = refl };
-    on = record { done = refl; full = refl };
-    cells = record {
-      top = refl;
-      sig_firsts = λ j. refl;
-      sig_seconds = λ j. refl;
-      box_firsts = λ j. refl;
-      box_seconds = λ j. refl;
-    };
-    forks = record {
-      mine = refl;
-      first = refl;
-      last = refl;
-      open_forks = refl;
-      asked = refl;
-      asked_boxes = refl;
-      fork_has = refl;
-      queue = refl;
-      queue_boxes = refl;
-      forks = refl;
-    };
-    result = refl;
-  }
-
-  pub full_left : (c : Channel) → EndsFull (ended_at (word_of (deeds_of (LEFT c))) true)
-  full_left c = record { done = refl; full = refl; moves = refl }
-
-  pub room_left : (c : Channel) → holds P (settled_at (word_of (deeds_of (LEFT c))) 0) no_room
-      ≡ nonzero (flag (nonzero (flag (nonzero (flag (nat_eq (R.vec "top") (fit 32 z.cells))))) || false))
-  room_left c = refl
-
-  pub right_is : (c : Channel) → edge_at (word_of (deeds_of (RIGHT c))) 0
-      ≡ ended_at (word_of (deeds_of (RIGHT c))) (holds P (settled_at (word_of (deeds_of (RIGHT c))) 0) no_room)
-  right_is c = refl
-
-  pub makes_right : (c : Channel) → Makes (ended_at (word_of (deeds_of (RIGHT c))) false)
-  makes_right c = record {
-    base = record { does = refl; main = refl; side = refl; literal = refl; marks = refl; sigs = refl; boxes = refl; moves = refl };
-    on = record { done = refl; full = refl };
-    cells = record {
-      top = refl;
-      sig_firsts = λ j. refl;
-      sig_seconds = λ j. refl;
-      box_firsts = λ j. refl;
-      box_seconds = λ j. refl;
-    };
-    forks = record {
-      mine = refl;
-      first = refl;
-      last = refl;
-      open_forks = refl;
-      asked = refl;
-      asked_boxes = refl;
-      fork_has = refl;
-      queue = refl;
-      queue_boxes = refl;
-      forks = refl;
-    };
-    result = refl;
-  }
-
-  pub full_right : (c : Channel) → EndsFull (ended_at (word_of (deeds_of (RIGHT c))) true)
-  full_right c = record { done = refl; full = refl; moves = refl }
-
-  pub room_right : (c : Channel) → holds P (settled_at (word_of (deeds_of (RIGHT c))) 0) no_room
-      ≡ nonzero (flag (nonzero (flag (nonzero (flag (nat_eq (R.vec "top") (fit 32 z.cells))))) || false))
-  room_right c = refl
-
-  pub doorout_is : (c : Channel) → edge_at (word_of (deeds_of (DOOROUT c))) 0
-      ≡ ended_at (word_of (deeds_of (DOOROUT c))) (holds P (settled_at (word_of (deeds_of (DOOROUT c))) 0) no_room)
-  doorout_is c = refl
-
-  pub makes_doorout : (c : Channel) → Makes (ended_at (word_of (deeds_of (DOOROUT c))) false)
-  makes_doorout c = record {
-    base = record { does = refl; main = refl; side = refl; literal = refl; marks = refl; sigs = refl; boxes = refl; moves = refl };
-    on = record { done = refl; full = refl };
-    cells = record {
-      top = refl;
-      sig_firsts = λ j. refl;
-      sig_seconds = λ j. refl;
-      box_firsts = λ j. refl;
-      box_seconds = λ j. refl;
-    };
-    forks = record {
-      mine = refl;
-      first = refl;
-      last = refl;
-      open_forks = refl;
-      asked = refl;
-      asked_boxes = refl;
-      fork_has = refl;
-      queue = refl;
-      queue_boxes = refl;
-      forks = refl;
-    };
-    result = refl;
-  }
-
-  pub full_doorout : (c : Channel) → EndsFull (ended_at (word_of (deeds_of (DOOROUT c))) true)
-  full_doorout c = record { done = refl; full = refl; moves = refl }
-
-  pub room_doorout : (c : Channel) → holds P (settled_at (word_of (deeds_of (DOOROUT c))) 0) no_room
-      ≡ nonzero (flag (nonzero (flag (nonzero (flag (nat_eq (R.vec "top") (fit 32 z.cells))))) || false))
-  room_doorout c = refl
-
-  pub fixvar_is : (c : Channel) → edge_at (word_of (deeds_of (FIXVAR c))) 0
-      ≡ ended_at (word_of (deeds_of (FIXVAR c))) (holds P (settled_at (word_of (deeds_of (FIXVAR c))) 0) no_room)
-  fixvar_is c = refl
-
-  pub makes_fixvar : (c : Channel) → Makes (ended_at (word_of (deeds_of (FIXVAR c))) false)
-  makes_fixvar c = record {
-    base = record { does = refl; main = refl; side = refl; literal = refl; marks = refl; sigs = refl; boxes = refl; moves = refl };
-    on = record { done = refl; full = refl };
-    cells = record {
-      top = refl;
-      sig_firsts = λ j. refl;
-      sig_seconds = λ j. refl;
-      box_firsts = λ j. refl;
-      box_seconds = λ j. refl;
-    };
-    forks = record {
-      mine = refl;
-      first = refl;
-      last = refl;
-      open_forks = refl;
-      asked = refl;
-      asked_boxes = refl;
-      fork_has = refl;
-      queue = refl;
-      queue_boxes = refl;
-      forks = refl;
-    };
-    result = refl;
-  }
-
-  pub full_fixvar : (c : Channel) → EndsFull (ended_at (word_of (deeds_of (FIXVAR c))) true)
-  full_fixvar c = record { done = refl; full = refl; moves = refl }
-
-  pub room_fixvar : (c : Channel) → holds P (settled_at (word_of (deeds_of (FIXVAR c))) 0) no_room
-      ≡ nonzero (flag (nonzero (flag (nonzero (flag (nat_eq (R.vec "top") (fit 32 z.cells))))) || false))
-  room_fixvar c = refl
-
-  -- a fork
   pub fork_is : (c d : Channel) → edge_at (word_of (deeds_of (FORK c d))) 0
       ≡ ended_at (word_of (deeds_of (FORK c d))) (holds P (settled_at (word_of (deeds_of (FORK c d))) 0) no_room)
   fork_is c d = refl
@@ -902,6 +341,7 @@ module _ (net : NetTree) (z : Sizes) (R : Store) where
       ≡ nonzero (flag (nonzero (flag (nonzero (flag (nonzero (flag (nat_eq (R.vec "open") (2 ^ z.forks - 1))))) || false))))
   room_fork c d = refl
 
+  -- a fork is free
   pub opens : (c d : Channel) → Opens (ended_at (word_of (deeds_of (FORK c d))) false)
   opens c d = record {
     base = record { does = refl; main = refl; side = refl; literal = refl; marks = refl; sigs = refl; boxes = refl; moves = refl };
@@ -949,123 +389,18 @@ module _ (net : NetTree) (z : Sizes) (R : Store) where
       ∙ known "does" d (set_vec "first_answer" f (set_vec "full" 0 (set_vec "done" 0 (set_vec "rst" 0 R)))) es
       ∙ known "answered" a (settled_at d f) ea)
 
-  pub keeps : (o : Operator) (s : Side) (w : ℕ) → Keeps (join_at (word_of (deeds_of (JOIN o s w))) 1 0)
-  keeps Plus Left w = record {
-    base = record { does = refl; main = refl; side = refl; literal = refl; marks = refl; sigs = refl; boxes = refl; moves = refl };
-    on = record { done = refl; full = refl };
-    cells = record {
-      sig_first = refl;
-      sig_second = refl;
-      box_first = refl;
-      box_second = refl;
-      top = refl;
-      sig_firsts = refl;
-      sig_seconds = refl;
-      box_firsts = refl;
-      box_seconds = refl;
-    };
-    result = refl;
-    mine = refl;
-    first = refl;
-    last = refl;
-    open_forks = refl;
-    queue = refl;
-    queue_boxes = refl;
-    forks = λ j. refl;
-  }
-  keeps Plus Right w = record {
-    base = record { does = refl; main = refl; side = refl; literal = refl; marks = refl; sigs = refl; boxes = refl; moves = refl };
-    on = record { done = refl; full = refl };
-    cells = record {
-      sig_first = refl;
-      sig_second = refl;
-      box_first = refl;
-      box_second = refl;
-      top = refl;
-      sig_firsts = refl;
-      sig_seconds = refl;
-      box_firsts = refl;
-      box_seconds = refl;
-    };
-    result = refl;
-    mine = refl;
-    first = refl;
-    last = refl;
-    open_forks = refl;
-    queue = refl;
-    queue_boxes = refl;
-    forks = λ j. refl;
-  }
-  keeps Minus Left w = record {
-    base = record { does = refl; main = refl; side = refl; literal = refl; marks = refl; sigs = refl; boxes = refl; moves = refl };
-    on = record { done = refl; full = refl };
-    cells = record {
-      sig_first = refl;
-      sig_second = refl;
-      box_first = refl;
-      box_second = refl;
-      top = refl;
-      sig_firsts = refl;
-      sig_seconds = refl;
-      box_firsts = refl;
-      box_seconds = refl;
-    };
-    result = refl;
-    mine = refl;
-    first = refl;
-    last = refl;
-    open_forks = refl;
-    queue = refl;
-    queue_boxes = refl;
-    forks = λ j. refl;
-  }
-  keeps Minus Right w = record {
-    base = record { does = refl; main = refl; side = refl; literal = refl; marks = refl; sigs = refl; boxes = refl; moves = refl };
-    on = record { done = refl; full = refl };
-    cells = record {
-      sig_first = refl;
-      sig_second = refl;
-      box_first = refl;
-      box_second = refl;
-      top = refl;
-      sig_firsts = refl;
-      sig_seconds = refl;
-      box_firsts = refl;
-      box_seconds = refl;
-    };
-    result = refl;
-    mine = refl;
-    first = refl;
-    last = refl;
-    open_forks = refl;
-    queue = refl;
-    queue_boxes = refl;
-    forks = λ j. refl;
-  }
-  keeps Times Left w = record {
-    base = record { does = refl; main = refl; side = refl; literal = refl; marks = refl; sigs = refl; boxes = refl; moves = refl };
-    on = record { done = refl; full = refl };
-    cells = record {
-      sig_first = refl;
-      sig_second = refl;
-      box_first = refl;
-      box_second = refl;
-      top = refl;
-      sig_firsts = refl;
-      sig_seconds = refl;
-      box_firsts = refl;
-      box_seconds = refl;
-    };
-    result = refl;
-    mine = refl;
-    first = refl;
-    last = refl;
-    open_forks = refl;
-    queue = refl;
-    queue_boxes = refl;
-    forks = λ j. refl;
-  }
-  keeps Times Right w = record {
+  -- a join, whatever its operator and its side are
+  abbrev keeping_at : Store → Store
+  keeping_at X = counted X (fire P X (block (comes ++ (read_cells ∷ (goes_on ++ put (word_at "forks" (name "slot"))
+      (cat (name "slot_around") (cat (sized 1 1) (name "result"))) ∷ [])))) X)
+
+  abbrev closing_at : Store → Store
+  closing_at X = counted X (fire P X (block (comes ++ (read_cells ∷ (goes_on ++ put (bit_at "open" (name "mine")) (num 0) ∷ has_fork ∷
+      set "result" (name "both") ∷ [])))) X)
+
+  -- the first answer
+  kept : (d : ℕ) → Keeps (keeping_at (set_vec "answered" 0 (settled_at d 1)))
+  kept d = record {
     base = record { does = refl; main = refl; side = refl; literal = refl; marks = refl; sigs = refl; boxes = refl; moves = refl };
     on = record { done = refl; full = refl };
     cells = record {
@@ -1089,160 +424,47 @@ module _ (net : NetTree) (z : Sizes) (R : Store) where
     forks = λ j. refl;
   }
 
+  -- and the second one
+  closed : (d : ℕ) → Closes (closing_at (set_vec "answered" 1 (settled_at d 0)))
+  closed d = record {
+    base = record { does = refl; main = refl; side = refl; literal = refl; marks = refl; sigs = refl; boxes = refl; moves = refl };
+    on = record { done = refl; full = refl };
+    cells = record {
+      sig_first = refl;
+      sig_second = refl;
+      box_first = refl;
+      box_second = refl;
+      top = refl;
+      sig_firsts = refl;
+      sig_seconds = refl;
+      box_firsts = refl;
+      box_seconds = refl;
+    };
+    result = refl;
+    mine = refl;
+    first = refl;
+    last = refl;
+    open_forks = refl;
+    asked = refl;
+    asked_boxes = refl;
+    fork_has = refl;
+    queue = refl;
+    queue_boxes = refl;
+    forks = refl;
+  }
+
+  pub keeps : (o : Operator) (s : Side) (w : ℕ) → Keeps (join_at (word_of (deeds_of (JOIN o s w))) 1 0)
+  keeps Plus Left w = kept (word_of (deeds_of (JOIN Plus Left w)))
+  keeps Plus Right w = kept (word_of (deeds_of (JOIN Plus Right w)))
+  keeps Minus Left w = kept (word_of (deeds_of (JOIN Minus Left w)))
+  keeps Minus Right w = kept (word_of (deeds_of (JOIN Minus Right w)))
+  keeps Times Left w = kept (word_of (deeds_of (JOIN Times Left w)))
+  keeps Times Right w = kept (word_of (deeds_of (JOIN Times Right w)))
+
   pub closes : (o : Operator) (s : Side) (w : ℕ) → Closes (join_at (word_of (deeds_of (JOIN o s w))) 0 1)
-  closes Plus Left w = record {
-    base = record { does = refl; main = refl; side = refl; literal = refl; marks = refl; sigs = refl; boxes = refl; moves = refl };
-    on = record { done = refl; full = refl };
-    cells = record {
-      sig_first = refl;
-      sig_second = refl;
-      box_first = refl;
-      box_second = refl;
-      top = refl;
-      sig_firsts = refl;
-      sig_seconds = refl;
-      box_firsts = refl;
-      box_seconds = refl;
-    };
-    result = refl;
-    mine = refl;
-    first = refl;
-    last = refl;
-    open_forks = refl;
-    asked = refl;
-    asked_boxes = refl;
-    fork_has = refl;
-    queue = refl;
-    queue_boxes = refl;
-    forks = refl;
-  }
-  closes Plus Right w = record {
-    base = record { does = refl; main = refl; side = refl; literal = refl; marks = refl; sigs = refl; boxes = refl; moves = refl };
-    on = record { done = refl; full = refl };
-    cells = record {
-      sig_first = refl;
-      sig_second = refl;
-      box_first = refl;
-      box_second = refl;
-      top = refl;
-      sig_firsts = refl;
-      sig_seconds = refl;
-      box_firsts = refl;
-      box_seconds = refl;
-    };
-    result = refl;
-    mine = refl;
-    first = refl;
-    last = refl;
-    open_forks = refl;
-    asked = refl;
-    asked_boxes = refl;
-    fork_has = refl;
-    queue = refl;
-    queue_boxes = refl;
-    forks = refl;
-  }
-  closes Minus Left w = record {
-    base = record { does = refl; main = refl; side = refl; literal = refl; marks = refl; sigs = refl; boxes = refl; moves = refl };
-    on = record { done = refl; full = refl };
-    cells = record {
-      sig_first = refl;
-      sig_second = refl;
-      box_first = refl;
-      box_second = refl;
-      top = refl;
-      sig_firsts = refl;
-      sig_seconds = refl;
-      box_firsts = refl;
-      box_seconds = refl;
-    };
-    result = refl;
-    mine = refl;
-    first = refl;
-    last = refl;
-    open_forks = refl;
-    asked = refl;
-    asked_boxes = refl;
-    fork_has = refl;
-    queue = refl;
-    queue_boxes = refl;
-    forks = refl;
-  }
-  closes Minus Right w = record {
-    base = record { does = refl; main = refl; side = refl; literal = refl; marks = refl; sigs = refl; boxes = refl; moves = refl };
-    on = record { done = refl; full = refl };
-    cells = record {
-      sig_first = refl;
-      sig_second = refl;
-      box_first = refl;
-      box_second = refl;
-      top = refl;
-      sig_firsts = refl;
-      sig_seconds = refl;
-      box_firsts = refl;
-      box_seconds = refl;
-    };
-    result = refl;
-    mine = refl;
-    first = refl;
-    last = refl;
-    open_forks = refl;
-    asked = refl;
-    asked_boxes = refl;
-    fork_has = refl;
-    queue = refl;
-    queue_boxes = refl;
-    forks = refl;
-  }
-  closes Times Left w = record {
-    base = record { does = refl; main = refl; side = refl; literal = refl; marks = refl; sigs = refl; boxes = refl; moves = refl };
-    on = record { done = refl; full = refl };
-    cells = record {
-      sig_first = refl;
-      sig_second = refl;
-      box_first = refl;
-      box_second = refl;
-      top = refl;
-      sig_firsts = refl;
-      sig_seconds = refl;
-      box_firsts = refl;
-      box_seconds = refl;
-    };
-    result = refl;
-    mine = refl;
-    first = refl;
-    last = refl;
-    open_forks = refl;
-    asked = refl;
-    asked_boxes = refl;
-    fork_has = refl;
-    queue = refl;
-    queue_boxes = refl;
-    forks = refl;
-  }
-  closes Times Right w = record {
-    base = record { does = refl; main = refl; side = refl; literal = refl; marks = refl; sigs = refl; boxes = refl; moves = refl };
-    on = record { done = refl; full = refl };
-    cells = record {
-      sig_first = refl;
-      sig_second = refl;
-      box_first = refl;
-      box_second = refl;
-      top = refl;
-      sig_firsts = refl;
-      sig_seconds = refl;
-      box_firsts = refl;
-      box_seconds = refl;
-    };
-    result = refl;
-    mine = refl;
-    first = refl;
-    last = refl;
-    open_forks = refl;
-    asked = refl;
-    asked_boxes = refl;
-    fork_has = refl;
-    queue = refl;
-    queue_boxes = refl;
-    forks = refl;
-  }
+  closes Plus Left w = closed (word_of (deeds_of (JOIN Plus Left w)))
+  closes Plus Right w = closed (word_of (deeds_of (JOIN Plus Right w)))
+  closes Minus Left w = closed (word_of (deeds_of (JOIN Minus Left w)))
+  closes Minus Right w = closed (word_of (deeds_of (JOIN Minus Right w)))
+  closes Times Left w = closed (word_of (deeds_of (JOIN Times Left w)))
+  closes Times Right w = closed (word_of (deeds_of (JOIN Times Right w)))

@@ -25,7 +25,7 @@ use Rattle.cell_edges.proofs.Ways as ways
 use Rattle.cell_edges.proofs.Moves.{Listed, Room, lists, top_is}
 use Rattle.cell_edges.proofs.Moves as moves
 use Rattle.cell_edges.proofs.Tail.{TailQuiet, quiet_mine, quiet_first}
-use Rattle.cell_steps.proofs.Clock.{Makes, NewCell, EndsFull, edge_at, ended_at}
+use Rattle.cell_steps.proofs.Clock.{Makes, NewCell, edge_at, making_at}
 use Rattle.cell_steps.proofs.Clock as clocks
 use Rattle.cell_steps.proofs.Onward.{T as before, reg, to_q, mem_is, edge_is, no_result, row_at, marks_at, sigs_at, boxes_at, Around}
 use Rattle.cell_steps.proofs.Onward.{around_at}
@@ -252,19 +252,18 @@ module _ (net : NetTree) (z : Sizes) (sizes : CellSizes z) (range : InRange net)
     abbrev full_at : ℕ → Bool
     full_at n = nonzero (flag (nonzero (flag (nonzero (flag (nat_eq n (fit 32 z.cells))))) || false))
 
-    pub makes_case : (b : Bool) → edge_at net z R d 0 ≡ ended_at net z R d b → b ≡ full_at (R.vec "top") →
-        Makes net z R (ended_at net z R d false) → EndsFull net z R (ended_at net z R d true) →
+    pub makes_case : edge_at net z R d 0 ≡ making_at net z R d (full_at (R.vec "top")) →
         ((p : ℕ × Row) → row_of net c ≡ Some p → reads_cell p.1 ≡ false) → too_long z ks ≡ false →
         After (shifted z (record { channel = c; stacks = ks; made = true }) k C')
-    makes_case b eb er mk fl apart fit_ks = subst After
+    makes_case eb apart fit_ks = subst After
         (sym (shifted_makes z (record { channel = c; stacks = ks; made = true }) k C' refl fit_ks))
         (go (nat_lt z.cells (suc C.store.top)) refl)
       where
         few32 : fit 32 z.cells ≡ z.cells
         few32 = fits 32 z.cells (let f = sizes.few_cells in omega arith)
 
-        told : (u : Bool) → nat_eq C.store.top z.cells ≡ u → b ≡ u
-        told u e = er ∙ ap (λ n. full_at n) top_r
+        told : (u : Bool) → nat_eq C.store.top z.cells ≡ u → full_at (R.vec "top") ≡ u
+        told u e = ap (λ n. full_at n) top_r
             ∙ ap (λ n. nonzero (flag (nonzero (flag (nonzero (flag (nat_eq C.store.top n)))) || false))) few32
             ∙ ap (λ b. nonzero (flag (nonzero (flag (nonzero (flag b))) || false))) e ∙ plain u
           where
@@ -272,20 +271,20 @@ module _ (net : NetTree) (z : Sizes) (sizes : CellSizes z) (range : InRange net)
             plain true = refl
             plain false = refl
 
-        edge_to : (u : Bool) → nat_eq C.store.top z.cells ≡ u → fire (scope_of net z T) R cell_clock R ≡ ended_at net z R d u
-        edge_to u e = edge_is net z sizes range C S st k live ready meets d 0 ed way.first ∙ eb ∙ ap (λ b. ended_at net z R d b) (told u e)
+        edge_to : (u : Bool) → nat_eq C.store.top z.cells ≡ u → fire (scope_of net z T) R cell_clock R ≡ making_at net z R d u
+        edge_to u e = edge_is net z sizes range C S st k live ready meets d 0 ed way.first ∙ eb ∙ ap (λ b. making_at net z R d b) (told u e)
 
         go : (u : Bool) → nat_lt z.cells (suc C.store.top) ≡ u → After (cond u (stuck C') made)
         go true e =
             let l = ltb-true z.cells (suc C.store.top) e in
             let f = g.few in
             subst (λ X. Stands net z (stuck C') X) (sym (edge_to true (eq-eqb C.store.top z.cells (omega arith))))
-            (full_stands net z sizes range C S st k live ready meets (stuck C') (ended_at net z R d true) live refl
-            (no_result net z sizes range C S st k live ready meets) refl fl)
+            (full_stands net z sizes range C S st k live ready meets (stuck C') (making_at net z R d true) live refl
+            (no_result net z sizes range C S st k live ready meets) refl (clocks.full_making net z R d))
         go false e =
             let l = ltb-false z.cells (suc C.store.top) e in
             subst (λ X. Stands net z made X) (sym (edge_to false (ne_eqb C.store.top z.cells (λ y. omega arith))))
-            (makes_stands (ended_at net z R d false) mk (omega arith) apart)
+            (makes_stands (making_at net z R d false) (clocks.makes net z R d) (omega arith) apart)
 
   pub edge_left : (c : Channel) → Named W c → IsRow S (LEFT c) → ((p : ℕ × Row) → row_of net c ≡ Some p → reads_cell p.1 ≡ false) →
       too_long z (lists ds (point false C.store.top ∷ below ps) bs) ≡ false →
@@ -295,9 +294,7 @@ module _ (net : NetTree) (z : Sizes) (sizes : CellSizes z) (range : InRange net)
       (known_at net z sizes range C S st k live ready meets (word_of (deeds_of (LEFT c))) 0 c row.does way) C.store.top top_q g.few
       (room_of z (lists ds (point false C.store.top ∷ below ps) bs) room)) (room_of z (lists ds (point false C.store.top ∷ below ps) bs)
       room)
-      (g.few, below_within z.cells ps g.token.sigs_fit) g.token.boxes_fit (λ F. (refl, refl)) _ (clocks.left_is net z R c)
-      (clocks.room_left net z R c)
-      (clocks.makes_left net z R c) (clocks.full_left net z R c) apart room
+      (g.few, below_within z.cells ps g.token.sigs_fit) g.token.boxes_fit (λ F. (refl, refl)) refl apart room
     where
       way : Way net z T c 0 0
       way = ways.way_left net z T refl c (n, lower net z sizes range C S st k live ready meets (LEFT c) row)
@@ -309,9 +306,7 @@ module _ (net : NetTree) (z : Sizes) (sizes : CellSizes z) (range : InRange net)
       (moves.lists_right net z sizes Q ds ps bs marks_here sigs_here boxes_here g.token.sigs_fit g.token.boxes_fit c
       (known_at net z sizes range C S st k live ready meets (word_of (deeds_of (RIGHT c))) 0 c row.does way) C.store.top top_q g.few
       (room_of z (lists ds (point true C.store.top ∷ below ps) bs) room)) (room_of z (lists ds (point true C.store.top ∷ below ps) bs) room)
-      (g.few, below_within z.cells ps g.token.sigs_fit) g.token.boxes_fit (λ F. (refl, refl)) _ (clocks.right_is net z R c)
-      (clocks.room_right net z R c)
-      (clocks.makes_right net z R c) (clocks.full_right net z R c) apart room
+      (g.few, below_within z.cells ps g.token.sigs_fit) g.token.boxes_fit (λ F. (refl, refl)) refl apart room
     where
       way : Way net z T c 0 0
       way = ways.way_right net z T refl c (n, lower net z sizes range C S st k live ready meets (RIGHT c) row)
@@ -325,9 +320,8 @@ module _ (net : NetTree) (z : Sizes) (sizes : CellSizes z) (range : InRange net)
       (known_at net z sizes range C S st k live ready meets (word_of (deeds_of (DOOROUT c))) 0 c row.does way) C.store.top top_q g.few
       (room_of z (lists ds (point false C.store.top ∷ below ps) (below bs)) room))
       (room_of z (lists ds (point false C.store.top ∷ below ps) (below bs)) room)
-      (g.few, below_within z.cells ps g.token.sigs_fit) (below_within z.cells bs g.token.boxes_fit) (λ F. (refl, refl)) _
-      (clocks.doorout_is net z R c) (clocks.room_doorout net z R c)
-      (clocks.makes_doorout net z R c) (clocks.full_doorout net z R c) apart room
+      (g.few, below_within z.cells ps g.token.sigs_fit) (below_within z.cells bs g.token.boxes_fit) (λ F. (refl, refl))
+      refl apart room
     where
       way : Way net z T c 0 0
       way = ways.way_doorout net z T refl c (n, lower net z sizes range C S st k live ready meets (DOOROUT c) row)
@@ -341,9 +335,8 @@ module _ (net : NetTree) (z : Sizes) (sizes : CellSizes z) (range : InRange net)
       (known_at net z sizes range C S st k live ready meets (word_of (deeds_of (FIXVAR c))) 0 c row.does way) C.store.top top_q g.few
       (room_of z (lists ds (below ps) (point true C.store.top ∷ below bs)) room))
       (room_of z (lists ds (below ps) (point true C.store.top ∷ below bs)) room)
-      (below_within z.cells ps g.token.sigs_fit) (g.few, below_within z.cells bs g.token.boxes_fit) (λ F. (refl, refl)) _
-      (clocks.fixvar_is net z R c) (clocks.room_fixvar net z R c)
-      (clocks.makes_fixvar net z R c) (clocks.full_fixvar net z R c) apart room
+      (below_within z.cells ps g.token.sigs_fit) (g.few, below_within z.cells bs g.token.boxes_fit) (λ F. (refl, refl))
+      refl apart room
     where
       way : Way net z T c 0 0
       way = ways.way_fixvar net z T refl c (n, lower net z sizes range C S st k live ready meets (FIXVAR c) row)

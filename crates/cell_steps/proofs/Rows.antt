@@ -29,7 +29,7 @@ use Rattle.cell_edges.proofs.Moves.{Listed, Room, lists}
 use Rattle.cell_edges.proofs.Moves as moves
 use Rattle.cell_edges.proofs.Numbers.{succ_is}
 use Rattle.cell_edges.proofs.Tail.{TailQuiet}
-use Rattle.cell_steps.proofs.Clock.{Quiet, edge_at, stays, pred_at, pred_is}
+use Rattle.cell_steps.proofs.Clock.{Quiet, edge_at, quiet_at, valued_at, stays, pred_at, pred_is}
 use Rattle.cell_steps.proofs.Clock as clocks
 use Rattle.cell_steps.proofs.Onward.{T as before, reg, to_q, quiet_stands}
 
@@ -117,19 +117,20 @@ module _ (net : NetTree) (z : Sizes) (sizes : CellSizes z) (range : InRange net)
   -- a row whose stacks have room
   stack_case : (r : Row) (b : ℕ) (c : Channel) (ks : Stacks) → IsRow S r → Way net z T c 0 b → Listed net z Q ks →
       too_long z ks ≡ false → Within z.cells ks.sigs → Within z.cells ks.boxes → TailQuiet net z Q (word_of (deeds_of r)) →
-      Quiet net z R (R.vec "result") (edge_at net z R (word_of (deeds_of r)) 0) →
+      edge_at net z R (word_of (deeds_of r)) 0 ≡ quiet_at net z R (word_of (deeds_of r)) →
       After (shifted z (record { channel = c; stacks = ks; made = false }) k C')
-  stack_case r b c ks row way h room ws wb tail q = subst After
+  stack_case r b c ks row way h room ws wb tail e = subst After
       (sym (shifted_is z (record { channel = c; stacks = ks; made = false }) k C' refl room))
       (quiet_stands net z sizes range C S st k live ready meets (word_of (deeds_of r)) b c ks k.value (R.vec "result")
-      (edge_at net z R (word_of (deeds_of r)) 0) row.does way h (room_of z ks room) ws wb tail refl q value_r)
+      (quiet_at net z R (word_of (deeds_of r))) row.does way h (room_of z ks room) ws wb tail e
+      (clocks.quiet net z R (word_of (deeds_of r))) value_r)
 
   pub edge_go : (c : Channel) → Named W c → IsRow S (GO c) → too_long z (lists ds ps bs) ≡ false →
       After (shifted z (record { channel = c; stacks = lists ds ps bs; made = false }) k C')
   edge_go c n row room = stack_case (GO c) 0 c (lists ds ps bs) row way
       (moves.lists_go net z sizes Q ds ps bs marks_q sigs_q boxes_q g.token.sigs_fit g.token.boxes_fit c
       (known_at (word_of (deeds_of (GO c))) 0 c row.does way) (room_of z (lists ds ps bs) room))
-      room g.token.sigs_fit g.token.boxes_fit (λ F. (refl, refl)) (clocks.quiet_go net z R c)
+      room g.token.sigs_fit g.token.boxes_fit (λ F. (refl, refl)) refl
     where
       way : Way net z T c 0 0
       way = ways.way_go net z T refl c (n, lower (GO c) row)
@@ -139,7 +140,7 @@ module _ (net : NetTree) (z : Sizes) (sizes : CellSizes z) (range : InRange net)
   edge_star c n row room = stack_case (STAR c) 0 c (lists ds (nil ∷ ps) bs) row way
       (moves.lists_star net z sizes Q ds ps bs marks_q sigs_q boxes_q g.token.sigs_fit g.token.boxes_fit c
       (known_at (word_of (deeds_of (STAR c))) 0 c row.does way) (room_of z (lists ds (nil ∷ ps) bs) room))
-      room (omega arith, g.token.sigs_fit) g.token.boxes_fit (λ F. (refl, refl)) (clocks.quiet_star net z R c)
+      room (omega arith, g.token.sigs_fit) g.token.boxes_fit (λ F. (refl, refl)) refl
     where
       way : Way net z T c 0 0
       way = ways.way_star net z T refl c (n, lower (STAR c) row)
@@ -149,7 +150,7 @@ module _ (net : NetTree) (z : Sizes) (sizes : CellSizes z) (range : InRange net)
   edge_unstar c n row room = stack_case (UNSTAR c) 0 c (lists ds (below ps) bs) row way
       (moves.lists_unstar net z sizes Q ds ps bs marks_q sigs_q boxes_q g.token.sigs_fit g.token.boxes_fit c
       (known_at (word_of (deeds_of (UNSTAR c))) 0 c row.does way) (room_of z (lists ds (below ps) bs) room))
-      room (below_within z.cells ps g.token.sigs_fit) g.token.boxes_fit (λ F. (refl, refl)) (clocks.quiet_unstar net z R c)
+      room (below_within z.cells ps g.token.sigs_fit) g.token.boxes_fit (λ F. (refl, refl)) refl
     where
       way : Way net z T c 0 0
       way = ways.way_unstar net z T refl c (n, lower (UNSTAR c) row)
@@ -170,7 +171,7 @@ module _ (net : NetTree) (z : Sizes) (sizes : CellSizes z) (range : InRange net)
       ∙ (got.sig refl low).1)
       (g.cells_fit (first_of ps).place low).1.0 (room_of z (lists ds ((cell_at C.store (first_of ps)).second ∷ below ps) bs) room))
       room (((g.cells_fit (first_of ps).place low).1.0, below_within z.cells ps g.token.sigs_fit)) g.token.boxes_fit (λ F. (refl, refl))
-      (clocks.quiet_con net z R c d)
+      refl
     where
       way : Way net z T (cond (first_of ps).mark d c) 0 0
       way = ways.way_con net z T refl c d (n, m, lower (CON c d) row) ps g.token.sigs
@@ -180,7 +181,7 @@ module _ (net : NetTree) (z : Sizes) (sizes : CellSizes z) (range : InRange net)
   edge_pushr c n row room = stack_case (PUSHR c) 0 c (lists (false ∷ ds) ps bs) row way
       (moves.lists_pushr net z sizes Q ds ps bs marks_q sigs_q boxes_q g.token.sigs_fit g.token.boxes_fit c
       (known_at (word_of (deeds_of (PUSHR c))) 0 c row.does way) (room_of z (lists (false ∷ ds) ps bs) room))
-      room g.token.sigs_fit g.token.boxes_fit (λ F. (refl, refl)) (clocks.quiet_pushr net z R c)
+      room g.token.sigs_fit g.token.boxes_fit (λ F. (refl, refl)) refl
     where
       way : Way net z T c 0 0
       way = ways.way_pushr net z T refl c (n, lower (PUSHR c) row)
@@ -190,7 +191,7 @@ module _ (net : NetTree) (z : Sizes) (sizes : CellSizes z) (range : InRange net)
   edge_pushl c n row room = stack_case (PUSHL c) 0 c (lists (true ∷ ds) ps bs) row way
       (moves.lists_pushl net z sizes Q ds ps bs marks_q sigs_q boxes_q g.token.sigs_fit g.token.boxes_fit c
       (known_at (word_of (deeds_of (PUSHL c))) 0 c row.does way) (room_of z (lists (true ∷ ds) ps bs) room))
-      room g.token.sigs_fit g.token.boxes_fit (λ F. (refl, refl)) (clocks.quiet_pushl net z R c)
+      room g.token.sigs_fit g.token.boxes_fit (λ F. (refl, refl)) refl
     where
       way : Way net z T c 0 0
       way = ways.way_pushl net z T refl c (n, lower (PUSHL c) row)
@@ -200,7 +201,7 @@ module _ (net : NetTree) (z : Sizes) (sizes : CellSizes z) (range : InRange net)
   edge_select c d n m row room = stack_case (SELECT c d) 0 (cond (dir ds) d c) (lists (dirs_below ds) ps bs) row way
       (moves.lists_select net z sizes Q ds ps bs marks_q sigs_q boxes_q g.token.sigs_fit g.token.boxes_fit c d
       (known_at (word_of (deeds_of (SELECT c d))) 0 (cond (dir ds) d c) row.does way) (room_of z (lists (dirs_below ds) ps bs) room))
-      room g.token.sigs_fit g.token.boxes_fit (λ F. (refl, refl)) (clocks.quiet_select net z R c d)
+      room g.token.sigs_fit g.token.boxes_fit (λ F. (refl, refl)) refl
     where
       way : Way net z T (cond (dir ds) d c) 0 0
       way = ways.way_select net z T refl c d (n, m, lower (SELECT c d) row) ds g.token.marks
@@ -210,7 +211,7 @@ module _ (net : NetTree) (z : Sizes) (sizes : CellSizes z) (range : InRange net)
   edge_pop c n row room = stack_case (POP c) 0 c (lists (dirs_below ds) ps bs) row way
       (moves.lists_pop net z sizes Q ds ps bs marks_q sigs_q boxes_q g.token.sigs_fit g.token.boxes_fit c
       (known_at (word_of (deeds_of (POP c))) 0 c row.does way) (room_of z (lists (dirs_below ds) ps bs) room))
-      room g.token.sigs_fit g.token.boxes_fit (λ F. (refl, refl)) (clocks.quiet_pop net z R c)
+      room g.token.sigs_fit g.token.boxes_fit (λ F. (refl, refl)) refl
     where
       way : Way net z T c 0 0
       way = ways.way_pop net z T refl c (n, lower (POP c) row)
@@ -221,7 +222,7 @@ module _ (net : NetTree) (z : Sizes) (sizes : CellSizes z) (range : InRange net)
       (moves.lists_boxin net z sizes Q ds ps bs marks_q sigs_q boxes_q g.token.sigs_fit g.token.boxes_fit c
       (known_at (word_of (deeds_of (BOXIN c))) 0 c row.does way) (room_of z (lists ds (below ps) (first_of ps ∷ bs)) room))
       room (below_within z.cells ps g.token.sigs_fit) (first_within z.cells ps g.token.sigs_fit, g.token.boxes_fit) (λ F. (refl, refl))
-      (clocks.quiet_boxin net z R c)
+      refl
     where
       way : Way net z T c 0 0
       way = ways.way_boxin net z T refl c (n, lower (BOXIN c) row)
@@ -232,7 +233,7 @@ module _ (net : NetTree) (z : Sizes) (sizes : CellSizes z) (range : InRange net)
       (moves.lists_boxout net z sizes Q ds ps bs marks_q sigs_q boxes_q g.token.sigs_fit g.token.boxes_fit c
       (known_at (word_of (deeds_of (BOXOUT c))) 0 c row.does way) (room_of z (lists ds (first_of bs ∷ ps) (below bs)) room))
       room (first_within z.cells bs g.token.boxes_fit, g.token.sigs_fit) (below_within z.cells bs g.token.boxes_fit) (λ F. (refl, refl))
-      (clocks.quiet_boxout net z R c)
+      refl
     where
       way : Way net z T c 0 0
       way = ways.way_boxout net z T refl c (n, lower (BOXOUT c) row)
@@ -256,7 +257,7 @@ module _ (net : NetTree) (z : Sizes) (sizes : CellSizes z) (range : InRange net)
       (g.cells_fit (first_of ps).place low).1.0
       (room_of z (lists ds ((cell_at C.store (first_of ps)).second ∷ below ps) ((cell_at C.store (first_of ps)).first ∷ bs)) room))
       room (((g.cells_fit (first_of ps).place low).1.0, below_within z.cells ps g.token.sigs_fit))
-      (((g.cells_fit (first_of ps).place low).0, g.token.boxes_fit)) (λ F. (refl, refl)) (clocks.quiet_doorin net z R c)
+      (((g.cells_fit (first_of ps).place low).0, g.token.boxes_fit)) (λ F. (refl, refl)) refl
     where
       way : Way net z T c 0 0
       way = ways.way_doorin net z T refl c (n, lower (DOORIN c) row)
@@ -266,7 +267,7 @@ module _ (net : NetTree) (z : Sizes) (sizes : CellSizes z) (range : InRange net)
   edge_fixin c n row room = stack_case (FIXIN c) 0 c (lists ds ps (nil ∷ bs)) row way
       (moves.lists_fixin net z sizes Q ds ps bs marks_q sigs_q boxes_q g.token.sigs_fit g.token.boxes_fit c
       (known_at (word_of (deeds_of (FIXIN c))) 0 c row.does way) (room_of z (lists ds ps (nil ∷ bs)) room))
-      room g.token.sigs_fit (omega arith, g.token.boxes_fit) (λ F. (refl, refl)) (clocks.quiet_fixin net z R c)
+      room g.token.sigs_fit (omega arith, g.token.boxes_fit) (λ F. (refl, refl)) refl
     where
       way : Way net z T c 0 0
       way = ways.way_fixin net z T refl c (n, lower (FIXIN c) row)
@@ -277,7 +278,7 @@ module _ (net : NetTree) (z : Sizes) (sizes : CellSizes z) (range : InRange net)
   edge_fixout c d n m row e room = stack_case (FIXOUT c d) 0 c (lists ds ps (below bs)) row way
       (moves.lists_fixout net z sizes Q ds ps bs marks_q sigs_q boxes_q g.token.sigs_fit g.token.boxes_fit c d
       (known_at (word_of (deeds_of (FIXOUT c d))) 0 c row.does way) (room_of z (lists ds ps (below bs)) room))
-      room g.token.sigs_fit (below_within z.cells bs g.token.boxes_fit) (λ F. (refl, refl)) (clocks.quiet_fixout net z R c d)
+      room g.token.sigs_fit (below_within z.cells bs g.token.boxes_fit) (λ F. (refl, refl)) refl
     where
       way : Way net z T c 0 0
       way = subst (λ a. Way net z T (cond a d c) 0 (flag a)) e (ways.way_fixout net z T refl c d (n, m, lower (FIXOUT c d) row) bs
@@ -305,7 +306,7 @@ module _ (net : NetTree) (z : Sizes) (sizes : CellSizes z) (range : InRange net)
       (room_of z (lists ds ((cell_at C.store (first_of bs)).second ∷ ps) ((cell_at C.store (first_of bs)).first ∷ below bs)) room))
       room (((g.cells_fit (first_of bs).place low).1.0, g.token.sigs_fit))
       (((g.cells_fit (first_of bs).place low).0, below_within z.cells bs g.token.boxes_fit)) (λ F. (refl, refl))
-      (clocks.quiet_fixout net z R c d)
+      refl
     where
       way : Way net z T d 0 1
       way = subst (λ a. Way net z T (cond a d c) 0 (flag a)) e (ways.way_fixout net z T refl c d (n, m, lower (FIXOUT c d) row) bs
@@ -326,10 +327,10 @@ module _ (net : NetTree) (z : Sizes) (sizes : CellSizes z) (range : InRange net)
   pub edge_const : (x : ℕ) (c : Channel) → x < 2 ^ 64 → Named W c → IsRow S (CONST x c) → too_long z k.stacks ≡ false →
       After (goes C' (record k { value = Number x; channel = c }))
   edge_const x c l n row room = value_case (CONST x c) c (Number x) (fit 65 (0 + R.vec "literal"))
-      (edge_at net z R (word_of (deeds_of (CONST x c))) 0) row way
+      (valued_at net z R (word_of (deeds_of (CONST x c))) (fit 65 (0 + R.vec "literal"))) row way
       (moves.lists_const net z sizes Q ds ps bs marks_q sigs_q boxes_q g.token.sigs_fit g.token.boxes_fit x c
       (known_at (word_of (deeds_of (CONST x c))) 0 c row.does way) (room_of z k.stacks room))
-      room (λ F. (refl, refl)) refl (clocks.quiet_const net z R x c)
+      room (λ F. (refl, refl)) refl (clocks.valued net z R (word_of (deeds_of (CONST x c))) (fit 65 (0 + R.vec "literal")))
       (ap (λ m. fit 65 (0 + m)) (reg net z sizes range C S st k live ready meets "literal" refl refl refl ∙ row.literal) ∙ plain x l)
     where
       way : Way net z T c 0 0
@@ -341,10 +342,10 @@ module _ (net : NetTree) (z : Sizes) (sizes : CellSizes z) (range : InRange net)
   pub edge_succ : (c : Channel) → Named W c → IsRow S (SUCC c) → too_long z k.stacks ≡ false →
       After (goes C' (record k { value = val_succ k.value; channel = c }))
   edge_succ c n row room = value_case (SUCC c) c (val_succ k.value) (fit 65 (R.vec "succ"))
-      (edge_at net z R (word_of (deeds_of (SUCC c))) 0) row way
+      (valued_at net z R (word_of (deeds_of (SUCC c))) (fit 65 (R.vec "succ"))) row way
       (moves.lists_succ net z sizes Q ds ps bs marks_q sigs_q boxes_q g.token.sigs_fit g.token.boxes_fit c
       (known_at (word_of (deeds_of (SUCC c))) 0 c row.does way) (room_of z k.stacks room))
-      room (λ F. (refl, refl)) refl (clocks.quiet_succ net z R c)
+      room (λ F. (refl, refl)) refl (clocks.valued net z R (word_of (deeds_of (SUCC c))) (fit 65 (R.vec "succ")))
       (succ_is net z Q k.value meets.small (to_q net z sizes range C S st k live ready meets "result" refl refl ∙ g.token.value))
     where
       way : Way net z T c 0 0
@@ -374,10 +375,10 @@ module _ (net : NetTree) (z : Sizes) (sizes : CellSizes z) (range : InRange net)
   pub edge_test : (c d : Channel) → Named W c → Named W d → IsRow S (TEST c d) → too_long z k.stacks ≡ false →
       After (goes C' (record k { channel = at_zero k.value c d }))
   edge_test c d n m row room = value_case (TEST c d) (at_zero k.value c d) k.value (R.vec "result")
-      (edge_at net z R (word_of (deeds_of (TEST c d))) 0) row way
+      (quiet_at net z R (word_of (deeds_of (TEST c d)))) row way
       (moves.lists_test net z sizes Q ds ps bs marks_q sigs_q boxes_q g.token.sigs_fit g.token.boxes_fit c d
       (known_at (word_of (deeds_of (TEST c d))) 0 (at_zero k.value c d) row.does way) (room_of z k.stacks room))
-      room (λ F. (refl, refl)) refl (clocks.quiet_test net z R c d) value_r
+      room (λ F. (refl, refl)) refl (clocks.quiet net z R (word_of (deeds_of (TEST c d)))) value_r
     where
       way : Way net z T (at_zero k.value c d) 0 0
       way = ways.way_test net z T refl c d (n, m, lower (TEST c d) row) k.value g.token.value
