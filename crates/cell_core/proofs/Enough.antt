@@ -89,6 +89,12 @@ after_top : (b : Bool) (V : Store) (k : Stacks) → (after b V k).top ≡ V.top 
 after_top true V k = omega arith
 after_top false V k = omega arith
 
+-- the row of a token that the processor has
+pub row_is : (net : NetTree) (x : TokenTree) (V : Store) (k : CellToken) → IsToken V x k →
+    row_of net k.channel ≡ row_of net (channel_of (place_of x))
+row_is net (ask p) V k h = ap (row_of net) h.channel
+row_is net (ans v p) V k h = ap (row_of net) h.1.channel
+
 module _ (z : Sizes) (net : NetTree) where
   -- what a row makes is counted
   abbrev Counts : ℕ → CellCircuit → CellCircuit → Type 0
@@ -135,11 +141,6 @@ module _ (z : Sizes) (net : NetTree) where
   on_counts None k C f = not_full f
   on_counts (Some r) k C f = row_counts r.1 k C f
 
-  -- the row of a token that the processor has
-  row_is : (x : TokenTree) (V : Store) (k : CellToken) → IsToken V x k → row_of net k.channel ≡ row_of net (channel_of (place_of x))
-  row_is (ask p) V k h = ap (row_of net) h.channel
-  row_is (ans v p) V k h = ap (row_of net) h.1.channel
-
   -- a cycle makes the cells of the processor's token
   clock_counts : (R : Registers) (C : CellCircuit) → Has R C → Counts (makes_at net R.live) C (clock net z C)
   clock_counts R C h =
@@ -151,7 +152,7 @@ module _ (z : Sizes) (net : NetTree) where
       go (Some c) None l f = elim l [ ]
       go (Some c) (Some k) l f =
           on_counts (row_of net k.channel) k (record C { moves = suc C.moves }) f
-          ∙ ap (λ o. C.store.top + makes_on o) (row_is c.1 C.store k l)
+          ∙ ap (λ o. C.store.top + makes_on o) (row_is net c.1 C.store k l)
 
   -- no more cells are made than there are
   shifted_within : (o : Made) (k : CellToken) (C : CellCircuit) → C.store.top ≤ z.cells → (shifted z o k C).store.top ≤ z.cells
