@@ -1,641 +1,372 @@
 -- What the run of a sound net always meets.
-use Rattle.std.proofs.Common.{◌≡◌, ℕ, zero, suc, ◌<◌, ◌≤◌, Bool, true, false, cond, ◌||◌, List, [], ◌∷◌, ◌++◌, length}
-use Rattle.std.proofs.Common.{Option, Some, None, refl, sym, ap, ◌∙◌, subst, arith, ⊎_elim, nat_lt}
-use Rattle.std.proofs.lemmas.Bool.{le-ltb, ltb-false, or_parts, eq-eqb}
+use Rattle.std.proofs.Common.{◌≡◌, ℕ, suc, ◌<◌, Bool, true, false, cond, List, [], ◌∷◌, length}
+use Rattle.std.proofs.Common.{Option, Some, None, refl, sym, ap, ◌∙◌, subst, ⊎_elim}
+use Rattle.std.proofs.lemmas.Bool.{eq-eqb}
 use Rattle.pcf_values.specs.declared.val.Val.{Val}
-use Rattle.pcf_values.specs.declared.val.Val.TheVariants.{Number}
-use Rattle.pcf_values.specs.Values.{val_succ, val_pred, at_zero}
 use Rattle.pcf_values.specs.declared.operator.Operator.{Operator}
 use Rattle.pcf_values.specs.declared.side.Side.{Side}
 use Rattle.token_stacks.specs.Signatures.{Work, Boxes}
+use Rattle.net_build.specs.Nets.{NetTree}
+use Rattle.move_rules.specs.Places.{TokenTree, ask, ans, up, down, place_of}
+use Rattle.interleave_laws.specs.States.{State}
+use Rattle.interleave_laws.specs.Runs.{Runs, LeadsTo}
 use Rattle.interleave_laws.specs.OneWorker.{one}
-use Rattle.net_build.specs.Nets.{WireTree, NetTree}
-use Rattle.net_build.specs.Sound.{Is}
-use Rattle.move_rules.specs.Places.{Place, TokenTree, ask, ans, up, down, place_of}
-use Rattle.move_rules.specs.Stacks.{work_at, boxes_at}
-use Rattle.move_rules.specs.Moves.{solo_at}
-use Rattle.interleave_laws.specs.Runs.{Runs}
-use Rattle.circuit_core.specs.Rows.{Channel, falls, Row, GO, CONST, SUCC, PRED, TEST, FORK, JOIN, ANSWER, STAR, UNSTAR, LEFT, RIGHT, CON}
-use Rattle.circuit_core.specs.Rows.{PUSHR}
-use Rattle.circuit_core.specs.Rows.{PUSHL, SELECT, POP, BOXIN, BOXOUT, DOOROUT, DOORIN, FIXIN, FIXOUT, FIXVAR, DEAD, row_of, channel_of}
-use Rattle.circuit_core.specs.RowMoves.{stack_row, question_row, answer_row, by_row, by_found, by_rows}
-use Rattle.circuit_core.specs.Processor.{Registers, does, tick_on, tick, ticks, reset, token_at, ring_at}
-use Rattle.circuit_core.specs.Circuit as bits
-use Rattle.circuit_core.specs.Circuit.{both, Token, Question, Slot, Circuit}
-use Rattle.circuit_core.specs.CircuitLaws as shown
-use Rattle.circuit_core.specs.CircuitLaws.{Holds}
-use Rattle.circuit_core.specs.Enough.{RunFits}
-use Rattle.circuit_core.proofs.Circuit.{channel_is, at_power, not_full}
-use Rattle.circuit_core.proofs.Processor.{fitting, none_some}
-use Rattle.circuit_core.proofs.Rows.{law}
-use Rattle.circuit_core.proofs.Enough.{enough, bare_same}
-use Rattle.circuit_core.proofs.Widths.{widths}
-use Rattle.circuit_module.specs.Stands.{Small}
-use Rattle.module_edges.specs.Meets.{Named, RowFits, InRange}
-use Rattle.module_edges.specs.Meets as bitwise
-use Rattle.module_means.proofs.Runs.{always}
-use Rattle.cell_core.specs.Cells.{Cell, Store, Made, reads, needs_cell, row_on, after, Stacks, Shows}
-use Rattle.cell_core.specs.Circuit.{Sizes, CellToken, CellQuestion, CellSlot, CellCircuit, free_from, stuck, too_long, used_up, shifted}
-use Rattle.cell_core.specs.Circuit.{asked, split, arrive, arrive_at, next_token, later, operate, operate_on, clock_on, clock, clocks}
-use Rattle.cell_core.specs.Circuit.{powered}
-use Rattle.cell_core.specs.Circuit.{circuit}
-use Rattle.cell_core.specs.Steps.{Twin, TwinLive, TwinQueue, TwinSlot, Twins}
-use Rattle.cell_core.proofs.Cells.{cell_rows, reads_made}
-use Rattle.cell_core.specs.Depths.{OfWire, Placed, MoveKeeps}
+use Rattle.interleave_laws.proofs.Running.{answered_idle, idle_answered}
+use Rattle.circuit_core.specs.Rows.{Channel, Row, CONST, SUCC, PRED, TEST, FORK, JOIN, ANSWER}
+use Rattle.circuit_core.specs.Rows.{DEAD, row_of, channel_of}
+use Rattle.circuit_core.specs.RowMoves.{question_row, answer_row, by_row, by_found, by_rows}
+use Rattle.circuit_core.specs.Processor.{Waiting, Registers, does, tick_on, tick, ticks, reset, token_at, ring_at}
+use Rattle.circuit_core.specs.Circuit as whole
+use Rattle.circuit_core.specs.Circuit.{Token, Question, Slot, Circuit}
+use Rattle.circuit_core.proofs.Circuit.{not_full}
+use Rattle.circuit_core.proofs.Circuit.{last_clock as whole_last}
+use Rattle.circuit_core.proofs.Processor.{Fits, fitting, last_tick, none_some}
+use Rattle.circuit_core.proofs.Enough.{queue_room, full_at_fork}
+use Rattle.circuit_module.specs.InRange.{InRange}
+use Rattle.cell_core.specs.Cells.{Cell, Store, Shows, reads, needs_cell, row_on, after}
+use Rattle.cell_core.specs.Circuit.{Sizes, CellToken, CellQuestion, CellSlot, CellCircuit, too_long, arrive, arrive_at}
+use Rattle.cell_core.specs.Circuit.{operate_on, clock_on, next_token, later, powered, circuit}
+use Rattle.cell_core.specs.CircuitLaws.{IsToken, IsLive, IsQueue, Has}
+use Rattle.cell_core.specs.Steps.{Twin, TwinLive, TwinQueue, TwinSlot}
+use Rattle.cell_core.specs.Depths.{MoveKeeps}
 use Rattle.cell_core.specs.Enough.{Covers}
-use Rattle.cell_core.proofs.Depths.{depths_bounded}
-use Rattle.cell_core.proofs.Typed.{depths_kept}
-use Rattle.cell_core.proofs.RunDepths.{run_placed}
-use Rattle.cell_core.proofs.Circuit.{Leads, free_twin, shows_these, leads_asked, leads_answered, at_reset, step_shows}
-use Rattle.cell_module.specs.Apart.{QuestionsApart, right_to}
+use Rattle.cell_core.proofs.Cells.{cell_rows, reads_made}
+use Rattle.cell_core.proofs.Circuit.{Leads, free_twin, leads_asked, leads_answered, twins_have, run_ready, last_clock, Going, beside}
+use Rattle.cell_core.proofs.Enough.{After, after_asked, after_answered, row_is, short_at, token_keeps}
+use Rattle.cell_module.specs.Apart.{QuestionsApart}
 use Rattle.cell_edges.specs.Laws.{CellSizes}
-use Rattle.cell_steps.specs.Meets.{QuestionFits, Reads, Meets}
+use Rattle.cell_steps.specs.Meets.{JoinReads, Reads, Meets}
 use Rattle.cell_steps.specs.Laws.{CycleMeets}
-use Rattle.cell_edges.proofs.Slots.{free_low}
-
--- the last of so many cycles
-last_clock : (net : NetTree) (z : Sizes) (j : ℕ) (C : CellCircuit) → clocks net z (suc j) C ≡ clock net z (clocks net z j C)
-last_clock net z zero C = refl
-last_clock net z (suc j) C = last_clock net z j (clock net z C)
-
-last_tick : (net : NetTree) (j : ℕ) (R : Registers) → ticks net (suc j) R ≡ tick net (ticks net j R)
-last_tick net zero R = refl
-last_tick net (suc j) R = last_tick net j (tick net R)
-
--- each question that waits fits
-abbrev AllFit : NetTree → Sizes → List CellQuestion → Type 0
-AllFit net z [] = Unit {0}
-AllFit net z (q ∷ qs) = QuestionFits net z q × AllFit net z qs
-
-fit_later : (net : NetTree) (z : Sizes) (qs : List CellQuestion) → AllFit net z qs → AllFit net z (later qs)
-fit_later net z [] h = tt
-fit_later net z (q ∷ qs) h = h.1
-
-fit_more : (net : NetTree) (z : Sizes) (qs : List CellQuestion) (q : CellQuestion) → AllFit net z qs → QuestionFits net z q →
-    AllFit net z (qs ++ q ∷ [])
-fit_more net z [] q h f = (f, tt)
-fit_more net z (x ∷ qs) q h f = (h.0, fit_more net z qs q h.1 f)
-
--- ---- the questions that wait are right questions of forks
-
-module _ (net : NetTree) (z : Sizes) (range : InRange net) (apart : QuestionsApart) where
-  module _ (C : CellCircuit) (k : CellToken) (h : AllFit net z C.queue) (short : too_long z k.stacks ≡ false) where
-    abbrev D : CellCircuit
-    D = record C { moves = suc C.moves }
-
-    shifted_fit : (o : Made) → AllFit net z (shifted z o k D).queue
-    shifted_fit o = go (too_long z o.stacks || used_up z o.made C.store)
-      where
-        go : (b : Bool) → AllFit net z (cond b (stuck D) (record D {
-          live = Some (record k { channel = o.channel; stacks = o.stacks });
-          store = after o.made C.store k.stacks;
-        })).queue
-        go true = h
-        go false = h
-
-    join_fit : (f : Option CellSlot) (o : Operator) (s : Side) (w : ℕ) → AllFit net z (arrive_at f o s w k D).queue
-    join_fit None o s w = h
-    join_fit (Some f) o s w = go f.answered
-      where
-        go : (a : Option Val) → AllFit net z (arrive a f o s w k D).queue
-        go None = fit_later net z C.queue h
-        go (Some u) = h
-
-    row_fit : (p : ℕ × Row) → row_of net k.channel ≡ Some p → (r : Row) → p.1 ≡ r → AllFit net z (operate z r k D).queue
-    row_fit p e (CONST n c) t = h
-    row_fit p e (SUCC c) t = h
-    row_fit p e (PRED c) t = h
-    row_fit p e (TEST c d) t = h
-    row_fit p e (FORK c d) t = go (free_from C.slots 0 z.forks) refl
-      where
-        fits : RowFits (length net.wires) (FORK c d)
-        fits = subst (RowFits (length net.wires)) t (range.rows k.channel p e)
-
-        go : (o : Option ℕ) → free_from C.slots 0 z.forks ≡ o → AllFit net z (split o c d k D).queue
-        go None g = h
-        go (Some s) g = fit_more net z C.queue (record { channel = d; boxes = k.stacks.boxes; mine = s }) h (record {
-          channel = fits.1;
-          boxes = ltb-false z.boxes (length k.stacks.boxes)
-              (or_parts (nat_lt z.marks (length k.stacks.dirs) || nat_lt z.sigs (length k.stacks.sigs))
-              (nat_lt z.boxes (length k.stacks.boxes)) short).1;
-          mine = free_low C.slots z.forks s g;
-          apart = λ q i. apart net k.channel d p q e (ap right_to t) i;
-        })
-    row_fit p e (JOIN o s w) t = join_fit (C.slots k.mine) o s w
-    row_fit p e ANSWER t = h
-    row_fit p e DEAD t = h
-    row_fit p e r t = shifted_fit (row_on r C.store k.stacks)
-
-    on_fit : (o : Option (ℕ × Row)) → row_of net k.channel ≡ o → AllFit net z (operate_on z o k D).queue
-    on_fit None e = h
-    on_fit (Some p) e = row_fit p e p.1 refl
-
-  clock_fit : (C : CellCircuit) → AllFit net z C.queue → ((k : CellToken) → C.live ≡ Some k → too_long z k.stacks ≡ false) →
-      AllFit net z (clock net z C).queue
-  clock_fit C h short = go C.full C.live refl
-    where
-      go : (b : Bool) (d : Option CellToken) → C.live ≡ d → AllFit net z (cond b C (clock_on net z d C)).queue
-      go true d e = h
-      go false None e = h
-      go false (Some k) e = on_fit C k h (short k e) (row_of net k.channel) refl
-
--- ---- where a cycle doesn't make it full, its row is there, and so is what it needs
-
-module _ (net : NetTree) (z : Sizes) (k : CellToken) (D : CellCircuit) where
-  shifted_short : (o : Made) → (shifted z o k D).full ≡ false → too_long z o.stacks ≡ false
-  shifted_short o e = go (too_long z o.stacks) refl e
-    where
-      go : (b : Bool) → too_long z o.stacks ≡ b → (cond (b || used_up z o.made D.store) (stuck D) (record D {
-        live = Some (record k { channel = o.channel; stacks = o.stacks });
-        store = after o.made D.store k.stacks;
-      })).full ≡ false → b ≡ false
-      go true t e = e
-      go false t e = refl
-
--- ---- the token's lists are no longer than the registers, as long as it isn't full
-
-none_over : (a b c : Bool) → a ≡ false → b ≡ false → c ≡ false → (a || b || c) ≡ false
-none_over false false false e f g = refl
-none_over true b c e f g = absurd cc
-none_over false true c e f g = absurd cc
-none_over false false true e f g = absurd cc
-
-abbrev ShortLive : Sizes → CellCircuit → Type 0
-ShortLive z C = (k : CellToken) → C.live ≡ Some k → too_long z k.stacks ≡ false
-
-module _ (net : NetTree) (z : Sizes) (k : CellToken) (D : CellCircuit) (short : too_long z k.stacks ≡ false) (waits : AllFit net z D.queue)
-  where
-    -- a token with these stacks
-    this_short : (i j : CellToken) → too_long z i.stacks ≡ false → Some i ≡ Some j → too_long z j.stacks ≡ false
-    this_short i j h e = subst (λ j. too_long z j.stacks ≡ false) (let y : i ≡ j = cc in y) h
-
-    shifted_next : (o : Made) → (shifted z o k D).full ≡ false → ShortLive z (shifted z o k D)
-    shifted_next o f = go (too_long z o.stacks || used_up z o.made D.store) f
-      where
-        go : (b : Bool) → (cond b (stuck D) (record D {
-          live = Some (record k { channel = o.channel; stacks = o.stacks });
-          store = after o.made D.store k.stacks;
-        })).full ≡ false → ShortLive z (cond b (stuck D) (record D {
-          live = Some (record k { channel = o.channel; stacks = o.stacks });
-          store = after o.made D.store k.stacks;
-        }))
-        go true g = not_full g
-        go false g = λ j e. this_short (record k { channel = o.channel; stacks = o.stacks }) j (shifted_short net z k D o f) e
-
-    split_next : (o : Option ℕ) (c d : Channel) → (split o c d k D).full ≡ false → ShortLive z (split o c d k D)
-    split_next None c d f = not_full f
-    split_next (Some s) c d f = λ j e. this_short (record k { channel = c; mine = s }) j short e
-
-    waits_next : (qs : List CellQuestion) → AllFit net z qs → (j : CellToken) → next_token k.value qs ≡ Some j → too_long z j.stacks ≡ false
-    waits_next [] h j e = absurd cc
-    waits_next (q ∷ qs) h j e =
-        this_short (record { value = k.value; channel = q.channel; stacks = asked q.boxes; mine = q.mine }) j
-        (none_over (nat_lt z.marks 0) (nat_lt z.sigs 0) (nat_lt z.boxes (length q.boxes)) (le-ltb z.marks 0 (omega arith))
-        (le-ltb z.sigs 0 (omega arith)) (le-ltb z.boxes (length q.boxes) h.0.boxes)) e
-
-    join_next : (g : Option CellSlot) (o : Operator) (s : Side) (w : ℕ) → (arrive_at g o s w k D).full ≡ false →
-        ShortLive z (arrive_at g o s w k D)
-    join_next None o s w f = not_full f
-    join_next (Some g) o s w f = go g.answered
-      where
-        go : (a : Option Val) → ShortLive z (arrive a g o s w k D)
-        go None j e = waits_next D.queue waits j e
-        go (Some u) j e = this_short (record k { value = both o s k.value u; channel = falls w; mine = g.around }) j short e
-
-    row_next : (r : Row) → (operate z r k D).full ≡ false → ShortLive z (operate z r k D)
-    row_next (CONST n c) f = λ j e. this_short (record k { value = Number n; channel = c }) j short e
-    row_next (SUCC c) f = λ j e. this_short (record k { value = val_succ k.value; channel = c }) j short e
-    row_next (PRED c) f = λ j e. this_short (record k { value = val_pred k.value; channel = c }) j short e
-    row_next (TEST c d) f = λ j e. this_short (record k { channel = at_zero k.value c d }) j short e
-    row_next (FORK c d) f = split_next (free_from D.slots 0 z.forks) c d f
-    row_next (JOIN o s w) f = join_next (D.slots k.mine) o s w f
-    row_next ANSWER f = λ j e. absurd cc
-    row_next DEAD f = not_full f
-    row_next r f = shifted_next (row_on r D.store k.stacks) f
-
-    on_next : (o : Option (ℕ × Row)) → (operate_on z o k D).full ≡ false → ShortLive z (operate_on z o k D)
-    on_next None f = not_full f
-    on_next (Some p) f = row_next p.1 f
-
-clock_short : (net : NetTree) (z : Sizes) (C : CellCircuit) → AllFit net z C.queue → ShortLive z C → (clock net z C).full ≡ false →
-    ShortLive z (clock net z C)
-clock_short net z C waits short f = go C.full C.live refl f
-  where
-    go : (b : Bool) (d : Option CellToken) → C.live ≡ d → (cond b C (clock_on net z d C)).full ≡ false →
-        ShortLive z (cond b C (clock_on net z d C))
-    go true d e f = short
-    go false None e f = short
-    go false (Some k) e f = on_next net z k (record C { moves = suc C.moves }) (short k e) waits (row_of net k.channel) f
-
--- ---- what isn't full now wasn't full before
-
-stays_full : (net : NetTree) (z : Sizes) (n : ℕ) (C : CellCircuit) → C.full ≡ true → (clocks net z n C).full ≡ true
-stays_full net z zero C e = e
-stays_full net z (suc n) C e = stays_full net z n (clock net z C) (ap (λ b. (cond b C (clock_on net z C.live C)).full) e ∙ e)
-
-not_yet : (net : NetTree) (z : Sizes) (n : ℕ) (C : CellCircuit) → (clocks net z n C).full ≡ false → C.full ≡ false
-not_yet net z n C h = go C.full refl
-  where
-    go : (b : Bool) → C.full ≡ b → b ≡ false
-    go false e = refl
-    go true e = let x : true ≡ false = sym (stays_full net z n C e) ∙ h in not_full x
-
-not_before : (net : NetTree) (z : Sizes) (n j : ℕ) (C : CellCircuit) → j ≤ n → (clocks net z n C).full ≡ false → (clocks net z j C).full
-    ≡ false
-not_before net z n zero C l h = not_yet net z n C h
-not_before net z zero (suc j) C l h = absurd (omega arith)
-not_before net z (suc n) (suc j) C l h = not_before net z n j (clock net z C) (omega arith) h
-
--- where a row leads
-abbrev After : NetTree → Row → Work → Boxes → Type 0
-After net r m t = (q : Place) → stack_row r m t ≡ Some q → Placed net q
-
-asked_placed : (net : NetTree) (r : Row) (i : ℕ) (m : Work) (t : Boxes) → MoveKeeps net (question_row i r m t) → After net r m t
-asked_placed net (CONST n c) i m t h q e = absurd (none_some q e)
-asked_placed net (SUCC c) i m t h q e = absurd (none_some q e)
-asked_placed net (PRED c) i m t h q e = absurd (none_some q e)
-asked_placed net (TEST c d) i m t h q e = absurd (none_some q e)
-asked_placed net (FORK c d) i m t h q e = absurd (none_some q e)
-asked_placed net (JOIN o s w) i m t h q e = absurd (none_some q e)
-asked_placed net ANSWER i m t h q e = absurd (none_some q e)
-asked_placed net DEAD i m t h q e = absurd (none_some q e)
-asked_placed net r i m t h q e = subst (λ o. MoveKeeps net (solo_at i o ask)) e h
-
--- what a row makes of an answer's stacks is of the wire that it leads to
-answered_placed : (net : NetTree) (row : Row) (at : ℕ) (value : Val) (m : Work) (t : Boxes) → MoveKeeps net (answer_row at row value m t) →
-    After net row m t
-answered_placed net (CONST n c) at value m t h q e = absurd (none_some q e)
-answered_placed net (SUCC c) at value m t h q e = absurd (none_some q e)
-answered_placed net (PRED c) at value m t h q e = absurd (none_some q e)
-answered_placed net (TEST c d) at value m t h q e = absurd (none_some q e)
-answered_placed net (FORK c d) at value m t h q e = absurd (none_some q e)
-answered_placed net (JOIN o s w) at value m t h q e = absurd (none_some q e)
-answered_placed net ANSWER at value m t h q e = absurd (none_some q e)
-answered_placed net DEAD at value m t h q e = absurd (none_some q e)
-answered_placed net row at value m t h q e = subst (λ o. MoveKeeps net (solo_at at o (ans value))) e h
-
--- the last of so many cycles of the circuit with bits
-last_bits : (net : NetTree) (N E j : ℕ) (B : Circuit) → bits.clocks net N E (suc j) B ≡ bits.clock net N E (bits.clocks net N E j B)
-last_bits net N E zero B = refl
-last_bits net N E (suc j) B = last_bits net N E j (bits.clock net N E B)
+use Rattle.cell_means.proofs.Kept.{AllFit, TokenKept, Kept, all_kept}
 
 -- as many questions wait in both
-same_length : (V : Store) (ps : List Question) (qs : List CellQuestion) → TwinQueue V ps qs → length ps ≡ length qs
-same_length V [] [] h = refl
-same_length V [] (q ∷ qs) h = elim h [ ]
-same_length V (p ∷ ps) [] h = elim h [ ]
-same_length V (p ∷ ps) (q ∷ qs) h = ap suc (same_length V ps qs h.1)
+same_length : (net : NetTree) (z : Sizes) (mem : ℕ → Cell) (n : ℕ) → Going net z mem n → (m : ℕ) →
+    length (whole.circuit net z.forks n).queue < m → length (circuit net z mem n).queue < m
+same_length net z mem n g m h = subst (λ l. l < m) (go (whole.circuit net z.forks n).queue (circuit net z mem n).queue g.twins.rest.queue) h
+  where
+    go : (ps : List Question) (qs : List CellQuestion) → TwinQueue (circuit net z mem n).store ps qs → length ps ≡ length qs
+    go [] [] h = refl
+    go [] (q ∷ qs) h = elim h [ ]
+    go (p ∷ ps) [] h = elim h [ ]
+    go (p ∷ ps) (q ∷ qs) h = ap suc (go ps qs h.1)
 
-module _ (net : NetTree) (runs : Runs net) (N : ℕ) (z : Sizes) (sizes : CellSizes z) (range : InRange net) (fits : RunFits net N z.forks)
-    (apart : QuestionsApart) (mem : ℕ → Cell) (n : ℕ) (full : (circuit net z mem n).full ≡ false) where
-  abbrev E : ℕ
-  E = z.forks
+-- no row is both a fork's and a join's
+one_row : (a b : ℕ × Row) → Some a ≡ Some b → a.1 ≡ b.1
+one_row a b h = let e : a ≡ b = cc in ap (λ (p : ℕ × Row). p.1) e
 
-  abbrev R : ℕ → Registers
-  R j = ticks net j (reset net)
+not_both : (i j : ℕ) (c d : Channel) (o : Operator) (s : Side) (w : ℕ) →
+    ◌≡◌ {A = Option (ℕ × Row)} (Some (i, FORK c d)) (Some (j, JOIN o s w)) → ⊥
+not_both i j c d o s w h = let e : FORK c d ≡ JOIN o s w = one_row (i, FORK c d) (j, JOIN o s w) h in cc
 
-  abbrev B : ℕ → Circuit
-  B j = bits.circuit net N z.forks j
+-- a row that the processor's token makes: its stacks, and that it leads on
+record Faces (net : NetTree) (C : CellCircuit) (k : CellToken) (r : Row) : Type 0 where
+  m : Work
+  t : Boxes
+  shows : Shows C.store k.stacks m t
+  leads : Leads r m t
+  placed : After net r m t
+  empty : (o : Operator) (s : Side) (w : ℕ) → r ≡ JOIN o s w → k.stacks.dirs ≡ []
 
-  abbrev C : ℕ → CellCircuit
-  C j = circuit net z mem j
+module _ (net : NetTree) (runs : Runs net) (z : Sizes) (sizes : CellSizes z) (range : InRange net) (covers : Covers z net)
+    (apart : QuestionsApart) (mem : ℕ → Cell) (n : ℕ) (full : (circuit net z mem n).full ≡ false) (k : CellToken)
+    (live : (circuit net z mem n).live ≡ Some k) where
+  abbrev R : Registers
+  R = ticks net n (reset net)
 
-  ready : (j : ℕ) → j ≤ n → (circuit net z mem j).full ≡ false
-  ready j i = not_before net z n j (powered net mem) i full
+  abbrev B : Circuit
+  B = whole.circuit net z.forks n
 
-  run_ready : (j : ℕ) → (ticks net j (reset net)).full ≡ false
-  run_ready j = let (S, h, f) = fitting net runs j in f.ready
+  abbrev C : CellCircuit
+  C = circuit net z mem n
 
-  -- the circuit with bits goes beside it
-  along : (j : ℕ) (R : Registers) (B : Circuit) (C : CellCircuit) → Holds R B → Twins B C → ((i : ℕ) → (ticks net i R).full ≡ false) →
-      ((i : ℕ) → (bits.clocks net N z.forks i B).full ≡ false) → ((i : ℕ) → i ≤ j → (clocks net z i C).full ≡ false) →
-      Holds (ticks net j R) (bits.clocks net N z.forks j B) × Twins (bits.clocks net N z.forks j B) (clocks net z j C)
-  along zero R B C h w r b c = (h, w)
-  along (suc j) R B C h w r b c =
-      let full : (clock net z C).full ≡ false = c 1 (omega arith) in
-      ⊎_elim (λ e. let x : true ≡ false = sym e ∙ full in not_full x)
-      (λ g. along j (tick net R) (bits.clock net N z.forks B) (clock net z C) g.0 g.1 (λ i. r (suc i)) (λ i. b (suc i))
-      (λ i m. c (suc i) (omega arith)))
-      (step_shows net N z R B C h w (r 0) (r 1) (b 1))
+  -- the circuit with whole stacks beside it
+  going : Going net z mem n
+  going = ⊎_elim (λ e. let x : true ≡ false = sym e ∙ full in not_full x) (λ g. g) (beside net runs z mem n)
 
-  beside : (j : ℕ) → j ≤ n → Holds (ticks net j (reset net)) (bits.circuit net N z.forks j) ×
-      Twins (bits.circuit net N z.forks j) (circuit net z mem j)
-  beside j m = along j (reset net) (bits.powered net) (powered net mem) (at_power N z.forks net) (at_reset N z net mem) run_ready
-      (λ i. enough net runs N z.forks fits i) (λ i q. ready i (omega arith))
+  has : Has (ticks net n (reset net)) (circuit net z mem n)
+  has = twins_have (ticks net n (reset net)) (whole.circuit net z.forks n) (circuit net z mem n) going.holds going.twins
 
-  -- what waits fits, and the lists are no longer than the registers
-  all_short : (j : ℕ) → j ≤ n → AllFit net z (circuit net z mem j).queue × ShortLive z (circuit net z mem j)
-  all_short zero m = (
-    tt,
-    λ k e. let y : asked [] ≡ k.stacks = cc in subst (λ s. too_long z s ≡ false) y
-        (none_over (nat_lt z.marks 0) (nat_lt z.sigs 0) (nat_lt z.boxes 0) (le-ltb z.marks 0 (omega arith)) (le-ltb z.sigs 0 (omega arith))
-        (le-ltb z.boxes 0 (omega arith))),
-  )
-  all_short (suc j) m =
-      let h = all_short j (omega arith) in
-      let e = last_clock net z j (powered net mem) in
-      subst (λ D. AllFit net z D.queue × ShortLive z D) (sym e) (
-        clock_fit net z range apart (circuit net z mem j) h.0 h.1,
-        clock_short net z (circuit net z mem j) h.0 h.1 (ap (λ (X : CellCircuit). X.full) (sym e) ∙ ready (suc j) m),
-      )
+  kept : Kept net z (circuit net z mem n)
+  kept = all_kept net z range apart sizes.forks mem n
 
-  all_fit : (j : ℕ) → j ≤ n → AllFit net z (circuit net z mem j).queue
-  all_fit j m = (all_short j m).0
+  here : TokenKept z k
+  here = kept.token k live
 
-  short : (j : ℕ) → j ≤ n → (k : CellToken) → (circuit net z mem j).live ≡ Some k → too_long z k.stacks ≡ false
-  short j m = (all_short j m).1
+  abbrev counted : Registers
+  counted = record (ticks net n (reset net)) { moves = suc (ticks net n (reset net)).moves }
 
-  module _ (covers : Covers z net) (j : ℕ) (m : j ≤ n) (k : CellToken) (live : (circuit net z mem j).live ≡ Some k) where
-    pair : Holds (ticks net j (reset net)) (bits.circuit net N z.forks j) × Twins (bits.circuit net N z.forks j) (circuit net z mem j)
-    pair = beside j (omega arith)
+  -- the processor's token, which moves, and leads to stacks of a wire
+  record Facing : Type 0 where
+    c : ℕ × TokenTree
+    is_live : (ticks net n (reset net)).live ≡ Some c
+    token : IsToken (circuit net z mem n).store c.1 k
+    row : row_of net (channel_of (place_of c.1)) ≡ row_of net k.channel
+    ready : (does (by_rows net c.1) c.0 counted).full ≡ false
+    keeps : MoveKeeps net (by_rows net c.1)
 
-    -- the token with bits beside it
-    other : (b : Token) × ((bits.circuit net N z.forks j).live ≡ Some b) × Twin (circuit net z mem j).store b k
-    other = go (bits.circuit net N z.forks j).live refl (subst (TwinLive (circuit net z mem j).store (bits.circuit net N z.forks j).live)
-        live
-        pair.1.live)
-      where
-        go : (d : Option Token) → (bits.circuit net N z.forks j).live ≡ d →
-            TwinLive (circuit net z mem j).store (bits.circuit net N z.forks j).live (Some k) →
-            (b : Token) × ((bits.circuit net N z.forks j).live ≡ Some b) × Twin (circuit net z mem j).store b k
-        go None e h = elim (subst (λ d. TwinLive (circuit net z mem j).store d (Some k)) e h) [ ]
-        go (Some b) e h = (b, e, subst (λ d. TwinLive (circuit net z mem j).store d (Some k)) e h)
+  facing : Facing
+  facing = go (ticks net n (reset net)).live refl
+      (subst (λ d. IsLive (circuit net z mem n).store (ticks net n (reset net)).live d) live has.live)
+    where
+      next_ready : (tick net (ticks net n (reset net))).full ≡ false
+      next_ready = ap (λ (X : Registers). X.full) (sym (last_tick net n (reset net))) ∙ run_ready net runs (suc n)
 
-    meets_bits : bitwise.Meets net N z.forks (bits.circuit net N z.forks j) other.0
-    meets_bits =
-        let e = bare_same net runs N z.forks j in
-        subst (λ X. bitwise.Meets net N z.forks X other.0) e
-        (always net runs N z.forks range sizes.forks j other.0 (subst (λ X. X.live ≡ Some other.0) (sym e) other.1)
-        (subst (λ X. X.full ≡ false) (sym e) (enough net runs N z.forks fits j)))
+      go : (d : Option (ℕ × TokenTree)) → (ticks net n (reset net)).live ≡ d →
+          IsLive (circuit net z mem n).store (ticks net n (reset net)).live (Some k) → Facing
+      go None e h = elim (subst (λ d. IsLive (circuit net z mem n).store d (Some k)) e h) [ ]
+      go (Some d) e h =
+          let tok : IsToken (circuit net z mem n).store d.1 k = subst (λ d. IsLive (circuit net z mem n).store d (Some k)) e h in
+          record {
+            c = d;
+            is_live = e;
+            token = tok;
+            row = sym (row_is net d.1 (circuit net z mem n).store k tok);
+            ready = ap (λ (X : Registers). X.full) (sym (ap (λ b. cond b (ticks net n (reset net))
+                (tick_on net (ticks net n (reset net)).live (ticks net n (reset net)))) (run_ready net runs n)
+                ∙ ap (λ d. tick_on net d (ticks net n (reset net))) e)) ∙ next_ready;
+            keeps = token_keeps net runs n d e;
+          }
 
-    -- a row of stacks that reads them in the other circuit
-    from_stacks : (r : Row) → bitwise.StackReads r other.0 → needs_cell r k.stacks ≡ true →
-        (reads r k.stacks).place < (circuit net z mem j).store.top
-    from_stacks r h q = reads_made r h.stack h.boxes h.place (circuit net z mem j).store k.stacks
-        (shows_these (circuit net z mem j).store other.0 k other.0.channel h.stack h.boxes other.2
-        (record { channel = refl; work = h.work_is; boxes = h.boxes_is })) h.leads q
+  -- so its channel has a row
+  row_there : (p : ℕ × Row) × (row_of net k.channel ≡ Some p)
+  row_there = go (row_of net k.channel) refl
+    where
+      go : (o : Option (ℕ × Row)) → row_of net k.channel ≡ o → (p : ℕ × Row) × (row_of net k.channel ≡ Some p)
+      go None e = not_full (subst (λ o. (does (by_found o facing.c.1) facing.c.0 counted).full ≡ false) (facing.row ∙ e) facing.ready)
+      go (Some p) e = (p, e)
 
-    -- the cell that a row reads was made
-    made : (p : ℕ × Row) → row_of net k.channel ≡ Some p → (r : Row) → p.1 ≡ r → needs_cell r k.stacks ≡ true →
-        (reads r k.stacks).place < (circuit net z mem j).store.top
-    made p e (CON c d) t q = from_stacks (CON c d) (subst (λ r. bitwise.Reads (length net.wires) N z.forks r other.0
-        (bits.circuit net N z.forks j)) t (meets_bits.reads p (ap (row_of net) other.2.channel ∙ e))) q
-    made p e (DOORIN c) t q = from_stacks (DOORIN c) (subst (λ r. bitwise.Reads (length net.wires) N z.forks r other.0
-        (bits.circuit net N z.forks j)) t (meets_bits.reads p (ap (row_of net) other.2.channel ∙ e))) q
-    made p e (FIXOUT c d) t q = from_stacks (FIXOUT c d) (subst (λ r. bitwise.Reads (length net.wires) N z.forks r other.0
-        (bits.circuit net N z.forks j)) t (meets_bits.reads p (ap (row_of net) other.2.channel ∙ e))) q
-    made p e (GO c) t q = absurd cc
-    made p e (CONST x c) t q = absurd cc
-    made p e (SUCC c) t q = absurd cc
-    made p e (PRED c) t q = absurd cc
-    made p e (TEST c d) t q = absurd cc
-    made p e (FORK c d) t q = absurd cc
-    made p e (JOIN o s w) t q = absurd cc
-    made p e ANSWER t q = absurd cc
-    made p e (STAR c) t q = absurd cc
-    made p e (UNSTAR c) t q = absurd cc
-    made p e (LEFT c) t q = absurd cc
-    made p e (RIGHT c) t q = absurd cc
-    made p e (PUSHR c) t q = absurd cc
-    made p e (PUSHL c) t q = absurd cc
-    made p e (SELECT c d) t q = absurd cc
-    made p e (POP c) t q = absurd cc
-    made p e (BOXIN c) t q = absurd cc
-    made p e (BOXOUT c) t q = absurd cc
-    made p e (DOOROUT c) t q = absurd cc
-    made p e (FIXIN c) t q = absurd cc
-    made p e (FIXVAR c) t q = absurd cc
-    made p e DEAD t q = absurd cc
+  -- and faces it with these stacks
+  faces : (p : ℕ × Row) → row_of net k.channel ≡ Some p → Faces net (circuit net z mem n) k p.1
+  faces p e = go facing.c.1 facing.token
+      (subst (λ o. (does (by_found o facing.c.1) facing.c.0 counted).full ≡ false) (facing.row ∙ e) facing.ready)
+      (subst (λ o. MoveKeeps net (by_found o facing.c.1)) (facing.row ∙ e) facing.keeps)
+    where
+      none_asked : (m : Work) (t : Boxes) (r : Row) → (does (question_row p.0 r m t) facing.c.0 counted).full ≡ false →
+          (o : Operator) (s : Side) (w : ℕ) → r ≡ JOIN o s w → k.stacks.dirs ≡ []
+      none_asked m t r f o s w q = not_full (subst (λ r. (does (question_row p.0 r m t) facing.c.0 counted).full ≡ false) q f)
 
-    -- both circuits have the same forks
-    slot_twin : (f : CellSlot) (a : ℕ) → (circuit net z mem j).slots a ≡ Some f →
-        (g : Slot) × ((bits.circuit net N z.forks j).slots a ≡ Some g) × (g.around ≡ f.around) × (g.answered ≡ f.answered)
-    slot_twin f a e = go ((bits.circuit net N z.forks j).slots a) refl
-        (subst (λ o. TwinSlot ((bits.circuit net N z.forks j).slots a) o) e (pair.1.rest.slots a))
-      where
-        go : (o : Option Slot) → (bits.circuit net N z.forks j).slots a ≡ o →
-            TwinSlot ((bits.circuit net N z.forks j).slots a) (Some f) →
-            (g : Slot) × ((bits.circuit net N z.forks j).slots a ≡ Some g) × (g.around ≡ f.around) × (g.answered ≡ f.answered)
-        go None e h = elim (subst (λ o. TwinSlot o (Some f)) e h) [ ]
-        go (Some g) e h = let t = subst (λ o. TwinSlot o (Some f)) e h in (g, e, t.0, t.1)
+      none_answered : (v : Val) (m : Work) (t : Boxes) (r : Row) → Shows (circuit net z mem n).store k.stacks m t →
+          (does (answer_row p.0 r v m t) facing.c.0 counted).full ≡ false →
+          (o : Operator) (s : Side) (w : ℕ) → r ≡ JOIN o s w → k.stacks.dirs ≡ []
+      none_answered v [] t r h f o s w q = h.dirs
+      none_answered v (x ∷ m) t r h f o s w q =
+          not_full (subst (λ r. (does (answer_row p.0 r v (x ∷ m) t) facing.c.0 counted).full ≡ false) q f)
 
-    -- a question waits where one waits in the other
-    first_waits : (q : Question) (qs : List Question) (ps : List CellQuestion) → (circuit net z mem j).queue ≡ ps →
-        TwinQueue (circuit net z mem j).store (q ∷ qs) ps → (x : CellQuestion) × (xs : List CellQuestion) ×
-        ((circuit net z mem j).queue ≡ x ∷ xs)
-    first_waits q qs [] e h = elim h [ ]
-    first_waits q qs (x ∷ xs) e h = (x, xs, e)
+      go : (x : TokenTree) → IsToken (circuit net z mem n).store x k → (does (by_row p.0 p.1 x) facing.c.0 counted).full ≡ false →
+          MoveKeeps net (by_row p.0 p.1 x) → Faces net (circuit net z mem n) k p.1
+      go (ask (up v m t)) h f g = record {
+        m = m;
+        t = t;
+        shows = h.stacks;
+        leads = leads_asked p.1 p.0 facing.c.0 counted m t f;
+        placed = after_asked net p.1 p.0 m t g;
+        empty = none_asked m t p.1 f;
+      }
+      go (ask (down v m t)) h f g = record {
+        m = m;
+        t = t;
+        shows = h.stacks;
+        leads = leads_asked p.1 p.0 facing.c.0 counted m t f;
+        placed = after_asked net p.1 p.0 m t g;
+        empty = none_asked m t p.1 f;
+      }
+      go (ans u (up v m t)) h f g = record {
+        m = m;
+        t = t;
+        shows = h.1.stacks;
+        leads = leads_answered p.1 p.0 facing.c.0 counted u m t f;
+        placed = after_answered net p.1 p.0 u m t g;
+        empty = none_answered u m t p.1 h.1.stacks f;
+      }
+      go (ans u (down v m t)) h f g = record {
+        m = m;
+        t = t;
+        shows = h.1.stacks;
+        leads = leads_answered p.1 p.0 facing.c.0 counted u m t f;
+        placed = after_answered net p.1 p.0 u m t g;
+        empty = none_answered u m t p.1 h.1.stacks f;
+      }
 
-    abbrev moved : Registers
-    moved = record (ticks net j (reset net)) { moves = suc (ticks net j (reset net)).moves }
+  -- the lists after the row are no longer than the registers: its stacks are those of a wire
+  lists : (r : Row) → Faces net (circuit net z mem n) k r → too_long z (row_on r (circuit net z mem n).store k.stacks).stacks ≡ false
+  lists (CONST x d) h = here.short
+  lists (SUCC d) h = here.short
+  lists (PRED d) h = here.short
+  lists (TEST d e) h = here.short
+  lists (FORK d e) h = here.short
+  lists (JOIN o s w) h = here.short
+  lists ANSWER h = here.short
+  lists DEAD h = here.short
+  lists r h =
+      short_at z net covers (after (row_on r (circuit net z mem n).store k.stacks).made (circuit net z mem n).store k.stacks)
+      (row_on r (circuit net z mem n).store k.stacks).stacks h.leads.0 (h.placed h.leads.0 h.leads.1)
+      (cell_rows r h.m h.t h.leads.0 (circuit net z mem n).store k.stacks h.shows h.leads.1).stacks
 
-    next_ready : (tick net (ticks net j (reset net))).full ≡ false
-    next_ready = ap (λ (X : Registers). X.full) (sym (last_tick net j (reset net))) ∙ run_ready (suc j)
+  -- the cell that a row reads was made
+  made : (r : Row) → Faces net (circuit net z mem n) k r → needs_cell r k.stacks ≡ true →
+      (reads r k.stacks).place < (circuit net z mem n).store.top
+  made (CONST x d) h q = absurd cc
+  made (SUCC d) h q = absurd cc
+  made (PRED d) h q = absurd cc
+  made (TEST d e) h q = absurd cc
+  made (FORK d e) h q = absurd cc
+  made (JOIN o s w) h q = absurd cc
+  made ANSWER h q = absurd cc
+  made DEAD h q = absurd cc
+  made r h q = reads_made r h.m h.t h.leads.0 (circuit net z mem n).store k.stacks h.shows h.leads.1 q
 
-    -- the processor's token, which moves, and leads to stacks of a wire
-    record Facing : Type 0 where
-      c : ℕ × TokenTree
-      token : shown.IsToken c.1 other.0
-      row : row_of net (channel_of (place_of c.1)) ≡ row_of net k.channel
-      ready' : (does (by_rows net c.1) c.0 moved).full ≡ false
-      keeps : MoveKeeps net (by_rows net c.1)
+  -- the token with whole stacks beside it
+  other : (b : Token) × (B.live ≡ Some b) × Twin (circuit net z mem n).store b k
+  other = go B.live refl (subst (TwinLive (circuit net z mem n).store B.live) live going.twins.live)
+    where
+      go : (d : Option Token) → (whole.circuit net z.forks n).live ≡ d →
+          TwinLive (circuit net z mem n).store (whole.circuit net z.forks n).live (Some k) →
+          (b : Token) × ((whole.circuit net z.forks n).live ≡ Some b) × Twin (circuit net z mem n).store b k
+      go None e h = elim (subst (λ d. TwinLive (circuit net z mem n).store d (Some k)) e h) [ ]
+      go (Some b) e h = (b, e, subst (λ d. TwinLive (circuit net z mem n).store d (Some k)) e h)
 
-    facing : Facing
-    facing = go (ticks net j (reset net)).live refl
-        (subst (λ d. shown.IsLive (ticks net j (reset net)).live d) other.1 pair.0.live)
-      where
-        go : (d : Option (ℕ × TokenTree)) → (ticks net j (reset net)).live ≡ d →
-            shown.IsLive (ticks net j (reset net)).live (Some other.0) → Facing
-        go None e h = elim (subst (λ d. shown.IsLive d (Some other.0)) e h) [ ]
-        go (Some d) e h =
-            let tok : shown.IsToken d.1 other.0 = subst (λ d. shown.IsLive d (Some other.0)) e h in
-            let (S, l, f) = fitting net runs j in
-            let there : S.tokens d.0 ≡ Some d.1 = f.shows.tokens d.0 ∙ ap (λ l. token_at l (ticks net j (reset net)).ring d.0) e
-            ∙ ap (λ b. cond b (Some d.1) (ring_at (ticks net j (reset net)).ring d.0)) (eq-eqb d.0 d.0 refl) in
-            record {
-              c = d;
-              token = tok;
-              row = ap (row_of net) (sym (channel_is N z.forks d.1 other.0 tok) ∙ other.2.channel);
-              ready' = ap (λ (X : Registers). X.full) (sym (ap (λ b. cond b (ticks net j (reset net))
-                  (tick_on net (ticks net j (reset net)).live (ticks net j (reset net)))) (run_ready j)
-                  ∙ ap (λ d. tick_on net d (ticks net j (reset net))) e)) ∙ next_ready;
-              keeps = subst (MoveKeeps net) (law net runs.sound d.1 (runs.moves (one net j) S l d.0 d.1 there))
-                  (depths_kept net runs.sound d.1 (run_placed net runs.sound (one net j) S l d.0 d.1 there));
-            }
+  -- the fork of an answer is open, as it is beside it, where the next cycle isn't full: it would be at a fork
+  join_there : (p : ℕ × Row) → row_of net k.channel ≡ Some p → (o : Operator) (s : Side) (w : ℕ) → p.1 ≡ JOIN o s w →
+      (g : CellSlot) × ((circuit net z mem n).slots k.mine ≡ Some g)
+  join_there p e o s w t = by_next (whole.circuit net z.forks (suc n)).full refl
+    where
+      counts : Circuit
+      counts = record (whole.circuit net z.forks n) { moves = suc (whole.circuit net z.forks n).moves }
 
-    -- so its channel has a row
-    row_there : (p : ℕ × Row) × (row_of net k.channel ≡ Some p)
-    row_there = go (row_of net k.channel) refl
-      where
-        go : (o : Option (ℕ × Row)) → row_of net k.channel ≡ o → (p : ℕ × Row) × (row_of net k.channel ≡ Some p)
-        go None e = not_full (subst (λ o. (does (by_found o facing.c.1) facing.c.0 moved).full ≡ false) (facing.row ∙ e) facing.ready')
-        go (Some p) e = (p, e)
+      row_beside : row_of net other.0.channel ≡ Some (p.0, JOIN o s w)
+      row_beside = ap (row_of net) other.2.channel ∙ e ∙ ap (λ r. Some (p.0, r)) t
 
-    -- an answer at a join has no marks
-    no_marks : (o : Operator) (s : Side) (w : ℕ) (i : ℕ) → row_of net k.channel ≡ Some (i, JOIN o s w) → k.stacks.dirs ≡ []
-    no_marks o s w i e = by_token facing.c.1 facing.token
-        (subst (λ p. (does (by_found p facing.c.1) facing.c.0 moved).full ≡ false) (facing.row ∙ e) facing.ready')
-      where
-        by_token : (x : TokenTree) → shown.IsToken x other.0 → (does (by_row i (JOIN o s w) x) facing.c.0 moved).full ≡ false →
-            k.stacks.dirs ≡ []
-        by_token (ask (up v m t)) tok f = not_full f
-        by_token (ask (down v m t)) tok f = not_full f
-        by_token (ans u (up v [] t)) tok f = (shows_these (circuit net z mem j).store other.0 k _ [] t other.2 tok.1).dirs
-        by_token (ans u (down v [] t)) tok f = (shows_these (circuit net z mem j).store other.0 k _ [] t other.2 tok.1).dirs
-        by_token (ans u (up v (x ∷ m) t)) tok f = not_full f
-        by_token (ans u (down v (x ∷ m) t)) tok f = not_full f
+      next_is : whole.circuit net z.forks (suc n)
+          ≡ whole.compare ((whole.circuit net z.forks n).slots other.0.mine) p.0 o s w other.0 counts
+      next_is = whole_last z.forks net n (whole.powered net)
+          ∙ ap (λ b. cond b (whole.circuit net z.forks n) (whole.clock_on net z.forks (whole.circuit net z.forks n).live
+          (whole.circuit net z.forks n))) going.ready
+          ∙ ap (λ d. whole.clock_on net z.forks d (whole.circuit net z.forks n)) other.1
+          ∙ ap (λ r. whole.operate_on z.forks r other.0 counts) row_beside
 
-    covered : (V : Store) (ks : Stacks) (w : WireTree) (i : ℕ) (m : Work) (t : Boxes) → Is net i w → Shows V ks m t → OfWire w m t →
-        too_long z ks ≡ false
-    covered V ks w i m t h s o =
-        let (a, b, c) = depths_bounded V ks w m t s o in
-        let (x, y, u) = covers i w h in
-        none_over (nat_lt z.marks (length ks.dirs)) (nat_lt z.sigs (length ks.sigs)) (nat_lt z.boxes (length ks.boxes))
-        (le-ltb z.marks (length ks.dirs) (omega arith)) (le-ltb z.sigs (length ks.sigs) (omega arith))
-        (le-ltb z.boxes (length ks.boxes) (omega arith))
+      by_slots : (whole.compare ((whole.circuit net z.forks n).slots other.0.mine) p.0 o s w other.0 counts).full ≡ false →
+          (x : Option CellSlot) → (circuit net z mem n).slots k.mine ≡ x → (y : Option Slot) →
+          (whole.circuit net z.forks n).slots other.0.mine ≡ y → TwinSlot y x →
+          (g : CellSlot) × ((circuit net z mem n).slots k.mine ≡ Some g)
+      by_slots f (Some g) ex y ey h = (g, ex)
+      by_slots f None ex (Some y) ey h = elim h [ ]
+      by_slots f None ex None ey h = not_full (subst (λ a. (whole.compare a p.0 o s w other.0 counts).full ≡ false) ey f)
 
-    -- the lists after the row are no longer than the registers: its stacks are those of a wire
-    short_at : (V : Store) (ks : Stacks) (q : Place) → Placed net q → Shows V ks (work_at q) (boxes_at q) → too_long z ks ≡ false
-    short_at V ks (up v m t) p s = covered V ks p.0 v m t p.1 s p.2
-    short_at V ks (down v m t) p s = covered V ks p.0 v m t p.1 s p.2
+      by_next : (b : Bool) → (whole.circuit net z.forks (suc n)).full ≡ b →
+          (g : CellSlot) × ((circuit net z mem n).slots k.mine ≡ Some g)
+      by_next true q =
+          let f = full_at_fork net runs z.forks n going.ready q in
+          let same : f.token ≡ other.0 = let y : Some f.token ≡ Some other.0 = sym f.live ∙ other.1 in cc in
+          absurd (not_both f.node p.0 f.left f.right o s w
+          (sym f.row ∙ ap (λ (b : Token). row_of net b.channel) same ∙ row_beside))
+      by_next false q =
+          by_slots (ap (λ (X : Circuit). X.full) (sym next_is) ∙ q) ((circuit net z mem n).slots k.mine) refl
+          ((whole.circuit net z.forks n).slots other.0.mine) refl
+          (subst (λ i. TwinSlot ((whole.circuit net z.forks n).slots other.0.mine) ((circuit net z mem n).slots i)) other.2.mine
+          (going.twins.rest.slots other.0.mine))
 
-    short_here : too_long z k.stacks ≡ false
-    short_here = short j (omega arith) k live
+  -- there is no answer yet, since a token moves
+  unanswered : (circuit net z mem n).result ≡ None
+  unanswered = go (fitting net runs n)
+    where
+      go : ((S : State) × LeadsTo net (one net n) S × Fits (ticks net n (reset net)) S) → (circuit net z mem n).result ≡ None
+      go (S, h, f) = has.result ∙ sym f.shows.answered ∙ none S.answered refl
+        where
+          there : S.tokens facing.c.0 ≡ Some facing.c.1
+          there = f.shows.tokens facing.c.0 ∙ ap (λ l. token_at l (ticks net n (reset net)).ring facing.c.0) facing.is_live
+              ∙ ap (λ b. cond b (Some facing.c.1) (ring_at (ticks net n (reset net)).ring facing.c.0)) (eq-eqb facing.c.0 facing.c.0 refl)
 
-    after_row : (r : Row) (c : Channel) (m : Work) (t : Boxes) → shown.Bears other.0 c m t → Leads r m t → After net r m t →
-        too_long z (row_on r (circuit net z mem j).store k.stacks).stacks ≡ false
-    after_row (CONST x d) c m t h l a = short_here
-    after_row (SUCC d) c m t h l a = short_here
-    after_row (PRED d) c m t h l a = short_here
-    after_row (TEST d e) c m t h l a = short_here
-    after_row (FORK d e) c m t h l a = short_here
-    after_row (JOIN o s w) c m t h l a = short_here
-    after_row ANSWER c m t h l a = short_here
-    after_row DEAD c m t h l a = short_here
-    after_row r c m t h l a =
-        short_at (after (row_on r (circuit net z mem j).store k.stacks).made (circuit net z mem j).store k.stacks)
-        (row_on r (circuit net z mem j).store k.stacks).stacks l.0 (a l.0 l.1)
-        (cell_rows r m t l.0 (circuit net z mem j).store k.stacks
-        (shows_these (circuit net z mem j).store other.0 k c m t other.2 h) l.1).stacks
+          none : (a : Option Val) → S.answered ≡ a → S.answered ≡ None
+          none None e = e
+          none (Some v) e =
+              absurd (none_some facing.c.1 (sym ((answered_idle net runs.sound (one net n) S h v e).0 facing.c.0) ∙ there))
 
-    lists : (p : ℕ × Row) → row_of net k.channel ≡ Some p → too_long z (row_on p.1 (circuit net z mem j).store k.stacks).stacks ≡ false
-    lists p e = by_token facing.c.1 facing.token
-        (subst (λ o. (does (by_found o facing.c.1) facing.c.0 moved).full ≡ false) (facing.row ∙ e) facing.ready')
-        (subst (λ o. MoveKeeps net (by_found o facing.c.1)) (facing.row ∙ e) facing.keeps)
-      where
-        by_token : (x : TokenTree) → shown.IsToken x other.0 → (does (by_row p.0 p.1 x) facing.c.0 moved).full ≡ false →
-            MoveKeeps net (by_row p.0 p.1 x) → too_long z (row_on p.1 (circuit net z mem j).store k.stacks).stacks ≡ false
-        by_token (ask (up v m t)) tok f g = after_row p.1 _ m t tok (leads_asked p.1 p.0 facing.c.0 moved m t f)
-            (asked_placed net p.1 p.0 m t g)
-        by_token (ask (down v m t)) tok f g = after_row p.1 _ m t tok (leads_asked p.1 p.0 facing.c.0 moved m t f)
-            (asked_placed net p.1 p.0 m t g)
-        by_token (ans u (up v m t)) tok f g = after_row p.1 _ m t tok.1 (leads_answered p.1 p.0 facing.c.0 moved u m t f)
-            (answered_placed net p.1 p.0 u m t g)
-        by_token (ans u (down v m t)) tok f g = after_row p.1 _ m t tok.1 (leads_answered p.1 p.0 facing.c.0 moved u m t f)
-            (answered_placed net p.1 p.0 u m t g)
+  -- a circuit of the run without a token and without a question has an answer
+  answered : (j : ℕ) → (circuit net z mem j).live ≡ None → (circuit net z mem j).queue ≡ [] → (circuit net z mem j).full ≡ false →
+      (circuit net z mem j).result ≡ None → ⊥
+  answered j none_live none_waits ready none_yet =
+      ⊎_elim (λ e. let x : true ≡ false = sym e ∙ ready in not_full x) by_run (beside net runs z mem j)
+    where
+      no_token : (V : Store) (c : Option (ℕ × TokenTree)) → IsLive V c None → c ≡ None
+      no_token V None l = refl
+      no_token V (Some c) l = elim l [ ]
 
-    -- the fork of an answer is open, as it is in the other circuit
-    join_there : (p : ℕ × Row) → row_of net k.channel ≡ Some p → (o : Operator) (s : Side) (w : ℕ) → p.1 ≡ JOIN o s w →
-        (g : CellSlot) × ((circuit net z mem j).slots k.mine ≡ Some g)
-    join_there p e o s w t = go ((circuit net z mem j).slots k.mine) refl ((bits.circuit net N z.forks j).slots k.mine) refl
-        (pair.1.rest.slots k.mine)
-      where
-        next : (bits.compare ((bits.circuit net N z.forks j).slots other.0.mine) p.0 o s w other.0
-            (record (bits.circuit net N z.forks j) { moves = suc (bits.circuit net N z.forks j).moves })).full ≡ false
-        next =
-            let B' : Circuit = record (bits.circuit net N z.forks j) { moves = suc (bits.circuit net N z.forks j).moves } in
-            let e1 : bits.clock net N z.forks (bits.circuit net N z.forks j)
-            ≡ bits.operate_on N z.forks (row_of net other.0.channel) other.0 B' =
-            ap (λ b. cond b (bits.circuit net N z.forks j) (bits.clock_on net N z.forks (bits.circuit net N z.forks j).live
-            (bits.circuit net N z.forks j))) (enough net runs N z.forks fits j)
-            ∙ ap (λ d. bits.clock_on net N z.forks d (bits.circuit net N z.forks j)) other.1 in
-            let e2 : row_of net other.0.channel ≡ Some p = ap (row_of net) other.2.channel ∙ e in
-            subst (λ r. (bits.operate N z.forks p.0 r other.0 B').full ≡ false) t
-            (subst (λ o. (bits.operate_on N z.forks o other.0 B').full ≡ false) e2
-            (ap (λ (X : Circuit). X.full) (sym (last_bits net N z.forks j (bits.powered net) ∙ e1)) ∙ enough net runs N z.forks fits
-            (suc j)))
+      no_ring : (V : Store) (ws : List Waiting) → IsQueue V ws [] → ws ≡ []
+      no_ring V [] h = refl
+      no_ring V (w ∷ ws) h = elim h [ ]
 
-        go : (x : Option CellSlot) → (circuit net z mem j).slots k.mine ≡ x → (y : Option Slot) →
-            (bits.circuit net N z.forks j).slots k.mine ≡ y →
-            TwinSlot ((bits.circuit net N z.forks j).slots k.mine) ((circuit net z mem j).slots k.mine) →
-            (g : CellSlot) × ((circuit net z mem j).slots k.mine ≡ Some g)
-        go (Some g) ex y ey h = (g, ex)
-        go None ex (Some y) ey h = elim (subst (λ a. TwinSlot (Some y) a) ex
-            (subst (λ a. TwinSlot a ((circuit net z mem j).slots k.mine)) ey h)) [ ]
-        go None ex None ey h = not_full (subst (λ a. (bits.compare a p.0 o s w other.0
-            (record (bits.circuit net N z.forks j) { moves = suc (bits.circuit net N z.forks j).moves })).full ≡ false)
-            (ap (bits.circuit net N z.forks j).slots other.2.mine ∙ ey) next)
+      by_run : Going net z mem j → ⊥
+      by_run g =
+          let (S, h, f) = fitting net runs j in
+          let x : Has (ticks net j (reset net)) (circuit net z mem j) =
+          twins_have (ticks net j (reset net)) (whole.circuit net z.forks j) (circuit net z mem j) g.holds g.twins in
+          let l = no_token (circuit net z mem j).store (ticks net j (reset net)).live
+          (subst (IsLive (circuit net z mem j).store (ticks net j (reset net)).live) none_live x.live) in
+          let q = no_ring (circuit net z mem j).store (ticks net j (reset net)).ring
+          (subst (IsQueue (circuit net z mem j).store (ticks net j (reset net)).ring) none_waits x.queue) in
+          let (v, e) = idle_answered net runs.sound (one net j) S h
+          (λ i. f.shows.tokens i ∙ ap (λ l. token_at l (ticks net j (reset net)).ring i) l ∙ ap (λ q. ring_at q i) q) in
+          none_some v (sym none_yet ∙ x.result ∙ sym f.shows.answered ∙ e)
 
-    -- what a row reads of the forks
-    fork_reads : (p : ℕ × Row) → row_of net k.channel ≡ Some p → (r : Row) → p.1 ≡ r → Reads z r k (circuit net z mem j)
-    fork_reads p e (FORK c d) t = λ s g.
-        let m : bitwise.Reads (length net.wires) N z.forks (FORK c d) other.0 (bits.circuit net N z.forks j) =
-        subst (λ r. bitwise.Reads (length net.wires) N z.forks r other.0 (bits.circuit net N z.forks j)) t
-        (meets_bits.reads p (ap (row_of net) other.2.channel ∙ e)) in
-        subst (λ n. n < z.forks) (same_length (circuit net z mem j).store (bits.circuit net N z.forks j).queue (circuit net z mem j).queue
-        pair.1.rest.queue)
-        (m s (free_twin (bits.circuit net N z.forks j).slots (circuit net z mem j).slots 0 z.forks pair.1.rest.slots ∙ g))
-    fork_reads p e (JOIN o s w) t =
-        let (g, there) = join_there p e o s w t in
-        let (h, at, ea, er) = slot_twin g k.mine there in
-        let m : bitwise.Reads (length net.wires) N z.forks (JOIN o s w) other.0 (bits.circuit net N z.forks j) =
-        subst (λ r. bitwise.Reads (length net.wires) N z.forks r other.0 (bits.circuit net N z.forks j)) t
-        (meets_bits.reads p (ap (row_of net) other.2.channel ∙ e)) in
-        let at_b : (bits.circuit net N z.forks j).slots other.0.mine ≡ Some h =
-        ap (bits.circuit net N z.forks j).slots other.2.mine ∙ at in
-        record {
-          slot = g;
-          there = there;
-          first = λ n.
-              let q = (m h at_b).0 (er ∙ n) in
-              let (x, xs, eq) = first_waits q.question q.others (circuit net z mem j).queue refl
-              (subst (λ ps. TwinQueue (circuit net z mem j).store ps (circuit net z mem j).queue) q.queue pair.1.rest.queue) in
-              record { dirs = no_marks o s w p.0 (e ∙ ap (λ r. Some (p.0, r)) t); question = x; others = xs; queue = eq };
-          second = λ u y. ((m h at_b).1 u (er ∙ y)).0;
-        }
-    fork_reads p e (GO c) t = tt
-    fork_reads p e (CONST x c) t = tt
-    fork_reads p e (SUCC c) t = tt
-    fork_reads p e (PRED c) t = tt
-    fork_reads p e (TEST c d) t = tt
-    fork_reads p e ANSWER t = tt
-    fork_reads p e (STAR c) t = tt
-    fork_reads p e (UNSTAR c) t = tt
-    fork_reads p e (LEFT c) t = tt
-    fork_reads p e (RIGHT c) t = tt
-    fork_reads p e (CON c d) t = tt
-    fork_reads p e (PUSHR c) t = tt
-    fork_reads p e (PUSHL c) t = tt
-    fork_reads p e (SELECT c d) t = tt
-    fork_reads p e (POP c) t = tt
-    fork_reads p e (BOXIN c) t = tt
-    fork_reads p e (BOXOUT c) t = tt
-    fork_reads p e (DOOROUT c) t = tt
-    fork_reads p e (DOORIN c) t = tt
-    fork_reads p e (FIXIN c) t = tt
-    fork_reads p e (FIXOUT c d) t = tt
-    fork_reads p e (FIXVAR c) t = tt
-    fork_reads p e DEAD t = tt
+  -- at a first answer a question waits
+  first_waits : (p : ℕ × Row) → row_of net k.channel ≡ Some p → (o : Operator) (s : Side) (w : ℕ) → p.1 ≡ JOIN o s w →
+      (g : CellSlot) → (circuit net z mem n).slots k.mine ≡ Some g → g.answered ≡ None →
+      (q : CellQuestion) × (qs : List CellQuestion) × ((circuit net z mem n).queue ≡ q ∷ qs)
+  first_waits p e o s w t g eg ea = go (circuit net z mem n).queue refl
+    where
+      next_is : circuit net z mem (suc n)
+          ≡ arrive None g o s w k (record (circuit net z mem n) { moves = suc (circuit net z mem n).moves })
+      next_is = last_clock z net n (powered net mem)
+          ∙ ap (λ b. cond b (circuit net z mem n) (clock_on net z (circuit net z mem n).live (circuit net z mem n))) full
+          ∙ ap (λ d. clock_on net z d (circuit net z mem n)) live
+          ∙ ap (λ r. operate_on z r k (record (circuit net z mem n) { moves = suc (circuit net z mem n).moves }))
+          (e ∙ ap (λ r. Some (p.0, r)) t)
+          ∙ ap (λ a. arrive_at a o s w k (record (circuit net z mem n) { moves = suc (circuit net z mem n).moves })) eg
+          ∙ ap (λ a. arrive a g o s w k (record (circuit net z mem n) { moves = suc (circuit net z mem n).moves })) ea
 
-    pub meets : Meets net z (circuit net z mem j) k
-    meets =
-        let (p, e) = row_there in
-        record {
-          row = p;
-          found = e;
-          small = subst Small other.2.value meets_bits.small;
-          mine = subst (λ i. i < z.forks) other.2.mine meets_bits.mine;
-          lists = lists p e;
-          made = made p e p.1 refl;
-          around = λ a g x.
-              let (h, at, ea, er) = slot_twin g a x in
-              subst (λ i. i < z.forks) ea (((widths net N z.forks j).slots a h at).around sizes.forks);
-          waits = λ q qs x. (subst (AllFit net z) x (all_fit j (omega arith))).0;
-          forks = fork_reads p e p.1 refl;
-        }
+      go : (qs : List CellQuestion) → (circuit net z mem n).queue ≡ qs →
+          (q : CellQuestion) × (qs : List CellQuestion) × ((circuit net z mem n).queue ≡ q ∷ qs)
+      go [] q = absurd (answered (suc n) (ap (λ (X : CellCircuit). X.live) next_is ∙ ap (next_token k.value) q)
+          (ap (λ (X : CellCircuit). X.queue) next_is ∙ ap later q) (ap (λ (X : CellCircuit). X.full) next_is ∙ full)
+          (ap (λ (X : CellCircuit). X.result) next_is ∙ unanswered))
+      go (x ∷ qs) q = (x, qs, q)
 
--- each cycle of a net that runs meets it, where the lists have room for each wire, and the run's forks fit
-pub cycles_meet : (net : NetTree) → Runs net → (N : ℕ) (z : Sizes) → CellSizes z → InRange net → RunFits net N z.forks → Covers z net →
-    QuestionsApart → (mem : ℕ → Cell) (n : ℕ) → CycleMeets net z (circuit net z mem n)
-cycles_meet net runs N z sizes range fits covers apart mem n k live full =
-    meets net runs N z sizes range fits apart mem n full covers n (omega arith) k live
+  -- what an answer reads
+  join_reads : (p : ℕ × Row) → row_of net k.channel ≡ Some p → (o : Operator) (s : Side) (w : ℕ) → p.1 ≡ JOIN o s w →
+      JoinReads (circuit net z mem n) k
+  join_reads p e o s w t =
+      let (g, there) = join_there p e o s w t in
+      record {
+        slot = g;
+        there = there;
+        first = λ a. let (q, qs, eq) = first_waits p e o s w t g there a in
+            record { dirs = (faces p e).empty o s w t; question = q; others = qs; queue = eq };
+        second = λ u y. (kept.slots k.mine g there).small u y;
+      }
+
+  -- what a row reads of the forks
+  fork_reads : (p : ℕ × Row) → row_of net k.channel ≡ Some p → (r : Row) → p.1 ≡ r → Reads z r k (circuit net z mem n)
+  fork_reads p e (FORK c d) t = λ s g. same_length net z mem n going z.forks (queue_room net runs z.forks n s going.ready
+      (free_twin (whole.circuit net z.forks n).slots (circuit net z mem n).slots 0 z.forks going.twins.rest.slots ∙ g))
+  fork_reads p e (JOIN o s w) t = join_reads p e o s w t
+  fork_reads p e r t = tt
+
+  meets : Meets net z (circuit net z mem n) k
+  meets =
+      let (p, e) = row_there in
+      record {
+        row = p;
+        found = e;
+        small = here.small;
+        mine = here.mine;
+        lists = lists p.1 (faces p e);
+        made = made p.1 (faces p e);
+        around = λ a f x. (kept.slots a f x).around;
+        waits = λ q qs x. (subst (AllFit net z) x kept.waits).0;
+        forks = fork_reads p e p.1 refl;
+      }
+
+-- each cycle of a net that runs meets it, where the lists have room for each wire
+pub cycles_meet : (net : NetTree) → Runs net → (z : Sizes) → CellSizes z → InRange net → Covers z net → QuestionsApart →
+    (mem : ℕ → Cell) (n : ℕ) → CycleMeets net z (circuit net z mem n)
+cycles_meet net runs z sizes range covers apart mem n k live full = meets net runs z sizes range covers apart mem n full k live

@@ -1,5 +1,5 @@
 -- The module over cells of a program tells what it means.
-use Rattle.std.proofs.Common.{◌≡◌, ◌⊎◌, ℕ, ◌≤◌, ◌%◌, ◌^◌, true, false, [], length, Option, Some, None, is_some, refl, sym, ap, ◌∙◌, Bool}
+use Rattle.std.proofs.Common.{◌≡◌, ◌⊎◌, ℕ, ◌%◌, ◌^◌, true, false, [], length, Option, Some, None, is_some, refl, sym, ap, ◌∙◌, Bool}
 use Rattle.std.proofs.Common.{subst, arith, ⊎_elim, inl, inr}
 use Rattle.pcf_values.specs.declared.val.Val.{Val}
 use Rattle.pcf_values.specs.Terms.{TermTree, nat}
@@ -14,30 +14,29 @@ use Rattle.adequacy_laws.specs.Finished.{Within, Beyond}
 use Rattle.adequacy_laws.specs.FinishedLaws.{TellsMeaning}
 use Rattle.adequacy_laws.proofs.Finishing.{finished_means}
 use Rattle.adequacy_laws.proofs.Agreeing.{built_runs}
-use Rattle.circuit_core.specs.Enough.{RunFits}
 use Rattle.circuit_core.proofs.Circuit.{not_full}
 use Rattle.verilog_tree.specs.Meaning.{Store, flag}
 use Rattle.circuit_module.specs.Stands.{value_number}
-use Rattle.module_means.specs.Laws.{FewWires}
-use Rattle.module_means.specs.Means.{Ended, ModuleTells}
-use Rattle.module_means.proofs.Range.{in_range}
-use Rattle.module_means.proofs.Constants.{small_constants}
+use Rattle.circuit_module.specs.InRange.{FewWires}
+use Rattle.circuit_module.proofs.Range.{in_range}
+use Rattle.circuit_module.proofs.Constants.{small_constants}
 use Rattle.cell_core.specs.Cells.{Cell, nil}
 use Rattle.cell_core.specs.Circuit.{Sizes, CellCircuit, circuit}
-use Rattle.cell_core.specs.Enough.{Covers}
-use Rattle.cell_core.proofs.Circuit.{follows_fitting}
-use Rattle.cell_core.proofs.Enough.{cells_enough}
+use Rattle.cell_core.specs.Enough.{Covers, CellsFit}
+use Rattle.cell_core.proofs.Circuit.{follows}
+use Rattle.cell_core.proofs.Enough.{cells_enough, cells_exactly}
 use Rattle.cell_module.specs.Apart.{QuestionsApart}
 use Rattle.cell_edges.specs.Laws.{CellSizes, cell_reset_edge}
 use Rattle.cell_edges.specs.Stands.{Stands}
 use Rattle.cell_steps.specs.Laws.{CellModuleClocks, cell_edges}
+use Rattle.cell_means.specs.Means.{Ended, ModuleTells}
 use Rattle.cell_means.specs.Laws.{CellModuleRuns}
 use Rattle.cell_means.proofs.Always.{cycles_meet}
 
 -- on a net that runs
 pub cells_run : QuestionsApart → CellModuleClocks → CellModuleRuns
-cells_run apart clocks net runs N z sizes range fits covers mem n S =
-    clocks net z sizes runs.sound range mem n (λ j l. cycles_meet net runs N z sizes range fits covers apart mem j) S
+cells_run apart clocks net runs z sizes range covers mem n S =
+    clocks net z sizes runs.sound range mem n (λ j l. cycles_meet net runs z sizes range covers apart mem j) S
 
 -- registers that stand for a circuit with the answer and the length of a log that tells the meaning
 told : (m : TermTree) (k : ℕ) (z : Sizes) (C : CellCircuit) (T : Store) → Stands (net_of m) z C T →
@@ -80,9 +79,8 @@ told m k z C T st t n = record { done = done C.result refl; ends = ends C.result
 abbrev no_cells : ℕ → Cell
 no_cells i = record { first = nil; second = nil }
 
-module _ (cells_run : CellModuleRuns) (m : TermTree) (typed : HasType [] m nat) (sound : Sound (net_of m)) (N : ℕ) (z : Sizes)
-    (sizes : CellSizes z) (few : FewWires (net_of m)) (fits : RunFits (net_of m) N z.forks) (covers : Covers z (net_of m)) (S : Store)
-    (k : ℕ) where
+module _ (cells_run : CellModuleRuns) (m : TermTree) (typed : HasType [] m nat) (sound : Sound (net_of m)) (z : Sizes)
+    (sizes : CellSizes z) (few : FewWires (net_of m)) (covers : Covers z (net_of m)) (S : Store) (k : ℕ) where
   abbrev T : Store
   T = cell_edges (net_of m) z k (cell_reset_edge (net_of m) z S)
 
@@ -90,8 +88,8 @@ module _ (cells_run : CellModuleRuns) (m : TermTree) (typed : HasType [] m nat) 
   runs = built_runs m typed sound
 
   stands : (mem : ℕ → Cell) → Stands (net_of m) z (circuit (net_of m) z mem k) T
-  stands mem = cells_run (net_of m) (built_runs m typed sound) N z sizes (in_range (net_of m) sound (small_constants m typed) few) fits
-      covers mem k S
+  stands mem =
+      cells_run (net_of m) (built_runs m typed sound) z sizes (in_range (net_of m) sound (small_constants m typed) few) covers mem k S
 
   pub cell_full : (mem : ℕ → Cell) → T.vec "full" ≡ flag (circuit (net_of m) z mem k).full
   cell_full mem = (stands mem).full
@@ -103,7 +101,7 @@ module _ (cells_run : CellModuleRuns) (m : TermTree) (typed : HasType [] m nat) 
       ⊎_elim (λ e. let x : true ≡ false = sym e ∙ ready in not_full x)
       (λ (_, n, r). told m k z (circuit (net_of m) z no_cells k) T (stands no_cells)
       (subst (λ a. TellsMeaning m (one (net_of m) k) a k) (sym r) t) n)
-      (follows_fitting (net_of m) runs N k z no_cells R h fits)
+      (follows (net_of m) runs k z no_cells R h)
 
   pub cell_module_means : (T.vec "full" ≡ 1) ⊎ ((T.vec "full" ≡ 0) × ModuleTells m k T)
   cell_module_means = go (circuit (net_of m) z no_cells k).full refl
@@ -112,8 +110,16 @@ module _ (cells_run : CellModuleRuns) (m : TermTree) (typed : HasType [] m nat) 
       go true e = inl ((stands no_cells).full ∙ ap flag e)
       go false e = inr ((stands no_cells).full ∙ ap flag e, tells e)
 
-  -- where there are as many cells as edges
-  pub cell_module_right : k ≤ z.cells → (T.vec "full" ≡ 0) × ModuleTells m k T
-  cell_module_right l =
-      let ready = cells_enough (net_of m) runs N k z no_cells fits covers l in
+  -- where the forks and the cells are enough
+  pub cell_module_right : CellsFit (net_of m) z k → (T.vec "full" ≡ 0) × ModuleTells m k T
+  cell_module_right fits =
+      let ready = cells_enough (net_of m) runs k z no_cells covers fits in
       ((stands no_cells).full ∙ ap flag ready, tells ready)
+
+  -- and nowhere else
+  pub cell_module_wants : T.vec "full" ≡ 0 → CellsFit (net_of m) z k
+  cell_module_wants h = go (circuit (net_of m) z no_cells k).full refl
+    where
+      go : (b : Bool) → (circuit (net_of m) z no_cells k).full ≡ b → CellsFit (net_of m) z k
+      go true e = let up : T.vec "full" ≡ 1 = (stands no_cells).full ∙ ap flag e in absurd (omega arith)
+      go false e = cells_exactly (net_of m) runs k z no_cells e

@@ -1,46 +1,48 @@
--- The module over cells of a net that runs, and of a program: the statements of `law_cell_runs`, `law_cell_means`
--- and `law_cell_module`.
+-- The module over cells of a net that runs, and of a program: the statements of `law_cell_runs`, `law_cell_means` and `law_cell_module`.
 -- Of the world it is asked that `rst` is stable around each edge, and that all has settled before it.
-use Rattle.std.specs.Prelude.{◌≡◌, ◌⊎◌, ◌≤◌, ℕ}
+use Rattle.std.specs.Prelude.{◌≡◌, ◌⊎◌, ℕ}
 use Rattle.net_build.specs.Nets.{NetTree}
 use Rattle.net_build.specs.NetOf.{net_of}
 use Rattle.interleave_laws.specs.Runs.{Runs}
 use Rattle.adequacy_laws.specs.Adequacy.{OfEveryProgram}
-use Rattle.circuit_core.specs.Enough.{RunFits}
 use Rattle.verilog_tree.specs.Meaning.{Store, flag}
-use Rattle.module_edges.specs.Meets.{InRange}
-use Rattle.module_means.specs.Laws.{FewWires}
-use Rattle.module_means.specs.Means.{ModuleTells}
+use Rattle.circuit_module.specs.InRange.{InRange, FewWires}
 use Rattle.cell_core.specs.Cells.{Cell}
 use Rattle.cell_core.specs.Circuit.{Sizes, circuit}
-use Rattle.cell_core.specs.Enough.{Covers}
+use Rattle.cell_core.specs.Enough.{Covers, CellsFit}
 use Rattle.cell_edges.specs.Laws.{CellSizes, cell_reset_edge}
 use Rattle.cell_edges.specs.Stands.{Stands}
 use Rattle.cell_steps.specs.Laws.{cell_edges}
+use Rattle.cell_means.specs.Means.{ModuleTells}
 
--- where the lists have room for each wire, and the run's forks fit: after n edges the registers stand for the circuit over cells after n
--- cycles, be it full or not, whatever they and the memories held before
+-- where the lists have room for each wire: after n edges the registers stand for the circuit over cells after n cycles, be it full or not,
+-- whatever they and the memories held before
 abbrev pub CellModuleRuns : Type 0
-CellModuleRuns = (net : NetTree) → Runs net → (N : ℕ) (z : Sizes) → CellSizes z → InRange net → RunFits net N z.forks → Covers z net →
-    (mem : ℕ → Cell) (n : ℕ) (S : Store) → Stands net z (circuit net z mem n) (cell_edges net z n (cell_reset_edge net z S))
+CellModuleRuns = (net : NetTree) → Runs net → (z : Sizes) → CellSizes z → InRange net → Covers z net →
+    (mem : ℕ → Cell) (n : ℕ) (S : Store) →
+    Stands net z (circuit net z mem n) (cell_edges net z n (cell_reset_edge net z S))
 
--- so the module of a program is full, or it tells what the program means, however many cells there are
+-- so the module of a program is full, or it tells what the program means, however many cells and forks there are
 abbrev pub CellModuleMeans : Type 0
-CellModuleMeans = OfEveryProgram (λ m. (N : ℕ) (z : Sizes) → CellSizes z → FewWires (net_of m) → RunFits (net_of m) N z.forks →
-    Covers z (net_of m) → (S : Store) (n : ℕ) →
+CellModuleMeans = OfEveryProgram (λ m. (z : Sizes) → CellSizes z → FewWires (net_of m) → Covers z (net_of m) → (S : Store) (n : ℕ) →
     ((cell_edges (net_of m) z n (cell_reset_edge (net_of m) z S)).vec "full" ≡ 1)
     ⊎ (((cell_edges (net_of m) z n (cell_reset_edge (net_of m) z S)).vec "full" ≡ 0)
     × ModuleTells m n (cell_edges (net_of m) z n (cell_reset_edge (net_of m) z S))))
 
 -- and it is full exactly where the circuit over cells is, over any memory
 abbrev pub CellModuleIsFull : Type 0
-CellModuleIsFull = OfEveryProgram (λ m. (N : ℕ) (z : Sizes) → CellSizes z → FewWires (net_of m) → RunFits (net_of m) N z.forks →
-    Covers z (net_of m) → (mem : ℕ → Cell) (S : Store) (n : ℕ) →
+CellModuleIsFull = OfEveryProgram (λ m. (z : Sizes) → CellSizes z → FewWires (net_of m) → Covers z (net_of m) →
+    (mem : ℕ → Cell) (S : Store) (n : ℕ) →
     (cell_edges (net_of m) z n (cell_reset_edge (net_of m) z S)).vec "full" ≡ flag (circuit (net_of m) z mem n).full)
 
--- as it isn't where there are as many cells as edges
+-- as it isn't where the forks and the cells are enough for so many moves
 abbrev pub CellModuleIsRight : Type 0
-CellModuleIsRight = OfEveryProgram (λ m. (N : ℕ) (z : Sizes) → CellSizes z → FewWires (net_of m) → RunFits (net_of m) N z.forks →
-    Covers z (net_of m) → (S : Store) (n : ℕ) → n ≤ z.cells →
+CellModuleIsRight = OfEveryProgram (λ m. (z : Sizes) → CellSizes z → FewWires (net_of m) → Covers z (net_of m) → (S : Store) (n : ℕ) →
+    CellsFit (net_of m) z n →
     ((cell_edges (net_of m) z n (cell_reset_edge (net_of m) z S)).vec "full" ≡ 0)
     × ModuleTells m n (cell_edges (net_of m) z n (cell_reset_edge (net_of m) z S)))
+
+-- and where it isn't full, they were enough
+abbrev pub CellModuleWants : Type 0
+CellModuleWants = OfEveryProgram (λ m. (z : Sizes) → CellSizes z → FewWires (net_of m) → Covers z (net_of m) → (S : Store) (n : ℕ) →
+    (cell_edges (net_of m) z n (cell_reset_edge (net_of m) z S)).vec "full" ≡ 0 → CellsFit (net_of m) z n)
