@@ -1,7 +1,7 @@
 -- The circuit made a cell for each row that makes one, and where the lists have room it is full just for want of a fork or a cell.
 use Rattle.std.proofs.Common.{◌≡◌, ℕ, zero, suc, ◌+◌, ◌≤◌, Bool, true, false, cond, ◌||◌, ◌∷◌, length}
 use Rattle.std.proofs.Common.{Option, Some, None, refl, sym, ap, ◌∙◌, subst, ⊎_elim, arith}
-use Rattle.std.proofs.lemmas.Bool.{le-ltb, ltb-false, eq-eqb}
+use Rattle.std.proofs.lemmas.Bool.{le-ltb, ltb-false, eq-eqb, cases_eq, cases_lt}
 use Rattle.std.specs.Prelude.{nat_lt}
 use Rattle.pcf_values.specs.declared.val.Val.{Val}
 use Rattle.pcf_values.specs.declared.operator.Operator.{Operator}
@@ -14,6 +14,7 @@ use Rattle.move_rules.specs.Stacks.{work_at, boxes_at}
 use Rattle.move_rules.specs.Moves.{solo_at}
 use Rattle.interleave_laws.specs.Runs.{Runs}
 use Rattle.interleave_laws.specs.OneWorker.{one}
+use Rattle.adequacy_laws.specs.Questions.{Length}
 use Rattle.circuit_core.specs.Rows.{Row, CONST, SUCC, PRED, TEST, FORK, JOIN, ANSWER, DEAD, FIXOUT}
 use Rattle.circuit_core.specs.Rows.{Channel, row_of, channel_of}
 use Rattle.circuit_core.specs.RowMoves.{stack_row, answer_row, question_row, by_row, by_found, by_rows}
@@ -27,6 +28,7 @@ use Rattle.circuit_core.proofs.Circuit.{channel_is, not_full}
 use Rattle.circuit_core.proofs.Circuit.{last_clock as whole_last}
 use Rattle.circuit_core.proofs.Processor.{fitting, last_tick, none_some}
 use Rattle.circuit_core.proofs.Enough.{enough_within, enough_exactly}
+use Rattle.circuit_core.proofs.Peaks.{none_live, rests, fits_on}
 use Rattle.cell_core.specs.Cells.{Cell, Store, Stacks, Shows, Made, to, first_of, below, cell_at, row_on, after}
 use Rattle.cell_core.specs.CellLaws.{RowShows}
 use Rattle.cell_core.specs.Circuit.{Sizes, CellToken, CellSlot, CellCircuit, free_from, stuck, too_long, used_up, shifted, split, arrive}
@@ -426,3 +428,34 @@ pub cells_enough : (net : NetTree) → Runs net → (k : ℕ) (z : Sizes) (mem :
 cells_enough net runs zero z mem covers fits = refl
 cells_enough net runs (suc k) z mem covers fits =
     go_on net runs k z mem covers fits (cells_enough net runs k z mem covers (fits_before net z k fits))
+
+-- fewer moves make no more cells
+made_before : (net : NetTree) (j k : ℕ) → j ≤ k → cells_made net j ≤ cells_made net k
+made_before net j zero l = subst (λ i. cells_made net i ≤ cells_made net 0) (let e : 0 ≡ j = omega arith in e) (omega arith)
+made_before net j (suc k) l =
+    let m = last_made net k (reset net) in
+    ⊎_elim (λ e. subst (λ i. cells_made net i ≤ cells_made net (suc k)) (sym e) (omega arith))
+    (λ d. let h = made_before net j k (omega (arith, d)) in omega arith) (cases_eq j (suc k))
+
+-- after the answer no token makes a cell
+pub cells_rest : (net : NetTree) → Runs net → (v : Val) (n : ℕ) → Length net v n → (z : Sizes) → CellsFit net z n → (k : ℕ) →
+    CellsFit net z k
+cells_rest net runs v n h z f k = record {
+  forks = λ j l. fits_on net runs v n h z.forks f.forks j;
+  cells = ⊎_elim (λ l. let a = stays k (omega arith) in let b = f.cells in omega arith)
+      (λ l. let a = made_before net k n l in let b = f.cells in omega arith) (cases_lt n k);
+}
+  where
+    one_more : (j : ℕ) → n ≤ j → cells_made net (suc j) ≡ cells_made net j
+    one_more j l =
+        let a = last_made net j (reset net) in
+        let b : makes_at net (ticks net j (reset net)).live ≡ 0 =
+        ap (λ (R : Registers). makes_at net R.live) (rests net runs v n h j l) ∙ ap (makes_at net) (none_live net runs v n h) in
+        omega arith
+
+    stays : (j : ℕ) → n ≤ j → cells_made net j ≡ cells_made net n
+    stays zero l = let e : n ≡ 0 = omega arith in ap (cells_made net) (sym e)
+    stays (suc j) l = ⊎_elim (λ e. ap (cells_made net) (sym e)) (λ d. next j (omega (arith, d)) (stays j)) (cases_eq n (suc j))
+      where
+        next : (j : ℕ) → n ≤ j → (n ≤ j → cells_made net j ≡ cells_made net n) → cells_made net (suc j) ≡ cells_made net n
+        next j l ih = one_more j l ∙ ih l

@@ -5,7 +5,7 @@ ghost use Rattle.cell_core.specs.CircuitLaws.{CellsFollow};
 ghost use Rattle.cell_core.specs.Steps.{TwinsHave, CellsStep};
 ghost use Rattle.cell_core.specs.Meaning.{CellsMean, CellsCompute};
 ghost use Rattle.cell_core.specs.Depths.{DepthsBounded, DepthsKept, RunPlaced, CellsBounded};
-ghost use Rattle.cell_core.specs.Enough.{CellsCounted, CellsEnough, CellsExactly};
+ghost use Rattle.cell_core.specs.Enough.{CellsCounted, CellsEnough, CellsExactly, CellsRest};
 ghost use Rattle.cell_core.specs.Example.{ExampleCells, ExampleOneCell};
 
 /// What stands in a store, stands in the store with one more cell.
@@ -52,11 +52,12 @@ pub fn law_example_cells()
 
 /// On a net that runs, a circuit that isn't full made a cell for each LEFT, RIGHT, DOOROUT and FIXVAR among the moves. It isn't full after
 /// k cycles where the lists have room for each wire's type and depth, and the forks and the cells are enough for k moves. And nowhere
-/// else: where it isn't full, they were enough, whatever room the lists have.
+/// else: where it isn't full, they were enough, whatever room the lists have. What is enough up to the answer is enough for ever.
 pub fn law_cell_enough()
     ensures counted { CellsCounted }
     ensures enough { CellsEnough }
     ensures exactly { CellsExactly }
+    ensures rest { CellsRest }
 {}
 
 /// Beside the circuit with whole stacks: registers that show a state show the next one after a cycle, or are full.

@@ -14,5 +14,5 @@ pub mod Meaning
 pub mod Nesting
 -- where the open forks fit, the circuit is never full, and its comparison at a join never fails
 pub mod Enough
--- whether a program fits is a finite computation
+-- whether a program fits is a finite computation, since after its answer nothing changes
 pub mod Peaks

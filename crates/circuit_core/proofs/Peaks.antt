@@ -33,39 +33,42 @@ pub peak_fits : (net : NetTree) (E k : ℕ) → forks_peak net k (reset net) ≤
 peak_fits net E k h j l = let x = forks_within net k j (reset net) l in omega arith
 
 -- once the length is reached, no token is left
-rests : (net : NetTree) → Runs net → (v : Val) (n : ℕ) → Length net v n →
-    tick net (ticks net n (reset net)) ≡ ticks net n (reset net)
-rests net runs v n h = go (fitting net runs n)
+pub none_live : (net : NetTree) → Runs net → (v : Val) (n : ℕ) → Length net v n → (ticks net n (reset net)).live ≡ None
+none_live net runs v n h = go (fitting net runs n)
   where
     R : Registers
     R = ticks net n (reset net)
 
-    idle : (S : State) → Fits R S → ((j : ℕ) → S.tokens j ≡ None) → (c : Option (ℕ × TokenTree)) → R.live ≡ c →
-        tick net R ≡ R
-    idle S f none None e = ap (λ b. cond b R (tick_on net R.live R)) f.ready ∙ ap (λ c. tick_on net c R) e
+    idle : (S : State) → Fits R S → ((j : ℕ) → S.tokens j ≡ None) → (c : Option (ℕ × TokenTree)) → R.live ≡ c → R.live ≡ None
+    idle S f none None e = e
     idle S f none (Some c) e =
         absurd (none_some c.1 (sym (none c.0) ∙ f.shows.tokens c.0 ∙ ap (λ l. token_at l R.ring c.0) e ∙
         ap (λ b. cond b (Some c.1) (ring_at R.ring c.0)) (eq-eqb c.0 c.0 refl)))
 
-    ended : (S : State) → LeadsTo net (one net n) S → Fits R S → (o : Option Val) → S.answered ≡ o → tick net R ≡ R
+    ended : (S : State) → LeadsTo net (one net n) S → Fits R S → (o : Option Val) → S.answered ≡ o → R.live ≡ None
     ended S l f (Some w) e = idle S f (answered_idle net runs.sound (one net n) S l w e).0 R.live refl
     ended S l f None e =
         let z : length (one net n) ≡ n = (one_finished net runs n S l).1 e in
         let a = ((agrees net runs.sound (one net n) S l).answers v).1 (subst (Length net v) (sym z) h) in
         absurd (none_some v (sym e ∙ a))
 
-    go : ((S : State) × LeadsTo net (one net n) S × Fits R S) → tick net R ≡ R
+    go : ((S : State) × LeadsTo net (one net n) S × Fits R S) → R.live ≡ None
     go (S, l, f) = ended S l f S.answered refl
 
-pub peaks_fit : (net : NetTree) → Runs net → (v : Val) (n : ℕ) → Length net v n → (E : ℕ) →
-    forks_peak net n (reset net) ≤ E → RunFits net E
-peaks_fit net runs v n h E f k = ⊎_elim (λ l. after (omega arith)) (λ l. before k l) (cases_lt n k)
+-- and so nothing changes any more
+pub rests : (net : NetTree) → Runs net → (v : Val) (n : ℕ) → Length net v n → (k : ℕ) → n ≤ k →
+    ticks net k (reset net) ≡ ticks net n (reset net)
+rests net runs v n h k l =
+    ticks_more net n (k - n) k (reset net) (omega arith) ∙ idle_ticks net (k - n) (ticks net n (reset net)) (go (fitting net runs n))
   where
-    before : (j : ℕ) → j ≤ n → length (ticks net j (reset net)).forks ≤ E
-    before j l = peak_fits net E n f j l
+    go : ((S : State) × LeadsTo net (one net n) S × Fits (ticks net n (reset net)) S) →
+        tick net (ticks net n (reset net)) ≡ ticks net n (reset net)
+    go (S, l, f) =
+        ap (λ b. cond b (ticks net n (reset net)) (tick_on net (ticks net n (reset net)).live (ticks net n (reset net)))) f.ready
+        ∙ ap (λ c. tick_on net c (ticks net n (reset net))) (none_live net runs v n h)
 
+pub fits_on : (net : NetTree) → Runs net → (v : Val) (n : ℕ) → Length net v n → (E : ℕ) → FitsWithin net E n → RunFits net E
+fits_on net runs v n h E f k = ⊎_elim (λ l. after (omega arith)) (λ l. f k l) (cases_lt n k)
+  where
     after : n ≤ k → length (ticks net k (reset net)).forks ≤ E
-    after l =
-        let e = ticks_more net n (k - n) k (reset net) (omega arith) in
-        subst (λ (R : Registers). length R.forks ≤ E)
-        (sym (e ∙ idle_ticks net (k - n) (ticks net n (reset net)) (rests net runs v n h))) (before n (omega arith))
+    after l = subst (λ (R : Registers). length R.forks ≤ E) (sym (rests net runs v n h k l)) (f n (omega arith))

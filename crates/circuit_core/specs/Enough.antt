@@ -53,6 +53,6 @@ forks_peak net (suc k) R = max (length R.forks) (forks_peak net k (tick net R))
 abbrev pub PeakFits : Type 0
 PeakFits = (net : NetTree) (E k : ℕ) → forks_peak net k (reset net) ≤ E → FitsWithin net E k
 
--- and on a net that has a length, the run fits what it wants up to there
-abbrev pub PeaksFit : Type 0
-PeaksFit = (net : NetTree) → Runs net → (v : Val) (n : ℕ) → Length net v n → (E : ℕ) → forks_peak net n (reset net) ≤ E → RunFits net E
+-- and on a net that has a length, what it wants up to there is all that it wants
+abbrev pub FitsOn : Type 0
+FitsOn = (net : NetTree) → Runs net → (v : Val) (n : ℕ) → Length net v n → (E : ℕ) → FitsWithin net E n → RunFits net E

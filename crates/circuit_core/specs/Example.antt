@@ -98,7 +98,7 @@ ExampleSumCircuit =
 abbrev pub ExampleNoFork : Type 0
 ExampleNoFork = ports sum_net 0 20 ≡ (None, (true, 1))
 
--- `double` has room with one fork too
+-- `double` has room with one fork
 abbrev pub ExampleDoubleCircuit : Type 0
 ExampleDoubleCircuit = ports doubled_net 1 40 ≡ (Some (Number 6), (false, 30))
 

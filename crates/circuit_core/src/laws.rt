@@ -7,7 +7,7 @@ ghost use Rattle.circuit_core.specs.Example.{ExampleNets, ExampleSuccRows, Examp
 ghost use Rattle.circuit_core.specs.Example.{ExampleSumRun, ExampleDoubleRun};
 ghost use Rattle.circuit_core.specs.Example.{ExampleSumCircuit, ExampleNoFork, ExampleDoubleCircuit, ExampleOneFork, ExamplePeaks};
 ghost use Rattle.circuit_core.specs.Meaning.{CircuitMeans};
-ghost use Rattle.circuit_core.specs.Enough.{EnoughRoom, EnoughWithin, EnoughExactly, FullAtFork, PeakFits, PeaksFit};
+ghost use Rattle.circuit_core.specs.Enough.{EnoughRoom, EnoughWithin, EnoughExactly, FullAtFork, PeakFits, FitsOn};
 
 /// On a sound net a token's move, where it has one, is the move by its channel's row.
 pub fn law_rows()
@@ -51,12 +51,12 @@ pub fn law_program()
 }
 
 /// On a net that runs, a circuit is full after so many cycles just where the one worker's run opens more forks within as many moves, and
-/// it becomes full at a fork with no slot free; a run fits what it wants up to its answer.
+/// it becomes full at a fork with no slot free; what a run wants up to its answer is all that it wants.
 pub fn law_enough()
     ensures room { EnoughRoom }
     ensures within { EnoughWithin }
     ensures exactly { EnoughExactly }
     ensures at_fork { FullAtFork }
     ensures peak { PeakFits }
-    ensures peaks { PeaksFit }
+    ensures on { FitsOn }
 {}
