@@ -1,5 +1,3 @@
--- how many bits tell things apart
-pub mod Bits
 -- the line of a row is the text of its case
 pub mod Lines
 -- the parts are the text of the tree

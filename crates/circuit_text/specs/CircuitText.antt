@@ -1,8 +1,9 @@
--- The text of a net's circuit, with stacks of so many bits and so many forks: a comment, and the text of the tree of its module.
+-- The text of a net's circuit, with so many cells and forks: a comment, and the text of the tree of its module. Around the module stand two
+-- lines that ask a tool to refuse names that aren't declared in it, and in it alone.
 use Rattle.std.specs.Prelude.{ℕ, List, ◌++◌, length, codes, decimal}
 use Rattle.net_build.specs.Nets.{NetTree}
 use Rattle.verilog_tree.specs.Print.{module_text}
-use Rattle.circuit_module.specs.Module.{module_of}
+use Rattle.cell_module.specs.Sizes.{circuit_of}
 
 -- the first line
 unfoldable pub head_text : (nodes wires : ℕ) → List ℕ
@@ -10,6 +11,11 @@ head_text nodes wires =
     codes "// goi circuit 1: the net of a program, of " ++ (decimal nodes ++ (codes " nodes and "
     ++ (decimal wires ++ codes " wires, with a processor of one token.\n")))
 
+-- a text in which each name has to be declared (19.2)
+unfoldable pub declared_text : List ℕ → List ℕ
+declared_text t = codes "`default_nettype none\n" ++ (t ++ codes "`default_nettype wire\n")
+
 -- the text
-unfoldable pub circuit_text : NetTree → (stack forks : ℕ) → List ℕ
-circuit_text net stack forks = head_text (length net.nodes) (length net.wires) ++ module_text "goi" (module_of net stack forks)
+unfoldable pub circuit_text : NetTree → (cells forks : ℕ) → List ℕ
+circuit_text net cells forks =
+    head_text (length net.nodes) (length net.wires) ++ declared_text (module_text "goi" (circuit_of net cells forks))

@@ -3,21 +3,26 @@
 ghost use Rattle.std.specs.Prelude.{◌≡◌, ◌++◌, ◌<◌, ◌^◌, OnOk, IfOk, length, map};
 ghost use Rattle.net_build.specs.Views.{wire_of};
 ghost use Rattle.net_text.specs.Listing.{lines_of};
-ghost use Rattle.circuit_text.specs.RowText.{wire_lines};
-ghost use Rattle.circuit_module.specs.Module.{is_times, multiplies};
+ghost use Rattle.circuit_module.specs.Module.{multiplies};
+ghost use Rattle.circuit_sizes.specs.Views.{sizes_view};
 ghost use Rattle.circuit_text.specs.CircuitText.{head_text, circuit_text};
-ghost use Rattle.circuit_text.specs.Parts.{rows_text, fork_text, sizes_text, back_text};
+ghost use Rattle.circuit_text.specs.Parts.{bits_text, room_text, counts_text, sizes_text, top_text, rows_text, numbers_text};
+ghost use Rattle.circuit_text.specs.Parts.{back_text};
+ghost use Rattle.circuit_text.specs.RowText.{wire_lines};
 
 use crate::fixed;
 use crate::number::{number_of, push_number};
 use crate::row_line::push_wire;
-use crate::sizes::{push_derived, push_given};
 use circuit_rows::start;
-use net_build::{Net, Node, Wire};
-use pcf_values::Operator;
+use circuit_sizes::{
+    CircuitSizes, channel_bits, circuit_sizes, fork_bits, list_bits, multiplies, place_bits,
+    pointer_bits,
+};
+use net_build::{Net, Wire};
 use std::alloc::{AllocError, Global};
+use verilog_tree::{Extent, Item, Range, push_items};
 
-/// The text of a net's circuit, with stacks of so many bits and so many forks.
+/// The text of a net's circuit, with so many cells and forks.
 ///
 /// # Errors
 ///
@@ -25,27 +30,28 @@ use std::alloc::{AllocError, Global};
 pub fn print_circuit(
     alloc: Global,
     net: &Net,
-    stack: u32,
+    cells: u32,
     forks: u32,
 ) -> Result<Vec<u8>, AllocError>
-    ensures { IfOk result (λ v. v.items ≡ circuit_text net.now stack forks) }
+    ensures { IfOk result (λ v. v.items ≡ circuit_text net.now cells forks) }
 {
     let mut text = Vec::new(alloc);
-    push_circuit(&mut text, net, stack, forks)?;
+    push_circuit(&mut text, net, cells, forks)?;
     Ok(text)
 }
 
-/// Appends the text of a net's circuit, with stacks of so many bits and so many forks.
+/// Appends the text of a net's circuit, with so many cells and forks.
 ///
 /// # Errors
 ///
 /// `AllocError` where there is no memory for the text; what is appended by then says nothing.
-pub fn push_circuit(text: &mut Vec<u8>, net: &Net, stack: u32, forks: u32) -> Result<(), AllocError>
-    ensures { OnOk result (text.new.items ≡ text.old.items ++ circuit_text net.now stack forks) }
+pub fn push_circuit(text: &mut Vec<u8>, net: &Net, cells: u32, forks: u32) -> Result<(), AllocError>
+    ensures { OnOk result (text.new.items ≡ text.old.items ++ circuit_text net.now cells forks) }
 {
     let wires = net.wire_count();
     push_head(text, net.node_count().into(), wires.into())?;
-    push_sizes(text, wires, number_of(start(net)), stack, forks)?;
+    let sizes = circuit_sizes(net, cells, forks);
+    push_top(text, wires, number_of(start(net)), sizes)?;
     push_rows(text, net)?;
     push_back(text, net)?;
     Ok(())
@@ -61,22 +67,95 @@ fn push_head(text: &mut Vec<u8>, nodes: u64, wires: u64) -> Result<(), AllocErro
     text.extend_from_slice(b" wires, with a processor of one token.\n")
 }
 
-/// Appends the ports and the sizes, to the begin of the rows.
+/// Appends the sizes that are counts of bits.
+#[tactic(auto, unfolding(crate::specs::Parts::bits_text))]
+fn push_bits(text: &mut Vec<u8>, wires: u32, sizes: CircuitSizes) -> Result<(), AllocError>
+    ensures { OnOk result (text.new.items ≡ text.old.items ++ bits_text wires (sizes_view sizes)) }
+{
+    let channel = channel_bits(wires);
+    let fork = fork_bits(sizes.forks);
+    let place = place_bits(sizes.cells);
+    let pointer = pointer_bits(sizes.cells);
+    push_items(
+        text,
+        &[
+            Item::Size(b"C", channel),
+            Item::Size(b"S", fork),
+            Item::Size(b"P", place),
+            Item::Size(b"WORD", pointer),
+        ],
+    )
+}
+
+/// Appends how many bits the three lists have.
+#[tactic(auto, unfolding(crate::specs::Parts::room_text))]
+fn push_room(text: &mut Vec<u8>, sizes: CircuitSizes) -> Result<(), AllocError>
+    ensures { OnOk result (text.new.items ≡ text.old.items ++ room_text (sizes_view sizes)) }
+{
+    let marks = u64::from(sizes.marks.max(1));
+    let signatures = list_bits(sizes.cells, sizes.sigs);
+    let boxes = list_bits(sizes.cells, sizes.boxes);
+    push_items(
+        text,
+        &[
+            Item::Size(b"D", marks),
+            Item::Size(b"G", signatures),
+            Item::Size(b"B", boxes),
+        ],
+    )
+}
+
+/// Appends how many cells and forks there are, and the channel of the question.
+#[tactic(auto, unfolding(crate::specs::Parts::counts_text))]
+fn push_counts(
+    text: &mut Vec<u8>,
+    wires: u32,
+    start: u64,
+    sizes: CircuitSizes,
+) -> Result<(), AllocError>
+    ensures { OnOk result (text.new.items ≡ text.old.items ++ counts_text wires start (sizes_view sizes)) }
+{
+    let channel = channel_bits(wires);
+    push_items(
+        text,
+        &[
+            Item::Size(b"CELLS", sizes.cells.into()),
+            Item::Size(b"E", sizes.forks.into()),
+            Item::Constant(Range::Wide(Extent::Count(channel)), b"START", start.into()),
+        ],
+    )
+}
+
+/// Appends all sizes.
 #[tactic(auto, unfolding(crate::specs::Parts::sizes_text))]
 fn push_sizes(
     text: &mut Vec<u8>,
     wires: u32,
     start: u64,
-    stack: u32,
-    forks: u32,
+    sizes: CircuitSizes,
 ) -> Result<(), AllocError>
-    ensures { OnOk result (text.new.items ≡ text.old.items ++ sizes_text wires start stack forks) }
+    ensures { OnOk result (text.new.items ≡ text.old.items ++ sizes_text wires start (sizes_view sizes)) }
+{
+    push_bits(text, wires, sizes)?;
+    push_room(text, sizes)?;
+    push_counts(text, wires, start, sizes)
+}
+
+/// Appends ports, sizes, constants and registers, to the begin of the rows.
+#[tactic(auto, unfolding(crate::specs::Parts::top_text))]
+fn push_top(
+    text: &mut Vec<u8>,
+    wires: u32,
+    start: u64,
+    sizes: CircuitSizes,
+) -> Result<(), AllocError>
+    ensures { OnOk result (text.new.items ≡ text.old.items ++ top_text wires start (sizes_view sizes)) }
 {
     text.extend_from_slice(fixed::front())?;
-    push_given(text, wires.into(), start, stack.into(), forks.into())?;
-    text.extend_from_slice(fixed::size_note())?;
-    push_derived(text, wires, stack, forks)?;
-    text.extend_from_slice(fixed::top())
+    push_sizes(text, wires, start, sizes)?;
+    text.extend_from_slice(fixed::constants())?;
+    text.extend_from_slice(fixed::registers())?;
+    text.extend_from_slice(fixed::ways())
 }
 
 /// Appends both lines of each wire.
@@ -99,34 +178,9 @@ fn push_rows(text: &mut Vec<u8>, net: &Net) -> Result<(), AllocError>
     Ok(())
 }
 
-/// Whether a node multiplies.
-fn is_times(node: Node) -> bool
-    ensures { result ≡ is_times node }
-{
-    match node {
-        Node::Binary {
-            operator: Operator::Times,
-            ..
-        } => true,
-        _ => false,
-    }
-}
-
-/// Whether one of the nodes multiplies.
-fn multiplies(nodes: &[Node]) -> bool
-    ensures { result ≡ multiplies nodes.now }
-{
-    for node in nodes {
-        if is_times(*node) {
-            return true;
-        }
-    }
-    false
-}
-
-/// What forks and joins need.
-fn forks(multiplies: bool) -> &'static [u8]
-    ensures { result.now ≡ fork_text multiplies }
+/// What the numbers come to.
+fn numbers(multiplies: bool) -> &'static [u8]
+    ensures { result.now ≡ numbers_text multiplies }
 {
     if multiplies {
         fixed::multiplier()
@@ -140,7 +194,8 @@ fn forks(multiplies: bool) -> &'static [u8]
 fn push_back(text: &mut Vec<u8>, net: &Net) -> Result<(), AllocError>
     ensures { OnOk result (text.new.items ≡ text.old.items ++ back_text (multiplies net.now.nodes)) }
 {
-    text.extend_from_slice(fixed::middle())?;
-    text.extend_from_slice(forks(multiplies(net.nodes())))?;
+    text.extend_from_slice(fixed::lists())?;
+    text.extend_from_slice(fixed::forks())?;
+    text.extend_from_slice(numbers(multiplies(net.nodes())))?;
     text.extend_from_slice(fixed::last())
 }

@@ -4,5 +4,6 @@ use Rattle.circuit_text.proofs.print.push_circuit.Goals as goal
 
 pub returns : goal.returns
 returns c =
-    whole_text c.args.net.now c.args.stack c.args.forks _ _ _ _ c.args.text.now.items _ _ _ _ (search rules) (search rules) (search rules)
-    (search rules) c.in_ok-push_head.ensures c.in_ok-push_sizes.ensures c.in_ok-push_rows.ensures c.in_ok-push_back.ensures
+    whole_text c.args.net.now c.args.cells c.args.forks _ _ _ _ _ c.args.text.now.items _ _ _ _ (search rules) (search rules) (search rules)
+    (search rules) c.circuit_sizes-sizes.ensures c.in_ok-push_head.ensures c.in_ok-push_top.ensures c.in_ok-push_rows.ensures
+    c.in_ok-push_back.ensures
