@@ -1,6 +1,6 @@
 //! How long the lists of a net's circuit are.
 
-ghost use Rattle.std.specs.Prelude.{◌≡◌, ◌≤◌, min, map};
+ghost use Rattle.std.specs.Prelude.{◌≡◌, min, map};
 ghost use Rattle.pcf_values.specs.Views.{ty_of};
 ghost use Rattle.net_build.specs.Views.{wire_of};
 ghost use Rattle.cell_core.specs.Depths.{marks_in, sigs_in};
