@@ -150,9 +150,9 @@ list_wires =
     wire (upto (named "D")) "more_marks" (cat (name "marks") (does "MARK_LEFT")) ∷
     wire (wide (named "D")) "next_marks" (pick (does "MARK_PUSH") (part "more_marks" (less (named "D") (count 1)) (count 0))
     (pick (does "MARK_POP") (shift right (name "marks") (num 1)) (name "marks"))) ∷
-    wire (upto (named "P")) "new" (cat (name "top") (does "MARKED")) ∷
+    wire (upto (named "P")) "fresh" (cat (name "top") (does "MARKED")) ∷
     wire one "sig_push" (any_of (does "SIG_NEW") (does "SIG_CELL" ∷ does "SIG_BOX" ∷ does "SIG_STAR" ∷ name "back" ∷ [])) ∷
-    wire (upto (named "P")) "sig_in" (pick (does "SIG_NEW") (name "new") (pick (does "SIG_CELL") (name "sig_second")
+    wire (upto (named "P")) "sig_in" (pick (does "SIG_NEW") (name "fresh") (pick (does "SIG_CELL") (name "sig_second")
     (pick (does "SIG_BOX") (top_of "boxes") (pick (name "back") (name "box_second") (num 0))))) ∷
     wire (wide (named "G")) "sigs_left" (pick (does "SIG_DROP") (popped "sigs") (name "sigs")) ∷
     wire (upto (more (named "G") (named "P"))) "more_sigs" (cat (name "sigs_left") (name "sig_in")) ∷
@@ -160,7 +160,7 @@ list_wires =
     (pick (name "sig_push") (part "more_sigs" (less (named "G") (count 1)) (count 0)) (name "sigs_left"))) ∷
     wire one "box_push" (any_of (does "BOX_SIG") (does "BOX_CELL" ∷ does "BOX_NEW" ∷ does "BOX_STAR" ∷ name "back" ∷ [])) ∷
     wire (upto (named "P")) "box_in" (pick (does "BOX_SIG") (top_of "sigs") (pick (does "BOX_CELL") (name "sig_first")
-    (pick (does "BOX_NEW") (name "new") (pick (name "back") (name "box_first") (num 0))))) ∷
+    (pick (does "BOX_NEW") (name "fresh") (pick (name "back") (name "box_first") (num 0))))) ∷
     wire (wide (named "B")) "boxes_left" (pick (does "BOX_DROP") (popped "boxes") (name "boxes")) ∷
     wire (upto (more (named "B") (named "P"))) "more_boxes" (cat (name "boxes_left") (name "box_in")) ∷
     wire (wide (named "B")) "next_boxes" (pick (name "first_answer") (name "asked_boxes")
