@@ -88,10 +88,9 @@ enum {
 /* The same of the steps of a reduction: the last one to begin with is GOI_FROM_MAX too. */
 #define GOI_STEPS_MAX 100000u
 
-/* The bits of a circuit's stacks and its forks, as `goi circuit` takes them: by default, the least and the most. */
-#define GOI_STACK 128u
-#define GOI_STACK_MIN 8u
-#define GOI_STACK_MAX 4096u
+/* The cells of a circuit and its forks, as `goi circuit` takes them: by default and the most. The least of both is 1. */
+#define GOI_CELLS 1023u
+#define GOI_CELLS_MAX 1048575u
 #define GOI_FORKS 64u
 #define GOI_FORKS_MAX 1024u
 
@@ -220,8 +219,8 @@ goi_status goi_span(const void *text, size_t text_size, uint32_t budget, uint32_
 goi_status goi_steps(const void *text, size_t text_size, uint32_t budget, uint32_t from, uint32_t most, void *out, size_t out_size,
                      size_t *needed);
 
-/* Gives back the circuit of the program's net, with stacks of so many bits and so many forks, as `goi circuit` prints it. (CallsCircuit) */
-goi_status goi_circuit(const void *text, size_t text_size, uint32_t stack, uint32_t forks, void *out, size_t out_size, size_t *needed);
+/* Gives back the circuit of the program's net, with so many cells and forks, as `goi circuit` prints it. (CallsCircuit) */
+goi_status goi_circuit(const void *text, size_t text_size, uint32_t cells, uint32_t forks, void *out, size_t out_size, size_t *needed);
 
 /* Tells the first fault of a text in numbers, as what it is taken for (GOI_AS_..): that of the line which the calls give for it. GOI_OK: it
  * has none. GOI_REFUSED or GOI_BAD_FILE: `fault` has it. With GOI_OK and GOI_NO_MEMORY `fault` has no fault: status and kind 0, and no

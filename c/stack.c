@@ -31,7 +31,7 @@ static void *work(void *at) {
     case 4: status = goi_replay(text, size, schedule, schedule_size, out, sizeof out, &needed); break;
     case 5: status = goi_trace(text, size, 1000, 0, 0, 1000, out, sizeof out, &needed); break;
     case 6: status = goi_span(text, size, GOI_BUDGET_MAX, GOI_PROFILE, out, sizeof out, &needed); break;
-    case 7: status = goi_circuit(text, size, GOI_STACK, GOI_FORKS, out, sizeof out, &needed); break;
+    case 7: status = goi_circuit(text, size, GOI_CELLS, GOI_FORKS, out, sizeof out, &needed); break;
     case 8: status = goi_replay_trace(text, size, schedule, schedule_size, 0, 1000, out, sizeof out, &needed); break;
     case 9: status = goi_tell_each(text, size, 0, &none, 0, GOI_BUDGET_MAX, answers, 2, out, sizeof out, &needed); break;
     case 10: status = goi_find_fault(text, size, GOI_AS_NUMBER, &fault); break;

@@ -343,10 +343,10 @@ static void try_faults(void) {
 
 /* ---- circuits */
 
-static void try_circuit(uint32_t stack, uint32_t forks, goi_status status) {
+static void try_circuit(uint32_t cells, uint32_t forks, goi_status status) {
     static char out[1 << 16];
     size_t needed = 7;
-    TRY("circuit", goi_circuit("1", 1, stack, forks, out, sizeof out, &needed) == status && (needed > 0) == (status == GOI_OK));
+    TRY("circuit", goi_circuit("1", 1, cells, forks, out, sizeof out, &needed) == status && (needed > 0) == (status == GOI_OK));
     TRY("circuit", status != GOI_OK || (needed > 10 && !memcmp(out + needed - 10, "endmodule\n", 10)));
 }
 
@@ -399,13 +399,13 @@ int main(void) {
     try_line();
     try_each();
     try_faults();
-    try_circuit(GOI_STACK, GOI_FORKS, GOI_OK);
-    try_circuit(GOI_STACK_MIN, 1, GOI_OK);
-    try_circuit(GOI_STACK_MAX, GOI_FORKS_MAX, GOI_OK);
-    try_circuit(GOI_STACK_MIN - 1, 1, GOI_BAD_CALL);
-    try_circuit(GOI_STACK_MAX + 1, 1, GOI_BAD_CALL);
-    try_circuit(GOI_STACK, 0, GOI_BAD_CALL);
-    try_circuit(GOI_STACK, GOI_FORKS_MAX + 1, GOI_BAD_CALL);
+    try_circuit(GOI_CELLS, GOI_FORKS, GOI_OK);
+    try_circuit(1, 1, GOI_OK);
+    try_circuit(GOI_CELLS_MAX, GOI_FORKS_MAX, GOI_OK);
+    try_circuit(0, 1, GOI_BAD_CALL);
+    try_circuit(GOI_CELLS_MAX + 1, 1, GOI_BAD_CALL);
+    try_circuit(GOI_CELLS, 0, GOI_BAD_CALL);
+    try_circuit(GOI_CELLS, GOI_FORKS_MAX + 1, GOI_BAD_CALL);
     {
         char line[GOI_LINE_SIZE];
         size_t needed = 0;

@@ -26,7 +26,7 @@ STACK_SIZE = 4 << 20
 FROM_MAX = 10_000_000
 TRACED_MAX = 1_000_000
 STEPS_MAX = 100_000
-STACK, STACK_MIN, STACK_MAX = 128, 8, 4096
+CELLS, CELLS_MAX = 1023, (1 << 20) - 1
 FORKS, FORKS_MAX = 64, 1024
 ARGUMENTS_MAX = 1000
 NO_PLACE = (1 << 32) - 1
@@ -262,10 +262,10 @@ def net(text):
     return _judged(*call("goi_net", *text), text, AS_NUMBER)
 
 
-def circuit(text, stack=STACK, forks=FORKS):
-    """The circuit of the program's net, with stacks of so many bits and so many forks, as `goi circuit` prints it."""
+def circuit(text, cells=CELLS, forks=FORKS):
+    """The circuit of the program's net, with so many cells and forks, as `goi circuit` prints it."""
     text = _bytes(text)
-    return _judged(*call("goi_circuit", *text, _number(stack), _number(forks)), text, AS_NUMBER)
+    return _judged(*call("goi_circuit", *text, _number(cells), _number(forks)), text, AS_NUMBER)
 
 
 def replay(text, schedule):

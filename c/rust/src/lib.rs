@@ -68,7 +68,7 @@ pub mod sys {
             text: *const u8, text_size: usize, budget: u32, from: u32, most: u32, out: *mut u8, out_size: usize, needed: *mut usize,
         ) -> u32;
         pub fn goi_circuit(
-            text: *const u8, text_size: usize, stack: u32, forks: u32, out: *mut u8, out_size: usize, needed: *mut usize,
+            text: *const u8, text_size: usize, cells: u32, forks: u32, out: *mut u8, out_size: usize, needed: *mut usize,
         ) -> u32;
         pub fn goi_find_fault(text: *const u8, text_size: usize, taken: u32, fault: *mut Fault) -> u32;
         pub fn goi_find_schedule_fault(
@@ -93,10 +93,9 @@ pub const FROM_MAX: u32 = 10_000_000;
 pub const TRACED_MAX: u32 = 1_000_000;
 /// The most steps of a reduction that are told.
 pub const STEPS_MAX: u32 = 100_000;
-/// The bits of a circuit's stacks, by default, the least and the most.
-pub const STACK: u32 = 128;
-pub const STACK_MIN: u32 = 8;
-pub const STACK_MAX: u32 = 4096;
+/// The cells of a circuit, by default and the most.
+pub const CELLS: u32 = 1023;
+pub const CELLS_MAX: u32 = 1_048_575;
 /// The forks of a circuit, by default and the most.
 pub const FORKS: u32 = 64;
 pub const FORKS_MAX: u32 = 1024;
@@ -497,11 +496,11 @@ pub fn net(text: impl AsRef<[u8]>) -> Result<String, Error> {
     })
 }
 
-/// The circuit of the program's net, with stacks of so many bits and so many forks, as `goi circuit` prints it.
-pub fn circuit(text: impl AsRef<[u8]>, stack: u32, forks: u32) -> Result<String, Error> {
+/// The circuit of the program's net, with so many cells and forks, as `goi circuit` prints it.
+pub fn circuit(text: impl AsRef<[u8]>, cells: u32, forks: u32) -> Result<String, Error> {
     let text = text.as_ref();
     text_of(Judged::Text(text, Taken::Number), |out, needed| unsafe {
-        sys::goi_circuit(text.as_ptr(), text.len(), stack, forks, out.as_mut_ptr(), out.len(), needed)
+        sys::goi_circuit(text.as_ptr(), text.len(), cells, forks, out.as_mut_ptr(), out.len(), needed)
     })
 }
 
@@ -647,15 +646,15 @@ mod tests {
 
     #[test]
     fn circuits() {
-        let text = circuit("1", STACK, FORKS).unwrap();
+        let text = circuit("1", CELLS, FORKS).unwrap();
         assert!(text.contains("module") && text.ends_with("endmodule\n"));
-        assert_ne!(text, circuit("1", STACK_MIN, FORKS).unwrap());
-        assert_ne!(text, circuit("1", STACK, FORKS_MAX).unwrap());
-        circuit("1", STACK_MAX, 1).unwrap();
-        for (stack, forks) in [(STACK_MIN - 1, 1), (STACK_MAX + 1, 1), (STACK, 0), (STACK, FORKS_MAX + 1)] {
-            assert_eq!(circuit("1", stack, forks), Err(Error::BadCall));
+        assert_ne!(text, circuit("1", 1, FORKS).unwrap());
+        assert_ne!(text, circuit("1", CELLS, FORKS_MAX).unwrap());
+        circuit("1", CELLS_MAX, 1).unwrap();
+        for (cells, forks) in [(0, 1), (CELLS_MAX + 1, 1), (CELLS, 0), (CELLS, FORKS_MAX + 1)] {
+            assert_eq!(circuit("1", cells, forks), Err(Error::BadCall));
         }
-        assert_eq!(circuit("fun x:nat. x", STACK, FORKS), refused(Kind::NotGround, None, "NotGround"));
+        assert_eq!(circuit("fun x:nat. x", CELLS, FORKS), refused(Kind::NotGround, None, "NotGround"));
     }
 
     #[test]

@@ -5,7 +5,7 @@ use Rattle.std.specs.Prelude.{nat_eq, codes}
 use Rattle.pcf_values.specs.declared.val.Val.{Val}
 use Rattle.pcf_values.specs.declared.val.Val.TheVariants.{Number, Overflow}
 use Rattle.goi_jobs.specs.declared.window.Window.{Window}
-use Rattle.goi_jobs.specs.Ranges.{IsBudget, IsForks, IsPart, IsStack, IsWindow}
+use Rattle.goi_jobs.specs.Ranges.{IsBudget, IsForks, IsPart, IsCells, IsWindow}
 use Rattle.goi_tasks.specs.declared.fault.Fault.{Fault}
 use Rattle.goi_jobs.specs.declared.task.Task.{Task}
 use Rattle.goi_jobs.specs.declared.task.Task.TheVariants.{Circuit, Run, RunNet, Span, Steps, Trace}
@@ -112,12 +112,12 @@ steps_task budget window = Steps budget window
 abbrev pub CallsSteps : List ℕ → ℕ → Window → Back → Type 0
 CallsSteps bytes budget window b = WhereAsked (IsAskedSteps budget window) b (CallsTask (steps_task budget window) bytes b)
 
--- the call of the circuit of a text's program, with stacks of so many bits and so many forks
+-- the call of the circuit of a text's program, with so many cells and forks
 abbrev pub IsAskedCircuit : ℕ → ℕ → Type 0
-IsAskedCircuit stack forks = IsStack stack × IsForks forks
+IsAskedCircuit cells forks = IsCells cells × IsForks forks
 
 abbrev pub CallsCircuit : List ℕ → ℕ → ℕ → Back → Type 0
-CallsCircuit bytes stack forks b = WhereAsked (IsAskedCircuit stack forks) b (CallsTask (Circuit stack forks) bytes b)
+CallsCircuit bytes cells forks b = WhereAsked (IsAskedCircuit cells forks) b (CallsTask (Circuit cells forks) bytes b)
 
 -- ---- which status
 

@@ -12,7 +12,7 @@ ghost use Rattle.goi_c.specs.Backs.{back};
 ghost use Rattle.goi_c.specs.Calls.{CallsCircuit, CallsReplay, CallsReplayTrace, CallsTask, IsAskedCircuit, OwnsReplay, OwnsTask, part};
 
 use crate::giving::{BAD_CALL, give_nothing, give_result};
-use goi_jobs::{LEAST_STACK, MOST_FORKS, MOST_STACK, TRACED_MOVES, Task, Window};
+use goi_jobs::{MOST_CELLS, MOST_FORKS, TRACED_MOVES, Task, Window};
 use goi_tasks::{Report, Stop, law_settled, replay_text, report_replay, report_text};
 use pcf_values::limits::SCHEDULE_MOVES;
 use program_runs::{Alone, Calling, net_for};
@@ -46,24 +46,24 @@ pub extern "C" fn goi_net(alloc: Global, text: &[u8], out: &mut [u8], needed: &m
     give_result(alloc, listed, out, needed)
 }
 
-/// Prints the circuit of a text's program, with stacks of so many bits and so many forks.
+/// Prints the circuit of a text's program, with so many cells and forks.
 #[unsafe(no_mangle)]
 pub extern "C" fn goi_circuit(
     alloc: Global,
     text: &[u8],
-    stack: u32,
+    cells: u32,
     forks: u32,
     out: &mut [u8],
     needed: &mut usize,
 ) -> u32
-    ensures calls { CallsCircuit text.now stack forks (back result needed.new out.old out.new) }
-    ensures own { IsAskedCircuit stack forks → OwnsTask (Circuit stack forks) text.now (back result needed.new out.old out.new) }
+    ensures calls { CallsCircuit text.now cells forks (back result needed.new out.old out.new) }
+    ensures own { IsAskedCircuit cells forks → OwnsTask (Circuit cells forks) text.now (back result needed.new out.old out.new) }
 {
     law_settled();
-    if stack < LEAST_STACK || MOST_STACK < stack || forks < 1 || MOST_FORKS < forks {
+    if cells < 1 || MOST_CELLS < cells || forks < 1 || MOST_FORKS < forks {
         return give_nothing(needed, BAD_CALL);
     }
-    let printed = report_text(alloc, text, Task::Circuit { stack, forks }, &Alone);
+    let printed = report_text(alloc, text, Task::Circuit { cells, forks }, &Alone);
     give_result(alloc, printed, out, needed)
 }
 

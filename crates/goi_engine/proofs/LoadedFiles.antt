@@ -171,8 +171,8 @@ pub fault_goes : (task : Task) (f : Fault) (v bytes : List ℕ) → Same (most_b
 fault_goes (Run budget calling shown) f v bytes s h = faulty_goes (wanted_by_run calling) f v bytes s h
 fault_goes (Check term) f v bytes s h = faulty_goes any_type f v bytes s h
 fault_goes ShowNet f v bytes s h = faulty_goes number f v bytes s h
-fault_goes (Circuit stack forks) f v bytes s h = faulty_goes number f v bytes s h
-fault_goes (RunCircuit stack forks budget waves) f v bytes s h = faulty_goes number f v bytes s h
+fault_goes (Circuit cells forks) f v bytes s h = faulty_goes number f v bytes s h
+fault_goes (RunCircuit cells forks budget waves) f v bytes s h = faulty_goes number f v bytes s h
 fault_goes (Span budget calling profile schedule) f v bytes s h = faulty_goes (wanted_by_run calling) f v bytes s h
 fault_goes (Steps budget window) f v bytes s h = faulty_goes number f v bytes s h
 fault_goes (RunNet budget shown) f v bytes s h = listing_goes f v bytes s h
@@ -184,8 +184,8 @@ pub report_goes : (workers : ℕ) (task : Task) (o : Output) (v bytes : List ℕ
 report_goes workers (Run budget calling shown) o v bytes s h = of_program_goes (wanted_by_run calling) _ v bytes s h
 report_goes workers (Check term) o v bytes s h = of_program_goes any_type _ v bytes s h
 report_goes workers ShowNet o v bytes s h = of_program_goes number _ v bytes s h
-report_goes workers (Circuit stack forks) o v bytes s h = of_program_goes number _ v bytes s h
-report_goes workers (RunCircuit stack forks budget waves) o v bytes s h = of_program_goes number _ v bytes s h
+report_goes workers (Circuit cells forks) o v bytes s h = of_program_goes number _ v bytes s h
+report_goes workers (RunCircuit cells forks budget waves) o v bytes s h = of_program_goes number _ v bytes s h
 report_goes workers (Span budget calling profile schedule) o v bytes s h = of_program_goes (wanted_by_run calling) _ v bytes s h
 report_goes workers (Steps budget window) o v bytes s h = of_program_goes number _ v bytes s h
 report_goes workers (RunNet budget shown) o v bytes s h =

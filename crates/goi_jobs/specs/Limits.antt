@@ -10,12 +10,9 @@ most_traced = 1000000
 abbrev pub most_told : ℕ
 most_told = 100000
 
--- the fewest and the most bits of each stack of a circuit
-abbrev pub least_stack : ℕ
-least_stack = 8
-
-abbrev pub most_stack : ℕ
-most_stack = 4096
+-- the most cells of a circuit
+abbrev pub most_cells : ℕ
+most_cells = 1048575
 
 -- the most forks of a circuit that can be open at once
 abbrev pub most_forks : ℕ

@@ -1,7 +1,7 @@
 -- The ranges of the numbers of tasks and jobs, as words can ask for them.
 use Rattle.std.specs.Prelude.{◌≤◌, ⊤, ℕ, Option, None, Some}
 use Rattle.pcf_values.specs.Most.{most_workers, most_budget, most_demo, most_moves}
-use Rattle.goi_jobs.specs.Limits.{most_traced, most_told, least_stack, most_stack, most_forks}
+use Rattle.goi_jobs.specs.Limits.{most_traced, most_told, most_cells, most_forks}
 use Rattle.goi_jobs.specs.declared.window.Window.{Window}
 
 -- a number of workers, a budget and the number of a generated program
@@ -37,9 +37,9 @@ abbrev pub IsWindowIfAny : Option Window → Type 0
 IsWindowIfAny None = ⊤
 IsWindowIfAny (Some window) = IsWindow window
 
--- the bits of a circuit's stacks, and its forks
-abbrev pub IsStack : ℕ → Type 0
-IsStack n = (least_stack ≤ n) × (n ≤ most_stack)
+-- the cells of a circuit, and its forks
+abbrev pub IsCells : ℕ → Type 0
+IsCells n = (1 ≤ n) × (n ≤ most_cells)
 
 abbrev pub IsForks : ℕ → Type 0
 IsForks n = (1 ≤ n) × (n ≤ most_forks)

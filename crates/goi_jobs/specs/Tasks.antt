@@ -1,6 +1,6 @@
 -- What is done with the text of one file: what is shown of a run, which tasks tell their progress, and the ranges of their numbers.
 use Rattle.std.specs.Prelude.{⊤, Bool, false}
-use Rattle.goi_jobs.specs.Ranges.{IsBudget, IsWindow, IsPart, IsStack, IsForks}
+use Rattle.goi_jobs.specs.Ranges.{IsBudget, IsWindow, IsPart, IsCells, IsForks}
 use Rattle.goi_jobs.specs.declared.shown.Shown.{Shown}
 use Rattle.goi_jobs.specs.declared.task.Task.{Task}
 use Rattle.goi_jobs.specs.declared.task.Task.TheVariants.{Run, Check, ShowNet, RunNet, Trace, Circuit, RunCircuit, Span, Steps}
@@ -25,12 +25,12 @@ IsWithin (Check term) = Unit {0}
 IsWithin ShowNet = Unit {0}
 IsWithin (RunNet budget shown) = IsBudget budget
 IsWithin (Trace budget calling window) = IsBudget budget × IsWindow window
-IsWithin (Circuit stack forks) = Unit {0}
-IsWithin (RunCircuit stack forks budget waves) = IsBudget budget × IsStack stack × IsForks forks
+IsWithin (Circuit cells forks) = Unit {0}
+IsWithin (RunCircuit cells forks budget waves) = IsBudget budget × IsCells cells × IsForks forks
 IsWithin (Span budget calling profile schedule) = IsBudget budget
 IsWithin (Steps budget window) = IsBudget budget × IsPart window
 
 -- and the sizes of a circuit are those that can be asked for
 abbrev pub HasSizes : Task → Type 0
-HasSizes (Circuit stack forks) = IsStack stack × IsForks forks
+HasSizes (Circuit cells forks) = IsCells cells × IsForks forks
 HasSizes _ = ⊤

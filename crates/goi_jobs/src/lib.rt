@@ -14,7 +14,7 @@ mod task;
 mod window;
 
 pub use jobs::Job;
-pub use limits::{LEAST_STACK, MOST_FORKS, MOST_STACK, TOLD_STEPS, TRACED_MOVES};
+pub use limits::{MOST_CELLS, MOST_FORKS, TOLD_STEPS, TRACED_MOVES};
 pub use shown::Shown;
 pub use task::{Task, progress_of};
 pub use window::Window;

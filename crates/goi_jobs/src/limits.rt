@@ -7,11 +7,8 @@ pub const TRACED_MOVES: u32 = 1_000_000;
 /// The most steps of a reduction that are told if so many are asked for.
 pub const TOLD_STEPS: u32 = 100_000;
 
-/// The fewest bits of each stack of a circuit that can be asked for.
-pub const LEAST_STACK: u32 = 8;
-
-/// The most bits of each stack of a circuit that can be asked for.
-pub const MOST_STACK: u32 = 4096;
+/// The most cells of a circuit that can be asked for.
+pub const MOST_CELLS: u32 = 1_048_575;
 
 /// The most forks of a circuit that can be asked for.
 pub const MOST_FORKS: u32 = 1024;

@@ -44,15 +44,15 @@ pub enum Task {
     },
     /// Print the circuit of the program's net.
     Circuit {
-        /// How many bits each stack has; where words ask for it, from `LEAST_STACK` to `MOST_STACK`.
-        stack: u32,
+        /// How many cells it has; where words ask for it, from 1 to `MOST_CELLS`.
+        cells: u32,
         /// How many forks can be open at once; where words ask for it, from 1 to `MOST_FORKS`.
         forks: u32,
     },
     /// Run the module of the program's circuit, by what its Verilog means, and tell what it answers, or what it does.
     RunCircuit {
-        /// How many bits each stack has; from `LEAST_STACK` to `MOST_STACK`.
-        stack: u32,
+        /// How many cells it has; from 1 to `MOST_CELLS`.
+        cells: u32,
         /// How many forks can be open at once; from 1 to `MOST_FORKS`.
         forks: u32,
         /// The most cycles; from 1 to `pcf_values::limits::BUDGET`.

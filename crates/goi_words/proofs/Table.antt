@@ -6,7 +6,7 @@ use Rattle.clap.specs.Walk.{walked}
 use Rattle.clap.specs.Simple.{built}
 use Rattle.clap.specs.Faults.{defaults_fault}
 use Rattle.clap.specs.Takes.{is_given as is_row_given}
-use Rattle.goi_jobs.specs.Ranges.{IsBudget, IsForks, IsStack, IsWindow, IsWindowIfAny, IsWorkers}
+use Rattle.goi_jobs.specs.Ranges.{IsBudget, IsCells, IsForks, IsWindow, IsWindowIfAny, IsWorkers}
 use Rattle.goi_jobs.specs.Jobs.{call, demo, list, replay, text}
 use Rattle.goi_jobs.specs.Tasks.{HasSizes, IsWithin, shown}
 use Rattle.goi_jobs.specs.declared.task.Task.TheVariants.{Check, Run, RunNet, ShowNet, Span, Steps, Trace}
@@ -228,10 +228,10 @@ trace_ready = record {
 }
 
 -- sizes in their ranges are those of a circuit and of its run
-circuit_within : (is_run waves : Bool) (stack forks budget : ℕ) → IsStack stack → IsForks forks → IsBudget budget →
-    IsWithin (circuit_task is_run stack forks budget waves) × HasSizes (circuit_task is_run stack forks budget waves)
-circuit_within true waves stack forks budget s e b = ((b, s, e), tt)
-circuit_within false waves stack forks budget s e b = (tt, (s, e))
+circuit_within : (is_run waves : Bool) (cells forks budget : ℕ) → IsCells cells → IsForks forks → IsBudget budget →
+    IsWithin (circuit_task is_run cells forks budget waves) × HasSizes (circuit_task is_run cells forks budget waves)
+circuit_within true waves cells forks budget s e b = ((b, s, e), tt)
+circuit_within false waves cells forks budget s e b = (tt, (s, e))
 
 -- `circuit` is entered by its name
 circuit_enters : Enters (built goi_command) (codes "circuit") (leaf circuit_row)
@@ -250,11 +250,11 @@ circuit_ready = record {
   checked = λ rows there. rw there.0 refl;
   asks = λ rows clean. ((asked (is_row_given (codes "file") rows) false clean).0, tt);
   same = λ f g os cs. rw (os.0, cs.0, cs.1.0, cs.1.1.0, cs.1.1.1.0, cs.1.1.1.1.0) refl;
-  has_job = λ f os cs. let file = os.0 in let stack = cs.0 in let forks = cs.1.0 in let budget = cs.1.1.0 in
-      let within = circuit_within (f.is_set (codes "run")) (f.is_set (codes "vcd")) stack.0 forks.0 budget.0 (stack.2, stack.3)
+  has_job = λ f os cs. let file = os.0 in let cells = cs.0 in let forks = cs.1.0 in let budget = cs.1.1.0 in
+      let within = circuit_within (f.is_set (codes "run")) (f.is_set (codes "vcd")) cells.0 forks.0 budget.0 (cells.2, cells.3)
       (forks.2, forks.3) (budget.2, budget.3) in (
-        text file.0 1 (circuit_task (f.is_set (codes "run")) stack.0 forks.0 budget.0 (f.is_set (codes "vcd"))),
-        rw (file.1, stack.1, forks.1, budget.1) refl,
+        text file.0 1 (circuit_task (f.is_set (codes "run")) cells.0 forks.0 budget.0 (f.is_set (codes "vcd"))),
+        rw (file.1, cells.1, forks.1, budget.1) refl,
         (one_worker, within.0, within.1),
       );
 }

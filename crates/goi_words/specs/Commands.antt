@@ -7,7 +7,7 @@ use Rattle.clap.specs.Words.{App, Rule, Shape, Text, new_rule}
 use Rattle.clap.specs.Lexer.{usize_max}
 use Rattle.clap.specs.Simple.{new_shape}
 use Rattle.pcf_values.specs.Most.{most_workers, most_budget, most_demo, most_moves}
-use Rattle.goi_jobs.specs.Limits.{most_traced, most_told, least_stack, most_stack, most_forks}
+use Rattle.goi_jobs.specs.Limits.{most_traced, most_told, most_cells, most_forks}
 use Rattle.goi_jobs.specs.Jobs.{JobTree, text, replay, list, demo, call}
 use Rattle.goi_jobs.specs.Tasks.{shown}
 use Rattle.goi_jobs.specs.declared.task.Task.{Task}
@@ -128,9 +128,9 @@ most_choice = numbered (codes "most") 1 most_traced (codes "100000")
 abbrev pub told_choice : Choice
 told_choice = numbered (codes "most") 1 most_told (codes "1000")
 
--- the bits of a circuit's stacks
-abbrev pub stack_choice : Choice
-stack_choice = numbered (codes "stack") least_stack most_stack (codes "128")
+-- the cells of a circuit
+abbrev pub cells_choice : Choice
+cells_choice = numbered (codes "cells") 1 most_cells (codes "1023")
 
 -- the forks of a circuit
 abbrev pub forks_choice : Choice
@@ -162,8 +162,8 @@ abbrev pub if_traced : Bool → Window → Option Window
 if_traced is_traced window = if is_traced then Some window else None
 
 -- a circuit, or its run where that is asked for
-abbrev pub circuit_task : Bool → (stack forks budget : ℕ) → Bool → Task
-circuit_task is_run stack forks budget waves = if is_run then RunCircuit stack forks budget waves else Circuit stack forks
+abbrev pub circuit_task : Bool → (cells forks budget : ℕ) → Bool → Task
+circuit_task is_run cells forks budget waves = if is_run then RunCircuit cells forks budget waves else Circuit cells forks
 
 -- ---- the jobs
 -- `replay` reads the part of a trace always, and asks for it with `--trace` alone: `clap`'s definition has no word for an option that
@@ -224,10 +224,10 @@ trace_job found = do
 abbrev pub circuit_job : Findings → Option JobTree
 circuit_job found = do
   file ← found.text (codes "file")
-  stack ← found.number (codes "stack")
+  cells ← found.number (codes "cells")
   forks ← found.number (codes "forks")
   budget ← found.number (codes "budget")
-  Some (text file 1 (circuit_task (found.is_set (codes "run")) stack forks budget (found.is_set (codes "vcd"))))
+  Some (text file 1 (circuit_task (found.is_set (codes "run")) cells forks budget (found.is_set (codes "vcd"))))
 
 abbrev pub span_job : Findings → Option JobTree
 span_job found = do
@@ -300,7 +300,7 @@ abbrev pub circuit_row : CommandRow
 circuit_row = record {
   name = codes "circuit";
   operands = file_operand ∷ [];
-  choices = stack_choice ∷ forks_choice ∷ budget_choice ∷ switch (codes "run") ∷ switch (codes "vcd") ∷ [];
+  choices = cells_choice ∷ forks_choice ∷ budget_choice ∷ switch (codes "run") ∷ switch (codes "vcd") ∷ [];
   job = circuit_job;
 }
 

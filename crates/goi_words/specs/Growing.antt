@@ -7,7 +7,7 @@ use Rattle.clap.specs.declared.builder.command.Command.{Command}
 use Rattle.clap.specs.declared.builder.command.Command.TheViews.{out-Command}
 use Rattle.goi_words.specs.Commands.{batch_row, budget_choice, call_row, check_row, choice_rule, circuit_row, command, demo_row, flag}
 use Rattle.goi_words.specs.Commands.{forks_choice, from_choice, most_choice, net_row, operand, ranged_operand, replay_row, run_net_row}
-use Rattle.goi_words.specs.Commands.{run_row, span_row, stack_choice, steps_row, subcommand, told_choice, trace_row, wide_operand}
+use Rattle.goi_words.specs.Commands.{run_row, span_row, cells_choice, steps_row, subcommand, told_choice, trace_row, wide_operand}
 use Rattle.goi_words.specs.Commands.{with_commands, workers_choice}
 
 -- the command of the code is this subcommand
@@ -37,8 +37,8 @@ most_option = choice_rule most_choice
 abbrev pub told_option : Rule
 told_option = choice_rule told_choice
 
-abbrev pub stack_option : Rule
-stack_option = choice_rule stack_choice
+abbrev pub cells_option : Rule
+cells_option = choice_rule cells_choice
 
 abbrev pub forks_option : Rule
 forks_option = choice_rule forks_choice
@@ -65,7 +65,7 @@ bare_trace_command =
 -- `circuit` without what is told of its run
 abbrev pub bare_circuit_command : Shape
 bare_circuit_command = command (codes "circuit")
-    (operand (codes "file") ∷ choice_rule stack_choice ∷ choice_rule forks_choice ∷ budget_option ∷ [])
+    (operand (codes "file") ∷ choice_rule cells_choice ∷ choice_rule forks_choice ∷ budget_option ∷ [])
 
 abbrev pub bare_span_command : Shape
 bare_span_command = command (codes "span") (operand (codes "file") ∷ budget_option ∷ flag (codes "by-value") ∷ [])

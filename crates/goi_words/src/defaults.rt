@@ -15,8 +15,8 @@ pub const DEFAULT_MOST: &str = "100000";
 /// The most steps of a reduction that are told where the words don't say.
 pub const DEFAULT_TOLD: &str = "1000";
 
-/// The bits of each stack of a circuit where the words don't say.
-pub const DEFAULT_STACK: &str = "128";
+/// The cells of a circuit where the words don't say.
+pub const DEFAULT_CELLS: &str = "1023";
 
 /// The forks of a circuit that can be open at once where the words don't say.
 pub const DEFAULT_FORKS: &str = "64";

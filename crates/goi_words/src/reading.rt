@@ -207,30 +207,30 @@ fn circuit_job(alloc: Global, found: &ArgMatches<'_>) -> Result<Job, WordFault>
     ensures refused { IsErrOf result Refused → circuit_job (findings (rows_of (found_of found.now))) ≡ None }
 {
     let file = text_in(found, "file")?;
-    let stack = number_in(found, "stack")?;
+    let cells = number_in(found, "cells")?;
     let forks = number_in(found, "forks")?;
     let budget = number_in(found, "budget")?;
     Ok(Job::Text {
         file: Ident::from_text(alloc, file)?,
         workers: 1,
-        task: circuit_task(found, stack, forks, budget),
+        task: circuit_task(found, cells, forks, budget),
     })
 }
 
 /// A circuit of these sizes, or its run of so many cycles where that was found.
-fn circuit_task(found: &ArgMatches<'_>, stack: u32, forks: u32, budget: u32) -> Task
-    ensures { result ≡ circuit_task ((findings (rows_of (found_of found.now))).is_set (codes "run")) stack forks budget
+fn circuit_task(found: &ArgMatches<'_>, cells: u32, forks: u32, budget: u32) -> Task
+    ensures { result ≡ circuit_task ((findings (rows_of (found_of found.now))).is_set (codes "run")) cells forks budget
         ((findings (rows_of (found_of found.now))).is_set (codes "vcd")) }
 {
     if is_set(found, "run") {
         Task::RunCircuit {
-            stack,
+            cells,
             forks,
             budget,
             waves: is_set(found, "vcd"),
         }
     } else {
-        Task::Circuit { stack, forks }
+        Task::Circuit { cells, forks }
     }
 }
 

@@ -11,7 +11,7 @@ returns-clause-calls c =
       right = λ asked. called _ _ h.result _ h.ensures.report h.ensures.fault c.give_result.ensures;
       wrong = λ n.
           absurd (n (
-            (omega (arith, c.if-stack-lt-LEAST_STACK.false), omega (arith, c.if-stack-gt-MOST_STACK.false)),
+            (omega (arith, c.if-cells-lt1.false), omega (arith, c.if-cells-gt-MOST_CELLS.false)),
             (omega (arith, c.if-forks-lt1.false), omega (arith, c.if-forks-gt-MOST_FORKS.false)),
           ));
     }
@@ -19,5 +19,5 @@ returns-clause-calls c =
 pub returns-clause-own : goal.returns-clause-own
 returns-clause-own c = λ asked.
     let h = c.report_text-printed in
-    owned _ _ _ (c.law_settled.ensures.tasks 1 (Circuit c.args.stack c.args.forks) c.args.text.now) _
+    owned _ _ _ (c.law_settled.ensures.tasks 1 (Circuit c.args.cells c.args.forks) c.args.text.now) _
     (called _ _ h.result _ h.ensures.report h.ensures.fault c.give_result.ensures)
