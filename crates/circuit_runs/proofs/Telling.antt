@@ -11,15 +11,19 @@ use Rattle.net_build.specs.Nets.{NetTree}
 use Rattle.net_build.specs.NetOf.{net_of}
 use Rattle.adequacy_laws.specs.Questions.{Length}
 use Rattle.adequacy_laws.specs.Finished.{Beyond}
-use Rattle.circuit_core.specs.Enough.{RunFits}
 use Rattle.verilog_tree.specs.Tree.{Item}
 use Rattle.verilog_tree.specs.Meaning.{Store}
 use Rattle.verilog_run.specs.Held.{nothing}
-use Rattle.circuit_module.specs.Module.{module_of}
+use Rattle.circuit_module.specs.InRange.{FewWires}
 use Rattle.circuit_module.specs.Stands.{Small, value_number}
-use Rattle.module_edges.specs.Laws.{Sizes, edges, next_edge, reset_edge}
-use Rattle.module_means.specs.Laws.{FewWires}
-use Rattle.module_means.specs.Means.{Ended as End, ModuleTells, ModuleMeans, ModuleIsRight}
+use Rattle.cell_core.specs.Circuit.{Sizes}
+use Rattle.cell_core.specs.Enough.{CellsFit, Covers}
+use Rattle.cell_module.specs.Module.{cell_module}
+use Rattle.cell_module.specs.Sizes.{InLists, SizesCover, circuit_of, sizes_of}
+use Rattle.cell_edges.specs.Laws.{CellSizes, SizesFit, cell_reset_edge}
+use Rattle.cell_steps.specs.Laws.{cell_edge, cell_edges}
+use Rattle.cell_means.specs.Means.{Ended as End, ModuleTells}
+use Rattle.cell_means.specs.Laws.{CellModuleMeans, CellModuleIsRight}
 use Rattle.circuit_runs.specs.Running.{run_from, after, Goes, IsDone, Shows, Comes}
 use Rattle.circuit_runs.specs.Laws.{CircuitTells, ProgramRuns}
 use Rattle.circuit_runs.specs.declared.outcome.Outcome.{Outcome}
@@ -39,9 +43,9 @@ same_value (Number m) Overflow h k e = absurd (omega arith)
 same_value Overflow (Number n) h k e = absurd (omega arith)
 
 -- the edges of a net's module are those of its items
-edges_same : (net : NetTree) (N E k : ℕ) (S : Store) → run_from (module_of net N E) k S ≡ edges net N E k S
-edges_same net N E zero S = refl
-edges_same net N E (suc k) S = edges_same net N E k (next_edge net N E S)
+edges_same : (net : NetTree) (z : Sizes) (k : ℕ) (S : Store) → run_from (cell_module net z) k S ≡ cell_edges net z k S
+edges_same net z zero S = refl
+edges_same net z (suc k) S = edges_same net z k (cell_edge net z S)
 
 -- what the law says of registers after k edges
 abbrev Says : TermTree → ℕ → Store → Type 0
@@ -56,8 +60,8 @@ tells_down : (m : TermTree) (k : ℕ) (T : Store) → Says m k T → T.vec "full
 tells_down m k T h e = ⊎_elim (λ u. absurd (not_both (T.vec "full") u e)) (λ t. t.1) h
 
 -- registers after so many edges, of which the law speaks
-module _ (m : TermTree) (typed : HasType [] m nat) (N E : ℕ) (at : ℕ → Store) (says : (k : ℕ) → Says m k (at k))
-    (fit : RunFits (net_of m) N E → (k : ℕ) → (at k).vec "full" ≡ 0) where
+module _ (m : TermTree) (typed : HasType [] m nat) (cells forks : ℕ) (at : ℕ → Store) (says : (k : ℕ) → Says m k (at k))
+    (fit : (k : ℕ) → CellsFit (net_of m) (sizes_of (net_of m) cells forks) k → (at k).vec "full" ≡ 0) where
   -- the first ones that show this
   abbrev First : ℕ → Outcome → Type 0
   First K o = (k : ℕ) × (k ≤ K) × ((j : ℕ) → j < k → Goes (at j)) × Shows (at k) k o
@@ -81,7 +85,7 @@ module _ (m : TermTree) (typed : HasType [] m nat) (N E : ℕ) (at : ℕ → Sto
   small : (k : ℕ) (e : End m k (at k)) → Small e.value
   small k e = small_of e.value (result_keeps_type e.means.0 m nat (value e.value) typed e.means.1)
 
-  on_ended : (K : ℕ) (v : Val) (moves j : ℕ) → First K (Ended v moves j) → CircuitTells m N E K (Ended v moves j)
+  on_ended : (K : ℕ) (v : Val) (moves j : ℕ) → First K (Ended v moves j) → CircuitTells m cells forks K (Ended v moves j)
   on_ended K v moves j h =
       let k = h.0 in
       let shows = h.3 in
@@ -96,29 +100,44 @@ module _ (m : TermTree) (typed : HasType [] m nat) (N E : ℕ) (at : ℕ → Sto
         ),
       )
 
-  on_full : (K j : ℕ) → First K (Full j) → RunFits (net_of m) N E → ⊥
-  on_full K j h fits = h.3.1 (fit fits h.0)
+  on_full : (K j : ℕ) → First K (Full j) → CellsFit (net_of m) (sizes_of (net_of m) cells forks) j → ⊥
+  on_full K j h fits = h.3.1 (fit h.0 (subst (λ n. CellsFit (net_of m) (sizes_of (net_of m) cells forks) n) h.3.0 fits))
 
   on_odd : (K j : ℕ) → First K (Odd j) → ⊥
   on_odd K j h =
       let e = ended h.0 h.3.1 in
       h.3.2 e.value (e.length % 2 ^ 64) (small h.0 e) (mod_below e.length (2 ^ 64) (omega arith)) e.result e.moves
 
+-- the sizes of a program's circuit, and its registers so many edges after its reset
+abbrev sizes : TermTree → (cells forks : ℕ) → Sizes
+sizes m cells forks = sizes_of (net_of m) cells forks
+
+abbrev shown : TermTree → (cells forks : ℕ) → ℕ → Store
+shown m cells forks k = after (circuit_of (net_of m) cells forks) k
+
 -- the law
-pub program_runs : ModuleMeans → ModuleIsRight → ProgramRuns
-program_runs M R m typed N E sizes few K o h = tell o h
+pub program_runs : CellModuleMeans → CellModuleIsRight → SizesCover → SizesFit → ProgramRuns
+program_runs M R cover fits m typed cells forks few_cells some_forks few_forks few within K o h = tell o h
   where
-    same : (k : ℕ) → edges (net_of m) N E k (reset_edge (net_of m) N E nothing) ≡ after (module_of (net_of m) N E) k
-    same k = sym (edges_same (net_of m) N E k (reset_edge (net_of m) N E nothing))
+    small : CellSizes (sizes m cells forks)
+    small = fits (net_of m) cells forks few_cells some_forks few_forks
 
-    says : (k : ℕ) → Says m k (after (module_of (net_of m) N E) k)
-    says k = subst (Says m k) (same k) (M m typed N E sizes few nothing k)
+    covers : Covers (sizes m cells forks) (net_of m)
+    covers = cover (net_of m) cells forks within
 
-    fit : RunFits (net_of m) N E → (k : ℕ) → (after (module_of (net_of m) N E) k).vec "full" ≡ 0
-    fit f k = subst (λ (T : Store). T.vec "full" ≡ 0) (same k) (R m typed N E sizes few f nothing k).0
+    same : (k : ℕ) → cell_edges (net_of m) (sizes m cells forks) k (cell_reset_edge (net_of m) (sizes m cells forks) nothing)
+        ≡ shown m cells forks k
+    same k = sym (edges_same (net_of m) (sizes m cells forks) k (cell_reset_edge (net_of m) (sizes m cells forks) nothing))
 
-    tell : (o : Outcome) → Comes (net_of m) N E K o → CircuitTells m N E K o
-    tell (Ended v moves j) h = on_ended m typed N E (after (module_of (net_of m) N E)) says fit K v moves j h
-    tell (Full j) h = on_full m typed N E (after (module_of (net_of m) N E)) says fit K j h
-    tell (Odd j) h = on_odd m typed N E (after (module_of (net_of m) N E)) says fit K j h
-    tell Waits h = past m typed N E (after (module_of (net_of m) N E)) says fit K (h K (omega arith))
+    says : (k : ℕ) → Says m k (shown m cells forks k)
+    says k = subst (Says m k) (same k) (M m typed (sizes m cells forks) small few covers nothing k)
+
+    fit : (k : ℕ) → CellsFit (net_of m) (sizes m cells forks) k → (shown m cells forks k).vec "full" ≡ 0
+    fit k f =
+        subst (λ (T : Store). T.vec "full" ≡ 0) (same k) (R m typed (sizes m cells forks) small few covers nothing k f).0
+
+    tell : (o : Outcome) → Comes (net_of m) cells forks K o → CircuitTells m cells forks K o
+    tell (Ended v moves j) h = on_ended m typed cells forks (shown m cells forks) says fit K v moves j h
+    tell (Full j) h = on_full m typed cells forks (shown m cells forks) says fit K j h
+    tell (Odd j) h = on_odd m typed cells forks (shown m cells forks) says fit K j h
+    tell Waits h = past m typed cells forks (shown m cells forks) says fit K (h K (omega arith))

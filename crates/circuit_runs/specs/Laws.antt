@@ -1,27 +1,27 @@
 -- What the run of a program's module tells: the statement of `law_program_runs`.
-use Rattle.std.specs.Prelude.{◌≡◌, ℕ, ◌%◌, ◌^◌}
+use Rattle.std.specs.Prelude.{◌≡◌, ◌<◌, ◌≤◌, ℕ, ◌%◌, ◌^◌}
 use Rattle.pcf_values.specs.Terms.{TermTree}
 use Rattle.cbn_meaning.specs.Meaning.{Means}
 use Rattle.net_build.specs.NetOf.{net_of}
 use Rattle.adequacy_laws.specs.Questions.{Length}
 use Rattle.adequacy_laws.specs.Adequacy.{OfEveryProgram}
 use Rattle.adequacy_laws.specs.Finished.{Beyond}
-use Rattle.circuit_core.specs.Enough.{RunFits}
-use Rattle.module_edges.specs.Laws.{Sizes}
-use Rattle.module_means.specs.Laws.{FewWires}
+use Rattle.cell_core.specs.Enough.{CellsFit}
+use Rattle.circuit_module.specs.InRange.{FewWires}
+use Rattle.cell_module.specs.Sizes.{sizes_of, InLists}
 use Rattle.circuit_runs.specs.Running.{Comes}
 use Rattle.circuit_runs.specs.declared.outcome.Outcome.{Outcome}
 use Rattle.circuit_runs.specs.declared.outcome.Outcome.TheVariants.{Ended, Full, Odd, Waits}
 
--- what it tells of the program: a value that it means, after as many edges as its net is long; or that the sizes don't hold its run; or
--- that its net is longer than so many edges, or has no length
-abbrev pub CircuitTells : TermTree → (N E K : ℕ) → Outcome → Type 0
-CircuitTells m N E K (Ended v moves k) = Means m v × (Length (net_of m) v k × (moves ≡ k % 2 ^ 64))
-CircuitTells m N E K (Full k) = RunFits (net_of m) N E → ⊥
-CircuitTells m N E K (Odd k) = ⊥
-CircuitTells m N E K Waits = Beyond (net_of m) K
+-- what it tells of the program: a value that it means, after as many edges as its net is long; or that the cells or the forks are too few
+-- for so many moves; or that its net is longer than so many edges, or has no length
+abbrev pub CircuitTells : TermTree → (cells forks K : ℕ) → Outcome → Type 0
+CircuitTells m cells forks K (Ended v moves k) = Means m v × (Length (net_of m) v k × (moves ≡ k % 2 ^ 64))
+CircuitTells m cells forks K (Full k) = CellsFit (net_of m) (sizes_of (net_of m) cells forks) k → ⊥
+CircuitTells m cells forks K (Odd k) = ⊥
+CircuitTells m cells forks K Waits = Beyond (net_of m) K
 
--- and so it does of every program, of whatever sizes
+-- and so it does of every program, with whatever cells and forks, where its wires are few and their types and depths within the lists
 abbrev pub ProgramRuns : Type 0
-ProgramRuns = OfEveryProgram (λ m. (N E : ℕ) → Sizes N E → FewWires (net_of m) → (K : ℕ) (o : Outcome) →
-    Comes (net_of m) N E K o → CircuitTells m N E K o)
+ProgramRuns = OfEveryProgram (λ m. (cells forks : ℕ) → cells ≤ 1048575 → 0 < forks → forks < 2 ^ 31 → FewWires (net_of m) →
+    InLists (net_of m) → (K : ℕ) (o : Outcome) → Comes (net_of m) cells forks K o → CircuitTells m cells forks K o)

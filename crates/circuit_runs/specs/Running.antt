@@ -5,8 +5,8 @@ use Rattle.net_build.specs.Nets.{NetTree}
 use Rattle.pcf_values.specs.declared.val.Val.{Val}
 use Rattle.verilog_tree.specs.Tree.{Item}
 use Rattle.verilog_tree.specs.Meaning.{Store, edge, set_vec}
-use Rattle.circuit_module.specs.Module.{module_of}
 use Rattle.circuit_module.specs.Stands.{Small, value_number}
+use Rattle.cell_module.specs.Sizes.{circuit_of}
 use Rattle.verilog_run.specs.Held.{nothing}
 use Rattle.circuit_runs.specs.declared.outcome.Outcome.{Outcome}
 use Rattle.circuit_runs.specs.declared.outcome.Outcome.TheVariants.{Ended, Full, Odd, Waits}
@@ -54,6 +54,6 @@ ComesOf is K (Ended v m j) = ComesAt is K (Ended v m j)
 ComesOf is K (Full j) = ComesAt is K (Full j)
 ComesOf is K (Odd j) = ComesAt is K (Odd j)
 
--- and of a net's module, with stacks of N bits and E forks
-abbrev pub Comes : NetTree → (N E K : ℕ) → Outcome → Type 0
-Comes net N E K o = ComesOf (module_of net N E) K o
+-- and of a net's circuit, with so many cells and forks
+abbrev pub Comes : NetTree → (cells forks K : ℕ) → Outcome → Type 0
+Comes net cells forks K o = ComesOf (circuit_of net cells forks) K o

@@ -1,7 +1,7 @@
 //! Runs the module of a net's circuit by the meaning of Verilog.
 //!
 //! `run_circuit` makes the module as a tree (`circuit_tree`), resets it, and makes edges (`verilog_run`) until it says `done` or `full`, or
-//! until there were as many as are allowed. What it answers is what `module_edges` says of the module's registers
+//! until there were as many as are allowed. What it answers is what the module's registers say
 //! (`specs/Running.antt`), and for the net of a program it tells what the program means (`law_program_runs`).
 #![tactic(auto)]
 

@@ -1,7 +1,7 @@
 //! A run of a net's module.
 
 ghost use Rattle.std.specs.Prelude.{◌≡◌, ◌<◌, ◌≤◌, ◌^◌, ℕ, IfOk, OnOk, IfSome, IfNone, map, nat_eq};
-ghost use Rattle.circuit_module.specs.Module.{module_of};
+ghost use Rattle.cell_module.specs.Sizes.{circuit_of};
 ghost use Rattle.circuit_module.specs.Stands.{Small, value_number};
 ghost use Rattle.circuit_runs.specs.Running.{after, Comes, ComesOf, Goes, IsDone, Shows, ShowsLast};
 ghost use Rattle.verilog_tree.specs.Meaning.{edge as edge_of, set_vec};
@@ -147,7 +147,7 @@ fn run_items<'a>(alloc: Global, items: &'a [Item<'a>], cycles: u64) -> Result<Ou
     told
 }
 
-/// What a run of a net's circuit comes to, with stacks of so many bits and so many forks, within so many edges after its reset.
+/// What a run of a net's circuit comes to, with so many cells and forks, within so many edges after its reset.
 ///
 /// # Errors
 ///
@@ -155,14 +155,14 @@ fn run_items<'a>(alloc: Global, items: &'a [Item<'a>], cycles: u64) -> Result<Ou
 pub fn run_circuit(
     alloc: Global,
     net: &Net,
-    stack: u32,
+    cells: u32,
     forks: u32,
     cycles: u64,
 ) -> Result<Outcome, AllocError>
-    ensures { IfOk result (λ o. Comes net.now stack forks cycles o) }
+    ensures { IfOk result (λ o. Comes net.now cells forks cycles o) }
 {
     let bump = Bump::new(alloc);
-    let items = circuit_items(alloc, &bump, net, stack, forks)?;
+    let items = circuit_items(alloc, &bump, net, cells, forks)?;
     let told = run_items(alloc, items, cycles)?;
     Ok(told)
 }

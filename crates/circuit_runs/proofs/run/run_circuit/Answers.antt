@@ -5,5 +5,5 @@ use Rattle.circuit_runs.proofs.run.run_circuit.Goals as goal
 
 pub returns : goal.returns
 returns c =
-    comes_of c.args.net.now c.args.stack c.args.forks c.args.cycles (map item_of c.in_ok-items.items.now) c.in_ok-told.told
+    comes_of c.args.net.now c.args.cells c.args.forks c.args.cycles (map item_of c.in_ok-items.items.now) c.in_ok-told.told
     c.in_ok-items.ensures c.in_ok-told.ensures
