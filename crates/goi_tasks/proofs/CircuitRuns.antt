@@ -10,10 +10,10 @@ use Rattle.pcf_types.specs.Correct.{KeepsSize}
 use Rattle.net_build.specs.Nets.{NetTree}
 use Rattle.net_build.specs.NetOf.{net_of}
 use Rattle.net_build.specs.Laws.{NetSize}
-use Rattle.module_edges.specs.Laws.{Sizes}
-use Rattle.module_means.specs.Laws.{FewWires}
+use Rattle.circuit_module.specs.InRange.{FewWires}
+use Rattle.circuit_lists.specs.Laws.{TextInLists}
 use Rattle.verilog_tree.specs.Tree.{Item}
-use Rattle.circuit_module.specs.Module.{module_of}
+use Rattle.cell_module.specs.Sizes.{circuit_of}
 use Rattle.circuit_runs.specs.declared.outcome.Outcome.{Outcome}
 use Rattle.circuit_runs.specs.declared.outcome.Outcome.TheVariants.{Ended, Full, Odd, Waits}
 use Rattle.circuit_runs.specs.Running.{after, Comes, ComesAt}
@@ -21,20 +21,11 @@ use Rattle.circuit_runs.specs.Laws.{CircuitTells, ProgramRuns}
 use Rattle.program_runs.specs.declared.calling.Calling.TheVariants.{ByName}
 use Rattle.program_runs.specs.Nets.{IsNetFor}
 use Rattle.program_runs.specs.Programs.{number, IsProgram, OfProgram}
-use Rattle.goi_jobs.specs.Ranges.{IsStack, IsForks}
+use Rattle.goi_jobs.specs.Ranges.{IsCells, IsForks}
 use Rattle.goi_tasks.specs.Circuits.{IsTold, ReportsCircuit, answer_of}
 use Rattle.goi_tasks.specs.Outputs.{Output}
 use Rattle.goi_tasks.specs.Parts.{IsCircuitRun}
 use Rattle.goi_tasks.specs.Replaying.{replay_status}
-
--- sizes that can be asked for are those of a module
-sizes_of : (stack forks : ℕ) → IsStack stack → IsForks forks → Sizes stack forks
-sizes_of stack forks s e = record {
-  some = omega (arith, e.0);
-  few = omega (arith, e.1);
-  place = omega (arith, s.0);
-  long = omega (arith, s.1);
-}
 
 -- the net of a program that can be read has few wires
 few_of_size : NetSize → (t : TermTree) → size t ≤ 32768 → height t ≤ 2504 → FewWires (net_of t)
@@ -52,13 +43,14 @@ few_of_text bounded keeps bound bytes tree t A is =
     few_of_size bound t (omega (arith, b.1, k.0)) (omega (arith, b.2, k.1))
 
 -- what comes of the net's module tells what the program means
-pub reports_circuit : ProgramRuns → Bounded → KeepsSize → NetSize → (bytes : List ℕ) (net : NetTree) (stack forks budget : ℕ) →
-    (waves : Bool) → IsStack stack → IsForks forks → IsNetFor ByName bytes net → (o : Output) →
-    IsCircuitRun net stack forks budget waves o →
-    OfProgram number bytes (λ tree t A. ReportsCircuit stack forks budget waves t o)
-reports_circuit runs bounded keeps bound bytes net stack forks budget waves s e is o run =
-    let comes = subst (λ (n : NetTree). Comes n stack forks budget run.outcome) is.so.net_is run.comes in
+pub reports_circuit : ProgramRuns → Bounded → KeepsSize → NetSize → TextInLists → (bytes : List ℕ) (net : NetTree) →
+    (cells forks budget : ℕ) (waves : Bool) → IsCells cells → IsForks forks → IsNetFor ByName bytes net → (o : Output) →
+    IsCircuitRun net cells forks budget waves o →
+    OfProgram number bytes (λ tree t A. ReportsCircuit cells forks budget waves t o)
+reports_circuit runs bounded keeps bound lists bytes net cells forks budget waves c e is o run =
+    let comes = subst (λ (n : NetTree). Comes n cells forks budget run.outcome) is.so.net_is run.comes in
     let few = few_of_text bounded keeps bound bytes is.tree is.term is.type is.is in
+    let within = lists bytes is.tree is.term is.type is.is.text is.is.typed in
     record {
       tree = is.tree;
       term = is.term;
@@ -67,9 +59,9 @@ reports_circuit runs bounded keeps bound bytes net stack forks budget waves s e 
       so = record {
         outcome = run.outcome;
         comes = comes;
-        tells = runs is.term is.so.typed stack forks (sizes_of stack forks s e) few budget run.outcome comes;
+        tells = runs is.term is.so.typed cells forks c.1 (omega (arith, e.0)) (omega (arith, e.1)) few within budget run.outcome comes;
         ends = run.ends;
-        told = subst (λ (n : NetTree). IsTold waves (module_of n stack forks) budget run.outcome o.report) is.so.net_is run.told;
+        told = subst (λ (n : NetTree). IsTold waves (circuit_of n cells forks) budget run.outcome o.report) is.so.net_is run.told;
         no_notes = run.no_notes;
       };
     }
@@ -86,21 +78,21 @@ not_full items most v moves j i x y =
     (cases_lt x.0 y.0)
 
 -- the run of a program's circuit ends with one status
-pub one_circuit_end : (t : TermTree) (stack forks most : ℕ) (a b : Outcome) → Comes (net_of t) stack forks most a →
-    CircuitTells t stack forks most a → Comes (net_of t) stack forks most b → CircuitTells t stack forks most b →
+pub one_circuit_end : (t : TermTree) (cells forks most : ℕ) (a b : Outcome) → Comes (net_of t) cells forks most a →
+    CircuitTells t cells forks most a → Comes (net_of t) cells forks most b → CircuitTells t cells forks most b →
     replay_status (answer_of a) ≡ replay_status (answer_of b)
-one_circuit_end t stack forks most (Ended v m j) (Ended u n i) comes tells came told = refl
-one_circuit_end t stack forks most (Ended v m j) (Full i) comes tells came told =
-    absurd (not_full (module_of (net_of t) stack forks) most v m j i comes came)
-one_circuit_end t stack forks most (Ended v m j) (Odd i) comes tells came told = absurd told
-one_circuit_end t stack forks most (Ended v m j) Waits comes tells came told = absurd (comes.3.1.0 (came comes.0 comes.1).0)
-one_circuit_end t stack forks most (Full i) (Ended v m j) comes tells came told =
-    absurd (not_full (module_of (net_of t) stack forks) most v m j i came comes)
-one_circuit_end t stack forks most (Full j) (Full i) comes tells came told = refl
-one_circuit_end t stack forks most (Full j) (Odd i) comes tells came told = refl
-one_circuit_end t stack forks most (Full j) Waits comes tells came told = refl
-one_circuit_end t stack forks most (Odd j) b comes tells came told = absurd tells
-one_circuit_end t stack forks most Waits (Ended v m j) comes tells came told = absurd (came.3.1.0 (comes came.0 came.1).0)
-one_circuit_end t stack forks most Waits (Full i) comes tells came told = refl
-one_circuit_end t stack forks most Waits (Odd i) comes tells came told = absurd told
-one_circuit_end t stack forks most Waits Waits comes tells came told = refl
+one_circuit_end t cells forks most (Ended v m j) (Ended u n i) comes tells came told = refl
+one_circuit_end t cells forks most (Ended v m j) (Full i) comes tells came told =
+    absurd (not_full (circuit_of (net_of t) cells forks) most v m j i comes came)
+one_circuit_end t cells forks most (Ended v m j) (Odd i) comes tells came told = absurd told
+one_circuit_end t cells forks most (Ended v m j) Waits comes tells came told = absurd (comes.3.1.0 (came comes.0 comes.1).0)
+one_circuit_end t cells forks most (Full i) (Ended v m j) comes tells came told =
+    absurd (not_full (circuit_of (net_of t) cells forks) most v m j i came comes)
+one_circuit_end t cells forks most (Full j) (Full i) comes tells came told = refl
+one_circuit_end t cells forks most (Full j) (Odd i) comes tells came told = refl
+one_circuit_end t cells forks most (Full j) Waits comes tells came told = refl
+one_circuit_end t cells forks most (Odd j) b comes tells came told = absurd tells
+one_circuit_end t cells forks most Waits (Ended v m j) comes tells came told = absurd (came.3.1.0 (comes came.0 came.1).0)
+one_circuit_end t cells forks most Waits (Full i) comes tells came told = refl
+one_circuit_end t cells forks most Waits (Odd i) comes tells came told = absurd told
+one_circuit_end t cells forks most Waits Waits comes tells came told = refl

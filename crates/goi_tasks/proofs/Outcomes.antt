@@ -105,8 +105,8 @@ pub text_status : (workers : ℕ) (task : Task) (bytes : List ℕ) (o : Output) 
 text_status workers (Run budget calling shown) bytes o h = run_status h.so.answer o.status h.so.ends
 text_status workers (Check term) bytes o h = inl (ap (λ (x : Output). x.status) h.so)
 text_status workers ShowNet bytes o h = inl (ap (λ (x : Output). x.status) h.so)
-text_status workers (Circuit stack forks) bytes o h = inl (ap (λ (x : Output). x.status) h.so)
-text_status workers (RunCircuit stack forks budget waves) bytes o h =
+text_status workers (Circuit cells forks) bytes o h = inl (ap (λ (x : Output). x.status) h.so)
+text_status workers (RunCircuit cells forks budget waves) bytes o h =
     run_status (answer_of h.so.outcome) o.status h.so.ends
 text_status workers (Span budget calling profile schedule) bytes o h = run_status h.so.answer o.status h.so.ends
 text_status workers (Steps budget window) bytes o h =
@@ -196,13 +196,13 @@ module _ (known : Known) where
       (report_ends (meaning calling h.term) (net_run calling h.term) workers budget shown o h.so)) k.so
   text_end workers (Check term) bytes o own h k = ap (λ (x : Output). x.status) h.so ∙ sym k.so
   text_end workers ShowNet bytes o own h k = ap (λ (x : Output). x.status) h.so ∙ sym k.so
-  text_end workers (Circuit stack forks) bytes o own h k = ap (λ (x : Output). x.status) h.so ∙ sym k.so
-  text_end workers (RunCircuit stack forks budget waves) bytes o own h k =
+  text_end workers (Circuit cells forks) bytes o own h k = ap (λ (x : Output). x.status) h.so ∙ sym k.so
+  text_end workers (RunCircuit cells forks budget waves) bytes o own h k =
       let e : h.term ≡ k.term = same_program known.one_program number bytes _ _ h k in
       h.so.ends
-      ∙ one_circuit_end k.term stack forks budget h.so.outcome k.so.outcome
-      (subst (λ (t : TermTree). Comes (net_of t) stack forks budget h.so.outcome) e h.so.comes)
-      (subst (λ (t : TermTree). CircuitTells t stack forks budget h.so.outcome) e h.so.tells) k.so.comes k.so.tells
+      ∙ one_circuit_end k.term cells forks budget h.so.outcome k.so.outcome
+      (subst (λ (t : TermTree). Comes (net_of t) cells forks budget h.so.outcome) e h.so.comes)
+      (subst (λ (t : TermTree). CircuitTells t cells forks budget h.so.outcome) e h.so.tells) k.so.comes k.so.tells
       ∙ sym k.so.ends
   text_end workers (Span budget calling profile schedule) bytes o own h k =
       let e : h.term ≡ k.term = same_program known.one_program (wanted_by_run calling) bytes _ _ h k in
@@ -231,8 +231,8 @@ module _ (known : Known) where
       text_sound known.one_program (wanted_by_run calling) bytes h.tree h.term h.type f h.is k
   report_sound workers (Check term) bytes o f h k = text_sound known.one_program any_type bytes h.tree h.term h.type f h.is k
   report_sound workers ShowNet bytes o f h k = text_sound known.one_program number bytes h.tree h.term h.type f h.is k
-  report_sound workers (Circuit stack forks) bytes o f h k = text_sound known.one_program number bytes h.tree h.term h.type f h.is k
-  report_sound workers (RunCircuit stack forks budget waves) bytes o f h k =
+  report_sound workers (Circuit cells forks) bytes o f h k = text_sound known.one_program number bytes h.tree h.term h.type f h.is k
+  report_sound workers (RunCircuit cells forks budget waves) bytes o f h k =
       text_sound known.one_program number bytes h.tree h.term h.type f h.is k
   report_sound workers (Span budget calling profile schedule) bytes o f h k =
       text_sound known.one_program (wanted_by_run calling) bytes h.tree h.term h.type f h.is k
@@ -247,8 +247,8 @@ module _ (known : Known) where
       text_sound known.one_program (wanted_by_run calling) bytes h.tree h.term h.type f h.is k
   end_sound (Check term) bytes own f h k = text_sound known.one_program any_type bytes h.tree h.term h.type f h.is k
   end_sound ShowNet bytes own f h k = text_sound known.one_program number bytes h.tree h.term h.type f h.is k
-  end_sound (Circuit stack forks) bytes own f h k = text_sound known.one_program number bytes h.tree h.term h.type f h.is k
-  end_sound (RunCircuit stack forks budget waves) bytes own f h k =
+  end_sound (Circuit cells forks) bytes own f h k = text_sound known.one_program number bytes h.tree h.term h.type f h.is k
+  end_sound (RunCircuit cells forks budget waves) bytes own f h k =
       text_sound known.one_program number bytes h.tree h.term h.type f h.is k
   end_sound (Span budget calling profile schedule) bytes own f h k =
       text_sound known.one_program (wanted_by_run calling) bytes h.tree h.term h.type f h.is k
@@ -262,8 +262,8 @@ module _ (known : Known) where
   one_fault_for (Run budget calling shown) bytes f g h k = one_text_fault (wanted_by_run calling) bytes f g h k
   one_fault_for (Check term) bytes f g h k = one_text_fault any_type bytes f g h k
   one_fault_for ShowNet bytes f g h k = one_text_fault number bytes f g h k
-  one_fault_for (Circuit stack forks) bytes f g h k = one_text_fault number bytes f g h k
-  one_fault_for (RunCircuit stack forks budget waves) bytes f g h k = one_text_fault number bytes f g h k
+  one_fault_for (Circuit cells forks) bytes f g h k = one_text_fault number bytes f g h k
+  one_fault_for (RunCircuit cells forks budget waves) bytes f g h k = one_text_fault number bytes f g h k
   one_fault_for (Span budget calling profile schedule) bytes f g h k = one_text_fault (wanted_by_run calling) bytes f g h k
   one_fault_for (Steps budget window) bytes f g h k = one_text_fault number bytes f g h k
   one_fault_for (RunNet budget shown) bytes f g h k = one_listing_fault bytes f g h k

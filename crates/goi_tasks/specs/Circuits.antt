@@ -6,7 +6,7 @@ use Rattle.pcf_values.specs.Terms.{TermTree}
 use Rattle.net_build.specs.NetOf.{net_of}
 use Rattle.verilog_tree.specs.Tree.{Item}
 use Rattle.verilog_waves.specs.Dump.{dump}
-use Rattle.circuit_module.specs.Module.{module_of}
+use Rattle.cell_module.specs.Sizes.{circuit_of}
 use Rattle.circuit_runs.specs.declared.outcome.Outcome.{Outcome}
 use Rattle.circuit_runs.specs.declared.outcome.Outcome.TheVariants.{Ended, Full, Odd, Waits}
 use Rattle.circuit_runs.specs.Running.{Comes}
@@ -23,7 +23,7 @@ answer_of (Full k) = None
 answer_of (Odd k) = None
 answer_of Waits = None
 
--- it ended since a stack or the forks were too small
+-- it ended since the cells or the forks were too few
 abbrev pub is_full : Outcome → Bool
 is_full (Ended v moves k) = false
 is_full (Full k) = true
@@ -35,19 +35,19 @@ abbrev pub IsTold : Bool → List Item → ℕ → Outcome → List ℕ → Type
 IsTold false items most outcome text = text ≡ cycles_report (answer_of outcome) (edges_of most outcome) (is_full outcome)
 IsTold true items most outcome text = text ≡ dump "goi" items (suc (edges_of most outcome))
 
--- The output of the run of a program's circuit, with stacks of so many bits and so many forks, within so many cycles. What comes of the
+-- The output of the run of a program's circuit, with so many cells and forks, within so many cycles. What comes of the
 -- module is what comes of it by the meaning of Verilog, and it tells what the program means.
-pub record ReportsCircuit (stack forks budget : ℕ) (waves : Bool) (t : TermTree) (o : Output) : Type 0 where
+pub record ReportsCircuit (cells forks budget : ℕ) (waves : Bool) (t : TermTree) (o : Output) : Type 0 where
   pub outcome : Outcome
-  pub comes : Comes (net_of t) stack forks budget outcome
-  pub tells : CircuitTells t stack forks budget outcome
+  pub comes : Comes (net_of t) cells forks budget outcome
+  pub tells : CircuitTells t cells forks budget outcome
   pub ends : o.status ≡ replay_status (answer_of outcome)
-  pub told : IsTold waves (module_of (net_of t) stack forks) budget outcome o.report
+  pub told : IsTold waves (circuit_of (net_of t) cells forks) budget outcome o.report
   pub no_notes : o.notes ≡ []
 
 -- such a run ends with this status
-pub record EndsCircuit (stack forks budget : ℕ) (t : TermTree) (status : ℕ) : Type 0 where
+pub record EndsCircuit (cells forks budget : ℕ) (t : TermTree) (status : ℕ) : Type 0 where
   pub outcome : Outcome
-  pub comes : Comes (net_of t) stack forks budget outcome
-  pub tells : CircuitTells t stack forks budget outcome
+  pub comes : Comes (net_of t) cells forks budget outcome
+  pub tells : CircuitTells t cells forks budget outcome
   pub ends : status ≡ replay_status (answer_of outcome)

@@ -10,7 +10,7 @@ use Rattle.pcf_types.specs.Checking.{type_of}
 use Rattle.goi_jobs.specs.declared.window.Window.{Window}
 use Rattle.circuit_runs.specs.declared.outcome.Outcome.{Outcome}
 use Rattle.circuit_runs.specs.Running.{Comes}
-use Rattle.circuit_module.specs.Module.{module_of}
+use Rattle.cell_module.specs.Sizes.{circuit_of}
 use Rattle.goi_tasks.specs.Circuits.{IsTold, answer_of}
 use Rattle.goi_tasks.specs.Outputs.{Output}
 use Rattle.goi_tasks.specs.Reductions.{ReportsSteps}
@@ -30,11 +30,11 @@ pub record IsListedNet (bytes : List ℕ) (net : NetTree) : Type 0 where
   pub runs : RunsAs ByName term net
 
 -- this is the output of the run of the net's circuit
-pub record IsCircuitRun (net : NetTree) (stack forks budget : ℕ) (waves : Bool) (o : Output) : Type 0 where
+pub record IsCircuitRun (net : NetTree) (cells forks budget : ℕ) (waves : Bool) (o : Output) : Type 0 where
   pub outcome : Outcome
-  pub comes : Comes net stack forks budget outcome
+  pub comes : Comes net cells forks budget outcome
   pub ends : o.status ≡ replay_status (answer_of outcome)
-  pub told : IsTold waves (module_of net stack forks) budget outcome o.report
+  pub told : IsTold waves (circuit_of net cells forks) budget outcome o.report
   pub no_notes : o.notes ≡ []
 
 -- the tree is a program of type `nat`, and this is the output of its reduction

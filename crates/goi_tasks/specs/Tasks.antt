@@ -44,10 +44,10 @@ ReportsText workers ShowNet bytes o = OfProgram number bytes (λ tree t A. o ≡
 ReportsText workers (RunNet budget shown) bytes o = OfListing bytes (λ t. ReportsRun workers budget ByName shown t o)
 ReportsText workers (Trace budget calling window) bytes o =
     OfProgram (wanted_by_run calling) bytes (λ tree t A. ReportsTrace workers budget calling window t o)
-ReportsText workers (Circuit stack forks) bytes o =
-    OfProgram number bytes (λ tree t A. o ≡ output 0 (circuit_text (net_of t) stack forks) [])
-ReportsText workers (RunCircuit stack forks budget waves) bytes o =
-    OfProgram number bytes (λ tree t A. ReportsCircuit stack forks budget waves t o)
+ReportsText workers (Circuit cells forks) bytes o =
+    OfProgram number bytes (λ tree t A. o ≡ output 0 (circuit_text (net_of t) cells forks) [])
+ReportsText workers (RunCircuit cells forks budget waves) bytes o =
+    OfProgram number bytes (λ tree t A. ReportsCircuit cells forks budget waves t o)
 ReportsText workers (Span budget calling profile schedule) bytes o =
     OfProgram (wanted_by_run calling) bytes (λ tree t A. ReportsSpan budget calling profile schedule t o)
 ReportsText workers (Steps budget window) bytes o = OfProgram number bytes (λ tree t A. ReportsSteps budget window tree t o)
@@ -59,8 +59,8 @@ FaultyFor (Check term) bytes f = FaultyText any_type bytes f
 FaultyFor ShowNet bytes f = FaultyText number bytes f
 FaultyFor (RunNet budget shown) bytes f = FaultyListing bytes f
 FaultyFor (Trace budget calling window) bytes f = FaultyText (wanted_by_run calling) bytes f
-FaultyFor (Circuit stack forks) bytes f = FaultyText number bytes f
-FaultyFor (RunCircuit stack forks budget waves) bytes f = FaultyText number bytes f
+FaultyFor (Circuit cells forks) bytes f = FaultyText number bytes f
+FaultyFor (RunCircuit cells forks budget waves) bytes f = FaultyText number bytes f
 FaultyFor (Span budget calling profile schedule) bytes f = FaultyText (wanted_by_run calling) bytes f
 FaultyFor (Steps budget window) bytes f = FaultyText number bytes f
 
@@ -73,9 +73,9 @@ EndsText ShowNet bytes status = OfProgram number bytes (λ tree t A. status ≡ 
 EndsText (RunNet budget shown) bytes status = OfListing bytes (λ t. EndsRun budget (net_of t) status)
 EndsText (Trace budget calling window) bytes status =
     OfProgram (wanted_by_run calling) bytes (λ tree t A. EndsRun budget (net_run calling t) status)
-EndsText (Circuit stack forks) bytes status = OfProgram number bytes (λ tree t A. status ≡ 0)
-EndsText (RunCircuit stack forks budget waves) bytes status =
-    OfProgram number bytes (λ tree t A. EndsCircuit stack forks budget t status)
+EndsText (Circuit cells forks) bytes status = OfProgram number bytes (λ tree t A. status ≡ 0)
+EndsText (RunCircuit cells forks budget waves) bytes status =
+    OfProgram number bytes (λ tree t A. EndsCircuit cells forks budget t status)
 EndsText (Span budget calling profile schedule) bytes status =
     OfProgram (wanted_by_run calling) bytes (λ tree t A. EndsRun budget (net_run calling t) status)
 EndsText (Steps budget window) bytes status =
@@ -88,7 +88,7 @@ most_bytes (Check term) = most_program_bytes
 most_bytes ShowNet = most_program_bytes
 most_bytes (RunNet budget shown) = most_text_bytes
 most_bytes (Trace budget calling window) = most_program_bytes
-most_bytes (Circuit stack forks) = most_program_bytes
-most_bytes (RunCircuit stack forks budget waves) = most_program_bytes
+most_bytes (Circuit cells forks) = most_program_bytes
+most_bytes (RunCircuit cells forks budget waves) = most_program_bytes
 most_bytes (Span budget calling profile schedule) = most_program_bytes
 most_bytes (Steps budget window) = most_program_bytes

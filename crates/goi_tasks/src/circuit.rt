@@ -14,18 +14,18 @@ use circuit_text::print_circuit;
 use program_runs::{Calling, net_for};
 use std::alloc::Global;
 
-/// The circuit of the net of a text's program, whose type is `nat`, with stacks of so many bits and so many forks.
+/// The circuit of the net of a text's program, whose type is `nat`, with so many cells and forks.
 pub(crate) fn report_circuit(
     alloc: Global,
     bytes: &[u8],
-    stack: u32,
+    cells: u32,
     forks: u32,
 ) -> Result<Report, Stop>
-    ensures report { IfOk result (λ r. (workers : ℕ) → ReportsText workers (Circuit stack forks) bytes.now (output_of r)) }
+    ensures report { IfOk result (λ r. (workers : ℕ) → ReportsText workers (Circuit cells forks) bytes.now (output_of r)) }
     ensures fault { IfErr result (λ e. StopsFor (FaultyText number bytes.now) e) }
 {
     let net = net_for(alloc, bytes, Calling::ByName)?;
-    let text = print_circuit(alloc, &net, stack, forks);
+    let text = print_circuit(alloc, &net, cells, forks);
     drop(net);
     Ok(plain(alloc, text?, 0))
 }

@@ -1,11 +1,11 @@
 //! The run of a program's circuit.
 
 ghost use Rattle.std.specs.Prelude.{◌≡◌, ◌++◌, ℕ, suc, IfOk, IfErr, OnOk};
-ghost use Rattle.circuit_module.specs.Module.{module_of};
+ghost use Rattle.cell_module.specs.Sizes.{circuit_of};
 ghost use Rattle.circuit_runs.specs.Running.{Comes};
 ghost use Rattle.circuit_waves.specs.Laws.{edges_of};
 ghost use Rattle.verilog_waves.specs.Dump.{dump};
-ghost use Rattle.goi_jobs.specs.Ranges.{IsForks, IsStack};
+ghost use Rattle.goi_jobs.specs.Ranges.{IsCells, IsForks};
 ghost use Rattle.goi_jobs.specs.declared.task.Task.TheVariants.{RunCircuit};
 ghost use Rattle.goi_tasks.specs.Circuits.{IsTold, answer_of, is_full};
 ghost use Rattle.goi_tasks.specs.Parts.{IsCircuitRun};
@@ -18,6 +18,7 @@ ghost use Rattle.program_runs.specs.Programs.{number};
 use crate::report::{Report, plain};
 use crate::running::status_of;
 use crate::stop::Stop;
+use circuit_lists::law_lists;
 use circuit_runs::{Outcome, law_program_runs, run_circuit};
 use circuit_waves::{law_same_end, push_circuit_waves};
 use goi_reports::cycles_report;
@@ -31,8 +32,8 @@ use std::alloc::{AllocError, Global};
 /// Which circuit of a program runs, for how long, and what is told of it.
 #[derive(Clone, Copy)]
 pub(crate) struct CircuitRun {
-    /// How many bits each stack has.
-    pub stack: u32,
+    /// How many cells it has.
+    pub cells: u32,
     /// How many forks can be open at once.
     pub forks: u32,
     /// The most cycles.
@@ -47,16 +48,17 @@ pub(crate) fn report_circuit_run(
     bytes: &[u8],
     run: CircuitRun,
 ) -> Result<Report, Stop>
-    requires stack { IsStack run.stack }
+    requires cells { IsCells run.cells }
     requires forks { IsForks run.forks }
     ensures report { IfOk result (λ r. (workers : ℕ) →
-        ReportsText workers (RunCircuit run.stack run.forks run.budget run.waves) bytes.now (output_of r)) }
+        ReportsText workers (RunCircuit run.cells run.forks run.budget run.waves) bytes.now (output_of r)) }
     ensures fault { IfErr result (λ e. StopsFor (FaultyText number bytes.now) e) }
 {
     law_program_runs();
     law_bounded();
     law_keeps_size();
     law_net_size();
+    law_lists();
     let net = net_for(alloc, bytes, Calling::ByName)?;
     let report = report_net_run(alloc, &net, run);
     drop(net);
@@ -65,9 +67,9 @@ pub(crate) fn report_circuit_run(
 
 /// What the run of a net's circuit comes to.
 fn report_net_run(alloc: Global, net: &Net, run: CircuitRun) -> Result<Report, AllocError>
-    ensures { IfOk result (λ r. IsCircuitRun net.now run.stack run.forks run.budget run.waves (output_of r)) }
+    ensures { IfOk result (λ r. IsCircuitRun net.now run.cells run.forks run.budget run.waves (output_of r)) }
 {
-    let told = run_circuit(alloc, net, run.stack, run.forks, run.budget.into())?;
+    let told = run_circuit(alloc, net, run.cells, run.forks, run.budget.into())?;
     let text = told_text(alloc, net, run, told)?;
     Ok(plain(alloc, text, status_of(answer_of(told))))
 }
@@ -79,8 +81,8 @@ fn told_text(
     run: CircuitRun,
     told: Outcome,
 ) -> Result<Vec<u8>, AllocError>
-    requires { Comes net.now run.stack run.forks run.budget told }
-    ensures { IfOk result (λ v. IsTold run.waves (module_of net.now run.stack run.forks) run.budget told v.items) }
+    requires { Comes net.now run.cells run.forks run.budget told }
+    ensures { IfOk result (λ v. IsTold run.waves (circuit_of net.now run.cells run.forks) run.budget told v.items) }
 {
     if run.waves {
         waves_text(alloc, net, run, told)
@@ -101,8 +103,8 @@ fn waves_text(
     run: CircuitRun,
     told: Outcome,
 ) -> Result<Vec<u8>, AllocError>
-    requires { Comes net.now run.stack run.forks run.budget told }
-    ensures { IfOk result (λ v. v.items ≡ dump "goi" (module_of net.now run.stack run.forks) (suc (edges_of run.budget told))) }
+    requires { Comes net.now run.cells run.forks run.budget told }
+    ensures { IfOk result (λ v. v.items ≡ dump "goi" (circuit_of net.now run.cells run.forks) (suc (edges_of run.budget told))) }
 {
     let mut text = Vec::new(alloc);
     push_waves(alloc, &mut text, net, run, told)?;
@@ -117,12 +119,12 @@ fn push_waves(
     run: CircuitRun,
     told: Outcome,
 ) -> Result<(), AllocError>
-    requires { Comes net.now run.stack run.forks run.budget told }
+    requires { Comes net.now run.cells run.forks run.budget told }
     ensures { OnOk result (text.new.items ≡ text.old.items
-        ++ dump "goi" (module_of net.now run.stack run.forks) (suc (edges_of run.budget told))) }
+        ++ dump "goi" (circuit_of net.now run.cells run.forks) (suc (edges_of run.budget told))) }
 {
     law_same_end();
-    push_circuit_waves(alloc, text, net, run.stack, run.forks, run.budget.into())?;
+    push_circuit_waves(alloc, text, net, run.cells, run.forks, run.budget.into())?;
     Ok(())
 }
 
@@ -146,7 +148,7 @@ fn edges_of(most: u32, told: Outcome) -> u64
     }
 }
 
-/// Whether it ended since a stack or the forks were too small.
+/// Whether it ended since the cells or the forks were too few.
 fn is_full(told: Outcome) -> bool
     ensures { result ≡ is_full told }
 {

@@ -52,9 +52,9 @@ pub fn report_text<C: Crew>(
         } => report_program(alloc, bytes, budget, calling, shown, crew),
         Task::Check { term } => report_check(alloc, bytes, term),
         Task::ShowNet => report_net(alloc, bytes),
-        Task::Circuit { stack, forks } => report_circuit(alloc, bytes, stack, forks),
+        Task::Circuit { cells, forks } => report_circuit(alloc, bytes, cells, forks),
         Task::RunCircuit {
-            stack,
+            cells,
             forks,
             budget,
             waves,
@@ -62,7 +62,7 @@ pub fn report_text<C: Crew>(
             alloc,
             bytes,
             CircuitRun {
-                stack,
+                cells,
                 forks,
                 budget,
                 waves,

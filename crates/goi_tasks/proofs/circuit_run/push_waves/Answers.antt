@@ -1,12 +1,12 @@
 use Rattle.std.proofs.Common.{ap, subst, ◌∙◌, ◌++◌, sym, suc, ℕ}
-use Rattle.circuit_module.specs.Module.{module_of}
+use Rattle.cell_module.specs.Sizes.{circuit_of}
 use Rattle.verilog_waves.specs.Course.{IsLast}
 use Rattle.verilog_waves.specs.Dump.{dump}
 use Rattle.goi_tasks.proofs.circuit_run.push_waves.Goals as goal
 
 pub returns : goal.returns
 returns c =
-    let items = module_of c.args.net.now c.args.run.stack c.args.run.forks in
+    let items = circuit_of c.args.net.now c.args.run.cells c.args.run.forks in
     let k = c.in_ok-push_circuit_waves.field-0 in
     let last = subst (λ (most : ℕ). IsLast items most k) c.into.ensures c.in_ok-push_circuit_waves.ensures.last in
     c.in_ok-push_circuit_waves.ensures.text
