@@ -352,7 +352,7 @@ module _ (z : Sizes) (net : NetTree) (covers : Covers z net) where
       (ap (λ (B : Circuit). B.full) (sym p) ∙ full))
 
 -- so many ticks make what all but the last make, and what the last makes
-last_made : (net : NetTree) (k : ℕ) (R : Registers) → cells_from net (suc k) R ≡ cells_from net k R + makes_at net (ticks net k R).live
+pub last_made : (net : NetTree) (k : ℕ) (R : Registers) → cells_from net (suc k) R ≡ cells_from net k R + makes_at net (ticks net k R).live
 last_made net zero R = omega arith
 last_made net (suc k) R = let h = last_made net k (tick net R) in omega arith
 
