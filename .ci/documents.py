@@ -199,7 +199,7 @@ REFUSED = (
     ("run p --budget", "`--budget` wants a value behind it"),
     ("run p --budget -5", "`--budget` wants a value behind it, and `-5` is none"),
     ("run p --workers 65", "`65` is no value of `--workers`, which takes 1 to 64"),
-    ("circuit p --stack 7", "`7` is no value of `--stack`, which takes 8 to 4096"),
+    ("circuit p --cells 0", "`0` is no value of `--cells`, which takes 1 to 1048575"),
     ("trace p --from x", "`x` is no value of `--from`, which takes 0 to 10000000"),
     ("run -p", "`-p` is no option, and none is so short; a file of that name is `./-p`"),
     ("demo 13", "`13` is no number from 0 to 12"),

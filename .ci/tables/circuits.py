@@ -27,8 +27,8 @@ def cases():
     with open(os.path.join(EXAMPLES, "succ.v"), encoding="utf-8") as it:
         fixed = left_out(it.read(), table[0][1])
     case("the table shows parts of examples/succ.v", lambda: fixed is not None and len(fixed) > 200, True)
-    for (text, stack, forks), below in table:
-        words = ["goi", "circuit", "p", "--stack", stack, "--forks", forks]
+    for (text, cells, forks), below in table:
+        words = ["goi", "circuit", "p", "--cells", cells, "--forks", forks]
 
         def shown(words=words, text=plain(text), below=below):
             status, out, err = call(words, {"p": text})

@@ -33,11 +33,11 @@ def cases():
             row_of(f"{words}", words, WORDS_FILES, wanted)
     # the sizes of a circuit, where the words give them in any order, and where they give none
     for words, sizes in [
-        (["p"], ("128", "64")), (["p", "--forks", "1024", "--stack", "8"], ("8", "1024")),
-        (["--stack=4096", "p", "--forks=1"], ("4096", "1")),
+        (["p"], ("1023", "64")), (["p", "--forks", "1024", "--cells", "8"], ("8", "1024")),
+        (["--cells=1048575", "p", "--forks=1"], ("1048575", "1")),
     ]:
         parameters = lambda words=words: re.search(
-            r"localparam N = (\d+);.*\n +localparam E = (\d+);", call(["goi", "circuit", *words], WORDS_FILES)[1].decode()
+            r"localparam CELLS = (\d+);\n +localparam E = (\d+);", call(["goi", "circuit", *words], WORDS_FILES)[1].decode()
         ).groups()
         case(f"the sizes of a circuit {words}", parameters, sizes)
     # how many moves of a long run are shown where the words don't say it, and how many workers a run of a net has
