@@ -11,15 +11,13 @@ use Rattle.net_build.specs.Nets.{NetTree}
 use Rattle.net_build.specs.NetOf.{net_of}
 use Rattle.adequacy_laws.specs.Questions.{Length}
 use Rattle.adequacy_laws.specs.Finished.{Beyond}
-use Rattle.verilog_tree.specs.Tree.{Item}
 use Rattle.verilog_tree.specs.Meaning.{Store}
 use Rattle.verilog_run.specs.Held.{nothing}
-use Rattle.circuit_module.specs.InRange.{FewWires}
 use Rattle.circuit_module.specs.Stands.{Small, value_number}
 use Rattle.cell_core.specs.Circuit.{Sizes}
 use Rattle.cell_core.specs.Enough.{CellsFit, Covers}
 use Rattle.cell_module.specs.Module.{cell_module}
-use Rattle.cell_module.specs.Sizes.{InLists, SizesCover, circuit_of, sizes_of}
+use Rattle.cell_module.specs.Sizes.{SizesCover, circuit_of, sizes_of}
 use Rattle.cell_edges.specs.Laws.{CellSizes, SizesFit, cell_reset_edge}
 use Rattle.cell_steps.specs.Laws.{cell_edge, cell_edges}
 use Rattle.cell_means.specs.Means.{Ended as End, ModuleTells}
