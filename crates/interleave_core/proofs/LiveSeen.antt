@@ -136,6 +136,18 @@ module _ (m : BTreeMap ℕ Token) (f : FinMap nat_cmp TokenTree) (view : live_of
         ap (option_map token_of) (h.1 q l),
   )
 
+  -- the greatest of the one is the greatest of the other
+  pub newest_live : (r : Option ℕ) → MatchOption r ((q : ℕ) → tree.get nat_cmp m q ≡ None) (λ i. IsSome (tree.get nat_cmp m i) ×
+      ((q : ℕ) → i < q → tree.get nat_cmp m q ≡ None))
+      → MatchOption r ((q : ℕ) → finite.get f q ≡ None) (λ i. IsSome (finite.get f i) ×
+      ((q : ℕ) → i < q → finite.get f q ≡ None))
+  newest_live None h = λ q. seen_live q ∙ ap (option_map token_of) (h q)
+  newest_live (Some i) h = (
+    subst IsSome (sym (seen_live i)) (there_some (tree.get nat_cmp m i) h.0),
+    λ q l. seen_live q ∙
+        ap (option_map token_of) (h.1 q l),
+  )
+
   -- and the next is the next
   pub next_live : (a : ℕ) (r : Option ℕ) → MatchOption r ((q : ℕ) → a < q → tree.get nat_cmp m q ≡ None) (λ i. (a < i) ×
       IsSome (tree.get nat_cmp m i) × ((q : ℕ) → a < q → q < i → tree.get nat_cmp m q ≡ None))

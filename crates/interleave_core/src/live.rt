@@ -91,6 +91,17 @@ fn least_in(tokens: &Tokens) -> Option<u32>
     }
 }
 
+/// The greatest ticket that has a token.
+fn newest_in(tokens: &Tokens) -> Option<u32>
+    ensures { MatchOption result ((q : ℕ) → tree.get nat_cmp tokens.now q ≡ None) (λ i. IsSome (tree.get nat_cmp tokens.now i) ×
+        ((q : ℕ) → i < q → tree.get nat_cmp tokens.now q ≡ None)) }
+{
+    match tokens.last_key_value() {
+        Some((ticket, _)) => Some(*ticket),
+        None => None,
+    }
+}
+
 /// The least ticket above this one that has a token.
 fn next_in(tokens: &Tokens, after: u32) -> Option<u32>
     ensures { MatchOption result ((q : ℕ) → after < q → tree.get nat_cmp tokens.now q ≡ None) (λ i. (after < i) ×
@@ -215,6 +226,14 @@ impl LiveTokens {
             ((q : ℕ) → q < i → get self.now q ≡ None)) }
     {
         least_in(&self.tokens)
+    }
+
+    /// The greatest ticket that has a token, and `None` exactly where there is none. Takes no memory.
+    pub(crate) fn newest(&self) -> Option<u32>
+        ensures { MatchOption result ((q : ℕ) → get self.now q ≡ None) (λ i. IsSome (get self.now i) ×
+            ((q : ℕ) → i < q → get self.now q ≡ None)) }
+    {
+        newest_in(&self.tokens)
     }
 
     /// The least ticket above this one that has a token, and `None` exactly where there is none. Takes no memory.

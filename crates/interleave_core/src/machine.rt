@@ -19,6 +19,7 @@ ghost use Rattle.interleave_core.specs.Names.{step_name, MayTake};
 ghost use Rattle.interleave_core.specs.Adopting.{Accepts, adopted};
 ghost use Rattle.interleave_core.specs.Owning.{GoesAlone, OwnAble, StepsOwn, StandsForeign};
 ghost use Rattle.interleave_core.specs.Grafts.{Grafts};
+ghost use Rattle.interleave_core.specs.Newest.{IsNewestLive};
 ghost use Rattle.token_stacks.specs.Signatures.{Boxes};
 
 use crate::Stepped;
@@ -84,6 +85,14 @@ impl Core {
         ensures { MatchOption result (NoneLive self.now) (IsLeastLive self.now) }
     {
         self.parts.live.least()
+    }
+
+    /// The newest live ticket, and `None` exactly where no token is live. Tickets are given out in turn, so it is the greatest. Takes no
+    /// memory.
+    pub fn newest_live(&self) -> Option<u32>
+        ensures { MatchOption result (NoneLive self.now) (IsNewestLive self.now) }
+    {
+        self.parts.live.newest()
     }
 
     /// The least live ticket above the given one, and `None` exactly where there is none. Takes no memory.
