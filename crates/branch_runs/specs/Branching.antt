@@ -1,7 +1,7 @@
 -- What a branch is that was played, and how far it is played.
 -- A branch is a run of one token by itself: it, and all that it forks, move as long as each join finds the entry of a fork of its own, and
--- no answer of the whole comes. At each move the least of its live tickets moves, so that its log is settled by its token, by how many
--- moves it may make, and by whether it is plain. A plain one makes its token's solo moves alone.
+-- no answer of the whole comes. At each move the newest of its live tickets moves: it ends what it forked before it goes on. So its log is
+-- settled by its token, by how many moves it may make, and by whether it is plain. A plain one makes its token's solo moves alone.
 use Rattle.std.specs.Prelude.{◌≡◌, ◌≤◌, ◌<◌, ◌+◌, ◌-◌, ◌^◌, ◌⊎◌, ℕ, Bool, true, List, [], ◌∷◌, All, length, map}
 use Rattle.std.specs.Prelude.{replicate, Some}
 use Rattle.std.specs.FinMap.{get, insert}
@@ -10,7 +10,8 @@ use Rattle.move_rules.specs.Places.{TokenTree}
 use Rattle.move_rules.specs.Moves.{move}
 use Rattle.move_rules.specs.AtNode.{NotSolo}
 use Rattle.interleave_laws.specs.Maps.{MapState, step_map, run_map}
-use Rattle.interleave_laws.specs.Tickets.{NoneLive, IsLeastLive}
+use Rattle.interleave_laws.specs.Tickets.{NoneLive}
+use Rattle.interleave_core.specs.Newest.{IsNewestLive}
 use Rattle.interleave_core.specs.Owning.{StandsForeign}
 use Rattle.branch_laws.specs.Branches.{name, start_map_at, GraftOf}
 use Rattle.branch_laws.specs.Laws.{BranchedMap, Occurs}
@@ -41,24 +42,24 @@ pub record IsBranch (net : NetTree) (b : Grown) : Type 0 where
   pub begun : 1 ≤ b.after.next
   pub plain : b.plain ≡ true → IsWalk b
 
--- from a state on, the least live ticket makes each move of the log
-abbrev pub IsLeastFirst : NetTree → MapState → List ℕ → Type 0
-IsLeastFirst net B [] = Unit {0}
-IsLeastFirst net B (k ∷ log) = IsLeastLive B k × ((C : MapState) → step_map net B k ≡ Some C → IsLeastFirst net C log)
+-- from a state on, the newest live ticket makes each move of the log
+abbrev pub IsNewestFirst : NetTree → MapState → List ℕ → Type 0
+IsNewestFirst net B [] = Unit {0}
+IsNewestFirst net B (k ∷ log) = IsNewestLive B k × ((C : MapState) → step_map net B k ≡ Some C → IsNewestFirst net C log)
 
 -- the ticket's next move is no solo move
 abbrev pub StandsStill : NetTree → MapState → ℕ → Type 0
 StandsStill net B k = (y : TokenTree) × (get B.tokens k ≡ Some y) × NotSolo (move net y)
 
--- a branch goes no further: nothing of it is live, or its least live ticket is before the root or a join with what isn't its own, or it is
+-- a branch goes no further: nothing of it is live, or its newest live ticket is before the root or a join with what isn't its own, or it is
 -- plain and that ticket's next move is no solo move
 abbrev pub Stops : NetTree → Bool → MapState → Type 0
-Stops net plain B = NoneLive B ⊎ ((k : ℕ) × IsLeastLive B k × (StandsForeign net B k ⊎ ((plain ≡ true) × StandsStill net B k)))
+Stops net plain B = NoneLive B ⊎ ((k : ℕ) × IsNewestLive B k × (StandsForeign net B k ⊎ ((plain ≡ true) × StandsStill net B k)))
 
--- so far is a branch played: the least live ticket moves until so many moves are made, or until it goes no further
+-- so far is a branch played: the newest live ticket moves until so many moves are made, or until it goes no further
 pub record Played (net : NetTree) (most : ℕ) (b : Grown) : Type 0 where
   pub within : length b.log ≤ most
-  pub least : IsLeastFirst net (start_map_at b.before) b.log
+  pub newest : IsNewestFirst net (start_map_at b.before) b.log
   pub ends : (length b.log ≡ most) ⊎ Stops net b.plain b.after
 
 -- S with the branch in the place of ticket i is T, by as many moves as the branch has; these are its tickets

@@ -5,7 +5,7 @@ ghost use Rattle.std.specs.Bool.{MatchBool};
 ghost use Rattle.pcf_values.specs.Most.{most_budget};
 ghost use Rattle.move_rules.specs.Places.{TokenTree};
 ghost use Rattle.interleave_laws.specs.Runs.{Runs};
-ghost use Rattle.interleave_laws.specs.Tickets.{IsLeastLive};
+ghost use Rattle.interleave_core.specs.Newest.{IsNewestLive};
 ghost use Rattle.interleave_core.specs.Owning.{StandsForeign};
 ghost use Rattle.branch_laws.specs.Branches.{start_map_at};
 ghost use Rattle.branch_laws.specs.Laws.{Occurs};
@@ -16,7 +16,7 @@ use interleave_core::{Core, Tickets};
 use net_build::Net;
 use std::alloc::AllocError;
 
-/// The least live ticket makes its solo moves, at most as many as are left of `most`; they are written down.
+/// The newest live ticket makes its solo moves, at most as many as are left of `most`; they are written down.
 fn walk_on(
     core: &mut Core,
     log: &mut Tickets,
@@ -28,9 +28,9 @@ fn walk_on(
     requires few { most ≤ most_budget }
     requires room { length log.old ≤ most }
     requires grown { HasGrown net.now log.old core.old }
-    requires least { IsLeastLive core.old ticket }
+    requires newest { IsNewestLive core.old ticket }
     ensures grows { OnOk result (GrowsOn net.now log.old core.old log.new core.new) }
-    ensures least { OnOk result (IsLeastLive core.new ticket) }
+    ensures newest { OnOk result (IsNewestLive core.new ticket) }
     ensures longer { OnOk result (length log.old ≤ length log.new) }
     ensures within { OnOk result (length log.new ≤ most) }
 {
@@ -38,12 +38,12 @@ fn walk_on(
     log.add(ticket, made)
 }
 
-/// The least live ticket moves once, but by no answer and by no join whose entry isn't the branch's; then it answers `false`.
+/// The newest live ticket moves once, but by no answer and by no join whose entry isn't the branch's; then it answers `false`.
 fn act_on(core: &mut Core, log: &mut Tickets, net: &Net, ticket: u32) -> Result<bool, AllocError>
     requires runs { Runs net.now }
     requires room { length log.old < most_budget }
     requires grown { HasGrown net.now log.old core.old }
-    requires least { IsLeastLive core.old ticket }
+    requires newest { IsNewestLive core.old ticket }
     ensures grows { OnOk result (GrowsOn net.now log.old core.old log.new core.new) }
     ensures goes { IfOk result (λ on. MatchBool on (length log.new ≡ length log.old + 1)
         ((log.new ≡ log.old) × (core.new ≡ core.old) × StandsForeign net.now core.old ticket)) }
@@ -55,7 +55,7 @@ fn act_on(core: &mut Core, log: &mut Tickets, net: &Net, ticket: u32) -> Result<
     Ok(moved)
 }
 
-/// The least live ticket makes its solo moves and then the move that isn't, as far as `most` goes. It answers whether the branch goes on.
+/// The newest live ticket makes its solo moves and then the move that isn't, as far as `most` goes. It answers whether the branch goes on.
 fn go_on(
     core: &mut Core,
     log: &mut Tickets,
@@ -67,7 +67,7 @@ fn go_on(
     requires few { most ≤ most_budget }
     requires room { length log.old < most }
     requires grown { HasGrown net.now log.old core.old }
-    requires least { IsLeastLive core.old ticket }
+    requires newest { IsNewestLive core.old ticket }
     ensures grows { OnOk result (GrowsOn net.now log.old core.old log.new core.new) }
     ensures within { OnOk result (length log.new ≤ most) }
     ensures goes { IfOk result (λ on. MatchBool on (length log.old < length log.new) (EndsTurn net.now most log.new core.new)) }
@@ -90,7 +90,7 @@ fn grow(core: &mut Core, log: &mut Tickets, net: &Net, most: u32) -> Result<(), 
     ensures ends { OnOk result ((length log.new ≡ most) ⊎ Stops net.now false core.new) }
 {
     while log.len() < most {
-        match core.least_live() {
+        match core.newest_live() {
             Some(ticket) => {
                 if !go_on(core, log, net, ticket, most)? {
                     break;

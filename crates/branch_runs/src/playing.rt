@@ -78,7 +78,7 @@ impl<N: OnNet> Branch<N> {
     }
 }
 
-/// Plays the branch of a token by itself on this net: at each move the least of its live tickets moves, until `most` moves are made, or
+/// Plays the branch of a token by itself on this net: at each move the newest of its live tickets moves, until `most` moves are made, or
 /// until that ticket is before the root or before a join whose entry isn't the branch's own. A plain one makes the token's own solo moves
 /// alone. Besides what the moves take, it takes memory for a copy of the token, for the small machine's maps, and a list of its runs.
 ///

@@ -23,4 +23,4 @@ step_own-requires-clause-room c =
 pub returns-in_ok-add-clause-grows : goal.returns-in_ok-add-clause-grows
 returns-in_ok-add-clause-grows c =
     acts_on c.args.net.now c.requires.runs.sound c.args.log.now c.add.new.self c.args.core.now c.step_own.new.self c.args.ticket
-    c.in_ok-moved.moved c.requires.least c.if-moved.true c.in_ok-moved.ensures.ok c.in_ok-add.ensures.ok
+    c.in_ok-moved.moved c.requires.newest c.if-moved.true c.in_ok-moved.ensures.ok c.in_ok-add.ensures.ok
