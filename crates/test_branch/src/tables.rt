@@ -15,26 +15,26 @@ fn goes(alloc: Global, text: &str, rows: &str) -> Result<bool, AllocError> {
 const HALVES: &str = "step 0
 live 0 1
 open 1
-1 1 100 all 5 1*3 2*2
-live 0 2
+1 1 100 all 5 1*1 2*2 1*2
+live 0 1
 open 1
-0 0 100 all 5 0*3 3*2
-live 2 3
+0 0 100 all 5 0*1 3*2 0*2
+live 0 1
 open 1
-step 2
-step 3
-step 3
+step 1
+step 0
+step 0
 answer 10";
 
 /// The same by branches of few moves, which leave their forks open, so that their joins are the machine's own to make.
 const PIECES: &str = "step 0
-0 0 2 all 2 0*2
+0 0 2 all 2 0*1 2*1
 live 0 1 2
 open 2
 1 1 1 all 1 1*1
 live 0 1 2 3
-2 2 100 all 1 2*1
-0 0 100 all 0
+2 2 100 all 0
+0 0 100 all 1 0*1
 open 3
 step 0
 live 1 2 3
@@ -54,10 +54,10 @@ live
 answer 10";
 
 /// A run that is one branch but for its last move.
-const WHOLE: &str = "0 0 100 all 29 0*15 1*14
-live 1
+const WHOLE: &str = "0 0 100 all 29 0*3 1*12 0*14
+live 0
 open 0
-step 1
+step 0
 answer 6";
 
 /// A plain branch, one that stops before the join of a fork that isn't its own, and branches of another token, which are refused.
