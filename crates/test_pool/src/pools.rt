@@ -162,7 +162,7 @@ const HALVES: Game<'static> = Game {
 0 plays 8
 ",
     answer: "10",
-    tickets: "0 1 1 0 0 0 3 3 1 2 2 2 3 3",
+    tickets: "0 1 1 0 3 3 0 0 0 1 2 2 2 2",
     makers: "0 1 1 0 0 0 0 0 2 2 2 2 2 2",
 };
 
@@ -196,7 +196,7 @@ const SHORT: Game<'static> = Game {
 0 plays 5
 ",
     answer: "-",
-    tickets: "0 1 0 0 0 1 1 2",
+    tickets: "0 1 0 3 3 0 0 0",
     makers: "0 1 0 0 0 2 2 2",
 };
 
