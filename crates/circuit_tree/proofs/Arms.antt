@@ -1,5 +1,5 @@
 -- The cases of wires, from the last one on.
-use Rattle.std.proofs.Common.{◌≡◌, ◌∙◌, ◌≤◌, ◌<◌, ◌-◌, ℕ, zero, suc, refl, sym, ap, arith}
+use Rattle.std.proofs.Common.{◌≡◌, ◌∙◌, ◌≤◌, ◌<◌, ◌-◌, ℕ, zero, suc, sym, ap, arith}
 use Rattle.net_build.specs.Nets.{NetTree}
 use Rattle.verilog_tree.specs.Tree.{Arms}
 use Rattle.circuit_module.specs.Module.{row_arms}

@@ -1,13 +1,18 @@
--- Parts of a module's tree, each as `circuit_module` has it.
-use Rattle.std.specs.Prelude.{ℕ, zero, suc, Bool, List, [], ◌∷◌, ◌++◌, take, drop, if◌then◌else◌}
+-- Parts of a module's tree, each as `circuit_module` and `cell_module` have it.
+use Rattle.std.specs.Prelude.{ℕ, ◌*◌, max, Bool, List, [], ◌∷◌, ◌++◌, take, drop, if◌then◌else◌}
 use Prim.Native.String.{String}
 use Rattle.net_build.specs.Nets.{NetTree}
 use Rattle.circuit_core.specs.Rows.{Channel, rises, falls, number, row_of}
-use Rattle.verilog_tree.specs.Tree.{num, sized, const, name, Expr, Stmt, seq, cases, Arms, otherwise, skip, Item, wire, upto, count}
-use Rattle.verilog_tree.specs.Tree.{arm, settles, clocked}
-use Rattle.circuit_module.specs.Fixed.{set, block, ports, constants, registers, no_row, row_registers, rows_block, len_notes, len_function}
-use Rattle.circuit_module.specs.Fixed.{stack_wires, stack_block, over_wires, fork_wires, no_multiplier, clock_notes, clock_block}
-use Rattle.circuit_module.specs.Module.{row_arm, sizes}
+use Rattle.cell_core.specs.Circuit.{Sizes}
+use Rattle.verilog_tree.specs.Tree.{num, sized, const, name, Expr, Stmt, seq, branch, cases, Arms, otherwise, skip, Item, wire, upto}
+use Rattle.verilog_tree.specs.Tree.{count, wide, size, constant, clocked, logic, one_of, two, plus}
+use Rattle.circuit_module.specs.Fixed.{set, block, no_row}
+use Rattle.circuit_module.specs.Sizes.{channel_bits, fork_bits}
+use Rattle.circuit_module.specs.Module.{row_arm}
+use Rattle.cell_module.specs.Fixed.{cell_ports, cell_port_notes, cell_constants, cell_registers, way_wires, next_row_notes, next_row_block}
+use Rattle.cell_module.specs.Fixed.{list_wires, cell_fork_wires, number_wires, no_cell_multiplier, cell_clock_notes, cell_clock, does}
+use Rattle.cell_module.specs.Fixed.{make_cell, read_cells, open_fork, other_fork, fetch_row, runs}
+use Rattle.cell_module.specs.Module.{place_bits, pointer_bits, cell_sizes}
 
 -- the operation
 abbrev pub operation_stmt : String → Stmt
@@ -29,28 +34,31 @@ wire_arms net w rest = row_arm (rises w) (row_of net (rises w)) (row_arm (falls 
 abbrev pub no_rows : Arms
 no_rows = otherwise skip
 
--- the row of the token's channel: none, and then what its case says
+-- the row of the channel that the token comes to: none, and then what its case says
 abbrev pub row_block : Arms → Stmt
-row_block rows = seq no_row (cases (name "at") rows)
+row_block rows = seq no_row (cases (name "goes") rows)
 
--- the cases behind so many
-abbrev pub arms_from : ℕ → Arms → Arms
-arms_from zero arms = arms
-arms_from (suc n) (otherwise s) = otherwise s
-arms_from (suc n) (arm labels s said arms) = arms_from n arms
+-- the bits of a channel, of a fork's number, of a cell's place and of a pointer
+abbrev pub widths : (wires : ℕ) → Sizes → List Item
+widths wires z =
+    size "C" (channel_bits wires) ∷ size "S" (fork_bits z.forks) ∷ size "P" (place_bits z.cells) ∷ size "WORD" (pointer_bits z.cells) ∷ []
 
--- ports, sizes, constants and registers
-abbrev pub head_items : (wires start N E : ℕ) → List Item
-head_items wires start N E = ports ++ (sizes wires start N E ++ (constants ++ (registers ++ row_registers)))
+-- of all marks, signatures and boxes
+abbrev pub lengths : Sizes → List Item
+lengths z =
+    size "D" (max 1 z.marks) ∷ size "G" (pointer_bits z.cells * max 1 z.sigs) ∷ size "B" (pointer_bits z.cells * max 1 z.boxes) ∷ []
 
--- the rows, and what becomes of both stacks
-abbrev pub middle_items : Arms → List Item
-middle_items rows =
-    (rows_block rows ∷ []) ++ (len_notes ++ ((len_function ∷ []) ++ (stack_wires ++ ((settles stack_block ∷ []) ++ over_wires))))
+-- the cells and the forks
+abbrev pub counts : Sizes → List Item
+counts z = size "CELLS" z.cells ∷ size "E" z.forks ∷ []
 
--- what forks and joins need, up to the product
+-- the channel that a run begins at
+abbrev pub begins_at : (wires start : ℕ) → List Item
+begins_at wires start = constant (wide (count (channel_bits wires))) "START" start ∷ []
+
+-- what the numbers come to, up to the product
 abbrev pub before_product : List Item
-before_product = take 17 (fork_wires no_multiplier)
+before_product = take 8 (number_wires no_cell_multiplier)
 
 -- the product
 abbrev pub product_wire : Expr → Item
@@ -58,9 +66,32 @@ product_wire e = wire (upto (count 127)) "product" e
 
 -- and what follows from it
 abbrev pub behind_product : List Item
-behind_product = drop 18 (fork_wires no_multiplier)
+behind_product = drop 9 (number_wires no_cell_multiplier)
 
--- what forks and joins need, and the block of the clock
+-- a cell is made, or cells are read
+abbrev pub cells_move : Stmt
+cells_move = branch (does "MAKES") make_cell read_cells
+
+-- a fork is opened, or an answer goes on with its fork
+abbrev pub forks_move : Stmt
+forks_move = branch (does "FORKS") open_fork other_fork
+
+-- the move is counted
+abbrev pub counted : Stmt
+counted = set "moves" (two plus (name "moves") (num 1))
+
+-- the next row is fetched at the start, and while the run hasn't ended
+abbrev pub row_fetched : Stmt
+row_fetched = branch (logic one_of (name "rst") runs) fetch_row skip
+
+-- ports, sizes, constants and registers
+abbrev pub head_items : (wires start : ℕ) → Sizes → List Item
+head_items wires start z = cell_ports ++ (cell_port_notes ++ (cell_sizes wires start z ++ (cell_constants ++ cell_registers)))
+
+-- where the token goes, the row that it comes to, and the three lists
+abbrev pub middle_items : Arms → List Item
+middle_items rows = way_wires ++ (next_row_notes ++ ((next_row_block rows ∷ []) ++ list_wires))
+
+-- forks and numbers, and the block of the clock
 abbrev pub last_items : Expr → List Item
-last_items product =
-    before_product ++ ((product_wire product ∷ []) ++ (behind_product ++ (clock_notes ++ (clocked clock_block ∷ []))))
+last_items product = cell_fork_wires ++ (number_wires product ++ (cell_clock_notes ++ clocked cell_clock ∷ []))

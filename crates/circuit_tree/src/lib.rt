@@ -1,18 +1,24 @@
 //! The module of a net's circuit as a tree that a program holds.
 //!
-//! `circuit_items` answers the items of the module of `circuit_module`, with stacks of so many bits and so many forks. The parts that are
-//! the same for all nets are statics that are copied into an arena which the caller gives, and each is proved to be its part of the
-//! definition; a long block is put together of several, since a proof goes through each static as a whole. The case of each row is made
-//! in the arena. What the module means, and its text, is left to others.
+//! `circuit_items` answers the items of the circuit of a net, with so many cells and forks: those of the module over cells, whose lists
+//! have room for the types and depths of the net's wires. The parts that are the same for all nets are statics, and each is proved to be
+//! its part of the definition. A block with many parts, and the case of each row, are put together in an arena that the caller gives, since
+//! a proof goes through each static as a whole. What the module means, and its text, is left to others.
 #![tactic(auto)]
 
-mod cases;
+mod arena;
 mod clock;
-mod declarations;
+mod constants;
+mod deeds;
 mod forks;
-mod lengths;
+mod lists;
 mod module;
+mod moves;
+mod numbers;
+mod ports;
+mod registers;
 mod rows;
-mod stacks;
+mod sizes;
+mod way;
 
 pub use module::circuit_items;

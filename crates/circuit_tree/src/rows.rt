@@ -1,23 +1,23 @@
 //! The case of each row.
 
-ghost use Rattle.std.specs.Prelude.{◌≡◌, ◌<◌, ◌^◌, ◌-◌, [], ◌∷◌, ℕ, IfOk, length, map};
-ghost use Rattle.std.specs.Option.{option_map};
+ghost use Rattle.std.specs.Prelude.{◌≡◌, ◌++◌, [], ◌∷◌, IfOk, OnOk, length, map};
 ghost use Rattle.circuit_core.specs.Rows.{number, row_of};
-ghost use Rattle.circuit_module.specs.Fixed.{set};
+ghost use Rattle.circuit_module.specs.Fixed.{set, no_row};
+ghost use Rattle.cell_module.specs.Fixed.{next_row_block};
 ghost use Rattle.circuit_module.specs.Module.{join_name, to_one, to_two, row_stmt, place_said, row_arm, row_arms};
 ghost use Rattle.circuit_rows.specs.Views.{channel_of, row_view, found_of};
 ghost use Rattle.verilog_tree.specs.Names.{text_of};
-ghost use Rattle.circuit_tree.specs.Parts.{operation_stmt, constant_stmt, way_text, wire_arms, no_rows};
-ghost use Rattle.verilog_tree.specs.Tree.{seq, sized, arm, num};
-ghost use Rattle.verilog_tree.specs.Views.{arms_of, expr_of, said_of, stmt_of};
+ghost use Rattle.circuit_tree.specs.Parts.{operation_stmt, constant_stmt, way_text, wire_arms, no_rows, row_block};
+ghost use Rattle.verilog_tree.specs.Tree.{num};
+ghost use Rattle.verilog_tree.specs.Views.{arms_of, expr_of, item_of, said_of, stmt_of};
 
+use crate::arena::{put_arms, put_seq, put_statement};
 use bumpalo::Bump;
 use circuit_rows::{Channel, Found, Row, row_of};
 use net_build::Net;
 use pcf_values::{Operator, Side};
 use std::alloc::AllocError;
-use verilog_arena::{put_arms, put_statement};
-use verilog_tree::{Cases, Expression, Place, Remark, Statement};
+use verilog_tree::{Cases, Expression, Item, Place, Remark, Statement};
 
 /// x = e
 fn put_set<'a>(
@@ -55,24 +55,13 @@ fn sent<'a>(bump: &'a Bump, name: &'a [u8], to: Channel) -> Result<&'a Statement
     put_set(bump, name, Expression::Number(number_of(to)))
 }
 
-/// Both, one after the other.
-fn after<'a>(
-    bump: &'a Bump,
-    s: &'a Statement<'a>,
-    t: &'a Statement<'a>,
-) -> Result<&'a Statement<'a>, AllocError>
-    ensures { IfOk result (λ r. stmt_of r.now ≡ seq (stmt_of s.now) (stmt_of t.now)) }
-{
-    put_statement(bump, Statement::Seq(s, t))
-}
-
 /// The operation, and where it sends to.
 fn to_one<'a>(bump: &'a Bump, op: &'a [u8], to: Channel) -> Result<&'a Statement<'a>, AllocError>
     ensures { IfOk result (λ r. stmt_of r.now ≡ to_one (text_of op.now) (channel_of to)) }
 {
     let first = operation(bump, op)?;
     let second = sent(bump, b"to", to)?;
-    after(bump, first, second)
+    put_seq(bump, first, second)
 }
 
 /// The operation, and both channels.
@@ -87,8 +76,8 @@ fn to_two<'a>(
     let first = operation(bump, op)?;
     let second = sent(bump, b"to", to)?;
     let third = sent(bump, b"other", other)?;
-    let rest = after(bump, second, third)?;
-    after(bump, first, rest)
+    let rest = put_seq(bump, second, third)?;
+    put_seq(bump, first, rest)
 }
 
 /// What the row of a constant sets.
@@ -98,8 +87,8 @@ fn constant<'a>(bump: &'a Bump, n: u64, to: Channel) -> Result<&'a Statement<'a>
     let first = operation(bump, b"CONST")?;
     let second = sent(bump, b"to", to)?;
     let third = put_set(bump, b"number", Expression::Sized(64, n))?;
-    let rest = after(bump, second, third)?;
-    after(bump, first, rest)
+    let rest = put_seq(bump, second, third)?;
+    put_seq(bump, first, rest)
 }
 
 /// What the row of a join sets.
@@ -252,4 +241,44 @@ pub(crate) fn row_arms<'a>(bump: &'a Bump, net: &Net) -> Result<&'a Cases<'a>, A
         arms = wire_arms(bump, net, wire, arms)?;
     }
     Ok(arms)
+}
+
+/// A channel without a row.
+static NO_ROW: Statement<'static> = Statement::Seq(
+    &Statement::Put(Place::Whole(b"op"), Expression::Constant(b"DEAD")),
+    &Statement::Seq(
+        &Statement::Put(Place::Whole(b"to"), Expression::Number(0)),
+        &Statement::Seq(
+            &Statement::Put(Place::Whole(b"other"), Expression::Number(0)),
+            &Statement::Put(Place::Whole(b"number"), Expression::Number(0)),
+        ),
+    ),
+);
+
+/// The same, lent for as long as it is wanted.
+fn no_row<'a>() -> &'a Statement<'a>
+    ensures { stmt_of result.now ≡ no_row }
+{
+    &NO_ROW
+}
+
+/// The block that finds the row.
+fn row_block<'a>(bump: &'a Bump, rows: &'a Cases<'a>) -> Result<&'a Statement<'a>, AllocError>
+    ensures { IfOk result (λ s. stmt_of s.now ≡ row_block (arms_of rows.now)) }
+{
+    let found = put_statement(bump, Statement::Case(Expression::Name(b"goes"), rows))?;
+    put_seq(bump, no_row(), found)
+}
+
+/// Appends the rows.
+pub(crate) fn add_rows<'a>(
+    bump: &'a Bump,
+    items: &mut Vec<Item<'a>>,
+    rows: &'a Cases<'a>,
+) -> Result<(), AllocError>
+    ensures { OnOk result (map item_of items.new.items ≡ map item_of items.old.items ++ (next_row_block (arms_of rows.now) ∷ [])) }
+{
+    let block = row_block(bump, rows)?;
+    items.push(Item::Settles(*block))?;
+    Ok(())
 }
