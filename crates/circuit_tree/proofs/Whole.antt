@@ -36,8 +36,9 @@ pub three : (t u v w h m l : List Item) → t ≡ [] → u ≡ t ++ h → v ≡ 
 three t u v w h m l c d e f = f ∙ ap (λ z. z ++ l) (e ∙ ap (λ z. z ++ m) (d ∙ ap (λ z. z ++ h) c)) ∙ append_assoc h m l
 
 -- of a net, where its wires, its start, its sizes, its rows and its product are known
-pub circuit_is : (net : NetTree) (cells forks wires start : ℕ) (z : Sizes) (rows : Arms) (product : Expr) (none head middle all : List Item) →
-    wires ≡ length net.wires → start ≡ number (channel_of (start_of net)) → z ≡ sizes_of net cells forks →
+pub circuit_is : (net : NetTree) (cells forks wires start : ℕ) (z : Sizes) (rows : Arms) (product : Expr)
+    (none head middle all : List Item) → wires ≡ length net.wires → start ≡ number (channel_of (start_of net)) →
+    z ≡ sizes_of net cells forks →
     rows ≡ row_arms net 0 (length net.wires) → product ≡ cell_product (multiplies net.nodes) → none ≡ [] →
     head ≡ none ++ head_items wires start z → middle ≡ head ++ middle_items rows → all ≡ middle ++ last_items product →
     all ≡ circuit_of net cells forks
