@@ -22,7 +22,8 @@ use Rattle.goi_tasks.specs.declared.fault.Fault.{Fault}
 use Rattle.goi_tasks.specs.declared.stop.Stop.{Stop}
 use Rattle.goi_tasks.specs.Stops.{StopsFor}
 use Rattle.goi_jobs.specs.declared.task.Task.{Task}
-use Rattle.goi_jobs.specs.declared.task.Task.TheVariants.{Run, Check, ShowNet, RunNet, Trace, Circuit, RunCircuit, Span, Steps}
+use Rattle.goi_jobs.specs.declared.task.Task.TheVariants.{Run, Check, ShowNet, RunNet, Trace, Circuit, RunCircuit}
+use Rattle.goi_jobs.specs.declared.task.Task.TheVariants.{NeedsCircuit, Span, Steps}
 use Rattle.goi_engine.specs.declared.answer.Answer.{Answer}
 use Rattle.goi_engine.specs.declared.answer.Answer.TheVariants.{Prints, Refused, BadWords, NotRead, NoMemory}
 use Rattle.goi_engine.specs.Answers.{Says, IsStopped, AnswersFile, AnswersNoNet, MadeNet}
@@ -167,12 +168,14 @@ listing_goes _ v bytes s (unlisted f n h) = unlisted f n (accepts_goes f v bytes
 
 -- ---- the text of a task
 
+-- a fault of the first bytes of a file is one of the file, for each task
 pub fault_goes : (task : Task) (f : Fault) (v bytes : List ℕ) → Same (most_bytes task) v bytes → FaultyFor task v f → FaultyFor task bytes f
 fault_goes (Run budget calling shown) f v bytes s h = faulty_goes (wanted_by_run calling) f v bytes s h
 fault_goes (Check term) f v bytes s h = faulty_goes any_type f v bytes s h
 fault_goes ShowNet f v bytes s h = faulty_goes number f v bytes s h
 fault_goes (Circuit cells forks) f v bytes s h = faulty_goes number f v bytes s h
 fault_goes (RunCircuit cells forks budget waves) f v bytes s h = faulty_goes number f v bytes s h
+fault_goes (NeedsCircuit budget) f v bytes s h = faulty_goes number f v bytes s h
 fault_goes (Span budget calling profile schedule) f v bytes s h = faulty_goes (wanted_by_run calling) f v bytes s h
 fault_goes (Steps budget window) f v bytes s h = faulty_goes number f v bytes s h
 fault_goes (RunNet budget shown) f v bytes s h = listing_goes f v bytes s h
@@ -186,6 +189,7 @@ report_goes workers (Check term) o v bytes s h = of_program_goes any_type _ v by
 report_goes workers ShowNet o v bytes s h = of_program_goes number _ v bytes s h
 report_goes workers (Circuit cells forks) o v bytes s h = of_program_goes number _ v bytes s h
 report_goes workers (RunCircuit cells forks budget waves) o v bytes s h = of_program_goes number _ v bytes s h
+report_goes workers (NeedsCircuit budget) o v bytes s h = of_program_goes number _ v bytes s h
 report_goes workers (Span budget calling profile schedule) o v bytes s h = of_program_goes (wanted_by_run calling) _ v bytes s h
 report_goes workers (Steps budget window) o v bytes s h = of_program_goes number _ v bytes s h
 report_goes workers (RunNet budget shown) o v bytes s h =

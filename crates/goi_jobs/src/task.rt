@@ -60,6 +60,11 @@ pub enum Task {
         /// Whether what its registers hold is told, cycle by cycle, in place of its answer.
         waves: bool,
     },
+    /// Run the program as `Run` does, and tell how many cells and forks its circuit needs.
+    NeedsCircuit {
+        /// The most moves; from 1 to `pcf_values::limits::BUDGET`.
+        budget: u32,
+    },
     /// Run the program in rounds, in which all live tokens move once, and tell how many moves and rounds that takes.
     Span {
         /// The most moves; from 1 to `pcf_values::limits::BUDGET`.

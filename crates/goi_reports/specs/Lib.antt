@@ -10,6 +10,8 @@ pub mod Tallies
 pub mod Spans
 -- The report of a circuit's run.
 pub mod Cycles
+-- The report of what a program's circuit needs.
+pub mod Needs
 -- which logs are those of so many workers, and the line of a count by whether it is the last one
 pub mod Booked
 -- what can be said of a report where nothing is known of the bytes that it is about

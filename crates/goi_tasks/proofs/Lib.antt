@@ -7,6 +7,8 @@ pub mod Outcomes
 pub mod RunReports
 -- The report that is made of a run in rounds.
 pub mod Spanned
+-- The report that is made of what a circuit needs.
+pub mod Counted
 -- What the run of a program's circuit tells, and that it ends with one status.
 pub mod CircuitRuns
 -- The reduction of a tree as the output for its text, and what it is worth.

@@ -35,7 +35,8 @@ use Rattle.goi_tasks.specs.declared.fault.Fault.{Fault}
 use Rattle.goi_tasks.specs.declared.fault.Fault.TheVariants.{Program, NetText, Schedule, Moves}
 use Rattle.goi_jobs.specs.declared.shown.Shown.{Shown}
 use Rattle.goi_jobs.specs.declared.task.Task.{Task}
-use Rattle.goi_jobs.specs.declared.task.Task.TheVariants.{Run, Check, ShowNet, RunNet, Trace, Circuit, RunCircuit, Span, Steps}
+use Rattle.goi_jobs.specs.declared.task.Task.TheVariants.{Run, Check, ShowNet, RunNet, Trace, Circuit, RunCircuit}
+use Rattle.goi_jobs.specs.declared.task.Task.TheVariants.{NeedsCircuit, Span, Steps}
 use Rattle.circuit_runs.specs.Running.{Comes}
 use Rattle.circuit_runs.specs.Laws.{CircuitTells}
 use Rattle.goi_tasks.specs.Circuits.{answer_of}
@@ -108,6 +109,7 @@ text_status workers ShowNet bytes o h = inl (ap (λ (x : Output). x.status) h.so
 text_status workers (Circuit cells forks) bytes o h = inl (ap (λ (x : Output). x.status) h.so)
 text_status workers (RunCircuit cells forks budget waves) bytes o h =
     run_status (answer_of h.so.outcome) o.status h.so.ends
+text_status workers (NeedsCircuit budget) bytes o h = run_status h.so.answer o.status h.so.ends
 text_status workers (Span budget calling profile schedule) bytes o h = run_status h.so.answer o.status h.so.ends
 text_status workers (Steps budget window) bytes o h =
     run_status (course_value (reduction budget window h.tree)) o.status (ap (λ (x : Output). x.status) h.so.output_is)
@@ -204,6 +206,11 @@ module _ (known : Known) where
       (subst (λ (t : TermTree). Comes (net_of t) cells forks budget h.so.outcome) e h.so.comes)
       (subst (λ (t : TermTree). CircuitTells t cells forks budget h.so.outcome) e h.so.tells) k.so.comes k.so.tells
       ∙ sym k.so.ends
+  text_end workers (NeedsCircuit budget) bytes o own h k =
+      let e : h.term ≡ k.term = same_program known.one_program number bytes _ _ h k in
+      one_run_end budget (net_of k.term) o.status own
+      (subst (λ (t : TermTree). EndsRun budget (net_of t) o.status) e
+      (run_ends (Means h.term) (net_of h.term) budget h.so.answer h.so.moves o.status h.so.ends h.so.tells)) k.so
   text_end workers (Span budget calling profile schedule) bytes o own h k =
       let e : h.term ≡ k.term = same_program known.one_program (wanted_by_run calling) bytes _ _ h k in
       one_run_end budget (net_run calling k.term) o.status own
@@ -234,6 +241,7 @@ module _ (known : Known) where
   report_sound workers (Circuit cells forks) bytes o f h k = text_sound known.one_program number bytes h.tree h.term h.type f h.is k
   report_sound workers (RunCircuit cells forks budget waves) bytes o f h k =
       text_sound known.one_program number bytes h.tree h.term h.type f h.is k
+  report_sound workers (NeedsCircuit budget) bytes o f h k = text_sound known.one_program number bytes h.tree h.term h.type f h.is k
   report_sound workers (Span budget calling profile schedule) bytes o f h k =
       text_sound known.one_program (wanted_by_run calling) bytes h.tree h.term h.type f h.is k
   report_sound workers (Steps budget window) bytes o f h k = text_sound known.one_program number bytes h.tree h.term h.type f h.is k
@@ -250,6 +258,7 @@ module _ (known : Known) where
   end_sound (Circuit cells forks) bytes own f h k = text_sound known.one_program number bytes h.tree h.term h.type f h.is k
   end_sound (RunCircuit cells forks budget waves) bytes own f h k =
       text_sound known.one_program number bytes h.tree h.term h.type f h.is k
+  end_sound (NeedsCircuit budget) bytes own f h k = text_sound known.one_program number bytes h.tree h.term h.type f h.is k
   end_sound (Span budget calling profile schedule) bytes own f h k =
       text_sound known.one_program (wanted_by_run calling) bytes h.tree h.term h.type f h.is k
   end_sound (Steps budget window) bytes own f h k = text_sound known.one_program number bytes h.tree h.term h.type f h.is k
@@ -264,6 +273,7 @@ module _ (known : Known) where
   one_fault_for ShowNet bytes f g h k = one_text_fault number bytes f g h k
   one_fault_for (Circuit cells forks) bytes f g h k = one_text_fault number bytes f g h k
   one_fault_for (RunCircuit cells forks budget waves) bytes f g h k = one_text_fault number bytes f g h k
+  one_fault_for (NeedsCircuit budget) bytes f g h k = one_text_fault number bytes f g h k
   one_fault_for (Span budget calling profile schedule) bytes f g h k = one_text_fault (wanted_by_run calling) bytes f g h k
   one_fault_for (Steps budget window) bytes f g h k = one_text_fault number bytes f g h k
   one_fault_for (RunNet budget shown) bytes f g h k = one_listing_fault bytes f g h k

@@ -15,9 +15,11 @@ use Rattle.program_runs.specs.declared.calling.Calling.TheVariants.{ByName}
 use Rattle.goi_reports.specs.Reports.{check_report}
 use Rattle.goi_tasks.specs.declared.fault.Fault.{Fault}
 use Rattle.goi_jobs.specs.declared.task.Task.{Task}
-use Rattle.goi_jobs.specs.declared.task.Task.TheVariants.{Run, Check, ShowNet, RunNet, Trace, Circuit, RunCircuit, Span, Steps}
+use Rattle.goi_jobs.specs.declared.task.Task.TheVariants.{Run, Check, ShowNet, RunNet, Trace, Circuit, RunCircuit}
+use Rattle.goi_jobs.specs.declared.task.Task.TheVariants.{NeedsCircuit, Span, Steps}
 use Rattle.goi_tasks.specs.Circuits.{EndsCircuit, ReportsCircuit}
 use Rattle.goi_tasks.specs.NetFiles.{FaultyListing}
+use Rattle.goi_tasks.specs.Needs.{ReportsNeeds}
 use Rattle.goi_tasks.specs.Outputs.{Output, output}
 use Rattle.goi_tasks.specs.Programs.{FaultyText}
 use Rattle.goi_tasks.specs.Reductions.{ReportsSteps, reduction}
@@ -48,6 +50,7 @@ ReportsText workers (Circuit cells forks) bytes o =
     OfProgram number bytes (λ tree t A. o ≡ output 0 (circuit_text (net_of t) cells forks) [])
 ReportsText workers (RunCircuit cells forks budget waves) bytes o =
     OfProgram number bytes (λ tree t A. ReportsCircuit cells forks budget waves t o)
+ReportsText workers (NeedsCircuit budget) bytes o = OfProgram number bytes (λ tree t A. ReportsNeeds budget t o)
 ReportsText workers (Span budget calling profile schedule) bytes o =
     OfProgram (wanted_by_run calling) bytes (λ tree t A. ReportsSpan budget calling profile schedule t o)
 ReportsText workers (Steps budget window) bytes o = OfProgram number bytes (λ tree t A. ReportsSteps budget window tree t o)
@@ -61,6 +64,7 @@ FaultyFor (RunNet budget shown) bytes f = FaultyListing bytes f
 FaultyFor (Trace budget calling window) bytes f = FaultyText (wanted_by_run calling) bytes f
 FaultyFor (Circuit cells forks) bytes f = FaultyText number bytes f
 FaultyFor (RunCircuit cells forks budget waves) bytes f = FaultyText number bytes f
+FaultyFor (NeedsCircuit budget) bytes f = FaultyText number bytes f
 FaultyFor (Span budget calling profile schedule) bytes f = FaultyText (wanted_by_run calling) bytes f
 FaultyFor (Steps budget window) bytes f = FaultyText number bytes f
 
@@ -76,6 +80,7 @@ EndsText (Trace budget calling window) bytes status =
 EndsText (Circuit cells forks) bytes status = OfProgram number bytes (λ tree t A. status ≡ 0)
 EndsText (RunCircuit cells forks budget waves) bytes status =
     OfProgram number bytes (λ tree t A. EndsCircuit cells forks budget t status)
+EndsText (NeedsCircuit budget) bytes status = OfProgram number bytes (λ tree t A. EndsRun budget (net_of t) status)
 EndsText (Span budget calling profile schedule) bytes status =
     OfProgram (wanted_by_run calling) bytes (λ tree t A. EndsRun budget (net_run calling t) status)
 EndsText (Steps budget window) bytes status =
@@ -90,5 +95,6 @@ most_bytes (RunNet budget shown) = most_text_bytes
 most_bytes (Trace budget calling window) = most_program_bytes
 most_bytes (Circuit cells forks) = most_program_bytes
 most_bytes (RunCircuit cells forks budget waves) = most_program_bytes
+most_bytes (NeedsCircuit budget) = most_program_bytes
 most_bytes (Span budget calling profile schedule) = most_program_bytes
 most_bytes (Steps budget window) = most_program_bytes

@@ -14,6 +14,7 @@ ghost use Rattle.goi_jobs.specs.Tasks.{IsWithin, progress_of};
 
 use crate::circuit::report_circuit;
 use crate::circuit_run::{CircuitRun, report_circuit_run};
+use crate::needs::report_needs;
 use crate::net_file::net_of_listing;
 use crate::program::{report_check, report_net};
 use crate::report::Report;
@@ -68,6 +69,7 @@ pub fn report_text<C: Crew>(
                 waves,
             },
         ),
+        Task::NeedsCircuit { budget } => report_needs(alloc, bytes, budget),
         Task::Span {
             budget,
             calling,

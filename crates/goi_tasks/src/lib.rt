@@ -13,6 +13,7 @@ mod circuit_run;
 mod demo;
 mod fault;
 mod judge;
+mod needs;
 mod net_file;
 mod notes;
 mod program;

@@ -217,12 +217,16 @@ fn circuit_job(alloc: Global, found: &ArgMatches<'_>) -> Result<Job, WordFault>
     })
 }
 
-/// A circuit of these sizes, or its run of so many cycles where that was found.
+/// What a circuit needs within so many moves where that was found, and else the run of a circuit of these sizes for so many cycles where
+/// that was, and else the circuit.
 fn circuit_task(found: &ArgMatches<'_>, cells: u32, forks: u32, budget: u32) -> Task
-    ensures { result ≡ circuit_task ((findings (rows_of (found_of found.now))).is_set (codes "run")) cells forks budget
+    ensures { result ≡ circuit_task ((findings (rows_of (found_of found.now))).is_set (codes "needs"))
+        ((findings (rows_of (found_of found.now))).is_set (codes "run")) cells forks budget
         ((findings (rows_of (found_of found.now))).is_set (codes "vcd")) }
 {
-    if is_set(found, "run") {
+    if is_set(found, "needs") {
+        Task::NeedsCircuit { budget }
+    } else if is_set(found, "run") {
         Task::RunCircuit {
             cells,
             forks,
