@@ -33,14 +33,14 @@ pub record Fits (R : Registers) (S : State) : Type 0 where
   pub order : Order R.live R.ring R.next
   pub ready : R.full ≡ false
 
-same_some : {A : Type 0} (a b : A) → Some a ≡ Some b → a ≡ b
+pub same_some : {A : Type 0} (a b : A) → Some a ≡ Some b → a ≡ b
 same_some a b h = cc
 
 pub none_some : {A : Type 0} (a : A) → None ≡ Some a → ⊥
 none_some a h = cc
 
 -- another token under the current ticket
-replaced : {A : Type 0} (b : Bool) (s x y r : A) → s ≡ cond b x r → cond b y s ≡ cond b y r
+pub replaced : {A : Type 0} (b : Bool) (s x y r : A) → s ≡ cond b x r → cond b y s ≡ cond b y r
 replaced true s x y r h = refl
 replaced false s x y r h = h
 
