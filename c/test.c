@@ -344,10 +344,11 @@ static void try_faults(void) {
 /* ---- circuits */
 
 static void try_circuit(uint32_t cells, uint32_t forks, goi_status status) {
+    static const char end[] = "endmodule\n`default_nettype wire\n";
     static char out[1 << 16];
-    size_t needed = 7;
+    size_t needed = 7, last = sizeof end - 1;
     TRY("circuit", goi_circuit("1", 1, cells, forks, out, sizeof out, &needed) == status && (needed > 0) == (status == GOI_OK));
-    TRY("circuit", status != GOI_OK || (needed > 10 && !memcmp(out + needed - 10, "endmodule\n", 10)));
+    TRY("circuit", status != GOI_OK || (needed > last && !memcmp(out + needed - last, end, last)));
 }
 
 /* ---- long texts, by how they begin and end */

@@ -647,7 +647,7 @@ mod tests {
     #[test]
     fn circuits() {
         let text = circuit("1", CELLS, FORKS).unwrap();
-        assert!(text.contains("module") && text.ends_with("endmodule\n"));
+        assert!(text.contains("module") && text.ends_with("endmodule\n`default_nettype wire\n"));
         assert_ne!(text, circuit("1", 1, FORKS).unwrap());
         assert_ne!(text, circuit("1", CELLS, FORKS_MAX).unwrap());
         circuit("1", CELLS_MAX, 1).unwrap();
