@@ -172,4 +172,4 @@ version = 10100
 
 -- and as text, with the kit by which the library was proved and built, as `rt version` tells it
 abbrev pub version_text : List ℕ
-version_text = codes "goi 1.1.0, rattle-kit-13f logic dac8208d650f15bf\n"
+version_text = codes "goi 1.1.0, rattle-kit-13b logic dac8208d650f15bf\n"
