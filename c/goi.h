@@ -233,8 +233,8 @@ goi_status goi_find_schedule_fault(const void *text, size_t text_size, const voi
 /* The version of the library, as GOI_VERSION_NUMBER has it. (version) */
 uint32_t goi_version(void);
 
-/* Gives back the version with the kit by which the library was proved and built, in a line of less than GOI_LINE_SIZE bytes, as in
- * "goi 1.1.0, rattle-kit-13b logic dac8208d650f15bf\n". (version_text) */
+/* Gives back the library's name and version in a line of less than GOI_LINE_SIZE bytes, as in "goi 1.1.0\n". (version_text)
+ * By which kit a library was proved and built is told by `pkg-config --variable=kit goi`. */
 goi_status goi_version_text(void *out, size_t out_size, size_t *needed);
 
 #ifdef __cplusplus

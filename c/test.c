@@ -410,9 +410,8 @@ int main(void) {
     {
         char line[GOI_LINE_SIZE];
         size_t needed = 0;
-        TRY("version", goi_version_text(line, sizeof line, &needed) == GOI_OK && needed > 24);
-        TRY("version", !memcmp(line, "goi 1.1.0, rattle-kit-", 22));
-        TRY("version", line[needed - 1] == '\n');
+        TRY("version", goi_version_text(line, sizeof line, &needed) == GOI_OK && needed == 10);
+        TRY("version", !memcmp(line, "goi 1.1.0\n", 10));
         TRY("version", goi_version_text(line, needed - 1, &needed) == GOI_NO_ROOM);
     }
 

@@ -167,7 +167,7 @@ def on_debian(entries, given):
             path += ".gz"
             entry = entry + ".gz" if isinstance(entry, str) else (0o644, packed(entry[1].replace(b"@PREFIX@", b"/usr"), given.epoch))
         moved["usr/" + path] = entry
-    config = tree.pkg_config("/usr", "${prefix}/" + LIBRARIES, given.version)
+    config = tree.pkg_config("/usr", "${prefix}/" + LIBRARIES, given)
     # (what the compiler looks through anyhow isn't named)
     moved[f"usr/{LIBRARIES}/pkgconfig/goi.pc"] = (0o644, re.sub(r" *-[IL]\$\{\w+\} *", " ", config).encode())
     day = time.strftime("%a, %d %b %Y %H:%M:%S +0000", time.gmtime(given.epoch))

@@ -124,7 +124,7 @@ def whole(given):
     put("lib/libgoi.a", given.archive)
     put(f"lib/libgoi.so.{given.version}", given.shared)
     tree[f"lib/{major}"], tree["lib/libgoi.so"] = f"libgoi.so.{given.version}", major
-    put("lib/pkgconfig/goi.pc", pkg_config("${pcfiledir}/../..", "${prefix}/lib", given.version))
+    put("lib/pkgconfig/goi.pc", pkg_config("${pcfiledir}/../..", "${prefix}/lib", given))
     for path, entry in python_package(given.version).items():
         tree[f"lib/python3/dist-packages/{path}"] = entry
     tree[f"lib/python3/dist-packages/goi/{major}"] = f"../../../{major}"
@@ -146,9 +146,9 @@ def whole(given):
     return tree
 
 
-def pkg_config(prefix, libdir, version):
-    text = read("c", "goi.pc.in").decode()
-    return text.replace("@PREFIX@", prefix).replace("@LIBDIR@", libdir).replace("@VERSION@", version)
+def pkg_config(prefix, libdir, given):
+    text = read("c", "goi.pc.in").decode().replace("@PREFIX@", prefix).replace("@LIBDIR@", libdir)
+    return text.replace("@VERSION@", given.version).replace("@KIT@", given.kit_id)
 
 
 def extension(version):

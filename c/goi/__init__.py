@@ -287,7 +287,7 @@ def version():
 
 
 def version_text():
-    """The library's version, and the kit by which it was proved and built."""
+    """The library's name and version."""
     return call("goi_version_text")[1].decode().rstrip("\n")
 
 

@@ -170,6 +170,6 @@ pub record CallsTell (bytes : List ℕ) (budget flags : ℕ) (a : Answer) (b : B
 abbrev pub version : ℕ
 version = 10100
 
--- and as text, with the kit by which the library was proved and built, as `rt version` tells it
+-- and as text
 abbrev pub version_text : List ℕ
-version_text = codes "goi 1.1.0, rattle-kit-13b logic dac8208d650f15bf\n"
+version_text = codes "goi 1.1.0\n"
