@@ -91,7 +91,7 @@ enum {
 /* The cells of a circuit and its forks, as `goi circuit` takes them: by default and the most. The least of both is 1. */
 #define GOI_CELLS 1023u
 #define GOI_CELLS_MAX 1048575u
-#define GOI_FORKS 64u
+#define GOI_FORKS 63u
 #define GOI_FORKS_MAX 1024u
 
 /* The most numbers that a function may take. */

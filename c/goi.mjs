@@ -133,7 +133,7 @@ export async function load(source = new URL("goi.wasm", import.meta.url), most =
     runNet: (text, { budget = BUDGET, schedule = false } = {}) => call("goi_run_net", [text], [budget, schedule]),
     check: (text, { term = false } = {}) => call("goi_check", [text], [term]),
     net: text => call("goi_net", [text], []),
-    circuit: (text, { cells = 1023, forks = 64 } = {}) => call("goi_circuit", [text], [cells, forks]),
+    circuit: (text, { cells = 1023, forks = 63 } = {}) => call("goi_circuit", [text], [cells, forks]),
     replay: (text, schedule) => call("goi_replay", [text, schedule], []),
     replayTrace: (text, schedule, { from = 0, most: lines = 100_000 } = {}) => call("goi_replay_trace", [text, schedule], [from, lines]),
     version: () => new WebAssembly.Instance(module).exports.goi_version(),

@@ -97,7 +97,7 @@ pub const STEPS_MAX: u32 = 100_000;
 pub const CELLS: u32 = 1023;
 pub const CELLS_MAX: u32 = 1_048_575;
 /// The forks of a circuit, by default and the most.
-pub const FORKS: u32 = 64;
+pub const FORKS: u32 = 63;
 pub const FORKS_MAX: u32 = 1024;
 /// The most numbers that a function may take.
 pub const ARGUMENTS_MAX: u32 = 1000;
