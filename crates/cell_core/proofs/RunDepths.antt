@@ -1,7 +1,6 @@
--- Each token of a run has the stacks of its wire, and so a circuit that shows the run is bounded by types and depths.
+-- Each token of a run has the stacks of its wire.
 use Rattle.std.proofs.Common.{◌≡◌, ℕ, Bool, true, false, cond, List, [], ◌∷◌, Option, Some, None, refl, sym}
-use Rattle.std.proofs.Common.{ap, ◌∙◌, subst}
-use Rattle.std.proofs.lemmas.Bool.{eq-eqb}
+use Rattle.std.proofs.Common.{subst}
 use Rattle.std.specs.Prelude.{nat_eq}
 use Rattle.pcf_values.specs.declared.val.Val.{Val}
 use Rattle.pcf_values.specs.declared.operator.Operator.{Operator}
@@ -12,23 +11,16 @@ use Rattle.net_build.specs.declared.node.Node.TheVariants.{Root}
 use Rattle.net_build.specs.Nets.{value_wire, NetTree}
 use Rattle.net_build.specs.Sound.{Sound}
 use Rattle.fork_join.specs.Entries.{Entry, pending, has_left, has_right}
-use Rattle.move_rules.specs.Places.{Place, up, down, TokenTree, ask, ans, place_of}
+use Rattle.move_rules.specs.Places.{Place, down, TokenTree, ask, ans, place_of}
 use Rattle.move_rules.specs.Moves.{Move, solo, fork, join, answer, stay, move}
 use Rattle.interleave_laws.specs.Start.{start_of}
 use Rattle.interleave_laws.specs.States.{State, Tokens, start, set_token, other, fork_on, last_on, join_on, act, step_on, step, then_run}
 use Rattle.interleave_laws.specs.States.{run}
 use Rattle.interleave_laws.specs.Runs.{LeadsTo}
 use Rattle.interleave_laws.proofs.Running.{starts_of}
-use Rattle.circuit_core.specs.Processor.{token_at, ring_at}
-use Rattle.cell_core.specs.Circuit.{CellToken, CellCircuit}
-use Rattle.cell_core.specs.CircuitLaws.{IsToken, IsLive, CellsShow}
-use Rattle.cell_core.specs.Depths.{Placed, MoveKeeps, Bounded}
+use Rattle.cell_core.specs.Depths.{Placed, MoveKeeps}
 use Rattle.cell_core.proofs.Typed.{in_at, depths_kept}
-use Rattle.circuit_core.proofs.Processor.{none_some}
-use Rattle.cell_core.proofs.Depths.{depths_bounded}
-
-is_one : {A : Type 0} (a b : A) → Some a ≡ Some b → a ≡ b
-is_one a b h = cc
+use Rattle.circuit_core.proofs.Small.{same_some, none_some}
 
 module _ (net : NetTree) where
   abbrev AllPlaced : Tokens → Type 0
@@ -38,7 +30,7 @@ module _ (net : NetTree) where
   IfPlaced o = (x : TokenTree) → o ≡ Some x → Placed net (place_of x)
 
   some_placed : (x : TokenTree) → Placed net (place_of x) → IfPlaced (Some x)
-  some_placed x p y h = subst (λ x. Placed net (place_of x)) (is_one x y h) p
+  some_placed x p y h = subst (λ x. Placed net (place_of x)) (same_some x y h) p
 
   none_placed : IfPlaced None
   none_placed y h = absurd (none_some y h)
@@ -54,14 +46,14 @@ module _ (net : NetTree) where
       last_on o S i n w t ≡ Some T → AllPlaced T.tokens
   last_placed None S i n w t T all p h = absurd (none_some T h)
   last_placed (Some u) S i n w t T all p h =
-      subst (λ (T : State). AllPlaced T.tokens) (is_one _ T h)
+      subst (λ (T : State). AllPlaced T.tokens) (same_some _ T h)
       (set_placed S.tokens i (Some (ans u (down w [] t))) all (some_placed (ans u (down w [] t)) p))
 
   join_placed : (e : Option Entry) (S : State) (i n : ℕ) (o : Operator) (s : Side) (v : Val) (w : ℕ) (t : Boxes) (T : State) →
       AllPlaced S.tokens → Placed net (down w [] t) → join_on e S i n o s v w t ≡ Some T → AllPlaced T.tokens
   join_placed None S i n o s v w t T all p h = absurd (none_some T h)
   join_placed (Some pending) S i n o s v w t T all p h =
-      subst (λ (T : State). AllPlaced T.tokens) (is_one _ T h) (set_placed S.tokens i None all none_placed)
+      subst (λ (T : State). AllPlaced T.tokens) (same_some _ T h) (set_placed S.tokens i None all none_placed)
   join_placed (Some (has_left u)) S i n o s v w t T all p h = last_placed (other o (has_left u) s v) S i n w t T all p h
   join_placed (Some (has_right u)) S i n o s v w t T all p h = last_placed (other o (has_right u) s v) S i n w t T all p h
 
@@ -69,18 +61,18 @@ module _ (net : NetTree) where
       Placed net l → Placed net r → fork_on e S i n l r t ≡ Some T → AllPlaced T.tokens
   fork_placed (Some e) S i n l r t T all p q h = absurd (none_some T h)
   fork_placed None S i n l r t T all p q h =
-      subst (λ (T : State). AllPlaced T.tokens) (is_one _ T h)
+      subst (λ (T : State). AllPlaced T.tokens) (same_some _ T h)
       (set_placed (set_token S.tokens i (Some (ask l))) S.next (Some (ask r))
       (set_placed S.tokens i (Some (ask l)) all (some_placed (ask l) p)) (some_placed (ask r) q))
 
   act_placed : (m : Move) (S : State) (i : ℕ) (T : State) → AllPlaced S.tokens → MoveKeeps net m → act m S i ≡ Some T →
       AllPlaced T.tokens
   act_placed (solo n x) S i T all k h =
-      subst (λ (T : State). AllPlaced T.tokens) (is_one _ T h) (set_placed S.tokens i (Some x) all (some_placed x k))
+      subst (λ (T : State). AllPlaced T.tokens) (same_some _ T h) (set_placed S.tokens i (Some x) all (some_placed x k))
   act_placed (fork n l r t) S i T all k h = fork_placed (S.entries n t) S i n l r t T all k.0 k.1 h
   act_placed (join n o s v w t) S i T all k h = join_placed (S.entries n t) S i n o s v w t T all k h
   act_placed (answer v) S i T all k h =
-      subst (λ (T : State). AllPlaced T.tokens) (is_one _ T h) (set_placed S.tokens i None all none_placed)
+      subst (λ (T : State). AllPlaced T.tokens) (same_some _ T h) (set_placed S.tokens i None all none_placed)
   act_placed stay S i T all k h = absurd (none_some T h)
 
   module _ (sound : Sound net) where
@@ -90,7 +82,7 @@ module _ (net : NetTree) where
     step_placed S i T all (Some x) e h = act_placed (move net x) S i T all (depths_kept net sound x (all i x e)) h
 
     log_placed : (log : List ℕ) (S T : State) → AllPlaced S.tokens → run net S log ≡ Some T → AllPlaced T.tokens
-    log_placed [] S T all h = subst (λ (T : State). AllPlaced T.tokens) (is_one S T h) all
+    log_placed [] S T all h = subst (λ (T : State). AllPlaced T.tokens) (same_some S T h) all
     log_placed (i ∷ log) S T all h = go (step net S i) refl h (log_placed log)
       where
         go : (o : Option State) → step net S i ≡ o → then_run o (λ S. run net S log) ≡ Some T →
@@ -110,32 +102,3 @@ run_placed net sound log S h i x e =
     log_placed net sound log (start (start_of net)) S
     (set_placed net (λ j. None) 0 (Some (ask (start_of net))) (λ j. none_placed net)
     (some_placed net (ask (start_of net)) (start_placed net sound))) h i x e
-
--- the token's registers, where its place has the stacks of its wire
-bounded_at : (net : NetTree) (C : CellCircuit) (k : CellToken) (x : TokenTree) → Placed net (place_of x) → IsToken C.store x k →
-    Bounded net k
-bounded_at net C k (ask (up w m t)) p s =
-    let b = depths_bounded C.store k.stacks p.0 m t s.stacks p.2 in
-    record { number = w; wire = p.0; there = p.1; dirs = b.0; sigs = b.1; boxes = b.2 }
-bounded_at net C k (ask (down w m t)) p s =
-    let b = depths_bounded C.store k.stacks p.0 m t s.stacks p.2 in
-    record { number = w; wire = p.0; there = p.1; dirs = b.0; sigs = b.1; boxes = b.2 }
-bounded_at net C k (ans v (up w m t)) p s =
-    let b = depths_bounded C.store k.stacks p.0 m t s.1.stacks p.2 in
-    record { number = w; wire = p.0; there = p.1; dirs = b.0; sigs = b.1; boxes = b.2 }
-bounded_at net C k (ans v (down w m t)) p s =
-    let b = depths_bounded C.store k.stacks p.0 m t s.1.stacks p.2 in
-    record { number = w; wire = p.0; there = p.1; dirs = b.0; sigs = b.1; boxes = b.2 }
-
--- the circuit's token is the state's, and so it has the stacks of its wire
-pub cells_bounded : (net : NetTree) → Sound net → (log : List ℕ) (S : State) → LeadsTo net log S → (C : CellCircuit) →
-    CellsShow C S → (k : CellToken) → C.live ≡ Some k → Bounded net k
-cells_bounded net sound log S h C (R, shows, has) k e =
-    go R.live refl (subst (λ d. IsLive C.store R.live d) e has.live)
-  where
-    go : (c : Option (ℕ × TokenTree)) → R.live ≡ c → IsLive C.store R.live (Some k) → Bounded net k
-    go None f l = elim (subst (λ c. IsLive C.store c (Some k)) f l) [ ]
-    go (Some c) f l =
-        let there : S.tokens c.0 ≡ Some c.1 = shows.tokens c.0 ∙ ap (λ l. token_at l R.ring c.0) f ∙
-        ap (λ b. cond b (Some c.1) (ring_at R.ring c.0)) (eq-eqb c.0 c.0 refl) in
-        bounded_at net C k c.1 (run_placed net sound log S h c.0 c.1 there) (subst (λ c. IsLive C.store c (Some k)) f l)

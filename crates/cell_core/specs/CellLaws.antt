@@ -1,11 +1,12 @@
 -- What holds of cells: the statements of `law_kept` and `law_cell_rows`.
-use Rattle.std.specs.Prelude.{◌≡◌, ◌<◌, ℕ, true, false, List, Some}
+use Rattle.std.specs.Prelude.{◌≡◌, ◌<◌, ℕ, ◌+◌, true, false, List, Some}
 use Rattle.token_stacks.specs.Signatures.{Sig, Work, Boxes}
 use Rattle.move_rules.specs.Places.{Place}
 use Rattle.move_rules.specs.Stacks.{work_at, boxes_at}
 use Rattle.circuit_core.specs.Rows.{Row, channel_of}
 use Rattle.circuit_core.specs.RowMoves.{stack_row}
 use Rattle.cell_core.specs.Cells.{Pointer, Cell, Store, more, Stands, AllStand, Stacks, Shows, reads, row_on, after, needs_cell, cell_row}
+use Rattle.cell_core.specs.Sizes.{makes}
 
 -- what stands in a store, stands in the store with one more cell
 abbrev pub Kept : Type 0
@@ -32,3 +33,7 @@ ReadsMade =
     needs_cell r k ≡ true → (reads r k).place < V.top)
     × ((r : Row) (k : Stacks) (x y : Cell) (n : ℕ) → needs_cell r k ≡ false →
     cell_row r x n k.dirs k.sigs k.boxes ≡ cell_row r y n k.dirs k.sigs k.boxes)
+
+-- after a row as many cells more are in use as it is counted for
+abbrev pub MakesCounted : Type 0
+MakesCounted = (r : Row) (V : Store) (k : Stacks) → (after (row_on r V k).made V k).top ≡ V.top + makes r

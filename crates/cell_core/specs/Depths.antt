@@ -12,8 +12,6 @@ use Rattle.move_rules.specs.Places.{Place, up, down, TokenTree, place_of}
 use Rattle.move_rules.specs.Moves.{Move, solo, fork, join, answer, stay, move}
 use Rattle.interleave_laws.specs.States.{State}
 use Rattle.interleave_laws.specs.Runs.{LeadsTo}
-use Rattle.cell_core.specs.Circuit.{CellToken, CellCircuit}
-use Rattle.cell_core.specs.CircuitLaws.{CellsShow}
 use Rattle.cell_core.specs.Cells.{Store, Stacks, Shows}
 
 -- a path into a type
@@ -87,17 +85,3 @@ DepthsKept = (net : NetTree) → Sound net → (x : TokenTree) → Placed net (p
 abbrev pub RunPlaced : Type 0
 RunPlaced = (net : NetTree) → Sound net → (log : List ℕ) (S : State) → LeadsTo net log S → (i : ℕ) (x : TokenTree) →
     S.tokens i ≡ Some x → Placed net (place_of x)
-
--- and so the registers of a circuit that shows a state of the run are as long as some wire's type and depth say
-pub record Bounded (net : NetTree) (k : CellToken) : Type 0 where
-  pub number : ℕ
-  pub wire : WireTree
-  pub there : Is net number wire
-  pub dirs : length k.stacks.dirs ≤ marks_in wire.type
-  pub sigs : length k.stacks.sigs ≤ suc (sigs_in wire.type)
-  pub boxes : length k.stacks.boxes ≡ wire.depth
-
--- so the three lists need no test in a circuit whose registers have room for each wire
-abbrev pub CellsBounded : Type 0
-CellsBounded = (net : NetTree) → Sound net → (log : List ℕ) (S : State) → LeadsTo net log S → (C : CellCircuit) → CellsShow C S →
-    (k : CellToken) → C.live ≡ Some k → Bounded net k

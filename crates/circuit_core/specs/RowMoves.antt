@@ -19,11 +19,6 @@ abbrev pub at : Channel → Work → Boxes → Place
 at (rises w) m t = up w m t
 at (falls w) m t = down w m t
 
--- the same kind of token at another place
-abbrev pub carry : TokenTree → Place → TokenTree
-carry (ask p) q = ask q
-carry (ans v p) q = ans v q
-
 -- where a row of stacks alone leads; none where the stacks haven't what it reads, and at the rows of numbers
 abbrev pub stack_row : Row → Work → Boxes → Option Place
 stack_row (GO c) m t = Some (at c m t)
