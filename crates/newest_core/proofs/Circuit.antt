@@ -12,16 +12,15 @@ use Rattle.net_build.specs.Nets.{NetTree}
 use Rattle.move_rules.specs.Places.{Place, up, down, TokenTree, ask, ans, place_of}
 use Rattle.move_rules.specs.Moves.{join, solo_at}
 use Rattle.interleave_laws.specs.Runs.{Runs}
-use Rattle.circuit_core.specs.Rows.{Row, CONST, SUCC, PRED, TEST, FORK, JOIN, ANSWER, DEAD, FIXOUT}
+use Rattle.circuit_core.specs.Rows.{Row, CONST, SUCC, PRED, TEST, FORK, JOIN, ANSWER, DEAD}
 use Rattle.circuit_core.specs.Rows.{Channel, rises, falls, row_of, channel_of}
 use Rattle.circuit_core.specs.RowMoves.{stack_row, answer_row, question_row, by_row, by_found, by_rows, at}
-use Rattle.circuit_core.proofs.Circuit.{not_full}
-use Rattle.circuit_core.proofs.Processor.{none_some}
-use Rattle.cell_core.specs.Cells.{Cell, Store, Stacks, Shows, Made, to, first_of, below, cell_at, row_on, after, AllStand}
+use Rattle.circuit_core.proofs.Small.{not_full, none_some}
+use Rattle.cell_core.specs.Cells.{Cell, Store, Shows, Made, row_on, after, AllStand}
 use Rattle.cell_core.specs.CellLaws.{RowShows}
-use Rattle.cell_core.specs.Circuit.{Sizes, asked, too_long, used_up}
-use Rattle.cell_core.specs.Enough.{makes, makes_on}
+use Rattle.cell_core.specs.Sizes.{Sizes, asked, too_long, used_up, makes, makes_on}
 use Rattle.cell_core.proofs.Cells.{cell_rows}
+use Rattle.cell_core.proofs.Counted.{row_makes, top_after}
 use Rattle.newest_core.specs.Processor.{Half, waits, came, OpenFork, Registers, meets_half, meets, does, made_by, counted, tick_on, tick}
 use Rattle.newest_core.specs.Processor.{ticks, reset}
 use Rattle.newest_core.specs.ProcessorLaws.{IsInnermost}
@@ -46,25 +45,6 @@ Along R C = (C.full ≡ true) ⊎ Has R C
 stands : (V : Store) (k : CellToken) (c : Channel) (m : Work) (t : Boxes) → k.channel ≡ c → Shows V k.stacks m t → StandsAt V (at c m t) k
 stands V k (rises w) m t e h = record { channel = e; stacks = h }
 stands V k (falls w) m t e h = record { channel = e; stacks = h }
-
--- a cell that is made counts one
-abbrev pub one_made : Bool → ℕ
-one_made true = 1
-one_made false = 0
-
--- a row makes as many cells as it is counted for
-pub row_makes : (r : Row) (V : Store) (k : Stacks) → one_made (row_on r V k).made ≡ makes r
-row_makes (FIXOUT c d) V k = go (first_of k.boxes).mark
-  where
-    go : (b : Bool) → one_made (cond b (to d k.dirs ((cell_at V (first_of k.boxes)).second ∷ k.sigs)
-        ((cell_at V (first_of k.boxes)).first ∷ below k.boxes)) (to c k.dirs k.sigs (below k.boxes))).made ≡ 0
-    go true = refl
-    go false = refl
-row_makes r V k = refl
-
-pub top_after : (b : Bool) (V : Store) (k : Stacks) → (after b V k).top ≡ V.top + one_made b
-top_after true V k = omega arith
-top_after false V k = omega arith
 
 -- the same registers with another token
 with_token : (R : Registers) (C : CellCircuit) (j : ℕ) (x : TokenTree) (k : CellToken) → Rest R C → C.store.top + 0 ≡ R.cells →
@@ -279,7 +259,7 @@ module _ (z : Sizes) where
         (found_along (counted net c.1 R) (record C { moves = suc C.moves }) c.0 (row_of net (channel_of (place_of c.1))) c.1 k more
         (ap (λ n. n + made_by net c.1) h.cells) l full (inn c.0 c.1 refl))
 
-    cycle : (R : Registers) (C : CellCircuit) → Has R C → R.full ≡ false → (tick net R).full ≡ false →
+    pub cycle : (R : Registers) (C : CellCircuit) → Has R C → R.full ≡ false → (tick net R).full ≡ false →
         ((i : ℕ) (x : TokenTree) → R.live ≡ Some (i, x) → (n : ℕ) (o : Operator) (s : Side) (u : Val) (w : ℕ) (b : Boxes) →
         by_rows net x ≡ join n o s u w b → IsInnermost R.forks n b s) → Along (tick net R) (clock net z C)
     cycle R C h e full inn =

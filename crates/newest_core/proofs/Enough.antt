@@ -13,14 +13,14 @@ use Rattle.move_rules.specs.Moves.{join, solo_at}
 use Rattle.interleave_laws.specs.Runs.{Runs}
 use Rattle.circuit_core.specs.Rows.{Row, CONST, SUCC, PRED, TEST, FORK, JOIN, ANSWER, DEAD, Channel, row_of, channel_of}
 use Rattle.circuit_core.specs.RowMoves.{stack_row, answer_row, question_row, by_row, by_found, by_rows}
-use Rattle.circuit_core.proofs.Circuit.{not_full}
+use Rattle.circuit_core.proofs.Small.{not_full}
 use Rattle.cell_core.specs.Cells.{Cell, Store, Shows, Made, row_on, after}
 use Rattle.cell_core.specs.CellLaws.{RowShows}
-use Rattle.cell_core.specs.Circuit.{Sizes, too_long, used_up}
+use Rattle.cell_core.specs.Sizes.{Sizes, too_long, used_up, Covers, makes, makes_on}
 use Rattle.cell_core.specs.Depths.{Placed, MoveKeeps}
-use Rattle.cell_core.specs.Enough.{Covers, makes, makes_on}
 use Rattle.cell_core.proofs.Cells.{cell_rows}
-use Rattle.cell_core.proofs.Enough.{short_at}
+use Rattle.cell_core.proofs.Counted.{one_made, row_makes}
+use Rattle.cell_core.proofs.Short.{short_at}
 use Rattle.cell_core.proofs.Typed.{depths_kept}
 use Rattle.cell_core.proofs.RunDepths.{run_placed}
 use Rattle.newest_core.specs.Processor.{OpenFork, Registers, does, made_by, counted, tick_on, tick, ticks, reset, newest}
@@ -30,7 +30,7 @@ use Rattle.newest_core.specs.Circuit.{clock_on, clock, powered, circuit}
 use Rattle.newest_core.specs.CircuitLaws.{IsToken, IsLive, IsStack, Has}
 use Rattle.newest_core.specs.Enough.{FitsWithin, forks_peak, cells_peak}
 use Rattle.newest_core.proofs.Processor.{after_reset, there, row_moves, tick_last}
-use Rattle.newest_core.proofs.Circuit.{Rest, one_made, row_makes, shifted_there, channel_is, full_stays, last_clock}
+use Rattle.newest_core.proofs.Circuit.{Rest, shifted_there, channel_is, full_stays, last_clock}
 use Rattle.newest_core.proofs.Circuit.{never_full, innermost, along}
 
 -- as many forks as the processor has
@@ -240,12 +240,16 @@ module _ (z : Sizes) where
         (ap (λ n. n + made_by net c.1) h.cells) l known.0 room known.1)
 
   module _ (net : NetTree) (runs : Runs net) where
-    -- the current token moves to stacks of its wire
-    token_keeps : (k i : ℕ) (x : TokenTree) → (ticks net k (reset net)).live ≡ Some (i, x) → MoveKeeps net (by_rows net x)
-    token_keeps k i x live =
+    -- the current token has stacks of its wire
+    pub token_placed : (k i : ℕ) (x : TokenTree) → (ticks net k (reset net)).live ≡ Some (i, x) → Placed net (place_of x)
+    token_placed k i x live =
         let g = after_reset net runs k in
-        subst (MoveKeeps net) (row_moves net runs k i x live)
-        (depths_kept net runs.sound x (run_placed net runs.sound (newest net k) g.state g.leads i x (there net runs k i x live)))
+        run_placed net runs.sound (newest net k) g.state g.leads i x (there net runs k i x live)
+
+    -- and moves to stacks of its wire
+    pub token_keeps : (k i : ℕ) (x : TokenTree) → (ticks net k (reset net)).live ≡ Some (i, x) → MoveKeeps net (by_rows net x)
+    token_keeps k i x live =
+        subst (MoveKeeps net) (row_moves net runs k i x live) (depths_kept net runs.sound x (token_placed k i x live))
 
     -- one cycle more
     go_on : (k : ℕ) (mem : ℕ → Cell) → Covers z net → FitsWithin net z (suc k) → (circuit net z mem k).full ≡ false →

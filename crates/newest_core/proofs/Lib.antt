@@ -1,3 +1,5 @@
+-- the innermost fork around a place, and what a move makes of it
+pub mod Inner
 -- where forks are, and that they nest
 pub mod Nests
 -- the tickets that wait, and that no fork stands twice
@@ -14,3 +16,7 @@ pub mod Meaning
 pub mod Enough
 -- the processor's tickets are the machine's stack of tickets
 pub mod Schedule
+-- each token's lists are as long as a wire's type and depth say
+pub mod Depths
+-- after the answer nothing changes, and no more is needed
+pub mod Rests

@@ -24,7 +24,7 @@ use Rattle.interleave_laws.proofs.Apart.{asked, asked_apart}
 use Rattle.circuit_core.specs.Rows.{Row, SUCC, PRED, TEST, JOIN, ANSWER, row_of, channel_of}
 use Rattle.circuit_core.specs.RowMoves.{stack_row, answer_row, by_found}
 use Rattle.circuit_core.proofs.Rows.{law}
-use Rattle.circuit_core.proofs.Nesting.{Inner, in_root, in_fork, in_other, NotTwo, join_inner}
+use Rattle.newest_core.proofs.Inner.{Inner, in_root, in_fork, in_other, NotTwo, join_inner}
 use Rattle.newest_core.specs.Processor.{Half, waits, came, OpenFork}
 
 -- the right question that waits with a fork is that of its right operand

@@ -24,8 +24,8 @@ use Rattle.interleave_laws.proofs.Running.{run_append, has_step, answered_idle, 
 use Rattle.interleave_laws.proofs.Apart.{asked}
 use Rattle.circuit_core.specs.RowMoves.{by_rows}
 use Rattle.circuit_core.proofs.Rows.{law}
-use Rattle.circuit_core.proofs.Nesting.{in_root, in_fork, solo_inner, fork_inner, join_inner}
-use Rattle.circuit_core.proofs.Processor.{none_some, same_some, replaced}
+use Rattle.newest_core.proofs.Inner.{in_root, in_fork, solo_inner, fork_inner, join_inner}
+use Rattle.circuit_core.proofs.Small.{none_some, same_some, replaced}
 use Rattle.newest_core.specs.Processor.{Half, waits, came, OpenFork, Registers, meets_half, meets, does, counted, tick_on, tick, ticks}
 use Rattle.newest_core.specs.Processor.{reset, on_live, fired, newest, waiting_at, token_at, entry_of, fork_at}
 use Rattle.newest_core.specs.ProcessorLaws.{Shows, Follows, Waits, IsInnermost}
@@ -354,7 +354,7 @@ tick_last net zero R = refl
 tick_last net (suc k) R = tick_last net k (tick net R)
 
 -- without a current token nothing moves
-ticks_rest : (net : NetTree) (k : ℕ) (R : Registers) → tick net R ≡ R → ticks net k R ≡ R
+pub ticks_rest : (net : NetTree) (k : ℕ) (R : Registers) → tick net R ≡ R → ticks net k R ≡ R
 ticks_rest net zero R e = refl
 ticks_rest net (suc k) R e = ap (ticks net k) e ∙ ticks_rest net k R e
 

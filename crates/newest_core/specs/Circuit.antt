@@ -14,7 +14,7 @@ use Rattle.interleave_laws.specs.Start.{start_of}
 use Rattle.circuit_core.specs.Rows.{Row, CONST, SUCC, PRED, TEST, FORK, JOIN, ANSWER, DEAD}
 use Rattle.circuit_core.specs.Rows.{Channel, falls, row_of, channel_of}
 use Rattle.cell_core.specs.Cells.{Pointer, Cell, Store, Stacks, Made, row_on, after}
-use Rattle.cell_core.specs.Circuit.{Sizes, asked, too_long, used_up}
+use Rattle.cell_core.specs.Sizes.{Sizes, asked, too_long, used_up}
 
 -- the token: its value if it answers, where it comes by, and its stacks
 pub record CellToken : Type 0 where

@@ -1,19 +1,24 @@
--- The circuit over cells follows the processor, and gives back no cell that is still in use: the statements of `law_newest_circuit`.
+-- The circuit over cells follows the processor, and gives back no cell that is still in use: the statements of `law_newest_circuit`,
+-- `law_newest_step` and `law_newest_cells`.
 use Rattle.std.specs.Prelude.{◌≡◌, ◌⊎◌, ◌≤◌, ◌<◌, ℕ, true, false, List, [], ◌∷◌, length, Option, Some, None}
+use Rattle.pcf_values.specs.declared.operator.Operator.{Operator}
+use Rattle.pcf_values.specs.declared.side.Side.{Side}
+use Rattle.pcf_values.specs.declared.val.Val.{Val}
 use Rattle.token_stacks.specs.Signatures.{Sig, star, left_of, right_of, pair_of, again, Boxes}
 use Rattle.net_build.specs.Nets.{NetTree}
 use Rattle.move_rules.specs.Places.{Place, TokenTree, ask, ans}
+use Rattle.move_rules.specs.Moves.{join}
 use Rattle.move_rules.specs.Stacks.{work_at, boxes_at}
 use Rattle.interleave_laws.specs.States.{State}
 use Rattle.interleave_laws.specs.Runs.{LeadsTo, Runs}
 use Rattle.circuit_core.specs.Rows.{channel_of}
-use Rattle.circuit_core.specs.RowMoves.{at}
+use Rattle.circuit_core.specs.RowMoves.{at, by_rows}
 use Rattle.cell_core.specs.Cells.{Pointer, Cell, Store, AllStand}
 use Rattle.cell_core.specs.Cells.{Shows as StacksShow}
-use Rattle.cell_core.specs.Circuit.{Sizes}
-use Rattle.newest_core.specs.Processor.{Half, waits, came, OpenFork, Registers, newest}
-use Rattle.newest_core.specs.ProcessorLaws.{Shows}
-use Rattle.newest_core.specs.Circuit.{CellToken, CellFork, CellCircuit, back, circuit}
+use Rattle.cell_core.specs.Sizes.{Sizes}
+use Rattle.newest_core.specs.Processor.{Half, waits, came, OpenFork, Registers, tick, newest}
+use Rattle.newest_core.specs.ProcessorLaws.{Shows, IsInnermost}
+use Rattle.newest_core.specs.Circuit.{CellToken, CellFork, CellCircuit, back, clock, circuit}
 
 -- the token's registers have the place's channel and stand for its stacks
 pub record StandsAt (V : Store) (p : Place) (k : CellToken) : Type 0 where
@@ -59,6 +64,16 @@ pub record Has (R : Registers) (C : CellCircuit) : Type 0 where
   pub moves : C.moves ≡ R.moves
   pub cells : C.store.top ≡ R.cells
   pub ready : C.full ≡ false
+
+-- an answer of the current token that joins comes to the innermost fork, and answers what that waits for
+abbrev pub MeetsInnermost : NetTree → Registers → Type 0
+MeetsInnermost net R = (i : ℕ) (x : TokenTree) → R.live ≡ Some (i, x) → (n : ℕ) (o : Operator) (s : Side) (v : Val) (w : ℕ) (t : Boxes) →
+    by_rows net x ≡ join n o s v w t → IsInnermost R.forks n t s
+
+-- one cycle: where the processor isn't full before nor after it, the circuit is full or has what the processor has
+abbrev pub NewestStep : Type 0
+NewestStep = (net : NetTree) (z : Sizes) (R : Registers) (C : CellCircuit) → Has R C → R.full ≡ false → (tick net R).full ≡ false →
+    MeetsInnermost net R → ((clock net z C).full ≡ true) ⊎ Has (tick net R) (clock net z C)
 
 -- it shows the state: between them stands a processor
 abbrev pub CellsShow : CellCircuit → State → Type 0

@@ -1,11 +1,12 @@
 -- The circuit is full just where there is too little room: the statements of `law_newest_enough`.
 -- How many forks and cells a run wants at once is told of the processor, so it can be found by any run of it; no circuit takes part in it.
 use Rattle.std.specs.Prelude.{◌≡◌, ◌≤◌, ℕ, zero, suc, max, false, length}
+use Rattle.pcf_values.specs.declared.val.Val.{Val}
 use Rattle.net_build.specs.Nets.{NetTree}
 use Rattle.interleave_laws.specs.Runs.{Runs}
+use Rattle.adequacy_laws.specs.Questions.{Length}
 use Rattle.cell_core.specs.Cells.{Cell}
-use Rattle.cell_core.specs.Circuit.{Sizes}
-use Rattle.cell_core.specs.Enough.{Covers}
+use Rattle.cell_core.specs.Sizes.{Sizes, Covers}
 use Rattle.newest_core.specs.Processor.{Registers, tick, ticks, reset}
 use Rattle.newest_core.specs.Circuit.{circuit}
 
@@ -36,4 +37,9 @@ cells_peak net (suc k) R = max R.cells (cells_peak net k (tick net R))
 -- they are what a run of so many moves wants
 abbrev pub PeaksFit : Type 0
 PeaksFit = (net : NetTree) (z : Sizes) (k : ℕ) → forks_peak net k (reset net) ≤ z.forks → cells_peak net k (reset net) ≤ z.cells →
+    FitsWithin net z k
+
+-- and where the net has a length, what is enough up to there is enough for any number of moves
+abbrev pub NewestRests : Type 0
+NewestRests = (net : NetTree) → Runs net → (v : Val) (n : ℕ) → Length net v n → (z : Sizes) → FitsWithin net z n → (k : ℕ) →
     FitsWithin net z k

@@ -10,6 +10,8 @@ pub mod CircuitLaws
 pub mod Meaning
 -- The circuit is full just where there is too little room.
 pub mod Enough
+-- How long a token's lists become.
+pub mod Depths
 -- Worked runs that the prover computes.
 pub mod Example
 -- The schedule told of the machine alone: a stack of tickets.

@@ -8,8 +8,7 @@ use Rattle.adequacy_laws.specs.Questions.{Length}
 use Rattle.adequacy_laws.specs.Adequacy.{OfEveryProgram}
 use Rattle.adequacy_laws.specs.Finished.{Within, Beyond}
 use Rattle.cell_core.specs.Cells.{Cell}
-use Rattle.cell_core.specs.Circuit.{Sizes}
-use Rattle.cell_core.specs.Enough.{Covers}
+use Rattle.cell_core.specs.Sizes.{Sizes, Covers}
 use Rattle.newest_core.specs.Processor.{ticks, reset}
 use Rattle.newest_core.specs.Circuit.{circuit}
 use Rattle.newest_core.specs.Enough.{forks_peak, cells_peak}

@@ -1,10 +1,10 @@
 -- The processor that walks the newest question first: the current token, and the open forks as a stack.
 -- At a fork the token goes on with the left question, and the right one waits with the fork. The left question's answer is kept there, and
 -- the right question is walked. Its answer finds the left one, closes the fork and goes on with what both come to. An answer looks at the
--- innermost fork alone, and asks neither which fork that is nor which operand it answers: that these are always right is a law. So there is
--- no ring of questions, no number of a fork and no search. Tickets stand here beside the tokens only so that a law can compare the
--- processor with the machine. `cells` counts the cells in use, for the circuit over cells: a fork remembers how many there were when it was
--- opened, and each of its two answers gives back all that were made since.
+-- innermost fork alone, and asks neither which fork that is nor which operand it answers: that these are always right is a law. So
+-- questions wait in no queue, no fork has a number, and nothing is searched. Tickets stand here beside the tokens only so that a law can
+-- compare the processor with the machine. `cells` counts the cells in use, for the circuit over cells: a fork remembers how many there were
+-- when it was opened, and each of its two answers gives back all that were made since.
 use Rattle.std.specs.Prelude.{ℕ, zero, suc, ◌+◌, Bool, false, true, List, [], ◌∷◌, Option, Some, None, nat_eq, if◌then◌else◌}
 use Rattle.pcf_values.specs.declared.val.Val.{Val}
 use Rattle.pcf_values.specs.Values.{val_op}
@@ -17,7 +17,7 @@ use Rattle.move_rules.specs.Moves.{Move, solo, fork, join, answer, stay}
 use Rattle.interleave_laws.specs.Start.{start_of}
 use Rattle.circuit_core.specs.Rows.{row_of, channel_of}
 use Rattle.circuit_core.specs.RowMoves.{by_rows}
-use Rattle.cell_core.specs.Enough.{makes_on}
+use Rattle.cell_core.specs.Sizes.{makes_on}
 
 -- what an open fork has: its right question, which waits with its ticket, or its left question's answer
 pub data Half : Type 0 where
