@@ -3,6 +3,8 @@ mod Parts
 -- what is written isn't read by the next row
 mod Apart
 -- a module that the standard takes
-mod WellFormed
+pub mod WellFormed
 -- the lists of a net's sizes have room for each wire
 mod Sizes
+-- a channel has room in its field
+pub mod Channels

@@ -1,7 +1,6 @@
 -- What a row's case sets, and how many words the memories have: by computation.
 use Rattle.std.proofs.Common.{refl}
 use Rattle.pcf_values.specs.declared.operator.Operator.TheVariants.{Plus, Minus, Times}
-use Rattle.pcf_values.specs.declared.side.Side.TheVariants.{Left, Right}
 use Rattle.circuit_core.specs.Rows.{GO, CONST, SUCC, PRED, TEST, FORK, JOIN, ANSWER, STAR, UNSTAR, LEFT, RIGHT, CON}
 use Rattle.circuit_core.specs.Rows.{PUSHR, PUSHL, SELECT, POP, BOXIN, BOXOUT, DOOROUT, DOORIN, FIXIN, FIXOUT, FIXVAR, DEAD}
 use Rattle.verilog_tree.specs.Meaning.{scope}
@@ -17,12 +16,9 @@ set_words wires start z rows product (SUCC c) S = refl
 set_words wires start z rows product (PRED c) S = refl
 set_words wires start z rows product (TEST c d) S = refl
 set_words wires start z rows product (FORK c d) S = refl
-set_words wires start z rows product (JOIN Plus Left w) S = refl
-set_words wires start z rows product (JOIN Plus Right w) S = refl
-set_words wires start z rows product (JOIN Minus Left w) S = refl
-set_words wires start z rows product (JOIN Minus Right w) S = refl
-set_words wires start z rows product (JOIN Times Left w) S = refl
-set_words wires start z rows product (JOIN Times Right w) S = refl
+set_words wires start z rows product (JOIN Plus s w) S = refl
+set_words wires start z rows product (JOIN Minus s w) S = refl
+set_words wires start z rows product (JOIN Times s w) S = refl
 set_words wires start z rows product ANSWER S = refl
 set_words wires start z rows product (STAR c) S = refl
 set_words wires start z rows product (UNSTAR c) S = refl
@@ -46,4 +42,4 @@ pub set_literals : RowsSetLiterals
 set_literals wires start z rows product n c low S = constants_set (scope (cell_module_with wires start z rows product)) refl n c low S
 
 pub have_places : MemoriesHavePlaces
-have_places wires start z rows product = (refl, refl, refl, refl, refl, refl, refl)
+have_places wires start z rows product = (refl, refl, refl, refl, refl, refl)

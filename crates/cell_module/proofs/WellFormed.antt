@@ -3,7 +3,6 @@ use Rattle.std.proofs.Common.{◌≡◌, ℕ, zero, suc, Bool, true, false, ◌&
 use Rattle.std.proofs.lemmas.Bool.{and_from}
 use Prim.Native.String.{String}
 use Rattle.pcf_values.specs.declared.operator.Operator.TheVariants.{Plus, Minus, Times}
-use Rattle.pcf_values.specs.declared.side.Side.TheVariants.{Left, Right}
 use Rattle.net_build.specs.Nets.{NetTree}
 use Rattle.interleave_laws.specs.Start.{start_of}
 use Rattle.circuit_core.specs.Rows.{Channel, rises, falls, number, Row, GO, CONST, SUCC, PRED, TEST, FORK, JOIN, ANSWER, STAR, UNSTAR, LEFT}
@@ -12,7 +11,7 @@ use Rattle.circuit_core.specs.Rows.{row_of}
 use Rattle.circuit_core.specs.Rows.{channel_of}
 use Rattle.verilog_tree.specs.Tree.{Arms}
 use Rattle.verilog_tree.specs.WellFormed.{Entry, said_ok, stmt_ok, arms_ok, all_declared, WellFormed}
-use Rattle.cell_core.specs.Circuit.{Sizes}
+use Rattle.cell_core.specs.Sizes.{Sizes}
 use Rattle.circuit_module.specs.Module.{row_stmt, place_said, row_arm, row_arms, multiplies}
 use Rattle.cell_module.specs.Fixed.{cell_ports, cell_port_notes, cell_constants, cell_registers, way_wires, next_row_notes}
 use Rattle.cell_module.specs.Module.{cell_sizes, cell_product, cell_module_with, cell_module}
@@ -34,12 +33,9 @@ case_ok (SUCC c) = refl
 case_ok (PRED c) = refl
 case_ok (TEST c d) = refl
 case_ok (FORK c d) = refl
-case_ok (JOIN Plus Left w) = refl
-case_ok (JOIN Plus Right w) = refl
-case_ok (JOIN Minus Left w) = refl
-case_ok (JOIN Minus Right w) = refl
-case_ok (JOIN Times Left w) = refl
-case_ok (JOIN Times Right w) = refl
+case_ok (JOIN Plus s w) = refl
+case_ok (JOIN Minus s w) = refl
+case_ok (JOIN Times s w) = refl
 case_ok ANSWER = refl
 case_ok (STAR c) = refl
 case_ok (UNSTAR c) = refl
@@ -60,7 +56,7 @@ case_ok (FIXVAR c) = refl
 case_ok DEAD = refl
 
 -- what is said of a row is on its line
-place_said_ok : (c : Channel) (i : ℕ) → said_ok (place_said c i) ≡ true
+pub place_said_ok : (c : Channel) (i : ℕ) → said_ok (place_said c i) ≡ true
 place_said_ok (rises w) i = refl
 place_said_ok (falls w) i = refl
 

@@ -19,7 +19,7 @@ reads_cell (DOORIN c) = true
 reads_cell (FIXOUT c d) = true
 reads_cell r = false
 
--- a row that reads its fork, and the ring
+-- a row that reads its fork
 abbrev pub is_join : Row → Bool
 is_join (JOIN o s w) = true
 is_join r = false

@@ -5,9 +5,9 @@ use Rattle.std.specs.Prelude.{ℕ, suc, ◌+◌, ◌^◌, List, [], ◌∷◌, �
 use Prim.Native.String.{String}
 use Rattle.verilog_tree.specs.Tree.{count, named, more, less, plus, minus, times, right, same, below, both, one_of, Expr}
 use Rattle.verilog_tree.specs.Tree.{num, sized, const, name, bit, part, word, cat, two, shift, test, logic, none, any, every}
-use Rattle.verilog_tree.specs.Tree.{pick, bit_at, word_at, Stmt, skip, put, seq, branch, cases, Arms, one, upto, wide, integer}
+use Rattle.verilog_tree.specs.Tree.{pick, word_at, Stmt, skip, put, seq, branch, cases, Arms, Width, one, upto, wide}
 use Rattle.verilog_tree.specs.Tree.{Item, note, gap, size, constant, output, input, reg, memory, wire, settles}
-use Rattle.circuit_module.specs.Fixed.{set, block, high, low, free_block, next_place, no_row}
+use Rattle.circuit_module.specs.Fixed.{set, block, high, low, no_row}
 
 -- the ports
 abbrev pub cell_ports : List Item
@@ -22,8 +22,8 @@ cell_port_notes =
     note "done: the run has ended with a value. result: the value, where done is up; bit 64 says overflow." ∷
     note "full: the run has ended without one, since the cells or the forks were too few." ∷
     note "moves: the moves of the run so far, one in each cycle." ∷ gap ∷ note "---- sizes" ∷ gap ∷
-    note "The bits of a channel, of a fork's number and of a cell's place; the bits of all marks, signatures and boxes that a" ∷
-    note "token may have; the cells, and the forks that can be open at once." ∷ []
+    note "The bits of a channel, of the count of open forks and of a cell's place; the bits of all marks, signatures and boxes" ∷
+    note "that a token may have; the cells, and the forks that can be open at once." ∷ []
 
 -- the bit of this number in a row's word
 abbrev pub does : String → Expr
@@ -40,25 +40,24 @@ abbrev pub deeds : List String
 deeds =
     "BY_MARK" ∷ "BY_SIG" ∷ "BY_BOX" ∷ "BY_VALUE" ∷ "MARK_PUSH" ∷ "MARK_LEFT" ∷ "MARK_POP" ∷ "SIG_DROP" ∷ "SIG_NEW" ∷ "SIG_CELL" ∷
     "SIG_BOX" ∷ "SIG_STAR" ∷ "BOX_DROP" ∷ "BOX_SIG" ∷ "BOX_CELL" ∷ "BOX_NEW" ∷ "BOX_STAR" ∷ "MAKES" ∷ "MARKED" ∷ "IS_CONST" ∷
-    "IS_SUCC" ∷ "IS_PRED" ∷ "FORKS" ∷ "JOINS" ∷ "IS_LEFT" ∷ "SUBTRACTS" ∷ "MULTIPLIES" ∷ "ENDS" ∷ "STUCK" ∷ []
+    "IS_SUCC" ∷ "IS_PRED" ∷ "FORKS" ∷ "JOINS" ∷ "SUBTRACTS" ∷ "MULTIPLIES" ∷ "ENDS" ∷ "STUCK" ∷ []
 
 -- an operation's word
 abbrev pub op_word : String → ℕ → Item
-op_word x n = constant (upto (count 28)) x n
+op_word x n = constant (upto (count 27)) x n
 
 -- the operations of rows, each with the bits of what it does
 abbrev pub op_words : List Item
 op_words =
     op_word "GO" 0 ∷ op_word "CONST" (2 ^ 19) ∷ op_word "SUCC" (2 ^ 20) ∷ op_word "PRED" (2 ^ 21) ∷ op_word "TEST" (2 ^ 3) ∷
-    op_word "FORK" (2 ^ 22) ∷ op_word "PLUSL" (2 ^ 23 + 2 ^ 24) ∷ op_word "PLUSR" (2 ^ 23) ∷
-    op_word "MINUSL" (2 ^ 23 + 2 ^ 24 + 2 ^ 25) ∷ op_word "MINUSR" (2 ^ 23 + 2 ^ 25) ∷
-    op_word "TIMESL" (2 ^ 23 + 2 ^ 24 + 2 ^ 26) ∷ op_word "TIMESR" (2 ^ 23 + 2 ^ 26) ∷ op_word "ANSWER" (2 ^ 27) ∷
+    op_word "FORK" (2 ^ 22) ∷ op_word "PLUS" (2 ^ 23) ∷ op_word "MINUS" (2 ^ 23 + 2 ^ 24) ∷ op_word "TIMES" (2 ^ 23 + 2 ^ 25) ∷
+    op_word "ANSWER" (2 ^ 26) ∷
     op_word "STAR" (2 ^ 11) ∷ op_word "UNSTAR" (2 ^ 7) ∷ op_word "LEFT" (2 ^ 7 + 2 ^ 8 + 2 ^ 17) ∷
     op_word "RIGHT" (2 ^ 7 + 2 ^ 8 + 2 ^ 17 + 2 ^ 18) ∷ op_word "CON" (2 ^ 1 + 2 ^ 7 + 2 ^ 9) ∷ op_word "PUSHR" (2 ^ 4) ∷
     op_word "PUSHL" (2 ^ 4 + 2 ^ 5) ∷ op_word "SELECT" (2 ^ 0 + 2 ^ 6) ∷ op_word "POP" (2 ^ 6) ∷ op_word "BOXIN" (2 ^ 7 + 2 ^ 13) ∷
     op_word "BOXOUT" (2 ^ 10 + 2 ^ 12) ∷ op_word "DOOROUT" (2 ^ 7 + 2 ^ 8 + 2 ^ 12 + 2 ^ 17) ∷
     op_word "DOORIN" (2 ^ 7 + 2 ^ 9 + 2 ^ 14) ∷ op_word "FIXIN" (2 ^ 16) ∷ op_word "FIXOUT" (2 ^ 2 + 2 ^ 12) ∷
-    op_word "FIXVAR" (2 ^ 7 + 2 ^ 12 + 2 ^ 15 + 2 ^ 17 + 2 ^ 18) ∷ op_word "DEAD" (2 ^ 28) ∷ []
+    op_word "FIXVAR" (2 ^ 7 + 2 ^ 12 + 2 ^ 15 + 2 ^ 17 + 2 ^ 18) ∷ op_word "DEAD" (2 ^ 27) ∷ []
 
 -- a value is a number of 64 bits; bit 64 says overflow, and then the others are 0
 abbrev pub cell_constants : List Item
@@ -70,31 +69,31 @@ cell_constants =
     note "pointer; change the value; open a fork, or arrive at it; end with a value, or without one." ∷
     (bits_named 0 deeds ++ (gap ∷ note "The operations of rows." ∷ op_words))
 
--- the token, the cells, the ring of right questions that wait, and the forks
+-- the bits of what a fork has besides its boxes: channel, cells, whether it is answered, and the answer
+abbrev pub fork_wide : Width
+fork_wide = wide (more (named "C") (more (named "P") (count 66)))
+
+-- the token, the cells, and the open forks
 abbrev pub cell_registers : List Item
 cell_registers =
     gap ∷ note "---- registers" ∷ gap ∷
     note "The token: its value is `result`; the row of its channel, as what it does, both channels that it sends to, and a" ∷
-    note "number; its marks, signatures and boxes, the top at bit 0; and its fork, the innermost one that is open around it." ∷
+    note "number; its marks, signatures and boxes, the top at bit 0." ∷
     note "A signature is a pointer to a cell: the cell's place, and a mark at bit 0, which is 1 at a right one and at one of" ∷
     note "a call from a call. A channel is a wire with a direction: 2 w is up wire w, and 2 w + 1 is down wire w." ∷
-    reg (upto (count 28)) "does" ∷ reg (wide (named "C")) "main" ∷ reg (wide (named "C")) "side" ∷ reg (upto (count 63)) "literal" ∷
-    reg (wide (named "D")) "marks" ∷ reg (wide (named "G")) "sigs" ∷ reg (wide (named "B")) "boxes" ∷
-    reg (wide (named "S")) "mine" ∷ gap ∷
+    reg (upto (count 27)) "does" ∷ reg (wide (named "C")) "main" ∷ reg (wide (named "C")) "side" ∷ reg (upto (count 63)) "literal" ∷
+    reg (wide (named "D")) "marks" ∷ reg (wide (named "G")) "sigs" ∷ reg (wide (named "B")) "boxes" ∷ gap ∷
     note "The cells: what the signature of a cell's pointer has below its root. Two copies of them, one read at the top" ∷
-    note "signature and one at the top box; and how many there are." ∷
+    note "signature and one at the top box; and how many are in use." ∷
     memory (upto (named "P")) "sig_firsts" (named "CELLS") ∷ memory (upto (named "P")) "sig_seconds" (named "CELLS") ∷
     memory (upto (named "P")) "box_firsts" (named "CELLS") ∷ memory (upto (named "P")) "box_seconds" (named "CELLS") ∷
     reg (wide (named "P")) "top" ∷ reg (upto (named "P")) "sig_first" ∷ reg (upto (named "P")) "sig_second" ∷
     reg (upto (named "P")) "box_first" ∷ reg (upto (named "P")) "box_second" ∷ gap ∷
-    note "The right questions that wait, in a ring: channel and fork, and boxes; and the one that waits longest." ∷
-    memory (wide (more (named "C") (named "S"))) "queue" (named "E") ∷ memory (wide (named "B")) "queue_boxes" (named "E") ∷
-    reg (wide (named "S")) "first" ∷ reg (wide (named "S")) "last" ∷ reg (wide (more (named "C") (named "S"))) "asked" ∷
-    reg (wide (named "B")) "asked_boxes" ∷ gap ∷
-    note "The forks: which are open, and of each one the fork around it, whether it has its first answer, and that answer;" ∷
-    note "and the last three of the token's own fork." ∷
-    reg (wide (named "E")) "open" ∷ memory (wide (more (named "S") (count 66))) "forks" (named "E") ∷
-    reg (wide (more (named "S") (count 66))) "fork_has" ∷ []
+    note "The open forks, the innermost last, and how many there are. A fork has the channel of its right question, the cells" ∷
+    note "that were in use when it was opened, whether its left answer is there, and that answer; and the boxes at which it" ∷
+    note "was opened. What the innermost fork has was read from these memories." ∷
+    memory fork_wide "forks" (named "E") ∷ memory (wide (named "B")) "forks_boxes" (named "E") ∷ reg (wide (named "S")) "depth" ∷
+    reg fork_wide "fork_has" ∷ reg (wide (named "B")) "fork_boxes" ∷ []
 
 -- one of these
 abbrev pub any_of : Expr → List Expr → Expr
@@ -109,18 +108,18 @@ marked x = bit x (num 0)
 abbrev pub way_wires : List Item
 way_wires =
     gap ∷ note "---- where the token goes" ∷ gap ∷
-    note "What its fork has, and the question that waits longest. Whether it goes on with what a cell has; whether its answer" ∷
-    note "is the first at its fork, so that this question is the next token; and the channel that it comes to." ∷
-    wire (wide (named "S")) "around" (part "fork_has" (more (named "S") (count 65)) (count 66)) ∷
+    note "What the innermost fork has. Whether the token goes on with what a cell has; whether its answer is the first at its" ∷
+    note "fork, so that the fork's right question is the next token, or the second; and the channel that the token comes to." ∷
+    wire (wide (named "C")) "fork_at" (part "fork_has" (more (named "C") (more (named "P") (count 65))) (more (named "P") (count 66))) ∷
+    wire (wide (named "P")) "fork_top" (part "fork_has" (more (named "P") (count 65)) (count 66)) ∷
     wire one "answered" (bit "fork_has" (num 65)) ∷ wire (upto (count 64)) "kept" (part "fork_has" (count 64) (count 0)) ∷
-    wire (wide (named "C")) "next_at" (part "asked" (less (more (named "C") (named "S")) (count 1)) (named "S")) ∷
-    wire (wide (named "S")) "asked_mine" (part "asked" (less (named "S") (count 1)) (count 0)) ∷
     wire one "back" (logic both (does "BY_BOX") (marked "boxes")) ∷
     wire one "first_answer" (logic both (does "JOINS") (none (name "answered"))) ∷
+    wire one "second_answer" (logic both (does "JOINS") (name "answered")) ∷
     wire one "aside" (any_of (logic both (does "BY_MARK") (bit "marks" (num 0))) (logic both (does "BY_SIG") (marked "sigs") ∷
     name "back" ∷ logic both (does "BY_VALUE") (any (name "result")) ∷ [])) ∷
     wire (wide (named "C")) "goes" (pick (name "rst") (const "START")
-    (pick (name "first_answer") (name "next_at") (pick (name "aside") (name "side") (name "main")))) ∷ []
+    (pick (name "first_answer") (name "fork_at") (pick (name "aside") (name "side") (name "main")))) ∷ []
 
 -- the row that the token comes to
 abbrev pub next_row_notes : List Item
@@ -128,7 +127,7 @@ next_row_notes =
     gap ∷ note "---- the rows of the net" ∷ gap ∷
     note "The row that the token comes to: an operation, the channel that it sends to, the other one if it has two, and a" ∷
     note "number if it has one." ∷
-    reg (upto (count 28)) "op" ∷ reg (wide (named "C")) "to" ∷ reg (wide (named "C")) "other" ∷ reg (upto (count 63)) "number" ∷ []
+    reg (upto (count 27)) "op" ∷ reg (wide (named "C")) "to" ∷ reg (wide (named "C")) "other" ∷ reg (upto (count 63)) "number" ∷ []
 
 -- the block that finds it
 abbrev pub next_row_block : Arms → Item
@@ -156,14 +155,14 @@ list_wires =
     (pick (does "SIG_BOX") (top_of "boxes") (pick (name "back") (name "box_second") (num 0))))) ∷
     wire (wide (named "G")) "sigs_left" (pick (does "SIG_DROP") (popped "sigs") (name "sigs")) ∷
     wire (upto (more (named "G") (named "P"))) "more_sigs" (cat (name "sigs_left") (name "sig_in")) ∷
-    wire (wide (named "G")) "next_sigs" (pick (name "first_answer") (num 0)
-    (pick (name "sig_push") (part "more_sigs" (less (named "G") (count 1)) (count 0)) (name "sigs_left"))) ∷
+    wire (wide (named "G")) "next_sigs"
+    (pick (name "sig_push") (part "more_sigs" (less (named "G") (count 1)) (count 0)) (name "sigs_left")) ∷
     wire one "box_push" (any_of (does "BOX_SIG") (does "BOX_CELL" ∷ does "BOX_NEW" ∷ does "BOX_STAR" ∷ name "back" ∷ [])) ∷
     wire (upto (named "P")) "box_in" (pick (does "BOX_SIG") (top_of "sigs") (pick (does "BOX_CELL") (name "sig_first")
     (pick (does "BOX_NEW") (name "fresh") (pick (name "back") (name "box_first") (num 0))))) ∷
     wire (wide (named "B")) "boxes_left" (pick (does "BOX_DROP") (popped "boxes") (name "boxes")) ∷
     wire (upto (more (named "B") (named "P"))) "more_boxes" (cat (name "boxes_left") (name "box_in")) ∷
-    wire (wide (named "B")) "next_boxes" (pick (name "first_answer") (name "asked_boxes")
+    wire (wide (named "B")) "next_boxes" (pick (does "JOINS") (name "fork_boxes")
     (pick (name "box_push") (part "more_boxes" (less (named "B") (count 1)) (count 0)) (name "boxes_left"))) ∷
     wire (wide (named "P")) "sig_place" (part "next_sigs" (named "P") (count 1)) ∷
     wire (wide (named "P")) "box_place" (part "next_boxes" (named "P") (count 1)) ∷ []
@@ -171,13 +170,14 @@ list_wires =
 -- the forks after the row
 abbrev pub cell_fork_wires : List Item
 cell_fork_wires =
-    gap ∷ note "---- forks" ∷ gap ∷ note "The first fork that isn't open, where there is one." ∷
-    reg (wide (named "S")) "free" ∷ reg integer "j" ∷ settles free_block ∷ gap ∷
-    note "The fork that is written and the one around it, the token's fork after an answer, and the next question's place in the ring." ∷
-    wire (wide (named "S")) "slot" (pick (does "FORKS") (name "free") (name "mine")) ∷
-    wire (wide (named "S")) "slot_around" (pick (does "FORKS") (name "mine") (name "around")) ∷
-    wire (wide (named "S")) "next_mine" (pick (does "JOINS") (pick (name "answered") (name "around") (name "asked_mine")) (name "mine")) ∷
-    wire (wide (named "S")) "next_first" (pick (name "first_answer") (next_place "first") (name "first")) ∷ []
+    gap ∷ note "---- forks" ∷ gap ∷
+    note "The place of the innermost fork, and the place that is written; how many are open after an answer, and the place of" ∷
+    note "the innermost one then. An answer gives back the cells that were made since its fork was opened." ∷
+    wire (wide (named "S")) "innermost" (two minus (name "depth") (num 1)) ∷
+    wire (wide (named "S")) "slot" (pick (does "FORKS") (name "depth") (name "innermost")) ∷
+    wire (wide (named "S")) "next_depth" (pick (name "second_answer") (name "innermost") (name "depth")) ∷
+    wire (wide (named "S")) "next_fork" (two minus (name "next_depth") (num 1)) ∷
+    wire (wide (named "P")) "next_top" (pick (does "JOINS") (name "fork_top") (name "top")) ∷ []
 
 -- a number with a bit above
 abbrev pub longer : String → Expr
@@ -198,12 +198,10 @@ no_cell_multiplier = sized 128 0
 -- what the numbers come to
 abbrev pub number_wires : Expr → List Item
 number_wires product =
-    gap ∷ note "---- numbers" ∷ gap ∷ note "What the kept answer and the token's come to, and the token's with one more." ∷
+    gap ∷ note "---- numbers" ∷ gap ∷ note "What the left answer and the token's come to, and the token's with one more." ∷
     wire (upto (count 64)) "sum" (two plus (longer "result") (longer "kept")) ∷
-    wire (upto (count 64)) "minuend" (pick (does "IS_LEFT") (name "result") (name "kept")) ∷
-    wire (upto (count 64)) "subtrahend" (pick (does "IS_LEFT") (name "kept") (name "result")) ∷
     wire (upto (count 64)) "difference"
-    (pick (test below (name "minuend") (name "subtrahend")) (sized 65 0) (two minus (name "minuend") (name "subtrahend"))) ∷
+    (pick (test below (name "kept") (name "result")) (sized 65 0) (two minus (name "kept") (name "result"))) ∷
     wire (upto (count 127)) "product" product ∷
     wire (upto (count 64)) "both" (pick (logic one_of (high "result") (high "kept")) (const "OVERFLOW")
     (pick (does "MULTIPLIES") (pick (any (part "product" (count 127) (count 64))) (const "OVERFLOW") (cat (sized 1 0) (low "product")))
@@ -222,19 +220,19 @@ fetch_row = block (set "does" (name "op") ∷ set "main" (name "to") ∷ set "si
 -- the start
 abbrev pub cell_reset : Stmt
 cell_reset =
-    block (set "marks" (num 0) ∷ set "sigs" (num 0) ∷ set "boxes" (num 0) ∷ set "mine" (num 0) ∷ set "top" (num 0) ∷
-    set "first" (num 0) ∷ set "last" (num 0) ∷ set "open" (num 0) ∷ set "done" (num 0) ∷ set "result" (num 0) ∷ set "full" (num 0) ∷
-    set "moves" (num 0) ∷ [])
+    block (set "marks" (num 0) ∷ set "sigs" (num 0) ∷ set "boxes" (num 0) ∷ set "top" (num 0) ∷ set "depth" (num 0) ∷
+    set "done" (num 0) ∷ set "result" (num 0) ∷ set "full" (num 0) ∷ set "moves" (num 0) ∷ [])
 
 -- the lists as they come
 abbrev pub lists_move : Stmt
 lists_move = block (set "marks" (name "next_marks") ∷ set "sigs" (name "next_sigs") ∷ set "boxes" (name "next_boxes") ∷ [])
 
--- the cells at the tops of the lists that come
+-- the cells at the tops of the lists that come; and at an answer the cells of its fork's time
 abbrev pub read_cells : Stmt
 read_cells =
     block (set "sig_first" (word "sig_firsts" (name "sig_place")) ∷ set "sig_second" (word "sig_seconds" (name "sig_place")) ∷
-    set "box_first" (word "box_firsts" (name "box_place")) ∷ set "box_second" (word "box_seconds" (name "box_place")) ∷ [])
+    set "box_first" (word "box_firsts" (name "box_place")) ∷ set "box_second" (word "box_seconds" (name "box_place")) ∷
+    set "top" (name "next_top") ∷ [])
 
 -- a cell is made: the top box and the top signature
 abbrev pub make_cell : Stmt
@@ -243,49 +241,42 @@ make_cell =
     put (word_at "box_firsts" (name "top")) (top_of "boxes") ∷ put (word_at "box_seconds" (name "top")) (top_of "sigs") ∷
     set "top" (two plus (name "top") (num 1)) ∷ [])
 
--- the question that waits longest
-abbrev pub read_queue : Stmt
-read_queue = block (set "asked" (word "queue" (name "next_first")) ∷ set "asked_boxes" (word "queue_boxes" (name "next_first")) ∷ [])
-
--- a fork is opened, and its right question waits
+-- a fork is opened, with the token's boxes
 abbrev pub open_fork : Stmt
 open_fork =
-    block (put (bit_at "open" (name "free")) (num 1) ∷ put (word_at "queue" (name "last")) (cat (name "side") (name "free")) ∷
-    put (word_at "queue_boxes" (name "last")) (name "boxes") ∷ set "last" (next_place "last") ∷ set "mine" (name "free") ∷ [])
+    block (put (word_at "forks_boxes" (name "depth")) (name "boxes") ∷ set "depth" (two plus (name "depth") (num 1)) ∷ [])
 
--- an answer goes on with its fork, and the second one closes it
+-- else the boxes of the innermost fork are read; a second answer closes its fork
 abbrev pub other_fork : Stmt
-other_fork =
-    block (read_queue ∷ set "mine" (name "next_mine") ∷ set "first" (name "next_first") ∷
-    branch (logic both (does "JOINS") (name "answered")) (put (bit_at "open" (name "mine")) (num 0)) skip ∷ [])
+other_fork = block (set "fork_boxes" (word "forks_boxes" (name "next_fork")) ∷ set "depth" (name "next_depth") ∷ [])
 
--- a fork that is opened has no answer; the first answer is kept; else what the token's fork has is read
+-- a fork that is opened has no answer; the first answer is kept; else what the innermost fork has is read
 abbrev pub note_answer : Stmt
 note_answer =
     branch (logic one_of (does "FORKS") (name "first_answer"))
-    (put (word_at "forks" (name "slot")) (cat (name "slot_around") (cat (does "JOINS") (name "result"))))
-    (set "fork_has" (word "forks" (name "next_mine")))
+    (put (word_at "forks" (name "slot")) (cat (name "side") (cat (name "next_top") (cat (does "JOINS") (name "result")))))
+    (set "fork_has" (word "forks" (name "next_fork")))
 
 -- the value after the row
 abbrev pub value_move : Stmt
 value_move =
     branch (does "IS_CONST") (set "result" (cat (sized 1 0) (name "literal")))
     (branch (does "IS_SUCC") (set "result" (name "succ"))
-    (branch (does "IS_PRED") (branch (logic one_of (high "result") (none (name "result"))) skip
+    (branch (does "IS_PRED") (branch (logic one_of (high "result") (none (any (name "result")))) skip
     (set "result" (two minus (name "result") (sized 65 1))))
-    (branch (logic both (does "JOINS") (name "answered")) (set "result" (name "both")) skip)))
+    (branch (name "second_answer") (set "result" (name "both")) skip)))
 
 -- no cell or no fork is left, or the row leads nowhere
 abbrev pub no_room : Expr
 no_room =
     any_of (logic both (does "MAKES") (test same (name "top") (const "CELLS")))
-    (logic both (does "FORKS") (every (name "open")) ∷ does "STUCK" ∷ [])
+    (logic both (does "FORKS") (test same (name "depth") (const "E")) ∷ does "STUCK" ∷ [])
 
 -- the end
 abbrev pub end_move : Stmt
 end_move = seq (branch (does "ENDS") (set "done" (num 1)) skip) (branch no_room (set "full" (num 1)) skip)
 
--- one move, which is counted; where a cell, a question or a fork is written, none is read
+-- one move, which is counted; where a cell or a fork is written, none is read
 abbrev pub cell_move : Stmt
 cell_move =
     block (lists_move ∷ branch (does "MAKES") make_cell read_cells ∷ branch (does "FORKS") open_fork other_fork ∷ note_answer ∷

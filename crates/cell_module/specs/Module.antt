@@ -3,17 +3,17 @@ use Rattle.std.specs.Prelude.{ℕ, suc, ◌*◌, max, Bool, if◌then◌else◌,
 use Rattle.net_build.specs.Nets.{NetTree}
 use Rattle.interleave_laws.specs.Start.{start_of}
 use Rattle.circuit_core.specs.Rows.{number, channel_of}
-use Rattle.cell_core.specs.Circuit.{Sizes}
+use Rattle.cell_core.specs.Sizes.{Sizes}
 use Rattle.verilog_tree.specs.Tree.{Expr, Arms, Item, size, constant, wide, count, clocked}
-use Rattle.circuit_module.specs.Sizes.{bits_for, channel_bits, fork_bits}
+use Rattle.circuit_module.specs.Sizes.{bits_for, channel_bits}
 use Rattle.circuit_module.specs.Module.{row_arms, multiplies}
 use Rattle.cell_module.specs.Fixed.{cell_ports, cell_port_notes, cell_constants, cell_registers, way_wires, next_row_notes}
 use Rattle.cell_module.specs.Fixed.{next_row_block, list_wires, cell_fork_wires, number_wires, cell_multiplier, no_cell_multiplier}
 use Rattle.cell_module.specs.Fixed.{cell_clock_notes, cell_clock}
 
--- the bits of a cell's place, and of the count of all cells
+-- the bits of a place among so many cells or forks, and of the count of all of them
 abbrev pub place_bits : ℕ → ℕ
-place_bits cells = max 1 (bits_for (suc cells))
+place_bits n = max 1 (bits_for (suc n))
 
 -- the bits of a pointer: its mark and its place
 abbrev pub pointer_bits : ℕ → ℕ
@@ -22,7 +22,7 @@ pointer_bits cells = suc (place_bits cells)
 -- the sizes
 abbrev pub cell_sizes : (wires start : ℕ) → Sizes → List Item
 cell_sizes wires start z =
-    size "C" (channel_bits wires) ∷ size "S" (fork_bits z.forks) ∷ size "P" (place_bits z.cells) ∷ size "WORD" (pointer_bits z.cells) ∷
+    size "C" (channel_bits wires) ∷ size "S" (place_bits z.forks) ∷ size "P" (place_bits z.cells) ∷ size "WORD" (pointer_bits z.cells) ∷
     size "D" (max 1 z.marks) ∷ size "G" (pointer_bits z.cells * max 1 z.sigs) ∷ size "B" (pointer_bits z.cells * max 1 z.boxes) ∷
     size "CELLS" z.cells ∷ size "E" z.forks ∷ constant (wide (count (channel_bits wires))) "START" start ∷ []
 

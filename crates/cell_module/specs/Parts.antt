@@ -1,10 +1,9 @@
 -- What the declarations and the rows of the module over cells come to: the statements of `law_cell_parts`.
 use Rattle.std.specs.Prelude.{◌≡◌, ◌<◌, ℕ, ◌+◌, ◌^◌, List, [], ◌∷◌}
 use Rattle.pcf_values.specs.declared.operator.Operator.TheVariants.{Plus, Minus, Times}
-use Rattle.pcf_values.specs.declared.side.Side.TheVariants.{Left, Right}
 use Rattle.circuit_core.specs.Rows.{Channel, Row, GO, CONST, SUCC, PRED, TEST, FORK, JOIN, ANSWER, STAR, UNSTAR, LEFT, RIGHT, CON}
 use Rattle.circuit_core.specs.Rows.{PUSHR, PUSHL, SELECT, POP, BOXIN, BOXOUT, DOOROUT, DOORIN, FIXIN, FIXOUT, FIXVAR, DEAD}
-use Rattle.cell_core.specs.Circuit.{Sizes}
+use Rattle.cell_core.specs.Sizes.{Sizes}
 use Rattle.verilog_tree.specs.Tree.{Expr, Arms}
 use Rattle.verilog_tree.specs.Meaning.{Scope, Store, scope, run}
 use Rattle.circuit_module.specs.Module.{row_stmt}
@@ -42,10 +41,9 @@ pub data Deed : Type 0 where
   is_const : Deed
   is_succ : Deed
   is_pred : Deed
-  -- a fork is opened, or answered, from the left, to subtract or to multiply
+  -- a fork is opened, or answered, to subtract or to multiply
   forks : Deed
   joins : Deed
-  is_left : Deed
   subtracts : Deed
   multiplies : Deed
   -- the run ends with its value, or without one
@@ -78,11 +76,10 @@ place_of is_succ = 20
 place_of is_pred = 21
 place_of forks = 22
 place_of joins = 23
-place_of is_left = 24
-place_of subtracts = 25
-place_of multiplies = 26
-place_of ends = 27
-place_of stuck = 28
+place_of subtracts = 24
+place_of multiplies = 25
+place_of ends = 26
+place_of stuck = 27
 
 -- the word with these bits
 abbrev pub word_of : List Deed → ℕ
@@ -97,12 +94,9 @@ deeds_of (SUCC c) = is_succ ∷ []
 deeds_of (PRED c) = is_pred ∷ []
 deeds_of (TEST c d) = by_value ∷ []
 deeds_of (FORK c d) = forks ∷ []
-deeds_of (JOIN Plus Left w) = joins ∷ is_left ∷ []
-deeds_of (JOIN Plus Right w) = joins ∷ []
-deeds_of (JOIN Minus Left w) = joins ∷ is_left ∷ subtracts ∷ []
-deeds_of (JOIN Minus Right w) = joins ∷ subtracts ∷ []
-deeds_of (JOIN Times Left w) = joins ∷ is_left ∷ multiplies ∷ []
-deeds_of (JOIN Times Right w) = joins ∷ multiplies ∷ []
+deeds_of (JOIN Plus s w) = joins ∷ []
+deeds_of (JOIN Minus s w) = joins ∷ subtracts ∷ []
+deeds_of (JOIN Times s w) = joins ∷ multiplies ∷ []
 deeds_of ANSWER = ends ∷ []
 deeds_of (STAR c) = sig_star ∷ []
 deeds_of (UNSTAR c) = sig_drop ∷ []
@@ -136,8 +130,8 @@ abbrev pub RowsSetLiterals : Type 0
 RowsSetLiterals = OfEveryCellScope (λ P z. (n : ℕ) (c : Channel) → n < 2 ^ 64 → (S : Store) →
     (run P (row_stmt (CONST n c)) S).vec "number" ≡ n)
 
--- the memories have a place for each cell, and the ring and the forks one for each fork
+-- the memories have a place for each cell, and for each fork
 abbrev pub MemoriesHavePlaces : Type 0
 MemoriesHavePlaces = OfEveryCellScope (λ P z.
     (P.words "sig_firsts" ≡ z.cells) × (P.words "sig_seconds" ≡ z.cells) × (P.words "box_firsts" ≡ z.cells) ×
-    (P.words "box_seconds" ≡ z.cells) × (P.words "queue" ≡ z.forks) × (P.words "queue_boxes" ≡ z.forks) × (P.words "forks" ≡ z.forks))
+    (P.words "box_seconds" ≡ z.cells) × (P.words "forks" ≡ z.forks) × (P.words "forks_boxes" ≡ z.forks))

@@ -5,9 +5,8 @@ use Rattle.std.specs.Prelude.{◌≤◌, ℕ, suc, max, min, List, [], ◌∷◌
 use Rattle.net_build.specs.Nets.{WireTree, NetTree}
 use Rattle.net_build.specs.Sound.{Is}
 use Rattle.verilog_tree.specs.Tree.{Item}
-use Rattle.cell_core.specs.Circuit.{Sizes}
+use Rattle.cell_core.specs.Sizes.{Sizes, Covers}
 use Rattle.cell_core.specs.Depths.{marks_in, sigs_in}
-use Rattle.cell_core.specs.Enough.{Covers}
 use Rattle.cell_module.specs.Module.{cell_module}
 
 -- no list has room for more

@@ -20,7 +20,7 @@ pub fn law_cell_parts()
 {}
 
 /// On a sound net no row reads a cell where the row before it made one; and on every net neither a left question nor a right one is at an
-/// answer's row, so that neither a fork's entry nor the ring is read where it was written.
+/// answer's row, so that no fork is read where it was written.
 pub fn law_apart()
     ensures cells { CellsApart }
     ensures forks { ForksApart }

@@ -6,10 +6,7 @@ use Rattle.pcf_values.specs.declared.val.Val.{Val}
 use Rattle.pcf_values.specs.declared.val.Val.TheVariants.{Number, Overflow}
 use Rattle.pcf_values.specs.declared.operator.Operator.{Operator}
 use Rattle.pcf_values.specs.declared.operator.Operator.TheVariants.{Plus, Minus, Times}
-use Rattle.pcf_values.specs.declared.side.Side.{Side}
-use Rattle.pcf_values.specs.declared.side.Side.TheVariants.{Left, Right}
 use Rattle.pcf_values.specs.Values.{within, val_op}
-use Rattle.circuit_core.specs.Circuit.{both}
 use Rattle.verilog_tree.specs.Meaning.{flag, fit, nonzero, chosen}
 use Rattle.circuit_module.specs.Stands.{value_number, Small}
 
@@ -76,7 +73,7 @@ within_small n = go (nat_lt n (2 ^ 64)) refl
     go true e = ltb-true n (2 ^ 64) e
     go false e = tt
 
-op_small : (o : Operator) (x y : Val) → Small x → Small y → Small (val_op o x y)
+pub op_small : (o : Operator) (x y : Val) → Small x → Small y → Small (val_op o x y)
 op_small Plus (Number a) (Number b) s t = within_small (a + b)
 op_small Minus (Number a) (Number b) s t = omega arith
 op_small Times (Number a) (Number b) s t = within_small (a * b)
@@ -86,7 +83,3 @@ op_small Times (Number a) Overflow s t = tt
 op_small Plus Overflow y s t = tt
 op_small Minus Overflow y s t = tt
 op_small Times Overflow y s t = tt
-
-pub both_small : (o : Operator) (s : Side) (x y : Val) → Small x → Small y → Small (both o s x y)
-both_small o Left x y a b = op_small o x y a b
-both_small o Right x y a b = op_small o y x b a

@@ -1,7 +1,5 @@
 -- enough bits for so many things
 pub mod Sizes
--- the places of a ring
-pub mod Rings
 -- values in 65 bits
 pub mod Values
 -- what both operands come to

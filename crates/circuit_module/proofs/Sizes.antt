@@ -3,7 +3,7 @@ use Rattle.std.proofs.Common.{◌≡◌, ℕ, zero, suc, ◌+◌, ◌^◌, ◌<�
 use Rattle.std.proofs.Common.{◌⊎◌, inl, inr}
 use Rattle.std.proofs.lemmas.Bool.{leb-true, leb-false, cases_lt}
 use Rattle.std.proofs.Math.Nat.{pow-le-pow_right}
-use Rattle.circuit_module.specs.Sizes.{bits_from, bits_for, fork_bits}
+use Rattle.circuit_module.specs.Sizes.{bits_from, bits_for}
 
 below_power : (n : ℕ) → n < 2 ^ n
 below_power zero = omega arith
@@ -46,10 +46,3 @@ few_bits n w h = few_from n 0 n w h (omega arith)
 -- below a higher power
 pub below_higher : (k w n : ℕ) → k ≤ w → n < 2 ^ k → n < 2 ^ w
 below_higher k w n l h = let up : 2 ^ k ≤ 2 ^ w = pow-le-pow_right (omega arith) l in omega arith
-
--- a fork's number in its bits
-pub fork_fits : (E s : ℕ) → s < E → s < 2 ^ fork_bits E
-fork_fits E s l =
-    let h = enough_bits E in
-    let up : 2 ^ bits_for E ≤ 2 ^ fork_bits E = pow-le-pow_right (omega arith) (omega arith) in
-    omega arith

@@ -1,5 +1,5 @@
 -- The arithmetic of values in 65 bits, and the count of moves in 64.
-use Rattle.std.proofs.Common.{◌≡◌, ℕ, zero, suc, ◌+◌, ◌-◌, ◌/◌, ◌%◌, ◌^◌, ◌<◌, Bool, true, false, cond, ◌||◌, refl, ap}
+use Rattle.std.proofs.Common.{◌≡◌, ℕ, zero, suc, ◌+◌, ◌-◌, ◌/◌, ◌%◌, ◌^◌, ◌<◌, Bool, true, false, cond, not, ◌||◌, refl, ap}
 use Rattle.std.proofs.Common.{◌∙◌, arith, nat_eq, nat_lt}
 use Rattle.std.proofs.lemmas.Bool.{ltb-true, ltb-false, eqb-true, eqb-false, ne_eqb}
 use Rattle.pcf_values.specs.declared.val.Val.{Val}
@@ -41,14 +41,15 @@ succ_value (Number n) s =
 
 -- a value and one less, where 0 stays 0
 pub pred_value : (v : Val) → Small v →
-    fit 65 (chosen (nonzero (flag (nonzero (value_number v / 2 ^ 64 % 2) || nonzero (flag (nat_eq (value_number v) 0)))))
+    fit 65 (chosen (nonzero (flag (nonzero (value_number v / 2 ^ 64 % 2) || nonzero (flag (nat_eq (flag (nonzero (value_number v))) 0)))))
     (value_number v) (fit 65 (2 ^ 65 + value_number v - 1))) ≡ value_number (val_pred v)
 pred_value Overflow s = refl
 pred_value (Number zero) s = refl
 pred_value (Number (suc n)) s =
-    ap (λ b. fit 65 (chosen (nonzero (flag (nonzero b || nonzero (flag (nat_eq (suc n) 0))))) (suc n) (fit 65 (2 ^ 65 + suc n - 1))))
+    ap (λ b. fit 65 (chosen (nonzero (flag (nonzero b || nonzero (flag (nat_eq (flag (nonzero (suc n))) 0))))) (suc n)
+    (fit 65 (2 ^ 65 + suc n - 1))))
     (high_number (suc n) s)
-    ∙ ap (λ b. fit 65 (chosen (nonzero (flag (nonzero (flag b)))) (suc n) (fit 65 (2 ^ 65 + suc n - 1))))
+    ∙ ap (λ b. fit 65 (chosen (nonzero (flag (nonzero (flag (nat_eq (flag (not b)) 0))))) (suc n) (fit 65 (2 ^ 65 + suc n - 1))))
     (ne_eqb (suc n) 0 (λ z. omega arith))
     ∙ omega arith
 

@@ -4,7 +4,7 @@ pub mod Sizes
 pub mod Fixed
 -- The case of each row of a net, and whether a node multiplies.
 pub mod Module
--- Values in registers, and the places of a ring.
+-- Values in registers.
 pub mod Stands
 -- A net whose rows fit: the statement of `law_in_range`.
 pub mod InRange

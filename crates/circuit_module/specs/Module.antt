@@ -3,8 +3,6 @@ use Rattle.std.specs.Prelude.{ℕ, zero, suc, Bool, true, false, List, [], ◌�
 use Prim.Native.String.{String}
 use Rattle.pcf_values.specs.declared.operator.Operator.{Operator}
 use Rattle.pcf_values.specs.declared.operator.Operator.TheVariants.{Plus, Minus, Times}
-use Rattle.pcf_values.specs.declared.side.Side.{Side}
-use Rattle.pcf_values.specs.declared.side.Side.TheVariants.{Left, Right}
 use Rattle.net_build.specs.declared.node.Node.{Node}
 use Rattle.net_build.specs.declared.node.Node.TheVariants.{Binary}
 use Rattle.net_build.specs.Nets.{NetTree}
@@ -14,14 +12,11 @@ use Rattle.circuit_core.specs.Rows.{DEAD, row_of}
 use Rattle.verilog_tree.specs.Tree.{num, sized, const, Stmt, Arms, Said, word_said, number_said, otherwise, arm, skip}
 use Rattle.circuit_module.specs.Fixed.{set, block}
 
--- the operation of an operator at a side
-abbrev pub join_name : Operator → Side → String
-join_name Plus Left = "PLUSL"
-join_name Plus Right = "PLUSR"
-join_name Minus Left = "MINUSL"
-join_name Minus Right = "MINUSR"
-join_name Times Left = "TIMESL"
-join_name Times Right = "TIMESR"
+-- the operation of an operator, at either side
+abbrev pub join_name : Operator → String
+join_name Plus = "PLUS"
+join_name Minus = "MINUS"
+join_name Times = "TIMES"
 
 -- the operation, and where it sends to
 abbrev pub to_one : String → Channel → Stmt
@@ -39,7 +34,7 @@ row_stmt (SUCC c) = to_one "SUCC" c
 row_stmt (PRED c) = to_one "PRED" c
 row_stmt (TEST c d) = to_two "TEST" c d
 row_stmt (FORK c d) = to_two "FORK" c d
-row_stmt (JOIN o s w) = to_one (join_name o s) (falls w)
+row_stmt (JOIN o s w) = to_one (join_name o) (falls w)
 row_stmt ANSWER = set "op" (const "ANSWER")
 row_stmt (STAR c) = to_one "STAR" c
 row_stmt (UNSTAR c) = to_one "UNSTAR" c

@@ -1,5 +1,5 @@
 -- The sizes that follow from counts: numbers, so that no function of the tool has to be believed.
-use Rattle.std.specs.Prelude.{ℕ, zero, suc, ◌*◌, ◌^◌, true, false, max, nat_le}
+use Rattle.std.specs.Prelude.{ℕ, zero, suc, ◌*◌, ◌^◌, true, false, nat_le}
 
 -- the first c, of so many from c on, with n at most 2 to the power of c
 abbrev pub bits_from : ℕ → ℕ → ℕ → ℕ
@@ -13,7 +13,3 @@ bits_for n = bits_from n 0 n
 -- the bits of a channel
 abbrev pub channel_bits : ℕ → ℕ
 channel_bits wires = bits_for (2 * wires)
-
--- the bits of a fork's number, one at least
-abbrev pub fork_bits : ℕ → ℕ
-fork_bits E = max 1 (bits_for E)
