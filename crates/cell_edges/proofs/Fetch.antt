@@ -1,10 +1,9 @@
 -- What all wires leave as it was, and the row of the channel that the token comes to.
-use Rattle.std.proofs.Common.{◌≡◌, ℕ, ◌+◌, ◌*◌, ◌^◌, ◌<◌, true, false, List, ◌++◌, length, Some, refl, ap, ◌∙◌}
+use Rattle.std.proofs.Common.{◌≡◌, ℕ, ◌+◌, ◌^◌, ◌<◌, true, false, List, ◌++◌, length, Some, refl, ap, ◌∙◌}
 use Rattle.std.proofs.Common.{arith}
 use Rattle.std.proofs.lemmas.Nat.{pow_pos}
 use Prim.Native.String.{String}
 use Rattle.pcf_values.specs.declared.operator.Operator.TheVariants.{Plus, Minus, Times}
-use Rattle.pcf_values.specs.declared.side.Side.TheVariants.{Left, Right}
 use Rattle.net_build.specs.Nets.{NetTree}
 use Rattle.circuit_core.specs.Rows.{Channel, falls, number, Row, GO, CONST, SUCC, PRED, TEST, FORK, JOIN, ANSWER, STAR, UNSTAR, LEFT}
 use Rattle.circuit_core.specs.Rows.{RIGHT, CON, PUSHR, PUSHL, SELECT, POP, BOXIN, BOXOUT, DOOROUT, DOORIN, FIXIN, FIXOUT, FIXVAR, DEAD}
@@ -16,25 +15,21 @@ use Rattle.verilog_tree.proofs.Frames.{items_leave, settled_leaves, settled_calm
 use Rattle.circuit_module.specs.Sizes.{channel_bits}
 use Rattle.circuit_module.specs.Fixed.{no_row}
 use Rattle.circuit_module.specs.Module.{row_stmt, row_arms, multiplies}
-use Rattle.circuit_module.proofs.Sizes.{enough_bits}
 use Rattle.circuit_module.proofs.Choice.{row_name, four_names, finds, rows_leave, rows_calm, wire_of}
-use Rattle.cell_core.specs.Circuit.{Sizes}
+use Rattle.cell_core.specs.Sizes.{Sizes}
 use Rattle.cell_module.specs.Fixed.{way_wires, list_wires, cell_fork_wires, number_wires}
 use Rattle.cell_module.specs.Module.{cell_module, cell_product}
 use Rattle.cell_module.specs.Parts.{word_of, deeds_of}
+use Rattle.cell_module.proofs.Channels.{channel_fits}
 use Rattle.circuit_module.specs.InRange.{Named, RowFits, InRange}
 use Rattle.cell_edges.specs.Stands.{main_of, side_of, literal_of}
-
--- a channel of the net's wires fits its field
-pub channel_fits : (W : ℕ) (c : Channel) → Named W c → fit (channel_bits W) (number c) ≡ number c
-channel_fits W c h = let e = enough_bits (2 * W) in fits (channel_bits W) (number c) (omega arith)
 
 pub zero_fits : (w : ℕ) → fit w 0 ≡ 0
 zero_fits w = fits w 0 (pow_pos w)
 
 -- the wires of the row that was found are this row's
 pub record RowWires (C : ℕ) (S : Store) (r : Row) : Type 0 where
-  pub op : fit 29 (S.vec "op") ≡ word_of (deeds_of r)
+  pub op : fit 28 (S.vec "op") ≡ word_of (deeds_of r)
   pub to : fit C (S.vec "to") ≡ main_of r
   pub other : fit C (S.vec "other") ≡ side_of r
   pub number : fit 64 (S.vec "number") ≡ literal_of r
@@ -181,19 +176,16 @@ module _ (net : NetTree) (z : Sizes) (T : Store) where
     literal_is (FIXVAR c) h = refl
     literal_is DEAD h = refl
 
-    does_is : (r : Row) → fit 29 ((run P (row_stmt r) D).vec "op") ≡ word_of (deeds_of r)
+    does_is : (r : Row) → fit 28 ((run P (row_stmt r) D).vec "op") ≡ word_of (deeds_of r)
     does_is (GO c) = refl
     does_is (CONST n c) = refl
     does_is (SUCC c) = refl
     does_is (PRED c) = refl
     does_is (TEST c d) = refl
     does_is (FORK c d) = refl
-    does_is (JOIN Plus Left w) = refl
-    does_is (JOIN Plus Right w) = refl
-    does_is (JOIN Minus Left w) = refl
-    does_is (JOIN Minus Right w) = refl
-    does_is (JOIN Times Left w) = refl
-    does_is (JOIN Times Right w) = refl
+    does_is (JOIN Plus s w) = refl
+    does_is (JOIN Minus s w) = refl
+    does_is (JOIN Times s w) = refl
     does_is ANSWER = refl
     does_is (STAR c) = refl
     does_is (UNSTAR c) = refl
@@ -218,7 +210,7 @@ module _ (net : NetTree) (z : Sizes) (T : Store) where
 
     pub row_wires : RowWires (channel_bits W) R p.1
     row_wires = record {
-      op = ap (fit 29) (settled_leaves P "op" rest refl Q ∙ ap (λ (X : Store). X.vec "op") found) ∙ does_is p.1;
+      op = ap (fit 28) (settled_leaves P "op" rest refl Q ∙ ap (λ (X : Store). X.vec "op") found) ∙ does_is p.1;
       to = ap (fit C) (settled_leaves P "to" rest refl Q ∙ ap (λ (X : Store). X.vec "to") found) ∙ main_is p.1 fits_here;
       other = ap (fit C) (settled_leaves P "other" rest refl Q ∙ ap (λ (X : Store). X.vec "other") found) ∙ side_is p.1 fits_here;
       number = ap (fit 64) (settled_leaves P "number" rest refl Q ∙ ap (λ (X : Store). X.vec "number") found) ∙ literal_is p.1 fits_here;

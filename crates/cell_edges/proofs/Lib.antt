@@ -8,8 +8,8 @@ pub mod Lists
 pub mod Ways
 -- the three lists after the row, row by row
 pub mod Moves
--- the ring of questions, and the open forks
-pub mod Slots
+-- the open forks in the memories
+pub mod Stack
 -- the wires of the forks
 pub mod Tail
 -- what settles at a join

@@ -9,7 +9,7 @@ use Rattle.circuit_core.specs.Rows.{RIGHT, CON, PUSHR, PUSHL, SELECT, POP, BOXIN
 use Rattle.verilog_tree.specs.Meaning.{Scope, Store, settled, fit, flag, chosen, set_vec}
 use Rattle.verilog_tree.proofs.Numbers.{fits}
 use Rattle.cell_core.specs.Cells.{Pointer, Stacks, point, nil, first_of, below, dirs_below}
-use Rattle.cell_core.specs.Circuit.{Sizes}
+use Rattle.cell_core.specs.Sizes.{Sizes}
 use Rattle.cell_module.specs.Fixed.{list_wires}
 use Rattle.cell_module.specs.Module.{place_bits, pointer_bits}
 use Rattle.cell_module.specs.Parts.{word_of, deeds_of}
@@ -89,23 +89,21 @@ module _ (net : NetTree) (z : Sizes) (sizes : CellSizes z) (Q : Store) (ds : Lis
   abbrev B : ℕ
   B = pointer_bits z.cells * max 1 z.boxes
 
-  -- the lists where it is known what the row does, whether it is a first answer, and whether the token is back
+  -- the lists where it is known what the row does, and whether the token is back
   abbrev pub told : (d b : ℕ) → Store
-  told d b = settled P list_wires (set_vec "back" b (set_vec "first_answer" 0 (set_vec "does" d Q)))
+  told d b = settled P list_wires (set_vec "back" b (set_vec "does" d Q))
 
-  told_is : (d b : ℕ) → Q.vec "does" ≡ d → Q.vec "first_answer" ≡ 0 → Q.vec "back" ≡ b → settled P list_wires Q ≡ told d b
-  told_is d b ed ef eb = ap (λ (X : Store). settled P list_wires X)
-      (known "does" d Q ed ∙ known "first_answer" 0 (set_vec "does" d Q) ef
-      ∙ known "back" b (set_vec "first_answer" 0 (set_vec "does" d Q)) eb)
+  told_is : (d b : ℕ) → Q.vec "does" ≡ d → Q.vec "back" ≡ b → settled P list_wires Q ≡ told d b
+  told_is d b ed eb = ap (λ (X : Store). settled P list_wires X) (known "does" d Q ed ∙ known "back" b (set_vec "does" d Q) eb)
 
   -- from there
-  pub listed : (d b : ℕ) (ks : Stacks) → Q.vec "does" ≡ d → Q.vec "first_answer" ≡ 0 → Q.vec "back" ≡ b →
+  pub listed : (d b : ℕ) (ks : Stacks) → Q.vec "does" ≡ d → Q.vec "back" ≡ b →
       (told d b).vec "next_marks" ≡ marks_number ks.dirs → (told d b).vec "next_sigs" ≡ pointers_number w ks.sigs →
       (told d b).vec "next_boxes" ≡ pointers_number w ks.boxes → Listed net z Q ks
-  listed d b ks ed ef eb em es ex = record {
-    marks = ap (λ (X : Store). X.vec "next_marks") (told_is d b ed ef eb) ∙ em;
-    sigs = ap (λ (X : Store). X.vec "next_sigs") (told_is d b ed ef eb) ∙ es;
-    boxes = ap (λ (X : Store). X.vec "next_boxes") (told_is d b ed ef eb) ∙ ex;
+  listed d b ks ed eb em es ex = record {
+    marks = ap (λ (X : Store). X.vec "next_marks") (told_is d b ed eb) ∙ em;
+    sigs = ap (λ (X : Store). X.vec "next_sigs") (told_is d b ed eb) ∙ es;
+    boxes = ap (λ (X : Store). X.vec "next_boxes") (told_is d b ed eb) ∙ ex;
   }
 
   -- marks
@@ -186,42 +184,42 @@ module _ (net : NetTree) (z : Sizes) (sizes : CellSizes z) (Q : Store) (ds : Lis
       ∙ fits w (pointer_number (first_of qs)) (pointer_low z.cells (first_of qs) (first_within z.cells qs h))
 
   abbrev Known : Row → ℕ → Type 0
-  Known r b = (Q.vec "does" ≡ word_of (deeds_of r)) × (Q.vec "first_answer" ≡ 0) × (Q.vec "back" ≡ b)
+  Known r b = (Q.vec "does" ≡ word_of (deeds_of r)) × (Q.vec "back" ≡ b)
 
   -- rows that leave all three as they are
 
   pub lists_go : (c : Channel) → Known (GO c) 0 → Room z (lists ds ps bs) → Listed net z Q (lists ds ps bs)
-  lists_go c h room = listed (word_of (deeds_of (GO c))) 0 (lists ds ps bs) h.0 h.1 h.2
+  lists_go c h room = listed (word_of (deeds_of (GO c))) 0 (lists ds ps bs) h.0 h.1
       (marks_kept room.marks)
       (sigs_kept room.sigs)
       (boxes_kept room.boxes)
 
   pub lists_const : (n : ℕ) (c : Channel) → Known (CONST n c) 0 → Room z (lists ds ps bs) → Listed net z Q (lists ds ps bs)
-  lists_const n c h room = listed (word_of (deeds_of (CONST n c))) 0 (lists ds ps bs) h.0 h.1 h.2
+  lists_const n c h room = listed (word_of (deeds_of (CONST n c))) 0 (lists ds ps bs) h.0 h.1
       (marks_kept room.marks)
       (sigs_kept room.sigs)
       (boxes_kept room.boxes)
 
   pub lists_succ : (c : Channel) → Known (SUCC c) 0 → Room z (lists ds ps bs) → Listed net z Q (lists ds ps bs)
-  lists_succ c h room = listed (word_of (deeds_of (SUCC c))) 0 (lists ds ps bs) h.0 h.1 h.2
+  lists_succ c h room = listed (word_of (deeds_of (SUCC c))) 0 (lists ds ps bs) h.0 h.1
       (marks_kept room.marks)
       (sigs_kept room.sigs)
       (boxes_kept room.boxes)
 
   pub lists_pred : (c : Channel) → Known (PRED c) 0 → Room z (lists ds ps bs) → Listed net z Q (lists ds ps bs)
-  lists_pred c h room = listed (word_of (deeds_of (PRED c))) 0 (lists ds ps bs) h.0 h.1 h.2
+  lists_pred c h room = listed (word_of (deeds_of (PRED c))) 0 (lists ds ps bs) h.0 h.1
       (marks_kept room.marks)
       (sigs_kept room.sigs)
       (boxes_kept room.boxes)
 
   pub lists_test : (c d : Channel) → Known (TEST c d) 0 → Room z (lists ds ps bs) → Listed net z Q (lists ds ps bs)
-  lists_test c d h room = listed (word_of (deeds_of (TEST c d))) 0 (lists ds ps bs) h.0 h.1 h.2
+  lists_test c d h room = listed (word_of (deeds_of (TEST c d))) 0 (lists ds ps bs) h.0 h.1
       (marks_kept room.marks)
       (sigs_kept room.sigs)
       (boxes_kept room.boxes)
 
   pub lists_fork : (c d : Channel) → Known (FORK c d) 0 → Room z (lists ds ps bs) → Listed net z Q (lists ds ps bs)
-  lists_fork c d h room = listed (word_of (deeds_of (FORK c d))) 0 (lists ds ps bs) h.0 h.1 h.2
+  lists_fork c d h room = listed (word_of (deeds_of (FORK c d))) 0 (lists ds ps bs) h.0 h.1
       (marks_kept room.marks)
       (sigs_kept room.sigs)
       (boxes_kept room.boxes)
@@ -229,21 +227,21 @@ module _ (net : NetTree) (z : Sizes) (sizes : CellSizes z) (Q : Store) (ds : Lis
   -- signatures
 
   pub lists_star : (c : Channel) → Known (STAR c) 0 → Room z (lists ds (nil ∷ ps) bs) → Listed net z Q (lists ds (nil ∷ ps) bs)
-  lists_star c h room = listed (word_of (deeds_of (STAR c))) 0 (lists ds (nil ∷ ps) bs) h.0 h.1 h.2
+  lists_star c h room = listed (word_of (deeds_of (STAR c))) 0 (lists ds (nil ∷ ps) bs) h.0 h.1
       (marks_kept room.marks)
       (pushed z.cells z.sigs nil ps _ _ (Q.stray "more_sigs" (G - 1)) (sigs_all (shorter ps room.sigs)) (nil_is) (omega arith, ws)
       room.sigs)
       (boxes_kept room.boxes)
 
   pub lists_unstar : (c : Channel) → Known (UNSTAR c) 0 → Room z (lists ds (below ps) bs) → Listed net z Q (lists ds (below ps) bs)
-  lists_unstar c h room = listed (word_of (deeds_of (UNSTAR c))) 0 (lists ds (below ps) bs) h.0 h.1 h.2
+  lists_unstar c h room = listed (word_of (deeds_of (UNSTAR c))) 0 (lists ds (below ps) bs) h.0 h.1
       (marks_kept room.marks)
       (sigs_dropped room.sigs)
       (boxes_kept room.boxes)
 
   pub lists_left : (c : Channel) → Known (LEFT c) 0 → (n : ℕ) → Q.vec "top" ≡ n → n ≤ z.cells → Room z
       (lists ds (point false n ∷ below ps) bs) → Listed net z Q (lists ds (point false n ∷ below ps) bs)
-  lists_left c h n et lt room = listed (word_of (deeds_of (LEFT c))) 0 (lists ds (point false n ∷ below ps) bs) h.0 h.1 h.2
+  lists_left c h n et lt room = listed (word_of (deeds_of (LEFT c))) 0 (lists ds (point false n ∷ below ps) bs) h.0 h.1
       (marks_kept room.marks)
       (pushed z.cells z.sigs (point false n) (below ps) _ _ (Q.stray "more_sigs" (G - 1)) (sigs_below (shorter (below ps) room.sigs))
       (new_is false n et lt) (lt, below_within z.cells ps ws) room.sigs)
@@ -251,7 +249,7 @@ module _ (net : NetTree) (z : Sizes) (sizes : CellSizes z) (Q : Store) (ds : Lis
 
   pub lists_right : (c : Channel) → Known (RIGHT c) 0 → (n : ℕ) → Q.vec "top" ≡ n → n ≤ z.cells → Room z
       (lists ds (point true n ∷ below ps) bs) → Listed net z Q (lists ds (point true n ∷ below ps) bs)
-  lists_right c h n et lt room = listed (word_of (deeds_of (RIGHT c))) 0 (lists ds (point true n ∷ below ps) bs) h.0 h.1 h.2
+  lists_right c h n et lt room = listed (word_of (deeds_of (RIGHT c))) 0 (lists ds (point true n ∷ below ps) bs) h.0 h.1
       (marks_kept room.marks)
       (pushed z.cells z.sigs (point true n) (below ps) _ _ (Q.stray "more_sigs" (G - 1)) (sigs_below (shorter (below ps) room.sigs))
       (new_is true n et lt) (lt, below_within z.cells ps ws) room.sigs)
@@ -259,7 +257,7 @@ module _ (net : NetTree) (z : Sizes) (sizes : CellSizes z) (Q : Store) (ds : Lis
 
   pub lists_con : (c d : Channel) → Known (CON c d) 0 → (q : Pointer) → Q.vec "sig_second" ≡ pointer_number q → q.place ≤ z.cells → Room z
       (lists ds (q ∷ below ps) bs) → Listed net z Q (lists ds (q ∷ below ps) bs)
-  lists_con c d h q eq lq room = listed (word_of (deeds_of (CON c d))) 0 (lists ds (q ∷ below ps) bs) h.0 h.1 h.2
+  lists_con c d h q eq lq room = listed (word_of (deeds_of (CON c d))) 0 (lists ds (q ∷ below ps) bs) h.0 h.1
       (marks_kept room.marks)
       (pushed z.cells z.sigs q (below ps) _ _ (Q.stray "more_sigs" (G - 1)) (sigs_below (shorter (below ps) room.sigs))
       (cell_is (Q.vec "sig_second") q eq lq) (lq, below_within z.cells ps ws) room.sigs)
@@ -268,26 +266,26 @@ module _ (net : NetTree) (z : Sizes) (sizes : CellSizes z) (Q : Store) (ds : Lis
   -- marks
 
   pub lists_pushr : (c : Channel) → Known (PUSHR c) 0 → Room z (lists (false ∷ ds) ps bs) → Listed net z Q (lists (false ∷ ds) ps bs)
-  lists_pushr c h room = listed (word_of (deeds_of (PUSHR c))) 0 (lists (false ∷ ds) ps bs) h.0 h.1 h.2
+  lists_pushr c h room = listed (word_of (deeds_of (PUSHR c))) 0 (lists (false ∷ ds) ps bs) h.0 h.1
       (marks_pushed false room.marks)
       (sigs_kept room.sigs)
       (boxes_kept room.boxes)
 
   pub lists_pushl : (c : Channel) → Known (PUSHL c) 0 → Room z (lists (true ∷ ds) ps bs) → Listed net z Q (lists (true ∷ ds) ps bs)
-  lists_pushl c h room = listed (word_of (deeds_of (PUSHL c))) 0 (lists (true ∷ ds) ps bs) h.0 h.1 h.2
+  lists_pushl c h room = listed (word_of (deeds_of (PUSHL c))) 0 (lists (true ∷ ds) ps bs) h.0 h.1
       (marks_pushed true room.marks)
       (sigs_kept room.sigs)
       (boxes_kept room.boxes)
 
   pub lists_select : (c d : Channel) → Known (SELECT c d) 0 → Room z (lists (dirs_below ds) ps bs) → Listed net z Q
       (lists (dirs_below ds) ps bs)
-  lists_select c d h room = listed (word_of (deeds_of (SELECT c d))) 0 (lists (dirs_below ds) ps bs) h.0 h.1 h.2
+  lists_select c d h room = listed (word_of (deeds_of (SELECT c d))) 0 (lists (dirs_below ds) ps bs) h.0 h.1
       (marks_popped room.marks)
       (sigs_kept room.sigs)
       (boxes_kept room.boxes)
 
   pub lists_pop : (c : Channel) → Known (POP c) 0 → Room z (lists (dirs_below ds) ps bs) → Listed net z Q (lists (dirs_below ds) ps bs)
-  lists_pop c h room = listed (word_of (deeds_of (POP c))) 0 (lists (dirs_below ds) ps bs) h.0 h.1 h.2
+  lists_pop c h room = listed (word_of (deeds_of (POP c))) 0 (lists (dirs_below ds) ps bs) h.0 h.1
       (marks_popped room.marks)
       (sigs_kept room.sigs)
       (boxes_kept room.boxes)
@@ -296,7 +294,7 @@ module _ (net : NetTree) (z : Sizes) (sizes : CellSizes z) (Q : Store) (ds : Lis
 
   pub lists_boxin : (c : Channel) → Known (BOXIN c) 0 → Room z (lists ds (below ps) (first_of ps ∷ bs)) → Listed net z Q
       (lists ds (below ps) (first_of ps ∷ bs))
-  lists_boxin c h room = listed (word_of (deeds_of (BOXIN c))) 0 (lists ds (below ps) (first_of ps ∷ bs)) h.0 h.1 h.2
+  lists_boxin c h room = listed (word_of (deeds_of (BOXIN c))) 0 (lists ds (below ps) (first_of ps ∷ bs)) h.0 h.1
       (marks_kept room.marks)
       (sigs_dropped room.sigs)
       (pushed z.cells z.boxes (first_of ps) bs _ _ (Q.stray "more_boxes" (B - 1)) (boxes_all (shorter bs room.boxes))
@@ -305,7 +303,7 @@ module _ (net : NetTree) (z : Sizes) (sizes : CellSizes z) (Q : Store) (ds : Lis
 
   pub lists_boxout : (c : Channel) → Known (BOXOUT c) 0 → Room z (lists ds (first_of bs ∷ ps) (below bs)) → Listed net z Q
       (lists ds (first_of bs ∷ ps) (below bs))
-  lists_boxout c h room = listed (word_of (deeds_of (BOXOUT c))) 0 (lists ds (first_of bs ∷ ps) (below bs)) h.0 h.1 h.2
+  lists_boxout c h room = listed (word_of (deeds_of (BOXOUT c))) 0 (lists ds (first_of bs ∷ ps) (below bs)) h.0 h.1
       (marks_kept room.marks)
       (pushed z.cells z.sigs (first_of bs) ps _ _ (Q.stray "more_sigs" (G - 1)) (sigs_all (shorter ps room.sigs))
       (top_is (Q.vec "boxes") z.boxes (Q.stray "boxes" (place_bits z.cells)) bs boxes wb sizes.boxes) (first_within z.cells bs wb, ws)
@@ -314,7 +312,7 @@ module _ (net : NetTree) (z : Sizes) (sizes : CellSizes z) (Q : Store) (ds : Lis
 
   pub lists_doorout : (c : Channel) → Known (DOOROUT c) 0 → (n : ℕ) → Q.vec "top" ≡ n → n ≤ z.cells → Room z
       (lists ds (point false n ∷ below ps) (below bs)) → Listed net z Q (lists ds (point false n ∷ below ps) (below bs))
-  lists_doorout c h n et lt room = listed (word_of (deeds_of (DOOROUT c))) 0 (lists ds (point false n ∷ below ps) (below bs)) h.0 h.1 h.2
+  lists_doorout c h n et lt room = listed (word_of (deeds_of (DOOROUT c))) 0 (lists ds (point false n ∷ below ps) (below bs)) h.0 h.1
       (marks_kept room.marks)
       (pushed z.cells z.sigs (point false n) (below ps) _ _ (Q.stray "more_sigs" (G - 1)) (sigs_below (shorter (below ps) room.sigs))
       (new_is false n et lt) (lt, below_within z.cells ps ws) room.sigs)
@@ -323,7 +321,7 @@ module _ (net : NetTree) (z : Sizes) (sizes : CellSizes z) (Q : Store) (ds : Lis
   pub lists_doorin : (c : Channel) → Known (DOORIN c) 0 → (o q : Pointer) → Q.vec "sig_first" ≡ pointer_number o → o.place ≤ z.cells
       → Q.vec "sig_second" ≡ pointer_number q → q.place ≤ z.cells → Room z (lists ds (q ∷ below ps) (o ∷ bs)) → Listed net z Q
       (lists ds (q ∷ below ps) (o ∷ bs))
-  lists_doorin c h o q eo lo eq lq room = listed (word_of (deeds_of (DOORIN c))) 0 (lists ds (q ∷ below ps) (o ∷ bs)) h.0 h.1 h.2
+  lists_doorin c h o q eo lo eq lq room = listed (word_of (deeds_of (DOORIN c))) 0 (lists ds (q ∷ below ps) (o ∷ bs)) h.0 h.1
       (marks_kept room.marks)
       (pushed z.cells z.sigs q (below ps) _ _ (Q.stray "more_sigs" (G - 1)) (sigs_below (shorter (below ps) room.sigs))
       (cell_is (Q.vec "sig_second") q eq lq) (lq, below_within z.cells ps ws) room.sigs)
@@ -331,14 +329,14 @@ module _ (net : NetTree) (z : Sizes) (sizes : CellSizes z) (Q : Store) (ds : Lis
       (cell_is (Q.vec "sig_first") o eo lo) (lo, wb) room.boxes)
 
   pub lists_fixin : (c : Channel) → Known (FIXIN c) 0 → Room z (lists ds ps (nil ∷ bs)) → Listed net z Q (lists ds ps (nil ∷ bs))
-  lists_fixin c h room = listed (word_of (deeds_of (FIXIN c))) 0 (lists ds ps (nil ∷ bs)) h.0 h.1 h.2
+  lists_fixin c h room = listed (word_of (deeds_of (FIXIN c))) 0 (lists ds ps (nil ∷ bs)) h.0 h.1
       (marks_kept room.marks)
       (sigs_kept room.sigs)
       (pushed z.cells z.boxes nil bs _ _ (Q.stray "more_boxes" (B - 1)) (boxes_all (shorter bs room.boxes)) (nil_is) (omega arith, wb)
       room.boxes)
 
   pub lists_fixout : (c d : Channel) → Known (FIXOUT c d) 0 → Room z (lists ds ps (below bs)) → Listed net z Q (lists ds ps (below bs))
-  lists_fixout c d h room = listed (word_of (deeds_of (FIXOUT c d))) 0 (lists ds ps (below bs)) h.0 h.1 h.2
+  lists_fixout c d h room = listed (word_of (deeds_of (FIXOUT c d))) 0 (lists ds ps (below bs)) h.0 h.1
       (marks_kept room.marks)
       (sigs_kept room.sigs)
       (boxes_dropped room.boxes)
@@ -346,7 +344,7 @@ module _ (net : NetTree) (z : Sizes) (sizes : CellSizes z) (Q : Store) (ds : Lis
   pub lists_fixback : (c d : Channel) → Known (FIXOUT c d) 1 → (o q : Pointer) → Q.vec "box_first" ≡ pointer_number o → o.place ≤ z.cells
       → Q.vec "box_second" ≡ pointer_number q → q.place ≤ z.cells → Room z (lists ds (q ∷ ps) (o ∷ below bs)) → Listed net z Q
       (lists ds (q ∷ ps) (o ∷ below bs))
-  lists_fixback c d h o q eo lo eq lq room = listed (word_of (deeds_of (FIXOUT c d))) 1 (lists ds (q ∷ ps) (o ∷ below bs)) h.0 h.1 h.2
+  lists_fixback c d h o q eo lo eq lq room = listed (word_of (deeds_of (FIXOUT c d))) 1 (lists ds (q ∷ ps) (o ∷ below bs)) h.0 h.1
       (marks_kept room.marks)
       (pushed z.cells z.sigs q ps _ _ (Q.stray "more_sigs" (G - 1)) (sigs_all (shorter ps room.sigs))
       (cell_is (Q.vec "box_second") q eq lq) (lq, ws) room.sigs)
@@ -355,7 +353,7 @@ module _ (net : NetTree) (z : Sizes) (sizes : CellSizes z) (Q : Store) (ds : Lis
 
   pub lists_fixvar : (c : Channel) → Known (FIXVAR c) 0 → (n : ℕ) → Q.vec "top" ≡ n → n ≤ z.cells → Room z
       (lists ds (below ps) (point true n ∷ below bs)) → Listed net z Q (lists ds (below ps) (point true n ∷ below bs))
-  lists_fixvar c h n et lt room = listed (word_of (deeds_of (FIXVAR c))) 0 (lists ds (below ps) (point true n ∷ below bs)) h.0 h.1 h.2
+  lists_fixvar c h n et lt room = listed (word_of (deeds_of (FIXVAR c))) 0 (lists ds (below ps) (point true n ∷ below bs)) h.0 h.1
       (marks_kept room.marks)
       (sigs_dropped room.sigs)
       (pushed z.cells z.boxes (point true n) (below bs) _ _ (Q.stray "more_boxes" (B - 1)) (boxes_below (shorter (below bs) room.boxes))

@@ -9,10 +9,8 @@ use Rattle.pcf_values.specs.Values.{val_op, val_succ, within}
 use Rattle.pcf_values.specs.declared.operator.Operator.{Operator}
 use Rattle.pcf_values.specs.declared.operator.Operator.TheVariants.{Plus, Minus, Times}
 use Rattle.pcf_values.specs.declared.side.Side.{Side}
-use Rattle.pcf_values.specs.declared.side.Side.TheVariants.{Left, Right}
 use Rattle.net_build.specs.Nets.{NetTree}
 use Rattle.circuit_core.specs.Rows.{JOIN}
-use Rattle.circuit_core.specs.Circuit.{both}
 use Rattle.verilog_tree.specs.Tree.{Expr}
 use Rattle.verilog_tree.specs.Meaning.{Scope, Store, flag, fit, nonzero, chosen, set_vec, settled}
 use Rattle.verilog_tree.proofs.Numbers.{fits}
@@ -21,13 +19,13 @@ use Rattle.circuit_module.specs.Stands.{value_number, Small}
 use Rattle.circuit_module.specs.Module.{multiplies}
 use Rattle.circuit_module.proofs.Values.{high_number, low_number, value_low, succ_value}
 use Rattle.circuit_module.proofs.Boths.{plus_number, minus_number, times_number, within_small}
-use Rattle.cell_core.specs.Circuit.{Sizes}
-use Rattle.cell_module.specs.Fixed.{number_wires}
+use Rattle.cell_core.specs.Sizes.{Sizes}
+use Rattle.cell_module.specs.Fixed.{cell_fork_wires, number_wires}
 use Rattle.cell_module.specs.Module.{cell_product}
 use Rattle.cell_module.specs.Parts.{word_of, deeds_of}
 use Rattle.cell_edges.proofs.Fetch.{P as scope_of}
 use Rattle.cell_edges.proofs.Known.{known}
-use Rattle.cell_edges.proofs.Tail.{forked, tailed, all_set, to_forks, fork_tail}
+use Rattle.cell_edges.proofs.Tail.{forked, tailed, all_set, to_forks}
 
 -- where one of both is an overflow
 abbrev over : ℕ → ℕ → ℕ → ℕ
@@ -41,7 +39,7 @@ abbrev sum_of : ℕ → ℕ → ℕ
 sum_of a b = fit 65 (fit 65 (low a + low b))
 
 abbrev difference_of : ℕ → ℕ → ℕ
-difference_of a b = fit 65 (chosen (nonzero (flag (nat_lt (fit 65 a) (fit 65 b)))) 0 (fit 65 (2 ^ 65 + fit 65 a - fit 65 b)))
+difference_of a b = fit 65 (chosen (nonzero (flag (nat_lt a b))) 0 (fit 65 (2 ^ 65 + a - b)))
 
 abbrev product_of : ℕ → ℕ → ℕ
 product_of a b = fit 128 (fit 128 (low a * low b))
@@ -81,29 +79,16 @@ plus_is (Number a) (Number b) s t = over_none a b _ s t
     ∙ ap (λ n. fit 65 (chosen (nonzero (fit 65 (fit 65 (a + n)) / 2 ^ 64 % 2)) (2 ^ 64) (fit 65 (fit 65 (a + n))))) (low_is b t)
     ∙ plus_number a b s t
 
--- a difference
+-- a difference, of which the number that is taken away is told first
 pub minus_is : (x y : Val) → Small x → Small y →
-    over (value_number x) (value_number y) (difference_of (value_number x) (value_number y)) ≡ value_number (val_op Minus x y)
-minus_is Overflow y s t = over_left Minus y
-minus_is (Number a) Overflow s t = over_second a _ s ∙ over_right Minus a
-minus_is (Number a) (Number b) s t = over_none a b _ s t
-    ∙ ap (λ n. fit 65 (fit 65 (chosen (nonzero (flag (nat_lt n (fit 65 b)))) 0 (fit 65 (2 ^ 65 + n - fit 65 b))))) (fits 65 a (omega arith))
-    ∙ ap (λ n. fit 65 (fit 65 (chosen (nonzero (flag (nat_lt a n))) 0 (fit 65 (2 ^ 65 + a - n))))) (fits 65 b (omega arith))
-    ∙ minus_number a b s t
-
--- where the operands are told the other way round
-pub minus_back : (x y : Val) → Small x → Small y →
     over (value_number y) (value_number x) (difference_of (value_number x) (value_number y)) ≡ value_number (val_op Minus x y)
-minus_back x Overflow s t = turned x s
+minus_is x Overflow s t = turned x s
   where
     turned : (x : Val) → Small x → 2 ^ 64 ≡ value_number (val_op Minus x Overflow)
     turned Overflow s = refl
     turned (Number a) s = refl
-minus_back Overflow (Number b) s t = over_second b _ t
-minus_back (Number a) (Number b) s t = over_none b a _ t s
-    ∙ ap (λ n. fit 65 (fit 65 (chosen (nonzero (flag (nat_lt n (fit 65 b)))) 0 (fit 65 (2 ^ 65 + n - fit 65 b))))) (fits 65 a (omega arith))
-    ∙ ap (λ n. fit 65 (fit 65 (chosen (nonzero (flag (nat_lt a n))) 0 (fit 65 (2 ^ 65 + a - n))))) (fits 65 b (omega arith))
-    ∙ minus_number a b s t
+minus_is Overflow (Number b) s t = over_second b _ t
+minus_is (Number a) (Number b) s t = over_none b a _ t s ∙ minus_number a b s t
 
 -- a product has more than 64 bits, or it is the number
 pub times_is : (x y : Val) → Small x → Small y →
@@ -144,11 +129,11 @@ module _ (net : NetTree) (z : Sizes) (Q : Store) where
 
   at_is : (d : ℕ) → Q.vec "does" ≡ d → all_set net z Q ≡ at d (cell_product (multiplies net.nodes))
   at_is d e = ap (λ (X : Store). settled P (number_wires (cell_product (multiplies net.nodes))) X)
-      (known "does" d (tailed net z Q) (settled_leaves P "does" fork_tail refl (forked net z Q) ∙ to_forks net z Q "does" refl refl ∙ e))
+      (known "does" d (tailed net z Q) (settled_leaves P "does" cell_fork_wires refl (forked net z Q) ∙ to_forks net z Q "does" refl ∙ e))
 
   module _ (v : Val) (sv : Small v) (result : Q.vec "result" ≡ value_number v) where
     result_is : (tailed net z Q).vec "result" ≡ value_number v
-    result_is = settled_leaves P "result" fork_tail refl (forked net z Q) ∙ to_forks net z Q "result" refl refl ∙ result
+    result_is = settled_leaves P "result" cell_fork_wires refl (forked net z Q) ∙ to_forks net z Q "result" refl ∙ result
 
     -- one more
     pub succ_is : fit 65 ((all_set net z Q).vec "succ") ≡ value_number (val_succ v)
@@ -162,7 +147,7 @@ module _ (net : NetTree) (z : Sizes) (Q : Store) where
 
     module _ (u : Val) (su : Small u) (kept : Q.vec "kept" ≡ value_number u) where
       kept_is : (tailed net z Q).vec "kept" ≡ value_number u
-      kept_is = settled_leaves P "kept" fork_tail refl (forked net z Q) ∙ to_forks net z Q "kept" refl refl ∙ kept
+      kept_is = settled_leaves P "kept" cell_fork_wires refl (forked net z Q) ∙ to_forks net z Q "kept" refl ∙ kept
 
       abbrev a : ℕ
       a = (tailed net z Q).vec "result"
@@ -173,22 +158,15 @@ module _ (net : NetTree) (z : Sizes) (Q : Store) where
       told : (f : ℕ → ℕ → ℕ) → f a b ≡ f (value_number v) (value_number u)
       told f = ap (λ n. f n b) result_is ∙ ap (f (value_number v)) kept_is
 
+      -- what both come to: the left answer is the one that was kept
       pub both_is : (o : Operator) (s : Side) (w : ℕ) → Q.vec "does" ≡ word_of (deeds_of (JOIN o s w)) →
-          (o ≡ Times → multiplies net.nodes ≡ true) → (all_set net z Q).vec "both" ≡ value_number (both o s v u)
-      both_is Plus Left w e m = ap (λ (X : Store). X.vec "both") (at_is (word_of (deeds_of (JOIN Plus Left w))) e)
-          ∙ told (λ x y. over x y (chosen (nonzero (sum_of x y / 2 ^ 64 % 2)) (2 ^ 64) (sum_of x y))) ∙ plus_is v u sv su
-      both_is Plus Right w e m = ap (λ (X : Store). X.vec "both") (at_is (word_of (deeds_of (JOIN Plus Right w))) e)
+          (o ≡ Times → multiplies net.nodes ≡ true) → (all_set net z Q).vec "both" ≡ value_number (val_op o u v)
+      both_is Plus s w e m = ap (λ (X : Store). X.vec "both") (at_is (word_of (deeds_of (JOIN Plus s w))) e)
           ∙ told (λ x y. over x y (chosen (nonzero (sum_of x y / 2 ^ 64 % 2)) (2 ^ 64) (sum_of x y))) ∙ plus_is v u sv su
           ∙ ap value_number (plus_turns v u)
-      both_is Minus Left w e m = ap (λ (X : Store). X.vec "both") (at_is (word_of (deeds_of (JOIN Minus Left w))) e)
-          ∙ told (λ x y. over x y (difference_of x y)) ∙ minus_is v u sv su
-      both_is Minus Right w e m = ap (λ (X : Store). X.vec "both") (at_is (word_of (deeds_of (JOIN Minus Right w))) e)
-          ∙ told (λ x y. over x y (difference_of y x)) ∙ minus_back u v su sv
-      both_is Times Left w e m = ap (λ (X : Store). X.vec "both") (at_is (word_of (deeds_of (JOIN Times Left w))) e
-          ∙ ap (λ c. at (word_of (deeds_of (JOIN Times Left w))) (cell_product c)) (m refl))
-          ∙ told (λ x y. over x y (chosen (nonzero (flag (nonzero (fit 64 (product_of x y / 2 ^ 64))))) (2 ^ 64)
-          (0 + fit 64 (product_of x y / 2 ^ 0)))) ∙ times_is v u sv su
-      both_is Times Right w e m = ap (λ (X : Store). X.vec "both") (at_is (word_of (deeds_of (JOIN Times Right w))) e
-          ∙ ap (λ c. at (word_of (deeds_of (JOIN Times Right w))) (cell_product c)) (m refl))
+      both_is Minus s w e m = ap (λ (X : Store). X.vec "both") (at_is (word_of (deeds_of (JOIN Minus s w))) e)
+          ∙ told (λ x y. over x y (difference_of y x)) ∙ minus_is u v su sv
+      both_is Times s w e m = ap (λ (X : Store). X.vec "both") (at_is (word_of (deeds_of (JOIN Times s w))) e
+          ∙ ap (λ c. at (word_of (deeds_of (JOIN Times s w))) (cell_product c)) (m refl))
           ∙ told (λ x y. over x y (chosen (nonzero (flag (nonzero (fit 64 (product_of x y / 2 ^ 64))))) (2 ^ 64)
           (0 + fit 64 (product_of x y / 2 ^ 0)))) ∙ times_is v u sv su ∙ ap value_number (times_turns v u)

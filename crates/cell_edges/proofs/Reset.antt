@@ -1,5 +1,5 @@
 -- The edge at reset, from anything.
-use Rattle.std.proofs.Common.{◌≡◌, ℕ, zero, suc, ◌<◌, ◌||◌, [], length, Some, None}
+use Rattle.std.proofs.Common.{◌≡◌, ℕ, ◌||◌, [], length, Some}
 use Rattle.std.proofs.Common.{refl, sym, ap, ◌∙◌, subst, arith}
 use Rattle.pcf_values.specs.declared.val.Val.TheVariants.{Number}
 use Rattle.net_build.specs.Nets.{NetTree}
@@ -7,18 +7,16 @@ use Rattle.interleave_laws.specs.Start.{start_of}
 use Rattle.circuit_core.specs.Rows.{Channel, number, Row, row_of, channel_of}
 use Rattle.verilog_tree.specs.Tree.{branch, skip}
 use Rattle.verilog_tree.specs.Meaning.{Scope, Store, fire, own, flag, nonzero, chosen, fit, set_vec}
-use Rattle.circuit_module.specs.Sizes.{channel_bits, fork_bits}
+use Rattle.circuit_module.specs.Sizes.{channel_bits}
 use Rattle.cell_core.specs.Cells.{Cell}
-use Rattle.cell_core.specs.Circuit.{Sizes, CellToken, powered}
+use Rattle.cell_core.specs.Sizes.{Sizes}
+use Rattle.newest_core.specs.Circuit.{CellToken, powered}
 use Rattle.cell_module.specs.Fixed.{runs, fetch_row, cell_reset, cell_move, cell_clock}
+use Rattle.cell_module.proofs.Channels.{channel_fits}
 use Rattle.circuit_module.specs.InRange.{InRange}
-use Rattle.cell_edges.specs.Stands.{IsRow, Going, Stands, opened}
+use Rattle.cell_edges.specs.Stands.{IsRow, Going, Stands}
 use Rattle.cell_edges.specs.Laws.{CellSizes, CellModuleResets}
-use Rattle.cell_edges.proofs.Fetch.{channel_fits, zero_fits, P as scope_of, D, R as all_of, keeps, row_wires}
-
-no_slots : (k n : ℕ) → opened (λ j. None) k n ≡ 0
-no_slots k zero = refl
-no_slots k (suc n) = let h = no_slots (suc k) n in omega arith
+use Rattle.cell_edges.proofs.Fetch.{zero_fits, P as scope_of, D, R as all_of, keeps, row_wires}
 
 module _ (net : NetTree) (z : Sizes) (sizes : CellSizes z) (range : InRange net) (mem : ℕ → Cell) (S : Store) where
   abbrev W : ℕ
@@ -56,7 +54,7 @@ module _ (net : NetTree) (z : Sizes) (sizes : CellSizes z) (range : InRange net)
   row_is p h = let r = row_wires net z T range at goes_is p h in record { does = r.op; main = r.to; side = r.other; literal = r.number }
 
   abbrev K : CellToken
-  K = record { value = Number 0; channel = at; stacks = record { dirs = []; sigs = []; boxes = [] }; mine = 0 }
+  K = record { value = Number 0; channel = at; stacks = record { dirs = []; sigs = []; boxes = [] } }
 
   going : Going net z G (powered net mem) K
   going = record {
@@ -65,7 +63,6 @@ module _ (net : NetTree) (z : Sizes) (sizes : CellSizes z) (range : InRange net)
       marks = zero_fits _;
       sigs = zero_fits _;
       boxes = zero_fits _;
-      mine = zero_fits _;
       sigs_fit = tt;
       boxes_fit = tt;
     };
@@ -73,18 +70,16 @@ module _ (net : NetTree) (z : Sizes) (sizes : CellSizes z) (range : InRange net)
     fetched = λ p h. record {
       sig = λ b l. absurd (omega arith);
       box = λ b l. absurd (omega arith);
-      entry = λ j f e. absurd cc;
-      question = λ j q qs e. absurd cc;
+      fork = λ j f fs e. absurd cc;
     };
     top = zero_fits _;
     few = omega arith;
     cells = λ i l. absurd (omega arith);
     cells_fit = λ i l. absurd (omega arith);
-    first = subst (λ i. i < z.forks) (sym (zero_fits (fork_bits z.forks))) sizes.forks;
-    queue = tt;
-    last = refl;
-    open_forks = zero_fits z.forks ∙ sym (no_slots 0 z.forks);
-    forks = λ a f e. absurd cc;
+    forks = tt;
+    depth = zero_fits _;
+    few_forks = omega arith;
+    falling = tt;
   }
 
   stands : Stands net z (powered net mem) G

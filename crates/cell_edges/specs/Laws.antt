@@ -3,7 +3,8 @@
 use Rattle.std.specs.Prelude.{◌<◌, ◌≤◌, ℕ, ◌*◌, ◌^◌}
 use Rattle.net_build.specs.Nets.{NetTree}
 use Rattle.cell_core.specs.Cells.{Cell}
-use Rattle.cell_core.specs.Circuit.{Sizes, powered}
+use Rattle.cell_core.specs.Sizes.{Sizes}
+use Rattle.newest_core.specs.Circuit.{powered}
 use Rattle.verilog_tree.specs.Meaning.{Store, edge, set_vec}
 use Rattle.circuit_module.specs.InRange.{InRange}
 use Rattle.cell_module.specs.Module.{pointer_bits, cell_module}

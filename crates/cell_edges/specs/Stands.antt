@@ -1,6 +1,6 @@
 -- Which registers of the module over cells stand for a circuit over cells, and what was fetched for its token.
-use Rattle.std.specs.Prelude.{◌≡◌, ◌<◌, ◌≤◌, ℕ, zero, suc, ◌+◌, ◌*◌, ◌/◌, ◌%◌, ◌^◌, Bool, true, false, List, []}
-use Rattle.std.specs.Prelude.{◌∷◌, length, Option, Some, None, is_some}
+use Rattle.std.specs.Prelude.{◌≡◌, ◌<◌, ◌≤◌, ℕ, ◌+◌, ◌*◌, ◌/◌, ◌%◌, ◌^◌, Bool, true, false, List, []}
+use Rattle.std.specs.Prelude.{◌∷◌, length, Some, None, is_some}
 use Prim.Native.String.{String}
 use Rattle.pcf_values.specs.declared.val.Val.{Val}
 use Rattle.net_build.specs.Nets.{NetTree}
@@ -8,11 +8,12 @@ use Rattle.circuit_core.specs.Rows.{falls, number, Row, GO, CONST, SUCC, PRED, T
 use Rattle.circuit_core.specs.Rows.{LEFT, RIGHT, CON, PUSHR, PUSHL, SELECT, POP, BOXIN, BOXOUT, DOOROUT, DOORIN, FIXIN, FIXOUT, FIXVAR}
 use Rattle.circuit_core.specs.Rows.{DEAD, row_of}
 use Rattle.verilog_tree.specs.Meaning.{Store, flag}
-use Rattle.circuit_module.specs.Sizes.{fork_bits}
-use Rattle.circuit_module.specs.Stands.{value_number, next_in, after}
+use Rattle.circuit_module.specs.Stands.{value_number}
+use Rattle.circuit_module.specs.InRange.{Named}
 use Rattle.cell_core.specs.Cells.{Pointer, Cell, cell_at, first_of}
-use Rattle.cell_core.specs.Circuit.{Sizes, CellToken, CellQuestion, CellSlot, CellCircuit}
-use Rattle.cell_module.specs.Module.{pointer_bits}
+use Rattle.cell_core.specs.Sizes.{Sizes}
+use Rattle.newest_core.specs.Circuit.{CellToken, CellFork, CellCircuit}
+use Rattle.cell_module.specs.Module.{place_bits, pointer_bits}
 use Rattle.cell_module.specs.Apart.{is_join}
 use Rattle.cell_module.specs.Parts.{word_of, deeds_of}
 
@@ -88,7 +89,6 @@ pub record IsAt (z : Sizes) (S : Store) (k : CellToken) : Type 0 where
   pub marks : S.vec "marks" ≡ marks_number k.stacks.dirs
   pub sigs : S.vec "sigs" ≡ pointers_number (pointer_bits z.cells) k.stacks.sigs
   pub boxes : S.vec "boxes" ≡ pointers_number (pointer_bits z.cells) k.stacks.boxes
-  pub mine : S.vec "mine" ≡ k.mine
   pub sigs_fit : Within z.cells k.stacks.sigs
   pub boxes_fit : Within z.cells k.stacks.boxes
 
@@ -99,27 +99,37 @@ pub record HasCell (m : String → ℕ → ℕ) (i : ℕ) (x : Cell) : Type 0 wh
   pub box_first : m "box_firsts" i ≡ pointer_number x.first
   pub box_second : m "box_seconds" i ≡ pointer_number x.second
 
--- a question at a place of the ring: its channel above its fork
-pub record Waits (z : Sizes) (m : String → ℕ → ℕ) (i : ℕ) (q : CellQuestion) : Type 0 where
-  pub word : m "queue" i ≡ number q.channel * 2 ^ fork_bits z.forks + q.mine
-  pub boxes : m "queue_boxes" i ≡ pointers_number (pointer_bits z.cells) q.boxes
-  pub fit : Within z.cells q.boxes
-
--- the queue is in the ring from i on
-abbrev pub InRing : Sizes → (String → ℕ → ℕ) → ℕ → List CellQuestion → Type 0
-InRing z m i [] = Unit {0}
-InRing z m i (q ∷ qs) = Waits z m i q × InRing z m (next_in z.forks i) qs
-
--- an entry's word: the fork around it, whether it is answered, and the answer
-pub record IsSlot (n : ℕ) (f : CellSlot) : Type 0 where
-  pub around : n / 2 ^ 66 ≡ f.around
+-- a fork's word: the channel of its right question while that waits, the cells in use when it was opened, whether it is answered, and
+-- the answer
+pub record IsFork (z : Sizes) (n : ℕ) (f : CellFork) : Type 0 where
+  pub channel : f.answered ≡ None → n / 2 ^ (place_bits z.cells + 66) ≡ number f.channel
+  pub top : n / 2 ^ 66 % 2 ^ place_bits z.cells ≡ f.top
   pub answered : n / 2 ^ 65 % 2 ≡ flag (is_some f.answered)
   pub kept : (u : Val) → f.answered ≡ Some u → n % 2 ^ 65 ≡ value_number u
 
--- which of n forks from k on are open, the first at bit 0
-abbrev pub opened : (ℕ → Option CellSlot) → ℕ → ℕ → ℕ
-opened f k zero = 0
-opened f k (suc n) = flag (is_some (f k)) + 2 * opened f (suc k) n
+-- its parts fit their bits, and the row of its right question is no join
+pub record ForkFits (net : NetTree) (z : Sizes) (f : CellFork) : Type 0 where
+  pub channel : Named (length net.wires) f.channel
+  pub apart : (p : ℕ × Row) → row_of net f.channel ≡ Some p → is_join p.1 ≡ false
+  pub short : length f.boxes ≤ z.boxes
+  pub boxes : Within z.cells f.boxes
+  pub top : f.top ≤ z.cells
+
+-- the fork at a place of the memories
+pub record Opened (net : NetTree) (z : Sizes) (m : String → ℕ → ℕ) (i : ℕ) (f : CellFork) : Type 0 where
+  pub word : IsFork z (m "forks" i) f
+  pub boxes : m "forks_boxes" i ≡ pointers_number (pointer_bits z.cells) f.boxes
+  pub fits : ForkFits net z f
+
+-- the open forks, of which the innermost comes first, stand in the memories from the outermost on
+abbrev pub InStack : NetTree → Sizes → (String → ℕ → ℕ) → List CellFork → Type 0
+InStack net z m [] = Unit {0}
+InStack net z m (f ∷ fs) = Opened net z m (length fs) f × InStack net z m fs
+
+-- no fork was opened with more cells in use than the forks inside it, and than there are now
+abbrev pub Falling : ℕ → List CellFork → Type 0
+Falling n [] = Unit {0}
+Falling n (f ∷ fs) = (f.top ≤ n) × Falling f.top fs
 
 -- rows that read the cell of the top signature, and that of the top box
 abbrev pub by_sig : Row → Bool
@@ -139,10 +149,8 @@ pub record Fetched (z : Sizes) (S : Store) (C : CellCircuit) (k : CellToken) (r 
   pub box : by_box r ≡ true → (first_of k.stacks.boxes).place < C.store.top →
       (S.vec "box_first" ≡ pointer_number (cell_at C.store (first_of k.stacks.boxes)).first) ×
       (S.vec "box_second" ≡ pointer_number (cell_at C.store (first_of k.stacks.boxes)).second)
-  pub entry : is_join r ≡ true → (f : CellSlot) → C.slots k.mine ≡ Some f → IsSlot (S.vec "fork_has") f
-  pub question : is_join r ≡ true → (q : CellQuestion) (qs : List CellQuestion) → C.queue ≡ q ∷ qs →
-      (S.vec "asked" ≡ number q.channel * 2 ^ fork_bits z.forks + q.mine) ×
-      (S.vec "asked_boxes" ≡ pointers_number (pointer_bits z.cells) q.boxes)
+  pub fork : is_join r ≡ true → (f : CellFork) (fs : List CellFork) → C.forks ≡ f ∷ fs →
+      IsFork z (S.vec "fork_has") f × (S.vec "fork_boxes" ≡ pointers_number (pointer_bits z.cells) f.boxes)
 
 -- of a circuit that goes on: all that the next edges read
 pub record Going (net : NetTree) (z : Sizes) (S : Store) (C : CellCircuit) (k : CellToken) : Type 0 where
@@ -153,11 +161,10 @@ pub record Going (net : NetTree) (z : Sizes) (S : Store) (C : CellCircuit) (k : 
   pub few : C.store.top ≤ z.cells
   pub cells : (i : ℕ) → i < C.store.top → HasCell S.mem i (C.store.cells i)
   pub cells_fit : (i : ℕ) → i < C.store.top → Within z.cells ((C.store.cells i).first ∷ (C.store.cells i).second ∷ [])
-  pub first : S.vec "first" < z.forks
-  pub queue : InRing z S.mem (S.vec "first") C.queue
-  pub last : S.vec "last" ≡ after z.forks (S.vec "first") (length C.queue)
-  pub open_forks : S.vec "open" ≡ opened C.slots 0 z.forks
-  pub forks : (a : ℕ) (f : CellSlot) → C.slots a ≡ Some f → IsSlot (S.mem "forks" a) f
+  pub forks : InStack net z S.mem C.forks
+  pub depth : S.vec "depth" ≡ length C.forks
+  pub few_forks : length C.forks ≤ z.forks
+  pub falling : Falling C.store.top C.forks
 
 -- the ports; and while there is a token and nothing is full, all else
 pub record Stands (net : NetTree) (z : Sizes) (C : CellCircuit) (S : Store) : Type 0 where
