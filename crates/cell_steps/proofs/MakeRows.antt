@@ -1,34 +1,36 @@
 -- One edge at the rows that make a cell.
-use Rattle.std.proofs.Common.{◌≡◌, ℕ, suc, ◌+◌, ◌<◌, max, Bool, true, false, cond, ◌&&◌, ◌||◌, List, [], ◌∷◌}
+use Rattle.std.proofs.Common.{◌≡◌, ℕ, suc, ◌+◌, ◌<◌, max, Bool, true, false, cond, ◌||◌, List, [], ◌∷◌}
 use Rattle.std.proofs.Common.{length, Some, refl, sym, ap, ◌∙◌, subst, arith, nat_lt, nat_eq}
-use Rattle.std.proofs.lemmas.Bool.{and_from, eq-eqb, ne_eqb, eqb-true, eqb-false, lt-ltb, ltb-true, ltb-false}
+use Rattle.std.proofs.lemmas.Bool.{eq-eqb, ne_eqb, eqb-true, eqb-false, ltb-true, ltb-false}
+use Prim.Native.String.{String}
 use Rattle.net_build.specs.Nets.{NetTree}
 use Rattle.circuit_core.specs.Rows.{Channel, Row, GO, CONST, SUCC, PRED, TEST, FORK, JOIN, ANSWER, STAR, UNSTAR, LEFT}
 use Rattle.circuit_core.specs.Rows.{RIGHT, CON, PUSHR, PUSHL, SELECT, POP, BOXIN, BOXOUT, DOOROUT, DOORIN, FIXIN, FIXOUT, FIXVAR, DEAD}
 use Rattle.circuit_core.specs.Rows.{row_of}
-use Rattle.verilog_tree.specs.Meaning.{Store, fire, fit, flag, nonzero, chosen}
-use Rattle.verilog_tree.proofs.Numbers.{fits, fits_twice}
+use Rattle.verilog_tree.specs.Meaning.{Store, fire, fit, flag, nonzero}
+use Rattle.verilog_tree.proofs.Numbers.{fits}
 use Rattle.circuit_module.specs.InRange.{Named, InRange}
 use Rattle.cell_core.specs.Cells.{Pointer, Stacks, Made, point, first_of, below, new_cell, more, after}
-use Rattle.cell_core.specs.Circuit.{Sizes, CellToken, CellCircuit, too_long, used_up, stuck, shifted}
+use Rattle.cell_core.specs.Sizes.{Sizes, too_long, used_up}
+use Rattle.newest_core.specs.Circuit.{CellToken, CellFork, CellCircuit, stuck, shifted}
 use Rattle.cell_module.specs.Fixed.{cell_clock}
 use Rattle.cell_module.specs.Module.{place_bits, pointer_bits}
 use Rattle.cell_module.specs.Apart.{reads_cell}
 use Rattle.cell_module.specs.Parts.{word_of, deeds_of}
 use Rattle.cell_edges.specs.Laws.{CellSizes}
-use Rattle.cell_edges.specs.Stands.{pointer_number, pointers_number, marks_number, IsRow, HasCell, Within, Going, Stands, by_sig, by_box}
+use Rattle.cell_edges.specs.Stands.{pointer_number, pointers_number, marks_number, IsRow, HasCell, Within, Falling, Going, Stands}
+use Rattle.cell_edges.specs.Stands.{by_sig, by_box}
 use Rattle.cell_edges.proofs.Fetch.{P as scope_of, R as all_of, Q as found_of, rows_keep}
 use Rattle.cell_steps.specs.Meets.{Meets}
-use Rattle.cell_edges.proofs.Lists.{place_low, first_within, below_within}
+use Rattle.cell_edges.proofs.Lists.{first_within, below_within}
 use Rattle.cell_edges.proofs.Ways.{Way}
 use Rattle.cell_edges.proofs.Ways as ways
 use Rattle.cell_edges.proofs.Moves.{Listed, Room, lists, top_is}
 use Rattle.cell_edges.proofs.Moves as moves
-use Rattle.cell_edges.proofs.Tail.{TailQuiet, quiet_mine, quiet_first}
-use Rattle.cell_steps.proofs.Clock.{Makes, NewCell, edge_at, making_at}
+use Rattle.cell_edges.proofs.Tail.{TailQuiet, quiet_depth, one_more}
+use Rattle.cell_steps.proofs.Clock.{Makes, Written, written, NewCell, edge_at, making_at}
 use Rattle.cell_steps.proofs.Clock as clocks
-use Rattle.cell_steps.proofs.Onward.{T as before, reg, to_q, mem_is, edge_is, no_result, row_at, marks_at, sigs_at, boxes_at, Around}
-use Rattle.cell_steps.proofs.Onward.{around_at}
+use Rattle.cell_steps.proofs.Onward.{T as before, reg, to_q, mem_is, edge_is, no_result, token_at, row_at, Open, open_same}
 use Rattle.cell_steps.proofs.Onward.{on_stands, full_stands}
 use Rattle.cell_steps.proofs.Rows.{room_of, lower, known_at, marks_q, sigs_q, boxes_q}
 
@@ -59,6 +61,11 @@ none_read (FIXIN c) h = (refl, refl)
 none_read (FIXOUT c d) h = absurd cc
 none_read (FIXVAR c) h = (refl, refl)
 none_read DEAD h = (refl, refl)
+
+-- with one more cell in use
+higher : (n : ℕ) (fs : List CellFork) → Falling n fs → Falling (suc n) fs
+higher n [] h = tt
+higher n (f ∷ fs) h = (let l = h.0 in omega arith, h.1)
 
 -- a row of stacks that has room, and makes a cell
 shifted_makes : (z : Sizes) (o : Made) (k : CellToken) (C : CellCircuit) → o.made ≡ true → too_long z o.stacks ≡ false →
@@ -123,16 +130,6 @@ module _ (net : NetTree) (z : Sizes) (sizes : CellSizes z) (range : InRange net)
   top_q : Q.vec "top" ≡ C.store.top
   top_q = to_q net z sizes range C S st k live ready meets "top" refl refl ∙ g.top
 
-  -- a word that is written where the top is, and others that stay
-  written : (m : ℕ → ℕ) (n : ℕ → ℕ) (x : ℕ) → C.store.top < z.cells →
-      ((j : ℕ) → n j ≡ chosen (nat_eq (R.vec "top") j && nat_lt (R.vec "top") z.cells) x (m j)) →
-      (n C.store.top ≡ x) × ((j : ℕ) → (j ≡ C.store.top → ⊥) → n j ≡ m j)
-  written m n x l h = (
-    h C.store.top ∙ ap (λ b. chosen b x (m C.store.top)) (and_from (nat_eq (R.vec "top") C.store.top) (nat_lt (R.vec "top") z.cells)
-        (eq-eqb (R.vec "top") C.store.top top_r) (lt-ltb (R.vec "top") z.cells (subst (λ i. i < z.cells) (sym top_r) l))),
-    λ j e. h j ∙ ap (λ b. chosen (b && nat_lt (R.vec "top") z.cells) x (m j)) (ne_eqb (R.vec "top") j (λ y. e (sym y ∙ top_r))),
-  )
-
   -- the new cell and the others
   cells_more : (G : Store) → NewCell z R G → C.store.top < z.cells → (i : ℕ) → i < suc C.store.top →
       HasCell G.mem i ((more C.store (new_cell k.stacks)).cells i)
@@ -151,23 +148,27 @@ module _ (net : NetTree) (z : Sizes) (sizes : CellSizes z) (range : InRange net)
       mem : R.mem ≡ S.mem
       mem = mem_is net z sizes range C S st k live ready meets
 
+      at : (m : String) (x : ℕ) → Written R G m (R.vec "top") z.cells x →
+          (G.mem m C.store.top ≡ x) × ((j : ℕ) → (j ≡ C.store.top → ⊥) → G.mem m j ≡ R.mem m j)
+      at m x h = written R G m (R.vec "top") z.cells x C.store.top h top_r l
+
       here : i ≡ C.store.top → HasCell G.mem i (new_cell k.stacks)
       here e = subst (λ i. HasCell G.mem i (new_cell k.stacks)) (sym e) (record {
-        sig_first = (written (R.mem "sig_firsts") (G.mem "sig_firsts") (clocks.top_in z z.boxes R "boxes") l n.sig_firsts).0 ∙ box_top;
-        sig_second = (written (R.mem "sig_seconds") (G.mem "sig_seconds") (clocks.top_in z z.sigs R "sigs") l n.sig_seconds).0 ∙ sig_top;
-        box_first = (written (R.mem "box_firsts") (G.mem "box_firsts") (clocks.top_in z z.boxes R "boxes") l n.box_firsts).0 ∙ box_top;
-        box_second = (written (R.mem "box_seconds") (G.mem "box_seconds") (clocks.top_in z z.sigs R "sigs") l n.box_seconds).0 ∙ sig_top;
+        sig_first = (at "sig_firsts" (clocks.top_in z z.boxes R "boxes") n.sig_firsts).0 ∙ box_top;
+        sig_second = (at "sig_seconds" (clocks.top_in z z.sigs R "sigs") n.sig_seconds).0 ∙ sig_top;
+        box_first = (at "box_firsts" (clocks.top_in z z.boxes R "boxes") n.box_firsts).0 ∙ box_top;
+        box_second = (at "box_seconds" (clocks.top_in z z.sigs R "sigs") n.box_seconds).0 ∙ sig_top;
       })
 
       there : (i ≡ C.store.top → ⊥) → HasCell G.mem i (C.store.cells i)
       there e = let h = g.cells i (omega arith) in record {
-        sig_first = (written (R.mem "sig_firsts") (G.mem "sig_firsts") (clocks.top_in z z.boxes R "boxes") l n.sig_firsts).1 i e
+        sig_first = (at "sig_firsts" (clocks.top_in z z.boxes R "boxes") n.sig_firsts).1 i e
             ∙ ap (λ m. m "sig_firsts" i) mem ∙ h.sig_first;
-        sig_second = (written (R.mem "sig_seconds") (G.mem "sig_seconds") (clocks.top_in z z.sigs R "sigs") l n.sig_seconds).1 i e
+        sig_second = (at "sig_seconds" (clocks.top_in z z.sigs R "sigs") n.sig_seconds).1 i e
             ∙ ap (λ m. m "sig_seconds" i) mem ∙ h.sig_second;
-        box_first = (written (R.mem "box_firsts") (G.mem "box_firsts") (clocks.top_in z z.boxes R "boxes") l n.box_firsts).1 i e
+        box_first = (at "box_firsts" (clocks.top_in z z.boxes R "boxes") n.box_firsts).1 i e
             ∙ ap (λ m. m "box_firsts" i) mem ∙ h.box_first;
-        box_second = (written (R.mem "box_seconds") (G.mem "box_seconds") (clocks.top_in z z.sigs R "sigs") l n.box_seconds).1 i e
+        box_second = (at "box_seconds" (clocks.top_in z z.sigs R "sigs") n.box_seconds).1 i e
             ∙ ap (λ m. m "box_seconds" i) mem ∙ h.box_second;
       }
 
@@ -184,75 +185,51 @@ module _ (net : NetTree) (z : Sizes) (sizes : CellSizes z) (range : InRange net)
       go true e = (first_within z.cells bs g.token.boxes_fit, (first_within z.cells ps g.token.sigs_fit, tt))
       go false e = let n = eqb-false i C.store.top e in g.cells_fit i (omega arith)
 
-  module _ (d : ℕ) (c : Channel) (ks : Stacks) (ed : T.vec "does" ≡ d) (way : Way net z T c 0 0) (h : Listed net z Q ks) (room : Room z ks)
-      (ws : Within z.cells ks.sigs) (wb : Within z.cells ks.boxes) (tail : TailQuiet net z Q d) where
+  module _ (d : ℕ) (c : Channel) (ks : Stacks) (ed : T.vec "does" ≡ d) (way : Way net z T c 0 0 0) (h : Listed net z Q ks)
+      (room : Room z ks) (ws : Within z.cells ks.sigs) (wb : Within z.cells ks.boxes) (tail : TailQuiet net z Q d) where
+    abbrev next : CellToken
+    next = record { value = k.value; channel = c; stacks = ks }
+
     abbrev made : CellCircuit
-    made = record C' {
-      live = Some (record { value = k.value; channel = c; stacks = ks; mine = k.mine });
-      store = more C.store (new_cell k.stacks);
-    }
-
-    first_q : Q.vec "first_answer" ≡ 0
-    first_q = rows_keep net z T "first_answer" refl ∙ way.first
-
-    does_q : Q.vec "does" ≡ d
-    does_q = to_q net z sizes range C S st k live ready meets "does" refl refl ∙ ed
+    made = record C' { live = Some next; store = more C.store (new_cell k.stacks) }
 
     makes_stands : (G : Store) → Makes net z R G → C.store.top < z.cells →
         ((p : ℕ × Row) → row_of net c ≡ Some p → reads_cell p.1 ≡ false) → Stands net z made G
-    makes_stands G q l apart = on_stands net z sizes range C S st k live ready meets
-        (record { value = k.value; channel = c; stacks = ks; mine = k.mine }) made G refl ready
+    makes_stands G q l apart = on_stands net z sizes range C S st k live ready meets next made G refl ready
         (no_result net z sizes range C S st k live ready meets) refl q.on q.base.moves
         (record {
-          token = record {
-            value = q.result ∙ reg net z sizes range C S st k live ready meets "result" refl refl refl ∙ g.token.value;
-            marks = marks_at net z sizes range C S st k live ready meets G ks q.base h room;
-            sigs = sigs_at net z sizes range C S st k live ready meets G ks q.base h room ws;
-            boxes = boxes_at net z sizes range C S st k live ready meets G ks q.base h room wb;
-            mine = ar.mine;
-            sigs_fit = ws;
-            boxes_fit = wb;
-          };
+          token = token_at net z sizes range C S st k live ready meets next G q.base
+              (q.result ∙ reg net z sizes range C S st k live ready meets "result" refl refl refl ∙ g.token.value)
+              (record { goes = way.goes; lists = h; room = room; sigs = ws; boxes = wb });
           row = row_at net z sizes range C S st k live ready meets G q.base c way.goes;
           fetched = λ p e. record {
             sig = λ t u. let n = (none_read p.1 (apart p e)).0 in absurd cc;
             box = λ t u. let n = (none_read p.1 (apart p e)).1 in absurd cc;
-            entry = λ t f e. ar.entry f e;
-            question = λ t i is e. ar.question i is e;
+            fork = kept.read p e;
           };
           top = q.cells.top ∙ ap (λ n. fit (place_bits z.cells) (fit (max (place_bits z.cells) (max (place_bits z.cells) 32)) (n + 1)))
               top_r
-              ∙ next_top;
+              ∙ one_more z.cells (max (place_bits z.cells) (max (place_bits z.cells) 32)) C.store.top l (omega arith);
           few = l;
           cells = cells_more G q.cells l;
           cells_fit = fits_more;
-          first = subst (λ i. i < z.forks) (sym ar.first) g.first;
-          queue = ar.queue;
-          last = ar.last;
-          open_forks = ar.open_forks;
-          forks = ar.forks;
+          forks = kept.stack;
+          depth = kept.depth;
+          few_forks = kept.few;
+          falling = higher C.store.top C.forks g.falling;
         })
       where
-        ar : Around net z sizes range C S st k live ready meets G
-        ar = around_at net z sizes range C S st k live ready meets G q.forks
-            (quiet_mine net z Q d k.mine tail does_q first_q
-            (to_q net z sizes range C S st k live ready meets "mine" refl refl ∙ g.token.mine) meets.mine)
-            (quiet_first net z Q d (S.vec "first") tail does_q first_q
-            (to_q net z sizes range C S st k live ready meets "first" refl refl) g.first)
-
-        next_top : fit (place_bits z.cells) (fit (max (place_bits z.cells) (max (place_bits z.cells) 32)) (C.store.top + 1))
-            ≡ suc C.store.top
-        next_top =
-            let e : C.store.top + 1 ≡ suc C.store.top = omega arith in
-            ap (λ n. fit (place_bits z.cells) (fit (max (place_bits z.cells) (max (place_bits z.cells) 32)) n)) e
-            ∙ fits_twice (place_bits z.cells) (max (place_bits z.cells) (max (place_bits z.cells) 32)) (suc C.store.top)
-            (place_low z.cells (suc C.store.top) l) (omega arith)
+        kept : Open net z sizes range C S st k live ready meets G c C.forks
+        kept = open_same net z sizes range C S st k live ready meets G c C.forks q.fork q.forks g.forks g.few_forks
+            (quiet_depth net z Q d (length C.forks) tail (to_q net z sizes range C S st k live ready meets "does" refl refl ∙ ed)
+            (rows_keep net z T "second_answer" refl ∙ way.second)
+            (to_q net z sizes range C S st k live ready meets "depth" refl refl ∙ g.depth) g.few_forks)
 
     -- where a cell is left, and where none is
     abbrev full_at : ℕ → Bool
     full_at n = nonzero (flag (nonzero (flag (nonzero (flag (nat_eq n (fit 32 z.cells))))) || false))
 
-    pub makes_case : edge_at net z R d 0 ≡ making_at net z R d (full_at (R.vec "top")) →
+    pub makes_case : edge_at net z R d 0 0 ≡ making_at net z R d (full_at (R.vec "top")) →
         ((p : ℕ × Row) → row_of net c ≡ Some p → reads_cell p.1 ≡ false) → too_long z ks ≡ false →
         After (shifted z (record { channel = c; stacks = ks; made = true }) k C')
     makes_case eb apart fit_ks = subst After
@@ -272,7 +249,8 @@ module _ (net : NetTree) (z : Sizes) (sizes : CellSizes z) (range : InRange net)
             plain false = refl
 
         edge_to : (u : Bool) → nat_eq C.store.top z.cells ≡ u → fire (scope_of net z T) R cell_clock R ≡ making_at net z R d u
-        edge_to u e = edge_is net z sizes range C S st k live ready meets d 0 ed way.first ∙ eb ∙ ap (λ b. making_at net z R d b) (told u e)
+        edge_to u e = edge_is net z sizes range C S st k live ready meets d 0 0 ed way.first way.second ∙ eb
+            ∙ ap (λ b. making_at net z R d b) (told u e)
 
         go : (u : Bool) → nat_lt z.cells (suc C.store.top) ≡ u → After (cond u (stuck C') made)
         go true e =
@@ -296,7 +274,7 @@ module _ (net : NetTree) (z : Sizes) (sizes : CellSizes z) (range : InRange net)
       room)
       (g.few, below_within z.cells ps g.token.sigs_fit) g.token.boxes_fit (λ F. (refl, refl)) refl apart room
     where
-      way : Way net z T c 0 0
+      way : Way net z T c 0 0 0
       way = ways.way_left net z T refl c (n, lower net z sizes range C S st k live ready meets (LEFT c) row)
 
   pub edge_right : (c : Channel) → Named W c → IsRow S (RIGHT c) → ((p : ℕ × Row) → row_of net c ≡ Some p → reads_cell p.1 ≡ false) →
@@ -308,7 +286,7 @@ module _ (net : NetTree) (z : Sizes) (sizes : CellSizes z) (range : InRange net)
       (room_of z (lists ds (point true C.store.top ∷ below ps) bs) room)) (room_of z (lists ds (point true C.store.top ∷ below ps) bs) room)
       (g.few, below_within z.cells ps g.token.sigs_fit) g.token.boxes_fit (λ F. (refl, refl)) refl apart room
     where
-      way : Way net z T c 0 0
+      way : Way net z T c 0 0 0
       way = ways.way_right net z T refl c (n, lower net z sizes range C S st k live ready meets (RIGHT c) row)
 
   pub edge_doorout : (c : Channel) → Named W c → IsRow S (DOOROUT c) → ((p : ℕ × Row) → row_of net c ≡ Some p → reads_cell p.1 ≡ false) →
@@ -323,7 +301,7 @@ module _ (net : NetTree) (z : Sizes) (sizes : CellSizes z) (range : InRange net)
       (g.few, below_within z.cells ps g.token.sigs_fit) (below_within z.cells bs g.token.boxes_fit) (λ F. (refl, refl))
       refl apart room
     where
-      way : Way net z T c 0 0
+      way : Way net z T c 0 0 0
       way = ways.way_doorout net z T refl c (n, lower net z sizes range C S st k live ready meets (DOOROUT c) row)
 
   pub edge_fixvar : (c : Channel) → Named W c → IsRow S (FIXVAR c) → ((p : ℕ × Row) → row_of net c ≡ Some p → reads_cell p.1 ≡ false) →
@@ -338,5 +316,5 @@ module _ (net : NetTree) (z : Sizes) (sizes : CellSizes z) (range : InRange net)
       (below_within z.cells ps g.token.sigs_fit) (g.few, below_within z.cells bs g.token.boxes_fit) (λ F. (refl, refl))
       refl apart room
     where
-      way : Way net z T c 0 0
+      way : Way net z T c 0 0 0
       way = ways.way_fixvar net z T refl c (n, lower net z sizes range C S st k live ready meets (FIXVAR c) row)

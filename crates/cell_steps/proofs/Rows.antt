@@ -14,7 +14,8 @@ use Rattle.circuit_module.specs.Stands.{value_number, Small}
 use Rattle.circuit_module.proofs.Values.{pred_value, value_low}
 use Rattle.circuit_module.specs.InRange.{Named, InRange}
 use Rattle.cell_core.specs.Cells.{Pointer, Stacks, Made, nil, first_of, below, dir, dirs_below, after, cell_at}
-use Rattle.cell_core.specs.Circuit.{Sizes, CellToken, CellCircuit, too_long, used_up, stuck, shifted, goes}
+use Rattle.cell_core.specs.Sizes.{Sizes, too_long, used_up}
+use Rattle.newest_core.specs.Circuit.{CellToken, CellCircuit, stuck, shifted, goes}
 use Rattle.cell_module.specs.Fixed.{cell_clock}
 use Rattle.cell_module.specs.Module.{pointer_bits}
 use Rattle.cell_module.specs.Parts.{word_of, deeds_of}
@@ -94,13 +95,9 @@ module _ (net : NetTree) (z : Sizes) (sizes : CellSizes z) (range : InRange net)
   lower r h = record { does = h.does; main = h.main; side = h.side; literal = h.literal }
 
   -- what is known before the lists
-  pub known_at : (d b : ℕ) (c : Channel) → T.vec "does" ≡ d → Way net z T c 0 b →
-      (Q.vec "does" ≡ d) × (Q.vec "first_answer" ≡ 0) × (Q.vec "back" ≡ b)
-  known_at d b c e way = (
-    to_q net z sizes range C S st k live ready meets "does" refl refl ∙ e,
-    rows_keep net z T "first_answer" refl ∙ way.first,
-    rows_keep net z T "back" refl ∙ way.back,
-  )
+  pub known_at : (d b : ℕ) (c : Channel) → T.vec "does" ≡ d → Way net z T c 0 0 b → (Q.vec "does" ≡ d) × (Q.vec "back" ≡ b)
+  known_at d b c e way =
+      (to_q net z sizes range C S st k live ready meets "does" refl refl ∙ e, rows_keep net z T "back" refl ∙ way.back)
 
   pub marks_q : Q.vec "marks" ≡ marks_number ds
   marks_q = to_q net z sizes range C S st k live ready meets "marks" refl refl ∙ g.token.marks
@@ -115,15 +112,15 @@ module _ (net : NetTree) (z : Sizes) (sizes : CellSizes z) (range : InRange net)
   value_r = reg net z sizes range C S st k live ready meets "result" refl refl refl ∙ g.token.value
 
   -- a row whose stacks have room
-  stack_case : (r : Row) (b : ℕ) (c : Channel) (ks : Stacks) → IsRow S r → Way net z T c 0 b → Listed net z Q ks →
+  stack_case : (r : Row) (b : ℕ) (c : Channel) (ks : Stacks) → IsRow S r → Way net z T c 0 0 b → Listed net z Q ks →
       too_long z ks ≡ false → Within z.cells ks.sigs → Within z.cells ks.boxes → TailQuiet net z Q (word_of (deeds_of r)) →
-      edge_at net z R (word_of (deeds_of r)) 0 ≡ quiet_at net z R (word_of (deeds_of r)) →
+      edge_at net z R (word_of (deeds_of r)) 0 0 ≡ quiet_at net z R (word_of (deeds_of r)) →
       After (shifted z (record { channel = c; stacks = ks; made = false }) k C')
   stack_case r b c ks row way h room ws wb tail e = subst After
       (sym (shifted_is z (record { channel = c; stacks = ks; made = false }) k C' refl room))
-      (quiet_stands net z sizes range C S st k live ready meets (word_of (deeds_of r)) b c ks k.value (R.vec "result")
-      (quiet_at net z R (word_of (deeds_of r))) row.does way h (room_of z ks room) ws wb tail e
-      (clocks.quiet net z R (word_of (deeds_of r))) value_r)
+      (quiet_stands net z sizes range C S st k live ready meets (word_of (deeds_of r)) b
+      (record { value = k.value; channel = c; stacks = ks }) (R.vec "result") (quiet_at net z R (word_of (deeds_of r))) row.does way h
+      (room_of z ks room) ws wb tail e (clocks.quiet net z R (word_of (deeds_of r))) value_r)
 
   pub edge_go : (c : Channel) → Named W c → IsRow S (GO c) → too_long z (lists ds ps bs) ≡ false →
       After (shifted z (record { channel = c; stacks = lists ds ps bs; made = false }) k C')
@@ -132,7 +129,7 @@ module _ (net : NetTree) (z : Sizes) (sizes : CellSizes z) (range : InRange net)
       (known_at (word_of (deeds_of (GO c))) 0 c row.does way) (room_of z (lists ds ps bs) room))
       room g.token.sigs_fit g.token.boxes_fit (λ F. (refl, refl)) refl
     where
-      way : Way net z T c 0 0
+      way : Way net z T c 0 0 0
       way = ways.way_go net z T refl c (n, lower (GO c) row)
 
   pub edge_star : (c : Channel) → Named W c → IsRow S (STAR c) → too_long z (lists ds (nil ∷ ps) bs) ≡ false →
@@ -142,7 +139,7 @@ module _ (net : NetTree) (z : Sizes) (sizes : CellSizes z) (range : InRange net)
       (known_at (word_of (deeds_of (STAR c))) 0 c row.does way) (room_of z (lists ds (nil ∷ ps) bs) room))
       room (omega arith, g.token.sigs_fit) g.token.boxes_fit (λ F. (refl, refl)) refl
     where
-      way : Way net z T c 0 0
+      way : Way net z T c 0 0 0
       way = ways.way_star net z T refl c (n, lower (STAR c) row)
 
   pub edge_unstar : (c : Channel) → Named W c → IsRow S (UNSTAR c) → too_long z (lists ds (below ps) bs) ≡ false →
@@ -152,7 +149,7 @@ module _ (net : NetTree) (z : Sizes) (sizes : CellSizes z) (range : InRange net)
       (known_at (word_of (deeds_of (UNSTAR c))) 0 c row.does way) (room_of z (lists ds (below ps) bs) room))
       room (below_within z.cells ps g.token.sigs_fit) g.token.boxes_fit (λ F. (refl, refl)) refl
     where
-      way : Way net z T c 0 0
+      way : Way net z T c 0 0 0
       way = ways.way_unstar net z T refl c (n, lower (UNSTAR c) row)
 
   pub edge_con : (c d : Channel) → Named W c → Named W d → IsRow S (CON c d) → (first_of ps).place < C.store.top → Fetched z S C k
@@ -173,7 +170,7 @@ module _ (net : NetTree) (z : Sizes) (sizes : CellSizes z) (range : InRange net)
       room (((g.cells_fit (first_of ps).place low).1.0, below_within z.cells ps g.token.sigs_fit)) g.token.boxes_fit (λ F. (refl, refl))
       refl
     where
-      way : Way net z T (cond (first_of ps).mark d c) 0 0
+      way : Way net z T (cond (first_of ps).mark d c) 0 0 0
       way = ways.way_con net z T refl c d (n, m, lower (CON c d) row) ps g.token.sigs
 
   pub edge_pushr : (c : Channel) → Named W c → IsRow S (PUSHR c) → too_long z (lists (false ∷ ds) ps bs) ≡ false →
@@ -183,7 +180,7 @@ module _ (net : NetTree) (z : Sizes) (sizes : CellSizes z) (range : InRange net)
       (known_at (word_of (deeds_of (PUSHR c))) 0 c row.does way) (room_of z (lists (false ∷ ds) ps bs) room))
       room g.token.sigs_fit g.token.boxes_fit (λ F. (refl, refl)) refl
     where
-      way : Way net z T c 0 0
+      way : Way net z T c 0 0 0
       way = ways.way_pushr net z T refl c (n, lower (PUSHR c) row)
 
   pub edge_pushl : (c : Channel) → Named W c → IsRow S (PUSHL c) → too_long z (lists (true ∷ ds) ps bs) ≡ false →
@@ -193,7 +190,7 @@ module _ (net : NetTree) (z : Sizes) (sizes : CellSizes z) (range : InRange net)
       (known_at (word_of (deeds_of (PUSHL c))) 0 c row.does way) (room_of z (lists (true ∷ ds) ps bs) room))
       room g.token.sigs_fit g.token.boxes_fit (λ F. (refl, refl)) refl
     where
-      way : Way net z T c 0 0
+      way : Way net z T c 0 0 0
       way = ways.way_pushl net z T refl c (n, lower (PUSHL c) row)
 
   pub edge_select : (c d : Channel) → Named W c → Named W d → IsRow S (SELECT c d) → too_long z (lists (dirs_below ds) ps bs) ≡ false →
@@ -203,7 +200,7 @@ module _ (net : NetTree) (z : Sizes) (sizes : CellSizes z) (range : InRange net)
       (known_at (word_of (deeds_of (SELECT c d))) 0 (cond (dir ds) d c) row.does way) (room_of z (lists (dirs_below ds) ps bs) room))
       room g.token.sigs_fit g.token.boxes_fit (λ F. (refl, refl)) refl
     where
-      way : Way net z T (cond (dir ds) d c) 0 0
+      way : Way net z T (cond (dir ds) d c) 0 0 0
       way = ways.way_select net z T refl c d (n, m, lower (SELECT c d) row) ds g.token.marks
 
   pub edge_pop : (c : Channel) → Named W c → IsRow S (POP c) → too_long z (lists (dirs_below ds) ps bs) ≡ false →
@@ -213,7 +210,7 @@ module _ (net : NetTree) (z : Sizes) (sizes : CellSizes z) (range : InRange net)
       (known_at (word_of (deeds_of (POP c))) 0 c row.does way) (room_of z (lists (dirs_below ds) ps bs) room))
       room g.token.sigs_fit g.token.boxes_fit (λ F. (refl, refl)) refl
     where
-      way : Way net z T c 0 0
+      way : Way net z T c 0 0 0
       way = ways.way_pop net z T refl c (n, lower (POP c) row)
 
   pub edge_boxin : (c : Channel) → Named W c → IsRow S (BOXIN c) → too_long z (lists ds (below ps) (first_of ps ∷ bs)) ≡ false →
@@ -224,7 +221,7 @@ module _ (net : NetTree) (z : Sizes) (sizes : CellSizes z) (range : InRange net)
       room (below_within z.cells ps g.token.sigs_fit) (first_within z.cells ps g.token.sigs_fit, g.token.boxes_fit) (λ F. (refl, refl))
       refl
     where
-      way : Way net z T c 0 0
+      way : Way net z T c 0 0 0
       way = ways.way_boxin net z T refl c (n, lower (BOXIN c) row)
 
   pub edge_boxout : (c : Channel) → Named W c → IsRow S (BOXOUT c) → too_long z (lists ds (first_of bs ∷ ps) (below bs)) ≡ false →
@@ -235,7 +232,7 @@ module _ (net : NetTree) (z : Sizes) (sizes : CellSizes z) (range : InRange net)
       room (first_within z.cells bs g.token.boxes_fit, g.token.sigs_fit) (below_within z.cells bs g.token.boxes_fit) (λ F. (refl, refl))
       refl
     where
-      way : Way net z T c 0 0
+      way : Way net z T c 0 0 0
       way = ways.way_boxout net z T refl c (n, lower (BOXOUT c) row)
 
   pub edge_doorin : (c : Channel) → Named W c → IsRow S (DOORIN c) → (first_of ps).place < C.store.top → Fetched z S C k (DOORIN c)
@@ -259,7 +256,7 @@ module _ (net : NetTree) (z : Sizes) (sizes : CellSizes z) (range : InRange net)
       room (((g.cells_fit (first_of ps).place low).1.0, below_within z.cells ps g.token.sigs_fit))
       (((g.cells_fit (first_of ps).place low).0, g.token.boxes_fit)) (λ F. (refl, refl)) refl
     where
-      way : Way net z T c 0 0
+      way : Way net z T c 0 0 0
       way = ways.way_doorin net z T refl c (n, lower (DOORIN c) row)
 
   pub edge_fixin : (c : Channel) → Named W c → IsRow S (FIXIN c) → too_long z (lists ds ps (nil ∷ bs)) ≡ false →
@@ -269,7 +266,7 @@ module _ (net : NetTree) (z : Sizes) (sizes : CellSizes z) (range : InRange net)
       (known_at (word_of (deeds_of (FIXIN c))) 0 c row.does way) (room_of z (lists ds ps (nil ∷ bs)) room))
       room g.token.sigs_fit (omega arith, g.token.boxes_fit) (λ F. (refl, refl)) refl
     where
-      way : Way net z T c 0 0
+      way : Way net z T c 0 0 0
       way = ways.way_fixin net z T refl c (n, lower (FIXIN c) row)
 
   pub edge_fixout : (c d : Channel) → Named W c → Named W d → IsRow S (FIXOUT c d) → (first_of bs).mark ≡ false → too_long z
@@ -280,8 +277,8 @@ module _ (net : NetTree) (z : Sizes) (sizes : CellSizes z) (range : InRange net)
       (known_at (word_of (deeds_of (FIXOUT c d))) 0 c row.does way) (room_of z (lists ds ps (below bs)) room))
       room g.token.sigs_fit (below_within z.cells bs g.token.boxes_fit) (λ F. (refl, refl)) refl
     where
-      way : Way net z T c 0 0
-      way = subst (λ a. Way net z T (cond a d c) 0 (flag a)) e (ways.way_fixout net z T refl c d (n, m, lower (FIXOUT c d) row) bs
+      way : Way net z T c 0 0 0
+      way = subst (λ a. Way net z T (cond a d c) 0 0 (flag a)) e (ways.way_fixout net z T refl c d (n, m, lower (FIXOUT c d) row) bs
           g.token.boxes)
 
   pub edge_fixback : (c d : Channel) → Named W c → Named W d → IsRow S (FIXOUT c d) → (first_of bs).mark ≡ true →
@@ -308,32 +305,33 @@ module _ (net : NetTree) (z : Sizes) (sizes : CellSizes z) (range : InRange net)
       (((g.cells_fit (first_of bs).place low).0, below_within z.cells bs g.token.boxes_fit)) (λ F. (refl, refl))
       refl
     where
-      way : Way net z T d 0 1
-      way = subst (λ a. Way net z T (cond a d c) 0 (flag a)) e (ways.way_fixout net z T refl c d (n, m, lower (FIXOUT c d) row) bs
+      way : Way net z T d 0 0 1
+      way = subst (λ a. Way net z T (cond a d c) 0 0 (flag a)) e (ways.way_fixout net z T refl c d (n, m, lower (FIXOUT c d) row) bs
           g.token.boxes)
 
   abbrev held : ℕ → Bool
   held = stays net z R
 
   -- a row that changes the value
-  value_case : (r : Row) (c : Channel) (v : Val) (n : ℕ) (G : Store) → IsRow S r → Way net z T c 0 0 → Listed net z Q k.stacks →
+  value_case : (r : Row) (c : Channel) (v : Val) (n : ℕ) (G : Store) → IsRow S r → Way net z T c 0 0 0 → Listed net z Q k.stacks →
       too_long z k.stacks ≡ false → TailQuiet net z Q (word_of (deeds_of r)) →
-      edge_at net z R (word_of (deeds_of r)) 0 ≡ G → Quiet net z R n G → n ≡ value_number v →
+      edge_at net z R (word_of (deeds_of r)) 0 0 ≡ G → Quiet net z R n G → n ≡ value_number v →
       After (goes C' (record k { value = v; channel = c }))
   value_case r c v n G row way h room tail e q ev =
-      quiet_stands net z sizes range C S st k live ready meets (word_of (deeds_of r)) 0 c k.stacks v n G row.does way h
-      (room_of z k.stacks room) g.token.sigs_fit g.token.boxes_fit tail e q ev
+      quiet_stands net z sizes range C S st k live ready meets (word_of (deeds_of r)) 0
+      (record { value = v; channel = c; stacks = k.stacks }) n G row.does way h (room_of z k.stacks room) g.token.sigs_fit
+      g.token.boxes_fit tail e q ev
 
   pub edge_const : (x : ℕ) (c : Channel) → x < 2 ^ 64 → Named W c → IsRow S (CONST x c) → too_long z k.stacks ≡ false →
       After (goes C' (record k { value = Number x; channel = c }))
   edge_const x c l n row room = value_case (CONST x c) c (Number x) (fit 65 (0 + R.vec "literal"))
-      (valued_at net z R (word_of (deeds_of (CONST x c))) (fit 65 (0 + R.vec "literal"))) row way
+      (valued_at net z R (word_of (deeds_of (CONST x c))) 0 (fit 65 (0 + R.vec "literal"))) row way
       (moves.lists_const net z sizes Q ds ps bs marks_q sigs_q boxes_q g.token.sigs_fit g.token.boxes_fit x c
       (known_at (word_of (deeds_of (CONST x c))) 0 c row.does way) (room_of z k.stacks room))
-      room (λ F. (refl, refl)) refl (clocks.valued net z R (word_of (deeds_of (CONST x c))) (fit 65 (0 + R.vec "literal")))
+      room (λ F. (refl, refl)) refl (clocks.valued net z R (word_of (deeds_of (CONST x c))) 0 (fit 65 (0 + R.vec "literal")))
       (ap (λ m. fit 65 (0 + m)) (reg net z sizes range C S st k live ready meets "literal" refl refl refl ∙ row.literal) ∙ plain x l)
     where
-      way : Way net z T c 0 0
+      way : Way net z T c 0 0 0
       way = ways.way_const net z T refl x c (n, lower (CONST x c) row)
 
       plain : (x : ℕ) → x < 2 ^ 64 → fit 65 (0 + x) ≡ x
@@ -342,13 +340,13 @@ module _ (net : NetTree) (z : Sizes) (sizes : CellSizes z) (range : InRange net)
   pub edge_succ : (c : Channel) → Named W c → IsRow S (SUCC c) → too_long z k.stacks ≡ false →
       After (goes C' (record k { value = val_succ k.value; channel = c }))
   edge_succ c n row room = value_case (SUCC c) c (val_succ k.value) (fit 65 (R.vec "succ"))
-      (valued_at net z R (word_of (deeds_of (SUCC c))) (fit 65 (R.vec "succ"))) row way
+      (valued_at net z R (word_of (deeds_of (SUCC c))) 0 (fit 65 (R.vec "succ"))) row way
       (moves.lists_succ net z sizes Q ds ps bs marks_q sigs_q boxes_q g.token.sigs_fit g.token.boxes_fit c
       (known_at (word_of (deeds_of (SUCC c))) 0 c row.does way) (room_of z k.stacks room))
-      room (λ F. (refl, refl)) refl (clocks.valued net z R (word_of (deeds_of (SUCC c))) (fit 65 (R.vec "succ")))
+      room (λ F. (refl, refl)) refl (clocks.valued net z R (word_of (deeds_of (SUCC c))) 0 (fit 65 (R.vec "succ")))
       (succ_is net z Q k.value meets.small (to_q net z sizes range C S st k live ready meets "result" refl refl ∙ g.token.value))
     where
-      way : Way net z T c 0 0
+      way : Way net z T c 0 0 0
       way = ways.way_succ net z T refl c (n, lower (SUCC c) row)
 
   pub edge_pred : (c : Channel) → Named W c → IsRow S (PRED c) → too_long z k.stacks ≡ false →
@@ -361,7 +359,7 @@ module _ (net : NetTree) (z : Sizes) (sizes : CellSizes z) (range : InRange net)
       room (λ F. (refl, refl)) (pred_is net z R c) (clocks.quiet_pred net z R (held (R.vec "result")))
       (ap (λ x. chosen (held x) x (fit 65 (fit 65 (2 ^ 65 + x - 1)))) value_r ∙ less k.value meets.small)
     where
-      way : Way net z T c 0 0
+      way : Way net z T c 0 0 0
       way = ways.way_pred net z T refl c (n, lower (PRED c) row)
 
       outside : (b : Bool) (m x : ℕ) → m < 2 ^ 65 → fit 65 (chosen b m (fit 65 x)) ≡ chosen b m (fit 65 (fit 65 x))
@@ -380,5 +378,5 @@ module _ (net : NetTree) (z : Sizes) (sizes : CellSizes z) (range : InRange net)
       (known_at (word_of (deeds_of (TEST c d))) 0 (at_zero k.value c d) row.does way) (room_of z k.stacks room))
       room (λ F. (refl, refl)) refl (clocks.quiet net z R (word_of (deeds_of (TEST c d)))) value_r
     where
-      way : Way net z T (at_zero k.value c d) 0 0
+      way : Way net z T (at_zero k.value c d) 0 0 0
       way = ways.way_test net z T refl c d (n, m, lower (TEST c d) row) k.value g.token.value

@@ -4,6 +4,7 @@ use Rattle.std.proofs.Common.{refl, sym, ap, ◌∙◌, subst, arith}
 use Rattle.pcf_values.specs.declared.operator.Operator.{Operator}
 use Rattle.pcf_values.specs.declared.operator.Operator.TheVariants.{Times}
 use Rattle.pcf_values.specs.declared.side.Side.{Side}
+use Prim.Native.String.{String}
 use Rattle.net_build.specs.Nets.{NetTree}
 use Rattle.net_build.specs.Sound.{Sound}
 use Rattle.circuit_core.specs.Rows.{Channel, Row, GO, CONST, SUCC, PRED, TEST, FORK, JOIN, ANSWER, STAR, UNSTAR, LEFT, RIGHT, CON, PUSHR}
@@ -13,9 +14,9 @@ use Rattle.circuit_module.specs.Stands.{value_number}
 use Rattle.circuit_module.specs.Module.{multiplies}
 use Rattle.circuit_module.specs.InRange.{RowFits, InRange}
 use Rattle.cell_core.specs.Cells.{Cell, to, first_of, below, cell_at, reads, needs_cell, row_on}
-use Rattle.cell_core.specs.Circuit.{Sizes, CellToken, CellCircuit, too_long, stuck, shifted, operate, operate_on, clock_on, clock, clocks}
-use Rattle.cell_core.specs.Circuit.{powered}
-use Rattle.cell_module.specs.Apart.{makes_to, left_to, reads_cell, is_join, CellsApart, ForksApart}
+use Rattle.cell_core.specs.Sizes.{Sizes, too_long}
+use Rattle.newest_core.specs.Circuit.{CellToken, CellCircuit, stuck, shifted, operate, operate_on, clock_on, clock, clocks, powered}
+use Rattle.cell_module.specs.Apart.{makes_to, left_to, right_to, reads_cell, is_join, CellsApart, ForksApart, QuestionsApart}
 use Rattle.cell_module.specs.Fixed.{way_wires, cell_clock}
 use Rattle.cell_module.specs.Parts.{word_of, deeds_of}
 use Rattle.cell_edges.specs.Laws.{CellSizes, CellModuleResets, cell_reset_edge}
@@ -93,15 +94,17 @@ module _ (net : NetTree) (z : Sizes) (sizes : CellSizes z) (range : InRange net)
   abbrev C' : CellCircuit
   C' = record C { moves = suc C.moves }
 
-  no_first : (d : ℕ) → T.vec "does" ≡ d → (settled (scope_of net z T) way_wires (set_vec "does" d (set_vec "rst" 0 T))).vec "first_answer"
-      ≡ 0 →
-      (settled (scope_of net z T) way_wires T).vec "first_answer" ≡ 0
-  no_first d e h = ap (λ (X : Store). X.vec "first_answer") (way_is net z T refl d e) ∙ h
+  abbrev ways : Store → Store
+  ways X = settled (scope_of net z T) way_wires X
+
+  -- a wire of the ways where it is known what the row does
+  way_of : (x : String) (d : ℕ) → T.vec "does" ≡ d → (ways (set_vec "does" d (set_vec "rst" 0 T))).vec x ≡ 0 → (ways T).vec x ≡ 0
+  way_of x d e h = ap (λ (X : Store). X.vec x) (way_is net z T refl d e) ∙ h
 
   edge_answer : IsRow S ANSWER → After (record C' { live = None; result = Some k.value })
   edge_answer row = subst (λ X. Stands net z (record C' { live = None; result = Some k.value }) X)
-      (sym (edge_is net z sizes range C S st k live ready meets (word_of (deeds_of ANSWER)) 0 row.does
-      (no_first (word_of (deeds_of ANSWER)) row.does refl)))
+      (sym (edge_is net z sizes range C S st k live ready meets (word_of (deeds_of ANSWER)) 0 0 row.does
+      (way_of "first_answer" (word_of (deeds_of ANSWER)) row.does refl) (way_of "second_answer" (word_of (deeds_of ANSWER)) row.does refl)))
       (record {
         done = h.done;
         result = λ v e. h.result ∙ reg net z sizes range C S st k live ready meets "result" refl refl refl
@@ -112,14 +115,14 @@ module _ (net : NetTree) (z : Sizes) (sizes : CellSizes z) (range : InRange net)
         going = λ i e f. absurd cc;
       })
     where
-      h : EndsDone net z R (edge_at net z R (word_of (deeds_of ANSWER)) 0)
+      h : EndsDone net z R (edge_at net z R (word_of (deeds_of ANSWER)) 0 0)
       h = done_answer net z R
 
   edge_dead : IsRow S DEAD → After (stuck C')
   edge_dead row = subst (λ X. Stands net z (stuck C') X)
-      (sym (edge_is net z sizes range C S st k live ready meets (word_of (deeds_of DEAD)) 0 row.does
-      (no_first (word_of (deeds_of DEAD)) row.does refl)))
-      (full_stands net z sizes range C S st k live ready meets (stuck C') (edge_at net z R (word_of (deeds_of DEAD)) 0) live refl
+      (sym (edge_is net z sizes range C S st k live ready meets (word_of (deeds_of DEAD)) 0 0 row.does
+      (way_of "first_answer" (word_of (deeds_of DEAD)) row.does refl) (way_of "second_answer" (word_of (deeds_of DEAD)) row.does refl)))
+      (full_stands net z sizes range C S st k live ready meets (stuck C') (edge_at net z R (word_of (deeds_of DEAD)) 0 0) live refl
       (no_result net z sizes range C S st k live ready meets) refl (full_dead net z R))
 
   -- what is told of the row
@@ -129,9 +132,10 @@ module _ (net : NetTree) (z : Sizes) (sizes : CellSizes z) (range : InRange net)
     pub got : Fetched z S C k r
     pub room : too_long z (row_on r C.store k.stacks).stacks ≡ false
     pub made : needs_cell r k.stacks ≡ true → (reads r k.stacks).place < C.store.top
-    pub forks : Reads z r k C
+    pub forks : Reads r k C
     pub apart : (c : Channel) → makes_to r ≡ Some c → (q : ℕ × Row) → row_of net c ≡ Some q → reads_cell q.1 ≡ false
     pub fork_apart : (c : Channel) → left_to r ≡ Some c → (q : ℕ × Row) → row_of net c ≡ Some q → is_join q.1 ≡ false
+    pub waits_apart : (c : Channel) → right_to r ≡ Some c → (q : ℕ × Row) → row_of net c ≡ Some q → is_join q.1 ≡ false
     pub multiplier : (o : Operator) (s : Side) (w : ℕ) → r ≡ JOIN o s w → o ≡ Times → multiplies net.nodes ≡ true
 
   abbrev box_cell : Cell
@@ -154,9 +158,9 @@ module _ (net : NetTree) (z : Sizes) (sizes : CellSizes z) (range : InRange net)
   row_case (SUCC c) t = quiet.edge_succ net z sizes range C S st k live ready meets c t.fits t.row t.room
   row_case (PRED c) t = quiet.edge_pred net z sizes range C S st k live ready meets c t.fits t.row t.room
   row_case (TEST c d) t = quiet.edge_test net z sizes range C S st k live ready meets c d t.fits.0 t.fits.1 t.row t.room
-  row_case (FORK c d) t = edge_fork net z sizes range C S st k live ready meets c d t.fits.0 t.fits.1 t.row t.room t.forks
-      (λ p e. t.fork_apart c refl p e)
-  row_case (JOIN o s w) t = edge_join net z sizes range C S st k live ready meets o s w t.fits t.row t.got t.room t.forks
+  row_case (FORK c d) t = edge_fork net z sizes range C S st k live ready meets c d t.fits.0 t.fits.1 t.row t.room
+      (t.fork_apart c refl) (t.waits_apart d refl)
+  row_case (JOIN o s w) t = edge_join net z sizes range C S st k live ready meets o s w t.fits t.row t.got t.forks
       (t.multiplier o s w refl)
   row_case ANSWER t = edge_answer t.row
   row_case (STAR c) t = quiet.edge_star net z sizes range C S st k live ready meets c t.fits t.row t.room
@@ -177,8 +181,8 @@ module _ (net : NetTree) (z : Sizes) (sizes : CellSizes z) (range : InRange net)
   row_case (FIXVAR c) t = making.edge_fixvar net z sizes range C S st k live ready meets c t.fits t.row (t.apart c refl) t.room
   row_case DEAD t = edge_dead t.row
 
-  goes_on : Sound net → CellsApart → ForksApart → After (operate_on z (row_of net k.channel) k C')
-  goes_on sound cells_apart forks_apart = subst (λ p. After (operate_on z p k C')) (sym meets.found)
+  goes_on : Sound net → CellsApart → ForksApart → QuestionsApart → After (operate_on z (row_of net k.channel) k C')
+  goes_on sound cells_apart forks_apart questions_apart = subst (λ p. After (operate_on z p k C')) (sym meets.found)
       (row_case meets.row.1 (record {
         fits = range.rows k.channel meets.row meets.found;
         row = (st.going k live ready).1.row meets.row meets.found;
@@ -188,13 +192,14 @@ module _ (net : NetTree) (z : Sizes) (sizes : CellSizes z) (range : InRange net)
         forks = meets.forks;
         apart = λ c e q h. cells_apart net sound k.channel c meets.row q meets.found e h;
         fork_apart = λ c e q h. forks_apart net k.channel c meets.row q meets.found e h;
+        waits_apart = λ c e q h. questions_apart net k.channel c meets.row q meets.found e h;
         multiplier = λ o s w e t. range.multiplier k.channel meets.row meets.found o s w e t;
       }))
 
 -- ---- one edge, and so many
 
-pub steps : CellsApart → ForksApart → CellModuleSteps
-steps cells_apart forks_apart net z sizes sound range C S st meets = go C.full refl C.live refl
+pub steps : CellsApart → ForksApart → QuestionsApart → CellModuleSteps
+steps cells_apart forks_apart questions_apart net z sizes sound range C S st meets = go C.full refl C.live refl
   where
     either : (a : Bool) → (a || true) ≡ true
     either true = refl
@@ -203,7 +208,7 @@ steps cells_apart forks_apart net z sizes sound range C S st meets = go C.full r
     go : (b : Bool) → C.full ≡ b → (d : Option CellToken) → C.live ≡ d → Stands net z (cond b C (clock_on net z d C)) (cell_edge net z S)
     go true u d e = idle net z C S st (ap (λ b. is_some C.result || b) u ∙ either (is_some C.result)) (λ k h f. absurd cc)
     go false u None e = idle net z C S st (ap (λ b. b || C.full) (st.ended e)) (λ k h f. absurd cc)
-    go false u (Some k) e = goes_on net z sizes range C S st k e u (meets k e u) sound cells_apart forks_apart
+    go false u (Some k) e = goes_on net z sizes range C S st k e u (meets k e u) sound cells_apart forks_apart questions_apart
 
 pub many : CellModuleSteps → CellModuleResets → CellModuleClocks
 many step resets net z sizes sound range mem n meets S =

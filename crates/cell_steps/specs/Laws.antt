@@ -4,7 +4,8 @@ use Rattle.std.specs.Prelude.{◌≡◌, ◌<◌, ℕ, zero, suc, false, Some}
 use Rattle.net_build.specs.Nets.{NetTree}
 use Rattle.net_build.specs.Sound.{Sound}
 use Rattle.cell_core.specs.Cells.{Cell}
-use Rattle.cell_core.specs.Circuit.{Sizes, CellToken, CellCircuit, clock, clocks, powered}
+use Rattle.cell_core.specs.Sizes.{Sizes}
+use Rattle.newest_core.specs.Circuit.{CellToken, CellCircuit, clock, clocks, powered}
 use Rattle.verilog_tree.specs.Meaning.{Store, edge, set_vec}
 use Rattle.circuit_module.specs.InRange.{InRange}
 use Rattle.cell_module.specs.Module.{cell_module}
