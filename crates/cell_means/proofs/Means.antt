@@ -8,24 +8,25 @@ use Rattle.net_build.specs.NetOf.{net_of}
 use Rattle.net_build.specs.Sound.{Sound}
 use Rattle.cbn_meaning.specs.Meaning.{Means}
 use Rattle.interleave_laws.specs.Runs.{Runs}
-use Rattle.interleave_laws.specs.OneWorker.{one}
-use Rattle.interleave_laws.proofs.OneWorker.{one_leads, one_finished}
 use Rattle.adequacy_laws.specs.Finished.{Within, Beyond}
 use Rattle.adequacy_laws.specs.FinishedLaws.{TellsMeaning}
 use Rattle.adequacy_laws.proofs.Finishing.{finished_means}
 use Rattle.adequacy_laws.proofs.Agreeing.{built_runs}
-use Rattle.circuit_core.proofs.Circuit.{not_full}
+use Rattle.circuit_core.proofs.Small.{not_full}
 use Rattle.verilog_tree.specs.Meaning.{Store, flag}
 use Rattle.circuit_module.specs.Stands.{value_number}
 use Rattle.circuit_module.specs.InRange.{FewWires}
 use Rattle.circuit_module.proofs.Range.{in_range}
 use Rattle.circuit_module.proofs.Constants.{small_constants}
 use Rattle.cell_core.specs.Cells.{Cell, nil}
-use Rattle.cell_core.specs.Circuit.{Sizes, CellCircuit, circuit}
-use Rattle.cell_core.specs.Enough.{Covers, CellsFit}
-use Rattle.cell_core.proofs.Circuit.{follows}
-use Rattle.cell_core.proofs.Enough.{cells_enough, cells_exactly}
-use Rattle.cell_module.specs.Apart.{QuestionsApart}
+use Rattle.cell_core.specs.Sizes.{Sizes, Covers}
+use Rattle.newest_core.specs.Processor.{newest}
+use Rattle.newest_core.specs.ProcessorLaws.{Follows}
+use Rattle.newest_core.specs.Circuit.{CellCircuit, circuit}
+use Rattle.newest_core.specs.Enough.{FitsWithin}
+use Rattle.newest_core.proofs.Processor.{follows}
+use Rattle.newest_core.proofs.Circuit.{along}
+use Rattle.newest_core.proofs.Enough.{enough, exactly}
 use Rattle.cell_edges.specs.Laws.{CellSizes, cell_reset_edge}
 use Rattle.cell_edges.specs.Stands.{Stands}
 use Rattle.cell_steps.specs.Laws.{CellModuleClocks, cell_edges}
@@ -34,19 +35,19 @@ use Rattle.cell_means.specs.Laws.{CellModuleRuns}
 use Rattle.cell_means.proofs.Always.{cycles_meet}
 
 -- on a net that runs
-pub cells_run : QuestionsApart → CellModuleClocks → CellModuleRuns
-cells_run apart clocks net runs z sizes range covers mem n S =
-    clocks net z sizes runs.sound range mem n (λ j l. cycles_meet net runs z sizes range covers apart mem j) S
+pub cells_run : CellModuleClocks → CellModuleRuns
+cells_run clocks net runs z sizes range covers mem n S =
+    clocks net z sizes runs.sound range mem n (λ j l. cycles_meet net runs z range covers mem j) S
 
 -- registers that stand for a circuit with the answer and the length of a log that tells the meaning
 told : (m : TermTree) (k : ℕ) (z : Sizes) (C : CellCircuit) (T : Store) → Stands (net_of m) z C T →
-    TellsMeaning m (one (net_of m) k) C.result k → C.moves ≡ length (one (net_of m) k) → ModuleTells m k T
+    TellsMeaning m (newest (net_of m) k) C.result k → C.moves ≡ length (newest (net_of m) k) → ModuleTells m k T
 told m k z C T st t n = record { done = done C.result refl; ends = ends C.result refl; comes = comes; waits = waits C.result refl }
   where
     at : (r : Option Val) → C.result ≡ r → T.vec "done" ≡ flag (is_some r)
     at r e = st.done ∙ ap (λ r. flag (is_some r)) e
 
-    moves : T.vec "moves" ≡ length (one (net_of m) k) % 2 ^ 64
+    moves : T.vec "moves" ≡ length (newest (net_of m) k) % 2 ^ 64
     moves = st.moves ∙ ap (λ n. n % 2 ^ 64) n
 
     done : (r : Option Val) → C.result ≡ r → (T.vec "done" ≡ 0) ⊎ (T.vec "done" ≡ 1)
@@ -62,7 +63,7 @@ told m k z C T st t n = record { done = done C.result refl; ends = ends C.result
           value = v;
           result = st.result v e;
           means = a.0;
-          length = length (one (net_of m) k);
+          length = length (newest (net_of m) k);
           is_length = l.0;
           within = l.1;
           moves = moves;
@@ -96,12 +97,12 @@ module _ (cells_run : CellModuleRuns) (m : TermTree) (typed : HasType [] m nat) 
 
   tells : (circuit (net_of m) z no_cells k).full ≡ false → ModuleTells m k T
   tells ready =
-      let (R, h) = one_leads (net_of m) runs k in
-      let t = finished_means m typed sound (one (net_of m) k) R h k (one_finished (net_of m) runs k R h) in
+      let f : Follows (net_of m) k = follows (net_of m) runs k in
+      let t = finished_means m typed sound (newest (net_of m) k) f.state f.leads k f.finished in
       ⊎_elim (λ e. let x : true ≡ false = sym e ∙ ready in not_full x)
-      (λ (_, n, r). told m k z (circuit (net_of m) z no_cells k) T (stands no_cells)
-      (subst (λ a. TellsMeaning m (one (net_of m) k) a k) (sym r) t) n)
-      (follows (net_of m) runs k z no_cells R h)
+      (λ h. told m k z (circuit (net_of m) z no_cells k) T (stands no_cells)
+      (subst (λ a. TellsMeaning m (newest (net_of m) k) a k) (f.shows.answered ∙ sym h.result) t) (h.moves ∙ f.moves))
+      (along z (net_of m) runs k no_cells)
 
   pub cell_module_means : (T.vec "full" ≡ 1) ⊎ ((T.vec "full" ≡ 0) × ModuleTells m k T)
   cell_module_means = go (circuit (net_of m) z no_cells k).full refl
@@ -111,15 +112,15 @@ module _ (cells_run : CellModuleRuns) (m : TermTree) (typed : HasType [] m nat) 
       go false e = inr ((stands no_cells).full ∙ ap flag e, tells e)
 
   -- where the forks and the cells are enough
-  pub cell_module_right : CellsFit (net_of m) z k → (T.vec "full" ≡ 0) × ModuleTells m k T
+  pub cell_module_right : FitsWithin (net_of m) z k → (T.vec "full" ≡ 0) × ModuleTells m k T
   cell_module_right fits =
-      let ready = cells_enough (net_of m) runs k z no_cells covers fits in
+      let ready = enough z (net_of m) runs k no_cells covers fits in
       ((stands no_cells).full ∙ ap flag ready, tells ready)
 
   -- and nowhere else
-  pub cell_module_wants : T.vec "full" ≡ 0 → CellsFit (net_of m) z k
+  pub cell_module_wants : T.vec "full" ≡ 0 → FitsWithin (net_of m) z k
   cell_module_wants h = go (circuit (net_of m) z no_cells k).full refl
     where
-      go : (b : Bool) → (circuit (net_of m) z no_cells k).full ≡ b → CellsFit (net_of m) z k
+      go : (b : Bool) → (circuit (net_of m) z no_cells k).full ≡ b → FitsWithin (net_of m) z k
       go true e = let up : T.vec "full" ≡ 1 = (stands no_cells).full ∙ ap flag e in absurd (omega arith)
-      go false e = cells_exactly (net_of m) runs k z no_cells e
+      go false e = exactly z (net_of m) runs k no_cells e

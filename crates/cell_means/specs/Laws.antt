@@ -8,8 +8,9 @@ use Rattle.adequacy_laws.specs.Adequacy.{OfEveryProgram}
 use Rattle.verilog_tree.specs.Meaning.{Store, flag}
 use Rattle.circuit_module.specs.InRange.{InRange, FewWires}
 use Rattle.cell_core.specs.Cells.{Cell}
-use Rattle.cell_core.specs.Circuit.{Sizes, circuit}
-use Rattle.cell_core.specs.Enough.{Covers, CellsFit}
+use Rattle.cell_core.specs.Sizes.{Sizes, Covers}
+use Rattle.newest_core.specs.Circuit.{circuit}
+use Rattle.newest_core.specs.Enough.{FitsWithin}
 use Rattle.cell_edges.specs.Laws.{CellSizes, cell_reset_edge}
 use Rattle.cell_edges.specs.Stands.{Stands}
 use Rattle.cell_steps.specs.Laws.{cell_edges}
@@ -38,11 +39,11 @@ CellModuleIsFull = OfEveryProgram (λ m. (z : Sizes) → CellSizes z → FewWire
 -- as it isn't where the forks and the cells are enough for so many moves
 abbrev pub CellModuleIsRight : Type 0
 CellModuleIsRight = OfEveryProgram (λ m. (z : Sizes) → CellSizes z → FewWires (net_of m) → Covers z (net_of m) → (S : Store) (n : ℕ) →
-    CellsFit (net_of m) z n →
+    FitsWithin (net_of m) z n →
     ((cell_edges (net_of m) z n (cell_reset_edge (net_of m) z S)).vec "full" ≡ 0)
     × ModuleTells m n (cell_edges (net_of m) z n (cell_reset_edge (net_of m) z S)))
 
 -- and where it isn't full, they were enough
 abbrev pub CellModuleWants : Type 0
 CellModuleWants = OfEveryProgram (λ m. (z : Sizes) → CellSizes z → FewWires (net_of m) → Covers z (net_of m) → (S : Store) (n : ℕ) →
-    (cell_edges (net_of m) z n (cell_reset_edge (net_of m) z S)).vec "full" ≡ 0 → CellsFit (net_of m) z n)
+    (cell_edges (net_of m) z n (cell_reset_edge (net_of m) z S)).vec "full" ≡ 0 → FitsWithin (net_of m) z n)

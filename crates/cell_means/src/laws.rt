@@ -7,7 +7,6 @@ ghost use Rattle.cell_means.specs.Laws.{CellModuleRuns, CellModuleMeans, CellMod
 pub fn law_cell_runs()
     ensures { CellModuleRuns }
 {
-    cell_module::law_apart();
     cell_steps::law_cell_clocks();
 }
 

@@ -2,4 +2,4 @@ use Rattle.cell_means.proofs.Means.{cells_run}
 use Rattle.cell_means.proofs.laws.law_cell_runs.Goals as goal
 
 pub returns : goal.returns
-returns c = cells_run c.law_apart.ensures.questions c.law_cell_clocks.ensures
+returns c = cells_run c.law_cell_clocks.ensures
