@@ -1,7 +1,7 @@
 -- The view of this crate's sizes, and how much room a wire asks of each list.
 use Rattle.std.specs.Prelude.{ℕ}
 use Rattle.net_build.specs.Nets.{WireTree}
-use Rattle.cell_core.specs.Circuit.{Sizes}
+use Rattle.cell_core.specs.Sizes.{Sizes}
 use Rattle.cell_core.specs.Depths.{marks_in, sigs_in}
 use Rattle.circuit_sizes.specs.declared.lists.CircuitSizes.{CircuitSizes}
 use Rattle.circuit_sizes.specs.declared.lists.Listed.{Listed}

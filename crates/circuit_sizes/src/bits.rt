@@ -1,7 +1,7 @@
 //! How many bits the numbers in a circuit have.
 
 ghost use Rattle.std.specs.Prelude.{◌≡◌, ◌<◌, ◌≤◌, ◌*◌, ◌^◌, max};
-ghost use Rattle.circuit_module.specs.Sizes.{bits_for, channel_bits, fork_bits};
+ghost use Rattle.circuit_module.specs.Sizes.{bits_for, channel_bits};
 ghost use Rattle.cell_module.specs.Module.{place_bits, pointer_bits};
 
 /// How many bits tell so many things apart.
@@ -28,20 +28,12 @@ pub fn channel_bits(wires: u32) -> u64
     bits_for(2 * u64::from(wires))
 }
 
-/// How many bits the number of a fork has.
-pub fn fork_bits(forks: u32) -> u64
-    ensures bits { result ≡ fork_bits forks }
+/// How many bits a place among so many cells or forks has, and the count of all of them.
+pub fn place_bits(most: u32) -> u64
+    ensures bits { result ≡ place_bits most }
     ensures few { result ≤ 62 }
 {
-    bits_for(forks.into()).max(1)
-}
-
-/// How many bits a cell's place has, and the count of all cells.
-pub fn place_bits(cells: u32) -> u64
-    ensures bits { result ≡ place_bits cells }
-    ensures few { result ≤ 62 }
-{
-    bits_for(u64::from(cells) + 1).max(1)
+    bits_for(u64::from(most) + 1).max(1)
 }
 
 /// How many bits a pointer has: those of its place, and its mark.
