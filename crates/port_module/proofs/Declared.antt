@@ -1,0 +1,344 @@
+-- What is declared: own names are found where others stand between them, and items of own names are right in both modules alike.
+use Rattle.std.proofs.Common.{◌≡◌, ◌<◌, ◌≤◌, ◌+◌, ℕ, zero, suc, Bool, true, false, not, ◌&&◌, ◌||◌, List, [], ◌∷◌, ◌++◌}
+use Rattle.std.proofs.Common.{refl, ap, subst, ◌∙◌, arith, ⊎_elim}
+use Rattle.std.proofs.lemmas.Bool.{and_parts, and_from, cases_eq}
+use Prim.Native.String.{String}
+use lib.Text.{eqt}
+use Rattle.verilog_tree.specs.Tree.{Size, count, named, more, less, Expr, num, sized, const, name, bit, part, word, ones, cat, inverse, two}
+use Rattle.verilog_tree.specs.Tree.{shift, test, logic, none, any, every, pick, call, Target, whole, bit_at, word_at, Stmt, skip, put, seq}
+use Rattle.verilog_tree.specs.Tree.{branch, cases, loop, Arms, otherwise, arm, Width, one, upto, wide, integer, Item, note, gap, size}
+use Rattle.verilog_tree.specs.Tree.{constant, input, output, reg, memory, wire, function, settles, clocked}
+use Rattle.verilog_tree.specs.Meaning.{chosen}
+use Rattle.verilog_tree.specs.WellFormed.{Kind, Entry, a_size, a_constant, a_memory, kind_of, wire_kind, input_kind}
+use Rattle.verilog_tree.specs.WellFormed.{is_size, parameter, vector, selects, is_memory, is_clock, register, register_of_bits, of_kind}
+use Rattle.verilog_tree.specs.WellFormed.{member, apart, identifier, said_ok, taken, new, size_ok, width_ok, has_width, expr_ok, exprs_ok}
+use Rattle.verilog_tree.specs.WellFormed.{sets_first, first_reads, target_ok, stmt_ok, arms_ok, targets, declare, declared, driven}
+use Rattle.verilog_tree.specs.WellFormed.{plain_width, number_width, item_ok, items_ok, all_declared}
+use Rattle.port_module.proofs.Names.{own, own_foreign, foreign_own, later, same_name}
+use Rattle.port_module.proofs.Alike.{own_size, own_expr, own_exprs, own_target, own_stmt, own_arms, own_width, own_item, own_items}
+
+-- two lists of what is declared say the same of own names
+pub record SameEnv (E F : List Entry) : Type 0 where
+  pub kind : (p : Kind → Bool) (x : String) → own x ≡ true → of_kind p E x ≡ of_kind p F x
+  pub taken : (x : String) → own x ≡ true → taken E x ≡ taken F x
+
+pub same_env : (E : List Entry) → SameEnv E E
+same_env E = record { kind = λ p x o. refl; taken = λ x o. refl }
+
+declare_same : (k : Kind) (y : String) (E F : List Entry) → SameEnv E F → SameEnv (declare k y E) (declare k y F)
+declare_same k y E F h = record {
+  kind = λ p x o. ap (λ b. chosen (eqt y x) (p k) b) (h.kind p x o);
+  taken = λ x o. ap (λ b. eqt y x || b) (h.taken x o);
+}
+
+declare_foreign : (k : Kind) (y : String) → own y ≡ false → (E F : List Entry) → SameEnv E F → SameEnv (declare k y E) F
+declare_foreign k y f E F h = record {
+  kind = λ p x o. ap (λ b. chosen b (p k) (of_kind p E x)) (foreign_own y x f o) ∙ h.kind p x o;
+  taken = λ x o. ap (λ b. b || taken E x) (foreign_own y x f o) ∙ h.taken x o;
+}
+
+module _ (E F : List Entry) (same : SameEnv E F) where
+  size_same : (s : Size) → own_size s ≡ true → size_ok E s ≡ size_ok F s
+  size_same (count n) o = refl
+  size_same (named x) o = same.kind is_size x o
+  size_same (more a b) o =
+      let (c, d) = and_parts (own_size a) (own_size b) o in
+      let y = size_same a c in
+      let z = size_same b d in
+      λ i. y i && z i
+  size_same (less a b) o =
+      let (c, d) = and_parts (own_size a) (own_size b) o in
+      let y = size_same a c in
+      let z = size_same b d in
+      λ i. y i && z i
+
+  width_same : (w : Width) → own_width w ≡ true → width_ok E w ≡ width_ok F w
+  width_same one o = refl
+  width_same (upto h) o = size_same h o
+  width_same (wide k) o = size_same k o
+  width_same integer o = refl
+
+  expr_same : (e : Expr) → own_expr e ≡ true → expr_ok E e ≡ expr_ok F e
+  expr_same (num n) o = refl
+  expr_same (sized w n) o = refl
+  expr_same (const x) o = same.kind parameter x o
+  expr_same (name x) o = same.kind vector x o
+  expr_same (bit x e) o =
+      let (a, b) = and_parts (own x) (own_expr e) o in
+      let y = same.kind selects x a in
+      let z = expr_same e b in
+      λ i. y i && z i
+  expr_same (part x h l) o =
+      let (a, b) = and_parts (own x) (own_size h && own_size l) o in
+      let (c, d) = and_parts (own_size h) (own_size l) b in
+      let y = same.kind selects x a in
+      let z = size_same h c in
+      let u = size_same l d in
+      λ i. y i && (z i && u i)
+  expr_same (word m e) o =
+      let (a, b) = and_parts (own m) (own_expr e) o in
+      let y = same.kind is_memory m a in
+      let z = expr_same e b in
+      λ i. y i && z i
+  expr_same (ones h) o = size_same h o
+  expr_same (cat a b) o =
+      let (c, d) = and_parts (own_expr a) (own_expr b) o in
+      let y = expr_same a c in
+      let z = expr_same b d in
+      λ i. (has_width a && has_width b) && (y i && z i)
+  expr_same (inverse a) o = expr_same a o
+  expr_same (two p a b) o =
+      let (c, d) = and_parts (own_expr a) (own_expr b) o in
+      let y = expr_same a c in
+      let z = expr_same b d in
+      λ i. y i && z i
+  expr_same (shift p a b) o =
+      let (c, d) = and_parts (own_expr a) (own_expr b) o in
+      let y = expr_same a c in
+      let z = expr_same b d in
+      λ i. y i && z i
+  expr_same (test p a b) o =
+      let (c, d) = and_parts (own_expr a) (own_expr b) o in
+      let y = expr_same a c in
+      let z = expr_same b d in
+      λ i. y i && z i
+  expr_same (logic p a b) o =
+      let (c, d) = and_parts (own_expr a) (own_expr b) o in
+      let y = expr_same a c in
+      let z = expr_same b d in
+      λ i. y i && z i
+  expr_same (none a) o = expr_same a o
+  expr_same (any a) o = expr_same a o
+  expr_same (every a) o = expr_same a o
+  expr_same (pick c a b) o =
+      let (d, e) = and_parts (own_expr c) (own_expr a && own_expr b) o in
+      let (f, g) = and_parts (own_expr a) (own_expr b) e in
+      let x = expr_same c d in
+      let y = expr_same a f in
+      let z = expr_same b g in
+      λ i. x i && (y i && z i)
+  expr_same (call f x) o = absurd cc
+
+  exprs_same : (es : List Expr) → own_exprs es ≡ true → exprs_ok E es ≡ exprs_ok F es
+  exprs_same [] o = refl
+  exprs_same (e ∷ es) o =
+      let (a, b) = and_parts (own_expr e) (own_exprs es) o in
+      let y = expr_same e a in
+      let z = exprs_same es b in
+      λ i. y i && z i
+
+  target_same : (mine : List String) (t : Target) → own_target t ≡ true → target_ok E mine t ≡ target_ok F mine t
+  target_same mine (whole x) o = ap (λ b. b && member x mine) (same.kind register x o)
+  target_same mine (bit_at x e) o =
+      let (a, b) = and_parts (own x) (own_expr e) o in
+      let y = same.kind register_of_bits x a in
+      let z = expr_same e b in
+      λ i. y i && (member x mine && z i)
+  target_same mine (word_at m e) o =
+      let (a, b) = and_parts (own m) (own_expr e) o in
+      let y = same.kind is_memory m a in
+      let z = expr_same e b in
+      λ i. y i && (member m mine && z i)
+
+  mutual
+    pub stmt_same : (mine : List String) (s : Stmt) → own_stmt s ≡ true → stmt_ok E mine s ≡ stmt_ok F mine s
+    stmt_same mine skip o = refl
+    stmt_same mine (put t e) o =
+        let (a, b) = and_parts (own_target t) (own_expr e) o in
+        let y = target_same mine t a in
+        let z = expr_same e b in
+        λ i. y i && z i
+    stmt_same mine (seq s t) o =
+        let (a, b) = and_parts (own_stmt s) (own_stmt t) o in
+        let y = stmt_same mine s a in
+        let z = stmt_same mine t b in
+        λ i. y i && z i
+    stmt_same mine (branch e s t) o =
+        let (a, b) = and_parts (own_expr e) (own_stmt s && own_stmt t) o in
+        let (c, d) = and_parts (own_stmt s) (own_stmt t) b in
+        let x = expr_same e a in
+        let y = stmt_same mine s c in
+        let z = stmt_same mine t d in
+        λ i. x i && (y i && z i)
+    stmt_same mine (cases e arms) o =
+        let (a, b) = and_parts (own_expr e) (own_arms arms) o in
+        let y = expr_same e a in
+        let z = arms_same mine arms b in
+        λ i. y i && z i
+    stmt_same mine (loop i k s) o = absurd cc
+
+    arms_same : (mine : List String) (arms : Arms) → own_arms arms ≡ true → arms_ok E mine arms ≡ arms_ok F mine arms
+    arms_same mine (otherwise s) o = stmt_same mine s o
+    arms_same mine (arm es s c arms) o =
+        let (a, b) = and_parts (own_exprs es) (own_stmt s && own_arms arms) o in
+        let (d, e) = and_parts (own_stmt s) (own_arms arms) b in
+        let x = exprs_same es a in
+        let y = stmt_same mine s d in
+        let z = arms_same mine arms e in
+        λ i. (x i && (y i && said_ok c)) && z i
+
+  new_same : (x : String) → own x ≡ true → new E x ≡ new F x
+  new_same x o = ap (λ b. identifier x && not b) (same.taken x o)
+
+  pub item_same : (ds : List String) (i : Item) → own_item i ≡ true → item_ok E ds i ≡ item_ok F ds i
+  item_same ds (note s) o = refl
+  item_same ds gap o = refl
+  item_same ds (size x n) o = new_same x o
+  item_same ds (constant w x n) o = ap (λ b. b && number_width w) (new_same x (and_parts (own x) (own_width w) o).0)
+  item_same ds (input w x) o =
+      let (a, b) = and_parts (own x) (own_width w) o in
+      let y = new_same x a in
+      let z = width_same w b in
+      λ i. y i && (plain_width w && z i)
+  item_same ds (output w x) o =
+      let (a, b) = and_parts (own x) (own_width w) o in
+      let y = new_same x a in
+      let z = width_same w b in
+      λ i. y i && (plain_width w && z i)
+  item_same ds (reg w x) o =
+      let (a, b) = and_parts (own x) (own_width w) o in
+      let y = new_same x a in
+      let z = width_same w b in
+      λ i. y i && z i
+  item_same ds (memory w x k) o =
+      let (a, b) = and_parts (own x) (own_width w && own_size k) o in
+      let (c, d) = and_parts (own_width w) (own_size k) b in
+      let y = new_same x a in
+      let z = width_same w c in
+      let u = size_same k d in
+      λ i. y i && ((plain_width w && z i) && u i)
+  item_same ds (wire w x e) o =
+      let (a, b) = and_parts (own x) (own_width w && own_expr e) o in
+      let (c, d) = and_parts (own_width w) (own_expr e) b in
+      let y = new_same x a in
+      let z = width_same w c in
+      let u = expr_same e d in
+      λ i. y i && ((plain_width w && z i) && u i)
+  item_same ds (function w f v y ls s) o = absurd cc
+  item_same ds (settles s) o =
+      let z = stmt_same (sets_first s) s o in λ i. (apart (sets_first s) ds && first_reads (sets_first s) s) && z i
+  item_same ds (clocked s) o =
+      let y = same.kind is_clock "clk" refl in
+      let z = stmt_same (targets s) s o in
+      λ i. (y i && apart (targets s) ds) && z i
+
+  pub declared_same : (i : Item) → own_item i ≡ true → SameEnv (declared E i) (declared F i)
+  declared_same (note s) o = same
+  declared_same gap o = same
+  declared_same (size x n) o = declare_same a_size x E F same
+  declared_same (constant w x n) o = declare_same a_constant x E F same
+  declared_same (input w x) o = declare_same (input_kind w x) x E F same
+  declared_same (output w x) o = declare_same (kind_of w) x E F same
+  declared_same (reg w x) o = declare_same (kind_of w) x E F same
+  declared_same (memory w x k) o = declare_same a_memory x E F same
+  declared_same (wire w x e) o = declare_same (wire_kind w) x E F same
+  declared_same (function w f v y ls s) o = absurd cc
+  declared_same (settles s) o = same
+  declared_same (clocked s) o = same
+
+pub all_same : (is : List Item) → own_items is ≡ true → (E F : List Entry) → SameEnv E F → SameEnv (all_declared E is) (all_declared F is)
+all_same [] o E F h = h
+all_same (i ∷ is) o E F h =
+    let (a, b) = and_parts (own_item i) (own_items is) o in all_same is b (declared E i) (declared F i) (declared_same E F h i a)
+
+-- what is driven after so many
+abbrev pub all_driven : List String → List Item → List String
+all_driven ds [] = ds
+all_driven ds (i ∷ is) = all_driven (driven ds i) is
+
+-- own items are right where others are, and so is what stands behind them
+pub front_ok : (E F : List Entry) (ds : List String) (is : List Item) → SameEnv E F → own_items is ≡ true → items_ok F ds is ≡ true →
+    (js : List Item) → items_ok (all_declared E is) (all_driven ds is) js ≡ true → items_ok E ds (is ++ js) ≡ true
+front_ok E F ds [] h o ok js g = g
+front_ok E F ds (i ∷ is) h o ok js g =
+    let (a, b) = and_parts (own_item i) (own_items is) o in
+    let (c, d) = and_parts (item_ok F ds i) (items_ok (declared F i) (driven ds i) is) ok in
+    and_from (item_ok E ds i) (items_ok (declared E i) (driven ds i) (is ++ js)) (item_same E F h ds i a ∙ c)
+    (front_ok (declared E i) (declared F i) (driven ds i) is (declared_same E F h i a) b d js g)
+
+-- ---- other names
+
+-- own items say nothing of a name that isn't own
+module _ (x : String) (f : own x ≡ false) where
+  declare_kind : (p : Kind → Bool) (k : Kind) (y : String) (E : List Entry) → own y ≡ true →
+      of_kind p (declare k y E) x ≡ of_kind p E x
+  declare_kind p k y E o = ap (λ b. chosen b (p k) (of_kind p E x)) (own_foreign y x o f)
+
+  one_kind : (p : Kind → Bool) (E : List Entry) (i : Item) → own_item i ≡ true → of_kind p (declared E i) x ≡ of_kind p E x
+  one_kind p E (note s) o = refl
+  one_kind p E gap o = refl
+  one_kind p E (size y n) o = declare_kind p a_size y E o
+  one_kind p E (constant w y n) o = declare_kind p a_constant y E (and_parts (own y) (own_width w) o).0
+  one_kind p E (input w y) o = declare_kind p (input_kind w y) y E (and_parts (own y) (own_width w) o).0
+  one_kind p E (output w y) o = declare_kind p (kind_of w) y E (and_parts (own y) (own_width w) o).0
+  one_kind p E (reg w y) o = declare_kind p (kind_of w) y E (and_parts (own y) (own_width w) o).0
+  one_kind p E (memory w y k) o = declare_kind p a_memory y E (and_parts (own y) (own_width w && own_size k) o).0
+  one_kind p E (wire w y e) o = declare_kind p (wire_kind w) y E (and_parts (own y) (own_width w && own_expr e) o).0
+  one_kind p E (function w g v y ls s) o = absurd cc
+  one_kind p E (settles s) o = refl
+  one_kind p E (clocked s) o = refl
+
+  pub kind_over : (p : Kind → Bool) (E : List Entry) (is : List Item) → own_items is ≡ true →
+      of_kind p (all_declared E is) x ≡ of_kind p E x
+  kind_over p E [] o = refl
+  kind_over p E (i ∷ is) o =
+      let (a, b) = and_parts (own_item i) (own_items is) o in kind_over p (declared E i) is b ∙ one_kind p E i a
+
+  declare_taken : (k : Kind) (y : String) (E : List Entry) → own y ≡ true → taken (declare k y E) x ≡ taken E x
+  declare_taken k y E o = ap (λ b. b || taken E x) (own_foreign y x o f)
+
+  one_taken : (E : List Entry) (i : Item) → own_item i ≡ true → taken (declared E i) x ≡ taken E x
+  one_taken E (note s) o = refl
+  one_taken E gap o = refl
+  one_taken E (size y n) o = declare_taken a_size y E o
+  one_taken E (constant w y n) o = declare_taken a_constant y E (and_parts (own y) (own_width w) o).0
+  one_taken E (input w y) o = declare_taken (input_kind w y) y E (and_parts (own y) (own_width w) o).0
+  one_taken E (output w y) o = declare_taken (kind_of w) y E (and_parts (own y) (own_width w) o).0
+  one_taken E (reg w y) o = declare_taken (kind_of w) y E (and_parts (own y) (own_width w) o).0
+  one_taken E (memory w y k) o = declare_taken a_memory y E (and_parts (own y) (own_width w && own_size k) o).0
+  one_taken E (wire w y e) o = declare_taken (wire_kind w) y E (and_parts (own y) (own_width w && own_expr e) o).0
+  one_taken E (function w g v y ls s) o = absurd cc
+  one_taken E (settles s) o = refl
+  one_taken E (clocked s) o = refl
+
+  pub taken_over : (E : List Entry) (is : List Item) → own_items is ≡ true → taken (all_declared E is) x ≡ taken E x
+  taken_over E [] o = refl
+  taken_over E (i ∷ is) o =
+      let (a, b) = and_parts (own_item i) (own_items is) o in taken_over (declared E i) is b ∙ one_taken E i a
+
+-- so many names of one kind, of which none is own, from the i-th on
+module _ (nm : ℕ → String) (k : Kind) (foreign : (i : ℕ) → own (nm i) ≡ false) where
+  abbrev pub entries : ℕ → ℕ → List Entry → List Entry
+  entries i zero E = E
+  entries i (suc n) E = entries (suc i) n (declare k (nm i) E)
+
+  pub entries_same : (i n : ℕ) (E F : List Entry) → SameEnv E F → SameEnv (entries i n E) F
+  entries_same i zero E F h = h
+  entries_same i (suc n) E F h = entries_same (suc i) n (declare k (nm i) E) F (declare_foreign k (nm i) (foreign i) E F h)
+
+  -- they are of that kind
+  kind_stays : (p : Kind → Bool) (x : String) (i n : ℕ) (E : List Entry) → of_kind p E x ≡ p k → of_kind p (entries i n E) x ≡ p k
+  kind_stays p x i zero E h = h
+  kind_stays p x i (suc n) E h = kind_stays p x (suc i) n (declare k (nm i) E) (go (eqt (nm i) x))
+    where
+      go : (b : Bool) → chosen b (p k) (of_kind p E x) ≡ p k
+      go true = refl
+      go false = h
+
+  pub entries_have : (p : Kind → Bool) (j i n : ℕ) (E : List Entry) → i ≤ j → j < i + n → of_kind p (entries i n E) (nm j) ≡ p k
+  entries_have p j i zero E l m = absurd (omega (arith, l, m))
+  entries_have p j i (suc n) E l m =
+      ⊎_elim (λ (e : i ≡ j). kind_stays p (nm j) (suc i) n (declare k (nm i) E)
+      (ap (λ b. chosen b (p k) (of_kind p E (nm j))) (subst (λ z. eqt (nm i) (nm z) ≡ true) e (same_name (nm i)))))
+      (λ d. entries_have p j (suc i) n (declare k (nm i) E) (later i j l d) (omega (arith, m))) (cases_eq i j)
+
+  -- and say nothing of other names
+  pub entries_over : (p : Kind → Bool) (x : String) → ((i : ℕ) → eqt (nm i) x ≡ false) → (i n : ℕ) (E : List Entry) →
+      of_kind p (entries i n E) x ≡ of_kind p E x
+  entries_over p x h i zero E = refl
+  entries_over p x h i (suc n) E =
+      entries_over p x h (suc i) n (declare k (nm i) E) ∙ ap (λ b. chosen b (p k) (of_kind p E x)) (h i)
+
+  pub entries_taken : (x : String) → ((i : ℕ) → eqt (nm i) x ≡ false) → (i n : ℕ) (E : List Entry) → taken (entries i n E) x ≡ taken E x
+  entries_taken x h i zero E = refl
+  entries_taken x h i (suc n) E = entries_taken x h (suc i) n (declare k (nm i) E) ∙ ap (λ b. b || taken E x) (h i)

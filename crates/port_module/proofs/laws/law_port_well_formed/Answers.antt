@@ -1,0 +1,5 @@
+use Rattle.port_module.proofs.WellFormed.{well_formed}
+use Rattle.port_module.proofs.laws.law_port_well_formed.Goals as goal
+
+pub returns : goal.returns
+returns c = well_formed
