@@ -1,0 +1,2 @@
+-- The statements of `law_function`.
+pub mod Laws

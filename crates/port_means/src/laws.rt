@@ -1,0 +1,20 @@
+//! What the module of a function of numbers tells.
+
+ghost use Rattle.port_means.specs.Laws.{FunctionMeans, FunctionIsFull, FunctionIsRight, FunctionWants};
+
+/// The module of a function of numbers, after a reset with arguments at its ports, from whatever registers and memories and whatever is at
+/// the ports later: it is full, exactly where the circuit over cells of the applied term is; or it tells what that means. Where cells and
+/// forks are enough for the applied term, it isn't full, and where it isn't full, they were enough.
+pub fn law_function()
+    ensures means { FunctionMeans }
+    ensures full { FunctionIsFull }
+    ensures right { FunctionIsRight }
+    ensures wants { FunctionWants }
+{
+    cell_means::law_cell_means();
+    cell_means::law_cell_module();
+    net_build::law_built_sound();
+    open_nets::law_applied();
+    open_nets::law_numbers();
+    port_module::law_port_edges();
+}
