@@ -1,5 +1,5 @@
 -- What a call comes to: the net with the numbers in their places is that of the application, and is ready for the next call.
-use Rattle.std.proofs.Common.{◌≡◌, ℕ, List, [], length, Option, sym, ap, ◌∙◌, subst}
+use Rattle.std.proofs.Common.{◌≡◌, ◌<◌, ◌^◌, ◌+◌, ◌*◌, ℕ, List, [], length, Option, sym, ap, ◌∙◌, subst}
 use Rattle.pcf_values.specs.declared.val.Val.{Val}
 use Rattle.pcf_values.specs.Terms.{TyTree, TermTree, nat}
 use Rattle.pcf_values.specs.Typing.{HasType}
@@ -7,7 +7,7 @@ use Rattle.cbn_meaning.specs.Meaning.{Means}
 use Rattle.net_build.specs.Nets.{NetTree}
 use Rattle.net_build.specs.NetOf.{net_of}
 use Rattle.open_nets.specs.Applied.{applied, numeric}
-use Rattle.open_nets.specs.Arguments.{AreNumbers}
+use Rattle.open_nets.specs.Arguments.{AreNumbers, closed_part}
 use Rattle.open_nets.specs.Numbers.{with_numbers, places_from, places}
 use Rattle.open_nets.specs.Laws.{OtherNumbers, AppliedHas}
 use Rattle.schedule_log.specs.declared.entry.Entry.{Entry}
@@ -19,6 +19,16 @@ use Rattle.function_runs.specs.Ready.{IsReady}
 -- a function's program, by what is seen of the function
 pub program_is : (p : TermTree × TyTree) (n : ℕ) (f : TermTree × ℕ) → (p.0, n) ≡ f → p.1 ≡ numeric n → p ≡ (f.0, numeric f.1)
 program_is p n f e h = ap (λ A. (p.0, A)) h ∙ ap (λ (x : TermTree × ℕ). (x.0, numeric x.1)) e
+
+-- the node of the first of its numbers, by what is seen of the function
+pub first_is : (p : TermTree × TyTree) (net : NetTree) (first n : ℕ) (f : TermTree × ℕ) → IsReady p net first n → (p.0, n) ≡ f →
+    first ≡ length (closed_part f.0).nodes
+first_is p net first n f h e = h.first_is ∙ ap (λ (x : TermTree × ℕ). length (closed_part x.0).nodes) e
+
+-- all of them are nodes that have a number of 32 bits
+pub few_nodes : (p : TermTree × TyTree) (net : NetTree) (first n : ℕ) (f : TermTree × ℕ) → IsReady p net first n → (p.0, n) ≡ f →
+    first + 3 * f.1 < 2 ^ 32
+few_nodes p net first n f h e = subst (λ (x : TermTree × ℕ). first + 3 * x.1 < 2 ^ 32) e h.few
 
 -- how many numbers there are is how many it takes
 pub as_many : (m : TermTree) (n k : ℕ) (f : TermTree × ℕ) → (m, n) ≡ f → k ≡ f.1 → k ≡ n

@@ -15,7 +15,7 @@ use Rattle.program_runs.specs.declared.no_run.NoRun.TheVariants.{Memory, Fault}
 use Rattle.program_runs.specs.NoRuns.{NoRunFor, no_run_of_read, no_run_of_type}
 use Rattle.function_runs.specs.Functions.{CompilesTree, CompilesText, FaultyTree, Takes, untyped, other_type}
 use Rattle.function_runs.specs.Misfit.{IsMisfit, misfit}
-use Rattle.function_runs.specs.Functions.{FaultyFunction, unread, of_tree}
+use Rattle.function_runs.specs.Functions.{FaultyFunction, FaultyAny, unread, of_tree}
 
 weaker : (P Q : ProgramFault → Type 0) (e : NoRun) → ((f : ProgramFault) → P f → Q f) → NoRunFor P e → NoRunFor Q e
 weaker P Q Memory k h = h
@@ -73,3 +73,38 @@ pub functions_of_text : {E : Type 0} (n : ℕ) (bytes : List ℕ) (tree : NamedT
     IfOk r (λ f. CompilesTree tree n f) → IfOk r (λ f. CompilesText bytes n f)
 functions_of_text n bytes tree (Ok f) x h = (tree, x, h)
 functions_of_text n bytes tree (Err e) x h = h
+
+-- ---- as whatever function
+
+any_of : (P : ℕ → ProgramFault → Type 0) (e : NoRun) → ((n : ℕ) → NoRunFor (P n) e) → NoRunFor (λ f. (n : ℕ) → P n f) e
+any_of P Memory h = tt
+any_of P (Fault f) h = h
+
+pub any_unread : (bytes : List ℕ) (f : ReadFault) → Faults bytes f → NoRunFor (FaultyAny bytes) (no_run_of_read f)
+any_unread bytes f h = any_of (λ n. FaultyFunction n bytes) (no_run_of_read f) (λ n. stops_unread n bytes f h)
+
+pub any_untyped : (tree : NamedTree) (f : TypeFault) → (f ≢ typing.NoMemory → type_of [] tree ≡ Err f) →
+    NoRunFor (λ g. (n : ℕ) → FaultyTree n tree g) (no_run_of_type f)
+any_untyped tree f h = any_of (λ n. FaultyTree n tree) (no_run_of_type f) (λ n. stops_untyped n tree f h)
+
+-- it is a misfit at so many numbers, and no other count would do
+as_whatever : (k : ℕ) (A : TyTree) (f : ProgramFault) → ((n : ℕ) → Takes n A → k ≡ n) → IsMisfit k A f → (n : ℕ) → IsMisfit n A f
+as_whatever k A _ e (misfit h) n = misfit (λ t. h (subst (λ j. Takes j A) (sym (e n t)) t))
+
+pub any_faults_of_tree : {B : Type 0} (k : ℕ) (tree : NamedTree) (p : TermTree × TyTree) (r : Result B NoRun) →
+    ((n : ℕ) → Takes n p.1 → k ≡ n) → type_of [] tree ≡ Ok p → IfErr r (λ e. NoRunFor (IsMisfit k p.1) e) →
+    IfErr r (λ e. NoRunFor (λ f. (n : ℕ) → FaultyTree n tree f) e)
+any_faults_of_tree k tree p r only d h =
+    if_weaker (IsMisfit k p.1) (λ f. (n : ℕ) → FaultyTree n tree f) r
+    (λ f m n. unfit n tree p.0 p.1 f d (as_whatever k p.1 f only m n)) h
+
+pub any_faults_of_text : {B : Type 0} (bytes : List ℕ) (tree : NamedTree) (r : Result B NoRun) → Text bytes tree →
+    IfErr r (λ e. NoRunFor (λ f. (n : ℕ) → FaultyTree n tree f) e) → IfErr r (λ e. NoRunFor (FaultyAny bytes) e)
+any_faults_of_text bytes tree r x h =
+    if_weaker (λ f. (n : ℕ) → FaultyTree n tree f) (FaultyAny bytes) r (λ f g n. of_tree tree f x (g n)) h
+
+-- what is made for a count is made for the count that it has
+pub any_function : {E : Type 0} (tree : NamedTree) (n : ℕ) (r : Result (TermTree × ℕ) E) → IfOk r (λ f. CompilesTree tree n f) →
+    IfOk r (λ f. CompilesTree tree f.1 f)
+any_function tree n (Ok f) h = subst (λ k. CompilesTree tree k f) (sym h.takes) h
+any_function tree n (Err x) h = h

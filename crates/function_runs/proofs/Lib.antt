@@ -8,6 +8,8 @@ pub mod Zeros
 pub mod Judged
 -- a tree applied to numbers, and its texts
 pub mod Trees
+-- how many numbers a function takes, by its type
+pub mod Counts
 -- a text is one function, or has one first fault
 pub mod OneFunction
 -- one worker has one run, and a text one term

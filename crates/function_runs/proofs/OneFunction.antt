@@ -9,7 +9,8 @@ use Rattle.open_nets.specs.Applied.{numeric}
 use Rattle.program_runs.specs.declared.fault.ProgramFault.{ProgramFault}
 use Rattle.program_runs.specs.declared.fault.ProgramFault.TheVariants.{Read, Typing}
 use Rattle.function_runs.specs.Functions.{CompilesTree, CompilesText, FaultyTree, untyped, other_type, FaultyFunction, unread, of_tree}
-use Rattle.function_runs.specs.Laws.{OneFunction}
+use Rattle.function_runs.proofs.Counts.{arrow_count, count_is}
+use Rattle.function_runs.specs.Laws.{OneFunction, OneOfAny}
 
 -- ---- a tree has one term with its type, or one fault
 
@@ -67,4 +68,27 @@ functions_settle tree fault both = record {
   one_function = one_function tree fault both;
   one_fault = faults tree fault both;
   not_both = sound tree fault both;
+}
+
+-- ---- as whatever function
+
+same_count : (n k : ℕ) → numeric n ≡ numeric k → n ≡ k
+same_count n k e = sym (count_is n) ∙ ap arrow_count e ∙ count_is k
+
+module _ (one_tree : OneTree) (one : OneFunction) (bytes : List ℕ) where
+  counts : (n k : ℕ) (f g : TermTree × ℕ) → CompilesText bytes n f → CompilesText bytes k g → n ≡ k
+  counts n k f g (tree, x, h) (other, y, l) =
+      let same : CompilesTree other n f = subst (λ (t : NamedTree). CompilesTree t n f) (one_tree bytes tree other x y) h in
+      same_count n k (ap (type_or (numeric n)) (sym same.typed ∙ l.typed))
+
+  any_function : (n k : ℕ) (f g : TermTree × ℕ) → CompilesText bytes n f → CompilesText bytes k g → (n ≡ k) × (f ≡ g)
+  any_function n k f g h l =
+      let e : n ≡ k = counts n k f g h l in
+      (e, one.one_function k bytes f g (subst (λ (j : ℕ). CompilesText bytes j f) e h) l)
+
+pub any_settles : OneTree → OneFunction → OneOfAny
+any_settles tree one = record {
+  one_function = λ n k bytes. any_function tree one bytes n k;
+  one_fault = λ bytes f g h k. one.one_fault 0 bytes f g (h 0) (k 0);
+  not_both = λ n bytes f g h k. one.not_both n bytes f g h (k n);
 }

@@ -44,3 +44,7 @@ pub data FaultyFunction (n : ℕ) (bytes : List ℕ) : ProgramFault → Type 0 w
   unread : (f : ReadFault) → FirstFault bytes f → FaultyFunction n bytes (Read f)
   -- it stands for a tree that is refused
   of_tree : (tree : NamedTree) (f : ProgramFault) → Text bytes tree → FaultyTree n tree f → FaultyFunction n bytes f
+
+-- as a function of whatever number of arguments the text is refused for this fault, which is its first
+abbrev pub FaultyAny : List ℕ → ProgramFault → Type 0
+FaultyAny bytes f = (n : ℕ) → FaultyFunction n bytes f

@@ -13,13 +13,19 @@ use Rattle.schedule_log.specs.declared.entry.Entry.{Entry}
 use Rattle.program_runs.specs.declared.fault.ProgramFault.{ProgramFault}
 use Rattle.program_runs.specs.Programs.{number, IsGround, OfProgram}
 use Rattle.program_runs.specs.Runs.{IsProgramRun}
-use Rattle.function_runs.specs.Functions.{CompilesText, FaultyFunction}
+use Rattle.function_runs.specs.Functions.{CompilesText, FaultyFunction, FaultyAny}
 
 -- a text is one function of so many numbers, or has one first fault, and never both
 pub record OneFunction : Type 0 where
   pub one_function : (n : ℕ) (bytes : List ℕ) (f g : TermTree × ℕ) → CompilesText bytes n f → CompilesText bytes n g → f ≡ g
   pub one_fault : (n : ℕ) (bytes : List ℕ) (f g : ProgramFault) → FaultyFunction n bytes f → FaultyFunction n bytes g → f ≡ g
   pub not_both : (n : ℕ) (bytes : List ℕ) (f : TermTree × ℕ) (g : ProgramFault) → CompilesText bytes n f → FaultyFunction n bytes g → ⊥
+
+-- a text is a function of one number of arguments, and one such function; or it has one first fault as whatever function; and never both
+pub record OneOfAny : Type 0 where
+  pub one_function : (n k : ℕ) (bytes : List ℕ) (f g : TermTree × ℕ) → CompilesText bytes n f → CompilesText bytes k g → (n ≡ k) × (f ≡ g)
+  pub one_fault : (bytes : List ℕ) (f g : ProgramFault) → FaultyAny bytes f → FaultyAny bytes g → f ≡ g
+  pub not_both : (n : ℕ) (bytes : List ℕ) (f : TermTree × ℕ) (g : ProgramFault) → CompilesText bytes n f → FaultyAny bytes g → ⊥
 
 -- a number in a text: where it is, and where the application to it
 pub record NumberAt : Type 0 where

@@ -1,6 +1,6 @@
 //! A term that is applied to zeros.
 
-ghost use Rattle.std.specs.Prelude.{◌≡◌, ◌↔◌, [], IsTrue, IfOk, replicate};
+ghost use Rattle.std.specs.Prelude.{◌≡◌, ◌↔◌, ◌≤◌, ℕ, [], IsTrue, IfOk, replicate};
 ghost use Rattle.pcf_values.specs.Typing.{HasType};
 ghost use Rattle.pcf_values.specs.Terms.{nat, num, app};
 ghost use Rattle.pcf_values.specs.Views.{term_of, ty_of};
@@ -29,6 +29,29 @@ fn takes(ty: &Ty, arguments: usize) -> bool
         Ty::Nat => arguments == 0,
         Ty::Arrow(from, to) => arguments > 0 && is_nat(from) && takes(to, arguments - 1),
         Ty::Product(_, _) => false,
+    }
+}
+
+/// How many numbers a function of this type takes, where it takes numbers alone, and not too many.
+pub(crate) fn arguments_of(ty: &Ty) -> usize
+    ensures { (n : ℕ) → Takes n (ty_of ty.now) → result ≡ n }
+{
+    arrows(ty, MOST_ARGUMENTS)
+}
+
+/// How many arrows a type has along its right, as far as these are at most so many.
+fn arrows(ty: &Ty, most: usize) -> usize
+    ensures count { (n : ℕ) → n ≤ most → ty_of ty.now ≡ numeric n → result ≡ n }
+    ensures few { result ≤ most }
+{
+    match ty {
+        Ty::Arrow(_, to) => {
+            if most == 0 {
+                return 0;
+            }
+            1 + arrows(to, most - 1)
+        }
+        _ => 0,
     }
 }
 

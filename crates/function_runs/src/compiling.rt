@@ -1,6 +1,6 @@
 //! From the text of a function of numbers to its net.
 
-ghost use Rattle.std.specs.Prelude.{◌≡◌, ◌≤◌, ◌<◌, ◌^◌, [], length, replicate, Ok, IfOk, IfErr};
+ghost use Rattle.std.specs.Prelude.{◌≡◌, ◌≤◌, ◌<◌, ◌^◌, ℕ, [], length, replicate, Ok, IfOk, IfErr};
 ghost use Rattle.pcf_values.specs.Most.{most_nodes};
 ghost use Rattle.pcf_values.specs.Terms.{size, height};
 ghost use Rattle.pcf_values.specs.Named.{named_height};
@@ -10,9 +10,10 @@ ghost use Rattle.net_build.specs.NetOf.{net_of};
 ghost use Rattle.open_nets.specs.Applied.{applied, numeric};
 ghost use Rattle.program_runs.specs.NoRuns.{NoRunFor};
 ghost use Rattle.function_runs.specs.Functions.{most_arguments, CompilesText, CompilesTree, FaultyFunction, FaultyTree, Takes};
+ghost use Rattle.function_runs.specs.Functions.{FaultyAny};
 ghost use Rattle.function_runs.specs.Misfit.{IsMisfit};
 
-use crate::applying::{at_zeros, fits};
+use crate::applying::{arguments_of, at_zeros, fits};
 use crate::function::Function;
 use net_build::{Net, build, law_net_size};
 use open_nets::law_applied;
@@ -37,6 +38,36 @@ pub fn compile(alloc: Global, bytes: &[u8], arguments: usize) -> Result<Function
     let function = compile_tree(alloc, &tree, arguments);
     drop(tree);
     function
+}
+
+/// The function of a text, of as many numbers as its type says: none for a program of type `nat`, and at most `MOST_ARGUMENTS`.
+///
+/// # Errors
+///
+/// The first fault of the text, exactly when it has one: it isn't read, it isn't typed, or its type isn't `nat -> .. -> nat`, or that of
+/// too many arguments (`NotGround`). Or it runs out of memory.
+pub fn compile_any(alloc: Global, bytes: &[u8]) -> Result<Function, NoRun>
+    ensures function { IfOk result (λ f. CompilesText bytes.now f.1 f) }
+    ensures fault { IfErr result (λ e. NoRunFor (FaultyAny bytes.now) e) }
+{
+    law_bounded();
+    let tree = read_program(alloc, bytes)?;
+    let function = compile_any_tree(alloc, &tree);
+    drop(tree);
+    function
+}
+
+/// The function of a tree, of as many numbers as its type says.
+fn compile_any_tree(alloc: Global, tree: &Named) -> Result<Function, NoRun>
+    requires size { named_size (named_of tree.now) ≤ most_nodes }
+    requires height { named_height (named_of tree.now) ≤ 2600 }
+    ensures function { IfOk result (λ f. CompilesTree (named_of tree.now) f.1 f) }
+    ensures fault { IfErr result (λ e. NoRunFor (λ f. (n : ℕ) → FaultyTree n (named_of tree.now) f) e) }
+{
+    law_keeps_size();
+    let program = resolve_and_type(alloc, tree)?;
+    let arguments = arguments_of(program.ty());
+    compile_program(alloc, program, arguments)
 }
 
 /// The function of a tree.

@@ -1,12 +1,13 @@
 //! A function of numbers, compiled.
 
-ghost use Rattle.std.specs.Prelude.{◌≡◌, ◌≤◌, ◌<◌, ◌^◌, [], length, replicate, IfOk};
+ghost use Rattle.std.specs.Prelude.{◌≡◌, ◌≤◌, ◌<◌, ◌^◌, ◌+◌, ◌*◌, [], length, replicate, IfOk};
 ghost use Rattle.pcf_values.specs.Most.{most_budget, most_workers};
 ghost use Rattle.pcf_values.specs.Terms.{nat};
 ghost use Rattle.pcf_values.specs.Typing.{HasType};
 ghost use Rattle.cbn_meaning.specs.Meaning.{Means};
 ghost use Rattle.net_build.specs.NetOf.{net_of};
 ghost use Rattle.open_nets.specs.Applied.{applied, numeric};
+ghost use Rattle.open_nets.specs.Arguments.{closed_part};
 ghost use Rattle.program_runs.specs.Runs.{IsProgramRun};
 
 use crate::exchanging::exchange;
@@ -81,6 +82,14 @@ impl Function {
         ensures { result ≡ self.now.1 }
     {
         self.arguments
+    }
+
+    /// The place of its first argument's number in the list of nodes of its net, where each third node is the next one's.
+    pub fn first(&self) -> u32
+        ensures first { result ≡ length (closed_part self.now.0).nodes }
+        ensures few { result + 3 * self.now.1 < 2 ^ 32 }
+    {
+        self.first
     }
 
     /// The net of the term at these numbers, on which it runs, for whoever makes the moves himself.

@@ -1,6 +1,6 @@
 //! That a call is the run of a text.
 
-ghost use Rattle.function_runs.specs.Laws.{AppliedTree, AppliedText, OneFunction, SameAsText};
+ghost use Rattle.function_runs.specs.Laws.{AppliedTree, AppliedText, OneFunction, OneOfAny, SameAsText};
 
 use pcf_reader::{law_one_fault, law_one_tree, law_text_or_fault};
 use program_runs::law_one_program;
@@ -12,6 +12,14 @@ pub fn law_one_function()
     law_one_tree();
     law_one_fault();
     law_text_or_fault();
+}
+
+/// A text is a function of one number of arguments, and one such function; or it has one first fault as whatever function; and never both.
+pub fn law_one_of_any()
+    ensures { OneOfAny }
+{
+    law_one_tree();
+    law_one_function();
 }
 
 /// A tree that is a function, applied to as many numbers as it takes, is a program of type `nat`: that of its term, applied to them. So a
