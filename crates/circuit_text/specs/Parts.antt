@@ -1,26 +1,57 @@
 -- The parts of a circuit's text in their order, each under a name that no check computes with where only the name matters. None has to be
 -- believed: they are proved to be the text of the tree.
-use Rattle.std.specs.Prelude.{ℕ, ◌*◌, max, Bool, List, [], ◌∷◌, ◌++◌, length, codes}
+use Rattle.std.specs.Prelude.{ℕ, zero, suc, ◌*◌, max, Bool, List, [], ◌∷◌, ◌++◌, length, codes}
+use Prim.Native.String.{String}
 use Rattle.net_build.specs.Nets.{NetTree}
-use Rattle.verilog_tree.specs.Tree.{Item, size, constant, wide, count, clocked}
+use Rattle.verilog_tree.specs.Tree.{Item, size, constant, wide, count}
 use Rattle.verilog_tree.specs.Print.{stmt_text, arms_text, items_text, ports_text}
 use Rattle.circuit_module.specs.Fixed.{no_row}
-use Rattle.circuit_module.specs.Module.{row_arms}
-use Rattle.circuit_module.specs.Sizes.{channel_bits, fork_bits}
-use Rattle.cell_core.specs.Circuit.{Sizes}
+use Rattle.circuit_module.specs.Sizes.{channel_bits}
+use Rattle.cell_core.specs.Sizes.{Sizes}
 use Rattle.cell_module.specs.Fixed.{cell_ports, cell_port_notes, cell_constants, cell_registers, way_wires, next_row_notes}
 use Rattle.cell_module.specs.Fixed.{list_wires, cell_fork_wires, number_wires, cell_clock_notes, cell_clock}
 use Rattle.cell_module.specs.Module.{place_bits, pointer_bits, cell_product}
+use Rattle.port_module.specs.Module.{port_arms, arg_notes}
+use Rattle.port_module.specs.Names.{arg_name, held_name}
 
--- from the module's name to what is said of its ports
+-- the directives in front of the module, and its first word
+unfoldable pub directives_text : List ℕ
+directives_text =
+    codes "// verilator lint_save\n// verilator lint_off DECLFILENAME\n// verilator lint_off UNUSED\n`default_nettype none\nmodule "
+
+-- these, and the module's name
+unfoldable pub name_text : String → List ℕ
+name_text name = directives_text ++ codes name
+
+-- so many texts, of 0, of 1 and so on
+abbrev pub lines : (ℕ → List ℕ) → ℕ → List ℕ
+lines f zero = []
+lines f (suc n) = lines f n ++ f n
+
+-- the ports that every module has
 unfoldable pub front_text : List ℕ
-front_text =
-    codes "`default_nettype none\nmodule goi (\n" ++ (ports_text cell_ports ++ (codes "\n);\n" ++ items_text cell_port_notes))
+front_text = codes " (\n" ++ ports_text cell_ports
+
+-- the port of an argument
+unfoldable pub port_line : ℕ → List ℕ
+port_line i = codes ",\n  input wire [63:0] " ++ codes (arg_name i)
+
+-- the ports of so many, the end of the list, and what is said of them
+unfoldable pub args_text : ℕ → List ℕ
+args_text n = lines port_line n ++ (codes "\n);\n" ++ items_text (arg_notes n))
+
+-- what is said of the others
+unfoldable pub notes_text : List ℕ
+notes_text = items_text cell_port_notes
+
+-- from behind the name to what is said of the ports
+unfoldable pub said_text : ℕ → List ℕ
+said_text n = front_text ++ (args_text n ++ notes_text)
 
 -- the sizes that are counts of bits
 abbrev pub bit_sizes : (wires : ℕ) → Sizes → List Item
 bit_sizes wires z =
-    size "C" (channel_bits wires) ∷ size "S" (fork_bits z.forks) ∷ size "P" (place_bits z.cells) ∷ size "WORD" (pointer_bits z.cells) ∷ []
+    size "C" (channel_bits wires) ∷ size "S" (place_bits z.forks) ∷ size "P" (place_bits z.cells) ∷ size "WORD" (pointer_bits z.cells) ∷ []
 
 -- the bits of the three lists
 abbrev pub list_sizes : Sizes → List Item
@@ -54,6 +85,19 @@ constants_text = items_text cell_constants
 unfoldable pub registers_text : List ℕ
 registers_text = items_text cell_registers
 
+-- the register of an argument
+unfoldable pub held_line : ℕ → List ℕ
+held_line i = codes "  reg [63:0] " ++ (codes (held_name i) ++ codes ";\n")
+
+-- what stands in front of the registers of so many
+abbrev pub held_head : ℕ → List ℕ
+held_head zero = []
+held_head (suc n) = codes "\n  // The arguments as they were at reset.\n"
+
+-- these registers
+unfoldable pub held_text : ℕ → List ℕ
+held_text n = held_head n ++ lines held_line n
+
 -- where the token goes, and the begin of the case of the rows
 unfoldable pub ways_text : List ℕ
 ways_text =
@@ -61,8 +105,8 @@ ways_text =
     ++ (codes "  always @* begin\n" ++ (stmt_text (codes " = ") 2 no_row ++ codes "    case (goes)\n")))
 
 -- the case of each row
-unfoldable pub rows_text : NetTree → List ℕ
-rows_text net = arms_text (codes " = ") 3 (row_arms net 0 (length net.wires))
+unfoldable pub rows_text : NetTree → List ℕ → List ℕ
+rows_text net ps = arms_text (codes " = ") 3 (port_arms ps net 0 (length net.wires))
 
 -- its end, and the three lists after the row
 unfoldable pub lists_text : List ℕ
@@ -76,14 +120,35 @@ forks_text = items_text cell_fork_wires
 unfoldable pub numbers_text : Bool → List ℕ
 numbers_text multiplies = items_text (number_wires (cell_product multiplies))
 
--- the block of the clock, and the end
-unfoldable pub last_text : List ℕ
-last_text = items_text (cell_clock_notes ++ clocked cell_clock ∷ []) ++ codes "endmodule\n`default_nettype wire\n"
+-- the block of the clock, as far as it is every module's
+unfoldable pub clock_text : List ℕ
+clock_text = items_text cell_clock_notes ++ (codes "  always @(posedge clk) begin\n" ++ stmt_text (codes " <= ") 2 cell_clock)
 
--- from the module's name to the rows
-unfoldable pub top_text : (wires start : ℕ) → Sizes → List ℕ
-top_text wires start z = front_text ++ (sizes_text wires start z ++ (constants_text ++ (registers_text ++ ways_text)))
+-- a register takes its argument
+unfoldable pub latch_line : ℕ → List ℕ
+latch_line i = codes "      " ++ (codes (held_name i) ++ (codes " <= " ++ (codes (arg_name i) ++ codes ";\n")))
+
+-- what stands in front of the lines of so many, and behind them
+abbrev pub latch_head : ℕ → List ℕ
+latch_head zero = []
+latch_head (suc n) = codes "    if (rst) begin\n"
+
+abbrev pub latch_end : ℕ → List ℕ
+latch_end zero = []
+latch_end (suc n) = codes "    end\n"
+
+-- all of them do so at reset
+unfoldable pub latch_text : ℕ → List ℕ
+latch_text n = latch_head n ++ (lines latch_line n ++ latch_end n)
+
+-- the end
+unfoldable pub last_text : List ℕ
+last_text = codes "  end\nendmodule\n`default_nettype wire\n// verilator lint_restore\n"
+
+-- from behind the module's name to the rows, with ports for so many arguments
+unfoldable pub top_text : (n wires start : ℕ) → Sizes → List ℕ
+top_text n wires start z = said_text n ++ (sizes_text wires start z ++ (constants_text ++ (registers_text ++ (held_text n ++ ways_text))))
 
 -- what stands behind the rows
-unfoldable pub back_text : Bool → List ℕ
-back_text multiplies = lists_text ++ (forks_text ++ (numbers_text multiplies ++ last_text))
+unfoldable pub back_text : ℕ → Bool → List ℕ
+back_text n multiplies = lists_text ++ (forks_text ++ (numbers_text multiplies ++ (clock_text ++ (latch_text n ++ last_text))))

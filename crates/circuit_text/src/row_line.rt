@@ -4,26 +4,26 @@ ghost use Rattle.std.specs.Prelude.{◌≡◌, ◌++◌, [], OnOk, Some, codes, 
 ghost use Rattle.std.specs.Option.{option_map};
 ghost use Rattle.circuit_core.specs.Rows.{rises, falls, row_of};
 ghost use Rattle.circuit_rows.specs.Views.{channel_of, row_view, found_of};
-ghost use Rattle.circuit_text.specs.RowText.{join_text, op_text, one_text, two_text, fields_text};
+ghost use Rattle.open_nets.specs.Numbers.{places_from};
+ghost use Rattle.port_module.specs.Names.{held_name};
+ghost use Rattle.circuit_text.specs.RowText.{join_text, op_text, constant_text, one_text, two_text, fields_text};
 ghost use Rattle.circuit_text.specs.RowText.{row_text, comment_text, row_line, wire_lines};
 
+use crate::arguments::{Ports, port_of, push_held};
 use crate::number::{number_of, push_number};
 use circuit_rows::{Channel, Found, Row, row_of};
 use net_build::Net;
-use pcf_values::{Operator, Side};
+use pcf_values::Operator;
 use std::alloc::AllocError;
 
 /// The operation at an operator.
-fn join_name(operator: Operator, side: Side) -> &'static [u8]
-    ensures { result.now ≡ join_text operator side }
+fn join_name(operator: Operator) -> &'static [u8]
+    ensures { result.now ≡ join_text operator }
 {
-    match (operator, side) {
-        (Operator::Plus, Side::Left) => b"PLUSL",
-        (Operator::Plus, Side::Right) => b"PLUSR",
-        (Operator::Minus, Side::Left) => b"MINUSL",
-        (Operator::Minus, Side::Right) => b"MINUSR",
-        (Operator::Times, Side::Left) => b"TIMESL",
-        (Operator::Times, Side::Right) => b"TIMESR",
+    match operator {
+        Operator::Plus => b"PLUS",
+        Operator::Minus => b"MINUS",
+        Operator::Times => b"TIMES",
     }
 }
 
@@ -38,7 +38,7 @@ fn op_name(row: Row) -> &'static [u8]
         Row::Pred { .. } => b"PRED",
         Row::Test { .. } => b"TEST",
         Row::Fork { .. } => b"FORK",
-        Row::Join { operator, side, .. } => join_name(operator, side),
+        Row::Join { operator, .. } => join_name(operator),
         Row::Answer => b"ANSWER",
         Row::Star { .. } => b"STAR",
         Row::Unstar { .. } => b"UNSTAR",
@@ -83,21 +83,44 @@ fn push_two(text: &mut Vec<u8>, channel: Channel, other: Channel) -> Result<(), 
     push_field(text, b" other = ", number_of(other))
 }
 
-/// Appends the channel and the number of a constant.
-fn push_constant(text: &mut Vec<u8>, value: u64, channel: Channel) -> Result<(), AllocError>
-    ensures { OnOk result (text.new.items ≡ text.old.items
-        ++ (one_text (channel_of channel) ++ (codes " number = 64'd" ++ (decimal value ++ codes ";")))) }
+/// Appends the number that a port's register holds.
+fn push_port(text: &mut Vec<u8>, port: u32) -> Result<(), AllocError>
+    ensures { OnOk result (text.new.items ≡ text.old.items ++ (codes " number = " ++ (codes (held_name port) ++ codes ";"))) }
 {
-    push_one(text, channel)?;
-    push_field(text, b" number = 64'd", value)
+    text.extend_from_slice(b" number = ")?;
+    push_held(text, port)?;
+    text.extend_from_slice(b";")
 }
 
-/// Appends what a row has behind its operation.
-fn push_fields(text: &mut Vec<u8>, row: Row) -> Result<(), AllocError>
-    ensures { OnOk result (text.new.items ≡ text.old.items ++ fields_text (row_view row)) }
+/// Appends the number of a constant, which may be that of a port.
+fn push_value(text: &mut Vec<u8>, value: u64, port: Option<u32>) -> Result<(), AllocError>
+    ensures { OnOk result (text.new.items ≡ text.old.items ++ constant_text port value) }
+{
+    match port {
+        None => push_field(text, b" number = 64'd", value),
+        Some(i) => push_port(text, i),
+    }
+}
+
+/// Appends the channel and the number of a constant.
+fn push_constant(
+    text: &mut Vec<u8>,
+    value: u64,
+    channel: Channel,
+    port: Option<u32>,
+) -> Result<(), AllocError>
+    ensures { OnOk result (text.new.items ≡ text.old.items ++ (one_text (channel_of channel) ++ constant_text port value)) }
+{
+    push_one(text, channel)?;
+    push_value(text, value, port)
+}
+
+/// Appends what a row has behind its operation, where its constant may be that of a port.
+fn push_fields(text: &mut Vec<u8>, row: Row, port: Option<u32>) -> Result<(), AllocError>
+    ensures { OnOk result (text.new.items ≡ text.old.items ++ fields_text port (row_view row)) }
 {
     match row {
-        Row::Const { value, to } => push_constant(text, value, to),
+        Row::Const { value, to } => push_constant(text, value, to, port),
         Row::Test { zero, other } => push_two(text, zero, other),
         Row::Fork { left, right } | Row::Con { left, right } => push_two(text, left, right),
         Row::Join { wire, .. } => push_one(text, Channel { wire, up: false }),
@@ -136,12 +159,12 @@ fn way(up: bool) -> &'static [u8]
 
 /// Appends a row from its operation on, to the end of its part of the case.
 #[tactic(auto, unfolding(crate::specs::RowText::row_text))]
-fn push_row(text: &mut Vec<u8>, row: Row) -> Result<(), AllocError>
-    ensures { OnOk result (text.new.items ≡ text.old.items ++ row_text (row_view row)) }
+fn push_row(text: &mut Vec<u8>, row: Row, port: Option<u32>) -> Result<(), AllocError>
+    ensures { OnOk result (text.new.items ≡ text.old.items ++ row_text port (row_view row)) }
 {
     text.extend_from_slice(op_name(row))?;
     text.extend_from_slice(b";")?;
-    push_fields(text, row)
+    push_fields(text, row, port)
 }
 
 /// Appends the end of a line: its channel by name, and its node.
@@ -155,30 +178,48 @@ fn push_comment(text: &mut Vec<u8>, channel: Channel, node: u32) -> Result<(), A
 }
 
 /// Appends the line of a row that was found.
-fn push_found(text: &mut Vec<u8>, channel: Channel, found: Found) -> Result<(), AllocError>
-    ensures { OnOk result (text.new.items ≡ text.old.items ++ row_line (channel_of channel) (Some (found_of found))) }
+fn push_found(
+    text: &mut Vec<u8>,
+    channel: Channel,
+    found: Found,
+    ports: Ports,
+) -> Result<(), AllocError>
+    ensures { OnOk result (text.new.items ≡ text.old.items
+        ++ row_line (places_from ports.first ports.count) (channel_of channel) (Some (found_of found))) }
 {
+    let port = port_of(ports, found.node);
     push_number(text, b"      ", number_of(channel))?;
     text.extend_from_slice(b": begin op = ")?;
-    push_row(text, found.row)?;
+    push_row(text, found.row, port)?;
     push_comment(text, channel, found.node)
 }
 
 /// Appends the line of a channel's row, where it has one.
-fn push_channel(text: &mut Vec<u8>, net: &Net, channel: Channel) -> Result<(), AllocError>
-    ensures { OnOk result (text.new.items ≡ text.old.items ++ row_line (channel_of channel) (row_of net.now (channel_of channel))) }
+fn push_channel(
+    text: &mut Vec<u8>,
+    net: &Net,
+    channel: Channel,
+    ports: Ports,
+) -> Result<(), AllocError>
+    ensures { OnOk result (text.new.items ≡ text.old.items
+        ++ row_line (places_from ports.first ports.count) (channel_of channel) (row_of net.now (channel_of channel))) }
 {
     match row_of(net, channel) {
-        Some(found) => push_found(text, channel, found),
+        Some(found) => push_found(text, channel, found, ports),
         None => Ok(()),
     }
 }
 
 /// Appends both lines of a wire.
 #[tactic(auto, unfolding(crate::specs::RowText::wire_lines))]
-pub(crate) fn push_wire(text: &mut Vec<u8>, net: &Net, wire: u32) -> Result<(), AllocError>
-    ensures { OnOk result (text.new.items ≡ text.old.items ++ wire_lines net.now wire) }
+pub(crate) fn push_wire(
+    text: &mut Vec<u8>,
+    net: &Net,
+    wire: u32,
+    ports: Ports,
+) -> Result<(), AllocError>
+    ensures { OnOk result (text.new.items ≡ text.old.items ++ wire_lines net.now (places_from ports.first ports.count) wire) }
 {
-    push_channel(text, net, Channel { wire, up: true })?;
-    push_channel(text, net, Channel { wire, up: false })
+    push_channel(text, net, Channel { wire, up: true }, ports)?;
+    push_channel(text, net, Channel { wire, up: false }, ports)
 }

@@ -1,9 +1,8 @@
 use Rattle.std.proofs.Common.{refl}
 use Rattle.std.specs.Fmt.{digits}
-use Rattle.verilog_tree.specs.Print.{turns_text, twice, next_text}
 use Rattle.circuit_text.specs.Parts.{forks_text}
 use Rattle.circuit_text.proofs.fixed.forks.Goals as goal
 
 pub returns : goal.returns
-unfolding digits turns_text twice next_text forks_text
+unfolding digits forks_text
 returns c = refl

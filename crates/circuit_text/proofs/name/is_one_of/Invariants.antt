@@ -1,0 +1,7 @@
+use Rattle.std.proofs.Common.{◌≡◌, drop, map}
+use Rattle.circuit_text.specs.Name.{is_one_of}
+use Rattle.circuit_text.proofs.name.is_one_of.Given as goal
+
+abbrev pub invariant-loop-word : goal.invariant-loop-word
+invariant-loop-word l =
+    is_one_of l.name (map (λ w. w.now) (drop l.word-index l.words)) ≡ is_one_of l.name (map (λ w. w.now) l.fn.words)
