@@ -3,11 +3,11 @@ use Rattle.std.specs.Prelude.{ℕ, ◌*◌, max, Bool, List, [], ◌∷◌, ◌+
 use Prim.Native.String.{String}
 use Rattle.net_build.specs.Nets.{NetTree}
 use Rattle.circuit_core.specs.Rows.{Channel, rises, falls, number, row_of}
-use Rattle.cell_core.specs.Circuit.{Sizes}
+use Rattle.cell_core.specs.Sizes.{Sizes}
 use Rattle.verilog_tree.specs.Tree.{num, sized, const, name, Expr, Stmt, seq, branch, cases, Arms, otherwise, skip, Item, wire, upto}
 use Rattle.verilog_tree.specs.Tree.{count, wide, size, constant, clocked, logic, one_of, two, plus}
 use Rattle.circuit_module.specs.Fixed.{set, block, no_row}
-use Rattle.circuit_module.specs.Sizes.{channel_bits, fork_bits}
+use Rattle.circuit_module.specs.Sizes.{channel_bits}
 use Rattle.circuit_module.specs.Module.{row_arm}
 use Rattle.cell_module.specs.Fixed.{cell_ports, cell_port_notes, cell_constants, cell_registers, way_wires, next_row_notes, next_row_block}
 use Rattle.cell_module.specs.Fixed.{list_wires, cell_fork_wires, number_wires, no_cell_multiplier, cell_clock_notes, cell_clock, does}
@@ -38,10 +38,10 @@ no_rows = otherwise skip
 abbrev pub row_block : Arms → Stmt
 row_block rows = seq no_row (cases (name "goes") rows)
 
--- the bits of a channel, of a fork's number, of a cell's place and of a pointer
+-- the bits of a channel, of the count of open forks, of a cell's place and of a pointer
 abbrev pub widths : (wires : ℕ) → Sizes → List Item
 widths wires z =
-    size "C" (channel_bits wires) ∷ size "S" (fork_bits z.forks) ∷ size "P" (place_bits z.cells) ∷ size "WORD" (pointer_bits z.cells) ∷ []
+    size "C" (channel_bits wires) ∷ size "S" (place_bits z.forks) ∷ size "P" (place_bits z.cells) ∷ size "WORD" (pointer_bits z.cells) ∷ []
 
 -- of all marks, signatures and boxes
 abbrev pub lengths : Sizes → List Item
@@ -58,7 +58,7 @@ begins_at wires start = constant (wide (count (channel_bits wires))) "START" sta
 
 -- what the numbers come to, up to the product
 abbrev pub before_product : List Item
-before_product = take 8 (number_wires no_cell_multiplier)
+before_product = take 6 (number_wires no_cell_multiplier)
 
 -- the product
 abbrev pub product_wire : Expr → Item
@@ -66,13 +66,13 @@ product_wire e = wire (upto (count 127)) "product" e
 
 -- and what follows from it
 abbrev pub behind_product : List Item
-behind_product = drop 9 (number_wires no_cell_multiplier)
+behind_product = drop 7 (number_wires no_cell_multiplier)
 
 -- a cell is made, or cells are read
 abbrev pub cells_move : Stmt
 cells_move = branch (does "MAKES") make_cell read_cells
 
--- a fork is opened, or an answer goes on with its fork
+-- a fork is opened, or what the innermost one has is read
 abbrev pub forks_move : Stmt
 forks_move = branch (does "FORKS") open_fork other_fork
 

@@ -69,34 +69,16 @@ static CELL_RESET: Statement<'static> = Statement::Seq(
         &Statement::Seq(
             &Statement::Put(Place::Whole(b"boxes"), Expression::Number(0)),
             &Statement::Seq(
-                &Statement::Put(Place::Whole(b"mine"), Expression::Number(0)),
+                &Statement::Put(Place::Whole(b"top"), Expression::Number(0)),
                 &Statement::Seq(
-                    &Statement::Put(Place::Whole(b"top"), Expression::Number(0)),
+                    &Statement::Put(Place::Whole(b"depth"), Expression::Number(0)),
                     &Statement::Seq(
-                        &Statement::Put(Place::Whole(b"first"), Expression::Number(0)),
+                        &Statement::Put(Place::Whole(b"done"), Expression::Number(0)),
                         &Statement::Seq(
-                            &Statement::Put(Place::Whole(b"last"), Expression::Number(0)),
+                            &Statement::Put(Place::Whole(b"result"), Expression::Number(0)),
                             &Statement::Seq(
-                                &Statement::Put(Place::Whole(b"open"), Expression::Number(0)),
-                                &Statement::Seq(
-                                    &Statement::Put(Place::Whole(b"done"), Expression::Number(0)),
-                                    &Statement::Seq(
-                                        &Statement::Put(
-                                            Place::Whole(b"result"),
-                                            Expression::Number(0),
-                                        ),
-                                        &Statement::Seq(
-                                            &Statement::Put(
-                                                Place::Whole(b"full"),
-                                                Expression::Number(0),
-                                            ),
-                                            &Statement::Put(
-                                                Place::Whole(b"moves"),
-                                                Expression::Number(0),
-                                            ),
-                                        ),
-                                    ),
-                                ),
+                                &Statement::Put(Place::Whole(b"full"), Expression::Number(0)),
+                                &Statement::Put(Place::Whole(b"moves"), Expression::Number(0)),
                             ),
                         ),
                     ),

@@ -146,12 +146,6 @@ pub(crate) const JOINS: Expression<'static> = Expression::Bit(
     &Expression::Constant(b"JOINS"),
 );
 
-/// It arrives from the left.
-pub(crate) const IS_LEFT: Expression<'static> = Expression::Bit(
-    b"does",
-    &Expression::Constant(b"IS_LEFT"),
-);
-
 /// Its fork subtracts.
 pub(crate) const SUBTRACTS: Expression<'static> = Expression::Bit(
     b"does",

@@ -6,7 +6,7 @@ ghost use Rattle.verilog_tree.specs.Views.{item_of};
 
 use crate::arena::add_fixed;
 use crate::deeds::{
-    BOX_CELL, BOX_DROP, BOX_NEW, BOX_SIG, BOX_STAR, MARK_LEFT, MARK_POP, MARK_PUSH, MARKED,
+    BOX_CELL, BOX_DROP, BOX_NEW, BOX_SIG, BOX_STAR, JOINS, MARK_LEFT, MARK_POP, MARK_PUSH, MARKED,
     SIG_BOX, SIG_CELL, SIG_DROP, SIG_NEW, SIG_STAR,
 };
 use std::alloc::AllocError;
@@ -132,17 +132,13 @@ static LIST_WIRES: [Item<'static>; 19] = [
         Range::Wide(Extent::Named(b"G")),
         b"next_sigs",
         Expression::Pick(
-            &Expression::Name(b"first_answer"),
-            &Expression::Number(0),
-            &Expression::Pick(
-                &Expression::Name(b"sig_push"),
-                &Expression::Part(
-                    b"more_sigs",
-                    Extent::Less(&Extent::Named(b"G"), &Extent::Count(1)),
-                    Extent::Count(0),
-                ),
-                &Expression::Name(b"sigs_left"),
+            &Expression::Name(b"sig_push"),
+            &Expression::Part(
+                b"more_sigs",
+                Extent::Less(&Extent::Named(b"G"), &Extent::Count(1)),
+                Extent::Count(0),
             ),
+            &Expression::Name(b"sigs_left"),
         ),
     ),
     Item::Wire(
@@ -200,8 +196,8 @@ static LIST_WIRES: [Item<'static>; 19] = [
         Range::Wide(Extent::Named(b"B")),
         b"next_boxes",
         Expression::Pick(
-            &Expression::Name(b"first_answer"),
-            &Expression::Name(b"asked_boxes"),
+            &JOINS,
+            &Expression::Name(b"fork_boxes"),
             &Expression::Pick(
                 &Expression::Name(b"box_push"),
                 &Expression::Part(

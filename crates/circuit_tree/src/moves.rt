@@ -6,7 +6,6 @@ ghost use Rattle.circuit_tree.specs.Parts.{cells_move, forks_move, counted};
 ghost use Rattle.verilog_tree.specs.Views.{stmt_of};
 
 use crate::deeds::{ENDS, FORKS, IS_CONST, IS_PRED, IS_SUCC, JOINS, MAKES, STUCK};
-use crate::forks::NEXT_LAST;
 use crate::lists::{TOP_BOX, TOP_SIG};
 use crate::numbers::IS_OVERFLOW;
 use verilog_tree::{Comparison, Connective, Expression, Operation, Place, Statement};
@@ -61,7 +60,7 @@ const MAKE_CELL: Statement<'static> = Statement::Seq(
     ),
 );
 
-/// The cells at the tops of the lists that come.
+/// The cells at the tops of the lists that come; and at an answer the cells of its fork's time.
 const READ_CELLS: Statement<'static> = Statement::Seq(
     &Statement::Put(
         Place::Whole(b"sig_first"),
@@ -77,9 +76,12 @@ const READ_CELLS: Statement<'static> = Statement::Seq(
                 Place::Whole(b"box_first"),
                 Expression::Word(b"box_firsts", &Expression::Name(b"box_place")),
             ),
-            &Statement::Put(
-                Place::Whole(b"box_second"),
-                Expression::Word(b"box_seconds", &Expression::Name(b"box_place")),
+            &Statement::Seq(
+                &Statement::Put(
+                    Place::Whole(b"box_second"),
+                    Expression::Word(b"box_seconds", &Expression::Name(b"box_place")),
+                ),
+                &Statement::Put(Place::Whole(b"top"), Expression::Name(b"next_top")),
             ),
         ),
     ),
@@ -95,62 +97,32 @@ pub(crate) fn cells_move<'a>() -> &'a Statement<'a>
     &CELLS_MOVE
 }
 
-/// A fork is opened, and its right question waits.
+/// A fork is opened, with the token's boxes.
 const OPEN_FORK: Statement<'static> = Statement::Seq(
     &Statement::Put(
-        Place::Bit(b"open", Expression::Name(b"free")),
-        Expression::Number(1),
+        Place::Word(b"forks_boxes", Expression::Name(b"depth")),
+        Expression::Name(b"boxes"),
     ),
-    &Statement::Seq(
-        &Statement::Put(
-            Place::Word(b"queue", Expression::Name(b"last")),
-            Expression::Cat(&Expression::Name(b"side"), &Expression::Name(b"free")),
-        ),
-        &Statement::Seq(
-            &Statement::Put(
-                Place::Word(b"queue_boxes", Expression::Name(b"last")),
-                Expression::Name(b"boxes"),
-            ),
-            &Statement::Seq(
-                &Statement::Put(Place::Whole(b"last"), NEXT_LAST),
-                &Statement::Put(Place::Whole(b"mine"), Expression::Name(b"free")),
-            ),
+    &Statement::Put(
+        Place::Whole(b"depth"),
+        Expression::Two(
+            Operation::Plus,
+            &Expression::Name(b"depth"),
+            &Expression::Number(1),
         ),
     ),
 );
 
-/// The question that waits longest.
-const READ_QUEUE: Statement<'static> = Statement::Seq(
-    &Statement::Put(
-        Place::Whole(b"asked"),
-        Expression::Word(b"queue", &Expression::Name(b"next_first")),
-    ),
-    &Statement::Put(
-        Place::Whole(b"asked_boxes"),
-        Expression::Word(b"queue_boxes", &Expression::Name(b"next_first")),
-    ),
-);
-
-/// An answer goes on with its fork, and the second one closes it.
+/// Else the boxes of the innermost fork are read; a second answer closes its fork.
 const OTHER_FORK: Statement<'static> = Statement::Seq(
-    &READ_QUEUE,
-    &Statement::Seq(
-        &Statement::Put(Place::Whole(b"mine"), Expression::Name(b"next_mine")),
-        &Statement::Seq(
-            &Statement::Put(Place::Whole(b"first"), Expression::Name(b"next_first")),
-            &Statement::Branch(
-                Expression::Logic(Connective::Both, &JOINS, &Expression::Name(b"answered")),
-                &Statement::Put(
-                    Place::Bit(b"open", Expression::Name(b"mine")),
-                    Expression::Number(0),
-                ),
-                &Statement::Skip,
-            ),
-        ),
+    &Statement::Put(
+        Place::Whole(b"fork_boxes"),
+        Expression::Word(b"forks_boxes", &Expression::Name(b"next_fork")),
     ),
+    &Statement::Put(Place::Whole(b"depth"), Expression::Name(b"next_depth")),
 );
 
-/// A fork is opened, or an answer goes on with its fork.
+/// A fork is opened, or what the innermost one has is read.
 static FORKS_MOVE: Statement<'static> = Statement::Branch(FORKS, &OPEN_FORK, &OTHER_FORK);
 
 /// The same, lent for as long as it is wanted.
@@ -160,7 +132,7 @@ pub(crate) fn forks_move<'a>() -> &'a Statement<'a>
     &FORKS_MOVE
 }
 
-/// A fork that is opened has no answer; the first answer is kept; else what the token's fork has is read.
+/// A fork that is opened has no answer; the first answer is kept; else what the innermost fork has is read.
 static NOTE_ANSWER: Statement<'static> = Statement::Branch(
     Expression::Logic(
         Connective::OneOf,
@@ -170,13 +142,16 @@ static NOTE_ANSWER: Statement<'static> = Statement::Branch(
     &Statement::Put(
         Place::Word(b"forks", Expression::Name(b"slot")),
         Expression::Cat(
-            &Expression::Name(b"slot_around"),
-            &Expression::Cat(&JOINS, &Expression::Name(b"result")),
+            &Expression::Name(b"side"),
+            &Expression::Cat(
+                &Expression::Name(b"next_top"),
+                &Expression::Cat(&JOINS, &Expression::Name(b"result")),
+            ),
         ),
     ),
     &Statement::Put(
         Place::Whole(b"fork_has"),
-        Expression::Word(b"forks", &Expression::Name(b"next_mine")),
+        Expression::Word(b"forks", &Expression::Name(b"next_fork")),
     ),
 );
 
@@ -203,7 +178,7 @@ static VALUE_MOVE: Statement<'static> = Statement::Branch(
                 Expression::Logic(
                     Connective::OneOf,
                     &IS_OVERFLOW,
-                    &Expression::Not(&Expression::Name(b"result")),
+                    &Expression::Not(&Expression::Any(&Expression::Name(b"result"))),
                 ),
                 &Statement::Skip,
                 &Statement::Put(
@@ -216,7 +191,7 @@ static VALUE_MOVE: Statement<'static> = Statement::Branch(
                 ),
             ),
             &Statement::Branch(
-                Expression::Logic(Connective::Both, &JOINS, &Expression::Name(b"answered")),
+                Expression::Name(b"second_answer"),
                 &Statement::Put(Place::Whole(b"result"), Expression::Name(b"both")),
                 &Statement::Skip,
             ),
@@ -248,7 +223,11 @@ const NO_ROOM: Expression<'static> = Expression::Logic(
         &Expression::Logic(
             Connective::Both,
             &FORKS,
-            &Expression::Every(&Expression::Name(b"open")),
+            &Expression::Test(
+                Comparison::Same,
+                &Expression::Name(b"depth"),
+                &Expression::Constant(b"E"),
+            ),
         ),
         &STUCK,
     ),

@@ -7,7 +7,7 @@ ghost use Rattle.circuit_tree.specs.Parts.{before_product, product_wire, behind_
 ghost use Rattle.verilog_tree.specs.Views.{item_of};
 
 use crate::arena::add_fixed;
-use crate::deeds::{IS_LEFT, MULTIPLIES, SUBTRACTS};
+use crate::deeds::{MULTIPLIES, SUBTRACTS};
 use std::alloc::AllocError;
 use verilog_tree::{Comparison, Connective, Expression, Extent, Item, Operation, Range};
 
@@ -30,11 +30,11 @@ const KEPT_LONGER: Expression<'static> = Expression::Cat(
 );
 
 /// The sum and the difference of the kept answer and the token's.
-static BEFORE_PRODUCT: [Item<'static>; 8] = [
+static BEFORE_PRODUCT: [Item<'static>; 6] = [
     Item::Gap,
     Item::Note(b"---- numbers"),
     Item::Gap,
-    Item::Note(b"What the kept answer and the token's come to, and the token's with one more."),
+    Item::Note(b"What the left answer and the token's come to, and the token's with one more."),
     Item::Wire(
         Range::UpTo(Extent::Count(64)),
         b"sum",
@@ -42,36 +42,18 @@ static BEFORE_PRODUCT: [Item<'static>; 8] = [
     ),
     Item::Wire(
         Range::UpTo(Extent::Count(64)),
-        b"minuend",
-        Expression::Pick(
-            &IS_LEFT,
-            &Expression::Name(b"result"),
-            &Expression::Name(b"kept"),
-        ),
-    ),
-    Item::Wire(
-        Range::UpTo(Extent::Count(64)),
-        b"subtrahend",
-        Expression::Pick(
-            &IS_LEFT,
-            &Expression::Name(b"kept"),
-            &Expression::Name(b"result"),
-        ),
-    ),
-    Item::Wire(
-        Range::UpTo(Extent::Count(64)),
         b"difference",
         Expression::Pick(
             &Expression::Test(
                 Comparison::Below,
-                &Expression::Name(b"minuend"),
-                &Expression::Name(b"subtrahend"),
+                &Expression::Name(b"kept"),
+                &Expression::Name(b"result"),
             ),
             &Expression::Sized(65, 0),
             &Expression::Two(
                 Operation::Minus,
-                &Expression::Name(b"minuend"),
-                &Expression::Name(b"subtrahend"),
+                &Expression::Name(b"kept"),
+                &Expression::Name(b"result"),
             ),
         ),
     ),

@@ -39,9 +39,9 @@ static PORT_NOTES: [Item<'static>; 9] = [
     Item::Note(b"---- sizes"),
     Item::Gap,
     Item::Note(
-        b"The bits of a channel, of a fork's number and of a cell's place; the bits of all marks, signatures and boxes that a",
+        b"The bits of a channel, of the count of open forks and of a cell's place; the bits of all marks, signatures and boxes",
     ),
-    Item::Note(b"token may have; the cells, and the forks that can be open at once."),
+    Item::Note(b"that a token may have; the cells, and the forks that can be open at once."),
 ];
 
 /// Appends what a reader of the text wants to know of them.

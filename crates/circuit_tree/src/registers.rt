@@ -8,36 +8,39 @@ use crate::arena::add_fixed;
 use std::alloc::AllocError;
 use verilog_tree::{Extent, Item, Range};
 
-/// The token, the cells, the ring of questions that wait, and the forks.
-static REGISTERS: [Item<'static>; 41] = [
+/// The bits of what a fork has besides its boxes: channel, cells, whether it is answered, and the answer.
+const FORK_WIDE: Range<'static> = Range::Wide(Extent::More(
+    &Extent::Named(b"C"),
+    &Extent::More(&Extent::Named(b"P"), &Extent::Count(66)),
+));
+
+/// The token, the cells, and the open forks.
+static REGISTERS: [Item<'static>; 35] = [
     Item::Gap,
     Item::Note(b"---- registers"),
     Item::Gap,
     Item::Note(
         b"The token: its value is `result`; the row of its channel, as what it does, both channels that it sends to, and a",
     ),
-    Item::Note(
-        b"number; its marks, signatures and boxes, the top at bit 0; and its fork, the innermost one that is open around it.",
-    ),
+    Item::Note(b"number; its marks, signatures and boxes, the top at bit 0."),
     Item::Note(
         b"A signature is a pointer to a cell: the cell's place, and a mark at bit 0, which is 1 at a right one and at one of",
     ),
     Item::Note(
         b"a call from a call. A channel is a wire with a direction: 2 w is up wire w, and 2 w + 1 is down wire w.",
     ),
-    Item::Reg(Range::UpTo(Extent::Count(28)), b"does"),
+    Item::Reg(Range::UpTo(Extent::Count(27)), b"does"),
     Item::Reg(Range::Wide(Extent::Named(b"C")), b"main"),
     Item::Reg(Range::Wide(Extent::Named(b"C")), b"side"),
     Item::Reg(Range::UpTo(Extent::Count(63)), b"literal"),
     Item::Reg(Range::Wide(Extent::Named(b"D")), b"marks"),
     Item::Reg(Range::Wide(Extent::Named(b"G")), b"sigs"),
     Item::Reg(Range::Wide(Extent::Named(b"B")), b"boxes"),
-    Item::Reg(Range::Wide(Extent::Named(b"S")), b"mine"),
     Item::Gap,
     Item::Note(
         b"The cells: what the signature of a cell's pointer has below its root. Two copies of them, one read at the top",
     ),
-    Item::Note(b"signature and one at the top box; and how many there are."),
+    Item::Note(b"signature and one at the top box; and how many are in use."),
     Item::Memory(
         Range::UpTo(Extent::Named(b"P")),
         b"sig_firsts",
@@ -65,40 +68,21 @@ static REGISTERS: [Item<'static>; 41] = [
     Item::Reg(Range::UpTo(Extent::Named(b"P")), b"box_second"),
     Item::Gap,
     Item::Note(
-        b"The right questions that wait, in a ring: channel and fork, and boxes; and the one that waits longest.",
+        b"The open forks, the innermost last, and how many there are. A fork has the channel of its right question, the cells",
     ),
-    Item::Memory(
-        Range::Wide(Extent::More(&Extent::Named(b"C"), &Extent::Named(b"S"))),
-        b"queue",
-        Extent::Named(b"E"),
+    Item::Note(
+        b"that were in use when it was opened, whether its left answer is there, and that answer; and the boxes at which it",
     ),
+    Item::Note(b"was opened. What the innermost fork has was read from these memories."),
+    Item::Memory(FORK_WIDE, b"forks", Extent::Named(b"E")),
     Item::Memory(
         Range::Wide(Extent::Named(b"B")),
-        b"queue_boxes",
+        b"forks_boxes",
         Extent::Named(b"E"),
     ),
-    Item::Reg(Range::Wide(Extent::Named(b"S")), b"first"),
-    Item::Reg(Range::Wide(Extent::Named(b"S")), b"last"),
-    Item::Reg(
-        Range::Wide(Extent::More(&Extent::Named(b"C"), &Extent::Named(b"S"))),
-        b"asked",
-    ),
-    Item::Reg(Range::Wide(Extent::Named(b"B")), b"asked_boxes"),
-    Item::Gap,
-    Item::Note(
-        b"The forks: which are open, and of each one the fork around it, whether it has its first answer, and that answer;",
-    ),
-    Item::Note(b"and the last three of the token's own fork."),
-    Item::Reg(Range::Wide(Extent::Named(b"E")), b"open"),
-    Item::Memory(
-        Range::Wide(Extent::More(&Extent::Named(b"S"), &Extent::Count(66))),
-        b"forks",
-        Extent::Named(b"E"),
-    ),
-    Item::Reg(
-        Range::Wide(Extent::More(&Extent::Named(b"S"), &Extent::Count(66))),
-        b"fork_has",
-    ),
+    Item::Reg(Range::Wide(Extent::Named(b"S")), b"depth"),
+    Item::Reg(FORK_WIDE, b"fork_has"),
+    Item::Reg(Range::Wide(Extent::Named(b"B")), b"fork_boxes"),
 ];
 
 /// Appends the registers.
@@ -117,7 +101,7 @@ static NEXT_ROW: [Item<'static>; 9] = [
         b"The row that the token comes to: an operation, the channel that it sends to, the other one if it has two, and a",
     ),
     Item::Note(b"number if it has one."),
-    Item::Reg(Range::UpTo(Extent::Count(28)), b"op"),
+    Item::Reg(Range::UpTo(Extent::Count(27)), b"op"),
     Item::Reg(Range::Wide(Extent::Named(b"C")), b"to"),
     Item::Reg(Range::Wide(Extent::Named(b"C")), b"other"),
     Item::Reg(Range::UpTo(Extent::Count(63)), b"number"),

@@ -15,7 +15,7 @@ use crate::arena::{put_arms, put_seq, put_statement};
 use bumpalo::Bump;
 use circuit_rows::{Channel, Found, Row, row_of};
 use net_build::Net;
-use pcf_values::{Operator, Side};
+use pcf_values::Operator;
 use std::alloc::AllocError;
 use verilog_tree::{Cases, Expression, Item, Place, Remark, Statement};
 
@@ -95,18 +95,14 @@ fn constant<'a>(bump: &'a Bump, n: u64, to: Channel) -> Result<&'a Statement<'a>
 fn join<'a>(
     bump: &'a Bump,
     operator: Operator,
-    side: Side,
     to: Channel,
 ) -> Result<&'a Statement<'a>, AllocError>
-    ensures { IfOk result (λ r. stmt_of r.now ≡ to_one (join_name operator side) (channel_of to)) }
+    ensures { IfOk result (λ r. stmt_of r.now ≡ to_one (join_name operator) (channel_of to)) }
 {
-    match (operator, side) {
-        (Operator::Plus, Side::Left) => to_one(bump, b"PLUSL", to),
-        (Operator::Plus, Side::Right) => to_one(bump, b"PLUSR", to),
-        (Operator::Minus, Side::Left) => to_one(bump, b"MINUSL", to),
-        (Operator::Minus, Side::Right) => to_one(bump, b"MINUSR", to),
-        (Operator::Times, Side::Left) => to_one(bump, b"TIMESL", to),
-        (Operator::Times, Side::Right) => to_one(bump, b"TIMESR", to),
+    match operator {
+        Operator::Plus => to_one(bump, b"PLUS", to),
+        Operator::Minus => to_one(bump, b"MINUS", to),
+        Operator::Times => to_one(bump, b"TIMES", to),
     }
 }
 
@@ -121,11 +117,7 @@ fn row_statement<'a>(bump: &'a Bump, row: Row) -> Result<&'a Statement<'a>, Allo
         Row::Pred { to } => to_one(bump, b"PRED", to),
         Row::Test { zero, other } => to_two(bump, b"TEST", zero, other),
         Row::Fork { left, right } => to_two(bump, b"FORK", left, right),
-        Row::Join {
-            operator,
-            side,
-            wire,
-        } => join(bump, operator, side, Channel { wire, up: false }),
+        Row::Join { operator, wire, .. } => join(bump, operator, Channel { wire, up: false }),
         Row::Answer => operation(bump, b"ANSWER"),
         Row::Star { to } => to_one(bump, b"STAR", to),
         Row::Unstar { to } => to_one(bump, b"UNSTAR", to),

@@ -8,7 +8,7 @@ ghost use Rattle.verilog_tree.specs.Names.{text_of};
 ghost use Rattle.verilog_tree.specs.Tree.{size};
 ghost use Rattle.verilog_tree.specs.Views.{item_of};
 
-use circuit_sizes::{CircuitSizes, channel_bits, fork_bits, list_bits, place_bits, pointer_bits};
+use circuit_sizes::{CircuitSizes, channel_bits, list_bits, place_bits, pointer_bits};
 use std::alloc::AllocError;
 use verilog_tree::{Extent, Item, Range};
 
@@ -27,12 +27,12 @@ fn add_size<'a>(items: &mut Vec<Item<'a>>, name: &'a [u8], n: u64) -> Result<(),
     Ok(())
 }
 
-/// Appends the bits of a channel, of a fork's number, of a cell's place and of a pointer.
+/// Appends the bits of a channel, of the count of open forks, of a cell's place and of a pointer.
 fn add_widths<'a>(items: &mut Vec<Item<'a>>, wires: u32, z: CircuitSizes) -> Result<(), AllocError>
     ensures { OnOk result (map item_of items.new.items ≡ map item_of items.old.items ++ widths wires (sizes_view z)) }
 {
     add_size(items, b"C", channel_bits(wires))?;
-    add_size(items, b"S", fork_bits(z.forks))?;
+    add_size(items, b"S", place_bits(z.forks))?;
     add_size(items, b"P", place_bits(z.cells))?;
     add_size(items, b"WORD", pointer_bits(z.cells))
 }

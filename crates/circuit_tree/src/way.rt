@@ -9,23 +9,35 @@ use crate::deeds::{BY_BOX, BY_MARK, BY_SIG, BY_VALUE, JOINS};
 use std::alloc::AllocError;
 use verilog_tree::{Connective, Expression, Extent, Item, Range};
 
-/// What the token's fork has, the question that waits longest, and the channel that the token comes to.
+/// What the innermost fork has, and the channel that the token comes to.
 static WAY_WIRES: [Item<'static>; 14] = [
     Item::Gap,
     Item::Note(b"---- where the token goes"),
     Item::Gap,
     Item::Note(
-        b"What its fork has, and the question that waits longest. Whether it goes on with what a cell has; whether its answer",
+        b"What the innermost fork has. Whether the token goes on with what a cell has; whether its answer is the first at its",
     ),
     Item::Note(
-        b"is the first at its fork, so that this question is the next token; and the channel that it comes to.",
+        b"fork, so that the fork's right question is the next token, or the second; and the channel that the token comes to.",
     ),
     Item::Wire(
-        Range::Wide(Extent::Named(b"S")),
-        b"around",
+        Range::Wide(Extent::Named(b"C")),
+        b"fork_at",
         Expression::Part(
             b"fork_has",
-            Extent::More(&Extent::Named(b"S"), &Extent::Count(65)),
+            Extent::More(
+                &Extent::Named(b"C"),
+                &Extent::More(&Extent::Named(b"P"), &Extent::Count(65)),
+            ),
+            Extent::More(&Extent::Named(b"P"), &Extent::Count(66)),
+        ),
+    ),
+    Item::Wire(
+        Range::Wide(Extent::Named(b"P")),
+        b"fork_top",
+        Expression::Part(
+            b"fork_has",
+            Extent::More(&Extent::Named(b"P"), &Extent::Count(65)),
             Extent::Count(66),
         ),
     ),
@@ -38,27 +50,6 @@ static WAY_WIRES: [Item<'static>; 14] = [
         Range::UpTo(Extent::Count(64)),
         b"kept",
         Expression::Part(b"fork_has", Extent::Count(64), Extent::Count(0)),
-    ),
-    Item::Wire(
-        Range::Wide(Extent::Named(b"C")),
-        b"next_at",
-        Expression::Part(
-            b"asked",
-            Extent::Less(
-                &Extent::More(&Extent::Named(b"C"), &Extent::Named(b"S")),
-                &Extent::Count(1),
-            ),
-            Extent::Named(b"S"),
-        ),
-    ),
-    Item::Wire(
-        Range::Wide(Extent::Named(b"S")),
-        b"asked_mine",
-        Expression::Part(
-            b"asked",
-            Extent::Less(&Extent::Named(b"S"), &Extent::Count(1)),
-            Extent::Count(0),
-        ),
     ),
     Item::Wire(
         Range::One,
@@ -77,6 +68,11 @@ static WAY_WIRES: [Item<'static>; 14] = [
             &JOINS,
             &Expression::Not(&Expression::Name(b"answered")),
         ),
+    ),
+    Item::Wire(
+        Range::One,
+        b"second_answer",
+        Expression::Logic(Connective::Both, &JOINS, &Expression::Name(b"answered")),
     ),
     Item::Wire(
         Range::One,
@@ -115,7 +111,7 @@ static WAY_WIRES: [Item<'static>; 14] = [
             &Expression::Constant(b"START"),
             &Expression::Pick(
                 &Expression::Name(b"first_answer"),
-                &Expression::Name(b"next_at"),
+                &Expression::Name(b"fork_at"),
                 &Expression::Pick(
                     &Expression::Name(b"aside"),
                     &Expression::Name(b"side"),
