@@ -1,213 +1,233 @@
--- One move more of the one worker, counted.
-use Rattle.std.proofs.Common.{◌≡◌, ℕ, zero, suc, ◌+◌, ◌≤◌, ◌<◌, false, cond, [], ◌∷◌, ◌++◌, length}
+-- One move more with the newest question first, counted.
+use Rattle.std.proofs.Common.{◌≡◌, ℕ, zero, suc, ◌+◌, ◌-◌, ◌<◌, ◌≤◌, Bool, true, false, cond, [], ◌∷◌, ◌++◌, length}
 use Rattle.std.proofs.Common.{Option, Some, None, refl, sym, ap, ◌∙◌, subst, ⊎_elim, arith}
-use Rattle.std.proofs.lemmas.Bool.{cases_lt, eq-eqb, ne_eqb}
+use Rattle.std.proofs.lemmas.Bool.{cases_lt, eq-eqb}
 use Rattle.std.proofs.lemmas.List.{length-append}
 use Rattle.std.specs.Prelude.{max}
 use Rattle.std.specs.FinMap.{get}
+use Rattle.std.specs.Option.{IsSome, option_map}
 use Rattle.pcf_values.specs.Most.{most_budget}
 use Rattle.net_build.specs.Nets.{NetTree}
-use Rattle.move_rules.specs.Places.{TokenTree, place_of}
+use Rattle.move_rules.specs.Places.{TokenTree}
 use Rattle.move_rules.specs.Moves.{move}
 use Rattle.move_rules.proofs.Facing.{one_some}
 use Rattle.interleave_laws.specs.Start.{start_of}
-use Rattle.interleave_laws.specs.Runs.{Runs, LeadsTo}
-use Rattle.interleave_laws.specs.OneWorker.{one}
-use Rattle.interleave_laws.specs.Maps.{MapState, start_map, step_map, LeadsToMap, seen}
+use Rattle.interleave_laws.specs.States.{State}
+use Rattle.interleave_laws.specs.Finished.{Finished}
+use Rattle.interleave_laws.specs.Runs.{Runs}
+use Rattle.interleave_laws.specs.Maps.{MapState, start_map, step_map, run_map, then_run_map, LeadsToMap, seen}
 use Rattle.interleave_laws.specs.MapRuns.{IsReachedWithin}
-use Rattle.interleave_laws.specs.Tickets.{NoneLive, IsLeastLive}
-use Rattle.interleave_laws.proofs.Going.{the_some}
-use Rattle.interleave_laws.proofs.MapLaws.{seen_leads}
-use Rattle.interleave_laws.proofs.OneWorker.{one_finished}
+use Rattle.interleave_laws.specs.Tickets.{IsLive}
+use Rattle.interleave_laws.proofs.Seen.{start_seen}
+use Rattle.interleave_laws.proofs.MapLaws.{seen_leads, run_both}
 use Rattle.adequacy_laws.specs.FinishedLaws.{TellsLength}
 use Rattle.adequacy_laws.proofs.Finishing.{map_finished_tells}
 use Rattle.interleave_core.specs.declared.stepped.Stepped.{Stepped}
-use Rattle.interleave_core.specs.declared.stepped.Stepped.TheVariants.{Went, Forked, Kept, Joined, Answered}
 use Rattle.interleave_core.specs.Names.{step_name, name_on, name_of}
-use Rattle.interleave_core.specs.Alone.{RunsAlone}
-use Rattle.interleave_core.proofs.AloneRuns.{goes_on, idle}
-use Rattle.circuit_core.specs.Rows.{Row, LEFT, row_of, channel_of}
 use Rattle.circuit_core.specs.RowMoves.{by_rows}
-use Rattle.circuit_core.specs.Processor.{Registers, does, tick_on, tick, ticks, reset, token_at, ring_at}
-use Rattle.circuit_core.specs.Enough.{forks_peak}
-use Rattle.circuit_core.proofs.Rows.{law}
-use Rattle.circuit_core.proofs.Ring.{Order, chain_none}
-use Rattle.circuit_core.proofs.Processor.{Fits, fitting, last_tick, none_some}
-use Rattle.cell_core.specs.Enough.{makes, makes_on, makes_at, cells_made}
-use Rattle.cell_core.proofs.Enough.{last_made}
-use Rattle.circuit_needs.specs.Counting.{makes_by, open_behind, IsCounted}
-use Rattle.circuit_needs.proofs.OpenForks.{ticks_once, does_open}
+use Rattle.newest_core.specs.Processor.{Registers, does, counted, tick_on, tick, ticks, reset, on_live, fired, newest, token_at}
+use Rattle.newest_core.specs.Processor.{waiting_at}
+use Rattle.newest_core.specs.ProcessorLaws.{Shows, Follows}
+use Rattle.newest_core.proofs.Processor.{tick_last, follows, row_moves, forks_nest}
+use Rattle.circuit_needs.specs.declared.walk.Walk.{Walk}
+use Rattle.circuit_needs.specs.Counting.{makes_by, GoesOn, IsWalk, IsCounted}
+use Rattle.circuit_needs.proofs.Walking.{kept_long, does_walk}
+use Rattle.circuit_needs.proofs.Few.{few_ticks, forks_more, cells_more}
 
 -- nothing is counted yet
-pub counted_none : (net : NetTree) → IsCounted net (start_map (start_of net)) 0 0 0 0
-counted_none net = record {
+pub counted_none : (net : NetTree) (w : Walk) → w.ticket ≡ Some 0 → w.forks.items ≡ [] → w.cells ≡ 0 →
+    IsCounted net (start_map (start_of net)) w 0 0 0
+counted_none net w t f c = record {
   leads = refl;
   made = refl;
+  shows = subst (Shows (reset net)) (sym (start_seen (start_of net)))
+      (record { tokens = λ j. refl; entries = λ n t. refl; next = refl; answered = refl });
+  walk = record { ticket = t; forks = f; cells = c };
   counts_cells = refl;
   counts_forks = refl;
-  counts_peak = refl;
-  few_cells = omega arith;
-  few_forks = omega arith;
 }
 
--- a move makes at most one cell
-few_made : (net : NetTree) (o : Option TokenTree) → makes_by net o ≤ 1
-few_made net None = omega arith
-few_made net (Some x) = found (row_of net (channel_of (place_of x)))
+none_some : {A : Type 0} (a : A) → None ≡ Some a → ⊥
+none_some a h = cc
+
+-- without a current token nothing moves
+tick_rest : (net : NetTree) (R : Registers) → R.live ≡ None → (tick net R).live ≡ None
+tick_rest net R e = go R.full R.live e
   where
-    row : (r : Row) → makes r ≤ 1
-    row (LEFT c) = omega arith
-    row r = omega arith
+    go : (b : Bool) (c : Option (ℕ × TokenTree)) → c ≡ None → (cond b R (tick_on net c R)).live ≡ None
+    go true c h = e
+    go false None h = e
+    go false (Some c) h = absurd cc
 
-    found : (o : Option (ℕ × Row)) → makes_on o ≤ 1
-    found None = omega arith
-    found (Some r) = row r.1
+ticks_rest : (net : NetTree) (k : ℕ) (R : Registers) → R.live ≡ None → (ticks net k R).live ≡ None
+ticks_rest net zero R e = e
+ticks_rest net (suc k) R e = ticks_rest net k (tick net R) (tick_rest net R e)
 
--- a step opens at most one fork
-few_opened : (s : Stepped) (n : ℕ) → open_behind s n ≤ suc n
-few_opened Went n = omega arith
-few_opened (Forked i) n = omega arith
-few_opened Kept n = omega arith
-few_opened (Joined u v) n = omega arith
-few_opened (Answered v) n = omega arith
+fires_none : (net : NetTree) (k : ℕ) (R : Registers) → R.live ≡ None → fired net k R ≡ []
+fires_none net zero R e = refl
+fires_none net (suc k) R e = ap (λ c. on_live c (fired net k (tick net R))) e
 
--- the most within one tick more
-peak_more : (net : NetTree) (k : ℕ) (R : Registers) →
-    forks_peak net (suc k) R ≡ max (forks_peak net k R) (length (ticks net (suc k) R).forks)
-peak_more net zero R = refl
-peak_more net (suc k) R =
-    let h = peak_more net k (tick net R) in
-    ap (max (length R.forks)) h ∙ three (length R.forks) (forks_peak net k (tick net R)) (length (ticks net (suc k) (tick net R)).forks)
+-- nothing is behind a moment without one
+fired_idle : (net : NetTree) (k d : ℕ) (R : Registers) → (ticks net k R).live ≡ None → fired net (k + d) R ≡ fired net k R
+fired_idle net zero d R e = ap (λ n. fired net n R) {y = d} (omega arith) ∙ fires_none net d R e
+fired_idle net (suc k) d R e =
+    ap (λ n. fired net n R) {y = suc (k + d)} (omega arith) ∙ ap (on_live R.live) (fired_idle net k d (tick net R) e)
+
+-- and else the current ticket is
+fired_last : (net : NetTree) (k : ℕ) (R : Registers) (i : ℕ) (x : TokenTree) → (ticks net k R).live ≡ Some (i, x) →
+    fired net (suc k) R ≡ fired net k R ++ i ∷ []
+fired_last net zero R i x e = ap (λ c. on_live c []) e
+fired_last net (suc k) R i x e = go R.live refl (fired_last net k (tick net R) i x e)
   where
-    three : (a b c : ℕ) → max a (max b c) ≡ max (max a b) c
-    three a b c = omega arith
+    go : (c : Option (ℕ × TokenTree)) → R.live ≡ c →
+        fired net (suc k) (tick net R) ≡ fired net k (tick net R) ++ i ∷ [] →
+        on_live c (fired net (suc k) (tick net R)) ≡ on_live c (fired net k (tick net R)) ++ i ∷ []
+    go None live ih =
+        absurd (none_some (i, x) (sym (ticks_rest net (suc k) R live) ∙ e))
+    go (Some c) live ih = ap (λ l. c.0 ∷ l) ih
 
-same_ticket : (i j : ℕ) → (j < i → ⊥) → (i < j → ⊥) → j ≡ i
-same_ticket i j below above = ⊎_elim (λ l. absurd (below l)) (λ m. ⊎_elim (λ l. absurd (above l)) (λ n. omega (arith, m, n)) (cases_lt i j))
-    (cases_lt j i)
+-- the newest order's log is finished within its budget
+pub newest_finished : (net : NetTree) → Runs net → (budget : ℕ) (S : MapState) → LeadsToMap net (newest net budget) S →
+    Finished S.answered (newest net budget) budget
+newest_finished net runs budget S leads =
+    let f : Follows net budget = follows net runs budget in
+    let is : f.state ≡ seen S = one_some f.state (seen S) (sym f.leads ∙ seen_leads net (newest net budget) S leads) in
+    (f.finished.0, λ e. f.finished.1 (ap (λ (S : State). S.answered) is ∙ e))
 
-module _ (net : NetTree) (runs : Runs net) (S : MapState) (moves cells forks peak : ℕ)
-    (counted : IsCounted net S moves cells forks peak) where
+module _ (net : NetTree) (runs : Runs net) (S : MapState) (w : Walk) (moves cells forks : ℕ)
+    (was : IsCounted net S w moves cells forks) where
   -- the registers behind as many ticks
   abbrev R : Registers
   R = ticks net moves (reset net)
 
-  led : LeadsTo net (one net moves) (seen S)
-  led = seen_leads net (one net moves) S counted.leads
-
-  -- they fit the state
-  fits : Fits R (seen S)
-  fits = let (T, l, f) = fitting net runs moves in subst (Fits R) (one_some T (seen S) (sym l ∙ led)) f
-
-  -- and have the least live ticket with its token
-  live_is : (i : ℕ) (x : TokenTree) → IsLeastLive S i → get S.tokens i ≡ Some x → R.live ≡ Some (i, x)
-  live_is i x least e = go R.live refl
+  -- the current token
+  current : (i : ℕ) → w.ticket ≡ Some i → (x : TokenTree) × (R.live ≡ Some (i, x))
+  current i e = go R.live refl (sym was.walk.ticket ∙ e)
     where
-      go : (c : Option (ℕ × TokenTree)) → R.live ≡ c → R.live ≡ Some (i, x)
-      go None live =
-          let empty : R.ring ≡ [] = subst (λ c. Order c R.ring R.next) live fits.order in
-          absurd (none_some x (sym (fits.shows.tokens i ∙ ap (λ c. token_at c R.ring i) live ∙ ap (λ l. ring_at l i) empty) ∙ e))
-      go (Some c) live =
-          let j = c.0 in
-          let at : (q : ℕ) → get S.tokens q ≡ token_at (Some c) R.ring q = λ q. fits.shows.tokens q ∙ ap (λ c. token_at c R.ring q) live in
-          let here : get S.tokens j ≡ Some c.1 = at j ∙ ap (λ b. cond b (Some c.1) (ring_at R.ring j)) (eq-eqb j j refl) in
-          let not_below : j < i → ⊥ = λ l. none_some c.1 (sym (least.1 j l) ∙ here) in
-          let not_above : i < j → ⊥ = λ l. none_some x
-          (sym (at i ∙ ap (λ b. cond b (Some c.1) (ring_at R.ring i)) (ne_eqb i j (λ q. omega arith)) ∙
-          chain_none j R.ring R.next i (subst (λ c. Order c R.ring R.next) live fits.order) (omega arith)) ∙ e) in
-          let same : j ≡ i = same_ticket i j not_below not_above in
-          live ∙ ap (λ y. Some (j, y)) (one_some c.1 x (sym here ∙ ap (λ q. get S.tokens q) same ∙ e)) ∙ ap (λ q. Some (q, x)) same
+      go : (c : Option (ℕ × TokenTree)) → R.live ≡ c → option_map (λ (c : ℕ × TokenTree). c.0) c ≡ Some i →
+          (x : TokenTree) × (R.live ≡ Some (i, x))
+      go None live h = absurd cc
+      go (Some c) live h = (c.1, live ∙ ap (λ j. Some (j, c.1)) (one_some c.0 i h))
 
-  -- a tick is the move of that token
-  ticks_to : (i : ℕ) (x : TokenTree) → R.live ≡ Some (i, x) →
-      ticks net (suc moves) (reset net) ≡ does (by_rows net x) i (record R { moves = suc R.moves })
-  ticks_to i x live =
-      last_tick net moves (reset net) ∙ ap (λ b. cond b R (tick_on net R.live R)) fits.ready ∙ ap (λ c. tick_on net c R) live
+  -- is that of the state
+  its_token : (i : ℕ) (x : TokenTree) → R.live ≡ Some (i, x) → get S.tokens i ≡ Some x
+  its_token i x live =
+      was.shows.tokens i ∙ ap (λ c. token_at c R.forks i) live ∙ ap (λ b. cond b (Some x) (waiting_at R.forks i)) (eq-eqb i i refl)
 
-  -- behind it as many forks are open as the step's name says
-  open_more : (i : ℕ) (x : TokenTree) (s : Stepped) → IsLeastLive S i → get S.tokens i ≡ Some x → step_name net S i ≡ Some s →
-      length (ticks net (suc moves) (reset net)).forks ≡ open_behind s forks
-  open_more i x s least e name =
-      let to = ticks_to i x (live_is i x least e) in
-      let by : move net x ≡ by_rows net x = law net runs.sound x (runs.moves (one net moves) (seen S) led i x e) in
-      let named : name_of (by_rows net x) S ≡ Some s =
-      ap (λ m. name_of m S) (sym by) ∙ ap (λ o. name_on net o S) (sym e) ∙ name in
-      let (T, l, f) = fitting net runs (suc moves) in
-      let full : (does (by_rows net x) i (record R { moves = suc R.moves })).full ≡ false =
-      ap (λ (R : Registers). R.full) (sym to) ∙ f.ready in
-      ap (λ (R : Registers). length R.forks) to ∙
-      does_open (by_rows net x) S i (record R { moves = suc R.moves }) s (ticks_once net moves (reset net) tt) fits.shows.entries
-      named full ∙
-      ap (open_behind s) (sym counted.counts_forks)
+  -- and may move
+  pub may_move : (i : ℕ) → w.ticket ≡ Some i → IsLive S i
+  may_move i e = let (x, live) = current i e in subst IsSome (sym (its_token i x live)) refl
 
-  -- and it made the cells of that token
-  cells_more : (i : ℕ) (x : TokenTree) → IsLeastLive S i → get S.tokens i ≡ Some x →
-      cells + makes_by net (get S.tokens i) ≡ cells_made net (suc moves)
-  cells_more i x least e =
-      ap (λ n. n + makes_by net (get S.tokens i)) counted.counts_cells ∙ ap (λ o. cells_made net moves + makes_by net o) e ∙
-      ap (λ c. cells_made net moves + makes_at net c) (sym (live_is i x least e)) ∙ sym (last_made net moves (reset net))
-
-  -- the step may be made
   pub is_reached : moves < most_budget → IsReachedWithin net most_budget S
-  is_reached l = let m = counted.made in (one net moves, counted.leads, omega (arith, l, m))
+  is_reached l = let m = was.made in (newest net moves, was.leads, omega (arith, l, m))
 
-  -- and is counted
-  counted_next : (i : ℕ) (s : Stepped) (T : MapState) → IsLeastLive S i → step_map net S i ≡ Some T → step_name net S i ≡ Some s →
-      IsCounted net T (suc moves) (cells + makes_by net (get S.tokens i)) (open_behind s forks) (max peak (open_behind s forks))
-  counted_next i s T least steps name =
-      let (x, e) = the_some (get S.tokens i) least.0 in
-      let log = one net moves in
-      let alone : RunsAlone net (log ++ i ∷ []) T =
-      goes_on net runs log S (record { leads = counted.leads; ours = ap (one net) counted.made }) i T (log ++ i ∷ []) least steps refl in
-      let long = length-append log (i ∷ []) in
-      let was = counted.made in
-      let length_is : length (log ++ i ∷ []) ≡ suc moves = omega (arith, long, was) in
-      let log_is : log ++ i ∷ [] ≡ one net (suc moves) = sym alone.ours ∙ ap (one net) length_is in
-      let opened = open_more i x s least e name in
-      let made = few_made net (get S.tokens i) in
-      let at_most = few_opened s forks in
-      let cells_few = counted.few_cells in
-      let forks_few = counted.few_forks in
-      record {
-        leads = subst (λ l. LeadsToMap net l T) log_is alone.leads;
-        made = ap length (sym log_is) ∙ length_is;
-        counts_cells = cells_more i x least e;
-        counts_forks = sym opened;
-        counts_peak = ap (λ p. max p (open_behind s forks)) counted.counts_peak ∙
-            ap (max (forks_peak net moves (reset net))) (sym opened) ∙ sym (peak_more net moves (reset net));
-        few_cells = omega (arith, made, cells_few);
-        few_forks = omega (arith, at_most, forks_few);
-      }
+  -- few cells are in use, and few forks open
+  pub few_cells : w.cells ≤ moves
+  few_cells = let a = (few_ticks net moves).cells in let b = was.walk.cells in omega (arith, a, b)
 
-  -- by whatever numbers it is told
-  pub counted_more : (i : ℕ) (s : Stepped) (T : MapState) (m n f p : ℕ) → (least : IsLeastLive S i) (steps : step_map net S i ≡ Some T)
-      (name : step_name net S i ≡ Some s) (moves_are : m ≡ suc moves) (makes : n ≡ makes_by net (get S.tokens i))
-      (opens : f ≡ open_behind s forks) (most : p ≡ max peak f) → IsCounted net T m (cells + n) f p
-  counted_more i s T m n f p least steps name moves_are makes opens most =
-      subst (λ m. IsCounted net T m (cells + n) f p) (sym moves_are)
-      (subst (λ p. IsCounted net T (suc moves) (cells + n) f p) (sym most)
-      (subst (λ f. IsCounted net T (suc moves) (cells + n) f (max peak f)) (sym opens)
-      (subst (λ n. IsCounted net T (suc moves) (cells + n) (open_behind s forks) (max peak (open_behind s forks))) (sym makes)
-      (counted_next i s T least steps name))))
+  pub few_forks : length w.forks.items ≤ moves
+  few_forks =
+      let a = (few_ticks net moves).forks in
+      let b = kept_long R.forks in
+      let c = ap length was.walk.forks in
+      omega (arith, a, b, c)
+
+  -- a tick is the move of the current token
+  ticks_to : (i : ℕ) (x : TokenTree) → R.live ≡ Some (i, x) →
+      ticks net (suc moves) (reset net) ≡ does (by_rows net x) i (counted net x R)
+  ticks_to i x live =
+      tick_last net moves (reset net) ∙ ap (λ b. cond b R (tick_on net R.live R)) (follows net runs moves).ready ∙
+      ap (λ c. tick_on net c R) live
+
+  -- the log is one longer
+  pub fires : (i : ℕ) → w.ticket ≡ Some i → newest net (suc moves) ≡ newest net moves ++ i ∷ []
+  fires i e = let (x, live) = current i e in fired_last net moves (reset net) i x live
+
+  -- what the step does, with the cells that are made before, the tick does
+  module _ (i : ℕ) (s : Stepped) (T : MapState) (w' v : Walk) (e : w.ticket ≡ Some i) (steps : step_map net S i ≡ Some T)
+      (name : step_name net S i ≡ Some s) (same_ticket : w'.ticket ≡ w.ticket) (same_forks : w'.forks.items ≡ w.forks.items)
+      (more : w'.cells ≡ w.cells + makes_by net (get S.tokens i)) (on : GoesOn s w' v) where
+    walk_next : IsWalk (ticks net (suc moves) (reset net)) v
+    walk_next =
+        let (x, live) = current i e in
+        let row : move net x ≡ by_rows net x = row_moves net runs moves i x live in
+        let counts : IsWalk (counted net x R) w' = record {
+          ticket = same_ticket ∙ was.walk.ticket;
+          forks = same_forks ∙ was.walk.forks;
+          cells = more ∙ ap (λ n. n + makes_by net (get S.tokens i)) was.walk.cells ∙
+              ap (λ o. R.cells + makes_by net o) (its_token i x live);
+        } in
+        subst (λ R. IsWalk R v) (sym (ticks_to i x live))
+        (does_walk S i x (counted net x R) live w' v counts (by_rows net x) s was.shows.next was.shows.entries
+        (λ n o d y b t h. forks_nest net runs moves i x live n o d y b t (row ∙ h))
+        (ap (λ m. name_of m S) (sym row) ∙ ap (λ o. name_on net o S) (sym (its_token i x live)) ∙ name) on)
+
+    leads_next : LeadsToMap net (newest net (suc moves)) T
+    leads_next =
+        let one_step : run_map net S (i ∷ []) ≡ Some T = ap (λ o. then_run_map o (λ S. Some S)) steps in
+        subst (λ l. LeadsToMap net l T) (sym (fires i e))
+        (run_both net (newest net moves) (i ∷ []) (start_map (start_of net)) S T was.leads one_step)
+
+    shows_next : Shows (ticks net (suc moves) (reset net)) (seen T)
+    shows_next =
+        let f : Follows net (suc moves) = follows net runs (suc moves) in
+        subst (Shows (ticks net (suc moves) (reset net)))
+        (one_some f.state (seen T) (sym f.leads ∙ seen_leads net (newest net (suc moves)) T leads_next)) f.shows
+
+    counted_next : IsCounted net T v (suc moves) (max cells v.cells) (max forks (length v.forks.items))
+    counted_next =
+        let long = length-append (newest net moves) (i ∷ []) in
+        let before = was.made in
+        let now = ap length (fires i e) in
+        record {
+          leads = leads_next;
+          made = omega (arith, long, before, now);
+          shows = shows_next;
+          walk = walk_next;
+          counts_cells = ap (max cells) walk_next.cells ∙ ap (λ c. max c (ticks net (suc moves) (reset net)).cells) was.counts_cells ∙
+              sym (cells_more net moves (reset net));
+          counts_forks = ap (max forks) (ap length walk_next.forks ∙ kept_long (ticks net (suc moves) (reset net)).forks) ∙
+              ap (λ c. max c (length (ticks net (suc moves) (reset net)).forks)) was.counts_forks ∙ sym (forks_more net moves (reset net));
+        }
+
+    -- no more forks are open than moves were made
+    pub few_next : length v.forks.items ≤ suc moves
+    few_next =
+        let a = (few_ticks net (suc moves)).forks in
+        let b = kept_long (ticks net (suc moves) (reset net)).forks in
+        let c = ap length walk_next.forks in
+        omega (arith, a, b, c)
+
+    -- by whatever numbers it is told
+    pub counted_more : (m n f : ℕ) → m ≡ suc moves → n ≡ max cells v.cells → f ≡ max forks (length v.forks.items) → IsCounted net T v m n f
+    counted_more m n f moves_are most_cells most_forks =
+        subst (λ m. IsCounted net T v m n f) (sym moves_are) (subst (λ n. IsCounted net T v (suc moves) n f) (sym most_cells)
+        (subst (λ f. IsCounted net T v (suc moves) (max cells v.cells) f) (sym most_forks) counted_next))
 
   -- the run is over at the budget
-  pub spent : (budget : ℕ) → moves ≤ budget → (moves < budget → ⊥) → one net moves ≡ one net budget
-  spent budget few more = ap (one net) (⊎_elim (λ l. absurd (more l)) (λ l. omega (arith, few, l)) (cases_lt moves budget))
+  pub spent : (budget : ℕ) → moves ≤ budget → (moves < budget → ⊥) → newest net moves ≡ newest net budget
+  spent budget few more = ap (newest net) (⊎_elim (λ l. absurd (more l)) (λ l. omega (arith, few, l)) (cases_lt moves budget))
 
-  -- and where no token is live
-  pub over : (budget : ℕ) → moves ≤ budget → NoneLive S → one net moves ≡ one net budget
+  -- and where no ticket is left
+  pub over : (budget : ℕ) → moves ≤ budget → w.ticket ≡ None → newest net moves ≡ newest net budget
   over budget few none =
-      let made = counted.made in
-      idle net runs (one net moves) S (record { leads = counted.leads; ours = ap (one net) made }) budget (omega (arith, made, few)) none
+      sym (fired_idle net moves (budget - moves) (reset net) idle) ∙ ap (newest net) (omega (arith, few))
+    where
+      idle : R.live ≡ None
+      idle = go R.live refl (sym was.walk.ticket ∙ none)
+        where
+          go : (c : Option (ℕ × TokenTree)) → R.live ≡ c → option_map (λ (c : ℕ × TokenTree). c.0) c ≡ None → R.live ≡ None
+          go None live h = live
+          go (Some c) live h = absurd cc
 
   -- then it leads to the state, and what it answers tells the length
-  pub led_to : (budget : ℕ) → one net moves ≡ one net budget → LeadsToMap net (one net budget) S
-  led_to budget same = subst (λ l. LeadsToMap net l S) same counted.leads
+  pub led_to : (budget : ℕ) → newest net moves ≡ newest net budget → LeadsToMap net (newest net budget) S
+  led_to budget same = subst (λ l. LeadsToMap net l S) same was.leads
 
-  pub long : (budget : ℕ) → one net moves ≡ one net budget → moves ≡ length (one net budget)
-  long budget same = sym counted.made ∙ ap length same
+  pub long : (budget : ℕ) → newest net moves ≡ newest net budget → moves ≡ length (newest net budget)
+  long budget same = sym was.made ∙ ap length same
 
-  pub tells : (budget : ℕ) → one net moves ≡ one net budget → TellsLength net (one net budget) S.answered budget
+  pub tells : (budget : ℕ) → newest net moves ≡ newest net budget → TellsLength net (newest net budget) S.answered budget
   tells budget same =
-      map_finished_tells net runs.sound (one net budget) S (led_to budget same) budget
-      (one_finished net runs budget (seen S) (seen_leads net (one net budget) S (led_to budget same)))
+      let leads = led_to budget same in
+      map_finished_tells net runs.sound (newest net budget) S leads budget (newest_finished net runs budget S leads)

@@ -1,5 +1,7 @@
--- how many forks are open behind a move, by what the step is called
-pub mod OpenForks
+-- what a step does is what the processor's move does
+pub mod Walking
+-- no more cells are made than moves, and no more forks opened
+pub mod Few
 -- one move more, counted
 pub mod Going
 -- what the counts say of a circuit

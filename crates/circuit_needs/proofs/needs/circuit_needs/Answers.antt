@@ -7,14 +7,14 @@ pub returns-clause-moves : goal.returns-clause-moves
 returns-clause-moves c =
     let now = c.count_run.new.counting in
     let e = c.in_ok-count_run.ensures in
-    long c.args.net.now c.requires.runs now.core now.moves now.cells now.forks now.peak e.counted c.args.budget e.whole
+    long c.args.net.now c.requires.runs now.core now.walk now.moves now.cells now.forks e.counted c.args.budget e.whole
 
 pub returns-clause-answer : goal.returns-clause-answer
 returns-clause-answer c =
     let now = c.count_run.new.counting in
     let e = c.in_ok-count_run.ensures in (
       now.core,
-      led_to c.args.net.now c.requires.runs now.core now.moves now.cells now.forks now.peak e.counted c.args.budget e.whole,
+      led_to c.args.net.now c.requires.runs now.core now.walk now.moves now.cells now.forks e.counted c.args.budget e.whole,
       c.answer.ensures,
     )
 
@@ -23,8 +23,8 @@ returns-clause-as_long c = λ v h.
     let net = c.args.net.now in
     let now = c.count_run.new.counting in
     let e = c.in_ok-count_run.ensures in
-    let told = tells net c.requires.runs now.core now.moves now.cells now.forks now.peak e.counted c.args.budget e.whole in
-    let many = long net c.requires.runs now.core now.moves now.cells now.forks now.peak e.counted c.args.budget e.whole in
+    let told = tells net c.requires.runs now.core now.walk now.moves now.cells now.forks e.counted c.args.budget e.whole in
+    let many = long net c.requires.runs now.core now.walk now.moves now.cells now.forks e.counted c.args.budget e.whole in
     subst (Length net v) (sym many) (told.as_long v (sym c.answer.ensures ∙ h)).0
 
 pub returns-clause-beyond : goal.returns-clause-beyond
@@ -32,7 +32,7 @@ returns-clause-beyond c = λ h.
     let net = c.args.net.now in
     let now = c.count_run.new.counting in
     let e = c.in_ok-count_run.ensures in
-    let told = tells net c.requires.runs now.core now.moves now.cells now.forks now.peak e.counted c.args.budget e.whole in
-    let many = long net c.requires.runs now.core now.moves now.cells now.forks now.peak e.counted c.args.budget e.whole in
+    let told = tells net c.requires.runs now.core now.walk now.moves now.cells now.forks e.counted c.args.budget e.whole in
+    let many = long net c.requires.runs now.core now.walk now.moves now.cells now.forks e.counted c.args.budget e.whole in
     let none = sym c.answer.ensures ∙ h in
     (told.unanswered.0 none, many ∙ told.spent none)
