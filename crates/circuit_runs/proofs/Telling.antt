@@ -14,8 +14,8 @@ use Rattle.adequacy_laws.specs.Finished.{Beyond}
 use Rattle.verilog_tree.specs.Meaning.{Store}
 use Rattle.verilog_run.specs.Held.{nothing}
 use Rattle.circuit_module.specs.Stands.{Small, value_number}
-use Rattle.cell_core.specs.Circuit.{Sizes}
-use Rattle.cell_core.specs.Enough.{CellsFit, Covers}
+use Rattle.cell_core.specs.Sizes.{Sizes, Covers}
+use Rattle.newest_core.specs.Enough.{FitsWithin}
 use Rattle.cell_module.specs.Module.{cell_module}
 use Rattle.cell_module.specs.Sizes.{SizesCover, circuit_of, sizes_of}
 use Rattle.cell_edges.specs.Laws.{CellSizes, SizesFit, cell_reset_edge}
@@ -59,7 +59,7 @@ tells_down m k T h e = ⊎_elim (λ u. absurd (not_both (T.vec "full") u e)) (λ
 
 -- registers after so many edges, of which the law speaks
 module _ (m : TermTree) (typed : HasType [] m nat) (cells forks : ℕ) (at : ℕ → Store) (says : (k : ℕ) → Says m k (at k))
-    (fit : (k : ℕ) → CellsFit (net_of m) (sizes_of (net_of m) cells forks) k → (at k).vec "full" ≡ 0) where
+    (fit : (k : ℕ) → FitsWithin (net_of m) (sizes_of (net_of m) cells forks) k → (at k).vec "full" ≡ 0) where
   -- the first ones that show this
   abbrev First : ℕ → Outcome → Type 0
   First K o = (k : ℕ) × (k ≤ K) × ((j : ℕ) → j < k → Goes (at j)) × Shows (at k) k o
@@ -98,8 +98,8 @@ module _ (m : TermTree) (typed : HasType [] m nat) (cells forks : ℕ) (at : ℕ
         ),
       )
 
-  on_full : (K j : ℕ) → First K (Full j) → CellsFit (net_of m) (sizes_of (net_of m) cells forks) j → ⊥
-  on_full K j h fits = h.3.1 (fit h.0 (subst (λ n. CellsFit (net_of m) (sizes_of (net_of m) cells forks) n) h.3.0 fits))
+  on_full : (K j : ℕ) → First K (Full j) → FitsWithin (net_of m) (sizes_of (net_of m) cells forks) j → ⊥
+  on_full K j h fits = h.3.1 (fit h.0 (subst (λ n. FitsWithin (net_of m) (sizes_of (net_of m) cells forks) n) h.3.0 fits))
 
   on_odd : (K j : ℕ) → First K (Odd j) → ⊥
   on_odd K j h =
@@ -130,7 +130,7 @@ program_runs M R cover fits m typed cells forks few_cells some_forks few_forks f
     says : (k : ℕ) → Says m k (shown m cells forks k)
     says k = subst (Says m k) (same k) (M m typed (sizes m cells forks) small few covers nothing k)
 
-    fit : (k : ℕ) → CellsFit (net_of m) (sizes m cells forks) k → (shown m cells forks k).vec "full" ≡ 0
+    fit : (k : ℕ) → FitsWithin (net_of m) (sizes m cells forks) k → (shown m cells forks k).vec "full" ≡ 0
     fit k f =
         subst (λ (T : Store). T.vec "full" ≡ 0) (same k) (R m typed (sizes m cells forks) small few covers nothing k f).0
 

@@ -6,7 +6,7 @@ use Rattle.net_build.specs.NetOf.{net_of}
 use Rattle.adequacy_laws.specs.Questions.{Length}
 use Rattle.adequacy_laws.specs.Adequacy.{OfEveryProgram}
 use Rattle.adequacy_laws.specs.Finished.{Beyond}
-use Rattle.cell_core.specs.Enough.{CellsFit}
+use Rattle.newest_core.specs.Enough.{FitsWithin}
 use Rattle.circuit_module.specs.InRange.{FewWires}
 use Rattle.cell_module.specs.Sizes.{sizes_of, InLists}
 use Rattle.circuit_runs.specs.Running.{Comes}
@@ -17,7 +17,7 @@ use Rattle.circuit_runs.specs.declared.outcome.Outcome.TheVariants.{Ended, Full,
 -- for so many moves; or that its net is longer than so many edges, or has no length
 abbrev pub CircuitTells : TermTree → (cells forks K : ℕ) → Outcome → Type 0
 CircuitTells m cells forks K (Ended v moves k) = Means m v × (Length (net_of m) v k × (moves ≡ k % 2 ^ 64))
-CircuitTells m cells forks K (Full k) = CellsFit (net_of m) (sizes_of (net_of m) cells forks) k → ⊥
+CircuitTells m cells forks K (Full k) = FitsWithin (net_of m) (sizes_of (net_of m) cells forks) k → ⊥
 CircuitTells m cells forks K (Odd k) = ⊥
 CircuitTells m cells forks K Waits = Beyond (net_of m) K
 
