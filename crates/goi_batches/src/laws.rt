@@ -4,6 +4,7 @@ ghost use Rattle.goi_batches.specs.Laws.{OneSection};
 
 use adequacy_laws::law_one_length;
 use batch_lists::law_one_list;
+use function_runs::law_one_function;
 use goi_tasks::law_one_listing;
 use program_runs::law_one_program;
 use replay_check::law_one_replay;
@@ -19,4 +20,5 @@ pub fn law_one_section()
     law_one_answer();
     law_one_replay();
     law_one_list();
+    law_one_function();
 }

@@ -46,7 +46,7 @@ pub extern "C" fn goi_net(alloc: Global, text: &[u8], out: &mut [u8], needed: &m
     give_result(alloc, listed, out, needed)
 }
 
-/// Prints the circuit of a text's program, with so many cells and forks.
+/// Prints the circuit of a text's program or function, with so many cells and forks.
 #[unsafe(no_mangle)]
 pub extern "C" fn goi_circuit(
     alloc: Global,

@@ -23,7 +23,7 @@ use Rattle.goi_tasks.specs.declared.stop.Stop.{Stop}
 use Rattle.goi_tasks.specs.Stops.{StopsFor}
 use Rattle.goi_jobs.specs.declared.task.Task.{Task}
 use Rattle.goi_jobs.specs.declared.task.Task.TheVariants.{Run, Check, ShowNet, RunNet, Trace, Circuit, RunCircuit}
-use Rattle.goi_jobs.specs.declared.task.Task.TheVariants.{NeedsCircuit, Span, Steps}
+use Rattle.goi_jobs.specs.declared.task.Task.TheVariants.{NeedsCircuit, ScheduleCircuit, Span, Steps}
 use Rattle.goi_engine.specs.declared.answer.Answer.{Answer}
 use Rattle.goi_engine.specs.declared.answer.Answer.TheVariants.{Prints, Refused, BadWords, NotRead, NoMemory}
 use Rattle.goi_engine.specs.Answers.{Says, IsStopped, AnswersFile, AnswersNoNet, MadeNet}
@@ -32,7 +32,7 @@ use Rattle.goi_engine.specs.FilesSeen.{Possibly}
 use Rattle.goi_tasks.specs.NetFiles.{FaultyListing, unlisted}
 use Rattle.goi_jobs.specs.declared.shown.Shown.{Shown}
 use Rattle.function_runs.specs.Functions.{CompilesText, FaultyFunction, unread as no_function_read, of_tree as of_function_tree}
-use Rattle.goi_tasks.specs.Calls.{ReportsCall, FaultyCall}
+use Rattle.goi_tasks.specs.Calls.{ReportsCall, FaultyCall, FaultyAnyFunction}
 use Rattle.goi_tasks.specs.Outputs.{Output}
 use Rattle.goi_tasks.specs.Seen.{output_of}
 use Rattle.program_runs.specs.declared.fault.ProgramFault.{ProgramFault}
@@ -135,6 +135,9 @@ pub call_fault_goes : (numbers : List ℕ) (f : Fault) (v bytes : List ℕ) → 
     FaultyCall numbers bytes f
 call_fault_goes numbers _ v bytes s (no_program f h) = no_program f (function_fault_goes (length numbers) f v bytes s h)
 
+any_fault_goes : (f : Fault) (v bytes : List ℕ) → Same most_program_bytes v bytes → FaultyAnyFunction v f → FaultyAnyFunction bytes f
+any_fault_goes _ v bytes s (no_program f h) = no_program f (λ n. function_fault_goes n f v bytes s (h n))
+
 -- and so is a report
 pub call_goes : (workers budget : ℕ) (shown : Shown) (numbers : List ℕ) (o : Output) (v bytes : List ℕ) →
     Same most_program_bytes v bytes → ReportsCall workers budget shown numbers v o → ReportsCall workers budget shown numbers bytes o
@@ -173,9 +176,10 @@ pub fault_goes : (task : Task) (f : Fault) (v bytes : List ℕ) → Same (most_b
 fault_goes (Run budget calling shown) f v bytes s h = faulty_goes (wanted_by_run calling) f v bytes s h
 fault_goes (Check term) f v bytes s h = faulty_goes any_type f v bytes s h
 fault_goes ShowNet f v bytes s h = faulty_goes number f v bytes s h
-fault_goes (Circuit cells forks) f v bytes s h = faulty_goes number f v bytes s h
+fault_goes (Circuit cells forks) f v bytes s h = any_fault_goes f v bytes s h
 fault_goes (RunCircuit cells forks budget waves) f v bytes s h = faulty_goes number f v bytes s h
 fault_goes (NeedsCircuit budget) f v bytes s h = faulty_goes number f v bytes s h
+fault_goes (ScheduleCircuit budget) f v bytes s h = faulty_goes number f v bytes s h
 fault_goes (Span budget calling profile schedule) f v bytes s h = faulty_goes (wanted_by_run calling) f v bytes s h
 fault_goes (Steps budget window) f v bytes s h = faulty_goes number f v bytes s h
 fault_goes (RunNet budget shown) f v bytes s h = listing_goes f v bytes s h
@@ -187,9 +191,12 @@ pub report_goes : (workers : ℕ) (task : Task) (o : Output) (v bytes : List ℕ
 report_goes workers (Run budget calling shown) o v bytes s h = of_program_goes (wanted_by_run calling) _ v bytes s h
 report_goes workers (Check term) o v bytes s h = of_program_goes any_type _ v bytes s h
 report_goes workers ShowNet o v bytes s h = of_program_goes number _ v bytes s h
-report_goes workers (Circuit cells forks) o v bytes s h = of_program_goes number _ v bytes s h
+report_goes workers (Circuit cells forks) o v bytes s h =
+    let (tree, x, is) = h.is in
+    record { term = h.term; count = h.count; is = (tree, text_goes v bytes tree s x, is); so = h.so }
 report_goes workers (RunCircuit cells forks budget waves) o v bytes s h = of_program_goes number _ v bytes s h
 report_goes workers (NeedsCircuit budget) o v bytes s h = of_program_goes number _ v bytes s h
+report_goes workers (ScheduleCircuit budget) o v bytes s h = of_program_goes number _ v bytes s h
 report_goes workers (Span budget calling profile schedule) o v bytes s h = of_program_goes (wanted_by_run calling) _ v bytes s h
 report_goes workers (Steps budget window) o v bytes s h = of_program_goes number _ v bytes s h
 report_goes workers (RunNet budget shown) o v bytes s h =

@@ -4,7 +4,7 @@ use Rattle.goi_jobs.specs.Ranges.{IsBudget, IsWindow, IsPart, IsCells, IsForks}
 use Rattle.goi_jobs.specs.declared.shown.Shown.{Shown}
 use Rattle.goi_jobs.specs.declared.task.Task.{Task}
 use Rattle.goi_jobs.specs.declared.task.Task.TheVariants.{Run, Check, ShowNet, RunNet, Trace, Circuit, RunCircuit}
-use Rattle.goi_jobs.specs.declared.task.Task.TheVariants.{NeedsCircuit, Span, Steps}
+use Rattle.goi_jobs.specs.declared.task.Task.TheVariants.{NeedsCircuit, ScheduleCircuit, Span, Steps}
 
 -- these are shown, and nothing is
 abbrev pub shown : Bool → Bool → Bool → Shown
@@ -29,6 +29,7 @@ IsWithin (Trace budget calling window) = IsBudget budget × IsWindow window
 IsWithin (Circuit cells forks) = Unit {0}
 IsWithin (RunCircuit cells forks budget waves) = IsBudget budget × IsCells cells × IsForks forks
 IsWithin (NeedsCircuit budget) = IsBudget budget
+IsWithin (ScheduleCircuit budget) = IsBudget budget
 IsWithin (Span budget calling profile schedule) = IsBudget budget
 IsWithin (Steps budget window) = IsBudget budget × IsPart window
 

@@ -65,6 +65,11 @@ pub enum Task {
         /// The most moves; from 1 to `pcf_values::limits::BUDGET`.
         budget: u32,
     },
+    /// Run the program as its circuit does, the newest question first, and tell the schedule of that run.
+    ScheduleCircuit {
+        /// The most moves; from 1 to `pcf_values::limits::BUDGET`.
+        budget: u32,
+    },
     /// Run the program in rounds, in which all live tokens move once, and tell how many moves and rounds that takes.
     Span {
         /// The most moves; from 1 to `pcf_values::limits::BUDGET`.

@@ -6,7 +6,7 @@ use Rattle.net_build.specs.Nets.{NetTree}
 use Rattle.net_build.specs.NetOf.{net_of}
 use Rattle.adequacy_laws.specs.Adequacy.{BuiltRuns}
 use Rattle.open_nets.specs.Applied.{applied}
-use Rattle.function_runs.specs.Functions.{CompilesText, FaultyFunction}
+use Rattle.function_runs.specs.Functions.{CompilesText, FaultyFunction, FaultyAny}
 use Rattle.function_runs.specs.Laws.{OneFunction}
 use Rattle.program_runs.specs.declared.calling.Calling.TheVariants.{ByName}
 use Rattle.program_runs.specs.declared.no_run.NoRun.{NoRun}
@@ -18,7 +18,7 @@ use Rattle.goi_tasks.specs.declared.fault.Fault.{Fault}
 use Rattle.goi_tasks.specs.declared.fault.Fault.TheVariants.{Program}
 use Rattle.goi_jobs.specs.declared.shown.Shown.{Shown}
 use Rattle.goi_tasks.specs.declared.stop.Stop.{Stop}
-use Rattle.goi_tasks.specs.Calls.{OfFunction, ReportsCall, FaultyCall, EndsCall}
+use Rattle.goi_tasks.specs.Calls.{OfFunction, ReportsCall, FaultyCall, EndsCall, FaultyAnyFunction}
 use Rattle.goi_tasks.specs.Outputs.{Output}
 use Rattle.goi_tasks.specs.Programs.{no_program}
 use Rattle.goi_tasks.specs.RunReports.{EndsRun}
@@ -48,6 +48,13 @@ pub no_function : {V : Type 0} (numbers bytes : List ℕ) (r : Result V Stop) (e
 no_function numbers bytes (Ok v) e h k = absurd h
 no_function numbers bytes (Err s) e h k =
     subst (λ (x : Stop). StopsFor (FaultyCall numbers bytes) x) (sym h) (stops_program (FaultyFunction (length numbers) bytes) e k)
+
+-- a text that is a function of no number of arguments has its first fault as one
+pub no_any_function : {V : Type 0} (bytes : List ℕ) (r : Result V Stop) (e : NoRun) → IsErrAnd r (λ s. s ≡ stop_of_no_run e) →
+    NoRunFor (FaultyAny bytes) e → IfErr r (λ s. StopsFor (FaultyAnyFunction bytes) s)
+no_any_function bytes (Ok v) e h k = absurd h
+no_any_function bytes (Err s) e h k =
+    subst (λ (x : Stop). StopsFor (FaultyAnyFunction bytes) x) (sym h) (stops_program (FaultyAny bytes) e k)
 
 -- a call ends with one of two statuses
 pub call_status : (workers budget : ℕ) (shown : Shown) (numbers bytes : List ℕ) (o : Output) →

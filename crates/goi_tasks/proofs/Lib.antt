@@ -7,7 +7,7 @@ pub mod Outcomes
 pub mod RunReports
 -- The report that is made of a run in rounds.
 pub mod Spanned
--- The report that is made of what a circuit needs.
+-- The reports that are made of a run as a circuit makes it.
 pub mod Counted
 -- What the run of a program's circuit tells, and that it ends with one status.
 pub mod CircuitRuns

@@ -31,14 +31,18 @@ use Rattle.program_runs.specs.Laws.{OneProgram}
 use Rattle.program_runs.specs.Programs.{Wanted, any_type, number, wanted_by_run, IsProgram, IsGround}
 use Rattle.program_runs.specs.Runs.{Tells, meaning, net_run}
 use Rattle.program_runs.proofs.OneProgram.{same_program}
+use Rattle.function_runs.specs.Functions.{CompilesText}
+use Rattle.function_runs.specs.Laws.{OneFunction}
+use Rattle.newest_core.specs.Processor.{newest}
 use Rattle.goi_tasks.specs.declared.fault.Fault.{Fault}
 use Rattle.goi_tasks.specs.declared.fault.Fault.TheVariants.{Program, NetText, Schedule, Moves}
 use Rattle.goi_jobs.specs.declared.shown.Shown.{Shown}
 use Rattle.goi_jobs.specs.declared.task.Task.{Task}
 use Rattle.goi_jobs.specs.declared.task.Task.TheVariants.{Run, Check, ShowNet, RunNet, Trace, Circuit, RunCircuit}
-use Rattle.goi_jobs.specs.declared.task.Task.TheVariants.{NeedsCircuit, Span, Steps}
+use Rattle.goi_jobs.specs.declared.task.Task.TheVariants.{NeedsCircuit, ScheduleCircuit, Span, Steps}
 use Rattle.circuit_runs.specs.Running.{Comes}
 use Rattle.circuit_runs.specs.Laws.{CircuitTells}
+use Rattle.goi_tasks.specs.Calls.{FaultyAnyFunction}
 use Rattle.goi_tasks.specs.Circuits.{answer_of}
 use Rattle.goi_tasks.specs.NetFiles.{FaultyListing, unlisted}
 use Rattle.goi_tasks.specs.Outputs.{Output}
@@ -58,6 +62,7 @@ pub record Known : Type 0 where
   pub one_answer : OneAnswer
   pub one_replay : OneReplay
   pub one_list : OneList
+  pub one_function : OneFunction
 
 -- ---- a run or a listing ends with one status
 
@@ -110,6 +115,7 @@ text_status workers (Circuit cells forks) bytes o h = inl (ap (λ (x : Output). 
 text_status workers (RunCircuit cells forks budget waves) bytes o h =
     run_status (answer_of h.so.outcome) o.status h.so.ends
 text_status workers (NeedsCircuit budget) bytes o h = run_status h.so.answer o.status h.so.ends
+text_status workers (ScheduleCircuit budget) bytes o h = run_status h.so.answer o.status h.so.ends
 text_status workers (Span budget calling profile schedule) bytes o h = run_status h.so.answer o.status h.so.ends
 text_status workers (Steps budget window) bytes o h =
     run_status (course_value (reduction budget window h.tree)) o.status (ap (λ (x : Output). x.status) h.so.output_is)
@@ -171,6 +177,14 @@ module _ (known : Known) where
   pub one_text_fault : (wanted : Wanted) (bytes : List ℕ) (f g : Fault) → FaultyText wanted bytes f → FaultyText wanted bytes g → f ≡ g
   one_text_fault wanted bytes _ _ (no_program f h) (no_program g k) = ap Program (known.one_program.one_fault wanted bytes f g h k)
 
+  -- ---- a text is a function of one number of arguments, or has one fault
+
+  any_sound : (bytes : List ℕ) (t : TermTree) (n : ℕ) (f : Fault) → CompilesText bytes n (t, n) → FaultyAnyFunction bytes f → ⊥
+  any_sound bytes t n _ h (no_program f k) = known.one_function.not_both n bytes (t, n) f h (k n)
+
+  one_any_fault : (bytes : List ℕ) (f g : Fault) → FaultyAnyFunction bytes f → FaultyAnyFunction bytes g → f ≡ g
+  one_any_fault bytes _ _ (no_program f h) (no_program g k) = ap Program (known.one_function.one_fault 0 bytes f g (h 0) (k 0))
+
   -- ---- a listing is that of one program, or has one fault
 
   same_listed : (bytes : List ℕ) (t u : TermTree) → ListsProgram bytes t → ListsProgram bytes u → t ≡ u
@@ -211,6 +225,12 @@ module _ (known : Known) where
       one_run_end budget (net_of k.term) o.status own
       (subst (λ (t : TermTree). EndsRun budget (net_of t) o.status) e
       (run_ends (Means h.term) (net_of h.term) budget h.so.answer h.so.moves o.status h.so.ends h.so.tells)) k.so
+  text_end workers (ScheduleCircuit budget) bytes o own h k =
+      let e : h.term ≡ k.term = same_program known.one_program number bytes _ _ h k in
+      one_run_end budget (net_of k.term) o.status own
+      (subst (λ (t : TermTree). EndsRun budget (net_of t) o.status) e
+      (run_ends (Means h.term) (net_of h.term) budget h.so.answer (length (newest (net_of h.term) budget)) o.status h.so.ends
+      h.so.tells)) k.so
   text_end workers (Span budget calling profile schedule) bytes o own h k =
       let e : h.term ≡ k.term = same_program known.one_program (wanted_by_run calling) bytes _ _ h k in
       one_run_end budget (net_run calling k.term) o.status own
@@ -238,10 +258,12 @@ module _ (known : Known) where
       text_sound known.one_program (wanted_by_run calling) bytes h.tree h.term h.type f h.is k
   report_sound workers (Check term) bytes o f h k = text_sound known.one_program any_type bytes h.tree h.term h.type f h.is k
   report_sound workers ShowNet bytes o f h k = text_sound known.one_program number bytes h.tree h.term h.type f h.is k
-  report_sound workers (Circuit cells forks) bytes o f h k = text_sound known.one_program number bytes h.tree h.term h.type f h.is k
+  report_sound workers (Circuit cells forks) bytes o f h k = any_sound bytes h.term h.count f h.is k
   report_sound workers (RunCircuit cells forks budget waves) bytes o f h k =
       text_sound known.one_program number bytes h.tree h.term h.type f h.is k
   report_sound workers (NeedsCircuit budget) bytes o f h k = text_sound known.one_program number bytes h.tree h.term h.type f h.is k
+  report_sound workers (ScheduleCircuit budget) bytes o f h k =
+      text_sound known.one_program number bytes h.tree h.term h.type f h.is k
   report_sound workers (Span budget calling profile schedule) bytes o f h k =
       text_sound known.one_program (wanted_by_run calling) bytes h.tree h.term h.type f h.is k
   report_sound workers (Steps budget window) bytes o f h k = text_sound known.one_program number bytes h.tree h.term h.type f h.is k
@@ -255,10 +277,11 @@ module _ (known : Known) where
       text_sound known.one_program (wanted_by_run calling) bytes h.tree h.term h.type f h.is k
   end_sound (Check term) bytes own f h k = text_sound known.one_program any_type bytes h.tree h.term h.type f h.is k
   end_sound ShowNet bytes own f h k = text_sound known.one_program number bytes h.tree h.term h.type f h.is k
-  end_sound (Circuit cells forks) bytes own f h k = text_sound known.one_program number bytes h.tree h.term h.type f h.is k
+  end_sound (Circuit cells forks) bytes own f h k = any_sound bytes h.term h.count f h.is k
   end_sound (RunCircuit cells forks budget waves) bytes own f h k =
       text_sound known.one_program number bytes h.tree h.term h.type f h.is k
   end_sound (NeedsCircuit budget) bytes own f h k = text_sound known.one_program number bytes h.tree h.term h.type f h.is k
+  end_sound (ScheduleCircuit budget) bytes own f h k = text_sound known.one_program number bytes h.tree h.term h.type f h.is k
   end_sound (Span budget calling profile schedule) bytes own f h k =
       text_sound known.one_program (wanted_by_run calling) bytes h.tree h.term h.type f h.is k
   end_sound (Steps budget window) bytes own f h k = text_sound known.one_program number bytes h.tree h.term h.type f h.is k
@@ -271,9 +294,10 @@ module _ (known : Known) where
   one_fault_for (Run budget calling shown) bytes f g h k = one_text_fault (wanted_by_run calling) bytes f g h k
   one_fault_for (Check term) bytes f g h k = one_text_fault any_type bytes f g h k
   one_fault_for ShowNet bytes f g h k = one_text_fault number bytes f g h k
-  one_fault_for (Circuit cells forks) bytes f g h k = one_text_fault number bytes f g h k
+  one_fault_for (Circuit cells forks) bytes f g h k = one_any_fault bytes f g h k
   one_fault_for (RunCircuit cells forks budget waves) bytes f g h k = one_text_fault number bytes f g h k
   one_fault_for (NeedsCircuit budget) bytes f g h k = one_text_fault number bytes f g h k
+  one_fault_for (ScheduleCircuit budget) bytes f g h k = one_text_fault number bytes f g h k
   one_fault_for (Span budget calling profile schedule) bytes f g h k = one_text_fault (wanted_by_run calling) bytes f g h k
   one_fault_for (Steps budget window) bytes f g h k = one_text_fault number bytes f g h k
   one_fault_for (RunNet budget shown) bytes f g h k = one_listing_fault bytes f g h k

@@ -1,10 +1,10 @@
 -- A call of a text's function at numbers: its output, the first fault of a text that is no such function, and the status with which it
--- ends. What is run is the term applied to the numbers, by name.
+-- ends. What is run is the term applied to the numbers, by name. And what is done with a text's function, of however many numbers.
 use Rattle.std.specs.Prelude.{ℕ, List, length}
 use Rattle.pcf_values.specs.Terms.{TermTree}
 use Rattle.net_build.specs.NetOf.{net_of}
 use Rattle.open_nets.specs.Applied.{applied}
-use Rattle.function_runs.specs.Functions.{CompilesText, FaultyFunction}
+use Rattle.function_runs.specs.Functions.{CompilesText, FaultyFunction, FaultyAny}
 use Rattle.program_runs.specs.declared.calling.Calling.TheVariants.{ByName}
 use Rattle.goi_tasks.specs.declared.fault.Fault.{Fault}
 use Rattle.goi_jobs.specs.declared.shown.Shown.{Shown}
@@ -29,3 +29,14 @@ FaultyCall numbers bytes = IsProgramFault (FaultyFunction (length numbers) bytes
 -- it can be called with them, and the call ends with this status
 abbrev pub EndsCall : ℕ → List ℕ → List ℕ → ℕ → Type 0
 EndsCall budget numbers bytes status = OfFunction numbers bytes (λ t. EndsRun budget (net_of t) status)
+
+-- the text is a function of some number of arguments, a program of type `nat` one of none, and this is so of its term and of that number
+pub record OfAnyFunction (bytes : List ℕ) (P : TermTree → ℕ → Type 0) : Type 0 where
+  pub term : TermTree
+  pub count : ℕ
+  pub is : CompilesText bytes count (term, count)
+  pub so : P term count
+
+-- the first fault of a text that is a function of no number of arguments
+abbrev pub FaultyAnyFunction : List ℕ → Fault → Type 0
+FaultyAnyFunction bytes = IsProgramFault (FaultyAny bytes)

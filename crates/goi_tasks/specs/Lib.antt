@@ -18,7 +18,7 @@ pub mod Rounds
 pub mod Reductions
 -- A run of a program's circuit: what it says of the program, and its report.
 pub mod Circuits
--- A run that counts what a program's circuit needs: what it says of the program, and its report.
+-- The run of a program as its circuit makes it: what it says of the program, and its reports.
 pub mod Needs
 -- A schedule that is run on the net of a term: what it came to, which report it has, and the first fault of one that can't be run.
 pub mod Replaying

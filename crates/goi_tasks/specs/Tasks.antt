@@ -7,7 +7,6 @@ use Rattle.net_build.specs.NetOf.{net_of}
 use Rattle.net_text.specs.Accepted.{ListsProgram}
 use Rattle.net_text.specs.Limits.{most_text_bytes}
 use Rattle.net_text.specs.Listing.{listing}
-use Rattle.circuit_text.specs.CircuitText.{circuit_text}
 use Rattle.step_text.specs.Courses.{course_value}
 use Rattle.program_runs.specs.Programs.{any_type, number, OfProgram, wanted_by_run}
 use Rattle.program_runs.specs.Runs.{net_run}
@@ -16,10 +15,11 @@ use Rattle.goi_reports.specs.Reports.{check_report}
 use Rattle.goi_tasks.specs.declared.fault.Fault.{Fault}
 use Rattle.goi_jobs.specs.declared.task.Task.{Task}
 use Rattle.goi_jobs.specs.declared.task.Task.TheVariants.{Run, Check, ShowNet, RunNet, Trace, Circuit, RunCircuit}
-use Rattle.goi_jobs.specs.declared.task.Task.TheVariants.{NeedsCircuit, Span, Steps}
-use Rattle.goi_tasks.specs.Circuits.{EndsCircuit, ReportsCircuit}
+use Rattle.goi_jobs.specs.declared.task.Task.TheVariants.{NeedsCircuit, ScheduleCircuit, Span, Steps}
+use Rattle.goi_tasks.specs.Calls.{OfAnyFunction, FaultyAnyFunction}
+use Rattle.goi_tasks.specs.Circuits.{EndsCircuit, ReportsCircuit, function_circuit}
 use Rattle.goi_tasks.specs.NetFiles.{FaultyListing}
-use Rattle.goi_tasks.specs.Needs.{ReportsNeeds}
+use Rattle.goi_tasks.specs.Needs.{ReportsNeeds, ReportsSchedule}
 use Rattle.goi_tasks.specs.Outputs.{Output, output}
 use Rattle.goi_tasks.specs.Programs.{FaultyText}
 use Rattle.goi_tasks.specs.Reductions.{ReportsSteps, reduction}
@@ -47,10 +47,11 @@ ReportsText workers (RunNet budget shown) bytes o = OfListing bytes (λ t. Repor
 ReportsText workers (Trace budget calling window) bytes o =
     OfProgram (wanted_by_run calling) bytes (λ tree t A. ReportsTrace workers budget calling window t o)
 ReportsText workers (Circuit cells forks) bytes o =
-    OfProgram number bytes (λ tree t A. o ≡ output 0 (circuit_text (net_of t) cells forks) [])
+    OfAnyFunction bytes (λ t n. o ≡ output 0 (function_circuit cells forks t n) [])
 ReportsText workers (RunCircuit cells forks budget waves) bytes o =
     OfProgram number bytes (λ tree t A. ReportsCircuit cells forks budget waves t o)
 ReportsText workers (NeedsCircuit budget) bytes o = OfProgram number bytes (λ tree t A. ReportsNeeds budget t o)
+ReportsText workers (ScheduleCircuit budget) bytes o = OfProgram number bytes (λ tree t A. ReportsSchedule budget t o)
 ReportsText workers (Span budget calling profile schedule) bytes o =
     OfProgram (wanted_by_run calling) bytes (λ tree t A. ReportsSpan budget calling profile schedule t o)
 ReportsText workers (Steps budget window) bytes o = OfProgram number bytes (λ tree t A. ReportsSteps budget window tree t o)
@@ -62,9 +63,10 @@ FaultyFor (Check term) bytes f = FaultyText any_type bytes f
 FaultyFor ShowNet bytes f = FaultyText number bytes f
 FaultyFor (RunNet budget shown) bytes f = FaultyListing bytes f
 FaultyFor (Trace budget calling window) bytes f = FaultyText (wanted_by_run calling) bytes f
-FaultyFor (Circuit cells forks) bytes f = FaultyText number bytes f
+FaultyFor (Circuit cells forks) bytes f = FaultyAnyFunction bytes f
 FaultyFor (RunCircuit cells forks budget waves) bytes f = FaultyText number bytes f
 FaultyFor (NeedsCircuit budget) bytes f = FaultyText number bytes f
+FaultyFor (ScheduleCircuit budget) bytes f = FaultyText number bytes f
 FaultyFor (Span budget calling profile schedule) bytes f = FaultyText (wanted_by_run calling) bytes f
 FaultyFor (Steps budget window) bytes f = FaultyText number bytes f
 
@@ -77,10 +79,11 @@ EndsText ShowNet bytes status = OfProgram number bytes (λ tree t A. status ≡ 
 EndsText (RunNet budget shown) bytes status = OfListing bytes (λ t. EndsRun budget (net_of t) status)
 EndsText (Trace budget calling window) bytes status =
     OfProgram (wanted_by_run calling) bytes (λ tree t A. EndsRun budget (net_run calling t) status)
-EndsText (Circuit cells forks) bytes status = OfProgram number bytes (λ tree t A. status ≡ 0)
+EndsText (Circuit cells forks) bytes status = OfAnyFunction bytes (λ t n. status ≡ 0)
 EndsText (RunCircuit cells forks budget waves) bytes status =
     OfProgram number bytes (λ tree t A. EndsCircuit cells forks budget t status)
 EndsText (NeedsCircuit budget) bytes status = OfProgram number bytes (λ tree t A. EndsRun budget (net_of t) status)
+EndsText (ScheduleCircuit budget) bytes status = OfProgram number bytes (λ tree t A. EndsRun budget (net_of t) status)
 EndsText (Span budget calling profile schedule) bytes status =
     OfProgram (wanted_by_run calling) bytes (λ tree t A. EndsRun budget (net_run calling t) status)
 EndsText (Steps budget window) bytes status =
@@ -96,5 +99,6 @@ most_bytes (Trace budget calling window) = most_program_bytes
 most_bytes (Circuit cells forks) = most_program_bytes
 most_bytes (RunCircuit cells forks budget waves) = most_program_bytes
 most_bytes (NeedsCircuit budget) = most_program_bytes
+most_bytes (ScheduleCircuit budget) = most_program_bytes
 most_bytes (Span budget calling profile schedule) = most_program_bytes
 most_bytes (Steps budget window) = most_program_bytes

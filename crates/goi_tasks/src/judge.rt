@@ -14,7 +14,7 @@ ghost use Rattle.goi_jobs.specs.Tasks.{IsWithin, progress_of};
 
 use crate::circuit::report_circuit;
 use crate::circuit_run::{CircuitRun, report_circuit_run};
-use crate::needs::report_needs;
+use crate::needs::{report_needs, report_schedule};
 use crate::net_file::net_of_listing;
 use crate::program::{report_check, report_net};
 use crate::report::Report;
@@ -70,6 +70,7 @@ pub fn report_text<C: Crew>(
             },
         ),
         Task::NeedsCircuit { budget } => report_needs(alloc, bytes, budget),
+        Task::ScheduleCircuit { budget } => report_schedule(alloc, bytes, budget),
         Task::Span {
             budget,
             calling,

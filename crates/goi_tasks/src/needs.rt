@@ -1,15 +1,17 @@
-//! The report of what a program's circuit needs.
+//! The reports of a program's run as its circuit makes it: what the circuit needs, and who moves.
 
-ghost use Rattle.std.specs.Prelude.{◌≡◌, ℕ, IfOk, IfErr};
+ghost use Rattle.std.specs.Prelude.{◌≡◌, ℕ, true, false, IfOk, IfErr};
 ghost use Rattle.pcf_values.specs.Terms.{TermTree};
 ghost use Rattle.interleave_laws.specs.Runs.{Runs};
 ghost use Rattle.goi_jobs.specs.Ranges.{IsBudget};
-ghost use Rattle.goi_jobs.specs.declared.task.Task.TheVariants.{NeedsCircuit};
+ghost use Rattle.goi_jobs.specs.declared.task.Task.TheVariants.{NeedsCircuit, ScheduleCircuit};
 ghost use Rattle.program_runs.specs.declared.calling.Calling.TheVariants.{ByName};
 ghost use Rattle.program_runs.specs.Nets.{RunsAs};
 ghost use Rattle.program_runs.specs.Programs.{number};
+ghost use Rattle.goi_reports.specs.Booked.{BookedWithin};
+ghost use Rattle.goi_reports.specs.Reports.{run_report};
 ghost use Rattle.goi_tasks.specs.Seen.{output_of};
-ghost use Rattle.goi_tasks.specs.Needs.{ReportsNeeds};
+ghost use Rattle.goi_tasks.specs.Needs.{ReportsNeeds, ReportsSchedule};
 ghost use Rattle.goi_tasks.specs.Programs.{FaultyText};
 ghost use Rattle.goi_tasks.specs.Stops.{StopsFor};
 ghost use Rattle.goi_tasks.specs.Tasks.{ReportsText};
@@ -17,8 +19,8 @@ ghost use Rattle.goi_tasks.specs.Tasks.{ReportsText};
 use crate::report::{Report, plain};
 use crate::running::status_of;
 use crate::stop::Stop;
-use circuit_needs::circuit_needs;
-use goi_reports::needs_report;
+use circuit_needs::{Scheduled, circuit_needs, circuit_schedule};
+use goi_reports::{Parts, needs_report, run_report};
 use net_build::Net;
 use program_runs::{Calling, net_for};
 use std::alloc::{AllocError, Global};
@@ -44,4 +46,46 @@ fn report_counted(alloc: Global, net: &Net, budget: u32) -> Result<Report, Alloc
     let needs = circuit_needs(alloc, net, budget)?;
     let text = needs_report(alloc, needs.answer, needs.moves, needs.cells, needs.forks)?;
     Ok(plain(alloc, text, status_of(needs.answer)))
+}
+
+/// The report of the schedule by which the circuit of a text's program moves, whose type is `nat`.
+pub(crate) fn report_schedule(alloc: Global, bytes: &[u8], budget: u32) -> Result<Report, Stop>
+    requires budget { IsBudget budget }
+    ensures report { IfOk result (λ r. (workers : ℕ) → ReportsText workers (ScheduleCircuit budget) bytes.now (output_of r)) }
+    ensures fault { IfErr result (λ e. StopsFor (FaultyText number bytes.now) e) }
+{
+    let net = net_for(alloc, bytes, Calling::ByName)?;
+    let report = report_scheduled(alloc, &net, budget);
+    drop(net);
+    Ok(report?)
+}
+
+/// The report of the schedule by which a net's circuit moves.
+fn report_scheduled(alloc: Global, net: &Net, budget: u32) -> Result<Report, AllocError>
+    requires runs { Runs net.now }
+    requires budget { IsBudget budget }
+    ensures { IfOk result (λ r. (t : TermTree) → RunsAs ByName t net.now → ReportsSchedule budget t (output_of r)) }
+{
+    let made = circuit_schedule(alloc, net, budget)?;
+    let answer = made.answer;
+    let text = scheduled_text(alloc, &made);
+    drop(made);
+    Ok(plain(alloc, text?, status_of(answer)))
+}
+
+/// The lines of such a run, all of whose moves are worker 0's.
+fn scheduled_text(alloc: Global, made: &Scheduled) -> Result<Vec<u8>, AllocError>
+    requires { BookedWithin 1 made.now.log.entries }
+    ensures { IfOk result (λ v. v.items ≡ run_report made.now.answer made.now.log.entries 1 true false) }
+{
+    run_report(
+        alloc,
+        made.answer,
+        &made.log,
+        1,
+        Parts {
+            schedule: true,
+            tally: false,
+        },
+    )
 }

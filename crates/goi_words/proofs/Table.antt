@@ -227,12 +227,14 @@ trace_ready = record {
   );
 }
 
--- sizes in their ranges are those of a circuit and of its run, and a budget in its own is that of what it needs
-circuit_within : (is_needs is_run waves : Bool) (cells forks budget : ℕ) → IsCells cells → IsForks forks → IsBudget budget →
-    IsWithin (circuit_task is_needs is_run cells forks budget waves) × HasSizes (circuit_task is_needs is_run cells forks budget waves)
-circuit_within true is_run waves cells forks budget s e b = (b, tt)
-circuit_within false true waves cells forks budget s e b = ((b, s, e), tt)
-circuit_within false false waves cells forks budget s e b = (tt, (s, e))
+-- sizes in their ranges are those of a circuit and of its run, and a budget in its own is that of what it needs and of its schedule
+circuit_within : (is_needs is_scheduled is_run waves : Bool) (cells forks budget : ℕ) → IsCells cells → IsForks forks → IsBudget budget →
+    IsWithin (circuit_task is_needs is_scheduled is_run cells forks budget waves)
+    × HasSizes (circuit_task is_needs is_scheduled is_run cells forks budget waves)
+circuit_within true is_scheduled is_run waves cells forks budget s e b = (b, tt)
+circuit_within false true is_run waves cells forks budget s e b = (b, tt)
+circuit_within false false true waves cells forks budget s e b = ((b, s, e), tt)
+circuit_within false false false waves cells forks budget s e b = (tt, (s, e))
 
 -- `circuit` is entered by its name
 circuit_enters : Enters (built goi_command) (codes "circuit") (leaf circuit_row)
@@ -250,12 +252,13 @@ circuit_ready = record {
   defaults = refl;
   checked = λ rows there. rw there.0 refl;
   asks = λ rows clean. ((asked (is_row_given (codes "file") rows) false clean).0, tt);
-  same = λ f g os cs. rw (os.0, cs.0, cs.1.0, cs.1.1.0, cs.1.1.1.0, cs.1.1.1.1.0, cs.1.1.1.1.1.0) refl;
+  same = λ f g os cs. rw (os.0, cs.0, cs.1.0, cs.1.1.0, cs.1.1.1.0, cs.1.1.1.1.0, cs.1.1.1.1.1.0, cs.1.1.1.1.1.1.0) refl;
   has_job = λ f os cs. let file = os.0 in let cells = cs.0 in let forks = cs.1.0 in let budget = cs.1.1.0 in
-      let within = circuit_within (f.is_set (codes "needs")) (f.is_set (codes "run")) (f.is_set (codes "vcd")) cells.0 forks.0 budget.0
-      (cells.2, cells.3) (forks.2, forks.3) (budget.2, budget.3) in (
-        text file.0 1
-            (circuit_task (f.is_set (codes "needs")) (f.is_set (codes "run")) cells.0 forks.0 budget.0 (f.is_set (codes "vcd"))),
+      let needs = f.is_set (codes "needs") in let schedule = f.is_set (codes "schedule") in let run = f.is_set (codes "run") in
+      let waves = f.is_set (codes "vcd") in
+      let within = circuit_within needs schedule run waves cells.0 forks.0 budget.0 (cells.2, cells.3) (forks.2, forks.3)
+      (budget.2, budget.3) in (
+        text file.0 1 (circuit_task needs schedule run cells.0 forks.0 budget.0 waves),
         rw (file.1, cells.1, forks.1, budget.1) refl,
         (one_worker, within.0, within.1),
       );

@@ -12,7 +12,7 @@ use Rattle.goi_jobs.specs.Jobs.{JobTree, text, replay, list, demo, call}
 use Rattle.goi_jobs.specs.Tasks.{shown}
 use Rattle.goi_jobs.specs.declared.task.Task.{Task}
 use Rattle.goi_jobs.specs.declared.task.Task.TheVariants.{Run, Check, ShowNet, RunNet, Trace, Circuit, RunCircuit}
-use Rattle.goi_jobs.specs.declared.task.Task.TheVariants.{NeedsCircuit, Span, Steps}
+use Rattle.goi_jobs.specs.declared.task.Task.TheVariants.{NeedsCircuit, ScheduleCircuit, Span, Steps}
 use Rattle.goi_jobs.specs.declared.window.Window.{Window}
 use Rattle.program_runs.specs.Programs.{calling_of}
 use Rattle.program_runs.specs.declared.calling.Calling.{Calling}
@@ -135,7 +135,7 @@ cells_choice = numbered (codes "cells") 1 most_cells (codes "1023")
 
 -- the forks of a circuit
 abbrev pub forks_choice : Choice
-forks_choice = numbered (codes "forks") 1 most_forks (codes "64")
+forks_choice = numbered (codes "forks") 1 most_forks (codes "63")
 
 -- the flags
 abbrev pub schedule_choice : Choice
@@ -162,10 +162,12 @@ calling_in found = calling_of (found.is_set (codes "by-value"))
 abbrev pub if_traced : Bool → Window → Option Window
 if_traced is_traced window = if is_traced then Some window else None
 
--- what a circuit needs where that is asked for, and else its run where that is, and else the circuit
-abbrev pub circuit_task : (is_needs is_run : Bool) → (cells forks budget : ℕ) → Bool → Task
-circuit_task is_needs is_run cells forks budget waves =
-    if is_needs then NeedsCircuit budget else (if is_run then RunCircuit cells forks budget waves else Circuit cells forks)
+-- what a circuit needs where that is asked for, and else who moves in its run where that is, and else its run where that is, and else the
+-- circuit
+abbrev pub circuit_task : (is_needs is_scheduled is_run : Bool) → (cells forks budget : ℕ) → Bool → Task
+circuit_task is_needs is_scheduled is_run cells forks budget waves =
+    if is_needs then NeedsCircuit budget else (if is_scheduled then ScheduleCircuit budget
+    else (if is_run then RunCircuit cells forks budget waves else Circuit cells forks))
 
 -- ---- the jobs
 -- `replay` reads the part of a trace always, and asks for it with `--trace` alone: `clap`'s definition has no word for an option that
@@ -229,8 +231,8 @@ circuit_job found = do
   cells ← found.number (codes "cells")
   forks ← found.number (codes "forks")
   budget ← found.number (codes "budget")
-  Some (text file 1 (circuit_task (found.is_set (codes "needs")) (found.is_set (codes "run")) cells forks budget
-      (found.is_set (codes "vcd"))))
+  Some (text file 1 (circuit_task (found.is_set (codes "needs")) (found.is_set (codes "schedule")) (found.is_set (codes "run")) cells
+      forks budget (found.is_set (codes "vcd"))))
 
 abbrev pub span_job : Findings → Option JobTree
 span_job found = do
@@ -304,7 +306,7 @@ circuit_row = record {
   name = codes "circuit";
   operands = file_operand ∷ [];
   choices = cells_choice ∷ forks_choice ∷ budget_choice ∷ switch (codes "run") ∷ switch (codes "vcd")
-      ∷ switch (codes "needs") ∷ [];
+      ∷ switch (codes "needs") ∷ schedule_choice ∷ [];
   job = circuit_job;
 }
 

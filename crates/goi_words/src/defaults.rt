@@ -19,4 +19,4 @@ pub const DEFAULT_TOLD: &str = "1000";
 pub const DEFAULT_CELLS: &str = "1023";
 
 /// The forks of a circuit that can be open at once where the words don't say.
-pub const DEFAULT_FORKS: &str = "64";
+pub const DEFAULT_FORKS: &str = "63";

@@ -217,15 +217,18 @@ fn circuit_job(alloc: Global, found: &ArgMatches<'_>) -> Result<Job, WordFault>
     })
 }
 
-/// What a circuit needs within so many moves where that was found, and else the run of a circuit of these sizes for so many cycles where
-/// that was, and else the circuit.
+/// What a circuit needs within so many moves where that was found, and else who moves in it where that was, and else the run of a circuit
+/// of these sizes for so many cycles where that was, and else the circuit.
 fn circuit_task(found: &ArgMatches<'_>, cells: u32, forks: u32, budget: u32) -> Task
     ensures { result ≡ circuit_task ((findings (rows_of (found_of found.now))).is_set (codes "needs"))
+        ((findings (rows_of (found_of found.now))).is_set (codes "schedule"))
         ((findings (rows_of (found_of found.now))).is_set (codes "run")) cells forks budget
         ((findings (rows_of (found_of found.now))).is_set (codes "vcd")) }
 {
     if is_set(found, "needs") {
         Task::NeedsCircuit { budget }
+    } else if is_set(found, "schedule") {
+        Task::ScheduleCircuit { budget }
     } else if is_set(found, "run") {
         Task::RunCircuit {
             cells,

@@ -10,5 +10,6 @@ returns c =
       one_answer = c.law_one_answer.ensures;
       one_replay = c.law_one_replay.ensures;
       one_list = c.law_one_list.ensures;
+      one_function = c.law_one_function.ensures;
     } in
     one_section known c.law_one_length.ensures

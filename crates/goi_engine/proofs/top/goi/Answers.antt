@@ -12,6 +12,7 @@ returns g c =
       one_answer = c.law_one_answer.ensures;
       one_replay = c.law_one_replay.ensures;
       one_list = c.law_one_list.ensures;
+      one_function = c.law_one_function.ensures;
     } in
     let asked = job (map string_bytes c.args.words.now) in
     let answer = c.answer_to-answer in

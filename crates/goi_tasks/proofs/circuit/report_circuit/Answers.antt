@@ -1,7 +1,6 @@
-use Rattle.program_runs.specs.Programs.{number}
-use Rattle.goi_tasks.proofs.Texts.{no_net}
+use Rattle.goi_tasks.proofs.Functions.{no_any_function}
 use Rattle.goi_tasks.proofs.circuit.report_circuit.Goals as goal
 
-pub returns-in_err-net-clause-fault : goal.returns-in_err-net-clause-fault
-returns-in_err-net-clause-fault c =
-    no_net number c.args.bytes.now c.from_residual.result _ c.from_residual.ensures.1 c.in_err-net.ensures.fault
+pub returns-in_err-function-clause-fault : goal.returns-in_err-function-clause-fault
+returns-in_err-function-clause-fault c =
+    no_any_function c.args.bytes.now c.from_residual.result _ c.from_residual.ensures.1 c.in_err-function.ensures.fault

@@ -9,4 +9,5 @@ returns c =
       one_answer = c.law_one_answer.ensures;
       one_replay = c.law_one_replay.ensures;
       one_list = c.law_one_list.ensures;
+      one_function = c.law_one_function.ensures;
     }) c.law_one_function.ensures
