@@ -116,7 +116,7 @@ enum {
 
 /* What a text is taken for, where its first fault is asked for. */
 #define GOI_AS_PROGRAM 0u           /* a program of any type, as goi_check takes it */
-#define GOI_AS_NUMBER 1u            /* one of type `nat`, as goi_run, goi_tell, goi_trace, goi_span, goi_steps, goi_net and goi_circuit do */
+#define GOI_AS_NUMBER 1u            /* one of type `nat`, as goi_run, goi_tell, goi_trace, goi_span, goi_steps and goi_net do */
 #define GOI_AS_BY_VALUE 2u          /* one that is run with GOI_BY_VALUE */
 #define GOI_AS_LISTING 3u           /* the listing of a program's net, as goi_run_net takes it */
 #define GOI_AS_FUNCTION(n) (4u + (n)) /* a function of n numbers, as goi_tell_each takes it */
@@ -219,7 +219,8 @@ goi_status goi_span(const void *text, size_t text_size, uint32_t budget, uint32_
 goi_status goi_steps(const void *text, size_t text_size, uint32_t budget, uint32_t from, uint32_t most, void *out, size_t out_size,
                      size_t *needed);
 
-/* Gives back the circuit of the program's net, with so many cells and forks, as `goi circuit` prints it. (CallsCircuit) */
+/* Gives back the circuit of the program's net, with so many cells and forks, as `goi circuit` prints it: of a function of numbers it has a
+ * port for each argument. What has a fault for it has the same one as GOI_AS_NUMBER. (CallsCircuit) */
 goi_status goi_circuit(const void *text, size_t text_size, uint32_t cells, uint32_t forks, void *out, size_t out_size, size_t *needed);
 
 /* Tells the first fault of a text in numbers, as what it is taken for (GOI_AS_..): that of the line which the calls give for it. GOI_OK: it

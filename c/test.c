@@ -344,11 +344,21 @@ static void try_faults(void) {
 /* ---- circuits */
 
 static void try_circuit(uint32_t cells, uint32_t forks, goi_status status) {
-    static const char end[] = "endmodule\n`default_nettype wire\n";
+    static const char end[] = "endmodule\n`default_nettype wire\n// verilator lint_restore\n";
     static char out[1 << 16];
     size_t needed = 7, last = sizeof end - 1;
     TRY("circuit", goi_circuit("1", 1, cells, forks, out, sizeof out, &needed) == status && (needed > 0) == (status == GOI_OK));
     TRY("circuit", status != GOI_OK || (needed > last && !memcmp(out + needed - last, end, last)));
+}
+
+/* The circuit of a function, which has this port and not the other one; or with no port the line of the fault. */
+static void try_ports(const char *text, const char *port, const char *other) {
+    static char out[1 << 16];
+    size_t needed = 0;
+    goi_status status = goi_circuit(text, strlen(text), GOI_CELLS, GOI_FORKS, out, sizeof out - 1, &needed);
+    TRY("ports", status == (port ? GOI_OK : GOI_REFUSED) && needed < sizeof out);
+    out[needed < sizeof out ? needed : 0] = 0;
+    TRY("ports", port ? strstr(out, port) && !strstr(out, other) : !strcmp(out, "refused: NotGround\n"));
 }
 
 /* ---- long texts, by how they begin and end */
@@ -407,6 +417,11 @@ int main(void) {
     try_circuit(GOI_CELLS_MAX + 1, 1, GOI_BAD_CALL);
     try_circuit(GOI_CELLS, 0, GOI_BAD_CALL);
     try_circuit(GOI_CELLS, GOI_FORKS_MAX + 1, GOI_BAD_CALL);
+    try_ports("fun x:nat. x", "  input wire [63:0] arg0\n", "arg1");
+    try_ports("fun x:nat. fun y:nat. x + y", "  input wire [63:0] arg1\n", "arg2");
+    try_ports("1", "module goi (", "arg0");
+    try_ports("(1, 2)", 0, 0);
+    try_ports("fun f:nat->nat. f 0", 0, 0);
     {
         char line[GOI_LINE_SIZE];
         size_t needed = 0;

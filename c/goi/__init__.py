@@ -263,7 +263,8 @@ def net(text):
 
 
 def circuit(text, cells=CELLS, forks=FORKS):
-    """The circuit of the program's net, with so many cells and forks, as `goi circuit` prints it."""
+    """The circuit of the program's net, with so many cells and forks, as `goi circuit` prints it: of a function it has a port for each
+    argument."""
     text = _bytes(text)
     return _judged(*call("goi_circuit", *text, _number(cells), _number(forks)), text, AS_NUMBER)
 

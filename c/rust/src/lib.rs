@@ -496,7 +496,8 @@ pub fn net(text: impl AsRef<[u8]>) -> Result<String, Error> {
     })
 }
 
-/// The circuit of the program's net, with so many cells and forks, as `goi circuit` prints it.
+/// The circuit of the program's net, with so many cells and forks, as `goi circuit` prints it: of a function of numbers it has a port
+/// for each argument.
 pub fn circuit(text: impl AsRef<[u8]>, cells: u32, forks: u32) -> Result<String, Error> {
     let text = text.as_ref();
     text_of(Judged::Text(text, Taken::Number), |out, needed| unsafe {
@@ -647,14 +648,15 @@ mod tests {
     #[test]
     fn circuits() {
         let text = circuit("1", CELLS, FORKS).unwrap();
-        assert!(text.contains("module") && text.ends_with("endmodule\n`default_nettype wire\n"));
+        assert!(text.contains("module") && text.ends_with("endmodule\n`default_nettype wire\n// verilator lint_restore\n"));
         assert_ne!(text, circuit("1", 1, FORKS).unwrap());
         assert_ne!(text, circuit("1", CELLS, FORKS_MAX).unwrap());
         circuit("1", CELLS_MAX, 1).unwrap();
         for (cells, forks) in [(0, 1), (CELLS_MAX + 1, 1), (CELLS, 0), (CELLS, FORKS_MAX + 1)] {
             assert_eq!(circuit("1", cells, forks), Err(Error::BadCall));
         }
-        assert_eq!(circuit("fun x:nat. x", CELLS, FORKS), refused(Kind::NotGround, None, "NotGround"));
+        assert!(circuit("fun x:nat. x", CELLS, FORKS).unwrap().contains("  input wire [63:0] arg0\n"));
+        assert_eq!(circuit("(1, 2)", CELLS, FORKS), refused(Kind::NotGround, None, "NotGround"));
     }
 
     #[test]
