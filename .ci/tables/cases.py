@@ -69,9 +69,9 @@ def row_of(name, words, files, wanted):
     case(name, lambda: left(words, files), plain(wanted).replace(b"\n", b";"))
 
 
-def replayed(text, words):
+def replayed(text, words, command="run"):
     """What a run with `--schedule` tells first, whether its numbers add up, and what its own schedule is replayed to."""
-    status, out, err = call(["goi", "run", "p", "--schedule", *words], {"p": text})
+    status, out, err = call(["goi", command, "p", "--schedule", *words], {"p": text})
     told = out.split(b"\n")
     cut = told.index(b"end") + 1
     moves = int(told[1].split(b" ")[1])

@@ -1,9 +1,10 @@
 """The texts of circuits: .ci/rows/circuits."""
 
 import os
+import re
 
 from judging import EXAMPLES
-from tables.cases import call, case, plain, sections
+from tables.cases import call, case, plain, row_of, sections
 
 
 def left_out(text, below):
@@ -21,6 +22,22 @@ def left_out(text, below):
     return rest + lines[at:]
 
 
+# A function of 900 numbers, in two parts, since no type is as deep.
+LONGEST = f"(fun h:{'nat->' * 450}nat. {'fun x:nat. ' * 450}h) ({'fun x:nat. ' * 450}x)"
+
+
+def ported(fixed):
+    """What is left out of a function's text. The end of the list of ports is shown, and above the registers of arguments there is a gap."""
+    at = fixed.index("  // ---- where the token goes")
+    return [it for it in [*fixed[:at], "", *fixed[at:]] if it not in ("  output reg [63:0] moves", ");")]
+
+
+def ports():
+    """The ports of the longest function's circuit, and how many rows read their registers."""
+    out = call(["goi", "circuit", "p"], {"p": LONGEST.encode()})[1].decode()
+    return re.findall(r"^  input wire \[63:0\] (\w+),?$", out, re.M), len(set(re.findall(r" number = (held\d+);", out)))
+
+
 def cases():
     """What the table leaves out of a text is what it leaves out of examples/succ.v, whose row is the first: the fixed parts."""
     table = sections("circuits")
@@ -34,4 +51,9 @@ def cases():
             status, out, err = call(words, {"p": text})
             return status, err, left_out(out.decode(), below)
 
-        case(f"the circuit of {text}", shown, (0, b"", fixed))
+        case(f"the circuit of {text}", shown, (0, b"", ported(fixed) if "arg0" in below else fixed))
+    case("the circuit of a function of 900 numbers", ports, ([f"arg{it}" for it in range(900)], 900))
+    for text in "(1, 2)", "fun f:nat->nat. f 0", "fun p:nat * nat. fst p", "fun x:nat. (x, x)":
+        row_of(f"the circuit of {text}", ["goi", "circuit", "p"], {"p": text.encode()}, "1 refused: NotGround;")
+    for option in "--run", "--needs", "--schedule":
+        row_of(f"a function's circuit with {option}", ["goi", "circuit", "p", option], {"p": b"fun x:nat. x"}, "1 refused: NotGround;")

@@ -9,6 +9,7 @@ def cases():
         (b"fix y:nat. y", b"5 no value;moves 10000;"),
     ]:
         case(f"the schedule of {text!r}", lambda text=text: replayed(text, []), (lines, b"", True, lines))
+        case(f"the circuit's schedule of {text!r}", lambda text=text: replayed(text, [], "circuit"), (lines, b"", True, lines))
     # the order in which workers come is another in each run, perhaps; what is asked of it is the same
     for text, workers, lines in [
         (DOUBLE, "2", b"0 value 6;moves 30;"), (TWICE, "2", b"0 value 6;moves 126;"), (PRODUCT, "4", b"0 value 6;moves 330;"),

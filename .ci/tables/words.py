@@ -33,7 +33,7 @@ def cases():
             row_of(f"{words}", words, WORDS_FILES, wanted)
     # the sizes of a circuit, where the words give them in any order, and where they give none
     for words, sizes in [
-        (["p"], ("1023", "64")), (["p", "--forks", "1024", "--cells", "8"], ("8", "1024")),
+        (["p"], ("1023", "63")), (["p", "--forks", "1024", "--cells", "8"], ("8", "1024")),
         (["--cells=1048575", "p", "--forks=1"], ("1048575", "1")),
     ]:
         parameters = lambda words=words: re.search(
