@@ -6,5 +6,3 @@ pub mod Latch
 pub mod Lines
 -- the parts are the text of the tree
 pub mod Whole
--- each word that Verilog reserves names no module
-pub mod Reserved

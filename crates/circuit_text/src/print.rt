@@ -24,8 +24,8 @@ use net_build::{Net, Wire};
 use std::alloc::{AllocError, Global};
 use verilog_tree::{Expression, Extent, Item, Range, push_expression, push_items};
 
-/// The text of a net's circuit, with so many cells and forks, as a module of this name, where these nodes get ports: `is_module_name` tells
-/// which names are taken.
+/// The text of a net's circuit, with so many cells and forks, as a module of this name, where these nodes get ports:
+/// `verilog_names::is_module_name` tells which names are taken.
 ///
 /// # Errors
 ///

@@ -5,7 +5,7 @@ use Prim.Native.String.{String}
 use lib.Dec.{T}
 use lib.Text.{eqt, eqt→eq}
 use Rattle.verilog_tree.specs.WellFormed.{member, keywords}
-use Rattle.circuit_text.specs.Name.{is_one_of, reserved}
+use Rattle.verilog_names.specs.Name.{is_one_of, reserved}
 
 -- a truth
 holds_of : (b : Bool) → b ≡ true → T b

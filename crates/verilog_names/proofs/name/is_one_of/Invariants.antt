@@ -1,6 +1,6 @@
 use Rattle.std.proofs.Common.{◌≡◌, drop, map}
-use Rattle.circuit_text.specs.Name.{is_one_of}
-use Rattle.circuit_text.proofs.name.is_one_of.Given as goal
+use Rattle.verilog_names.specs.Name.{is_one_of}
+use Rattle.verilog_names.proofs.name.is_one_of.Given as goal
 
 abbrev pub invariant-loop-word : goal.invariant-loop-word
 invariant-loop-word l =

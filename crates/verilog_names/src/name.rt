@@ -1,7 +1,7 @@
 //! Which names a circuit's module may have.
 
 ghost use Rattle.std.specs.Prelude.{◌≡◌, List, ℕ, map};
-ghost use Rattle.circuit_text.specs.Name.{name_byte, name_bytes, is_simple, is_one_of, reserved, module_name};
+ghost use Rattle.verilog_names.specs.Name.{name_byte, name_bytes, is_simple, is_one_of, reserved, module_name};
 ghost use Rattle.verilog_tree.specs.WellFormed.{letter};
 
 /// Whether a module of a circuit may have this name: a letter or `_`, and then letters, digits, `_` and `$`, of at most 255 bytes and no

@@ -1,6 +1,6 @@
 use Rattle.std.proofs.Common.{◌≡◌, drop}
-use Rattle.circuit_text.specs.Name.{name_bytes}
-use Rattle.circuit_text.proofs.name.name_bytes.Given as goal
+use Rattle.verilog_names.specs.Name.{name_bytes}
+use Rattle.verilog_names.proofs.name.name_bytes.Given as goal
 
 abbrev pub invariant-loop-byte : goal.invariant-loop-byte
 invariant-loop-byte l = name_bytes (drop l.byte-index l.bytes) ≡ name_bytes l.fn.bytes

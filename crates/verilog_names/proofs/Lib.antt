@@ -1,0 +1,2 @@
+-- each word that Verilog reserves names no module
+pub mod Reserved

@@ -1,0 +1,2 @@
+-- Which names a module may have: what a reader has to believe.
+pub mod Name
