@@ -1,11 +1,14 @@
 -- What can be asked for, and the ranges of its numbers.
 -- A job has the options of its command with their values, given or by default. Its files are named by the bytes of their names.
-use Rattle.std.specs.Prelude.{ℕ, Bool, List, Option}
+use Rattle.std.specs.Prelude.{◌≡◌, ℕ, Bool, true, List, Option}
 use Rattle.goi_jobs.specs.Ranges.{IsWorkers, IsBudget, IsDemo, IsWindowIfAny}
-use Rattle.goi_jobs.specs.Tasks.{IsWithin, HasSizes}
+use Rattle.verilog_names.specs.Name.{module_name}
+use Rattle.goi_jobs.specs.Tasks.{IsWithin}
+use Rattle.goi_jobs.specs.Verilogs.{IsPrinted, HasSizes}
 use Rattle.goi_jobs.specs.declared.jobs.Job.{Job}
 use Rattle.goi_jobs.specs.declared.jobs.Job.TheVariants as variant
 use Rattle.goi_jobs.specs.declared.task.Task.{Task}
+use Rattle.goi_jobs.specs.declared.verilog.Verilog.{Verilog}
 use Rattle.goi_jobs.specs.declared.window.Window.{Window}
 
 -- a job
@@ -21,6 +24,8 @@ pub data JobTree : Type 0 where
   -- run the term of the program of a file, applied to these numbers, with so many workers and at most so many moves; print its schedule
   -- and its tally where asked
   call : List ℕ → List ℕ → ℕ → ℕ → Bool → Bool → JobTree
+  -- print this of Verilog for the text of a file, under this name of its circuit's module
+  verilog : List ℕ → List ℕ → Verilog → JobTree
 
 -- the job of the code
 abbrev pub job_of : Job → JobTree
@@ -29,11 +34,13 @@ job_of (variant.Replay file schedule window) = replay file schedule window
 job_of (variant.List file workers) = list file workers
 job_of (variant.Demo n workers) = demo n workers
 job_of (variant.Call file numbers workers budget schedule tally) = call file numbers.items workers budget schedule tally
+job_of (variant.Verilog file name v) = verilog file name v
 
--- the numbers of a job are in their ranges
+-- the numbers of a job are in their ranges, and the name of a module is one
 abbrev pub IsWithinLimits : JobTree → Type 0
-IsWithinLimits (text file workers task) = IsWorkers workers × IsWithin task × HasSizes task
+IsWithinLimits (text file workers task) = IsWorkers workers × IsWithin task
 IsWithinLimits (replay file schedule window) = IsWindowIfAny window
 IsWithinLimits (list file workers) = IsWorkers workers
 IsWithinLimits (demo n workers) = IsDemo n × IsWorkers workers
 IsWithinLimits (call file numbers workers budget schedule tally) = IsWorkers workers × IsBudget budget
+IsWithinLimits (verilog file name v) = (module_name name ≡ true) × IsPrinted v × HasSizes v

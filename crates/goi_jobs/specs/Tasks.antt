@@ -1,9 +1,9 @@
 -- What is done with the text of one file: what is shown of a run, which tasks tell their progress, and the ranges of their numbers.
-use Rattle.std.specs.Prelude.{⊤, Bool, false}
+use Rattle.std.specs.Prelude.{Bool, false}
 use Rattle.goi_jobs.specs.Ranges.{IsBudget, IsWindow, IsPart, IsCells, IsForks}
 use Rattle.goi_jobs.specs.declared.shown.Shown.{Shown}
 use Rattle.goi_jobs.specs.declared.task.Task.{Task}
-use Rattle.goi_jobs.specs.declared.task.Task.TheVariants.{Run, Check, ShowNet, RunNet, Trace, Circuit, RunCircuit}
+use Rattle.goi_jobs.specs.declared.task.Task.TheVariants.{Run, Check, ShowNet, RunNet, Trace, RunCircuit}
 use Rattle.goi_jobs.specs.declared.task.Task.TheVariants.{NeedsCircuit, ScheduleCircuit, Span, Steps}
 
 -- these are shown, and nothing is
@@ -19,21 +19,15 @@ progress_of (Run budget calling shown) = shown.progress
 progress_of (RunNet budget shown) = shown.progress
 progress_of _ = false
 
--- the numbers of a task are in the ranges in which it can be done; the circuit is printed at any sizes
+-- the numbers of a task are in the ranges in which it can be done
 abbrev pub IsWithin : Task → Type 0
 IsWithin (Run budget calling shown) = IsBudget budget
 IsWithin (Check term) = Unit {0}
 IsWithin ShowNet = Unit {0}
 IsWithin (RunNet budget shown) = IsBudget budget
 IsWithin (Trace budget calling window) = IsBudget budget × IsWindow window
-IsWithin (Circuit cells forks) = Unit {0}
 IsWithin (RunCircuit cells forks budget waves) = IsBudget budget × IsCells cells × IsForks forks
 IsWithin (NeedsCircuit budget) = IsBudget budget
 IsWithin (ScheduleCircuit budget) = IsBudget budget
 IsWithin (Span budget calling profile schedule) = IsBudget budget
 IsWithin (Steps budget window) = IsBudget budget × IsPart window
-
--- and the sizes of a circuit are those that can be asked for
-abbrev pub HasSizes : Task → Type 0
-HasSizes (Circuit cells forks) = IsCells cells × IsForks forks
-HasSizes _ = ⊤

@@ -42,13 +42,6 @@ pub enum Task {
         /// The part of the trace that is told.
         window: Window,
     },
-    /// Print the circuit of the program's net.
-    Circuit {
-        /// How many cells it has; where words ask for it, from 1 to `MOST_CELLS`.
-        cells: u32,
-        /// How many forks can be open at once; where words ask for it, from 1 to `MOST_FORKS`.
-        forks: u32,
-    },
     /// Run the module of the program's circuit, by what its Verilog means, and tell what it answers, or what it does.
     RunCircuit {
         /// How many cells it has; from 1 to `MOST_CELLS`.
