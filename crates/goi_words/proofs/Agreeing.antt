@@ -14,23 +14,24 @@ use Rattle.clap.specs.Lexer.{usize_max}
 use Rattle.clap.specs.Facts.{explicit_source}
 use Rattle.clap.specs.Walk.{Row, Text, has_row, with_default}
 use Rattle.clap.specs.Simple.{Shape, filled}
-use Rattle.goi_words.specs.Commands.{Choice, CommandRow, Operand, a_number, a_text, choice_name, numbered, operand}
+use Rattle.goi_words.specs.Commands.{Choice, CommandRow, Operand, a_number, a_text, choice_name, named, numbered, operand}
 use Rattle.goi_words.specs.Commands.{operand_name, ranged_operand, some_numbers, switch, wide_operand}
 use Rattle.goi_words.specs.Asked.{findings, number_in, numbers_of, wide_numbers_in}
 use Rattle.goi_words.specs.Plain.{AllFit, IsOption, IsPlain, Setting, Takes, Value, given as given_to, is_given}
-use Rattle.goi_words.specs.Plain.{number, number_given, numbers}
-use Rattle.goi_words.specs.Plain.{numbers_given, option_given, text, text_given, value_given}
+use Rattle.goi_words.specs.Plain.{name_given, number, number_given, number_in_value, numbers}
+use Rattle.goi_words.specs.Plain.{numbers_given, option_given, text, text_given, text_in_value, value_given}
 use Rattle.goi_words.proofs.Decimals.{decimal_kept, decimal_number}
 use Rattle.goi_words.proofs.Operands.{ArePlaced, IsLast, is_small, operand_rows}
-use Rattle.goi_words.proofs.Ready.{IsOwn, IsReady, IsSameAt, IsSameFor, IsThere, knows, leaf}
+use Rattle.goi_words.proofs.Ready.{IsNamedFor, IsOwn, IsReady, IsSameAt, IsSameFor, IsThere, knows, leaf}
 use Rattle.goi_words.proofs.Rows.{default_row, given, row_after, row_at}
 use Rattle.goi_words.proofs.Settings.{IsKnown, choice_named, known_in, number_at, row_named, set_at, set_row}
-use Rattle.goi_words.proofs.Settings.{value_row}
+use Rattle.goi_words.proofs.Settings.{text_at, value_row}
 use Rattle.goi_words.proofs.Walks.{same_text}
 use Rattle.goi_words.proofs.Wide.{wide_numbers}
+use Rattle.verilog_names.specs.Name.{module_name}
 
 -- a number of 32 bits that stands in the row of an argument with a range
-number_there : (n : ℕ) (name : Text) → n < 2 ^ 32 → number_at (Some (value_row name (Some n))) ≡ Some n
+number_there : (n : ℕ) (name : Text) → n < 2 ^ 32 → number_at (Some (value_row name (Some (number n)))) ≡ Some n
 number_there n name small = rw (decimal_kept n small, decimal_number n small) refl
 
 -- ---- operands
@@ -114,6 +115,7 @@ shown sh i (p ∷ os) (v ∷ vs) n o placed fit is =
 pub record IsAbsent (os : List Operand) (vs : List Value) (n : Text) : Type 0 where
   pub row : row_at n (operand_rows os vs) ≡ None
   pub given : number_given os vs n ≡ None
+  pub text : text_given os vs n ≡ None
 
 -- both sides of a conjunction
 both : (a b : Bool) → (not a && b) ≡ true → (a ≡ false) × (b ≡ true)
@@ -123,7 +125,7 @@ both false b e = (refl, e)
 -- a name from which the operands' names differ is absent
 pub absent : (os : List Operand) (vs : List Value) (n : Text) → AllFit os vs → list_all (λ o. not (bytes_eq (operand_name o) n)) os ≡ true
     → IsAbsent os vs n
-absent [] [] n fit apart = record { row = refl; given = refl }
+absent [] [] n fit apart = record { row = refl; given = refl; text = refl }
 absent [] (v ∷ vs) n fit apart = absurd fit
 absent (o ∷ os) [] n fit apart = absurd fit
 absent (o ∷ os) (v ∷ vs) n fit apart =
@@ -132,10 +134,12 @@ absent (o ∷ os) (v ∷ vs) n fit apart =
   where
     go : (o : Operand) (v : Value) → bytes_eq (operand_name o) n ≡ false → AllFit (o ∷ os) (v ∷ vs) → IsAbsent os vs n
         → IsAbsent (o ∷ os) (v ∷ vs) n
-    go (a_text m) (text t) differs fit rest = record { row = rw differs rest.row; given = rest.given }
-    go (a_number m low high) (number k) differs fit rest = record { row = rw differs rest.row; given = rw differs rest.given }
-    go (some_numbers m) (numbers []) differs fit rest = record { row = rest.row; given = rest.given }
-    go (some_numbers m) (numbers (k ∷ ks)) differs fit rest = record { row = rw differs rest.row; given = rest.given }
+    go (a_text m) (text t) differs fit rest = record { row = rw differs rest.row; given = rest.given; text = rw differs rest.text }
+    go (a_number m low high) (number k) differs fit rest =
+        record { row = rw differs rest.row; given = rw differs rest.given; text = rest.text }
+    go (some_numbers m) (numbers []) differs fit rest = record { row = rest.row; given = rest.given; text = rest.text }
+    go (some_numbers m) (numbers (k ∷ ks)) differs fit rest =
+        record { row = rw differs rest.row; given = rest.given; text = rest.text }
     go (a_text m) (number k) differs fit rest = absurd fit.0
     go (a_text m) (numbers ks) differs fit rest = absurd fit.0
     go (a_number m low high) (text t) differs fit rest = absurd fit.0
@@ -158,8 +162,8 @@ no_row n (r ∷ rows) none = go (bytes_eq r.id n) none (no_row n rows)
 -- the option of this name that a setting is of
 setting_of : (cs : List Choice) (ch : Choice) (s : Setting) (o : IsOption cs s)
     → find (λ c. bytes_eq (choice_name c) (choice_name ch)) cs ≡ Some ch → s.name ≡ choice_name ch → Takes ch s.value
-setting_of cs ch s o listed named =
-    let found : Some o.choice ≡ Some ch = sym o.listed ∙ ap (λ n. find (λ c. bytes_eq (choice_name c) n) cs) named ∙ listed in
+setting_of cs ch s o listed called =
+    let found : Some o.choice ≡ Some ch = sym o.listed ∙ ap (λ n. find (λ c. bytes_eq (choice_name c) n) cs) called ∙ listed in
     subst (λ c. Takes c s.value) (same o.choice ch found) o.fits
   where
     same : (x y : Choice) → Some x ≡ Some y → x ≡ y
@@ -171,30 +175,76 @@ row_of_first : (s : Setting) (ss : List Setting) (n : Text) (b : Bool) → bytes
 row_of_first s ss n b is =
     ap (λ (c : Bool). cond c (Some (set_row s)) (row_at n (map set_row ss))) (ap (λ m. bytes_eq m n) (row_named s.name s.value) ∙ is)
 
--- the number of an option
-number_found : (cs : List Choice) (name : Text) (least most : ℕ) (default : Text) (d : Option Row)
-    → find (λ c. bytes_eq (choice_name c) name) cs ≡ Some (numbered name least most default) → nat_lt most (2 ^ 32) ≡ true
-    → number_at d ≡ number_in default → (ss : List Setting) → AllByRecursion (IsOption cs) ss
-    → number_at (option_or (row_at name (map set_row ss)) d) ≡ value_given name default ss
-number_found cs name least most default d listed small is [] options = is
-number_found cs name least most default d listed small is (s ∷ ss) options =
-    go (bytes_eq s.name name) refl (number_found cs name least most default d listed small is ss options.1)
+-- what is found of an option with a value: what it is given with, or else what it is by default
+found_by : {X : Type 0} (at : Option Row → Option X) (in_value : Option Value → Option X) (cs : List Choice) (ch : Choice) (d : Option Row)
+    (default : Option X) → find (λ c. bytes_eq (choice_name c) (choice_name ch)) cs ≡ Some ch
+    → ((name : Text) (value : Option Value) → Takes ch value → at (Some (value_row name value)) ≡ in_value value) → at d ≡ default
+    → (ss : List Setting) → AllByRecursion (IsOption cs) ss
+    → at (option_or (row_at (choice_name ch) (map set_row ss)) d) ≡ option_map_or in_value (value_given (choice_name ch) ss) default
+found_by at in_value cs ch d default listed valued is [] options = is
+found_by at in_value cs ch d default listed valued is (s ∷ ss) options =
+    go (bytes_eq s.name (choice_name ch)) refl (found_by at in_value cs ch d default listed valued is ss options.1)
   where
-    valued : (value : Option ℕ) → Takes (numbered name least most default) value → number_at (Some (value_row s.name value)) ≡ value
-    valued None takes = absurd takes
-    valued (Some k) takes =
-        let high = ltb-true most (2 ^ 32) small in
-        number_there k s.name (omega (arith, high, takes.1))
-
-    go : (b : Bool) → bytes_eq s.name name ≡ b → number_at (option_or (row_at name (map set_row ss)) d) ≡ value_given name default ss
-        → number_at (option_or (row_at name (map set_row (s ∷ ss))) d) ≡ value_given name default (s ∷ ss)
+    go : (b : Bool) → bytes_eq s.name (choice_name ch) ≡ b
+        → at (option_or (row_at (choice_name ch) (map set_row ss)) d) ≡ option_map_or in_value (value_given (choice_name ch) ss) default
+        → at (option_or (row_at (choice_name ch) (map set_row (s ∷ ss))) d)
+        ≡ option_map_or in_value (value_given (choice_name ch) (s ∷ ss)) default
     go true same rest =
-        ap (λ o. number_at (option_or o d)) (row_of_first s ss name true same)
-        ∙ valued s.value (setting_of cs (numbered name least most default) s options.0 listed ((bytes_eq-Decides s.name name).0 same))
-        ∙ sym (ap (λ (b : Bool). cond b s.value (value_given name default ss)) same)
+        ap (λ o. at (option_or o d)) (row_of_first s ss (choice_name ch) true same)
+        ∙ valued s.name s.value (setting_of cs ch s options.0 listed ((bytes_eq-Decides s.name (choice_name ch)).0 same))
+        ∙ sym (ap (λ (b : Bool). option_map_or in_value (cond b (Some s.value) (value_given (choice_name ch) ss)) default) same)
     go false differs rest =
-        ap (λ o. number_at (option_or o d)) (row_of_first s ss name false differs) ∙ rest
-        ∙ sym (ap (λ (b : Bool). cond b s.value (value_given name default ss)) differs)
+        ap (λ o. at (option_or o d)) (row_of_first s ss (choice_name ch) false differs) ∙ rest
+        ∙ sym (ap (λ (b : Bool). option_map_or in_value (cond b (Some s.value) (value_given (choice_name ch) ss)) default) differs)
+
+-- the number in the row of an option with a number
+number_valued : (n : Text) (least most : ℕ) (default : Text) → nat_lt most (2 ^ 32) ≡ true → (name : Text) (value : Option Value)
+    → Takes (numbered n least most default) value → number_at (Some (value_row name value)) ≡ number_in_value value
+number_valued n least most default small name None takes = absurd takes
+number_valued n least most default small name (Some (number k)) takes =
+    let high = ltb-true most (2 ^ 32) small in
+    number_there k name (omega (arith, high, takes.1))
+number_valued n least most default small name (Some (text t)) takes = absurd takes
+number_valued n least most default small name (Some (numbers ks)) takes = absurd takes
+
+-- the text in the row of an option with a name
+text_valued : (n default name : Text) (value : Option Value) → Takes (named n default) value
+    → text_at (Some (value_row name value)) ≡ text_in_value value
+text_valued n default name None takes = absurd takes
+text_valued n default name (Some (number k)) takes = absurd takes
+text_valued n default name (Some (text t)) takes = refl
+text_valued n default name (Some (numbers ks)) takes = absurd takes
+
+-- it is the name of a module
+right_value : (n default : Text) (value : Option Value) → Takes (named n default) value
+    → (t : Text) × (text_in_value value ≡ Some t) × (module_name t ≡ true)
+right_value n default None takes = absurd takes
+right_value n default (Some (number k)) takes = absurd takes
+right_value n default (Some (text t)) takes = (t, refl, takes)
+right_value n default (Some (numbers ks)) takes = absurd takes
+
+-- and so is what is given, or else the default
+right_name : (cs : List Choice) (n default : Text) → find (λ c. bytes_eq (choice_name c) n) cs ≡ Some (named n default)
+    → module_name default ≡ true → (ss : List Setting) → AllByRecursion (IsOption cs) ss
+    → (t : Text) × (option_map_or text_in_value (value_given n ss) (Some default) ≡ Some t) × (module_name t ≡ true)
+right_name cs n default listed is [] options = (default, refl, is)
+right_name cs n default listed is (s ∷ ss) options = go (bytes_eq s.name n) refl (right_name cs n default listed is ss options.1)
+  where
+    go : (b : Bool) → bytes_eq s.name n ≡ b
+        → (t : Text) × (option_map_or text_in_value (value_given n ss) (Some default) ≡ Some t) × (module_name t ≡ true)
+        → (t : Text) × (option_map_or text_in_value (value_given n (s ∷ ss)) (Some default) ≡ Some t) × (module_name t ≡ true)
+    go true same rest =
+        let takes = setting_of cs (named n default) s options.0 listed ((bytes_eq-Decides s.name n).0 same) in
+        let right = right_value n default s.value takes in (
+          right.0,
+          ap (λ (b : Bool). option_map_or text_in_value (cond b (Some s.value) (value_given n ss)) (Some default)) same ∙ right.1,
+          right.2,
+        )
+    go false differs rest = (
+      rest.0,
+      ap (λ (b : Bool). option_map_or text_in_value (cond b (Some s.value) (value_given n ss)) (Some default)) differs ∙ rest.1,
+      rest.2,
+    )
 
 -- whether a flag is set
 flag_found : (cs : List Choice) (name : Text) (d : Option Row) → find (λ c. bytes_eq (choice_name c) name) cs ≡ Some (switch name)
@@ -204,9 +254,9 @@ flag_found cs name d listed is [] options = is
 flag_found cs name d listed is (s ∷ ss) options =
     go (bytes_eq s.name name) refl (flag_found cs name d listed is ss options.1)
   where
-    set : (value : Option ℕ) → Takes (switch name) value → set_at (Some (value_row s.name value)) ≡ true
+    set : (value : Option Value) → Takes (switch name) value → set_at (Some (value_row s.name value)) ≡ true
     set None takes = refl
-    set (Some k) takes = absurd takes
+    set (Some v) takes = absurd takes
 
     go : (b : Bool) → bytes_eq s.name name ≡ b → set_at (option_or (row_at name (map set_row ss)) d) ≡ is_given name ss
         → set_at (option_or (row_at name (map set_row (s ∷ ss))) d) ≡ is_given name (s ∷ ss)
@@ -221,7 +271,7 @@ flag_found cs name d listed is (s ∷ ss) options =
 -- the number of the option of a name
 option_found : (cs : List Choice) (name : Text) (least most : ℕ) (default : Text) (ss : List Setting)
     → find (λ c. bytes_eq (choice_name c) name) cs ≡ Some (numbered name least most default)
-    → option_given cs ss name ≡ value_given name default ss
+    → option_given cs ss name ≡ option_map_or number_in_value (value_given name ss) (number_in default)
 option_found [] name least most default ss listed = cc
 option_found (ch ∷ cs) name least most default ss listed =
     go ch (bytes_eq (choice_name ch) name) refl listed (option_found cs name least most default ss)
@@ -229,15 +279,43 @@ option_found (ch ∷ cs) name least most default ss listed =
     go : (ch : Choice) (b : Bool) → bytes_eq (choice_name ch) name ≡ b
         → cond b (Some ch) (find (λ c. bytes_eq (choice_name c) name) cs) ≡ Some (numbered name least most default)
         → (find (λ c. bytes_eq (choice_name c) name) cs ≡ Some (numbered name least most default)
-        → option_given cs ss name ≡ value_given name default ss)
-        → option_given (ch ∷ cs) ss name ≡ value_given name default ss
+        → option_given cs ss name ≡ option_map_or number_in_value (value_given name ss) (number_in default))
+        → option_given (ch ∷ cs) ss name ≡ option_map_or number_in_value (value_given name ss) (number_in default)
     go (switch m) true same is rest = cc
     go (switch m) false differs is rest = rest is
+    go (named m e) true same is rest = cc
+    go (named m e) false differs is rest = rest is
     go (numbered m l g e) true same is rest =
         let text_is : e ≡ default = cc in
-        ap (λ (b : Bool). cond b (value_given name e ss) (option_given cs ss name)) same ∙ ap (λ t. value_given name t ss) text_is
+        ap (λ (b : Bool). cond b (option_map_or number_in_value (value_given name ss) (number_in e)) (option_given cs ss name)) same
+        ∙ ap (λ t. option_map_or number_in_value (value_given name ss) (number_in t)) text_is
     go (numbered m l g e) false differs is rest =
-        ap (λ (b : Bool). cond b (value_given name e ss) (option_given cs ss name)) differs ∙ rest is
+        ap (λ (b : Bool). cond b (option_map_or number_in_value (value_given name ss) (number_in e)) (option_given cs ss name)) differs
+        ∙ rest is
+
+-- the text of the option of a name
+name_found : (cs : List Choice) (name default : Text) (ss : List Setting)
+    → find (λ c. bytes_eq (choice_name c) name) cs ≡ Some (named name default)
+    → name_given cs ss name ≡ option_map_or text_in_value (value_given name ss) (Some default)
+name_found [] name default ss listed = cc
+name_found (ch ∷ cs) name default ss listed =
+    go ch (bytes_eq (choice_name ch) name) refl listed (name_found cs name default ss)
+  where
+    go : (ch : Choice) (b : Bool) → bytes_eq (choice_name ch) name ≡ b
+        → cond b (Some ch) (find (λ c. bytes_eq (choice_name c) name) cs) ≡ Some (named name default)
+        → (find (λ c. bytes_eq (choice_name c) name) cs ≡ Some (named name default)
+        → name_given cs ss name ≡ option_map_or text_in_value (value_given name ss) (Some default))
+        → name_given (ch ∷ cs) ss name ≡ option_map_or text_in_value (value_given name ss) (Some default)
+    go (switch m) true same is rest = cc
+    go (switch m) false differs is rest = rest is
+    go (numbered m l g e) true same is rest = cc
+    go (numbered m l g e) false differs is rest = rest is
+    go (named m e) true same is rest =
+        let text_is : e ≡ default = cc in
+        ap (λ (b : Bool). cond b (option_map_or text_in_value (value_given name ss) (Some e)) (name_given cs ss name)) same
+        ∙ ap (λ t. option_map_or text_in_value (value_given name ss) (Some t)) text_is
+    go (named m e) false differs is rest =
+        ap (λ (b : Bool). cond b (option_map_or text_in_value (value_given name ss) (Some e)) (name_given cs ss name)) differs ∙ rest is
 
 -- ---- all that is found
 
@@ -328,7 +406,8 @@ module _ (c : CommandRow) (ready : IsReady c) (vs : List Value) (ss : List Setti
   same_at (a_text name) own =
       let s = shown (leaf c) 1 c.operands vs name (a_text name) ready.placed plain.operands own.0 in
       ap (λ (o : Option Row). option_and_then (λ r. slice_get r.values 0) o)
-      (row_of_operand name (given (filled (operand name)) (s.0 ∷ [])) s.1) ∙ sym s.2
+      (row_of_operand name (given (filled (operand name)) (s.0 ∷ [])) s.1)
+      ∙ sym (ap (λ o. option_or o (name_given c.choices ss name)) s.2)
   same_at (a_number name least most) own =
       let s = shown (leaf c) 1 c.operands vs name (a_number name least most) ready.placed plain.operands own.0 in
       ap number_at (row_of_operand name (given (filled (ranged_operand name least most)) (decimal s.0 ∷ [])) s.1)
@@ -336,6 +415,14 @@ module _ (c : CommandRow) (ready : IsReady c) (vs : List Value) (ss : List Setti
   same_at (some_numbers name) own =
       let s = shown (leaf c) 1 c.operands vs name (some_numbers name) ready.placed plain.operands own.0 in
       numbers_there name own s.0 s.1 s.3 ∙ sym s.2
+
+  -- the text of an option with a name
+  name_in_the_end : (name default : Text) → IsKnown (leaf c) c.operands c.choices (named name default)
+      → text_at (row_at name (final_rows c vs ss)) ≡ option_map_or text_in_value (value_given name ss) (Some default)
+  name_in_the_end name default k =
+      ap text_at (row_of_option (named name default) k)
+      ∙ found_by text_at text_in_value c.choices (named name default) (default_row name (leaf c).rules) (Some default) k.4
+      (text_valued name default) (ap text_at k.7.1 ∙ k.7.2) ss plain.options
 
   -- and so is an option
   same_for : (ch : Choice) → IsKnown (leaf c) c.operands c.choices ch
@@ -345,10 +432,22 @@ module _ (c : CommandRow) (ready : IsReady c) (vs : List Value) (ss : List Setti
       ∙ flag_found c.choices name (default_row name (leaf c).rules) k.4 k.7 ss plain.options
   same_for (numbered name least most default) k =
       ap number_at (row_of_option (numbered name least most default) k)
-      ∙ number_found c.choices name least most default (default_row name (leaf c).rules) k.4 k.6 (ap number_at k.7.1 ∙ k.7.2) ss
-      plain.options
+      ∙ found_by number_at number_in_value c.choices (numbered name least most default) (default_row name (leaf c).rules)
+      (number_in default) k.4 (number_valued name least most default k.6) (ap number_at k.7.1 ∙ k.7.2) ss plain.options
       ∙ sym (option_found c.choices name least most default ss k.4)
       ∙ sym (ap (λ o. option_or o (option_given c.choices ss name)) (absent c.operands vs name plain.operands k.5).given)
+  same_for (named name default) k =
+      name_in_the_end name default k
+      ∙ sym (name_found c.choices name default ss k.4)
+      ∙ sym (ap (λ o. option_or o (name_given c.choices ss name)) (absent c.operands vs name plain.operands k.5).text)
+
+  -- the name of a module is one
+  named_for : (ch : Choice) → IsKnown (leaf c) c.operands c.choices ch → IsNamedFor (findings (final_rows c vs ss)) ch
+  named_for (switch name) k = tt
+  named_for (numbered name least most default) k = tt
+  named_for (named name default) k =
+      let right = right_name c.choices name default k.4 k.6 ss plain.options in
+      (right.0, name_in_the_end name default k ∙ right.1, right.2)
 
   -- an operand that has to be there is
   there_at : (o : Operand) → IsOwn (leaf c) c.operands o → IsThere (final_rows c vs ss) o
@@ -367,6 +466,9 @@ module _ (c : CommandRow) (ready : IsReady c) (vs : List Value) (ss : List Setti
   job_is_given =
       ready.same (findings (final_rows c vs ss)) (given_to c vs ss) (each same_at c.operands ready.own)
       (each same_for c.choices (knows c ready))
+
+  pub all_named : AllByRecursion (IsNamedFor (findings (final_rows c vs ss))) c.choices
+  all_named = each named_for c.choices (knows c ready)
 
   pub all_there : AllByRecursion (IsThere (final_rows c vs ss)) c.operands
   all_there = each there_at c.operands ready.own

@@ -4,16 +4,16 @@ use Rattle.std.specs.List.{AllByRecursion, flat_map}
 use Rattle.clap.specs.Walk.{Text, nothing_held}
 use Rattle.clap.specs.Simple.{filled}
 use Rattle.goi_words.specs.Commands.{CommandRow, choice_rule}
-use Rattle.goi_words.specs.Asked.{job_on}
+use Rattle.goi_words.specs.Asked.{findings, job_on}
 use Rattle.goi_words.specs.Laws.{TakesPlainWords}
 use Rattle.goi_words.specs.Plain.{IsPlain, Setting, Value, option_words, setting_words, value_words}
-use Rattle.goi_words.proofs.Agreeing.{all_there, absent, apart_from, each, final_rows, job_is_given, no_row, plain_rows}
+use Rattle.goi_words.proofs.Agreeing.{all_named, all_there, absent, apart_from, each, final_rows, job_is_given, no_row, plain_rows}
 use Rattle.goi_words.proofs.Entering.{below_job}
 use Rattle.goi_words.proofs.Levels.{Gives, level_ends, level_gives}
 use Rattle.goi_words.proofs.Operands.{Reaches, operand_rows, operands_read}
-use Rattle.goi_words.proofs.Ready.{IsReady, cleanly, knows, leaf}
-use Rattle.goi_words.proofs.Settings.{choice_named, known_in, named, settings_read}
-use Rattle.goi_words.proofs.Taken.{taken_has_job}
+use Rattle.goi_words.proofs.Ready.{IsNamedFor, IsReady, cleanly, knows, leaf}
+use Rattle.goi_words.proofs.Settings.{choice_named, is_named, known_in, settings_read}
+use Rattle.goi_words.proofs.Taken.{named_has_job}
 use Rattle.goi_words.proofs.Walks.{Names, then}
 
 -- what holds of everything holds of a list
@@ -42,7 +42,7 @@ module _ (c : CommandRow) (ready : IsReady c) (vs : List Value) where
       let option = plain.options.0 in
       let names : Names (leaf c) (codes "--" ++ s.name) (filled (choice_rule option.choice)) =
       subst (λ n. Names (leaf c) (codes "--" ++ n) (filled (choice_rule option.choice))) (choice_named c.choices s option)
-      (named (leaf c) c.operands c.choices option.choice (known_in (leaf c) c.operands c.choices (knows c ready) s option)) in
+      (is_named (leaf c) c.operands c.choices option.choice (known_in (leaf c) c.operands c.choices (knows c ready) s option)) in
       let between_them = first.ready (filled (choice_rule option.choice)) (codes "--" ++ s.name)
       (option_words s.value ++ flat_map setting_words ss) names in
       let second = settings_read (leaf c) refl c.operands c.choices (knows c ready) (s ∷ ss) first.stop.held (operand_rows c.operands vs)
@@ -59,6 +59,8 @@ takes_plain_words c ready program vs ss plain =
     let words = flat_map value_words vs ++ flat_map setting_words ss in
     let gives = reads c ready vs ss plain in
     let entered = below_job program c.name (leaf c) words (final_rows c vs ss) ready.enters gives in
-    let taken = taken_has_job c ready words gives.clean in
+    let named = subst (λ rows. AllByRecursion (IsNamedFor (findings rows)) c.choices) (sym gives.rows_are)
+    (all_named c ready vs ss plain) in
+    let taken = named_has_job c ready words gives.clean named in
     let there : job_on c.name (final_rows c vs ss) ≡ Some taken.0 = sym (ap (job_on c.name) gives.rows_are) ∙ taken.1 in
     (taken.0, sym (job_is_given c ready vs ss plain) ∙ sym (ready.job (final_rows c vs ss)) ∙ there, entered ∙ there)

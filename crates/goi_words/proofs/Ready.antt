@@ -1,7 +1,7 @@
 -- What is to be shown of each command of the table, that all theorems hold of it: most of it by computing.
-use Rattle.std.proofs.Common.{map, ◌≡◌, ◌≤◌, true, false, List, [], Option, None, Some, ℕ}
+use Rattle.std.proofs.Common.{map, ◌≡◌, ◌≤◌, ◌&&◌, Bool, true, false, codes, List, [], Option, None, Some, ℕ}
 use Rattle.std.specs.Prelude.{⊤}
-use Rattle.std.specs.List.{AllByRecursion, find}
+use Rattle.std.specs.List.{AllByRecursion, find, list_all}
 use Rattle.std.specs.Str.{bytes_eq}
 use Rattle.clap.specs.Walk.{Row, Rule, Text}
 use Rattle.clap.specs.Simple.{Shape, built, built_leaf, inherited, marked_built, with_leaf_noted}
@@ -9,7 +9,7 @@ use Rattle.clap.specs.Faults.{check_fault, given_default_fault}
 use Rattle.clap.specs.Kinds.{Kinds}
 use Rattle.clap.specs.Takes.{is_given as is_row_given}
 use Rattle.goi_words.specs.Findings.{Findings}
-use Rattle.goi_words.specs.Commands.{Choice, CommandRow, Operand, a_number, a_text, goi_command, numbered, operand_name}
+use Rattle.goi_words.specs.Commands.{Choice, CommandRow, Operand, a_number, a_text, goi_command, named, numbered, operand_name}
 use Rattle.goi_words.specs.Commands.{some_numbers, subcommand, switch}
 use Rattle.goi_words.specs.Asked.{findings, job_on}
 use Rattle.goi_jobs.specs.Jobs.{IsWithinLimits, JobTree}
@@ -17,6 +17,7 @@ use Rattle.goi_words.proofs.Operands.{ArePlaced}
 use Rattle.goi_words.proofs.Rows.{HasCleanDefaults, default_row}
 use Rattle.goi_words.proofs.Settings.{IsKnown, all_known, each_equal, facts, wanted}
 use Rattle.goi_words.proofs.Tops.{Enters}
+use Rattle.verilog_names.specs.Name.{module_name}
 
 -- a command as the parse sees it
 abbrev pub leaf : CommandRow → Shape
@@ -35,6 +36,7 @@ IsSameAt f g (some_numbers name) = f.numbers name ≡ g.numbers name
 abbrev pub IsSameFor : Findings → Findings → Choice → Type 0
 IsSameFor f g (switch name) = f.is_set name ≡ g.is_set name
 IsSameFor f g (numbered name least most default) = f.number name ≡ g.number name
+IsSameFor f g (named name default) = f.text name ≡ g.text name
 
 -- what the argument asks for is found
 abbrev pub IsFoundAt : Findings → Operand → Type 0
@@ -45,6 +47,19 @@ IsFoundAt f (some_numbers name) = (ns : List ℕ) × (f.numbers name ≡ Some ns
 abbrev pub IsFoundFor : Findings → Choice → Type 0
 IsFoundFor f (switch name) = ⊤
 IsFoundFor f (numbered name least most default) = (n : ℕ) × (f.number name ≡ Some n) × (least ≤ n) × (n ≤ most)
+IsFoundFor f (named name default) = (t : Text) × (f.text name ≡ Some t)
+
+-- where the name of a module is wanted, one is found
+abbrev pub IsNamedFor : Findings → Choice → Type 0
+IsNamedFor f (switch name) = ⊤
+IsNamedFor f (numbered name least most default) = ⊤
+IsNamedFor f (named name default) = (t : Text) × (f.text name ≡ Some t) × (module_name t ≡ true)
+
+-- the name of a module is wanted by `--name` of `circuit` alone
+abbrev pub names_circuit : Text → Choice → Bool
+names_circuit command (switch name) = true
+names_circuit command (numbered name least most default) = true
+names_circuit command (named name default) = bytes_eq command (codes "circuit") && bytes_eq name (codes "name")
 
 -- an operand that has to be there is
 abbrev pub IsThere : List Row → Operand → Type 0
@@ -78,7 +93,9 @@ pub record IsReady (c : CommandRow) : Type 0 where
   pub asks : (rows : List Row) → check_fault (leaf c) rows false ≡ [] → AllByRecursion (IsThere rows) c.operands
   -- its job is of what is found for its arguments, and within the limits
   pub same : (f g : Findings) → AllByRecursion (IsSameAt f g) c.operands → AllByRecursion (IsSameFor f g) c.choices → c.job f ≡ c.job g
-  pub has_job : (f : Findings) → AllByRecursion (IsFoundAt f) c.operands → AllByRecursion (IsFoundFor f) c.choices → HasJob (c.job f)
+  pub names : list_all (names_circuit c.name) c.choices ≡ true
+  pub has_job : (f : Findings) → AllByRecursion (IsFoundAt f) c.operands → AllByRecursion (IsFoundFor f) c.choices
+      → AllByRecursion (IsNamedFor f) c.choices → HasJob (c.job f)
 
 -- a command that is ready knows its options
 pub knows : (c : CommandRow) → IsReady c → AllByRecursion (IsKnown (leaf c) c.operands c.choices) c.choices

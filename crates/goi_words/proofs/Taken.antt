@@ -1,8 +1,8 @@
 -- Words that `clap` takes ask for a job.
 use Rattle.std.proofs.Common.{◌≡◌, ◌∙◌, ◌∷◌, ◌<◌, ◌≤◌, ◌^◌, ap, cond, length, refl, subst, sym, ℕ, Bool, true, false, List, [], Option}
-use Rattle.std.proofs.Common.{Some, None, codes, not, ◌||◌, ◌++◌, ◌+◌, map, min, option_map, unwrap_or}
+use Rattle.std.proofs.Common.{Some, None, codes, inl, inr, not, ◌⊎◌, ◌&&◌, ◌||◌, ◌++◌, ◌+◌, map, min, option_map, unwrap_or}
 use Rattle.std.proofs.lemmas.Bool.{ltb-true}
-use Rattle.std.specs.List.{AllByRecursion, fold}
+use Rattle.std.specs.List.{AllByRecursion, fold, list_all}
 use Rattle.std.specs.Option.{option_map_or, option_or}
 use Rattle.std.specs.Prelude.{pos, slice_get}
 use Rattle.std.specs.Str.{bytes_eq}
@@ -23,17 +23,19 @@ use Rattle.clap.specs.declared.builder.value_parser.ValueParser.TheVariants as p
 use Rattle.clap.specs.declared.parser.matches.ValueSource.TheVariants.{DefaultValue}
 use Rattle.clap.proofs.CallerReads.{signed_reads}
 use Rattle.clap.proofs.ValueTestLemmas.{accepts-Accepts}
-use Rattle.goi_words.specs.Commands.{Choice, CommandRow, Operand, a_number, a_text, choice_rule, flag, number_option, numbered, operand}
-use Rattle.goi_words.specs.Commands.{operand_rule, some_numbers, switch}
+use Rattle.goi_words.specs.Commands.{Choice, CommandRow, Operand, a_number, a_text, choice_rule, flag, named, number_option, numbered}
+use Rattle.goi_words.specs.Commands.{operand, operand_rule, some_numbers, switch, text_option}
+use Rattle.goi_words.specs.Findings.{Findings}
 use Rattle.clap.specs.declared.error.kind.ErrorKind.TheVariants as kind
 use Rattle.goi_words.specs.Asked.{findings, job_on, number_in, number_of, numbers_of, text_of, wide_numbers_in}
 use Rattle.goi_words.proofs.Found.{AreSound, AreTame, IsSound, IsTame, none_else, one_rule, settled_sound, values_sound, walk_sound}
 use Rattle.goi_words.proofs.Numbers.{reads_itself}
 use Rattle.goi_words.proofs.Operands.{ArePlaced, rule_at}
-use Rattle.goi_words.proofs.Ready.{HasJob, IsFoundAt, IsFoundFor, IsReady, IsThere, cleanly, knows, leaf}
+use Rattle.goi_words.proofs.Ready.{HasJob, IsFoundAt, IsFoundFor, IsNamedFor, IsReady, IsThere, cleanly, knows, leaf, names_circuit}
 use Rattle.goi_words.proofs.Settings.{IsKnown}
 use Rattle.goi_words.proofs.Wide.{passed_numbers}
 use Rattle.goi_words.proofs.Rows.{HasCleanDefaults, Replaces, default_row, row_after, row_at}
+use Rattle.verilog_names.specs.Name.{module_name}
 
 -- ---- values that passed
 
@@ -235,6 +237,11 @@ pub option_tame : (c : List Rule) (name : Text) (least most : ℕ) (default : Te
 option_tame c name least most default own =
     set_tame c (filled (number_option name least most default)) own (λ values rows. refl) (λ again values rows. refl)
 
+-- and so does one with a text
+text_option_tame : (c : List Rule) (name default : Text) → arg_by_id c name ≡ Some (filled (text_option name default))
+    → IsTame c (filled (text_option name default))
+text_option_tame c name default own = set_tame c (filled (text_option name default)) own (λ values rows. refl) (λ again values rows. refl)
+
 -- the last check asks for an operand, and for nothing more
 pub asked : (g more : Bool) → cond (not g || more) (kind.MissingRequiredArgument ∷ []) [] ≡ [] → (g ≡ true) × (more ≡ false)
 asked true true e = cc
@@ -283,6 +290,7 @@ module _ (sh : Shape) (os0 : List Operand) (cs0 : List Choice) where
   choices_tame i (switch name ∷ cs) known = (flag_tame sh.rules name known.0.3, choices_tame i cs known.1)
   choices_tame i (numbered name least most default ∷ cs) known =
       (option_tame sh.rules name least most default known.0.3, choices_tame i cs known.1)
+  choices_tame i (named name default ∷ cs) known = (text_option_tame sh.rules name default known.0.3, choices_tame i cs known.1)
 
   -- and so do all its arguments
   all_tame : (i : ℕ) (os : List Operand) (cs : List Choice) → ArePlaced sh i os → AllByRecursion (IsKnown sh os0 cs0) cs
@@ -325,21 +333,90 @@ module _ (sh : Shape) (os0 : List Operand) (cs0 : List Choice) where
         (ltb-true most (2 ^ 32) known.0.6) known.0.3 refl refl sound (default_after sh words name known.0.7.0 known.0.7.1),
     choices_found words sound cs known.1,
   )
+  choices_found words sound (named name default ∷ cs) known = (
+    text_found sh.rules name (rows_after sh.rules [] words) sound (default_after sh words name known.0.7.0 known.0.7.1),
+    choices_found words sound cs known.1,
+  )
 
--- a command that takes its words has a job
+-- what the arguments of a command ask for is found, where it takes its words
+record AreFound (c : CommandRow) (f : Findings) : Type 0 where
+  operands : AllByRecursion (IsFoundAt f) c.operands
+  choices : AllByRecursion (IsFoundFor f) c.choices
+
+all_found : (c : CommandRow) → IsReady c → (words : List Text) → level_fault (leaf c) [] nothing_held words false [] ≡ []
+    → AreFound c (findings (rows_after (leaf c).rules [] words))
+all_found c ready words clean =
+    let rows = rows_after (leaf c).rules [] words in
+    let tame = all_tame (leaf c) c.operands c.choices 1 c.operands c.choices ready.placed (knows c ready) in
+    let found = level_found (leaf c) tame (cleanly c ready) words clean in
+    record {
+      operands = operands_found (leaf c) c.operands c.choices rows found.sound 1 c.operands ready.placed (ready.asks rows found.checked);
+      choices = choices_found (leaf c) c.operands c.choices words found.sound c.choices (knows c ready);
+    }
+
+-- a command that takes its words has a job, where the name of a module that it wants is one
+pub named_has_job : (c : CommandRow) → IsReady c → (words : List Text) → level_fault (leaf c) [] nothing_held words false [] ≡ []
+    → AllByRecursion (IsNamedFor (findings (rows_after (leaf c).rules [] words))) c.choices
+    → HasJob (job_on c.name (rows_after (leaf c).rules [] words))
+named_has_job c ready words clean right =
+    let rows = rows_after (leaf c).rules [] words in
+    let found = all_found c ready words clean in
+    let has = ready.has_job (findings rows) found.operands found.choices right in
+    (has.0, ready.job rows ∙ has.1, has.2)
+
+-- the command is `circuit`, and the name that is found there is no module's
+pub record IsMisnamed (command : Text) (rows : List Row) : Type 0 where
+  pub circuit : command ≡ codes "circuit"
+  pub name : Text
+  pub found : text_of (codes "name") rows ≡ Some name
+  pub no_module : module_name name ≡ false
+
+-- both sides of a conjunction
+both_true : (a b : Bool) → (a && b) ≡ true → (a ≡ true) × (b ≡ true)
+both_true true b e = (refl, e)
+both_true false b e = cc
+
+-- the names of modules are some, or one that is found is none
+named_or_not : (command : Text) (rows : List Row) (cs : List Choice) → list_all (names_circuit command) cs ≡ true
+    → AllByRecursion (IsFoundFor (findings rows)) cs → AllByRecursion (IsNamedFor (findings rows)) cs ⊎ IsMisnamed command rows
+named_or_not command rows [] names found = inl tt
+named_or_not command rows (switch name ∷ cs) names found = elim (named_or_not command rows cs names found.1) [
+  | inl all ↦ inl (tt, all)
+  | inr bad ↦ inr bad
+]
+named_or_not command rows (numbered name least most default ∷ cs) names found = elim (named_or_not command rows cs names found.1) [
+  | inl all ↦ inl (tt, all)
+  | inr bad ↦ inr bad
+]
+named_or_not command rows (named name default ∷ cs) names found =
+    let parts = both_true (bytes_eq command (codes "circuit") && bytes_eq name (codes "name")) _ names in
+    let here = both_true (bytes_eq command (codes "circuit")) (bytes_eq name (codes "name")) parts.0 in
+    go (module_name found.0.0) refl here.0 here.1 (named_or_not command rows cs parts.1 found.1)
+  where
+    go : (b : Bool) → module_name found.0.0 ≡ b → bytes_eq command (codes "circuit") ≡ true → bytes_eq name (codes "name") ≡ true
+        → AllByRecursion (IsNamedFor (findings rows)) cs ⊎ IsMisnamed command rows
+        → AllByRecursion (IsNamedFor (findings rows)) (named name default ∷ cs) ⊎ IsMisnamed command rows
+    go false is circuit called rest = inr (record {
+      circuit = (bytes_eq-Decides command (codes "circuit")).0 circuit;
+      name = found.0.0;
+      found = subst (λ n. text_of n rows ≡ Some found.0.0) ((bytes_eq-Decides name (codes "name")).0 called) found.0.1;
+      no_module = is;
+    })
+    go true is circuit called rest = elim rest [
+      | inl all ↦ inl ((found.0.0, found.0.1, is), all)
+      | inr bad ↦ inr bad
+    ]
+
+-- a command that takes its words has a job, or is called with a name that is no module's
 abbrev pub TakenHasJob : CommandRow → Type 0
 TakenHasJob c = (words : List Text) → level_fault (leaf c) [] nothing_held words false [] ≡ []
-    → HasJob (job_on c.name (rows_after (leaf c).rules [] words))
+    → HasJob (job_on c.name (rows_after (leaf c).rules [] words)) ⊎ IsMisnamed c.name (rows_after (leaf c).rules [] words)
 
 -- so has each that is ready
 pub taken_has_job : (c : CommandRow) → IsReady c → TakenHasJob c
 taken_has_job c ready words clean =
-    let sh = leaf c in
     let rows = rows_after (leaf c).rules [] words in
-    let tame = all_tame (leaf c) c.operands c.choices 1 c.operands c.choices ready.placed (knows c ready) in
-    let found = level_found (leaf c) tame (cleanly c ready) words clean in
-    let operands = operands_found (leaf c) c.operands c.choices rows found.sound 1 c.operands ready.placed
-    (ready.asks rows found.checked) in
-    let choices = choices_found (leaf c) c.operands c.choices words found.sound c.choices (knows c ready) in
-    let has = ready.has_job (findings rows) operands choices in
-    (has.0, ready.job rows ∙ has.1, has.2)
+    elim (named_or_not c.name rows c.choices ready.names (all_found c ready words clean).choices) [
+      | inl right ↦ inl (named_has_job c ready words clean right)
+      | inr bad ↦ inr bad
+    ]

@@ -1,6 +1,6 @@
--- Words that `clap` takes ask for a job, whose numbers are in range.
+-- Words that `clap` takes ask for a job, whose numbers are in range, unless they call a circuit's module by a name that it can't have.
 use Rattle.std.proofs.Common.{◌≡◌, ◌∙◌, ◌∷◌, cond, refl, subst, sym, Bool, true, false, List, [], Option}
-use Rattle.std.proofs.Common.{Some, None, is_some, map, option_map}
+use Rattle.std.proofs.Common.{Some, None, ap, codes, inl, inr, is_some, map, option_map, ◌⊎◌}
 use Rattle.std.specs.List.{AllByRecursion, find}
 use Rattle.std.specs.Option.{option_map_or}
 use Rattle.clap.specs.Walk.{Row, Text, answers_to, finished, nothing_held, rows_after, settled, walk, walk_from}
@@ -8,17 +8,18 @@ use Rattle.clap.specs.Simple.{App, Shape, argument_words, built, entered, label_
 use Rattle.clap.specs.Words.{subcommand_of}
 use Rattle.clap.specs.Faults.{check_fault, defaults_fault, entered_fault, fault_of, level_fault, settle_fault, walk_fault}
 use Rattle.clap.specs.Kinds.{Kinds}
-use Rattle.goi_words.specs.Commands.{CommandRow, commands, goi_command}
-use Rattle.goi_words.specs.Findings.{◌>>=◌}
-use Rattle.goi_words.specs.Asked.{is_faultless, is_taken, job, job_on}
+use Rattle.goi_words.specs.Commands.{CommandRow, circuit_job, commands, goi_command}
+use Rattle.goi_words.specs.Findings.{Findings, ◌>>=◌}
+use Rattle.goi_words.specs.Asked.{NamesNoModule, findings, is_faultless, is_taken, job, job_on}
 use Rattle.goi_jobs.specs.Jobs.{IsWithinLimits, JobTree}
 use Rattle.goi_words.specs.Laws.{TakenWordsHaveAJob}
 use Rattle.goi_words.proofs.Entering.{entered_job as job_by}
 use Rattle.goi_words.proofs.Found.{found_in, none_else}
 use Rattle.goi_words.proofs.Agreeing.{each}
 use Rattle.goi_words.proofs.Ready.{HasJob, leaf}
-use Rattle.goi_words.proofs.Table.{all_ready}
-use Rattle.goi_words.proofs.Taken.{TakenHasJob, taken_has_job}
+use Rattle.goi_words.proofs.Table.{all_ready, circuit_ready}
+use Rattle.goi_words.proofs.Taken.{IsMisnamed, TakenHasJob, taken_has_job}
+use Rattle.verilog_names.specs.Name.{module_name}
 
 -- ---- the first level
 
@@ -26,11 +27,12 @@ use Rattle.goi_words.proofs.Taken.{TakenHasJob, taken_has_job}
 abbrev whole : App
 whole = built goi_command
 
--- a subcommand that takes its words has a job
+-- a subcommand that takes its words has a job, or is called with a name that is no module's
 abbrev HasJobs : Shape → Type 0
-HasJobs s = (words : List Text) → level_fault s [] nothing_held words false [] ≡ [] → HasJob (job_on s.name (rows_after s.rules [] words))
+HasJobs s = (words : List Text) → level_fault s [] nothing_held words false [] ≡ []
+    → HasJob (job_on s.name (rows_after s.rules [] words)) ⊎ IsMisnamed s.name (rows_after s.rules [] words)
 
--- each subcommand has a job for the words that it takes
+-- so it is with each subcommand
 each_has_a_job : AllByRecursion HasJobs whole.subs
 each_has_a_job = over commands (each taken_has_job commands all_ready)
   where
@@ -43,19 +45,36 @@ asks_for_one : (rows : List Row) (b : Bool) → check_fault whole.top rows b ≡
 asks_for_one rows true checked = refl
 asks_for_one rows false checked = cc
 
--- the subcommand that is entered has a job
+-- and with the one that is entered
 entered_job : (stop : Option (Text × List Text)) → entered_fault whole stop ≡ [] → is_some (entered whole stop) ≡ true
-    → (p : Text × List Row) × (entered whole stop ≡ Some p) × HasJob (job_on p.0 p.1)
+    → (p : Text × List Row) × (entered whole stop ≡ Some p) × (HasJob (job_on p.0 p.1) ⊎ IsMisnamed p.0 p.1)
 entered_job None clean met = cc
 entered_job (Some stop) clean met = go (find (λ s. answers_to stop.0 (label_of s)) whole.subs) refl clean met
   where
     go : (o : Option Shape) → find (λ s. answers_to stop.0 (label_of s)) whole.subs ≡ o
         → option_map_or (λ s. level_fault s [] nothing_held stop.1 false []) o [] ≡ []
         → is_some (option_map (λ s. rows_at s stop.1) o) ≡ true
-        → (p : Text × List Row) × (option_map (λ s. rows_at s stop.1) o ≡ Some p) × HasJob (job_on p.0 p.1)
+        → (p : Text × List Row) × (option_map (λ s. rows_at s stop.1) o ≡ Some p) × (HasJob (job_on p.0 p.1) ⊎ IsMisnamed p.0 p.1)
     go None is clean met = cc
     go (Some s) is clean met =
         (rows_at s stop.1, refl, found_in HasJobs (λ t. answers_to stop.0 (label_of t)) whole.subs s each_has_a_job is stop.1 clean)
+
+-- an answer that leads to none is none
+none_after : {A B : Type 0} (o : Option A) (f : A → Option B) → ((x : A) → f x ≡ None) → (o >>= f) ≡ None
+none_after None f none = refl
+none_after (Some x) f none = none x
+
+-- a name that is no module's leaves `circuit` without a job
+no_circuit : (f : Findings) (name : Text) → f.text (codes "name") ≡ Some name → module_name name ≡ false → circuit_job f ≡ None
+no_circuit f name found no_module =
+    none_after (f.text (codes "file")) _ (λ file. none_after (f.number (codes "cells")) _ (λ cells. none_after (f.number (codes "forks")) _
+    (λ forks. none_after (f.number (codes "budget")) _ (λ budget. rw (found, no_module) refl))))
+
+-- and so are its words refused
+misnamed_refused : (words : List Text) → fault_of goi_command words ≡ [] → NamesNoModule words → job words ≡ None
+misnamed_refused words clean bad =
+    job_by words (Some (codes "circuit", bad.rows)) clean (sym bad.entered) ∙ circuit_ready.job bad.rows
+    ∙ no_circuit (findings bad.rows) bad.name bad.found bad.no_module
 
 -- a list of kinds without one is empty
 faultless : (k : Kinds) → is_faultless k ≡ true → k ≡ []
@@ -74,24 +93,34 @@ taken_words_have_a_job words taken =
     let filled_in = none_else (defaults_fault (settled whole.top.rules end.held).rows whole.top.rules) _ settles.1 in
     let met = asks_for_one (finished whole.top.rules end.held) (is_some (entered whole end.stopped)) filled_in.1 in
     let found = entered_job end.stopped below.0 met in
-    (found.2.0, job_by words (Some found.0) clean (sym found.1) ∙ found.2.1, found.2.2)
+    elim found.2 [
+      | inl has ↦ inl (has.0, job_by words (Some found.0) clean (sym found.1) ∙ has.1, has.2)
+      | inr bad ↦
+          let named : NamesNoModule words = record {
+            rows = found.0.1;
+            entered = found.1 ∙ ap (λ n. Some (n, found.0.1)) bad.circuit;
+            name = bad.name;
+            found = bad.found;
+            no_module = bad.no_module;
+          } in
+          inr (named, misnamed_refused words clean named)
+    ]
 
 -- ---- what follows
 
--- words that are taken have some job
-none_not_some : (words : List Text) → is_taken words ≡ true → job words ≡ None → ⊥
-none_not_some words taken is =
-    let found = taken_words_have_a_job words taken in
-    let both : None ≡ Some found.0 = sym is ∙ found.1 in
-    cc
-
--- nothing but `clap` refuses words
-pub refused_by_clap : (words : List Text) → job words ≡ None → is_taken words ≡ false
-refused_by_clap words is = go (is_taken words) refl
+-- words are refused by `clap`, or for a name that is no module's
+pub why_refused : (words : List Text) → job words ≡ None → (is_taken words ≡ false) ⊎ NamesNoModule words
+why_refused words is = go (is_taken words) refl
   where
-    go : (b : Bool) → is_taken words ≡ b → b ≡ false
-    go true taken = absurd (none_not_some words taken is)
-    go false taken = refl
+    some : (done : JobTree) → job words ≡ Some done → ⊥
+    some done has = let both : None ≡ Some done = sym is ∙ has in cc
+
+    go : (b : Bool) → is_taken words ≡ b → (is_taken words ≡ false) ⊎ NamesNoModule words
+    go false taken = inl taken
+    go true taken = elim (taken_words_have_a_job words taken) [
+      | inl has ↦ absurd (some has.0 has.1)
+      | inr bad ↦ inr bad.0
+    ]
 
 -- words that have a job are taken
 taken_where_some : (words : List Text) (done : JobTree) → job words ≡ Some done → is_taken words ≡ true
@@ -104,9 +133,13 @@ taken_where_some words done is = go (is_taken words) is
 
 -- the numbers of a job are in range
 pub within_limits : (words : List Text) (done : JobTree) → job words ≡ Some done → IsWithinLimits done
-within_limits words done is =
-    let found = taken_words_have_a_job words (taken_where_some words done is) in
-    subst IsWithinLimits (same found.0 done (sym found.1 ∙ is)) found.2
+within_limits words done is = elim (taken_words_have_a_job words (taken_where_some words done is)) [
+  | inl has ↦ subst IsWithinLimits (same has.0 done (sym has.1 ∙ is)) has.2
+  | inr bad ↦ absurd (none bad.1)
+]
   where
     same : (x y : JobTree) → Some x ≡ Some y → x ≡ y
     same x y e = cc
+
+    none : job words ≡ None → ⊥
+    none refused = let both : None ≡ Some done = sym refused ∙ is in cc

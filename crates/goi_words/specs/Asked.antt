@@ -2,7 +2,7 @@
 -- The words begin with the program's own name, whatever it is. `clap`'s definition at our command says whether the words are taken,
 -- which subcommand they enter and what stands there for each argument, a default where the words say nothing. The job is read off
 -- from that, so that words mean here what they mean to every other program of the same command line.
-use Rattle.std.specs.Prelude.{ℕ, Bool, true, false, ◌&&◌, ◌^◌, List, [], ◌∷◌, Option, None, Some, if◌then◌else◌, codes, nat_lt}
+use Rattle.std.specs.Prelude.{◌≡◌, ℕ, Bool, true, false, ◌&&◌, ◌^◌, List, [], ◌∷◌, Option, None, Some, if◌then◌else◌, codes, nat_lt}
 use Rattle.std.specs.Option.{option_map_or, unwrap_or}
 use Rattle.std.specs.Str.{bytes_eq}
 use Rattle.std.specs.Str.Parse.{digits_value, without_leading_plus}
@@ -11,6 +11,7 @@ use Rattle.clap.specs.Words.{Kinds, Row, Text, all_of, fault_of, first_of, one_o
 use Rattle.goi_words.specs.Findings.{Findings, ◌>>=◌}
 use Rattle.goi_words.specs.Commands.{CommandRow, commands, goi_command}
 use Rattle.goi_jobs.specs.Jobs.{JobTree}
+use Rattle.verilog_names.specs.Name.{module_name}
 
 -- the number that a text spells, where it is below 2 ^ 32; one plus may stand before the digits
 abbrev pub number_in : Text → Option ℕ
@@ -73,6 +74,14 @@ is_faultless (kind ∷ kinds) = false
 -- `clap`'s definition takes the words: it lists no kind of error for them
 abbrev pub is_taken : List Text → Bool
 is_taken words = is_faultless (fault_of goi_command words)
+
+-- the words enter `circuit`, and the name that is found there is no module's
+pub record NamesNoModule (words : List Text) : Type 0 where
+  pub rows : List Row
+  pub entered : subcommand_of goi_command words ≡ Some (codes "circuit", rows)
+  pub name : Text
+  pub found : text_of (codes "name") rows ≡ Some name
+  pub no_module : module_name name ≡ false
 
 -- the job of a list of words, or none where the words are refused
 unfoldable pub job : List Text → Option JobTree

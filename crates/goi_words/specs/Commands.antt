@@ -8,14 +8,15 @@ use Rattle.clap.specs.Lexer.{usize_max}
 use Rattle.clap.specs.Simple.{new_shape}
 use Rattle.pcf_values.specs.Most.{most_workers, most_budget, most_demo, most_moves}
 use Rattle.goi_jobs.specs.Limits.{most_traced, most_told, most_cells, most_forks}
-use Rattle.goi_jobs.specs.Jobs.{JobTree, text, replay, list, demo, call}
+use Rattle.goi_jobs.specs.Jobs.{JobTree, text, replay, list, demo, call, verilog}
 use Rattle.goi_jobs.specs.Tasks.{shown}
-use Rattle.goi_jobs.specs.declared.task.Task.{Task}
-use Rattle.goi_jobs.specs.declared.task.Task.TheVariants.{Run, Check, ShowNet, RunNet, Trace, Circuit, RunCircuit}
+use Rattle.goi_jobs.specs.declared.task.Task.TheVariants.{Run, Check, ShowNet, RunNet, Trace, RunCircuit}
 use Rattle.goi_jobs.specs.declared.task.Task.TheVariants.{NeedsCircuit, ScheduleCircuit, Span, Steps}
+use Rattle.goi_jobs.specs.declared.verilog.Verilog.TheVariants.{Circuit, Bench}
 use Rattle.goi_jobs.specs.declared.window.Window.{Window}
 use Rattle.program_runs.specs.Programs.{calling_of}
 use Rattle.program_runs.specs.declared.calling.Calling.{Calling}
+use Rattle.verilog_names.specs.Name.{module_name}
 use Rattle.clap.specs.declared.builder.action.ArgAction.TheVariants.{Set, SetTrue}
 use Rattle.clap.specs.declared.builder.value_parser.ValueParser.TheVariants as parser
 use Rattle.goi_words.specs.Findings.{Findings, ◌>>=◌}
@@ -37,6 +38,8 @@ pub data Choice : Type 0 where
   switch : Text → Choice
   -- `--name N`: the least and the most, and the text that stands for it where it isn't given
   numbered : Text → ℕ → ℕ → Text → Choice
+  -- `--name M`, with the name of a module: the name that stands for it where it isn't given
+  named : Text → Text → Choice
 
 -- a command: its name, its operands in their order, its options, and the job that its arguments make
 pub record CommandRow : Type 0 where
@@ -54,6 +57,7 @@ operand_name (some_numbers name) = name
 abbrev pub choice_name : Choice → Text
 choice_name (switch name) = name
 choice_name (numbered name least most default) = name
+choice_name (named name default) = name
 
 -- ---- the same for `clap`
 
@@ -82,6 +86,10 @@ number_option name least most default = record (new_rule name) {
   defaults = default ∷ [];
 }
 
+-- an option `--name TEXT`, and what it is where it isn't given
+abbrev pub text_option : Text → Text → Rule
+text_option name default = record (new_rule name) { long = Some name; action = Some Set; defaults = default ∷ [] }
+
 -- an option `--name` that is given or not
 abbrev pub flag : Text → Rule
 flag name = record (new_rule name) { long = Some name; action = Some SetTrue }
@@ -95,6 +103,7 @@ operand_rule (some_numbers name) = wide_operand name
 abbrev pub choice_rule : Choice → Rule
 choice_rule (switch name) = flag name
 choice_rule (numbered name least most default) = number_option name least most default
+choice_rule (named name default) = text_option name default
 
 -- a subcommand with its arguments
 abbrev pub command : Text → List Rule → Shape
@@ -137,6 +146,10 @@ cells_choice = numbered (codes "cells") 1 most_cells (codes "1023")
 abbrev pub forks_choice : Choice
 forks_choice = numbered (codes "forks") 1 most_forks (codes "63")
 
+-- the name of a circuit's module
+abbrev pub name_choice : Choice
+name_choice = named (codes "name") (codes "goi")
+
 -- the flags
 abbrev pub schedule_choice : Choice
 schedule_choice = switch (codes "schedule")
@@ -162,16 +175,27 @@ calling_in found = calling_of (found.is_set (codes "by-value"))
 abbrev pub if_traced : Bool → Window → Option Window
 if_traced is_traced window = if is_traced then Some window else None
 
--- what a circuit needs where that is asked for, and else who moves in its run where that is, and else its run where that is, and else the
--- circuit
-abbrev pub circuit_task : (is_needs is_scheduled is_run : Bool) → (cells forks budget : ℕ) → Bool → Task
-circuit_task is_needs is_scheduled is_run cells forks budget waves =
-    if is_needs then NeedsCircuit budget else (if is_scheduled then ScheduleCircuit budget
-    else (if is_run then RunCircuit cells forks budget waves else Circuit cells forks))
+-- a text, where it may name a module
+abbrev pub if_module_name : Text → Option Text
+if_module_name name = if module_name name then Some name else None
+
+-- the name of a circuit's module that was found, where it is one
+abbrev pub name_in : Findings → Option Text
+name_in found = found.text (codes "name") >>= if_module_name
+
+-- what a circuit needs where that is asked for, and else who moves in its run where that is, and else a bench for it where that is, and
+-- else its run where that is, and else the circuit
+abbrev pub circuit_asked : Findings → (file name : Text) → (cells forks budget : ℕ) → JobTree
+circuit_asked found file name cells forks budget =
+    if found.is_set (codes "needs") then text file 1 (NeedsCircuit budget)
+    else (if found.is_set (codes "schedule") then text file 1 (ScheduleCircuit budget)
+    else (if found.is_set (codes "bench") then verilog file name (Bench budget)
+    else (if found.is_set (codes "run") then text file 1 (RunCircuit cells forks budget (found.is_set (codes "vcd")))
+    else verilog file name (Circuit cells forks (found.is_set (codes "handshake"))))))
 
 -- ---- the jobs
 -- `replay` reads the part of a trace always, and asks for it with `--trace` alone: `clap`'s definition has no word for an option that
--- wants another, and so doesn't refuse the part without it.
+-- wants another, and so doesn't refuse the part without it. `circuit` refuses a name that is no module's, whatever it is asked for.
 
 abbrev pub run_job : Findings → Option JobTree
 run_job found = do
@@ -231,8 +255,8 @@ circuit_job found = do
   cells ← found.number (codes "cells")
   forks ← found.number (codes "forks")
   budget ← found.number (codes "budget")
-  Some (text file 1 (circuit_task (found.is_set (codes "needs")) (found.is_set (codes "schedule")) (found.is_set (codes "run")) cells
-      forks budget (found.is_set (codes "vcd"))))
+  name ← name_in found
+  Some (circuit_asked found file name cells forks budget)
 
 abbrev pub span_job : Findings → Option JobTree
 span_job found = do
@@ -306,7 +330,7 @@ circuit_row = record {
   name = codes "circuit";
   operands = file_operand ∷ [];
   choices = cells_choice ∷ forks_choice ∷ budget_choice ∷ switch (codes "run") ∷ switch (codes "vcd")
-      ∷ switch (codes "needs") ∷ schedule_choice ∷ [];
+      ∷ switch (codes "needs") ∷ schedule_choice ∷ name_choice ∷ switch (codes "handshake") ∷ switch (codes "bench") ∷ [];
   job = circuit_job;
 }
 

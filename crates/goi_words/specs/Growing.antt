@@ -1,128 +1,59 @@
--- The command line as the code has it on the way: single arguments, a subcommand with its first arguments, and the program with its
--- first subcommands. The contracts of the private functions that add one after another cite it. It serves the prover alone.
-use Rattle.std.specs.Prelude.{◌≡◌, false, [], ◌∷◌, codes}
-use Rattle.pcf_values.specs.Most.{most_demo}
-use Rattle.clap.specs.Words.{App, Rule, Shape, Text, app_of}
+-- What the code has on the way: a subcommand with its first arguments, an argument of it, and what `circuit` is asked for. The contracts
+-- of private functions cite it. It serves the prover alone.
+use Rattle.std.specs.Prelude.{◌≡◌, ℕ, List, false, [], ◌∷◌}
+use Rattle.clap.specs.Words.{App, Rule, Shape, app_of, with_subcommand}
 use Rattle.clap.specs.declared.builder.command.Command.{Command}
 use Rattle.clap.specs.declared.builder.command.Command.TheViews.{out-Command}
-use Rattle.goi_words.specs.Commands.{batch_row, budget_choice, call_row, check_row, choice_rule, circuit_row, command, demo_row, flag}
-use Rattle.goi_words.specs.Commands.{forks_choice, from_choice, most_choice, net_row, operand, ranged_operand, replay_row, run_net_row}
-use Rattle.goi_words.specs.Commands.{run_row, span_row, cells_choice, steps_row, subcommand, told_choice, trace_row, wide_operand}
-use Rattle.goi_words.specs.Commands.{with_commands, workers_choice}
+use Rattle.goi_words.specs.Commands.{CommandRow, batch_row, call_row, check_row, circuit_row, demo_row, net_row, replay_row, run_net_row}
+use Rattle.goi_words.specs.Commands.{flag, number_option, operand, ranged_operand, run_row, span_row, steps_row, subcommand, text_option}
+use Rattle.goi_words.specs.Commands.{trace_row, wide_operand}
+use Rattle.goi_words.specs.declared.commands.Name.{Name}
+use Rattle.goi_words.specs.declared.commands.Name.TheVariants.{Batch, Call, Check, Circuit, Demo, Net, Replay, Run, RunNet, Span}
+use Rattle.goi_words.specs.declared.commands.Name.TheVariants.{Steps, Trace}
+use Rattle.goi_jobs.specs.Jobs.{JobTree, text, verilog}
+use Rattle.goi_words.specs.declared.reading.Asked.{Asked}
+use Rattle.goi_words.specs.declared.reading.Asked.TheVariants as asked
+use Rattle.goi_words.specs.declared.commands.Argument.{Argument}
+use Rattle.goi_words.specs.declared.commands.Argument.TheVariants.{Named, Number, Numbered, Numbers, Switch, Text}
 
 -- the command of the code is this subcommand
 abbrev pub IsCommand : Shape → Command → Type 0
 IsCommand shape c = (app_of c ≡ record { top = shape; subs = [] }) × ((out-Command c).has_globals ≡ false)
 
--- the number of a generated program, and the numbers of a call
-abbrev pub number_operand : Rule
-number_operand = ranged_operand (codes "n") 0 most_demo
+-- the rule of an argument of the code
+abbrev pub rule_of_argument : Argument → Rule
+rule_of_argument (Text name) = operand name.now
+rule_of_argument (Number name least most) = ranged_operand name.now least most
+rule_of_argument (Numbers name) = wide_operand name.now
+rule_of_argument (Switch name) = flag name.now
+rule_of_argument (Numbered name least most default) = number_option name.now least most default.now
+rule_of_argument (Named name default) = text_option name.now default.now
 
-abbrev pub numbers_operand : Rule
-numbers_operand = wide_operand (codes "n")
+-- the row of a command of the code
+abbrev pub row_of : Name → CommandRow
+row_of Run = run_row
+row_of Check = check_row
+row_of Net = net_row
+row_of Replay = replay_row
+row_of Demo = demo_row
+row_of RunNet = run_net_row
+row_of Batch = batch_row
+row_of Trace = trace_row
+row_of Circuit = circuit_row
+row_of Span = span_row
+row_of Steps = steps_row
+row_of Call = call_row
 
--- the options with a number
-abbrev pub workers_option : Rule
-workers_option = choice_rule workers_choice
+-- all of them
+abbrev pub all_names : List Name
+all_names =
+    Run ∷ Check ∷ Net ∷ Replay ∷ Demo ∷ RunNet ∷ Batch ∷ Trace ∷ Circuit ∷ Span ∷ Steps ∷ Call ∷ []
 
-abbrev pub budget_option : Rule
-budget_option = choice_rule budget_choice
+-- a program with the command of this name
+abbrev pub with_named : App → Name → App
+with_named app name = with_subcommand app (subcommand (row_of name))
 
-abbrev pub from_option : Rule
-from_option = choice_rule from_choice
-
-abbrev pub most_option : Rule
-most_option = choice_rule most_choice
-
-abbrev pub told_option : Rule
-told_option = choice_rule told_choice
-
-abbrev pub cells_option : Rule
-cells_option = choice_rule cells_choice
-
-abbrev pub forks_option : Rule
-forks_option = choice_rule forks_choice
-
--- what several subcommands begin with: a file, the limits of a run, and what is printed of its log
-abbrev pub file_command : Text → Shape
-file_command name = command name (operand (codes "file") ∷ [])
-
-abbrev pub limited_command : Text → Shape
-limited_command name = command name (operand (codes "file") ∷ workers_option ∷ budget_option ∷ [])
-
-abbrev pub logged_command : Text → Shape
-logged_command name =
-    command name (operand (codes "file") ∷ workers_option ∷ budget_option ∷ flag (codes "schedule") ∷ flag (codes "tally") ∷ [])
-
--- `replay`, `trace` and `steps` without the part that is printed, and `span` without what is printed of the rounds
-abbrev pub bare_replay_command : Shape
-bare_replay_command = command (codes "replay") (operand (codes "file") ∷ operand (codes "schedule") ∷ flag (codes "trace") ∷ [])
-
-abbrev pub bare_trace_command : Shape
-bare_trace_command =
-    command (codes "trace") (operand (codes "file") ∷ workers_option ∷ budget_option ∷ flag (codes "by-value") ∷ [])
-
--- `circuit` without what is told of its run
-abbrev pub bare_circuit_command : Shape
-bare_circuit_command = command (codes "circuit")
-    (operand (codes "file") ∷ choice_rule cells_choice ∷ choice_rule forks_choice ∷ budget_option ∷ [])
-
-abbrev pub bare_span_command : Shape
-bare_span_command = command (codes "span") (operand (codes "file") ∷ budget_option ∷ flag (codes "by-value") ∷ [])
-
-abbrev pub bare_steps_command : Shape
-bare_steps_command = command (codes "steps") (operand (codes "file") ∷ budget_option ∷ [])
-
--- `call` without what is printed of its log
-abbrev pub bare_call_command : Shape
-bare_call_command = command (codes "call") (operand (codes "file") ∷ numbers_operand ∷ workers_option ∷ budget_option ∷ [])
-
--- the subcommands
-abbrev pub run_command : Shape
-run_command = subcommand run_row
-
-abbrev pub check_command : Shape
-check_command = subcommand check_row
-
-abbrev pub net_command : Shape
-net_command = subcommand net_row
-
-abbrev pub replay_command : Shape
-replay_command = subcommand replay_row
-
-abbrev pub demo_command : Shape
-demo_command = subcommand demo_row
-
-abbrev pub run_net_command : Shape
-run_net_command = subcommand run_net_row
-
-abbrev pub batch_command : Shape
-batch_command = subcommand batch_row
-
-abbrev pub trace_command : Shape
-trace_command = subcommand trace_row
-
-abbrev pub circuit_command : Shape
-circuit_command = subcommand circuit_row
-
-abbrev pub span_command : Shape
-span_command = subcommand span_row
-
-abbrev pub steps_command : Shape
-steps_command = subcommand steps_row
-
-abbrev pub call_command : Shape
-call_command = subcommand call_row
-
--- the program with its first three subcommands, its first six, and its first nine
-abbrev pub three_commands : App
-three_commands = with_commands (run_command ∷ check_command ∷ net_command ∷ [])
-
-abbrev pub six_commands : App
-six_commands = with_commands
-    (run_command ∷ check_command ∷ net_command ∷ replay_command ∷ demo_command ∷ run_net_command ∷ [])
-
-abbrev pub nine_commands : App
-nine_commands = with_commands
-    (run_command ∷ check_command ∷ net_command ∷ replay_command ∷ demo_command ∷ run_net_command ∷ batch_command
-    ∷ trace_command ∷ circuit_command ∷ [])
+-- the job that the code's own answer to what `circuit` is asked for comes to
+abbrev pub asked_tree : List ℕ → List ℕ → Asked → JobTree
+asked_tree file name (asked.Task task) = text file 1 task
+asked_tree file name (asked.Verilog v) = verilog file name v

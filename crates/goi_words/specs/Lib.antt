@@ -12,5 +12,5 @@ pub mod Plain
 pub mod Laws
 -- what an error of `clap` comes to
 pub mod Faults
--- the command line as the code makes it, an argument after another: for proofs alone
+-- what the code has on the way: for proofs alone
 pub mod Growing

@@ -1,42 +1,43 @@
 -- Plain words, and what they ask for, for each command of the table.
 -- Plain words are the program's name, the command, its operands in order, and then options in any order, each at most once, with
 -- its value as the next word. Numbers are decimal digits without leading zeros and in range; names of files are neither empty nor
--- begin with `-`. `clap` takes other words too; what they mean is its own to say, and isn't told here.
-use Rattle.std.specs.Prelude.{◌≡◌, ◌==◌, ◌<◌, ◌≤◌, ◌^◌, ⊤, ℕ, Bool, false, List, [], ◌∷◌, ◌++◌, Option, None, Some, codes, length, map}
-use Rattle.std.specs.Prelude.{find, if◌then◌else◌}
+-- begin with `-`, and a module's name is one. `clap` takes other words too; what they mean is its own to say, and isn't told here.
+use Rattle.std.specs.Prelude.{◌≡◌, ◌==◌, ◌<◌, ◌≤◌, ◌^◌, ⊤, ℕ, Bool, false, true, List, [], ◌∷◌, ◌++◌, Option, None, Some, codes, length}
+use Rattle.std.specs.Prelude.{find, if◌then◌else◌, map}
 use Rattle.std.specs.List.{AllByRecursion, flat_map, list_any}
-use Rattle.std.specs.Option.{option_or}
+use Rattle.std.specs.Option.{option_map_or, option_or}
 use Rattle.std.specs.Fmt.{decimal}
 use Rattle.std.specs.Str.{bytes_eq}
 use Rattle.clap.specs.Lexer.{usize_max}
 use Rattle.clap.specs.Words.{Text}
 use Rattle.goi_words.specs.Findings.{Findings}
-use Rattle.goi_words.specs.Commands.{Choice, CommandRow, Operand, a_number, a_text, choice_name, numbered, some_numbers, switch}
+use Rattle.goi_words.specs.Commands.{Choice, CommandRow, Operand, a_number, a_text, choice_name, named, numbered, some_numbers, switch}
 use Rattle.goi_words.specs.Asked.{number_in}
+use Rattle.verilog_names.specs.Name.{module_name}
 
--- what stands for an operand
+-- what stands for an operand, or behind the name of an option
 pub data Value : Type 0 where
   text : Text → Value
   number : ℕ → Value
   numbers : List ℕ → Value
 
--- an option as it is given: its name, and its number where it has one
+-- an option as it is given: its name, and its value where it has one
 pub record Setting : Type 0 where
   pub name : Text
-  pub value : Option ℕ
+  pub value : Option Value
 
 -- ---- the words
 
--- the words for an operand
+-- the words for a value
 abbrev pub value_words : Value → List Text
 value_words (text t) = t ∷ []
 value_words (number n) = decimal n ∷ []
 value_words (numbers ns) = map decimal ns
 
--- the word behind the name of an option, where it has a number
-abbrev pub option_words : Option ℕ → List Text
+-- the word behind the name of an option, where it has a value
+abbrev pub option_words : Option Value → List Text
 option_words None = []
-option_words (Some n) = decimal n ∷ []
+option_words (Some value) = value_words value
 
 -- the words of an option
 abbrev pub setting_words : Setting → List Text
@@ -67,9 +68,10 @@ AllFit (o ∷ os) (v ∷ vs) = Fits o v × AllFit os vs
 AllFit os vs = ⊥
 
 -- what an option may be given with
-abbrev pub Takes : Choice → Option ℕ → Type 0
+abbrev pub Takes : Choice → Option Value → Type 0
 Takes (switch name) None = ⊤
-Takes (numbered name least most default) (Some n) = (least ≤ n) × (n ≤ most)
+Takes (numbered name least most default) (Some (number n)) = (least ≤ n) × (n ≤ most)
+Takes (named name default) (Some (text t)) = module_name t ≡ true
 Takes choice value = ⊥
 
 -- it is one of these options, and its value is in range
@@ -109,17 +111,35 @@ numbers_given (some_numbers n ∷ os) (numbers ks ∷ vs) name = if bytes_eq n n
 numbers_given (o ∷ os) (v ∷ vs) name = numbers_given os vs name
 numbers_given os vs name = None
 
--- the number that is given with an option, or else the one of this text
-abbrev pub value_given : Text → (default : Text) → List Setting → Option ℕ
-value_given name default [] = number_in default
-value_given name default (s ∷ settings) = if bytes_eq s.name name then s.value else value_given name default settings
+-- the number of a value, and its text
+abbrev pub number_in_value : Option Value → Option ℕ
+number_in_value (Some (number n)) = Some n
+number_in_value value = None
 
--- the number of the option of this name
+abbrev pub text_in_value : Option Value → Option Text
+text_in_value (Some (text t)) = Some t
+text_in_value value = None
+
+-- the value that an option is given with, if it is given
+abbrev pub value_given : Text → List Setting → Option (Option Value)
+value_given name [] = None
+value_given name (s ∷ settings) = if bytes_eq s.name name then Some s.value else value_given name settings
+
+-- the number of the option of this name: the one that is given, or else the one of its default
 abbrev pub option_given : List Choice → List Setting → Text → Option ℕ
 option_given [] settings name = None
-option_given (switch n ∷ choices) settings name = option_given choices settings name
 option_given (numbered n least most default ∷ choices) settings name =
-    if bytes_eq n name then value_given name default settings else option_given choices settings name
+    if bytes_eq n name then option_map_or number_in_value (value_given name settings) (number_in default)
+    else option_given choices settings name
+option_given (choice ∷ choices) settings name = option_given choices settings name
+
+-- the text of the option of this name, in the same way
+abbrev pub name_given : List Choice → List Setting → Text → Option Text
+name_given [] settings name = None
+name_given (named n default ∷ choices) settings name =
+    if bytes_eq n name then option_map_or text_in_value (value_given name settings) (Some default)
+    else name_given choices settings name
+name_given (choice ∷ choices) settings name = name_given choices settings name
 
 -- an option is given
 abbrev pub is_given : Text → List Setting → Bool
@@ -128,7 +148,7 @@ is_given name settings = list_any (λ s. bytes_eq s.name name) settings
 -- what is given for the arguments of a command
 abbrev pub given : CommandRow → List Value → List Setting → Findings
 given c values settings = record {
-  text = λ name. text_given c.operands values name;
+  text = λ name. option_or (text_given c.operands values name) (name_given c.choices settings name);
   number = λ name. option_or (number_given c.operands values name) (option_given c.choices settings name);
   numbers = λ name. numbers_given c.operands values name;
   is_set = λ name. is_given name settings;

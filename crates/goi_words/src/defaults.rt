@@ -20,3 +20,6 @@ pub const DEFAULT_CELLS: &str = "1023";
 
 /// The forks of a circuit that can be open at once where the words don't say.
 pub const DEFAULT_FORKS: &str = "63";
+
+/// The name of a circuit's module where the words don't say.
+pub const DEFAULT_NAME: &str = "goi";

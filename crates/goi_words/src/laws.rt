@@ -1,4 +1,4 @@
-//! What plain words ask for, and that words are refused by `clap` alone.
+//! What plain words ask for, and which words are refused.
 
 ghost use Rattle.goi_words.specs.Laws.{HelpIsRefused, NoWordsAreRefused, PlainWordsAreTaken, TakenWordsHaveAJob};
 
@@ -18,7 +18,8 @@ pub fn law_help()
     ensures { HelpIsRefused }
 {}
 
-/// Words that `clap`'s definition takes ask for a job, and its numbers are in range.
+/// Words that `clap`'s definition takes ask for a job, and its numbers are in range; or they enter `circuit` with a name that is no
+/// module's, and are refused.
 pub fn law_taken_words()
     ensures { TakenWordsHaveAJob }
 {}

@@ -1,34 +1,38 @@
 //! The job that a list of words asks for, read off from what `clap` finds in them.
 
-ghost use Rattle.std.specs.Prelude.{◌≡◌, ◌≢◌, IfOk, IfErr, IsErrOf, None, Some, false, [], codes, map, option_map, string_bytes};
-ghost use Rattle.clap.specs.Words.{fault_of, found_of, rows_of, subcommand_of, subcommand_rows_of};
-ghost use Rattle.goi_words.specs.Commands.{batch_job, call_job, calling_in, check_job, circuit_job, circuit_task, demo_job};
-ghost use Rattle.goi_words.specs.Commands.{goi_command, if_traced, net_job, replay_job, run_job, run_net_job};
+ghost use Rattle.std.specs.Prelude.{◌≡◌, ◌≢◌, ◌⊎◌, IfOk, IfErr, IsErrOf, None, Some, false, [], map, option_map, string_bytes};
+ghost use Rattle.clap.specs.Words.{Text, fault_of, found_of, rows_of, subcommand_of, subcommand_rows_of};
+ghost use Rattle.goi_words.specs.Commands.{batch_job, call_job, calling_in, check_job, circuit_asked, circuit_job, demo_job};
+ghost use Rattle.goi_words.specs.Commands.{goi_command, if_traced, name_in, net_job, replay_job, run_job, run_net_job};
 ghost use Rattle.goi_words.specs.Commands.{span_job, steps_job, trace_job, window_of};
-ghost use Rattle.goi_words.specs.Asked.{findings, is_set, is_taken, job, job_on, number_of, numbers_of, text_of};
+ghost use Rattle.goi_words.specs.Asked.{NamesNoModule, findings, is_set, is_taken, job, job_on, number_of, numbers_of, text_of};
 ghost use Rattle.goi_words.specs.Asked.{wide_number_in, wide_numbers_in};
+ghost use Rattle.goi_words.specs.Growing.{asked_tree};
 ghost use Rattle.goi_jobs.specs.Jobs.{IsWithinLimits, job_of};
-ghost use Rattle.goi_words.specs.declared.faults.WordFault.TheVariants.{Refused};
+ghost use Rattle.goi_words.specs.declared.faults.WordFault.TheVariants.{NoMemory, Refused};
 
 use crate::commands::goi_command;
 use crate::faults::WordFault;
 use clap::ArgMatches;
-use goi_jobs::{Job, Shown, Task, Window};
+use goi_jobs::{Job, Shown, Task, Verilog, Window};
 use pcf_values::Ident;
 use program_runs::{Calling, calling_of};
 use std::alloc::Global;
+use verilog_names::is_module_name;
 
 /// The job that the words ask for. The first word is the program's own name, whatever it is; no words at all are as the name alone.
 /// The numbers of a job are in their ranges.
 ///
 /// # Errors
 ///
-/// `Refused` comes only when `clap`'s definition refuses the words, and `NoMemory` when memory runs out.
+/// `Refused` comes only when `clap`'s definition refuses the words or the name of a circuit's module is none, and `NoMemory` when memory
+/// runs out.
 pub fn job_of(alloc: Global, words: &[String]) -> Result<Job, WordFault>
     ensures ok { IfOk result (λ done. job (map string_bytes words.now) ≡ Some (job_of done)) }
     ensures within { IfOk result (λ done. IsWithinLimits (job_of done)) }
     ensures none { IsErrOf result Refused → job (map string_bytes words.now) ≡ None }
-    ensures refused { IsErrOf result Refused → is_taken (map string_bytes words.now) ≡ false }
+    ensures refused { IsErrOf result Refused
+        → (is_taken (map string_bytes words.now) ≡ false) ⊎ NamesNoModule (map string_bytes words.now) }
 {
     let matches = parse(alloc, words)?;
     match matches.subcommand() {
@@ -201,7 +205,7 @@ fn trace_job(alloc: Global, found: &ArgMatches<'_>) -> Result<Job, WordFault>
     })
 }
 
-/// The job of the words behind `circuit`.
+/// The job of the words behind `circuit`; a name that is no module's is refused.
 fn circuit_job(alloc: Global, found: &ArgMatches<'_>) -> Result<Job, WordFault>
     ensures ok { IfOk result (λ done. circuit_job (findings (rows_of (found_of found.now))) ≡ Some (job_of done)) }
     ensures refused { IsErrOf result Refused → circuit_job (findings (rows_of (found_of found.now))) ≡ None }
@@ -210,34 +214,64 @@ fn circuit_job(alloc: Global, found: &ArgMatches<'_>) -> Result<Job, WordFault>
     let cells = number_in(found, "cells")?;
     let forks = number_in(found, "forks")?;
     let budget = number_in(found, "budget")?;
-    Ok(Job::Text {
-        file: Ident::from_text(alloc, file)?,
-        workers: 1,
-        task: circuit_task(found, cells, forks, budget),
-    })
+    let name = name_in(found)?;
+    let asked = circuit_asked(found, cells, forks, budget);
+    asked_job(alloc, file, name, asked)
 }
 
-/// What a circuit needs within so many moves where that was found, and else who moves in it where that was, and else the run of a circuit
-/// of these sizes for so many cycles where that was, and else the circuit.
-fn circuit_task(found: &ArgMatches<'_>, cells: u32, forks: u32, budget: u32) -> Task
-    ensures { result ≡ circuit_task ((findings (rows_of (found_of found.now))).is_set (codes "needs"))
-        ((findings (rows_of (found_of found.now))).is_set (codes "schedule"))
-        ((findings (rows_of (found_of found.now))).is_set (codes "run")) cells forks budget
-        ((findings (rows_of (found_of found.now))).is_set (codes "vcd")) }
+/// What `circuit` is asked for.
+#[derive(Clone, Copy)]
+enum Asked {
+    /// A task on the text, by one worker.
+    Task(Task),
+    /// Verilog for it.
+    Verilog(Verilog),
+}
+
+/// What a circuit needs within so many moves where that was found, and else who moves in it where that was, and else a bench for it where
+/// that was, and else the run of a circuit of these sizes for so many cycles where that was, and else the circuit.
+fn circuit_asked(found: &ArgMatches<'_>, cells: u32, forks: u32, budget: u32) -> Asked
+    ensures { (file name : Text) → asked_tree file name result
+        ≡ circuit_asked (findings (rows_of (found_of found.now))) file name cells forks budget }
 {
     if is_set(found, "needs") {
-        Task::NeedsCircuit { budget }
+        Asked::Task(Task::NeedsCircuit { budget })
     } else if is_set(found, "schedule") {
-        Task::ScheduleCircuit { budget }
+        Asked::Task(Task::ScheduleCircuit { budget })
+    } else if is_set(found, "bench") {
+        Asked::Verilog(Verilog::Bench { budget })
     } else if is_set(found, "run") {
-        Task::RunCircuit {
+        Asked::Task(Task::RunCircuit {
             cells,
             forks,
             budget,
             waves: is_set(found, "vcd"),
-        }
+        })
     } else {
-        Task::Circuit { cells, forks }
+        Asked::Verilog(Verilog::Circuit {
+            cells,
+            forks,
+            handshake: is_set(found, "handshake"),
+        })
+    }
+}
+
+/// The job that this comes to for the text of a file, under this name of its circuit's module.
+fn asked_job(alloc: Global, file: &str, name: &str, asked: Asked) -> Result<Job, WordFault>
+    ensures ok { IfOk result (λ done. job_of done ≡ asked_tree file.now name.now asked) }
+    ensures memory { IfErr result (λ f. f ≡ NoMemory) }
+{
+    match asked {
+        Asked::Task(task) => Ok(Job::Text {
+            file: Ident::from_text(alloc, file)?,
+            workers: 1,
+            task,
+        }),
+        Asked::Verilog(verilog) => Ok(Job::Verilog {
+            file: Ident::from_text(alloc, file)?,
+            name: Ident::from_text(alloc, name)?,
+            verilog,
+        }),
     }
 }
 
@@ -323,6 +357,19 @@ fn text_in<'a>(found: &ArgMatches<'a>, name: &str) -> Result<&'a str, WordFault>
     ensures refused { IfErr result (λ f. text_of name.now (rows_of (found_of found.now)) ≡ None) }
 {
     text_of(found, name).ok_or(WordFault::Refused)
+}
+
+/// The name of a circuit's module that was found: a text that names none is refused.
+fn name_in<'a>(found: &ArgMatches<'a>) -> Result<&'a str, WordFault>
+    ensures ok { IfOk result (λ s. name_in (findings (rows_of (found_of found.now))) ≡ Some s.now) }
+    ensures refused { IfErr result (λ f. name_in (findings (rows_of (found_of found.now))) ≡ None) }
+{
+    let text = text_in(found, "name")?;
+    if is_module_name(text.as_bytes()) {
+        Ok(text)
+    } else {
+        Err(WordFault::Refused)
+    }
 }
 
 /// The number that was found for an argument, which has to be there.

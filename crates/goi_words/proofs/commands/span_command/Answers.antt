@@ -1,9 +1,0 @@
-use Rattle.std.proofs.lemmas.Result.{IfOk-weaker}
-use Rattle.goi_words.proofs.Building.{more_rules}
-use Rattle.goi_words.proofs.commands.span_command.Goals as goal
-
-pub returns : goal.returns
-returns c =
-    let with_first = more_rules _ _ _ _ _ c.in_ok-arg.ensures c.flag.ensures.local c.flag.ensures.rule c.in_ok-bare_span_command.ensures in
-    IfOk-weaker c.arg-2.result _ _
-    (λ command added. more_rules _ _ _ _ _ added c.flag-2.ensures.local c.flag-2.ensures.rule with_first) c.arg-2.ensures
