@@ -1,0 +1,2 @@
+-- one part more behind the others
+pub mod Each
