@@ -1,9 +1,10 @@
--- The reports that are made of the run of a net as its circuit makes it: of what it needs, and of its schedule.
+-- The reports that are made of the run of a net as its circuit makes it: of what it needs, of its schedule, and its bench.
 use Rattle.std.proofs.Common.{◌≡◌, ℕ, true, false, List, [], length, Option, sym, ap, ◌∙◌, subst, arith}
 use Rattle.pcf_values.specs.declared.val.Val.{Val}
 use Rattle.pcf_values.specs.Terms.{TermTree}
 use Rattle.cbn_meaning.specs.Meaning.{Means}
 use Rattle.net_build.specs.Nets.{NetTree}
+use Rattle.net_build.specs.NetOf.{net_of}
 use Rattle.interleave_laws.specs.Maps.{MapState, LeadsToMap}
 use Rattle.newest_core.specs.Processor.{reset, newest}
 use Rattle.newest_core.specs.Enough.{forks_peak, cells_peak}
@@ -20,6 +21,7 @@ use Rattle.goi_reports.specs.Reports.{run_report}
 use Rattle.goi_tasks.specs.Outputs.{Output, output}
 use Rattle.goi_tasks.specs.Replaying.{replay_status}
 use Rattle.goi_tasks.specs.Needs.{needs_text, ReportsNeeds, schedule_report, ReportsSchedule}
+use Rattle.goi_tasks.specs.Verilogs.{bench_report, ReportsBench}
 
 -- the moves of the net's circuit within the budget come to this answer, or none
 abbrev pub Comes : NetTree → ℕ → Option Val → Type 0
@@ -31,6 +33,13 @@ tells : (net : NetTree) (budget : ℕ) (answer : Option Val) → Comes net budge
 tells net budget answer (S, led, same) t is =
     subst (λ (o : Option Val). Tells (Means t) net budget o (length (newest net budget))) (sym same)
     (is.tells (newest net budget) S led budget (newest_finished net is.runs budget S led))
+
+-- and with so many moves, on the term's own net
+counted_tells : (net : NetTree) (budget : ℕ) (answer : Option Val) (moves : ℕ) → moves ≡ length (newest net budget) →
+    Comes net budget answer → (t : TermTree) → RunsAs ByName t net → Tells (Means t) (net_of t) budget answer moves
+counted_tells net budget answer moves many led t is =
+    subst (λ (n : NetTree). Tells (Means t) n budget answer moves) is.net_is
+    (subst (λ (n : ℕ). Tells (Means t) net budget answer n) (sym many) (tells net budget answer led t is))
 
 -- what is known of a run that was counted
 pub record Counted (net : NetTree) (budget : ℕ) (answer : Option Val) (moves cells forks : ℕ) : Type 0 where
@@ -52,12 +61,24 @@ module _ (net : NetTree) (budget : ℕ) (answer : Option Val) (moves cells forks
   reports_needs status e text lines o told t is = record {
     answer = answer;
     moves = moves;
-    tells = subst (λ (n : NetTree). Tells (Means t) n budget answer moves) is.net_is
-        (subst (λ (n : ℕ). Tells (Means t) net budget answer n) (sym counted.many) (tells net budget answer counted.led t is));
+    tells = counted_tells net budget answer moves counted.many counted.led t is;
     ends = ap (λ (x : Output). x.status) told ∙ e;
     report_is = ap (λ (x : Output). x.report) told ∙ lines ∙ lines_are ∙ ap (λ (n : NetTree). needs_text answer n moves) is.net_is;
     no_notes = ap (λ (x : Output). x.notes) told;
   }
+
+-- the output is that of the bench of each such term's circuit
+pub reports_bench : (name : List ℕ) (net : NetTree) (budget : ℕ) (answer : Option Val) (moves : ℕ) → moves ≡ length (newest net budget) →
+    Comes net budget answer → (status : ℕ) → status ≡ replay_status answer → (text : List ℕ) → text ≡ bench_report name answer moves →
+    (o : Output) → o ≡ output status text [] → (t : TermTree) → RunsAs ByName t net → ReportsBench name budget t o
+reports_bench name net budget answer moves many led status e text lines o told t is = record {
+  answer = answer;
+  moves = moves;
+  tells = counted_tells net budget answer moves many led t is;
+  ends = ap (λ (x : Output). x.status) told ∙ e;
+  report_is = ap (λ (x : Output). x.report) told ∙ lines;
+  no_notes = ap (λ (x : Output). x.notes) told;
+}
 
 -- all moves of a circuit are one worker's
 pub booked_by_one : (tickets : List ℕ) (log : List Entry) → log ≡ by 0 tickets → BookedWithin 1 log

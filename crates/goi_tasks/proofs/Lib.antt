@@ -25,5 +25,7 @@ pub mod Short
 pub mod Texts
 -- A call of a function has one status on a text or one fault.
 pub mod Functions
+-- What is printed of Verilog for a text ends with one status, or the text has one fault.
+pub mod Printed
 -- why what comes of a text is settled by its bytes, seen from outside
 mod Settling

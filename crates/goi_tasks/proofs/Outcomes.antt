@@ -28,21 +28,19 @@ use Rattle.replay_check.specs.Replays.{ReplaysAs}
 use Rattle.pcf_reader.proofs.Splitting.{one_text}
 use Rattle.step_text.specs.Courses.{course_value}
 use Rattle.program_runs.specs.Laws.{OneProgram}
-use Rattle.program_runs.specs.Programs.{Wanted, any_type, number, wanted_by_run, IsProgram, IsGround}
+use Rattle.program_runs.specs.Programs.{Wanted, any_type, number, wanted_by_run, IsProgram, OfProgram, IsGround}
 use Rattle.program_runs.specs.Runs.{Tells, meaning, net_run}
 use Rattle.program_runs.proofs.OneProgram.{same_program}
-use Rattle.function_runs.specs.Functions.{CompilesText}
 use Rattle.function_runs.specs.Laws.{OneFunction}
 use Rattle.newest_core.specs.Processor.{newest}
 use Rattle.goi_tasks.specs.declared.fault.Fault.{Fault}
 use Rattle.goi_tasks.specs.declared.fault.Fault.TheVariants.{Program, NetText, Schedule, Moves}
 use Rattle.goi_jobs.specs.declared.shown.Shown.{Shown}
 use Rattle.goi_jobs.specs.declared.task.Task.{Task}
-use Rattle.goi_jobs.specs.declared.task.Task.TheVariants.{Run, Check, ShowNet, RunNet, Trace, Circuit, RunCircuit}
+use Rattle.goi_jobs.specs.declared.task.Task.TheVariants.{Run, Check, ShowNet, RunNet, Trace, RunCircuit}
 use Rattle.goi_jobs.specs.declared.task.Task.TheVariants.{NeedsCircuit, ScheduleCircuit, Span, Steps}
 use Rattle.circuit_runs.specs.Running.{Comes}
 use Rattle.circuit_runs.specs.Laws.{CircuitTells}
-use Rattle.goi_tasks.specs.Calls.{FaultyAnyFunction}
 use Rattle.goi_tasks.specs.Circuits.{answer_of}
 use Rattle.goi_tasks.specs.NetFiles.{FaultyListing, unlisted}
 use Rattle.goi_tasks.specs.Outputs.{Output}
@@ -111,7 +109,6 @@ pub text_status : (workers : ℕ) (task : Task) (bytes : List ℕ) (o : Output) 
 text_status workers (Run budget calling shown) bytes o h = run_status h.so.answer o.status h.so.ends
 text_status workers (Check term) bytes o h = inl (ap (λ (x : Output). x.status) h.so)
 text_status workers ShowNet bytes o h = inl (ap (λ (x : Output). x.status) h.so)
-text_status workers (Circuit cells forks) bytes o h = inl (ap (λ (x : Output). x.status) h.so)
 text_status workers (RunCircuit cells forks budget waves) bytes o h =
     run_status (answer_of h.so.outcome) o.status h.so.ends
 text_status workers (NeedsCircuit budget) bytes o h = run_status h.so.answer o.status h.so.ends
@@ -177,14 +174,6 @@ module _ (known : Known) where
   pub one_text_fault : (wanted : Wanted) (bytes : List ℕ) (f g : Fault) → FaultyText wanted bytes f → FaultyText wanted bytes g → f ≡ g
   one_text_fault wanted bytes _ _ (no_program f h) (no_program g k) = ap Program (known.one_program.one_fault wanted bytes f g h k)
 
-  -- ---- a text is a function of one number of arguments, or has one fault
-
-  any_sound : (bytes : List ℕ) (t : TermTree) (n : ℕ) (f : Fault) → CompilesText bytes n (t, n) → FaultyAnyFunction bytes f → ⊥
-  any_sound bytes t n _ h (no_program f k) = known.one_function.not_both n bytes (t, n) f h (k n)
-
-  one_any_fault : (bytes : List ℕ) (f g : Fault) → FaultyAnyFunction bytes f → FaultyAnyFunction bytes g → f ≡ g
-  one_any_fault bytes _ _ (no_program f h) (no_program g k) = ap Program (known.one_function.one_fault 0 bytes f g (h 0) (k 0))
-
   -- ---- a listing is that of one program, or has one fault
 
   same_listed : (bytes : List ℕ) (t u : TermTree) → ListsProgram bytes t → ListsProgram bytes u → t ≡ u
@@ -202,6 +191,17 @@ module _ (known : Known) where
 
   -- ---- a task has one status on a text or one fault
 
+  -- a run by name of a text's program, with this answer, ends with the status with which the program's runs do
+  pub program_end : (budget : ℕ) (bytes : List ℕ) (P : NamedTree → TermTree → TyTree → Type 0) (answer : Option Val) →
+      (moves status own : ℕ) → (h : OfProgram number bytes P) → status ≡ replay_status answer →
+      Tells (Means h.term) (net_of h.term) budget answer moves → OfProgram number bytes (λ tree t A. EndsRun budget (net_of t) own) →
+      status ≡ own
+  program_end budget bytes P answer moves status own h ends tells k =
+      let e : h.term ≡ k.term = same_program known.one_program number bytes _ _ h k in
+      one_run_end budget (net_of k.term) status own
+      (subst (λ (t : TermTree). EndsRun budget (net_of t) status) e
+      (run_ends (Means h.term) (net_of h.term) budget answer moves status ends tells)) k.so
+
   -- the output for a text ends with the status with which the task does
   pub text_end : (workers : ℕ) (task : Task) (bytes : List ℕ) (o : Output) (own : ℕ) → ReportsText workers task bytes o →
       EndsText task bytes own → o.status ≡ own
@@ -212,7 +212,6 @@ module _ (known : Known) where
       (report_ends (meaning calling h.term) (net_run calling h.term) workers budget shown o h.so)) k.so
   text_end workers (Check term) bytes o own h k = ap (λ (x : Output). x.status) h.so ∙ sym k.so
   text_end workers ShowNet bytes o own h k = ap (λ (x : Output). x.status) h.so ∙ sym k.so
-  text_end workers (Circuit cells forks) bytes o own h k = ap (λ (x : Output). x.status) h.so ∙ sym k.so
   text_end workers (RunCircuit cells forks budget waves) bytes o own h k =
       let e : h.term ≡ k.term = same_program known.one_program number bytes _ _ h k in
       h.so.ends
@@ -221,16 +220,9 @@ module _ (known : Known) where
       (subst (λ (t : TermTree). CircuitTells t cells forks budget h.so.outcome) e h.so.tells) k.so.comes k.so.tells
       ∙ sym k.so.ends
   text_end workers (NeedsCircuit budget) bytes o own h k =
-      let e : h.term ≡ k.term = same_program known.one_program number bytes _ _ h k in
-      one_run_end budget (net_of k.term) o.status own
-      (subst (λ (t : TermTree). EndsRun budget (net_of t) o.status) e
-      (run_ends (Means h.term) (net_of h.term) budget h.so.answer h.so.moves o.status h.so.ends h.so.tells)) k.so
+      program_end budget bytes _ h.so.answer h.so.moves o.status own h h.so.ends h.so.tells k
   text_end workers (ScheduleCircuit budget) bytes o own h k =
-      let e : h.term ≡ k.term = same_program known.one_program number bytes _ _ h k in
-      one_run_end budget (net_of k.term) o.status own
-      (subst (λ (t : TermTree). EndsRun budget (net_of t) o.status) e
-      (run_ends (Means h.term) (net_of h.term) budget h.so.answer (length (newest (net_of h.term) budget)) o.status h.so.ends
-      h.so.tells)) k.so
+      program_end budget bytes _ h.so.answer (length (newest (net_of h.term) budget)) o.status own h h.so.ends h.so.tells k
   text_end workers (Span budget calling profile schedule) bytes o own h k =
       let e : h.term ≡ k.term = same_program known.one_program (wanted_by_run calling) bytes _ _ h k in
       one_run_end budget (net_run calling k.term) o.status own
@@ -258,7 +250,6 @@ module _ (known : Known) where
       text_sound known.one_program (wanted_by_run calling) bytes h.tree h.term h.type f h.is k
   report_sound workers (Check term) bytes o f h k = text_sound known.one_program any_type bytes h.tree h.term h.type f h.is k
   report_sound workers ShowNet bytes o f h k = text_sound known.one_program number bytes h.tree h.term h.type f h.is k
-  report_sound workers (Circuit cells forks) bytes o f h k = any_sound bytes h.term h.count f h.is k
   report_sound workers (RunCircuit cells forks budget waves) bytes o f h k =
       text_sound known.one_program number bytes h.tree h.term h.type f h.is k
   report_sound workers (NeedsCircuit budget) bytes o f h k = text_sound known.one_program number bytes h.tree h.term h.type f h.is k
@@ -277,7 +268,6 @@ module _ (known : Known) where
       text_sound known.one_program (wanted_by_run calling) bytes h.tree h.term h.type f h.is k
   end_sound (Check term) bytes own f h k = text_sound known.one_program any_type bytes h.tree h.term h.type f h.is k
   end_sound ShowNet bytes own f h k = text_sound known.one_program number bytes h.tree h.term h.type f h.is k
-  end_sound (Circuit cells forks) bytes own f h k = any_sound bytes h.term h.count f h.is k
   end_sound (RunCircuit cells forks budget waves) bytes own f h k =
       text_sound known.one_program number bytes h.tree h.term h.type f h.is k
   end_sound (NeedsCircuit budget) bytes own f h k = text_sound known.one_program number bytes h.tree h.term h.type f h.is k
@@ -294,7 +284,6 @@ module _ (known : Known) where
   one_fault_for (Run budget calling shown) bytes f g h k = one_text_fault (wanted_by_run calling) bytes f g h k
   one_fault_for (Check term) bytes f g h k = one_text_fault any_type bytes f g h k
   one_fault_for ShowNet bytes f g h k = one_text_fault number bytes f g h k
-  one_fault_for (Circuit cells forks) bytes f g h k = one_any_fault bytes f g h k
   one_fault_for (RunCircuit cells forks budget waves) bytes f g h k = one_text_fault number bytes f g h k
   one_fault_for (NeedsCircuit budget) bytes f g h k = one_text_fault number bytes f g h k
   one_fault_for (ScheduleCircuit budget) bytes f g h k = one_text_fault number bytes f g h k

@@ -19,6 +19,7 @@ use Rattle.goi_tasks.specs.Settles.{Settles, TextsSettle, status_of_output, stat
 use Rattle.goi_jobs.specs.Tasks.{nothing_shown}
 use Rattle.goi_tasks.specs.Tasks.{ReportsText, FaultyFor, EndsText}
 use Rattle.goi_tasks.proofs.Functions.{call_settles}
+use Rattle.goi_tasks.proofs.Printed.{verilog_settles}
 use Rattle.goi_tasks.proofs.Outcomes.{Known, ground_sound, text_sound, one_text_fault, text_end, report_sound}
 use Rattle.goi_tasks.proofs.Outcomes.{end_sound, one_fault_for, schedule_sound, one_schedule_fault, replay_end, one_run_end, run_ends}
 
@@ -105,4 +106,5 @@ module _ (known : Known) where
     numbers = numbers_settle;
     replays = replay_settles;
     calls = λ workers budget shown numbers bytes. call_settles one numbers bytes workers budget shown;
+    verilogs = verilog_settles known;
   }

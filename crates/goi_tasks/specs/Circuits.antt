@@ -1,12 +1,9 @@
--- The circuit of a function of numbers, and a run of a program's circuit, by what its Verilog means: what it says of the program, and what
--- is told of it.
+-- A run of a program's circuit, by what its Verilog means: what it says of the program, and what is told of it.
 -- How the module runs stands in `circuit_runs`: an edge with `rst` up over registers that hold 0, and then edges until `done` or `full`.
-use Rattle.std.specs.Prelude.{◌≡◌, ℕ, suc, Bool, true, false, List, [], replicate, Option, None, Some}
+use Rattle.std.specs.Prelude.{◌≡◌, ℕ, suc, Bool, true, false, List, [], Option, None, Some}
 use Rattle.pcf_values.specs.declared.val.Val.{Val}
 use Rattle.pcf_values.specs.Terms.{TermTree}
 use Rattle.net_build.specs.NetOf.{net_of}
-use Rattle.open_nets.specs.Applied.{applied}
-use Rattle.open_nets.specs.Numbers.{places}
 use Rattle.verilog_tree.specs.Tree.{Item}
 use Rattle.verilog_waves.specs.Dump.{dump}
 use Rattle.cell_module.specs.Sizes.{circuit_of}
@@ -15,14 +12,9 @@ use Rattle.circuit_runs.specs.declared.outcome.Outcome.TheVariants.{Ended, Full,
 use Rattle.circuit_runs.specs.Running.{Comes}
 use Rattle.circuit_runs.specs.Laws.{CircuitTells}
 use Rattle.circuit_waves.specs.Laws.{edges_of}
-use Rattle.circuit_text.specs.CircuitText.{circuit_text}
 use Rattle.goi_reports.specs.Cycles.{cycles_report}
 use Rattle.goi_tasks.specs.Outputs.{Output}
 use Rattle.goi_tasks.specs.Replaying.{replay_status}
-
--- the circuit of a function of so many numbers, made of its net at zeros: each of these gets a port, and so does none of a program's
-abbrev pub function_circuit : (cells forks : ℕ) → TermTree → ℕ → List ℕ
-function_circuit cells forks t n = circuit_text "goi" (net_of (applied t (replicate n 0))) cells forks (places t n)
 
 -- the value of a run, if it ended with one
 abbrev pub answer_of : Outcome → Option Val

@@ -8,6 +8,8 @@ pub mod NetFiles
 pub mod Tasks
 -- A call of a text's function at numbers.
 pub mod Calls
+-- What is printed of Verilog for a text: its circuit, or a bench for it.
+pub mod Verilogs
 -- What is told on the error output behind a report: nothing, or how many moves were counted while the run went on.
 pub mod Notes
 -- A run of a program: which report it has, and with which status it ends.

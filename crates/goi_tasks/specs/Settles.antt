@@ -7,6 +7,7 @@ use Rattle.goi_tasks.specs.declared.fault.Fault.{Fault}
 use Rattle.goi_jobs.specs.declared.task.Task.{Task}
 use Rattle.goi_jobs.specs.declared.task.Task.TheVariants.{Run}
 use Rattle.goi_jobs.specs.declared.shown.Shown.{Shown}
+use Rattle.goi_jobs.specs.declared.verilog.Verilog.{Verilog}
 use Rattle.goi_tasks.specs.Calls.{ReportsCall, FaultyCall, EndsCall}
 use Rattle.goi_tasks.specs.Outputs.{Output}
 use Rattle.goi_tasks.specs.Programs.{FaultyEither}
@@ -14,6 +15,7 @@ use Rattle.goi_tasks.specs.Replaying.{replay_status, ReportsReplay, EndsReplay, 
 use Rattle.goi_tasks.specs.Told.{TellsText}
 use Rattle.goi_jobs.specs.Tasks.{nothing_shown}
 use Rattle.goi_tasks.specs.Tasks.{ReportsText, FaultyFor, EndsText}
+use Rattle.goi_tasks.specs.Verilogs.{ReportsVerilog, FaultyVerilog, EndsVerilog}
 
 -- What is right, what ends with which status, and what has which fault: whatever is right has the status with which it ends, it has no
 -- fault, nor has what ends, and two faults are one.
@@ -30,7 +32,8 @@ status_of_output o = o.status
 abbrev pub status_of_run : Option Val × ℕ → ℕ
 status_of_run r = replay_status r.0
 
--- so it is with each task, with a run in numbers, with a schedule on a program's net, and with a call of a function
+-- so it is with each task, with a run in numbers, with a schedule on a program's net, with a call of a function, and with what is printed
+-- of Verilog
 pub record TextsSettle : Type 0 where
   pub tasks : (workers : ℕ) (task : Task) (bytes : List ℕ) →
       Settles status_of_output (ReportsText workers task bytes) (EndsText task bytes) (FaultyFor task bytes)
@@ -42,3 +45,5 @@ pub record TextsSettle : Type 0 where
       (λ own. OfGround bytes (λ t. EndsReplay t schedule own)) (λ f. FaultyEither bytes (λ t. FaultySchedule t schedule f) f)
   pub calls : (workers budget : ℕ) (shown : Shown) (numbers bytes : List ℕ) →
       Settles status_of_output (ReportsCall workers budget shown numbers bytes) (EndsCall budget numbers bytes) (FaultyCall numbers bytes)
+  pub verilogs : (name : List ℕ) (verilog : Verilog) (bytes : List ℕ) →
+      Settles status_of_output (ReportsVerilog name verilog bytes) (EndsVerilog verilog bytes) (FaultyVerilog verilog bytes)

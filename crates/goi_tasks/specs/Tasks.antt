@@ -14,10 +14,9 @@ use Rattle.program_runs.specs.declared.calling.Calling.TheVariants.{ByName}
 use Rattle.goi_reports.specs.Reports.{check_report}
 use Rattle.goi_tasks.specs.declared.fault.Fault.{Fault}
 use Rattle.goi_jobs.specs.declared.task.Task.{Task}
-use Rattle.goi_jobs.specs.declared.task.Task.TheVariants.{Run, Check, ShowNet, RunNet, Trace, Circuit, RunCircuit}
+use Rattle.goi_jobs.specs.declared.task.Task.TheVariants.{Run, Check, ShowNet, RunNet, Trace, RunCircuit}
 use Rattle.goi_jobs.specs.declared.task.Task.TheVariants.{NeedsCircuit, ScheduleCircuit, Span, Steps}
-use Rattle.goi_tasks.specs.Calls.{OfAnyFunction, FaultyAnyFunction}
-use Rattle.goi_tasks.specs.Circuits.{EndsCircuit, ReportsCircuit, function_circuit}
+use Rattle.goi_tasks.specs.Circuits.{EndsCircuit, ReportsCircuit}
 use Rattle.goi_tasks.specs.NetFiles.{FaultyListing}
 use Rattle.goi_tasks.specs.Needs.{ReportsNeeds, ReportsSchedule}
 use Rattle.goi_tasks.specs.Outputs.{Output, output}
@@ -46,8 +45,6 @@ ReportsText workers ShowNet bytes o = OfProgram number bytes (λ tree t A. o ≡
 ReportsText workers (RunNet budget shown) bytes o = OfListing bytes (λ t. ReportsRun workers budget ByName shown t o)
 ReportsText workers (Trace budget calling window) bytes o =
     OfProgram (wanted_by_run calling) bytes (λ tree t A. ReportsTrace workers budget calling window t o)
-ReportsText workers (Circuit cells forks) bytes o =
-    OfAnyFunction bytes (λ t n. o ≡ output 0 (function_circuit cells forks t n) [])
 ReportsText workers (RunCircuit cells forks budget waves) bytes o =
     OfProgram number bytes (λ tree t A. ReportsCircuit cells forks budget waves t o)
 ReportsText workers (NeedsCircuit budget) bytes o = OfProgram number bytes (λ tree t A. ReportsNeeds budget t o)
@@ -63,7 +60,6 @@ FaultyFor (Check term) bytes f = FaultyText any_type bytes f
 FaultyFor ShowNet bytes f = FaultyText number bytes f
 FaultyFor (RunNet budget shown) bytes f = FaultyListing bytes f
 FaultyFor (Trace budget calling window) bytes f = FaultyText (wanted_by_run calling) bytes f
-FaultyFor (Circuit cells forks) bytes f = FaultyAnyFunction bytes f
 FaultyFor (RunCircuit cells forks budget waves) bytes f = FaultyText number bytes f
 FaultyFor (NeedsCircuit budget) bytes f = FaultyText number bytes f
 FaultyFor (ScheduleCircuit budget) bytes f = FaultyText number bytes f
@@ -79,7 +75,6 @@ EndsText ShowNet bytes status = OfProgram number bytes (λ tree t A. status ≡ 
 EndsText (RunNet budget shown) bytes status = OfListing bytes (λ t. EndsRun budget (net_of t) status)
 EndsText (Trace budget calling window) bytes status =
     OfProgram (wanted_by_run calling) bytes (λ tree t A. EndsRun budget (net_run calling t) status)
-EndsText (Circuit cells forks) bytes status = OfAnyFunction bytes (λ t n. status ≡ 0)
 EndsText (RunCircuit cells forks budget waves) bytes status =
     OfProgram number bytes (λ tree t A. EndsCircuit cells forks budget t status)
 EndsText (NeedsCircuit budget) bytes status = OfProgram number bytes (λ tree t A. EndsRun budget (net_of t) status)
@@ -96,7 +91,6 @@ most_bytes (Check term) = most_program_bytes
 most_bytes ShowNet = most_program_bytes
 most_bytes (RunNet budget shown) = most_text_bytes
 most_bytes (Trace budget calling window) = most_program_bytes
-most_bytes (Circuit cells forks) = most_program_bytes
 most_bytes (RunCircuit cells forks budget waves) = most_program_bytes
 most_bytes (NeedsCircuit budget) = most_program_bytes
 most_bytes (ScheduleCircuit budget) = most_program_bytes

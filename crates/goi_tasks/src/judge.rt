@@ -12,7 +12,6 @@ ghost use Rattle.goi_tasks.specs.Stops.{StopsFor};
 ghost use Rattle.goi_tasks.specs.Tasks.{ReportsText, FaultyFor};
 ghost use Rattle.goi_jobs.specs.Tasks.{IsWithin, progress_of};
 
-use crate::circuit::report_circuit;
 use crate::circuit_run::{CircuitRun, report_circuit_run};
 use crate::needs::{report_needs, report_schedule};
 use crate::net_file::net_of_listing;
@@ -53,7 +52,6 @@ pub fn report_text<C: Crew>(
         } => report_program(alloc, bytes, budget, calling, shown, crew),
         Task::Check { term } => report_check(alloc, bytes, term),
         Task::ShowNet => report_net(alloc, bytes),
-        Task::Circuit { cells, forks } => report_circuit(alloc, bytes, cells, forks),
         Task::RunCircuit {
             cells,
             forks,

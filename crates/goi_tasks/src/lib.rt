@@ -1,12 +1,13 @@
 //! What is done with texts: from the bytes of a program, of a net's listing or of a schedule, to what is printed or to the first fault.
 //!
 //! A `Task` of `goi_jobs` says what is to be done with the text of one file; `report_text` does it, `report_replay` runs a schedule,
-//! `report_call` a function at numbers, `report_demo` the generated program. Whatever is run is run by a `Crew` that is handed in. Each
-//! answers the whole output as a value, or the text's first fault, which `refuse` turns into its line. Files and sinks are left to the
-//! crate above.
+//! `report_call` a function at numbers, `report_demo` the generated program, and `report_verilog` prints a circuit or a bench for it.
+//! Whatever a task, a call or the generated program runs is run by a `Crew` that is handed in. Each answers the whole output as a value, or
+//! the text's first fault, which `refuse` turns into its line. Files and sinks are left to the crate above.
 #![tactic(auto)]
 
 mod agreement;
+mod bench;
 mod calling;
 mod circuit;
 mod circuit_run;
@@ -27,6 +28,7 @@ mod steps;
 mod stop;
 mod task;
 mod telling;
+mod verilog;
 mod watched;
 
 pub use agreement::law_run_and_steps;
@@ -42,4 +44,5 @@ pub use settled::{law_one_listing, law_settled};
 pub use stop::Stop;
 pub use task::most_bytes;
 pub use telling::{ValueAndMoves, tell_text};
+pub use verilog::report_verilog;
 pub use watched::Watched;

@@ -1,4 +1,4 @@
-use Rattle.goi_jobs.specs.declared.task.Task.TheVariants.{Check, ShowNet, Circuit, RunCircuit, NeedsCircuit, ScheduleCircuit, Span, Steps}
+use Rattle.goi_jobs.specs.declared.task.Task.TheVariants.{Check, ShowNet, RunCircuit, NeedsCircuit, ScheduleCircuit, Span, Steps}
 use Rattle.goi_tasks.proofs.Texts.{by_these}
 use Rattle.goi_tasks.proofs.judge.report_text.Goals as goal
 
@@ -11,11 +11,6 @@ pub returns-in-ShowNet-clause-report : goal.returns-in-ShowNet-clause-report
 returns-in-ShowNet-clause-report g c =
     by_these c.args.task ShowNet c.in-ShowNet.is c.args.bytes.now (g.C.Crew.count c.args.crew.now) c.report_net.result
     c.report_net.ensures.report
-
-pub returns-in-Circuit-clause-report : goal.returns-in-Circuit-clause-report
-returns-in-Circuit-clause-report g c =
-    by_these c.args.task (Circuit _ _) c.in-Circuit.is c.args.bytes.now (g.C.Crew.count c.args.crew.now) c.report_circuit.result
-    c.report_circuit.ensures.report
 
 pub returns-in-Span-clause-report : goal.returns-in-Span-clause-report
 returns-in-Span-clause-report g c =
