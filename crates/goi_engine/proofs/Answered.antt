@@ -10,7 +10,8 @@ use Rattle.program_runs.specs.Nets.{RunsAs}
 use Rattle.goi_engine.specs.declared.answer.Answer.{Answer}
 use Rattle.goi_engine.specs.declared.answer.Answer.TheVariants.{Prints, Refused, BadWords, NotRead, NoMemory}
 use Rattle.goi_engine.specs.Answers.{AnswersFile, AnswersSchedule, MadeNet, AnswersJob}
-use Rattle.goi_jobs.specs.Jobs.{JobTree, text, replay, list, demo, call}
+use Rattle.goi_jobs.specs.Jobs.{JobTree, text, replay, list, demo, call, verilog}
+use Rattle.goi_jobs.specs.declared.verilog.Verilog.{Verilog}
 use Rattle.goi_world.specs.Seen.{FilesState, FilesKept}
 use Rattle.goi_world.specs.Told.{files_seen}
 use Rattle.goi_engine.specs.FilesSeen.{Possibly, OfFile, ReadsWithin, LoadedBy}
@@ -21,6 +22,7 @@ use Rattle.goi_tasks.specs.Programs.{FaultyEither}
 use Rattle.goi_jobs.specs.declared.window.Window.{Window}
 use Rattle.goi_jobs.specs.Tasks.{shown}
 use Rattle.goi_tasks.specs.Replaying.{ReportsReplay, FaultySchedule}
+use Rattle.goi_tasks.specs.Verilogs.{ReportsVerilog, FaultyVerilog}
 use Rattle.goi_engine.specs.Verdicts.{HasNumber, ReadFor}
 
 -- what is seen of the files is the same in both states where all that is seen is
@@ -108,6 +110,27 @@ call_of_job job file numbers workers budget schedule tally is named given n g ol
     (subst (λ (xs : List ℕ). AnswersFile (ReportsCall workers budget (shown schedule tally false) given) (FaultyCall given) xs old new a) n
     h)))
 
+-- ---- Verilog
+
+-- the answer to the file of a text is that to what is printed of Verilog for it
+pub verilog_job : (v : Verilog) (name file : List ℕ) (old new : FilesState) (a : Answer) →
+    AnswersFile (ReportsVerilog name v) (FaultyVerilog v) file old new a → AnswersJob (verilog file name v) old new a
+verilog_job v name file old new (Prints r) h = h
+verilog_job v name file old new (Refused r) h = h
+verilog_job v name file old new BadWords h = h
+verilog_job v name file old new NotRead h = (tt, h)
+verilog_job v name file old new NoMemory h = h
+
+-- and so to the job that asks for it, by what was printed
+pub verilog_of_job : (job : JobTree) (file name : List ℕ) (v : Verilog) → job ≡ verilog file name v →
+    (given_file given_name : List ℕ) → given_file ≡ file → given_name ≡ name → (old new : FilesState) (a : Answer) →
+    AnswersFile (ReportsVerilog given_name v) (FaultyVerilog v) given_file old new a → AnswersJob job old new a
+verilog_of_job job file name v is given_file given_name f n old new a h =
+    subst (λ (j : JobTree). AnswersJob j old new a) (sym is)
+    (verilog_job v name file old new a
+    (subst (λ (xs : List ℕ). AnswersFile (ReportsVerilog xs v) (FaultyVerilog v) file old new a) n
+    (subst (λ (xs : List ℕ). AnswersFile (ReportsVerilog given_name v) (FaultyVerilog v) xs old new a) f h)))
+
 -- ---- no file
 
 -- a file of which nothing was read
@@ -124,3 +147,4 @@ nothing_read one told (Some (replay file moves window)) old =
 nothing_read one told (Some (list file workers)) old = record { mid = old; list = unread one file _ old; programs = inl refl }
 nothing_read one told (Some (demo n workers)) old = refl
 nothing_read one told (Some (call file numbers workers budget schedule tally)) old = unread one file _ old
+nothing_read one told (Some (verilog file name v)) old = unread one file _ old

@@ -1,5 +1,5 @@
 -- The headline of a call follows from the promise, as that of a run does.
-use Rattle.std.proofs.Common.{◌≡◌, ℕ, IsTrue, List, [], length, Some, false, refl, sym, ap, ◌∙◌, subst}
+use Rattle.std.proofs.Common.{◌≡◌, ℕ, List, [], length, Some, false, refl, sym, ap, ◌∙◌, subst}
 use Rattle.pcf_values.specs.Terms.{TermTree}
 use Rattle.cbn_meaning.specs.Meaning.{Means}
 use Rattle.net_build.specs.NetOf.{net_of}
@@ -8,7 +8,6 @@ use Rattle.adequacy_laws.specs.Questions.{Length}
 use Rattle.open_nets.specs.Applied.{applied}
 use Rattle.function_runs.specs.Functions.{FaultyFunction}
 use Rattle.function_runs.specs.Laws.{OneFunction}
-use Rattle.program_runs.specs.declared.calling.Calling.TheVariants.{ByName}
 use Rattle.program_runs.specs.declared.fault.ProgramFault.{ProgramFault}
 use Rattle.goi_tasks.specs.declared.fault.Fault.{Fault}
 use Rattle.goi_tasks.specs.Calls.{ReportsCall, FaultyCall}

@@ -26,7 +26,7 @@ use Rattle.goi_tasks.specs.RunReports.{ReportsRun}
 use Rattle.goi_jobs.specs.Tasks.{nothing_shown}
 use Rattle.goi_jobs.specs.Jobs.{JobTree}
 use Rattle.goi_engine.specs.FilesSeen.{Possibly}
-use Rattle.goi_engine.specs.Promise.{Call, WroteLine, RefusedFault, MeansPrinted, MeansFault, MeansNotRead, MeansNotWritten}
+use Rattle.goi_engine.specs.Promise.{Call, RefusedFault, MeansPrinted, MeansFault, MeansNotRead, MeansNotWritten}
 use Rattle.goi_engine.specs.Promise.{NoneFailed, Promise}
 use Rattle.goi_engine.specs.Verdicts.{Reports, Refuses, LacksFor}
 use Rattle.goi_engine.specs.Writes.{SinkTurn, Offers, AllTake, count_taken, Untouched, Wrote}

@@ -1,11 +1,10 @@
 -- The headline follows from the promise.
 -- The told bytes are those of which the promise speaks; so what was printed is the report of a run of them, and what was refused is refused
 -- for their first fault.
-use Rattle.std.proofs.Common.{◌≡◌, ℕ, IsTrue, List, [], Some, subst}
+use Rattle.std.proofs.Common.{◌≡◌, ℕ, List, [], Some, subst}
 use Rattle.pcf_values.specs.Terms.{TermTree, TyTree}
 use Rattle.adequacy_laws.specs.Lengths.{OneLength}
 use Rattle.program_runs.specs.declared.calling.Calling.TheVariants.{ByName}
-use Rattle.program_runs.specs.declared.fault.ProgramFault.{ProgramFault}
 use Rattle.program_runs.specs.Laws.{OneProgram}
 use Rattle.program_runs.specs.Programs.{number, IsProgram, IsGround, FaultyProgram}
 use Rattle.program_runs.proofs.OneProgram.{same_ground, ground_sound}

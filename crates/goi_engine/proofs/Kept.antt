@@ -6,7 +6,7 @@ use Rattle.goi_engine.specs.declared.answer.Answer.{Answer}
 use Rattle.goi_engine.specs.declared.answer.Answer.TheVariants.{Prints, Refused, BadWords, NotRead, NoMemory}
 use Rattle.goi_tasks.specs.declared.fault.Fault.TheVariants.{Program, NetText, Schedule, Moves, Batch}
 use Rattle.goi_engine.specs.Answers.{AnswersJob, Answers}
-use Rattle.goi_jobs.specs.Jobs.{JobTree, text, replay, list, demo, call}
+use Rattle.goi_jobs.specs.Jobs.{JobTree, text, replay, list, demo, call, verilog}
 use Rattle.goi_jobs.specs.Tasks.{shown}
 use Rattle.goi_engine.specs.Writes.{Wrote}
 use Rattle.goi_engine.specs.Delivers.{Reported, RefusedAs, Delivered}
@@ -23,8 +23,10 @@ use Rattle.goi_engine.specs.Promise.{CompleteReport, CompleteFault, CompleteWord
 use Rattle.goi_tasks.specs.Refusals.{most_line, fault_line, fault_status, words_line, read_line, memory_line}
 use Rattle.goi_tasks.specs.Replaying.{ReportsReplay}
 use Rattle.goi_tasks.specs.Tasks.{ReportsText}
+use Rattle.goi_tasks.specs.Verilogs.{ReportsVerilog}
 use Rattle.goi_tasks.proofs.Functions.{call_status}
 use Rattle.goi_tasks.proofs.Outcomes.{Known, text_status, schedule_status, run_status}
+use Rattle.goi_tasks.proofs.Printed.{verilog_status}
 use Rattle.goi_batches.specs.Sections.{statuses_of}
 use Rattle.goi_batches.proofs.One.{three}
 use Rattle.goi_engine.specs.ListsSeen.{OfList, ReportsLines}
@@ -226,6 +228,9 @@ three_statuses (call file numbers workers budget schedule tally) files o h =
     two_of_three o.status
     (some_bytes (files.told file) (λ b. ReportsCall workers budget (shown schedule tally false) numbers b o) (OneOfTwo o.status)
     (λ b x. call_status workers budget (shown schedule tally false) numbers b o x) h.1)
+three_statuses (verilog file name v) files o h =
+    two_of_three o.status
+    (some_bytes (files.told file) (λ b. ReportsVerilog name v b o) (OneOfTwo o.status) (λ b x. verilog_status name v b o x) h.1)
 
 -- a fault ends with its status
 fault_outcome : (j : JobTree) (c : Call) (f : Fault) → MeansFault (fault_status f) (Some j) c → SameFaults c →

@@ -19,10 +19,12 @@ use Rattle.goi_tasks.specs.Programs.{FaultyText, FaultyEither}
 use Rattle.goi_tasks.specs.Replaying.{ReportsReplay, EndsReplay, FaultySchedule}
 use Rattle.goi_tasks.specs.RunReports.{demo_budget}
 use Rattle.goi_tasks.specs.Tasks.{ReportsText, FaultyFor, EndsText}
+use Rattle.goi_tasks.specs.Verilogs.{ReportsVerilog, FaultyVerilog, EndsVerilog}
 use Rattle.goi_tasks.proofs.Functions.{call_end, call_sound, one_call_fault}
 use Rattle.goi_tasks.proofs.Outcomes.{Known, ground_sound, one_text_fault, text_end, report_sound, end_sound, one_fault_for}
+use Rattle.goi_tasks.proofs.Printed.{verilog_end, verilog_sound, verilog_end_sound, one_verilog_fault}
 use Rattle.goi_tasks.proofs.Outcomes.{schedule_sound, one_schedule_fault, replay_end, one_run_end, run_ends}
-use Rattle.goi_jobs.specs.Jobs.{JobTree, text, replay, list, demo, call}
+use Rattle.goi_jobs.specs.Jobs.{JobTree, text, replay, list, demo, call, verilog}
 use Rattle.goi_jobs.specs.Tasks.{shown}
 use Rattle.goi_batches.specs.Sections.{listed, Section, IsSection, statuses_of, batch_status, EndsListed}
 use Rattle.goi_batches.proofs.One.{section_end}
@@ -150,6 +152,9 @@ module _ (known : Known) (one : OneFunction) (files : FilesState) where
       let (b, p, q) = meets (files.told file) (λ b. ReportsCall workers budget (shown schedule tally false) numbers b o)
       (λ b. EndsCall budget numbers b own) h.1 k in
       call_end one numbers b workers budget (shown schedule tally false) o own p q
+  one_status (verilog file name v) o own h k =
+      let (b, p, q) = meets (files.told file) (λ b. ReportsVerilog name v b o) (λ b. EndsVerilog v b own) h.1 k in
+      verilog_end known name v b o own p q
 
   -- what has a right output has no fault
   pub no_fault : (j : JobTree) (o : Output) (f : Fault) → Reports j files o → Faulty j files f → ⊥
@@ -174,6 +179,9 @@ module _ (known : Known) (one : OneFunction) (files : FilesState) where
       let (b, p, q) = meets (files.told file) (λ b. ReportsCall workers budget (shown schedule tally false) numbers b o)
       (λ b. FaultyCall numbers b f) h.1 k in
       call_sound one numbers b _ f p q
+  no_fault (verilog file name v) o f h k =
+      let (b, p, q) = meets (files.told file) (λ b. ReportsVerilog name v b o) (λ b. FaultyVerilog v b f) h.1 k in
+      verilog_sound known name v b o f p q
 
   -- and what can be done is not refused
   pub no_refusal : (j : JobTree) (f : Fault) (own : ℕ) → Refuses j files f → CanDo j files own → ⊥
@@ -195,6 +203,9 @@ module _ (known : Known) (one : OneFunction) (files : FilesState) where
   no_refusal (call file numbers workers budget schedule tally) f own h k =
       let (b, p, q) = meets (files.told file) (λ b. FaultyCall numbers b f) (λ b. EndsCall budget numbers b own) h.1 k in
       call_sound one numbers b _ f q p
+  no_refusal (verilog file name v) f own h k =
+      let (b, p, q) = meets (files.told file) (λ b. FaultyVerilog v b f) (λ b. EndsVerilog v b own) h.1 k in
+      verilog_end_sound known v b own f q p
 
   same_either : (moves b : List ℕ) (f g : Fault) → FaultyEither b (AtMoves moves (λ t schedule. FaultySchedule t schedule f)) f →
       FaultyEither b (AtTold moves (λ t schedule. FaultySchedule t schedule g)) g → f ≡ g
@@ -221,6 +232,9 @@ module _ (known : Known) (one : OneFunction) (files : FilesState) where
   same_fault (call file numbers workers budget schedule tally) f g h k =
       let (b, p, q) = meets (files.told file) (λ b. FaultyCall numbers b f) (λ b. FaultyCall numbers b g) h.1 k in
       one_call_fault one numbers b f g p q
+  same_fault (verilog file name v) f g h k =
+      let (b, p, q) = meets (files.told file) (λ b. FaultyVerilog v b f) (λ b. FaultyVerilog v b g) h.1 k in
+      one_verilog_fault known v b f g p q
 
   -- ---- a file that is lacked
 
@@ -240,6 +254,7 @@ module _ (known : Known) (one : OneFunction) (files : FilesState) where
       had_each known files workers ls r.sections r.are e
   had_for_report (demo n workers) o h l = l
   had_for_report (call file numbers workers budget schedule tally) o h l = h.0 l
+  had_for_report (verilog file name v) o h l = h.0 l
 
   -- nor did one that is refused for a fault
   pub had_for_refusal : (j : JobTree) (f : Fault) → Refuses j files f → SurelyLacks j files → ⊥
@@ -256,6 +271,7 @@ module _ (known : Known) (one : OneFunction) (files : FilesState) where
       list_sound known b q.0 f q.1 p
   had_for_refusal (demo n workers) f h l = l
   had_for_refusal (call file numbers workers budget schedule tally) f h l = h.0 l
+  had_for_refusal (verilog file name v) f h l = h.0 l
 
   -- where what is lacked isn't told, what can be done or refused lacks nothing that it comes to
   module _ (untold : (name : List ℕ) → IsTrue (files.lacks name) → files.told name ≡ None) where
@@ -273,6 +289,7 @@ module _ (known : Known) (one : OneFunction) (files : FilesState) where
         tells_each known files workers untold ls e.0 l e.1
     can_has (demo n workers) own l k = l
     can_has (call file numbers workers budget schedule tally) own l (b, e, k) = never_lacked files.told file b (untold file l) e
+    can_has (verilog file name v) own l (b, e, k) = never_lacked files.told file b (untold file l) e
 
     -- nor does one that is refused for a fault which the files tell
     pub faulty_has : (j : JobTree) (f : Fault) → LacksFor j files → Faulty j files f → ⊥
@@ -289,3 +306,4 @@ module _ (known : Known) (one : OneFunction) (files : FilesState) where
         list_sound known b p.0 f p.1 q
     faulty_has (demo n workers) f l k = l
     faulty_has (call file numbers workers budget schedule tally) f l (b, e, k) = never_lacked files.told file b (untold file l) e
+    faulty_has (verilog file name v) f l (b, e, k) = never_lacked files.told file b (untold file l) e

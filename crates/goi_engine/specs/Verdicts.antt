@@ -14,7 +14,8 @@ use Rattle.goi_tasks.specs.Programs.{FaultyEither}
 use Rattle.goi_tasks.specs.RunReports.{demo_budget, ReportsDemo, EndsRun}
 use Rattle.goi_tasks.specs.Replaying.{ReportsReplay, EndsReplay, FaultySchedule}
 use Rattle.goi_tasks.specs.Tasks.{most_bytes, ReportsText, FaultyFor, EndsText}
-use Rattle.goi_jobs.specs.Jobs.{JobTree, text, replay, list, demo, call}
+use Rattle.goi_tasks.specs.Verilogs.{ReportsVerilog, FaultyVerilog, EndsVerilog}
+use Rattle.goi_jobs.specs.Jobs.{JobTree, text, replay, list, demo, call, verilog}
 use Rattle.goi_jobs.specs.Tasks.{shown}
 use Rattle.goi_engine.specs.ListsSeen.{OfList, FaultyList, ReportsLines, EndLines, LacksOne, LoadedList}
 use Rattle.goi_world.specs.Seen.{FilesState}
@@ -35,6 +36,7 @@ Reports (list file workers) files o = OfFile files file (λ bytes. OfList bytes 
 Reports (demo n workers) files o = ReportsDemo n workers o
 Reports (call file numbers workers budget schedule tally) files o =
     OfFile files file (λ bytes. ReportsCall workers budget (shown schedule tally false) numbers bytes o)
+Reports (verilog file name v) files o = OfFile files file (λ bytes. ReportsVerilog name v bytes o)
 
 -- its first fault, by what the files tell
 abbrev pub Refuses : JobTree → FilesState → Fault → Type 0
@@ -44,6 +46,7 @@ Refuses (replay file moves window) files f =
 Refuses (list file workers) files f = OfFile files file (λ bytes. FaultyList bytes f)
 Refuses (demo n workers) files f = ⊥
 Refuses (call file numbers workers budget schedule tally) files f = OfFile files file (λ bytes. FaultyCall numbers bytes f)
+Refuses (verilog file name v) files f = OfFile files file (λ bytes. FaultyVerilog v bytes f)
 
 -- it comes to a file that is lacked
 abbrev pub LacksFor : JobTree → FilesState → Type 0
@@ -52,6 +55,7 @@ LacksFor (replay file moves window) files = IsTrue (files.lacks file) ⊎ (OfFil
 LacksFor (list file workers) files = IsTrue (files.lacks file) ⊎ OfFile files file (λ bytes. OfList bytes (LacksOne files))
 LacksFor (demo n workers) files = ⊥
 LacksFor (call file numbers workers budget schedule tally) files = IsTrue (files.lacks file)
+LacksFor (verilog file name v) files = IsTrue (files.lacks file)
 
 -- ---- the same where the files are told
 
@@ -63,6 +67,7 @@ CanDo (replay file moves window) files status =
 CanDo (list file workers) files status = OfTold files file (λ bytes. OfList bytes (λ lines. EndLines files lines status))
 CanDo (demo n workers) files status = EndsRun demo_budget (net_of (demo_term n)) status
 CanDo (call file numbers workers budget schedule tally) files status = OfTold files file (λ bytes. EndsCall budget numbers bytes status)
+CanDo (verilog file name v) files status = OfTold files file (λ bytes. EndsVerilog v bytes status)
 
 -- the files tell enough for the job, and this is its first fault
 abbrev pub Faulty : JobTree → FilesState → Fault → Type 0
@@ -72,6 +77,7 @@ Faulty (replay file moves window) files f =
 Faulty (list file workers) files f = OfTold files file (λ bytes. FaultyList bytes f)
 Faulty (demo n workers) files f = ⊥
 Faulty (call file numbers workers budget schedule tally) files f = OfTold files file (λ bytes. FaultyCall numbers bytes f)
+Faulty (verilog file name v) files f = OfTold files file (λ bytes. FaultyVerilog v bytes f)
 
 -- the files tell enough to know that the job comes to a file that is lacked
 abbrev pub SurelyLacks : JobTree → FilesState → Type 0
@@ -80,6 +86,7 @@ SurelyLacks (replay file moves window) files = IsTrue (files.lacks file) ⊎ (Of
 SurelyLacks (list file workers) files = IsTrue (files.lacks file) ⊎ OfTold files file (λ bytes. OfList bytes (LacksOne files))
 SurelyLacks (demo n workers) files = ⊥
 SurelyLacks (call file numbers workers budget schedule tally) files = IsTrue (files.lacks file)
+SurelyLacks (verilog file name v) files = IsTrue (files.lacks file)
 
 -- ---- reads
 
@@ -90,6 +97,7 @@ ReadsFiles (replay file moves window) = Unit {0}
 ReadsFiles (list file workers) = Unit {0}
 ReadsFiles (demo n workers) = ⊥
 ReadsFiles (call file numbers workers budget schedule tally) = Unit {0}
+ReadsFiles (verilog file name v) = Unit {0}
 
 -- a file was not read: it is lacked, or a read of it failed, which steady files never do
 pub record NotReadAs (lacks : Type 0) (old new : FilesState) : Type 0 where
@@ -115,3 +123,4 @@ ReadFor one told (Some (replay file moves window)) old new = LoadedBoth one file
 ReadFor one told (Some (list file workers)) old new = LoadedList one (told file) file old new
 ReadFor one told (Some (demo n workers)) old new = new ≡ old
 ReadFor one told (Some (call file numbers workers budget schedule tally)) old new = LoadedBy one file most_program_bytes old new
+ReadFor one told (Some (verilog file name v)) old new = LoadedBy one file most_program_bytes old new

@@ -27,6 +27,7 @@ ghost use Rattle.goi_engine.specs.Verdicts.{LoadedBoth, ReadFor};
 use crate::batching::answer_batch;
 use crate::calling::answer_call;
 use crate::load::{LoadError, load};
+use crate::verilog::answer_verilog;
 use gate_workers::Gate;
 use goi_jobs::{Job, Shown, Task, Window, progress_of};
 use goi_tasks::{
@@ -137,6 +138,11 @@ fn answer_job<R: Threads + Wait + Sync, F: Files, G: Gate>(
             },
             gate,
         ),
+        Job::Verilog {
+            file,
+            name,
+            verilog,
+        } => answer_verilog(alloc, files, file.as_str(), name.as_str(), *verilog),
     }
 }
 

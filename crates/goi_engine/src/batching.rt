@@ -149,11 +149,30 @@ fn load_programs<F: Files>(
     match lines {
         [] => Ok(()),
         [line, rest @ ..] => {
-            let program = load_program(alloc, files, line)?;
-            push_program(programs, program)?;
+            add_program(alloc, files, line, programs)?;
             load_programs(alloc, files, rest, programs)
         }
     }
+}
+
+/// Loads and judges the program of a line, and adds what it came to.
+fn add_program<F: Files>(
+    alloc: Global,
+    files: &mut F,
+    line: &BatchLine,
+    programs: &mut Vec<Judged>,
+) -> Result<(), LoadError>
+    requires { LineFits line.now }
+    ensures kept { FilesKept (F.seen files.old) (F.seen files.new) }
+    ensures judged { OnOk result ((j : Judged) × (programs.new.items ≡ programs.old.items ++ j ∷ []) ×
+        OfFile (F.seen files.old) line.now.file (λ bytes. IsJudged (listed line.now.budget bytes) j)) }
+    ensures quiet { OnOk result ((F.seen files.new).faults ≡ (F.seen files.old).faults) }
+    ensures not_loaded { IfErr result (NotLoaded (IsTrue ((F.seen files.old).lacks line.now.file)) (F.seen files.old) (F.seen files.new)) }
+    ensures reads { LoadedBy F.reads line.now.file most_program_bytes files.old files.new }
+{
+    let program = load_program(alloc, files, line)?;
+    push_program(programs, program)?;
+    Ok(())
 }
 
 /// Adds a program.

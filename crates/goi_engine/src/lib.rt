@@ -14,6 +14,7 @@ mod deliver;
 mod headline;
 mod load;
 mod top;
+mod verilog;
 
 pub use call_headline::law_call_headline;
 pub use deliver::tell_no_memory;

@@ -1,6 +1,6 @@
 use Rattle.std.proofs.Common.{ap, rules}
 use Rattle.goi_jobs.specs.Jobs.{job_of}
-use Rattle.goi_engine.proofs.Answered.{call_of_job}
+use Rattle.goi_engine.proofs.Answered.{call_of_job, verilog_of_job}
 use Rattle.goi_engine.proofs.answer.answer_job.Goals as goal
 
 pub returns-in-Text-clause-answers : goal.returns-in-Text-clause-answers
@@ -12,3 +12,10 @@ returns-in-Call-clause-answers g c =
     call_of_job _ it.file it.numbers.items it.workers it.budget it.schedule it.tally (ap job_of it.is) c.as_str-in-Call.result.now
     c.deref.result.now c.as_str-in-Call.ensures c.deref.ensures.value (g.F.Files.seen c.args.files.now)
     (g.F.Files.seen c.answer_call.new.files) c.answer_call.result c.answer_call.ensures.answers
+
+pub returns-in-Verilog-clause-answers : goal.returns-in-Verilog-clause-answers
+returns-in-Verilog-clause-answers g c =
+    let it = c.in-Verilog in
+    verilog_of_job _ it.file it.name it.verilog (ap job_of it.is) c.as_str-in-Verilog.result.now c.as_str-in-Verilog-2.result.now
+    c.as_str-in-Verilog.ensures c.as_str-in-Verilog-2.ensures (g.F.Files.seen c.args.files.now)
+    (g.F.Files.seen c.answer_verilog.new.files) c.answer_verilog.result c.answer_verilog.ensures.answers
