@@ -8,7 +8,9 @@ use Rattle.goi_jobs.specs.declared.window.Window.{Window}
 use Rattle.goi_jobs.specs.Ranges.{IsBudget, IsForks, IsPart, IsCells, IsWindow}
 use Rattle.goi_tasks.specs.declared.fault.Fault.{Fault}
 use Rattle.goi_jobs.specs.declared.task.Task.{Task}
-use Rattle.goi_jobs.specs.declared.task.Task.TheVariants.{Circuit, Run, RunNet, Span, Steps, Trace}
+use Rattle.goi_jobs.specs.declared.task.Task.TheVariants.{Run, RunNet, Span, Steps, Trace}
+use Rattle.goi_jobs.specs.declared.verilog.Verilog.{Verilog}
+use Rattle.goi_jobs.specs.declared.verilog.Verilog.TheVariants.{Circuit}
 use Rattle.goi_tasks.specs.Outputs.{Output}
 use Rattle.goi_tasks.specs.Refusals.{most_line, IsLine, fault_status}
 use Rattle.program_runs.specs.declared.calling.Calling.{Calling}
@@ -18,6 +20,7 @@ use Rattle.goi_tasks.specs.Replaying.{replay_status, ReportsReplay, EndsReplay, 
 use Rattle.goi_tasks.specs.Told.{TellsText}
 use Rattle.goi_jobs.specs.Tasks.{shown, nothing_shown}
 use Rattle.goi_tasks.specs.Tasks.{ReportsText, FaultyFor, EndsText}
+use Rattle.goi_tasks.specs.Verilogs.{ReportsVerilog, FaultyVerilog, EndsVerilog}
 use Rattle.goi_c.specs.declared.telling.Answer.{Answer}
 use Rattle.goi_c.specs.Backs.{Back, Comes, Gives, Nothing}
 
@@ -112,12 +115,17 @@ steps_task budget window = Steps budget window
 abbrev pub CallsSteps : List ℕ → ℕ → Window → Back → Type 0
 CallsSteps bytes budget window b = WhereAsked (IsAskedSteps budget window) b (CallsTask (steps_task budget window) bytes b)
 
--- the call of the circuit of a text's program, with so many cells and forks
+-- the call of the circuit of a text's function, alone, with so many cells and forks; its module is named `goi`
 abbrev pub IsAskedCircuit : ℕ → ℕ → Type 0
 IsAskedCircuit cells forks = IsCells cells × IsForks forks
 
+abbrev pub circuit_alone : ℕ → ℕ → Verilog
+circuit_alone cells forks = Circuit cells forks false
+
 abbrev pub CallsCircuit : List ℕ → ℕ → ℕ → Back → Type 0
-CallsCircuit bytes cells forks b = WhereAsked (IsAskedCircuit cells forks) b (CallsTask (Circuit cells forks) bytes b)
+CallsCircuit bytes cells forks b =
+    WhereAsked (IsAskedCircuit cells forks) b
+    (Calls (ReportsVerilog (codes "goi") (circuit_alone cells forks) bytes) (FaultyVerilog (circuit_alone cells forks) bytes) b)
 
 -- ---- which status
 
@@ -126,9 +134,12 @@ pub record Owns (ends : ℕ → Type 0) (faulty : Fault → Type 0) (b : Back) :
   pub done : (own : ℕ) → ends own → Comes own b
   pub refused : (f : Fault) → faulty f → Comes (fault_status f) b
 
--- so it is with a task on a text, and with a schedule on the net of a text's program
+-- so it is with a task on a text, with its circuit, and with a schedule on the net of a text's program
 abbrev pub OwnsTask : Task → List ℕ → Back → Type 0
 OwnsTask task bytes b = Owns (EndsText task bytes) (FaultyFor task bytes) b
+
+abbrev pub OwnsCircuit : List ℕ → ℕ → ℕ → Back → Type 0
+OwnsCircuit bytes cells forks b = Owns (EndsVerilog (circuit_alone cells forks) bytes) (FaultyVerilog (circuit_alone cells forks) bytes) b
 
 abbrev pub OwnsReplay : List ℕ → List ℕ → Back → Type 0
 OwnsReplay bytes schedule b =

@@ -1,19 +1,22 @@
 //! Checks, listings, circuits and replays.
 
-ghost use Rattle.std.specs.Prelude.{Some, IfOk, IfErr};
+ghost use Rattle.std.specs.Prelude.{Some, IfOk, IfErr, false};
 ghost use Rattle.program_runs.specs.Programs.{OfGround};
 ghost use Rattle.goi_jobs.specs.Ranges.{IsWindow};
-ghost use Rattle.goi_jobs.specs.declared.task.Task.TheVariants.{Check, Circuit, ShowNet};
+ghost use Rattle.goi_jobs.specs.declared.task.Task.TheVariants.{Check, ShowNet};
 ghost use Rattle.goi_tasks.specs.Seen.{output_of};
 ghost use Rattle.goi_tasks.specs.Programs.{FaultyEither};
 ghost use Rattle.goi_tasks.specs.Replaying.{FaultySchedule, ReportsReplay};
 ghost use Rattle.goi_tasks.specs.Stops.{StopsFor};
 ghost use Rattle.goi_c.specs.Backs.{back};
-ghost use Rattle.goi_c.specs.Calls.{CallsCircuit, CallsReplay, CallsReplayTrace, CallsTask, IsAskedCircuit, OwnsReplay, OwnsTask, part};
+ghost use Rattle.goi_c.specs.Calls.{CallsCircuit, CallsReplay, CallsReplayTrace, CallsTask, IsAskedCircuit};
+ghost use Rattle.goi_c.specs.Calls.{OwnsCircuit, OwnsReplay, OwnsTask, part};
 
 use crate::giving::{BAD_CALL, give_nothing, give_result};
-use goi_jobs::{MOST_CELLS, MOST_FORKS, TRACED_MOVES, Task, Window};
-use goi_tasks::{Report, Stop, law_settled, replay_text, report_replay, report_text};
+use goi_jobs::{MOST_CELLS, MOST_FORKS, TRACED_MOVES, Task, Verilog, Window};
+use goi_tasks::{
+    Report, Stop, law_settled, replay_text, report_replay, report_text, report_verilog,
+};
 use pcf_values::limits::SCHEDULE_MOVES;
 use program_runs::{Alone, Calling, net_for};
 use std::alloc::Global;
@@ -46,7 +49,7 @@ pub extern "C" fn goi_net(alloc: Global, text: &[u8], out: &mut [u8], needed: &m
     give_result(alloc, listed, out, needed)
 }
 
-/// Prints the circuit of a text's program or function, with so many cells and forks.
+/// Prints the circuit of a text's program or function, as a module of the name `goi` with so many cells and forks.
 #[unsafe(no_mangle)]
 pub extern "C" fn goi_circuit(
     alloc: Global,
@@ -57,13 +60,22 @@ pub extern "C" fn goi_circuit(
     needed: &mut usize,
 ) -> u32
     ensures calls { CallsCircuit text.now cells forks (back result needed.new out.old out.new) }
-    ensures own { IsAskedCircuit cells forks → OwnsTask (Circuit cells forks) text.now (back result needed.new out.old out.new) }
+    ensures own { IsAskedCircuit cells forks → OwnsCircuit text.now cells forks (back result needed.new out.old out.new) }
 {
     law_settled();
     if cells < 1 || MOST_CELLS < cells || forks < 1 || MOST_FORKS < forks {
         return give_nothing(needed, BAD_CALL);
     }
-    let printed = report_text(alloc, text, Task::Circuit { cells, forks }, &Alone);
+    let printed = report_verilog(
+        alloc,
+        text,
+        b"goi",
+        Verilog::Circuit {
+            cells,
+            forks,
+            handshake: false,
+        },
+    );
     give_result(alloc, printed, out, needed)
 }
 

@@ -1,12 +1,12 @@
-use Rattle.std.proofs.Common.{arith}
-use Rattle.goi_jobs.specs.declared.task.Task.TheVariants.{Circuit}
+use Rattle.std.proofs.Common.{arith, codes}
+use Rattle.goi_c.specs.Calls.{circuit_alone}
 use Rattle.goi_c.proofs.Called.{called}
 use Rattle.goi_c.proofs.Owned.{owned}
 use Rattle.goi_c.proofs.checking.goi_circuit.Goals as goal
 
 pub returns-clause-calls : goal.returns-clause-calls
 returns-clause-calls c =
-    let h = c.report_text-printed in
+    let h = c.report_verilog-printed in
     record {
       right = λ asked. called _ _ h.result _ h.ensures.report h.ensures.fault c.give_result.ensures;
       wrong = λ n.
@@ -18,6 +18,6 @@ returns-clause-calls c =
 
 pub returns-clause-own : goal.returns-clause-own
 returns-clause-own c = λ asked.
-    let h = c.report_text-printed in
-    owned _ _ _ (c.law_settled.ensures.tasks 1 (Circuit c.args.cells c.args.forks) c.args.text.now) _
+    let h = c.report_verilog-printed in
+    owned _ _ _ (c.law_settled.ensures.verilogs (codes "goi") (circuit_alone c.args.cells c.args.forks) c.args.text.now) _
     (called _ _ h.result _ h.ensures.report h.ensures.fault c.give_result.ensures)
