@@ -31,21 +31,18 @@ four t u v w x a b c d e f g h =
     h ∙ ap (λ z. z ++ d) (g ∙ ap (λ z. z ++ c) (f ∙ ap (λ z. z ++ b) e))
     ∙ append_assoc ((t ++ a) ++ b) c d ∙ append_assoc (t ++ a) b (c ++ d) ∙ append_assoc t a (b ++ (c ++ d))
 
--- three parts, appended to nothing
-pub three : (t u v w h m l : List Item) → t ≡ [] → u ≡ t ++ h → v ≡ u ++ m → w ≡ v ++ l → w ≡ h ++ (m ++ l)
-three t u v w h m l c d e f = f ∙ ap (λ z. z ++ l) (e ∙ ap (λ z. z ++ m) (d ∙ ap (λ z. z ++ h) c)) ∙ append_assoc h m l
+-- three parts, appended one by one
+three : (t u v w h m l : List Item) → u ≡ t ++ h → v ≡ u ++ m → w ≡ v ++ l → w ≡ t ++ (h ++ (m ++ l))
+three t u v w h m l d e f =
+    f ∙ ap (λ z. z ++ l) (e ∙ ap (λ z. z ++ m) d) ∙ append_assoc (t ++ h) m l ∙ append_assoc t h (m ++ l)
 
 -- of a net, where its wires, its start, its sizes, its rows and its product are known
-pub circuit_is : (net : NetTree) (cells forks wires start : ℕ) (z : Sizes) (rows : Arms) (product : Expr)
-    (none head middle all : List Item) → wires ≡ length net.wires → start ≡ number (channel_of (start_of net)) →
-    z ≡ sizes_of net cells forks →
-    rows ≡ row_arms net 0 (length net.wires) → product ≡ cell_product (multiplies net.nodes) → none ≡ [] →
-    head ≡ none ++ head_items wires start z → middle ≡ head ++ middle_items rows → all ≡ middle ++ last_items product →
-    all ≡ circuit_of net cells forks
-circuit_is net cells forks wires start z rows product none head middle all so_wide so_begun so_sized so_rowed so_multiplied empty first
-    second last =
-    three none head middle all (head_items wires start z) (middle_items rows) (last_items product) empty first second last
-    ∙ whole cell_ports cell_port_notes (cell_sizes wires start z) cell_constants cell_registers way_wires next_row_notes list_wires
+circuit_parts : (net : NetTree) (cells forks wires start : ℕ) (z : Sizes) (rows : Arms) (product : Expr) →
+    wires ≡ length net.wires → start ≡ number (channel_of (start_of net)) → z ≡ sizes_of net cells forks →
+    rows ≡ row_arms net 0 (length net.wires) → product ≡ cell_product (multiplies net.nodes) →
+    head_items wires start z ++ (middle_items rows ++ last_items product) ≡ circuit_of net cells forks
+circuit_parts net cells forks wires start z rows product so_wide so_begun so_sized so_rowed so_multiplied =
+    whole cell_ports cell_port_notes (cell_sizes wires start z) cell_constants cell_registers way_wires next_row_notes list_wires
     (last_items product) (next_row_block rows)
     ∙ ap (λ n. cell_module_with n start z rows product) so_wide
     ∙ ap (λ n. cell_module_with (length net.wires) n z rows product) so_begun
@@ -53,3 +50,15 @@ circuit_is net cells forks wires start z rows product none head middle all so_wi
     ∙ ap (λ r. cell_module_with (length net.wires) (number (channel_of (start_of net))) (sizes_of net cells forks) r product) so_rowed
     ∙ ap (λ p. cell_module_with (length net.wires) (number (channel_of (start_of net))) (sizes_of net cells forks)
     (row_arms net 0 (length net.wires)) p) so_multiplied
+
+-- and these are appended
+pub circuit_is : (net : NetTree) (cells forks wires start : ℕ) (z : Sizes) (rows : Arms) (product : Expr)
+    (none head middle all : List Item) → wires ≡ length net.wires → start ≡ number (channel_of (start_of net)) →
+    z ≡ sizes_of net cells forks →
+    rows ≡ row_arms net 0 (length net.wires) → product ≡ cell_product (multiplies net.nodes) →
+    head ≡ none ++ head_items wires start z → middle ≡ head ++ middle_items rows → all ≡ middle ++ last_items product →
+    all ≡ none ++ circuit_of net cells forks
+circuit_is net cells forks wires start z rows product none head middle all so_wide so_begun so_sized so_rowed so_multiplied first
+    second last =
+    three none head middle all (head_items wires start z) (middle_items rows) (last_items product) first second last
+    ∙ ap (λ y. none ++ y) (circuit_parts net cells forks wires start z rows product so_wide so_begun so_sized so_rowed so_multiplied)

@@ -1,6 +1,9 @@
-//! Parts of trees that are put into an arena, and fixed items.
+//! Parts of trees that are put into an arena, and items that are appended.
+//!
+//! A tree by value is looked at in all its forms wherever a function could leave. So trees are lent here, and one is taken by value only
+//! where its type isn't known.
 
-ghost use Rattle.std.specs.Prelude.{◌≡◌, ◌++◌, IfOk, OnOk, map};
+ghost use Rattle.std.specs.Prelude.{◌≡◌, ◌++◌, [], ◌∷◌, IfOk, OnOk, map};
 ghost use Rattle.verilog_tree.specs.Tree.{branch, seq};
 ghost use Rattle.verilog_tree.specs.Views.{arms_of, expr_of, item_of, stmt_of};
 
@@ -8,17 +11,31 @@ use bumpalo::Bump;
 use std::alloc::AllocError;
 use verilog_tree::{Cases, Expression, Item, Statement};
 
-/// A statement, put into the arena.
-pub(crate) fn put_statement<'a>(
-    bump: &'a Bump,
-    s: Statement<'a>,
-) -> Result<&'a Statement<'a>, AllocError>
-    ensures { IfOk result (λ r. stmt_of r.now ≡ stmt_of s.entry) }
+/// Fixed items. A reference to these is one name in a proof, where a reference to a list of items is spelled with all that an item holds.
+pub(crate) struct Fixed<'a> {
+    /// The items.
+    pub(crate) list: &'a [Item<'a>],
+}
+
+/// A value, put into the arena.
+fn put<'a, T: Copy + Drop>(bump: &'a Bump, value: &T) -> Result<&'a T, AllocError>
+    ensures { IfOk result (λ r. r.now ≡ value.now) }
 {
-    match bump.try_alloc(s) {
+    match bump.try_alloc(*value) {
         Ok(r) => Ok(r),
         Err(_) => Err(AllocError),
     }
+}
+
+/// A statement, put into the arena.
+pub(crate) fn put_statement<'a>(
+    bump: &'a Bump,
+    s: &Statement<'a>,
+) -> Result<&'a Statement<'a>, AllocError>
+    ensures { IfOk result (λ r. stmt_of r.now ≡ stmt_of s.now) }
+{
+    let kept = put(bump, s)?;
+    Ok(kept)
 }
 
 /// One statement after the other.
@@ -29,46 +46,57 @@ pub(crate) fn put_seq<'a>(
 ) -> Result<&'a Statement<'a>, AllocError>
     ensures { IfOk result (λ r. stmt_of r.now ≡ seq (stmt_of s.now) (stmt_of t.now)) }
 {
-    put_statement(bump, Statement::Seq(s, t))
+    put_statement(bump, &Statement::Seq(s, t))
 }
 
 /// One statement or the other.
 pub(crate) fn put_branch<'a>(
     bump: &'a Bump,
-    e: Expression<'a>,
+    e: &Expression<'a>,
     s: &'a Statement<'a>,
     t: &'a Statement<'a>,
 ) -> Result<&'a Statement<'a>, AllocError>
-    ensures { IfOk result (λ r. stmt_of r.now ≡ branch (expr_of e.entry) (stmt_of s.now) (stmt_of t.now)) }
+    ensures { IfOk result (λ r. stmt_of r.now ≡ branch (expr_of e.now) (stmt_of s.now) (stmt_of t.now)) }
 {
-    put_statement(bump, Statement::Branch(e, s, t))
+    put_statement(bump, &Statement::Branch(*e, s, t))
 }
 
 /// The arms of a case, put into the arena.
-pub(crate) fn put_arms<'a>(bump: &'a Bump, arms: Cases<'a>) -> Result<&'a Cases<'a>, AllocError>
-    ensures { IfOk result (λ r. arms_of r.now ≡ arms_of arms.entry) }
+pub(crate) fn put_arms<'a>(bump: &'a Bump, arms: &Cases<'a>) -> Result<&'a Cases<'a>, AllocError>
+    ensures { IfOk result (λ r. arms_of r.now ≡ arms_of arms.now) }
 {
-    match bump.try_alloc(arms) {
-        Ok(r) => Ok(r),
-        Err(_) => Err(AllocError),
-    }
+    let kept = put(bump, arms)?;
+    Ok(kept)
 }
 
-/// Items, put into the arena.
-pub(crate) fn put_items<'a>(
-    bump: &'a Bump,
-    items: &[Item<'a>],
-) -> Result<&'a [Item<'a>], AllocError>
-    ensures { IfOk result (λ r. r.now ≡ items.now) }
+/// The values of a list, put into the arena.
+pub(crate) fn put_all<'a, T: Copy>(bump: &'a Bump, values: &Vec<T>) -> Result<&'a [T], AllocError>
+    ensures { IfOk result (λ r. r.now ≡ values.now.items) }
 {
-    let kept = bump.try_alloc_slice_copy(items)?;
+    let kept = bump.try_alloc_slice_copy(values.as_slice())?;
     Ok(kept)
 }
 
 /// Appends fixed items.
-pub(crate) fn add_fixed<'a>(items: &mut Vec<Item<'a>>, fixed: &[Item<'a>]) -> Result<(), AllocError>
-    ensures { OnOk result (map item_of items.new.items ≡ map item_of items.old.items ++ map item_of fixed.now) }
+pub(crate) fn add_fixed<'a>(items: &mut Vec<Item<'a>>, fixed: &Fixed<'a>) -> Result<(), AllocError>
+    ensures { OnOk result (map item_of items.new.items ≡ map item_of items.old.items ++ map item_of fixed.now.list.now) }
 {
-    items.extend_from_slice(fixed)?;
+    items.extend_from_slice(fixed.list)?;
+    Ok(())
+}
+
+/// Appends a value.
+fn add<T: Copy + Drop>(values: &mut Vec<T>, value: &T) -> Result<(), AllocError>
+    ensures { OnOk result (values.new.items ≡ values.old.items ++ (value.now ∷ [])) }
+{
+    values.push(*value)?;
+    Ok(())
+}
+
+/// Appends an item.
+pub(crate) fn add_item<'a>(items: &mut Vec<Item<'a>>, item: &Item<'a>) -> Result<(), AllocError>
+    ensures { OnOk result (map item_of items.new.items ≡ map item_of items.old.items ++ (item_of item.now ∷ [])) }
+{
+    add(items, item)?;
     Ok(())
 }

@@ -6,7 +6,7 @@ ghost use Rattle.circuit_tree.specs.Parts.{row_fetched};
 ghost use Rattle.verilog_tree.specs.Tree.{clocked};
 ghost use Rattle.verilog_tree.specs.Views.{item_of, stmt_of};
 
-use crate::arena::{add_fixed, put_branch, put_seq};
+use crate::arena::{Fixed, add_fixed, add_item, put_branch, put_seq};
 use crate::moves::{
     cells_move, counted, end_move, forks_move, lists_move, note_answer, value_move,
 };
@@ -15,11 +15,13 @@ use std::alloc::AllocError;
 use verilog_tree::{Connective, Expression, Item, Place, Statement};
 
 /// The head of the last part.
-static CLOCK_NOTES: [Item<'static>; 3] = [
-    Item::Gap,
-    Item::Note(b"---- one move in each cycle"),
-    Item::Gap,
-];
+static CLOCK_NOTES: Fixed<'static> = Fixed {
+    list: &[
+        Item::Gap,
+        Item::Note(b"---- one move in each cycle"),
+        Item::Gap,
+    ],
+};
 
 /// Appends the head of the last part.
 pub(crate) fn add_clock_notes<'a>(items: &mut Vec<Item<'a>>) -> Result<(), AllocError>
@@ -27,6 +29,9 @@ pub(crate) fn add_clock_notes<'a>(items: &mut Vec<Item<'a>>) -> Result<(), Alloc
 {
     add_fixed(items, &CLOCK_NOTES)
 }
+
+/// The reset is high.
+const RESETS: Expression<'static> = Expression::Name(b"rst");
 
 /// The run hasn't ended.
 const RUNS: Expression<'static> = Expression::Logic(
@@ -49,7 +54,7 @@ const FETCH_ROW: Statement<'static> = Statement::Seq(
 
 /// It is so at the start, and while the run hasn't ended.
 static ROW_FETCHED: Statement<'static> = Statement::Branch(
-    Expression::Logic(Connective::OneOf, &Expression::Name(b"rst"), &RUNS),
+    Expression::Logic(Connective::OneOf, &RESETS, &RUNS),
     &FETCH_ROW,
     &Statement::Skip,
 );
@@ -115,8 +120,8 @@ fn cell_clock<'a>(bump: &'a Bump) -> Result<&'a Statement<'a>, AllocError>
     ensures { IfOk result (λ r. stmt_of r.now ≡ cell_clock) }
 {
     let moves = cell_move(bump)?;
-    let goes_on = put_branch(bump, RUNS, moves, &NO_MOVE)?;
-    let begins = put_branch(bump, Expression::Name(b"rst"), cell_reset(), goes_on)?;
+    let goes_on = put_branch(bump, &RUNS, moves, &NO_MOVE)?;
+    let begins = put_branch(bump, &RESETS, cell_reset(), goes_on)?;
     put_seq(bump, row_fetched(), begins)
 }
 
@@ -128,6 +133,5 @@ pub(crate) fn add_clock_block<'a>(
     ensures { OnOk result (map item_of items.new.items ≡ map item_of items.old.items ++ (clocked cell_clock ∷ [])) }
 {
     let block = cell_clock(bump)?;
-    items.push(Item::Clocked(*block))?;
-    Ok(())
+    add_item(items, &Item::Clocked(*block))
 }

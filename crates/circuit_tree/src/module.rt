@@ -7,7 +7,7 @@ ghost use Rattle.circuit_sizes.specs.Views.{sizes_view};
 ghost use Rattle.circuit_tree.specs.Parts.{head_items, middle_items, last_items};
 ghost use Rattle.verilog_tree.specs.Views.{arms_of, item_of};
 
-use crate::arena::put_items;
+use crate::arena::put_all;
 use crate::clock::{add_clock_block, add_clock_notes};
 use crate::constants::add_constants;
 use crate::forks::add_fork_wires;
@@ -69,26 +69,39 @@ fn add_last<'a>(
     add_clock_block(bump, items)
 }
 
-/// The items of a net's circuit, as a list.
-fn listed_items<'a>(
-    alloc: Global,
+/// Appends the items of a net's circuit.
+fn add_circuit<'a>(
     bump: &'a Bump,
+    items: &mut Vec<Item<'a>>,
     net: &Net,
     cells: u32,
     forks: u32,
-) -> Result<Vec<Item<'a>>, AllocError>
-    ensures { IfOk result (λ v. map item_of v.items ≡ circuit_of net.now cells forks) }
+) -> Result<(), AllocError>
+    ensures { OnOk result (map item_of items.new.items ≡ map item_of items.old.items ++ circuit_of net.now cells forks) }
 {
     let rows = row_arms(bump, net)?;
     let wires = net.wire_count();
     let first = number_of(start(net));
     let sizes = circuit_sizes(net, cells, forks);
     let product = multiplies(net.nodes());
-    let mut items = Vec::new(alloc);
-    add_head(&mut items, wires, first, sizes)?;
-    add_middle(bump, &mut items, rows)?;
-    add_last(bump, &mut items, product)?;
-    Ok(items)
+    add_head(items, wires, first, sizes)?;
+    add_middle(bump, items, rows)?;
+    add_last(bump, items, product)?;
+    Ok(())
+}
+
+/// What is in a list and behind it the items of a net's circuit, put into the arena.
+fn kept_items<'a>(
+    bump: &'a Bump,
+    items: &mut Vec<Item<'a>>,
+    net: &Net,
+    cells: u32,
+    forks: u32,
+) -> Result<&'a [Item<'a>], AllocError>
+    ensures { IfOk result (λ v. map item_of v.now ≡ map item_of items.old.items ++ circuit_of net.now cells forks) }
+{
+    add_circuit(bump, items, net, cells, forks)?;
+    put_all(bump, items)
 }
 
 /// The items of the module of a net's circuit, with so many cells and forks. They and their parts are in `bump`.
@@ -105,7 +118,8 @@ pub fn circuit_items<'a>(
 ) -> Result<&'a [Item<'a>], AllocError>
     ensures { IfOk result (λ v. map item_of v.now ≡ circuit_of net.now cells forks) }
 {
-    let items = listed_items(alloc, bump, net, cells, forks)?;
-    let kept = put_items(bump, &items)?;
-    Ok(kept)
+    let mut items = Vec::new(alloc);
+    let kept = kept_items(bump, &mut items, net, cells, forks);
+    drop(items);
+    kept
 }

@@ -6,7 +6,7 @@ ghost use Rattle.cell_module.specs.Module.{cell_product};
 ghost use Rattle.circuit_tree.specs.Parts.{before_product, product_wire, behind_product};
 ghost use Rattle.verilog_tree.specs.Views.{item_of};
 
-use crate::arena::add_fixed;
+use crate::arena::{Fixed, add_fixed};
 use crate::deeds::{MULTIPLIES, SUBTRACTS};
 use std::alloc::AllocError;
 use verilog_tree::{Comparison, Connective, Expression, Extent, Item, Operation, Range};
@@ -30,34 +30,36 @@ const KEPT_LONGER: Expression<'static> = Expression::Cat(
 );
 
 /// The sum and the difference of the kept answer and the token's.
-static BEFORE_PRODUCT: [Item<'static>; 6] = [
-    Item::Gap,
-    Item::Note(b"---- numbers"),
-    Item::Gap,
-    Item::Note(b"What the left answer and the token's come to, and the token's with one more."),
-    Item::Wire(
-        Range::UpTo(Extent::Count(64)),
-        b"sum",
-        Expression::Two(Operation::Plus, &RESULT_LONGER, &KEPT_LONGER),
-    ),
-    Item::Wire(
-        Range::UpTo(Extent::Count(64)),
-        b"difference",
-        Expression::Pick(
-            &Expression::Test(
-                Comparison::Below,
-                &Expression::Name(b"kept"),
-                &Expression::Name(b"result"),
-            ),
-            &Expression::Sized(65, 0),
-            &Expression::Two(
-                Operation::Minus,
-                &Expression::Name(b"kept"),
-                &Expression::Name(b"result"),
+static BEFORE_PRODUCT: Fixed<'static> = Fixed {
+    list: &[
+        Item::Gap,
+        Item::Note(b"---- numbers"),
+        Item::Gap,
+        Item::Note(b"What the left answer and the token's come to, and the token's with one more."),
+        Item::Wire(
+            Range::UpTo(Extent::Count(64)),
+            b"sum",
+            Expression::Two(Operation::Plus, &RESULT_LONGER, &KEPT_LONGER),
+        ),
+        Item::Wire(
+            Range::UpTo(Extent::Count(64)),
+            b"difference",
+            Expression::Pick(
+                &Expression::Test(
+                    Comparison::Below,
+                    &Expression::Name(b"kept"),
+                    &Expression::Name(b"result"),
+                ),
+                &Expression::Sized(65, 0),
+                &Expression::Two(
+                    Operation::Minus,
+                    &Expression::Name(b"kept"),
+                    &Expression::Name(b"result"),
+                ),
             ),
         ),
-    ),
-];
+    ],
+};
 
 /// Appends what the numbers come to, up to the product.
 fn add_before_product<'a>(items: &mut Vec<Item<'a>>) -> Result<(), AllocError>
@@ -79,18 +81,22 @@ const KEPT_DOUBLED: Expression<'static> = Expression::Cat(
 );
 
 /// The product of both numbers.
-static PRODUCT: [Item<'static>; 1] = [Item::Wire(
-    Range::UpTo(Extent::Count(127)),
-    b"product",
-    Expression::Two(Operation::Times, &RESULT_DOUBLED, &KEPT_DOUBLED),
-)];
+static PRODUCT: Fixed<'static> = Fixed {
+    list: &[Item::Wire(
+        Range::UpTo(Extent::Count(127)),
+        b"product",
+        Expression::Two(Operation::Times, &RESULT_DOUBLED, &KEPT_DOUBLED),
+    )],
+};
 
 /// Where no node multiplies.
-static NO_PRODUCT: [Item<'static>; 1] = [Item::Wire(
-    Range::UpTo(Extent::Count(127)),
-    b"product",
-    Expression::Sized(128, 0),
-)];
+static NO_PRODUCT: Fixed<'static> = Fixed {
+    list: &[Item::Wire(
+        Range::UpTo(Extent::Count(127)),
+        b"product",
+        Expression::Sized(128, 0),
+    )],
+};
 
 /// Appends the wire of the product, by a multiplier where one is needed.
 fn add_product<'a>(items: &mut Vec<Item<'a>>, multiplies: bool) -> Result<(), AllocError>
@@ -104,65 +110,67 @@ fn add_product<'a>(items: &mut Vec<Item<'a>>, multiplies: bool) -> Result<(), Al
 }
 
 /// What both come to, and the token's number with one more.
-static BEHIND_PRODUCT: [Item<'static>; 2] = [
-    Item::Wire(
-        Range::UpTo(Extent::Count(64)),
-        b"both",
-        Expression::Pick(
-            &Expression::Logic(
-                Connective::OneOf,
-                &IS_OVERFLOW,
-                &Expression::Bit(b"kept", &Expression::Number(64)),
-            ),
-            &Expression::Constant(b"OVERFLOW"),
-            &Expression::Pick(
-                &MULTIPLIES,
-                &Expression::Pick(
-                    &Expression::Any(&Expression::Part(
-                        b"product",
-                        Extent::Count(127),
-                        Extent::Count(64),
-                    )),
-                    &Expression::Constant(b"OVERFLOW"),
-                    &Expression::Cat(
-                        &Expression::Sized(1, 0),
-                        &Expression::Part(b"product", Extent::Count(63), Extent::Count(0)),
-                    ),
+static BEHIND_PRODUCT: Fixed<'static> = Fixed {
+    list: &[
+        Item::Wire(
+            Range::UpTo(Extent::Count(64)),
+            b"both",
+            Expression::Pick(
+                &Expression::Logic(
+                    Connective::OneOf,
+                    &IS_OVERFLOW,
+                    &Expression::Bit(b"kept", &Expression::Number(64)),
                 ),
+                &Expression::Constant(b"OVERFLOW"),
                 &Expression::Pick(
-                    &SUBTRACTS,
-                    &Expression::Name(b"difference"),
+                    &MULTIPLIES,
                     &Expression::Pick(
-                        &Expression::Bit(b"sum", &Expression::Number(64)),
+                        &Expression::Any(&Expression::Part(
+                            b"product",
+                            Extent::Count(127),
+                            Extent::Count(64),
+                        )),
                         &Expression::Constant(b"OVERFLOW"),
-                        &Expression::Name(b"sum"),
+                        &Expression::Cat(
+                            &Expression::Sized(1, 0),
+                            &Expression::Part(b"product", Extent::Count(63), Extent::Count(0)),
+                        ),
+                    ),
+                    &Expression::Pick(
+                        &SUBTRACTS,
+                        &Expression::Name(b"difference"),
+                        &Expression::Pick(
+                            &Expression::Bit(b"sum", &Expression::Number(64)),
+                            &Expression::Constant(b"OVERFLOW"),
+                            &Expression::Name(b"sum"),
+                        ),
                     ),
                 ),
             ),
         ),
-    ),
-    Item::Wire(
-        Range::UpTo(Extent::Count(64)),
-        b"succ",
-        Expression::Pick(
-            &Expression::Logic(
-                Connective::OneOf,
-                &IS_OVERFLOW,
-                &Expression::Every(&Expression::Part(
-                    b"result",
-                    Extent::Count(63),
-                    Extent::Count(0),
-                )),
-            ),
-            &Expression::Constant(b"OVERFLOW"),
-            &Expression::Two(
-                Operation::Plus,
-                &Expression::Name(b"result"),
-                &Expression::Sized(65, 1),
+        Item::Wire(
+            Range::UpTo(Extent::Count(64)),
+            b"succ",
+            Expression::Pick(
+                &Expression::Logic(
+                    Connective::OneOf,
+                    &IS_OVERFLOW,
+                    &Expression::Every(&Expression::Part(
+                        b"result",
+                        Extent::Count(63),
+                        Extent::Count(0),
+                    )),
+                ),
+                &Expression::Constant(b"OVERFLOW"),
+                &Expression::Two(
+                    Operation::Plus,
+                    &Expression::Name(b"result"),
+                    &Expression::Sized(65, 1),
+                ),
             ),
         ),
-    ),
-];
+    ],
+};
 
 /// Appends what follows from it.
 fn add_behind_product<'a>(items: &mut Vec<Item<'a>>) -> Result<(), AllocError>

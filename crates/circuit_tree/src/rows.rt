@@ -8,10 +8,10 @@ ghost use Rattle.circuit_module.specs.Module.{join_name, to_one, to_two, row_stm
 ghost use Rattle.circuit_rows.specs.Views.{channel_of, row_view, found_of};
 ghost use Rattle.verilog_tree.specs.Names.{text_of};
 ghost use Rattle.circuit_tree.specs.Parts.{operation_stmt, constant_stmt, way_text, wire_arms, no_rows, row_block};
-ghost use Rattle.verilog_tree.specs.Tree.{num};
+ghost use Rattle.verilog_tree.specs.Tree.{cases, name, num, sized};
 ghost use Rattle.verilog_tree.specs.Views.{arms_of, expr_of, item_of, said_of, stmt_of};
 
-use crate::arena::{put_arms, put_seq, put_statement};
+use crate::arena::{add_item, put_arms, put_seq, put_statement};
 use bumpalo::Bump;
 use circuit_rows::{Channel, Found, Row, row_of};
 use net_build::Net;
@@ -23,11 +23,11 @@ use verilog_tree::{Cases, Expression, Item, Place, Remark, Statement};
 fn put_set<'a>(
     bump: &'a Bump,
     name: &'a [u8],
-    e: Expression<'a>,
+    e: &Expression<'a>,
 ) -> Result<&'a Statement<'a>, AllocError>
-    ensures { IfOk result (λ r. stmt_of r.now ≡ set (text_of name.now) (expr_of e.entry)) }
+    ensures { IfOk result (λ r. stmt_of r.now ≡ set (text_of name.now) (expr_of e.now)) }
 {
-    put_statement(bump, Statement::Put(Place::Whole(name), e))
+    put_statement(bump, &Statement::Put(Place::Whole(name), *e))
 }
 
 /// The number of a channel.
@@ -45,14 +45,14 @@ pub(crate) fn number_of(channel: Channel) -> u64
 fn operation<'a>(bump: &'a Bump, op: &'a [u8]) -> Result<&'a Statement<'a>, AllocError>
     ensures { IfOk result (λ r. stmt_of r.now ≡ operation_stmt (text_of op.now)) }
 {
-    put_set(bump, b"op", Expression::Constant(op))
+    put_set(bump, b"op", &Expression::Constant(op))
 }
 
 /// Where a row sends to.
 fn sent<'a>(bump: &'a Bump, name: &'a [u8], to: Channel) -> Result<&'a Statement<'a>, AllocError>
     ensures { IfOk result (λ r. stmt_of r.now ≡ set (text_of name.now) (num (number (channel_of to)))) }
 {
-    put_set(bump, name, Expression::Number(number_of(to)))
+    put_set(bump, name, &Expression::Number(number_of(to)))
 }
 
 /// The operation, and where it sends to.
@@ -80,13 +80,20 @@ fn to_two<'a>(
     put_seq(bump, first, rest)
 }
 
+/// The number of a constant.
+fn literal<'a>(bump: &'a Bump, n: u64) -> Result<&'a Statement<'a>, AllocError>
+    ensures { IfOk result (λ r. stmt_of r.now ≡ set "number" (sized 64 n)) }
+{
+    put_set(bump, b"number", &Expression::Sized(64, n))
+}
+
 /// What the row of a constant sets.
 fn constant<'a>(bump: &'a Bump, n: u64, to: Channel) -> Result<&'a Statement<'a>, AllocError>
     ensures { IfOk result (λ r. stmt_of r.now ≡ constant_stmt n (channel_of to)) }
 {
     let first = operation(bump, b"CONST")?;
     let second = sent(bump, b"to", to)?;
-    let third = put_set(bump, b"number", Expression::Sized(64, n))?;
+    let third = literal(bump, n)?;
     let rest = put_seq(bump, second, third)?;
     put_seq(bump, first, rest)
 }
@@ -107,10 +114,10 @@ fn join<'a>(
 }
 
 /// What a row sets.
-fn row_statement<'a>(bump: &'a Bump, row: Row) -> Result<&'a Statement<'a>, AllocError>
-    ensures { IfOk result (λ r. stmt_of r.now ≡ row_stmt (row_view row)) }
+fn row_statement<'a>(bump: &'a Bump, row: &Row) -> Result<&'a Statement<'a>, AllocError>
+    ensures { IfOk result (λ r. stmt_of r.now ≡ row_stmt (row_view row.now)) }
 {
-    match row {
+    match *row {
         Row::Go { to } => to_one(bump, b"GO", to),
         Row::Const { value, to } => constant(bump, value, to),
         Row::Succ { to } => to_one(bump, b"SUCC", to),
@@ -175,15 +182,15 @@ fn label<'a>(bump: &'a Bump, channel: Channel) -> Result<&'a [Expression<'a>], A
 fn found_arm<'a>(
     bump: &'a Bump,
     channel: Channel,
-    found: Found,
+    found: &Found,
     rest: &'a Cases<'a>,
 ) -> Result<&'a Cases<'a>, AllocError>
-    ensures { IfOk result (λ r. arms_of r.now ≡ row_arm (channel_of channel) (Some (found_of found)) (arms_of rest.now)) }
+    ensures { IfOk result (λ r. arms_of r.now ≡ row_arm (channel_of channel) (Some (found_of found.now)) (arms_of rest.now)) }
 {
     let labels = label(bump, channel)?;
-    let statement = row_statement(bump, found.row)?;
+    let statement = row_statement(bump, &found.row)?;
     let remarks = place_said(bump, channel, found.node)?;
-    put_arms(bump, Cases::Arm(labels, statement, remarks, rest))
+    put_arms(bump, &Cases::Arm(labels, statement, remarks, rest))
 }
 
 /// The case of a channel, where it has a row, in front of the others.
@@ -196,7 +203,7 @@ fn row_arm<'a>(
     ensures { IfOk result (λ r. arms_of r.now ≡ row_arm (channel_of channel) (row_of net.now (channel_of channel)) (arms_of rest.now)) }
 {
     match row_of(net, channel) {
-        Some(found) => found_arm(bump, channel, found, rest),
+        Some(found) => found_arm(bump, channel, &found, rest),
         None => Ok(rest),
     }
 }
@@ -214,12 +221,14 @@ fn wire_arms<'a>(
     row_arm(bump, net, Channel { wire, up: true }, falling)
 }
 
+/// Nothing is done.
+static NOTHING: Statement<'static> = Statement::Skip;
+
 /// No case but that of all channels without a row.
 fn no_rows<'a>(bump: &'a Bump) -> Result<&'a Cases<'a>, AllocError>
     ensures { IfOk result (λ r. arms_of r.now ≡ no_rows) }
 {
-    let nothing = put_statement(bump, Statement::Skip)?;
-    put_arms(bump, Cases::Otherwise(nothing))
+    put_arms(bump, &Cases::Otherwise(&NOTHING))
 }
 
 /// The cases of all wires.
@@ -254,11 +263,18 @@ fn no_row<'a>() -> &'a Statement<'a>
     &NO_ROW
 }
 
+/// What the row's own case says.
+fn row_case<'a>(bump: &'a Bump, rows: &'a Cases<'a>) -> Result<&'a Statement<'a>, AllocError>
+    ensures { IfOk result (λ s. stmt_of s.now ≡ cases (name "goes") (arms_of rows.now)) }
+{
+    put_statement(bump, &Statement::Case(Expression::Name(b"goes"), rows))
+}
+
 /// The block that finds the row.
 fn row_block<'a>(bump: &'a Bump, rows: &'a Cases<'a>) -> Result<&'a Statement<'a>, AllocError>
     ensures { IfOk result (λ s. stmt_of s.now ≡ row_block (arms_of rows.now)) }
 {
-    let found = put_statement(bump, Statement::Case(Expression::Name(b"goes"), rows))?;
+    let found = row_case(bump, rows)?;
     put_seq(bump, no_row(), found)
 }
 
@@ -271,6 +287,5 @@ pub(crate) fn add_rows<'a>(
     ensures { OnOk result (map item_of items.new.items ≡ map item_of items.old.items ++ (next_row_block (arms_of rows.now) ∷ [])) }
 {
     let block = row_block(bump, rows)?;
-    items.push(Item::Settles(*block))?;
-    Ok(())
+    add_item(items, &Item::Settles(*block))
 }

@@ -8,6 +8,7 @@ ghost use Rattle.verilog_tree.specs.Names.{text_of};
 ghost use Rattle.verilog_tree.specs.Tree.{size};
 ghost use Rattle.verilog_tree.specs.Views.{item_of};
 
+use crate::arena::add_item;
 use circuit_sizes::{CircuitSizes, channel_bits, list_bits, place_bits, pointer_bits};
 use std::alloc::AllocError;
 use verilog_tree::{Extent, Item, Range};
@@ -23,8 +24,7 @@ fn mark_bits(marks: u32) -> u64
 fn add_size<'a>(items: &mut Vec<Item<'a>>, name: &'a [u8], n: u64) -> Result<(), AllocError>
     ensures { OnOk result (map item_of items.new.items ≡ map item_of items.old.items ++ (size (text_of name.now) n ∷ [])) }
 {
-    items.push(Item::Size(name, n))?;
-    Ok(())
+    add_item(items, &Item::Size(name, n))
 }
 
 /// Appends the bits of a channel, of the count of open forks, of a cell's place and of a pointer.
@@ -59,8 +59,7 @@ fn add_start<'a>(items: &mut Vec<Item<'a>>, wires: u32, start: u64) -> Result<()
     ensures { OnOk result (map item_of items.new.items ≡ map item_of items.old.items ++ begins_at wires start) }
 {
     let range = Range::Wide(Extent::Count(channel_bits(wires)));
-    items.push(Item::Constant(range, b"START", u128::from(start)))?;
-    Ok(())
+    add_item(items, &Item::Constant(range, b"START", u128::from(start)))
 }
 
 /// Appends all of them.
