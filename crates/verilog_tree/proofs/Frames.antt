@@ -1,21 +1,19 @@
 -- What a statement doesn't assign to, it leaves as it was.
-use Rattle.std.proofs.Common.{◌≡◌, ℕ, zero, suc, Bool, true, false, not, ◌&&◌, List, [], ◌∷◌, refl, ◌∙◌}
+use Rattle.std.proofs.Common.{◌≡◌, ℕ, Bool, true, false, not, ◌&&◌, List, [], ◌∷◌, refl, ◌∙◌}
 use Rattle.std.proofs.lemmas.Bool.{and_parts}
 use Prim.Native.String.{String}
 use lib.Text.{eqt}
-use Rattle.verilog_tree.specs.Tree.{Expr, Target, whole, bit_at, word_at, Stmt, skip, put, seq, branch, cases, loop, Arms, otherwise, arm}
+use Rattle.verilog_tree.specs.Tree.{Expr, Target, whole, word_at, Stmt, skip, put, seq, branch, cases, Arms, otherwise, arm}
 use Rattle.verilog_tree.specs.Tree.{Item, wire, settles}
-use Rattle.verilog_tree.specs.Meaning.{Scope, Store, amount, chosen, holds, bits, value, widest_arm, labelled, set_vec, write, times_from}
+use Rattle.verilog_tree.specs.Meaning.{Scope, Store, chosen, holds, bits, value, widest_arm, labelled, write}
 use Rattle.verilog_tree.specs.Meaning.{run, run_arms, settled}
 
 abbrev not_target : String → Target → Bool
 not_target x (whole y) = not (eqt y x)
-not_target x (bit_at y i) = not (eqt y x)
 not_target x (word_at m i) = true
 
 abbrev no_word : Target → Bool
 no_word (whole y) = true
-no_word (bit_at y i) = true
 no_word (word_at m i) = false
 
 -- x isn't assigned to
@@ -26,7 +24,6 @@ abbrev mutual
   leaves x (seq s t) = leaves x s && leaves x t
   leaves x (branch e s t) = leaves x s && leaves x t
   leaves x (cases e arms) = leaves_arms x arms
-  leaves x (loop i k s) = not (eqt i x) && leaves x s
 
   pub leaves_arms : String → Arms → Bool
   leaves_arms x (otherwise s) = leaves x s
@@ -40,7 +37,6 @@ abbrev mutual
   calm (seq s t) = calm s && calm t
   calm (branch e s t) = calm s && calm t
   calm (cases e arms) = calm_arms arms
-  calm (loop i k s) = calm s
 
   pub calm_arms : Arms → Bool
   calm_arms (otherwise s) = calm s
@@ -65,23 +61,11 @@ either_mem false S T m e g = g
 module _ (P : Scope) where
   write_leaves : (x : String) (R : Store) (t : Target) (e : Expr) (S : Store) → not_target x t ≡ true → (write P R t e S).vec x ≡ S.vec x
   write_leaves x R (whole y) e S h = other_name (eqt y x) _ (S.vec x) h
-  write_leaves x R (bit_at y i) e S h = other_name (eqt y x) _ (S.vec x) h
   write_leaves x R (word_at m i) e S h = refl
 
   write_calm : (R : Store) (t : Target) (e : Expr) (S : Store) → no_word t ≡ true → (write P R t e S).mem ≡ S.mem
   write_calm R (whole y) e S h = refl
-  write_calm R (bit_at y i) e S h = refl
   write_calm R (word_at m i) e S h = absurd cc
-
-  loop_leaves : (x : String) (f : ℕ → Store → Store) → ((n : ℕ) (S : Store) → (f n S).vec x ≡ S.vec x) → (k i : ℕ) (S : Store) →
-      (times_from i k f S).vec x ≡ S.vec x
-  loop_leaves x f h zero i S = refl
-  loop_leaves x f h (suc k) i S = loop_leaves x f h k (suc i) (f i S) ∙ h i S
-
-  loop_calm : (f : ℕ → Store → Store) → ((n : ℕ) (S : Store) → (f n S).mem ≡ S.mem) → (k i : ℕ) (S : Store) →
-      (times_from i k f S).mem ≡ S.mem
-  loop_calm f h zero i S = refl
-  loop_calm f h (suc k) i S = loop_calm f h k (suc i) (f i S) ∙ h i S
 
   mutual
     pub run_leaves : (x : String) (s : Stmt) → leaves x s ≡ true → (S : Store) → (run P s S).vec x ≡ S.vec x
@@ -94,11 +78,6 @@ module _ (P : Scope) where
         either_store (holds P S e) (run P s S) (run P t S) x (S.vec x) (run_leaves x s a S) (run_leaves x t b S)
     run_leaves x (cases e arms) h S =
         arms_leave x arms h (widest_arm P (bits P e) arms) (value P S (widest_arm P (bits P e) arms) e) S
-    run_leaves x (loop i k s) h S =
-        let (a, b) = and_parts (not (eqt i x)) (leaves x s) h in
-        other_name (eqt i x) (amount P.param k) _ a
-        ∙ loop_leaves x (λ n T. run P s (set_vec i n T)) (λ n T. run_leaves x s b (set_vec i n T) ∙ other_name (eqt i x) n (T.vec x) a)
-        (amount P.param k) 0 S
 
     pub arms_leave : (x : String) (arms : Arms) → leaves_arms x arms ≡ true → (w n : ℕ) (S : Store) →
         (run_arms P w n arms S).vec x ≡ S.vec x
@@ -116,7 +95,6 @@ module _ (P : Scope) where
         let (a, b) = and_parts (calm s) (calm t) h in
         either_mem (holds P S e) (run P s S) (run P t S) S.mem (run_calm s a S) (run_calm t b S)
     run_calm (cases e arms) h S = arms_calm arms h (widest_arm P (bits P e) arms) (value P S (widest_arm P (bits P e) arms) e) S
-    run_calm (loop i k s) h S = loop_calm (λ n T. run P s (set_vec i n T)) (λ n T. run_calm s h (set_vec i n T)) (amount P.param k) 0 S
 
     pub arms_calm : (arms : Arms) → calm_arms arms ≡ true → (w n : ℕ) (S : Store) → (run_arms P w n arms S).mem ≡ S.mem
     arms_calm (otherwise s) h w n S = run_calm s h S

@@ -1,4 +1,4 @@
--- shifts, masks and slices of numbers that are lists of bits
+-- numbers of so many bits
 pub mod Numbers
 -- texts that were appended one by one
 pub mod Texts

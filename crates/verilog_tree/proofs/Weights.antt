@@ -1,7 +1,7 @@
 -- How many nodes a tree has: what printing it takes.
 use Rattle.std.proofs.Common.{ℕ, suc, ◌+◌}
-use Rattle.verilog_tree.specs.Tree.{Size, count, named, more, less, Expr, num, sized, const, name, bit, part, word, ones, cat, inverse, two}
-use Rattle.verilog_tree.specs.Tree.{shift, test, logic, none, any, every, pick, call, Stmt, skip, put, seq, branch, cases, loop, Arms}
+use Rattle.verilog_tree.specs.Tree.{Size, count, named, more, less, Expr, num, sized, const, name, bit, part, word, cat, inverse, two}
+use Rattle.verilog_tree.specs.Tree.{shift, test, logic, none, any, every, pick, Stmt, skip, put, seq, branch, cases, Arms}
 use Rattle.verilog_tree.specs.Tree.{otherwise, arm}
 
 -- of a size
@@ -20,7 +20,6 @@ expr_weight (name x) = 1
 expr_weight (bit x e) = suc (expr_weight e)
 expr_weight (part x h l) = 1
 expr_weight (word m e) = suc (expr_weight e)
-expr_weight (ones h) = 1
 expr_weight (cat a b) = suc (expr_weight a + expr_weight b)
 expr_weight (inverse a) = suc (expr_weight a)
 expr_weight (two o a b) = suc (expr_weight a + expr_weight b)
@@ -31,7 +30,6 @@ expr_weight (none a) = suc (expr_weight a)
 expr_weight (any a) = suc (expr_weight a)
 expr_weight (every a) = suc (expr_weight a)
 expr_weight (pick c a b) = suc (expr_weight c + (expr_weight a + expr_weight b))
-expr_weight (call f x) = 1
 
 -- of a statement, and of arms
 abbrev mutual
@@ -41,7 +39,6 @@ abbrev mutual
   stmt_weight (seq s t) = suc (stmt_weight s + stmt_weight t)
   stmt_weight (branch e s t) = suc (stmt_weight s + stmt_weight t)
   stmt_weight (cases e arms) = suc (arms_weight arms)
-  stmt_weight (loop i k s) = suc (stmt_weight s)
 
   pub arms_weight : Arms → ℕ
   arms_weight (otherwise s) = suc (stmt_weight s)

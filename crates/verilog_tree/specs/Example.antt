@@ -1,7 +1,7 @@
 -- A module that counts to 2 and begins anew, with what it does at each edge, and what would not be a module. The prover computes them.
 use Rattle.std.specs.Prelude.{◌≡◌, ℕ, zero, suc, true, false, List, [], ◌∷◌, ◌++◌, codes}
-use Rattle.verilog_tree.specs.Tree.{count, named, plus, same, num, sized, const, name, bit, cat, none, test, two, pick, whole, Stmt}
-use Rattle.verilog_tree.specs.Tree.{skip, put, seq, branch, loop, one, wide, Item, size, input, output, reg, wire, settles, clocked}
+use Rattle.verilog_tree.specs.Tree.{count, plus, same, num, sized, const, name, bit, cat, none, test, two, pick, whole, Stmt}
+use Rattle.verilog_tree.specs.Tree.{skip, put, seq, branch, one, wide, Item, size, input, output, reg, wire, settles, clocked}
 use Rattle.verilog_tree.specs.Meaning.{Store, edge, set_vec}
 use Rattle.verilog_tree.specs.WellFormed.{WellFormed}
 use Rattle.verilog_tree.specs.Print.{item_text}
@@ -51,7 +51,7 @@ abbrev pub ExampleIsModule : Type 0
 ExampleIsModule = WellFormed counter ≡ true
 
 -- these aren't: a wire below the block that reads it; a name declared twice; two blocks that drive one register; a register that is set in
--- one arm alone; a loop that counts one bit; a wire that reads itself; a port that isn't declared; a bit of a scalar; a concatenation with
+-- one arm alone; a constant that is set; a wire that reads itself; a port that isn't declared; a bit of a scalar; a concatenation with
 -- a part whose width a number without one tells
 abbrev pub wrong_modules : List (List Item)
 wrong_modules =
@@ -59,7 +59,7 @@ wrong_modules =
     (counter_ports ++ (next_count ∷ next_count ∷ clocked counting ∷ [])) ∷
     (counter_ports ++ (next_count ∷ clocked counting ∷ clocked counting ∷ [])) ∷
     (counter_ports ++ (reg one "odd" ∷ settles (branch (name "rst") (put (whole "odd") (num 1)) skip) ∷ [])) ∷
-    (counter_ports ++ (reg one "i" ∷ settles (loop "i" (named "LAST") skip) ∷ [])) ∷
+    (counter_ports ++ (settles (put (whole "LAST") (num 1)) ∷ [])) ∷
     (counter_ports ++ (wire one "a" (none (name "a")) ∷ [])) ∷
     (next_count ∷ clocked counting ∷ []) ∷
     (counter_ports ++ (wire one "a" (bit "rst" (num 0)) ∷ [])) ∷

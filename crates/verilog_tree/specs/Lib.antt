@@ -10,8 +10,8 @@ pub mod Print
 pub mod Names
 -- The views: which tree each tree of the code stands for.
 pub mod Views
--- Lists of bits in vectors.
-pub mod Marks
+-- Lists of bits as numbers.
+pub mod Bits
 -- The laws of trees: the statement of `law_spared`.
 pub mod Laws
 -- A module that the prover computes: the statements of `law_example_module`.

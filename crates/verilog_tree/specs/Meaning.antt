@@ -1,19 +1,19 @@
 -- What a tree means, after IEEE 1364-2005, whose clauses are named: the widths of expressions, their values, assignment with truncation,
 -- blocks that settle in their order, and one edge of the clock.
 -- A vector is the number that its bits are, below 2 to the power of its width.
--- Past the end of a vector or a memory nothing is written, and any number is read. A function's variables hold what they held.
--- It is narrower than the standard in this: bits are 0 or 1 (what isn't written yet has any value); numbers without a width, bounds of
--- loops and what loops count are below 2 ^ 31, so that all is unsigned; each name has one meaning in the whole module; a `case` is told by
--- its labels' numbers; there is one clock; and wires and blocks that settle stand in an order in which each reads only what stands above.
-use Rattle.std.specs.Prelude.{ℕ, zero, suc, ◌+◌, ◌-◌, ◌*◌, ◌/◌, ◌%◌, ◌^◌, max, bit_and, bit_or, nat_eq, nat_lt}
+-- Past the end of a memory nothing is written, and past the end of a vector or a memory any number is read.
+-- It is narrower than the standard in this: bits are 0 or 1 (what isn't written yet has any value); numbers without a width are below
+-- 2 ^ 31, so that all is unsigned; each name has one meaning in the whole module; a `case` is told by its labels' numbers; there is one
+-- clock; and wires and blocks that settle stand in an order in which each reads only what stands above.
+use Rattle.std.specs.Prelude.{ℕ, suc, ◌+◌, ◌-◌, ◌*◌, ◌/◌, ◌%◌, ◌^◌, max, nat_eq, nat_lt}
 use Rattle.std.specs.Prelude.{Bool, true, false, not, ◌&&◌, ◌||◌, List, [], ◌∷◌}
 use Prim.Native.String.{String}
 use lib.Text.{eqt}
-use Rattle.verilog_tree.specs.Tree.{Size, count, named, more, less, Two, plus, minus, times, also, either, Way, left, right}
-use Rattle.verilog_tree.specs.Tree.{Test, same, other, below, Logic, both, one_of, Expr, num, sized, const, name, bit, part, word, ones}
-use Rattle.verilog_tree.specs.Tree.{cat, inverse, two, shift, test, logic, none, any, every, pick, call, Target, whole, bit_at, word_at}
-use Rattle.verilog_tree.specs.Tree.{Stmt, skip, put, seq, branch, cases, loop, Arms, otherwise, arm, Width, one, upto, wide, integer, Local}
-use Rattle.verilog_tree.specs.Tree.{local, Item, size, constant, input, output, reg, memory, wire, function, settles, clocked}
+use Rattle.verilog_tree.specs.Tree.{Size, count, named, more, less, Two, plus, minus, times, Way, left, right}
+use Rattle.verilog_tree.specs.Tree.{Test, same, below, Logic, both, one_of, Expr, num, sized, const, name, bit, part, word}
+use Rattle.verilog_tree.specs.Tree.{cat, inverse, two, shift, test, logic, none, any, every, pick, Target, whole, word_at}
+use Rattle.verilog_tree.specs.Tree.{Stmt, skip, put, seq, branch, cases, Arms, otherwise, arm, Width, one, upto, wide}
+use Rattle.verilog_tree.specs.Tree.{Item, size, constant, input, output, reg, memory, wire, settles, clocked}
 
 -- what vectors hold, and the words of memories; and what is read past the end of a name, at each place: any number, and nothing writes it
 -- (there the standard has x: 5.2.1, 5.2.2)
@@ -22,13 +22,11 @@ pub record Store : Type 0 where
   pub mem : String → ℕ → ℕ
   pub stray : String → ℕ → ℕ
 
--- what is declared: how wide a name is (a memory's word, a function's result), how many words a memory has, what number a parameter is, and
--- what a function makes of its input, where the store is as told
+-- what is declared: how wide a name is (a memory's word), how many words a memory has, and what number a parameter is
 pub record Scope : Type 0 where
   pub width : String → ℕ
   pub words : String → ℕ
   pub param : String → ℕ
-  pub result : String → ℕ → Store → ℕ
 
 -- what a constant expression of sizes comes to; its parameters have no declared width, and so 32 bits (4.10.2)
 abbrev pub amount : (String → ℕ) → Size → ℕ
@@ -51,7 +49,7 @@ chosen false a b = b
 abbrev pub fit : ℕ → ℕ → ℕ
 fit w n = n % 2 ^ w
 
--- how many bits an expression has by itself (5.4.1, table 5-22; a function's result: 10.4.1)
+-- how many bits an expression has by itself (5.4.1, table 5-22)
 abbrev pub bits : Scope → Expr → ℕ
 bits P (num n) = 32
 bits P (sized w n) = w
@@ -60,7 +58,6 @@ bits P (name x) = P.width x
 bits P (bit x e) = 1
 bits P (part x h l) = suc (amount P.param h - amount P.param l)
 bits P (word m e) = P.width m
-bits P (ones h) = suc (amount P.param h)
 bits P (cat a b) = bits P a + bits P b
 bits P (inverse a) = bits P a
 bits P (two o a b) = max (bits P a) (bits P b)
@@ -71,25 +68,21 @@ bits P (none a) = 1
 bits P (any a) = 1
 bits P (every a) = 1
 bits P (pick c a b) = max (bits P a) (bits P b)
-bits P (call f x) = P.width f
 
--- + - * modulo 2 to the power of the width around them, a difference below 0 from its other end (5.1.5, 5.1.6); & and | bit by bit (5.1.10)
+-- + - * modulo 2 to the power of the width around them, a difference below 0 from its other end (5.1.5, 5.1.6)
 abbrev pub two_value : Two → ℕ → ℕ → ℕ → ℕ
 two_value plus w m n = fit w (m + n)
 two_value minus w m n = fit w (2 ^ w + m - n)
 two_value times w m n = fit w (m * n)
-two_value also w m n = bit_and m n
-two_value either w m n = bit_or m n
 
 -- to the left, bits that leave the width are lost; to the right, zeros come in (5.1.12)
 abbrev pub shift_value : Way → ℕ → ℕ → ℕ → ℕ
 shift_value left w m n = fit w (m * 2 ^ n)
 shift_value right w m n = m / 2 ^ n
 
--- == and != (5.1.8), < of unsigned operands (5.1.7)
+-- == (5.1.8), < of unsigned operands (5.1.7)
 abbrev pub test_value : Test → ℕ → ℕ → Bool
 test_value same m n = nat_eq m n
-test_value other m n = not (nat_eq m n)
 test_value below m n = nat_lt m n
 
 -- && and || of truth values (5.1.9)
@@ -113,7 +106,7 @@ part_in S w x h l = chosen (nat_lt h w) (fit (suc (h - l)) (S.vec x / 2 ^ l)) (S
 abbrev pub word_in : Store → ℕ → String → ℕ → ℕ
 word_in S w m i = chosen (nat_lt i w) (S.mem m i) (S.stray m i)
 
--- what an expression comes to where w bits are wanted, which are at least as many as it has by itself. Operands of + - * & | ~ and of ?:
+-- what an expression comes to where w bits are wanted, which are at least as many as it has by itself. Operands of + - * ~ and of ?:
 -- and the left operand of a shift have the width around them. Both sides of a comparison have the wider of their own. An index, the right
 -- operand of a shift, the parts of a concatenation, what is joined by && and ||, what is reduced, and the condition of ?: have their own
 -- (5.4.1, 5.5.2; numbers are cut to their size: 3.5.1; parameters to their declared width: 4.10.1, 4.10.2)
@@ -125,7 +118,6 @@ value P S w (name x) = S.vec x
 value P S w (bit x e) = bit_in S (P.width x) x (value P S (bits P e) e)
 value P S w (part x h l) = part_in S (P.width x) x (amount P.param h) (amount P.param l)
 value P S w (word m e) = word_in S (P.words m) m (value P S (bits P e) e)
-value P S w (ones h) = 2 ^ suc (amount P.param h) - 1
 value P S w (cat a b) = value P S (bits P a) a * 2 ^ bits P b + value P S (bits P b) b
 value P S w (inverse a) = 2 ^ w - 1 - value P S w a
 value P S w (two o a b) = two_value o w (value P S w a) (value P S w b)
@@ -137,7 +129,6 @@ value P S w (none a) = flag (nat_eq (value P S (bits P a) a) 0)
 value P S w (any a) = flag (nonzero (value P S (bits P a) a))
 value P S w (every a) = flag (nat_eq (value P S (bits P a) a) (2 ^ bits P a - 1))
 value P S w (pick c a b) = chosen (nonzero (value P S (bits P c) c)) (value P S w a) (value P S w b)
-value P S w (call f x) = P.result f (S.vec x) S
 
 -- the same at its own width
 abbrev pub own : Scope → Store → Expr → ℕ
@@ -159,18 +150,9 @@ set_vec x n S = record S { vec = λ y. chosen (eqt x y) n (S.vec y) }
 abbrev pub set_word : String → ℕ → ℕ → ℕ → Store → Store
 set_word m w i n S = record S { mem = λ y j. chosen (eqt m y && (nat_eq i j && nat_lt i w)) n (S.mem y j) }
 
--- n with its bit i as told
-abbrev pub with_bit : ℕ → ℕ → ℕ → ℕ
-with_bit n i b = n / 2 ^ suc i * 2 ^ suc i + b * 2 ^ i + n % 2 ^ i
-
--- the same for a vector of w bits, where it has that bit
-abbrev pub with_bit_in : ℕ → ℕ → ℕ → ℕ → ℕ
-with_bit_in w n i b = chosen (nat_lt i w) (with_bit n i b) n
-
--- an assignment that reads R and writes S, to a whole vector, to a bit, or to a word (9.2)
+-- an assignment that reads R and writes S, to a whole vector or to a word (9.2)
 abbrev pub write : Scope → Store → Target → Expr → Store → Store
 write P R (whole x) e S = set_vec x (assigned P R (P.width x) e) S
-write P R (bit_at x i) e S = set_vec x (with_bit_in (P.width x) (S.vec x) (own P R i) (assigned P R 1 e)) S
 write P R (word_at m i) e S = set_word m (P.words m) (own P R i) (assigned P R (P.width m) e) S
 
 -- the widest of so many bits and some labels: a case compares at the widest of its expression and all its labels (9.5)
@@ -188,13 +170,8 @@ abbrev pub labelled : Scope → Store → ℕ → ℕ → List Expr → Bool
 labelled P S w n [] = false
 labelled P S w n (e ∷ es) = nat_eq n (value P S w e) || labelled P S w n es
 
--- so many times, from the i-th on (9.6)
-abbrev pub times_from : ℕ → ℕ → (ℕ → Store → Store) → Store → Store
-times_from i zero f S = S
-times_from i (suc k) f S = times_from (suc i) k f (f i S)
-
 -- a statement of a block that settles: each assignment is seen by the next (9.2.1, 9.8.1). The first arm that has the number is taken
--- (9.5). A loop ends with its index at K (9.6)
+-- (9.5)
 abbrev mutual
   pub run : Scope → Stmt → Store → Store
   run P skip S = S
@@ -202,14 +179,12 @@ abbrev mutual
   run P (seq s t) S = run P t (run P s S)
   run P (branch e s t) S = chosen (holds P S e) (run P s S) (run P t S)
   run P (cases e arms) S = run_arms P (widest_arm P (bits P e) arms) (value P S (widest_arm P (bits P e) arms) e) arms S
-  run P (loop i k s) S = set_vec i (amount P.param k) (times_from 0 (amount P.param k) (λ n T. run P s (set_vec i n T)) S)
 
   pub run_arms : Scope → ℕ → ℕ → Arms → Store → Store
   run_arms P w n (otherwise s) S = run P s S
   run_arms P w n (arm es s c arms) S = chosen (labelled P S w n es) (run P s S) (run_arms P w n arms S)
 
--- a statement of the clock's block: all is read as it was before the edge, and of several assignments to a name the last stands (9.2.2).
--- No module that is well formed has a loop there
+-- a statement of the clock's block: all is read as it was before the edge, and of several assignments to a name the last stands (9.2.2)
 abbrev mutual
   pub fire : Scope → Store → Stmt → Store → Store
   fire P R skip S = S
@@ -217,18 +192,16 @@ abbrev mutual
   fire P R (seq s t) S = fire P R t (fire P R s S)
   fire P R (branch e s t) S = chosen (holds P R e) (fire P R s S) (fire P R t S)
   fire P R (cases e arms) S = fire_arms P R (widest_arm P (bits P e) arms) (value P R (widest_arm P (bits P e) arms) e) arms S
-  fire P R (loop i k s) S = times_from 0 (amount P.param k) (λ n T. fire P (set_vec i n R) s T) S
 
   pub fire_arms : Scope → Store → ℕ → ℕ → Arms → Store → Store
   fire_arms P R w n (otherwise s) S = fire P R s S
   fire_arms P R w n (arm es s c arms) S = chosen (labelled P R w n es) (fire P R s S) (fire_arms P R w n arms S)
 
--- how many bits are declared (4.3.1, 4.8)
+-- how many bits are declared (4.3.1)
 abbrev pub width_of : (String → ℕ) → Width → ℕ
 width_of p one = 1
 width_of p (upto h) = suc (amount p h)
 width_of p (wide k) = amount p k
-width_of p integer = 32
 
 -- the number of a parameter (4.10.2)
 abbrev pub param_in : List Item → String → ℕ
@@ -241,11 +214,6 @@ param_in (i ∷ is) x = param_in is x
 abbrev pub named_here : String → String → ℕ → ℕ → ℕ
 named_here y x n m = elim (eqt y x) [ true ↦ n | false ↦ m ]
 
--- the width of a function's variable
-abbrev pub local_width : (String → ℕ) → List Local → String → ℕ → ℕ
-local_width p [] x m = m
-local_width p (local w y ∷ ls) x m = named_here y x (width_of p w) (local_width p ls x m)
-
 -- the width of a name
 abbrev pub width_in : (String → ℕ) → List Item → String → ℕ
 width_in p [] x = 0
@@ -256,8 +224,6 @@ width_in p (output w y ∷ is) x = named_here y x (width_of p w) (width_in p is 
 width_in p (reg w y ∷ is) x = named_here y x (width_of p w) (width_in p is x)
 width_in p (memory w y k ∷ is) x = named_here y x (width_of p w) (width_in p is x)
 width_in p (wire w y e ∷ is) x = named_here y x (width_of p w) (width_in p is x)
-width_in p (function w f v y ls s ∷ is) x =
-    named_here f x (width_of p w) (named_here y x (width_of p v) (local_width p ls x (width_in p is x)))
 width_in p (i ∷ is) x = width_in p is x
 
 -- how many words a memory has (4.9.3)
@@ -266,26 +232,9 @@ words_in p [] x = 0
 words_in p (memory w y k ∷ is) x = named_here y x (amount p k) (words_in p is x)
 words_in p (i ∷ is) x = words_in p is x
 
--- what a function's body sees of the declarations: in a module that is well formed no function calls another
-abbrev pub plain : List Item → Scope
-plain is = record { width = width_in (param_in is) is; words = words_in (param_in is) is; param = param_in is; result = λ f n S. 0 }
-
--- what a function makes of its input, cut to the input's width: what its body leaves under its own name (10.4.1 to 10.4.3). Its variables
--- aren't automatic, so they hold what they held (10.4.1)
-abbrev pub result_in : Scope → List Item → String → ℕ → Store → ℕ
-result_in P [] g n S = 0
-result_in P (function w f v y ls s ∷ is) g n S =
-    elim (eqt f g) [ true ↦ (run P s (set_vec y (fit (width_of P.param v) n) S)).vec f | false ↦ result_in P is g n S ]
-result_in P (i ∷ is) g n S = result_in P is g n S
-
 -- all that is declared
 abbrev pub scope : List Item → Scope
-scope is = record {
-  width = width_in (param_in is) is;
-  words = words_in (param_in is) is;
-  param = param_in is;
-  result = result_in (plain is) is;
-}
+scope is = record { width = width_in (param_in is) is; words = words_in (param_in is) is; param = param_in is }
 
 -- wires and blocks that settle, from the first to the last (6.1.1, 9.7.5)
 abbrev pub settled : Scope → List Item → Store → Store

@@ -3,13 +3,13 @@
 -- rule of precedence is asked for (5.1.2).
 use Rattle.std.specs.Prelude.{ℕ, zero, suc, Bool, true, false, ◌&&◌, List, [], ◌∷◌, ◌++◌, codes, decimal}
 use Prim.Native.String.{String}
-use Rattle.verilog_tree.specs.Tree.{Size, count, named, more, less, Two, plus, minus, times, also, either, Way, left, right}
-use Rattle.verilog_tree.specs.Tree.{Test, same, other, below, Logic, both, one_of, Expr, num, sized, const, name, bit, part, word, ones}
-use Rattle.verilog_tree.specs.Tree.{cat, inverse, two, shift, test, logic, none, any, every, pick, call, Target, whole, bit_at, word_at}
-use Rattle.verilog_tree.specs.Tree.{Stmt, skip, put, seq, branch, cases, loop, Said, word_said, number_said, Arms, otherwise, arm, Width}
-use Rattle.verilog_tree.specs.Tree.{one, upto, wide, integer, Local, local, Item, note, gap}
+use Rattle.verilog_tree.specs.Tree.{Size, count, named, more, less, Two, plus, minus, times, Way, left, right}
+use Rattle.verilog_tree.specs.Tree.{Test, same, below, Logic, both, one_of, Expr, num, sized, const, name, bit, part, word}
+use Rattle.verilog_tree.specs.Tree.{cat, inverse, two, shift, test, logic, none, any, every, pick, Target, whole, word_at}
+use Rattle.verilog_tree.specs.Tree.{Stmt, skip, put, seq, branch, cases, Said, word_said, number_said, Arms, otherwise, arm, Width}
+use Rattle.verilog_tree.specs.Tree.{one, upto, wide, Item, note, gap}
 use Rattle.verilog_tree.specs.Tree.{size, constant, input, output, reg, memory, wire}
-use Rattle.verilog_tree.specs.Tree.{function, settles, clocked}
+use Rattle.verilog_tree.specs.Tree.{settles, clocked}
 
 -- a statement that only sets whole vectors
 abbrev pub straight : Stmt → Bool
@@ -40,8 +40,6 @@ abbrev pub two_sign : Two → List ℕ
 two_sign plus = codes " + "
 two_sign minus = codes " - "
 two_sign times = codes " * "
-two_sign also = codes " & "
-two_sign either = codes " | "
 
 -- of shifts
 abbrev pub shift_sign : Way → List ℕ
@@ -51,7 +49,6 @@ shift_sign right = codes " >> "
 -- of comparisons
 abbrev pub test_sign : Test → List ℕ
 test_sign same = codes " == "
-test_sign other = codes " != "
 test_sign below = codes " < "
 
 -- of truth values
@@ -68,7 +65,6 @@ expr_text c (name x) = codes x
 expr_text c (bit x e) = codes x ++ (codes "[" ++ (expr_text false e ++ codes "]"))
 expr_text c (part x h l) = codes x ++ (codes "[" ++ (size_text h ++ (codes ":" ++ (size_text l ++ codes "]"))))
 expr_text c (word m e) = codes m ++ (codes "[" ++ (expr_text false e ++ codes "]"))
-expr_text c (ones h) = codes "{" ++ (size_text h ++ codes "+1{1'b1}}")
 expr_text c (cat a b) = codes "{" ++ (expr_text false a ++ (codes ", " ++ (expr_text false b ++ codes "}")))
 expr_text c (inverse a) = opening c ++ (codes "~" ++ (expr_text true a ++ closing c))
 expr_text c (two o a b) = opening c ++ (expr_text true a ++ (two_sign o ++ (expr_text true b ++ closing c)))
@@ -80,12 +76,10 @@ expr_text c (any a) = opening c ++ (codes "|" ++ (expr_text true a ++ closing c)
 expr_text c (every a) = opening c ++ (codes "&" ++ (expr_text true a ++ closing c))
 expr_text c (pick d a b) =
     opening c ++ (expr_text true d ++ (codes " ? " ++ (expr_text true a ++ (codes " : " ++ (expr_text true b ++ closing c)))))
-expr_text c (call f x) = codes f ++ (codes "(" ++ (codes x ++ codes ")"))
 
 -- what is assigned to
 abbrev pub target_text : Target → List ℕ
 target_text (whole x) = codes x
-target_text (bit_at x e) = codes x ++ (codes "[" ++ (expr_text false e ++ codes "]"))
 target_text (word_at m e) = codes m ++ (codes "[" ++ (expr_text false e ++ codes "]"))
 
 -- an assignment with this sign
@@ -151,20 +145,8 @@ abbrev pub else_text : Bool → ℕ → List ℕ → List ℕ
 else_text true n s = codes "end\n"
 else_text false n s = codes "end else begin\n" ++ (s ++ (indent n ++ codes "end\n"))
 
--- a name, a text and the name again
-unfoldable pub twice : String → List ℕ → List ℕ
-twice x t = codes x ++ (t ++ codes x)
-
--- the head of a loop: where its index begins and ends
-unfoldable pub turns_text : String → Size → List ℕ
-turns_text i k = codes "for (" ++ (twice i (codes " = 0; ") ++ (codes " < " ++ size_text k))
-
--- and how it goes on
-unfoldable pub next_text : String → List ℕ
-next_text i = codes "; " ++ (twice i (codes " = ") ++ codes " + 1) begin\n")
-
--- statements with this sign of assignment, so many levels in; what a branch, an arm or a loop has stands in a block, so that no `else` can
--- go to another `if` (9.4, 9.8.1)
+-- statements with this sign of assignment, so many levels in; what a branch or an arm has stands in a block, so that no `else` can go to
+-- another `if` (9.4, 9.8.1)
 abbrev mutual
   pub stmt_text : List ℕ → ℕ → Stmt → List ℕ
   stmt_text q n skip = []
@@ -175,8 +157,6 @@ abbrev mutual
       ++ else_text (is_skip t) n (stmt_text q (suc n) t))))))
   stmt_text q n (cases e arms) =
       indent n ++ (codes "case (" ++ (expr_text false e ++ (codes ")\n" ++ (arms_text q (suc n) arms ++ (indent n ++ codes "endcase\n")))))
-  stmt_text q n (loop i k s) =
-      indent n ++ (turns_text i k ++ (next_text i ++ (stmt_text q (suc n) s ++ (indent n ++ codes "end\n"))))
 
   pub arms_text : List ℕ → ℕ → Arms → List ℕ
   arms_text q n (otherwise s) = default_text q n s (stmt_text q (suc n) s)
@@ -187,7 +167,6 @@ abbrev pub width_text : Width → List ℕ
 width_text one = []
 width_text (upto h) = codes "[" ++ (size_text h ++ codes ":0] ")
 width_text (wide k) = codes "[" ++ (size_text k ++ codes "-1:0] ")
-width_text integer = []
 
 -- a constant's bits, which are a number in a module that is well formed
 abbrev pub bits_text : Width → List ℕ
@@ -195,16 +174,6 @@ bits_text one = codes "1"
 bits_text (upto (count n)) = decimal (suc n)
 bits_text (wide (count n)) = decimal n
 bits_text w = codes "32"
-
--- the declaration of a register
-abbrev pub reg_text : Width → String → List ℕ
-reg_text integer x = codes "integer " ++ (codes x ++ codes ";\n")
-reg_text w x = codes "reg " ++ (width_text w ++ (codes x ++ codes ";\n"))
-
--- the variables of a function
-abbrev pub locals_text : List Local → List ℕ
-locals_text [] = []
-locals_text (local w x ∷ ls) = codes "    " ++ (reg_text w x ++ locals_text ls)
 
 -- an item of the module's body; ports have their own list
 abbrev pub item_text : Item → List ℕ
@@ -215,12 +184,9 @@ item_text (constant w x n) =
     codes "  localparam " ++ (width_text w ++ (codes x ++ (codes " = " ++ (bits_text w ++ (codes "'d" ++ (decimal n ++ codes ";\n"))))))
 item_text (input w x) = []
 item_text (output w x) = []
-item_text (reg w x) = codes "  " ++ reg_text w x
+item_text (reg w x) = codes "  reg " ++ (width_text w ++ (codes x ++ codes ";\n"))
 item_text (memory w x k) = codes "  reg " ++ (width_text w ++ (codes x ++ (codes " [0:" ++ (size_text k ++ codes "-1];\n"))))
 item_text (wire w x e) = codes "  wire " ++ (width_text w ++ (codes x ++ (codes " = " ++ (expr_text false e ++ codes ";\n"))))
-item_text (function w f v x ls s) =
-    codes "  function " ++ (width_text w ++ (codes f ++ (codes "(input " ++ (width_text v ++ (codes x ++ (codes ");\n" ++ (locals_text ls
-    ++ (codes "    begin\n" ++ (stmt_text (codes " = ") 3 s ++ codes "    end\n  endfunction\n")))))))))
 item_text (settles s) = codes "  always @* begin\n" ++ (stmt_text (codes " = ") 2 s ++ codes "  end\n")
 item_text (clocked s) = codes "  always @(posedge clk) begin\n" ++ (stmt_text (codes " <= ") 2 s ++ codes "  end\n")
 

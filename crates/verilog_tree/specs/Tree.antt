@@ -1,11 +1,11 @@
 -- A tree for the constructs of Verilog that a circuit's text uses, and for no others. The clauses named are those of IEEE 1364-2005.
--- Each name is declared once in a module, and stands for a vector, a memory, a parameter or a function. All is unsigned. Which assignment
+-- Each name is declared once in a module, and stands for a vector, a memory or a parameter. All is unsigned. Which assignment
 -- an assignment is, `=` or `<=`, is told by the block around it: blocks that settle have `=`, and the block of the clock has `<=`, so that
 -- no tree mixes both.
 use Rattle.std.specs.Prelude.{ℕ, List}
 use Prim.Native.String.{String}
 
--- a constant expression, for widths, places of bits and bounds of loops (clause 5)
+-- a constant expression, for widths and places of bits (clause 5)
 pub data Size : Type 0 where
   -- 8
   count : ℕ → Size
@@ -16,23 +16,20 @@ pub data Size : Type 0 where
   -- A - B, where B isn't greater
   less : Size → Size → Size
 
--- + - * & |, whose operands are as wide as what is around them (5.1.5, 5.1.10)
+-- + - *, whose operands are as wide as what is around them (5.1.5)
 pub data Two : Type 0 where
   plus : Two
   minus : Two
   times : Two
-  also : Two
-  either : Two
 
 -- << and >> (5.1.12)
 pub data Way : Type 0 where
   left : Way
   right : Way
 
--- == != < (5.1.7, 5.1.8)
+-- == and < (5.1.7, 5.1.8)
 pub data Test : Type 0 where
   same : Test
-  other : Test
   below : Test
 
 -- && and || (5.1.9)
@@ -56,8 +53,6 @@ pub data Expr : Type 0 where
   part : String → Size → Size → Expr
   -- m[e], a word of a memory (5.2.2)
   word : String → Expr → Expr
-  -- {H+1{1'b1}} (5.1.14)
-  ones : Size → Expr
   -- {a, b} (5.1.14)
   cat : Expr → Expr → Expr
   -- ~a (5.1.10)
@@ -73,13 +68,10 @@ pub data Expr : Type 0 where
   every : Expr → Expr
   -- a ? b : c (5.1.13)
   pick : Expr → Expr → Expr → Expr
-  -- f(x), where x is a vector (10.4.3)
-  call : String → String → Expr
 
--- what is assigned to: x, x[e], or a word m[e] (6.2, 9.2)
+-- what is assigned to: x, or a word m[e] (6.2, 9.2)
 pub data Target : Type 0 where
   whole : String → Target
-  bit_at : String → Expr → Target
   word_at : String → Expr → Target
 
 -- a part of what is said of an arm: words, or a number
@@ -100,8 +92,6 @@ mutual
     branch : Expr → Stmt → Stmt → Stmt
     -- case (e) .. endcase (9.5)
     cases : Expr → Arms → Stmt
-    -- for (i = 0; i < K; i = i + 1) s, where s doesn't assign to i (9.6)
-    loop : String → Size → Stmt → Stmt
 
   -- the arms of a case, in their order (9.5)
   pub data Arms : Type 0 where
@@ -110,7 +100,7 @@ mutual
     -- a, b: s, with what is said of it
     arm : List Expr → Stmt → (said : List Said) → Arms → Arms
 
--- a declared width (4.3.1, 4.8)
+-- a declared width (4.3.1)
 pub data Width : Type 0 where
   -- one bit
   one : Width
@@ -118,12 +108,6 @@ pub data Width : Type 0 where
   upto : Size → Width
   -- [K-1:0]
   wide : Size → Width
-  -- integer, of 32 bits
-  integer : Width
-
--- a variable of a function (10.4.1)
-pub data Local : Type 0 where
-  local : Width → String → Local
 
 -- what a module consists of (clause 12)
 pub data Item : Type 0 where
@@ -138,14 +122,12 @@ pub data Item : Type 0 where
   -- input wire x, output reg x (12.3.4)
   input : Width → String → Item
   output : Width → String → Item
-  -- reg x; or integer x; (4.7, 4.8)
+  -- reg x; (4.7)
   reg : Width → String → Item
   -- reg w m [0:K-1]; (4.9.3)
   memory : Width → String → Size → Item
   -- wire x = e; (6.1.1)
   wire : Width → String → Expr → Item
-  -- function w f(input w x); s endfunction (10.4.1)
-  function : Width → String → Width → String → List Local → Stmt → Item
   -- always @* s (9.7.5)
   settles : Stmt → Item
   -- always @(posedge clk) s (9.7.2)

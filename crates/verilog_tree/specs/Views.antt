@@ -2,11 +2,11 @@
 -- own values would compare where their parts lie. A name of the code is a list of bytes, and stands for the text of these characters.
 use Rattle.std.specs.Prelude.{ℕ, zero, suc, map}
 use Rattle.verilog_tree.specs.Names.{text_of}
-use Rattle.verilog_tree.specs.Tree.{Size, count, named, more, less, Two, plus, minus, times, also, either, Way, left, right}
-use Rattle.verilog_tree.specs.Tree.{Test, same, other, below, Logic, both, one_of, Expr, num, sized, const, name, bit, part, word, ones}
-use Rattle.verilog_tree.specs.Tree.{cat, inverse, two, shift, test, logic, none, any, every, pick, call, Target, whole, bit_at, word_at}
-use Rattle.verilog_tree.specs.Tree.{Stmt, skip, put, seq, branch, cases, loop, Arms, otherwise, arm, Width, one, upto, wide, integer}
-use Rattle.verilog_tree.specs.Tree.{Local, local, Said, word_said, number_said}
+use Rattle.verilog_tree.specs.Tree.{Size, count, named, more, less, Two, plus, minus, times, Way, left, right}
+use Rattle.verilog_tree.specs.Tree.{Test, same, below, Logic, both, one_of, Expr, num, sized, const, name, bit, part, word}
+use Rattle.verilog_tree.specs.Tree.{cat, inverse, two, shift, test, logic, none, any, every, pick, Target, whole, word_at}
+use Rattle.verilog_tree.specs.Tree.{Stmt, skip, put, seq, branch, cases, Arms, otherwise, arm, Width, one, upto, wide}
+use Rattle.verilog_tree.specs.Tree.{Said, word_said, number_said}
 use Rattle.verilog_tree.specs.Tree as tree
 use Rattle.verilog_tree.specs.declared.tree.Extent.{Extent}
 use Rattle.verilog_tree.specs.declared.tree.Extent.TheVariants as extent
@@ -30,7 +30,6 @@ use Rattle.verilog_tree.specs.declared.tree.Cases.{Cases}
 use Rattle.verilog_tree.specs.declared.tree.Cases.TheVariants as arms
 use Rattle.verilog_tree.specs.declared.tree.Range.{Range}
 use Rattle.verilog_tree.specs.declared.tree.Range.TheVariants as range
-use Rattle.verilog_tree.specs.declared.tree.Variable.{Variable}
 use Rattle.verilog_tree.specs.declared.tree.Item.{Item}
 use Rattle.verilog_tree.specs.declared.tree.Item.TheVariants as item
 use Rattle.verilog_tree.specs.declared.tree.Margin.{Margin}
@@ -48,8 +47,6 @@ abbrev pub two_of : Operation → Two
 two_of operation.Plus = plus
 two_of operation.Minus = minus
 two_of operation.Times = times
-two_of operation.Also = also
-two_of operation.Either = either
 
 -- of shifts
 abbrev pub way_of : Direction → Way
@@ -59,7 +56,6 @@ way_of direction.Right = right
 -- of comparisons
 abbrev pub test_of : Comparison → Test
 test_of comparison.Same = same
-test_of comparison.Other = other
 test_of comparison.Below = below
 
 -- of truth values
@@ -76,7 +72,6 @@ expr_of (expression.Name x) = name (text_of x.now)
 expr_of (expression.Bit' x p e) = bit (text_of x.now) (expr_of e)
 expr_of (expression.Part x h l) = part (text_of x.now) (size_of h) (size_of l)
 expr_of (expression.Word' m p e) = word (text_of m.now) (expr_of e)
-expr_of (expression.Ones h) = ones (size_of h)
 expr_of (expression.Cat' p a q b) = cat (expr_of a) (expr_of b)
 expr_of (expression.Inverse' p a) = inverse (expr_of a)
 expr_of (expression.Two' o p a q b) = two (two_of o) (expr_of a) (expr_of b)
@@ -87,12 +82,10 @@ expr_of (expression.Not' p a) = none (expr_of a)
 expr_of (expression.Any' p a) = any (expr_of a)
 expr_of (expression.Every' p a) = every (expr_of a)
 expr_of (expression.Pick' p c q a r b) = pick (expr_of c) (expr_of a) (expr_of b)
-expr_of (expression.Call f x) = call (text_of f.now) (text_of x.now)
 
 -- what is assigned to
 abbrev pub target_of : Place → Target
 target_of (place.Whole x) = whole (text_of x.now)
-target_of (place.Bit x e) = bit_at (text_of x.now) (expr_of e)
 target_of (place.Word m e) = word_at (text_of m.now) (expr_of e)
 
 -- a part of what is said of an arm
@@ -108,7 +101,6 @@ abbrev mutual
   stmt_of (statement.Seq' p s q t) = seq (stmt_of s) (stmt_of t)
   stmt_of (statement.Branch' e p s q t) = branch (expr_of e) (stmt_of s) (stmt_of t)
   stmt_of (statement.Case' e p cs) = cases (expr_of e) (arms_of cs)
-  stmt_of (statement.Loop' i k p s) = loop (text_of i.now) (size_of k) (stmt_of s)
 
   pub arms_of : Cases → Arms
   arms_of (arms.Otherwise' p s) = otherwise (stmt_of s)
@@ -119,11 +111,6 @@ abbrev pub width_of : Range → Width
 width_of range.One = one
 width_of (range.UpTo h) = upto (size_of h)
 width_of (range.Wide k) = wide (size_of k)
-width_of range.Integer = integer
-
--- a variable of a function
-abbrev pub local_of : Variable → Local
-local_of v = local (width_of v.range) (text_of v.name.now)
 
 -- what a module consists of
 abbrev pub item_of : Item → tree.Item
@@ -136,8 +123,6 @@ item_of (item.Output w x) = tree.output (width_of w) (text_of x.now)
 item_of (item.Reg w x) = tree.reg (width_of w) (text_of x.now)
 item_of (item.Memory w x k) = tree.memory (width_of w) (text_of x.now) (size_of k)
 item_of (item.Wire w x e) = tree.wire (width_of w) (text_of x.now) (expr_of e)
-item_of (item.Function w f v x ls s) =
-    tree.function (width_of w) (text_of f.now) (width_of v) (text_of x.now) (map local_of ls.now) (stmt_of s)
 item_of (item.Settles s) = tree.settles (stmt_of s)
 item_of (item.Clocked s) = tree.clocked (stmt_of s)
 

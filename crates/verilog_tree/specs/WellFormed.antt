@@ -1,19 +1,18 @@
 -- Whether a tree is a module that the standard takes and that means what `Meaning` says; clauses are those of IEEE 1364-2005. Ports stand
 -- first. Each name is an identifier and no keyword, is declared once in the whole module, above its use, and is used as what it is declared
 -- as. A register is assigned to by one block, and a wire by its declaration alone. A block that settles sets all that it drives before
--- anything else, and reads none of that there, so that no tool makes a latch of it. A function reads parameters and its own names alone. A
--- loop counts an integer, its body doesn't assign to that, and the block of the clock has none. Sizes name parameters without a width. No
--- expression names the clock.
+-- anything else, and reads none of that there, so that no tool makes a latch of it. Sizes name parameters without a width. No expression
+-- names the clock.
 -- It doesn't ask that each number without a width is below 2 ^ 31, that a part's first bound isn't below its second, that an index lies
 -- within what it indexes (the meaning has bounds), or that a register which settles is read below its block (the laws see that).
 use Rattle.std.specs.Prelude.{ℕ, Bool, true, false, not, ◌&&◌, ◌||◌, List, [], ◌∷◌, ◌++◌, nat_eq, nat_le, nat_lt, codes}
 use Prim.Native.String.{String}
 use lib.Text.{eqt}
-use Rattle.verilog_tree.specs.Tree.{Size, count, named, more, less, Expr, num, sized, const, name, bit, part, word, ones, cat, inverse, two}
-use Rattle.verilog_tree.specs.Tree.{shift, test, logic, none, any, every, pick, call, Target, whole, bit_at, word_at, Stmt, skip, put, seq}
-use Rattle.verilog_tree.specs.Tree.{branch, cases, loop, Said, word_said, number_said, Arms, otherwise, arm, Width, one, upto, wide}
-use Rattle.verilog_tree.specs.Tree.{integer, Local, local, Item, note, gap, size, constant}
-use Rattle.verilog_tree.specs.Tree.{input, output, reg, memory, wire, function, settles, clocked}
+use Rattle.verilog_tree.specs.Tree.{Size, count, named, more, less, Expr, num, sized, const, name, bit, part, word, cat, inverse, two}
+use Rattle.verilog_tree.specs.Tree.{shift, test, logic, none, any, every, pick, Target, whole, word_at, Stmt, skip, put, seq}
+use Rattle.verilog_tree.specs.Tree.{branch, cases, Said, word_said, number_said, Arms, otherwise, arm, Width, one, upto, wide}
+use Rattle.verilog_tree.specs.Tree.{Item, note, gap, size, constant}
+use Rattle.verilog_tree.specs.Tree.{input, output, reg, memory, wire, settles, clocked}
 use Rattle.verilog_tree.specs.Meaning.{chosen}
 use Rattle.verilog_tree.specs.Print.{straight}
 
@@ -27,7 +26,6 @@ pub data Kind : Type 0 where
   an_input : Kind
   a_register : Kind
   a_wire : Kind
-  an_integer : Kind
   -- a scalar, without one
   a_bit_input : Kind
   a_bit_register : Kind
@@ -35,16 +33,13 @@ pub data Kind : Type 0 where
   -- the input `clk` of one bit
   a_clock : Kind
   a_memory : Kind
-  a_function : Kind
-  -- a name within a function, outside of it
-  inside : Kind
 
 -- a name with what it is
 pub record Entry : Type 0 where
   pub name : String
   pub kind : Kind
 
--- what may bound a width, a memory or a loop
+-- what may bound a width or a memory
 abbrev pub is_size : Kind → Bool
 is_size a_size = true
 is_size k = false
@@ -55,16 +50,10 @@ parameter a_size = true
 parameter a_constant = true
 parameter k = false
 
--- what a loop may count
-abbrev pub is_integer : Kind → Bool
-is_integer an_integer = true
-is_integer k = false
-
 -- what a block may assign to
 abbrev pub register : Kind → Bool
 register a_register = true
 register a_bit_register = true
-register an_integer = true
 register k = false
 
 -- what bits and parts may be selected of; a scalar has none (5.2.1)
@@ -72,7 +61,6 @@ abbrev pub selects : Kind → Bool
 selects an_input = true
 selects a_register = true
 selects a_wire = true
-selects an_integer = true
 selects k = false
 
 -- what an expression may name, a scalar or a vector
@@ -81,10 +69,6 @@ vector a_bit_input = true
 vector a_bit_register = true
 vector a_bit_wire = true
 vector k = selects k
-
--- a register of several bits
-abbrev pub register_of_bits : Kind → Bool
-register_of_bits k = register k && selects k
 
 -- the clock, which no expression names
 abbrev pub is_clock : Kind → Bool
@@ -95,11 +79,6 @@ is_clock k = false
 abbrev pub is_memory : Kind → Bool
 is_memory a_memory = true
 is_memory k = false
-
--- what may be called
-abbrev pub is_function : Kind → Bool
-is_function a_function = true
-is_function k = false
 
 -- a name is declared, and as one of these
 abbrev pub of_kind : (Kind → Bool) → List Entry → String → Bool
@@ -181,7 +160,6 @@ abbrev pub width_ok : List Entry → Width → Bool
 width_ok env one = true
 width_ok env (upto h) = size_ok env h
 width_ok env (wide k) = size_ok env k
-width_ok env integer = true
 
 -- the width of an expression is told by what has a width: a number without one can't stand in a concatenation, nor give a part of it its
 -- width (5.1.14)
@@ -202,7 +180,6 @@ expr_ok env (name x) = of_kind vector env x
 expr_ok env (bit x e) = of_kind selects env x && expr_ok env e
 expr_ok env (part x h l) = of_kind selects env x && (size_ok env h && size_ok env l)
 expr_ok env (word m e) = of_kind is_memory env m && expr_ok env e
-expr_ok env (ones h) = size_ok env h
 expr_ok env (cat a b) = (has_width a && has_width b) && (expr_ok env a && expr_ok env b)
 expr_ok env (inverse a) = expr_ok env a
 expr_ok env (two o a b) = expr_ok env a && expr_ok env b
@@ -213,7 +190,6 @@ expr_ok env (none a) = expr_ok env a
 expr_ok env (any a) = expr_ok env a
 expr_ok env (every a) = expr_ok env a
 expr_ok env (pick c a b) = expr_ok env c && (expr_ok env a && expr_ok env b)
-expr_ok env (call f x) = of_kind is_function env f && of_kind vector env x
 
 -- all of them do
 abbrev pub exprs_ok : List Entry → List Expr → Bool
@@ -229,7 +205,6 @@ reads_none xs (name x) = not (member x xs)
 reads_none xs (bit x e) = not (member x xs) && reads_none xs e
 reads_none xs (part x h l) = not (member x xs)
 reads_none xs (word m e) = not (member m xs) && reads_none xs e
-reads_none xs (ones h) = true
 reads_none xs (cat a b) = reads_none xs a && reads_none xs b
 reads_none xs (inverse a) = reads_none xs a
 reads_none xs (two o a b) = reads_none xs a && reads_none xs b
@@ -240,7 +215,6 @@ reads_none xs (none a) = reads_none xs a
 reads_none xs (any a) = reads_none xs a
 reads_none xs (every a) = reads_none xs a
 reads_none xs (pick c a b) = reads_none xs c && (reads_none xs a && reads_none xs b)
-reads_none xs (call f x) = not (member x xs)
 
 -- the names of both lists
 abbrev pub common : List String → List String → List String
@@ -255,7 +229,6 @@ sets_first (put t e) = []
 sets_first (seq s t) = chosen (straight s) (sets_first s ++ sets_first t) (sets_first s)
 sets_first (branch e s t) = common (sets_first s) (sets_first t)
 sets_first (cases e arms) = []
-sets_first (loop i k s) = i ∷ []
 
 -- and reads there none of these
 abbrev pub first_reads : List String → Stmt → Bool
@@ -264,12 +237,10 @@ first_reads xs (put t e) = reads_none xs e
 first_reads xs (seq s t) = first_reads xs s && chosen (straight s) (first_reads xs t) true
 first_reads xs (branch e s t) = reads_none xs e && (first_reads xs s && first_reads xs t)
 first_reads xs (cases e arms) = true
-first_reads xs (loop i k s) = true
 
 -- what an assignment assigns to
 abbrev pub target_name : Target → String
 target_name (whole x) = x
-target_name (bit_at x e) = x
 target_name (word_at m e) = m
 
 -- no assignment to x
@@ -280,7 +251,6 @@ abbrev mutual
   spares x (seq s t) = spares x s && spares x t
   spares x (branch e s t) = spares x s && spares x t
   spares x (cases e arms) = spares_arms x arms
-  spares x (loop i k s) = not (eqt i x) && spares x s
 
   pub spares_arms : String → Arms → Bool
   spares_arms x (otherwise s) = spares x s
@@ -289,7 +259,6 @@ abbrev mutual
 -- an assignment to one of these, as what it is
 abbrev pub target_ok : List Entry → List String → Target → Bool
 target_ok env mine (whole x) = of_kind register env x && member x mine
-target_ok env mine (bit_at x e) = of_kind register_of_bits env x && (member x mine && expr_ok env e)
 target_ok env mine (word_at m e) = of_kind is_memory env m && (member m mine && expr_ok env e)
 
 -- a statement of a block that drives `mine`
@@ -300,13 +269,12 @@ abbrev mutual
   stmt_ok env mine (seq s t) = stmt_ok env mine s && stmt_ok env mine t
   stmt_ok env mine (branch e s t) = expr_ok env e && (stmt_ok env mine s && stmt_ok env mine t)
   stmt_ok env mine (cases e arms) = expr_ok env e && arms_ok env mine arms
-  stmt_ok env mine (loop i k s) = of_kind is_integer env i && (member i mine && (size_ok env k && (spares i s && stmt_ok env mine s)))
 
   pub arms_ok : List Entry → List String → Arms → Bool
   arms_ok env mine (otherwise s) = stmt_ok env mine s
   arms_ok env mine (arm es s c arms) = (exprs_ok env es && (stmt_ok env mine s && said_ok c)) && arms_ok env mine arms
 
--- what a block of the clock assigns to; it has no loop
+-- what a block of the clock assigns to
 abbrev mutual
   pub targets : Stmt → List String
   targets skip = []
@@ -314,20 +282,13 @@ abbrev mutual
   targets (seq s t) = targets s ++ targets t
   targets (branch e s t) = targets s ++ targets t
   targets (cases e arms) = targets_in arms
-  targets (loop i k s) = []
 
   pub targets_in : Arms → List String
   targets_in (otherwise s) = targets s
   targets_in (arm es s c arms) = targets s ++ targets_in arms
 
--- the parameters among what is declared
-abbrev pub parameters : List Entry → List Entry
-parameters [] = []
-parameters (e ∷ env) = chosen (parameter e.kind) (e ∷ parameters env) (parameters env)
-
 -- a variable of this width
 abbrev pub kind_of : Width → Kind
-kind_of integer = an_integer
 kind_of one = a_bit_register
 kind_of w = a_register
 
@@ -335,26 +296,6 @@ kind_of w = a_register
 abbrev pub wire_kind : Width → Kind
 wire_kind one = a_bit_wire
 wire_kind w = a_wire
-
--- the variables of a function, as its body sees them
-abbrev pub with_locals : List Local → List Entry → List Entry
-with_locals [] env = env
-with_locals (local w x ∷ ls) env = with_locals ls (record { name = x; kind = kind_of w } ∷ env)
-
--- and as the rest of the module sees them
-abbrev pub with_hidden : List Local → List Entry → List Entry
-with_hidden [] env = env
-with_hidden (local w x ∷ ls) env = with_hidden ls (record { name = x; kind = inside } ∷ env)
-
--- each variable of a function has a new name
-abbrev pub locals_ok : List Entry → List Local → Bool
-locals_ok env [] = true
-locals_ok env (local w x ∷ ls) = (new env x && width_ok env w) && locals_ok (record { name = x; kind = inside } ∷ env) ls
-
--- their names
-abbrev pub local_names : List Local → List String
-local_names [] = []
-local_names (local w x ∷ ls) = x ∷ local_names ls
 
 -- an input of this width
 abbrev pub input_kind : Width → String → Kind
@@ -376,7 +317,6 @@ declared env (output w x) = declare (kind_of w) x env
 declared env (reg w x) = declare (kind_of w) x env
 declared env (memory w x k) = declare a_memory x env
 declared env (wire w x e) = declare (wire_kind w) x env
-declared env (function w f v y ls s) = with_hidden ls (declare inside y (declare a_function f env))
 declared env (settles s) = env
 declared env (clocked s) = env
 
@@ -385,11 +325,6 @@ abbrev pub driven : List String → Item → List String
 driven ds (settles s) = sets_first s ++ ds
 driven ds (clocked s) = targets s ++ ds
 driven ds i = ds
-
--- the width of a vector that isn't an integer, and of a constant, whose bits are a number
-abbrev pub plain_width : Width → Bool
-plain_width integer = false
-plain_width w = true
 
 -- a width that is a number
 abbrev pub number_width : Width → Bool
@@ -404,15 +339,11 @@ item_ok env ds (note s) = one_line (codes s)
 item_ok env ds gap = true
 item_ok env ds (size x n) = new env x
 item_ok env ds (constant w x n) = new env x && number_width w
-item_ok env ds (input w x) = new env x && (plain_width w && width_ok env w)
-item_ok env ds (output w x) = new env x && (plain_width w && width_ok env w)
+item_ok env ds (input w x) = new env x && width_ok env w
+item_ok env ds (output w x) = new env x && width_ok env w
 item_ok env ds (reg w x) = new env x && width_ok env w
-item_ok env ds (memory w x k) = new env x && ((plain_width w && width_ok env w) && size_ok env k)
-item_ok env ds (wire w x e) = new env x && ((plain_width w && width_ok env w) && expr_ok env e)
-item_ok env ds (function w f v y ls s) =
-    ((new env f && (plain_width w && width_ok env w)) && (new (declare a_function f env) y && (plain_width v && width_ok env v)))
-    && (locals_ok (declare inside y (declare a_function f env)) ls
-    && stmt_ok (with_locals ls (declare (wire_kind v) y (declare (kind_of w) f (parameters env)))) (f ∷ local_names ls) s)
+item_ok env ds (memory w x k) = new env x && (width_ok env w && size_ok env k)
+item_ok env ds (wire w x e) = new env x && (width_ok env w && expr_ok env e)
 item_ok env ds (settles s) = (apart (sets_first s) ds && first_reads (sets_first s) s) && stmt_ok env (sets_first s) s
 item_ok env ds (clocked s) = (of_kind is_clock env "clk" && apart (targets s) ds) && stmt_ok env (targets s) s
 

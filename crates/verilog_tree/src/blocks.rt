@@ -1,16 +1,15 @@
 //! The text of statements.
 
 ghost use Rattle.std.specs.Prelude.{◌≡◌, ◌++◌, OnOk, codes, map, suc, false};
-ghost use Rattle.verilog_tree.specs.Names.{text_of};
 ghost use Rattle.verilog_tree.specs.Print.{straight};
-ghost use Rattle.verilog_tree.specs.Print.{indent, size_text, expr_text, more_labels, labels_text};
+ghost use Rattle.verilog_tree.specs.Print.{indent, expr_text, more_labels, labels_text};
 ghost use Rattle.verilog_tree.specs.Print.{part_text, parts_text, said_text, flat_text};
-ghost use Rattle.verilog_tree.specs.Print.{put_text, twice, turns_text, next_text, arm_block, arm_text};
+ghost use Rattle.verilog_tree.specs.Print.{put_text, arm_block, arm_text};
 ghost use Rattle.verilog_tree.specs.Print.{is_skip, else_text, stmt_text, arms_text};
-ghost use Rattle.verilog_tree.specs.Views.{size_of, expr_of, target_of, said_of, stmt_of, arms_of, levels_of};
+ghost use Rattle.verilog_tree.specs.Views.{expr_of, target_of, said_of, stmt_of, arms_of, levels_of};
 
-use crate::print::{push_expression, push_extent, push_name, push_number, push_put};
-use crate::tree::{Cases, Expression, Extent, Margin, Place, Remark, Statement};
+use crate::print::{push_expression, push_name, push_number, push_put};
+use crate::tree::{Cases, Expression, Margin, Place, Remark, Statement};
 use std::alloc::AllocError;
 
 /// Appends the start of a line.
@@ -295,61 +294,6 @@ fn push_case(
     text.extend_from_slice(b"endcase\n")
 }
 
-/// Appends a name, a text and the name again.
-#[tactic(auto, unfolding(crate::specs::Print::twice))]
-fn push_twice(text: &mut Vec<u8>, name: &[u8], between: &[u8]) -> Result<(), AllocError>
-    ensures { OnOk result (text.new.items ≡ text.old.items ++ twice (text_of name.now) between.now) }
-{
-    push_name(text, name)?;
-    text.extend_from_slice(between)?;
-    push_name(text, name)
-}
-
-/// Appends the head of a loop: where its index begins and ends.
-#[tactic(auto, unfolding(crate::specs::Print::turns_text))]
-fn push_turns(text: &mut Vec<u8>, index: &[u8], turns: &Extent) -> Result<(), AllocError>
-    ensures { OnOk result (text.new.items ≡ text.old.items ++ turns_text (text_of index.now) (size_of turns.now)) }
-{
-    text.extend_from_slice(b"for (")?;
-    push_twice(text, index, b" = 0; ")?;
-    text.extend_from_slice(b" < ")?;
-    push_extent(text, turns)
-}
-
-/// Appends how a loop goes on.
-#[tactic(auto, unfolding(crate::specs::Print::next_text))]
-fn push_next(text: &mut Vec<u8>, index: &[u8]) -> Result<(), AllocError>
-    ensures { OnOk result (text.new.items ≡ text.old.items ++ next_text (text_of index.now)) }
-{
-    text.extend_from_slice(b"; ")?;
-    push_twice(text, index, b" = ")?;
-    text.extend_from_slice(b" + 1) begin\n")?;
-    Ok(())
-}
-
-/// Appends a loop.
-#[cycle(statement)]
-fn push_loop(
-    text: &mut Vec<u8>,
-    sign: &[u8],
-    margin: &Margin,
-    index: &[u8],
-    turns: &Extent,
-    s: &Statement,
-) -> Result<(), AllocError>
-    ensures { OnOk result (text.new.items ≡ text.old.items ++ (indent (levels_of margin.now)
-        ++ (turns_text (text_of index.now) (size_of turns.now) ++ (next_text (text_of index.now)
-        ++ (stmt_text sign.now (suc (levels_of margin.now)) (stmt_of s.now)
-        ++ (indent (levels_of margin.now) ++ codes "end\n")))))) }
-{
-    push_indent(text, margin)?;
-    push_turns(text, index, turns)?;
-    push_next(text, index)?;
-    push_statement(text, sign, &Margin::Within(&*margin), s)?;
-    push_indent(text, margin)?;
-    text.extend_from_slice(b"end\n")
-}
-
 /// Appends an assignment on a line of its own.
 fn push_line(
     text: &mut Vec<u8>,
@@ -389,6 +333,5 @@ pub fn push_statement(
         }
         Statement::Branch(e, a, b) => push_branch(text, sign, margin, e, a, b),
         Statement::Case(e, arms) => push_case(text, sign, margin, e, arms),
-        Statement::Loop(index, turns, body) => push_loop(text, sign, margin, index, turns, body),
     }
 }

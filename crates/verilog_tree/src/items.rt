@@ -2,13 +2,13 @@
 
 ghost use Rattle.std.specs.Prelude.{◌≡◌, ◌++◌, OnOk, codes, decimal, map, false};
 ghost use Rattle.verilog_tree.specs.Names.{text_of};
-ghost use Rattle.verilog_tree.specs.Print.{width_text, bits_text, reg_text, locals_text, item_text, items_text, expr_text};
+ghost use Rattle.verilog_tree.specs.Print.{width_text, bits_text, item_text, items_text, expr_text};
 ghost use Rattle.verilog_tree.specs.Print.{size_text, port_text, is_port, more_ports, ports_text, stmt_text};
-ghost use Rattle.verilog_tree.specs.Views.{expr_of, size_of, stmt_of, width_of, local_of, item_of};
+ghost use Rattle.verilog_tree.specs.Views.{expr_of, size_of, stmt_of, width_of, item_of};
 
 use crate::blocks::push_statement;
 use crate::print::{push_expression, push_extent, push_name, push_number, push_wide};
-use crate::tree::{Expression, Extent, Item, Margin, Range, Statement, Variable};
+use crate::tree::{Expression, Extent, Item, Margin, Range, Statement};
 use std::alloc::AllocError;
 
 /// Appends a declared width.
@@ -27,7 +27,6 @@ fn push_range(text: &mut Vec<u8>, range: &Range) -> Result<(), AllocError>
             push_extent(text, wide)?;
             text.extend_from_slice(b"-1:0] ")
         }
-        Range::Integer => Ok(()),
     }
 }
 
@@ -41,32 +40,6 @@ fn push_bits(text: &mut Vec<u8>, range: &Range) -> Result<(), AllocError>
         Range::Wide(Extent::Count(n)) => push_number(text, *n),
         _ => text.extend_from_slice(b"32"),
     }
-}
-
-/// Appends the declaration of a register.
-fn push_reg(text: &mut Vec<u8>, range: &Range, name: &[u8]) -> Result<(), AllocError>
-    ensures { OnOk result (text.new.items ≡ text.old.items ++ reg_text (width_of range.now) (text_of name.now)) }
-{
-    match range {
-        Range::Integer => text.extend_from_slice(b"integer ")?,
-        _ => {
-            text.extend_from_slice(b"reg ")?;
-            push_range(text, range)?;
-        }
-    }
-    push_name(text, name)?;
-    text.extend_from_slice(b";\n")
-}
-
-/// Appends the variables of a function.
-fn push_variables(text: &mut Vec<u8>, variables: &[Variable]) -> Result<(), AllocError>
-    ensures { OnOk result (text.new.items ≡ text.old.items ++ locals_text (map local_of variables.now)) }
-{
-    for variable in variables {
-        text.extend_from_slice(b"    ")?;
-        push_reg(text, &variable.range, variable.name)?;
-    }
-    Ok(())
 }
 
 /// Appends a comment.
@@ -135,19 +108,6 @@ fn push_driver(text: &mut Vec<u8>, e: &Expression) -> Result<(), AllocError>
     text.extend_from_slice(b";\n")
 }
 
-/// Appends the end of a function: its variables and its body.
-fn push_body(text: &mut Vec<u8>, variables: &[Variable], body: &Statement) -> Result<(), AllocError>
-    ensures { OnOk result (text.new.items ≡ text.old.items ++ (codes ");\n" ++ (locals_text (map local_of variables.now)
-        ++ (codes "    begin\n" ++ (stmt_text (codes " = ") 3 (stmt_of body.now) ++ codes "    end\n  endfunction\n"))))) }
-{
-    text.extend_from_slice(b");\n")?;
-    push_variables(text, variables)?;
-    text.extend_from_slice(b"    begin\n")?;
-    let two = Margin::Within(&Margin::Within(&Margin::Edge));
-    push_statement(text, b" = ", &Margin::Within(&two), body)?;
-    text.extend_from_slice(b"    end\n  endfunction\n")
-}
-
 /// Appends a block with its first line and this sign of assignment.
 fn push_always(
     text: &mut Vec<u8>,
@@ -187,8 +147,8 @@ pub fn push_item(text: &mut Vec<u8>, item: &Item) -> Result<(), AllocError>
         Item::Input(_, _) => Ok(()),
         Item::Output(_, _) => Ok(()),
         Item::Reg(range, name) => {
-            text.extend_from_slice(b"  ")?;
-            push_reg(text, range, name)
+            push_declared(text, b"  reg ", range, name)?;
+            text.extend_from_slice(b";\n")
         }
         Item::Memory(range, name, words) => {
             push_declared(text, b"  reg ", range, name)?;
@@ -197,11 +157,6 @@ pub fn push_item(text: &mut Vec<u8>, item: &Item) -> Result<(), AllocError>
         Item::Wire(range, name, e) => {
             push_declared(text, b"  wire ", range, name)?;
             push_driver(text, e)
-        }
-        Item::Function(range, name, input_range, input, variables, body) => {
-            push_declared(text, b"  function ", range, name)?;
-            push_declared(text, b"(input ", input_range, input)?;
-            push_body(text, variables, body)
         }
         Item::Settles(body) => push_always(text, b"  always @* begin\n", b" = ", body),
         Item::Clocked(body) => push_always(text, b"  always @(posedge clk) begin\n", b" <= ", body),

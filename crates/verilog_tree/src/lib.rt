@@ -19,5 +19,5 @@ pub use laws::{law_example_module, law_spared};
 pub use print::push_expression;
 pub use tree::{
     Cases, Comparison, Connective, Direction, Expression, Extent, Item, Margin, Operation, Place,
-    Range, Remark, Statement, Variable,
+    Range, Remark, Statement,
 };

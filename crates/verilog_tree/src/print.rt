@@ -86,8 +86,6 @@ fn two_sign(operation: Operation) -> &'static [u8]
         Operation::Plus => b" + ",
         Operation::Minus => b" - ",
         Operation::Times => b" * ",
-        Operation::Also => b" & ",
-        Operation::Either => b" | ",
     }
 }
 
@@ -107,7 +105,6 @@ fn test_sign(comparison: Comparison) -> &'static [u8]
 {
     match comparison {
         Comparison::Same => b" == ",
-        Comparison::Other => b" != ",
         Comparison::Below => b" < ",
     }
 }
@@ -142,26 +139,6 @@ fn push_part(text: &mut Vec<u8>, name: &[u8], high: &Extent, low: &Extent) -> Re
     text.extend_from_slice(b":")?;
     push_extent(text, low)?;
     text.extend_from_slice(b"]")
-}
-
-/// Appends so many ones.
-fn push_ones(text: &mut Vec<u8>, high: &Extent) -> Result<(), AllocError>
-    ensures { OnOk result (text.new.items ≡ text.old.items ++ (codes "{" ++ (size_text (size_of high.now) ++ codes "+1{1'b1}}"))) }
-{
-    text.extend_from_slice(b"{")?;
-    push_extent(text, high)?;
-    text.extend_from_slice(b"+1{1'b1}}")
-}
-
-/// Appends a call.
-fn push_call(text: &mut Vec<u8>, function: &[u8], input: &[u8]) -> Result<(), AllocError>
-    ensures { OnOk result (text.new.items ≡ text.old.items
-        ++ (codes (text_of function.now) ++ (codes "(" ++ (codes (text_of input.now) ++ codes ")")))) }
-{
-    push_name(text, function)?;
-    text.extend_from_slice(b"(")?;
-    push_name(text, input)?;
-    text.extend_from_slice(b")")
 }
 
 /// Appends a bit of a vector, or a word of a memory.
@@ -263,7 +240,6 @@ pub fn push_expression(text: &mut Vec<u8>, operand: bool, e: &Expression) -> Res
         Expression::Bit(x, place) => push_at(text, x, place),
         Expression::Part(x, high, low) => push_part(text, x, high, low),
         Expression::Word(x, place) => push_at(text, x, place),
-        Expression::Ones(high) => push_ones(text, high),
         Expression::Cat(a, b) => push_cat(text, a, b),
         Expression::Inverse(a) => push_one(text, operand, b"~", a),
         Expression::Two(o, a, b) => push_two(text, operand, a, two_sign(*o), b),
@@ -274,7 +250,6 @@ pub fn push_expression(text: &mut Vec<u8>, operand: bool, e: &Expression) -> Res
         Expression::Any(a) => push_one(text, operand, b"|", a),
         Expression::Every(a) => push_one(text, operand, b"&", a),
         Expression::Pick(c, a, b) => push_pick(text, operand, c, a, b),
-        Expression::Call(f, x) => push_call(text, f, x),
     }
 }
 
@@ -284,7 +259,6 @@ fn push_place(text: &mut Vec<u8>, place: &Place) -> Result<(), AllocError>
 {
     match place {
         Place::Whole(x) => push_name(text, x),
-        Place::Bit(x, e) => push_at(text, x, e),
         Place::Word(x, e) => push_at(text, x, e),
     }
 }

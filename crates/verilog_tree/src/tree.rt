@@ -3,7 +3,7 @@
 //! A name is a list of bytes. A tree that is the same for all programs is a constant, and is handed out by value. `specs/Views.antt` says
 //! which tree each of these stands for.
 
-/// A constant expression, for widths, places of bits and bounds of loops.
+/// A constant expression, for widths and places of bits.
 #[derive(Clone, Copy)]
 pub enum Extent<'a> {
     /// 8
@@ -25,10 +25,6 @@ pub enum Operation {
     Minus,
     /// *
     Times,
-    /// &
-    Also,
-    /// |
-    Either,
 }
 
 /// Shifts.
@@ -45,8 +41,6 @@ pub enum Direction {
 pub enum Comparison {
     /// ==
     Same,
-    /// !=
-    Other,
     /// <
     Below,
 }
@@ -77,8 +71,6 @@ pub enum Expression<'a> {
     Part(&'a [u8], Extent<'a>, Extent<'a>),
     /// m[e], a word of a memory.
     Word(&'a [u8], &'a Expression<'a>),
-    /// {H+1{1'b1}}
-    Ones(Extent<'a>),
     /// {a, b}
     Cat(&'a Expression<'a>, &'a Expression<'a>),
     /// ~a
@@ -99,8 +91,6 @@ pub enum Expression<'a> {
     Every(&'a Expression<'a>),
     /// a ? b : c
     Pick(&'a Expression<'a>, &'a Expression<'a>, &'a Expression<'a>),
-    /// f(x), where x is a vector.
-    Call(&'a [u8], &'a [u8]),
 }
 
 /// What is assigned to.
@@ -108,8 +98,6 @@ pub enum Expression<'a> {
 pub enum Place<'a> {
     /// x
     Whole(&'a [u8]),
-    /// x[e]
-    Bit(&'a [u8], Expression<'a>),
     /// m[e], a word of a memory.
     Word(&'a [u8], Expression<'a>),
 }
@@ -137,8 +125,6 @@ pub enum Statement<'a> {
     Branch(Expression<'a>, &'a Statement<'a>, &'a Statement<'a>),
     /// case (e) .. endcase
     Case(Expression<'a>, &'a Cases<'a>),
-    /// for (i = 0; i < K; i = i + 1) s
-    Loop(&'a [u8], Extent<'a>, &'a Statement<'a>),
 }
 
 /// The arms of a case, in their order.
@@ -160,15 +146,6 @@ pub enum Range<'a> {
     UpTo(Extent<'a>),
     /// [K-1:0]
     Wide(Extent<'a>),
-    /// `integer`, of 32 bits.
-    Integer,
-}
-
-/// A variable of a function: its width and its name.
-#[derive(Clone, Copy)]
-pub struct Variable<'a> {
-    pub range: Range<'a>,
-    pub name: &'a [u8],
 }
 
 /// What a module consists of.
@@ -186,14 +163,12 @@ pub enum Item<'a> {
     Input(Range<'a>, &'a [u8]),
     /// output reg x
     Output(Range<'a>, &'a [u8]),
-    /// reg x; or integer x;
+    /// reg x;
     Reg(Range<'a>, &'a [u8]),
     /// reg w m [0:K-1];
     Memory(Range<'a>, &'a [u8], Extent<'a>),
     /// wire x = e;
     Wire(Range<'a>, &'a [u8], Expression<'a>),
-    /// function w f(input w x); s endfunction
-    Function(Range<'a>, &'a [u8], Range<'a>, &'a [u8], &'a [Variable<'a>], Statement<'a>),
     /// always @* s
     Settles(Statement<'a>),
     /// always @(posedge clk) s

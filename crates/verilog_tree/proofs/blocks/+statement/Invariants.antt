@@ -15,9 +15,6 @@ decreases-push_else l = 4 * stmt_weight (stmt_of l.s.now) + 1
 abbrev pub decreases-push_case : goal.decreases-push_case
 decreases-push_case l = 4 * arms_weight (arms_of l.arms.now) + 1
 
-abbrev pub decreases-push_loop : goal.decreases-push_loop
-decreases-push_loop l = 4 * stmt_weight (stmt_of l.s.now) + 1
-
 abbrev pub decreases-push_arms : goal.decreases-push_arms
 decreases-push_arms l = 4 * arms_weight (arms_of l.arms.now)
 
