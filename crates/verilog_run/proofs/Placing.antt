@@ -1,15 +1,21 @@
--- What an assignment writes, where its place and its number are known.
-use Rattle.std.proofs.Common.{◌≡◌, ◌∙◌, ℕ, ap}
-use Rattle.verilog_tree.specs.Tree.{Target, whole, bit_at, word_at, Expr}
-use Rattle.verilog_tree.specs.Meaning.{Scope, Store, write, set_vec, set_word, with_bit_in, own}
-use Rattle.verilog_run.specs.Parts.{index_of, number_for, placed}
+-- What an assignment writes past the end.
+use Rattle.std.proofs.Common.{◌≡◌, ◌∙◌, ◌≤◌, ℕ, Bool, true, false, ◌&&◌, refl, sym, ap, nat_eq, nat_lt, le-ltb}
+use Rattle.std.proofs.Math.Path.{fun_ext}
+use Prim.Native.String.{String}
+use lib.Text.{eqt}
+use Rattle.verilog_tree.specs.Meaning.{Store, chosen, set_word}
 
--- it is what the meaning's assignment writes
-pub placed_is : (P : Scope) (R S : Store) (t : Target) (e : Expr) (i n : ℕ) (new : Store) → i ≡ index_of P R t → n ≡ number_for P R t e →
-    new ≡ placed P t i n S → new ≡ write P R t e S
-placed_is P R S (whole x) e i n new p q h = h ∙ ap (λ m. set_vec x m S) q
-placed_is P R S (bit_at x j) e i n new p q h =
-    h ∙ ap (λ k. set_vec x (with_bit_in (P.width x) (S.vec x) k n) S) p
-    ∙ ap (λ m. set_vec x (with_bit_in (P.width x) (S.vec x) (own P R j) m) S) q
-placed_is P R S (word_at m j) e i n new p q h =
-    h ∙ ap (λ k. set_word m (P.words m) k n S) p ∙ ap (λ k. set_word m (P.words m) (own P R j) k S) q
+-- what is past the end of a memory isn't written
+pub word_past : (S : Store) (x : String) (w i n : ℕ) → w ≤ i → S ≡ set_word x w i n S
+word_past S x w i n l = ap with_words (fun_ext (λ y. fun_ext (λ j. sym (ap (λ b. chosen b n (S.mem y j)) (none y j)))))
+  where
+    with_words : (String → ℕ → ℕ) → Store
+    with_words f = record S { mem = f }
+
+    never : (a b : Bool) → (a && (b && false)) ≡ false
+    never true true = refl
+    never true false = refl
+    never false b = refl
+
+    none : (y : String) (j : ℕ) → (eqt x y && (nat_eq i j && nat_lt i w)) ≡ false
+    none y j = ap (λ b. eqt x y && (nat_eq i j && b)) (le-ltb i w l) ∙ never (eqt x y) (nat_eq i j)

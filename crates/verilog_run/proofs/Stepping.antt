@@ -1,9 +1,10 @@
 -- What statements and items do, by what their parts do.
-use Rattle.std.proofs.Common.{◌≡◌, ◌∙◌, ◌≤◌, ◌-◌, ℕ, suc, Bool, true, false, List}
+use Rattle.std.proofs.Common.{◌≡◌, ◌∙◌, ◌≤◌, ◌<◌, ◌+◌, ◌-◌, ℕ, zero, suc, Bool, true, false, List}
 use Rattle.std.proofs.Common.{[], ◌∷◌, map, length, take, drop, get_or, refl, sym, ap, arith}
 use Rattle.verilog_tree.specs.Tree.{Expr, Stmt, Said, Arms, arm, cases, Item}
 use Rattle.verilog_tree.specs.Meaning.{Scope, Store, chosen, bits, value, labelled, widest_arm, run, run_arms, fire, fire_arms}
-use Rattle.verilog_tree.specs.Meaning.{settled, clocked_in}
+use Rattle.verilog_tree.specs.Meaning.{settled, clocked_in, edge}
+use Rattle.verilog_run.specs.Clocking.{edges}
 
 -- the first arm has the number
 pub run_taken : (P : Scope) (S new : Store) (w n : ℕ) (es : List Expr) (s : Stmt) (c : List Said) (rest arms : Arms) (b : Bool) →
@@ -64,3 +65,13 @@ pub clock_more : {A : Type 0} (f : A → Item) (P : Scope) (xs : List A) (x : A)
     new ≡ clocked_in P (map f (take (length xs - 1) (drop 1 xs))) R mid → new ≡ clocked_in P (map f xs) R S
 clock_more f P xs x R S mid new l e one rest =
     rest ∙ one (map f (take (length xs - 1) (drop 1 xs))) ∙ sym (ap (λ ys. clocked_in P (map f ys) R S) (split xs x l e))
+
+-- no edge is left, and one edge less is left
+pub edge_step : (is : List Item) (n count : ℕ) (old new S : Store) → n < count → new ≡ edge is old →
+    edges (count - n) is old ≡ S → edges (count - (n + 1)) is new ≡ S
+edge_step is n count old new S l e h =
+    let d : count - n ≡ suc (count - (n + 1)) = omega arith in
+    ap (λ T. edges (count - (n + 1)) is T) e ∙ sym (ap (λ k. edges k is old) d) ∙ h
+
+pub edges_done : (is : List Item) (n count : ℕ) (old S : Store) → count ≤ n → edges (count - n) is old ≡ S → old ≡ S
+edges_done is n count old S l h = let d : count - n ≡ zero = omega arith in sym (ap (λ k. edges k is old) d) ∙ h

@@ -4,7 +4,7 @@ pub mod Held
 pub mod Clocking
 -- What a list of cells holds.
 pub mod Entries
--- What a part of a module sees of its declarations.
+-- What the items of a module declare.
 pub mod Scopes
 -- The numbers of parameters.
 pub mod Parameters

@@ -1,91 +1,89 @@
 //! What assignments write.
 
-ghost use Rattle.std.specs.Prelude.{◌≡◌, ◌^◌, ◌<◌, OnOk};
-ghost use Rattle.verilog_tree.specs.Meaning.{set_vec};
-ghost use Rattle.verilog_tree.specs.Meaning.{set_word as set_word_in, with_bit_in};
-ghost use Rattle.verilog_run.specs.Parts.{placed};
+ghost use Rattle.std.specs.Prelude.{◌≡◌, OnOk};
+ghost use Rattle.verilog_tree.specs.Meaning.{set_word as set_word_in, write as write_of};
 ghost use Rattle.verilog_tree.specs.Names.{text_of};
-ghost use Rattle.verilog_tree.specs.Views.{target_of};
+ghost use Rattle.verilog_tree.specs.Views.{expr_of, target_of};
 ghost use Rattle.verilog_run.specs.Held.{held};
 ghost use Rattle.verilog_run.specs.Scopes.{scope_of};
 
 use crate::contents::Contents;
-use crate::declared::{Declared, width, words};
+use crate::declared::words;
+use crate::value::{assigned, own};
 use std::alloc::{AllocError, Global};
-use verilog_tree::Place;
-use wide_numbers::{Number, with_bit_at};
-
-/// A vector with a bit as told, where it has that bit.
-fn set_bit(
-    alloc: Global,
-    store: &mut Contents,
-    name: &[u8],
-    w: usize,
-    at: &Number,
-    bit: &Number,
-) -> Result<(), AllocError>
-    requires { w < 2 ^ 62 }
-    ensures { OnOk result (held store.new
-        ≡ set_vec (text_of name.now) (with_bit_in w ((held store.old).vec (text_of name.now)) at.now bit.now) (held store.old)) }
-{
-    let old = store.vector(alloc, name)?;
-    match at.within(w) {
-        Some(i) => {
-            let new = with_bit_at(alloc, &old, i, bit)?;
-            store.set_vector(alloc, name, new)?;
-            Ok(())
-        }
-        None => {
-            store.set_vector(alloc, name, old)?;
-            Ok(())
-        }
-    }
-}
+use verilog_tree::{Expression, Item, Place};
+use wide_numbers::Number;
 
 /// A word of a memory, where it has that word.
 fn set_word(
     alloc: Global,
+    items: &[Item<'_>],
     store: &mut Contents,
     name: &[u8],
-    words: usize,
     at: &Number,
     number: Number,
 ) -> Result<(), AllocError>
-    ensures { OnOk result (held store.new ≡ set_word_in (text_of name.now) words at.now number (held store.old)) }
+    ensures { OnOk result (held store.new
+        ≡ set_word_in (text_of name.now) ((scope_of items.now).words (text_of name.now)) at.now number (held store.old)) }
 {
-    match at.within(words) {
+    let count = words(items, name)?;
+    match at.within(count) {
         Some(i) => {
-            store.set_word(alloc, name, words, i, number)?;
+            store.set_word(alloc, name, count, i, number)?;
             Ok(())
         }
         None => Ok(()),
     }
 }
 
-/// What an assignment writes.
-pub(crate) fn write(
+/// An assignment of a block that settles.
+pub(crate) fn assign(
     alloc: Global,
-    declared: &Declared<'_>,
+    items: &[Item<'_>],
     store: &mut Contents,
     place: &Place<'_>,
-    at: &Number,
-    number: Number,
+    e: &Expression<'_>,
 ) -> Result<(), AllocError>
-    ensures { OnOk result (held store.new ≡ placed (scope_of declared.now) (target_of place.now) at.now number (held store.old)) }
+    ensures { OnOk result (held store.new
+        ≡ write_of (scope_of items.now) (held store.old) (target_of place.now) (expr_of e.now) (held store.old)) }
 {
     match place {
         Place::Whole(x) => {
+            let number = assigned(alloc, items, store, x, e)?;
             store.set_vector(alloc, x, number)?;
             Ok(())
         }
-        Place::Bit(x, _) => {
-            let w = width(declared, x)?;
-            set_bit(alloc, store, x, w, at, &number)?;
+        Place::Word(m, i) => {
+            let at = own(alloc, items, store, i)?;
+            let number = assigned(alloc, items, store, m, e)?;
+            set_word(alloc, items, store, m, &at, number)?;
             Ok(())
         }
-        Place::Word(m, _) => {
-            let count = words(declared, m)?;
-            set_word(alloc, store, m, count, at, number)?;
+    }
+}
+
+/// An assignment of the clock's block, which reads all as it was before.
+pub(crate) fn assign_next(
+    alloc: Global,
+    items: &[Item<'_>],
+    read: &Contents,
+    store: &mut Contents,
+    place: &Place<'_>,
+    e: &Expression<'_>,
+) -> Result<(), AllocError>
+    ensures { OnOk result (held store.new
+        ≡ write_of (scope_of items.now) (held read.now) (target_of place.now) (expr_of e.now) (held store.old)) }
+{
+    match place {
+        Place::Whole(x) => {
+            let number = assigned(alloc, items, read, x, e)?;
+            store.set_vector(alloc, x, number)?;
+            Ok(())
+        }
+        Place::Word(m, i) => {
+            let at = own(alloc, items, read, i)?;
+            let number = assigned(alloc, items, read, m, e)?;
+            set_word(alloc, items, store, m, &at, number)?;
             Ok(())
         }
     }

@@ -1,26 +1,18 @@
 //! What a module declares.
 
 ghost use Rattle.verilog_run.specs.Scopes.{scope_of};
-ghost use Rattle.verilog_run.specs.Parts.{made_by};
 ghost use Rattle.std.specs.Prelude.{suc, max, ◌≡◌, ℕ, ◌<◌, ◌^◌, ◌+◌, ◌-◌, List, ◌∷◌, map, IfOk, IfSome, IfNone};
 ghost use Rattle.verilog_tree.specs.Tree as tree;
 ghost use Rattle.verilog_tree.specs.Meaning.{param_in, width_in, words_in, width_of as bits_of, amount as amount_of, named_here};
-ghost use Rattle.verilog_tree.specs.Meaning.{local_width, bits as own_bits, Scope, Store, result_in};
+ghost use Rattle.verilog_tree.specs.Meaning.{bits as own_bits};
 ghost use Rattle.verilog_tree.specs.Meaning.{widest as widest_of, widest_arm as widest_in};
 ghost use Rattle.verilog_run.specs.Parameters.{Parameters};
 ghost use Rattle.verilog_tree.specs.Names.{text_of};
-ghost use Rattle.verilog_tree.specs.Views.{arms_of, expr_of, item_of, local_of, size_of, width_of};
+ghost use Rattle.verilog_tree.specs.Views.{arms_of, expr_of, item_of, size_of, width_of};
 
 use crate::names::same_name;
 use std::alloc::AllocError;
-use verilog_tree::{Cases, Expression, Extent, Item, Range, Statement, Variable};
-
-/// What a part of a module sees: its items, and whether it stands inside a function.
-#[derive(Clone, Copy)]
-pub(crate) struct Declared<'a> {
-    pub(crate) items: &'a [Item<'a>],
-    pub(crate) inside: bool,
-}
+use verilog_tree::{Cases, Expression, Extent, Item, Range};
 
 /// The number of a parameter, if an item declares it.
 fn param_here(item: &Item<'_>, name: &[u8]) -> Option<u128>
@@ -138,24 +130,6 @@ pub fn range_bits(items: &[Item<'_>], range: &Range<'_>) -> Result<usize, AllocE
             next(n)
         }
         Range::Wide(k) => amount(items, k),
-        Range::Integer => Ok(32),
-    }
-}
-
-/// The declared width of a name, where a variable of these has it.
-fn variable_range<'a>(variables: &[Variable<'a>], name: &[u8]) -> Option<Range<'a>>
-    ensures some { IfSome result (λ w. (p : Parameters) (n : ℕ) →
-        bits_of p (width_of w) ≡ local_width p (map local_of variables.now) (text_of name.now) n) }
-    ensures none { IfNone result ((p : Parameters) (n : ℕ) → n ≡ local_width p (map local_of variables.now) (text_of name.now) n) }
-{
-    match variables {
-        [] => None,
-        [first, rest @ ..] => {
-            if same_name(first.name, name) {
-                return Some(first.range);
-            }
-            variable_range(rest, name)
-        }
     }
 }
 
@@ -172,33 +146,6 @@ fn named<'a>(range: &Range<'a>, declared: &[u8], name: &[u8]) -> Option<Range<'a
     None
 }
 
-/// The declared width of a name, where a function, its input or one of its variables has it.
-fn function_range<'a>(
-    range: &Range<'a>,
-    function: &[u8],
-    input_range: &Range<'a>,
-    input: &[u8],
-    variables: &[Variable<'a>],
-    name: &[u8],
-) -> Option<Range<'a>>
-    ensures some { IfSome result (λ w. (p : Parameters) (n : ℕ) →
-        bits_of p (width_of w) ≡ named_here (text_of function.now) (text_of name.now) (bits_of p (width_of range.now))
-        (named_here (text_of input.now) (text_of name.now) (bits_of p (width_of input_range.now))
-        (local_width p (map local_of variables.now) (text_of name.now) n))) }
-    ensures none { IfNone result ((p : Parameters) (n : ℕ) →
-        n ≡ named_here (text_of function.now) (text_of name.now) (bits_of p (width_of range.now))
-        (named_here (text_of input.now) (text_of name.now) (bits_of p (width_of input_range.now))
-        (local_width p (map local_of variables.now) (text_of name.now) n))) }
-{
-    if same_name(function, name) {
-        return Some(*range);
-    }
-    if same_name(input, name) {
-        return Some(*input_range);
-    }
-    variable_range(variables, name)
-}
-
 /// The declared width of a name, where an item declares it.
 fn range_here<'a>(item: &Item<'a>, name: &[u8]) -> Option<Range<'a>>
     ensures some { IfSome result (λ w. (p : Parameters) (is : List tree.Item) →
@@ -209,7 +156,7 @@ fn range_here<'a>(item: &Item<'a>, name: &[u8]) -> Option<Range<'a>>
     match item {
         Item::Size(x, _) => {
             if same_name(x, name) {
-                return Some(Range::Integer);
+                return Some(Range::Wide(Extent::Count(32)));
             }
             None
         }
@@ -219,7 +166,6 @@ fn range_here<'a>(item: &Item<'a>, name: &[u8]) -> Option<Range<'a>>
         Item::Reg(w, x) => named(w, x, name),
         Item::Memory(w, x, _) => named(w, x, name),
         Item::Wire(w, x, _) => named(w, x, name),
-        Item::Function(w, f, v, x, ls, _) => function_range(w, f, v, x, ls, name),
         Item::Note(_) => None,
         Item::Gap => None,
         Item::Settles(_) => None,
@@ -243,11 +189,11 @@ fn range_of<'a>(items: &[Item<'a>], name: &[u8]) -> Option<Range<'a>>
 }
 
 /// The width of a name.
-pub(crate) fn width(declared: &Declared<'_>, name: &[u8]) -> Result<usize, AllocError>
-    ensures { IfOk result (λ n. (n ≡ (scope_of declared.now).width (text_of name.now)) × (n < 2 ^ 62)) }
+pub(crate) fn width(items: &[Item<'_>], name: &[u8]) -> Result<usize, AllocError>
+    ensures { IfOk result (λ n. (n ≡ (scope_of items.now).width (text_of name.now)) × (n < 2 ^ 62)) }
 {
-    match range_of(declared.items, name) {
-        Some(w) => range_bits(declared.items, &w),
+    match range_of(items, name) {
+        Some(w) => range_bits(items, &w),
         None => Ok(0),
     }
 }
@@ -286,181 +232,124 @@ fn words_of<'a>(items: &[Item<'a>], name: &[u8]) -> Option<Extent<'a>>
 }
 
 /// How many words a memory has.
-pub(crate) fn words(declared: &Declared<'_>, name: &[u8]) -> Result<usize, AllocError>
-    ensures { IfOk result (λ n. (n ≡ (scope_of declared.now).words (text_of name.now)) × (n < 2 ^ 62)) }
+pub(crate) fn words(items: &[Item<'_>], name: &[u8]) -> Result<usize, AllocError>
+    ensures { IfOk result (λ n. (n ≡ (scope_of items.now).words (text_of name.now)) × (n < 2 ^ 62)) }
 {
-    match words_of(declared.items, name) {
-        Some(k) => amount(declared.items, &k),
+    match words_of(items, name) {
+        Some(k) => amount(items, &k),
         None => Ok(0),
     }
 }
 
 /// How many bits a part of a vector has, from one place down to another.
 pub(crate) fn part_bits(
-    declared: &Declared<'_>,
+    items: &[Item<'_>],
     high: &Extent<'_>,
     low: &Extent<'_>,
 ) -> Result<usize, AllocError>
     ensures { IfOk result (λ n. (n
-        ≡ suc (amount_of (scope_of declared.now).param (size_of high.now) - amount_of (scope_of declared.now).param (size_of low.now)))
+        ≡ suc (amount_of (scope_of items.now).param (size_of high.now) - amount_of (scope_of items.now).param (size_of low.now)))
         × (n < 2 ^ 62)) }
 {
-    let h = amount(declared.items, high)?;
-    let l = amount(declared.items, low)?;
+    let h = amount(items, high)?;
+    let l = amount(items, low)?;
     next(less(h, l))
-}
-
-/// How many bits a number of ones has, up to a place.
-pub(crate) fn ones_bits(declared: &Declared<'_>, high: &Extent<'_>) -> Result<usize, AllocError>
-    ensures { IfOk result (λ n. (n ≡ suc (amount_of (scope_of declared.now).param (size_of high.now))) × (n < 2 ^ 62)) }
-{
-    let h = amount(declared.items, high)?;
-    next(h)
 }
 
 /// How many bits two expressions have together.
 #[cycle(bits)]
 fn both_bits(
-    declared: &Declared<'_>,
+    items: &[Item<'_>],
     a: &Expression<'_>,
     b: &Expression<'_>,
 ) -> Result<usize, AllocError>
-    ensures { IfOk result (λ n. (n ≡ own_bits (scope_of declared.now) (expr_of a.now) + own_bits (scope_of declared.now) (expr_of b.now))
+    ensures { IfOk result (λ n. (n ≡ own_bits (scope_of items.now) (expr_of a.now) + own_bits (scope_of items.now) (expr_of b.now))
         × (n < 2 ^ 62)) }
 {
-    let m = bits(declared, a)?;
-    let n = bits(declared, b)?;
+    let m = bits(items, a)?;
+    let n = bits(items, b)?;
     more(m, n)
 }
 
 /// How many bits the wider of two expressions has.
 #[cycle(bits)]
 pub(crate) fn wider_bits(
-    declared: &Declared<'_>,
+    items: &[Item<'_>],
     a: &Expression<'_>,
     b: &Expression<'_>,
 ) -> Result<usize, AllocError>
     ensures { IfOk result (λ n. (n
-        ≡ max (own_bits (scope_of declared.now) (expr_of a.now)) (own_bits (scope_of declared.now) (expr_of b.now))) × (n < 2 ^ 62)) }
+        ≡ max (own_bits (scope_of items.now) (expr_of a.now)) (own_bits (scope_of items.now) (expr_of b.now))) × (n < 2 ^ 62)) }
 {
-    let m = bits(declared, a)?;
-    let n = bits(declared, b)?;
+    let m = bits(items, a)?;
+    let n = bits(items, b)?;
     Ok(greater(m, n))
 }
 
 /// How many bits an expression has by itself.
 #[cycle(bits)]
-pub(crate) fn bits(declared: &Declared<'_>, e: &Expression<'_>) -> Result<usize, AllocError>
-    ensures { IfOk result (λ n. (n ≡ own_bits (scope_of declared.now) (expr_of e.now)) × (n < 2 ^ 62)) }
+pub(crate) fn bits(items: &[Item<'_>], e: &Expression<'_>) -> Result<usize, AllocError>
+    ensures { IfOk result (λ n. (n ≡ own_bits (scope_of items.now) (expr_of e.now)) × (n < 2 ^ 62)) }
 {
     match e {
         Expression::Number(_) => Ok(32),
         Expression::Sized(w, _) => size(*w as u128),
-        Expression::Constant(x) => width(declared, x),
-        Expression::Name(x) => width(declared, x),
+        Expression::Constant(x) => width(items, x),
+        Expression::Name(x) => width(items, x),
         Expression::Bit(_, _) => Ok(1),
-        Expression::Part(_, h, l) => part_bits(declared, h, l),
-        Expression::Word(m, _) => width(declared, m),
-        Expression::Ones(h) => ones_bits(declared, h),
-        Expression::Cat(a, b) => both_bits(declared, a, b),
-        Expression::Inverse(a) => bits(declared, a),
-        Expression::Two(_, a, b) => wider_bits(declared, a, b),
-        Expression::Shift(_, a, _) => bits(declared, a),
+        Expression::Part(_, h, l) => part_bits(items, h, l),
+        Expression::Word(m, _) => width(items, m),
+        Expression::Cat(a, b) => both_bits(items, a, b),
+        Expression::Inverse(a) => bits(items, a),
+        Expression::Two(_, a, b) => wider_bits(items, a, b),
+        Expression::Shift(_, a, _) => bits(items, a),
         Expression::Test(_, _, _) => Ok(1),
         Expression::Logic(_, _, _) => Ok(1),
         Expression::Not(_) => Ok(1),
         Expression::Any(_) => Ok(1),
         Expression::Every(_) => Ok(1),
-        Expression::Pick(_, a, b) => wider_bits(declared, a, b),
-        Expression::Call(f, _) => width(declared, f),
-    }
-}
-
-/// A function: its name, the width and the name of its input, and its body.
-#[derive(Clone, Copy)]
-pub(crate) struct Function<'a> {
-    pub(crate) name: &'a [u8],
-    pub(crate) range: Range<'a>,
-    pub(crate) input: &'a [u8],
-    pub(crate) body: Statement<'a>,
-}
-
-/// The function of a name, where an item declares it.
-fn function_here<'a>(item: &Item<'a>, name: &[u8]) -> Option<Function<'a>>
-    ensures some { IfSome result (λ f. (P : Scope) (is : List tree.Item) (n : ℕ) (S : Store) →
-        made_by P f n S ≡ result_in P (item_of item.now ∷ is) (text_of name.now) n S) }
-    ensures none { IfNone result ((P : Scope) (is : List tree.Item) (n : ℕ) (S : Store) →
-        result_in P is (text_of name.now) n S ≡ result_in P (item_of item.now ∷ is) (text_of name.now) n S) }
-{
-    match item {
-        Item::Function(_, f, v, x, _, s) => {
-            if same_name(f, name) {
-                return Some(Function {
-                    name: f,
-                    range: *v,
-                    input: x,
-                    body: *s,
-                });
-            }
-            None
-        }
-        _ => None,
-    }
-}
-
-/// The function of a name.
-pub(crate) fn function_of<'a>(items: &[Item<'a>], name: &[u8]) -> Option<Function<'a>>
-    ensures some { IfSome result (λ f. (P : Scope) (n : ℕ) (S : Store) →
-        made_by P f n S ≡ result_in P (map item_of items.now) (text_of name.now) n S) }
-    ensures none { IfNone result ((P : Scope) (n : ℕ) (S : Store) → 0 ≡ result_in P (map item_of items.now) (text_of name.now) n S) }
-{
-    match items {
-        [] => None,
-        [first, rest @ ..] => match function_here(first, name) {
-            Some(f) => Some(f),
-            None => function_of(rest, name),
-        },
+        Expression::Pick(_, a, b) => wider_bits(items, a, b),
     }
 }
 
 /// The widest of so many bits and some expressions.
-fn widest(declared: &Declared<'_>, w: usize, labels: &[Expression<'_>]) -> Result<usize, AllocError>
+fn widest(items: &[Item<'_>], w: usize, labels: &[Expression<'_>]) -> Result<usize, AllocError>
     requires { w < 2 ^ 62 }
-    ensures { IfOk result (λ n. (n ≡ widest_of (scope_of declared.now) w (map expr_of labels.now)) × (n < 2 ^ 62)) }
+    ensures { IfOk result (λ n. (n ≡ widest_of (scope_of items.now) w (map expr_of labels.now)) × (n < 2 ^ 62)) }
 {
     match labels {
         [] => Ok(w),
         [first, rest @ ..] => {
-            let n = bits(declared, first)?;
-            widest(declared, greater(w, n), rest)
+            let n = bits(items, first)?;
+            widest(items, greater(w, n), rest)
         }
     }
 }
 
 /// The widest of so many bits and all labels of a case.
-fn widest_arm(declared: &Declared<'_>, w: usize, arms: &Cases<'_>) -> Result<usize, AllocError>
+fn widest_arm(items: &[Item<'_>], w: usize, arms: &Cases<'_>) -> Result<usize, AllocError>
     requires { w < 2 ^ 62 }
-    ensures { IfOk result (λ n. (n ≡ widest_in (scope_of declared.now) w (arms_of arms.now)) × (n < 2 ^ 62)) }
+    ensures { IfOk result (λ n. (n ≡ widest_in (scope_of items.now) w (arms_of arms.now)) × (n < 2 ^ 62)) }
 {
     match arms {
         Cases::Otherwise(_) => Ok(w),
         Cases::Arm(labels, _, _, rest) => {
-            let n = widest(declared, w, labels)?;
-            widest_arm(declared, n, rest)
+            let n = widest(items, w, labels)?;
+            widest_arm(items, n, rest)
         }
     }
 }
 
 /// The widest of a case's expression and all of its labels.
 pub(crate) fn widest_case(
-    declared: &Declared<'_>,
+    items: &[Item<'_>],
     e: &Expression<'_>,
     arms: &Cases<'_>,
 ) -> Result<usize, AllocError>
     ensures { IfOk result (λ n. (n
-        ≡ widest_in (scope_of declared.now) (own_bits (scope_of declared.now) (expr_of e.now)) (arms_of arms.now)) × (n < 2 ^ 62)) }
+        ≡ widest_in (scope_of items.now) (own_bits (scope_of items.now) (expr_of e.now)) (arms_of arms.now)) × (n < 2 ^ 62)) }
 {
-    let w = bits(declared, e)?;
-    let out = widest_arm(declared, w, arms)?;
+    let w = bits(items, e)?;
+    let out = widest_arm(items, w, arms)?;
     Ok(out)
 }

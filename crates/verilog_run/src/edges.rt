@@ -2,33 +2,30 @@
 
 ghost use Rattle.std.specs.Prelude.{◌≡◌, List, ◌∷◌, map, IfOk, OnOk};
 ghost use Rattle.verilog_tree.specs.Tree as tree;
-ghost use Rattle.verilog_tree.specs.Meaning.{fire as fire_of, fire_arms as fire_arms_of, times_from, settled, clocked_in, scope};
-ghost use Rattle.verilog_tree.specs.Meaning.{edge as edge_of, edge_in, set_vec};
-ghost use Rattle.verilog_tree.specs.Names.{text_of};
-ghost use Rattle.verilog_tree.specs.Meaning.{chosen, holds as holds_in, write as write_of};
-ghost use Rattle.verilog_tree.specs.Tree.{cases, loop};
-ghost use Rattle.verilog_tree.specs.Views.{arms_of, expr_of, item_of, size_of, stmt_of, target_of};
+ghost use Rattle.verilog_tree.specs.Meaning.{fire as fire_of, fire_arms as fire_arms_of, settled, clocked_in, scope};
+ghost use Rattle.verilog_tree.specs.Meaning.{edge as edge_of, edge_in};
+ghost use Rattle.verilog_tree.specs.Meaning.{chosen, holds as holds_in};
+ghost use Rattle.verilog_tree.specs.Tree.{cases};
+ghost use Rattle.verilog_tree.specs.Views.{arms_of, expr_of, item_of, stmt_of};
 ghost use Rattle.verilog_run.specs.Held.{held};
 ghost use Rattle.verilog_run.specs.Scopes.{scope_of};
-ghost use Rattle.verilog_run.specs.Parts.{fire_turn};
 ghost use Rattle.verilog_run.specs.Clocking.{edges};
 
-use crate::assign::write;
+use crate::assign::{assign, assign_next};
 use crate::contents::Contents;
-use crate::declared::{Declared, amount, widest_case};
-use crate::functions::AllCalls;
+use crate::declared::widest_case;
 use crate::operate::is_true;
-use crate::run::{assign, run};
-use crate::value::{labelled, own, planned, value};
+use crate::run::run;
+use crate::value::{labelled, own, value};
 use std::alloc::{AllocError, Global};
-use verilog_tree::{Cases, Expression, Extent, Item, Place, Statement};
+use verilog_tree::{Cases, Expression, Item, Place, Statement};
 use wide_numbers::Number;
 
 /// The arms of a case in the clock's block, of which the first that has the number is taken.
 #[cycle(fire)]
 fn fire_arms(
     alloc: Global,
-    declared: &Declared<'_>,
+    items: &[Item<'_>],
     read: &Contents,
     store: &mut Contents,
     w: usize,
@@ -36,98 +33,40 @@ fn fire_arms(
     arms: &Cases<'_>,
 ) -> Result<(), AllocError>
     ensures { OnOk result (held store.new
-        ≡ fire_arms_of (scope_of declared.now) (held read.now) w n.now (arms_of arms.now) (held store.old)) }
+        ≡ fire_arms_of (scope_of items.now) (held read.now) w n.now (arms_of arms.now) (held store.old)) }
 {
     match arms {
         Cases::Otherwise(s) => {
-            fire(alloc, declared, read, store, s)?;
+            fire(alloc, items, read, store, s)?;
             Ok(())
         }
         Cases::Arm(labels, s, _, rest) => {
-            let taken = labelled(alloc, &AllCalls, declared, read, w, n, labels)?;
+            let taken = labelled(alloc, items, read, w, n, labels)?;
             if taken {
-                fire(alloc, declared, read, store, s)?;
+                fire(alloc, items, read, store, s)?;
                 return Ok(());
             }
-            fire_arms(alloc, declared, read, store, w, n, rest)?;
+            fire_arms(alloc, items, read, store, w, n, rest)?;
             Ok(())
         }
     }
-}
-
-/// One turn of a loop in the clock's block.
-#[cycle(fire)]
-fn fire_once(
-    alloc: Global,
-    declared: &Declared<'_>,
-    read: &Contents,
-    store: &mut Contents,
-    index: &[u8],
-    n: usize,
-    s: &Statement<'_>,
-) -> Result<(), AllocError>
-    ensures { OnOk result (held store.new
-        ≡ fire_of (scope_of declared.now) (set_vec (text_of index.now) n (held read.now)) (stmt_of s.now) (held store.old)) }
-{
-    let mut seen = read.copy(alloc)?;
-    let number = Number::of(alloc, n as u128)?;
-    seen.set_vector(alloc, index, number)?;
-    fire(alloc, declared, &seen, store, s)?;
-    Ok(())
-}
-
-/// The turns of a loop in the clock's block.
-#[cycle(fire)]
-fn fire_turns(
-    alloc: Global,
-    declared: &Declared<'_>,
-    read: &Contents,
-    store: &mut Contents,
-    index: &[u8],
-    count: usize,
-    s: &Statement<'_>,
-) -> Result<(), AllocError>
-    ensures { OnOk result (held store.new
-        ≡ times_from 0 count (fire_turn (scope_of declared.now) (held read.now) (text_of index.now) (stmt_of s.now)) (held store.old)) }
-{
-    for n in 0..count {
-        fire_once(alloc, declared, read, store, index, n, s)?;
-    }
-    Ok(())
-}
-
-/// An assignment of the clock's block, which reads all as it was before.
-fn assign_next(
-    alloc: Global,
-    declared: &Declared<'_>,
-    read: &Contents,
-    store: &mut Contents,
-    place: &Place<'_>,
-    e: &Expression<'_>,
-) -> Result<(), AllocError>
-    ensures { OnOk result (held store.new
-        ≡ write_of (scope_of declared.now) (held read.now) (target_of place.now) (expr_of e.now) (held store.old)) }
-{
-    let (at, number) = planned(alloc, &AllCalls, declared, read, place, e)?;
-    write(alloc, declared, store, place, &at, number)?;
-    Ok(())
 }
 
 /// One statement of the clock's block after the other.
 #[cycle(fire)]
 fn fire_both(
     alloc: Global,
-    declared: &Declared<'_>,
+    items: &[Item<'_>],
     read: &Contents,
     store: &mut Contents,
     s: &Statement<'_>,
     t: &Statement<'_>,
 ) -> Result<(), AllocError>
-    ensures { OnOk result (held store.new ≡ fire_of (scope_of declared.now) (held read.now) (stmt_of t.now)
-        (fire_of (scope_of declared.now) (held read.now) (stmt_of s.now) (held store.old))) }
+    ensures { OnOk result (held store.new ≡ fire_of (scope_of items.now) (held read.now) (stmt_of t.now)
+        (fire_of (scope_of items.now) (held read.now) (stmt_of s.now) (held store.old))) }
 {
-    fire(alloc, declared, read, store, s)?;
-    fire(alloc, declared, read, store, t)?;
+    fire(alloc, items, read, store, s)?;
+    fire(alloc, items, read, store, t)?;
     Ok(())
 }
 
@@ -135,23 +74,23 @@ fn fire_both(
 #[cycle(fire)]
 fn fire_one(
     alloc: Global,
-    declared: &Declared<'_>,
+    items: &[Item<'_>],
     read: &Contents,
     store: &mut Contents,
     e: &Expression<'_>,
     s: &Statement<'_>,
     t: &Statement<'_>,
 ) -> Result<(), AllocError>
-    ensures { OnOk result (held store.new ≡ chosen (holds_in (scope_of declared.now) (held read.now) (expr_of e.now))
-        (fire_of (scope_of declared.now) (held read.now) (stmt_of s.now) (held store.old))
-        (fire_of (scope_of declared.now) (held read.now) (stmt_of t.now) (held store.old))) }
+    ensures { OnOk result (held store.new ≡ chosen (holds_in (scope_of items.now) (held read.now) (expr_of e.now))
+        (fire_of (scope_of items.now) (held read.now) (stmt_of s.now) (held store.old))
+        (fire_of (scope_of items.now) (held read.now) (stmt_of t.now) (held store.old))) }
 {
-    let n = own(alloc, &AllCalls, declared, read, e)?;
+    let n = own(alloc, items, read, e)?;
     if is_true(&n) {
-        fire(alloc, declared, read, store, s)?;
+        fire(alloc, items, read, store, s)?;
         return Ok(());
     }
-    fire(alloc, declared, read, store, t)?;
+    fire(alloc, items, read, store, t)?;
     Ok(())
 }
 
@@ -159,37 +98,18 @@ fn fire_one(
 #[cycle(fire)]
 fn fire_case(
     alloc: Global,
-    declared: &Declared<'_>,
+    items: &[Item<'_>],
     read: &Contents,
     store: &mut Contents,
     e: &Expression<'_>,
     arms: &Cases<'_>,
 ) -> Result<(), AllocError>
     ensures { OnOk result (held store.new
-        ≡ fire_of (scope_of declared.now) (held read.now) (cases (expr_of e.now) (arms_of arms.now)) (held store.old)) }
+        ≡ fire_of (scope_of items.now) (held read.now) (cases (expr_of e.now) (arms_of arms.now)) (held store.old)) }
 {
-    let w = widest_case(declared, e, arms)?;
-    let n = value(alloc, &AllCalls, declared, read, w, e)?;
-    fire_arms(alloc, declared, read, store, w, &n, arms)?;
-    Ok(())
-}
-
-/// A loop in the clock's block.
-#[cycle(fire)]
-fn fire_loop(
-    alloc: Global,
-    declared: &Declared<'_>,
-    read: &Contents,
-    store: &mut Contents,
-    index: &[u8],
-    k: &Extent<'_>,
-    s: &Statement<'_>,
-) -> Result<(), AllocError>
-    ensures { OnOk result (held store.new
-        ≡ fire_of (scope_of declared.now) (held read.now) (loop (text_of index.now) (size_of k.now) (stmt_of s.now)) (held store.old)) }
-{
-    let count = amount(declared.items, k)?;
-    fire_turns(alloc, declared, read, store, index, count, s)?;
+    let w = widest_case(items, e, arms)?;
+    let n = value(alloc, items, read, w, e)?;
+    fire_arms(alloc, items, read, store, w, &n, arms)?;
     Ok(())
 }
 
@@ -197,41 +117,40 @@ fn fire_loop(
 #[cycle(fire)]
 fn fire(
     alloc: Global,
-    declared: &Declared<'_>,
+    items: &[Item<'_>],
     read: &Contents,
     store: &mut Contents,
     s: &Statement<'_>,
 ) -> Result<(), AllocError>
-    ensures { OnOk result (held store.new ≡ fire_of (scope_of declared.now) (held read.now) (stmt_of s.now) (held store.old)) }
+    ensures { OnOk result (held store.new ≡ fire_of (scope_of items.now) (held read.now) (stmt_of s.now) (held store.old)) }
 {
     match s {
         Statement::Skip => Ok(()),
-        Statement::Put(place, e) => assign_next(alloc, declared, read, store, place, e),
-        Statement::Seq(s, t) => fire_both(alloc, declared, read, store, s, t),
-        Statement::Branch(e, s, t) => fire_one(alloc, declared, read, store, e, s, t),
-        Statement::Case(e, arms) => fire_case(alloc, declared, read, store, e, arms),
-        Statement::Loop(i, k, s) => fire_loop(alloc, declared, read, store, i, k, s),
+        Statement::Put(place, e) => assign_next(alloc, items, read, store, place, e),
+        Statement::Seq(s, t) => fire_both(alloc, items, read, store, s, t),
+        Statement::Branch(e, s, t) => fire_one(alloc, items, read, store, e, s, t),
+        Statement::Case(e, arms) => fire_case(alloc, items, read, store, e, arms),
     }
 }
 
 /// An item settles.
 fn settle_one(
     alloc: Global,
-    declared: &Declared<'_>,
+    items: &[Item<'_>],
     store: &mut Contents,
     item: &Item<'_>,
 ) -> Result<(), AllocError>
-    ensures { OnOk result ((is : List tree.Item) → settled (scope_of declared.now) is (held store.new)
-        ≡ settled (scope_of declared.now) (item_of item.now ∷ is) (held store.old)) }
+    ensures { OnOk result ((is : List tree.Item) → settled (scope_of items.now) is (held store.new)
+        ≡ settled (scope_of items.now) (item_of item.now ∷ is) (held store.old)) }
 {
     match item {
         Item::Wire(_, x, e) => {
             let place = Place::Whole(x);
-            assign(alloc, &AllCalls, declared, store, &place, e)?;
+            assign(alloc, items, store, &place, e)?;
             Ok(())
         }
         Item::Settles(s) => {
-            run(alloc, &AllCalls, declared, store, s)?;
+            run(alloc, items, store, s)?;
             Ok(())
         }
         _ => Ok(()),
@@ -239,19 +158,19 @@ fn settle_one(
 }
 
 /// Wires and blocks settle, from the first to the last.
-fn settle(
+fn settle<'t>(
     alloc: Global,
-    declared: &Declared<'_>,
+    items: &[Item<'t>],
     store: &mut Contents,
-    items: &[Item<'_>],
+    rest: &[Item<'t>],
 ) -> Result<(), AllocError>
-    ensures { OnOk result (held store.new ≡ settled (scope_of declared.now) (map item_of items.now) (held store.old)) }
+    ensures { OnOk result (held store.new ≡ settled (scope_of items.now) (map item_of rest.now) (held store.old)) }
 {
-    match items {
+    match rest {
         [] => Ok(()),
-        [first, rest @ ..] => {
-            settle_one(alloc, declared, store, first)?;
-            settle(alloc, declared, store, rest)?;
+        [first, others @ ..] => {
+            settle_one(alloc, items, store, first)?;
+            settle(alloc, items, store, others)?;
             Ok(())
         }
     }
@@ -260,17 +179,17 @@ fn settle(
 /// What a block of the clock writes.
 fn clock_one(
     alloc: Global,
-    declared: &Declared<'_>,
+    items: &[Item<'_>],
     read: &Contents,
     store: &mut Contents,
     item: &Item<'_>,
 ) -> Result<(), AllocError>
-    ensures { OnOk result ((is : List tree.Item) → clocked_in (scope_of declared.now) is (held read.now) (held store.new)
-        ≡ clocked_in (scope_of declared.now) (item_of item.now ∷ is) (held read.now) (held store.old)) }
+    ensures { OnOk result ((is : List tree.Item) → clocked_in (scope_of items.now) is (held read.now) (held store.new)
+        ≡ clocked_in (scope_of items.now) (item_of item.now ∷ is) (held read.now) (held store.old)) }
 {
     match item {
         Item::Clocked(s) => {
-            fire(alloc, declared, read, store, s)?;
+            fire(alloc, items, read, store, s)?;
             Ok(())
         }
         _ => Ok(()),
@@ -278,20 +197,20 @@ fn clock_one(
 }
 
 /// What the blocks of the clock write.
-fn clock(
+fn clock<'t>(
     alloc: Global,
-    declared: &Declared<'_>,
+    items: &[Item<'t>],
     read: &Contents,
     store: &mut Contents,
-    items: &[Item<'_>],
+    rest: &[Item<'t>],
 ) -> Result<(), AllocError>
-    ensures { OnOk result (held store.new ≡ clocked_in (scope_of declared.now) (map item_of items.now) (held read.now) (held store.old)) }
+    ensures { OnOk result (held store.new ≡ clocked_in (scope_of items.now) (map item_of rest.now) (held read.now) (held store.old)) }
 {
-    match items {
+    match rest {
         [] => Ok(()),
-        [first, rest @ ..] => {
-            clock_one(alloc, declared, read, store, first)?;
-            clock(alloc, declared, read, store, rest)?;
+        [first, others @ ..] => {
+            clock_one(alloc, items, read, store, first)?;
+            clock(alloc, items, read, store, others)?;
             Ok(())
         }
     }
@@ -309,12 +228,8 @@ pub fn settle_all<'a>(
 ) -> Result<Contents, AllocError>
     ensures { IfOk result (λ s. held s ≡ settled (scope (map item_of items.now)) (map item_of items.now) (held store.now)) }
 {
-    let declared: Declared<'a> = Declared {
-        items,
-        inside: false,
-    };
     let mut out = store.copy(alloc)?;
-    settle(alloc, &declared, &mut out, items)?;
+    settle(alloc, items, &mut out, items)?;
     Ok(out)
 }
 
@@ -330,12 +245,8 @@ pub fn settled_edge<'a>(
 ) -> Result<Contents, AllocError>
     ensures { IfOk result (λ s. held s ≡ edge_in (scope (map item_of items.now)) (map item_of items.now) (held read.now)) }
 {
-    let declared: Declared<'a> = Declared {
-        items,
-        inside: false,
-    };
     let mut out = read.copy(alloc)?;
-    clock(alloc, &declared, read, &mut out, items)?;
+    clock(alloc, items, read, &mut out, items)?;
     Ok(out)
 }
 

@@ -9,12 +9,10 @@
 #![tactic(auto)]
 
 mod assign;
-mod calls;
 mod cells;
 mod contents;
 mod declared;
 mod edges;
-mod functions;
 mod names;
 mod operate;
 mod run;

@@ -60,8 +60,6 @@ pub(crate) fn two(
         Operation::Plus => plus(alloc, w, m, n),
         Operation::Minus => minus(alloc, w, m, n),
         Operation::Times => times(alloc, w, m, n),
-        Operation::Also => m.and(alloc, n),
-        Operation::Either => m.or(alloc, n),
     }
 }
 
@@ -87,7 +85,6 @@ pub(crate) fn test(comparison: Comparison, m: &Number, n: &Number) -> bool
 {
     match comparison {
         Comparison::Same => m.is_same(n),
-        Comparison::Other => !m.is_same(n),
         Comparison::Below => m.is_below(n),
     }
 }

@@ -6,6 +6,6 @@ use Rattle.verilog_run.proofs.edges.+clock.Goals as goal
 
 pub returns-in_ok-clock-in-len1-up : goal.returns-in_ok-clock-in-len1-up
 returns-in_ok-clock-in-len1-up t c =
-    clock_more item_of (scope_of c.args.declared.now) c.args.items.now c.first-item.result (held c.args.read.now)
+    clock_more item_of (scope_of c.args.items.now) c.args.rest.now c.first-item.result (held c.args.read.now)
     (held c.args.store.now) _ _
     c.in-len1-up.len_at_least c.first-item.is c.in_ok-clock_one-in-len1-up.ensures c.in_ok-clock-in-len1-up.ensures

@@ -1,70 +1,44 @@
-use Rattle.std.proofs.Common.{◌≡◌, ◌∙◌, OnOk, ap, subst, sym, arith}
-use Rattle.verilog_tree.specs.Meaning.{set_vec, fire as fire_of}
-use Rattle.verilog_tree.specs.Names.{text_of}
+use Rattle.std.proofs.Common.{◌≡◌, ◌∙◌, OnOk, ap, subst, sym}
+use Rattle.verilog_tree.specs.Meaning.{fire as fire_of}
 use Rattle.verilog_tree.specs.Views.{arms_of, expr_of, stmt_of}
 use Rattle.verilog_run.specs.Held.{held}
-use Rattle.verilog_run.specs.Parts.{fire_turn}
 use Rattle.verilog_run.specs.Scopes.{scope_of}
 use Rattle.verilog_run.proofs.Stepping.{fire_taken, fire_passed, fire_case_is}
-use Rattle.verilog_run.proofs.Turning.{turn_step, turns_done}
 use Rattle.verilog_run.proofs.edges.+fire.Goals as goal
-
-pub fire_turns-loop-n-preserved : goal.fire_turns-loop-n-preserved
-fire_turns-loop-n-preserved t c =
-    turn_step (fire_turn (scope_of c.args.declared.now) (held c.args.read.now) (text_of c.args.index.now) (stmt_of c.args.s.now)) c.loop-n.n
-    c.args.count (held c.loop-n.store) (held c.fire_once.new.store) _ c.loop-n-test.true c.in_ok-fire_once.ensures c.loop-n.invariant
-
-pub fire_turns-returns : goal.fire_turns-returns
-fire_turns-returns t c =
-    turns_done (fire_turn (scope_of c.args.declared.now) (held c.args.read.now) (text_of c.args.index.now)
-    (stmt_of c.args.s.now)) c.loop-n.n
-    c.args.count (held c.loop-n.store) _ (omega arith) c.loop-n.invariant
 
 pub fire-returns-in-Seq : goal.fire-returns-in-Seq
 fire-returns-in-Seq t c =
-    subst (λ s. OnOk c.fire_both.result (held c.fire_both.new.store ≡ fire_of (scope_of c.args.declared.now) (held c.args.read.now) s
+    subst (λ s. OnOk c.fire_both.result (held c.fire_both.new.store ≡ fire_of (scope_of c.args.items.now) (held c.args.read.now) s
     (held c.args.store.now))) (sym (ap stmt_of c.in-Seq.is)) c.fire_both.ensures
 
 pub fire-returns-in-Branch : goal.fire-returns-in-Branch
 fire-returns-in-Branch t c =
-    subst (λ s. OnOk c.fire_one.result (held c.fire_one.new.store ≡ fire_of (scope_of c.args.declared.now) (held c.args.read.now) s
+    subst (λ s. OnOk c.fire_one.result (held c.fire_one.new.store ≡ fire_of (scope_of c.args.items.now) (held c.args.read.now) s
     (held c.args.store.now))) (sym (ap stmt_of c.in-Branch.is)) c.fire_one.ensures
 
 pub fire-returns-in-Case : goal.fire-returns-in-Case
 fire-returns-in-Case t c =
-    subst (λ s. OnOk c.fire_case.result (held c.fire_case.new.store ≡ fire_of (scope_of c.args.declared.now) (held c.args.read.now) s
+    subst (λ s. OnOk c.fire_case.result (held c.fire_case.new.store ≡ fire_of (scope_of c.args.items.now) (held c.args.read.now) s
     (held c.args.store.now))) (sym (ap stmt_of c.in-Case.is)) c.fire_case.ensures
-
-pub fire-returns-in-Loop : goal.fire-returns-in-Loop
-fire-returns-in-Loop t c =
-    subst (λ s. OnOk c.fire_loop.result (held c.fire_loop.new.store ≡ fire_of (scope_of c.args.declared.now) (held c.args.read.now) s
-    (held c.args.store.now))) (sym (ap stmt_of c.in-Loop.is)) c.fire_loop.ensures
 
 pub fire_arms-returns-then-taken : goal.fire_arms-returns-then-taken
 fire_arms-returns-then-taken t c =
-    fire_taken (scope_of c.args.declared.now) (held c.args.read.now) (held c.args.store.now) _ c.args.w c.args.n.now _ _ _ _
+    fire_taken (scope_of c.args.items.now) (held c.args.read.now) (held c.args.store.now) _ c.args.w c.args.n.now _ _ _ _
     (arms_of c.args.arms.now)
     c.in_ok-taken-in-Arm.taken (ap arms_of c.in-Arm.is) c.in_ok-taken-in-Arm.ensures c.if-taken.true c.in_ok-fire-in-Arm.ensures
 
 pub fire_arms-returns-in_ok-fire_arms-in-Arm : goal.fire_arms-returns-in_ok-fire_arms-in-Arm
 fire_arms-returns-in_ok-fire_arms-in-Arm t c =
-    fire_passed (scope_of c.args.declared.now) (held c.args.read.now) (held c.args.store.now) _ c.args.w c.args.n.now _ _ _ _
+    fire_passed (scope_of c.args.items.now) (held c.args.read.now) (held c.args.store.now) _ c.args.w c.args.n.now _ _ _ _
     (arms_of c.args.arms.now)
     c.in_ok-taken-in-Arm.taken (ap arms_of c.in-Arm.is) c.in_ok-taken-in-Arm.ensures c.if-taken.false c.in_ok-fire_arms-in-Arm.ensures
 
 pub fire_both-returns : goal.fire_both-returns
 fire_both-returns t c =
     c.in_ok-fire-2.ensures
-    ∙ ap (λ T. fire_of (scope_of c.args.declared.now) (held c.args.read.now) (stmt_of c.args.t.now) T) c.in_ok-fire.ensures
+    ∙ ap (λ T. fire_of (scope_of c.args.items.now) (held c.args.read.now) (stmt_of c.args.t.now) T) c.in_ok-fire.ensures
 
 pub fire_case-returns : goal.fire_case-returns
 fire_case-returns t c =
-    fire_case_is (scope_of c.args.declared.now) (held c.args.read.now) (held c.args.store.now) _ (expr_of c.args.e.now)
+    fire_case_is (scope_of c.args.items.now) (held c.args.read.now) (held c.args.store.now) _ (expr_of c.args.e.now)
     (arms_of c.args.arms.now) c.in_ok-w.w _ c.in_ok-w.ensures.0 c.in_ok-n.ensures c.in_ok-fire_arms.ensures
-
-pub fire_once-returns : goal.fire_once-returns
-fire_once-returns t c =
-    c.in_ok-fire.ensures
-    ∙ ap (λ T. fire_of (scope_of c.args.declared.now) T (stmt_of c.args.s.now) (held c.args.store.now)) (c.in_ok-set_vector.ensures
-    ∙ ap (λ m. set_vec (text_of c.args.index.now) m (held c.in_ok-seen.seen)) c.in_ok-number.ensures
-    ∙ ap (λ T. set_vec (text_of c.args.index.now) c.args.n T) c.in_ok-seen.ensures)

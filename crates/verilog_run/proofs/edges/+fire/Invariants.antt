@@ -1,21 +1,10 @@
-use Rattle.std.proofs.Common.{◌≡◌, ◌+◌, ◌-◌, ◌*◌}
-use Rattle.verilog_tree.specs.Meaning.{times_from}
-use Rattle.verilog_tree.specs.Names.{text_of}
+use Rattle.std.proofs.Common.{◌+◌, ◌*◌}
 use Rattle.verilog_tree.specs.Views.{arms_of, stmt_of}
-use Rattle.verilog_run.specs.Held.{held}
-use Rattle.verilog_run.specs.Parts.{fire_turn}
-use Rattle.verilog_run.specs.Scopes.{scope_of}
 use Rattle.verilog_tree.proofs.Weights.{stmt_weight, arms_weight}
 use Rattle.verilog_run.proofs.edges.+fire.Given as goal
 
 abbrev pub decreases-fire_arms : goal.decreases-fire_arms
 decreases-fire_arms l = 8 * arms_weight (arms_of l.arms.now) + 2
-
-abbrev pub decreases-fire_once : goal.decreases-fire_once
-decreases-fire_once l = 8 * stmt_weight (stmt_of l.s.now) + 2
-
-abbrev pub decreases-fire_turns : goal.decreases-fire_turns
-decreases-fire_turns l = 8 * stmt_weight (stmt_of l.s.now) + 3
 
 abbrev pub decreases-fire : goal.decreases-fire
 decreases-fire l = 8 * stmt_weight (stmt_of l.s.now) + 1
@@ -28,11 +17,3 @@ decreases-fire_one l = 8 * (stmt_weight (stmt_of l.s.now) + stmt_weight (stmt_of
 
 abbrev pub decreases-fire_case : goal.decreases-fire_case
 decreases-fire_case l = 8 * arms_weight (arms_of l.arms.now) + 5
-
-abbrev pub decreases-fire_loop : goal.decreases-fire_loop
-decreases-fire_loop l = 8 * stmt_weight (stmt_of l.s.now) + 5
-
-abbrev pub invariant-fire_turns-loop-n : goal.invariant-fire_turns-loop-n
-invariant-fire_turns-loop-n l =
-    times_from l.n (l.count - l.n) (fire_turn (scope_of l.declared) (held l.read) (text_of l.index) (stmt_of l.s)) (held l.store)
-    ≡ times_from 0 l.count (fire_turn (scope_of l.declared) (held l.read) (text_of l.index) (stmt_of l.s)) (held l.fn.store)

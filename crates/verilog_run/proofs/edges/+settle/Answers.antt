@@ -6,5 +6,5 @@ use Rattle.verilog_run.proofs.edges.+settle.Goals as goal
 
 pub returns-in_ok-settle-in-len1-up : goal.returns-in_ok-settle-in-len1-up
 returns-in_ok-settle-in-len1-up t c =
-    settle_more item_of (scope_of c.args.declared.now) c.args.items.now c.first-item.result (held c.args.store.now) _ _
+    settle_more item_of (scope_of c.args.items.now) c.args.rest.now c.first-item.result (held c.args.store.now) _ _
     c.in-len1-up.len_at_least c.first-item.is c.in_ok-settle_one-in-len1-up.ensures c.in_ok-settle-in-len1-up.ensures

@@ -1,7 +1,7 @@
 use Rattle.std.proofs.Common.{map, arith}
 use Rattle.verilog_tree.specs.Views.{item_of}
 use Rattle.verilog_run.specs.Held.{held}
-use Rattle.verilog_run.proofs.Turning.{edge_step, edges_done}
+use Rattle.verilog_run.proofs.Stepping.{edge_step, edges_done}
 use Rattle.verilog_run.proofs.edges.run_edges.Goals as goal
 
 pub loop-n-preserved : goal.loop-n-preserved
