@@ -3,14 +3,13 @@ use Prim.Native.String.{String}
 use Rattle.verilog_tree.specs.Names.{text_of}
 use Rattle.verilog_waves.specs.Shown as specs
 use Rattle.verilog_waves.specs.declared.shown.Kind.{Kind}
-use Rattle.verilog_waves.specs.declared.shown.Kind.TheVariants.{Wire, Reg, Integer}
+use Rattle.verilog_waves.specs.declared.shown.Kind.TheVariants.{Wire, Reg}
 use Rattle.verilog_waves.specs.declared.shown.Shown.{Shown}
 
 -- the word for what a name is
 abbrev pub word_of : Kind → String
 word_of Wire = "wire"
 word_of Reg = "reg"
-word_of Integer = "integer"
 
 -- a name that is shown
 abbrev pub shown_of : Shown → specs.Shown

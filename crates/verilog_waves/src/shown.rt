@@ -4,15 +4,15 @@ ghost use Rattle.std.specs.Prelude.{◌≡◌, ◌++◌, List, [], ◌∷◌, le
 ghost use Rattle.verilog_tree.specs.Tree as tree;
 ghost use Rattle.verilog_tree.specs.Meaning.{param_in};
 ghost use Rattle.verilog_tree.specs.Names.{text_of};
-ghost use Rattle.verilog_tree.specs.Views.{item_of, width_of};
+ghost use Rattle.verilog_tree.specs.Views.{item_of};
 ghost use Rattle.verilog_waves.specs.Dump.{code, head_text, name_line, name_lines};
-ghost use Rattle.verilog_waves.specs.Shown.{register_kind, shown, shown_in};
+ghost use Rattle.verilog_waves.specs.Shown.{shown, shown_in};
 ghost use Rattle.verilog_waves.specs.Views.{shown_of, word_of};
 
 use crate::words::{push_code, push_name, push_number, push_range};
 use std::alloc::{AllocError, Global};
 use verilog_run::range_bits;
-use verilog_tree::{Item, Range};
+use verilog_tree::Item;
 
 /// What a name is.
 #[derive(Clone, Copy)]
@@ -21,8 +21,6 @@ pub(crate) enum Kind {
     Wire,
     /// An output, or a register.
     Reg,
-    /// An `integer`.
-    Integer,
 }
 
 /// A name that is shown: its place among them, what it is, how many bits it has.
@@ -32,16 +30,6 @@ pub(crate) struct Shown<'a> {
     pub(crate) kind: Kind,
     pub(crate) bits: usize,
     pub(crate) name: &'a [u8],
-}
-
-/// What a register is.
-fn register_kind(range: &Range<'_>) -> Kind
-    ensures { word_of result ≡ register_kind (width_of range.now) }
-{
-    match range {
-        Range::Integer => Kind::Integer,
-        _ => Kind::Reg,
-    }
 }
 
 /// Puts a name behind the others.
@@ -82,7 +70,7 @@ fn add_item<'a>(
     match item {
         Item::Input(range, name) => add(list, Kind::Wire, range_bits(items, range)?, name),
         Item::Output(range, name) => add(list, Kind::Reg, range_bits(items, range)?, name),
-        Item::Reg(range, name) => add(list, register_kind(range), range_bits(items, range)?, name),
+        Item::Reg(range, name) => add(list, Kind::Reg, range_bits(items, range)?, name),
         Item::Wire(range, name, _) => add(list, Kind::Wire, range_bits(items, range)?, name),
         _ => Ok(()),
     }
@@ -109,7 +97,6 @@ fn word(kind: Kind) -> &'static [u8]
     match kind {
         Kind::Wire => b"wire",
         Kind::Reg => b"reg",
-        Kind::Integer => b"integer",
     }
 }
 

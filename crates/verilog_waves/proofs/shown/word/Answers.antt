@@ -7,6 +7,3 @@ returns-in-Wire c = sym (ap (λ k. codes (word_of k)) c.in-Wire.is)
 
 pub returns-in-Reg : goal.returns-in-Reg
 returns-in-Reg c = sym (ap (λ k. codes (word_of k)) c.in-Reg.is)
-
-pub returns-in-Integer : goal.returns-in-Integer
-returns-in-Integer c = sym (ap (λ k. codes (word_of k)) c.in-Integer.is)
