@@ -1,0 +1,6 @@
+-- What a reader has to believe: what the registers stand for.
+pub mod Stands
+-- How long a run waits.
+pub mod Waits
+-- The statements of the laws.
+pub mod Laws
