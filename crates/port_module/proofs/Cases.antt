@@ -5,7 +5,8 @@ use Rattle.circuit_core.specs.Rows.{Channel, Row, GO, CONST, SUCC, PRED, TEST, F
 use Rattle.circuit_core.specs.Rows.{PUSHL, SELECT, POP, BOXIN, BOXOUT, DOOROUT, DOORIN, FIXIN, FIXOUT, FIXVAR, DEAD}
 use Rattle.circuit_module.specs.Module.{row_stmt}
 use Rattle.port_module.specs.Module.{port_stmt}
-use Rattle.port_module.proofs.Alike.{own_stmt}
+use Rattle.verilog_frames.proofs.Alike as alike
+use Rattle.port_module.proofs.Names.{own}
 
 -- a constant's number, or what is given for it
 abbrev pub number_or : Option ℕ → ℕ → ℕ
@@ -21,7 +22,7 @@ set_row o r = r
 pub record NoNumber (r : Row) : Type 0 where
   pub kept : (o : Option ℕ) → set_row o r ≡ r
   pub case : (ps : List ℕ) (k : ℕ) → port_stmt ps k r ≡ row_stmt r
-  pub names : own_stmt (row_stmt r) ≡ true
+  pub names : alike.own_stmt own (row_stmt r) ≡ true
 
 -- what holds of each of these and of a constant's holds of every row
 pub by_row : (Says : Row → Type 0) → ((r : Row) → NoNumber r → Says r) → ((n : ℕ) (c : Channel) → Says (CONST n c)) → (r : Row) → Says r

@@ -4,18 +4,46 @@ use Rattle.std.proofs.Common.{refl, ap, subst, ◌∙◌, arith, ⊎_elim}
 use Rattle.std.proofs.lemmas.Bool.{and_parts, and_from, cases_eq}
 use Prim.Native.String.{String}
 use lib.Text.{eqt}
-use Rattle.verilog_tree.specs.Tree.{Size, count, named, more, less, Expr, num, sized, const, name, bit, part, word, ones, cat, inverse, two}
-use Rattle.verilog_tree.specs.Tree.{shift, test, logic, none, any, every, pick, call, Target, whole, bit_at, word_at, Stmt, skip, put, seq}
-use Rattle.verilog_tree.specs.Tree.{branch, cases, loop, Arms, otherwise, arm, Width, one, upto, wide, integer, Item, note, gap, size}
-use Rattle.verilog_tree.specs.Tree.{constant, input, output, reg, memory, wire, function, settles, clocked}
+use Rattle.verilog_tree.specs.Tree.{Size, count, named, more, less, Expr, num, sized, const, name, bit, part, word, cat, inverse, two}
+use Rattle.verilog_tree.specs.Tree.{shift, test, logic, none, any, every, pick, Target, whole, word_at, Stmt, skip, put, seq}
+use Rattle.verilog_tree.specs.Tree.{branch, cases, Arms, otherwise, arm, Width, one, upto, wide, Item, note, gap, size}
+use Rattle.verilog_tree.specs.Tree.{constant, input, output, reg, memory, wire, settles, clocked}
 use Rattle.verilog_tree.specs.Meaning.{chosen}
 use Rattle.verilog_tree.specs.WellFormed.{Kind, Entry, a_size, a_constant, a_memory, kind_of, wire_kind, input_kind}
-use Rattle.verilog_tree.specs.WellFormed.{is_size, parameter, vector, selects, is_memory, is_clock, register, register_of_bits, of_kind}
+use Rattle.verilog_tree.specs.WellFormed.{is_size, parameter, vector, selects, is_memory, is_clock, register, of_kind}
 use Rattle.verilog_tree.specs.WellFormed.{member, apart, identifier, said_ok, taken, new, size_ok, width_ok, has_width, expr_ok, exprs_ok}
 use Rattle.verilog_tree.specs.WellFormed.{sets_first, first_reads, target_ok, stmt_ok, arms_ok, targets, declare, declared, driven}
-use Rattle.verilog_tree.specs.WellFormed.{plain_width, number_width, item_ok, items_ok, all_declared}
+use Rattle.verilog_tree.specs.WellFormed.{number_width, item_ok, items_ok, all_declared}
+use Rattle.verilog_frames.proofs.Alike as alike
 use Rattle.port_module.proofs.Names.{own, own_foreign, foreign_own, later, same_name}
-use Rattle.port_module.proofs.Alike.{own_size, own_expr, own_exprs, own_target, own_stmt, own_arms, own_width, own_item, own_items}
+
+-- all names are own
+abbrev own_size : Size → Bool
+own_size = alike.own_size own
+
+abbrev own_expr : Expr → Bool
+own_expr = alike.own_expr own
+
+abbrev own_exprs : List Expr → Bool
+own_exprs = alike.own_exprs own
+
+abbrev own_target : Target → Bool
+own_target = alike.own_target own
+
+abbrev own_width : Width → Bool
+own_width = alike.own_width own
+
+abbrev own_arms : Arms → Bool
+own_arms = alike.own_arms own
+
+abbrev pub own_stmt : Stmt → Bool
+own_stmt = alike.own_stmt own
+
+abbrev own_item : Item → Bool
+own_item = alike.own_item own
+
+abbrev pub own_items : List Item → Bool
+own_items = alike.own_items own
 
 -- two lists of what is declared say the same of own names
 pub record SameEnv (E F : List Entry) : Type 0 where
@@ -56,7 +84,6 @@ module _ (E F : List Entry) (same : SameEnv E F) where
   width_same one o = refl
   width_same (upto h) o = size_same h o
   width_same (wide k) o = size_same k o
-  width_same integer o = refl
 
   expr_same : (e : Expr) → own_expr e ≡ true → expr_ok E e ≡ expr_ok F e
   expr_same (num n) o = refl
@@ -80,7 +107,6 @@ module _ (E F : List Entry) (same : SameEnv E F) where
       let y = same.kind is_memory m a in
       let z = expr_same e b in
       λ i. y i && z i
-  expr_same (ones h) o = size_same h o
   expr_same (cat a b) o =
       let (c, d) = and_parts (own_expr a) (own_expr b) o in
       let y = expr_same a c in
@@ -117,7 +143,6 @@ module _ (E F : List Entry) (same : SameEnv E F) where
       let y = expr_same a f in
       let z = expr_same b g in
       λ i. x i && (y i && z i)
-  expr_same (call f x) o = absurd cc
 
   exprs_same : (es : List Expr) → own_exprs es ≡ true → exprs_ok E es ≡ exprs_ok F es
   exprs_same [] o = refl
@@ -129,11 +154,6 @@ module _ (E F : List Entry) (same : SameEnv E F) where
 
   target_same : (mine : List String) (t : Target) → own_target t ≡ true → target_ok E mine t ≡ target_ok F mine t
   target_same mine (whole x) o = ap (λ b. b && member x mine) (same.kind register x o)
-  target_same mine (bit_at x e) o =
-      let (a, b) = and_parts (own x) (own_expr e) o in
-      let y = same.kind register_of_bits x a in
-      let z = expr_same e b in
-      λ i. y i && (member x mine && z i)
   target_same mine (word_at m e) o =
       let (a, b) = and_parts (own m) (own_expr e) o in
       let y = same.kind is_memory m a in
@@ -165,7 +185,6 @@ module _ (E F : List Entry) (same : SameEnv E F) where
         let y = expr_same e a in
         let z = arms_same mine arms b in
         λ i. y i && z i
-    stmt_same mine (loop i k s) o = absurd cc
 
     arms_same : (mine : List String) (arms : Arms) → own_arms arms ≡ true → arms_ok E mine arms ≡ arms_ok F mine arms
     arms_same mine (otherwise s) o = stmt_same mine s o
@@ -189,12 +208,12 @@ module _ (E F : List Entry) (same : SameEnv E F) where
       let (a, b) = and_parts (own x) (own_width w) o in
       let y = new_same x a in
       let z = width_same w b in
-      λ i. y i && (plain_width w && z i)
+      λ i. y i && z i
   item_same ds (output w x) o =
       let (a, b) = and_parts (own x) (own_width w) o in
       let y = new_same x a in
       let z = width_same w b in
-      λ i. y i && (plain_width w && z i)
+      λ i. y i && z i
   item_same ds (reg w x) o =
       let (a, b) = and_parts (own x) (own_width w) o in
       let y = new_same x a in
@@ -206,15 +225,14 @@ module _ (E F : List Entry) (same : SameEnv E F) where
       let y = new_same x a in
       let z = width_same w c in
       let u = size_same k d in
-      λ i. y i && ((plain_width w && z i) && u i)
+      λ i. y i && (z i && u i)
   item_same ds (wire w x e) o =
       let (a, b) = and_parts (own x) (own_width w && own_expr e) o in
       let (c, d) = and_parts (own_width w) (own_expr e) b in
       let y = new_same x a in
       let z = width_same w c in
       let u = expr_same e d in
-      λ i. y i && ((plain_width w && z i) && u i)
-  item_same ds (function w f v y ls s) o = absurd cc
+      λ i. y i && (z i && u i)
   item_same ds (settles s) o =
       let z = stmt_same (sets_first s) s o in λ i. (apart (sets_first s) ds && first_reads (sets_first s) s) && z i
   item_same ds (clocked s) o =
@@ -232,29 +250,25 @@ module _ (E F : List Entry) (same : SameEnv E F) where
   declared_same (reg w x) o = declare_same (kind_of w) x E F same
   declared_same (memory w x k) o = declare_same a_memory x E F same
   declared_same (wire w x e) o = declare_same (wire_kind w) x E F same
-  declared_same (function w f v y ls s) o = absurd cc
   declared_same (settles s) o = same
   declared_same (clocked s) o = same
-
-pub all_same : (is : List Item) → own_items is ≡ true → (E F : List Entry) → SameEnv E F → SameEnv (all_declared E is) (all_declared F is)
-all_same [] o E F h = h
-all_same (i ∷ is) o E F h =
-    let (a, b) = and_parts (own_item i) (own_items is) o in all_same is b (declared E i) (declared F i) (declared_same E F h i a)
 
 -- what is driven after so many
 abbrev pub all_driven : List String → List Item → List String
 all_driven ds [] = ds
 all_driven ds (i ∷ is) = all_driven (driven ds i) is
 
--- own items are right where others are, and so is what stands behind them
-pub front_ok : (E F : List Entry) (ds : List String) (is : List Item) → SameEnv E F → own_items is ≡ true → items_ok F ds is ≡ true →
-    (js : List Item) → items_ok (all_declared E is) (all_driven ds is) js ≡ true → items_ok E ds (is ++ js) ≡ true
-front_ok E F ds [] h o ok js g = g
-front_ok E F ds (i ∷ is) h o ok js g =
+-- own items are right where they are right in another module, and so is what stands behind them
+pub front_ok : (is : List Item) → own_items is ≡ true → (E F : List Entry) (ds : List String) → SameEnv E F → (js ks : List Item) →
+    (next : SameEnv (all_declared E is) (all_declared F is) → items_ok (all_declared F is) (all_driven ds is) ks ≡ true →
+    items_ok (all_declared E is) (all_driven ds is) js ≡ true) →
+    items_ok F ds (is ++ ks) ≡ true → items_ok E ds (is ++ js) ≡ true
+front_ok [] o E F ds h js ks next ok = next h ok
+front_ok (i ∷ is) o E F ds h js ks next ok =
     let (a, b) = and_parts (own_item i) (own_items is) o in
-    let (c, d) = and_parts (item_ok F ds i) (items_ok (declared F i) (driven ds i) is) ok in
+    let (c, d) = and_parts (item_ok F ds i) (items_ok (declared F i) (driven ds i) (is ++ ks)) ok in
     and_from (item_ok E ds i) (items_ok (declared E i) (driven ds i) (is ++ js)) (item_same E F h ds i a ∙ c)
-    (front_ok (declared E i) (declared F i) (driven ds i) is (declared_same E F h i a) b d js g)
+    (front_ok is b (declared E i) (declared F i) (driven ds i) (declared_same E F h i a) js ks next d)
 
 -- ---- other names
 
@@ -274,7 +288,6 @@ module _ (x : String) (f : own x ≡ false) where
   one_kind p E (reg w y) o = declare_kind p (kind_of w) y E (and_parts (own y) (own_width w) o).0
   one_kind p E (memory w y k) o = declare_kind p a_memory y E (and_parts (own y) (own_width w && own_size k) o).0
   one_kind p E (wire w y e) o = declare_kind p (wire_kind w) y E (and_parts (own y) (own_width w && own_expr e) o).0
-  one_kind p E (function w g v y ls s) o = absurd cc
   one_kind p E (settles s) o = refl
   one_kind p E (clocked s) o = refl
 
@@ -297,7 +310,6 @@ module _ (x : String) (f : own x ≡ false) where
   one_taken E (reg w y) o = declare_taken (kind_of w) y E (and_parts (own y) (own_width w) o).0
   one_taken E (memory w y k) o = declare_taken a_memory y E (and_parts (own y) (own_width w && own_size k) o).0
   one_taken E (wire w y e) o = declare_taken (wire_kind w) y E (and_parts (own y) (own_width w && own_expr e) o).0
-  one_taken E (function w g v y ls s) o = absurd cc
   one_taken E (settles s) o = refl
   one_taken E (clocked s) o = refl
 

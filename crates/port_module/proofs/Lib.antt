@@ -1,11 +1,9 @@
 -- names of ports, and other names
 pub mod Names
--- scopes and stores that agree on other names go on doing so
-mod Alike
 -- the cases of rows
 mod Cases
 -- the rows of a net with other numbers
-mod Rows
+pub mod Rows
 -- what both modules declare
 mod Scopes
 -- what the registers of ports hold

@@ -6,10 +6,11 @@ use Rattle.std.proofs.lemmas.Bool.{and_parts, and_from, cases_lt, le-leb, leb-tr
 use Rattle.std.proofs.lemmas.Fmt.{decimal_injective, decimal_by_steps}
 use Prim.Native.String.{String}
 use lib.Dec.{T}
-use lib.Text.{eqt, eqt→eq, eqt_refl}
+use lib.Text.{eqt, eqt_refl}
 use Rattle.verilog_tree.specs.Names.{text_of}
 use Rattle.verilog_tree.specs.WellFormed.{member, letter, letters, keywords, identifier}
 use Rattle.verilog_tree.proofs.Names.{codes_more}
+use Rattle.verilog_frames.proofs.Names.{apart_names, foreign, turned}
 use Rattle.port_module.specs.Names.{arg_name, held_name}
 
 -- these bytes begin so
@@ -26,42 +27,26 @@ own x = not (begins (codes "arg") (codes x)) && not (begins (codes "held") (code
 pub later : (i j : ℕ) → i ≤ j → (i ≡ j → ⊥) → suc i ≤ j
 later i j l d = ⊎_elim (λ h. h) (λ h. absurd (d (omega (arith, l, h)))) (cases_lt i j)
 
--- a truth is `true`, and back
-holds_of : (b : Bool) → b ≡ true → T b
-holds_of true e = tt
-holds_of false e = let n : ⊥ = cc in absurd n
-
-true_of : (b : Bool) → T b → b ≡ true
-true_of true t = refl
-true_of false t = absurd t
-
-no_is : (b : Bool) → (b ≡ true → ⊥) → b ≡ false
-no_is true h = absurd (h refl)
-no_is false h = refl
-
 pub same_name : (x : String) → eqt x x ≡ true
-same_name x = true_of (eqt x x) (eqt_refl x)
-
-pub one_name : (x y : String) → eqt x y ≡ true → x ≡ y
-one_name x y e = eqt→eq x y (holds_of (eqt x y) e)
-
--- texts that aren't the same
-other_names : (x y : String) → (x ≡ y → ⊥) → eqt x y ≡ false
-other_names x y h = no_is (eqt x y) (λ e. h (one_name x y e))
+same_name x = go (eqt x x) (eqt_refl x)
+  where
+    go : (b : Bool) → T b → b ≡ true
+    go true t = refl
+    go false t = absurd t
 
 -- a name of the one kind isn't one of the other
 pub foreign_own : (x y : String) → own x ≡ false → own y ≡ true → eqt x y ≡ false
-foreign_own x y h g = other_names x y (λ e. let z : false ≡ true = sym h ∙ ap own e ∙ g in absurd cc)
+foreign_own = turned own
 
 pub own_foreign : (x y : String) → own x ≡ true → own y ≡ false → eqt x y ≡ false
-own_foreign x y h g = other_names x y (λ e. let z : true ≡ false = sym h ∙ ap own e ∙ g in absurd cc)
+own_foreign = foreign own
 
 -- a port isn't a register that holds one
 pub arg_held : (i j : ℕ) → eqt (arg_name i) (held_name j) ≡ false
-arg_held i j = other_names (arg_name i) (held_name j) (λ e. let z : 97 ≡ 104 = ap (λ x. get_or (codes x) 0 0) e in omega (arith, z))
+arg_held i j = apart_names (arg_name i) (held_name j) (λ e. let z : 97 ≡ 104 = ap (λ x. get_or (codes x) 0 0) e in omega (arith, z))
 
 pub held_arg : (i j : ℕ) → eqt (held_name i) (arg_name j) ≡ false
-held_arg i j = other_names (held_name i) (arg_name j) (λ e. let z : 104 ≡ 97 = ap (λ x. get_or (codes x) 0 0) e in omega (arith, z))
+held_arg i j = apart_names (held_name i) (arg_name j) (λ e. let z : 104 ≡ 97 = ap (λ x. get_or (codes x) 0 0) e in omega (arith, z))
 
 -- digits and no more
 abbrev digits_only : List ℕ → Bool
@@ -109,10 +94,10 @@ tail_codes i j p q e =
     (sym (digit_codes (decimal i) (decimal_digits i p)) ∙ e ∙ digit_codes (decimal j) (decimal_digits j q))
 
 pub args_apart : (i j : ℕ) → i < 2 ^ 64 → j < 2 ^ 64 → (i ≡ j → ⊥) → eqt (arg_name i) (arg_name j) ≡ false
-args_apart i j p q n = other_names (arg_name i) (arg_name j) (λ e. n (tail_codes i j p q (ap (λ x. drop 3 (codes x)) e)))
+args_apart i j p q n = apart_names (arg_name i) (arg_name j) (λ e. n (tail_codes i j p q (ap (λ x. drop 3 (codes x)) e)))
 
 pub helds_apart : (i j : ℕ) → i < 2 ^ 64 → j < 2 ^ 64 → (i ≡ j → ⊥) → eqt (held_name i) (held_name j) ≡ false
-helds_apart i j p q n = other_names (held_name i) (held_name j) (λ e. n (tail_codes i j p q (ap (λ x. drop 4 (codes x)) e)))
+helds_apart i j p q n = apart_names (held_name i) (held_name j) (λ e. n (tail_codes i j p q (ap (λ x. drop 4 (codes x)) e)))
 
 -- digits go on an identifier
 digit_letters : (ds : List ℕ) → digits_only ds ≡ true → letters ds ≡ true

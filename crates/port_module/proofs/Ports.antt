@@ -5,16 +5,19 @@ use Rattle.std.specs.Prelude.{nat_eq}
 use Rattle.std.proofs.lemmas.Bool.{cases_eq}
 use Prim.Native.String.{String}
 use lib.Text.{eqt}
-use Rattle.verilog_tree.specs.Tree.{name}
+use Rattle.verilog_tree.specs.Tree.{Stmt, name}
 use Rattle.verilog_tree.specs.Meaning.{Store, Scope, chosen, fit, nonzero, set_vec, holds, fire}
 use Rattle.circuit_module.specs.Fixed.{block}
-use Rattle.cell_module.specs.Fixed.{cell_clock}
 use Rattle.open_nets.specs.Numbers.{given}
 use Rattle.port_module.specs.Names.{arg_name, held_name}
 use Rattle.port_module.specs.Module.{port_at, held_sets, port_clock}
 use Rattle.port_module.specs.Edges.{set_args}
 use Rattle.port_module.proofs.Names.{own, foreign_own, arg_held, args_apart, helds_apart, later, same_name}
-use Rattle.port_module.proofs.Alike.{SameStore, fire_same, fire_kept, SameScope}
+use Rattle.verilog_frames.proofs.Alike as alike
+
+-- agreeing on own names
+abbrev pub Same : Store → Store → Type 0
+Same = alike.SameStore own
 
 -- ---- numbers that registers hold, from the i-th on
 
@@ -69,7 +72,7 @@ Args i [] S = Unit {0}
 Args i (v ∷ vs) S = (S.vec (arg_name i) ≡ v) × Args (suc i) vs S
 
 -- a name that isn't own is set
-pub set_foreign : (x : String) → own x ≡ false → (n : ℕ) (S T : Store) → SameStore S T → SameStore (set_vec x n S) T
+pub set_foreign : (x : String) → own x ≡ false → (n : ℕ) (S T : Store) → Same S T → Same (set_vec x n S) T
 set_foreign x f n S T h = record {
   vec = λ y o. ap (λ b. chosen b n (S.vec y)) (foreign_own x y f o) ∙ h.vec y o;
   mem = h.mem;
@@ -77,7 +80,7 @@ set_foreign x f n S T h = record {
 }
 
 -- what isn't a port stays
-pub args_same : (i : ℕ) (vs : List ℕ) (S T : Store) → SameStore S T → SameStore (set_args i vs S) T
+pub args_same : (i : ℕ) (vs : List ℕ) (S T : Store) → Same S T → Same (set_args i vs S) T
 args_same i [] S T h = h
 args_same i (v ∷ vs) S T h = args_same (suc i) vs (set_vec (arg_name i) v S) T (set_foreign (arg_name i) refl v S T h)
 
@@ -115,10 +118,10 @@ module _ (P : Scope) (R : Store) where
   one_more i zero F = refl
   one_more i (suc n) F = refl
 
-  sets_same : (i n : ℕ) (F G : Store) → SameStore F G → SameStore (fire P R (block (held_sets i n)) F) G
+  sets_same : (i n : ℕ) (F G : Store) → Same F G → Same (fire P R (block (held_sets i n)) F) G
   sets_same i zero F G h = h
   sets_same i (suc n) F G h =
-      subst (λ X. SameStore X G) (sym (one_more i n F))
+      subst (λ X. Same X G) (sym (one_more i n F))
       (sets_same (suc i) n (set_vec (held_name i) (takes i) F) G (set_foreign (held_name i) refl (takes i) F G h))
 
   sets_leave : (j i n : ℕ) (F : Store) → j < i → i + n < 2 ^ 64 →
@@ -154,37 +157,39 @@ module _ (P : Scope) (R : Store) where
     hold_by (suc i) vs A S a.1 (λ j l m. h j (omega (arith, l)) (omega (arith, m))),
   )
 
-  -- at reset the registers take the ports
-  pub takes_ports : (n : ℕ) (vs : List ℕ) (S : Store) → length vs ≡ n → n < 2 ^ 64 → R.vec "rst" ≡ 1 →
-      ((j : ℕ) → j < n → P.width (held_name j) ≡ 64) → ((j : ℕ) → R.vec (arg_name j) ≡ S.vec (arg_name j)) → Args 0 vs S →
-      Holding 0 vs (fire P R (port_clock n) R)
-  takes_ports zero [] S e b r w g a = tt
-  takes_ports zero (v ∷ vs) S e b r w g a = absurd (omega (arith, e))
-  takes_ports (suc n) vs S e b r w g a =
-      let F : Store = fire P R cell_clock R in
-      let A : Store = fire P R (block (held_sets 0 (suc n))) F in
-      let is : fire P R (port_clock (suc n)) R ≡ A = ap (λ m. chosen (nonzero m) A F) r in
-      subst (λ X. Holding 0 vs X) (sym is)
-      (hold_by 0 vs A S a (λ j l m. let k : j < suc n = omega (arith, m, e) in
-      sets_take j 0 (suc n) F l (omega (arith, k)) (omega (arith, b)) ∙ ap (λ u. fit u (R.vec (arg_name j))) (w j k) ∙ ap (fit 64) (g j)))
+  module _ (s : Stmt) (o : alike.own_stmt own s ≡ true) where
+    -- at reset the registers take the ports
+    pub takes_ports : (n : ℕ) (vs : List ℕ) (S : Store) → length vs ≡ n → n < 2 ^ 64 → R.vec "rst" ≡ 1 →
+        ((j : ℕ) → j < n → P.width (held_name j) ≡ 64) → ((j : ℕ) → R.vec (arg_name j) ≡ S.vec (arg_name j)) → Args 0 vs S →
+        Holding 0 vs (fire P R (port_clock n s) R)
+    takes_ports zero [] S e b r w g a = tt
+    takes_ports zero (v ∷ vs) S e b r w g a = absurd (omega (arith, e))
+    takes_ports (suc n) vs S e b r w g a =
+        let F : Store = fire P R s R in
+        let A : Store = fire P R (block (held_sets 0 (suc n))) F in
+        let is : fire P R (port_clock (suc n) s) R ≡ A = ap (λ m. chosen (nonzero m) A F) r in
+        subst (λ X. Holding 0 vs X) (sym is)
+        (hold_by 0 vs A S a (λ j l m. let k : j < suc n = omega (arith, m, e) in
+        sets_take j 0 (suc n) F l (omega (arith, k)) (omega (arith, b)) ∙ ap (λ u. fit u (R.vec (arg_name j))) (w j k)
+        ∙ ap (fit 64) (g j)))
 
-  -- and else they keep what they have
-  pub keeps_ports : (n j : ℕ) → R.vec "rst" ≡ 0 → (fire P R (port_clock n) R).vec (held_name j) ≡ R.vec (held_name j)
-  keeps_ports zero j r = fire_kept P (held_name j) refl R cell_clock refl R
-  keeps_ports (suc n) j r =
-      let F : Store = fire P R cell_clock R in
-      ap (λ m. (chosen (nonzero m) (fire P R (block (held_sets 0 (suc n))) F) F).vec (held_name j)) r
-      ∙ fire_kept P (held_name j) refl R cell_clock refl R
+    -- and else they keep what they have
+    pub keeps_ports : (n j : ℕ) → R.vec "rst" ≡ 0 → (fire P R (port_clock n s) R).vec (held_name j) ≡ R.vec (held_name j)
+    keeps_ports zero j r = alike.fire_kept own P (held_name j) refl R s o R
+    keeps_ports (suc n) j r =
+        let F : Store = fire P R s R in
+        ap (λ m. (chosen (nonzero m) (fire P R (block (held_sets 0 (suc n))) F) F).vec (held_name j)) r
+        ∙ alike.fire_kept own P (held_name j) refl R s o R
 
-  either_one : (b : Bool) (A B G : Store) → SameStore A G → SameStore B G → SameStore (chosen b A B) G
-  either_one true A B G h g = h
-  either_one false A B G h g = g
+    either_one : (b : Bool) (A B G : Store) → Same A G → Same B G → Same (chosen b A B) G
+    either_one true A B G h g = h
+    either_one false A B G h g = g
 
-  -- all else goes as without ports
-  pub clock_same : (Q : Scope) → SameScope P Q → (U : Store) → SameStore R U → (n : ℕ) →
-      SameStore (fire P R (port_clock n) R) (fire Q U cell_clock U)
-  clock_same Q same U h zero = fire_same P Q same R U h cell_clock refl R U h
-  clock_same Q same U h (suc n) =
-      let f = fire_same P Q same R U h cell_clock refl R U h in
-      either_one (holds P R (name "rst")) (fire P R (block (held_sets 0 (suc n))) (fire P R cell_clock R)) (fire P R cell_clock R)
-      (fire Q U cell_clock U) (sets_same 0 (suc n) (fire P R cell_clock R) (fire Q U cell_clock U) f) f
+    -- all else goes as without ports
+    pub clock_same : (Q : Scope) → alike.SameScope own P Q → (U : Store) → Same R U → (n : ℕ) →
+        Same (fire P R (port_clock n s) R) (fire Q U s U)
+    clock_same Q same U h zero = alike.fire_same own P Q same R U h s o R U h
+    clock_same Q same U h (suc n) =
+        let f = alike.fire_same own P Q same R U h s o R U h in
+        either_one (holds P R (name "rst")) (fire P R (block (held_sets 0 (suc n))) (fire P R s R)) (fire P R s R) (fire Q U s U)
+        (sets_same 0 (suc n) (fire P R s R) (fire Q U s U) f) f

@@ -6,246 +6,162 @@ use Rattle.std.proofs.lemmas.Bool.{and_parts, cases_eq}
 use Prim.Native.String.{String}
 use lib.Text.{eqt}
 use Rattle.cell_core.specs.Sizes.{Sizes}
-use Rattle.verilog_tree.specs.Tree.{Expr, Stmt, Arms, count, Width, upto, Item, note, gap, size, constant, input, output, reg, memory, wire}
-use Rattle.verilog_tree.specs.Tree.{function, settles, clocked}
-use Rattle.verilog_tree.specs.Meaning.{Store, Scope, width_of, param_in, named_here, width_in, words_in, scope, settled, clocked_in}
-use Rattle.verilog_tree.proofs.Frames.{items_leave}
-use Rattle.cell_module.specs.Fixed.{cell_ports, cell_port_notes, cell_constants, cell_registers, way_wires, next_row_notes}
-use Rattle.cell_module.specs.Fixed.{next_row_block, list_wires, cell_fork_wires, number_wires, cell_clock_notes, cell_clock}
-use Rattle.cell_module.specs.Module.{cell_sizes, cell_product, cell_module_with}
-use Rattle.port_module.specs.Names.{arg_name, held_name}
-use Rattle.port_module.specs.Module.{arg_inputs, arg_notes, held_regs, held_registers, port_clock, port_module_with}
-use Rattle.port_module.proofs.Names.{own, own_foreign, foreign_own, arg_held, later, same_name}
-use Rattle.port_module.proofs.Alike.{own_size, own_expr, own_width, own_stmt, own_items, SameScope, amount_same}
+use Rattle.verilog_tree.specs.Tree.{Stmt, Arms, Item, note, gap, size, constant, input, output, reg, memory, wire, settles}
+use Rattle.verilog_tree.specs.Tree.{clocked}
+use Rattle.verilog_tree.specs.Meaning.{Store, Scope, fit, set_vec, width_of, param_in, named_here, width_in, words_in, scope, settled}
+use Rattle.verilog_tree.proofs.Frames.{leaves_arms, items_leave}
+use Rattle.circuit_module.specs.Sizes.{channel_bits}
+use Rattle.cell_module.specs.Fixed.{cell_ports, cell_constants, cell_registers, next_row_notes, next_row_block, list_wires, cell_fork_wires}
+use Rattle.cell_module.specs.Fixed.{number_wires}
+use Rattle.cell_module.specs.Module.{cell_sizes, cell_product}
+use Rattle.port_module.specs.Names.{held_name}
+use Rattle.port_module.specs.Module.{arg_inputs, arg_notes, held_regs, held_registers, Parts, parts_of, port_clock, port_module_with}
+use Rattle.port_module.proofs.Names.{own, own_foreign, arg_held, later, same_name}
+use Rattle.verilog_frames.proofs.Alike as alike
+use Rattle.verilog_frames.proofs.Declares.{foreign_items, param_front, param_over, width_front, words_front, words_over}
+use Rattle.verilog_frames.proofs.Declares as declares
+use Rattle.verilog_frames.proofs.Lists.{idle, tame, own_of}
 
--- items of which own names know nothing, and which do nothing
-pub record Silent (is : List Item) : Type 0 where
-  pub param : (js : List Item) (x : String) → param_in (is ++ js) x ≡ param_in js x
-  pub width : (p : String → ℕ) (js : List Item) (x : String) → own x ≡ true → width_in p (is ++ js) x ≡ width_in p js x
-  pub words : (p : String → ℕ) (js : List Item) (x : String) → words_in p (is ++ js) x ≡ words_in p js x
-  pub settles : (P : Scope) (js : List Item) (S : Store) → settled P (is ++ js) S ≡ settled P js S
-  pub clocks : (P : Scope) (js : List Item) (R S : Store) → clocked_in P (is ++ js) R S ≡ clocked_in P js R S
-  pub leaves : (P : Scope) (x : String) (js : List Item) → items_leave P x (is ++ js) ≡ items_leave P x js
+-- ---- what differs between both modules, and what doesn't
 
-silent_end : Silent []
-silent_end = record {
-  param = λ js x. refl;
-  width = λ p js x o. refl;
-  words = λ p js x. refl;
-  settles = λ P js S. refl;
-  clocks = λ P js R S. refl;
-  leaves = λ P x js. refl;
+-- what is known of the parts that differ: their names are own, what stands in front of the rows leads to the start at a reset, and nothing
+-- but the world sets `rst`
+pub record Known (p : Parts) : Type 0 where
+  pub said : tame own p.said ≡ true
+  pub ways : tame own p.ways ≡ true
+  pub numbers : tame own p.numbers ≡ true
+  pub head : tame own p.head ≡ true
+  pub clock : alike.own_stmt own p.clock ≡ true
+  pub quiet : idle p.said ≡ true
+  pub starts : (wires start : ℕ) (z : Sizes) (rows : Arms) (S : Store) →
+      (settled (scope (port_module_with p 0 wires start z rows)) p.ways (set_vec "rst" 1 S)).vec "goes" ≡
+      fit (channel_bits wires) (fit (channel_bits wires) start)
+  pub keeps : (P : Scope) (wires start : ℕ) (z : Sizes) (rows : Arms) → leaves_arms "rst" rows ≡ true →
+      items_leave P "rst" (port_module_with p 0 wires start z rows) ≡ true
+
+-- the numbers' wires are, with a multiplier and without
+numbers_tame : (multiplies : Bool) → tame own (number_wires (cell_product multiplies)) ≡ true
+numbers_tame true = refl
+numbers_tame false = refl
+
+-- the parts of each of both modules
+pub known : (late multiplies : Bool) → Known (parts_of late multiplies)
+known false m = record {
+  said = refl;
+  ways = refl;
+  numbers = numbers_tame m;
+  head = refl;
+  clock = refl;
+  quiet = refl;
+  starts = λ W s z rows S. refl;
+  keeps = λ P W s z rows h. ap (λ b. b && true) h;
+}
+known true m = record {
+  said = refl;
+  ways = refl;
+  numbers = refl;
+  head = refl;
+  clock = refl;
+  quiet = refl;
+  starts = λ W s z rows S. refl;
+  keeps = λ P W s z rows h. ap (λ b. b && true) h;
 }
 
-silent_note : (s : String) (is : List Item) → Silent is → Silent (note s ∷ is)
-silent_note s is h = record {
-  param = h.param;
-  width = h.width;
-  words = h.words;
-  settles = h.settles;
-  clocks = h.clocks;
-  leaves = h.leaves;
-}
+-- ---- ports and the registers that hold them
 
-silent_gap : (is : List Item) → Silent is → Silent (gap ∷ is)
-silent_gap is h = record {
-  param = h.param;
-  width = h.width;
-  words = h.words;
-  settles = h.settles;
-  clocks = h.clocks;
-  leaves = h.leaves;
-}
+-- own names know nothing of them
+pub foreign_args : (i n : ℕ) → foreign_items own (arg_inputs i n) ≡ true
+foreign_args i zero = refl
+foreign_args i (suc n) = foreign_args (suc i) n
 
-silent_input : (w : Width) (y : String) → own y ≡ false → (is : List Item) → Silent is → Silent (input w y ∷ is)
-silent_input w y f is h = record {
-  param = h.param;
-  width = λ p js x o. ap (λ b. elim b [ true ↦ width_of p w | false ↦ width_in p (is ++ js) x ]) (foreign_own y x f o) ∙ h.width p js x o;
-  words = h.words;
-  settles = h.settles;
-  clocks = h.clocks;
-  leaves = h.leaves;
-}
+pub foreign_notes : (n : ℕ) → foreign_items own (arg_notes n) ≡ true
+foreign_notes zero = refl
+foreign_notes (suc n) = refl
 
-silent_reg : (w : Width) (y : String) → own y ≡ false → (is : List Item) → Silent is → Silent (reg w y ∷ is)
-silent_reg w y f is h = record {
-  param = h.param;
-  width = λ p js x o. ap (λ b. elim b [ true ↦ width_of p w | false ↦ width_in p (is ++ js) x ]) (foreign_own y x f o) ∙ h.width p js x o;
-  words = h.words;
-  settles = h.settles;
-  clocks = h.clocks;
-  leaves = h.leaves;
-}
+foreign_regs : (i n : ℕ) → foreign_items own (held_regs i n) ≡ true
+foreign_regs i zero = refl
+foreign_regs i (suc n) = foreign_regs (suc i) n
 
-pub silent_args : (i n : ℕ) → Silent (arg_inputs i n)
-silent_args i zero = silent_end
-silent_args i (suc n) = silent_input (upto (count 63)) (arg_name i) refl (arg_inputs (suc i) n) (silent_args (suc i) n)
+pub foreign_held : (n : ℕ) → foreign_items own (held_registers n) ≡ true
+foreign_held zero = refl
+foreign_held (suc n) = foreign_regs 0 (suc n)
 
-pub silent_notes : (n : ℕ) → Silent (arg_notes n)
-silent_notes zero = silent_end
-silent_notes (suc n) = silent_note _ [] silent_end
+-- and they do nothing
+pub idle_args : (i n : ℕ) → idle (arg_inputs i n) ≡ true
+idle_args i zero = refl
+idle_args i (suc n) = idle_args (suc i) n
 
-silent_regs : (i n : ℕ) → Silent (held_regs i n)
-silent_regs i zero = silent_end
-silent_regs i (suc n) = silent_reg (upto (count 63)) (held_name i) refl (held_regs (suc i) n) (silent_regs (suc i) n)
+pub idle_notes : (n : ℕ) → idle (arg_notes n) ≡ true
+idle_notes zero = refl
+idle_notes (suc n) = refl
 
-pub silent_held : (n : ℕ) → Silent (held_registers n)
-silent_held zero = silent_end
-silent_held (suc n) = silent_gap _ (silent_note _ (held_regs 0 (suc n)) (silent_regs 0 (suc n)))
+idle_regs : (i n : ℕ) → idle (held_regs i n) ≡ true
+idle_regs i zero = refl
+idle_regs i (suc n) = idle_regs (suc i) n
+
+pub idle_held : (n : ℕ) → idle (held_registers n) ≡ true
+idle_held zero = refl
+idle_held (suc n) = idle_regs 0 (suc n)
+
+-- ---- both modules
 
 -- the parts of a module behind its rows
-abbrev pub rest_of : Expr → Stmt → List Item
-rest_of product c = list_wires ++ (cell_fork_wires ++ (number_wires product ++ (cell_clock_notes ++ clocked c ∷ [])))
+abbrev pub rest_of : Parts → Stmt → List Item
+rest_of p c = list_wires ++ (cell_fork_wires ++ (p.numbers ++ (p.head ++ clocked c ∷ [])))
 
 -- and behind its registers
-abbrev pub rows_of : Arms → Expr → Stmt → List Item
-rows_of rows product c = way_wires ++ (next_row_notes ++ next_row_block rows ∷ rest_of product c)
+abbrev pub rows_of : Parts → Arms → Stmt → List Item
+rows_of p rows c = p.ways ++ (next_row_notes ++ next_row_block rows ∷ rest_of p c)
 
--- A relation of two modules that keeps own items, passes over silent ones, and looks at no rows, holds of both.
-pub by_parts : (Rel : List Item → List Item → Type 0) →
-    (front : (is : List Item) → own_items is ≡ true → (js ks : List Item) → Rel js ks → Rel (is ++ js) (is ++ ks)) →
-    (over : (is : List Item) → Silent is → (js ks : List Item) → Rel js ks → Rel (is ++ js) ks) →
+-- A relation of two modules that keeps own items, passes over ports and their registers, and looks at no rows, holds of both.
+pub by_parts : (p : Parts) → Known p → (Rel : List Item → List Item → Type 0) →
+    (front : (is : List Item) → tame own is ≡ true → (js ks : List Item) → Rel js ks → Rel (is ++ js) (is ++ ks)) →
+    (over : (is : List Item) → foreign_items own is ≡ true → idle is ≡ true → (js ks : List Item) → Rel js ks → Rel (is ++ js) ks) →
     (rows others : Arms) →
     (found : (js ks : List Item) → Rel js ks → Rel (next_row_block rows ∷ js) (next_row_block others ∷ ks)) →
-    (product : Expr) → own_expr product ≡ true → (n wires start : ℕ) (z : Sizes) →
-    Rel (clocked (port_clock n) ∷ []) (clocked cell_clock ∷ []) →
-    Rel (port_module_with n wires start z rows product) (cell_module_with wires start z others product)
-by_parts Rel front over rows others found product o n wires start z h =
-    front cell_ports refl _ _ (over (arg_inputs 0 n) (silent_args 0 n) _ _ (over (arg_notes n) (silent_notes n) _ _
-    (front cell_port_notes refl _ _ (front (cell_sizes wires start z) refl _ _ (front cell_constants refl _ _ (front cell_registers refl _ _
-    (over (held_registers n) (silent_held n) _ _ (front way_wires refl _ _ (front next_row_notes refl _ _ (found _ _
-    (front list_wires refl _ _ (front cell_fork_wires refl _ _ (front (number_wires product) (numbers product o) _ _
-    (front cell_clock_notes refl (clocked (port_clock n) ∷ []) (clocked cell_clock ∷ []) h))))))))))))))
-  where
-    numbers : (product : Expr) → own_expr product ≡ true → own_items (number_wires product) ≡ true
-    numbers product o = ap (λ b. b && true) o
+    (n wires start : ℕ) (z : Sizes) → Rel (clocked (port_clock n p.clock) ∷ []) (clocked p.clock ∷ []) →
+    Rel (port_module_with p n wires start z rows) (port_module_with p 0 wires start z others)
+by_parts p f Rel front over rows others found n wires start z h =
+    front cell_ports refl _ _ (over (arg_inputs 0 n) (foreign_args 0 n) (idle_args 0 n) _ _
+    (over (arg_notes n) (foreign_notes n) (idle_notes n) _ _ (front p.said f.said _ _ (front (cell_sizes wires start z) refl _ _
+    (front cell_constants refl _ _ (front cell_registers refl _ _ (over (held_registers n) (foreign_held n) (idle_held n) _ _
+    (front p.ways f.ways _ _ (front next_row_notes refl _ _ (found _ _ (front list_wires refl _ _ (front cell_fork_wires refl _ _
+    (front p.numbers f.numbers _ _ (front p.head f.head (clocked (port_clock n p.clock) ∷ []) (clocked p.clock ∷ []) h))))))))))))))
 
-pub own_product : (b : Bool) → own_expr (cell_product b) ≡ true
-own_product true = refl
-own_product false = refl
+-- ---- widths
 
--- ---- parameters
-
--- what stands in front says the same of parameters
-param_front : (is js ks : List Item) → ((x : String) → param_in js x ≡ param_in ks x) → (x : String) →
-    param_in (is ++ js) x ≡ param_in (is ++ ks) x
-param_front [] js ks h x = h x
-param_front (note s ∷ is) js ks h x = param_front is js ks h x
-param_front (gap ∷ is) js ks h x = param_front is js ks h x
-param_front (size y n ∷ is) js ks h x = ap (λ m. named_here y x n m) (param_front is js ks h x)
-param_front (constant w y n ∷ is) js ks h x = ap (λ m. named_here y x n m) (param_front is js ks h x)
-param_front (input w y ∷ is) js ks h x = param_front is js ks h x
-param_front (output w y ∷ is) js ks h x = param_front is js ks h x
-param_front (reg w y ∷ is) js ks h x = param_front is js ks h x
-param_front (memory w y k ∷ is) js ks h x = param_front is js ks h x
-param_front (wire w y e ∷ is) js ks h x = param_front is js ks h x
-param_front (function w f v y ls s ∷ is) js ks h x = param_front is js ks h x
-param_front (settles s ∷ is) js ks h x = param_front is js ks h x
-param_front (clocked s ∷ is) js ks h x = param_front is js ks h x
-
--- ---- widths and words
-
-module _ (p q : String → ℕ) (same : (x : String) → own x ≡ true → p x ≡ q x) where
-  width_same : (w : Width) → own_width w ≡ true → width_of p w ≡ width_of q w
-  width_same Width.one o = refl
-  width_same (upto h) o = ap suc (amount_same p q same h o)
-  width_same (Width.wide k) o = amount_same p q same k o
-  width_same Width.integer o = refl
-
-  one_width : (y x : String) (w : Width) → own_width w ≡ true → (n m : ℕ) → n ≡ m →
-      named_here y x (width_of p w) n ≡ named_here y x (width_of q w) m
-  one_width y x w o n m h = let a = width_same w o in λ i. named_here y x (a i) (h i)
-
-  width_front : (is : List Item) → own_items is ≡ true → (js ks : List Item) →
-      ((x : String) → own x ≡ true → width_in p js x ≡ width_in q ks x) → (x : String) → own x ≡ true →
-      width_in p (is ++ js) x ≡ width_in q (is ++ ks) x
-  width_front [] o js ks h x a = h x a
-  width_front (note s ∷ is) o js ks h x a = width_front is o js ks h x a
-  width_front (gap ∷ is) o js ks h x a = width_front is o js ks h x a
-  width_front (size y n ∷ is) o js ks h x a =
-      ap (λ m. named_here y x 32 m) (width_front is (and_parts (own y) (own_items is) o).1 js ks h x a)
-  width_front (constant w y n ∷ is) o js ks h x a =
-      let (b, c) = and_parts (own y && own_width w) (own_items is) o in
-      one_width y x w (and_parts (own y) (own_width w) b).1 _ _ (width_front is c js ks h x a)
-  width_front (input w y ∷ is) o js ks h x a =
-      let (b, c) = and_parts (own y && own_width w) (own_items is) o in
-      one_width y x w (and_parts (own y) (own_width w) b).1 _ _ (width_front is c js ks h x a)
-  width_front (output w y ∷ is) o js ks h x a =
-      let (b, c) = and_parts (own y && own_width w) (own_items is) o in
-      one_width y x w (and_parts (own y) (own_width w) b).1 _ _ (width_front is c js ks h x a)
-  width_front (reg w y ∷ is) o js ks h x a =
-      let (b, c) = and_parts (own y && own_width w) (own_items is) o in
-      one_width y x w (and_parts (own y) (own_width w) b).1 _ _ (width_front is c js ks h x a)
-  width_front (memory w y k ∷ is) o js ks h x a =
-      let (b, c) = and_parts (own y && (own_width w && own_size k)) (own_items is) o in
-      let (d, e) = and_parts (own y) (own_width w && own_size k) b in
-      one_width y x w (and_parts (own_width w) (own_size k) e).0 _ _ (width_front is c js ks h x a)
-  width_front (wire w y e ∷ is) o js ks h x a =
-      let (b, c) = and_parts (own y && (own_width w && own_expr e)) (own_items is) o in
-      let (d, f) = and_parts (own y) (own_width w && own_expr e) b in
-      one_width y x w (and_parts (own_width w) (own_expr e) f).0 _ _ (width_front is c js ks h x a)
-  width_front (function w f v y ls s ∷ is) o js ks h x a = absurd cc
-  width_front (settles s ∷ is) o js ks h x a = width_front is (and_parts (own_stmt s) (own_items is) o).1 js ks h x a
-  width_front (clocked s ∷ is) o js ks h x a = width_front is (and_parts (own_stmt s) (own_items is) o).1 js ks h x a
-
-  words_front : (is : List Item) → own_items is ≡ true → (js ks : List Item) →
-      ((x : String) → words_in p js x ≡ words_in q ks x) → (x : String) → words_in p (is ++ js) x ≡ words_in q (is ++ ks) x
-  words_front [] o js ks h x = h x
-  words_front (note s ∷ is) o js ks h x = words_front is o js ks h x
-  words_front (gap ∷ is) o js ks h x = words_front is o js ks h x
-  words_front (size y n ∷ is) o js ks h x = words_front is (and_parts (own y) (own_items is) o).1 js ks h x
-  words_front (constant w y n ∷ is) o js ks h x = words_front is (and_parts (own y && own_width w) (own_items is) o).1 js ks h x
-  words_front (input w y ∷ is) o js ks h x = words_front is (and_parts (own y && own_width w) (own_items is) o).1 js ks h x
-  words_front (output w y ∷ is) o js ks h x = words_front is (and_parts (own y && own_width w) (own_items is) o).1 js ks h x
-  words_front (reg w y ∷ is) o js ks h x = words_front is (and_parts (own y && own_width w) (own_items is) o).1 js ks h x
-  words_front (memory w y k ∷ is) o js ks h x =
-      let (b, c) = and_parts (own y && (own_width w && own_size k)) (own_items is) o in
-      let (d, e) = and_parts (own y) (own_width w && own_size k) b in
-      let m = amount_same p q same k (and_parts (own_width w) (own_size k) e).1 in
-      let n = words_front is c js ks h x in
-      λ i. named_here y x (m i) (n i)
-  words_front (wire w y e ∷ is) o js ks h x =
-      words_front is (and_parts (own y && (own_width w && own_expr e)) (own_items is) o).1 js ks h x
-  words_front (function w f v y ls s ∷ is) o js ks h x = absurd cc
-  words_front (settles s ∷ is) o js ks h x = words_front is (and_parts (own_stmt s) (own_items is) o).1 js ks h x
-  words_front (clocked s ∷ is) o js ks h x = words_front is (and_parts (own_stmt s) (own_items is) o).1 js ks h x
+-- another name is declared here
+passed : (y x : String) → own y ≡ true → own x ≡ false → (n m k : ℕ) → m ≡ k → named_here y x n m ≡ k
+passed y x a f n m k h = ap (λ b. elim b [ true ↦ n | false ↦ m ]) (own_foreign y x a f) ∙ h
 
 -- own items say nothing of a name that isn't own
-width_over : (p : String → ℕ) (x : String) → own x ≡ false → (is : List Item) → own_items is ≡ true → (js : List Item) →
+width_over : (p : String → ℕ) (x : String) → own x ≡ false → (is : List Item) → alike.own_items own is ≡ true → (js : List Item) →
     width_in p (is ++ js) x ≡ width_in p js x
 width_over p x f [] o js = refl
 width_over p x f (note s ∷ is) o js = width_over p x f is o js
 width_over p x f (gap ∷ is) o js = width_over p x f is o js
 width_over p x f (size y n ∷ is) o js =
-    let (a, b) = and_parts (own y) (own_items is) o in
-    ap (λ b. elim b [ true ↦ 32 | false ↦ width_in p (is ++ js) x ]) (own_foreign y x a f) ∙ width_over p x f is b js
+    let (a, b) = and_parts (own y) (alike.own_items own is) o in passed y x a f 32 _ _ (width_over p x f is b js)
 width_over p x f (constant w y n ∷ is) o js =
-    let (a, b) = and_parts (own y && own_width w) (own_items is) o in
-    ap (λ b. elim b [ true ↦ width_of p w | false ↦ width_in p (is ++ js) x ])
-    (own_foreign y x (and_parts (own y) (own_width w) a).0 f) ∙ width_over p x f is b js
+    let (a, b) = and_parts (own y && alike.own_width own w) (alike.own_items own is) o in
+    passed y x (and_parts (own y) (alike.own_width own w) a).0 f (width_of p w) _ _ (width_over p x f is b js)
 width_over p x f (input w y ∷ is) o js =
-    let (a, b) = and_parts (own y && own_width w) (own_items is) o in
-    ap (λ b. elim b [ true ↦ width_of p w | false ↦ width_in p (is ++ js) x ])
-    (own_foreign y x (and_parts (own y) (own_width w) a).0 f) ∙ width_over p x f is b js
+    let (a, b) = and_parts (own y && alike.own_width own w) (alike.own_items own is) o in
+    passed y x (and_parts (own y) (alike.own_width own w) a).0 f (width_of p w) _ _ (width_over p x f is b js)
 width_over p x f (output w y ∷ is) o js =
-    let (a, b) = and_parts (own y && own_width w) (own_items is) o in
-    ap (λ b. elim b [ true ↦ width_of p w | false ↦ width_in p (is ++ js) x ])
-    (own_foreign y x (and_parts (own y) (own_width w) a).0 f) ∙ width_over p x f is b js
+    let (a, b) = and_parts (own y && alike.own_width own w) (alike.own_items own is) o in
+    passed y x (and_parts (own y) (alike.own_width own w) a).0 f (width_of p w) _ _ (width_over p x f is b js)
 width_over p x f (reg w y ∷ is) o js =
-    let (a, b) = and_parts (own y && own_width w) (own_items is) o in
-    ap (λ b. elim b [ true ↦ width_of p w | false ↦ width_in p (is ++ js) x ])
-    (own_foreign y x (and_parts (own y) (own_width w) a).0 f) ∙ width_over p x f is b js
+    let (a, b) = and_parts (own y && alike.own_width own w) (alike.own_items own is) o in
+    passed y x (and_parts (own y) (alike.own_width own w) a).0 f (width_of p w) _ _ (width_over p x f is b js)
 width_over p x f (memory w y k ∷ is) o js =
-    let (a, b) = and_parts (own y && (own_width w && own_size k)) (own_items is) o in
-    ap (λ b. elim b [ true ↦ width_of p w | false ↦ width_in p (is ++ js) x ])
-    (own_foreign y x (and_parts (own y) (own_width w && own_size k) a).0 f) ∙ width_over p x f is b js
+    let (a, b) = and_parts (own y && (alike.own_width own w && alike.own_size own k)) (alike.own_items own is) o in
+    passed y x (and_parts (own y) (alike.own_width own w && alike.own_size own k) a).0 f (width_of p w) _ _ (width_over p x f is b js)
 width_over p x f (wire w y e ∷ is) o js =
-    let (a, b) = and_parts (own y && (own_width w && own_expr e)) (own_items is) o in
-    ap (λ b. elim b [ true ↦ width_of p w | false ↦ width_in p (is ++ js) x ])
-    (own_foreign y x (and_parts (own y) (own_width w && own_expr e) a).0 f) ∙ width_over p x f is b js
-width_over p x f (function w g v y ls s ∷ is) o js = absurd cc
-width_over p x f (settles s ∷ is) o js = width_over p x f is (and_parts (own_stmt s) (own_items is) o).1 js
-width_over p x f (clocked s ∷ is) o js = width_over p x f is (and_parts (own_stmt s) (own_items is) o).1 js
+    let (a, b) = and_parts (own y && (alike.own_width own w && alike.own_expr own e)) (alike.own_items own is) o in
+    passed y x (and_parts (own y) (alike.own_width own w && alike.own_expr own e) a).0 f (width_of p w) _ _ (width_over p x f is b js)
+width_over p x f (settles s ∷ is) o js = width_over p x f is (and_parts (alike.own_stmt own s) (alike.own_items own is) o).1 js
+width_over p x f (clocked s ∷ is) o js = width_over p x f is (and_parts (alike.own_stmt own s) (alike.own_items own is) o).1 js
 
 -- nor do the ports say anything of a register that holds one
 args_over : (p : String → ℕ) (j i n : ℕ) (js : List Item) → width_in p (arg_inputs i n ++ js) (held_name j) ≡ width_in p js (held_name j)
@@ -276,47 +192,48 @@ held_has p j i (suc n) js l m =
 
 -- ---- both scopes
 
-module _ (n wires start : ℕ) (z : Sizes) (rows others : Arms) (product : Expr) (o : own_expr product ≡ true) where
+module _ (p : Parts) (f : Known p) (n wires start : ℕ) (z : Sizes) (rows others : Arms) where
   abbrev is : List Item
-  is = port_module_with n wires start z rows product
+  is = port_module_with p n wires start z rows
 
   abbrev js : List Item
-  js = cell_module_with wires start z others product
+  js = port_module_with p 0 wires start z others
 
   params : (x : String) → param_in is x ≡ param_in js x
   params =
-      by_parts (λ is js. (x : String) → param_in is x ≡ param_in js x) (λ is o. param_front is) (λ is s js ks h x. s.param js x ∙ h x)
-      rows others (λ is js h. h) product o n wires start z (λ x. refl)
+      by_parts p f (λ is js. (x : String) → param_in is x ≡ param_in js x) (λ is t. param_front own is)
+      (λ is o i js ks h x. param_over own is o js x ∙ h x) rows others (λ is js h. h) n wires start z (λ x. refl)
 
   widths : (x : String) → own x ≡ true → width_in (param_in is) is x ≡ width_in (param_in js) js x
   widths =
-      by_parts (λ ks ls. (x : String) → own x ≡ true → width_in (param_in is) ks x ≡ width_in (param_in js) ls x)
-      (width_front (param_in is) (param_in js) (λ x a. params x)) (λ ks s ls ms h x a. s.width (param_in is) ls x a ∙ h x a)
-      rows others (λ is js h. h) product o n wires start z (λ x a. refl)
+      by_parts p f (λ ks ls. (x : String) → own x ≡ true → width_in (param_in is) ks x ≡ width_in (param_in js) ls x)
+      (λ ks t. width_front own (param_in is) (param_in js) (λ x a. params x) ks (own_of own ks t))
+      (λ ks o i ls ms h x a. declares.width_over own (param_in is) ks o ls x a ∙ h x a) rows others (λ is js h. h) n wires start z
+      (λ x a. refl)
 
   all_words : (x : String) → words_in (param_in is) is x ≡ words_in (param_in js) js x
   all_words =
-      by_parts (λ ks ls. (x : String) → words_in (param_in is) ks x ≡ words_in (param_in js) ls x)
-      (words_front (param_in is) (param_in js) (λ x a. params x)) (λ ks s ls ms h x. s.words (param_in is) ls x ∙ h x)
-      rows others (λ is js h. h) product o n wires start z (λ x. refl)
+      by_parts p f (λ ks ls. (x : String) → words_in (param_in is) ks x ≡ words_in (param_in js) ls x)
+      (λ ks t. words_front own (param_in is) (param_in js) (λ x a. params x) ks (own_of own ks t))
+      (λ ks o i ls ms h x. words_over own (param_in is) ks o ls x ∙ h x) rows others (λ is js h. h) n wires start z (λ x. refl)
 
   -- they agree on own names
-  pub same_scope : SameScope (scope is) (scope js)
+  pub same_scope : alike.SameScope own (scope is) (scope js)
   same_scope = record { width = widths; words = λ x a. all_words x; param = λ x a. params x }
 
   -- and a register that holds an argument has 64 bits
   pub held_width : (j : ℕ) → j < n → (scope is).width (held_name j) ≡ 64
   held_width j l =
-      let p = param_in is in
+      let q = param_in is in
       let x = held_name j in
-      let ks = rows_of rows product (port_clock n) in
+      let ks = rows_of p rows (port_clock n p.clock) in
       let e = held_registers n ++ ks in
       let d = cell_sizes wires start z ++ (cell_constants ++ (cell_registers ++ e)) in
-      let b = cell_port_notes ++ d in
-      width_over p x refl cell_ports refl (arg_inputs 0 n ++ (arg_notes n ++ b)) ∙ args_over p j 0 n (arg_notes n ++ b) ∙ notes_over p x n b
-      ∙ width_over p x refl cell_port_notes refl d
-      ∙ width_over p x refl (cell_sizes wires start z) refl (cell_constants ++ (cell_registers ++ e))
-      ∙ width_over p x refl cell_constants refl (cell_registers ++ e) ∙ width_over p x refl cell_registers refl e ∙ some n l ks
+      let b = p.said ++ d in
+      width_over q x refl cell_ports refl (arg_inputs 0 n ++ (arg_notes n ++ b)) ∙ args_over q j 0 n (arg_notes n ++ b) ∙ notes_over q x n b
+      ∙ width_over q x refl p.said (own_of own p.said f.said) d
+      ∙ width_over q x refl (cell_sizes wires start z) refl (cell_constants ++ (cell_registers ++ e))
+      ∙ width_over q x refl cell_constants refl (cell_registers ++ e) ∙ width_over q x refl cell_registers refl e ∙ some n l ks
     where
       some : (n : ℕ) → j < n → (ks : List Item) → width_in (param_in is) (held_registers n ++ ks) (held_name j) ≡ 64
       some zero l ks = absurd (omega arith)

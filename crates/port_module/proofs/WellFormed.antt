@@ -1,39 +1,34 @@
--- The module of a net with ports is well formed: the statement of `law_port_well_formed`. What it has of the module without ports is right
--- by computation, among the own names; the ports and the registers that hold them are new names.
+-- The module of a net with ports is well formed: the statement of `law_port_well_formed`. The module without ports is, whether its numbers
+-- may be late or not. What is right there is right here too, and the ports and the registers that hold them are new names.
 use Rattle.std.proofs.Common.{◌≡◌, ◌<◌, ◌≤◌, ◌+◌, ◌^◌, ℕ, zero, suc, Bool, true, false, not, cond, ◌&&◌, ◌||◌, List, [], ◌∷◌, ◌++◌, length}
-use Rattle.std.proofs.Common.{Option, Some, None, refl, ap, subst, ◌∙◌, arith, ⊎_elim}
+use Rattle.std.proofs.Common.{Option, Some, None, refl, ap, sym, subst, ◌∙◌, arith, ⊎_elim}
 use Rattle.std.specs.Prelude.{nat_eq}
-use Rattle.std.proofs.lemmas.Bool.{and_from, cases_eq}
+use Rattle.std.proofs.lemmas.Bool.{and_parts, and_from, cases_eq}
 use Prim.Native.String.{String}
 use lib.Text.{eqt}
-use Rattle.pcf_values.specs.declared.operator.Operator.TheVariants.{Plus, Minus, Times}
 use Rattle.net_build.specs.Nets.{NetTree}
 use Rattle.interleave_laws.specs.Start.{start_of}
-use Rattle.circuit_core.specs.Rows.{Channel, rises, falls, number, Row, GO, CONST, SUCC, PRED, TEST, FORK, JOIN, ANSWER, STAR, UNSTAR, LEFT}
-use Rattle.circuit_core.specs.Rows.{RIGHT, CON, PUSHR, PUSHL, SELECT, POP, BOXIN, BOXOUT, DOOROUT, DOORIN, FIXIN, FIXOUT, FIXVAR, DEAD}
-use Rattle.circuit_core.specs.Rows.{row_of, channel_of}
+use Rattle.circuit_core.specs.Rows.{Channel, rises, falls, number, Row, CONST, row_of, channel_of}
 use Rattle.cell_core.specs.Sizes.{Sizes}
-use Rattle.verilog_tree.specs.Tree.{num, const, name, whole, count, upto, Expr, Stmt, seq, cases, Arms, Item, input, reg, clocked}
+use Rattle.verilog_tree.specs.Tree.{num, const, name, whole, count, upto, Stmt, skip, seq, branch, cases, Arms, Item, input, reg, clocked}
 use Rattle.verilog_tree.specs.WellFormed.{Kind, Entry, a_register, an_input, register, vector, of_kind, member, apart, identifier, said_ok}
-use Rattle.verilog_tree.specs.WellFormed.{taken, new, expr_ok, sets_first, first_reads, target_ok, stmt_ok, arms_ok, targets, declare}
-use Rattle.verilog_tree.specs.WellFormed.{is_clock, item_ok, items_ok, all_declared, no_port, ports_first}
+use Rattle.verilog_tree.specs.WellFormed.{taken, new, first_reads, target_ok, stmt_ok, arms_ok, targets, declare}
+use Rattle.verilog_tree.specs.WellFormed.{is_clock, item_ok, items_ok, all_declared, no_port, ports_first, WellFormed}
 use Rattle.circuit_module.specs.Fixed.{set, block, no_row}
-use Rattle.circuit_module.specs.Module.{row_stmt, place_said, multiplies}
-use Rattle.cell_module.specs.Fixed.{way_wires, next_row_notes, next_row_block, list_wires, cell_fork_wires, number_wires, cell_clock_notes}
-use Rattle.cell_module.specs.Fixed.{cell_ports, cell_port_notes, cell_constants, cell_registers, cell_clock}
-use Rattle.cell_module.specs.Module.{cell_sizes, cell_product}
-use Rattle.cell_module.proofs.WellFormed.{place_said_ok}
+use Rattle.circuit_module.specs.Module.{row_stmt, place_said, row_arm, row_arms, multiplies}
+use Rattle.cell_module.specs.Fixed.{cell_ports, cell_constants, cell_registers, next_row_notes, next_row_block, list_wires, cell_fork_wires}
+use Rattle.cell_module.specs.Module.{cell_sizes}
+use Rattle.cell_module.proofs.WellFormed as cell
+use Rattle.late_module.proofs.WellFormed as late_one
 use Rattle.port_module.specs.Names.{arg_name, held_name}
 use Rattle.port_module.specs.Module.{port_at, held_stmt, constant_stmt, port_stmt, port_arm, port_arms, arg_inputs, arg_notes, held_regs}
-use Rattle.port_module.specs.Module.{held_registers, held_sets, port_clock, port_module}
+use Rattle.port_module.specs.Module.{held_registers, held_sets, Parts, parts_of, port_clock, port_module, plain_module}
 use Rattle.port_module.specs.Laws.{PortModuleIsWellFormed}
 use Rattle.port_module.proofs.Names.{arg_held, held_arg, args_apart, helds_apart, same_name, arg_identifier, held_identifier}
 use Rattle.port_module.proofs.Names.{all_own, later, none_of_own}
-use Rattle.port_module.proofs.Alike.{own_items, own_stmt}
 use Rattle.port_module.proofs.Cases.{by_row}
-use Rattle.port_module.proofs.Scopes.{rest_of, rows_of}
-use Rattle.port_module.proofs.Declared.{SameEnv, same_env, all_same, front_ok, stmt_same, item_same, kind_over, taken_over}
-use Rattle.port_module.proofs.Declared.{entries, entries_same, entries_have, entries_over, entries_taken}
+use Rattle.port_module.proofs.Declared.{own_stmt, own_items, SameEnv, same_env, all_driven, front_ok, stmt_same, item_same}
+use Rattle.port_module.proofs.Declared.{kind_over, taken_over, entries, entries_same, entries_have, entries_over, entries_taken}
 
 -- ---- ports stand first
 
@@ -41,9 +36,9 @@ args_first : (i n : ℕ) (js : List Item) → ports_first (arg_inputs i n ++ js)
 args_first i zero js = refl
 args_first i (suc n) js = args_first (suc i) n js
 
-notes_first : (n : ℕ) (js : List Item) → ports_first (arg_notes n ++ (cell_port_notes ++ js)) ≡ no_port js
-notes_first zero js = refl
-notes_first (suc n) js = refl
+notes_first : (n : ℕ) (js : List Item) → ports_first js ≡ no_port js → ports_first (arg_notes n ++ js) ≡ no_port js
+notes_first zero js e = e
+notes_first (suc n) js e = refl
 
 regs_no_port : (i n : ℕ) (js : List Item) → no_port (held_regs i n ++ js) ≡ no_port js
 regs_no_port i zero js = refl
@@ -181,135 +176,193 @@ in_range i (p ∷ ps) k j e = go (nat_eq p k) (in_range (suc i) ps k j) e
     go true ih h = let z : i ≡ j = cc in omega (arith, z)
     go false ih h = let l = ih h in omega (arith, l)
 
-abbrev driven_there : List String
-driven_there = "op" ∷ "to" ∷ "other" ∷ "number" ∷ []
+-- what a row's case sets
+abbrev mine : List String
+mine = "op" ∷ "to" ∷ "other" ∷ "number" ∷ []
 
--- the parts that are the same in both modules
-abbrev declarations : ℕ → ℕ → Sizes → List Item
-declarations wires start z = cell_port_notes ++ (cell_sizes wires start z ++ (cell_constants ++ cell_registers))
-
-abbrev ways : List Item
-ways = way_wires ++ next_row_notes
-
-abbrev wires_of : Expr → List Item
-wires_of product = list_wires ++ (cell_fork_wires ++ (number_wires product ++ cell_clock_notes))
-
--- what is declared above the rows, with no ports
-abbrev no_sizes : Sizes
-no_sizes = record { marks = 0; sigs = 0; boxes = 0; cells = 0; forks = 0 }
-
-abbrev above : List Entry
-above = all_declared (all_declared (all_declared [] cell_ports) (declarations 0 0 no_sizes)) ways
-
--- without ports each row's case names what is declared above it
-row_ok : (r : Row) → stmt_ok above driven_there (row_stmt r) ≡ true
-row_ok (CONST n c) = refl
-row_ok (GO c) = refl
-row_ok (SUCC c) = refl
-row_ok (PRED c) = refl
-row_ok (TEST c d) = refl
-row_ok (FORK c d) = refl
-row_ok (JOIN Plus s w) = refl
-row_ok (JOIN Minus s w) = refl
-row_ok (JOIN Times s w) = refl
-row_ok ANSWER = refl
-row_ok (STAR c) = refl
-row_ok (UNSTAR c) = refl
-row_ok (LEFT c) = refl
-row_ok (RIGHT c) = refl
-row_ok (CON c d) = refl
-row_ok (PUSHR c) = refl
-row_ok (PUSHL c) = refl
-row_ok (SELECT c d) = refl
-row_ok (POP c) = refl
-row_ok (BOXIN c) = refl
-row_ok (BOXOUT c) = refl
-row_ok (DOOROUT c) = refl
-row_ok (DOORIN c) = refl
-row_ok (FIXIN c) = refl
-row_ok (FIXOUT c d) = refl
-row_ok (FIXVAR c) = refl
-row_ok DEAD = refl
-
-module _ (E : List Entry) (same : SameEnv E above) (ps : List ℕ)
+-- a row's case is right with ports where it is right without
+module _ (E F : List Entry) (same : SameEnv E F) (ps : List ℕ)
     (held : (j : ℕ) → j < length ps → of_kind vector E (held_name j) ≡ true) where
-  fixed_ok : (s : Stmt) → stmt_ok above driven_there s ≡ true → own_stmt s ≡ true → stmt_ok E driven_there s ≡ true
-  fixed_ok s h o = stmt_same E above same driven_there s o ∙ h
+  fixed_ok : (s : Stmt) → own_stmt s ≡ true → stmt_ok F mine s ≡ true → stmt_ok E mine s ≡ true
+  fixed_ok s o h = stmt_same E F same mine s o ∙ h
 
-  held_case : (i : ℕ) (c : Channel) → i < length ps → stmt_ok E driven_there (held_stmt i c) ≡ true
-  held_case i c l =
-      and_from (stmt_ok E driven_there (set "op" (const "CONST"))) (stmt_ok E driven_there (seq (set "to" (num (number c)))
-      (set "number" (name (held_name i))))) (fixed_ok (set "op" (const "CONST")) refl refl)
-      (and_from (stmt_ok E driven_there (set "to" (num (number c)))) (stmt_ok E driven_there (set "number" (name (held_name i))))
-      (fixed_ok (set "to" (num (number c))) refl refl)
-      (and_from (target_ok E driven_there (whole "number")) (of_kind vector E (held_name i))
-      (and_from (of_kind register E "number") (member "number" driven_there) (same.kind register "number" refl) refl) (held i l)))
+  held_case : (i n : ℕ) (c : Channel) → i < length ps → stmt_ok F mine (row_stmt (CONST n c)) ≡ true →
+      stmt_ok E mine (held_stmt i c) ≡ true
+  held_case i n c l h =
+      let (a, b) = and_parts (stmt_ok E mine (set "op" (const "CONST"))) _ (fixed_ok (row_stmt (CONST n c)) refl h) in
+      let (d, e) = and_parts (stmt_ok E mine (set "to" (num (number c)))) _ b in
+      and_from (stmt_ok E mine (set "op" (const "CONST"))) _ a
+      (and_from (stmt_ok E mine (set "to" (num (number c)))) _ d
+      (and_from (target_ok E mine (whole "number")) (of_kind vector E (held_name i))
+      (and_parts (target_ok E mine (whole "number")) true e).0 (held i l)))
 
-  case_ok : (k : ℕ) (r : Row) → stmt_ok E driven_there (port_stmt ps k r) ≡ true
-  case_ok k r =
-      by_row (λ r. stmt_ok above driven_there (row_stmt r) ≡ true → stmt_ok E driven_there (port_stmt ps k r) ≡ true)
-      (λ r p h. ap (stmt_ok E driven_there) (p.case ps k) ∙ fixed_ok (row_stmt r) h p.names)
-      (λ n c h. go n c h (port_at 0 ps k) (in_range 0 ps k)) r (row_ok r)
+  case_ok : (k : ℕ) (r : Row) → stmt_ok F mine (row_stmt r) ≡ true → stmt_ok E mine (port_stmt ps k r) ≡ true
+  case_ok k =
+      by_row (λ r. stmt_ok F mine (row_stmt r) ≡ true → stmt_ok E mine (port_stmt ps k r) ≡ true)
+      (λ r p h. ap (stmt_ok E mine) (p.case ps k) ∙ fixed_ok (row_stmt r) p.names h) (λ n c h. go n c h (port_at 0 ps k) (in_range 0 ps k))
     where
-      go : (n : ℕ) (c : Channel) → stmt_ok above driven_there (row_stmt (CONST n c)) ≡ true → (o : Option ℕ) →
-          ((j : ℕ) → o ≡ Some j → j < 0 + length ps) → stmt_ok E driven_there (constant_stmt o n c) ≡ true
-      go n c g None h = fixed_ok (row_stmt (CONST n c)) g refl
-      go n c g (Some i) h = held_case i c (omega (arith, h i refl))
+      go : (n : ℕ) (c : Channel) → stmt_ok F mine (row_stmt (CONST n c)) ≡ true → (o : Option ℕ) →
+          ((j : ℕ) → o ≡ Some j → j < 0 + length ps) → stmt_ok E mine (constant_stmt o n c) ≡ true
+      go n c g None h = fixed_ok (row_stmt (CONST n c)) refl g
+      go n c g (Some i) h = held_case i n c (omega (arith, h i refl)) g
 
-  next_arm_ok : (c : Channel) (o : Option (ℕ × Row)) (rest : Arms) → arms_ok E driven_there rest ≡ true →
-      arms_ok E driven_there (port_arm ps c o rest) ≡ true
-  next_arm_ok c None rest h = h
-  next_arm_ok c (Some r) rest h =
-      and_from (stmt_ok E driven_there (port_stmt ps r.0 r.1) && said_ok (place_said c r.0)) (arms_ok E driven_there rest)
-      (and_from (stmt_ok E driven_there (port_stmt ps r.0 r.1)) (said_ok (place_said c r.0)) (case_ok r.0 r.1) (place_said_ok c r.0)) h
+  next_arm_ok : (c : Channel) (o : Option (ℕ × Row)) (others rows : Arms) →
+      (arms_ok F mine others ≡ true → arms_ok E mine rows ≡ true) →
+      arms_ok F mine (row_arm c o others) ≡ true → arms_ok E mine (port_arm ps c o rows) ≡ true
+  next_arm_ok c None others rows next h = next h
+  next_arm_ok c (Some r) others rows next h =
+      let (a, b) = and_parts (stmt_ok F mine (row_stmt r.1) && said_ok (place_said c r.0)) (arms_ok F mine others) h in
+      let (d, e) = and_parts (stmt_ok F mine (row_stmt r.1)) (said_ok (place_said c r.0)) a in
+      and_from (stmt_ok E mine (port_stmt ps r.0 r.1) && said_ok (place_said c r.0)) (arms_ok E mine rows)
+      (and_from (stmt_ok E mine (port_stmt ps r.0 r.1)) (said_ok (place_said c r.0)) (case_ok r.0 r.1 d) e) (next b)
 
-  cases_ok : (net : NetTree) (w n : ℕ) → arms_ok E driven_there (port_arms ps net w n) ≡ true
-  cases_ok net w zero = refl
-  cases_ok net w (suc n) =
-      next_arm_ok (rises w) (row_of net (rises w)) (port_arm ps (falls w) (row_of net (falls w)) (port_arms ps net (suc w) n))
-      (next_arm_ok (falls w) (row_of net (falls w)) (port_arms ps net (suc w) n) (cases_ok net (suc w) n))
+  cases_ok : (net : NetTree) (w n : ℕ) → arms_ok F mine (row_arms net w n) ≡ true → arms_ok E mine (port_arms ps net w n) ≡ true
+  cases_ok net w zero h = refl
+  cases_ok net w (suc n) h =
+      next_arm_ok (rises w) (row_of net (rises w)) (row_arm (falls w) (row_of net (falls w)) (row_arms net (suc w) n))
+      (port_arm ps (falls w) (row_of net (falls w)) (port_arms ps net (suc w) n))
+      (next_arm_ok (falls w) (row_of net (falls w)) (row_arms net (suc w) n) (port_arms ps net (suc w) n) (cases_ok net (suc w) n)) h
 
-  block_ok : (rows : Arms) → arms_ok E driven_there rows ≡ true → item_ok E [] (next_row_block rows) ≡ true
-  block_ok rows h =
+  -- the block of the rows
+  block_ok : (ds : List String) (others rows : Arms) → (arms_ok F mine others ≡ true → arms_ok E mine rows ≡ true) →
+      item_ok F ds (next_row_block others) ≡ true → item_ok E ds (next_row_block rows) ≡ true
+  block_ok ds others rows next h =
       let s = seq no_row (cases (name "goes") rows) in
-      and_from (apart (sets_first s) [] && first_reads (sets_first s) s) (stmt_ok E driven_there s) refl
-      (and_from (stmt_ok E driven_there no_row) (expr_ok E (name "goes") && arms_ok E driven_there rows) (fixed_ok no_row refl refl)
-      (and_from (of_kind vector E "goes") (arms_ok E driven_there rows) (same.kind vector "goes" refl) h))
+      let (a, b) = and_parts (apart mine ds && first_reads mine s) (stmt_ok F mine (seq no_row (cases (name "goes") others))) h in
+      let (c, d) = and_parts (stmt_ok F mine no_row) (of_kind vector F "goes" && arms_ok F mine others) b in
+      let (e, f) = and_parts (of_kind vector F "goes") (arms_ok F mine others) d in
+      and_from (apart mine ds && first_reads mine s) (stmt_ok E mine s) a
+      (and_from (stmt_ok E mine no_row) (of_kind vector E "goes" && arms_ok E mine rows) (fixed_ok no_row refl c)
+      (and_from (of_kind vector E "goes") (arms_ok E mine rows) (same.kind vector "goes" refl ∙ e) (next f)))
+
+-- ---- the parts, by whether numbers may be late
+
+-- what stands in front of the ports' registers, what stands in front of the rows, and behind them
+abbrev declarations : Parts → ℕ → ℕ → Sizes → List Item
+declarations p wires start z = p.said ++ (cell_sizes wires start z ++ (cell_constants ++ cell_registers))
+
+abbrev ways : Parts → List Item
+ways p = p.ways ++ next_row_notes
+
+abbrev wires_of : Parts → List Item
+wires_of p = list_wires ++ (cell_fork_wires ++ (p.numbers ++ p.head))
+
+-- both modules of these
+abbrev behind : Parts → Arms → Stmt → List Item
+behind p rows clock = ways p ++ (next_row_block rows ∷ (wires_of p ++ clocked clock ∷ []))
+
+abbrev plain : Parts → (wires start : ℕ) → Sizes → Arms → List Item
+plain p wires start z rows = cell_ports ++ (declarations p wires start z ++ behind p rows p.clock)
+
+abbrev ported : Parts → ℕ → (wires start : ℕ) → Sizes → Arms → List Item
+ported p n wires start z rows =
+    cell_ports ++ (arg_inputs 0 n ++ (arg_notes n ++ (declarations p wires start z ++ (held_registers n ++
+    behind p rows (port_clock n p.clock)))))
+
+plain_is : (late : Bool) (net : NetTree) (z : Sizes) →
+    plain_module late net z
+    ≡ plain (parts_of late (multiplies net.nodes)) (length net.wires) (number (channel_of (start_of net))) z
+    (row_arms net 0 (length net.wires))
+plain_is false net z = refl
+plain_is true net z = refl
+
+ported_is : (late : Bool) (net : NetTree) (z : Sizes) (ps : List ℕ) →
+    port_module late net z ps
+    ≡ ported (parts_of late (multiplies net.nodes)) (length ps) (length net.wires) (number (channel_of (start_of net))) z
+    (port_arms ps net 0 (length net.wires))
+ported_is false net z ps = refl
+ported_is true net z ps = refl
+
+-- the module without ports is well formed
+plain_ok : (late : Bool) (net : NetTree) (z : Sizes) → WellFormed (plain_module late net z) ≡ true
+plain_ok false net z = cell.well_formed net z
+plain_ok true net z = late_one.well_formed net z
+
+-- its names are own
+own_declarations : (late m : Bool) (wires start : ℕ) (z : Sizes) → own_items (declarations (parts_of late m) wires start z) ≡ true
+own_declarations false m wires start z = refl
+own_declarations true m wires start z = refl
+
+own_ways : (late m : Bool) → own_items (ways (parts_of late m)) ≡ true
+own_ways false m = refl
+own_ways true m = refl
+
+own_wires : (late m : Bool) → own_items (wires_of (parts_of late m)) ≡ true
+own_wires false false = refl
+own_wires false true = refl
+own_wires true m = refl
+
+own_clock : (late m : Bool) → own_stmt (parts_of late m).clock ≡ true
+own_clock false m = refl
+own_clock true m = refl
+
+-- ports stand first in it
+first_ok : (late m : Bool) (n wires start : ℕ) (z : Sizes) (rows : Arms) →
+    ports_first (ported (parts_of late m) n wires start z rows) ≡ true
+first_ok false m n wires start z rows =
+    let ks = behind (parts_of false m) rows (port_clock n (parts_of false m).clock) in
+    let js = declarations (parts_of false m) wires start z ++ (held_registers n ++ ks) in
+    args_first 0 n (arg_notes n ++ js) ∙ notes_first n js refl ∙ held_no_port n ks
+first_ok true m n wires start z rows =
+    let ks = behind (parts_of true m) rows (port_clock n (parts_of true m).clock) in
+    let js = declarations (parts_of true m) wires start z ++ (held_registers n ++ ks) in
+    args_first 0 n (arg_notes n ++ js) ∙ notes_first n js refl ∙ held_no_port n ks
+
+-- what is declared and driven above its clock
+abbrev above : Parts → (wires start : ℕ) → Sizes → List Entry
+above p wires start z =
+    all_declared (all_declared (all_declared (all_declared [] cell_ports) (declarations p wires start z)) (ways p)) (wires_of p)
+
+abbrev driven_above : Parts → (wires start : ℕ) → Sizes → List String
+driven_above p wires start z = all_driven (mine ++ all_driven (all_driven [] (declarations p wires start z)) (ways p)) (wires_of p)
+
+-- the names that are driven are own, and the clock's block may drive more
+own_driven : (late m : Bool) (wires start : ℕ) (z : Sizes) → all_own (driven_above (parts_of late m) wires start z) ≡ true
+own_driven false false wires start z = refl
+own_driven false true wires start z = refl
+own_driven true m wires start z = refl
+
+clock_more : (late m : Bool) (wires start : ℕ) (z : Sizes) (more : List String) → let c = (parts_of late m).clock in
+    stmt_ok (above (parts_of late m) wires start z) (targets c ++ more) (seq c (branch (name "rst") skip skip)) ≡ true
+clock_more false false wires start z more = refl
+clock_more false true wires start z more = refl
+clock_more true m wires start z more = refl
 
 -- ---- the clock
 
--- what is declared above the clock, with no ports
-abbrev all_above : List Entry
-all_above = all_declared above (wires_of (cell_product false))
-
-module _ (E : List Entry) (same : SameEnv E all_above) where
+-- the clock's block is right with the latch where it is right without
+module _ (E F : List Entry) (same : SameEnv E F) (ds : List String) (own_ds : all_own ds ≡ true) (c : Stmt) (own_c : own_stmt c ≡ true)
+    (drives : (more : List String) → stmt_ok F (targets c ++ more) (seq c (branch (name "rst") skip skip)) ≡ true) where
   clock_ok : (n : ℕ) → ((j : ℕ) → j < n → of_kind register E (held_name j) ≡ true) →
-      ((j : ℕ) → j < n → of_kind vector E (arg_name j) ≡ true) → item_ok E driven_there (clocked (port_clock n)) ≡ true
-  clock_ok zero held args = item_same E all_above same driven_there (clocked cell_clock) refl ∙ refl
-  clock_ok (suc n) held args =
-      let s = port_clock (suc n) in
-      and_from (of_kind is_clock E "clk" && apart mine driven_there) (stmt_ok E mine s)
-      (and_from (of_kind is_clock E "clk") (apart mine driven_there) (same.kind is_clock "clk" refl)
-      (apart_append (targets cell_clock) (latched 0 (suc n) ++ []) driven_there refl
-      (apart_append (latched 0 (suc n)) [] driven_there (latch_apart driven_there refl 0 (suc n)) refl)))
-      (and_from (stmt_ok E mine cell_clock) (expr_ok E (name "rst") && (stmt_ok E mine latch && true))
-      (stmt_same E all_above same mine cell_clock refl ∙ refl)
-      (and_from (of_kind vector E "rst") (stmt_ok E mine latch && true) (same.kind vector "rst" refl)
-      (and_from (stmt_ok E mine latch) true
-      (latch_ok E mine (suc n) held args
-      (λ j l. member_right (held_name j) (targets cell_clock) (latched 0 (suc n) ++ [])
+      ((j : ℕ) → j < n → of_kind vector E (arg_name j) ≡ true) → item_ok F ds (clocked c) ≡ true →
+      item_ok E ds (clocked (port_clock n c)) ≡ true
+  clock_ok zero held args h = item_same E F same ds (clocked c) own_c ∙ h
+  clock_ok (suc n) held args h =
+      let (a, b) = and_parts (of_kind is_clock F "clk" && apart (targets c) ds) (stmt_ok F (targets c) c) h in
+      let (d, e) = and_parts (of_kind is_clock F "clk") (apart (targets c) ds) a in
+      let (f, g) = and_parts (stmt_ok F all c) (of_kind vector F "rst" && true) (drives (latched 0 (suc n) ++ [])) in
+      and_from (of_kind is_clock E "clk" && apart all ds) (stmt_ok E all (port_clock (suc n) c))
+      (and_from (of_kind is_clock E "clk") (apart all ds) (same.kind is_clock "clk" refl ∙ d)
+      (apart_append (targets c) (latched 0 (suc n) ++ []) ds e
+      (apart_append (latched 0 (suc n)) [] ds (latch_apart ds own_ds 0 (suc n)) refl)))
+      (and_from (stmt_ok E all c) (of_kind vector E "rst" && (stmt_ok E all latch && true)) (stmt_same E F same all c own_c ∙ f)
+      (and_from (of_kind vector E "rst") (stmt_ok E all latch && true)
+      (same.kind vector "rst" refl ∙ (and_parts (of_kind vector F "rst") true g).0)
+      (and_from (stmt_ok E all latch) true
+      (latch_ok E all (suc n) held args
+      (λ j l. member_right (held_name j) (targets c) (latched 0 (suc n) ++ [])
       (member_left (held_name j) (latched 0 (suc n)) [] (has_target j 0 (suc n) (omega arith) (omega (arith, l))))) 0 (suc n)
       (omega arith)) refl)))
     where
       latch : Stmt
       latch = block (held_sets 0 (suc n))
 
-      mine : List String
-      mine = targets cell_clock ++ (latched 0 (suc n) ++ [])
+      all : List String
+      all = targets c ++ (latched 0 (suc n) ++ [])
 
 -- ---- the whole
 
-module _ (net : NetTree) (z : Sizes) (ps : List ℕ) (few : length ps < 2 ^ 64) where
+module _ (late : Bool) (net : NetTree) (z : Sizes) (ps : List ℕ) (few : length ps < 2 ^ 64) where
   abbrev N : ℕ
   N = length ps
 
@@ -319,13 +372,25 @@ module _ (net : NetTree) (z : Sizes) (ps : List ℕ) (few : length ps < 2 ^ 64) 
   abbrev start : ℕ
   start = number (channel_of (start_of net))
 
-  abbrev product : Expr
-  product = cell_product (multiplies net.nodes)
+  abbrev m : Bool
+  m = multiplies net.nodes
+
+  abbrev p : Parts
+  p = parts_of late m
 
   abbrev rows : Arms
   rows = port_arms ps net 0 W
 
-  -- what is declared: the ports, the sizes and registers, the registers that hold, the ways, and the wires
+  abbrev others : Arms
+  others = row_arms net 0 W
+
+  abbrev c : Stmt
+  c = port_clock N p.clock
+
+  abbrev D : List Item
+  D = declarations p W start z
+
+  -- what is declared: the ports, the sizes and registers, the registers that hold, the ways, and the wires; and without ports
   abbrev E0 : List Entry
   E0 = all_declared [] cell_ports
 
@@ -333,55 +398,48 @@ module _ (net : NetTree) (z : Sizes) (ps : List ℕ) (few : length ps < 2 ^ 64) 
   E1 = with_args 0 N E0
 
   abbrev E2 : List Entry
-  E2 = all_declared E1 (declarations W start z)
+  E2 = all_declared E1 D
 
   abbrev E3 : List Entry
   E3 = with_held 0 N E2
 
   abbrev E4 : List Entry
-  E4 = all_declared E3 ways
+  E4 = all_declared E3 (ways p)
 
   abbrev E5 : List Entry
-  E5 = all_declared E4 (wires_of product)
+  E5 = all_declared E4 (wires_of p)
 
-  same1 : SameEnv E1 E0
-  same1 = entries_same arg_name an_input (λ i. refl) 0 N E0 E0 (same_env E0)
+  abbrev F2 : List Entry
+  F2 = all_declared E0 D
 
-  same2 : SameEnv E2 (all_declared E0 (declarations W start z))
-  same2 = all_same (declarations W start z) refl E1 E0 same1
+  abbrev F4 : List Entry
+  F4 = all_declared F2 (ways p)
 
-  same3 : SameEnv E3 (all_declared E0 (declarations W start z))
-  same3 = entries_same held_name a_register (λ i. refl) 0 N E2 (all_declared E0 (declarations W start z)) same2
+  abbrev F5 : List Entry
+  F5 = all_declared F4 (wires_of p)
 
-  same4 : SameEnv E4 above
-  same4 = all_same ways refl E3 (all_declared E0 (declarations W start z)) same3
+  -- what is driven
+  abbrev ds2 : List String
+  ds2 = all_driven [] D
 
-  own_wires : (b : Bool) → own_items (wires_of (cell_product b)) ≡ true
-  own_wires true = refl
-  own_wires false = refl
-
-  wires_ok : (b : Bool) → items_ok above driven_there (wires_of (cell_product b)) ≡ true
-  wires_ok true = refl
-  wires_ok false = refl
-
-  same5 : SameEnv E5 all_above
-  same5 = all_same (wires_of product) (own_wires (multiplies net.nodes)) E4 above same4
+  abbrev ds4 : List String
+  ds4 = all_driven ds2 (ways p)
 
   -- what the ports and their registers are
-  held_kind : (p : Kind → Bool) (j : ℕ) → j < N → of_kind p E4 (held_name j) ≡ p a_register
-  held_kind p j l =
-      kind_over (held_name j) refl p E3 ways refl
-      ∙ entries_have held_name a_register (λ i. refl) p j 0 N E2 (omega arith) (omega (arith, l))
+  held_kind : (q : Kind → Bool) (j : ℕ) → j < N → of_kind q E4 (held_name j) ≡ q a_register
+  held_kind q j l =
+      kind_over (held_name j) refl q E3 (ways p) (own_ways late m)
+      ∙ entries_have held_name a_register (λ i. refl) q j 0 N E2 (omega arith) (omega (arith, l))
 
-  held_above : (p : Kind → Bool) (j : ℕ) → j < N → of_kind p E5 (held_name j) ≡ p a_register
-  held_above p j l = kind_over (held_name j) refl p E4 (wires_of product) (own_wires (multiplies net.nodes)) ∙ held_kind p j l
+  held_above : (q : Kind → Bool) (j : ℕ) → j < N → of_kind q E5 (held_name j) ≡ q a_register
+  held_above q j l = kind_over (held_name j) refl q E4 (wires_of p) (own_wires late m) ∙ held_kind q j l
 
-  arg_above : (p : Kind → Bool) (j : ℕ) → j < N → of_kind p E5 (arg_name j) ≡ p an_input
-  arg_above p j l =
-      kind_over (arg_name j) refl p E4 (wires_of product) (own_wires (multiplies net.nodes)) ∙ kind_over (arg_name j) refl p E3 ways refl
-      ∙ entries_over held_name a_register (λ i. refl) p (arg_name j) (λ i. held_arg i j) 0 N E2
-      ∙ kind_over (arg_name j) refl p E1 (declarations W start z) refl
-      ∙ entries_have arg_name an_input (λ i. refl) p j 0 N E0 (omega arith) (omega (arith, l))
+  arg_above : (q : Kind → Bool) (j : ℕ) → j < N → of_kind q E5 (arg_name j) ≡ q an_input
+  arg_above q j l =
+      kind_over (arg_name j) refl q E4 (wires_of p) (own_wires late m) ∙ kind_over (arg_name j) refl q E3 (ways p) (own_ways late m)
+      ∙ entries_over held_name a_register (λ i. refl) q (arg_name j) (λ i. held_arg i j) 0 N E2
+      ∙ kind_over (arg_name j) refl q E1 D (own_declarations late m W start z)
+      ∙ entries_have arg_name an_input (λ i. refl) q j 0 N E0 (omega arith) (omega (arith, l))
 
   -- they are new
   arg_new : (j : ℕ) → taken E0 (arg_name j) ≡ false
@@ -389,40 +447,51 @@ module _ (net : NetTree) (z : Sizes) (ps : List ℕ) (few : length ps < 2 ^ 64) 
 
   held_new : (j : ℕ) → taken E2 (held_name j) ≡ false
   held_new j =
-      taken_over (held_name j) refl E1 (declarations W start z) refl
+      taken_over (held_name j) refl E1 D (own_declarations late m W start z)
       ∙ entries_taken arg_name an_input (λ i. refl) (held_name j) (λ i. arg_held i j) 0 N E0
       ∙ taken_over (held_name j) refl [] cell_ports refl
 
-  -- from the end
-  end_ok : items_ok E4 driven_there (wires_of product ++ clocked (port_clock N) ∷ []) ≡ true
-  end_ok =
-      front_ok E4 above driven_there (wires_of product) same4 (own_wires (multiplies net.nodes)) (wires_ok (multiplies net.nodes))
-      (clocked (port_clock N) ∷ [])
-      (and_from (item_ok E5 driven_there (clocked (port_clock N))) true
-      (clock_ok E5 same5 N (λ j l. held_above register j l) (λ j l. arg_above vector j l)) refl)
+  -- from the end: what is right without ports is right with them
+  end_ok : SameEnv E5 F5 → items_ok F5 (driven_above p W start z) (clocked p.clock ∷ []) ≡ true →
+      items_ok E5 (driven_above p W start z) (clocked c ∷ []) ≡ true
+  end_ok same h =
+      let ds = driven_above p W start z in
+      and_from (item_ok E5 ds (clocked c)) true
+      (clock_ok E5 F5 same ds (own_driven late m W start z) p.clock (own_clock late m) (clock_more late m W start z) N
+      (λ j l. held_above register j l) (λ j l. arg_above vector j l) (and_parts (item_ok F5 ds (clocked p.clock)) true h).0) refl
 
-  rows_ok : items_ok E3 [] (rows_of rows product (port_clock N)) ≡ true
-  rows_ok =
-      front_ok E3 (all_declared E0 (declarations W start z)) [] ways same3 refl refl
-      (next_row_block rows ∷ rest_of product (port_clock N))
-      (and_from (item_ok E4 [] (next_row_block rows)) (items_ok E4 driven_there (rest_of product (port_clock N)))
-      (block_ok E4 same4 ps (λ j l. held_kind vector j l) rows (cases_ok E4 same4 ps (λ j l. held_kind vector j l) net 0 W)) end_ok)
+  rows_ok : SameEnv E4 F4 → items_ok F4 ds4 (next_row_block others ∷ (wires_of p ++ clocked p.clock ∷ [])) ≡ true →
+      items_ok E4 ds4 (next_row_block rows ∷ (wires_of p ++ clocked c ∷ [])) ≡ true
+  rows_ok same h =
+      let (a, b) = and_parts (item_ok F4 ds4 (next_row_block others)) (items_ok F4 (mine ++ ds4) (wires_of p ++ clocked p.clock ∷ [])) h in
+      and_from (item_ok E4 ds4 (next_row_block rows)) (items_ok E4 (mine ++ ds4) (wires_of p ++ clocked c ∷ []))
+      (block_ok E4 F4 same ps (λ j l. held_kind vector j l) ds4 others rows
+      (cases_ok E4 F4 same ps (λ j l. held_kind vector j l) net 0 W) a)
+      (front_ok (wires_of p) (own_wires late m) E4 F4 (mine ++ ds4) same (clocked c ∷ []) (clocked p.clock ∷ []) end_ok b)
 
-  all_ok : items_ok [] [] (port_module net z ps) ≡ true
+  registers_ok : SameEnv E2 F2 → items_ok F2 ds2 (behind p others p.clock) ≡ true →
+      items_ok E2 ds2 (held_registers N ++ behind p rows c) ≡ true
+  registers_ok same h =
+      held_ok ds2 (behind p rows c) N E2 few held_new
+      (front_ok (ways p) (own_ways late m) E3 F2 ds2 (entries_same held_name a_register (λ i. refl) 0 N E2 F2 same)
+      (next_row_block rows ∷ (wires_of p ++ clocked c ∷ [])) (next_row_block others ∷ (wires_of p ++ clocked p.clock ∷ [])) rows_ok h)
+
+  all_ok : items_ok [] [] (plain p W start z others) ≡ true → items_ok [] [] (ported p N W start z rows) ≡ true
   all_ok =
-      let ks = rows_of rows product (port_clock N) in
-      let d = declarations W start z ++ (held_registers N ++ ks) in
-      front_ok [] [] [] cell_ports (same_env []) refl refl (arg_inputs 0 N ++ (arg_notes N ++ d))
-      (args_ok [] (arg_notes N ++ d) 0 N E0 (omega (arith, few)) (λ j l m. arg_new j)
-      (notes_ok [] d N E1
-      (front_ok E1 E0 [] (declarations W start z) same1 refl refl (held_registers N ++ ks) (held_ok [] ks N E2 few held_new rows_ok))))
+      let ks = behind p rows c in
+      front_ok cell_ports refl [] [] [] (same_env []) (arg_inputs 0 N ++ (arg_notes N ++ (D ++ (held_registers N ++ ks))))
+      (D ++ behind p others p.clock)
+      (λ same h. args_ok [] (arg_notes N ++ (D ++ (held_registers N ++ ks))) 0 N E0 (omega (arith, few)) (λ j l m. arg_new j)
+      (notes_ok [] (D ++ (held_registers N ++ ks)) N E1
+      (front_ok D (own_declarations late m W start z) E1 E0 [] (entries_same arg_name an_input (λ i. refl) 0 N E0 E0 same)
+      (held_registers N ++ ks) (behind p others p.clock) registers_ok h)))
 
-  first_ok : ports_first (port_module net z ps) ≡ true
-  first_ok =
-      let ks = rows_of rows product (port_clock N) in
-      let d = cell_sizes W start z ++ (cell_constants ++ (cell_registers ++ (held_registers N ++ ks))) in
-      args_first 0 N (arg_notes N ++ (cell_port_notes ++ d)) ∙ notes_first N d ∙ held_no_port N ks
+  with_ports : WellFormed (port_module late net z ps) ≡ true
+  with_ports =
+      ap WellFormed (ported_is late net z ps)
+      ∙ and_from (ports_first (ported p N W start z rows)) (items_ok [] [] (ported p N W start z rows)) (first_ok late m N W start z rows)
+      (all_ok (and_parts (ports_first (plain p W start z others)) (items_ok [] [] (plain p W start z others))
+      (sym (ap WellFormed (plain_is late net z)) ∙ plain_ok late net z)).1)
 
 pub well_formed : PortModuleIsWellFormed
-well_formed net z ps few =
-    and_from (ports_first (port_module net z ps)) (items_ok [] [] (port_module net z ps)) (first_ok net z ps few) (all_ok net z ps few)
+well_formed = with_ports

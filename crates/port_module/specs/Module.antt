@@ -1,19 +1,22 @@
 -- The module of a net over cells with a port for each of some places of its list of nodes: where a constant stands there, the module reads
--- what the port was at reset in place of its number. With no places it is the module without ports.
+-- what the port was at reset in place of its number. With no places it is the module without ports. It is one of two: each number is there
+-- in its move's cycle (`cell_module`), or it may be late (`late_module`).
 -- The numbers are held in registers that nothing but a reset changes. So the world may change the ports as it likes while the module runs,
 -- and what is asked for twice is the same number both times.
-use Rattle.std.specs.Prelude.{ℕ, zero, suc, List, [], ◌∷◌, ◌++◌, length, Option, Some, None, nat_eq, if◌then◌else◌}
+use Rattle.std.specs.Prelude.{ℕ, zero, suc, Bool, true, false, List, [], ◌∷◌, ◌++◌, length, Option, Some, None, nat_eq, if◌then◌else◌}
 use Rattle.net_build.specs.Nets.{NetTree}
 use Rattle.interleave_laws.specs.Start.{start_of}
 use Rattle.circuit_core.specs.Rows.{Channel, rises, falls, number, Row, CONST, row_of, channel_of}
 use Rattle.cell_core.specs.Sizes.{Sizes}
-use Rattle.verilog_tree.specs.Tree.{num, const, name, Expr, Stmt, skip, seq, branch, Arms, otherwise, arm, upto, count, Item, note, gap}
+use Rattle.verilog_tree.specs.Tree.{num, const, name, Stmt, skip, seq, branch, Arms, otherwise, arm, upto, count, Item, note, gap}
 use Rattle.verilog_tree.specs.Tree.{input, reg, clocked}
 use Rattle.circuit_module.specs.Fixed.{set, block}
 use Rattle.circuit_module.specs.Module.{row_stmt, place_said, multiplies}
 use Rattle.cell_module.specs.Fixed.{cell_ports, cell_port_notes, cell_constants, cell_registers, way_wires, next_row_notes}
 use Rattle.cell_module.specs.Fixed.{next_row_block, list_wires, cell_fork_wires, number_wires, cell_clock_notes, cell_clock}
-use Rattle.cell_module.specs.Module.{cell_sizes, cell_product}
+use Rattle.cell_module.specs.Module.{cell_sizes, cell_product, cell_module}
+use Rattle.late_module.specs.Fixed.{late_port_notes, late_registers, late_way_wires, late_number_wires, late_clock_notes, late_clock}
+use Rattle.late_module.specs.Module.{late_module}
 use Rattle.port_module.specs.Names.{arg_name, held_name}
 
 -- which of the places a node is, where these are numbered from i on
@@ -72,20 +75,51 @@ abbrev pub held_sets : (i n : ℕ) → List Stmt
 held_sets i zero = []
 held_sets i (suc n) = set (held_name i) (name (arg_name i)) ∷ held_sets (suc i) n
 
+-- what differs where numbers may be late: what is said of the ports, what stands in front of the rows, what the numbers come to, the head
+-- of the last part, and the block of the clock
+pub record Parts : Type 0 where
+  pub said : List Item
+  pub ways : List Item
+  pub numbers : List Item
+  pub head : List Item
+  pub clock : Stmt
+
+-- each number is there in its move's cycle, with a multiplier where one is needed, or it may be late
+abbrev pub parts_of : (late multiplies : Bool) → Parts
+parts_of false m = record {
+  said = cell_port_notes;
+  ways = way_wires;
+  numbers = number_wires (cell_product m);
+  head = cell_clock_notes;
+  clock = cell_clock;
+}
+parts_of true m = record {
+  said = late_port_notes;
+  ways = late_registers ++ late_way_wires;
+  numbers = late_number_wires;
+  head = late_clock_notes;
+  clock = late_clock;
+}
+
 -- the block of the clock: the arguments are taken at reset
-abbrev pub port_clock : ℕ → Stmt
-port_clock zero = cell_clock
-port_clock (suc n) = seq cell_clock (branch (name "rst") (block (held_sets 0 (suc n))) skip)
+abbrev pub port_clock : ℕ → Stmt → Stmt
+port_clock zero s = s
+port_clock (suc n) s = seq s (branch (name "rst") (block (held_sets 0 (suc n))) skip)
 
 -- the module of any rows with so many ports
-abbrev pub port_module_with : ℕ → (wires start : ℕ) → Sizes → Arms → Expr → List Item
-port_module_with n wires start z rows product =
-    cell_ports ++ (arg_inputs 0 n ++ (arg_notes n ++ (cell_port_notes ++ (cell_sizes wires start z ++ (cell_constants ++ (cell_registers ++
-    (held_registers n ++ (way_wires ++ (next_row_notes ++ (next_row_block rows ∷ (list_wires ++ (cell_fork_wires ++
-    (number_wires product ++ (cell_clock_notes ++ clocked (port_clock n) ∷ []))))))))))))))
+abbrev pub port_module_with : Parts → ℕ → (wires start : ℕ) → Sizes → Arms → List Item
+port_module_with p n wires start z rows =
+    cell_ports ++ (arg_inputs 0 n ++ (arg_notes n ++ (p.said ++ (cell_sizes wires start z ++ (cell_constants ++ (cell_registers ++
+    (held_registers n ++ (p.ways ++ (next_row_notes ++ (next_row_block rows ∷ (list_wires ++ (cell_fork_wires ++
+    (p.numbers ++ (p.head ++ clocked (port_clock n p.clock) ∷ []))))))))))))))
 
 -- the module of a net with a port for each of these places
-abbrev pub port_module : NetTree → Sizes → List ℕ → List Item
-port_module net z ps =
-    port_module_with (length ps) (length net.wires) (number (channel_of (start_of net))) z (port_arms ps net 0 (length net.wires))
-    (cell_product (multiplies net.nodes))
+abbrev pub port_module : (late : Bool) → NetTree → Sizes → List ℕ → List Item
+port_module late net z ps =
+    port_module_with (parts_of late (multiplies net.nodes)) (length ps) (length net.wires) (number (channel_of (start_of net))) z
+    (port_arms ps net 0 (length net.wires))
+
+-- and without ports
+abbrev pub plain_module : (late : Bool) → NetTree → Sizes → List Item
+plain_module false net z = cell_module net z
+plain_module true net z = late_module net z
