@@ -1,6 +1,5 @@
 -- The module of a function tells what the module of the term that is applied to its arguments does.
-use Rattle.std.proofs.Common.{◌≡◌, ◌⊎◌, ◌<◌, ◌^◌, ℕ, zero, suc, List, [], length, refl, sym, ap, subst, ◌∙◌, arith}
-use Rattle.std.proofs.Common.{inl, inr, ⊎_elim}
+use Rattle.std.proofs.Common.{◌≡◌, ◌<◌, ◌^◌, ℕ, zero, suc, Bool, true, false, List, [], length, refl, sym, ap, subst, ◌∙◌, arith}
 use Rattle.pcf_values.specs.Terms.{TermTree, nat}
 use Rattle.pcf_values.specs.Typing.{HasType}
 use Rattle.net_build.specs.Nets.{NetTree}
@@ -12,14 +11,20 @@ use Rattle.open_nets.specs.Numbers.{places_from, places, with_numbers}
 use Rattle.open_nets.specs.Laws.{AppliedHas, AppliedNet, OtherNumbers, SameShape}
 use Rattle.verilog_tree.specs.Meaning.{Store, edge, set_vec}
 use Rattle.circuit_module.specs.InRange.{FewWires}
+use Rattle.circuit_module.specs.Module.{multiplies}
 use Rattle.cell_core.specs.Sizes.{Sizes, Covers}
-use Rattle.cell_module.specs.Module.{cell_module}
 use Rattle.cell_edges.specs.Laws.{cell_reset_edge}
 use Rattle.cell_steps.specs.Laws.{cell_edge, cell_edges}
-use Rattle.cell_means.specs.Means.{Ended, ModuleTells}
+use Rattle.cell_means.specs.Means.{ModuleTells}
 use Rattle.cell_means.specs.Laws.{CellModuleMeans, CellModuleIsFull, CellModuleIsRight, CellModuleWants}
+use Rattle.late_steps.specs.Stands.{late_edge, late_edges, late_reset_edge}
+use Rattle.late_steps.specs.Laws.{LateTells, LateMeans}
+use Rattle.late_steps.proofs.Told.{Shows, tells_same, full_or_tells}
+use Rattle.port_module.specs.Module.{plain_module}
 use Rattle.port_module.specs.Laws.{PortEdges, plain_edges}
-use Rattle.port_means.specs.Laws.{after_call, FunctionMeans, FunctionIsFull, FunctionIsRight, FunctionWants}
+use Rattle.port_module.proofs.Rows.{times_kept}
+use Rattle.port_means.specs.Laws.{after_call, FunctionMeans, FunctionIsFull, FunctionIsRight, FunctionWants, LateFunctionMeans}
+use Rattle.port_means.specs.Laws.{SameProducts}
 use Rattle.port_means.proofs.Begins.{begins}
 
 -- as many places as arguments
@@ -27,45 +32,45 @@ places_length : (k n : ℕ) → length (places_from k n) ≡ n
 places_length k zero = refl
 places_length k (suc n) = ap suc (places_length (suc (suc (suc k))) n)
 
--- so many edges of the module without ports
-edges_are : (net : NetTree) (z : Sizes) (k : ℕ) (S : Store) → plain_edges net z k S ≡ cell_edges net z k S
-edges_are net z zero S = refl
-edges_are net z (suc k) S = edges_are net z k (cell_edge net z S)
+-- a reset of the module without ports, and so many edges
+abbrev after_reset : (late : Bool) → NetTree → Sizes → ℕ → Store → Store
+after_reset false net z k S = cell_edges net z k (cell_reset_edge net z S)
+after_reset true net z k S = late_edges net z k (late_reset_edge net z S)
 
--- what the ports show decides what they tell
-pub record Shows (T V : Store) : Type 0 where
-  done : T.vec "done" ≡ V.vec "done"
-  result : T.vec "result" ≡ V.vec "result"
-  full : T.vec "full" ≡ V.vec "full"
-  moves : T.vec "moves" ≡ V.vec "moves"
+cell_edges_are : (net : NetTree) (z : Sizes) (k : ℕ) (S : Store) → plain_edges false net z k S ≡ cell_edges net z k S
+cell_edges_are net z zero S = refl
+cell_edges_are net z (suc k) S = cell_edges_are net z k (cell_edge net z S)
 
--- so one tells what the other tells
-tells_same : (m : TermTree) (k : ℕ) (T V : Store) → Shows T V → ModuleTells m k V → ModuleTells m k T
-tells_same m k T V s t = record {
-  done = ⊎_elim (λ e. inl (s.done ∙ e)) (λ e. inr (s.done ∙ e)) t.done;
-  ends = λ e.
-      let d : Ended m k V = t.ends (sym s.done ∙ e) in
-      record {
-        value = d.value;
-        result = s.result ∙ d.result;
-        means = d.means;
-        length = d.length;
-        is_length = d.is_length;
-        within = d.within;
-        moves = s.moves ∙ d.moves;
-      };
-  comes = λ v a w. let c = t.comes v a w in (s.done ∙ c.0, s.result ∙ c.1);
-  waits = λ e. let w = t.waits (sym s.done ∙ e) in (w.0, s.moves ∙ w.1);
-}
+late_edges_are : (net : NetTree) (z : Sizes) (k : ℕ) (S : Store) → plain_edges true net z k S ≡ late_edges net z k S
+late_edges_are net z zero S = refl
+late_edges_are net z (suc k) S = late_edges_are net z k (late_edge net z S)
 
-full_or_tells : (m : TermTree) (k : ℕ) (T V : Store) → Shows T V → (V.vec "full" ≡ 1) ⊎ ((V.vec "full" ≡ 0) × ModuleTells m k V) →
-    (T.vec "full" ≡ 1) ⊎ ((T.vec "full" ≡ 0) × ModuleTells m k T)
-full_or_tells m k T V s (inl f) = inl (s.full ∙ f)
-full_or_tells m k T V s (inr t) = inr (s.full ∙ t.0, tells_same m k T V s t.1)
+run_is : (late : Bool) (net : NetTree) (z : Sizes) (k : ℕ) (S : Store) →
+    plain_edges late net z k (edge (plain_module late net z) (set_vec "rst" 1 S)) ≡ after_reset late net z k S
+run_is false net z k S = cell_edges_are net z k (cell_reset_edge net z S)
+run_is true net z k S = late_edges_are net z k (late_reset_edge net z S)
 
+-- what shows the same tells the same
 not_full_tells : (m : TermTree) (k : ℕ) (T V : Store) → Shows T V → (V.vec "full" ≡ 0) × ModuleTells m k V →
     (T.vec "full" ≡ 0) × ModuleTells m k T
 not_full_tells m k T V s t = (s.full ∙ t.0, tells_same m k T V s t.1)
+
+-- and where numbers may be late, after the same moves
+late_tells : (m : TermTree) (z : Sizes) (n : ℕ) (T V : Store) → Shows T V → LateTells m z n V → LateTells m z n T
+late_tells m z n T V s t = record {
+  moves = t.moves;
+  fewer = t.fewer;
+  bound = t.bound;
+  sharp = t.sharp;
+  tells = full_or_tells m t.moves T V s t.tells;
+  full = λ mem. s.full ∙ t.full mem;
+  right = λ f. s.full ∙ t.right f;
+  wants = λ e. t.wants (sym s.full ∙ e);
+}
+
+pub same_products : OtherNumbers → SameProducts
+same_products numbers m us vs h e a b =
+    ap (λ (n : NetTree). multiplies n.nodes) (numbers m us vs e) ∙ times_kept (net_of (applied m us)) (places m (length vs)) vs
 
 module _ (has : AppliedHas) (net_is : AppliedNet) (numbers : OtherNumbers) (shape : SameShape) (sound : BuiltSound)
     (ports : PortEdges) where
@@ -101,48 +106,54 @@ module _ (has : AppliedHas) (net_is : AppliedNet) (numbers : OtherNumbers) (shap
         let n : length vs < 2 ^ 64 = omega (arith, w, c, few) in
         subst (λ n. n < 2 ^ 64) (sym (places_length _ (length vs))) n
 
-    pub shows : (S : Store) (more : List (List ℕ)) →
-        Shows (after_call m us vs z S more) (cell_edges other z (length more) (cell_reset_edge other z S))
-    shows S more =
+    pub shows : (late : Bool) (S : Store) (more : List (List ℕ)) →
+        Shows (after_call late m us vs z S more) (after_reset late other z (length more) S)
+    shows late S more =
         let ps = places m (length vs) in
-        let q = ports net z ps vs (sym (places_length _ (length vs))) few_places
+        let q = ports late net z ps vs (sym (places_length _ (length vs))) few_places
         (begins m us (net_is m us) typed_us (sound (applied m us) typed_us) few (length vs) e) S more in
         let n = with_numbers net ps vs in
-        let U : Store = plain_edges n z (length more) (edge (cell_module n z) (set_vec "rst" 1 S)) in
-        let V : Store = cell_edges other z (length more) (cell_reset_edge other z S) in
-        let u : U ≡ V =
-        edges_are (with_numbers net ps vs) z (length more) (cell_reset_edge (with_numbers net ps vs) z S)
-        ∙ ap (λ n. cell_edges n z (length more) (cell_reset_edge n z S)) (sym other_is) in
+        let U : Store = plain_edges late n z (length more) (edge (plain_module late n z) (set_vec "rst" 1 S)) in
+        let u : U ≡ after_reset late other z (length more) S =
+        run_is late n z (length more) S ∙ ap (λ n. after_reset late n z (length more) S) (sym other_is) in
         record {
           done = q.0 ∙ ap (λ (X : Store). X.vec "done") u;
-          result = q.1 ∙ ap (λ (X : Store). X.vec "result") u;
+          result = λ done. q.1 ∙ ap (λ (X : Store). X.vec "result") u;
           full = q.2 ∙ ap (λ (X : Store). X.vec "full") u;
           moves = q.3 ∙ ap (λ (X : Store). X.vec "moves") u;
         }
 
   pub function_means : CellModuleMeans → FunctionMeans
   function_means law m us vs h e a b z sizes few covers S more =
-      full_or_tells (applied m vs) (length more) (after_call m us vs z S more)
+      full_or_tells (applied m vs) (length more) (after_call false m us vs z S more)
       (cell_edges (net_of (applied m vs)) z (length more) (cell_reset_edge (net_of (applied m vs)) z S))
-      (shows m us vs h e a b z few S more)
+      (shows m us vs h e a b z few false S more)
       (law (applied m vs) (typed m us vs h e a b z few) z sizes (few_wires m us vs h e a b z few) (covers_too m us vs h e a b z few covers)
       S (length more))
 
   pub function_full : CellModuleIsFull → FunctionIsFull
   function_full law m us vs h e a b z sizes few covers mem S more =
-      (shows m us vs h e a b z few S more).full
+      (shows m us vs h e a b z few false S more).full
       ∙ law (applied m vs) (typed m us vs h e a b z few) z sizes (few_wires m us vs h e a b z few) (covers_too m us vs h e a b z few covers)
       mem S (length more)
 
   pub function_right : CellModuleIsRight → FunctionIsRight
   function_right law m us vs h e a b z sizes few covers S more fits =
-      not_full_tells (applied m vs) (length more) (after_call m us vs z S more)
+      not_full_tells (applied m vs) (length more) (after_call false m us vs z S more)
       (cell_edges (net_of (applied m vs)) z (length more) (cell_reset_edge (net_of (applied m vs)) z S))
-      (shows m us vs h e a b z few S more)
+      (shows m us vs h e a b z few false S more)
       (law (applied m vs) (typed m us vs h e a b z few) z sizes (few_wires m us vs h e a b z few) (covers_too m us vs h e a b z few covers)
       S (length more) fits)
 
   pub function_wants : CellModuleWants → FunctionWants
   function_wants law m us vs h e a b z sizes few covers S more full =
       law (applied m vs) (typed m us vs h e a b z few) z sizes (few_wires m us vs h e a b z few) (covers_too m us vs h e a b z few covers)
-      S (length more) (sym (shows m us vs h e a b z few S more).full ∙ full)
+      S (length more) (sym (shows m us vs h e a b z few false S more).full ∙ full)
+
+  pub late_function_means : LateMeans → LateFunctionMeans
+  late_function_means law m us vs h e a b z sizes few covers S more =
+      late_tells (applied m vs) z (length more) (after_call true m us vs z S more)
+      (late_edges (net_of (applied m vs)) z (length more) (late_reset_edge (net_of (applied m vs)) z S))
+      (shows m us vs h e a b z few true S more)
+      (law (applied m vs) (typed m us vs h e a b z few) z sizes (few_wires m us vs h e a b z few) (covers_too m us vs h e a b z few covers)
+      S (length more))

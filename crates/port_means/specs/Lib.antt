@@ -1,2 +1,2 @@
--- The statements of `law_function`.
+-- The statements of `law_function` and `law_late_function`.
 pub mod Laws
