@@ -5,7 +5,6 @@ use Rattle.std.specs.Fmt.{digits}
 use Rattle.verilog_tree.specs.Tree.{name, Stmt, seq, branch, skip, Item}
 use Rattle.verilog_tree.specs.Print.{stmt_text, items_text, more_ports}
 use Rattle.circuit_module.specs.Fixed.{set, block}
-use Rattle.cell_module.specs.Fixed.{cell_clock}
 use Rattle.port_module.specs.Names.{arg_name, held_name}
 use Rattle.port_module.specs.Module.{arg_inputs, arg_notes, held_regs, held_registers, held_sets, port_clock}
 use Rattle.circuit_text.specs.Parts.{lines, port_line, held_line, held_text, latch_line, latch_text}
@@ -104,6 +103,6 @@ no_latch : (t : List ℕ) → t ≡ t ++ latch_text zero
 unfolding latch_text
 no_latch t = sym (append-nil t)
 
-pub clock_is : (n : ℕ) → stmt_text (codes " <= ") 2 (port_clock n) ≡ stmt_text (codes " <= ") 2 cell_clock ++ latch_text n
-clock_is zero = no_latch (stmt_text (codes " <= ") 2 cell_clock)
-clock_is (suc n) = latch_behind cell_clock n
+pub clock_is : (n : ℕ) (s : Stmt) → stmt_text (codes " <= ") 2 (port_clock n s) ≡ stmt_text (codes " <= ") 2 s ++ latch_text n
+clock_is zero s = no_latch (stmt_text (codes " <= ") 2 s)
+clock_is (suc n) s = latch_behind s n

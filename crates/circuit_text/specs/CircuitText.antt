@@ -1,9 +1,8 @@
--- The text of a net's circuit, with so many cells and forks, and a port for each of some nodes: a comment, and the text of the tree of its
--- module. Around the module stand two
--- directives by which a tool makes no wire of a name that isn't declared (IEEE 1364-2005, 19.2); behind them that is as it was. Comments
--- that only Verilator reads say that it shall not warn of a file named otherwise than the module, nor of words and bits that no row of this
--- net uses; behind them its warnings are as they were.
-use Rattle.std.specs.Prelude.{ℕ, List, ◌++◌, length, codes, decimal}
+-- The text of a net's circuit, whose numbers may be late or not, with so many cells and forks, and a port for each of some nodes: a
+-- comment, and the text of the tree of its module. Around the module stand two directives by which a tool makes no wire of a name that
+-- isn't declared (IEEE 1364-2005, 19.2); behind them that is as it was. Comments that only Verilator reads say that it shall not warn of
+-- a file named otherwise than the module, nor of words and bits that no row of this net uses; behind them its warnings are as they were.
+use Rattle.std.specs.Prelude.{ℕ, Bool, List, ◌++◌, length, codes, decimal}
 use Prim.Native.String.{String}
 use Rattle.net_build.specs.Nets.{NetTree}
 use Rattle.verilog_tree.specs.Print.{module_text}
@@ -26,8 +25,8 @@ unwarned_text t =
 abbrev pub declared_text : List ℕ → List ℕ
 declared_text t = codes "`default_nettype none\n" ++ (t ++ codes "`default_nettype wire\n")
 
--- the text, with this name of the module, and a port for each of these places in the list of nodes
-unfoldable pub circuit_text : (name : String) → NetTree → (cells forks : ℕ) → (places : List ℕ) → List ℕ
-circuit_text name net cells forks ps =
+-- the text, with this name of the module, whether its numbers may be late, and a port for each of these places in the list of nodes
+unfoldable pub circuit_text : (name : String) → (late : Bool) → NetTree → (cells forks : ℕ) → (places : List ℕ) → List ℕ
+circuit_text name late net cells forks ps =
     head_text (length net.nodes) (length net.wires)
-    ++ unwarned_text (declared_text (module_text name (port_module net (sizes_of net cells forks) ps)))
+    ++ unwarned_text (declared_text (module_text name (port_module late net (sizes_of net cells forks) ps)))

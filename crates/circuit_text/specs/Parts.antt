@@ -1,6 +1,6 @@
 -- The parts of a circuit's text in their order, each under a name that no check computes with where only the name matters. None has to be
 -- believed: they are proved to be the text of the tree.
-use Rattle.std.specs.Prelude.{ℕ, zero, suc, ◌*◌, max, Bool, List, [], ◌∷◌, ◌++◌, length, codes}
+use Rattle.std.specs.Prelude.{ℕ, zero, suc, ◌*◌, max, Bool, false, List, [], ◌∷◌, ◌++◌, length, codes}
 use Prim.Native.String.{String}
 use Rattle.net_build.specs.Nets.{NetTree}
 use Rattle.verilog_tree.specs.Tree.{Item, size, constant, wide, count}
@@ -8,10 +8,9 @@ use Rattle.verilog_tree.specs.Print.{stmt_text, arms_text, items_text, ports_tex
 use Rattle.circuit_module.specs.Fixed.{no_row}
 use Rattle.circuit_module.specs.Sizes.{channel_bits}
 use Rattle.cell_core.specs.Sizes.{Sizes}
-use Rattle.cell_module.specs.Fixed.{cell_ports, cell_port_notes, cell_constants, cell_registers, way_wires, next_row_notes}
-use Rattle.cell_module.specs.Fixed.{list_wires, cell_fork_wires, number_wires, cell_clock_notes, cell_clock}
-use Rattle.cell_module.specs.Module.{place_bits, pointer_bits, cell_product}
-use Rattle.port_module.specs.Module.{port_arms, arg_notes}
+use Rattle.cell_module.specs.Fixed.{cell_ports, cell_constants, cell_registers, next_row_notes, list_wires, cell_fork_wires}
+use Rattle.cell_module.specs.Module.{place_bits, pointer_bits}
+use Rattle.port_module.specs.Module.{port_arms, arg_notes, parts_of}
 use Rattle.port_module.specs.Names.{arg_name, held_name}
 
 -- the directives in front of the module, and its first word
@@ -40,13 +39,13 @@ port_line i = codes ",\n  input wire [63:0] " ++ codes (arg_name i)
 unfoldable pub args_text : ℕ → List ℕ
 args_text n = lines port_line n ++ (codes "\n);\n" ++ items_text (arg_notes n))
 
--- what is said of the others
-unfoldable pub notes_text : List ℕ
-notes_text = items_text cell_port_notes
+-- what is said of the others, and of the sizes, where numbers may be late or not
+unfoldable pub notes_text : (late : Bool) → List ℕ
+notes_text late = items_text (parts_of late false).said
 
 -- from behind the name to what is said of the ports
-unfoldable pub said_text : ℕ → List ℕ
-said_text n = front_text ++ (args_text n ++ notes_text)
+unfoldable pub said_text : (late : Bool) → ℕ → List ℕ
+said_text late n = front_text ++ (args_text n ++ notes_text late)
 
 -- the sizes that are counts of bits
 abbrev pub bit_sizes : (wires : ℕ) → Sizes → List Item
@@ -77,13 +76,9 @@ counts_text wires start z = items_text (count_sizes wires start z)
 unfoldable pub sizes_text : (wires start : ℕ) → Sizes → List ℕ
 sizes_text wires start z = bits_text wires z ++ (room_text z ++ counts_text wires start z)
 
--- what a row may do, and the operations of rows
-unfoldable pub constants_text : List ℕ
-constants_text = items_text cell_constants
-
--- the registers
+-- what a row may do, the operations of rows, and the registers
 unfoldable pub registers_text : List ℕ
-registers_text = items_text cell_registers
+registers_text = items_text cell_constants ++ items_text cell_registers
 
 -- the register of an argument
 unfoldable pub held_line : ℕ → List ℕ
@@ -98,11 +93,14 @@ held_head (suc n) = codes "\n  // The arguments as they were at reset.\n"
 unfoldable pub held_text : ℕ → List ℕ
 held_text n = held_head n ++ lines held_line n
 
--- where the token goes, and the begin of the case of the rows
-unfoldable pub ways_text : List ℕ
-ways_text =
-    items_text way_wires ++ (items_text next_row_notes
-    ++ (codes "  always @* begin\n" ++ (stmt_text (codes " = ") 2 no_row ++ codes "    case (goes)\n")))
+-- what is kept besides where numbers may be late, and where the token goes
+unfoldable pub ways_text : (late : Bool) → List ℕ
+ways_text late = items_text (parts_of late false).ways
+
+-- the begin of the case of the rows
+unfoldable pub cases_text : List ℕ
+cases_text =
+    items_text next_row_notes ++ (codes "  always @* begin\n" ++ (stmt_text (codes " = ") 2 no_row ++ codes "    case (goes)\n"))
 
 -- the case of each row
 unfoldable pub rows_text : NetTree → List ℕ → List ℕ
@@ -117,12 +115,13 @@ unfoldable pub forks_text : List ℕ
 forks_text = items_text cell_fork_wires
 
 -- what the numbers come to, with a multiplier where one is needed
-unfoldable pub numbers_text : Bool → List ℕ
-numbers_text multiplies = items_text (number_wires (cell_product multiplies))
+unfoldable pub numbers_text : (late multiplies : Bool) → List ℕ
+numbers_text late multiplies = items_text (parts_of late multiplies).numbers
 
--- the block of the clock, as far as it is every module's
-unfoldable pub clock_text : List ℕ
-clock_text = items_text cell_clock_notes ++ (codes "  always @(posedge clk) begin\n" ++ stmt_text (codes " <= ") 2 cell_clock)
+-- the block of the clock, as far as arguments change nothing in it
+unfoldable pub clock_text : (late : Bool) → List ℕ
+clock_text late =
+    let p = parts_of late false in items_text p.head ++ (codes "  always @(posedge clk) begin\n" ++ stmt_text (codes " <= ") 2 p.clock)
 
 -- a register takes its argument
 unfoldable pub latch_line : ℕ → List ℕ
@@ -146,9 +145,11 @@ unfoldable pub last_text : List ℕ
 last_text = codes "  end\nendmodule\n`default_nettype wire\n// verilator lint_restore\n"
 
 -- from behind the module's name to the rows, with ports for so many arguments
-unfoldable pub top_text : (n wires start : ℕ) → Sizes → List ℕ
-top_text n wires start z = said_text n ++ (sizes_text wires start z ++ (constants_text ++ (registers_text ++ (held_text n ++ ways_text))))
+unfoldable pub top_text : (late : Bool) → (n wires start : ℕ) → Sizes → List ℕ
+top_text late n wires start z =
+    said_text late n ++ (sizes_text wires start z ++ (registers_text ++ (held_text n ++ (ways_text late ++ cases_text))))
 
 -- what stands behind the rows
-unfoldable pub back_text : ℕ → Bool → List ℕ
-back_text n multiplies = lists_text ++ (forks_text ++ (numbers_text multiplies ++ (clock_text ++ (latch_text n ++ last_text))))
+unfoldable pub back_text : (late : Bool) → ℕ → (multiplies : Bool) → List ℕ
+back_text late n multiplies =
+    lists_text ++ (forks_text ++ (numbers_text late multiplies ++ (clock_text late ++ (latch_text n ++ last_text))))

@@ -1,8 +1,8 @@
 //! The parts of the text that are the same for all nets, each as the text of its part of the tree.
 
-ghost use Rattle.std.specs.Prelude.{◌≡◌, true, false};
-ghost use Rattle.circuit_text.specs.Parts.{front_text, notes_text, constants_text, registers_text, ways_text, lists_text, forks_text};
-ghost use Rattle.circuit_text.specs.Parts.{directives_text, numbers_text, clock_text, last_text};
+ghost use Rattle.std.specs.Prelude.{◌≡◌, Bool, true, false};
+ghost use Rattle.circuit_text.specs.Parts.{front_text, notes_text, registers_text, ways_text, cases_text, lists_text};
+ghost use Rattle.circuit_text.specs.Parts.{directives_text, forks_text, numbers_text, clock_text, last_text};
 
 /// The directives in front of the module, and its first word.
 pub(crate) fn directives() -> &'static [u8]
@@ -28,11 +28,23 @@ pub(crate) fn front() -> &'static [u8]
   output reg [63:0] moves"
 }
 
-/// What is said of them, and what is said of the sizes.
-pub(crate) fn notes() -> &'static [u8]
-    ensures { result.now ≡ notes_text }
+/// What is said of them, and what is said of the sizes, where numbers may be late or not.
+pub(crate) fn notes(late: bool) -> &'static [u8]
+    ensures { result.now ≡ notes_text late }
 {
-    b"  // clk: every register changes at its rising edges. rst: high at a rising edge, where the run begins.
+    if late {
+        b"  // clk: every register changes at its rising edges. rst: high at a rising edge, where the run begins.
+  // done: the run has ended with a value. result: the value, where done is up; bit 64 says overflow.
+  // full: the run has ended without one, since the cells or the forks were too few.
+  // moves: the moves of the run so far, one in each cycle but those in which a row waits for its number.
+
+  // ---- sizes
+
+  // The bits of a channel, of the count of open forks and of a cell's place; the bits of all marks, signatures and boxes
+  // that a token may have; the cells, and the forks that can be open at once.
+"
+    } else {
+        b"  // clk: every register changes at its rising edges. rst: high at a rising edge, where the run begins.
   // done: the run has ended with a value. result: the value, where done is up; bit 64 says overflow.
   // full: the run has ended without one, since the cells or the forks were too few.
   // moves: the moves of the run so far, one in each cycle.
@@ -42,11 +54,12 @@ pub(crate) fn notes() -> &'static [u8]
   // The bits of a channel, of the count of open forks and of a cell's place; the bits of all marks, signatures and boxes
   // that a token may have; the cells, and the forks that can be open at once.
 "
+    }
 }
 
-/// What a row may do, and the operations of rows.
-pub(crate) fn constants() -> &'static [u8]
-    ensures { result.now ≡ constants_text }
+/// What a row may do, the operations of rows, and the registers.
+pub(crate) fn registers() -> &'static [u8]
+    ensures { result.now ≡ registers_text }
 {
     b"
   // A value is a number of 64 bits; bit 64 says overflow, and then the others are 0.
@@ -112,14 +125,7 @@ pub(crate) fn constants() -> &'static [u8]
   localparam [27:0] FIXOUT = 28'd4100;
   localparam [27:0] FIXVAR = 28'd430208;
   localparam [27:0] DEAD = 28'd134217728;
-"
-}
 
-/// The registers.
-pub(crate) fn registers() -> &'static [u8]
-    ensures { result.now ≡ registers_text }
-{
-    b"
   // ---- registers
 
   // The token: its value is `result`; the row of its channel, as what it does, both channels that it sends to, and a
@@ -157,11 +163,53 @@ pub(crate) fn registers() -> &'static [u8]
 "
 }
 
-/// Where the token goes, and the begin of the case of the rows.
-pub(crate) fn ways() -> &'static [u8]
-    ensures { result.now ≡ ways_text }
+/// What is kept besides where numbers may be late, and where the token goes.
+pub(crate) fn ways(late: bool) -> &'static [u8]
+    ensures { result.now ≡ ways_text late }
 {
-    b"
+    if late {
+        b"
+  // Whether the row was held for a cycle, in which the quarters of both operands met, the upper ones without and with a
+  // carry from below.
+  reg ready;
+  reg [16:0] part0;
+  reg [16:0] part1;
+  reg [16:0] next1;
+  reg [16:0] part2;
+  reg [16:0] next2;
+  reg [16:0] part3;
+  reg [16:0] next3;
+
+  // A product: the bits that are left of its right operand, the left operand and the sum so far, whether a bit of these was
+  // lost, whether it goes on, and whether its sum is taken next.
+  reg [63:0] rest;
+  reg [63:0] factor;
+  reg [63:0] total;
+  reg lost;
+  reg beyond;
+  reg begun;
+  reg adds;
+
+  // Whether the value is other than 0, and whether the lower half of `moves` is all ones.
+  reg nonzero;
+  reg last;
+
+  // ---- where the token goes
+
+  // What the innermost fork has. Whether the token goes on with what a cell has; whether its answer is the first at its
+  // fork, so that the fork's right question is the next token, or the second; and the channel that the token comes to.
+  wire [C-1:0] fork_at = fork_has[(C+(P+65)):(P+66)];
+  wire [P-1:0] fork_top = fork_has[(P+65):66];
+  wire answered = fork_has[65];
+  wire [64:0] kept = fork_has[64:0];
+  wire back = does[BY_BOX] && boxes[0];
+  wire first_answer = does[JOINS] && (!answered);
+  wire second_answer = does[JOINS] && answered;
+  wire aside = (does[BY_MARK] && marks[0]) || ((does[BY_SIG] && sigs[0]) || (back || (does[BY_VALUE] && nonzero)));
+  wire [C-1:0] goes = rst ? START : (first_answer ? fork_at : (aside ? side : main));
+"
+    } else {
+        b"
   // ---- where the token goes
 
   // What the innermost fork has. Whether the token goes on with what a cell has; whether its answer is the first at its
@@ -175,7 +223,15 @@ pub(crate) fn ways() -> &'static [u8]
   wire second_answer = does[JOINS] && answered;
   wire aside = (does[BY_MARK] && marks[0]) || ((does[BY_SIG] && sigs[0]) || (back || (does[BY_VALUE] && (|result))));
   wire [C-1:0] goes = rst ? START : (first_answer ? fork_at : (aside ? side : main));
+"
+    }
+}
 
+/// The begin of the case of the rows.
+pub(crate) fn cases() -> &'static [u8]
+    ensures { result.now ≡ cases_text }
+{
+    b"
   // ---- the rows of the net
 
   // The row that the token comes to: an operation, the channel that it sends to, the other one if it has two, and a
@@ -240,7 +296,7 @@ pub(crate) fn forks() -> &'static [u8]
 
 /// What the numbers come to, where a node multiplies.
 pub(crate) fn multiplier() -> &'static [u8]
-    ensures { result.now ≡ numbers_text true }
+    ensures { result.now ≡ numbers_text false true }
 {
     b"
   // ---- numbers
@@ -257,7 +313,7 @@ pub(crate) fn multiplier() -> &'static [u8]
 
 /// What they come to where none does.
 pub(crate) fn no_multiplier() -> &'static [u8]
-    ensures { result.now ≡ numbers_text false }
+    ensures { result.now ≡ numbers_text false false }
 {
     b"
   // ---- numbers
@@ -272,11 +328,151 @@ pub(crate) fn no_multiplier() -> &'static [u8]
 "
 }
 
-/// The block of the clock, as far as it is every module's.
-pub(crate) fn clock() -> &'static [u8]
-    ensures { result.now ≡ clock_text }
+/// What they come to where they may be late.
+pub(crate) fn late_numbers() -> &'static [u8]
+    ensures { (multiplies : Bool) → result.now ≡ numbers_text true multiplies }
 {
     b"
+  // ---- numbers
+
+  // Whether the row changes the value; whether it is held now; whether it multiplies; both operands, of which a difference
+  // takes the second away; what their quarters come to; and the value.
+  wire changes = second_answer || (does[IS_SUCC] || does[IS_PRED]);
+  wire hold = changes && (!ready);
+  wire times = second_answer && does[MULTIPLIES];
+  wire [64:0] first = begun ? {1'd0, total} : (does[JOINS] ? kept : result);
+  wire [64:0] second = begun ? {1'd0, factor} : (does[JOINS] ? result : 65'd1);
+  wire less = does[SUBTRACTS] || does[IS_PRED];
+  wire [63:0] addend = less ? (~second[63:0]) : second[63:0];
+  wire [17:0] meet0 = {1'd0, {first[15:0], 1'd1}} + {1'd0, {addend[15:0], less}};
+  wire [17:0] meet1 = {1'd0, {first[31:16], 1'd1}} + {1'd0, {addend[31:16], 1'd0}};
+  wire [17:0] more1 = {1'd0, {first[31:16], 1'd1}} + {1'd0, {addend[31:16], 1'd1}};
+  wire [17:0] meet2 = {1'd0, {first[47:32], 1'd1}} + {1'd0, {addend[47:32], 1'd0}};
+  wire [17:0] more2 = {1'd0, {first[47:32], 1'd1}} + {1'd0, {addend[47:32], 1'd1}};
+  wire [17:0] meet3 = {1'd0, {first[63:48], 1'd1}} + {1'd0, {addend[63:48], 1'd0}};
+  wire [17:0] more3 = {1'd0, {first[63:48], 1'd1}} + {1'd0, {addend[63:48], 1'd1}};
+  wire [16:0] right1 = part0[16] ? next1 : part1;
+  wire [16:0] right2 = right1[16] ? next2 : part2;
+  wire [16:0] right3 = right2[16] ? next3 : part3;
+  wire past = first[64] || (second[64] || ((!less) && right3[16]));
+  wire under = less && (!right3[16]);
+  wire [64:0] late = past ? OVERFLOW : (under ? 65'd0 : {1'd0, {right3[15:0], {right2[15:0], {right1[15:0], part0[15:0]}}}});
+  wire [63:0] met = {right3[15:0], {right2[15:0], {right1[15:0], part0[15:0]}}};
+  wire [64:0] told = times ? ((kept[64] || (result[64] || beyond)) ? OVERFLOW : {1'd0, total}) : late;
+
+  // Both halves of the count of moves with one more.
+  wire [31:0] moves_low = moves[31:0] + 32'd1;
+  wire [31:0] moves_high = last ? (moves[63:32] + 32'd1) : moves[63:32];
+"
+}
+
+/// The block of the clock, as far as arguments change nothing in it.
+pub(crate) fn clock(late: bool) -> &'static [u8]
+    ensures { result.now ≡ clock_text late }
+{
+    if late {
+        b"
+  // ---- one move in each cycle that isn't held
+
+  always @(posedge clk) begin
+    if (begun) begin
+      adds <= !adds;
+      if (adds) begin
+        if (rest[0]) begin
+          total <= met;
+          beyond <= beyond || (lost || right3[16]);
+        end
+        rest <= rest >> 1;
+        factor <= factor << 1;
+        lost <= lost || factor[63];
+      end
+    end else begin
+      rest <= result[63:0];
+      factor <= kept[63:0];
+      total <= 0;
+      lost <= 0;
+      beyond <= 0;
+      adds <= 0;
+    end
+    begun <= times && ((!rst) && (!ready));
+    part0 <= meet0[17:1];
+    part1 <= meet1[17:1];
+    next1 <= more1[17:1];
+    part2 <= meet2[17:1];
+    next2 <= more2[17:1];
+    part3 <= meet3[17:1];
+    next3 <= more3[17:1];
+    ready <= (hold && (!rst)) && ((!times) || (begun && ((!adds) && (!(|rest)))));
+    if (rst || (((!done) && (!full)) && (!hold))) begin
+      does <= op;
+      main <= to;
+      side <= other;
+      literal <= number;
+    end
+    if (rst) begin
+      marks <= 0;
+      sigs <= 0;
+      boxes <= 0;
+      top <= 0;
+      depth <= 0;
+      done <= 0;
+      result <= 0;
+      full <= 0;
+      moves <= 0;
+      nonzero <= 0;
+      last <= 0;
+    end else begin
+      if (((!done) && (!full)) && (!hold)) begin
+        marks <= next_marks;
+        sigs <= next_sigs;
+        boxes <= next_boxes;
+        if (does[MAKES]) begin
+          sig_firsts[top] <= boxes[P:0];
+          sig_seconds[top] <= sigs[P:0];
+          box_firsts[top] <= boxes[P:0];
+          box_seconds[top] <= sigs[P:0];
+          top <= top + 1;
+        end else begin
+          sig_first <= sig_firsts[sig_place];
+          sig_second <= sig_seconds[sig_place];
+          box_first <= box_firsts[box_place];
+          box_second <= box_seconds[box_place];
+          top <= next_top;
+        end
+        if (does[FORKS]) begin
+          forks_boxes[depth] <= boxes;
+          depth <= depth + 1;
+        end else begin
+          fork_boxes <= forks_boxes[next_fork];
+          depth <= next_depth;
+        end
+        if (does[FORKS] || first_answer) begin
+          forks[slot] <= {side, {next_top, {does[JOINS], result}}};
+        end else begin
+          fork_has <= forks[next_fork];
+        end
+        if (does[IS_CONST]) begin
+          result <= {1'd0, literal};
+          nonzero <= |literal;
+        end else begin
+          if (changes) begin
+            result <= told;
+            nonzero <= |told;
+          end
+        end
+        if (does[ENDS]) begin
+          done <= 1;
+        end
+        if ((does[MAKES] && (top == CELLS)) || ((does[FORKS] && (depth == E)) || does[STUCK])) begin
+          full <= 1;
+        end
+        last <= moves[31:0] == 32'd4294967294;
+        moves <= {moves_high, moves_low};
+      end
+    end
+"
+    } else {
+        b"
   // ---- one move in each cycle
 
   always @(posedge clk) begin
@@ -354,6 +550,7 @@ pub(crate) fn clock() -> &'static [u8]
       end
     end
 "
+    }
 }
 
 /// The end.

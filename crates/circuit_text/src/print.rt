@@ -24,8 +24,8 @@ use net_build::{Net, Wire};
 use std::alloc::{AllocError, Global};
 use verilog_tree::{Expression, Extent, Item, Range, push_expression, push_items};
 
-/// The text of a net's circuit, with so many cells and forks, as a module of this name, where these nodes get ports:
-/// `verilog_names::is_module_name` tells which names are taken.
+/// The text of a net's circuit, with so many cells and forks, as a module of this name, where these nodes get ports, and where numbers may
+/// be late or not: `verilog_names::is_module_name` tells which names are taken.
 ///
 /// # Errors
 ///
@@ -37,16 +37,18 @@ pub fn print_circuit(
     forks: u32,
     name: &[u8],
     ports: Ports,
+    late: bool,
 ) -> Result<Vec<u8>, AllocError>
     ensures { IfOk result (λ v.
-        v.items ≡ circuit_text (text_of name.now) net.now cells forks (places_from ports.first ports.count)) }
+        v.items ≡ circuit_text (text_of name.now) late net.now cells forks (places_from ports.first ports.count)) }
 {
     let mut text = Vec::new(alloc);
-    push_circuit(&mut text, net, cells, forks, name, ports)?;
+    push_circuit(&mut text, net, cells, forks, name, ports, late)?;
     Ok(text)
 }
 
-/// Appends the text of a net's circuit, with so many cells and forks, as a module of this name, where these nodes get ports.
+/// Appends the text of a net's circuit, with so many cells and forks, as a module of this name, where these nodes get ports, and where
+/// numbers may be late or not.
 ///
 /// # Errors
 ///
@@ -58,17 +60,18 @@ pub fn push_circuit(
     forks: u32,
     name: &[u8],
     ports: Ports,
+    late: bool,
 ) -> Result<(), AllocError>
     ensures { OnOk result (text.new.items ≡ text.old.items
-        ++ circuit_text (text_of name.now) net.now cells forks (places_from ports.first ports.count)) }
+        ++ circuit_text (text_of name.now) late net.now cells forks (places_from ports.first ports.count)) }
 {
     let wires = net.wire_count();
     push_head(text, net.node_count().into(), wires.into())?;
     push_name(text, name)?;
     let sizes = circuit_sizes(net, cells, forks);
-    push_top(text, ports.count, wires, number_of(start(net)), sizes)?;
+    push_top(text, ports.count, wires, number_of(start(net)), sizes, late)?;
     push_rows(text, net, ports)?;
-    push_back(text, net, ports.count)?;
+    push_back(text, net, ports.count, late)?;
     Ok(())
 }
 
@@ -167,12 +170,12 @@ fn push_sizes(
 
 /// Appends the ports, and what is said of them.
 #[tactic(auto, unfolding(crate::specs::Parts::said_text))]
-fn push_said(text: &mut Vec<u8>, arguments: u32) -> Result<(), AllocError>
-    ensures { OnOk result (text.new.items ≡ text.old.items ++ said_text arguments) }
+fn push_said(text: &mut Vec<u8>, arguments: u32, late: bool) -> Result<(), AllocError>
+    ensures { OnOk result (text.new.items ≡ text.old.items ++ said_text late arguments) }
 {
     text.extend_from_slice(fixed::front())?;
     push_args(text, arguments)?;
-    text.extend_from_slice(fixed::notes())
+    text.extend_from_slice(fixed::notes(late))
 }
 
 /// Appends ports, sizes, constants and registers, to the begin of the rows.
@@ -183,15 +186,16 @@ fn push_top(
     wires: u32,
     start: u64,
     sizes: CircuitSizes,
+    late: bool,
 ) -> Result<(), AllocError>
-    ensures { OnOk result (text.new.items ≡ text.old.items ++ top_text arguments wires start (sizes_view sizes)) }
+    ensures { OnOk result (text.new.items ≡ text.old.items ++ top_text late arguments wires start (sizes_view sizes)) }
 {
-    push_said(text, arguments)?;
+    push_said(text, arguments, late)?;
     push_sizes(text, wires, start, sizes)?;
-    text.extend_from_slice(fixed::constants())?;
     text.extend_from_slice(fixed::registers())?;
     push_held_text(text, arguments)?;
-    text.extend_from_slice(fixed::ways())
+    text.extend_from_slice(fixed::ways(late))?;
+    text.extend_from_slice(fixed::cases())
 }
 
 /// Appends both lines of each wire.
@@ -216,10 +220,12 @@ fn push_rows(text: &mut Vec<u8>, net: &Net, ports: Ports) -> Result<(), AllocErr
 }
 
 /// What the numbers come to.
-fn numbers(multiplies: bool) -> &'static [u8]
-    ensures { result.now ≡ numbers_text multiplies }
+fn numbers(late: bool, multiplies: bool) -> &'static [u8]
+    ensures { result.now ≡ numbers_text late multiplies }
 {
-    if multiplies {
+    if late {
+        fixed::late_numbers()
+    } else if multiplies {
         fixed::multiplier()
     } else {
         fixed::no_multiplier()
@@ -228,13 +234,13 @@ fn numbers(multiplies: bool) -> &'static [u8]
 
 /// Appends what stands behind the rows.
 #[tactic(auto, unfolding(crate::specs::Parts::back_text))]
-fn push_back(text: &mut Vec<u8>, net: &Net, arguments: u32) -> Result<(), AllocError>
-    ensures { OnOk result (text.new.items ≡ text.old.items ++ back_text arguments (multiplies net.now.nodes)) }
+fn push_back(text: &mut Vec<u8>, net: &Net, arguments: u32, late: bool) -> Result<(), AllocError>
+    ensures { OnOk result (text.new.items ≡ text.old.items ++ back_text late arguments (multiplies net.now.nodes)) }
 {
     text.extend_from_slice(fixed::lists())?;
     text.extend_from_slice(fixed::forks())?;
-    text.extend_from_slice(numbers(multiplies(net.nodes())))?;
-    text.extend_from_slice(fixed::clock())?;
+    text.extend_from_slice(numbers(late, multiplies(net.nodes())))?;
+    text.extend_from_slice(fixed::clock(late))?;
     push_latch(text, arguments)?;
     text.extend_from_slice(fixed::last())
 }
