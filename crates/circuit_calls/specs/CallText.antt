@@ -51,7 +51,7 @@ call_notes =
     "  // valid: the call has ended. It stays high, and result, full and moves stay as they are, until they are taken." ∷
     "  // taken: where it is high at a rising edge with valid high, they are taken, and from then on the next call can begin." ∷
     "  // result: the value, where full is low; bit 64 says overflow. full: the call has ended without a value, since the cells or" ∷
-    "  // the forks were too few. moves: the moves of the call, one in each cycle." ∷
+    "  // the forks were too few. moves: the moves of the call so far." ∷
     "" ∷
     "  // Whether a call has begun that isn't taken yet. While there is none the circuit is reset at each edge: so a call begins with" ∷
     "  // the arguments as they are at its first edge, and nothing is left of the call before." ∷

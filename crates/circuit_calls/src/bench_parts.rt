@@ -1,7 +1,8 @@
 //! The parts of a bench's text that are the same for all circuits.
 
 ghost use Rattle.std.specs.Prelude.{◌≡◌};
-ghost use Rattle.circuit_calls.specs.BenchText.{bench_head, bench_begin, bench_between, bench_wires, bench_last};
+ghost use Rattle.circuit_calls.specs.BenchText.{bench_head, bench_begin, bench_between, bench_wires, bench_circuit};
+ghost use Rattle.circuit_calls.specs.BenchText.{bench_loop, bench_told, bench_last};
 
 /// What stands in front of the bench's name.
 pub(crate) fn head() -> &'static [u8]
@@ -15,12 +16,18 @@ module "
 }
 
 /// The end of its name, up to the value.
-pub(crate) fn begin() -> &'static [u8]
-    ensures { result.now ≡ bench_begin }
+pub(crate) fn begin(late: bool) -> &'static [u8]
+    ensures { result.now ≡ bench_begin late }
 {
-    b"_bench;
+    if late {
+        b"_bench;
+  // The value of the program, where bit 64 says overflow, and the moves of its run: each takes the circuit 1 to 131 cycles.
+  localparam [64:0] RESULT = 65'd"
+    } else {
+        b"_bench;
   // The value of the program, where bit 64 says overflow, and the moves of its run: a circuit makes one in each cycle.
   localparam [64:0] RESULT = 65'd"
+    }
 }
 
 /// What is between the value and the moves.
@@ -48,9 +55,9 @@ pub(crate) fn wires() -> &'static [u8]
   "
 }
 
-/// The instance of the circuit, behind its name, the run, and what is compared and told.
-pub(crate) fn last() -> &'static [u8]
-    ensures { result.now ≡ bench_last }
+/// The instance of the circuit, behind its name.
+pub(crate) fn circuit() -> &'static [u8]
+    ensures { result.now ≡ bench_circuit }
 {
     b" circuit (
     .clk(clk),
@@ -61,7 +68,31 @@ pub(crate) fn last() -> &'static [u8]
     .moves(moves)
   );
 
-  // One edge with rst high, and then edges with rst low until the circuit has ended, or there was one more than there are
+"
+}
+
+/// The run.
+pub(crate) fn run(late: bool) -> &'static [u8]
+    ensures { result.now ≡ bench_loop late }
+{
+    if late {
+        b"  // One edge with rst high, and then edges with rst low until the circuit has ended, or there were 131 for each move and for
+  // one more. The outputs are looked at between the edges. Where the bench has failed, $fatal tells whoever runs it.
+  initial begin
+    clk = 0;
+    rst = 1;
+    cycles = 0;
+    #5 clk = 1;
+    #5 clk = 0;
+    rst = 0;
+    while (done === 0 && full === 0 && cycles < 131 * (MOVES + 1)) begin
+      #5 clk = 1;
+      #5 clk = 0;
+      cycles = cycles + 1;
+    end
+"
+    } else {
+        b"  // One edge with rst high, and then edges with rst low until the circuit has ended, or there was one more than there are
   // moves. The outputs are looked at between the edges. Where the bench has failed, $fatal tells whoever runs it.
   initial begin
     clk = 0;
@@ -75,12 +106,36 @@ pub(crate) fn last() -> &'static [u8]
       #5 clk = 0;
       cycles = cycles + 1;
     end
-    if (done === 1 && full === 0 && result === RESULT && moves === MOVES && cycles === MOVES) begin
+"
+    }
+}
+
+/// What is compared and told.
+pub(crate) fn told(late: bool) -> &'static [u8]
+    ensures { result.now ≡ bench_told late }
+{
+    if late {
+        b"    if (done === 1 && full === 0 && result === RESULT && moves === MOVES && cycles >= MOVES) begin
+      $display(\"passed\");
+      $finish;
+    end else begin
+      $display(\"failed: done %b, full %b, result %0d, moves %0d, cycles %0d; wanted 1, 0, %0d, %0d, at least %0d\",
+"
+    } else {
+        b"    if (done === 1 && full === 0 && result === RESULT && moves === MOVES && cycles === MOVES) begin
       $display(\"passed\");
       $finish;
     end else begin
       $display(\"failed: done %b, full %b, result %0d, moves %0d, cycles %0d; wanted 1, 0, %0d, %0d, %0d\",
-        done, full, result, moves, cycles, RESULT, MOVES, MOVES);
+"
+    }
+}
+
+/// The rest.
+pub(crate) fn last() -> &'static [u8]
+    ensures { result.now ≡ bench_last }
+{
+    b"        done, full, result, moves, cycles, RESULT, MOVES, MOVES);
       $fatal(0);
     end
   end
