@@ -1,6 +1,6 @@
--- What the code has on the way: a subcommand with its first arguments, an argument of it, and what `circuit` is asked for. The contracts
+-- What the code has on the way: a subcommand with its first arguments, an argument of it, and a job whose texts are lent. The contracts
 -- of private functions cite it. It serves the prover alone.
-use Rattle.std.specs.Prelude.{◌≡◌, ℕ, List, false, [], ◌∷◌}
+use Rattle.std.specs.Prelude.{◌≡◌, List, false, [], ◌∷◌}
 use Rattle.clap.specs.Words.{App, Rule, Shape, app_of, with_subcommand}
 use Rattle.clap.specs.declared.builder.command.Command.{Command}
 use Rattle.clap.specs.declared.builder.command.Command.TheViews.{out-Command}
@@ -10,9 +10,9 @@ use Rattle.goi_words.specs.Commands.{trace_row, wide_operand}
 use Rattle.goi_words.specs.declared.commands.Name.{Name}
 use Rattle.goi_words.specs.declared.commands.Name.TheVariants.{Batch, Call, Check, Circuit, Demo, Net, Replay, Run, RunNet, Span}
 use Rattle.goi_words.specs.declared.commands.Name.TheVariants.{Steps, Trace}
-use Rattle.goi_jobs.specs.Jobs.{JobTree, text, verilog}
-use Rattle.goi_words.specs.declared.reading.Asked.{Asked}
-use Rattle.goi_words.specs.declared.reading.Asked.TheVariants as asked
+use Rattle.goi_jobs.specs.Jobs.{JobTree, demo, list, replay, text, verilog}
+use Rattle.goi_words.specs.declared.reading.Lent.{Lent}
+use Rattle.goi_words.specs.declared.reading.Lent.TheVariants as lent
 use Rattle.goi_words.specs.declared.commands.Argument.{Argument}
 use Rattle.goi_words.specs.declared.commands.Argument.TheVariants.{Named, Number, Numbered, Numbers, Switch, Text}
 
@@ -53,7 +53,10 @@ all_names =
 abbrev pub with_named : App → Name → App
 with_named app name = with_subcommand app (subcommand (row_of name))
 
--- the job that the code's own answer to what `circuit` is asked for comes to
-abbrev pub asked_tree : List ℕ → List ℕ → Asked → JobTree
-asked_tree file name (asked.Task task) = text file 1 task
-asked_tree file name (asked.Verilog v) = verilog file name v
+-- the job that one whose texts are lent comes to
+abbrev pub lent_tree : Lent → JobTree
+lent_tree (lent.Text file workers task) = text file.now workers task
+lent_tree (lent.Replay file schedule window) = replay file.now schedule.now window
+lent_tree (lent.List file workers) = list file.now workers
+lent_tree (lent.Demo n workers) = demo n workers
+lent_tree (lent.Verilog file name v) = verilog file.now name.now v

@@ -1,7 +1,8 @@
 -- Plain words, and what they ask for, for each command of the table.
 -- Plain words are the program's name, the command, its operands in order, and then options in any order, each at most once, with
 -- its value as the next word. Numbers are decimal digits without leading zeros and in range; names of files are neither empty nor
--- begin with `-`, and a module's name is one. `clap` takes other words too; what they mean is its own to say, and isn't told here.
+-- begin with `-`, a module's name is one, and the options go together. `clap` takes other words too; what they mean is its own to say, and
+-- isn't told here.
 use Rattle.std.specs.Prelude.{◌≡◌, ◌==◌, ◌<◌, ◌≤◌, ◌^◌, ⊤, ℕ, Bool, false, true, List, [], ◌∷◌, ◌++◌, Option, None, Some, codes, length}
 use Rattle.std.specs.Prelude.{find, if◌then◌else◌, map}
 use Rattle.std.specs.List.{AllByRecursion, flat_map, list_any}
@@ -85,12 +86,6 @@ abbrev pub AreDistinct : List Setting → Type 0
 AreDistinct [] = ⊤
 AreDistinct (s ∷ settings) = AllByRecursion (λ t. bytes_eq s.name t.name ≡ false) settings × AreDistinct settings
 
--- the words of this command with these operands and options are plain
-pub record IsPlain (c : CommandRow) (values : List Value) (settings : List Setting) : Type 0 where
-  pub operands : AllFit c.operands values
-  pub options : AllByRecursion (IsOption c.choices) settings
-  pub distinct : AreDistinct settings
-
 -- ---- what is given by them
 
 -- the text of the operand of this name
@@ -153,3 +148,12 @@ given c values settings = record {
   numbers = λ name. numbers_given c.operands values name;
   is_set = λ name. is_given name settings;
 }
+
+-- ---- all of it
+
+-- the words of this command with these operands and options are plain
+pub record IsPlain (c : CommandRow) (values : List Value) (settings : List Setting) : Type 0 where
+  pub operands : AllFit c.operands values
+  pub options : AllByRecursion (IsOption c.choices) settings
+  pub distinct : AreDistinct settings
+  pub together : c.fits (given c values settings) ≡ true

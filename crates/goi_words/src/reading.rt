@@ -1,13 +1,15 @@
 //! The job that a list of words asks for, read off from what `clap` finds in them.
 
-ghost use Rattle.std.specs.Prelude.{◌≡◌, ◌≢◌, ◌⊎◌, IfOk, IfErr, IsErrOf, None, Some, false, [], map, option_map, string_bytes};
+ghost use Rattle.std.specs.Prelude.{◌≡◌, ◌≢◌, ◌⊎◌, IfOk, IfErr, IsErrOf, None, Some, codes, false, [], map, option_map};
+ghost use Rattle.std.specs.Prelude.{string_bytes};
+ghost use Rattle.std.specs.Str.{bytes_eq};
 ghost use Rattle.clap.specs.Words.{Text, fault_of, found_of, rows_of, subcommand_of, subcommand_rows_of};
-ghost use Rattle.goi_words.specs.Commands.{batch_job, call_job, calling_in, check_job, circuit_asked, circuit_job, demo_job};
-ghost use Rattle.goi_words.specs.Commands.{goi_command, if_traced, name_in, net_job, replay_job, run_job, run_net_job};
-ghost use Rattle.goi_words.specs.Commands.{span_job, steps_job, trace_job, window_of};
-ghost use Rattle.goi_words.specs.Asked.{NamesNoModule, findings, is_set, is_taken, job, job_on, number_of, numbers_of, text_of};
-ghost use Rattle.goi_words.specs.Asked.{wide_number_in, wide_numbers_in};
-ghost use Rattle.goi_words.specs.Growing.{asked_tree};
+ghost use Rattle.goi_words.specs.Commands.{batch_job, call_job, calling_in, check_job, circuit_asked, circuit_fits, circuit_job};
+ghost use Rattle.goi_words.specs.Commands.{circuit_row, demo_job, goi_command, if_traced, name_in, net_job, replay_job, run_job};
+ghost use Rattle.goi_words.specs.Commands.{run_net_job, span_job, steps_job, trace_job, window_of};
+ghost use Rattle.goi_words.specs.Asked.{IsApart, NamesNoModule, findings, fitting_job, is_set, is_taken, job, job_on, number_of};
+ghost use Rattle.goi_words.specs.Asked.{numbers_of, text_of, wide_number_in, wide_numbers_in};
+ghost use Rattle.goi_words.specs.Growing.{lent_tree};
 ghost use Rattle.goi_jobs.specs.Jobs.{IsWithinLimits, job_of};
 ghost use Rattle.goi_words.specs.declared.faults.WordFault.TheVariants.{NoMemory, Refused};
 
@@ -25,14 +27,15 @@ use verilog_names::is_module_name;
 ///
 /// # Errors
 ///
-/// `Refused` comes only when `clap`'s definition refuses the words or the name of a circuit's module is none, and `NoMemory` when memory
-/// runs out.
+/// `Refused` comes only when `clap`'s definition refuses the words, the name of a circuit's module is none, or what is asked for of a
+/// circuit doesn't go together, and `NoMemory` when memory runs out.
 pub fn job_of(alloc: Global, words: &[String]) -> Result<Job, WordFault>
     ensures ok { IfOk result (λ done. job (map string_bytes words.now) ≡ Some (job_of done)) }
     ensures within { IfOk result (λ done. IsWithinLimits (job_of done)) }
     ensures none { IsErrOf result Refused → job (map string_bytes words.now) ≡ None }
     ensures refused { IsErrOf result Refused
-        → (is_taken (map string_bytes words.now) ≡ false) ⊎ NamesNoModule (map string_bytes words.now) }
+        → (is_taken (map string_bytes words.now) ≡ false)
+        ⊎ (NamesNoModule (map string_bytes words.now) ⊎ IsApart (map string_bytes words.now)) }
 {
     let matches = parse(alloc, words)?;
     match matches.subcommand() {
@@ -57,217 +60,52 @@ fn job_on(alloc: Global, name: &str, found: &ArgMatches<'_>) -> Result<Job, Word
     ensures ok { IfOk result (λ done. job_on name.now (rows_of (found_of found.now)) ≡ Some (job_of done)) }
     ensures refused { IsErrOf result Refused → job_on name.now (rows_of (found_of found.now)) ≡ None }
 {
-    match name {
-        "run" => run_job(alloc, found),
-        "check" => check_job(alloc, found),
-        "net" => net_job(alloc, found),
-        "replay" => replay_job(alloc, found),
-        "demo" => demo_job(alloc, found),
-        "run-net" => run_net_job(alloc, found),
-        "batch" => batch_job(alloc, found),
-        "trace" => trace_job(alloc, found),
-        "circuit" => circuit_job(alloc, found),
-        "span" => span_job(alloc, found),
-        "steps" => steps_job(alloc, found),
-        "call" => call_job(alloc, found),
-        _ => Err(WordFault::Refused),
+    if name == "call" {
+        return call_job(alloc, found);
+    }
+    match lent_on(name, found) {
+        Some(lent) => owned(alloc, lent),
+        None => Err(WordFault::Refused),
     }
 }
 
-/// The job of the words behind `run`.
-fn run_job(alloc: Global, found: &ArgMatches<'_>) -> Result<Job, WordFault>
-    ensures ok { IfOk result (λ done. run_job (findings (rows_of (found_of found.now))) ≡ Some (job_of done)) }
-    ensures refused { IsErrOf result Refused → run_job (findings (rows_of (found_of found.now))) ≡ None }
-{
-    let file = text_in(found, "file")?;
-    let workers = number_in(found, "workers")?;
-    let budget = number_in(found, "budget")?;
-    Ok(Job::Text {
-        file: Ident::from_text(alloc, file)?,
-        workers,
-        task: Task::Run {
-            budget,
-            calling: calling_in(found),
-            shown: Shown {
-                schedule: is_set(found, "schedule"),
-                tally: is_set(found, "tally"),
-                progress: is_set(found, "progress"),
-            },
-        },
-    })
-}
-
-/// The job of the words behind `check`.
-fn check_job(alloc: Global, found: &ArgMatches<'_>) -> Result<Job, WordFault>
-    ensures ok { IfOk result (λ done. check_job (findings (rows_of (found_of found.now))) ≡ Some (job_of done)) }
-    ensures refused { IsErrOf result Refused → check_job (findings (rows_of (found_of found.now))) ≡ None }
-{
-    let file = text_in(found, "file")?;
-    Ok(Job::Text {
-        file: Ident::from_text(alloc, file)?,
-        workers: 1,
-        task: Task::Check {
-            term: is_set(found, "term"),
-        },
-    })
-}
-
-/// The job of the words behind `net`.
-fn net_job(alloc: Global, found: &ArgMatches<'_>) -> Result<Job, WordFault>
-    ensures ok { IfOk result (λ done. net_job (findings (rows_of (found_of found.now))) ≡ Some (job_of done)) }
-    ensures refused { IsErrOf result Refused → net_job (findings (rows_of (found_of found.now))) ≡ None }
-{
-    let file = text_in(found, "file")?;
-    Ok(Job::Text {
-        file: Ident::from_text(alloc, file)?,
-        workers: 1,
-        task: Task::ShowNet,
-    })
-}
-
-/// The job of the words behind `replay`; a part of the trace that can't be is refused.
-fn replay_job(alloc: Global, found: &ArgMatches<'_>) -> Result<Job, WordFault>
-    ensures ok { IfOk result (λ done. replay_job (findings (rows_of (found_of found.now))) ≡ Some (job_of done)) }
-    ensures refused { IsErrOf result Refused → replay_job (findings (rows_of (found_of found.now))) ≡ None }
-{
-    let file = text_in(found, "file")?;
-    let schedule = text_in(found, "schedule")?;
-    let window = window_of(found).ok_or(WordFault::Refused)?;
-    Ok(Job::Replay {
-        file: Ident::from_text(alloc, file)?,
-        schedule: Ident::from_text(alloc, schedule)?,
-        window: if_traced(is_set(found, "trace"), window),
-    })
-}
-
-/// The job of the words behind `demo`.
-fn demo_job(_alloc: Global, found: &ArgMatches<'_>) -> Result<Job, WordFault>
-    ensures ok { IfOk result (λ done. demo_job (findings (rows_of (found_of found.now))) ≡ Some (job_of done)) }
-    ensures refused { IsErrOf result Refused → demo_job (findings (rows_of (found_of found.now))) ≡ None }
-{
-    let n = number_in(found, "n")?;
-    let workers = number_in(found, "workers")?;
-    Ok(Job::Demo { n, workers })
-}
-
-/// The job of the words behind `run-net`.
-fn run_net_job(alloc: Global, found: &ArgMatches<'_>) -> Result<Job, WordFault>
-    ensures ok { IfOk result (λ done. run_net_job (findings (rows_of (found_of found.now))) ≡ Some (job_of done)) }
-    ensures refused { IsErrOf result Refused → run_net_job (findings (rows_of (found_of found.now))) ≡ None }
-{
-    let file = text_in(found, "file")?;
-    let workers = number_in(found, "workers")?;
-    let budget = number_in(found, "budget")?;
-    Ok(Job::Text {
-        file: Ident::from_text(alloc, file)?,
-        workers,
-        task: Task::RunNet {
-            budget,
-            shown: Shown {
-                schedule: is_set(found, "schedule"),
-                tally: is_set(found, "tally"),
-                progress: false,
-            },
-        },
-    })
-}
-
-/// The job of the words behind `batch`.
-fn batch_job(alloc: Global, found: &ArgMatches<'_>) -> Result<Job, WordFault>
-    ensures ok { IfOk result (λ done. batch_job (findings (rows_of (found_of found.now))) ≡ Some (job_of done)) }
-    ensures refused { IsErrOf result Refused → batch_job (findings (rows_of (found_of found.now))) ≡ None }
-{
-    let file = text_in(found, "file")?;
-    let workers = number_in(found, "workers")?;
-    Ok(Job::List {
-        file: Ident::from_text(alloc, file)?,
-        workers,
-    })
-}
-
-/// The job of the words behind `trace`; a part of the trace that can't be is refused.
-fn trace_job(alloc: Global, found: &ArgMatches<'_>) -> Result<Job, WordFault>
-    ensures ok { IfOk result (λ done. trace_job (findings (rows_of (found_of found.now))) ≡ Some (job_of done)) }
-    ensures refused { IsErrOf result Refused → trace_job (findings (rows_of (found_of found.now))) ≡ None }
-{
-    let file = text_in(found, "file")?;
-    let workers = number_in(found, "workers")?;
-    let budget = number_in(found, "budget")?;
-    let window = window_of(found).ok_or(WordFault::Refused)?;
-    Ok(Job::Text {
-        file: Ident::from_text(alloc, file)?,
-        workers,
-        task: Task::Trace {
-            budget,
-            calling: calling_in(found),
-            window,
-        },
-    })
-}
-
-/// The job of the words behind `circuit`; a name that is no module's is refused.
-fn circuit_job(alloc: Global, found: &ArgMatches<'_>) -> Result<Job, WordFault>
-    ensures ok { IfOk result (λ done. circuit_job (findings (rows_of (found_of found.now))) ≡ Some (job_of done)) }
-    ensures refused { IsErrOf result Refused → circuit_job (findings (rows_of (found_of found.now))) ≡ None }
-{
-    let file = text_in(found, "file")?;
-    let cells = number_in(found, "cells")?;
-    let forks = number_in(found, "forks")?;
-    let budget = number_in(found, "budget")?;
-    let name = name_in(found)?;
-    let asked = circuit_asked(found, cells, forks, budget);
-    asked_job(alloc, file, name, asked)
-}
-
-/// What `circuit` is asked for.
+/// A job whose texts are lent by the words.
 #[derive(Clone, Copy)]
-enum Asked {
-    /// A task on the text, by one worker.
-    Task(Task),
-    /// Verilog for it.
-    Verilog(Verilog),
+enum Lent<'a> {
+    /// A task on the text of a file, by so many workers.
+    Text(&'a str, u32, Task),
+    /// A replay: the files of the program and of the schedule, and the part of the trace.
+    Replay(&'a str, &'a str, Option<Window>),
+    /// The programs of a list, by so many workers.
+    List(&'a str, u32),
+    /// The program that is generated for a number, by so many workers.
+    Demo(u32, u32),
+    /// Verilog for the text of a file, with the name of a module.
+    Verilog(&'a str, &'a str, Verilog),
 }
 
-/// What a circuit needs within so many moves where that was found, and else who moves in it where that was, and else a bench for it where
-/// that was, and else the run of a circuit of these sizes for so many cycles where that was, and else the circuit.
-fn circuit_asked(found: &ArgMatches<'_>, cells: u32, forks: u32, budget: u32) -> Asked
-    ensures { (file name : Text) → asked_tree file name result
-        ≡ circuit_asked (findings (rows_of (found_of found.now))) file name cells forks budget }
-{
-    if is_set(found, "needs") {
-        Asked::Task(Task::NeedsCircuit { budget })
-    } else if is_set(found, "schedule") {
-        Asked::Task(Task::ScheduleCircuit { budget })
-    } else if is_set(found, "bench") {
-        Asked::Verilog(Verilog::Bench { budget })
-    } else if is_set(found, "run") {
-        Asked::Task(Task::RunCircuit {
-            cells,
-            forks,
-            budget,
-            waves: is_set(found, "vcd"),
-        })
-    } else {
-        Asked::Verilog(Verilog::Circuit {
-            cells,
-            forks,
-            handshake: is_set(found, "handshake"),
-        })
-    }
-}
-
-/// The job that this comes to for the text of a file, under this name of its circuit's module.
-fn asked_job(alloc: Global, file: &str, name: &str, asked: Asked) -> Result<Job, WordFault>
-    ensures ok { IfOk result (λ done. job_of done ≡ asked_tree file.now name.now asked) }
+/// The job with texts of its own.
+fn owned(alloc: Global, lent: Lent<'_>) -> Result<Job, WordFault>
+    ensures ok { IfOk result (λ done. job_of done ≡ lent_tree lent.entry) }
     ensures memory { IfErr result (λ f. f ≡ NoMemory) }
 {
-    match asked {
-        Asked::Task(task) => Ok(Job::Text {
+    match lent {
+        Lent::Text(file, workers, task) => Ok(Job::Text {
             file: Ident::from_text(alloc, file)?,
-            workers: 1,
+            workers,
             task,
         }),
-        Asked::Verilog(verilog) => Ok(Job::Verilog {
+        Lent::Replay(file, schedule, window) => Ok(Job::Replay {
+            file: Ident::from_text(alloc, file)?,
+            schedule: Ident::from_text(alloc, schedule)?,
+            window,
+        }),
+        Lent::List(file, workers) => Ok(Job::List {
+            file: Ident::from_text(alloc, file)?,
+            workers,
+        }),
+        Lent::Demo(n, workers) => Ok(Job::Demo { n, workers }),
+        Lent::Verilog(file, name, verilog) => Ok(Job::Verilog {
             file: Ident::from_text(alloc, file)?,
             name: Ident::from_text(alloc, name)?,
             verilog,
@@ -275,38 +113,219 @@ fn asked_job(alloc: Global, file: &str, name: &str, asked: Asked) -> Result<Job,
     }
 }
 
-/// The job of the words behind `span`.
-fn span_job(alloc: Global, found: &ArgMatches<'_>) -> Result<Job, WordFault>
-    ensures ok { IfOk result (λ done. span_job (findings (rows_of (found_of found.now))) ≡ Some (job_of done)) }
-    ensures refused { IsErrOf result Refused → span_job (findings (rows_of (found_of found.now))) ≡ None }
+/// The job of a subcommand other than `call`.
+fn lent_on<'a>(name: &str, found: &ArgMatches<'a>) -> Option<Lent<'a>>
+    ensures { bytes_eq name.now (codes "call") ≡ false → option_map lent_tree result ≡ job_on name.now (rows_of (found_of found.now)) }
 {
-    let file = text_in(found, "file")?;
-    let budget = number_in(found, "budget")?;
-    Ok(Job::Text {
-        file: Ident::from_text(alloc, file)?,
-        workers: 1,
-        task: Task::Span {
-            budget,
-            calling: calling_in(found),
-            profile: is_set(found, "profile"),
+    match name {
+        "run" => run_job(found),
+        "check" => check_job(found),
+        "net" => net_job(found),
+        "replay" => replay_job(found),
+        "demo" => demo_job(found),
+        "run-net" => run_net_job(found),
+        "batch" => batch_job(found),
+        "trace" => trace_job(found),
+        "circuit" => fitting_job(found),
+        "span" => span_job(found),
+        "steps" => steps_job(found),
+        _ => None,
+    }
+}
+
+/// The job of the words behind `run`.
+fn run_job<'a>(found: &ArgMatches<'a>) -> Option<Lent<'a>>
+    ensures { option_map lent_tree result ≡ run_job (findings (rows_of (found_of found.now))) }
+{
+    let file = text_of(found, "file")?;
+    let workers = number_of(found, "workers")?;
+    let budget = number_of(found, "budget")?;
+    let task = Task::Run {
+        budget,
+        calling: calling_in(found),
+        shown: Shown {
             schedule: is_set(found, "schedule"),
+            tally: is_set(found, "tally"),
+            progress: is_set(found, "progress"),
         },
-    })
+    };
+    Some(Lent::Text(file, workers, task))
+}
+
+/// The job of the words behind `check`.
+fn check_job<'a>(found: &ArgMatches<'a>) -> Option<Lent<'a>>
+    ensures { option_map lent_tree result ≡ check_job (findings (rows_of (found_of found.now))) }
+{
+    let file = text_of(found, "file")?;
+    let term = is_set(found, "term");
+    Some(Lent::Text(file, 1, Task::Check { term }))
+}
+
+/// The job of the words behind `net`.
+fn net_job<'a>(found: &ArgMatches<'a>) -> Option<Lent<'a>>
+    ensures { option_map lent_tree result ≡ net_job (findings (rows_of (found_of found.now))) }
+{
+    let file = text_of(found, "file")?;
+    Some(Lent::Text(file, 1, Task::ShowNet))
+}
+
+/// The job of the words behind `replay`; a part of the trace that can't be is refused.
+fn replay_job<'a>(found: &ArgMatches<'a>) -> Option<Lent<'a>>
+    ensures { option_map lent_tree result ≡ replay_job (findings (rows_of (found_of found.now))) }
+{
+    let file = text_of(found, "file")?;
+    let schedule = text_of(found, "schedule")?;
+    let window = window_of(found)?;
+    Some(Lent::Replay(file, schedule, if_traced(is_set(found, "trace"), window)))
+}
+
+/// The job of the words behind `demo`.
+fn demo_job<'a>(found: &ArgMatches<'a>) -> Option<Lent<'a>>
+    ensures { option_map lent_tree result ≡ demo_job (findings (rows_of (found_of found.now))) }
+{
+    let n = number_of(found, "n")?;
+    let workers = number_of(found, "workers")?;
+    Some(Lent::Demo(n, workers))
+}
+
+/// The job of the words behind `run-net`.
+fn run_net_job<'a>(found: &ArgMatches<'a>) -> Option<Lent<'a>>
+    ensures { option_map lent_tree result ≡ run_net_job (findings (rows_of (found_of found.now))) }
+{
+    let file = text_of(found, "file")?;
+    let workers = number_of(found, "workers")?;
+    let budget = number_of(found, "budget")?;
+    let task = Task::RunNet {
+        budget,
+        shown: Shown {
+            schedule: is_set(found, "schedule"),
+            tally: is_set(found, "tally"),
+            progress: false,
+        },
+    };
+    Some(Lent::Text(file, workers, task))
+}
+
+/// The job of the words behind `batch`.
+fn batch_job<'a>(found: &ArgMatches<'a>) -> Option<Lent<'a>>
+    ensures { option_map lent_tree result ≡ batch_job (findings (rows_of (found_of found.now))) }
+{
+    let file = text_of(found, "file")?;
+    let workers = number_of(found, "workers")?;
+    Some(Lent::List(file, workers))
+}
+
+/// The job of the words behind `trace`; a part of the trace that can't be is refused.
+fn trace_job<'a>(found: &ArgMatches<'a>) -> Option<Lent<'a>>
+    ensures { option_map lent_tree result ≡ trace_job (findings (rows_of (found_of found.now))) }
+{
+    let file = text_of(found, "file")?;
+    let workers = number_of(found, "workers")?;
+    let budget = number_of(found, "budget")?;
+    let window = window_of(found)?;
+    let task = Task::Trace {
+        budget,
+        calling: calling_in(found),
+        window,
+    };
+    Some(Lent::Text(file, workers, task))
+}
+
+/// The job of the words behind `circuit`, where they go together.
+fn fitting_job<'a>(found: &ArgMatches<'a>) -> Option<Lent<'a>>
+    ensures { option_map lent_tree result ≡ fitting_job circuit_row (rows_of (found_of found.now)) }
+{
+    if circuit_fits(found) {
+        circuit_job(found)
+    } else {
+        None
+    }
+}
+
+/// Whether they do: late numbers aren't asked for with what is of the circuit whose numbers are there at once.
+fn circuit_fits(found: &ArgMatches<'_>) -> bool
+    ensures { result ≡ circuit_fits (findings (rows_of (found_of found.now))) }
+{
+    !is_set(found, "late")
+        || !(is_set(found, "run")
+            || is_set(found, "vcd")
+            || is_set(found, "needs")
+            || is_set(found, "schedule"))
+}
+
+/// The job of the words behind `circuit`; a name that is no module's is refused.
+fn circuit_job<'a>(found: &ArgMatches<'a>) -> Option<Lent<'a>>
+    ensures { option_map lent_tree result ≡ circuit_job (findings (rows_of (found_of found.now))) }
+{
+    let file = text_of(found, "file")?;
+    let cells = number_of(found, "cells")?;
+    let forks = number_of(found, "forks")?;
+    let budget = number_of(found, "budget")?;
+    let name = name_in(found)?;
+    Some(circuit_asked(found, file, name, cells, forks, budget))
+}
+
+/// What a circuit needs within so many moves where that was found, and else who moves in it where that was, and else a bench for it where
+/// that was, and else the run of a circuit of these sizes for so many cycles where that was, and else the circuit; late where that was.
+fn circuit_asked<'a>(
+    found: &ArgMatches<'_>,
+    file: &'a str,
+    name: &'a str,
+    cells: u32,
+    forks: u32,
+    budget: u32,
+) -> Lent<'a>
+    ensures { lent_tree result ≡ circuit_asked (findings (rows_of (found_of found.now))) file.now name.now cells forks budget }
+{
+    if is_set(found, "needs") {
+        Lent::Text(file, 1, Task::NeedsCircuit { budget })
+    } else if is_set(found, "schedule") {
+        Lent::Text(file, 1, Task::ScheduleCircuit { budget })
+    } else if is_set(found, "bench") {
+        let late = is_set(found, "late");
+        Lent::Verilog(file, name, Verilog::Bench { budget, late })
+    } else if is_set(found, "run") {
+        let task = Task::RunCircuit {
+            cells,
+            forks,
+            budget,
+            waves: is_set(found, "vcd"),
+        };
+        Lent::Text(file, 1, task)
+    } else {
+        let verilog = Verilog::Circuit {
+            cells,
+            forks,
+            handshake: is_set(found, "handshake"),
+            late: is_set(found, "late"),
+        };
+        Lent::Verilog(file, name, verilog)
+    }
+}
+
+/// The job of the words behind `span`.
+fn span_job<'a>(found: &ArgMatches<'a>) -> Option<Lent<'a>>
+    ensures { option_map lent_tree result ≡ span_job (findings (rows_of (found_of found.now))) }
+{
+    let file = text_of(found, "file")?;
+    let budget = number_of(found, "budget")?;
+    let task = Task::Span {
+        budget,
+        calling: calling_in(found),
+        profile: is_set(found, "profile"),
+        schedule: is_set(found, "schedule"),
+    };
+    Some(Lent::Text(file, 1, task))
 }
 
 /// The job of the words behind `steps`; a part of the steps that can't be is refused.
-fn steps_job(alloc: Global, found: &ArgMatches<'_>) -> Result<Job, WordFault>
-    ensures ok { IfOk result (λ done. steps_job (findings (rows_of (found_of found.now))) ≡ Some (job_of done)) }
-    ensures refused { IsErrOf result Refused → steps_job (findings (rows_of (found_of found.now))) ≡ None }
+fn steps_job<'a>(found: &ArgMatches<'a>) -> Option<Lent<'a>>
+    ensures { option_map lent_tree result ≡ steps_job (findings (rows_of (found_of found.now))) }
 {
-    let file = text_in(found, "file")?;
-    let budget = number_in(found, "budget")?;
-    let window = window_of(found).ok_or(WordFault::Refused)?;
-    Ok(Job::Text {
-        file: Ident::from_text(alloc, file)?,
-        workers: 1,
-        task: Task::Steps { budget, window },
-    })
+    let file = text_of(found, "file")?;
+    let budget = number_of(found, "budget")?;
+    let window = window_of(found)?;
+    Some(Lent::Text(file, 1, Task::Steps { budget, window }))
 }
 
 /// The job of the words behind `call`.
@@ -359,16 +378,15 @@ fn text_in<'a>(found: &ArgMatches<'a>, name: &str) -> Result<&'a str, WordFault>
     text_of(found, name).ok_or(WordFault::Refused)
 }
 
-/// The name of a circuit's module that was found: a text that names none is refused.
-fn name_in<'a>(found: &ArgMatches<'a>) -> Result<&'a str, WordFault>
-    ensures ok { IfOk result (λ s. name_in (findings (rows_of (found_of found.now))) ≡ Some s.now) }
-    ensures refused { IfErr result (λ f. name_in (findings (rows_of (found_of found.now))) ≡ None) }
+/// The name of a circuit's module that was found, where it is one.
+fn name_in<'a>(found: &ArgMatches<'a>) -> Option<&'a str>
+    ensures { option_map (λ s. s.now) result ≡ name_in (findings (rows_of (found_of found.now))) }
 {
-    let text = text_in(found, "name")?;
+    let text = text_of(found, "name")?;
     if is_module_name(text.as_bytes()) {
-        Ok(text)
+        Some(text)
     } else {
-        Err(WordFault::Refused)
+        None
     }
 }
 
