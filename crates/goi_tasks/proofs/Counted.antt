@@ -1,5 +1,5 @@
 -- The reports that are made of the run of a net as its circuit makes it: of what it needs, of its schedule, and its bench.
-use Rattle.std.proofs.Common.{◌≡◌, ℕ, true, false, List, [], length, Option, sym, ap, ◌∙◌, subst, arith}
+use Rattle.std.proofs.Common.{◌≡◌, ℕ, Bool, true, false, List, [], length, Option, sym, ap, ◌∙◌, subst, arith}
 use Rattle.pcf_values.specs.declared.val.Val.{Val}
 use Rattle.pcf_values.specs.Terms.{TermTree}
 use Rattle.cbn_meaning.specs.Meaning.{Means}
@@ -68,10 +68,11 @@ module _ (net : NetTree) (budget : ℕ) (answer : Option Val) (moves cells forks
   }
 
 -- the output is that of the bench of each such term's circuit
-pub reports_bench : (name : List ℕ) (net : NetTree) (budget : ℕ) (answer : Option Val) (moves : ℕ) → moves ≡ length (newest net budget) →
-    Comes net budget answer → (status : ℕ) → status ≡ replay_status answer → (text : List ℕ) → text ≡ bench_report name answer moves →
-    (o : Output) → o ≡ output status text [] → (t : TermTree) → RunsAs ByName t net → ReportsBench name budget t o
-reports_bench name net budget answer moves many led status e text lines o told t is = record {
+pub reports_bench : (name : List ℕ) (net : NetTree) (budget : ℕ) (late : Bool) (answer : Option Val) (moves : ℕ) →
+    moves ≡ length (newest net budget) → Comes net budget answer → (status : ℕ) → status ≡ replay_status answer →
+    (text : List ℕ) → text ≡ bench_report name late answer moves → (o : Output) → o ≡ output status text [] →
+    (t : TermTree) → RunsAs ByName t net → ReportsBench name budget late t o
+reports_bench name net budget late answer moves many led status e text lines o told t is = record {
   answer = answer;
   moves = moves;
   tells = counted_tells net budget answer moves many led t is;

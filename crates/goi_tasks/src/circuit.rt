@@ -20,7 +20,8 @@ use net_build::Net;
 use std::alloc::{AllocError, Global};
 
 /// The circuit of the net of a text's program, as a module of this name with so many cells and forks, whose type is `nat` or
-/// `nat -> .. -> nat`: it has a port for each argument. Behind it stands the module by which it is called, where that is asked for.
+/// `nat -> .. -> nat`: it has a port for each argument, and its numbers are late where that is asked for. Behind it stands the module by
+/// which it is called, where that is asked for.
 pub(crate) fn report_circuit(
     alloc: Global,
     bytes: &[u8],
@@ -28,12 +29,13 @@ pub(crate) fn report_circuit(
     cells: u32,
     forks: u32,
     handshake: bool,
+    late: bool,
 ) -> Result<Report, Stop>
-    ensures report { IfOk result (λ r. ReportsVerilog name.now (Circuit cells forks handshake) bytes.now (output_of r)) }
+    ensures report { IfOk result (λ r. ReportsVerilog name.now (Circuit cells forks handshake late) bytes.now (output_of r)) }
     ensures fault { IfErr result (λ e. StopsFor (FaultyAnyFunction bytes.now) e) }
 {
     let function = compile_any(alloc, bytes)?;
-    let text = text_of(alloc, function, name, cells, forks, handshake)?;
+    let text = text_of(alloc, function, name, cells, forks, handshake, late)?;
     Ok(plain(alloc, text, 0))
 }
 
@@ -45,11 +47,12 @@ fn text_of(
     cells: u32,
     forks: u32,
     handshake: bool,
+    late: bool,
 ) -> Result<Vec<u8>, AllocError>
-    ensures { IfOk result (λ v. v.items ≡ circuit_and_call name.now cells forks handshake function.0 function.1) }
+    ensures { IfOk result (λ v. v.items ≡ circuit_and_call name.now cells forks handshake late function.0 function.1) }
 {
     let arguments = function.arguments();
-    let mut text = circuit_of(alloc, function, name, cells, forks)?;
+    let mut text = circuit_of(alloc, function, name, cells, forks, late)?;
     push_asked_call(&mut text, name, arguments, handshake)?;
     Ok(text)
 }
@@ -76,15 +79,16 @@ fn circuit_of(
     name: &[u8],
     cells: u32,
     forks: u32,
+    late: bool,
 ) -> Result<Vec<u8>, AllocError>
-    ensures { IfOk result (λ v. v.items ≡ function_circuit name.now cells forks function.0 function.1) }
+    ensures { IfOk result (λ v. v.items ≡ function_circuit name.now late cells forks function.0 function.1) }
 {
     let ports = Ports {
         first: function.first(),
         count: function.arguments(),
     };
     let net = net_at_zeros(alloc, function)?;
-    let text = print_circuit(alloc, &net, cells, forks, name, ports);
+    let text = print_circuit(alloc, &net, cells, forks, name, ports, late);
     drop(net);
     text
 }
