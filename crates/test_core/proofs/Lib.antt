@@ -1,2 +1,4 @@
 -- One entry after a change of the table of forks.
 mod KeyByKey
+-- What a row leaves was reached in so many moves.
+mod Reaching

@@ -3,7 +3,7 @@
 ghost use Rattle.interleave_laws.specs.Runs.{Runs};
 
 use crate::games::{has, played};
-use crate::tokens::token;
+use crate::texts::Written;
 use interleave_core::Core;
 use move_rules::walk;
 use net_build::Net;
@@ -30,7 +30,7 @@ fn adopts(
 ) -> Result<Option<u32>, AllocError>
     requires { Runs net.now }
 {
-    let from = token(alloc, made.from)?;
+    let from = Written::token(made.from).made(alloc)?;
     let moved = walk(alloc, made.on, from, made.most)?;
     Ok(core.adopt(net, ticket, moved, most))
 }

@@ -7,7 +7,7 @@ ghost use Rattle.std.specs.Prelude.{◌+◌, ◌<◌, OnOk};
 ghost use Rattle.interleave_laws.specs.Runs.{Runs};
 ghost use Rattle.interleave_laws.specs.MapRuns.{IsReachedWithin};
 
-use crate::tokens::token;
+use crate::texts::Written;
 use interleave_core::{Core, Stepped};
 use net_build::Net;
 use pcf_values::Val;
@@ -39,7 +39,7 @@ fn is_named(stepped: Stepped, name: &str) -> bool {
 /// Whether the ticket has this token, or none where the text is empty.
 pub(crate) fn has(alloc: Global, core: &Core, ticket: u32, text: &str) -> Result<bool, AllocError> {
     match core.token(ticket) {
-        Some(kept) => Ok(!text.is_empty() && token(alloc, text)?.same(kept)),
+        Some(kept) => Ok(!text.is_empty() && Written::token(text).is(alloc, kept)?),
         None => Ok(text.is_empty()),
     }
 }

@@ -18,7 +18,7 @@ use testing_rows::{cut, number};
 use token_pool::{Ended, PoolState};
 
 /// Whether this is the turn.
-fn is_turn<N: OnNet + Send + Sync>(turn: Turn<BranchPiece<N>>, text: &str) -> bool {
+fn is_turn<N: OnNet + Send + Sync>(turn: &Turn<BranchPiece<N>>, text: &str) -> bool {
     match turn {
         Turn::Piece(piece) => {
             let (most, way) = cut(text, ' ');
@@ -70,7 +70,7 @@ fn is_so<N: OnNet + Send + Sync>(
     let worker = number(first);
     if call == "turn" {
         let turn = pool.turn(worker)?;
-        Ok(is_turn(turn, text))
+        Ok(is_turn(&turn, text))
     } else if call == "plays" {
         brings(alloc, net, pool, worker, worker, text)
     } else {

@@ -30,7 +30,7 @@ fn is_taken(taken: &Taken, text: &str) -> bool {
 }
 
 /// Whether this is what a worker is told that hands something in.
-fn is_booked(booked: Booked, text: &str) -> bool {
+pub(crate) fn is_booked(booked: Booked, text: &str) -> bool {
     match booked {
         Booked::Done(before) => before == number(text),
         Booked::NothingHeld => text == "nothing",
@@ -38,7 +38,7 @@ fn is_booked(booked: Booked, text: &str) -> bool {
 }
 
 /// A walk of no moves, from no live token.
-fn nothing(alloc: Global) -> Result<Moved, AllocError> {
+pub(crate) fn nothing(alloc: Global) -> Result<Moved, AllocError> {
     let token = Token {
         wire: 0,
         up: true,

@@ -25,7 +25,7 @@ struct Game<'a> {
 }
 
 /// Whether these are the answer's digits, or `-` where there is none.
-fn is_answer(answer: Option<Val>, text: &str) -> bool {
+pub(crate) fn is_answer(answer: Option<Val>, text: &str) -> bool {
     match answer {
         Some(v) => v == Val::Number(number(text) as u64),
         None => text == "-",

@@ -1,2 +1,0 @@
--- what a row leaves was reached in so many moves
-mod Reaching

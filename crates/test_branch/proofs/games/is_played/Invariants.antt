@@ -1,4 +1,0 @@
-use Rattle.test_branch.proofs.games.is_played.Given as goal
-
-abbrev pub ghosts-plays_all : goal.ghosts-plays_all
-ghosts-plays_all a = record { net = a.net }
