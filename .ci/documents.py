@@ -200,6 +200,7 @@ REFUSED = (
     ("run p --budget -5", "`--budget` wants a value behind it, and `-5` is none"),
     ("run p --workers 65", "`65` is no value of `--workers`, which takes 1 to 64"),
     ("circuit p --cells 0", "`0` is no value of `--cells`, which takes 1 to 1048575"),
+    ("circuit p --late --name a --run", "`--late` is not taken with `--run`"),
     ("circuit p --name 1st", "`1st` is no name of a module: a letter or `_`, and then letters, digits, `_` and `$`, at most 255 in all"),
     ("circuit p --name module", "`module` is a reserved word, and names no module"),
     ("trace p --from x", "`x` is no value of `--from`, which takes 0 to 10000000"),
