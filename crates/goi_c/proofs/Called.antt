@@ -1,5 +1,5 @@
 -- Why what came of a task, given back, is what the call promises.
-use Rattle.std.proofs.Common.{◌≡◌, ◌∙◌, ℕ, List, Result, Ok, Err, ap, subst, inl, inr}
+use Rattle.std.proofs.Common.{◌≡◌, ℕ, List, Result, Ok, Err, subst, inl, inr}
 use Rattle.std.specs.Prelude.{IfOk, IfErr}
 use Rattle.goi_tasks.specs.declared.telling.ValueAndMoves.{ValueAndMoves}
 use Rattle.goi_tasks.specs.declared.fault.Fault.{Fault}
@@ -11,15 +11,13 @@ use Rattle.goi_tasks.specs.Seen.{output_of}
 use Rattle.program_runs.specs.declared.calling.Calling.{Calling}
 use Rattle.goi_tasks.specs.Told.{TellsText}
 use Rattle.goi_tasks.specs.Stops.{StopsFor}
-use Rattle.goi_jobs.specs.declared.shown.Shown.{Shown}
 use Rattle.goi_jobs.specs.declared.task.Task.{Task}
-use Rattle.goi_jobs.specs.declared.task.Task.TheVariants.{Run}
 use Rattle.goi_tasks.specs.Tasks.{ReportsText, FaultyFor}
-use Rattle.goi_c.specs.declared.telling.Answer.{Answer}
-use Rattle.goi_c.specs.Backs.{Back}
+use Rattle.goi_calls.specs.declared.telling.Answer.{Answer}
+use Rattle.goi_calls.specs.Backs.{Back}
 use Rattle.goi_c.specs.Calls.{Calls, CallsTask, prints, refuses, no_memory, TellsRun, ran, refused, no_memory as told_no_memory}
 use Rattle.goi_c.specs.Calls.{tell_task}
-use Rattle.goi_c.specs.Giving.{OfStop, OfResult, OfTold}
+use Rattle.goi_calls.specs.Giving.{OfStop, OfResult, OfTold}
 
 module _ (right : Output → Type 0) (faulty : Fault → Type 0) where
   -- a fault that is there, or no memory
@@ -58,6 +56,3 @@ pub told_as : (calling own : Calling) → calling ≡ own → (budget : ℕ) (by
     IfErr r (λ e. StopsFor (FaultyFor (tell_task calling budget) bytes) e) → OfTold r a b → TellsRun own budget bytes a b
 told_as calling own e budget bytes r a b ok err g =
     subst (λ (k : Calling). TellsRun k budget bytes a b) e (told calling budget bytes r a b ok err g)
-
-pub same_run : (budget : ℕ) (k own_k : Calling) (s own_s : Shown) → k ≡ own_k → s ≡ own_s → Run budget k s ≡ Run budget own_k own_s
-same_run budget k own_k s own_s e f = ap (λ (x : Calling). Run budget x s) e ∙ ap (λ (x : Shown). Run budget own_k x) f

@@ -1,14 +1,13 @@
 -- What the calls promise to a caller that isn't written in Rattle. Each is a task on the caller's bytes, and what is given back is the
 -- task's output, the line of the first fault, or nothing where there was no memory or the numbers ask for nothing.
-use Rattle.std.specs.Prelude.{◌≡◌, ◌≢◌, ◌≤◌, ◌<◌, ◌/◌, ◌%◌, ℕ, Bool, false, List, length, Option, None, Some}
+use Rattle.std.specs.Prelude.{◌≢◌, ◌≤◌, ◌<◌, ℕ, Bool, false, List, length, Option, None, Some}
 use Rattle.std.specs.Prelude.{nat_eq, codes}
 use Rattle.pcf_values.specs.declared.val.Val.{Val}
-use Rattle.pcf_values.specs.declared.val.Val.TheVariants.{Number, Overflow}
 use Rattle.goi_jobs.specs.declared.window.Window.{Window}
 use Rattle.goi_jobs.specs.Ranges.{IsBudget, IsForks, IsPart, IsCells, IsWindow}
 use Rattle.goi_tasks.specs.declared.fault.Fault.{Fault}
 use Rattle.goi_jobs.specs.declared.task.Task.{Task}
-use Rattle.goi_jobs.specs.declared.task.Task.TheVariants.{Run, RunNet, Span, Steps, Trace}
+use Rattle.goi_jobs.specs.declared.task.Task.TheVariants.{Run, Steps}
 use Rattle.goi_jobs.specs.declared.verilog.Verilog.{Verilog}
 use Rattle.goi_jobs.specs.declared.verilog.Verilog.TheVariants.{Circuit}
 use Rattle.goi_tasks.specs.Outputs.{Output}
@@ -18,23 +17,15 @@ use Rattle.program_runs.specs.Programs.{calling_of, OfGround}
 use Rattle.goi_tasks.specs.Programs.{FaultyEither}
 use Rattle.goi_tasks.specs.Replaying.{replay_status, ReportsReplay, EndsReplay, FaultySchedule}
 use Rattle.goi_tasks.specs.Told.{TellsText}
-use Rattle.goi_jobs.specs.Tasks.{shown, nothing_shown}
+use Rattle.goi_jobs.specs.Tasks.{nothing_shown}
 use Rattle.goi_tasks.specs.Tasks.{ReportsText, FaultyFor, EndsText}
 use Rattle.goi_tasks.specs.Verilogs.{ReportsVerilog, FaultyVerilog, EndsVerilog}
-use Rattle.goi_c.specs.declared.telling.Answer.{Answer}
-use Rattle.goi_c.specs.Backs.{Back, Comes, Gives, Nothing}
+use Rattle.goi_calls.specs.declared.telling.Answer.{Answer}
+use Rattle.goi_calls.specs.Asked.{listed_task, run_task, span_task, trace_task}
+use Rattle.goi_calls.specs.Backs.{Back, Comes, Gives, Nothing}
+use Rattle.goi_calls.specs.Numbers.{AnswerIs}
 
--- ---- flags
-
--- call by value is asked for, and the schedule is, and a line for each round is
-abbrev pub by_value_in : ℕ → Bool
-by_value_in flags = nat_eq (flags % 2) 1
-
-abbrev pub schedule_in : ℕ → Bool
-schedule_in flags = nat_eq ((flags / 2) % 2) 1
-
-abbrev pub profile_in : ℕ → Bool
-profile_in flags = nat_eq (flags / 4) 1
+-- ---- numbers that ask for something
 
 -- the numbers of a run ask for something: its budget is within the limits, and no other flag is set
 abbrev pub IsAsked : ℕ → ℕ → ℕ → Type 0
@@ -65,13 +56,6 @@ pub record WhereAsked (asked : Type 0) (b : Back) (so : Type 0) : Type 0 where
   pub right : asked → so
   pub wrong : (asked → ⊥) → Nothing 2 b
 
--- the task for which these numbers ask
-abbrev pub run_task : ℕ → ℕ → Task
-run_task budget flags = Run budget (calling_of (by_value_in flags)) (shown (schedule_in flags) false false)
-
-abbrev pub listed_task : ℕ → Bool → Task
-listed_task budget schedule = RunNet budget (shown schedule false false)
-
 -- the call of a run of a text's program, and of a listed one, which has no call by value
 abbrev pub CallsRun : List ℕ → ℕ → ℕ → Back → Type 0
 CallsRun bytes budget flags b = WhereAsked (IsAsked 4 budget flags) b (CallsTask (run_task budget flags) bytes b)
@@ -87,9 +71,6 @@ part from most = record { from = from; most = most }
 abbrev pub IsAskedTrace : ℕ → ℕ → Window → Type 0
 IsAskedTrace budget flags window = IsAsked 2 budget flags × IsWindow window
 
-abbrev pub trace_task : ℕ → ℕ → Window → Task
-trace_task budget flags window = Trace budget (calling_of (nat_eq flags 1)) window
-
 abbrev pub CallsTrace : List ℕ → ℕ → ℕ → Window → Back → Type 0
 CallsTrace bytes budget flags window b =
     WhereAsked (IsAskedTrace budget flags window) b (CallsTask (trace_task budget flags window) bytes b)
@@ -99,9 +80,6 @@ abbrev pub CallsReplayTrace : List ℕ → List ℕ → Window → Back → Type
 CallsReplayTrace bytes schedule window b = WhereAsked (IsWindow window) b (CallsWalk bytes schedule (Some window) b)
 
 -- the call of a run in rounds of a text's program, by value, with its schedule and with a line for each round where the flags ask for it
-abbrev pub span_task : ℕ → ℕ → Task
-span_task budget flags = Span budget (calling_of (by_value_in flags)) (profile_in flags) (schedule_in flags)
-
 abbrev pub CallsSpan : List ℕ → ℕ → ℕ → Back → Type 0
 CallsSpan bytes budget flags b = WhereAsked (IsAsked 8 budget flags) b (CallsTask (span_task budget flags) bytes b)
 
@@ -150,12 +128,6 @@ abbrev pub HasRoom : Back → Type 0
 HasRoom b = most_line ≤ length b.old → b.status ≢ 4
 
 -- ---- numbers
-
--- the answer in numbers: the kind is 0 for none, 1 for a number and 2 for overflow
-abbrev pub AnswerIs : Option Val → ℕ → Answer → Type 0
-AnswerIs None moves a = (a.kind ≡ 0) × (a.value ≡ 0) × (a.moves ≡ moves)
-AnswerIs (Some (Number n)) moves a = (a.kind ≡ 1) × (a.value ≡ n) × (a.moves ≡ moves)
-AnswerIs (Some Overflow) moves a = (a.kind ≡ 2) × (a.value ≡ 0) × (a.moves ≡ moves)
 
 -- the task of a run in numbers
 abbrev pub tell_task : Calling → ℕ → Task

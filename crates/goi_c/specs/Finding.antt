@@ -1,18 +1,14 @@
 -- What the calls promise that tell the first fault of a text in numbers.
-use Rattle.std.specs.Prelude.{◌≡◌, ◌+◌, ℕ, zero, suc, List, false}
-use Rattle.program_runs.specs.declared.calling.Calling.TheVariants.{ByName, ByValue}
+use Rattle.std.specs.Prelude.{◌≡◌, ◌+◌, ℕ, List}
 use Rattle.program_runs.specs.Programs.{any_type, number, strict_number}
 use Rattle.function_runs.specs.Functions.{FaultyFunction}
 use Rattle.goi_tasks.specs.declared.fault.Fault.{Fault}
-use Rattle.goi_jobs.specs.declared.task.Task.{Task}
-use Rattle.goi_jobs.specs.declared.task.Task.TheVariants.{Check, Run, RunNet}
 use Rattle.goi_tasks.specs.NetFiles.{FaultyListing}
 use Rattle.goi_tasks.specs.Programs.{FaultyEither, FaultyText, IsProgramFault}
 use Rattle.goi_tasks.specs.Refusals.{fault_status}
 use Rattle.goi_tasks.specs.Replaying.{FaultySchedule}
-use Rattle.goi_jobs.specs.Tasks.{nothing_shown}
-use Rattle.goi_c.specs.declared.finding.FaultData.{FaultData}
-use Rattle.goi_c.specs.Faults.{FaultIs, IsNoFault}
+use Rattle.goi_calls.specs.declared.finding.FaultData.{FaultData}
+use Rattle.goi_calls.specs.Faults.{FaultIs, IsNoFault}
 
 -- There is no fault, or the first one is told with its status, or there was no memory. These are the faults that there may be.
 pub data Finds (faulty : Fault → Type 0) (status : ℕ) (d : FaultData) : Type 0 where
@@ -32,10 +28,3 @@ pub record CallsFind (bytes : List ℕ) (taken status : ℕ) (d : FaultData) : T
 -- a program's text, or the schedule that is to be run on the program's net
 abbrev pub CallsFindSchedule : List ℕ → List ℕ → ℕ → FaultData → Type 0
 CallsFindSchedule bytes schedule status d = Finds (λ f. FaultyEither bytes (λ t. FaultySchedule t schedule f) f) status d
-
--- the task that is done with a text to find its fault
-abbrev pub taken_task : ℕ → Task
-taken_task zero = Check false
-taken_task (suc zero) = Run 1 ByName nothing_shown
-taken_task (suc (suc zero)) = Run 1 ByValue nothing_shown
-taken_task _ = RunNet 1 nothing_shown

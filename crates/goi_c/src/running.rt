@@ -2,16 +2,15 @@
 
 ghost use Rattle.std.specs.Prelude.{◌≡◌, ◌<◌, false};
 ghost use Rattle.goi_jobs.specs.Ranges.{IsBudget};
-ghost use Rattle.goi_jobs.specs.Tasks.{shown};
-ghost use Rattle.goi_c.specs.Backs.{back};
-ghost use Rattle.goi_c.specs.Calls.{CallsListed, CallsRun, CallsTrace, HasRoom, IsAsked, IsAskedTrace, OwnsTask};
-ghost use Rattle.goi_c.specs.Calls.{listed_task, part, run_task, trace_task};
+ghost use Rattle.goi_calls.specs.Asked.{listed_task, run_task, trace_task};
+ghost use Rattle.goi_calls.specs.Backs.{back};
+ghost use Rattle.goi_c.specs.Calls.{CallsListed, CallsRun, CallsTrace, HasRoom, IsAsked, IsAskedTrace, OwnsTask, part};
 
-use crate::giving::{BAD_CALL, give_nothing, give_result};
-use goi_jobs::{Shown, TRACED_MOVES, Task, Window};
+use goi_calls::{BAD_CALL, give_nothing, give_result, net_task, run_task, trace_task};
+use goi_jobs::{TRACED_MOVES, Window};
 use goi_tasks::{law_settled, report_text};
 use pcf_values::limits::{BUDGET, SCHEDULE_MOVES};
-use program_runs::{Alone, calling_of};
+use program_runs::Alone;
 use std::alloc::Global;
 
 /// Runs the program of a text within a budget of moves: `value V` and `moves M`, or `no value` and `moves M`.
@@ -36,12 +35,7 @@ pub extern "C" fn goi_run(
     if budget < 1 || BUDGET < budget || 4 <= flags {
         return give_nothing(needed, BAD_CALL);
     }
-    let task = Task::Run {
-        budget,
-        calling: calling_of(flags % 2 == 1),
-        shown: only_schedule(flags / 2 % 2 == 1),
-    };
-    let ran = report_text(alloc, text, task, &Alone);
+    let ran = report_text(alloc, text, run_task(budget, flags), &Alone);
     give_result(alloc, ran, out, needed)
 }
 
@@ -65,11 +59,7 @@ pub extern "C" fn goi_run_net(
     if budget < 1 || BUDGET < budget {
         return give_nothing(needed, BAD_CALL);
     }
-    let task = Task::RunNet {
-        budget,
-        shown: only_schedule(schedule),
-    };
-    let ran = report_text(alloc, text, task, &Alone);
+    let ran = report_text(alloc, text, net_task(budget, schedule), &Alone);
     give_result(alloc, ran, out, needed)
 }
 
@@ -99,22 +89,7 @@ pub extern "C" fn goi_trace(
     if SCHEDULE_MOVES < from || most < 1 || TRACED_MOVES < most {
         return give_nothing(needed, BAD_CALL);
     }
-    let task = Task::Trace {
-        budget,
-        calling: calling_of(flags == 1),
-        window: Window { from, most },
-    };
+    let task = trace_task(budget, flags, Window { from, most });
     let traced = report_text(alloc, text, task, &Alone);
     give_result(alloc, traced, out, needed)
-}
-
-/// Of a run the schedule alone is shown, where it is asked for.
-fn only_schedule(schedule: bool) -> Shown
-    ensures { result ≡ shown schedule false false }
-{
-    Shown {
-        schedule,
-        tally: false,
-        progress: false,
-    }
 }

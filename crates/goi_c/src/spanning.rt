@@ -1,13 +1,13 @@
 //! Runs in rounds, as texts.
 
-ghost use Rattle.goi_c.specs.Backs.{back};
-ghost use Rattle.goi_c.specs.Calls.{CallsSpan, IsAsked, OwnsTask, span_task};
+ghost use Rattle.goi_calls.specs.Asked.{span_task};
+ghost use Rattle.goi_calls.specs.Backs.{back};
+ghost use Rattle.goi_c.specs.Calls.{CallsSpan, IsAsked, OwnsTask};
 
-use crate::giving::{BAD_CALL, give_nothing, give_result};
-use goi_jobs::Task;
+use goi_calls::{BAD_CALL, give_nothing, give_result, span_task};
 use goi_tasks::{law_settled, report_text};
 use pcf_values::limits::BUDGET;
-use program_runs::{Alone, calling_of};
+use program_runs::Alone;
 use std::alloc::Global;
 
 /// Runs the program of a text in rounds within a budget of moves, and tells the value, the moves, the rounds and their greatest width.
@@ -29,12 +29,6 @@ pub extern "C" fn goi_span(
     if budget < 1 || BUDGET < budget || 8 <= flags {
         return give_nothing(needed, BAD_CALL);
     }
-    let task = Task::Span {
-        budget,
-        calling: calling_of(flags % 2 == 1),
-        profile: flags / 4 == 1,
-        schedule: flags / 2 % 2 == 1,
-    };
-    let spanned = report_text(alloc, text, task, &Alone);
+    let spanned = report_text(alloc, text, span_task(budget, flags), &Alone);
     give_result(alloc, spanned, out, needed)
 }

@@ -1,9 +1,9 @@
 //! Reductions, as texts.
 
-ghost use Rattle.goi_c.specs.Backs.{back};
+ghost use Rattle.goi_calls.specs.Backs.{back};
 ghost use Rattle.goi_c.specs.Calls.{CallsSteps, IsAskedSteps, OwnsTask, part, steps_task};
 
-use crate::giving::{BAD_CALL, give_nothing, give_result};
+use goi_calls::{BAD_CALL, give_nothing, give_result};
 use goi_jobs::{TOLD_STEPS, Task, Window};
 use goi_tasks::{law_settled, report_text};
 use pcf_values::limits::{BUDGET, SCHEDULE_MOVES};
