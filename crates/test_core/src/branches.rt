@@ -182,8 +182,8 @@ fn is_so<N: OnNet>(
 
 /// Rows, one a line.
 #[derive(Clone, Copy)]
-struct Table<'a> {
-    rows: &'a str,
+pub(crate) struct Table<'a> {
+    pub(crate) rows: &'a str,
 }
 
 /// Whether all rows are so, in turn.

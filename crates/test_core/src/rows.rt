@@ -1,6 +1,8 @@
 //! Tables of rows as texts: a row a line, in parts between `|`.
 
 use crate::moves::{moves, passes_both_ways, steps, walks};
+use crate::outline::is_outlined;
+use crate::printing::is_printed;
 use crate::stacks::is_change;
 use crate::texts::{Written, net};
 use net_build::Net;
@@ -20,6 +22,10 @@ pub(crate) enum Says {
     Step,
     /// The number of moves that are allowed, 0 for a token that stays, and the same for a walk.
     Walk,
+    /// A text, and its tree as it is printed.
+    Spelling,
+    /// A text, and its tree with all places.
+    Tree,
 }
 
 /// The net of `(fun x:nat. x + x) 3`.
@@ -45,14 +51,22 @@ fn cut_nodes(says: Says, row: &str) -> (&str, &str) {
     }
 }
 
-/// Whether what a row says is so.
-fn holds(alloc: Global, says: Says, row: &str) -> Result<bool, AllocError> {
-    if let Says::Change = says {
-        return is_change(alloc, row);
-    }
+/// Whether what a row says of a net is so.
+fn holds_of_net(alloc: Global, says: Says, row: &str) -> Result<bool, AllocError> {
     let (nodes, rest) = cut_nodes(says, row);
     let net = net(alloc, 10, nodes)?;
     holds_on(alloc, &net, says, rest)
+}
+
+/// Whether what a row says is so.
+fn holds(alloc: Global, says: Says, row: &str) -> Result<bool, AllocError> {
+    let (text, wanted) = cut(row, '|');
+    match says {
+        Says::Change => is_change(alloc, row),
+        Says::Spelling => is_printed(alloc, text.as_bytes(), wanted.as_bytes()),
+        Says::Tree => is_outlined(alloc, text.as_bytes(), wanted.as_bytes()),
+        _ => holds_of_net(alloc, says, row),
+    }
 }
 
 /// The number of the first line that isn't so. Empty ones are no rows.

@@ -123,15 +123,20 @@ fn nodes(alloc: Global, texts: &str) -> Result<Vec<Node>, AllocError> {
     Ok(list)
 }
 
-/// A net of so many wires and these nodes, parted by `;`.
-pub(crate) fn net(alloc: Global, count: u32, texts: &str) -> Result<Net, AllocError> {
+/// A net of these wires and these nodes, parted by `;`.
+pub(crate) fn net_over(alloc: Global, wires: Vec<Wire>, texts: &str) -> Result<Net, AllocError> {
     let list = nodes(alloc, texts)?;
-    let wires = some_wires(alloc, count)?;
     if wires.len() < 4_294_967_296 && list.len() < 4_294_967_296 {
         Net::from_parts(alloc, wires, list)
     } else {
         Err(AllocError)
     }
+}
+
+/// A net of so many wires and these nodes, parted by `;`.
+pub(crate) fn net(alloc: Global, count: u32, texts: &str) -> Result<Net, AllocError> {
+    let wires = some_wires(alloc, count)?;
+    net_over(alloc, wires, texts)
 }
 
 /// A call on stacks by its short name, and whether it found the shape that it wants. With `-` in front it is the call that goes back.

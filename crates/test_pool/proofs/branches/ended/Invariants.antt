@@ -1,4 +1,0 @@
-use Rattle.test_pool.proofs.branches.ended.Given as goal
-
-abbrev pub ghosts-plays_all : goal.ghosts-plays_all
-ghosts-plays_all a = record { net = a.net.now }
