@@ -3,13 +3,14 @@
 ghost use Rattle.interleave_laws.specs.Runs.{Runs};
 
 use crate::games::{has, played};
+use crate::programs::net_of;
 use crate::texts::Written;
+use crate::tickets::are_live;
 use interleave_core::Core;
 use move_rules::walk;
 use net_build::Net;
 use std::alloc::{AllocError, Global};
 use std::test::Fail;
-use testing_nets::{are_live, net_of};
 
 /// A walk on a net of a token, of at most so many moves.
 #[derive(Clone, Copy)]

@@ -1,9 +1,9 @@
 //! Runs as tables.
 
 use crate::branches::is_played;
+use crate::programs::net_of;
 use std::alloc::{AllocError, Global};
 use std::test::Fail;
-use testing_nets::net_of;
 
 /// Whether a program's run goes by this table.
 fn goes(alloc: Global, text: &str, rows: &str) -> Result<bool, AllocError> {

@@ -10,13 +10,13 @@ ghost use Rattle.std.specs.Option.{MatchOption};
 ghost use Rattle.interleave_laws.specs.Runs.{Runs};
 ghost use Rattle.interleave_laws.specs.MapRuns.{IsReachedWithin};
 
+use crate::tickets::{are_live, go};
 use branch_runs::{NamedNet, OnNet, Seed, branch_of, graft, name_of};
 use interleave_core::{Core, Run, Tickets};
 use net_build::Net;
 use pcf_values::Val;
 use std::alloc::{AllocError, Global};
 use std::marker::Brand;
-use testing_nets::{are_live, go};
 use testing_rows::{cut, number};
 
 /// Whether a row in which nothing moves is so. Another row is answered with `None`.

@@ -4,6 +4,7 @@ ghost use Rattle.std.specs.Prelude.{◌≤◌};
 ghost use Rattle.interleave_laws.specs.Runs.{Runs};
 ghost use Rattle.token_pool.specs.Pools.{InLimits};
 
+use crate::programs::net_of;
 use gate_workers::{OpenGate, drive};
 use net_build::Net;
 use pcf_values::Val;
@@ -11,7 +12,6 @@ use std::alloc::{AllocError, Global};
 use std::sync::Wait;
 use std::test::Fail;
 use std::thread::Threads;
-use testing_nets::net_of;
 use token_pool::{Ended, PoolState};
 
 /// What so many threads and the finisher make of a pool for so many workers.

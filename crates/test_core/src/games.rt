@@ -8,11 +8,11 @@ ghost use Rattle.interleave_laws.specs.Runs.{Runs};
 ghost use Rattle.interleave_laws.specs.MapRuns.{IsReachedWithin};
 
 use crate::texts::Written;
+use crate::tickets::{are_live, go};
 use interleave_core::{Core, Stepped};
 use net_build::Net;
 use pcf_values::Val;
 use std::alloc::{AllocError, Global};
-use testing_nets::{are_live, go};
 use testing_rows::{cut, number};
 
 /// More moves than any run of the tests has.

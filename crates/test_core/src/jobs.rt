@@ -5,10 +5,10 @@ ghost use Rattle.std.specs.List.{All};
 ghost use Rattle.batch_pool.specs.Batches.{JobFits, BatchFits};
 ghost use Rattle.batch_lists.specs.Limits.{most_jobs, most_job_budget};
 
+use crate::programs::net_of;
 use batch_lists::{BatchLine, read_batch};
 use batch_pool::BatchJob;
 use std::alloc::{AllocError, Global};
-use testing_nets::net_of;
 
 /// The job of a line. A budget out of its limits is answered with want of memory, which fails the test; so are the other faults here.
 fn job_of(alloc: Global, line: &BatchLine) -> Result<BatchJob, AllocError>

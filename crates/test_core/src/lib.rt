@@ -16,9 +16,13 @@
 //! No clause says that workers run side by side, that the gate is called without the lock, that a sleeper is woken, that a reader runs
 //! beside the workers, or that calls on a meter return and waiting ends: tests do.
 //!
-//! What asks that a net runs is tested here, above the crate that proves it of the nets of programs. Faults and limits, which texts are
-//! refused, and lists of every kind are tried from outside, by `.ci/calls`. Tests stand in crates of their own, so that the crates they
-//! are of are not proved a second time with them.
+//! What asks that a net runs is tested here, above the crate that proves it of the nets of programs. `net_for` of `program_runs` is the
+//! program's way from a text to its net. Tests here have their nets from `net_of`, so that they stand below the program, and are proved
+//! while the program is. A text that is no program of type `nat`, or a ticket that isn't live, is a mistake of the test, and fails it as
+//! want of memory does.
+//!
+//! Faults and limits, which texts are refused, and lists of every kind are tried from outside, by `.ci/calls`. Tests stand in crates of
+//! their own, so that the crates they are of are not proved a second time with them.
 #![tactic(auto)]
 
 #[cfg(test)]
@@ -62,6 +66,8 @@ mod positions;
 #[cfg(test)]
 mod printing;
 #[cfg(test)]
+mod programs;
+#[cfg(test)]
 mod read_beside;
 #[cfg(test)]
 mod rows;
@@ -73,6 +79,8 @@ mod stacks;
 mod stepping;
 #[cfg(test)]
 mod texts;
+#[cfg(test)]
+mod tickets;
 #[cfg(test)]
 mod watched;
 #[cfg(test)]

@@ -5,12 +5,12 @@ ghost use Rattle.token_pool.specs.Pools.{InLimits};
 
 use crate::branch_pools::ended;
 use crate::pool_games::played;
+use crate::programs::net_of;
 use net_build::Net;
 use pcf_values::Val;
 use schedule_log::Log;
 use std::alloc::{AllocError, Global};
 use std::test::Fail;
-use testing_nets::net_of;
 use testing_rows::number;
 
 /// A pool, by its budget, its workers and its calls, and what it is finished to: the answer, or `-`, the tickets, and the workers.

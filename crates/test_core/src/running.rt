@@ -3,12 +3,12 @@
 ghost use Rattle.std.specs.Prelude.{◌≤◌};
 ghost use Rattle.interleave_laws.specs.Runs.{Runs};
 
+use crate::programs::net_of;
 use interleave_core::{Tickets, run_one};
 use net_build::Net;
 use pcf_values::Val;
 use std::alloc::{AllocError, Global};
 use std::test::Fail;
-use testing_nets::net_of;
 
 /// Whether one worker within the budget comes to this answer, in so many moves.
 fn comes(

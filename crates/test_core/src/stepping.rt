@@ -3,12 +3,13 @@
 ghost use Rattle.interleave_laws.specs.Runs.{Runs};
 
 use crate::games::{MOST_MOVES, played};
+use crate::programs::net_of;
+use crate::tickets::{are_live, go};
 use interleave_core::Core;
 use net_build::Net;
 use pcf_values::Val;
 use std::alloc::{AllocError, Global};
 use std::test::Fail;
-use testing_nets::{are_live, go, net_of};
 
 /// Whether the run that the table tells answers this number and leaves no token.
 fn answers(alloc: Global, net: &Net, rows: &str, value: u64) -> Result<bool, AllocError>

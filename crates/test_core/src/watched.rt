@@ -3,6 +3,7 @@
 ghost use Rattle.std.specs.Prelude.{◌≡◌};
 ghost use Rattle.metered_pool.specs.Metered.{IsLevel, IsOf};
 
+use crate::programs::net_of;
 use branch_runs::OnNet;
 use gate_workers::{Gate, drive};
 use metered_pool::{MeteredPool, Watched};
@@ -14,7 +15,6 @@ use std::sync::atomic::{AtomicBool, Ordering};
 use std::test::Fail;
 use std::thread;
 use std::thread::{Threads, join};
-use testing_nets::net_of;
 use token_pool::PoolState;
 
 /// How often something is tried, since no wait is to last for ever.

@@ -65,11 +65,7 @@ fn built(alloc: Global, program: &Typed) -> Result<Net, AllocError>
 }
 
 /// The net of a program's text. It runs: no order of moves leaves it without a move before its answer.
-///
-/// # Errors
-///
-/// It runs out of memory, and with the same answer a text that is no program of type `nat`.
-pub fn net_of(alloc: Global, text: &str) -> Result<Net, AllocError>
+pub(crate) fn net_of(alloc: Global, text: &str) -> Result<Net, AllocError>
     ensures { IfOk result (λ net. Runs net) }
 {
     let tree = tree(alloc, text)?;

@@ -1,4 +1,4 @@
-//! Moves of a run, one by one.
+//! Live tickets, and their moves one by one.
 
 ghost use Rattle.std.specs.Prelude.{◌+◌, ◌<◌, OnOk};
 ghost use Rattle.interleave_laws.specs.Runs.{Runs};
@@ -9,12 +9,8 @@ use net_build::Net;
 use std::alloc::{AllocError, Global};
 use testing_rows::number;
 
-/// The next move of a run of so many moves.
-///
-/// # Errors
-///
-/// It runs out of memory, and with the same answer a ticket that isn't live.
-pub fn go(net: &Net, core: &mut Core, moves: u32, ticket: u32) -> Result<Stepped, AllocError>
+/// The next move of a run of so many moves. A ticket that isn't live is answered with want of memory, which fails the test.
+pub(crate) fn go(net: &Net, core: &mut Core, moves: u32, ticket: u32) -> Result<Stepped, AllocError>
     requires runs { Runs net.now }
     requires short { moves < 10000 }
     requires reached { IsReachedWithin net.now (moves + 1) core.old }
@@ -28,7 +24,7 @@ pub fn go(net: &Net, core: &mut Core, moves: u32, ticket: u32) -> Result<Stepped
 }
 
 /// Whether these are the live tickets, from the least on.
-pub fn are_live(core: &Core, tickets: &str) -> bool {
+pub(crate) fn are_live(core: &Core, tickets: &str) -> bool {
     let mut next = core.least_live();
     for word in tickets.split_whitespace() {
         match next {

@@ -1,5 +1,5 @@
 use Rattle.pcf_values.specs.Views.{named_of}
-use Rattle.testing_nets.proofs.nets.tree.Goals as goal
+use Rattle.test_core.proofs.programs.tree.Goals as goal
 
 pub returns-in-Ok-clause-size : goal.returns-in-Ok-clause-size
 returns-in-Ok-clause-size c = (c.law_bounded.ensures c.as_bytes.result.now (named_of c.in-Ok.tree) c.in-Ok.ensures.found).1

@@ -1,6 +1,6 @@
 use Rattle.std.proofs.Common.{◌+◌, arith}
 use Rattle.interleave_core.proofs.Stepping.{reached_ok}
-use Rattle.testing_nets.proofs.moves.go.Goals as goal
+use Rattle.test_core.proofs.tickets.go.Goals as goal
 
 pub returns-then-is_live : goal.returns-then-is_live
 returns-then-is_live c =
