@@ -87,13 +87,22 @@ fn refuses(
 }
 
 /// Whether walks of one, three and all eleven solo moves are taken over.
+fn all_go(alloc: Global, net: &Net) -> Result<bool, AllocError>
+    requires { Runs net.now }
+{
+    Ok(
+        goes(alloc, net, 1, "ask 1 down *")?
+            && goes(alloc, net, 3, "ask 6 down * l L")?
+            && goes(alloc, net, 11, "3 0 down")?,
+    )
+}
+
+/// The same on the net of the double.
 fn walks_go(alloc: Global) -> Result<bool, AllocError> {
     let net = net_of(alloc, "(fun x:nat. x + x) 3")?;
-    Ok(
-        goes(alloc, &net, 1, "ask 1 down *")?
-            && goes(alloc, &net, 3, "ask 6 down * l L")?
-            && goes(alloc, &net, 11, "3 0 down")?,
-    )
+    let so = all_go(alloc, &net);
+    drop(net);
+    so
 }
 
 #[test]
@@ -103,10 +112,11 @@ fn walks_are_taken_over(rt: HostRuntime) -> Result<(), Fail> {
 }
 
 /// Whether walks on the net itself are refused: of no moves, of too many, of another token, of a ticket that isn't live.
-fn own_walks_refused(alloc: Global) -> Result<bool, AllocError> {
-    let net = net_of(alloc, "(fun x:nat. x + x) 3")?;
+fn all_refused(alloc: Global, net: &Net) -> Result<bool, AllocError>
+    requires { Runs net.now }
+{
     let left = Walk {
-        on: &net,
+        on: net,
         from: "ask 0 up",
         most: 11,
     };
@@ -116,23 +126,40 @@ fn own_walks_refused(alloc: Global) -> Result<bool, AllocError> {
         ..left
     };
     Ok(
-        refuses(alloc, &net, 0, still, 11)?
-            && refuses(alloc, &net, 0, left, 10)?
-            && refuses(alloc, &net, 0, right, 11)?
-            && refuses(alloc, &net, 2, left, 11)?,
+        refuses(alloc, net, 0, still, 11)?
+            && refuses(alloc, net, 0, left, 10)?
+            && refuses(alloc, net, 0, right, 11)?
+            && refuses(alloc, net, 2, left, 11)?,
     )
 }
 
-/// Whether a walk through a node that the net hasn't is refused: another constant, and a node past the last.
-fn foreign_walks_refused(alloc: Global, other: &str) -> Result<bool, AllocError> {
+/// The same on the net of the double.
+fn own_walks_refused(alloc: Global) -> Result<bool, AllocError> {
     let net = net_of(alloc, "(fun x:nat. x + x) 3")?;
+    let so = all_refused(alloc, &net);
+    drop(net);
+    so
+}
+
+/// Whether a walk on another program's net is refused.
+fn is_refused(alloc: Global, net: &Net, other: &str) -> Result<bool, AllocError>
+    requires { Runs net.now }
+{
     let other = net_of(alloc, other)?;
     let made = Walk {
         on: &other,
         from: "ask 0 up",
         most: 11,
     };
-    refuses(alloc, &net, 0, made, 11)
+    refuses(alloc, net, 0, made, 11)
+}
+
+/// Whether a walk through a node that the net hasn't is refused: another constant, and a node past the last.
+fn foreign_walks_refused(alloc: Global, other: &str) -> Result<bool, AllocError> {
+    let net = net_of(alloc, "(fun x:nat. x + x) 3")?;
+    let so = is_refused(alloc, &net, other);
+    drop(net);
+    so
 }
 
 #[test]

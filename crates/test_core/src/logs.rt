@@ -56,12 +56,24 @@ fn tallies(rt: HostRuntime) -> Result<(), Fail> {
     Ok(())
 }
 
+/// Whether this is printed of a log.
+fn is_printed(alloc: Global, log: Log, wanted: &[u8]) -> Result<bool, AllocError> {
+    let text = print_schedule(alloc, &log);
+    drop(log);
+    Ok(text?.as_slice() == wanted)
+}
+
 #[test]
 fn printed(rt: HostRuntime) -> Result<(), Fail> {
-    let text = print_schedule(rt.alloc(), &four_moves(rt.alloc())?)?;
-    assert!(rt; text.as_slice() == b"schedule 2\n7 2\n4294967295 1\n7 1\nend\n".as_slice());
-    let none = print_schedule(rt.alloc(), &Log::with_room(rt.alloc(), 3)?)?;
-    assert!(rt; none.as_slice() == b"schedule 2\nend\n".as_slice());
+    let wanted = b"schedule 2\n7 2\n4294967295 1\n7 1\nend\n";
+    assert!(rt; is_printed(rt.alloc(), four_moves(rt.alloc())?, wanted)?);
+    assert!(rt;
+        is_printed(
+            rt.alloc(),
+            Log::with_room(rt.alloc(), 3)?,
+            b"schedule 2\nend\n"
+        )?
+    );
     Ok(())
 }
 

@@ -200,16 +200,14 @@ const SHORT: Game<'static> = Game {
     makers: "0 1 0 0 0 2 2 2",
 };
 
-/// Whether both games of two workers on one sum are so.
-fn two_workers(alloc: Global) -> Result<bool, AllocError> {
+/// Whether a game on one sum is so.
+fn is_game(alloc: Global, game: Game<'_>) -> Result<bool, AllocError>
+    requires { InLimits game.budget game.workers }
+{
     let net = net_of(alloc, "1 + 2")?;
-    Ok(is_so(alloc, &net, BOTH)? && is_so(alloc, &net, RIGHT_FIRST)?)
-}
-
-/// Whether a small game and one with a finisher are so.
-fn ends(alloc: Global) -> Result<bool, AllocError> {
-    let net = net_of(alloc, "1 + 2")?;
-    Ok(is_so(alloc, &net, SMALL)? && is_so(alloc, &net, FINISHED)?)
+    let so = is_so(alloc, &net, game);
+    drop(net);
+    so
 }
 
 /// Whether a game whose pieces are branches is so.
@@ -223,31 +221,35 @@ fn is_branched(alloc: Global, net: &Net, game: Game<'_>) -> Result<bool, AllocEr
     Ok(is_answer(ended.answer, game.answer) && has_moves(&ended.log, game.tickets, game.makers))
 }
 
-/// Whether the three games of branches on a sum of sums are so.
-fn branches(alloc: Global) -> Result<bool, AllocError> {
+/// Whether a game of branches on a sum of sums is so.
+fn is_branch_game(alloc: Global, game: Game<'_>) -> Result<bool, AllocError>
+    requires { InLimits game.budget game.workers }
+{
     let net = net_of(alloc, "(1 + 2) + (3 + 4)")?;
-    Ok(
-        is_branched(alloc, &net, HALVES)?
-            && is_branched(alloc, &net, REFUSED)?
-            && is_branched(alloc, &net, SHORT)?,
-    )
+    let so = is_branched(alloc, &net, game);
+    drop(net);
+    so
 }
 
 #[test]
 fn two_workers_play_branches(rt: HostRuntime) -> Result<(), Fail> {
-    assert!(rt; branches(rt.alloc())?);
+    assert!(rt; is_branch_game(rt.alloc(), HALVES)?);
+    assert!(rt; is_branch_game(rt.alloc(), REFUSED)?);
+    assert!(rt; is_branch_game(rt.alloc(), SHORT)?);
     Ok(())
 }
 
 #[test]
 fn two_workers_take_and_book(rt: HostRuntime) -> Result<(), Fail> {
-    assert!(rt; two_workers(rt.alloc())?);
+    assert!(rt; is_game(rt.alloc(), BOTH)?);
+    assert!(rt; is_game(rt.alloc(), RIGHT_FIRST)?);
     Ok(())
 }
 
 #[test]
 fn a_pool_is_finished_from_the_middle(rt: HostRuntime) -> Result<(), Fail> {
-    assert!(rt; ends(rt.alloc())?);
+    assert!(rt; is_game(rt.alloc(), SMALL)?);
+    assert!(rt; is_game(rt.alloc(), FINISHED)?);
     Ok(())
 }
 

@@ -25,18 +25,22 @@ pub(crate) fn push_file(
     push_bytes(alloc, held, name, &bytes)
 }
 
-/// The files of a call: the list `l`, with a line feed for each `;`, and its programs.
+/// Puts the list `l` there, with a line feed for each `;`, and its programs.
+fn push_listed(
+    alloc: Global,
+    held: &mut Vec<(Ident, Vec<u8>)>,
+    list: &str,
+) -> Result<(), AllocError> {
+    push_file(alloc, held, "l", list)?;
+    push_file(alloc, held, "p9", "(fun x:nat. x + x) 3")?;
+    push_file(alloc, held, "p5", "1 + 2")?;
+    push_file(alloc, held, "p1", "")
+}
+
+/// The files of a call.
 fn listed(alloc: Global, list: &str, devices: Devices<'_>) -> Result<MemoryFiles, AllocError> {
     let mut held = Vec::new(alloc);
-    let texts = [
-        ("l", list),
-        ("p9", "(fun x:nat. x + x) 3"),
-        ("p5", "1 + 2"),
-        ("p1", ""),
-    ];
-    for (name, text) in texts {
-        push_file(alloc, &mut held, name, text)?;
-    }
+    push_listed(alloc, &mut held, list)?;
     Ok(MemoryFiles::new(held, devices.most.max(1), devices.reads.to_vec(alloc)?))
 }
 

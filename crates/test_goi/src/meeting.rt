@@ -3,6 +3,7 @@
 use crate::devices::{SOUND, answered_at, texts};
 use crate::lists::push_file;
 use goi_world::MemoryFiles;
+use pcf_values::Ident;
 use std::alloc::{AllocError, Global};
 use std::sync::Wait;
 use std::test::Fail;
@@ -21,15 +22,20 @@ node 7 App 6 8 9;node 8 Root 9;end;";
 /// second job, at whose gate it lets the other one go on.
 fn files(alloc: Global) -> Result<MemoryFiles, AllocError> {
     let mut held = Vec::new(alloc);
-    push_file(alloc, &mut held, "p", "(fun x:nat. x + x) 3")?;
-    push_file(alloc, &mut held, "n", DOUBLE)?;
+    push_all(alloc, &mut held)?;
+    Ok(MemoryFiles::new(held, 1_000_000, Vec::new(alloc)))
+}
+
+/// Puts those files there.
+fn push_all(alloc: Global, held: &mut Vec<(Ident, Vec<u8>)>) -> Result<(), AllocError> {
+    push_file(alloc, held, "p", "(fun x:nat. x + x) 3")?;
+    push_file(alloc, held, "n", DOUBLE)?;
     push_file(
         alloc,
-        &mut held,
+        held,
         "l",
         "batch 1;job 30 p;job 29 p;job 30 p;job 29 p;end;",
-    )?;
-    Ok(MemoryFiles::new(held, 1_000_000, Vec::new(alloc)))
+    )
 }
 
 /// What a call of two workers on these files leaves, at this gate.

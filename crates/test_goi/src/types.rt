@@ -105,11 +105,16 @@ fn has_type(alloc: Global, tree: &Named, ty: &Ty) -> bool {
     }
 }
 
+/// The type of that identity.
+fn type_of_identity(alloc: Global, count: u32) -> Result<Ty, AllocError> {
+    let from = Box::new(alloc, wide(alloc, count)?)?;
+    Ok(Ty::Arrow(from, Box::new(alloc, wide(alloc, count)?)?))
+}
+
 /// Whether the identity on a type of 500 parts has the type that it should have.
 fn takes_a_high_type(alloc: Global) -> Result<bool, AllocError> {
     let tree = identity(alloc, 500)?;
-    let from = Box::new(alloc, wide(alloc, 500)?)?;
-    let whole = Ty::Arrow(from, Box::new(alloc, wide(alloc, 500)?)?);
+    let whole = type_of_identity(alloc, 500)?;
     Ok(has_type(alloc, &tree, &whole))
 }
 

@@ -47,20 +47,22 @@ fn is_copied_at_its_place(alloc: Global, tree: &Named) -> Result<bool, AllocErro
     Ok(copy.at == tree.at)
 }
 
-/// Whether a term and a named tree of this height are copied.
-fn high_ones_are_copied(alloc: Global, height: u32) -> Result<bool, AllocError> {
+/// Whether a term of this height is copied.
+fn high_term_is_copied(alloc: Global, height: u32) -> Result<bool, AllocError> {
     let term = tower(alloc, height)?;
+    is_copied_as_succ(alloc, &term)
+}
+
+/// Whether a named tree of this height has its place, and is copied.
+fn high_tree_is_copied(alloc: Global, height: u32) -> Result<bool, AllocError> {
     let tree = named_tower(alloc, height)?;
-    Ok(
-        tree.at == height.saturating_sub(1)
-            && is_copied_as_succ(alloc, &term)?
-            && is_copied_at_its_place(alloc, &tree)?,
-    )
+    Ok(tree.at == height.saturating_sub(1) && is_copied_at_its_place(alloc, &tree)?)
 }
 
 #[test]
 fn the_highest_term_is_copied(rt: HostRuntime) -> Result<(), Fail> {
-    assert!(rt; high_ones_are_copied(rt.alloc(), GREATEST_HEIGHT)?);
+    assert!(rt; high_term_is_copied(rt.alloc(), GREATEST_HEIGHT)?);
+    assert!(rt; high_tree_is_copied(rt.alloc(), GREATEST_HEIGHT)?);
     Ok(())
 }
 
@@ -69,15 +71,23 @@ fn is_copied(alloc: Global, ty: &Ty) -> Result<bool, AllocError> {
     Ok(ty.copy(alloc)?.same(ty))
 }
 
-/// Whether a high type is copied, and differs from one that is less high by one.
-fn types_differ(alloc: Global) -> Result<bool, AllocError> {
-    let ty = wide_type(alloc, 1000)?;
-    Ok(is_copied(alloc, &ty)? && !ty.same(&*wide_type(alloc, 999)?))
+/// Whether a type of this height is copied.
+fn high_type_is_copied(alloc: Global, height: u32) -> Result<bool, AllocError> {
+    let ty = wide_type(alloc, height)?;
+    is_copied(alloc, &ty)
+}
+
+/// Whether types of two heights are one.
+fn are_same(alloc: Global, height: u32, other: u32) -> Result<bool, AllocError> {
+    let ty = wide_type(alloc, height)?;
+    let other = wide_type(alloc, other)?;
+    Ok(ty.same(&other))
 }
 
 #[test]
 fn types_are_copied_and_compared(rt: HostRuntime) -> Result<(), Fail> {
-    assert!(rt; types_differ(rt.alloc())?);
+    assert!(rt; high_type_is_copied(rt.alloc(), 1000)?);
+    assert!(rt; !are_same(rt.alloc(), 1000, 999)?);
     Ok(())
 }
 
