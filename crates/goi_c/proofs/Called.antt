@@ -17,7 +17,8 @@ use Rattle.goi_calls.specs.declared.telling.Answer.{Answer}
 use Rattle.goi_calls.specs.Backs.{Back}
 use Rattle.goi_c.specs.Calls.{Calls, CallsTask, prints, refuses, no_memory, TellsRun, ran, refused, no_memory as told_no_memory}
 use Rattle.goi_c.specs.Calls.{tell_task}
-use Rattle.goi_calls.specs.Giving.{OfStop, OfResult, OfTold}
+use Rattle.goi_calls.specs.Giving.{OfStop, OfResult}
+use Rattle.goi_c.specs.Giving.{OfTold}
 
 module _ (right : Output → Type 0) (faulty : Fault → Type 0) where
   -- a fault that is there, or no memory

@@ -13,10 +13,10 @@ use Rattle.goi_tasks.specs.Seen.{output_of}
 use Rattle.goi_tasks.specs.Programs.{IsProgramFault, no_program}
 use Rattle.goi_tasks.specs.Stops.{StopsFor}
 use Rattle.goi_tasks.specs.Tasks.{FaultyFor}
-use Rattle.goi_calls.specs.declared.finding.FaultData.{FaultData}
 use Rattle.goi_calls.specs.Asked.{taken_task}
+use Rattle.goi_c.specs.declared.finding.FaultData.{FaultData}
 use Rattle.goi_c.specs.Finding.{CallsFind, Finds, sound, first, no_memory}
-use Rattle.goi_calls.specs.Giving.{Fills, FillsResult}
+use Rattle.goi_c.specs.Giving.{Fills, FillsResult}
 
 -- a fault that is there, or no memory
 pub stopped : (faulty : Fault → Type 0) (s : Stop) (status : ℕ) (d : FaultData) → StopsFor faulty s → Fills s status d →

@@ -4,7 +4,7 @@ mod Called
 mod Found
 -- why the line of a fault is that of its mark
 mod Lines
--- why a call at many rows ends with the status that is due, but for room and memory, and finds room for a line
+-- why what is given back of a function's rows is what the call promises
 mod ManyRows
 -- why a call ends with the status that is due, but for room and memory
 mod Owned

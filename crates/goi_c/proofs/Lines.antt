@@ -16,7 +16,7 @@ use Rattle.program_runs.specs.declared.fault.ProgramFault.{ProgramFault}
 use Rattle.program_runs.specs.declared.fault.ProgramFault.TheVariants as program
 use Rattle.goi_tasks.specs.declared.fault.Fault.TheVariants as fault
 use Rattle.goi_tasks.specs.Refusals.{program_fault_line, schedule_fault_line, replay_fault_line, net_text_fault_line, batch_fault_line}
-use Rattle.goi_calls.specs.Faults.{LinesOfMarks, line_of, program_mark, schedule_mark, replay_mark, net_text_mark, batch_mark}
+use Rattle.goi_c.specs.Faults.{LinesOfMarks, line_of, program_mark, schedule_mark, replay_mark, net_text_mark, batch_mark}
 
 -- each line is made as its mark says, so that both sides compute to one text
 of_program : (f : ProgramFault) → program_fault_line f ≡ line_of (program_mark f)

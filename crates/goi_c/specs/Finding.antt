@@ -7,8 +7,8 @@ use Rattle.goi_tasks.specs.NetFiles.{FaultyListing}
 use Rattle.goi_tasks.specs.Programs.{FaultyEither, FaultyText, IsProgramFault}
 use Rattle.goi_tasks.specs.Refusals.{fault_status}
 use Rattle.goi_tasks.specs.Replaying.{FaultySchedule}
-use Rattle.goi_calls.specs.declared.finding.FaultData.{FaultData}
-use Rattle.goi_calls.specs.Faults.{FaultIs, IsNoFault}
+use Rattle.goi_c.specs.declared.finding.FaultData.{FaultData}
+use Rattle.goi_c.specs.Faults.{FaultIs, IsNoFault}
 
 -- There is no fault, or the first one is told with its status, or there was no memory. These are the faults that there may be.
 pub data Finds (faulty : Fault → Type 0) (status : ℕ) (d : FaultData) : Type 0 where

@@ -1,16 +1,24 @@
 //! Checks, listings, circuits and replays.
 
+ghost use Rattle.std.specs.Prelude.{Some, IfOk, IfErr};
+ghost use Rattle.program_runs.specs.Programs.{OfGround};
 ghost use Rattle.goi_jobs.specs.Ranges.{IsWindow};
 ghost use Rattle.goi_jobs.specs.declared.task.Task.TheVariants.{Check, ShowNet};
+ghost use Rattle.goi_tasks.specs.Seen.{output_of};
+ghost use Rattle.goi_tasks.specs.Programs.{FaultyEither};
+ghost use Rattle.goi_tasks.specs.Replaying.{FaultySchedule, ReportsReplay};
+ghost use Rattle.goi_tasks.specs.Stops.{StopsFor};
 ghost use Rattle.goi_calls.specs.Backs.{back};
 ghost use Rattle.goi_c.specs.Calls.{CallsCircuit, CallsReplay, CallsReplayTrace, CallsTask, IsAskedCircuit};
 ghost use Rattle.goi_c.specs.Calls.{OwnsCircuit, OwnsReplay, OwnsTask, part};
 
-use goi_calls::{BAD_CALL, give_nothing, give_result, replay_walk};
+use goi_calls::{BAD_CALL, give_nothing, give_result};
 use goi_jobs::{MOST_CELLS, MOST_FORKS, TRACED_MOVES, Task, Verilog, Window};
-use goi_tasks::{law_settled, replay_text, report_text, report_verilog};
+use goi_tasks::{
+    Report, Stop, law_settled, replay_text, report_replay, report_text, report_verilog,
+};
 use pcf_values::limits::SCHEDULE_MOVES;
-use program_runs::Alone;
+use program_runs::{Alone, Calling, net_for};
 use std::alloc::Global;
 
 /// Tells the type of a text's program, and with `term` the program itself behind it.
@@ -110,4 +118,15 @@ pub extern "C" fn goi_replay_trace(
     }
     let walked = replay_walk(alloc, text, schedule, Window { from, most });
     give_result(alloc, walked, out, needed)
+}
+
+/// The report of a schedule on the net of a text's program, with this part of its trace.
+fn replay_walk(alloc: Global, bytes: &[u8], schedule: &[u8], window: Window) -> Result<Report, Stop>
+    ensures report { IfOk result (λ r. OfGround bytes.now (λ t. ReportsReplay t (Some window) schedule.now (output_of r))) }
+    ensures fault { IfErr result (λ e. StopsFor (λ f. FaultyEither bytes.now (λ t. FaultySchedule t schedule.now f) f) e) }
+{
+    let net = net_for(alloc, bytes, Calling::ByName)?;
+    let report = report_replay(alloc, &net, schedule, Some(window));
+    drop(net);
+    report
 }

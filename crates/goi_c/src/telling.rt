@@ -4,9 +4,10 @@ ghost use Rattle.std.specs.Prelude.{nat_eq};
 ghost use Rattle.program_runs.specs.Programs.{calling_of};
 ghost use Rattle.goi_calls.specs.Backs.{back};
 ghost use Rattle.goi_c.specs.Calls.{CallsTell, HasRoom, IsAsked, OwnsTask, tell_task};
+ghost use Rattle.goi_c.specs.Giving.{OfTold};
 
-use goi_calls::{Answer, BAD_CALL, give_nothing, give_told, no_answer};
-use goi_tasks::{law_settled, tell_text};
+use goi_calls::{Answer, BAD_CALL, answer_of, give_nothing, give_stop, no_answer};
+use goi_tasks::{Stop, ValueAndMoves, law_settled, status_of, tell_text};
 use pcf_values::limits::BUDGET;
 use program_runs::{Alone, calling_of};
 use std::alloc::Global;
@@ -38,4 +39,26 @@ pub extern "C" fn goi_tell(
     }
     let told = tell_text(alloc, text, budget, calling_of(flags == 1), &Alone);
     give_told(alloc, told, answer, out, needed)
+}
+
+/// Gives back what a run came to, or the line of a fault.
+fn give_told(
+    alloc: Global,
+    told: Result<ValueAndMoves, Stop>,
+    answer: &mut Answer,
+    out: &mut [u8],
+    needed: &mut usize,
+) -> u32
+    ensures { OfTold told answer.new (back result needed.new out.old out.new) }
+{
+    match told {
+        Ok(told) => {
+            *answer = answer_of(told.answer, told.moves);
+            give_nothing(needed, status_of(told.answer).into())
+        }
+        Err(stop) => {
+            *answer = no_answer();
+            give_stop(alloc, stop, out, needed)
+        }
+    }
 }

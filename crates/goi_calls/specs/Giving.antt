@@ -1,18 +1,10 @@
--- What is given back of a task's result, of a run's numbers, and of a fault's.
-use Rattle.std.specs.Prelude.{◌≡◌, ◌⊎◌, ℕ, List, None, Result, Ok, Err}
-use Rattle.pcf_values.specs.Terms.{TermTree}
-use Rattle.goi_tasks.specs.declared.telling.ValueAndMoves.{ValueAndMoves}
+-- What is given back of a task's result.
+use Rattle.std.specs.Prelude.{◌⊎◌, List, ℕ, Result, Ok, Err}
 use Rattle.goi_tasks.specs.declared.report.Report.{Report}
 use Rattle.goi_tasks.specs.declared.stop.Stop.{Stop}
 use Rattle.goi_tasks.specs.declared.stop.Stop.TheVariants as stop
 use Rattle.goi_tasks.specs.Refusals.{IsLine, fault_status}
-use Rattle.goi_tasks.specs.Replaying.{replay_status}
-use Rattle.goi_calls.specs.declared.finding.FaultData.{FaultData}
-use Rattle.goi_calls.specs.declared.telling.Answer.{Answer}
 use Rattle.goi_calls.specs.Backs.{Back, Gives, Nothing}
-use Rattle.goi_calls.specs.Numbers.{AnswerIs}
-use Rattle.goi_calls.specs.Faults.{FaultIs, IsNoFault}
-use Rattle.goi_calls.specs.Rows.{TellsNone, TellsRows, rows_status}
 
 -- the line of the fault with its status, or no memory
 abbrev pub OfStop : Stop → Back → Type 0
@@ -23,22 +15,3 @@ OfStop (stop.Fault f) b = ((line : List ℕ) × IsLine f line × Gives (fault_st
 abbrev pub OfResult : Result Report Stop → Back → Type 0
 OfResult (Ok r) b = Gives r.status r.text.items b
 OfResult (Err s) b = OfStop s b
-
--- the numbers with the status of their answer, or why there are none
-abbrev pub OfTold : Result ValueAndMoves Stop → Answer → Back → Type 0
-OfTold (Ok t) a b = AnswerIs t.answer t.moves a × Nothing (replay_status t.answer) b
-OfTold (Err s) a b = AnswerIs None 0 a × OfStop s b
-
--- a fault in numbers with its status, or none and why
-abbrev pub Fills : Stop → ℕ → FaultData → Type 0
-Fills stop.Memory status d = (status ≡ 6) × IsNoFault d
-Fills (stop.Fault f) status d = (status ≡ fault_status f) × FaultIs f d
-
-abbrev pub FillsResult : Result Report Stop → ℕ → FaultData → Type 0
-FillsResult (Ok r) status d = (status ≡ 0) × IsNoFault d
-FillsResult (Err s) status d = Fills s status d
-
--- what a function came to at rows, with the status of all, or no answer and no memory
-abbrev pub IsToldBy : TermTree × ℕ → ℕ → List ℕ → ℕ → List Answer → Type 0
-IsToldBy f budget values status answers =
-    (TellsRows f.0 f.1 budget values answers × (status ≡ rows_status answers)) ⊎ (TellsNone answers × (status ≡ 6))

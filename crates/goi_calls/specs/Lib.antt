@@ -4,10 +4,6 @@
 pub mod Backs
 -- What a run came to, as numbers.
 pub mod Numbers
--- What the call promises that runs one function at many rows of numbers.
-pub mod Rows
--- A fault as numbers: which it is, where it is, and its ticket; and that its line says just that.
-pub mod Faults
 -- The tasks for which the numbers of calls ask.
 pub mod Asked
 -- what serves the contracts of parts of a call

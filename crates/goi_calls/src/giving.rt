@@ -37,7 +37,7 @@ pub fn give_result(
 }
 
 /// Gives back the line of a fault, or says that there was no memory.
-pub(crate) fn give_stop(alloc: Global, stop: Stop, out: &mut [u8], needed: &mut usize) -> u32
+pub fn give_stop(alloc: Global, stop: Stop, out: &mut [u8], needed: &mut usize) -> u32
     ensures { OfStop stop (back result needed.new out.old out.new) }
 {
     match stop {
@@ -47,7 +47,7 @@ pub(crate) fn give_stop(alloc: Global, stop: Stop, out: &mut [u8], needed: &mut 
 }
 
 /// Gives back the line of a fault.
-pub(crate) fn give_fault(alloc: Global, fault: Fault, out: &mut [u8], needed: &mut usize) -> u32
+pub fn give_fault(alloc: Global, fault: Fault, out: &mut [u8], needed: &mut usize) -> u32
     ensures { OfStop (Stop.Fault fault) (back result needed.new out.old out.new) }
 {
     match refuse(alloc, fault) {

@@ -1,13 +1,8 @@
 //! What a run came to, as numbers.
 
-ghost use Rattle.goi_calls.specs.Backs.{back};
-ghost use Rattle.goi_calls.specs.Giving.{OfTold};
 ghost use Rattle.goi_calls.specs.Numbers.{AnswerIs};
 
-use crate::giving::{give_nothing, give_stop};
-use goi_tasks::{Stop, ValueAndMoves, status_of};
 use pcf_values::Val;
-use std::alloc::Global;
 
 /// What a run came to.
 #[repr(C)]
@@ -19,30 +14,6 @@ pub struct Answer {
     pub moves: u32,
     /// 0 where there is no value, 1 where it is a number, and 2 where it is an overflow.
     pub kind: u32,
-}
-
-/// Gives back what a run came to, or the line of a fault, for which there is no answer.
-///
-/// `needed` is told the length of the line in bytes.
-pub fn give_told(
-    alloc: Global,
-    told: Result<ValueAndMoves, Stop>,
-    answer: &mut Answer,
-    out: &mut [u8],
-    needed: &mut usize,
-) -> u32
-    ensures { OfTold told answer.new (back result needed.new out.old out.new) }
-{
-    match told {
-        Ok(told) => {
-            *answer = answer_of(told.answer, told.moves);
-            give_nothing(needed, status_of(told.answer).into())
-        }
-        Err(stop) => {
-            *answer = no_answer();
-            give_stop(alloc, stop, out, needed)
-        }
-    }
 }
 
 /// No answer: all its numbers are 0.
@@ -57,7 +28,7 @@ pub fn no_answer() -> Answer
 }
 
 /// The answer in numbers.
-pub(crate) fn answer_of(value: Option<Val>, moves: u32) -> Answer
+pub fn answer_of(value: Option<Val>, moves: u32) -> Answer
     ensures { AnswerIs value moves result }
 {
     match value {

@@ -1,5 +1,5 @@
 use Rattle.std.proofs.Common.{◌≡◌, drop}
-use Rattle.goi_calls.specs.Rows.{rows_status}
+use Rattle.goi_calls.specs.Numbers.{rows_status}
 use Rattle.goi_calls.proofs.rows.status_of_rows.Given as goal
 
 abbrev pub invariant-loop-i : goal.invariant-loop-i

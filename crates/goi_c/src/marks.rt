@@ -1,8 +1,8 @@
 //! Faults as marks: which fault, where, and of which ticket.
 
 ghost use Rattle.std.specs.Prelude.{◌≡◌};
-ghost use Rattle.goi_calls.specs.Faults.{batch_mark, by_value_mark, mark_of, net_text_mark, placed, plain, program_mark, read_mark};
-ghost use Rattle.goi_calls.specs.Faults.{replay_mark, schedule_mark, type_mark, unsound_mark};
+ghost use Rattle.goi_c.specs.Faults.{batch_mark, by_value_mark, mark_of, net_text_mark, placed, plain, program_mark, read_mark};
+ghost use Rattle.goi_c.specs.Faults.{replay_mark, schedule_mark, type_mark, unsound_mark};
 
 use crate::kinds::Kind;
 use batch_lists::BatchFault;

@@ -22,10 +22,10 @@ use Rattle.program_runs.specs.declared.fault.ProgramFault.TheVariants as program
 use Rattle.goi_tasks.specs.declared.fault.Fault.{Fault}
 use Rattle.goi_tasks.specs.declared.fault.Fault.TheVariants as fault
 use Rattle.goi_tasks.specs.Refusals.{fault_line, fault_status, inner_line, placed_line, plain_line, ticket_line}
-use Rattle.goi_calls.specs.declared.kinds.Kind.{Kind}
-use Rattle.goi_calls.specs.declared.kinds.Kind.TheVariants as kind
-use Rattle.goi_calls.specs.declared.marks.Mark.{Mark}
-use Rattle.goi_calls.specs.declared.finding.FaultData.{FaultData}
+use Rattle.goi_c.specs.declared.kinds.Kind.{Kind}
+use Rattle.goi_c.specs.declared.kinds.Kind.TheVariants as kind
+use Rattle.goi_c.specs.declared.marks.Mark.{Mark}
+use Rattle.goi_c.specs.declared.finding.FaultData.{FaultData}
 
 -- ---- marks
 

@@ -1,6 +1,5 @@
 -- What the call promises that runs one function at many rows of numbers.
-use Rattle.std.specs.Prelude.{◌≡◌, ◌⊎◌, ◌*◌, ◌<◌, ℕ, List, [], ◌∷◌, length, take, drop, get_or, Option, None}
-use Rattle.std.specs.Prelude.{nat_eq, if◌then◌else◌}
+use Rattle.std.specs.Prelude.{◌≡◌, ◌⊎◌, ◌*◌, ◌<◌, ℕ, List, length, take, drop, get_or, Option}
 use Rattle.pcf_values.specs.declared.val.Val.{Val}
 use Rattle.pcf_values.specs.Terms.{TermTree}
 use Rattle.cbn_meaning.specs.Meaning.{Means}
@@ -14,7 +13,7 @@ use Rattle.goi_tasks.specs.declared.fault.Fault.TheVariants.{Program}
 use Rattle.goi_tasks.specs.Refusals.{IsLine}
 use Rattle.goi_calls.specs.declared.telling.Answer.{Answer}
 use Rattle.goi_calls.specs.Backs.{Back, Comes, Gives, Nothing}
-use Rattle.goi_calls.specs.Numbers.{AnswerIs}
+use Rattle.goi_calls.specs.Numbers.{AnswerIs, TellsNone, rows_status}
 
 -- the numbers of a row, where each row has so many and they stand one behind the other
 abbrev pub row : ℕ → List ℕ → ℕ → List ℕ
@@ -32,15 +31,6 @@ pub record TellsRow (m : TermTree) (budget : ℕ) (numbers : List ℕ) (a : Answ
 abbrev pub TellsRows : TermTree → ℕ → ℕ → List ℕ → List Answer → Type 0
 TellsRows m n budget values answers =
     (i : ℕ) (d : Answer) → i < length answers → TellsRow m budget (row n values i) (get_or answers i d)
-
--- there is no answer
-abbrev pub TellsNone : List Answer → Type 0
-TellsNone answers = (i : ℕ) (d : Answer) → i < length answers → AnswerIs None 0 (get_or answers i d)
-
--- the status of answers: 0 where each has a value, and else 5
-abbrev pub rows_status : List Answer → ℕ
-rows_status [] = 0
-rows_status (a ∷ rest) = if nat_eq a.kind 0 then 5 else rows_status rest
 
 -- what is given back of a function's rows: an answer for each, or the line of the text's first fault, or there was no memory
 pub data TellsEach (n budget : ℕ) (values bytes : List ℕ) (answers : List Answer) (b : Back) : Type 0 where

@@ -1,7 +1,7 @@
 use Rattle.std.proofs.Common.{◌≡◌, ◌*◌, ◌<◌, ℕ, length, get_or, drop}
 use Rattle.goi_calls.specs.declared.telling.Answer.{Answer}
-use Rattle.goi_calls.specs.Rows.{TellsRow, row}
-use Rattle.goi_calls.proofs.rows.tell_rows.Given as goal
+use Rattle.goi_c.specs.Rows.{TellsRow, row}
+use Rattle.goi_c.proofs.rows.tell_rows.Given as goal
 
 abbrev pub invariant-loop-i : goal.invariant-loop-i
 invariant-loop-i l = record {

@@ -1,5 +1,5 @@
-use Rattle.goi_calls.proofs.ToldRows.{settled}
-use Rattle.goi_calls.proofs.rows.tell_function.Goals as goal
+use Rattle.goi_c.proofs.ManyRows.{settled}
+use Rattle.goi_c.proofs.rows.tell_function.Goals as goal
 
 pub returns-clause-told : goal.returns-clause-told
 returns-clause-told c =

@@ -2,8 +2,8 @@ use Rattle.std.proofs.Common.{Some}
 use Rattle.program_runs.specs.Programs.{number}
 use Rattle.goi_tasks.proofs.Replayed.{faults_either, faults_first}
 use Rattle.goi_tasks.proofs.Texts.{no_net}
-use Rattle.goi_calls.proofs.OfText.{walks_text}
-use Rattle.goi_calls.proofs.replaying.replay_walk.Goals as goal
+use Rattle.goi_c.proofs.Walked.{walks_text}
+use Rattle.goi_c.proofs.checking.replay_walk.Goals as goal
 
 pub returns-clause-report : goal.returns-clause-report
 returns-clause-report c =

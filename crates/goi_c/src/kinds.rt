@@ -1,7 +1,7 @@
 //! Which faults there are, for callers that have numbers.
 
 ghost use Rattle.std.specs.Prelude.{◌≡◌};
-ghost use Rattle.goi_calls.specs.Faults.{number_of};
+ghost use Rattle.goi_c.specs.Faults.{number_of};
 
 /// Which fault it is. A fault of a net that isn't sound is named by its own kind.
 #[derive(Clone, Copy)]

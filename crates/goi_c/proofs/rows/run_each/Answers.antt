@@ -2,8 +2,8 @@ use Rattle.std.proofs.Common.{refl, subst}
 use Rattle.program_runs.specs.declared.no_run.NoRun.{NoRun}
 use Rattle.program_runs.specs.NoRuns.{NoRunFor}
 use Rattle.function_runs.specs.Functions.{FaultyFunction}
-use Rattle.goi_calls.proofs.ToldRows.{told_each, fault_told}
-use Rattle.goi_calls.proofs.rows.run_each.Goals as goal
+use Rattle.goi_c.proofs.ManyRows.{told_each, fault_told}
+use Rattle.goi_c.proofs.rows.run_each.Goals as goal
 
 pub returns-in-Ok-clause-tells : goal.returns-in-Ok-clause-tells
 returns-in-Ok-clause-tells c =
