@@ -10,7 +10,7 @@ import manual
 
 TOP = os.path.dirname(os.path.dirname(os.path.realpath(__file__)))
 # The scripts that are commands, by their names in tools/.
-COMMANDS = ["by-value", "check-circuit", "check-workers", "draw-net", "run-many", "show-walk", "why"]
+COMMANDS = ["by-value", "check-calls", "check-circuit", "check-workers", "draw-net", "run-many", "show-walk", "why"]
 # What the Python package has of tools/.
 PARTS = ["by-value", "draw-net", "walk.html", "why"]
 # The crates of the kit that are linked in, as `rt` lists them by `statements NAME`, and its libraries.
