@@ -1,5 +1,5 @@
--- The walk over the nodes, from the last one: the nodes that are left, one by one.
-pub mod Walking
+-- How a reading begins: past the nodes in front, at the term's own.
+pub mod Beginning
 -- What the nodes between a term and its operands (contractions, weakenings, doors, boxes) do to the marks of variable wires.
 pub mod Marking
 -- Which wires a part's variables have: each once, and all of them the part's own.

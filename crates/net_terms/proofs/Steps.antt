@@ -11,8 +11,10 @@ use Rattle.net_build.specs.Nets.{WireTree, value_wire, bang_wire}
 use Rattle.net_build.specs.NetOf.{Part, contract, doors, bound, bound_wire, domain, codomain, unary_part, double_part, ifz_part, lam_part}
 use Rattle.net_build.specs.NetOf.{fix_part, app_part}
 use Rattle.net_build.proofs.Count.{Aligned, ends}
-use Rattle.net_terms.specs.declared.walk.Mark.{Mark}
-use Rattle.net_terms.specs.TermOf.{mark, mark_at, type_at, type_in, rest, pass, go_on, Read, read, one, two, three, reading}
+use Rattle.net_walks.specs.declared.walk.Mark.{Mark}
+use Rattle.net_walks.specs.Passing.{mark, mark_at, rest, pass}
+use Rattle.net_walks.specs.Reads.{Read, read}
+use Rattle.net_terms.specs.TermOf.{type_at, type_in, go_on, one, two, three, reading}
 use Rattle.net_terms.proofs.Marking.{back, back_append, hit, hit_same, Marked, marked_kept, set_here, set_elsewhere, shares, enters}
 use Rattle.net_terms.proofs.Marking.{weak_passes, body_marked}
 use Rattle.net_terms.proofs.Loose.{hit_off, Loose, doors_loose, contract_loose, both_once, both_high, bound_once, bound_inside, bound_low}

@@ -11,10 +11,8 @@ pub mod Laws
 pub mod Constants
 -- How a term is read from the nodes of a net, typed, and held against the net's types: what laws and private contracts speak of.
 pub mod TermOf
--- The code's walk: its nodes are the first ones of the net, the last of them first.
-pub mod Walks
--- What the code's reading gives, seen through the views of terms.
-pub mod Reads
+-- The terms of the forms with one operand and with two, as the code tells forms apart.
+pub mod Forms
 -- The type of a term in a context, found by going over the term; none where the term has no type there.
 pub mod Typable
 -- The types of a term's variables at the places where they are used, and of the nodes of a net that use variables.

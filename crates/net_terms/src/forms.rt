@@ -2,7 +2,7 @@
 
 ghost use Rattle.std.specs.Prelude.{◌≡◌};
 ghost use Rattle.pcf_values.specs.Views.{term_of};
-ghost use Rattle.net_terms.specs.Reads.{one_term, two_term};
+ghost use Rattle.net_terms.specs.Forms.{one_term, two_term};
 
 use pcf_values::{Operator, Side, Term};
 

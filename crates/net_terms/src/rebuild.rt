@@ -3,19 +3,18 @@
 //! The recursion goes over the term that comes out, and never deeper than the height that it is given. Each form has a function of
 //! its own, so that no frame is large.
 
-ghost use Rattle.std.specs.Prelude.{◌≡◌, ◌≤◌, ◌<◌, ◌+◌, ◌^◌, ◌∷◌, suc, length, List, IfOk};
+ghost use Rattle.std.specs.Prelude.{◌≡◌, ◌≤◌, ◌<◌, ◌+◌, ◌^◌, ◌∷◌, suc, length, IfOk};
 ghost use Rattle.pcf_values.specs.Terms.{ifz, lam, fix};
 ghost use Rattle.pcf_values.specs.Views.{term_of, ty_of};
-ghost use Rattle.net_build.specs.declared.node.Node.{Node};
 ghost use Rattle.net_build.specs.NetOf.{domain};
-ghost use Rattle.net_terms.specs.declared.walk.Mark.{Mark};
-ghost use Rattle.net_terms.specs.TermOf.{mark, met, one, reading, set_marked, start, three, two, type_at, variable};
-ghost use Rattle.net_terms.specs.Reads.{Gives, one_term, two_term};
-ghost use Rattle.net_terms.specs.Walks.{left};
+ghost use Rattle.net_walks.specs.Reads.{Gives};
+ghost use Rattle.net_walks.specs.Walks.{left};
+ghost use Rattle.net_terms.specs.TermOf.{met, one, reading, set_marked, start, three, two, type_at};
+ghost use Rattle.net_terms.specs.Forms.{one_term, two_term};
 
 use crate::forms::{One, Two};
-use crate::walk::{Mark, Walk, next, pass, value_of};
 use net_build::{Net, Node};
+use net_walks::{Mark, Walk, next, pass, value_of, variable_of};
 use pcf_values::{Term, Ty};
 use std::alloc::{AllocError, Global};
 
@@ -190,17 +189,6 @@ fn start(
             wire,
         } => read_fix(alloc, net, walk, body, variable, wire, scope),
         _ => Ok(None),
-    }
-}
-
-/// The variable of this mark, under so many binders in this box.
-fn variable_of(mark: Mark, binders: u32, place: u64) -> Option<Term>
-    ensures { (ns : List Node) (ms : List Mark) → Gives term_of result (variable binders place mark ns ms) ns ms }
-{
-    if mark.place == place && mark.level < binders {
-        Some(Term::Var(binders - 1 - mark.level))
-    } else {
-        None
     }
 }
 

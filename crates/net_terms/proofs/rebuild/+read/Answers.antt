@@ -1,8 +1,8 @@
 use Rattle.std.proofs.Common.{IfOk, subst, sym, ap, arith}
 use Rattle.pcf_values.specs.Views.{term_of}
-use Rattle.net_terms.specs.Reads.{Gives}
-use Rattle.net_terms.specs.Walks.{left, rest_of}
-use Rattle.net_terms.proofs.Walking.{begins}
+use Rattle.net_walks.specs.Reads.{Gives}
+use Rattle.net_walks.specs.Walks.{left, rest_of}
+use Rattle.net_terms.proofs.Beginning.{begins}
 use Rattle.net_terms.proofs.rebuild.+read.Goals as goal
 
 pub read-returns-in-Some-clause-term : goal.read-returns-in-Some-clause-term

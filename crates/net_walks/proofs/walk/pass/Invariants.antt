@@ -1,7 +1,7 @@
 use Rattle.std.proofs.Common.{◌≡◌, ◌≤◌, length}
-use Rattle.net_terms.specs.TermOf.{pass}
-use Rattle.net_terms.specs.Walks.{left}
-use Rattle.net_terms.proofs.walk.pass.Given as goal
+use Rattle.net_walks.specs.Passing.{pass}
+use Rattle.net_walks.specs.Walks.{left}
+use Rattle.net_walks.proofs.walk.pass.Given as goal
 
 abbrev pub invariant-loop-walk : goal.invariant-loop-walk
 invariant-loop-walk l =

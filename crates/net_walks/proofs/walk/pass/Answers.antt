@@ -1,7 +1,7 @@
 use Rattle.std.proofs.Common.{◌-◌, reverse, take, Some, sym, ap, ◌∙◌, arith}
-use Rattle.net_terms.specs.TermOf.{rest, pass}
-use Rattle.net_terms.proofs.Walking.{comes, passed_on, stays}
-use Rattle.net_terms.proofs.walk.pass.Goals as goal
+use Rattle.net_walks.specs.Passing.{rest, pass}
+use Rattle.net_walks.proofs.Walking.{comes, passed_on, stays}
+use Rattle.net_walks.proofs.walk.pass.Goals as goal
 
 pub loop-walk-preserved : goal.loop-walk-preserved
 loop-walk-preserved c =

@@ -1,29 +1,33 @@
 //! The walk over the nodes of a net, from the last one to the first, with the marks of the variable wires.
 
 ghost use Rattle.std.specs.Prelude.{◌≡◌, ◌≤◌, ◌<◌, ◌^◌, length};
-ghost use Rattle.net_terms.specs.TermOf.{mark_at, pass, value_of};
-ghost use Rattle.net_terms.specs.Walks.{Comes, Passed, left, rest_of, set_mark};
+ghost use Rattle.net_walks.specs.Passing.{mark_at, pass, value_of};
+ghost use Rattle.net_walks.specs.Walks.{Comes, Passed, left, rest_of, set_mark};
 
 use net_build::{Net, Node};
 
 /// What is known of a variable wire: how many binders stand around its variable's own, and the box in which the wire stands. A box
 /// is known by one more than the number of its wire, and 0 is outside all boxes.
 #[derive(Clone, Copy)]
-pub(crate) struct Mark {
-    pub(crate) level: u32,
-    pub(crate) place: u64,
+pub struct Mark {
+    /// How many binders stand around the variable's own.
+    pub level: u32,
+    /// The box in which the wire stands.
+    pub place: u64,
 }
 
 /// How many nodes are left, and the marks of the wires.
 #[derive(Drop)]
-pub(crate) struct Walk {
-    pub(crate) left: u32,
-    pub(crate) marks: Vec<Mark>,
+pub struct Walk {
+    /// How many of the net's nodes are left: the first ones.
+    pub left: u32,
+    /// The mark of each wire, by its number.
+    pub marks: Vec<Mark>,
 }
 
 impl Walk {
-    /// The mark of a wire.
-    pub(crate) fn mark(&self, wire: u32) -> Mark
+    /// The mark of a wire. A number past the list counts as no binder around, outside all boxes.
+    pub fn mark(&self, wire: u32) -> Mark
         ensures { result ≡ mark_at self.now.marks.items wire }
     {
         match self.marks.get(wire as usize) {
@@ -33,7 +37,7 @@ impl Walk {
     }
 
     /// Marks a wire. A number past the list is no wire.
-    pub(crate) fn set(&mut self, wire: u32, mark: Mark)
+    pub fn set(&mut self, wire: u32, mark: Mark)
         ensures marks { self.new.marks.items ≡ set_mark self.old.marks.items wire mark }
         ensures left { self.new.left ≡ self.old.left }
     {
@@ -43,8 +47,8 @@ impl Walk {
     }
 }
 
-/// The next node, off the nodes that are left.
-pub(crate) fn next(net: &Net, walk: &mut Walk) -> Option<Node>
+/// The next node, off the nodes that are left: the last of them. `None` where none is left.
+pub fn next(net: &Net, walk: &mut Walk) -> Option<Node>
     requires { walk.old.left ≤ length net.now.nodes }
     ensures node { Comes result (left net.now walk.old) (left net.now walk.new) }
     ensures within { walk.new.left ≤ length net.now.nodes }
@@ -58,9 +62,10 @@ pub(crate) fn next(net: &Net, walk: &mut Walk) -> Option<Node>
     node
 }
 
-/// Passes the nodes that stand between a term and its operands, and answers the box in which the walk then stands and the value wire
-/// that is to come.
-pub(crate) fn pass(net: &Net, walk: &mut Walk, around: u64, place: u64, want: u32) -> (u64, u32)
+/// Passes the nodes that stand between a term and its operands. The walk stands in the box `place`, which is in the box `around`, and
+/// `want` is the value wire that is to come. Answers the box in which the walk then stands, and the value wire that is to come there.
+/// Boxes are known as in a `Mark`.
+pub fn pass(net: &Net, walk: &mut Walk, around: u64, place: u64, want: u32) -> (u64, u32)
     requires { walk.old.left ≤ length net.now.nodes }
     ensures passed { pass around place want (left net.now walk.old) walk.old.marks.items ≡ rest_of net.now walk.new result.0 result.1 }
     ensures within { walk.new.left ≤ length net.now.nodes }
@@ -124,7 +129,7 @@ fn pass_one(
 }
 
 /// The value wire of a term's own node, and the last wire of any other.
-pub(crate) fn value_of(node: Node) -> u32
+pub fn value_of(node: Node) -> u32
     ensures { result ≡ value_of node }
 {
     match node {

@@ -1,6 +1,6 @@
 use Rattle.std.proofs.Common.{arith}
-use Rattle.net_terms.proofs.Walking.{comes}
-use Rattle.net_terms.proofs.walk.next.Goals as goal
+use Rattle.net_walks.proofs.Walking.{comes}
+use Rattle.net_walks.proofs.walk.next.Goals as goal
 
 pub returns-clause-node : goal.returns-clause-node
 returns-clause-node c =

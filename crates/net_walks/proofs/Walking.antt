@@ -7,10 +7,9 @@ use Rattle.std.proofs.lemmas.List.{reverse-append}
 use Rattle.std.proofs.lemmas.Option.{slice_get-get_or}
 use Rattle.net_build.specs.declared.node.Node.{Node}
 use Rattle.net_build.specs.declared.node.Node.TheVariants.{Weak}
-use Rattle.net_terms.specs.declared.walk.Mark.{Mark}
-use Rattle.net_build.specs.Nets.{WireTree}
-use Rattle.net_terms.specs.TermOf.{Rest, rest, pass, met, go_on, start, reading}
-use Rattle.net_terms.specs.Walks.{Comes, Passed}
+use Rattle.net_walks.specs.declared.walk.Mark.{Mark}
+use Rattle.net_walks.specs.Passing.{rest, pass}
+use Rattle.net_walks.specs.Walks.{Comes, Passed}
 
 -- the last of the first k nodes
 pub comes : (ns : List Node) (k : ℕ) (o : Option Node) → 0 < k → k ≤ length ns → o ≡ slice_get ns (k - 1)
@@ -35,13 +34,3 @@ pub stays : (around e u : ℕ) (n : Node) (before after : List Node) (ms new : L
     → Passed None around e u n ms new → pass around e u before ms ≡ rest e u before new
 stays around e u n before after ms new c h =
     ap (λ ns. pass around e u ns ms) c ∙ h.0 after ∙ ap (λ ns. rest e u ns ms) (sym c) ∙ ap (rest e u before) (sym h.1)
-
--- A reading passes the nodes in front, and takes the next one as the term's own, where it is the one that is to come.
-pub begins : (ws : List WireTree) (h k a e u : ℕ) (before : List Node) (ms : List Mark) (r : Rest) (n : Node) (after : List Node)
-    (new : List Mark) → 0 < h → pass a e u before ms ≡ r → r.nodes ≡ n ∷ after → new ≡ r.marks →
-    reading ws h k a e u before ms ≡ met r.want (n ∷ after) (start ws (reading ws (h - 1)) k r.place (n ∷ after) new)
-begins ws h k a e u before ms r n after new p q s t =
-    let g : h ≡ suc (h - 1) = omega (arith, p) in
-    let f = λ (ns : List Node). λ (m : List Mark). met r.want ns (start ws (reading ws (h - 1)) k r.place ns m) in
-    ap (λ h. reading ws h k a e u before ms) g ∙ ap (go_on ws (reading ws (h - 1)) k) q ∙ ap (λ ns. f ns r.marks) s
-    ∙ ap (f (n ∷ after)) (sym t)

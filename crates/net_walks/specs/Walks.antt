@@ -2,9 +2,9 @@
 use Rattle.std.specs.Prelude.{◌≡◌, ℕ, List, [], ◌∷◌, Option, Some, None, reverse, take, slice_set}
 use Rattle.net_build.specs.declared.node.Node.{Node}
 use Rattle.net_build.specs.Nets.{NetTree}
-use Rattle.net_terms.specs.declared.walk.Mark.{Mark}
-use Rattle.net_terms.specs.declared.walk.Walk.{Walk}
-use Rattle.net_terms.specs.TermOf.{Rest, rest, pass}
+use Rattle.net_walks.specs.declared.walk.Mark.{Mark}
+use Rattle.net_walks.specs.declared.walk.Walk.{Walk}
+use Rattle.net_walks.specs.Passing.{Rest, rest, pass}
 
 -- the marks with another one for this wire
 abbrev pub set_mark : List Mark → ℕ → Mark → List Mark
