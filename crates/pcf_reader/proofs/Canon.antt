@@ -1,5 +1,5 @@
 -- Each tree has a phrase for what is printed of it, on each level of the grammar.
-use Rattle.std.proofs.Common.{◌≡◌, ℕ, suc, ◌+◌, ◌<◌, List, [], ◌∷◌, ◌++◌, map, length, Some, refl, sym, ap, ◌∙◌}
+use Rattle.std.proofs.Common.{◌≡◌, ℕ, suc, ◌+◌, ◌<◌, List, [], ◌∷◌, ◌++◌, map, length, get_or, Some, refl, sym, ap, ◌∙◌}
 use Rattle.std.proofs.Common.{subst, arith, append_assoc, length-append}
 use Rattle.std.specs.Prelude.{codes}
 use Rattle.std.specs.Char.{len_utf8}
@@ -18,7 +18,7 @@ use Rattle.pcf_reader.proofs.Lists.{each_append, map-append}
 use Rattle.pcf_reader.proofs.Shown.{fit_onto, fit_shallow, ty_onto, ty_shallow}
 use Rattle.pcf_reader.proofs.Pieces.{Clear, clear_by, place_at, blank_piece, sign_piece, keyword_piece}
 use Rattle.pcf_reader.proofs.Lexed.{at_place, arrow_longest}
-use Rattle.pcf_reader.proofs.Levels.{each_op}
+use Rattle.pcf_values.proofs.Operators.{for_each}
 
 -- the tokens of two parts, one behind the other
 pub both_parts : (at : ℕ) (cs : List ℕ) (u v : List Written) (items : List Placed) →
@@ -75,17 +75,28 @@ spaced_piece c x at rest items is one h =
     (sign_piece c x (at + 1) (32 ∷ rest) items is one (λ e. refl)
     (blank_piece ((at + 1) + 1) rest items (place_at (at + 3) (((at + 1) + 1) + 1) rest items (omega arith) h)))
 
+-- an operator's sign, which is one character of one byte, stands between blanks
+abbrev op_code : Operator → ℕ
+op_code op = get_or (op_text op) 1 0
+
+op_chars : (op : Operator) → op_text op ≡ 32 ∷ op_code op ∷ 32 ∷ []
+op_chars = for_each _ _ refl
+
+op_sign : (op : Operator) → sign_of (op_code op) ≡ Some (Sign op)
+op_sign = for_each _ _ refl
+
+op_byte : (op : Operator) → len_utf8 (op_code op) ≡ 1
+op_byte = for_each _ _ refl
+
 pub op_piece : (op : Operator) (at : ℕ) (rest : List ℕ) (items : List Placed) → Splits (at + length (op_text op)) rest items →
     Splits at (op_text op ++ rest) (at_place (at + 1) (Sign op) ∷ items)
-op_piece =
-    each_op (λ op. (at : ℕ) (rest : List ℕ) (items : List Placed) → Splits (at + length (op_text op)) rest items →
-    Splits at (op_text op ++ rest) (at_place (at + 1) (Sign op) ∷ items))
-    (λ at rest items h. spaced_piece 43 _ at rest items refl refl h)
-    (λ at rest items h. spaced_piece 45 _ at rest items refl refl h) (λ at rest items h. spaced_piece 42 _ at rest items refl refl h)
+op_piece op at rest items h =
+    subst (λ s. Splits at (s ++ rest) (at_place (at + 1) (Sign op) ∷ items)) (sym (op_chars op))
+    (spaced_piece (op_code op) (Sign op) at rest items (op_sign op) (op_byte op)
+    (subst (λ s. Splits (at + length s) rest items) (op_chars op) h))
 
 pub op_clear : (op : Operator) (rest : List ℕ) → Clear (op_text op ++ rest)
-op_clear = each_op (λ op. (rest : List ℕ) → Clear (op_text op ++ rest)) (λ rest. space (43 ∷ 32 ∷ rest))
-    (λ rest. space (45 ∷ 32 ∷ rest)) (λ rest. space (42 ∷ 32 ∷ rest))
+op_clear op rest = subst (λ s. Clear (s ++ rest)) (sym (op_chars op)) (space (op_code op ∷ 32 ∷ rest))
 
 -- the arrow between blanks, which is one sign of two characters
 pub arrow_piece : (at : ℕ) (rest : List ℕ) (items : List Placed) → Splits (at + 4) rest items →

@@ -1,16 +1,10 @@
--- The operators by their signs: what holds of each, the level of its form, and the one that stands between types.
-use Rattle.std.proofs.Common.{◌≡◌, true, IsTrue, IsFalse, refl, ap, if◌then◌else◌}
+-- The operators by their signs: the level of an operator's form, and the sign that stands between types.
+use Rattle.std.proofs.Common.{◌≡◌, true, IsTrue, IsFalse, cond, refl, sym, ap, ◌∙◌, if◌then◌else◌}
 use Rattle.pcf_values.specs.declared.operator.Operator.{Operator}
-use Rattle.pcf_values.specs.declared.operator.Operator.TheVariants.{Plus, Minus, Times}
+use Rattle.pcf_values.proofs.Operators.{for_each}
 use Rattle.pcf_reader.specs.Tokens.{Token, Sign, is_sum, star}
 use Rattle.pcf_reader.specs.Machine.{is_star}
 use Rattle.pcf_reader.specs.Printed.{op_level, right_level}
-
--- what holds of each operator holds of all
-pub each_op : (P : Operator → Type 0) → P Plus → P Minus → P Times → (op : Operator) → P op
-each_op P a b c Plus = a
-each_op P a b c Minus = b
-each_op P a b c Times = c
 
 -- the levels of its form and of its right operand
 pub sum_level : (op : Operator) → IsTrue (is_sum op) → op_level op ≡ 3
@@ -27,5 +21,8 @@ product_right op is = ap (λ b. if b then 2 else 1) is
 
 -- no other token is taken for the one between types
 pub star_is : (x : Token) → is_star x ≡ true → x ≡ star
-star_is (Sign Times) h = refl
+star_is (Sign op) h = sym (ap (λ b. cond b (Sign op) star) h) ∙ one op
+  where
+    one : (op : Operator) → cond (is_star (Sign op)) (Sign op) star ≡ star
+    one = for_each _ _ refl
 star_is x h = cc

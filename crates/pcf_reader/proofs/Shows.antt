@@ -13,7 +13,7 @@ use Rattle.pcf_values.specs.Named.{NamedTree, number_at, name_at, word_at, binar
 use Rattle.pcf_values.specs.Named.{the_pred, the_part, Binder, the_fun, the_fix}
 use Rattle.pcf_reader.specs.Spelling.{is_digit, AllPass}
 use Rattle.pcf_reader.specs.Printed.{fitted, ty_level, ty_text, word_text, binder_text, op_text, op_level, right_level, level, term_text}
-use Rattle.pcf_reader.proofs.Levels.{each_op}
+use Rattle.pcf_values.proofs.Operators.{for_each}
 use Rattle.pcf_reader.proofs.Longest.{digit_low}
 use Rattle.pcf_reader.proofs.Shown.{fit_onto, ty_onto, own_onto, IsName, Fine}
 use Rattle.pcf_reader.proofs.Pieces.{digits_bytes, decimal_digits, name_chars}
@@ -112,7 +112,7 @@ binder_low the_fun = refl
 binder_low the_fix = refl
 
 op_low : (op : Operator) → all_low (op_text op) ≡ true
-op_low = each_op (λ op. all_low (op_text op) ≡ true) refl refl refl
+op_low = for_each _ _ refl
 
 -- a term
 pub own_shows : (t : NamedTree) → Fine t → Shows (λ r. own_onto t r) (term_text t)

@@ -4,5 +4,7 @@ pub mod Places
 pub mod Heights
 -- Equal types: their parts, and the test.
 pub mod Types
+-- What comes to the same for all operators, by one computation.
+pub mod Operators
 -- What the operations on values come to.
 pub mod Arithmetic
