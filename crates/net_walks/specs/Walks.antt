@@ -18,9 +18,9 @@ left net w = reverse (take w.left net.nodes)
 abbrev pub rest_of : NetTree → Walk → ℕ → ℕ → Rest
 rest_of net w place want = rest place want (left net w) w.marks.items
 
--- the next node, where there is one, and the nodes before and after it
+-- the next node, where there is one, and the nodes before and after it; without one none is left, before and after
 abbrev pub Comes : Option Node → List Node → List Node → Type 0
-Comes None before after = before ≡ []
+Comes None before after = (before ≡ []) × (after ≡ [])
 Comes (Some n) before after = before ≡ n ∷ after
 
 -- A node between a term and its operands was passed, which leaves the box around, the box, and the value wire that is to come; None:

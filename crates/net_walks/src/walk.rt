@@ -47,7 +47,7 @@ impl Walk {
     }
 }
 
-/// The next node, off the nodes that are left: the last of them. `None` where none is left.
+/// The next node, off the nodes that are left: the last of them. `None` where none is left, before as after.
 pub fn next(net: &Net, walk: &mut Walk) -> Option<Node>
     requires { walk.old.left ≤ length net.now.nodes }
     ensures node { Comes result (left net.now walk.old) (left net.now walk.new) }
