@@ -8,6 +8,10 @@ use pcf_values::Val;
 use std::alloc::AllocError;
 
 /// Appends the two lines of a run: its answer, and how many moves it made.
+///
+/// # Errors
+///
+/// `AllocError` when memory runs out.
 pub(crate) fn push_result(
     report: &mut Vec<u8>,
     answer: Option<Val>,
@@ -20,6 +24,10 @@ pub(crate) fn push_result(
 }
 
 /// Appends the line of a run's answer.
+///
+/// # Errors
+///
+/// `AllocError` when memory runs out.
 pub(crate) fn push_value_line(report: &mut Vec<u8>, answer: Option<Val>) -> Result<(), AllocError>
     ensures { OnOk result (report.new.items ≡ report.old.items ++ value_line answer) }
 {
@@ -31,6 +39,10 @@ pub(crate) fn push_value_line(report: &mut Vec<u8>, answer: Option<Val>) -> Resu
 }
 
 /// Appends a word, a number and a line feed.
+///
+/// # Errors
+///
+/// `AllocError` when memory runs out.
 pub(crate) fn push_number_line(report: &mut Vec<u8>, word: &[u8], n: u64) -> Result<(), AllocError>
     ensures { OnOk result (report.new.items ≡ report.old.items ++ numbered_line word.now n) }
 {
@@ -39,6 +51,10 @@ pub(crate) fn push_number_line(report: &mut Vec<u8>, word: &[u8], n: u64) -> Res
 }
 
 /// Appends a word, a text and a line feed.
+///
+/// # Errors
+///
+/// `AllocError` when memory runs out.
 pub(crate) fn push_line(report: &mut Vec<u8>, word: &[u8], text: &[u8]) -> Result<(), AllocError>
     ensures { OnOk result (report.new.items ≡ report.old.items ++ (word.now ++ (text.now ++ codes "\n"))) }
 {

@@ -7,6 +7,10 @@ use crate::{Node, Wire};
 use std::alloc::{AllocError, Global};
 
 /// Equal wires.
+///
+/// # Errors
+///
+/// `AllocError` when memory runs out.
 pub(crate) fn copy_wires(alloc: Global, wires: &[Wire]) -> Result<Vec<Wire>, AllocError>
     ensures wires { IfOk result (λ v. map wire_of v.items ≡ map wire_of wires.now) }
     ensures size { IfOk result (λ v. length v.items ≡ length wires.now) }

@@ -1,15 +1,14 @@
 //! The term that a net was built of.
 
-ghost use Rattle.std.specs.Prelude.{◌≡◌, ◌↔◌, ◌≤◌, ◌<◌, ◌+◌, ◌*◌, ◌^◌, Option, Some, length, replicate, IfOk, IsTrue, IsFalse, [], ◌∷◌};
+ghost use Rattle.std.specs.Prelude.{◌≡◌, ◌↔◌, ◌≤◌, ◌<◌, ◌^◌, Some, replicate, IfOk, IsTrue, IsFalse, []};
 ghost use Rattle.std.specs.Option.{option_map};
-ghost use Rattle.pcf_values.specs.Terms.{nat, height, size};
+ghost use Rattle.pcf_values.specs.Terms.{nat};
 ghost use Rattle.pcf_values.specs.Typing.{HasType};
 ghost use Rattle.pcf_values.specs.Views.{term_of};
 ghost use Rattle.net_build.specs.NetOf.{net_of};
 ghost use Rattle.net_terms.specs.Limits.{most_term_height};
 ghost use Rattle.net_walks.specs.Passing.{mark};
 ghost use Rattle.net_terms.specs.TermOf.{candidate};
-ghost use Rattle.net_terms.specs.OfTerm.{IsNetOf, OfNone};
 ghost use Rattle.net_terms.specs.Answered.{TermOrNone};
 
 use crate::height::height_of;

@@ -17,7 +17,11 @@ use itoa::Buffer;
 use net_build::Node;
 use std::alloc::{AllocError, Global};
 
-/// The node of this number that has this line.
+/// The node of this number that has this line; `None` where no node has.
+///
+/// # Errors
+///
+/// `AllocError` when memory runs out.
 pub(crate) fn node_at(alloc: Global, k: u64, line: &[u8]) -> Result<Option<Node>, AllocError>
     ensures { IfOk result (λ o. o ≡ node_at k line.now) }
 {
