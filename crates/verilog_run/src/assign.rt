@@ -28,10 +28,7 @@ fn set_word(
 {
     let count = words(items, name)?;
     match at.within(count) {
-        Some(i) => {
-            store.set_word(alloc, name, count, i, number)?;
-            Ok(())
-        }
+        Some(i) => store.set_word(alloc, name, count, i, number),
         None => Ok(()),
     }
 }
@@ -50,14 +47,12 @@ pub(crate) fn assign(
     match place {
         Place::Whole(x) => {
             let number = assigned(alloc, items, store, x, e)?;
-            store.set_vector(alloc, x, number)?;
-            Ok(())
+            store.set_vector(alloc, x, number)
         }
         Place::Word(m, i) => {
             let at = own(alloc, items, store, i)?;
             let number = assigned(alloc, items, store, m, e)?;
-            set_word(alloc, items, store, m, &at, number)?;
-            Ok(())
+            set_word(alloc, items, store, m, &at, number)
         }
     }
 }
@@ -77,14 +72,12 @@ pub(crate) fn assign_next(
     match place {
         Place::Whole(x) => {
             let number = assigned(alloc, items, read, x, e)?;
-            store.set_vector(alloc, x, number)?;
-            Ok(())
+            store.set_vector(alloc, x, number)
         }
         Place::Word(m, i) => {
             let at = own(alloc, items, read, i)?;
             let number = assigned(alloc, items, read, m, e)?;
-            set_word(alloc, items, store, m, &at, number)?;
-            Ok(())
+            set_word(alloc, items, store, m, &at, number)
         }
     }
 }

@@ -94,10 +94,7 @@ pub(crate) fn put(
             cells[i].number = number;
             Ok(())
         }
-        None => {
-            add(alloc, cells, name, at, number)?;
-            Ok(())
-        }
+        None => add(alloc, cells, name, at, number),
     }
 }
 
@@ -123,8 +120,7 @@ fn add_copies(alloc: Global, out: &mut Vec<Cell>, cells: &[Cell]) -> Result<(), 
         [first, rest @ ..] => {
             let cell = copied(alloc, first)?;
             out.push(cell)?;
-            add_copies(alloc, out, rest)?;
-            Ok(())
+            add_copies(alloc, out, rest)
         }
     }
 }
@@ -148,10 +144,7 @@ pub(crate) fn number_at(
     ensures { IfOk result (λ n. n ≡ found (entries cells.now) (text_of name.now) at) }
 {
     match find(cells, name, at) {
-        Some(n) => {
-            let out = n.copy(alloc)?;
-            Ok(out)
-        }
+        Some(n) => n.copy(alloc),
         None => Ok(Number::zero(alloc)),
     }
 }
@@ -186,14 +179,10 @@ pub(crate) fn number_part(
     ensures { IfOk result (λ n. n ≡ fit count (found (entries cells.now) (text_of name.now) 0 / 2 ^ start)) }
 {
     match find(cells, name, 0) {
-        Some(n) => {
-            let out = n.part(alloc, start, count)?;
-            Ok(out)
-        }
+        Some(n) => n.part(alloc, start, count),
         None => {
             let zero = Number::zero(alloc);
-            let out = zero.part(alloc, start, count)?;
-            Ok(out)
+            zero.part(alloc, start, count)
         }
     }
 }

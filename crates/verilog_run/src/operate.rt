@@ -13,8 +13,7 @@ fn plus(alloc: Global, w: usize, m: &Number, n: &Number) -> Result<Number, Alloc
     ensures { IfOk result (λ r. r ≡ fit w (m.now + n.now)) }
 {
     let all = m.plus(alloc, n)?;
-    let out = all.low(alloc, w)?;
-    Ok(out)
+    all.low(alloc, w)
 }
 
 /// The product, cut to a width.
@@ -22,8 +21,7 @@ fn times(alloc: Global, w: usize, m: &Number, n: &Number) -> Result<Number, Allo
     ensures { IfOk result (λ r. r ≡ fit w (m.now * n.now)) }
 {
     let all = m.times(alloc, n)?;
-    let out = all.low(alloc, w)?;
-    Ok(out)
+    all.low(alloc, w)
 }
 
 /// The number with one bit more than a width has, put before another.
@@ -32,8 +30,7 @@ fn from_end(alloc: Global, w: usize, m: &Number) -> Result<Number, AllocError>
 {
     let one = Number::of(alloc, 1)?;
     let end = one.left(alloc, w)?;
-    let out = end.plus(alloc, m)?;
-    Ok(out)
+    end.plus(alloc, m)
 }
 
 /// The difference, from the other end where it is below 0, cut to a width.
@@ -42,8 +39,7 @@ fn minus(alloc: Global, w: usize, m: &Number, n: &Number) -> Result<Number, Allo
 {
     let from = from_end(alloc, w, m)?;
     let all = from.minus(alloc, n)?;
-    let out = all.low(alloc, w)?;
-    Ok(out)
+    all.low(alloc, w)
 }
 
 /// What an operator of two operands makes of them, at a width.
@@ -117,8 +113,7 @@ fn digit(b: bool) -> u128
 pub(crate) fn truth(alloc: Global, b: bool) -> Result<Number, AllocError>
     ensures { IfOk result (λ r. r ≡ flag b) }
 {
-    let out = Number::of(alloc, digit(b))?;
-    Ok(out)
+    Number::of(alloc, digit(b))
 }
 
 /// One number before another, which has so many bits.
@@ -126,8 +121,7 @@ pub(crate) fn cat(alloc: Global, a: &Number, b: &Number, w: usize) -> Result<Num
     ensures { IfOk result (λ r. r ≡ a.now * 2 ^ w + b.now) }
 {
     let front = a.left(alloc, w)?;
-    let out = front.plus(alloc, b)?;
-    Ok(out)
+    front.plus(alloc, b)
 }
 
 /// The bits of a width that a number hasn't.
@@ -135,8 +129,7 @@ pub(crate) fn inverse(alloc: Global, n: &Number, w: usize) -> Result<Number, All
     ensures { IfOk result (λ r. r ≡ 2 ^ w - 1 - n.now) }
 {
     let ones = Number::ones(alloc, w)?;
-    let out = ones.minus(alloc, n)?;
-    Ok(out)
+    ones.minus(alloc, n)
 }
 
 /// Whether each bit of a width is 1.

@@ -25,8 +25,7 @@ fn sized(alloc: Global, w: u64, n: u64) -> Result<Number, AllocError>
     ensures { IfOk result (λ m. m ≡ fit w n) }
 {
     let all = Number::of(alloc, n as u128)?;
-    let out = all.low(alloc, w as usize)?;
-    Ok(out)
+    all.low(alloc, w as usize)
 }
 
 /// A parameter, cut to its declared width.
@@ -36,8 +35,7 @@ fn constant(alloc: Global, items: &[Item<'_>], name: &[u8]) -> Result<Number, Al
 {
     let all = Number::of(alloc, param(items, name))?;
     let w = width(items, name)?;
-    let out = all.low(alloc, w)?;
-    Ok(out)
+    all.low(alloc, w)
 }
 
 /// A bit of a vector, where it has one.
@@ -53,10 +51,7 @@ fn bit_in(
 {
     let w = width(items, name)?;
     match at.within(w) {
-        Some(i) => {
-            let out = truth(alloc, store.bit(alloc, name, i))?;
-            Ok(out)
-        }
+        Some(i) => truth(alloc, store.bit(alloc, name, i)),
         None => Ok(Number::zero(alloc)),
     }
 }
@@ -78,8 +73,7 @@ fn part_in(
     if h < w {
         let l = amount(items, low)?;
         let count = part_bits(items, high, low)?;
-        let out = store.part(alloc, name, l, count)?;
-        return Ok(out);
+        return store.part(alloc, name, l, count);
     }
     Ok(Number::zero(alloc))
 }
@@ -97,10 +91,7 @@ fn word_in(
 {
     let count = words(items, name)?;
     match at.within(count) {
-        Some(i) => {
-            let out = store.word(alloc, name, i)?;
-            Ok(out)
-        }
+        Some(i) => store.word(alloc, name, i),
         None => Ok(Number::zero(alloc)),
     }
 }
@@ -116,8 +107,7 @@ pub(crate) fn own(
     ensures { IfOk result (λ n. n ≡ own_value (scope_of items.now) (held store.now) (expr_of e.now)) }
 {
     let w = bits(items, e)?;
-    let out = value(alloc, items, store, w, e)?;
-    Ok(out)
+    value(alloc, items, store, w, e)
 }
 
 /// One expression before another.
@@ -136,8 +126,7 @@ fn joined(
     let m = own(alloc, items, store, a)?;
     let n = own(alloc, items, store, b)?;
     let w = bits(items, b)?;
-    let out = cat(alloc, &m, &n, w)?;
-    Ok(out)
+    cat(alloc, &m, &n, w)
 }
 
 /// A comparison of two expressions, at the wider's width.
@@ -156,8 +145,7 @@ fn compared(
     let w = wider_bits(items, a, b)?;
     let m = value(alloc, items, store, w, a)?;
     let n = value(alloc, items, store, w, b)?;
-    let out = truth(alloc, test(comparison, &m, &n))?;
-    Ok(out)
+    truth(alloc, test(comparison, &m, &n))
 }
 
 /// Whether each bit of an expression is 1.
@@ -175,8 +163,7 @@ fn full(
     let n = own(alloc, items, store, a)?;
     let w = bits(items, a)?;
     let all = is_full(alloc, &n, w)?;
-    let out = truth(alloc, all)?;
-    Ok(out)
+    truth(alloc, all)
 }
 
 /// A bit of a vector at the place that an expression tells.
@@ -192,8 +179,7 @@ fn bit_told(
         (own_value (scope_of items.now) (held store.now) (expr_of at.now))) }
 {
     let i = own(alloc, items, store, at)?;
-    let out = bit_in(alloc, items, store, name, &i)?;
-    Ok(out)
+    bit_in(alloc, items, store, name, &i)
 }
 
 /// A word of a memory at the place that an expression tells.
@@ -209,8 +195,7 @@ fn word_told(
         (own_value (scope_of items.now) (held store.now) (expr_of at.now))) }
 {
     let i = own(alloc, items, store, at)?;
-    let out = word_in(alloc, items, store, name, &i)?;
-    Ok(out)
+    word_in(alloc, items, store, name, &i)
 }
 
 /// The bits that an expression hasn't.
@@ -225,8 +210,7 @@ fn inverted(
     ensures { IfOk result (λ n. n ≡ 2 ^ w - 1 - value_of (scope_of items.now) (held store.now) w (expr_of a.now)) }
 {
     let n = value(alloc, items, store, w, a)?;
-    let out = inverse(alloc, &n, w)?;
-    Ok(out)
+    inverse(alloc, &n, w)
 }
 
 /// An operator of two operands at the width around them.
@@ -245,8 +229,7 @@ fn worked(
 {
     let m = value(alloc, items, store, w, a)?;
     let n = value(alloc, items, store, w, b)?;
-    let out = two(alloc, operation, w, &m, &n)?;
-    Ok(out)
+    two(alloc, operation, w, &m, &n)
 }
 
 /// A shift at the width around it.
@@ -265,8 +248,7 @@ fn shifted(
 {
     let m = value(alloc, items, store, w, a)?;
     let n = own(alloc, items, store, b)?;
-    let out = shift(alloc, direction, w, &m, &n)?;
-    Ok(out)
+    shift(alloc, direction, w, &m, &n)
 }
 
 /// Two truth values together.
@@ -285,8 +267,7 @@ fn connected(
 {
     let m = own(alloc, items, store, a)?;
     let n = own(alloc, items, store, b)?;
-    let out = truth(alloc, logic(connective, is_true(&m), is_true(&n)))?;
-    Ok(out)
+    truth(alloc, logic(connective, is_true(&m), is_true(&n)))
 }
 
 /// Whether an expression is 0.
@@ -300,8 +281,7 @@ fn negated(
     ensures { IfOk result (λ n. n ≡ flag (nat_eq (own_value (scope_of items.now) (held store.now) (expr_of a.now)) 0)) }
 {
     let n = own(alloc, items, store, a)?;
-    let out = truth(alloc, n.is_zero())?;
-    Ok(out)
+    truth(alloc, n.is_zero())
 }
 
 /// Whether one bit of an expression is 1.
@@ -315,8 +295,7 @@ fn reduced(
     ensures { IfOk result (λ n. n ≡ flag (nonzero (own_value (scope_of items.now) (held store.now) (expr_of a.now)))) }
 {
     let n = own(alloc, items, store, a)?;
-    let out = truth(alloc, is_true(&n))?;
-    Ok(out)
+    truth(alloc, is_true(&n))
 }
 
 /// One of two expressions, by a third.
@@ -336,11 +315,9 @@ fn picked(
 {
     let n = own(alloc, items, store, c)?;
     if is_true(&n) {
-        let out = value(alloc, items, store, w, a)?;
-        return Ok(out);
+        return value(alloc, items, store, w, a);
     }
-    let out = value(alloc, items, store, w, b)?;
-    Ok(out)
+    value(alloc, items, store, w, b)
 }
 
 /// What an expression comes to where so many bits are wanted.
@@ -389,8 +366,7 @@ pub(crate) fn assigned(
     let w = width(items, name)?;
     let own_width = bits(items, e)?;
     let all = value(alloc, items, read, greater(w, own_width), e)?;
-    let out = all.low(alloc, w)?;
-    Ok(out)
+    all.low(alloc, w)
 }
 
 /// Whether one of the labels is a number.
@@ -411,8 +387,7 @@ pub(crate) fn labelled(
             if n.is_same(&m) {
                 return Ok(true);
             }
-            let among = labelled(alloc, items, read, w, n, rest)?;
-            Ok(among)
+            labelled(alloc, items, read, w, n, rest)
         }
     }
 }
