@@ -8,7 +8,6 @@ use Rattle.std.proofs.Math.Nat.{pow-le-pow_right}
 use Rattle.std.proofs.lemmas.Bool.{and_from, and_parts}
 use Rattle.std.proofs.lemmas.Grind.{pow_more}
 use Rattle.pcf_values.specs.Most.{most_demo}
-use Rattle.pcf_values.specs.declared.operator.Operator.TheVariants.{Plus}
 use Rattle.pcf_reader.specs.Grammar.{Written, plain, marked, expr_part, expr_text, program_text}
 use Rattle.pcf_reader.specs.Tokens.{Close, End, Open, Sign}
 use Rattle.pcf_reader.specs.Sizes.{node_count}
@@ -16,6 +15,7 @@ use Rattle.pcf_reader.specs.Text.{Each, IsShallow, count_of}
 use Rattle.pcf_reader.proofs.Bounds.{program_count}
 use Rattle.pcf_reader.proofs.Lists.{WritesNarrow, each_append}
 use Rattle.pcf_reader.proofs.Shows.{all_low, low_bytes, low_scalars}
+use Rattle.demo_text.specs.Demo.{demo_operator}
 use Rattle.demo_text.specs.Text.{demo_text, sum_text}
 use Rattle.demo_text.proofs.Phrases.{demo_end, demo_program, right_of, sum_end, sum_phrase, sum_tokens, sum_width, tail_tokens}
 
@@ -95,7 +95,7 @@ sum_shallow (suc k) o at small =
     let close_2 : Written = plain (right_of k at + sum_width k) Close in
     let here : max 0 o < 500 = omega (arith, small) in
     let more : List Written =
-    marked ((close.at + 1) + 1) (Sign Plus) (suc (expr_part (sum_phrase k (at + 1))).height) 1 ∷
+    marked ((close.at + 1) + 1) (Sign demo_operator) (suc (expr_part (sum_phrase k (at + 1))).height) 1 ∷
     marked ((close.at + 1) + 3) Open (max 0 o) 0
     ∷ (second ++ close_2 ∷ []) in
     let plus : suc (expr_part (sum_phrase k (at + 1))).height < 500 = omega (arith, small, sum_height k (at + 1)) in (
@@ -142,7 +142,7 @@ sum_narrow (suc k) o at =
     let close : Written = plain ((at + 1) + sum_width k) Close in
     let close_2 : Written = plain (right_of k at + sum_width k) Close in
     let more : List Written =
-    marked ((close.at + 1) + 1) (Sign Plus) (suc (expr_part (sum_phrase k (at + 1))).height) 1 ∷
+    marked ((close.at + 1) + 1) (Sign demo_operator) (suc (expr_part (sum_phrase k (at + 1))).height) 1 ∷
     marked ((close.at + 1) + 3) Open (max 0 o) 0
     ∷ (second ++ close_2 ∷ []) in (
       tt,

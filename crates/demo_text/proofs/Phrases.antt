@@ -1,12 +1,12 @@
 -- The phrase that the text of the generated program is written by, with the places of its tokens.
 use Rattle.std.specs.Prelude.{ℕ, zero, suc, ◌+◌, List, codes}
 use Rattle.std.proofs.Common.{refl}
-use Rattle.pcf_values.specs.declared.operator.Operator.TheVariants.{Plus}
 use Rattle.pcf_values.specs.Named.{the_fun}
 use Rattle.pcf_reader.specs.Grammar.{only_ptype, arrow_type, PType, only_tatom, nat_type, Expr, binding, only_sum, Sum, only_product}
 use Rattle.pcf_reader.specs.Grammar.{summed, only_app, only_atom, applied, Atom, numeral, variable, parens, Program, Written, atom_part}
 use Rattle.pcf_reader.specs.Grammar.{atom_text}
 use Rattle.pcf_reader.specs.Grammar.{expr_text}
+use Rattle.demo_text.specs.Demo.{demo_operator}
 
 -- the length of the text of a sum
 abbrev pub sum_width : ℕ → ℕ
@@ -31,7 +31,7 @@ sum_phrase zero at = only_sum (only_product (only_app (applied (only_atom (varia
 sum_phrase (suc depth) at =
     let close = (at + 1) + sum_width depth in
     let right = right_of depth at in
-    only_sum (summed (atom_phrase (parens at (sum_phrase depth (at + 1)) close)) ((close + 1) + 1) Plus refl
+    only_sum (summed (atom_phrase (parens at (sum_phrase depth (at + 1)) close)) ((close + 1) + 1) demo_operator refl
     (only_app (only_atom (parens ((close + 1) + 3) (sum_phrase depth right) (right + sum_width depth)))))
 
 -- the place behind the sum of the program
@@ -54,7 +54,7 @@ right_at at = (left_at at + 1) + 3
 abbrev pub doubler_phrase : ℕ → Expr
 doubler_phrase at =
     binding at the_fun (at + 4) (codes "x") ((at + 4) + 1) (only_ptype (nat_phrase (((at + 4) + 1) + 1))) ((((at + 4) + 1) + 1) + 3)
-    (only_sum (summed (atom_phrase (variable (left_at at) (codes "x"))) ((left_at at + 1) + 1) Plus refl
+    (only_sum (summed (atom_phrase (variable (left_at at) (codes "x"))) ((left_at at + 1) + 1) demo_operator refl
     (only_app (only_atom (variable (right_at at) (codes "x"))))))
 
 -- where the doubling function's parenthesis opens, and where it closes

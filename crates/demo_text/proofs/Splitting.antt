@@ -3,7 +3,6 @@ use Rattle.std.proofs.Common.{◌≡◌, ℕ, zero, suc, ◌+◌, max, List, [],
 use Rattle.std.proofs.Common.{arith, append_assoc}
 use Rattle.std.specs.Prelude.{codes}
 use Rattle.std.proofs.lemmas.List.{map-append}
-use Rattle.pcf_values.specs.declared.operator.Operator.TheVariants.{Plus}
 use Rattle.pcf_values.specs.Named.{the_fun}
 use Rattle.pcf_reader.specs.Tokens.{Open, Close, Colon, Dot, Sign, Arrow, Nat, Bind, Number, Name, End, Placed}
 use Rattle.pcf_reader.specs.Grammar.{Written, placed, plain, marked, expr_part, expr_text, program_text}
@@ -12,6 +11,7 @@ use Rattle.pcf_reader.proofs.Pieces.{Clear, clear_by, place_at, blank_piece, key
 use Rattle.pcf_reader.proofs.Lexed.{at_place, arrow_longest, longest_number}
 use Rattle.pcf_reader.proofs.Canon.{space, closes, colon_clear, dot_clear, open_piece, close_piece, colon_piece, dot_piece, op_piece}
 use Rattle.pcf_reader.proofs.Canon.{nat_piece, binder_splits}
+use Rattle.demo_text.specs.Demo.{demo_operator}
 use Rattle.demo_text.specs.Text.{demo_text, sum_text}
 use Rattle.demo_text.proofs.Phrases.{close_at, demo_end, demo_program, doubler_phrase, left_at, open_at, right_at, right_of, sum_end}
 use Rattle.demo_text.proofs.Phrases.{sum_phrase, sum_tokens, sum_width, tail_tokens}
@@ -81,20 +81,21 @@ sum_splits (suc depth) o at rest items h =
     let first : List Written = expr_text (suc o) (sum_phrase depth (at + 1)) in
     let second : List Written = expr_text (suc o) (sum_phrase depth right) in
     let more : List Written =
-    marked ((close + 1) + 1) (Sign Plus) (suc (expr_part (sum_phrase depth (at + 1))).height) 1 ∷
+    marked ((close + 1) + 1) (Sign demo_operator) (suc (expr_part (sum_phrase depth (at + 1))).height) 1 ∷
     marked ((close + 1) + 3) Open (max 0 o) 0 ∷
     (second ++ plain (right + w) Close ∷ []) in
     let tokens : map placed ((first ++ plain close Close ∷ []) ++ more) ++ items
-    ≡ map placed first ++ (at_place close Close ∷ at_place ((close + 1) + 1) (Sign Plus) ∷ at_place ((close + 1) + 3) Open
+    ≡ map placed first ++ (at_place close Close ∷ at_place ((close + 1) + 1) (Sign demo_operator) ∷ at_place ((close + 1) + 3) Open
     ∷ (map placed second ++ (at_place (right + w) Close ∷ items))) =
     then_more first (plain close Close) more items
-    ∙ ap (λ z. map placed first ++ (at_place close Close ∷ at_place ((close + 1) + 1) (Sign Plus) ∷ at_place ((close + 1) + 3) Open ∷ z))
+    ∙ ap (λ z. map placed first ++ (at_place close Close ∷ at_place ((close + 1) + 1) (Sign demo_operator) ∷
+    at_place ((close + 1) + 3) Open ∷ z))
     (then_none second (plain (right + w) Close) items) in
     subst (λ z. Splits at (40 ∷ z) (map placed (expr_text o (sum_phrase (suc depth) at)) ++ items))
     (sym (doubled_before s (41 ∷ rest)))
     (subst (λ z. Splits at (40 ∷ (s ++ (codes ") + (" ++ (s ++ (41 ∷ 41 ∷ rest))))) (at_place at Open ∷ z)) (sym tokens)
     (open_piece at _ _ (sum_splits depth (suc o) (at + 1) (codes " + (" ++ (s ++ (41 ∷ 41 ∷ rest))) _ (close_piece close _ _
-    (op_piece Plus (close + 1) _ _ (open_piece ((close + 1) + 3) _ _
+    (op_piece demo_operator (close + 1) _ _ (open_piece ((close + 1) + 3) _ _
     (sum_splits depth (suc o) right (41 ∷ rest) _ (close_piece (right + w) _ _
     (to (at + (w + w + 7)) ((right + w) + 1) _ _ (omega arith) h)))))))))
 
@@ -107,7 +108,7 @@ doubler_splits o at rest items h =
     binder_splits the_fun at _ _ (x_piece (at + 4) _ _ (colon_clear (codes "nat. x + x)" ++ rest)) (colon_piece ((at + 4) + 1) _ _
     (nat_piece (((at + 4) + 1) + 1) _ _ (dot_clear (codes " x + x)" ++ rest)) (dot_piece ((((at + 4) + 1) + 1) + 3) _ _
     (blank_piece (((((at + 4) + 1) + 1) + 3) + 1) _ _
-    (x_piece (left_at at) _ _ (space (codes "+ x)" ++ rest)) (op_piece Plus (left_at at + 1) _ _
+    (x_piece (left_at at) _ _ (space (codes "+ x)" ++ rest)) (op_piece demo_operator (left_at at + 1) _ _
     (x_piece (right_at at) _ _ (closes rest) h))))))))
 
 -- a dash ends a word
