@@ -5,8 +5,8 @@ use Rattle.std.proofs.lemmas.Bool.{ltb-true, ltb-false, ne_eqb}
 use Rattle.pcf_values.specs.declared.val.Val.{Val}
 use Rattle.pcf_values.specs.declared.val.Val.TheVariants.{Number, Overflow}
 use Rattle.pcf_values.specs.declared.operator.Operator.{Operator}
-use Rattle.pcf_values.specs.declared.operator.Operator.TheVariants.{Plus, Minus, Times}
 use Rattle.pcf_values.specs.Values.{within, val_op}
+use Rattle.pcf_values.proofs.Arithmetic.{IsSmall, within_small as is_small, op_small as op_is_small}
 use Rattle.verilog_tree.specs.Meaning.{flag, fit, nonzero, chosen}
 use Rattle.circuit_module.specs.Stands.{value_number, Small}
 
@@ -65,21 +65,18 @@ times_number p l = go (nat_lt p (2 ^ 64)) refl
         some_number : (m : ℕ) → nonzero (suc m) ≡ true
         some_number m = ap not (ne_eqb (suc m) 0 (λ z. omega arith))
 
+-- a value whose number is small, said in either way
+to_small : (v : Val) → IsSmall v → Small v
+to_small (Number n) h = h
+to_small Overflow h = tt
+
+from_small : (v : Val) → Small v → IsSmall v
+from_small (Number n) h = h
+from_small Overflow h = tt
+
 -- what both come to is below 2 ^ 64, where both are
 pub within_small : (n : ℕ) → Small (within n)
-within_small n = go (nat_lt n (2 ^ 64)) refl
-  where
-    go : (b : Bool) → nat_lt n (2 ^ 64) ≡ b → Small (cond b (Number n) Overflow)
-    go true e = ltb-true n (2 ^ 64) e
-    go false e = tt
+within_small n = to_small (within n) (is_small n)
 
 pub op_small : (o : Operator) (x y : Val) → Small x → Small y → Small (val_op o x y)
-op_small Plus (Number a) (Number b) s t = within_small (a + b)
-op_small Minus (Number a) (Number b) s t = omega arith
-op_small Times (Number a) (Number b) s t = within_small (a * b)
-op_small Plus (Number a) Overflow s t = tt
-op_small Minus (Number a) Overflow s t = tt
-op_small Times (Number a) Overflow s t = tt
-op_small Plus Overflow y s t = tt
-op_small Minus Overflow y s t = tt
-op_small Times Overflow y s t = tt
+op_small o x y s t = to_small (val_op o x y) (op_is_small o x y (from_small x s))

@@ -2,7 +2,7 @@
 use Rattle.std.proofs.Common.{◌≡◌, ℕ, zero, suc, ◌<◌, Bool, true, false, ◌||◌, cond, List, [], ◌∷◌, length, Option, Some, None}
 use Rattle.std.proofs.Common.{refl, sym, ap, ◌∙◌, subst, arith, nat_eq, nat_lt, ⊎_elim, inl, inr, slice_get}
 use Rattle.std.proofs.lemmas.Bool.{ltb-true}
-use Rattle.pcf_values.specs.declared.operator.Operator.TheVariants.{Plus, Minus, Times}
+use Rattle.pcf_values.specs.declared.operator.Operator.{Operator}
 use Rattle.pcf_values.specs.declared.side.Side.TheVariants.{Left, Right}
 use Rattle.net_build.specs.declared.node.Node.{Node}
 use Rattle.net_build.specs.declared.node.Node.TheVariants.{Const, Succ, Pred, Binary, Ifz, Der, Con, Weak, Lam, App, BoxNode, Door}
@@ -12,7 +12,7 @@ use Rattle.net_build.specs.Faces.{has, least}
 use Rattle.net_build.specs.Sound.{Sound, In, Is, Meets, roots}
 use Rattle.interleave_laws.specs.Start.{root_wire}
 use Rattle.circuit_core.specs.Rows.{Channel, rises, falls, Row, JOIN, STAR, UNSTAR, row_up, row_down, if_at, found_row, row_of}
-use Rattle.circuit_module.specs.Module.{is_times, multiplies}
+use Rattle.circuit_module.specs.Module.{is_product, is_times, multiplies}
 use Rattle.circuit_module.specs.InRange.{Named, RowFits, InRange, SmallConstants, FewWires}
 
 -- a wire that is there
@@ -52,10 +52,11 @@ root_in (Pair a b w ∷ ns) h = inr (root_in ns h)
 root_in (Proj s a w ∷ ns) h = inr (root_in ns h)
 
 -- a node that multiplies
-times_there : (ns : List Node) (a b w : ℕ) → In (Binary Times a b w) ns → multiplies ns ≡ true
-times_there [] a b w h = absurd h
-times_there (n ∷ ns) a b w h =
-    ⊎_elim (λ e. subst (λ n. multiplies (n ∷ ns) ≡ true) e refl) (λ i. either_true (is_times n) (multiplies ns) (times_there ns a b w i)) h
+times_there : (ns : List Node) (o : Operator) (a b w : ℕ) → is_product o ≡ true → In (Binary o a b w) ns → multiplies ns ≡ true
+times_there [] o a b w p h = absurd h
+times_there (n ∷ ns) o a b w p h =
+    ⊎_elim (λ e. subst (λ n. multiplies (n ∷ ns) ≡ true) e (ap (λ b. b || multiplies ns) p))
+    (λ i. either_true (is_times n) (multiplies ns) (times_there ns o a b w p i)) h
   where
     either_true : (a b : Bool) → b ≡ true → (a || b) ≡ true
     either_true true b h = refl
@@ -63,7 +64,7 @@ times_there (n ∷ ns) a b w h =
 
 -- whether a row multiplies
 abbrev row_times : Row → Bool
-row_times (JOIN Times s w) = true
+row_times (JOIN o s w) = is_product o
 row_times r = false
 
 module _ (net : NetTree) (sound : Sound net) (consts : SmallConstants net) where
@@ -168,9 +169,11 @@ module _ (net : NetTree) (sound : Sound net) (consts : SmallConstants net) where
   down_times (Const v c) w i h = absurd cc
   down_times (Succ a c) w i h = absurd cc
   down_times (Pred a c) w i h = absurd cc
-  down_times (Binary Plus a b c) w i h = absurd (either_times a w _ _ refl refl h)
-  down_times (Binary Minus a b c) w i h = absurd (either_times a w _ _ refl refl h)
-  down_times (Binary Times a b c) w i h = times_there net.nodes a b c i
+  down_times (Binary o a b c) w i h = go (is_product o) refl
+    where
+      go : (t : Bool) → is_product o ≡ t → multiplies net.nodes ≡ true
+      go true e = times_there net.nodes o a b c e i
+      go false e = absurd (either_times a w _ _ e e h)
   down_times (Ifz b p q c) w i h = absurd (either_times b w _ _ refl refl h)
   down_times (Der v x) w i h = absurd cc
   down_times (Con l r c) w i h = absurd (either_times l w _ _ refl refl h)
@@ -227,5 +230,5 @@ module _ (net : NetTree) (sound : Sound net) (consts : SmallConstants net) where
     places = λ c p h. (found c p h).named;
     start = up_named (root_wire net.nodes)
         (low (root_wire net.nodes) _ (sound.rows (Root (root_wire net.nodes)) (root_in net.nodes sound.one_root)));
-    multiplier = λ c p h o s w e t. (found c p h).times (ap row_times e ∙ ap (λ o. row_times (JOIN o s w)) t);
+    multiplier = λ c p h o s w e t. (found c p h).times (ap row_times e ∙ t);
   }

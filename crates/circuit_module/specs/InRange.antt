@@ -1,7 +1,6 @@
 -- A net whose rows fit the fields of its module: the statement of `law_in_range`.
 use Rattle.std.specs.Prelude.{◌≡◌, ◌<◌, ℕ, ◌*◌, ◌^◌, true, length, Some}
 use Rattle.pcf_values.specs.declared.operator.Operator.{Operator}
-use Rattle.pcf_values.specs.declared.operator.Operator.TheVariants.{Times}
 use Rattle.pcf_values.specs.declared.side.Side.{Side}
 use Rattle.net_build.specs.declared.node.Node.TheVariants.{Const}
 use Rattle.net_build.specs.Nets.{NetTree}
@@ -10,7 +9,7 @@ use Rattle.interleave_laws.specs.Start.{start_of}
 use Rattle.circuit_core.specs.Rows.{Channel, falls, number, Row, GO, CONST, SUCC, PRED, TEST, FORK, JOIN, ANSWER, STAR, UNSTAR, LEFT, RIGHT}
 use Rattle.circuit_core.specs.Rows.{CON, PUSHR, PUSHL, SELECT, POP, BOXIN, BOXOUT, DOOROUT, DOORIN, FIXIN, FIXOUT, FIXVAR, DEAD, row_of}
 use Rattle.circuit_core.specs.Rows.{channel_of}
-use Rattle.circuit_module.specs.Module.{multiplies}
+use Rattle.circuit_module.specs.Module.{is_product, multiplies}
 
 -- the channel of one of so many wires
 abbrev pub Named : ℕ → Channel → Type 0
@@ -51,8 +50,8 @@ pub record InRange (net : NetTree) : Type 0 where
   pub few : 2 * length net.wires < 2 ^ 31
   pub start : Named (length net.wires) (channel_of (start_of net))
   -- where a row multiplies, a node does
-  pub multiplier : (c : Channel) (p : ℕ × Row) → row_of net c ≡ Some p → (o : Operator) (s : Side) (w : ℕ) → p.1 ≡ JOIN o s w → o ≡ Times →
-      multiplies net.nodes ≡ true
+  pub multiplier : (c : Channel) (p : ℕ × Row) → row_of net c ≡ Some p → (o : Operator) (s : Side) (w : ℕ) → p.1 ≡ JOIN o s w →
+      is_product o ≡ true → multiplies net.nodes ≡ true
 
 -- the channels of a net are numbers without a width
 abbrev pub FewWires : NetTree → Type 0

@@ -70,9 +70,14 @@ row_arms net w zero = otherwise skip
 row_arms net w (suc k) =
     row_arm (rises w) (row_of net (rises w)) (row_arm (falls w) (row_of net (falls w)) (row_arms net (suc w) k))
 
+-- an operator whose answer takes a multiplier
+abbrev pub is_product : Operator → Bool
+is_product Times = true
+is_product o = false
+
 -- a node multiplies
 abbrev pub is_times : Node → Bool
-is_times (Binary Times a b w) = true
+is_times (Binary o a b w) = is_product o
 is_times n = false
 
 -- one of the nodes does
