@@ -3,7 +3,8 @@ use Rattle.std.proofs.Common.{◌≡◌, ℕ, ◌+◌, ◌^◌, ◌<◌, true, f
 use Rattle.std.proofs.Common.{arith}
 use Rattle.std.proofs.lemmas.Nat.{pow_pos}
 use Prim.Native.String.{String}
-use Rattle.pcf_values.specs.declared.operator.Operator.TheVariants.{Plus, Minus, Times}
+use Rattle.pcf_values.specs.declared.operator.Operator.{Operator}
+use Rattle.pcf_values.proofs.Operators.{for_each}
 use Rattle.net_build.specs.Nets.{NetTree}
 use Rattle.circuit_core.specs.Rows.{Channel, falls, number, Row, GO, CONST, SUCC, PRED, TEST, FORK, JOIN, ANSWER, STAR, UNSTAR, LEFT}
 use Rattle.circuit_core.specs.Rows.{RIGHT, CON, PUSHR, PUSHL, SELECT, POP, BOXIN, BOXOUT, DOOROUT, DOORIN, FIXIN, FIXOUT, FIXVAR, DEAD}
@@ -183,9 +184,10 @@ module _ (net : NetTree) (z : Sizes) (T : Store) where
     does_is (PRED c) = refl
     does_is (TEST c d) = refl
     does_is (FORK c d) = refl
-    does_is (JOIN Plus s w) = refl
-    does_is (JOIN Minus s w) = refl
-    does_is (JOIN Times s w) = refl
+    does_is (JOIN o s w) = of_join o
+      where
+        of_join : (o : Operator) → fit 28 ((run P (row_stmt (JOIN o s w)) D).vec "op") ≡ word_of (deeds_of (JOIN o s w))
+        of_join = for_each _ _ refl
     does_is ANSWER = refl
     does_is (STAR c) = refl
     does_is (UNSTAR c) = refl

@@ -5,7 +5,7 @@ use Rattle.std.proofs.lemmas.Bool.{lt-ltb}
 use Prim.Native.String.{String}
 use Rattle.pcf_values.specs.declared.val.Val.{Val}
 use Rattle.pcf_values.specs.declared.operator.Operator.{Operator}
-use Rattle.pcf_values.specs.declared.operator.Operator.TheVariants.{Plus, Minus, Times}
+use Rattle.pcf_values.proofs.Operators.{for_each}
 use Rattle.pcf_values.specs.declared.side.Side.{Side}
 use Rattle.net_build.specs.Nets.{NetTree}
 use Rattle.circuit_core.specs.Rows.{number, falls, JOIN}
@@ -49,18 +49,21 @@ module _ (net : NetTree) (z : Sizes) (T : Store) (rst : T.vec "rst" ≡ 0) where
   abbrev W : Store
   W = settled P way_wires T
 
-  -- what a join's word makes of it
-  record Joining (d : ℕ) : Type 0 where
-    pub first : (way net z T rst d).vec "first_answer" ≡ fit 1 (flag (nonzero (flag (nat_eq ((way net z T rst d).vec "answered") 0))))
-    pub second : (way net z T rst d).vec "second_answer" ≡ fit 1 (flag (nonzero ((way net z T rst d).vec "answered")))
-    pub goes : (way net z T rst d).vec "goes" ≡ fit C (chosen (nonzero ((way net z T rst d).vec "first_answer"))
-        ((way net z T rst d).vec "fork_at") (T.vec "main"))
-    pub back : (way net z T rst d).vec "back" ≡ 0
+  -- the wires where a join's word is known
+  abbrev at_join : Operator → Side → ℕ → Store
+  at_join o s w = way net z T rst (word_of (deeds_of (JOIN o s w)))
 
-  joining : (o : Operator) (s : Side) (w : ℕ) → Joining (word_of (deeds_of (JOIN o s w)))
-  joining Plus s w = record { first = refl; second = refl; goes = refl; back = refl }
-  joining Minus s w = record { first = refl; second = refl; goes = refl; back = refl }
-  joining Times s w = record { first = refl; second = refl; goes = refl; back = refl }
+  -- what it makes of them, whatever the operator is
+  record Joining (s : Side) (w : ℕ) : Type 0 where
+    pub first : (o : Operator) → (at_join o s w).vec "first_answer" ≡
+        fit 1 (flag (nonzero (flag (nat_eq ((at_join o s w).vec "answered") 0))))
+    pub second : (o : Operator) → (at_join o s w).vec "second_answer" ≡ fit 1 (flag (nonzero ((at_join o s w).vec "answered")))
+    pub goes : (o : Operator) → (at_join o s w).vec "goes" ≡ fit C (chosen (nonzero ((at_join o s w).vec "first_answer"))
+        ((at_join o s w).vec "fork_at") (T.vec "main"))
+    pub back : (o : Operator) → (at_join o s w).vec "back" ≡ 0
+
+  joining : (s : Side) (w : ℕ) → Joining s w
+  joining s w = record { first = for_each _ _ refl; second = for_each _ _ refl; goes = for_each _ _ refl; back = for_each _ _ refl }
 
   module _ (o : Operator) (s : Side) (w : ℕ) (row : IsRow T (JOIN o s w)) where
     abbrev d : ℕ
@@ -99,36 +102,36 @@ module _ (net : NetTree) (z : Sizes) (T : Store) (rst : T.vec "rst" ≡ 0) where
       -- the second answer: to where both go
       pub way_second : (u : Val) → f.answered ≡ Some u → Named (length net.wires) (falls w) → Way net z T (falls w) 0 1 0
       way_second u e n = record {
-        goes = as_told "goes" ∙ (joining o s w).goes
+        goes = as_told "goes" ∙ (joining s w).goes o
             ∙ ap (λ x. fit C (chosen (nonzero x) ((way net z T rst d).vec "fork_at") (T.vec "main"))) none
             ∙ ap (fit C) row.main ∙ channel_fits (length net.wires) (falls w) n;
         first = as_told "first_answer" ∙ none;
-        second = as_told "second_answer" ∙ (joining o s w).second ∙ ap (λ x. fit 1 (flag (nonzero x))) there;
-        back = as_told "back" ∙ (joining o s w).back;
+        second = as_told "second_answer" ∙ (joining s w).second o ∙ ap (λ x. fit 1 (flag (nonzero x))) there;
+        back = as_told "back" ∙ (joining s w).back o;
       }
         where
           there : (way net z T rst d).vec "answered" ≡ 1
           there = answered_told ∙ ap (λ a. flag (is_some a)) e
 
           none : (way net z T rst d).vec "first_answer" ≡ 0
-          none = (joining o s w).first ∙ ap (λ x. fit 1 (flag (nonzero (flag (nat_eq x 0))))) there
+          none = (joining s w).first o ∙ ap (λ x. fit 1 (flag (nonzero (flag (nat_eq x 0))))) there
 
       -- the first one: the fork's right question is next
       pub way_first : f.answered ≡ None → Named (length net.wires) f.channel → Way net z T f.channel 1 0 0
       way_first e named = record {
-        goes = as_told "goes" ∙ (joining o s w).goes
+        goes = as_told "goes" ∙ (joining s w).goes o
             ∙ ap (λ x. fit C (chosen (nonzero x) ((way net z T rst d).vec "fork_at") (T.vec "main"))) one
             ∙ ap (fit C) fork_at_is ∙ channel_fits (length net.wires) f.channel named;
         first = as_told "first_answer" ∙ one;
-        second = as_told "second_answer" ∙ (joining o s w).second ∙ ap (λ x. fit 1 (flag (nonzero x))) there;
-        back = as_told "back" ∙ (joining o s w).back;
+        second = as_told "second_answer" ∙ (joining s w).second o ∙ ap (λ x. fit 1 (flag (nonzero x))) there;
+        back = as_told "back" ∙ (joining s w).back o;
       }
         where
           there : (way net z T rst d).vec "answered" ≡ 0
           there = answered_told ∙ ap (λ a. flag (is_some a)) e
 
           one : (way net z T rst d).vec "first_answer" ≡ 1
-          one = (joining o s w).first ∙ ap (λ x. fit 1 (flag (nonzero (flag (nat_eq x 0))))) there
+          one = (joining s w).first o ∙ ap (λ x. fit 1 (flag (nonzero (flag (nat_eq x 0))))) there
 
           some_channel : 1 ≤ C
           some_channel = at_least C (number f.channel) (length net.wires) named (enough_bits (2 * length net.wires))
@@ -172,26 +175,24 @@ module _ (net : NetTree) (z : Sizes) (Q : Store) where
   abbrev lists_at : (d : ℕ) → Store
   lists_at d = settled PQ list_wires (set_vec "back" 0 (set_vec "does" d Q))
 
-  -- what a join's word makes of the lists
-  record Lists (d : ℕ) : Type 0 where
-    pub marks : (lists_at d).vec "next_marks" ≡ fit D (Q.vec "marks")
-    pub sigs : (lists_at d).vec "next_sigs" ≡ fit G (fit G (Q.vec "sigs"))
-    pub boxes : (lists_at d).vec "next_boxes" ≡ fit BB (Q.vec "fork_boxes")
+  -- what a join's word makes of the lists, whatever the operator is
+  record Lists (s : Side) (v : ℕ) : Type 0 where
+    pub marks : (o : Operator) → (lists_at (word_of (deeds_of (JOIN o s v)))).vec "next_marks" ≡ fit D (Q.vec "marks")
+    pub sigs : (o : Operator) → (lists_at (word_of (deeds_of (JOIN o s v)))).vec "next_sigs" ≡ fit G (fit G (Q.vec "sigs"))
+    pub boxes : (o : Operator) → (lists_at (word_of (deeds_of (JOIN o s v)))).vec "next_boxes" ≡ fit BB (Q.vec "fork_boxes")
 
-  listing : (o : Operator) (s : Side) (v : ℕ) → Lists (word_of (deeds_of (JOIN o s v)))
-  listing Plus s v = record { marks = refl; sigs = refl; boxes = refl }
-  listing Minus s v = record { marks = refl; sigs = refl; boxes = refl }
-  listing Times s v = record { marks = refl; sigs = refl; boxes = refl }
+  listing : (s : Side) (v : ℕ) → Lists s v
+  listing s v = record { marks = for_each _ _ refl; sigs = for_each _ _ refl; boxes = for_each _ _ refl }
 
   -- at an answer no mark and no signature is left, and the boxes are the fork's
   pub lists_join : (o : Operator) (s : Side) (v : ℕ) (ps : List Pointer) → Q.vec "does" ≡ word_of (deeds_of (JOIN o s v)) →
       Q.vec "back" ≡ 0 → Q.vec "marks" ≡ marks_number [] → Q.vec "sigs" ≡ pointers_number w [] → Q.vec "fork_boxes" ≡ pointers_number w ps →
       Within z.cells ps → length ps ≤ z.boxes → Listed net z Q (asked ps)
   lists_join o s v ps ed eb em es ex h l = record {
-    marks = ap (λ (X : Store). X.vec "next_marks") at_word ∙ (listing o s v).marks ∙ ap (fit D) em ∙ zero_fits D;
-    sigs = ap (λ (X : Store). X.vec "next_sigs") at_word ∙ (listing o s v).sigs ∙ ap (λ n. fit G (fit G n)) es ∙ ap (fit G) (zero_fits G)
+    marks = ap (λ (X : Store). X.vec "next_marks") at_word ∙ (listing s v).marks o ∙ ap (fit D) em ∙ zero_fits D;
+    sigs = ap (λ (X : Store). X.vec "next_sigs") at_word ∙ (listing s v).sigs o ∙ ap (λ n. fit G (fit G n)) es ∙ ap (fit G) (zero_fits G)
         ∙ zero_fits G;
-    boxes = ap (λ (X : Store). X.vec "next_boxes") at_word ∙ (listing o s v).boxes ∙ ap (fit BB) ex
+    boxes = ap (λ (X : Store). X.vec "next_boxes") at_word ∙ (listing s v).boxes o ∙ ap (fit BB) ex
         ∙ fits BB (pointers_number w ps) (list_fits z.cells z.boxes ps h l);
   }
     where
@@ -200,19 +201,26 @@ module _ (net : NetTree) (z : Sizes) (Q : Store) where
           (known "does" (word_of (deeds_of (JOIN o s v))) Q ed
           ∙ known "back" 0 (set_vec "does" (word_of (deeds_of (JOIN o s v))) Q) eb)
 
-  -- what a join's word makes of the forks' wires
-  record Tail (d : ℕ) : Type 0 where
-    pub depth : (F : Store) → (tail_at net z Q d 0 F).vec "next_depth" ≡ fit S (F.vec "depth")
-    pub slot : (F : Store) → (tail_at net z Q d 0 F).vec "slot" ≡
-        fit S (fit S (fit (max S (max S 32)) (2 ^ max S (max S 32) + F.vec "depth" - 1)))
-    pub depth2 : (F : Store) → (tail_at net z Q d 1 F).vec "next_depth" ≡
-        fit S (fit S (fit (max S (max S 32)) (2 ^ max S (max S 32) + F.vec "depth" - 1)))
-    pub top : (s : ℕ) (F : Store) → (tail_at net z Q d s F).vec "next_top" ≡ fit (place_bits z.cells) (F.vec "fork_top")
+  -- the forks' wires where a join's word is known
+  abbrev forks_at : Operator → Side → ℕ → ℕ → Store → Store
+  forks_at o s v n F = tail_at net z Q (word_of (deeds_of (JOIN o s v))) n F
 
-  tailing : (o : Operator) (s : Side) (v : ℕ) → Tail (word_of (deeds_of (JOIN o s v)))
-  tailing Plus s v = record { depth = λ F. refl; slot = λ F. refl; depth2 = λ F. refl; top = λ t F. refl }
-  tailing Minus s v = record { depth = λ F. refl; slot = λ F. refl; depth2 = λ F. refl; top = λ t F. refl }
-  tailing Times s v = record { depth = λ F. refl; slot = λ F. refl; depth2 = λ F. refl; top = λ t F. refl }
+  -- what it makes of them, whatever the operator is
+  record Tail (s : Side) (v : ℕ) : Type 0 where
+    pub depth : (F : Store) (o : Operator) → (forks_at o s v 0 F).vec "next_depth" ≡ fit S (F.vec "depth")
+    pub slot : (F : Store) (o : Operator) → (forks_at o s v 0 F).vec "slot" ≡
+        fit S (fit S (fit (max S (max S 32)) (2 ^ max S (max S 32) + F.vec "depth" - 1)))
+    pub depth2 : (F : Store) (o : Operator) → (forks_at o s v 1 F).vec "next_depth" ≡
+        fit S (fit S (fit (max S (max S 32)) (2 ^ max S (max S 32) + F.vec "depth" - 1)))
+    pub top : (n : ℕ) (F : Store) (o : Operator) → (forks_at o s v n F).vec "next_top" ≡ fit (place_bits z.cells) (F.vec "fork_top")
+
+  tailing : (s : Side) (v : ℕ) → Tail s v
+  tailing s v = record {
+    depth = λ F. for_each _ _ refl;
+    slot = λ F. for_each _ _ refl;
+    depth2 = λ F. for_each _ _ refl;
+    top = λ n F. for_each _ _ refl;
+  }
 
   module _ (o : Operator) (s : Side) (v : ℕ) (does : Q.vec "does" ≡ word_of (deeds_of (JOIN o s v))) where
     abbrev dj : ℕ
@@ -236,17 +244,17 @@ module _ (net : NetTree) (z : Sizes) (Q : Store) where
 
     -- at either answer the cells of the fork's time
     pub answer_top : (n t : ℕ) → Q.vec "second_answer" ≡ n → Q.vec "fork_top" ≡ t → t ≤ z.cells → R.vec "next_top" ≡ t
-    answer_top n t es et l = past_numbers net z Q "next_top" refl ∙ at_answer "next_top" n es ∙ (tailing o s v).top n F
+    answer_top n t es et l = past_numbers net z Q "next_top" refl ∙ at_answer "next_top" n es ∙ (tailing s v).top n F o
         ∙ ap (fit (place_bits z.cells)) (to_forks net z Q "fork_top" refl ∙ et) ∙ count_fits z.cells t l
 
     -- at a first answer as many forks are open as before, and the innermost one is written
     pub first_depth : (n : ℕ) → Q.vec "second_answer" ≡ 0 → Q.vec "depth" ≡ n → n ≤ z.forks → R.vec "next_depth" ≡ n
-    first_depth n es en l = past_numbers net z Q "next_depth" refl ∙ at_answer "next_depth" 0 es ∙ (tailing o s v).depth F
+    first_depth n es en l = past_numbers net z Q "next_depth" refl ∙ at_answer "next_depth" 0 es ∙ (tailing s v).depth F o
         ∙ ap (fit S) (to_forks net z Q "depth" refl ∙ en) ∙ count_fits z.forks n l
 
     pub first_slot : (m : ℕ) → Q.vec "second_answer" ≡ 0 → Q.vec "depth" ≡ suc m → suc m ≤ z.forks → R.vec "slot" ≡ m
-    first_slot m es en l = past_numbers net z Q "slot" refl ∙ at_answer "slot" 0 es ∙ (tailing o s v).slot F ∙ inner m en l
+    first_slot m es en l = past_numbers net z Q "slot" refl ∙ at_answer "slot" 0 es ∙ (tailing s v).slot F o ∙ inner m en l
 
     -- at a second one the innermost fork is gone
     pub second_depth : (m : ℕ) → Q.vec "second_answer" ≡ 1 → Q.vec "depth" ≡ suc m → suc m ≤ z.forks → R.vec "next_depth" ≡ m
-    second_depth m es en l = past_numbers net z Q "next_depth" refl ∙ at_answer "next_depth" 1 es ∙ (tailing o s v).depth2 F ∙ inner m en l
+    second_depth m es en l = past_numbers net z Q "next_depth" refl ∙ at_answer "next_depth" 1 es ∙ (tailing s v).depth2 F o ∙ inner m en l

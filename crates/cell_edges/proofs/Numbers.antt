@@ -8,6 +8,7 @@ use Rattle.pcf_values.specs.declared.val.Val.TheVariants.{Number, Overflow}
 use Rattle.pcf_values.specs.Values.{val_op, val_succ, within}
 use Rattle.pcf_values.specs.declared.operator.Operator.{Operator}
 use Rattle.pcf_values.specs.declared.operator.Operator.TheVariants.{Plus, Minus, Times}
+use Rattle.pcf_values.proofs.Operators.{for_each}
 use Rattle.pcf_values.specs.declared.side.Side.{Side}
 use Rattle.net_build.specs.Nets.{NetTree}
 use Rattle.circuit_core.specs.Rows.{JOIN}
@@ -16,7 +17,7 @@ use Rattle.verilog_tree.specs.Meaning.{Scope, Store, flag, fit, nonzero, chosen,
 use Rattle.verilog_tree.proofs.Numbers.{fits}
 use Rattle.verilog_tree.proofs.Frames.{settled_leaves}
 use Rattle.circuit_module.specs.Stands.{value_number, Small}
-use Rattle.circuit_module.specs.Module.{multiplies}
+use Rattle.circuit_module.specs.Module.{is_product, multiplies}
 use Rattle.circuit_module.proofs.Values.{high_number, low_number, value_low, succ_value}
 use Rattle.circuit_module.proofs.Boths.{plus_number, minus_number, times_number, within_small}
 use Rattle.cell_core.specs.Sizes.{Sizes}
@@ -58,22 +59,18 @@ over_none a b n la lb =
     ap (λ k. fit 65 (chosen (nonzero (flag (nonzero k || nonzero (b / 2 ^ 64 % 2)))) (2 ^ 64) n)) (high_number a la)
     ∙ ap (λ k. fit 65 (chosen (nonzero (flag (nonzero k))) (2 ^ 64) n)) (high_number b lb)
 
-over_left : (o : Operator) (y : Val) → 2 ^ 64 ≡ value_number (val_op o Overflow y)
-over_left Plus y = refl
-over_left Minus y = refl
-over_left Times y = refl
+over_left : (y : Val) (o : Operator) → 2 ^ 64 ≡ value_number (val_op o Overflow y)
+over_left y = for_each _ _ refl
 
-over_right : (o : Operator) (a : ℕ) → 2 ^ 64 ≡ value_number (val_op o (Number a) Overflow)
-over_right Plus a = refl
-over_right Minus a = refl
-over_right Times a = refl
+over_right : (a : ℕ) (o : Operator) → 2 ^ 64 ≡ value_number (val_op o (Number a) Overflow)
+over_right a = for_each _ _ refl
 
 -- each operator, from both operands
 pub plus_is : (x y : Val) → Small x → Small y →
     over (value_number x) (value_number y) (chosen (nonzero (sum_of (value_number x) (value_number y) / 2 ^ 64 % 2)) (2 ^ 64)
     (sum_of (value_number x) (value_number y))) ≡ value_number (val_op Plus x y)
-plus_is Overflow y s t = over_left Plus y
-plus_is (Number a) Overflow s t = over_second a _ s ∙ over_right Plus a
+plus_is Overflow y s t = over_left y Plus
+plus_is (Number a) Overflow s t = over_second a _ s ∙ over_right a Plus
 plus_is (Number a) (Number b) s t = over_none a b _ s t
     ∙ ap (λ n. fit 65 (chosen (nonzero (fit 65 (fit 65 (n + low b)) / 2 ^ 64 % 2)) (2 ^ 64) (fit 65 (fit 65 (n + low b))))) (low_is a s)
     ∙ ap (λ n. fit 65 (chosen (nonzero (fit 65 (fit 65 (a + n)) / 2 ^ 64 % 2)) (2 ^ 64) (fit 65 (fit 65 (a + n))))) (low_is b t)
@@ -95,8 +92,8 @@ pub times_is : (x y : Val) → Small x → Small y →
     over (value_number x) (value_number y)
     (chosen (nonzero (flag (nonzero (fit 64 (product_of (value_number x) (value_number y) / 2 ^ 64)))))
     (2 ^ 64) (0 + fit 64 (product_of (value_number x) (value_number y) / 2 ^ 0))) ≡ value_number (val_op Times x y)
-times_is Overflow y s t = over_left Times y
-times_is (Number a) Overflow s t = over_second a _ s ∙ over_right Times a
+times_is Overflow y s t = over_left y Times
+times_is (Number a) Overflow s t = over_second a _ s ∙ over_right a Times
 times_is (Number a) (Number b) s t = over_none a b _ s t
     ∙ ap (λ n. fit 65 (chosen (nonzero (flag (nonzero (fit 64 (fit 128 (fit 128 (n * low b)) / 2 ^ 64))))) (2 ^ 64)
     (0 + fit 64 (fit 128 (fit 128 (n * low b)) / 2 ^ 0)))) (low_is a s)
@@ -160,7 +157,7 @@ module _ (net : NetTree) (z : Sizes) (Q : Store) where
 
       -- what both come to: the left answer is the one that was kept
       pub both_is : (o : Operator) (s : Side) (w : ℕ) → Q.vec "does" ≡ word_of (deeds_of (JOIN o s w)) →
-          (o ≡ Times → multiplies net.nodes ≡ true) → (all_set net z Q).vec "both" ≡ value_number (val_op o u v)
+          (is_product o ≡ true → multiplies net.nodes ≡ true) → (all_set net z Q).vec "both" ≡ value_number (val_op o u v)
       both_is Plus s w e m = ap (λ (X : Store). X.vec "both") (at_is (word_of (deeds_of (JOIN Plus s w))) e)
           ∙ told (λ x y. over x y (chosen (nonzero (sum_of x y / 2 ^ 64 % 2)) (2 ^ 64) (sum_of x y))) ∙ plus_is v u sv su
           ∙ ap value_number (plus_turns v u)

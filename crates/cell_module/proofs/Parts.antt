@@ -1,12 +1,14 @@
 -- What a row's case sets, and how many words the memories have: by computation.
-use Rattle.std.proofs.Common.{refl}
-use Rattle.pcf_values.specs.declared.operator.Operator.TheVariants.{Plus, Minus, Times}
+use Rattle.std.proofs.Common.{◌≡◌, refl}
+use Rattle.pcf_values.specs.declared.operator.Operator.{Operator}
+use Rattle.pcf_values.proofs.Operators.{for_each}
 use Rattle.circuit_core.specs.Rows.{GO, CONST, SUCC, PRED, TEST, FORK, JOIN, ANSWER, STAR, UNSTAR, LEFT, RIGHT, CON}
 use Rattle.circuit_core.specs.Rows.{PUSHR, PUSHL, SELECT, POP, BOXIN, BOXOUT, DOOROUT, DOORIN, FIXIN, FIXOUT, FIXVAR, DEAD}
-use Rattle.verilog_tree.specs.Meaning.{scope}
+use Rattle.verilog_tree.specs.Meaning.{scope, run}
+use Rattle.circuit_module.specs.Module.{row_stmt}
 use Rattle.circuit_module.proofs.Choice.{constants_set}
 use Rattle.cell_module.specs.Module.{cell_module_with}
-use Rattle.cell_module.specs.Parts.{RowsSetWords, RowsSetLiterals, MemoriesHavePlaces}
+use Rattle.cell_module.specs.Parts.{word_of, deeds_of, RowsSetWords, RowsSetLiterals, MemoriesHavePlaces}
 
 -- row by row
 pub set_words : RowsSetWords
@@ -16,9 +18,11 @@ set_words wires start z rows product (SUCC c) S = refl
 set_words wires start z rows product (PRED c) S = refl
 set_words wires start z rows product (TEST c d) S = refl
 set_words wires start z rows product (FORK c d) S = refl
-set_words wires start z rows product (JOIN Plus s w) S = refl
-set_words wires start z rows product (JOIN Minus s w) S = refl
-set_words wires start z rows product (JOIN Times s w) S = refl
+set_words wires start z rows product (JOIN o s w) S = of_join o
+  where
+    of_join : (o : Operator) → (run (scope (cell_module_with wires start z rows product)) (row_stmt (JOIN o s w)) S).vec "op"
+        ≡ word_of (deeds_of (JOIN o s w))
+    of_join = for_each _ _ refl
 set_words wires start z rows product ANSWER S = refl
 set_words wires start z rows product (STAR c) S = refl
 set_words wires start z rows product (UNSTAR c) S = refl

@@ -6,7 +6,8 @@ use Rattle.std.proofs.lemmas.Bool.{and_from, and_parts}
 use Prim.Native.String.{String}
 use lib.Dec.{T}
 use lib.Text.{eqt, eqt→eq}
-use Rattle.pcf_values.specs.declared.operator.Operator.TheVariants.{Plus, Minus, Times}
+use Rattle.pcf_values.specs.declared.operator.Operator.{Operator}
+use Rattle.pcf_values.proofs.Operators.{for_each}
 use Rattle.net_build.specs.Nets.{NetTree}
 use Rattle.interleave_laws.specs.Start.{start_of}
 use Rattle.circuit_core.specs.Rows.{Channel, rises, falls, number, Row, GO, CONST, SUCC, PRED, TEST, FORK, JOIN, ANSWER, STAR, UNSTAR, LEFT}
@@ -17,7 +18,7 @@ use Rattle.verilog_tree.specs.Tree.{Arms}
 use Rattle.verilog_tree.specs.WellFormed.{Kind, Entry, parameter, register, of_kind, member, said_ok, stmt_ok, arms_ok, all_declared}
 use Rattle.verilog_tree.specs.WellFormed.{WellFormed}
 use Rattle.cell_core.specs.Sizes.{Sizes}
-use Rattle.circuit_module.specs.Module.{to_one, to_two, row_stmt, place_said, row_arm, row_arms, multiplies}
+use Rattle.circuit_module.specs.Module.{join_name, to_one, to_two, row_stmt, place_said, row_arm, row_arms, multiplies}
 use Rattle.cell_module.specs.Fixed.{cell_ports, cell_port_notes, cell_constants, cell_registers, way_wires, next_row_notes}
 use Rattle.cell_module.specs.Module.{cell_sizes, cell_product, cell_module_with, cell_module}
 
@@ -32,6 +33,9 @@ abbrev operations : List String
 operations =
     "GO" ∷ "CONST" ∷ "SUCC" ∷ "PRED" ∷ "TEST" ∷ "FORK" ∷ "PLUS" ∷ "MINUS" ∷ "TIMES" ∷ "ANSWER" ∷ "STAR" ∷ "UNSTAR" ∷ "LEFT" ∷ "RIGHT" ∷
     "CON" ∷ "PUSHR" ∷ "PUSHL" ∷ "SELECT" ∷ "POP" ∷ "BOXIN" ∷ "BOXOUT" ∷ "DOOROUT" ∷ "DOORIN" ∷ "FIXIN" ∷ "FIXOUT" ∷ "FIXVAR" ∷ "DEAD" ∷ []
+
+join_known : (o : Operator) → member (join_name o) operations ≡ true
+join_known = for_each _ _ refl
 
 -- each of these is declared as one of those kinds
 abbrev all_of_kind : (Kind → Bool) → List Entry → List String → Bool
@@ -89,9 +93,7 @@ module _ (E : List Entry) (declares : names_rows E ≡ true) where
   case_ok (PRED c) = one_ok "PRED" c refl
   case_ok (TEST c d) = two_ok "TEST" c d refl
   case_ok (FORK c d) = two_ok "FORK" c d refl
-  case_ok (JOIN Plus s w) = one_ok _ (falls w) refl
-  case_ok (JOIN Minus s w) = one_ok _ (falls w) refl
-  case_ok (JOIN Times s w) = one_ok _ (falls w) refl
+  case_ok (JOIN o s w) = one_ok (join_name o) (falls w) (join_known o)
   case_ok ANSWER = alone_ok "ANSWER" refl
   case_ok (STAR c) = one_ok "STAR" c refl
   case_ok (UNSTAR c) = one_ok "UNSTAR" c refl

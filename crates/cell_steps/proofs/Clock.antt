@@ -7,7 +7,7 @@ use Rattle.net_build.specs.Nets.{NetTree}
 use Rattle.circuit_core.specs.Rows.{Channel, PRED, FORK, JOIN, ANSWER}
 use Rattle.circuit_core.specs.Rows.{DEAD}
 use Rattle.pcf_values.specs.declared.operator.Operator.{Operator}
-use Rattle.pcf_values.specs.declared.operator.Operator.TheVariants.{Plus, Minus, Times}
+use Rattle.pcf_values.proofs.Operators.{for_each}
 use Rattle.pcf_values.specs.declared.side.Side.{Side}
 use Rattle.verilog_tree.specs.Tree.{Stmt, branch, two, plus, name, num, sized, cat, word, put, word_at}
 use Rattle.verilog_tree.specs.Meaning.{Scope, Store, fire, fit, flag, nonzero, chosen, set_vec, word_in, part_in, holds}
@@ -311,12 +311,18 @@ module _ (net : NetTree) (z : Sizes) (R : Store) where
   }
 
   pub keeps : (o : Operator) (s : Side) (w : ℕ) → Keeps (edge_at (word_of (deeds_of (JOIN o s w))) 1 0)
-  keeps Plus s w = kept (word_of (deeds_of (JOIN Plus s w)))
-  keeps Minus s w = kept (word_of (deeds_of (JOIN Minus s w)))
-  keeps Times s w = kept (word_of (deeds_of (JOIN Times s w)))
+  keeps o s w = subst Keeps (at_edge o) (kept (word_of (deeds_of (JOIN o s w))))
+    where
+      at_edge : (o : Operator) →
+          keeping_at (settled_at (word_of (deeds_of (JOIN o s w))) 1 0) ≡ edge_at (word_of (deeds_of (JOIN o s w))) 1 0
+      at_edge = for_each _ _ refl
 
   -- a second one, at which the value is set
-  pub closes : (o : Operator) (s : Side) (w : ℕ) → Quiet (fit 65 (R.vec "both")) (edge_at (word_of (deeds_of (JOIN o s w))) 0 1)
-  closes Plus s w = valued (word_of (deeds_of (JOIN Plus s w))) 1 (fit 65 (R.vec "both"))
-  closes Minus s w = valued (word_of (deeds_of (JOIN Minus s w))) 1 (fit 65 (R.vec "both"))
-  closes Times s w = valued (word_of (deeds_of (JOIN Times s w))) 1 (fit 65 (R.vec "both"))
+  abbrev both_told : ℕ
+  both_told = fit 65 (R.vec "both")
+
+  pub closes : (o : Operator) (s : Side) (w : ℕ) → Quiet both_told (edge_at (word_of (deeds_of (JOIN o s w))) 0 1)
+  closes o s w = subst (Quiet both_told) (at_edge o) (valued (word_of (deeds_of (JOIN o s w))) 1 both_told)
+    where
+      at_edge : (o : Operator) → valued_at (word_of (deeds_of (JOIN o s w))) 1 both_told ≡ edge_at (word_of (deeds_of (JOIN o s w))) 0 1
+      at_edge = for_each _ _ refl

@@ -5,14 +5,13 @@ use Rattle.std.proofs.lemmas.Nat.{pow_pos}
 use Rattle.pcf_values.specs.declared.val.Val.{Val}
 use Rattle.pcf_values.specs.Values.{val_op}
 use Rattle.pcf_values.specs.declared.operator.Operator.{Operator}
-use Rattle.pcf_values.specs.declared.operator.Operator.TheVariants.{Times}
 use Rattle.pcf_values.specs.declared.side.Side.{Side}
 use Rattle.net_build.specs.Nets.{NetTree}
 use Rattle.circuit_core.specs.Rows.{falls, JOIN}
 use Rattle.verilog_tree.specs.Meaning.{Store, fire, fit}
 use Rattle.verilog_tree.proofs.Numbers.{fits}
 use Rattle.circuit_module.specs.Sizes.{channel_bits}
-use Rattle.circuit_module.specs.Module.{multiplies}
+use Rattle.circuit_module.specs.Module.{is_product, multiplies}
 use Rattle.circuit_module.specs.Stands.{value_number, Small}
 use Rattle.circuit_module.specs.InRange.{Named, InRange}
 use Rattle.circuit_module.proofs.Values.{value_low}
@@ -125,7 +124,8 @@ module _ (net : NetTree) (z : Sizes) (sizes : CellSizes z) (range : InRange net)
     abbrev both_come : Val → CellToken
     both_come u = record { value = val_op o u k.value; channel = falls w; stacks = asked f.boxes }
 
-    second : (u : Val) → f.answered ≡ Some u → Small u → (o ≡ Times → multiplies net.nodes ≡ true) → After (arrive (Some u) f fs o w k C')
+    second : (u : Val) → f.answered ≡ Some u → Small u → (is_product o ≡ true → multiplies net.nodes ≡ true) →
+        After (arrive (Some u) f fs o w k C')
     second u eu su mult = subst (λ X. Stands net z (arrive (Some u) f fs o w k C') X)
         (sym (edge_is net z sizes range C S st k live ready meets word 0 1 row.does way.first way.second))
         (read_stands net z sizes range C S st k live ready meets (both_come u) fs f.top closed q.base q.on q.cells q.same
@@ -203,7 +203,7 @@ module _ (net : NetTree) (z : Sizes) (sizes : CellSizes z) (range : InRange net)
             (first_slot net z Q o s w does_q (length fs) second_q depth_q few) few
 
   pub edge_join : (o : Operator) (s : Side) (w : ℕ) → Named W (falls w) → IsRow S (JOIN o s w) → Fetched z S C k (JOIN o s w) →
-      JoinReads C k → (o ≡ Times → multiplies net.nodes ≡ true) → After (arrive_at C.forks o w k C')
+      JoinReads C k → (is_product o ≡ true → multiplies net.nodes ≡ true) → After (arrive_at C.forks o w k C')
   edge_join o s w nw row got r mult = subst (λ x. After (arrive_at x o w k C')) (sym r.forks) (go r.fork.answered refl)
     where
       go : (a : Option Val) → r.fork.answered ≡ a → After (arrive a r.fork r.others o w k C')

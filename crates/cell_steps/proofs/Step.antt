@@ -2,7 +2,6 @@
 use Rattle.std.proofs.Common.{◌≡◌, ℕ, zero, suc, ◌<◌, Bool, true, false, cond, ◌||◌, ◌∷◌, length, Option, Some, None, is_some}
 use Rattle.std.proofs.Common.{refl, sym, ap, ◌∙◌, subst, arith}
 use Rattle.pcf_values.specs.declared.operator.Operator.{Operator}
-use Rattle.pcf_values.specs.declared.operator.Operator.TheVariants.{Times}
 use Rattle.pcf_values.specs.declared.side.Side.{Side}
 use Prim.Native.String.{String}
 use Rattle.net_build.specs.Nets.{NetTree}
@@ -11,7 +10,7 @@ use Rattle.circuit_core.specs.Rows.{Channel, Row, GO, CONST, SUCC, PRED, TEST, F
 use Rattle.circuit_core.specs.Rows.{PUSHL, SELECT, POP, BOXIN, BOXOUT, DOOROUT, DOORIN, FIXIN, FIXOUT, FIXVAR, DEAD, row_of}
 use Rattle.verilog_tree.specs.Meaning.{Store, fire, settled, flag, set_vec}
 use Rattle.circuit_module.specs.Stands.{value_number}
-use Rattle.circuit_module.specs.Module.{multiplies}
+use Rattle.circuit_module.specs.Module.{is_product, multiplies}
 use Rattle.circuit_module.specs.InRange.{RowFits, InRange}
 use Rattle.cell_core.specs.Cells.{Cell, to, first_of, below, cell_at, reads, needs_cell, row_on}
 use Rattle.cell_core.specs.Sizes.{Sizes, too_long}
@@ -136,7 +135,7 @@ module _ (net : NetTree) (z : Sizes) (sizes : CellSizes z) (range : InRange net)
     pub apart : (c : Channel) → makes_to r ≡ Some c → (q : ℕ × Row) → row_of net c ≡ Some q → reads_cell q.1 ≡ false
     pub fork_apart : (c : Channel) → left_to r ≡ Some c → (q : ℕ × Row) → row_of net c ≡ Some q → is_join q.1 ≡ false
     pub waits_apart : (c : Channel) → right_to r ≡ Some c → (q : ℕ × Row) → row_of net c ≡ Some q → is_join q.1 ≡ false
-    pub multiplier : (o : Operator) (s : Side) (w : ℕ) → r ≡ JOIN o s w → o ≡ Times → multiplies net.nodes ≡ true
+    pub multiplier : (o : Operator) (s : Side) (w : ℕ) → r ≡ JOIN o s w → is_product o ≡ true → multiplies net.nodes ≡ true
 
   abbrev box_cell : Cell
   box_cell = cell_at C.store (first_of k.stacks.boxes)
