@@ -1,7 +1,8 @@
 -- The cases of a net's rows have own names alone.
 use Rattle.std.proofs.Common.{◌≡◌, ℕ, zero, suc, true, Option, Some, None, refl}
 use Rattle.std.proofs.lemmas.Bool.{and_from}
-use Rattle.pcf_values.specs.declared.operator.Operator.TheVariants.{Plus, Minus, Times}
+use Rattle.pcf_values.specs.declared.operator.Operator.{Operator}
+use Rattle.pcf_values.proofs.Operators.{for_each}
 use Rattle.net_build.specs.Nets.{NetTree}
 use Rattle.circuit_core.specs.Rows.{Channel, rises, falls, Row, GO, CONST, SUCC, PRED, TEST, FORK, JOIN, ANSWER, STAR, UNSTAR, LEFT, RIGHT}
 use Rattle.circuit_core.specs.Rows.{CON, PUSHR, PUSHL, SELECT, POP, BOXIN, BOXOUT, DOOROUT, DOORIN, FIXIN, FIXOUT, FIXVAR, DEAD, row_of}
@@ -18,9 +19,10 @@ row_own (SUCC c) = refl
 row_own (PRED c) = refl
 row_own (TEST c d) = refl
 row_own (FORK c d) = refl
-row_own (JOIN Plus s w) = refl
-row_own (JOIN Minus s w) = refl
-row_own (JOIN Times s w) = refl
+row_own (JOIN o s w) = of_join o
+  where
+    of_join : (o : Operator) → alike.own_stmt own (row_stmt (JOIN o s w)) ≡ true
+    of_join = for_each _ _ refl
 row_own ANSWER = refl
 row_own (STAR c) = refl
 row_own (UNSTAR c) = refl

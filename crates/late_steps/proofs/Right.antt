@@ -7,6 +7,7 @@ use Rattle.pcf_values.specs.declared.val.Val.TheVariants.{Number}
 use Rattle.pcf_values.specs.Values.{val_succ, val_pred, val_op}
 use Rattle.pcf_values.specs.declared.operator.Operator.{Operator}
 use Rattle.pcf_values.specs.declared.operator.Operator.TheVariants.{Plus, Minus, Times}
+use Rattle.pcf_values.proofs.Operators.{for_each}
 use Rattle.pcf_values.specs.declared.side.Side.{Side}
 use Rattle.net_build.specs.Nets.{NetTree}
 use Rattle.circuit_core.specs.Rows.{Channel, falls, Row, SUCC, PRED, JOIN}
@@ -14,7 +15,7 @@ use Rattle.verilog_tree.specs.Tree.{name}
 use Rattle.verilog_tree.specs.Meaning.{Store, Scope, scope, flag, fit, nonzero, chosen, holds, settled, set_vec}
 use Rattle.verilog_tree.proofs.Numbers.{fits}
 use Rattle.verilog_tree.proofs.Frames.{settled_leaves}
-use Rattle.circuit_module.specs.Module.{multiplies}
+use Rattle.circuit_module.specs.Module.{is_product, multiplies}
 use Rattle.circuit_module.specs.Stands.{value_number, Small}
 use Rattle.circuit_module.specs.InRange.{Named, RowFits}
 use Rattle.circuit_module.proofs.Values.{value_low, pred_value}
@@ -70,15 +71,13 @@ never_late fs v (PRED c) h = absurd cc
 never_late fs v (JOIN o s w) h = absurd cc
 never_late fs v r h = refl
 
--- a join's word
-record Joined (d : ℕ) : Type 0 where
-  pub succ : nonzero (d / 2 ^ 20 % 2) ≡ false
-  pub pred : nonzero (d / 2 ^ 21 % 2) ≡ false
+-- a join's word, whatever the operator is
+record Joined (s : Side) (w : ℕ) : Type 0 where
+  pub succ : (o : Operator) → nonzero (word_of (deeds_of (JOIN o s w)) / 2 ^ 20 % 2) ≡ false
+  pub pred : (o : Operator) → nonzero (word_of (deeds_of (JOIN o s w)) / 2 ^ 21 % 2) ≡ false
 
-joined : (o : Operator) (s : Side) (w : ℕ) → Joined (word_of (deeds_of (JOIN o s w)))
-joined Plus s w = record { succ = refl; pred = refl }
-joined Minus s w = record { succ = refl; pred = refl }
-joined Times s w = record { succ = refl; pred = refl }
+joined : (s : Side) (w : ℕ) → Joined s w
+joined s w = record { succ = for_each _ _ refl; pred = for_each _ _ refl }
 
 pub no_true : (b : Bool) → b ≡ false → b ≡ true → ⊥
 no_true true e h = absurd cc
@@ -320,10 +319,10 @@ module _ (net : NetTree) (z : Sizes) (S : Store) (e : S.vec "nonzero" ≡ flag (
       word = word_of (deeds_of (JOIN o s w))
 
       is_succ : holds Q U (does "IS_SUCC") ≡ false
-      is_succ = succ_bit word (does_u word row.does) ∙ (joined o s w).succ
+      is_succ = succ_bit word (does_u word row.does) ∙ (joined s w).succ o
 
       is_pred : holds Q U (does "IS_PRED") ≡ false
-      is_pred = pred_bit word (does_u word row.does) ∙ (joined o s w).pred
+      is_pred = pred_bit word (does_u word row.does) ∙ (joined s w).pred o
 
       changes_as : (b : Bool) → holds Q U (name "second_answer") ≡ b → holds P R (name "changes") ≡ b
       changes_as b j = changes_here ∙ (λ i. j i || (is_succ i || is_pred i)) ∙ or_none b
@@ -348,7 +347,7 @@ module _ (net : NetTree) (z : Sizes) (S : Store) (e : S.vec "nonzero" ≡ flag (
           nth = second_way ∙ way.second
 
       -- the second one
-      module _ (u : Val) (eu : f.answered ≡ Some u) (su : Small u) (multiplier : o ≡ Times → multiplies net.nodes ≡ true) where
+      module _ (u : Val) (eu : f.answered ≡ Some u) (su : Small u) (multiplier : is_product o ≡ true → multiplies net.nodes ≡ true) where
         way : Way net z T (falls w) 0 1 0
         way = way_second net z T refl o s w row f has u eu named
 
@@ -419,7 +418,7 @@ module _ (net : NetTree) (z : Sizes) (S : Store) (e : S.vec "nonzero" ≡ flag (
 
     -- by the operator
     second_comes : (o : Operator) (s : Side) (w : ℕ) → IsRow T (JOIN o s w) → Named (length net.wires) (falls w) → (f : CellFork) →
-        IsFork z (T.vec "fork_has") f → (u : Val) → f.answered ≡ Some u → Small u → (o ≡ Times → multiplies net.nodes ≡ true) →
+        IsFork z (T.vec "fork_has") f → (u : Val) → f.answered ≡ Some u → Small u → (is_product o ≡ true → multiplies net.nodes ≡ true) →
         Comes (wait_at_join o (Some u) k.value)
     second_comes Plus s w row named f has u eu su m =
         sum_case Plus s w row named f has u eu su m 0 (times_down _ row.does refl) refl refl refl (whole_sum u k.value su small)
@@ -430,7 +429,8 @@ module _ (net : NetTree) (z : Sizes) (S : Store) (e : S.vec "nonzero" ≡ flag (
 
     -- each row
     pub row_comes : (r : Row) → IsRow T r → RowFits (length net.wires) r → Fetched z T C k r → InStack net z S.mem C.forks → Reads r k C →
-        ((o : Operator) (s : Side) (w : ℕ) → r ≡ JOIN o s w → o ≡ Times → multiplies net.nodes ≡ true) → Comes (wait_at r C.forks k.value)
+        ((o : Operator) (s : Side) (w : ℕ) → r ≡ JOIN o s w → is_product o ≡ true → multiplies net.nodes ≡ true) →
+        Comes (wait_at r C.forks k.value)
     row_comes (SUCC c) row fits got stack reads m = succ_case c row.does
     row_comes (PRED c) row fits got stack reads m = pred_case c row.does
     row_comes (JOIN o s w) row fits got stack reads m =

@@ -1,14 +1,13 @@
 -- How long a move waits.
 use Rattle.std.proofs.Common.{◌≡◌, ◌≤◌, ◌<◌, ℕ, zero, suc, ◌+◌, ◌*◌, ◌/◌, ◌^◌, Bool, true, false, cond, List, Option, Some, None, refl}
-use Rattle.std.proofs.Common.{◌∙◌, arith, pow-suc, sym}
+use Rattle.std.proofs.Common.{◌∙◌, arith, pow-suc, sym, subst}
 use Rattle.std.proofs.Math.Nat.{mul-suc}
 use Rattle.pcf_values.specs.declared.val.Val.{Val}
 use Rattle.pcf_values.specs.declared.operator.Operator.{Operator}
-use Rattle.pcf_values.specs.declared.operator.Operator.TheVariants.{Plus, Minus, Times}
 use Rattle.net_build.specs.Nets.{NetTree}
 use Rattle.circuit_core.specs.Rows.{Row, SUCC, PRED, JOIN, row_of}
 use Rattle.circuit_module.specs.InRange.{InRange}
-use Rattle.circuit_module.specs.Module.{multiplies}
+use Rattle.circuit_module.specs.Module.{is_product, multiplies}
 use Rattle.circuit_module.proofs.Sizes.{enough_bits, few_bits}
 use Rattle.cell_core.specs.Sizes.{Sizes}
 use Rattle.newest_core.specs.Circuit.{CellToken, CellFork, CellCircuit, clock}
@@ -63,18 +62,20 @@ late_waits net z n C = waited_low 130 net z (waits_low net) n C
 -- ---- in a net that multiplies nothing
 
 module _ (net : NetTree) (range : InRange net) (none : multiplies net.nodes ≡ false) where
-  joins_once : (o : Operator) (a : Option Val) (v : Val) → (o ≡ Times → ⊥) → cycles_of (wait_at_join o a v) ≤ 1
-  joins_once o None v x = omega arith
-  joins_once Plus (Some u) v x = omega arith
-  joins_once Minus (Some u) v x = omega arith
-  joins_once Times (Some u) v x = absurd (x refl)
+  joins_once : (o : Operator) (a : Option Val) (v : Val) → is_product o ≡ false → cycles_of (wait_at_join o a v) ≤ 1
+  joins_once o None v e = omega arith
+  joins_once o (Some u) v e = subst (λ b. cycles_of (cond b (product_of u v) quarters) ≤ 1) (sym e) (omega arith)
 
   row_once : (p : ℕ × Row) (k : CellToken) (fs : List CellFork) → row_of net k.channel ≡ Some p → (r : Row) → p.1 ≡ r →
       cycles_of (wait_at r fs k.value) ≤ 1
   row_once p k fs e (SUCC c) h = omega arith
   row_once p k fs e (PRED c) h = omega arith
   row_once p k fs e (JOIN o s w) h =
-      joins_once o (kept_answer fs) k.value (λ x. let y : true ≡ false = sym (range.multiplier k.channel p e o s w h x) ∙ none in absurd cc)
+      joins_once o (kept_answer fs) k.value (no_product (is_product o) refl)
+    where
+      no_product : (b : Bool) → is_product o ≡ b → is_product o ≡ false
+      no_product true x = let y : true ≡ false = sym (range.multiplier k.channel p e o s w h x) ∙ none in absurd cc
+      no_product false x = x
   row_once p k fs e r h = omega arith
 
   pub waits_once : (C : CellCircuit) → waits net C ≤ 1

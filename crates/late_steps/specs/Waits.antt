@@ -5,9 +5,9 @@
 use Rattle.std.specs.Prelude.{ℕ, zero, suc, ◌+◌, ◌*◌, ◌%◌, ◌^◌, List, [], ◌∷◌, Option, Some, None, if◌then◌else◌}
 use Rattle.pcf_values.specs.declared.val.Val.{Val}
 use Rattle.pcf_values.specs.declared.operator.Operator.{Operator}
-use Rattle.pcf_values.specs.declared.operator.Operator.TheVariants.{Times}
 use Rattle.net_build.specs.Nets.{NetTree}
 use Rattle.circuit_core.specs.Rows.{Row, SUCC, PRED, JOIN, row_of}
+use Rattle.circuit_module.specs.Module.{is_product}
 use Rattle.circuit_module.specs.Sizes.{bits_for}
 use Rattle.circuit_module.specs.Stands.{value_number}
 use Rattle.cell_core.specs.Sizes.{Sizes}
@@ -40,8 +40,7 @@ kept_answer (f ∷ fs) = f.answered
 -- an answer, by the one that its fork has: a first one is kept, and at a second one both are joined
 abbrev pub wait_at_join : Operator → Option Val → Val → Wait
 wait_at_join o None v = no_number
-wait_at_join Times (Some u) v = product_of u v
-wait_at_join o (Some u) v = quarters
+wait_at_join o (Some u) v = if is_product o then product_of u v else quarters
 
 -- a row with a value
 abbrev pub wait_at : Row → List CellFork → Val → Wait

@@ -1,6 +1,7 @@
 -- The cases of rows: all but a constant's set the same with ports and without, and keep what they have in a net with other numbers.
 use Rattle.std.proofs.Common.{◌≡◌, ℕ, true, List, Option, Some, None, refl}
-use Rattle.pcf_values.specs.declared.operator.Operator.TheVariants.{Plus, Minus, Times}
+use Rattle.pcf_values.specs.declared.operator.Operator.{Operator}
+use Rattle.pcf_values.proofs.Operators.{for_each}
 use Rattle.circuit_core.specs.Rows.{Channel, Row, GO, CONST, SUCC, PRED, TEST, FORK, JOIN, ANSWER, STAR, UNSTAR, LEFT, RIGHT, CON, PUSHR}
 use Rattle.circuit_core.specs.Rows.{PUSHL, SELECT, POP, BOXIN, BOXOUT, DOOROUT, DOORIN, FIXIN, FIXOUT, FIXVAR, DEAD}
 use Rattle.circuit_module.specs.Module.{row_stmt}
@@ -32,9 +33,10 @@ by_row Says f g (SUCC c) = f (SUCC c) (record { kept = λ o. refl; case = λ ps 
 by_row Says f g (PRED c) = f (PRED c) (record { kept = λ o. refl; case = λ ps k. refl; names = refl })
 by_row Says f g (TEST c d) = f (TEST c d) (record { kept = λ o. refl; case = λ ps k. refl; names = refl })
 by_row Says f g (FORK c d) = f (FORK c d) (record { kept = λ o. refl; case = λ ps k. refl; names = refl })
-by_row Says f g (JOIN Plus s w) = f (JOIN Plus s w) (record { kept = λ o. refl; case = λ ps k. refl; names = refl })
-by_row Says f g (JOIN Minus s w) = f (JOIN Minus s w) (record { kept = λ o. refl; case = λ ps k. refl; names = refl })
-by_row Says f g (JOIN Times s w) = f (JOIN Times s w) (record { kept = λ o. refl; case = λ ps k. refl; names = refl })
+by_row Says f g (JOIN o s w) = f (JOIN o s w) (record { kept = λ v. refl; case = λ ps k. refl; names = of_join o })
+  where
+    of_join : (o : Operator) → alike.own_stmt own (row_stmt (JOIN o s w)) ≡ true
+    of_join = for_each _ _ refl
 by_row Says f g ANSWER = f ANSWER (record { kept = λ o. refl; case = λ ps k. refl; names = refl })
 by_row Says f g (STAR c) = f (STAR c) (record { kept = λ o. refl; case = λ ps k. refl; names = refl })
 by_row Says f g (UNSTAR c) = f (UNSTAR c) (record { kept = λ o. refl; case = λ ps k. refl; names = refl })
