@@ -3,7 +3,9 @@ use Rattle.std.proofs.Common.{◌≡◌, ◌∙◌, ◌++◌, ◌∷◌, [], ℕ
 use Rattle.std.proofs.Common.{append_assoc}
 use Rattle.std.proofs.lemmas.List.{append-nil}
 use Rattle.std.specs.Fmt.{digits}
-use Rattle.pcf_values.specs.declared.operator.Operator.TheVariants.{Plus, Minus, Times}
+use Rattle.pcf_values.specs.declared.operator.Operator.{Operator}
+use Rattle.pcf_values.specs.declared.side.Side.{Side}
+use Rattle.pcf_values.proofs.Operators.{for_each}
 use Rattle.net_build.specs.Nets.{NetTree, WireTree}
 use Rattle.net_text.specs.Listing.{lines_of}
 use Rattle.circuit_core.specs.Rows.{Channel, rises, falls, number, Row, GO, CONST, SUCC, PRED, TEST, FORK, JOIN, ANSWER, STAR, UNSTAR}
@@ -40,6 +42,12 @@ const_is (Some i) n c =
     ap (λ t. codes "op = CONST; to = " ++ t)
     (two_is (decimal (number c) ++ codes ";") (codes "number = " ++ (codes (held_name i) ++ codes ";")))
 
+-- what a join's row sets, on one line
+join_is : (s : Side) (w : ℕ) (o : Operator) →
+    flat_text (codes " = ") (port_stmt [] 0 (JOIN o s w)) ≡ codes "op = " ++ (row_text None (JOIN o s w) ++ codes " ")
+unfolding row_text
+join_is s w = for_each _ _ refl
+
 -- what a row sets, on one line
 flat_is : (ps : List ℕ) (k : ℕ) (r : Row) →
     flat_text (codes " = ") (port_stmt ps k r) ≡ codes "op = " ++ (row_text (port_at 0 ps k) r ++ codes " ")
@@ -54,9 +62,7 @@ flat_is ps k (TEST c d) =
 flat_is ps k (FORK c d) =
     ap (λ t. codes "op = FORK; to = " ++ t)
     (two_is (decimal (number c) ++ codes ";") (codes "other = " ++ (decimal (number d) ++ codes ";")))
-flat_is ps k (JOIN Plus s w) = refl
-flat_is ps k (JOIN Minus s w) = refl
-flat_is ps k (JOIN Times s w) = refl
+flat_is ps k (JOIN o s w) = join_is s w o
 flat_is ps k ANSWER = refl
 flat_is ps k (STAR c) = refl
 flat_is ps k (UNSTAR c) = refl

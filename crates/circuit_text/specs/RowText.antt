@@ -1,12 +1,11 @@
 -- The line of a row in the `case` of a circuit's text. A channel is told by its number, and behind the row stand the wire, the direction
 -- and the node for whoever reads it.
 use Rattle.std.specs.Prelude.{ℕ, List, [], ◌++◌, Option, Some, None, codes, decimal}
-use Rattle.pcf_values.specs.declared.operator.Operator.{Operator}
-use Rattle.pcf_values.specs.declared.operator.Operator.TheVariants.{Plus, Minus, Times}
 use Rattle.net_build.specs.Nets.{NetTree}
 use Rattle.circuit_core.specs.Rows.{Channel, rises, falls, number, Row, GO, CONST, SUCC, PRED, TEST, FORK, JOIN, ANSWER, STAR, UNSTAR}
 use Rattle.circuit_core.specs.Rows.{LEFT, RIGHT, CON, PUSHR, PUSHL, SELECT, POP, BOXIN, BOXOUT, DOOROUT, DOORIN, FIXIN, FIXOUT, FIXVAR}
 use Rattle.circuit_core.specs.Rows.{DEAD, row_of}
+use Rattle.circuit_module.specs.Module.{join_name}
 use Rattle.port_module.specs.Module.{port_at}
 use Rattle.port_module.specs.Names.{held_name}
 
@@ -14,12 +13,6 @@ use Rattle.port_module.specs.Names.{held_name}
 abbrev pub channel_text : Channel → List ℕ
 channel_text (rises w) = codes "up " ++ decimal w
 channel_text (falls w) = codes "down " ++ decimal w
-
--- the operation at an operator
-abbrev pub join_text : Operator → List ℕ
-join_text Plus = codes "PLUS"
-join_text Minus = codes "MINUS"
-join_text Times = codes "TIMES"
 
 -- the name of an operation
 abbrev pub op_text : Row → List ℕ
@@ -29,7 +22,7 @@ op_text (SUCC c) = codes "SUCC"
 op_text (PRED c) = codes "PRED"
 op_text (TEST z o) = codes "TEST"
 op_text (FORK l r) = codes "FORK"
-op_text (JOIN o s w) = join_text o
+op_text (JOIN o s w) = codes (join_name o)
 op_text ANSWER = codes "ANSWER"
 op_text (STAR c) = codes "STAR"
 op_text (UNSTAR c) = codes "UNSTAR"
