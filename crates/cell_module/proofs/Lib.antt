@@ -8,3 +8,5 @@ pub mod WellFormed
 mod Sizes
 -- a channel has room in its field
 pub mod Channels
+-- its numbers and sizes fit, and it is in order
+pub mod Fits

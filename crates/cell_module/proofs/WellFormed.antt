@@ -16,10 +16,12 @@ use Rattle.circuit_core.specs.Rows.{row_of}
 use Rattle.circuit_core.specs.Rows.{channel_of}
 use Rattle.verilog_tree.specs.Tree.{Arms}
 use Rattle.verilog_tree.specs.WellFormed.{Kind, Entry, parameter, register, of_kind, member, said_ok, stmt_ok, arms_ok, all_declared}
-use Rattle.verilog_tree.specs.WellFormed.{WellFormed}
+use Rattle.verilog_tree.specs.WellFormed.{ports_first, items_ok}
 use Rattle.cell_core.specs.Sizes.{Sizes}
 use Rattle.circuit_module.specs.Module.{join_name, to_one, to_two, row_stmt, place_said, row_arm, row_arms, multiplies}
 use Rattle.cell_module.specs.Fixed.{cell_ports, cell_port_notes, cell_constants, cell_registers, way_wires, next_row_notes}
+use Rattle.cell_module.specs.Laws.{CellModuleIsWellFormed}
+use Rattle.cell_module.proofs.Fits.{fits_all}
 use Rattle.cell_module.specs.Module.{cell_sizes, cell_product, cell_module_with, cell_module}
 
 -- ---- rows
@@ -136,10 +138,15 @@ names =
     (cell_constants ++ (cell_registers ++ (way_wires ++ next_row_notes))))))
 
 with_rows : (wires start : ℕ) (z : Sizes) (rows : Arms) (b : Bool) → arms_ok names driven_there rows ≡ true →
-    WellFormed (cell_module_with wires start z rows (cell_product b)) ≡ true
+    (ports_first (cell_module_with wires start z rows (cell_product b))
+    && items_ok [] [] (cell_module_with wires start z rows (cell_product b))) ≡ true
 with_rows wires start z rows true h = ap (λ t. t && true) h
 with_rows wires start z rows false h = ap (λ t. t && true) h
 
-pub well_formed : (net : NetTree) (z : Sizes) → WellFormed (cell_module net z) ≡ true
-well_formed net z = with_rows (length net.wires) (number (channel_of (start_of net))) z (row_arms net 0 (length net.wires))
+-- each name is declared once, and used as what it is
+pub declared_once : (net : NetTree) (z : Sizes) → (ports_first (cell_module net z) && items_ok [] [] (cell_module net z)) ≡ true
+declared_once net z = with_rows (length net.wires) (number (channel_of (start_of net))) z (row_arms net 0 (length net.wires))
     (multiplies net.nodes) (cases_ok names refl net 0 (length net.wires))
+
+pub well_formed : CellModuleIsWellFormed
+well_formed net r z it = and_from _ _ (declared_once net z) (fits_all net r z it)

@@ -5,7 +5,7 @@ ghost use Rattle.cell_module.specs.Parts.{RowsSetWords, RowsSetLiterals, Memorie
 ghost use Rattle.cell_module.specs.Apart.{CellsApart, ForksApart, QuestionsApart};
 ghost use Rattle.cell_module.specs.Sizes.{SizesCover};
 
-/// The module of every net, of whatever sizes, declares each name once and above its use, and uses it as what it is; has one driver for
+/// The module of every net in range, of sizes that can be printed, declares each name once and above its use, and uses it as what it is; has one driver for
 /// each; and has no latch.
 pub fn law_cell_well_formed()
     ensures { CellModuleIsWellFormed }

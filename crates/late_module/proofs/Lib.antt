@@ -14,3 +14,5 @@ pub mod Unit
 pub mod Kept
 -- the standard takes it
 pub mod WellFormed
+-- its numbers and sizes fit, and it is in order
+pub mod Fits

@@ -14,3 +14,5 @@ mod Edges
 mod Declared
 -- a module that the standard takes
 mod WellFormed
+-- its numbers and sizes fit, and it is in order
+pub mod Fits

@@ -1,4 +1,4 @@
--- The module of a net with ports is well formed: the statement of `law_port_well_formed`. The module without ports is, whether its numbers
+-- In the module of a net with ports each name is declared once, and used as what it is, as `WellFormed` asks it. In the module without ports is, whether its numbers
 -- may be late or not. What is right there is right here too, and the ports and the registers that hold them are new names.
 use Rattle.std.proofs.Common.{◌≡◌, ◌<◌, ◌≤◌, ◌+◌, ◌^◌, ℕ, zero, suc, Bool, true, false, not, cond, ◌&&◌, ◌||◌, List, [], ◌∷◌, ◌++◌, length}
 use Rattle.std.proofs.Common.{Option, Some, None, refl, ap, sym, subst, ◌∙◌, arith, ⊎_elim}
@@ -13,7 +13,7 @@ use Rattle.cell_core.specs.Sizes.{Sizes}
 use Rattle.verilog_tree.specs.Tree.{num, const, name, whole, count, upto, Stmt, skip, seq, branch, cases, Arms, Item, input, reg, clocked}
 use Rattle.verilog_tree.specs.WellFormed.{Kind, Entry, a_register, an_input, register, vector, of_kind, member, apart, identifier, said_ok}
 use Rattle.verilog_tree.specs.WellFormed.{taken, new, first_reads, target_ok, stmt_ok, arms_ok, targets, declare}
-use Rattle.verilog_tree.specs.WellFormed.{is_clock, item_ok, items_ok, all_declared, no_port, ports_first, WellFormed}
+use Rattle.verilog_tree.specs.WellFormed.{is_clock, item_ok, items_ok, all_declared, no_port, ports_first}
 use Rattle.circuit_module.specs.Fixed.{set, block, no_row}
 use Rattle.circuit_module.specs.Module.{row_stmt, place_said, row_arm, row_arms, multiplies}
 use Rattle.cell_module.specs.Fixed.{cell_ports, cell_constants, cell_registers, next_row_notes, next_row_block, list_wires, cell_fork_wires}
@@ -23,7 +23,6 @@ use Rattle.late_module.proofs.WellFormed as late_one
 use Rattle.port_module.specs.Names.{arg_name, held_name}
 use Rattle.port_module.specs.Module.{port_at, held_stmt, constant_stmt, port_stmt, port_arm, port_arms, arg_inputs, arg_notes, held_regs}
 use Rattle.port_module.specs.Module.{held_registers, held_sets, Parts, parts_of, port_clock, port_module, plain_module}
-use Rattle.port_module.specs.Laws.{PortModuleIsWellFormed}
 use Rattle.port_module.proofs.Names.{arg_held, held_arg, args_apart, helds_apart, same_name, arg_identifier, held_identifier}
 use Rattle.port_module.proofs.Names.{all_own, later, none_of_own}
 use Rattle.port_module.proofs.Cases.{by_row}
@@ -238,26 +237,30 @@ module _ (E F : List Entry) (same : SameEnv E F) (ps : List ℕ)
 -- ---- the parts, by whether numbers may be late
 
 -- what stands in front of the ports' registers, what stands in front of the rows, and behind them
-abbrev declarations : Parts → ℕ → ℕ → Sizes → List Item
+abbrev pub declarations : Parts → ℕ → ℕ → Sizes → List Item
 declarations p wires start z = p.said ++ (cell_sizes wires start z ++ (cell_constants ++ cell_registers))
 
-abbrev ways : Parts → List Item
+abbrev pub ways : Parts → List Item
 ways p = p.ways ++ next_row_notes
 
-abbrev wires_of : Parts → List Item
+abbrev pub wires_of : Parts → List Item
 wires_of p = list_wires ++ (cell_fork_wires ++ (p.numbers ++ p.head))
 
 -- both modules of these
-abbrev behind : Parts → Arms → Stmt → List Item
+abbrev pub behind : Parts → Arms → Stmt → List Item
 behind p rows clock = ways p ++ (next_row_block rows ∷ (wires_of p ++ clocked clock ∷ []))
 
 abbrev plain : Parts → (wires start : ℕ) → Sizes → Arms → List Item
 plain p wires start z rows = cell_ports ++ (declarations p wires start z ++ behind p rows p.clock)
 
-abbrev ported : Parts → ℕ → (wires start : ℕ) → Sizes → Arms → List Item
+abbrev pub ported : Parts → ℕ → (wires start : ℕ) → Sizes → Arms → List Item
 ported p n wires start z rows =
     cell_ports ++ (arg_inputs 0 n ++ (arg_notes n ++ (declarations p wires start z ++ (held_registers n ++
     behind p rows (port_clock n p.clock)))))
+
+-- what is asked of names
+abbrev taken_items : List Item → Bool
+taken_items is = ports_first is && items_ok [] [] is
 
 plain_is : (late : Bool) (net : NetTree) (z : Sizes) →
     plain_module late net z
@@ -266,17 +269,17 @@ plain_is : (late : Bool) (net : NetTree) (z : Sizes) →
 plain_is false net z = refl
 plain_is true net z = refl
 
-ported_is : (late : Bool) (net : NetTree) (z : Sizes) (ps : List ℕ) →
+pub ported_is : (late : Bool) (net : NetTree) (z : Sizes) (ps : List ℕ) →
     port_module late net z ps
     ≡ ported (parts_of late (multiplies net.nodes)) (length ps) (length net.wires) (number (channel_of (start_of net))) z
     (port_arms ps net 0 (length net.wires))
 ported_is false net z ps = refl
 ported_is true net z ps = refl
 
--- the module without ports is well formed
-plain_ok : (late : Bool) (net : NetTree) (z : Sizes) → WellFormed (plain_module late net z) ≡ true
-plain_ok false net z = cell.well_formed net z
-plain_ok true net z = late_one.well_formed net z
+-- in the module without ports each name is declared once, and used as what it is
+plain_ok : (late : Bool) (net : NetTree) (z : Sizes) → (ports_first (plain_module late net z) && items_ok [] [] (plain_module late net z)) ≡ true
+plain_ok false net z = cell.declared_once net z
+plain_ok true net z = late_one.declared_once net z
 
 -- its names are own
 own_declarations : (late m : Bool) (wires start : ℕ) (z : Sizes) → own_items (declarations (parts_of late m) wires start z) ≡ true
@@ -486,12 +489,13 @@ module _ (late : Bool) (net : NetTree) (z : Sizes) (ps : List ℕ) (few : length
       (front_ok D (own_declarations late m W start z) E1 E0 [] (entries_same arg_name an_input (λ i. refl) 0 N E0 E0 same)
       (held_registers N ++ ks) (behind p others p.clock) registers_ok h)))
 
-  with_ports : WellFormed (port_module late net z ps) ≡ true
+  with_ports : (ports_first (port_module late net z ps) && items_ok [] [] (port_module late net z ps)) ≡ true
   with_ports =
-      ap WellFormed (ported_is late net z ps)
+      ap taken_items (ported_is late net z ps)
       ∙ and_from (ports_first (ported p N W start z rows)) (items_ok [] [] (ported p N W start z rows)) (first_ok late m N W start z rows)
       (all_ok (and_parts (ports_first (plain p W start z others)) (items_ok [] [] (plain p W start z others))
-      (sym (ap WellFormed (plain_is late net z)) ∙ plain_ok late net z)).1)
+      (sym (ap taken_items (plain_is late net z)) ∙ plain_ok late net z)).1)
 
-pub well_formed : PortModuleIsWellFormed
-well_formed = with_ports
+pub declared_once : (late : Bool) (net : NetTree) (z : Sizes) (ps : List ℕ) → length ps < 2 ^ 64 →
+    (ports_first (port_module late net z ps) && items_ok [] [] (port_module late net z ps)) ≡ true
+declared_once = with_ports

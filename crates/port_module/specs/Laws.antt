@@ -7,7 +7,8 @@ use Rattle.circuit_core.specs.Rows.{Channel, CONST, row_of, channel_of}
 use Rattle.verilog_tree.specs.Meaning.{Store, edge, set_vec}
 use Rattle.verilog_tree.specs.WellFormed.{WellFormed}
 use Rattle.cell_core.specs.Sizes.{Sizes}
-use Rattle.circuit_module.specs.InRange.{Named}
+use Rattle.circuit_module.specs.InRange.{Named, InRange}
+use Rattle.cell_module.specs.Laws.{Printable}
 use Rattle.open_nets.specs.Numbers.{with_numbers}
 use Rattle.port_module.specs.Module.{port_at, port_module, plain_module}
 use Rattle.port_module.specs.Edges.{port_reset, port_edges}
@@ -19,7 +20,8 @@ NoPorts = (late : Bool) (net : NetTree) (z : Sizes) → port_module late net z [
 -- with whatever places it is one that the standard takes
 abbrev pub PortModuleIsWellFormed : Type 0
 PortModuleIsWellFormed =
-    (late : Bool) (net : NetTree) (z : Sizes) (ps : List ℕ) → length ps < 2 ^ 64 → WellFormed (port_module late net z ps) ≡ true
+    (late : Bool) (net : NetTree) → InRange net → (z : Sizes) → Printable z → (ps : List ℕ) → length ps < 2 ^ 64 →
+    WellFormed (port_module late net z ps) ≡ true
 
 -- a run of the module without ports: a reset, and so many edges
 abbrev pub plain_edges : (late : Bool) → NetTree → Sizes → ℕ → Store → Store

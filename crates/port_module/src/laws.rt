@@ -7,7 +7,7 @@ pub fn law_no_ports()
     ensures { NoPorts }
 {}
 
-/// The module of every net, of whatever sizes and with whatever places, declares each name once and above its use, and uses it as what it
+/// The module of every net in range, of sizes that can be printed and with whatever places, declares each name once and above its use, and uses it as what it
 /// is; has one driver for each; and has no latch.
 pub fn law_port_well_formed()
     ensures { PortModuleIsWellFormed }

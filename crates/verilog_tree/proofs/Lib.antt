@@ -10,3 +10,5 @@ pub mod Names
 pub mod Frames
 -- the same by the test of well-formed trees
 pub mod Spared
+-- what has settled
+pub mod Settled

@@ -3,9 +3,11 @@
 -- as. A register is assigned to by one block, and a wire by its declaration alone. A block that settles sets all that it drives before
 -- anything else, and reads none of that there, so that no tool makes a latch of it. Sizes name parameters without a width. No expression
 -- names the clock.
--- It doesn't ask that each number without a width is below 2 ^ 31, that a part's first bound isn't below its second, that an index lies
--- within what it indexes (the meaning has bounds), or that a register which settles is read below its block (the laws see that).
-use Rattle.std.specs.Prelude.{ℕ, Bool, true, false, not, ◌&&◌, ◌||◌, List, [], ◌∷◌, ◌++◌, nat_eq, nat_le, nat_lt, codes}
+-- Nothing that settles is read at or above what settles it, so that there is no circle, and a block that settles reads something that it
+-- doesn't set. All widths and sizes are positive, and they and numbers without a width are below 2 ^ 31; no comparison is one of signed
+-- numbers, which those without a width are; a part has its higher bound first; each arm but the last has a label.
+-- It doesn't ask that an index lies within what it indexes (the meaning has bounds), or that a note is none that a tool obeys.
+use Rattle.std.specs.Prelude.{ℕ, ◌+◌, ◌^◌, Bool, true, false, not, ◌&&◌, ◌||◌, List, [], ◌∷◌, ◌++◌, nat_eq, nat_le, nat_lt, codes}
 use Prim.Native.String.{String}
 use lib.Text.{eqt}
 use Rattle.verilog_tree.specs.Tree.{Size, count, named, more, less, Expr, num, sized, const, name, bit, part, word, cat, inverse, two}
@@ -13,7 +15,7 @@ use Rattle.verilog_tree.specs.Tree.{shift, test, logic, none, any, every, pick, 
 use Rattle.verilog_tree.specs.Tree.{branch, cases, Said, word_said, number_said, Arms, otherwise, arm, Width, one, upto, wide}
 use Rattle.verilog_tree.specs.Tree.{Item, note, gap, size, constant}
 use Rattle.verilog_tree.specs.Tree.{input, output, reg, memory, wire, settles, clocked}
-use Rattle.verilog_tree.specs.Meaning.{chosen}
+use Rattle.verilog_tree.specs.Meaning.{chosen, amount, param_in}
 use Rattle.verilog_tree.specs.Print.{straight}
 
 -- what a name is declared as
@@ -196,25 +198,34 @@ abbrev pub exprs_ok : List Entry → List Expr → Bool
 exprs_ok env [] = true
 exprs_ok env (e ∷ es) = expr_ok env e && exprs_ok env es
 
--- an expression reads none of these names
-abbrev pub reads_none : List String → Expr → Bool
-reads_none xs (num n) = true
-reads_none xs (sized w n) = true
-reads_none xs (const x) = true
-reads_none xs (name x) = not (member x xs)
-reads_none xs (bit x e) = not (member x xs) && reads_none xs e
-reads_none xs (part x h l) = not (member x xs)
-reads_none xs (word m e) = not (member m xs) && reads_none xs e
-reads_none xs (cat a b) = reads_none xs a && reads_none xs b
-reads_none xs (inverse a) = reads_none xs a
-reads_none xs (two o a b) = reads_none xs a && reads_none xs b
-reads_none xs (shift o a b) = reads_none xs a && reads_none xs b
-reads_none xs (test o a b) = reads_none xs a && reads_none xs b
-reads_none xs (logic o a b) = reads_none xs a && reads_none xs b
-reads_none xs (none a) = reads_none xs a
-reads_none xs (any a) = reads_none xs a
-reads_none xs (every a) = reads_none xs a
-reads_none xs (pick c a b) = reads_none xs c && (reads_none xs a && reads_none xs b)
+-- an expression reads these names alone
+abbrev pub reads : (String → Bool) → Expr → Bool
+reads p (num n) = true
+reads p (sized w n) = true
+reads p (const x) = true
+reads p (name x) = p x
+reads p (bit x e) = p x && reads p e
+reads p (part x h l) = p x
+reads p (word m e) = p m && reads p e
+reads p (cat a b) = reads p a && reads p b
+reads p (inverse a) = reads p a
+reads p (two o a b) = reads p a && reads p b
+reads p (shift o a b) = reads p a && reads p b
+reads p (test o a b) = reads p a && reads p b
+reads p (logic o a b) = reads p a && reads p b
+reads p (none a) = reads p a
+reads p (any a) = reads p a
+reads p (every a) = reads p a
+reads p (pick c a b) = reads p c && (reads p a && reads p b)
+
+-- all of them do
+abbrev pub all_read : (String → Bool) → List Expr → Bool
+all_read p [] = true
+all_read p (e ∷ es) = reads p e && all_read p es
+
+-- it is none of these
+abbrev pub outside : List String → String → Bool
+outside xs x = not (member x xs)
 
 -- the names of both lists
 abbrev pub common : List String → List String → List String
@@ -233,10 +244,27 @@ sets_first (cases e arms) = []
 -- and reads there none of these
 abbrev pub first_reads : List String → Stmt → Bool
 first_reads xs skip = true
-first_reads xs (put t e) = reads_none xs e
+first_reads xs (put t e) = reads (outside xs) e
 first_reads xs (seq s t) = first_reads xs s && chosen (straight s) (first_reads xs t) true
-first_reads xs (branch e s t) = reads_none xs e && (first_reads xs s && first_reads xs t)
+first_reads xs (branch e s t) = reads (outside xs) e && (first_reads xs s && first_reads xs t)
 first_reads xs (cases e arms) = true
+
+-- a statement reads these names alone, in all of it
+abbrev pub index_reads : (String → Bool) → Target → Bool
+index_reads p (whole x) = true
+index_reads p (word_at m e) = reads p e
+
+abbrev mutual
+  pub block_reads : (String → Bool) → Stmt → Bool
+  block_reads p skip = true
+  block_reads p (put t e) = index_reads p t && reads p e
+  block_reads p (seq s t) = block_reads p s && block_reads p t
+  block_reads p (branch e s t) = reads p e && (block_reads p s && block_reads p t)
+  block_reads p (cases e arms) = reads p e && arms_read p arms
+
+  pub arms_read : (String → Bool) → Arms → Bool
+  arms_read p (otherwise s) = block_reads p s
+  arms_read p (arm es s c arms) = all_read p es && (block_reads p s && arms_read p arms)
 
 -- what an assignment assigns to
 abbrev pub target_name : Target → String
@@ -370,6 +398,144 @@ ports_first (input w x ∷ is) = ports_first is
 ports_first (output w x ∷ is) = ports_first is
 ports_first is = no_port is
 
+-- what settles: wires, and what blocks that settle set
+abbrev pub settling : List Item → List String
+settling [] = []
+settling (wire w x e ∷ is) = x ∷ settling is
+settling (settles s ∷ is) = sets_first s ++ settling is
+settling (i ∷ is) = settling is
+
+-- a wire reads nothing that settles at it or below, and a block nothing that settles below it, but itself something that it doesn't set;
+-- and what is settled by the one isn't by the other
+abbrev pub in_order : List Item → Bool
+in_order [] = true
+in_order (wire w x e ∷ is) = (reads (outside (x ∷ settling is)) e && outside (settling is) x) && in_order is
+in_order (settles s ∷ is) =
+    (block_reads (outside (settling is)) s && not (block_reads (λ x. member x (sets_first s)) s)) &&
+    (apart (sets_first s) (settling is) && in_order is)
+in_order (i ∷ is) = in_order is
+
+-- a number that tools take without a width
+abbrev pub small : ℕ → Bool
+small n = nat_lt n (2 ^ 31)
+
+-- a size is small, and nothing in it goes below 0
+abbrev pub size_fits : (String → ℕ) → Size → Bool
+size_fits p (count n) = small n
+size_fits p (named x) = small (p x)
+size_fits p (more a b) = small (amount p a + amount p b) && (size_fits p a && size_fits p b)
+size_fits p (less a b) = nat_le (amount p b) (amount p a) && (size_fits p a && size_fits p b)
+
+-- what is asked of a size, of one that has to be positive, and of both bounds of a part; and which names are sizes
+pub record Limits : Type 0 where
+  pub fits : Size → Bool
+  pub positive : Size → Bool
+  pub bounds : Size → Size → Bool
+  pub is_size : String → Bool
+
+-- a size has this name
+abbrev pub size_in : List Item → String → Bool
+size_in [] x = false
+size_in (size y n ∷ is) x = eqt y x || size_in is x
+size_in (i ∷ is) x = size_in is x
+
+-- the limits of a module
+abbrev pub limits : List Item → Limits
+limits is = record {
+  fits = size_fits (param_in is);
+  positive = λ k. nat_lt 0 (amount (param_in is) k) && size_fits (param_in is) k;
+  bounds = λ h l. nat_le (amount (param_in is) l) (amount (param_in is) h) && (size_fits (param_in is) h && size_fits (param_in is) l);
+  is_size = size_in is;
+}
+
+-- a width of one bit at least
+abbrev pub width_fits : Limits → Width → Bool
+width_fits L one = true
+width_fits L (upto h) = L.fits h
+width_fits L (wide k) = L.positive k
+
+-- a number without a width is signed, and so is what comes of such numbers alone (5.5.1); these names are sizes
+abbrev pub signed : (String → Bool) → Expr → Bool
+signed q (num n) = true
+signed q (const x) = q x
+signed q (inverse a) = signed q a
+signed q (two o a b) = signed q a && signed q b
+signed q (shift o a b) = signed q a
+signed q (pick c a b) = signed q a && signed q b
+signed q e = false
+
+-- the width of an expression is told by a size, too (5.1.14)
+abbrev pub bare : (String → Bool) → Expr → Bool
+bare q (const x) = q x
+bare q (inverse a) = bare q a
+bare q (two o a b) = bare q a || bare q b
+bare q (shift o a b) = bare q a
+bare q (pick c a b) = bare q a || bare q b
+bare q e = false
+
+-- an expression in which all of this is so
+abbrev pub expr_fits : Limits → Expr → Bool
+expr_fits L (num n) = small n
+expr_fits L (sized w n) = true
+expr_fits L (const x) = true
+expr_fits L (name x) = true
+expr_fits L (bit x e) = expr_fits L e
+expr_fits L (part x h l) = L.bounds h l
+expr_fits L (word m e) = expr_fits L e
+expr_fits L (cat a b) = not (bare L.is_size a || bare L.is_size b) && (expr_fits L a && expr_fits L b)
+expr_fits L (inverse a) = expr_fits L a
+expr_fits L (two o a b) = expr_fits L a && expr_fits L b
+expr_fits L (shift o a b) = expr_fits L a && expr_fits L b
+expr_fits L (test o a b) = not (signed L.is_size a && signed L.is_size b) && (expr_fits L a && expr_fits L b)
+expr_fits L (logic o a b) = expr_fits L a && expr_fits L b
+expr_fits L (none a) = expr_fits L a
+expr_fits L (any a) = expr_fits L a
+expr_fits L (every a) = expr_fits L a
+expr_fits L (pick c a b) = expr_fits L c && (expr_fits L a && expr_fits L b)
+
+-- labels, of which there is one at least
+abbrev pub labels_fit : Limits → List Expr → Bool
+labels_fit L [] = false
+labels_fit L (e ∷ []) = expr_fits L e
+labels_fit L (e ∷ f ∷ es) = expr_fits L e && labels_fit L (f ∷ es)
+
+-- a statement
+abbrev pub target_fits : Limits → Target → Bool
+target_fits L (whole x) = true
+target_fits L (word_at m e) = expr_fits L e
+
+abbrev mutual
+  pub stmt_fits : Limits → Stmt → Bool
+  stmt_fits L skip = true
+  stmt_fits L (put t e) = target_fits L t && expr_fits L e
+  stmt_fits L (seq s t) = stmt_fits L s && stmt_fits L t
+  stmt_fits L (branch e s t) = expr_fits L e && (stmt_fits L s && stmt_fits L t)
+  stmt_fits L (cases e arms) = expr_fits L e && arms_fit L arms
+
+  pub arms_fit : Limits → Arms → Bool
+  arms_fit L (otherwise s) = stmt_fits L s
+  arms_fit L (arm es s c arms) = labels_fit L es && (stmt_fits L s && arms_fit L arms)
+
+-- an item
+abbrev pub item_fits : Limits → Item → Bool
+item_fits L (note s) = true
+item_fits L gap = true
+item_fits L (size x n) = small n
+item_fits L (constant w x n) = width_fits L w
+item_fits L (input w x) = width_fits L w
+item_fits L (output w x) = width_fits L w
+item_fits L (reg w x) = width_fits L w
+item_fits L (memory w x k) = width_fits L w && L.positive k
+item_fits L (wire w x e) = width_fits L w && expr_fits L e
+item_fits L (settles s) = stmt_fits L s
+item_fits L (clocked s) = stmt_fits L s
+
+-- and all of them
+abbrev pub items_fit : Limits → List Item → Bool
+items_fit L [] = true
+items_fit L (i ∷ is) = item_fits L i && items_fit L is
+
 -- a module that the standard takes
 abbrev pub WellFormed : List Item → Bool
-WellFormed is = ports_first is && items_ok [] [] is
+WellFormed is =
+    (ports_first is && items_ok [] [] is) && (in_order is && items_fit (limits is) is)

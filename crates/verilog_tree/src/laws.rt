@@ -1,11 +1,17 @@
 //! What holds of every tree, and of one module.
 
-ghost use Rattle.verilog_tree.specs.Laws.{Spared};
+ghost use Rattle.verilog_tree.specs.Laws.{Spared, SettlesOnce, SettledStays};
 ghost use Rattle.verilog_tree.specs.Example.{ExampleCounts, ExampleWidths, ExampleIsModule, ExampleRefused, ExampleText};
 
 /// What a statement doesn't assign to holds what it held.
 pub fn law_spared()
     ensures { Spared }
+{}
+
+/// Where all has settled, each wire is its expression, and to settle again changes nothing.
+pub fn law_settled()
+    ensures rests { SettlesOnce }
+    ensures stays { SettledStays }
 {}
 
 /// A module that counts, edge by edge; that it is a module and others aren't; and the text of a block.
