@@ -58,3 +58,5 @@ pub mod Fine
 pub mod Shows
 -- What is printed of a tree that was read is read back.
 pub mod Back
+-- Texts of the examples, by computing them.
+pub mod Examples

@@ -20,6 +20,8 @@ pub mod Sizes
 pub mod Placeless
 -- What the crate is for, beside what its calls answer: laws over texts and trees.
 pub mod Laws
+-- Texts with their trees, a case for each keyword and each sign.
+pub mod Examples
 -- For private contracts and proofs only: the states of a reading, the reading of a list of tokens and of what is left of a text, the
 -- tokens of a text character by character, and the views of the crate's own tokens.
 pub mod Machine

@@ -31,7 +31,9 @@ mod token;
 mod types;
 
 pub use fault::ReadFault;
-pub use laws::{law_bounded, law_one_fault, law_one_tree, law_read_back, law_text_or_fault};
+pub use laws::{
+    law_bounded, law_example_texts, law_one_fault, law_one_tree, law_read_back, law_text_or_fault,
+};
 use pcf_values::Named;
 use pcf_values::limits::PROGRAM_BYTES;
 pub use print::{print_term, print_ty};
