@@ -1,7 +1,7 @@
 -- Rounds and schedules against the span.
 -- Before round k each live token has rank k, and no rank is greater than the rounds of the start's question; so the answer comes in the
 -- round after those. Any other schedule raises no rank faster, and raises the least whenever no live ticket is left out.
-use Rattle.std.proofs.Common.{◌≡◌, ◌↔◌, ℕ, zero, suc, ◌+◌, ◌*◌, ◌≤◌, List, [], ◌∷◌, ◌++◌, length, Option, Some, None}
+use Rattle.std.proofs.Common.{◌≡◌, ◌↔◌, ℕ, zero, suc, ◌+◌, ◌-◌, ◌*◌, ◌≤◌, List, [], ◌∷◌, ◌++◌, length, Option, Some, None}
 use Rattle.std.proofs.Common.{refl, sym, ap, ◌∙◌, subst, ⊎_elim, arith}
 use Rattle.std.proofs.lemmas.List.{length-append}
 use Rattle.std.proofs.lemmas.Nat.{mul-le}
@@ -20,7 +20,8 @@ use Rattle.round_laws.specs.Rounds.{live_of, round_log}
 use Rattle.round_laws.specs.AfterRounds.{rounds}
 use Rattle.round_laws.specs.Units.{InState, AreUnits, joined, AnyUnit, NoneIdle, IsSchedule, LeavesNoneIdle}
 use Rattle.round_laws.specs.Spans.{Span}
-use Rattle.round_laws.proofs.Rounding.{one_state, live_whole, rounds_lead, rounds_led, rounds_before, some_live}
+use Rattle.round_laws.proofs.Rounding.{one_state, live_whole, rounds_lead, rounds_led, rounds_before, some_live, some_member}
+use Rattle.round_laws.proofs.Rounding.{unanswered_before}
 use Rattle.round_laws.proofs.Rounding.{run_on, from_then, run_both}
 use Rattle.round_laws.proofs.Takes.{Takes, takes_one, takes_gives, asks_takes, span_takes, takes_span}
 use Rattle.round_laws.proofs.Begins.{within_span}
@@ -203,23 +204,25 @@ module _ (net : NetTree) (runs : Runs net) where
       let (n, y, l) = t.answered v e in
       (suc n, takes_span net v n y, omega arith)
 
-  -- the state that units lead to, by its least rank: p times the units, less what the least rank has risen, is at most the moves
-  abbrev Risen : ℕ → List (List ℕ) → ℕ → State → ℕ → Type 0
-  Risen p ls lo T k = (top : ℕ) × Timed net T (k + length ls) (k + length ls) (Between top (k + length ls)) ×
-      (p * length ls + p * lo ≤ length (joined ls) + p * top)
+  -- the state that units lead to, by its least rank: one of p = q + 1 processors stands still in a unit that leaves none out, and such a
+  -- unit has a move and raises the least rank. So p times the units, less q times what the least rank has risen, is at most the moves
+  abbrev Risen : ℕ → ℕ → List (List ℕ) → ℕ → State → ℕ → Type 0
+  Risen p q ls lo T k = (top : ℕ) × Timed net T (k + length ls) (k + length ls) (Between top (k + length ls)) ×
+      (p * length ls + q * lo ≤ length (joined ls) + q * top)
 
-  busy_timed : (p : ℕ) (ls : List (List ℕ)) (log : List ℕ) (S T : State) (k lo : ℕ) → LeadsTo net log S → AreUnits (NoneIdle p) net S ls →
-      Timed net S k k (Between lo k) → run net S (joined ls) ≡ Some T → Risen p ls lo T k
-  busy_timed p [] log S T k lo h u t r =
+  busy_timed : (p q : ℕ) → suc q ≡ p → (ls : List (List ℕ)) (log : List ℕ) (S T : State) (k lo : ℕ) → LeadsTo net log S →
+      AreUnits (NoneIdle p) net S ls → Timed net S k k (Between lo k) → run net S (joined ls) ≡ Some T → T.answered ≡ None →
+      Risen p q ls lo T k
+  busy_timed p q e [] log S T k lo h u t r none =
       let z : k ≡ k + 0 = omega arith in (
         lo,
         subst (λ k. Timed net T k k (Between lo k)) z (subst (λ S. Timed net S k k (Between lo k)) (one_state S T r) t),
-        nothing p lo,
+        nothing p q lo,
       )
     where
-      nothing : (p lo : ℕ) → p * 0 + p * lo ≤ 0 + p * lo
-      nothing p lo = grind arith
-  busy_timed p (l ∷ ls) log S T k lo h (u, busy, rest) t r =
+      nothing : (p q lo : ℕ) → p * 0 + q * lo ≤ 0 + q * lo
+      nothing p q lo = grind arith
+  busy_timed p q e (l ∷ ls) log S T k lo h (u, busy, rest) t r none =
       let (S1, s, r1) = from_then (run net S l) (λ S. run net S (joined ls)) T (sym (run_both net l (joined ls) S) ∙ r) in
       let led1 = run_on net log l _ S S1 h s in
       let rest1 = in_state (run net S l) _ S1 s rest in
@@ -227,45 +230,48 @@ module _ (net : NetTree) (runs : Runs net) where
       (λ w.
       let t1 = timed_more net S1 (suc k) (suc k) (suc k) (suc k) _ (Between (suc lo) (suc k)) runs.sound (omega arith) (omega arith)
       (λ j n (a, b, c). (c tt, b)) (unit_timed net runs (Unit {0}) lo k l log S S1 h u (λ c. w) t s) in
-      whole (busy_timed p ls (log ++ l) S1 T (suc k) (suc lo) led1 rest1 t1 r1))
+      let (i, live) = some_live net runs log S h (unanswered_before net runs log (joined (l ∷ ls)) S T h r none) in
+      whole (some_member l i (w i live)) (busy_timed p q e ls (log ++ l) S1 T (suc k) (suc lo) led1 rest1 t1 r1 none))
       (λ w.
       let t1 = timed_more net S1 (suc k) (suc k) (suc k) (suc k) _ (Between lo (suc k)) runs.sound (omega arith) (omega arith)
       (λ j n (a, b, c). (a, b)) (unit_timed net runs ⊥ lo k l log S S1 h u (λ c. absurd c) t s) in
-      full w (busy_timed p ls (log ++ l) S1 T (suc k) lo led1 rest1 t1 r1)) busy
+      full w (busy_timed p q e ls (log ++ l) S1 T (suc k) lo led1 rest1 t1 r1 none)) busy
     where
       z : suc k + length ls ≡ k + suc (length ls)
       z = omega arith
 
-      whole : Risen p ls (suc lo) T (suc k) → Risen p (l ∷ ls) lo T k
-      whole (top, t, le) =
+      whole : 1 ≤ length l → Risen p q ls (suc lo) T (suc k) → Risen p q (l ∷ ls) lo T k
+      whole one (top, t, le) =
           let a = mul_suc p (length ls) in
-          let b = mul_suc p lo in
+          let b = mul_suc q lo in
           let c = length-append l (joined ls) in
-          (top, subst (λ k. Timed net T k k (Between top k)) z t, omega (arith, a, b, c, le))
+          (top, subst (λ k. Timed net T k k (Between top k)) z t, omega (arith, a, b, c, le, one, e))
 
-      full : p ≤ length l → Risen p ls lo T (suc k) → Risen p (l ∷ ls) lo T k
+      full : p ≤ length l → Risen p q ls lo T (suc k) → Risen p q (l ∷ ls) lo T k
       full w (top, t, le) =
           let a = mul_suc p (length ls) in
           let c = length-append l (joined ls) in
           (top, subst (λ k. Timed net T k k (Between top k)) z t, omega (arith, a, c, le, w))
 
-  pub nearly_as_fast : (v : Val) (n : ℕ) → Span net v n → (p : ℕ) (ls : List (List ℕ)) → LeavesNoneIdle p net ls → (S : State) →
-      LeadsTo net (joined ls) S → S.answered ≡ None → p * suc (length ls) ≤ length (joined ls) + p * n
-  nearly_as_fast v n s p ls u S h e =
-      let (m, y, q) = span_takes net v n s in
-      let (top, t, le) = busy_timed p ls [] (start (start_of net)) S 0 0 refl u (start_timed net) h in
-      let (i, (x, live)) = some_live net runs (joined ls) S h e in
+  -- at the end the least rank is that of a live token, and so within the span
+  nearly_by : (v : Val) (n : ℕ) → Span net v n → (p q : ℕ) → suc q ≡ p → (ls : List (List ℕ)) → LeavesNoneIdle p net ls →
+      (S : State) → LeadsTo net (joined ls) S → S.answered ≡ None → p * suc (length ls) ≤ suc (length (joined ls)) + q * n
+  nearly_by v n s p q e ls u S h none =
+      let (m, y, d) = span_takes net v n s in
+      let (top, t, le) = busy_timed p q e ls [] (start (start_of net)) S 0 0 refl u (start_timed net) h none in
+      let (i, (x, live)) = some_live net runs (joined ls) S h none in
       let (r, ranks, (low, high)) = t.tokens i x live in
       let most = rank_within net runs x r ranks v m y in
       let a = mul_suc p (length ls) in
-      let b = mul_suc p m in
-      let c = mul_le p top m (omega arith) in
-      let d = ap (λ n. p * n) q in
-      let o = mul_zero p in
-      omega (arith, a, b, c, d, le, o)
+      let b = mul_suc q m in
+      let c = mul-le q top q m (omega arith) (omega (arith, low, most)) in
+      let f = ap (λ n. q * n) d in
+      let o = mul_zero q in
+      omega (arith, a, b, c, f, le, o, e)
     where
       mul_zero : (p : ℕ) → p * 0 ≡ 0
       mul_zero p = grind arith
 
-      mul_le : (p a b : ℕ) → a ≤ b → p * a ≤ p * b
-      mul_le p a b l = mul-le p a p b (omega arith) l
+  pub nearly_as_fast : (v : Val) (n : ℕ) → Span net v n → (p : ℕ) → 1 ≤ p → (ls : List (List ℕ)) → LeavesNoneIdle p net ls →
+      (S : State) → LeadsTo net (joined ls) S → S.answered ≡ None → p * suc (length ls) ≤ suc (length (joined ls)) + (p - 1) * n
+  nearly_as_fast v n s p some ls u S h none = nearly_by v n s p (p - 1) (omega (arith, some)) ls u S h none

@@ -5,8 +5,8 @@ ghost use Rattle.round_laws.specs.RoundLaws.{RoundsAnswer, RoundsAsLong};
 ghost use Rattle.round_laws.specs.OrderLaws.{UnitsRun, UnitOrder, RoundOrder};
 ghost use Rattle.round_laws.specs.Programs.{MeansSpan, RoundsMean};
 ghost use Rattle.round_laws.specs.Example.{ExampleRounds, ExampleSpans};
-ghost use Rattle.round_laws.specs.ScheduleLaws.{RoundsSchedule, NoFaster, NearlyAsFast, EnoughProcessors};
-ghost use Rattle.round_laws.specs.ScheduleLaws.{ProcessorsCan, WorkTakesUnits, AtMostTwice};
+ghost use Rattle.round_laws.specs.ScheduleLaws.{RoundsSchedule, NoFaster, NearlyAsFast, BoundOfBrent, EnoughProcessors};
+ghost use Rattle.round_laws.specs.ScheduleLaws.{ProcessorsCan, WorkTakesUnits, BoundOfGraham};
 ghost use Rattle.round_laws.specs.SpanLaws.{OneSpan, RoundsTell, SpanIsThere, SpanAtMost, SpanAtLeast};
 
 /// A round moves each live ticket once, the least first. Rounds are the run of their log; on a net that runs any number of them leads to a
@@ -45,21 +45,22 @@ pub fn law_span()
 {}
 
 /// No schedule in which each token moves at most once in a unit of time answers in fewer units than the span. A schedule that leaves none
-/// of p processors idle while a token waits takes at most the span and a p-th of the moves. It makes the rounds where no more than p tokens
-/// are live at once.
+/// of p processors idle while a token waits takes at most a p-th of the moves and 1 - 1 / p of the span. It makes the rounds where no more
+/// than p tokens are live at once.
 pub fn law_schedules()
     ensures rounds { RoundsSchedule }
     ensures no_faster { NoFaster }
     ensures nearly_as_fast { NearlyAsFast }
+    ensures brent { BoundOfBrent }
     ensures enough { EnoughProcessors }
 {}
 
 /// p processors can leave none idle, in units of p tokens at most. Their units are at least a p-th of the moves, so leaving none idle takes
-/// at most twice as many units as any schedule of p processors.
+/// at most 2 - 1 / p times as many units as any schedule of p processors.
 pub fn law_processors()
     ensures can { ProcessorsCan }
     ensures work { WorkTakesUnits }
-    ensures twice { AtMostTwice }
+    ensures graham { BoundOfGraham }
 {}
 
 /// A closed term of type `nat` means a value by name exactly when its net has that value and a span, and exactly when some number of

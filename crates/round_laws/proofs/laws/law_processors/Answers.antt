@@ -1,5 +1,5 @@
 use Rattle.round_laws.proofs.Scheduled.{processors_can}
-use Rattle.round_laws.proofs.Working.{work_takes_units, at_most_twice}
+use Rattle.round_laws.proofs.Working.{work_takes_units, bound_of_graham}
 use Rattle.round_laws.proofs.laws.law_processors.Goals as goal
 
 pub returns-clause-can : goal.returns-clause-can
@@ -8,5 +8,5 @@ returns-clause-can c = processors_can
 pub returns-clause-work : goal.returns-clause-work
 returns-clause-work c = work_takes_units
 
-pub returns-clause-twice : goal.returns-clause-twice
-returns-clause-twice c = at_most_twice
+pub returns-clause-graham : goal.returns-clause-graham
+returns-clause-graham c = bound_of_graham
