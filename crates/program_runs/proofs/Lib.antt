@@ -8,3 +8,5 @@ pub mod Texts
 pub mod Sized
 -- The lengths of some programs, each by a depth that is enough for its question, and by computing it.
 mod Examples
+-- What some texts mean, by computing it from their bytes.
+mod ExampleTexts

@@ -10,6 +10,8 @@ pub mod RunsText
 pub mod Laws
 -- Values and lengths of some programs by name and by value.
 pub mod Examples
+-- What some texts mean, from their bytes to their values.
+pub mod ExampleTexts
 -- why there is no run, and the nets on the way to one
 --
 -- Why a text has no run: memory ran out, which may come at any time, or the text has a fault.

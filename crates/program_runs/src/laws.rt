@@ -2,6 +2,7 @@
 
 ghost use Rattle.program_runs.specs.Laws.{OneProgram, MovesTell, RunsTell};
 ghost use Rattle.program_runs.specs.Examples.{ExampleCallings};
+ghost use Rattle.program_runs.specs.ExampleTexts.{ExampleTexts};
 
 use adequacy_laws::law_finished;
 use cbv_terms::law_faults;
@@ -29,4 +30,9 @@ pub fn law_tells()
 /// Values and lengths of the nets of some programs and of their translations, as the prover computes them.
 pub fn law_example_callings()
     ensures { ExampleCallings }
+{}
+
+/// What some texts mean, from their bytes to their values, as the prover computes it.
+pub fn law_example_meanings()
+    ensures { ExampleTexts }
 {}

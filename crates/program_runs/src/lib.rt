@@ -18,7 +18,7 @@ mod running;
 pub use calling::{Calling, calling_of};
 pub use crew::{Alone, Crew, Several};
 pub use fault::ProgramFault;
-pub use laws::{law_example_callings, law_one_program, law_tells};
+pub use laws::{law_example_callings, law_example_meanings, law_one_program, law_tells};
 pub use net::net_for;
 pub use no_run::NoRun;
 pub use running::run_text;
