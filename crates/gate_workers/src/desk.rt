@@ -60,6 +60,7 @@ pub(crate) struct Desk<B: Bench> {
     pub(crate) bench: B,
     asleep: u32,
     called: u32,
+    looking: u32,
 }
 
 impl<B: Bench> Desk<B> {
@@ -71,30 +72,62 @@ impl<B: Bench> Desk<B> {
             bench,
             asleep: 0,
             called: 0,
+            looking: 0,
         }
     }
 
-    /// How many sleepers to call after a booking: one for each piece for which none was called yet, as far as there are sleepers.
+    /// How many sleepers to call after a booking: one for each piece for which none was called yet and nobody looks, as far as there are
+    /// sleepers.
     fn call(&mut self) -> u32
         ensures bench { self.new.bench ≡ self.old.bench }
         ensures asleep { self.new.asleep + result ≡ self.old.asleep }
     {
-        let wanted = self.bench.spare().saturating_sub(self.called);
+        let awake = self.called.saturating_add(self.looking);
+        let wanted = self.bench.spare().saturating_sub(awake);
         let calls = wanted.min(self.asleep);
         self.asleep -= calls;
         self.called = self.called.saturating_add(calls);
         calls
     }
 
-    /// Serves a worker, and says how many sleepers to call: none where nothing was handed in.
-    pub(crate) fn attend(&mut self, worker: u32, brought: Brought<B::Made>) -> (Due<B::Piece>, u32)
+    /// Whether a worker looks for whom there is something.
+    fn has_news(&self) -> bool {
+        self.looking > 0 && self.bench.spare() > 0
+    }
+
+    /// Serves a worker, and says how many sleepers to call, and whether to tell who looks: none and no where nothing was handed in.
+    pub(crate) fn attend(
+        &mut self,
+        worker: u32,
+        brought: Brought<B::Made>,
+    ) -> (Due<B::Piece>, u32, bool)
         ensures asked { IfSome result.0.turn (λ turn. Asked B.takes_in B.gives self.old.bench worker brought turn self.new.bench) }
         ensures stopped { IfNone result.0.turn (Halted B.takes_in B.halts self.old.bench worker brought self.new.bench) }
     {
         let booked = brought.is_some();
         let due = serve(&mut self.bench, worker, brought);
         let calls = if booked { self.call() } else { 0 };
-        (due, calls)
+        let news = booked && self.has_news();
+        (due, calls, news)
+    }
+
+    /// Whether somebody looks.
+    pub(crate) fn somebody_looks(&self) -> bool {
+        self.looking > 0
+    }
+
+    /// One worker more looks.
+    pub(crate) fn begin_looking(&mut self)
+        ensures { self.new.bench ≡ self.old.bench }
+    {
+        self.looking = self.looking.saturating_add(1);
+    }
+
+    /// A worker looks no more.
+    pub(crate) fn end_looking(&mut self)
+        ensures { self.new.bench ≡ self.old.bench }
+    {
+        self.looking = self.looking.saturating_sub(1);
     }
 
     /// One worker more sleeps.

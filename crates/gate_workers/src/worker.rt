@@ -13,11 +13,12 @@ use crate::{Bench, Gate, Turn};
 use std::alloc::Global;
 use std::sync::Wait;
 
-/// A worker with no piece: its number, how often it has passed the gate, and what it brings.
+/// A worker with no piece: its number, how often it has passed the gate, what it brings, and whether it looked for a piece in vain.
 pub(crate) struct Idle<B: Bench> {
     number: u32,
     turns: u64,
     brought: Brought<B::Made>,
+    tired: bool,
 }
 
 /// A worker with a piece.
@@ -60,6 +61,7 @@ impl<B: Bench> Idle<B> {
             number,
             turns: 0,
             brought: None,
+            tired: false,
         }
     }
 
@@ -76,8 +78,9 @@ impl<B: Bench> Idle<B> {
             number,
             turns,
             brought,
+            tired,
         } = self;
-        let Due { turn } = attend(rt, hall, number, brought);
+        let (Due { turn }, tired) = attend(rt, hall, number, brought, tired);
         match turn {
             Some(Turn::Piece(piece)) => Some(Ok(Busy {
                 number,
@@ -88,6 +91,7 @@ impl<B: Bench> Idle<B> {
                 number,
                 turns,
                 brought: None,
+                tired,
             })),
             Some(Turn::Over) | None => None,
         }
@@ -141,6 +145,7 @@ impl<B: Bench> Busy<B> {
             number,
             turns: next_turn(turns),
             brought: Some(B::work(alloc, tool, piece)),
+            tired: false,
         }
     }
 }
