@@ -1,27 +1,48 @@
 -- What booked branches leave.
-use Rattle.std.proofs.Common.{◌≡◌, ◌<◌, ℕ, List, [], ◌∷◌, ◌++◌, length, set, replicate, Option}
-use Rattle.std.proofs.Common.{Some, None, sym, ap, ◌∙◌, subst, inl, inr, ⊎_elim, arith}
-use Rattle.std.specs.Prelude.{map}
+use Rattle.std.proofs.Common.{◌≡◌, ◌<◌, ℕ, zero, suc, List, [], ◌∷◌, ◌++◌, length, set, replicate, Option}
+use Rattle.std.proofs.Common.{Some, None, sym, ap, ◌∙◌, subst, inl, inr, ⊎_elim, arith, refl, length-append, append-nil}
+use Rattle.std.specs.Prelude.{map, IfSome, IfNone}
+use Rattle.std.specs.Option.{MatchOption}
+use Rattle.pcf_values.specs.Most.{most_budget}
+use Rattle.schedule_log.proofs.Taken.{tickets_all}
+use Rattle.token_pool.proofs.Holding.{in_sum}
+use Rattle.interleave_laws.specs.MapRuns.{IsReachedWithin}
 use Rattle.std.proofs.lemmas.Bool.{cases_eq}
 use Rattle.std.proofs.lemmas.List.{length-map}
 use Rattle.net_build.specs.Nets.{NetTree}
 use Rattle.interleave_laws.specs.Start.{start_of}
-use Rattle.interleave_laws.specs.Maps.{MapState, start_map, run_map}
-use Rattle.interleave_laws.proofs.MapLaws.{map_low, run_both}
+use Rattle.interleave_laws.specs.Maps.{MapState, start_map, step_map, run_map, then_run_map}
+use Rattle.interleave_laws.proofs.MapLaws.{map_low, map_others, run_both}
 use Rattle.branch_laws.specs.Branches.{name, GraftOf}
 use Rattle.branch_laws.proofs.Mapped.{map_runs, map_grafts, map_leaves}
 use Rattle.branch_laws.proofs.Playing.{plain_names}
-use Rattle.branch_runs.specs.Branching.{Grown, IsBranch}
+use Rattle.branch_runs.specs.Branching.{Grown, IsBranch, Taken}
 use Rattle.schedule_log.specs.declared.entry.Entry.{Entry}
 use Rattle.schedule_log.specs.Logs.{by, tickets_in_log}
 use Rattle.token_pool.specs.declared.entries.Held.{Held}
 use Rattle.token_pool.specs.declared.entries.Booked.TheVariants.{Done}
 use Rattle.token_pool.specs.Pools.{Pool, Holds, Good}
-use Rattle.token_pool.specs.Branches.{TakesOver, BranchMoves, BooksAll, BookedBranch}
+use Rattle.token_pool.specs.Branches.{HasRoom, one_more, TakesOver, StopsAt, BranchMoves, BooksAll, BookedBranch}
 use Rattle.token_pool.proofs.Moving.{Leads, many_leads, leads_good}
 
 one_state : (S T : MapState) → Some S ≡ Some T → S ≡ T
 one_state S T h = cc
+
+-- what is called so is another ticket than one that was given out before
+named_apart : (i next own j : ℕ) → j < next → (j ≡ i → ⊥) → (j ≡ name i next own → ⊥)
+named_apart i next zero j low d e = d e
+named_apart i next (suc k) j low d e = omega (arith, low, e)
+
+-- a run behind another
+pub runs_behind : (net : NetTree) (log more : List ℕ) (S T : MapState) → run_map net S log ≡ Some T →
+    run_map net S (log ++ more) ≡ run_map net T more
+runs_behind net [] more S T e = let s : S ≡ T = one_state S T e in ap (λ S. run_map net S more) s
+runs_behind net (j ∷ log) more S T e = go (step_map net S j) (λ V. runs_behind net log more V T) e
+  where
+    go : (o : Option MapState) → ((V : MapState) → run_map net V log ≡ Some T → run_map net V (log ++ more) ≡ run_map net T more) →
+        then_run_map o (λ S. run_map net S log) ≡ Some T → then_run_map o (λ S. run_map net S (log ++ more)) ≡ run_map net T more
+    go None ih e = absurd cc
+    go (Some V) ih e = ih V e
 
 module _ (p : Pool) (good : Good p) (w : ℕ) (h : Held) (at : Holds p.held w h) (l : w < p.workers) (b : Grown)
     (branch : IsBranch p.net b) (T : MapState) where
@@ -58,14 +79,66 @@ module _ (p : Pool) (good : Good p) (w : ℕ) (h : Held) (at : Holds p.held w h)
           few = omega (arith, n, few);
         }
 
-  branch_leads : (tickets : List ℕ) → BranchMoves p.state p.workers h b tickets → run_map p.net p.state tickets ≡ Some T →
-      Leads p h tickets T
-  branch_leads tickets (inl (over, e)) steps =
-      let steps' = subst (λ k. run_map p.net p.state k ≡ Some T) e steps in
-      subst (λ k. Leads p h k T) (sym e)
-      (⊎_elim (λ one. plain_leads over steps' one) (λ many. forks_lead over steps' many) (cases_eq p.workers 1))
-  branch_leads tickets (inr (other, e)) steps =
-      subst (λ k. Leads p h k T) (sym e) (step_leads (subst (λ k. run_map p.net p.state k ≡ Some T) e steps))
+module _ (p : Pool) (good : Good p) (w : ℕ) (h : Held) (at : Holds p.held w h) (l : w < p.workers) (b : Grown)
+    (branch : IsBranch p.net b) where
+  module _ (T : MapState) (over : TakesOver p.state p.workers h b)
+      (steps : run_map p.net p.state (map (name h.ticket p.state.next) b.log) ≡ Some T) where
+    -- and the step behind it, where there are two workers or more
+    behind_leads : (i : ℕ) → StopsAt h p.state.next p.workers b i → (U : MapState) →
+        run_map p.net p.state (map (name h.ticket p.state.next) b.log ++ i ∷ []) ≡ Some U →
+        Leads p h (map (name h.ticket p.state.next) b.log ++ i ∷ []) U
+    behind_leads i stop U steps' = go (step_map p.net T i) refl
+      where
+        before : Leads p h (map (name h.ticket p.state.next) b.log) T
+        before = forks_lead p good w h at l b branch T over steps (λ one. let m = stop.many in omega (arith, m, one))
+
+        log : List ℕ
+        log = tickets_in_log p.log
+
+        made : List ℕ
+        made = map (name h.ticket p.state.next) b.log
+
+        both : run_map p.net p.state (made ++ i ∷ []) ≡ run_map p.net T (i ∷ [])
+        both = runs_behind p.net made (i ∷ []) p.state T steps
+
+        apart : (j : ℕ) → j < p.state.next → (j ≡ h.ticket → ⊥) → (j ≡ i → ⊥)
+        apart j low d e = named_apart h.ticket p.state.next stop.own j low d (e ∙ stop.called)
+
+        go : (o : Option MapState) → step_map p.net T i ≡ o → Leads p h (made ++ i ∷ []) U
+        go None e = let k = sym both ∙ steps' in
+            let n : run_map p.net T (i ∷ []) ≡ None = ap (λ o. then_run_map o (λ S. Some S)) e in absurd cc
+        go (Some V) e =
+            let n : run_map p.net T (i ∷ []) ≡ Some V = ap (λ o. then_run_map o (λ S. Some S)) e in
+            let same : V ≡ U = one_state V U (sym n ∙ sym both ∙ steps') in
+            let step : step_map p.net T i ≡ Some U = e ∙ ap Some same in
+            let m = length-map b.log (name h.ticket p.state.next) in
+            let k = length-append made (i ∷ []) in
+            let more = stop.more in
+            record {
+              leads = run_both p.net log (made ++ i ∷ []) (start_map (start_of p.net)) p.state U good.leads steps';
+              stays = λ j x at d.
+                  map_others p.net good.runs.sound (log ++ made) T before.leads U i j x step
+                  (apart j (map_low p.net good.runs.sound log p.state good.leads j x at) d) (before.stays j x at d);
+              ours = λ single. absurd (let m = stop.many in omega (arith, m, single));
+              few = omega (arith, m, k, more);
+            }
+
+  module _ (T : MapState) where
+    branch_leads : (tickets : List ℕ) → BranchMoves p.state p.workers h b tickets → run_map p.net p.state tickets ≡ Some T →
+        Leads p h tickets T
+    branch_leads tickets (inl (over, inl e)) steps =
+        let steps' = subst (λ k. run_map p.net p.state k ≡ Some T) e steps in
+        subst (λ k. Leads p h k T) (sym e)
+        (⊎_elim (λ one. plain_leads p good w h at l b branch T over steps' one) (λ many. forks_lead p good w h at l b branch T over steps' many) (cases_eq p.workers 1))
+    branch_leads tickets (inl (over, inr (i, stop, e))) steps =
+        let (U, g) = map_grafts p.net good.runs.sound (tickets_in_log p.log) p.state good.leads h.ticket b.before over.token b.log b.after
+        branch.branched in
+        let r = map_runs p.net good.runs.sound (tickets_in_log p.log) p.state good.leads h.ticket b.before over.token b.log b.after
+        branch.branched U g in
+        subst (λ k. Leads p h k T) (sym e)
+        (behind_leads U over r i stop T (subst (λ k. run_map p.net p.state k ≡ Some T) e steps))
+    branch_leads tickets (inr (other, e)) steps =
+        subst (λ k. Leads p h k T) (sym e) (step_leads p good w h at l b branch T (subst (λ k. run_map p.net p.state k ≡ Some T) e steps))
 
 -- a good pool stays good where a branch of what a worker holds is booked
 pub branch_book_keeps : (p q : Pool) (w : ℕ) (h : Held) (b : Grown) (tickets : List ℕ) → Good p → Holds p.held w h → w < p.workers →
@@ -99,3 +172,45 @@ module _ (p : Pool) (good : Good p) (w : ℕ) (h : Held) (at : Holds p.held w h)
 pub is_branch : (p P : Pool) (net : NetTree) → p ≡ P → P.net ≡ net → (a b : Grown) → a ≡ b → IsBranch net a → IsBranch p.net b
 is_branch p P net q named a b e branch =
     subst (λ n. IsBranch n b) (sym (ap (λ (P : Pool). P.net) q ∙ named)) (subst (IsBranch net) e branch)
+
+-- a step behind the branch is within what a run may have
+pub reached_behind : (net N : NetTree) (S T : MapState) (h : Held) (next workers : ℕ) (b : Grown) (tickets : List ℕ) (stop : Option ℕ) →
+    net ≡ N → HasRoom net S h.allowance → IfSome stop (StopsAt h next workers b) → tickets ≡ b.log →
+    run_map N S (map (name h.ticket S.next) tickets) ≡ Some T → IfSome stop (λ i. IsReachedWithin net most_budget T)
+reached_behind net N S T h next workers b tickets None same room stops own steps = tt
+reached_behind net N S T h next workers b tickets (Some i) same (log, leads, few) stops own steps =
+    let made = map (name h.ticket S.next) tickets in
+    let m = length-map tickets (name h.ticket S.next) in
+    let k = length-append log made in
+    let o = ap length own in
+    let more = stops.more in (
+      log ++ made,
+      run_both net log made (start_map (start_of net)) S T leads (subst (λ n. run_map n S made ≡ Some T) (sym same) steps),
+      omega (arith, m, k, o, more, few),
+    )
+
+-- the branch's moves and the step behind them
+pub steps_behind : (net N : NetTree) (S T U : MapState) (made : List ℕ) (stop last : Option ℕ) → net ≡ N →
+    run_map N S made ≡ Some T → IfSome last (λ i. (stop ≡ Some i) × (step_map net T i ≡ Some U)) → IfNone last (U ≡ T) →
+    run_map net S (made ++ one_more last) ≡ Some U
+steps_behind net N S T U made stop None same steps some none =
+    ap (run_map net S) (append-nil made) ∙ subst (λ n. run_map n S made ≡ Some T) (sym same) steps ∙ ap Some (sym none)
+steps_behind net N S T U made stop (Some i) same steps some none =
+    runs_behind net made (i ∷ []) S T (subst (λ n. run_map n S made ≡ Some T) (sym same) steps) ∙
+    ap (λ o. then_run_map o (λ S. Some S)) some.1
+
+-- what is grafted is a branch that is taken over
+pub grafted_so : (N : NetTree) (S T : MapState) (h : Held) (workers : ℕ) (b : Grown) (o : Option (List ℕ)) (tickets : List ℕ) →
+    o ≡ Some tickets → MatchOption o ((TakesOver S workers h b → ⊥) × (T ≡ S))
+    (λ tickets. TakesOver S workers h b × Taken N S h.ticket b T tickets) → Taken N S h.ticket b T tickets
+grafted_so N S T h workers b None tickets e m = absurd cc
+grafted_so N S T h workers b (Some own) tickets e m = let same : own ≡ tickets = cc in subst (Taken N S h.ticket b T) same m.1
+
+-- a log that leads to the pool's state leaves room for what is set aside
+pub has_room : (p : Pool) (w : ℕ) (h : Held) → Good p → Holds p.held w h → HasRoom p.net p.state h.allowance
+has_room p w h good at =
+    let s = in_sum p.held w h at in
+    let i = good.within in
+    let b = good.limits.few_moves in
+    let k = tickets_all p.log in
+    (tickets_in_log p.log, good.leads, omega (arith, s, i, b, k))

@@ -20,3 +20,5 @@ mod Free
 mod Standing
 -- the finisher's moves, one after another
 pub mod Finishing
+-- The move that a log kept as runs has last.
+mod Own

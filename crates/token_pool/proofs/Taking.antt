@@ -1,10 +1,10 @@
 -- What a worker's turn leaves.
-use Rattle.std.proofs.Common.{◌≡◌, ◌⊎◌, ◌-◌, ◌/◌, ◌<◌, ◌≤◌, ℕ, min, max, Bool, true, false, ◌&&◌}
-use Rattle.std.proofs.Common.{◌||◌, is_some, length, set, slice_get, nat_eq, if◌then◌else◌, Option, Some, None, refl, sym, ap}
+use Rattle.std.proofs.Common.{◌≡◌, ◌⊎◌, ◌-◌, ◌/◌, ◌<◌, ◌≤◌, ℕ, min, max, Bool, true, false, not, ◌&&◌}
+use Rattle.std.proofs.Common.{◌||◌, is_some, length, set, slice_get, nat_eq, nat_lt, if◌then◌else◌, Option, Some, None, refl, sym, ap}
 use Rattle.std.proofs.Common.{◌∙◌, subst, inl, inr, ⊎_elim, arith, div-le_self, length-set}
 use Rattle.std.specs.Option.{IsSome}
 use Rattle.std.specs.FinMap.{get}
-use Rattle.std.proofs.lemmas.Bool.{cases_lt, eq-eqb, eqb-true}
+use Rattle.std.proofs.lemmas.Bool.{cases_lt, eq-eqb, eqb-true, lt-ltb, ltb-true}
 use Rattle.std.proofs.lemmas.Option.{slice_get-get_or}
 use Rattle.move_rules.specs.Places.{TokenTree}
 use Rattle.interleave_laws.specs.Maps.{seen}
@@ -19,7 +19,7 @@ use Rattle.token_pool.specs.declared.entries.Reply.TheVariants.{Stopped, Token, 
 use Rattle.token_pool.specs.Pools.{Pool, Holds, Good}
 use Rattle.token_pool.specs.Turns.{IsLeastFree, is_held, none_held, free, least_free, spent, allowance, is_ended, flat, own, on_own}
 use Rattle.token_pool.specs.Turns.{on_free, turn, held_after, taken}
-use Rattle.token_pool.specs.Branches.{words_in, for_branch, widened, branch_turn, branch_taken}
+use Rattle.token_pool.specs.Branches.{IsFree, MovedLast, words_in, last_by, free_or, newest_or, own_first, preferred, for_branch, widened, branch_turn, branch_taken}
 use Rattle.token_pool.proofs.Holding.{none_aside, at_place, held_after_set, set_same, sum_after_set, not_held, some_held, none_is}
 use Rattle.token_pool.proofs.Holding.{none_alone}
 use Rattle.token_pool.proofs.Free.{free_at}
@@ -102,14 +102,29 @@ reserved_line false None false (Some i) false a q = absurd cc
 part_of : (q r : ℕ) → q ≤ r → 1 ≤ r → (1 ≤ min 64 (max 1 q)) × (min 64 (max 1 q) ≤ r)
 part_of q r l m = (omega arith, omega arith)
 
-branch_part_of : (q r words : ℕ) → q ≤ r → 1 ≤ r → (1 ≤ min (max 1 q) (max 4096 words)) ×
-    (min (max 1 q) (max 4096 words) ≤ r)
+branch_part_of : (q r words : ℕ) → q ≤ r → 1 ≤ r → (1 ≤ max (min (max 1 q) 8192) (min r words)) ×
+    (max (min (max 1 q) 8192) (min r words) ≤ r)
 branch_part_of q r words l m = (omega arith, omega arith)
 
 -- a token that is free is live, and its ticket isn't held
 free_live : (b : Bool) (o : Option TokenTree) (x : TokenTree) → (if b then None else o) ≡ Some x → (b ≡ false) × (o ≡ Some x)
 free_live true o x h = absurd cc
 free_live false o x h = (refl, h)
+
+both_are : (a b : Bool) → (a && not b) ≡ true → (a ≡ true) × (b ≡ false)
+both_are true false e = (refl, refl)
+both_are true true e = absurd cc
+both_are false b e = absurd cc
+
+not_fewer : (n : ℕ) → nat_lt n 2 ≡ false → 2 ≤ n
+not_fewer n e = ⊎_elim (λ k. let t = lt-ltb n 2 k in absurd cc) (λ k. omega (arith, k)) (cases_lt n 2)
+
+no_fewer : (n : ℕ) → 2 ≤ n → nat_lt n 2 ≡ false
+no_fewer n l = go (nat_lt n 2) refl
+  where
+    go : (b : Bool) → nat_lt n 2 ≡ b → nat_lt n 2 ≡ false
+    go true e = let k = ltb-true n 2 e in absurd (omega (arith, l, k))
+    go false e = e
 
 module _ (p : Pool) (good : Good p) where
   -- what is left where the budget isn't made or set aside
@@ -118,14 +133,46 @@ module _ (p : Pool) (good : Good p) where
       (λ k. let i = good.within in let e = eq-eqb (spent p) p.budget (omega (arith, i, k)) in
       let bad : true ≡ false = sym e ∙ room in absurd cc) (cases_lt (spent p) p.budget)
 
-  -- a free ticket is given to a worker that holds nothing, with some of what is left
-  gives_good : (w : ℕ) (h : Held) → w < p.workers → slice_get p.held w ≡ Some None → least_free p ≡ Some h.ticket →
+  -- the ticket may be given out: it is live and free, and the least one where there is one worker
+  record Givable (i : ℕ) : Type 0 where
+    live : IsSome (get p.state.tokens i)
+    nobody : is_held p.held i ≡ false
+    low : p.workers ≡ 1 → (j : ℕ) → j < i → get (free p) j ≡ None
+
+  least_givable : (i : ℕ) → least_free p ≡ Some i → Givable i
+  least_givable i found =
+      let (_, (x, f), below) = least_found (λ i. get (free p) i) p.state.next 0 i found in
+      let (nobody, here) = free_live (is_held p.held i) (get p.state.tokens i) x (sym (free_at p.state.tokens p.held i) ∙ f) in
+      record { live = subst IsSome (sym here) refl; nobody = nobody; low = λ _ j l. below j (omega arith) l }
+
+  -- so may the one that a worker is given that goes on with its own
+  own_givable : (w i : ℕ) → Givable i → Givable (own_first p.state p.held p.log p.workers w i)
+  own_givable w i g = go (nat_lt p.workers 2) refl (last_by w p.log)
+    where
+      pick : (nat_lt p.workers 2 ≡ false) → (i : ℕ) → Givable i → (j : ℕ) → (b : Bool) →
+          (is_some (get p.state.tokens j) && not (is_held p.held j)) ≡ b → Givable (if b then j else i)
+      pick e i g j false q = g
+      pick e i g j true q =
+          let (live, nobody) = both_are (is_some (get p.state.tokens j)) (is_held p.held j) q in
+          record {
+            live = live;
+            nobody = nobody;
+            low = λ one. let k = ap (λ n. nat_lt n 2) one in absurd cc;
+          }
+
+      pick_free : (nat_lt p.workers 2 ≡ false) → (i : ℕ) → Givable i → (j : ℕ) → Givable (free_or p.state p.held i j)
+      pick_free e i g j = pick e i g j (is_some (get p.state.tokens j) && not (is_held p.held j)) refl
+
+      go : (b : Bool) → nat_lt p.workers 2 ≡ b → (o : Option ℕ) → Givable (if b then i else newest_or p.state p.held i o)
+      go true e o = g
+      go false e None = g
+      go false e (Some j) = pick_free e (free_or p.state p.held i j) (pick_free e i g j) (p.state.next - 1)
+
+  -- such a ticket is given to a worker that holds nothing, with some of what is left
+  gives_good : (w : ℕ) (h : Held) → w < p.workers → slice_get p.held w ≡ Some None → Givable h.ticket →
       1 ≤ h.allowance → h.allowance ≤ p.budget - spent p → Good (record p { held = set p.held w (Some h) })
-  gives_good w h l own found some few =
-      let (_, (x, f), below) = least_found (λ i. get (free p) i) p.state.next 0 h.ticket found in
-      let (nobody, here) = free_live (is_held p.held h.ticket) (get p.state.tokens h.ticket) x
-      (sym (free_at p.state.tokens p.held h.ticket) ∙ f) in
-      let apart' = not_held p.held h.ticket nobody in
+  gives_good w h l own given some few =
+      let apart' = not_held p.held h.ticket given.nobody in
       let sum = sum_after_set p.held w None (Some h) own in
       record {
         runs = good.runs;
@@ -133,7 +180,7 @@ module _ (p : Pool) (good : Good p) where
         places = length-set p.held w (Some h) ∙ good.places;
         leads = good.leads;
         live = λ v g at. ⊎_elim
-            (λ q. let e : h ≡ g = cc in subst (λ (k : Held). IsSome (get p.state.tokens k.ticket)) e (subst IsSome (sym here) refl))
+            (λ q. let e : h ≡ g = cc in subst (λ (k : Held). IsSome (get p.state.tokens k.ticket)) e given.live)
             (λ q. good.live v g q.1) (held_after_set p.held w v (Some h) g at);
         apart = λ v u g k at bt e. ⊎_elim
             (λ q. ⊎_elim (λ r. q.0 ∙ sym r.0)
@@ -152,10 +199,10 @@ module _ (p : Pool) (good : Good p) where
           ours = (good.alone one).ours;
           least = λ v g at. ⊎_elim
               (λ q. let e : h ≡ g = cc in subst (λ (k : Held). IsLeastLive p.state k.ticket) e (
-                subst IsSome (sym here) refl,
+                given.live,
                 λ j m. let n = none_alone p.held w (good.places ∙ one) (subst (λ n. w < n) one l) own j in
                     ap (λ b. if b then None else get p.state.tokens j) (sym n) ∙ sym (free_at p.state.tokens p.held j) ∙
-                    below j (omega arith) m,
+                    given.low one j m,
               ))
               (λ q. (good.alone one).least v g q.1) (held_after_set p.held w v (Some h) g at);
         };
@@ -178,7 +225,7 @@ module _ (p : Pool) (good : Good p) where
       let a = g.allowed in
       let some = part.0 in
       let few = part.1 in
-      gives_good w h l (own_place w l g.own) g.found (omega (arith, a, some)) (omega (arith, a, few)))
+      gives_good w h l (own_place w l g.own) (least_givable h.ticket g.found) (omega (arith, a, some)) (omega (arith, a, few)))
       (lines p.stopped (slice_get p.held w) (is_ended p) (least_free p) (nat_eq (spent p) p.budget)
       (allowance (p.budget - spent p) p.workers) h e)
 
@@ -193,7 +240,7 @@ module _ (p : Pool) (good : Good p) where
 
   -- a worker that plays branches is given more of what is left
   branch_keeps : (w : ℕ) → w < p.workers → (o : Option Held) → own p.held w ≡ o → (t : Reply) → turn p w ≡ t →
-      Good (record p { held = held_after (if is_some o then t else widened p t) p.held w })
+      Good (record p { held = held_after (if is_some o then t else widened p (preferred p w t)) p.held w })
   branch_keeps w l (Some g) q t e = keeps w l t e
   branch_keeps w l None q Stopped e = good
   branch_keeps w l None q Ended e = good
@@ -201,9 +248,11 @@ module _ (p : Pool) (good : Good p) where
   branch_keeps w l None q Reserved e = good
   branch_keeps w l None q (Token h) e = ⊎_elim
       (λ own. let bad = ap flat own in absurd cc)
-      (λ g. let part = branch_part_of ((p.budget - spent p) / p.workers) (p.budget - spent p)
-      (words_in (get p.state.tokens h.ticket)) (div-le_self (p.budget - spent p) p.workers) (some_left g.room) in
-      gives_good w (for_branch p h) l (own_place w l g.own) g.found part.0 part.1)
+      (λ g. let i = own_first p.state p.held p.log p.workers w h.ticket in
+      let part = branch_part_of ((p.budget - spent p) / p.workers) (p.budget - spent p)
+      (words_in (get p.state.tokens i)) (div-le_self (p.budget - spent p) p.workers) (some_left g.room) in
+      gives_good w (for_branch p (record { ticket = i; allowance = h.allowance })) l (own_place w l g.own)
+      (own_givable w h.ticket (least_givable h.ticket g.found)) part.0 part.1)
       (lines p.stopped (slice_get p.held w) (is_ended p) (least_free p) (nat_eq (spent p) p.budget)
       (allowance (p.budget - spent p) p.workers) h e)
 
@@ -290,3 +339,101 @@ take_least p w h q = ⊎_elim (λ o. inl (ap flat o)) (λ g. inr (⊎_elim (λ e
         let (nobody, here) = free_live (is_held p.held h.ticket) (get p.state.tokens h.ticket) x
         (sym (free_at p.state.tokens p.held h.ticket) ∙ f) in
         record { live = subst IsSome (sym here) refl; unheld = nobody; below = λ j l. below j (omega arith) l }
+
+module _ (p : Pool) where
+  -- of two tickets, the first where it is free
+  one_of : (i j : ℕ) → (free_or p.state p.held i j ≡ i) ⊎ ((free_or p.state p.held i j ≡ j) × IsFree p j)
+  one_of i j = go (is_some (get p.state.tokens j) && not (is_held p.held j)) refl
+    where
+      go : (b : Bool) → (is_some (get p.state.tokens j) && not (is_held p.held j)) ≡ b →
+          ((if b then j else i) ≡ i) ⊎ (((if b then j else i) ≡ j) × IsFree p j)
+      go false q = inl refl
+      go true q =
+          let (live, nobody) = both_are (is_some (get p.state.tokens j)) (is_held p.held j) q in
+          inr (refl, record { live = live; unheld = nobody })
+
+  first_free : (i j : ℕ) → IsFree p j → free_or p.state p.held i j ≡ j
+  first_free i j f =
+      ap (λ b. if b && not (is_held p.held j) then j else i) f.live ∙ ap (λ b. if not b then j else i) f.unheld
+
+  first_not : (i j : ℕ) → (IsFree p j → ⊥) → free_or p.state p.held i j ≡ i
+  first_not i j d = ⊎_elim (λ e. e) (λ q. absurd (d q.1)) (one_of i j)
+
+  -- which of the free tickets is chosen
+  chosen : (w i : ℕ) → (own_first p.state p.held p.log p.workers w i ≡ i) ⊎
+      (IsFree p (own_first p.state p.held p.log p.workers w i) × ((j : ℕ) × MovedLast p w j ×
+      ((own_first p.state p.held p.log p.workers w i ≡ p.state.next - 1) ⊎ (own_first p.state p.held p.log p.workers w i ≡ j))))
+  chosen w i = go (nat_lt p.workers 2) refl (last_by w p.log) refl
+    where
+      go : (b : Bool) → nat_lt p.workers 2 ≡ b → (o : Option ℕ) → last_by w p.log ≡ o →
+          ((if b then i else newest_or p.state p.held i o) ≡ i) ⊎
+          (IsFree p (if b then i else newest_or p.state p.held i o) × ((j : ℕ) × MovedLast p w j ×
+          (((if b then i else newest_or p.state p.held i o) ≡ p.state.next - 1) ⊎ ((if b then i else newest_or p.state p.held i o) ≡ j))))
+      go true e o m = inl refl
+      go false e None m = inl refl
+      go false e (Some j) m =
+          let last : MovedLast p w j = record { many = not_fewer p.workers e; moved = m } in
+          ⊎_elim
+          (λ a. ⊎_elim (λ b. inl (a ∙ b)) (λ b. inr (subst (IsFree p) (sym (a ∙ b.0)) b.1, (j, last, inr (a ∙ b.0)))) (one_of i j))
+          (λ a. inr (subst (IsFree p) (sym a.0) a.1, (j, last, inl a.0)))
+          (one_of (free_or p.state p.held i j) (p.state.next - 1))
+
+  chosen_as : (w i j : ℕ) → MovedLast p w j →
+      own_first p.state p.held p.log p.workers w i ≡ free_or p.state p.held (free_or p.state p.held i j) (p.state.next - 1)
+  chosen_as w i j l =
+      ap (λ b. if b then i else newest_or p.state p.held i (last_by w p.log)) (no_fewer p.workers l.many) ∙
+      ap (newest_or p.state p.held i) l.moved
+
+module _ (p : Pool) (w : ℕ) (h : Held) where
+  gives_own_at : (o : Option Held) → own p.held w ≡ o → (t : Reply) → turn p w ≡ t →
+      (if is_some o then t else widened p (preferred p w t)) ≡ Token h →
+      (own p.held w ≡ Some h) ⊎ ((own p.held w ≡ None) × (IsLeastFree p h.ticket ⊎ (IsFree p h.ticket × ((i : ℕ) × MovedLast p w i ×
+      ((h.ticket ≡ p.state.next - 1) ⊎ (h.ticket ≡ i))))))
+  gives_own_at (Some g) q t e r = ⊎_elim inl (λ k. inr (k.0, inl k.1)) (take_least p w h (e ∙ r))
+  gives_own_at None q Stopped e r = absurd cc
+  gives_own_at None q Ended e r = absurd cc
+  gives_own_at None q Idle e r = absurd cc
+  gives_own_at None q Reserved e r = absurd cc
+  gives_own_at None q (Token k) e r =
+      let i = own_first p.state p.held p.log p.workers w k.ticket in
+      let s : for_branch p (record { ticket = i; allowance = k.allowance }) ≡ h = cc in
+      let t : i ≡ h.ticket = ap (λ (h : Held). h.ticket) s in
+      ⊎_elim (λ o. absurd cc)
+      (λ l. inr (
+        q,
+        ⊎_elim (λ c. inl (subst (IsLeastFree p) (sym c ∙ t) l.1))
+            (λ c. inr (subst (λ n. IsFree p n × ((i : ℕ) × MovedLast p w i × ((n ≡ p.state.next - 1) ⊎ (n ≡ i)))) t c)) (chosen p w k.ticket),
+      ))
+      (take_least p w k e)
+
+  -- the ticket is the one that is chosen
+  given_at : (j : ℕ) → MovedLast p w j → own p.held w ≡ None → (o : Option Held) → own p.held w ≡ o → (t : Reply) → turn p w ≡ t →
+      (if is_some o then t else widened p (preferred p w t)) ≡ Token h →
+      (i : ℕ) × (h.ticket ≡ free_or p.state p.held (free_or p.state p.held i j) (p.state.next - 1))
+  given_at j l n (Some g) q t e r = absurd cc
+  given_at j l n None q Stopped e r = absurd cc
+  given_at j l n None q Ended e r = absurd cc
+  given_at j l n None q Idle e r = absurd cc
+  given_at j l n None q Reserved e r = absurd cc
+  given_at j l n None q (Token k) e r =
+      let i = own_first p.state p.held p.log p.workers w k.ticket in
+      let s : for_branch p (record { ticket = i; allowance = k.allowance }) ≡ h = cc in
+      (k.ticket, sym (ap (λ (h : Held). h.ticket) s) ∙ chosen_as p w k.ticket j l)
+
+-- what a worker that plays branches is given is what it held, or its own ticket or the least one, of those that are free
+pub gives_own : (p : Pool) (w : ℕ) (h : Held) → branch_turn p w ≡ Token h →
+    (own p.held w ≡ Some h) ⊎ ((own p.held w ≡ None) × (IsLeastFree p h.ticket ⊎ (IsFree p h.ticket × ((i : ℕ) × MovedLast p w i ×
+    ((h.ticket ≡ p.state.next - 1) ⊎ (h.ticket ≡ i))))))
+gives_own p w h e = gives_own_at p w h (own p.held w) refl (turn p w) refl e
+
+pub gives_newest : (p : Pool) (w : ℕ) (h : Held) (j : ℕ) → branch_turn p w ≡ Token h → own p.held w ≡ None → MovedLast p w j →
+    IsFree p (p.state.next - 1) → h.ticket ≡ p.state.next - 1
+gives_newest p w h j e n l f =
+    let (i, q) = given_at p w h j l n (own p.held w) refl (turn p w) refl e in
+    q ∙ first_free p (free_or p.state p.held i j) (p.state.next - 1) f
+
+pub gives_moved : (p : Pool) (w : ℕ) (h : Held) (j : ℕ) → branch_turn p w ≡ Token h → own p.held w ≡ None → MovedLast p w j →
+    (IsFree p (p.state.next - 1) → ⊥) → IsFree p j → h.ticket ≡ j
+gives_moved p w h j e n l d f =
+    let (i, q) = given_at p w h j l n (own p.held w) refl (turn p w) refl e in
+    q ∙ first_not p (free_or p.state p.held i j) (p.state.next - 1) d ∙ first_free p i j f

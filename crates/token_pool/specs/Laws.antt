@@ -1,5 +1,5 @@
 -- What keeps a pool good.
-use Rattle.std.specs.Prelude.{◌≡◌, ◌≤◌, ◌<◌, ◌⊎◌, ℕ, List, Some, None}
+use Rattle.std.specs.Prelude.{◌-◌, ◌≡◌, ◌≤◌, ◌<◌, ◌⊎◌, ℕ, List, Some, None}
 use Rattle.net_build.specs.Nets.{NetTree}
 use Rattle.interleave_laws.specs.Runs.{Runs}
 use Rattle.interleave_laws.specs.Tickets.{IsLive}
@@ -9,7 +9,7 @@ use Rattle.token_pool.specs.Pools.{Pool, Holds, InLimits, Good, started}
 use Rattle.token_pool.specs.Turns.{own, turn, taken, IsLeastFree}
 use Rattle.branch_runs.specs.Branching.{Grown, IsBranch}
 use Rattle.token_pool.specs.Booking.{Books, halted}
-use Rattle.token_pool.specs.Branches.{branch_turn, branch_taken, BranchMoves, BooksAll}
+use Rattle.token_pool.specs.Branches.{branch_turn, branch_taken, IsFree, MovedLast, BranchMoves, BooksAll}
 use Rattle.token_pool.specs.declared.ending.Ended.{Ended}
 use Rattle.token_pool.specs.Ending.{Finishes, Replays}
 
@@ -59,6 +59,23 @@ TakeBranchKeeps = (p : Pool) (w : ℕ) → Good p → w < p.workers → Good (br
 abbrev pub GivesBranchHeld : Type 0
 GivesBranchHeld = (p : Pool) (w : ℕ) (h : Held) → Good p → w < p.workers → branch_turn p w ≡ Token h →
     Holds (branch_taken p w).held w h × IsLive p.state h.ticket
+
+-- what it is given is what it held; or the least free ticket; or, where it made the last move, the free ticket that was given out last or
+-- the one that it moved
+abbrev pub GivesOwn : Type 0
+GivesOwn = (p : Pool) (w : ℕ) (h : Held) → branch_turn p w ≡ Token h →
+    (own p.held w ≡ Some h) ⊎ ((own p.held w ≡ None) × (IsLeastFree p h.ticket ⊎ (IsFree p h.ticket × ((i : ℕ) × MovedLast p w i ×
+    ((h.ticket ≡ p.state.next - 1) ⊎ (h.ticket ≡ i))))))
+
+-- and the one that was given out last, wherever that is free
+abbrev pub GivesNewest : Type 0
+GivesNewest = (p : Pool) (w : ℕ) (h : Held) (i : ℕ) → branch_turn p w ≡ Token h → own p.held w ≡ None → MovedLast p w i →
+    IsFree p (p.state.next - 1) → h.ticket ≡ p.state.next - 1
+
+-- and else the one that it moved, wherever that is free
+abbrev pub GivesMoved : Type 0
+GivesMoved = (p : Pool) (w : ℕ) (h : Held) (i : ℕ) → branch_turn p w ≡ Token h → own p.held w ≡ None → MovedLast p w i →
+    (IsFree p (p.state.next - 1) → ⊥) → IsFree p i → h.ticket ≡ i
 
 abbrev pub BookBranchKeeps : Type 0
 BookBranchKeeps = (p q : Pool) (w : ℕ) (h : Held) (b : Grown) (tickets : List ℕ) → Good p → Holds p.held w h → w < p.workers →

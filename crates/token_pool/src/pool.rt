@@ -10,10 +10,10 @@ ghost use Rattle.token_pool.specs.Pools.{InLimits, Good, started, count_held, no
 ghost use Rattle.token_pool.specs.Turns.{turn, taken, count_free, spent, spare_pieces};
 ghost use Rattle.token_pool.specs.Booking.{BookedAs, HoldsOther, halted};
 ghost use Rattle.token_pool.specs.Ending.{Suits, Finishes, Replays};
-ghost use Rattle.token_pool.specs.Branches.{for_branch, widened, branch_turn, branch_taken, HandsSeed, plays_plain, BookedBranch};
+ghost use Rattle.token_pool.specs.Branches.{preferred, for_branch, widened, branch_turn, branch_taken, HandsSeed, plays_plain, BookedBranch};
 
 use crate::booking::{play, write_down};
-use crate::branches::{branch_part, play_branch, words_at, write_made};
+use crate::branches::{branch_part, own_first, play_branch, words_at, write_made};
 use crate::ending::play_on;
 use crate::pieces::hand;
 use crate::places::Places;
@@ -250,6 +250,29 @@ impl<'n> PoolState<'n> {
         }
     }
 
+    /// What a worker is told that holds nothing, with its own ticket first.
+    fn preferred(&self, worker: u32, told: Reply) -> Reply
+        ensures { result ≡ preferred self.now worker told }
+    {
+        match told {
+            Reply::Token(held) => Reply::Token(Held {
+                ticket: own_first(
+                    &self.core,
+                    &self.held,
+                    &self.log,
+                    self.workers,
+                    worker,
+                    held.ticket,
+                ),
+                allowance: held.allowance,
+            }),
+            Reply::Stopped => Reply::Stopped,
+            Reply::Ended => Reply::Ended,
+            Reply::Idle => Reply::Idle,
+            Reply::Reserved => Reply::Reserved,
+        }
+    }
+
     /// What a worker is told that plays branches.
     fn told_branch(&self, worker: u32) -> Reply
         ensures { result ≡ branch_turn self.now worker }
@@ -258,7 +281,7 @@ impl<'n> PoolState<'n> {
         if self.held.held_by(worker).is_some() {
             return told;
         }
-        self.widened(told)
+        self.widened(self.preferred(worker, told))
     }
 
     /// Whether a branch that is given out now is to be plain: with one worker, and while fewer tickets are free than there are workers.

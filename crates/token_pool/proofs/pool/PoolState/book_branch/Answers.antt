@@ -2,18 +2,16 @@ use Rattle.std.proofs.Common.{◌≤◌, ◌++◌, length, sym, ap, ◌∙◌, s
 use Rattle.schedule_log.specs.Logs.{by}
 use Rattle.schedule_log.specs.LogsSeen.{LogSeen}
 use Rattle.token_pool.proofs.Seen.{seen}
-use Rattle.token_pool.specs.Branches.{made_tickets}
-use Rattle.token_pool.proofs.Standing.{still_reached, fits, holds, few_aside, let_go_small, number_small}
-use Rattle.token_pool.proofs.Branching.{is_branch, branch_good, branch_booked}
+use Rattle.token_pool.specs.Branches.{all_made}
+use Rattle.token_pool.proofs.Standing.{fits, holds, let_go_small, number_small}
+use Rattle.token_pool.proofs.Branching.{is_branch, branch_good, branch_booked, has_room}
 use Rattle.token_pool.proofs.pool.PoolState.book_branch.Goals as goal
 
-pub play_branch-requires-clause-reached : goal.play_branch-requires-clause-reached
-play_branch-requires-clause-reached g c =
-    still_reached (seen c.self.inside) c.self.invariant.0 c.args.worker c.in-Some.held (sym c.in-Some.ensures)
-
-pub play_branch-requires-clause-small : goal.play_branch-requires-clause-small
-play_branch-requires-clause-small g c =
-    few_aside (seen c.self.inside) c.self.invariant.0 c.args.worker c.in-Some.held (sym c.in-Some.ensures)
+pub play_branch-requires-clause-room : goal.play_branch-requires-clause-room
+play_branch-requires-clause-room g c =
+    let p = seen c.self.inside in
+    has_room p c.args.worker c.in-Some.held c.self.invariant.0
+    (holds p c.self.invariant.0 c.args.worker c.in-Some.held (sym c.in-Some.ensures))
 
 pub write_made-requires-clause-worker : goal.write_made-requires-clause-worker
 write_made-requires-clause-worker g c =
@@ -22,8 +20,8 @@ write_made-requires-clause-worker g c =
 
 pub write_made-requires-clause-room : goal.write_made-requires-clause-room
 write_made-requires-clause-room g c =
-    let tickets = made_tickets c.in-Some.held.ticket c.next_ticket-next.result c.in_ok-made.made in
-    let few = subst (λ n. length (made_tickets c.in-Some.held.ticket n c.in_ok-made.made) ≤ c.in-Some.held.allowance)
+    let tickets = all_made c.in-Some.held.ticket c.next_ticket-next.result c.in_ok-made.made.own c.in_ok-made.made.last in
+    let few = subst (λ n. length (all_made c.in-Some.held.ticket n c.in_ok-made.made.own c.in_ok-made.made.last) ≤ c.in-Some.held.allowance)
     (sym c.next_ticket-next.ensures) c.in_ok-made.ensures.few in
     let f = fits (seen c.self.inside) c.self.invariant.0 c.args.worker c.in-Some.held (sym c.in-Some.ensures) (length tickets) few in
     let r = c.self.invariant.1 in
@@ -43,10 +41,10 @@ invariant_of-self-2 g c =
       branch_good p c.self.invariant.0 c.args.worker c.in-Some.held
           (holds p c.self.invariant.0 c.args.worker c.in-Some.held (sym c.in-Some.ensures)) c.args.branch
           (is_branch p c.args.self.now g.N.OnNet.net c.self.view_is c.requires.named _ c.args.branch c.branch.view_is c.branch.invariant)
-          (made_tickets i c.self.inside.core.next made) c.in_ok-made.ensures.moves c.play_branch.new.core c.write_made.new.log.entries
+          (all_made i c.self.inside.core.next made.own made.last) c.in_ok-made.ensures.moves c.play_branch.new.core c.write_made.new.log.entries
           c.let_go.new.self c.in_ok-made.ensures.steps
           (ap (λ (l : LogSeen). l.entries) c.write_made.ensures
-          ∙ ap (λ n. c.self.inside.log.entries ++ by c.args.worker (made_tickets i n made)) c.next_ticket-next.ensures)
+          ∙ ap (λ n. c.self.inside.log.entries ++ by c.args.worker (all_made i n made.own made.last)) c.next_ticket-next.ensures)
           c.let_go.ensures c.args.self.now c.self.view_is c.requires.place,
       omega (arith, r, room),
     )
@@ -59,8 +57,8 @@ returns-clause-ok g c =
     branch_booked p c.self.invariant.0 c.args.worker c.in-Some.held
     (holds p c.self.invariant.0 c.args.worker c.in-Some.held (sym c.in-Some.ensures)) c.args.branch
     (is_branch p c.args.self.now g.N.OnNet.net c.self.view_is c.requires.named _ c.args.branch c.branch.view_is c.branch.invariant)
-    (made_tickets i c.self.inside.core.next made) c.in_ok-made.ensures.moves c.play_branch.new.core c.write_made.new.log.entries
+    (all_made i c.self.inside.core.next made.own made.last) c.in_ok-made.ensures.moves c.play_branch.new.core c.write_made.new.log.entries
     c.let_go.new.self c.in_ok-made.ensures.steps
     (ap (λ (l : LogSeen). l.entries) c.write_made.ensures
-    ∙ ap (λ n. c.self.inside.log.entries ++ by c.args.worker (made_tickets i n made)) c.next_ticket-next.ensures)
+    ∙ ap (λ n. c.self.inside.log.entries ++ by c.args.worker (all_made i n made.own made.last)) c.next_ticket-next.ensures)
     c.let_go.ensures c.args.self.now c.len-done.result c.self.view_is c.len-done.ensures
