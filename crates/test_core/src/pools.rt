@@ -147,7 +147,7 @@ const FINISHED: Game<'static> = Game {
     makers: "0 1 1 1 1 1",
 };
 
-/// The left half of `(1 + 2) + (3 + 4)` as one branch, and the right one in pieces, since it was alone.
+/// The right half of `(1 + 2) + (3 + 4)` as one branch, and the left one in pieces, since it was alone.
 const HALVES: Game<'static> = Game {
     budget: 100,
     workers: 2,
@@ -158,12 +158,12 @@ const HALVES: Game<'static> = Game {
 1 turn 25 plain
 1 plays 2
 1 turn 24 all
-1 plays 3
-0 plays 8
+1 plays 4
+0 plays 10
 ",
     answer: "10",
-    tickets: "0 1 1 0 3 3 0 0 0 1 2 2 2 2",
-    makers: "0 1 1 0 0 0 0 0 2 2 2 2 2 2",
+    tickets: "0 0 2 2 1 3 3 1 1 1 0 0 0 0",
+    makers: "0 1 1 1 0 0 0 0 0 0 2 2 2 2",
 };
 
 /// A branch of another worker's token is one step, and a worker without a place changes nothing.
@@ -179,7 +179,7 @@ const REFUSED: Game<'static> = Game {
 2 brings 0 2
 ",
     answer: "10",
-    tickets: "0 1 0 0 0 1 1 2 2 2 3 3 3 3",
+    tickets: "0 0 0 0 1 1 1 2 2 2 3 3 3 3",
     makers: "0 1 2 2 2 2 2 2 2 2 2 2 2 2",
 };
 
@@ -196,7 +196,7 @@ const SHORT: Game<'static> = Game {
 0 plays 5
 ",
     answer: "-",
-    tickets: "0 1 0 3 3 0 0 0",
+    tickets: "0 0 1 3 3 0 0 1",
     makers: "0 1 0 0 0 2 2 2",
 };
 
