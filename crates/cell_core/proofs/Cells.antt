@@ -5,11 +5,11 @@ use Rattle.std.proofs.lemmas.Bool.{eq-eqb, ne_eqb}
 use Rattle.token_stacks.specs.Signatures.{Sig, star, left_of, right_of, pair_of, again, R, L, S, Work, Boxes}
 use Rattle.move_rules.specs.Places.{Place}
 use Rattle.move_rules.specs.Stacks.{work_at, boxes_at}
-use Rattle.circuit_core.specs.Rows.{Row, GO, STAR, UNSTAR, LEFT, RIGHT, CON, PUSHR, PUSHL}
-use Rattle.circuit_core.specs.Rows.{SELECT, POP, BOXIN, BOXOUT, DOOROUT, DOORIN, FIXIN, FIXOUT, FIXVAR}
-use Rattle.circuit_core.specs.Rows.{Channel, rises, falls, channel_of}
-use Rattle.circuit_core.specs.RowMoves.{at}
-use Rattle.circuit_core.specs.RowMoves.{stack_row}
+use Rattle.net_rows.specs.Rows.{Row, GO, STAR, UNSTAR, LEFT, RIGHT, CON, PUSHR, PUSHL}
+use Rattle.net_rows.specs.Rows.{SELECT, POP, BOXIN, BOXOUT, DOOROUT, DOORIN, FIXIN, FIXOUT, FIXVAR}
+use Rattle.net_rows.specs.Rows.{Channel, rises, falls, channel_of}
+use Rattle.net_rows.specs.RowMoves.{at}
+use Rattle.net_rows.specs.RowMoves.{stack_row}
 use Rattle.cell_core.specs.Cells.{Pointer, Cell, Store, more, cell_at, Stands, AllStand, sigs_of, Stacks, Shows, point}
 use Rattle.cell_core.specs.Cells.{first_of, below, dir, dirs_below, Made, to, reads, new_cell, cell_row, row_on, after, needs_cell}
 use Rattle.cell_core.specs.CellLaws.{RowShows}

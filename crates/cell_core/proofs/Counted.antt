@@ -1,6 +1,6 @@
 -- A row makes as many cells as it is counted for.
 use Rattle.std.proofs.Common.{◌≡◌, ℕ, ◌+◌, Bool, true, false, cond, ◌∷◌, refl, ap, ◌∙◌, arith}
-use Rattle.circuit_core.specs.Rows.{Row, FIXOUT}
+use Rattle.net_rows.specs.Rows.{Row, FIXOUT}
 use Rattle.cell_core.specs.Cells.{Store, Stacks, to, first_of, below, cell_at, row_on, after}
 use Rattle.cell_core.specs.Sizes.{makes}
 

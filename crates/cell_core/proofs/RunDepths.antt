@@ -20,7 +20,7 @@ use Rattle.interleave_laws.specs.Runs.{LeadsTo}
 use Rattle.interleave_laws.proofs.Running.{starts_of}
 use Rattle.cell_core.specs.Depths.{Placed, MoveKeeps}
 use Rattle.cell_core.proofs.Typed.{in_at, depths_kept}
-use Rattle.circuit_core.proofs.Small.{same_some, none_some}
+use Rattle.net_rows.proofs.Small.{same_some, none_some}
 
 module _ (net : NetTree) where
   abbrev AllPlaced : Tokens → Type 0

@@ -3,8 +3,8 @@ use Rattle.std.specs.Prelude.{◌≡◌, ◌<◌, ℕ, ◌+◌, true, false, Lis
 use Rattle.token_stacks.specs.Signatures.{Sig, Work, Boxes}
 use Rattle.move_rules.specs.Places.{Place}
 use Rattle.move_rules.specs.Stacks.{work_at, boxes_at}
-use Rattle.circuit_core.specs.Rows.{Row, channel_of}
-use Rattle.circuit_core.specs.RowMoves.{stack_row}
+use Rattle.net_rows.specs.Rows.{Row, channel_of}
+use Rattle.net_rows.specs.RowMoves.{stack_row}
 use Rattle.cell_core.specs.Cells.{Pointer, Cell, Store, more, Stands, AllStand, Stacks, Shows, reads, row_on, after, needs_cell, cell_row}
 use Rattle.cell_core.specs.Sizes.{makes}
 

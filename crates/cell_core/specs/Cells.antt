@@ -6,9 +6,9 @@
 -- The work stack is two stacks, marks and signatures, since each row knows by its kind which one it means.
 use Rattle.std.specs.Prelude.{◌≡◌, ◌<◌, ℕ, suc, Bool, true, false, List, [], ◌∷◌, nat_eq, if◌then◌else◌}
 use Rattle.token_stacks.specs.Signatures.{Sig, star, left_of, right_of, pair_of, again, R, L, S, Work, Boxes}
-use Rattle.circuit_core.specs.Rows.{Row, GO, CONST, SUCC, PRED, TEST, FORK, JOIN, ANSWER, STAR, UNSTAR, LEFT, RIGHT, CON, PUSHR, PUSHL}
-use Rattle.circuit_core.specs.Rows.{SELECT, POP, BOXIN, BOXOUT, DOOROUT, DOORIN, FIXIN, FIXOUT, FIXVAR, DEAD}
-use Rattle.circuit_core.specs.Rows.{Channel, falls}
+use Rattle.net_rows.specs.Rows.{Row, GO, CONST, SUCC, PRED, TEST, FORK, JOIN, ANSWER, STAR, UNSTAR, LEFT, RIGHT, CON, PUSHR, PUSHL}
+use Rattle.net_rows.specs.Rows.{SELECT, POP, BOXIN, BOXOUT, DOOROUT, DOORIN, FIXIN, FIXOUT, FIXVAR, DEAD}
+use Rattle.net_rows.specs.Rows.{Channel, falls}
 
 -- a place in the memory, and the mark of the signature's root
 pub record Pointer : Type 0 where

@@ -3,7 +3,7 @@
 use Rattle.std.specs.Prelude.{◌≤◌, ℕ, suc, Bool, [], List, length, nat_lt, ◌&&◌, ◌||◌, Option, Some, None}
 use Rattle.net_build.specs.Nets.{WireTree, NetTree}
 use Rattle.net_build.specs.Sound.{Is}
-use Rattle.circuit_core.specs.Rows.{Row, LEFT, RIGHT, DOOROUT, FIXVAR}
+use Rattle.net_rows.specs.Rows.{Row, LEFT, RIGHT, DOOROUT, FIXVAR}
 use Rattle.cell_core.specs.Cells.{Pointer, Store, Stacks}
 use Rattle.cell_core.specs.Depths.{marks_in, sigs_in}
 

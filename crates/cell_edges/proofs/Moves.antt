@@ -4,8 +4,8 @@ use Rattle.std.proofs.Common.{length, ap, ◌∙◌, arith, nat_lt}
 use Rattle.std.proofs.lemmas.Bool.{lt-ltb}
 use Rattle.std.proofs.lemmas.Nat.{mul-le}
 use Rattle.net_build.specs.Nets.{NetTree}
-use Rattle.circuit_core.specs.Rows.{Channel, Row, GO, CONST, SUCC, PRED, TEST, FORK, STAR, UNSTAR, LEFT}
-use Rattle.circuit_core.specs.Rows.{RIGHT, CON, PUSHR, PUSHL, SELECT, POP, BOXIN, BOXOUT, DOOROUT, DOORIN, FIXIN, FIXOUT, FIXVAR}
+use Rattle.net_rows.specs.Rows.{Channel, Row, GO, CONST, SUCC, PRED, TEST, FORK, STAR, UNSTAR, LEFT}
+use Rattle.net_rows.specs.Rows.{RIGHT, CON, PUSHR, PUSHL, SELECT, POP, BOXIN, BOXOUT, DOOROUT, DOORIN, FIXIN, FIXOUT, FIXVAR}
 use Rattle.verilog_tree.specs.Meaning.{Scope, Store, settled, fit, flag, chosen, set_vec}
 use Rattle.verilog_tree.proofs.Numbers.{fits}
 use Rattle.cell_core.specs.Cells.{Pointer, Stacks, point, nil, first_of, below, dirs_below}

@@ -11,7 +11,7 @@ use Rattle.pcf_values.specs.declared.operator.Operator.TheVariants.{Plus, Minus,
 use Rattle.pcf_values.proofs.Operators.{for_each}
 use Rattle.pcf_values.specs.declared.side.Side.{Side}
 use Rattle.net_build.specs.Nets.{NetTree}
-use Rattle.circuit_core.specs.Rows.{JOIN}
+use Rattle.net_rows.specs.Rows.{JOIN}
 use Rattle.verilog_tree.specs.Tree.{Expr}
 use Rattle.verilog_tree.specs.Meaning.{Scope, Store, flag, fit, nonzero, chosen, set_vec, settled}
 use Rattle.verilog_tree.proofs.Numbers.{fits}

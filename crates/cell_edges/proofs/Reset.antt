@@ -4,7 +4,7 @@ use Rattle.std.proofs.Common.{refl, sym, ap, ◌∙◌, subst, arith}
 use Rattle.pcf_values.specs.declared.val.Val.TheVariants.{Number}
 use Rattle.net_build.specs.Nets.{NetTree}
 use Rattle.interleave_laws.specs.Start.{start_of}
-use Rattle.circuit_core.specs.Rows.{Channel, number, Row, row_of, channel_of}
+use Rattle.net_rows.specs.Rows.{Channel, number, Row, row_of, channel_of}
 use Rattle.verilog_tree.specs.Tree.{branch, skip}
 use Rattle.verilog_tree.specs.Meaning.{Scope, Store, fire, own, flag, nonzero, chosen, fit, set_vec}
 use Rattle.circuit_module.specs.Sizes.{channel_bits}

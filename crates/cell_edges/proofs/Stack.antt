@@ -7,7 +7,7 @@ use Rattle.std.proofs.Math.Pow.{mod-mod-pow}
 use Prim.Native.String.{String}
 use Rattle.pcf_values.specs.declared.val.Val.{Val}
 use Rattle.net_build.specs.Nets.{NetTree}
-use Rattle.circuit_core.specs.Rows.{Channel, number}
+use Rattle.net_rows.specs.Rows.{Channel, number}
 use Rattle.verilog_tree.specs.Meaning.{Store, flag, fit, chosen, word_in}
 use Rattle.verilog_tree.proofs.Numbers.{fits}
 use Rattle.circuit_module.specs.Sizes.{channel_bits}

@@ -4,7 +4,7 @@ use Rattle.std.proofs.lemmas.Nat.{mod-mul-add}
 use Rattle.std.proofs.Math.Nat.{pow-le-pow_right}
 use Prim.Native.String.{String}
 use Rattle.net_build.specs.Nets.{NetTree}
-use Rattle.circuit_core.specs.Rows.{Channel, FORK}
+use Rattle.net_rows.specs.Rows.{Channel, FORK}
 use Rattle.verilog_tree.specs.Meaning.{Scope, Store, fit, set_vec, settled}
 use Rattle.verilog_tree.proofs.Numbers.{fits, fits_twice}
 use Rattle.verilog_tree.proofs.Frames.{items_leave, settled_leaves}

@@ -7,8 +7,8 @@ use Rattle.pcf_values.specs.declared.val.Val.{Val}
 use Rattle.pcf_values.specs.declared.val.Val.TheVariants.{Number, Overflow}
 use Rattle.pcf_values.specs.Values.{at_zero}
 use Rattle.net_build.specs.Nets.{NetTree}
-use Rattle.circuit_core.specs.Rows.{Channel, number, Row, GO, CONST, SUCC, PRED, TEST, FORK, STAR, UNSTAR, LEFT}
-use Rattle.circuit_core.specs.Rows.{RIGHT, CON, PUSHR, PUSHL, SELECT, POP, BOXIN, BOXOUT, DOOROUT, DOORIN, FIXIN, FIXOUT, FIXVAR}
+use Rattle.net_rows.specs.Rows.{Channel, number, Row, GO, CONST, SUCC, PRED, TEST, FORK, STAR, UNSTAR, LEFT}
+use Rattle.net_rows.specs.Rows.{RIGHT, CON, PUSHR, PUSHL, SELECT, POP, BOXIN, BOXOUT, DOOROUT, DOORIN, FIXIN, FIXOUT, FIXVAR}
 use Rattle.verilog_tree.specs.Meaning.{Scope, Store, settled, fit, flag, nonzero, chosen, set_vec}
 use Rattle.circuit_module.specs.Sizes.{channel_bits}
 use Rattle.circuit_module.specs.Stands.{value_number}

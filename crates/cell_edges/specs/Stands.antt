@@ -4,9 +4,9 @@ use Rattle.std.specs.Prelude.{◌∷◌, length, Some, None, is_some}
 use Prim.Native.String.{String}
 use Rattle.pcf_values.specs.declared.val.Val.{Val}
 use Rattle.net_build.specs.Nets.{NetTree}
-use Rattle.circuit_core.specs.Rows.{falls, number, Row, GO, CONST, SUCC, PRED, TEST, FORK, JOIN, ANSWER, STAR, UNSTAR}
-use Rattle.circuit_core.specs.Rows.{LEFT, RIGHT, CON, PUSHR, PUSHL, SELECT, POP, BOXIN, BOXOUT, DOOROUT, DOORIN, FIXIN, FIXOUT, FIXVAR}
-use Rattle.circuit_core.specs.Rows.{DEAD, row_of}
+use Rattle.net_rows.specs.Rows.{falls, number, Row, GO, CONST, SUCC, PRED, TEST, FORK, JOIN, ANSWER, STAR, UNSTAR}
+use Rattle.net_rows.specs.Rows.{LEFT, RIGHT, CON, PUSHR, PUSHL, SELECT, POP, BOXIN, BOXOUT, DOOROUT, DOORIN, FIXIN, FIXOUT, FIXVAR}
+use Rattle.net_rows.specs.Rows.{DEAD, row_of}
 use Rattle.verilog_tree.specs.Meaning.{Store, flag}
 use Rattle.circuit_module.specs.Stands.{value_number}
 use Rattle.circuit_module.specs.InRange.{Named}

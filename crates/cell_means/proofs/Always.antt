@@ -9,9 +9,9 @@ use Rattle.net_build.specs.Nets.{NetTree}
 use Rattle.move_rules.specs.Places.{Place, up, down, TokenTree, ask, ans, place_of}
 use Rattle.move_rules.specs.Moves.{join, solo_at}
 use Rattle.interleave_laws.specs.Runs.{Runs}
-use Rattle.circuit_core.specs.Rows.{Row, CONST, SUCC, PRED, TEST, FORK, JOIN, ANSWER, DEAD, row_of, channel_of}
-use Rattle.circuit_core.specs.RowMoves.{stack_row, question_row, answer_row, by_row, by_found, by_rows}
-use Rattle.circuit_core.proofs.Small.{not_full}
+use Rattle.net_rows.specs.Rows.{Row, CONST, SUCC, PRED, TEST, FORK, JOIN, ANSWER, DEAD, row_of, channel_of}
+use Rattle.net_rows.specs.RowMoves.{stack_row, question_row, answer_row, by_row, by_found, by_rows}
+use Rattle.net_rows.proofs.Small.{not_full}
 use Rattle.circuit_module.specs.Stands.{Small}
 use Rattle.circuit_module.specs.InRange.{InRange}
 use Rattle.cell_core.specs.Cells.{Pointer, Cell, Store, AllStand, marks_of, sigs_of, Shows, reads, needs_cell, row_on, after}

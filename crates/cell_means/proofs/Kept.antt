@@ -8,7 +8,7 @@ use Rattle.pcf_values.specs.Values.{val_succ, val_pred, val_op, at_zero}
 use Rattle.pcf_values.specs.declared.operator.Operator.{Operator}
 use Rattle.net_build.specs.Nets.{NetTree}
 use Rattle.interleave_laws.specs.Start.{start_of}
-use Rattle.circuit_core.specs.Rows.{Channel, falls, Row, CONST, SUCC, PRED, TEST, FORK, JOIN, ANSWER, DEAD, row_of, channel_of}
+use Rattle.net_rows.specs.Rows.{Channel, falls, Row, CONST, SUCC, PRED, TEST, FORK, JOIN, ANSWER, DEAD, row_of, channel_of}
 use Rattle.circuit_module.specs.Stands.{Small}
 use Rattle.circuit_module.specs.InRange.{RowFits, InRange}
 use Rattle.circuit_module.proofs.Boths.{within_small, op_small}

@@ -12,7 +12,7 @@ use Rattle.adequacy_laws.specs.Finished.{Within, Beyond}
 use Rattle.adequacy_laws.specs.FinishedLaws.{TellsMeaning}
 use Rattle.adequacy_laws.proofs.Finishing.{finished_means}
 use Rattle.adequacy_laws.proofs.Agreeing.{built_runs}
-use Rattle.circuit_core.proofs.Small.{not_full}
+use Rattle.net_rows.proofs.Small.{not_full}
 use Rattle.verilog_tree.specs.Meaning.{Store, flag}
 use Rattle.circuit_module.specs.Stands.{value_number}
 use Rattle.circuit_module.specs.InRange.{FewWires}

@@ -10,7 +10,7 @@ use Rattle.net_build.specs.declared.node.Node.TheVariants.{FixBox, Root, Pair, P
 use Rattle.net_build.specs.Nets.{NetTree, WireTree, value_wire, var_wire, premises, conclusions}
 use Rattle.net_build.specs.Faces.{has, least}
 use Rattle.net_build.specs.Sound.{Sound, In, Is, Meets}
-use Rattle.circuit_core.specs.Rows.{Channel, rises, falls, Row, LEFT, RIGHT, FIXOUT, FIXVAR, row_up, row_down, if_at, found_row, row_of}
+use Rattle.net_rows.specs.Rows.{Channel, rises, falls, Row, LEFT, RIGHT, FIXOUT, FIXVAR, row_up, row_down, if_at, found_row, row_of}
 use Rattle.cell_module.specs.Apart.{makes_to, reads_cell, is_join, left_to, right_to, CellsApart, ForksApart, QuestionsApart}
 
 -- a node that was found is one of the list, and names the wire

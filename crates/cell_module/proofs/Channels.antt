@@ -1,6 +1,6 @@
 -- A channel's number has room in the field for it.
 use Rattle.std.proofs.Common.{◌≡◌, ℕ, ◌*◌, arith}
-use Rattle.circuit_core.specs.Rows.{Channel, number}
+use Rattle.net_rows.specs.Rows.{Channel, number}
 use Rattle.verilog_tree.specs.Meaning.{fit}
 use Rattle.verilog_tree.proofs.Numbers.{fits}
 use Rattle.circuit_module.specs.Sizes.{channel_bits}

@@ -8,9 +8,9 @@ use lib.Text.{eqt, eqt→eq}
 use Rattle.pcf_values.specs.declared.operator.Operator.{Operator}
 use Rattle.net_build.specs.Nets.{NetTree}
 use Rattle.interleave_laws.specs.Start.{start_of}
-use Rattle.circuit_core.specs.Rows.{Channel, rises, falls, number, Row, GO, CONST, SUCC, PRED, TEST, FORK, JOIN, ANSWER, STAR, UNSTAR, LEFT}
-use Rattle.circuit_core.specs.Rows.{RIGHT, CON, PUSHR, PUSHL, SELECT, POP, BOXIN, BOXOUT, DOOROUT, DOORIN, FIXIN, FIXOUT, FIXVAR, DEAD}
-use Rattle.circuit_core.specs.Rows.{row_of, channel_of}
+use Rattle.net_rows.specs.Rows.{Channel, rises, falls, number, Row, GO, CONST, SUCC, PRED, TEST, FORK, JOIN, ANSWER, STAR, UNSTAR, LEFT}
+use Rattle.net_rows.specs.Rows.{RIGHT, CON, PUSHR, PUSHL, SELECT, POP, BOXIN, BOXOUT, DOOROUT, DOORIN, FIXIN, FIXOUT, FIXVAR, DEAD}
+use Rattle.net_rows.specs.Rows.{row_of, channel_of}
 use Rattle.verilog_tree.specs.Tree.{Size, count, named, more, less, Arms, Item, Expr}
 use Rattle.verilog_tree.specs.Meaning.{amount, param_in}
 use Rattle.cell_core.specs.Sizes.{Sizes}

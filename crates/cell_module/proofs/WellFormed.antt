@@ -10,10 +10,10 @@ use Rattle.pcf_values.specs.declared.operator.Operator.{Operator}
 use Rattle.pcf_values.proofs.Operators.{for_each}
 use Rattle.net_build.specs.Nets.{NetTree}
 use Rattle.interleave_laws.specs.Start.{start_of}
-use Rattle.circuit_core.specs.Rows.{Channel, rises, falls, number, Row, GO, CONST, SUCC, PRED, TEST, FORK, JOIN, ANSWER, STAR, UNSTAR, LEFT}
-use Rattle.circuit_core.specs.Rows.{RIGHT, CON, PUSHR, PUSHL, SELECT, POP, BOXIN, BOXOUT, DOOROUT, DOORIN, FIXIN, FIXOUT, FIXVAR, DEAD}
-use Rattle.circuit_core.specs.Rows.{row_of}
-use Rattle.circuit_core.specs.Rows.{channel_of}
+use Rattle.net_rows.specs.Rows.{Channel, rises, falls, number, Row, GO, CONST, SUCC, PRED, TEST, FORK, JOIN, ANSWER, STAR, UNSTAR, LEFT}
+use Rattle.net_rows.specs.Rows.{RIGHT, CON, PUSHR, PUSHL, SELECT, POP, BOXIN, BOXOUT, DOOROUT, DOORIN, FIXIN, FIXOUT, FIXVAR, DEAD}
+use Rattle.net_rows.specs.Rows.{row_of}
+use Rattle.net_rows.specs.Rows.{channel_of}
 use Rattle.verilog_tree.specs.Tree.{Arms}
 use Rattle.verilog_tree.specs.WellFormed.{Kind, Entry, parameter, register, of_kind, member, said_ok, stmt_ok, arms_ok, all_declared}
 use Rattle.verilog_tree.specs.WellFormed.{ports_first, items_ok}

@@ -2,7 +2,7 @@
 use Rattle.std.specs.Prelude.{◌≡◌, ℕ, Bool, true, false, Option, Some, None}
 use Rattle.net_build.specs.Nets.{NetTree}
 use Rattle.net_build.specs.Sound.{Sound}
-use Rattle.circuit_core.specs.Rows.{Channel, Row, FORK, JOIN, LEFT, RIGHT, CON, DOOROUT, DOORIN, FIXOUT, FIXVAR, row_of}
+use Rattle.net_rows.specs.Rows.{Channel, Row, FORK, JOIN, LEFT, RIGHT, CON, DOOROUT, DOORIN, FIXOUT, FIXVAR, row_of}
 
 -- where a row that makes a cell sends to
 abbrev pub makes_to : Row → Option Channel

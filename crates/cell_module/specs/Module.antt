@@ -2,7 +2,7 @@
 use Rattle.std.specs.Prelude.{ℕ, suc, ◌*◌, max, Bool, if◌then◌else◌, List, [], ◌∷◌, ◌++◌, length}
 use Rattle.net_build.specs.Nets.{NetTree}
 use Rattle.interleave_laws.specs.Start.{start_of}
-use Rattle.circuit_core.specs.Rows.{number, channel_of}
+use Rattle.net_rows.specs.Rows.{number, channel_of}
 use Rattle.cell_core.specs.Sizes.{Sizes}
 use Rattle.verilog_tree.specs.Tree.{Expr, Arms, Item, size, constant, wide, count, clocked}
 use Rattle.circuit_module.specs.Sizes.{bits_for, channel_bits}

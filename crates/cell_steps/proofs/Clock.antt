@@ -4,8 +4,8 @@ use Rattle.std.proofs.Common.{sym, ap, ◌∙◌, subst, nat_lt, nat_eq, ◌&&�
 use Rattle.std.proofs.lemmas.Bool.{and_from, eq-eqb, ne_eqb, lt-ltb}
 use Prim.Native.String.{String}
 use Rattle.net_build.specs.Nets.{NetTree}
-use Rattle.circuit_core.specs.Rows.{Channel, PRED, FORK, JOIN, ANSWER}
-use Rattle.circuit_core.specs.Rows.{DEAD}
+use Rattle.net_rows.specs.Rows.{Channel, PRED, FORK, JOIN, ANSWER}
+use Rattle.net_rows.specs.Rows.{DEAD}
 use Rattle.pcf_values.specs.declared.operator.Operator.{Operator}
 use Rattle.pcf_values.proofs.Operators.{for_each}
 use Rattle.pcf_values.specs.declared.side.Side.{Side}

@@ -7,7 +7,7 @@ use Rattle.pcf_values.specs.Values.{val_op}
 use Rattle.pcf_values.specs.declared.operator.Operator.{Operator}
 use Rattle.pcf_values.specs.declared.side.Side.{Side}
 use Rattle.net_build.specs.Nets.{NetTree}
-use Rattle.circuit_core.specs.Rows.{falls, JOIN}
+use Rattle.net_rows.specs.Rows.{falls, JOIN}
 use Rattle.verilog_tree.specs.Meaning.{Store, fire, fit}
 use Rattle.verilog_tree.proofs.Numbers.{fits}
 use Rattle.circuit_module.specs.Sizes.{channel_bits}

@@ -4,9 +4,9 @@ use Rattle.std.proofs.Common.{length, Some, refl, sym, ap, ◌∙◌, subst, ari
 use Rattle.std.proofs.lemmas.Bool.{eq-eqb, ne_eqb, eqb-true, eqb-false, ltb-true, ltb-false}
 use Prim.Native.String.{String}
 use Rattle.net_build.specs.Nets.{NetTree}
-use Rattle.circuit_core.specs.Rows.{Channel, Row, GO, CONST, SUCC, PRED, TEST, FORK, JOIN, ANSWER, STAR, UNSTAR, LEFT}
-use Rattle.circuit_core.specs.Rows.{RIGHT, CON, PUSHR, PUSHL, SELECT, POP, BOXIN, BOXOUT, DOOROUT, DOORIN, FIXIN, FIXOUT, FIXVAR, DEAD}
-use Rattle.circuit_core.specs.Rows.{row_of}
+use Rattle.net_rows.specs.Rows.{Channel, Row, GO, CONST, SUCC, PRED, TEST, FORK, JOIN, ANSWER, STAR, UNSTAR, LEFT}
+use Rattle.net_rows.specs.Rows.{RIGHT, CON, PUSHR, PUSHL, SELECT, POP, BOXIN, BOXOUT, DOOROUT, DOORIN, FIXIN, FIXOUT, FIXVAR, DEAD}
+use Rattle.net_rows.specs.Rows.{row_of}
 use Rattle.verilog_tree.specs.Meaning.{Store, fire, fit, flag, nonzero}
 use Rattle.verilog_tree.proofs.Numbers.{fits}
 use Rattle.circuit_module.specs.InRange.{Named, InRange}

@@ -4,7 +4,7 @@ use Rattle.std.proofs.Common.{length, Some, None, is_some, refl, sym, ap, ◌∙
 use Rattle.std.proofs.lemmas.Bool.{lt-ltb}
 use Prim.Native.String.{String}
 use Rattle.net_build.specs.Nets.{NetTree}
-use Rattle.circuit_core.specs.Rows.{Channel, Row, number, row_of}
+use Rattle.net_rows.specs.Rows.{Channel, Row, number, row_of}
 use Rattle.verilog_tree.specs.Meaning.{Scope, Store, fire, settled, fit, flag, chosen, set_vec, word_in}
 use Rattle.verilog_tree.proofs.Numbers.{fits}
 use Rattle.verilog_tree.proofs.Frames.{items_leave, settled_leaves}

@@ -6,8 +6,8 @@ use Rattle.pcf_values.specs.declared.val.Val.{Val}
 use Rattle.pcf_values.specs.declared.val.Val.TheVariants.{Number}
 use Rattle.pcf_values.specs.Values.{val_succ, val_pred, at_zero}
 use Rattle.net_build.specs.Nets.{NetTree}
-use Rattle.circuit_core.specs.Rows.{Channel, Row, GO, CONST, SUCC, PRED, TEST, STAR, UNSTAR, CON, PUSHR, PUSHL, SELECT, POP}
-use Rattle.circuit_core.specs.Rows.{BOXIN, BOXOUT, DOORIN, FIXIN, FIXOUT}
+use Rattle.net_rows.specs.Rows.{Channel, Row, GO, CONST, SUCC, PRED, TEST, STAR, UNSTAR, CON, PUSHR, PUSHL, SELECT, POP}
+use Rattle.net_rows.specs.Rows.{BOXIN, BOXOUT, DOORIN, FIXIN, FIXOUT}
 use Rattle.verilog_tree.specs.Meaning.{Store, fire, fit, flag, chosen}
 use Rattle.verilog_tree.proofs.Numbers.{fits}
 use Rattle.circuit_module.specs.Stands.{value_number, Small}

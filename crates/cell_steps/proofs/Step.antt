@@ -6,8 +6,8 @@ use Rattle.pcf_values.specs.declared.side.Side.{Side}
 use Prim.Native.String.{String}
 use Rattle.net_build.specs.Nets.{NetTree}
 use Rattle.net_build.specs.Sound.{Sound}
-use Rattle.circuit_core.specs.Rows.{Channel, Row, GO, CONST, SUCC, PRED, TEST, FORK, JOIN, ANSWER, STAR, UNSTAR, LEFT, RIGHT, CON, PUSHR}
-use Rattle.circuit_core.specs.Rows.{PUSHL, SELECT, POP, BOXIN, BOXOUT, DOOROUT, DOORIN, FIXIN, FIXOUT, FIXVAR, DEAD, row_of}
+use Rattle.net_rows.specs.Rows.{Channel, Row, GO, CONST, SUCC, PRED, TEST, FORK, JOIN, ANSWER, STAR, UNSTAR, LEFT, RIGHT, CON, PUSHR}
+use Rattle.net_rows.specs.Rows.{PUSHL, SELECT, POP, BOXIN, BOXOUT, DOOROUT, DOORIN, FIXIN, FIXOUT, FIXVAR, DEAD, row_of}
 use Rattle.verilog_tree.specs.Meaning.{Store, fire, settled, flag, set_vec}
 use Rattle.circuit_module.specs.Stands.{value_number}
 use Rattle.circuit_module.specs.Module.{is_product, multiplies}

@@ -2,7 +2,7 @@
 use Rattle.std.specs.Prelude.{◌≡◌, ◌<◌, ℕ, true, false, List, [], ◌∷◌, Some}
 use Rattle.pcf_values.specs.declared.val.Val.{Val}
 use Rattle.net_build.specs.Nets.{NetTree}
-use Rattle.circuit_core.specs.Rows.{Row, JOIN, row_of}
+use Rattle.net_rows.specs.Rows.{Row, JOIN, row_of}
 use Rattle.circuit_module.specs.Stands.{Small}
 use Rattle.cell_core.specs.Cells.{reads, needs_cell, row_on}
 use Rattle.cell_core.specs.Sizes.{Sizes, too_long}

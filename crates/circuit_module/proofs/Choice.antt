@@ -5,9 +5,9 @@ use Rattle.std.proofs.lemmas.Bool.{eq-eqb, ne_eqb, cases_eq, cases_lt, or_parts}
 use Prim.Native.String.{String}
 use lib.Text.{eqt}
 use Rattle.net_build.specs.Nets.{NetTree}
-use Rattle.circuit_core.specs.Rows.{Channel, rises, falls, number, Row, GO, CONST, SUCC, PRED, TEST, FORK, JOIN, ANSWER, STAR, UNSTAR, LEFT}
-use Rattle.circuit_core.specs.Rows.{RIGHT, CON, PUSHR, PUSHL, SELECT, POP, BOXIN, BOXOUT, DOOROUT, DOORIN, FIXIN, FIXOUT, FIXVAR, DEAD}
-use Rattle.circuit_core.specs.Rows.{row_of}
+use Rattle.net_rows.specs.Rows.{Channel, rises, falls, number, Row, GO, CONST, SUCC, PRED, TEST, FORK, JOIN, ANSWER, STAR, UNSTAR, LEFT}
+use Rattle.net_rows.specs.Rows.{RIGHT, CON, PUSHR, PUSHL, SELECT, POP, BOXIN, BOXOUT, DOOROUT, DOORIN, FIXIN, FIXOUT, FIXVAR, DEAD}
+use Rattle.net_rows.specs.Rows.{row_of}
 use Rattle.verilog_tree.specs.Tree.{Arms}
 use Rattle.verilog_tree.specs.Meaning.{Scope, Store, fit, chosen, run, run_arms}
 use Rattle.verilog_tree.proofs.Frames.{leaves, leaves_arms, calm, calm_arms}

@@ -11,7 +11,7 @@ use Rattle.net_build.specs.Nets.{NetTree, WireTree, premises, conclusions}
 use Rattle.net_build.specs.Faces.{has, least}
 use Rattle.net_build.specs.Sound.{Sound, In, Is, Meets, roots}
 use Rattle.interleave_laws.specs.Start.{root_wire}
-use Rattle.circuit_core.specs.Rows.{Channel, rises, falls, Row, JOIN, STAR, UNSTAR, row_up, row_down, if_at, found_row, row_of}
+use Rattle.net_rows.specs.Rows.{Channel, rises, falls, Row, JOIN, STAR, UNSTAR, row_up, row_down, if_at, found_row, row_of}
 use Rattle.circuit_module.specs.Module.{is_product, is_times, multiplies}
 use Rattle.circuit_module.specs.InRange.{Named, RowFits, InRange, SmallConstants, FewWires}
 

@@ -1,7 +1,7 @@
 -- What the cases of a net's rows come to, in whatever module: the statements of `law_rows`.
 use Rattle.std.specs.Prelude.{◌≡◌, ◌<◌, ℕ, ◌^◌, length, Some}
 use Rattle.net_build.specs.Nets.{NetTree}
-use Rattle.circuit_core.specs.Rows.{Channel, number, Row, CONST, row_of}
+use Rattle.net_rows.specs.Rows.{Channel, number, Row, CONST, row_of}
 use Rattle.verilog_tree.specs.Meaning.{Scope, Store, run, run_arms}
 use Rattle.circuit_module.specs.Module.{row_stmt, row_arms}
 use Rattle.circuit_module.specs.InRange.{Named}

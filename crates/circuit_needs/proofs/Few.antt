@@ -8,8 +8,8 @@ use Rattle.token_stacks.specs.Signatures.{Boxes}
 use Rattle.net_build.specs.Nets.{NetTree}
 use Rattle.move_rules.specs.Places.{TokenTree, place_of}
 use Rattle.move_rules.specs.Moves.{Move, solo, fork, join, answer, stay}
-use Rattle.circuit_core.specs.Rows.{Row, LEFT, row_of, channel_of}
-use Rattle.circuit_core.specs.RowMoves.{by_rows}
+use Rattle.net_rows.specs.Rows.{Row, LEFT, row_of, channel_of}
+use Rattle.net_rows.specs.RowMoves.{by_rows}
 use Rattle.cell_core.specs.Sizes.{makes, makes_on}
 use Rattle.newest_core.specs.Processor.{Half, waits, came, OpenFork, Registers, meets_half, meets, does, counted}
 use Rattle.newest_core.specs.Processor.{tick_on, tick, ticks, reset}

@@ -24,7 +24,7 @@ use Rattle.adequacy_laws.specs.FinishedLaws.{TellsLength}
 use Rattle.adequacy_laws.proofs.Finishing.{map_finished_tells}
 use Rattle.interleave_core.specs.declared.stepped.Stepped.{Stepped}
 use Rattle.interleave_core.specs.Names.{step_name, name_on, name_of}
-use Rattle.circuit_core.specs.RowMoves.{by_rows}
+use Rattle.net_rows.specs.RowMoves.{by_rows}
 use Rattle.newest_core.specs.Processor.{Registers, does, counted, tick_on, tick, ticks, reset, on_live, fired, newest, token_at}
 use Rattle.newest_core.specs.Processor.{waiting_at}
 use Rattle.newest_core.specs.ProcessorLaws.{Shows, Follows}

@@ -7,7 +7,7 @@ use Rattle.move_rules.specs.Places.{TokenTree, place_of}
 use Rattle.interleave_laws.specs.Maps.{MapState, LeadsToMap, seen}
 use Rattle.interleave_core.specs.declared.stepped.Stepped.{Stepped}
 use Rattle.interleave_core.specs.declared.stepped.Stepped.TheVariants.{Went, Forked, Kept, Joined, Answered}
-use Rattle.circuit_core.specs.Rows.{row_of, channel_of}
+use Rattle.net_rows.specs.Rows.{row_of, channel_of}
 use Rattle.cell_core.specs.Sizes.{makes_on}
 use Rattle.newest_core.specs.Processor.{Half, waits, came, OpenFork, Registers, ticks, reset, newest}
 use Rattle.newest_core.specs.ProcessorLaws.{Shows}

@@ -1,8 +1,8 @@
 -- The table grows by both rows of a wire.
 use Rattle.std.proofs.Common.{◌≡◌, ◌∙◌, ◌++◌, ◌-◌, ◌+◌, ◌<◌, ℕ, suc, List, [], ◌∷◌, Option, sym, ap, append_assoc, arith}
 use Rattle.net_build.specs.Nets.{NetTree}
-use Rattle.circuit_core.specs.Rows.{rises, falls, Row, row_of}
-use Rattle.circuit_core.specs.Example.{rows_from}
+use Rattle.net_rows.specs.Rows.{rises, falls, Row, row_of}
+use Rattle.net_rows.specs.Example.{rows_from}
 
 -- the rows from a wire on, where there is one
 rows_step : (net : NetTree) (w n : ℕ) → w < n

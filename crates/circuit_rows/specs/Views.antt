@@ -1,7 +1,7 @@
--- The views of this crate's types: the code's channels and rows as those of `circuit_core`.
+-- The views of this crate's types: the code's channels and rows as those of `net_rows`.
 use Rattle.std.specs.Prelude.{ℕ, if◌then◌else◌}
 use Rattle.net_build.specs.declared.node.Node.{Node}
-use Rattle.circuit_core.specs.Rows as rows
+use Rattle.net_rows.specs.Rows as rows
 use Rattle.circuit_rows.specs.declared.row.Channel.{Channel}
 use Rattle.circuit_rows.specs.declared.row.Row.{Row}
 use Rattle.circuit_rows.specs.declared.row.Row.TheVariants as row

@@ -2,7 +2,7 @@
 
 ghost use Rattle.std.specs.Prelude.{◌≡◌};
 ghost use Rattle.interleave_laws.specs.Start.{root_wire, start_of};
-ghost use Rattle.circuit_core.specs.Rows.{channel_of as channel_at};
+ghost use Rattle.net_rows.specs.Rows.{channel_of as channel_at};
 ghost use Rattle.circuit_rows.specs.Views.{channel_of};
 
 use crate::row::Channel;

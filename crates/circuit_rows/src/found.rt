@@ -6,8 +6,8 @@ ghost use Rattle.net_build.specs.Found.{number_of};
 ghost use Rattle.move_rules.specs.Table.{facing};
 ghost use Rattle.move_rules.specs.Views.{numbered};
 ghost use Rattle.pcf_values.specs.declared.side.Side.TheVariants.{Left, Right};
-ghost use Rattle.circuit_core.specs.Rows.{rises, falls, if_at, row_up, row_down, row_of, JOIN};
-ghost use Rattle.circuit_core.specs.RowMoves.{at};
+ghost use Rattle.net_rows.specs.Rows.{rises, falls, if_at, row_up, row_down, row_of, JOIN};
+ghost use Rattle.net_rows.specs.RowMoves.{at};
 ghost use Rattle.circuit_rows.specs.Views.{channel_of, row_view, found_of, row_at};
 
 use crate::row::{Channel, Found, Row};

@@ -2,8 +2,8 @@
 
 ghost use Rattle.std.specs.Prelude.{◌≡◌, ◌++◌, IfOk, OnOk, [], ◌∷◌, map, length};
 ghost use Rattle.std.specs.Option.{option_map};
-ghost use Rattle.circuit_core.specs.Rows.{row_of, rises, falls};
-ghost use Rattle.circuit_core.specs.Example.{rows_from};
+ghost use Rattle.net_rows.specs.Rows.{row_of, rises, falls};
+ghost use Rattle.net_rows.specs.Example.{rows_from};
 ghost use Rattle.circuit_rows.specs.Views.{found_of};
 
 use crate::found::row_of;

@@ -8,9 +8,9 @@ use Rattle.pcf_values.specs.declared.side.Side.{Side}
 use Rattle.pcf_values.proofs.Operators.{for_each}
 use Rattle.net_build.specs.Nets.{NetTree, WireTree}
 use Rattle.net_text.specs.Listing.{lines_of}
-use Rattle.circuit_core.specs.Rows.{Channel, rises, falls, number, Row, GO, CONST, SUCC, PRED, TEST, FORK, JOIN, ANSWER, STAR, UNSTAR}
-use Rattle.circuit_core.specs.Rows.{LEFT, RIGHT, CON, PUSHR, PUSHL, SELECT, POP, BOXIN, BOXOUT, DOOROUT, DOORIN, FIXIN, FIXOUT, FIXVAR}
-use Rattle.circuit_core.specs.Rows.{DEAD, row_of}
+use Rattle.net_rows.specs.Rows.{Channel, rises, falls, number, Row, GO, CONST, SUCC, PRED, TEST, FORK, JOIN, ANSWER, STAR, UNSTAR}
+use Rattle.net_rows.specs.Rows.{LEFT, RIGHT, CON, PUSHR, PUSHL, SELECT, POP, BOXIN, BOXOUT, DOOROUT, DOORIN, FIXIN, FIXOUT, FIXVAR}
+use Rattle.net_rows.specs.Rows.{DEAD, row_of}
 use Rattle.verilog_tree.specs.Tree.{Arms, num}
 use Rattle.verilog_tree.specs.Print.{flat_text, said_text, stmt_text, arm_text, arm_block, arms_text}
 use Rattle.verilog_tree.specs.Print.{straight}

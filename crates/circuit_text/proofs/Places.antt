@@ -2,7 +2,7 @@
 use Rattle.std.proofs.Common.{◌≡◌, ◌<◌, ◌≤◌, ◌+◌, ◌-◌, ◌*◌, ◌/◌, ◌%◌, ◌∙◌, ℕ, zero, suc, length, Some, None, refl, sym, ap}
 use Rattle.std.proofs.Common.{arith, cond}
 use Rattle.std.proofs.lemmas.Bool.{eq-eqb, ne_eqb}
-use Rattle.open_nets.specs.Numbers.{places_from}
+use Rattle.open_net_laws.specs.Numbers.{places_from}
 use Rattle.port_module.specs.Module.{port_at}
 
 -- none of them is this node

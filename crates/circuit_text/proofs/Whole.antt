@@ -4,7 +4,7 @@ use Rattle.std.proofs.lemmas.List.{append-nil}
 use Prim.Native.String.{String}
 use Rattle.net_build.specs.Nets.{NetTree}
 use Rattle.interleave_laws.specs.Start.{start_of}
-use Rattle.circuit_core.specs.Rows.{number, channel_of}
+use Rattle.net_rows.specs.Rows.{number, channel_of}
 use Rattle.verilog_tree.specs.Tree.{Stmt, Arms, Item, one, input, clocked}
 use Rattle.verilog_tree.specs.Print.{stmt_text, arms_text, item_text, items_text, ports_text, more_ports, port_text, then_port, is_port}
 use Rattle.verilog_tree.specs.Print.{module_text}

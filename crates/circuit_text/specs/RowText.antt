@@ -2,9 +2,9 @@
 -- and the node for whoever reads it.
 use Rattle.std.specs.Prelude.{ℕ, List, [], ◌++◌, Option, Some, None, codes, decimal}
 use Rattle.net_build.specs.Nets.{NetTree}
-use Rattle.circuit_core.specs.Rows.{Channel, rises, falls, number, Row, GO, CONST, SUCC, PRED, TEST, FORK, JOIN, ANSWER, STAR, UNSTAR}
-use Rattle.circuit_core.specs.Rows.{LEFT, RIGHT, CON, PUSHR, PUSHL, SELECT, POP, BOXIN, BOXOUT, DOOROUT, DOORIN, FIXIN, FIXOUT, FIXVAR}
-use Rattle.circuit_core.specs.Rows.{DEAD, row_of}
+use Rattle.net_rows.specs.Rows.{Channel, rises, falls, number, Row, GO, CONST, SUCC, PRED, TEST, FORK, JOIN, ANSWER, STAR, UNSTAR}
+use Rattle.net_rows.specs.Rows.{LEFT, RIGHT, CON, PUSHR, PUSHL, SELECT, POP, BOXIN, BOXOUT, DOOROUT, DOORIN, FIXIN, FIXOUT, FIXVAR}
+use Rattle.net_rows.specs.Rows.{DEAD, row_of}
 use Rattle.circuit_module.specs.Module.{join_name}
 use Rattle.port_module.specs.Module.{port_at}
 use Rattle.port_module.specs.Names.{held_name}

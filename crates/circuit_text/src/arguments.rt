@@ -2,7 +2,7 @@
 
 ghost use Rattle.std.specs.Prelude.{◌≡◌, ◌++◌, OnOk, codes};
 ghost use Rattle.verilog_tree.specs.Print.{items_text};
-ghost use Rattle.open_nets.specs.Numbers.{places_from};
+ghost use Rattle.open_net_laws.specs.Numbers.{places_from};
 ghost use Rattle.port_module.specs.Names.{arg_name, held_name};
 ghost use Rattle.port_module.specs.Module.{port_at, arg_notes};
 ghost use Rattle.circuit_text.specs.Parts.{lines, port_line, args_text, held_line, held_head, held_text, latch_line, latch_head};

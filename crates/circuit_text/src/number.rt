@@ -1,7 +1,7 @@
 //! Numbers in decimal.
 
 ghost use Rattle.std.specs.Prelude.{◌≡◌, ◌++◌, ◌*◌, ◌+◌, OnOk, decimal};
-ghost use Rattle.circuit_core.specs.Rows.{number};
+ghost use Rattle.net_rows.specs.Rows.{number};
 ghost use Rattle.circuit_rows.specs.Views.{channel_of};
 
 use circuit_rows::Channel;

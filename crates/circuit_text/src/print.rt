@@ -10,7 +10,7 @@ ghost use Rattle.circuit_text.specs.Parts.{bits_text, room_text, counts_text, si
 ghost use Rattle.circuit_text.specs.Parts.{name_text, said_text, back_text};
 ghost use Rattle.circuit_text.specs.RowText.{wire_lines};
 ghost use Rattle.verilog_tree.specs.Names.{text_of};
-ghost use Rattle.open_nets.specs.Numbers.{places_from};
+ghost use Rattle.open_net_laws.specs.Numbers.{places_from};
 
 use crate::arguments::{Ports, push_args, push_held_text, push_latch};
 use crate::fixed;

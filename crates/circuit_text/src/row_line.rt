@@ -2,10 +2,10 @@
 
 ghost use Rattle.std.specs.Prelude.{◌≡◌, ◌++◌, [], OnOk, Some, codes, decimal, if◌then◌else◌};
 ghost use Rattle.std.specs.Option.{option_map};
-ghost use Rattle.circuit_core.specs.Rows.{rises, falls, row_of};
+ghost use Rattle.net_rows.specs.Rows.{rises, falls, row_of};
 ghost use Rattle.circuit_module.specs.Module.{join_name};
 ghost use Rattle.circuit_rows.specs.Views.{channel_of, row_view, found_of};
-ghost use Rattle.open_nets.specs.Numbers.{places_from};
+ghost use Rattle.open_net_laws.specs.Numbers.{places_from};
 ghost use Rattle.port_module.specs.Names.{held_name};
 ghost use Rattle.circuit_text.specs.RowText.{op_text, constant_text, one_text, two_text, fields_text};
 ghost use Rattle.circuit_text.specs.RowText.{row_text, comment_text, row_line, wire_lines};

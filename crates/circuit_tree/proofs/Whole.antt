@@ -2,7 +2,7 @@
 use Rattle.std.proofs.Common.{◌≡◌, ◌∙◌, ◌++◌, ℕ, List, [], ◌∷◌, length, ap, append_assoc}
 use Rattle.net_build.specs.Nets.{NetTree}
 use Rattle.interleave_laws.specs.Start.{start_of}
-use Rattle.circuit_core.specs.Rows.{number, channel_of}
+use Rattle.net_rows.specs.Rows.{number, channel_of}
 use Rattle.cell_core.specs.Sizes.{Sizes}
 use Rattle.verilog_tree.specs.Tree.{Item, Arms, Expr}
 use Rattle.circuit_module.specs.Module.{multiplies, row_arms}

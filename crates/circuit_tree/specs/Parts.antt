@@ -2,7 +2,7 @@
 use Rattle.std.specs.Prelude.{ℕ, ◌*◌, max, Bool, List, [], ◌∷◌, ◌++◌, take, drop, if◌then◌else◌}
 use Prim.Native.String.{String}
 use Rattle.net_build.specs.Nets.{NetTree}
-use Rattle.circuit_core.specs.Rows.{Channel, rises, falls, number, row_of}
+use Rattle.net_rows.specs.Rows.{Channel, rises, falls, number, row_of}
 use Rattle.cell_core.specs.Sizes.{Sizes}
 use Rattle.verilog_tree.specs.Tree.{num, sized, const, name, Expr, Stmt, seq, branch, cases, Arms, otherwise, skip, Item, wire, upto}
 use Rattle.verilog_tree.specs.Tree.{count, wide, size, constant, clocked, logic, one_of, two, plus}

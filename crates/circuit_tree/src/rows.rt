@@ -1,7 +1,7 @@
 //! The case of each row.
 
 ghost use Rattle.std.specs.Prelude.{◌≡◌, ◌++◌, [], ◌∷◌, IfOk, OnOk, length, map};
-ghost use Rattle.circuit_core.specs.Rows.{number, row_of};
+ghost use Rattle.net_rows.specs.Rows.{number, row_of};
 ghost use Rattle.circuit_module.specs.Fixed.{set, no_row};
 ghost use Rattle.cell_module.specs.Fixed.{next_row_block};
 ghost use Rattle.circuit_module.specs.Module.{join_name, to_one, to_two, row_stmt, place_said, row_arm, row_arms};

@@ -6,10 +6,10 @@ use Rattle.pcf_values.specs.Typing.{HasType}
 use Rattle.cbn_meaning.specs.Meaning.{Means}
 use Rattle.net_build.specs.Nets.{NetTree}
 use Rattle.net_build.specs.NetOf.{net_of}
-use Rattle.open_nets.specs.Applied.{applied, numeric}
-use Rattle.open_nets.specs.Arguments.{AreNumbers, closed_part}
-use Rattle.open_nets.specs.Numbers.{with_numbers, places_from, places}
-use Rattle.open_nets.specs.Laws.{OtherNumbers, AppliedHas}
+use Rattle.open_net_laws.specs.Applied.{applied, numeric}
+use Rattle.open_net_laws.specs.Arguments.{AreNumbers, closed_part}
+use Rattle.open_net_laws.specs.Numbers.{with_numbers, places_from, places}
+use Rattle.open_net_laws.specs.Laws.{OtherNumbers, AppliedHas}
 use Rattle.schedule_log.specs.declared.entry.Entry.{Entry}
 use Rattle.net_runs.specs.IsRun.{IsRun, IsFirstWorkers}
 use Rattle.program_runs.specs.Laws.{RunsTell}

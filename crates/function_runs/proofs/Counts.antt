@@ -1,7 +1,7 @@
 -- How many numbers a function takes, by its type.
 use Rattle.std.proofs.Common.{◌≡◌, ◌≤◌, ◌-◌, ◌+◌, ℕ, zero, suc, refl, ap, arith}
 use Rattle.pcf_values.specs.Terms.{TyTree, nat, arrow, product}
-use Rattle.open_nets.specs.Applied.{numeric}
+use Rattle.open_net_laws.specs.Applied.{numeric}
 
 -- the arrows along the right of a type
 abbrev pub arrow_count : TyTree → ℕ

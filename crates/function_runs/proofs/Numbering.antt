@@ -5,8 +5,8 @@ use Rattle.std.proofs.lemmas.Bool.{eq-eqb, ne_eqb}
 use Rattle.net_build.specs.declared.node.Node.{Node}
 use Rattle.net_build.specs.Nets.{NetTree}
 use Rattle.net_build.specs.Numbers.{set_number, set_at, with_number}
-use Rattle.open_nets.specs.Numbers.{set_given, set_all, given, places_from, with_numbers}
-use Rattle.open_nets.proofs.Exchanged.{set_same, low}
+use Rattle.open_net_laws.specs.Numbers.{set_given, set_all, given, places_from, with_numbers}
+use Rattle.open_net_laws.proofs.Exchanged.{set_same, low}
 
 -- nothing is exchanged
 pub none_set : (f : ℕ → Option ℕ) → ((i : ℕ) → f i ≡ None) → (k : ℕ) (ns : List Node) → set_all f k ns ≡ ns

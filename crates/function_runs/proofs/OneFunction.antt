@@ -5,7 +5,7 @@ use Rattle.pcf_values.specs.Named.{NamedTree}
 use Rattle.pcf_reader.specs.Laws.{OneTree, OneFault, NotBoth}
 use Rattle.pcf_types.specs.declared.fault.TypeFault.{TypeFault}
 use Rattle.pcf_types.specs.Checking.{type_of}
-use Rattle.open_nets.specs.Applied.{numeric}
+use Rattle.open_net_laws.specs.Applied.{numeric}
 use Rattle.program_runs.specs.declared.fault.ProgramFault.{ProgramFault}
 use Rattle.program_runs.specs.declared.fault.ProgramFault.TheVariants.{Read, Typing}
 use Rattle.function_runs.specs.Functions.{CompilesTree, CompilesText, FaultyTree, untyped, other_type, FaultyFunction, unread, of_tree}

@@ -5,7 +5,7 @@ use Rattle.pcf_values.specs.Named.{NamedTree, number_at, apply_at, place_of}
 use Rattle.pcf_reader.specs.Correct.{Text}
 use Rattle.pcf_types.specs.declared.fault.TypeFault.TheVariants.{ArgumentMismatch}
 use Rattle.pcf_types.specs.Checking.{type_of, go_on, function, of_type}
-use Rattle.open_nets.specs.Applied.{applied, numeric}
+use Rattle.open_net_laws.specs.Applied.{applied, numeric}
 use Rattle.program_runs.specs.Programs.{IsGround}
 use Rattle.function_runs.specs.Laws.{NumberAt, values, applied_tree}
 

@@ -8,7 +8,7 @@ use Rattle.pcf_reader.specs.declared.fault.ReadFault.{ReadFault}
 use Rattle.pcf_reader.specs.Correct.{Text, FirstFault}
 use Rattle.pcf_types.specs.declared.fault.TypeFault.{TypeFault}
 use Rattle.pcf_types.specs.Checking.{type_of}
-use Rattle.open_nets.specs.Applied.{numeric}
+use Rattle.open_net_laws.specs.Applied.{numeric}
 use Rattle.program_runs.specs.declared.fault.ProgramFault.{ProgramFault}
 use Rattle.program_runs.specs.declared.fault.ProgramFault.TheVariants.{Read, Typing, NotGround}
 

@@ -8,7 +8,7 @@ use Rattle.pcf_reader.specs.Correct.{Text}
 use Rattle.pcf_types.specs.Checking.{type_of}
 use Rattle.cbn_meaning.specs.Meaning.{Means}
 use Rattle.net_build.specs.NetOf.{net_of}
-use Rattle.open_nets.specs.Applied.{applied, numeric}
+use Rattle.open_net_laws.specs.Applied.{applied, numeric}
 use Rattle.schedule_log.specs.declared.entry.Entry.{Entry}
 use Rattle.program_runs.specs.declared.fault.ProgramFault.{ProgramFault}
 use Rattle.program_runs.specs.Programs.{number, IsGround, OfProgram}

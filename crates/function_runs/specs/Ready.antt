@@ -4,8 +4,8 @@ use Rattle.pcf_values.specs.Terms.{TyTree, TermTree}
 use Rattle.pcf_values.specs.Typing.{HasType}
 use Rattle.net_build.specs.Nets.{NetTree}
 use Rattle.net_build.specs.NetOf.{net_of}
-use Rattle.open_nets.specs.Applied.{applied, numeric}
-use Rattle.open_nets.specs.Arguments.{closed_part}
+use Rattle.open_net_laws.specs.Applied.{applied, numeric}
+use Rattle.open_net_laws.specs.Arguments.{closed_part}
 
 pub record IsReady (program : TermTree × TyTree) (net : NetTree) (first n : ℕ) : Type 0 where
   -- the program takes so many numbers

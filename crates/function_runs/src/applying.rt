@@ -4,10 +4,10 @@ ghost use Rattle.std.specs.Prelude.{◌≡◌, ◌↔◌, ◌≤◌, ℕ, [], Is
 ghost use Rattle.pcf_values.specs.Typing.{HasType};
 ghost use Rattle.pcf_values.specs.Terms.{nat, num, app};
 ghost use Rattle.pcf_values.specs.Views.{term_of, ty_of};
-ghost use Rattle.open_nets.specs.Applied.{applied, numeric};
+ghost use Rattle.open_net_laws.specs.Applied.{applied, numeric};
 ghost use Rattle.function_runs.specs.Functions.{Takes};
 
-use open_nets::law_applied;
+use open_net_laws::law_applied;
 use pcf_values::{Term, Ty, Typed};
 use std::alloc::{AllocError, Global};
 

@@ -1,8 +1,8 @@
 //! Other numbers at the nodes of a function's arguments.
 
 ghost use Rattle.std.specs.Prelude.{◌≡◌, ◌<◌, ◌^◌, ◌+◌, ◌*◌, length};
-ghost use Rattle.open_nets.specs.Arguments.{AreNumbers};
-ghost use Rattle.open_nets.specs.Numbers.{places_from, with_numbers};
+ghost use Rattle.open_net_laws.specs.Arguments.{AreNumbers};
+ghost use Rattle.open_net_laws.specs.Numbers.{places_from, with_numbers};
 
 use net_build::Net;
 

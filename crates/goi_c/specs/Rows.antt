@@ -4,7 +4,7 @@ use Rattle.pcf_values.specs.declared.val.Val.{Val}
 use Rattle.pcf_values.specs.Terms.{TermTree}
 use Rattle.cbn_meaning.specs.Meaning.{Means}
 use Rattle.net_build.specs.NetOf.{net_of}
-use Rattle.open_nets.specs.Applied.{applied}
+use Rattle.open_net_laws.specs.Applied.{applied}
 use Rattle.program_runs.specs.declared.fault.ProgramFault.{ProgramFault}
 use Rattle.program_runs.specs.Runs.{Tells}
 use Rattle.function_runs.specs.Functions.{CompilesText, FaultyFunction}

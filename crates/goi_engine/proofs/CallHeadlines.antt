@@ -5,7 +5,7 @@ use Rattle.cbn_meaning.specs.Meaning.{Means}
 use Rattle.net_build.specs.NetOf.{net_of}
 use Rattle.adequacy_laws.specs.Lengths.{OneLength}
 use Rattle.adequacy_laws.specs.Questions.{Length}
-use Rattle.open_nets.specs.Applied.{applied}
+use Rattle.open_net_laws.specs.Applied.{applied}
 use Rattle.function_runs.specs.Functions.{FaultyFunction}
 use Rattle.function_runs.specs.Laws.{OneFunction}
 use Rattle.program_runs.specs.declared.fault.ProgramFault.{ProgramFault}

@@ -8,7 +8,7 @@ use Rattle.pcf_values.specs.Terms.{TermTree}
 use Rattle.cbn_meaning.specs.Meaning.{Means}
 use Rattle.net_build.specs.NetOf.{net_of}
 use Rattle.adequacy_laws.specs.Questions.{Length}
-use Rattle.open_nets.specs.Applied.{applied}
+use Rattle.open_net_laws.specs.Applied.{applied}
 use Rattle.function_runs.specs.Functions.{CompilesText, FaultyFunction}
 use Rattle.program_runs.specs.declared.fault.ProgramFault.{ProgramFault}
 use Rattle.goi_words.specs.Asked.{job}

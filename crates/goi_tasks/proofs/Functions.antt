@@ -5,7 +5,7 @@ use Rattle.pcf_values.specs.Typing.{HasType}
 use Rattle.net_build.specs.Nets.{NetTree}
 use Rattle.net_build.specs.NetOf.{net_of}
 use Rattle.adequacy_laws.specs.Adequacy.{BuiltRuns}
-use Rattle.open_nets.specs.Applied.{applied}
+use Rattle.open_net_laws.specs.Applied.{applied}
 use Rattle.function_runs.specs.Functions.{CompilesText, FaultyFunction, FaultyAny}
 use Rattle.function_runs.specs.Laws.{OneFunction}
 use Rattle.program_runs.specs.declared.calling.Calling.TheVariants.{ByName}

@@ -3,7 +3,7 @@
 use Rattle.std.specs.Prelude.{ℕ, List, length}
 use Rattle.pcf_values.specs.Terms.{TermTree}
 use Rattle.net_build.specs.NetOf.{net_of}
-use Rattle.open_nets.specs.Applied.{applied}
+use Rattle.open_net_laws.specs.Applied.{applied}
 use Rattle.function_runs.specs.Functions.{CompilesText, FaultyFunction, FaultyAny}
 use Rattle.program_runs.specs.declared.calling.Calling.TheVariants.{ByName}
 use Rattle.goi_tasks.specs.declared.fault.Fault.{Fault}

@@ -7,8 +7,8 @@ use Rattle.pcf_values.specs.declared.val.Val.{Val}
 use Rattle.pcf_values.specs.Terms.{TermTree}
 use Rattle.cbn_meaning.specs.Meaning.{Means}
 use Rattle.net_build.specs.NetOf.{net_of}
-use Rattle.open_nets.specs.Applied.{applied}
-use Rattle.open_nets.specs.Numbers.{places}
+use Rattle.open_net_laws.specs.Applied.{applied}
+use Rattle.open_net_laws.specs.Numbers.{places}
 use Rattle.verilog_tree.specs.Names.{text_of}
 use Rattle.circuit_text.specs.CircuitText.{circuit_text}
 use Rattle.circuit_calls.specs.CallText.{call_text}

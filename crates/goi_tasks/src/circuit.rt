@@ -3,7 +3,7 @@
 ghost use Rattle.std.specs.Prelude.{◌≡◌, ◌++◌, ℕ, replicate, IfOk, IfErr, OnOk};
 ghost use Rattle.circuit_calls.specs.CallText.{call_text};
 ghost use Rattle.net_build.specs.NetOf.{net_of};
-ghost use Rattle.open_nets.specs.Applied.{applied};
+ghost use Rattle.open_net_laws.specs.Applied.{applied};
 ghost use Rattle.goi_jobs.specs.declared.verilog.Verilog.TheVariants.{Circuit};
 ghost use Rattle.goi_reports.specs.Reports.{where_asked};
 ghost use Rattle.goi_tasks.specs.Seen.{output_of};

@@ -4,7 +4,7 @@ use Rattle.std.proofs.lemmas.Bool.{and_from}
 use Prim.Native.String.{String}
 use Rattle.net_build.specs.Nets.{NetTree}
 use Rattle.interleave_laws.specs.Start.{start_of}
-use Rattle.circuit_core.specs.Rows.{number, channel_of}
+use Rattle.net_rows.specs.Rows.{number, channel_of}
 use Rattle.verilog_tree.specs.Tree.{Arms}
 use Rattle.verilog_tree.specs.Meaning.{param_in}
 use Rattle.verilog_tree.specs.WellFormed.{arms_read, in_order, Limits, limits, arms_fit, items_fit}

@@ -3,8 +3,8 @@ use Rattle.std.proofs.Common.{◌≡◌, ℕ, true, ◌&&◌, List, [], ◌++◌
 use Rattle.std.proofs.lemmas.Bool.{and_from}
 use Rattle.net_build.specs.Nets.{NetTree}
 use Rattle.interleave_laws.specs.Start.{start_of}
-use Rattle.circuit_core.specs.Rows.{number}
-use Rattle.circuit_core.specs.Rows.{channel_of}
+use Rattle.net_rows.specs.Rows.{number}
+use Rattle.net_rows.specs.Rows.{channel_of}
 use Rattle.verilog_tree.specs.Tree.{Arms}
 use Rattle.verilog_tree.specs.WellFormed.{Entry, arms_ok, all_declared, ports_first, items_ok}
 use Rattle.cell_core.specs.Sizes.{Sizes}

@@ -7,7 +7,7 @@ use Prim.Native.String.{String}
 use Rattle.pcf_values.specs.declared.val.Val.{Val}
 use Rattle.net_build.specs.Nets.{NetTree}
 use Rattle.net_build.specs.Sound.{Sound}
-use Rattle.circuit_core.specs.Rows.{Row, CONST}
+use Rattle.net_rows.specs.Rows.{Row, CONST}
 use Rattle.verilog_tree.specs.Meaning.{Store, flag, fit, nonzero, holds, set_vec}
 use Rattle.circuit_module.specs.InRange.{RowFits, InRange}
 use Rattle.cell_core.specs.Sizes.{Sizes}

@@ -1,7 +1,7 @@
 -- Stores with the same registers and memories stand for the same circuits, whatever their wires hold.
 use Rattle.std.proofs.Common.{◌≡◌, ℕ, List, [], ◌∷◌, length, refl, sym, ◌∙◌, subst}
 use Rattle.net_build.specs.Nets.{NetTree}
-use Rattle.circuit_core.specs.Rows.{Row}
+use Rattle.net_rows.specs.Rows.{Row}
 use Rattle.cell_core.specs.Cells.{Cell}
 use Rattle.cell_core.specs.Sizes.{Sizes}
 use Rattle.newest_core.specs.Circuit.{CellToken, CellFork, CellCircuit}

@@ -10,7 +10,7 @@ use Rattle.pcf_values.specs.declared.operator.Operator.TheVariants.{Plus, Minus,
 use Rattle.pcf_values.proofs.Operators.{for_each}
 use Rattle.pcf_values.specs.declared.side.Side.{Side}
 use Rattle.net_build.specs.Nets.{NetTree}
-use Rattle.circuit_core.specs.Rows.{Channel, falls, Row, SUCC, PRED, JOIN}
+use Rattle.net_rows.specs.Rows.{Channel, falls, Row, SUCC, PRED, JOIN}
 use Rattle.verilog_tree.specs.Tree.{name}
 use Rattle.verilog_tree.specs.Meaning.{Store, Scope, scope, flag, fit, nonzero, chosen, holds, settled, set_vec}
 use Rattle.verilog_tree.proofs.Numbers.{fits}

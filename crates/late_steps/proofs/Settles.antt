@@ -4,7 +4,7 @@ use Rattle.std.proofs.lemmas.Bool.{lt-ltb}
 use Prim.Native.String.{String}
 use Rattle.net_build.specs.Nets.{NetTree}
 use Rattle.interleave_laws.specs.Start.{start_of}
-use Rattle.circuit_core.specs.Rows.{number, channel_of}
+use Rattle.net_rows.specs.Rows.{number, channel_of}
 use Rattle.verilog_tree.specs.Tree.{Arms, Expr, Item, name}
 use Rattle.verilog_tree.specs.Meaning.{Store, Scope, scope, fit, chosen, bits, widest_arm, run, run_arms, settled, edge}
 use Rattle.verilog_tree.proofs.Frames.{items_leave, settled_leaves, settled_calm, arms_leave, arms_calm, run_leaves, run_calm}

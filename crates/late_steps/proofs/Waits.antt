@@ -5,7 +5,7 @@ use Rattle.std.proofs.Math.Nat.{mul-suc}
 use Rattle.pcf_values.specs.declared.val.Val.{Val}
 use Rattle.pcf_values.specs.declared.operator.Operator.{Operator}
 use Rattle.net_build.specs.Nets.{NetTree}
-use Rattle.circuit_core.specs.Rows.{Row, SUCC, PRED, JOIN, row_of}
+use Rattle.net_rows.specs.Rows.{Row, SUCC, PRED, JOIN, row_of}
 use Rattle.circuit_module.specs.InRange.{InRange}
 use Rattle.circuit_module.specs.Module.{is_product, multiplies}
 use Rattle.circuit_module.proofs.Sizes.{enough_bits, few_bits}

@@ -6,7 +6,7 @@ use Rattle.std.specs.Prelude.{ℕ, zero, suc, ◌+◌, ◌*◌, ◌%◌, ◌^◌
 use Rattle.pcf_values.specs.declared.val.Val.{Val}
 use Rattle.pcf_values.specs.declared.operator.Operator.{Operator}
 use Rattle.net_build.specs.Nets.{NetTree}
-use Rattle.circuit_core.specs.Rows.{Row, SUCC, PRED, JOIN, row_of}
+use Rattle.net_rows.specs.Rows.{Row, SUCC, PRED, JOIN, row_of}
 use Rattle.circuit_module.specs.Module.{is_product}
 use Rattle.circuit_module.specs.Sizes.{bits_for}
 use Rattle.circuit_module.specs.Stands.{value_number}

@@ -2,8 +2,8 @@
 use Rattle.std.proofs.Common.{◌≡◌, ℕ, suc, ◌-◌, ◌<◌, List, ◌∷◌, sym, ap, ◌∙◌, arith}
 use Rattle.net_build.specs.declared.node.Node.{Node}
 use Rattle.net_build.specs.Nets.{WireTree}
-use Rattle.net_walks.specs.declared.walk.Mark.{Mark}
-use Rattle.net_walks.specs.Passing.{Rest, pass}
+use Rattle.net_marks.specs.declared.walk.Mark.{Mark}
+use Rattle.net_marks.specs.Passing.{Rest, pass}
 use Rattle.net_terms.specs.TermOf.{met, go_on, start, reading}
 
 -- A reading passes the nodes in front, and takes the next one as the term's own, where it is the one that is to come.

@@ -10,9 +10,9 @@ use Rattle.net_build.specs.declared.node.Node.TheVariants.{Const, Succ, Pred, If
 use Rattle.net_build.specs.declared.node.Node.TheVariants.{Door, FixBox, Root, Pair}
 use Rattle.net_build.specs.Nets.{WireTree, NetTree}
 use Rattle.net_build.specs.NetOf.{domain}
-use Rattle.net_walks.specs.declared.walk.Mark.{Mark}
-use Rattle.net_walks.specs.Passing.{mark, mark_at, shared, entered, Rest, rest, pass, value_of}
-use Rattle.net_walks.specs.Reads.{Read, read}
+use Rattle.net_marks.specs.declared.walk.Mark.{Mark}
+use Rattle.net_marks.specs.Passing.{mark, mark_at, shared, entered, Rest, rest, pass, value_of}
+use Rattle.net_marks.specs.Reads.{Read, read}
 use Rattle.net_terms.specs.TermOf.{type_at, met, one, two, three}
 use Rattle.net_terms.specs.TermOf.{Reader, set_marked, start, reading, term_in, from_root, candidate}
 

@@ -15,9 +15,9 @@ use Rattle.net_build.specs.declared.node.Node.TheVariants.{Succ, Pred, Pair, Roo
 use Rattle.net_build.specs.Nets.{WireTree}
 use Rattle.net_build.specs.NetOf.{part, net_of, one_free, side_type}
 use Rattle.net_build.proofs.Count.{aligned}
-use Rattle.net_walks.specs.declared.walk.Mark.{Mark}
-use Rattle.net_walks.specs.Passing.{mark, mark_at}
-use Rattle.net_walks.specs.Reads.{Read, read, variable}
+use Rattle.net_marks.specs.declared.walk.Mark.{Mark}
+use Rattle.net_marks.specs.Passing.{mark, mark_at}
+use Rattle.net_marks.specs.Reads.{Read, read, variable}
 use Rattle.net_terms.specs.TermOf.{one, two, reading, term_in, from_root, candidate}
 use Rattle.net_terms.proofs.Marking.{Marked}
 use Rattle.net_terms.proofs.Loose.{part_loose}

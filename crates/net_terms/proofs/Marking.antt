@@ -9,8 +9,8 @@ use Rattle.net_build.specs.declared.node.Node.{Node}
 use Rattle.net_build.specs.declared.node.Node.TheVariants.{Con, Door}
 use Rattle.net_build.specs.NetOf.{contract, doors, bound, bound_wire}
 use Rattle.net_build.proofs.Count.{ends}
-use Rattle.net_walks.specs.declared.walk.Mark.{Mark}
-use Rattle.net_walks.specs.Passing.{mark, mark_at, entered, pass}
+use Rattle.net_marks.specs.declared.walk.Mark.{Mark}
+use Rattle.net_marks.specs.Passing.{mark, mark_at, entered, pass}
 
 -- a list, the last one first, in front of another
 abbrev pub back : {A : Type 0} → List A → List A → List A

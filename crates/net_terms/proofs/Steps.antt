@@ -11,9 +11,9 @@ use Rattle.net_build.specs.Nets.{WireTree, value_wire, bang_wire}
 use Rattle.net_build.specs.NetOf.{Part, contract, doors, bound, bound_wire, domain, codomain, unary_part, double_part, ifz_part, lam_part}
 use Rattle.net_build.specs.NetOf.{fix_part, app_part}
 use Rattle.net_build.proofs.Count.{Aligned, ends}
-use Rattle.net_walks.specs.declared.walk.Mark.{Mark}
-use Rattle.net_walks.specs.Passing.{mark, mark_at, rest, pass}
-use Rattle.net_walks.specs.Reads.{Read, read}
+use Rattle.net_marks.specs.declared.walk.Mark.{Mark}
+use Rattle.net_marks.specs.Passing.{mark, mark_at, rest, pass}
+use Rattle.net_marks.specs.Reads.{Read, read}
 use Rattle.net_terms.specs.TermOf.{type_at, type_in, go_on, one, two, three, reading}
 use Rattle.net_terms.proofs.Marking.{back, back_append, hit, hit_same, Marked, marked_kept, set_here, set_elsewhere, shares, enters}
 use Rattle.net_terms.proofs.Marking.{weak_passes, body_marked}

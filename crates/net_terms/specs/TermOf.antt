@@ -1,7 +1,7 @@
 -- The term that a net may be the net of, found in one walk over the nodes, from the last one to the first.
 -- A net lists the nodes of a part behind those of its operands, so the walk meets a term's own node first, then the contractions and
 -- doors that its operands need, and then the operands, the last one first: the reading goes by recursion on the term that it makes.
--- What the nodes in between do to the marks of variable wires is said by `Passing` of `net_walks`. No operand is looked for by its
+-- What the nodes in between do to the marks of variable wires is said by `Passing` of `net_marks`. No operand is looked for by its
 -- wire: it is only asked that the wire is the right one, so that the term of a sound net is as large as the net says. The walk ends on
 -- any list of nodes, and a caller compares the net of the term that it gives. Heights are bounded by the number that it is given.
 use Rattle.std.specs.Prelude.{ℕ, zero, suc, List, [], ◌∷◌, length, reverse, replicate, Option, Some, None, nat_eq}
@@ -13,9 +13,9 @@ use Rattle.net_build.specs.declared.node.Node.TheVariants.{Const, Succ, Pred, If
 use Rattle.net_build.specs.declared.node.Node.TheVariants.{FixBox, Root, Pair}
 use Rattle.net_build.specs.Nets.{WireTree, NetTree}
 use Rattle.net_build.specs.NetOf.{domain}
-use Rattle.net_walks.specs.declared.walk.Mark.{Mark}
-use Rattle.net_walks.specs.Passing.{mark, mark_at, Rest, pass, value_of}
-use Rattle.net_walks.specs.Reads.{Read, read, variable}
+use Rattle.net_marks.specs.declared.walk.Mark.{Mark}
+use Rattle.net_marks.specs.Passing.{mark, mark_at, Rest, pass, value_of}
+use Rattle.net_marks.specs.Reads.{Read, read, variable}
 
 -- the type of a wire, and `nat` past the list
 abbrev pub type_in : Option WireTree → TyTree

@@ -7,7 +7,7 @@ ghost use Rattle.pcf_values.specs.Typing.{HasType};
 ghost use Rattle.pcf_values.specs.Views.{term_of};
 ghost use Rattle.net_build.specs.NetOf.{net_of};
 ghost use Rattle.net_terms.specs.Limits.{most_term_height};
-ghost use Rattle.net_walks.specs.Passing.{mark};
+ghost use Rattle.net_marks.specs.Passing.{mark};
 ghost use Rattle.net_terms.specs.TermOf.{candidate};
 ghost use Rattle.net_terms.specs.Answered.{TermOrNone};
 
@@ -16,7 +16,7 @@ use crate::infer::is_program;
 use crate::rebuild::read;
 use crate::uses::has_uses;
 use net_build::{Net, Node, build, law_net_size};
-use net_walks::{Mark, Walk, next};
+use net_marks::{Mark, Walk, next};
 use pcf_values::{Term, Ty, Typed};
 use std::alloc::{AllocError, Global};
 

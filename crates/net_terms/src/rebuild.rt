@@ -7,14 +7,14 @@ ghost use Rattle.std.specs.Prelude.{◌≡◌, ◌≤◌, ◌<◌, ◌+◌, ◌^
 ghost use Rattle.pcf_values.specs.Terms.{ifz, lam, fix};
 ghost use Rattle.pcf_values.specs.Views.{term_of, ty_of};
 ghost use Rattle.net_build.specs.NetOf.{domain};
-ghost use Rattle.net_walks.specs.Reads.{Gives};
-ghost use Rattle.net_walks.specs.Walks.{left};
+ghost use Rattle.net_marks.specs.Reads.{Gives};
+ghost use Rattle.net_marks.specs.Walks.{left};
 ghost use Rattle.net_terms.specs.TermOf.{met, one, reading, set_marked, start, three, two, type_at};
 ghost use Rattle.net_terms.specs.Forms.{one_term, two_term};
 
 use crate::forms::{One, Two};
 use net_build::{Net, Node};
-use net_walks::{Mark, Walk, next, pass, value_of, variable_of};
+use net_marks::{Mark, Walk, next, pass, value_of, variable_of};
 use pcf_values::{Term, Ty};
 use std::alloc::{AllocError, Global};
 

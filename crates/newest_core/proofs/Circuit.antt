@@ -12,10 +12,10 @@ use Rattle.net_build.specs.Nets.{NetTree}
 use Rattle.move_rules.specs.Places.{Place, up, down, TokenTree, ask, ans, place_of}
 use Rattle.move_rules.specs.Moves.{join, solo_at}
 use Rattle.interleave_laws.specs.Runs.{Runs}
-use Rattle.circuit_core.specs.Rows.{Row, CONST, SUCC, PRED, TEST, FORK, JOIN, ANSWER, DEAD}
-use Rattle.circuit_core.specs.Rows.{Channel, rises, falls, row_of, channel_of}
-use Rattle.circuit_core.specs.RowMoves.{stack_row, answer_row, question_row, by_row, by_found, by_rows, at}
-use Rattle.circuit_core.proofs.Small.{not_full, none_some}
+use Rattle.net_rows.specs.Rows.{Row, CONST, SUCC, PRED, TEST, FORK, JOIN, ANSWER, DEAD}
+use Rattle.net_rows.specs.Rows.{Channel, rises, falls, row_of, channel_of}
+use Rattle.net_rows.specs.RowMoves.{stack_row, answer_row, question_row, by_row, by_found, by_rows, at}
+use Rattle.net_rows.proofs.Small.{not_full, none_some}
 use Rattle.cell_core.specs.Cells.{Cell, Store, Shows, Made, row_on, after, AllStand}
 use Rattle.cell_core.specs.CellLaws.{RowShows}
 use Rattle.cell_core.specs.Sizes.{Sizes, asked, too_long, used_up, makes, makes_on}

@@ -7,7 +7,7 @@ use Rattle.move_rules.specs.Places.{Place, up, down, TokenTree, ask, ans, place_
 use Rattle.move_rules.specs.Stacks.{work_at, boxes_at}
 use Rattle.interleave_laws.specs.States.{State}
 use Rattle.interleave_laws.specs.Runs.{LeadsTo, Runs}
-use Rattle.circuit_core.proofs.Small.{not_full}
+use Rattle.net_rows.proofs.Small.{not_full}
 use Rattle.cell_core.specs.Cells.{Cell, Store, Shows}
 use Rattle.cell_core.specs.Sizes.{Sizes}
 use Rattle.cell_core.specs.Depths.{Placed}

@@ -11,9 +11,9 @@ use Rattle.net_build.specs.Nets.{NetTree}
 use Rattle.move_rules.specs.Places.{Place, up, down, TokenTree, ask, ans, place_of}
 use Rattle.move_rules.specs.Moves.{join, solo_at}
 use Rattle.interleave_laws.specs.Runs.{Runs}
-use Rattle.circuit_core.specs.Rows.{Row, CONST, SUCC, PRED, TEST, FORK, JOIN, ANSWER, DEAD, Channel, row_of, channel_of}
-use Rattle.circuit_core.specs.RowMoves.{stack_row, answer_row, question_row, by_row, by_found, by_rows}
-use Rattle.circuit_core.proofs.Small.{not_full}
+use Rattle.net_rows.specs.Rows.{Row, CONST, SUCC, PRED, TEST, FORK, JOIN, ANSWER, DEAD, Channel, row_of, channel_of}
+use Rattle.net_rows.specs.RowMoves.{stack_row, answer_row, question_row, by_row, by_found, by_rows}
+use Rattle.net_rows.proofs.Small.{not_full}
 use Rattle.cell_core.specs.Cells.{Cell, Store, Shows, Made, row_on, after}
 use Rattle.cell_core.specs.CellLaws.{RowShows}
 use Rattle.cell_core.specs.Sizes.{Sizes, too_long, used_up, Covers, makes, makes_on}

@@ -11,7 +11,7 @@ use Rattle.adequacy_laws.proofs.Finishing.{finished_means, means_length}
 use Rattle.adequacy_laws.proofs.Agreeing.{built_runs}
 use Rattle.cell_core.specs.Cells.{Cell}
 use Rattle.cell_core.specs.Sizes.{Sizes, Covers}
-use Rattle.circuit_core.proofs.Small.{not_full}
+use Rattle.net_rows.proofs.Small.{not_full}
 use Rattle.newest_core.specs.Processor.{ticks, reset, newest}
 use Rattle.newest_core.specs.ProcessorLaws.{Follows}
 use Rattle.newest_core.specs.Circuit.{circuit}

@@ -21,9 +21,9 @@ use Rattle.interleave_laws.proofs.Parents.{Child, known}
 use Rattle.interleave_laws.proofs.Reached.{Starts, top, Accounted, reached}
 use Rattle.interleave_laws.proofs.Running.{starts_of}
 use Rattle.interleave_laws.proofs.Apart.{asked, asked_apart}
-use Rattle.circuit_core.specs.Rows.{Row, SUCC, PRED, TEST, JOIN, ANSWER, row_of, channel_of}
-use Rattle.circuit_core.specs.RowMoves.{stack_row, answer_row, by_found}
-use Rattle.circuit_core.proofs.Rows.{law}
+use Rattle.net_rows.specs.Rows.{Row, SUCC, PRED, TEST, JOIN, ANSWER, row_of, channel_of}
+use Rattle.net_rows.specs.RowMoves.{stack_row, answer_row, by_found}
+use Rattle.net_rows.proofs.Rows.{law}
 use Rattle.newest_core.proofs.Inner.{Inner, in_root, in_fork, in_other, NotTwo, join_inner}
 use Rattle.newest_core.specs.Processor.{Half, waits, came, OpenFork}
 

@@ -22,10 +22,10 @@ use Rattle.interleave_laws.specs.Finished.{Finished}
 use Rattle.interleave_laws.proofs.Parents.{key_place}
 use Rattle.interleave_laws.proofs.Running.{run_append, has_step, answered_idle, idle_answered, low}
 use Rattle.interleave_laws.proofs.Apart.{asked}
-use Rattle.circuit_core.specs.RowMoves.{by_rows}
-use Rattle.circuit_core.proofs.Rows.{law}
+use Rattle.net_rows.specs.RowMoves.{by_rows}
+use Rattle.net_rows.proofs.Rows.{law}
 use Rattle.newest_core.proofs.Inner.{in_root, in_fork, solo_inner, fork_inner, join_inner}
-use Rattle.circuit_core.proofs.Small.{none_some, same_some, replaced}
+use Rattle.net_rows.proofs.Small.{none_some, same_some, replaced}
 use Rattle.newest_core.specs.Processor.{Half, waits, came, OpenFork, Registers, meets_half, meets, does, counted, tick_on, tick, ticks}
 use Rattle.newest_core.specs.Processor.{reset, on_live, fired, newest, waiting_at, token_at, entry_of, fork_at}
 use Rattle.newest_core.specs.ProcessorLaws.{Shows, Follows, Waits, IsInnermost}

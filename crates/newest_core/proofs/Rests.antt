@@ -9,7 +9,7 @@ use Rattle.interleave_laws.specs.Runs.{Runs}
 use Rattle.interleave_laws.proofs.Running.{answered_idle}
 use Rattle.adequacy_laws.specs.Questions.{Length}
 use Rattle.adequacy_laws.proofs.Agreeing.{agrees}
-use Rattle.circuit_core.proofs.Small.{none_some}
+use Rattle.net_rows.proofs.Small.{none_some}
 use Rattle.cell_core.specs.Sizes.{Sizes}
 use Rattle.newest_core.specs.Processor.{Registers, tick_on, tick, ticks, reset, newest, waiting_at, token_at}
 use Rattle.newest_core.specs.ProcessorLaws.{Follows}

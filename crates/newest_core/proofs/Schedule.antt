@@ -17,10 +17,10 @@ use Rattle.interleave_laws.specs.States.{State, start, fork_on, join_on, act, st
 use Rattle.interleave_laws.specs.Runs.{Runs, LeadsTo}
 use Rattle.interleave_laws.specs.OneWorker.{on_step}
 use Rattle.interleave_laws.proofs.Running.{run_append, has_step}
-use Rattle.circuit_core.specs.RowMoves.{by_rows}
-use Rattle.circuit_core.proofs.Rows.{law}
+use Rattle.net_rows.specs.RowMoves.{by_rows}
+use Rattle.net_rows.proofs.Rows.{law}
 use Rattle.newest_core.proofs.Inner.{join_inner}
-use Rattle.circuit_core.proofs.Small.{none_some, same_some}
+use Rattle.net_rows.proofs.Small.{none_some, same_some}
 use Rattle.newest_core.specs.Processor.{Half, waits, came, OpenFork, Registers, meets_half, meets, does, counted, tick_on, tick, reset}
 use Rattle.newest_core.specs.Processor.{on_live, fired, newest, waiting_at}
 use Rattle.newest_core.specs.Schedule.{on_top, behind, stack_from}

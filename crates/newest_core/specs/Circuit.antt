@@ -11,8 +11,8 @@ use Rattle.pcf_values.specs.Values.{val_succ, val_pred, val_op, at_zero}
 use Rattle.pcf_values.specs.declared.operator.Operator.{Operator}
 use Rattle.net_build.specs.Nets.{NetTree}
 use Rattle.interleave_laws.specs.Start.{start_of}
-use Rattle.circuit_core.specs.Rows.{Row, CONST, SUCC, PRED, TEST, FORK, JOIN, ANSWER, DEAD}
-use Rattle.circuit_core.specs.Rows.{Channel, falls, row_of, channel_of}
+use Rattle.net_rows.specs.Rows.{Row, CONST, SUCC, PRED, TEST, FORK, JOIN, ANSWER, DEAD}
+use Rattle.net_rows.specs.Rows.{Channel, falls, row_of, channel_of}
 use Rattle.cell_core.specs.Cells.{Pointer, Cell, Store, Stacks, Made, row_on, after}
 use Rattle.cell_core.specs.Sizes.{Sizes, asked, too_long, used_up}
 

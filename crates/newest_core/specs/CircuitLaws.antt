@@ -11,8 +11,8 @@ use Rattle.move_rules.specs.Moves.{join}
 use Rattle.move_rules.specs.Stacks.{work_at, boxes_at}
 use Rattle.interleave_laws.specs.States.{State}
 use Rattle.interleave_laws.specs.Runs.{LeadsTo, Runs}
-use Rattle.circuit_core.specs.Rows.{channel_of}
-use Rattle.circuit_core.specs.RowMoves.{at, by_rows}
+use Rattle.net_rows.specs.Rows.{channel_of}
+use Rattle.net_rows.specs.RowMoves.{at, by_rows}
 use Rattle.cell_core.specs.Cells.{Pointer, Cell, Store, AllStand}
 use Rattle.cell_core.specs.Cells.{Shows as StacksShow}
 use Rattle.cell_core.specs.Sizes.{Sizes}

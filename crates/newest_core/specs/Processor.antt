@@ -15,8 +15,8 @@ use Rattle.fork_join.specs.Entries.{Entry, pending, has_left, same_key}
 use Rattle.move_rules.specs.Places.{Place, down, TokenTree, ask, ans, place_of}
 use Rattle.move_rules.specs.Moves.{Move, solo, fork, join, answer, stay}
 use Rattle.interleave_laws.specs.Start.{start_of}
-use Rattle.circuit_core.specs.Rows.{row_of, channel_of}
-use Rattle.circuit_core.specs.RowMoves.{by_rows}
+use Rattle.net_rows.specs.Rows.{row_of, channel_of}
+use Rattle.net_rows.specs.RowMoves.{by_rows}
 use Rattle.cell_core.specs.Sizes.{makes_on}
 
 -- what an open fork has: its right question, which waits with its ticket, or its left question's answer

@@ -14,13 +14,13 @@ use Rattle.net_build.specs.Faces.{has, least}
 use Rattle.net_build.specs.Sound.{Sound, roots}
 use Rattle.net_build.proofs.Built.{roots_append}
 use Rattle.interleave_laws.specs.Start.{root_wire, start_of}
-use Rattle.circuit_core.specs.Rows.{Channel, Row, CONST, rises, row_up, found_row, row_of, channel_of}
+use Rattle.net_rows.specs.Rows.{Channel, Row, CONST, rises, row_up, found_row, row_of, channel_of}
 use Rattle.circuit_module.specs.InRange.{FewWires}
 use Rattle.circuit_module.proofs.Range.{in_range}
 use Rattle.circuit_module.proofs.Constants.{small_constants}
-use Rattle.open_nets.specs.Applied.{applied}
-use Rattle.open_nets.specs.Arguments.{argument_nodes, last_wire, closed_part, with_arguments}
-use Rattle.open_nets.specs.Numbers.{places_from, places}
+use Rattle.open_net_laws.specs.Applied.{applied}
+use Rattle.open_net_laws.specs.Arguments.{argument_nodes, last_wire, closed_part, with_arguments}
+use Rattle.open_net_laws.specs.Numbers.{places_from, places}
 use Rattle.port_module.specs.Module.{port_at}
 use Rattle.port_module.specs.Laws.{BeginsElsewhere}
 

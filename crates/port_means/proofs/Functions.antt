@@ -5,10 +5,10 @@ use Rattle.pcf_values.specs.Typing.{HasType}
 use Rattle.net_build.specs.Nets.{NetTree}
 use Rattle.net_build.specs.NetOf.{net_of}
 use Rattle.net_build.specs.Laws.{BuiltSound}
-use Rattle.open_nets.specs.Applied.{applied, numeric}
-use Rattle.open_nets.specs.Arguments.{AreNumbers}
-use Rattle.open_nets.specs.Numbers.{places_from, places, with_numbers}
-use Rattle.open_nets.specs.Laws.{AppliedHas, AppliedNet, OtherNumbers, SameShape}
+use Rattle.open_net_laws.specs.Applied.{applied, numeric}
+use Rattle.open_net_laws.specs.Arguments.{AreNumbers}
+use Rattle.open_net_laws.specs.Numbers.{places_from, places, with_numbers}
+use Rattle.open_net_laws.specs.Laws.{AppliedHas, AppliedNet, OtherNumbers, SameShape}
 use Rattle.verilog_tree.specs.Meaning.{Store, edge, set_vec}
 use Rattle.circuit_module.specs.InRange.{FewWires}
 use Rattle.circuit_module.specs.Module.{multiplies}

@@ -6,9 +6,9 @@ use Rattle.std.specs.Prelude.{◌≡◌, ◌⊎◌, ℕ, Bool, true, false, List
 use Rattle.pcf_values.specs.Terms.{TermTree}
 use Rattle.pcf_values.specs.Typing.{HasType}
 use Rattle.net_build.specs.NetOf.{net_of}
-use Rattle.open_nets.specs.Applied.{applied, numeric}
-use Rattle.open_nets.specs.Arguments.{AreNumbers}
-use Rattle.open_nets.specs.Numbers.{places}
+use Rattle.open_net_laws.specs.Applied.{applied, numeric}
+use Rattle.open_net_laws.specs.Arguments.{AreNumbers}
+use Rattle.open_net_laws.specs.Numbers.{places}
 use Rattle.verilog_tree.specs.Meaning.{Store, flag}
 use Rattle.circuit_module.specs.InRange.{FewWires}
 use Rattle.circuit_module.specs.Module.{multiplies}

@@ -14,8 +14,8 @@ pub fn law_function()
     cell_means::law_cell_means();
     cell_means::law_cell_module();
     net_build::law_built_sound();
-    open_nets::law_applied();
-    open_nets::law_numbers();
+    open_net_laws::law_applied();
+    open_net_laws::law_numbers();
     port_module::law_port_edges();
 }
 
@@ -29,7 +29,7 @@ pub fn law_late_function()
 {
     late_steps::law_late_means();
     net_build::law_built_sound();
-    open_nets::law_applied();
-    open_nets::law_numbers();
+    open_net_laws::law_applied();
+    open_net_laws::law_numbers();
     port_module::law_port_edges();
 }

@@ -8,7 +8,7 @@ use Rattle.std.proofs.lemmas.List.{append-nil}
 use Prim.Native.String.{String}
 use Rattle.net_build.specs.Nets.{NetTree}
 use Rattle.interleave_laws.specs.Start.{start_of}
-use Rattle.circuit_core.specs.Rows.{Channel, rises, falls, number, Row, CONST, row_of, channel_of}
+use Rattle.net_rows.specs.Rows.{Channel, rises, falls, number, Row, CONST, row_of, channel_of}
 use Rattle.cell_core.specs.Sizes.{Sizes}
 use Rattle.verilog_tree.specs.Tree.{num, const, name, Stmt, seq, cases, Arms, Item, clocked}
 use Rattle.verilog_tree.specs.Meaning.{Store, Scope, scope, chosen, fit, set_vec, run, run_arms, widest_arm, settled, clocked_in, fire}
@@ -21,7 +21,7 @@ use Rattle.circuit_module.proofs.Choice.{rows_leave}
 use Rattle.cell_module.specs.Fixed.{cell_constants, cell_registers, next_row_notes, next_row_block, list_wires, cell_fork_wires}
 use Rattle.cell_module.specs.Module.{cell_sizes}
 use Rattle.cell_module.proofs.Channels.{channel_fits}
-use Rattle.open_nets.specs.Numbers.{given, with_numbers}
+use Rattle.open_net_laws.specs.Numbers.{given, with_numbers}
 use Rattle.verilog_frames.proofs.Alike as alike
 use Rattle.verilog_frames.proofs.Lists.{settled_append, clocked_over, idle_unclocked, settled_past, own_of, unclocked_of, own_kept}
 use Rattle.port_module.specs.Names.{arg_name, held_name}

@@ -8,7 +8,7 @@ use lib.Text.{eqt}
 use Rattle.verilog_tree.specs.Tree.{Stmt, name}
 use Rattle.verilog_tree.specs.Meaning.{Store, Scope, chosen, fit, nonzero, set_vec, holds, fire}
 use Rattle.circuit_module.specs.Fixed.{block}
-use Rattle.open_nets.specs.Numbers.{given}
+use Rattle.open_net_laws.specs.Numbers.{given}
 use Rattle.port_module.specs.Names.{arg_name, held_name}
 use Rattle.port_module.specs.Module.{port_at, held_sets, port_clock}
 use Rattle.port_module.specs.Edges.{set_args}

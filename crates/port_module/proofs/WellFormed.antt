@@ -8,7 +8,7 @@ use Prim.Native.String.{String}
 use lib.Text.{eqt}
 use Rattle.net_build.specs.Nets.{NetTree}
 use Rattle.interleave_laws.specs.Start.{start_of}
-use Rattle.circuit_core.specs.Rows.{Channel, rises, falls, number, Row, CONST, row_of, channel_of}
+use Rattle.net_rows.specs.Rows.{Channel, rises, falls, number, Row, CONST, row_of, channel_of}
 use Rattle.cell_core.specs.Sizes.{Sizes}
 use Rattle.verilog_tree.specs.Tree.{num, const, name, whole, count, upto, Stmt, skip, seq, branch, cases, Arms, Item, input, reg, clocked}
 use Rattle.verilog_tree.specs.WellFormed.{Kind, Entry, a_register, an_input, register, vector, of_kind, member, apart, identifier, said_ok}

@@ -3,13 +3,13 @@
 use Rattle.std.specs.Prelude.{◌≡◌, ◌<◌, ◌^◌, ℕ, zero, suc, Bool, true, List, [], length, Some, None}
 use Rattle.net_build.specs.Nets.{NetTree}
 use Rattle.interleave_laws.specs.Start.{start_of}
-use Rattle.circuit_core.specs.Rows.{Channel, CONST, row_of, channel_of}
+use Rattle.net_rows.specs.Rows.{Channel, CONST, row_of, channel_of}
 use Rattle.verilog_tree.specs.Meaning.{Store, edge, set_vec}
 use Rattle.verilog_tree.specs.WellFormed.{WellFormed}
 use Rattle.cell_core.specs.Sizes.{Sizes}
 use Rattle.circuit_module.specs.InRange.{Named, InRange}
 use Rattle.cell_module.specs.Laws.{Printable}
-use Rattle.open_nets.specs.Numbers.{with_numbers}
+use Rattle.open_net_laws.specs.Numbers.{with_numbers}
 use Rattle.port_module.specs.Module.{port_at, port_module, plain_module}
 use Rattle.port_module.specs.Edges.{port_reset, port_edges}
 

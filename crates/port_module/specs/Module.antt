@@ -6,7 +6,7 @@
 use Rattle.std.specs.Prelude.{ℕ, zero, suc, Bool, true, false, List, [], ◌∷◌, ◌++◌, length, Option, Some, None, nat_eq, if◌then◌else◌}
 use Rattle.net_build.specs.Nets.{NetTree}
 use Rattle.interleave_laws.specs.Start.{start_of}
-use Rattle.circuit_core.specs.Rows.{Channel, rises, falls, number, Row, CONST, row_of, channel_of}
+use Rattle.net_rows.specs.Rows.{Channel, rises, falls, number, Row, CONST, row_of, channel_of}
 use Rattle.cell_core.specs.Sizes.{Sizes}
 use Rattle.verilog_tree.specs.Tree.{num, const, name, Stmt, skip, seq, branch, Arms, otherwise, arm, upto, count, Item, note, gap}
 use Rattle.verilog_tree.specs.Tree.{input, reg, clocked}

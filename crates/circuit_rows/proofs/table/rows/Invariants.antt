@@ -1,6 +1,6 @@
 use Rattle.std.proofs.Common.{◌≡◌, ◌++◌, ◌-◌, map, length}
 use Rattle.std.specs.Option.{option_map}
-use Rattle.circuit_core.specs.Example.{rows_from}
+use Rattle.net_rows.specs.Example.{rows_from}
 use Rattle.circuit_rows.specs.Views.{found_of}
 use Rattle.circuit_rows.proofs.table.rows.Given as goal
 

@@ -1,5 +1,5 @@
 use Rattle.std.proofs.Common.{rules}
-use Rattle.open_nets.specs.Numbers.{places_from}
+use Rattle.open_net_laws.specs.Numbers.{places_from}
 use Rattle.circuit_text.proofs.Places.{how_many}
 use Rattle.circuit_text.proofs.Whole.{whole_text}
 use Rattle.circuit_text.proofs.print.push_circuit.Goals as goal

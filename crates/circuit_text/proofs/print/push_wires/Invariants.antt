@@ -1,7 +1,7 @@
 use Rattle.std.proofs.Common.{◌≡◌, ◌++◌, drop, map}
 use Rattle.net_build.specs.Views.{wire_of}
 use Rattle.net_text.specs.Listing.{lines_of}
-use Rattle.open_nets.specs.Numbers.{places_from}
+use Rattle.open_net_laws.specs.Numbers.{places_from}
 use Rattle.circuit_text.specs.RowText.{wire_lines}
 use Rattle.circuit_text.proofs.print.push_wires.Given as goal
 

@@ -1,7 +1,7 @@
 use Rattle.std.proofs.Common.{IfOk, subst, sym, ap, arith}
 use Rattle.pcf_values.specs.Views.{term_of}
-use Rattle.net_walks.specs.Reads.{Gives}
-use Rattle.net_walks.specs.Walks.{left, rest_of}
+use Rattle.net_marks.specs.Reads.{Gives}
+use Rattle.net_marks.specs.Walks.{left, rest_of}
 use Rattle.net_terms.proofs.Beginning.{begins}
 use Rattle.net_terms.proofs.rebuild.+read.Goals as goal
 
