@@ -1,2 +1,0 @@
--- the table of rows
-pub mod Growing
