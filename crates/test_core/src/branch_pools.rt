@@ -15,7 +15,7 @@ use gate_workers::{Bench, Turn};
 use net_build::Net;
 use std::alloc::{AllocError, Global};
 use std::marker::Brand;
-use testing_rows::{cut, number};
+use testing_gates::{cut, number};
 use token_pool::{Ended, PoolState};
 
 /// Whether this is the turn.

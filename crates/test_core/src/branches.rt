@@ -17,7 +17,7 @@ use net_build::Net;
 use pcf_values::Val;
 use std::alloc::{AllocError, Global};
 use std::marker::Brand;
-use testing_rows::{cut, number};
+use testing_gates::{cut, number};
 
 /// Whether a row in which nothing moves is so. Another row is answered with `None`.
 fn stands_so(core: &Core, row: &str) -> Result<Option<bool>, AllocError> {

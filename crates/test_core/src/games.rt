@@ -13,7 +13,7 @@ use interleave_core::{Core, Stepped};
 use net_build::Net;
 use pcf_values::Val;
 use std::alloc::{AllocError, Global};
-use testing_rows::{cut, number};
+use testing_gates::{cut, number};
 
 /// More moves than any run of the tests has.
 pub(crate) const MOST_MOVES: u32 = 1000;

@@ -14,7 +14,7 @@ use gate_workers::Bench;
 use move_rules::Moved;
 use std::alloc::{AllocError, Global};
 use std::test::Fail;
-use testing_rows::{cut, number};
+use testing_gates::{cut, number};
 
 /// Whether this is what a worker gets.
 fn is_taken(taken: &BatchTaken, text: &str) -> bool {

@@ -11,8 +11,7 @@ use std::alloc::{AllocError, Global};
 use std::sync::Wait;
 use std::test::Fail;
 use std::thread::Threads;
-use testing_gates::{Counting, Meeting};
-use testing_rows::{cut, number};
+use testing_gates::{Counting, Meeting, cut, number};
 use token_pool::Ended;
 
 /// Whether a job's end is so: `V:M` for a value after so many moves, and `-:M` for no value.

@@ -7,7 +7,7 @@ use net_build::Net;
 use pcf_values::Val;
 use std::alloc::{AllocError, Global};
 use std::test::Fail;
-use testing_rows::{cut, number};
+use testing_gates::{cut, number};
 
 /// Whether the trail goes through the net's nodes of these numbers, and no others.
 fn goes_through(net: &Net, trail: &[Seen], numbers: &str) -> bool {

@@ -11,7 +11,7 @@ ghost use Rattle.token_pool.specs.Pools.{InLimits};
 use move_rules::{Kind, Moved, Token, walk};
 use net_build::Net;
 use std::alloc::{AllocError, Global};
-use testing_rows::{cut, number};
+use testing_gates::{cut, number};
 use token_pool::{Booked, PoolState, Taken};
 use token_stacks::Stacks;
 

@@ -11,7 +11,7 @@ use pcf_values::Val;
 use schedule_log::Log;
 use std::alloc::{AllocError, Global};
 use std::test::Fail;
-use testing_rows::number;
+use testing_gates::number;
 
 /// A pool, by its budget, its workers and its calls, and what it is finished to: the answer, or `-`, the tickets, and the workers.
 #[derive(Clone, Copy)]

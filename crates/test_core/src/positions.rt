@@ -4,7 +4,7 @@ use crate::outline::outline;
 use crate::printing::is_printed;
 use std::alloc::{AllocError, Global};
 use std::test::Fail;
-use testing_rows::{cut, number};
+use testing_gates::{cut, number};
 
 /// How tightly each form holds together: 0 reaches as far right as it can, 1 is a sum, 2 a product, 3 an application, 4 an atom.
 const FORMS: &str = "

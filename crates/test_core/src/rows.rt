@@ -7,7 +7,7 @@ use crate::stacks::is_change;
 use crate::texts::{Written, net};
 use net_build::Net;
 use std::alloc::{AllocError, Global};
-use testing_rows::cut;
+use testing_gates::cut;
 
 /// What a row says.
 #[derive(Clone, Copy)]

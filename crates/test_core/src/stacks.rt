@@ -4,7 +4,7 @@ use crate::rows::{Says, first_wrong};
 use crate::texts::{call, stacks};
 use std::alloc::{AllocError, Global};
 use std::test::Fail;
-use testing_rows::cut;
+use testing_gates::cut;
 use token_stacks::Stacks;
 
 /// Whether these are the words that are listed.

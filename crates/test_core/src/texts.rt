@@ -5,7 +5,7 @@ use move_rules::{Kind, Token};
 use net_build::{Net, Node, Wire, WireKind};
 use pcf_values::{Operator, Side, Ty, Val};
 use std::alloc::{AllocError, Global};
-use testing_rows::{cut, number};
+use testing_gates::{cut, number};
 use token_stacks::Stacks;
 
 /// The node of an operator.

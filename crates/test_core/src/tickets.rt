@@ -7,7 +7,7 @@ ghost use Rattle.interleave_laws.specs.MapRuns.{IsReachedWithin};
 use interleave_core::{Core, Stepped};
 use net_build::Net;
 use std::alloc::{AllocError, Global};
-use testing_rows::number;
+use testing_gates::number;
 
 /// The next move of a run of so many moves. A ticket that isn't live is answered with want of memory, which fails the test.
 pub(crate) fn go(net: &Net, core: &mut Core, moves: u32, ticket: u32) -> Result<Stepped, AllocError>

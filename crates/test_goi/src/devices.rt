@@ -9,7 +9,7 @@ use std::alloc::{AllocError, Global};
 use std::sync::Wait;
 use std::test::Fail;
 use std::thread::Threads;
-use testing_rows::cut;
+use testing_gates::cut;
 
 /// The devices of a call: how many bytes a call of each takes at most, how much the output holds, and which calls fail.
 #[derive(Clone, Copy)]

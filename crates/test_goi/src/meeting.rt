@@ -8,8 +8,7 @@ use std::alloc::{AllocError, Global};
 use std::sync::Wait;
 use std::test::Fail;
 use std::thread::Threads;
-use testing_gates::Meeting;
-use testing_rows::cut;
+use testing_gates::{Meeting, cut};
 
 /// The listing of the net of `(fun x:nat. x + x) 3`.
 const DOUBLE: &str = "net 1;\
