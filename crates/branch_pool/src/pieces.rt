@@ -2,7 +2,7 @@
 
 ghost use Rattle.std.specs.Prelude.{◌≡◌, ◌≤◌};
 ghost use Rattle.pcf_values.specs.Most.{most_budget};
-ghost use Rattle.branch_pool.specs.Benches.{portion};
+ghost use Rattle.branch_pool.specs.Benches.{branch_piece};
 
 use branch_runs::{OnNet, Seed};
 use std::marker::Model;
@@ -19,13 +19,13 @@ pub struct BranchPiece<N: OnNet> {
 impl<N: OnNet> Model for BranchPiece<N> {
     ghost use Rattle.std.specs.Prelude.{◌≤◌};
     ghost use Rattle.pcf_values.specs.Most.{most_budget};
-    ghost use Rattle.branch_pool.specs.Benches.{Portion, portion, portion_code};
+    ghost use Rattle.branch_pool.specs.Benches.{BranchPieceTree, branch_piece, branch_piece_code};
 
-    ghost Value = { Portion };
+    ghost Value = { BranchPieceTree };
 
-    ghost coded = { portion_code };
+    ghost coded = { branch_piece_code };
 
-    ghost view = { λ k. portion k.seed k.allowance k.plain };
+    ghost view = { λ k. branch_piece k.seed k.allowance k.plain };
 
     ghost invariant = { λ k. k.allowance ≤ most_budget };
 }
@@ -34,7 +34,7 @@ impl<N: OnNet> BranchPiece<N> {
     /// A piece of these three. Takes no memory.
     pub fn new(seed: Seed<N>, allowance: u32, plain: bool) -> BranchPiece<N>
         requires { allowance ≤ most_budget }
-        ensures { result ≡ portion seed allowance plain }
+        ensures { result ≡ branch_piece seed allowance plain }
     {
         BranchPiece {
             seed,

@@ -11,7 +11,7 @@ use Rattle.progress_meter.specs.Last.{last_of}
 use Rattle.progress_meter.specs.Codes.{publisher_code}
 use Rattle.gate_workers.specs.declared.turn.Turn.{Turn}
 use Rattle.branch_runs.specs.Branching.{Grown}
-use Rattle.branch_pool.specs.Benches.{Portion, GivesBranch, TakesBranch}
+use Rattle.branch_pool.specs.Benches.{BranchPieceTree, GivesBranch, TakesBranch}
 use Rattle.token_pool.specs.Pools.{Pool}
 use Rattle.token_pool.specs.Booking.{halted}
 use Rattle.token_pool.specs.Ending.{Suits}
@@ -42,7 +42,7 @@ abbrev pub Keeps : WatchedRun → Metered → Type 0
 Keeps r m = IsLevel m × IsOf r m
 
 -- a turn is what the pool gives, and nothing is published
-abbrev pub Gives : Metered → ℕ → Turn Portion → Metered → Type 0
+abbrev pub Gives : Metered → ℕ → Turn BranchPieceTree → Metered → Type 0
 Gives m w t n = GivesBranch m.pool w t n.pool × (n.writer ≡ m.writer)
 
 -- what is handed in is what the pool takes in, and then the number of moves made is published
