@@ -13,7 +13,7 @@
  *     // status == GOI_OK, answer.kind == GOI_NUMBER, answer.value == 6, answer.moves == 30
  *
  * Each call is proved to do what its comment says, for every text, every budget and every size of the buffer; the clause is named behind
- * it, and the definitions are in crates/goi_c/specs and crates/goi_calls/specs. No proof reaches this header: that it declares what the
+ * it, and the definitions are in crates/goi_c/specs and crates/goi_tasks/specs. No proof reaches this header: that it declares what the
  * library has is looked over by c/test.c alone.
  *
  * Status: where the task can be done with the text, the status is the task's own, or GOI_NO_ROOM, or GOI_NO_MEMORY; where the text has

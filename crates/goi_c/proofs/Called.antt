@@ -13,11 +13,11 @@ use Rattle.goi_tasks.specs.Told.{TellsText}
 use Rattle.goi_tasks.specs.Stops.{StopsFor}
 use Rattle.goi_jobs.specs.declared.task.Task.{Task}
 use Rattle.goi_tasks.specs.Tasks.{ReportsText, FaultyFor}
-use Rattle.goi_calls.specs.declared.telling.Answer.{Answer}
-use Rattle.goi_calls.specs.Backs.{Back}
+use Rattle.goi_tasks.specs.declared.answer.Answer.{Answer}
+use Rattle.goi_tasks.specs.Backs.{Back}
 use Rattle.goi_c.specs.Calls.{Calls, CallsTask, prints, refuses, no_memory, TellsRun, ran, refused, no_memory as told_no_memory}
 use Rattle.goi_c.specs.Calls.{tell_task}
-use Rattle.goi_calls.specs.Giving.{OfStop, OfResult}
+use Rattle.goi_tasks.specs.Giving.{OfStop, OfResult}
 use Rattle.goi_c.specs.Giving.{OfTold}
 
 module _ (right : Output → Type 0) (faulty : Fault → Type 0) where

@@ -13,7 +13,7 @@ use Rattle.goi_tasks.specs.Seen.{output_of}
 use Rattle.goi_tasks.specs.Programs.{IsProgramFault, no_program}
 use Rattle.goi_tasks.specs.Stops.{StopsFor}
 use Rattle.goi_tasks.specs.Tasks.{FaultyFor}
-use Rattle.goi_calls.specs.Asked.{taken_task}
+use Rattle.goi_tasks.specs.Asked.{taken_task}
 use Rattle.goi_c.specs.declared.finding.FaultData.{FaultData}
 use Rattle.goi_c.specs.Finding.{CallsFind, Finds, sound, first, no_memory}
 use Rattle.goi_c.specs.Giving.{Fills, FillsResult}

@@ -9,10 +9,10 @@ use Rattle.function_runs.specs.Functions.{CompilesText, FaultyFunction}
 use Rattle.function_runs.specs.Laws.{OneFunction}
 use Rattle.goi_tasks.specs.declared.fault.Fault.TheVariants.{Program}
 use Rattle.goi_tasks.specs.declared.stop.Stop.TheVariants as stop
-use Rattle.goi_calls.specs.declared.telling.Answer.{Answer}
-use Rattle.goi_calls.specs.Backs.{Back, Gives, Nothing}
-use Rattle.goi_calls.specs.Giving.{OfStop}
-use Rattle.goi_calls.specs.Numbers.{TellsNone, rows_status}
+use Rattle.goi_tasks.specs.declared.answer.Answer.{Answer}
+use Rattle.goi_tasks.specs.Backs.{Back, Gives, Nothing}
+use Rattle.goi_tasks.specs.Giving.{OfStop}
+use Rattle.goi_tasks.specs.Numbers.{TellsNone, rows_status}
 use Rattle.goi_c.specs.Calls.{HasRoom}
 use Rattle.goi_c.specs.Giving.{IsToldBy}
 use Rattle.goi_c.specs.Rows.{TellsEach, ran, refused, no_memory, TellsRows, OwnsEach}

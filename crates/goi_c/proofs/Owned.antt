@@ -7,8 +7,8 @@ use Rattle.program_runs.specs.declared.calling.Calling.{Calling}
 use Rattle.goi_tasks.specs.Told.{TellsText}
 use Rattle.goi_tasks.specs.Settles.{Settles, status_of_output, status_of_run}
 use Rattle.goi_tasks.specs.Tasks.{FaultyFor, EndsText}
-use Rattle.goi_calls.specs.declared.telling.Answer.{Answer}
-use Rattle.goi_calls.specs.Backs.{Back, Comes, Gives}
+use Rattle.goi_tasks.specs.declared.answer.Answer.{Answer}
+use Rattle.goi_tasks.specs.Backs.{Back, Comes, Gives}
 use Rattle.goi_c.specs.Calls.{Calls, prints, refuses, no_memory, Owns, OwnsTask}
 use Rattle.goi_c.specs.Calls.{TellsRun, ran, refused, no_memory as told_no_memory, tell_task}
 

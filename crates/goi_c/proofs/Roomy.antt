@@ -10,9 +10,9 @@ use Rattle.goi_tasks.specs.Refusals.{most_line, fault_status}
 use Rattle.goi_tasks.specs.Replaying.{replay_status}
 use Rattle.goi_jobs.specs.Tasks.{shown}
 use Rattle.goi_tasks.specs.Tasks.{ReportsText}
-use Rattle.goi_calls.specs.declared.telling.Answer.{Answer}
-use Rattle.goi_calls.specs.Backs.{Back, Gives}
-use Rattle.goi_calls.specs.Asked.{listed_task}
+use Rattle.goi_tasks.specs.declared.answer.Answer.{Answer}
+use Rattle.goi_tasks.specs.Backs.{Back, Gives}
+use Rattle.goi_tasks.specs.Asked.{listed_task}
 use Rattle.goi_c.specs.Calls.{Calls, prints, refuses, no_memory, HasRoom, TellsRun, ran, refused, no_memory as told_no_memory}
 
 -- a short text with another status than that of no room finds room

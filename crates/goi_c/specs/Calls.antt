@@ -20,10 +20,10 @@ use Rattle.goi_tasks.specs.Told.{TellsText}
 use Rattle.goi_jobs.specs.Tasks.{nothing_shown}
 use Rattle.goi_tasks.specs.Tasks.{ReportsText, FaultyFor, EndsText}
 use Rattle.goi_tasks.specs.Verilogs.{ReportsVerilog, FaultyVerilog, EndsVerilog}
-use Rattle.goi_calls.specs.declared.telling.Answer.{Answer}
-use Rattle.goi_calls.specs.Asked.{listed_task, run_task, span_task, trace_task}
-use Rattle.goi_calls.specs.Backs.{Back, Comes, Gives, Nothing}
-use Rattle.goi_calls.specs.Numbers.{AnswerIs}
+use Rattle.goi_tasks.specs.declared.answer.Answer.{Answer}
+use Rattle.goi_tasks.specs.Asked.{listed_task, run_task, span_task, trace_task}
+use Rattle.goi_tasks.specs.Backs.{Back, Comes, Gives, Nothing}
+use Rattle.goi_tasks.specs.Numbers.{AnswerIs}
 
 -- ---- numbers that ask for something
 

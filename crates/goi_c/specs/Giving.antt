@@ -7,10 +7,10 @@ use Rattle.goi_tasks.specs.declared.stop.Stop.{Stop}
 use Rattle.goi_tasks.specs.declared.stop.Stop.TheVariants as stop
 use Rattle.goi_tasks.specs.Refusals.{fault_status}
 use Rattle.goi_tasks.specs.Replaying.{replay_status}
-use Rattle.goi_calls.specs.declared.telling.Answer.{Answer}
-use Rattle.goi_calls.specs.Backs.{Back, Nothing}
-use Rattle.goi_calls.specs.Giving.{OfStop}
-use Rattle.goi_calls.specs.Numbers.{AnswerIs, TellsNone, rows_status}
+use Rattle.goi_tasks.specs.declared.answer.Answer.{Answer}
+use Rattle.goi_tasks.specs.Backs.{Back, Nothing}
+use Rattle.goi_tasks.specs.Giving.{OfStop}
+use Rattle.goi_tasks.specs.Numbers.{AnswerIs, TellsNone, rows_status}
 use Rattle.goi_c.specs.declared.finding.FaultData.{FaultData}
 use Rattle.goi_c.specs.Faults.{FaultIs, IsNoFault}
 use Rattle.goi_c.specs.Rows.{TellsRows}

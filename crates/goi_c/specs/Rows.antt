@@ -11,9 +11,9 @@ use Rattle.function_runs.specs.Functions.{CompilesText, FaultyFunction}
 use Rattle.goi_jobs.specs.Ranges.{IsBudget}
 use Rattle.goi_tasks.specs.declared.fault.Fault.TheVariants.{Program}
 use Rattle.goi_tasks.specs.Refusals.{IsLine}
-use Rattle.goi_calls.specs.declared.telling.Answer.{Answer}
-use Rattle.goi_calls.specs.Backs.{Back, Comes, Gives, Nothing}
-use Rattle.goi_calls.specs.Numbers.{AnswerIs, TellsNone, rows_status}
+use Rattle.goi_tasks.specs.declared.answer.Answer.{Answer}
+use Rattle.goi_tasks.specs.Backs.{Back, Comes, Gives, Nothing}
+use Rattle.goi_tasks.specs.Numbers.{AnswerIs, TellsNone, rows_status}
 
 -- the numbers of a row, where each row has so many and they stand one behind the other
 abbrev pub row : ℕ → List ℕ → ℕ → List ℕ

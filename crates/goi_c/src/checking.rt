@@ -8,14 +8,14 @@ ghost use Rattle.goi_tasks.specs.Seen.{output_of};
 ghost use Rattle.goi_tasks.specs.Programs.{FaultyEither};
 ghost use Rattle.goi_tasks.specs.Replaying.{FaultySchedule, ReportsReplay};
 ghost use Rattle.goi_tasks.specs.Stops.{StopsFor};
-ghost use Rattle.goi_calls.specs.Backs.{back};
+ghost use Rattle.goi_tasks.specs.Backs.{back};
 ghost use Rattle.goi_c.specs.Calls.{CallsCircuit, CallsReplay, CallsReplayTrace, CallsTask, IsAskedCircuit};
 ghost use Rattle.goi_c.specs.Calls.{OwnsCircuit, OwnsReplay, OwnsTask, part};
 
-use goi_calls::{BAD_CALL, give_nothing, give_result};
 use goi_jobs::{MOST_CELLS, MOST_FORKS, TRACED_MOVES, Task, Verilog, Window};
 use goi_tasks::{
-    Report, Stop, law_settled, replay_text, report_replay, report_text, report_verilog,
+    BAD_CALL, Report, Stop, give_nothing, give_result, law_settled, replay_text, report_replay,
+    report_text, report_verilog,
 };
 use pcf_values::limits::SCHEDULE_MOVES;
 use program_runs::{Alone, Calling, net_for};

@@ -13,9 +13,10 @@ ghost use Rattle.goi_c.specs.Giving.{Fills, FillsResult};
 use crate::kinds::number;
 use crate::marks::mark_of;
 use function_runs::{compile, law_one_function};
-use goi_calls::{NO_MEMORY, task_taken};
 use goi_jobs::Task;
-use goi_tasks::{Fault, Report, Stop, law_settled, replay_text, report_text};
+use goi_tasks::{
+    Fault, NO_MEMORY, Report, Stop, law_settled, replay_text, report_text, task_taken,
+};
 use program_runs::{Alone, NoRun};
 use std::alloc::Global;
 

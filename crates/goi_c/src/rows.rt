@@ -2,14 +2,15 @@
 
 ghost use Rattle.std.specs.Prelude.{◌≡◌, ◌↔◌, ◌*◌, length, IfOk, OnOk, IsTrue};
 ghost use Rattle.goi_jobs.specs.Ranges.{IsBudget};
-ghost use Rattle.goi_calls.specs.Backs.{back};
+ghost use Rattle.goi_tasks.specs.Backs.{back};
 ghost use Rattle.goi_c.specs.Calls.{HasRoom};
 ghost use Rattle.goi_c.specs.Giving.{IsToldBy};
 ghost use Rattle.goi_c.specs.Rows.{CallsEach, IsAskedEach, OwnsEach, TellsEach, TellsRow, TellsRows};
 
 use function_runs::{Function, compile, law_one_function};
-use goi_calls::{Answer, BAD_CALL, NO_MEMORY, answer_of, clear, give_fault, give_nothing, settle};
-use goi_tasks::Fault;
+use goi_tasks::{
+    Answer, BAD_CALL, Fault, NO_MEMORY, answer_of, clear, give_fault, give_nothing, settle,
+};
 use pcf_values::limits::BUDGET;
 use program_runs::NoRun;
 use std::alloc::{AllocError, Global};

@@ -2,13 +2,14 @@
 
 ghost use Rattle.std.specs.Prelude.{◌≡◌, ◌<◌, false};
 ghost use Rattle.goi_jobs.specs.Ranges.{IsBudget};
-ghost use Rattle.goi_calls.specs.Asked.{listed_task, run_task, trace_task};
-ghost use Rattle.goi_calls.specs.Backs.{back};
+ghost use Rattle.goi_tasks.specs.Asked.{listed_task, run_task, trace_task};
+ghost use Rattle.goi_tasks.specs.Backs.{back};
 ghost use Rattle.goi_c.specs.Calls.{CallsListed, CallsRun, CallsTrace, HasRoom, IsAsked, IsAskedTrace, OwnsTask, part};
 
-use goi_calls::{BAD_CALL, give_nothing, give_result, net_task, run_task, trace_task};
 use goi_jobs::{TRACED_MOVES, Window};
-use goi_tasks::{law_settled, report_text};
+use goi_tasks::{
+    BAD_CALL, give_nothing, give_result, law_settled, net_task, report_text, run_task, trace_task,
+};
 use pcf_values::limits::{BUDGET, SCHEDULE_MOVES};
 use program_runs::Alone;
 use std::alloc::Global;

@@ -1,11 +1,10 @@
 //! Runs in rounds, as texts.
 
-ghost use Rattle.goi_calls.specs.Asked.{span_task};
-ghost use Rattle.goi_calls.specs.Backs.{back};
+ghost use Rattle.goi_tasks.specs.Asked.{span_task};
+ghost use Rattle.goi_tasks.specs.Backs.{back};
 ghost use Rattle.goi_c.specs.Calls.{CallsSpan, IsAsked, OwnsTask};
 
-use goi_calls::{BAD_CALL, give_nothing, give_result, span_task};
-use goi_tasks::{law_settled, report_text};
+use goi_tasks::{BAD_CALL, give_nothing, give_result, law_settled, report_text, span_task};
 use pcf_values::limits::BUDGET;
 use program_runs::Alone;
 use std::alloc::Global;

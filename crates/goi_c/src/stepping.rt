@@ -1,11 +1,10 @@
 //! Reductions, as texts.
 
-ghost use Rattle.goi_calls.specs.Backs.{back};
+ghost use Rattle.goi_tasks.specs.Backs.{back};
 ghost use Rattle.goi_c.specs.Calls.{CallsSteps, IsAskedSteps, OwnsTask, part, steps_task};
 
-use goi_calls::{BAD_CALL, give_nothing, give_result};
 use goi_jobs::{TOLD_STEPS, Task, Window};
-use goi_tasks::{law_settled, report_text};
+use goi_tasks::{BAD_CALL, give_nothing, give_result, law_settled, report_text};
 use pcf_values::limits::{BUDGET, SCHEDULE_MOVES};
 use program_runs::Alone;
 use std::alloc::Global;

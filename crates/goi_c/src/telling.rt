@@ -2,12 +2,14 @@
 
 ghost use Rattle.std.specs.Prelude.{nat_eq};
 ghost use Rattle.program_runs.specs.Programs.{calling_of};
-ghost use Rattle.goi_calls.specs.Backs.{back};
+ghost use Rattle.goi_tasks.specs.Backs.{back};
 ghost use Rattle.goi_c.specs.Calls.{CallsTell, HasRoom, IsAsked, OwnsTask, tell_task};
 ghost use Rattle.goi_c.specs.Giving.{OfTold};
 
-use goi_calls::{Answer, BAD_CALL, answer_of, give_nothing, give_stop, no_answer};
-use goi_tasks::{Stop, ValueAndMoves, law_settled, status_of, tell_text};
+use goi_tasks::{
+    Answer, BAD_CALL, Stop, ValueAndMoves, answer_of, give_nothing, give_stop, law_settled,
+    no_answer, status_of, tell_text,
+};
 use pcf_values::limits::BUDGET;
 use program_runs::{Alone, calling_of};
 use std::alloc::Global;

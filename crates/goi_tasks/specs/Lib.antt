@@ -34,7 +34,15 @@ pub mod Agreement
 pub mod Seen
 -- What a run of a text comes to, without its report.
 pub mod Told
+-- What a call gives back to a caller that isn't written in Rattle: a status, a text in the caller's buffer, and how long that text is.
+pub mod Backs
+-- What a run came to, as numbers.
+pub mod Numbers
+-- The tasks for which the numbers of calls ask.
+pub mod Asked
 -- what serves proofs and private contracts
 pub mod Stops
+-- What is given back of a task's result.
+pub mod Giving
 -- What the calls inside say of a part of a task.
 pub mod Parts

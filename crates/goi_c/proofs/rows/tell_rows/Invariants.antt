@@ -1,5 +1,5 @@
 use Rattle.std.proofs.Common.{◌≡◌, ◌*◌, ◌<◌, ℕ, length, get_or, drop}
-use Rattle.goi_calls.specs.declared.telling.Answer.{Answer}
+use Rattle.goi_tasks.specs.declared.answer.Answer.{Answer}
 use Rattle.goi_c.specs.Rows.{TellsRow, row}
 use Rattle.goi_c.proofs.rows.tell_rows.Given as goal
 

@@ -1,5 +1,5 @@
 use Rattle.std.proofs.Common.{◌≡◌, ℕ, zero, suc, ◌<◌, false, refl, arith}
-use Rattle.goi_calls.specs.Asked.{schedule_in, run_task}
+use Rattle.goi_tasks.specs.Asked.{schedule_in, run_task}
 use Rattle.goi_c.proofs.Called.{called_as}
 use Rattle.goi_c.proofs.Owned.{owned}
 use Rattle.goi_c.proofs.Roomy.{run_fits}

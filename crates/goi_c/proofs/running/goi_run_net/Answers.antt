@@ -1,5 +1,5 @@
 use Rattle.std.proofs.Common.{arith}
-use Rattle.goi_calls.specs.Asked.{listed_task}
+use Rattle.goi_tasks.specs.Asked.{listed_task}
 use Rattle.goi_c.proofs.Called.{called_as}
 use Rattle.goi_c.proofs.Owned.{owned}
 use Rattle.goi_c.proofs.Roomy.{listed_fits}

@@ -1,5 +1,5 @@
 use Rattle.std.proofs.Common.{arith}
-use Rattle.goi_calls.specs.Asked.{trace_task}
+use Rattle.goi_tasks.specs.Asked.{trace_task}
 use Rattle.goi_c.specs.Calls.{part}
 use Rattle.goi_c.proofs.Called.{called_as}
 use Rattle.goi_c.proofs.Owned.{owned}

@@ -1,5 +1,5 @@
 use Rattle.std.proofs.Common.{arith}
-use Rattle.goi_calls.specs.Asked.{span_task}
+use Rattle.goi_tasks.specs.Asked.{span_task}
 use Rattle.goi_c.proofs.Called.{called_as}
 use Rattle.goi_c.proofs.Owned.{owned}
 use Rattle.goi_c.proofs.spanning.goi_span.Goals as goal
