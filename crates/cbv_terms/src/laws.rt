@@ -17,7 +17,7 @@ pub fn law_translated()
 {}
 
 /// More depth keeps a result by value, and a term has one value at most.
-pub fn law_one_value()
+pub fn law_by_value_one_value()
     ensures more_depth { MoreDepth }
     ensures one_value { OneValue }
 {}

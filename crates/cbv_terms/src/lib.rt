@@ -19,7 +19,8 @@ mod translate;
 
 pub use fault::ByValueFault;
 pub use laws::{
-    law_by_value, law_example_faults, law_example_values, law_faults, law_one_value, law_translated,
+    law_by_value, law_by_value_one_value, law_example_faults, law_example_values, law_faults,
+    law_translated,
 };
 pub use limit::BY_VALUE_HEIGHT;
 pub use program::by_value;

@@ -182,7 +182,7 @@ module _ (P : Scope) (u : ℕ) (D : Store) where
             ∙ ih (⊎_elim (λ (q : x < w). absurd (omega arith)) (λ q. let z : w ≡ x → ⊥ = λ t. d (sym t) in omega arith) (cases_lt x w))
             (omega arith)
 
--- the statements of `law_rows`
+-- the statements of `law_circuit_rows`
 pub rows_found : RowsFound
 rows_found net P u S c r h l = finds P u S net c r h (length net.wires) 0 (omega arith) (one_of_them c l)
   where

@@ -1,4 +1,4 @@
--- What the cases of a net's rows come to, in whatever module: the statements of `law_rows`.
+-- What the cases of a net's rows come to, in whatever module: the statements of `law_circuit_rows`.
 use Rattle.std.specs.Prelude.{◌≡◌, ◌<◌, ℕ, ◌^◌, length, Some}
 use Rattle.net_build.specs.Nets.{NetTree}
 use Rattle.net_rows.specs.Rows.{Channel, number, Row, CONST, row_of}

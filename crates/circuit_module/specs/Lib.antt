@@ -8,5 +8,5 @@ pub mod Module
 pub mod Stands
 -- A net whose rows fit: the statement of `law_in_range`.
 pub mod InRange
--- What the cases come to: the statements of `law_rows`.
+-- What the cases come to: the statements of `law_circuit_rows`.
 pub mod Cases

@@ -9,7 +9,7 @@ pub fn law_in_range()
 {}
 
 /// Among the cases of a net the one of a channel is its row's, and that of a constant sets it.
-pub fn law_rows()
+pub fn law_circuit_rows()
     ensures found { RowsFound }
     ensures constants { ConstantsSet }
 {}

@@ -8,4 +8,4 @@
 
 mod laws;
 
-pub use laws::{law_in_range, law_rows};
+pub use laws::{law_circuit_rows, law_in_range};

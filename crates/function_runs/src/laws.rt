@@ -2,7 +2,7 @@
 
 ghost use Rattle.function_runs.specs.Laws.{AppliedTree, AppliedText, OneFunction, OneOfAny, SameAsText};
 
-use pcf_reader::{law_one_fault, law_one_tree, law_text_or_fault};
+use pcf_reader::{law_one_tree, law_text_one_fault, law_text_or_fault};
 use program_runs::law_one_program;
 
 /// A text is one function of so many numbers, or has one first fault, and never both.
@@ -10,7 +10,7 @@ pub fn law_one_function()
     ensures { OneFunction }
 {
     law_one_tree();
-    law_one_fault();
+    law_text_one_fault();
     law_text_or_fault();
 }
 

@@ -8,7 +8,7 @@ use function_runs::law_one_function;
 use goi_tasks::law_one_listing;
 use program_runs::law_one_program;
 use replay_check::law_one_replay;
-use schedule_log::law_one_answer;
+use schedule_log::law_log_one_answer;
 
 /// What is told of a program is settled by its text and its budget alone.
 pub fn law_one_section()
@@ -17,7 +17,7 @@ pub fn law_one_section()
     law_one_length();
     law_one_program();
     law_one_listing();
-    law_one_answer();
+    law_log_one_answer();
     law_one_replay();
     law_one_list();
     law_one_function();

@@ -14,8 +14,8 @@ ghost use Rattle.goi_c.specs.Calls.{OwnsCircuit, OwnsReplay, OwnsTask, part};
 
 use goi_jobs::{MOST_CELLS, MOST_FORKS, TRACED_MOVES, Task, Verilog, Window};
 use goi_tasks::{
-    BAD_CALL, Report, Stop, give_nothing, give_result, law_settled, replay_text, report_replay,
-    report_text, report_verilog,
+    BAD_CALL, Report, Stop, give_nothing, give_result, law_tasks_settled, replay_text,
+    report_replay, report_text, report_verilog,
 };
 use pcf_values::limits::SCHEDULE_MOVES;
 use program_runs::{Alone, Calling, net_for};
@@ -33,7 +33,7 @@ pub extern "C" fn goi_check(
     ensures calls { CallsTask (Check term) text.now (back result needed.new out.old out.new) }
     ensures own { OwnsTask (Check term) text.now (back result needed.new out.old out.new) }
 {
-    law_settled();
+    law_tasks_settled();
     let checked = report_text(alloc, text, Task::Check { term }, &Alone);
     give_result(alloc, checked, out, needed)
 }
@@ -44,7 +44,7 @@ pub extern "C" fn goi_net(alloc: Global, text: &[u8], out: &mut [u8], needed: &m
     ensures calls { CallsTask ShowNet text.now (back result needed.new out.old out.new) }
     ensures own { OwnsTask ShowNet text.now (back result needed.new out.old out.new) }
 {
-    law_settled();
+    law_tasks_settled();
     let listed = report_text(alloc, text, Task::ShowNet, &Alone);
     give_result(alloc, listed, out, needed)
 }
@@ -62,7 +62,7 @@ pub extern "C" fn goi_circuit(
     ensures calls { CallsCircuit text.now cells forks (back result needed.new out.old out.new) }
     ensures own { IsAskedCircuit cells forks → OwnsCircuit text.now cells forks (back result needed.new out.old out.new) }
 {
-    law_settled();
+    law_tasks_settled();
     if cells < 1 || MOST_CELLS < cells || forks < 1 || MOST_FORKS < forks {
         return give_nothing(needed, BAD_CALL);
     }
@@ -92,7 +92,7 @@ pub extern "C" fn goi_replay(
     ensures calls { CallsReplay text.now schedule.now (back result needed.new out.old out.new) }
     ensures own { OwnsReplay text.now schedule.now (back result needed.new out.old out.new) }
 {
-    law_settled();
+    law_tasks_settled();
     let replayed = replay_text(alloc, text, schedule);
     give_result(alloc, replayed, out, needed)
 }
@@ -112,7 +112,7 @@ pub extern "C" fn goi_replay_trace(
     ensures calls { CallsReplayTrace text.now schedule.now (part from most) (back result needed.new out.old out.new) }
     ensures own { IsWindow (part from most) → OwnsReplay text.now schedule.now (back result needed.new out.old out.new) }
 {
-    law_settled();
+    law_tasks_settled();
     if SCHEDULE_MOVES < from || most < 1 || TRACED_MOVES < most {
         return give_nothing(needed, BAD_CALL);
     }

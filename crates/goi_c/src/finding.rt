@@ -15,7 +15,7 @@ use crate::marks::mark_of;
 use function_runs::{compile, law_one_function};
 use goi_jobs::Task;
 use goi_tasks::{
-    Fault, NO_MEMORY, Report, Stop, law_settled, replay_text, report_text, task_taken,
+    Fault, NO_MEMORY, Report, Stop, law_tasks_settled, replay_text, report_text, task_taken,
 };
 use program_runs::{Alone, NoRun};
 use std::alloc::Global;
@@ -68,7 +68,7 @@ pub extern "C" fn goi_find_schedule_fault(
 ) -> u32
     ensures { CallsFindSchedule text.now schedule.now result fault.new }
 {
-    law_settled();
+    law_tasks_settled();
     let replayed = replay_text(alloc, text, schedule);
     fill_result(replayed, fault)
 }
@@ -79,7 +79,7 @@ fn find_for(alloc: Global, bytes: &[u8], task: Task, fault: &mut FaultData) -> u
     requires quiet { progress_of task ≡ false }
     ensures { Finds (FaultyFor task bytes.now) result fault.new }
 {
-    law_settled();
+    law_tasks_settled();
     let done = report_text(alloc, bytes, task, &Alone);
     fill_result(done, fault)
 }

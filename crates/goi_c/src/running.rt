@@ -8,7 +8,8 @@ ghost use Rattle.goi_c.specs.Calls.{CallsListed, CallsRun, CallsTrace, HasRoom, 
 
 use goi_jobs::{TRACED_MOVES, Window};
 use goi_tasks::{
-    BAD_CALL, give_nothing, give_result, law_settled, net_task, report_text, run_task, trace_task,
+    BAD_CALL, give_nothing, give_result, law_tasks_settled, net_task, report_text, run_task,
+    trace_task,
 };
 use pcf_values::limits::{BUDGET, SCHEDULE_MOVES};
 use program_runs::Alone;
@@ -32,7 +33,7 @@ pub extern "C" fn goi_run(
     // A buffer for a line has room for all but a schedule.
     ensures room { flags < 2 → HasRoom (back result needed.new out.old out.new) }
 {
-    law_settled();
+    law_tasks_settled();
     if budget < 1 || BUDGET < budget || 4 <= flags {
         return give_nothing(needed, BAD_CALL);
     }
@@ -56,7 +57,7 @@ pub extern "C" fn goi_run_net(
     // A buffer for a line has room for all but a schedule.
     ensures room { schedule ≡ false → HasRoom (back result needed.new out.old out.new) }
 {
-    law_settled();
+    law_tasks_settled();
     if budget < 1 || BUDGET < budget {
         return give_nothing(needed, BAD_CALL);
     }
@@ -83,7 +84,7 @@ pub extern "C" fn goi_trace(
     ensures own { IsAskedTrace budget flags (part from most) →
         OwnsTask (trace_task budget flags (part from most)) text.now (back result needed.new out.old out.new) }
 {
-    law_settled();
+    law_tasks_settled();
     if budget < 1 || BUDGET < budget || 2 <= flags {
         return give_nothing(needed, BAD_CALL);
     }

@@ -4,7 +4,7 @@ ghost use Rattle.goi_tasks.specs.Asked.{span_task};
 ghost use Rattle.goi_tasks.specs.Backs.{back};
 ghost use Rattle.goi_c.specs.Calls.{CallsSpan, IsAsked, OwnsTask};
 
-use goi_tasks::{BAD_CALL, give_nothing, give_result, law_settled, report_text, span_task};
+use goi_tasks::{BAD_CALL, give_nothing, give_result, law_tasks_settled, report_text, span_task};
 use pcf_values::limits::BUDGET;
 use program_runs::Alone;
 use std::alloc::Global;
@@ -24,7 +24,7 @@ pub extern "C" fn goi_span(
     ensures calls { CallsSpan text.now budget flags (back result needed.new out.old out.new) }
     ensures own { IsAsked 8 budget flags → OwnsTask (span_task budget flags) text.now (back result needed.new out.old out.new) }
 {
-    law_settled();
+    law_tasks_settled();
     if budget < 1 || BUDGET < budget || 8 <= flags {
         return give_nothing(needed, BAD_CALL);
     }

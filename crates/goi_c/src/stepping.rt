@@ -4,7 +4,7 @@ ghost use Rattle.goi_tasks.specs.Backs.{back};
 ghost use Rattle.goi_c.specs.Calls.{CallsSteps, IsAskedSteps, OwnsTask, part, steps_task};
 
 use goi_jobs::{TOLD_STEPS, Task, Window};
-use goi_tasks::{BAD_CALL, give_nothing, give_result, law_settled, report_text};
+use goi_tasks::{BAD_CALL, give_nothing, give_result, law_tasks_settled, report_text};
 use pcf_values::limits::{BUDGET, SCHEDULE_MOVES};
 use program_runs::Alone;
 use std::alloc::Global;
@@ -25,7 +25,7 @@ pub extern "C" fn goi_steps(
     ensures own { IsAskedSteps budget (part from most) →
         OwnsTask (steps_task budget (part from most)) text.now (back result needed.new out.old out.new) }
 {
-    law_settled();
+    law_tasks_settled();
     if budget < 1 || BUDGET < budget {
         return give_nothing(needed, BAD_CALL);
     }

@@ -7,7 +7,7 @@ ghost use Rattle.goi_c.specs.Calls.{CallsTell, HasRoom, IsAsked, OwnsTask, tell_
 ghost use Rattle.goi_c.specs.Giving.{OfTold};
 
 use goi_tasks::{
-    Answer, BAD_CALL, Stop, ValueAndMoves, answer_of, give_nothing, give_stop, law_settled,
+    Answer, BAD_CALL, Stop, ValueAndMoves, answer_of, give_nothing, give_stop, law_tasks_settled,
     no_answer, status_of, tell_text,
 };
 use pcf_values::limits::BUDGET;
@@ -34,7 +34,7 @@ pub extern "C" fn goi_tell(
     // A buffer for a line has room for the line of a fault.
     ensures room { HasRoom (back result needed.new out.old out.new) }
 {
-    law_settled();
+    law_tasks_settled();
     if budget < 1 || BUDGET < budget || 2 <= flags {
         *answer = no_answer();
         return give_nothing(needed, BAD_CALL);

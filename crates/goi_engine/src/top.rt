@@ -15,7 +15,7 @@ use goi_tasks::law_one_listing;
 use goi_world::{Files, Sink};
 use program_runs::law_one_program;
 use replay_check::law_one_replay;
-use schedule_log::law_one_answer;
+use schedule_log::law_log_one_answer;
 use std::alloc::Global;
 use std::sync::Wait;
 use std::thread::Threads;
@@ -52,7 +52,7 @@ pub fn goi<R: Threads + Wait + Sync, F: Files, O: Sink, E: Sink, G: Gate>(
 {
     law_one_program();
     law_one_listing();
-    law_one_answer();
+    law_log_one_answer();
     law_one_replay();
     law_one_list();
     law_one_function();

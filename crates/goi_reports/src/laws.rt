@@ -14,6 +14,6 @@ pub fn law_plain_run()
 {}
 
 /// Reports with their texts.
-pub fn law_rows()
+pub fn law_report_rows()
     ensures { Rows }
 {}

@@ -49,7 +49,7 @@ pub use replaying::{replay_text, report_replay};
 pub use report::Report;
 pub use rows::{clear, settle};
 pub use running::status_of;
-pub use settled::{law_one_listing, law_settled};
+pub use settled::{law_one_listing, law_tasks_settled};
 pub use stop::Stop;
 pub use task::most_bytes;
 pub use telling::{ValueAndMoves, tell_text};

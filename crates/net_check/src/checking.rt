@@ -96,7 +96,7 @@ fn row_fault(net: &Net, n: u32, node: Node) -> Option<NetFault>
 }
 
 /// A net has one first fault at most, and a sound net has none.
-pub fn law_one_fault()
+pub fn law_net_one_fault()
     ensures one { OneFault }
     ensures none { NoFault }
 {}

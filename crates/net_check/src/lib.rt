@@ -11,5 +11,5 @@ mod loose;
 mod rows;
 mod tally;
 
-pub use checking::{check, law_one_fault};
+pub use checking::{check, law_net_one_fault};
 pub use fault::NetFault;

@@ -1,4 +1,4 @@
--- Rows are the table of moves: the statement of `law_rows`.
+-- Rows are the table of moves: the statement of `law_net_rows`.
 use Rattle.std.specs.Prelude.{◌≡◌, ◌≢◌}
 use Rattle.net_build.specs.Nets.{NetTree}
 use Rattle.net_build.specs.Sound.{Sound}

@@ -4,7 +4,7 @@ ghost use Rattle.net_rows.specs.RowLaws.{RowsMove};
 ghost use Rattle.net_rows.specs.Example.{ExampleNets, ExampleSuccRows, ExampleSumRows, ExampleDoubleRows};
 
 /// On a sound net a token's move, where it has one, is the move by its channel's row.
-pub fn law_rows()
+pub fn law_net_rows()
     ensures { RowsMove }
 {}
 

@@ -4,7 +4,7 @@ ghost use Rattle.net_terms.specs.Constants.{LimitIs};
 ghost use Rattle.net_terms.specs.Laws.{ExampleTerm, OneTerm, ReadBack};
 
 /// From the net of a closed term of type `nat` the walk reads that term.
-pub fn law_read_back()
+pub fn law_net_read_back()
     ensures { ReadBack }
 {}
 

@@ -16,5 +16,5 @@ mod readback;
 mod rebuild;
 mod uses;
 
-pub use laws::{law_example_term, law_limit, law_one_term, law_read_back};
+pub use laws::{law_example_term, law_limit, law_net_read_back, law_one_term};
 pub use readback::term_within;

@@ -1,4 +1,4 @@
--- The constants of `limits` as definitions and contracts call them, which is what `law_limits` says.
+-- The constants of `limits` as definitions and contracts call them, which is what `law_listing_limits` says.
 use Rattle.std.specs.Prelude.{◌≡◌}
 use Rattle.net_text.specs.declared.limits.TheConstants.{NET_TEXT_BYTES, TYPE_HEIGHT}
 use Rattle.net_text.specs.Limits.{most_text_bytes, most_type_height}

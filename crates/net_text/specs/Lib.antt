@@ -12,7 +12,7 @@ pub mod Accepted
 pub mod Steps
 -- What holds of the texts of nets.
 pub mod Laws
--- The constants of `limits` as definitions and contracts call them, which is what `law_limits` says.
+-- The constants of `limits` as definitions and contracts call them, which is what `law_listing_limits` says.
 pub mod Constants
 -- How a text is read line by line, and each line by its beginning: what laws and private contracts speak of.
 pub mod Standing

@@ -10,7 +10,7 @@ use crate::NetTextFault;
 use crate::read::read_net;
 use crate::term::term_or_fault;
 use net_build::Net;
-use net_check::{NetFault, check, law_one_fault};
+use net_check::{NetFault, check, law_net_one_fault};
 use pcf_values::Typed;
 use std::alloc::Global;
 
@@ -44,7 +44,7 @@ pub fn accept_net(alloc: Global, bytes: &[u8]) -> Result<(Typed, Net), NetTextFa
     // A program that the bytes list is accepted, unless memory runs out.
     ensures accepted { (m : TermTree) → ListsProgram bytes.now m → MatchResult result (λ p. p.0.0 ≡ m) (λ e. e ≡ NoMemory) }
 {
-    law_one_fault();
+    law_net_one_fault();
     match read_net(alloc, bytes) {
         Ok(net) => match program_of(alloc, &net) {
             Ok(program) => Ok((program, net)),

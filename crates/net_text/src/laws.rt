@@ -5,7 +5,7 @@ ghost use Rattle.net_text.specs.Constants.{LimitsAre};
 ghost use Rattle.net_text.specs.Laws.{TextsAreRead, TypesAreRead};
 ghost use Rattle.net_text.specs.Standing.{StandingIsBeginning};
 
-use net_check::law_one_fault;
+use net_check::law_net_one_fault;
 
 /// Lines of a text stand one behind the other exactly where a listing begins with them.
 pub fn law_standing()
@@ -23,13 +23,13 @@ pub fn law_texts_read()
 {}
 
 /// Bytes have one answer, want of memory aside.
-pub fn law_one_answer()
+pub fn law_listing_one_answer()
     ensures { OneAnswer }
 {
-    law_one_fault();
+    law_net_one_fault();
 }
 
 /// Each limit is the number that definitions and contracts call by its name.
-pub fn law_limits()
+pub fn law_listing_limits()
     ensures { LimitsAre }
 {}

@@ -23,7 +23,9 @@ mod wire_line;
 
 pub use accepting::{accept, accept_net};
 pub use fault::NetTextFault;
-pub use laws::{law_limits, law_one_answer, law_standing, law_texts_read, law_type_read};
+pub use laws::{
+    law_listing_limits, law_listing_one_answer, law_standing, law_texts_read, law_type_read,
+};
 pub use print::{name_text, print_net};
 pub use read::read_net;
 pub use term::term_of;

@@ -9,7 +9,7 @@ pub fn law_one_tree()
 {}
 
 /// A text has one first fault at most.
-pub fn law_one_fault()
+pub fn law_text_one_fault()
     ensures { OneFault }
 {}
 
@@ -25,7 +25,7 @@ pub fn law_bounded()
 {}
 
 /// What is printed of a tree that was read is read back to the same tree, places aside, unless it is too long.
-pub fn law_read_back()
+pub fn law_text_read_back()
     ensures { ReadBack }
 {}
 

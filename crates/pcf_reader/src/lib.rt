@@ -32,7 +32,8 @@ mod types;
 
 pub use fault::ReadFault;
 pub use laws::{
-    law_bounded, law_example_texts, law_one_fault, law_one_tree, law_read_back, law_text_or_fault,
+    law_bounded, law_example_texts, law_one_tree, law_text_one_fault, law_text_or_fault,
+    law_text_read_back,
 };
 use pcf_values::Named;
 use pcf_values::limits::PROGRAM_BYTES;

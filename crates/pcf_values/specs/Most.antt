@@ -1,5 +1,5 @@
 -- The limits of the program as numbers, each inclusive, under the names that definitions and contracts use. The constants of
--- `limits` are these numbers, which is what `law_limits` says.
+-- `limits` are these numbers, which is what `law_program_limits` says.
 use Rattle.std.specs.Prelude.{ℕ}
 
 -- the most bytes of a program's file

@@ -18,7 +18,7 @@ mod typed;
 mod val;
 
 pub use ident::Ident;
-pub use laws::law_limits;
+pub use laws::law_program_limits;
 pub use named::{Named, Raw};
 pub use operator::Operator;
 pub use side::Side;

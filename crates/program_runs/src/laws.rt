@@ -6,14 +6,14 @@ ghost use Rattle.program_runs.specs.ExampleTexts.{ExampleTexts};
 
 use adequacy_laws::law_finished;
 use cbv_terms::law_faults;
-use pcf_reader::{law_one_fault, law_one_tree, law_text_or_fault};
+use pcf_reader::{law_one_tree, law_text_one_fault, law_text_or_fault};
 
 /// A text is one program, or has one first fault, and never both.
 pub fn law_one_program()
     ensures { OneProgram }
 {
     law_one_tree();
-    law_one_fault();
+    law_text_one_fault();
     law_text_or_fault();
     law_faults();
 }

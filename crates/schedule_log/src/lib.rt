@@ -24,8 +24,8 @@ mod version;
 pub use entry::Entry;
 pub use fault::ScheduleFault;
 pub use laws::{
-    law_first_fault, law_one_answer, law_one_way_to_run, law_read_back, law_rows_of_version_one,
-    law_rows_of_version_two, law_short, law_tally,
+    law_first_fault, law_log_one_answer, law_log_read_back, law_one_way_to_run,
+    law_rows_of_version_one, law_rows_of_version_two, law_short, law_tally,
 };
 pub use log::Log;
 pub use moves::{Held, MOST_COUNT, Moves};

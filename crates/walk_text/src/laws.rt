@@ -16,7 +16,7 @@ pub fn law_window()
 {}
 
 /// The last line of a run with an answer is the move at the root, with that answer.
-pub fn law_ends()
+pub fn law_walk_ends()
     ensures { AnswerEnds }
 {}
 

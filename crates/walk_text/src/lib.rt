@@ -16,5 +16,5 @@ mod token;
 mod trace;
 mod words;
 
-pub use laws::{law_ends, law_example_traces, law_line_by_line, law_window};
+pub use laws::{law_example_traces, law_line_by_line, law_walk_ends, law_window};
 pub use trace::push_trace;

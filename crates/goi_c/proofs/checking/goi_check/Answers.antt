@@ -11,5 +11,5 @@ returns-clause-calls c =
 pub returns-clause-own : goal.returns-clause-own
 returns-clause-own c =
     let h = c.report_text-checked in
-    owned _ _ _ (c.law_settled.ensures.tasks 1 (Check c.args.term) c.args.text.now) _
+    owned _ _ _ (c.law_tasks_settled.ensures.tasks 1 (Check c.args.term) c.args.text.now) _
     (called _ _ h.result _ h.ensures.report h.ensures.fault c.give_result.ensures)

@@ -19,5 +19,5 @@ returns-clause-calls c =
 pub returns-clause-own : goal.returns-clause-own
 returns-clause-own c = λ asked.
     let h = c.report_verilog-printed in
-    owned _ _ _ (c.law_settled.ensures.verilogs (codes "goi") (circuit_alone c.args.cells c.args.forks) c.args.text.now) _
+    owned _ _ _ (c.law_tasks_settled.ensures.verilogs (codes "goi") (circuit_alone c.args.cells c.args.forks) c.args.text.now) _
     (called _ _ h.result _ h.ensures.report h.ensures.fault c.give_result.ensures)

@@ -10,5 +10,5 @@ returns-clause-calls c =
 pub returns-clause-own : goal.returns-clause-own
 returns-clause-own c =
     let h = c.replay_text-replayed in
-    owned _ _ _ (c.law_settled.ensures.replays c.args.text.now c.args.schedule.now) _
+    owned _ _ _ (c.law_tasks_settled.ensures.replays c.args.text.now c.args.schedule.now) _
     (called _ _ h.result _ h.ensures.report h.ensures.fault c.give_result.ensures)

@@ -22,5 +22,5 @@ returns-clause-own c = λ asked.
     let h = c.replay_walk-walked in
     let text = c.args.text.now in
     let schedule = c.args.schedule.now in
-    owned _ _ _ (walks_settle text schedule (Some (part c.args.from c.args.most)) _ _ (c.law_settled.ensures.replays text schedule)) _
+    owned _ _ _ (walks_settle text schedule (Some (part c.args.from c.args.most)) _ _ (c.law_tasks_settled.ensures.replays text schedule)) _
     (called _ _ h.result _ h.ensures.report h.ensures.fault c.give_result.ensures)

@@ -18,7 +18,7 @@ returns-clause-calls c =
 pub returns-clause-own : goal.returns-clause-own
 returns-clause-own c = λ asked.
     let h = c.report_text-ran in
-    owned _ _ _ (c.law_settled.ensures.tasks 1 (listed_task c.args.budget c.args.schedule) c.args.text.now) _
+    owned _ _ _ (c.law_tasks_settled.ensures.tasks 1 (listed_task c.args.budget c.args.schedule) c.args.text.now) _
     (called_as _ (listed_task c.args.budget c.args.schedule) c.net_task.ensures c.args.text.now h.result _ h.ensures.report
     h.ensures.fault c.give_result.ensures)
 

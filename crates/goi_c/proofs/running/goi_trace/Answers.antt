@@ -29,5 +29,5 @@ pub returns-clause-own : goal.returns-clause-own
 returns-clause-own c = λ asked.
     let h = c.report_text-traced in
     let own = trace_task c.args.budget c.args.flags (part c.args.from c.args.most) in
-    owned _ _ _ (c.law_settled.ensures.tasks 1 own c.args.text.now) _
+    owned _ _ _ (c.law_tasks_settled.ensures.tasks 1 own c.args.text.now) _
     (called_as _ own c.trace_task-task.ensures c.args.text.now h.result _ h.ensures.report h.ensures.fault c.give_result.ensures)

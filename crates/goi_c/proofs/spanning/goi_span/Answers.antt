@@ -21,6 +21,6 @@ returns-clause-calls c =
 pub returns-clause-own : goal.returns-clause-own
 returns-clause-own c = λ asked.
     let h = c.report_text-spanned in
-    owned _ _ _ (c.law_settled.ensures.tasks 1 (span_task c.args.budget c.args.flags) c.args.text.now) _
+    owned _ _ _ (c.law_tasks_settled.ensures.tasks 1 (span_task c.args.budget c.args.flags) c.args.text.now) _
     (called_as _ (span_task c.args.budget c.args.flags) c.span_task.ensures c.args.text.now h.result _ h.ensures.report h.ensures.fault
     c.give_result.ensures)

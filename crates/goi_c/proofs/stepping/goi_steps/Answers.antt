@@ -22,5 +22,5 @@ returns-clause-calls c =
 pub returns-clause-own : goal.returns-clause-own
 returns-clause-own c = λ asked.
     let h = c.report_text-reduced in
-    owned _ _ _ (c.law_settled.ensures.tasks 1 (steps_task c.args.budget (part c.args.from c.args.most)) c.args.text.now) _
+    owned _ _ _ (c.law_tasks_settled.ensures.tasks 1 (steps_task c.args.budget (part c.args.from c.args.most)) c.args.text.now) _
     (called _ _ h.result _ h.ensures.report h.ensures.fault c.give_result.ensures)

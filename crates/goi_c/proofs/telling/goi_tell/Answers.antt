@@ -20,7 +20,7 @@ pub returns-clause-own : goal.returns-clause-own
 returns-clause-own c = λ asked.
     let h = c.tell_text-told in
     let calling = calling_of (nat_eq c.args.flags 1) in
-    told_owned calling _ _ (c.law_settled.ensures.numbers calling c.args.budget c.args.text.now) _ _
+    told_owned calling _ _ (c.law_tasks_settled.ensures.numbers calling c.args.budget c.args.text.now) _ _
     (told_as _ calling c.calling_of.ensures _ _ h.result _ _ h.ensures.told h.ensures.fault c.give_told.ensures)
 
 pub returns-clause-room : goal.returns-clause-room

@@ -9,7 +9,7 @@ returns-in-Ok-program_of-clause-answer c =
 
 pub returns-in-Ok-program_of-clause-accepted : goal.returns-in-Ok-program_of-clause-accepted
 returns-in-Ok-program_of-clause-accepted c =
-    λ m l. sorted_takes c.law_one_fault.ensures.none c.args.bytes.now c.in-Ok.net (Ok c.in-Ok-program_of.program) m c.in-Ok.ensures.answer
+    λ m l. sorted_takes c.law_net_one_fault.ensures.none c.args.bytes.now c.in-Ok.net (Ok c.in-Ok-program_of.program) m c.in-Ok.ensures.answer
     c.in-Ok-program_of.ensures l
 
 pub returns-in-Err-program_of-clause-answer : goal.returns-in-Err-program_of-clause-answer
@@ -18,7 +18,7 @@ returns-in-Err-program_of-clause-answer c =
 
 pub returns-in-Err-program_of-clause-accepted : goal.returns-in-Err-program_of-clause-accepted
 returns-in-Err-program_of-clause-accepted c =
-    λ m l. sorted_takes c.law_one_fault.ensures.none c.args.bytes.now c.in-Ok.net (Err c.in-Err-program_of.fault) m
+    λ m l. sorted_takes c.law_net_one_fault.ensures.none c.args.bytes.now c.in-Ok.net (Err c.in-Err-program_of.fault) m
     c.in-Ok.ensures.answer c.in-Err-program_of.ensures l
 
 pub returns-in-Err-clause-answer : goal.returns-in-Err-clause-answer

@@ -1,6 +1,6 @@
 use Rattle.std.proofs.Common.{refl, arith}
 use Rattle.std.proofs.lemmas.Fmt.{decimal_digit}
-use Rattle.goi_reports.proofs.laws.law_rows.Goals as goal
+use Rattle.goi_reports.proofs.laws.law_report_rows.Goals as goal
 
 pub returns : goal.returns
 returns c =

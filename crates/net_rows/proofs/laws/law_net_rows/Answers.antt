@@ -1,5 +1,5 @@
 use Rattle.net_rows.proofs.Rows.{law}
-use Rattle.net_rows.proofs.laws.law_rows.Goals as goal
+use Rattle.net_rows.proofs.laws.law_net_rows.Goals as goal
 
 pub returns : goal.returns
 returns c = law
