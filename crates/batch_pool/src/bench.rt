@@ -11,7 +11,7 @@ use std::alloc::{AllocError, Global};
 use token_pool::Piece;
 
 /// The turn for what a worker took.
-fn turn_of(taken: BatchTaken) -> Turn<BatchPiece>
+fn batch_turn_of(taken: BatchTaken) -> Turn<BatchPiece>
     ensures { result ≡ turn_for taken }
 {
     match taken {
@@ -50,7 +50,7 @@ impl<'n> Bench for BatchState<'n> {
         if !self.has_place(worker) {
             return Ok(Turn::Over);
         }
-        Ok(turn_of(self.take(worker)?))
+        Ok(batch_turn_of(self.take(worker)?))
     }
 
     fn work(alloc: Global, tool: &Vec<BatchJob>, piece: BatchPiece) -> Result<Moved, AllocError>

@@ -73,7 +73,7 @@ impl<'n, N: OnNet> BranchPool<'n, N> {
 }
 
 /// The turn for what a worker was handed.
-fn turn_of<N: OnNet>(taken: Taken, plain: bool) -> Turn<BranchPiece<N>>
+fn branch_turn_of<N: OnNet>(taken: Taken, plain: bool) -> Turn<BranchPiece<N>>
     requires { HandsSeed N.net taken }
     ensures { (S : MapState) (told : Reply) → Hands S told taken → TurnFor S plain told result }
 {
@@ -104,7 +104,7 @@ pub fn turn_in<N: OnNet>(
         return Ok(Turn::Over);
     }
     let plain = pool.plays_plain();
-    Ok(turn_of::<N>(pool.take_branch(worker)?, plain))
+    Ok(branch_turn_of::<N>(pool.take_branch(worker)?, plain))
 }
 
 /// The branch of a piece, on the net that `N` names.
