@@ -317,10 +317,11 @@ module _ (net : NetTree) (z : Sizes) (R : Store) where
           keeping_at (settled_at (word_of (deeds_of (JOIN o s w))) 1 0) ≡ edge_at (word_of (deeds_of (JOIN o s w))) 1 0
       at_edge = for_each _ _ refl
 
-  -- a second one, at which the value is set
+  -- the value that is set: that of the wire `both`
   abbrev both_told : ℕ
   both_told = fit 65 (R.vec "both")
 
+  -- a second one, at which the value is set
   pub closes : (o : Operator) (s : Side) (w : ℕ) → Quiet both_told (edge_at (word_of (deeds_of (JOIN o s w))) 0 1)
   closes o s w = subst (Quiet both_told) (at_edge o) (valued (word_of (deeds_of (JOIN o s w))) 1 both_told)
     where
