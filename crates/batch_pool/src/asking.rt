@@ -1,4 +1,6 @@
 //! How the jobs are asked for a ticket, the least one first.
+//!
+//! No command goes this way: it is `take` of the plain form, kept as the simplest statement of the protocol.
 
 ghost use Rattle.std.specs.Prelude.{◌≡◌, ◌<◌, ◌≤◌, ◌+◌, ℕ, false, length, IfOk, OnErr, if◌then◌else◌};
 ghost use Rattle.token_pool.specs.declared.entries.Held.{Held};

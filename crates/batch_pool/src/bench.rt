@@ -1,4 +1,6 @@
 //! The batch as the bench of several workers.
+//!
+//! No command goes this way: it is the plain form, kept as the simplest statement of the protocol.
 
 ghost use Rattle.std.specs.Prelude.{◌≡◌, IfOk, slice_get};
 ghost use Rattle.batch_pool.specs.Batches.{batch_halted};

@@ -1,4 +1,6 @@
 //! Moves that are booked in the job of their ticket.
+//!
+//! No command goes this way: it is `book` of the plain form, kept as the simplest statement of the protocol.
 
 ghost use Rattle.std.specs.Prelude.{◌≡◌, ◌<◌, IfOk, OnErr};
 ghost use Rattle.token_pool.specs.declared.entries.Held.{Held};

@@ -1,4 +1,6 @@
 //! The state that the workers of a batch share.
+//!
+//! No command goes by it: it is the plain form of a batch whose workers share its jobs, kept as the simplest statement of the protocol.
 
 ghost use Rattle.std.specs.Prelude.{◌≡◌, ◌<◌, ◌↔◌, ◌^◌, ◌-◌, min, IfOk, OnErr, IsErr, IsTrue};
 ghost use Rattle.batch_pool.specs.Batches.{BatchFits, BatchGood, batch_started, batch_halted};

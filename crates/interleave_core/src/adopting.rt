@@ -1,4 +1,6 @@
 //! Walks that were made elsewhere.
+//!
+//! No command goes by `adopt`: it is the plain form of what `graft` does with a branch, kept as the simplest statement of the protocol.
 
 ghost use Rattle.std.specs.Prelude.{◌≡◌, ◌↔◌, Some, IsSome, IfSome, IfNone, IsTrue, length};
 ghost use Rattle.std.specs.List.{All};

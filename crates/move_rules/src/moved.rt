@@ -1,4 +1,7 @@
 //! Walks of one token.
+//!
+//! No command goes by `Moved`, `walk` and `plain_move`: they are the plain form of what branches do, kept as the simplest statement of the
+//! protocol.
 
 ghost use Rattle.std.specs.Prelude.{◌≡◌, [], IfOk};
 ghost use Rattle.move_rules.specs.Moves.{move};

@@ -1,4 +1,6 @@
 //! The pool as the bench of several workers.
+//!
+//! No command goes this way: it is the plain form of what branches do, kept as the simplest statement of the protocol.
 
 ghost use Rattle.std.specs.Prelude.{◌≡◌, IfOk, OnOk, OnErr};
 ghost use Rattle.token_pool.specs.Benches.{MakesWalk, TurnFor, GivesTurn, TakesIn};

@@ -1,4 +1,6 @@
 //! Moves of a held ticket that are booked.
+//!
+//! No command goes this way: it is the plain form of what `branches` does, kept as the simplest statement of the protocol.
 
 ghost use Rattle.std.specs.Prelude.{◌≡◌, ◌<◌, ◌≤◌, ◌+◌, replicate, length, IfOk, OnErr, IsOk, Some};
 ghost use Rattle.pcf_values.specs.Most.{most_budget};

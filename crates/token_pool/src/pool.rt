@@ -1,4 +1,7 @@
 //! The state that workers share.
+//!
+//! No command calls `take` and `book`: they are the plain form of `take_branch` and `book_branch`, kept as the simplest statement of the
+//! protocol.
 
 ghost use Rattle.std.specs.Prelude.{◌≡◌, ◌<◌, ◌≤◌, ◌↔◌, [], IfOk, OnErr, OnOk, IsErr, IsTrue, length};
 ghost use Rattle.interleave_laws.specs.Runs.{Runs};
