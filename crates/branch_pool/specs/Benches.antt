@@ -30,8 +30,8 @@ branch_piece x n plain = record { token = x; allowance = n; plain = plain }
 
 -- how the logic stores a piece
 abbrev pub branch_piece_code : Coded BranchPieceTree
-branch_piece_code = code_by (TokenTree × (ℕ × Bool)) (coded× token_code (coded× coded_ℕ coded_bool)) (λ k. (k.token, (k.allowance, k.plain)))
-    (λ p. record { token = p.0; allowance = p.1.0; plain = p.1.1 }) (λ _. refl)
+branch_piece_code = code_by (TokenTree × (ℕ × Bool)) (coded× token_code (coded× coded_ℕ coded_bool))
+    (λ k. (k.token, (k.allowance, k.plain))) (λ p. record { token = p.0; allowance = p.1.0; plain = p.1.1 }) (λ _. refl)
 
 -- what is made of a piece is the branch of its token, played as far as it may be, and plainly where it is to be
 abbrev pub MakesBranch : NetTree → BranchPieceTree → Grown → Type 0

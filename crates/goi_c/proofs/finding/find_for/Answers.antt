@@ -6,7 +6,8 @@ use Rattle.goi_c.proofs.finding.find_for.Goals as goal
 pub returns : goal.returns
 returns c =
     let h = c.report_text-done in
-    found _ _ (c.law_tasks_settled.ensures.tasks 1 c.args.task c.args.bytes.now).right_or_faulty h.result _ _ h.ensures.report h.ensures.fault
+    found _ _ (c.law_tasks_settled.ensures.tasks 1 c.args.task c.args.bytes.now).right_or_faulty h.result _ _ h.ensures.report
+    h.ensures.fault
     c.fill_result.ensures
 
 pub report_text-done-requires-clause-reads : goal.report_text-done-requires-clause-reads

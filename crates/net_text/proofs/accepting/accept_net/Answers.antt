@@ -9,8 +9,8 @@ returns-in-Ok-program_of-clause-answer c =
 
 pub returns-in-Ok-program_of-clause-accepted : goal.returns-in-Ok-program_of-clause-accepted
 returns-in-Ok-program_of-clause-accepted c =
-    λ m l. sorted_takes c.law_net_one_fault.ensures.none c.args.bytes.now c.in-Ok.net (Ok c.in-Ok-program_of.program) m c.in-Ok.ensures.answer
-    c.in-Ok-program_of.ensures l
+    λ m l. sorted_takes c.law_net_one_fault.ensures.none c.args.bytes.now c.in-Ok.net (Ok c.in-Ok-program_of.program) m
+    c.in-Ok.ensures.answer c.in-Ok-program_of.ensures l
 
 pub returns-in-Err-program_of-clause-answer : goal.returns-in-Err-program_of-clause-answer
 returns-in-Err-program_of-clause-answer c =
