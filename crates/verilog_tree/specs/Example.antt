@@ -1,7 +1,7 @@
 -- A module that counts to 2 and begins anew, with what it does at each edge, and what would not be a module. The prover computes them.
 use Rattle.std.specs.Prelude.{◌≡◌, ◌^◌, ℕ, zero, suc, true, false, List, [], ◌∷◌, ◌++◌, codes}
 use Rattle.verilog_tree.specs.Tree.{count, plus, same, below, num, sized, const, name, bit, part, cat, none, test, two, pick, whole, Stmt}
-use Rattle.verilog_tree.specs.Tree.{skip, put, seq, branch, one, wide, Item, size, input, output, reg, wire, settles, clocked}
+use Rattle.verilog_tree.specs.Tree.{skip, put, seq, branch, one, wide, Item, size, note, input, output, reg, wire, settles, clocked}
 use Rattle.verilog_tree.specs.Meaning.{Store, edge, set_vec}
 use Rattle.verilog_tree.specs.WellFormed.{WellFormed}
 use Rattle.verilog_tree.specs.Print.{item_text}
@@ -53,7 +53,8 @@ ExampleIsModule = WellFormed counter ≡ true
 -- these aren't: a wire below the block that reads it; a name declared twice; two blocks that drive one register; a register that is set in
 -- one arm alone; a constant that is set; a wire that reads itself; a port that isn't declared; a bit of a scalar; a concatenation with
 -- a part whose width a number without one tells; a wire that reads a register above the block that settles it; a block that reads nothing;
--- a wire of no bits; a part with its lower bound first; a comparison of numbers without a width; and a number too large for one
+-- a wire of no bits; a part with its lower bound first; a comparison of numbers without a width; a number too large for one; a bit, and
+-- a part, past the end; and a comment that tools obey
 abbrev pub wrong_modules : List (List Item)
 wrong_modules =
     (counter_ports ++ (clocked counting ∷ next_count ∷ [])) ∷
@@ -70,7 +71,10 @@ wrong_modules =
     (counter_ports ++ (wire (wide (count 0)) "a" (name "rst") ∷ [])) ∷
     (counter_ports ++ (wire (wide (count 2)) "a" (part "count" (count 0) (count 1)) ∷ [])) ∷
     (counter_ports ++ (wire one "a" (test below (const "LAST") (num 1)) ∷ [])) ∷
-    (counter_ports ++ (wire one "a" (test same (name "count") (num (2 ^ 31))) ∷ [])) ∷ []
+    (counter_ports ++ (wire one "a" (test same (name "count") (num (2 ^ 31))) ∷ [])) ∷
+    (counter_ports ++ (wire one "a" (bit "count" (const "LAST")) ∷ [])) ∷
+    (counter_ports ++ (wire (wide (count 2)) "a" (part "count" (count 2) (count 1)) ∷ [])) ∷
+    (counter_ports ++ (note " synopsys translate_off" ∷ [])) ∷ []
 
 -- each of them is refused
 abbrev pub all_refused : List (List Item) → Type 0

@@ -5,8 +5,9 @@
 -- names the clock.
 -- Nothing that settles is read at or above what settles it, so that there is no circle, and a block that settles reads something that it
 -- doesn't set. All widths and sizes are positive, and they and numbers without a width are below 2 ^ 31; no comparison is one of signed
--- numbers, which those without a width are; a part has its higher bound first; each arm but the last has a label.
--- It doesn't ask that an index lies within what it indexes (the meaning has bounds), or that a note is none that a tool obeys.
+-- numbers, which those without a width are; a part has its higher bound first; each arm but the last has a label. An index that reads
+-- nothing lies within what it indexes, and so do both bounds of a part; of an index that reads something this isn't asked (the meaning has
+-- bounds). No comment begins with a word by which tools are told what to do.
 use Rattle.std.specs.Prelude.{ℕ, ◌+◌, ◌^◌, Bool, true, false, not, ◌&&◌, ◌||◌, List, [], ◌∷◌, ◌++◌, nat_eq, nat_le, nat_lt, codes}
 use Prim.Native.String.{String}
 use lib.Text.{eqt}
@@ -15,8 +16,8 @@ use Rattle.verilog_tree.specs.Tree.{shift, test, logic, none, any, every, pick, 
 use Rattle.verilog_tree.specs.Tree.{branch, cases, Said, word_said, number_said, Arms, otherwise, arm, Width, one, upto, wide}
 use Rattle.verilog_tree.specs.Tree.{Item, note, gap, size, constant}
 use Rattle.verilog_tree.specs.Tree.{input, output, reg, memory, wire, settles, clocked}
-use Rattle.verilog_tree.specs.Meaning.{chosen, amount, param_in}
-use Rattle.verilog_tree.specs.Print.{straight}
+use Rattle.verilog_tree.specs.Meaning.{Scope, chosen, amount, bits, value, scope}
+use Rattle.verilog_tree.specs.Print.{straight, parts_text}
 
 -- what a name is declared as
 pub data Kind : Type 0 where
@@ -426,11 +427,20 @@ size_fits p (named x) = small (p x)
 size_fits p (more a b) = small (amount p a + amount p b) && (size_fits p a && size_fits p b)
 size_fits p (less a b) = nat_le (amount p b) (amount p a) && (size_fits p a && size_fits p b)
 
--- what is asked of a size, of one that has to be positive, and of both bounds of a part; and which names are sizes
+-- an index that reads nothing is below this number
+abbrev pub index_fits : Scope → ℕ → Expr → Bool
+index_fits P n e =
+    not (reads (λ x. false) e) ||
+    nat_lt (value P record { vec = λ x. 0; mem = λ m i. 0; stray = λ x i. 0 } (bits P e) e) n
+
+-- what is asked of a size, of one that has to be positive, of the bounds of a part of this vector, and of an index of this vector and of
+-- this memory; and which names are sizes
 pub record Limits : Type 0 where
   pub fits : Size → Bool
   pub positive : Size → Bool
-  pub bounds : Size → Size → Bool
+  pub bounds : String → Size → Size → Bool
+  pub at_bit : String → Expr → Bool
+  pub at_word : String → Expr → Bool
   pub is_size : String → Bool
 
 -- a size has this name
@@ -439,14 +449,22 @@ size_in [] x = false
 size_in (size y n ∷ is) x = eqt y x || size_in is x
 size_in (i ∷ is) x = size_in is x
 
--- the limits of a module
-abbrev pub limits : List Item → Limits
-limits is = record {
-  fits = size_fits (param_in is);
-  positive = λ k. nat_lt 0 (amount (param_in is) k) && size_fits (param_in is) k;
-  bounds = λ h l. nat_le (amount (param_in is) l) (amount (param_in is) h) && (size_fits (param_in is) h && size_fits (param_in is) l);
-  is_size = size_in is;
+-- the limits where this is declared
+abbrev pub limits_of : Scope → (String → Bool) → Limits
+limits_of P q = record {
+  fits = size_fits P.param;
+  positive = λ k. nat_lt 0 (amount P.param k) && size_fits P.param k;
+  bounds = λ x h l.
+      (nat_lt (amount P.param h) (P.width x) && nat_le (amount P.param l) (amount P.param h)) &&
+      (size_fits P.param h && size_fits P.param l);
+  at_bit = λ x e. index_fits P (P.width x) e;
+  at_word = λ m e. index_fits P (P.words m) e;
+  is_size = q;
 }
+
+-- those of a module
+abbrev pub limits : List Item → Limits
+limits is = limits_of (scope is) (size_in is)
 
 -- a width of one bit at least
 abbrev pub width_fits : Limits → Width → Bool
@@ -479,9 +497,9 @@ expr_fits L (num n) = small n
 expr_fits L (sized w n) = true
 expr_fits L (const x) = true
 expr_fits L (name x) = true
-expr_fits L (bit x e) = expr_fits L e
-expr_fits L (part x h l) = L.bounds h l
-expr_fits L (word m e) = expr_fits L e
+expr_fits L (bit x e) = L.at_bit x e && expr_fits L e
+expr_fits L (part x h l) = L.bounds x h l
+expr_fits L (word m e) = L.at_word m e && expr_fits L e
 expr_fits L (cat a b) = not (bare L.is_size a || bare L.is_size b) && (expr_fits L a && expr_fits L b)
 expr_fits L (inverse a) = expr_fits L a
 expr_fits L (two o a b) = expr_fits L a && expr_fits L b
@@ -492,6 +510,32 @@ expr_fits L (none a) = expr_fits L a
 expr_fits L (any a) = expr_fits L a
 expr_fits L (every a) = expr_fits L a
 expr_fits L (pick c a b) = expr_fits L c && (expr_fits L a && expr_fits L b)
+
+-- words with which a comment begins that tools obey: of synthesis, of lint, of coverage
+abbrev pub orders : List String
+orders =
+    "synopsys" ∷ "synthesis" ∷ "pragma" ∷ "rtl_synthesis" ∷ "cadence" ∷ "ambit" ∷ "exemplar" ∷ "xilinx" ∷ "altera" ∷ "verilator" ∷
+    "verilint" ∷ "vcs" ∷ "coverage" ∷ []
+
+-- these characters are at the front
+abbrev pub begins : List ℕ → List ℕ → Bool
+begins [] cs = true
+begins (b ∷ bs) [] = false
+begins (b ∷ bs) (c ∷ cs) = nat_eq b c && begins bs cs
+
+-- the same behind blanks
+abbrev pub begins_behind : List ℕ → List ℕ → Bool
+begins_behind bs [] = false
+begins_behind bs (c ∷ cs) = chosen (nat_eq c 32 || nat_eq c 9) (begins_behind bs cs) (begins bs (c ∷ cs))
+
+-- a comment begins with none of these
+abbrev pub begins_with_none : List String → List ℕ → Bool
+begins_with_none [] cs = true
+begins_with_none (x ∷ xs) cs = not (begins_behind (codes x) cs) && begins_with_none xs cs
+
+-- a comment that no tool obeys
+abbrev pub plain : List ℕ → Bool
+plain = begins_with_none orders
 
 -- labels, of which there is one at least
 abbrev pub labels_fit : Limits → List Expr → Bool
@@ -514,11 +558,11 @@ abbrev mutual
 
   pub arms_fit : Limits → Arms → Bool
   arms_fit L (otherwise s) = stmt_fits L s
-  arms_fit L (arm es s c arms) = labels_fit L es && (stmt_fits L s && arms_fit L arms)
+  arms_fit L (arm es s c arms) = (labels_fit L es && plain (parts_text c)) && (stmt_fits L s && arms_fit L arms)
 
 -- an item
 abbrev pub item_fits : Limits → Item → Bool
-item_fits L (note s) = true
+item_fits L (note s) = plain (codes s)
 item_fits L gap = true
 item_fits L (size x n) = small n
 item_fits L (constant w x n) = width_fits L w
