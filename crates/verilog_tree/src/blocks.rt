@@ -179,12 +179,8 @@ fn push_block(
 }
 
 /// Appends an arm with its labels, with this sign of assignment.
-///
-/// # Errors
-///
-/// It runs out of memory; what is appended by then says nothing.
 #[cycle(statement)]
-pub fn push_arm(
+fn push_arm(
     text: &mut Vec<u8>,
     sign: &[u8],
     margin: &Margin,
@@ -202,12 +198,8 @@ pub fn push_arm(
 }
 
 /// Appends the arms of a case.
-///
-/// # Errors
-///
-/// It runs out of memory; what is appended by then says nothing.
 #[cycle(statement)]
-pub fn push_arms(
+fn push_arms(
     text: &mut Vec<u8>,
     sign: &[u8],
     margin: &Margin,
@@ -311,12 +303,8 @@ fn push_line(
 }
 
 /// Appends a statement, with this sign of assignment.
-///
-/// # Errors
-///
-/// It runs out of memory; what is appended by then says nothing.
 #[cycle(statement)]
-pub fn push_statement(
+pub(crate) fn push_statement(
     text: &mut Vec<u8>,
     sign: &[u8],
     margin: &Margin,

@@ -3,7 +3,7 @@
 ghost use Rattle.std.specs.Prelude.{◌≡◌, ◌++◌, OnOk, codes, decimal, map, false};
 ghost use Rattle.verilog_tree.specs.Names.{text_of};
 ghost use Rattle.verilog_tree.specs.Print.{width_text, bits_text, item_text, items_text, expr_text};
-ghost use Rattle.verilog_tree.specs.Print.{size_text, port_text, is_port, more_ports, ports_text, stmt_text};
+ghost use Rattle.verilog_tree.specs.Print.{size_text, stmt_text};
 ghost use Rattle.verilog_tree.specs.Views.{expr_of, size_of, stmt_of, width_of, item_of};
 
 use crate::blocks::push_statement;
@@ -129,11 +129,7 @@ fn push_always(
 }
 
 /// Appends an item of a module's body. Ports have their own list.
-///
-/// # Errors
-///
-/// It runs out of memory; what is appended by then says nothing.
-pub fn push_item(text: &mut Vec<u8>, item: &Item) -> Result<(), AllocError>
+fn push_item(text: &mut Vec<u8>, item: &Item) -> Result<(), AllocError>
     ensures { OnOk result (text.new.items ≡ text.old.items ++ item_text (item_of item.now)) }
 {
     match item {
@@ -175,55 +171,4 @@ pub fn push_items(text: &mut Vec<u8>, items: &[Item]) -> Result<(), AllocError>
         push_item(text, item)?;
     }
     Ok(())
-}
-
-/// Appends a port.
-fn push_port(text: &mut Vec<u8>, item: &Item) -> Result<(), AllocError>
-    ensures { OnOk result (text.new.items ≡ text.old.items ++ port_text (item_of item.now)) }
-{
-    match item {
-        Item::Input(range, name) => push_declared(text, b"  input wire ", range, name),
-        Item::Output(range, name) => push_declared(text, b"  output reg ", range, name),
-        _ => Ok(()),
-    }
-}
-
-/// Whether an item is a port.
-fn is_port(item: &Item) -> bool
-    ensures { result ≡ is_port (item_of item.now) }
-{
-    match item {
-        Item::Input(_, _) | Item::Output(_, _) => true,
-        _ => false,
-    }
-}
-
-/// Appends the ports behind the first.
-fn push_more_ports(text: &mut Vec<u8>, items: &[Item]) -> Result<(), AllocError>
-    ensures { OnOk result (text.new.items ≡ text.old.items ++ more_ports (map item_of items.now)) }
-{
-    for item in items {
-        if is_port(item) {
-            text.extend_from_slice(b",\n")?;
-            push_port(text, item)?;
-        }
-    }
-    Ok(())
-}
-
-/// Appends the list of ports.
-///
-/// # Errors
-///
-/// It runs out of memory; what is appended by then says nothing.
-pub fn push_ports(text: &mut Vec<u8>, items: &[Item]) -> Result<(), AllocError>
-    ensures { OnOk result (text.new.items ≡ text.old.items ++ ports_text (map item_of items.now)) }
-{
-    match items {
-        [] => Ok(()),
-        [first, rest @ ..] => {
-            push_port(text, first)?;
-            push_more_ports(text, rest)
-        }
-    }
 }
