@@ -19,10 +19,10 @@ use Rattle.late_module.specs.Fixed.{late_way_wires, late_number_wires, late_cloc
 use Rattle.late_module.specs.Fixed.{late_runs, late_reset, late_move, late_clock}
 use Rattle.late_module.specs.Module.{late_module_with}
 use Rattle.late_module.proofs.Names.{own}
-use Rattle.verilog_frames.proofs.Alike as alike
-use Rattle.verilog_frames.proofs.Declares.{foreign_set, foreign_set_right, settled_left, settled_right, fire_left}
+use Rattle.verilog_tree.proofs.Alike as alike
+use Rattle.verilog_tree.proofs.Declares.{foreign_set, foreign_set_right, settled_left, settled_right, fire_left}
 use Rattle.late_module.proofs.Scopes.{same_scope}
-use Rattle.verilog_frames.proofs.Leaves.{fire_spares}
+use Rattle.verilog_tree.proofs.Leaves.{fire_spares}
 use Rattle.late_module.proofs.Values.{Right, values_same}
 
 -- agreeing on own names

@@ -9,7 +9,7 @@ use Rattle.circuit_module.specs.Fixed.{block}
 use Rattle.cell_module.specs.Fixed.{does, fetch_row, lists_move, make_cell, read_cells, open_fork, other_fork, note_answer, end_move}
 use Rattle.late_module.specs.Fixed.{late_number_wires, always_taken, late_value_move, late_count, late_move}
 use Rattle.late_module.specs.Module.{late_module_with}
-use Rattle.verilog_frames.proofs.Leaves.{fire_spares}
+use Rattle.verilog_tree.proofs.Leaves.{fire_spares}
 use Rattle.late_module.proofs.Edge.{count_is}
 
 -- what is set, with whether it is other than 0, by the one row or by the other

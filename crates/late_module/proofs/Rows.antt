@@ -9,7 +9,7 @@ use Rattle.net_rows.specs.Rows.{CON, PUSHR, PUSHL, SELECT, POP, BOXIN, BOXOUT, D
 use Rattle.verilog_tree.specs.Tree.{Arms}
 use Rattle.circuit_module.specs.Module.{row_stmt, row_arm, row_arms}
 use Rattle.late_module.proofs.Names.{own}
-use Rattle.verilog_frames.proofs.Alike as alike
+use Rattle.verilog_tree.proofs.Alike as alike
 
 -- the case of each row
 row_own : (r : Row) → alike.own_stmt own (row_stmt r) ≡ true

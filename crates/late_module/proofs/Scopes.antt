@@ -10,8 +10,8 @@ use Rattle.cell_module.specs.Module.{cell_sizes, cell_module_with}
 use Rattle.late_module.specs.Fixed.{late_port_notes, late_registers, late_way_wires, late_number_wires, late_clock_notes, late_clock}
 use Rattle.late_module.specs.Module.{late_module_with}
 use Rattle.late_module.proofs.Names.{own}
-use Rattle.verilog_frames.proofs.Alike as alike
-use Rattle.verilog_frames.proofs.Declares.{foreign_items, param_front, param_over, width_front, width_over, words_front, words_over}
+use Rattle.verilog_tree.proofs.Alike as alike
+use Rattle.verilog_tree.proofs.Declares.{foreign_items, param_front, param_over, width_front, width_over, words_front, words_over}
 
 module _ (wires start : ℕ) (z : Sizes) (rows : Arms) (product : Expr) where
   abbrev is : List Item

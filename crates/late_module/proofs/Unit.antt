@@ -8,7 +8,7 @@ use Rattle.cell_core.specs.Sizes.{Sizes}
 use Rattle.cell_module.specs.Fixed.{does, fetch_row}
 use Rattle.late_module.specs.Fixed.{late_number_wires, begun_set, ready_set, always_taken, late_runs, late_reset, late_move, late_clock}
 use Rattle.late_module.specs.Module.{late_module_with}
-use Rattle.verilog_frames.proofs.Leaves.{spares, fire_spares}
+use Rattle.verilog_tree.proofs.Leaves.{spares, fire_spares}
 use Rattle.circuit_module.specs.Fixed.{block}
 use Rattle.late_numbers.specs.Unit.{quarters_meet}
 use Rattle.late_numbers.specs.ProductUnit.{product_moves}

@@ -11,9 +11,9 @@ use Rattle.cell_module.specs.Module.{cell_module_with}
 use Rattle.late_module.specs.Fixed.{late_value_move}
 use Rattle.late_module.specs.Module.{late_module_with}
 use Rattle.late_module.proofs.Names.{own}
-use Rattle.verilog_frames.proofs.Names.{one_name}
-use Rattle.verilog_frames.proofs.Alike as alike
-use Rattle.verilog_frames.proofs.Declares.{foreign_set}
+use Rattle.verilog_tree.proofs.Own.{one_name}
+use Rattle.verilog_tree.proofs.Alike as alike
+use Rattle.verilog_tree.proofs.Declares.{foreign_set}
 use Rattle.late_module.proofs.Scopes.{same_scope}
 
 abbrev Same : Store → Store → Type 0

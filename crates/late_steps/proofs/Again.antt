@@ -6,7 +6,7 @@ use Rattle.net_build.specs.Nets.{NetTree}
 use Rattle.cell_core.specs.Sizes.{Sizes}
 use Rattle.verilog_tree.specs.Meaning.{Store, flag, fit, set_vec}
 use Rattle.verilog_tree.specs.WellFormed.{member}
-use Rattle.verilog_frames.proofs.Names.{one_name}
+use Rattle.verilog_tree.proofs.Own.{one_name}
 use Rattle.late_numbers.proofs.Quarters.{quarter, added}
 use Rattle.late_module.proofs.Unit.{Taken, less_of, ready_if, begun_if, readies, begins}
 use Rattle.late_steps.specs.Stands.{late_edge, taken, Again}

@@ -20,7 +20,7 @@ use Rattle.late_numbers.specs.Product.{begun}
 use Rattle.late_numbers.specs.Laws.{Narrow}
 use Rattle.late_numbers.proofs.Products.{product_ends}
 use Rattle.late_module.specs.Fixed.{always_taken, late_runs}
-use Rattle.verilog_frames.proofs.Leaves.{spares, fire_spares}
+use Rattle.verilog_tree.proofs.Leaves.{spares, fire_spares}
 use Rattle.late_module.proofs.Rows.{rows_own}
 use Rattle.late_module.proofs.Edge.{idle_is, move_is, held_idles}
 use Rattle.late_module.proofs.Unit.{first_of, second_of, ready_if, begun_if, hold_is}

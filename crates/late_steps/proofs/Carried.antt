@@ -8,7 +8,7 @@ use Rattle.newest_core.specs.Circuit.{CellToken, CellFork, CellCircuit}
 use Rattle.verilog_tree.specs.Meaning.{Store}
 use Rattle.cell_edges.specs.Stands.{IsRow, IsAt, HasCell, IsFork, Opened, InStack, Fetched, Going, Stands}
 use Rattle.late_module.proofs.Names.{own}
-use Rattle.verilog_frames.proofs.Alike as alike
+use Rattle.verilog_tree.proofs.Alike as alike
 
 -- the registers and memories that `Stands` reads are the same
 pub record Registers (T U : Store) : Type 0 where

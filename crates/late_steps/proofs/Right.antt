@@ -32,7 +32,7 @@ use Rattle.cell_edges.proofs.Numbers.{succ_is, both_is}
 use Rattle.cell_steps.specs.Meets.{Reads}
 use Rattle.late_numbers.proofs.Quarters.{whole, whole_sum, whole_less, one_more, one_less}
 use Rattle.late_module.proofs.Names.{own}
-use Rattle.verilog_frames.proofs.Alike as alike
+use Rattle.verilog_tree.proofs.Alike as alike
 use Rattle.late_module.proofs.Scopes.{same_scope}
 use Rattle.late_module.proofs.Values.{Right}
 use Rattle.late_module.proofs.Edge.{Same}

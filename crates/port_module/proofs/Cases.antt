@@ -6,7 +6,7 @@ use Rattle.net_rows.specs.Rows.{Channel, Row, GO, CONST, SUCC, PRED, TEST, FORK,
 use Rattle.net_rows.specs.Rows.{PUSHL, SELECT, POP, BOXIN, BOXOUT, DOOROUT, DOORIN, FIXIN, FIXOUT, FIXVAR, DEAD}
 use Rattle.circuit_module.specs.Module.{row_stmt}
 use Rattle.port_module.specs.Module.{port_stmt}
-use Rattle.verilog_frames.proofs.Alike as alike
+use Rattle.verilog_tree.proofs.Alike as alike
 use Rattle.port_module.proofs.Names.{own}
 
 -- a constant's number, or what is given for it

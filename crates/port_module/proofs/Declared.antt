@@ -14,7 +14,7 @@ use Rattle.verilog_tree.specs.WellFormed.{is_size, parameter, vector, selects, i
 use Rattle.verilog_tree.specs.WellFormed.{member, apart, identifier, said_ok, taken, new, size_ok, width_ok, has_width, expr_ok, exprs_ok}
 use Rattle.verilog_tree.specs.WellFormed.{sets_first, first_reads, target_ok, stmt_ok, arms_ok, targets, declare, declared, driven}
 use Rattle.verilog_tree.specs.WellFormed.{number_width, item_ok, items_ok, all_declared}
-use Rattle.verilog_frames.proofs.Alike as alike
+use Rattle.verilog_tree.proofs.Alike as alike
 use Rattle.port_module.proofs.Names.{own, own_foreign, foreign_own, later, same_name}
 
 -- all names are own

@@ -22,8 +22,8 @@ use Rattle.cell_module.specs.Fixed.{cell_constants, cell_registers, next_row_not
 use Rattle.cell_module.specs.Module.{cell_sizes}
 use Rattle.cell_module.proofs.Channels.{channel_fits}
 use Rattle.open_net_laws.specs.Numbers.{given, with_numbers}
-use Rattle.verilog_frames.proofs.Alike as alike
-use Rattle.verilog_frames.proofs.Lists.{settled_append, clocked_over, idle_unclocked, settled_past, own_of, unclocked_of, own_kept}
+use Rattle.verilog_tree.proofs.Alike as alike
+use Rattle.verilog_tree.proofs.Lists.{settled_append, clocked_over, idle_unclocked, settled_past, own_of, unclocked_of, own_kept}
 use Rattle.port_module.specs.Names.{arg_name, held_name}
 use Rattle.port_module.specs.Module.{port_at, constant_stmt, port_stmt, port_arm, port_arms, arg_inputs, arg_notes, held_registers}
 use Rattle.port_module.specs.Module.{Parts, parts_of, port_clock, port_module_with, plain_module}

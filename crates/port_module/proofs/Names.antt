@@ -10,7 +10,7 @@ use lib.Text.{eqt, eqt_refl}
 use Rattle.verilog_tree.specs.Names.{text_of}
 use Rattle.verilog_tree.specs.WellFormed.{member, letter, letters, keywords, identifier}
 use Rattle.verilog_tree.proofs.Names.{codes_more}
-use Rattle.verilog_frames.proofs.Names.{apart_names, foreign, turned}
+use Rattle.verilog_tree.proofs.Own.{apart_names, foreign, turned}
 use Rattle.port_module.specs.Names.{arg_name, held_name}
 
 -- these bytes begin so

@@ -17,10 +17,10 @@ use Rattle.cell_module.specs.Module.{cell_sizes, cell_product}
 use Rattle.port_module.specs.Names.{held_name}
 use Rattle.port_module.specs.Module.{arg_inputs, arg_notes, held_regs, held_registers, Parts, parts_of, port_clock, port_module_with}
 use Rattle.port_module.proofs.Names.{own, own_foreign, arg_held, later, same_name}
-use Rattle.verilog_frames.proofs.Alike as alike
-use Rattle.verilog_frames.proofs.Declares.{foreign_items, param_front, param_over, width_front, words_front, words_over}
-use Rattle.verilog_frames.proofs.Declares as declares
-use Rattle.verilog_frames.proofs.Lists.{idle, tame, own_of}
+use Rattle.verilog_tree.proofs.Alike as alike
+use Rattle.verilog_tree.proofs.Declares.{foreign_items, param_front, param_over, width_front, words_front, words_over}
+use Rattle.verilog_tree.proofs.Declares as declares
+use Rattle.verilog_tree.proofs.Lists.{idle, tame, own_of}
 
 -- ---- what differs between both modules, and what doesn't
 

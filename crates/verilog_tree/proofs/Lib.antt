@@ -6,9 +6,19 @@ pub mod Texts
 pub mod Weights
 -- bytes and the texts that they stand for
 pub mod Names
+-- names of two kinds
+pub mod Own
 -- what a statement leaves alone
 pub mod Frames
--- the same by the test of well-formed trees
+-- what a statement of the clock leaves
+pub mod Leaves
+-- scopes and stores that agree on own names go on doing so
+pub mod Alike
+-- what lists of items declare
+pub mod Declares
+-- what settles of a list, and what the clock writes
+pub mod Lists
+-- what a statement leaves alone by the test of well-formed trees
 pub mod Spared
 -- what has settled
 pub mod Settled

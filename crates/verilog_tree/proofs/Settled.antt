@@ -5,7 +5,7 @@ use Rattle.std.specs.Prelude.{nat_eq, nat_lt}
 use Rattle.std.proofs.lemmas.Bool.{and_parts, and_from, or_parts, or_from, or_left, or_right}
 use Prim.Native.String.{String}
 use lib.Dec.{T}
-use lib.Text.{eqt, eqt→eq, eqt_refl}
+use lib.Text.{eqt, eqt_refl}
 use Rattle.verilog_tree.specs.Tree.{Expr, num, sized, const, name, bit, part, word, cat, inverse, two, shift, test, logic, none, any}
 use Rattle.verilog_tree.specs.Tree.{every, pick, Target, whole, word_at, Stmt, skip, put, seq, branch, cases, Arms, otherwise, arm, Item}
 use Rattle.verilog_tree.specs.Tree.{note, gap, size, constant, input, output, reg, memory, wire, settles, clocked}
@@ -19,17 +19,11 @@ use Rattle.verilog_tree.specs.WellFormed.{a_bit_register, a_bit_wire, a_clock, a
 use Rattle.verilog_tree.specs.WellFormed.{expr_ok, exprs_ok, said_ok, stmt_ok, arms_ok, item_ok, items_ok, settling, in_order, WellFormed}
 use Rattle.verilog_tree.specs.WellFormed.{ports_first, items_fit, limits}
 use Rattle.verilog_tree.specs.Laws.{Rests, SettlesOnce, SettledStays}
+use Rattle.verilog_tree.proofs.Own.{one_name}
 use Rattle.verilog_tree.proofs.Frames.{leaves, leaves_arms, calm, calm_arms, items_leave, items_calm, run_leaves, run_calm}
 use Rattle.verilog_tree.proofs.Frames.{settled_leaves, settled_calm}
 
 -- ---- names
-
-truth : (b : Bool) → b ≡ true → T b
-truth true e = tt
-truth false e = let n : ⊥ = cc in absurd n
-
-same_name : (x y : String) → eqt x y ≡ true → x ≡ y
-same_name x y e = eqt→eq x y (truth (eqt x y) e)
 
 turned_off : (b : Bool) → not b ≡ true → b ≡ false
 turned_off true h = absurd cc
@@ -63,7 +57,7 @@ pick_right : (x y : String) (b : Bool) (ys zs : List String) → member y ys ≡
 pick_right x y true ys zs m f h = go (one_or (eqt y x) (member x zs) h)
   where
     go : (eqt y x ≡ true) ⊎ (member x zs ≡ true) → member x ys ≡ true
-    go (inl e) = subst (λ z. member z ys ≡ true) (same_name y x e) m
+    go (inl e) = subst (λ z. member z ys ≡ true) (one_name y x e) m
     go (inr e) = f e
 pick_right x y false ys zs m f h = f h
 
@@ -106,7 +100,7 @@ apart_from x (y ∷ xs) ys a m =
   where
     go : (b : Bool) → eqt y x ≡ b → not (member y ys) ≡ true → not (member x xs) ≡ true → not (b || member x xs) ≡ true
     go true e n r =
-        let z : true ≡ false = sym m ∙ subst (λ z. member z ys ≡ false) (same_name y x e) (turned_off (member y ys) n) in absurd cc
+        let z : true ≡ false = sym m ∙ subst (λ z. member z ys ≡ false) (one_name y x e) (turned_off (member y ys) n) in absurd cc
     go false e n r = r
 
 -- ---- stores that agree on some names
@@ -210,11 +204,11 @@ either_same p false false S T U V e f g = g
 -- a vector that is set to the same is one more that agrees
 set_grown : (p : String → Bool) (x : String) (n m : ℕ) (S T : Store) → n ≡ m → Same p S T →
     Same (grown p (x ∷ [])) (set_vec x n S) (set_vec x m T)
-set_grown p x n m S T e h = record { vec = λ y o. go y (eqt x y) o; mem = h.mem; stray = h.stray }
+set_grown p x n m S T e held = record { vec = λ y o. go y (eqt x y) o; mem = held.mem; stray = held.stray }
   where
     go : (y : String) (b : Bool) → (p y || (b || false)) ≡ true → chosen b n (S.vec y) ≡ chosen b m (T.vec y)
     go y true o = e
-    go y false o = h.vec y (left (p y) o)
+    go y false o = held.vec y (left (p y) o)
       where
         left : (a : Bool) → (a || false) ≡ true → a ≡ true
         left true o = refl
@@ -376,6 +370,7 @@ two_kinds : (p q : Kind → Bool) → ((k : Kind) → p k ≡ true → q k ≡ f
 two_kinds p q f [] x h g = let z : false ≡ true = h in absurd cc
 two_kinds p q f (e ∷ E) x h g = two_here (eqt e.name x) (p e.kind) (q e.kind) _ _ (f e.kind) (two_kinds p q f E x) h g
 
+-- no memory is a register
 no_register : (k : Kind) → is_memory k ≡ true → register k ≡ false
 no_register a_size h = refl
 no_register a_constant h = refl
@@ -403,7 +398,7 @@ module _ (E : List Entry) (ms : List String) where
   sets_registers skip h x m = absurd cc
   sets_registers (put (whole y) e) h x m =
       let (a, b) = and_parts (of_kind register E y && member y ms) (expr_ok E e) h in
-      subst (λ z. of_kind register E z ≡ true) (same_name y x (off_either (eqt y x) m)) (and_parts (of_kind register E y) (member y ms) a).0
+      subst (λ z. of_kind register E z ≡ true) (one_name y x (off_either (eqt y x) m)) (and_parts (of_kind register E y) (member y ms) a).0
   sets_registers (put (word_at y i) e) h x m = absurd cc
   sets_registers (seq s t) h x m =
       let (a, b) = and_parts (stmt_ok E ms s) (stmt_ok E ms t) h in
@@ -444,7 +439,7 @@ module _ (E : List Entry) (ms : List String) where
       where
         go : (b : Bool) → eqt y x ≡ b → not b ≡ true
         go true e =
-            let z : true ≡ false = sym m ∙ subst (λ z. member z ms ≡ false) (sym (same_name y x e)) (turned_off (member x ms) o) in absurd cc
+            let z : true ≡ false = sym m ∙ subst (λ z. member z ms ≡ false) (sym (one_name y x e)) (turned_off (member x ms) o) in absurd cc
         go false e = refl
 
     mutual
@@ -479,6 +474,7 @@ block_of E ds s h =
       mine = λ x o. leaves_of E (sets_first s) x o s b;
     }
 
+-- the blocks of a module whose items are in order are such
 blocks_of : (is : List Item) (E : List Entry) (ds : List String) → items_ok E ds is ≡ true → Blocks is
 blocks_of [] E ds h = record {}
 blocks_of (settles s ∷ is) E ds h =
@@ -525,7 +521,7 @@ module _ (P : Scope) where
   set_as_it_is x n S e = λ i. record { vec = λ y. go y (eqt x y) refl i; mem = S.mem; stray = S.stray }
     where
       go : (y : String) (b : Bool) → eqt x y ≡ b → chosen b n (S.vec y) ≡ S.vec y
-      go y true q = sym e ∙ ap S.vec (same_name x y q)
+      go y true q = sym e ∙ ap S.vec (one_name x y q)
       go y false q = refl
 
   set_here : (x : String) (n : ℕ) (S : Store) → (set_vec x n S).vec x ≡ n

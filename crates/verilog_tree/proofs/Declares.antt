@@ -8,8 +8,8 @@ use Rattle.verilog_tree.specs.Tree.{settles, clocked}
 use Rattle.verilog_tree.specs.Meaning.{Store, holds, Scope, chosen, width_of, param_in, named_here, width_in, words_in, assigned, write}
 use Rattle.verilog_tree.specs.Meaning.{set_vec, settled, fire}
 use Rattle.verilog_tree.specs.Tree.{whole, word_at, Stmt, skip, put, seq, branch, cases}
-use Rattle.verilog_frames.proofs.Names.{turned}
-use Rattle.verilog_frames.proofs.Alike as alike
+use Rattle.verilog_tree.proofs.Own.{turned}
+use Rattle.verilog_tree.proofs.Alike as alike
 
 module _ (own : String → Bool) where
   abbrev own_size : Size → Bool

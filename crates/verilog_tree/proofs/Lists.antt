@@ -6,7 +6,7 @@ use Prim.Native.String.{String}
 use Rattle.verilog_tree.specs.Tree.{Item, wire, settles, clocked, whole}
 use Rattle.verilog_tree.specs.Meaning.{Store, Scope, write, run, settled, clocked_in}
 use Rattle.verilog_tree.proofs.Frames.{items_leave, settled_leaves}
-use Rattle.verilog_frames.proofs.Alike as alike
+use Rattle.verilog_tree.proofs.Alike as alike
 
 -- what settles of a list, and then of the next
 pub settled_append : (P : Scope) (is js : List Item) (S : Store) → settled P (is ++ js) S ≡ settled P js (settled P is S)

@@ -14,7 +14,7 @@ use Rattle.verilog_tree.specs.Meaning.{Store, Scope, amount, flag, chosen, fit, 
 use Rattle.verilog_tree.specs.Meaning.{nonzero, value, own as own_value, holds, assigned, set_vec, set_word}
 use Rattle.verilog_tree.specs.Meaning.{write, widest, widest_arm, labelled, run, run_arms, fire, fire_arms, settled}
 use Rattle.verilog_tree.proofs.Frames.{leaves, leaves_arms, items_leave}
-use Rattle.verilog_frames.proofs.Names.{foreign}
+use Rattle.verilog_tree.proofs.Own.{foreign}
 
 module _ (own : String → Bool) where
   -- all names of a size, an expression, a target, a statement are own
