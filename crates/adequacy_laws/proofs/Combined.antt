@@ -1,7 +1,7 @@
--- Where a combined question's result comes from: the values, the moves and the stuck parts of what it was combined of.
+-- Where a combined question's result comes from: the values, the counts and the stuck parts of what it was combined of.
 use Rattle.std.proofs.Common.{◌≡◌, ◌⊎◌, ℕ, ◌+◌, refl, sym, ap, ◌∙◌, inl, inr}
 use Rattle.pcf_values.specs.declared.val.Val.{Val}
-use Rattle.adequacy_laws.specs.Questions.{Asked, gives, deeper, stuck, after, then_ask, both}
+use Rattle.adequacy_laws.specs.Questions.{Asked, gives, deeper, stuck, after, then_ask, Join, both}
 
 -- a value behind an operation comes from a value
 pub after_gives : (f : Val → Val) (k : ℕ) (a : Asked) (v : Val) (n : ℕ) → after f k a ≡ gives v n →
@@ -33,31 +33,31 @@ then_stuck k deeper f h = cc
 then_stuck k stuck f h = inl refl
 
 -- a value of two questions comes from a value of each
-pub both_gives : (f : Val → Val → Val) (k : ℕ) (a b : Asked) (v : Val) (n : ℕ) → both f k a b ≡ gives v n →
-    (x y : Val) × (i j : ℕ) × (a ≡ gives x i) × (b ≡ gives y j) × (v ≡ f x y) × (n ≡ i + j + k)
-both_gives f k stuck b v n h = cc
-both_gives f k deeper stuck v n h = cc
-both_gives f k deeper deeper v n h = cc
-both_gives f k deeper (gives y j) v n h = cc
-both_gives f k (gives x i) stuck v n h = cc
-both_gives f k (gives x i) deeper v n h = cc
-both_gives f k (gives x i) (gives y j) v n h =
-    let e : v ≡ f x y = cc in
-    let z : n ≡ i + j + k = cc in
-    (x, y, i, j, refl, refl, e, z)
+pub both_gives : (join : Join) (f : Val → Val → Val) (a b : Asked) (v : Val) (n : ℕ) → both join f a b ≡ gives v n →
+    (x y : Val) × (i j : ℕ) × (a ≡ gives x i) × (b ≡ gives y j) × (v ≡ f x y) × (n ≡ join i j)
+both_gives join f stuck b v n h = cc
+both_gives join f deeper stuck v n h = cc
+both_gives join f deeper deeper v n h = cc
+both_gives join f deeper (gives y j) v n h = cc
+both_gives join f (gives x i) stuck v n h = cc
+both_gives join f (gives x i) deeper v n h = cc
+both_gives join f (gives x i) (gives y j) v n h =
+    let e : f x y ≡ v = cc in
+    let z : join i j ≡ n = cc in
+    (x, y, i, j, refl, refl, sym e, sym z)
 
 -- where they are stuck, one of them is
-pub both_stuck : (f : Val → Val → Val) (k : ℕ) (a b : Asked) → both f k a b ≡ stuck → (a ≡ stuck) ⊎ (b ≡ stuck)
-both_stuck f k stuck b h = inl refl
-both_stuck f k deeper stuck h = inr refl
-both_stuck f k deeper deeper h = cc
-both_stuck f k deeper (gives y j) h = cc
-both_stuck f k (gives x i) stuck h = inr refl
-both_stuck f k (gives x i) deeper h = cc
-both_stuck f k (gives x i) (gives y j) h = cc
+pub both_stuck : (join : Join) (f : Val → Val → Val) (a b : Asked) → both join f a b ≡ stuck → (a ≡ stuck) ⊎ (b ≡ stuck)
+both_stuck join f stuck b h = inl refl
+both_stuck join f deeper stuck h = inr refl
+both_stuck join f deeper deeper h = cc
+both_stuck join f deeper (gives y j) h = cc
+both_stuck join f (gives x i) stuck h = inr refl
+both_stuck join f (gives x i) deeper h = cc
+both_stuck join f (gives x i) (gives y j) h = cc
 
 -- and a second one that is stuck is enough
-pub stuck_right : (f : Val → Val → Val) (k : ℕ) (a : Asked) → both f k a stuck ≡ stuck
-stuck_right f k (gives v n) = refl
-stuck_right f k deeper = refl
-stuck_right f k stuck = refl
+pub stuck_right : (join : Join) (f : Val → Val → Val) (a : Asked) → both join f a stuck ≡ stuck
+stuck_right join f (gives v n) = refl
+stuck_right join f deeper = refl
+stuck_right join f stuck = refl

@@ -16,12 +16,12 @@ use Rattle.interleave_laws.specs.OneWorker.{one}
 use Rattle.interleave_laws.specs.Maps.{MapState, LeadsToMap, seen}
 use Rattle.interleave_laws.proofs.OneWorker.{one_finished}
 use Rattle.interleave_laws.proofs.MapLaws.{seen_leads}
-use Rattle.adequacy_laws.specs.Questions.{Length}
+use Rattle.adequacy_laws.specs.Questions.{in_turn, Length}
 use Rattle.adequacy_laws.specs.Lengths.{AgreesWithLength}
 use Rattle.adequacy_laws.specs.Finished.{Within, Beyond}
 use Rattle.adequacy_laws.specs.FinishedLaws.{TellsLength, TellsMeaning}
 use Rattle.adequacy_laws.proofs.Adequacy.{asks_means, means_asks}
-use Rattle.adequacy_laws.proofs.Lengths.{one_length}
+use Rattle.adequacy_laws.proofs.Counting.{one_count}
 use Rattle.adequacy_laws.proofs.Agreeing.{agrees, map_agrees, built_runs}
 
 -- what agrees with the length and is finished tells it; of the net and the order of moves nothing else is used
@@ -51,7 +51,7 @@ module _ (net : NetTree) (log : List ℕ) (answered : Option Val) (budget : ℕ)
   within_answer v (n, l, b) = go answered refl
     where
       go : (o : Option Val) → answered ≡ o → answered ≡ Some v
-      go (Some w) e = e ∙ ap Some (one_length net w v (length log) n ((a.answers w).0 e) l).0
+      go (Some w) e = e ∙ ap Some (one_count in_turn net w v (length log) n ((a.answers w).0 e) l).0
       go None e = let s = silent_beyond e v n l in absurd (omega arith)
 
   -- a length beyond the budget leaves no answer

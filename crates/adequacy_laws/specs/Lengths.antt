@@ -6,9 +6,13 @@ use Rattle.pcf_values.specs.declared.val.Val.{Val}
 use Rattle.net_build.specs.Nets.{NetTree}
 use Rattle.interleave_laws.specs.Runs.{InEveryState}
 use Rattle.interleave_laws.specs.MapRuns.{InEveryMapState}
-use Rattle.adequacy_laws.specs.Questions.{Length}
+use Rattle.adequacy_laws.specs.Questions.{Join, Counts, Length}
 
--- more depth changes no result, so a net has one value and one length at most
+-- more depth changes no result, so a net has one value and one count at most, whatever a join counts
+abbrev pub OneCount : Type 0
+OneCount = (join : Join) (net : NetTree) (v w : Val) (n m : ℕ) → Counts join net v n → Counts join net w m → (v ≡ w) × (n ≡ m)
+
+-- so it has one value and one length
 abbrev pub OneLength : Type 0
 OneLength = (net : NetTree) (v w : Val) (n m : ℕ) → Length net v n → Length net w m → (v ≡ w) × (n ≡ m)
 

@@ -5,11 +5,10 @@ use Rattle.pcf_values.specs.Terms.{TermTree}
 use Rattle.net_build.specs.Nets.{NetTree}
 use Rattle.interleave_laws.specs.Maps.{MapState, LeadsToMap, seen}
 use Rattle.interleave_laws.specs.Finished.{Finished}
-use Rattle.adequacy_laws.specs.Questions.{Length}
+use Rattle.adequacy_laws.specs.Questions.{Length, Span}
 use Rattle.adequacy_laws.specs.Finished.{Beyond}
 use Rattle.round_laws.specs.Rounds.{round_log}
 use Rattle.round_laws.specs.AfterRounds.{rounds}
-use Rattle.round_laws.specs.Spans.{Span}
 use Rattle.round_runs.specs.Profiles.{profile_of, greatest}
 use Rattle.goi_reports.specs.Spans.{span_report}
 use Rattle.program_runs.specs.declared.calling.Calling.{Calling}

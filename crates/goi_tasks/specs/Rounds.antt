@@ -4,10 +4,9 @@ use Rattle.std.specs.Prelude.{◌≡◌, ℕ, suc, ◌<◌, ◌≤◌, Bool, Lis
 use Rattle.pcf_values.specs.declared.val.Val.{Val}
 use Rattle.pcf_values.specs.Terms.{TermTree}
 use Rattle.net_build.specs.Nets.{NetTree}
-use Rattle.adequacy_laws.specs.Questions.{Length}
+use Rattle.adequacy_laws.specs.Questions.{Length, Span}
 use Rattle.adequacy_laws.specs.Finished.{Beyond}
 use Rattle.round_laws.specs.Rounds.{round_log}
-use Rattle.round_laws.specs.Spans.{Span}
 use Rattle.round_runs.specs.Profiles.{profile_of, greatest}
 use Rattle.goi_reports.specs.Spans.{span_report}
 use Rattle.program_runs.specs.declared.calling.Calling.{Calling}

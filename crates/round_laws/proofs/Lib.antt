@@ -6,8 +6,6 @@ pub mod Rounding
 -- two lists of the same tickets lead to states alike
 pub mod Order
 -- the span, and ranks of tokens
--- a question's value and rounds by rules, next to the recursion by depth
-pub mod Takes
 -- when a question is asked
 pub mod Begins
 -- the rank of a token belongs to its place, and a move raises it by one

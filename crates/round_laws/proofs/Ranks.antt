@@ -22,8 +22,9 @@ use Rattle.move_rules.proofs.Rows.{turned_twice}
 use Rattle.interleave_laws.proofs.Parents.{known, key_place}
 use Rattle.interleave_laws.proofs.Reached.{ends}
 use Rattle.interleave_laws.proofs.Running.{starts_of}
-use Rattle.round_laws.proofs.Takes.{Takes, of_number, of_pass, of_one, of_test, of_two}
-use Rattle.round_laws.proofs.Begins.{Begins, at_start, at_first, at_branch, First, begins_one}
+use Rattle.adequacy_laws.specs.Questions.{side_by_side}
+use Rattle.adequacy_laws.proofs.Counting.{Met, comes}
+use Rattle.round_laws.proofs.Begins.{Takes, Begins, at_start, at_first, at_branch, First, begins_one}
 
 -- the token's rank
 abbrev pub Ranks : NetTree → TokenTree → ℕ → Type 0
@@ -63,12 +64,13 @@ KeptAt net i t (has_right u) k = (p : Place) × (n : ℕ) × Operand net p i t R
 
 module _ (net : NetTree) (sound : Sound net) where
   -- an answer of a place that was asked from r, by its way back
-  answers : (r : Place) (v : Val) (b d n : ℕ) → Begins net r b → Takes net r v d → n ≡ b + d → Ranks net (ans v (turned r)) n
-  answers r v b d n g t e = (
+  answers : (r : Place) (l : Look) (v : Val) (b d n : ℕ) → Begins net r b → look net r ≡ l → Met side_by_side (Takes net) l v d →
+      n ≡ b + d → Ranks net (ans v (turned r)) n
+  answers r l v b d n g h x e = (
     b,
     d,
     subst (λ r. Begins net r b) (sym (turned_twice r)) g,
-    subst (λ r. Takes net r v d) (sym (turned_twice r)) t,
+    subst (λ r. Takes net r v d) (sym (turned_twice r)) (comes side_by_side net r v d l h x),
     e,
   )
 
@@ -102,11 +104,11 @@ module _ (net : NetTree) (sound : Sound net) where
   first_goes r p (pass i q) v k d n h f g t e =
       let (j, b) = (known net sound r (pass i q) h).1 v in
       goes_by _ _ n (ap (λ p. move net (ans v (turned p))) (sym f) ∙ b)
-      (answers r v k (d + 2) (suc n) g (of_pass h (subst (λ p. Takes net p v d) (sym f) t)) (omega arith))
+      (answers r (pass i q) v k (d + 2) (suc n) g h (d, subst (λ p. Takes net p v d) (sym f) t, refl) (omega arith))
   first_goes r p (one i o q) v k d n h f g t e =
       let (j, b) = (known net sound r (one i o q) h).1 v in
       goes_by _ _ n (ap (λ p. move net (ans v (turned p))) (sym f) ∙ b)
-      (answers r (o v) k (d + 2) (suc n) g (of_one h (subst (λ p. Takes net p v d) (sym f) t)) (omega arith))
+      (answers r (one i o q) (o v) k (d + 2) (suc n) g h (v, d, subst (λ p. Takes net p v d) (sym f) t, refl, refl) (omega arith))
   first_goes r p (test i c a b) v k d n h f g t e =
       let (j, m) = (known net sound r (test i c a b) h).0.1 v in
       let z : k + (d + 2) ≡ suc n = omega arith in
@@ -141,11 +143,11 @@ module _ (net : NetTree) (sound : Sound net) where
       let (o, m) = branch_back r c a b j w v h in
       let t' : Takes net (at_zero w a b) v d = subst (λ p. Takes net p v d) (sym e) t in
       goes_by _ _ n (ap (λ p. move net (ans v (turned p))) (sym e) ∙ m)
-      (answers r v i (d + (x + 3)) (suc n) g (of_test h y t') (omega arith))
+      (answers r (test j c a b) v i (d + (x + 3)) (suc n) g h (w, x, y, d, t', refl) (omega arith))
 
   ask_goes : (p : Place) (n : ℕ) (l : Look) → look net p ≡ l → Begins net p n → Goes net n (ask_move l p)
   ask_goes p n dead h g = tt
-  ask_goes p n (constant i m) h g = answers p (Number m) n 1 (suc n) g (of_number h) (omega arith)
+  ask_goes p n (constant i m) h g = answers p (constant i m) (Number m) n 1 (suc n) g h (refl, refl) (omega arith)
   ask_goes p n (pass i q) h g = at_first p (pass i q) h refl g
   ask_goes p n (one i f q) h g = at_first p (one i f q) h refl g
   ask_goes p n (test i c a b) h g = at_first p (test i c a b) h refl g
@@ -183,7 +185,8 @@ module _ (net : NetTree) (sound : Sound net) where
       let right : Takes net o.right v o'.lasts = subst (λ b. Takes net b v o'.lasts) (sym z) o'.takes in
       let e = o.rank in
       let e' = o'.rank in
-      (o.asked, max o.lasts o'.lasts + 2, o.begins, of_two o.at o.takes right, omega arith)
+      answers (up w [] t) (two i o.op t o.left o.right) (val_op o.op u v) o.asked (max o.lasts o'.lasts + 2) (suc (max n m)) o.begins o.at
+      (u, v, o.lasts, o'.lasts, o.takes, right, refl, refl) (omega arith)
 
   -- the same where the right one is the later one to come
   together_right : (i : ℕ) (t : Boxes) (w : ℕ) (p : Place) (u v : Val) (n m : ℕ) → Operand net p i t Left u n →
@@ -195,7 +198,8 @@ module _ (net : NetTree) (sound : Sound net) where
       let left : Takes net o'.left u o.lasts = subst (λ b. Takes net b u o.lasts) y o.takes in
       let e = o.rank in
       let e' = o'.rank in
-      (o'.asked, max o.lasts o'.lasts + 2, o'.begins, of_two o'.at left o'.takes, omega arith)
+      answers (up w [] t) (two i o'.op t o'.left o'.right) (val_op o'.op u v) o'.asked (max o.lasts o'.lasts + 2) (suc (max n m))
+      o'.begins o'.at (u, v, o.lasts, o'.lasts, left, o'.takes, refl, refl) (omega arith)
 
   -- the second answer at a join
   pub second : (i : ℕ) (op : Operator) (s : Side) (v : Val) (w : ℕ) (t : Boxes) (e : Entry) (u : Val) (n k : ℕ) →

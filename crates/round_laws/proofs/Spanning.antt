@@ -13,20 +13,25 @@ use Rattle.interleave_laws.specs.States.{State, start, run}
 use Rattle.interleave_laws.specs.Runs.{Runs, LeadsTo}
 use Rattle.interleave_laws.specs.OneWorker.{one}
 use Rattle.interleave_laws.proofs.OneWorker.{one_leads, one_finished}
-use Rattle.adequacy_laws.specs.Questions.{Length}
-use Rattle.adequacy_laws.proofs.Lengths.{gives_asks, one_length}
+use Rattle.adequacy_laws.specs.Questions.{in_turn, side_by_side, Length, Span}
+use Rattle.adequacy_laws.proofs.Counting.{once, one_count, IsBelow, counts_rise}
 use Rattle.adequacy_laws.proofs.Agreeing.{agrees}
 use Rattle.round_laws.specs.Rounds.{live_of, round_log}
 use Rattle.round_laws.specs.AfterRounds.{rounds}
 use Rattle.round_laws.specs.Units.{InState, AreUnits, joined, AnyUnit, NoneIdle, IsSchedule, LeavesNoneIdle}
-use Rattle.round_laws.specs.Spans.{Span}
 use Rattle.round_laws.proofs.Rounding.{one_state, live_whole, rounds_lead, rounds_led, rounds_before, some_live, some_member}
 use Rattle.round_laws.proofs.Rounding.{unanswered_before}
 use Rattle.round_laws.proofs.Rounding.{run_on, from_then, run_both}
-use Rattle.round_laws.proofs.Takes.{Takes, takes_one, takes_gives, asks_takes, span_takes, takes_span}
-use Rattle.round_laws.proofs.Begins.{within_span}
+use Rattle.round_laws.proofs.Begins.{Takes, within_span}
 use Rattle.round_laws.proofs.Ranks.{Ranks}
 use Rattle.round_laws.proofs.Timed.{Timed, Between, unit_timed, timed_more, start_timed}
+
+-- a net's span, by its start's question
+span_takes : (net : NetTree) (v : Val) (n : ℕ) → Span net v n → (m : ℕ) × Takes net (start_of net) v m × (n ≡ suc m)
+span_takes net v n (k, m, h, e) = (m, (k, h), e)
+
+takes_span : (net : NetTree) (v : Val) (m : ℕ) → Takes net (start_of net) v m → Span net v (suc m)
+takes_span net v m (k, h) = (k, m, h, refl)
 
 module _ (net : NetTree) (runs : Runs net) where
   -- a rank is within the rounds of the start's question
@@ -34,7 +39,7 @@ module _ (net : NetTree) (runs : Runs net) where
   rank_within (ask p) n b u s t = let (v, m, _, l) = within_span net runs.sound p n b u s t in omega arith
   rank_within (ans w q) n (b, d, g, y, e) u s t =
       let (v, m, z, l) = within_span net runs.sound (turned q) b g u s t in
-      let same = (takes_one net (turned q) w v d m y z).1 in
+      let same = (once side_by_side net (turned q) w v d m y z).1 in
       omega arith
 
   -- before each round all live tokens have its number as their rank
@@ -70,34 +75,28 @@ module _ (net : NetTree) (runs : Runs net) where
           let (m, y, z) = span_takes net v n s in
           let t = rounds_timed k S h in
           let (m', y', _) = t.answered w e in
-          e ∙ ap Some (takes_one net (start_of net) w v m' m y' y).0
+          e ∙ ap Some (once side_by_side net (start_of net) w v m' m y' y).0
 
   pub rounds_tell : (k : ℕ) (S : State) → rounds net k ≡ Some S → (v : Val) → (S.answered ≡ Some v) ↔ ((n : ℕ) × Span net v n × (n ≤ k))
   rounds_tell k S h v = (answered_span k S h v, λ (n, s, l). span_answered k S h v n s l)
 
--- a span and a length are there together
-pub span_length : (net : NetTree) (v : Val) (n : ℕ) → Span net v n → (m : ℕ) × Length net v m
-span_length net v n s =
-    let (i, t, e) = span_takes net v n s in
-    let (j, g) = takes_gives net (start_of net) v i t in
-    let (d, h) = gives_asks net g in
-    (suc j, (d, j, h, refl))
+-- rounds at once are no more than moves in turn
+at_once : IsBelow side_by_side in_turn
+at_once a b c d l m = omega arith
 
-pub length_span : (net : NetTree) (v : Val) (m : ℕ) → Length net v m → (n : ℕ) × Span net v n × (n ≤ m)
-length_span net v m (d, j, h, e) =
-    let (i, t, l) = asks_takes net d (start_of net) v j h in
-    (suc i, takes_span net v i t, omega arith)
-
+-- a span and a length are there together, and the span is at most the length
 pub span_there : (net : NetTree) (v : Val) → ((n : ℕ) × Span net v n) ↔ ((m : ℕ) × Length net v m)
-span_there net v = (λ (n, s). span_length net v n s, λ (m, l). let (n, s, _) = length_span net v m l in (n, s))
+span_there net v = (
+  λ (n, s). let (m, l, _) = counts_rise side_by_side in_turn net v n s in (m, l),
+  λ (m, l). let (n, s, _) = counts_rise in_turn side_by_side net v m l in (n, s),
+)
 
 pub span_at_most : (net : NetTree) (v w : Val) (n m : ℕ) → Span net v n → Length net w m → n ≤ m
 span_at_most net v w n m s l =
-    let (n', s', le) = length_span net w m l in
-    let (i, t, e) = span_takes net v n s in
-    let (j, t', e') = span_takes net w n' s' in
-    let same = (takes_one net (start_of net) v w i j t t').1 in
-    omega arith
+    let (k, l', le) = counts_rise side_by_side in_turn net v n s in
+    let same = (one_count in_turn net v w k m l' l).1 in
+    let less = le at_once in
+    omega (arith, same, less)
 
 -- p times one more
 pub mul_suc : (p m : ℕ) → p * suc m ≡ p + p * m
@@ -127,7 +126,7 @@ span_at_least net runs v w n m p s l most =
     let (S, r, led) = rounds_lead net runs n in
     let e = span_answered net runs n S r v n s (omega arith) in
     let long = ((agrees net runs.sound (round_log net n) S led).answers v).0 e in
-    let same = (one_length net v w (length (round_log net n)) m long l).1 in
+    let same = (one_count in_turn net v w (length (round_log net n)) m long l).1 in
     let le = log_at_most net runs p most n in
     omega (arith, same, le)
 
@@ -157,7 +156,7 @@ module _ (net : NetTree) (runs : Runs net) where
           let bad : None ≡ Some v = sym g ∙ g' in absurd cc
       go (Some w) g =
           let l = ((agrees net runs.sound (one net b) T led.1).answers w).0 g in
-          let same = (one_length net v w b (length (one net b)) long l).0 in
+          let same = (one_count in_turn net v w b (length (one net b)) long l).0 in
           (b, T, led.1, g ∙ ap Some (sym same))
 
   pub rounds_answer : (v : Val) → ((k : ℕ) × (S : State) × (rounds net k ≡ Some S) × (S.answered ≡ Some v)) ↔
@@ -166,7 +165,7 @@ module _ (net : NetTree) (runs : Runs net) where
     λ (k, S, r, e). one_too (round_log net k) S (rounds_led net k S r) v e,
     λ (b, S, h, e).
         let l = ((agrees net runs.sound (one net b) S h).answers v).0 e in
-        let (n, s, _) = length_span net v (length (one net b)) l in
+        let (n, s) = (span_there net v).1 (length (one net b), l) in
         let (T, r, _) = rounds_lead net runs n in
         (n, T, r, span_answered net runs n T r v n s (omega arith)),
   )
@@ -176,7 +175,7 @@ module _ (net : NetTree) (runs : Runs net) where
   rounds_as_long k b S T r h v w e g =
       let l = ((agrees net runs.sound (round_log net k) S (rounds_led net k S r)).answers v).0 e in
       let l' = ((agrees net runs.sound (one net b) T h).answers w).0 g in
-      one_length net v w (length (round_log net k)) (length (one net b)) l l'
+      one_count in_turn net v w (length (round_log net k)) (length (one net b)) l l'
 
   -- schedules
   pub in_state : (o : Option State) (P : State → Type 0) (T : State) → o ≡ Some T → InState o P → P T

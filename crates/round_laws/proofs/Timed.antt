@@ -24,8 +24,7 @@ use Rattle.interleave_laws.proofs.Running.{low, run_append}
 use Rattle.round_laws.specs.Units.{IsUnit, IsWhole}
 use Rattle.round_laws.proofs.Listing.{member_or_not}
 use Rattle.round_laws.proofs.Rounding.{one_state, unit_rest, from_then}
-use Rattle.round_laws.proofs.Takes.{Takes}
-use Rattle.round_laws.proofs.Begins.{at_start}
+use Rattle.round_laws.proofs.Begins.{Takes, at_start}
 use Rattle.round_laws.proofs.Ranks.{Ranks, Goes, KeptAt, goes, kept_at, kept_more, second}
 
 -- the ranks of a state: each live ticket has one of which f holds, what is kept has at most k, and an answer had one below a

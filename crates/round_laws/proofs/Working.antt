@@ -11,9 +11,8 @@ use Rattle.net_build.specs.Nets.{NetTree}
 use Rattle.interleave_laws.specs.Start.{start_of}
 use Rattle.interleave_laws.specs.States.{State, start, run}
 use Rattle.interleave_laws.specs.Runs.{Runs, LeadsTo}
-use Rattle.adequacy_laws.specs.Questions.{Length}
+use Rattle.adequacy_laws.specs.Questions.{Length, Span}
 use Rattle.adequacy_laws.proofs.Agreeing.{agrees}
-use Rattle.round_laws.specs.Spans.{Span}
 use Rattle.round_laws.specs.Units.{InState, AreUnits, joined, AnyUnit, AtMost, IsProcessorsSchedule, LeavesNoneIdle}
 use Rattle.round_laws.proofs.Spanning.{mul_suc, no_faster, nearly_as_fast}
 

@@ -1,10 +1,8 @@
--- what a reader has to believe: rounds, units of time, and the span of a net
+-- what a reader has to believe: rounds and units of time
 -- all live tokens move at once
 pub mod Rounds
 -- any of them move, each once; and schedules, of any units and of p processors
 pub mod Units
--- how many rounds a net's question takes, without tokens
-pub mod Spans
 -- the state after so many rounds, of which the laws speak
 pub mod AfterRounds
 -- the laws, a file for the statements of each

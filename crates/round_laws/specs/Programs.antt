@@ -4,9 +4,9 @@ use Rattle.pcf_values.specs.declared.val.Val.{Val}
 use Rattle.cbn_meaning.specs.Meaning.{Means}
 use Rattle.net_build.specs.NetOf.{net_of}
 use Rattle.interleave_laws.specs.States.{State}
+use Rattle.adequacy_laws.specs.Questions.{Span}
 use Rattle.adequacy_laws.specs.Adequacy.{OfEveryProgram}
 use Rattle.round_laws.specs.AfterRounds.{rounds}
-use Rattle.round_laws.specs.Spans.{Span}
 
 -- a program means a value exactly when its net has that value and a span
 abbrev pub MeansSpan : Type 0

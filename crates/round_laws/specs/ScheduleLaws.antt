@@ -1,17 +1,16 @@
 -- What holds of schedules: the statements of `law_schedules` and `law_processors`.
 -- The span bounds every schedule from below, and p processors bound it by their part of the moves. A schedule that leaves none of them idle
--- takes moves / p + (1 - 1 / p) * span units at most (Brent 1974), so at most 2 - 1 / p times as many as the best (Graham 1969).
+-- takes moves / p + (1 - 1 / p) * span units at most (Brent 1974), so at most 2 - 1 / p times as many as the best (Graham 1966).
 use Rattle.std.specs.Prelude.{◌≡◌, ◌≤◌, ◌+◌, ◌-◌, ◌*◌, ℕ, suc, List, length, Some, None}
 use Rattle.pcf_values.specs.declared.val.Val.{Val}
 use Rattle.net_build.specs.Nets.{NetTree}
 use Rattle.interleave_laws.specs.States.{State}
 use Rattle.interleave_laws.specs.Runs.{Runs, LeadsTo}
 use Rattle.interleave_laws.specs.Bare.{SameBare}
-use Rattle.adequacy_laws.specs.Questions.{Length}
+use Rattle.adequacy_laws.specs.Questions.{Length, Span}
 use Rattle.round_laws.specs.Rounds.{live_of, round_log, round_units}
 use Rattle.round_laws.specs.AfterRounds.{rounds}
 use Rattle.round_laws.specs.Units.{joined, IsSchedule, IsProcessorsSchedule, LeavesNoneIdle}
-use Rattle.round_laws.specs.Spans.{Span}
 
 -- rounds are a schedule, and one that leaves none idle of any number of processors
 abbrev pub RoundsSchedule : Type 0

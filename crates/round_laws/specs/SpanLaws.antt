@@ -4,10 +4,9 @@ use Rattle.pcf_values.specs.declared.val.Val.{Val}
 use Rattle.net_build.specs.Nets.{NetTree}
 use Rattle.interleave_laws.specs.States.{State}
 use Rattle.interleave_laws.specs.Runs.{Runs}
-use Rattle.adequacy_laws.specs.Questions.{Length}
+use Rattle.adequacy_laws.specs.Questions.{Length, Span}
 use Rattle.round_laws.specs.Rounds.{live_of}
 use Rattle.round_laws.specs.AfterRounds.{rounds}
-use Rattle.round_laws.specs.Spans.{Span}
 
 -- a net has one value and one span at most
 abbrev pub OneSpan : Type 0

@@ -4,7 +4,7 @@ ghost use Rattle.round_laws.specs.RoundLaws.{LiveRises, LiveIsWhole, RoundsRun, 
 ghost use Rattle.round_laws.specs.RoundLaws.{RoundsAnswer, RoundsAsLong};
 ghost use Rattle.round_laws.specs.OrderLaws.{UnitsRun, UnitOrder, RoundOrder};
 ghost use Rattle.round_laws.specs.Programs.{MeansSpan, RoundsMean};
-ghost use Rattle.round_laws.specs.Example.{ExampleRounds, ExampleSpans};
+ghost use Rattle.round_laws.specs.Example.{ExampleRounds};
 ghost use Rattle.round_laws.specs.ScheduleLaws.{RoundsSchedule, NoFaster, NearlyAsFast, BoundOfBrent, EnoughProcessors};
 ghost use Rattle.round_laws.specs.ScheduleLaws.{ProcessorsCan, WorkTakesUnits, BoundOfGraham};
 ghost use Rattle.round_laws.specs.SpanLaws.{OneSpan, RoundsTell, SpanIsThere, SpanAtMost, SpanAtLeast};
@@ -72,8 +72,7 @@ pub fn law_round_programs()
     net_build::law_built_sound();
 }
 
-/// The net of `(fun x:nat. x + x) 3` answers 6 after 18 rounds of 30 moves, and the spans of some programs.
+/// The net of `(fun x:nat. x + x) 3` answers 6 after 18 rounds of 30 moves.
 pub fn law_example_rounds()
-    ensures rounds { ExampleRounds }
-    ensures spans { ExampleSpans }
+    ensures { ExampleRounds }
 {}

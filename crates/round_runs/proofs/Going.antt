@@ -15,11 +15,11 @@ use Rattle.interleave_laws.specs.Maps.{MapState, start_map, run_map, seen}
 use Rattle.interleave_laws.specs.MapRuns.{option_seen}
 use Rattle.interleave_laws.proofs.Seen.{start_seen, run_seen}
 use Rattle.interleave_laws.proofs.MapLaws.{run_both, seen_leads, map_low}
+use Rattle.adequacy_laws.specs.Questions.{Span}
 use Rattle.adequacy_laws.specs.Finished.{Beyond}
 use Rattle.adequacy_laws.proofs.Agreeing.{agrees}
 use Rattle.round_laws.specs.Rounds.{live_of, round, round_log, units_on, units_from}
 use Rattle.round_laws.specs.AfterRounds.{rounds_from, rounds}
-use Rattle.round_laws.specs.Spans.{Span}
 use Rattle.round_laws.proofs.Rounding.{one_state, live_whole, rounds_lead, rounds_go_on, some_live, some_member}
 use Rattle.round_laws.proofs.Spanning.{answered_span, span_answered}
 use Rattle.round_runs.specs.Profiles.{profile_of, greatest}

@@ -6,10 +6,10 @@ ghost use Rattle.pcf_values.specs.declared.val.Val.{Val};
 ghost use Rattle.pcf_values.specs.Most.{most_budget};
 ghost use Rattle.interleave_laws.specs.Runs.{Runs};
 ghost use Rattle.interleave_laws.specs.Maps.{MapState, LeadsToMap, seen};
+ghost use Rattle.adequacy_laws.specs.Questions.{Span};
 ghost use Rattle.adequacy_laws.specs.Finished.{Beyond};
 ghost use Rattle.round_laws.specs.Rounds.{live_of, round_log};
 ghost use Rattle.round_laws.specs.AfterRounds.{rounds};
-ghost use Rattle.round_laws.specs.Spans.{Span};
 ghost use Rattle.round_runs.specs.Profiles.{profile_of, greatest};
 ghost use Rattle.round_runs.specs.Making.{IsMade};
 

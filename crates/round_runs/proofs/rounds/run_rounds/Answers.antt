@@ -1,8 +1,8 @@
 use Rattle.std.proofs.Common.{◌≡◌, length, None, sym, ap, ◌∙◌, subst, arith}
 use Rattle.interleave_laws.specs.Maps.{seen}
+use Rattle.adequacy_laws.specs.Questions.{Span}
 use Rattle.round_laws.specs.Rounds.{live_of}
 use Rattle.round_laws.specs.AfterRounds.{rounds}
-use Rattle.round_laws.specs.Spans.{Span}
 use Rattle.round_runs.proofs.Going.{made_count, made_some, made_span, made_beyond, made_spent, less_left}
 use Rattle.round_runs.proofs.rounds.run_rounds.Goals as goal
 
