@@ -106,6 +106,5 @@ def span(path, budget):
 
 
 def busy(moves, rounds, workers):
-    """How many units of a move each take workers of whom none idles while a token waits, at the most. (Graham's and Brent's bound: a unit that
-    keeps every worker at work makes so many moves, and of the others there are at most as many as rounds.)"""
-    return rounds + moves / workers
+    """How many units of a move each take workers of whom none idles while a token waits, at the most (Brent's bound)."""
+    return moves / workers + (1 - 1 / workers) * rounds

@@ -1,5 +1,6 @@
--- What a question comes to, whatever a join counts: it is what the questions behind it come to, it is one, and another join counts too.
-use Rattle.std.proofs.Common.{◌≡◌, ℕ, zero, suc, ◌+◌, ◌≤◌, refl, sym, ap, ◌∙◌, arith}
+-- What a question comes to, whatever a join counts: it is told by what the questions behind it come to, more depth changes nothing of it,
+-- it is one, and where one join counts another does too.
+use Rattle.std.proofs.Common.{◌≡◌, ℕ, zero, suc, ◌+◌, ◌≤◌, refl, sym, ap, ◌∙◌, ⊎_elim, arith}
 use Rattle.pcf_values.specs.declared.val.Val.{Val}
 use Rattle.pcf_values.specs.declared.val.Val.TheVariants.{Number}
 use Rattle.pcf_values.specs.Values.{val_op, at_zero}
@@ -7,11 +8,10 @@ use Rattle.net_build.specs.Nets.{NetTree}
 use Rattle.move_rules.specs.Places.{Place}
 use Rattle.move_rules.specs.Moves.{Look, dead, constant, pass, one, test, two, look}
 use Rattle.interleave_laws.specs.Start.{start_of}
-use Rattle.adequacy_laws.specs.Questions.{Asked, gives, after, then_ask, Join, both, ask_look, counts, Counts}
-use Rattle.adequacy_laws.proofs.Combined.{after_gives, then_gives, both_gives}
-use Rattle.adequacy_laws.proofs.Deeper.{gives_le}
+use Rattle.adequacy_laws.specs.Questions.{Asked, gives, stuck, after, then_ask, Join, in_turn, both, ask_look, counts, Counts, asks}
+use Rattle.adequacy_laws.proofs.Combined.{after_gives, after_stuck, then_gives, then_stuck, both_gives, both_stuck, stuck_right}
 
--- a question comes to a value with a count, at some depth
+-- a question comes to a value with a count, to some depth
 abbrev pub ComesTo : Join → NetTree → Place → Val → ℕ → Type 0
 ComesTo join net p v n = (d : ℕ) × (counts join net d p ≡ gives v n)
 
@@ -49,49 +49,63 @@ met_look join go (two k op s a b) v n (x, y, i, j, g, g', e, z) =
     ap (λ o. both join (val_op op) o (go b)) g ∙ ap (both join (val_op op) (gives x i)) g' ∙
     ap (λ v. gives v (join i j)) (sym e) ∙ ap (gives v) (sym z)
 
-module _ (join : Join) (net : NetTree) where
-  -- what comes to a value to a depth comes to it
-  met_to : (d : ℕ) (l : Look) (v : Val) (n : ℕ) → Met join (λ p v n. counts join net d p ≡ gives v n) l v n →
-      Met join (ComesTo join net) l v n
-  met_to d dead v n x = x
-  met_to d (constant k m) v n x = x
-  met_to d (pass k q) v n (i, x, z) = (i, (d, x), z)
-  met_to d (one k f q) v n (w, i, x, a, z) = (w, i, (d, x), a, z)
-  met_to d (test k c a b) v n (w, i, x, j, y, z) = (w, i, (d, x), j, (d, y), z)
-  met_to d (two k op s a b) v n (x, y, i, j, g, g', e, z) = (x, y, i, j, (d, g), (d, g'), e, z)
+-- what holds of the questions behind it may be exchanged for what follows from it
+met_from : (join : Join) (R Q : Place → Val → ℕ → Type 0) → ((p : Place) (v : Val) (n : ℕ) → R p v n → Q p v n) → (l : Look) (v : Val)
+    (n : ℕ) → Met join R l v n → Met join Q l v n
+met_from join R Q h dead v n x = x
+met_from join R Q h (constant k m) v n x = x
+met_from join R Q h (pass k q) v n (i, x, z) = (i, h q v i x, z)
+met_from join R Q h (one k f q) v n (w, i, x, a, z) = (w, i, h q w i x, a, z)
+met_from join R Q h (test k c a b) v n (w, i, x, j, y, z) = (w, i, h c w i x, j, h (at_zero w a b) v j y, z)
+met_from join R Q h (two k op s a b) v n (x, y, i, j, g, g', e, z) = (x, y, i, j, h a x i g, h b y j g', e, z)
 
-  -- and there is one depth for all of them
-  met_at_one : (l : Look) (v : Val) (n : ℕ) → Met join (ComesTo join net) l v n →
-      (d : ℕ) × Met join (λ p v n. counts join net d p ≡ gives v n) l v n
-  met_at_one dead v n x = absurd x
-  met_at_one (constant k m) v n x = (0, x)
-  met_at_one (pass k q) v n (i, (d, x), z) = (d, (i, x, z))
-  met_at_one (one k f q) v n (w, i, (d, x), a, z) = (d, (w, i, x, a, z))
-  met_at_one (test k c a b) v n (w, i, (d, x), j, (e, y), z) =
-      let x' = gives_le join net (d + e) d c w i (omega arith) x in
-      let y' = gives_le join net (d + e) e (at_zero w a b) v j (omega arith) y in
+module _ (join : Join) (net : NetTree) where
+  -- to a depth a question comes to a value with a count
+  abbrev At : ℕ → Place → Val → ℕ → Type 0
+  At d p v n = counts join net d p ≡ gives v n
+
+  -- more depth changes no value
+  pub gives_le : (e d : ℕ) (p : Place) (v : Val) (n : ℕ) → d ≤ e → At d p v n → At e p v n
+  gives_le e zero p v n l h = cc
+  gives_le zero (suc d) p v n l h = absurd (omega arith)
+  gives_le (suc e) (suc d) p v n l h =
+      met_look join (counts join net e) (look net p) v n
+      (met_from join (At d) (At e) (λ q w i. gives_le e d q w i (omega arith)) (look net p) v n
+      (look_met join (counts join net d) (look net p) v n h))
+
+  -- there is one depth for all questions behind
+  at_one : (l : Look) (v : Val) (n : ℕ) → Met join (ComesTo join net) l v n → (d : ℕ) × Met join (At d) l v n
+  at_one dead v n x = absurd x
+  at_one (constant k m) v n x = (0, x)
+  at_one (pass k q) v n (i, (d, x), z) = (d, (i, x, z))
+  at_one (one k f q) v n (w, i, (d, x), a, z) = (d, (w, i, x, a, z))
+  at_one (test k c a b) v n (w, i, (d, x), j, (e, y), z) =
+      let x' = gives_le (d + e) d c w i (omega arith) x in
+      let y' = gives_le (d + e) e (at_zero w a b) v j (omega arith) y in
       (d + e, (w, i, x', j, y', z))
-  met_at_one (two k op s a b) v n (x, y, i, j, (d, g), (e, g'), q, z) =
-      let h = gives_le join net (d + e) d a x i (omega arith) g in
-      let h' = gives_le join net (d + e) e b y j (omega arith) g' in
+  at_one (two k op s a b) v n (x, y, i, j, (d, g), (e, g'), q, z) =
+      let h = gives_le (d + e) d a x i (omega arith) g in
+      let h' = gives_le (d + e) e b y j (omega arith) g' in
       (d + e, (x, y, i, j, h, h', q, z))
 
   -- a question that comes to a value met this
   pub met : (p : Place) (v : Val) (n : ℕ) (l : Look) → look net p ≡ l → ComesTo join net p v n → Met join (ComesTo join net) l v n
   met p v n l h (zero, e) = cc
-  met p v n l h (suc d, e) = met_to d l v n (look_met join (counts join net d) l v n (ap (ask_look join (counts join net d)) (sym h) ∙ e))
+  met p v n l h (suc d, e) =
+      met_from join (At d) (ComesTo join net) (λ p v n x. (d, x)) l v n
+      (look_met join (counts join net d) l v n (ap (ask_look join (counts join net d)) (sym h) ∙ e))
 
   -- and one that met this comes to the value
   pub comes : (p : Place) (v : Val) (n : ℕ) (l : Look) → look net p ≡ l → Met join (ComesTo join net) l v n → ComesTo join net p v n
   comes p v n l h x =
-      let (d, y) = met_at_one l v n x in
+      let (d, y) = at_one l v n x in
       (suc d, ap (ask_look join (counts join net d)) h ∙ met_look join (counts join net d) l v n y)
 
   -- one value and one count
   pub once : (p : Place) (v w : Val) (n m : ℕ) → ComesTo join net p v n → ComesTo join net p w m → (v ≡ w) × (n ≡ m)
   once p v w n m (d, h) (e, g) =
-      let a = gives_le join net (d + e) d p v n (omega arith) h in
-      let b = gives_le join net (d + e) e p w m (omega arith) g in
+      let a = gives_le (d + e) d p v n (omega arith) h in
+      let b = gives_le (d + e) e p w m (omega arith) g in
       let z : gives v n ≡ gives w m = sym a ∙ b in
       (cc, cc)
 
@@ -100,6 +114,30 @@ module _ (join : Join) (net : NetTree) where
   one_count v w n m (k, i, e, a) (l, j, g, b) =
       let (x, y) = once (start_of net) v w i j (k, e) (l, g) in
       (x, a ∙ ap suc y ∙ sym b)
+
+module _ (net : NetTree) where
+  -- more depth frees no question that is stuck
+  pub stuck_le : (e d : ℕ) (p : Place) → d ≤ e → asks net d p ≡ stuck → asks net e p ≡ stuck
+  stuck_le e zero p l h = cc
+  stuck_le zero (suc d) p l h = absurd (omega arith)
+  stuck_le (suc e) (suc d) p l h = go (λ q. stuck_le e d q (omega arith)) (look net p) h
+    where
+      go : ((q : Place) → asks net d q ≡ stuck → asks net e q ≡ stuck) → (l : Look) → ask_look in_turn (asks net d) l ≡ stuck →
+          ask_look in_turn (asks net e) l ≡ stuck
+      go ih dead h = refl
+      go ih (constant k m) h = cc
+      go ih (pass k q) h = ap (after (λ v. v) 2) (ih q (after_stuck (λ v. v) 2 (asks net d q) h))
+      go ih (one k f q) h = ap (after f 2) (ih q (after_stuck f 2 (asks net d q) h))
+      go ih (test k c a b) h =
+          ⊎_elim (λ g. ap (λ o. then_ask 3 o (λ v. asks net e (at_zero v a b))) (ih c g))
+          (λ (w, i, g, g').
+          let first = gives_le in_turn net e d c w i (omega (arith, l)) g in
+          ap (λ o. then_ask 3 o (λ v. asks net e (at_zero v a b))) first ∙ ap (after (λ w. w) (i + 3)) (ih (at_zero w a b) g'))
+          (then_stuck 3 (asks net d c) (λ v. asks net d (at_zero v a b)) h)
+      go ih (two k op s a b) h =
+          ⊎_elim (λ g. ap (λ o. both in_turn (val_op op) o (asks net e b)) (ih a g))
+          (λ g. ap (both in_turn (val_op op) (asks net e a)) (ih b g) ∙ stuck_right in_turn (val_op op) (asks net e a))
+          (both_stuck in_turn (val_op op) (asks net d a) (asks net d b) h)
 
 -- a join is no greater than another, of numbers that are no greater
 abbrev pub IsBelow : Join → Join → Type 0
