@@ -1,7 +1,7 @@
 -- A program has no fault exactly where its term is accepted.
-use Rattle.std.proofs.Common.{◌≡◌, ◌⊎◌, ℕ, ◌<◌, ◌≤◌, Bool, true, false, List, [], ◌∷◌, Ok, refl, sym, subst}
+use Rattle.std.proofs.Common.{◌≡◌, ◌⊎◌, ℕ, ◌<◌, ◌≤◌, true, false, List, [], ◌∷◌, Ok, refl, sym, subst}
 use Rattle.std.proofs.Common.{inl, inr, arith}
-use Rattle.std.proofs.lemmas.Bool.{cases_lt}
+use Rattle.std.proofs.lemmas.Bool.{cases_lt, false_from_ne_true, true_from_ne_false, both_ways}
 use Rattle.pcf_values.specs.Terms.{TyTree, nat, arrow, product, TermTree, lam, fix}
 use Rattle.pcf_values.specs.Named.{the_succ, the_pred, the_part, the_fun, the_fix, NamedTree, number_at, name_at, word_at}
 use Rattle.pcf_values.specs.Named.{binary_at, pair_at, ifz_at, bind_at, apply_at, named_height}
@@ -19,14 +19,6 @@ use Rattle.cbv_terms.proofs.Scanning.{either}
 
 abbrev Clean : NamedTree → Type 0
 Clean tree = (f : ByValueFault) → HasFault tree f → ⊥
-
-false_is : (b : Bool) → (b ≡ true → ⊥) → b ≡ false
-false_is true h = absurd (h refl)
-false_is false h = refl
-
-true_is : (b : Bool) → (b ≡ false → ⊥) → b ≡ true
-true_is true h = refl
-true_is false h = absurd (h refl)
 
 -- a `fix` of a function's type whose body stands for a `fun`
 fix_taken : (t : TyTree) (tree : NamedTree) (s : List (List ℕ)) (m : TermTree) → Resolves s tree m → HasTranslation m →
@@ -63,12 +55,12 @@ clean_taken (ifz_at at c p q) s m (d, x, y, i, j, k, e) h =
     )
 clean_taken (bind_at at the_fun x t b) s m (n, r, e) h =
     subst HasTranslation (sym e) (
-      false_is (has_product t) (λ q. h (ByValuePair at) (inl (q, refl))),
+      false_from_ne_true (has_product t) (λ q. h (ByValuePair at) (inl (q, refl))),
       clean_taken b (x ∷ s) n r (λ f w. h f (inr w)),
     )
 clean_taken (bind_at at the_fix x t b) s m (n, r, e) h =
-    let p = false_is (has_product t) (λ q. h (ByValuePair at) (inr (inl (q, refl)))) in
-    let q = true_is (is_of_fun t b) (λ q. h (ByValueFix at) (inl (q, refl))) in
+    let p = false_from_ne_true (has_product t) (λ q. h (ByValuePair at) (inr (inl (q, refl)))) in
+    let q = true_from_ne_false (is_of_fun t b) (λ q. h (ByValueFix at) (inl (q, refl))) in
     subst HasTranslation (sym e) (fix_taken t b (x ∷ s) n r (clean_taken b (x ∷ s) n r (λ f w. h f (inr (inr w)))) q p)
 clean_taken (apply_at at g a) s m (c, d, r, q, e) h =
     subst HasTranslation (sym e) (clean_taken g s c r (λ f w. h f (inl w)), clean_taken a s d q (λ f w. h f (inr w)))
@@ -108,9 +100,6 @@ fix_is_of_fun t tree s m r h =
     let (a, b, c, n, e, q) = fix_of_fun t m h in
     subst (λ t. is_of_fun t tree ≡ true) (sym e) (lam_of_fun tree s a b c n (subst (Resolves s tree) q r))
 
-differ : (b : Bool) → b ≡ true → b ≡ false → ⊥
-differ b h k = cc
-
 -- a tree whose term has a translation has no fault
 taken_clean : (tree : NamedTree) (s : List (List ℕ)) (m : TermTree) → Resolves s tree m → HasTranslation m → Clean tree
 taken_clean (number_at at n) s m e h = λ f w. w
@@ -125,12 +114,12 @@ taken_clean (ifz_at at c p q) s m (d, x, y, i, j, k, e) h =
     let g = subst HasTranslation e h in λ f. either (taken_clean c s d i g.0 f)
     (either (taken_clean p s x j g.1 f) (taken_clean q s y k g.2 f))
 taken_clean (bind_at at the_fun x t b) s m (n, r, e) h =
-    let g = subst HasTranslation e h in λ f. either (λ (w : BinderFault at t f). differ (has_product t) w.0 g.0)
+    let g = subst HasTranslation e h in λ f. either (λ (w : BinderFault at t f). both_ways (has_product t) g.0 w.0)
     (taken_clean b (x ∷ s) n r g.1 f)
 taken_clean (bind_at at the_fix x t b) s m (n, r, e) h =
     let g : HasTranslation (fix t n) = subst HasTranslation e h in
-    λ f. either (λ (w : FixFault at t b f). differ (is_of_fun t b) (fix_is_of_fun t b (x ∷ s) n r g) w.0)
-    (either (λ (w : BinderFault at t f). differ (has_product t) w.0 (fix_product t n g)) (taken_clean b (x ∷ s) n r (fix_body t n g) f))
+    λ f. either (λ (w : FixFault at t b f). both_ways (is_of_fun t b) w.0 (fix_is_of_fun t b (x ∷ s) n r g))
+    (either (λ (w : BinderFault at t f). both_ways (has_product t) (fix_product t n g) w.0) (taken_clean b (x ∷ s) n r (fix_body t n g) f))
 taken_clean (apply_at at g a) s m (c, d, r, q, e) h = let i = subst HasTranslation e h in
     λ f. either (taken_clean g s c r i.0 f) (taken_clean a s d q i.1 f)
 

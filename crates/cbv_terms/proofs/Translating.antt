@@ -1,5 +1,5 @@
 -- What the code of each form makes is what the definition says of the form, at the binders and the depth at hand.
-use Rattle.std.proofs.Common.{◌≡◌, ℕ, suc, ◌+◌, ◌-◌, ◌*◌, ◌^◌, ◌<◌, List, [], ◌∷◌, ◌++◌, reverse, Some, Result, Ok, Err, refl}
+use Rattle.std.proofs.Common.{◌≡◌, ℕ, suc, ◌+◌, ◌-◌, ◌*◌, ◌^◌, ◌<◌, List, [], ◌∷◌, ◌++◌, reverse, Some, Result, Ok, Err, refl, add-zero}
 use Rattle.std.proofs.Common.{sym, ap, ◌∙◌, subst, arith}
 use Rattle.std.specs.Prelude.{slice_get, IfOk}
 use Rattle.pcf_values.specs.declared.term.Term.{Term}
@@ -334,10 +334,7 @@ pub start_ready : (bs : List Binder) (m : TermTree) → bs ≡ [] → HasType []
 start_ready bs m e h t = subst (λ s. IsReady s 0 (context_of s) m) (sym e) (record { taken = t; typed = (nat, h); around = tt })
 
 start_map : map_of 0 [] ≡ (λ i. i)
-start_map = λ k i. stays i k
-  where
-    stays : (i : ℕ) → i + 0 ≡ i
-    stays i = omega arith
+start_map = λ k i. add-zero i k
 
 pub start_makes : (bs new : List Binder) (m : TermTree) (made : Made) (whole : Term) → bs ≡ [] →
     Makes bs new (context_of bs) (map_of 0 bs) m made

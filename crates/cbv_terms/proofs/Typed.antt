@@ -5,6 +5,7 @@ use Rattle.std.specs.Prelude.{slice_get}
 use Rattle.pcf_values.specs.Terms.{TyTree, nat, arrow, TermTree, num, var, succ_of, pred_of, binary, ifz, lam, fix, app, pair, proj, size}
 use Rattle.pcf_values.specs.Terms.{height}
 use Rattle.pcf_values.specs.Typing.{HasType}
+use Rattle.pcf_values.proofs.Heights.{height_positive}
 use Rattle.cbv_terms.specs.Translation.{type_at, argument_type, result_type, type_in, value_type}
 use Rattle.cbv_terms.specs.Accepted.{HasTranslation, Accepted}
 use Rattle.cbv_terms.specs.Translation.{continuation_type, beside, under, cps, translated}
@@ -27,20 +28,6 @@ size_cps (fix a m) g e = omega arith
 size_cps (app f x) g e = let p = size_cps f g (beside e) in let q = size_cps x g (beside (beside e)) in omega arith
 size_cps (pair a b) g e = omega arith
 size_cps (proj s a) g e = omega arith
-
--- the height of a term is at least 1
-height_positive : (m : TermTree) → 1 ≤ height m
-height_positive (num n) = omega arith
-height_positive (var i) = omega arith
-height_positive (succ_of a) = omega arith
-height_positive (pred_of a) = omega arith
-height_positive (binary o a b) = omega arith
-height_positive (ifz c a b) = omega arith
-height_positive (lam a m) = omega arith
-height_positive (fix a m) = omega arith
-height_positive (app f x) = omega arith
-height_positive (pair a b) = omega arith
-height_positive (proj s a) = omega arith
 
 -- a translation is at most five times as high as its term
 pub height_cps : (m : TermTree) (g : List TyTree) (e : ℕ → ℕ) → height (cps g e m) ≤ 5 * height m

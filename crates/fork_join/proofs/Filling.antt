@@ -16,7 +16,7 @@ use Rattle.fork_join.specs.Entries.{Entry, Key, key_cmp}
 use Rattle.fork_join.specs.declared.listing.Open.{Open}
 use Rattle.fork_join.specs.Listed.{open_of}
 use Rattle.fork_join.specs.Filling.{filled, emptied, AllNew}
-use Rattle.fork_join.proofs.Keys.{key_total, key_cmp-same}
+use Rattle.fork_join.proofs.Keys.{key_total, key_cmp-same, is_equal}
 
 -- whether a key is listed
 abbrev pub listed_at : List (Key × Entry) → Key → Bool
@@ -51,12 +51,7 @@ put_gone false false x g h = refl
 
 -- a test of a tie
 tied : (q k : Key) → eq_by_cmp key_cmp q k ≡ true → q ≡ k
-tied q k h = key_cmp-same q k (equal (key_cmp q k) h)
-  where
-    equal : (o : Ordering) → is_eq o ≡ true → o ≡ Equal
-    equal Less h = cc
-    equal Equal h = refl
-    equal Greater h = cc
+tied q k h = key_cmp-same q k (is_equal (key_cmp q k) h)
 
 pub put_taken : (es : List (Key × Entry)) (f : FinMap key_cmp Entry) (k : Key) (x : Entry) → listed_at es k ≡ true →
     emptied es (finite.insert f k x) ≡ emptied es f

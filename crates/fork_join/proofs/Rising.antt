@@ -1,5 +1,5 @@
 -- The entries of the finite map are those of the map of maps, one node after the other: both stand in the order of keys.
-use Rattle.std.proofs.Common.{◌≡◌, ℕ, List, [], ◌∷◌, ◌++◌, length, refl, sym, ap, ◌∙◌}
+use Rattle.std.proofs.Common.{◌≡◌, ℕ, List, [], ◌∷◌, ◌++◌, refl, sym, ap, ◌∙◌}
 use Rattle.std.specs.declared.cmp.Ordering.TheVariants.{Less}
 use Rattle.std.specs.Ordering.{nat_cmp, ordering_then}
 use Rattle.std.specs.List.{AllByRecursion}
@@ -10,6 +10,7 @@ use Rattle.std.specs.Map.{keys_of}
 use Rattle.std.specs.BTreeMap.{IsOrdered}
 use Rattle.std.specs.Cmp.{tied_itself}
 use Rattle.std.proofs.lemmas.Cmp.{nat_cmp_total}
+use Rattle.std.proofs.lemmas.List.{nil_from_length}
 use Rattle.token_stacks.specs.Signatures.{Boxes}
 use Rattle.token_stacks.specs.Order.{box_cmp}
 use Rattle.fork_join.specs.Entries.{Entry, Key, key_cmp}
@@ -27,11 +28,6 @@ abbrev Rises : List (Key × Entry) → Type 0
 Rises [] = Unit {0}
 Rises (e ∷ es) = Before e.0 es × Rises es
 
--- a list without length
-none_left : {A : Type 0} (es : List A) → length es ≡ 0 → es ≡ []
-none_left [] h = refl
-none_left (e ∷ es) h = cc
-
 -- what is below the first goes before it
 put_first : (k : Key) (x : Entry) (es : List (Key × Entry)) → Before k es → put key_cmp k x es ≡ (k, x) ∷ es
 put_first k x [] h = refl
@@ -39,7 +35,7 @@ put_first k x (e ∷ es) h = ap (λ r. by_order r ((k, x) ∷ e ∷ es) ((e.0, x
 
 -- a list whose keys rise is the list of entries of its map
 risen : (es : List (Key × Entry)) → Rises es → entries (from_entries {R = key_cmp} es) ≡ es
-risen [] h = none_left _ (sym (len-entries (empty {R = key_cmp})) ∙ len-empty key_cmp Entry)
+risen [] h = nil_from_length _ (sym (len-entries (empty {R = key_cmp})) ∙ len-empty key_cmp Entry)
 risen (e ∷ es) h =
     entries-insert key_total (from_entries es) e.0 e.1
     ∙ ap (put key_cmp e.0 e.1) (risen es h.1)

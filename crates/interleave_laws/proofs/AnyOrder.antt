@@ -5,6 +5,7 @@
 use Rattle.std.proofs.Common.{◌≡◌, ◌≢◌, ℕ, suc, ◌<◌, List, [], ◌∷◌, ◌++◌, length, Option, Some, None, refl, sym}
 use Rattle.std.proofs.Common.{ap, ◌∙◌, subst, drop}
 use Rattle.std.proofs.Common.{⊎_elim, cond, arith}
+use Rattle.std.proofs.lemmas.Option.{same_Some}
 use Rattle.pcf_values.specs.declared.val.Val.{Val}
 use Rattle.token_stacks.specs.Signatures.{Boxes}
 use Rattle.fork_join.specs.Entries.{Entry, pending, has_left, has_right, kept_as}
@@ -21,10 +22,6 @@ use Rattle.interleave_laws.proofs.Reached.{made_of}
 use Rattle.interleave_laws.proofs.Running.{one_place, low, run_append}
 use Rattle.interleave_laws.proofs.Diamond.{tokens_self, tokens_born, tokens_other, tokens_from, diamond}
 
--- of one option
-one_token : (x y : TokenTree) → Some x ≡ Some y → x ≡ y
-one_token x y h = cc
-
 -- a token that one ticket alone has, in two states of which the second has all tokens of the first
 module _ (S T : State) (i j : ℕ) (x : TokenTree) (here : T.tokens j ≡ Some x) (alone : (k : ℕ) → S.tokens k ≡ Some x → k ≡ i)
     (low : (k : ℕ) (y : TokenTree) → T.tokens k ≡ Some y → k < T.next) (stays : (y : TokenTree) → StandsIn S y →
@@ -39,7 +36,7 @@ module _ (S T : State) (i j : ℕ) (x : TokenTree) (here : T.tokens j ≡ Some x
       beside : (k ≡ i → ⊥) → S.tokens k ≡ Some y → StandsIn T y → StandsIn (made_of e T j) y
       beside differs old (m, there) =
           let apart : m ≡ j → ⊥ =
-          λ q. let same = one_token y x (sym there ∙ ap T.tokens q ∙ here) in differs (alone k (old ∙ ap Some same)) in
+          λ q. let same = same_Some y x (sym there ∙ ap T.tokens q ∙ here) in differs (alone k (old ∙ ap Some same)) in
           let below : m ≡ T.next → ⊥ = λ q. let l = low m y there in omega (arith, l, q) in
           (m, tokens_other T j e m apart below ∙ there)
 

@@ -13,7 +13,7 @@ use Rattle.net_build.specs.Sound.{Sound}
 use Rattle.move_rules.specs.Places.{Place, up, down, turned, TokenTree, ask, ans}
 use Rattle.move_rules.specs.Table.{on_found, plain_up, plain_down, or_else}
 use Rattle.move_rules.specs.Moves.{dead, pass, one, test, two, pass_at, look_up, look}
-use Rattle.move_rules.proofs.Rows.{turned_twice}
+use Rattle.move_rules.proofs.Rows.{turned_twice, from_found}
 use Rattle.interleave_laws.proofs.Parents.{branch_parent, parent, above_operand, turned_option, Fork, known}
 use Rattle.interleave_laws.proofs.Tree.{Tree, asking, coming, kept, passed, applied, tested, chosen, forked, Open, Valid, token_in}
 use Rattle.interleave_laws.proofs.Tree.{ancestor}
@@ -132,11 +132,6 @@ some_live (forked k op s a b l r) p o net v = go v.1 (λ o. some_live l a o net 
     go (inr o) f g = let (j, x, e) = g o in let (y, e') = or_any (token_in l a j) x in (j, y, ap (or_else (token_in l a j)) e ∙ e')
 
 -- a question that goes down a way that was asked meets the end of that way, where nothing fits
-found_some : {A : Type 0} (o : Option (ℕ × Node)) (f : ℕ → Node → Option A) (r : A) → on_found o None f ≡ Some r →
-    (i : ℕ) × (n : Node) × (o ≡ Some (i, n)) × (f i n ≡ Some r)
-found_some None f r h = cc
-found_some (Some p) f r h = (p.0, p.1, refl, h)
-
 turn_down : (i : ℕ) (n : Node) (m : Work) (t : Boxes) (w : ℕ) (r : Place) →
     above_operand n m t (turned_option (plain_down n w m t)) ≡ Some r → (pass_at i (plain_down n w m t) ≡ dead) ⊎
     (pass_at i (plain_down n w m t) ≡ pass i (turned r))
@@ -172,9 +167,9 @@ turn_up i n w m t r h = go (plain_up n w m t) h
 pub turned_look : (net : NetTree) (q r : Place) → parent net q ≡ Some r → (look net (turned q) ≡ dead) ⊎
     ((i : ℕ) × (look net (turned q) ≡ pass i (turned r)))
 turned_look net (up w m t) r h =
-    let (i, n, e, g) = found_some (node_below net w) (λ i n. above_operand n m t (turned_option (plain_down n w m t))) r h in
+    let (i, n, e, g) = from_found (node_below net w) (λ i n. above_operand n m t (turned_option (plain_down n w m t))) r h in
     let z = ap (λ o. on_found o dead (λ i n. pass_at i (plain_down n w m t))) e in
     ⊎_elim (λ y. inl (z ∙ y)) (λ y. inr (i, z ∙ y)) (turn_down i n m t w r g)
 turned_look net (down w m t) r h =
-    let (i, n, e, g) = found_some (node_above net w) (λ i n. turned_option (plain_up n w m t)) r h in
+    let (i, n, e, g) = from_found (node_above net w) (λ i n. turned_option (plain_up n w m t)) r h in
     inr (i, ap (λ o. on_found o dead (λ i n. look_up i n w m t)) e ∙ turn_up i n w m t r g)

@@ -3,7 +3,7 @@
 -- tickets; or they are both answers of one entry, and then the token that goes on has the other's ticket and is else the same.
 use Rattle.std.proofs.Common.{◌≡◌, ◌≢◌, ◌⊎◌, ℕ, suc, ◌<◌, ◌≤◌, Bool, true, false, cond, List, [], ◌∷◌}
 use Rattle.std.proofs.Common.{◌++◌, Option, Some, None, refl, sym, ap, ◌∙◌, subst, ⊎_elim, inl, inr, arith}
-use Rattle.std.proofs.lemmas.Bool.{eq-eqb, ne_eqb, eqb-true, eqb-false}
+use Rattle.std.proofs.lemmas.Bool.{eq-eqb, ne_eqb, eqb-true, eqb-false, false_from_ne_true}
 use Rattle.std.specs.Prelude.{nat_eq, if◌then◌else◌, slice_get}
 use Rattle.pcf_values.specs.declared.val.Val.{Val}
 use Rattle.pcf_values.specs.Values.{val_op}
@@ -200,10 +200,6 @@ reads stay n t = false
 abbrev Clear : (ℕ → Boxes → Bool) → (ℕ → Boxes → Bool) → Type 0
 Clear a b = (n : ℕ) (t : Boxes) → a n t ≡ true → b n t ≡ true → ⊥
 
-some_true : (b : Bool) → (b ≡ true → ⊥) → b ≡ false
-some_true true h = absurd (h refl)
-some_true false h = refl
-
 -- the effect stays where the entry that it reads stays
 same_effect : (m : Move) (E F : Entries) → ((n : ℕ) (t : Boxes) → reads m n t ≡ true → E n t ≡ F n t) →
     effect_of m E ≡ effect_of m F
@@ -245,7 +241,7 @@ key_reads (answer v) E e n t h g = cc
 key_reads stay E e n t h g = cc
 
 -- where both joins are at one node their conclusions are one
-solo_no_join : (i : ℕ) (o : Option Place) (f : Place → TokenTree) (n : ℕ) (op : Operator) (d : Side) (v : Val) (w : ℕ) (s : Boxes) →
+pub solo_no_join : (i : ℕ) (o : Option Place) (f : Place → TokenTree) (n : ℕ) (op : Operator) (d : Side) (v : Val) (w : ℕ) (s : Boxes) →
     solo_at i o f ≡ join n op d v w s → ⊥
 solo_no_join i None f n op d v w s h = cc
 solo_no_join i (Some p) f n op d v w s h = cc
@@ -299,7 +295,7 @@ found_move : (o : Option (ℕ × Node)) (f : ℕ → Node → Move) (m : Move) �
 found_move None f m c h = absurd (c (sym h))
 found_move (Some p) f m c h = (p.0, p.1, refl, h)
 
-ask_no_join : (l : Look) (p : Place) (n : ℕ) (op : Operator) (d : Side) (v : Val) (w : ℕ) (s : Boxes) →
+pub ask_no_join : (l : Look) (p : Place) (n : ℕ) (op : Operator) (d : Side) (v : Val) (w : ℕ) (s : Boxes) →
     ask_move l p ≡ join n op d v w s → ⊥
 ask_no_join dead p n op d v w s h = cc
 ask_no_join (constant k x) p n op d v w s h = cc
@@ -604,10 +600,10 @@ module _ (net : NetTree) (runs : Runs net) where
       same S i j d low li lj e f e' f' m l fe ff ff' fe' (inl clear) =
           let keep_l : effect_of l (on_entries e S.entries) ≡ effect_of l S.entries =
           same_effect l _ _ (λ n t r. entries_other e S.entries n t
-          (some_true (at_key e n t) (λ k. clear n t (key_reads m S.entries e n t fe k) r))) in
+          (false_from_ne_true (at_key e n t) (λ k. clear n t (key_reads m S.entries e n t fe k) r))) in
           let keep_m : effect_of m (on_entries f S.entries) ≡ effect_of m S.entries =
           same_effect m _ _ (λ n t r. entries_other f S.entries n t
-          (some_true (at_key f n t) (λ k. clear n t r (key_reads l S.entries f n t ff k)))) in
+          (false_from_ne_true (at_key f n t) (λ k. clear n t r (key_reads l S.entries f n t ff k)))) in
           let qf : Some f ≡ Some f' = sym (keep_l ∙ ff) ∙ ff' in
           let qe : Some e ≡ Some e' = sym (keep_m ∙ fe) ∙ fe' in
           let pf : f ≡ f' = cc in

@@ -24,7 +24,7 @@ same_count : (f : FinMap nat_cmp TokenTree) (i : ℕ) (x y : TokenTree) → fini
 same_count f i x y e = len-insert nat_cmp_total f i y ∙ ap (λ o. cond (is_some o) (finite.len f) (finite.len f + 1)) e
 
 -- a token more is one more at most
-one_more : (f : FinMap nat_cmp TokenTree) (i : ℕ) (y : TokenTree) → finite.len (finite.insert f i y) ≤ finite.len f + 1
+pub one_more : (f : FinMap nat_cmp TokenTree) (i : ℕ) (y : TokenTree) → finite.len (finite.insert f i y) ≤ finite.len f + 1
 one_more f i y = subst (λ n. n ≤ finite.len f + 1) (sym (len-insert nat_cmp_total f i y))
     (either (is_some (finite.get f i)) (finite.len f))
   where

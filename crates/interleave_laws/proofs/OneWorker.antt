@@ -12,7 +12,7 @@ use Rattle.interleave_laws.specs.Runs.{LeadsTo, Runs}
 use Rattle.interleave_laws.specs.Finished.{Finished}
 use Rattle.interleave_laws.specs.OneWorker.{or_next, least_from, least_live, on_step, on_least, one_from, one}
 use Rattle.interleave_laws.specs.OneWorkerLaws.{FirstFrom, IsOneWorkers, Least}
-use Rattle.interleave_laws.proofs.Running.{low, run_append, has_step, answered_idle, idle_answered}
+use Rattle.interleave_laws.proofs.Running.{low, has_step, answered_idle, idle_answered, run_append, run_on}
 
 -- what the search finds is live, and nothing before it is
 pub least_found : (f : Tokens) (n k i : ℕ) → least_from f k n ≡ Some i → FirstFrom f k i
@@ -152,22 +152,11 @@ module _ (net : NetTree) (runs : Runs net) where
           subst (Goes S (suc b)) (sym (ap (λ o. on_step i o (λ T. one_from net T b)) s))
           (U, ap (λ o. then_run o (λ S. run net S (one_from net T b))) s ∙ r, omega arith, λ q. ap suc (g q))
 
-  -- two runs, one after the other
-  run_on : (log more : List ℕ) (S T U : State) → run net S log ≡ Some T → run net T more ≡ Some U →
-      run net S (log ++ more) ≡ Some U
-  run_on [] more S T U h g = let q : S ≡ T = cc in ap (λ S. run net S more) q ∙ g
-  run_on (i ∷ log) more S T U h g = go (step net S i) (λ V. run_on log more V T U) h
-    where
-      go : (o : Option State) → ((V : State) → run net V log ≡ Some T → run net T more ≡ Some U →
-          run net V (log ++ more) ≡ Some U) → then_run o (λ S. run net S log) ≡ Some T →
-          then_run o (λ S. run net S (log ++ more)) ≡ Some U
-      go None f h = cc
-      go (Some V) f h = f V h g
-
   -- every log is finished by the least live tickets, by an answer or at the bound
   pub one_finishes : (log : List ℕ) (S : State) → LeadsTo net log S → (b : ℕ) → let more = one_from net S b in (T : State) ×
       LeadsTo net (log ++ more) T × Finished T.answered more b
-  one_finishes log S h b = let (T, g, l, f) = goes b log S h in (T, run_on log (one_from net S b) (start (start_of net)) S T h g, (l, f))
+  one_finishes log S h b =
+      let (T, g, l, f) = goes b log S h in (T, run_on net log (one_from net S b) (start (start_of net)) S T h g, (l, f))
 
   -- the one worker's log leads to a state
   pub one_leads : (b : ℕ) → (S : State) × LeadsTo net (one net b) S

@@ -21,10 +21,10 @@ module _ (net : NetTree) where
   effect_moves E x (closes n s y) (op, d, v, w, e, u, h, g, g2, g3) z = cc
 
 module _ (net : NetTree) (sound : Sound net) (starts : Starts net (start_of net)) where
-  -- each live ticket has its step
-  pub progress : Runs net → (log : List ℕ) (S : State) → LeadsTo net log S → (i : ℕ) (x : TokenTree) → S.tokens i ≡ Some x →
-      (S' : State) × (step net S i ≡ Some S')
-  progress runs log S h i x e = go (reached net sound (start_of net) starts log S h)
+  -- a live ticket whose token has a move has its step, whatever other tokens have
+  pub moving_steps : (log : List ℕ) (S : State) → LeadsTo net log S → (i : ℕ) (x : TokenTree) → S.tokens i ≡ Some x →
+      (move net x ≡ stay → ⊥) → (S' : State) × (step net S i ≡ Some S')
+  moving_steps log S h i x e moving = go (reached net sound (start_of net) starts log S h)
     where
       go : Accounted net (start_of net) (length log) S → (S' : State) × (step net S i ≡ Some S')
       go (inr o) = let bad : None ≡ Some x = sym (o.no_tokens i) ∙ e in absurd cc
@@ -33,5 +33,10 @@ module _ (net : NetTree) (sound : Sound net) (starts : Starts net (start_of net)
           end : Outcome net S.entries i S.next x t (start_of net) → (S' : State) × (step net S i ≡ Some S')
           end (inl (v, m, _, q)) =
               (_, ap (λ o. step_on net o S i) e ∙ ap (λ m. act m S i) (ap (move net) q ∙ ends net sound (start_of net) starts v))
-          end (inr (inl (q, y, l))) = absurd (runs.moves log S h i x e (ap (move net) y ∙ ap (λ l. ask_move l q) l))
+          end (inr (inl (q, y, l))) = absurd (moving (ap (move net) y ∙ ap (λ l. ask_move l q) l))
           end (inr (inr y)) = (made_of y.effect S i, ap (λ o. step_on net o S i) e ∙ does_step net S i x y.effect y.does)
+
+  -- so each live ticket has its step
+  pub progress : Runs net → (log : List ℕ) (S : State) → LeadsTo net log S → (i : ℕ) (x : TokenTree) → S.tokens i ≡ Some x →
+      (S' : State) × (step net S i ≡ Some S')
+  progress runs log S h i x e = moving_steps log S h i x e (runs.moves log S h i x e)

@@ -68,6 +68,12 @@ join_does S i n op d v w s pending u h = cc
 join_does S i n op d v w s (has_left z) u h = ap (λ o. last_on o S i n w s) h
 join_does S i n op d v w s (has_right z) u h = ap (λ o. last_on o S i n w s) h
 
+-- a run goes on from its first step
+pub from_run : (o : Option State) (f : State → Option State) (S : State) → then_run o f ≡ Some S → (S' : State) × (o ≡ Some S') ×
+    (f S' ≡ Some S)
+from_run None f S h = cc
+from_run (Some S') f S h = (S', refl, h)
+
 module _ (net : NetTree) where
   -- an effect is a step
   pub does_step : (S : State) (i : ℕ) (x : TokenTree) (e : Effect) → Does net S.entries x e →
@@ -223,12 +229,6 @@ module _ (net : NetTree) (sound : Sound net) (p : Place) (starts : Starts net p)
   -- and is accounted for
   start_accounted : Accounted net p zero (start p)
   start_accounted = inl (asking zero, start_live)
-
-  -- a run goes on from its first step
-  from_run : (o : Option State) (f : State → Option State) (S : State) → then_run o f ≡ Some S → (S' : State) × (o ≡ Some S') ×
-      (f S' ≡ Some S)
-  from_run None f S h = cc
-  from_run (Some S') f S h = (S', refl, h)
 
   -- each run keeps the account
   run_keeps : (log : List ℕ) (n : ℕ) (S S' : State) → Accounted net p n S → run net S log ≡ Some S' →

@@ -5,6 +5,7 @@ use Rattle.std.proofs.Common.{◌≡◌, ℕ, zero, suc, ◌≤◌, Bool, true, 
 use Rattle.std.proofs.Common.{Some, None, refl, sym, ap, ◌∙◌, subst, ◌<◌, ⊎_elim, inl, inr, arith}
 use Rattle.std.proofs.lemmas.Bool.{cases_eq, cases_lt}
 use Rattle.std.specs.Prelude.{slice_get, nat_eq}
+use Rattle.std.proofs.lemmas.Option.{same_Some}
 use Rattle.pcf_values.specs.declared.val.Val.{Val}
 use Rattle.pcf_values.specs.Values.{at_zero}
 use Rattle.token_stacks.specs.Signatures.{Boxes}
@@ -39,18 +40,22 @@ pub starts_of : (net : NetTree) → Sound net → Starts net (start_of net)
 starts_of net s = let (i, e) = some_root net.nodes (let one = s.one_root in omega arith) in
     record { out = root_wire net.nodes; at = i; is = refl; root = e }
 
+-- two runs, one after the other
+pub run_on : (net : NetTree) (log more : List ℕ) (S T U : State) → run net S log ≡ Some T → run net T more ≡ Some U →
+    run net S (log ++ more) ≡ Some U
+run_on net [] more S T U h g = ap (λ S. run net S more) (same_Some S T h) ∙ g
+run_on net (i ∷ log) more S T U h g = go (step net S i) (λ V. run_on net log more V T U) h
+  where
+    go : (o : Option State) → ((V : State) → run net V log ≡ Some T → run net T more ≡ Some U →
+        run net V (log ++ more) ≡ Some U) → then_run o (λ S. run net S log) ≡ Some T →
+        then_run o (λ S. run net S (log ++ more)) ≡ Some U
+    go None f h = cc
+    go (Some V) f h = f V h g
+
 -- a run and a step behind it
 pub run_append : (net : NetTree) (log : List ℕ) (S T U : State) (i : ℕ) → run net S log ≡ Some T → step net T i ≡ Some U →
     run net S (log ++ i ∷ []) ≡ Some U
-run_append net [] S T U i h g = let e : S ≡ T = cc in ap (λ S. then_run (step net S i) (λ S. Some S)) e ∙
-    ap (λ o. then_run o (λ S. Some S)) g
-run_append net (j ∷ log) S T U i h g = go (step net S j) (λ V. run_append net log V T U i) h
-  where
-    go : (o : Option State) → ((V : State) → run net V log ≡ Some T → step net T i ≡ Some U →
-        run net V (log ++ i ∷ []) ≡ Some U) → then_run o (λ S. run net S log) ≡ Some T →
-        then_run o (λ S. run net S (log ++ i ∷ [])) ≡ Some U
-    go None f h = cc
-    go (Some V) f h = f V h g
+run_append net log S T U i h g = run_on net log (i ∷ []) S T U h (ap (λ o. then_run o (λ S. Some S)) g)
 
 -- a question that meets nothing has no value
 no_value : (net : NetTree) (p : Place) (v : Val) (n : ℕ) → look net p ≡ dead → Gives net p v n → ⊥

@@ -1,6 +1,7 @@
 -- The node that a token faces, and its move there.
 use Rattle.std.proofs.Common.{◌≡◌, ℕ, zero, true, cond, List, length, Option, Some, None, refl, sym, ap, ◌∙◌, arith}
 use Rattle.std.specs.Prelude.{nat_lt, slice_get}
+use Rattle.std.proofs.lemmas.Option.{same_Some}
 use Rattle.net_build.specs.declared.node.Node.{Node}
 use Rattle.net_build.specs.Nets.{NetTree, premises, conclusions}
 use Rattle.net_build.specs.Faces.{least, node_above, node_below}
@@ -43,16 +44,13 @@ node_met net p i h = go (facing net p) refl h
         let z : i ≡ j = cc in
         (n, ap (slice_get net.nodes) z ∙ (met net p j n q).stands, q ∙ ap (λ k. Some (k, n)) (sym z))
 
-pub one_some : {A : Type 0} (x y : A) → Some x ≡ Some y → x ≡ y
-one_some x y h = cc
-
 pub found_is : (net : NetTree) (p : Place) (i : ℕ) (n : Node) (f : Option ℕ) (o : Option Node) → f ≡ number_of (facing net p) →
     f ≡ Some i
     → o ≡ slice_get net.nodes i → o ≡ Some n
     → Some (i, n) ≡ facing net p
 found_is net p i n f o h e g q =
     let (m, s, r) = node_met net p i (sym e ∙ h) in
-    ap (λ m. Some (i, m)) (one_some n m (sym q ∙ g ∙ s)) ∙ sym r
+    ap (λ m. Some (i, m)) (same_Some n m (sym q ∙ g ∙ s)) ∙ sym r
 
 pub found_none : (net : NetTree) (p : Place) (i : ℕ) (f : Option ℕ) (o : Option Node) → f ≡ number_of (facing net p) →
     f ≡ Some i

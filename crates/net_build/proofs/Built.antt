@@ -462,11 +462,11 @@ has_all nodes (k ∷ ks) pre =
     (nth_seam pre k ks, subst (λ n. Has (record { wires = pre ++ k ∷ ks; nodes = nodes }) n ks) n rest')
 
 -- a wire past the new ones, before them, and among them
-made_past : (n : ℕ) (ks : List WireTree) (w : ℕ) → n + length ks ≤ w → made n ks w ≡ 0
+pub made_past : (n : ℕ) (ks : List WireTree) (w : ℕ) → n + length ks ≤ w → made n ks w ≡ 0
 made_past n [] w h = refl
 made_past n (k ∷ ks) w h = let r = made_past (suc n) ks w (omega arith) in let e = ne_eqb n w (λ q. omega arith) in rw e (omega arith)
 
-made_before : (n : ℕ) (ks : List WireTree) (w : ℕ) → w < n → made n ks w ≡ 0
+pub made_before : (n : ℕ) (ks : List WireTree) (w : ℕ) → w < n → made n ks w ≡ 0
 made_before n [] w h = refl
 made_before n (k ∷ ks) w h = let r = made_before (suc n) ks w (omega arith) in let e = ne_eqb n w (λ q. omega arith) in rw e (omega arith)
 

@@ -1,8 +1,9 @@
 -- What was added, step by step.
-use Rattle.std.proofs.Common.{◌≡◌, ℕ, zero, suc, List, [], ◌∷◌, length, refl, subst, sym, ap, ◌++◌, ◌+◌, ◌<◌, ◌∙◌, map, Some, arith}
+use Rattle.std.proofs.Common.{◌≡◌, ℕ, List, [], ◌∷◌, length, refl, subst, sym, ap, ◌++◌, ◌+◌, ◌<◌, ◌∙◌, map, Some, arith}
 use Rattle.std.specs.Prelude.{slice_get}
 use Rattle.std.proofs.lemmas.List.{append_assoc, append-nil, length-append, length-map}
 use Rattle.pcf_values.specs.Terms.{nat, num}
+use Rattle.pcf_values.proofs.Plain.{get_front}
 use Rattle.net_build.specs.declared.node.Node.TheVariants.{Const}
 use Rattle.net_build.specs.declared.node.Node.{Node}
 use Rattle.net_build.specs.Nets.{WireTree, value_wire}
@@ -33,12 +34,6 @@ grows_length a b ws ns g =
     sym (length-map b.wires.items wire_of) ∙ ap length g.wires ∙ length-append (map wire_of a.wires.items) ws
     ∙ ap (λ n. n + length ws) (length-map a.wires.items wire_of)
 
--- an entry of the first of two lists, and the entry between them
-entry_left : {A : Type 0} (xs ys : List A) (i : ℕ) → i < length xs → slice_get (xs ++ ys) i ≡ slice_get xs i
-entry_left [] ys i h = absurd (omega arith)
-entry_left (x ∷ xs) ys zero h = refl
-entry_left (x ∷ xs) ys (suc i) h = entry_left xs ys i (omega arith)
-
 -- the entry between two lists
 entry_between : {A : Type 0} (xs ys : List A) (y : A) → slice_get (xs ++ y ∷ ys) (length xs) ≡ Some y
 entry_between [] ys y = refl
@@ -49,7 +44,7 @@ pub kept_type : (a b : Parts) (ws : List WireTree) (ns : List Node) (w : ℕ) �
     → wire_type b w ≡ wire_type a w
 kept_type a b ws ns w g h =
     ap type_on (ap (λ l. slice_get l w) g.wires
-    ∙ entry_left (map wire_of a.wires.items) ws w (omega (arith, h, length-map a.wires.items wire_of)))
+    ∙ get_front (map wire_of a.wires.items) ws w (omega (arith, h, length-map a.wires.items wire_of)))
 
 -- a wire is still one of the wires
 pub kept_inside : (a b : Parts) (ws : List WireTree) (ns : List Node) (w : ℕ) → Grows a b ws ns → w < length a.wires.items

@@ -6,6 +6,7 @@ use Rattle.std.proofs.lemmas.Bool.{cases_lt}
 use Rattle.net_build.specs.declared.node.Node.{Node}
 use Rattle.net_build.specs.Nets.{NetTree}
 use Rattle.net_build.specs.Sound.{In, Sound, roots}
+use Rattle.net_build.proofs.Entries.{in_at}
 use Rattle.net_check.specs.declared.fault.NetFault.{NetFault}
 use Rattle.net_check.specs.declared.fault.NetFault.TheVariants.{NoMemory, LooseWire, TypeClash, DepthClash, RootCount}
 use Rattle.net_check.specs.Rows.{TypesMeet, DepthsMeet}
@@ -17,11 +18,6 @@ place_of_in : (n : Node) (ns : List Node) → In n ns → (i : ℕ) × (i < leng
 place_of_in n [] h = elim h [ ]
 place_of_in n (m ∷ ns) (inl e) = (zero, omega arith, ap Some (sym e))
 place_of_in n (m ∷ ns) (inr h) = let (i, l, e) = place_of_in n ns h in (suc i, omega arith, e)
-
-in_at_place : (n : Node) (ns : List Node) (i : ℕ) → slice_get ns i ≡ Some n → In n ns
-in_at_place n [] i e = cc
-in_at_place n (m ∷ ns) zero e = let q : n ≡ m = cc in inl q
-in_at_place n (m ∷ ns) (suc i) e = inr (in_at_place n ns i e)
 
 pub sound_of : (net : NetTree) → roots net.nodes ≡ 1 → ((n : ℕ) → Held net n) → MeetBelow net (length net.nodes) → Sound net
 sound_of net r h m = record {
@@ -37,8 +33,8 @@ held_of net s n = (s.once n, s.outside n)
 pub fault_unsound : (net : NetTree) (e : NetFault) → FirstFault net e → Sound net → ⊥
 fault_unsound net _ (root_count r) s = r s.one_root
 fault_unsound net _ (loose_wire n r m h) s = h (held_of net s n)
-fault_unsound net _ (type_clash n node r h m e t) s = t (meets_types net node (s.rows node (in_at_place node net.nodes n e)))
-fault_unsound net _ (depth_clash n node r h m e t d) s = d (meets_depths net node (s.rows node (in_at_place node net.nodes n e)))
+fault_unsound net _ (type_clash n node r h m e t) s = t (meets_types net node (s.rows node (in_at node net.nodes n e)))
+fault_unsound net _ (depth_clash n node r h m e t d) s = d (meets_depths net node (s.rows node (in_at node net.nodes n e)))
 
 pub row_fault_first : (net : NetTree) (e : NetFault) → roots net.nodes ≡ 1 → ((n : ℕ) → Held net n) → RowFault net e → FirstFault net e
 row_fault_first net _ r h (in_types n node m e t) = type_clash n node r h m e t

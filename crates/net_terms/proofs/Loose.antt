@@ -7,6 +7,7 @@ use Rattle.pcf_values.specs.Typing.{HasType}
 use Rattle.net_build.specs.Nets.{WireTree}
 use Rattle.net_build.specs.NetOf.{contract, doors, bound, bound_wire, part}
 use Rattle.net_build.proofs.Count.{ends, made, Aligned, contract_counted, counted}
+use Rattle.net_build.proofs.Built.{made_past, made_before}
 use Rattle.net_terms.proofs.Marking.{hit, hit_same, inside}
 
 -- other wires don't count
@@ -17,22 +18,12 @@ hit_off x y h = ap (λ b. if b then 1 else 0) (ne_eqb x y h)
 pub hit_most : (x y : ℕ) → hit x y ≤ 1
 hit_most x y = elim (cases_eq x y) [ inl e ↦ omega (arith, ap (hit x) e, hit_same x) | inr e ↦ omega (arith, hit_off x y e) ]
 
--- new wires are not before the first
-pub made_low : (n : ℕ) (ws : List WireTree) (w : ℕ) → w < n → made n ws w ≡ 0
-made_low n [] w h = refl
-made_low n (k ∷ ks) w h = omega (arith, hit_off n w (λ e. omega (arith, e, h)), made_low (suc n) ks w (omega (arith, h)))
-
--- nor behind the last
-pub made_high : (n : ℕ) (ws : List WireTree) (w : ℕ) → n + length ws ≤ w → made n ws w ≡ 0
-made_high n [] w h = refl
-made_high n (k ∷ ks) w h = omega (arith, hit_off n w (λ e. omega (arith, e, h)), made_high (suc n) ks w (omega (arith, h)))
-
--- and each is one
+-- each new wire is one
 pub made_once : (n : ℕ) (ws : List WireTree) (w : ℕ) → made n ws w ≤ 1
 made_once n [] w = omega arith
 made_once n (k ∷ ks) w =
     elim (cases_eq n w) [
-      | inl e ↦ omega (arith, hit_most n w, made_low (suc n) ks w (omega (arith, e)))
+      | inl e ↦ omega (arith, hit_most n w, made_before (suc n) ks w (omega (arith, e)))
       | inr e ↦ omega
           (arith, hit_off n w e, made_once (suc n) ks w)
     ]
@@ -51,8 +42,8 @@ part_loose m n d g a h =
     let c = counted m n d g a h in
     record {
       once = λ y. omega (arith, c.downs y, made_once n p.wires y);
-      low = λ y l. omega (arith, c.downs y, made_low n p.wires y l);
-      high = λ y l. omega (arith, c.downs y, made_high n p.wires y l);
+      low = λ y l. omega (arith, c.downs y, made_before n p.wires y l);
+      high = λ y l. omega (arith, c.downs y, made_past n p.wires y l);
     }
 
 -- the variables behind doors
@@ -81,20 +72,20 @@ contract_loose n d a b g f f' aligned aligned' first second low high =
     record {
       once = λ y. elim (cases_lt y n) [
         | inl k ↦ elim (cases_lt y b) [
-          | inl j ↦ omega (arith, c.downs y, made_low n ws y k, first.once y, second.low y j)
+          | inl j ↦ omega (arith, c.downs y, made_before n ws y k, first.once y, second.low y j)
           | inr j ↦ omega
-              (arith, c.downs y, made_low n ws y k, second.once y, first.high y j)
+              (arith, c.downs y, made_before n ws y k, second.once y, first.high y j)
         ]
         | inr k ↦ omega (arith, c.downs y, made_once n ws y, first.high y (omega (arith, high, k)), second.high y k)
       ];
       low = λ y k. omega (
         arith,
         c.downs y,
-        made_low n ws y (omega (arith, k, low, high)),
+        made_before n ws y (omega (arith, k, low, high)),
         first.low y k,
         second.low y (omega (arith, k, low)),
       );
-      high = λ y k. omega (arith, c.downs y, made_high n ws y k, first.high y (omega (arith, k, high)), second.high y (omega (arith, k)));
+      high = λ y k. omega (arith, c.downs y, made_past n ws y k, first.high y (omega (arith, k, high)), second.high y (omega (arith, k)));
     }
 
 -- both lists together

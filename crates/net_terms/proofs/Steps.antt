@@ -1,6 +1,6 @@
 -- A part is read where its operands are, whatever stands around it.
 use Rattle.std.proofs.Common.{◌≡◌, ℕ, zero, suc, ◌+◌, ◌<◌, ◌≤◌, List, [], ◌∷◌, ◌++◌, length, length-append, Option, Some, None, refl, ap}
-use Rattle.std.proofs.Common.{◌∙◌, subst, inl, inr, arith}
+use Rattle.std.proofs.Common.{◌∙◌, subst, inl, inr, arith, le_trans, lt_of_lt_of_le}
 use Rattle.std.specs.Prelude.{nat_eq, if◌then◌else◌, slice_get, slice_set}
 use Rattle.std.proofs.lemmas.Bool.{cases_lt, eq-eqb}
 use Rattle.std.proofs.lemmas.List.{length-set}
@@ -148,17 +148,9 @@ up n a = omega arith
 up_two : (n a b : ℕ) → n ≤ n + a + b
 up_two n a b = omega arith
 
--- what is past a later number is past an earlier one
-past : (n m y : ℕ) → n ≤ m → m ≤ y → n ≤ y
-past n m y u v = omega arith
-
 -- what is before an earlier number is before a later one
 before : (y n a : ℕ) → y < n → y < n + a
 before y n a u = omega arith
-
--- the same, by a bound
-under : (y n m : ℕ) → y < n → n ≤ m → y < m
-under y n m u v = omega arith
 
 -- a bound on one length bounds another that is the same
 as_long : (n a b : ℕ) → b ≡ a → n ≤ a → n ≤ b
@@ -394,7 +386,7 @@ ifz_reads ws h n d context a b b' part part' part'' ac ap' aq lc lp lq ic ip iq 
     let long = length (ifz_part n d context part part' part'').wires in
     let r = length j.wires + 1 in
     let fit = within long n (length part.wires) (length part'.wires) (length part''.wires) (length i.wires) r (length ms) size room in
-    let after_p = past n' m m' (up_two n' (length part'.wires) (length part''.wires)) (up m (length i.wires)) in
+    let after_p = le_trans (up_two n' (length part'.wires) (length part''.wires)) (up m (length i.wires)) in
     let l = contract_loose m d n' n'' context part'.free part''.free ap' aq lp lq (up n' (length part'.wires))
     (up n'' (length part''.wires)) in
     let ns = back part.nodes more in
@@ -444,7 +436,7 @@ lam_reads ws h n d a g m part loose held ip around e more ms mk room =
     let u = marked_kept e g b.free ms ms'
     (λ y u. set_elsewhere ms v y (mark k e) (none_here (hit v y) (ends b.free y) u (bound_once n o d a part.free loose y))) mk in
     let c = length-set ms v (mark k e) in
-    let inside_v = under v (o + length b.wires) (length ms) (bound_inside n o d a part.free loose) fit.second in
+    let inside_v = lt_of_lt_of_le (bound_inside n o d a part.free loose) fit.second in
     let r = ip e e more ms' (body_marked o d e a g part.free ms' u (set_here ms v (mark k e) inside_v))
     (as_long o (length ms) (length ms') c fit.first) in
     record {
@@ -485,9 +477,9 @@ fix_reads ws h n d g a m part loose held ip around e more ms mk room =
     let li = doors_loose o' d g b.free in
     let u = marked_kept e g i.free ms ms'
     (λ y u. set_elsewhere ms v y at (not_among o' (o' + length i.wires) v i.free li inside_v y u)) mk in
-    let t = enters o' d e e' g b.free (back b.nodes ns) ms' u lb.once (λ y j. lb.high y (past o o' y (up o (length b.wires)) j))
-    (λ y j. lb.high y (past o (length ms') y (as_long o (length ms) (length ms') c fit.first) j)) in
-    let fits = under v o' (length ms) inside_v fit.second in
+    let t = enters o' d e e' g b.free (back b.nodes ns) ms' u lb.once (λ y j. lb.high y (le_trans (up o (length b.wires)) j))
+    (λ y j. lb.high y (le_trans (as_long o (length ms) (length ms') c fit.first) j)) in
+    let fits = lt_of_lt_of_le inside_v fit.second in
     let at_v = binder_kept b.free ms t.marks v at t.kept (bound_once n o (suc d) a part.free loose v) fits in
     let count = same_count ms ms' t.marks t.count c in
     let r = ip e e' more t.marks (body_marked o (suc d) e' a g part.free t.marks t.within at_v)
@@ -525,11 +517,11 @@ app_reads ws h n d g a b part part' lp lq ip iq around e more ms mk room =
     let ns = back part.nodes more in
     let ns' = back part'.nodes ns in
     let s = shares (suc o) d e e g part.free i.free (y ∷ back i.nodes ns') ms mk (both_once n n' o part.free i.free lp li')
-    (both_high n n' o (suc o) part.free i.free lp li' (past n' o (suc o) (up_two n' (length part'.wires) (length i.wires)) (next o))
+    (both_high n n' o (suc o) part.free i.free lp li' (le_trans (up_two n' (length part'.wires) (length i.wires)) (next o))
     (next o))
     (both_high n n' o (length ms) part.free i.free lp li' fit.first fit.third) in
     let room_s = as_long m (length ms) (length s.marks) s.count fit.second in
-    let t = enters m d e e' g part'.free ns' s.marks s.right lq.once lq.high (λ y j. lq.high y (past m (length s.marks) y room_s j)) in
+    let t = enters m d e e' g part'.free ns' s.marks s.right lq.once lq.high (λ y j. lq.high y (le_trans room_s j)) in
     let rq = iq e e' ns t.marks t.within (as_long m (length s.marks) (length t.marks) t.count room_s) in
     let count = same_count ms t.marks rq.marks rq.count (same_count ms s.marks t.marks t.count s.count) in
     let kept = kept_entered n' m part'.free s.marks t.marks rq.marks lq t.kept rq.kept in

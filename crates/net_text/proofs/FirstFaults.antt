@@ -3,12 +3,13 @@ use Rattle.std.proofs.Common.{◌≡◌, ◌⊎◌, ℕ, zero, suc, ◌+◌, ◌
 use Rattle.std.proofs.Common.{Option, Some, None, Ok, Err, refl, sym, ap, ◌∙◌, subst, inl, inr, arith}
 use Rattle.std.specs.Prelude.{Result, nat_lt, nat_le, if◌then◌else◌}
 use Rattle.std.specs.Str.{bytes_eq}
-use Rattle.std.proofs.lemmas.Bool.{lt-ltb, ltb-true, le-leb, leb-true, and_parts, and_from}
+use Rattle.std.proofs.lemmas.Bool.{lt-ltb, ltb-true, le-leb, leb-true, and_parts, and_from, both_ways}
 use Rattle.net_build.specs.declared.node.Node.{Node}
 use Rattle.net_build.specs.declared.node.Node.TheVariants.{Const}
 use Rattle.net_build.specs.Nets.{WireTree, NetTree}
 use Rattle.text_lines.specs.Lines.{end_line}
 use Rattle.text_lines.proofs.Numbers.{is_same, same_is}
+use Rattle.text_lines.proofs.Firsts.{others_are}
 use Rattle.net_text.specs.Listing.{wire_line, node_line, numbers_of}
 use Rattle.net_text.specs.NetText.{numbered, NodeFits, NodesFit, WiresFit, Small, ty_height}
 use Rattle.net_text.specs.Standing.{NodesStand, WiresStand}
@@ -157,10 +158,6 @@ behind_bad k n m l l' ls e f = record {
 pub first_is : (k l : List ℕ) (ks ls : List (List ℕ)) → k ∷ ks ≡ l ∷ ls → l ≡ k
 first_is k l ks ls h = cc
 
--- their other lines
-pub others_are : (k l : List ℕ) (ks ls : List (List ℕ)) → k ∷ ks ≡ l ∷ ls → ks ≡ ls
-others_are k l ks ls h = cc
-
 -- the lines behind a node's are those of the other nodes
 rest_whole : (k : ℕ) (l : List ℕ) (ls : List (List ℕ)) (ns : List Node) → NodesFit ns → numbered node_line k ns ++ end_line ∷ [] ≡ l ∷ ls
     → (l ≡ end_line → ⊥) → NodesWhole (suc k) ls
@@ -212,10 +209,6 @@ pub chosen_nodes : (b : Bool) (r s t : Result (List Node) ℕ) → (if b then r 
 chosen_nodes true r s t h = inl (refl, h)
 chosen_nodes false r s t h = inr (refl, h)
 
--- what is false is not true
-pub not_true : (b : Bool) → b ≡ false → b ≡ true → ⊥
-not_true b h g = cc
-
 -- The answer is the first bad line, of lines that stand behind the first k nodes.
 pub nodes_bad : (k n m : ℕ) (ls : List (List ℕ)) → nodes_from k n ls ≡ Err m → Bad (NodesStand k) (NodesWhole k) n m ls
 nodes_bad k n m [] h = none_bad k n m (nodes_err n m (nodes_from k n []) refl h)
@@ -223,7 +216,7 @@ nodes_bad k n m (l ∷ ls) h =
     elim (chosen_nodes (bytes_eq l end_line) (ended n ls) (and_nodes n (node_at k l) (nodes_from (suc k) (suc n) ls)) (Err m) h) [
       | inl c ↦ ended_bad k n m l ls (same_is l end_line c.0) c.1
       | inr c ↦ node_bad k n m l ls (node_at k l) (nodes_from (suc k) (suc n) ls) refl
-          (λ e. not_true (bytes_eq l end_line) c.0 (is_same l end_line e)) (nodes_bad (suc k) (suc n) m ls) c.1
+          (λ e. both_ways (bytes_eq l end_line) c.0 (is_same l end_line e)) (nodes_bad (suc k) (suc n) m ls) c.1
     ]
 
 pub record WiresWhole (h k : ℕ) (ls : List (List ℕ)) : Type 0 where

@@ -24,7 +24,7 @@ use Rattle.net_text.specs.Listing.{listing}
 use Rattle.text_lines.specs.Lines.{lines}
 use Rattle.net_text.specs.NetText.{Begins, FirstBad, NetFits, TextOf, listing_lines}
 use Rattle.net_text.specs.Steps.{AcceptsNet, NetOfText, Sorted}
-use Rattle.net_text.proofs.Listed.{listing_read}
+use Rattle.net_text.proofs.Listed.{listing_read, same_net}
 use Rattle.net_text.proofs.SmallNets.{fit_types, listing_long, term_net_fits}
 use Rattle.net_text.proofs.Splitting.{listing_split}
 
@@ -39,10 +39,6 @@ text_lines h bytes net u f e =
     let (p, q) = listing_long net in
     let l : length bytes ≡ length (listing net) = ap length e in
     ap lines e ∙ listing_split h net f (omega (arith, p, l, u)) (omega (arith, q, l, u))
-
--- one reading gives one net
-same_net : (a b : NetTree) → (let r : Result NetTree ℕ = Ok a in r ≡ Ok b) → a ≡ b
-same_net a b h = cc
 
 -- bytes are the listing of one net, whatever the bound on types
 one_net : (h : ℕ) (bytes : List ℕ) (a b : NetTree) → length bytes ≤ most_text_bytes → NetFits h a → NetFits h b → bytes ≡ listing a
@@ -193,7 +189,7 @@ abbrev ProgramOrFault : Type 0
 ProgramOrFault = Result (TermTree × TyTree) NetTextFault
 
 -- the same of bytes that are seen as accepted in two ways
-same_program : (bytes : List ℕ) (m l : TermTree) → ListsProgram bytes m → ListsProgram bytes l → m ≡ l
+pub same_program : (bytes : List ℕ) (m l : TermTree) → ListsProgram bytes m → ListsProgram bytes l → m ≡ l
 same_program bytes m l a b =
     one_term m l a.typed b.typed (one_text bytes (net_of m) (net_of l) (program_text bytes m a) (program_text bytes l b))
 

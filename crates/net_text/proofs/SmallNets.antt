@@ -7,6 +7,7 @@ use Rattle.std.specs.Prelude.{codes, if◌then◌else◌}
 use Rattle.pcf_values.specs.Terms.{TyTree, nat, arrow, product, TermTree, num, var, succ_of, pred_of, binary}
 use Rattle.pcf_values.specs.Terms.{ifz, lam, fix, app, pair, proj, height}
 use Rattle.pcf_values.specs.Typing.{HasType}
+use Rattle.pcf_values.proofs.Heights.{height_positive}
 use Rattle.net_build.specs.declared.node.Node.{Node}
 use Rattle.net_build.specs.declared.node.Node.TheVariants.{Const, Succ, Pred, Ifz, Lam, App, BoxNode, Binary, Proj}
 use Rattle.net_build.specs.declared.node.Node.TheVariants.{FixBox, Root, Pair}
@@ -143,20 +144,6 @@ unary_low : (b d w : ℕ) (node : ℕ → ℕ → Node) (t : TyTree) (p : Part) 
 unary_low b d w node t p e h i =
     join b p.wires (value_wire d t ∷ []) p.nodes (node p.out w ∷ []) i (record { wires = (h, tt); nodes = e p.out w })
 
--- a term has a height
-high : (m : TermTree) → 1 ≤ height m
-high (num v) = omega arith
-high (var i) = omega arith
-high (succ_of a) = omega arith
-high (pred_of a) = omega arith
-high (binary o a b) = omega arith
-high (ifz c p q) = omega arith
-high (lam a m) = omega arith
-high (fix a m) = omega arith
-high (app f x) = omega arith
-high (pair a b) = omega arith
-high (proj s a) = omega arith
-
 -- Each part stands no deeper than its height allows, and its constants are numbers of the code.
 part_low : (m : TermTree) (b n d : ℕ) (g : List TyTree) (a : TyTree) → HasType g m a → d + height m ≤ b
     → Low b (part n d g m).wires (part n d g m).nodes
@@ -195,7 +182,8 @@ part_low (ifz i m l) b n d g a t h =
 part_low (lam c m) b n d g a t h =
     lam_low b n d c (part n d (c ∷ g) m) (omega (arith, h)) (part_low m b n d (c ∷ g) t.0 t.1 (omega (arith, h)))
 part_low (fix c m) b n d g a t h =
-    fix_low b n d g c (part n (suc d) (c ∷ g) m) (omega (arith, h, high m)) (part_low m b n (suc d) (c ∷ g) c t.0 (omega (arith, h)))
+    fix_low b n d g c (part n (suc d) (c ∷ g) m) (omega (arith, h, height_positive m))
+    (part_low m b n (suc d) (c ∷ g) c t.0 (omega (arith, h)))
 part_low (app m l) b n d g a t h =
     let p = part n d g m in
     let k = n + length p.wires in

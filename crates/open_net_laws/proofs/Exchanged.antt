@@ -124,3 +124,8 @@ same_shape m us vs h = record {
   wire_count = ap (λ (n : NetTree). length n.wires) (applied_net m vs) ∙ wire_count (closed_part m) vs;
   node_count = ap (λ (n : NetTree). length n.nodes) (applied_net m vs) ∙ node_count (closed_part m) vs;
 }
+
+-- as many places as arguments
+pub places_length : (k n : ℕ) → length (places_from k n) ≡ n
+places_length k zero = refl
+places_length k (suc n) = ap suc (places_length (suc (suc (suc k))) n)

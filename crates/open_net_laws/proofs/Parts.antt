@@ -2,9 +2,10 @@
 use Rattle.std.proofs.Common.{◌≡◌, ◌≤◌, ℕ, zero, suc, ◌+◌, ◌*◌, max, List, [], ◌∷◌, ◌++◌, length, refl, sym, ap, ◌∙◌, subst, arith}
 use native.Mathlib.Nat.{max-eq_left}
 use Rattle.std.proofs.lemmas.List.{append_assoc, append-nil, length-append}
-use Rattle.pcf_values.specs.Terms.{TyTree, nat, TermTree, num, var, succ_of, pred_of, binary, ifz, lam, fix, app, pair, proj, size}
+use Rattle.pcf_values.specs.Terms.{TyTree, nat, TermTree, num, app, size}
 use Rattle.pcf_values.specs.Terms.{height}
 use Rattle.pcf_values.specs.Typing.{HasType}
+use Rattle.pcf_values.proofs.Heights.{height_positive}
 use Rattle.net_build.specs.declared.node.Node.{Node}
 use Rattle.net_build.specs.declared.node.Node.TheVariants.{Const, App, BoxNode, Root}
 use Rattle.net_build.specs.Nets.{WireTree, NetTree, value_wire, bang_wire}
@@ -18,20 +19,6 @@ pub has : (m : TermTree) (vs : List ℕ) → HasType [] m (numeric (length vs)) 
 has m [] h b = h
 has m (v ∷ vs) h b = has (app m (num v)) vs (nat, h, (b.0, refl)) b.1
 
--- a term has a height
-high : (m : TermTree) → 1 ≤ height m
-high (num n) = omega arith
-high (var i) = omega arith
-high (succ_of a) = omega arith
-high (pred_of a) = omega arith
-high (binary o a b) = omega arith
-high (ifz c p q) = omega arith
-high (lam a m) = omega arith
-high (fix a m) = omega arith
-high (app f x) = omega arith
-high (pair a b) = omega arith
-high (proj s a) = omega arith
-
 max_one : (h : ℕ) → 1 ≤ h → max h 1 ≡ h
 max_one h l = max-eq_left l
 
@@ -40,7 +27,7 @@ pub sizes : (m : TermTree) (vs : List ℕ) →
 sizes m [] = (omega arith, omega arith)
 sizes m (v ∷ vs) =
     let (s, h) = sizes (app m (num v)) vs in
-    let e = max_one (height m) (high m) in
+    let e = max_one (height m) (height_positive m) in
     (omega arith, omega arith)
 
 -- ---- its part

@@ -3,7 +3,7 @@ use Rattle.std.proofs.Common.{◌≡◌, ℕ, ◌<◌, ◌≤◌, Bool, true, fa
 use Rattle.std.proofs.Common.{Some, None, refl, sym, ap, ◌∙◌, subst, arith}
 use Rattle.std.specs.Prelude.{◌==◌, nat_le}
 use Rattle.std.specs.Char.{is_ascii_alphabetic}
-use Rattle.std.proofs.lemmas.Bool.{ne_eqb, leb-true, lt-leb, and_parts}
+use Rattle.std.proofs.lemmas.Bool.{ne_eqb, leb-true, lt-leb, and_parts, both_ways}
 use Rattle.unicode_ident.specs.Ident.{is_xid_continue}
 use Rattle.unicode_ident.proofs.IdentLemmas.{is_xid_start-ascii}
 use Rattle.pcf_values.specs.declared.operator.Operator.TheVariants.{Minus}
@@ -15,10 +15,6 @@ use Rattle.pcf_reader.proofs.Spelled.{sign_char}
 -- an ASCII character that is no letter and no `_` begins no name
 pub not_start : (n : ℕ) → n < 128 → (is_ascii_alphabetic n || (n == 95)) ≡ false → starts_name n ≡ false
 not_start n h e = ap (λ b. b || (n == 95)) (is_xid_start-ascii n h) ∙ e
-
--- nothing is true and false
-pub both : (b : Bool) → b ≡ false → b ≡ true → ⊥
-both b h k = let e : false ≡ true = sym h ∙ k in cc
 
 -- a sign begins no name
 pub sign_starts : (c : ℕ) (x : Token) → sign_of c ≡ Some x → starts_name c ≡ false
@@ -61,22 +57,22 @@ pub no_longer_number : (c : ℕ) (ds : List ℕ) (d : ℕ) (us l : List ℕ) (x 
     is_digit d ≡ false → Spells l x → l ≡ c ∷ (ds ++ d ∷ us) → ⊥
 no_longer_number c ds d us l x first more (sign e y h) q = nil_no ds d us (tail_is e c [] (ds ++ d ∷ us) q)
 no_longer_number c ds d us l x first more arrow q =
-    both (is_digit c) (ap is_digit (sym (head_is 45 c (62 ∷ []) (ds ++ d ∷ us) q))) first
+    both_ways (is_digit c) (ap is_digit (sym (head_is 45 c (62 ∷ []) (ds ++ d ∷ us) q))) first
 no_longer_number c ds d us l x first more (digits e es all) q =
-    both (is_digit d) more (all_at is_digit ds d us (subst (λ z. AllPass is_digit z) (tail_is e c es (ds ++ d ∷ us) q) all.1))
+    both_ways (is_digit d) more (all_at is_digit ds d us (subst (λ z. AllPass is_digit z) (tail_is e c es (ds ++ d ∷ us) q) all.1))
 no_longer_number c ds d us l x first more (word e es start rest) q =
-    both (starts_name c) (digit_starts c first) (ap starts_name (sym (head_is e c es (ds ++ d ∷ us) q)) ∙ start)
+    both_ways (starts_name c) (digit_starts c first) (ap starts_name (sym (head_is e c es (ds ++ d ∷ us) q)) ∙ start)
 
 -- nor behind a word with what goes on with none
 pub no_longer_word : (c : ℕ) (ds : List ℕ) (d : ℕ) (us l : List ℕ) (x : Token) → starts_name c ≡ true →
     is_xid_continue d ≡ false → Spells l x → l ≡ c ∷ (ds ++ d ∷ us) → ⊥
 no_longer_word c ds d us l x first more (sign e y h) q = nil_no ds d us (tail_is e c [] (ds ++ d ∷ us) q)
 no_longer_word c ds d us l x first more arrow q =
-    both (starts_name c) (ap starts_name (sym (head_is 45 c (62 ∷ []) (ds ++ d ∷ us) q)) ∙ sign_starts 45 (Sign Minus) refl) first
+    both_ways (starts_name c) (ap starts_name (sym (head_is 45 c (62 ∷ []) (ds ++ d ∷ us) q)) ∙ sign_starts 45 (Sign Minus) refl) first
 no_longer_word c ds d us l x first more (digits e es all) q =
-    both (starts_name c) (digit_starts c (ap is_digit (sym (head_is e c es (ds ++ d ∷ us) q)) ∙ all.0)) first
+    both_ways (starts_name c) (digit_starts c (ap is_digit (sym (head_is e c es (ds ++ d ∷ us) q)) ∙ all.0)) first
 no_longer_word c ds d us l x first more (word e es start rest) q =
-    both (is_xid_continue d) more (all_at is_xid_continue ds d us
+    both_ways (is_xid_continue d) more (all_at is_xid_continue ds d us
     (subst (λ z. AllPass is_xid_continue z) (tail_is e c es (ds ++ d ∷ us) q) rest))
 
 -- nor behind a sign, but for the arrow
@@ -86,23 +82,23 @@ no_longer_sign c y d us l x first more (sign e z h) q = nil_no [] d us (tail_is 
 no_longer_sign c y d us l x first more arrow q =
     more (sym (head_is 45 c (62 ∷ []) (d ∷ us) q)) (sym (head_is 62 d [] us (tail_is 45 c (62 ∷ []) (d ∷ us) q)))
 no_longer_sign c y d us l x first more (digits e es all) q =
-    both (is_digit c) (sign_digit c y first) (ap is_digit (sym (head_is e c es (d ∷ us) q)) ∙ all.0)
+    both_ways (is_digit c) (sign_digit c y first) (ap is_digit (sym (head_is e c es (d ∷ us) q)) ∙ all.0)
 no_longer_sign c y d us l x first more (word e es start rest) q =
-    both (starts_name c) (sign_starts c y first) (ap starts_name (sym (head_is e c es (d ∷ us) q)) ∙ start)
+    both_ways (starts_name c) (sign_starts c y first) (ap starts_name (sym (head_is e c es (d ∷ us) q)) ∙ start)
 
 -- where no token begins
 pub none_begins : (c : ℕ) (cs us vs : List ℕ) (x : Token) → sign_of c ≡ None → is_digit c ≡ false →
     starts_name c ≡ false → Spells us x → c ∷ cs ≡ us ++ vs → ⊥
 none_begins c cs us vs x n1 n2 n3 (sign e y h) q = let z : None ≡ Some y = sym n1 ∙ ap sign_of (head_is c e cs vs q) ∙ h in cc
 none_begins c cs us vs x n1 n2 n3 arrow q = let z : None ≡ Some (Sign Minus) = sym n1 ∙ ap sign_of (head_is c 45 cs (62 ∷ vs) q) in cc
-none_begins c cs us vs x n1 n2 n3 (digits e es all) q = both (is_digit c) n2 (ap is_digit (head_is c e cs (es ++ vs) q) ∙ all.0)
+none_begins c cs us vs x n1 n2 n3 (digits e es all) q = both_ways (is_digit c) n2 (ap is_digit (head_is c e cs (es ++ vs) q) ∙ all.0)
 none_begins c cs us vs x n1 n2 n3 (word e es start rest) q =
-    both (starts_name c) n3 (ap starts_name (head_is c e cs (es ++ vs) q) ∙ start)
+    both_ways (starts_name c) n3 (ap starts_name (head_is c e cs (es ++ vs) q) ∙ start)
 
 -- nothing is longer than an arrow
 pub two_signs : (l : List ℕ) (x : Token) (d : ℕ) (us : List ℕ) → Spells l x → l ≡ 45 ∷ 62 ∷ d ∷ us → ⊥
 two_signs l x d us (sign e z h) q = nil_no [] 62 (d ∷ us) (tail_is e 45 [] (62 ∷ d ∷ us) q)
 two_signs l x d us arrow q = nil_no [] d us (tail_is 62 62 [] (d ∷ us) (tail_is 45 45 (62 ∷ []) (62 ∷ d ∷ us) q))
-two_signs l x d us (digits e es all) q = both (is_digit 45) refl (ap is_digit (sym (head_is e 45 es (62 ∷ d ∷ us) q)) ∙ all.0)
-two_signs l x d us (word e es start rest) q = both (starts_name 45) (sign_starts 45 (Sign Minus) refl)
+two_signs l x d us (digits e es all) q = both_ways (is_digit 45) refl (ap is_digit (sym (head_is e 45 es (62 ∷ d ∷ us) q)) ∙ all.0)
+two_signs l x d us (word e es start rest) q = both_ways (starts_name 45) (sign_starts 45 (Sign Minus) refl)
     (ap starts_name (sym (head_is e 45 es (62 ∷ d ∷ us) q)) ∙ start)

@@ -6,7 +6,7 @@ use Rattle.std.specs.Prelude.{decimal, encode_utf8, encode_utf8_all, ◌==◌}
 use Rattle.std.specs.Char.{len_utf8, is_ascii_alphabetic, is_ascii_alphanumeric}
 use Rattle.std.specs.Str.{chars}
 use Rattle.std.proofs.lemmas.Fmt.{decimal_by_steps}
-use Rattle.std.proofs.lemmas.Bool.{leb-true, le-leb, and_parts}
+use Rattle.std.proofs.lemmas.Bool.{leb-true, le-leb, and_parts, or_right}
 use Rattle.std.proofs.lemmas.Str.{length-encode, encode_ascii, chars-encodes}
 use Rattle.unicode_ident.specs.Ident.{is_xid_continue}
 use Rattle.unicode_ident.proofs.IdentLemmas.{is_xid_start-ascii, is_xid_continue-ascii}
@@ -68,14 +68,9 @@ abbrev pub all_small : List ℕ → Bool
 all_small [] = true
 all_small (c ∷ cs) = (nat_le 97 c && nat_le c 122) && all_small cs
 
--- of two tests the second holds
-or_second : (a : Bool) → (a || true) ≡ true
-or_second true = refl
-or_second false = refl
-
 -- small letters are letters, begin names and go on with them, and are single bytes
 small_letter : (c : ℕ) → (nat_le 97 c && nat_le c 122) ≡ true → is_ascii_alphabetic c ≡ true
-small_letter c h = ap (λ b. (nat_le 65 c && nat_le c 90) || b) h ∙ or_second (nat_le 65 c && nat_le c 90)
+small_letter c h = ap (λ b. (nat_le 65 c && nat_le c 90) || b) h ∙ or_right (nat_le 65 c && nat_le c 90) true refl
 
 small_low : (c : ℕ) → (nat_le 97 c && nat_le c 122) ≡ true → c < 128
 small_low c h = let le : c ≤ 122 = leb-true c 122 (and_parts (nat_le 97 c) (nat_le c 122) h).1 in omega (arith, le)

@@ -4,7 +4,7 @@ use Rattle.std.proofs.Common.{◌∷◌, ◌++◌, Option, Some, None, refl, sym
 use Rattle.std.proofs.Common.{add-zero, add_assoc, append-nil, append_assoc}
 use Rattle.std.specs.Prelude.{◌==◌, nat_le, encode_utf8, encode_utf8_all}
 use Rattle.std.specs.Char.{len_utf8}
-use Rattle.std.proofs.lemmas.Bool.{ne_eqb, leb-true, eqb-true, and_parts}
+use Rattle.std.proofs.lemmas.Bool.{ne_eqb, leb-true, eqb-true, and_parts, false_from_ne_true, both_ways}
 use Rattle.unicode_ident.specs.Ident.{is_xid_continue}
 use Rattle.pcf_values.specs.declared.operator.Operator.TheVariants.{Minus}
 use Rattle.pcf_reader.specs.Tokens.{Token, Sign, Arrow, Number, End, Junk, Placed}
@@ -13,7 +13,7 @@ use Rattle.pcf_reader.specs.Spelling.{word, width, IsLongest, EndsLine, Splits, 
 use Rattle.pcf_reader.specs.Lexing.{Mode, idle, in_comment, after_dash, in_number, in_word, closed, on_sign, opened, lex}
 use Rattle.pcf_reader.proofs.LexSteps.{comment_more, comment_line, number_more, number_stop, number_end, word_more, word_stop, word_end}
 use Rattle.pcf_reader.proofs.Spelled.{sign_char}
-use Rattle.pcf_reader.proofs.Longest.{both, not_start, sign_starts, sign_digit, digit_starts}
+use Rattle.pcf_reader.proofs.Longest.{not_start, sign_starts, sign_digit, digit_starts}
 use Rattle.pcf_reader.proofs.Lexed.{Stops, at_place}
 
 -- what is left of the choices at a first character
@@ -29,11 +29,6 @@ rest_3 at c go = if c == 45 then go (after_dash at) else rest_4 at c go
 
 abbrev rest_2 : ℕ → ℕ → (Mode → List Placed) → List Placed
 rest_2 at c go = if c == 35 then go in_comment else rest_3 at c go
-
--- a test that never holds fails
-not_true : (b : Bool) → (b ≡ true → ⊥) → b ≡ false
-not_true true h = absurd (h refl)
-not_true false h = refl
 
 -- a character that is no blank and begins no comment and no dash
 to_digit : (at c : ℕ) (go : Mode → List Placed) → is_blank c ≡ false → (c == 35) ≡ false → (c == 45) ≡ false →
@@ -60,8 +55,8 @@ opened_digit at c go h =
 opened_word : (at c : ℕ) (go : Mode → List Placed) → starts_name c ≡ true → opened at c go ≡ go (in_word at (encode_utf8 c))
 opened_word at c go h =
     let ne : (n : ℕ) → starts_name n ≡ false → (c == n) ≡ false =
-    λ n s. ne_eqb c n (λ e. both (starts_name n) s (ap starts_name (sym e) ∙ h)) in
-    let no_digit : is_digit c ≡ false = not_true (is_digit c) (λ d. both (starts_name c) (digit_starts c d) h) in
+    λ n s. ne_eqb c n (λ e. both_ways (starts_name n) s (ap starts_name (sym e) ∙ h)) in
+    let no_digit : is_digit c ≡ false = false_from_ne_true (is_digit c) (λ d. both_ways (starts_name c) (digit_starts c d) h) in
     to_digit at c go (not_blank c (ne 32 (not_start 32 (omega arith) refl)) (ne 9 (not_start 9 (omega arith) refl))
     (ne 13 (not_start 13 (omega arith) refl)) (ne 10 (not_start 10 (omega arith) refl)))
     (ne 35 (not_start 35 (omega arith) refl)) (ne 45 (not_start 45 (omega arith) refl))
@@ -149,14 +144,14 @@ none_is at = refl
 -- a longest token stops
 stops_number : (c : ℕ) (ds rest : List ℕ) → AllPass is_digit (c ∷ ds) → IsLongest (c ∷ ds) rest → Stops is_digit rest
 stops_number c ds [] all long = tt
-stops_number c ds (r ∷ rest) all long = not_true (is_digit r)
+stops_number c ds (r ∷ rest) all long = false_from_ne_true (is_digit r)
     (λ e. long [] rest r _ refl (digits c (ds ++ r ∷ []) (all.0, pass_end is_digit ds r all.1 e)))
 
 -- behind the longest word stands what goes on with none
 stops_word : (c : ℕ) (ds rest : List ℕ) → starts_name c ≡ true → AllPass is_xid_continue ds → IsLongest (c ∷ ds) rest →
     Stops is_xid_continue rest
 stops_word c ds [] first all long = tt
-stops_word c ds (r ∷ rest) first all long = not_true (is_xid_continue r)
+stops_word c ds (r ∷ rest) first all long = false_from_ne_true (is_xid_continue r)
     (λ e. long [] rest r _ refl (word c (ds ++ r ∷ []) first (pass_end is_xid_continue ds r all e)))
 
 -- and behind a dash that is the longest sign no `>`
@@ -165,7 +160,7 @@ dash_stops : (rest : List ℕ) (at start : ℕ) → IsLongest (45 ∷ []) rest �
 unfolding lex
 dash_stops [] at start long = refl
 dash_stops (r ∷ rest) at start long =
-    let no : (r == 62) ≡ false = not_true (r == 62) (λ e. long [] rest 62 Arrow (ap (λ z. z ∷ rest) (eqb-true r 62 e)) arrow) in
+    let no : (r == 62) ≡ false = false_from_ne_true (r == 62) (λ e. long [] rest 62 Arrow (ap (λ z. z ∷ rest) (eqb-true r 62 e)) arrow) in
     ap (λ v. if v then at_place start Arrow ∷ lex rest (at + len_utf8 r) idle else closed (after_dash start)
     (opened at r (λ m. lex rest (at + len_utf8 r) m))) no
 
@@ -235,7 +230,8 @@ splits_lex at cs items (token i text ds rest x xs e spells long h) =
 splits_lex at cs items (junk i c ds nb nc none) =
     let go : Mode → List Placed = λ m. lex ds (i + len_utf8 c) m in
     let no_sign : sign_of c ≡ None = not_some (sign_of c) (λ x e. none (c ∷ []) ds x refl (sign c x e)) in
-    let no_dash : (c == 45) ≡ false = not_true (c == 45)
+    let no_dash : (c == 45) ≡ false = false_from_ne_true (c == 45)
     (λ e. let z : None ≡ Some (Sign Minus) = sym no_sign ∙ ap sign_of (eqb-true c 45 e) in let k : ⊥ = cc in k) in
-    first_is c ds i ∙ opened_junk i c go nb nc no_dash (not_true (is_digit c) (λ e. none (c ∷ []) ds _ refl (digits c [] (e, tt))))
-    (not_true (starts_name c) (λ e. none (c ∷ []) ds _ refl (word c [] e tt))) no_sign
+    first_is c ds i ∙ opened_junk i c go nb nc no_dash
+    (false_from_ne_true (is_digit c) (λ e. none (c ∷ []) ds _ refl (digits c [] (e, tt))))
+    (false_from_ne_true (starts_name c) (λ e. none (c ∷ []) ds _ refl (word c [] e tt))) no_sign

@@ -7,6 +7,7 @@ use Rattle.std.proofs.lemmas.Bool.{cases_order}
 use Rattle.std.proofs.lemmas.Option.{same_Some}
 use Rattle.std.proofs.lemmas.Slice.Eq.{bytes_eq-Decides}
 use Rattle.pcf_values.specs.Terms.{TyTree}
+use Rattle.pcf_values.proofs.Plain.{told_apart}
 use Rattle.pcf_types.specs.Checking.{Context, further, nearest}
 use Rattle.pcf_types.specs.Resolution.{Binds}
 use Rattle.pcf_types.specs.Correct.{names_in, types_in}
@@ -52,15 +53,8 @@ found_nearest x (b ∷ g) zero t d h =
     let e : bytes_eq x b.0 ≡ true = (bytes_eq-Decides x b.0).1 (sym (same_Some b.0 x d.0)) in
     ap (λ z. cond z (Some (0, b.1)) (further (nearest x g))) e ∙ ap (λ t. Some (0, t)) (same_Some b.1 t h)
 found_nearest x (b ∷ g) (suc i) t d h =
-    ap (λ z. cond z (Some (0, b.1)) (further (nearest x g))) (no_test x b.0 (λ e. d.1 0 (omega arith) (ap Some (sym e))))
+    ap (λ z. cond z (Some (0, b.1)) (further (nearest x g))) (told_apart x b.0 (λ e. d.1 0 (omega arith) (ap Some (sym e))))
     ∙ ap further (found_nearest x g i t (d.0, λ j l. d.1 (suc j) (omega arith)) h)
-  where
-    no_bool : (z : Bool) → (z ≡ true → ⊥) → z ≡ false
-    no_bool true n = absurd (n refl)
-    no_bool false n = refl
-
-    no_test : (x y : List ℕ) → x ≢ y → bytes_eq x y ≡ false
-    no_test x y n = no_bool (bytes_eq x y) (λ z. n ((bytes_eq-Decides x y).0 z))
 
 -- a name has one binder
 pub one_binder : (s : List (List ℕ)) (x : List ℕ) (i j : ℕ) → Binds s x i → Binds s x j → i ≡ j

@@ -45,6 +45,9 @@ pub record Fills (l : LogSeen) (m : ℕ) (s : Result (List Run) ScheduleFault) (
 pub ok_eq : (a b : ℕ) → (let r : Result ℕ ScheduleFault = Ok a in r ≡ Ok b) → a ≡ b
 ok_eq a b h = cc
 
+pub err_not : (f : ScheduleFault) (n : ℕ) → (let a : Result ℕ ScheduleFault = Err f in a ≡ Ok n) → ⊥
+err_not f n h = cc
+
 run_room : (m room : ℕ) (r : Run) (s : Result (List Run) ScheduleFault) → counted m (with_run r s) ≡ Ok room → m + r.count ≤ room
 run_room m room r (Ok rs) h = let e = ok_eq (m + (r.count + moves rs)) room h in omega (arith, e)
 run_room m room r (Err f) h = cc
@@ -53,9 +56,6 @@ run_room m room r (Err f) h = cc
 more_fills : (l : LogSeen) (m room : ℕ) (target : List Entry) (r : Run) (t : Result (List Run) ScheduleFault) →
     Fills l m (with_run r t) room target → Fills (with_entries l (times r.ticket r.count)) (m + r.count) t room target
 more_fills l m room target r (Err f) x = absurd (err_not f room x.count)
-  where
-    err_not : (f : ScheduleFault) (n : ℕ) → (let a : Result ℕ ScheduleFault = Err f in a ≡ Ok n) → ⊥
-    err_not f n h = cc
 more_fills l m room target r (Ok rs) x = record {
   room_is = x.room_is;
   count = let e : m + r.count + moves rs ≡ m + (r.count + moves rs) = omega arith in (λ j. Ok (e j)) ∙ x.count;

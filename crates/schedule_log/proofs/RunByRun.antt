@@ -12,7 +12,7 @@ use Rattle.schedule_log.proofs.Counted.{next, tally_no, tally_yes}
 use Rattle.schedule_log.proofs.Holding.{split}
 use Rattle.schedule_log.proofs.Spread.{spread_append, spread_more}
 
-tickets_both : (es fs : List Entry) → tickets_in_log (es ++ fs) ≡ tickets_in_log es ++ tickets_in_log fs
+pub tickets_both : (es fs : List Entry) → tickets_in_log (es ++ fs) ≡ tickets_in_log es ++ tickets_in_log fs
 tickets_both [] fs = refl
 tickets_both (e ∷ es) fs = ap (λ ts. e.ticket ∷ ts) (tickets_both es fs)
 

@@ -14,7 +14,7 @@ use Rattle.schedule_log.specs.Logs.{read_entries, tickets_in_log}
 use Rattle.schedule_log.specs.LogsSeen.{LogSeen, empty_log, read_log}
 use Rattle.schedule_log.specs.Reading.{counted, only_tickets, runs_from, runs_or_none, behind_header, tickets_in}
 use Rattle.schedule_log.proofs.Found.{first_fault_found}
-use Rattle.schedule_log.proofs.Filling.{ok_eq}
+use Rattle.schedule_log.proofs.Filling.{ok_eq, err_not}
 use Rattle.schedule_log.proofs.OneWay.{header_told, short_told}
 
 -- The tickets of entries that were read are the tickets.
@@ -48,9 +48,6 @@ is_filled : (s : Result (List Run) ScheduleFault) (room : ℕ) (l : LogSeen) →
     l ≡ record { entries = read_entries (tickets_of (runs_or_none s)); room = room } → Filled s l
 is_filled (Ok rs) room l c e = subst (Filled (Ok rs)) (sym e) (own_filled rs room (ok_eq (0 + moves rs) room c))
 is_filled (Err f) room l c e = absurd (err_not f room c)
-  where
-    err_not : (f : ScheduleFault) (n : ℕ) → (let a : Result ℕ ScheduleFault = Err f in a ≡ Ok n) → ⊥
-    err_not f n h = cc
 
 -- A log made empty with the room that was counted is filled.
 pub log_filled : (s : Result (List Run) ScheduleFault) (moves : ℕ) (k l : LogSeen) → counted 0 s ≡ Ok moves →

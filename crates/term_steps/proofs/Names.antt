@@ -9,17 +9,13 @@ use Rattle.std.proofs.lemmas.Slice.Eq.{bytes_eq-Decides}
 use Rattle.pcf_values.specs.Terms.{TyTree, TermTree, var}
 use Rattle.pcf_values.specs.Named.{Word, the_succ, the_pred, the_part, Binder, the_fun, the_fix, NamedTree, number_at, name_at, word_at}
 use Rattle.pcf_values.specs.Named.{binary_at, pair_at, ifz_at, bind_at, apply_at}
+use Rattle.pcf_values.proofs.Plain.{told_apart, get_front}
 use Rattle.pcf_types.specs.Resolution.{Binds, word_term, binder_term, Resolves}
 use Rattle.cbn_meaning.specs.Substitution.{replaced, subst_at}
 use Rattle.cbn_meaning.proofs.Close.{replaced_below, replaced_here}
 use Rattle.term_steps.specs.Names.{put}
 
 -- where an index points in a list with one more at its end
-get_front : {A : Type 0} (s g : List A) (j : ℕ) → j < length s → slice_get (s ++ g) j ≡ slice_get s j
-get_front [] g j l = absurd (omega arith)
-get_front (b ∷ s) g zero l = refl
-get_front (b ∷ s) g (suc j) l = get_front s g j (omega arith)
-
 get_last : {A : Type 0} (s : List A) (x y : A) (i : ℕ) → length s ≤ i → slice_get (s ++ x ∷ []) i ≡ Some y → (i ≡ length s) × (x ≡ y)
 get_last [] x y zero l h = (refl, cc)
 get_last [] x y (suc i) l h = cc
@@ -114,20 +110,13 @@ shadowed (apply_at at f a) s x p m j h (c, d, r, q, e) = (
   ap (λ m. subst_at m (length s) p) e,
 )
 
-different : (x y : List ℕ) → x ≢ y → bytes_eq x y ≡ false
-different x y n = no_bool (bytes_eq x y) (λ z. n ((bytes_eq-Decides x y).0 z))
-  where
-    no_bool : (z : Bool) → (z ≡ true → ⊥) → z ≡ false
-    no_bool true n = absurd (n refl)
-    no_bool false n = refl
-
 -- a name with a closed tree put for the outermost binder stands for its variable with the term put there
 put_name : (at : ℕ) (y : List ℕ) (s : List (List ℕ)) (x : List ℕ) (n : NamedTree) (p : TermTree) (i : ℕ) →
     ((j : ℕ) → slice_get s j ≢ Some x) → Binds (s ++ x ∷ []) y i → Resolves [] n p → (i < length s) ⊎ (length s ≤ i) →
     Resolves s (cond (bytes_eq x y) n (name_at at y)) (replaced i (length s) p)
 put_name at y s x n p i absent binds resolves (inl l) =
     let b = binds_narrower s (x ∷ []) y i l binds in
-    let z : bytes_eq x y ≡ false = different x y (λ q. absent i (b.0 ∙ ap Some (sym q))) in
+    let z : bytes_eq x y ≡ false = told_apart x y (λ q. absent i (b.0 ∙ ap Some (sym q))) in
     subst (λ z. Resolves s (cond z n (name_at at y)) (replaced i (length s) p)) (sym z) (i, b, replaced_below i (length s) p l)
 put_name at y s x n p i absent binds resolves (inr l) =
     let (q, e) = get_last s x y i l binds.0 in
