@@ -1,5 +1,5 @@
--- The headline of a call follows from the promise, as that of a run does.
-use Rattle.std.proofs.Common.{◌≡◌, ℕ, List, [], length, Some, false, refl, sym, ap, ◌∙◌, subst}
+-- What each status means of a call, told in its own words, and the headline of a call: as it is with a run.
+use Rattle.std.proofs.Common.{◌≡◌, ℕ, List, [], length, Option, Some, false, refl, sym, ap, ◌∙◌, subst}
 use Rattle.pcf_values.specs.Terms.{TermTree}
 use Rattle.cbn_meaning.specs.Meaning.{Means}
 use Rattle.net_build.specs.NetOf.{net_of}
@@ -15,10 +15,14 @@ use Rattle.goi_tasks.specs.Outputs.{Output}
 use Rattle.goi_tasks.specs.Refusals.{IsLine, fault_status}
 use Rattle.goi_jobs.specs.Tasks.{nothing_shown}
 use Rattle.goi_jobs.specs.Jobs.{JobTree, call}
-use Rattle.goi_engine.specs.CallHeadline.{IsFunction, CallOutcome, at_value, at_none, at_fault, CallHeadline, OneCallOutcome}
-use Rattle.goi_engine.specs.Promise.{Call, Promise}
+use Rattle.goi_engine.specs.Calls.{Call}
+use Rattle.goi_engine.specs.FilesSeen.{OfFile}
+use Rattle.goi_engine.specs.CallHeadline.{IsFunction, CallOutcome, at_value, at_none, at_fault, CallsFile, CallPromise, CallHeadline}
+use Rattle.goi_engine.specs.CallHeadline.{OneCallOutcome}
+use Rattle.goi_engine.specs.Promise.{Meanings}
 use Rattle.goi_engine.specs.Verdicts.{Reports, Refuses}
-use Rattle.goi_engine.proofs.Coming.{OutcomeOf, value, none, fault, reported, refused_line, no_other, one_thing, of_told, right, comes}
+use Rattle.goi_engine.proofs.Coming.{OutcomeOf, value, none, fault, reported, refused_line, no_other, one_thing, of_told, possibly}
+use Rattle.goi_engine.proofs.Coming.{some_bytes, right, comes}
 
 module _ (bytes numbers : List ℕ) (budget : ℕ) where
   -- the term that runs: the text's, applied to the numbers
@@ -61,36 +65,50 @@ module _ (bytes numbers : List ℕ) (budget : ℕ) where
     sound : (t : TermTree) (f : ProgramFault) → Runs t → NotRun f → ⊥
     sound t f h k = one.not_both (length numbers) bytes (h.term, length numbers) f h.is k
 
-  module _ (file : List ℕ) (workers : ℕ) (c : Call) (told : c.old.told file ≡ Some bytes) where
-    abbrev Asked : JobTree
-    Asked = call file numbers workers budget false false
+  of_report : (workers : ℕ) (o : Output) → ReportsCall workers budget nothing_shown numbers bytes o →
+      CallOutcome bytes numbers budget o.status o.report o.notes
+  of_report workers o k =
+      said o.status o.report o.notes (reported Runs NotRun budget (applied k.term numbers) (runs k.term k.is) workers o k.so)
 
-    of_report : (o : Output) → Reports Asked c.old o → CallOutcome bytes numbers budget o.status o.report o.notes
-    of_report o h =
-        let k = of_told (c.old.told file) bytes (λ b. ReportsCall workers budget nothing_shown numbers b o) told h.1 in
-        said o.status o.report o.notes (reported Runs NotRun budget (applied k.term numbers) (runs k.term k.is) workers o k.so)
+  of_fault : (f : Fault) (line : List ℕ) → IsLine f line → FaultyCall numbers bytes f → CallOutcome bytes numbers budget 1 [] line
+  of_fault f line is h = said 1 [] line (refused_line Runs NotRun budget f line h is)
 
-    -- the text's first fault
-    its_fault : (f : Fault) → Refuses Asked c.old f → FaultyCall numbers bytes f
-    its_fault f h = of_told (c.old.told file) bytes (λ b. FaultyCall numbers b f) told h.1
+  of_program : (f : Fault) → fault_status f ≡ 7 → FaultyCall numbers bytes f → ⊥
+  of_program f e h = no_other Runs NotRun budget f h e
 
-    of_fault : (f : Fault) (line : List ℕ) → Refuses Asked c.old f → IsLine f line → CallOutcome bytes numbers budget 1 [] line
-    of_fault f line h is = said 1 [] line (refused_line Runs NotRun budget f line (its_fault f h) is)
+-- what the statuses mean of a call
+calls_file : (file numbers : List ℕ) (workers budget : ℕ) (c : Call) (status : ℕ) →
+    Meanings (Some (call file numbers workers budget false false)) c status → CallsFile file numbers budget c status
+calls_file file numbers workers budget c status p =
+    let asked : JobTree = call file numbers workers budget false false in
+    let told = c.old.told file in
+    let Out : ℕ → List ℕ → List ℕ → Type 0 = λ s report line. OfFile c.old file (λ bytes. CallOutcome bytes numbers budget s report line) in
+    let Reported : Output → List ℕ → Type 0 = λ o bytes. ReportsCall workers budget nothing_shown numbers bytes o in
+    let report : (o : Output) → Reports asked c.old o → Out o.status o.report o.notes =
+        λ o h. (h.0, possibly told (Reported o) (λ bytes. CallOutcome bytes numbers budget o.status o.report o.notes)
+        (λ bytes k. of_report bytes numbers budget workers o k) h.1) in
+    let refusal : (f : Fault) (line : List ℕ) → Refuses asked c.old f → IsLine f line → Out 1 [] line =
+        λ f line h is. (h.0, possibly told (λ bytes. FaultyCall numbers bytes f) (λ bytes. CallOutcome bytes numbers budget 1 [] line)
+        (λ bytes k. of_fault bytes numbers budget f line is k) h.1) in
+    let program : (f : Fault) → Refuses asked c.old f → fault_status f ≡ 7 → ⊥ =
+        λ f h e. some_bytes told (λ bytes. FaultyCall numbers bytes f) ⊥ (λ bytes k. of_program bytes numbers budget f e k) h.1 in
+    record {
+      right = right asked c Out report refusal program status p;
+      comes = comes asked c Out report refusal program status p;
+    }
 
-    of_program : (f : Fault) → Refuses Asked c.old f → fault_status f ≡ 7 → ⊥
-    of_program f h = no_other Runs NotRun budget f (its_fault f h)
+pub call_promise : (asked : Option JobTree) (c : Call) (status : ℕ) → Meanings asked c status → CallPromise asked c status
+call_promise asked c status p file numbers workers budget e =
+    calls_file file numbers workers budget c status (subst (λ a. Meanings a c status) e p)
 
--- the promise of the job that these words ask for, by its reports and its faults
 pub call_headline : CallHeadline
 call_headline words file bytes numbers workers budget c status asked told there promise =
-    let j = Asked bytes numbers budget file workers c told in
-    let p = subst (λ a. Promise a c status) asked promise in
-    let report = of_report bytes numbers budget file workers c told in
-    let refusal = of_fault bytes numbers budget file workers c told in
-    let program = of_program bytes numbers budget file workers c told in
+    let h = promise file numbers workers budget asked in
     record {
-      right = right j c (CallOutcome bytes numbers budget) report refusal program there status p;
-      comes = comes j c (CallOutcome bytes numbers budget) report refusal program there status p;
+      right = λ came.
+          let (report, line, of_file, out, err) = h.right came in
+          (report, line, of_told (c.old.told file) bytes (λ b. CallOutcome b numbers budget status report line) told of_file.1, out, err);
+      comes = h.comes there;
     }
 
 pub one_call_outcome : OneLength → OneFunction → OneCallOutcome

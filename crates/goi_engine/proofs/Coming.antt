@@ -26,8 +26,8 @@ use Rattle.goi_tasks.specs.RunReports.{ReportsRun}
 use Rattle.goi_jobs.specs.Tasks.{nothing_shown}
 use Rattle.goi_jobs.specs.Jobs.{JobTree}
 use Rattle.goi_engine.specs.FilesSeen.{Possibly}
-use Rattle.goi_engine.specs.Promise.{Call, RefusedFault, MeansPrinted, MeansFault, MeansNotRead, MeansNotWritten}
-use Rattle.goi_engine.specs.Promise.{NoneFailed, Promise}
+use Rattle.goi_engine.specs.Calls.{Call, NoneFailed}
+use Rattle.goi_engine.specs.Promise.{RefusedFault, MeansPrinted, MeansFault, MeansNotRead, MeansNotWritten, Meanings}
 use Rattle.goi_engine.specs.Verdicts.{Reports, Refuses, LacksFor}
 use Rattle.goi_engine.specs.Writes.{SinkTurn, Offers, AllTake, count_taken, Untouched, Wrote}
 
@@ -35,6 +35,15 @@ use Rattle.goi_engine.specs.Writes.{SinkTurn, Offers, AllTake, count_taken, Unto
 pub of_told : (told : Option (List ℕ)) (bytes : List ℕ) (P : List ℕ → Type 0) → told ≡ Some bytes → Possibly told P → P bytes
 of_told None bytes P e h = let k : None ≡ Some bytes = e in cc
 of_told (Some c) bytes P e h = let k : c ≡ bytes = cc in subst P k h
+
+-- what follows of any bytes is possible of those of a file, and what doesn't speak of them is so
+pub possibly : (told : Option (List ℕ)) (P Q : List ℕ → Type 0) → ((bytes : List ℕ) → P bytes → Q bytes) → Possibly told P → Possibly told Q
+possibly None P Q k (b, p) = (b, k b p)
+possibly (Some b) P Q k p = k b p
+
+pub some_bytes : (told : Option (List ℕ)) (P : List ℕ → Type 0) (Q : Type 0) → ((bytes : List ℕ) → P bytes → Q) → Possibly told P → Q
+some_bytes None P Q k (b, p) = k b p
+some_bytes (Some b) P Q k p = k b p
 
 -- a sink that wasn't touched was written nothing
 none_more : (known : Option (List ℕ)) → with_more known [] ≡ known
@@ -127,11 +136,11 @@ module _ (is : TermTree → Type 0) (faulty : ProgramFault → Type 0) (budget :
 abbrev pub Came : (ℕ → List ℕ → List ℕ → Type 0) → Call → ℕ → Type 0
 Came Out c status = (report line : List ℕ) × Out status report line × Wrote report c.out × Wrote line c.err
 
--- Below, Out has the job's reports and the lines of its faults, none of which is a fault of a file, and its file is there.
+-- Below, Out has the job's reports and the lines of its faults, none of which is a fault of a file.
 module _ (j : JobTree) (c : Call) (Out : ℕ → List ℕ → List ℕ → Type 0)
     (of_report : (o : Output) → Reports j c.old o → Out o.status o.report o.notes)
     (of_fault : (f : Fault) (line : List ℕ) → Refuses j c.old f → IsLine f line → Out 1 [] line)
-    (of_program : (f : Fault) → Refuses j c.old f → fault_status f ≡ 7 → ⊥) (there : LacksFor j c.old → ⊥) where
+    (of_program : (f : Fault) → Refuses j c.old f → fault_status f ≡ 7 → ⊥) where
   printed : (status : ℕ) → MeansPrinted status (Some j) c → Came Out c status
   printed status (asked, e, h) =
       let k : asked ≡ j = cc in
@@ -157,8 +166,8 @@ module _ (j : JobTree) (c : Call) (Out : ℕ → List ℕ → List ℕ → Type 
   not_of_file (asked, e, h) = of_program h.fault (fault_of 7 asked e h) h.of_status
 
   -- what is there was read
-  was_read : NoneFailed c → MeansNotRead (Some j) c → ⊥
-  was_read fine (asked, e, h, wrote) =
+  was_read : (LacksFor j c.old → ⊥) → NoneFailed c → MeansNotRead (Some j) c → ⊥
+  was_read there fine (asked, e, h, wrote) =
       let k : asked ≡ j = cc in
       ⊎_elim (λ (l : LacksFor asked c.old). there (subst (λ (x : JobTree). LacksFor x c.old) k l)) fine.files h.1.cause
 
@@ -168,20 +177,20 @@ module _ (j : JobTree) (c : Call) (Out : ℕ → List ℕ → List ℕ → Type 
   was_written fine (inr (inl h)) = fine.err h.err.rose
   was_written fine (inr (inr h)) = fine.err h.err.rose
 
-  module _ (status : ℕ) (p : Promise (Some j) c status) where
+  module _ (status : ℕ) (p : Meanings (Some j) c status) where
     pub right : (status ≡ 0) ⊎ (status ≡ 5) ⊎ (status ≡ 1) → Came Out c status
     right (inl e) = subst (Came Out c) (sym e) (printed 0 (p.done e))
     right (inr (inl e)) = subst (Came Out c) (sym e) (printed 5 (p.no_value e))
     right (inr (inr e)) = subst (Came Out c) (sym e) (⊎_elim refused (printed 1) (p.fault e))
 
-    pub comes : NoneFailed c → ((status ≡ 0) ⊎ (status ≡ 5) ⊎ (status ≡ 1)) ⊎ (status ≡ 6)
-    comes fine = by p.statuses where
+    pub comes : (LacksFor j c.old → ⊥) → NoneFailed c → ((status ≡ 0) ⊎ (status ≡ 5) ⊎ (status ≡ 1)) ⊎ (status ≡ 6)
+    comes there fine = by p.statuses where
       by : (status ≡ 0) ⊎ (status ≡ 1) ⊎ (status ≡ 2) ⊎ (status ≡ 3) ⊎ (status ≡ 4) ⊎ (status ≡ 5) ⊎ (status ≡ 6) ⊎ (status ≡ 7) →
           ((status ≡ 0) ⊎ (status ≡ 5) ⊎ (status ≡ 1)) ⊎ (status ≡ 6)
       by (inl e) = inl (inl e)
       by (inr (inl e)) = inl (inr (inr e))
       by (inr (inr (inl e))) = let k : Some j ≡ None = (p.bad_words e).0 in absurd cc
-      by (inr (inr (inr (inl e)))) = absurd (was_read fine (p.not_read e))
+      by (inr (inr (inr (inl e)))) = absurd (was_read there fine (p.not_read e))
       by (inr (inr (inr (inr (inl e))))) = absurd (was_written fine (p.not_written e))
       by (inr (inr (inr (inr (inr (inl e)))))) = inl (inr (inl e))
       by (inr (inr (inr (inr (inr (inr (inl e))))))) = inr e

@@ -1,7 +1,7 @@
--- The headline follows from the promise.
--- The told bytes are those of which the promise speaks; so what was printed is the report of a run of them, and what was refused is refused
--- for their first fault.
-use Rattle.std.proofs.Common.{◌≡◌, ℕ, List, [], Some, subst}
+-- What each status means of a run by name, told in its own words; and the headline follows from that.
+-- What was printed is the report of a run of the file's bytes, and what was refused is refused for their first fault. The told bytes are
+-- those of which the promise speaks.
+use Rattle.std.proofs.Common.{◌≡◌, ℕ, List, [], Option, Some, subst}
 use Rattle.pcf_values.specs.Terms.{TermTree, TyTree}
 use Rattle.adequacy_laws.specs.Lengths.{OneLength}
 use Rattle.program_runs.specs.declared.calling.Calling.TheVariants.{ByName}
@@ -16,10 +16,13 @@ use Rattle.goi_tasks.specs.Refusals.{IsLine, fault_status}
 use Rattle.goi_jobs.specs.Tasks.{nothing_shown}
 use Rattle.goi_tasks.specs.Tasks.{ReportsText}
 use Rattle.goi_jobs.specs.Jobs.{JobTree, text}
-use Rattle.goi_engine.specs.Headline.{Outcome, has_value, no_value, is_faulty, Headline, OneOutcome}
-use Rattle.goi_engine.specs.Promise.{Call, Promise}
+use Rattle.goi_engine.specs.Calls.{Call}
+use Rattle.goi_engine.specs.FilesSeen.{OfFile}
+use Rattle.goi_engine.specs.Headline.{Outcome, has_value, no_value, is_faulty, RunsFile, RunPromise, Headline, OneOutcome}
+use Rattle.goi_engine.specs.Promise.{Meanings}
 use Rattle.goi_engine.specs.Verdicts.{Reports, Refuses}
-use Rattle.goi_engine.proofs.Coming.{OutcomeOf, value, none, fault, reported, refused_line, no_other, one_thing, of_told, right, comes}
+use Rattle.goi_engine.proofs.Coming.{OutcomeOf, value, none, fault, reported, refused_line, no_other, one_thing, of_told, possibly}
+use Rattle.goi_engine.proofs.Coming.{some_bytes, right, comes}
 
 -- a program whose type will do is a number
 ground_of : (bytes : List ℕ) (tree : _) (t : TermTree) (A : TyTree) → IsProgram number bytes tree t A → IsGround bytes t
@@ -40,37 +43,50 @@ module _ (bytes : List ℕ) (budget : ℕ) where
   meant _ _ _ (no_value t is beyond) = none t is beyond
   meant _ _ _ (is_faulty f h) = fault f h
 
-  module _ (file : List ℕ) (workers : ℕ) (c : Call) (told : c.old.told file ≡ Some bytes) where
-    abbrev Asked : JobTree
-    Asked = text file workers (Run budget ByName nothing_shown)
+  of_report : (workers : ℕ) (o : Output) → ReportsText workers (Run budget ByName nothing_shown) bytes o →
+      Outcome bytes budget o.status o.report o.notes
+  of_report workers o k =
+      said o.status o.report o.notes
+      (reported (IsGround bytes) (FaultyProgram number bytes) budget k.term (ground_of bytes k.tree k.term k.type k.is) workers o k.so)
 
-    of_report : (o : Output) → Reports Asked c.old o → Outcome bytes budget o.status o.report o.notes
-    of_report o h =
-        let k = of_told (c.old.told file) bytes (λ b. ReportsText workers (Run budget ByName nothing_shown) b o) told h.1 in
-        said o.status o.report o.notes
-        (reported (IsGround bytes) (FaultyProgram number bytes) budget k.term (ground_of bytes k.tree k.term k.type k.is) workers o k.so)
+  of_fault : (f : Fault) (line : List ℕ) → IsLine f line → FaultyText number bytes f → Outcome bytes budget 1 [] line
+  of_fault f line is h = said 1 [] line (refused_line (IsGround bytes) (FaultyProgram number bytes) budget f line h is)
 
-    -- the text's first fault
-    its_fault : (f : Fault) → Refuses Asked c.old f → FaultyText number bytes f
-    its_fault f h = of_told (c.old.told file) bytes (λ b. FaultyText number b f) told h.1
+  of_program : (f : Fault) → fault_status f ≡ 7 → FaultyText number bytes f → ⊥
+  of_program f e h = no_other (IsGround bytes) (FaultyProgram number bytes) budget f h e
 
-    of_fault : (f : Fault) (line : List ℕ) → Refuses Asked c.old f → IsLine f line → Outcome bytes budget 1 [] line
-    of_fault f line h is = said 1 [] line (refused_line (IsGround bytes) (FaultyProgram number bytes) budget f line (its_fault f h) is)
+-- what the statuses mean of a run by name
+runs_file : (file : List ℕ) (workers budget : ℕ) (c : Call) (status : ℕ) →
+    Meanings (Some (text file workers (Run budget ByName nothing_shown))) c status → RunsFile file budget c status
+runs_file file workers budget c status p =
+    let asked : JobTree = text file workers (Run budget ByName nothing_shown) in
+    let told = c.old.told file in
+    let Out : ℕ → List ℕ → List ℕ → Type 0 = λ s report line. OfFile c.old file (λ bytes. Outcome bytes budget s report line) in
+    let Reported : Output → List ℕ → Type 0 = λ o bytes. ReportsText workers (Run budget ByName nothing_shown) bytes o in
+    let report : (o : Output) → Reports asked c.old o → Out o.status o.report o.notes =
+        λ o h. (h.0, possibly told (Reported o) (λ bytes. Outcome bytes budget o.status o.report o.notes)
+        (λ bytes k. of_report bytes budget workers o k) h.1) in
+    let refusal : (f : Fault) (line : List ℕ) → Refuses asked c.old f → IsLine f line → Out 1 [] line =
+        λ f line h is. (h.0, possibly told (λ bytes. FaultyText number bytes f) (λ bytes. Outcome bytes budget 1 [] line)
+        (λ bytes k. of_fault bytes budget f line is k) h.1) in
+    let program : (f : Fault) → Refuses asked c.old f → fault_status f ≡ 7 → ⊥ =
+        λ f h e. some_bytes told (λ bytes. FaultyText number bytes f) ⊥ (λ bytes k. of_program bytes budget f e k) h.1 in
+    record {
+      right = right asked c Out report refusal program status p;
+      comes = comes asked c Out report refusal program status p;
+    }
 
-    of_program : (f : Fault) → Refuses Asked c.old f → fault_status f ≡ 7 → ⊥
-    of_program f h = no_other (IsGround bytes) (FaultyProgram number bytes) budget f (its_fault f h)
+pub run_promise : (asked : Option JobTree) (c : Call) (status : ℕ) → Meanings asked c status → RunPromise asked c status
+run_promise asked c status p file workers budget e = runs_file file workers budget c status (subst (λ a. Meanings a c status) e p)
 
--- the promise of the job that these words ask for, by its reports and its faults
 pub headline : Headline
 headline words file bytes workers budget c status asked told there promise =
-    let j = Asked bytes budget file workers c told in
-    let p = subst (λ a. Promise a c status) asked promise in
-    let report = of_report bytes budget file workers c told in
-    let refusal = of_fault bytes budget file workers c told in
-    let program = of_program bytes budget file workers c told in
+    let h = promise file workers budget asked in
     record {
-      right = right j c (Outcome bytes budget) report refusal program there status p;
-      comes = comes j c (Outcome bytes budget) report refusal program there status p;
+      right = λ came.
+          let (report, line, of_file, out, err) = h.right came in
+          (report, line, of_told (c.old.told file) bytes (λ b. Outcome b budget status report line) told of_file.1, out, err);
+      comes = h.comes there;
     }
 
 pub one_outcome : OneLength → OneProgram → OneOutcome

@@ -16,10 +16,11 @@ use Rattle.goi_tasks.specs.Outputs.{Output}
 use Rattle.goi_tasks.specs.Seen.{output_of}
 use Rattle.goi_world.specs.Seen.{FilesKept, FilesState, SinkState}
 use Rattle.goi_engine.specs.FilesSeen.{Possibly, OfFile}
-use Rattle.goi_engine.specs.Promise.{Call, WroteLine, Printed, RefusedFault, RefusalLine, of_words, of_read, of_memory}
-use Rattle.goi_engine.specs.Promise.{of_fault, Quiet, NoneFailed, SureRoom}
+use Rattle.goi_engine.specs.Calls.{Call, NoneFailed}
+use Rattle.goi_engine.specs.Promise.{WroteLine, Printed, RefusedFault, RefusalLine, of_words, of_read, of_memory}
+use Rattle.goi_engine.specs.Promise.{of_fault, Quiet, SureRoom}
 use Rattle.goi_engine.specs.Promise.{MeansPrinted, MeansFault, MeansBadWords, MeansNotRead, MeansNotWritten, MeansNoMemory}
-use Rattle.goi_engine.specs.Promise.{CompleteReport, CompleteFault, CompleteWords, CompleteLacked, Promise}
+use Rattle.goi_engine.specs.Promise.{CompleteReport, CompleteFault, CompleteWords, CompleteLacked, Meanings, Promise}
 use Rattle.goi_tasks.specs.Refusals.{most_line, fault_line, fault_status, words_line, read_line, memory_line}
 use Rattle.goi_tasks.specs.Replaying.{ReportsReplay}
 use Rattle.goi_tasks.specs.Tasks.{ReportsText}
@@ -32,6 +33,9 @@ use Rattle.goi_batches.proofs.One.{three}
 use Rattle.goi_engine.specs.ListsSeen.{OfList, ReportsLines}
 use Rattle.program_runs.specs.Programs.{OfGround}
 use Rattle.goi_engine.specs.Verdicts.{Reports, CanDo, Faulty, SurelyLacks}
+use Rattle.goi_engine.proofs.CallHeadlines.{call_promise}
+use Rattle.goi_engine.proofs.Coming.{some_bytes}
+use Rattle.goi_engine.proofs.Headlines.{run_promise}
 use Rattle.goi_engine.proofs.Settled.{one_status, no_fault, no_refusal, same_fault, had_for_report, had_for_refusal, can_has, faulty_has}
 
 -- the files' count of faults stayed
@@ -141,7 +145,7 @@ module _ (asked : Option JobTree) (c : Call) where
       CompleteWords asked c status → CompleteLacked asked c status → Promise asked c status
   promised files status came reports refuses refuses_words refuses_lacked =
       let At : ℕ → Type 0 = λ k. Outcome asked c k in
-      record {
+      let means : Meanings asked c status = record {
         done = λ e. at_0 (subst At e came);
         fault = λ e. at_1 (subst At e came);
         bad_words = λ e. at_2 (subst At e came);
@@ -151,6 +155,11 @@ module _ (asked : Option JobTree) (c : Call) where
         no_memory = λ e. at_6 (subst At e came);
         file_fault = λ e. at_7 (subst At e came);
         statuses = status_of status came;
+      } in
+      record {
+        run = run_promise asked c status means;
+        call = call_promise asked c status means;
+        means = means;
         files = files;
         quiet = quiet_of status came;
         read = read_of status came;
@@ -188,11 +197,6 @@ module _ (asked : Option JobTree) (c : Call) where
       subst Came (sym e) (not_written (inl (record { j = j; is_asked = is; output = o; right = right; out = b; err = r })))
   reported j is o right status came (inr (inr (e, w, b))) =
       subst Came (sym e) (not_written (inr (inr (record { j = j; is_asked = is; output = o; right = right; out = w; err = b }))))
-
--- what is possible of some bytes and says nothing of them is so
-some_bytes : (told : Option (List ℕ)) (P : List ℕ → Type 0) (Q : Type 0) → ((bytes : List ℕ) → P bytes → Q) → Possibly told P → Q
-some_bytes None P Q k (b, p) = k b p
-some_bytes (Some b) P Q k p = k b p
 
 abbrev OneOfTwo : ℕ → Type 0
 OneOfTwo status = (status ≡ 0) ⊎ (status ≡ 5)

@@ -1,8 +1,9 @@
 -- The headline: what `goi run FILE` comes to, for whoever reads nothing else.
--- It follows from `Promise`, and says less: the words ask for a run by name that prints neither its schedule nor its tally nor its
--- progress, the file is there, and its bytes are told. A program's *value* is what it means, call by name. The *length* of its net is
--- what following questions counts on it. No worker and no machine is in the sentence, so that it is the same for any number of workers.
-use Rattle.std.specs.Prelude.{◌≡◌, ◌⊎◌, ◌≤◌, ◌<◌, ℕ, IsTrue, List, [], Some, None}
+-- The words ask for a run by name that prints neither its schedule nor its tally nor its progress. `RunPromise` is the part of the promise
+-- that speaks of it, and the headline rests on it alone: the file is there, and its bytes are told. A program's *value* is what it means,
+-- call by name. The *length* of its net is what following questions counts on it. No worker and no machine is in the sentence, so that it
+-- is the same for any number of workers.
+use Rattle.std.specs.Prelude.{◌≡◌, ◌⊎◌, ◌≤◌, ◌<◌, ℕ, IsTrue, List, [], Option, Some, None}
 use Rattle.pcf_values.specs.declared.val.Val.{Val}
 use Rattle.pcf_values.specs.Terms.{TermTree}
 use Rattle.cbn_meaning.specs.Meaning.{Means}
@@ -11,14 +12,15 @@ use Rattle.adequacy_laws.specs.Questions.{Length}
 use Rattle.program_runs.specs.declared.fault.ProgramFault.{ProgramFault}
 use Rattle.program_runs.specs.Programs.{number, IsGround, FaultyProgram}
 use Rattle.goi_words.specs.Asked.{job}
-use Rattle.goi_jobs.specs.Jobs.{text}
+use Rattle.goi_jobs.specs.Jobs.{JobTree, text}
 use Rattle.goi_jobs.specs.Tasks.{nothing_shown}
 use Rattle.goi_jobs.specs.declared.task.Task.TheVariants.{Run}
 use Rattle.program_runs.specs.declared.calling.Calling.TheVariants.{ByName}
 use Rattle.goi_reports.specs.Lines.{result_lines}
 use Rattle.goi_tasks.specs.Refusals.{program_fault_line}
 use Rattle.goi_engine.specs.Writes.{Wrote}
-use Rattle.goi_engine.specs.Promise.{Call, NoneFailed, Promise}
+use Rattle.goi_engine.specs.Calls.{Call, NoneFailed}
+use Rattle.goi_engine.specs.FilesSeen.{OfFile}
 
 -- what the run of a text within a budget of moves comes to: its status, what is written to `out`, and what is written to `err`
 pub data Outcome (bytes : List ℕ) (budget : ℕ) : ℕ → List ℕ → List ℕ → Type 0 where
@@ -37,12 +39,24 @@ pub record ComesTo (bytes : List ℕ) (budget : ℕ) (c : Call) (status : ℕ) :
       (report line : List ℕ) × Outcome bytes budget status report line × Wrote report c.out × Wrote line c.err
   pub comes : NoneFailed c → ((status ≡ 0) ⊎ (status ≡ 5) ⊎ (status ≡ 1)) ⊎ (status ≡ 6)
 
--- so it is with each call that keeps the promise; what is told of `Files` isn't lacked, which the trait says
+-- the same of a file by its name: what was written is what the run of its bytes comes to, which are those that are told, or some where
+-- none are; and one of the three statuses comes, or 6, where nothing fails and the file is there
+pub record RunsFile (file : List ℕ) (budget : ℕ) (c : Call) (status : ℕ) : Type 0 where
+  pub right : (status ≡ 0) ⊎ (status ≡ 5) ⊎ (status ≡ 1) →
+      (report line : List ℕ) × OfFile c.old file (λ bytes. Outcome bytes budget status report line) × Wrote report c.out × Wrote line c.err
+  pub comes : (IsTrue (c.old.lacks file) → ⊥) → NoneFailed c → ((status ≡ 0) ⊎ (status ≡ 5) ⊎ (status ≡ 1)) ⊎ (status ≡ 6)
+
+-- the part of the promise that speaks of a run by name: where that is asked for, so it is
+abbrev pub RunPromise : Option JobTree → Call → ℕ → Type 0
+RunPromise asked c status =
+    (file : List ℕ) (workers budget : ℕ) → asked ≡ Some (text file workers (Run budget ByName nothing_shown)) → RunsFile file budget c status
+
+-- so the run of told bytes comes to what they come to; what is told of `Files` isn't lacked, which the trait says
 abbrev pub Headline : Type 0
 Headline =
     (words : List (List ℕ)) (file bytes : List ℕ) (workers budget : ℕ) (c : Call) (status : ℕ) →
     job words ≡ Some (text file workers (Run budget ByName nothing_shown)) → c.old.told file ≡ Some bytes →
-    (IsTrue (c.old.lacks file) → ⊥) → Promise (job words) c status → ComesTo bytes budget c status
+    (IsTrue (c.old.lacks file) → ⊥) → RunPromise (job words) c status → ComesTo bytes budget c status
 
 -- and a run comes to one outcome alone
 abbrev pub OneOutcome : Type 0

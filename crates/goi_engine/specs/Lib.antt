@@ -2,6 +2,8 @@
 pub mod Headline
 -- the same for a call of a function
 pub mod CallHeadline
+-- everything outside, in a call: what is seen of it before and after, and when nothing of it failed
+pub mod Calls
 -- what a reader has to believe: the promise, what comes of a job, what may be said of files, and how texts are written
 pub mod Promise
 -- What a job makes of files: its output, or the fault for which it refuses them, and which reads it makes.

@@ -2,24 +2,16 @@
 -- The files are seen as `FilesState` before the call and after it, each sink as a `SinkTurn`. What isn't told of a file is left open only
 -- so far as it must be: the report is then the right one for some bytes, and so is the line of a fault.
 use Rattle.std.specs.Prelude.{◌≡◌, ◌≢◌, ◌⊎◌, ℕ, ◌≤◌, List, length, Option, None, Some}
-use Rattle.goi_world.specs.Outside.{Rose}
-use Rattle.goi_world.specs.Seen.{FilesState, FilesKept}
+use Rattle.goi_world.specs.Seen.{FilesKept}
 use Rattle.goi_tasks.specs.declared.fault.Fault.{Fault}
 use Rattle.goi_tasks.specs.Outputs.{Output}
 use Rattle.goi_jobs.specs.Jobs.{JobTree}
 use Rattle.goi_engine.specs.Writes.{SinkTurn, Untouched, Wrote, Broke}
 use Rattle.goi_tasks.specs.Refusals.{most_line, IsLine, fault_line, fault_status, words_line, read_line, memory_line, write_line}
 use Rattle.goi_engine.specs.Verdicts.{Reports, Refuses, NotReadFor, CanDo, Faulty, SurelyLacks}
-
--- everything outside, in a call: what is seen of the files before it and after it, and what came of both sinks
-pub record Call : Type 0 where
-  pub old : FilesState
-  pub new : FilesState
-  pub out : SinkTurn
-  pub err : SinkTurn
-
-abbrev pub call : FilesState → FilesState → SinkTurn → SinkTurn → Call
-call old new out err = record { old = old; new = new; out = out; err = err }
+use Rattle.goi_engine.specs.Calls.{Call, NoneFailed}
+use Rattle.goi_engine.specs.Headline.{RunPromise}
+use Rattle.goi_engine.specs.CallHeadline.{CallPromise}
 
 -- the line was written to `err` whole, and nothing to `out`
 pub record WroteLine (line : List ℕ) (c : Call) : Type 0 where
@@ -106,12 +98,6 @@ MeansNoMemory c = WroteLine memory_line c
 abbrev pub Quiet : SinkTurn → Type 0
 Quiet t = t.new.faults ≡ t.old.faults
 
--- no device failed
-pub record NoneFailed (c : Call) : Type 0 where
-  pub files : Rose c.old.faults c.new.faults → ⊥
-  pub out : Rose c.out.old.faults c.out.new.faults → ⊥
-  pub err : Rose c.err.old.faults c.err.new.faults → ⊥
-
 -- the sinks are sure to take what may come: `out` any report of the job, and `err` any line of a refusal and the notes of any output
 pub record SureRoom (asked : Option JobTree) (c : Call) : Type 0 where
   pub out : (j : JobTree) (o : Output) → asked ≡ Some j → Reports j c.old o → length o.report ≤ c.out.old.spare
@@ -136,8 +122,8 @@ CompleteWords asked c status = asked ≡ None → NoneFailed c → (status ≡ 2
 abbrev pub CompleteLacked : Option JobTree → Call → ℕ → Type 0
 CompleteLacked asked c status = (j : JobTree) → asked ≡ Some j → SurelyLacks j c.old → NoneFailed c → (status ≡ 3) ⊎ (status ≡ 6)
 
--- the promise of the top call, for the job that was asked for, what is seen of the call from outside, and the status that it gave
-pub record Promise (asked : Option JobTree) (c : Call) (status : ℕ) : Type 0 where
+-- what each status means, and that no other comes
+pub record Meanings (asked : Option JobTree) (c : Call) (status : ℕ) : Type 0 where
   pub done : status ≡ 0 → MeansPrinted 0 asked c
   pub fault : status ≡ 1 → MeansFault 1 asked c ⊎ MeansPrinted 1 asked c
   pub bad_words : status ≡ 2 → MeansBadWords asked c
@@ -146,8 +132,15 @@ pub record Promise (asked : Option JobTree) (c : Call) (status : ℕ) : Type 0 w
   pub no_value : status ≡ 5 → MeansPrinted 5 asked c
   pub no_memory : status ≡ 6 → MeansNoMemory c
   pub file_fault : status ≡ 7 → MeansFault 7 asked c
-  -- no other status comes
   pub statuses : (status ≡ 0) ⊎ (status ≡ 1) ⊎ (status ≡ 2) ⊎ (status ≡ 3) ⊎ (status ≡ 4) ⊎ (status ≡ 5) ⊎ (status ≡ 6) ⊎ (status ≡ 7)
+
+-- the promise of the top call, for the job that was asked for, what is seen of the call from outside, and the status that it gave
+pub record Promise (asked : Option JobTree) (c : Call) (status : ℕ) : Type 0 where
+  -- of a run by name and of a call, in their own words
+  pub run : RunPromise asked c status
+  pub call : CallPromise asked c status
+  -- of every job
+  pub means : Meanings asked c status
   -- what the files tell and lack stays
   pub files : FilesKept c.old c.new
   -- a sink's count of faults changes only with status 4, and the files' count only where a file could not be read

@@ -3,7 +3,8 @@
 ghost use Rattle.std.specs.Prelude.{map, string_bytes};
 ghost use Rattle.goi_engine.specs.Writes.{ByWrites};
 ghost use Rattle.goi_words.specs.Asked.{job};
-ghost use Rattle.goi_engine.specs.Promise.{call, Promise};
+ghost use Rattle.goi_engine.specs.Calls.{call};
+ghost use Rattle.goi_engine.specs.Promise.{Promise};
 ghost use Rattle.goi_engine.specs.Verdicts.{ReadFor};
 
 use crate::answer::answer_to;
