@@ -87,38 +87,9 @@ def unlisted(text):
     return sorted(set(documents()) - set(listed) - apart) + sorted(it for it in set(listed) if listed.count(it) > 1)
 
 
-def lines_of_crates():
-    """The lines of crates.txt: each crate, in their order, with those that it names."""
-    lines = [it.split("#")[0].partition(":") for it in read("crates.txt").splitlines()]
-    return {head.split()[0]: rest.split() for head, _, rest in lines if head.strip()}
-
-
-def source(crate):
-    """The code of a crate."""
-    at = os.path.join(TOP, "crates", crate, "src")
-    return "\n".join(read(os.path.join(folder, it)) for folder, _, names in os.walk(at) for it in names if it.endswith(".rt"))
-
-
-def odd_crates(text):
-    """What is wrong with a table of the crates. It has those of crates.txt, in their order but for the crates of one row, each on crates
-    that its line names, and with calls that its code has."""
-    crates, found, alone, together = lines_of_crates(), [], [], []
-    for head, below, calls in re.findall(r"^\| (`.*?) \|.*?\| ?(.*?) ?\|.*\| ?(.*?) ?\|$", text, re.M):
-        names = re.findall(r"`(\w+)`", head)
-        if len(names) > 1:
-            together += names
-            continue
-        crate = names[0]
-        alone.append(crate)
-        found += [f"{crate} rests on {it}" for it in re.findall(r"`(\w+)`", below) if it not in crates.get(crate, [])]
-        code = source(crate)
-        words = [it.split("::")[-1] for it in re.findall(r"`([A-Za-z_:]+)`", calls)]
-        found += [f"{crate} has {it}" for it in words if not re.search(rf"\b{it}\b", code)]
-    found += [f"the table lacks {it}" for it in crates if it not in alone + together]
-    found += [f"there is no {it}" for it in alone + together if it not in crates]
-    if not found and alone != [it for it in crates if it in alone]:
-        found.append("the order of crates.txt")
-    return found
+def remade(text):
+    """Whether the list of crates would be made so."""
+    return call([os.path.join(TOP, "tools/list-crates")], cwd=TOP)[1].decode() == text
 
 
 def odd_readme(text):
@@ -129,9 +100,11 @@ def odd_readme(text):
     if len(quoted) != 1 or quoted[0] not in statement:
         found.append("the headline")
     ran = call([os.path.join(TOP, "tools/believed")], cwd=TOP)[1].decode()
-    first, told = re.search(r"^\| `goi run FILE`.*\| ([\d,]+) \|$", ran, re.M), re.search(r"rests on ([\d,]+) lines", text)
-    if not first or not told or first[1] != told[1]:
-        found.append(f"it rests on {first and first[1]} lines")
+    rows = [it.strip("| ").split(" | ") for it in ran.split("\n") if it.startswith("| ")]
+    counts = [it[4] for it in rows if it[0].startswith(("`goi run FILE`", "`law_headline`"))] + [it[3] for it in rows if it[0] == "all"]
+    told = re.search(r"rest on ([\d,]+) lines of definitions, .* on ([\d,]+), and all commands on ([\d,]+)\.", text)
+    if not told or list(told.groups()) != counts:
+        found.append(f"they rest on {counts} lines")
     kits = set(re.findall(r"rattle-kit-\w+", text))
     section = re.search(r"^## The kit\n(.*?)(?=^## )", read("CONTRIBUTING.md"), re.M | re.S)
     if len(kits) != 1 or not section or not kits <= set(re.findall(r"rattle-kit-\w+", section[1])):
@@ -151,7 +124,7 @@ def shows(text, crate):
 
 def try_listed():
     """Each document holds, and one with a wrong line doesn't."""
-    crates, listed, readme = read("docs/ARCHITECTURE.md"), read("docs/README.md"), read("README.md")
+    crates, listed, readme = read("docs/crates.md"), read("docs/README.md"), read("README.md")
     judge("documents have links", sum(len(links(read(it))) for it in documents()) > 100)
     for document in documents():
         judge(f"links of {document} that lead nowhere", loose(document, read(document)), [])
@@ -161,21 +134,14 @@ def try_listed():
     judge("a link to no heading", loose("docs/README.md", "[it](NET.md#lacked)"), ["NET.md#lacked"])
     judge("documents that the list lacks or has twice", unlisted(listed), [])
     judge("a list without a document", unlisted(listed.replace("(NET.md)", "(WALK.md)")), ["docs/NET.md", "docs/WALK.md"])
-    judge("the table of crates", odd_crates(crates), [])
-    row = re.search(r"^\| `net_check` .*\n", crates, re.M)[0]
-    for what, other, wanted in (
-        ("a table without a crate", "", "the table lacks net_check"),
-        ("a crate that isn't there", row + row.replace("`net_check` |", "`net_chek` |"), "there is no net_chek"),
-        ("a crate on one above it", row.replace("`net_build`", "`net_runs`"), "net_check rests on net_runs"),
-        ("a call that isn't there", row.replace("`check`", "`chek`"), "net_check has chek"),
-    ):
-        judge(what, wanted in odd_crates(crates.replace(row, other)))
+    judge("the list of crates is made of the crates", remade(crates))
+    judge("another list isn't", not remade(crates.replace("`net_check`", "`net_chek`", 1)))
     lesson, plain = quoted("docs/lessons/6-meaning-and-adequacy.md"), lambda it: re.sub(r"\s+", " ", it).strip()
     judge("the sixth lesson quotes a statement", len(lesson), 1)
     judge("as it is", plain(lesson[0]) in plain(read("crates/adequacy_laws/specs/Adequacy.antt")))
     judge("what README quotes and counts", odd_readme(readme), [])
     judge("another headline", odd_readme(readme.replace("n ≤ budget", "budget ≤ n")), ["the headline"])
-    judge("another count", len(odd_readme(re.sub(r"rests on [\d,]+", "rests on 7", readme))), 1)
+    judge("another count", len(odd_readme(re.sub(r"rest on [\d,]+", "rest on 7", readme))), 1)
     library = read("docs/AS_A_LIBRARY.md")
     for crate, old, new in (("program_value", "10_000", "1_000"), ("function_table", "for n in 0..100", "for n in 0..10")):
         judge(f"the small program {crate}", shows(library, crate))
