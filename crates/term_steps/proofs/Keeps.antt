@@ -11,7 +11,7 @@ use Rattle.cbn_meaning.specs.HeadSteps.{Head}
 use Rattle.cbn_meaning.specs.Derivations.{Ev, ev_num, ev_succ, ev_pred, ev_binary, ev_ifz, HasEv, Steps}
 use Rattle.cbn_meaning.proofs.Derived.{binary_inv, ifz_inv, ev_eval, eval_ev}
 use Rattle.cbn_meaning.proofs.Same.{ev_same, same_value}
-use Rattle.cbn_meaning.proofs.Head.{beta, unfold_fix, take_part, succ_steps, pred_steps, app_steps, proj_steps}
+use Rattle.cbn_meaning.proofs.Head.{beta, unfold_fix, take_part, succ_steps, pred_steps, app_steps, proj_steps, binary_steps, ifz_steps}
 use Rattle.term_steps.specs.Steps.{spelled, spell, step}
 use Rattle.term_steps.specs.Spelled.{on_spelled}
 use Rattle.term_steps.proofs.Options.{from_map, from_spelled, spelled_number, spelled_overflow, next_number, succ_moves, pred_moves}
@@ -85,27 +85,13 @@ branch_steps c p q v g = record {
       (j, omega arith, subst (λ w. Ev j (at_zero w p q) r) (same_value x) y);
 }
 
--- the steps of a part
-left_steps : (o : Operator) (m m' n : TermTree) → Steps m m' → Steps (binary o m n) (binary o m' n)
-left_steps o m m' n h = record {
-  forth = λ s r e. let (i, k, v, w, f, g, _, x) = binary_inv e in let (z, f') = h.forth i (value v) f in
-      subst (HasEv (binary o m n)) (sym x) (suc (z + k), ev_binary f' g);
-  back = λ s r e. let (i, k, v, w, f, g, q, x) = binary_inv e in let (z, l, f') = h.back i (value v) f in
-      (suc (z + k), omega arith, subst (Ev (suc (z + k)) (binary o m' n)) (sym x) (ev_binary f' g));
-}
-
+-- the steps of the right part
 right_steps : (o : Operator) (m n n' : TermTree) → Steps n n' → Steps (binary o m n) (binary o m n')
 right_steps o m n n' h = record {
   forth = λ s r e. let (i, k, v, w, f, g, _, x) = binary_inv e in let (z, g') = h.forth k (value w) g in
       subst (HasEv (binary o m n)) (sym x) (suc (i + z), ev_binary f g');
   back = λ s r e. let (i, k, v, w, f, g, q, x) = binary_inv e in let (z, l, g') = h.back k (value w) g in
       (suc (i + z), omega arith, subst (Ev (suc (i + z)) (binary o m n')) (sym x) (ev_binary f g'));
-}
-
-test_steps : (m m' p q : TermTree) → Steps m m' → Steps (ifz m p q) (ifz m' p q)
-test_steps m m' p q h = record {
-  forth = λ s r e. let (i, k, v, f, g, _) = ifz_inv e in let (z, f') = h.forth i (value v) f in (suc (z + k), ev_ifz f' g);
-  back = λ s r e. let (i, k, v, f, g, x) = ifz_inv e in let (z, l, f') = h.back i (value v) f in (suc (z + k), omega arith, ev_ifz f' g);
 }
 
 pub some_same : {m n : TermTree} → Some m ≡ Some n → m ≡ n
@@ -151,7 +137,7 @@ step_steps (binary o a b) n h = go (from_spelled (spelled a)
         to (inr (i, y)) = let (c, p, z) = from_map (λ c. binary o a c) (step b) n y in
             subst (Steps (binary o a b)) z (right_steps o a b c (jh c p))
     go (inr (g, x)) ih jh = let (c, y, z) = from_map (λ c. binary o c b) (step a) n x in
-        subst (Steps (binary o a b)) z (left_steps o a c b (ih c y))
+        subst (Steps (binary o a b)) z (binary_steps o a c b (ih c y))
 step_steps (ifz c p q) n h = go (from_spelled (spelled c) (λ v. Some (at_zero v p q)) (option_map (λ b. ifz b p q) (step c)) n h)
     (step_steps c)
   where
@@ -159,7 +145,7 @@ step_steps (ifz c p q) n h = go (from_spelled (spelled c) (λ v. Some (at_zero v
         (option_map (λ b. ifz b p q) (step c) ≡ Some n)) → ((b : TermTree) → step c ≡ Some b → Steps c b) → Steps (ifz c p q) n
     go (inl (v, g, x)) ih = subst (Steps (ifz c p q)) (some_same x) (branch_steps c p q v g)
     go (inr (g, x)) ih = let (b, y, z) = from_map (λ b. ifz b p q) (step c) n x in
-        subst (Steps (ifz c p q)) z (test_steps c b p q (ih b y))
+        subst (Steps (ifz c p q)) z (ifz_steps c b p q (ih b y))
 step_steps (lam a m) n h = cc
 step_steps (fix a m) n h = subst (Steps (fix a m)) (some_same h) (unfold_fix a m)
 step_steps (app (lam a m) x) n h = subst (Steps (app (lam a m) x)) (some_same h) (beta a m x)
