@@ -2,6 +2,7 @@
 use Rattle.std.proofs.Common.{◌≡◌, ℕ, Bool, true, false, cond, List, [], ◌∷◌, Option, Some, None, refl, sym}
 use Rattle.std.proofs.Common.{subst}
 use Rattle.std.specs.Prelude.{nat_eq}
+use Rattle.std.proofs.lemmas.Option.{same_Some, none-some}
 use Rattle.pcf_values.specs.declared.val.Val.{Val}
 use Rattle.pcf_values.specs.declared.operator.Operator.{Operator}
 use Rattle.pcf_values.specs.Terms.{nat}
@@ -20,7 +21,6 @@ use Rattle.interleave_laws.specs.Runs.{LeadsTo}
 use Rattle.interleave_laws.proofs.Running.{starts_of}
 use Rattle.cell_core.specs.Depths.{Placed, MoveKeeps}
 use Rattle.cell_core.proofs.Typed.{in_at, depths_kept}
-use Rattle.net_rows.proofs.Small.{same_some, none_some}
 
 module _ (net : NetTree) where
   abbrev AllPlaced : Tokens → Type 0
@@ -30,10 +30,10 @@ module _ (net : NetTree) where
   IfPlaced o = (x : TokenTree) → o ≡ Some x → Placed net (place_of x)
 
   some_placed : (x : TokenTree) → Placed net (place_of x) → IfPlaced (Some x)
-  some_placed x p y h = subst (λ x. Placed net (place_of x)) (same_some x y h) p
+  some_placed x p y h = subst (λ x. Placed net (place_of x)) (same_Some x y h) p
 
   none_placed : IfPlaced None
-  none_placed y h = absurd (none_some y h)
+  none_placed y h = absurd (none-some y h)
 
   set_placed : (f : Tokens) (i : ℕ) (o : Option TokenTree) → AllPlaced f → IfPlaced o → AllPlaced (set_token f i o)
   set_placed f i o all p j x h = go (nat_eq j i) h
@@ -44,50 +44,50 @@ module _ (net : NetTree) where
 
   last_placed : (o : Option Val) (S : State) (i n w : ℕ) (t : Boxes) (T : State) → AllPlaced S.tokens → Placed net (down w [] t) →
       last_on o S i n w t ≡ Some T → AllPlaced T.tokens
-  last_placed None S i n w t T all p h = absurd (none_some T h)
+  last_placed None S i n w t T all p h = absurd (none-some T h)
   last_placed (Some u) S i n w t T all p h =
-      subst (λ (T : State). AllPlaced T.tokens) (same_some _ T h)
+      subst (λ (T : State). AllPlaced T.tokens) (same_Some _ T h)
       (set_placed S.tokens i (Some (ans u (down w [] t))) all (some_placed (ans u (down w [] t)) p))
 
   join_placed : (e : Option Entry) (S : State) (i n : ℕ) (o : Operator) (s : Side) (v : Val) (w : ℕ) (t : Boxes) (T : State) →
       AllPlaced S.tokens → Placed net (down w [] t) → join_on e S i n o s v w t ≡ Some T → AllPlaced T.tokens
-  join_placed None S i n o s v w t T all p h = absurd (none_some T h)
+  join_placed None S i n o s v w t T all p h = absurd (none-some T h)
   join_placed (Some pending) S i n o s v w t T all p h =
-      subst (λ (T : State). AllPlaced T.tokens) (same_some _ T h) (set_placed S.tokens i None all none_placed)
+      subst (λ (T : State). AllPlaced T.tokens) (same_Some _ T h) (set_placed S.tokens i None all none_placed)
   join_placed (Some (has_left u)) S i n o s v w t T all p h = last_placed (other o (has_left u) s v) S i n w t T all p h
   join_placed (Some (has_right u)) S i n o s v w t T all p h = last_placed (other o (has_right u) s v) S i n w t T all p h
 
   fork_placed : (e : Option Entry) (S : State) (i n : ℕ) (l r : Place) (t : Boxes) (T : State) → AllPlaced S.tokens →
       Placed net l → Placed net r → fork_on e S i n l r t ≡ Some T → AllPlaced T.tokens
-  fork_placed (Some e) S i n l r t T all p q h = absurd (none_some T h)
+  fork_placed (Some e) S i n l r t T all p q h = absurd (none-some T h)
   fork_placed None S i n l r t T all p q h =
-      subst (λ (T : State). AllPlaced T.tokens) (same_some _ T h)
+      subst (λ (T : State). AllPlaced T.tokens) (same_Some _ T h)
       (set_placed (set_token S.tokens i (Some (ask l))) S.next (Some (ask r))
       (set_placed S.tokens i (Some (ask l)) all (some_placed (ask l) p)) (some_placed (ask r) q))
 
   act_placed : (m : Move) (S : State) (i : ℕ) (T : State) → AllPlaced S.tokens → MoveKeeps net m → act m S i ≡ Some T →
       AllPlaced T.tokens
   act_placed (solo n x) S i T all k h =
-      subst (λ (T : State). AllPlaced T.tokens) (same_some _ T h) (set_placed S.tokens i (Some x) all (some_placed x k))
+      subst (λ (T : State). AllPlaced T.tokens) (same_Some _ T h) (set_placed S.tokens i (Some x) all (some_placed x k))
   act_placed (fork n l r t) S i T all k h = fork_placed (S.entries n t) S i n l r t T all k.0 k.1 h
   act_placed (join n o s v w t) S i T all k h = join_placed (S.entries n t) S i n o s v w t T all k h
   act_placed (answer v) S i T all k h =
-      subst (λ (T : State). AllPlaced T.tokens) (same_some _ T h) (set_placed S.tokens i None all none_placed)
-  act_placed stay S i T all k h = absurd (none_some T h)
+      subst (λ (T : State). AllPlaced T.tokens) (same_Some _ T h) (set_placed S.tokens i None all none_placed)
+  act_placed stay S i T all k h = absurd (none-some T h)
 
   module _ (sound : Sound net) where
     step_placed : (S : State) (i : ℕ) (T : State) → AllPlaced S.tokens → (o : Option TokenTree) → S.tokens i ≡ o →
         step_on net o S i ≡ Some T → AllPlaced T.tokens
-    step_placed S i T all None e h = absurd (none_some T h)
+    step_placed S i T all None e h = absurd (none-some T h)
     step_placed S i T all (Some x) e h = act_placed (move net x) S i T all (depths_kept net sound x (all i x e)) h
 
     log_placed : (log : List ℕ) (S T : State) → AllPlaced S.tokens → run net S log ≡ Some T → AllPlaced T.tokens
-    log_placed [] S T all h = subst (λ (T : State). AllPlaced T.tokens) (same_some S T h) all
+    log_placed [] S T all h = subst (λ (T : State). AllPlaced T.tokens) (same_Some S T h) all
     log_placed (i ∷ log) S T all h = go (step net S i) refl h (log_placed log)
       where
         go : (o : Option State) → step net S i ≡ o → then_run o (λ S. run net S log) ≡ Some T →
             ((S T : State) → AllPlaced S.tokens → run net S log ≡ Some T → AllPlaced T.tokens) → AllPlaced T.tokens
-        go None e h ih = absurd (none_some T h)
+        go None e h ih = absurd (none-some T h)
         go (Some U) e h ih = ih U T (step_placed S i U all (S.tokens i) refl e) h
 
     start_placed : Placed net (start_of net)

@@ -1,7 +1,7 @@
 -- Each move of a sound net leads from stacks of its wire to stacks of the wire that it leads to.
-use Rattle.std.proofs.Common.{◌≡◌, ℕ, zero, suc, Bool, true, false, cond, List, [], ◌∷◌, length, Option, Some, None, refl, sym}
+use Rattle.std.proofs.Common.{◌≡◌, ℕ, zero, suc, Bool, true, false, cond, [], ◌∷◌, length, Option, Some, None, refl, sym}
 use Rattle.std.proofs.Common.{ap, ◌∙◌, subst, ⊎_elim, inl, inr, arith}
-use Rattle.std.specs.Prelude.{nat_eq, slice_get}
+use Rattle.std.specs.Prelude.{nat_eq}
 use Rattle.pcf_values.specs.declared.val.Val.{Val}
 use Rattle.pcf_values.specs.declared.val.Val.TheVariants.{Number, Overflow}
 use Rattle.pcf_values.specs.Values.{at_zero}
@@ -14,7 +14,8 @@ use Rattle.net_build.specs.declared.node.Node.TheVariants.{Const, Succ, Pred, Bi
 use Rattle.net_build.specs.declared.node.Node.TheVariants.{Root}
 use Rattle.net_build.specs.Nets.{WireTree, value_wire, bang_wire, var_wire, NetTree, premises, conclusions}
 use Rattle.net_build.specs.Faces.{node_above, node_below}
-use Rattle.net_build.specs.Sound.{Is, Sound, Meets, Numbers, In}
+use Rattle.net_build.specs.Sound.{Is, Sound, Meets, Numbers}
+use Rattle.net_build.proofs.Entries.{in_at}
 use Rattle.move_rules.specs.Places.{Place, up, down, turned, TokenTree, ask, ans, place_of}
 use Rattle.move_rules.specs.Table.{on_found, plain_up, plain_down}
 use Rattle.move_rules.specs.AtNode.{plain}
@@ -84,11 +85,6 @@ module _ (net : NetTree) where
   turned_placed : (p : Place) → Placed net (turned p) → Placed net p
   turned_placed (up w m t) h = h
   turned_placed (down w m t) h = h
-
-  pub in_at : (n : Node) (ns : List Node) (i : ℕ) → slice_get ns i ≡ Some n → In n ns
-  in_at n [] i h = absurd cc
-  in_at n (x ∷ xs) zero h = inl cc
-  in_at n (x ∷ xs) (suc i) h = inr (in_at n xs i h)
 
   -- a wire of numbers with an empty work stack
   nat_depth : (a w d : ℕ) (t : Boxes) → a ≡ w → Is net a (value_wire d nat) → Placed net (up w [] t) → length t ≡ d

@@ -1,5 +1,5 @@
 -- What settles at an answer: where the token goes, what the innermost fork has, the lists, and the wires of the forks.
-use Rattle.std.proofs.Common.{◌≡◌, ℕ, zero, suc, ◌+◌, ◌-◌, ◌*◌, ◌/◌, ◌%◌, ◌^◌, ◌<◌, ◌≤◌, max, Bool, true, false, List, []}
+use Rattle.std.proofs.Common.{◌≡◌, ℕ, zero, suc, ◌+◌, ◌-◌, ◌*◌, ◌/◌, ◌%◌, ◌^◌, ◌<◌, ◌≤◌, max, List, []}
 use Rattle.std.proofs.Common.{length, Some, None, is_some, refl, ap, ◌∙◌, arith, nat_eq}
 use Rattle.std.proofs.lemmas.Bool.{lt-ltb}
 use Prim.Native.String.{String}
@@ -15,6 +15,7 @@ use Rattle.circuit_module.specs.Sizes.{channel_bits}
 use Rattle.circuit_module.specs.Stands.{value_number}
 use Rattle.circuit_module.proofs.Sizes.{enough_bits}
 use Rattle.circuit_module.specs.InRange.{Named}
+use Rattle.circuit_module.proofs.Values.{fit_flag}
 use Rattle.cell_core.specs.Cells.{Pointer}
 use Rattle.cell_core.specs.Sizes.{Sizes, asked}
 use Rattle.newest_core.specs.Circuit.{CellFork}
@@ -29,10 +30,6 @@ use Rattle.cell_edges.proofs.Lists.{list_fits}
 use Rattle.cell_edges.proofs.Ways.{Way, way, way_is}
 use Rattle.cell_edges.proofs.Moves.{Listed}
 use Rattle.cell_edges.proofs.Tail.{forked, tailed, all_set, to_forks, past_numbers, tail_at, tail_known, count_fits, one_less}
-
-flag_one : (b : Bool) → fit 1 (flag b) ≡ flag b
-flag_one true = refl
-flag_one false = refl
 
 -- ---- where the token goes
 
@@ -76,7 +73,7 @@ module _ (net : NetTree) (z : Sizes) (T : Store) (rst : T.vec "rst" ≡ 0) where
       answered_told : (way net z T rst d).vec "answered" ≡ flag (is_some f.answered)
       answered_told = ap (λ b. fit 1 (chosen b (T.vec "fork_has" / 2 ^ 65 % 2) (T.stray "fork_has" 65)))
           (lt-ltb 65 (C + (B + 66)) (omega arith))
-          ∙ ap (fit 1) has.answered ∙ flag_one (is_some f.answered)
+          ∙ ap (fit 1) has.answered ∙ fit_flag (is_some f.answered)
 
       pub answered_is : W.vec "answered" ≡ flag (is_some f.answered)
       answered_is = as_told "answered" ∙ answered_told

@@ -19,7 +19,7 @@ use Rattle.verilog_tree.proofs.Frames.{settled_leaves}
 use Rattle.circuit_module.specs.Stands.{value_number, Small}
 use Rattle.circuit_module.specs.Module.{is_product, multiplies}
 use Rattle.circuit_module.proofs.Values.{high_number, low_number, value_low, succ_value}
-use Rattle.circuit_module.proofs.Boths.{plus_number, minus_number, times_number, within_small}
+use Rattle.circuit_module.proofs.Boths.{plus_number, minus_number, times_number, succ_small}
 use Rattle.cell_core.specs.Sizes.{Sizes}
 use Rattle.cell_module.specs.Fixed.{cell_fork_wires, number_wires}
 use Rattle.cell_module.specs.Module.{cell_product}
@@ -137,10 +137,6 @@ module _ (net : NetTree) (z : Sizes) (Q : Store) where
     succ_is = ap (fit 65) (ap (λ n. fit 65 (chosen (nonzero (flag (nonzero (n / 2 ^ 64 % 2) || nonzero
         (flag (nat_eq (fit 64 (n / 2 ^ 0)) (2 ^ 64 - 1)))))) (2 ^ 64) (fit 65 (n + 1)))) result_is ∙ succ_value v sv)
         ∙ fits 65 (value_number (val_succ v)) (value_low (val_succ v) (succ_small v))
-      where
-        succ_small : (v : Val) → Small (val_succ v)
-        succ_small (Number n) = within_small (n + 1)
-        succ_small Overflow = tt
 
     module _ (u : Val) (su : Small u) (kept : Q.vec "kept" ≡ value_number u) where
       kept_is : (tailed net z Q).vec "kept" ≡ value_number u

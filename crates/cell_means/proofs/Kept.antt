@@ -1,5 +1,5 @@
 -- What the circuit over cells keeps to, be it full or not: the value of its token and the answers that its forks keep are small.
-use Rattle.std.proofs.Common.{◌≡◌, ℕ, zero, suc, ◌+◌, Bool, true, false, cond, ◌||◌, List, [], ◌∷◌, length}
+use Rattle.std.proofs.Common.{◌≡◌, ℕ, zero, suc, Bool, true, false, cond, ◌||◌, List, [], ◌∷◌, length}
 use Rattle.std.proofs.Common.{Option, Some, None, refl, subst, arith}
 use Rattle.std.specs.Prelude.{nat_lt}
 use Rattle.pcf_values.specs.declared.val.Val.{Val}
@@ -11,7 +11,7 @@ use Rattle.interleave_laws.specs.Start.{start_of}
 use Rattle.net_rows.specs.Rows.{Channel, falls, Row, CONST, SUCC, PRED, TEST, FORK, JOIN, ANSWER, DEAD, row_of, channel_of}
 use Rattle.circuit_module.specs.Stands.{Small}
 use Rattle.circuit_module.specs.InRange.{RowFits, InRange}
-use Rattle.circuit_module.proofs.Boths.{within_small, op_small}
+use Rattle.circuit_module.proofs.Boths.{op_small, succ_small}
 use Rattle.cell_core.specs.Cells.{Cell, Made, row_on, after}
 use Rattle.cell_core.specs.Sizes.{Sizes, asked, too_long, used_up}
 use Rattle.newest_core.specs.Circuit.{CellToken, CellFork, CellCircuit, stuck, goes, shifted, split, arrive, arrive_at, operate}
@@ -26,10 +26,6 @@ AllSmall (f ∷ fs) = ((u : Val) → f.answered ≡ Some u → Small u) × AllSm
 pub record Kept (C : CellCircuit) : Type 0 where
   pub token : (k : CellToken) → C.live ≡ Some k → Small k.value
   pub forks : AllSmall C.forks
-
-succ_small : (v : Val) → Small (val_succ v)
-succ_small (Number n) = within_small (n + 1)
-succ_small Overflow = tt
 
 pred_small : (v : Val) → Small v → Small (val_pred v)
 pred_small (Number zero) h = h

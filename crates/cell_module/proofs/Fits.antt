@@ -2,8 +2,8 @@
 use Rattle.std.proofs.Common.{◌≡◌, ℕ, zero, suc, ◌+◌, ◌-◌, ◌*◌, ◌^◌, ◌<◌, ◌≤◌, max, Bool, true, false, not, ◌&&◌, ◌||◌, List, [], ◌∷◌, ◌++◌}
 use Rattle.std.proofs.Common.{length, Option, Some, None, refl, ap, sym, subst, ◌∙◌, arith, nat_eq, nat_lt, nat_le}
 use Rattle.std.proofs.lemmas.Bool.{and_from, and_parts, lt-ltb, le-leb, eqb-true}
+use Rattle.std.proofs.lemmas.Float.{T_from_true}
 use Prim.Native.String.{String}
-use lib.Dec.{T}
 use lib.Text.{eqt, eqt→eq}
 use Rattle.pcf_values.specs.declared.operator.Operator.{Operator}
 use Rattle.net_build.specs.Nets.{NetTree}
@@ -31,17 +31,13 @@ same_size (more a b) (more c d) = same_size a c && same_size b d
 same_size (less a b) (less c d) = same_size a c && same_size b d
 same_size a b = false
 
-truth : (b : Bool) → b ≡ true → T b
-truth true e = tt
-truth false e = let n : ⊥ = cc in absurd n
-
 same_is : (a b : Size) → same_size a b ≡ true → a ≡ b
 same_is (count n) (count m) h = ap count (eqb-true n m h)
 same_is (count n) (named y) h = absurd cc
 same_is (count n) (more c d) h = absurd cc
 same_is (count n) (less c d) h = absurd cc
 same_is (named x) (count m) h = absurd cc
-same_is (named x) (named y) h = ap named (eqt→eq x y (truth (eqt x y) h))
+same_is (named x) (named y) h = ap named (eqt→eq x y (T_from_true (eqt x y) h))
 same_is (named x) (more c d) h = absurd cc
 same_is (named x) (less c d) h = absurd cc
 same_is (more a b) (count m) h = absurd cc

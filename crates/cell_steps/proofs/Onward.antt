@@ -1,5 +1,5 @@
 -- From what has settled, and what the clock's block makes of it, to registers that stand for the next circuit.
-use Rattle.std.proofs.Common.{◌≡◌, ℕ, suc, ◌+◌, ◌*◌, ◌%◌, ◌^◌, ◌<◌, ◌≤◌, max, true, false, List, ◌∷◌}
+use Rattle.std.proofs.Common.{◌≡◌, ℕ, suc, ◌+◌, ◌*◌, ◌%◌, ◌^◌, ◌<◌, ◌≤◌, max, true, false, List, ◌∷◌, le_trans, lt_of_lt_of_le}
 use Rattle.std.proofs.Common.{length, Some, None, is_some, refl, sym, ap, ◌∙◌, subst, arith}
 use Rattle.std.proofs.lemmas.Bool.{lt-ltb}
 use Prim.Native.String.{String}
@@ -29,13 +29,6 @@ use Rattle.cell_edges.proofs.Moves.{Listed, Room, sig_place, box_place}
 use Rattle.cell_edges.proofs.Tail.{past_lists, TailQuiet, quiet_depth, quiet_top, next_fork_is, count_fits}
 use Rattle.cell_steps.specs.Meets.{Meets}
 use Rattle.cell_steps.proofs.Clock.{Base, GoesOn, SameCells, ReadCells, SameForks, ReadFork, Quiet, EndsFull, edge_at, edge_known}
-
--- a number below one that is at most another
-under : (a b c : ℕ) → a < b → b ≤ c → a < c
-under a b c l h = omega arith
-
-pub at_most : (a b c : ℕ) → a ≤ b → b ≤ c → a ≤ c
-at_most a b c l h = omega arith
 
 module _ (net : NetTree) (z : Sizes) (sizes : CellSizes z) (range : InRange net) (C : CellCircuit) (S : Store) (st : Stands net z C S)
     (k : CellToken) (live : C.live ≡ Some k) (ready : C.full ≡ false) (meets : Meets net z C k) where
@@ -229,14 +222,14 @@ module _ (net : NetTree) (z : Sizes) (sizes : CellSizes z) (range : InRange net)
         token = token_at j G b v h;
         row = row_at G b j.channel h.goes;
         fetched = λ p e. record {
-          sig = λ r low. sig_read G j.stacks o h.lists h.sigs (under (first_of j.stacks.sigs).place t C.store.top low l);
-          box = λ r low. box_read G j.stacks o h.lists h.boxes (under (first_of j.stacks.boxes).place t C.store.top low l);
+          sig = λ r low. sig_read G j.stacks o h.lists h.sigs (lt_of_lt_of_le low l);
+          box = λ r low. box_read G j.stacks o h.lists h.boxes (lt_of_lt_of_le low l);
           fork = f.read p e;
         };
-        top = o.top ∙ ap (fit (place_bits z.cells)) et ∙ count_fits z.cells t (at_most t C.store.top z.cells l g.few);
-        few = at_most t C.store.top z.cells l g.few;
-        cells = λ i low. cells_at G same i (under i t C.store.top low l);
-        cells_fit = λ i low. g.cells_fit i (under i t C.store.top low l);
+        top = o.top ∙ ap (fit (place_bits z.cells)) et ∙ count_fits z.cells t (le_trans l g.few);
+        few = le_trans l g.few;
+        cells = λ i low. cells_at G same i (lt_of_lt_of_le low l);
+        cells_fit = λ i low. g.cells_fit i (lt_of_lt_of_le low l);
         forks = f.stack;
         depth = f.depth;
         few_forks = f.few;

@@ -1,6 +1,7 @@
 -- One edge of the module over cells is one cycle of the circuit over cells.
 use Rattle.std.proofs.Common.{◌≡◌, ℕ, zero, suc, ◌<◌, Bool, true, false, cond, ◌||◌, ◌∷◌, length, Option, Some, None, is_some}
 use Rattle.std.proofs.Common.{refl, sym, ap, ◌∙◌, subst, arith}
+use Rattle.std.proofs.lemmas.Bool.{or_right}
 use Rattle.pcf_values.specs.declared.operator.Operator.{Operator}
 use Rattle.pcf_values.specs.declared.side.Side.{Side}
 use Prim.Native.String.{String}
@@ -200,12 +201,8 @@ module _ (net : NetTree) (z : Sizes) (sizes : CellSizes z) (range : InRange net)
 pub steps : CellsApart → ForksApart → QuestionsApart → CellModuleSteps
 steps cells_apart forks_apart questions_apart net z sizes sound range C S st meets = go C.full refl C.live refl
   where
-    either : (a : Bool) → (a || true) ≡ true
-    either true = refl
-    either false = refl
-
     go : (b : Bool) → C.full ≡ b → (d : Option CellToken) → C.live ≡ d → Stands net z (cond b C (clock_on net z d C)) (cell_edge net z S)
-    go true u d e = idle net z C S st (ap (λ b. is_some C.result || b) u ∙ either (is_some C.result)) (λ k h f. absurd cc)
+    go true u d e = idle net z C S st (ap (λ b. is_some C.result || b) u ∙ or_right (is_some C.result) true refl) (λ k h f. absurd cc)
     go false u None e = idle net z C S st (ap (λ b. b || C.full) (st.ended e)) (λ k h f. absurd cc)
     go false u (Some k) e = goes_on net z sizes range C S st k e u (meets k e u) sound cells_apart forks_apart questions_apart
 

@@ -5,7 +5,7 @@ use Rattle.std.proofs.lemmas.Bool.{ltb-true, ltb-false, ne_eqb}
 use Rattle.pcf_values.specs.declared.val.Val.{Val}
 use Rattle.pcf_values.specs.declared.val.Val.TheVariants.{Number, Overflow}
 use Rattle.pcf_values.specs.declared.operator.Operator.{Operator}
-use Rattle.pcf_values.specs.Values.{within, val_op}
+use Rattle.pcf_values.specs.Values.{within, val_op, val_succ}
 use Rattle.pcf_values.proofs.Arithmetic.{IsSmall, within_small as is_small, op_small as op_is_small}
 use Rattle.verilog_tree.specs.Meaning.{flag, fit, nonzero, chosen}
 use Rattle.circuit_module.specs.Stands.{value_number, Small}
@@ -77,6 +77,10 @@ from_small Overflow h = tt
 -- what both come to is below 2 ^ 64, where both are
 pub within_small : (n : ℕ) → Small (within n)
 within_small n = to_small (within n) (is_small n)
+
+pub succ_small : (v : Val) → Small (val_succ v)
+succ_small (Number n) = within_small (n + 1)
+succ_small Overflow = tt
 
 pub op_small : (o : Operator) (x y : Val) → Small x → Small y → Small (val_op o x y)
 op_small o x y s t = to_small (val_op o x y) (op_is_small o x y (from_small x s))

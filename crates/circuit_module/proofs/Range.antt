@@ -1,7 +1,7 @@
 -- A sound net's rows are in range.
 use Rattle.std.proofs.Common.{◌≡◌, ℕ, zero, suc, ◌<◌, Bool, true, false, ◌||◌, cond, List, [], ◌∷◌, length, Option, Some, None}
 use Rattle.std.proofs.Common.{refl, sym, ap, ◌∙◌, subst, arith, nat_eq, nat_lt, ⊎_elim, inl, inr, slice_get}
-use Rattle.std.proofs.lemmas.Bool.{ltb-true}
+use Rattle.std.proofs.lemmas.Bool.{ltb-true, or_right}
 use Rattle.pcf_values.specs.declared.operator.Operator.{Operator}
 use Rattle.pcf_values.specs.declared.side.Side.TheVariants.{Left, Right}
 use Rattle.net_build.specs.declared.node.Node.{Node}
@@ -56,11 +56,7 @@ times_there : (ns : List Node) (o : Operator) (a b w : ℕ) → is_product o ≡
 times_there [] o a b w p h = absurd h
 times_there (n ∷ ns) o a b w p h =
     ⊎_elim (λ e. subst (λ n. multiplies (n ∷ ns) ≡ true) e (ap (λ b. b || multiplies ns) p))
-    (λ i. either_true (is_times n) (multiplies ns) (times_there ns o a b w p i)) h
-  where
-    either_true : (a b : Bool) → b ≡ true → (a || b) ≡ true
-    either_true true b h = refl
-    either_true false b h = h
+    (λ i. or_right (is_times n) (multiplies ns) (times_there ns o a b w p i)) h
 
 -- whether a row multiplies
 abbrev row_times : Row → Bool

@@ -15,6 +15,11 @@ high_number n l = omega arith
 pub low_number : (n : ℕ) → n < 2 ^ 64 → fit 64 (n / 2 ^ 0) ≡ n
 low_number n l = omega arith
 
+-- a bit is 1 where the number is other than 0
+pub fit_flag : (b : Bool) → fit 1 (flag b) ≡ flag b
+fit_flag true = refl
+fit_flag false = refl
+
 pub value_low : (v : Val) → Small v → value_number v < 2 ^ 65
 value_low (Number n) s = omega arith
 value_low Overflow s = omega arith

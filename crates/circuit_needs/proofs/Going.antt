@@ -6,11 +6,11 @@ use Rattle.std.proofs.lemmas.List.{length-append}
 use Rattle.std.specs.Prelude.{max}
 use Rattle.std.specs.FinMap.{get}
 use Rattle.std.specs.Option.{IsSome, option_map}
+use Rattle.std.proofs.lemmas.Option.{same_Some, none-some}
 use Rattle.pcf_values.specs.Most.{most_budget}
 use Rattle.net_build.specs.Nets.{NetTree}
 use Rattle.move_rules.specs.Places.{TokenTree}
 use Rattle.move_rules.specs.Moves.{move}
-use Rattle.move_rules.proofs.Facing.{one_some}
 use Rattle.interleave_laws.specs.Start.{start_of}
 use Rattle.interleave_laws.specs.States.{State}
 use Rattle.interleave_laws.specs.Finished.{Finished}
@@ -47,9 +47,6 @@ counted_none net w t f c = record {
   counts_forks = refl;
 }
 
-none_some : {A : Type 0} (a : A) → None ≡ Some a → ⊥
-none_some a h = cc
-
 -- without a current token nothing moves
 tick_rest : (net : NetTree) (R : Registers) → R.live ≡ None → (tick net R).live ≡ None
 tick_rest net R e = go R.full R.live e
@@ -83,7 +80,7 @@ fired_last net (suc k) R i x e = go R.live refl (fired_last net k (tick net R) i
         fired net (suc k) (tick net R) ≡ fired net k (tick net R) ++ i ∷ [] →
         on_live c (fired net (suc k) (tick net R)) ≡ on_live c (fired net k (tick net R)) ++ i ∷ []
     go None live ih =
-        absurd (none_some (i, x) (sym (ticks_rest net (suc k) R live) ∙ e))
+        absurd (none-some (i, x) (sym (ticks_rest net (suc k) R live) ∙ e))
     go (Some c) live ih = ap (λ l. c.0 ∷ l) ih
 
 -- the newest order's log is finished within its budget
@@ -91,7 +88,7 @@ pub newest_finished : (net : NetTree) → Runs net → (budget : ℕ) (S : MapSt
     Finished S.answered (newest net budget) budget
 newest_finished net runs budget S leads =
     let f : Follows net budget = follows net runs budget in
-    let is : f.state ≡ seen S = one_some f.state (seen S) (sym f.leads ∙ seen_leads net (newest net budget) S leads) in
+    let is : f.state ≡ seen S = same_Some f.state (seen S) (sym f.leads ∙ seen_leads net (newest net budget) S leads) in
     (f.finished.0, λ e. f.finished.1 (ap (λ (S : State). S.answered) is ∙ e))
 
 module _ (net : NetTree) (runs : Runs net) (S : MapState) (w : Walk) (moves cells forks : ℕ)
@@ -107,7 +104,7 @@ module _ (net : NetTree) (runs : Runs net) (S : MapState) (w : Walk) (moves cell
       go : (c : Option (ℕ × TokenTree)) → R.live ≡ c → option_map (λ (c : ℕ × TokenTree). c.0) c ≡ Some i →
           (x : TokenTree) × (R.live ≡ Some (i, x))
       go None live h = absurd cc
-      go (Some c) live h = (c.1, live ∙ ap (λ j. Some (j, c.1)) (one_some c.0 i h))
+      go (Some c) live h = (c.1, live ∙ ap (λ j. Some (j, c.1)) (same_Some c.0 i h))
 
   -- is that of the state
   its_token : (i : ℕ) (x : TokenTree) → R.live ≡ Some (i, x) → get S.tokens i ≡ Some x
@@ -172,7 +169,7 @@ module _ (net : NetTree) (runs : Runs net) (S : MapState) (w : Walk) (moves cell
     shows_next =
         let f : Follows net (suc moves) = follows net runs (suc moves) in
         subst (Shows (ticks net (suc moves) (reset net)))
-        (one_some f.state (seen T) (sym f.leads ∙ seen_leads net (newest net (suc moves)) T leads_next)) f.shows
+        (same_Some f.state (seen T) (sym f.leads ∙ seen_leads net (newest net (suc moves)) T leads_next)) f.shows
 
     counted_next : IsCounted net T v (suc moves) (max cells v.cells) (max forks (length v.forks.items))
     counted_next =

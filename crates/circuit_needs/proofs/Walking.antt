@@ -4,6 +4,7 @@ use Rattle.std.proofs.Common.{Option, Some, None, refl, sym, ap, ◌∙◌, subs
 use Rattle.std.proofs.lemmas.List.{length-append}
 use Rattle.std.specs.FinMap.{get}
 use Rattle.std.specs.Option.{option_map}
+use Rattle.std.proofs.lemmas.Option.{same_Some}
 use Rattle.pcf_values.specs.declared.val.Val.{Val}
 use Rattle.pcf_values.specs.declared.operator.Operator.{Operator}
 use Rattle.pcf_values.specs.declared.side.Side.{Side}
@@ -12,7 +13,6 @@ use Rattle.fork_join.specs.Entries.{same_key}
 use Rattle.fork_join.proofs.Keys.{key_same}
 use Rattle.move_rules.specs.Places.{TokenTree}
 use Rattle.move_rules.specs.Moves.{Move, solo, fork, join, answer, stay}
-use Rattle.move_rules.proofs.Facing.{one_some}
 use Rattle.interleave_laws.specs.Maps.{MapState}
 use Rattle.interleave_core.specs.declared.stepped.Stepped.{Stepped}
 use Rattle.interleave_core.specs.declared.stepped.Stepped.TheVariants.{Went, Forked, Kept, Joined, Answered}
@@ -43,11 +43,11 @@ module _ (S : MapState) (i : ℕ) (x : TokenTree) (R : Registers) (live : R.live
       w.forks.items ≡ all_kept fs ++ record { waiting = waiting_of h; cells = f.cells } ∷ [] → name_at (Some (entry_of h)) y ≡ Some s →
       GoesOn s w v → IsWalk (meets_half h f fs i o y b t R) v
   half_walk (waits j p) f fs o y b t s kept name g =
-      let e : GoesOn Kept w v = subst (λ s. GoesOn s w v) (sym (one_some Kept s name)) g in
+      let e : GoesOn Kept w v = subst (λ s. GoesOn s w v) (sym (same_Some Kept s name)) g in
       let (a, c, d) = e (all_kept fs) (record { waiting = Some j; cells = f.cells }) kept in
       record { ticket = a; forks = c; cells = d }
   half_walk (came u) f fs o y b t s kept name g =
-      let e : GoesOn (Joined u y) w v = subst (λ s. GoesOn s w v) (sym (one_some (Joined u y) s name)) g in
+      let e : GoesOn (Joined u y) w v = subst (λ s. GoesOn s w v) (sym (same_Some (Joined u y) s name)) g in
       let (a, c, d) = e (all_kept fs) (record { waiting = None; cells = f.cells }) kept in
       record { ticket = a ∙ here; forks = c; cells = d }
 
@@ -71,10 +71,10 @@ module _ (S : MapState) (i : ℕ) (x : TokenTree) (R : Registers) (live : R.live
       ((n : ℕ) (o : Operator) (d : Side) (y : Val) (b : ℕ) (t : Boxes) → m ≡ join n o d y b t → IsInnermost R.forks n t d) →
       name_of m S ≡ Some s → GoesOn s w v → IsWalk (does m i R) v
   does_walk (solo n y) s next entries inn name g =
-      let e : GoesOn Went w v = subst (λ s. GoesOn s w v) (sym (one_some Went s name)) g in
+      let e : GoesOn Went w v = subst (λ s. GoesOn s w v) (sym (same_Some Went s name)) g in
       record { ticket = e.0 ∙ here; forks = e.1 ∙ walk.forks; cells = e.2 ∙ walk.cells }
   does_walk (fork n l r t) s next entries inn name g =
-      let e : GoesOn (Forked S.next) w v = subst (λ s. GoesOn s w v) (sym (one_some (Forked S.next) s name)) g in
+      let e : GoesOn (Forked S.next) w v = subst (λ s. GoesOn s w v) (sym (same_Some (Forked S.next) s name)) g in
       record {
         ticket = e.0 ∙ here;
         forks = e.1 ∙ ap (λ l. l ++ record { waiting = Some S.next; cells = w.cells } ∷ []) walk.forks ∙
@@ -85,6 +85,6 @@ module _ (S : MapState) (i : ℕ) (x : TokenTree) (R : Registers) (live : R.live
   does_walk (join n o d y b t) s next entries inn name g =
       meets_walk R.forks n o d y b t s walk.forks (inn n o d y b t refl) (ap (λ e. name_at e y) (sym (entries n t)) ∙ name) g
   does_walk (answer y) s next entries inn name g =
-      let e : GoesOn (Answered y) w v = subst (λ s. GoesOn s w v) (sym (one_some (Answered y) s name)) g in
+      let e : GoesOn (Answered y) w v = subst (λ s. GoesOn s w v) (sym (same_Some (Answered y) s name)) g in
       record { ticket = e.0; forks = e.1 ∙ walk.forks; cells = e.2 ∙ walk.cells }
   does_walk stay s next entries inn name g = absurd cc

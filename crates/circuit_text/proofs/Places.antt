@@ -1,5 +1,5 @@
 -- Which port a node has, where each third one from the first on has one.
-use Rattle.std.proofs.Common.{◌≡◌, ◌<◌, ◌≤◌, ◌+◌, ◌-◌, ◌*◌, ◌/◌, ◌%◌, ◌∙◌, ℕ, zero, suc, length, Some, None, refl, sym, ap}
+use Rattle.std.proofs.Common.{◌≡◌, ◌<◌, ◌≤◌, ◌+◌, ◌-◌, ◌*◌, ◌/◌, ◌%◌, ◌∙◌, ℕ, zero, suc, Some, None, refl, sym, ap}
 use Rattle.std.proofs.Common.{arith, cond}
 use Rattle.std.proofs.lemmas.Bool.{eq-eqb, ne_eqb}
 use Rattle.open_net_laws.specs.Numbers.{places_from}
@@ -23,11 +23,6 @@ places_hit f k (suc n) i (suc j) l e =
     let s : suc i + j ≡ i + suc j = omega arith in
     ap (λ b. cond b (Some i) (port_at (suc i) (places_from (suc (suc (suc f))) n) k)) (ne_eqb f k (λ q. absurd (omega (arith, q, e))))
     ∙ places_hit (suc (suc (suc f))) k n (suc i) j (omega (arith, l)) (omega (arith, e)) ∙ ap Some s
-
--- how many there are
-pub how_many : (f n : ℕ) → length (places_from f n) ≡ n
-how_many f zero = refl
-how_many f (suc n) = ap suc (how_many (suc (suc (suc f))) n)
 
 -- ---- by a number's place among them
 

@@ -6,6 +6,7 @@ use Rattle.cell_core.specs.Sizes.{Sizes}
 use Rattle.verilog_tree.specs.Tree.{name, Arms, Stmt, branch}
 use Rattle.verilog_tree.specs.Meaning.{Store, Scope, scope, flag, nonzero, fit, chosen, holds, set_vec, settled, fire}
 use Rattle.circuit_module.specs.Fixed.{block}
+use Rattle.circuit_module.proofs.Values.{fit_flag}
 use Rattle.cell_module.specs.Fixed.{does, fetch_row, lists_move, make_cell, read_cells, open_fork, other_fork, note_answer, end_move}
 use Rattle.late_module.specs.Fixed.{late_number_wires, always_taken, late_value_move, late_count, late_move}
 use Rattle.late_module.specs.Module.{late_module_with}
@@ -20,11 +21,6 @@ set_kept : (c h : Bool) (n l m r : ℕ) (F : Store) → F.vec "nonzero" ≡ flag
 set_kept true h n l m r F e a b = a refl
 set_kept false true n l m r F e a b = b
 set_kept false false n l m r F e a b = e
-
--- a bit is 1 where the number is other than 0
-fit_flag : (b : Bool) → fit 1 (flag b) ≡ flag b
-fit_flag true = refl
-fit_flag false = refl
 
 -- the lower half of one more is all ones where that of the number is one less
 last_is : (m : ℕ) → fit 1 (flag (nat_eq (fit 32 (m / 2 ^ 0)) 4294967294)) ≡

@@ -1,15 +1,16 @@
 -- A cycle of a product, told by what has settled before it: for the unit by itself, and for a module with its registers and wires.
-use Rattle.std.proofs.Common.{◌≡◌, ℕ, zero, suc, ◌+◌, ◌*◌, ◌/◌, ◌%◌, ◌^◌, ◌<◌, max, Bool, true, false, cond, ◌||◌, ◌&&◌, refl, ap}
+use Rattle.std.proofs.Common.{◌≡◌, ℕ, zero, suc, ◌+◌, ◌*◌, ◌/◌, ◌%◌, ◌^◌, ◌<◌, max, Bool, true, false, cond, ◌||◌, ◌&&◌, refl, ap, add-zero}
 use Rattle.std.proofs.Common.{sym, ◌∙◌, arith, nat_eq, nat_le, nat_lt}
 use Rattle.std.proofs.lemmas.Bool.{leb-true, leb-false, eq-eqb, ne_eqb}
 use Prim.Native.String.{String}
 use Rattle.verilog_tree.specs.Tree.{name, none, bit, num}
 use Rattle.verilog_tree.specs.Meaning.{Scope, Store, flag, fit, nonzero, chosen, holds, fire}
 use Rattle.circuit_module.specs.Fixed.{set}
+use Rattle.circuit_module.proofs.Values.{fit_flag}
 use Rattle.late_numbers.specs.Product.{Product, begun, odd, bit_done, bits_done}
 use Rattle.late_numbers.specs.ProductUnit.{product_begins, sum_taken, bits_shift, product_moves}
 use Rattle.late_numbers.specs.Laws.{IsProduct, Narrow}
-use Rattle.late_numbers.proofs.Quarters.{quarter, right, joined, carry, all_joined, joined_low}
+use Rattle.late_numbers.proofs.Quarters.{quarter, right, joined, carry, all_joined, joined_low, bit_low}
 
 -- ---- numbers
 
@@ -52,10 +53,6 @@ high_is n l = carry_high (n / 2 ^ 63 % 2) refl (nat_le (2 ^ 63) n) refl
 flag_back : (b : Bool) → nonzero (flag b) ≡ b
 flag_back true = refl
 flag_back false = refl
-
-fit_flag : (b : Bool) → fit 1 (flag b) ≡ flag b
-fit_flag true = refl
-fit_flag false = refl
 
 -- what is chosen of two stores
 vec_of : (o : Bool) (X Y : Store) (x : String) → (chosen o X Y).vec x ≡ chosen o (X.vec x) (Y.vec x)
@@ -202,10 +199,7 @@ module _ (P : Scope) (R S : Store) where
         c = carry s.total s.factor 0 narrow.total narrow.factor two
 
         all : c * 2 ^ 64 + j ≡ s.total + s.factor
-        all = all_joined s.total s.factor 0 narrow.total narrow.factor two ∙ none_more (s.total + s.factor)
-          where
-            none_more : (n : ℕ) → n + 0 ≡ n
-            none_more n = omega arith
+        all = all_joined s.total s.factor 0 narrow.total narrow.factor two ∙ add-zero (s.total + s.factor)
 
         -- the highest quarter that is right, from all of them
         abbrev third : (p0 p1 n1 p2 n2 p3 n3 : ℕ) → ℕ
@@ -222,10 +216,7 @@ module _ (P : Scope) (R S : Store) where
             ∙ (λ i. third (q.part0 i) (q.part1 i) (q.next1 i) (q.part2 i) (q.next2 i) (q.part3 i) (q.next3 i) / 2 ^ 16 % 2)
 
         carry_low : c < 2
-        carry_low = low _
-          where
-            low : (n : ℕ) → n % 2 < 2
-            low n = omega arith
+        carry_low = bit_low _
 
         j_low : j < 2 ^ 64
         j_low = joined_low _ _ _ _

@@ -1,5 +1,5 @@
 -- A product in the unit by itself: it begins with the operands, and two edges are a bit.
-use Rattle.std.proofs.Common.{◌≡◌, ℕ, Bool, true, false, zero, suc, ◌+◌, ◌*◌, ◌%◌, ◌^◌, ◌<◌, refl, ap, sym, ◌∙◌, arith, subst}
+use Rattle.std.proofs.Common.{◌≡◌, ℕ, Bool, true, false, zero, suc, ◌+◌, ◌*◌, ◌%◌, ◌^◌, refl, ap, sym, ◌∙◌, arith, subst}
 use Prim.Native.String.{String}
 use Rattle.verilog_tree.specs.Tree.{bit, num}
 use Rattle.verilog_tree.specs.Meaning.{Scope, Store, scope, fit, nonzero, chosen, holds, settled, fire}
@@ -7,7 +7,7 @@ use Rattle.late_numbers.specs.Product.{Product, begun, bit_done, bits_done}
 use Rattle.late_numbers.specs.Unit.{quarters_meet}
 use Rattle.late_numbers.specs.ProductUnit.{product_items, product_edge, product_edges}
 use Rattle.late_numbers.specs.Laws.{IsProduct, Narrow, ProductBegins, ProductGoes, ProductLasts}
-use Rattle.late_numbers.proofs.Quarters.{added, quarter}
+use Rattle.late_numbers.proofs.Quarters.{added, quarter, low, whole_first, whole_second}
 use Rattle.late_numbers.proofs.OneBit.{Widths, SumMet, Quartered, narrow_on, went, others_left, begins_now, turns_now, adds_now}
 
 abbrev P : Scope
@@ -48,9 +48,6 @@ product_begins_is S a b la lb ka rb idle =
           (subst (λ b. IsProduct (product_edge S) (begun (S.vec "kept" % 2 ^ 64) b)) (ap (λ n. n % 2 ^ 64) rb ∙ low b lb) h.0),
       h.1,
     )
-  where
-    low : (n : ℕ) → n < 2 ^ 64 → n % 2 ^ 64 ≡ n
-    low n l = omega arith
 
 -- ---- a bit
 
@@ -75,17 +72,12 @@ module _ (S : Store) (s : Product) (narrow : Narrow s) (h : IsProduct S s) (goes
 
   first_is : fit 65 (chosen (nonzero (S.vec "begun")) (0 * 2 ^ 64 + S.vec "total") (S.vec "kept")) ≡ s.total
   first_is =
-      (λ i. fit 65 (chosen (nonzero (goes i)) (0 * 2 ^ 64 + h.total i) (S.vec "kept"))) ∙ whole s.total narrow.total
-    where
-      whole : (n : ℕ) → n < 2 ^ 64 → fit 65 (0 * 2 ^ 64 + n) ≡ n
-      whole n l = omega arith
+      (λ i. fit 65 (chosen (nonzero (goes i)) (0 * 2 ^ 64 + h.total i) (S.vec "kept"))) ∙ whole_first s.total narrow.total
 
   second_is : added (S.vec "less") (fit 65 (chosen (nonzero (S.vec "begun")) (0 * 2 ^ 64 + S.vec "factor") (S.vec "result"))) ≡ s.factor
   second_is =
-      (λ i. added (plus i) (fit 65 (chosen (nonzero (goes i)) (0 * 2 ^ 64 + h.factor i) (S.vec "result")))) ∙ whole s.factor narrow.factor
-    where
-      whole : (n : ℕ) → n < 2 ^ 64 → added 0 (fit 65 (0 * 2 ^ 64 + n)) ≡ n
-      whole n l = omega arith
+      (λ i. added (plus i) (fit 65 (chosen (nonzero (goes i)) (0 * 2 ^ 64 + h.factor i) (S.vec "result"))))
+      ∙ whole_second s.factor narrow.factor
 
   quarters_are : Quartered (settles E) s.total s.factor
   quarters_are = record {

@@ -11,6 +11,7 @@ use Rattle.verilog_tree.specs.Meaning.{flag, nonzero, chosen}
 use Rattle.circuit_module.specs.Stands.{value_number, Small}
 use Rattle.circuit_module.proofs.Values.{high_number}
 use Rattle.late_numbers.specs.Product.{Product, begun, odd, bit_done, bits_done, told, ProductIsTold, ProductEnds}
+use Rattle.late_numbers.proofs.Quarters.{low}
 
 -- what holds at each bit of the product p, where the left operand would be f if no bit of it were lost
 record Holds (p f : ℕ) (s : Product) : Type 0 where
@@ -184,6 +185,3 @@ value_is (Number a) (Number b) su sv k e =
     let y = low b sv in
     (λ i. value_by (h i) (g i) (flag s.beyond) s.total) ∙ told_number s
     ∙ ap value_number (product_is_told (a % 2 ^ 64) (b % 2 ^ 64) (omega arith) k e) ∙ (λ i. value_number (within (x i * y i)))
-  where
-    low : (n : ℕ) → n < 2 ^ 64 → n % 2 ^ 64 ≡ n
-    low n l = omega arith

@@ -1,5 +1,5 @@
 -- The quarters of a sum and of a difference, put together.
-use Rattle.std.proofs.Common.{◌≡◌, ℕ, zero, suc, ◌+◌, ◌-◌, ◌*◌, ◌/◌, ◌%◌, ◌^◌, ◌<◌, Bool, true, false, cond, ◌||◌, ◌&&◌, refl, ap}
+use Rattle.std.proofs.Common.{◌≡◌, ℕ, zero, suc, ◌+◌, ◌-◌, ◌*◌, ◌/◌, ◌%◌, ◌^◌, ◌<◌, Bool, true, false, cond, ◌||◌, ◌&&◌, refl, ap, add-zero}
 use Rattle.std.proofs.Common.{sym, ◌∙◌, arith, nat_eq, nat_lt, subst}
 use Rattle.std.proofs.lemmas.Bool.{ltb-true, ltb-false}
 use Rattle.pcf_values.specs.declared.val.Val.{Val}
@@ -15,6 +15,19 @@ use Rattle.late_numbers.specs.Laws.{P, met_in, Asks, Quarters, LateSum, LateDiff
 -- the second operand as it is added, where k says that it is taken away
 abbrev pub added : ℕ → ℕ → ℕ
 added k b = fit 64 (chosen (nonzero k) (2 ^ 64 - 1 - fit 64 (b / 2 ^ 0)) (fit 64 (b / 2 ^ 0)))
+
+-- numbers of 64 bits as registers keep them
+pub low : (n : ℕ) → n < 2 ^ 64 → n % 2 ^ 64 ≡ n
+low n l = omega arith
+
+pub whole_first : (n : ℕ) → n < 2 ^ 64 → fit 65 (0 * 2 ^ 64 + n) ≡ n
+whole_first n l = omega arith
+
+pub whole_second : (n : ℕ) → n < 2 ^ 64 → added 0 (fit 65 (0 * 2 ^ 64 + n)) ≡ n
+whole_second n l = omega arith
+
+pub bit_low : (n : ℕ) → n % 2 < 2
+bit_low n = omega arith
 
 -- the quarter from bit n on of both, with a carry, as a register takes it
 abbrev pub quarter : ℕ → ℕ → ℕ → ℕ → ℕ
@@ -94,12 +107,9 @@ module _ (a b k : ℕ) (la : a < 2 ^ 64) (lb : b < 2 ^ 64) (lk : k < 2) where
 
   right_is : (l n : ℕ) → right l (quarter n a b 0) (quarter n a b 1) ≡ pair n + l / 2 ^ 16 % 2
   right_is l n =
-      let e : quarter n a b 0 ≡ pair n = quarter_is n a b 0 (omega arith) ∙ none (pair n) in
+      let e : quarter n a b 0 ≡ pair n = quarter_is n a b 0 (omega arith) ∙ add-zero (pair n) in
       let f : quarter n a b 1 ≡ pair n + 1 = quarter_is n a b 1 (omega arith) in
       (λ i. fit 17 (chosen (nonzero (l / 2 ^ 16 % 2)) (f i) (e i))) ∙ right_sum (l / 2 ^ 16 % 2) (pair n) (omega arith) (pair_low n)
-    where
-      none : (m : ℕ) → m + 0 ≡ m
-      none m = omega arith
 
   -- both parts of a quarter with a carry
   split : (x : ℕ) → x < 2 ^ 17 → x ≡ x / 2 ^ 16 % 2 * 2 ^ 16 + fit 16 (x / 2 ^ 0)
@@ -107,9 +117,6 @@ module _ (a b k : ℕ) (la : a < 2 ^ 64) (lb : b < 2 ^ 64) (lk : k < 2) where
 
   low_enough : (x m : ℕ) → x + 1 < 2 ^ 17 → m < 2 → x + m < 2 ^ 17
   low_enough x m l h = omega arith
-
-  one_bit : (m : ℕ) → m % 2 < 2
-  one_bit m = omega arith
 
   -- the four quarters and the carry out of the highest are the sum
   abbrev pub joined : ℕ
@@ -125,9 +132,9 @@ module _ (a b k : ℕ) (la : a < 2 ^ 64) (lb : b < 2 ^ 64) (lk : k < 2) where
       let e2 = right_is r1 32 in
       let e3 = right_is r2 48 in
       let s0 = split q0 (subst (λ x. x < 2 ^ 17) (sym e0) (low_enough (pair 0) k (pair_low 0) lk)) in
-      let s1 = split r1 (subst (λ x. x < 2 ^ 17) (sym e1) (low_enough (pair 16) (q0 / 2 ^ 16 % 2) (pair_low 16) (one_bit (q0 / 2 ^ 16)))) in
-      let s2 = split r2 (subst (λ x. x < 2 ^ 17) (sym e2) (low_enough (pair 32) (r1 / 2 ^ 16 % 2) (pair_low 32) (one_bit (r1 / 2 ^ 16)))) in
-      let s3 = split r3 (subst (λ x. x < 2 ^ 17) (sym e3) (low_enough (pair 48) (r2 / 2 ^ 16 % 2) (pair_low 48) (one_bit (r2 / 2 ^ 16)))) in
+      let s1 = split r1 (subst (λ x. x < 2 ^ 17) (sym e1) (low_enough (pair 16) (q0 / 2 ^ 16 % 2) (pair_low 16) (bit_low (q0 / 2 ^ 16)))) in
+      let s2 = split r2 (subst (λ x. x < 2 ^ 17) (sym e2) (low_enough (pair 32) (r1 / 2 ^ 16 % 2) (pair_low 32) (bit_low (r1 / 2 ^ 16)))) in
+      let s3 = split r3 (subst (λ x. x < 2 ^ 17) (sym e3) (low_enough (pair 48) (r2 / 2 ^ 16 % 2) (pair_low 48) (bit_low (r2 / 2 ^ 16)))) in
       together q0 r1 r2 r3 (q0 / 2 ^ 16 % 2) (r1 / 2 ^ 16 % 2) (r2 / 2 ^ 16 % 2) carry
       (fit 16 (q0 / 2 ^ 0)) (fit 16 (r1 / 2 ^ 0)) (fit 16 (r2 / 2 ^ 0)) (fit 16 (r3 / 2 ^ 0)) e0 e1 e2 e3 s0 s1 s2 s3
     where
@@ -196,9 +203,6 @@ less_told : (c j a b : ℕ) → c < 2 → j < 2 ^ 64 → a < 2 ^ 64 → b < 2 ^ 
 less_told zero j a b lc lj la lb e = omega arith
 less_told (suc zero) j a b lc lj la lb e = let h : fit 65 (0 + j) ≡ a - b = omega arith in h
 less_told (suc (suc c)) j a b lc lj la lb e = absurd (omega arith)
-
-pub bit_low : (n : ℕ) → n % 2 < 2
-bit_low n = omega arith
 
 pub joined_low : (x y z u : ℕ) → fit 16 x * 2 ^ 48 + (fit 16 y * 2 ^ 32 + (fit 16 z * 2 ^ 16 + fit 16 u)) < 2 ^ 64
 joined_low x y z u = omega arith

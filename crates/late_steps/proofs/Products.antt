@@ -10,7 +10,7 @@ use Rattle.circuit_module.specs.Stands.{value_number}
 use Rattle.late_numbers.specs.Product.{Product, begun, bit_done, bits_done}
 use Rattle.late_numbers.specs.ProductUnit.{product_moves}
 use Rattle.late_numbers.specs.Laws.{IsProduct, Narrow}
-use Rattle.late_numbers.proofs.Quarters.{quarter, added}
+use Rattle.late_numbers.proofs.Quarters.{quarter, added, whole_first, whole_second}
 use Rattle.late_numbers.proofs.OneBit.{Quartered, narrow_on, begins_now, turns_now, adds_now}
 use Rattle.late_module.proofs.Unit.{Taken, first_of, second_of, less_of, ready_bit, ready_if, begun_if, product_left, widths, sum_met}
 use Rattle.late_steps.specs.Stands.{late_edge, Again, Goes}
@@ -30,12 +30,6 @@ ready_last n = go (nat_eq n 0)
     go : (b : Bool) → fit 1 (flag (ready_bit 1 0 1 1 0 (not b))) ≡ flag b
     go true = refl
     go false = refl
-
-whole_first : (n : ℕ) → n < 2 ^ 64 → fit 65 (0 * 2 ^ 64 + n) ≡ n
-whole_first n l = omega arith
-
-whole_second : (n : ℕ) → n < 2 ^ 64 → added 0 (fit 65 (0 * 2 ^ 64 + n)) ≡ n
-whole_second n l = omega arith
 
 -- which cycle is the last one
 first_cycle : (n : ℕ) → nat_eq n 0 ≡ nat_eq 2 (2 * bits_of n + 2)

@@ -2,6 +2,7 @@
 use Rattle.std.proofs.Common.{◌≡◌, ℕ, ◌+◌, ◌-◌, ◌/◌, ◌%◌, ◌^◌, Bool, true, false, ◌&&◌, ◌||◌, ◌∷◌, length, List}
 use Rattle.std.proofs.Common.{Option, Some, None, refl, ap, sym, ◌∙◌, subst, arith}
 use Rattle.std.specs.Prelude.{nat_eq}
+use Rattle.std.proofs.lemmas.Bool.{both_ways}
 use Rattle.pcf_values.specs.declared.val.Val.{Val}
 use Rattle.pcf_values.specs.declared.val.Val.TheVariants.{Number}
 use Rattle.pcf_values.specs.Values.{val_succ, val_pred, val_op}
@@ -79,9 +80,10 @@ record Joined (s : Side) (w : ℕ) : Type 0 where
 joined : (s : Side) (w : ℕ) → Joined s w
 joined s w = record { succ = for_each _ _ refl; pred = for_each _ _ refl }
 
-pub no_true : (b : Bool) → b ≡ false → b ≡ true → ⊥
-no_true true e h = absurd cc
-no_true false e h = absurd cc
+-- a bit that needs what isn't so is 0
+pub off : (b : Bool) → fit 1 (flag (b && false)) ≡ 0
+off true = refl
+off false = refl
 
 twice : (n : ℕ) → fit 65 (fit 65 n) ≡ fit 65 n
 twice n = omega arith
@@ -141,10 +143,10 @@ module _ (net : NetTree) (z : Sizes) (S : Store) (e : S.vec "nonzero" ≡ flag (
       IsRight
   quiet_right j s p = record {
     changes = changes_here;
-    succ = λ a. absurd (no_true (holds Q U (does "IS_SUCC")) s a);
-    pred_stays = λ a b c. absurd (no_true (holds Q U (does "IS_PRED")) p b);
-    pred = λ a b c. absurd (no_true (holds Q U (does "IS_PRED")) p b);
-    both = λ a b c. absurd (no_true (holds Q U (name "second_answer")) j c);
+    succ = λ a. absurd (both_ways (holds Q U (does "IS_SUCC")) s a);
+    pred_stays = λ a b c. absurd (both_ways (holds Q U (does "IS_PRED")) p b);
+    pred = λ a b c. absurd (both_ways (holds Q U (does "IS_PRED")) p b);
+    both = λ a b c. absurd (both_ways (holds Q U (name "second_answer")) j c);
   }
 
   -- what the row does, by its word
@@ -172,11 +174,7 @@ module _ (net : NetTree) (z : Sizes) (S : Store) (e : S.vec "nonzero" ≡ flag (
   times_down : (d : ℕ) → T.vec "does" ≡ d → nonzero (d / 2 ^ 25 % 2) ≡ false → R.vec "times" ≡ 0
   times_down d h q =
       times_told d (U.vec "second_answer") h refl ∙ ap (λ b. fit 1 (flag (nonzero (U.vec "second_answer") && b))) q
-      ∙ none (nonzero (U.vec "second_answer"))
-    where
-      none : (b : Bool) → fit 1 (flag (b && false)) ≡ 0
-      none true = refl
-      none false = refl
+      ∙ off (nonzero (U.vec "second_answer"))
 
   -- the number that is waited for is there
   abbrev pub Made : Wait → Type 0
@@ -255,9 +253,9 @@ module _ (net : NetTree) (z : Sizes) (S : Store) (e : S.vec "nonzero" ≡ flag (
         succ = λ a. ap (fit 65) (told (word_of (deeds_of (SUCC c))) h down t
             ∙ ap (fit 65) (more ∙ sym (succ_is net z (found_of net z T) k.value small result_q))) ∙ twice (fit 65 (U.vec "succ"))
             ∙ twice (U.vec "succ");
-        pred_stays = λ a b d. absurd (no_true (holds Q U (does "IS_SUCC")) a s);
-        pred = λ a b d. absurd (no_true (holds Q U (does "IS_SUCC")) a s);
-        both = λ a b d. absurd (no_true (holds Q U (does "IS_SUCC")) a s);
+        pred_stays = λ a b d. absurd (both_ways (holds Q U (does "IS_SUCC")) a s);
+        pred = λ a b d. absurd (both_ways (holds Q U (does "IS_SUCC")) a s);
+        both = λ a b d. absurd (both_ways (holds Q U (does "IS_SUCC")) a s);
       };
     }
       where
@@ -284,12 +282,12 @@ module _ (net : NetTree) (z : Sizes) (S : Store) (e : S.vec "nonzero" ≡ flag (
       operands = tt;
       right = λ t. record {
         changes = changes_here;
-        succ = λ a. absurd (no_true (holds Q U (does "IS_SUCC")) s a);
+        succ = λ a. absurd (both_ways (holds Q U (does "IS_SUCC")) s a);
         pred_stays = λ a b d. fewer t ∙ ap (λ b. fit 65 (chosen b n (fit 65 (2 ^ 65 + n - 1)))) (ap held (sym result_u) ∙ d)
             ∙ value_fits ∙ sym result_u;
         pred = λ a b d. fewer t ∙ ap (λ b. fit 65 (chosen b n (fit 65 (2 ^ 65 + n - 1)))) (ap held (sym result_u) ∙ d)
             ∙ ap (λ m. fit 65 (fit 65 (2 ^ 65 + m - 1))) (sym result_u);
-        both = λ a b d. absurd (no_true (holds Q U (does "IS_PRED")) b p);
+        both = λ a b d. absurd (both_ways (holds Q U (does "IS_PRED")) b p);
       };
     }
       where
@@ -364,9 +362,9 @@ module _ (net : NetTree) (z : Sizes) (S : Store) (e : S.vec "nonzero" ≡ flag (
         both_comes : R.vec "told" ≡ fit 65 (value_number (val_op o u k.value)) → IsRight
         both_comes e = record {
           changes = changes_here;
-          succ = λ a. absurd (no_true (holds Q U (does "IS_SUCC")) is_succ a);
-          pred_stays = λ a b d. absurd (no_true (holds Q U (does "IS_PRED")) is_pred b);
-          pred = λ a b d. absurd (no_true (holds Q U (does "IS_PRED")) is_pred b);
+          succ = λ a. absurd (both_ways (holds Q U (does "IS_SUCC")) is_succ a);
+          pred_stays = λ a b d. absurd (both_ways (holds Q U (does "IS_PRED")) is_pred b);
+          pred = λ a b d. absurd (both_ways (holds Q U (does "IS_PRED")) is_pred b);
           both = λ a b d. ap (fit 65) (e ∙ ap (fit 65)
               (sym (both_is net z (found_of net z T) k.value small result_q u su kept_q o s w does_q multiplier))) ∙ twice (U.vec "both");
         }

@@ -25,6 +25,7 @@ use Rattle.late_steps.specs.Laws.{LateResets, LateHolds, LateMoves, LateRuns}
 use Rattle.late_steps.proofs.Settles.{P, W, start, rows, product, X, R as settles, keeps}
 use Rattle.late_steps.proofs.Step.{edge_starts}
 use Rattle.late_steps.proofs.Beside.{not_held}
+use Rattle.late_steps.proofs.Right.{off}
 
 -- ---- the reset
 
@@ -49,10 +50,6 @@ late_resets law net z sizes range mem S = record {
 
     reset : late_reset_edge net z S ≡ fire (P net z) R late_reset (fire (P net z) R fetch_row (fire (P net z) R always_taken R))
     reset = reset_is (W net z) (start net z) z (rows net z) (rows_own net 0 (W net z)) (product net z) R rst
-
-    off : (b : Bool) → fit 1 (flag (b && false)) ≡ 0
-    off true = refl
-    off false = refl
 
     -- a product is no more begun
     not_begun : (late_reset_edge net z S).vec "begun" ≡ 0

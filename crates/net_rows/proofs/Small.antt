@@ -1,13 +1,5 @@
 -- What an option or a test rules out: small facts that the proofs about rows and runs cite.
-use Rattle.std.proofs.Common.{◌≡◌, Bool, true, false, cond, Option, Some, None, refl}
-
--- both have the same
-pub same_some : {A : Type 0} (a b : A) → Some a ≡ Some b → a ≡ b
-same_some a b h = cc
-
--- none is no one
-pub none_some : {A : Type 0} (a : A) → None ≡ Some a → ⊥
-none_some a h = cc
+use Rattle.std.proofs.Common.{◌≡◌, Bool, true, false, cond, Option, refl}
 
 -- a test has one outcome
 pub not_full : {A : Type 0} → true ≡ false → A

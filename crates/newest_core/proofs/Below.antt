@@ -1,5 +1,5 @@
 -- What stands in a store rests on the cells below its top alone, so cells above the top of a fork may be given back and made anew.
-use Rattle.std.proofs.Common.{◌≡◌, ℕ, ◌<◌, ◌≤◌, Bool, true, false, cond, List, [], ◌∷◌, refl, sym, ap, subst, arith}
+use Rattle.std.proofs.Common.{◌≡◌, ℕ, ◌<◌, ◌≤◌, Bool, true, false, cond, List, [], ◌∷◌, refl, sym, ap, subst, arith, lt_of_lt_of_le}
 use Rattle.std.proofs.lemmas.Bool.{ne_eqb}
 use Rattle.token_stacks.specs.Signatures.{Sig, star, left_of, right_of, pair_of, again}
 use Rattle.cell_core.specs.Cells.{Pointer, Store, Stacks, cell_at, Stands, AllStand, new_cell, after}
@@ -12,31 +12,28 @@ pub record Keeps (V W : Store) : Type 0 where
   pub top : V.top ≤ W.top
   pub cells : (j : ℕ) → j < V.top → W.cells j ≡ V.cells j
 
-less_most : (a b c : ℕ) → a < b → b ≤ c → a < c
-less_most a b c l m = omega arith
-
 module _ (V W : Store) (keeps : Keeps V W) where
   -- what stands in the one stands in the other
   stands_there : (p : Pointer) (s : Sig) → Stands V p s → Stands W p s
   stands_there p star h = h
   stands_there p (left_of s) h = (
     h.0,
-    less_most p.place V.top W.top h.1 keeps.top,
+    lt_of_lt_of_le h.1 keeps.top,
     subst (λ c. Stands W c.second s) (sym (keeps.cells p.place h.1)) (stands_there (cell_at V p).second s h.2),
   )
   stands_there p (right_of s) h = (
     h.0,
-    less_most p.place V.top W.top h.1 keeps.top,
+    lt_of_lt_of_le h.1 keeps.top,
     subst (λ c. Stands W c.second s) (sym (keeps.cells p.place h.1)) (stands_there (cell_at V p).second s h.2),
   )
   stands_there p (pair_of s u) h = (
-    less_most p.place V.top W.top h.0 keeps.top,
+    lt_of_lt_of_le h.0 keeps.top,
     subst (λ c. Stands W c.first s) (sym (keeps.cells p.place h.0)) (stands_there (cell_at V p).first s h.1),
     subst (λ c. Stands W c.second u) (sym (keeps.cells p.place h.0)) (stands_there (cell_at V p).second u h.2),
   )
   stands_there p (again u s) h = (
     h.0,
-    less_most p.place V.top W.top h.1 keeps.top,
+    lt_of_lt_of_le h.1 keeps.top,
     subst (λ c. Stands W c.first u) (sym (keeps.cells p.place h.1)) (stands_there (cell_at V p).first u h.2),
     subst (λ c. Stands W c.second s) (sym (keeps.cells p.place h.1)) (stands_there (cell_at V p).second s h.3),
   )

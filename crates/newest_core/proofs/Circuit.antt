@@ -2,6 +2,7 @@
 use Rattle.std.proofs.Common.{◌≡◌, ◌⊎◌, ℕ, zero, suc, ◌+◌, Bool, true, false, cond, ◌||◌, List, [], ◌∷◌}
 use Rattle.std.proofs.Common.{length, Option, Some, None, refl, sym, ap, ◌∙◌, subst, ⊎_elim, inl, inr, arith}
 use Rattle.std.specs.Prelude.{nat_lt}
+use Rattle.std.proofs.lemmas.Option.{none-some}
 use Rattle.pcf_values.specs.declared.val.Val.{Val}
 use Rattle.pcf_values.specs.declared.val.Val.TheVariants.{Number}
 use Rattle.pcf_values.specs.Values.{val_succ, val_pred, val_op, at_zero}
@@ -15,7 +16,7 @@ use Rattle.interleave_laws.specs.Runs.{Runs}
 use Rattle.net_rows.specs.Rows.{Row, CONST, SUCC, PRED, TEST, FORK, JOIN, ANSWER, DEAD}
 use Rattle.net_rows.specs.Rows.{Channel, rises, falls, row_of, channel_of}
 use Rattle.net_rows.specs.RowMoves.{stack_row, answer_row, question_row, by_row, by_found, by_rows, at}
-use Rattle.net_rows.proofs.Small.{not_full, none_some}
+use Rattle.net_rows.proofs.Small.{not_full}
 use Rattle.cell_core.specs.Cells.{Cell, Store, Shows, Made, row_on, after, AllStand}
 use Rattle.cell_core.specs.CellLaws.{RowShows}
 use Rattle.cell_core.specs.Sizes.{Sizes, asked, too_long, used_up, makes, makes_on}
@@ -71,14 +72,14 @@ module _ (z : Sizes) where
   -- a row that leads somewhere is one of stacks
   pub shifted_there : (r : Row) (m : Work) (t : Boxes) (q : Place) (k : CellToken) (C : CellCircuit) → stack_row r m t ≡ Some q →
       operate z r k C ≡ shifted z (row_on r C.store k.stacks) k C
-  shifted_there (CONST n d) m t q k C h = absurd (none_some q h)
-  shifted_there (SUCC d) m t q k C h = absurd (none_some q h)
-  shifted_there (PRED d) m t q k C h = absurd (none_some q h)
-  shifted_there (TEST d e) m t q k C h = absurd (none_some q h)
-  shifted_there (FORK d e) m t q k C h = absurd (none_some q h)
-  shifted_there (JOIN o s w) m t q k C h = absurd (none_some q h)
-  shifted_there ANSWER m t q k C h = absurd (none_some q h)
-  shifted_there DEAD m t q k C h = absurd (none_some q h)
+  shifted_there (CONST n d) m t q k C h = absurd (none-some q h)
+  shifted_there (SUCC d) m t q k C h = absurd (none-some q h)
+  shifted_there (PRED d) m t q k C h = absurd (none-some q h)
+  shifted_there (TEST d e) m t q k C h = absurd (none-some q h)
+  shifted_there (FORK d e) m t q k C h = absurd (none-some q h)
+  shifted_there (JOIN o s w) m t q k C h = absurd (none-some q h)
+  shifted_there ANSWER m t q k C h = absurd (none-some q h)
+  shifted_there DEAD m t q k C h = absurd (none-some q h)
   shifted_there r m t q k C h = refl
 
   -- it leads to a token at that place, and forks stand as before

@@ -10,7 +10,7 @@ use Rattle.token_stacks.specs.Signatures.{Work, Boxes}
 use Rattle.net_build.specs.Nets.{NetTree}
 use Rattle.net_build.specs.Sound.{Sound}
 use Rattle.move_rules.specs.Places.{Place, up, down, turned, TokenTree, ask, ans}
-use Rattle.move_rules.specs.Moves.{Look, dead, constant, pass, one, test, two, look, Move, solo, fork, join, stay, ask_move, move}
+use Rattle.move_rules.specs.Moves.{Look, dead, constant, pass, one, test, two, look, Move, solo, fork, join, stay, move}
 use Rattle.move_rules.specs.Moves.{solo_at}
 use Rattle.move_rules.proofs.Rows.{turned_twice}
 use Rattle.fork_join.specs.Entries.{Key}
@@ -21,6 +21,7 @@ use Rattle.interleave_laws.proofs.Parents.{Child, known}
 use Rattle.interleave_laws.proofs.Reached.{Starts, top, Accounted, reached}
 use Rattle.interleave_laws.proofs.Running.{starts_of}
 use Rattle.interleave_laws.proofs.Apart.{asked, asked_apart}
+use Rattle.interleave_laws.proofs.Diamond.{solo_no_join, ask_no_join}
 use Rattle.net_rows.specs.Rows.{Row, SUCC, PRED, TEST, JOIN, ANSWER, row_of, channel_of}
 use Rattle.net_rows.specs.RowMoves.{stack_row, answer_row, by_found}
 use Rattle.net_rows.proofs.Rows.{law}
@@ -43,11 +44,6 @@ solo_no_fork : (i : ℕ) (o : Option Place) (f : Place → TokenTree) (n : ℕ) 
 solo_no_fork i None f n l r t h = cc
 solo_no_fork i (Some q) f n l r t h = cc
 
-solo_no_join : (i : ℕ) (p : Option Place) (f : Place → TokenTree) (n : ℕ) (o : Operator) (s : Side) (v : Val) (w : ℕ) (t : Boxes) →
-    solo_at i p f ≡ join n o s v w t → ⊥
-solo_no_join i None f n o s v w t h = cc
-solo_no_join i (Some q) f n o s v w t h = cc
-
 -- an answer makes no fork
 answer_no_fork : (i : ℕ) (r : Row) (v : Val) (m : Work) (u : Boxes) (n : ℕ) (l k : Place) (t : Boxes) →
     answer_row i r v m u ≡ fork n l k t → ⊥
@@ -69,15 +65,6 @@ answer_joins i (JOIN p d y) x [] u n o s v w t h = cc
 answer_joins i (JOIN p d y) x (z ∷ m) u n o s v w t h = absurd cc
 answer_joins i ANSWER x m u n o s v w t h = absurd cc
 answer_joins i r x m u n o s v w t h = absurd (solo_no_join i (stack_row r m u) (ans x) n o s v w t h)
-
-ask_no_join : (l : Look) (p : Place) (n : ℕ) (o : Operator) (s : Side) (v : Val) (w : ℕ) (t : Boxes) →
-    ask_move l p ≡ join n o s v w t → ⊥
-ask_no_join dead p n o s v w t h = cc
-ask_no_join (constant i m) p n o s v w t h = cc
-ask_no_join (pass i q) p n o s v w t h = cc
-ask_no_join (one i f q) p n o s v w t h = cc
-ask_no_join (test i c a b) p n o s v w t h = cc
-ask_no_join (two i op u a b) p n o s v w t h = cc
 
 module _ (net : NetTree) (sound : Sound net) where
   -- only a question forks

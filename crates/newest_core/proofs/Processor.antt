@@ -3,6 +3,7 @@ use Rattle.std.proofs.Common.{◌≡◌, ℕ, zero, suc, ◌+◌, ◌<◌, Bool,
 use Rattle.std.proofs.Common.{Option, Some, None, refl, sym, ap, ◌∙◌, subst, inl, inr, arith}
 use Rattle.std.proofs.lemmas.Bool.{eqb-true, eq-eqb, ne_eqb}
 use Rattle.std.specs.Prelude.{nat_eq}
+use Rattle.std.proofs.lemmas.Option.{same_Some, none-some}
 use Rattle.pcf_values.specs.declared.val.Val.{Val}
 use Rattle.pcf_values.specs.Values.{val_op}
 use Rattle.pcf_values.specs.declared.operator.Operator.{Operator}
@@ -25,7 +26,7 @@ use Rattle.interleave_laws.proofs.Apart.{asked}
 use Rattle.net_rows.specs.RowMoves.{by_rows}
 use Rattle.net_rows.proofs.Rows.{law}
 use Rattle.newest_core.proofs.Inner.{in_root, in_fork, solo_inner, fork_inner, join_inner}
-use Rattle.net_rows.proofs.Small.{none_some, same_some, replaced}
+use Rattle.net_rows.proofs.Small.{replaced}
 use Rattle.newest_core.specs.Processor.{Half, waits, came, OpenFork, Registers, meets_half, meets, does, counted, tick_on, tick, ticks}
 use Rattle.newest_core.specs.Processor.{reset, on_live, fired, newest, waiting_at, token_at, entry_of, fork_at}
 use Rattle.newest_core.specs.ProcessorLaws.{Shows, Follows, Waits, IsInnermost}
@@ -140,7 +141,7 @@ module _ (net : NetTree) (runs : Runs net) (log : List ℕ) (S : State) (lead : 
 
   -- the innermost fork's key is the join's
   same_fork : (n m : ℕ) (t u : Boxes) → ◌≡◌ {A = Option Key} (Some (n, t)) (Some (m, u)) → (n ≡ m) × (t ≡ u)
-  same_fork n m t u h = let e = same_some (n, t) (m, u) h in (ap (λ (k : Key). k.0) e, ap (λ (k : Key). k.1) e)
+  same_fork n m t u h = let e = same_Some (n, t) (m, u) h in (ap (λ (k : Key). k.0) e, ap (λ (k : Key). k.1) e)
 
   module _ (q : Place) (n : ℕ) (o : Operator) (v : Val) (w : ℕ) (t : Boxes) (g : OpenFork) (fs : List OpenFork) where
     -- what is known of the innermost fork at an answer that joins
@@ -170,7 +171,7 @@ module _ (net : NetTree) (runs : Runs net) (log : List ℕ) (S : State) (lead : 
         let bad : true ≡ false = sym (eq-eqb i j one) ∙ apart in absurd cc
       where
         not_here : (b : Bool) → nat_eq i j ≡ b → cond b (Some (ask p)) (waiting_at fs i) ≡ None → b ≡ false
-        not_here true e h = absurd (none_some (ask p) (sym h))
+        not_here true e h = absurd (none-some (ask p) (sym h))
         not_here false e h = refl
 
         other_one : (b : Bool) → nat_eq j i ≡ b → nat_eq i j ≡ false →
@@ -181,7 +182,7 @@ module _ (net : NetTree) (runs : Runs net) (log : List ℕ) (S : State) (lead : 
 
     -- nor one from the left once the left answer is kept, since it has a step
     left_came : (u : Val) (s : Side) (T : State) → join_on (Some (has_left u)) S i n o s v w t ≡ Some T → Waits s (came u)
-    left_came u Left T h = absurd (none_some T h)
+    left_came u Left T h = absurd (none-some T h)
     left_came u Right T h = tt
 
     pub here : (h : Half) → Before net S R (record g { half = h } ∷ fs) i (ans v q) → (s : Side) → move net (ans v q) ≡ join n o s v w t →
@@ -256,14 +257,14 @@ module _ (net : NetTree) (runs : Runs net) (log : List ℕ) (S : State) (lead : 
         (T : State) → join_on (S.entries n t) S i n o s v w t ≡ Some T → Here s h →
         Fits net (meets_half h (record g { half = h }) fs i o v w t R) T
     join_half (waits j p) f Left mv T st z =
-        subst (Fits net _) (same_some _ T (ap (λ e. join_on e S i n o Left v w t) (sym z.entry) ∙ st))
+        subst (Fits net _) (same_Some _ T (ap (λ e. join_on e S i n o Left v w t) (sym z.entry) ∙ st))
         (keep_fits j p g.cells f z.node z.boxes)
     join_half (waits j p) f Right mv T st z = elim z.waits_for [ ]
     join_half (came u) f Left mv T st z = elim z.waits_for [ ]
     join_half (came u) f Right mv T st z =
         let (inn, _, _, _, _, _, _, _) = f.nests in
         let (_, (op, a, b, l)) = join_inner net runs.sound n o Right v w t q (Some (g.node, g.boxes)) inn mv in
-        subst (Fits net _) (same_some _ T (ap (λ e. join_on e S i n o Right v w t) (sym z.entry) ∙ st))
+        subst (Fits net _) (same_Some _ T (ap (λ e. join_on e S i n o Right v w t) (sym z.entry) ∙ st))
         (close_fits u g.cells f z.node z.boxes op a b l (val_op o u v))
 
   -- an answer that joins
@@ -289,13 +290,13 @@ module _ (net : NetTree) (runs : Runs net) (log : List ℕ) (S : State) (lead : 
   fork_goes : (e : Option Entry) (p l r : Place) (n : ℕ) (t : Boxes) → Before net S R R.forks i (ask p) →
       move net (ask p) ≡ fork n l r t → S.entries n t ≡ e → (T : State) → fork_on e S i n l r t ≡ Some T →
       Fits net (does (fork n l r t) i R) T
-  fork_goes None p l r n t f mv e T st = subst (Fits net (does (fork n l r t) i R)) (same_some _ T st) (fork_fits p l r n t f mv e)
-  fork_goes (Some d) p l r n t f mv e T st = absurd (none_some T st)
+  fork_goes None p l r n t f mv e T st = subst (Fits net (does (fork n l r t) i R)) (same_Some _ T st) (fork_fits p l r n t f mv e)
+  fork_goes (Some d) p l r n t f mv e T st = absurd (none-some T st)
 
   -- no fork is open where no entry is
   none_open : (fs : List OpenFork) → ((n : ℕ) (t : Boxes) → fork_at fs n t ≡ None) → fs ≡ []
   none_open [] h = refl
-  none_open (g ∷ fs) h = absurd (none_some (entry_of g.half) (sym (h g.node g.boxes) ∙
+  none_open (g ∷ fs) h = absurd (none-some (entry_of g.half) (sym (h g.node g.boxes) ∙
       ap (λ b. cond b (Some (entry_of g.half)) (fork_at fs g.node g.boxes)) (key_same g.node g.boxes)))
 
   answer_fits : (x : TokenTree) (v : Val) → Before net S R R.forks i x → ((n : ℕ) (t : Boxes) → S.entries n t ≡ None) →
@@ -317,7 +318,7 @@ module _ (net : NetTree) (runs : Runs net) (log : List ℕ) (S : State) (lead : 
   -- each move that the state makes, the registers make
   act_fits : (x : TokenTree) (m : Move) → move net x ≡ m → Before net S R R.forks i x → (T : State) → act m S i ≡ Some T →
       ((v : Val) → T.answered ≡ Some v → (n : ℕ) (t : Boxes) → T.entries n t ≡ None) → Fits net (does m i R) T
-  act_fits x (solo n y) mv f T h idle = subst (Fits net (does (solo n y) i R)) (same_some _ T h) (solo_fits x y n f mv)
+  act_fits x (solo n y) mv f T h idle = subst (Fits net (does (solo n y) i R)) (same_Some _ T h) (solo_fits x y n f mv)
   act_fits x (fork n l r t) mv f T h idle =
       let (p, e) = forks_ask net runs.sound x n l r t mv in
       fork_goes (S.entries n t) p l r n t (subst (Before net S R R.forks i) e f) (ap (move net) (sym e) ∙ mv) refl T h
@@ -325,10 +326,10 @@ module _ (net : NetTree) (runs : Runs net) (log : List ℕ) (S : State) (lead : 
       let (q, e) = joins_ans net runs.sound x n o s v w t mv in
       join_fits R.forks q n o s v w t (subst (Before net S R R.forks i) e f) (ap (move net) (sym e) ∙ mv) T h
   act_fits x (answer v) mv f T h idle =
-      let z = same_some _ T h in
+      let z = same_Some _ T h in
       subst (Fits net (does (answer v) i R)) z (answer_fits x v f
       (λ n t. ap (λ (T : State). T.entries n t) z ∙ idle v (sym (ap (λ (T : State). T.answered) z)) n t))
-  act_fits x stay mv f T h idle = absurd (none_some T h)
+  act_fits x stay mv f T h idle = absurd (none-some T h)
 
 -- a move counts nothing itself
 half_moves : (h : Half) (f : OpenFork) (fs : List OpenFork) (i : ℕ) (o : Operator) (v : Val) (w : ℕ) (t : Boxes) (R : Registers) →

@@ -2,6 +2,7 @@
 use Rattle.std.proofs.Common.{◌≡◌, ℕ, zero, suc, ◌+◌, ◌-◌, ◌≤◌, cond, length, Option, Some, None, refl, sym, ap, ◌∙◌, subst}
 use Rattle.std.proofs.Common.{⊎_elim, arith}
 use Rattle.std.proofs.lemmas.Bool.{cases_lt, eq-eqb}
+use Rattle.std.proofs.lemmas.Option.{none-some}
 use Rattle.pcf_values.specs.declared.val.Val.{Val}
 use Rattle.net_build.specs.Nets.{NetTree}
 use Rattle.move_rules.specs.Places.{TokenTree}
@@ -9,7 +10,6 @@ use Rattle.interleave_laws.specs.Runs.{Runs}
 use Rattle.interleave_laws.proofs.Running.{answered_idle}
 use Rattle.adequacy_laws.specs.Questions.{Length}
 use Rattle.adequacy_laws.proofs.Agreeing.{agrees}
-use Rattle.net_rows.proofs.Small.{none_some}
 use Rattle.cell_core.specs.Sizes.{Sizes}
 use Rattle.newest_core.specs.Processor.{Registers, tick_on, tick, ticks, reset, newest, waiting_at, token_at}
 use Rattle.newest_core.specs.ProcessorLaws.{Follows}
@@ -39,12 +39,12 @@ module _ (net : NetTree) (runs : Runs net) (v : Val) (n : ℕ) (long : Length ne
       ended None e j =
           let z : length (newest net n) ≡ n = f.finished.1 e in
           let a = ((agrees net runs.sound (newest net n) f.state f.leads).answers v).1 (subst (Length net v) (sym z) long) in
-          absurd (none_some v (sym e ∙ a))
+          absurd (none-some v (sym e ∙ a))
 
       go : (c : Option (ℕ × TokenTree)) → last.live ≡ c → last.live ≡ None
       go None e = e
       go (Some c) e =
-          absurd (none_some c.1 (sym (ended f.state.answered refl c.0) ∙ f.shows.tokens c.0 ∙ ap (λ l. token_at l last.forks c.0) e ∙
+          absurd (none-some c.1 (sym (ended f.state.answered refl c.0) ∙ f.shows.tokens c.0 ∙ ap (λ l. token_at l last.forks c.0) e ∙
           ap (λ b. cond b (Some c.1) (waiting_at last.forks c.0)) (eq-eqb c.0 c.0 refl)))
 
   -- and so nothing changes any more

@@ -3,6 +3,7 @@ use Rattle.std.proofs.Common.{◌≡◌, ℕ, zero, suc, cond, List, [], ◌∷�
 use Rattle.std.proofs.Common.{◌∙◌, subst, arith}
 use Rattle.std.proofs.lemmas.Bool.{eq-eqb, ne_eqb}
 use Rattle.std.specs.Prelude.{nat_eq}
+use Rattle.std.proofs.lemmas.Option.{same_Some, none-some}
 use Rattle.pcf_values.specs.declared.val.Val.{Val}
 use Rattle.pcf_values.specs.declared.operator.Operator.{Operator}
 use Rattle.pcf_values.specs.declared.side.Side.{Side}
@@ -20,7 +21,6 @@ use Rattle.interleave_laws.proofs.Running.{run_append, has_step}
 use Rattle.net_rows.specs.RowMoves.{by_rows}
 use Rattle.net_rows.proofs.Rows.{law}
 use Rattle.newest_core.proofs.Inner.{join_inner}
-use Rattle.net_rows.proofs.Small.{none_some, same_some}
 use Rattle.newest_core.specs.Processor.{Half, waits, came, OpenFork, Registers, meets_half, meets, does, counted, tick_on, tick, reset}
 use Rattle.newest_core.specs.Processor.{on_live, fired, newest, waiting_at}
 use Rattle.newest_core.specs.Schedule.{on_top, behind, stack_from}
@@ -70,12 +70,12 @@ module _ (net : NetTree) (runs : Runs net) (log : List ℕ) (S : State) (lead : 
       Here net runs log S lead R i q n o v w t g fs s h →
       held (meets_half h (record g { half = h }) fs i o v w t R) ≡ behind S T i (half_ticket h (waiting fs))
   join_tickets q n o s v w t g fs (waits j p) T st z =
-      let e = same_some _ T (ap (λ e. join_on e S i n o s v w t) (sym z.entry) ∙ st) in
+      let e = same_Some _ T (ap (λ e. join_on e S i n o s v w t) (sym z.entry) ∙ st) in
       sym (ends_top S T i (j ∷ waiting fs) (ap (λ (T : State). T.next) (sym e))
       (ap (λ (T : State). T.tokens i) (sym e) ∙ set_here i None (S.tokens i)))
   join_tickets q n o Left v w t g fs (came u) T st z = elim z.waits_for [ ]
   join_tickets q n o Right v w t g fs (came u) T st z =
-      let e = same_some _ T (ap (λ e. join_on e S i n o Right v w t) (sym z.entry) ∙ st) in
+      let e = same_Some _ T (ap (λ e. join_on e S i n o Right v w t) (sym z.entry) ∙ st) in
       sym (goes_top S T i _ (waiting fs) (ap (λ (T : State). T.next) (sym e))
       (ap (λ (T : State). T.tokens i) (sym e) ∙ set_here i _ (S.tokens i)))
 
@@ -92,15 +92,15 @@ module _ (net : NetTree) (runs : Runs net) (log : List ℕ) (S : State) (lead : 
   forked_tickets : (e : Option Entry) (l r : Place) (n : ℕ) (t : Boxes) (x : TokenTree) → Before net S R R.forks i x → (T : State) →
       fork_on e S i n l r t ≡ Some T → held (does (fork n l r t) i R) ≡ behind S T i (waiting R.forks)
   forked_tickets None l r n t x f T st =
-      let e = same_some _ T st in
+      let e = same_Some _ T st in
       ap (λ n. i ∷ n ∷ waiting R.forks) (sym f.next) ∙ sym (forks_top S T i (waiting R.forks) (ap (λ (T : State). T.next) (sym e)))
-  forked_tickets (Some d) l r n t x f T st = absurd (none_some T st)
+  forked_tickets (Some d) l r n t x f T st = absurd (none-some T st)
 
   -- each move
   moved : (x : TokenTree) (m : Move) → move net x ≡ m → Before net S R R.forks i x → (T : State) → act m S i ≡ Some T →
       held (does m i R) ≡ behind S T i (waiting R.forks)
   moved x (solo n y) mv f T h =
-      let e = same_some _ T h in
+      let e = same_Some _ T h in
       sym (goes_top S T i y (waiting R.forks) (ap (λ (T : State). T.next) (sym e))
       (ap (λ (T : State). T.tokens i) (sym e) ∙ set_here i (Some y) (S.tokens i)))
   moved x (fork n l r t) mv f T h = forked_tickets (S.entries n t) l r n t x f T h
@@ -108,10 +108,10 @@ module _ (net : NetTree) (runs : Runs net) (log : List ℕ) (S : State) (lead : 
       let (q, e) = joins_ans net runs.sound x n o s v w t mv in
       joined R.forks q n o s v w t (subst (Before net S R R.forks i) e f) (ap (move net) (sym e) ∙ mv) T h
   moved x (answer v) mv f T h =
-      let e = same_some _ T h in
+      let e = same_Some _ T h in
       sym (ends_top S T i (waiting R.forks) (ap (λ (T : State). T.next) (sym e))
       (ap (λ (T : State). T.tokens i) (sym e) ∙ set_here i None (S.tokens i)))
-  moved x stay mv f T h = absurd (none_some T h)
+  moved x stay mv f T h = absurd (none-some T h)
 
 module _ (net : NetTree) (runs : Runs net) where
   -- k cycles

@@ -7,8 +7,9 @@ use Rattle.net_build.specs.NetOf.{net_of}
 use Rattle.net_build.specs.Laws.{BuiltSound}
 use Rattle.open_net_laws.specs.Applied.{applied, numeric}
 use Rattle.open_net_laws.specs.Arguments.{AreNumbers}
-use Rattle.open_net_laws.specs.Numbers.{places_from, places, with_numbers}
+use Rattle.open_net_laws.specs.Numbers.{places, with_numbers}
 use Rattle.open_net_laws.specs.Laws.{AppliedHas, AppliedNet, OtherNumbers, SameShape}
+use Rattle.open_net_laws.proofs.Exchanged.{places_length}
 use Rattle.verilog_tree.specs.Meaning.{Store, edge, set_vec}
 use Rattle.circuit_module.specs.InRange.{FewWires}
 use Rattle.circuit_module.specs.Module.{multiplies}
@@ -26,11 +27,6 @@ use Rattle.port_module.proofs.Rows.{times_kept}
 use Rattle.port_means.specs.Laws.{after_call, FunctionMeans, FunctionIsFull, FunctionIsRight, FunctionWants, LateFunctionMeans}
 use Rattle.port_means.specs.Laws.{SameProducts}
 use Rattle.port_means.proofs.Begins.{begins}
-
--- as many places as arguments
-places_length : (k n : ℕ) → length (places_from k n) ≡ n
-places_length k zero = refl
-places_length k (suc n) = ap suc (places_length (suc (suc (suc k))) n)
 
 -- a reset of the module without ports, and so many edges
 abbrev after_reset : (late : Bool) → NetTree → Sizes → ℕ → Store → Store

@@ -2,7 +2,7 @@
 use Rattle.std.proofs.Common.{◌≡◌, ◌<◌, ◌≤◌, ◌+◌, ◌%◌, ◌^◌, ◌++◌, ℕ, suc, Bool, true, false, not, ◌&&◌, ◌||◌, List, [], ◌∷◌, get_or}
 use Rattle.std.proofs.Common.{codes, decimal, drop, refl, ap, subst, sym, ◌∙◌, arith, ⊎_elim}
 use Rattle.std.specs.Prelude.{nat_eq, nat_le}
-use Rattle.std.proofs.lemmas.Bool.{and_parts, and_from, cases_lt, le-leb, leb-true}
+use Rattle.std.proofs.lemmas.Bool.{and_parts, and_from, cases_lt, le-leb, leb-true, or_right, true_from_ne_false}
 use Rattle.std.proofs.lemmas.Fmt.{decimal_injective, decimal_by_steps}
 use Prim.Native.String.{String}
 use lib.Dec.{T}
@@ -28,11 +28,7 @@ pub later : (i j : ℕ) → i ≤ j → (i ≡ j → ⊥) → suc i ≤ j
 later i j l d = ⊎_elim (λ h. h) (λ h. absurd (d (omega (arith, l, h)))) (cases_lt i j)
 
 pub same_name : (x : String) → eqt x x ≡ true
-same_name x = go (eqt x x) (eqt_refl x)
-  where
-    go : (b : Bool) → T b → b ≡ true
-    go true t = refl
-    go false t = absurd t
+same_name x = true_from_ne_false (eqt x x) (λ e. subst T e (eqt_refl x))
 
 -- a name of the one kind isn't one of the other
 pub foreign_own : (x y : String) → own x ≡ false → own y ≡ true → eqt x y ≡ false
@@ -106,10 +102,6 @@ digit_letters (d ∷ ds) h =
     let (p, q) = and_parts (nat_le 48 d && nat_le d 57) (digits_only ds) h in
     and_from (letter d || (nat_le 48 d && nat_le d 57)) (letters ds) (or_right (letter d) (nat_le 48 d && nat_le d 57) p)
     (digit_letters ds q)
-  where
-    or_right : (a b : Bool) → b ≡ true → (a || b) ≡ true
-    or_right true b e = refl
-    or_right false b e = e
 
 tail_letters : (i : ℕ) → i < 2 ^ 64 → letters (codes (text_of (decimal i))) ≡ true
 tail_letters i h =

@@ -1,16 +1,11 @@
 -- Each word of one list is in another.
 use Rattle.std.proofs.Common.{◌≡◌, ℕ, Bool, true, false, ◌&&◌, ◌||◌, List, [], ◌∷◌, codes, refl, subst}
 use Rattle.std.proofs.lemmas.Bool.{and_parts}
+use Rattle.std.proofs.lemmas.Float.{T_from_true}
 use Prim.Native.String.{String}
-use lib.Dec.{T}
 use lib.Text.{eqt, eqt→eq}
 use Rattle.verilog_tree.specs.WellFormed.{member, keywords}
 use Rattle.verilog_names.specs.Name.{is_one_of, reserved}
-
--- a truth
-holds_of : (b : Bool) → b ≡ true → T b
-holds_of true e = tt
-holds_of false e = absurd (let n : ⊥ = cc in n)
 
 -- each of these words is one of those
 abbrev all_in : List String → List (List ℕ) → Bool
@@ -26,7 +21,7 @@ found x (k ∷ ks) ws h m =
   where
     first : (b : Bool) → eqt k x ≡ b → (b || member x ks) ≡ true → (member x ks ≡ true → is_one_of (codes x) ws ≡ true) →
         is_one_of (codes k) ws ≡ true → is_one_of (codes x) ws ≡ true
-    first true e m other here = subst (λ y. is_one_of (codes y) ws ≡ true) (eqt→eq k x (holds_of (eqt k x) e)) here
+    first true e m other here = subst (λ y. is_one_of (codes y) ws ≡ true) (eqt→eq k x (T_from_true (eqt k x) e)) here
     first false e m other here = other m
 
 -- the keywords are reserved
