@@ -2,7 +2,7 @@
 use Rattle.std.proofs.Common.{◌≡◌, ◌⊎◌, ◌<◌, ◌≤◌, ◌+◌, ◌-◌, ℕ, Bool, true, false, nat_eq}
 use Rattle.std.proofs.Common.{if◌then◌else◌, List, length, set, slice_get, Option, Some, None, refl, sym, ap, ◌∙◌, subst, inl}
 use Rattle.std.proofs.Common.{inr, ⊎_elim, Result, Ok, Err, OnErr, arith}
-use Rattle.std.proofs.lemmas.Bool.{cases_eq}
+use Rattle.std.proofs.lemmas.Bool.{cases_eq, both_ways}
 use Rattle.std.proofs.lemmas.Option.{slice_get_within}
 use Rattle.token_pool.specs.declared.entries.Held.{Held}
 use Rattle.token_pool.specs.declared.entries.Reply.{Reply}
@@ -90,9 +90,6 @@ waits_gives_none : (t : Reply) (h : Held) → (t ≡ Idle) ⊎ (t ≡ Reserved) 
 waits_gives_none t h (inl e) k = cc
 waits_gives_none t h (inr e) k = cc
 
-true_not_false : (b : Bool) → b ≡ true → b ≡ false → ⊥
-true_not_false b e f = cc
-
 -- what is known of the jobs below job n: all of them are over, or some job isn't
 abbrev pub Below : Bool → List Pool → ℕ → Type 0
 Below true pools n = (j : ℕ) (p : Pool) → j < n → IsPool pools j p → is_ended p ≡ true
@@ -151,7 +148,7 @@ pub all_over : (pools : List Pool) (n : ℕ) → length pools ≤ n → Below tr
 all_over pools n l below j p at = below j p (let k = slice_get_within pools j p at in omega (arith, k, l)) at
 
 pub not_all_over : (pools : List Pool) (n : ℕ) → Below false pools n → AllOver pools → ⊥
-not_all_over pools n (j, p, l, at, e) all = true_not_false (is_ended p) (all j p at) e
+not_all_over pools n (j, p, l, at, e) all = both_ways (is_ended p) e (all j p at)
 
 -- a fact that holds anyway
 pub on_err : {A E : Type 0} (r : Result A E) (P : Type 0) → P → OnErr r P
@@ -161,11 +158,8 @@ on_err (Err e) P x = x
 -- a ticket that is held already is held as before
 pub taken_again : (p : Pool) (w : ℕ) (h : Held) → Holds p.held w h → turn p w ≡ Token h → taken p w ≡ p
 taken_again p w h at told =
-    let e : held_after (turn p w) p.held w ≡ p.held = ap (λ t. held_after t p.held w) told ∙ held_same p.held w (Some h) at in
+    let e : held_after (turn p w) p.held w ≡ p.held = ap (λ t. held_after t p.held w) told ∙ set_same p.held w (Some h) at in
     ap (λ (k : List (Option Held)). record p { held = k }) e
-  where
-    held_same : (held : List (Option Held)) (w : ℕ) (o : Option Held) → slice_get held w ≡ Some o → set held w o ≡ held
-    held_same held w o h = set_same held w o h
 
 same_ticket : (g h : Held) (t : Reply) → t ≡ Token g → t ≡ Token h → g ≡ h
 same_ticket g h t e k = cc

@@ -1,6 +1,6 @@
 -- A branch is played move by move, and the state that it is grafted into goes along.
-use Rattle.std.proofs.Common.{◌≡◌, ℕ, zero, suc, ◌+◌, ◌-◌, ◌<◌, ◌≤◌, cond, List, [], ◌∷◌, ◌++◌, length}
-use Rattle.std.proofs.Common.{Option, Some, None, refl, sym, ap, ◌∙◌, subst, ⊎_elim, inl, inr, arith}
+use Rattle.std.proofs.Common.{◌≡◌, ℕ, zero, suc, ◌+◌, ◌-◌, ◌<◌, ◌≤◌, cond, List, [], ◌∷◌, ◌++◌}
+use Rattle.std.proofs.Common.{Option, Some, None, refl, sym, ap, ◌∙◌, subst, ⊎_elim, arith}
 use Rattle.std.proofs.Math.Path.{fun_ext}
 use Rattle.std.proofs.lemmas.Bool.{eq-eqb, ne_eqb, le-ltb, lt-ltb, cases_lt, cases_eq}
 use Rattle.std.specs.Prelude.{nat_lt, map, replicate}
@@ -13,16 +13,15 @@ use Rattle.net_build.specs.Nets.{NetTree}
 use Rattle.net_build.specs.Sound.{Sound}
 use Rattle.move_rules.specs.Places.{Place, TokenTree, ask}
 use Rattle.move_rules.specs.Table.{or_else}
-use Rattle.move_rules.specs.Moves.{Move, solo, fork, join, answer, stay, move, ask_move}
+use Rattle.move_rules.specs.Moves.{Move, solo, fork, join, answer, stay, move}
 use Rattle.interleave_laws.specs.States.{Tokens, other, State, start, step, step_on, act, fork_on, last_on, join_on, then_run, run}
 use Rattle.interleave_laws.specs.Runs.{Runs, LeadsTo}
 use Rattle.interleave_laws.specs.Start.{start_of}
-use Rattle.interleave_laws.proofs.Effects.{Outcome}
-use Rattle.interleave_laws.proofs.Reached.{Starts, ends, made_of, does_step, Accounted, out_of, reached}
-use Rattle.interleave_laws.proofs.Running.{starts_of, low, run_append}
+use Rattle.interleave_laws.proofs.Running.{starts_of, low, run_append, run_on}
 use Rattle.branch_laws.specs.Branches.{start_at, name, grafted_tokens, grafted}
 use Rattle.branch_laws.specs.Laws.{Branched}
 use Rattle.interleave_laws.proofs.Others.{some_state}
+use Rattle.interleave_laws.proofs.Progress.{moving_steps}
 use Rattle.branch_laws.proofs.Grafting.{graft_at, Fits, HasAct, act_grafts}
 
 -- the whole run is the branch on its start's question
@@ -116,40 +115,9 @@ module _ (S : State) (i : ℕ) (below : i < S.next) where
   act_stops B k (answer v) has h = absurd cc
   act_stops B k stay (T, has) h = absurd cc
 
--- a run and another behind it
-pub run_both : (net : NetTree) (log more : List ℕ) (S T U : State) → run net S log ≡ Some T → run net T more ≡ Some U →
-    run net S (log ++ more) ≡ Some U
-run_both net [] more S T U h g = ap (λ S. run net S more) (some_state S T h) ∙ g
-run_both net (j ∷ log) more S T U h g = go (step net S j) (λ V. run_both net log more V T U) h
-  where
-    go : (o : Option State) → ((V : State) → run net V log ≡ Some T → run net T more ≡ Some U →
-        run net V (log ++ more) ≡ Some U) → then_run o (λ S. run net S log) ≡ Some T →
-        then_run o (λ S. run net S (log ++ more)) ≡ Some U
-    go None f h = cc
-    go (Some V) f h = f V h g
-
 -- a move that leads on is there
 moves : (m : Move) (S T : State) (i : ℕ) → act m S i ≡ Some T → m ≡ stay → ⊥
 moves m S T i h e = let bad : None ≡ Some T = sym (ap (λ m. act m S i) e) ∙ h in cc
-
-module _ (net : NetTree) (sound : Sound net) where
-  -- a live token that has a move has its step, whatever other tokens have
-  pub moving_steps : (log : List ℕ) (S : State) → LeadsTo net log S → (i : ℕ) (x : TokenTree) → S.tokens i ≡ Some x →
-      (move net x ≡ stay → ⊥) → (T : State) × (step net S i ≡ Some T)
-  moving_steps log S h i x e moving = go (reached net sound (start_of net) starts log S h)
-    where
-      starts : Starts net (start_of net)
-      starts = starts_of net sound
-
-      go : Accounted net (start_of net) (length log) S → (T : State) × (step net S i ≡ Some T)
-      go (inr o) = let bad : None ≡ Some x = sym (o.no_tokens i) ∙ e in absurd cc
-      go (inl (t, live)) = end (out_of net sound (start_of net) starts (length log) i S x t live e)
-        where
-          end : Outcome net S.entries i S.next x t (start_of net) → (T : State) × (step net S i ≡ Some T)
-          end (inl (v, m, _, q)) =
-              (_, ap (λ o. step_on net o S i) e ∙ ap (λ m. act m S i) (ap (move net) q ∙ ends net sound (start_of net) starts v))
-          end (inr (inl (q, y, l))) = absurd (moving (ap (move net) y ∙ ap (λ l. ask_move l q) l))
-          end (inr (inr y)) = (made_of y.effect S i, ap (λ o. step_on net o S i) e ∙ does_step net S i x y.effect y.does)
 
 module _ (net : NetTree) (sound : Sound net) (S : State) (i : ℕ) (below : i < S.next) where
   -- the state that the branch is grafted into has the step of each of its tickets whose token has a move
@@ -157,7 +125,7 @@ module _ (net : NetTree) (sound : Sound net) (S : State) (i : ℕ) (below : i < 
       (move net y ≡ stay → ⊥) → HasAct S i below (move net y) B k
   has_act log B led k y e moving =
       let here : (grafted S i B).tokens (name i S.next k) ≡ Some y = graft_at S.tokens i S.next below B.tokens k ∙ e in
-      let (T, s) = moving_steps net sound log (grafted S i B) led (name i S.next k) y here moving in
+      let (T, s) = moving_steps net sound (starts_of net sound) log (grafted S i B) led (name i S.next k) y here moving in
       (T, ap (λ o. step_on net o (grafted S i B) (name i S.next k)) (sym here) ∙ s)
 
   -- one move
@@ -247,7 +215,7 @@ module _ (net : NetTree) (sound : Sound net) (log : List ℕ) (S : State) (led :
 
     -- that goes on from the state's
     pub branch_leads : LeadsTo net (log ++ map (name i S.next) l) (grafted S i B)
-    branch_leads = run_both net log (map (name i S.next) l) (start (start_of net)) S (grafted S i B) led branch_runs
+    branch_leads = run_on net log (map (name i S.next) l) (start (start_of net)) S (grafted S i B) led branch_runs
 
     -- its entries are its own
     pub branch_apart : (n : ℕ) (t : Boxes) (e : Entry) → B.entries n t ≡ Some e → S.entries n t ≡ None

@@ -10,6 +10,7 @@ use Rattle.std.specs.FinMap as finmap
 use Rattle.std.specs.FinMap.{get, get-empty}
 use Rattle.std.specs.Ordering.{nat_cmp}
 use Rattle.std.proofs.lemmas.List.Elements.{All-append, All-replicate, All-nil}
+use Rattle.std.proofs.lemmas.Option.{same_Some}
 use Rattle.pcf_values.specs.declared.val.Val.{Val}
 use Rattle.pcf_values.specs.declared.operator.Operator.{Operator}
 use Rattle.pcf_values.specs.declared.side.Side.{Side}
@@ -26,6 +27,7 @@ use Rattle.interleave_laws.specs.Tickets.{IsLive}
 use Rattle.interleave_core.proofs.Grafted.{put_here, put_other}
 use Rattle.interleave_core.specs.Newest.{IsNewestLive}
 use Rattle.interleave_core.specs.Owning.{GoesAlone, StepsOwn, StandsForeign}
+use Rattle.interleave_core.proofs.Trailing.{tickets_are}
 use Rattle.branch_laws.specs.Branches.{start_map_at}
 use Rattle.branch_laws.specs.Laws.{BranchedMap, Occurs}
 use Rattle.branch_laws.proofs.Mapped.{map_begins, map_steps, map_walks, map_low}
@@ -106,11 +108,6 @@ walk_newest net (n ∷ trail) B k y z e (u, m, w) h = (
     go : {A : Type 0} {x y : A} → Some x ≡ Some y → x ≡ y
     go h = cc
 
--- a ticket for each move
-tickets_are : (k : ℕ) (trail : List ℕ) → replicate (length trail) k ≡ map (λ (n : ℕ). k) trail
-tickets_are k [] = refl
-tickets_are k (n ∷ trail) = ap (λ l. k ∷ l) (tickets_are k trail)
-
 -- a token alone has grown
 pub grows_begins : (net : NetTree) (x : TokenTree) → Grows net x [] (start_map_at x)
 grows_begins net x = record { branched = map_begins net x; given = All-nil (λ k. k < 1); begun = omega arith; newest = tt }
@@ -188,16 +185,12 @@ goes_on (Err e) net most log log1 log2 C D k l h m = tt
 pub first_live : (x : TokenTree) (B : MapState) → B ≡ start_map_at x → IsSome (get B.tokens 0)
 first_live x B e = subst (λ (B : MapState). IsSome (get B.tokens 0)) (sym e) (subst IsSome (sym (put_here finmap.empty 0 x)) refl)
 
--- of equal options
-some_same : {A : Type 0} (x y : A) → Some x ≡ Some y → x ≡ y
-some_same x y h = cc
-
 -- the walk of a token alone, written down
 pub walks_alone : (net : NetTree) (x : TokenTree) (most n : ℕ) (B C : MapState) (log log' : List ℕ) → B ≡ start_map_at x →
     GoesAlone net B 0 most n C → log ≡ [] → log' ≡ log ++ replicate n 0 → WalksAlone net x most log' C
 walks_alone net x most n B C log log' b a0 empty is =
     let a = subst (λ B. GoesAlone net B 0 most n C) b a0 in
-    let its = some_same a.before x (sym a.live ∙ put_here finmap.empty 0 x) in
+    let its = same_Some a.before x (sym a.live ∙ put_here finmap.empty 0 x) in
     let many = a.many in
     let few = a.few in
     record {

@@ -6,6 +6,7 @@ use Rattle.std.specs.Ordering.{nat_cmp}
 use Rattle.std.specs.FinMap.{FinMap, get, insert, remove, get-insert, get-remove, same_map, nat_cmp-IsAntisymmetric}
 use Rattle.std.proofs.lemmas.Cmp.{nat_cmp_total}
 use Rattle.std.proofs.lemmas.Bool.{eqb-true, ne_eqb}
+use Rattle.std.proofs.lemmas.Option.{same_Some}
 use Rattle.token_stacks.specs.Signatures.{Boxes}
 use Rattle.fork_join.specs.Entries.{Entry, pending, key_cmp}
 use Rattle.move_rules.specs.Places.{TokenTree, up, ask, place_of}
@@ -52,13 +53,9 @@ taken_back f n r fresh = same_map nat_cmp_total nat_cmp-IsAntisymmetric _ _ (λ 
     go q true h = sym (ap (get f) (eqb-true q n h) ∙ fresh)
     go q false h = refl
 
--- of one option
-some_one : (x y : TokenTree) → Some x ≡ Some y → x ≡ y
-some_one x y h = cc
-
 -- a ticket has one box stack
 pub one_stack : (f : FinMap nat_cmp TokenTree) (i : ℕ) (t u : Boxes) → HasBoxes f i t → HasBoxes f i u → t ≡ u
-one_stack f i t u (x, e, _, b) (y, e', _, b') = sym b ∙ ap (λ x. boxes_at (place_of x)) (some_one x y (sym e ∙ e')) ∙ b'
+one_stack f i t u (x, e, _, b) (y, e', _, b') = sym b ∙ ap (λ x. boxes_at (place_of x)) (same_Some x y (sym e ∙ e')) ∙ b'
 
 -- the copied box stack has no entry where the ticket's has none
 pub no_entry : (f : FinMap nat_cmp TokenTree) (g : FinMap key_cmp Entry) (i k b : ℕ) (r : TokenTree) (u : Boxes) →

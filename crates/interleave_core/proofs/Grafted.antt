@@ -1,5 +1,5 @@
 -- Tokens that are given tickets from one on, one after the other, and the state into which another one is grafted.
-use Rattle.std.proofs.Common.{◌≡◌, ◌<◌, ◌≤◌, ◌⊎◌, ℕ, zero, suc, ◌+◌, ◌-◌, Bool, true, false, cond, Option, Some, None, refl, sym, ap, ◌∙◌}
+use Rattle.std.proofs.Common.{◌≡◌, ◌<◌, ◌≤◌, ◌⊎◌, ℕ, zero, suc, ◌+◌, ◌-◌, cond, Option, Some, None, refl, sym, ap, ◌∙◌}
 use Rattle.std.proofs.Common.{subst, ⊎_elim, inl, inr, arith}
 use Rattle.std.proofs.lemmas.Bool.{eq-eqb, ne_eqb, cases_eq, cases_lt}
 use Rattle.std.specs.Prelude.{IsSome, is_some, ◌^◌}
@@ -16,6 +16,7 @@ use Rattle.move_rules.specs.declared.token.Token.{Token}
 use Rattle.move_rules.specs.Places.{TokenTree}
 use Rattle.move_rules.specs.Views.{token_of}
 use Rattle.interleave_laws.proofs.Tickets.{test_nat}
+use Rattle.interleave_laws.proofs.Few.{one_more}
 use Rattle.interleave_core.specs.Grafting.{IsLow, AllFit, Placed, given}
 use Rattle.interleave_core.specs.Grafts.{Grafts}
 use Rattle.interleave_core.specs.Parts.{state}
@@ -67,14 +68,6 @@ one_fewer f k h = go (get f k) refl
         let less : finite.len (finite.remove f k) ≡ finite.len f - 1 =
         len-remove nat_cmp_total f k ∙ ap (λ o. cond (is_some o) (finite.len f - 1) (finite.len f)) e in
         let some = at_least_one f k h in omega (arith, less, some)
-
--- a ticket that is given a token is one more at most
-pub at_most_one : (f : Live) (k : ℕ) (x : TokenTree) → finite.len (finite.insert f k x) ≤ finite.len f + 1
-at_most_one f k x = subst (λ n. n ≤ finite.len f + 1) (sym (len-insert nat_cmp_total f k x)) (either (is_some (get f k)) (finite.len f))
-  where
-    either : (b : Bool) (n : ℕ) → cond b n (n + 1) ≤ n + 1
-    either true n = omega arith
-    either false n = omega arith
 
 -- what was given out of g0 and put into f, where f0 and g0 were at first
 pub record Moved (f0 g0 : Live) (n : ℕ) (f g : Live) : Type 0 where
@@ -135,7 +128,7 @@ module _ (f0 g0 f g : Live) (n k : ℕ) (x : TokenTree) (m : Moved f0 g0 n f g) 
     new = λ p. ⊎_elim (own p) (other p) (cases_eq (suc p) k);
     rest = gone_other g k 0 (λ z. not_first (sym z)) ∙ m.rest;
     count =
-        let a = at_most_one f (n + (k - 1)) x in
+        let a = one_more f (n + (k - 1)) x in
         let b = one_fewer g k (some_is (get g k) x e) in
         let c = m.count in
         omega (arith, a, b, c);

@@ -12,6 +12,7 @@ use Rattle.std.specs.Map.{lookup}
 use Rattle.std.specs.BTreeMap as tree
 use Rattle.std.specs.BTreeMap.{BTreeMap, is_at}
 use Rattle.std.proofs.lemmas.Cmp.{nat_cmp_total}
+use Rattle.std.proofs.lemmas.Option.{same_Some}
 use Rattle.token_stacks.specs.Signatures.{Boxes}
 use Rattle.token_stacks.specs.Loads.{Load, load}
 use Rattle.net_build.specs.Nets.{NetTree}
@@ -210,15 +211,11 @@ module _ (m : BTreeMap ℕ Token) (f : FinMap nat_cmp TokenTree) (view : live_of
   pub unaided_live : (net : NetTree) (i : ℕ) → UnaidedIn net m i → UnaidedAt net f i
   unaided_live net i (x, e, u) = (token_of x, seen_live i ∙ ap (option_map token_of) e, u)
 
-  -- of one option
-  one_token : (x y : TokenTree) → Some x ≡ Some y → x ≡ y
-  one_token x y h = cc
-
   -- a token that is sent with the stacks that it has
   pub sent_live : (n : BTreeMap ℕ Token) (i w : ℕ) (u : Bool) (k : Kind) → ChangesIn (Sent w u k) m i n → (t : Boxes) →
       HasBoxes f i t → live_of n ≡ finite.insert f i (of_kind k (place_at w u (load [] t)))
   sent_live n i w u k (x, z, e, s, h) t (y, e', work, boxes) =
-      let same : y ≡ token_of x = one_token y (token_of x) (sym e' ∙ seen_live i ∙ ap (option_map token_of) e) in
+      let same : y ≡ token_of x = same_Some y (token_of x) (sym e' ∙ seen_live i ∙ ap (option_map token_of) e) in
       let no_work : x.stacks.work ≡ [] = sym (work_seen x) ∙ ap (λ y. work_at (place_of y)) (sym same) ∙ work in
       let its : x.stacks.boxes ≡ t = sym (boxes_seen x) ∙ ap (λ y. boxes_at (place_of y)) (sym same) ∙ boxes in
       live_put m n i z h ∙ ap (λ z. finite.insert (live_of m) i (token_of z)) s ∙

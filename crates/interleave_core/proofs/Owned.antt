@@ -10,15 +10,14 @@ use Rattle.move_rules.specs.declared.token.Token.{Token}
 use Rattle.move_rules.specs.Places.{TokenTree}
 use Rattle.move_rules.specs.Views.{token_of}
 use Rattle.interleave_laws.specs.Maps.{MapState}
-use Rattle.interleave_laws.proofs.Few.{Few, step_few, adopted_few}
+use Rattle.interleave_laws.proofs.Few.{Few, step_few, adopted_few, one_more}
 use Rattle.interleave_core.specs.Moving.{Changes, GoesOn, MakesSome}
 use Rattle.interleave_core.specs.Owning.{StepsOwn, StandsForeign}
 use Rattle.interleave_core.specs.Parts.{state}
-use Rattle.interleave_core.proofs.Grafted.{at_most_one}
 
 -- at the beginning
 pub alone_few : (x : TokenTree) → finite.len (finite.insert (finite.empty {R = nat_cmp}) 0 x) ≤ 1
-alone_few x = let k = at_most_one finite.empty 0 x in let z = len-empty nat_cmp TokenTree in omega (arith, k, z)
+alone_few x = let k = one_more finite.empty 0 x in let z = len-empty nat_cmp TokenTree in omega (arith, k, z)
 
 -- a token that changes in its place
 changed_few : (P : Token → Token → Type 0) (f g : FinMap nat_cmp TokenTree) (i n : ℕ) → Changes P f i g → finite.len f ≤ n →

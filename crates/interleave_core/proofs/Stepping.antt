@@ -4,6 +4,7 @@ use Rattle.std.proofs.Common.{arith}
 use Rattle.std.specs.Option.{IsSome}
 use Rattle.std.specs.Ordering.{nat_cmp}
 use Rattle.std.specs.FinMap.{FinMap, get, remove}
+use Rattle.std.proofs.lemmas.Option.{same_Some}
 use Rattle.pcf_values.specs.declared.val.Val.{Val}
 use Rattle.token_stacks.specs.Signatures.{Boxes}
 use Rattle.fork_join.specs.Entries.{Entry, pending, has_left, has_right, key_cmp}
@@ -27,10 +28,6 @@ use Rattle.interleave_core.specs.Joining.{JoinsAt, joined_tokens, joined_name}
 use Rattle.interleave_core.specs.Roles.{role_move, MetAt, StandsStill}
 use Rattle.interleave_core.specs.Moving.{SoloAt, UnaidedAt}
 use Rattle.interleave_core.specs.Parts.{state}
-
--- of one option
-one_token : (y x : TokenTree) → Some y ≡ Some x → y ≡ x
-one_token y x q = cc
 
 module _ (net : NetTree) (f : FinMap nat_cmp TokenTree) (g : FinMap key_cmp Entry) (n : ℕ) (v : Option Val) (i : ℕ) where
   -- the step is that of the token's move
@@ -92,7 +89,7 @@ module _ (net : NetTree) (f : FinMap nat_cmp TokenTree) (g : FinMap key_cmp Entr
 
     -- the same box stack, however it was come by
     its_boxes : (x : TokenTree) (t : Boxes) → get f i ≡ Some x → HasBoxes f i t → boxes_at (place_of x) ≡ t
-    its_boxes x t e (y, e', _, bt) = ap (λ x. boxes_at (place_of x)) (one_token x y (sym e ∙ e')) ∙ bt
+    its_boxes x t e (y, e', _, bt) = ap (λ x. boxes_at (place_of x)) (same_Some x y (sym e ∙ e')) ∙ bt
 
     -- the fork
     pub fork_steps : (a b : ℕ) (f' : FinMap nat_cmp TokenTree) (g' : FinMap key_cmp Entry) → MetAt net f i k (Fork a b) →

@@ -59,10 +59,7 @@ units_more net (suc k) S T h = go (round net S) (λ U. units_more net k U T) h
 -- the greatest of a list with one more behind
 greatest_more : (l : List ℕ) (n : ℕ) → greatest (l ++ n ∷ []) ≡ max (greatest l) n
 greatest_more [] n = omega arith
-greatest_more (m ∷ l) n = let ih = greatest_more l n in ap (max m) ih ∙ three m (greatest l) n
-  where
-    three : (a b c : ℕ) → max a (max b c) ≡ max (max a b) c
-    three a b c = omega arith
+greatest_more (m ∷ l) n = let ih = greatest_more l n in omega (arith, ih)
 
 module _ (net : NetTree) (tickets profile : List ℕ) (w : ℕ) (S : MapState) (made : IsMade net tickets profile w S) (runs : Runs net) where
   -- live tickets are below the next

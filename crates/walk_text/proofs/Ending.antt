@@ -2,6 +2,7 @@
 use Rattle.std.proofs.Common.{◌≡◌, ℕ, Bool, true, false, cond, suc, ◌+◌, List, [], ◌∷◌, ◌++◌, length, Option, Some, None}
 use Rattle.std.proofs.Common.{refl, sym, ap, ◌∙◌, subst, arith}
 use Rattle.std.specs.Prelude.{nat_eq, codes}
+use Rattle.std.proofs.lemmas.Option.{same_Some, none-some}
 use Rattle.pcf_values.specs.declared.val.Val.{Val}
 use Rattle.token_stacks.specs.Signatures.{Work, Boxes}
 use Rattle.fork_join.specs.Entries.{Entry as Kept, pending, has_left, has_right}
@@ -15,7 +16,7 @@ use Rattle.move_rules.specs.Table.{on_found, facing, plain_up, plain_down}
 use Rattle.move_rules.specs.Moves.{Look, dead, constant, pass, one, test, two, look, Move, solo, fork, join, answer, stay, solo_at}
 use Rattle.move_rules.specs.Moves.{if_wire, ans_down}
 use Rattle.move_rules.specs.Moves.{ask_move, move}
-use Rattle.move_rules.proofs.Facing.{one_some, met}
+use Rattle.move_rules.proofs.Facing.{met}
 use Rattle.move_rules.proofs.Either.{wire_so, either_so, operand_so}
 use Rattle.interleave_laws.specs.Start.{start_of}
 use Rattle.interleave_laws.specs.States.{State, start, act, fork_on, last_on, join_on, other, step_on, step, run, then_run}
@@ -27,7 +28,6 @@ use Rattle.walk_text.specs.Ports.{port, comes_by}
 use Rattle.walk_text.specs.Lines.{outcome_text, line_text, line_at, line_of, move_line}
 use Rattle.walk_text.specs.Traces.{on_state, lines_from}
 use Rattle.walk_text.specs.Laws.{answer_line, AnswerEnds}
-use Rattle.walk_text.proofs.Playing.{none_some}
 
 -- ---- the move that is an answer
 
@@ -127,36 +127,36 @@ pub record BringsIt (net : NetTree) (S : State) (t : ℕ) (u : Val) : Type 0 whe
 
 -- what a step without an answer answers
 unanswered : (S U : State) (u : Val) → S.answered ≡ None → S.answered ≡ U.answered → U.answered ≡ Some u → ⊥
-unanswered S U u e f g = none_some u (sym e ∙ f ∙ g)
+unanswered S U u e f g = none-some u (sym e ∙ f ∙ g)
 
 -- the only move after which a state is answered is the one that brings the answer
 act_answers : (S U : State) (t : ℕ) (u : Val) (m : Move) → S.answered ≡ None → act m S t ≡ Some U → U.answered ≡ Some u → m ≡ answer u
-act_answers S U t u (solo i y) e made g = absurd (unanswered S U u e (ap (λ (V : State). V.answered) (one_some _ U made)) g)
+act_answers S U t u (solo i y) e made g = absurd (unanswered S U u e (ap (λ (V : State). V.answered) (same_Some _ U made)) g)
 act_answers S U t u (fork i l r bx) e made g = absurd (go (S.entries i bx) made)
   where
     go : (o : Option Kept) → fork_on o S t i l r bx ≡ Some U → ⊥
-    go None h = unanswered S U u e (ap (λ (V : State). V.answered) (one_some _ U h)) g
-    go (Some k) h = none_some U h
+    go None h = unanswered S U u e (ap (λ (V : State). V.answered) (same_Some _ U h)) g
+    go (Some k) h = none-some U h
 act_answers S U t u (join i o d v c bx) e made g = absurd (go (S.entries i bx) made)
   where
     last : (w : Option Val) → last_on w S t i c bx ≡ Some U → ⊥
-    last None h = none_some U h
-    last (Some w) h = unanswered S U u e (ap (λ (V : State). V.answered) (one_some _ U h)) g
+    last None h = none-some U h
+    last (Some w) h = unanswered S U u e (ap (λ (V : State). V.answered) (same_Some _ U h)) g
 
     go : (k : Option Kept) → join_on k S t i o d v c bx ≡ Some U → ⊥
-    go None h = none_some U h
-    go (Some pending) h = unanswered S U u e (ap (λ (V : State). V.answered) (one_some _ U h)) g
+    go None h = none-some U h
+    go (Some pending) h = unanswered S U u e (ap (λ (V : State). V.answered) (same_Some _ U h)) g
     go (Some (has_left k)) h = last (other o (has_left k) d v) h
     go (Some (has_right k)) h = last (other o (has_right k) d v) h
-act_answers S U t u (answer v) e made g = ap answer (one_some v u (ap (λ (V : State). V.answered) (one_some _ U made) ∙ g))
-act_answers S U t u stay e made g = absurd (none_some U made)
+act_answers S U t u (answer v) e made g = ap answer (same_Some v u (ap (λ (V : State). V.answered) (same_Some _ U made) ∙ g))
+act_answers S U t u stay e made g = absurd (none-some U made)
 
 step_answers : (net : NetTree) (S U : State) (t : ℕ) (u : Val) → S.answered ≡ None → step net S t ≡ Some U →
     U.answered ≡ Some u → BringsIt net S t u
 step_answers net S U t u e made g = go (S.tokens t) refl made
   where
     go : (o : Option TokenTree) → S.tokens t ≡ o → step_on net o S t ≡ Some U → BringsIt net S t u
-    go None live h = absurd (none_some U h)
+    go None live h = absurd (none-some U h)
     go (Some x) live h = record { token = x; live = live; is = act_answers S U t u (move net x) e h g }
 
 -- the line of that step
@@ -196,7 +196,7 @@ one_before k line lines v s = record {
 ends_from : (net : NetTree) → Sound net → (past : List ℕ) (S T : State) (k : ℕ) (es : List Entry) (v : Val) →
     LeadsTo net past S → S.answered ≡ None → run net S (tickets_in_log es) ≡ Some T → T.answered ≡ Some v →
     EndsSo k (lines_from net S k es) v
-ends_from net sound past S T k [] v led none on e = absurd (none_some v (sym none ∙ ap (λ (V : State). V.answered) (one_some S T on) ∙ e))
+ends_from net sound past S T k [] v led none on e = absurd (none-some v (sym none ∙ ap (λ (V : State). V.answered) (same_Some S T on) ∙ e))
 ends_from net sound past S T k (d ∷ es) v led none on e =
     go (step net S d.ticket) refl
     (λ U made none. ends_from net sound (past ++ d.ticket ∷ []) U T (suc k) es v
@@ -211,7 +211,7 @@ ends_from net sound past S T k (d ∷ es) v led none on e =
         run net U (tickets_in_log fs) ≡ Some T →
         EndsSo k (line ∷ lines_from net U (suc k) fs) v
     last U u made g [] h =
-        let same : u ≡ v = one_some u v (sym g ∙ ap (λ (V : State). V.answered) (one_some U T h) ∙ e) in
+        let same : u ≡ v = same_Some u v (sym g ∙ ap (λ (V : State). V.answered) (same_Some U T h) ∙ e) in
         let b = step_answers net S U d.ticket v none made (g ∙ ap Some same) in
         let r = at_root net b.token v b.is in
         record {
@@ -227,7 +227,7 @@ ends_from net sound past S T k (d ∷ es) v led none on e =
     last U u made g (f ∷ fs) h =
         let idle = (answered_idle net sound (past ++ d.ticket ∷ []) U
         (run_append net past (start (start_of net)) S U d.ticket led made) u g).0 in
-        absurd (none_some T (sym (ap (λ o. then_run (step_on net o U f.ticket) (λ V. run net V (tickets_in_log fs))) (idle f.ticket)) ∙ h))
+        absurd (none-some T (sym (ap (λ o. then_run (step_on net o U f.ticket) (λ V. run net V (tickets_in_log fs))) (idle f.ticket)) ∙ h))
 
     by_answer : (U : State) (o : Option Val) → U.answered ≡ o → step net S d.ticket ≡ Some U →
         ((U : State) → step net S d.ticket ≡ Some U → U.answered ≡ None → run net U (tickets_in_log es) ≡ Some T → T.answered ≡ Some v →
@@ -240,7 +240,7 @@ ends_from net sound past S T k (d ∷ es) v led none on e =
         ((U : State) → step net S d.ticket ≡ Some U → U.answered ≡ None → run net U (tickets_in_log es) ≡ Some T → T.answered ≡ Some v →
         EndsSo (suc k) (lines_from net U (suc k) es) v) →
         then_run o (λ U. run net U (tickets_in_log es)) ≡ Some T → EndsSo k (line ∷ on_state o (λ U. lines_from net U (suc k) es)) v
-    go None made ih h = absurd (none_some T h)
+    go None made ih h = absurd (none-some T h)
     go (Some U) made ih h = by_answer U U.answered refl made ih h
 
 -- the last line of a whole log with an answer is the move at the root

@@ -1,5 +1,5 @@
 -- Whole traces from the start of a run, over states that compute.
-use Rattle.std.proofs.Common.{◌≡◌, ℕ, List, [], ◌∷◌, ◌++◌, length, take, refl, sym, ap, ◌∙◌, arith}
+use Rattle.std.proofs.Common.{◌≡◌, ℕ, List, [], ◌++◌, take, refl, sym, ap, ◌∙◌, arith}
 use Rattle.std.proofs.Common.{◌+◌, ◌<◌, ◌^◌, map}
 use Rattle.std.specs.Prelude.{decimal}
 use Rattle.std.specs.Int.Digits.{digits_of}
@@ -7,6 +7,7 @@ use Rattle.std.proofs.lemmas.Fmt.{decimal_digit, decimal-digits_of}
 use Rattle.std.specs.Prelude.{codes}
 use Rattle.std.specs.List.{concat}
 use Rattle.std.specs.FinMap as maps
+use Rattle.std.proofs.lemmas.List.{nil_from_length}
 use Rattle.net_build.specs.Nets.{NetTree}
 use Rattle.net_build.specs.Example.{doubled_net}
 use Rattle.interleave_laws.specs.Start.{start_of}
@@ -23,13 +24,9 @@ abbrev pub from_start : NetTree → State → List Entry → ℕ → List ℕ
 from_start net S log most =
     codes "trace 1\n" ++ (((live_lines S.tokens 0 1 ++ []) ++ concat (lines_from net S 0 (take most log))) ++ codes "end\n")
 
-no_items : {A : Type 0} (xs : List A) → length xs ≡ 0 → xs ≡ []
-no_items [] e = refl
-no_items (x ∷ xs) e = absurd (omega (arith, e))
-
 -- no entry is open at the start
 nothing_open : maps.entries (maps.empty {X = Kept} {R = key_cmp}) ≡ []
-nothing_open = no_items (maps.entries maps.empty) (sym (maps.len-entries maps.empty) ∙ maps.len-empty key_cmp Kept)
+nothing_open = nil_from_length (maps.entries maps.empty) (sym (maps.len-entries maps.empty) ∙ maps.len-empty key_cmp Kept)
 
 pub starts : (net : NetTree) (log : List Entry) (most : ℕ) → trace_text net log 0 most ≡ from_start net (start (start_of net)) log most
 starts net log most =

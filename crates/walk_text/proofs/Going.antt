@@ -3,6 +3,7 @@ use Rattle.std.proofs.Common.{◌≡◌, ℕ, zero, suc, ◌+◌, List, [], ◌�
 use Rattle.std.proofs.Common.{refl, sym, ap, ◌∙◌, arith}
 use Rattle.std.specs.Prelude.{codes}
 use Rattle.std.specs.List.{concat}
+use Rattle.std.proofs.lemmas.Option.{same_Some}
 use Rattle.net_build.specs.Nets.{NetTree}
 use Rattle.interleave_laws.specs.Start.{start_of}
 use Rattle.interleave_laws.specs.States.{State, start, step, run, then_run}
@@ -22,11 +23,8 @@ lines_at net S k j es e = ap (λ k. lines_from net S k es) e
 pub goes_on : (net : NetTree) (S T : State) (k : ℕ) (es fs : List Entry) → run net S (tickets_in_log es) ≡ Some T →
     lines_from net S k (es ++ fs) ≡ lines_from net S k es ++ lines_from net T (length es + k) fs
 goes_on net S T k [] fs led =
-    let same : S ≡ T = one_some S T led in
+    let same : S ≡ T = same_Some S T led in
     ap (λ U. lines_from net U k fs) same ∙ lines_at net T k (0 + k) fs (omega arith)
-  where
-    one_some : (S T : State) → Some S ≡ Some T → S ≡ T
-    one_some S T h = cc
 goes_on net S T k (e ∷ es) fs led = go (step net S e.ticket) (λ U. goes_on net U T (suc k) es fs) led
   where
     go : (o : Option State) → ((U : State) → run net U (tickets_in_log es) ≡ Some T →
@@ -90,10 +88,7 @@ first_lines net S k (suc n) (e ∷ es) =
 -- and the lines behind them are those of the other entries, from the state to which the first ones lead
 later_lines : (net : NetTree) (S T : State) (k n : ℕ) (es : List Entry) → run net S (tickets_in_log (take n es)) ≡ Some T →
     lines_from net T (n + k) (drop n es) ≡ drop n (lines_from net S k es)
-later_lines net S T k zero es led = lines_at net T (0 + k) k es (omega arith) ∙ ap (λ U. lines_from net U k es) (sym (one_some S T led))
-  where
-    one_some : (S T : State) → Some S ≡ Some T → S ≡ T
-    one_some S T h = cc
+later_lines net S T k zero es led = lines_at net T (0 + k) k es (omega arith) ∙ ap (λ U. lines_from net U k es) (sym (same_Some S T led))
 later_lines net S T k (suc n) [] led = refl
 later_lines net S T k (suc n) (e ∷ es) led = go (step net S e.ticket) (λ U. later_lines net U T (suc k) n es) led
   where

@@ -5,9 +5,9 @@ use Rattle.std.specs.Option.{IsSome}
 use Rattle.std.specs.List.{concat}
 use Rattle.std.specs.FinMap.{get}
 use Rattle.std.proofs.lemmas.List.{append-nil}
+use Rattle.std.proofs.lemmas.Option.{same_Some, none-some}
 use Rattle.net_build.specs.Nets.{NetTree}
 use Rattle.move_rules.specs.Places.{TokenTree}
-use Rattle.move_rules.proofs.Facing.{one_some}
 use Rattle.interleave_laws.specs.Start.{start_of}
 use Rattle.interleave_laws.specs.Runs.{Runs}
 use Rattle.interleave_laws.proofs.MapLaws.{map_low}
@@ -25,29 +25,26 @@ use Rattle.walk_text.specs.Whole.{LeadsSomewhere}
 
 -- ---- steps
 
-pub none_some : {A : Type 0} (x : A) → None ≡ Some x → ⊥
-none_some x e = cc
-
 -- a run with one more step
 run_more : (net : NetTree) (log : List ℕ) (S T U : MapState) (t : ℕ) → run_map net S log ≡ Some T → step_map net T t ≡ Some U →
     run_map net S (log ++ t ∷ []) ≡ Some U
 run_more net [] S T U t led made =
-    ap (λ o. then_run_map o (λ V. Some V)) (ap (λ V. step_map net V t) (one_some S T led) ∙ made)
+    ap (λ o. then_run_map o (λ V. Some V)) (ap (λ V. step_map net V t) (same_Some S T led) ∙ made)
 run_more net (i ∷ log) S T U t led made = go (step_map net S i) (λ V h. run_more net log V T U t h made) led
   where
     go : (o : Option MapState) → ((V : MapState) → run_map net V log ≡ Some T → run_map net V (log ++ t ∷ []) ≡ Some U) →
         then_run_map o (λ V. run_map net V log) ≡ Some T → then_run_map o (λ V. run_map net V (log ++ t ∷ [])) ≡ Some U
-    go None f h = absurd (none_some T h)
+    go None f h = absurd (none-some T h)
     go (Some V) f h = f V h
 
 -- a ticket in the middle of a run has its step
 middle_step : (net : NetTree) (log more : List ℕ) (S T E : MapState) (t : ℕ) → run_map net S (log ++ t ∷ more) ≡ Some E →
     run_map net S log ≡ Some T → IsSome (step_map net T t)
 middle_step net [] more S T E t all led =
-    subst (λ V. IsSome (step_map net V t)) (one_some S T led) (go (step_map net S t) all)
+    subst (λ V. IsSome (step_map net V t)) (same_Some S T led) (go (step_map net S t) all)
   where
     go : (o : Option MapState) → then_run_map o (λ V. run_map net V more) ≡ Some E → IsSome o
-    go None h = absurd (none_some E h)
+    go None h = absurd (none-some E h)
     go (Some V) h = refl
 middle_step net (i ∷ log) more S T E t all led = go (step_map net S i) (λ V. middle_step net log more V T E t) all led
   where
@@ -55,7 +52,7 @@ middle_step net (i ∷ log) more S T E t all led = go (step_map net S i) (λ V. 
         ((V : MapState) → run_map net V (log ++ t ∷ more) ≡ Some E → run_map net V log ≡ Some T → IsSome (step_map net T t)) →
         then_run_map o (λ V. run_map net V (log ++ t ∷ more)) ≡ Some E → then_run_map o (λ V. run_map net V log) ≡ Some T →
         IsSome (step_map net T t)
-    go None f h g = absurd (none_some E h)
+    go None f h g = absurd (none-some E h)
     go (Some V) f h g = f V h g
 
 -- a ticket that has its step is live

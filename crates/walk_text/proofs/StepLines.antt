@@ -5,6 +5,7 @@ use Rattle.std.proofs.lemmas.Bool.{eq-eqb, ne_eqb}
 use Rattle.std.specs.Prelude.{codes}
 use Rattle.std.specs.FinMap.{get, insert, get-insert}
 use Rattle.std.proofs.lemmas.Cmp.{nat_cmp_total}
+use Rattle.std.proofs.lemmas.Option.{same_Some, none-some}
 use Rattle.interleave_laws.proofs.Tickets.{test_nat}
 use Rattle.pcf_values.specs.declared.val.Val.{Val}
 use Rattle.pcf_values.specs.declared.operator.Operator.{Operator}
@@ -23,7 +24,7 @@ use Rattle.move_rules.specs.Moves.{Look, dead, constant, pass, one, test, two, p
 use Rattle.move_rules.specs.AtNode.{look_at, move_at}
 use Rattle.move_rules.specs.Moves.{answer, stay}
 use Rattle.move_rules.specs.Moves.{ask_move, solo_at, if_wire, ans_down, move}
-use Rattle.move_rules.proofs.Facing.{one_some, move_faced}
+use Rattle.move_rules.proofs.Facing.{move_faced}
 use Rattle.move_rules.proofs.Either.{wire_so, either_so, operand_so}
 use Rattle.interleave_core.specs.declared.stepped.Stepped.{Stepped}
 use Rattle.interleave_core.specs.declared.stepped.Stepped.TheVariants.{Went, Forked, Joined, Answered}
@@ -31,7 +32,6 @@ use Rattle.interleave_core.specs.Names.{name_at, name_of, name_on, step_name}
 use Rattle.interleave_laws.specs.Maps.{MapState, fork_map, last_map, join_map, act_map, step_map_on, step_map, seen}
 use Rattle.walk_text.specs.Lines.{val_text, token_text, came, join_text, fork_text, outcome_text, line_text, line_at, line_of}
 use Rattle.walk_text.specs.Lines.{move_line, mover_text}
-use Rattle.walk_text.proofs.Playing.{none_some}
 use Rattle.walk_text.specs.Ports.{comes_by, leaves_by}
 use Rattle.walk_text.specs.Telling.{boxes_by, is_operator, onward_text, forked_text, values_text, told_text, Begins, line_begin}
 
@@ -162,12 +162,12 @@ module _ (S T : MapState) (t : ℕ) (n : Node) (x : TokenTree) (low : t < S.next
       fork_map o S t k l r bx ≡ Some T → Forked S.next ≡ s →
       told_text n (token_text (boxes_by b) x) s T t
       ≡ came (leaves_by n l) (token_text key_text x) (token_text key_text (ask l) ++ fork_text S.next (ask r))
-  fork_told b l r k bx s (Some d) e f made name = absurd (none_some T made)
+  fork_told b l r k bx s (Some d) e f made name = absurd (none-some T made)
   fork_told b l r k bx s None e f made name =
       ap (λ s. told_text n (token_text (boxes_by b) x) s T t) (sym name)
       ∙ (λ i. onward n b (token_text (boxes_by b) x) (ask l) (get T.tokens t) e
-      (ap (λ (U : MapState). get U.tokens t) (sym (one_some _ T made)) ∙ put_before S t S.next (ask l) (ask r) low) i
-      ++ forked_text S.next ((ap (λ (U : MapState). get U.tokens S.next) (sym (one_some _ T made))
+      (ap (λ (U : MapState). get U.tokens t) (sym (same_Some _ T made)) ∙ put_before S t S.next (ask l) (ask r) low) i
+      ++ forked_text S.next ((ap (λ (U : MapState). get U.tokens S.next) (sym (same_Some _ T made))
       ∙ put_last S t S.next (ask l) (ask r)) i))
       ∙ ap (λ c. came (leaves_by n l) (token_text (boxes_by c) x) (token_text (boxes_by c) (ask l)) ++ fork_text S.next (ask r)) f
       ∙ came_more (leaves_by n l) (token_text key_text x) (token_text key_text (ask l)) (fork_text S.next (ask r))
@@ -180,7 +180,7 @@ module _ (S T : MapState) (t : ℕ) (n : Node) (x : TokenTree) (low : t < S.next
   last_told b u v w i c bx s e f made name =
       ap (λ s. told_text n (token_text (boxes_by b) x) s T t) (sym name)
       ∙ ap (λ z. z ++ values_text v w) (onward n b (token_text (boxes_by b) x) (ans u (down c [] bx)) (get T.tokens t) e
-      (ap (λ (U : MapState). get U.tokens t) (sym (one_some _ T made)) ∙ put_here S t (ans u (down c [] bx))))
+      (ap (λ (U : MapState). get U.tokens t) (sym (same_Some _ T made)) ∙ put_here S t (ans u (down c [] bx))))
       ∙ ap (λ a. came (leaves_by n (down c [] bx)) (token_text (boxes_by a) x)
       (token_text (boxes_by a) (ans u (down c [] bx))) ++ values_text v w) f
       ∙ came_more (leaves_by n (down c [] bx)) (token_text key_text x) (token_text key_text (ans u (down c [] bx))) (values_text v w)
@@ -188,16 +188,16 @@ module _ (S T : MapState) (t : ℕ) (n : Node) (x : TokenTree) (low : t < S.next
   join_told : (b : Bool) (o : Operator) (d : Side) (v : Val) (i c : ℕ) (bx : Boxes) (s : Stepped) (k : Option Entry) →
       b ≡ is_operator n → b ≡ true → join_map k S t i o d v c bx ≡ Some T → name_at k v ≡ Some s →
       told_text n (token_text (boxes_by b) x) s T t ≡ join_text n x o d v c bx k
-  join_told b o d v i c bx s None e f made name = absurd (none_some T made)
+  join_told b o d v i c bx s None e f made name = absurd (none-some T made)
   join_told b o d v i c bx s (Some pending) e f made name =
-      ap (λ s. told_text n (token_text (boxes_by b) x) s T t) (sym (one_some _ s name))
+      ap (λ s. told_text n (token_text (boxes_by b) x) s T t) (sym (same_Some _ s name))
       ∙ ap (λ a. came (codes "-") (token_text (boxes_by a) x) (codes "kept")) f
   join_told b o Right v i c bx s (Some (has_left u)) e f made name =
-      last_told b _ u v i c bx s e f made (one_some _ s name)
-  join_told b o Left v i c bx s (Some (has_left u)) e f made name = absurd (none_some T made)
+      last_told b _ u v i c bx s e f made (same_Some _ s name)
+  join_told b o Left v i c bx s (Some (has_left u)) e f made name = absurd (none-some T made)
   join_told b o Left v i c bx s (Some (has_right u)) e f made name =
-      last_told b _ v u i c bx s e f made (one_some _ s name)
-  join_told b o Right v i c bx s (Some (has_right u)) e f made name = absurd (none_some T made)
+      last_told b _ v u i c bx s e f made (same_Some _ s name)
+  join_told b o Right v i c bx s (Some (has_right u)) e f made name = absurd (none-some T made)
 
   answer_told : (b : Bool) (v : Val) (s : Stepped) → b ≡ false → Answered v ≡ s →
       told_text n (token_text (boxes_by b) x) s T t ≡ came (codes "-") (token_text boxes_text x) (codes "answer " ++ val_text v)
@@ -208,11 +208,11 @@ module _ (S T : MapState) (t : ℕ) (n : Node) (x : TokenTree) (low : t < S.next
   -- What is told of a step is the outcome of its move.
   told : (b : Bool) (m : Move) (s : Stepped) → b ≡ is_operator n → Fits b m → act_map m S t ≡ Some T → name_of m S ≡ Some s →
       told_text n (token_text (boxes_by b) x) s T t ≡ outcome_text (seen S) n x m
-  told b (solo i y) s e f made name = solo_told b y s e f (one_some _ T made) (one_some _ s name)
-  told b (fork i l r bx) s e f made name = fork_told b l r i bx s (get S.entries (i, bx)) e f made (one_some _ s name)
+  told b (solo i y) s e f made name = solo_told b y s e f (same_Some _ T made) (same_Some _ s name)
+  told b (fork i l r bx) s e f made name = fork_told b l r i bx s (get S.entries (i, bx)) e f made (same_Some _ s name)
   told b (join i o d v c bx) s e f made name = join_told b o d v i c bx s (get S.entries (i, bx)) e f made name
-  told b (answer v) s e f made name = answer_told b v s f (one_some _ s name)
-  told b stay s e f made name = absurd (none_some T made)
+  told b (answer v) s e f made name = answer_told b v s f (same_Some _ s name)
+  told b stay s e f made name = absurd (none-some T made)
 
 -- a step and its name, of a ticket whose token is known
 step_of : (net : NetTree) (S T : MapState) (t : ℕ) (x : TokenTree) → get S.tokens t ≡ Some x → step_map net S t ≡ Some T →
