@@ -13,22 +13,14 @@ use Rattle.program_runs.specs.declared.fault.ProgramFault.{ProgramFault}
 use Rattle.program_runs.specs.declared.no_run.NoRun.{NoRun}
 use Rattle.program_runs.specs.declared.no_run.NoRun.TheVariants.{Memory, Fault}
 use Rattle.program_runs.specs.NoRuns.{NoRunFor, no_run_of_read, no_run_of_type}
+use Rattle.program_runs.proofs.Texts.{faults_weaker}
 use Rattle.function_runs.specs.Functions.{CompilesTree, CompilesText, FaultyTree, Takes, untyped, other_type}
 use Rattle.function_runs.specs.Misfit.{IsMisfit, misfit}
 use Rattle.function_runs.specs.Functions.{FaultyFunction, FaultyAny, unread, of_tree}
 
-weaker : (P Q : ProgramFault → Type 0) (e : NoRun) → ((f : ProgramFault) → P f → Q f) → NoRunFor P e → NoRunFor Q e
-weaker P Q Memory k h = h
-weaker P Q (Fault f) k h = k f h
-
-if_weaker : {A : Type 0} (P Q : ProgramFault → Type 0) (r : Result A NoRun) → ((f : ProgramFault) → P f → Q f) →
-    IfErr r (λ e. NoRunFor P e) → IfErr r (λ e. NoRunFor Q e)
-if_weaker P Q (Ok v) k h = h
-if_weaker P Q (Err e) k h = weaker P Q e k h
-
 pub faults_of_text : {A : Type 0} (n : ℕ) (bytes : List ℕ) (tree : NamedTree) (r : Result A NoRun) → Text bytes tree →
     IfErr r (λ e. NoRunFor (FaultyTree n tree) e) → IfErr r (λ e. NoRunFor (FaultyFunction n bytes) e)
-faults_of_text n bytes tree r x h = if_weaker (FaultyTree n tree) (FaultyFunction n bytes) r (λ f. of_tree tree f x) h
+faults_of_text n bytes tree r x h = faults_weaker (FaultyTree n tree) (FaultyFunction n bytes) r (λ f. of_tree tree f x) h
 
 unfit : (n : ℕ) (tree : NamedTree) (t : TermTree) (A : TyTree) (f : ProgramFault) → type_of [] tree ≡ Ok (t, A) → IsMisfit n A f →
     FaultyTree n tree f
@@ -36,7 +28,7 @@ unfit n tree t A _ d (misfit h) = other_type t A d h
 
 pub faults_of_tree : {A : Type 0} (n : ℕ) (tree : NamedTree) (p : TermTree × TyTree) (r : Result A NoRun) → type_of [] tree ≡ Ok p →
     IfErr r (λ e. NoRunFor (IsMisfit n p.1) e) → IfErr r (λ e. NoRunFor (FaultyTree n tree) e)
-faults_of_tree n tree p r d h = if_weaker (IsMisfit n p.1) (FaultyTree n tree) r (λ f. unfit n tree p.0 p.1 f d) h
+faults_of_tree n tree p r d h = faults_weaker (IsMisfit n p.1) (FaultyTree n tree) r (λ f. unfit n tree p.0 p.1 f d) h
 
 pub stops_unread : (n : ℕ) (bytes : List ℕ) (f : ReadFault) → Faults bytes f → NoRunFor (FaultyFunction n bytes) (no_run_of_read f)
 stops_unread n bytes read.NoMemory h = tt
@@ -95,13 +87,13 @@ pub any_faults_of_tree : {B : Type 0} (k : ℕ) (tree : NamedTree) (p : TermTree
     ((n : ℕ) → Takes n p.1 → k ≡ n) → type_of [] tree ≡ Ok p → IfErr r (λ e. NoRunFor (IsMisfit k p.1) e) →
     IfErr r (λ e. NoRunFor (λ f. (n : ℕ) → FaultyTree n tree f) e)
 any_faults_of_tree k tree p r only d h =
-    if_weaker (IsMisfit k p.1) (λ f. (n : ℕ) → FaultyTree n tree f) r
+    faults_weaker (IsMisfit k p.1) (λ f. (n : ℕ) → FaultyTree n tree f) r
     (λ f m n. unfit n tree p.0 p.1 f d (as_whatever k p.1 f only m n)) h
 
 pub any_faults_of_text : {B : Type 0} (bytes : List ℕ) (tree : NamedTree) (r : Result B NoRun) → Text bytes tree →
     IfErr r (λ e. NoRunFor (λ f. (n : ℕ) → FaultyTree n tree f) e) → IfErr r (λ e. NoRunFor (FaultyAny bytes) e)
 any_faults_of_text bytes tree r x h =
-    if_weaker (λ f. (n : ℕ) → FaultyTree n tree f) (FaultyAny bytes) r (λ f g n. of_tree tree f x (g n)) h
+    faults_weaker (λ f. (n : ℕ) → FaultyTree n tree f) (FaultyAny bytes) r (λ f g n. of_tree tree f x (g n)) h
 
 -- what is made for a count is made for the count that it has
 pub any_function : {E : Type 0} (tree : NamedTree) (n : ℕ) (r : Result (TermTree × ℕ) E) → IfOk r (λ f. CompilesTree tree n f) →

@@ -8,23 +8,12 @@ use Rattle.pcf_types.specs.Checking.{type_of}
 use Rattle.open_net_laws.specs.Applied.{numeric}
 use Rattle.program_runs.specs.declared.fault.ProgramFault.{ProgramFault}
 use Rattle.program_runs.specs.declared.fault.ProgramFault.TheVariants.{Read, Typing}
+use Rattle.program_runs.proofs.OneProgram.{term_or, type_or, fault_or}
 use Rattle.function_runs.specs.Functions.{CompilesTree, CompilesText, FaultyTree, untyped, other_type, FaultyFunction, unread, of_tree}
 use Rattle.function_runs.proofs.Counts.{arrow_count, count_is}
 use Rattle.function_runs.specs.Laws.{OneFunction, OneOfAny}
 
 -- ---- a tree has one term with its type, or one fault
-
-abbrev term_or : TermTree → Result (TermTree × TyTree) TypeFault → TermTree
-term_or d (Ok p) = p.0
-term_or d (Err e) = d
-
-abbrev type_or : TyTree → Result (TermTree × TyTree) TypeFault → TyTree
-type_or d (Ok p) = p.1
-type_or d (Err e) = d
-
-abbrev fault_or : TypeFault → Result (TermTree × TyTree) TypeFault → TypeFault
-fault_or d (Ok p) = d
-fault_or d (Err e) = e
 
 differ : (r : Result (TermTree × TyTree) TypeFault) (e : TypeFault) (p : TermTree × TyTree) → r ≡ Err e → r ≡ Ok p → ⊥
 differ (Ok q) e p h k = cc

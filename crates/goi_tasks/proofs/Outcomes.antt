@@ -9,6 +9,7 @@ use Rattle.cbn_meaning.specs.Meaning.{Means}
 use Rattle.net_text.specs.declared.fault.NetTextFault.{NetTextFault}
 use Rattle.net_text.specs.Accepted.{ListsProgram}
 use Rattle.net_text.specs.Laws.{OneAnswer as OneListing}
+use Rattle.net_text.proofs.OneAnswers.{same_program as same_listed}
 use Rattle.batch_lists.specs.Laws.{OneList}
 use Rattle.net_build.specs.Nets.{NetTree}
 use Rattle.net_build.specs.NetOf.{net_of}
@@ -137,10 +138,6 @@ abbrev replay_fault_or : ReplayFault → Result Replayed ReplayFault → ReplayF
 replay_fault_or d (Ok r) = d
 replay_fault_or d (Err f) = f
 
-abbrev listed_or : TermTree → Result (TermTree × TyTree) NetTextFault → TermTree
-listed_or d (Ok p) = p.0
-listed_or d (Err f) = d
-
 abbrev listing_fault_or : NetTextFault → Result (TermTree × TyTree) NetTextFault → NetTextFault
 listing_fault_or d (Ok p) = d
 listing_fault_or d (Err f) = f
@@ -175,9 +172,6 @@ module _ (known : Known) where
   one_text_fault wanted bytes _ _ (no_program f h) (no_program g k) = ap Program (known.one_program.one_fault wanted bytes f g h k)
 
   -- ---- a listing is that of one program, or has one fault
-
-  same_listed : (bytes : List ℕ) (t u : TermTree) → ListsProgram bytes t → ListsProgram bytes u → t ≡ u
-  same_listed bytes t u h k = ap (listed_or t) (known.one_listing bytes (Ok (t, nat)) (Ok (u, nat)) (h, refl) (k, refl) (λ e. cc) (λ e. cc))
 
   listing_sound : (bytes : List ℕ) (t : TermTree) (f : Fault) → ListsProgram bytes t → FaultyListing bytes f → ⊥
   listing_sound bytes t _ h (unlisted f n k) =

@@ -1,5 +1,5 @@
 -- What a schedule that was run on a program's net says of the program.
-use Rattle.std.proofs.Common.{◌≡◌, ℕ, ◌≤◌, List, [], ◌∷◌, length, Result, Ok, Err, IfOk, IfErr, IsErrAnd, Option, Some}
+use Rattle.std.proofs.Common.{◌≡◌, ℕ, ◌≤◌, List, [], length, Result, Ok, Err, IfOk, IfErr, IsErrAnd, Option, Some}
 use Rattle.std.proofs.Common.{None, refl, sym, ap, ◌∙◌, subst, arith, inl, inr}
 use Rattle.pcf_values.specs.declared.val.Val.{Val}
 use Rattle.pcf_values.specs.Most.{most_moves}
@@ -18,6 +18,7 @@ use Rattle.schedule_log.proofs.Texts.{tickets_length}
 use Rattle.walk_text.specs.Whole.{LeadsSomewhere}
 use Rattle.goi_jobs.specs.declared.window.Window.{Window}
 use Rattle.schedule_log.specs.Schedules.{IsSchedule, ReadAs}
+use Rattle.schedule_log.proofs.Taken.{tickets_all}
 use Rattle.replay_check.specs.declared.fault.ReplayFault.{ReplayFault}
 use Rattle.replay_check.specs.declared.fault.ReplayFault.TheVariants as replay
 use Rattle.replay_check.specs.declared.replayed.Replayed.{Replayed}
@@ -38,16 +39,12 @@ use Rattle.goi_tasks.specs.Stops.{StopsFor, stop_of_schedule, stop_of_replay}
 use Rattle.goi_tasks.specs.Programs.{FaultyText, FaultyEither}
 use Rattle.goi_tasks.proofs.Texts.{faults_weaker, ground_net}
 
-log_length : (log : List Entry) → length (tickets_in_log log) ≡ length log
-log_length [] = refl
-log_length (e ∷ es) = let h = log_length es in omega (arith, h)
-
 -- the log of a schedule has no more moves than the limit
 pub few_moves : (text : List ℕ) (log : List Entry) → IsSchedule text (tickets_in_log log) → length log ≤ most_moves
 few_moves text log h =
     let e = ap length h.tickets_are in
     let n = tickets_length h.runs in
-    let m = log_length log in
+    let m = tickets_all log in
     omega (arith, e, n, m, h.whole.few)
 
 -- a log that was read has the entries of its tickets

@@ -10,6 +10,7 @@ use Rattle.std.proofs.Common.{◌≡◌, ◌≢◌, ◌∙◌, ap, cond, refl, s
 use Rattle.std.proofs.Common.{IsErrOf, option_map, is_some}
 use Rattle.std.specs.Prelude.{Box}
 use Rattle.std.specs.Box.{box_value}
+use Rattle.std.proofs.lemmas.Option.{same_Some}
 use Rattle.clap.specs.Words.{Kinds, Row, Text, fault_of, subcommand_of, subcommand_rows}
 use Rattle.clap.specs.declared.parser.matches.SubCommand.{SubCommand}
 use Rattle.clap.specs.declared.parser.matches.ArgMatches.TheViews.{out-SubCommand}
@@ -53,11 +54,8 @@ module _ {Z : Type 0} where
   name_and_rows None n rows is at = cc
   name_and_rows (Some b) n rows is at =
       let same_name : n ≡ (out-SubCommand (box_value b)).name.now = cc in
-      let same_rows = unsome _ _ at in
+      let same_rows = same_Some _ _ at in
       ap Some (λ i. (same_name i, same_rows i))
-    where
-      unsome : {X : Type 0} (x y : X) → Some x ≡ Some y → x ≡ y
-      unsome x y e = cc
 
   pub no_rows : (sub : Option (Box SubCommand Z)) → false ≡ is_some sub → None ≡ subcommand_rows sub
   no_rows None is = refl

@@ -1,7 +1,7 @@
 -- What `get_one` reads is what the definitions read.
 use Rattle.std.proofs.Common.{◌≡◌, ◌&&◌, ◌∙◌, ◌<◌, ◌^◌, ℕ, Bool, true, false, refl, sym, ap, cond, List, [], ◌∷◌, length, nat_lt, Option}
 use Rattle.std.proofs.Common.{Some, None, Result, Ok, Err}
-use Rattle.std.proofs.lemmas.Bool.{lt-ltb, ltb-true}
+use Rattle.std.proofs.lemmas.Bool.{lt-ltb, ltb-true, and_parts}
 use Rattle.std.specs.List.{list_all}
 use Rattle.std.specs.Option.{option_map_or, unwrap_or}
 use Rattle.std.specs.Char.{digit_value}
@@ -14,11 +14,6 @@ use Rattle.clap.specs.ValueTests.{is_numeral}
 use Rattle.goi_words.specs.Findings.{◌>>=◌}
 use Rattle.goi_words.specs.Asked.{number_in}
 
--- both sides of a conjunction
-both : (a b : Bool) → (a && b) ≡ true → (a ≡ true) × (b ≡ true)
-both true b e = (refl, e)
-both false b e = cc
-
 -- the test on digits and what it says
 all_digits : (ds : List ℕ) → AllDigits 10 ds → list_all (λ d. nat_lt (digit_value d) 10) ds ≡ true
 all_digits [] h = refl
@@ -28,7 +23,7 @@ all_digits (d ∷ ds) h = rw (lt-ltb (digit_value d) 10 h.0) (all_digits ds h.1)
 digits_all : (ds : List ℕ) → list_all (λ d. nat_lt (digit_value d) 10) ds ≡ true → AllDigits 10 ds
 digits_all [] e = tt
 digits_all (d ∷ ds) e =
-    let parts = both _ _ e in
+    let parts = and_parts _ _ e in
     (ltb-true _ _ parts.0, digits_all ds parts.1)
 
 -- digits are a numeral
@@ -38,7 +33,7 @@ numeral ds h = rw (lt-ltb 0 (length ds) h.0) (all_digits ds h.1)
 -- a numeral has digits
 pub is_numeral_so : (ds : List ℕ) → is_numeral ds ≡ true → IsNumeral 10 ds
 is_numeral_so ds e =
-    let parts = both (nat_lt 0 (length ds)) _ e in
+    let parts = and_parts (nat_lt 0 (length ds)) _ e in
     (ltb-true _ _ parts.0, digits_all ds parts.1)
 
 -- a text that is read as a number

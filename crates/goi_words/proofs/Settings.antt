@@ -161,23 +161,20 @@ known_by_facts sh os cs ch e = (
         text_there (default_row name sh.rules) default (ap (λ (f : Facts). f.has_default) e) (ap (λ (f : Facts). f.text) e)
 
 -- the first of two lists that are the same, and the others
-heads : {X : Type 0} (x y : X) (xs ys : List X) → x ∷ xs ≡ y ∷ ys → x ≡ y
-heads x y xs ys e = cc
-
-tails : {X : Type 0} (x y : X) (xs ys : List X) → x ∷ xs ≡ y ∷ ys → xs ≡ ys
-tails x y xs ys e = cc
+both_parts : {X : Type 0} (x y : X) (xs ys : List X) → x ∷ xs ≡ y ∷ ys → (x ≡ y) × (xs ≡ ys)
+both_parts x y xs ys e = (cc, cc)
 
 -- two functions that are the same along a list
 pub each_equal : {X Y : Type 0} (f g : X → Y) (xs : List X) → map f xs ≡ map g xs → AllByRecursion (λ x. f x ≡ g x) xs
 each_equal f g [] e = tt
-each_equal f g (x ∷ xs) e = (heads _ _ _ _ e, each_equal f g xs (tails _ _ _ _ e))
+each_equal f g (x ∷ xs) e = let (h, t) = both_parts _ _ _ _ e in (h, each_equal f g xs t)
 
 -- all options
 pub all_known : (sh : Shape) (os : List Operand) (known cs : List Choice) → map (facts sh os known) cs ≡ map wanted cs
     → AllByRecursion (IsKnown sh os known) cs
 all_known sh os known [] e = tt
 all_known sh os known (ch ∷ cs) e =
-    (known_by_facts sh os known ch (heads _ _ _ _ e), all_known sh os known cs (tails _ _ _ _ e))
+    let (h, t) = both_parts _ _ _ _ e in (known_by_facts sh os known ch h, all_known sh os known cs t)
 
 -- the word of the option names its argument
 pub is_named : (sh : Shape) (os : List Operand) (cs : List Choice) (ch : Choice) → IsKnown sh os cs ch

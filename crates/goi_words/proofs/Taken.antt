@@ -1,7 +1,7 @@
 -- Words that `clap` takes ask for a job.
 use Rattle.std.proofs.Common.{◌≡◌, ◌∙◌, ◌∷◌, ◌<◌, ◌≤◌, ◌^◌, ap, cond, length, refl, subst, sym, ℕ, Bool, true, false, List, [], Option}
 use Rattle.std.proofs.Common.{Some, None, codes, inl, inr, not, ◌⊎◌, ◌&&◌, ◌||◌, ◌++◌, ◌+◌, map, min, option_map, unwrap_or}
-use Rattle.std.proofs.lemmas.Bool.{ltb-true}
+use Rattle.std.proofs.lemmas.Bool.{ltb-true, and_parts}
 use Rattle.std.specs.List.{AllByRecursion, fold, list_all}
 use Rattle.std.specs.Option.{option_map_or, option_or}
 use Rattle.std.specs.Prelude.{pos, slice_get}
@@ -377,11 +377,6 @@ pub record IsNotFitting (command : Text) (rows : List Row) : Type 0 where
   pub circuit : command ≡ codes "circuit"
   pub apart : circuit_fits (findings rows) ≡ false
 
--- both sides of a conjunction
-both_true : (a b : Bool) → (a && b) ≡ true → (a ≡ true) × (b ≡ true)
-both_true true b e = (refl, e)
-both_true false b e = cc
-
 -- the names of modules are some, or one that is found is none
 named_or_not : (command : Text) (rows : List Row) (cs : List Choice) → list_all (names_circuit command) cs ≡ true
     → AllByRecursion (IsFoundFor (findings rows)) cs → AllByRecursion (IsNamedFor (findings rows)) cs ⊎ IsMisnamed command rows
@@ -395,8 +390,8 @@ named_or_not command rows (numbered name least most default ∷ cs) names found 
   | inr bad ↦ inr bad
 ]
 named_or_not command rows (named name default ∷ cs) names found =
-    let parts = both_true (bytes_eq command (codes "circuit") && bytes_eq name (codes "name")) _ names in
-    let here = both_true (bytes_eq command (codes "circuit")) (bytes_eq name (codes "name")) parts.0 in
+    let parts = and_parts (bytes_eq command (codes "circuit") && bytes_eq name (codes "name")) _ names in
+    let here = and_parts (bytes_eq command (codes "circuit")) (bytes_eq name (codes "name")) parts.0 in
     go (module_name found.0.0) refl here.0 here.1 (named_or_not command rows cs parts.1 found.1)
   where
     go : (b : Bool) → module_name found.0.0 ≡ b → bytes_eq command (codes "circuit") ≡ true → bytes_eq name (codes "name") ≡ true

@@ -18,15 +18,15 @@ use Rattle.program_runs.specs.Programs.{FaultyTree, untyped, no_number, untransl
 
 -- ---- a tree has one term, one type, or one fault
 
-abbrev term_or : TermTree → Result (TermTree × TyTree) TypeFault → TermTree
+abbrev pub term_or : TermTree → Result (TermTree × TyTree) TypeFault → TermTree
 term_or d (Ok p) = p.0
 term_or d (Err e) = d
 
-abbrev type_or : TyTree → Result (TermTree × TyTree) TypeFault → TyTree
+abbrev pub type_or : TyTree → Result (TermTree × TyTree) TypeFault → TyTree
 type_or d (Ok p) = p.1
 type_or d (Err e) = d
 
-abbrev fault_or : TypeFault → Result (TermTree × TyTree) TypeFault → TypeFault
+abbrev pub fault_or : TypeFault → Result (TermTree × TyTree) TypeFault → TypeFault
 fault_or d (Ok p) = d
 fault_or d (Err e) = e
 

@@ -39,7 +39,7 @@ stops_weaker : (P Q : ProgramFault → Type 0) (e : NoRun) → ((f : ProgramFaul
 stops_weaker P Q Memory k h = h
 stops_weaker P Q (Fault f) k h = k f h
 
-faults_weaker : {A : Type 0} (P Q : ProgramFault → Type 0) (r : Result A NoRun) → ((f : ProgramFault) → P f → Q f) →
+pub faults_weaker : {A : Type 0} (P Q : ProgramFault → Type 0) (r : Result A NoRun) → ((f : ProgramFault) → P f → Q f) →
     IfErr r (λ e. NoRunFor P e) → IfErr r (λ e. NoRunFor Q e)
 faults_weaker P Q (Ok v) k h = h
 faults_weaker P Q (Err e) k h = stops_weaker P Q e k h
