@@ -16,10 +16,6 @@ use Rattle.program_runs.specs.Laws.{RunsTell}
 use Rattle.program_runs.specs.Runs.{IsProgramRun}
 use Rattle.function_runs.specs.Ready.{IsReady}
 
--- a function's program, by what is seen of the function
-pub program_is : (p : TermTree × TyTree) (n : ℕ) (f : TermTree × ℕ) → (p.0, n) ≡ f → p.1 ≡ numeric n → p ≡ (f.0, numeric f.1)
-program_is p n f e h = ap (λ A. (p.0, A)) h ∙ ap (λ (x : TermTree × ℕ). (x.0, numeric x.1)) e
-
 -- the node of the first of its numbers, by what is seen of the function
 pub first_is : (p : TermTree × TyTree) (net : NetTree) (first n : ℕ) (f : TermTree × ℕ) → IsReady p net first n → (p.0, n) ≡ f →
     first ≡ length (closed_part f.0).nodes

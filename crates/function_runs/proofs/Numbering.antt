@@ -1,7 +1,8 @@
 -- Numbers that are exchanged one after another are exchanged all at once.
 use Rattle.std.proofs.Common.{◌≡◌, ℕ, zero, suc, ◌+◌, ◌≤◌, ◌<◌, List, [], ◌∷◌, length, Option, Some, None, refl, sym, ap, ◌∙◌, arith}
-use Rattle.std.proofs.Common.{cond, get_or, drop, take, ◌-◌}
+use Rattle.std.proofs.Common.{cond, get_or, drop, take, replicate, ◌-◌}
 use Rattle.std.proofs.lemmas.Bool.{eq-eqb, ne_eqb}
+use Rattle.std.proofs.lemmas.List.{length-replicate}
 use Rattle.net_build.specs.declared.node.Node.{Node}
 use Rattle.net_build.specs.Nets.{NetTree}
 use Rattle.net_build.specs.Numbers.{set_number, set_at, with_number}
@@ -74,3 +75,21 @@ one_more k v vs rest net net' net'' e g h =
     ap (with_nodes net)
     (one_then k v vs rest net.nodes (set_at k v net.nodes)
     (set_all (given (places_from (k + 3) (length rest)) rest) 0 (set_at k v net.nodes)) e refl refl)
+
+-- so many zeros
+
+pub no_zeros : (k n : ℕ) (net : NetTree) → n ≡ 0 → net ≡ with_numbers net (places_from k n) (replicate n 0)
+no_zeros k zero net e = no_more k [] net (omega arith)
+no_zeros k (suc n) net e = absurd (omega (arith, e))
+
+pub one_zero : (k n : ℕ) (net net' net'' : NetTree) → 1 ≤ n → net' ≡ with_number net k 0 →
+    net'' ≡ with_numbers net' (places_from (k + 3) (n - 1)) (replicate (n - 1) 0) →
+    net'' ≡ with_numbers net (places_from k n) (replicate n 0)
+one_zero k zero net net' net'' l g h = absurd (omega (arith, l))
+one_zero k (suc n) net net' net'' l g h =
+    let p : suc n - 1 ≡ n = omega arith in
+    let q : length (replicate {A = ℕ} n 0) ≡ n = length-replicate {A = ℕ} n 0 in
+    one_more k 0 (replicate (suc n) 0) (replicate n 0) net net' net'' refl g
+    (h ∙ ap (λ j. with_numbers net' (places_from (k + 3) j) (replicate j 0)) p ∙
+    ap (λ j. with_numbers net' (places_from (k + 3) j) (replicate n 0)) (sym q)) ∙
+    ap (λ j. with_numbers net (places_from k (suc j)) (replicate (suc n) 0)) q

@@ -1,7 +1,6 @@
 //! A term that is applied to zeros.
 
-ghost use Rattle.std.specs.Prelude.{◌≡◌, ◌↔◌, ◌≤◌, ℕ, [], IsTrue, IfOk, replicate};
-ghost use Rattle.pcf_values.specs.Typing.{HasType};
+ghost use Rattle.std.specs.Prelude.{◌≡◌, ◌↔◌, ◌≤◌, ℕ, IsTrue, IfOk, replicate};
 ghost use Rattle.pcf_values.specs.Terms.{nat, num, app};
 ghost use Rattle.pcf_values.specs.Views.{term_of, ty_of};
 ghost use Rattle.open_net_laws.specs.Applied.{applied, numeric};
@@ -66,22 +65,14 @@ fn is_nat(ty: &Ty) -> bool
 }
 
 /// A function of so many numbers, applied to zeros.
-pub(crate) fn at_zeros(alloc: Global, program: &Typed, arguments: u32) -> Result<Typed, AllocError>
-    requires { program.now.1 ≡ numeric arguments }
-    ensures { IfOk result (λ p. p ≡ (applied program.now.0 (replicate arguments 0), nat)) }
+pub(crate) fn at_zeros(alloc: Global, program: Typed, arguments: u32) -> Result<Typed, AllocError>
+    requires { program.1 ≡ numeric arguments }
+    ensures { IfOk result (λ p. p ≡ (applied program.0 (replicate arguments 0), nat)) }
 {
     law_applied();
-    let term = copied(alloc, program)?;
+    let term = program.into_term();
     let applied = apply_zeros(alloc, term, arguments)?;
     Ok(Typed::of(applied, Ty::Nat))
-}
-
-/// A program's term, anew.
-fn copied(alloc: Global, program: &Typed) -> Result<Term, AllocError>
-    ensures term { IfOk result (λ t. term_of t ≡ program.now.0) }
-    ensures typed { HasType [] program.now.0 program.now.1 }
-{
-    program.term().copy(alloc)
 }
 
 /// A term at so many zeros.

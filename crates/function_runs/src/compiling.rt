@@ -22,6 +22,7 @@ use pcf_types::{law_keeps_size, resolve_and_type};
 use pcf_values::{Named, Typed};
 use program_runs::{NoRun, ProgramFault};
 use std::alloc::{AllocError, Global};
+use std::snapshot::Snapshot;
 
 /// The function of a text: a closed term that takes so many numbers, of which there are at most `MOST_ARGUMENTS`.
 ///
@@ -105,22 +106,19 @@ fn compile_function(alloc: Global, program: Typed, arguments: u32) -> Result<Fun
     requires takes { program.1 ≡ numeric arguments }
     ensures { IfOk result (λ f. f ≡ (program.0, arguments)) }
 {
-    match net_at_zeros(alloc, &program, arguments) {
-        Ok(net) => Ok(Function::of(program, net, arguments)),
-        Err(fault) => {
-            drop(program);
-            Err(fault)
-        }
-    }
+    let kept = Snapshot::of(&program);
+    program.term();
+    let net = net_at_zeros(alloc, program, arguments)?;
+    Ok(Function::of(kept, net, arguments))
 }
 
 /// The net of a program that takes so many numbers, at zeros.
-fn net_at_zeros(alloc: Global, program: &Typed, arguments: u32) -> Result<Net, AllocError>
+fn net_at_zeros(alloc: Global, program: Typed, arguments: u32) -> Result<Net, AllocError>
     requires few { arguments ≤ most_arguments }
-    requires size { size program.now.0 ≤ most_nodes }
-    requires height { height program.now.0 ≤ 2600 }
-    requires takes { program.now.1 ≡ numeric arguments }
-    ensures net { IfOk result (λ net. net ≡ net_of (applied program.now.0 (replicate arguments 0))) }
+    requires size { size program.0 ≤ most_nodes }
+    requires height { height program.0 ≤ 2600 }
+    requires takes { program.1 ≡ numeric arguments }
+    ensures net { IfOk result (λ net. net ≡ net_of (applied program.0 (replicate arguments 0))) }
     ensures few { IfOk result (λ net. length net.nodes < 2 ^ 32) }
 {
     law_applied();

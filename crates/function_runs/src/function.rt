@@ -1,7 +1,7 @@
 //! A function of numbers, compiled.
 
 ghost use Rattle.std.specs.Prelude.{◌≡◌, ◌≤◌, ◌<◌, ◌^◌, ◌+◌, ◌*◌, [], length, replicate, IfOk};
-ghost use Rattle.pcf_values.specs.Most.{most_budget, most_workers};
+ghost use Rattle.pcf_values.specs.Most.{most_budget};
 ghost use Rattle.pcf_values.specs.Terms.{nat};
 ghost use Rattle.pcf_values.specs.Typing.{HasType};
 ghost use Rattle.cbn_meaning.specs.Meaning.{Means};
@@ -10,25 +10,23 @@ ghost use Rattle.open_net_laws.specs.Applied.{applied, numeric};
 ghost use Rattle.open_net_laws.specs.Arguments.{closed_part};
 ghost use Rattle.program_runs.specs.Runs.{IsProgramRun};
 
-use crate::exchanging::exchange;
+use crate::exchanging::{clear, exchange};
 use adequacy_laws::law_never_stuck;
-use gate_workers::Gate;
 use net_build::Net;
-use net_runs::{run_alone, run_net};
+use net_runs::run_alone;
 use open_net_laws::{law_applied, law_numbers};
 use pcf_values::Typed;
 use program_runs::law_tells;
 use std::alloc::{AllocError, Global};
 use std::marker::Model;
-use std::sync::Wait;
-use std::thread::Threads;
+use std::snapshot::Snapshot;
 use token_pool::Ended;
 
 /// A function of numbers: a closed term of type `nat -> .. -> nat`. Contracts see the pair of the term and of how many numbers it takes.
-/// The type keeps the term's net at some numbers, and where they are in it.
+/// The type keeps the term's net at some numbers, and where they are in it. Of the term itself it keeps only what contracts see.
 #[derive(Drop)]
 pub struct Function {
-    program: Typed,
+    program: Snapshot<Typed>,
     net: Net,
     first: u32,
     arguments: u32,
@@ -46,21 +44,21 @@ impl Model for Function {
 
     ghost use Rattle.function_runs.specs.Ready.{IsReady};
 
-    ghost view = { λ f. (f.program.0, f.arguments) };
+    ghost view = { λ f. (f.program.value.0, f.arguments) };
 
-    ghost invariant = { λ f. IsReady f.program f.net f.first f.arguments };
+    ghost invariant = { λ f. IsReady f.program.value f.net f.first f.arguments };
 }
 
 impl Function {
     /// The function of this program, whose net at zeros this is.
-    pub(crate) fn of(program: Typed, net: Net, arguments: u32) -> Function
-        requires takes { program.1 ≡ numeric arguments }
-        requires net { net ≡ net_of (applied program.0 (replicate arguments 0)) }
+    pub(crate) fn of(program: Snapshot<Typed>, net: Net, arguments: u32) -> Function
+        requires typed { HasType [] program.value.0 program.value.1 }
+        requires takes { program.value.1 ≡ numeric arguments }
+        requires net { net ≡ net_of (applied program.value.0 (replicate arguments 0)) }
         requires few { length net.nodes < 2 ^ 32 }
-        ensures { result ≡ (program.0, arguments) }
+        ensures { result ≡ (program.value.0, arguments) }
     {
         law_numbers();
-        program.term();
         let first = net.node_count() - 1 - 3 * arguments;
         Function {
             program,
@@ -68,13 +66,6 @@ impl Function {
             first,
             arguments,
         }
-    }
-
-    /// The closed term, with its type.
-    pub fn program(&self) -> &Typed
-        ensures { result.now ≡ (self.now.0, numeric self.now.1) }
-    {
-        &self.program
     }
 
     /// How many numbers it takes.
@@ -100,14 +91,23 @@ impl Function {
     {
         law_applied();
         law_numbers();
+        let Function { mut net, first, .. } = self;
+        exchange(&mut net, first, values);
+        net
+    }
+
+    /// The net of the term at zeros. Takes no memory.
+    pub fn into_net_at_zeros(self) -> Net
+        ensures { result ≡ net_of (applied self.0 (replicate self.1 0)) }
+    {
+        law_numbers();
         let Function {
-            program,
             mut net,
             first,
+            arguments,
             ..
         } = self;
-        drop(program);
-        exchange(&mut net, first, values);
+        clear(&mut net, first, arguments);
         net
     }
 
@@ -131,35 +131,5 @@ impl Function {
         law_numbers();
         exchange(&mut self.net, self.first, values);
         Ok(run_alone(alloc, &self.net, budget)?)
-    }
-
-    /// The run of the function at these numbers by so many workers within a budget of moves. Several are threads as far as threads can be
-    /// had, and each passes the gate before each of its pieces; value and number of moves are those of one worker all the same.
-    ///
-    /// # Errors
-    ///
-    /// It runs out of memory.
-    pub fn call_together<R: Threads + Wait + Sync, G: Gate>(
-        &mut self,
-        rt: &R,
-        alloc: Global,
-        values: &[u64],
-        budget: u32,
-        workers: u32,
-        gate: &G,
-    ) -> Result<Ended, AllocError>
-        requires many { length values.now ≡ self.old.1 }
-        requires budget { (1 ≤ budget) × (budget ≤ most_budget) }
-        requires workers { (1 ≤ workers) × (workers ≤ most_workers) }
-        ensures run { IfOk result (λ r. IsProgramRun (Means (applied self.old.0 values.now))
-            (net_of (applied self.old.0 values.now)) workers budget r.answer r.log.entries) }
-        ensures kept { self.new ≡ self.old }
-    {
-        law_never_stuck();
-        law_tells();
-        law_applied();
-        law_numbers();
-        exchange(&mut self.net, self.first, values);
-        Ok(run_net(rt, alloc, &self.net, budget, workers, gate)?)
     }
 }

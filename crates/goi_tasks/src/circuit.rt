@@ -1,9 +1,7 @@
 //! The circuit of a program, or of a function of numbers.
 
-ghost use Rattle.std.specs.Prelude.{◌≡◌, ◌++◌, ℕ, replicate, IfOk, IfErr, OnOk};
+ghost use Rattle.std.specs.Prelude.{◌≡◌, ◌++◌, IfOk, IfErr, OnOk};
 ghost use Rattle.circuit_calls.specs.CallText.{call_text};
-ghost use Rattle.net_build.specs.NetOf.{net_of};
-ghost use Rattle.open_net_laws.specs.Applied.{applied};
 ghost use Rattle.goi_jobs.specs.declared.verilog.Verilog.TheVariants.{Circuit};
 ghost use Rattle.goi_reports.specs.Reports.{where_asked};
 ghost use Rattle.goi_tasks.specs.Seen.{output_of};
@@ -16,7 +14,6 @@ use crate::stop::Stop;
 use circuit_calls::push_call;
 use circuit_text::{Ports, print_circuit};
 use function_runs::{Function, compile_any};
-use net_build::Net;
 use std::alloc::{AllocError, Global};
 
 /// The circuit of the net of a text's program, as a module of this name with so many cells and forks, whose type is `nat` or
@@ -87,32 +84,8 @@ fn circuit_of(
         first: function.first(),
         count: function.arguments(),
     };
-    let net = net_at_zeros(alloc, function)?;
+    let net = function.into_net_at_zeros();
     let text = print_circuit(alloc, &net, cells, forks, name, ports, late);
     drop(net);
     text
-}
-
-/// The net of a function at zeros.
-fn net_at_zeros(alloc: Global, function: Function) -> Result<Net, AllocError>
-    ensures { IfOk result (λ net. net ≡ net_of (applied function.0 (replicate function.1 0))) }
-{
-    match zeros(alloc, function.arguments()) {
-        Ok(zeros) => {
-            let net = function.into_net(&zeros);
-            drop(zeros);
-            Ok(net)
-        }
-        Err(error) => {
-            drop(function);
-            Err(error)
-        }
-    }
-}
-
-/// So many zeros.
-fn zeros(alloc: Global, count: u32) -> Result<Vec<u64>, AllocError>
-    ensures { IfOk result (λ v. v.items ≡ replicate count 0) }
-{
-    vec![in alloc; 0; count as usize]
 }

@@ -50,6 +50,15 @@ impl Typed {
         &self.term
     }
 
+    /// The term itself. The type is dropped.
+    pub fn into_term(self) -> Term
+        ensures term { term_of result ≡ self.0 }
+        ensures typed { HasType [] self.0 self.1 }
+    {
+        let Typed { term, .. } = self;
+        term
+    }
+
     /// Its type.
     pub fn ty(&self) -> &Ty
         ensures { ty_of result.now ≡ self.now.1 }

@@ -4,5 +4,5 @@ use Rattle.function_runs.proofs.applying.at_zeros.Goals as goal
 
 pub of-requires : goal.of-requires
 of-requires c =
-    of_zeros c.law_applied.ensures.has c.args.program.now.0 (term_of c.in_ok-applied.applied) (term_of c.in_ok-term.term)
-    c.args.program.now.1 c.args.arguments c.in_ok-term.ensures.term c.in_ok-applied.ensures c.in_ok-term.ensures.typed c.requires
+    of_zeros c.law_applied.ensures.has c.args.program.0 (term_of c.in_ok-applied.applied) (term_of c.into_term-term.result)
+    c.args.program.1 c.args.arguments c.into_term-term.ensures.term c.in_ok-applied.ensures c.into_term-term.ensures.typed c.requires
