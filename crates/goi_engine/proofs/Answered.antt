@@ -24,6 +24,7 @@ use Rattle.goi_jobs.specs.Tasks.{shown}
 use Rattle.goi_tasks.specs.Replaying.{ReportsReplay, FaultySchedule}
 use Rattle.goi_tasks.specs.Verilogs.{ReportsVerilog, FaultyVerilog}
 use Rattle.goi_engine.specs.Verdicts.{HasNumber, ReadFor}
+use Rattle.goi_engine.proofs.Coming.{possibly}
 
 -- what is seen of the files is the same in both states where all that is seen is
 pub same_state : (old new : FilesState) → FilesKept old new → new.faults ≡ old.faults → new ≡ old
@@ -35,14 +36,10 @@ same_state old new k f =
 
 -- ---- replay
 
-possibly_goes : (told : Option (List ℕ)) (P Q : List ℕ → Type 0) → ((b : List ℕ) → P b → Q b) → Possibly told P → Possibly told Q
-possibly_goes None P Q k (b, p) = (b, k b p)
-possibly_goes (Some b) P Q k p = k b p
-
 module _ (file moves : List ℕ) (window : Option Window) (old new : FilesState) where
   module _ (t : TermTree) (ground : OfFile old file (λ bytes. IsGround bytes t)) where
     has_number : OfFile old file HasNumber
-    has_number = (ground.0, possibly_goes (old.told file) (λ b. IsGround b t) HasNumber (λ b g. (t, g, tt)) ground.1)
+    has_number = (ground.0, possibly (old.told file) (λ b. IsGround b t) HasNumber (λ b g. (t, g, tt)) ground.1)
 
     -- the program's term is t, and the schedule was answered
     with_term : (a : Answer) → AnswersSchedule t window moves old new a → AnswersJob (replay file moves window) old new a
@@ -50,7 +47,7 @@ module _ (file moves : List ℕ) (window : Option Window) (old new : FilesState)
       same,
       (
         ground.0,
-        possibly_goes (old.told file) (λ b. IsGround b t)
+        possibly (old.told file) (λ b. IsGround b t)
             (λ b. OfGround b (λ u. OfFile old moves (λ schedule. ReportsReplay u window schedule (output_of r))))
             (λ b g. (t, g, of)) ground.1,
       ),
@@ -61,7 +58,7 @@ module _ (file moves : List ℕ) (window : Option Window) (old new : FilesState)
         f,
         (
           ground.0,
-          possibly_goes (old.told file) (λ b. IsGround b t)
+          possibly (old.told file) (λ b. IsGround b t)
               (λ b. FaultyEither b (λ u. OfFile old moves (λ schedule. FaultySchedule u schedule f)) f) (λ b g. inr (t, g, of)) ground.1,
         ),
         line,
