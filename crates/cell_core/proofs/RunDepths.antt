@@ -11,6 +11,7 @@ use Rattle.token_stacks.specs.Signatures.{Boxes}
 use Rattle.net_build.specs.declared.node.Node.TheVariants.{Root}
 use Rattle.net_build.specs.Nets.{value_wire, NetTree}
 use Rattle.net_build.specs.Sound.{Sound}
+use Rattle.net_build.proofs.Entries.{in_at}
 use Rattle.fork_join.specs.Entries.{Entry, pending, has_left, has_right}
 use Rattle.move_rules.specs.Places.{Place, down, TokenTree, ask, ans, place_of}
 use Rattle.move_rules.specs.Moves.{Move, solo, fork, join, answer, stay, move}
@@ -20,7 +21,7 @@ use Rattle.interleave_laws.specs.States.{run}
 use Rattle.interleave_laws.specs.Runs.{LeadsTo}
 use Rattle.interleave_laws.proofs.Running.{starts_of}
 use Rattle.cell_core.specs.Depths.{Placed, MoveKeeps}
-use Rattle.cell_core.proofs.Typed.{in_at, depths_kept}
+use Rattle.cell_core.proofs.Typed.{depths_kept}
 
 module _ (net : NetTree) where
   abbrev AllPlaced : Tokens → Type 0
@@ -93,7 +94,7 @@ module _ (net : NetTree) where
     start_placed : Placed net (start_of net)
     start_placed =
         let s = starts_of net sound in
-        let i = sound.rows (Root s.out) (in_at net (Root s.out) net.nodes s.at s.root) in
+        let i = sound.rows (Root s.out) (in_at (Root s.out) net.nodes s.at s.root) in
         subst (Placed net) (sym s.is) (value_wire 0 nat, i, (refl, tt))
 
 pub run_placed : (net : NetTree) → Sound net → (log : List ℕ) (S : State) → LeadsTo net log S → (i : ℕ) (x : TokenTree) →
