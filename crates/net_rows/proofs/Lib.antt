@@ -1,4 +1,4 @@
 -- a move of the table is the move by its row, node by node
 pub mod Rows
--- what an option or a test rules out, for the crates above too
+-- what a test rules out, for the crates above too
 pub mod Small

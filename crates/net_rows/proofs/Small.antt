@@ -1,5 +1,5 @@
--- What an option or a test rules out: small facts that the proofs about rows and runs cite.
-use Rattle.std.proofs.Common.{◌≡◌, Bool, true, false, cond, Option, refl}
+-- What a test rules out: small facts that the proofs about rows and runs cite.
+use Rattle.std.proofs.Common.{◌≡◌, Bool, true, false, cond, refl}
 
 -- a test has one outcome
 pub not_full : {A : Type 0} → true ≡ false → A
