@@ -76,12 +76,12 @@ one_more k v vs rest net net' net'' e g h =
     (one_then k v vs rest net.nodes (set_at k v net.nodes)
     (set_all (given (places_from (k + 3) (length rest)) rest) 0 (set_at k v net.nodes)) e refl refl)
 
--- so many zeros
-
+-- no zero
 pub no_zeros : (k n : ℕ) (net : NetTree) → n ≡ 0 → net ≡ with_numbers net (places_from k n) (replicate n 0)
 no_zeros k zero net e = no_more k [] net (omega arith)
 no_zeros k (suc n) net e = absurd (omega (arith, e))
 
+-- one zero, and then the others
 pub one_zero : (k n : ℕ) (net net' net'' : NetTree) → 1 ≤ n → net' ≡ with_number net k 0 →
     net'' ≡ with_numbers net' (places_from (k + 3) (n - 1)) (replicate (n - 1) 0) →
     net'' ≡ with_numbers net (places_from k n) (replicate n 0)
