@@ -57,7 +57,7 @@ fn serve<B: Bench>(bench: &mut B, worker: u32, brought: Brought<B::Made>) -> Due
 /// as called; all others count as asleep.
 #[derive(Drop)]
 pub(crate) struct Desk<B: Bench> {
-    pub(crate) bench: B,
+    bench: B,
     asleep: u32,
     called: u32,
     looking: u32,
@@ -74,6 +74,13 @@ impl<B: Bench> Desk<B> {
             called: 0,
             looking: 0,
         }
+    }
+
+    /// The bench, when all have left.
+    pub(crate) fn into_bench(self) -> B
+        ensures { result ≡ self.bench }
+    {
+        self.bench
     }
 
     /// How many sleepers to call after a booking: one for each piece for which none was called yet and nobody looks, as far as there are

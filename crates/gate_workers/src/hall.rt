@@ -41,7 +41,7 @@ impl<B: Bench> Hall<B> {
             booked: _,
             news: _,
         } = self;
-        desk.into_inner().bench
+        desk.into_inner().into_bench()
     }
 }
 

@@ -4,6 +4,7 @@ ghost use Rattle.std.specs.Prelude.{◌≡◌};
 
 use gate_workers::{Bench, Turn};
 use std::alloc::{AllocError, Global};
+use testing_gates::Counting;
 
 /// Hands out the numbers from `left` down to 1, and adds up what comes back. It pauses while the last numbers are out.
 #[derive(Drop)]
@@ -82,19 +83,22 @@ impl Bench for Numbers {
     }
 }
 
-/// One piece at a time, whoever takes it: the others sleep, and are told that there is nothing for them.
+/// One piece at a time, whoever takes it: the others sleep, and are told that there is nothing for them. What is made of a piece is how
+/// often the gate was passed by then.
 #[derive(Drop)]
 pub struct Relay {
     pub left: u32,
     pub out: bool,
+    /// The sum of what was made.
+    pub passed: u64,
 }
 
 impl Bench for Relay {
-    type Piece = u32;
+    type Piece = ();
 
-    type Made = u32;
+    type Made = u64;
 
-    type Tool = u64;
+    type Tool = Counting;
 
     ghost makes = { λ _ _ _. Unit {0} };
 
@@ -104,7 +108,7 @@ impl Bench for Relay {
 
     ghost halts = { λ _ _. Unit {0} };
 
-    fn turn(&mut self, _worker: u32) -> Result<Turn<u32>, AllocError> {
+    fn turn(&mut self, _worker: u32) -> Result<Turn<()>, AllocError> {
         if self.out {
             return Ok(Turn::Pause);
         }
@@ -112,18 +116,17 @@ impl Bench for Relay {
             return Ok(Turn::Over);
         }
         self.out = true;
-        Ok(Turn::Piece(self.left))
+        Ok(Turn::Piece(()))
     }
 
-    fn work(_alloc: Global, _tool: &u64, piece: u32) -> Result<u32, AllocError> {
-        Ok(piece)
+    fn work(_alloc: Global, tool: &Counting, _piece: ()) -> Result<u64, AllocError> {
+        Ok(tool.calls())
     }
 
-    fn hand_in(&mut self, _worker: u32, made: u32) -> Result<(), AllocError> {
+    fn hand_in(&mut self, _worker: u32, made: u64) -> Result<(), AllocError> {
         self.out = false;
-        if made == self.left {
-            self.left = self.left.saturating_sub(1);
-        }
+        self.left = self.left.saturating_sub(1);
+        self.passed = self.passed.wrapping_add(made);
         Ok(())
     }
 

@@ -29,13 +29,17 @@ fn each_number_is_worked_once(rt: HostRuntime) -> Result<(), Fail> {
 #[test]
 fn one_piece_at_a_time_comes_to_its_end(rt: HostRuntime) -> Result<(), Fail> {
     for workers in [1, 2, 64] {
+        let gate = Counting::new(rt.alloc(), workers)?;
         let relay = Relay {
             left: 1000,
             out: false,
+            passed: 0,
         };
-        let bench = drive(&rt, rt.alloc(), relay, &0, workers, &OpenGate);
+        let bench = drive(&rt, rt.alloc(), relay, &gate, workers, &gate);
         assert_eq!(rt; bench.left, 0);
         assert!(rt; !bench.out);
+        // the gate is passed before a piece is worked
+        assert_eq!(rt; bench.passed, 500_500);
     }
     Ok(())
 }
