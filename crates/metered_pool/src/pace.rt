@@ -12,6 +12,11 @@ pub(crate) struct Pace {
     sleeper: Parker,
 }
 
+/// Whoever holds it has to end the run: it may not be let go.
+pub(crate) struct Running<'p> {
+    pace: &'p Pace,
+}
+
 impl Pace {
     /// The pace of a run that isn't over.
     pub(crate) fn new() -> Pace {
@@ -21,10 +26,9 @@ impl Pace {
         }
     }
 
-    /// Says that the run is over, and wakes the reader.
-    pub(crate) fn end(&self) {
-        self.over.store(true, Ordering::SeqCst);
-        self.sleeper.unpark();
+    /// The run, to be ended once.
+    pub(crate) fn running(&self) -> Running<'_> {
+        Running { pace: self }
     }
 
     /// Sleeps for so many microseconds, or until the run is over if that is sooner.
@@ -32,5 +36,14 @@ impl Pace {
         if !self.over.load(Ordering::SeqCst) {
             self.sleeper.park_timeout(rt, Duration::from_micros(micros));
         }
+    }
+}
+
+impl Running<'_> {
+    /// Says that the run is over, and wakes the reader.
+    pub(crate) fn end(self) {
+        let Running { pace } = self;
+        pace.over.store(true, Ordering::SeqCst);
+        pace.sleeper.unpark();
     }
 }

@@ -15,7 +15,7 @@ ghost use Rattle.metered_pool.specs.Readings.{HasRead};
 ghost use Rattle.metered_pool.specs.Walking.{WalksAlone};
 
 use crate::alone::walk_alone;
-use crate::pace::Pace;
+use crate::pace::{Pace, Running};
 use crate::{MeteredPool, Watched};
 use branch_runs::OnNet;
 use gate_workers::{Gate, drive};
@@ -120,21 +120,21 @@ fn read_beside_one<R: Threads + Wait + Sync>(
         || -> Result<(Ended, Writer), AllocError>
             requires { Runs net.now × (1 ≤ budget) × (budget ≤ most_budget) × (last_of writer.published ≡ 0) }
             ensures { IfOk result (λ r. WalksAlone net.entry.now budget writer r.0 r.1) }
-        { walk_to_end(rt, alloc, net, budget, writer, &pace) },
+        { walk_to_end(rt, alloc, net, budget, writer, pace.running()) },
     );
     let (ended, writer) = walked?;
     let (reader, readings) = answer?;
     Ok((ended, settled(rt, writer, reader, readings)))
 }
 
-/// Walks until the run is over, and ends the pace then.
+/// Walks until the run is over, and says so then.
 fn walk_to_end<R: Wait>(
     rt: &R,
     alloc: Global,
     net: &Net,
     budget: u32,
     writer: Writer,
-    pace: &Pace,
+    running: Running<'_>,
 ) -> Result<(Ended, Writer), AllocError>
     requires runs { Runs net.now }
     requires budget { (1 ≤ budget) × (budget ≤ most_budget) }
@@ -142,7 +142,7 @@ fn walk_to_end<R: Wait>(
     ensures { IfOk result (λ r. WalksAlone net.now budget writer r.0 r.1) }
 {
     let walked = walk_alone(rt, alloc, net, budget, writer);
-    pace.end();
+    running.end();
     walked
 }
 
@@ -255,7 +255,7 @@ fn drive_watched<
         { read_all(rt, reader, readings, &pace) },
         ||
             requires { 1 ≤ workers }
-        { drive_to_end(rt, alloc, bench, workers, gate, &pace) },
+        { drive_to_end(rt, alloc, bench, workers, gate, pace.running()) },
     );
     let (pool, writer) = bench.into_parts();
     match answer {
@@ -267,7 +267,7 @@ fn drive_watched<
     }
 }
 
-/// Drives the bench until there is nothing to do for any worker, and ends the pace then.
+/// Drives the bench until there is nothing to do for any worker, and says so then.
 fn drive_to_end<
     'a,
     'n,
@@ -281,13 +281,13 @@ fn drive_to_end<
     bench: MeteredPool<'a, 'n, M, N, R>,
     workers: u32,
     gate: &G,
-    pace: &Pace,
+    running: Running<'_>,
 ) -> MeteredPool<'a, 'n, M, N, R>
     requires { 1 ≤ workers }
 {
     let tool = bench.tool();
     let bench = drive(rt, alloc, bench, &tool, workers, gate);
-    pace.end();
+    running.end();
     bench
 }
 
