@@ -373,7 +373,7 @@ fn if_traced(is_traced: bool, window: Window) -> Option<Window>
 /// The text that was found for an argument, which has to be there.
 fn text_in<'a>(found: &ArgMatches<'a>, name: &str) -> Result<&'a str, WordFault>
     ensures ok { IfOk result (λ s. text_of name.now (rows_of (found_of found.now)) ≡ Some s.now) }
-    ensures refused { IfErr result (λ f. text_of name.now (rows_of (found_of found.now)) ≡ None) }
+    ensures refused { IfErr result (λ f. (f ≡ Refused) × (text_of name.now (rows_of (found_of found.now)) ≡ None)) }
 {
     text_of(found, name).ok_or(WordFault::Refused)
 }
@@ -393,7 +393,7 @@ fn name_in<'a>(found: &ArgMatches<'a>) -> Option<&'a str>
 /// The number that was found for an argument, which has to be there.
 fn number_in(found: &ArgMatches<'_>, name: &str) -> Result<u32, WordFault>
     ensures ok { IfOk result (λ n. number_of name.now (rows_of (found_of found.now)) ≡ Some n) }
-    ensures refused { IfErr result (λ f. number_of name.now (rows_of (found_of found.now)) ≡ None) }
+    ensures refused { IfErr result (λ f. (f ≡ Refused) × (number_of name.now (rows_of (found_of found.now)) ≡ None)) }
 {
     number_of(found, name).ok_or(WordFault::Refused)
 }
