@@ -4,17 +4,21 @@ from tables.cases import DOUBLE, SUM, TWICE, call, case, replayed, row_of
 
 # 32 calls of a sum to 20: its tokens are many, and each walks for long without meeting another. So often is it run.
 WIDE = b"(fun f:nat->nat. " + b" + ".join([b"f 20"] * 32) + b") (fix f:nat->nat. fun n:nat. ifz n then 0 else n + f (pred n))"
+# A run of it, and a call of it as a function of that 20: the words and the text.
+WIDE_RUN = ["run", "p"], WIDE
+WIDE_CALL = ["call", "p", "20"], b"fun m:nat. " + WIDE.replace(b"20", b"m")
 BUDGET, ROUNDS, MOST = ["--budget", "1000000"], 12, 100_000
 
 
-def tallied_wide(workers):
-    """Runs the wide program until several workers moved in another order than one worker's. Answers what its runs told of their report
-    and tally, and whether that came."""
-    report = call(["goi", "run", "p", *BUDGET], {"p": WIDE})[1]
-    alone = call(["goi", "run", "p", "--schedule", *BUDGET], {"p": WIDE})[1]
+def tallied_wide(workers, words, text):
+    """Makes a wide run until several workers moved in another order than one worker's. Answers what these runs told of their report and
+    tally, and whether that came."""
+    words = ["goi", *words, *BUDGET]
+    report = call(words, {"p": text})[1]
+    alone = call([*words, "--schedule"], {"p": text})[1]
     told = set()
     for _ in range(ROUNDS):
-        status, out, _ = call(["goi", "run", "p", *BUDGET, "--workers", str(workers), "--schedule", "--tally"], {"p": WIDE})
+        status, out, _ = call([*words, "--workers", str(workers), "--schedule", "--tally"], {"p": text})
         schedule, end, tally = out.partition(b"end\n")
         counts = [int(it.split(b" ")[-1]) for it in tally.splitlines()]
         told.add((status, out.startswith(report), len(counts), sum(counts) == int(report.split()[-1])))
@@ -73,6 +77,7 @@ def cases():
         lines = b"0 value 210;moves 8864;"
         case("a longer run of four workers", lambda: replayed(midst, ["--workers", "4", "--budget", "1000000"])[0::3], (lines, lines))
     for workers in 2, 4:
-        tally = lambda workers=workers: tallied_wide(workers)
-        case(f"several of {workers} workers move", tally, ({(0, True, workers + 1, True)}, True))
+        for words, text in WIDE_RUN, WIDE_CALL:
+            tally = lambda workers=workers, words=words, text=text: tallied_wide(workers, words, text)
+            case(f"several of {workers} workers move in {words}", tally, ({(0, True, workers + 1, True)}, True))
         case(f"several of {workers} workers move in a trace", lambda workers=workers: traced_wide(workers), ({(0, True, True, True)}, True))

@@ -17,8 +17,8 @@ wire 6 value 0 nat -> nat;wire 7 value 1 nat;wire 8 bang 0 nat;wire 9 value 0 na
 node 0 Der 0 1;node 1 Der 2 3;node 2 Con 1 3 4;node 3 Plus 0 2 5;node 4 Lam 5 4 6;node 5 Const 3 7;node 6 Box 7 8;\
 node 7 App 6 8 9;node 8 Root 9;end;";
 
-/// The files of a call: a program `p`, the listing `n` of its net, and the list `l` of it four times, so that each of two workers has a
-/// second job, at whose gate it lets the other one go on.
+/// The files of a call: a program `p`, the listing `n` of its net, the list `l` of it four times, so that each of two workers has a second
+/// job, at whose gate it lets the other one go on, and a function `o` of two numbers.
 fn files(alloc: Global) -> Result<MemoryFiles, AllocError> {
     let mut held = Vec::new(alloc);
     push_all(alloc, &mut held)?;
@@ -29,6 +29,7 @@ fn files(alloc: Global) -> Result<MemoryFiles, AllocError> {
 fn push_all(alloc: Global, held: &mut Vec<(Ident, Vec<u8>)>) -> Result<(), AllocError> {
     push_file(alloc, held, "p", "(fun x:nat. x + x) 3")?;
     push_file(alloc, held, "n", DOUBLE)?;
+    push_file(alloc, held, "o", "fun x:nat. fun y:nat. x - y")?;
     push_file(
         alloc,
         held,
@@ -84,6 +85,7 @@ goi run p --workers 2 --by-value|0 value 6;moves
 goi run p --workers 2 --progress|0 value 6;moves 30;progress
 goi trace p --workers 2|0 value 6;moves 30;trace 1;
 goi run-net n --workers 2|0 value 6;moves 30;
+goi call o 5 3 --workers 2|0 value 2;moves 34;
 goi demo 1 --workers 2|0 demo 1;nodes 13;value 4;moves 126;
 goi batch l --workers 2|5 job 0;value 6;moves 30;job 1;no value;moves 29;job 2;value 6;moves 30;job 3;no value;moves 29;
 ";
