@@ -4,7 +4,7 @@ import os
 import re
 
 from judging import EXAMPLES
-from tables.cases import call, case, plain, row_of, sections
+from tables.cases import DOUBLE, SUM, call, case, plain, row_of, sections
 
 
 def left_out(text, below):
@@ -22,8 +22,19 @@ def left_out(text, below):
     return rest + lines[at:]
 
 
-# A function of 900 numbers, in two parts, since no type is as deep.
-LONGEST = f"(fun h:{'nat->' * 450}nat. {'fun x:nat. ' * 450}h) ({'fun x:nat. ' * 450}x)"
+# A function of so many numbers, in two parts, since no type is as deep.
+MANY = 992
+LONGEST = f"(fun h:{'nat->' * (MANY // 2)}nat. {'fun x:nat. ' * (MANY // 2)}h) ({'fun x:nat. ' * (MANY // 2)}x)"
+
+# What a circuit's words are, and which modules its text has: their own lines, and those that put one of them into another.
+NAMED = (
+    (DOUBLE, [], ["module goi ("]),
+    (DOUBLE, ["--name", "adder", "--late"], ["module adder ("]),
+    (DOUBLE, ["--name", "adder", "--bench"], ["module adder_bench;", "  adder circuit ("]),
+    (b"fun x:nat. x", ["--name", "adder"], ["module adder ("]),
+    (b"fun x:nat. x", ["--handshake"], ["module goi (", "module goi_call (", "  goi circuit ("]),
+    (b"fun x:nat. x", ["--handshake", "--name", "adder"], ["module adder (", "module adder_call (", "  adder circuit ("]),
+)
 
 
 def ported(fixed):
@@ -36,6 +47,18 @@ def ports():
     """The ports of the longest function's circuit, and how many rows read their registers."""
     out = call(["goi", "circuit", "p"], {"p": LONGEST.encode()})[1].decode()
     return re.findall(r"^  input wire \[63:0\] (\w+),?$", out, re.M), len(set(re.findall(r" number = (held\d+);", out)))
+
+
+def named(text, words):
+    """Those lines of a circuit's text."""
+    return re.findall(r"^(?:module .*|  \w+ circuit \()$", call(["goi", "circuit", "p", *words], {"p": text})[1].decode(), re.M)
+
+
+def long_run():
+    """The last lines of the waves of a long run, with what its circuit needs."""
+    words = ["goi", "circuit", "p", "--run", "--vcd", "--cells", "881", "--forks", "20"]
+    status, out, err = call(words, {"p": SUM[:-1] + b"20"})
+    return status, re.findall(rb"^(?:1#|b11010010 \$)$", out, re.M), out.split(b"\n")[-3:], err
 
 
 def cases():
@@ -52,7 +75,9 @@ def cases():
             return status, err, left_out(out.decode(), below)
 
         case(f"the circuit of {text}", shown, (0, b"", ported(fixed) if "arg0" in below else fixed))
-    case("the circuit of a function of 900 numbers", ports, ([f"arg{it}" for it in range(900)], 900))
+    case(f"the circuit of a function of {MANY} numbers", ports, ([f"arg{it}" for it in range(MANY)], MANY))
+    for text, words, wanted in NAMED:
+        case(f"the modules of {text} with {words}", lambda text=text, words=words: named(text, words), wanted)
     for text in "(1, 2)", "fun f:nat->nat. f 0", "fun p:nat * nat. fst p", "fun x:nat. (x, x)":
         row_of(f"the circuit of {text}", ["goi", "circuit", "p"], {"p": text.encode()}, "1 refused: NotGround;")
     for option in "--run", "--needs", "--schedule":
