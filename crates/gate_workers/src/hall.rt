@@ -136,7 +136,7 @@ fn leave<R: Wait, B: Bench>(
     }
 }
 
-/// One turn of a worker at the desk: what is brought is handed in, and the turn asked for; and after a pause the worker has looked or slept.
+/// One turn of a worker at the desk: what is brought is handed in, and the turn asked for; after a pause the worker has looked or slept.
 /// No answer says that the bench was stopped for want of memory. Beside it stands whether it looked in vain.
 pub(crate) fn attend<R: Wait, B: Bench>(
     rt: &R,

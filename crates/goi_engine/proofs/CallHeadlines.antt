@@ -85,13 +85,19 @@ calls_file file numbers workers budget c status p =
     let Out : ℕ → List ℕ → List ℕ → Type 0 = λ s report line. OfFile c.old file (λ bytes. CallOutcome bytes numbers budget s report line) in
     let Reported : Output → List ℕ → Type 0 = λ o bytes. ReportsCall workers budget nothing_shown numbers bytes o in
     let report : (o : Output) → Reports asked c.old o → Out o.status o.report o.notes =
-        λ o h. (h.0, possibly told (Reported o) (λ bytes. CallOutcome bytes numbers budget o.status o.report o.notes)
-        (λ bytes k. of_report bytes numbers budget workers o k) h.1) in
+    λ o h. (
+      h.0,
+      possibly told (Reported o) (λ bytes. CallOutcome bytes numbers budget o.status o.report o.notes)
+          (λ bytes k. of_report bytes numbers budget workers o k) h.1,
+    ) in
     let refusal : (f : Fault) (line : List ℕ) → Refuses asked c.old f → IsLine f line → Out 1 [] line =
-        λ f line h is. (h.0, possibly told (λ bytes. FaultyCall numbers bytes f) (λ bytes. CallOutcome bytes numbers budget 1 [] line)
-        (λ bytes k. of_fault bytes numbers budget f line is k) h.1) in
+    λ f line h is. (
+      h.0,
+      possibly told (λ bytes. FaultyCall numbers bytes f) (λ bytes. CallOutcome bytes numbers budget 1 [] line)
+          (λ bytes k. of_fault bytes numbers budget f line is k) h.1,
+    ) in
     let program : (f : Fault) → Refuses asked c.old f → fault_status f ≡ 7 → ⊥ =
-        λ f h e. some_bytes told (λ bytes. FaultyCall numbers bytes f) ⊥ (λ bytes k. of_program bytes numbers budget f e k) h.1 in
+    λ f h e. some_bytes told (λ bytes. FaultyCall numbers bytes f) ⊥ (λ bytes k. of_program bytes numbers budget f e k) h.1 in
     record {
       right = right asked c Out report refusal program status p;
       comes = comes asked c Out report refusal program status p;

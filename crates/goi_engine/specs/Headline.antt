@@ -49,7 +49,8 @@ pub record RunsFile (file : List ℕ) (budget : ℕ) (c : Call) (status : ℕ) :
 -- the part of the promise that speaks of a run by name: where that is asked for, so it is
 abbrev pub RunPromise : Option JobTree → Call → ℕ → Type 0
 RunPromise asked c status =
-    (file : List ℕ) (workers budget : ℕ) → asked ≡ Some (text file workers (Run budget ByName nothing_shown)) → RunsFile file budget c status
+    (file : List ℕ) (workers budget : ℕ) → asked ≡ Some (text file workers (Run budget ByName nothing_shown)) →
+    RunsFile file budget c status
 
 -- so the run of told bytes comes to what they come to; what is told of `Files` isn't lacked, which the trait says
 abbrev pub Headline : Type 0

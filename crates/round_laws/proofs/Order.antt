@@ -2,6 +2,7 @@
 -- A ticket of a unit can be moved before those in front of it, one after the other, by the exchange of two moves. What is behind it is
 -- there again under the same tickets, since their tokens have stayed. So two lists of the same tickets come to states alike.
 use Rattle.std.proofs.Common.{◌≡◌, ◌≢◌, ◌⊎◌, ℕ, List, [], ◌∷◌, ◌++◌, Some, refl, sym, ap, ◌∙◌, subst, ⊎_elim, inl, inr}
+use Rattle.std.proofs.lemmas.Option.{same_Some}
 use Rattle.net_build.specs.Nets.{NetTree}
 use Rattle.move_rules.specs.Places.{TokenTree}
 use Rattle.interleave_laws.specs.States.{State, step, then_run, run}
@@ -15,7 +16,8 @@ use Rattle.interleave_laws.proofs.Diamond.{diamond}
 use Rattle.round_laws.specs.Rounds.{live_of, round}
 use Rattle.round_laws.specs.Units.{IsUnit, IsWhole}
 use Rattle.round_laws.specs.OrderLaws.{SameMembers}
-use Rattle.round_laws.proofs.Rounding.{one_state, unit_rest, live_whole, from_then}
+use Rattle.round_laws.proofs.Rounding.{unit_rest, live_whole}
+use Rattle.interleave_laws.proofs.Reached.{from_run}
 
 -- states alike
 pub alike_self : (S : State) → SameBare S S
@@ -76,9 +78,9 @@ module _ (net : NetTree) (runs : Runs net) where
   same_list : (l : List ℕ) (log log' : List ℕ) (S T : State) → LeadsTo net log S → LeadsTo net log' T → SameBare S T →
       SameAt S T l → Once l → (S' : State) → run net S l ≡ Some S' → (T' : State) × (run net T l ≡ Some T') × SameBare S' T'
   same_list [] log log' S T h h' alike at o S' r =
-      (T, refl, subst (λ S. SameBare S T) (one_state S S' r) alike)
+      (T, refl, subst (λ S. SameBare S T) (same_Some S S' r) alike)
   same_list (i ∷ l) log log' S T h h' alike at o S' r =
-      let (S1, s, r1) = from_then (step net S i) (λ S. run net S l) S' r in
+      let (S1, s, r1) = from_run (step net S i) (λ S. run net S l) S' r in
       let (x, e, e') = at i (inl refl) in
       let (T1, t, alike1) = alike_steps net runs.sound log log' S T h h' alike i i x e e' S1 s in
       let at1 : SameAt S1 T1 l = λ j m.
@@ -94,17 +96,17 @@ module _ (net : NetTree) (runs : Runs net) where
       run net S (a ++ i ∷ b) ≡ Some S' → (T' : State) × (run net S (i ∷ a ++ b) ≡ Some T') × SameBare S' T'
   to_front [] b i log S h u S' r = (S', r, alike_self S')
   to_front (k ∷ a) b i log S h u S' r =
-      let (S1, s, r1) = from_then (step net S k) (λ S. run net S (a ++ i ∷ b)) S' r in
+      let (S1, s, r1) = from_run (step net S k) (λ S. run net S (a ++ i ∷ b)) S' r in
       let led1 = run_append net log _ S S1 k h s in
       let u1 = unit_rest net runs.sound log S h k (a ++ i ∷ b) u S1 s in
       let (U, q, alike) = to_front a b i (log ++ k ∷ []) S1 led1 u1 S' r1 in
-      let (S12, s2, r2) = from_then (step net S1 i) (λ S. run net S (a ++ b)) U q in
+      let (S12, s2, r2) = from_run (step net S1 i) (λ S. run net S (a ++ b)) U q in
       let (x, at_k) = u.live k (inl refl) in
       let (y, at_i) = u.live i (inr (member_there a b i)) in
       let differ : k ≢ i = λ q. u.once.0 (subst (λ i. Member k (a ++ i ∷ b)) q (member_there a b k)) in
       let (V1, V12, V2, V21, v1, v12, v2, v21, same) = diamond net runs log S h k i x y at_k at_i differ in
-      let q1 : V1 ≡ S1 = one_state V1 S1 (sym v1 ∙ s) in
-      let q12 : V12 ≡ S12 = one_state V12 S12 (sym v12 ∙ ap (λ S. step net S i) q1 ∙ s2) in
+      let q1 : V1 ≡ S1 = same_Some V1 S1 (sym v1 ∙ s) in
+      let q12 : V12 ≡ S12 = same_Some V12 S12 (sym v12 ∙ ap (λ S. step net S i) q1 ∙ s2) in
       let same' : SameBare S12 V21 = subst (λ S. SameBare S V21) q12 same in
       let led12 = run_append net (log ++ k ∷ []) _ S1 S12 i led1 s2 in
       let led2 = run_append net log _ S V2 i h v2 in
@@ -130,15 +132,15 @@ module _ (net : NetTree) (runs : Runs net) where
   -- two lists of the same tickets lead to states alike
   pub unit_order : (l m log : List ℕ) (S : State) → LeadsTo net log S → IsUnit S l → IsUnit S m → SameMembers l m → (T U : State) →
       run net S l ≡ Some T → run net S m ≡ Some U → SameBare T U
-  unit_order [] [] log S h u u' same T U r q = subst (λ U. SameBare T U) (one_state T U (sym r ∙ q)) (alike_self T)
+  unit_order [] [] log S h u u' same T U r q = subst (λ U. SameBare T U) (same_Some T U (sym r ∙ q)) (alike_self T)
   unit_order [] (i ∷ m) log S h u u' same T U r q = absurd (same.1 i (inl refl))
   unit_order (i ∷ l) m log S h u u' same T U r q =
       let (a, b, e) = split_at m i (same.0 i (inl refl)) in
       let v : IsUnit S (a ++ i ∷ b) = subst (IsUnit S) e u' in
       let (V, g, alike) = to_front a b i log S h v U (ap (run net S) (sym e) ∙ q) in
-      let (S1, s, r1) = from_then (step net S i) (λ S. run net S l) T r in
-      let (S2, s', g1) = from_then (step net S i) (λ S. run net S (a ++ b)) V g in
-      let z : S2 ≡ S1 = one_state S2 S1 (sym s' ∙ s) in
+      let (S1, s, r1) = from_run (step net S i) (λ S. run net S l) T r in
+      let (S2, s', g1) = from_run (step net S i) (λ S. run net S (a ++ b)) V g in
+      let z : S2 ≡ S1 = same_Some S2 S1 (sym s' ∙ s) in
       let led1 = run_append net log _ S S1 i h s in
       let u1 = unit_rest net runs.sound log S h i l u S1 s in
       let once = once_rest a b i v.once in

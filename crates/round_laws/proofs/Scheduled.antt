@@ -12,7 +12,8 @@ use Rattle.interleave_laws.specs.Runs.{Runs, LeadsTo}
 use Rattle.interleave_laws.specs.Asked.{Member, Once}
 use Rattle.round_laws.specs.Rounds.{live_of, round, log_on, log_from, round_log, units_on, units_from, round_units}
 use Rattle.round_laws.specs.Units.{IsUnit, InState, AreUnits, joined, NoneIdle, AtMost, IsProcessorsSchedule, LeavesNoneIdle}
-use Rattle.round_laws.proofs.Rounding.{live_whole, unit_runs, round_runs, run_on}
+use Rattle.round_laws.proofs.Rounding.{live_whole, unit_runs, round_runs}
+use Rattle.interleave_laws.proofs.Running.{run_on}
 
 -- what holds of the state behind holds in the state, where there is one
 in_round : (o : Option State) (T : State) (P : State → Type 0) → o ≡ Some T → P T → InState o P

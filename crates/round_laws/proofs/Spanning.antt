@@ -5,6 +5,7 @@ use Rattle.std.proofs.Common.{◌≡◌, ◌↔◌, ℕ, zero, suc, ◌+◌, ◌
 use Rattle.std.proofs.Common.{refl, sym, ap, ◌∙◌, subst, ⊎_elim, arith}
 use Rattle.std.proofs.lemmas.List.{length-append}
 use Rattle.std.proofs.lemmas.Nat.{mul-le}
+use Rattle.std.proofs.lemmas.Option.{same_Some}
 use Rattle.pcf_values.specs.declared.val.Val.{Val}
 use Rattle.net_build.specs.Nets.{NetTree}
 use Rattle.move_rules.specs.Places.{turned, TokenTree, ask, ans}
@@ -19,12 +20,14 @@ use Rattle.adequacy_laws.proofs.Agreeing.{agrees}
 use Rattle.round_laws.specs.Rounds.{live_of, round_log}
 use Rattle.round_laws.specs.AfterRounds.{rounds}
 use Rattle.round_laws.specs.Units.{InState, AreUnits, joined, AnyUnit, NoneIdle, IsSchedule, LeavesNoneIdle}
-use Rattle.round_laws.proofs.Rounding.{one_state, live_whole, rounds_lead, rounds_led, rounds_before, some_live, some_member}
+use Rattle.round_laws.proofs.Rounding.{live_whole, rounds_lead, rounds_led, rounds_before, some_live, some_member}
 use Rattle.round_laws.proofs.Rounding.{unanswered_before}
-use Rattle.round_laws.proofs.Rounding.{run_on, from_then, run_both}
+use Rattle.round_laws.proofs.Rounding.{run_both}
 use Rattle.round_laws.proofs.Begins.{Takes, within_span}
 use Rattle.round_laws.proofs.Ranks.{Ranks}
 use Rattle.round_laws.proofs.Timed.{Timed, Between, unit_timed, timed_more, start_timed}
+use Rattle.interleave_laws.proofs.Running.{run_on}
+use Rattle.interleave_laws.proofs.Reached.{from_run}
 
 -- a net's span, by its start's question
 span_takes : (net : NetTree) (v : Val) (n : ℕ) → Span net v n → (m : ℕ) × Takes net (start_of net) v m × (n ≡ suc m)
@@ -44,7 +47,7 @@ module _ (net : NetTree) (runs : Runs net) where
 
   -- before each round all live tokens have its number as their rank
   pub rounds_timed : (k : ℕ) (S : State) → rounds net k ≡ Some S → Timed net S k k (Between k k)
-  rounds_timed zero S h = subst (λ S. Timed net S 0 0 (Between 0 0)) (one_state _ S h) (start_timed net)
+  rounds_timed zero S h = subst (λ S. Timed net S 0 0 (Between 0 0)) (same_Some _ S h) (start_timed net)
   rounds_timed (suc k) T h =
       let (S, r, g, b) = rounds_before net runs k T h in
       let led = rounds_led net k S r in
@@ -180,16 +183,16 @@ module _ (net : NetTree) (runs : Runs net) where
   -- schedules
   pub in_state : (o : Option State) (P : State → Type 0) (T : State) → o ≡ Some T → InState o P → P T
   in_state None P T e h = absurd cc
-  in_state (Some S) P T e h = subst P (one_state S T e) h
+  in_state (Some S) P T e h = subst P (same_Some S T e) h
 
   units_timed : (ls : List (List ℕ)) (log : List ℕ) (S T : State) (k : ℕ) → LeadsTo net log S → AreUnits AnyUnit net S ls →
       Timed net S k k (Between 0 k) → run net S (joined ls) ≡ Some T → Timed net T (k + length ls) (k + length ls)
       (Between 0 (k + length ls))
   units_timed [] log S T k h u t r =
       let z : k ≡ k + 0 = omega arith in
-      subst (λ k. Timed net T k k (Between 0 k)) z (subst (λ S. Timed net S k k (Between 0 k)) (one_state S T r) t)
+      subst (λ k. Timed net T k k (Between 0 k)) z (subst (λ S. Timed net S k k (Between 0 k)) (same_Some S T r) t)
   units_timed (l ∷ ls) log S T k h (u, _, rest) t r =
-      let (S1, s, r1) = from_then (run net S l) (λ S. run net S (joined ls)) T (sym (run_both net l (joined ls) S) ∙ r) in
+      let (S1, s, r1) = from_run (run net S l) (λ S. run net S (joined ls)) T (sym (run_both net l (joined ls) S) ∙ r) in
       let t1 = timed_more net S1 (suc k) (suc k) (suc k) (suc k) _ (Between 0 (suc k)) runs.sound (omega arith) (omega arith)
       (λ j n (a, b, c). (a, b)) (unit_timed net runs ⊥ 0 k l log S S1 h u (λ c. absurd c) t s) in
       let z : suc k + length ls ≡ k + suc (length ls) = omega arith in
@@ -215,14 +218,14 @@ module _ (net : NetTree) (runs : Runs net) where
   busy_timed p q e [] log S T k lo h u t r none =
       let z : k ≡ k + 0 = omega arith in (
         lo,
-        subst (λ k. Timed net T k k (Between lo k)) z (subst (λ S. Timed net S k k (Between lo k)) (one_state S T r) t),
+        subst (λ k. Timed net T k k (Between lo k)) z (subst (λ S. Timed net S k k (Between lo k)) (same_Some S T r) t),
         nothing p q lo,
       )
     where
       nothing : (p q lo : ℕ) → p * 0 + q * lo ≤ 0 + q * lo
       nothing p q lo = grind arith
   busy_timed p q e (l ∷ ls) log S T k lo h (u, busy, rest) t r none =
-      let (S1, s, r1) = from_then (run net S l) (λ S. run net S (joined ls)) T (sym (run_both net l (joined ls) S) ∙ r) in
+      let (S1, s, r1) = from_run (run net S l) (λ S. run net S (joined ls)) T (sym (run_both net l (joined ls) S) ∙ r) in
       let led1 = run_on net log l _ S S1 h s in
       let rest1 = in_state (run net S l) _ S1 s rest in
       ⊎_elim

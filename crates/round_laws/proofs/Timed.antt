@@ -5,6 +5,7 @@ use Rattle.std.proofs.Common.{◌≡◌, ◌≢◌, ◌⊎◌, ℕ, suc, ◌<◌
 use Rattle.std.proofs.Common.{Option, Some, None, refl, sym, ap, ◌∙◌, subst, ⊎_elim, inl, inr, arith}
 use Rattle.std.proofs.lemmas.Bool.{eqb-true, eqb-false}
 use Rattle.std.specs.Prelude.{nat_eq}
+use Rattle.std.proofs.lemmas.Option.{same_Some}
 use Rattle.pcf_values.specs.declared.val.Val.{Val}
 use Rattle.pcf_values.specs.declared.operator.Operator.{Operator}
 use Rattle.pcf_values.specs.declared.side.Side.{Side}
@@ -23,9 +24,10 @@ use Rattle.interleave_laws.specs.Asked.{Member}
 use Rattle.interleave_laws.proofs.Running.{low, run_append}
 use Rattle.round_laws.specs.Units.{IsUnit, IsWhole}
 use Rattle.round_laws.proofs.Listing.{member_or_not}
-use Rattle.round_laws.proofs.Rounding.{one_state, unit_rest, from_then}
+use Rattle.round_laws.proofs.Rounding.{unit_rest}
 use Rattle.round_laws.proofs.Begins.{Takes, at_start}
 use Rattle.round_laws.proofs.Ranks.{Ranks, Goes, KeptAt, goes, kept_at, kept_more, second}
+use Rattle.interleave_laws.proofs.Reached.{from_run}
 
 -- the ranks of a state: each live ticket has one of which f holds, what is kept has at most k, and an answer had one below a
 pub record Timed (net : NetTree) (S : State) (k a : ℕ) (f : ℕ → ℕ → Type 0) : Type 0 where
@@ -80,7 +82,7 @@ module _ (net : NetTree) (sound : Sound net) (S : State) (k a : ℕ) (f g : ℕ 
   one_entry q t z e r h = let y : z ≡ e = cc in subst (λ e. KeptAt net q t e k) y r
 
   become : (T U : State) → Some T ≡ Some U → Timed net T k a g → Timed net U k a g
-  become T U h t = subst (λ T. Timed net T k a g) (one_state T U h) t
+  become T U h t = subst (λ T. Timed net T k a g) (same_Some T U h) t
 
   -- the second answer
   last_timed : (o : Option Val) (T : State) (q w : ℕ) (t : Boxes) →
@@ -174,10 +176,10 @@ module _ (net : NetTree) (runs : Runs net) (C : Type 0) (lo k : ℕ) where
   -- the tickets that are left
   unit_timed_rest : (l log : List ℕ) (S T : State) → LeadsTo net log S → IsUnit S l → Timed net S k (suc k) (Amid C lo k l) →
       run net S l ≡ Some T → Timed net T k (suc k) (Amid C lo k [])
-  unit_timed_rest [] log S T h u t r = subst (λ T. Timed net T k (suc k) (Amid C lo k [])) (one_state S T r) t
+  unit_timed_rest [] log S T h u t r = subst (λ T. Timed net T k (suc k) (Amid C lo k [])) (same_Some S T r) t
   unit_timed_rest (i ∷ l) log S T h u t r =
       let (x, e) = u.live i (inl refl) in
-      let (S1, s, r1) = from_then (step net S i) (λ S. run net S l) T r in
+      let (S1, s, r1) = from_run (step net S i) (λ S. run net S l) T r in
       let (n, y, (a, b, c)) = t.tokens i x e in
       let most : n ≤ k = ⊎_elim (λ z. z.1) (λ z. absurd (z.0 (inl refl))) c in
       let below = low net runs.sound log S h in

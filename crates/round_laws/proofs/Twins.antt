@@ -4,6 +4,7 @@
 use Rattle.std.proofs.Common.{◌≡◌, ℕ, suc, ◌+◌, ◌≤◌, List, [], ◌∷◌, ◌++◌, length, Some, refl, sym, ap}
 use Rattle.std.proofs.Common.{◌∙◌, subst, ⊎_elim, inl, inr, arith}
 use Rattle.std.proofs.lemmas.List.{length-append}
+use Rattle.std.proofs.lemmas.Option.{same_Some}
 use Rattle.net_build.specs.Nets.{NetTree}
 use Rattle.move_rules.specs.Places.{TokenTree, place_of}
 use Rattle.interleave_laws.specs.Start.{start_of}
@@ -11,15 +12,16 @@ use Rattle.interleave_laws.specs.States.{State, start, step, then_run, run}
 use Rattle.interleave_laws.specs.Runs.{Runs, LeadsTo}
 use Rattle.interleave_laws.specs.Asked.{Member, Once}
 use Rattle.interleave_laws.specs.Bare.{SameBare}
-use Rattle.interleave_laws.proofs.Running.{one_place, run_append}
+use Rattle.interleave_laws.proofs.Running.{one_place, run_append, run_on}
 use Rattle.interleave_laws.proofs.Others.{others_live}
 use Rattle.interleave_laws.proofs.AnyOrder.{alike_steps}
 use Rattle.round_laws.specs.Rounds.{live_of, round_log}
 use Rattle.round_laws.specs.AfterRounds.{rounds}
 use Rattle.round_laws.specs.Units.{IsUnit, IsWhole, AreUnits, joined, NoneIdle, LeavesNoneIdle}
-use Rattle.round_laws.proofs.Rounding.{one_state, live_whole, rounds_lead, rounds_led, rounds_go_on, run_on, run_both, from_then}
+use Rattle.round_laws.proofs.Rounding.{live_whole, rounds_lead, rounds_led, rounds_go_on, run_both}
 use Rattle.round_laws.proofs.Order.{alike_self, alike_on, member_split, once_rest, split_at, round_order}
 use Rattle.round_laws.proofs.Spanning.{in_state}
+use Rattle.interleave_laws.proofs.Reached.{from_run}
 
 -- what has each entry once, and no fewer than a list that has them all, has all of that list
 pub all_there : (a b : List ℕ) → Once a → Once b → ((i : ℕ) → Member i a → Member i b) → length b ≤ length a → (i : ℕ) →
@@ -100,11 +102,11 @@ module _ (net : NetTree) (runs : Runs net) where
   twin_run : (log log' : List ℕ) (S T : State) → LeadsTo net log S → LeadsTo net log' T → SameBare S T → (l m : List ℕ) →
       Twin S T l m → Once l → Once m → (S' : State) → run net S l ≡ Some S' → (T' : State) × (run net T m ≡ Some T') ×
       SameBare S' T'
-  twin_run log log' S T h h' alike [] [] t o o' S' r = (T, refl, subst (λ S. SameBare S T) (one_state S S' r) alike)
+  twin_run log log' S T h h' alike [] [] t o o' S' r = (T, refl, subst (λ S. SameBare S T) (same_Some S S' r) alike)
   twin_run log log' S T h h' alike [] (j ∷ m) t o o' S' r = absurd t
   twin_run log log' S T h h' alike (i ∷ l) [] t o o' S' r = absurd t
   twin_run log log' S T h h' alike (i ∷ l) (j ∷ m) ((x, e, g), t) o o' S' r =
-      let (S1, s, r1) = from_then (step net S i) (λ S. run net S l) S' r in
+      let (S1, s, r1) = from_run (step net S i) (λ S. run net S l) S' r in
       let (T1, s', alike1) = alike_steps net runs.sound log log' S T h h' alike i j x e g S1 s in
       let t1 = stay log log' S T S1 T1 i j h h' s s' l m o.0 o'.0 t in
       let (T', q, a) = twin_run (log ++ i ∷ []) (log' ++ j ∷ []) S1 T1 (run_append net log _ S S1 i h s)
@@ -137,10 +139,10 @@ module _ (net : NetTree) (runs : Runs net) where
       AreUnits (NoneIdle p) net S ls → run net S (joined ls) ≡ Some S' → rounds net (k + length ls) ≡ Some T' → SameBare S' T'
   rounds_alike p few [] log k S T S' T' h r alike u g r' =
       let z : k + 0 ≡ k = omega arith in
-      let q : T ≡ T' = one_state T T' (sym r ∙ sym (sym r' ∙ ap (rounds net) z)) in
-      subst (λ T. SameBare S' T) q (subst (λ S. SameBare S T) (one_state S S' g) alike)
+      let q : T ≡ T' = same_Some T T' (sym r ∙ sym (sym r' ∙ ap (rounds net) z)) in
+      subst (λ T. SameBare S' T) q (subst (λ S. SameBare S T) (same_Some S S' g) alike)
   rounds_alike p few (l ∷ ls) log k S T S' T' h r alike (u, busy, rest) g r' =
-      let (S1, s, g1) = from_then (run net S l) (λ S. run net S (joined ls)) S' (sym (run_both net l (joined ls) S) ∙ g) in
+      let (S1, s, g1) = from_run (run net S l) (λ S. run net S (joined ls)) S' (sym (run_both net l (joined ls) S) ∙ g) in
       let led = rounds_led net k T r in
       let (m, t, once) = twin_of log (round_log net k) S T h led alike l u in
       let (V, q, alike1) = twin_run log (round_log net k) S T h led alike l m t u.once once S1 s in

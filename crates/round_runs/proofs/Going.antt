@@ -5,6 +5,7 @@ use Rattle.std.proofs.lemmas.Bool.{cases_eq}
 use Rattle.std.proofs.lemmas.List.{length-append, map-append}
 use Rattle.std.specs.Prelude.{max, map}
 use Rattle.std.specs.FinMap.{get, len}
+use Rattle.std.proofs.lemmas.Option.{same_Some}
 use Rattle.pcf_values.specs.declared.val.Val.{Val}
 use Rattle.net_build.specs.Nets.{NetTree}
 use Rattle.move_rules.specs.Places.{TokenTree}
@@ -20,7 +21,7 @@ use Rattle.adequacy_laws.specs.Finished.{Beyond}
 use Rattle.adequacy_laws.proofs.Agreeing.{agrees}
 use Rattle.round_laws.specs.Rounds.{live_of, round, round_log, units_on, units_from}
 use Rattle.round_laws.specs.AfterRounds.{rounds_from, rounds}
-use Rattle.round_laws.proofs.Rounding.{one_state, live_whole, rounds_lead, rounds_go_on, some_live, some_member}
+use Rattle.round_laws.proofs.Rounding.{live_whole, rounds_lead, rounds_go_on, some_live, some_member}
 use Rattle.round_laws.proofs.Spanning.{answered_span, span_answered}
 use Rattle.round_runs.specs.Profiles.{profile_of, greatest}
 use Rattle.round_runs.specs.Making.{IsMade}
@@ -44,7 +45,7 @@ UnitsMore net k S T = rounds_from net k S ≡ Some T → units_from net (suc k) 
 
 -- so it is, by the rounds from the front
 units_more : (net : NetTree) (k : ℕ) (S T : State) → UnitsMore net k S T
-units_more net zero S T h = last (round net S) ∙ ap (λ S. live_of S ∷ []) (one_state S T h)
+units_more net zero S T h = last (round net S) ∙ ap (λ S. live_of S ∷ []) (same_Some S T h)
   where
     last : (o : Option State) → live_of S ∷ units_on o (λ U. []) ≡ live_of S ∷ []
     last None = refl
@@ -97,7 +98,7 @@ module _ (net : NetTree) (tickets profile : List ℕ) (w : ℕ) (S : MapState) (
         led = run_both net tickets (live_of (seen S)) (start_map (start_of net)) S T made.led r;
         fresh = λ j U l q.
             ⊎_elim
-            (λ z. ap (λ (S : State). S.answered) (one_state U (seen S) (sym q ∙ ap (rounds net) z ∙ made.at)) ∙ none)
+            (λ z. ap (λ (S : State). S.answered) (same_Some U (seen S) (sym q ∙ ap (rounds net) z ∙ made.at)) ∙ none)
             (λ d. made.fresh j U (omega (arith, l, d, next)) q) (cases_eq j (length profile));
         few = omega (arith, some, few, many, long);
         widest = ap (λ w. max w n) made.widest ∙ sym (greatest_more profile n);
