@@ -1,25 +1,26 @@
 -- The module over cells is in order, and its numbers and sizes fit.
-use Rattle.std.proofs.Common.{◌≡◌, ℕ, zero, suc, ◌+◌, ◌-◌, ◌*◌, ◌^◌, ◌<◌, ◌≤◌, max, Bool, true, false, not, ◌&&◌, ◌||◌, List, [], ◌∷◌, ◌++◌}
-use Rattle.std.proofs.Common.{length, Option, Some, None, refl, ap, sym, subst, ◌∙◌, arith, nat_eq, nat_lt, nat_le}
+use Rattle.std.proofs.Common.{◌≡◌, ℕ, zero, suc, ◌+◌, ◌*◌, ◌^◌, ◌<◌, ◌≤◌, max, Bool, true, false, ◌&&◌, ◌||◌, List, [], ◌∷◌}
+use Rattle.std.proofs.Common.{length, Option, Some, None, refl, ap, sym, subst, ◌∙◌, arith, nat_eq, nat_lt}
 use Rattle.std.proofs.lemmas.Bool.{and_from, and_parts, lt-ltb, le-leb, eqb-true}
-use Rattle.std.proofs.lemmas.Float.{T_from_true}
 use Prim.Native.String.{String}
-use lib.Text.{eqt, eqt→eq}
-use Rattle.pcf_values.specs.declared.operator.Operator.{Operator}
+use lib.Text.{eqt}
 use Rattle.net_build.specs.Nets.{NetTree}
 use Rattle.interleave_laws.specs.Start.{start_of}
 use Rattle.net_rows.specs.Rows.{Channel, rises, falls, number, Row, GO, CONST, SUCC, PRED, TEST, FORK, JOIN, ANSWER, STAR, UNSTAR, LEFT}
 use Rattle.net_rows.specs.Rows.{RIGHT, CON, PUSHR, PUSHL, SELECT, POP, BOXIN, BOXOUT, DOOROUT, DOORIN, FIXIN, FIXOUT, FIXVAR, DEAD}
 use Rattle.net_rows.specs.Rows.{row_of, channel_of}
-use Rattle.verilog_tree.specs.Tree.{Size, count, named, more, less, Arms, Item, Expr}
-use Rattle.verilog_tree.specs.Meaning.{amount, param_in}
+use Rattle.verilog_tree.specs.Tree.{Size, count, named, more, less, Arms, Expr, num}
+use Rattle.verilog_tree.specs.Meaning.{Scope, amount, scope}
+use Rattle.verilog_tree.specs.Print.{parts_text}
 use Rattle.cell_core.specs.Sizes.{Sizes}
-use Rattle.circuit_module.specs.Sizes.{bits_for, channel_bits}
+use Rattle.circuit_module.specs.Sizes.{channel_bits}
 use Rattle.circuit_module.proofs.Sizes.{few_bits, enough_bits}
 use Rattle.circuit_module.specs.InRange.{Named, RowFits, InRange}
-use Rattle.circuit_module.specs.Module.{row_stmt, row_arm, row_arms, multiplies}
+use Rattle.circuit_module.specs.Module.{row_stmt, place_said, row_arm, row_arms, multiplies}
 use Rattle.cell_module.specs.Module.{place_bits, pointer_bits, cell_product, cell_module_with, cell_module}
-use Rattle.verilog_tree.specs.WellFormed.{reads, block_reads, arms_read, in_order, small, size_fits, Limits, limits, stmt_fits, arms_fit, items_fit}
+use Rattle.verilog_tree.specs.WellFormed.{block_reads, arms_read, in_order, small, size_fits, Limits, limits_of, limits, plain, stmt_fits}
+use Rattle.verilog_tree.specs.WellFormed.{arms_fit, items_fit}
+use Rattle.verilog_tree.proofs.Own.{one_name}
 use Rattle.cell_module.specs.Laws.{Printable}
 
 -- ---- some sizes are known
@@ -31,13 +32,14 @@ same_size (more a b) (more c d) = same_size a c && same_size b d
 same_size (less a b) (less c d) = same_size a c && same_size b d
 same_size a b = false
 
+-- sizes that look the same are
 same_is : (a b : Size) → same_size a b ≡ true → a ≡ b
 same_is (count n) (count m) h = ap count (eqb-true n m h)
 same_is (count n) (named y) h = absurd cc
 same_is (count n) (more c d) h = absurd cc
 same_is (count n) (less c d) h = absurd cc
 same_is (named x) (count m) h = absurd cc
-same_is (named x) (named y) h = ap named (eqt→eq x y (T_from_true (eqt x y) h))
+same_is (named x) (named y) h = ap named (one_name x y h)
 same_is (named x) (more c d) h = absurd cc
 same_is (named x) (less c d) h = absurd cc
 same_is (more a b) (count m) h = absurd cc
@@ -53,93 +55,110 @@ same_is (less a b) (less c d) h =
     let (u, v) = and_parts (same_size a c) (same_size b d) h in
     let x = same_is a c u in let y = same_is b d v in λ i. less (x i) (y i)
 
-abbrev pub among : List Size → Size → Bool
-among [] s = false
-among (k ∷ ks) s = same_size k s || among ks s
+-- a part of a vector, and a bit
+pub record Part : Type 0 where
+  pub of : String
+  pub high : Size
+  pub low : Size
 
--- numbers are left to computing
-abbrev pub listed : List Size → Size → Bool
-listed ks (count n) = false
-listed ks (named x) = among ks (named x)
-listed ks (more a b) = among ks (more a b)
-listed ks (less a b) = among ks (less a b)
+pub record Bit : Type 0 where
+  pub of : String
+  pub at : ℕ
 
-abbrev pub All : (Size → Bool) → List Size → Type 0
+abbrev pub same_part : Part → Part → Bool
+same_part a b = eqt a.of b.of && (same_size a.high b.high && same_size a.low b.low)
+
+abbrev pub same_bit : Bit → Bit → Bool
+same_bit a b = eqt a.of b.of && nat_eq a.at b.at
+
+part_is : (a b : Part) → same_part a b ≡ true → a ≡ b
+part_is a b e =
+    let (u, v) = and_parts (eqt a.of b.of) (same_size a.high b.high && same_size a.low b.low) e in
+    let (w, t) = and_parts (same_size a.high b.high) (same_size a.low b.low) v in
+    let x = one_name a.of b.of u in let h = same_is a.high b.high w in let l = same_is a.low b.low t in
+    λ i. record { of = x i; high = h i; low = l i }
+
+bit_is : (a b : Bit) → same_bit a b ≡ true → a ≡ b
+bit_is a b e =
+    let (u, v) = and_parts (eqt a.of b.of) (nat_eq a.at b.at) e in
+    let x = one_name a.of b.of u in let n = eqb-true a.at b.at v in
+    λ i. record { of = x i; at = n i }
+
+-- one of these
+abbrev pub among : {A : Type 0} → (A → A → Bool) → List A → A → Bool
+among same [] s = false
+among same (k ∷ ks) s = same k s || among same ks s
+
+abbrev pub All : {A : Type 0} → (A → Bool) → List A → Type 0
 All f [] = Unit {0}
 All f (k ∷ ks) = (f k ≡ true) × All f ks
 
-among_all : (f : Size → Bool) (ks : List Size) → All f ks → (s : Size) → among ks s ≡ true → f s ≡ true
-among_all f [] a s h = absurd cc
-among_all f (k ∷ ks) (a, rest) s h = go (same_size k s) refl h (among_all f ks rest s)
+among_all : {A : Type 0} (same : A → A → Bool) → ((a b : A) → same a b ≡ true → a ≡ b) → (f : A → Bool) (ks : List A) → All f ks →
+    (s : A) → among same ks s ≡ true → f s ≡ true
+among_all same is f [] a s h = absurd cc
+among_all same is f (k ∷ ks) (a, rest) s h = go (same k s) refl h (among_all same is f ks rest s)
   where
-    go : (b : Bool) → same_size k s ≡ b → (b || among ks s) ≡ true → (among ks s ≡ true → f s ≡ true) → f s ≡ true
-    go true e h ih = subst (λ z. f z ≡ true) (same_is k s e) a
+    go : (b : Bool) → same k s ≡ b → (b || among same ks s) ≡ true → (among same ks s ≡ true → f s ≡ true) → f s ≡ true
+    go true e h ih = subst (λ z. f z ≡ true) (is k s e) a
     go false e h ih = ih h
 
 either_known : (b c : Bool) → (b ≡ true → c ≡ true) → c ≡ (b || c)
 either_known true c f = f refl
 either_known false c f = refl
 
+-- numbers are left to computing
+abbrev pub listed : List Size → Size → Bool
+listed ks (count n) = false
+listed ks s = among same_size ks s
+
 listed_all : (f : Size → Bool) (ks : List Size) → All f ks → (s : Size) → listed ks s ≡ true → f s ≡ true
 listed_all f ks a (count n) h = absurd cc
-listed_all f ks a (named x) h = among_all f ks a (named x) h
-listed_all f ks a (more b c) h = among_all f ks a (more b c) h
-listed_all f ks a (less b c) h = among_all f ks a (less b c) h
+listed_all f ks a (named x) h = among_all same_size same_is f ks a (named x) h
+listed_all f ks a (more b c) h = among_all same_size same_is f ks a (more b c) h
+listed_all f ks a (less b c) h = among_all same_size same_is f ks a (less b c) h
 
--- and pairs
-pub record Pair : Type 0 where
-  pub high : Size
-  pub low : Size
+-- a bit whose number is told is one of these
+abbrev pub listed_bit : List Bit → String → Expr → Bool
+listed_bit ks x (num n) = among same_bit ks record { of = x; at = n }
+listed_bit ks x e = false
 
-abbrev pub paired : List Pair → Size → Size → Bool
-paired [] h l = false
-paired (p ∷ ps) h l = (same_size p.high h && same_size p.low l) || paired ps h l
-
-abbrev pub listed_pair : List Pair → Size → Size → Bool
-listed_pair ps (count n) l = false
-listed_pair ps (named x) l = paired ps (named x) l
-listed_pair ps (more a b) l = paired ps (more a b) l
-listed_pair ps (less a b) l = paired ps (less a b) l
-
-abbrev pub All2 : (Size → Size → Bool) → List Pair → Type 0
-All2 f [] = Unit {0}
-All2 f (p ∷ ps) = (f p.high p.low ≡ true) × All2 f ps
-
-paired_all : (f : Size → Size → Bool) (ps : List Pair) → All2 f ps → (h l : Size) → paired ps h l ≡ true → f h l ≡ true
-paired_all f [] a h l e = absurd cc
-paired_all f (p ∷ ps) (a, rest) h l e = go (same_size p.high h && same_size p.low l) refl e (paired_all f ps rest h l)
-  where
-    go : (b : Bool) → (same_size p.high h && same_size p.low l) ≡ b → (b || paired ps h l) ≡ true →
-        (paired ps h l ≡ true → f h l ≡ true) → f h l ≡ true
-    go true q e ih =
-        let (u, v) = and_parts (same_size p.high h) (same_size p.low l) q in
-        subst (λ z. f z l ≡ true) (same_is p.high h u) (subst (λ z. f p.high z ≡ true) (same_is p.low l v) a)
-    go false q e ih = ih e
-
-pair_all : (f : Size → Size → Bool) (ps : List Pair) → All2 f ps → (h l : Size) → listed_pair ps h l ≡ true → f h l ≡ true
-pair_all f ps a (count n) l e = absurd cc
-pair_all f ps a (named x) l e = paired_all f ps a (named x) l e
-pair_all f ps a (more b c) l e = paired_all f ps a (more b c) l e
-pair_all f ps a (less b c) l e = paired_all f ps a (less b c) l e
+listed_bit_all : (f : String → Expr → Bool) (ks : List Bit) → All (λ (b : Bit). f b.of (num b.at)) ks → (x : String) (e : Expr) →
+    listed_bit ks x e ≡ true → f x e ≡ true
+listed_bit_all f ks a x (num n) h =
+    among_all same_bit bit_is (λ (b : Bit). f b.of (num b.at)) ks a record { of = x; at = n } h
+listed_bit_all f ks a x e h = absurd cc
 
 -- the same limits, by computing where these are known
-abbrev pub known : Limits → List Size → List Size → List Pair → Limits
-known L us ws ps = record {
+abbrev pub known : Limits → List Size → List Size → List Part → List Bit → Limits
+known L us ws ps bs = record {
   fits = λ s. listed us s || L.fits s;
   positive = λ s. listed ws s || L.positive s;
-  bounds = λ h l. listed_pair ps h l || L.bounds h l;
+  bounds = λ x h l. among same_part ps record { of = x; high = h; low = l } || L.bounds x h l;
+  at_bit = λ x e. listed_bit bs x e || L.at_bit x e;
+  at_word = L.at_word;
   is_size = L.is_size;
 }
 
-pub known_is : (L : Limits) (us ws : List Size) (ps : List Pair) → All L.fits us → All L.positive ws → All2 L.bounds ps → L ≡ known L us ws ps
-known_is L us ws ps a b c = λ i. record {
+-- they are
+known_is : (L : Limits) (us ws : List Size) (ps : List Part) (bs : List Bit) → All L.fits us → All L.positive ws →
+    All (λ (p : Part). L.bounds p.of p.high p.low) ps → All (λ (b : Bit). L.at_bit b.of (num b.at)) bs → L ≡ known L us ws ps bs
+known_is L us ws ps bs a b c d = λ i. record {
   fits = λ s. either_known (listed us s) (L.fits s) (listed_all L.fits us a s) i;
   positive = λ s. either_known (listed ws s) (L.positive s) (listed_all L.positive ws b s) i;
-  bounds = λ h l. either_known (listed_pair ps h l) (L.bounds h l) (pair_all L.bounds ps c h l) i;
+  bounds = λ x h l.
+      either_known (among same_part ps record { of = x; high = h; low = l }) (L.bounds x h l)
+      (among_all same_part part_is (λ (p : Part). L.bounds p.of p.high p.low) ps c record { of = x; high = h; low = l }) i;
+  at_bit = λ x e. either_known (listed_bit bs x e) (L.at_bit x e) (listed_bit_all L.at_bit bs d x e) i;
+  at_word = L.at_word;
   is_size = L.is_size;
 }
 
 -- ---- rows
+
+-- no tool obeys what is said of a row
+pub place_plain : (c : Channel) (i : ℕ) → plain (parts_text (place_said c i)) ≡ true
+place_plain (rises w) i = refl
+place_plain (falls w) i = refl
 
 pub small_is : (n : ℕ) → n < 2 ^ 31 → small n ≡ true
 small_is n h = lt-ltb n (2 ^ 31) h
@@ -179,7 +198,8 @@ module _ (L : Limits) (W : ℕ) (few : 2 * W < 2 ^ 31) where
       ((p : ℕ × Row) → o ≡ Some p → Named W c) → arms_fit L rest ≡ true → arms_fit L (row_arm c o rest) ≡ true
   arm_fits c None rest f g h = h
   arm_fits c (Some r) rest f g h =
-      and_from (small (number c)) (stmt_fits L (row_stmt r.1) && arms_fit L rest) (low c (g r refl))
+      and_from (small (number c) && plain (parts_text (place_said c r.0))) (stmt_fits L (row_stmt r.1) && arms_fit L rest)
+      (and_from (small (number c)) (plain (parts_text (place_said c r.0))) (low c (g r refl)) (place_plain c r.0))
       (and_from (stmt_fits L (row_stmt r.1)) (arms_fit L rest) (row_fits r.1 (f r refl)) h)
 
 pub rows_fit : (L : Limits) (net : NetTree) → InRange net → (w n : ℕ) → arms_fit L (row_arms net w n) ≡ true
@@ -236,7 +256,7 @@ pub ordered_with : (wires start : ℕ) (z : Sizes) (rows : Arms) (b : Bool) → 
 ordered_with wires start z rows true h = ap (λ t. (t && true) && true) (h _)
 ordered_with wires start z rows false h = ap (λ t. (t && true) && true) (h _)
 
--- the sizes that stand in widths, in words and in parts
+-- the sizes that stand in widths and in words, the parts, and the bits whose numbers are told
 abbrev pub widths_known : List Size
 widths_known = more (named "B") (named "P") ∷ more (named "G") (named "P") ∷ named "D" ∷ named "P" ∷ []
 
@@ -245,42 +265,48 @@ positive_known =
     named "CELLS" ∷ named "D" ∷ more (named "C") (more (named "P") (count 66)) ∷ named "C" ∷ named "B" ∷ named "E" ∷ named "G" ∷
     named "S" ∷ named "P" ∷ []
 
-abbrev pub bounds_known : List Pair
-bounds_known =
-    record { high = less (named "D") (count 1); low = count 0 } ∷ record { high = less (named "G") (count 1); low = count 0 } ∷
-    record { high = less (named "B") (count 1); low = count 0 } ∷
-    record { high = more (named "C") (more (named "P") (count 65)); low = more (named "P") (count 66) } ∷
-    record { high = more (named "P") (count 65); low = count 66 } ∷ record { high = named "P"; low = count 1 } ∷
-    record { high = named "P"; low = count 0 } ∷ []
+abbrev pub parts_known : List Part
+parts_known =
+    record { of = "more_marks"; high = less (named "D") (count 1); low = count 0 } ∷
+    record { of = "more_sigs"; high = less (named "G") (count 1); low = count 0 } ∷
+    record { of = "more_boxes"; high = less (named "B") (count 1); low = count 0 } ∷
+    record { of = "fork_has"; high = more (named "C") (more (named "P") (count 65)); low = more (named "P") (count 66) } ∷
+    record { of = "fork_has"; high = more (named "P") (count 65); low = count 66 } ∷
+    record { of = "fork_has"; high = count 64; low = count 0 } ∷ record { of = "next_sigs"; high = named "P"; low = count 1 } ∷
+    record { of = "next_boxes"; high = named "P"; low = count 1 } ∷ record { of = "sigs"; high = named "P"; low = count 0 } ∷
+    record { of = "boxes"; high = named "P"; low = count 0 } ∷ []
 
--- what the sizes of a module are
-pub record Sized (p : String → ℕ) : Type 0 where
-  pub C : (0 < p "C") × (p "C" ≤ 31)
-  pub S : (0 < p "S") × (p "S" ≤ 31)
-  pub P : (0 < p "P") × (p "P" ≤ 31)
-  pub D : (0 < p "D") × (p "D" < 2 ^ 31)
-  pub G : (0 < p "G") × (p "G" + p "P" < 2 ^ 31)
-  pub B : (0 < p "B") × (p "B" + p "P" < 2 ^ 31)
-  pub CELLS : (0 < p "CELLS") × (p "CELLS" < 2 ^ 31)
-  pub E : (0 < p "E") × (p "E" < 2 ^ 31)
+abbrev pub bits_known : List Bit
+bits_known =
+    record { of = "fork_has"; at = 65 } ∷ record { of = "marks"; at = 0 } ∷ record { of = "sigs"; at = 0 } ∷
+    record { of = "boxes"; at = 0 } ∷ []
 
-pub yes_lt : (n m : ℕ) → n < m → nat_lt n m ≡ true
-yes_lt n m h = lt-ltb n m h
+-- what the sizes of a module are, and the widths of what has them
+pub record Sized (A : Scope) : Type 0 where
+  pub C : (0 < A.param "C") × (A.param "C" ≤ 31)
+  pub S : (0 < A.param "S") × (A.param "S" ≤ 31)
+  pub P : (0 < A.param "P") × (A.param "P" ≤ 31)
+  pub D : (0 < A.param "D") × (A.param "D" < 2 ^ 31)
+  pub G : (A.param "P" < A.param "G") × (A.param "G" + A.param "P" < 2 ^ 31)
+  pub B : (A.param "P" < A.param "B") × (A.param "B" + A.param "P" < 2 ^ 31)
+  pub CELLS : (0 < A.param "CELLS") × (A.param "CELLS" < 2 ^ 31)
+  pub E : (0 < A.param "E") × (A.param "E" < 2 ^ 31)
+  pub fork_has : A.width "fork_has" ≡ A.param "C" + (A.param "P" + 66)
+  pub marks : (A.width "marks" ≡ A.param "D") × (A.width "more_marks" ≡ suc (A.param "D"))
+  pub sigs : (A.width "sigs" ≡ A.param "G") × (A.width "next_sigs" ≡ A.param "G")
+  pub boxes : (A.width "boxes" ≡ A.param "B") × (A.width "next_boxes" ≡ A.param "B")
+  pub more_sigs : A.width "more_sigs" ≡ suc (A.param "G" + A.param "P")
+  pub more_boxes : A.width "more_boxes" ≡ suc (A.param "B" + A.param "P")
 
-pub yes_le : (n m : ℕ) → n ≤ m → nat_le n m ≡ true
-yes_le n m h = le-leb n m h
-
-pub high : 2000 < 2 ^ 31
+high : 2000 < 2 ^ 31
 high = omega arith
 
-module _ (p : String → ℕ) (q : String → Bool) (it : Sized p) where
-  abbrev pub L : Limits
-  L = record {
-    fits = size_fits p;
-    positive = λ k. nat_lt 0 (amount p k) && size_fits p k;
-    bounds = λ h l. nat_le (amount p l) (amount p h) && (size_fits p h && size_fits p l);
-    is_size = q;
-  }
+module _ (P : Scope) (q : String → Bool) (it : Sized P) where
+  abbrev p : String → ℕ
+  p = P.param
+
+  abbrev L : Limits
+  L = limits_of P q
 
   c : small (p "C") ≡ true
   c = let h = it.C.1 in let t = high in small_is (p "C") (omega arith)
@@ -315,7 +341,7 @@ module _ (p : String → ℕ) (q : String → Bool) (it : Sized p) where
       (both_small "B" "P" (small_is (p "B" + p "P") it.B.1) b k, (both_small "G" "P" (small_is (p "G" + p "P") it.G.1) g k, (d, (k, tt))))
 
   at_least : (x : String) → 0 < p x → small (p x) ≡ true → (nat_lt 0 (p x) && small (p x)) ≡ true
-  at_least x h u = and_from _ _ (yes_lt 0 (p x) h) u
+  at_least x h u = and_from _ _ (lt-ltb 0 (p x) h) u
 
   fork_size : size_fits p (more (named "C") (more (named "P") (count 66))) ≡ true
   fork_size =
@@ -324,140 +350,170 @@ module _ (p : String → ℕ) (q : String → Bool) (it : Sized p) where
       (and_from _ _ c (and_from _ _ (small_is (p "P" + 66) (omega arith)) (and_from _ _ k refl)))
 
   positives_are : All L.positive positive_known
-  positives_are = (
-    at_least "CELLS" it.CELLS.0 n,
-    (
-      at_least "D" it.D.0 d,
-      (
-        and_from _ _ (yes_lt 0 (p "C" + (p "P" + 66)) (omega arith)) fork_size,
-        (
-          at_least "C" it.C.0 c,
-          (
-            at_least "B" it.B.0 b,
-            (
-              at_least "E" it.E.0 e,
-              (
-                at_least "G" it.G.0 g,
-                (
-                  at_least "S" it.S.0 s,
-                  (at_least "P" it.P.0 k, tt),
-                ),
-              ),
-            ),
-          ),
-        ),
-      ),
-    ),
-  )
+  positives_are =
+      let h = it.G.0 in let j = it.B.0 in
+      (at_least "CELLS" it.CELLS.0 n, (at_least "D" it.D.0 d, (and_from _ _ (lt-ltb 0 (p "C" + (p "P" + 66)) (omega arith)) fork_size,
+      (at_least "C" it.C.0 c, (at_least "B" (omega arith) b, (at_least "E" it.E.0 e, (at_least "G" (omega arith) g,
+      (at_least "S" it.S.0 s, (at_least "P" it.P.0 k, tt)))))))))
 
-  one_less : (x : String) → 0 < p x → small (p x) ≡ true → L.bounds (less (named x) (count 1)) (count 0) ≡ true
-  one_less x h u =
-      and_from _ _ (yes_le 0 (p x - 1) (omega arith))
-      (and_from _ _ (and_from _ _ (yes_le 1 (p x) h) (and_from _ _ u refl)) refl)
+  within : (x : String) (h l : Size) → amount p h < P.width x → amount p l ≤ amount p h → size_fits p h ≡ true → size_fits p l ≡ true →
+      L.bounds x h l ≡ true
+  within x h l u v t w =
+      and_from _ _ (and_from _ _ (lt-ltb (amount p h) (P.width x) u) (le-leb (amount p l) (amount p h) v)) (and_from _ _ t w)
+
+  one_less : (x : String) → 0 < p x → small (p x) ≡ true → size_fits p (less (named x) (count 1)) ≡ true
+  one_less x h u = and_from _ _ (le-leb 1 (p x) h) (and_from _ _ u refl)
 
   fork_from : size_fits p (more (named "P") (count 65)) ≡ true
   fork_from =
       let v = it.P.1 in let t = high in and_from _ _ (small_is (p "P" + 65) (omega arith)) (and_from _ _ k refl)
 
-  bounds_are : All2 L.bounds bounds_known
-  bounds_are =
-      let u = it.C.0 in let u' = it.C.1 in let v = it.P.0 in let v' = it.P.1 in let t = high in (
-        one_less "D" it.D.0 d,
-        (
-          one_less "G" it.G.0 g,
-          (
-            one_less "B" it.B.0 b,
-            (
-              and_from _ _ (yes_le (p "P" + 66) (p "C" + (p "P" + 65)) (omega arith))
-                  (and_from _ _ (and_from _ _ (small_is (p "C" + (p "P" + 65)) (omega arith)) (and_from _ _ c fork_from))
-                  (and_from _ _ (small_is (p "P" + 66) (omega arith)) (and_from _ _ k refl))),
-              (
-                and_from _ _ (yes_le 66 (p "P" + 65) (omega arith)) (and_from _ _ fork_from refl),
-                (
-                  and_from _ _ (yes_le 1 (p "P") v) (and_from _ _ k refl),
-                  (and_from _ _ (yes_le 0 (p "P") (omega arith)) (and_from _ _ k refl), tt),
-                ),
-              ),
-            ),
-          ),
-        ),
-      )
+  fork_high : size_fits p (more (named "C") (more (named "P") (count 65))) ≡ true
+  fork_high =
+      let u = it.C.1 in let v = it.P.1 in let t = high in
+      and_from _ _ (small_is (p "C" + (p "P" + 65)) (omega arith)) (and_from _ _ c fork_from)
 
-  pub knows : L ≡ known L widths_known positive_known bounds_known
-  knows = known_is L widths_known positive_known bounds_known widths_are positives_are bounds_are
+  fork_low : size_fits p (more (named "P") (count 66)) ≡ true
+  fork_low =
+      let v = it.P.1 in let t = high in and_from _ _ (small_is (p "P" + 66) (omega arith)) (and_from _ _ k refl)
 
-pub some_bits : (c n : ℕ) → n ≤ 2 ^ c → 2 ≤ n → 0 < c
+  parts_are : All (λ (o : Part). L.bounds o.of o.high o.low) parts_known
+  parts_are =
+      let c0 = it.C.0 in let p0 = it.P.0 in let d0 = it.D.0 in let g0 = it.G.0 in let b0 = it.B.0 in let f = it.fork_has in
+      let m = it.marks.1 in let s0 = it.sigs.0 in let s1 = it.sigs.1 in let x0 = it.boxes.0 in let x1 = it.boxes.1 in
+      let s2 = it.more_sigs in let x2 = it.more_boxes in
+      (within "more_marks" (less (named "D") (count 1)) (count 0) (omega arith) (omega arith) (one_less "D" d0 d) refl,
+      (within "more_sigs" (less (named "G") (count 1)) (count 0) (omega arith) (omega arith) (one_less "G" (omega arith) g) refl,
+      (within "more_boxes" (less (named "B") (count 1)) (count 0) (omega arith) (omega arith) (one_less "B" (omega arith) b) refl,
+      (within "fork_has" (more (named "C") (more (named "P") (count 65))) (more (named "P") (count 66)) (omega arith) (omega arith)
+      fork_high fork_low,
+      (within "fork_has" (more (named "P") (count 65)) (count 66) (omega arith) (omega arith) fork_from refl,
+      (within "fork_has" (count 64) (count 0) (omega arith) (omega arith) refl refl,
+      (within "next_sigs" (named "P") (count 1) (omega arith) (omega arith) k refl,
+      (within "next_boxes" (named "P") (count 1) (omega arith) (omega arith) k refl,
+      (within "sigs" (named "P") (count 0) (omega arith) (omega arith) k refl,
+      (within "boxes" (named "P") (count 0) (omega arith) (omega arith) k refl, tt))))))))))
+
+  bits_are : All (λ (o : Bit). L.at_bit o.of (num o.at)) bits_known
+  bits_are =
+      let c0 = it.C.0 in let d0 = it.D.0 in let g0 = it.G.0 in let b0 = it.B.0 in let f = it.fork_has in let m = it.marks.0 in
+      let s0 = it.sigs.0 in let x0 = it.boxes.0 in
+      (lt-ltb 65 (P.width "fork_has") (omega arith), (lt-ltb 0 (P.width "marks") (omega arith),
+      (lt-ltb 0 (P.width "sigs") (omega arith), (lt-ltb 0 (P.width "boxes") (omega arith), tt))))
+
+  -- the limits of the module, by these lists
+  pub knows : L ≡ known L widths_known positive_known parts_known bits_known
+  knows = known_is L widths_known positive_known parts_known bits_known widths_are positives_are parts_are bits_are
+
+some_bits : (c n : ℕ) → n ≤ 2 ^ c → 2 ≤ n → 0 < c
 some_bits zero n h l = absurd (omega arith)
 some_bits (suc c) n h l = omega arith
 
--- the limits of the module, and that what it declares keeps within them
-module _ (wires start : ℕ) (z : Sizes) (rows : Arms) (some : 0 < wires) (few : 2 * wires < 2 ^ 31) (it : Printable z) where
-  pub c_some : 0 < channel_bits wires
+-- what sizes a module over cells declares, and the widths of what has them: all by computing
+pub record Declares (A : Scope) (wires : ℕ) (z : Sizes) : Type 0 where
+  pub C : A.param "C" ≡ channel_bits wires
+  pub S : A.param "S" ≡ place_bits z.forks
+  pub P : A.param "P" ≡ place_bits z.cells
+  pub D : A.param "D" ≡ max 1 z.marks
+  pub G : A.param "G" ≡ pointer_bits z.cells * max 1 z.sigs
+  pub B : A.param "B" ≡ pointer_bits z.cells * max 1 z.boxes
+  pub CELLS : A.param "CELLS" ≡ z.cells
+  pub E : A.param "E" ≡ z.forks
+  pub fork_has : A.width "fork_has" ≡ A.param "C" + (A.param "P" + 66)
+  pub marks : (A.width "marks" ≡ A.param "D") × (A.width "more_marks" ≡ suc (A.param "D"))
+  pub sigs : (A.width "sigs" ≡ A.param "G") × (A.width "next_sigs" ≡ A.param "G")
+  pub boxes : (A.width "boxes" ≡ A.param "B") × (A.width "next_boxes" ≡ A.param "B")
+  pub more_sigs : A.width "more_sigs" ≡ suc (A.param "G" + A.param "P")
+  pub more_boxes : A.width "more_boxes" ≡ suc (A.param "B" + A.param "P")
+
+module _ (wires : ℕ) (z : Sizes) (some : 0 < wires) (few : 2 * wires < 2 ^ 31) (it : Printable z) where
+  c_some : 0 < channel_bits wires
   c_some = some_bits (channel_bits wires) (2 * wires) (enough_bits (2 * wires)) (omega arith)
 
-  pub c_few : channel_bits wires ≤ 31
+  c_few : channel_bits wires ≤ 31
   c_few = few_bits (2 * wires) 31 (omega arith)
 
-  pub place_some : (n : ℕ) → 0 < place_bits n
+  place_some : (n : ℕ) → 0 < place_bits n
   place_some n = omega arith
 
-  pub place_few : (n : ℕ) → n < 2 ^ 31 → place_bits n ≤ 31
+  place_few : (n : ℕ) → n < 2 ^ 31 → place_bits n ≤ 31
   place_few n h = let l = few_bits (suc n) 31 (omega arith) in omega arith
 
-  pub list_some : (n : ℕ) → 0 < pointer_bits z.cells * max 1 n
-  list_some n = go (max 1 n) (omega arith)
+  list_more : (n : ℕ) → place_bits z.cells < pointer_bits z.cells * max 1 n
+  list_more n = go (max 1 n) (omega arith)
     where
-      go : (m : ℕ) → 0 < m → 0 < pointer_bits z.cells * m
+      go : (m : ℕ) → 0 < m → place_bits z.cells < pointer_bits z.cells * m
       go zero h = absurd (omega arith)
-      go (suc m) h = some_product (place_bits z.cells) m
+      go (suc m) h = least (place_bits z.cells) m
         where
-          some_product : (a b : ℕ) → 0 < suc a * suc b
-          some_product a b = omega arith
+          least : (a b : ℕ) → a < suc a * suc b
+          least a b = omega arith
 
-  declares : (b : Bool) → Sized (param_in (cell_module_with wires start z rows (cell_product b)))
-  declares b = record {
-    C = (c_some, c_few);
-    S = (place_some z.forks, place_few z.forks it.few_forks);
-    P = (place_some z.cells, place_few z.cells it.few_cells);
-    D = (omega arith, (let h = it.few_marks in let t = high in omega arith));
-    G = (list_some z.sigs, it.few_sigs);
-    B = (list_some z.boxes, it.few_boxes);
-    CELLS = (it.cells, it.few_cells);
-    E = (it.forks, it.few_forks);
-  }
+  module _ (P : Scope) (d : Declares P wires z) where
+    sized : Sized P
+    sized = record {
+      C = subst (λ n. (0 < n) × (n ≤ 31)) (sym d.C) (c_some, c_few);
+      S = subst (λ n. (0 < n) × (n ≤ 31)) (sym d.S) (place_some z.forks, place_few z.forks it.few_forks);
+      P = subst (λ n. (0 < n) × (n ≤ 31)) (sym d.P) (place_some z.cells, place_few z.cells it.few_cells);
+      D = subst (λ n. (0 < n) × (n < 2 ^ 31)) (sym d.D) (omega arith, (let h = it.few_marks in let t = high in omega arith));
+      G = list z.sigs d.G it.few_sigs;
+      B = list z.boxes d.B it.few_boxes;
+      CELLS = subst (λ n. (0 < n) × (n < 2 ^ 31)) (sym d.CELLS) (it.cells, it.few_cells);
+      E = subst (λ n. (0 < n) × (n < 2 ^ 31)) (sym d.E) (it.forks, it.few_forks);
+      fork_has = d.fork_has;
+      marks = d.marks;
+      sigs = d.sigs;
+      boxes = d.boxes;
+      more_sigs = d.more_sigs;
+      more_boxes = d.more_boxes;
+    }
+      where
+        list : {x : String} (n : ℕ) → P.param x ≡ pointer_bits z.cells * max 1 n →
+            pointer_bits z.cells * max 1 n + place_bits z.cells < 2 ^ 31 →
+            (P.param "P" < P.param x) × (P.param x + P.param "P" < 2 ^ 31)
+        list n e h =
+            subst (λ k. (P.param "P" < k) × (k + P.param "P" < 2 ^ 31)) (sym e)
+            (subst (λ k. (k < pointer_bits z.cells * max 1 n) × (pointer_bits z.cells * max 1 n + k < 2 ^ 31)) (sym d.P) (list_more n, h))
+
+    -- so its limits are known
+    pub limits_known : (q : String → Bool) → limits_of P q ≡ known (limits_of P q) widths_known positive_known parts_known bits_known
+    limits_known q = knows P q sized
 
   -- the sizes that are declared are small
-  pub chain : (c s p w d g b n e : ℕ) (t : Bool) → small c ≡ true → small s ≡ true → small p ≡ true → small w ≡ true → small d ≡ true →
-      small g ≡ true → small b ≡ true → small n ≡ true → small e ≡ true → 0 < c → t ≡ true →
-      (small c && (small s && (small p && (small w && (small d && (small g && (small b && (small n && (small e &&
-      ((nat_lt 0 c && small c) && t)))))))))) ≡ true
-  chain c s p w d g b n e t c' s' p' w' d' g' b' n' e' o t' =
-      and_from _ _ c' (and_from _ _ s' (and_from _ _ p' (and_from _ _ w' (and_from _ _ d' (and_from _ _ g' (and_from _ _ b'
-      (and_from _ _ n' (and_from _ _ e' (and_from _ _ (and_from _ _ (yes_lt 0 c o) c') t')))))))))
+  pub sizes_small : (t : Bool) → t ≡ true →
+      (small (channel_bits wires) && (small (place_bits z.forks) && (small (place_bits z.cells) && (small (pointer_bits z.cells) &&
+      (small (max 1 z.marks) && (small (pointer_bits z.cells * max 1 z.sigs) && (small (pointer_bits z.cells * max 1 z.boxes) &&
+      (small z.cells && (small z.forks && ((nat_lt 0 (channel_bits wires) && small (channel_bits wires)) && t)))))))))) ≡ true
+  sizes_small t h =
+      let o = high in let pf = place_few z.cells it.few_cells in let sf = place_few z.forks it.few_forks in
+      let fm = it.few_marks in let fs = it.few_sigs in let fb = it.few_boxes in let cf = c_few in
+      let w = small_is (channel_bits wires) (omega arith) in
+      and_from _ _ w (and_from _ _ (small_is (place_bits z.forks) (omega arith)) (and_from _ _ (small_is (place_bits z.cells) (omega arith))
+      (and_from _ _ (small_is (pointer_bits z.cells) (omega arith)) (and_from _ _ (small_is (max 1 z.marks) (omega arith))
+      (and_from _ _ (small_is (pointer_bits z.cells * max 1 z.sigs) (omega arith))
+      (and_from _ _ (small_is (pointer_bits z.cells * max 1 z.boxes) (omega arith))
+      (and_from _ _ (small_is z.cells it.few_cells) (and_from _ _ (small_is z.forks it.few_forks)
+      (and_from _ _ (and_from _ _ (lt-ltb 0 (channel_bits wires) c_some) w) h)))))))))
 
-  module _ (r : (M : Limits) → arms_fit M rows ≡ true) where
-    fits_with : (b : Bool) → items_fit (limits (cell_module_with wires start z rows (cell_product b)))
-        (cell_module_with wires start z rows (cell_product b)) ≡ true
-    fits_with b = ap (λ M. items_fit M (cell_module_with wires start z rows (cell_product b))) (knows _ _ (declares b)) ∙ by_sizes b
-      where
-        by_sizes : (b : Bool) → items_fit (known (limits (cell_module_with wires start z rows (cell_product b))) widths_known positive_known
-            bounds_known) (cell_module_with wires start z rows (cell_product b)) ≡ true
-        by_sizes true =
-            let t = high in let pf = place_few z.cells it.few_cells in let sf = place_few z.forks it.few_forks in
-            let fm = it.few_marks in let fs = it.few_sigs in let fb = it.few_boxes in let cf = c_few in
-            chain (channel_bits wires) (place_bits z.forks) (place_bits z.cells) (pointer_bits z.cells) (max 1 z.marks)
-            (pointer_bits z.cells * max 1 z.sigs) (pointer_bits z.cells * max 1 z.boxes) z.cells z.forks _
-            (small_is _ (omega arith)) (small_is _ (omega arith)) (small_is _ (omega arith)) (small_is _ (omega arith))
-            (small_is _ (omega arith)) (small_is _ (omega arith)) (small_is _ (omega arith)) (small_is _ it.few_cells)
-            (small_is _ it.few_forks) c_some (ap (λ t. t && true) (r _))
-        by_sizes false =
-            let t = high in let pf = place_few z.cells it.few_cells in let sf = place_few z.forks it.few_forks in
-            let fm = it.few_marks in let fs = it.few_sigs in let fb = it.few_boxes in let cf = c_few in
-            chain (channel_bits wires) (place_bits z.forks) (place_bits z.cells) (pointer_bits z.cells) (max 1 z.marks)
-            (pointer_bits z.cells * max 1 z.sigs) (pointer_bits z.cells * max 1 z.boxes) z.cells z.forks _
-            (small_is _ (omega arith)) (small_is _ (omega arith)) (small_is _ (omega arith)) (small_is _ (omega arith))
-            (small_is _ (omega arith)) (small_is _ (omega arith)) (small_is _ (omega arith)) (small_is _ it.few_cells)
-            (small_is _ it.few_forks) c_some (ap (λ t. t && true) (r _))
+module _ (wires start : ℕ) (z : Sizes) (rows : Arms) (some : 0 < wires) (few : 2 * wires < 2 ^ 31) (it : Printable z)
+    (r : (M : Limits) → arms_fit M rows ≡ true) where
+  declares : (b : Bool) → Declares (scope (cell_module_with wires start z rows (cell_product b))) wires z
+  declares b = record {
+    C = refl; S = refl; P = refl; D = refl; G = refl; B = refl; CELLS = refl; E = refl; fork_has = refl; marks = (refl, refl);
+    sigs = (refl, refl); boxes = (refl, refl); more_sigs = refl; more_boxes = refl;
+  }
+
+  fits_with : (b : Bool) → items_fit (limits (cell_module_with wires start z rows (cell_product b)))
+      (cell_module_with wires start z rows (cell_product b)) ≡ true
+  fits_with b =
+      ap (λ M. items_fit M (cell_module_with wires start z rows (cell_product b))) (limits_known wires z some few it _ (declares b) _)
+      ∙ by_sizes b
+    where
+      by_sizes : (b : Bool) →
+          items_fit (known (limits (cell_module_with wires start z rows (cell_product b))) widths_known positive_known parts_known
+          bits_known) (cell_module_with wires start z rows (cell_product b)) ≡ true
+      by_sizes true = sizes_small wires z some few it _ (ap (λ t. t && true) (r _))
+      by_sizes false = sizes_small wires z some few it _ (ap (λ t. t && true) (r _))
 
 -- a net in range has a wire
 pub has_wire : (net : NetTree) → InRange net → 0 < length net.wires

@@ -5,7 +5,7 @@ mod Apart
 -- a module that the standard takes
 pub mod WellFormed
 -- the lists of a net's sizes have room for each wire
-mod Sizes
+pub mod Sizes
 -- a channel has room in its field
 pub mod Channels
 -- its numbers and sizes fit, and it is in order

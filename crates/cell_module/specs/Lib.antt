@@ -8,5 +8,5 @@ pub mod Sizes
 pub mod Parts
 -- What is written isn't read by the next row: the statements of `law_apart`.
 pub mod Apart
--- The statement of `law_cell_well_formed`.
+-- The statements of `law_cell_well_formed` and `law_sizes_print`.
 pub mod Laws

@@ -1,12 +1,12 @@
 //! What holds of the module over cells whatever its registers hold.
 
-ghost use Rattle.cell_module.specs.Laws.{CellModuleIsWellFormed};
+ghost use Rattle.cell_module.specs.Laws.{CellModuleIsWellFormed, SizesPrint};
 ghost use Rattle.cell_module.specs.Parts.{RowsSetWords, RowsSetLiterals, MemoriesHavePlaces};
 ghost use Rattle.cell_module.specs.Apart.{CellsApart, ForksApart, QuestionsApart};
 ghost use Rattle.cell_module.specs.Sizes.{SizesCover};
 
-/// The module of every net in range, of sizes that can be printed, declares each name once and above its use, and uses it as what it is; has one driver for
-/// each; and has no latch.
+/// The module of every net in range, of sizes that can be printed, is one that the standard takes: it declares each name once and above its
+/// use, and uses it as what it is; has one driver for each; has no latch and no circle; and keeps to what it declares.
 pub fn law_cell_well_formed()
     ensures { CellModuleIsWellFormed }
 {}
@@ -25,6 +25,11 @@ pub fn law_apart()
     ensures cells { CellsApart }
     ensures forks { ForksApart }
     ensures questions { QuestionsApart }
+{}
+
+/// The sizes of every net's circuit can be printed, with from 1 to 1048575 cells and from 1 to fewer than 2 ^ 31 forks.
+pub fn law_sizes_print()
+    ensures { SizesPrint }
 {}
 
 /// Where no wire's type and depth ask for more than a list may have, the lists of a net's sizes have room for each wire.

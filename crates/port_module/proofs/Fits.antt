@@ -1,37 +1,35 @@
 -- The module with ports is well formed: `law_port_well_formed`. It is in order, and its numbers and sizes fit.
-use Rattle.std.proofs.Common.{◌≡◌, ℕ, zero, suc, ◌+◌, ◌-◌, ◌*◌, ◌^◌, ◌<◌, ◌≤◌, max, Bool, true, false, not, ◌&&◌, ◌||◌, List, [], ◌∷◌, ◌++◌}
-use Rattle.std.proofs.Common.{length, Option, Some, None, refl, ap, sym, subst, ◌∙◌, arith, nat_eq, nat_lt, nat_le}
-use Rattle.std.proofs.lemmas.Bool.{and_from, and_parts, lt-ltb, le-leb, eqb-true}
+use Rattle.std.proofs.Common.{◌≡◌, ℕ, zero, suc, ◌*◌, ◌^◌, ◌<◌, Bool, true, false, not, ◌&&◌, ◌||◌, List, [], ◌∷◌, ◌++◌}
+use Rattle.std.proofs.Common.{length, Option, Some, None, refl, ap, ◌∙◌}
+use Rattle.std.proofs.lemmas.Bool.{and_from}
 use Prim.Native.String.{String}
-use lib.Dec.{T}
-use lib.Text.{eqt, eqt→eq}
-use Rattle.pcf_values.specs.declared.operator.Operator.{Operator}
+use lib.Text.{eqt}
 use Rattle.net_build.specs.Nets.{NetTree}
 use Rattle.interleave_laws.specs.Start.{start_of}
 use Rattle.net_rows.specs.Rows.{Channel, rises, falls, number, Row, GO, CONST, SUCC, PRED, TEST, FORK, JOIN, ANSWER, STAR, UNSTAR, LEFT}
 use Rattle.net_rows.specs.Rows.{RIGHT, CON, PUSHR, PUSHL, SELECT, POP, BOXIN, BOXOUT, DOOROUT, DOORIN, FIXIN, FIXOUT, FIXVAR, DEAD}
 use Rattle.net_rows.specs.Rows.{row_of, channel_of}
-use Rattle.verilog_tree.specs.Tree.{Size, count, named, more, less, Arms, Item, Expr, Stmt, clocked, note, gap, size, constant, input, output, reg, memory, wire, settles}
-use Rattle.verilog_tree.specs.Meaning.{amount, param_in}
+use Rattle.verilog_tree.specs.Tree.{count, Arms, Item, Stmt, clocked, note, gap, size, constant, input, output, reg, memory, wire}
+use Rattle.verilog_tree.specs.Tree.{settles}
+use Rattle.verilog_tree.specs.Meaning.{Scope, chosen, scope}
+use Rattle.verilog_tree.specs.Print.{parts_text}
+use Rattle.verilog_tree.specs.WellFormed.{block_reads, arms_read, in_order, small, Limits, limits_of, limits, plain, size_in, stmt_fits}
+use Rattle.verilog_tree.specs.WellFormed.{arms_fit, items_fit, outside, settling}
+use Rattle.verilog_tree.proofs.Alike.{SameScope}
 use Rattle.cell_core.specs.Sizes.{Sizes}
-use Rattle.circuit_module.specs.Sizes.{bits_for, channel_bits}
-use Rattle.circuit_module.proofs.Sizes.{few_bits, enough_bits}
 use Rattle.circuit_module.specs.InRange.{Named, RowFits, InRange}
-use Rattle.circuit_module.specs.Module.{row_stmt, row_arm, row_arms, multiplies}
-use Rattle.cell_module.specs.Module.{place_bits, pointer_bits}
-use Rattle.cell_module.specs.Fixed.{cell_ports, next_row_block}
 use Rattle.circuit_module.specs.Fixed.{block}
-use Rattle.port_module.specs.Names.{arg_name, held_name}
-use Rattle.port_module.specs.Module.{port_at, held_stmt, constant_stmt, port_stmt, port_arm, port_arms, arg_inputs, arg_notes, held_regs}
-use Rattle.port_module.specs.Module.{held_registers, held_sets, Parts, parts_of, port_clock, port_module}
-use Rattle.port_module.proofs.Names.{none_of_own, all_own}
-use Rattle.port_module.proofs.WellFormed.{declarations, ways, wires_of, behind, ported, ported_is, declared_once}
-use Rattle.verilog_tree.specs.WellFormed.{reads, block_reads, arms_read, in_order, small, size_fits, Limits, limits, size_in, stmt_fits, arms_fit, items_fit}
-use Rattle.verilog_tree.specs.WellFormed.{outside, settling}
-use Rattle.port_module.specs.Laws.{PortModuleIsWellFormed}
+use Rattle.circuit_module.specs.Module.{place_said, multiplies}
 use Rattle.cell_module.specs.Laws.{Printable}
-use Rattle.cell_module.proofs.Fits.{known, widths_known, positive_known, bounds_known, Sized, knows, small_is, high, chain, has_wire}
-use Rattle.cell_module.proofs.Fits.{low, row_fits, c_some, c_few, place_some, place_few, list_some}
+use Rattle.cell_module.proofs.Fits.{low, row_fits, place_plain, known, widths_known, positive_known, parts_known, bits_known, Declares}
+use Rattle.cell_module.proofs.Fits.{limits_known, sizes_small, has_wire}
+use Rattle.port_module.specs.Names.{held_name}
+use Rattle.port_module.specs.Module.{port_at, constant_stmt, port_stmt, port_arm, port_arms, arg_inputs, arg_notes, held_regs}
+use Rattle.port_module.specs.Module.{held_registers, held_sets, parts_of, port_clock, port_module_with}
+use Rattle.port_module.specs.Laws.{PortModuleIsWellFormed}
+use Rattle.port_module.proofs.Names.{own, none_of_own, all_own}
+use Rattle.port_module.proofs.Scopes as scopes
+use Rattle.port_module.proofs.WellFormed.{declarations, wires_of, behind, ported, ported_is, declared_once}
 
 -- ---- rows
 
@@ -71,7 +69,8 @@ module _ (L : Limits) (W : ℕ) (few : 2 * W < 2 ^ 31) where
       ((p : ℕ × Row) → o ≡ Some p → Named W c) → arms_fit L rest ≡ true → arms_fit L (port_arm ps c o rest) ≡ true
   arm_fits ps c None rest f g h = h
   arm_fits ps c (Some r) rest f g h =
-      and_from (small (number c)) (stmt_fits L (port_stmt ps r.0 r.1) && arms_fit L rest) (low L W few c (g r refl))
+      and_from (small (number c) && plain (parts_text (place_said c r.0))) (stmt_fits L (port_stmt ps r.0 r.1) && arms_fit L rest)
+      (and_from (small (number c)) (plain (parts_text (place_said c r.0))) (low L W few c (g r refl)) (place_plain c r.0))
       (and_from (stmt_fits L (port_stmt ps r.0 r.1)) (arms_fit L rest) (port_fits ps r.0 r.1 (f r refl)) h)
 
 rows_fit : (L : Limits) (net : NetTree) → InRange net → (ps : List ℕ) (w n : ℕ) → arms_fit L (port_arms ps net w n) ≡ true
@@ -146,14 +145,6 @@ held_order : (n : ℕ) (js : List Item) → in_order (held_registers n ++ js) �
 held_order zero js = refl
 held_order (suc n) js = regs_order 0 (suc n) js
 
-args_param : (x : String) (i n : ℕ) (js : List Item) → param_in (arg_inputs i n ++ js) x ≡ param_in js x
-args_param x i zero js = refl
-args_param x i (suc n) js = args_param x (suc i) n js
-
-notes_param : (x : String) (n : ℕ) (js : List Item) → param_in (arg_notes n ++ js) x ≡ param_in js x
-notes_param x zero js = refl
-notes_param x (suc n) js = refl
-
 args_size : (x : String) (i n : ℕ) (js : List Item) → size_in (arg_inputs i n ++ js) x ≡ size_in js x
 args_size x i zero js = refl
 args_size x i (suc n) js = args_size x (suc i) n js
@@ -170,6 +161,7 @@ held_size : (x : String) (n : ℕ) (js : List Item) → size_in (held_registers 
 held_size x zero js = refl
 held_size x (suc n) js = regs_size x 0 (suc n) js
 
+-- nor do the registers behind other items
 front_size : (x : String) (is js ks : List Item) → size_in js x ≡ size_in ks x → size_in (is ++ js) x ≡ size_in (is ++ ks) x
 front_size x [] js ks e = e
 front_size x (size y n ∷ is) js ks e = ap (λ b. eqt y x || b) (front_size x is js ks e)
@@ -210,13 +202,13 @@ clock_fits : (M : Limits) (n : ℕ) (s : Stmt) → stmt_fits M s ≡ true → st
 clock_fits M zero s h = h
 clock_fits M (suc n) s h = and_from _ _ h (and_from _ _ (sets_fit M 0 (suc n)) refl)
 
-abbrev limits_of : (String → ℕ) → (String → Bool) → Limits
-limits_of p q = record {
-  fits = size_fits p;
-  positive = λ k. nat_lt 0 (amount p k) && size_fits p k;
-  bounds = λ h l. nat_le (amount p l) (amount p h) && (size_fits p h && size_fits p l);
-  is_size = q;
-}
+-- what is the same of own names is that of either
+mixed_is : (f g : String → ℕ) → ((x : String) → own x ≡ true → f x ≡ g x) → f ≡ λ x. chosen (own x) (g x) (f x)
+mixed_is f g h = λ i x. go x (own x) refl i
+  where
+    go : (x : String) (b : Bool) → own x ≡ b → f x ≡ chosen b (g x) (f x)
+    go x true e = h x e
+    go x false e = refl
 
 -- the limits of the module, and that what it declares keeps within them
 module _ (wires start : ℕ) (z : Sizes) (rows : Arms) (some : 0 < wires) (few : 2 * wires < 2 ^ 31) (it : Printable z) where
@@ -233,41 +225,46 @@ module _ (wires start : ℕ) (z : Sizes) (rows : Arms) (some : 0 < wires) (few :
       abbrev all : List Item
       all = ported (parts_of late m) n wires start z rows
 
-      same_param : param_in all ≡ param_in (D ++ (held_registers n ++ back))
-      same_param = λ i x. (args_param x 0 n (arg_notes n ++ (D ++ (held_registers n ++ back)))
-          ∙ notes_param x n (D ++ (held_registers n ++ back))) i
+      -- the same without ports
+      abbrev plain_one : List Item
+      plain_one = port_module_with (parts_of late m) 0 wires start z rows
+
+      abbrev mixed : Scope
+      mixed = record {
+        width = λ x. chosen (own x) ((scope plain_one).width x) ((scope all).width x);
+        words = λ x. chosen (own x) ((scope plain_one).words x) ((scope all).words x);
+        param = λ x. chosen (own x) ((scope plain_one).param x) ((scope all).param x);
+      }
 
       same_sizes : size_in all ≡ size_in (D ++ back)
       same_sizes = λ i x. (args_size x 0 n (arg_notes n ++ (D ++ (held_registers n ++ back)))
           ∙ (notes_size x n (D ++ (held_registers n ++ back)) ∙ front_size x D (held_registers n ++ back) back (held_size x n back))) i
 
       -- its limits
-      same_limits : limits all ≡ limits_of (param_in (D ++ (held_registers n ++ back))) (size_in (D ++ back))
-      same_limits = λ i. limits_of (same_param i) (same_sizes i)
+      limits_mixed : SameScope own (scope all) (scope plain_one) → limits all ≡ limits_of mixed (size_in (D ++ back))
+      limits_mixed h =
+          let w = mixed_is (scope all).width (scope plain_one).width h.width in
+          let k = mixed_is (scope all).words (scope plain_one).words h.words in
+          let p = mixed_is (scope all).param (scope plain_one).param h.param in
+          λ i. limits_of record { width = w i; words = k i; param = p i } (same_sizes i)
+
+    same_limits : (late m : Bool) → limits (all late m) ≡ limits_of (mixed late m) (size_in (D late m ++ back late m))
+    same_limits false m =
+        limits_mixed false m (scopes.same_scope (parts_of false m) (scopes.known false m) n wires start z rows rows)
+    same_limits true m =
+        limits_mixed true m (scopes.same_scope (parts_of true m) (scopes.known true m) n wires start z rows rows)
 
     is_held : (xs : List String) → all_own xs ≡ true → (j : ℕ) → outside xs (held_name j) ≡ true
     is_held xs a j = ap not (none_of_own (held_name j) refl xs a)
 
-    declares : (late m : Bool) → Sized (param_in (D late m ++ (held_registers n ++ back late m)))
+    declares : (late m : Bool) → Declares (mixed late m) wires z
     declares false m = record {
-      C = ((c_some wires start z rows some few it), (c_few wires start z rows some few it));
-      S = (place_some wires start z rows some few it z.forks, place_few wires start z rows some few it z.forks it.few_forks);
-      P = (place_some wires start z rows some few it z.cells, place_few wires start z rows some few it z.cells it.few_cells);
-      D = (omega arith, (let h = it.few_marks in let t = high in omega arith));
-      G = (list_some wires start z rows some few it z.sigs, it.few_sigs);
-      B = (list_some wires start z rows some few it z.boxes, it.few_boxes);
-      CELLS = (it.cells, it.few_cells);
-      E = (it.forks, it.few_forks);
+      C = refl; S = refl; P = refl; D = refl; G = refl; B = refl; CELLS = refl; E = refl; fork_has = refl; marks = (refl, refl);
+      sigs = (refl, refl); boxes = (refl, refl); more_sigs = refl; more_boxes = refl;
     }
     declares true m = record {
-      C = ((c_some wires start z rows some few it), (c_few wires start z rows some few it));
-      S = (place_some wires start z rows some few it z.forks, place_few wires start z rows some few it z.forks it.few_forks);
-      P = (place_some wires start z rows some few it z.cells, place_few wires start z rows some few it z.cells it.few_cells);
-      D = (omega arith, (let h = it.few_marks in let t = high in omega arith));
-      G = (list_some wires start z rows some few it z.sigs, it.few_sigs);
-      B = (list_some wires start z rows some few it z.boxes, it.few_boxes);
-      CELLS = (it.cells, it.few_cells);
-      E = (it.forks, it.few_forks);
+      C = refl; S = refl; P = refl; D = refl; G = refl; B = refl; CELLS = refl; E = refl; fork_has = refl; marks = (refl, refl);
+      sigs = (refl, refl); boxes = (refl, refl); more_sigs = refl; more_boxes = refl;
     }
 
     -- all of it is in order
@@ -290,22 +287,8 @@ module _ (wires start : ℕ) (z : Sizes) (rows : Arms) (some : 0 < wires) (few :
         ∙ (front_order late m ∙ (held_order n (back late m) ∙ rest_order late m)))
 
     -- and fits
-    sizes_chain : (t : Bool) → t ≡ true →
-        (small (channel_bits wires) && (small (place_bits z.forks) && (small (place_bits z.cells) && (small (pointer_bits z.cells) &&
-        (small (max 1 z.marks) && (small (pointer_bits z.cells * max 1 z.sigs) && (small (pointer_bits z.cells * max 1 z.boxes) &&
-        (small z.cells && (small z.forks && ((nat_lt 0 (channel_bits wires) && small (channel_bits wires)) && t)))))))))) ≡ true
-    sizes_chain t h =
-        let o = high in let pf = place_few wires start z rows some few it z.cells it.few_cells in let sf = place_few wires start z rows some few it z.forks it.few_forks in
-        let fm = it.few_marks in let fs = it.few_sigs in let fb = it.few_boxes in let cf = (c_few wires start z rows some few it) in
-        chain wires start z rows some few it (channel_bits wires) (place_bits z.forks) (place_bits z.cells) (pointer_bits z.cells) (max 1 z.marks)
-        (pointer_bits z.cells * max 1 z.sigs) (pointer_bits z.cells * max 1 z.boxes) z.cells z.forks t
-        (small_is _ (omega arith)) (small_is _ (omega arith)) (small_is _ (omega arith)) (small_is _ (omega arith))
-        (small_is _ (omega arith)) (small_is _ (omega arith)) (small_is _ (omega arith)) (small_is _ it.few_cells)
-        (small_is _ it.few_forks) (c_some wires start z rows some few it) h
-
     abbrev K : Bool → Bool → Limits
-    K late m = known (limits_of (param_in (D late m ++ (held_registers n ++ back late m))) (size_in (D late m ++ back late m)))
-        widths_known positive_known bounds_known
+    K late m = known (limits_of (mixed late m) (size_in (D late m ++ back late m))) widths_known positive_known parts_known bits_known
 
     rest_fits : (late m : Bool) → items_fit (K late m) (back late m) ≡ true
     rest_fits false false = and_from _ _ (r _) (and_from _ _ (clock_fits (K false false) n (parts_of false false).clock refl) refl)
@@ -314,12 +297,12 @@ module _ (wires start : ℕ) (z : Sizes) (rows : Arms) (some : 0 < wires) (few :
 
     front_fits : (late m : Bool) → items_fit (K late m) (held_registers n ++ back late m) ≡ true →
         items_fit (K late m) (D late m ++ (held_registers n ++ back late m)) ≡ true
-    front_fits false m h = sizes_chain _ h
-    front_fits true m h = sizes_chain _ h
+    front_fits false m h = sizes_small wires z some few it _ h
+    front_fits true m h = sizes_small wires z some few it _ h
 
     fits : (late m : Bool) → items_fit (limits (all late m)) (all late m) ≡ true
     fits late m =
-        ap (λ M. items_fit M (all late m)) (same_limits late m ∙ knows _ _ (declares late m))
+        ap (λ M. items_fit M (all late m)) (same_limits late m ∙ limits_known wires z some few it (mixed late m) (declares late m) _)
         ∙ (args_fit (K late m) refl 0 n (arg_notes n ++ (D late m ++ (held_registers n ++ back late m)))
         ∙ (notes_fit (K late m) refl n (D late m ++ (held_registers n ++ back late m))
         ∙ front_fits late m (held_fit (K late m) refl n (back late m) ∙ rest_fits late m)))

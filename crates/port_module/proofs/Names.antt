@@ -8,16 +8,10 @@ use Prim.Native.String.{String}
 use lib.Dec.{T}
 use lib.Text.{eqt, eqt_refl}
 use Rattle.verilog_tree.specs.Names.{text_of}
-use Rattle.verilog_tree.specs.WellFormed.{member, letter, letters, keywords, identifier}
+use Rattle.verilog_tree.specs.WellFormed.{begins, member, letter, letters, keywords, identifier}
 use Rattle.verilog_tree.proofs.Names.{codes_more}
 use Rattle.verilog_tree.proofs.Own.{apart_names, foreign, turned}
 use Rattle.port_module.specs.Names.{arg_name, held_name}
-
--- these bytes begin so
-abbrev begins : List ℕ → List ℕ → Bool
-begins [] cs = true
-begins (p ∷ ps) [] = false
-begins (p ∷ ps) (c ∷ cs) = nat_eq p c && begins ps cs
 
 -- a name that is no port's and no register's that holds one
 abbrev pub own : String → Bool

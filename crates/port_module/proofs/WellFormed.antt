@@ -1,5 +1,6 @@
--- In the module of a net with ports each name is declared once, and used as what it is, as `WellFormed` asks it. In the module without ports is, whether its numbers
--- may be late or not. What is right there is right here too, and the ports and the registers that hold them are new names.
+-- In the module of a net with ports each name is declared once, and used as what it is, as `WellFormed` asks it. So it is in the module
+-- without ports, whether its numbers may be late or not: what is right there is right here too, and the ports and the registers that hold
+-- them are new names.
 use Rattle.std.proofs.Common.{◌≡◌, ◌<◌, ◌≤◌, ◌+◌, ◌^◌, ℕ, zero, suc, Bool, true, false, not, cond, ◌&&◌, ◌||◌, List, [], ◌∷◌, ◌++◌, length}
 use Rattle.std.proofs.Common.{Option, Some, None, refl, ap, sym, subst, ◌∙◌, arith, ⊎_elim}
 use Rattle.std.specs.Prelude.{nat_eq}
@@ -277,7 +278,8 @@ ported_is false net z ps = refl
 ported_is true net z ps = refl
 
 -- in the module without ports each name is declared once, and used as what it is
-plain_ok : (late : Bool) (net : NetTree) (z : Sizes) → (ports_first (plain_module late net z) && items_ok [] [] (plain_module late net z)) ≡ true
+plain_ok : (late : Bool) (net : NetTree) (z : Sizes) →
+    (ports_first (plain_module late net z) && items_ok [] [] (plain_module late net z)) ≡ true
 plain_ok false net z = cell.declared_once net z
 plain_ok true net z = late_one.declared_once net z
 

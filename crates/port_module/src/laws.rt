@@ -7,8 +7,9 @@ pub fn law_no_ports()
     ensures { NoPorts }
 {}
 
-/// The module of every net in range, of sizes that can be printed and with whatever places, declares each name once and above its use, and uses it as what it
-/// is; has one driver for each; and has no latch.
+/// The module of every net in range, of sizes that can be printed and with whatever places, is one that the standard takes: it declares
+/// each name once and above its use, and uses it as what it is; has one driver for each; has no latch and no circle; and keeps to what it
+/// declares.
 pub fn law_port_well_formed()
     ensures { PortModuleIsWellFormed }
 {}
