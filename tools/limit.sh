@@ -9,7 +9,9 @@ limit() {
         esac
         ulimit -v $((GOI_MEMORY * 1024))
     else
-        kib=$(sed -n 's/^MemTotal: *\([0-9]*\) kB$/\1/p' /proc/meminfo 2>/dev/null)
+        # (its first line is the machine's memory, in KiB)
+        kib=
+        [ ! -r /proc/meminfo ] || read -r name kib unit </proc/meminfo
         [ -z "$kib" ] || ulimit -v $((kib / 4 * 3))
     fi
 }
