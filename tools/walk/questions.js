@@ -1,4 +1,4 @@
-// Who waits for what: the tree of questions of docs/ADEQUACY.md, folded from the lines of a run. A frame is a question that waits: the
+// Who waits for what: the tree of questions of docs/WHY.md, folded from the lines of a run. A frame is a question that waits: the
 // program's, an application's, a use of a variable's, a test's, an operator's. A hole is a side of a frame, and each token is in one.
 // For an answer comes back the way that its question went, so that what was asked last is answered first, but for the sides of a fork.
 
