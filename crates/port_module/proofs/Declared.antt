@@ -15,7 +15,8 @@ use Rattle.verilog_tree.specs.WellFormed.{member, apart, identifier, said_ok, ta
 use Rattle.verilog_tree.specs.WellFormed.{sets_first, first_reads, target_ok, stmt_ok, arms_ok, targets, declare, declared, driven}
 use Rattle.verilog_tree.specs.WellFormed.{number_width, item_ok, items_ok, all_declared}
 use Rattle.verilog_tree.proofs.Alike as alike
-use Rattle.port_module.proofs.Names.{own, own_foreign, foreign_own, later, same_name}
+use Rattle.verilog_tree.proofs.Own.{same_name}
+use Rattle.port_module.proofs.Names.{own, own_foreign, foreign_own, later}
 
 -- all names are own
 abbrev own_size : Size → Bool

@@ -24,6 +24,7 @@ use Rattle.cell_module.proofs.Channels.{channel_fits}
 use Rattle.open_net_laws.specs.Numbers.{given, with_numbers}
 use Rattle.verilog_tree.proofs.Alike as alike
 use Rattle.verilog_tree.proofs.Lists.{settled_append, clocked_over, idle_unclocked, settled_past, own_of, unclocked_of, own_kept}
+use Rattle.verilog_tree.proofs.Own.{off_either}
 use Rattle.port_module.specs.Names.{arg_name, held_name}
 use Rattle.port_module.specs.Module.{port_at, constant_stmt, port_stmt, port_arm, port_arms, arg_inputs, arg_notes, held_registers}
 use Rattle.port_module.specs.Module.{Parts, parts_of, port_clock, port_module_with, plain_module}
@@ -93,10 +94,6 @@ one_number (rises w) (falls v) e = absurd (omega (arith, e))
 one_number (falls w) (rises v) e = absurd (omega (arith, e))
 one_number (falls w) (falls v) e = let z : w ≡ v = omega (arith, e) in ap falls z
 
-or_none : (b : Bool) → (b || false) ≡ true → b ≡ true
-or_none true h = refl
-or_none false h = h
-
 module _ (P Q : Scope) (same : alike.SameScope own P Q) (ps vs : List ℕ) where
   module _ (S T : Store) (agreed : Same S T) where
     -- a constant's row sets the number that is held, as the row of the number does
@@ -138,7 +135,7 @@ module _ (P Q : Scope) (same : alike.SameScope own P Q) (ps vs : List ℕ) where
       arm_same c (Some r) h arms rest g =
           alike.either_same own (nat_eq m (number c) || false) (nat_eq m (number c) || false) _ _ _ _ refl
           (λ e. stmt_same r.0 r.1 (λ n d q. h r.0 n d (ap (λ s. Some (r.0, s)) q)
-          (sym (eqb-true m (number c) (or_none (nat_eq m (number c)) e))))) (λ e. g)
+          (sym (eqb-true m (number c) (off_either (nat_eq m (number c)) e))))) (λ e. g)
 
       -- the row that is found is the same, where its number is held if it is a port's
       found_same : (net : NetTree) → ((c : Channel) (k n : ℕ) (d : Channel) → row_of net c ≡ Some (k, CONST n d) → number c ≡ m →

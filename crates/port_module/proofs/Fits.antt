@@ -259,12 +259,36 @@ module _ (wires start : ℕ) (z : Sizes) (rows : Arms) (some : 0 < wires) (few :
 
     declares : (late m : Bool) → Declares (mixed late m) wires z
     declares false m = record {
-      C = refl; S = refl; P = refl; D = refl; G = refl; B = refl; CELLS = refl; E = refl; fork_has = refl; marks = (refl, refl);
-      sigs = (refl, refl); boxes = (refl, refl); more_sigs = refl; more_boxes = refl;
+      C = refl;
+      S = refl;
+      P = refl;
+      D = refl;
+      G = refl;
+      B = refl;
+      CELLS = refl;
+      E = refl;
+      fork_has = refl;
+      marks = (refl, refl);
+      sigs = (refl, refl);
+      boxes = (refl, refl);
+      more_sigs = refl;
+      more_boxes = refl;
     }
     declares true m = record {
-      C = refl; S = refl; P = refl; D = refl; G = refl; B = refl; CELLS = refl; E = refl; fork_has = refl; marks = (refl, refl);
-      sigs = (refl, refl); boxes = (refl, refl); more_sigs = refl; more_boxes = refl;
+      C = refl;
+      S = refl;
+      P = refl;
+      D = refl;
+      G = refl;
+      B = refl;
+      CELLS = refl;
+      E = refl;
+      fork_has = refl;
+      marks = (refl, refl);
+      sigs = (refl, refl);
+      boxes = (refl, refl);
+      more_sigs = refl;
+      more_boxes = refl;
     }
 
     -- all of it is in order

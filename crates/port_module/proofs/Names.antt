@@ -2,11 +2,10 @@
 use Rattle.std.proofs.Common.{◌≡◌, ◌<◌, ◌≤◌, ◌+◌, ◌%◌, ◌^◌, ◌++◌, ℕ, suc, Bool, true, false, not, ◌&&◌, ◌||◌, List, [], ◌∷◌, get_or}
 use Rattle.std.proofs.Common.{codes, decimal, drop, refl, ap, subst, sym, ◌∙◌, arith, ⊎_elim}
 use Rattle.std.specs.Prelude.{nat_eq, nat_le}
-use Rattle.std.proofs.lemmas.Bool.{and_parts, and_from, cases_lt, le-leb, leb-true, or_right, true_from_ne_false}
+use Rattle.std.proofs.lemmas.Bool.{and_parts, and_from, cases_lt, le-leb, leb-true, or_right}
 use Rattle.std.proofs.lemmas.Fmt.{decimal_injective, decimal_by_steps}
 use Prim.Native.String.{String}
-use lib.Dec.{T}
-use lib.Text.{eqt, eqt_refl}
+use lib.Text.{eqt}
 use Rattle.verilog_tree.specs.Names.{text_of}
 use Rattle.verilog_tree.specs.WellFormed.{begins, member, letter, letters, keywords, identifier}
 use Rattle.verilog_tree.proofs.Names.{codes_more}
@@ -20,9 +19,6 @@ own x = not (begins (codes "arg") (codes x)) && not (begins (codes "held") (code
 -- a number that isn't the least of some is above it
 pub later : (i j : ℕ) → i ≤ j → (i ≡ j → ⊥) → suc i ≤ j
 later i j l d = ⊎_elim (λ h. h) (λ h. absurd (d (omega (arith, l, h)))) (cases_lt i j)
-
-pub same_name : (x : String) → eqt x x ≡ true
-same_name x = true_from_ne_false (eqt x x) (λ e. subst T e (eqt_refl x))
 
 -- a name of the one kind isn't one of the other
 pub foreign_own : (x y : String) → own x ≡ false → own y ≡ true → eqt x y ≡ false

@@ -12,7 +12,8 @@ use Rattle.open_net_laws.specs.Numbers.{given}
 use Rattle.port_module.specs.Names.{arg_name, held_name}
 use Rattle.port_module.specs.Module.{port_at, held_sets, port_clock}
 use Rattle.port_module.specs.Edges.{set_args}
-use Rattle.port_module.proofs.Names.{own, foreign_own, arg_held, args_apart, helds_apart, later, same_name}
+use Rattle.verilog_tree.proofs.Own.{same_name}
+use Rattle.port_module.proofs.Names.{own, foreign_own, arg_held, args_apart, helds_apart, later}
 use Rattle.verilog_tree.proofs.Alike as alike
 
 -- agreeing on own names

@@ -16,7 +16,8 @@ use Rattle.cell_module.specs.Fixed.{number_wires}
 use Rattle.cell_module.specs.Module.{cell_sizes, cell_product}
 use Rattle.port_module.specs.Names.{held_name}
 use Rattle.port_module.specs.Module.{arg_inputs, arg_notes, held_regs, held_registers, Parts, parts_of, port_clock, port_module_with}
-use Rattle.port_module.proofs.Names.{own, own_foreign, arg_held, later, same_name}
+use Rattle.verilog_tree.proofs.Own.{same_name}
+use Rattle.port_module.proofs.Names.{own, own_foreign, arg_held, later}
 use Rattle.verilog_tree.proofs.Alike as alike
 use Rattle.verilog_tree.proofs.Declares.{foreign_items, param_front, param_over, width_front, words_front, words_over}
 use Rattle.verilog_tree.proofs.Declares as declares

@@ -24,7 +24,8 @@ use Rattle.late_module.proofs.WellFormed as late_one
 use Rattle.port_module.specs.Names.{arg_name, held_name}
 use Rattle.port_module.specs.Module.{port_at, held_stmt, constant_stmt, port_stmt, port_arm, port_arms, arg_inputs, arg_notes, held_regs}
 use Rattle.port_module.specs.Module.{held_registers, held_sets, Parts, parts_of, port_clock, port_module, plain_module}
-use Rattle.port_module.proofs.Names.{arg_held, held_arg, args_apart, helds_apart, same_name, arg_identifier, held_identifier}
+use Rattle.verilog_tree.proofs.Own.{same_name}
+use Rattle.port_module.proofs.Names.{arg_held, held_arg, args_apart, helds_apart, arg_identifier, held_identifier}
 use Rattle.port_module.proofs.Names.{all_own, later, none_of_own}
 use Rattle.port_module.proofs.Cases.{by_row}
 use Rattle.port_module.proofs.Declared.{own_stmt, own_items, SameEnv, same_env, all_driven, front_ok, stmt_same, item_same}

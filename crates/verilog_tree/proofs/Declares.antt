@@ -1,7 +1,7 @@
 -- What lists of items declare: what stands in front says the same of own names in both modules, and items that declare other names alone
 -- say nothing of them, and write none.
 use Rattle.std.proofs.Common.{◌≡◌, ℕ, suc, Bool, true, false, not, ◌&&◌, List, [], ◌∷◌, ◌++◌, refl, ap, sym, ◌∙◌}
-use Rattle.std.proofs.lemmas.Bool.{and_parts}
+use Rattle.std.proofs.lemmas.Bool.{and_parts, not-true}
 use Prim.Native.String.{String}
 use Rattle.verilog_tree.specs.Tree.{Expr, Size, Width, upto, Item, note, gap, size, constant, input, output, reg, memory, wire}
 use Rattle.verilog_tree.specs.Tree.{settles, clocked}
@@ -126,13 +126,9 @@ module _ (own : String → Bool) where
   foreign_items [] = true
   foreign_items (i ∷ is) = foreign_item i && foreign_items is
 
-  is_no : (b : Bool) → not b ≡ true → b ≡ false
-  is_no true h = absurd cc
-  is_no false h = refl
-
   -- they say nothing of own names
   foreign_here : (y x : String) (n m k : ℕ) → not (own y) ≡ true → own x ≡ true → m ≡ k → named_here y x n m ≡ k
-  foreign_here y x n m k f a h = ap (λ b. elim b [ true ↦ n | false ↦ m ]) (turned own y x (is_no (own y) f) a) ∙ h
+  foreign_here y x n m k f a h = ap (λ b. elim b [ true ↦ n | false ↦ m ]) (turned own y x (not-true (own y) f) a) ∙ h
 
   pub param_over : (is : List Item) → foreign_items is ≡ true → (js : List Item) (x : String) → param_in (is ++ js) x ≡ param_in js x
   param_over [] o js x = refl
@@ -186,7 +182,7 @@ module _ (own : String → Bool) where
   pub foreign_set : (y : String) → not (own y) ≡ true → (n : ℕ) (S T : Store) → alike.SameStore own S T →
       alike.SameStore own (set_vec y n S) T
   foreign_set y f n S T h = record {
-    vec = λ x a. ap (λ b. chosen b n (S.vec x)) (turned own y x (is_no (own y) f) a) ∙ h.vec x a;
+    vec = λ x a. ap (λ b. chosen b n (S.vec x)) (turned own y x (not-true (own y) f) a) ∙ h.vec x a;
     mem = h.mem;
     stray = h.stray;
   }

@@ -42,7 +42,7 @@ abbrev mutual
   calm_arms (otherwise s) = calm s
   calm_arms (arm es s c arms) = calm s && calm_arms arms
 
-other_name : (b : Bool) (n m : ℕ) → not b ≡ true → chosen b n m ≡ m
+pub other_name : (b : Bool) (n m : ℕ) → not b ≡ true → chosen b n m ≡ m
 other_name true n m h = absurd cc
 other_name false n m h = refl
 

@@ -6,6 +6,7 @@ use lib.Text.{eqt}
 use Rattle.verilog_tree.specs.Tree.{Expr, Target, whole, word_at, Stmt, skip, put, seq, branch, cases}
 use Rattle.verilog_tree.specs.Meaning.{Scope, Store, chosen, holds, write, fire}
 use Rattle.verilog_tree.proofs.Frames.{either_store}
+use Rattle.verilog_tree.proofs.Frames.{other_name}
 
 abbrev misses : String → Target → Bool
 misses x (whole y) = not (eqt y x)
@@ -19,13 +20,9 @@ spares x (seq s t) = spares x s && spares x t
 spares x (branch e s t) = spares x s && spares x t
 spares x (cases e arms) = false
 
-other : (b : Bool) (n m : ℕ) → not b ≡ true → chosen b n m ≡ m
-other true n m h = absurd cc
-other false n m h = refl
-
 module _ (P : Scope) (R : Store) (x : String) where
   write_spares : (t : Target) (e : Expr) (S : Store) → misses x t ≡ true → (write P R t e S).vec x ≡ S.vec x
-  write_spares (whole y) e S h = other (eqt y x) _ (S.vec x) h
+  write_spares (whole y) e S h = other_name (eqt y x) _ (S.vec x) h
   write_spares (word_at m i) e S h = refl
 
   pub fire_spares : (s : Stmt) → spares x s ≡ true → (S : Store) → (fire P R s S).vec x ≡ S.vec x

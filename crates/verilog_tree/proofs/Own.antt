@@ -1,20 +1,25 @@
 -- Names of two kinds: what is told of a kind by a test tells them apart.
-use Rattle.std.proofs.Common.{◌≡◌, Bool, true, false, not, refl, ap, sym, ◌∙◌}
+use Rattle.std.proofs.Common.{◌≡◌, Bool, true, false, not, ◌||◌, refl, ap, sym, subst, ◌∙◌}
+use Rattle.std.proofs.lemmas.Bool.{true_from_ne_false}
+use Rattle.std.proofs.lemmas.Float.{T_from_true}
 use Prim.Native.String.{String}
 use lib.Dec.{T}
-use lib.Text.{eqt, eqt→eq}
-
--- a truth is `true`
-holds_of : (b : Bool) → b ≡ true → T b
-holds_of true e = tt
-holds_of false e = let n : ⊥ = cc in absurd n
+use lib.Text.{eqt, eqt→eq, eqt_refl}
 
 no_is : (b : Bool) → (b ≡ true → ⊥) → b ≡ false
 no_is true h = absurd (h refl)
 no_is false h = refl
 
 pub one_name : (x y : String) → eqt x y ≡ true → x ≡ y
-one_name x y e = eqt→eq x y (holds_of (eqt x y) e)
+one_name x y e = eqt→eq x y (T_from_true (eqt x y) e)
+
+pub same_name : (x : String) → eqt x x ≡ true
+same_name x = true_from_ne_false (eqt x x) (λ e. subst T e (eqt_refl x))
+
+-- one of a test and nothing is the test
+pub off_either : (a : Bool) → (a || false) ≡ true → a ≡ true
+off_either true h = refl
+off_either false h = absurd cc
 
 -- texts that aren't the same
 pub apart_names : (x y : String) → (x ≡ y → ⊥) → eqt x y ≡ false

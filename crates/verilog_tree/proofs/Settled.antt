@@ -2,10 +2,9 @@
 use Rattle.std.proofs.Common.{◌≡◌, ℕ, suc, ◌+◌, ◌*◌, ◌/◌, ◌%◌, ◌^◌, ◌-◌, max, Bool, true, false, not, ◌&&◌, ◌||◌, List, [], ◌∷◌, ◌++◌}
 use Rattle.std.proofs.Common.{refl, ap, sym, subst, ◌∙◌, ◌⊎◌, inl, inr}
 use Rattle.std.specs.Prelude.{nat_eq, nat_lt}
-use Rattle.std.proofs.lemmas.Bool.{and_parts, and_from, or_parts, or_from, or_left, or_right}
+use Rattle.std.proofs.lemmas.Bool.{and_parts, and_from, or_parts, or_from, or_left, or_right, not-true}
 use Prim.Native.String.{String}
-use lib.Dec.{T}
-use lib.Text.{eqt, eqt_refl}
+use lib.Text.{eqt}
 use Rattle.verilog_tree.specs.Tree.{Expr, num, sized, const, name, bit, part, word, cat, inverse, two, shift, test, logic, none, any}
 use Rattle.verilog_tree.specs.Tree.{every, pick, Target, whole, word_at, Stmt, skip, put, seq, branch, cases, Arms, otherwise, arm, Item}
 use Rattle.verilog_tree.specs.Tree.{note, gap, size, constant, input, output, reg, memory, wire, settles, clocked}
@@ -19,15 +18,11 @@ use Rattle.verilog_tree.specs.WellFormed.{a_bit_register, a_bit_wire, a_clock, a
 use Rattle.verilog_tree.specs.WellFormed.{expr_ok, exprs_ok, said_ok, stmt_ok, arms_ok, item_ok, items_ok, settling, in_order, WellFormed}
 use Rattle.verilog_tree.specs.WellFormed.{ports_first, items_fit, limits}
 use Rattle.verilog_tree.specs.Laws.{Rests, SettlesOnce, SettledStays}
-use Rattle.verilog_tree.proofs.Own.{one_name}
+use Rattle.verilog_tree.proofs.Own.{one_name, same_name, off_either}
 use Rattle.verilog_tree.proofs.Frames.{leaves, leaves_arms, calm, calm_arms, items_leave, items_calm, run_leaves, run_calm}
 use Rattle.verilog_tree.proofs.Frames.{settled_leaves, settled_calm}
 
 -- ---- names
-
-turned_off : (b : Bool) → not b ≡ true → b ≡ false
-turned_off true h = absurd cc
-turned_off false h = refl
 
 -- one of two is so
 one_or : (a b : Bool) → (a || b) ≡ true → (a ≡ true) ⊎ (b ≡ true)
@@ -69,10 +64,6 @@ common_right : (x : String) (xs ys : List String) → member x (common xs ys) �
 common_right x [] ys h = absurd cc
 common_right x (y ∷ xs) ys h = pick_right x y (member y ys) ys (common xs ys) refl (common_right x xs ys) h
 
-off_either : (a : Bool) → (a || false) ≡ true → a ≡ true
-off_either true h = refl
-off_either false h = absurd cc
-
 gather : (a b c d : Bool) → d ≡ (b || c) → (a || d) ≡ true → ((a || b) || c) ≡ true
 gather true b c d e h = refl
 gather false b c d e h = sym e ∙ h
@@ -80,13 +71,6 @@ gather false b c d e h = sym e ∙ h
 or_more : (a b c : Bool) → (b ≡ true → c ≡ true) → (a || b) ≡ true → (a || c) ≡ true
 or_more true b c f h = refl
 or_more false b c f h = f h
-
-is_truth : (b : Bool) → T b → b ≡ true
-is_truth true h = refl
-is_truth false h = absurd h
-
-eqt_here : (x : String) → eqt x x ≡ true
-eqt_here x = is_truth (eqt x x) (eqt_refl x)
 
 either_or : (b : Bool) → (not b || b) ≡ true
 either_or true = refl
@@ -100,7 +84,7 @@ apart_from x (y ∷ xs) ys a m =
   where
     go : (b : Bool) → eqt y x ≡ b → not (member y ys) ≡ true → not (member x xs) ≡ true → not (b || member x xs) ≡ true
     go true e n r =
-        let z : true ≡ false = sym m ∙ subst (λ z. member z ys ≡ false) (one_name y x e) (turned_off (member y ys) n) in absurd cc
+        let z : true ≡ false = sym m ∙ subst (λ z. member z ys ≡ false) (one_name y x e) (not-true (member y ys) n) in absurd cc
     go false e n r = r
 
 -- ---- stores that agree on some names
@@ -208,11 +192,7 @@ set_grown p x n m S T e held = record { vec = λ y o. go y (eqt x y) o; mem = he
   where
     go : (y : String) (b : Bool) → (p y || (b || false)) ≡ true → chosen b n (S.vec y) ≡ chosen b m (T.vec y)
     go y true o = e
-    go y false o = held.vec y (left (p y) o)
-      where
-        left : (a : Bool) → (a || false) ≡ true → a ≡ true
-        left true o = refl
-        left false o = absurd cc
+    go y false o = held.vec y (off_either (p y) o)
 
 module _ (P : Scope) where
   -- a statement that sets no word and reads these names alone keeps the stores in agreement
@@ -255,17 +235,13 @@ module _ (P : Scope) where
       let m = h.mem in let s = h.stray in
       λ i. record { vec = λ x. h.vec x (a x) i; mem = m i; stray = s i }
 
-  off : (a : Bool) → (a || false) ≡ true → a ≡ true
-  off true h = refl
-  off false h = absurd cc
-
   -- a block that reads what these are only after it set them comes to the same from stores that agree elsewhere
   module _ (ms : List String) where
     -- assignments one after the other
     straight_same : (s : Stmt) → straight s ≡ true → first_reads ms s ≡ true → (p : String → Bool) →
         ((x : String) → outside ms x ≡ true → p x ≡ true) → (S T : Store) → Same p S T →
         Same (grown p (sets_first s)) (run P s S) (run P s T)
-    straight_same skip l o p f S T h = fewer p (grown p []) (λ x q. off (p x) q) S T h
+    straight_same skip l o p f S T h = fewer p (grown p []) (λ x q. off_either (p x) q) S T h
     straight_same (put (whole x) e) l o p f S T h =
         set_grown p x _ _ S T (assigned_same P (outside ms) S T (fewer p (outside ms) f S T h) (P.width x) e o) h
     straight_same (put (word_at m i) e) l o p f S T h = absurd cc
@@ -288,7 +264,7 @@ module _ (P : Scope) where
     first_same : (s : Stmt) → calm s ≡ true → first_reads ms s ≡ true → (p : String → Bool) →
         ((x : String) → outside ms x ≡ true → p x ≡ true) → ((x : String) → grown p (sets_first s) x ≡ true) → (S T : Store) →
         Same p S T → run P s S ≡ run P s T
-    first_same skip k o p f g S T h = total p (λ x. off (p x) (g x)) S T h
+    first_same skip k o p f g S T h = total p (λ x. off_either (p x) (g x)) S T h
     first_same (put (whole x) e) k o p f g S T h = total (grown p (x ∷ [])) g _ _ (straight_same (put (whole x) e) refl o p f S T h)
     first_same (put (word_at m i) e) k o p f g S T h = absurd cc
     first_same (seq s t) k o p f g S T h =
@@ -318,7 +294,7 @@ module _ (P : Scope) where
         let y = first_same s l c p f (λ z. or_more (p z) _ _ (common_left z (sets_first s) (sets_first t)) (g z)) S T h in
         let z = first_same t m d p f (λ z. or_more (p z) _ _ (common_right z (sets_first s) (sets_first t)) (g z)) S T h in
         λ i. chosen (x i) (y i) (z i)
-    first_same (cases e arms) k o p f g S T h = ap (run P (cases e arms)) (total p (λ x. off (p x) (g x)) S T h)
+    first_same (cases e arms) k o p f g S T h = ap (run P (cases e arms)) (total p (λ x. off_either (p x) (g x)) S T h)
 
   either_stray : (b : Bool) (S T : Store) (m : String → ℕ → ℕ) → S.stray ≡ m → T.stray ≡ m → (chosen b S T).stray ≡ m
   either_stray true S T m e g = e
@@ -439,7 +415,7 @@ module _ (E : List Entry) (ms : List String) where
       where
         go : (b : Bool) → eqt y x ≡ b → not b ≡ true
         go true e =
-            let z : true ≡ false = sym m ∙ subst (λ z. member z ms ≡ false) (sym (one_name y x e)) (turned_off (member x ms) o) in absurd cc
+            let z : true ≡ false = sym m ∙ subst (λ z. member z ms ≡ false) (sym (one_name y x e)) (not-true (member x ms) o) in absurd cc
         go false e = refl
 
     mutual
@@ -496,11 +472,11 @@ module _ (P : Scope) where
   rest_leaves : (x : String) (is : List Item) → Blocks is → outside (settling is) x ≡ true → items_leave P x is ≡ true
   rest_leaves x [] b o = refl
   rest_leaves x (wire w y e ∷ is) b o =
-      let (c, d) = or_parts (eqt y x) (member x (settling is)) (turned_off _ o) in
+      let (c, d) = or_parts (eqt y x) (member x (settling is)) (not-true _ o) in
       and_from (not (eqt y x)) (items_leave P x is) (ap not c) (rest_leaves x is b (ap not d))
   rest_leaves x (settles s ∷ is) (b, bs) o =
       let (c, d) = or_parts (member x (sets_first s)) (member x (settling is))
-      (sym (member_append x (sets_first s) (settling is)) ∙ turned_off _ o) in
+      (sym (member_append x (sets_first s) (settling is)) ∙ not-true _ o) in
       and_from (leaves x s) (items_leave P x is) (b.mine x (ap not c)) (rest_leaves x is bs (ap not d))
   rest_leaves x (i ∷ is) b o = rest_leaves x is b o
 
@@ -525,7 +501,7 @@ module _ (P : Scope) where
       go y false q = refl
 
   set_here : (x : String) (n : ℕ) (S : Store) → (set_vec x n S).vec x ≡ n
-  set_here x n S = ap (λ b. chosen b n (S.vec x)) (eqt_here x)
+  set_here x n S = ap (λ b. chosen b n (S.vec x)) (same_name x)
 
   -- a wire is its expression where all below it has settled
   wire_rests : (x : String) (e : Expr) (is : List Item) → Blocks is → reads (outside (x ∷ settling is)) e ≡ true →
@@ -541,7 +517,7 @@ module _ (P : Scope) where
           Same (outside (x ∷ settling is)) (settled P is (write P S (whole x) e S)) S
       alike h = record {
         vec = λ y q.
-            let (c, d) = or_parts (eqt x y) (member y (settling is)) (turned_off _ q) in
+            let (c, d) = or_parts (eqt x y) (member y (settling is)) (not-true _ q) in
             h.vec y (ap not d) ∙ ap (λ b. chosen b (assigned P S (P.width x) e) (S.vec y)) c;
         mem = h.mem;
         stray = h.stray;
