@@ -1,8 +1,9 @@
 //! Pools whose pieces are branches, played by a table, a call of the bench a row.
 //!
 //! `W turn A plain` and `W turn A all`: worker W gets a piece of at most A moves, which is to be plain or not; `W turn pause` and
-//! `W turn over`: it gets none. `W plays N`: it plays its piece and hands the branch in, and then N moves are booked. `W brings V N`: it
-//! plays the piece of worker V and hands that branch in as its own.
+//! `W turn over`: it gets none. `W plays WAY N`: it plays its piece, plain or all, and hands the branch in, and then N moves are booked.
+//! `W brings V WAY N`: it plays the piece of worker V and hands that branch in as its own. Who holds a ticket gets it again when it asks,
+//! and is told anew whether to play it plainly; so these rows name the way.
 
 ghost use Rattle.std.specs.Prelude.{◌≡◌};
 ghost use Rattle.interleave_laws.specs.Runs.{Runs};
@@ -36,9 +37,14 @@ fn made<N: OnNet + Send + Sync>(
     net: &NamedNet<'_, N>,
     pool: &mut BranchPool<'_, N>,
     worker: u32,
+    plain: bool,
 ) -> Result<Option<Branch<N>>, AllocError> {
     match pool.turn(worker)? {
-        Turn::Piece(piece) => Ok(Some(BranchPool::<N>::work(alloc, net, piece)?)),
+        Turn::Piece(piece) => {
+            let most = piece.allowance();
+            let piece = BranchPiece::new(piece.into_seed(), most, plain);
+            Ok(Some(BranchPool::<N>::work(alloc, net, piece)?))
+        }
         _ => Ok(None),
     }
 }
@@ -52,11 +58,12 @@ fn brings<N: OnNet + Send + Sync>(
     other: u32,
     text: &str,
 ) -> Result<bool, AllocError> {
-    let Some(branch) = made(alloc, net, pool, other)? else {
+    let (way, moves) = cut(text, ' ');
+    let Some(branch) = made(alloc, net, pool, other, way == "plain")? else {
         return Ok(false);
     };
     pool.hand_in(worker, branch)?;
-    Ok(pool.pool().booked() == number(text))
+    Ok(pool.pool().booked() == number(moves))
 }
 
 /// Whether a row is so.
@@ -75,8 +82,8 @@ fn is_so<N: OnNet + Send + Sync>(
     } else if call == "plays" {
         brings(alloc, net, pool, worker, worker, text)
     } else {
-        let (other, moves) = cut(text, ' ');
-        brings(alloc, net, pool, worker, number(other), moves)
+        let (other, played) = cut(text, ' ');
+        brings(alloc, net, pool, worker, number(other), played)
     }
 }
 

@@ -147,19 +147,20 @@ const FINISHED: Game<'static> = Game {
     makers: "0 1 1 1 1 1",
 };
 
-/// The right half of `(1 + 2) + (3 + 4)` as one branch, and the left one in pieces, since it was alone.
+/// The right half of `(1 + 2) + (3 + 4)` as one branch, and the left one in pieces, since it was alone. Behind two branches stands the join
+/// before which they stopped: of the four moves that are booked then the branch has one, and of the ten five.
 const HALVES: Game<'static> = Game {
     budget: 100,
     workers: 2,
     rows: "\
 0 turn 50 plain
-0 plays 1
+0 plays plain 1
 0 turn 49 all
 1 turn 25 plain
-1 plays 2
+1 plays plain 2
 1 turn 24 all
-1 plays 4
-0 plays 10
+1 plays all 4
+0 plays all 10
 ",
     answer: "10",
     tickets: "0 0 2 2 1 3 3 1 1 1 0 0 0 0",
@@ -171,12 +172,12 @@ const REFUSED: Game<'static> = Game {
     budget: 100,
     workers: 2,
     rows: "\
-0 plays 1
+0 plays plain 1
 0 turn 49 all
 1 turn 25 plain
-1 brings 0 2
+1 brings 0 all 2
 2 turn over
-2 brings 0 2
+2 brings 0 all 2
 ",
     answer: "10",
     tickets: "0 0 0 0 1 1 1 2 2 2 3 3 3 3",
@@ -189,11 +190,11 @@ const SHORT: Game<'static> = Game {
     workers: 2,
     rows: "\
 0 turn 4 plain
-0 plays 1
+0 plays plain 1
 0 turn 3 all
 1 turn 2 plain
-1 plays 2
-0 plays 5
+1 plays plain 2
+0 plays all 5
 ",
     answer: "-",
     tickets: "0 0 1 3 3 0 0 1",
