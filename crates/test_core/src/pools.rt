@@ -153,7 +153,7 @@ const HALVES: Game<'static> = Game {
     budget: 100,
     workers: 2,
     rows: "\
-0 turn 50 plain
+0 turn 100 plain
 0 plays plain 1
 0 turn 49 all
 1 turn 25 plain
@@ -184,12 +184,12 @@ const REFUSED: Game<'static> = Game {
     makers: "0 1 2 2 2 2 2 2 2 2 2 2 2 2",
 };
 
-/// A budget of eight moves, of which each piece gets a half.
+/// A budget of eight moves: all of it for the only token, and then a half of what is left for each piece.
 const SHORT: Game<'static> = Game {
     budget: 8,
     workers: 2,
     rows: "\
-0 turn 4 plain
+0 turn 8 plain
 0 plays plain 1
 0 turn 3 all
 1 turn 2 plain
@@ -199,6 +199,19 @@ const SHORT: Game<'static> = Game {
     answer: "-",
     tickets: "0 0 1 3 3 0 0 1",
     makers: "0 1 0 0 0 2 2 2",
+};
+
+/// A plain branch of two moves on the net of a double, and behind it the fork before which it stopped.
+const FORKED: Game<'static> = Game {
+    budget: 100,
+    workers: 2,
+    rows: "\
+0 turn 100 plain
+0 plays plain 3
+",
+    answer: "6",
+    tickets: "0 0 0 0 0 0 0 0 0 0 0 0 0 0 0 1 1 1 1 1 1 1 1 1 1 1 1 1 1 1",
+    makers: "0 0 0 2 2 2 2 2 2 2 2 2 2 2 2 2 2 2 2 2 2 2 2 2 2 2 2 2 2 2",
 };
 
 /// Whether a game on one sum is so.
@@ -222,11 +235,11 @@ fn is_branched(alloc: Global, net: &Net, game: Game<'_>) -> Result<bool, AllocEr
     Ok(is_answer(ended.answer, game.answer) && has_moves(&ended.log, game.tickets, game.makers))
 }
 
-/// Whether a game of branches on a sum of sums is so.
-fn is_branch_game(alloc: Global, game: Game<'_>) -> Result<bool, AllocError>
+/// Whether a game of branches on a program is so.
+fn is_branch_game(alloc: Global, text: &str, game: Game<'_>) -> Result<bool, AllocError>
     requires { InLimits game.budget game.workers }
 {
-    let net = net_of(alloc, "(1 + 2) + (3 + 4)")?;
+    let net = net_of(alloc, text)?;
     let so = is_branched(alloc, &net, game);
     drop(net);
     so
@@ -234,9 +247,11 @@ fn is_branch_game(alloc: Global, game: Game<'_>) -> Result<bool, AllocError>
 
 #[test]
 fn two_workers_play_branches(rt: HostRuntime) -> Result<(), Fail> {
-    assert!(rt; is_branch_game(rt.alloc(), HALVES)?);
-    assert!(rt; is_branch_game(rt.alloc(), REFUSED)?);
-    assert!(rt; is_branch_game(rt.alloc(), SHORT)?);
+    let halves = "(1 + 2) + (3 + 4)";
+    assert!(rt; is_branch_game(rt.alloc(), halves, HALVES)?);
+    assert!(rt; is_branch_game(rt.alloc(), halves, REFUSED)?);
+    assert!(rt; is_branch_game(rt.alloc(), halves, SHORT)?);
+    assert!(rt; is_branch_game(rt.alloc(), "(fun x:nat. x + x) 3", FORKED)?);
     Ok(())
 }
 

@@ -32,7 +32,8 @@ last_of_runs o (r ∷ (q ∷ rs)) d (fair, each) l =
     two = omega arith
 
 -- so the ticket that moved last is told by the last run
-pub told_last : (w n : ℕ) (rs : List MovesSeen) (log : List Entry) (d r : MovesSeen) (b : Bool) → Each rs → spread rs ≡ log → n ≡ length rs →
+pub told_last : (w n : ℕ) (rs : List MovesSeen) (log : List Entry) (d r : MovesSeen) (b : Bool) → Each rs → spread rs ≡ log →
+    n ≡ length rs →
     1 ≤ n → r ≡ get_or rs (n - 1) d → nat_eq r.worker w ≡ b → (if b then Some r.ticket else None) ≡ last_by w log
 told_last w n rs log d r b each s m l e q =
     let last : last_entry None log ≡ Some (move_of r) =

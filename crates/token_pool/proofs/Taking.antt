@@ -3,7 +3,7 @@ use Rattle.std.proofs.Common.{◌≡◌, ◌⊎◌, ◌-◌, ◌/◌, ◌<◌, �
 use Rattle.std.proofs.Common.{◌||◌, is_some, length, set, slice_get, nat_eq, nat_lt, if◌then◌else◌, Option, Some, None, refl, sym, ap}
 use Rattle.std.proofs.Common.{◌∙◌, subst, inl, inr, ⊎_elim, arith, div-le_self, length-set}
 use Rattle.std.specs.Option.{IsSome}
-use Rattle.std.specs.FinMap.{get}
+use Rattle.std.specs.FinMap.{get, len}
 use Rattle.std.proofs.lemmas.Bool.{cases_lt, eq-eqb, eqb-true, lt-ltb, ltb-true}
 use Rattle.std.proofs.lemmas.Option.{slice_get-get_or}
 use Rattle.move_rules.specs.Places.{TokenTree}
@@ -19,7 +19,8 @@ use Rattle.token_pool.specs.declared.entries.Reply.TheVariants.{Stopped, Token, 
 use Rattle.token_pool.specs.Pools.{Pool, Holds, Good}
 use Rattle.token_pool.specs.Turns.{IsLeastFree, is_held, none_held, free, least_free, spent, allowance, is_ended, flat, own, on_own}
 use Rattle.token_pool.specs.Turns.{on_free, turn, held_after, taken}
-use Rattle.token_pool.specs.Branches.{IsFree, MovedLast, words_in, last_by, free_or, newest_or, own_first, preferred, for_branch, widened, branch_turn, branch_taken}
+use Rattle.token_pool.specs.Branches.{IsFree, MovedLast, words_in, last_by, free_or, newest_or, own_first, preferred, for_branch, widened}
+use Rattle.token_pool.specs.Branches.{branch_turn, branch_taken}
 use Rattle.token_pool.proofs.Holding.{none_aside, at_place, held_after_set, set_same, sum_after_set, not_held, some_held, none_is}
 use Rattle.token_pool.proofs.Holding.{none_alone}
 use Rattle.token_pool.proofs.Free.{free_at}
@@ -102,9 +103,11 @@ reserved_line false None false (Some i) false a q = absurd cc
 part_of : (q r : ℕ) → q ≤ r → 1 ≤ r → (1 ≤ min 64 (max 1 q)) × (min 64 (max 1 q) ≤ r)
 part_of q r l m = (omega arith, omega arith)
 
-branch_part_of : (q r words : ℕ) → q ≤ r → 1 ≤ r → (1 ≤ max (min (max 1 q) 8192) (min r words)) ×
-    (max (min (max 1 q) 8192) (min r words) ≤ r)
-branch_part_of q r words l m = (omega arith, omega arith)
+branch_part_of : (alone : Bool) (q r words : ℕ) → q ≤ r → 1 ≤ r →
+    (1 ≤ (if alone then r else max (min (max 1 q) 8192) (min r words))) ×
+    ((if alone then r else max (min (max 1 q) 8192) (min r words)) ≤ r)
+branch_part_of true q r words l m = (m, omega arith)
+branch_part_of false q r words l m = (omega arith, omega arith)
 
 -- a token that is free is live, and its ticket isn't held
 free_live : (b : Bool) (o : Option TokenTree) (x : TokenTree) → (if b then None else o) ≡ Some x → (b ≡ false) × (o ≡ Some x)
@@ -249,7 +252,7 @@ module _ (p : Pool) (good : Good p) where
   branch_keeps w l None q (Token h) e = ⊎_elim
       (λ own. let bad = ap flat own in absurd cc)
       (λ g. let i = own_first p.state p.held p.log p.workers w h.ticket in
-      let part = branch_part_of ((p.budget - spent p) / p.workers) (p.budget - spent p)
+      let part = branch_part_of (nat_eq (len p.state.tokens) 1) ((p.budget - spent p) / p.workers) (p.budget - spent p)
       (words_in (get p.state.tokens i)) (div-le_self (p.budget - spent p) p.workers) (some_left g.room) in
       gives_good w (for_branch p (record { ticket = i; allowance = h.allowance })) l (own_place w l g.own)
       (own_givable w h.ticket (least_givable h.ticket g.found)) part.0 part.1)
@@ -402,7 +405,8 @@ module _ (p : Pool) (w : ℕ) (h : Held) where
       (λ l. inr (
         q,
         ⊎_elim (λ c. inl (subst (IsLeastFree p) (sym c ∙ t) l.1))
-            (λ c. inr (subst (λ n. IsFree p n × ((i : ℕ) × MovedLast p w i × ((n ≡ p.state.next - 1) ⊎ (n ≡ i)))) t c)) (chosen p w k.ticket),
+            (λ c. inr (subst (λ n. IsFree p n × ((i : ℕ) × MovedLast p w i × ((n ≡ p.state.next - 1) ⊎ (n ≡ i)))) t c))
+            (chosen p w k.ticket),
       ))
       (take_least p w k e)
 

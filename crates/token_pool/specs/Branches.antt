@@ -2,9 +2,10 @@
 -- It is told what any other worker is told, but what is set aside for a free ticket is more: enough that a branch pays for the two visits
 -- and the copies of its token. Booking a branch is as many moves of a run as the branch has, each under the ticket that its own ticket
 -- is called in the pool's state. What isn't taken over is one step of the held ticket.
-use Rattle.std.specs.Prelude.{◌≡◌, ◌≤◌, ◌⊎◌, ℕ, ◌<◌, ◌+◌, ◌-◌, ◌/◌, min, max, nat_eq, nat_lt, ◌||◌, ◌&&◌, not, if◌then◌else◌, Bool, true, false}
+use Rattle.std.specs.Prelude.{◌≡◌, ◌≤◌, ◌⊎◌, ℕ, ◌<◌, ◌+◌, ◌-◌, ◌/◌, min, max, nat_eq, nat_lt, ◌||◌, ◌&&◌, not, if◌then◌else◌}
+use Rattle.std.specs.Prelude.{Bool, true, false}
 use Rattle.std.specs.Prelude.{List, [], ◌∷◌, ◌++◌, length, map, set, Option, Some, None, is_some}
-use Rattle.std.specs.FinMap.{get}
+use Rattle.std.specs.FinMap.{get, len}
 use Rattle.pcf_values.specs.Most.{most_budget}
 use Rattle.token_stacks.specs.Words.{box_words}
 use Rattle.token_stacks.specs.WorkWords.{work_words}
@@ -17,6 +18,7 @@ use Rattle.branch_laws.specs.Branches.{name}
 use Rattle.branch_laws.specs.Laws.{Occurs}
 use Rattle.branch_runs.specs.Branching.{Grown}
 use Rattle.interleave_laws.specs.Tickets.{IsLive}
+use Rattle.interleave_core.specs.Names.{step_name, MayTake}
 use Rattle.interleave_core.specs.Newest.{IsNewestLive}
 use Rattle.schedule_log.specs.declared.entry.Entry.{Entry}
 use Rattle.schedule_log.specs.Logs.{by}
@@ -38,16 +40,17 @@ abbrev pub words_in : Option TokenTree → ℕ
 words_in None = 0
 words_in (Some x) = words_of x
 
--- what is set aside for a branch: a worker's part of what is left, at least 1, and at most 8,192; and as many moves as the token has
--- words, as far as they are left
-abbrev pub branch_allowance : ℕ → ℕ → ℕ → ℕ
-branch_allowance left workers words = max (min (max 1 (left / workers)) 8192) (min left words)
+-- What is set aside for a branch. Where no other token is live, all that is left: nobody else has anything to move. Else a worker's part of
+-- what is left, at least 1, and at most 8,192; and as many moves as the token has words, as far as they are left.
+abbrev pub branch_allowance : ℕ → ℕ → ℕ → ℕ → ℕ
+branch_allowance left workers live words =
+    if nat_eq live 1 then left else max (min (max 1 (left / workers)) 8192) (min left words)
 
 -- a free ticket with a branch's allowance
 abbrev pub for_branch : Pool → Held → Held
 for_branch p h = record {
   ticket = h.ticket;
-  allowance = branch_allowance (p.budget - spent p) p.workers (words_in (get p.state.tokens h.ticket));
+  allowance = branch_allowance (p.budget - spent p) p.workers (len p.state.tokens) (words_in (get p.state.tokens h.ticket));
 }
 
 -- the entry that stands last, and o where there is none
@@ -143,17 +146,24 @@ pub record StopsAt (h : Held) (next workers : ℕ) (b : Grown) (i : ℕ) : Type 
   pub newest : IsNewestLive b.after own
   pub called : i ≡ name h.ticket next own
 
+-- No move is made behind the branch: there is none to make, or its step may take memory, which lacked. A branch that is played as far as
+-- it goes stops before a join or the answer, and these take none.
+pub record LeavesOut (net : NetTree) (S : MapState) (workers : ℕ) (h : Held) (b : Grown) : Type 0 where
+  pub after : MapState
+  pub steps : run_map net S (map (name h.ticket S.next) b.log) ≡ Some after
+  pub taking : (i : ℕ) → StopsAt h S.next workers b i → MayTake (step_name net after i)
+
 -- the tickets that move where a branch is taken over: the branch's, as they are called in the state, and behind them the one before whose
--- move it stopped; that one is left out where there is none, or no memory for it
-abbrev pub TakenMoves : MapState → ℕ → Held → Grown → List ℕ → Type 0
-TakenMoves S workers h b tickets =
-    (tickets ≡ map (name h.ticket S.next) b.log) ⊎
+-- move it stopped, if it isn't left out
+abbrev pub TakenMoves : NetTree → MapState → ℕ → Held → Grown → List ℕ → Type 0
+TakenMoves net S workers h b tickets =
+    ((tickets ≡ map (name h.ticket S.next) b.log) × LeavesOut net S workers h b) ⊎
     ((i : ℕ) × StopsAt h S.next workers b i × (tickets ≡ map (name h.ticket S.next) b.log ++ i ∷ []))
 
 -- the tickets that move: those of a branch that is taken over, and else the held one, once
-abbrev pub BranchMoves : MapState → ℕ → Held → Grown → List ℕ → Type 0
-BranchMoves S workers h b tickets =
-    (TakesOver S workers h b × TakenMoves S workers h b tickets) ⊎
+abbrev pub BranchMoves : NetTree → MapState → ℕ → Held → Grown → List ℕ → Type 0
+BranchMoves net S workers h b tickets =
+    (TakesOver S workers h b × TakenMoves net S workers h b tickets) ⊎
     ((TakesOver S workers h b → ⊥) × (tickets ≡ h.ticket ∷ []))
 
 -- moves of these tickets lead from p to q, where worker w holds nothing
@@ -165,7 +175,7 @@ pub record BooksAll (p q : Pool) (w : ℕ) (tickets : List ℕ) : Type 0 where
 abbrev pub BookedBranch : Pool → Pool → ℕ → Grown → Booked → Type 0
 BookedBranch p q w b NothingHeld = (own p.held w ≡ None) × (q ≡ p)
 BookedBranch p q w b (Done k) = (h : Held) × (tickets : List ℕ) × Holds p.held w h × (k ≡ length p.log) ×
-    BranchMoves p.state p.workers h b tickets × BooksAll p q w tickets
+    BranchMoves p.net p.state p.workers h b tickets × BooksAll p q w tickets
 
 -- the tickets that move, of a branch's own ones, where it was taken over
 abbrev pub made_tickets : ℕ → ℕ → Option (List ℕ) → List ℕ

@@ -79,4 +79,4 @@ GivesMoved = (p : Pool) (w : ℕ) (h : Held) (i : ℕ) → branch_turn p w ≡ T
 
 abbrev pub BookBranchKeeps : Type 0
 BookBranchKeeps = (p q : Pool) (w : ℕ) (h : Held) (b : Grown) (tickets : List ℕ) → Good p → Holds p.held w h → w < p.workers →
-    IsBranch p.net b → BranchMoves p.state p.workers h b tickets → BooksAll p q w tickets → Good q
+    IsBranch p.net b → BranchMoves p.net p.state p.workers h b tickets → BooksAll p q w tickets → Good q

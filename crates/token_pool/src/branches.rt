@@ -1,6 +1,6 @@
 //! Branches of a held ticket that are handed out and booked.
 
-ghost use Rattle.std.specs.Prelude.{◌≡◌, ◌<◌, ◌≤◌, ◌↔◌, ◌+◌, ◌-◌, ◌^◌, [], true, All, map, length, replicate};
+ghost use Rattle.std.specs.Prelude.{◌≡◌, ◌<◌, ◌≤◌, ◌↔◌, ◌+◌, ◌-◌, ◌^◌, ℕ, [], true, All, map, length, replicate};
 ghost use Rattle.std.specs.Prelude.{IfOk, IfSome, IfNone, OnErr, IsTrue, Some};
 ghost use Rattle.std.specs.FinMap.{get};
 ghost use Rattle.std.specs.Option.{MatchOption};
@@ -9,10 +9,11 @@ ghost use Rattle.interleave_laws.specs.Runs.{Runs};
 ghost use Rattle.interleave_laws.specs.Tickets.{IsLive};
 ghost use Rattle.interleave_laws.specs.Maps.{step_map, run_map};
 ghost use Rattle.interleave_laws.specs.MapRuns.{IsReachedWithin};
+ghost use Rattle.interleave_core.specs.Names.{step_name, MayTake};
 ghost use Rattle.schedule_log.specs.Logs.{by};
 ghost use Rattle.schedule_log.specs.LogsSeen.{with_entries};
 ghost use Rattle.branch_laws.specs.Branches.{name};
-ghost use Rattle.branch_runs.specs.Branching.{Taken};
+ghost use Rattle.branch_runs.specs.Branching.{IsBranch, Taken};
 ghost use Rattle.token_pool.specs.Branches.{words_in, branch_allowance, last_by, free_or, own_first, TakesOver, BranchMoves, StopsAt};
 ghost use Rattle.token_pool.specs.Branches.{HasRoom, made_tickets, all_made};
 
@@ -35,10 +36,13 @@ pub(crate) fn words_at(core: &Core, ticket: u32) -> usize
 }
 
 /// What is set aside for a branch.
-pub(crate) fn branch_part(left: u32, workers: u32, words: usize) -> u32
+pub(crate) fn branch_part(left: u32, workers: u32, live: u32, words: usize) -> u32
     requires { 1 ≤ workers }
-    ensures { result ≡ branch_allowance left workers words }
+    ensures { result ≡ branch_allowance left workers live words }
 {
+    if live == 1 {
+        return left;
+    }
     let part = (left / workers).max(1).min(8192);
     if words < left as usize {
         part.max(words as u32)
@@ -131,28 +135,31 @@ fn take_over<N: OnNet>(
 /// The ticket before whose move a branch stopped, as it is called in the pool's state, where the allowance has one move more and there
 /// are two workers or more. Takes no memory.
 fn stop_of<N: OnNet>(branch: &Branch<N>, held: Held, workers: u32, next: u32) -> Option<u32>
-    ensures { IfSome result (StopsAt held next workers branch.now) }
+    requires runs { Runs N.net }
+    requires branch { IsBranch N.net branch.now }
+    requires room { next + held.allowance < 2 ^ 32 }
+    ensures { MatchOption result ((i : ℕ) → StopsAt held next workers branch.now i → ⊥) (StopsAt held next workers branch.now) }
 {
     if workers < 2 || branch.len() >= held.allowance {
         return None;
     }
     match branch.after().newest_live() {
-        Some(0) => Some(held.ticket),
-        Some(own) => next.checked_add(own - 1),
+        Some(own) => Some(name_of(held.ticket, next, own)),
         None => None,
     }
 }
 
-/// Makes the step of this ticket, if there is one and it is live and there is memory for the step, and answers the ticket; else all stays.
+/// Makes the step of this ticket, if there is one and there is memory for the step, and answers the ticket; else all stays.
 fn step_behind(core: &mut Core, net: &Net, stop: Option<u32>) -> Option<u32>
     requires runs { Runs net.now }
     requires reached { IfSome stop (λ i. IsReachedWithin net.now most_budget core.old) }
+    requires live { IfSome stop (IsLive core.old) }
     ensures some { IfSome result (λ i. (stop ≡ Some i) × (step_map net.now core.old i ≡ Some core.new)) }
-    ensures none { IfNone result (core.new ≡ core.old) }
+    ensures none { IfNone result ((core.new ≡ core.old) × IfSome stop (λ i. MayTake (step_name net.now core.old i))) }
 {
     match stop {
         Some(ticket) => {
-            if core.is_live(ticket) && core.step(net, ticket).is_ok() {
+            if core.step(net, ticket).is_ok() {
                 Some(ticket)
             } else {
                 None
@@ -182,7 +189,7 @@ pub(crate) fn play_branch<N: OnNet>(
     requires live { IsLive core.old held.ticket }
     requires room { HasRoom net.now core.old held.allowance }
     requires allowed { 1 ≤ held.allowance }
-    ensures moves { IfOk result (λ m. BranchMoves core.old workers held branch (all_made held.ticket core.old.next m.own m.last)) }
+    ensures moves { IfOk result (λ m. BranchMoves net.now core.old workers held branch (all_made held.ticket core.old.next m.own m.last)) }
     ensures few { IfOk result (λ m. length (all_made held.ticket core.old.next m.own m.last) ≤ held.allowance) }
     ensures steps { IfOk result (λ m. run_map net.now core.old (all_made held.ticket core.old.next m.own m.last) ≡ Some core.new) }
     ensures fit { IfOk result (λ m. IfSome m.own (All (λ k. core.old.next + (k - 1) < 2 ^ 32))) }

@@ -13,7 +13,8 @@ ghost use Rattle.token_pool.specs.Pools.{InLimits, Good, started, count_held, no
 ghost use Rattle.token_pool.specs.Turns.{turn, taken, count_free, spent, spare_pieces};
 ghost use Rattle.token_pool.specs.Booking.{BookedAs, HoldsOther, halted};
 ghost use Rattle.token_pool.specs.Ending.{Suits, Finishes, Replays};
-ghost use Rattle.token_pool.specs.Branches.{preferred, for_branch, widened, branch_turn, branch_taken, HandsSeed, plays_plain, BookedBranch};
+ghost use Rattle.token_pool.specs.Branches.{preferred, for_branch, widened, branch_turn, branch_taken, HandsSeed, plays_plain};
+ghost use Rattle.token_pool.specs.Branches.{BookedBranch};
 
 use crate::booking::{play, write_down};
 use crate::branches::{branch_part, own_first, play_branch, words_at, write_made};
@@ -236,7 +237,7 @@ impl<'n> PoolState<'n> {
         let words = words_at(&self.core, held.ticket);
         Held {
             ticket: held.ticket,
-            allowance: branch_part(left, self.workers, words),
+            allowance: branch_part(left, self.workers, self.core.live_count(), words),
         }
     }
 

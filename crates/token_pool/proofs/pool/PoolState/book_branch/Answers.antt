@@ -41,8 +41,8 @@ invariant_of-self-2 g c =
       branch_good p c.self.invariant.0 c.args.worker c.in-Some.held
           (holds p c.self.invariant.0 c.args.worker c.in-Some.held (sym c.in-Some.ensures)) c.args.branch
           (is_branch p c.args.self.now g.N.OnNet.net c.self.view_is c.requires.named _ c.args.branch c.branch.view_is c.branch.invariant)
-          (all_made i c.self.inside.core.next made.own made.last) c.in_ok-made.ensures.moves c.play_branch.new.core c.write_made.new.log.entries
-          c.let_go.new.self c.in_ok-made.ensures.steps
+          (all_made i c.self.inside.core.next made.own made.last) c.in_ok-made.ensures.moves c.play_branch.new.core
+          c.write_made.new.log.entries c.let_go.new.self c.in_ok-made.ensures.steps
           (ap (λ (l : LogSeen). l.entries) c.write_made.ensures
           ∙ ap (λ n. c.self.inside.log.entries ++ by c.args.worker (all_made i n made.own made.last)) c.next_ticket-next.ensures)
           c.let_go.ensures c.args.self.now c.self.view_is c.requires.place,
