@@ -1,5 +1,6 @@
 """What the benches share: the programs that they run, the built program that they run them with, and its times."""
 
+import contextlib
 import os
 import subprocess
 import sys
@@ -61,6 +62,30 @@ PROGRAMS = (
     ("loop", "fix y:nat. y", 1_000_000),
 )
 
+# And of those that are run by several workers alone.
+SHARED = (
+    PROGRAMS[0],
+    ("left", "(fix f:nat->nat. fun n:nat. ifz n then 0 else f (pred n) + n) 300", 10_000_000),
+    ("fibonacci", "(fix f:nat->nat. fun n:nat. ifz n then 0 else ifz pred n then 1 else f (pred n) + f (pred (pred n))) 16", 10_000_000),
+    *PROGRAMS[1:3],
+    ("long", calls(64, 160), 10_000_000),
+    PROGRAMS[3],
+)
+
+
+@contextlib.contextmanager
+def real_time():
+    """What is called in it has the processors before all other work, where that can be had: other work doesn't blur its times."""
+    try:
+        os.sched_setscheduler(0, os.SCHED_FIFO, os.sched_param(50))
+    except (AttributeError, OSError):
+        yield
+        return
+    try:
+        yield
+    finally:
+        os.sched_setscheduler(0, os.SCHED_OTHER, os.sched_param(0))
+
 
 def put(folder, name, text):
     """Writes a file, and answers its path."""
@@ -103,8 +128,3 @@ def span(path, budget):
     if "moves" not in lines or "rounds" not in lines:
         refused(done)
     return int(lines["moves"]), int(lines["rounds"])
-
-
-def busy(moves, rounds, workers):
-    """How many units of a move each take workers of whom none idles while a token waits, at the most (Brent's bound)."""
-    return moves / workers + (1 - 1 / workers) * rounds
