@@ -44,6 +44,7 @@ NATIVE = {
     "max": max, "min": min, "nat_eq": lambda a, b: truth(a == b), "nat_lt": lambda a, b: truth(a < b),
     "nat_le": lambda a, b: truth(a <= b), "not": lambda a: truth(a != TRUE), "eqt": lambda a, b: truth(a == b),
     "length": lambda it: len(unlisted(it)), "codes": lambda it: listed([ord(c) for c in it]),
+    "text_of": lambda it: "".join(map(chr, unlisted(it))),
     "decimal": lambda n: listed([ord(c) for c in str(n)]), "suc": lambda n: n + 1, "replicate": lambda n, it: listed([it] * n),
 }
 ON_NUMBERS = {"+": lambda a, b: a + b, "-": lambda a, b: max(0, a - b), "*": lambda a, b: a * b, "/": lambda a, b: a // b if b else 0,
