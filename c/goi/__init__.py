@@ -15,6 +15,7 @@ asks for. In a notebook `%load_ext goi` brings cells that begin with `%%pcf`: se
 import collections
 import ctypes
 import itertools
+import operator
 import os
 import threading
 
@@ -40,11 +41,14 @@ KINDS = """
     LooseWire TypeClash DepthClash RootCount TicketTooWide NotLive AfterAnswer
 """.split()
 
+# Those of a net that isn't sound.
+OF_NETS = "LooseWire TypeClash DepthClash RootCount".split()
+
 Answer = collections.namedtuple("Answer", "value overflow moves")
 
 
 class Refused(Exception):
-    """The program, the schedule or the listing has a fault, and this tells it, as in Unexpected(0).
+    """The program, the schedule or the listing has a fault, and this tells it as `goi` does, as in Unexpected(0).
 
     `status` is REFUSED where a program has it and BAD_FILE where a schedule or a listing has; `kind` is the fault's name, as Unexpected;
     `place` is where it is, or None, as is the `ticket` of NotLive. The place is a byte of a program, a line or an entry of a file, or the
@@ -98,17 +102,26 @@ _starting = threading.Lock()
 
 
 def _apart(call):
-    """What a call answers in a thread with room on its stack."""
-    answers = []
+    """What a call answers or raises in a thread with room on its stack."""
+    answers, raised = [], []
+
+    def made():
+        try:
+            answers.append(call())
+        except BaseException as it:
+            raised.append(it)
+
     with _starting:
         # (the pages above the call's are the interpreter's own)
         before = threading.stack_size(STACK_SIZE + (1 << 20))
         try:
-            thread = threading.Thread(target=lambda: answers.append(call()))
+            thread = threading.Thread(target=made)
             thread.start()
         finally:
             threading.stack_size(before)
     thread.join()
+    for it in raised:
+        raise it
     return answers[0]
 
 
@@ -126,10 +139,10 @@ def call(name, *words):
 def find_fault(text, taken=AS_NUMBER, schedule=None):
     """The first fault of a text as what it is taken for (AS_PROGRAM .., AS_FUNCTION + n), or of a program's schedule, as a Refused that is
     not raised; None where it has none."""
-    return _found_fault(_bytes(text), taken, schedule and _bytes(schedule), None)
+    return _found_fault(_bytes(text), _number(taken), None if schedule is None else _bytes(schedule))
 
 
-def _found_fault(text, taken, schedule, told):
+def _found_fault(text, taken, schedule):
     fault = _Fault()
     if schedule is None:
         status = _apart(lambda: _library.goi_find_fault(*text, taken, ctypes.byref(fault)))
@@ -141,13 +154,15 @@ def _found_fault(text, taken, schedule, told):
         return None
     kind, place = KINDS[fault.kind - 1], None if fault.place == NO_PLACE else fault.place
     ticket = fault.ticket if kind == "NotLive" else None
-    return Refused(told or kind, fault.status, kind, place, ticket)
+    numbers = ",".join(str(it) for it in (place, ticket) if it is not None)
+    told = f"{kind}({numbers})" if numbers else kind
+    return Refused(f"NotSound({told})" if kind in OF_NETS else told, fault.status, kind, place, ticket)
 
 
 def _judged(status, out, text, taken, schedule=None):
     """The text of a call, or what its status says; a text that is refused is so as what it is taken for."""
     if status in (REFUSED, BAD_FILE):
-        raise _found_fault(text, taken, schedule, out.decode().removeprefix("refused: ").rstrip("\n"))
+        raise _found_fault(text, taken, schedule)
     if status == NO_MEMORY:
         raise MemoryError
     if status == BAD_CALL:
@@ -160,12 +175,14 @@ def _run_as(by_value):
 
 
 def _number(number):
-    """A number that 32 bits hold; any other is one that no call takes."""
-    return number if 0 <= number < 1 << 32 else (1 << 32) - 1
+    """A number that 32 bits hold; no call takes another."""
+    if not 0 <= operator.index(number) < 1 << 32:
+        raise ValueError("a number is outside its range")
+    return operator.index(number)
 
 
 def _bytes(text):
-    text = text.encode() if isinstance(text, str) else bytes(text)
+    text = text.encode() if isinstance(text, str) else bytes(memoryview(text))
     return text, len(text)
 
 
@@ -193,7 +210,7 @@ def tell_each(text, arguments, rows, budget=BUDGET):
     given = (ctypes.c_uint64 * max(len(values), 1))(*values)
     answers = (_Answer * max(len(rows), 1))()
     words = _number(arguments), given, len(values), _number(budget), answers, len(rows)
-    _judged(*call("goi_tell_each", *text, *words), text, min(AS_FUNCTION + _number(arguments), (1 << 32) - 1))
+    _judged(*call("goi_tell_each", *text, *words), text, min(AS_FUNCTION + arguments, (1 << 32) - 1))
     return [_answer(answer) for answer in answers[: len(rows)]]
 
 
