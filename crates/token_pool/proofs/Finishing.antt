@@ -2,6 +2,7 @@
 use Rattle.std.proofs.Common.{◌≡◌, ◌+◌, ◌-◌, ◌<◌, ◌≤◌, ℕ, zero, suc, Result, IfOk, List, [], ◌∷◌, ◌++◌}
 use Rattle.std.proofs.Common.{length, Option, Some, None, refl, sym, ap, ◌∙◌, subst, append_assoc, append-nil, length-append, arith}
 use Rattle.std.proofs.lemmas.List.Elements.{All-append}
+use Rattle.std.proofs.lemmas.Option.{same_Some}
 use Rattle.pcf_values.specs.Most.{most_budget}
 use Rattle.net_build.specs.Nets.{NetTree}
 use Rattle.interleave_laws.specs.Start.{start_of}
@@ -17,11 +18,12 @@ use Rattle.interleave_laws.proofs.OneWorker.{least_found, least_search, one_fini
 use Rattle.interleave_core.proofs.AloneRuns.{least_seen}
 use Rattle.schedule_log.specs.declared.entry.Entry.{Entry}
 use Rattle.schedule_log.specs.Logs.{IsMadeBy, by, tickets_in_log}
+use Rattle.schedule_log.proofs.RunByRun.{tickets_both}
 use Rattle.schedule_log.proofs.Taken.{tickets_all}
 use Rattle.token_pool.specs.declared.ending.Ended.{Ended}
 use Rattle.token_pool.specs.Pools.{Pool, Good}
 use Rattle.token_pool.specs.Ending.{remaining, finished, Finishes, Suits, Replays}
-use Rattle.token_pool.proofs.Moving.{tickets_both, tickets_by, made_by}
+use Rattle.token_pool.proofs.Moving.{tickets_by, made_by}
 
 -- where a finisher stands
 pub record Plays (net : NetTree) (S0 : MapState) (budget w : ℕ) (log0 log : List Entry) (S : MapState) : Type 0 where
@@ -87,7 +89,7 @@ finishes_replays p e good f =
     let (S, h, a) = f.answers in
     let here = seen_leads p.net (tickets_in_log e.log.entries) S h in
     let same : Some (seen S) ≡ Some T = sym here ∙ ap (run p.net (start (start_of p.net))) all ∙ g in
-    let answer : e.answer ≡ T.answered = a ∙ ap (λ (U : State). U.answered) (some_state (seen S) T same) in
+    let answer : e.answer ≡ T.answered = a ∙ ap (λ (U : State). U.answered) (same_Some (seen S) T same) in
     let n = length-append (tickets_in_log p.log) more in
     let m = ap length all in
     let k = tickets_all p.log in
@@ -104,9 +106,6 @@ finishes_replays p e good f =
           all ∙ sym (one_continues p.net (tickets_in_log p.log) (seen p.state) led (good.alone single).ours (p.budget - length p.log)) ∙
           ap (one p.net) whole;
     }
-  where
-    some_state : (S T : State) → Some S ≡ Some T → S ≡ T
-    some_state S T h = cc
 
 pub finishes : (p P : Pool) → p ≡ P → (e : Ended) (S : MapState) → LeadsToMap p.net (tickets_in_log e.log.entries) S →
     e.answer ≡ S.answered → e.log.entries ≡ finished p.net p.state p.budget p.workers p.log → Finishes P e

@@ -24,6 +24,7 @@ use Rattle.interleave_laws.proofs.Stays.{least_stays}
 use Rattle.interleave_core.proofs.AloneRuns.{least_seen}
 use Rattle.schedule_log.specs.declared.entry.Entry.{Entry}
 use Rattle.schedule_log.specs.Logs.{IsMadeBy, by, tickets_in_log}
+use Rattle.schedule_log.proofs.RunByRun.{tickets_both}
 use Rattle.schedule_log.proofs.Taken.{tickets_all}
 use Rattle.token_pool.specs.declared.entries.Held.{Held}
 use Rattle.token_pool.specs.Pools.{Pool, Holds, Good}
@@ -87,11 +88,6 @@ module _ (net : NetTree) (runs : Runs net) where
                 (λ k. let (y, at) = steps_live net U T i n k h in
                 least_stays net runs log (seen S) led (seen U) i y (least (omega arith)) stepped at));
           }
-
--- the tickets of one log behind another
-pub tickets_both : (log more : List Entry) → tickets_in_log (log ++ more) ≡ tickets_in_log log ++ tickets_in_log more
-tickets_both [] more = refl
-tickets_both (e ∷ log) more = ap (λ l. e.ticket ∷ l) (tickets_both log more)
 
 -- the tickets of moves that are made by one worker
 pub tickets_by : (w : ℕ) (log : List ℕ) → tickets_in_log (by w log) ≡ log
