@@ -351,10 +351,28 @@ module _ (P : Scope) (q : String → Bool) (it : Sized P) where
 
   positives_are : All L.positive positive_known
   positives_are =
-      let h = it.G.0 in let j = it.B.0 in
-      (at_least "CELLS" it.CELLS.0 n, (at_least "D" it.D.0 d, (and_from _ _ (lt-ltb 0 (p "C" + (p "P" + 66)) (omega arith)) fork_size,
-      (at_least "C" it.C.0 c, (at_least "B" (omega arith) b, (at_least "E" it.E.0 e, (at_least "G" (omega arith) g,
-      (at_least "S" it.S.0 s, (at_least "P" it.P.0 k, tt)))))))))
+      let h = it.G.0 in let j = it.B.0 in (
+        at_least "CELLS" it.CELLS.0 n,
+        (
+          at_least "D" it.D.0 d,
+          (
+            and_from _ _ (lt-ltb 0 (p "C" + (p "P" + 66)) (omega arith)) fork_size,
+            (
+              at_least "C" it.C.0 c,
+              (
+                at_least "B" (omega arith) b,
+                (
+                  at_least "E" it.E.0 e,
+                  (
+                    at_least "G" (omega arith) g,
+                    (at_least "S" it.S.0 s, (at_least "P" it.P.0 k, tt)),
+                  ),
+                ),
+              ),
+            ),
+          ),
+        ),
+      )
 
   within : (x : String) (h l : Size) → amount p h < P.width x → amount p l ≤ amount p h → size_fits p h ≡ true → size_fits p l ≡ true →
       L.bounds x h l ≡ true
@@ -381,25 +399,46 @@ module _ (P : Scope) (q : String → Bool) (it : Sized P) where
   parts_are =
       let c0 = it.C.0 in let p0 = it.P.0 in let d0 = it.D.0 in let g0 = it.G.0 in let b0 = it.B.0 in let f = it.fork_has in
       let m = it.marks.1 in let s0 = it.sigs.0 in let s1 = it.sigs.1 in let x0 = it.boxes.0 in let x1 = it.boxes.1 in
-      let s2 = it.more_sigs in let x2 = it.more_boxes in
-      (within "more_marks" (less (named "D") (count 1)) (count 0) (omega arith) (omega arith) (one_less "D" d0 d) refl,
-      (within "more_sigs" (less (named "G") (count 1)) (count 0) (omega arith) (omega arith) (one_less "G" (omega arith) g) refl,
-      (within "more_boxes" (less (named "B") (count 1)) (count 0) (omega arith) (omega arith) (one_less "B" (omega arith) b) refl,
-      (within "fork_has" (more (named "C") (more (named "P") (count 65))) (more (named "P") (count 66)) (omega arith) (omega arith)
-      fork_high fork_low,
-      (within "fork_has" (more (named "P") (count 65)) (count 66) (omega arith) (omega arith) fork_from refl,
-      (within "fork_has" (count 64) (count 0) (omega arith) (omega arith) refl refl,
-      (within "next_sigs" (named "P") (count 1) (omega arith) (omega arith) k refl,
-      (within "next_boxes" (named "P") (count 1) (omega arith) (omega arith) k refl,
-      (within "sigs" (named "P") (count 0) (omega arith) (omega arith) k refl,
-      (within "boxes" (named "P") (count 0) (omega arith) (omega arith) k refl, tt))))))))))
+      let s2 = it.more_sigs in let x2 = it.more_boxes in (
+        within "more_marks" (less (named "D") (count 1)) (count 0) (omega arith) (omega arith) (one_less "D" d0 d) refl,
+        (
+          within "more_sigs" (less (named "G") (count 1)) (count 0) (omega arith) (omega arith) (one_less "G" (omega arith) g) refl,
+          (
+            within "more_boxes" (less (named "B") (count 1)) (count 0) (omega arith) (omega arith) (one_less "B" (omega arith) b) refl,
+            (
+              within "fork_has" (more (named "C") (more (named "P") (count 65))) (more (named "P") (count 66)) (omega arith) (omega arith)
+                  fork_high fork_low,
+              (
+                within "fork_has" (more (named "P") (count 65)) (count 66) (omega arith) (omega arith) fork_from refl,
+                (
+                  within "fork_has" (count 64) (count 0) (omega arith) (omega arith) refl refl,
+                  (
+                    within "next_sigs" (named "P") (count 1) (omega arith) (omega arith) k refl,
+                    (
+                      within "next_boxes" (named "P") (count 1) (omega arith) (omega arith) k refl,
+                      (
+                        within "sigs" (named "P") (count 0) (omega arith) (omega arith) k refl,
+                        (within "boxes" (named "P") (count 0) (omega arith) (omega arith) k refl, tt),
+                      ),
+                    ),
+                  ),
+                ),
+              ),
+            ),
+          ),
+        ),
+      )
 
   bits_are : All (λ (o : Bit). L.at_bit o.of (num o.at)) bits_known
   bits_are =
       let c0 = it.C.0 in let d0 = it.D.0 in let g0 = it.G.0 in let b0 = it.B.0 in let f = it.fork_has in let m = it.marks.0 in
-      let s0 = it.sigs.0 in let x0 = it.boxes.0 in
-      (lt-ltb 65 (P.width "fork_has") (omega arith), (lt-ltb 0 (P.width "marks") (omega arith),
-      (lt-ltb 0 (P.width "sigs") (omega arith), (lt-ltb 0 (P.width "boxes") (omega arith), tt))))
+      let s0 = it.sigs.0 in let x0 = it.boxes.0 in (
+        lt-ltb 65 (P.width "fork_has") (omega arith),
+        (
+          lt-ltb 0 (P.width "marks") (omega arith),
+          (lt-ltb 0 (P.width "sigs") (omega arith), (lt-ltb 0 (P.width "boxes") (omega arith), tt)),
+        ),
+      )
 
   -- the limits of the module, by these lists
   pub knows : L ≡ known L widths_known positive_known parts_known bits_known
@@ -499,8 +538,20 @@ module _ (wires start : ℕ) (z : Sizes) (rows : Arms) (some : 0 < wires) (few :
     (r : (M : Limits) → arms_fit M rows ≡ true) where
   declares : (b : Bool) → Declares (scope (cell_module_with wires start z rows (cell_product b))) wires z
   declares b = record {
-    C = refl; S = refl; P = refl; D = refl; G = refl; B = refl; CELLS = refl; E = refl; fork_has = refl; marks = (refl, refl);
-    sigs = (refl, refl); boxes = (refl, refl); more_sigs = refl; more_boxes = refl;
+    C = refl;
+    S = refl;
+    P = refl;
+    D = refl;
+    G = refl;
+    B = refl;
+    CELLS = refl;
+    E = refl;
+    fork_has = refl;
+    marks = (refl, refl);
+    sigs = (refl, refl);
+    boxes = (refl, refl);
+    more_sigs = refl;
+    more_boxes = refl;
   }
 
   fits_with : (b : Bool) → items_fit (limits (cell_module_with wires start z rows (cell_product b)))

@@ -23,8 +23,20 @@ module _ (wires start : ℕ) (z : Sizes) (rows : Arms) (some : 0 < wires) (few :
     (r : (M : Limits) → arms_fit M rows ≡ true) where
   declares : Declares (scope (late_module_with wires start z rows)) wires z
   declares = record {
-    C = refl; S = refl; P = refl; D = refl; G = refl; B = refl; CELLS = refl; E = refl; fork_has = refl; marks = (refl, refl);
-    sigs = (refl, refl); boxes = (refl, refl); more_sigs = refl; more_boxes = refl;
+    C = refl;
+    S = refl;
+    P = refl;
+    D = refl;
+    G = refl;
+    B = refl;
+    CELLS = refl;
+    E = refl;
+    fork_has = refl;
+    marks = (refl, refl);
+    sigs = (refl, refl);
+    boxes = (refl, refl);
+    more_sigs = refl;
+    more_boxes = refl;
   }
 
   fits_with : items_fit (limits (late_module_with wires start z rows)) (late_module_with wires start z rows) ≡ true
