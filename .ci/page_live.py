@@ -47,7 +47,8 @@ def try_without(page, program, folder):
     try_whole(page, whole)
     page.judge("the page is the same when it is made again", live.page(b"\0asm\1\0\0\0", "no sources") == whole)
     other = live.page(b"\0asm\1\0\0\0", "no sources", "unproved")
-    page.judge("a page whose library wasn't proved says so", (live.UNPROVED in whole, other.replace(live.UNPROVED, "") == whole), (False, True))
+    says_so = (live.UNPROVED in whole, other.replace(live.UNPROVED, "") == whole)
+    page.judge("a page whose library wasn't proved says so, and no other", says_so, (False, True))
     try_refusals(page, live)
     lacks = [it for it in ("node", "rt") if shutil.which(it) is None]
     if lacks:
