@@ -4,10 +4,11 @@ ghost use Rattle.std.specs.Prelude.{◌≡◌, ◌<◌, ◌≤◌, ◌^◌, ℕ,
 ghost use Rattle.cell_module.specs.Sizes.{circuit_of};
 ghost use Rattle.circuit_module.specs.Stands.{Small, value_number};
 ghost use Rattle.circuit_runs.specs.Running.{after, Comes, ComesOf, Goes, IsDone, Shows, ShowsLast};
-ghost use Rattle.verilog_tree.specs.Meaning.{edge as edge_of, set_vec};
+ghost use Rattle.verilog_tree.specs.Meaning.{edge as edge_of, scope, set_vec};
 ghost use Rattle.verilog_tree.specs.Names.{text_of};
 ghost use Rattle.verilog_tree.specs.Views.{item_of};
 ghost use Rattle.verilog_run.specs.Held.{held, nothing};
+ghost use Rattle.verilog_run.specs.Scopes.{scope_of};
 
 use crate::numbers::{small, value_of};
 use crate::outcome::Outcome;
@@ -16,30 +17,24 @@ use circuit_tree::circuit_items;
 use net_build::Net;
 use pcf_values::Val;
 use std::alloc::{AllocError, Global};
-use verilog_run::{Contents, next_edge};
+use verilog_run::{Contents, Scene, next_edge};
 use verilog_tree::Item;
 use wide_numbers::Number;
 
 /// One edge with `rst` as told.
-fn edge<'a>(
+fn edge(
     alloc: Global,
-    items: &'a [Item<'a>],
+    scene: &Scene,
+    items: &[Item<'_>],
     store: &mut Contents,
     rst: u128,
-) -> Result<Contents, AllocError>
-    ensures { IfOk result (λ s. held s ≡ edge_of (map item_of items.now) (set_vec "rst" rst (held store.old))) }
+) -> Result<(), AllocError>
+    requires { scope_of scene.now ≡ scope (map item_of items.now) }
+    ensures { OnOk result (held store.new ≡ edge_of (map item_of items.now) (set_vec "rst" rst (held store.old))) }
 {
     let number = Number::of(alloc, rst)?;
     store.set_vector(alloc, b"rst", number)?;
-    next_edge(alloc, items, store)
-}
-
-/// The edge of the reset, from registers that hold 0.
-fn reset<'a>(alloc: Global, items: &'a [Item<'a>]) -> Result<Contents, AllocError>
-    ensures { IfOk result (λ s. held s ≡ edge_of (map item_of items.now) (set_vec "rst" 1 nothing)) }
-{
-    let mut store = Contents::new(alloc);
-    edge(alloc, items, &mut store, 1)
+    next_edge(scene, items, store)
 }
 
 /// Whether a register is 0.
@@ -99,14 +94,6 @@ fn shown(alloc: Global, store: &Contents, k: u64) -> Result<Option<Outcome>, All
     Ok(Some(told))
 }
 
-/// One edge with `rst` at 0.
-fn go_on<'a>(alloc: Global, items: &'a [Item<'a>], store: &mut Contents) -> Result<(), AllocError>
-    ensures { OnOk result (held store.new ≡ edge_of (map item_of items.now) (set_vec "rst" 0 (held store.old))) }
-{
-    *store = edge(alloc, items, store, 0)?;
-    Ok(())
-}
-
 /// What is told after the last edge.
 fn last(alloc: Global, store: &Contents, cycles: u64) -> Result<Outcome, AllocError>
     ensures { IfOk result (λ o. ShowsLast (held store.now) cycles o) }
@@ -118,31 +105,50 @@ fn last(alloc: Global, store: &Contents, cycles: u64) -> Result<Outcome, AllocEr
 }
 
 /// The run of a module's items from the reset on.
-fn run_from<'a>(
+fn run_from(
     alloc: Global,
-    items: &'a [Item<'a>],
+    scene: &Scene,
+    items: &[Item<'_>],
     store: &mut Contents,
     cycles: u64,
 ) -> Result<Outcome, AllocError>
-    requires { held store.old ≡ after (map item_of items.now) 0 }
+    requires scope { scope_of scene.now ≡ scope (map item_of items.now) }
+    requires reset { held store.old ≡ after (map item_of items.now) 0 }
     ensures { IfOk result (λ o. ComesOf (map item_of items.now) cycles o) }
 {
     for k in 0..cycles {
         match shown(alloc, store, k)? {
             Some(told) => return Ok(told),
-            None => go_on(alloc, items, store)?,
+            None => edge(alloc, scene, items, store, 0)?,
         }
     }
     let told = last(alloc, store, cycles)?;
     Ok(told)
 }
 
-/// The run of a module's items.
-fn run_items<'a>(alloc: Global, items: &'a [Item<'a>], cycles: u64) -> Result<Outcome, AllocError>
+/// The run of a module's items, from registers that hold 0.
+fn run_whole(
+    alloc: Global,
+    scene: &Scene,
+    items: &[Item<'_>],
+    store: &mut Contents,
+    cycles: u64,
+) -> Result<Outcome, AllocError>
+    requires scope { scope_of scene.now ≡ scope (map item_of items.now) }
+    requires empty { held store.old ≡ nothing }
     ensures { IfOk result (λ o. ComesOf (map item_of items.now) cycles o) }
 {
-    let mut store = reset(alloc, items)?;
-    let told = run_from(alloc, items, &mut store, cycles);
+    edge(alloc, scene, items, store, 1)?;
+    run_from(alloc, scene, items, store, cycles)
+}
+
+/// The run of a module's items.
+fn run_items(alloc: Global, items: &[Item<'_>], cycles: u64) -> Result<Outcome, AllocError>
+    ensures { IfOk result (λ o. ComesOf (map item_of items.now) cycles o) }
+{
+    let scene = Scene::new(alloc, items)?;
+    let mut store = Contents::new(alloc);
+    let told = run_whole(alloc, &scene, items, &mut store, cycles);
     drop(store);
     told
 }

@@ -1,8 +1,10 @@
 -- names as bytes and as texts
 pub mod Texts
--- what a list of cells holds after a write
-pub mod Writes
--- what an assignment writes past the end
+-- what a table holds after a number was put into it
+pub mod Putting
+-- what an assignment to a word writes
 pub mod Placing
 -- what statements and items do, by what their parts do
 pub mod Stepping
+-- what tables say of the names that items declare
+pub mod Noting

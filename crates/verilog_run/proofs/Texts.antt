@@ -8,7 +8,7 @@ use Rattle.verilog_tree.specs.Names.{text_of}
 use Rattle.verilog_tree.proofs.Names.{codes_more}
 
 -- the text of bytes has them
-codes_text : (bs : List ℕ) → ((i : ℕ) → get_or bs i 0 < 256) → codes (text_of bs) ≡ bs
+pub codes_text : (bs : List ℕ) → ((i : ℕ) → get_or bs i 0 < 256) → codes (text_of bs) ≡ bs
 codes_text [] h = refl
 codes_text (b ∷ bs) h =
     let small : b < 256 = h 0 in

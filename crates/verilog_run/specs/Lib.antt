@@ -1,12 +1,10 @@
 -- What the contents of a module are, as a store of the meaning.
 pub mod Held
--- So many edges.
-pub mod Clocking
--- What a list of cells holds.
+-- What a table holds.
 pub mod Entries
--- What the items of a module declare.
+-- What tables say of the names that a module declares.
 pub mod Scopes
--- The numbers of parameters.
-pub mod Parameters
+-- What the clock's blocks are to write.
+pub mod Writes
 -- Parts of the meaning that private functions speak of.
 pub mod Parts

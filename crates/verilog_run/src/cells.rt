@@ -1,67 +1,89 @@
-//! Numbers under names and places.
+//! Lists of numbers under names.
 
-ghost use Rattle.std.specs.Prelude.{◌≡◌, ◌/◌, ◌%◌, ◌^◌, ℕ, ◌<◌, ◌&&◌, nat_eq, IfOk, IfSome, IfNone, OnOk, length, []};
-ghost use Rattle.std.specs.Prelude.{◌∷◌, ◌++◌};
+ghost use Rattle.std.specs.Prelude.{◌≡◌, ◌<◌, ◌≤◌, ℕ, List, nat_eq, IfSome, IfNone, IfOk, OnOk, length, get_or, [], ◌∷◌, ◌++◌};
 ghost use lib.Text.{eqt};
-ghost use Rattle.verilog_tree.specs.Meaning.{fit, flag};
 ghost use Rattle.verilog_tree.specs.Names.{text_of};
-ghost use Rattle.verilog_run.specs.Entries.{entries, entry, found, new_entry, put_at, Holds};
+ghost use Rattle.verilog_run.specs.Entries.{entries, found, new_entry, put_at, numbers_at, Holds, Puts};
 
 use crate::names::same_name;
 use std::alloc::{AllocError, Global};
 use wide_numbers::Number;
 
-/// A number under a name, at a place.
+/// The numbers under a name: that of a vector, or the words of a memory as far as they were written.
 #[derive(Drop)]
 pub(crate) struct Cell {
     pub(crate) name: Vec<u8>,
-    pub(crate) at: usize,
-    pub(crate) number: Number,
+    pub(crate) numbers: Vec<Number>,
 }
 
-/// Whether a cell has this name and place.
-fn is_at(cell: &Cell, name: &[u8], at: usize) -> bool
-    ensures { result ≡ (eqt (text_of cell.now.name.items) (text_of name.now) && nat_eq cell.now.at at) }
+/// Whether a cell has this name.
+fn is_named(cell: &Cell, name: &[u8]) -> bool
+    ensures { result ≡ eqt (text_of cell.now.name.items) (text_of name.now) }
 {
-    same_name(&cell.name, name) && cell.at == at
+    same_name(&cell.name, name)
 }
 
-/// The number under a name at a place.
-pub(crate) fn find<'c>(cells: &'c [Cell], name: &[u8], at: usize) -> Option<&'c Number>
-    ensures some { IfSome result (λ n. n.now ≡ found (entries cells.now) (text_of name.now) at) }
-    ensures none { IfNone result (0 ≡ found (entries cells.now) (text_of name.now) at) }
+/// The numbers under a name.
+pub(crate) fn find<'c>(cells: &'c [Cell], name: &[u8]) -> &'c [Number]
+    ensures { (i : ℕ) → get_or result.now i 0 ≡ found (entries cells.now) (text_of name.now) i }
 {
     match cells {
-        [] => None,
+        [] => &[],
         [first, rest @ ..] => {
-            if is_at(first, name, at) {
-                Some(&first.number)
+            if is_named(first, name) {
+                &first.numbers
             } else {
-                find(rest, name, at)
+                find(rest, name)
             }
         }
     }
 }
 
-/// Where the cell of this name and place stands.
-fn place(cells: &[Cell], name: &[u8], at: usize) -> Option<usize>
-    ensures within { IfSome result (λ i. i < length cells.now) }
-    ensures some { IfSome result (λ i. (n : ℕ) → Holds (put_at (entries cells.now) i n) (entries cells.now) (text_of name.now) at n) }
-    ensures none { IfNone result ((n : ℕ) →
-        Holds (entries cells.now ++ new_entry (text_of name.now) at n ∷ []) (entries cells.now) (text_of name.now) at n) }
+/// Where the cell of this name stands.
+fn place(cells: &[Cell], name: &[u8]) -> Option<usize>
+    ensures within { IfSome result (λ k. k < length cells.now) }
+    ensures some { IfSome result (λ k. (i n : ℕ) (ns : List ℕ) → Puts ns (numbers_at (entries cells.now) k) i n →
+        Holds (put_at (entries cells.now) k ns) (entries cells.now) (text_of name.now) i n) }
+    ensures none { IfNone result ((i n : ℕ) (ns : List ℕ) → Puts ns [] i n →
+        Holds (entries cells.now ++ new_entry (text_of name.now) ns ∷ []) (entries cells.now) (text_of name.now) i n) }
 {
     match cells {
         [] => None,
         [first, rest @ ..] => {
-            if is_at(first, name, at) {
+            if is_named(first, name) {
                 return Some(0);
             }
-            match place(rest, name, at) {
-                Some(i) => Some(i + 1),
+            match place(rest, name) {
+                Some(k) => Some(k + 1),
                 None => None,
             }
         }
     }
+}
+
+/// Adds zeros, until there is a number at a place.
+fn reach(alloc: Global, numbers: &mut Vec<Number>, at: usize) -> Result<(), AllocError>
+    ensures long { OnOk result (at < length numbers.new.items) }
+    ensures same { OnOk result ((j : ℕ) → get_or numbers.new.items j 0 ≡ get_or numbers.old.items j 0) }
+{
+    while numbers.len() <= at {
+        numbers.push(Number::zero(alloc))?;
+    }
+    Ok(())
+}
+
+/// Puts a number at a place.
+fn put_number(
+    alloc: Global,
+    numbers: &mut Vec<Number>,
+    at: usize,
+    number: Number,
+) -> Result<(), AllocError>
+    ensures { OnOk result (Puts numbers.new.items numbers.old.items at number) }
+{
+    reach(alloc, numbers, at)?;
+    numbers[at] = number;
+    Ok(())
 }
 
 /// Adds a cell at the end.
@@ -72,14 +94,17 @@ fn add(
     at: usize,
     number: Number,
 ) -> Result<(), AllocError>
-    ensures { OnOk result (entries cells.new.items ≡ entries cells.old.items ++ new_entry (text_of name.now) at number ∷ []) }
+    ensures { OnOk result ((ns : List ℕ) × Puts ns [] at number
+        × (entries cells.new.items ≡ entries cells.old.items ++ new_entry (text_of name.now) ns ∷ [])) }
 {
+    let mut numbers = Vec::new(alloc);
+    put_number(alloc, &mut numbers, at, number)?;
     let name = Vec::from_slice(alloc, name)?;
-    cells.push(Cell { name, at, number })?;
+    cells.push(Cell { name, numbers })?;
     Ok(())
 }
 
-/// Puts a number into the cell of this name and place, or into a new one.
+/// Puts a number under a name and at a place.
 pub(crate) fn put(
     alloc: Global,
     cells: &mut Vec<Cell>,
@@ -89,100 +114,11 @@ pub(crate) fn put(
 ) -> Result<(), AllocError>
     ensures { OnOk result (Holds (entries cells.new.items) (entries cells.old.items) (text_of name.now) at number) }
 {
-    match place(cells, name, at) {
-        Some(i) => {
-            cells[i].number = number;
+    match place(cells, name) {
+        Some(k) => {
+            put_number(alloc, &mut cells[k].numbers, at, number)?;
             Ok(())
         }
         None => add(alloc, cells, name, at, number),
-    }
-}
-
-/// An equal cell.
-fn copied(alloc: Global, cell: &Cell) -> Result<Cell, AllocError>
-    ensures { IfOk result (λ c. entry c ≡ entry cell.now) }
-{
-    let name = Vec::from_slice(alloc, &cell.name)?;
-    let number = cell.number.copy(alloc)?;
-    Ok(Cell {
-        name,
-        at: cell.at,
-        number,
-    })
-}
-
-/// Adds equal cells at the end.
-fn add_copies(alloc: Global, out: &mut Vec<Cell>, cells: &[Cell]) -> Result<(), AllocError>
-    ensures { OnOk result (entries out.new.items ≡ entries out.old.items ++ entries cells.now) }
-{
-    match cells {
-        [] => Ok(()),
-        [first, rest @ ..] => {
-            let cell = copied(alloc, first)?;
-            out.push(cell)?;
-            add_copies(alloc, out, rest)
-        }
-    }
-}
-
-/// Equal cells.
-pub(crate) fn copies(alloc: Global, cells: &[Cell]) -> Result<Vec<Cell>, AllocError>
-    ensures { IfOk result (λ v. entries v.items ≡ entries cells.now) }
-{
-    let mut out = Vec::new(alloc);
-    add_copies(alloc, &mut out, cells)?;
-    Ok(out)
-}
-
-/// The number under a name at a place.
-pub(crate) fn number_at(
-    alloc: Global,
-    cells: &[Cell],
-    name: &[u8],
-    at: usize,
-) -> Result<Number, AllocError>
-    ensures { IfOk result (λ n. n ≡ found (entries cells.now) (text_of name.now) at) }
-{
-    match find(cells, name, at) {
-        Some(n) => n.copy(alloc),
-        None => Ok(Number::zero(alloc)),
-    }
-}
-
-/// A bit of it.
-pub(crate) fn number_bit(
-    alloc: Global,
-    cells: &[Cell],
-    name: &[u8],
-    at: usize,
-    place: usize,
-) -> bool
-    ensures { flag result ≡ found (entries cells.now) (text_of name.now) at / 2 ^ place % 2 }
-{
-    match find(cells, name, at) {
-        Some(n) => n.bit(place),
-        None => {
-            let zero = Number::zero(alloc);
-            zero.bit(place)
-        }
-    }
-}
-
-/// So many bits of it, from a place on.
-pub(crate) fn number_part(
-    alloc: Global,
-    cells: &[Cell],
-    name: &[u8],
-    start: usize,
-    count: usize,
-) -> Result<Number, AllocError>
-    ensures { IfOk result (λ n. n ≡ fit count (found (entries cells.now) (text_of name.now) 0 / 2 ^ start)) }
-{
-    match find(cells, name, 0) {
-        Some(n) => n.part(alloc, start, count),
-        None => {
-            let zero = Number::zero(alloc);
-            zero.part(alloc, start, count)
-        }
     }
 }

@@ -1,19 +1,21 @@
 //! What the vectors and the memories of a module hold.
 
-ghost use Rattle.std.specs.Prelude.{◌≡◌, ◌/◌, ◌%◌, ◌^◌, ◌<◌, IfOk, OnOk};
-ghost use Rattle.verilog_tree.specs.Meaning.{flag, set_vec, set_word as set_word_in, fit};
+ghost use Rattle.std.specs.Prelude.{◌≡◌, IfOk, OnOk};
+ghost use Rattle.verilog_tree.specs.Meaning.{set_vec};
 ghost use Rattle.verilog_tree.specs.Names.{text_of};
-ghost use Rattle.verilog_run.specs.Held.{held, nothing};
+ghost use Rattle.verilog_run.specs.Entries.{Name};
+ghost use Rattle.verilog_run.specs.Held.{held, nothing, with_word};
 
-use crate::cells::{Cell, copies, number_at, number_bit, number_part, put};
+use crate::copies::copy;
+use crate::table::{Table, number, number_at, put_at};
 use std::alloc::{AllocError, Global};
 use wide_numbers::Number;
 
 /// What the vectors and the memories of a module hold. What isn't written yet, and what is read past an end, is 0.
 #[derive(Drop)]
 pub struct Contents {
-    vectors: Vec<Cell>,
-    words: Vec<Cell>,
+    vectors: Table,
+    words: Table,
 }
 
 impl Contents {
@@ -22,22 +24,23 @@ impl Contents {
         ensures { held result ≡ nothing }
     {
         Contents {
-            vectors: Vec::new(alloc),
-            words: Vec::new(alloc),
+            vectors: Table::new(alloc),
+            words: Table::new(alloc),
         }
     }
 
-    /// The same, in memory of its own.
+    /// What the vectors hold, in memory of its own, and no memory's words.
     ///
     /// # Errors
     ///
     /// Only where memory runs out.
-    pub fn copy(&self, alloc: Global) -> Result<Contents, AllocError>
-        ensures { IfOk result (λ s. held s ≡ held self.now) }
+    pub fn vectors(&self, alloc: Global) -> Result<Contents, AllocError>
+        ensures { IfOk result (λ s. (x : Name) → (held s).vec x ≡ (held self.now).vec x) }
     {
-        let vectors = copies(alloc, &self.vectors)?;
-        let words = copies(alloc, &self.words)?;
-        Ok(Contents { vectors, words })
+        Ok(Contents {
+            vectors: copy(alloc, &self.vectors)?,
+            words: Table::new(alloc),
+        })
     }
 
     /// The number of a vector.
@@ -48,36 +51,12 @@ impl Contents {
     pub fn vector(&self, alloc: Global, name: &[u8]) -> Result<Number, AllocError>
         ensures { IfOk result (λ n. n ≡ (held self.now).vec (text_of name.now)) }
     {
-        number_at(alloc, &self.vectors, name, 0)
-    }
-
-    /// A bit of a vector.
-    pub(crate) fn bit(&self, alloc: Global, name: &[u8], at: usize) -> bool
-        ensures { flag result ≡ (held self.now).vec (text_of name.now) / 2 ^ at % 2 }
-    {
-        number_bit(alloc, &self.vectors, name, 0, at)
-    }
-
-    /// So many bits of a vector, from a place on.
-    pub(crate) fn part(
-        &self,
-        alloc: Global,
-        name: &[u8],
-        start: usize,
-        count: usize,
-    ) -> Result<Number, AllocError>
-        ensures { IfOk result (λ n. n ≡ fit count ((held self.now).vec (text_of name.now) / 2 ^ start)) }
-    {
-        number_part(alloc, &self.vectors, name, start, count)
+        number(alloc, &self.vectors, name)
     }
 
     /// A word of a memory.
-    ///
-    /// # Errors
-    ///
-    /// Only where memory runs out.
-    pub fn word(&self, alloc: Global, name: &[u8], at: usize) -> Result<Number, AllocError>
-        ensures { IfOk result (λ n. n ≡ (held self.now).mem (text_of name.now) at) }
+    pub(crate) fn word(&self, alloc: Global, name: &[u8], at: &Number) -> Result<Number, AllocError>
+        ensures { IfOk result (λ n. n ≡ (held self.now).mem (text_of name.now) at.now) }
     {
         number_at(alloc, &self.words, name, at)
     }
@@ -95,27 +74,26 @@ impl Contents {
     ) -> Result<(), AllocError>
         ensures { OnOk result (held self.new ≡ set_vec (text_of name.now) number (held self.old)) }
     {
-        put(alloc, &mut self.vectors, name, 0, number)?;
+        put_at(alloc, &mut self.vectors, name, 0, number)?;
         Ok(())
     }
 
-    /// Puts a number into a word of a memory of so many words.
-    ///
-    /// # Errors
-    ///
-    /// Only where memory runs out.
-    pub fn set_word(
+    /// Puts a number into a word of a memory. No memory holds 2^62 words.
+    pub(crate) fn set_word(
         &mut self,
         alloc: Global,
         name: &[u8],
-        words: usize,
-        at: usize,
+        at: &Number,
         number: Number,
     ) -> Result<(), AllocError>
-        requires { at < words }
-        ensures { OnOk result (held self.new ≡ set_word_in (text_of name.now) words at number (held self.old)) }
+        ensures { OnOk result (held self.new ≡ with_word (text_of name.now) at.now number (held self.old)) }
     {
-        put(alloc, &mut self.words, name, at, number)?;
-        Ok(())
+        match at.within(1 << 62) {
+            Some(i) => {
+                put_at(alloc, &mut self.words, name, i, number)?;
+                Ok(())
+            }
+            None => Err(AllocError),
+        }
     }
 }

@@ -6,51 +6,51 @@ ghost use Rattle.verilog_tree.specs.Views.{two_of, way_of, test_of, logic_of};
 
 use std::alloc::{AllocError, Global};
 use verilog_tree::{Comparison, Connective, Direction, Operation};
-use wide_numbers::{Number, left_within, right_by};
+use wide_numbers::{Number, left_by, left_within, low_by, ones_by, right_by};
 
 /// The sum, cut to a width.
-fn plus(alloc: Global, w: usize, m: &Number, n: &Number) -> Result<Number, AllocError>
-    ensures { IfOk result (λ r. r ≡ fit w (m.now + n.now)) }
+fn plus(alloc: Global, w: &Number, m: &Number, n: &Number) -> Result<Number, AllocError>
+    ensures { IfOk result (λ r. r ≡ fit w.now (m.now + n.now)) }
 {
     let all = m.plus(alloc, n)?;
-    all.low(alloc, w)
+    low_by(alloc, &all, w)
 }
 
 /// The product, cut to a width.
-fn times(alloc: Global, w: usize, m: &Number, n: &Number) -> Result<Number, AllocError>
-    ensures { IfOk result (λ r. r ≡ fit w (m.now * n.now)) }
+fn times(alloc: Global, w: &Number, m: &Number, n: &Number) -> Result<Number, AllocError>
+    ensures { IfOk result (λ r. r ≡ fit w.now (m.now * n.now)) }
 {
     let all = m.times(alloc, n)?;
-    all.low(alloc, w)
+    low_by(alloc, &all, w)
 }
 
 /// The number with one bit more than a width has, put before another.
-fn from_end(alloc: Global, w: usize, m: &Number) -> Result<Number, AllocError>
-    ensures { IfOk result (λ r. r ≡ 2 ^ w + m.now) }
+fn from_end(alloc: Global, w: &Number, m: &Number) -> Result<Number, AllocError>
+    ensures { IfOk result (λ r. r ≡ 2 ^ w.now + m.now) }
 {
     let one = Number::of(alloc, 1)?;
-    let end = one.left(alloc, w)?;
+    let end = left_by(alloc, &one, w)?;
     end.plus(alloc, m)
 }
 
 /// The difference, from the other end where it is below 0, cut to a width.
-fn minus(alloc: Global, w: usize, m: &Number, n: &Number) -> Result<Number, AllocError>
-    ensures { IfOk result (λ r. r ≡ fit w (2 ^ w + m.now - n.now)) }
+fn minus(alloc: Global, w: &Number, m: &Number, n: &Number) -> Result<Number, AllocError>
+    ensures { IfOk result (λ r. r ≡ fit w.now (2 ^ w.now + m.now - n.now)) }
 {
     let from = from_end(alloc, w, m)?;
     let all = from.minus(alloc, n)?;
-    all.low(alloc, w)
+    low_by(alloc, &all, w)
 }
 
 /// What an operator of two operands makes of them, at a width.
 pub(crate) fn two(
     alloc: Global,
     operation: Operation,
-    w: usize,
+    w: &Number,
     m: &Number,
     n: &Number,
 ) -> Result<Number, AllocError>
-    ensures { IfOk result (λ r. r ≡ two_value (two_of operation) w m.now n.now) }
+    ensures { IfOk result (λ r. r ≡ two_value (two_of operation) w.now m.now n.now) }
 {
     match operation {
         Operation::Plus => plus(alloc, w, m, n),
@@ -63,11 +63,11 @@ pub(crate) fn two(
 pub(crate) fn shift(
     alloc: Global,
     direction: Direction,
-    w: usize,
+    w: &Number,
     m: &Number,
     n: &Number,
 ) -> Result<Number, AllocError>
-    ensures { IfOk result (λ r. r ≡ shift_value (way_of direction) w m.now n.now) }
+    ensures { IfOk result (λ r. r ≡ shift_value (way_of direction) w.now m.now n.now) }
 {
     match direction {
         Direction::Left => left_within(alloc, m, n, w),
@@ -117,26 +117,26 @@ pub(crate) fn truth(alloc: Global, b: bool) -> Result<Number, AllocError>
 }
 
 /// One number before another, which has so many bits.
-pub(crate) fn cat(alloc: Global, a: &Number, b: &Number, w: usize) -> Result<Number, AllocError>
-    ensures { IfOk result (λ r. r ≡ a.now * 2 ^ w + b.now) }
+pub(crate) fn cat(alloc: Global, a: &Number, b: &Number, w: &Number) -> Result<Number, AllocError>
+    ensures { IfOk result (λ r. r ≡ a.now * 2 ^ w.now + b.now) }
 {
-    let front = a.left(alloc, w)?;
+    let front = left_by(alloc, a, w)?;
     front.plus(alloc, b)
 }
 
 /// The bits of a width that a number hasn't.
-pub(crate) fn inverse(alloc: Global, n: &Number, w: usize) -> Result<Number, AllocError>
-    ensures { IfOk result (λ r. r ≡ 2 ^ w - 1 - n.now) }
+pub(crate) fn inverse(alloc: Global, n: &Number, w: &Number) -> Result<Number, AllocError>
+    ensures { IfOk result (λ r. r ≡ 2 ^ w.now - 1 - n.now) }
 {
-    let ones = Number::ones(alloc, w)?;
+    let ones = ones_by(alloc, w)?;
     ones.minus(alloc, n)
 }
 
 /// Whether each bit of a width is 1.
-pub(crate) fn is_full(alloc: Global, n: &Number, w: usize) -> Result<bool, AllocError>
-    ensures { IfOk result (λ r. r ≡ nat_eq n.now (2 ^ w - 1)) }
+pub(crate) fn is_full(alloc: Global, n: &Number, w: &Number) -> Result<bool, AllocError>
+    ensures { IfOk result (λ r. r ≡ nat_eq n.now (2 ^ w.now - 1)) }
 {
-    let ones = Number::ones(alloc, w)?;
+    let ones = ones_by(alloc, w)?;
     let out = n.is_same(&ones);
     Ok(out)
 }

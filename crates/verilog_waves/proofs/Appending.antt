@@ -57,11 +57,17 @@ pub appended_five : (t u v w x y a b c d e : List ℕ) → u ≡ t ++ a → v �
     y ≡ t ++ (a ++ (b ++ (c ++ (d ++ e))))
 appended_five t u v w x y a b c d e p q r s z = appended t u v y a b (c ++ (d ++ e)) p q (appended v w x y c d e r s z)
 
+-- the dump behind its head
+pub run_pushed : (is : List Item) (vs : List Shown) (S : Store) (n : ℕ) (t u v : List ℕ) → S ≡ before is 0 → u ≡ t ++ start_text vs S →
+    v ≡ u ++ edges_text vs is n → v ≡ t ++ (start_text vs (before is 0) ++ edges_text vs is n)
+run_pushed is vs S n t u v e p q =
+    q ∙ ap (λ x. x ++ edges_text vs is n) p ∙ append_assoc t (start_text vs S) (edges_text vs is n)
+    ∙ ap (λ T. t ++ (start_text vs T ++ edges_text vs is n)) e
+
 -- the whole dump
-pub dump_pushed : (x : String) (is : List Item) (vs : List Shown) (S : Store) (n : ℕ) (t u v w : List ℕ) →
-    vs ≡ shown is → S ≡ before is 0 → u ≡ t ++ head_text x vs → v ≡ u ++ start_text vs S → w ≡ v ++ edges_text vs is n →
-    w ≡ t ++ dump x is n
-dump_pushed x is vs S n t u v w e f p q r =
-    appended t u v w (head_text x vs) (start_text vs S) (edges_text vs is n) p q r
-    ∙ ap (λ T. t ++ (head_text x vs ++ (start_text vs T ++ edges_text vs is n))) f
+pub dump_pushed : (x : String) (is : List Item) (vs : List Shown) (n : ℕ) (t u v : List ℕ) → vs ≡ shown is → u ≡ t ++ head_text x vs →
+    v ≡ u ++ (start_text vs (before is 0) ++ edges_text vs is n) → v ≡ t ++ dump x is n
+dump_pushed x is vs n t u v e p q =
+    q ∙ ap (λ y. y ++ (start_text vs (before is 0) ++ edges_text vs is n)) p
+    ∙ append_assoc t (head_text x vs) (start_text vs (before is 0) ++ edges_text vs is n)
     ∙ ap (λ names. t ++ (head_text x names ++ (start_text names (before is 0) ++ edges_text names is n))) e

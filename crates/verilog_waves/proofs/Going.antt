@@ -3,7 +3,7 @@ use Rattle.std.proofs.Common.{◌≡◌, ℕ, zero, suc, ◌+◌, ◌<◌, ◌�
 use Rattle.std.proofs.Common.{refl, sym, ap, ◌∙◌, subst, arith, add-one, eqb-true, eq-eqb, append_assoc}
 use Rattle.verilog_tree.specs.Tree.{Item}
 use Rattle.verilog_tree.specs.Meaning.{Store}
-use Rattle.verilog_run.proofs.Writes.{and_parts}
+use Rattle.verilog_run.proofs.Putting.{and_parts}
 use Rattle.verilog_waves.specs.Course.{after, before, Goes, IsLast}
 use Rattle.verilog_waves.specs.Dump.{edge_text, edges_text}
 use Rattle.verilog_waves.specs.Parts.{written, next, goes}

@@ -4,3 +4,7 @@ mod Apart
 mod Appending
 -- edges of a run, and where it ends
 mod Going
+-- that memories don't count
+mod Vectors
+-- one more of the names that are shown
+mod Listing

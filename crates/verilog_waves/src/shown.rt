@@ -2,16 +2,17 @@
 
 ghost use Rattle.std.specs.Prelude.{◌≡◌, ◌++◌, List, [], ◌∷◌, length, map, codes, decimal, ◌+◌, IfOk, OnOk};
 ghost use Rattle.verilog_tree.specs.Tree as tree;
-ghost use Rattle.verilog_tree.specs.Meaning.{param_in};
+ghost use Rattle.verilog_tree.specs.Meaning.{scope};
 ghost use Rattle.verilog_tree.specs.Names.{text_of};
 ghost use Rattle.verilog_tree.specs.Views.{item_of};
+ghost use Rattle.verilog_run.specs.Scopes.{scope_of};
 ghost use Rattle.verilog_waves.specs.Dump.{code, head_text, name_line, name_lines};
 ghost use Rattle.verilog_waves.specs.Shown.{shown, shown_in};
 ghost use Rattle.verilog_waves.specs.Views.{shown_of, word_of};
 
 use crate::words::{push_code, push_name, push_number, push_range};
 use std::alloc::{AllocError, Global};
-use verilog_run::range_bits;
+use verilog_run::Scene;
 use verilog_tree::Item;
 
 /// What a name is.
@@ -58,20 +59,16 @@ fn add<'a>(
 }
 
 /// Puts the name that an item declares behind the others, where it is shown.
-fn add_item<'a>(
-    list: &mut Vec<Shown<'a>>,
-    items: &'a [Item<'a>],
-    item: &Item<'a>,
-) -> Result<(), AllocError>
+fn add_item<'a>(list: &mut Vec<Shown<'a>>, scene: &Scene, item: &Item<'a>) -> Result<(), AllocError>
     ensures { OnOk result ((is : List tree.Item) →
-        map shown_of list.new.items ++ shown_in (param_in (map item_of items.now)) (length list.new.items) is
-        ≡ map shown_of list.old.items ++ shown_in (param_in (map item_of items.now)) (length list.old.items) (item_of item.now ∷ is)) }
+        map shown_of list.new.items ++ shown_in (scope_of scene.now).param (length list.new.items) is
+        ≡ map shown_of list.old.items ++ shown_in (scope_of scene.now).param (length list.old.items) (item_of item.now ∷ is)) }
 {
     match item {
-        Item::Input(range, name) => add(list, Kind::Wire, range_bits(items, range)?, name),
-        Item::Output(range, name) => add(list, Kind::Reg, range_bits(items, range)?, name),
-        Item::Reg(range, name) => add(list, Kind::Reg, range_bits(items, range)?, name),
-        Item::Wire(range, name, _) => add(list, Kind::Wire, range_bits(items, range)?, name),
+        Item::Input(range, name) => add(list, Kind::Wire, scene.range_bits(range)?, name),
+        Item::Output(range, name) => add(list, Kind::Reg, scene.range_bits(range)?, name),
+        Item::Reg(range, name) => add(list, Kind::Reg, scene.range_bits(range)?, name),
+        Item::Wire(range, name, _) => add(list, Kind::Wire, scene.range_bits(range)?, name),
         _ => Ok(()),
     }
 }
@@ -79,13 +76,15 @@ fn add_item<'a>(
 /// The names of a module that are shown.
 pub(crate) fn shown_names<'a>(
     alloc: Global,
+    scene: &Scene,
     items: &'a [Item<'a>],
 ) -> Result<Vec<Shown<'a>>, AllocError>
+    requires { scope_of scene.now ≡ scope (map item_of items.now) }
     ensures { IfOk result (λ list. map shown_of list.items ≡ shown (map item_of items.now)) }
 {
     let mut list = Vec::new(alloc);
     for item in items {
-        add_item(&mut list, items, item)?;
+        add_item(&mut list, scene, item)?;
     }
     Ok(list)
 }

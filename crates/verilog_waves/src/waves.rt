@@ -1,11 +1,13 @@
 //! A module at work, as a dump.
 
-ghost use Rattle.std.specs.Prelude.{◌≡◌, ◌++◌, suc, nat_eq, map, IfOk};
+ghost use Rattle.std.specs.Prelude.{◌≡◌, ◌++◌, suc, nat_eq, map, IfOk, OnOk};
+ghost use Rattle.verilog_tree.specs.Meaning.{scope};
 ghost use Rattle.verilog_tree.specs.Names.{text_of};
 ghost use Rattle.verilog_tree.specs.Views.{item_of};
-ghost use Rattle.verilog_run.specs.Held.{held};
+ghost use Rattle.verilog_run.specs.Held.{held, nothing};
+ghost use Rattle.verilog_run.specs.Scopes.{scope_of};
 ghost use Rattle.verilog_waves.specs.Course.{IsLast, before};
-ghost use Rattle.verilog_waves.specs.Dump.{dump, edge_text, edges_text};
+ghost use Rattle.verilog_waves.specs.Dump.{dump, edge_text, edges_text, start_text};
 ghost use Rattle.verilog_waves.specs.Parts.{goes, next, written};
 ghost use Rattle.verilog_waves.specs.Shown.{shown};
 ghost use Rattle.verilog_waves.specs.Views.{shown_of};
@@ -13,7 +15,7 @@ ghost use Rattle.verilog_waves.specs.Views.{shown_of};
 use crate::changes::{push_edge, push_start};
 use crate::shown::{Shown, push_head, shown_names};
 use std::alloc::{AllocError, Global};
-use verilog_run::{Contents, settle_all, settled_edge};
+use verilog_run::{Contents, Scene, settle, settled_edge};
 use verilog_tree::Item;
 use wide_numbers::Number;
 
@@ -35,93 +37,128 @@ fn goes_on(alloc: Global, store: &Contents) -> Result<bool, AllocError>
 }
 
 /// What the edge of the reset finds.
-fn first<'a>(alloc: Global, items: &'a [Item<'a>]) -> Result<Contents, AllocError>
-    ensures { IfOk result (λ s. held s ≡ before (map item_of items.now) 0) }
+fn begin(
+    alloc: Global,
+    scene: &Scene,
+    items: &[Item<'_>],
+    store: &mut Contents,
+) -> Result<(), AllocError>
+    requires scope { scope_of scene.now ≡ scope (map item_of items.now) }
+    requires empty { held store.old ≡ nothing }
+    ensures { OnOk result (held store.new ≡ before (map item_of items.now) 0) }
 {
-    let mut store = Contents::new(alloc);
     let one = Number::of(alloc, 1)?;
     store.set_vector(alloc, b"rst", one)?;
-    settle_all(alloc, items, &store)
+    settle(scene, items, store)
 }
 
 /// What an edge leads to: what the next one finds, and whether the run goes on behind it.
-fn step<'a>(
+fn step(
     alloc: Global,
-    items: &'a [Item<'a>],
-    seen: &Contents,
-) -> Result<(Contents, bool), AllocError>
-    ensures state { IfOk result (λ p. held p.0 ≡ next (map item_of items.now) (held seen.now)) }
-    ensures goes { IfOk result (λ p. p.1 ≡ goes (written (map item_of items.now) (held seen.now))) }
+    scene: &Scene,
+    items: &[Item<'_>],
+    store: &mut Contents,
+) -> Result<bool, AllocError>
+    requires { scope_of scene.now ≡ scope (map item_of items.now) }
+    ensures state { OnOk result (held store.new ≡ next (map item_of items.now) (held store.old)) }
+    ensures goes { IfOk result (λ on. on ≡ goes (written (map item_of items.now) (held store.old))) }
 {
-    let mut behind = settled_edge(alloc, items, seen)?;
-    let on = goes_on(alloc, &behind)?;
-    behind.set_vector(alloc, b"rst", Number::zero(alloc))?;
-    let found = settle_all(alloc, items, &behind)?;
-    Ok((found, on))
+    settled_edge(scene, items, store)?;
+    let on = goes_on(alloc, store)?;
+    store.set_vector(alloc, b"rst", Number::zero(alloc))?;
+    settle(scene, items, store)?;
+    Ok(on)
 }
 
 /// Makes the k-th edge, and appends it.
-fn push_step<'a>(
+fn push_step(
     alloc: Global,
     text: &mut Vec<u8>,
-    items: &'a [Item<'a>],
+    scene: &Scene,
+    items: &[Item<'_>],
     names: &[Shown<'_>],
     k: u64,
-    seen: &Contents,
-) -> Result<(Contents, bool), AllocError>
-    ensures state { IfOk result (λ p. held p.0 ≡ next (map item_of items.now) (held seen.now)) }
-    ensures goes { IfOk result (λ p. p.1 ≡ goes (written (map item_of items.now) (held seen.now))) }
-    ensures text { IfOk result (λ p. text.new.items ≡ text.old.items
-        ++ edge_text (map shown_of names.now) k (held seen.now) (next (map item_of items.now) (held seen.now))) }
+    store: &mut Contents,
+) -> Result<bool, AllocError>
+    requires { scope_of scene.now ≡ scope (map item_of items.now) }
+    ensures state { OnOk result (held store.new ≡ next (map item_of items.now) (held store.old)) }
+    ensures goes { IfOk result (λ on. on ≡ goes (written (map item_of items.now) (held store.old))) }
+    ensures text { OnOk result (text.new.items ≡ text.old.items
+        ++ edge_text (map shown_of names.now) k (held store.old) (next (map item_of items.now) (held store.old))) }
 {
-    let (found, on) = step(alloc, items, seen)?;
-    push_edge(alloc, text, names, k, seen, &found)?;
-    Ok((found, on))
+    let seen = store.vectors(alloc)?;
+    let on = step(alloc, scene, items, store)?;
+    push_edge(alloc, text, names, k, &seen, store)?;
+    Ok(on)
 }
 
 /// Makes the edges of a run, and appends them. It answers how many there are after the reset's.
-fn push_edges<'a>(
+fn push_edges(
     alloc: Global,
     text: &mut Vec<u8>,
-    items: &'a [Item<'a>],
+    scene: &Scene,
+    items: &[Item<'_>],
     names: &[Shown<'_>],
-    start: Contents,
+    store: &mut Contents,
     cycles: u64,
 ) -> Result<u64, AllocError>
-    requires { held start ≡ before (map item_of items.now) 0 }
+    requires scope { scope_of scene.now ≡ scope (map item_of items.now) }
+    requires start { held store.old ≡ before (map item_of items.now) 0 }
     ensures last { IfOk result (λ k. IsLast (map item_of items.now) cycles k) }
     ensures text { IfOk result (λ k. text.new.items ≡ text.old.items
         ++ edges_text (map shown_of names.now) (map item_of items.now) (suc k)) }
 {
-    let mut seen = start;
     for k in 0..cycles {
-        let (found, on) = push_step(alloc, text, items, names, k, &seen)?;
+        let on = push_step(alloc, text, scene, items, names, k, store)?;
         if !on {
             return Ok(k);
         }
-        seen = found;
     }
-    push_step(alloc, text, items, names, cycles, &seen)?;
+    push_step(alloc, text, scene, items, names, cycles, store)?;
     Ok(cycles)
 }
 
+/// Appends the dump of a module from its first edge on, whose names that are shown are known.
+fn push_whole(
+    alloc: Global,
+    text: &mut Vec<u8>,
+    scene: &Scene,
+    items: &[Item<'_>],
+    names: &[Shown<'_>],
+    store: &mut Contents,
+    cycles: u64,
+) -> Result<u64, AllocError>
+    requires scope { scope_of scene.now ≡ scope (map item_of items.now) }
+    requires empty { held store.old ≡ nothing }
+    ensures last { IfOk result (λ k. IsLast (map item_of items.now) cycles k) }
+    ensures text { IfOk result (λ k. text.new.items ≡ text.old.items
+        ++ (start_text (map shown_of names.now) (before (map item_of items.now) 0)
+        ++ edges_text (map shown_of names.now) (map item_of items.now) (suc k))) }
+{
+    begin(alloc, scene, items, store)?;
+    push_start(alloc, text, names, store)?;
+    let last = push_edges(alloc, text, scene, items, names, store, cycles)?;
+    Ok(last)
+}
+
 /// Appends the dump of a module, whose names that are shown are known.
-fn push_run<'a>(
+fn push_run(
     alloc: Global,
     text: &mut Vec<u8>,
     name: &[u8],
-    items: &'a [Item<'a>],
+    scene: &Scene,
+    items: &[Item<'_>],
     names: &[Shown<'_>],
     cycles: u64,
 ) -> Result<u64, AllocError>
-    requires { map shown_of names.now ≡ shown (map item_of items.now) }
+    requires scope { scope_of scene.now ≡ scope (map item_of items.now) }
+    requires names { map shown_of names.now ≡ shown (map item_of items.now) }
     ensures last { IfOk result (λ k. IsLast (map item_of items.now) cycles k) }
     ensures text { IfOk result (λ k. text.new.items ≡ text.old.items ++ dump (text_of name.now) (map item_of items.now) (suc k)) }
 {
     push_head(text, name, names)?;
-    let start = first(alloc, items)?;
-    push_start(alloc, text, names, &start)?;
-    let last = push_edges(alloc, text, items, names, start, cycles)?;
+    let mut store = Contents::new(alloc);
+    let last = push_whole(alloc, text, scene, items, names, &mut store, cycles)?;
     Ok(last)
 }
 
@@ -130,7 +167,7 @@ fn push_run<'a>(
 ///
 /// # Errors
 ///
-/// Only where memory runs out, also where a width or a count passes 2^62, which no memory holds; what is appended by then says nothing.
+/// Only where memory runs out, as it does for a number of 2^62 bits; what is appended by then says nothing.
 pub fn push_waves<'a>(
     alloc: Global,
     text: &mut Vec<u8>,
@@ -141,7 +178,8 @@ pub fn push_waves<'a>(
     ensures last { IfOk result (λ k. IsLast (map item_of items.now) cycles k) }
     ensures text { IfOk result (λ k. text.new.items ≡ text.old.items ++ dump (text_of name.now) (map item_of items.now) (suc k)) }
 {
-    let names = shown_names(alloc, items)?;
-    let last = push_run(alloc, text, name, items, &names, cycles)?;
+    let scene = Scene::new(alloc, items)?;
+    let names = shown_names(alloc, &scene, items)?;
+    let last = push_run(alloc, text, name, &scene, items, &names, cycles)?;
     Ok(last)
 }

@@ -13,11 +13,11 @@ loop-k-preserved c =
     let vs = map shown_of c.args.names.now in
     let t = c.args.text.now.items in
     let k = c.loop-k.k in
-    let on : c.in_ok-found.on ≡ true = c.if-not-on.false in (
-      state_more is k (held c.loop-k.seen) (held c.in_ok-found.found) c.loop-k.invariant.0 c.in_ok-found.ensures.state,
-      goes_more is k (held c.loop-k.seen) c.in_ok-found.on c.loop-k.invariant.0 c.in_ok-found.ensures.goes on c.loop-k.invariant.1,
-      text_more vs is k (held c.loop-k.seen) t c.loop-k.text.items c.push_step.new.text.items c.loop-k.invariant.0 c.loop-k.invariant.2
-          c.in_ok-found.ensures.text
+    let on : c.in_ok-on.on ≡ true = c.if-not-on.false in (
+      state_more is k (held c.loop-k.store) (held c.push_step.new.store) c.loop-k.invariant.0 c.in_ok-on.ensures.state,
+      goes_more is k (held c.loop-k.store) c.in_ok-on.on c.loop-k.invariant.0 c.in_ok-on.ensures.goes on c.loop-k.invariant.1,
+      text_more vs is k (held c.loop-k.store) t c.loop-k.text.items c.push_step.new.text.items c.loop-k.invariant.0 c.loop-k.invariant.2
+          c.in_ok-on.ensures.text
           ∙ ap (λ n. t ++ edges_text vs is n) (sym (add-one k)),
     )
 
@@ -27,5 +27,5 @@ returns-clause-text c =
     let vs = map shown_of c.args.names.now in
     let t = c.args.text.now.items in
     let q : c.loop-k.k ≡ c.args.cycles = omega arith in
-    text_more vs is c.args.cycles (held c.loop-k.seen) t c.loop-k.text.items c.push_step-2.new.text.items
+    text_more vs is c.args.cycles (held c.loop-k.store) t c.loop-k.text.items c.push_step-2.new.text.items
     (c.loop-k.invariant.0 ∙ ap (before is) q) (c.loop-k.invariant.2 ∙ ap (λ n. t ++ edges_text vs is n) q) c.in_ok-push_step.ensures.text

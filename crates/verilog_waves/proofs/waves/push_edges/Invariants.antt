@@ -8,6 +8,6 @@ use Rattle.verilog_waves.proofs.waves.push_edges.Given as goal
 
 abbrev pub invariant-loop-k : goal.invariant-loop-k
 invariant-loop-k l =
-    (held l.seen ≡ before (map item_of l.items) l.k)
+    (held l.store ≡ before (map item_of l.items) l.k)
     × ((j : ℕ) → j < l.k → Goes (after (map item_of l.items) j))
     × (l.text.items ≡ l.fn.text.items ++ edges_text (map shown_of l.names) (map item_of l.items) l.k)
