@@ -2,6 +2,7 @@
 
 import os
 import re
+import resource
 import sys
 import tempfile
 
@@ -47,12 +48,20 @@ def sections(name):
     return [(head.split("|"), below + "\n") for head, _, below in (block.partition("\n") for block in blocks)]
 
 
-def call(words, files):
-    """Status, output and error output of a call with these words, the program's name first, in a folder with these files."""
+def small_stack():
+    """Leaves the program that is called 256 KiB of stack."""
+    resource.setrlimit(resource.RLIMIT_STACK, (256 << 10, 256 << 10))
+
+
+def call(words, files, limit=100):
+    """Status, output and error output of a call with these words, the program's name first, in a folder with these files. It has a stack of
+    256 KiB, since a run takes no more of it the longer it is. Deep programs need more, and have what there is: those of 500 bytes or more
+    with their words, and `steps`, whose terms grow."""
     with tempfile.TemporaryDirectory() as at:
         for name, text in files.items():
             put(at, name, text)
-        return judging.call(words, 100, executable=program, cwd=at)
+        is_small = sum(map(len, [*words, *files.values()])) < 500 and "steps" not in words
+        return judging.call(words, limit, executable=program, cwd=at, preexec_fn=small_stack if is_small else None)
 
 
 def left(words, files):
