@@ -8,6 +8,7 @@ use Rattle.net_rows.specs.Rows.{number, channel_of}
 use Rattle.verilog_tree.specs.Tree.{Stmt, Arms, Item, one, input, clocked}
 use Rattle.verilog_tree.specs.Print.{stmt_text, arms_text, item_text, items_text, ports_text, more_ports, port_text, then_port, is_port}
 use Rattle.verilog_tree.specs.Print.{module_text}
+use Rattle.verilog_tree.proofs.Texts.{appended}
 use Rattle.circuit_module.specs.Fixed.{no_row}
 use Rattle.circuit_module.specs.Module.{multiplies}
 use Rattle.cell_core.specs.Sizes.{Sizes}
@@ -155,12 +156,6 @@ whole name late net z ps =
     (items_text p.head) (codes "  always @(posedge clk) begin\n") (stmt_text (codes " <= ") 2 p.clock) (latch_text n)
     (codes "  end\n") (codes "endmodule\n") (codes "`default_nettype wire\n") (codes "// verilator lint_restore\n")
 
--- five texts behind another
-five : (t u v w x y a b c d e : List ℕ) → u ≡ t ++ a → v ≡ u ++ b → w ≡ v ++ c → x ≡ w ++ d → y ≡ x ++ e →
-    y ≡ t ++ (a ++ (b ++ (c ++ (d ++ e))))
-five t u v w x y a b c d e first second third fourth fifth =
-    fifth ∙ ap (λ s. s ++ e) (fourth ∙ ap (λ s. s ++ d) (third ∙ ap (λ s. s ++ c) (second ∙ ap (λ s. s ++ b) first))) ∙ simp append_assoc
-
 -- the whole text, as it is appended
 pub whole_text : (name : String) (late : Bool) (net : NetTree) (ps : List ℕ) (cells forks start wires more nodes n : ℕ) (z : Sizes)
     (t u v w x y : List ℕ) → length ps ≡ n → start ≡ number (channel_of (start_of net)) → wires ≡ length net.wires →
@@ -172,8 +167,8 @@ unfolding circuit_text
 whole_text name late net ps cells forks start wires more nodes n z t u v w x y ep es ew em en ez e f g h k =
     let back = λ (n : ℕ). rows_text net ps ++ back_text late n (multiplies net.nodes) in
     let text = unwarned_text (declared_text (module_text name (port_module late net (sizes_of net cells forks) ps))) in
-    five t u v w x y (head_text nodes wires) (name_text name) (top_text late n more start z) (rows_text net ps)
-    (back_text late n (multiplies net.nodes)) e f g h k
+    appended t u v y (head_text nodes wires) (name_text name) (top_text late n more start z ++ back n) e f
+    (appended v w x y (top_text late n more start z) (rows_text net ps) (back_text late n (multiplies net.nodes)) g h k)
     ∙ ap (λ s. t ++ (head_text nodes wires ++ (name_text name ++ (top_text late n more s z ++ back n)))) es
     ∙ ap (λ k. t ++ (head_text nodes wires ++ (name_text name
     ++ (top_text late n k (number (channel_of (start_of net))) z ++ back n)))) em

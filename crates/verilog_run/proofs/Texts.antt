@@ -26,13 +26,8 @@ holds_of false e = let n : ⊥ = cc in absurd n
 -- two names are one
 pub names_same : (xs ys : List ℕ) → ((i : ℕ) → get_or xs i 0 < 256) → ((i : ℕ) → get_or ys i 0 < 256) →
     bytes_eq xs ys ≡ eqt (text_of xs) (text_of ys)
-names_same xs ys hx hy = both (bytes_eq xs ys) (eqt (text_of xs) (text_of ys)) there back
+names_same xs ys hx hy = go (bytes_eq xs ys) refl (eqt (text_of xs) (text_of ys)) refl
   where
-    both : (p q : Bool) → (p ≡ true → q ≡ true) → (q ≡ true → p ≡ true) → p ≡ q
-    both true q f g = sym (f refl)
-    both false true f g = g refl
-    both false false f g = refl
-
     there : bytes_eq xs ys ≡ true → eqt (text_of xs) (text_of ys) ≡ true
     there e =
         true_of _ (subst (λ zs. T (eqt (text_of xs) (text_of zs))) ((bytes_eq-Decides xs ys).0 e) (eqt_refl (text_of xs)))
@@ -41,3 +36,8 @@ names_same xs ys hx hy = both (bytes_eq xs ys) (eqt (text_of xs) (text_of ys)) t
     back e =
         (bytes_eq-Decides xs ys).1
         (sym (codes_text xs hx) ∙ ap codes (eqt→eq (text_of xs) (text_of ys) (holds_of _ e)) ∙ codes_text ys hy)
+
+    go : (p : Bool) → bytes_eq xs ys ≡ p → (q : Bool) → eqt (text_of xs) (text_of ys) ≡ q → p ≡ q
+    go true e q f = sym (there e) ∙ f
+    go false e true f = sym e ∙ back f
+    go false e false f = refl
