@@ -12,7 +12,7 @@ TOP = os.path.dirname(os.path.dirname(os.path.realpath(__file__)))
 # The scripts that are commands, by their names in tools/.
 COMMANDS = ["by-value", "check-calls", "check-circuit", "check-workers", "draw-net", "run-many", "show-walk", "why"]
 # What the Python package has of tools/.
-PARTS = ["by-value", "draw-net", "walk.html", "why"]
+PARTS = ["by-value", "draw-net", "program.py", "walk.html", "why"]
 # The crates of the kit that are linked in, as `rt` lists them by `statements NAME`, and its libraries.
 LINKED = "atomic_table clap core crossbeam_utils io itoa libc os std std_alloc std_collections std_heap std_io strsim".split()
 LINKED += ["ucd_derived", "ucd_table", "unicode_ident", "liblibc_c.a", "libos_c.a"]

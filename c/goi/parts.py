@@ -28,11 +28,15 @@ def script(name):
     """A script of tools/, as a module."""
     loader = importlib.machinery.SourceFileLoader("goi_" + re.sub(r"\W", "_", name), part(name))
     made = importlib.util.module_from_spec(importlib.util.spec_from_loader(loader.name, loader))
-    keeps, sys.dont_write_bytecode = sys.dont_write_bytecode, True
+    # (a script imports the one that all share by its name, which may be that of somebody else's module here)
+    keeps, theirs = (sys.dont_write_bytecode, sys.path[:]), sys.modules.pop("program", None)
     try:
         loader.exec_module(made)
     finally:
-        sys.dont_write_bytecode = keeps
+        sys.dont_write_bytecode, sys.path[:] = keeps
+        sys.modules.pop("program", None)
+        if theirs is not None:
+            sys.modules["program"] = theirs
     return made
 
 
