@@ -1,16 +1,18 @@
 // The page begins: what is inside it is opened, and what its address says is done.
 
+// What the address says. It may be anybody's: a number that is none says nothing.
 function goToAddress(hash = location.hash) {
   const wanted = new URLSearchParams(hash.slice(1));
+  const saysNumber = name => /^\d+(\.\d+)?$/.test(wanted.get(name));
   if (wanted.has("theme")) setTheme(wanted.get("theme"));
   if (wanted.has("wall")) setWall(true);
   if (COLOURED_BY.includes(wanted.get("colour"))) setColourBy(wanted.get("colour"));
   if (wanted.has("types") && !view.types) setTypes(true);
-  if (wanted.has("zoom")) zoom(Number(wanted.get("zoom")) / camera.scale);
+  if (saysNumber("zoom")) zoom(Number(wanted.get("zoom")) / camera.scale);
   if (wanted.has("round") || view.rounds) setRounds(wanted.has("round"));
-  if (wanted.has("round") && view.rounds) jump(wayPlace(Number(wanted.get("round"))));
+  if (saysNumber("round") && view.rounds) jump(wayPlace(Number(wanted.get("round"))));
   const move = Number(wanted.get("move"));
-  if (wanted.has("move") && move !== movesMade()) jump(move - view.run.first);
+  if (saysNumber("move") && move !== movesMade()) jump(Math.trunc(move) - view.run.first);
 }
 
 function start() {
