@@ -15,7 +15,13 @@ bool texts_at_end = true;
 static uint8_t *program_room, *schedule_room, *out_room, *stack;
 static ucontext_t caller, callee;
 
-static const char *const names[KINDS] = {"tell", "run", "trace", "run_net", "check", "net", "replay"};
+static const char *const names[KINDS] = {"tell", "run", "trace", "run_net", "check", "net", "replay", "span", "steps", "circuit",
+                                         "replay_trace", "tell_each", "find_fault", "find_schedule_fault"};
+/* The names of faults, by their numbers from 1 on. */
+static const char *const faults[] = {
+    "", "NotText", "BadToken", "NumberTooWide", "Unexpected", "TooDeep", "TooLarge", "TooLong", "Unbound", "FunctionWanted",
+    "ArgumentMismatch", "NatWanted", "FixMismatch", "PairWanted", "NotGround", "ByValueFix", "ByValuePair", "ByValueDeep", "BadHeader",
+    "BadLine", "NoEnd", "NotOfTerm", "LooseWire", "TypeClash", "DepthClash", "RootCount", "TicketTooWide", "NotLive", "AfterAnswer"};
 
 const char *name_of(enum kind kind) {
     return names[kind];
@@ -55,13 +61,14 @@ static struct {
     asked it;
     uint8_t *out;
     size_t size, needed;
-    goi_answer answer;
+    goi_answer answer, each[ROWS];
+    goi_fault fault;
     goi_status status;
 } now;
 
 static void call(void) {
     const void *t = now.it.program.at, *s = now.it.schedule.at;
-    size_t n = now.it.program.size;
+    size_t n = now.it.program.size, m = now.it.schedule.size;
     switch (now.it.kind) {
     case TELL: now.status = goi_tell(t, n, now.it.budget, now.it.flags, &now.answer, now.out, now.size, &now.needed); break;
     case RUN: now.status = goi_run(t, n, now.it.budget, now.it.flags, now.out, now.size, &now.needed); break;
@@ -71,7 +78,17 @@ static void call(void) {
     case RUN_NET: now.status = goi_run_net(t, n, now.it.budget, now.it.flags != 0, now.out, now.size, &now.needed); break;
     case CHECK: now.status = goi_check(t, n, now.it.flags != 0, now.out, now.size, &now.needed); break;
     case NET: now.status = goi_net(t, n, now.out, now.size, &now.needed); break;
-    default: now.status = goi_replay(t, n, s, now.it.schedule.size, now.out, now.size, &now.needed);
+    case SPAN: now.status = goi_span(t, n, now.it.budget, now.it.flags, now.out, now.size, &now.needed); break;
+    case STEPS: now.status = goi_steps(t, n, now.it.budget, now.it.from, now.it.most, now.out, now.size, &now.needed); break;
+    case CIRCUIT: now.status = goi_circuit(t, n, now.it.from, now.it.most, now.out, now.size, &now.needed); break;
+    case REPLAY_TRACE: now.status = goi_replay_trace(t, n, s, m, now.it.from, now.it.most, now.out, now.size, &now.needed); break;
+    case EACH:
+        now.status = goi_tell_each(t, n, now.it.from, now.it.values, ROWS * (size_t)now.it.from, now.it.budget, now.each, ROWS, now.out,
+                                   now.size, &now.needed);
+        break;
+    case FIND: now.status = goi_find_fault(t, n, now.it.flags, &now.fault); break;
+    case FIND_IN_SCHEDULE: now.status = goi_find_schedule_fault(t, n, s, m, &now.fault); break;
+    default: now.status = goi_replay(t, n, s, m, now.out, now.size, &now.needed);
     }
 }
 
@@ -107,13 +124,16 @@ static void prepare(asked it, size_t room) {
     now.size = room;
     now.needed = 0x5A5A5A5A;
     now.answer = (goi_answer){0x1111, 0x2222, 0x3333};
+    for (int k = 0; k < ROWS; k++) now.each[k] = now.answer;
+    now.fault = (goi_fault){0x4444, 0x5555, 0x6666, 0x7777};
 }
 
 static bool may_be(enum kind kind, goi_status status) {
     switch (kind) {
-    case TELL: case RUN: case TRACE: return status == GOI_OK || status == GOI_REFUSED || status == GOI_NO_VALUE;
+    case TELL: case RUN: case TRACE: case SPAN: case STEPS: case EACH:
+        return status == GOI_OK || status == GOI_REFUSED || status == GOI_NO_VALUE;
     case RUN_NET: return status == GOI_OK || status == GOI_NO_VALUE || status == GOI_BAD_FILE;
-    case CHECK: case NET: return status == GOI_OK || status == GOI_REFUSED;
+    case CHECK: case NET: case CIRCUIT: return status == GOI_OK || status == GOI_REFUSED;
     default: return status == GOI_OK || status == GOI_REFUSED || status == GOI_NO_VALUE || status == GOI_BAD_FILE;
     }
 }
@@ -134,7 +154,7 @@ static void look_at_answer(void) {
 }
 
 static given found_now(long before) {
-    given found = {now.status, now.needed, 0, now.answer, heap.requests - before};
+    given found = {now.status, now.needed, 0, now.answer, {now.each[0], now.each[1]}, heap.requests - before};
     if (now.status != GOI_NO_ROOM && now.status != GOI_NO_MEMORY) {
         found.text = malloc(now.needed + 1);
         memcpy(found.text, now.out, now.needed);
@@ -145,7 +165,8 @@ static given found_now(long before) {
 
 given make(asked it) {
     const char *name = names[it.kind];
-    size_t room = it.kind == TELL ? GOI_LINE_SIZE : OUT_ROOM, ends = room < CANARIES ? room : CANARIES;
+    bool is_told = it.kind == TELL || it.kind == EACH; /* (in numbers: only the line of a fault is text) */
+    size_t room = is_told ? GOI_LINE_SIZE : OUT_ROOM, ends = room < CANARIES ? room : CANARIES;
     long before = heap.requests;
     /* canaries where the text may begin, and at the end of the room */
     prepare(it, room);
@@ -155,10 +176,12 @@ given make(asked it) {
     if (now.status == GOI_NO_MEMORY && heap.refused) {
         if (now.needed || !is_blank(now.out, ends)) finding("%s without memory: %zu bytes", name, now.needed);
         if (it.kind == TELL && (now.answer.kind || now.answer.value)) finding("tell without memory has an answer");
+        for (int k = 0; k < ROWS && it.kind == EACH; k++)
+            if (now.each[k].kind || now.each[k].value || now.each[k].moves) finding("tell_each without memory has an answer");
         return found_now(before);
     }
     if (now.status == GOI_NO_ROOM) {
-        if (it.kind == TELL || now.needed <= room || !is_blank(now.out, ends)) finding("%s: no room in %zu bytes", name, room);
+        if (is_told || now.needed <= room || !is_blank(now.out, ends)) finding("%s: no room in %zu bytes", name, room);
         return found_now(before);
     }
     if (!may_be(it.kind, now.status)) finding("%s: status %u", name, now.status);
@@ -215,8 +238,37 @@ void refuse(asked it, const given *found, long number) {
     free(other.text);
 }
 
+/* The line of a fault. */
+static void line_of(goi_fault it, char *to) {
+    const char *name = it.kind < sizeof faults / sizeof *faults ? faults[it.kind] : "?";
+    bool of_net = !strcmp(name, "LooseWire") || !strcmp(name, "TypeClash") || !strcmp(name, "DepthClash") || !strcmp(name, "RootCount");
+    char in[GOI_LINE_SIZE];
+    if (it.place == GOI_NO_PLACE) snprintf(in, sizeof in, "%s", name);
+    else if (!strcmp(name, "NotLive")) snprintf(in, sizeof in, "%s(%u,%u)", name, it.place, it.ticket);
+    else snprintf(in, sizeof in, "%s(%u)", name, it.place);
+    sprintf(to, of_net ? "refused: NotSound(%s)\n" : "refused: %s\n", in);
+}
+
+void find(asked it, const given *found) {
+    char line[2 * GOI_LINE_SIZE];
+    if (!found->text) return;
+    prepare(it, 0);
+    enter();
+    if (found->status == GOI_REFUSED || found->status == GOI_BAD_FILE) {
+        line_of(now.fault, line);
+        if (now.status != found->status || now.fault.status != found->status || strcmp(line, found->text))
+            finding("%s: status %u, %s, and the call says %s", names[it.kind], now.status, line, found->text);
+    } else if (now.status != GOI_OK || now.fault.status || now.fault.kind || now.fault.place != GOI_NO_PLACE) {
+        finding("%s finds fault %u of status %u where there is none", names[it.kind], now.fault.kind, now.status);
+    }
+}
+
 void numbers(asked it) {
-    bool taken = it.budget >= 1 && it.budget <= 10000000;
+    bool taken = it.kind == CIRCUIT || it.kind == REPLAY_TRACE || (it.budget >= 1 && it.budget <= 10000000);
+    if (it.kind == SPAN) taken = taken && it.flags <= 7;
+    if (it.kind == STEPS) taken = taken && it.from <= 10000000 && it.most >= 1 && it.most <= 100000;
+    if (it.kind == CIRCUIT) taken = it.from >= 1 && it.from <= 1048575 && it.most >= 1 && it.most <= 1024;
+    if (it.kind == REPLAY_TRACE) taken = it.from <= 10000000 && it.most >= 1 && it.most <= 1000000;
     if (it.kind == TELL || it.kind == TRACE) taken = taken && it.flags <= 1;
     if (it.kind == RUN) taken = taken && it.flags <= 3;
     if (it.kind == TRACE) taken = taken && it.from <= 10000000 && it.most >= 1 && it.most <= 1000000;

@@ -25,7 +25,8 @@ extern struct heap heap;
 
 /* ---- calls */
 
-enum kind { TELL, RUN, TRACE, RUN_NET, CHECK, NET, REPLAY, KINDS };
+enum kind { TELL, RUN, TRACE, RUN_NET, CHECK, NET, REPLAY, SPAN, STEPS, CIRCUIT, REPLAY_TRACE, EACH, FIND, FIND_IN_SCHEDULE, KINDS };
+enum { ROWS = 2, ARGUMENTS = 4 };
 
 /* A text that somebody else owns. */
 typedef struct {
@@ -33,12 +34,14 @@ typedef struct {
     size_t size;
 } text;
 
-/* A call of goi.h. What it doesn't take is left 0. A flag of goi_run_net and goi_check is `flags` not 0. */
+/* A call of goi.h. What it doesn't take is left 0. A flag of goi_run_net and goi_check is `flags` not 0, and so is what a text is taken for
+ * in goi_find_fault. A circuit has `from` cells and `most` forks, and a function takes `from` numbers, in each of ROWS rows. */
 typedef struct {
     enum kind kind;
     text program; /* or the listing */
     text schedule;
     uint32_t budget, flags, from, most;
+    uint64_t values[ROWS * ARGUMENTS];
 } asked;
 
 /* What came of it. The text is the caller's to free. */
@@ -47,6 +50,7 @@ typedef struct {
     size_t size;
     char *text; /* with a NUL behind it; null where there was no room */
     goi_answer answer;
+    goi_answer each[ROWS];
     long requests;
 } given;
 
@@ -63,6 +67,8 @@ given make(asked it);
 void squeeze(asked it, const given *found);
 /* A call whose request for memory of some number is refused: there was no memory, or the same comes as before. */
 void refuse(asked it, const given *found, long number);
+/* The first fault of the text, as what it is taken for or as a program with a schedule, is that of the line that was found, if one was. */
+void find(asked it, const given *found);
 /* A call with these numbers: whether it is taken is as goi.h says. */
 void numbers(asked it);
 
@@ -75,5 +81,6 @@ const char *name_of(enum kind kind);
 void try_program(text program, uint32_t budget, uint32_t flags, unsigned pick);
 void try_listing(text listing, uint32_t budget, uint32_t flags, unsigned pick);
 void try_schedule(text program, text schedule, unsigned pick);
+void try_function(text function, uint32_t budget, uint32_t arguments, unsigned pick);
 
 #endif

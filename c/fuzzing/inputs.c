@@ -24,8 +24,8 @@ static bool cut(text whole, text *first, text *second) {
 
 /* Numbers of the text's first twelve bytes, mostly within a little of what calls take. */
 static void try_numbers(text whole, uint32_t flags, unsigned pick) {
-    static const enum kind kinds[] = {TELL, RUN, TRACE, RUN_NET};
-    asked it = {kinds[pick % 4], .flags = pick & 16 ? pick : pick >> 2 & 3};
+    static const enum kind kinds[] = {TELL, RUN, TRACE, RUN_NET, SPAN, STEPS, CIRCUIT, REPLAY_TRACE};
+    asked it = {kinds[pick % 8], .flags = pick & 16 ? pick : pick >> 2 & 3};
     if (whole.size < 12) return;
     memcpy(&it.budget, whole.at, 4);
     memcpy(&it.from, (const char *)whole.at + 4, 4);
@@ -41,10 +41,11 @@ static void try_numbers(text whole, uint32_t flags, unsigned pick) {
 
 /* One call, and the same with six of its requests for memory refused: the first, the last, and others. */
 static void try_memory(text whole, uint32_t budget, uint32_t flags, unsigned pick) {
-    static const enum kind kinds[] = {TELL, RUN, TRACE, CHECK, NET, RUN_NET, REPLAY, RUN};
-    asked it = {kinds[pick % 8], .program = whole, .budget = budget, .most = 1000};
-    it.flags = it.kind == RUN ? flags & 3 : flags & 1;
-    if (it.kind == REPLAY && !cut(whole, &it.program, &it.schedule)) return;
+    static const enum kind kinds[] = {TELL, RUN, TRACE, CHECK, NET, RUN_NET, REPLAY, RUN, SPAN, STEPS, CIRCUIT, REPLAY_TRACE, EACH};
+    asked it = {kinds[pick % 13], .program = whole, .budget = budget, .most = 1000};
+    it.flags = it.kind == RUN ? flags & 3 : it.kind == SPAN ? flags & 7 : flags & 1;
+    it.from = it.kind == CIRCUIT || it.kind == EACH ? 1 : 0;
+    if ((it.kind == REPLAY || it.kind == REPLAY_TRACE) && !cut(whole, &it.program, &it.schedule)) return;
     given found = make(it);
     for (unsigned k = 0; found.requests && k < 6; k++) {
         long number = k == 0 ? 0 : k == 1 ? found.requests - 1 : (long)(pick * 7919u + k * 131071u) % found.requests;
@@ -68,6 +69,7 @@ int LLVMFuzzerTestOneInput(const uint8_t *data, size_t size) {
         break;
     case SOME_NUMBERS: try_numbers(whole, flags, pick); break;
     case NO_MEMORY: try_memory(whole, budget, flags, pick); break;
+    case A_FUNCTION: try_function(whole, budget, flags % (ARGUMENTS + 1), pick); break;
     default: try_program(whole, budget, flags, pick);
     }
     return 0;

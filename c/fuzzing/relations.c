@@ -99,6 +99,7 @@ static void try_check(text program, uint32_t budget, uint32_t by_value, const gi
     given term = make(it), type = make((asked){CHECK, .program = program});
     if (small) squeeze(it, &term);
     if (term.status != type.status) finding("check has status %u, and with the program %u", type.status, term.status);
+    find((asked){FIND, .program = program, .flags = GOI_AS_PROGRAM}, &type);
     if (runs(run) && strcmp(type.text, "type nat\n")) finding("the type of what runs: %s", type.text);
     if (term.status == GOI_OK && term.text) {
         char *at = strstr(term.text, "\nterm ");
@@ -128,6 +129,112 @@ static void try_printed(text program, uint32_t budget, uint32_t by_value, const 
         if (pick & 1) squeeze(it, &other);
         free(other.text);
     }
+}
+
+/* The first two lines of a report, as a call of its own. */
+static given lines_of(const given *it) {
+    given lines = *it;
+    const char *first = strchr(it->text, '\n'), *second = first ? strchr(first + 1, '\n') : 0;
+    if (!second) finding("a report without two lines: %.200s", it->text);
+    lines.size = (size_t)(second + 1 - it->text);
+    lines.text = strndup(it->text, lines.size);
+    return lines;
+}
+
+static bool same_line(const char *a, const char *b) {
+    size_t n = strcspn(a, "\n");
+    return n == strcspn(b, "\n") && !memcmp(a, b, n);
+}
+
+/* The rounds come to the run's value and moves, where they come to one, and their schedule replays to what they come to. */
+static void try_span(text program, uint32_t budget, uint32_t by_value, const given *run, unsigned pick) {
+    asked it = {SPAN, .program = program, .budget = budget, .flags = by_value | GOI_SCHEDULE | (pick & GOI_PROFILE)};
+    given span = make(it), lines, again;
+    if (!runs(run) || !span.text) {
+        are_same("span and run", &span, run);
+        free(span.text);
+        return;
+    }
+    if (span.status != run->status) finding("span has status %u, and run %u", span.status, run->status);
+    lines = lines_of(&span);
+    if (span.status == GOI_OK) are_same("span and run", &lines, run);
+    const char *schedule = strstr(span.text, "\nschedule 2\n");
+    if (!schedule) finding("span has no schedule: %.200s", span.text);
+    if (!by_value && span.size < TEXT_ROOM) {
+        again = make((asked){REPLAY, .program = program, .schedule = {schedule + 1, span.size - (size_t)(schedule + 1 - span.text)}});
+        are_same("replay of the rounds", &again, &lines);
+        free(again.text);
+    }
+    if (pick & 1) squeeze(it, &span);
+    free(lines.text), free(span.text);
+}
+
+/* A reduction comes to the run's value, and so does the run of a term of it, where both come to one. */
+static void try_steps(text program, uint32_t budget, const given *run, unsigned pick) {
+    asked it = {STEPS, .program = program, .budget = budget > 300 ? 300 : budget, .from = pick & 3, .most = 1 + (pick >> 2 & 7)};
+    given steps = make(it), other;
+    if (run->status == GOI_REFUSED || !steps.text) {
+        are_same("steps and run", &steps, run);
+        free(steps.text);
+        return;
+    }
+    if (!runs(&steps)) finding("steps has status %u, and run %u", steps.status, run->status);
+    if (steps.status == GOI_OK && run->status == GOI_OK && !same_line(steps.text, run->text)) finding("steps: %.100s", steps.text);
+    const char *at = strstr(steps.text, "\nstep "), *term = at ? at + 1 : 0;
+    for (int k = 0; k < 5 && term; k++) term = strchr(term, ' ') + 1;
+    if (term && strcspn(term, "\n") < TEXT_ROOM) {
+        other = run_of((text){term, strcspn(term, "\n")}, budget, 0);
+        if (!runs(&other) && !is_fault(&other, "TooDeep") && !is_fault(&other, "TooLarge") && !is_fault(&other, "TooLong"))
+            finding("a term of a reduction: %s", other.text);
+        if (other.status == GOI_OK && run->status == GOI_OK && !same_line(other.text, run->text)) finding("a term has %s", other.text);
+        free(other.text);
+    }
+    if (pick & 1) squeeze(it, &steps);
+    free(steps.text);
+}
+
+/* What runs has a circuit, whose module has the ports of a circuit and no argument. */
+static void try_circuit(text program, const given *run, unsigned pick) {
+    static const char *const parts[] = {"\nmodule goi (\n", "input wire clk", "input wire rst", "output reg done",
+                                        "output reg [64:0] result", "output reg full", "\nendmodule"};
+    asked it = {CIRCUIT, .program = program, .from = 1 + pick * 15u % GOI_CELLS_MAX, .most = 1 + pick % GOI_FORKS_MAX};
+    given circuit = make(it);
+    if (run->status == GOI_REFUSED && circuit.status == GOI_REFUSED) are_same("circuit and run", &circuit, run);
+    if (runs(run) && circuit.status != GOI_OK) finding("what runs has no circuit: %s", circuit.text);
+    if (circuit.status == GOI_OK && circuit.text) {
+        if (strncmp(circuit.text, "// goi circuit 1: ", 18)) finding("a circuit that begins with %.200s", circuit.text);
+        for (size_t k = 0; k < sizeof parts / sizeof *parts; k++)
+            if (!strstr(circuit.text, parts[k])) finding("a circuit without %s", parts[k]);
+        if (runs(run) && strstr(circuit.text, "[63:0] arg0")) finding("a program's circuit with an argument");
+    }
+    if (pick & 1) squeeze(it, &circuit);
+    free(circuit.text);
+}
+
+/* A function at each row of numbers is what its application to them runs to. */
+void try_function(text function, uint32_t budget, uint32_t arguments, unsigned pick) {
+    asked it = {EACH, .program = function, .budget = budget, .from = arguments};
+    for (uint32_t k = 0; k < ROWS * arguments; k++) it.values[k] = (k * 7 + pick) % 11 == 3 ? UINT64_MAX - (pick & 1) : pick >> k & 7;
+    given told = make(it);
+    squeeze(it, &told);
+    find((asked){FIND, .program = function, .flags = GOI_AS_FUNCTION(arguments)}, &told);
+    for (uint32_t row = 0; row < ROWS && runs(&told) && function.size + 100 < TEXT_ROOM; row++) {
+        size_t n = function.size;
+        char line[GOI_LINE_SIZE];
+        goi_answer a = told.each[row];
+        made_up[0] = '(';
+        memcpy(made_up + 1, function.at, n++);
+        n += sprintf(made_up + n, "\n)");
+        for (uint32_t k = 0; k < arguments; k++) n += sprintf(made_up + n, " %lu", (unsigned long)it.values[row * arguments + k]);
+        given run = run_of((text){made_up, n}, budget, 0);
+        if (a.kind == GOI_NUMBER) snprintf(line, sizeof line, "value %lu\nmoves %u\n", (unsigned long)a.value, a.moves);
+        else snprintf(line, sizeof line, "%s\nmoves %u\n", a.kind ? "value overflow" : "no value", a.moves);
+        /* (the application may be too deep or too long) */
+        if (runs(&run) ? strcmp(line, run.text) : strncmp(run.text, "refused: Too", 12))
+            finding("a row has %s, and its application %s", line, run.text);
+        free(run.text);
+    }
+    free(told.text);
 }
 
 /* ---- a program respelled */
@@ -223,6 +330,10 @@ void try_program(text program, uint32_t budget, uint32_t flags, unsigned pick) {
     try_blanks(program, budget, by_value, &run);
     try_parentheses(program, budget, both, &scheduled);
     try_names(program, budget, by_value, &run);
+    find((asked){FIND, .program = program, .flags = by_value ? GOI_AS_BY_VALUE : GOI_AS_NUMBER}, &run);
+    if (pick % 3 == 0) try_span(program, budget, by_value, &run, pick);
+    if (pick % 3 == 1 && !by_value) try_steps(program, budget, &run, pick);
+    if (pick % 3 == 2 && !by_value) try_circuit(program, &run, pick);
     free(run.text), free(scheduled.text);
 }
 
@@ -235,6 +346,7 @@ void try_listing(text listing, uint32_t budget, uint32_t flags, unsigned pick) {
     given run = make(it), other;
     size_t n = listing.size, at;
     squeeze(it, &run);
+    find((asked){FIND, .program = listing, .flags = GOI_AS_LISTING}, &run);
     if (runs(&run) && n + 8 < TEXT_ROOM) {
         const char *whole = listing.at;
         it.program = (text){whole, n - 4}; /* without "end\n" */
@@ -261,12 +373,21 @@ void try_listing(text listing, uint32_t budget, uint32_t flags, unsigned pick) {
     free(run.text);
 }
 
-/* A replay makes as many moves as the schedule has, and is the same when it is made again. */
+/* A replay makes as many moves as the schedule has, and is the same when it is made again, and with its trace behind it. */
 void try_schedule(text program, text schedule, unsigned pick) {
     asked it = {REPLAY, .program = program, .schedule = schedule};
     given replay = make(it), other = make(it);
     are_same("a replay, twice", &other, &replay);
     if (pick & 1) squeeze(it, &replay);
+    find((asked){FIND_IN_SCHEDULE, .program = program, .schedule = schedule}, &replay);
+    asked traced_it = {REPLAY_TRACE, .program = program, .schedule = schedule, .from = pick & 15, .most = 1 + (pick >> 4 & 15)};
+    given traced = make(traced_it);
+    if (!runs(&replay)) are_same("a replay's trace and the replay", &traced, &replay);
+    else if (traced.text && (traced.status != replay.status || !begins(&traced, &replay)
+                             || strncmp(traced.text + replay.size, "trace 1\n", 8)))
+        finding("the trace of a replay begins otherwise: %.200s", traced.text);
+    if (pick & 2) squeeze(traced_it, &traced);
+    free(traced.text);
     if (runs(&replay)) {
         /* behind its end nothing may come */
         size_t n = schedule.size;
