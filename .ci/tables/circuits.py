@@ -4,7 +4,7 @@ import os
 import re
 
 from judging import EXAMPLES
-from tables.cases import DOUBLE, SUM, call, case, plain, row_of, sections
+from tables.cases import DOUBLE, call, case, plain, row_of, sections
 
 
 def left_out(text, below):
@@ -52,13 +52,6 @@ def ports():
 def named(text, words):
     """Those lines of a circuit's text."""
     return re.findall(r"^(?:module .*|  \w+ circuit \()$", call(["goi", "circuit", "p", *words], {"p": text})[1].decode(), re.M)
-
-
-def long_run():
-    """The last lines of the waves of a long run, with what its circuit needs."""
-    words = ["goi", "circuit", "p", "--run", "--vcd", "--cells", "881", "--forks", "20"]
-    status, out, err = call(words, {"p": SUM[:-1] + b"20"})
-    return status, re.findall(rb"^(?:1#|b11010010 \$)$", out, re.M), out.split(b"\n")[-3:], err
 
 
 def cases():
