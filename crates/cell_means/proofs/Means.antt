@@ -1,6 +1,7 @@
 -- The module over cells of a program tells what it means.
 use Rattle.std.proofs.Common.{◌≡◌, ◌⊎◌, ℕ, ◌%◌, ◌^◌, true, false, [], length, Option, Some, None, is_some, refl, sym, ap, ◌∙◌, Bool}
 use Rattle.std.proofs.Common.{subst, arith, ⊎_elim, inl, inr}
+use Prim.Native.String.{String}
 use Rattle.pcf_values.specs.declared.val.Val.{Val}
 use Rattle.pcf_values.specs.Terms.{TermTree, nat}
 use Rattle.pcf_values.specs.Typing.{HasType}
@@ -36,8 +37,8 @@ use Rattle.cell_means.proofs.Always.{cycles_meet}
 
 -- on a net that runs
 pub cells_run : CellModuleClocks → CellModuleRuns
-cells_run clocks net runs z sizes range covers mem n S =
-    clocks net z sizes runs.sound range mem n (λ j l. cycles_meet net runs z range covers mem j) S
+cells_run clocks net runs z sizes range covers mem n S strays =
+    clocks net z sizes runs.sound range mem n (λ j l. cycles_meet net runs z range covers mem j) S strays
 
 -- registers that stand for a circuit with the answer and the length of a log that tells the meaning
 told : (m : TermTree) (k : ℕ) (z : Sizes) (C : CellCircuit) (T : Store) → Stands (net_of m) z C T →
@@ -81,9 +82,10 @@ abbrev no_cells : ℕ → Cell
 no_cells i = record { first = nil; second = nil }
 
 module _ (cells_run : CellModuleRuns) (m : TermTree) (typed : HasType [] m nat) (sound : Sound (net_of m)) (z : Sizes)
-    (sizes : CellSizes z) (few : FewWires (net_of m)) (covers : Covers z (net_of m)) (S : Store) (k : ℕ) where
+    (sizes : CellSizes z) (few : FewWires (net_of m)) (covers : Covers z (net_of m)) (S : Store)
+    (strays : ℕ → String → ℕ → ℕ) (k : ℕ) where
   abbrev T : Store
-  T = cell_edges (net_of m) z k (cell_reset_edge (net_of m) z S)
+  T = cell_edges (net_of m) z strays k (cell_reset_edge (net_of m) z S)
 
   runs : Runs (net_of m)
   runs = built_runs m typed sound
@@ -91,6 +93,7 @@ module _ (cells_run : CellModuleRuns) (m : TermTree) (typed : HasType [] m nat) 
   stands : (mem : ℕ → Cell) → Stands (net_of m) z (circuit (net_of m) z mem k) T
   stands mem =
       cells_run (net_of m) (built_runs m typed sound) z sizes (in_range (net_of m) sound (small_constants m typed) few) covers mem k S
+      strays
 
   pub cell_full : (mem : ℕ → Cell) → T.vec "full" ≡ flag (circuit (net_of m) z mem k).full
   cell_full mem = (stands mem).full

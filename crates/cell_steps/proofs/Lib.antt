@@ -10,5 +10,7 @@ pub mod MakeRows
 pub mod ForkRow
 -- one edge at a join
 pub mod JoinRows
--- one edge is one cycle, and so many are so many
+-- one edge is one cycle
 pub mod Step
+-- and so many are so many
+pub mod Edges

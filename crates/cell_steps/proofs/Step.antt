@@ -1,6 +1,6 @@
 -- One edge of the module over cells is one cycle of the circuit over cells.
-use Rattle.std.proofs.Common.{◌≡◌, ℕ, zero, suc, ◌<◌, Bool, true, false, cond, ◌||◌, ◌∷◌, length, Option, Some, None, is_some}
-use Rattle.std.proofs.Common.{refl, sym, ap, ◌∙◌, subst, arith}
+use Rattle.std.proofs.Common.{◌≡◌, ℕ, suc, ◌<◌, Bool, true, false, cond, ◌||◌, ◌∷◌, length, Option, Some, None, is_some}
+use Rattle.std.proofs.Common.{refl, sym, ap, ◌∙◌, subst}
 use Rattle.std.proofs.lemmas.Bool.{or_right}
 use Rattle.pcf_values.specs.declared.operator.Operator.{Operator}
 use Rattle.pcf_values.specs.declared.side.Side.{Side}
@@ -15,15 +15,15 @@ use Rattle.circuit_module.specs.Module.{is_product, multiplies}
 use Rattle.circuit_module.specs.InRange.{RowFits, InRange}
 use Rattle.cell_core.specs.Cells.{Cell, to, first_of, below, cell_at, reads, needs_cell, row_on}
 use Rattle.cell_core.specs.Sizes.{Sizes, too_long}
-use Rattle.newest_core.specs.Circuit.{CellToken, CellCircuit, stuck, shifted, operate, operate_on, clock_on, clock, clocks, powered}
+use Rattle.newest_core.specs.Circuit.{CellToken, CellCircuit, stuck, shifted, operate, operate_on, clock_on, clock}
 use Rattle.cell_module.specs.Apart.{makes_to, left_to, right_to, reads_cell, is_join, CellsApart, ForksApart, QuestionsApart}
 use Rattle.cell_module.specs.Fixed.{way_wires, cell_clock}
 use Rattle.cell_module.specs.Parts.{word_of, deeds_of}
-use Rattle.cell_edges.specs.Laws.{CellSizes, CellModuleResets, cell_reset_edge}
+use Rattle.cell_edges.specs.Laws.{CellSizes}
 use Rattle.cell_edges.specs.Stands.{IsRow, Fetched, Stands}
 use Rattle.cell_edges.proofs.Fetch.{P as scope_of, R as all_of, keeps}
 use Rattle.cell_steps.specs.Meets.{Reads, Meets}
-use Rattle.cell_steps.specs.Laws.{cell_edge, cell_edges, CycleMeets, CellModuleSteps, CellModuleClocks}
+use Rattle.cell_steps.specs.Laws.{cell_edge, CycleMeets, CellModuleSteps}
 use Rattle.cell_edges.proofs.Known.{known}
 use Rattle.cell_edges.proofs.Ways.{way_is}
 use Rattle.cell_steps.proofs.Clock.{edge_at, EndsDone, full_dead, done_answer}
@@ -196,7 +196,7 @@ module _ (net : NetTree) (z : Sizes) (sizes : CellSizes z) (range : InRange net)
         multiplier = λ o s w e t. range.multiplier k.channel meets.row meets.found o s w e t;
       }))
 
--- ---- one edge, and so many
+-- ---- one edge
 
 pub steps : CellsApart → ForksApart → QuestionsApart → CellModuleSteps
 steps cells_apart forks_apart questions_apart net z sizes sound range C S st meets = go C.full refl C.live refl
@@ -205,13 +205,3 @@ steps cells_apart forks_apart questions_apart net z sizes sound range C S st mee
     go true u d e = idle net z C S st (ap (λ b. is_some C.result || b) u ∙ or_right (is_some C.result) true refl) (λ k h f. absurd cc)
     go false u None e = idle net z C S st (ap (λ b. b || C.full) (st.ended e)) (λ k h f. absurd cc)
     go false u (Some k) e = goes_on net z sizes range C S st k e u (meets k e u) sound cells_apart forks_apart questions_apart
-
-pub many : CellModuleSteps → CellModuleResets → CellModuleClocks
-many step resets net z sizes sound range mem n meets S =
-    go n (powered net mem) (cell_reset_edge net z S) meets (resets net z sizes range mem S)
-  where
-    go : (n : ℕ) (C : CellCircuit) (X : Store) → ((j : ℕ) → j < n → CycleMeets net z (clocks net z j C)) → Stands net z C X →
-        Stands net z (clocks net z n C) (cell_edges net z n X)
-    go zero C X m st = st
-    go (suc n) C X m st = go n (clock net z C) (cell_edge net z X) (λ j l. m (suc j) (omega arith))
-        (step net z sizes sound range C X st (m 0 (omega arith)))

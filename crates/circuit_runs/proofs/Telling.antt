@@ -7,6 +7,7 @@ use Rattle.pcf_values.specs.Typing.{HasType}
 use Rattle.cbn_meaning.specs.Meaning.{Means, value}
 use Rattle.cbn_meaning.specs.Laws.{ResultHasType}
 use Rattle.cbn_meaning.proofs.Keeps.{result_keeps_type}
+use Prim.Native.String.{String}
 use Rattle.net_build.specs.Nets.{NetTree}
 use Rattle.net_build.specs.NetOf.{net_of}
 use Rattle.adequacy_laws.specs.Questions.{Length}
@@ -40,8 +41,12 @@ same_value Overflow Overflow h k e = refl
 same_value (Number m) Overflow h k e = absurd (omega arith)
 same_value Overflow (Number n) h k e = absurd (omega arith)
 
+-- what each edge of a run reads past ends
+abbrev strays : NetTree → Sizes → Store → ℕ → String → ℕ → ℕ
+strays net z S n = (run_from (cell_module net z) n S).stray
+
 -- the edges of a net's module are those of its items
-edges_same : (net : NetTree) (z : Sizes) (k : ℕ) (S : Store) → run_from (cell_module net z) k S ≡ cell_edges net z k S
+edges_same : (net : NetTree) (z : Sizes) (k : ℕ) (S : Store) → run_from (cell_module net z) k S ≡ cell_edges net z (strays net z S) k S
 edges_same net z zero S = refl
 edges_same net z (suc k) S = edges_same net z k (cell_edge net z S)
 
@@ -123,16 +128,21 @@ program_runs M R cover fits m typed cells forks few_cells some_forks few_forks f
     covers : Covers (sizes m cells forks) (net_of m)
     covers = cover (net_of m) cells forks within
 
-    same : (k : ℕ) → cell_edges (net_of m) (sizes m cells forks) k (cell_reset_edge (net_of m) (sizes m cells forks) nothing)
-        ≡ shown m cells forks k
-    same k = sym (edges_same (net_of m) (sizes m cells forks) k (cell_reset_edge (net_of m) (sizes m cells forks) nothing))
+    reset : Store
+    reset = cell_reset_edge (net_of m) (sizes m cells forks) nothing
+
+    past_ends : ℕ → String → ℕ → ℕ
+    past_ends = strays (net_of m) (sizes m cells forks) reset
+
+    same : (k : ℕ) → cell_edges (net_of m) (sizes m cells forks) past_ends k reset ≡ shown m cells forks k
+    same k = sym (edges_same (net_of m) (sizes m cells forks) k reset)
 
     says : (k : ℕ) → Says m k (shown m cells forks k)
-    says k = subst (Says m k) (same k) (M m typed (sizes m cells forks) small few covers nothing k)
+    says k = subst (Says m k) (same k) (M m typed (sizes m cells forks) small few covers nothing past_ends k)
 
     fit : (k : ℕ) → FitsWithin (net_of m) (sizes m cells forks) k → (shown m cells forks k).vec "full" ≡ 0
     fit k f =
-        subst (λ (T : Store). T.vec "full" ≡ 0) (same k) (R m typed (sizes m cells forks) small few covers nothing k f).0
+        subst (λ (T : Store). T.vec "full" ≡ 0) (same k) (R m typed (sizes m cells forks) small few covers nothing past_ends k f).0
 
     tell : (o : Outcome) → Comes (net_of m) cells forks K o → CircuitTells m cells forks K o
     tell (Ended v moves j) h = on_ended m typed cells forks (shown m cells forks) says fit K v moves j h

@@ -1,5 +1,5 @@
 -- What an edge leaves of the unit's registers, told by what has settled; and which quarters it takes.
-use Rattle.std.proofs.Common.{◌≡◌, Bool, true, false, ◌||◌, List, [], ◌∷◌, refl, ap, sym, ◌∙◌, subst}
+use Rattle.std.proofs.Common.{◌≡◌, ℕ, Bool, true, false, ◌||◌, List, [], ◌∷◌, refl, ap, sym, ◌∙◌, subst}
 use Prim.Native.String.{String}
 use lib.Text.{eqt}
 use Rattle.net_build.specs.Nets.{NetTree}
@@ -7,7 +7,6 @@ use Rattle.cell_core.specs.Sizes.{Sizes}
 use Rattle.verilog_tree.specs.Meaning.{Store, flag, fit, set_vec}
 use Rattle.verilog_tree.specs.WellFormed.{member}
 use Rattle.verilog_tree.proofs.Own.{one_name}
-use Rattle.late_numbers.proofs.Quarters.{quarter, added}
 use Rattle.late_module.proofs.Unit.{Taken, less_of, ready_if, begun_if, readies, begins}
 use Rattle.late_steps.specs.Stands.{late_edge, taken, Again}
 use Rattle.late_steps.proofs.Settles.{W, start, rows, X, first, second, less, takes, keeps}
@@ -40,41 +39,31 @@ module _ (net : NetTree) (z : Sizes) (S : Store) where
   abbrev TG : Store
   TG = set_vec "rst" 0 G
 
-  -- quarters of operands that stand are taken again
-  pub same_again : first net z TG ≡ first net z T → second net z TG ≡ second net z T → G.vec "does" ≡ S.vec "does" → Again net z G
-  same_again a b d x m =
-      members (λ x. (late_edge net z G).vec x ≡ G.vec x) x taken
-      (λ y e a. subst (λ x. (late_edge net z G).vec x ≡ G.vec x) (one_name y x e) a) (
-        t.part0 ∙ (λ i. quarter 0 (a i) (added (l i) (b i)) (l i)) ∙ sym o.part0,
+  -- quarters that are those of the operands are taken again
+  retaken : (V : Store) → Taken (first net z (set_vec "rst" 0 V)) (second net z (set_vec "rst" 0 V)) (less net z (set_vec "rst" 0 V)) V →
+      Again net z V
+  retaken V o x m =
+      members (λ x. (late_edge net z V).vec x ≡ V.vec x) x taken
+      (λ y e a. subst (λ x. (late_edge net z V).vec x ≡ V.vec x) (one_name y x e) a) (
+        t.part0 ∙ sym o.part0,
         (
-          t.part1 ∙ (λ i. quarter 16 (a i) (added (l i) (b i)) 0) ∙ sym o.part1,
+          t.part1 ∙ sym o.part1,
           (
-            t.next1 ∙ (λ i. quarter 16 (a i) (added (l i) (b i)) 1) ∙ sym o.next1,
-            (
-              t.part2 ∙ (λ i. quarter 32 (a i) (added (l i) (b i)) 0) ∙ sym o.part2,
-              (
-                t.next2 ∙ (λ i. quarter 32 (a i) (added (l i) (b i)) 1) ∙ sym o.next2,
-                (
-                  t.part3 ∙ (λ i. quarter 48 (a i) (added (l i) (b i)) 0) ∙ sym o.part3,
-                  (
-                    t.next3 ∙ (λ i. quarter 48 (a i) (added (l i) (b i)) 1) ∙ sym o.next3,
-                    tt,
-                  ),
-                ),
-              ),
-            ),
+            t.next1 ∙ sym o.next1,
+            (t.part2 ∙ sym o.part2, (t.next2 ∙ sym o.next2, (t.part3 ∙ sym o.part3, (t.next3 ∙ sym o.next3, tt)))),
           ),
         ),
       ) m
     where
-      t : Taken (first net z TG) (second net z TG) (less net z TG) (late_edge net z G)
-      t = takes net z TG
+      t : Taken (first net z (set_vec "rst" 0 V)) (second net z (set_vec "rst" 0 V)) (less net z (set_vec "rst" 0 V)) (late_edge net z V)
+      t = takes net z (set_vec "rst" 0 V)
 
-      o : Taken (first net z T) (second net z T) (less net z T) G
-      o = takes net z T
-
-      l : less net z TG ≡ less net z T
-      l = ap less_of d
+  -- as are those that an edge took, where the operands stand
+  pub same_again : first net z TG ≡ first net z T → second net z TG ≡ second net z T → G.vec "does" ≡ S.vec "does" → Again net z G
+  same_again a b d =
+      retaken G (subst (λ a. Taken a (second net z TG) (less net z TG) G) (sym a)
+      (subst (λ b. Taken (first net z T) b (less net z TG) G) (sym b)
+      (subst (λ l. Taken (first net z T) (second net z T) l G) (sym (ap less_of d)) (takes net z T))))
 
   -- those that would be taken again are those of the operands
   pub taken_now : Again net z S → Taken (first net z T) (second net z T) (less net z T) T
@@ -89,6 +78,20 @@ module _ (net : NetTree) (z : Sizes) (S : Store) where
         part3 = sym (h "part3" refl) ∙ o.part3;
         next3 = sym (h "next3" refl) ∙ o.next3;
       }
+
+  -- whatever is read past ends
+  pub again_strayed : (s : String → ℕ → ℕ) → Again net z S → Again net z (record S { stray = s })
+  again_strayed s h =
+      let t = taken_now h in
+      retaken (record S { stray = s }) (record {
+        part0 = t.part0;
+        part1 = t.part1;
+        next1 = t.next1;
+        part2 = t.part2;
+        next2 = t.next2;
+        part3 = t.part3;
+        next3 = t.next3;
+      })
 
   pub rst_is : R.vec "rst" ≡ 0
   rst_is = keeps net z T "rst" refl refl refl refl

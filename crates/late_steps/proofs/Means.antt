@@ -45,7 +45,7 @@ no_cells i = record { first = nil; second = nil }
 -- the moves that so many edges made are found, and the module without late numbers tells of so many
 pub late_means : LateHolds → LateMoves → LateResets → CellModuleRuns → CellModuleMeans → CellModuleIsFull → CellModuleIsRight →
     CellModuleWants → ((m : TermTree) → HasType [] m nat → Sound (net_of m)) → LateMeans
-late_means holds moves resets cells_run cells_mean cells_full cells_right cells_want built m typed z sizes few covers S n = record {
+late_means holds moves resets cells_run cells_mean cells_full cells_right cells_want built m typed z sizes few covers S strays n = record {
   moves = f.moves;
   fewer = let e = f.edges in omega (arith, e);
   bound =
@@ -60,10 +60,10 @@ late_means holds moves resets cells_run cells_mean cells_full cells_right cells_
       let l = f.stands.few in
       let c = waits_once net range none (circuit net z no_cells f.moves) in
       omega (arith, e, w, l, c);
-  tells = full_or_tells m f.moves T U same (cells_mean m typed z sizes few covers S f.moves);
-  full = λ mem. same.full ∙ cells_full m typed z sizes few covers mem S f.moves;
-  right = λ fits. same.full ∙ (cells_right m typed z sizes few covers S f.moves fits).0;
-  wants = λ e. cells_want m typed z sizes few covers S f.moves (sym same.full ∙ e);
+  tells = full_or_tells m f.moves T U same (cells_mean m typed z sizes few covers S strays f.moves);
+  full = λ mem. same.full ∙ cells_full m typed z sizes few covers mem S strays f.moves;
+  right = λ fits. same.full ∙ (cells_right m typed z sizes few covers S strays f.moves fits).0;
+  wants = λ e. cells_want m typed z sizes few covers S strays f.moves (sym same.full ∙ e);
 }
   where
     net : NetTree
@@ -75,17 +75,17 @@ late_means holds moves resets cells_run cells_mean cells_full cells_right cells_
     range : InRange net
     range = in_range net (built m typed) (small_constants m typed) few
 
-    f : Found net z no_cells S n
-    f = found holds moves resets net runs z sizes range covers no_cells S n
+    f : Found net z no_cells S strays n
+    f = found holds moves resets net runs z sizes range covers no_cells S strays n
 
     C : CellCircuit
     C = circuit net z no_cells f.moves
 
     T : Store
-    T = late_edges net z n (late_reset_edge net z S)
+    T = late_edges net z strays n (late_reset_edge net z S)
 
     U : Store
-    U = cell_edges net z f.moves (cell_reset_edge net z S)
+    U = cell_edges net z strays f.moves (cell_reset_edge net z S)
 
     same : Shows T U
-    same = shown net z C T U f.stands.stands (cells_run net runs z sizes range covers no_cells f.moves S)
+    same = shown net z C T U f.stands.stands (cells_run net runs z sizes range covers no_cells f.moves S strays)

@@ -1,7 +1,9 @@
 -- The edges of the module whose numbers are late, told by moves: the statements of `law_late_reset`, `law_late_step`, `law_late_runs`,
 -- `law_late_waits` and `law_late_means`.
--- Of the world it is asked that `rst` is stable around each edge, and that all has settled before it.
+-- Of the world it is asked that `rst` is stable around each edge, and that all has settled before it. What is read past the end of a
+-- vector or a memory is anything, afresh at each edge.
 use Rattle.std.specs.Prelude.{◌≡◌, ◌⊎◌, ◌≤◌, ◌<◌, ℕ, suc, ◌+◌, ◌*◌, ◌^◌, false}
+use Prim.Native.String.{String}
 use Rattle.pcf_values.specs.Terms.{TermTree}
 use Rattle.net_build.specs.Nets.{NetTree}
 use Rattle.net_build.specs.NetOf.{net_of}
@@ -42,8 +44,9 @@ LateMoves = OfEveryLate (λ net z C j S. j ≡ waits net C → LateStands net z 
 
 -- so n moves are made in as many edges as they are and wait
 abbrev pub LateRuns : Type 0
-LateRuns = (net : NetTree) → Runs net → (z : Sizes) → CellSizes z → InRange net → Covers z net → (mem : ℕ → Cell) (n : ℕ) (S : Store) →
-    LateStands net z (circuit net z mem n) 0 (late_edges net z (n + waited net z n (powered net mem)) (late_reset_edge net z S))
+LateRuns = (net : NetTree) → Runs net → (z : Sizes) → CellSizes z → InRange net → Covers z net → (mem : ℕ → Cell) (n : ℕ) (S : Store)
+    (strays : ℕ → String → ℕ → ℕ) →
+    LateStands net z (circuit net z mem n) 0 (late_edges net z strays (n + waited net z n (powered net mem)) (late_reset_edge net z S))
 
 -- a number is below 2 to the power of its bits, and below no lower power
 abbrev pub BitsAreFewest : Type 0
@@ -75,5 +78,6 @@ pub record LateTells (m : TermTree) (z : Sizes) (n : ℕ) (T : Store) : Type 0 w
 
 -- for readers: every program's module tells that after every number of edges, from whatever registers and memories
 abbrev pub LateMeans : Type 0
-LateMeans = OfEveryProgram (λ m. (z : Sizes) → CellSizes z → FewWires (net_of m) → Covers z (net_of m) → (S : Store) (n : ℕ) →
-    LateTells m z n (late_edges (net_of m) z n (late_reset_edge (net_of m) z S)))
+LateMeans = OfEveryProgram (λ m. (z : Sizes) → CellSizes z → FewWires (net_of m) → Covers z (net_of m) → (S : Store)
+    (strays : ℕ → String → ℕ → ℕ) (n : ℕ) →
+    LateTells m z n (late_edges (net_of m) z strays n (late_reset_edge (net_of m) z S)))

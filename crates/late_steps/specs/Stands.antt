@@ -13,13 +13,13 @@ use Rattle.late_numbers.specs.Laws.{IsProduct}
 use Rattle.late_module.specs.Module.{late_module}
 use Rattle.late_steps.specs.Waits.{Wait, ended, no_number, quarters, product_of, low_of, cycles_of, wait_of, waits}
 
--- an edge with `rst` at 0, so many of them, and one with `rst` at 1, from whatever was there
+-- an edge with `rst` at 0, so many of them, with what is read past ends at each, and one with `rst` at 1, from whatever was there
 abbrev pub late_edge : NetTree → Sizes → Store → Store
 late_edge net z S = edge (late_module net z) (set_vec "rst" 0 S)
 
-abbrev pub late_edges : NetTree → Sizes → ℕ → Store → Store
-late_edges net z zero S = S
-late_edges net z (suc k) S = late_edges net z k (late_edge net z S)
+abbrev pub late_edges : NetTree → Sizes → (strays : ℕ → String → ℕ → ℕ) → ℕ → Store → Store
+late_edges net z strays zero S = S
+late_edges net z strays (suc k) S = late_edges net z (λ n. strays (suc n)) k (late_edge net z (record S { stray = strays 0 }))
 
 abbrev pub late_reset_edge : NetTree → Sizes → Store → Store
 late_reset_edge net z S = edge (late_module net z) (set_vec "rst" 1 S)

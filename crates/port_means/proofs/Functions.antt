@@ -2,6 +2,7 @@
 use Rattle.std.proofs.Common.{◌≡◌, ◌<◌, ◌^◌, ℕ, zero, suc, Bool, true, false, List, [], length, refl, sym, ap, subst, ◌∙◌, arith}
 use Rattle.pcf_values.specs.Terms.{TermTree, nat}
 use Rattle.pcf_values.specs.Typing.{HasType}
+use Prim.Native.String.{String}
 use Rattle.net_build.specs.Nets.{NetTree}
 use Rattle.net_build.specs.NetOf.{net_of}
 use Rattle.net_build.specs.Laws.{BuiltSound}
@@ -29,22 +30,24 @@ use Rattle.port_means.specs.Laws.{SameProducts}
 use Rattle.port_means.proofs.Begins.{begins}
 
 -- a reset of the module without ports, and so many edges
-abbrev after_reset : (late : Bool) → NetTree → Sizes → ℕ → Store → Store
-after_reset false net z k S = cell_edges net z k (cell_reset_edge net z S)
-after_reset true net z k S = late_edges net z k (late_reset_edge net z S)
+abbrev after_reset : (late : Bool) → NetTree → Sizes → (ℕ → String → ℕ → ℕ) → ℕ → Store → Store
+after_reset false net z f k S = cell_edges net z f k (cell_reset_edge net z S)
+after_reset true net z f k S = late_edges net z f k (late_reset_edge net z S)
 
-cell_edges_are : (net : NetTree) (z : Sizes) (k : ℕ) (S : Store) → plain_edges false net z k S ≡ cell_edges net z k S
-cell_edges_are net z zero S = refl
-cell_edges_are net z (suc k) S = cell_edges_are net z k (cell_edge net z S)
+cell_edges_are : (net : NetTree) (z : Sizes) (f : ℕ → String → ℕ → ℕ) (k : ℕ) (S : Store) →
+    plain_edges false net z f k S ≡ cell_edges net z f k S
+cell_edges_are net z f zero S = refl
+cell_edges_are net z f (suc k) S = cell_edges_are net z (λ n. f (suc n)) k (cell_edge net z (record S { stray = f 0 }))
 
-late_edges_are : (net : NetTree) (z : Sizes) (k : ℕ) (S : Store) → plain_edges true net z k S ≡ late_edges net z k S
-late_edges_are net z zero S = refl
-late_edges_are net z (suc k) S = late_edges_are net z k (late_edge net z S)
+late_edges_are : (net : NetTree) (z : Sizes) (f : ℕ → String → ℕ → ℕ) (k : ℕ) (S : Store) →
+    plain_edges true net z f k S ≡ late_edges net z f k S
+late_edges_are net z f zero S = refl
+late_edges_are net z f (suc k) S = late_edges_are net z (λ n. f (suc n)) k (late_edge net z (record S { stray = f 0 }))
 
-run_is : (late : Bool) (net : NetTree) (z : Sizes) (k : ℕ) (S : Store) →
-    plain_edges late net z k (edge (plain_module late net z) (set_vec "rst" 1 S)) ≡ after_reset late net z k S
-run_is false net z k S = cell_edges_are net z k (cell_reset_edge net z S)
-run_is true net z k S = late_edges_are net z k (late_reset_edge net z S)
+run_is : (late : Bool) (net : NetTree) (z : Sizes) (f : ℕ → String → ℕ → ℕ) (k : ℕ) (S : Store) →
+    plain_edges late net z f k (edge (plain_module late net z) (set_vec "rst" 1 S)) ≡ after_reset late net z f k S
+run_is false net z f k S = cell_edges_are net z f k (cell_reset_edge net z S)
+run_is true net z f k S = late_edges_are net z f k (late_reset_edge net z S)
 
 -- what shows the same tells the same
 not_full_tells : (m : TermTree) (k : ℕ) (T V : Store) → Shows T V → (V.vec "full" ≡ 0) × ModuleTells m k V →
@@ -102,16 +105,16 @@ module _ (has : AppliedHas) (net_is : AppliedNet) (numbers : OtherNumbers) (shap
         let n : length vs < 2 ^ 64 = omega (arith, w, c, few) in
         subst (λ n. n < 2 ^ 64) (sym (places_length _ (length vs))) n
 
-    pub shows : (late : Bool) (S : Store) (more : List (List ℕ)) →
-        Shows (after_call late m us vs z S more) (after_reset late other z (length more) S)
-    shows late S more =
+    pub shows : (late : Bool) (S : Store) (f : ℕ → String → ℕ → ℕ) (more : List (List ℕ)) →
+        Shows (after_call late m us vs z S f more) (after_reset late other z f (length more) S)
+    shows late S f more =
         let ps = places m (length vs) in
         let q = ports late net z ps vs (sym (places_length _ (length vs))) few_places
-        (begins m us (net_is m us) typed_us (sound (applied m us) typed_us) few (length vs) e) S more in
+        (begins m us (net_is m us) typed_us (sound (applied m us) typed_us) few (length vs) e) S f more in
         let n = with_numbers net ps vs in
-        let U : Store = plain_edges late n z (length more) (edge (plain_module late n z) (set_vec "rst" 1 S)) in
-        let u : U ≡ after_reset late other z (length more) S =
-        run_is late n z (length more) S ∙ ap (λ n. after_reset late n z (length more) S) (sym other_is) in
+        let U : Store = plain_edges late n z f (length more) (edge (plain_module late n z) (set_vec "rst" 1 S)) in
+        let u : U ≡ after_reset late other z f (length more) S =
+        run_is late n z f (length more) S ∙ ap (λ n. after_reset late n z f (length more) S) (sym other_is) in
         record {
           done = q.0 ∙ ap (λ (X : Store). X.vec "done") u;
           result = λ done. q.1 ∙ ap (λ (X : Store). X.vec "result") u;
@@ -120,36 +123,36 @@ module _ (has : AppliedHas) (net_is : AppliedNet) (numbers : OtherNumbers) (shap
         }
 
   pub function_means : CellModuleMeans → FunctionMeans
-  function_means law m us vs h e a b z sizes few covers S more =
-      full_or_tells (applied m vs) (length more) (after_call false m us vs z S more)
-      (cell_edges (net_of (applied m vs)) z (length more) (cell_reset_edge (net_of (applied m vs)) z S))
-      (shows m us vs h e a b z few false S more)
+  function_means law m us vs h e a b z sizes few covers S f more =
+      full_or_tells (applied m vs) (length more) (after_call false m us vs z S f more)
+      (cell_edges (net_of (applied m vs)) z f (length more) (cell_reset_edge (net_of (applied m vs)) z S))
+      (shows m us vs h e a b z few false S f more)
       (law (applied m vs) (typed m us vs h e a b z few) z sizes (few_wires m us vs h e a b z few) (covers_too m us vs h e a b z few covers)
-      S (length more))
+      S f (length more))
 
   pub function_full : CellModuleIsFull → FunctionIsFull
-  function_full law m us vs h e a b z sizes few covers mem S more =
-      (shows m us vs h e a b z few false S more).full
+  function_full law m us vs h e a b z sizes few covers mem S f more =
+      (shows m us vs h e a b z few false S f more).full
       ∙ law (applied m vs) (typed m us vs h e a b z few) z sizes (few_wires m us vs h e a b z few) (covers_too m us vs h e a b z few covers)
-      mem S (length more)
+      mem S f (length more)
 
   pub function_right : CellModuleIsRight → FunctionIsRight
-  function_right law m us vs h e a b z sizes few covers S more fits =
-      not_full_tells (applied m vs) (length more) (after_call false m us vs z S more)
-      (cell_edges (net_of (applied m vs)) z (length more) (cell_reset_edge (net_of (applied m vs)) z S))
-      (shows m us vs h e a b z few false S more)
+  function_right law m us vs h e a b z sizes few covers S f more fits =
+      not_full_tells (applied m vs) (length more) (after_call false m us vs z S f more)
+      (cell_edges (net_of (applied m vs)) z f (length more) (cell_reset_edge (net_of (applied m vs)) z S))
+      (shows m us vs h e a b z few false S f more)
       (law (applied m vs) (typed m us vs h e a b z few) z sizes (few_wires m us vs h e a b z few) (covers_too m us vs h e a b z few covers)
-      S (length more) fits)
+      S f (length more) fits)
 
   pub function_wants : CellModuleWants → FunctionWants
-  function_wants law m us vs h e a b z sizes few covers S more full =
+  function_wants law m us vs h e a b z sizes few covers S f more full =
       law (applied m vs) (typed m us vs h e a b z few) z sizes (few_wires m us vs h e a b z few) (covers_too m us vs h e a b z few covers)
-      S (length more) (sym (shows m us vs h e a b z few false S more).full ∙ full)
+      S f (length more) (sym (shows m us vs h e a b z few false S f more).full ∙ full)
 
   pub late_function_means : LateMeans → LateFunctionMeans
-  late_function_means law m us vs h e a b z sizes few covers S more =
-      late_tells (applied m vs) z (length more) (after_call true m us vs z S more)
-      (late_edges (net_of (applied m vs)) z (length more) (late_reset_edge (net_of (applied m vs)) z S))
-      (shows m us vs h e a b z few true S more)
+  late_function_means law m us vs h e a b z sizes few covers S f more =
+      late_tells (applied m vs) z (length more) (after_call true m us vs z S f more)
+      (late_edges (net_of (applied m vs)) z f (length more) (late_reset_edge (net_of (applied m vs)) z S))
+      (shows m us vs h e a b z few true S f more)
       (law (applied m vs) (typed m us vs h e a b z few) z sizes (few_wires m us vs h e a b z few) (covers_too m us vs h e a b z few covers)
-      S (length more))
+      S f (length more))

@@ -1,8 +1,10 @@
 -- The module of a function of numbers, with a port for each argument, computes the function: the statements of `law_function`, and that of
 -- `law_late_function` for the module whose numbers may be late.
 -- It is made of the function's net at some numbers, as zeros; what these are is the same. Of the world it is asked that `rst` and, while it
--- is high, the arguments are stable around each edge, and that all has settled before it.
+-- is high, the arguments are stable around each edge, and that all has settled before it. What is read past
+-- the end of a vector or a memory is anything, afresh at each edge.
 use Rattle.std.specs.Prelude.{◌≡◌, ◌⊎◌, ℕ, Bool, true, false, List, [], length}
+use Prim.Native.String.{String}
 use Rattle.pcf_values.specs.Terms.{TermTree}
 use Rattle.pcf_values.specs.Typing.{HasType}
 use Rattle.net_build.specs.NetOf.{net_of}
@@ -35,37 +37,41 @@ OfEveryModule Says = OfEveryFunction (λ m us vs. (z : Sizes) → CellSizes z �
 
 -- the registers, where numbers may be late or not, after a reset with the arguments at the ports, from anything, and so many edges, with
 -- whatever is at the ports then
-abbrev pub after_call : (late : Bool) → TermTree → (us vs : List ℕ) → Sizes → Store → List (List ℕ) → Store
-after_call late m us vs z S more =
-    port_edges (port_module late (net_of (applied m us)) z (places m (length vs))) more
+abbrev pub after_call : (late : Bool) → TermTree → (us vs : List ℕ) → Sizes → Store → (strays : ℕ → String → ℕ → ℕ) →
+    List (List ℕ) → Store
+after_call late m us vs z S strays more =
+    port_edges (port_module late (net_of (applied m us)) z (places m (length vs))) strays more
     (port_reset (port_module late (net_of (applied m us)) z (places m (length vs))) vs S)
 
 -- it is full, or it tells what the function means at these arguments
 abbrev pub FunctionMeans : Type 0
-FunctionMeans = OfEveryModule (λ m us vs z. (S : Store) (more : List (List ℕ)) →
-    ((after_call false m us vs z S more).vec "full" ≡ 1)
-    ⊎ (((after_call false m us vs z S more).vec "full" ≡ 0) × ModuleTells (applied m vs) (length more) (after_call false m us vs z S more)))
+FunctionMeans = OfEveryModule (λ m us vs z. (S : Store) (strays : ℕ → String → ℕ → ℕ) (more : List (List ℕ)) →
+    ((after_call false m us vs z S strays more).vec "full" ≡ 1)
+    ⊎ (((after_call false m us vs z S strays more).vec "full" ≡ 0)
+    × ModuleTells (applied m vs) (length more) (after_call false m us vs z S strays more)))
 
 -- it is full exactly where the circuit over cells of the applied term is, over any memory
 abbrev pub FunctionIsFull : Type 0
-FunctionIsFull = OfEveryModule (λ m us vs z. (mem : ℕ → Cell) (S : Store) (more : List (List ℕ)) →
-    (after_call false m us vs z S more).vec "full" ≡ flag (circuit (net_of (applied m vs)) z mem (length more)).full)
+FunctionIsFull = OfEveryModule (λ m us vs z. (mem : ℕ → Cell) (S : Store) (strays : ℕ → String → ℕ → ℕ) (more : List (List ℕ)) →
+    (after_call false m us vs z S strays more).vec "full" ≡ flag (circuit (net_of (applied m vs)) z mem (length more)).full)
 
 -- as it isn't where forks and cells are enough for as many moves of the applied term's net as there were edges
 abbrev pub FunctionIsRight : Type 0
-FunctionIsRight = OfEveryModule (λ m us vs z. (S : Store) (more : List (List ℕ)) → FitsWithin (net_of (applied m vs)) z (length more) →
-    ((after_call false m us vs z S more).vec "full" ≡ 0) × ModuleTells (applied m vs) (length more) (after_call false m us vs z S more))
+FunctionIsRight = OfEveryModule (λ m us vs z. (S : Store) (strays : ℕ → String → ℕ → ℕ) (more : List (List ℕ)) →
+    FitsWithin (net_of (applied m vs)) z (length more) →
+    ((after_call false m us vs z S strays more).vec "full" ≡ 0)
+    × ModuleTells (applied m vs) (length more) (after_call false m us vs z S strays more))
 
 -- and where it isn't full, they were enough
 abbrev pub FunctionWants : Type 0
-FunctionWants = OfEveryModule (λ m us vs z. (S : Store) (more : List (List ℕ)) → (after_call false m us vs z S more).vec "full" ≡ 0 →
-    FitsWithin (net_of (applied m vs)) z (length more))
+FunctionWants = OfEveryModule (λ m us vs z. (S : Store) (strays : ℕ → String → ℕ → ℕ) (more : List (List ℕ)) →
+    (after_call false m us vs z S strays more).vec "full" ≡ 0 → FitsWithin (net_of (applied m vs)) z (length more))
 
 -- Where numbers may be late, so many edges made some moves, no more than these and not much fewer; and the registers tell of the function
 -- what those of the module above tell after as many edges as these moves
 abbrev pub LateFunctionMeans : Type 0
-LateFunctionMeans = OfEveryModule (λ m us vs z. (S : Store) (more : List (List ℕ)) →
-    LateTells (applied m vs) z (length more) (after_call true m us vs z S more))
+LateFunctionMeans = OfEveryModule (λ m us vs z. (S : Store) (strays : ℕ → String → ℕ → ℕ) (more : List (List ℕ)) →
+    LateTells (applied m vs) z (length more) (after_call true m us vs z S strays more))
 
 -- whether the function's net multiplies is the same at all numbers, so one need not know the arguments to know how late the moves may be
 abbrev pub SameProducts : Type 0

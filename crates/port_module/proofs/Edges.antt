@@ -155,14 +155,15 @@ module _ (P Q : Scope) (same : alike.SameScope own P Q) (ps vs : List ℕ) where
 -- ---- edges
 
 -- so many edges of a module
-abbrev pub steps : List Item → ℕ → Store → Store
-steps is zero S = S
-steps is (suc k) S = steps is k (edge is (set_vec "rst" 0 S))
+abbrev pub steps : List Item → (ℕ → String → ℕ → ℕ) → ℕ → Store → Store
+steps is g zero S = S
+steps is g (suc k) S = steps is (λ n. g (suc n)) k (edge is (set_vec "rst" 0 (record S { stray = g 0 })))
 
-plain_is : (late : Bool) (net : NetTree) (z : Sizes) (k : ℕ) (S : Store) →
-    plain_edges late net z k S ≡ steps (plain_module late net z) k S
-plain_is late net z zero S = refl
-plain_is late net z (suc k) S = plain_is late net z k (edge (plain_module late net z) (set_vec "rst" 0 S))
+plain_is : (late : Bool) (net : NetTree) (z : Sizes) (g : ℕ → String → ℕ → ℕ) (k : ℕ) (S : Store) →
+    plain_edges late net z g k S ≡ steps (plain_module late net z) g k S
+plain_is late net z g zero S = refl
+plain_is late net z g (suc k) S =
+    plain_is late net z (λ n. g (suc n)) k (edge (plain_module late net z) (set_vec "rst" 0 (record S { stray = g 0 })))
 
 -- stores that are those agree
 both_are : (S T U V : Store) → S ≡ U → T ≡ V → Same U V → Same S T
@@ -364,21 +365,33 @@ module _ (late : Bool) (net : NetTree) (z : Sizes) (ps vs : List ℕ) (lengths :
             (λ j. keeps_ports P R p.clock f.clock N j (rst_is X V a right) ∙ foreign_kept (held_name j) refl X) held),
       )
 
-  after_edges : (more : List (List ℕ)) (S T : Store) → Goes S T → Goes (port_edges is more S) (steps js (length more) T)
-  after_edges [] S T h = h
-  after_edges (ws ∷ more) S T h = after_edges more (port_edge is ws S) (edge js (set_vec "rst" 0 T)) (after_edge ws S T h)
+  -- both read the same past ends, whatever it is
+  both_strayed : (s : String → ℕ → ℕ) (S T : Store) → Goes S T → Goes (record S { stray = s }) (record T { stray = s })
+  both_strayed s S T h = (
+    record { vec = h.0.vec; mem = h.0.mem; stray = λ x o i. refl },
+    holding_kept 0 vs S (record S { stray = s }) (λ j. refl) h.1,
+  )
 
-  after_all : BeginsElsewhere net ps → (S : Store) (more : List (List ℕ)) →
-      Same (port_edges is more (port_reset is vs S))
-      (plain_edges late (with_numbers net ps vs) z (length more) (edge (plain_module late (with_numbers net ps vs) z) (set_vec "rst" 1 S)))
-  after_all b S more =
+  after_edges : (g : ℕ → String → ℕ → ℕ) (more : List (List ℕ)) (S T : Store) → Goes S T →
+      Goes (port_edges is g more S) (steps js g (length more) T)
+  after_edges g [] S T h = h
+  after_edges g (ws ∷ more) S T h =
+      let X : Store = record S { stray = g 0 } in
+      let Y : Store = record T { stray = g 0 } in
+      after_edges (λ n. g (suc n)) more (port_edge is ws X) (edge js (set_vec "rst" 0 Y)) (after_edge ws X Y (both_strayed (g 0) S T h))
+
+  after_all : BeginsElsewhere net ps → (S : Store) (g : ℕ → String → ℕ → ℕ) (more : List (List ℕ)) →
+      Same (port_edges is g more (port_reset is vs S))
+      (plain_edges late (with_numbers net ps vs) z g (length more)
+      (edge (plain_module late (with_numbers net ps vs) z) (set_vec "rst" 1 S)))
+  after_all b S g more =
       let ks = plain_module late (with_numbers net ps vs) z in
-      subst (λ X. Same (port_edges is more (port_reset is vs S)) X)
-      (sym (plain_is late (with_numbers net ps vs) z (length more) (edge ks (set_vec "rst" 1 S))
-      ∙ ap (λ ks. steps ks (length more) (edge ks (set_vec "rst" 1 S))) js_is))
-      (after_edges more (port_reset is vs S) (edge js (set_vec "rst" 1 S)) (after_reset b S)).0
+      subst (λ X. Same (port_edges is g more (port_reset is vs S)) X)
+      (sym (plain_is late (with_numbers net ps vs) z g (length more) (edge ks (set_vec "rst" 1 S))
+      ∙ ap (λ ks. steps ks g (length more) (edge ks (set_vec "rst" 1 S))) js_is))
+      (after_edges g more (port_reset is vs S) (edge js (set_vec "rst" 1 S)) (after_reset b S)).0
 
 pub port_edges_same : PortEdges
-port_edges_same late net z ps vs lengths few b S more =
-    let a = after_all late net z ps vs lengths few b S more in
+port_edges_same late net z ps vs lengths few b S strays more =
+    let a = after_all late net z ps vs lengths few b S strays more in
     (a.vec "done" refl, a.vec "result" refl, a.vec "full" refl, a.vec "moves" refl)

@@ -1,6 +1,7 @@
 -- Edges of a module with ports for arguments: one with `rst` at 1 and numbers at the ports, and edges with `rst` at 0, whatever is at the
--- ports then.
+-- ports then, and whatever is read past the end of a vector or a memory at each.
 use Rattle.std.specs.Prelude.{ℕ, suc, List, [], ◌∷◌}
+use Prim.Native.String.{String}
 use Rattle.verilog_tree.specs.Tree.{Item}
 use Rattle.verilog_tree.specs.Meaning.{Store, edge, set_vec}
 use Rattle.port_module.specs.Names.{arg_name}
@@ -18,7 +19,7 @@ port_reset is vs S = edge is (set_args 0 vs (set_vec "rst" 1 S))
 abbrev pub port_edge : List Item → List ℕ → Store → Store
 port_edge is ws S = edge is (set_args 0 ws (set_vec "rst" 0 S))
 
--- so many edges, with what is at the ports at each
-abbrev pub port_edges : List Item → List (List ℕ) → Store → Store
-port_edges is [] S = S
-port_edges is (ws ∷ more) S = port_edges is more (port_edge is ws S)
+-- so many edges, with what is read past ends and what is at the ports at each
+abbrev pub port_edges : List Item → (strays : ℕ → String → ℕ → ℕ) → List (List ℕ) → Store → Store
+port_edges is strays [] S = S
+port_edges is strays (ws ∷ more) S = port_edges is (λ n. strays (suc n)) more (port_edge is ws (record S { stray = strays 0 }))

@@ -1,4 +1,4 @@
-use Rattle.cell_steps.proofs.Step.{many}
+use Rattle.cell_steps.proofs.Edges.{many}
 use Rattle.cell_steps.proofs.laws.law_cell_clocks.Goals as goal
 
 pub returns : goal.returns
