@@ -203,6 +203,7 @@ def try_help(program):
     judge("why of a word that isn't UTF-8", (found[0], found[2].decode().split("\n")[0]), (2, "goi: `p\\xff` is not UTF-8 [refused words]"))
     with tempfile.TemporaryDirectory() as at:
         alone = shutil.copy(why, at)
+        shutil.copy(os.path.join(TOP, "tools/program.py"), at)
         found = call([alone, "ran"], env=given)
         says = b"goi: these words are no command; docs/FORMATS.md has the table of commands, and it isn't here [refused words]\n"
         judge("why without the table", found, (2, b"", says))
