@@ -48,7 +48,7 @@ returns g c =
             (one_job _ j (plain_run file workers budget calling) e asked) h in omega (arith, short.1);
       });
       read = λ file workers budget calling asked status.
-          let m = p.not_read status in
+          let m = p.means.not_read status in
           let files = memory_files_seen c.args.files.now in
           subst (λ (j : JobTree). LacksFor j files) (one_job _ m.0 (plain_run file workers budget calling) m.1 asked)
           (m.2.1.sure c.requires.files);
