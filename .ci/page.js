@@ -338,10 +338,64 @@ function besideShown(at) {
   };
 }
 
-// How large the letters of the picture, of the line below it and of the program are on the screen.
+// How large the letters of the picture, of the sentence beside it and of the program are on the screen.
 function letterSizes() {
-  const all = [...document.querySelectorAll("#picture :is(text, tspan), #told p, #program")].filter(it => it.textContent.trim());
+  const all = [...document.querySelectorAll("#picture :is(text, tspan), #told *, #program")].filter(it => it.textContent.trim());
   return all.map(it => parseFloat(getComputedStyle(it).fontSize) * (it.getScreenCTM ? it.getScreenCTM().d : 1));
+}
+
+// The smallest letter of the picture behind so many moves, of those that are seen.
+function smallestLetter(at) {
+  walk.show(at);
+  const seen = [...document.querySelectorAll("#picture :is(text, tspan)")].filter(it => it.textContent.trim() && it.getClientRects().length > 0);
+  return Math.min(...seen.map(it => parseFloat(getComputedStyle(it).fontSize) * it.getScreenCTM().d));
+}
+
+// What is wrong on the wall behind each of so many moves: letters below 1/36 of the window's height, texts that meet, a card that hides a
+// token or is hidden, a token that is told and not seen, a sentence or a list that is cut off, forks and stacks that aren't there.
+function wallFaults(places) {
+  const wrong = [];
+  const rect = it => it.getBoundingClientRect();
+  const over = (one, two) => Math.min(one.right, two.right) - Math.max(one.left, two.left) > 1.5 &&
+    Math.min(one.bottom, two.bottom) - Math.max(one.top, two.top) > 1.5;
+  const within = (one, two) => one.left >= two.left - 1 && one.right <= two.right + 1 && one.top >= two.top - 1 && one.bottom <= two.bottom + 1;
+  const shown = query => [...document.querySelectorAll(query)].filter(it => it.getClientRects().length > 0 && it.textContent.trim());
+  for (const at of places) {
+    walk.show(at);
+    const fault = text => wrong.push(`${at}: ${text}`);
+    const least = Math.min(...shown("#picture :is(text, tspan), #told *, #program").map(it =>
+      parseFloat(getComputedStyle(it).fontSize) * (it.getScreenCTM ? it.getScreenCTM().d : 1)));
+    if (least < innerHeight / 36 - 0.1) fault(`letters of ${least.toFixed(1)} px`);
+    const labels = shown("#picture .label").map(it => [it.textContent, rect(it)]);
+    labels.forEach(([text, one], place) => {
+      for (const [other, two] of labels.slice(place + 1)) if (over(one, two)) fault(`text ${text} meets ${other}`);
+    });
+    const picture = rect(byId("picture"));
+    const covers = [...document.querySelectorAll("#net .tools, #map, #chain, #tour")].filter(it => it.getClientRects().length > 0).map(rect);
+    const tokens = [...document.querySelectorAll("#picture .token")].map(it => [it.querySelector(".tag").textContent, rect(it.children[1])]);
+    const card = document.querySelector("#picture .card");
+    const move = walk.view.run.lastMove();
+    const told = move && move.after ? String(move.ticket) : null;
+    for (const [ticket, box] of tokens) {
+      if (card && over(box, rect(card))) fault(`the card and token ${ticket}`);
+      if (ticket === told && (!within(box, picture) || covers.some(it => over(it, box)))) fault(`token ${ticket} isn't seen`);
+    }
+    if (told !== null && !card) fault("no card");
+    if (card && (!within(rect(card), picture) || covers.some(it => over(it, rect(card))))) fault("the card isn't seen");
+    const line = byId("told");
+    if (line.scrollHeight > line.clientHeight + 1 || line.scrollWidth > line.clientWidth + 1) fault("the sentence is cut off");
+    if (document.documentElement.scrollHeight > innerHeight + 1) fault("the page is higher than the window");
+    const bottom = rect(document.querySelector("footer")).bottom;
+    const cut = shown("#told > *, #told span, #wall-program, footer button, #count").filter(it => rect(it).bottom > bottom || rect(it).right > innerWidth);
+    for (const it of cut) fault(`cut off: ${it.textContent.slice(0, 20)}`);
+    const { open } = walk.view.run.state;
+    const forks = byId("told-forks");
+    if (forks.hidden !== (open.size === 0) || (open.size > 0 && !forks.textContent.includes(`(${open.size})`))) fault("open forks");
+    if (move && byId("told-stacks").textContent === "") fault("stacks");
+    const mark = document.querySelector("#program .at:not(.broad)");
+    if (mark && rect(mark).height > 0 && (rect(mark).top < rect(byId("program")).top - 1 || rect(mark).top + 20 > rect(byId("program")).bottom)) fault("the mark in the program");
+  }
+  return wrong;
 }
 
 // On the wall, behind so many moves: the states in which a live token isn't in the window though all of them would have room there, and how
@@ -358,10 +412,11 @@ function wallTokens(places) {
     crowds++;
     const spots = glyphs.map(it => it.transform.baseVal[0].matrix).map(({ e, f }) => [e, f]);
     const wide = axis => Math.max(...spots.map(it => it[axis])) - Math.min(...spots.map(it => it[axis]));
-    if (wide(0) * 0.95 + 150 > width || wide(1) * 0.95 + 150 > height) continue;
-    const { x, y, scale } = walk.camera;
+    const scale = innerHeight / 36 / 17;
+    if ((wide(0) + 150) * scale > width || (wide(1) + 150) * scale > height) continue;
+    const { x, y, scale: own } = walk.camera;
     for (const [e, f] of spots) {
-      const [left, top] = [e * scale + x, f * scale + y];
+      const [left, top] = [e * own + x, f * own + y];
       const isCovered = left > tools.left && top < tools.bottom;
       if (left < 0 || left > width || top < 0 || top > height || isCovered) wrong.push([at, Math.round(left), Math.round(top)]);
     }

@@ -58,6 +58,11 @@ class Browser:
     def resize(self, width, height):
         self.call("POST", "/window/rect", {"width": width, "height": height})
 
+    def view(self, width=0, height=0):
+        """Gives the page itself so many pixels, however small; without a size, those of its window."""
+        metrics = {"width": width, "height": height, "deviceScaleFactor": 0, "mobile": False}
+        self.call("POST", "/goog/cdp/execute", {"cmd": "Emulation.setDeviceMetricsOverride", "params": metrics})
+
     def open(self, address):
         self.call("POST", "/url", {"url": address})
 

@@ -137,6 +137,9 @@ class Firefox:
     def resize(self, width, height):
         self.asked("browsingContext.setViewport", context=self.context, viewport={"width": width, "height": height})
 
+    def view(self, width=1440, height=900):
+        self.resize(width, height)
+
     def picture(self, path):
         with open(path, "wb") as file:
             file.write(base64.b64decode(self.asked("browsingContext.captureScreenshot", context=self.context)["data"]))

@@ -7,7 +7,10 @@ const camera = {
   // Whether somebody has moved it: then it is left alone where the window changes its size.
   moved: false,
 };
-const SCALES = { least: 0.002, most: 4, texts: 0.42, legible: 0.56, close: 0.85, wallLegible: 0.95, wallClose: 1.1, whole: 1.7 };
+const SCALES = { least: 0.002, most: 4, texts: 0.42, legible: 0.56, close: 0.85, whole: 1.7, wallWhole: 2.6 };
+// On a wall the smallest letter has this share of the window's height; in a window that is higher than wide, of its width.
+const WALL_SHARES = { high: 1 / 36, wide: 1 / 21 };
+const wallScale = () => Math.min(innerHeight * WALL_SHARES.high, innerWidth * WALL_SHARES.wide) / WALL_SIZES.text;
 // What the buttons above take of the picture, and what is left free at its sides and around the legend below.
 const RIMS = { above: 44, side: 24, legend: 13 };
 
@@ -38,7 +41,7 @@ function showAll() {
   const { width, height } = pictureSize();
   const { left, right, top, bottom } = view.layout.bounds;
   const below = rimBelow();
-  const scale = Math.min(width / (right - left + 140), (height - RIMS.above - below) / (bottom - top + 14), SCALES.whole);
+  const scale = Math.min(width / (right - left + 120), (height - RIMS.above - below) / (bottom - top + 14), view.wall ? SCALES.wallWhole : SCALES.whole);
   camera.scale = Math.max(scale, SCALES.least);
   centre((left + right) / 2, (top + bottom) / 2 + (below - RIMS.above) / 2 / camera.scale);
 }
@@ -46,10 +49,10 @@ function showAll() {
 // The whole net where it is legible so, and else the token at a legible size.
 function showHome() {
   showAll();
-  if (camera.scale >= (view.wall ? SCALES.wallLegible : SCALES.legible)) return;
+  if (camera.scale >= (view.wall ? wallScale() : SCALES.legible)) return;
   const { x, y } = focusPoint();
   const { width, height } = pictureSize();
-  camera.scale = view.wall ? SCALES.wallClose : SCALES.close;
+  camera.scale = view.wall ? wallScale() : SCALES.close;
   Object.assign(camera, withinNet(width / 2 - x * camera.scale, height / 2 - y * camera.scale));
   applyCamera();
   gather();
@@ -77,9 +80,9 @@ function gather() {
   if (!view.wall || !view.follow) return;
   const { width, height } = pictureSize();
   const room = height - RIMS.above - RIMS.legend;
-  const { left, right, top, bottom } = gathered(width / SCALES.wallLegible, room / SCALES.wallLegible);
+  const { left, right, top, bottom } = gathered(width / wallScale(), room / wallScale());
   const fits = Math.min(width / (right - left + 2 * GATHER.beside), room / (bottom - top + 2 * GATHER.above));
-  const scale = Math.min(camera.scale, Math.max(fits, SCALES.wallLegible));
+  const scale = Math.min(camera.scale, Math.max(fits, wallScale()));
   if (scale < camera.scale) zoomTo(scale, width / 2, height / 2);
   // The place nearest to `at` at which the net between `from` and `to` lies between two edges of the window.
   const nearest = (at, from, to, before, after) => {

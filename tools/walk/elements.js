@@ -29,7 +29,8 @@ function showInside(box, inner) {
   if (box.scrollHeight <= box.clientHeight) return;
   const { top, bottom } = inner.getBoundingClientRect();
   const own = box.getBoundingClientRect();
-  if (top < own.top || Math.min(bottom, top + 22) > own.bottom) box.scrollTop += top - own.top - box.clientHeight / 2;
+  const line = parseFloat(getComputedStyle(box).lineHeight) || 22;
+  if (top < own.top || Math.min(bottom, top + line) > own.bottom) box.scrollTop += top - own.top - box.clientHeight / 2;
 }
 
 // The value of one of the style sheet's variables, in the theme that is shown.

@@ -205,6 +205,7 @@ function joinHands() {
     drawLog();
     if (!camera.moved) showHome(); else applyCamera();
     drawCard();
+    if (view.wall) tellWaiting();
   }).observe(byId("net"));
   joinRows(byId("waiting"), markWaiting);
   joinRows(byId("round-moves"));

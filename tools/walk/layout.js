@@ -2,14 +2,16 @@
 // the same way. A part is a rectangle. Its value wire leaves it at the bottom on the left, and right of it leave the variables that are
 // free in it, the innermost binder's first. Each form puts its parts side by side and one row of nodes below them.
 
-// How large things are, and how far apart; `letter` is how wide one is beside a wire, and `sign` in a node.
+// How large things are, and how far apart. `text` is the size of a node's letters; `letter` is how wide one is beside a wire, `sign` in a
+// node, `mono` in the card. `glyph` is how many times larger a token is, and `entry` how wide a letter of what is kept beside an operator.
 const SIZES = {
-  nodeHeight: 26, apart: 32, partsApart: 38, framePad: 22, lane: 24, least: 66, most: 104, base: 52, letter: 5.9, sign: 8.2, label: 11,
-  gap: 6,
+  nodeHeight: 26, apart: 32, partsApart: 38, framePad: 22, lane: 24, least: 66, most: 104, base: 52, text: 12.5, letter: 5.9, sign: 8.2,
+  label: 11, gap: 6, glyph: 1, entry: 6.4, mono: 6.8, line: 14,
 };
-// For a wall: larger letters want more room.
+// For a wall: larger letters want more room. None of the picture is smaller than `text`.
 const WALL_SIZES = {
-  ...SIZES, apart: 44, partsApart: 52, lane: 34, least: 84, most: 124, base: 68, letter: 9.6, sign: 10.8, label: 17, gap: 8,
+  ...SIZES, apart: 44, partsApart: 48, lane: 34, least: 82, most: 116, base: 62, text: 17, letter: 10.9, sign: 11.5, label: 16, gap: 6,
+  glyph: 1.4, entry: 7.6, mono: 10.4, line: 21,
 };
 
 const SIGNS = {

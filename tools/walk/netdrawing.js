@@ -126,7 +126,7 @@ function drawLabel(wire, { x, y, anchor }) {
 
 function drawNode(node, { x, y, width }) {
   const kind = ROUND_NODES.has(node.name) ? "node round" : node.name === "Const" ? "node number" : "node";
-  const text = shape("text", { y: 4.5 }, signOf(node), shape("tspan", { class: "id", dx: 3 }, String(node.id)));
+  const text = shape("text", { y: sizesNow().text * 0.36 }, signOf(node), shape("tspan", { class: "id", dx: 3 }, String(node.id)));
   const title = `node ${node.id}: ${node.name}, ${TITLES[node.name]}`;
   const radius = ROUND_NODES.has(node.name) ? 13 : 6;
   const box = shape("rect", { x: -width / 2, y: -SIZES.nodeHeight / 2, width, height: SIZES.nodeHeight, rx: radius });

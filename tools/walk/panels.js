@@ -26,10 +26,10 @@ function tellMoveInLine(move) {
   byId("told-title").textContent = move ? `${rule.title}. ` : "";
   byId("told-say").textContent = say ? say.textContent : "";
   const shown = move ? move.after || move.before : (shownToken() || { token: null }).token;
-  byId("told-stacks").textContent = shown ? `work ${spacedStack(shown.work)}   boxes ${spacedStack(shown.boxes)}` : "";
+  byId("told-stacks").textContent = shown ? `work ${plainStack(shown.work)}   boxes ${plainStack(shown.boxes)}` : "";
 }
 
-const spacedStack = stack => stack === "-" ? "empty" : stackParts(stack).map(brief).join(" · ");
+const plainStack = stack => stack === "-" ? "empty" : stackParts(stack).map(brief).join(".");
 
 function tellMoveInPanel(move) {
   if (!move) return tellStart();

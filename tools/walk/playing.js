@@ -32,9 +32,9 @@ function tellState(quiet) {
     playing.told = now;
     drawTrail();
     drawCard();
-    markProgram(move ? move.node : null);
     tellMove(move);
     tellWaiting();
+    markProgram(move ? move.node : null);
     tellTables();
     tellSwap();
     scrollLog();

@@ -75,7 +75,7 @@ function ticketTag(ticket, x, y, colour) {
 }
 
 // On the wall tokens and what is beside nodes are larger.
-const glyphScale = () => view.wall ? 1.3 : 1;
+const glyphScale = () => sizesNow().glyph;
 const placed = (x, y, scale = glyphScale()) => `translate(${x.toFixed(2)} ${y.toFixed(2)})` + (scale === 1 ? "" : ` scale(${scale})`);
 function putGlyph(glyph, { x, y }) {
   glyph.place = { x, y };
@@ -115,7 +115,18 @@ function makeRoom(label, wire) {
   const count = besideText.get(wire) || 0;
   const aside = Math.round((drawing.labelPlaces[wire].anchor === "end" ? -9 : 17) * glyphScale());
   if (count === 1) label.setAttribute("transform", `translate(${aside} 0)`); else label.removeAttribute("transform");
-  label.classList.toggle("covered", count > 1);
+  label.classList.toggle("covered", count > 1 || (count === 1 && meetsSibling(wire, aside)));
+}
+
+// Whether the text of a wire, moved aside, meets that of another wire which leaves the same node.
+function meetsSibling(wire, aside) {
+  const { net, layout } = view;
+  const box = (id, by) => {
+    const width = wireText(net.wires[id], view.types).length * layout.sizes.letter;
+    const { left, right, top, bottom } = boxOf(drawing.labelPlaces[id], width, layout.sizes);
+    return { left: left + by, right: right + by, top, bottom };
+  };
+  return net.nodes[net.wires[wire].above].down.some(id => id !== wire && meets(box(id, 0), box(wire, aside)));
 }
 
 // Takes what isn't wanted any more out of the picture.
@@ -164,13 +175,12 @@ function drawEntries(open) {
   }
   dropOthers(badges, node => byNode.has(node));
   for (const [node, { count, entry }] of byNode) {
-    const side = value => value === null ? "·" : value;
-    const text = count === 1 ? side(entry.left) + " " + signOf(view.net.nodes[node]) + " " + side(entry.right) : count + " open";
+    const text = count === 1 ? forkSides(entry) : count + " open";
     const badge = badges.get(node);
     if (badge && badge.text === text) continue;
     if (badge) badge.group.remove();
     const place = view.layout.places[node];
-    const width = 14 + text.length * 6.4;
+    const width = 14 + text.length * sizesNow().entry;
     const left = place.x - place.width / 2 - 3 - width / 2 * glyphScale();
     const group = shape("g", { class: "entry", transform: placed(left, place.y) },
       shape("rect", { x: -width / 2, y: -8, width, height: 16, rx: 4 }), shape("text", { y: 3.8 }, text));

@@ -139,14 +139,30 @@ function presentText(rows, ticket) {
   return `${rowText(row.frame)} = ${piecesText(rowPieces(row))}${note ? ` (${note})` : ""}`;
 }
 
-// The other live tokens with their rows, in one line.
-const OTHERS = 3;
-function othersText(rows, shown) {
-  if (!view.wall) return "";
+// On the wall: the open forks, the last one first, and the other live tokens with their rows. Rows that have no room are counted.
+const WALL_ROWS = 8;
+function tellWallRows(rows, shown) {
+  if (!view.wall) return;
   const others = [...view.run.state.live.keys()].filter(ticket => !shown || ticket !== shown.ticket).sort((one, two) => one - two);
-  const texts = others.slice(0, OTHERS).map(ticket => `ticket ${ticket}: ${presentText(rows, ticket)}`);
-  return [...texts, ...(others.length > OTHERS ? [`and ${others.length - OTHERS} more`] : [])].join("   ");
+  const lists = [
+    ["told-forks", "open forks", [...view.run.state.open.values()].reverse(), forkText],
+    ["told-others", "other tokens", others, ticket => `ticket ${ticket}: ${presentText(rows, ticket)}`],
+  ];
+  const box = byId("told");
+  let most = WALL_ROWS;
+  do {
+    for (const [id, what, all, textOfOne] of lists) {
+      const texts = all.slice(0, most).map(textOfOne);
+      if (all.length > texts.length && most > 0) texts.push(`and ${all.length - most} more`);
+      byId(id).hidden = all.length === 0;
+      byId(id).replaceChildren(`${what} (${all.length}) `, ...texts.map(text => element("span", {}, text)));
+    }
+  } while (most-- > 0 && box.scrollHeight > box.clientHeight);
 }
+
+const sideText = value => value === null ? "·" : value;
+const forkSides = ({ node, left, right }) => sideText(left) + " " + signOf(view.net.nodes[node]) + " " + sideText(right);
+const forkText = fork => `${fork.node} at ${plainStack(fork.boxes)}: ${forkSides(fork)}`;
 
 function tellWaiting() {
   const rows = waitingRows();
@@ -154,7 +170,7 @@ function tellWaiting() {
   const path = presentRows(rows, shown ? shown.ticket : -1);
   const present = path.length > 0 ? path[path.length - 1] : -1;
   byId("told-question").textContent = shown ? presentText(rows, shown.ticket) : "";
-  byId("told-others").textContent = othersText(rows, shown);
+  tellWallRows(rows, shown);
   const seen = rowsSeen(rows.length, path);
   const list = byId("waiting");
   const lines = [];
