@@ -424,6 +424,21 @@ function wallTokens(places) {
   return [wrong, crowds];
 }
 
+// What of the picture isn't seen at a stop of the tour: nodes, tokens, what is kept beside nodes, the answer, and the buttons.
+function tourFaults() {
+  const seen = it => {
+    const { left, right, top, bottom } = it.getBoundingClientRect();
+    const corners = [[left + 2, top + 2], [right - 2, top + 2], [left + 2, bottom - 2], [right - 2, bottom - 2], [(left + right) / 2, (top + bottom) / 2]];
+    return corners.every(([x, y]) => {
+      const found = document.elementFromPoint(x, y);
+      return found && (it.contains(found) || (it.closest("#picture") !== null && found.closest("#picture") !== null));
+    });
+  };
+  const parts = [...document.querySelectorAll("#picture :is(.node, .token, .entry, .answer)"), ...["play", "tour-on", "tour-end"].map(byId)];
+  const wrong = parts.filter(it => !seen(it)).map(it => it.id || it.textContent);
+  return byId("tour").scrollHeight > byId("tour").clientHeight + 1 ? [...wrong, "the words are cut off"] : wrong;
+}
+
 // The run in rounds: its trace, where each round begins, and what the page says of their number.
 function rounds() {
   const { alone } = walk.view;

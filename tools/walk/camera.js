@@ -41,15 +41,16 @@ function showAll() {
   const { width, height } = pictureSize();
   const { left, right, top, bottom } = view.layout.bounds;
   const below = rimBelow();
-  const scale = Math.min(width / (right - left + 120), (height - RIMS.above - below) / (bottom - top + 14), view.wall ? SCALES.wallWhole : SCALES.whole);
+  const above = byId("fit").offsetParent ? RIMS.above : RIMS.legend;
+  const scale = Math.min(width / (right - left + 120), (height - above - below) / (bottom - top + 14), view.wall ? SCALES.wallWhole : SCALES.whole);
   camera.scale = Math.max(scale, SCALES.least);
-  centre((left + right) / 2, (top + bottom) / 2 + (below - RIMS.above) / 2 / camera.scale);
+  centre((left + right) / 2, (top + bottom) / 2 + (below - above) / 2 / camera.scale);
 }
 
-// The whole net where it is legible so, and else the token at a legible size.
+// The whole net where it is legible so, and on a tour; else the token at a legible size.
 function showHome() {
   showAll();
-  if (camera.scale >= (view.wall ? wallScale() : SCALES.legible)) return;
+  if (tour.at >= 0 || camera.scale >= (view.wall ? wallScale() : SCALES.legible)) return;
   const { x, y } = focusPoint();
   const { width, height } = pictureSize();
   camera.scale = view.wall ? wallScale() : SCALES.close;
@@ -138,10 +139,10 @@ function follow(point, share) {
   applyCamera();
 }
 
-// What lies over the picture: its buttons, the map, the legend, the words of a signature, the tour.
+// What lies over the picture: its buttons, the map, the legend, the words of a signature.
 function covers() {
   const { left, top } = byId("picture").getBoundingClientRect();
-  const seen = [...document.querySelectorAll("#net .tools, #map, #net .legend, #chain, #tour")].filter(it => it.offsetParent);
+  const seen = [...document.querySelectorAll("#net .tools, #map, #net .legend, #chain")].filter(it => it.offsetParent);
   return seen.map(it => {
     const box = it.getBoundingClientRect();
     return { left: box.left - left, top: box.top - top, right: box.right - left, bottom: box.bottom - top };
@@ -152,7 +153,7 @@ function covers() {
 // looked at, and the node of the move.
 const UNCOVER = { steps: [0, -50, 50, -100, 100, -160, 160, -220, 220], rim: 24, most: 60 };
 function uncover() {
-  if (!view.follow || playing.motion) return;
+  if (!view.follow || playing.motion || tour.at >= 0) return;
   const boxes = covers();
   const { width, height } = pictureSize();
   const focus = focusPoint();

@@ -20,6 +20,8 @@ const tour = { at: -1, before: null };
 
 function beginTour() {
   if (tour.at < 0) tour.before = view.run ? { data: shownData(), at: view.run.state.at } : null;
+  if (view.wall) setWall(false);
+  setMenu(false);
   openWalk(JSON.parse(byId("first-data").textContent));
   goToStop(0);
   byId("tour-on").focus();
@@ -28,13 +30,19 @@ function beginTour() {
 function goToStop(at) {
   tour.at = at;
   const [move, text] = STOPS[at];
-  jump(move);
   byId("tour-title").textContent = `What am I seeing? ${at + 1} of ${STOPS.length}`;
   byId("tour-text").textContent = text;
   byId("tour-back").disabled = at === 0;
   byId("tour-on").textContent = at + 1 < STOPS.length ? "on" : "end";
-  byId("tour").hidden = false;
-  uncover();
+  showTour(true);
+  jump(move);
+}
+
+// The tour's card is below the picture, so that it covers nothing of it, and the whole net is seen.
+function showTour(on) {
+  byId("tour").hidden = !on;
+  document.body.classList.toggle("touring", on);
+  showHome();
 }
 
 const goOnTour = by => tour.at + by < STOPS.length ? goToStop(Math.max(0, tour.at + by)) : endTour();
@@ -44,7 +52,7 @@ function endTour() {
   if (tour.at < 0) return;
   const { before } = tour;
   Object.assign(tour, { at: -1, before: null });
-  byId("tour").hidden = true;
+  showTour(false);
   if (!before) return;
   reopen(before.data);
   jump(before.at);
