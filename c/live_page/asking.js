@@ -40,7 +40,8 @@ function tellAnswer(found) {
 
 // A call of goi.h: {status, text, milliseconds, size}; {cut} with the browser's own words where it was cut off; {stopped}.
 async function ask(name, texts, numbers) {
-  const module = await compiledModule();
+  document.body.classList.add("waking");
+  const module = await compiledModule().finally(() => document.body.classList.remove("waking"));
   if (!asking.worker) startWorker(module);
   asking.call++;
   return new Promise(resolve => {

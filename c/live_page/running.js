@@ -251,6 +251,8 @@ function joinButtons() {
   byId("net-list").addEventListener("click", listNet);
   byId("net-save").addEventListener("click", saveNet);
   byId("own").addEventListener("keydown", event => {
+    // (From the text to the picture by one key, where the arrows walk.)
+    if (event.key === "Escape" && !underWay && walk.view.run) byId("picture").focus();
     if (event.key === "Escape") stop();
     if (event.key !== "Enter" || !(event.ctrlKey || event.metaKey)) return;
     event.preventDefault();

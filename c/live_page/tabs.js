@@ -71,6 +71,7 @@ function joinTabs() {
   byId("own-fold").addEventListener("click", () => setFolded(!byId("own").classList.contains("folded")));
   byId("trace-save").addEventListener("click", saveTrace);
   narrow.addEventListener("change", placeMarks);
+  walk.view.addressEnd = () => tabShown() === "program" ? "" : "&show=" + tabShown();
   // (The box is as wide as the window lets it be, and so as high as its text is then.)
   new ResizeObserver(([{ contentRect: { width } }]) => {
     if (width > 0 && width !== boxWidth) fitBox();

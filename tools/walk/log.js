@@ -36,7 +36,7 @@ function logEnd(move) {
     case "answer": return "answer " + move.value;
     case "fork": return "fork t" + move.ticket2;
     case "joined": return "join " + move.after.value;
-    default: return move.after.value + (move.after.direction === "up" ? "↑" : "↓") + move.after.wire + " " + move.after.work;
+    default: return move.after.value + (move.after.direction === "up" ? "↑" : "↓") + move.after.wire + " " + brief(move.after.work) + " " + move.after.boxes;
   }
 }
 

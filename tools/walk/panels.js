@@ -149,9 +149,9 @@ function stackCells(before, after, whole, isBoxes) {
 
 function stackCell(kind, title, part, at, isBoxes) {
   const words = at ? shortWords(at.mark, isBoxes ? at : null) : "";
-  if (words === "") return element("div", { class: kind, title }, brief(part));
-  const button = element("button", { class: kind, title, "aria-label": `${brief(part)}: ${words}` }, brief(part),
-    element("span", { class: "words" }, words));
+  const told = words === "" ? [] : [element("span", { class: "words" }, words)];
+  if (words === "" || at.mark.sign === "R" || at.mark.sign === "L") return element("div", { class: kind, title }, brief(part), ...told);
+  const button = element("button", { class: kind, title, "aria-label": `${brief(part)}: ${words}` }, brief(part), ...told);
   button.addEventListener("click", () => tellChain(at.mark, isBoxes ? at : null));
   return button;
 }

@@ -48,19 +48,25 @@ function tellState(quiet) {
   if (document.activeElement !== byId("now") || !playing.on) byId("now").value = wayFirst() + wayMade();
   const rule = move ? ruleOf(move) : null;
   const round = move && view.rounds ? byId("round-title").textContent + ". " : "";
-  const text = move ? `${round}Move ${move.number}, ticket ${move.ticket}. ${rule.title}. ${rule.say}` : "The run begins.";
+  const text = move ? `${round}${momentText(move)}: ticket ${move.ticket}. ${rule.title}. ${rule.say}` : "The run begins.";
+  byId("moment").textContent = move ? momentText(move) : "";
   const count = run.state.live.size;
   byId("picture").setAttribute("aria-label", `A net with ${count} live ${count === 1 ? "token" : "tokens"}. ${text}`);
   if (!quiet) byId("announce").textContent = text;
   if (!playing.on) rememberPlace();
 }
 
-// The number of moves, or of rounds, is in the address, so that a place can be passed on.
+// One number for a moment: how many moves are made. The last of them has the number before it.
+const momentText = ({ number }) => view.rounds ? `After ${wayMade()} rounds (here move ${number})`
+  : `After ${movesMade()} ${movesMade() === 1 ? "move" : "moves"} (the last was move ${number})`;
+
+// The number of moves, or of rounds, is in the address with what is shown besides, so that a place can be passed on.
 let placeTimer = 0;
 function rememberPlace() {
   clearTimeout(placeTimer);
   const place = () => view.rounds ? "round=" + wayMade() : "move=" + movesMade();
-  placeTimer = setTimeout(() => history.replaceState(null, "", "#" + view.address + place()), 300);
+  const shown = () => (view.types ? "&types=1" : "") + (view.wall ? "&wall=1" : "") + view.addressEnd();
+  placeTimer = setTimeout(() => history.replaceState(null, "", "#" + view.address + place() + shown()), 300);
 }
 
 function endMotion() {

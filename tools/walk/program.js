@@ -3,7 +3,7 @@
 
 const programText = {
   // What was read off the net, the names of its binders, and whether the text is the author's own.
-  term: null, names: new Map(), own: false, length: 0,
+  term: null, names: new Map(), own: false, length: 0, whole: null,
   // The pieces and the elements of nodes and boxes; the elements that are marked, by kind of mark.
   pieces: new Map(), spans: new Map(), marked: { at: [], meant: [] },
 };
@@ -12,7 +12,9 @@ function drawProgram(term) {
   const names = namesOfBinders(view.net, view.program, term.binders);
   const own = ownPieces(view.program, term.root);
   Object.assign(programText, { term, names, own: own !== null, pieces: new Map(), spans: new Map(), marked: { at: [], meant: [] } });
-  byId("program").replaceChildren(drawPiece(own || termPieces(view.net, term.root, names)));
+  const whole = drawPiece(own || termPieces(view.net, term.root, names));
+  byId("program").replaceChildren(...remarksOff(whole, "firstChild"), whole, ...remarksOff(whole, "lastChild").reverse());
+  programText.whole = whole;
   programText.length = byId("program").textContent.length;
   byId("source").textContent = view.program;
   byId("source-box").hidden = own !== null || view.program === "";
@@ -43,6 +45,22 @@ function drawPiece(whole) {
   return first.span;
 }
 
+// The comments and the room at one end of the program, taken out of its element, which is what is marked.
+function remarksOff(whole, end) {
+  const taken = [];
+  for (let it = whole[end]; it && (it.nodeType === Node.TEXT_NODE || it.matches(".remark")); it = whole[end]) {
+    if (it.nodeType === Node.TEXT_NODE && it.data.trim() !== "") {
+      const kept = end === "firstChild" ? it.data.trimStart() : it.data.trimEnd();
+      taken.push(end === "firstChild" ? it.data.slice(0, it.data.length - kept.length) : it.data.slice(kept.length));
+      it.data = kept;
+      break;
+    }
+    it.remove();
+    taken.push(it);
+  }
+  return taken;
+}
+
 // A text with its comments set apart: no other text has the sign.
 function drawText(text) {
   return text.split(/(#[^\n]*)/).filter(it => it !== "")
@@ -65,7 +83,7 @@ function textOf(id) {
 function spansOf(node) {
   const { spans, term } = programText;
   const { name } = view.net.nodes[node];
-  if (name === "Root") return [byId("program").firstChild];
+  if (name === "Root") return [programText.whole];
   const owners = name === "Con" || name === "Door" ? term.uses[node] : [node];
   return owners.map(owner => spans.get(owner)).filter(span => span);
 }

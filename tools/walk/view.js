@@ -30,8 +30,10 @@ const view = {
   chosen: null,
   // The wire whose tokens alone are listed, or null.
   onlyWire: null,
-  // What the address has in front of the number of moves, and what runs a program that is opened alone: for a page with the machine inside.
+  // What the address has in front of the number of moves and at its end, and what runs a program that is opened alone: for a page with the
+  // machine inside.
   address: "",
+  addressEnd: () => "",
   runProgram: null,
   // The same page's: what replays a schedule on the program that is shown.
   runSchedule: null,

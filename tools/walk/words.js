@@ -24,9 +24,18 @@ function useText(use) {
   return `${which} of ${names.get(binder)}`;
 }
 
+// Which side of a function or of a pair is meant: the node that made the mark knows.
+const OF_PAIRS = ["Pair", "Fst", "Snd"];
+function sideWords({ sign, node }) {
+  if (node < 0) return "";
+  if (OF_PAIRS.includes(view.net.nodes[node].name)) return sign === "L" ? "the first part of the pair" : "the second part of the pair";
+  return sign === "L" ? "the function's argument" : "the function's result";
+}
+
 // What the top of a box stack, or a mark on the work stack, stands for, in one line.
 function shortWords(mark, boxes = null) {
-  if (mark.sign === "R" || mark.sign === "L" || mark.sign === "~") return "";
+  if (mark.sign === "R" || mark.sign === "L") return sideWords(mark);
+  if (mark.sign === "~") return "";
   const box = boxes && boxes.box >= 0 ? view.net.nodes[boxes.box] : null;
   if (box && box.name === "FixBox") return callName(boxes);
   const use = useOf(mark);
