@@ -347,7 +347,8 @@ function letterSizes() {
 // The smallest letter of the picture behind so many moves, of those that are seen.
 function smallestLetter(at) {
   walk.show(at);
-  const seen = [...document.querySelectorAll("#picture :is(text, tspan)")].filter(it => it.textContent.trim() && it.getClientRects().length > 0);
+  const all = [...document.querySelectorAll("#picture :is(text, tspan)")];
+  const seen = all.filter(it => it.textContent.trim() && it.getClientRects().length > 0);
   return Math.min(...seen.map(it => parseFloat(getComputedStyle(it).fontSize) * it.getScreenCTM().d));
 }
 
@@ -358,7 +359,8 @@ function wallFaults(places) {
   const rect = it => it.getBoundingClientRect();
   const over = (one, two) => Math.min(one.right, two.right) - Math.max(one.left, two.left) > 1.5 &&
     Math.min(one.bottom, two.bottom) - Math.max(one.top, two.top) > 1.5;
-  const within = (one, two) => one.left >= two.left - 1 && one.right <= two.right + 1 && one.top >= two.top - 1 && one.bottom <= two.bottom + 1;
+  const within = (one, two) => one.left >= two.left - 1 && one.right <= two.right + 1 && one.top >= two.top - 1 &&
+    one.bottom <= two.bottom + 1;
   const shown = query => [...document.querySelectorAll(query)].filter(it => it.getClientRects().length > 0 && it.textContent.trim());
   for (const at of places) {
     walk.show(at);
@@ -371,8 +373,9 @@ function wallFaults(places) {
       for (const [other, two] of labels.slice(place + 1)) if (over(one, two)) fault(`text ${text} meets ${other}`);
     });
     const picture = rect(byId("picture"));
-    const covers = [...document.querySelectorAll("#net .tools, #map, #chain, #tour")].filter(it => it.getClientRects().length > 0).map(rect);
-    const tokens = [...document.querySelectorAll("#picture .token")].map(it => [it.querySelector(".tag").textContent, rect(it.children[1])]);
+    const covers = [...document.querySelectorAll("#net .tools, #map, #chain")].filter(it => it.getClientRects().length > 0).map(rect);
+    const tokens = [...document.querySelectorAll("#picture .token")]
+      .map(it => [it.querySelector(".tag").textContent, rect(it.children[1])]);
     const card = document.querySelector("#picture .card");
     const move = walk.view.run.lastMove();
     const told = move && move.after ? String(move.ticket) : null;
@@ -386,14 +389,16 @@ function wallFaults(places) {
     if (line.scrollHeight > line.clientHeight + 1 || line.scrollWidth > line.clientWidth + 1) fault("the sentence is cut off");
     if (document.documentElement.scrollHeight > innerHeight + 1) fault("the page is higher than the window");
     const bottom = rect(document.querySelector("footer")).bottom;
-    const cut = shown("#told > *, #told span, #wall-program, footer button, #count").filter(it => rect(it).bottom > bottom || rect(it).right > innerWidth);
+    const cut = shown("#told > *, #told span, #wall-program, footer button, #count")
+      .filter(it => rect(it).bottom > bottom || rect(it).right > innerWidth);
     for (const it of cut) fault(`cut off: ${it.textContent.slice(0, 20)}`);
     const { open } = walk.view.run.state;
     const forks = byId("told-forks");
     if (forks.hidden !== (open.size === 0) || (open.size > 0 && !forks.textContent.includes(`(${open.size})`))) fault("open forks");
     if (move && byId("told-stacks").textContent === "") fault("stacks");
     const mark = document.querySelector("#program .at:not(.broad)");
-    if (mark && rect(mark).height > 0 && (rect(mark).top < rect(byId("program")).top - 1 || rect(mark).top + 20 > rect(byId("program")).bottom)) fault("the mark in the program");
+    const own = rect(byId("program"));
+    if (mark && (rect(mark).top < own.top - 1 || rect(mark).top + 20 > own.bottom)) fault("the mark in the program");
   }
   return wrong;
 }
@@ -428,13 +433,14 @@ function wallTokens(places) {
 function tourFaults() {
   const seen = it => {
     const { left, right, top, bottom } = it.getBoundingClientRect();
-    const corners = [[left + 2, top + 2], [right - 2, top + 2], [left + 2, bottom - 2], [right - 2, bottom - 2], [(left + right) / 2, (top + bottom) / 2]];
-    return corners.every(([x, y]) => {
+    const places = [[left + 2, top + 2], [right - 2, top + 2], [left + 2, bottom - 2], [right - 2, bottom - 2]];
+    return [...places, [(left + right) / 2, (top + bottom) / 2]].every(([x, y]) => {
       const found = document.elementFromPoint(x, y);
       return found && (it.contains(found) || (it.closest("#picture") !== null && found.closest("#picture") !== null));
     });
   };
-  const parts = [...document.querySelectorAll("#picture :is(.node, .token, .entry, .answer)"), ...["play", "tour-on", "tour-end"].map(byId)];
+  const buttons = ["play", "tour-on", "tour-end"].map(byId);
+  const parts = [...document.querySelectorAll("#picture :is(.node, .token, .entry, .answer)"), ...buttons];
   const wrong = parts.filter(it => !seen(it)).map(it => it.id || it.textContent);
   return byId("tour").scrollHeight > byId("tour").clientHeight + 1 ? [...wrong, "the words are cut off"] : wrong;
 }

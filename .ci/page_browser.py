@@ -60,8 +60,9 @@ class Browser:
 
     def view(self, width=0, height=0):
         """Gives the page itself so many pixels, however small; without a size, those of its window."""
-        metrics = {"width": width, "height": height, "deviceScaleFactor": 0, "mobile": False}
-        self.call("POST", "/goog/cdp/execute", {"cmd": "Emulation.setDeviceMetricsOverride", "params": metrics})
+        metrics = {"width": width, "height": height, "deviceScaleFactor": 0, "mobile": False} if width else {}
+        what = "Emulation.setDeviceMetricsOverride" if width else "Emulation.clearDeviceMetricsOverride"
+        self.call("POST", "/goog/cdp/execute", {"cmd": what, "params": metrics})
 
     def open(self, address):
         self.call("POST", "/url", {"url": address})

@@ -42,7 +42,8 @@ function showAll() {
   const { left, right, top, bottom } = view.layout.bounds;
   const below = rimBelow();
   const above = byId("fit").offsetParent ? RIMS.above : RIMS.legend;
-  const scale = Math.min(width / (right - left + 120), (height - above - below) / (bottom - top + 14), view.wall ? SCALES.wallWhole : SCALES.whole);
+  const most = view.wall ? SCALES.wallWhole : SCALES.whole;
+  const scale = Math.min(width / (right - left + 120), (height - above - below) / (bottom - top + 14), most);
   camera.scale = Math.max(scale, SCALES.least);
   centre((left + right) / 2, (top + bottom) / 2 + (below - above) / 2 / camera.scale);
 }

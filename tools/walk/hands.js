@@ -103,6 +103,7 @@ const KEYS = {
   w: () => setWall(!view.wall),
   b: pressKeep,
   p: savePicture,
+  P: printNet,
   x: () => { if (!byId("swap-save").disabled) saveSwap(); },
   0: fitAll,
   "+": () => zoom(1.25),
@@ -151,6 +152,7 @@ const BUTTONS = {
   menu: () => setMenu(byId("menu").getAttribute("aria-expanded") !== "true"),
   save: savePicture,
   print: () => print(),
+  "print-net": KEYS.P,
   help: KEYS["?"],
   "help-close": () => byId("keys").close(),
   "colour-by": KEYS.c,
@@ -207,6 +209,7 @@ function joinHands() {
     drawCard();
     if (view.wall) tellWaiting();
   }).observe(byId("net"));
+  new ResizeObserver(stacksInSight).observe(byId("left"));
   joinRows(byId("waiting"), markWaiting);
   joinRows(byId("round-moves"));
   byId("waiting").addEventListener("blur", () => markSpans("meant", []));

@@ -36,9 +36,11 @@ function logEnd(move) {
     case "answer": return "answer " + move.value;
     case "fork": return "fork t" + move.ticket2;
     case "joined": return "join " + move.after.value;
-    default: return move.after.value + (move.after.direction === "up" ? "↑" : "↓") + move.after.wire + " " + brief(move.after.work) + " " + move.after.boxes;
+    default: return tokenText(move.after);
   }
 }
+
+const tokenText = ({ value, direction, wire, work, boxes }) => `${value}${direction === "up" ? "↑" : "↓"}${wire} ${brief(work)} ${boxes}`;
 
 // Has the line of the last move in sight.
 function scrollLog() {

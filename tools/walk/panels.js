@@ -110,6 +110,14 @@ function tellStacks(before, after, whole) {
   byId("work-count").textContent = wholeStack(after.work).count;
   byId("boxes-count").textContent = wholeStack(after.boxes).count;
   tellOther();
+  stacksInSight();
+}
+
+// Where the left column is higher than the window, the stacks are in sight.
+function stacksInSight() {
+  const left = byId("left");
+  const over = byId("stacks").getBoundingClientRect().bottom - left.getBoundingClientRect().bottom;
+  if (over > 0 && left.scrollHeight > left.clientHeight) left.scrollTop += over + 8;
 }
 
 // The parts of a stack that the trace has, and how many there are with those that it leaves out.

@@ -15,7 +15,14 @@ function beginSheet() {
   drawing.root.removeAttribute("transform");
 }
 
+// The net alone, on a whole page: a coin has room on a node of a small one.
+function printNet() {
+  document.body.classList.add("net-alone");
+  print();
+}
+
 function endSheet() {
+  document.body.classList.remove("net-alone");
   if (!view.run || themeBefore === null) return;
   if (themeBefore === "") delete document.documentElement.dataset.theme; else document.documentElement.dataset.theme = themeBefore;
   themeBefore = null;
