@@ -1,5 +1,5 @@
 -- What changed is told by what vectors hold, and not by memories.
-use Rattle.std.proofs.Common.{◌≡◌, ◌∙◌, ℕ, ◌+◌, ◌*◌, List, [], ◌∷◌, ◌++◌, codes, decimal, nat_eq, refl, ap}
+use Rattle.std.proofs.Common.{◌≡◌, ◌∙◌, ℕ, ◌+◌, ◌*◌, List, [], ◌∷◌, ◌++◌, codes, decimal, nat_eq, refl, ap, Result, Ok, Err, OnOk}
 use Prim.Native.String.{String}
 use lib.Text.{eqt}
 use Rattle.verilog_tree.specs.Meaning.{Store, chosen}
@@ -16,15 +16,12 @@ same_changes (v ∷ vs) n R Q T h =
     ∙ ap (λ t. chosen (nat_eq (chosen (eqt "clk" v.name) n (Q.vec v.name)) (T.vec v.name)) [] (value_line v T) ++ t)
     (same_changes vs n R Q T h)
 
--- an edge
-pub same_edge : (vs : List Shown) (k : ℕ) (R Q S : Store) → ((x : String) → R.vec x ≡ Q.vec x) →
-    edge_text vs k R S ≡ edge_text vs k Q S
-same_edge vs k R Q S h =
-    ap (λ t. (codes "#" ++ (decimal (10 * k + 5) ++ (codes "\n" ++ t)))
-    ++ change_text vs (10 * k + 10) (clock_at 1 S) (clock_at 0 S)) (same_changes vs 0 R Q (clock_at 1 S) h)
-
--- an edge that is told by what was copied of the store before it
-pub edge_told : (vs : List Shown) (k : ℕ) (R Q S T : Store) (t u : List ℕ) → u ≡ t ++ edge_text vs k R T → T ≡ S →
-    ((x : String) → R.vec x ≡ Q.vec x) → u ≡ t ++ edge_text vs k Q S
-edge_told vs k R Q S T t u e f h =
-    e ∙ ap (λ V. t ++ edge_text vs k R V) f ∙ ap (λ x. t ++ x) (same_edge vs k R Q S h)
+-- an edge whose stores are those told, and what was found one whose vectors are
+pub edge_told : {T E : Type 0} (r : Result T E) (vs : List Shown) (k : ℕ) (R Q B C S Z : Store) (t u : List ℕ) →
+    OnOk r (u ≡ t ++ edge_text vs k R B S) → ((x : String) → R.vec x ≡ Q.vec x) → B ≡ C → S ≡ Z → OnOk r (u ≡ t ++ edge_text vs k Q C Z)
+edge_told (Ok x) vs k R Q B C S Z t u e h f g =
+    e
+    ∙ ap (λ l. t ++ ((codes "#" ++ (decimal (10 * k + 5) ++ (codes "\n" ++ l)))
+    ++ change_text vs (10 * k + 10) (clock_at 1 B) (clock_at 0 S))) (same_changes vs 0 R Q (clock_at 1 B) h)
+    ∙ ap (λ V. t ++ edge_text vs k Q V S) f ∙ ap (λ V. t ++ edge_text vs k Q C V) g
+edge_told (Err x) vs k R Q B C S Z t u e h f g = tt

@@ -5,7 +5,7 @@ use Rattle.std.specs.Prelude.{ℕ, zero, suc, ◌+◌, ◌-◌, ◌*◌, ◌/◌
 use Prim.Native.String.{String}
 use Rattle.verilog_tree.specs.Tree.{Item}
 use Rattle.verilog_tree.specs.Meaning.{Store, set_vec, chosen}
-use Rattle.verilog_waves.specs.Course.{before}
+use Rattle.verilog_waves.specs.Course.{before, behind}
 use Rattle.verilog_waves.specs.Shown.{Shown, shown}
 
 -- the code of the i-th name (18.2.1): a printable character from `!` on, and one `~` in front of it for each time that all 94 are used up
@@ -73,16 +73,20 @@ change_text vs t R S = codes "#" ++ (decimal t ++ (codes "\n" ++ change_lines vs
 abbrev pub clock_at : ℕ → Store → Store
 clock_at n S = set_vec "clk" n S
 
--- one edge, with what the module holds before it and before the next: the clock goes up, what the edge writes is written, and all settles
--- behind it; then the clock goes down
-abbrev pub edge_text : List Shown → (k : ℕ) → (old new : Store) → List ℕ
-edge_text vs k R S =
-    change_text vs (10 * k + 5) (clock_at 0 R) (clock_at 1 S) ++ change_text vs (10 * k + 10) (clock_at 1 S) (clock_at 0 S)
+-- one edge, with what the module holds before it, behind it, and before the next: the clock goes up, what the edge writes is written, and all
+-- settles behind it; then the clock goes down, and inputs change
+abbrev pub edge_text : List Shown → (k : ℕ) → (old up new : Store) → List ℕ
+edge_text vs k R B S =
+    change_text vs (10 * k + 5) (clock_at 0 R) (clock_at 1 B) ++ change_text vs (10 * k + 10) (clock_at 1 B) (clock_at 0 S)
+
+-- the k-th edge of a module
+abbrev pub shown_edge : List Shown → List Item → ℕ → List ℕ
+shown_edge vs is k = edge_text vs k (before is k) (behind is k) (before is (suc k))
 
 -- so many edges
 abbrev pub edges_text : List Shown → List Item → ℕ → List ℕ
 edges_text vs is zero = []
-edges_text vs is (suc k) = edges_text vs is k ++ edge_text vs k (before is k) (before is (suc k))
+edges_text vs is (suc k) = edges_text vs is k ++ shown_edge vs is k
 
 -- all values at time 0 (18.2.3)
 abbrev pub start_text : List Shown → Store → List ℕ

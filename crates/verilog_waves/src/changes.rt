@@ -92,20 +92,22 @@ fn push_changes(
     Ok(())
 }
 
-/// Appends an edge: the clock goes up, and down.
+/// Appends an edge: the clock goes up, and down. What the module holds is told as it is before the edge, behind it, and before the next.
 pub(crate) fn push_edge(
     alloc: Global,
     text: &mut Vec<u8>,
     names: &[Shown<'_>],
     k: u64,
     old: &Contents,
+    up: &Contents,
     new: &Contents,
 ) -> Result<(), AllocError>
-    ensures { OnOk result (text.new.items ≡ text.old.items ++ edge_text (map shown_of names.now) k (held old.now) (held new.now)) }
+    ensures { OnOk result (text.new.items ≡ text.old.items
+        ++ edge_text (map shown_of names.now) k (held old.now) (held up.now) (held new.now)) }
 {
     let start = 10 * k as u128;
-    push_changes(alloc, text, names, start + 5, old, 0, new, 1)?;
-    push_changes(alloc, text, names, start + 10, new, 1, new, 0)
+    push_changes(alloc, text, names, start + 5, old, 0, up, 1)?;
+    push_changes(alloc, text, names, start + 10, up, 1, new, 0)
 }
 
 /// Appends what all names hold at time 0.

@@ -4,10 +4,11 @@ ghost use Rattle.std.specs.Prelude.{◌≡◌, ◌++◌, suc, nat_eq, map, IfOk,
 ghost use Rattle.verilog_tree.specs.Meaning.{scope};
 ghost use Rattle.verilog_tree.specs.Names.{text_of};
 ghost use Rattle.verilog_tree.specs.Views.{item_of};
+ghost use Rattle.verilog_run.specs.Entries.{Name};
 ghost use Rattle.verilog_run.specs.Held.{held, nothing};
 ghost use Rattle.verilog_run.specs.Scopes.{scope_of};
-ghost use Rattle.verilog_waves.specs.Course.{IsLast, before};
-ghost use Rattle.verilog_waves.specs.Dump.{dump, edge_text, edges_text, start_text};
+ghost use Rattle.verilog_waves.specs.Course.{IsLast, after, before, behind};
+ghost use Rattle.verilog_waves.specs.Dump.{dump, edges_text, shown_edge, start_text};
 ghost use Rattle.verilog_waves.specs.Parts.{goes, next, written};
 ghost use Rattle.verilog_waves.specs.Shown.{shown};
 ghost use Rattle.verilog_waves.specs.Views.{shown_of};
@@ -70,6 +71,41 @@ fn step(
     Ok(on)
 }
 
+/// What the module holds behind the edge of the reset, with `rst` still up.
+fn behind_reset(alloc: Global, scene: &Scene, items: &[Item<'_>]) -> Result<Contents, AllocError>
+    requires { scope_of scene.now ≡ scope (map item_of items.now) }
+    ensures { IfOk result (λ s. held s ≡ behind (map item_of items.now) 0) }
+{
+    let mut store = Contents::new(alloc);
+    begin(alloc, scene, items, &mut store)?;
+    settled_edge(scene, items, &mut store)?;
+    settle(scene, items, &mut store)?;
+    Ok(store)
+}
+
+/// Appends the k-th edge, where what it found was copied, and the store holds what the next one finds.
+fn push_made(
+    alloc: Global,
+    text: &mut Vec<u8>,
+    scene: &Scene,
+    items: &[Item<'_>],
+    names: &[Shown<'_>],
+    k: u64,
+    found: &Contents,
+    store: &Contents,
+) -> Result<(), AllocError>
+    requires scope { scope_of scene.now ≡ scope (map item_of items.now) }
+    requires found { (x : Name) → (held found.now).vec x ≡ (before (map item_of items.now) k).vec x }
+    requires state { held store.now ≡ before (map item_of items.now) (suc k) }
+    ensures { OnOk result (text.new.items ≡ text.old.items ++ shown_edge (map shown_of names.now) (map item_of items.now) k) }
+{
+    if k > 0 {
+        return push_edge(alloc, text, names, k, found, store, store);
+    }
+    let up = behind_reset(alloc, scene, items)?;
+    push_edge(alloc, text, names, k, found, &up, store)
+}
+
 /// Makes the k-th edge, and appends it.
 fn push_step(
     alloc: Global,
@@ -80,15 +116,15 @@ fn push_step(
     k: u64,
     store: &mut Contents,
 ) -> Result<bool, AllocError>
-    requires { scope_of scene.now ≡ scope (map item_of items.now) }
-    ensures state { OnOk result (held store.new ≡ next (map item_of items.now) (held store.old)) }
-    ensures goes { IfOk result (λ on. on ≡ goes (written (map item_of items.now) (held store.old))) }
-    ensures text { OnOk result (text.new.items ≡ text.old.items
-        ++ edge_text (map shown_of names.now) k (held store.old) (next (map item_of items.now) (held store.old))) }
+    requires scope { scope_of scene.now ≡ scope (map item_of items.now) }
+    requires state { held store.old ≡ before (map item_of items.now) k }
+    ensures state { OnOk result (held store.new ≡ before (map item_of items.now) (suc k)) }
+    ensures goes { IfOk result (λ on. on ≡ goes (after (map item_of items.now) k)) }
+    ensures text { OnOk result (text.new.items ≡ text.old.items ++ shown_edge (map shown_of names.now) (map item_of items.now) k) }
 {
-    let seen = store.vectors(alloc)?;
+    let found = store.vectors(alloc)?;
     let on = step(alloc, scene, items, store)?;
-    push_edge(alloc, text, names, k, &seen, store)?;
+    push_made(alloc, text, scene, items, names, k, &found, store)?;
     Ok(on)
 }
 
