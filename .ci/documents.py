@@ -13,8 +13,8 @@ from judging import TOP, call, judge, put  # noqa: E402
 
 # The page that runs programs. It is made, and so it needn't be there; what an address of it can have.
 LIVE = "out/goi.html"
-IN_ADDRESS = {"example", "program", "schedule", "by-value", "budget", "move", "round", "net", "show", "types", "theme", "wall",
-              "colour"}
+IN_ADDRESS = {"example", "program", "schedule", "by-value", "budget", "move", "round", "net", "show", "types", "rules", "theme",
+              "wall", "colour", "guess"}
 SHOWN = {"net", "schedule", "trace"}
 NETS = ["examples/clash.net", "examples/double.net", "examples/unboxed.net"]
 
