@@ -2,7 +2,6 @@
 
 import os
 import re
-import shutil
 import sys
 import tempfile
 import urllib.parse
@@ -10,6 +9,9 @@ import urllib.parse
 sys.dont_write_bytecode = True
 sys.path.insert(0, os.path.dirname(os.path.realpath(__file__)))
 from judging import TOP, call, judge, put  # noqa: E402
+
+sys.path.insert(0, os.path.join(TOP, "release"))
+import options  # noqa: E402
 
 # The page that runs programs. It is made, and so it needn't be there; what an address of it can have.
 LIVE = "out/goi.html"
@@ -122,7 +124,7 @@ def shows(text, crate):
     return "```rust\n" + read(f"crates/{crate}/src/main.rt") + "```\n" in text
 
 
-def try_listed():
+def try_listed(_):
     """Each document holds, and one with a wrong line doesn't."""
     crates, listed, readme = read("docs/crates.md"), read("docs/README.md"), read("README.md")
     judge("documents have links", sum(len(links(read(it))) for it in documents()) > 100)
@@ -179,21 +181,43 @@ REFUSED = (
 )
 
 
+def try_table(program):
+    """The table of commands and options is the program's, and the tables of docs/FORMATS.md are made of it; other ones aren't."""
+    made = call([os.path.join(TOP, "release/options.py"), "--check"], cwd=TOP)
+    judge("the table of commands and options", made, (0, b"", b""))
+    page, source = read("docs/FORMATS.md"), read("crates/goi_words/src/commands.rt")
+    for old, new in (("1 to 64 (1)", "1 to 65 (1)"), ("`--tally`, ", ""), ("<!-- end -->", "")):
+        judge(f"a page with {new} for {old}", old in page and len(options.odd(page.replace(old, new, 1), source)), 1)
+    for old, new in (
+        ('"workers",\n    1,', '"workers",\n    2,'), ('Argument::Switch("term")', 'Argument::Switch("terms")'), ("Numbers(", "Text("),
+        ('    Argument::Switch("late"),\n', ""), ('"span", &SPAN', '"spans", &SPAN'), ("FROM,\n    MOST", "FROM,\n    TALLY,\n    MOST"),
+    ):
+        judge(f"a program with {new} for {old}", old in source and len(options.odd(page, source.replace(old, new))) > 0)
+    # and what is built takes all options of a command at once, with their values, but for those that are apart
+    for name, row in options.COMMANDS.items():
+        words = ["0" if it == "N" else "/lacked" for it in row["operands"]]
+        apart = {other for it in row["options"].values() for other in it.get("apart", ())}
+        for option, it in row["options"].items():
+            words += [option, *([str(it.get("most", it["default"]))] if "value" in it else [])] * (it["name"] not in apart)
+        judge(f"{name} with all its options", call([program, name, *words])[0], 0 if name == "demo" else 3)
+        for option, it in row["options"].items():
+            for other in it.get("apart", ()):
+                judge(f"{name} {option} --{other}", call([program, name, *words, f"--{other}"]), (2, b"", b"refused words\n"))
+
+
 def try_help(program):
     """What tools/why says of refused words, and where help is asked for, which runs nothing."""
     why, given = os.path.join(TOP, "tools/why"), {**os.environ, "GOI": program}
-    rows = re.findall(r"^\| `goi ([\w-]+)([^`]*)` \|[^|]*\|(.*)\|$", read("docs/FORMATS.md"), re.M)
-    judge("the table of commands has rows", len(rows) > 8)
-    for name, shape, cell in rows:
+    for name, row in options.COMMANDS.items():
         status, out, err = call([why, name, "p", "--help"], env={**given, "GOI": "/lacked"})
         told = out.decode()
-        options = {it.split()[0] for it in told.splitlines()[1:]}
-        wanted = (0, b"", True, set(re.findall(r"`(--[\w-]+)", cell)))
-        judge(f"help on {name}", (status, err, told.startswith(f"  goi {name}{shape}: "), options), wanted)
+        named = [it.split()[0] for it in told.splitlines()[1:]]
+        wanted = (0, b"", True, [*row["options"]])
+        judge(f"help on {name}", (status, err, told.startswith(f"  goi {name} {row['takes']}: "), named), wanted)
     for words in ["--help"], ["-h"], ["help"]:
         status, out, err = call([why, *words], env={**given, "GOI": "/lacked"})
         named = re.findall(r"^  goi ([\w-]+)", out.decode(), re.M)
-        judge(f"why {words[0]}", (status, err, named), (0, b"", [name for name, _, _ in rows]))
+        judge(f"why {words[0]}", (status, err, named), (0, b"", [*options.COMMANDS]))
     found = call([why, "--version"], env={**given, "GOI": "/lacked"})
     judge("why --version", found, (0, f"goi {read('VERSION').strip()}\n".encode(), b""))
     for words, says in REFUSED:
@@ -201,15 +225,6 @@ def try_help(program):
         judge(f"why {words}", (status, out, err.decode().split("\n")[0]), (2, b"", f"goi: {says} [refused words]"))
     found = call([why, "run", b"p\xff"], env=given)
     judge("why of a word that isn't UTF-8", (found[0], found[2].decode().split("\n")[0]), (2, "goi: `p\\xff` is not UTF-8 [refused words]"))
-    with tempfile.TemporaryDirectory() as at:
-        alone = shutil.copy(why, at)
-        shutil.copy(os.path.join(TOP, "tools/program.py"), at)
-        found = call([alone, "ran"], env=given)
-        says = b"goi: these words are no command; docs/FORMATS.md has the table of commands, and it isn't here [refused words]\n"
-        judge("why without the table", found, (2, b"", says))
-        put(at, "p", "1 +")
-        found = call([alone, "run", "--budget", "5", "p"], cwd=at, env=given)
-        judge("a refusal without the table", (found[0], found[2].split(b" ")[0]), (1, b"p:1:4:"))
     found = call([why, "run", "--", "--help"], env=given)
     judge("a file of the name --help", (found[0], found[1], found[2].endswith(b" [read failed]\n")), (3, b"", True))
 
@@ -234,8 +249,8 @@ def try_page_links(program):
 
 
 def try_all(program):
-    for part in try_listed, lambda: try_help(program), lambda: try_page_links(program):
+    for part in try_listed, try_table, try_help, try_page_links:
         try:
-            part()
+            part(program)
         except Exception as error:  # a case that can't be tried has failed
             judge("a part that was cut short", repr(error), None)

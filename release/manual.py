@@ -1,7 +1,10 @@
-"""The pages of the manual: that of the program is written by hand, those of the library and of the tools are made of their own texts."""
+"""The pages of the manual: that of the program has its commands and options from the table of them, those of the library and of the tools
+are made of their own texts."""
 
 import os
 import re
+
+import options
 
 TOP = os.path.dirname(os.path.dirname(os.path.realpath(__file__)))
 
@@ -35,7 +38,7 @@ def paragraphs(text):
 
 
 def of_program(date, version):
-    return read("release", "man", "goi.1").replace("@VERSION@", version).replace("@DATE@", date)
+    return options.filled(read("release", "man", "goi.1"), {**options.manual(), "@VERSION@": version, "@DATE@": date})
 
 
 def of_script(name, date, version):

@@ -7,12 +7,13 @@ import re
 import subprocess
 
 import manual
+import options
 
 TOP = os.path.dirname(os.path.dirname(os.path.realpath(__file__)))
 # The scripts that are commands, by their names in tools/.
 COMMANDS = ["by-value", "check-calls", "check-circuit", "check-workers", "draw-net", "run-many", "show-walk", "why"]
 # What the Python package has of tools/.
-PARTS = ["by-value", "draw-net", "program.py", "walk.html", "why"]
+PARTS = ["by-value", "draw-net", "options.json", "program.py", "walk.html", "why"]
 # The crates of the kit that are linked in, as `rt` lists them by `statements NAME`, and its libraries.
 LINKED = "atomic_table clap core crossbeam_utils io itoa libc os std std_alloc std_collections std_heap std_io strsim".split()
 LINKED += ["ucd_derived", "ucd_table", "unicode_ident", "liblibc_c.a", "libos_c.a"]
@@ -101,7 +102,7 @@ def whole(given):
     for path in tracked("tools"):
         name = path.split("/", 1)[1]
         # (commands, and what they read; what else is there serves a checkout alone)
-        if name in COMMANDS or "/" not in name and name.endswith((".py", ".sh", ".html")) and name != "built.sh":
+        if name in COMMANDS or "/" not in name and name.endswith((".json", ".py", ".sh", ".html")) and name != "built.sh":
             put(f"share/goi/{path}", read(path), mode_of(path))
     for it in COMMANDS:
         tree[f"bin/goi-{it}"] = f"../share/goi/tools/{it}"
@@ -137,9 +138,9 @@ def whole(given):
     for it in names:
         tree[f"share/man/man3/{it}.3"] = "goi.3"
     # shells and editors
-    put("share/bash-completion/completions/goi", read("release", "completions", "goi.bash"))
-    put("share/zsh/site-functions/_goi", read("release", "completions", "_goi"))
-    put("share/fish/vendor_completions.d/goi.fish", read("release", "completions", "goi.fish"))
+    put("share/bash-completion/completions/goi", options.completion("goi.bash"))
+    put("share/zsh/site-functions/_goi", options.completion("_goi"))
+    put("share/fish/vendor_completions.d/goi.fish", options.completion("goi.fish"))
     for it in ("syntax", "ftdetect", "ftplugin"):
         put(f"share/vim/vimfiles/{it}/pcf.vim", read("release", "vim", it, "pcf.vim"))
     put("share/mime/packages/goi.xml", read("release", "mime", "goi.xml"))
