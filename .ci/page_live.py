@@ -50,6 +50,7 @@ def try_without(page, program, folder):
     says_so = (live.UNPROVED in whole, other.replace(live.UNPROVED, "") == whole)
     page.judge("a page whose library wasn't proved says so, and no other", says_so, (False, True))
     try_refusals(page, live)
+    try_hints(page)
     lacks = [it for it in ("node", "rt") if shutil.which(it) is None]
     if lacks:
         print(f"skipped: the machine of the page, tried in Node, since {lacks[0]} isn't there")
@@ -123,6 +124,43 @@ def try_refusals(page, live):
             page.judge(f"{name} is refused", False)
             continue
         page.judge(f"{name} is refused", True)
+
+
+# Slips of who comes from another language: the fault, the text in front of its place and behind it, and what is said of them.
+SLIPS = (
+    ("Unexpected", "(fun x", ". x) 3", "a binder has a type"),
+    ("BadToken", "fun x ", "=> x", "a binder has a type"),
+    ("Unexpected", "1 + (fix f", " -> f)", "a binder has a type"),
+    ("BadToken", "", "\\x. x", "a function is written `fun x:nat."),
+    ("Unexpected", "(\u03bbx", ". x) 3", "a function is written `fun x:nat."),
+    ("BadToken", "let y ", "= 3 in y", "there is no `let`"),
+    ("Unbound", "", "let y", "there is no `let`"),
+    ("Unexpected", "if x\n  ", "then 1 else 2", "a test for 0 is written `ifz"),
+    ("Unbound", "1 + ", "if (x) 1 2", "a test for 0 is written `ifz"),
+    ("Unexpected", "ifz 0 ", "1", ""),
+    ("Unexpected", "(fun x:nat. x + ", ") 3", ""),
+    ("BadToken", "1 + ", "$", ""),
+    ("Unbound", "1 + ", "iff", ""),
+    ("Unbound", "# let x\n", "letter", ""),
+    ("Unexpected", "# fun x\n", ")", ""),
+    ("NatWanted", "fun x", ". x", ""),
+)
+
+
+def try_hints(page):
+    """What is said of a usual slip, by tools/why and by the page."""
+    why = script("why", "tools/why")
+    for fault, before, rest, says in SLIPS:
+        found = why.hint_of(fault, before, rest)
+        page.judge(f"why of {before!r} and {rest!r}", found.startswith(f"; {says}") if says else found, True if says else "")
+    if shutil.which("node") is None:
+        print("skipped: what the page says of slips, since node isn't there")
+        return
+    code = re.search(r"^function hintOf.*?^}$", (TOP / "c/live_page/faults.js").read_text(encoding="utf-8"), re.S | re.M)[0]
+    code = f"const given = {json.dumps({'hints': why.HINTS})};\n{code}\n"
+    code += f"console.log(JSON.stringify({json.dumps(SLIPS)}.map(([fault, before, rest]) => hintOf(fault, before + rest, before.length))));"
+    ran = subprocess.run(["node", "-e", code], capture_output=True, text=True)
+    page.judge("the page of slips", ran.stdout.strip() and json.loads(ran.stdout), [why.hint_of(*it[:3]) for it in SLIPS])
 
 
 def in_node(calls):
@@ -311,7 +349,9 @@ def try_refused(page, window):
         ("1 +\n", "refused: Unexpected(4)", "line 2, column 1: the program ends here and is not whole", [" ", 4]),
         ("1 + 𝒳", "refused: Unbound(4)", "line 1, column 5: no `fun` and no `fix` around binds this name", ["𝒳", 4]),
         ("2 𝒳$", "refused: BadToken(6)", "line 1, column 4: no token begins here", ["$", 4]),
-        ("fun x:nat. x", "refused: NotGround", "the program is not of type `nat`", None),
+        ("fun x:nat. x", "refused: NotGround", "only a number can be run; press check, which shows its type", None),
+        ("(fun x. x) 3", "refused: Unexpected(6)", "line 1, column 7: no program goes on with this; a binder has a type", [".", 6]),
+        ("let x = 3", "refused: BadToken(6)", "line 1, column 7: no token begins here; there is no `let`", ["=", 6]),
     ):
         said = runs(window, text)
         page.judge(f"refused: {text!r}", (said.split("\n")[0], says in said), (line, True))

@@ -52,6 +52,8 @@ def place(text, refused):
     says = _why.OF_PROGRAMS.get(name) or _why.OF_FILES.get(name, name)
     if name == "Unexpected" and at >= len(whole):
         says = _why.AT_END
+    if at is not None:
+        says += _why.hint_of(name, before, whole[at:].decode(errors="replace"))
     return before.count("\n"), len(before) - before.rfind("\n") - 1, name, says
 
 

@@ -11,8 +11,17 @@ function sayRefusal(text, line) {
   }
   const { index, row, column } = placeOf(text, Number(place));
   const ends = name === "Unexpected" && index === text.length;
-  say(line, `line ${row}, column ${column}: ${ends ? given.atEnd : given.ofPrograms[name] ?? ""}`, true);
+  say(line, `line ${row}, column ${column}: ${ends ? given.atEnd : given.ofPrograms[name] ?? ""}${hintOf(name, text, index)}`, true);
   markCharacter(index);
+}
+
+// How it is written here, where the text around a place is of a usual slip.
+function hintOf(name, text, index) {
+  if (!["BadToken", "Unexpected", "Unbound"].includes(name)) return "";
+  const [before, rest] = [text.slice(0, index).replaceAll(/#[^\n]*/g, ""), text.slice(index)];
+  const isSo = it => new RegExp(`(?:${it.before})$`, "su").test(before) && new RegExp(`^(?:${it.at})`, "su").test(rest);
+  const hint = given.hints.find(isSo);
+  return hint ? `; ${hint.says}` : "";
 }
 
 // The line of a fault of a net or of a schedule, and the line of the text at which it is.
