@@ -451,3 +451,27 @@ function rounds() {
   const { text, starts } = walk.inRounds(alone.run);
   return [text, starts, [alone.questions.span.rounds, alone.questions.span.most]];
 }
+
+// Nodes whose words are wider than they are.
+const wideNodes = () => [...document.querySelectorAll("#picture .node")]
+  .filter(it => it.querySelector("text").getBBox().width > it.querySelector("rect").getBBox().width - 4).map(it => it.textContent);
+
+// What isn't as it is to be while somebody guesses: the form outside of the window or cut off, a token or a node that it covers, a picture
+// that is too low; on the wall letters below 1/36 of the window's height.
+function guessFaultsSeen() {
+  const rect = it => it.getBoundingClientRect();
+  const [form, picture, footer] = [byId("guess"), byId("picture"), document.querySelector("footer")];
+  const wrong = [];
+  const bottom = walk.view.wall && rect(footer).left > 0 ? innerHeight : rect(footer).top;
+  if (rect(form).bottom > bottom + 1 || form.scrollHeight > form.clientHeight + 1) wrong.push("the form is cut off");
+  if (rect(form).top < rect(picture).bottom - 1) wrong.push("the form is on the picture");
+  if (rect(picture).height < 0.35 * innerHeight) wrong.push(`the picture has ${rect(picture).height} px`);
+  for (const it of form.querySelectorAll("input, select, button, p")) {
+    if (rect(it).right > innerWidth || rect(it).left < 0) wrong.push(`outside: ${it.id}`);
+    if (walk.view.wall && it.matches("p") && parseFloat(getComputedStyle(it).fontSize) < innerHeight / 36 - 0.1) wrong.push(`small: ${it.id}`);
+  }
+  const token = document.querySelector("#picture .token");
+  if (rect(token).bottom > rect(picture).bottom || rect(token).top < rect(picture).top) wrong.push("the token isn't seen");
+  if (!byId("guess-said").textContent.startsWith("Not so")) wrong.push("nothing is said");
+  return wrong;
+}

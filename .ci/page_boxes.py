@@ -237,8 +237,8 @@ def try_schedules(page, live, window, program, folder):
             if which == "rounds":
                 page.judge(f"{name}: rounds", are_rounds(page, trace, expanded(order)))
         opens(live, window, "trace")
-        shown = window.script("return document.getElementById('trace-text').value")
-        page.judge(f"{name}: the box of the trace", shown, "\n".join(trace.split("\n")[:2000]))
+        shown = window.script("return [...document.getElementById('trace-rows').children].map(it => it.textContent)")
+        page.judge(f"{name}: the box of the trace", shown, trace.split("\n")[:2000])
     # Part of a schedule comes to no answer, and its walk is as long.
     live.runs(window, "1 + 2")
     opens(live, window, "schedule")
@@ -383,11 +383,20 @@ def try_links(page, live, window, program, folder):
     page.judge("which is run", window.script(live.SAID).split("\n")[0], refusal)
     page.judge("with its line", marked_line(window, "net"), 21)
     window.open("about:blank")
+    window.view(1280, 800)
     window.open(base + "#example=sum&move=786&show=trace")
-    page.judge("a link to a moment of the trace", live.waits(window, """
-      const box = document.getElementById("trace-text");
-      const row = Math.round(box.scrollTop / parseFloat(getComputedStyle(box).lineHeight));
-      return (box.value.split("\\n")[row + 4] ?? "").startsWith("move 786 ");"""))
+    named = """
+      const [box, ...rows] = ["#trace-rows", "#trace-rows .present", "#trace-rows .next"].map(it => document.querySelector(it));
+      const seen = it => it.getBoundingClientRect();
+      const within = it => it && seen(it).top >= seen(box).top && seen(it).bottom <= seen(box).bottom;
+      const broken = it => [...it.children].map(end => end.textContent.slice(0, 3) + (seen(end).left - seen(it).left < 30));
+      return rows.every(within) && [...rows.map(it => it.textContent.slice(0, 9)), ...rows.flatMap(broken), box.scrollWidth <= box.clientWidth];"""
+    wanted = ["move 785 ", "move 786 ", "=> true", "=> true", True]
+    page.judge("a link to a moment of the trace", (live.waits(window, f"{named[:-1]}.length === 5"), window.script(named))[1], wanted)
+    window.script("document.querySelectorAll('#trace-rows [data-row]')[12].click()")
+    page.judge("a press on a line of it", window.script("return [walk.view.run.state.at, document.querySelector('#trace-rows .present').dataset.move]"),
+               [13, "12"])
+    window.view()
     page.judge("stop is beside the tabs", window.script("return document.getElementById('own-head').clientHeight < 32"))
     window.open("about:blank")
     order = "0 4,1 2,0 11,1 13"

@@ -25,11 +25,11 @@ OWN = {
     "a fix that is a number": "fix x:nat. ifz 0 then 5 else x",
 }
 ROWS = """
-return [...document.querySelectorAll("#steps-rows .turn")].map(row => {
+return [...document.querySelectorAll("#steps-rows .step")].map(row => {
   const [name, whole, visit] = row.children;
   return [name.textContent, whole.textContent, whole.querySelector("mark").textContent, visit ? visit.textContent : null];
 });"""
-VISITS = "return machine.visitsOf(walk.view.run).map(({ rule, at }) => [rule, walk.view.run.move(at).name])"
+VISITS = "return walk.visitsOf(walk.view.run).map(({ rule, at }) => [rule, walk.view.run.move(at).name])"
 
 
 def printed_steps(calls, text, *words):
@@ -41,6 +41,26 @@ def printed_steps(calls, text, *words):
 def listed(live, window):
     window.script("document.getElementById('tab-program').click(); document.getElementById('tab-steps').click(); document.getElementById('steps-list').click()")
     live.waits(window, live.IDLE)
+
+
+FOLLOWS = """
+const list = document.getElementById("steps-rows");
+const found = [];
+for (let at = 0; at <= walk.view.run.length; at++) {
+  walk.show(at);
+  const row = list.querySelector(".present");
+  found.push(row && Number(row.firstChild.textContent.split(" ")[0]));
+}
+return found;"""
+
+
+def try_follows(page, window, name):
+    """Behind each move the step is marked whose visit was made last."""
+    visits = [(at, number) for number, (_, at) in enumerate(window.script("return walk.visitsOf(walk.view.run).map(it => [it.rule, it.at])"))]
+    listed = window.script("return document.querySelectorAll('#steps-rows .step').length")
+    length = window.script("return walk.view.run.length")
+    wanted = [max((it for it in visits if it[0] < at and it[1] < listed), default=(None, None))[1] for at in range(length + 1)]
+    page.judge(f"{name}: steps follow the walk", window.script(FOLLOWS), wanted)
 
 
 def try_visits(page, live, window, calls, name, text):
@@ -77,8 +97,9 @@ def try_steps(page, live, window, program, folder):
     # A press on a step shows its move.
     live.runs(window, programs.TEXTS["double.pcf"])
     listed(live, window)
-    window.script("document.querySelectorAll('#steps-rows .turn')[1].click()")
+    window.script("document.querySelectorAll('#steps-rows .step')[1].click()")
     page.judge("a press on the sum", window.script("return walk.view.run.move(walk.view.run.state.at - 1).name"), "Plus")
+    try_follows(page, window, "the box")
     # More than are shown at once.
     live.runs(window, programs.TEXTS["fibonacci.pcf"])
     listed(live, window)

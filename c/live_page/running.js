@@ -273,6 +273,6 @@ function joinButtons() {
 }
 
 // For the tests, and for whoever looks at the page with a browser's own tools.
-window.machine = { ask, asking, stop, translationOf, placeOf, putSchedule, openTab, tableOfValues, visitsOf, steps };
+window.machine = { ask, asking, stop, translationOf, placeOf, putSchedule, openTab, tableOfValues };
 joinButtons();
 beginWithAddress();

@@ -22,7 +22,7 @@ function openTab(name) {
   showTab(name);
   if (name === "net" && textIn("net") === "") listNet();
   if (name === "schedule" && textIn("schedule") === "") takeSchedule("run");
-  if (name === "steps" && steps.program !== programGiven()) listSteps(0);
+  if (name === "steps" && walk.steps.program !== programGiven()) listSteps(0);
 }
 
 // In a narrow window the box is put away when a walk is shown, so that the net has the room.
@@ -42,17 +42,48 @@ function placeMarks() {
   if (inBox) byId("program").scrollTop = boxOf("own").scrollTop;
 }
 
+// A line of the trace for each row, broken at `=>`.
+const traced = { text: null };
 function showTrace() {
   const { traceText } = walk.view;
   byId("trace-save").disabled = traceText === null;
   if (traceText === null) return;
   const lines = traceText.split("\n");
-  const box = byId("trace-text");
-  box.value = lines.slice(0, TRACE_SHOWN).join("\n");
-  // The move that comes next is the fifth line that is seen, as it is at the beginning.
-  const next = lines.findIndex(it => it.startsWith(`move ${walk.view.run.state.at} `));
-  box.scrollTop = (next - 4) * parseFloat(getComputedStyle(box).lineHeight);
-  byId("trace-said").textContent = lines.length > TRACE_SHOWN ? `the first ${TRACE_SHOWN} of ${lines.length - 1} lines` : "";
+  if (traced.text !== traceText) {
+    traced.text = traceText;
+    walk.putRows(byId("trace-rows"), lines.slice(0, TRACE_SHOWN).map(traceRow), null);
+    byId("trace-said").textContent = lines.length > TRACE_SHOWN ? `the first ${TRACE_SHOWN} of ${lines.length - 1} lines` : "";
+  }
+  markTrace();
+}
+
+function traceRow(text) {
+  const row = line(text, "");
+  const [, number] = /^move (\d+) /.exec(text) ?? [];
+  if (number === undefined) return row;
+  const at = text.indexOf(" => ") + 1;
+  const then = document.createElement("span");
+  then.textContent = text.slice(at);
+  row.replaceChildren(text.slice(0, at), then);
+  Object.assign(row.dataset, { row: "", move: number });
+  row.setAttribute("role", "option");
+  row.addEventListener("click", () => walk.show(Number(number) + 1));
+  return row;
+}
+
+// Marks the move that was made last, and the one that comes next, and has both in sight.
+function markTrace() {
+  const box = byId("trace-rows");
+  const { run, rounds } = walk.view;
+  for (const it of box.querySelectorAll(".present, .next")) it.classList.remove("present", "next");
+  if (rounds) return;
+  const at = run.first + run.state.at;
+  const rows = [at - 1, at].map(number => box.querySelector(`[data-move="${number}"]`));
+  rows.forEach((row, place) => row?.classList.add(["present", "next"][place]));
+  if (!rows[0] && !rows[1]) return;
+  const [top, bottom] = [rows[0] ?? rows[1], rows[1] ?? rows[0]].map(it => it.getBoundingClientRect());
+  const own = box.getBoundingClientRect();
+  if (top.top < own.top || bottom.bottom > own.bottom) box.scrollTop += top.top - own.top - 4;
 }
 
 const saveTrace = () => walk.saveFile(walk.fileStem() + ".trace", "text/plain", walk.view.traceText);
@@ -81,4 +112,6 @@ function joinTabs() {
     placeMarks();
     if (tabShown() === "trace") showTrace();
   };
+  walk.view.moved = () => { if (tabShown() === "trace") showTrace(); };
+  walk.joinRows(byId("trace-rows"));
 }

@@ -1,16 +1,18 @@
-// A second run beside the one that is shown, and in step with it: behind as many moves, or as many rounds. It can be another schedule of
-// the same program, or the program by value beside it by name. Its net is drawn whole, and both strips lie on one scale.
+// A second run beside the one that is shown, and in step with it: behind as many moves, as many rounds, or as many calls. It can be another
+// schedule of the same program, or the program by value beside it by name. Its net is drawn whole, and both strips lie on one scale.
 
 const beside = {
   // What it was opened from; its run and its layout; the same run in rounds with where each begins, made when it is first asked for.
   data: null, run: null, layout: null, together: null,
   // The paths of its wires, and the group of its tokens.
   paths: [], tokens: null,
+  // Whether both go call by call.
+  byCalls: false,
 };
 
 function shownData() {
-  const { name, file, program, netText: net, traceText: trace, address } = view;
-  return { name, file, program, net, trace, address };
+  const { name, file, program, netText: net, traceText: trace, stepsText: steps, address } = view;
+  return { name, file, program, net, trace, steps, address };
 }
 
 // Opens once more what was shown, with its place in the address.
@@ -37,7 +39,17 @@ function putAway() {
   Object.assign(beside, { data: null, run: null, layout: null, together: null, paths: [], tokens: null });
   document.body.classList.remove("two");
   byId("beside").hidden = true;
+  setByCalls(false);
   tellKeep();
+}
+
+function setByCalls(on) {
+  if (on && !beside.run) return;
+  if (on && view.rounds) setRounds(false);
+  beside.byCalls = on;
+  byId("beside-by").textContent = on ? "by calls" : "by moves";
+  byId("beside-by").setAttribute("aria-pressed", on);
+  tellBeside();
 }
 
 // Both change places, each behind as many moves as before.
@@ -67,17 +79,29 @@ function drawBeside(net) {
   picture.setAttribute("viewBox", [left - 60, top - 24, right - left + 120, bottom - top + 48].map(Math.round).join(" "));
 }
 
-// The run that goes in step, how far it is of how many, and what they are.
+// The run that goes in step, how far it is of how many, and what they are; its place and its length on the strip.
 function besideWay() {
   const made = wayMade();
-  if (!view.rounds) return { run: beside.run, at: Math.min(made, beside.run.length), made, of: beside.run.length, unit: "moves" };
+  const { length } = beside.run;
+  if (beside.byCalls) {
+    const calls = callsIn(beside.run);
+    const own = callsIn(view.run).filter(place => place <= view.run.state.at).length;
+    const at = made === view.run.length ? length : own > calls.length ? length : own === 0 ? 0 : calls[own - 1];
+    return { run: beside.run, at, made: own, of: calls.length, unit: "calls", isOver: at === length, place: at, length };
+  }
+  if (!view.rounds) {
+    const at = Math.min(made, length);
+    return { run: beside.run, at, made, of: length, unit: "moves", isOver: made >= length, place: at, length };
+  }
   if (whyNoRounds(beside.run) !== null) return null;
   if (!beside.together) {
     const { text, starts } = inRounds(beside.run);
     beside.together = { run: new Run(readTrace(text), beside.run.net, () => {}), starts };
   }
   const { run, starts } = beside.together;
-  return { run, at: starts[Math.min(made, starts.length - 1)], made, of: starts.length - 1, unit: "rounds" };
+  const of = starts.length - 1;
+  const place = Math.min(made, of);
+  return { run, at: starts[place], made, of, unit: "rounds", isOver: made >= of, place, length: of };
 }
 
 function tellBeside() {
@@ -87,7 +111,7 @@ function tellBeside() {
   beside.tokens.replaceChildren();
   byId("beside-mark").replaceChildren();
   if (way === null) { byId("beside-say").textContent = whyNoRounds(beside.run); return; }
-  const { run, at, made, of, unit } = way;
+  const { run, at, made, of, unit, isOver } = way;
   const { live, answer } = run.go(at);
   const move = run.lastMove();
   for (const [ticket, token] of live) beside.tokens.append(besideToken(ticket, token));
@@ -96,7 +120,7 @@ function tellBeside() {
     node.classList.add("at");
     byId("beside-mark").append(node);
   }
-  const when = `${Math.min(made, of)} of ${of} ${unit}` + (made >= of ? ", and it is over" : "");
+  const when = `${Math.min(made, of)} of ${of} ${unit}` + (isOver ? ", and it is over" : "");
   byId("beside-say").textContent = move ? `${when}. ${ruleOf(move).title}.` : `${when}. The run begins.`;
   const count = live.size === 1 ? "1 live token" : `${live.size} live tokens`;
   byId("beside-tokens").textContent = answer === null ? count : `value ${answer}`;
@@ -141,10 +165,10 @@ function drawBoth(way) {
   const canvas = byId("beside-strips");
   const [width, height] = [canvas.clientWidth || 300, 2 * BOTH.lane + BOTH.apart];
   const brush = sizedCanvas(canvas, width, height);
-  const length = Math.max(wayLength(), way.of, 1);
+  const length = Math.max(wayLength(), way.length, 1);
   const colours = [...Array(COLOURS).keys()].map(number => styleValue("--k" + number));
   const lanes = [{ run: view.run, starts: view.rounds, made: wayMade(), of: wayLength() },
-    { run: way.run, starts: view.rounds ? beside.together.starts : null, made: Math.min(way.made, way.of), of: way.of }];
+    { run: way.run, starts: view.rounds ? beside.together.starts : null, made: way.place, of: way.length }];
   const most = Math.max(...lanes.map(({ starts, of }) => starts ? widest(starts, 0, of) : 1));
   lanes.forEach(({ run, starts, made, of }, row) => {
     const top = row * (BOTH.lane + BOTH.apart);

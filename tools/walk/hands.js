@@ -17,6 +17,12 @@ function setTypes(on) {
   layOutAnew();
 }
 
+function setRules(on) {
+  view.rules = on;
+  byId("rules").setAttribute("aria-pressed", on);
+  layOutAnew();
+}
+
 function setFollow(on) {
   view.follow = on;
   byId("follow").setAttribute("aria-pressed", on);
@@ -95,13 +101,16 @@ const KEYS = {
   o: goOther,
   g: () => byId("now").select(),
   r: () => setRounds(view.rounds === null),
+  q: () => setGuess(!guess.on),
   f: () => setFollow(!view.follow),
   t: () => setTypes(!view.types),
+  R: () => setRules(!view.rules),
   s: () => setCard(!view.card),
   c: () => setColourBy(COLOURED_BY[(COLOURED_BY.indexOf(view.colourBy) + 1) % COLOURED_BY.length]),
   d: turnTheme,
   w: () => setWall(!view.wall),
   b: pressKeep,
+  y: () => setByCalls(!beside.byCalls),
   p: savePicture,
   P: printNet,
   x: () => { if (!byId("swap-save").disabled) saveSwap(); },
@@ -116,13 +125,13 @@ const KEYS = {
   ">": () => changeSpeed(1),
   "<": () => changeSpeed(-1),
   "?": () => byId("keys").showModal(),
-  Escape: () => { forgetChain(); endTour(); setMenu(false); if (view.wall) setWall(false); },
+  Escape: () => { forgetChain(); endTour(); setMenu(false); if (view.wall) setWall(false); else if (guess.on) setGuess(false); },
 };
 
 function pressKey(event) {
   if (!view.run || byId("keys").open || event.ctrlKey || event.metaKey || event.altKey) return;
   const { target, key } = event;
-  if (target.matches("select, textarea, input[type=number]") || (target.matches("button, summary") && key === " ")) return;
+  if (target.matches("select, textarea, input:not([type=range], [type=checkbox])") || (target.matches("button, summary") && key === " ")) return;
   if (target.matches("#log, #program, .scroll") && ["Home", "End"].includes(key)) return;
   if (!Object.hasOwn(KEYS, key)) return;
   event.preventDefault();
@@ -141,13 +150,17 @@ const BUTTONS = {
   larger: KEYS["+"],
   smaller: KEYS["-"],
   types: KEYS.t,
+  rules: KEYS.R,
   follow: KEYS.f,
   card: KEYS.s,
   rounds: KEYS.r,
+  "guess-on": KEYS.q,
+  "guess-show": showGuessed,
   theme: turnTheme,
   wall: KEYS.w,
   "wall-off": KEYS.w,
   keep: KEYS.b,
+  "beside-by": KEYS.y,
   "beside-away": putAway,
   menu: () => setMenu(byId("menu").getAttribute("aria-expanded") !== "true"),
   save: savePicture,
@@ -212,8 +225,10 @@ function joinHands() {
   new ResizeObserver(stacksInSight).observe(byId("left"));
   joinRows(byId("waiting"), markWaiting);
   joinRows(byId("round-moves"));
+  joinRows(byId("steps-rows"));
   byId("waiting").addEventListener("blur", () => markSpans("meant", []));
   joinPointer();
+  joinGuess();
 }
 
 // The picture: dragged by one pointer, made larger by a wheel or by two fingers, and a press on a node or a pile.
@@ -258,7 +273,7 @@ function joinPointer() {
     if (old.apart > 0) zoom(apart / old.apart, x, y);
   });
   const lift = event => {
-    if (event.type === "pointerup" && pressed && down.size === 1) pressPicture(pressed.target);
+    if (event.type === "pointerup" && pressed && down.size === 1) pressPicture(pressed.target, event);
     pressed = null;
     down.delete(event.pointerId);
   };
@@ -266,7 +281,8 @@ function joinPointer() {
   picture.addEventListener("pointercancel", lift);
 }
 
-function pressPicture(target) {
+function pressPicture(target, event) {
+  if (guess.on) { guessWire(event); return; }
   const node = target.closest(".node");
   const pile = target.closest(".pile");
   if (node) nextOf(view.run.nodeOf, Number(node.dataset.node), 1);

@@ -13,6 +13,8 @@ const WALL_SIZES = {
   ...SIZES, apart: 44, partsApart: 48, lane: 34, least: 82, most: 116, base: 62, text: 17, letter: 10.9, sign: 11.5, label: 16, gap: 6,
   glyph: 1.4, entry: 7.6, mono: 10.4, line: 21,
 };
+// The same where each node has its rule.
+const [RULE_SIZES, RULE_WALL_SIZES] = [SIZES, WALL_SIZES].map(sizes => ({ ...sizes, rules: true }));
 
 const SIGNS = {
   Plus: "+", Minus: "−", Times: "×", Succ: "succ", Pred: "pred", Ifz: "ifz", Lam: "λ", App: "@", Fst: "fst", Snd: "snd", Pair: "( , )",
@@ -20,8 +22,11 @@ const SIGNS = {
 };
 const signOf = node => node.name === "Const" ? node.value : SIGNS[node.name] || node.name;
 
+// What is written in a node: its sign, or where rules are shown its rule.
+const nodeText = (node, sizes) => sizes.rules && RULES[node.name] || signOf(node);
+
 function nodeWidth(node, sizes) {
-  const letters = signOf(node).length + String(node.id).length * 0.8 + 0.8;
+  const letters = nodeText(node, sizes).length + String(node.id).length * 0.8 + 0.8;
   return Math.max(node.up.length > 1 || node.down.length > 1 ? 50 : 40, Math.round(letters * sizes.sign + 14));
 }
 
@@ -32,12 +37,11 @@ function portOffset(node, side, at, sizes) {
   return count === 1 ? 0 : width * (at + 0.5) / count - width / 2;
 }
 
-// The text beside a wire: its number, or its number and its type.
+// The text beside a wire: its number, or its number and its type as a formula.
 function wireText(wire, types) {
   if (!types) return String(wire.id);
-  const mark = { value: "", bang: "!", var: "?" }[wire.kind];
-  const type = mark + (mark && wire.type.includes(" ") ? "(" + wire.type + ")" : wire.type);
-  return wire.id + " : " + (type.length > 26 ? type.slice(0, 25) + "…" : type);
+  const formula = wireFormula(wire);
+  return wire.id + " : " + (formula.length > 26 ? formula.slice(0, 25) + "…" : formula);
 }
 
 // The places nearest to the wanted ones that keep their order and these distances: neighbours that would be too near move as one.
@@ -286,7 +290,9 @@ class Layout {
       const [part, outerX, outerY] = todo.pop();
       const x = outerX + part.x;
       const y = outerY + part.y;
-      for (const own of part.nodes) this.places[own.node.id] = { x: own.x + x, y: own.y + y, width: nodeWidth(own.node, this.sizes) };
+      for (const { node, ...own } of part.nodes) {
+        this.places[node.id] = { x: own.x + x, y: own.y + y, width: nodeWidth(node, this.sizes), text: nodeText(node, this.sizes) };
+      }
       for (const own of part.points) points[own.wire].push([own.x + x, own.y + y]);
       const frame = part.frame;
       if (frame) this.frames.push({ ...frame, left: frame.left + x, right: frame.right + x, top: frame.top + y, bottom: frame.bottom + y });

@@ -27,11 +27,12 @@ function drawNet() {
   const { net, layout } = view;
   drawing.still = { frames: shape("g"), wires: shape("g"), labels: shape("g"), nodes: shape("g") };
   drawing.layers = {
-    trail: shape("g", { class: "trail" }), mark: shape("g"), entries: shape("g"), piles: shape("g"), card: shape("g"), tokens: shape("g"),
+    trail: shape("g", { class: "trail" }), guessed: shape("g", { class: "trail" }), mark: shape("g"), entries: shape("g"),
+    piles: shape("g"), card: shape("g"), tokens: shape("g"),
   };
   const { frames, wires, labels, nodes } = drawing.still;
-  const { trail, mark, entries, piles, card, tokens } = drawing.layers;
-  drawing.root = shape("g", {}, frames, wires, trail, labels, nodes, mark, entries, piles, card, tokens);
+  const { trail, guessed, mark, entries, piles, card, tokens } = drawing.layers;
+  drawing.root = shape("g", {}, frames, wires, trail, guessed, labels, nodes, mark, entries, piles, card, tokens);
   drawing.labelPlaces = placeLabels(net, layout, view.types);
   drawing.wireBounds = layout.points.map(boundsOf);
   for (const known of [drawing.paths, drawing.nodes, drawing.wires]) known.clear();
@@ -115,7 +116,7 @@ function drawFrame({ left, right, top, bottom, depth, fix }) {
 
 function drawWire(wire, layout = view.layout) {
   return shape("path", { class: "wire " + wire.kind, d: wirePath(layout.points[wire.id]) },
-    shape("title", {}, `wire ${wire.id}, ${wire.kind}, ${wire.type}`));
+    shape("title", {}, wireWords(wire, layout.net)));
 }
 
 function drawLabel(wire, { x, y, anchor }) {
@@ -124,10 +125,11 @@ function drawLabel(wire, { x, y, anchor }) {
   return label;
 }
 
-function drawNode(node, { x, y, width }) {
+function drawNode(node, { x, y, width, text: own }) {
   const kind = ROUND_NODES.has(node.name) ? "node round" : node.name === "Const" ? "node number" : "node";
-  const text = shape("text", { y: sizesNow().text * 0.36 }, signOf(node), shape("tspan", { class: "id", dx: 3 }, String(node.id)));
-  const title = `node ${node.id}: ${node.name}, ${TITLES[node.name]}`;
+  const text = shape("text", { y: sizesNow().text * 0.36 }, own, shape("tspan", { class: "id", dx: 3 }, String(node.id)));
+  const rule = RULES[node.name];
+  const title = `node ${node.id}: ${node.name}, ${TITLES[node.name]}${rule ? ` (${rule})` : ""}`;
   const radius = ROUND_NODES.has(node.name) ? 13 : 6;
   const box = shape("rect", { x: -width / 2, y: -SIZES.nodeHeight / 2, width, height: SIZES.nodeHeight, rx: radius });
   return shape("g", { class: kind, transform: `translate(${x} ${y})`, "data-node": node.id }, box, text, shape("title", {}, title));

@@ -1,14 +1,15 @@
 // Opening what was printed: texts inside the page, or files that are chosen or dropped. Files are told by how they begin.
 
-// {name, file, program, net, trace}. Nothing that is open changes where these can't be shown.
-function openWalk({ name, file, program, net: netText, trace: traceText }) {
+// {name, file, program, net, trace}, and steps where they are there. Nothing that is open changes where these can't be shown.
+function openWalk({ name, file, program, net: netText, trace: traceText, steps: stepsText }) {
   const net = readNet(netText);
   const layout = new Layout(net, view.types, sizesNow());
   const term = readTerm(net);
   const questions = new Questions(net, term, readTrace(traceText));
   const { run } = questions;
   if (playing.on || playing.motion) pause();
-  Object.assign(view, { name, file: file || name, program, netText, traceText, net, layout, run, questions, onlyWire: null, address: "" });
+  Object.assign(view, { name, file: file || name, program, netText, traceText, stepsText, net, layout, run, questions });
+  Object.assign(view, { onlyWire: null, address: "" });
   camera.moved = false;
   forgetMap();
   forgetStrip();
@@ -22,10 +23,19 @@ function openWalk({ name, file, program, net: netText, trace: traceText }) {
   byId("summary").textContent = summaryText();
   forgetChain();
   drawNet();
+  tellWires();
   sizeLog();
+  if (stepsText) putSteps(program, stepsText); else drawSteps();
   show(0, true);
   showHome();
   view.opened();
+}
+
+// The net by ear: each wire from where to where. (Of a very large net nobody hears all.)
+const WIRES_HEARD = 1000;
+function tellWires() {
+  const { net } = view;
+  byId("wires-heard").replaceChildren(...net.wires.slice(0, WIRES_HEARD).map(wire => element("li", {}, wireWords(wire, net))));
 }
 
 function summaryText() {

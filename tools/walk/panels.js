@@ -222,7 +222,8 @@ function makeLiveRow(ticket, token, moved) {
   const { work, boxes } = view.questions.of(ticket, token);
   const button = ticketButton(ticket, tokenColour(ticket), String(ticket));
   const does = token.value === "?" ? "asks" : "= " + token.value;
-  const where = token.wire + (token.direction === "up" ? " ↑" : " ↓");
+  const where = element("span", { role: "img", "aria-label": wireWords(view.net.wires[token.wire], view.net).split(":")[0] },
+    token.wire + (token.direction === "up" ? " ↑" : " ↓"));
   return element("tr", moved ? { class: "now" } : {}, element("td", {}, button), element("td", {}, does), element("td", {}, where),
     stackText(token.work, work, false), stackText(token.boxes, boxes, true));
 }
@@ -230,8 +231,9 @@ function makeLiveRow(ticket, token, moved) {
 // A stack in a table; a press tells its uppermost signature in words.
 function stackText(text, stack, isBoxes) {
   const top = marksIn(stack, 9).find(({ mark }) => mark.s || mark.sign === "*");
-  if (!top) return element("td", { class: "code", title: text }, brief(text));
-  const button = element("button", { class: "told", "aria-label": brief(text) + ", in words" }, brief(text));
+  const words = stackWords(stack, isBoxes);
+  if (!top) return element("td", { class: "code", title: text, "aria-label": words }, brief(text));
+  const button = element("button", { class: "told", "aria-label": `${brief(text)}, in words: ${words}` }, brief(text));
   button.addEventListener("click", () => tellChain(top.mark, isBoxes ? top : null));
   return element("td", { class: "code", title: text }, button);
 }

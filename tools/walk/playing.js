@@ -13,6 +13,7 @@ function show(at, quiet = false, chosen = null) {
   const end = wholeWay(at);
   view.told = end === at ? null : at - 1;
   view.run.go(end);
+  view.chosen ??= guessedTicket();
   drawState();
   tellState(quiet);
 }
@@ -38,7 +39,10 @@ function tellState(quiet) {
     tellTables();
     tellSwap();
     scrollLog();
+    tellSteps();
     tellBeside();
+    askGuess();
+    view.moved();
   }
   document.body.classList.toggle("begun", run.state.at > 0);
   drawStrip();
@@ -52,8 +56,15 @@ function tellState(quiet) {
   byId("moment").textContent = move ? momentText(move) : "";
   const count = run.state.live.size;
   byId("picture").setAttribute("aria-label", `A net with ${count} live ${count === 1 ? "token" : "tokens"}. ${text}`);
-  if (!quiet) byId("announce").textContent = text;
+  if (!quiet) byId("announce").textContent = text + stacksHeard(move);
   if (!playing.on) rememberPlace();
+}
+
+// Both stacks of the token behind a move, in words.
+function stacksHeard(move) {
+  if (!move || !move.after) return "";
+  const { work, boxes } = view.questions.given[move.number - view.run.first];
+  return ` Work stack: ${stackWords(work, false)}. Box stack: ${stackWords(boxes, true)}.`;
 }
 
 // One number for a moment: how many moves are made. The last of them has the number before it.
@@ -65,7 +76,8 @@ let placeTimer = 0;
 function rememberPlace() {
   clearTimeout(placeTimer);
   const place = () => view.rounds ? "round=" + wayMade() : "move=" + movesMade();
-  const shown = () => (view.types ? "&types=1" : "") + (view.wall ? "&wall=1" : "") + view.addressEnd();
+  const shown = () => (view.types ? "&types=1" : "") + (view.rules ? "&rules=1" : "") + (view.wall ? "&wall=1" : "") + (guess.on ? "&guess=1" : "") +
+    view.addressEnd();
   placeTimer = setTimeout(() => history.replaceState(null, "", "#" + view.address + place() + shown()), 300);
 }
 
@@ -102,10 +114,10 @@ function step(then = () => {}) {
     then();
   };
   const finish = () => {
-    view.chosen = null;
     view.told = null;
     for (const { glyphsMoved } of moved) for (const { glyph } of glyphsMoved) glyph.group.style.opacity = 1;
     run.go(at + moves.length);
+    view.chosen = guessedTicket();
     drawState();
     tellState(playing.on);
   };
@@ -215,11 +227,11 @@ function back(count = 1) {
   show(wayOn(-count));
 }
 
-// To the state behind the next fork, join or answer, or the last one before.
+// To the state behind the next fork, join or answer, or the last one before; where two runs go call by call, behind the next call.
 function nextMark(direction) {
   const { run } = view;
   pause();
-  const places = run.marks.map(mark => mark.at + 1);
+  const places = beside.byCalls ? callsIn(run) : run.marks.map(mark => mark.at + 1);
   const { at } = run.state;
   const found = direction > 0 ? places.find(place => wholeWay(place) > at) : places.findLast(place => wholeWay(place) < at);
   show(found !== undefined ? found : direction > 0 ? run.length : 0);

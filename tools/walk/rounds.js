@@ -46,6 +46,8 @@ function setRounds(on) {
   const why = on ? whyNoRounds(view.alone.run) : null;
   if (why !== null) { byId("announce").textContent = why; return; }
   if (on === (view.rounds !== null)) return;
+  if (on && guess.on) setGuess(false);
+  if (on && beside.byCalls) setByCalls(false);
   pause();
   const { alone } = view;
   if (on && !view.together) {

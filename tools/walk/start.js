@@ -8,11 +8,13 @@ function goToAddress(hash = location.hash) {
   if (wanted.has("wall")) setWall(true);
   if (COLOURED_BY.includes(wanted.get("colour"))) setColourBy(wanted.get("colour"));
   if (wanted.has("types") && !view.types) setTypes(true);
+  if (wanted.has("rules") && !view.rules) setRules(true);
   if (saysNumber("zoom")) zoom(Number(wanted.get("zoom")) / camera.scale);
   if (wanted.has("round") || view.rounds) setRounds(wanted.has("round"));
   if (saysNumber("round") && view.rounds) jump(wayPlace(Number(wanted.get("round"))));
   const move = Number(wanted.get("move"));
   if (saysNumber("move") && move !== movesMade()) jump(Math.trunc(move) - view.run.first);
+  if (wanted.has("guess") && !guess.on) setGuess(true);
 }
 
 function start() {
@@ -30,10 +32,12 @@ function start() {
 
 // For the page with the machine inside, for the tests, and for whoever looks at the page with a browser's own tools.
 window.walk = {
-  view, camera, playing, drawing, keys: KEYS, show: jump, showAll, zoom, shownRange, goOther, setSpeed, setTypes, setTheme, setColourBy,
+  view, camera, playing, drawing, keys: KEYS, show: jump, showAll, zoom, shownRange, goOther, setSpeed, setTypes, setRules, setTheme, setColourBy,
   openFiles, openWalk, goToAddress, saveFile, readNet, readTerm, namesIn, ruleOf, pictureText, whyNoSwap, swappedSchedule,
   spelled, marksIn, waitingRows, waitingTitle, chainOfMark, textOf, programText, termText,
   setRounds, inRounds, setWall, stripMarks, Reordered, replayed, scheduleText, readTrace, traceHead, Run,
+  setGuess, guess, guessFaults,
   putRows, activeRow, activateRow, joinRows, setProgramHome, fileStem, beside,
+  putSteps, steps, stepVisits, visitsOf, callsIn, setByCalls,
 };
 start();

@@ -7,6 +7,7 @@ const view = {
   program: "",
   netText: null,
   traceText: null,
+  stepsText: undefined,
   net: null,
   layout: null,
   run: null,
@@ -18,8 +19,9 @@ const view = {
   rounds: null,
   // In rounds the place of the move that is told, where it isn't the last of its round; else null.
   told: null,
-  // Types beside the wires, the picture following the token, the card with the stacks beside the token.
+  // Types beside the wires, rules in the nodes, the picture following the token, the card with the stacks beside the token.
   types: false,
+  rules: false,
   follow: true,
   card: true,
   // For a wall: large letters, and no panels.
@@ -37,12 +39,14 @@ const view = {
   runProgram: null,
   // The same page's: what replays a schedule on the program that is shown.
   runSchedule: null,
-  // The same page's: the element that has the program's text where its panel hasn't, and what is done when a walk was opened.
+  // The same page's: the element that has the program's text where its panel hasn't, and what is done when a walk was opened, and when it
+  // has moved.
   programHome: null,
   opened: () => {},
+  moved: () => {},
 };
 
-const sizesNow = () => view.wall ? WALL_SIZES : SIZES;
+const sizesNow = () => view.rules ? (view.wall ? RULE_WALL_SIZES : RULE_SIZES) : view.wall ? WALL_SIZES : SIZES;
 
 const COLOURS = 8;
 const COLOURED_BY = ["ticket", "worker", "call"];

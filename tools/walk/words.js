@@ -44,6 +44,13 @@ function shortWords(mark, boxes = null) {
   return `argument ${shortText(boxes.box, 18)}` + (forUse ? `, for ${forUse}` : "");
 }
 
+// A stack in words, the top first.
+const STACK_HEARD = 9;
+function stackWords(stack, isBoxes) {
+  const words = marksIn(stack, STACK_HEARD).map(at => shortWords(at.mark, isBoxes ? at : null) || spelled(at.mark));
+  return words.join(", ") || "empty";
+}
+
 // The chain of a mark: lines {code, text, node, depth}, the outermost first. A mark can stand for more uses than can be told. One that has
 // been told with several lines is told as that one where it comes once more.
 const MOST_LINES = 100;
