@@ -69,11 +69,11 @@ def made(page, *words):
 
 
 def try_whole(page, whole):
-    """The page is walk.html with parts put in; it names no address, and its policy allows its two scripts, its module and its worker."""
-    plain = (TOP / "tools/walk.html").read_text(encoding="utf-8")
+    """The page is that of a walk with parts put in; it names no address, and its policy allows its two scripts, its module and its worker."""
+    plain = script("walk", "tools/walk/build").page()
     left, other = iter(whole.split("\n")), ("Content-Security-Policy", "Open a walk")
     lacking = [line for line in plain.split("\n") if not any(it in line for it in other) and line not in left]
-    page.judge("each line of walk.html is in the live page, in its order", lacking, [])
+    page.judge("each line of the page of a walk is in the live page, in its order", lacking, [])
     # (The module and the hashes are numbers, written with letters and slashes.)
     read = re.sub(r'id="goi-module">[^<]*<|sha256-[^\']*', "", whole)
     for mark in ("http:", "https:", "//", "ftp:", "src=", "href=", "@import", "<link", "<iframe", "<img", "fetch(", "XMLHttpRequest",

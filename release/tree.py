@@ -2,6 +2,8 @@
 for VS Code and the bundle for a class are made of these.
 """
 
+import importlib.machinery
+import importlib.util
 import os
 import re
 import subprocess
@@ -13,7 +15,7 @@ TOP = os.path.dirname(os.path.dirname(os.path.realpath(__file__)))
 # The scripts that are commands, by their names in tools/.
 COMMANDS = ["by-value", "check-calls", "check-circuit", "check-workers", "draw-net", "run-many", "show-walk", "why"]
 # What the Python package has of tools/.
-PARTS = ["by-value", "draw-net", "options.json", "program.py", "walk.html", "why"]
+PARTS = ["by-value", "draw-net", "options.json", "program.py", "why"]
 # The crates of the kit that are linked in, as `rt` lists them by `statements NAME`, and its libraries.
 LINKED = "atomic_table clap core crossbeam_utils io itoa libc os std std_alloc std_collections std_heap std_io strsim".split()
 LINKED += ["ucd_derived", "ucd_table", "unicode_ident", "liblibc_c.a", "libos_c.a"]
@@ -41,6 +43,14 @@ exec "$here/libexec/goi/goi" "$@"
 def read(*path):
     with open(os.path.join(TOP, *path), "rb") as it:
         return it.read()
+
+
+def walk_page():
+    """The page of a walk, without one, as tools/walk/build makes it."""
+    loader = importlib.machinery.SourceFileLoader("walk_build", os.path.join(TOP, "tools", "walk", "build"))
+    made = importlib.util.module_from_spec(importlib.util.spec_from_loader(loader.name, loader))
+    loader.exec_module(made)
+    return made.page().encode()
 
 
 def tracked(*paths):
@@ -77,6 +87,7 @@ def python_package(version):
     tree["goi_pygments.py"] = (0o644, read("c", "goi_pygments.py"))
     for it in PARTS:
         tree[f"goi/parts/{it}"] = (mode_of(f"tools/{it}"), read("tools", it))
+    tree["goi/parts/walk.html"] = (0o644, walk_page())
     says = f"Metadata-Version: 2.1\nName: goi\nVersion: {version}\nSummary: A geometry-of-interaction machine for PCF\n"
     says += "License: Apache-2.0 OR MIT\nRequires-Python: >=3.9\nProvides-Extra: notebook\nRequires-Dist: ipython; extra == 'notebook'\n"
     says += "Description-Content-Type: text/markdown\n\n"
@@ -102,8 +113,9 @@ def whole(given):
     for path in tracked("tools"):
         name = path.split("/", 1)[1]
         # (commands, and what they read; what else is there serves a checkout alone)
-        if name in COMMANDS or "/" not in name and name.endswith((".json", ".py", ".sh", ".html")) and name != "built.sh":
+        if name in COMMANDS or "/" not in name and name.endswith((".json", ".py", ".sh")) and name != "built.sh":
             put(f"share/goi/{path}", read(path), mode_of(path))
+    put("share/goi/tools/walk.html", walk_page())
     for it in COMMANDS:
         tree[f"bin/goi-{it}"] = f"../share/goi/tools/{it}"
     put("share/goi/goi.html", given.page)

@@ -96,11 +96,18 @@ def as_image(svg):
     return f"data:image/svg+xml;base64,{base64.b64encode(svg).decode()}"
 
 
+def _empty_page():
+    """The page without a walk: a release has it, and a checkout makes it of its parts."""
+    if not os.path.exists(part("walk.html")):
+        return script("walk/build").page()
+    with open(part("walk.html"), encoding="utf-8") as it:
+        return it.read()
+
+
 def page(name, text, net, trace):
     """The page that tools/show-walk makes, of a program, its net's listing and its trace."""
     given = {"name": name, "file": name, "program": text, "net": net, "trace": trace}
-    with open(part("walk.html"), encoding="utf-8") as it:
-        before, after = it.read().split(_PLACE)
+    before, after = _empty_page().split(_PLACE)
     begin, end = _PLACE.split("</")
     # (a < could end the element in which the text is)
     return before + begin + json.dumps(given).replace("<", "\\u003c") + "</" + end + after
