@@ -73,8 +73,8 @@ change_text vs t R S = codes "#" ++ (decimal t ++ (codes "\n" ++ change_lines vs
 abbrev pub clock_at : ℕ → Store → Store
 clock_at n S = set_vec "clk" n S
 
--- one edge, with what the module holds before it, behind it, and before the next: the clock goes up, what the edge writes is written, and all
--- settles behind it; then the clock goes down, and inputs change
+-- one edge, with what the module holds before it, behind it, and before the next: the clock goes up, what the edge writes is written, and
+-- all settles behind it; then the clock goes down, and inputs change
 abbrev pub edge_text : List Shown → (k : ℕ) → (old up new : Store) → List ℕ
 edge_text vs k R B S =
     change_text vs (10 * k + 5) (clock_at 0 R) (clock_at 1 B) ++ change_text vs (10 * k + 10) (clock_at 1 B) (clock_at 0 S)
